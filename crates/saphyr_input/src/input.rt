@@ -1,0 +1,395 @@
+//! The characters of a text, read from the front through a window.
+ghost use Rattle.std.specs.Prelude.{◌≡◌, ℕ, ◌+◌, ◌<◌, ◌≤◌, ◌^◌, ◌==◌, ◌↔◌, List, length, take, drop, max, slice_get, slice_index, codes, string_bytes, IsTrue, IsErr, IfErr, IfOk, IfNone, IfSome, OnErr, is_some};
+ghost use Rattle.std.specs.List.{prefix_len};
+ghost use Rattle.saphyr_input.specs.Classes as class;
+ghost use Rattle.saphyr_input.specs.Places as spec;
+
+use crate::char_traits::{is_yaml_non_break, is_yaml_non_space};
+use std::alloc::AllocError;
+
+pub use crate::char_traits::{
+    is_alpha, is_blank, is_blank_or_breakz, is_break, is_breakz, is_digit, is_flow, is_z,
+};
+
+/// The characters of a text, which a scanner takes off the front.
+///
+/// An input is seen as the list of the characters that remain, `rest`, and as how many places of
+/// it are `loaded`, at most `window`. A call that looks at a place asks that the place is loaded.
+/// Past the end of the list every place may be loaded too, and reads as NUL; taking characters
+/// off there leaves the list empty. All counts are counts of characters.
+///
+/// The first ten calls have no default body. Any implementation that meets their contracts serves
+/// the other calls by their default bodies, and may override these for speed.
+pub trait Input {
+    ghost use Rattle.saphyr_input.specs.Separation as separation;
+
+    /// The characters that remain.
+    ghost rest: { Self → List ℕ };
+
+    /// How many places are loaded.
+    ghost loaded: { Self → ℕ };
+
+    /// How many places can be loaded at once.
+    ghost window: { ℕ };
+
+    /// Loads `count` places, and more where more are loaded already.
+    fn lookahead(&mut self, count: usize)
+        requires { count ≤ window }
+        ensures rest { rest self.new ≡ rest self.old }
+        ensures loaded { loaded self.new ≡ max count (loaded self.old) }
+        ensures countable { length (rest self.new) < 2 ^ 64 };
+
+    /// How many places are loaded.
+    fn buflen(&self) -> usize
+        ensures loaded { result ≡ loaded self.now }
+        ensures within { result ≤ window };
+
+    /// How many places can be loaded at once: a constant of the type, at least 8.
+    fn bufmaxlen(&self) -> usize
+        ensures window { result ≡ window }
+        ensures least { 8 ≤ result };
+
+    /// Whether no place is loaded.
+    fn buf_is_empty(&self) -> bool
+        ensures { result ≡ (loaded self.now == 0) }
+    {
+        self.buflen() == 0
+    }
+
+    /// Takes the first character off, past what can be loaded. At the end it gives NUL.
+    fn raw_read_ch(&mut self) -> char
+        requires { loaded self.old ≡ 0 }
+        ensures value { result ≡ slice_index (rest self.old) 0 }
+        ensures rest { rest self.new ≡ drop 1 (rest self.old) }
+        ensures loaded { loaded self.new ≡ 0 };
+
+    /// Takes the first character off where it is none of NUL, the breaks and the byte order mark.
+    /// Otherwise nothing is taken, and one place may be loaded.
+    fn raw_read_non_breakz_ch(&mut self) -> Option<char>
+        requires { loaded self.old ≡ 0 }
+        ensures taken { is_some result ≡ class.is_yaml_non_break (slice_index (rest self.old) 0) }
+        ensures some { IfSome result (λ c. (c ≡ slice_index (rest self.old) 0) × (rest self.new ≡ drop 1 (rest self.old)) × (loaded self.new ≡ 0)) }
+        ensures none { IfNone result ((rest self.new ≡ rest self.old) × (loaded self.new ≤ 1)) };
+
+    /// Takes the first character off, if there is one.
+    fn skip(&mut self)
+        requires { 1 ≤ loaded self.old }
+        ensures rest { rest self.new ≡ drop 1 (rest self.old) }
+        ensures loaded { loaded self.old ≤ loaded self.new + 1 };
+
+    /// Takes `count` characters off, as far as there are so many.
+    fn skip_n(&mut self, count: usize)
+        requires { count ≤ loaded self.old }
+        ensures rest { rest self.new ≡ drop count (rest self.old) }
+        ensures loaded { loaded self.old ≤ loaded self.new + count };
+
+    /// The first character, or NUL at the end.
+    fn peek(&self) -> char
+        requires { 1 ≤ loaded self.now }
+        ensures { result ≡ slice_index (rest self.now) 0 };
+
+    /// The character at place `n`, counted from 0, or NUL past the end.
+    fn peek_nth(&self, n: usize) -> char
+        requires { n < loaded self.now }
+        ensures { result ≡ slice_index (rest self.now) n };
+
+    /// The first character, or `None` at the end: a NUL that stands in the text is `Some`.
+    fn peek_opt(&self) -> Option<char>
+        requires { 1 ≤ loaded self.now }
+        ensures { result ≡ slice_get (rest self.now) 0 };
+
+    /// Loads one place, and gives what [`peek`](Input::peek) gives.
+    fn look_ch(&mut self) -> char
+        ensures value { result ≡ slice_index (rest self.old) 0 }
+        ensures rest { rest self.new ≡ rest self.old }
+        ensures loaded { loaded self.new ≡ max 1 (loaded self.old) }
+        ensures countable { length (rest self.new) < 2 ^ 64 }
+    {
+        self.lookahead(1);
+        self.peek()
+    }
+
+    /// Whether the first place reads as `c`.
+    fn next_char_is(&self, c: char) -> bool
+        requires { 1 ≤ loaded self.now }
+        ensures { result ≡ (slice_index (rest self.now) 0 == c) }
+    {
+        self.peek() == c
+    }
+
+    /// Whether place `n`, counted from 0, reads as `c`.
+    fn nth_char_is(&self, n: usize, c: char) -> bool
+        requires { n < loaded self.now }
+        ensures { result ≡ (slice_index (rest self.now) n == c) }
+    {
+        self.peek_nth(n) == c
+    }
+
+    /// Whether the first two places read as these characters. NUL stands for the end too.
+    fn next_2_are(&self, c1: char, c2: char) -> bool
+        requires { 2 ≤ loaded self.now }
+        ensures { result ≡ spec.next_2_are (rest self.now) c1 c2 }
+    {
+        self.peek() == c1 && self.peek_nth(1) == c2
+    }
+
+    /// Whether the first three places read as these characters. NUL stands for the end too.
+    fn next_3_are(&self, c1: char, c2: char, c3: char) -> bool
+        requires { 3 ≤ loaded self.now }
+        ensures { result ≡ spec.next_3_are (rest self.now) c1 c2 c3 }
+    {
+        self.peek() == c1 && self.peek_nth(1) == c2 && self.peek_nth(2) == c3
+    }
+
+    /// Whether `---` or `...` comes next, and behind it a blank, a break, NUL or the end.
+    /// That it stands at the start of a line is for the caller to know.
+    fn next_is_document_indicator(&self) -> bool
+        requires { 4 ≤ loaded self.now }
+        ensures { result ≡ spec.is_document_indicator (rest self.now) }
+    {
+        self.next_is_document_start() || self.next_is_document_end()
+    }
+
+    /// Whether `---` comes next, and behind it a blank, a break, NUL or the end.
+    fn next_is_document_start(&self) -> bool
+        requires { 4 ≤ loaded self.now }
+        ensures { result ≡ spec.is_document_start (rest self.now) }
+    {
+        self.next_3_are('-', '-', '-') && is_blank_or_breakz(self.peek_nth(3))
+    }
+
+    /// Whether `...` comes next, and behind it a blank, a break, NUL or the end.
+    fn next_is_document_end(&self) -> bool
+        requires { 4 ≤ loaded self.now }
+        ensures { result ≡ spec.is_document_end (rest self.now) }
+    {
+        self.next_3_are('.', '.', '.') && is_blank_or_breakz(self.peek_nth(3))
+    }
+
+    /// Takes blanks off, and a comment behind them, up to a break, NUL, a byte order mark or the end.
+    ///
+    /// Gives how many characters were taken, and which blanks were met. A `#` before which no
+    /// blank was taken begins no comment: then nothing is taken, and the error says so.
+    fn skip_ws_to_eol(&mut self, skip_tabs: SkipTabs) -> (usize, Result<SkipTabs, &'static str>)
+        requires { separation.IsRequest skip_tabs }
+        ensures count { result.0 ≡ separation.separation_len skip_tabs (rest self.old) }
+        ensures refused { IsErr result.1 ↔ IsTrue (separation.is_bare_comment skip_tabs (rest self.old)) }
+        ensures found { IfOk result.1 (λ found. found ≡ separation.found_blanks skip_tabs (rest self.old)) }
+        ensures text { IfErr result.1 (λ text. text.now ≡ codes "comments must be separated from other tokens by whitespace") }
+        ensures rest { rest self.new ≡ drop result.0 (rest self.old) }
+        ensures loaded { 1 ≤ loaded self.new }
+    {
+        let mut tabs = false;
+        let mut spaces = false;
+        let mut count = 0;
+        loop {
+            match self.look_ch() {
+                ' ' => spaces = true,
+                '\t' if skip_tabs == SkipTabs::Yes => tabs = true,
+                '#' if count == 0 => {
+                    let text = "comments must be separated from other tokens by whitespace";
+                    return (0, Err(text));
+                }
+                '#' => {
+                    count += self.skip_while_non_breakz();
+                    return (count, Ok(SkipTabs::Result(tabs, spaces)));
+                }
+                _ => return (count, Ok(SkipTabs::Result(tabs, spaces))),
+            }
+            self.skip();
+            count += 1;
+        }
+    }
+
+    /// Whether a plain scalar, inside flow or outside, goes on with the first character, which is
+    /// to be no blank, break or NUL (YAML 1.2.2, 7.3.3).
+    fn next_can_be_plain_scalar(&self, in_flow: bool) -> bool
+        requires { 2 ≤ loaded self.now }
+        ensures { result ≡ spec.can_be_plain in_flow (rest self.now) }
+    {
+        match self.peek() {
+            ':' => {
+                let next = self.peek_nth(1);
+                !(is_blank_or_breakz(next) || in_flow && is_flow(next))
+            }
+            '\u{FEFF}' => false,
+            c => !(in_flow && is_flow(c)),
+        }
+    }
+
+    /// Whether the first character is a blank or a break.
+    fn next_is_blank_or_break(&self) -> bool
+        requires { 1 ≤ loaded self.now }
+        ensures { result ≡ spec.is_blank_or_break (slice_index (rest self.now) 0) }
+    {
+        let c = self.peek();
+        is_blank(c) || is_break(c)
+    }
+
+    /// Whether the first character is a blank, a break, NUL or the end.
+    fn next_is_blank_or_breakz(&self) -> bool
+        requires { 1 ≤ loaded self.now }
+        ensures { result ≡ class.is_blank_or_breakz (slice_index (rest self.now) 0) }
+    {
+        is_blank_or_breakz(self.peek())
+    }
+
+    /// Whether the first character is a blank.
+    fn next_is_blank(&self) -> bool
+        requires { 1 ≤ loaded self.now }
+        ensures { result ≡ class.is_blank (slice_index (rest self.now) 0) }
+    {
+        is_blank(self.peek())
+    }
+
+    /// Whether the first character is a break.
+    fn next_is_break(&self) -> bool
+        requires { 1 ≤ loaded self.now }
+        ensures { result ≡ class.is_break (slice_index (rest self.now) 0) }
+    {
+        is_break(self.peek())
+    }
+
+    /// Whether the first character is a break, NUL or the end.
+    fn next_is_breakz(&self) -> bool
+        requires { 1 ≤ loaded self.now }
+        ensures { result ≡ class.is_breakz (slice_index (rest self.now) 0) }
+    {
+        is_breakz(self.peek())
+    }
+
+    /// Whether NUL or the end comes first.
+    fn next_is_z(&self) -> bool
+        requires { 1 ≤ loaded self.now }
+        ensures { result ≡ class.is_z (slice_index (rest self.now) 0) }
+    {
+        is_z(self.peek())
+    }
+
+    /// Whether the first character is a flow indicator.
+    fn next_is_flow(&self) -> bool
+        requires { 1 ≤ loaded self.now }
+        ensures { result ≡ class.is_flow (slice_index (rest self.now) 0) }
+    {
+        is_flow(self.peek())
+    }
+
+    /// Whether the first character is a decimal digit.
+    fn next_is_digit(&self) -> bool
+        requires { 1 ≤ loaded self.now }
+        ensures { result ≡ class.is_digit (slice_index (rest self.now) 0) }
+    {
+        is_digit(self.peek())
+    }
+
+    /// Whether the first character is a digit, an ASCII letter, `_` or `-`.
+    fn next_is_alpha(&self) -> bool
+        requires { 1 ≤ loaded self.now }
+        ensures { result ≡ class.is_alpha (slice_index (rest self.now) 0) }
+    {
+        is_alpha(self.peek())
+    }
+
+    /// Takes characters off up to a break, NUL, a byte order mark or the end. Gives how many.
+    fn skip_while_non_breakz(&mut self) -> usize
+        ensures count { result ≡ prefix_len class.is_yaml_non_break (rest self.old) }
+        ensures rest { rest self.new ≡ drop result (rest self.old) }
+        ensures loaded { 1 ≤ loaded self.new }
+    {
+        let mut count = 0;
+        while is_yaml_non_break(self.look_ch()) {
+            count += 1;
+            self.skip();
+        }
+        count
+    }
+
+    /// Takes blanks off. Gives how many.
+    fn skip_while_blank(&mut self) -> usize
+        ensures count { result ≡ prefix_len class.is_blank (rest self.old) }
+        ensures rest { rest self.new ≡ drop result (rest self.old) }
+        ensures loaded { 1 ≤ loaded self.new }
+    {
+        let mut count = 0;
+        while is_blank(self.look_ch()) {
+            count += 1;
+            self.skip();
+        }
+        count
+    }
+
+    /// Moves digits, ASCII letters, `_` and `-` to the end of `out`. Gives how many.
+    ///
+    /// Where `out` can't grow, exactly the characters that were appended have been taken off.
+    fn fetch_while_is_alpha(&mut self, out: &mut String) -> Result<usize, AllocError>
+        ensures ok { IfOk result (λ n. spec.TransfersRun class.is_alpha n (rest self.old) (rest self.new) (string_bytes out.old) (string_bytes out.new)) }
+        ensures err { OnErr result (spec.TransfersPart class.is_alpha (rest self.old) (rest self.new) (string_bytes out.old) (string_bytes out.new)) }
+        ensures loaded { 1 ≤ loaded self.new }
+    {
+        let mut count = 0;
+        loop {
+            let c = self.look_ch();
+            if !is_alpha(c) {
+                return Ok(count);
+            }
+            out.push(c)?;
+            count += 1;
+            self.skip();
+        }
+    }
+
+    /// Moves characters that are no blank, break, NUL or byte order mark to the end of `out`.
+    /// Gives how many.
+    ///
+    /// Where `out` can't grow, exactly the characters that were appended have been taken off.
+    fn fetch_while_is_yaml_non_space(&mut self, out: &mut String) -> Result<usize, AllocError>
+        ensures ok { IfOk result (λ n. spec.TransfersRun class.is_yaml_non_space n (rest self.old) (rest self.new) (string_bytes out.old) (string_bytes out.new)) }
+        ensures err { OnErr result (spec.TransfersPart class.is_yaml_non_space (rest self.old) (rest self.new) (string_bytes out.old) (string_bytes out.new)) }
+        ensures loaded { 1 ≤ loaded self.new }
+    {
+        let mut count = 0;
+        loop {
+            let c = self.look_ch();
+            if !is_yaml_non_space(c) {
+                return Ok(count);
+            }
+            out.push(c)?;
+            count += 1;
+            self.skip();
+        }
+    }
+
+    /// At least 8 places can be loaded at once.
+    ghost wide: { 8 ≤ window };
+}
+
+/// What to do with tabs where white space is skipped, and what was met there.
+#[derive(Clone, Copy, Debug, PartialEq, Eq)]
+pub enum SkipTabs {
+    /// Tabs are skipped as spaces are.
+    Yes,
+    /// A tab ends the white space.
+    No,
+    /// What was met: whether tabs, and whether spaces.
+    Result(bool, bool),
+}
+
+impl SkipTabs {
+    ghost use Rattle.saphyr_input.specs.Separation as separation;
+
+    /// Whether tabs were met. False for a value that is no answer of
+    /// [`skip_ws_to_eol`](Input::skip_ws_to_eol).
+    pub fn found_tabs(self) -> bool
+        ensures { result ≡ separation.found_tabs self }
+    {
+        matches!(self, SkipTabs::Result(true, _))
+    }
+
+    /// Whether spaces were met, which YAML takes for white space everywhere. False for a value
+    /// that is no answer of [`skip_ws_to_eol`](Input::skip_ws_to_eol).
+    pub fn has_valid_yaml_ws(self) -> bool
+        ensures { result ≡ separation.has_valid_yaml_ws self }
+    {
+        matches!(self, SkipTabs::Result(_, true))
+    }
+}
