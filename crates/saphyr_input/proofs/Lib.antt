@@ -1,1 +1,3 @@
+pub mod Runs
+pub mod Separations
 pub mod Sets

@@ -1,6 +1,6 @@
 -- What the calls of an input answer and take, over the list of its remaining characters.
 -- Past the end of the list every place reads as NUL, as `slice_index` does.
-use Rattle.std.specs.Prelude.{◌≡◌, ℕ, ◌≤◌, Bool, true, false, ◌||◌, ◌&&◌, ◌==◌, not, List, ◌++◌, take, drop, slice_index, if◌then◌else◌, encode_utf8_all}
+use Rattle.std.specs.Prelude.{◌≡◌, ℕ, ◌≤◌, Bool, ◌||◌, ◌&&◌, ◌==◌, not, List, ◌++◌, take, drop, slice_index, if◌then◌else◌, encode_utf8_all}
 use Rattle.std.specs.List.{prefix_len}
 use Rattle.saphyr_input.specs.Classes.{is_blank, is_break, is_blank_or_breakz, is_flow, byte_order_mark}
 

@@ -1,5 +1,5 @@
 -- White space and a comment, up to the end of the line (YAML 1.2.2, 6.2 and 6.6).
-use Rattle.std.specs.Prelude.{◌≡◌, ℕ, ◌+◌, Bool, false, ◌&&◌, ◌==◌, List, take, drop, slice_index, if◌then◌else◌, ⊤}
+use Rattle.std.specs.Prelude.{ℕ, ◌+◌, Bool, false, ◌&&◌, ◌==◌, List, take, drop, slice_index, if◌then◌else◌, ⊤}
 use Rattle.std.specs.List.{prefix_len, list_any}
 use Rattle.saphyr_input.specs.Classes.{is_blank, is_yaml_non_break, space, tab}
 use Rattle.saphyr_input.specs.declared.input.SkipTabs.{SkipTabs}

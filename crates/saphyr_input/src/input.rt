@@ -5,11 +5,10 @@ ghost use Rattle.saphyr_input.specs.Classes as class;
 ghost use Rattle.saphyr_input.specs.Places as spec;
 
 use crate::char_traits::{is_yaml_non_break, is_yaml_non_space};
-use std::alloc::AllocError;
-
 pub use crate::char_traits::{
     is_alpha, is_blank, is_blank_or_breakz, is_break, is_breakz, is_digit, is_flow, is_z,
 };
+use std::alloc::AllocError;
 
 /// The characters of a text, which a scanner takes off the front.
 ///
@@ -182,23 +181,22 @@ pub trait Input {
         let mut tabs = false;
         let mut spaces = false;
         let mut count = 0;
-        loop {
-            match self.look_ch() {
-                ' ' => spaces = true,
-                '\t' if skip_tabs == SkipTabs::Yes => tabs = true,
-                '#' if count == 0 => {
-                    let text = "comments must be separated from other tokens by whitespace";
-                    return (0, Err(text));
-                }
-                '#' => {
-                    count += self.skip_while_non_breakz();
-                    return (count, Ok(SkipTabs::Result(tabs, spaces)));
-                }
-                _ => return (count, Ok(SkipTabs::Result(tabs, spaces))),
-            }
+        let mut c = self.look_ch();
+        while skip_tabs.skips(c) {
+            tabs |= c == '\t';
+            spaces |= c == ' ';
             self.skip();
             count += 1;
+            c = self.look_ch();
         }
+        if c == '#' {
+            if count == 0 {
+                let text = "comments must be separated from other tokens by whitespace";
+                return (0, Err(text));
+            }
+            count += self.skip_while_non_breakz();
+        }
+        (count, Ok(SkipTabs::Result(tabs, spaces)))
     }
 
     /// Whether a plain scalar, inside flow or outside, goes on with the first character, which is
@@ -297,9 +295,11 @@ pub trait Input {
         ensures loaded { 1 ≤ loaded self.new }
     {
         let mut count = 0;
-        while is_yaml_non_break(self.look_ch()) {
-            count += 1;
+        let mut c = self.look_ch();
+        while is_yaml_non_break(c) {
             self.skip();
+            count += 1;
+            c = self.look_ch();
         }
         count
     }
@@ -311,9 +311,11 @@ pub trait Input {
         ensures loaded { 1 ≤ loaded self.new }
     {
         let mut count = 0;
-        while is_blank(self.look_ch()) {
-            count += 1;
+        let mut c = self.look_ch();
+        while is_blank(c) {
             self.skip();
+            count += 1;
+            c = self.look_ch();
         }
         count
     }
@@ -327,15 +329,14 @@ pub trait Input {
         ensures loaded { 1 ≤ loaded self.new }
     {
         let mut count = 0;
-        loop {
-            let c = self.look_ch();
-            if !is_alpha(c) {
-                return Ok(count);
-            }
+        let mut c = self.look_ch();
+        while is_alpha(c) {
             out.push(c)?;
-            count += 1;
             self.skip();
+            count += 1;
+            c = self.look_ch();
         }
+        Ok(count)
     }
 
     /// Moves characters that are no blank, break, NUL or byte order mark to the end of `out`.
@@ -348,15 +349,14 @@ pub trait Input {
         ensures loaded { 1 ≤ loaded self.new }
     {
         let mut count = 0;
-        loop {
-            let c = self.look_ch();
-            if !is_yaml_non_space(c) {
-                return Ok(count);
-            }
+        let mut c = self.look_ch();
+        while is_yaml_non_space(c) {
             out.push(c)?;
-            count += 1;
             self.skip();
+            count += 1;
+            c = self.look_ch();
         }
+        Ok(count)
     }
 
     /// At least 8 places can be loaded at once.
@@ -376,6 +376,14 @@ pub enum SkipTabs {
 
 impl SkipTabs {
     ghost use Rattle.saphyr_input.specs.Separation as separation;
+
+    // Whether a character is skipped as white space.
+    #[inline]
+    pub(crate) fn skips(self, c: char) -> bool
+        ensures { result ≡ separation.is_skipped self c }
+    {
+        c == ' ' || c == '\t' && self == SkipTabs::Yes
+    }
 
     /// Whether tabs were met. False for a value that is no answer of
     /// [`skip_ws_to_eol`](Input::skip_ws_to_eol).
