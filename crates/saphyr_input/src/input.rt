@@ -129,7 +129,7 @@ pub trait Input {
         requires { 2 ≤ loaded self.now }
         ensures { result ≡ spec.next_2_are (rest self.now) c1 c2 }
     {
-        self.peek() == c1 && self.peek_nth(1) == c2
+        self.next_char_is(c1) && self.nth_char_is(1, c2)
     }
 
     /// Whether the first three places read as these characters. NUL stands for the end too.
@@ -137,7 +137,7 @@ pub trait Input {
         requires { 3 ≤ loaded self.now }
         ensures { result ≡ spec.next_3_are (rest self.now) c1 c2 c3 }
     {
-        self.peek() == c1 && self.peek_nth(1) == c2 && self.peek_nth(2) == c3
+        self.next_2_are(c1, c2) && self.nth_char_is(2, c3)
     }
 
     /// Whether `---` or `...` comes next, and behind it a blank, a break, NUL or the end.
