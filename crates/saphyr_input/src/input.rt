@@ -4,7 +4,11 @@ ghost use Rattle.std.specs.List.{prefix_len};
 ghost use Rattle.saphyr_input.specs.Classes as class;
 ghost use Rattle.saphyr_input.specs.Places as spec;
 
+pub mod buffered;
+pub mod str;
+
 use crate::char_traits::{is_yaml_non_break, is_yaml_non_space};
+pub use buffered::BufferedInput;
 pub use crate::char_traits::{
     is_alpha, is_blank, is_blank_or_breakz, is_break, is_breakz, is_digit, is_flow, is_z,
 };

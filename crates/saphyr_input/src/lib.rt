@@ -1,5 +1,8 @@
-//! The characters of a text, read from the front through a window.
+//! The characters of a text, read from the front through a window: a text in memory or an iterator.
 #![tactic(auto)]
 
 pub mod char_traits;
 pub mod input;
+
+pub use input::str::StrInput;
+pub use input::{BufferedInput, Input, SkipTabs};

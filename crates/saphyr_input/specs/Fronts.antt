@@ -1,0 +1,25 @@
+-- What stands at the front of a text, told by its first bytes.
+use Rattle.std.specs.Prelude.{◌≡◌, ℕ, ◌≤◌, Bool, true, false, ◌&&◌, ◌==◌, nat_lt, List, slice_index, ◌⊎◌}
+use Rattle.saphyr_input.specs.Classes.{is_blank, is_blank_or_breakz, space}
+use Rattle.saphyr_input.specs.Places.{next_3_are}
+
+-- an ASCII character of a class
+abbrev pub ascii_in : (ℕ → Bool) → ℕ → Bool
+ascii_in test b = nat_lt b 128 && test b
+
+-- a class has ASCII characters alone
+abbrev pub IsAsciiClass : (ℕ → Bool) → Type 0
+IsAsciiClass test = (c : ℕ) → 128 ≤ c → test c ≡ false
+
+-- the byte b stands for the character c: they are one, unless neither is ASCII
+abbrev pub StandsFor : ℕ → ℕ → Type 0
+StandsFor b c = (b ≡ c) ⊎ ((128 ≤ b) × (128 ≤ c))
+
+-- three marks before a blank, a break, NUL or the end
+abbrev pub is_marker : ℕ → List ℕ → Bool
+is_marker mark xs = next_3_are xs mark mark mark && is_blank_or_breakz (slice_index xs 3)
+
+-- spaces, and tabs where these are asked for
+abbrev pub is_skipped : Bool → ℕ → Bool
+is_skipped true c = is_blank c
+is_skipped false c = c == space

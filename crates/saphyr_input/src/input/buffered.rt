@@ -1,0 +1,181 @@
+//! The characters of an iterator, read through a ring.
+ghost use Rattle.std.specs.Prelude.{◌≡◌, ℕ, ◌+◌, ◌<◌, ◌≤◌, List, [], ◌++◌, length, take, IfOk};
+ghost use Rattle.saphyr_input.specs.Listed.{Lists, Listed};
+ghost use Rattle.saphyr_input.specs.Sources.{items};
+
+use crate::char_traits::is_yaml_non_break;
+use crate::input::Input;
+use circular_buffer::HeapCircularBuffer;
+use source::Source;
+use std::alloc::{AllocError, Global};
+use std::str::Chars;
+
+mod source;
+
+/// How many places can be loaded at once.
+const WINDOW: usize = 16;
+
+/// How many items are taken from an iterator at most.
+const MOST_ITEMS: u64 = 4294967296;
+
+/// An iterator over characters whose clones give the same items as it would itself.
+///
+/// [`Clone`] alone doesn't say so, since what a clone is like is for each type to tell.
+pub trait FaithfulClone: Iterator<Item = char> + Clone {
+    /// What lists the items of an iterator lists those of its clone.
+    ghost faithful: { (s t : Self) → Self.is_clone s t → (xs : List ℕ) → Lists Self.can_next Self.next_gives s xs → Lists Self.can_next Self.next_gives t xs };
+}
+
+impl FaithfulClone for Chars<'_> {
+    ghost use Rattle.saphyr_input.specs.Clones.{chars_faithful};
+
+    ghost faithful = { chars_faithful };
+}
+
+/// The characters of an iterator, up to its first `None`, as an [`Input`].
+///
+/// At most 4,294,967,296 items are taken from the iterator, and it is never called again after
+/// its first `None`: what it would give later is no part of the text.
+#[derive(Drop)]
+pub struct BufferedInput<I: Iterator<Item = char>> {
+    source: Source<I>,
+    // The characters of the loaded places, as far as the text goes.
+    ring: HeapCircularBuffer<char>,
+    loaded: usize,
+    ghost capacity: { ring.capacity ≡ 16 },
+    ghost within: { loaded ≤ 16 },
+    ghost held: { length ring.items ≤ loaded },
+    ghost exhausted: { length ring.items < loaded → items source ≡ [] },
+}
+
+impl<I: Iterator<Item = char>> BufferedInput<I> {
+    /// An input over the items of the iterator, which are to be one list up to the first `None`.
+    /// The iterator is not called yet. An error says that there was no memory for the loaded places.
+    pub fn new(alloc: Global, iter: I) -> Result<Self, AllocError>
+        requires { Listed I.can_next I.next_gives iter }
+        ensures rest { (xs : List ℕ) → Lists I.can_next I.next_gives iter xs → IfOk result (λ input. ⟦<BufferedInput<I> as Input>⟧.rest input ≡ take 4294967296 xs) }
+        ensures loaded { IfOk result (λ input. ⟦<BufferedInput<I> as Input>⟧.loaded input ≡ 0) }
+    {
+        BufferedInput::with_limit(alloc, iter, MOST_ITEMS)
+    }
+
+    // The same with another bound on the number of items.
+    fn with_limit(alloc: Global, iter: I, limit: u64) -> Result<Self, AllocError>
+        requires bounded { limit ≤ 4294967296 }
+        requires listed { Listed I.can_next I.next_gives iter }
+        ensures rest { (xs : List ℕ) → Lists I.can_next I.next_gives iter xs → IfOk result (λ input. ⟦<BufferedInput<I> as Input>⟧.rest input ≡ take limit xs) }
+        ensures loaded { IfOk result (λ input. ⟦<BufferedInput<I> as Input>⟧.loaded input ≡ 0) }
+    {
+        let ring = HeapCircularBuffer::with_capacity(alloc, WINDOW)?;
+        Ok(BufferedInput {
+            source: Source::new(iter, limit),
+            ring,
+            loaded: 0,
+        })
+    }
+
+    // Loads one place more.
+    fn load(&mut self)
+        requires { ⟦<BufferedInput<I> as Input>⟧.loaded self.old < 16 }
+        ensures rest { ⟦<BufferedInput<I> as Input>⟧.rest self.new ≡ ⟦<BufferedInput<I> as Input>⟧.rest self.old }
+        ensures loaded { ⟦<BufferedInput<I> as Input>⟧.loaded self.new ≡ ⟦<BufferedInput<I> as Input>⟧.loaded self.old + 1 }
+    {
+        if let Some(c) = self.source.next() {
+            self.ring.push_back(c);
+        }
+        self.loaded += 1;
+    }
+}
+
+impl<I: Iterator<Item = char>> Input for BufferedInput<I> {
+    ghost use Rattle.std.proofs.Common.{lit≤};
+
+    ghost rest = { λ s. s.ring.items ++ items s.source };
+
+    ghost loaded = { λ s. s.loaded };
+
+    ghost window = { 16 };
+
+    ghost wide = { lit≤ tt };
+
+    #[tactic(auto, using(crate::proofs::Listing::items_within))]
+    fn lookahead(&mut self, count: usize) {
+        while self.loaded < count {
+            self.load();
+        }
+    }
+
+    fn buflen(&self) -> usize {
+        self.loaded
+    }
+
+    fn bufmaxlen(&self) -> usize {
+        WINDOW
+    }
+
+    fn raw_read_ch(&mut self) -> char {
+        self.source.next().unwrap_or('\0')
+    }
+
+    fn raw_read_non_breakz_ch(&mut self) -> Option<char> {
+        let c = self.source.next()?;
+        if is_yaml_non_break(c) {
+            return Some(c);
+        }
+        self.ring.push_back(c);
+        self.loaded = 1;
+        None
+    }
+
+    fn skip(&mut self) {
+        self.ring.pop_front();
+        self.loaded -= 1;
+    }
+
+    #[tactic(auto, using(crate::proofs::Listing::skipped_more))]
+    fn skip_n(&mut self, count: usize) {
+        for _ in 0..count {
+            self.skip();
+        }
+    }
+
+    fn peek(&self) -> char {
+        self.peek_opt().unwrap_or('\0')
+    }
+
+    fn peek_nth(&self, n: usize) -> char {
+        self.ring.get(n).copied().unwrap_or('\0')
+    }
+
+    fn peek_opt(&self) -> Option<char> {
+        self.ring.front().copied()
+    }
+}
+
+impl<I: FaithfulClone> Clone for BufferedInput<I> {
+    ghost is_clone = { λ s t. (⟦<BufferedInput<I> as Input>⟧.rest t ≡ ⟦<BufferedInput<I> as Input>⟧.rest s) × (⟦<BufferedInput<I> as Input>⟧.loaded t ≡ ⟦<BufferedInput<I> as Input>⟧.loaded s) };
+
+    fn clone(&self) -> Result<Self, AllocError> {
+        let ring = clone_ring(&self.ring)?;
+        let source = self.source.clone()?;
+        Ok(BufferedInput {
+            source,
+            ring,
+            loaded: self.loaded,
+        })
+    }
+}
+
+// A ring of its own with the same characters.
+fn clone_ring(ring: &HeapCircularBuffer<char>) -> Result<HeapCircularBuffer<char>, AllocError>
+    ensures { IfOk result (λ copy. copy ≡ ring.now) }
+{
+    let mut copy = HeapCircularBuffer::with_capacity(*ring.allocator(), ring.capacity())?;
+    for c in ring.iter() {
+        copy.push_back(*c);
+    }
+    Ok(copy)
+}
+
+#[cfg(test)]
+mod tests;

@@ -1,0 +1,285 @@
+//! What stands at the front of a text, read by bytes as far as these are ASCII.
+ghost use Rattle.std.specs.Prelude.{◌≡◌, ℕ, ◌+◌, ◌<◌, ◌≤◌, Bool, false, ◌==◌, IfNone, IfSome, refl, take, drop, slice_index};
+ghost use Rattle.std.specs.List.{prefix_len, list_any};
+ghost use Rattle.std.specs.Str.{chars};
+ghost use Rattle.saphyr_input.specs.Classes as class;
+ghost use Rattle.saphyr_input.specs.Fronts as spec;
+ghost use Rattle.saphyr_input.specs.Places as places;
+ghost use Rattle.saphyr_input.specs.Separation as separation;
+
+use crate::char_traits::{
+    is_alpha, is_blank, is_blank_or_breakz, is_yaml_non_break, is_yaml_non_space,
+};
+use crate::input::SkipTabs;
+
+// A set of characters, without NUL.
+pub(super) trait Class {
+    ghost test: { ℕ → Bool };
+
+    fn has(c: char) -> bool
+        ensures { result ≡ test c };
+
+    // Whether the byte is an ASCII character of the set.
+    fn has_ascii(byte: u8) -> bool
+        ensures { result ≡ spec.ascii_in test byte };
+
+    ghost without_nul: { test 0 ≡ false };
+}
+
+pub(super) struct Blank;
+
+impl Class for Blank {
+    ghost test = { class.is_blank };
+
+    ghost without_nul = { refl };
+
+    #[inline]
+    fn has(c: char) -> bool {
+        is_blank(c)
+    }
+
+    #[inline]
+    fn has_ascii(byte: u8) -> bool {
+        is_blank(byte as char)
+    }
+}
+
+pub(super) struct Alpha;
+
+impl Class for Alpha {
+    ghost test = { class.is_alpha };
+
+    ghost without_nul = { refl };
+
+    #[inline]
+    fn has(c: char) -> bool {
+        is_alpha(c)
+    }
+
+    #[inline]
+    fn has_ascii(byte: u8) -> bool {
+        is_alpha(byte as char)
+    }
+}
+
+pub(super) struct NonBreak;
+
+impl Class for NonBreak {
+    ghost test = { class.is_yaml_non_break };
+
+    ghost without_nul = { refl };
+
+    #[inline]
+    fn has(c: char) -> bool {
+        is_yaml_non_break(c)
+    }
+
+    #[inline]
+    fn has_ascii(byte: u8) -> bool {
+        if byte > b'\r' {
+            byte < 0x80
+        } else {
+            is_yaml_non_break(byte as char)
+        }
+    }
+}
+
+pub(super) struct NonSpace;
+
+impl Class for NonSpace {
+    ghost test = { class.is_yaml_non_space };
+
+    ghost without_nul = { refl };
+
+    #[inline]
+    fn has(c: char) -> bool {
+        is_yaml_non_space(c)
+    }
+
+    #[inline]
+    fn has_ascii(byte: u8) -> bool {
+        if byte > b' ' {
+            byte < 0x80
+        } else {
+            is_yaml_non_space(byte as char)
+        }
+    }
+}
+
+// The first byte, and NUL at the end.
+#[inline]
+pub(super) fn first_byte(text: &str) -> char
+    ensures { spec.StandsFor result (slice_index (chars text.now) 0) }
+{
+    text.as_bytes().first().copied().unwrap_or(0) as char
+}
+
+// The first character, or NUL at the end, and what stands behind it.
+#[inline]
+pub(super) fn split_first(text: &str) -> (char, &str)
+    ensures first { result.0 ≡ slice_index (chars text.now) 0 }
+    ensures rest { chars result.1.now ≡ drop 1 (chars text.now) }
+{
+    let mut rest = text.chars();
+    let first = rest.next().unwrap_or('\0');
+    (first, rest.as_str())
+}
+
+// What stands behind the first `count` characters.
+#[inline]
+pub(super) fn behind(text: &str, count: usize) -> &str
+    ensures { chars result.now ≡ drop count (chars text.now) }
+{
+    let mut rest = text;
+    for _ in 0..count {
+        rest = split_first(rest).1;
+    }
+    rest
+}
+
+// Whether the first two places read as these characters.
+#[inline]
+pub(super) fn begins_with_2(text: &str, c1: char, c2: char) -> bool
+    ensures { result ≡ places.next_2_are (chars text.now) c1 c2 }
+{
+    let (first, rest) = split_first(text);
+    first == c1 && split_first(rest).0 == c2
+}
+
+// The second character, or NUL past the end.
+#[inline]
+pub(super) fn second_char(text: &str) -> char
+    ensures { result ≡ slice_index (chars text.now) 1 }
+{
+    let bytes = text.as_bytes();
+    if bytes.len() > 1 && bytes[0] < 0x80 && bytes[1] < 0x80 {
+        return bytes[1] as char;
+    }
+    split_first(split_first(text).1).0
+}
+
+// The character at place `n`, or NUL past the end.
+#[inline]
+pub(super) fn nth_char(text: &str, n: usize) -> char
+    ensures { result ≡ slice_index (chars text.now) n }
+{
+    text.chars().nth(n).unwrap_or('\0')
+}
+
+// Whether the bytes begin with three of these marks, and behind them stands a blank, a break, NUL or the end.
+#[inline]
+fn bytes_begin_with_marker(bytes: &[u8], mark: u8) -> bool
+    requires { 0 < mark }
+    ensures { result ≡ spec.is_marker mark bytes.now }
+{
+    bytes.len() >= 3
+        && bytes[0] == mark
+        && bytes[1] == mark
+        && bytes[2] == mark
+        && (bytes.len() == 3 || is_blank_or_breakz(bytes[3] as char))
+}
+
+// Whether three of these marks come first, and behind them a blank, a break, NUL or the end.
+#[inline]
+pub(super) fn is_marker(text: &str, mark: u8) -> bool
+    requires some { 0 < mark }
+    requires ascii { mark < 128 }
+    ensures { result ≡ spec.is_marker mark (chars text.now) }
+{
+    bytes_begin_with_marker(text.as_bytes(), mark)
+}
+
+// How many of the first bytes are ASCII characters of the class.
+#[inline]
+fn ascii_len<C: Class>(bytes: &[u8]) -> usize
+    ensures { result ≡ prefix_len (spec.ascii_in C.test) bytes.now }
+{
+    let mut len = 0;
+    while len < bytes.len() && C::has_ascii(bytes[len]) {
+        len += 1;
+    }
+    len
+}
+
+// The run of the class up to its first character that isn't ASCII: how long it is, and what stands behind it.
+#[inline]
+pub(super) fn ascii_run<C: Class>(text: &str) -> (usize, &str)
+    ensures part { result.0 + prefix_len C.test (chars result.1.now) ≡ prefix_len C.test (chars text.now) }
+    ensures whole { spec.IsAsciiClass C.test → result.0 ≡ prefix_len C.test (chars text.now) }
+    ensures rest { chars result.1.now ≡ drop result.0 (chars text.now) }
+{
+    let count = ascii_len::<C>(text.as_bytes());
+    (count, &text[count..])
+}
+
+// What stands behind the first character, if this is of the class.
+#[inline]
+fn strip_char<C: Class>(text: &str) -> Option<&str>
+    ensures none { IfNone result (prefix_len C.test (chars text.now) ≡ 0) }
+    ensures some { IfSome result (λ rest. prefix_len C.test (chars text.now) ≡ 1 + prefix_len C.test (chars rest.now)) }
+    ensures rest { IfSome result (λ rest. chars rest.now ≡ drop 1 (chars text.now)) }
+{
+    let (first, rest) = split_first(text);
+    if C::has(first) { Some(rest) } else { None }
+}
+
+// The longest run of the class: how many characters it has, and what stands behind it.
+#[inline]
+pub(super) fn run<C: Class>(text: &str) -> (usize, &str)
+    ensures count { result.0 ≡ prefix_len C.test (chars text.now) }
+    ensures rest { chars result.1.now ≡ drop result.0 (chars text.now) }
+{
+    // The bytes are fewer than 2^64, and the characters no more.
+    let _ = text.as_bytes();
+    let (mut count, mut rest) = ascii_run::<C>(text);
+    while let Some(after) = strip_char::<C>(rest) {
+        let (ascii, behind) = ascii_run::<C>(after);
+        count += 1 + ascii;
+        rest = behind;
+    }
+    (count, rest)
+}
+
+// The blanks that come first: how many, and which were met.
+#[derive(Clone, Copy)]
+pub(super) struct Blanks {
+    pub(super) count: usize,
+    pub(super) tabs: bool,
+    pub(super) spaces: bool,
+}
+
+// The spaces that come first, and tabs among them where these are asked for.
+#[inline]
+fn leading_blanks(bytes: &[u8], with_tabs: bool) -> Blanks
+    ensures count { result.count ≡ prefix_len (spec.is_skipped with_tabs) bytes.now }
+    ensures tabs { result.tabs ≡ list_any (λ c. c == class.tab) (take result.count bytes.now) }
+    ensures spaces { result.spaces ≡ list_any (λ c. c == class.space) (take result.count bytes.now) }
+{
+    let mut tabs = false;
+    let mut spaces = false;
+    let mut count = 0;
+    while count < bytes.len() {
+        match bytes[count] {
+            b' ' => spaces = true,
+            b'\t' if with_tabs => tabs = true,
+            _ => break,
+        }
+        count += 1;
+    }
+    Blanks {
+        count,
+        tabs,
+        spaces,
+    }
+}
+
+// The blanks that come first, and what stands behind them.
+#[inline]
+pub(super) fn split_blanks(text: &str, skip_tabs: SkipTabs) -> (Blanks, &str)
+    ensures count { result.0.count ≡ separation.blank_len skip_tabs (chars text.now) }
+    ensures found { SkipTabs.Result result.0.tabs result.0.spaces ≡ separation.found_blanks skip_tabs (chars text.now) }
+    ensures rest { chars result.1.now ≡ drop result.0.count (chars text.now) }
+{
+    let blanks = leading_blanks(text.as_bytes(), matches!(skip_tabs, SkipTabs::Yes));
+    (blanks, &text[blanks.count..])
+}
