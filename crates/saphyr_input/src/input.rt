@@ -40,7 +40,7 @@ pub trait Input {
         requires { count ≤ window }
         ensures rest { rest self.new ≡ rest self.old }
         ensures loaded { loaded self.new ≡ max count (loaded self.old) }
-        ensures countable { length (rest self.new) < 2 ^ 64 };
+        ensures countable { length (rest self.new) < 2 ^ 63 };
 
     /// How many places are loaded.
     fn buflen(&self) -> usize
@@ -106,7 +106,7 @@ pub trait Input {
         ensures value { result ≡ slice_index (rest self.old) 0 }
         ensures rest { rest self.new ≡ rest self.old }
         ensures loaded { loaded self.new ≡ max 1 (loaded self.old) }
-        ensures countable { length (rest self.new) < 2 ^ 64 }
+        ensures countable { length (rest self.new) < 2 ^ 63 }
     {
         self.lookahead(1);
         self.peek()

@@ -1,0 +1,9 @@
+pub mod Escaped
+pub mod Escapes
+pub mod Lengths
+pub mod Lines
+pub mod Moving
+pub mod QuotedItems
+pub mod Quoting
+pub mod ReadSpellings
+pub mod SpellingsRead

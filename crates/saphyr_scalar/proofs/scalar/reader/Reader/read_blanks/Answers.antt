@@ -1,0 +1,15 @@
+use Rattle.std.proofs.Common.{◌≡◌, true, refl, ◌∙◌, sym, arith}
+use Rattle.saphyr_input.specs.Classes as class
+use Rattle.saphyr_input.proofs.Runs.{runs_more, runs_text}
+use Rattle.saphyr_scalar.specs.Quoted as spec
+use Rattle.saphyr_scalar.proofs.scalar.reader.Reader.read_blanks.Goals as goal
+
+pub loop-c-preserved : goal.loop-c-preserved
+loop-c-preserved g c =
+    let passes : class.is_blank c.loop-c.c ≡ true = sym c.is_blank.ensures.test ∙ c.loop-c-test.true in
+    let next = c.look_ch-c-in-loop-c.ensures in
+    record {
+      runs = runs_more class.is_blank _ _ _ _ _ _ _ _ refl passes c.loop-c.invariant.runs (next.rest ∙ c.skip.ensures.rest) (rw next.rest next.value) (omega arith);
+      text = runs_text class.is_blank _ _ _ _ _ _ _ _ refl passes c.loop-c.invariant.runs c.loop-c.invariant.text c.in_ok-push.ensures.bytes;
+      mark = c.loop-c.invariant.mark;
+    }

@@ -1,0 +1,10 @@
+use Rattle.std.proofs.Common.{◌≡◌, ◌<◌, ◌-◌, ◌^◌}
+use Rattle.saphyr_scalar.specs.Quoted.{digits}
+use Rattle.saphyr_scalar.specs.Seen.{state}
+use Rattle.saphyr_scalar.proofs.scalar.reader.Reader.read_digits.Given as goal
+
+abbrev pub invariant-loop : goal.invariant-loop
+invariant-loop g l = record {
+  same : digits l.fn.start (l.fn.count - l.counter) l.value (state l.self) ≡ digits l.fn.start l.fn.count 0 (state l.fn.self);
+  below : l.value < 16 ^ l.counter;
+}

@@ -1,0 +1,10 @@
+pub mod BlockReading
+pub mod Cursor
+pub mod Escapes
+pub mod Faults
+pub mod FlowReading
+pub mod Folding
+pub mod Quoted
+pub mod Seen
+pub mod Spelling
+pub mod Texts

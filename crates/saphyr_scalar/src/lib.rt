@@ -1,0 +1,10 @@
+//! Positions, faults and scalars of YAML: the reader that takes scalars off a text, and what the
+//! spellings of scalars are read as.
+#![tactic(auto)]
+
+pub mod reading;
+pub mod scalar;
+#[cfg(test)]
+mod tests;
+
+pub use scalar::{FaultText, Marker, Reader, Refusal, ScalarStyle, ScanError, Span, Stop};

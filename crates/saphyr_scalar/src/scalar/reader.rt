@@ -1,0 +1,192 @@
+ghost use Rattle.std.specs.Prelude.{◌≡◌, ℕ, ◌+◌, ◌<◌, ◌≤◌, ◌^◌, length, slice_index};
+ghost use Rattle.saphyr_scalar.specs.Cursor as spec;
+
+use crate::scalar::fault::{FaultText, Refusal};
+use crate::scalar::position::Marker;
+use saphyr_input::char_traits::is_bom;
+use saphyr_input::input::{Input, SkipTabs};
+
+/// The characters of a text, and the place that is reached in it.
+///
+/// Contracts see a reader as a cursor: the text that remains, the place where it begins, and
+/// whether only blanks stand before that place on its line.
+#[derive(Drop)]
+pub struct Reader<T: Input> {
+    pub(crate) input: T,
+    pub(crate) mark: Marker,
+    pub(crate) blank_so_far: bool,
+    ghost fits: { mark.index + length (T.rest input) < 2 ^ 64 },
+    ghost column: { mark.col ≤ mark.index },
+}
+
+impl<T: Input> Reader<T> {
+    ghost use Rattle.saphyr_scalar.specs.Seen.{state, loaded, Gives};
+    ghost use Rattle.saphyr_input.specs.Separation as separation;
+
+    /// A reader at the start of a text.
+    pub fn new(mut input: T) -> Self
+        ensures { state result ≡ spec.fresh (T.rest input) }
+    {
+        input.lookahead(1);
+        Reader {
+            input,
+            mark: Marker {
+                index: 0,
+                line: 1,
+                col: 0,
+            },
+            blank_so_far: true,
+        }
+    }
+
+    /// The input, for its tests of what stands next.
+    #[inline]
+    pub fn input(&self) -> &T
+        ensures { result.now ≡ self.now.input }
+    {
+        &self.input
+    }
+
+    /// The place that is reached.
+    #[inline]
+    pub fn mark(&self) -> Marker
+        ensures { result ≡ (state self.now).mark }
+    {
+        self.mark
+    }
+
+    /// Whether only blanks stand before the place on its line.
+    #[inline]
+    pub fn blank_so_far(&self) -> bool
+        ensures { result ≡ (state self.now).blank_so_far }
+    {
+        self.blank_so_far
+    }
+
+    /// Loads `count` places.
+    #[inline]
+    pub fn load(&mut self, count: usize)
+        requires { count ≤ 8 }
+        ensures same { state self.new ≡ state self.old }
+        ensures loaded { count ≤ loaded self.new }
+    {
+        self.input.lookahead(count);
+    }
+
+    /// The first character, or NUL at the end. One place is loaded.
+    #[inline]
+    pub fn look(&mut self) -> char
+        ensures value { result ≡ slice_index (state self.old).rest 0 }
+        ensures same { state self.new ≡ state self.old }
+        ensures loaded { 1 ≤ loaded self.new }
+    {
+        self.input.look_ch()
+    }
+
+    /// Takes off a character that is no blank.
+    #[inline]
+    pub fn skip_non_blank(&mut self)
+        requires { 0 < length (state self.old).rest }
+        ensures { state self.new ≡ spec.pass 1 (state self.old) }
+    {
+        self.skip_n_non_blank(1);
+    }
+
+    /// Takes off `count` characters, of which none is a blank.
+    #[inline]
+    pub fn skip_n_non_blank(&mut self, count: usize)
+        requires near { count ≤ 8 }
+        requires some { count ≤ length (state self.old).rest }
+        ensures { state self.new ≡ spec.pass count (state self.old) }
+    {
+        self.input.lookahead(count);
+        self.input.skip_n(count);
+        self.mark = self.mark.along(count);
+        self.blank_so_far = false;
+    }
+
+    /// Takes off a blank.
+    #[inline]
+    pub fn skip_blank(&mut self)
+        requires { 0 < length (state self.old).rest }
+        ensures { state self.new ≡ spec.pass_blanks 1 (state self.old) }
+    {
+        self.input.lookahead(1);
+        self.input.skip();
+        self.mark = self.mark.along(1);
+    }
+
+    /// Takes off the break that stands first, if one does: CR LF, CR or LF.
+    pub fn skip_line_break(&mut self)
+        ensures { state self.new ≡ spec.pass_break (state self.old) }
+    {
+        self.input.lookahead(2);
+        if self.input.next_2_are('\r', '\n') {
+            self.input.skip_n(2);
+            self.start_line(2);
+        } else if self.input.next_is_break() {
+            self.input.skip();
+            self.start_line(1);
+        }
+    }
+
+    // The place behind a break that was taken off.
+    fn start_line(&mut self, count: usize)
+        requires { (state self.old).mark.index + count + length (state self.old).rest < 2 ^ 64 }
+        ensures { state self.new ≡ spec.begin_line count (state self.old) }
+    {
+        self.mark = self.mark.next_line(count);
+        self.blank_so_far = true;
+    }
+
+    /// Takes off what stands before the next break, NUL, byte order mark or the end: a comment.
+    #[tactic(auto, using(crate::proofs::Lengths::run_within))]
+    pub fn skip_comment(&mut self)
+        ensures { state self.new ≡ spec.pass_comment (state self.old) }
+    {
+        let count = self.input.skip_while_non_breakz();
+        self.mark = self.mark.along(count);
+    }
+
+    /// Takes off a byte order mark at the start of a line, which has no column.
+    pub fn skip_byte_order_mark(&mut self)
+        requires { 0 < length (state self.old).rest }
+        ensures { state self.new ≡ spec.pass_byte_order_mark (state self.old) }
+    {
+        self.input.lookahead(1);
+        self.input.skip();
+        self.mark.index += 1;
+    }
+
+    /// Takes off blanks and a comment behind them, up to the end of the line, and gives the blanks
+    /// that were met.
+    ///
+    /// A `#` before which no blank was taken begins no comment, and a byte order mark that does
+    /// not begin the line has no place here: both are refused where they stand.
+    #[tactic(auto, using(crate::proofs::Lengths::separation_within), unfolding(crate::specs::Cursor::separation, crate::specs::Cursor::behind_separation))]
+    pub fn skip_ws_to_eol(&mut self, skip_tabs: SkipTabs) -> Result<SkipTabs, Refusal>
+        requires { separation.IsRequest skip_tabs }
+        ensures { Gives (λ found. (found, state self.new)) result (spec.separation skip_tabs (state self.old)) }
+    {
+        let (count, found) = self.input.skip_ws_to_eol(skip_tabs);
+        self.mark = self.mark.along(count);
+        if self.mark.col > 0 && is_bom(self.look()) {
+            return Err(self.refusal(FaultText::MisplacedByteOrderMark));
+        }
+        match found {
+            Ok(found) => Ok(found),
+            Err(_) => Err(self.refusal(FaultText::CommentWithoutWhitespace)),
+        }
+    }
+
+    // A refusal at the place that is reached.
+    fn refusal(&self, text: FaultText) -> Refusal
+        ensures text { result.text ≡ text }
+        ensures mark { result.mark ≡ (state self.now).mark }
+    {
+        Refusal {
+            text,
+            mark: self.mark,
+        }
+    }
+}

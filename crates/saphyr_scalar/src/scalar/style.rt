@@ -1,0 +1,14 @@
+/// How a scalar is written (YAML 1.2.2, 7.3 and 8.1).
+#[derive(Clone, Copy, Debug, PartialEq, Eq, PartialOrd, Ord, Hash)]
+pub enum ScalarStyle {
+    /// Without quotes.
+    Plain,
+    /// Between single quotes.
+    SingleQuoted,
+    /// Between double quotes.
+    DoubleQuoted,
+    /// Lines behind `|`, whose breaks are kept.
+    Literal,
+    /// Lines behind `>`, which are folded.
+    Folded,
+}

@@ -1,0 +1,5 @@
+use Rattle.saphyr_scanner.proofs.TagExamples.{escaped}
+use Rattle.saphyr_scanner.proofs.law.reads_tags.Goals as goal
+
+pub returns : goal.returns
+returns c = escaped

@@ -1,0 +1,11 @@
+pub mod Characters
+pub mod Forest
+pub mod TagSpelling
+pub mod Json
+pub mod Tokens
+pub mod TokenGrammar
+pub mod Examples
+pub mod Seen
+pub mod Gap
+pub mod State
+pub mod Engine

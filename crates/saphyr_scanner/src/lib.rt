@@ -1,0 +1,11 @@
+//! Tokens of YAML: what a text's tokens are, and which token lists stand for which forests of nodes.
+#![tactic(auto)]
+
+mod engine;
+mod gap;
+pub mod law;
+mod scanner;
+mod token;
+
+pub use scanner::Scanner;
+pub use token::{Token, TokenType};

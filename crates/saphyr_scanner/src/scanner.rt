@@ -1,0 +1,53 @@
+ghost use Rattle.std.specs.Prelude.{◌≡◌};
+ghost use Rattle.saphyr_scanner.specs.State.{scan};
+ghost use Rattle.saphyr_scanner.specs.Seen.{Hands};
+
+use crate::engine::Engine;
+use crate::token::Token;
+use saphyr_input::input::Input;
+use saphyr_scalar::Stop;
+use std::alloc::Global;
+use std::marker::Model;
+
+/// The tokens of a text, one after the other.
+///
+/// Contracts see a scanner as the tokens that it still has to give, and the refusal behind them,
+/// if one ends them.
+#[derive(Drop)]
+pub struct Scanner<T: Input> {
+    engine: Engine<T>,
+    limit: usize,
+}
+
+impl<T: Input> Model for Scanner<T> {
+    ghost use Rattle.saphyr_scanner.specs.Seen.{Remaining};
+    ghost use Rattle.saphyr_scanner.specs.State.{remaining};
+    ghost use Rattle.saphyr_scanner.specs.Engine.{state};
+
+    ghost Value = { Remaining };
+
+    ghost view = { λ s. remaining s.limit (state s.engine) };
+}
+
+impl<T: Input> Scanner<T> {
+    /// The tokens of the input's text, which is to have at most `limit` characters: a longer one
+    /// is refused once a token has passed the limit, and that token is not given.
+    pub fn new(alloc: Global, input: T, limit: usize) -> Self
+        ensures { result ≡ scan limit (T.rest input) }
+    {
+        Scanner {
+            engine: Engine::new(alloc, input),
+            limit,
+        }
+    }
+
+    /// Hands out the next token, or `None` behind the last.
+    ///
+    /// After an error nothing is known of what a further call gives.
+    pub fn next_token(&mut self) -> Result<Option<Token>, Stop>
+        ensures { Hands result self.old self.new }
+    {
+        self.engine.fill(self.limit)?;
+        Ok(self.engine.take())
+    }
+}

@@ -1,0 +1,45 @@
+use saphyr_scalar::{ScalarStyle, Span};
+
+/// What a token is.
+///
+/// A tag and a tag directive have the handle as it is written, which is empty for `!` and
+/// `!<uri>`; percent escapes in suffixes and prefixes are decoded.
+#[derive(Debug, PartialEq, Eq, Drop)]
+pub enum TokenType {
+    StreamStart,
+    StreamEnd,
+    /// The two numbers of a version directive.
+    VersionDirective(u32, u32),
+    /// The handle and the prefix of a tag directive.
+    TagDirective(String, String),
+    /// The name of a reserved directive.
+    ReservedDirective(String),
+    /// The marker `---`.
+    DocumentStart,
+    /// The marker `...`.
+    DocumentEnd,
+    ByteOrderMark,
+    BlockSequenceStart,
+    BlockMappingStart,
+    BlockEnd,
+    FlowSequenceStart,
+    FlowSequenceEnd,
+    FlowMappingStart,
+    FlowMappingEnd,
+    BlockEntry,
+    FlowEntry,
+    Key,
+    Value,
+    Alias(String),
+    Anchor(String),
+    /// The handle and the suffix of a tag.
+    Tag(String, String),
+    Scalar(ScalarStyle, String),
+}
+
+/// A token and where it stands.
+#[derive(Debug, PartialEq, Eq, Drop)]
+pub struct Token {
+    pub span: Span,
+    pub kind: TokenType,
+}
