@@ -1,5 +1,5 @@
 -- Escapes of double quoted scalars, a step at a time.
-use Rattle.std.proofs.Common.{◌≡◌, ℕ, zero, suc, ◌+◌, ◌-◌, ◌*◌, ◌^◌, ◌<◌, ◌≤◌, Bool, true, false, List, [], ◌∷◌, length, drop, slice_index, Result, Ok, Err, refl, sym, ap, ◌∙◌, arith, subst, nat_eq}
+use Rattle.std.proofs.Common.{◌≡◌, ℕ, zero, suc, ◌+◌, ◌-◌, ◌*◌, ◌^◌, ◌<◌, ◌≤◌, true, false, List, [], ◌∷◌, length, drop, slice_index, Result, Ok, Err, refl, sym, ap, ◌∙◌, arith, subst, nat_eq}
 use Rattle.std.proofs.lemmas.Bool.Decides.{nat_tests}
 use Rattle.std.specs.Prelude.{Option, Some, None}
 use Rattle.std.proofs.Math.Nat.{pow-le-pow_right}
@@ -122,7 +122,7 @@ unfolding simple_escape
 no_U v e = absurd (cc)
 
 -- an escape of one letter has no digits
-simple_no_digits : (c v : ℕ) → simple_escape c ≡ Some v → 0 ≡ digit_count c
+pub simple_no_digits : (c v : ℕ) → simple_escape c ≡ Some v → 0 ≡ digit_count c
 simple_no_digits c v h =
     by_test (nat_eq c 120) _ _ (λ n. 0 ≡ n) (λ is. let e : c ≡ 120 = grind (arith, nat_tests) in absurd (no_x v (subst (λ x. simple_escape x ≡ Some v) e h)))
     (λ _. by_test (nat_eq c 117) _ _ (λ n. 0 ≡ n) (λ is. let e : c ≡ 117 = grind (arith, nat_tests) in absurd (no_u v (subst (λ x. simple_escape x ≡ Some v) e h)))

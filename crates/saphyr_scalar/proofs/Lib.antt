@@ -1,9 +1,16 @@
 pub mod Escaped
 pub mod Escapes
+pub mod Foldings
+pub mod Kept
 pub mod Lengths
 pub mod Lines
 pub mod Moving
+pub mod PlainWords
+pub mod Plains
 pub mod QuotedItems
 pub mod Quoting
 pub mod ReadSpellings
+pub mod Spelled
+pub mod Spellings
 pub mod SpellingsRead
+pub mod Words

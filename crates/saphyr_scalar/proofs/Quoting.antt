@@ -1,10 +1,10 @@
 -- The inside of a double quoted scalar, read a piece at a time.
-use Rattle.std.proofs.Common.{◌≡◌, ℕ, zero, suc, ◌+◌, ◌<◌, ◌≤◌, Bool, true, false, List, [], ◌∷◌, ◌++◌, length, take, drop, length-drop, slice_index, Result, Ok, Err, refl, sym, ap, ◌∙◌, arith, cond, subst, encode_utf8_all, append_assoc, nat_eq, IsTrue}
+use Rattle.std.proofs.Common.{◌≡◌, ℕ, zero, suc, ◌+◌, ◌<◌, ◌≤◌, Bool, true, false, List, [], ◌∷◌, ◌++◌, length, take, drop, length-drop, slice_index, Result, Ok, Err, refl, sym, ap, ◌∙◌, arith, subst, encode_utf8_all, append_assoc, nat_eq, IsTrue}
 use Rattle.std.specs.Prelude.{◌||◌, ◌&&◌, ◌==◌, not, encode_utf8, Option, Some, None}
 use Rattle.std.specs.List.{prefix_len}
 use Rattle.std.proofs.lemmas.Bool.Decides.{nat_tests}
 use Rattle.std.proofs.lemmas.List.{append-nil}
-use Rattle.saphyr_input.specs.Classes.{is_blank, is_break, is_z, is_blank_or_breakz}
+use Rattle.saphyr_input.specs.Classes.{is_blank, is_break, is_blank_or_breakz}
 use Rattle.saphyr_scalar.specs.declared.scalar.position.Marker.{Marker}
 use Rattle.saphyr_scalar.specs.declared.scalar.fault.Refusal.{Refusal}
 use Rattle.saphyr_scalar.specs.declared.scalar.fault.FaultText.TheVariants as fault
@@ -15,7 +15,7 @@ use Rattle.saphyr_scalar.specs.Seen.{ReadsOn, Fails}
 use Rattle.saphyr_scalar.specs.Cursor.{Cursor, ◌>>=◌, refuse, along, pass}
 use Rattle.saphyr_scalar.proofs.Moving.{by_test, either, along_none, along_more, bind_same}
 use Rattle.saphyr_scalar.proofs.Escapes.{escape_place}
-use Rattle.saphyr_scalar.specs.Quoted.{is_literal, ends_word, simple_escape, digit_count, digits, character, numbered, escape_of, escape, with_front, at, inside, inside_at, with_run}
+use Rattle.saphyr_scalar.specs.Quoted.{is_literal, ends_word, simple_escape, digit_count, numbered, escape_of, escape, with_front, at, inside, inside_at, with_run}
 
 -- a place that shows a literal is a character
 pub literal_left : (xs : List ℕ) (c : ℕ) → c ≡ slice_index xs 0 → is_literal c ≡ true → 0 < length xs
@@ -40,7 +40,7 @@ passed_over start (suc k) m (c ∷ cs) =
     passed_over start k (along m 1) cs ∙ ap (λ x. inside start 0 x (drop k cs)) (along_more m 1 k (suc k) (omega arith))
 
 -- what stands for itself is read
-stands : (start m : Marker) (c : ℕ) (cs : List ℕ) → (is_literal c || is_blank c) ≡ true → inside start 0 m (c ∷ cs) ≡ with_front (encode_utf8 c) (inside start 0 (along m 1) cs)
+pub stands : (start m : Marker) (c : ℕ) (cs : List ℕ) → (is_literal c || is_blank c) ≡ true → inside start 0 m (c ∷ cs) ≡ with_front (encode_utf8 c) (inside start 0 (along m 1) cs)
 unfolding inside
 stands start m c cs h = rw h refl
 
@@ -94,7 +94,7 @@ unfolding inside is_literal
 at_end start m [] h = refl
 at_end start m (c ∷ cs) h = rw h refl
 
-break_cases : (c : ℕ) → is_break c ≡ true → (P : ℕ → Type 0) → P 10 → P 13 → P c
+pub break_cases : (c : ℕ) → is_break c ≡ true → (P : ℕ → Type 0) → P 10 → P 13 → P c
 break_cases c h P lf cr = either (nat_eq c 10) (nat_eq c 13) (P c) h
     (λ is. let e : 10 ≡ c = grind (arith, nat_tests) in subst P e lf)
     (λ is. let e : 13 ≡ c = grind (arith, nat_tests) in subst P e cr)
@@ -157,7 +157,7 @@ pub record Moved (p : ℕ → Bool) (text grown : List ℕ) (s t : Cursor) : Typ
 pub moved_shorter : (p : ℕ → Bool) (text grown : List ℕ) (s t : Cursor) → Moved p text grown s t → length t.rest ≤ length s.rest
 moved_shorter p text grown s t m = rw (← ap (λ (x : List ℕ × Cursor). x.1) m.is, length-drop) (omega arith)
 
-run_stops : (p : ℕ → Bool) (xs : List ℕ) → p 0 ≡ false → p (slice_index (drop (prefix_len p xs) xs) 0) ≡ false
+pub run_stops : (p : ℕ → Bool) (xs : List ℕ) → p 0 ≡ false → p (slice_index (drop (prefix_len p xs) xs) 0) ≡ false
 run_stops p [] none = none
 run_stops p (c ∷ cs) none =
     let one : 1 + prefix_len p cs ≡ suc (prefix_len p cs) = omega arith in

@@ -1,8 +1,9 @@
 -- The reading of block scalars (YAML 1.2.2, 8.1), over the text behind the header's line. Its breaks are normalized.
-use Rattle.std.specs.Prelude.{◌≡◌, ◌<◌, ℕ, zero, suc, ◌+◌, Bool, true, false, nat_le, not, ◌&&◌, ◌||◌, ◌==◌, if◌then◌else◌, List, [], ◌∷◌, ◌++◌, map, drop, length, slice_index}
-use Rattle.std.specs.List.{list_any, list_all}
+use Rattle.std.specs.Prelude.{ℕ, zero, suc, ◌+◌, Bool, true, false, nat_le, not, ◌&&◌, ◌||◌, ◌==◌, if◌then◌else◌, List, [], ◌∷◌, ◌++◌, map, drop, length, slice_index}
+use Rattle.std.specs.List.{list_all}
 use Rattle.saphyr_input.specs.Classes.{line_feed, space, is_blank}
 use Rattle.saphyr_scalar.specs.Folding.{line_feeds, raw_break}
+pub use Rattle.saphyr_scalar.specs.Lines.{ended_lines, last_line}
 use Rattle.saphyr_scalar.specs.declared.reading.block.BlockStyle.{BlockStyle}
 use Rattle.saphyr_scalar.specs.declared.reading.block.BlockStyle.TheVariants.{Literal, Folded}
 use Rattle.saphyr_scalar.specs.declared.reading.block.Chomping.{Chomping}
@@ -10,37 +11,8 @@ use Rattle.saphyr_scalar.specs.declared.reading.block.Chomping.TheVariants.{Stri
 use Rattle.saphyr_scalar.specs.declared.reading.block.Ending.{Ending}
 use Rattle.saphyr_scalar.specs.declared.reading.block.Ending.TheVariants.{AtEnd, AtMark}
 
--- a line with one more character before it, where there is a line
-abbrev pub before_first_line : ℕ → List (List ℕ) → List (List ℕ)
-before_first_line c [] = []
-before_first_line c (line ∷ lines) = (c ∷ line) ∷ lines
-
-abbrev pub before_lines : ℕ → List (List ℕ) → List (List ℕ)
-before_lines c lines = if c == line_feed then [] ∷ lines else before_first_line c lines
-
--- the lines of a text that breaks end, without their breaks
-abbrev pub ended_lines : List ℕ → List (List ℕ)
-ended_lines [] = []
-ended_lines (c ∷ cs) = before_lines c (ended_lines cs)
-
-abbrev pub has_break : List ℕ → Bool
-has_break text = list_any (λ c. c == line_feed) text
-
--- what stands behind a text's last break, or all of it where there is none
-abbrev pub last_line : List ℕ → List ℕ
-last_line [] = []
-last_line (c ∷ cs) = (if has_break (c ∷ cs) then [] else c ∷ []) ++ last_line cs
-
-abbrev pub HasNoBreak : List ℕ → Type 0
-HasNoBreak text = (ended_lines text ≡ []) × (last_line text ≡ text)
-
--- a text's first line, up to a break, and what stands behind it
-pub record IsFirstLine (text line others : List ℕ) : Type 0 where
-  pub ended : ended_lines text ≡ line ∷ ended_lines others
-  pub last : last_line text ≡ last_line others
-  pub shorter : length others < length text
-
--- A line of a block scalar: empty, or content, which is told without its indentation. (Each content line has as many spaces.)
+-- A line of a block scalar: empty, or content, which is told without its indentation. (A content line has that many
+-- spaces before it, or more.)
 pub data Line : Type 0 where
   Empty : Line
   Content : List ℕ → Line
@@ -109,11 +81,13 @@ abbrev pub is_at_end : Ending → Bool
 is_at_end AtEnd = true
 is_at_end AtMark = false
 
--- Whether the last line, which no break ends, counts. One of at most `indentation` spaces counts where it has a space, stands at
--- the end and reaches the indentation behind content, or stands alone behind the header's line.
+-- Whether the last line, which no break ends, counts. One of spaces, at most as many as the indentation, counts at the
+-- end alone, and only where it has a space: behind content where it reaches the indentation, and without content where it
+-- stands alone behind the header's line.
 abbrev pub is_counted : ℕ → List Line → List ℕ → Ending → Bool
 is_counted indentation lines last ending =
-    if is_empty_line indentation last then is_at_end ending && not (length last == 0) && (if has_content lines then length last == indentation else length lines == 0)
+    if is_empty_line indentation last then
+    is_at_end ending && not (length last == 0) && (if has_content lines then length last == indentation else length lines == 0)
     else true
 
 -- whether the last content line is broken: one that is cut by the end counts as broken, and one that is cut by a mark does not
@@ -134,3 +108,9 @@ counted_lines indentation text ending =
 abbrev pub block_value : BlockStyle → Chomping → ℕ → List ℕ → Ending → List ℕ
 block_value style chomping indentation text ending =
     lines_value style chomping (is_broken indentation (last_line text) ending) (counted_lines indentation text ending)
+
+-- the lines without their indentation, each with its break
+abbrev pub each_line : List Line → List ℕ
+each_line [] = []
+each_line (Empty ∷ lines) = line_feed ∷ each_line lines
+each_line (Content text ∷ lines) = text ++ (line_feed ∷ each_line lines)

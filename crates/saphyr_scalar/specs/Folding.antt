@@ -1,5 +1,5 @@
 -- Line folding in flow scalars (YAML 1.2.2, 6.5), over the items of a scalar.
-use Rattle.std.specs.Prelude.{ℕ, zero, suc, Bool, true, false, ◌||◌, if◌then◌else◌, List, [], ◌∷◌, ◌++◌, replicate}
+use Rattle.std.specs.Prelude.{◌≡◌, ℕ, zero, suc, Bool, true, false, ◌||◌, if◌then◌else◌, List, [], ◌∷◌, ◌++◌, replicate}
 use Rattle.saphyr_input.specs.Classes.{line_feed, space}
 use Rattle.saphyr_scalar.specs.declared.reading.folding.Item.{Item}
 use Rattle.saphyr_scalar.specs.declared.reading.folding.Item.TheVariants.{Blank, Raw, Escaped, Break, EscapedBreak}
@@ -44,3 +44,23 @@ folded_from at_start (EscapedBreak ∷ items) = line_feeds (empty_lines items) +
 -- what a flow scalar's items read as
 abbrev pub folded : List Item → List ℕ
 folded items = folded_from false items
+
+abbrev pub AreBlanks : List Item → Type 0
+AreBlanks [] = Unit {0}
+AreBlanks (Blank c ∷ items) = AreBlanks items
+AreBlanks (Raw c ∷ items) = ⊥
+AreBlanks (Escaped c ∷ items) = ⊥
+AreBlanks (Break ∷ items) = ⊥
+AreBlanks (EscapedBreak ∷ items) = ⊥
+
+-- so many raw breaks, with any blanks before, between and behind them
+abbrev pub AreBreaks : ℕ → List Item → Type 0
+AreBreaks zero items = AreBlanks items
+AreBreaks (suc n) items = (blanks others : List Item) × AreBlanks blanks × AreBreaks n others × (items ≡ blanks ++ (Break ∷ others))
+
+-- Line folding, told without a state: before a character, breaks of which n end empty lines read as one raw break before
+-- n empty lines does, and an escaped break and n empty lines read as n line feeds. No blank of them stays.
+abbrev pub FoldsBreaks : ℕ → List Item → ℕ → List Item → Type 0
+FoldsBreaks n breaks c others =
+    (AreBreaks (suc n) breaks → folded (breaks ++ (Raw c ∷ others)) ≡ raw_break n ++ (c ∷ folded others))
+    × (AreBreaks n breaks → folded (EscapedBreak ∷ (breaks ++ (Raw c ∷ others))) ≡ line_feeds n ++ (c ∷ folded others))

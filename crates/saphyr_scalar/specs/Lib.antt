@@ -4,6 +4,10 @@ pub mod Escapes
 pub mod Faults
 pub mod FlowReading
 pub mod Folding
+pub mod LineSpelling
+pub mod Lines
+pub mod Plain
+pub mod PlainSpelling
 pub mod Quoted
 pub mod Seen
 pub mod Spelling

@@ -1,5 +1,5 @@
 -- Double quoted scalars on one line (YAML 1.2.2, 7.3.1), and their escapes (5.7).
-use Rattle.std.specs.Prelude.{ℕ, zero, suc, ◌+◌, ◌*◌, Bool, false, ◌||◌, ◌&&◌, ◌==◌, not, nat_lt, nat_le, List, [], ◌∷◌, ◌++◌, take, drop, slice_index, Option, Some, None, Result, Ok, Err, if◌then◌else◌, encode_utf8, encode_utf8_all}
+use Rattle.std.specs.Prelude.{ℕ, zero, suc, ◌+◌, ◌*◌, Bool, false, ◌||◌, ◌&&◌, ◌==◌, not, nat_lt, nat_le, List, [], ◌∷◌, ◌++◌, take, slice_index, Option, Some, None, Result, Ok, if◌then◌else◌, encode_utf8, encode_utf8_all}
 use Rattle.std.specs.List.{prefix_len}
 use Rattle.saphyr_input.specs.Classes.{is_z, is_break, is_blank, is_blank_or_breakz, is_hex, hex_value}
 use Rattle.saphyr_scalar.specs.declared.scalar.position.Marker.{Marker}

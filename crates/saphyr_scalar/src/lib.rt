@@ -7,4 +7,6 @@ pub mod scalar;
 #[cfg(test)]
 mod tests;
 
-pub use scalar::{FaultText, Marker, Reader, Refusal, ScalarStyle, ScanError, Span, Stop};
+pub use scalar::{
+    FaultText, Marker, PlainScalar, Reader, Refusal, ScalarStyle, ScanError, Span, Stop,
+};

@@ -9,12 +9,12 @@ mod escapes;
 mod flow;
 mod folding;
 
-pub use block::{BlockStyle, Chomping, Ending, block_value};
+pub use block::{BlockStyle, Chomping, Ending, block_value, literal_lines_are_kept};
 pub use characters::normalized;
 pub use flow::{
     Quote, double_quoted_value, plain_value, quoted_items_are_spelled, single_quoted_value,
 };
-pub use folding::{Item, folded};
+pub use folding::{Item, breaks_are_folded, folded};
 
 #[cfg(test)]
 mod tests;

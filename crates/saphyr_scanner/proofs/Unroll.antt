@@ -58,14 +58,13 @@ gap_shorter (c ∷ cs) m blank broke =
     let inside : P (comment (along m 1) blank broke cs) = omega (arith, along_line.1) in
     let here : P (stop m blank broke (c ∷ cs)) = omega arith in (
       by_test (is_blank c || ((c == 13) && (slice_index cs 0 == 10))) _ _ P (λ _. further)
-        (λ _. by_test (is_break c) _ _ P (λ _. line) (λ _. by_test (c == 35) _ _ P (λ _. inside) (λ _. here))),
+          (λ _. by_test (is_break c) _ _ P (λ _. line) (λ _. by_test (c == 35) _ _ P (λ _. inside) (λ _. here))),
       by_test (is_yaml_non_break c) _ _ P (λ _. inside)
-        (λ _. by_test ((c == 13) && (slice_index cs 0 == 10)) _ _ P (λ _. further) (λ _. by_test (is_break c) _ _ P (λ _. line) (λ _. here))),
+          (λ _. by_test ((c == 13) && (slice_index cs 0 == 10)) _ _ P (λ _. further) (λ _. by_test (is_break c) _ _ P (λ _. line) (λ _. here))),
     )
 
 gap_keeps : (s : State) → size (pass_gap s) ≤ size s
 gap_keeps s = omega (arith, (gap_shorter s.cursor.rest s.cursor.mark s.cursor.blank_so_far false).0)
-
 
 fetches : (s : State) → s.ended ≡ false → Fetches s (fetch s)
 unfolding fetch

@@ -5,6 +5,8 @@ mod engine;
 mod gap;
 pub mod law;
 mod scanner;
+#[cfg(test)]
+mod tests;
 mod token;
 
 pub use scanner::Scanner;

@@ -1,10 +1,11 @@
 //! The values of block scalars (YAML 1.2.2, 8.1).
 
-ghost use Rattle.std.specs.Prelude.{◌≡◌, ℕ, ◌++◌, ◌==◌, IfOk, OnOk, MatchOption, chars, drop, length, position, string_bytes, encode_utf8_all};
+ghost use Rattle.std.specs.Prelude.{List, true, ◌≡◌, ◌++◌, ◌==◌, IfOk, OnOk, MatchOption, chars, drop, length, position, string_bytes, encode_utf8_all};
 ghost use Rattle.std.specs.List.{list_all};
 ghost use Rattle.saphyr_input.specs.Breaks.{normalized};
 ghost use Rattle.saphyr_input.specs.Classes.{line_feed, space};
 ghost use Rattle.saphyr_scalar.specs.BlockReading as spec;
+ghost use Rattle.saphyr_scalar.specs.Lines.{HasNoBreak, IsFirstLine};
 
 use crate::reading::characters::{normalized_characters_of, text_of};
 use crate::reading::folding::{push_line_feeds, push_raw_break};
@@ -69,7 +70,7 @@ fn break_position(text: &[char]) -> Option<usize>
 
 // The first line that a break ends, and what stands behind the break.
 fn split_line<'a>(text: &'a [char]) -> Option<(&'a [char], &'a [char])>
-    ensures { MatchOption result (spec.HasNoBreak text.now) (λ x. spec.IsFirstLine text.now x.0.now x.1.now) }
+    ensures { MatchOption result (HasNoBreak text.now) (λ x. IsFirstLine text.now x.0.now x.1.now) }
 {
     let end = break_position(text)?;
     let (line, behind) = text.split_at(end);
@@ -291,8 +292,10 @@ fn end_last_line(text: &mut Vec<char>, indentation: usize, ending: Ending) -> Re
     Ok(())
 }
 
-/// The value of a block scalar (YAML 1.2.2, 8.1), from the text behind its header's line and the number of spaces that
-/// its content is indented by.
+/// The value of a block scalar (YAML 1.2.2, 8.1), from the text behind its header's line.
+///
+/// The indentation is how many spaces stand before each content line; a line with fewer of them that is not empty has lost
+/// as many characters. The ending says what stands behind the text, and matters only where no break ends it.
 pub fn block_value(
     alloc: Global,
     style: BlockStyle,
@@ -309,3 +312,9 @@ pub fn block_value(
     let value = lines_value(alloc, style, chomping, broken, indentation, &lines)?;
     text_of(alloc, &value)
 }
+
+/// In literal style with all breaks kept, a block scalar whose last line has a break is its lines without their
+/// indentation.
+pub fn literal_lines_are_kept()
+    ensures { (lines : List spec.Line) → spec.lines_value BlockStyle.Literal Chomping.Keep true lines ≡ spec.each_line lines }
+{}

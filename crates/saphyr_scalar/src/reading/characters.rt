@@ -1,6 +1,6 @@
 //! Texts as lists of characters.
 
-ghost use Rattle.std.specs.Prelude.{◌≡◌, ◌++◌, IfOk, chars, string_bytes, encode_utf8_all};
+ghost use Rattle.std.specs.Prelude.{◌≡◌, IfOk, chars, string_bytes, encode_utf8_all};
 ghost use Rattle.saphyr_input.specs.Breaks as spec;
 
 use std::alloc::{AllocError, Global};

@@ -14,7 +14,9 @@ use std::alloc::{AllocError, Global};
 /// The two kinds of quotes round a scalar.
 #[derive(Clone, Copy, Debug, PartialEq, Eq)]
 pub enum Quote {
+    /// `'` (YAML 1.2.2, 7.3.2).
     Single,
+    /// `"` (YAML 1.2.2, 7.3.1).
     Double,
 }
 
@@ -30,7 +32,7 @@ impl Quote {
     }
 }
 
-// The item that a character is which stands for itself.
+// The item of a character that stands for itself.
 fn raw_item(c: char) -> Item
     ensures { result ≡ spec.raw_item c }
 {
@@ -58,7 +60,8 @@ pub fn plain_value(alloc: Global, piece: &str) -> Result<String, AllocError>
     folded(alloc, &raw_items(alloc, &characters)?)
 }
 
-// The item that a text behind a character spells, which does not stand for itself, and how many characters that takes.
+// The item that a character which does not stand for itself spells with the text behind it, and how many characters
+// that takes.
 fn special_item(quote: Quote, c: char, text: &[char]) -> Option<(Item, usize)>
     ensures value { result ≡ spec.special_item quote c text.now }
     ensures within { IfSome result (λ x. (0 < x.1) × (x.1 ≤ length text.now + 1)) }
@@ -156,8 +159,8 @@ pub fn double_quoted_value(alloc: Global, piece: &str) -> Result<Option<String>,
     quoted_value(alloc, Quote::Double, piece)
 }
 
-/// The items that are read of a quoted scalar are those that its text spells, and a text of which none are read spells
-/// none.
+/// The items that are read of a quoted scalar are those that its text spells, and a text that is none spells none. So no
+/// text spells two lists of items.
 pub fn quoted_items_are_spelled()
     ensures { (quote : Quote) (items : List Item) (text : List ℕ) → IsQuoted quote items text ↔ (spec.quoted_items quote text ≡ Some items) }
 {}

@@ -1,6 +1,6 @@
 //! Line folding in flow scalars (YAML 1.2.2, 6.5).
 
-ghost use Rattle.std.specs.Prelude.{◌≡◌, ◌++◌, IfOk, OnOk, string_bytes, encode_utf8_all};
+ghost use Rattle.std.specs.Prelude.{◌≡◌, ℕ, List, ◌++◌, IfOk, OnOk, string_bytes, encode_utf8_all};
 ghost use Rattle.saphyr_scalar.specs.Folding as spec;
 
 use crate::reading::characters::text_of;
@@ -114,3 +114,9 @@ pub fn folded(alloc: Global, items: &[Item]) -> Result<String, AllocError>
 {
     text_of(alloc, &folded_characters(alloc, items)?)
 }
+
+/// Line folding, told without a state: between characters a raw break is a space, or a line feed for each empty line behind
+/// it; an escaped break is nothing but these line feeds; and no blank beside a raw break, or behind an escaped one, stays.
+pub fn breaks_are_folded()
+    ensures { (n : ℕ) (breaks : List Item) (c : ℕ) (others : List Item) → spec.FoldsBreaks n breaks c others }
+{}

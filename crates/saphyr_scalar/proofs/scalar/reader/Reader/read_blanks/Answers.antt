@@ -1,7 +1,6 @@
 use Rattle.std.proofs.Common.{◌≡◌, true, refl, ◌∙◌, sym, arith}
 use Rattle.saphyr_input.specs.Classes as class
 use Rattle.saphyr_input.proofs.Runs.{runs_more, runs_text}
-use Rattle.saphyr_scalar.specs.Quoted as spec
 use Rattle.saphyr_scalar.proofs.scalar.reader.Reader.read_blanks.Goals as goal
 
 pub loop-c-preserved : goal.loop-c-preserved

@@ -1,7 +1,6 @@
 use Rattle.std.proofs.Common.{◌≡◌, ◌++◌, length, take, encode_utf8_all, string_bytes}
 use Rattle.saphyr_input.specs.Classes as class
 use Rattle.saphyr_input.proofs.Runs.{Runs}
-use Rattle.saphyr_scalar.specs.Quoted as spec
 use Rattle.saphyr_scalar.proofs.scalar.reader.Reader.read_blanks.Given as goal
 
 abbrev pub invariant-loop-c : goal.invariant-loop-c

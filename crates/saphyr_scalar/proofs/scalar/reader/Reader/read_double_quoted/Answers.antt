@@ -1,9 +1,9 @@
-use Rattle.std.proofs.Common.{◌≡◌, true, false, refl, length, slice_index, string_bytes, sym, ap, ◌∙◌, arith, IsTrue, subst}
+use Rattle.std.proofs.Common.{◌≡◌, true, slice_index, string_bytes, sym, ap, ◌∙◌}
 use Rattle.saphyr_input.specs.Classes as class
 use Rattle.saphyr_scalar.specs.Cursor.{Cursor}
 use Rattle.saphyr_scalar.specs.Quoted as spec
 use Rattle.saphyr_scalar.specs.Seen.{state}
-use Rattle.saphyr_scalar.proofs.Quoting.{no_front, moved_of, blanks_moved, moved_some, blank_ends, break_refused, end_refused, quote_closes}
+use Rattle.saphyr_scalar.proofs.Quoting.{no_front, moved_of, blanks_moved, break_refused, end_refused, quote_closes}
 use Rattle.saphyr_scalar.proofs.scalar.reader.Reader.read_double_quoted.Goals as goal
 
 pub loop-text-init : goal.loop-text-init

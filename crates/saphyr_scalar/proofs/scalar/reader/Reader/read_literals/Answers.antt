@@ -1,5 +1,4 @@
 use Rattle.std.proofs.Common.{◌≡◌, true, refl, ◌∙◌, sym, arith, length-drop}
-use Rattle.saphyr_input.specs.Classes as class
 use Rattle.saphyr_input.proofs.Runs.{runs_more, runs_text}
 use Rattle.saphyr_scalar.specs.Quoted as spec
 use Rattle.saphyr_scalar.proofs.Quoting.{literal_left}

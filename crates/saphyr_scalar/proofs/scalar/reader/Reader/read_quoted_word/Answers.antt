@@ -1,9 +1,9 @@
-use Rattle.std.proofs.Common.{◌≡◌, ℕ, ◌<◌, ◌≤◌, Bool, true, false, length, slice_index, string_bytes, sym, ap, ◌∙◌, arith}
+use Rattle.std.proofs.Common.{◌≡◌, true, false, length, slice_index, string_bytes, sym, ap, ◌∙◌, arith}
 use Rattle.saphyr_input.specs.Classes as class
 use Rattle.saphyr_scalar.specs.Cursor.{Cursor}
 use Rattle.saphyr_scalar.specs.Quoted as spec
 use Rattle.saphyr_scalar.specs.Seen.{state}
-use Rattle.saphyr_scalar.proofs.Quoting.{Moved, moved_of, moved_stops, moved_shorter, read_literals_on, escaped_break_refused, escape_moved, escape_refused, escape_shorter, word_ends, not_literal_nul, reads_refused}
+use Rattle.saphyr_scalar.proofs.Quoting.{moved_of, moved_stops, moved_shorter, read_literals_on, escaped_break_refused, escape_moved, escape_refused, escape_shorter, word_ends, not_literal_nul, reads_refused}
 use Rattle.saphyr_scalar.proofs.scalar.reader.Reader.read_quoted_word.Goals as goal
 
 pub returns-then-look-ne92-clause-same : goal.returns-then-look-ne92-clause-same

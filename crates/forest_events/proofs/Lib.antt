@@ -1,0 +1,4 @@
+pub mod Parts
+pub mod EventSteps
+pub mod Handles
+pub mod Behind

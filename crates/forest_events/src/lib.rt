@@ -1,0 +1,13 @@
+//! A plain, slow function that gives the events of a forest, whose contract is their definition.
+#![tactic(auto)]
+
+mod anchors;
+mod part;
+mod prefixes;
+#[cfg(test)]
+mod tests;
+mod text;
+pub mod tree;
+mod walk;
+
+pub use walk::forest_events;

@@ -1,0 +1,14 @@
+pub mod Names
+pub mod Stacks
+pub mod Passing
+pub mod Sizes
+pub mod NodeSizes
+pub mod BlockSizes
+pub mod FlowSizes
+pub mod DocumentSizes
+pub mod Unroll
+pub mod Turns
+pub mod Handing
+pub mod JsonEvents
+pub mod EventExamples
+pub mod Latest

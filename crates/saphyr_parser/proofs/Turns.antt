@@ -1,0 +1,37 @@
+-- What one reading does to the events still to come.
+use Rattle.std.proofs.Common.{◌≡◌, ◌≢◌, ℕ, ◌+◌, ◌<◌, length, Bool, true, false, Result, Ok, Err, Option, Some, None, refl, sym, ap, ◌∙◌, arith}
+use Rattle.std.specs.Prelude.{if◌then◌else◌, is_some}
+use Rattle.saphyr_scalar.specs.declared.scalar.position.Span.{Span}
+use Rattle.saphyr_scalar.specs.declared.scalar.fault.Refusal.{Refusal}
+use Rattle.saphyr_scalar.specs.declared.scalar.fault.Stop.{Stop}
+use Rattle.saphyr_scalar.specs.declared.scalar.fault.Stop.TheVariants as stop
+use Rattle.saphyr_scalar.specs.Seen.{Fails}
+use Rattle.saphyr_scalar.specs.Faults.{Says}
+use Rattle.saphyr_parser.specs.declared.parser.state.State.TheVariants.{End}
+use Rattle.saphyr_parser.specs.declared.parser.event.Event.{Event}
+use Rattle.saphyr_parser.specs.declared.parser.fault.Fault.{Fault}
+use Rattle.saphyr_parser.specs.declared.parser.fault.Fault.TheVariants as fault
+use Rattle.saphyr_parser.specs.Machine.{Machine, Told}
+use Rattle.saphyr_parser.specs.Steps.{step}
+use Rattle.saphyr_parser.specs.Seen.{told_of}
+use Rattle.saphyr_parser.specs.Answer.{Answer, Refused, none, failed, before, deliver, remaining}
+use Rattle.saphyr_parser.specs.Faults.{IsFaultOf}
+use Rattle.saphyr_parser.specs.Cursor.{Reads, Refuses, count, event_of}
+use Rattle.saphyr_parser.proofs.Unroll.{unroll, over}
+
+pub is_over : (m : Machine) → m.state ≡ End → remaining m ≡ none
+is_over m e = over m e
+
+pub reads : (m n : Machine) (e : Event × Span) → m.state ≢ End → step m ≡ Ok (told_of n e) → remaining m ≡ before (event_of e) (remaining n)
+reads m n e more moved = unroll m more ∙ ap (λ (r : Result Told Refusal). deliver r remaining) moved
+
+something : (r : Result Told Refusal) → 0 < count (deliver r remaining)
+something (Ok x) = omega arith
+something (Err f) = omega arith
+
+pub refused : (m : Machine) (s : Stop) (f : Fault) → m.state ≢ End → Fails s (step m) → IsFaultOf s f → Refuses f (remaining m)
+refused m s fault.OutOfMemory more h w = rw (unroll m more) (something (step m))
+refused m stop.OutOfMemory (fault.Scan e) more h w = absurd w
+refused m (stop.Refused r) (fault.Scan e) more h w = unroll m more ∙ ap (λ (q : Result Told Refusal). deliver q remaining) h ∙ rw (w.place, w.text) refl
+refused m s fault.Receiver more h w = absurd w
+refused m s fault.InsideDocument more h w = absurd w

@@ -1,0 +1,130 @@
+-- A parser as a cursor in the list of its events.
+use Rattle.std.specs.Prelude.{◌≡◌, ℕ, ◌+◌, ◌<◌, length, is_some, Bool, true, false, List, [], ◌∷◌, Option, Some, None, Result, Ok, Err, if◌then◌else◌, ◌⊎◌, option_map, string_bytes}
+use Rattle.std.specs.Borrow.{Bor}
+use Rattle.saphyr_scalar.specs.declared.scalar.position.Span.{Span}
+use Rattle.saphyr_scanner.specs.Seen.{Remaining}
+use Rattle.saphyr_parser.specs.declared.parser.event.Event.{Event}
+use Rattle.saphyr_parser.specs.declared.parser.fault.Fault.{Fault}
+use Rattle.saphyr_parser.specs.declared.parser.fault.Fault.TheVariants as fault
+use Rattle.saphyr_parser.specs.Events as events
+use Rattle.saphyr_parser.specs.Events.{Happening}
+use Rattle.saphyr_parser.specs.Seen.{happening}
+use Rattle.saphyr_parser.specs.Machine.{Machine, fresh}
+use Rattle.saphyr_parser.specs.Answer.{Ending, Refused, OutOfMemory, Answer, none, failed, before, remaining}
+
+-- the fault that ended the events, and whether it was handed out
+pub record Kept : Type 0 where
+  pub fault : Ending
+  pub given : Bool
+
+-- An event that was read ahead, the fault that ended the events, what is still to be read, whether a document was handed
+-- out whose end wasn't, and the span of the stream's end where that was handed out.
+pub record Cursor : Type 0 where
+  pub current : Option (Happening × Span)
+  pub kept : Option Kept
+  pub machine : Machine
+  pub inside : Bool
+  pub finished : Option Span
+
+abbrev pub at_start : Remaining → Cursor
+at_start tokens = record { current = None; kept = None; machine = fresh tokens; inside = false; finished = None }
+
+-- whether the prefixes of tags hold for later documents too, from the next end of a document on that is read
+abbrev pub keeping_tags : Bool → Cursor → Cursor
+keeping_tags keep c = record c { machine = record c.machine { keep_tags = keep } }
+
+-- ## The events still to come
+
+abbrev pub behind : Option Kept → Machine → Answer
+behind None m = remaining m
+behind (Some k) m = if k.given then none else failed k.fault
+
+abbrev pub ahead : Option (Happening × Span) → Answer → Answer
+ahead None a = a
+ahead (Some e) a = before e a
+
+abbrev pub to_come : Cursor → Answer
+to_come c = ahead c.current (behind c.kept c.machine)
+
+-- how many items are left
+abbrev pub count : Answer → ℕ
+count a = length a.events + (if is_some a.fault then 1 else 0)
+
+-- ## What calls hand out
+
+abbrev pub event_of : Event × Span → Happening × Span
+event_of e = (happening e.0, e.1)
+
+-- what ends the events; the last two faults are given by `load` alone
+abbrev pub ending_of : Fault → Ending
+ending_of (fault.Scan e) = Refused e.mark (string_bytes e.info)
+ending_of fault.OutOfMemory = OutOfMemory
+ending_of fault.Receiver = OutOfMemory
+ending_of fault.InsideDocument = OutOfMemory
+
+-- Nothing is left but this fault. Memory may run out before anything that is left.
+abbrev pub Refuses : Fault → Answer → Type 0
+Refuses (fault.Scan e) a = a ≡ failed (Refused e.mark (string_bytes e.info))
+Refuses fault.OutOfMemory a = 0 < count a
+Refuses fault.Receiver a = ⊥
+Refuses fault.InsideDocument a = ⊥
+
+-- What is handed out, and what remains; behind a fault nothing does.
+abbrev pub Hands : Option (Result (Event × Span) Fault) → Answer → Answer → Type 0
+Hands None old new = (old ≡ none) × (new ≡ none)
+Hands (Some (Ok e)) old new = old ≡ before (event_of e) new
+Hands (Some (Err f)) old new = Refuses f old × (new ≡ none)
+
+-- the same of a reading, which says nothing of what remains behind a fault
+abbrev pub Reads : Option (Result (Event × Span) Fault) → Answer → Answer → Type 0
+Reads None old new = (old ≡ none) × (new ≡ none)
+Reads (Some (Ok e)) old new = old ≡ before (event_of e) new
+Reads (Some (Err f)) old new = Refuses f old
+
+-- Nothing was handed out; where memory ran out, that is what remains.
+abbrev pub Stays : Answer → Answer → Type 0
+Stays old new = (new ≡ old) ⊎ ((0 < count old) × (new ≡ failed OutOfMemory))
+
+-- what remains where no event was read ahead and none can be
+abbrev pub told : Option Kept → Answer
+told None = none
+told (Some k) = if k.given then none else failed k.fault
+
+-- a fault was kept
+abbrev pub IsKept : Option Kept → Type 0
+IsKept None = ⊥
+IsKept (Some k) = Unit {0}
+
+-- no event was handed out
+abbrev pub IsUnmoved : Cursor → Cursor → Type 0
+IsUnmoved old new = (new.inside ≡ old.inside) × (new.finished ≡ old.finished)
+
+-- ## What is remembered of events that were handed out
+
+abbrev pub inside_behind : Happening → Bool → Bool
+inside_behind (events.DocumentStart explicit) inside = true
+inside_behind events.DocumentEnd inside = false
+inside_behind _ inside = inside
+
+abbrev pub finished_behind : Happening → Span → Option Span → Option Span
+finished_behind events.StreamEnd span finished = Some span
+finished_behind _ span finished = finished
+
+abbrev pub remembered : Happening → Span → Cursor → Cursor
+remembered what span c = record c { inside = inside_behind what c.inside; finished = finished_behind what span c.finished }
+
+-- a fault that ends the events was handed out
+abbrev pub IsGiven : Option (Result (Event × Span) Fault) → Option Kept → Type 0
+IsGiven None kept = Unit {0}
+IsGiven (Some (Ok e)) kept = Unit {0}
+IsGiven (Some (Err f)) kept = kept ≡ Some (record { fault = ending_of f; given = true })
+
+abbrev pub Remembers : Option (Result (Event × Span) Fault) → Cursor → Cursor → Type 0
+Remembers (Some (Ok e)) old new = (new.inside ≡ inside_behind (happening e.0) old.inside) × (new.finished ≡ finished_behind (happening e.0) e.1 old.finished)
+Remembers _ old new = IsUnmoved old new
+
+-- what `peek` shows of what remains
+abbrev pub Shows : Option (Result (Bor (Event × Span)) (Bor Fault)) → Answer → Type 0
+Shows None a = a ≡ none
+Shows (Some (Ok e)) a = (others : Answer) × (a ≡ before (event_of e.now) others)
+Shows (Some (Err f)) a = a ≡ failed (ending_of f.now)

@@ -1,0 +1,25 @@
+//! The parser, which turns tokens into events.
+
+mod anchors;
+mod block;
+mod context;
+mod cursor;
+mod document;
+mod event;
+mod events;
+mod fault;
+mod flow;
+mod handles;
+mod kept;
+mod machine;
+mod node;
+mod prefixes;
+mod reader;
+mod state;
+mod tag;
+mod tags;
+
+pub use cursor::Parser;
+pub use event::Event;
+pub use fault::Fault;
+pub use tag::Tag;

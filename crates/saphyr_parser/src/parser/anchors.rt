@@ -1,0 +1,64 @@
+ghost use Rattle.std.specs.Prelude.{◌≡◌, ℕ, Ok, string_bytes};
+ghost use Rattle.saphyr_parser.specs.Machine as spec;
+
+use saphyr_scalar::Stop;
+use std::alloc::Global;
+use std::collections::BTreeMap;
+use std::marker::Model;
+
+/// The anchors of a document by their names, and the id that was given last.
+///
+/// Ids go on counting over all documents.
+#[derive(Drop)]
+pub struct Anchors {
+    ids: BTreeMap<String, usize>,
+    last: usize,
+}
+
+impl Model for Anchors {
+    ghost use Rattle.saphyr_parser.specs.Machine.{Anchors as Seen};
+    ghost use Rattle.saphyr_parser.specs.Names.{ids_of};
+
+    ghost Value = { Seen };
+
+    ghost view = { λ a. record { ids = ids_of a.ids; last = a.last } };
+}
+
+impl Anchors {
+    ghost use Rattle.saphyr_scalar.specs.Seen.{Moves};
+
+    pub fn new(alloc: Global) -> Anchors
+        ensures { result ≡ spec.no_anchors }
+    {
+        Anchors {
+            ids: BTreeMap::new(alloc),
+            last: 0,
+        }
+    }
+
+    /// Forgets the names.
+    pub fn forget(&mut self)
+        ensures { self.new ≡ spec.forgotten self.old }
+    {
+        self.ids.clear();
+    }
+
+    #[tactic(auto, using(crate::proofs::Names::ids_given))]
+    /// Gives the next id to the name, which may have one already.
+    pub fn register(&mut self, name: String) -> Result<usize, Stop>
+        ensures { Moves {Y = ℕ × spec.Anchors} (λ id. (id, self.new)) result (Ok (spec.next_id self.old, spec.registered (string_bytes name) self.old)) }
+    {
+        let id = self.last.saturating_add(1);
+        self.ids.insert(name, id)?;
+        self.last = id;
+        Ok(id)
+    }
+
+    #[tactic(auto, using(crate::proofs::Names::ids_meaning))]
+    /// The id that the name has.
+    pub fn id_of(&self, name: &str) -> Option<usize>
+        ensures { result ≡ spec.meaning name.now self.now.ids }
+    {
+        self.ids.get(name).copied()
+    }
+}

@@ -1,0 +1,141 @@
+ghost use Rattle.saphyr_parser.specs.BlockSteps as spec;
+
+use crate::parser::context::Context;
+use crate::parser::event::Event;
+use crate::parser::machine::{Machine, refuse};
+use crate::parser::state::State;
+use saphyr_input::input::Input;
+use saphyr_scalar::{FaultText, Span, Stop};
+use saphyr_scanner::TokenType;
+
+impl<T: Input> Machine<T> {
+    ghost use Rattle.saphyr_scalar.specs.Seen.{Moves};
+    ghost use Rattle.saphyr_parser.specs.Seen.{machine_of, told_of};
+
+    // An entry of a block sequence, or its end.
+    #[tactic(auto, unfolding(crate::specs::BlockSteps::sequence_entry))]
+    pub(super) fn block_sequence_entry<'input>(&mut self) -> Result<(Event<'input>, Span), Stop>
+        ensures { Moves (told_of (machine_of self.new)) result (spec.sequence_entry (machine_of self.old)) }
+    {
+        let token = self.take()?;
+        match token.kind {
+            TokenType::BlockEnd => {
+                self.pop();
+                Ok((Event::SequenceEnd, token.span))
+            }
+            TokenType::BlockEntry => self.block_sequence_node(token.span),
+            _ => Err(refuse(FaultText::SequenceEntryExpected, token.span.start)),
+        }
+    }
+
+    // The node behind a `-`.
+    #[tactic(auto, unfolding(crate::specs::BlockSteps::sequence_node))]
+    fn block_sequence_node<'input>(&mut self, dash: Span) -> Result<(Event<'input>, Span), Stop>
+        ensures { Moves (told_of (machine_of self.new)) result (spec.sequence_node dash (machine_of self.old)) }
+    {
+        let token = self.take()?;
+        match token.kind {
+            TokenType::BlockEntry | TokenType::BlockEnd => {
+                self.left_out(token, State::BlockSequenceEntry, dash)
+            }
+            _ => self.inside(State::BlockSequenceEntry, Context::Block, token),
+        }
+    }
+
+    // An entry of a sequence at the column of the mapping around it, or its end.
+    #[tactic(auto, unfolding(crate::specs::BlockSteps::indentless_entry))]
+    pub(super) fn indentless_sequence_entry<'input>(
+        &mut self,
+    ) -> Result<(Event<'input>, Span), Stop>
+        ensures { Moves (told_of (machine_of self.new)) result (spec.indentless_entry (machine_of self.old)) }
+    {
+        let token = self.take()?;
+        match token.kind {
+            TokenType::BlockEntry => self.indentless_sequence_node(token.span),
+            _ => {
+                let span = token.span;
+                self.put_back(token);
+                self.pop();
+                Ok((Event::SequenceEnd, span))
+            }
+        }
+    }
+
+    #[tactic(auto, unfolding(crate::specs::BlockSteps::indentless_node))]
+    fn indentless_sequence_node<'input>(
+        &mut self,
+        dash: Span,
+    ) -> Result<(Event<'input>, Span), Stop>
+        ensures { Moves (told_of (machine_of self.new)) result (spec.indentless_node dash (machine_of self.old)) }
+    {
+        let token = self.take()?;
+        match token.kind {
+            TokenType::BlockEntry | TokenType::Key | TokenType::Value | TokenType::BlockEnd => {
+                self.left_out(token, State::IndentlessSequenceEntry, dash)
+            }
+            _ => self.inside(State::IndentlessSequenceEntry, Context::Block, token),
+        }
+    }
+
+    // A key of a block mapping, or its end.
+    #[tactic(auto, unfolding(crate::specs::BlockSteps::mapping_key))]
+    pub(super) fn block_mapping_key<'input>(&mut self) -> Result<(Event<'input>, Span), Stop>
+        ensures { Moves (told_of (machine_of self.new)) result (spec.mapping_key (machine_of self.old)) }
+    {
+        let token = self.take()?;
+        match token.kind {
+            TokenType::Key => self.block_key_node(),
+            TokenType::Value => {
+                let span = token.span;
+                self.left_out(token, State::BlockMappingValue, span)
+            }
+            TokenType::BlockEnd => {
+                self.pop();
+                Ok((Event::MappingEnd, token.span))
+            }
+            _ => Err(refuse(FaultText::BlockMappingKeyExpected, token.span.start)),
+        }
+    }
+
+    // The node behind a key's token.
+    #[tactic(auto, unfolding(crate::specs::BlockSteps::key_node))]
+    fn block_key_node<'input>(&mut self) -> Result<(Event<'input>, Span), Stop>
+        ensures { Moves (told_of (machine_of self.new)) result (spec.key_node (machine_of self.old)) }
+    {
+        let token = self.take()?;
+        match token.kind {
+            TokenType::Key | TokenType::Value | TokenType::BlockEnd => {
+                let span = token.span;
+                self.left_out(token, State::BlockMappingValue, span)
+            }
+            _ => self.inside(State::BlockMappingValue, Context::BlockMapping, token),
+        }
+    }
+
+    // The value of a pair of a block mapping.
+    #[tactic(auto, unfolding(crate::specs::BlockSteps::mapping_value))]
+    pub(super) fn block_mapping_value<'input>(&mut self) -> Result<(Event<'input>, Span), Stop>
+        ensures { Moves (told_of (machine_of self.new)) result (spec.mapping_value (machine_of self.old)) }
+    {
+        let token = self.take()?;
+        let span = token.span;
+        match token.kind {
+            TokenType::Value => self.block_value_node(span),
+            _ => self.left_out(token, State::BlockMappingKey, span),
+        }
+    }
+
+    // The node behind a value's token.
+    #[tactic(auto, unfolding(crate::specs::BlockSteps::value_node))]
+    fn block_value_node<'input>(&mut self, colon: Span) -> Result<(Event<'input>, Span), Stop>
+        ensures { Moves (told_of (machine_of self.new)) result (spec.value_node colon (machine_of self.old)) }
+    {
+        let token = self.take()?;
+        match token.kind {
+            TokenType::Key | TokenType::Value | TokenType::BlockEnd => {
+                self.left_out(token, State::BlockMappingKey, colon)
+            }
+            _ => self.inside(State::BlockMappingKey, Context::BlockMapping, token),
+        }
+    }
+}

@@ -1,0 +1,35 @@
+ghost use Rattle.std.specs.Prelude.{◌≡◌};
+
+/// Where a node stands.
+#[derive(Clone, Copy, Debug, PartialEq, Eq)]
+pub enum Context {
+    /// Inside a flow collection, where no block collection is.
+    Flow,
+    Block,
+    /// As a key or a value of a block mapping, where a block sequence may stand at the mapping's own
+    /// column.
+    BlockMapping,
+}
+
+impl Context {
+    ghost use Rattle.saphyr_parser.specs.Contexts as spec;
+
+    pub fn allows_block(self) -> bool
+        ensures { result ≡ spec.allows_block self }
+    {
+        match self {
+            Context::Flow => false,
+            Context::Block | Context::BlockMapping => true,
+        }
+    }
+
+    /// Whether a block sequence may stand at the column of the mapping around it.
+    pub fn allows_indentless(self) -> bool
+        ensures { result ≡ spec.allows_indentless self }
+    {
+        match self {
+            Context::Flow | Context::Block => false,
+            Context::BlockMapping => true,
+        }
+    }
+}

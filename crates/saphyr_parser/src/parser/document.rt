@@ -1,0 +1,308 @@
+ghost use Rattle.std.specs.Prelude.{◌≡◌, None, string_bytes};
+ghost use Rattle.saphyr_scanner.specs.Seen.{kind_of};
+ghost use Rattle.saphyr_parser.specs.DocumentSteps as spec;
+
+use crate::parser::context::Context;
+use crate::parser::event::Event;
+use crate::parser::handles::Handles;
+use crate::parser::machine::{Machine, refuse};
+use crate::parser::state::State;
+use saphyr_input::input::Input;
+use saphyr_scalar::{FaultText, Marker, Span, Stop};
+use saphyr_scanner::{Token, TokenType};
+use std::alloc::Global;
+
+fn is_mark(kind: &TokenType) -> bool
+    ensures { result ≡ spec.is_mark (kind_of kind.now) }
+{
+    matches!(kind, TokenType::ByteOrderMark)
+}
+
+fn is_end_or_mark(kind: &TokenType) -> bool
+    ensures { result ≡ spec.is_end_or_mark (kind_of kind.now) }
+{
+    matches!(kind, TokenType::DocumentEnd | TokenType::ByteOrderMark)
+}
+
+fn is_directive(kind: &TokenType) -> bool
+    ensures { result ≡ spec.is_directive (kind_of kind.now) }
+{
+    matches!(
+        kind,
+        TokenType::VersionDirective(..)
+            | TokenType::TagDirective(..)
+            | TokenType::ReservedDirective(_)
+    )
+}
+
+// What the directives of a document have declared.
+#[derive(Drop)]
+pub struct Declared {
+    version: bool,
+    handles: Handles,
+}
+
+impl Declared {
+    ghost use Rattle.saphyr_scalar.specs.Seen.{Moves};
+    ghost use Rattle.saphyr_parser.specs.DocumentSeen.{declared};
+
+    fn nothing(alloc: Global) -> Declared
+        ensures { declared result ≡ spec.none_declared }
+    {
+        Declared {
+            version: false,
+            handles: Handles::new(alloc),
+        }
+    }
+
+    // A version may be declared once.
+    fn add_version(&mut self, place: Marker) -> Result<(), Stop>
+        ensures { Moves (λ _. declared self.new) result (spec.add_version place (declared self.old)) }
+    {
+        if self.version {
+            return Err(refuse(FaultText::DuplicateVersionDirective, place));
+        }
+        self.version = true;
+        Ok(())
+    }
+}
+
+impl<T: Input> Machine<T> {
+    ghost use Rattle.std.specs.Prelude.{IfOk};
+    ghost use Rattle.saphyr_scalar.specs.Seen.{Moves};
+    ghost use Rattle.saphyr_scanner.specs.Seen.{piece};
+    ghost use Rattle.saphyr_parser.specs.Seen.{machine_of, told_of};
+    ghost use Rattle.saphyr_parser.specs.Machine as machine;
+    ghost use Rattle.saphyr_parser.specs.DocumentSeen.{declared as seen};
+
+    // Takes the first token behind ends of documents and byte order marks.
+    fn pass_ends(&mut self) -> Result<Token, Stop>
+        ensures taken { Moves (λ t. (piece t, machine_of self.new)) result (spec.pass spec.is_end_or_mark (machine_of self.old)) }
+        ensures room { IfOk result (λ t. self.new.token ≡ None) }
+    {
+        loop {
+            let token = self.take()?;
+            if !is_end_or_mark(&token.kind) {
+                return Ok(token);
+            }
+        }
+    }
+
+    // Takes the first token behind byte order marks.
+    fn pass_marks(&mut self) -> Result<Token, Stop>
+        ensures taken { Moves (λ t. (piece t, machine_of self.new)) result (spec.pass spec.is_mark (machine_of self.old)) }
+        ensures room { IfOk result (λ t. self.new.token ≡ None) }
+    {
+        loop {
+            let token = self.take()?;
+            if !is_mark(&token.kind) {
+                return Ok(token);
+            }
+        }
+    }
+
+    // Each handle may be declared once.
+    fn tag_directive(
+        &mut self,
+        handle: String,
+        prefix: String,
+        place: Marker,
+        declared: &mut Declared,
+    ) -> Result<(), Stop>
+        ensures { Moves {Y = spec.Declared × machine.Machine} (λ _. (seen declared.new, machine_of self.new)) result (spec.tag_directive (string_bytes handle) (string_bytes prefix) place (seen declared.old) (machine_of self.old)) }
+    {
+        if declared.handles.contains(handle.as_str()) {
+            return Err(refuse(FaultText::DuplicateTagDirective, place));
+        }
+        declared.handles.insert(handle.clone()?)?;
+        self.prefixes.declare(handle, prefix)
+    }
+
+    // What a directive declares. Reserved directives are ignored.
+    fn directive(&mut self, token: Token, declared: &mut Declared) -> Result<(), Stop>
+        ensures { Moves {Y = spec.Declared × machine.Machine} (λ _. (seen declared.new, machine_of self.new)) result (spec.directive_at (piece token).kind (piece token) (seen declared.old) (machine_of self.old)) }
+    {
+        let Token { span, kind } = token;
+        match kind {
+            TokenType::VersionDirective(_major, _minor) => declared.add_version(span.start),
+            TokenType::TagDirective(handle, prefix) => {
+                self.tag_directive(handle, prefix, span.start, declared)
+            }
+            _ => Ok(()),
+        }
+    }
+
+    // Takes the first token behind the directives.
+    fn directives(&mut self) -> Result<Token, Stop>
+        ensures { Moves (λ t. (piece t, machine_of self.new)) result (spec.directives spec.none_declared (machine_of self.old)) }
+    {
+        let mut declared = Declared::nothing(self.alloc);
+        loop {
+            let token = self.take()?;
+            if !is_directive(&token.kind) {
+                return Ok(token);
+            }
+            self.directive(token, &mut declared)?;
+        }
+    }
+
+    // The start of the stream.
+    #[tactic(auto, unfolding(crate::specs::DocumentSteps::stream_start))]
+    pub(super) fn stream_start<'input>(&mut self) -> Result<(Event<'input>, Span), Stop>
+        ensures { Moves (told_of (machine_of self.new)) result (spec.stream_start (machine_of self.old)) }
+    {
+        let token = self.take()?;
+        match token.kind {
+            TokenType::StreamStart => {
+                self.state = State::ImplicitDocumentStart;
+                Ok((Event::StreamStart, token.span))
+            }
+            _ => Err(refuse(FaultText::DocumentStartExpected, token.span.start)),
+        }
+    }
+
+    // A document with `---`, whose directives begin with the token.
+    #[tactic(auto, unfolding(crate::specs::DocumentSteps::explicit_document))]
+    fn explicit_document<'input>(&mut self, token: Token) -> Result<(Event<'input>, Span), Stop>
+        requires { self.old.token ≡ None }
+        ensures { Moves (told_of (machine_of self.new)) result (spec.explicit_document (piece token) (machine_of self.old)) }
+    {
+        self.put_back(token);
+        let token = self.directives()?;
+        match token.kind {
+            TokenType::DocumentStart => {
+                self.anchors.forget();
+                self.push(State::DocumentEnd)?;
+                self.state = State::DocumentContent;
+                Ok((Event::DocumentStart(true), token.span))
+            }
+            TokenType::ByteOrderMark => {
+                Err(refuse(FaultText::MisplacedByteOrderMark, token.span.start))
+            }
+            _ => Err(refuse(FaultText::DocumentStartExpected, token.span.start)),
+        }
+    }
+
+    // A document without `---`, whose content begins with the token.
+    #[tactic(auto, unfolding(crate::specs::DocumentSteps::bare_document))]
+    fn bare_document<'input>(&mut self, token: Token) -> Result<(Event<'input>, Span), Stop>
+        requires { self.old.token ≡ None }
+        ensures { Moves (told_of (machine_of self.new)) result (spec.bare_document (piece token) (machine_of self.old)) }
+    {
+        let span = token.span;
+        self.put_back(token);
+        self.anchors.forget();
+        self.push(State::DocumentEnd)?;
+        self.state = State::BlockNode;
+        Ok((Event::DocumentStart(false), span))
+    }
+
+    // The start of a document that may begin without `---`, or the end of the stream.
+    #[tactic(auto, unfolding(crate::specs::DocumentSteps::implicit_start))]
+    pub(super) fn implicit_document_start<'input>(&mut self) -> Result<(Event<'input>, Span), Stop>
+        ensures { Moves (told_of (machine_of self.new)) result (spec.implicit_start (machine_of self.old)) }
+    {
+        let token = self.pass_ends()?;
+        match token.kind {
+            TokenType::StreamEnd => {
+                self.state = State::End;
+                Ok((Event::StreamEnd, token.span))
+            }
+            TokenType::VersionDirective(..)
+            | TokenType::TagDirective(..)
+            | TokenType::ReservedDirective(_)
+            | TokenType::DocumentStart => self.explicit_document(token),
+            _ => self.bare_document(token),
+        }
+    }
+
+    // The start of a document that begins with `---`, or the end of the stream.
+    #[tactic(auto, unfolding(crate::specs::DocumentSteps::explicit_start))]
+    pub(super) fn document_start<'input>(&mut self) -> Result<(Event<'input>, Span), Stop>
+        ensures { Moves (told_of (machine_of self.new)) result (spec.explicit_start (machine_of self.old)) }
+    {
+        let token = self.pass_ends()?;
+        match token.kind {
+            TokenType::StreamEnd => {
+                self.state = State::End;
+                Ok((Event::StreamEnd, token.span))
+            }
+            _ => self.explicit_document(token),
+        }
+    }
+
+    // What stands behind `---`.
+    #[tactic(auto, unfolding(crate::specs::DocumentSteps::document_content))]
+    pub(super) fn document_content<'input>(&mut self) -> Result<(Event<'input>, Span), Stop>
+        ensures { Moves (told_of (machine_of self.new)) result (spec.document_content (machine_of self.old)) }
+    {
+        let token = self.take()?;
+        match token.kind {
+            TokenType::VersionDirective(..)
+            | TokenType::TagDirective(..)
+            | TokenType::ReservedDirective(_)
+            | TokenType::DocumentStart
+            | TokenType::DocumentEnd
+            | TokenType::ByteOrderMark
+            | TokenType::StreamEnd => {
+                let span = token.span;
+                self.put_back(token);
+                self.pop();
+                Ok((self.empty_scalar(), span))
+            }
+            _ => self.node(Context::Block, token),
+        }
+    }
+
+    // Takes the token behind the byte order marks that end a document, of which the first has this
+    // place. Only a marker or the end may stand there.
+    #[tactic(auto, unfolding(crate::specs::DocumentSteps::behind_marks))]
+    fn behind_marks(&mut self, first: Marker) -> Result<Token, Stop>
+        ensures taken { Moves (λ t. (piece t, machine_of self.new)) result (spec.behind_marks first (machine_of self.old)) }
+        ensures room { IfOk result (λ t. self.new.token ≡ None) }
+    {
+        let token = self.pass_marks()?;
+        match token.kind {
+            TokenType::DocumentStart | TokenType::DocumentEnd | TokenType::StreamEnd => Ok(token),
+            _ => Err(refuse(FaultText::MisplacedByteOrderMark, first)),
+        }
+    }
+
+    // Takes the token behind a document and its byte order marks.
+    #[tactic(auto, unfolding(crate::specs::DocumentSteps::behind_document))]
+    fn behind_document(&mut self) -> Result<Token, Stop>
+        ensures taken { Moves (λ t. (piece t, machine_of self.new)) result (spec.behind_document (machine_of self.old)) }
+        ensures room { IfOk result (λ t. self.new.token ≡ None) }
+    {
+        let token = self.take()?;
+        match token.kind {
+            TokenType::ByteOrderMark => self.behind_marks(token.span.start),
+            _ => Ok(token),
+        }
+    }
+
+    // The end of a document.
+    #[tactic(auto, unfolding(crate::specs::DocumentSteps::document_end))]
+    pub(super) fn document_end<'input>(&mut self) -> Result<(Event<'input>, Span), Stop>
+        ensures { Moves (told_of (machine_of self.new)) result (spec.document_end (machine_of self.old)) }
+    {
+        let token = self.behind_document()?;
+        let span = token.span;
+        if !self.keep_tags {
+            self.prefixes.forget();
+        }
+        match token.kind {
+            TokenType::DocumentEnd => self.state = State::ImplicitDocumentStart,
+            TokenType::VersionDirective(..)
+            | TokenType::TagDirective(..)
+            | TokenType::ReservedDirective(_) => {
+                return Err(refuse(FaultText::DocumentEndExpected, span.start));
+            }
+            _ => {
+                self.put_back(token);
+                self.state = State::DocumentStart;
+            }
+        }
+        Ok((Event::DocumentEnd, span))
+    }
+}

@@ -1,0 +1,101 @@
+ghost use Rattle.std.specs.Prelude.{◌≡◌, ◌≢◌, ◌↔◌, IsTrue, false};
+ghost use Rattle.saphyr_parser.specs.Steps as spec;
+
+use crate::parser::anchors::Anchors;
+use crate::parser::context::Context;
+use crate::parser::event::Event;
+use crate::parser::fault::Fault;
+use crate::parser::machine::Machine;
+use crate::parser::prefixes::Prefixes;
+use crate::parser::state::State;
+use saphyr_input::input::Input;
+use saphyr_scalar::{Span, Stop};
+use saphyr_scanner::Scanner;
+use std::alloc::Global;
+
+impl<T: Input> Machine<T> {
+    ghost use Rattle.saphyr_scalar.specs.Seen.{Moves};
+    ghost use Rattle.saphyr_parser.specs.Seen.{machine_of, told_of};
+    ghost use Rattle.saphyr_parser.specs.Machine.{fresh};
+    ghost use Rattle.saphyr_parser.specs.Answer.{remaining};
+    ghost use Rattle.saphyr_parser.specs.Cursor.{Reads};
+    ghost use Rattle.saphyr_parser.specs.Faults.{is_foreign};
+    ghost use Rattle.saphyr_parser.specs.declared.parser.state.State.TheVariants.{End};
+
+    pub(super) fn new(alloc: Global, scanner: Scanner<T>) -> Self
+        ensures { machine_of result ≡ fresh scanner }
+    {
+        Machine {
+            scanner,
+            token: None,
+            state: State::StreamStart,
+            states: Vec::new(alloc),
+            anchors: Anchors::new(alloc),
+            prefixes: Prefixes::new(alloc),
+            keep_tags: false,
+            alloc,
+        }
+    }
+
+    #[tactic(auto, unfolding(crate::specs::Steps::block_node))]
+    fn block_node<'input>(&mut self) -> Result<(Event<'input>, Span), Stop>
+        ensures { Moves (told_of (machine_of self.new)) result (spec.block_node (machine_of self.old)) }
+    {
+        let token = self.take()?;
+        self.node(Context::Block, token)
+    }
+
+    // Whether the end of the stream was reached.
+    pub(super) fn is_done(&self) -> bool
+        ensures { IsTrue result ↔ ((machine_of self.now).state ≡ End) }
+    {
+        self.state == State::End
+    }
+
+    // Reads the next event, if there is one.
+    #[tactic(auto, using(crate::proofs::Turns::reads, crate::proofs::Turns::is_over, crate::proofs::Turns::refused))]
+    pub(super) fn read<'input>(&mut self) -> Option<Result<(Event<'input>, Span), Fault>>
+        ensures reads { Reads result (remaining (machine_of self.old)) (remaining (machine_of self.new)) }
+        ensures own { is_foreign result ≡ false }
+    {
+        if self.is_done() {
+            return None;
+        }
+        match self.event() {
+            Ok(event) => Some(Ok(event)),
+            Err(stop) => Some(Err(Fault::new(self.alloc, stop))),
+        }
+    }
+
+    // The next event.
+    #[tactic(auto, unfolding(crate::specs::Steps::step))]
+    pub(super) fn event<'input>(&mut self) -> Result<(Event<'input>, Span), Stop>
+        requires { (machine_of self.old).state ≢ End }
+        ensures { Moves (told_of (machine_of self.new)) result (spec.step (machine_of self.old)) }
+    {
+        match self.state {
+            State::StreamStart => self.stream_start(),
+            State::ImplicitDocumentStart => self.implicit_document_start(),
+            State::DocumentStart => self.document_start(),
+            State::DocumentContent => self.document_content(),
+            State::DocumentEnd => self.document_end(),
+            State::BlockNode => self.block_node(),
+            State::BlockSequenceEntry => self.block_sequence_entry(),
+            State::IndentlessSequenceEntry => self.indentless_sequence_entry(),
+            State::BlockMappingKey => self.block_mapping_key(),
+            State::BlockMappingValue => self.block_mapping_value(),
+            State::FlowSequenceFirstEntry => self.flow_sequence_first_entry(),
+            State::FlowSequenceEntry => self.flow_sequence_entry(),
+            State::FlowSequenceEntryMappingKey => self.flow_sequence_entry_mapping_key(),
+            State::FlowSequenceEntryMappingValue => self.flow_sequence_entry_mapping_value(),
+            State::FlowSequenceEntryMappingEnd(place) => {
+                self.flow_sequence_entry_mapping_end(place)
+            }
+            State::FlowMappingFirstKey => self.flow_mapping_first_key(),
+            State::FlowMappingKey => self.flow_mapping_key(),
+            State::FlowMappingValue => self.flow_mapping_value(),
+            State::FlowMappingEmptyValue => self.flow_mapping_empty_value(),
+            State::End => unreachable!(),
+        }
+    }
+}

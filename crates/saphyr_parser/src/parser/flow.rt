@@ -1,0 +1,230 @@
+ghost use Rattle.std.specs.Prelude.{◌≡◌, None};
+ghost use Rattle.saphyr_parser.specs.FlowSteps as spec;
+
+use crate::parser::context::Context;
+use crate::parser::event::Event;
+use crate::parser::machine::{Machine, refuse};
+use crate::parser::state::State;
+use saphyr_input::input::Input;
+use saphyr_scalar::{FaultText, Marker, Span, Stop};
+use saphyr_scanner::{Token, TokenType};
+
+impl<T: Input> Machine<T> {
+    ghost use Rattle.saphyr_scalar.specs.Seen.{Moves};
+    ghost use Rattle.saphyr_scanner.specs.Seen.{piece};
+    ghost use Rattle.saphyr_parser.specs.Seen.{machine_of, told_of};
+
+    // The first entry of a flow sequence, or the one behind a comma, or the end of the sequence.
+    #[tactic(auto, unfolding(crate::specs::FlowSteps::first_entry))]
+    pub(super) fn flow_sequence_first_entry<'input>(
+        &mut self,
+    ) -> Result<(Event<'input>, Span), Stop>
+        ensures { Moves (told_of (machine_of self.new)) result (spec.first_entry (machine_of self.old)) }
+    {
+        let token = self.take()?;
+        match token.kind {
+            TokenType::FlowSequenceEnd => {
+                self.pop();
+                Ok((Event::SequenceEnd, token.span))
+            }
+            TokenType::Key => {
+                self.state = State::FlowSequenceEntryMappingKey;
+                Ok((Event::MappingStart(0, None), token.span))
+            }
+            _ => self.inside(State::FlowSequenceEntry, Context::Flow, token),
+        }
+    }
+
+    // The comma before an entry of a flow sequence, with the entry, or the end of the sequence.
+    #[tactic(auto, unfolding(crate::specs::FlowSteps::other_entry))]
+    pub(super) fn flow_sequence_entry<'input>(&mut self) -> Result<(Event<'input>, Span), Stop>
+        ensures { Moves (told_of (machine_of self.new)) result (spec.other_entry (machine_of self.old)) }
+    {
+        let token = self.take()?;
+        match token.kind {
+            TokenType::FlowSequenceEnd => {
+                self.pop();
+                Ok((Event::SequenceEnd, token.span))
+            }
+            TokenType::FlowEntry => self.flow_sequence_first_entry(),
+            _ => Err(refuse(FaultText::FlowSequenceEndExpected, token.span.start)),
+        }
+    }
+
+    // The key of a pair of a flow sequence, behind its `?`. One that is left out leaves what follows it.
+    #[tactic(auto, unfolding(crate::specs::FlowSteps::pair_key))]
+    pub(super) fn flow_sequence_entry_mapping_key<'input>(
+        &mut self,
+    ) -> Result<(Event<'input>, Span), Stop>
+        ensures { Moves (told_of (machine_of self.new)) result (spec.pair_key (machine_of self.old)) }
+    {
+        let token = self.take()?;
+        match token.kind {
+            TokenType::Value | TokenType::FlowEntry | TokenType::FlowSequenceEnd => {
+                let span = token.span;
+                self.left_out(token, State::FlowSequenceEntryMappingValue, span)
+            }
+            _ => self.inside(State::FlowSequenceEntryMappingValue, Context::Flow, token),
+        }
+    }
+
+    // The value of a pair of a flow sequence.
+    #[tactic(auto, unfolding(crate::specs::FlowSteps::pair_value))]
+    pub(super) fn flow_sequence_entry_mapping_value<'input>(
+        &mut self,
+    ) -> Result<(Event<'input>, Span), Stop>
+        ensures { Moves (told_of (machine_of self.new)) result (spec.pair_value (machine_of self.old)) }
+    {
+        let token = self.take()?;
+        match token.kind {
+            TokenType::Value => self.flow_sequence_entry_mapping_node(),
+            _ => {
+                let span = token.span;
+                self.left_out(token, State::FlowSequenceEntryMappingEnd(span.end), span)
+            }
+        }
+    }
+
+    // The node behind the colon of a pair of a flow sequence. The pair's end has its place behind the
+    // node's first token.
+    #[tactic(auto, unfolding(crate::specs::FlowSteps::pair_value_node))]
+    fn flow_sequence_entry_mapping_node<'input>(&mut self) -> Result<(Event<'input>, Span), Stop>
+        ensures { Moves (told_of (machine_of self.new)) result (spec.pair_value_node (machine_of self.old)) }
+    {
+        let token = self.take()?;
+        let span = token.span;
+        let state = State::FlowSequenceEntryMappingEnd(span.end);
+        match token.kind {
+            TokenType::FlowEntry | TokenType::FlowSequenceEnd => self.left_out(token, state, span),
+            _ => self.inside(state, Context::Flow, token),
+        }
+    }
+
+    // The end of a pair of a flow sequence.
+    #[tactic(auto, unfolding(crate::specs::FlowSteps::pair_end))]
+    pub(super) fn flow_sequence_entry_mapping_end<'input>(
+        &mut self,
+        place: Marker,
+    ) -> Result<(Event<'input>, Span), Stop>
+        ensures { Moves (told_of (machine_of self.new)) result (spec.pair_end place (machine_of self.old)) }
+    {
+        self.state = State::FlowSequenceEntry;
+        let span = Span {
+            start: place,
+            end: place,
+        };
+        Ok((Event::MappingEnd, span))
+    }
+
+    // The first pair of a flow mapping, or its end.
+    #[tactic(auto, unfolding(crate::specs::FlowSteps::first_pair))]
+    pub(super) fn flow_mapping_first_key<'input>(&mut self) -> Result<(Event<'input>, Span), Stop>
+        ensures { Moves (told_of (machine_of self.new)) result (spec.first_pair (machine_of self.old)) }
+    {
+        let token = self.take()?;
+        let span = token.span;
+        self.flow_mapping_pair(span, token)
+    }
+
+    // The comma before a pair of a flow mapping, with its key, or the end of the mapping.
+    #[tactic(auto, unfolding(crate::specs::FlowSteps::other_pair))]
+    pub(super) fn flow_mapping_key<'input>(&mut self) -> Result<(Event<'input>, Span), Stop>
+        ensures { Moves (told_of (machine_of self.new)) result (spec.other_pair (machine_of self.old)) }
+    {
+        let token = self.take()?;
+        match token.kind {
+            TokenType::FlowMappingEnd => {
+                self.pop();
+                Ok((Event::MappingEnd, token.span))
+            }
+            TokenType::FlowEntry => self.flow_mapping_pair_behind_comma(token.span),
+            _ => Err(refuse(FaultText::FlowMappingEndExpected, token.span.start)),
+        }
+    }
+
+    #[tactic(auto, unfolding(crate::specs::FlowSteps::pair_behind_comma))]
+    fn flow_mapping_pair_behind_comma<'input>(
+        &mut self,
+        comma: Span,
+    ) -> Result<(Event<'input>, Span), Stop>
+        ensures { Moves (told_of (machine_of self.new)) result (spec.pair_behind_comma comma (machine_of self.old)) }
+    {
+        let token = self.take()?;
+        self.flow_mapping_pair(comma, token)
+    }
+
+    // A pair begins with the token, or the mapping ends there, and its end has the span.
+    fn flow_mapping_pair<'input>(
+        &mut self,
+        end: Span,
+        token: Token,
+    ) -> Result<(Event<'input>, Span), Stop>
+        requires { self.old.token ≡ None }
+        ensures { Moves (told_of (machine_of self.new)) result (spec.pair_at (piece token).kind end (piece token) (machine_of self.old)) }
+    {
+        match token.kind {
+            TokenType::Key => self.flow_key_node(),
+            TokenType::Value => {
+                let span = token.span;
+                self.left_out(token, State::FlowMappingValue, span)
+            }
+            TokenType::FlowMappingEnd => {
+                self.pop();
+                Ok((Event::MappingEnd, end))
+            }
+            _ => self.inside(State::FlowMappingEmptyValue, Context::Flow, token),
+        }
+    }
+
+    // The node behind a key's token.
+    #[tactic(auto, unfolding(crate::specs::FlowSteps::key_node))]
+    fn flow_key_node<'input>(&mut self) -> Result<(Event<'input>, Span), Stop>
+        ensures { Moves (told_of (machine_of self.new)) result (spec.key_node (machine_of self.old)) }
+    {
+        let token = self.take()?;
+        match token.kind {
+            TokenType::Value | TokenType::FlowEntry | TokenType::FlowMappingEnd => {
+                let span = token.span;
+                self.left_out(token, State::FlowMappingValue, span)
+            }
+            _ => self.inside(State::FlowMappingValue, Context::Flow, token),
+        }
+    }
+
+    // The value of a pair of a flow mapping.
+    #[tactic(auto, unfolding(crate::specs::FlowSteps::mapping_value))]
+    pub(super) fn flow_mapping_value<'input>(&mut self) -> Result<(Event<'input>, Span), Stop>
+        ensures { Moves (told_of (machine_of self.new)) result (spec.mapping_value (machine_of self.old)) }
+    {
+        let token = self.take()?;
+        let span = token.span;
+        match token.kind {
+            TokenType::Value => self.flow_value_node(span),
+            _ => self.left_out(token, State::FlowMappingKey, span),
+        }
+    }
+
+    // The node behind a value's token.
+    #[tactic(auto, unfolding(crate::specs::FlowSteps::value_node))]
+    fn flow_value_node<'input>(&mut self, colon: Span) -> Result<(Event<'input>, Span), Stop>
+        ensures { Moves (told_of (machine_of self.new)) result (spec.value_node colon (machine_of self.old)) }
+    {
+        let token = self.take()?;
+        match token.kind {
+            TokenType::FlowEntry | TokenType::FlowMappingEnd => {
+                self.left_out(token, State::FlowMappingKey, colon)
+            }
+            _ => self.inside(State::FlowMappingKey, Context::Flow, token),
+        }
+    }
+
+    // The value of a pair that has a key alone.
+    #[tactic(auto, unfolding(crate::specs::FlowSteps::empty_value))]
+    pub(super) fn flow_mapping_empty_value<'input>(&mut self) -> Result<(Event<'input>, Span), Stop>
+        ensures { Moves (told_of (machine_of self.new)) result (spec.empty_value (machine_of self.old)) }
+    {
+        let token = self.take()?;
+        let span = token.span;
+        self.left_out(token, State::FlowMappingKey, span)
+    }
+}

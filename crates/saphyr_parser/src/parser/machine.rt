@@ -1,0 +1,119 @@
+ghost use Rattle.std.specs.Prelude.{◌≡◌, None};
+ghost use Rattle.saphyr_parser.specs.Machine as spec;
+
+use crate::parser::anchors::Anchors;
+use crate::parser::event::Event;
+use crate::parser::prefixes::Prefixes;
+use crate::parser::state::State;
+use saphyr_input::input::Input;
+use saphyr_scalar::{FaultText, Marker, Refusal, ScalarStyle, Span, Stop};
+use saphyr_scanner::{Scanner, Token};
+use std::alloc::Global;
+use std::borrow::CowStr;
+
+/// What turns tokens into events.
+#[derive(Drop)]
+pub struct Machine<T: Input> {
+    pub(super) scanner: Scanner<T>,
+    // A token that was taken and put back.
+    pub(super) token: Option<Token>,
+    pub(super) state: State,
+    // What is expected behind each node that is open.
+    pub(super) states: Vec<State>,
+    pub(super) anchors: Anchors,
+    pub(super) prefixes: Prefixes,
+    pub(super) keep_tags: bool,
+    pub(super) alloc: Global,
+}
+
+// A refusal at a place.
+pub(super) fn refuse(text: FaultText, mark: Marker) -> Stop
+    ensures { result ≡ Stop.Refused (record { text = text; mark = mark }) }
+{
+    Stop::Refused(Refusal { text, mark })
+}
+
+impl<T: Input> Machine<T> {
+    ghost use Rattle.std.specs.Prelude.{IfOk};
+    ghost use Rattle.saphyr_scalar.specs.Seen.{Moves};
+    ghost use Rattle.saphyr_scanner.specs.Seen.{piece};
+    ghost use Rattle.saphyr_parser.specs.Seen.{machine_of, happening, told_of};
+
+    // Takes the next token.
+    pub(super) fn take(&mut self) -> Result<Token, Stop>
+        ensures taken { Moves (λ t. (piece t, machine_of self.new)) result (spec.take (machine_of self.old)) }
+        ensures room { IfOk result (λ t. self.new.token ≡ None) }
+    {
+        if let Some(token) = self.token.take() {
+            return Ok(token);
+        }
+        match self.scanner.next_token()? {
+            Some(token) => Ok(token),
+            None => Err(refuse(
+                FaultText::DocumentStartExpected,
+                Marker {
+                    index: 0,
+                    line: 0,
+                    col: 0,
+                },
+            )),
+        }
+    }
+
+    // Leaves the token to be read again.
+    pub(super) fn put_back(&mut self, token: Token)
+        requires { self.old.token ≡ None }
+        ensures { machine_of self.new ≡ spec.put_back (piece token) (machine_of self.old) }
+    {
+        self.token = Some(token);
+    }
+
+    // Goes back to what is expected behind the node that has ended.
+    #[tactic(auto, using(crate::proofs::Stacks::top_off))]
+    pub(super) fn pop(&mut self)
+        ensures moved { machine_of self.new ≡ spec.pop (machine_of self.old) }
+        ensures room { self.new.token ≡ self.old.token }
+    {
+        self.state = match self.states.pop() {
+            Some(state) => state,
+            None => State::End,
+        };
+    }
+
+    // What is expected behind the node that begins.
+    #[tactic(auto, using(crate::proofs::Stacks::top_on))]
+    pub(super) fn push(&mut self, state: State) -> Result<(), Stop>
+        ensures moved { Moves (λ _. machine_of self.new) result (Ok (spec.push state (machine_of self.old))) }
+        ensures room { self.new.token ≡ self.old.token }
+    {
+        self.states.push(state)?;
+        Ok(())
+    }
+
+    // The event of a node that is left out.
+    pub(super) fn empty_scalar<'input>(&self) -> Event<'input>
+        ensures { happening result ≡ spec.empty_scalar }
+    {
+        Event::Scalar(
+            CowStr::Owned(String::new(self.alloc)),
+            ScalarStyle::Plain,
+            0,
+            None,
+        )
+    }
+
+    // A node is left out before the token.
+    pub(super) fn left_out<'input>(
+        &mut self,
+        token: Token,
+        state: State,
+        span: Span,
+    ) -> Result<(Event<'input>, Span), Stop>
+        requires { self.old.token ≡ None }
+        ensures { Moves (told_of (machine_of self.new)) result (spec.left_out (piece token) state span (machine_of self.old)) }
+    {
+        self.put_back(token);
+        self.state = state;
+        Ok((self.empty_scalar(), span))
+    }
+}

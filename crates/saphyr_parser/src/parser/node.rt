@@ -1,0 +1,264 @@
+ghost use Rattle.std.specs.Prelude.{◌≡◌, None, string_bytes};
+ghost use Rattle.saphyr_parser.specs.NodeSteps as spec;
+
+use crate::parser::context::Context;
+use crate::parser::event::Event;
+use crate::parser::machine::{Machine, refuse};
+use crate::parser::state::State;
+use crate::parser::tag::Tag;
+use saphyr_input::input::Input;
+use saphyr_scalar::{FaultText, Marker, ScalarStyle, Span, Stop};
+use saphyr_scanner::{Token, TokenType};
+use std::borrow::CowStr;
+
+// What stands before the content of a node.
+#[derive(Drop)]
+pub struct Properties {
+    start: Marker,
+    behind: Marker,
+    // The id of the anchor, 0 for none.
+    anchor: usize,
+    tag: Option<Tag>,
+}
+
+impl Properties {
+    ghost use Rattle.saphyr_parser.specs.NodeSeen.{properties};
+
+    // No properties, at a place.
+    fn none(place: Marker) -> Properties
+        ensures { properties result ≡ spec.no_properties place }
+    {
+        Properties {
+            start: place,
+            behind: place,
+            anchor: 0,
+            tag: None,
+        }
+    }
+
+    fn has_any(&self) -> bool
+        ensures { result ≡ spec.has_property (properties self.now) }
+    {
+        self.anchor > 0 || self.tag.is_some()
+    }
+
+    // From the properties up to a place.
+    fn up_to(&self, place: Marker) -> Span
+        ensures { result ≡ spec.up_to (properties self.now) place }
+    {
+        Span {
+            start: self.start,
+            end: place,
+        }
+    }
+}
+
+impl<T: Input> Machine<T> {
+    ghost use Rattle.saphyr_scalar.specs.Seen.{Moves};
+    ghost use Rattle.saphyr_scanner.specs.Seen.{piece};
+    ghost use Rattle.saphyr_parser.specs.Seen.{machine_of, told_of};
+    ghost use Rattle.saphyr_parser.specs.NodeSeen.{properties as seen};
+
+    // Properties alone stand for an empty scalar.
+    fn without_content<'input>(
+        &mut self,
+        properties: Properties,
+        token: Token,
+    ) -> Result<(Event<'input>, Span), Stop>
+        requires { self.old.token ≡ None }
+        ensures { Moves (told_of (machine_of self.new)) result (spec.without_content (seen properties) (piece token) (machine_of self.old)) }
+    {
+        if !properties.has_any() {
+            return Err(refuse(FaultText::NodeContentExpected, token.span.start));
+        }
+        self.put_back(token);
+        self.pop();
+        let span = properties.up_to(properties.behind);
+        let text = CowStr::Owned(String::new(self.alloc));
+        let Properties { anchor, tag, .. } = properties;
+        Ok((Event::Scalar(text, ScalarStyle::Plain, anchor, tag), span))
+    }
+
+    fn open_sequence<'input>(
+        &mut self,
+        state: State,
+        properties: Properties,
+        place: Marker,
+    ) -> (Event<'input>, Span)
+        ensures { told_of (machine_of self.new) result ≡ spec.opened_sequence state (seen properties) place (machine_of self.old) }
+    {
+        self.state = state;
+        let span = properties.up_to(place);
+        let Properties { anchor, tag, .. } = properties;
+        (Event::SequenceStart(anchor, tag), span)
+    }
+
+    fn open_mapping<'input>(
+        &mut self,
+        state: State,
+        properties: Properties,
+        place: Marker,
+    ) -> (Event<'input>, Span)
+        ensures { told_of (machine_of self.new) result ≡ spec.opened_mapping state (seen properties) place (machine_of self.old) }
+    {
+        self.state = state;
+        let span = properties.up_to(place);
+        let Properties { anchor, tag, .. } = properties;
+        (Event::MappingStart(anchor, tag), span)
+    }
+
+    // The content of a node begins with the token.
+    #[tactic(auto, unfolding(crate::specs::NodeSteps::content))]
+    fn content<'input>(
+        &mut self,
+        properties: Properties,
+        context: Context,
+        token: Token,
+    ) -> Result<(Event<'input>, Span), Stop>
+        requires { self.old.token ≡ None }
+        ensures { Moves (told_of (machine_of self.new)) result (spec.content (seen properties) context (piece token) (machine_of self.old)) }
+    {
+        let Token { span, kind } = token;
+        match kind {
+            TokenType::Scalar(style, text) => {
+                self.pop();
+                let span = properties.up_to(span.end);
+                let Properties { anchor, tag, .. } = properties;
+                Ok((Event::Scalar(CowStr::Owned(text), style, anchor, tag), span))
+            }
+            TokenType::FlowSequenceStart => {
+                Ok(self.open_sequence(State::FlowSequenceFirstEntry, properties, span.end))
+            }
+            TokenType::FlowMappingStart => {
+                Ok(self.open_mapping(State::FlowMappingFirstKey, properties, span.end))
+            }
+            TokenType::BlockSequenceStart if context.allows_block() => {
+                Ok(self.open_sequence(State::BlockSequenceEntry, properties, span.end))
+            }
+            TokenType::BlockMappingStart if context.allows_block() => {
+                Ok(self.open_mapping(State::BlockMappingKey, properties, span.end))
+            }
+            TokenType::BlockEntry if context.allows_indentless() => {
+                self.put_back(Token { span, kind });
+                Ok(self.open_sequence(State::IndentlessSequenceEntry, properties, span.end))
+            }
+            kind => self.without_content(properties, Token { span, kind }),
+        }
+    }
+
+    // The content of a node behind its properties.
+    #[tactic(auto, unfolding(crate::specs::NodeSteps::next_content))]
+    fn next_content<'input>(
+        &mut self,
+        properties: Properties,
+        context: Context,
+    ) -> Result<(Event<'input>, Span), Stop>
+        ensures { Moves (told_of (machine_of self.new)) result (spec.next_content (seen properties) context (machine_of self.old)) }
+    {
+        let token = self.take()?;
+        self.content(properties, context, token)
+    }
+
+    #[tactic(auto, unfolding(crate::specs::NodeSteps::alias))]
+    fn alias<'input>(&mut self, name: &str, span: Span) -> Result<(Event<'input>, Span), Stop>
+        ensures { Moves (told_of (machine_of self.new)) result (spec.alias name.now span (machine_of self.old)) }
+    {
+        match self.anchors.id_of(name) {
+            Some(id) => {
+                self.pop();
+                Ok((Event::Alias(id), span))
+            }
+            None => Err(refuse(FaultText::UnknownAnchor, span.start)),
+        }
+    }
+
+    // A node that begins with an anchor.
+    #[tactic(auto, unfolding(crate::specs::NodeSteps::behind_anchor))]
+    fn behind_anchor<'input>(
+        &mut self,
+        name: String,
+        anchor: Span,
+        context: Context,
+    ) -> Result<(Event<'input>, Span), Stop>
+        ensures { Moves (told_of (machine_of self.new)) result (spec.behind_anchor (string_bytes name) anchor context (machine_of self.old)) }
+    {
+        let id = self.anchors.register(name)?;
+        let Token { span, kind } = self.take()?;
+        let mut properties = Properties {
+            start: anchor.start,
+            behind: anchor.end,
+            anchor: id,
+            tag: None,
+        };
+        match kind {
+            TokenType::Tag(handle, suffix) => {
+                properties.tag = Some(self.resolve(handle, suffix, anchor.start)?);
+                properties.behind = span.end;
+                self.next_content(properties, context)
+            }
+            kind => self.content(properties, context, Token { span, kind }),
+        }
+    }
+
+    // A node that begins with a tag.
+    #[tactic(auto, unfolding(crate::specs::NodeSteps::behind_tag))]
+    fn behind_tag<'input>(
+        &mut self,
+        handle: String,
+        suffix: String,
+        place: Span,
+        context: Context,
+    ) -> Result<(Event<'input>, Span), Stop>
+        ensures { Moves (told_of (machine_of self.new)) result (spec.behind_tag (string_bytes handle) (string_bytes suffix) place context (machine_of self.old)) }
+    {
+        let tag = self.resolve(handle, suffix, place.start)?;
+        let Token { span, kind } = self.take()?;
+        let mut properties = Properties {
+            start: place.start,
+            behind: place.end,
+            anchor: 0,
+            tag: Some(tag),
+        };
+        match kind {
+            TokenType::Anchor(name) => {
+                properties.anchor = self.anchors.register(name)?;
+                properties.behind = span.end;
+                self.next_content(properties, context)
+            }
+            kind => self.content(properties, context, Token { span, kind }),
+        }
+    }
+
+    // A node begins with the token.
+    #[tactic(auto, unfolding(crate::specs::NodeSteps::node))]
+    pub(super) fn node<'input>(
+        &mut self,
+        context: Context,
+        token: Token,
+    ) -> Result<(Event<'input>, Span), Stop>
+        requires { self.old.token ≡ None }
+        ensures { Moves (told_of (machine_of self.new)) result (spec.node context (piece token) (machine_of self.old)) }
+    {
+        let Token { span, kind } = token;
+        match kind {
+            TokenType::Alias(name) => self.alias(name.as_str(), span),
+            TokenType::Anchor(name) => self.behind_anchor(name, span, context),
+            TokenType::Tag(handle, suffix) => self.behind_tag(handle, suffix, span, context),
+            kind => self.content(Properties::none(span.start), context, Token { span, kind }),
+        }
+    }
+
+    // A node inside a collection, which goes on in the state behind it.
+    pub(super) fn inside<'input>(
+        &mut self,
+        state: State,
+        context: Context,
+        token: Token,
+    ) -> Result<(Event<'input>, Span), Stop>
+        requires { self.old.token ≡ None }
+        ensures { Moves (told_of (machine_of self.new)) result (spec.inside state context (piece token) (machine_of self.old)) }
+    {
+        self.push(state)?;
+        self.node(context, token)
+    }
+}

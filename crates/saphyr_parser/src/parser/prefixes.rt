@@ -1,0 +1,62 @@
+ghost use Rattle.std.specs.Prelude.{◌≡◌, [], Ok, string_bytes, option_map};
+ghost use Rattle.saphyr_parser.specs.Machine as spec;
+
+use saphyr_scalar::Stop;
+use std::alloc::{AllocError, Global};
+use std::collections::BTreeMap;
+use std::marker::Model;
+
+/// The prefixes that are declared for the handles of tags.
+#[derive(Drop)]
+pub struct Prefixes {
+    declared: BTreeMap<String, String>,
+}
+
+impl Model for Prefixes {
+    ghost use Rattle.std.specs.Prelude.{ℕ, List};
+    ghost use Rattle.saphyr_parser.specs.Machine.{Names};
+    ghost use Rattle.saphyr_parser.specs.Names.{texts_of};
+
+    ghost Value = { Names (List ℕ) };
+
+    ghost view = { λ p. texts_of p.declared };
+}
+
+impl Prefixes {
+    ghost use Rattle.std.specs.Prelude.{IfOk};
+    ghost use Rattle.saphyr_scalar.specs.Seen.{Moves};
+
+    pub fn new(alloc: Global) -> Prefixes
+        ensures { result ≡ [] }
+    {
+        Prefixes {
+            declared: BTreeMap::new(alloc),
+        }
+    }
+
+    pub fn forget(&mut self)
+        ensures { self.new ≡ [] }
+    {
+        self.declared.clear();
+    }
+
+    #[tactic(auto, using(crate::proofs::Names::texts_given))]
+    /// Declares the prefix for the handle, in place of one that it may have.
+    pub fn declare(&mut self, handle: String, prefix: String) -> Result<(), Stop>
+        ensures { Moves (λ _. self.new) result (Ok (spec.given (string_bytes handle) (string_bytes prefix) self.old)) }
+    {
+        self.declared.insert(handle, prefix)?;
+        Ok(())
+    }
+
+    #[tactic(auto, using(crate::proofs::Names::texts_meaning))]
+    /// A copy of the prefix that is declared for the handle.
+    pub fn prefix_of(&self, handle: &str) -> Result<Option<String>, AllocError>
+        ensures { IfOk result (λ prefix. option_map string_bytes prefix ≡ spec.meaning handle.now self.now) }
+    {
+        match self.declared.get(handle) {
+            Some(prefix) => Ok(Some(prefix.clone()?)),
+            None => Ok(None),
+        }
+    }
+}

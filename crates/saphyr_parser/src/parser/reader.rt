@@ -1,0 +1,133 @@
+ghost use Rattle.std.specs.Prelude.{◌≡◌, None, IfNone};
+
+use crate::parser::event::Event;
+use crate::parser::fault::Fault;
+use crate::parser::kept::Kept;
+use crate::parser::machine::Machine;
+use saphyr_input::input::Input;
+use saphyr_scalar::Span;
+use saphyr_scanner::Scanner;
+use std::alloc::Global;
+
+/// A machine, with what was read ahead of it and what is remembered of the events that were handed out.
+#[derive(Drop)]
+pub struct Reader<'input, T: Input> {
+    pub(super) machine: Machine<T>,
+    // An event that was read and not yet handed out.
+    pub(super) current: Option<(Event<'input>, Span)>,
+    pub(super) kept: Option<Kept>,
+    // Whether a document was handed out whose end wasn't.
+    pub(super) inside: bool,
+    // The span of the stream's end, once that was handed out.
+    pub(super) finished: Option<Span>,
+}
+
+impl<'input, T: Input> Reader<'input, T> {
+    ghost use Rattle.saphyr_parser.specs.Seen.{happening};
+    ghost use Rattle.saphyr_parser.specs.Cursor as spec;
+    ghost use Rattle.saphyr_parser.specs.ReaderSeen.{cursor};
+
+    pub(super) fn new(alloc: Global, scanner: Scanner<T>) -> Self
+        ensures { cursor result ≡ spec.at_start scanner }
+    {
+        Reader {
+            machine: Machine::new(alloc, scanner),
+            current: None,
+            kept: None,
+            inside: false,
+            finished: None,
+        }
+    }
+
+    // Reads one event ahead, or the fault in place of it.
+    pub(super) fn look(&mut self)
+        ensures stays { spec.Stays (spec.to_come (cursor self.old)) (spec.to_come (cursor self.new)) }
+        ensures looked { IfNone self.new.current (spec.to_come (cursor self.new) ≡ spec.told (cursor self.new).kept) }
+        ensures same { spec.IsUnmoved (cursor self.old) (cursor self.new) }
+    {
+        if self.current.is_some() || self.kept.is_some() {
+            return;
+        }
+        match self.machine.read() {
+            Some(Ok(event)) => self.current = Some(event),
+            Some(Err(fault)) => {
+                self.kept = Some(Kept {
+                    fault,
+                    given: false,
+                });
+            }
+            None => {}
+        }
+    }
+
+    // What was read ahead.
+    pub(super) fn shown(&self) -> Option<Result<&(Event<'input>, Span), &Fault>>
+        requires { IfNone self.now.current (spec.to_come (cursor self.now) ≡ spec.told (cursor self.now).kept) }
+        ensures { spec.Shows result (spec.to_come (cursor self.now)) }
+    {
+        if let Some(event) = &self.current {
+            return Some(Ok(event));
+        }
+        match &self.kept {
+            Some(kept) if !kept.given => Some(Err(&kept.fault)),
+            _ => None,
+        }
+    }
+
+    // Remembers what an event says of the place between events that stands behind it.
+    fn remember(&mut self, event: &Event<'input>, span: Span)
+        ensures { cursor self.new ≡ spec.remembered (happening event.now) span (cursor self.old) }
+    {
+        match event {
+            Event::DocumentStart(_) => self.inside = true,
+            Event::DocumentEnd => self.inside = false,
+            Event::StreamEnd => self.finished = Some(span),
+            _ => {}
+        }
+    }
+
+    // Gives the fault that ended the events, unless it was given before. Where it can't be copied, it is
+    // lost for the want of memory.
+    fn give_fault(&mut self) -> Option<Result<(Event<'input>, Span), Fault>>
+        ensures hands { spec.Hands result (spec.told (cursor self.old).kept) (spec.told (cursor self.new).kept) }
+        ensures given { spec.IsGiven result (cursor self.new).kept }
+        ensures same { spec.IsUnmoved (cursor self.old) (cursor self.new) }
+        ensures current { self.new.current ≡ self.old.current }
+        ensures kept { spec.IsKept (cursor self.old).kept → spec.IsKept (cursor self.new).kept }
+        ensures nothing { (cursor self.old).kept ≡ None → cursor self.new ≡ cursor self.old }
+    {
+        let Some(kept) = self.kept.take() else {
+            return None;
+        };
+        if kept.given {
+            self.kept = Some(kept);
+            return None;
+        }
+        let Ok(copy) = kept.fault.try_clone() else {
+            self.kept = Some(Kept {
+                fault: Fault::OutOfMemory,
+                given: true,
+            });
+            return Some(Err(Fault::OutOfMemory));
+        };
+        self.kept = Some(Kept {
+            fault: kept.fault,
+            given: true,
+        });
+        Some(Err(copy))
+    }
+
+    /// Hands out the next event.
+    pub(super) fn next_event(&mut self) -> Option<Result<(Event<'input>, Span), Fault>>
+        ensures hands { spec.Hands result (spec.to_come (cursor self.old)) (spec.to_come (cursor self.new)) }
+        ensures remembers { spec.Remembers result (cursor self.old) (cursor self.new) }
+        ensures given { spec.IsGiven result (cursor self.new).kept }
+    {
+        self.look();
+        if let Some((event, span)) = self.current.take() {
+            self.remember(&event, span);
+            return Some(Ok((event, span)));
+        }
+        self.give_fault()
+    }
+}

@@ -1,0 +1,49 @@
+ghost use Rattle.std.specs.Prelude.{◌≡◌, string_bytes};
+ghost use Rattle.saphyr_parser.specs.TagSteps as spec;
+
+use crate::parser::machine::{Machine, refuse};
+use crate::parser::tag::Tag;
+use saphyr_input::input::Input;
+use saphyr_scalar::{FaultText, Marker, Stop};
+
+// Whether the handle has a word, and so has to be declared.
+fn is_named(handle: &str) -> bool
+    ensures { result ≡ spec.is_named handle.now }
+{
+    let bytes = handle.as_bytes();
+    bytes.len() >= 2 && bytes[0] == b'!' && bytes[bytes.len() - 1] == b'!'
+}
+
+impl<T: Input> Machine<T> {
+    ghost use Rattle.saphyr_scalar.specs.Seen.{Moves};
+    ghost use Rattle.saphyr_parser.specs.Seen.{resolved_tag};
+
+    // The prefix that stands for the handle of a tag at this place.
+    #[tactic(auto, unfolding(crate::specs::TagSteps::prefix_of))]
+    fn prefix_of(&self, handle: String, place: Marker) -> Result<String, Stop>
+        ensures { Moves string_bytes result (spec.prefix_of self.now.prefixes (string_bytes handle) place) }
+    {
+        if handle.is_empty() {
+            return Ok(handle);
+        }
+        if let Some(prefix) = self.prefixes.prefix_of(handle.as_str())? {
+            return Ok(prefix);
+        }
+        if handle.as_str() == "!!" {
+            return Ok(String::from_str(self.alloc, "tag:yaml.org,2002:")?);
+        }
+        if is_named(handle.as_str()) {
+            return Err(refuse(FaultText::UndeclaredHandle, place));
+        }
+        Ok(handle)
+    }
+
+    // The tag with its prefix in place of the handle.
+    #[tactic(auto, unfolding(crate::specs::TagSteps::resolved))]
+    pub(super) fn resolve(&self, handle: String, suffix: String, place: Marker) -> Result<Tag, Stop>
+        ensures { Moves resolved_tag result (spec.resolved self.now.prefixes (string_bytes handle) (string_bytes suffix) place) }
+    {
+        let handle = self.prefix_of(handle, place)?;
+        Ok(Tag { handle, suffix })
+    }
+}

@@ -1,0 +1,70 @@
+use crate::{Scanner, Token, TokenType};
+use saphyr_input::StrInput;
+use saphyr_scalar::{FaultText, Marker, Refusal, Span, Stop};
+use std::alloc::Global;
+use std::test::Fail;
+
+// The text is one token of the stream's start, and then ends so.
+fn next_after_start<'a>(
+    alloc: Global,
+    text: &'a str,
+    limit: usize,
+) -> (Scanner<StrInput<'a>>, bool) {
+    let mut scanner = Scanner::new(alloc, StrInput::new(text), limit);
+    let first = match scanner.next_token() {
+        Ok(Some(token)) => token.kind == TokenType::StreamStart,
+        _ => false,
+    };
+    (scanner, first)
+}
+
+#[test]
+fn ends_the_stream(rt: HostRuntime) -> Result<(), Fail> {
+    let cases = [
+        ("", Marker::new(0, 1, 0)),
+        ("# c", Marker::new(3, 2, 0)),
+        (" \t# c\r\n\n", Marker::new(8, 3, 0)),
+    ];
+    for (text, end) in cases {
+        let (mut scanner, started) = next_after_start(rt.alloc(), text, 100);
+        assert!(rt; started);
+        let last = scanner.next_token();
+        let expected = Token {
+            span: Span::empty(end),
+            kind: TokenType::StreamEnd,
+        };
+        assert!(rt; last == Ok(Some(expected)), "{text:?}");
+        assert!(rt; scanner.next_token() == Ok(None), "{text:?}");
+    }
+    Ok(())
+}
+
+#[test]
+fn refuses(rt: HostRuntime) -> Result<(), Fail> {
+    let cases = [
+        (
+            "\0",
+            100,
+            FaultText::UnprintableCharacter,
+            Marker::new(0, 1, 0),
+        ),
+        (
+            " \u{FEFF}",
+            100,
+            FaultText::MisplacedByteOrderMark,
+            Marker::new(1, 1, 1),
+        ),
+        ("# abc", 4, FaultText::TextTooLong, Marker::new(5, 1, 5)),
+        ("\n- a", 100, FaultText::NotBuiltYet, Marker::new(1, 2, 0)),
+    ];
+    for (text, limit, fault, mark) in cases {
+        let (mut scanner, started) = next_after_start(rt.alloc(), text, limit);
+        assert!(rt; started);
+        let expected = Refusal { text: fault, mark };
+        assert!(rt;
+            scanner.next_token() == Err(Stop::Refused(expected)),
+            "{text:?}"
+        );
+    }
+    Ok(())
+}
