@@ -5,8 +5,8 @@ ghost use Rattle.saphyr_parser.specs.Preorder as spec;
 ghost use Rattle.saphyr_parser.specs.Preorder.{entry_parts, node_parts, pair_parts};
 ghost use Rattle.forest_events.specs.TreeSeen.{directive_view, document_view, node_view, nodes_view, pairs_view, part_view};
 
-use saphyr_scalar::ScalarStyle;
 use crate::tree::{Directive, Document, Node, Properties};
+use saphyr_scalar::ScalarStyle;
 use std::alloc::{AllocError, Global};
 
 /// A part of a forest: what one event tells of.

@@ -6,9 +6,9 @@ ghost use Rattle.saphyr_parser.specs.TagResolution as spec;
 ghost use Rattle.forest_events.specs.TreeSeen.{behind, directive_view, handle_view, tag_view};
 
 use crate::part::Part;
-use saphyr_parser::Tag;
 use crate::text::owned;
 use crate::tree::{Directive, Handle, WrittenTag};
+use saphyr_parser::Tag;
 use std::alloc::{AllocError, Global};
 
 /// A handle as it is written.

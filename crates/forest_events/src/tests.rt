@@ -1,5 +1,5 @@
-use crate::walk::forest_events;
 use crate::tree::{Directive, Document, Handle, Node, Properties, WrittenTag};
+use crate::walk::forest_events;
 use saphyr_parser::{Event, Tag};
 use saphyr_scalar::ScalarStyle;
 use std::alloc::{AllocError, Global};

@@ -6,11 +6,11 @@ ghost use Rattle.forest_events.specs.TreeSeen.{behind, document_view, part_view,
 ghost use Rattle.saphyr_parser.specs.Anchors.{own_id};
 
 use crate::anchors::{latest, next_id};
-use saphyr_parser::Event;
 use crate::part::{Part, parts};
 use crate::prefixes::resolve_any;
 use crate::text::owned;
 use crate::tree::{Document, Properties};
+use saphyr_parser::Event;
 use std::alloc::{AllocError, Global};
 use std::borrow::CowStr;
 

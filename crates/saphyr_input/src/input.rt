@@ -8,10 +8,10 @@ pub mod buffered;
 pub mod str;
 
 use crate::char_traits::{is_yaml_non_break, is_yaml_non_space};
-pub use buffered::BufferedInput;
 pub use crate::char_traits::{
     is_alpha, is_blank, is_blank_or_breakz, is_break, is_breakz, is_digit, is_flow, is_z,
 };
+pub use buffered::BufferedInput;
 use std::alloc::AllocError;
 
 /// The characters of a text, which a scanner takes off the front.
