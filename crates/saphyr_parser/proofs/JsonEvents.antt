@@ -5,7 +5,7 @@ use Rattle.saphyr_scanner.specs.Forest as forest
 use Rattle.saphyr_scanner.specs.Json.{IsName, IsValue, AreElements, AreOtherElements, AreMembers, AreOtherMembers, IsJson}
 use Rattle.saphyr_parser.specs.Preorder.{Part, OpenStream, CloseStream, OpenDocument, CloseDocument, Reference, Leaf, OpenSequence, CloseSequence, OpenMapping, CloseMapping, node_parts, entry_parts, pair_parts, parts}
 use Rattle.saphyr_parser.specs.Events.{Happening, StreamStart, StreamEnd, DocumentStart, DocumentEnd, Scalar, SequenceStart, SequenceEnd, MappingStart, MappingEnd}
-use Rattle.saphyr_parser.specs.Anchors.{own_id}
+use Rattle.saphyr_parser.specs.Anchors.{anchor_of, one_more, anchors, own_id}
 use Rattle.saphyr_parser.specs.TagResolution.{resolve_any}
 use Rattle.saphyr_parser.specs.ForestEvents.{before_all, event_of, events_behind, events}
 
@@ -83,8 +83,23 @@ mutual
   other_members NoPair t h = tt
   other_members (MorePairs k v ps) t h = both (node_parts k) (node_parts v ++ pair_parts ps) (name k h.1 h.6) (both (node_parts v) (pair_parts ps) (value v h.3 h.8) (other_members ps h.4 h.9))
 
+json_is_bare : (f : Forest) (text : List ℕ) → IsJson f text → AreBare (parts f)
+json_is_bare (d ∷ []) text h = (tt, (tt, both (node_parts d.node) (CloseDocument ∷ CloseStream ∷ []) (value d.node h.1.1 h.1.4) (tt, (tt, tt))))
+json_is_bare [] text h = elim h [ ]
+json_is_bare (d ∷ (_ ∷ _)) text h = elim h [ ]
+
 pub json_has_events : (f : Forest) (text : List ℕ) (keep : Bool) → IsJson f text → (es : List Happening) × (events f keep ≡ Some es)
-json_has_events (d ∷ []) text keep h =
-    bare_events keep [] (parts (d ∷ [])) (tt, (tt, both (node_parts d.node) (CloseDocument ∷ CloseStream ∷ []) (value d.node h.1.1 h.1.4) (tt, (tt, tt))))
-json_has_events [] text keep h = elim h [ ]
-json_has_events (d ∷ (_ ∷ _)) text keep h = elim h [ ]
+json_has_events f text keep h = bare_events keep [] (parts f) (json_is_bare f text h)
+
+no_anchor : (p : Part) → IsBare p → anchor_of p ≡ None
+no_anchor (Leaf p s v) h = ap (λ (q : Properties). option_map encode_utf8_all q.anchor) h
+no_anchor (OpenSequence p) h = ap (λ (q : Properties). option_map encode_utf8_all q.anchor) h
+no_anchor (OpenMapping p) h = ap (λ (q : Properties). option_map encode_utf8_all q.anchor) h
+no_anchor _ h = refl
+
+no_anchors : (ps : List Part) → AreBare ps → anchors ps ≡ 0
+no_anchors [] h = refl
+no_anchors (p ∷ ps) h = ap (λ o. one_more o (anchors ps)) (no_anchor p h.0) ∙ no_anchors ps h.1
+
+pub json_has_no_anchors : (f : Forest) (text : List ℕ) → IsJson f text → anchors (parts f) ≡ 0
+json_has_no_anchors f text h = no_anchors (parts f) (json_is_bare f text h)

@@ -14,6 +14,8 @@ pub mod Steps
 pub mod Answer
 pub mod Faults
 pub mod Cursor
+pub mod Exactly
+pub mod Complete
 pub mod KeptSeen
 pub mod ReaderSeen
 pub mod Anchors
@@ -22,3 +24,7 @@ pub mod Examples
 pub mod ForestEvents
 pub mod Preorder
 pub mod TagResolution
+pub mod Printed
+pub mod Written
+pub mod Dumps
+pub mod Runs

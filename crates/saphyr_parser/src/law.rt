@@ -1,12 +1,18 @@
 //! Laws of the definitions.
-ghost use Rattle.std.specs.Prelude.{Bool, List, false, true, ℕ, ◌≡◌, None, Some};
-ghost use Rattle.saphyr_parser.specs.Anchors.{IsLatest, latest};
-ghost use Rattle.saphyr_parser.specs.Preorder.{Part};
+ghost use Rattle.std.specs.Prelude.{Bool, List, false, true, ℕ, ◌≡◌, ◌<◌, ◌≤◌, ◌^◌, length, None, Some};
+ghost use Rattle.saphyr_parser.specs.Anchors.{IsLatest, anchors, latest};
+ghost use Rattle.saphyr_parser.specs.Preorder.{Part, parts};
 ghost use Rattle.saphyr_parser.specs.Examples as examples;
 ghost use Rattle.saphyr_parser.specs.ForestEvents.{events};
 ghost use Rattle.saphyr_scanner.specs.Examples.{json_forest};
 ghost use Rattle.saphyr_scanner.specs.Forest.{Forest};
 ghost use Rattle.saphyr_scanner.specs.Json.{IsJson};
+ghost use Rattle.saphyr_scanner.specs.JsonTokens.{json_tokens};
+ghost use Rattle.saphyr_scanner.specs.Seen.{Piece, Remaining};
+ghost use Rattle.saphyr_parser.specs.Cursor.{at_start, keeping_tags, to_come};
+ghost use Rattle.saphyr_scanner.specs.TokenGrammar.{Yields};
+ghost use Rattle.saphyr_scanner.specs.Tokens.{Kind};
+ghost use Rattle.saphyr_parser.specs.Exactly.{GivesExactly, kinds, told_by};
 ghost use Rattle.saphyr_parser.specs.Events.{Happening};
 
 /// A node comes in preorder, between the events of its document and of the stream.
@@ -41,3 +47,23 @@ pub fn finds_the_latest_anchor()
 pub fn has_events()
     ensures { (forest : Forest) (text : List ℕ) (keep : Bool) → IsJson forest text → (told : List Happening) × (events forest keep ≡ Some told) }
 {}
+
+/// A forest has no more anchors than tokens.
+pub fn counts_anchors()
+    ensures { (forest : Forest) (tokens : List Kind) → Yields forest tokens → anchors (parts forest) ≤ length tokens }
+{}
+
+/// The tokens of a forest give exactly its events, and no fault; and a parser that reads them does. The ids
+/// of anchors are told as long as there are fewer than 2^64 anchors.
+pub fn gives_each_forest()
+    ensures machine { (forest : Forest) (keep : Bool) (pieces : List Piece) (told : List Happening) → Yields forest (kinds pieces) → anchors (parts forest) < 2 ^ 64 → events forest keep ≡ Some told → GivesExactly told (told_by keep pieces) }
+    ensures parser { (forest : Forest) (keep : Bool) (tokens : Remaining) (told : List Happening) → Yields forest (kinds tokens.pieces) → tokens.refusal ≡ None → anchors (parts forest) < 2 ^ 64 → events forest keep ≡ Some told → GivesExactly told (to_come (keeping_tags keep (at_start tokens))) }
+{}
+
+/// The same of the tokens of a text of JSON, which has no anchors.
+pub fn gives_json()
+    ensures machine { (forest : Forest) (text : List ℕ) (keep : Bool) (pieces : List Piece) (told : List Happening) → IsJson forest text → kinds pieces ≡ json_tokens forest → events forest keep ≡ Some told → GivesExactly told (told_by keep pieces) }
+    ensures parser { (forest : Forest) (text : List ℕ) (keep : Bool) (tokens : Remaining) (told : List Happening) → IsJson forest text → kinds tokens.pieces ≡ json_tokens forest → tokens.refusal ≡ None → events forest keep ≡ Some told → GivesExactly told (to_come (keeping_tags keep (at_start tokens))) }
+{
+    saphyr_scanner::law::tells_json_tokens();
+}

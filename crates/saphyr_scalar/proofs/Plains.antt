@@ -1,24 +1,23 @@
 -- A plain scalar, read a piece at a time.
-use Rattle.std.proofs.Common.{◌≡◌, ℕ, suc, ◌+◌, ◌<◌, ◌≤◌, Bool, true, false, List, [], ◌∷◌, ◌++◌, length, take, drop, length-drop, slice_index, Result, Ok, Err, refl, sym, ap, ◌∙◌, arith, subst, encode_utf8_all, append_assoc}
-use Rattle.std.specs.Prelude.{◌||◌, ◌&&◌, ◌==◌, not, encode_utf8, if◌then◌else◌}
-use Rattle.std.specs.List.{prefix_len}
+use Rattle.std.proofs.Common.{◌≡◌, ℕ, zero, suc, ◌+◌, ◌<◌, Bool, true, false, List, [], ◌∷◌, ◌++◌, length, take, drop, length-drop, slice_index, Result, Ok, Err, refl, sym, ap, ◌∙◌, arith, subst, encode_utf8_all, append_assoc}
+use Rattle.std.specs.Prelude.{◌||◌, ◌&&◌, ◌==◌, not, nat_lt, encode_utf8, if◌then◌else◌, pred}
+use Rattle.std.specs.Result.{IsErrAnd}
 use Rattle.std.proofs.lemmas.Bool.Decides.{nat_tests}
 use Rattle.std.proofs.lemmas.List.{append-nil}
-use Rattle.saphyr_input.specs.Classes.{is_blank, is_flow}
+use Rattle.saphyr_input.specs.Classes.{is_flow}
 use Rattle.saphyr_input.specs.Places.{is_document_indicator}
 use Rattle.saphyr_scalar.specs.declared.scalar.position.Marker.{Marker}
 use Rattle.saphyr_scalar.specs.declared.scalar.fault.Refusal.{Refusal}
 use Rattle.saphyr_scalar.specs.declared.scalar.fault.FaultText.TheVariants as fault
-use Rattle.std.specs.Result.{IsErrAnd}
 use Rattle.saphyr_scalar.specs.declared.scalar.fault.Stop.{Stop}
 use Rattle.saphyr_scalar.specs.declared.scalar.fault.Stop.TheVariants as stop
 use Rattle.saphyr_scalar.specs.Seen.{Moves, Fails}
 use Rattle.saphyr_scalar.specs.Cursor.{Cursor, ◌>>=◌, refuse, along}
 use Rattle.saphyr_scalar.specs.Quoted.{at}
-use Rattle.saphyr_scalar.specs.Plain.{in_word, word_len, word_starts, Reading, with_text, gap, word, with_word, behind_line, behind_words, plain}
-use Rattle.saphyr_scalar.proofs.Quoting.{Moved, moved_stops, moved_shorter}
+use Rattle.saphyr_scalar.specs.Plain.{in_word, word_len, with_word, word_starts, Gap, gap_from, gap, goes_on, comment_of, Reading, with_text, ended, gap_len, between, word, plain}
 use Rattle.saphyr_scalar.proofs.Words.{word_left, word_len_more}
-use Rattle.saphyr_scalar.proofs.Moving.{by_test, along_none, along_more}
+use Rattle.saphyr_scalar.proofs.Moving.{by_test, along_none, along_more, bind_same}
+use Rattle.saphyr_scalar.proofs.PlainGaps.{IsEnd, gap_end}
 
 pub text_twice : (a b : List ℕ) (read : Reading) → with_text a (with_text b read) ≡ with_text (a ++ b) read
 text_twice a b (Ok x) = rw append_assoc refl
@@ -28,55 +27,11 @@ pub no_text : (read : Reading) → with_text [] read ≡ read
 no_text (Ok x) = refl
 no_text (Err e) = refl
 
-by_test_eq : (b : Bool) (P : Type 0) → (b ≡ true → P) → (b ≡ false → P) → P
-by_test_eq true P at_true at_false = at_true refl
-by_test_eq false P at_true at_false = at_false refl
-
 pub not_in_word : (f : Bool) → in_word f [] ≡ false
 unfolding in_word
 not_in_word f = refl
 
--- blanks between words
-abbrev Blanks : Bool → List ℕ → Marker → Marker → List ℕ → ℕ → Type 0
-Blanks f ps e m xs n = gap f ps e m xs ≡ gap f (ps ++ encode_utf8_all (take n xs)) e (along m n) (drop n xs)
-
-no_blanks : (f : Bool) (ps : List ℕ) (e m : Marker) (xs : List ℕ) → Blanks f ps e m xs 0
-no_blanks f ps e m xs = sym (ap (λ b. gap f b e (along m 0) xs) (append-nil ps) ∙ ap (λ x. gap f ps e x xs) (along_none m))
-
-blank_on : (f : Bool) (ps : List ℕ) (e m : Marker) (c : ℕ) (cs : List ℕ) → is_blank c ≡ true → gap f ps e m (c ∷ cs) ≡ gap f (ps ++ encode_utf8 c) e (along m 1) cs
-unfolding gap
-blank_on f ps e m c cs h = rw h refl
-
-more_blanks : (f : Bool) (ps : List ℕ) (e m : Marker) (c : ℕ) (cs : List ℕ) (n : ℕ) → is_blank c ≡ true → Blanks f (ps ++ encode_utf8 c) e (along m 1) cs n → Blanks f ps e m (c ∷ cs) (suc n)
-more_blanks f ps e m c cs n h r =
-    blank_on f ps e m c cs h ∙ r
-    ∙ ap (λ b. gap f b e (along (along m 1) n) (drop n cs)) (append_assoc ps (encode_utf8 c) (encode_utf8_all (take n cs)))
-    ∙ ap (λ x. gap f (ps ++ (encode_utf8 c ++ encode_utf8_all (take n cs))) e x (drop n cs)) (along_more m 1 n (suc n) (omega arith))
-
-pub all_blanks : (f : Bool) (ps : List ℕ) (e m : Marker) (xs : List ℕ) → Blanks f ps e m xs (prefix_len is_blank xs)
-all_blanks f ps e m [] = no_blanks f ps e m []
-all_blanks f ps e m (c ∷ cs) =
-    let one : 1 + prefix_len is_blank cs ≡ suc (prefix_len is_blank cs) = omega arith in
-    by_test (is_blank c) (1 + prefix_len is_blank cs) 0 (Blanks f ps e m (c ∷ cs))
-    (λ h. rw one (more_blanks f ps e m c cs (prefix_len is_blank cs) h (all_blanks f (ps ++ encode_utf8 c) e (along m 1) cs)))
-    (λ h. no_blanks f ps e m (c ∷ cs))
-
--- in a word
-pub word_on : (f : Bool) (m : Marker) (c : ℕ) (cs : List ℕ) → is_blank c ≡ false → in_word f (c ∷ cs) ≡ true → word f m (c ∷ cs) ≡ with_text (encode_utf8 c) (word f (along m 1) cs)
-unfolding word
-word_on f m c cs clear h = rw (clear, h) refl
-
--- a word's character is no blank
-pub no_blank : (f : Bool) (c : ℕ) (cs : List ℕ) → in_word f (c ∷ cs) ≡ true → is_blank c ≡ false
-unfolding in_word
-no_blank f c cs h = by_cases (is_blank c) _ _ h
-  where
-    by_cases : (b d e : Bool) → (not (b || d) && e) ≡ true → b ≡ false
-    by_cases true d e h = absurd (cc)
-    by_cases false d e h = refl
-
-abbrev Part : Bool → Marker → List ℕ → ℕ → Type 0
-Part f m xs n = word f m xs ≡ with_text (encode_utf8_all (take n xs)) (gap f [] (along m n) (along m n) (drop n xs))
+-- whether a word starts
 
 -- a dash is a character of a word
 dash_in_word : (f : Bool) (xs : List ℕ) → slice_index xs 0 ≡ 45 → in_word f xs ≡ true
@@ -102,107 +57,159 @@ starts_not f s h =
     absurd (cc))
     (λ _. rw h refl))
 
-abbrev answer : Bool → Cursor → Result (Bool × Cursor) Refusal
+abbrev Answer : Type 0
+Answer = Result (Bool × Cursor) Refusal
+
+abbrev answer : Bool → Cursor → Answer
 answer b s = Ok (b, s)
 
-same_answer : (a b : Bool) (s t : Cursor) → answer a s ≡ answer b t → a ≡ b
-same_answer a b s t e =
-    let pair : ◌≡◌ {A = Bool × Cursor} (a, s) (b, t) = cc in
-    ap (λ (x : Bool × Cursor). x.0) pair
+-- what an answer says: the place stays, and where it is true the word goes on
+pub record Says (f b : Bool) (s t : Cursor) : Type 0 where
+  pub same : t ≡ s
+  pub goes : b ≡ true → in_word f s.rest ≡ true
 
-same_place : (a b : Bool) (s t : Cursor) → answer a s ≡ answer b t → t ≡ s
-same_place a b s t e =
-    let pair : ◌≡◌ {A = Bool × Cursor} (a, s) (b, t) = cc in
-    sym (ap (λ (x : Bool × Cursor). x.1) pair)
+says_not : (f b : Bool) (s t : Cursor) → answer false s ≡ answer b t → Says f b s t
+says_not f b s t e =
+    let pair : ◌≡◌ {A = Bool × Cursor} (false, s) (b, t) = cc in
+    record { same = sym (ap (λ (x : Bool × Cursor). x.1) pair); goes = λ h. let no : b ≡ false = sym (ap (λ (x : Bool × Cursor). x.0) pair) in absurd (cc) }
+
+says_it : (f b : Bool) (s t : Cursor) → answer (in_word f s.rest) s ≡ answer b t → Says f b s t
+says_it f b s t e =
+    let pair : ◌≡◌ {A = Bool × Cursor} (in_word f s.rest, s) (b, t) = cc in
+    record { same = sym (ap (λ (x : Bool × Cursor). x.1) pair); goes = λ h. ap (λ (x : Bool × Cursor). x.0) pair ∙ h }
 
 not_refused : (r : Refusal) (b : Bool) (t : Cursor) → Err r ≡ answer b t → ⊥
 not_refused r b t e = absurd (cc)
 
-apart : false ≡ true → ⊥
-apart e = absurd (cc)
-
--- where a word begins, it goes on
-starts_word : (f : Bool) (s t : Cursor) → word_starts f s ≡ Ok (true, t) → in_word f s.rest ≡ true
+pub starts_says : (f b : Bool) (s t : Cursor) → word_starts f s ≡ Ok (b, t) → Says f b s t
 unfolding word_starts
-starts_word f s t =
-    by_test ((slice_index s.rest 0 == 35) || ((s.mark.col == 0) && is_document_indicator s.rest)) _ _ (λ r. r ≡ answer true t → in_word f s.rest ≡ true)
-    (λ _ e. absurd (apart (same_answer false true s t e)))
-    (λ _. by_test (f && (slice_index s.rest 0 == 45) && is_flow (slice_index s.rest 1)) _ _ (λ r. r ≡ answer true t → in_word f s.rest ≡ true)
-    (λ _ e. absurd (not_refused _ true t e)) (λ _ e. same_answer (in_word f s.rest) true s t e))
+starts_says f b s t =
+    by_test ((slice_index s.rest 0 == 35) || ((s.mark.col == 0) && is_document_indicator s.rest)) _ _ (λ r. r ≡ answer b t → Says f b s t)
+    (λ _ e. says_not f b s t e)
+    (λ _. by_test (f && (slice_index s.rest 0 == 45) && is_flow (slice_index s.rest 1)) _ _ (λ r. r ≡ answer b t → Says f b s t)
+    (λ _ e. absurd (not_refused _ b t e)) (λ _ e. says_it f b s t e))
 
--- the place stays
-starts_same : (f : Bool) (s t : Cursor) (b : Bool) → word_starts f s ≡ Ok (b, t) → t ≡ s
-unfolding word_starts
-starts_same f s t b =
-    by_test ((slice_index s.rest 0 == 35) || ((s.mark.col == 0) && is_document_indicator s.rest)) _ _ (λ r. r ≡ answer b t → t ≡ s)
-    (λ _ e. same_place false b s t e)
-    (λ _. by_test (f && (slice_index s.rest 0 == 45) && is_flow (slice_index s.rest 1)) _ _ (λ r. r ≡ answer b t → t ≡ s)
-    (λ _ e. absurd (not_refused _ b t e)) (λ _ e. same_place (in_word f s.rest) b s t e))
+pub goes_says : (f : Bool) (i : ℕ) (b : Bool) (s t : Cursor) → goes_on f i s ≡ Ok (b, t) → Says f b s t
+unfolding goes_on
+goes_says f i b s t = by_test (s.blank_so_far && not f && nat_lt s.mark.col i) _ _ (λ r. r ≡ answer b t → Says f b s t) (λ _ e. says_not f b s t e) (λ _ e. starts_says f b s t e)
 
-gap_step : (f : Bool) (ps : List ℕ) (e m : Marker) (c : ℕ) (cs : List ℕ) → is_blank c ≡ false
-    → gap f ps e m (c ∷ cs) ≡ (word_starts f (at m (c ∷ cs)) >>= λ b. if b.0 then with_text (ps ++ encode_utf8 c) (word f (along m 1) cs) else Ok ([], e, at m (c ∷ cs)))
-unfolding gap
-gap_step f ps e m c cs clear = rw clear refl
+pub goes_not : (f : Bool) (i : ℕ) (s : Cursor) → in_word f s.rest ≡ false → goes_on f i s ≡ Ok (false, s)
+unfolding goes_on
+goes_not f i s h = by_test (s.blank_so_far && not f && nat_lt s.mark.col i) _ _ (λ r. r ≡ answer false s) (λ _. refl) (λ _. starts_not f s h)
 
-gap_none : (f : Bool) (ps : List ℕ) (e m : Marker) → gap f ps e m [] ≡ Ok ([], e, at m [])
-unfolding gap
-gap_none f ps e m = refl
+-- in a word
+pub word_on : (f : Bool) (i : ℕ) (a m : Marker) (c : ℕ) (cs : List ℕ) → in_word f (c ∷ cs) ≡ true → word f i a m (c ∷ cs) ≡ with_text (encode_utf8 c) (word f i a (along m 1) cs)
+unfolding word
+word_on f i a m c cs h = rw h refl
 
-word_blank : (f : Bool) (m : Marker) (c : ℕ) (cs : List ℕ) → is_blank c ≡ true → word f m (c ∷ cs) ≡ gap f [] m m (c ∷ cs)
-unfolding gap
-word_blank f m c cs h = rw h refl
+abbrev Part : Bool → ℕ → Marker → Marker → List ℕ → ℕ → Type 0
+Part f i a m xs n = word f i a m xs ≡ with_text (encode_utf8_all (take n xs)) (word f i a (along m n) (drop n xs))
 
-word_none : (f : Bool) (m : Marker) (xs : List ℕ) → is_blank (slice_index xs 0) ≡ false → in_word f xs ≡ false → word f m xs ≡ Ok ([], m, at m xs)
-unfolding gap
-word_none f m [] clear h = refl
-word_none f m (c ∷ cs) clear h = rw (clear, h) refl
+no_part : (f : Bool) (i : ℕ) (a m : Marker) (xs : List ℕ) → Part f i a m xs 0
+no_part f i a m xs = sym (no_text _) ∙ ap (λ x. with_text [] (word f i a x xs)) (sym (along_none m))
 
--- between words, where none begins
-pub gap_over : (f : Bool) (ps : List ℕ) (e m : Marker) (xs : List ℕ) (t : Cursor) → is_blank (slice_index xs 0) ≡ false → word_starts f (at m xs) ≡ Ok (false, t)
-    → gap f ps e m xs ≡ Ok ([], e, at m xs)
-gap_over f ps e m [] t clear h = gap_none f ps e m
-gap_over f ps e m (c ∷ cs) t clear h =
-    gap_step f ps e m c cs clear
-    ∙ ap (λ r. r >>= λ b. if b.0 then with_text (ps ++ encode_utf8 c) (word f (along m 1) cs) else Ok ([], e, at m (c ∷ cs))) h
+more_part : (f : Bool) (i : ℕ) (a m : Marker) (c : ℕ) (cs : List ℕ) (n : ℕ) → in_word f (c ∷ cs) ≡ true → Part f i a (along m 1) cs n → Part f i a m (c ∷ cs) (suc n)
+more_part f i a m c cs n h r =
+    word_on f i a m c cs h ∙ ap (with_text (encode_utf8 c)) r ∙ text_twice (encode_utf8 c) (encode_utf8_all (take n cs)) _
+    ∙ ap (λ x. with_text (encode_utf8 c ++ encode_utf8_all (take n cs)) (word f i a x (drop n cs))) (along_more m 1 n (suc n) (omega arith))
 
-gap_refused : (f : Bool) (ps : List ℕ) (e m : Marker) (xs : List ℕ) (r : Refusal) → is_blank (slice_index xs 0) ≡ false → word_starts f (at m xs) ≡ Err r
-    → gap f ps e m xs ≡ Err r
-gap_refused f ps e m [] r clear h = let none = starts_not f (at m []) (not_in_word f) in absurd (cc)
-gap_refused f ps e m (c ∷ cs) r clear h =
-    gap_step f ps e m c cs clear
-    ∙ ap (λ r. r >>= λ b. if b.0 then with_text (ps ++ encode_utf8 c) (word f (along m 1) cs) else Ok ([], e, at m (c ∷ cs))) h
-
--- behind a word's last character
-pub word_over : (f : Bool) (m : Marker) (xs : List ℕ) → in_word f xs ≡ false → word f m xs ≡ gap f [] m m xs
-word_over f m [] h = word_none f m [] refl h ∙ sym (gap_none f [] m m)
-word_over f m (c ∷ cs) h = by_test_eq (is_blank c) (word f m (c ∷ cs) ≡ gap f [] m m (c ∷ cs))
-    (λ blank. word_blank f m c cs blank)
-    (λ clear. word_none f m (c ∷ cs) clear h ∙ sym (gap_over f [] m m (c ∷ cs) _ clear (starts_not f (at m (c ∷ cs)) h)))
-
-no_part : (f : Bool) (m : Marker) (xs : List ℕ) → in_word f xs ≡ false → Part f m xs 0
-no_part f m xs h = word_over f m xs h ∙ sym (no_text _) ∙ ap (λ x. with_text [] (gap f [] x x xs)) (sym (along_none m))
-
-more_part : (f : Bool) (m : Marker) (c : ℕ) (cs : List ℕ) (n : ℕ) → in_word f (c ∷ cs) ≡ true → Part f (along m 1) cs n → Part f m (c ∷ cs) (suc n)
-more_part f m c cs n h r =
-    word_on f m c cs (no_blank f c cs h) h ∙ ap (with_text (encode_utf8 c)) r ∙ text_twice (encode_utf8 c) (encode_utf8_all (take n cs)) _
-    ∙ ap (λ x. with_text (encode_utf8 c ++ encode_utf8_all (take n cs)) (gap f [] x x (drop n cs))) (along_more m 1 n (suc n) (omega arith))
-
-all_word : (f : Bool) (m : Marker) (xs : List ℕ) → Part f m xs (word_len f xs)
-all_word f m [] = no_part f m [] (not_in_word f)
-all_word f m (c ∷ cs) =
+pub all_word : (f : Bool) (i : ℕ) (a m : Marker) (xs : List ℕ) → Part f i a m xs (word_len f xs)
+all_word f i a m [] = no_part f i a m []
+all_word f i a m (c ∷ cs) =
     let one : 1 + word_len f cs ≡ suc (word_len f cs) = omega arith in
-    by_test (in_word f (c ∷ cs)) (1 + word_len f cs) 0 (Part f m (c ∷ cs))
-    (λ h. rw one (more_part f m c cs (word_len f cs) h (all_word f (along m 1) cs)))
-    (λ h. no_part f m (c ∷ cs) h)
+    by_test (in_word f (c ∷ cs)) (1 + word_len f cs) 0 (Part f i a m (c ∷ cs))
+    (λ h. rw one (more_part f i a m c cs (word_len f cs) h (all_word f i a (along m 1) cs)))
+    (λ h. no_part f i a m (c ∷ cs))
 
--- a word that begins
-pub word_begins : (f : Bool) (ps : List ℕ) (e m : Marker) (xs : List ℕ) (t : Cursor) → is_blank (slice_index xs 0) ≡ false → word_starts f (at m xs) ≡ Ok (true, t)
-    → gap f ps e m xs ≡ with_text ps (word f m xs)
-word_begins f ps e m [] t clear h = let left = word_left f [] (starts_word f (at m []) t h) in absurd (omega arith)
-word_begins f ps e m (c ∷ cs) t clear h =
-    gap_step f ps e m c cs clear
-    ∙ ap (λ r. r >>= λ b. if b.0 then with_text (ps ++ encode_utf8 c) (word f (along m 1) cs) else Ok ([], e, at m (c ∷ cs))) h
-    ∙ sym (ap (with_text ps) (word_on f m c cs clear (starts_word f (at m (c ∷ cs)) t h)) ∙ text_twice ps (encode_utf8 c) _)
+-- the character behind a word is not of it
+pub word_stops : (f : Bool) (xs : List ℕ) → in_word f (drop (word_len f xs) xs) ≡ false
+word_stops f [] = not_in_word f
+word_stops f (c ∷ cs) =
+    let one : 1 + word_len f cs ≡ suc (word_len f cs) = omega arith in
+    by_test (in_word f (c ∷ cs)) (1 + word_len f cs) 0 (λ n. in_word f (drop n (c ∷ cs)) ≡ false) (λ _. rw one (word_stops f cs)) (λ h. h)
+
+-- behind a gap
+abbrev pub behind_gap : Bool → ℕ → Marker → Marker → Gap → Reading
+behind_gap f i a end g = goes_on f i g.behind >>= λ b. if b.0 then with_text g.text (word f i a b.1.mark b.1.rest) else ended f end g
+
+gap_over : (f : Bool) (i : ℕ) (a end : Marker) (g : Gap) → in_word f g.behind.rest ≡ false → behind_gap f i a end g ≡ ended f end g
+gap_over f i a end g h = ap (λ r. r >>= λ b. if b.0 then with_text g.text (word f i a b.1.mark b.1.rest) else ended f end g) (goes_not f i g.behind h)
+
+between_none : (f : Bool) (i : ℕ) (a end : Marker) (g : Gap) (k : ℕ) → between f i a end g k [] ≡ ended f end g
+unfolding between
+between_none f i a end g zero = refl
+between_none f i a end g (suc k) = refl
+
+between_step : (f : Bool) (i : ℕ) (a end : Marker) (g : Gap) (c : ℕ) (cs : List ℕ)
+    → between f i a end g zero (c ∷ cs) ≡ (goes_on f i g.behind >>= λ b. if b.0 then with_text (g.text ++ encode_utf8 c) (word f i a (along g.behind.mark 1) cs) else ended f end g)
+unfolding between
+between_step f i a end g c cs = refl
+
+between_more : (f : Bool) (i : ℕ) (a end : Marker) (g : Gap) (k c : ℕ) (cs : List ℕ) → between f i a end g (suc k) (c ∷ cs) ≡ between f i a end g k cs
+unfolding between
+between_more f i a end g k c cs = refl
+
+choice : (b : Bool) (x y z : Reading) → (b ≡ true → x ≡ y) → (if b then x else z) ≡ (if b then y else z)
+choice true x y z h = h refl
+choice false x y z h = refl
+
+-- the next word's first character
+word_first : (f : Bool) (i : ℕ) (a : Marker) (g : Gap) (c : ℕ) (cs : List ℕ) (t : Cursor) → c ∷ cs ≡ g.behind.rest → t ≡ g.behind → in_word f g.behind.rest ≡ true
+    → with_text (g.text ++ encode_utf8 c) (word f i a (along g.behind.mark 1) cs) ≡ with_text g.text (word f i a t.mark t.rest)
+word_first f i a g c cs t is same goes =
+    let here : in_word f (c ∷ cs) ≡ true = ap (in_word f) is ∙ goes in
+    sym (text_twice g.text (encode_utf8 c) _) ∙ ap (with_text g.text) (sym (word_on f i a g.behind.mark c cs here) ∙ ap (word f i a g.behind.mark) is)
+    ∙ ap (λ (x : Cursor). with_text g.text (word f i a x.mark x.rest)) (sym same)
+
+between_there : (f : Bool) (i : ℕ) (a end : Marker) (g : Gap) (xs : List ℕ) → xs ≡ g.behind.rest → between f i a end g zero xs ≡ behind_gap f i a end g
+between_there f i a end g [] is = between_none f i a end g zero ∙ sym (gap_over f i a end g (ap (in_word f) (sym is) ∙ not_in_word f))
+between_there f i a end g (c ∷ cs) is =
+    between_step f i a end g c cs
+    ∙ bind_same (goes_on f i g.behind) _ _ (λ b h.
+    let says = goes_says f i b.0 g.behind b.1 h in
+    choice b.0 _ _ (ended f end g) (λ goes. word_first f i a g c cs b.1 is says.same (says.goes goes)))
+
+between_all : (f : Bool) (i : ℕ) (a end : Marker) (g : Gap) (k : ℕ) (xs : List ℕ) → drop k xs ≡ g.behind.rest → between f i a end g k xs ≡ behind_gap f i a end g
+between_all f i a end g zero xs is = between_there f i a end g xs is
+between_all f i a end g (suc k) [] is = between_none f i a end g (suc k) ∙ sym (between_none f i a end g zero) ∙ between_there f i a end g [] is
+between_all f i a end g (suc k) (c ∷ cs) is = between_more f i a end g k c cs ∙ between_all f i a end g k cs is
+
+word_end : (f : Bool) (i : ℕ) (a m : Marker) → word f i a m [] ≡ ended f m (record { text = []; tabbed = false; behind = at m [] })
+unfolding word
+word_end f i a m = refl
+
+word_gap : (f : Bool) (i : ℕ) (a m : Marker) (c : ℕ) (cs : List ℕ) → in_word f (c ∷ cs) ≡ false
+    → word f i a m (c ∷ cs) ≡ (gap i a (at m (c ∷ cs)) >>= λ g. if gap_len (c ∷ cs) g == 0 then ended f m g else between f i a m g (pred (gap_len (c ∷ cs) g)) cs)
+unfolding word
+word_gap f i a m c cs h = rw h refl
+
+end_gap : (i : ℕ) (a m : Marker) → gap i a (at m []) ≡ Ok (record { text = []; tabbed = false; behind = at m [] })
+unfolding gap gap_from
+end_gap i a m = ap (λ x. Ok (record { text = []; tabbed = false; behind = at x [] })) (along_none m)
+
+-- what an end of a text is, by the count of what stands before it
+end_at : (xs : List ℕ) (g : Gap) → IsEnd xs g.behind.rest → (n : ℕ) → gap_len xs g ≡ n → drop n xs ≡ g.behind.rest
+end_at xs g e n h = let same : e.taken ≡ n = omega (arith, e.count, h) in ap (λ k. drop k xs) (sym same) ∙ sym e.is
+
+pub word_over : (f : Bool) (i : ℕ) (a m : Marker) (xs : List ℕ) → in_word f xs ≡ false → word f i a m xs ≡ (gap i a (at m xs) >>= behind_gap f i a m)
+word_over f i a m [] h =
+    word_end f i a m ∙ sym (gap_over f i a m (record { text = []; tabbed = false; behind = at m [] }) h) ∙ sym (ap (λ r. r >>= behind_gap f i a m) (end_gap i a m))
+word_over f i a m (c ∷ cs) h =
+    word_gap f i a m c cs h
+    ∙ bind_same (gap i a (at m (c ∷ cs))) _ _ (λ g is.
+    let end = gap_end i a (at m (c ∷ cs)) g is in
+    by_test (gap_len (c ∷ cs) g == 0) _ _ (λ (r : Reading). r ≡ behind_gap f i a m g)
+    (λ none.
+    let no : gap_len (c ∷ cs) g ≡ 0 = grind (arith, nat_tests) in
+    sym (gap_over f i a m g (ap (in_word f) (sym (end_at (c ∷ cs) g end 0 no)) ∙ h)))
+    (λ some.
+    let k = pred (gap_len (c ∷ cs) g) in
+    let more : gap_len (c ∷ cs) g ≡ suc k = some_count (gap_len (c ∷ cs) g) some in
+    between_all f i a m g k cs (end_at (c ∷ cs) g end (suc k) more)))
+  where
+    some_count : (n : ℕ) → (n == 0) ≡ false → n ≡ suc (pred n)
+    some_count zero e = absurd (cc)
+    some_count (suc n) e = refl
 
 -- What the calls that read a part leave.
 
@@ -210,96 +217,105 @@ word_begins f ps e m (c ∷ cs) t clear h =
 pub record WordMoved (f : Bool) (text grown : List ℕ) (s t : Cursor) : Type 0 where
   pub is : with_word f text s ≡ (grown, t)
 
-moved_at : (p : ℕ → Bool) (text grown : List ℕ) (s t : Cursor) → Moved p text grown s t → at t.mark t.rest ≡ t
-moved_at p text grown s t m = subst (λ (x : List ℕ × Cursor). at x.1.mark x.1.rest ≡ x.1) m.is refl
-
-blanks_between : (f : Bool) (e : Marker) (ps grown : List ℕ) (s t : Cursor) → Moved is_blank ps grown s t → gap f grown e t.mark t.rest ≡ gap f ps e s.mark s.rest
-blanks_between f e ps grown s t m = subst (λ (x : List ℕ × Cursor). gap f x.0 e x.1.mark x.1.rest ≡ gap f ps e s.mark s.rest) m.is (sym (all_blanks f ps e s.mark s.rest))
-
-word_between : (f : Bool) (text grown : List ℕ) (s t : Cursor) → WordMoved f text grown s t → with_text grown (gap f [] t.mark t.mark t.rest) ≡ with_text text (word f s.mark s.rest)
-word_between f text grown s t m = subst (λ (x : List ℕ × Cursor). with_text x.0 (gap f [] x.1.mark x.1.mark x.1.rest) ≡ with_text text (word f s.mark s.rest)) m.is
-    (sym (ap (with_text text) (all_word f s.mark s.rest) ∙ text_twice text _ _))
-
--- the blanks before a place where it was asked whether a word starts
-pub record Asked (f : Bool) (blanks met : List ℕ) (s t u : Cursor) (r : Result (Bool × Cursor) Refusal) : Type 0 where
-  pub moved : Moved is_blank blanks met s t
-  pub answer : word_starts f t ≡ r
-
-asked_at : (f : Bool) (blanks met : List ℕ) (s t u : Cursor) (r : Result (Bool × Cursor) Refusal) → Asked f blanks met s t u r → word_starts f (at t.mark t.rest) ≡ r
-asked_at f blanks met s t u r a = ap (word_starts f) (moved_at is_blank blanks met s t a.moved) ∙ a.answer
-
--- blanks and a word behind them
-pub turn : (f : Bool) (text blanks met joined grown : List ℕ) (e : Marker) (s t u v : Cursor) → Asked f blanks met s t u (Ok (true, u)) → joined ≡ text ++ met → WordMoved f joined grown u v
-    → with_text grown (gap f [] v.mark v.mark v.rest) ≡ with_text text (gap f blanks e s.mark s.rest)
-turn f text blanks met joined grown e s t u v a j w =
-    let same : u ≡ t = starts_same f t u true a.answer in
-    word_between f joined grown u v w
-    ∙ ap (λ (x : Cursor). with_text joined (word f x.mark x.rest)) same
-    ∙ ap (λ x. with_text x (word f t.mark t.rest)) j
-    ∙ sym (text_twice text met _)
-    ∙ ap (with_text text) (sym (word_begins f met e t.mark t.rest u (moved_stops is_blank blanks met s t refl a.moved) (asked_at f blanks met s t u _ a)))
-    ∙ ap (with_text text) (blanks_between f e blanks met s t a.moved)
-
-pub turn_shorter : (f : Bool) (blanks met joined grown : List ℕ) (s t u v : Cursor) → Asked f blanks met s t u (Ok (true, u)) → WordMoved f joined grown u v → length v.rest < length s.rest
-turn_shorter f blanks met joined grown s t u v a w =
-    let same : u ≡ t = starts_same f t u true a.answer in
-    let goes : in_word f u.rest ≡ true = ap (λ (x : Cursor). in_word f x.rest) same ∙ starts_word f t u a.answer in
-    let less : length u.rest ≤ length s.rest = rw same (moved_shorter is_blank blanks met s t a.moved) in
-    rw (← ap (λ (x : List ℕ × Cursor). x.1) w.is, length-drop) (omega (arith, word_len_more f u.rest goes, word_left f u.rest goes, less))
-
--- no word behind the blanks
-pub no_turn : (f : Bool) (text blanks met : List ℕ) (e : Marker) (s t u : Cursor) → Asked f blanks met s t u (Ok (false, u)) → with_text text (gap f blanks e s.mark s.rest) ≡ Ok (text, e, u)
-no_turn f text blanks met e s t u a =
-    let same : u ≡ t = starts_same f t u false a.answer in
-    ap (with_text text)
-    (sym (blanks_between f e blanks met s t a.moved)
-    ∙ gap_over f met e t.mark t.rest u (moved_stops is_blank blanks met s t refl a.moved) (asked_at f blanks met s t u _ a))
-    ∙ ap (λ x. Ok (x, e, at t.mark t.rest)) (append-nil text)
-    ∙ ap (λ x. Ok (text, e, x)) (moved_at is_blank blanks met s t a.moved ∙ sym same)
-
-pub turn_refused : (f : Bool) (text blanks met : List ℕ) (e : Marker) (s t u : Cursor) (r : Refusal) → Asked f blanks met s t u (Err r) → with_text text (gap f blanks e s.mark s.rest) ≡ Err r
-turn_refused f text blanks met e s t u r a =
-    ap (with_text text)
-    (sym (blanks_between f e blanks met s t a.moved)
-    ∙ gap_refused f met e t.mark t.rest r (moved_stops is_blank blanks met s t refl a.moved) (asked_at f blanks met s t u _ a))
-
--- behind the words
-pub plain_words : (f : Bool) (i : ℕ) (s : Cursor) (x : List ℕ × Marker × Cursor) → gap f [] s.mark s.mark s.rest ≡ Ok x → plain f i s ≡ behind_words f i s.mark x
-unfolding plain
-plain_words f i s x h = ap (λ r. r >>= behind_words f i s.mark) h
-
-pub plain_refused : (f : Bool) (i : ℕ) (s : Cursor) (r : Refusal) → gap f [] s.mark s.mark s.rest ≡ Err r → plain f i s ≡ Err r
-unfolding plain
-plain_refused f i s r h = ap (λ x. x >>= behind_words f i s.mark) h
-
-pub no_words : (f : Bool) (i : ℕ) (start e : Marker) (text : List ℕ) (s : Cursor) → length text ≡ 0 → behind_words f i start (text, e, s) ≡ refuse fault.PlainEnd start
-unfolding behind_words
-no_words f i start e text s h = rw h refl
-
-pub some_words : (f : Bool) (i : ℕ) (start e : Marker) (text : List ℕ) (s : Cursor) → (length text ≡ 0 → ⊥) → behind_words f i start (text, e, s) ≡ (behind_line f i s >>= λ t. Ok (text, e, t))
-unfolding behind_words
-some_words f i start e text s h = let some : (length text == 0) ≡ false = grind (arith, nat_tests) in rw some refl
-
 abbrev pub SameWord : Bool → List ℕ → List ℕ → Cursor → Cursor → Type 0
 SameWord f text grown s t = let r : Result (List ℕ × Cursor) Refusal = Ok (with_word f text s) in r ≡ Ok (grown, t)
 
 pub word_moved_of : (f : Bool) (text grown : List ℕ) (s t : Cursor) → SameWord f text grown s t → WordMoved f text grown s t
 word_moved_of f text grown s t e = record { is = cc }
 
+pub moved_at : (f : Bool) (text grown : List ℕ) (s t : Cursor) → WordMoved f text grown s t → at t.mark t.rest ≡ t
+moved_at f text grown s t m = subst (λ (x : List ℕ × Cursor). at x.1.mark x.1.rest ≡ x.1) m.is refl
+
+pub word_between : (f : Bool) (i : ℕ) (a : Marker) (text grown : List ℕ) (s t : Cursor) → WordMoved f text grown s t → with_text grown (word f i a t.mark t.rest) ≡ with_text text (word f i a s.mark s.rest)
+word_between f i a text grown s t m = subst (λ (x : List ℕ × Cursor). with_text x.0 (word f i a x.1.mark x.1.rest) ≡ with_text text (word f i a s.mark s.rest)) m.is
+    (sym (ap (with_text text) (all_word f i a s.mark s.rest) ∙ text_twice text _ _))
+
+moved_stops : (f : Bool) (text grown : List ℕ) (s t : Cursor) → WordMoved f text grown s t → in_word f t.rest ≡ false
+moved_stops f text grown s t m = subst (λ (x : List ℕ × Cursor). in_word f x.1.rest ≡ false) m.is (word_stops f s.rest)
+
+moved_shorter : (f : Bool) (text grown : List ℕ) (s t : Cursor) → in_word f s.rest ≡ true → WordMoved f text grown s t → length t.rest < length s.rest
+moved_shorter f text grown s t goes m = rw (← ap (λ (x : List ℕ × Cursor). x.1) m.is, length-drop) (omega (arith, word_len_more f s.rest goes, word_left f s.rest goes))
+
+-- behind a word that was read
+pub behind_word : (f : Bool) (i : ℕ) (a : Marker) (text grown : List ℕ) (s t : Cursor) → WordMoved f text grown s t
+    → with_text text (word f i a s.mark s.rest) ≡ with_text grown (gap i a t >>= behind_gap f i a t.mark)
+behind_word f i a text grown s t m =
+    sym (word_between f i a text grown s t m)
+    ∙ ap (with_text grown) (word_over f i a t.mark t.rest (moved_stops f text grown s t m) ∙ ap (λ x. gap i a x >>= behind_gap f i a t.mark) (moved_at f text grown s t m))
+
+pub gap_refused : (f : Bool) (i : ℕ) (a : Marker) (text grown : List ℕ) (s t : Cursor) (r : Refusal) → WordMoved f text grown s t → gap i a t ≡ Err r → with_text text (word f i a s.mark s.rest) ≡ Err r
+gap_refused f i a text grown s t r m h = behind_word f i a text grown s t m ∙ ap (λ x. with_text grown (x >>= behind_gap f i a t.mark)) h
+
+abbrev pub gap_of : List ℕ → Bool → Cursor → Gap
+gap_of text tabbed s = record { text = text; tabbed = tabbed; behind = s }
+
+-- a gap behind a word
+pub record GapMoved (f : Bool) (i : ℕ) (a : Marker) (text grown : List ℕ) (s t : Cursor) (g : Gap) : Type 0 where
+  pub moved : WordMoved f text grown s t
+  pub is : gap i a t ≡ Ok g
+
+pub behind_both : (f : Bool) (i : ℕ) (a : Marker) (text grown : List ℕ) (s t : Cursor) (g : Gap) → GapMoved f i a text grown s t g
+    → with_text text (word f i a s.mark s.rest) ≡ with_text grown (behind_gap f i a t.mark g)
+behind_both f i a text grown s t g m = behind_word f i a text grown s t m.moved ∙ ap (λ x. with_text grown (x >>= behind_gap f i a t.mark)) m.is
+
+pub turn_refused : (f : Bool) (i : ℕ) (a : Marker) (text grown : List ℕ) (s t : Cursor) (g : Gap) (r : Refusal) → GapMoved f i a text grown s t g → goes_on f i g.behind ≡ Err r
+    → with_text text (word f i a s.mark s.rest) ≡ Err r
+turn_refused f i a text grown s t g r m h =
+    behind_both f i a text grown s t g m ∙ ap (λ x. with_text grown (x >>= λ b. if b.0 then with_text g.text (word f i a b.1.mark b.1.rest) else ended f t.mark g)) h
+
+-- no word behind the gap
+pub no_turn : (f : Bool) (i : ℕ) (a : Marker) (text grown : List ℕ) (s t : Cursor) (g : Gap) (u : Cursor) → GapMoved f i a text grown s t g → goes_on f i g.behind ≡ Ok (false, u)
+    → with_text text (word f i a s.mark s.rest) ≡ Ok (grown, t.mark, comment_of f g.tabbed u, u)
+no_turn f i a text grown s t g u m h =
+    behind_both f i a text grown s t g m ∙ ap (λ x. with_text grown (x >>= λ b. if b.0 then with_text g.text (word f i a b.1.mark b.1.rest) else ended f t.mark g)) h
+    ∙ ap (λ x. Ok (x, t.mark, comment_of f g.tabbed g.behind, g.behind)) (append-nil grown)
+    ∙ ap (λ x. Ok (grown, t.mark, comment_of f g.tabbed x, x)) (sym (goes_says f i false g.behind u h).same)
+
+-- another word behind the gap
+pub turn : (f : Bool) (i : ℕ) (a : Marker) (text grown joined : List ℕ) (s t : Cursor) (g : Gap) (u : Cursor) → GapMoved f i a text grown s t g → goes_on f i g.behind ≡ Ok (true, u)
+    → joined ≡ grown ++ g.text → with_text joined (word f i a u.mark u.rest) ≡ with_text text (word f i a s.mark s.rest)
+turn f i a text grown joined s t g u m h j =
+    ap (λ x. with_text x (word f i a u.mark u.rest)) j
+    ∙ sym (behind_both f i a text grown s t g m ∙ ap (λ x. with_text grown (x >>= λ b. if b.0 then with_text g.text (word f i a b.1.mark b.1.rest) else ended f t.mark g)) h
+    ∙ text_twice grown g.text _)
+
+pub turn_goes : (f : Bool) (i : ℕ) (g : Gap) (u : Cursor) → goes_on f i g.behind ≡ Ok (true, u) → in_word f u.rest ≡ true
+turn_goes f i g u h = let says = goes_says f i true g.behind u h in ap (λ (x : Cursor). in_word f x.rest) says.same ∙ says.goes refl
+
+pub turn_shorter : (f : Bool) (i : ℕ) (a : Marker) (text grown : List ℕ) (s t : Cursor) (g : Gap) (u : Cursor) → in_word f s.rest ≡ true → GapMoved f i a text grown s t g → goes_on f i g.behind ≡ Ok (true, u)
+    → length u.rest < length s.rest
+turn_shorter f i a text grown s t g u goes m h =
+    let end = gap_end i a t g m.is in
+    let less : length u.rest ≡ length g.behind.rest = ap (λ (x : Cursor). length x.rest) (goes_says f i true g.behind u h).same in
+    omega (arith, end.count, less, moved_shorter f text grown s t goes m.moved)
+
+-- the scalar
+
+pub plain_starts : (f : Bool) (i : ℕ) (s t : Cursor) → word_starts f s ≡ Ok (true, t) → plain f i s ≡ word f i s.mark t.mark t.rest
+unfolding plain
+plain_starts f i s t h = ap (λ r. r >>= λ b. if b.0 then word f i s.mark b.1.mark b.1.rest else refuse fault.PlainEnd s.mark) h
+
+pub first_goes : (f : Bool) (s t : Cursor) → word_starts f s ≡ Ok (true, t) → in_word f t.rest ≡ true
+first_goes f s t h = let says = starts_says f true s t h in ap (λ (x : Cursor). in_word f x.rest) says.same ∙ says.goes refl
+
 -- a refusal that `?` hands on
 pub moves_refused : {X Y : Type 0} (view : X → Y) (r : Result X Stop) (f : Result Y Refusal) (refusal : Refusal) → IsErrAnd r (λ e. e ≡ stop.Refused refusal) → f ≡ Err refusal → Moves view r f
 moves_refused view (Ok x) f refusal h e = absurd h
 moves_refused view (Err s) f refusal h e = subst (λ (x : Stop). Fails x f) (sym h) e
 
-pub line_refused : (f : Bool) (i : ℕ) (start e : Marker) (text : List ℕ) (s : Cursor) (r : Refusal) → (length text ≡ 0 → ⊥) → behind_line f i s ≡ Err r → behind_words f i start (text, e, s) ≡ Err r
-line_refused f i start e text s r some h = some_words f i start e text s some ∙ ap (λ r. r >>= λ u. Ok (text, e, u)) h
+fails_on : {Y Z : Type 0} (e : Stop) (h : Result Z Refusal) (f : Result Y Refusal) → Fails e h → ((r : Refusal) → h ≡ Err r → f ≡ Err r) → Fails e f
+fails_on stop.OutOfMemory h f b on = tt
+fails_on (stop.Refused r) h f b on = on r b
 
-pub line_taken : (f : Bool) (i : ℕ) (start e : Marker) (text : List ℕ) (s t : Cursor) → (length text ≡ 0 → ⊥) → behind_line f i s ≡ Ok t → behind_words f i start (text, e, s) ≡ Ok (text, e, t)
-line_taken f i start e text s t some h = some_words f i start e text s some ∙ ap (λ r. r >>= λ u. Ok (text, e, u)) h
+pub moves_failed : {X Y Z : Type 0} (view : X → Y) (r : Result X Stop) (f : Result Y Refusal) (h : Result Z Refusal) (e : Stop) → IsErrAnd r (λ x. x ≡ e) → Fails e h
+    → ((r : Refusal) → h ≡ Err r → f ≡ Err r) → Moves view r f
+moves_failed view (Ok x) f h e is b on = absurd is
+moves_failed view (Err s) f h e is b on = subst (λ (x : Stop). Fails x f) (sym is) (fails_on e h f b on)
 
--- what the test of a length says
-pub no_length : (n k : ℕ) → (n == 0) ≡ true → k ≡ n → k ≡ 0
-no_length n k h e = grind (arith, nat_tests)
+pub plain_refused : (f : Bool) (i : ℕ) (s : Cursor) (r : Refusal) → word_starts f s ≡ Err r → plain f i s ≡ Err r
+unfolding plain
+plain_refused f i s r h = ap (λ r. r >>= λ b. if b.0 then word f i s.mark b.1.mark b.1.rest else refuse fault.PlainEnd s.mark) h
 
-pub some_length : (n k : ℕ) → (n == 0) ≡ false → k ≡ n → k ≡ 0 → ⊥
-some_length n k h e z = absurd (grind (arith, nat_tests))
+pub no_plain : (f : Bool) (i : ℕ) (s t : Cursor) → word_starts f s ≡ Ok (false, t) → plain f i s ≡ refuse fault.PlainEnd s.mark
+unfolding plain
+no_plain f i s t h = ap (λ r. r >>= λ b. if b.0 then word f i s.mark b.1.mark b.1.rest else refuse fault.PlainEnd s.mark) h

@@ -1,12 +1,12 @@
--- Plain scalars of one line (YAML 1.2.2, 7.3.3).
-use Rattle.std.specs.Prelude.{ℕ, ◌+◌, Bool, false, ◌||◌, ◌&&◌, ◌==◌, not, nat_lt, List, [], ◌∷◌, ◌++◌, length, take, slice_index, Result, Ok, if◌then◌else◌, encode_utf8, encode_utf8_all}
-use Rattle.saphyr_input.specs.Classes.{is_z, is_break, is_blank, is_blank_or_breakz, is_flow}
-use Rattle.saphyr_input.specs.Places.{can_be_plain, is_document_indicator}
+-- Plain scalars (YAML 1.2.2, 7.3.3).
+use Rattle.std.specs.Prelude.{ℕ, zero, suc, pred, ◌+◌, ◌-◌, Bool, true, false, ◌||◌, ◌&&◌, ◌==◌, not, nat_lt, List, [], ◌∷◌, ◌++◌, length, take, slice_index, Result, Ok, Option, Some, None, if◌then◌else◌, encode_utf8, encode_utf8_all}
+use Rattle.saphyr_input.specs.Classes.{is_z, is_break, is_blank, is_blank_or_breakz, is_flow, is_bom, tab, line_feed, carriage_return, space}
+use Rattle.saphyr_input.specs.Places.{can_be_plain, is_document_indicator, is_blank_or_break}
 use Rattle.saphyr_scalar.specs.declared.scalar.position.Marker.{Marker}
 use Rattle.saphyr_scalar.specs.declared.scalar.fault.Refusal.{Refusal}
 use Rattle.saphyr_scalar.specs.declared.scalar.fault.FaultText.TheVariants as fault
-use Rattle.saphyr_scalar.specs.Cursor.{Cursor, ◌>>=◌, refuse, along, pass, pass_break}
-use Rattle.saphyr_scalar.specs.Quoted.{at}
+use Rattle.saphyr_scalar.specs.Cursor.{Cursor, ◌>>=◌, refuse, along, next_line, pass, pass_blanks, pass_break}
+use Rattle.saphyr_scalar.specs.Quoted.{at, with_run}
 
 -- a word goes on with the first character
 unfoldable pub in_word : Bool → List ℕ → Bool
@@ -17,6 +17,10 @@ abbrev pub word_len : Bool → List ℕ → ℕ
 word_len in_flow [] = 0
 word_len in_flow (c ∷ cs) = if in_word in_flow (c ∷ cs) then 1 + word_len in_flow cs else 0
 
+-- a word is put behind a text
+abbrev pub with_word : Bool → List ℕ → Cursor → List ℕ × Cursor
+with_word in_flow text s = (text ++ encode_utf8_all (take (word_len in_flow s.rest) s.rest), pass (word_len in_flow s.rest) s)
+
 -- whether a word of the scalar begins: neither a comment nor a document marker does, and in flow no lone `-`
 unfoldable pub word_starts : Bool → Cursor → Result (Bool × Cursor) Refusal
 word_starts in_flow s =
@@ -24,54 +28,116 @@ word_starts in_flow s =
     else if in_flow && (slice_index s.rest 0 == 45) && is_flow (slice_index s.rest 1) then refuse fault.PlainDashBeforeFlow s.mark
     else Ok (in_word in_flow s.rest, s)
 
--- what is read of a scalar: its text, the place behind its last word, and what stands behind it
+-- content inside flow stands right of the enclosing block collection
+unfoldable pub flow_indented : ℕ → Cursor → Result Cursor Refusal
+flow_indented indent s = if nat_lt s.mark.col indent then refuse fault.FlowIndentation s.mark else Ok s
+
+-- What stands behind a word: what it reads as where another word follows, whether a tab stands in the indentation of
+-- the line that is reached, and what stands behind it.
+pub record Gap : Type 0 where
+  pub text : List ℕ
+  pub tabbed : Bool
+  pub behind : Cursor
+
+-- whether a line ends with the character: CR before LF does not end it
+abbrev pub ends_line : ℕ → List ℕ → Bool
+ends_line c cs = is_break c && not ((c == carriage_return) && (slice_index cs 0 == line_feed))
+
+-- behind a line's blanks, where a tab stands in its indentation: only a comment may, or nothing
+unfoldable pub may_stand : Marker → Bool → Cursor → Result Cursor Refusal
+may_stand start tabbed s =
+    if tabbed && is_bom (slice_index s.rest 0) then refuse fault.MisplacedByteOrderMark s.mark
+    else if tabbed && not ((slice_index s.rest 0 == 35) || is_z (slice_index s.rest 0)) then refuse fault.TabInsidePlain start
+    else Ok s
+
+-- a line is reached
+abbrev pub reached : Marker → Bool → List ℕ → Cursor → Result Gap Refusal
+reached start tabbed feeds s = may_stand start tabbed s >>= λ t. Ok (record { text = feeds; tabbed = tabbed; behind = t })
+
+-- on a line, with blanks alone before it
+abbrev pub at_line : Marker → List ℕ → Cursor
+at_line m cs = record { rest = cs; mark = m; blank_so_far = true }
+
+-- a blank or a break of the lines behind a word is passed
+unfoldable pub pass_white : ℕ → Bool → List ℕ → Cursor → Bool × List ℕ × Cursor
+pass_white indent tabbed feeds s =
+    if is_break (slice_index s.rest 0) then (false, feeds ++ line_feed ∷ [], pass_break s)
+    else (tabbed || ((slice_index s.rest 0 == tab) && nat_lt s.mark.col indent), feeds, pass_blanks 1 s)
+
+-- Blanks and breaks from a line's start on: a line feed for each line of them (6.5).
+-- `indent` is the first column to the right of the enclosing block collection.
+unfoldable pub lines : ℕ → Marker → Bool → List ℕ → Marker → List ℕ → Result Gap Refusal
+lines indent start tabbed feeds m [] = reached start tabbed feeds (at_line m [])
+lines indent start tabbed feeds m (c ∷ cs) =
+    if is_blank_or_break c then
+    lines indent start (is_blank c && (tabbed || ((c == tab) && nat_lt m.col indent)))
+    (if ends_line c cs then feeds ++ line_feed ∷ [] else feeds)
+    (if ends_line c cs then next_line m 1 else along m 1) cs
+    else reached start tabbed feeds (at_line m (c ∷ cs))
+
+-- a break before no empty line reads as a space, and another as its empty lines
+abbrev pub folded : Gap → Gap
+folded g = record g { text = if length g.text == 0 then space ∷ [] else g.text }
+
+-- a line behind a word's line begins
+abbrev pub next_lines : ℕ → Marker → Cursor → Result Gap Refusal
+next_lines indent start s = lines indent start false [] s.mark s.rest >>= λ g. Ok (folded g)
+
+-- behind the blanks on a word's line
+unfoldable pub gap_from : ℕ → Marker → List ℕ → Cursor → Result Gap Refusal
+gap_from indent start blanks s =
+    if is_break (slice_index s.rest 0) then next_lines indent start (pass_break s)
+    else Ok (record { text = blanks; tabbed = false; behind = s })
+
+-- behind a word
+unfoldable pub gap : ℕ → Marker → Cursor → Result Gap Refusal
+gap indent start s = gap_from indent start (with_run is_blank [] s).0 (with_run is_blank [] s).1
+
+-- whether another word of the scalar begins behind a gap: outside flow, none does left of the indentation
+unfoldable pub goes_on : Bool → ℕ → Cursor → Result (Bool × Cursor) Refusal
+goes_on in_flow indent s =
+    if s.blank_so_far && not in_flow && nat_lt s.mark.col indent then Ok (false, s) else word_starts in_flow s
+
+-- The comment that keeps a scalar outside flow from going on in the next line: one behind a word on its line, or
+-- behind a tab in the indentation.
+unfoldable pub comment_of : Bool → Bool → Cursor → Option Marker
+comment_of in_flow tabbed s =
+    if not in_flow && (slice_index s.rest 0 == 35) && (tabbed || not s.blank_so_far) then Some s.mark else None
+
+-- what is read of a scalar: its text, the place behind its last word, a comment that keeps it from going on, and what stands behind it
 abbrev pub Reading : Type 0
-Reading = Result (List ℕ × Marker × Cursor) Refusal
+Reading = Result (List ℕ × Marker × Option Marker × Cursor) Refusal
 
 -- a text before what is read
 abbrev pub with_text : List ℕ → Reading → Reading
-with_text text read = read >>= λ x. Ok (text ++ x.0, x.1, x.2)
+with_text text read = read >>= λ x. Ok (text ++ x.0, x.1, x.2, x.3)
 
--- Between words: `blanks` were met behind the last word, which ended at `end`. In a word that began before m.
+-- the scalar ended at `end`
+abbrev pub ended : Bool → Marker → Gap → Reading
+ended in_flow end g = Ok ([], end, comment_of in_flow g.tabbed g.behind, g.behind)
+
+-- how many characters of a text a gap has
+abbrev pub gap_len : List ℕ → Gap → ℕ
+gap_len xs g = length xs - length g.behind.rest
+
 unfoldable mutual
-  pub gap : Bool → List ℕ → Marker → Marker → List ℕ → Reading
-  gap in_flow blanks end m [] = Ok ([], end, at m [])
-  gap in_flow blanks end m (c ∷ cs) =
-      if is_blank c then gap in_flow (blanks ++ encode_utf8 c) end (along m 1) cs
-      else (word_starts in_flow (at m (c ∷ cs)) >>= λ b.
-      if b.0 then with_text (blanks ++ encode_utf8 c) (word in_flow (along m 1) cs) else Ok ([], end, at m (c ∷ cs)))
+  -- Behind a word that ended at `end`: so many characters of the gap g are still to be passed.
+  pub between : Bool → ℕ → Marker → Marker → Gap → ℕ → List ℕ → Reading
+  between in_flow indent start end g left [] = ended in_flow end g
+  between in_flow indent start end g zero (c ∷ cs) = goes_on in_flow indent g.behind >>= λ b.
+      if b.0 then with_text (g.text ++ encode_utf8 c) (word in_flow indent start (along g.behind.mark 1) cs) else ended in_flow end g
+  between in_flow indent start end g (suc left) (c ∷ cs) = between in_flow indent start end g left cs
 
-  pub word : Bool → Marker → List ℕ → Reading
-  word in_flow m [] = Ok ([], m, at m [])
-  word in_flow m (c ∷ cs) =
-      if is_blank c then gap in_flow (encode_utf8 c) m (along m 1) cs
-      else if in_word in_flow (c ∷ cs) then with_text (encode_utf8 c) (word in_flow (along m 1) cs)
-      else Ok ([], m, at m (c ∷ cs))
+  -- in a word that began before m
+  pub word : Bool → ℕ → Marker → Marker → List ℕ → Reading
+  word in_flow indent start m [] = ended in_flow m (record { text = []; tabbed = false; behind = at m [] })
+  word in_flow indent start m (c ∷ cs) =
+      if in_word in_flow (c ∷ cs) then with_text (encode_utf8 c) (word in_flow indent start (along m 1) cs)
+      else gap indent start (at m (c ∷ cs)) >>= λ g.
+      if gap_len (c ∷ cs) g == 0 then ended in_flow m g else between in_flow indent start m g (pred (gap_len (c ∷ cs) g)) cs
 
--- The line of a text begins with what ends a scalar of the lines before: the text's end, a comment, a
--- document marker, what can't stand in a plain scalar, or content left of the scalar's indentation.
-unfoldable pub line_ends_plain : Bool → ℕ → List ℕ → Bool
-line_ends_plain in_flow indent xs =
-    is_z (slice_index xs 0) || (slice_index xs 0 == 35) || is_document_indicator xs
-    || (not (is_blank_or_breakz (slice_index xs 0)) && ((not in_flow && nat_lt 0 indent) || not (can_be_plain in_flow xs)))
-
--- the line's break, behind the scalar
-unfoldable pub behind_line : Bool → ℕ → Cursor → Result Cursor Refusal
-behind_line in_flow indent s =
-    if not (is_break (slice_index s.rest 0)) then Ok s
-    else if line_ends_plain in_flow indent (pass_break s).rest then Ok (pass_break s)
-    else refuse fault.NotBuiltYet (pass_break s).mark
-
-unfoldable pub behind_words : Bool → ℕ → Marker → List ℕ × Marker × Cursor → Reading
-behind_words in_flow indent start x =
-    if length x.0 == 0 then refuse fault.PlainEnd start
-    else (behind_line in_flow indent x.2 >>= λ s. Ok (x.0, x.1, s))
-
--- A plain scalar: its text, the place behind its last word, and what stands behind it.
--- `indent` is the first column to the right of the enclosing block collection.
+-- A plain scalar: its text, the place behind its last word, a comment that keeps it from going on, and what stands
+-- behind it. `indent` is the first column to the right of the enclosing block collection.
 unfoldable pub plain : Bool → ℕ → Cursor → Reading
-plain in_flow indent s = gap in_flow [] s.mark s.mark s.rest >>= behind_words in_flow indent s.mark
-
--- a word is put behind a text
-abbrev pub with_word : Bool → List ℕ → Cursor → List ℕ × Cursor
-with_word in_flow text s = (text ++ encode_utf8_all (take (word_len in_flow s.rest) s.rest), pass (word_len in_flow s.rest) s)
+plain in_flow indent s = word_starts in_flow s >>= λ b.
+    if b.0 then word in_flow indent s.mark b.1.mark b.1.rest else refuse fault.PlainEnd s.mark

@@ -1,8 +1,12 @@
--- A plain scalar of one word (YAML 1.2.2, 7.3.3), as the numbers and names of JSON are.
-use Rattle.std.specs.Prelude.{◌≡◌, ◌≢◌, ℕ, ◌<◌, Bool, false, ◌&&◌, ◌==◌, not, List, [], ◌∷◌, drop, slice_index, IsTrue, ◌⊎◌}
+-- How plain scalars are spelled (YAML 1.2.2, 7.3.3), and what may stand behind them.
+use Rattle.std.specs.Prelude.{◌≡◌, ◌≢◌, ℕ, ◌+◌, ◌<◌, ◌≤◌, Bool, true, false, ◌||◌, ◌&&◌, ◌==◌, not, nat_lt, List, [], ◌∷◌, ◌++◌, length, drop, slice_index, IsTrue, IsFalse, ◌⊎◌, if◌then◌else◌}
 use Rattle.std.specs.List.{prefix_len}
-use Rattle.saphyr_input.specs.Classes.{is_blank, is_break, is_blank_or_breakz, is_flow, is_bom}
-use Rattle.saphyr_scalar.specs.Plain.{in_word}
+use Rattle.saphyr_input.specs.Classes.{is_blank, is_break, is_blank_or_breakz, is_flow, is_bom, tab}
+use Rattle.saphyr_input.specs.Places.{is_blank_or_break, is_document_indicator}
+use Rattle.saphyr_scalar.specs.declared.scalar.position.Marker.{Marker}
+use Rattle.saphyr_scalar.specs.Cursor.{Cursor, along, next_line}
+use Rattle.saphyr_scalar.specs.Plain.{in_word, ends_line}
+use Rattle.saphyr_scalar.specs.PlainReading.{AreWhite, passed}
 
 -- a character that goes on with a word whatever follows it, inside flow and outside
 abbrev pub is_plain_safe : ℕ → Bool
@@ -26,7 +30,86 @@ pub record IsPlainWord (w : List ℕ) : Type 0 where
 abbrev pub behind_blanks : List ℕ → List ℕ
 behind_blanks xs = drop (prefix_len is_blank xs) xs
 
--- what may stand behind the last word of a line's scalar: where blanks do, a comment too, and no break
-pub record EndsPlain (in_flow : Bool) (xs : List ℕ) : Type 0 where
-  pub ends : (in_word in_flow (behind_blanks xs) ≡ false) ⊎ ((0 < prefix_len is_blank xs) × (slice_index (behind_blanks xs) 0 ≡ 35))
-  pub line : is_break (slice_index (behind_blanks xs) 0) ≡ false
+-- what stands behind the blanks and breaks at a place
+abbrev pub past_white : Marker → Bool → List ℕ → Cursor
+past_white m blank_so_far [] = record { rest = []; mark = m; blank_so_far = blank_so_far }
+past_white m blank_so_far (c ∷ cs) =
+    if is_blank_or_break c then past_white (if ends_line c cs then next_line m 1 else along m 1) (blank_so_far || is_break c) cs
+    else record { rest = c ∷ cs; mark = m; blank_so_far = blank_so_far }
+
+-- Among the blanks and breaks at the front, from the column on, no tab stands left of the indentation.
+abbrev pub tabs_fit : ℕ → ℕ → List ℕ → Bool
+tabs_fit indent col [] = true
+tabs_fit indent col (c ∷ cs) =
+    if is_blank_or_break c then not ((c == tab) && nat_lt col indent) && tabs_fit indent (if ends_line c cs then 0 else col + 1) cs else true
+
+-- no word goes on, a comment or a document marker stands, or outside flow content left of the scalar's indentation
+abbrev pub StopsPlain : Bool → ℕ → Cursor → Type 0
+StopsPlain in_flow indent s =
+    (in_word in_flow s.rest ≡ false)
+    ⊎ ((slice_index s.rest 0 ≡ 35)
+    ⊎ (((s.mark.col ≡ 0) × IsTrue (is_document_indicator s.rest))
+    ⊎ ((in_flow ≡ false) × IsTrue s.blank_so_far × (s.mark.col < indent))))
+
+-- What may stand behind the last word of a scalar, which ends at `end`: blanks and breaks, and then what ends the scalar.
+-- No tab stands in the indentation of the lines behind its own.
+pub record EndsPlain (in_flow : Bool) (indent : ℕ) (end : Marker) (xs : List ℕ) : Type 0 where
+  pub stops : StopsPlain in_flow indent (past_white end false xs)
+  pub apart : slice_index xs 0 ≢ 35
+  pub tabs : (indent ≡ 0) ⊎ IsTrue (tabs_fit indent 0 (behind_blanks xs))
+
+-- Plain scalars of several words and lines.
+
+-- a character of a word: no blank, break, NUL or byte order mark, and inside flow no flow indicator
+abbrev pub is_word_ink : Bool → ℕ → Bool
+is_word_ink in_flow c = not (is_blank_or_breakz c) && not (is_bom c) && not (in_flow && is_flow c)
+
+-- the characters of a word, of which the last is no colon
+abbrev pub AreWordInk : Bool → List ℕ → Type 0
+AreWordInk in_flow [] = Unit {0}
+AreWordInk in_flow (c ∷ cs) = IsTrue (is_word_ink in_flow c) × (c ≡ 58 → cs ≢ []) × AreWordInk in_flow cs
+
+-- a word begins with no `#`, and inside flow it is no lone `-`
+pub record IsWordIn (in_flow : Bool) (w : List ℕ) : Type 0 where
+  pub some : w ≢ []
+  pub ink : AreWordInk in_flow w
+  pub no_comment : slice_index w 0 ≢ 35
+  pub no_lone_dash : in_flow ≡ true → w ≢ 45 ∷ []
+
+-- whether a line ends in the text
+abbrev pub has_line_end : List ℕ → Bool
+has_line_end [] = false
+has_line_end (c ∷ cs) = is_break c || has_line_end cs
+
+-- Blanks and breaks between two words, from m on. Where a line ends in them outside flow, the next word stands right of
+-- the scalar's indentation, and no tab stands in the indentation of the lines behind the first.
+pub record IsPlainGap (in_flow : Bool) (indent : ℕ) (m : Marker) (gap : List ℕ) : Type 0 where
+  pub some : gap ≢ []
+  pub white : AreWhite gap
+  pub tabs : (indent ≡ 0) ⊎ IsTrue (tabs_fit indent 0 (behind_blanks gap))
+  pub indented : (in_flow ≡ true) ⊎ ((has_line_end gap ≡ false) ⊎ (indent ≤ (passed m gap).col))
+
+-- gaps and the words behind them
+abbrev pub words_text : List (List ℕ × List ℕ) → List ℕ
+words_text [] = []
+words_text (p ∷ ps) = p.0 ++ (p.1 ++ words_text ps)
+
+-- no document marker begins a line
+abbrev pub IsNoMarker : Marker → List ℕ → Type 0
+IsNoMarker m xs = m.col ≡ 0 → IsFalse (is_document_indicator xs)
+
+abbrev pub AreFurtherWords : Bool → ℕ → Marker → List (List ℕ × List ℕ) → List ℕ → Type 0
+AreFurtherWords in_flow indent m [] behind = Unit {0}
+AreFurtherWords in_flow indent m (p ∷ ps) behind =
+    IsPlainGap in_flow indent m p.0 × IsWordIn in_flow p.1 × IsNoMarker (passed m p.0) (p.1 ++ (words_text ps ++ behind))
+    × AreFurtherWords in_flow indent (along (passed m p.0) (length p.1)) ps behind
+
+-- a plain scalar's text from m on, before what ends it
+pub record IsPlainText (in_flow : Bool) (indent : ℕ) (m : Marker) (text behind : List ℕ) : Type 0 where
+  pub first : List ℕ
+  pub others : List (List ℕ × List ℕ)
+  pub is : text ≡ first ++ words_text others
+  pub word : IsWordIn in_flow first
+  pub marker : IsNoMarker m (text ++ behind)
+  pub further : AreFurtherWords in_flow indent (along m (length first)) others behind
+  pub ends : EndsPlain in_flow indent (passed m text) behind

@@ -1,19 +1,20 @@
--- Double quoted scalars on one line (YAML 1.2.2, 7.3.1), and their escapes (5.7).
-use Rattle.std.specs.Prelude.{ℕ, zero, suc, ◌+◌, ◌*◌, Bool, false, ◌||◌, ◌&&◌, ◌==◌, not, nat_lt, nat_le, List, [], ◌∷◌, ◌++◌, take, slice_index, Option, Some, None, Result, Ok, if◌then◌else◌, encode_utf8, encode_utf8_all}
+-- Quoted scalars (YAML 1.2.2, 7.3.1 and 7.3.2), and the escapes of double quoted ones (5.7).
+use Rattle.std.specs.Prelude.{ℕ, zero, suc, pred, ◌+◌, ◌*◌, Bool, true, false, ◌||◌, ◌&&◌, ◌==◌, not, nat_lt, nat_le, List, [], ◌∷◌, ◌++◌, take, drop, slice_index, Option, Some, None, Result, Ok, Err, ◌≡◌, if◌then◌else◌, encode_utf8, encode_utf8_all}
 use Rattle.std.specs.List.{prefix_len}
 use Rattle.saphyr_input.specs.Classes.{is_z, is_break, is_blank, is_blank_or_breakz, is_hex, hex_value}
+use Rattle.saphyr_input.specs.Places.{next_2_are, is_document_indicator}
 use Rattle.saphyr_scalar.specs.declared.scalar.position.Marker.{Marker}
 use Rattle.saphyr_scalar.specs.declared.scalar.fault.Refusal.{Refusal}
 use Rattle.saphyr_scalar.specs.declared.scalar.fault.FaultText.TheVariants as fault
-use Rattle.saphyr_scalar.specs.Cursor.{Cursor, ◌>>=◌, refuse, along, pass}
+use Rattle.saphyr_scalar.specs.declared.reading.flow.Quote.{Quote}
+use Rattle.saphyr_scalar.specs.declared.reading.flow.Quote.TheVariants.{Single, Double}
+use Rattle.saphyr_scalar.specs.Cursor.{Cursor, ◌>>=◌, refuse, along, next_line, pass}
+use Rattle.saphyr_scalar.specs.FlowReading as flow
+use Rattle.saphyr_scalar.specs.Folding.{raw_break, line_feeds}
 
--- a character that stands for itself and is no blank
-unfoldable pub is_literal : ℕ → Bool
-is_literal c = not (is_blank_or_breakz c) && not (c == 34) && not (c == 92)
-
--- a character at which a word of a double quoted text ends
-abbrev pub ends_word : ℕ → Bool
-ends_word c = is_blank_or_breakz c || (c == 34)
+-- a character that stands for itself between the quotes and is no blank
+unfoldable pub is_literal : Quote → ℕ → Bool
+is_literal quote c = not (is_blank_or_breakz c) && not (flow.is_special quote c)
 
 -- what an escape of one letter stands for
 unfoldable pub simple_escape : ℕ → Option ℕ
@@ -70,33 +71,134 @@ escape_of start None letter s = numbered start (digit_count letter) s
 unfoldable pub escape : Marker → Cursor → Result (ℕ × Cursor) Refusal
 escape start s = escape_of start (simple_escape (slice_index s.rest 1)) (slice_index s.rest 1) s
 
+-- the bytes of a text, and what stands behind what was taken off, or a fault
+abbrev pub TextRead : Type 0
+TextRead = Result (List ℕ × Cursor) Refusal
+
 -- a text whose bytes are `front`, before what is read
-abbrev pub with_front : List ℕ → Result (List ℕ × Cursor) Refusal → Result (List ℕ × Cursor) Refusal
+abbrev pub with_front : List ℕ → TextRead → TextRead
 with_front front read = read >>= λ x. Ok (front ++ x.0, x.1)
 
 -- within the line
 abbrev pub at : Marker → List ℕ → Cursor
 at m cs = record { rest = cs; mark = m; blank_so_far = false }
 
--- The text behind the quote at `start`: its bytes, and what stands behind the closing quote.
--- The next k characters are those of an escape, which is read already.
-unfoldable pub inside : Marker → ℕ → Marker → List ℕ → Result (List ℕ × Cursor) Refusal
-inside start k m [] = refuse fault.EndInsideQuotes start
-inside start zero m (c ∷ cs) =
-    if is_literal c || is_blank c then with_front (encode_utf8 c) (inside start zero (along m 1) cs)
-    else if c == 34 then Ok ([], at (along m 1) cs)
-    else if is_z c then refuse fault.EndInsideQuotes start
-    else if is_break c || is_break (slice_index cs 0) then refuse fault.NotBuiltYet m
-    else (escape start (at m (c ∷ cs)) >>= λ e. with_front (encode_utf8 e.0) (inside start (suc (digit_count (slice_index cs 0))) (along m 1) cs))
-inside start (suc k) m (c ∷ cs) = inside start k (along m 1) cs
+-- The character of a spelling of several characters, where one stands: an escape between double quotes, two single
+-- quotes between single ones.
+unfoldable pub special : Quote → Marker → Cursor → Result (Option ℕ × Cursor) Refusal
+special Single start s = if next_2_are s.rest 39 39 then Ok (Some 39, pass 2 s) else Ok (None, s)
+special Double start s =
+    if (slice_index s.rest 0 == 92) && not (is_break (slice_index s.rest 1)) then (escape start s >>= λ e. Ok (Some e.0, e.1))
+    else Ok (None, s)
 
-abbrev pub inside_at : Marker → Cursor → Result (List ℕ × Cursor) Refusal
-inside_at start s = inside start zero s.mark s.rest
+-- how many characters such a spelling has behind its first one
+abbrev pub special_len : Quote → ℕ → ℕ
+special_len Single next = 1
+special_len Double next = suc (digit_count next)
 
--- a double quoted scalar, from its opening quote to its closing one
-unfoldable pub double_quoted : Cursor → Result (List ℕ × Cursor) Refusal
-double_quoted s = inside_at s.mark (pass 1 s)
+-- What stands between two words of a scalar: blanks on a line, with their bytes, or a break, escaped or not, and behind
+-- it so many empty lines.
+pub data Gap : Type 0 where
+  on_line : (bytes : List ℕ) → Gap
+  over_lines : (escaped : Bool) → (empty : ℕ) → Gap
+
+abbrev pub no_gap : Gap
+no_gap = on_line []
+
+-- whether a place is left of the column that later lines have to reach
+abbrev pub is_left : ℕ → Marker → Bool
+is_left indent m = nat_lt m.col indent
+
+-- a blank: no tab is part of a line's indentation (6.1)
+unfoldable pub blank_in : ℕ → Gap → Marker → ℕ → Result Gap Refusal
+blank_in indent (on_line bytes) m c = Ok (on_line (bytes ++ encode_utf8 c))
+blank_in indent (over_lines escaped n) m c =
+    if (c == 9) && is_left indent m then refuse fault.TabAsIndentation m else Ok (over_lines escaped n)
+
+-- a break: the blanks before it go, or a line that it ends is empty
+abbrev pub break_in : Gap → Gap
+break_in (on_line bytes) = over_lines false 0
+break_in (over_lines escaped n) = over_lines escaped (suc n)
+
+-- the text of a break and so many empty lines (6.5)
+abbrev pub folded_break : Bool → ℕ → List ℕ
+folded_break escaped n = if escaped then line_feeds n else raw_break n
+
+-- a word or the closing quote on a later line: no document marker stands there, and nothing left of the indentation
+unfoldable pub begin_word : ℕ → Marker → Cursor → Result Cursor Refusal
+begin_word indent start s =
+    if (s.mark.col == 0) && is_document_indicator s.rest then refuse fault.DocumentIndicatorInsideQuotes start
+    else if is_z (slice_index s.rest 0) then refuse fault.EndInsideQuotes start
+    else if is_left indent s.mark then refuse fault.QuotedIndentation start
+    else Ok s
+
+-- the bytes of a gap before a word or the closing quote
+unfoldable pub end_gap : ℕ → Marker → Gap → Cursor → Result (List ℕ) Refusal
+end_gap indent start (on_line bytes) s = if is_z (slice_index s.rest 0) then refuse fault.EndInsideQuotes start else Ok bytes
+end_gap indent start (over_lines escaped n) s = begin_word indent start s >>= λ t. Ok (encode_utf8_all (folded_break escaped n))
+
+-- what an escaped break begins: right before the closing quote nothing, and there the quote may stand anywhere
+abbrev pub escaped_gap : Quote → ℕ → Gap
+escaped_gap quote c = if c == flow.mark quote then no_gap else over_lines true 0
+
+-- how many characters the break that stands first has (5.4)
+abbrev pub break_len : List ℕ → ℕ
+break_len xs = if next_2_are xs 13 10 then 2 else 1
+
+abbrev pub if_some : {X : Type 0} → Option ℕ → (ℕ → X) → X → X
+if_some (Some c) f x = f c
+if_some None f x = x
+
+-- The text behind the quote at `start`: its bytes, and what stands behind the closing quote. `gap` stands before it. The
+-- next k characters are taken off already, and m is the place behind them.
+unfoldable pub inside : Quote → ℕ → Marker → Gap → ℕ → Marker → List ℕ → TextRead
+inside quote indent start gap k m [] = refuse fault.EndInsideQuotes start
+inside quote indent start gap zero m (c ∷ cs) =
+    if is_blank c then (blank_in indent gap m c >>= λ g. inside quote indent start g zero (along m 1) cs)
+    else if is_break c then inside quote indent start (break_in gap) (pred (break_len (c ∷ cs))) (next_line m (break_len (c ∷ cs))) cs
+    else (end_gap indent start gap (at m (c ∷ cs)) >>= λ text. with_front text
+    (if is_literal quote c then with_front (encode_utf8 c) (inside quote indent start no_gap zero (along m 1) cs)
+    else (special quote start (at m (c ∷ cs)) >>= λ x. if_some x.0
+    (λ d. with_front (encode_utf8 d) (inside quote indent start no_gap (special_len quote (slice_index cs 0)) x.1.mark cs))
+    (if c == flow.mark quote then Ok ([], at (along m 1) cs)
+    else inside quote indent start (escaped_gap quote (slice_index (drop (break_len cs) cs) 0)) (break_len cs) (next_line (along m 1) (break_len cs)) cs))))
+inside quote indent start gap (suc k) m (c ∷ cs) = inside quote indent start gap k m cs
+
+abbrev pub inside_at : Quote → ℕ → Marker → Gap → Cursor → TextRead
+inside_at quote indent start gap s = inside quote indent start gap zero s.mark s.rest
+
+-- A quoted scalar, from its opening quote to its closing one, where `indent` is the column that its later lines have to
+-- reach.
+unfoldable pub quoted : Quote → ℕ → Cursor → TextRead
+quoted quote indent s = inside_at quote indent s.mark no_gap (pass 1 s)
+
+abbrev pub double_quoted : ℕ → Cursor → TextRead
+double_quoted indent s = quoted Double indent s
+
+abbrev pub single_quoted : ℕ → Cursor → TextRead
+single_quoted indent s = quoted Single indent s
+
+-- What calls that read a part of a scalar leave.
 
 -- the longest run of p is put behind a text
 abbrev pub with_run : (ℕ → Bool) → List ℕ → Cursor → List ℕ × Cursor
 with_run p text s = (text ++ encode_utf8_all (take (prefix_len p s.rest) s.rest), pass (prefix_len p s.rest) s)
+
+-- a break behind a backslash
+abbrev pub is_escaped_break : Quote → List ℕ → Bool
+is_escaped_break Single xs = false
+is_escaped_break Double xs = (slice_index xs 0 == 92) && is_break (slice_index xs 1)
+
+-- the closing quote, and not the first of two single quotes
+abbrev pub is_closing : Quote → List ℕ → Bool
+is_closing Single xs = (slice_index xs 0 == 39) && not (slice_index xs 1 == 39)
+is_closing Double xs = slice_index xs 0 == 34
+
+-- what ends a word
+abbrev pub ends_word : Quote → List ℕ → Bool
+ends_word quote xs = is_blank_or_breakz (slice_index xs 0) || is_closing quote xs || is_escaped_break quote xs
+
+-- something was read: what was to be read before is what is read now
+abbrev pub Leads : {X : Type 0} → Result X Refusal → (X → TextRead) → TextRead → Type 0
+Leads (Ok x) now before = now x ≡ before
+Leads (Err e) now before = before ≡ Err e

@@ -1,7 +1,7 @@
 -- The texts of the faults.
 use Rattle.std.specs.Prelude.{ℕ, List, ◌++◌, codes, encode_utf8}
 use Rattle.saphyr_scalar.specs.declared.scalar.fault.FaultText.{FaultText}
-use Rattle.saphyr_scalar.specs.declared.scalar.fault.FaultText.TheVariants.{UnprintableCharacter, MisplacedByteOrderMark, ContentAfterDocumentEnd, InvalidIndentation, UnexpectedCharacter, KeyWithoutColon, KeyExpected, TabInBlockIndentation, CommentInsideText, WhitespaceExpected, DirectiveEndExpected, VersionDigitOrDotExpected, DirectiveNameExpected, DirectiveNameCharacter, VersionNumberTooLong, VersionNumberExpected, TagDirectiveEndExpected, TagEndExpected, TagHandleStartExpected, TagDirectiveHandleEndExpected, TagPrefixCharacter, VerbatimTagEndExpected, TagSuffixExpected, TagEscape, TagEscapeLeadingByte, TagEscapeTrailingByte, TagEscapeCodePoint, AnchorNameExpected, MisplacedBracket, RecursionLimit, DashInsideFlow, SequenceEntryNotAllowed, AnchorIndentation, DashWithoutWhitespace, BlockScalarIndicatorZero, BlockScalarHeaderEndExpected, BlockScalarTabFirst, BlockScalarLineIndentation, DocumentIndicatorInsideQuotes, EndInsideQuotes, QuotedIndentation, TabAsIndentation, ContentAfterQuotes, UnknownEscape, HexadecimalDigitExpected, EscapedCodePoint, FlowIndentation, PlainDashBeforeFlow, TabInsidePlain, PlainEnd, KeyNotAllowed, TabNotAllowed, ColonBeforeFlow, ColonWithoutWhitespace, MisplacedColon, ValueNotAllowed, CommentWithoutWhitespace, DuplicateVersionDirective, DuplicateTagDirective, DocumentStartExpected, DocumentEndExpected, UnknownAnchor, NodeContentExpected, BlockMappingKeyExpected, FlowMappingEndExpected, FlowSequenceEndExpected, SequenceEntryExpected, UndeclaredHandle, TextTooLong, NotBuiltYet}
+use Rattle.saphyr_scalar.specs.declared.scalar.fault.FaultText.TheVariants.{UnprintableCharacter, MisplacedByteOrderMark, ContentAfterDocumentEnd, InvalidIndentation, UnexpectedCharacter, KeyWithoutColon, KeyExpected, TabInBlockIndentation, CommentInsideText, WhitespaceExpected, DirectiveEndExpected, VersionDigitOrDotExpected, DirectiveNameExpected, DirectiveNameCharacter, VersionNumberTooLong, VersionNumberExpected, TagDirectiveEndExpected, TagEndExpected, TagHandleStartExpected, TagDirectiveHandleEndExpected, TagPrefixCharacter, VerbatimTagEndExpected, TagSuffixExpected, TagEscape, TagEscapeLeadingByte, TagEscapeTrailingByte, TagEscapeCodePoint, AnchorNameExpected, MisplacedBracket, RecursionLimit, DashInsideFlow, SequenceEntryNotAllowed, AnchorIndentation, DashWithoutWhitespace, BlockScalarIndicatorZero, BlockScalarHeaderEndExpected, BlockScalarTabFirst, BlockScalarLineIndentation, DocumentIndicatorInsideQuotes, EndInsideQuotes, QuotedIndentation, TabAsIndentation, ContentAfterQuotes, UnknownEscape, HexadecimalDigitExpected, EscapedCodePoint, FlowIndentation, PlainDashBeforeFlow, TabInsidePlain, PlainEnd, KeyNotAllowed, TabNotAllowed, ColonBeforeFlow, ColonWithoutWhitespace, MisplacedColon, ValueNotAllowed, CommentWithoutWhitespace, DuplicateVersionDirective, DuplicateTagDirective, DocumentStartExpected, DocumentEndExpected, UnknownAnchor, NodeContentExpected, BlockMappingKeyExpected, FlowMappingEndExpected, FlowSequenceEndExpected, SequenceEntryExpected, UndeclaredHandle, TextTooLong}
 
 -- the text without the character that one of them shows behind it
 abbrev pub words : FaultText → List ℕ
@@ -74,7 +74,6 @@ words FlowSequenceEndExpected = codes "while parsing a flow sequence, expected '
 words SequenceEntryExpected = codes "while parsing a block collection, did not find expected '-' indicator"
 words UndeclaredHandle = codes "the handle wasn't declared"
 words TextTooLong = codes "text longer than 4294967295 characters"
-words NotBuiltYet = codes "not built yet"
 
 -- what a fault prints
 abbrev pub fault_text : FaultText → List ℕ

@@ -8,5 +8,6 @@ pub mod scalar;
 mod tests;
 
 pub use scalar::{
-    FaultText, Marker, PlainScalar, Reader, Refusal, ScalarStyle, ScanError, Span, Stop,
+    BlockScalar, Directive, DirectiveLine, FaultText, Marker, PlainScalar, Reader, Refusal,
+    ScalarStyle, ScanError, Span, Stop, TagParts,
 };

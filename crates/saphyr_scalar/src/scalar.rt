@@ -1,15 +1,40 @@
 //! Positions and faults, and the reader that takes scalars off a text.
+mod anchor;
+mod block;
+mod directive;
+mod directive_law;
+#[cfg(test)]
+mod directive_tests;
+mod escape;
 mod fault;
 mod law;
 mod plain;
 mod position;
+mod property_law;
+#[cfg(test)]
+mod property_tests;
 mod quoted;
+#[cfg(test)]
+mod quoted_tests;
 mod reader;
 mod style;
+mod tag;
 
+pub use block::{BlockScalar, reads_each_block_scalar, reads_values_of_lines};
+pub use directive::{Directive, DirectiveLine};
+pub use directive_law::{
+    reads_each_directive, reads_each_reserved_directive, spells_each_directive,
+};
 pub use fault::{FaultText, Refusal, ScanError, Stop};
-pub use law::{reads_each_double_quoted, reads_each_plain_word, spells_each_double_quoted};
+pub use law::{
+    counts_each_double_quoted, ends_each_plain_scalar, passes_blanks_and_breaks, passes_to_one_place,
+    reads_each_double_quoted, reads_each_plain_text, reads_each_plain_word, reads_each_quoted,
+    reads_each_quoted_on_line, reads_plain_values, reads_quoted_values, spells_each_quoted,
+    takes_anchor, takes_block_scalar, takes_directive, takes_plain, takes_quoted, takes_tag,
+};
 pub use plain::PlainScalar;
 pub use position::{Marker, Span};
+pub use property_law::{reads_each_anchor, reads_each_tag, spells_each_anchor, spells_each_tag};
 pub use reader::Reader;
 pub use style::ScalarStyle;
+pub use tag::TagParts;

@@ -320,7 +320,6 @@ fn prints_the_faults_of_documents_and_nodes(rt: HostRuntime) -> Result<(), Fail>
             FaultText::TextTooLong,
             "text longer than 4294967295 characters",
         ),
-        (FaultText::NotBuiltYet, "not built yet"),
     ];
     for (fault, text) in faults {
         expect_text(&rt, rt.alloc(), fault, text)?;

@@ -1,152 +1,143 @@
--- The tokens still to come, one step at a time.
-use Rattle.std.proofs.Common.{◌≡◌, ℕ, zero, suc, ◌+◌, ◌≤◌, ◌<◌, Bool, true, false, List, [], ◌∷◌, length, get_or, Result, Ok, Err, refl, sym, ap, ◌∙◌, arith, cond, subst, length-append}
-use Rattle.std.specs.Prelude.{◌&&◌, ◌||◌, slice_index, not, ◌==◌, nat_lt, nat_le, Option, Some, None}
-use Rattle.std.proofs.lemmas.Grind.{common_steps}
-use Rattle.saphyr_input.specs.Classes.{is_bom, is_blank, is_break, is_yaml_non_break}
+-- The tokens still to come, one at a time.
+use Rattle.std.proofs.Common.{◌≡◌, ℕ, zero, suc, ◌+◌, ◌<◌, Bool, true, false, List, [], ◌∷◌, Result, Ok, Err, refl, sym, ap, ◌∙◌, arith, subst, cond}
+use Rattle.std.specs.Prelude.{◌&&◌, ◌||◌, not, Option, Some, None, option_map}
 use Rattle.saphyr_scalar.specs.declared.scalar.position.Marker.{Marker}
 use Rattle.saphyr_scalar.specs.declared.scalar.fault.Refusal.{Refusal}
+use Rattle.saphyr_scalar.specs.Cursor.{◌>>=◌}
 use Rattle.saphyr_scalar.specs.declared.scalar.fault.Stop.{Stop}
 use Rattle.saphyr_scalar.specs.declared.scalar.fault.Stop.TheVariants as stops
 use Rattle.saphyr_scalar.specs.Seen.{Fails}
-use Rattle.saphyr_scalar.specs.Cursor.{◌>>=◌, along, next_line}
 use Rattle.saphyr_scanner.specs.declared.token.Token.{Token}
-use Rattle.saphyr_scanner.specs.Engine.{TakesFirst}
+use Rattle.saphyr_scanner.specs.declared.queue.Opening.{Opening}
+use Rattle.saphyr_scanner.specs.declared.queue.Opening.TheVariants as opening
 use Rattle.saphyr_scanner.specs.Seen.{Piece, Remaining, none, refused, before, piece, Hands}
-use Rattle.saphyr_scanner.specs.Gap.{gap, comment, stop, Passed}
-use Rattle.saphyr_scanner.specs.State.{State, deliver, deliver_first, fetch, fetch_at, fetch_end, fill, run, size, remaining, within, pass_gap}
+use Rattle.saphyr_scanner.specs.Queue.{Place, Queue}
+use Rattle.saphyr_scanner.specs.Core.{Core, drop_far_key}
+use Rattle.saphyr_scanner.specs.State.{State, carried}
+use Rattle.saphyr_scanner.specs.Fetch.{size, fetch_within, settled, needs_token, is_held, fill_in, fill, take}
+use Rattle.saphyr_scanner.specs.Remaining.{before_place, without_first, hand_out, delivered, run, remaining}
+use Rattle.saphyr_scanner.proofs.TakingScalars.{Readers}
+use Rattle.saphyr_scanner.proofs.Filling.{read, going, smaller_read, less_read, IsSettled, settled_once, bind_ok, read_settles}
 
--- a choice, by the test
-by_test : {X : Type 0} (b : Bool) (x y : X) (P : X → Type 0) → (b ≡ true → P x) → (b ≡ false → P y) → P (cond b x y)
-by_test true x y P at_true at_false = at_true refl
-by_test false x y P at_true at_false = at_false refl
+-- what comes behind the tokens that can be handed out
+abbrev pub behind : ℕ → ℕ → State → Remaining
+behind n limit t = cond t.core.ended none (delivered (read limit t) (run n limit))
 
--- one token more in the queue, at no cost in size
-record Fetched (s t : State) : Type 0 where
-  pub one : length t.queue ≡ length s.queue + 1
-  pub size : size t ≤ size s
+pub if_true : {X : Type 0} → (b : Bool) (x y : X) → b ≡ true → cond b x y ≡ x
+if_true true x y e = refl
+if_true false x y e = absurd (cc)
 
--- what the step gives, if it gives anything, is a token fetched
-abbrev Fetches : State → Result State Refusal → Type 0
-Fetches s r = (t : State) → r ≡ Ok t → Fetched s t
+pub if_false : {X : Type 0} → (b : Bool) (x y : X) → b ≡ false → cond b x y ≡ y
+if_false true x y e = absurd (cc)
+if_false false x y e = refl
 
-fetched_is : (s t : State) → Fetched s t → Fetches s (Ok t)
-fetched_is s t f u e = let same : t ≡ u = cc in subst (Fetched s) same f
-
-no_refusal : (s : State) (f : Refusal) → Fetches s (Err f)
-no_refusal s f u e = absurd (cc)
-
-ends : (s : State) → s.ended ≡ false → Fetches s (fetch_end s)
-unfolding fetch_end
-ends s going = by_test (length s.cursor.rest == 0) _ _ (Fetches s) (λ _. fetched_is s _ (record { one = length-append s.queue _; size = rw going (simp length-append (omega arith)) })) (λ _. no_refusal s _)
-
-at_char : (s : State) (c : ℕ) → s.ended ≡ false → Fetches s (fetch_at c s)
-unfolding fetch_at
-at_char s c going =
-    by_test (c == 0) _ _ (Fetches s) (λ _. ends s going)
-    (λ _. by_test (is_bom c) _ _ (Fetches s) (λ _. by_test (nat_lt 0 s.cursor.mark.col) _ _ (Fetches s) (λ _. no_refusal s _) (λ _. no_refusal s _))
-    (λ _. no_refusal s _))
-
--- what stands between tokens only gets shorter
-gap_shorter : (t : List ℕ) (m : Marker) (blank broke : Bool) → (length (gap m blank broke t).cursor.rest ≤ length t) × (length (comment m blank broke t).cursor.rest ≤ length t)
-gap_shorter [] m blank broke = (omega arith, omega arith)
-gap_shorter (c ∷ cs) m blank broke =
-    let P : Passed → Type 0 = λ r. length r.cursor.rest ≤ length (c ∷ cs) in
-    let along_line = gap_shorter cs (along m 1) blank broke in
-    let next = gap_shorter cs (next_line m 1) true true in
-    let further : P (gap (along m 1) blank broke cs) = omega (arith, along_line.0) in
-    let line : P (gap (next_line m 1) true true cs) = omega (arith, next.0) in
-    let inside : P (comment (along m 1) blank broke cs) = omega (arith, along_line.1) in
-    let here : P (stop m blank broke (c ∷ cs)) = omega arith in (
-      by_test (is_blank c || ((c == 13) && (slice_index cs 0 == 10))) _ _ P (λ _. further)
-          (λ _. by_test (is_break c) _ _ P (λ _. line) (λ _. by_test (c == 35) _ _ P (λ _. inside) (λ _. here))),
-      by_test (is_yaml_non_break c) _ _ P (λ _. inside)
-          (λ _. by_test ((c == 13) && (slice_index cs 0 == 10)) _ _ P (λ _. further) (λ _. by_test (is_break c) _ _ P (λ _. line) (λ _. here))),
-    )
-
-gap_keeps : (s : State) → size (pass_gap s) ≤ size s
-gap_keeps s = omega (arith, (gap_shorter s.cursor.rest s.cursor.mark s.cursor.blank_so_far false).0)
-
-fetches : (s : State) → s.ended ≡ false → Fetches s (fetch s)
-unfolding fetch
-fetches s going = by_test s.started _ _ (Fetches s)
-    (λ _. λ t e. let f = at_char (pass_gap s) (get_or (pass_gap s).cursor.rest 0 0) going t e in record { one = f.one; size = omega (arith, f.size, gap_keeps s) })
-    (λ first. fetched_is s _ (record { one = length-append s.queue _; size = rw first (simp length-append (omega arith)) }))
-
-limited : (limit : ℕ) (s t : State) → within limit s ≡ Ok t → s ≡ t
-limited limit s t = by_test (nat_le s.cursor.mark.index limit) _ _ (λ (r : Result State Refusal). r ≡ Ok t → s ≡ t) (λ _ e. cc) (λ _ e. absurd (cc))
-
-bind_ok : {A B E : Type 0} (r : Result A E) (f : A → Result B E) (y : B) → (r >>= f) ≡ Ok y → (x : A) × (r ≡ Ok x) × (f x ≡ Ok y)
-bind_ok (Ok x) f y e = (x, refl, e)
-bind_ok (Err d) f y e = absurd (cc)
-
--- what a full queue came from
-data Filled (s t : State) : Type 0 where
-  had : t ≡ s → (length s.queue ≡ 0 → s.ended ≡ true) → Filled s t
-  got : length s.queue ≡ 0 → Fetched s t → Filled s t
-
-filled : (limit : ℕ) (s t : State) → fill limit s ≡ Ok t → Filled s t
-unfolding fill
-filled limit s t = by_test ((length s.queue == 0) && not s.ended) _ _ (λ (r : Result State Refusal). r ≡ Ok t → Filled s t)
-    (λ h e. let b = bind_ok (fetch s) (within limit) t e in
-    let going : s.ended ≡ false = grind (arith, common_steps) in
-    let empty : length s.queue ≡ 0 = grind (arith, common_steps) in
-    got empty (subst (Fetched s) (limited limit b.0 t b.2) (fetches s going b.0 b.1)))
-    (λ h e. had (cc) (λ z. grind (arith, common_steps)))
-
--- a token handed out leaves less
-shrinks : (limit : ℕ) (s t : State) (x : Piece) (xs : List Piece) → fill limit s ≡ Ok t → t.queue ≡ x ∷ xs → size (record t { queue = xs }) < size s
-shrinks limit s t x xs e q = by_filled (filled limit s t e)
+pub same_hands : (ps : List Place) (go ho : State → Remaining) (s : State) → ((t : State) → t.core ≡ s.core → go t ≡ ho t) → hand_out ps go s ≡ hand_out ps ho s
+same_hands [] go ho s h = h s refl
+same_hands (p ∷ ps) go ho s h = by (needs_token s) refl (same_hands ps go ho (without_first ps s) h)
   where
-    l : length t.queue ≡ length xs + 1
-    l = rw q (omega arith)
+    by : (b : Bool) → needs_token s ≡ b → hand_out ps go (without_first ps s) ≡ hand_out ps ho (without_first ps s) → hand_out (p ∷ ps) go s ≡ hand_out (p ∷ ps) ho s
+    by true e others = rw e (h s refl)
+    by false e others = rw e (ap (before_place p.opening p.piece) others)
 
-    by_filled : Filled s t → size (record t { queue = xs }) < size s
-    by_filled (had same done) = rw (← same) (omega (arith, l))
-    by_filled (got empty f) = omega (arith, l, f.size)
+delivered_so : (r : Result State Refusal) (f g : State → Remaining) → ((u : State) → r ≡ Ok u → f u ≡ g u) → delivered r f ≡ delivered r g
+delivered_so (Ok u) f g h = h u refl
+delivered_so (Err e) f g h = refl
 
--- what is delivered depends on how it goes on after the first token alone
-same_delivery : (r : Result State Refusal) (go ho : State → Remaining) → ((t : State) (x : Piece) (xs : List Piece) → r ≡ Ok t → t.queue ≡ x ∷ xs → go (record t { queue = xs }) ≡ ho (record t { queue = xs })) → deliver r go ≡ deliver r ho
-same_delivery (Err f) go ho h = refl
-same_delivery (Ok t) go ho h = first t.queue refl
+-- a token less is to be read behind each
+pub enough : Readers → (limit n m : ℕ) (s : State) → size s.core < n → size s.core < m → run n limit s ≡ run m limit s
+enough laws limit zero m s a b = absurd (omega (arith, a))
+enough laws limit (suc n) zero s a b = absurd (omega (arith, b))
+enough laws limit (suc n) (suc m) s a b =
+    same_hands s.queue.places (behind n limit) (behind m limit) s (λ t e. at t e t.core.ended refl (λ u less. enough laws limit n m u (omega (arith, less, a)) (omega (arith, less, b))))
   where
-    first : (q : List Piece) → t.queue ≡ q → deliver_first t q go ≡ deliver_first t q ho
-    first [] k = refl
-    first (x ∷ xs) k = ap (before x) (h t x xs refl k)
+    at : (t : State) → t.core ≡ s.core → (over : Bool) → t.core.ended ≡ over → ((u : State) → size u.core < size s.core → run n limit u ≡ run m limit u) → behind n limit t ≡ behind m limit t
+    at t e true over h = if_true t.core.ended _ _ over ∙ sym (if_true t.core.ended _ _ over)
+    at t e false over h =
+        let same_size : size t.core ≡ size s.core = ap size e in
+        if_false t.core.ended _ _ over ∙ delivered_so (read limit t) _ _ (λ u q. let less = less_read laws limit t u over q in h u (omega (arith, less, same_size)))
+        ∙ sym (if_false t.core.ended _ _ over)
 
-enough : (limit n m : ℕ) (s : State) → size s < n → size s < m → run limit n s ≡ run limit m s
-enough limit zero m s a b = absurd (omega arith)
-enough limit (suc n) zero s a b = absurd (omega arith)
-enough limit (suc n) (suc m) s a b = same_delivery (fill limit s) _ _
-    (λ t x xs e k. let less = shrinks limit s t x xs e k in enough limit n m (record t { queue = xs }) (omega (arith, less)) (omega (arith, less)))
+-- the tokens still to come, where no candidate is too far
+abbrev pub rest : ℕ → State → Remaining
+rest limit s = run (suc (size s.core)) limit s
 
-unroll_refused : (limit : ℕ) (s : State) (f : Refusal) → fill limit s ≡ Err f → remaining limit s ≡ refused f
+pub remaining_is : (limit : ℕ) (s t : State) → settled s ≡ Ok t → remaining limit s ≡ rest limit t
 unfolding remaining
-unroll_refused limit s f e = rw e refl
+remaining_is limit s t e = rw e refl
 
-unroll_first : (limit : ℕ) (s t u : State) (x : Piece) → fill limit s ≡ Ok t → t.queue ≡ x ∷ u.queue → u ≡ record t { queue = u.queue } → remaining limit s ≡ before x (remaining limit u)
-unfolding remaining
-unroll_first limit s t u x e q k =
-    let less = shrinks limit s t x u.queue e q in
-    let v : State = record t { queue = u.queue } in
-    let same : run limit (size s) v ≡ run limit (suc (size v)) v = enough limit (size s) (suc (size v)) v less (omega arith) in
-    let one : deliver_first t t.queue (λ w. run limit (size s) w) ≡ before x (run limit (size s) v) = rw q refl in
-    let back : run limit (suc (size v)) v ≡ run limit (suc (size u)) u = ap (λ (w : State). run limit (suc (size w)) w) (sym k) in
-    rw e (one ∙ ap (before x) (same ∙ back))
+pub settled_is : (s : State) → IsSettled s → settled s ≡ Ok s
+settled_is s e = rw e refl
 
--- nothing in the queue: all was handed out
-done : (limit : ℕ) (s t : State) → fill limit s ≡ Ok t → t.queue ≡ [] → t ≡ s
-done limit s t e q = elim (filled limit s t e) [ had same over ↦ same | got empty f ↦ absurd (omega (arith, f.one, ap length q)) ]
+-- what is read first changes nothing
+pub record Filled (limit : ℕ) (s t : State) : Type 0 where
+  pub same : rest limit s ≡ rest limit t
+  pub ready : needs_token t ≡ false
+  pub settles : IsSettled t
 
-unroll_none : (limit : ℕ) (s t : State) → fill limit s ≡ Ok t → t.queue ≡ [] → (remaining limit s ≡ none) × (remaining limit t ≡ none)
-unfolding remaining
-unroll_none limit s t e q =
-    let one : (remaining limit s ≡ none) = rw (e, q) refl in
-    (one, rw (done limit s t e q) one)
+pub filled_in : Readers → (limit n : ℕ) (s t : State) → size s.core < n → IsSettled s → fill_in n limit s ≡ Ok t → Filled limit s t
+filled_in laws limit zero s t a k e = absurd (omega (arith, a))
+filled_in laws limit (suc n) s t a k e = by (needs_token s) refl e (λ u less settles f. filled_in laws limit n u t (omega (arith, less, a)) settles f)
+  where
+    hand_nothing : (ps : List Place) (go : State → Remaining) → needs_token s ≡ true → hand_out ps go s ≡ go s
+    hand_nothing [] go needs = refl
+    hand_nothing (p ∷ ps) go needs = rw needs refl
 
-pub handed : (limit : ℕ) (s t u : State) (r : Option Token) (old : Remaining) → fill limit s ≡ Ok t → TakesFirst r t u → remaining limit s ≡ old → Hands (Ok r) old (remaining limit u)
-handed limit s t u None old e took is = let n = unroll_none limit s t e took.0 in (sym is ∙ n.0, ap (remaining limit) took.1 ∙ n.1)
-handed limit s t u (Some x) old e took is = sym is ∙ unroll_first limit s t u (piece x) e took.0 took.1
+    onward : (u : State) → needs_token s ≡ true → read limit s ≡ Ok u → Filled limit u t → Filled limit s t
+    onward u needs q others =
+        let less = smaller_read laws limit s u needs q in
+        let over = going s.core.ended _ needs in
+        let first : rest limit s ≡ run (size s.core) limit u = hand_nothing s.queue.places (behind (size s.core) limit) needs ∙ if_false s.core.ended _ _ over ∙ ap (λ r. delivered r (run (size s.core) limit)) q in
+        record {
+          same = first ∙ enough laws limit (size s.core) (suc (size u.core)) u less (omega arith) ∙ others.same;
+          ready = others.ready;
+          settles = others.settles;
+        }
 
-pub stopped : (limit : ℕ) (s : State) (end : Stop) (old new : Remaining) → Fails end (fill limit s) → remaining limit s ≡ old → Hands (Err end) old new
-stopped limit s stops.OutOfMemory old new f is = tt
-stopped limit s (stops.Refused e) old new f is = sym is ∙ unroll_refused limit s e f
+    by : (b : Bool) → needs_token s ≡ b → fill_in (suc n) limit s ≡ Ok t → ((u : State) → size u.core < size s.core → IsSettled u → fill_in n limit u ≡ Ok t → Filled limit u t) → Filled limit s t
+    by true needs f h =
+        let g : (read limit s >>= fill_in n limit) ≡ Ok t = sym (if_true (needs_token s) (read limit s >>= fill_in n limit) (Ok s) needs) ∙ f in
+        let b = bind_ok (read limit s) (fill_in n limit) t g in
+        onward b.0 needs b.1 (h b.0 (smaller_read laws limit s b.0 needs b.1) (read_settles limit s b.0 b.1) b.2)
+    by false needs f h =
+        let g : Ok s ≡ Ok t = sym (if_false (needs_token s) (read limit s >>= fill_in n limit) (Ok s) needs) ∙ f in
+        let is : s ≡ t = cc in
+        record { same = ap (rest limit) is; ready = subst (λ x. needs_token x ≡ false) is needs; settles = subst IsSettled is k }
+
+-- ## A refusal
+
+refused_in : Readers → (limit n : ℕ) (s : State) (e : Refusal) → size s.core < n → IsSettled s → fill_in n limit s ≡ Err e → rest limit s ≡ refused e
+refused_in laws limit zero s e a k q = absurd (omega (arith, a))
+refused_in laws limit (suc n) s e a k q = by (needs_token s) refl (λ u less settles f. refused_in laws limit n u e (omega (arith, less, a)) settles f)
+  where
+    hand_nothing : (ps : List Place) (go : State → Remaining) → needs_token s ≡ true → hand_out ps go s ≡ go s
+    hand_nothing [] go needs = refl
+    hand_nothing (p ∷ ps) go needs = rw needs refl
+
+    first : needs_token s ≡ true → rest limit s ≡ delivered (read limit s) (run (size s.core) limit)
+    first needs = hand_nothing s.queue.places (behind (size s.core) limit) needs ∙ if_false s.core.ended _ _ (going s.core.ended _ needs)
+
+    read_so : (r : Result State Refusal) → read limit s ≡ r → needs_token s ≡ true → (r >>= fill_in n limit) ≡ Err e
+        → ((u : State) → size u.core < size s.core → IsSettled u → fill_in n limit u ≡ Err e → rest limit u ≡ refused e) → delivered r (run (size s.core) limit) ≡ refused e
+    read_so (Ok u) i needs f h =
+        let less = smaller_read laws limit s u needs i in
+        enough laws limit (size s.core) (suc (size u.core)) u less (omega arith) ∙ h u less (read_settles limit s u i) f
+    read_so (Err d) i needs f h = let is : d ≡ e = cc in ap refused is
+
+    by : (b : Bool) → needs_token s ≡ b → ((u : State) → size u.core < size s.core → IsSettled u → fill_in n limit u ≡ Err e → rest limit u ≡ refused e) → rest limit s ≡ refused e
+    by true needs h =
+        let g : (read limit s >>= fill_in n limit) ≡ Err e = sym (if_true (needs_token s) (read limit s >>= fill_in n limit) (Ok s) needs) ∙ q in
+        first needs ∙ read_so (read limit s) refl needs g h
+    by false needs h = absurd (cc)
+
+settled_fill : (limit : ℕ) (s : State) (r : Result State Refusal) (e : Refusal) → settled s ≡ r → fill limit s ≡ Err e → Readers → remaining limit s ≡ refused e
+unfolding fill remaining
+settled_fill limit s (Ok t) e i f laws =
+    let g : fill_in (suc (size t.core)) limit t ≡ Err e = sym (ap (λ r. r >>= λ u. fill_in (suc (size u.core)) limit u) i) ∙ f in
+    ap (λ r. delivered r (λ u. run (suc (size u.core)) limit u)) i ∙ refused_in laws limit (suc (size t.core)) t e (omega arith) (settled_once s t i) g
+settled_fill limit s (Err d) e i f laws =
+    let g : Err d ≡ Err e = sym (ap (λ r. r >>= λ u. fill_in (suc (size u.core)) limit u) i) ∙ f in
+    let is : d ≡ e = cc in
+    ap (λ r. delivered r (λ u. run (suc (size u.core)) limit u)) i ∙ ap refused is
+
+pub refused_first : Readers → (limit : ℕ) (s : State) (e : Refusal) → fill limit s ≡ Err e → remaining limit s ≡ refused e
+refused_first laws limit s e f = settled_fill limit s (settled s) e refl f laws

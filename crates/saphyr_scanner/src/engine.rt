@@ -1,125 +1,178 @@
-ghost use Rattle.std.specs.Prelude.{◌≡◌, Ok, slice_index};
-ghost use Rattle.saphyr_scanner.specs.State as spec;
+mod block;
+mod document;
+mod fetch;
+mod flow;
+mod indent;
+mod key;
+mod level;
+mod property;
+mod scalar;
+mod value;
 
 use crate::gap::skip_gap;
+use crate::queue::{Opening, Queue};
 use crate::token::{Token, TokenType};
-use saphyr_input::char_traits::is_bom;
-use saphyr_input::input::Input;
+pub(crate) use level::{Candidate, Context, Level};
+use saphyr_input::input::{Input, SkipTabs};
 use saphyr_scalar::{FaultText, Marker, Reader, Refusal, Span, Stop};
 use std::alloc::Global;
-use std::collections::VecDeque;
 
-/// What a scanner holds: the rest of the text, and the tokens that were read and not handed out.
+ghost use Rattle.std.specs.Prelude.{◌≡◌, ℕ, ◌<◌, ◌≤◌, ◌^◌, length, Ok};
+ghost use Rattle.saphyr_scanner.specs.Core as spec;
+ghost use Rattle.saphyr_scanner.specs.Passing as passing;
+ghost use Rattle.saphyr_scanner.specs.State as spec_state;
+
+/// What a scanner holds: the rest of the text, the tokens that were read and not handed out, and
+/// what is open.
 #[derive(Drop)]
 pub(crate) struct Engine<T: Input> {
     reader: Reader<T>,
-    tokens: VecDeque<Token>,
+    queue: Queue,
+    level: Level,
+    // What is open around the level, the outermost first.
+    outer: Vec<Level>,
+    // Whether the candidate outside flow has to be a key.
+    required: bool,
+    key_allowed: bool,
+    // Where a colon may stand right behind its key.
+    adjacent: usize,
+    // The first column to the right of the innermost block collection.
+    indent: usize,
+    // Whether content has to stand one column further right.
+    deeper: bool,
+    outer_indents: Vec<usize>,
+    // The comment that ended a plain scalar.
+    comment: Option<Marker>,
     started: bool,
     ended: bool,
+    alloc: Global,
 }
 
 impl<T: Input> Engine<T> {
+    ghost use Rattle.std.specs.Prelude.{Err, false};
     ghost use Rattle.saphyr_scalar.specs.Seen.{Gives, Moves};
-    ghost use Rattle.saphyr_scanner.specs.Engine.{state, TakesFirst};
-    ghost use Rattle.saphyr_scanner.specs.Seen.{kind_of};
+    ghost use Rattle.saphyr_scanner.specs.Engine.{state};
+    ghost use Rattle.saphyr_scanner.specs.Seen.{kind_of, piece};
+    ghost use Rattle.saphyr_input.specs.Separation as separation;
     ghost use Rattle.saphyr_scalar.specs.declared.scalar.fault.Stop.TheVariants.{Refused};
 
     pub(crate) fn new(alloc: Global, input: T) -> Self
-        ensures { state result ≡ spec.start (T.rest input) }
+        ensures { state result ≡ spec_state.start (T.rest input) }
     {
         Engine {
             reader: Reader::new(input),
-            tokens: VecDeque::new(alloc),
+            queue: Queue::new(alloc),
+            level: Level {
+                context: Context::Block,
+                key: None,
+            },
+            outer: Vec::new(alloc),
+            required: false,
+            key_allowed: true,
+            adjacent: 0,
+            indent: 0,
+            deeper: false,
+            outer_indents: Vec::new(alloc),
+            comment: None,
             started: false,
             ended: false,
+            alloc,
         }
+    }
+
+    // Whether no flow collection is open.
+    fn in_block(&self) -> bool
+        ensures { result ≡ spec.in_block (state self.now).core }
+    {
+        self.level.context.is_block()
+    }
+
+    // A refusal at a place.
+    fn refuse(text: FaultText, mark: Marker) -> Stop
+        ensures { result ≡ Refused (record { text = text; mark = mark }) }
+    {
+        Stop::Refused(Refusal { text, mark })
+    }
+
+    // A refusal at the place that is reached.
+    fn refuse_here(&self, text: FaultText) -> Stop
+        ensures { result ≡ Refused (record { text = text; mark = (state self.now).core.cursor.mark }) }
+    {
+        Self::refuse(text, self.reader.mark())
+    }
+
+    // Puts a token from one place to another into the queue.
+    fn put(&mut self, start: Marker, end: Marker, kind: TokenType) -> Result<(), Stop>
+        ensures { Moves (λ _. state self.new) result (Ok (spec_state.acting (spec.from_to start end (kind_of kind)) (state self.old))) }
+    {
+        self.queue.put(Token {
+            span: Span::new(start, end),
+            kind,
+        })
     }
 
     // Puts a token without characters into the queue.
     fn put_empty(&mut self, mark: Marker, kind: TokenType) -> Result<(), Stop>
-        ensures { Moves (λ _. state self.new) result (Ok (spec.put_empty mark (kind_of kind) (state self.old))) }
+        ensures { Moves (λ _. state self.new) result (Ok (spec_state.acting (spec.at_mark mark (kind_of kind)) (state self.old))) }
     {
-        self.tokens.push_back(Token {
-            span: Span::empty(mark),
-            kind,
-        })?;
+        self.put(mark, mark, kind)
+    }
+
+    // Puts a token that ends here into the queue.
+    fn put_from(&mut self, start: Marker, kind: TokenType) -> Result<(), Stop>
+        ensures { Moves (λ _. state self.new) result (Ok (spec_state.acting (spec.up_to_here start (kind_of kind) (state self.old).core) (state self.old))) }
+    {
+        let end = self.reader.mark();
+        self.put(start, end, kind)
+    }
+
+    // Passes blanks and a comment, up to the end of the line.
+    fn separate(&mut self) -> Result<SkipTabs, Stop>
+        ensures { Moves (λ found. (found, state self.new)) result (spec_state.separated (passing.separate (state self.old).core) (state self.old)) }
+    {
+        Ok(self.reader.skip_ws_to_eol(SkipTabs::Yes)?)
+    }
+
+    // Passes what stands between two tokens.
+    #[tactic(auto, unfolding(crate::specs::Passing::pass_gap))]
+    fn pass_gap(&mut self) -> Result<(), Stop>
+        ensures { Moves (λ _. state self.new) result (spec_state.carried (passing.pass_gap (state self.old).core) (state self.old).queue) }
+    {
+        let least = self.least_column();
+        if skip_gap(&mut self.reader, least)? && self.in_block() {
+            self.key_allowed = true;
+        }
+        self.check_comment()
+    }
+
+    // Refuses a comment that ended a plain scalar, where the next line could go on with it.
+    #[tactic(auto, unfolding(crate::specs::Passing::check_comment))]
+    fn check_comment(&mut self) -> Result<(), Stop>
+        ensures { Moves (λ _. state self.new) result (spec_state.carried (passing.check_comment (state self.old).core) (state self.old).queue) }
+    {
+        let Some(comment) = self.comment.take() else {
+            return Ok(());
+        };
+        if self.goes_on_behind(comment) {
+            return Err(Self::refuse(FaultText::CommentInsideText, comment));
+        }
         Ok(())
     }
 
-    // A refusal at the place that is reached.
-    fn refusal(&self, text: FaultText) -> Stop
-        ensures { result ≡ Refused (record { text = text; mark = (state self.now).cursor.mark }) }
+    // Whether the next line could go on with a plain scalar that a comment ended.
+    #[tactic(auto, unfolding(crate::specs::Passing::goes_on_behind))]
+    fn goes_on_behind(&mut self, comment: Marker) -> bool
+        ensures value { result ≡ passing.goes_on_behind comment (state self.old).core }
+        ensures same { state self.new ≡ state self.old }
     {
-        Stop::Refused(Refusal {
-            text,
-            mark: self.reader.mark(),
-        })
-    }
-
-    // NUL, or the end of the text.
-    #[tactic(auto, unfolding(crate::specs::State::fetch_end))]
-    fn fetch_end(&mut self) -> Result<(), Stop>
-        requires { slice_index (state self.old).cursor.rest 0 ≡ 0 }
-        ensures { Moves (λ _. state self.new) result (spec.fetch_end (state self.old)) }
-    {
-        self.reader.load(1);
-        if self.reader.input().peek_opt().is_some() {
-            return Err(self.refusal(FaultText::UnprintableCharacter));
-        }
+        self.reader.load(4);
         let mark = self.reader.mark();
-        self.ended = true;
-        self.put_empty(end_mark(mark), TokenType::StreamEnd)
+        let input = self.reader.input();
+        self.in_block()
+            && mark.line.saturating_sub(comment.line) == 1
+            && (if self.deeper { self.indent < mark.col } else { self.indent <= mark.col })
+            && !input.next_is_z()
+            && !(mark.col == 0 && input.next_is_document_indicator())
+            && input.next_can_be_plain_scalar(false)
     }
-
-    /// Puts the next token into the queue.
-    #[tactic(auto, unfolding(crate::specs::State::fetch, crate::specs::State::fetch_at))]
-    fn fetch(&mut self) -> Result<(), Stop>
-        ensures { Moves (λ _. state self.new) result (spec.fetch (state self.old)) }
-    {
-        if !self.started {
-            self.started = true;
-            let mark = self.reader.mark();
-            return self.put_empty(mark, TokenType::StreamStart);
-        }
-        skip_gap(&mut self.reader);
-        let c = self.reader.look();
-        if c == '\0' {
-            return self.fetch_end();
-        }
-        if is_bom(c) && self.reader.mark().col > 0 {
-            return Err(self.refusal(FaultText::MisplacedByteOrderMark));
-        }
-        Err(self.refusal(FaultText::NotBuiltYet))
-    }
-
-    /// Has a token in the queue, unless all were handed out.
-    #[tactic(auto, unfolding(crate::specs::State::fill))]
-    pub(crate) fn fill(&mut self, limit: usize) -> Result<(), Stop>
-        ensures { Moves (λ _. state self.new) result (spec.fill limit (state self.old)) }
-    {
-        if self.tokens.is_empty() && !self.ended {
-            self.fetch()?;
-            if self.reader.mark().index > limit {
-                return Err(self.refusal(FaultText::TextTooLong));
-            }
-        }
-        Ok(())
-    }
-
-    /// Takes the first token off the queue.
-    pub(crate) fn take(&mut self) -> Option<Token>
-        ensures { TakesFirst result (state self.old) (state self.new) }
-    {
-        self.tokens.pop_front()
-    }
-}
-
-// Where the stream ends: at the end of the text, or on the next line where that ends no line.
-fn end_mark(mark: Marker) -> Marker
-    ensures { result ≡ spec.end_mark mark }
-{
-    if mark.col == 0 {
-        return mark;
-    }
-    Marker::new(mark.index, mark.line.saturating_add(1), 0)
 }

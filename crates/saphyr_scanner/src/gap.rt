@@ -1,27 +1,84 @@
-ghost use Rattle.std.specs.Prelude.{◌≡◌, false};
-ghost use Rattle.saphyr_scalar.specs.Seen.{state};
+ghost use Rattle.std.specs.Prelude.{◌≡◌, ◌||◌, false, slice_index};
+ghost use Rattle.saphyr_scalar.specs.Seen.{state, Gives};
 ghost use Rattle.saphyr_scanner.specs.Gap as spec;
 
-use saphyr_input::char_traits::{is_blank, is_break};
+use saphyr_input::char_traits::{is_blank, is_bom, is_break, is_z};
 use saphyr_input::input::Input;
-use saphyr_scalar::Reader;
+use saphyr_scalar::{FaultText, Reader, Refusal};
+
+// Whether a tab stands on the line where indentation does, with the next character.
+fn stands_behind_tab<T: Input>(reader: &Reader<T>, least: usize, tabbed: bool, c: char) -> bool
+    ensures { result ≡ spec.is_tab_indentation least (state reader.now).mark (state reader.now).blank_so_far c || tabbed }
+{
+    c == '\t' && reader.blank_so_far() && reader.mark().col < least || tabbed
+}
+
+// Behind a tab where indentation stands, nothing else may stand on the line.
+#[tactic(auto, unfolding(crate::specs::Gap::stop))]
+fn end_gap<T: Input>(
+    reader: &Reader<T>,
+    c: char,
+    broke: bool,
+    tabbed: bool,
+) -> Result<bool, Refusal>
+    requires { c ≡ slice_index (state reader.now).rest 0 }
+    ensures { Gives (λ broke. record { cursor = state reader.now; broke = broke }) result (spec.stop (state reader.now).mark (state reader.now).blank_so_far broke tabbed (state reader.now).rest) }
+{
+    let mark = reader.mark();
+    if tabbed && is_bom(c) {
+        let text = FaultText::MisplacedByteOrderMark;
+        return Err(Refusal { text, mark });
+    }
+    if tabbed && !is_z(c) {
+        let text = FaultText::TabInBlockIndentation;
+        return Err(Refusal { text, mark });
+    }
+    Ok(broke)
+}
 
 // Passes blanks, breaks and comments, and tells whether a break was met.
-pub(crate) fn skip_gap<T: Input>(reader: &mut Reader<T>) -> bool
-    ensures { record { cursor = state reader.new; broke = result } ≡ spec.gap_at false (state reader.old) }
+//
+// A tab left of the column `least` is refused where content stands behind it on its line.
+
+pub(crate) fn skip_gap<T: Input>(reader: &mut Reader<T>, least: usize) -> Result<bool, Refusal>
+    ensures { Gives (λ broke. record { cursor = state reader.new; broke = broke }) result (spec.pass_gap least (state reader.old)) }
 {
     let mut broke = false;
+    let mut tabbed = false;
     loop {
         let c = reader.look();
         if is_blank(c) {
+            tabbed = stands_behind_tab(reader, least, tabbed, c);
             reader.skip_blank();
         } else if is_break(c) {
             reader.skip_line_break();
             broke = true;
+            tabbed = false;
         } else if c == '#' {
             reader.skip_comment();
         } else {
-            return broke;
+            return end_gap(reader, c, broke, tabbed);
+        }
+    }
+}
+
+// Passes spaces, breaks and comments, and tells whether a space or a break was met.
+pub(crate) fn skip_spaces<T: Input>(reader: &mut Reader<T>) -> bool
+    ensures { record { cursor = state reader.new; space = result } ≡ spec.spaces_at false (state reader.old) }
+{
+    let mut space = false;
+    loop {
+        let c = reader.look();
+        if c == ' ' {
+            reader.skip_blank();
+            space = true;
+        } else if is_break(c) {
+            reader.skip_line_break();
+            space = true;
+        } else if c == '#' {
+            reader.skip_comment();
+        } else {
+            return space;
         }
     }
 }

@@ -1,11 +1,18 @@
 //! Laws of the definitions.
-ghost use Rattle.std.specs.Prelude.{List, codes, ◌∷◌, [], ℕ};
+ghost use Rattle.std.specs.Prelude.{◌≡◌, ◌≤◌, List, codes, ◌∷◌, [], ℕ, length};
 ghost use Rattle.saphyr_scanner.specs.Examples.{block_forest, block_tokens, json_forest, json_text, json_tokens};
-ghost use Rattle.saphyr_scanner.specs.Forest.{Forest, Primary, Shorthand};
+ghost use Rattle.saphyr_scanner.specs.Forest.{Forest, Primary, Shorthand, open_in_forest};
 ghost use Rattle.saphyr_scanner.specs.TagSpelling.{IsTag};
 ghost use Rattle.saphyr_scanner.specs.Json.{IsJson};
+ghost use Rattle.saphyr_scanner.specs.JsonTokens as json;
 ghost use Rattle.saphyr_scanner.specs.TokenGrammar.{Yields};
 ghost use Rattle.saphyr_scanner.specs.Tokens.{Kind};
+ghost use Rattle.saphyr_scanner.specs.Remaining.{Scans, scan};
+
+use saphyr_scalar::scalar::{
+    counts_each_double_quoted, reads_each_double_quoted, reads_each_plain_word, takes_anchor,
+    takes_block_scalar, takes_directive, takes_plain, takes_quoted, takes_tag,
+};
 
 /// A text of JSON stands for its forest.
 pub fn reads_json()
@@ -27,3 +34,25 @@ pub fn has_tokens()
 pub fn reads_tags()
     ensures { IsTag (Shorthand Primary (0xE9 ∷ [])) (codes "!%C3%A9") }
 {}
+
+/// These are tokens of a JSON text's forest: a pair's key and value each behind its token, a comma between
+/// entries, and no comma behind the last one.
+pub fn tells_json_tokens()
+    ensures { (forest : Forest) (text : List ℕ) → IsJson forest text → Yields forest (json.json_tokens forest) }
+{}
+
+/// Each text of JSON within the limit, with at most 255 collections open at once, gives the tokens of
+/// its forest, and no fault.
+pub fn scans_each_json()
+    ensures { (limit : ℕ) (forest : Forest) (text : List ℕ) → IsJson forest text → open_in_forest forest ≤ 255 → length text ≤ limit → Scans (json.json_tokens forest) (scan limit text) }
+{
+    reads_each_plain_word();
+    reads_each_double_quoted();
+    counts_each_double_quoted();
+    takes_plain();
+    takes_quoted();
+    takes_block_scalar();
+    takes_anchor();
+    takes_tag();
+    takes_directive();
+}

@@ -3,6 +3,7 @@
 
 mod engine;
 mod gap;
+mod queue;
 pub mod law;
 mod scanner;
 #[cfg(test)]

@@ -1,11 +1,14 @@
 ghost use Rattle.std.specs.Prelude.{◌≡◌};
-ghost use Rattle.saphyr_scanner.specs.State.{scan};
+ghost use Rattle.saphyr_scanner.specs.Remaining.{scan};
 ghost use Rattle.saphyr_scanner.specs.Seen.{Hands};
 
 use crate::engine::Engine;
 use crate::token::Token;
 use saphyr_input::input::Input;
 use saphyr_scalar::Stop;
+use saphyr_scalar::scalar::{
+    takes_anchor, takes_block_scalar, takes_directive, takes_plain, takes_quoted, takes_tag,
+};
 use std::alloc::Global;
 use std::marker::Model;
 
@@ -21,7 +24,7 @@ pub struct Scanner<T: Input> {
 
 impl<T: Input> Model for Scanner<T> {
     ghost use Rattle.saphyr_scanner.specs.Seen.{Remaining};
-    ghost use Rattle.saphyr_scanner.specs.State.{remaining};
+    ghost use Rattle.saphyr_scanner.specs.Remaining.{remaining};
     ghost use Rattle.saphyr_scanner.specs.Engine.{state};
 
     ghost Value = { Remaining };
@@ -47,7 +50,13 @@ impl<T: Input> Scanner<T> {
     pub fn next_token(&mut self) -> Result<Option<Token>, Stop>
         ensures { Hands result self.old self.new }
     {
+        takes_plain();
+        takes_quoted();
+        takes_block_scalar();
+        takes_anchor();
+        takes_tag();
+        takes_directive();
         self.engine.fill(self.limit)?;
-        Ok(self.engine.take())
+        self.engine.take()
     }
 }

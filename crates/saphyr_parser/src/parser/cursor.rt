@@ -1,8 +1,10 @@
 ghost use Rattle.std.specs.Prelude.{◌≡◌};
 ghost use Rattle.std.specs.Str.{chars};
-ghost use Rattle.saphyr_scanner.specs.State.{scan};
+ghost use Rattle.saphyr_scanner.specs.Remaining.{scan};
 ghost use Rattle.saphyr_parser.specs.Cursor as spec;
+ghost use Rattle.saphyr_parser.specs.Complete.{ReadsJson};
 
+use crate::law::gives_json;
 use crate::parser::event::Event;
 use crate::parser::fault::Fault;
 use crate::parser::reader::Reader;
@@ -10,6 +12,7 @@ use saphyr_input::StrInput;
 use saphyr_input::input::Input;
 use saphyr_scalar::Span;
 use saphyr_scanner::Scanner;
+use saphyr_scanner::law::scans_each_json;
 use std::alloc::Global;
 use std::marker::Model;
 
@@ -43,15 +46,19 @@ impl<'input, T: Input> Parser<'input, T> {
     /// The events of an input's text, which is refused past 4,294,967,295 characters.
     #[must_use]
     pub fn new(alloc: Global, src: T) -> Self
-        ensures { result ≡ spec.at_start (scan 4294967295 (T.rest src)) }
+        ensures decided { result ≡ spec.at_start (scan 4294967295 (T.rest src)) }
+        ensures complete { ReadsJson 4294967295 (T.rest src) result }
     {
         Parser::with_limit(alloc, src, MOST_CHARACTERS)
     }
 
     // The same with another bound on the number of characters.
     fn with_limit(alloc: Global, src: T, limit: usize) -> Self
-        ensures { result ≡ spec.at_start (scan limit (T.rest src)) }
+        ensures decided { result ≡ spec.at_start (scan limit (T.rest src)) }
+        ensures complete { ReadsJson limit (T.rest src) result }
     {
+        scans_each_json();
+        gives_json();
         Parser {
             reader: Reader::new(alloc, Scanner::new(alloc, src, limit)),
         }
@@ -90,7 +97,8 @@ impl<'input> Parser<'input, StrInput<'input>> {
     /// The events of a text in memory, which is refused past 4,294,967,295 characters.
     #[must_use]
     pub fn new_from_str(alloc: Global, value: &'input str) -> Self
-        ensures { result ≡ spec.at_start (scan 4294967295 (chars value.now)) }
+        ensures decided { result ≡ spec.at_start (scan 4294967295 (chars value.now)) }
+        ensures complete { ReadsJson 4294967295 (chars value.now) result }
     {
         Parser::new(alloc, StrInput::new(value))
     }

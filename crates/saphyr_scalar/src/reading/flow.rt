@@ -22,7 +22,7 @@ pub enum Quote {
 
 impl Quote {
     // The character that a quoted scalar begins and ends with.
-    fn mark(self) -> char
+    pub(crate) fn mark(self) -> char
         ensures { result ≡ spec.mark self }
     {
         match self {

@@ -78,7 +78,6 @@ pub enum FaultText {
     SequenceEntryExpected,
     UndeclaredHandle,
     TextTooLong,
-    NotBuiltYet,
 }
 
 impl FaultText {
@@ -191,7 +190,6 @@ impl FaultText {
                 "while parsing a block collection, did not find expected '-' indicator",
             FaultText::UndeclaredHandle => "the handle wasn't declared",
             FaultText::TextTooLong => "text longer than 4294967295 characters",
-            FaultText::NotBuiltYet => "not built yet",
         }
     }
 }

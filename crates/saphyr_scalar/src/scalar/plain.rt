@@ -1,18 +1,34 @@
-ghost use Rattle.std.specs.Prelude.{◌≡◌, ℕ, ◌<◌, ◌≤◌, List, length, slice_index, string_bytes, Ok};
+ghost use Rattle.std.specs.Prelude.{◌≡◌, ℕ, ◌<◌, ◌≤◌, List, length, slice_index, string_bytes, Ok, false, true};
+ghost use Rattle.saphyr_input.specs.Places.{is_blank_or_break};
 ghost use Rattle.saphyr_scalar.specs.Plain as spec;
+
+#[cfg(test)]
+mod tests;
 
 use crate::scalar::fault::{FaultText, Refusal, Stop};
 use crate::scalar::position::Marker;
 use crate::scalar::reader::Reader;
-use saphyr_input::char_traits::{is_blank_or_breakz, is_break, is_flow, is_z};
+use saphyr_input::char_traits::{is_blank, is_blank_or_breakz, is_bom, is_break, is_flow, is_z};
 use saphyr_input::input::Input;
 use std::alloc::Global;
 
-/// The text of a plain scalar, and the place behind its last word.
+/// The text of a plain scalar, and how it ended.
 #[derive(Debug, PartialEq, Eq, Drop)]
 pub struct PlainScalar {
     pub text: String,
+    /// The place behind its last word.
     pub end: Marker,
+    /// The `#` of a comment that ended the scalar outside flow, where the next line is not to go
+    /// on with it.
+    pub comment: Option<Marker>,
+}
+
+// Whether a character is a blank or a break.
+#[inline]
+fn is_white(c: char) -> bool
+    ensures { result ≡ is_blank_or_break c }
+{
+    is_blank(c) || is_break(c)
 }
 
 impl<T: Input> Reader<T> {
@@ -34,19 +50,29 @@ impl<T: Input> Reader<T> {
                 mark: self.mark,
             });
         }
-        Ok(self.plain_word_goes_on(in_flow))
+        Ok(self.is_in_plain_word(c, in_flow))
     }
 
-    // Whether a word goes on with the first character.
+    // Whether a word goes on with c, the first character.
     #[inline]
-    #[tactic(auto, unfolding(crate::specs::Plain::in_word))]
-    fn plain_word_goes_on(&mut self, in_flow: bool) -> bool
+    #[tactic(auto, using(crate::proofs::Words::letter_in_word), unfolding(crate::specs::Plain::in_word))]
+    fn is_in_plain_word(&mut self, c: char, in_flow: bool) -> bool
+        requires first { c ≡ slice_index (state self.old).rest 0 }
+        requires loaded { 1 ≤ loaded self.old }
         ensures value { result ≡ spec.in_word in_flow (state self.old).rest }
         ensures same { state self.new ≡ state self.old }
-        ensures loaded { 2 ≤ loaded self.new }
+        ensures loaded { 1 ≤ loaded self.new }
     {
-        self.load(2);
-        !self.input.next_is_blank_or_breakz() && self.input.next_can_be_plain_scalar(in_flow)
+        // Most characters of words are small letters.
+        if matches!(c, 'a'..='z') {
+            return true;
+        }
+        if c == ':' {
+            self.load(2);
+            let next = self.input.peek_nth(1);
+            return !(is_blank_or_breakz(next) || in_flow && is_flow(next));
+        }
+        !is_blank_or_breakz(c) && !is_bom(c) && !(in_flow && is_flow(c))
     }
 
     // Moves the rest of a word to the end of a text.
@@ -54,84 +80,191 @@ impl<T: Input> Reader<T> {
         ensures { Moves (λ _. (string_bytes text.new, state self.new)) result (Ok (spec.with_word in_flow (string_bytes text.old) (state self.old))) }
     {
         let mut count = 0;
-        while self.plain_word_goes_on(in_flow) {
-            let c = self.input.peek();
+        let mut c = self.look();
+        while self.is_in_plain_word(c, in_flow) {
             text.push(c)?;
             self.input.skip();
             count += 1;
+            c = self.look();
         }
         self.mark = self.mark.along(count);
         self.blank_so_far = false;
         Ok(())
     }
 
-    // Whether the line that begins here ends a plain scalar of the lines before.
-    #[tactic(auto, unfolding(crate::specs::Plain::line_ends_plain))]
-    fn line_ends_plain(&mut self, in_flow: bool, indent: usize) -> bool
-        ensures value { result ≡ spec.line_ends_plain in_flow indent (state self.old).rest }
+    // Whether the content of a line, behind its blanks, may stand there: where a tab stands in the
+    // indentation, only a comment may.
+    #[tactic(auto, unfolding(crate::specs::Plain::may_stand))]
+    fn check_plain_tab(&mut self, start: Marker, tabbed: bool) -> Result<(), Refusal>
+        ensures { Gives (λ _. state self.new) result (spec.may_stand start tabbed (state self.old)) }
+    {
+        if !tabbed {
+            return Ok(());
+        }
+        let c = self.look();
+        if is_bom(c) {
+            return Err(Refusal {
+                text: FaultText::MisplacedByteOrderMark,
+                mark: self.mark,
+            });
+        }
+        if c != '#' && !is_z(c) {
+            return Err(Refusal {
+                text: FaultText::TabInsidePlain,
+                mark: start,
+            });
+        }
+        Ok(())
+    }
+
+    // Takes off a blank or a break of the lines behind a word, with a line feed for the break at
+    // the end of a text. Gives whether a tab stands in the indentation of the line that is reached.
+    #[tactic(auto, using(crate::proofs::PlainLines::some_blank), unfolding(crate::specs::Plain::pass_white))]
+    fn skip_plain_white(
+        &mut self,
+        indent: usize,
+        tabbed: bool,
+        feeds: &mut String,
+    ) -> Result<bool, Stop>
+        requires { is_blank_or_break (slice_index (state self.old).rest 0) ≡ true }
+        ensures { Moves (λ tabbed. (tabbed, string_bytes feeds.new, state self.new)) result (Ok (spec.pass_white indent tabbed (string_bytes feeds.old) (state self.old))) }
+    {
+        let c = self.look();
+        if is_break(c) {
+            self.skip_line_break();
+            feeds.push('\n')?;
+            return Ok(false);
+        }
+        let in_indentation = c == '\t' && self.mark.col < indent;
+        self.skip_blank();
+        Ok(tabbed || in_indentation)
+    }
+
+    // Takes off blanks and breaks from the start of a line on, with a line feed for each line of
+    // them at the end of a text. Gives whether a tab stands in the indentation of the line that is
+    // reached, which is a comment or nothing then.
+    fn skip_empty_lines(
+        &mut self,
+        indent: usize,
+        start: Marker,
+        feeds: &mut String,
+    ) -> Result<bool, Stop>
+        requires { (state self.old).blank_so_far ≡ true }
+        ensures { Moves (λ tabbed. record { text = string_bytes feeds.new; tabbed = tabbed; behind = state self.new }) result (spec.lines indent start false (string_bytes feeds.old) (state self.old).mark (state self.old).rest) }
+    {
+        let mut tabbed = false;
+        let mut c = self.look();
+        while is_white(c) {
+            tabbed = self.skip_plain_white(indent, tabbed, feeds)?;
+            c = self.look();
+        }
+        self.check_plain_tab(start, tabbed)?;
+        Ok(tabbed)
+    }
+
+    // Takes off what stands behind a word, and puts what it reads as between two words in place of
+    // a text. Gives whether a tab stands in the indentation of the line that is reached.
+    #[tactic(auto, unfolding(crate::specs::Plain::gap, crate::specs::Plain::gap_from))]
+    fn read_plain_gap(
+        &mut self,
+        indent: usize,
+        start: Marker,
+        gap: &mut String,
+    ) -> Result<bool, Stop>
+        ensures { Moves (λ tabbed. record { text = string_bytes gap.new; tabbed = tabbed; behind = state self.new }) result (spec.gap indent start (state self.old)) }
+    {
+        gap.clear();
+        self.read_blanks(gap)?;
+        if !is_break(self.look()) {
+            return Ok(false);
+        }
+        gap.clear();
+        self.skip_line_break();
+        let tabbed = self.skip_empty_lines(indent, start, gap)?;
+        if gap.is_empty() {
+            gap.push(' ')?;
+        }
+        Ok(tabbed)
+    }
+
+    // Whether another word of a plain scalar begins behind a gap.
+    #[tactic(auto, unfolding(crate::specs::Plain::goes_on))]
+    fn plain_goes_on(&mut self, in_flow: bool, indent: usize) -> Result<bool, Refusal>
+        ensures { Gives (λ goes_on. (goes_on, state self.new)) result (spec.goes_on in_flow indent (state self.old)) }
+    {
+        if self.blank_so_far && !in_flow && self.mark.col < indent {
+            return Ok(false);
+        }
+        self.plain_word_starts(in_flow)
+    }
+
+    // The comment behind a scalar that keeps it from going on in the next line.
+    #[tactic(auto, unfolding(crate::specs::Plain::comment_of))]
+    fn plain_comment(&mut self, in_flow: bool, tabbed: bool) -> Option<Marker>
+        ensures value { result ≡ spec.comment_of in_flow tabbed (state self.old) }
         ensures same { state self.new ≡ state self.old }
     {
-        self.load(4);
-        let c = self.input.peek();
-        is_z(c)
-            || c == '#'
-            || self.input.next_is_document_indicator()
-            || !is_blank_or_breakz(c)
-                && (!in_flow && indent > 0 || !self.input.next_can_be_plain_scalar(in_flow))
+        if !in_flow && self.look() == '#' && (tabbed || !self.blank_so_far) {
+            Some(self.mark)
+        } else {
+            None
+        }
     }
 
-    // Takes the line's break off, where the scalar ends with its line.
-    #[tactic(auto, unfolding(crate::specs::Plain::behind_line))]
-    fn end_plain_line(&mut self, in_flow: bool, indent: usize) -> Result<(), Refusal>
-        ensures { Gives (λ _. state self.new) result (spec.behind_line in_flow indent (state self.old)) }
+    /// Refuses content inside flow that begins left of `indent`, the first column to the right of
+    /// the enclosing block collection (YAML 1.2.2, 7.4): what the caller asks before
+    /// [`read_plain`](Reader::read_plain).
+    #[tactic(auto, unfolding(crate::specs::Plain::flow_indented))]
+    pub fn check_flow_indentation(&self, indent: usize) -> Result<(), Refusal>
+        ensures { Gives (λ _. state self.now) result (spec.flow_indented indent (state self.now)) }
     {
-        if !is_break(self.look()) {
-            return Ok(());
+        if self.mark.col < indent {
+            return Err(Refusal {
+                text: FaultText::FlowIndentation,
+                mark: self.mark,
+            });
         }
-        self.skip_line_break();
-        if self.line_ends_plain(in_flow, indent) {
-            return Ok(());
-        }
-        Err(Refusal {
-            text: FaultText::NotBuiltYet,
-            mark: self.mark,
-        })
+        Ok(())
     }
 
-    /// Takes off a plain scalar of one line, inside flow or outside, and the blanks and the break
-    /// behind it.
+    /// Takes off a plain scalar, inside flow or outside, and the blanks and breaks behind it
+    /// (YAML 1.2.2, 7.3.3), and gives its text with its lines folded (6.5).
     ///
     /// `indent` is the first column to the right of the enclosing block collection, 0 where there
-    /// is none. A scalar that may go on in the next line is refused there.
+    /// is none. The scalar ends before `: `, a comment, a document marker, NUL, a byte order mark
+    /// and the end, inside flow before a flow indicator and a colon before one, and outside flow
+    /// before a line whose content stands left of `indent`.
+    ///
+    /// Inside flow a `-` before a flow indicator is refused where it stands. In a line behind the
+    /// first, a tab left of `indent` may stand only before a comment or nothing: another text is
+    /// refused at the scalar's start, and a byte order mark where it stands. Where no word of a
+    /// scalar begins, that is refused.
     pub fn read_plain(
         &mut self,
         alloc: Global,
         in_flow: bool,
         indent: usize,
     ) -> Result<PlainScalar, Stop>
-        ensures { Moves (λ scalar. (string_bytes scalar.text, scalar.end, state self.new)) result (spec.plain in_flow indent (state self.old)) }
+        ensures { Moves (λ scalar. (string_bytes scalar.text, scalar.end, scalar.comment, state self.new)) result (spec.plain in_flow indent (state self.old)) }
     {
         let start = self.mark;
-        let mut text = String::new(alloc);
-        let mut blanks = String::new(alloc);
-        let mut end = start;
-        loop {
-            self.read_blanks(&mut blanks)?;
-            if !self.plain_word_starts(in_flow)? {
-                break;
-            }
-            text.push_str(blanks.as_str())?;
-            blanks.clear();
-            self.read_plain_word(in_flow, &mut text)?;
-            end = self.mark;
-        }
-        if text.is_empty() {
+        if !self.plain_word_starts(in_flow)? {
             return Err(Stop::Refused(Refusal {
                 text: FaultText::PlainEnd,
                 mark: start,
             }));
         }
-        self.end_plain_line(in_flow, indent)?;
-        Ok(PlainScalar { text, end })
+        let mut text = String::new(alloc);
+        let mut gap = String::new(alloc);
+        loop {
+            self.read_plain_word(in_flow, &mut text)?;
+            let end = self.mark;
+            let tabbed = self.read_plain_gap(indent, start, &mut gap)?;
+            if !self.plain_goes_on(in_flow, indent)? {
+                let comment = self.plain_comment(in_flow, tabbed);
+                return Ok(PlainScalar { text, end, comment });
+            }
+            text.push_str(gap.as_str())?;
+        }
     }
 }

@@ -1,123 +1,52 @@
-ghost use Rattle.std.specs.Prelude.{◌≡◌, ℕ, ◌<◌, ◌≤◌, List, length, slice_index, string_bytes, Ok, OnOk, IsTrue};
+ghost use Rattle.std.specs.Prelude.{◌≡◌, ℕ, Bool, true, false, ◌==◌, ◌++◌, ◌<◌, ◌≤◌, length, slice_index, string_bytes, encode_utf8_all, Ok, OnOk, IsTrue};
 ghost use Rattle.saphyr_input.specs.Classes as class;
 ghost use Rattle.saphyr_scalar.specs.Quoted as spec;
+ghost use Rattle.saphyr_scalar.specs.FlowReading as flow;
 
+use crate::reading::Quote;
 use crate::scalar::fault::{FaultText, Refusal, Stop};
 use crate::scalar::position::Marker;
 use crate::scalar::reader::Reader;
-use saphyr_input::char_traits::{as_hex, is_blank, is_blank_or_breakz, is_break, is_hex};
+use saphyr_input::char_traits::{is_blank, is_blank_or_breakz, is_break, is_z};
 use saphyr_input::input::Input;
-use std::alloc::Global;
+use std::alloc::{AllocError, Global};
 
-// Whether a character of a double quoted text stands for itself and is no blank.
+// Whether a character between the quotes stands for itself and is no blank.
 #[inline]
 #[tactic(auto, unfolding(crate::specs::Quoted::is_literal))]
-fn is_literal(c: char) -> bool
-    ensures { result ≡ spec.is_literal c }
+fn is_literal(quote: Quote, c: char) -> bool
+    ensures { result ≡ spec.is_literal quote c }
 {
-    !is_blank_or_breakz(c) && c != '"' && c != '\\'
+    let special = match quote {
+        Quote::Single => c == '\'',
+        Quote::Double => c == '"' || c == '\\',
+    };
+    !is_blank_or_breakz(c) && !special
 }
 
-// What an escape of one letter stands for.
-#[tactic(auto, unfolding(crate::specs::Quoted::simple_escape))]
-fn simple_escape(letter: char) -> Option<char>
-    ensures { result ≡ spec.simple_escape letter }
+// Moves what a line break and the empty lines behind it read as to the end of a text.
+fn push_folded_break(text: &mut String, escaped: bool, empty_lines: usize) -> Result<(), AllocError>
+    ensures { OnOk result (string_bytes text.new ≡ string_bytes text.old ++ encode_utf8_all (spec.folded_break escaped empty_lines)) }
 {
-    match letter {
-        '0' => Some('\0'),
-        'a' => Some('\u{07}'),
-        'b' => Some('\u{08}'),
-        't' | '\t' => Some('\t'),
-        'n' => Some('\n'),
-        'v' => Some('\u{0B}'),
-        'f' => Some('\u{0C}'),
-        'r' => Some('\r'),
-        'e' => Some('\u{1B}'),
-        ' ' => Some(' '),
-        '"' => Some('"'),
-        '/' => Some('/'),
-        '\\' => Some('\\'),
-        'N' => Some('\u{85}'),
-        '_' => Some('\u{A0}'),
-        'L' => Some('\u{2028}'),
-        'P' => Some('\u{2029}'),
-        _ => None,
+    if !escaped && empty_lines == 0 {
+        return text.push(' ');
     }
-}
-
-// How many hexadecimal digits follow the letter of an escape.
-fn digit_count(letter: char) -> usize
-    ensures { result ≡ spec.digit_count letter }
-{
-    match letter {
-        'x' => 2,
-        'u' => 4,
-        'U' => 8,
-        _ => 0,
+    for _ in 0..empty_lines {
+        text.push('\n')?;
     }
+    Ok(())
 }
 
 impl<T: Input> Reader<T> {
     ghost use Rattle.saphyr_scalar.specs.Seen.{state, Gives, Moves, ReadsOn};
 
-    // Takes off so many hexadecimal digits, and gives what they stand for.
-    #[tactic(auto, using(crate::proofs::Escapes::digits_stop))]
-    fn read_digits(&mut self, count: usize, start: Marker) -> Result<u32, Refusal>
-        requires { count ≤ 8 }
-        ensures { Gives (λ v. (v, state self.new)) result (spec.digits start count 0 (state self.old)) }
-    {
-        let mut value = 0;
-        for _ in 0..count {
-            let c = self.look();
-            if !is_hex(c) {
-                return Err(Refusal {
-                    text: FaultText::HexadecimalDigitExpected,
-                    mark: start,
-                });
-            }
-            self.skip_non_blank();
-            value = value * 16 + as_hex(c);
-        }
-        Ok(value)
-    }
-
-    // Takes an escape off, from its backslash on, and gives the character that it stands for.
-    #[tactic(auto, using(crate::proofs::Escapes::letter_left, crate::proofs::Escapes::digits_left, crate::proofs::Escapes::count_small), unfolding(crate::specs::Quoted::escape, crate::specs::Quoted::escape_of, crate::specs::Quoted::numbered, crate::specs::Quoted::character))]
-    fn read_escape(&mut self, start: Marker) -> Result<char, Refusal>
-        requires { slice_index (state self.old).rest 0 ≡ 92 }
-        ensures { Gives (λ c. (c, state self.new)) result (spec.escape start (state self.old)) }
-    {
-        self.load(2);
-        let letter = self.input.peek_nth(1);
-        if let Some(c) = simple_escape(letter) {
-            self.skip_n_non_blank(2);
-            return Ok(c);
-        }
-        let count = digit_count(letter);
-        if count == 0 {
-            return Err(Refusal {
-                text: FaultText::UnknownEscape,
-                mark: start,
-            });
-        }
-        self.skip_n_non_blank(2);
-        let value = self.read_digits(count, start)?;
-        match char::from_u32(value) {
-            Some(c) => Ok(c),
-            None => Err(Refusal {
-                text: FaultText::EscapedCodePoint,
-                mark: start,
-            }),
-        }
-    }
-
     // Moves the characters that stand for themselves to the end of a text.
-    fn read_literals(&mut self, text: &mut String) -> Result<(), Stop>
-        ensures { Moves (λ _. (string_bytes text.new, state self.new)) result (Ok (spec.with_run spec.is_literal (string_bytes text.old) (state self.old))) }
+    fn read_literals(&mut self, quote: Quote, text: &mut String) -> Result<(), Stop>
+        ensures { Moves (λ _. (string_bytes text.new, state self.new)) result (Ok (spec.with_run (spec.is_literal quote) (string_bytes text.old) (state self.old))) }
     {
         let mut count = 0;
         let mut c = self.input.look_ch();
-        while is_literal(c) {
+        while is_literal(quote, c) {
             text.push(c)?;
             self.input.skip();
             count += 1;
@@ -145,62 +74,212 @@ impl<T: Input> Reader<T> {
         Ok(())
     }
 
-    // Moves what stands up to a blank, a break, the closing quote, NUL or the end to the end of a
-    // text, with its escapes resolved.
-    fn read_quoted_word(&mut self, start: Marker, text: &mut String) -> Result<(), Stop>
-        ensures same { ReadsOn result (spec.with_front (string_bytes text.old) (spec.inside_at start (state self.old))) (spec.with_front (string_bytes text.new) (spec.inside_at start (state self.new))) }
-        ensures ended { OnOk result (IsTrue (spec.ends_word (slice_index (state self.new).rest 0))) }
+    // Takes off an escape, or a quote that two single ones stand for, if one is next.
+    #[tactic(auto, unfolding(crate::specs::Quoted::special))]
+    fn read_quoted_special(&mut self, quote: Quote, start: Marker) -> Result<Option<char>, Refusal>
+        ensures { Gives (λ c. (c, state self.new)) result (spec.special quote start (state self.old)) }
+    {
+        self.load(2);
+        match quote {
+            Quote::Single => {
+                if !self.input.next_2_are('\'', '\'') {
+                    return Ok(None);
+                }
+                self.skip_n_non_blank(2);
+                Ok(Some('\''))
+            }
+            Quote::Double => {
+                if !self.input.next_char_is('\\') || is_break(self.input.peek_nth(1)) {
+                    return Ok(None);
+                }
+                Ok(Some(self.read_escape(start)?))
+            }
+        }
+    }
+
+    // Moves what stands up to a blank, a break, escaped or not, the closing quote, NUL or the end to
+    // the end of a text, with its escapes resolved.
+    fn read_quoted_word(
+        &mut self,
+        quote: Quote,
+        start: Marker,
+        text: &mut String,
+    ) -> Result<(), Stop>
+        ensures same { (indent : ℕ) → ReadsOn result (spec.with_front (string_bytes text.old) (spec.inside_at quote indent start spec.no_gap (state self.old))) (spec.with_front (string_bytes text.new) (spec.inside_at quote indent start spec.no_gap (state self.new))) }
+        ensures ended { OnOk result (IsTrue (spec.ends_word quote (state self.new).rest)) }
         ensures shorter { OnOk result (length (state self.new).rest ≤ length (state self.old).rest) }
     {
         loop {
-            self.read_literals(text)?;
-            if self.look() != '\\' {
+            self.read_literals(quote, text)?;
+            let Some(c) = self.read_quoted_special(quote, start)? else {
                 return Ok(());
-            }
-            self.load(2);
-            if is_break(self.input.peek_nth(1)) {
-                return Err(Stop::Refused(Refusal {
-                    text: FaultText::NotBuiltYet,
-                    mark: self.mark,
-                }));
-            }
-            let c = self.read_escape(start)?;
+            };
             text.push(c)?;
         }
     }
 
-    /// Takes off a double quoted scalar of one line, from its opening quote to its closing one, and
-    /// gives its text.
-    ///
-    /// Faults in escapes, and a text that ends before the scalar does, are refused at its opening
-    /// quote, and a line break where it stands.
-    pub fn read_double_quoted(&mut self, alloc: Global) -> Result<String, Stop>
-        requires { slice_index (state self.old).rest 0 ≡ 34 }
-        ensures { Moves (λ text. (string_bytes text, state self.new)) result (spec.double_quoted (state self.old)) }
+    // Takes off the empty lines, and the blanks before what stands behind them, and counts those
+    // lines.
+    fn skip_quoted_lines(&mut self, indent: usize) -> Result<usize, Refusal>
+        ensures same { (quote : Quote) → (start : Marker) → (escaped : Bool) → spec.Leads result (λ n. spec.inside_at quote indent start (spec.over_lines escaped n) (state self.new)) (spec.inside_at quote indent start (spec.over_lines escaped 0) (state self.old)) }
+        ensures no_blank { OnOk result (class.is_blank (slice_index (state self.new).rest 0) ≡ false) }
+        ensures no_break { OnOk result (class.is_break (slice_index (state self.new).rest 0) ≡ false) }
+        ensures shorter { OnOk result (length (state self.new).rest ≤ length (state self.old).rest) }
+    {
+        let mut count = 0;
+        loop {
+            let c = self.look();
+            if is_break(c) {
+                self.skip_line_break();
+                count += 1;
+            } else if is_blank(c) {
+                if c == '\t' && self.mark.col < indent {
+                    return Err(Refusal {
+                        text: FaultText::TabAsIndentation,
+                        mark: self.mark,
+                    });
+                }
+                self.skip_blank();
+            } else {
+                return Ok(count);
+            }
+        }
+    }
+
+    // Whether a word, or the closing quote, may stand here on a later line.
+    #[tactic(auto, unfolding(crate::specs::Quoted::begin_word))]
+    fn begin_quoted_word(&mut self, indent: usize, start: Marker) -> Result<(), Refusal>
+        ensures { Gives (λ _. state self.new) result (spec.begin_word indent start (state self.old)) }
+    {
+        self.load(4);
+        let text = if self.mark.col == 0 && self.input.next_is_document_indicator() {
+            FaultText::DocumentIndicatorInsideQuotes
+        } else if self.input.next_is_z() {
+            FaultText::EndInsideQuotes
+        } else if self.mark.col < indent {
+            FaultText::QuotedIndentation
+        } else {
+            return Ok(());
+        };
+        Err(Refusal { text, mark: start })
+    }
+
+    // Takes off the empty lines behind a break, and the blanks before what stands behind them, and
+    // moves what the break and they read as to the end of a text.
+    fn read_quoted_lines(
+        &mut self,
+        escaped: bool,
+        indent: usize,
+        start: Marker,
+        text: &mut String,
+    ) -> Result<(), Stop>
+        ensures same { (quote : Quote) → ReadsOn result (spec.with_front (string_bytes text.old) (spec.inside_at quote indent start (spec.over_lines escaped 0) (state self.old))) (spec.with_front (string_bytes text.new) (spec.inside_at quote indent start spec.no_gap (state self.new))) }
+        ensures shorter { OnOk result (length (state self.new).rest ≤ length (state self.old).rest) }
+    {
+        let empty_lines = self.skip_quoted_lines(indent)?;
+        self.begin_quoted_word(indent, start)?;
+        push_folded_break(text, escaped, empty_lines)?;
+        Ok(())
+    }
+
+    // Takes off an escaped break and what stands behind it, up to the next word or the closing
+    // quote, and moves what it reads as to the end of a text.
+    fn read_escaped_break(
+        &mut self,
+        quote: Quote,
+        indent: usize,
+        start: Marker,
+        text: &mut String,
+    ) -> Result<(), Stop>
+        requires { IsTrue (spec.is_escaped_break quote (state self.old).rest) }
+        ensures same { ReadsOn result (spec.with_front (string_bytes text.old) (spec.inside_at quote indent start spec.no_gap (state self.old))) (spec.with_front (string_bytes text.new) (spec.inside_at quote indent start spec.no_gap (state self.new))) }
+        ensures shorter { OnOk result (length (state self.new).rest < length (state self.old).rest) }
+    {
+        self.skip_non_blank();
+        self.skip_line_break();
+        if self.look() == quote.mark() {
+            return Ok(());
+        }
+        self.read_quoted_lines(true, indent, start, text)
+    }
+
+    // Takes off what stands between two words, up to the next word or the closing quote, and moves
+    // what it reads as to the end of a text.
+    fn read_quoted_gap(
+        &mut self,
+        quote: Quote,
+        indent: usize,
+        start: Marker,
+        blanks: &mut String,
+        text: &mut String,
+    ) -> Result<(), Stop>
+        requires ended { IsTrue (spec.ends_word quote (state self.old).rest) }
+        requires open { (slice_index (state self.old).rest 0 == flow.mark quote) ≡ false }
+        ensures same { ReadsOn result (spec.with_front (string_bytes text.old) (spec.inside_at quote indent start spec.no_gap (state self.old))) (spec.with_front (string_bytes text.new) (spec.inside_at quote indent start spec.no_gap (state self.new))) }
+        ensures shorter { OnOk result (length (state self.new).rest < length (state self.old).rest) }
+    {
+        if self.look() == '\\' {
+            return self.read_escaped_break(quote, indent, start, text);
+        }
+        blanks.clear();
+        self.read_blanks(blanks)?;
+        let c = self.look();
+        if is_break(c) {
+            self.skip_line_break();
+            return self.read_quoted_lines(false, indent, start, text);
+        }
+        if is_z(c) {
+            return Err(Stop::Refused(Refusal {
+                text: FaultText::EndInsideQuotes,
+                mark: start,
+            }));
+        }
+        text.push_str(blanks.as_str())?;
+        Ok(())
+    }
+
+    // Takes off a quoted scalar, from its opening quote to its closing one, and gives its text.
+    fn read_quoted(&mut self, alloc: Global, quote: Quote, indent: usize) -> Result<String, Stop>
+        requires { slice_index (state self.old).rest 0 ≡ flow.mark quote }
+        ensures { Moves (λ text. (string_bytes text, state self.new)) result (spec.quoted quote indent (state self.old)) }
     {
         let start = self.mark;
         self.skip_non_blank();
         let mut text = String::new(alloc);
+        let mut blanks = String::new(alloc);
         loop {
-            self.read_quoted_word(start, &mut text)?;
-            match self.look() {
-                '"' => break,
-                '\0' => {
-                    return Err(Stop::Refused(Refusal {
-                        text: FaultText::EndInsideQuotes,
-                        mark: start,
-                    }));
-                }
-                c if is_break(c) => {
-                    return Err(Stop::Refused(Refusal {
-                        text: FaultText::NotBuiltYet,
-                        mark: self.mark,
-                    }));
-                }
-                _ => self.read_blanks(&mut text)?,
+            self.read_quoted_word(quote, start, &mut text)?;
+            if self.look() == quote.mark() {
+                break;
             }
+            self.read_quoted_gap(quote, indent, start, &mut blanks, &mut text)?;
         }
         self.skip_non_blank();
         Ok(text)
+    }
+
+    /// Takes off a double quoted scalar, from its opening quote to its closing one, and gives its
+    /// text: escapes are replaced, and lines are folded (YAML 1.2.2, 7.3.1).
+    ///
+    /// `indent` is the column that later lines have to reach. Refused at the opening quote are
+    /// faults in escapes, a later line that begins left of that column or with a document marker,
+    /// and a text that ends before the scalar does. A tab left of the column is refused where it
+    /// stands.
+    pub fn read_double_quoted(&mut self, alloc: Global, indent: usize) -> Result<String, Stop>
+        requires { slice_index (state self.old).rest 0 ≡ 34 }
+        ensures { Moves (λ text. (string_bytes text, state self.new)) result (spec.double_quoted indent (state self.old)) }
+    {
+        self.read_quoted(alloc, Quote::Double, indent)
+    }
+
+    /// Takes off a single quoted scalar, from its opening quote to its closing one, and gives its
+    /// text: `''` is a quote, and lines are folded (YAML 1.2.2, 7.3.2).
+    ///
+    /// It is refused as a double quoted one is, but for the faults in escapes.
+    pub fn read_single_quoted(&mut self, alloc: Global, indent: usize) -> Result<String, Stop>
+        requires { slice_index (state self.old).rest 0 ≡ 39 }
+        ensures { Moves (λ text. (string_bytes text, state self.new)) result (spec.single_quoted indent (state self.old)) }
+    {
+        self.read_quoted(alloc, Quote::Single, indent)
     }
 }

@@ -50,7 +50,8 @@ impl<T: Input> Reader<T> {
     /// The place that is reached.
     #[inline]
     pub fn mark(&self) -> Marker
-        ensures { result ≡ (state self.now).mark }
+        ensures value { result ≡ (state self.now).mark }
+        ensures near { result.col + length (state self.now).rest < 2 ^ 64 }
     {
         self.mark
     }

@@ -3,8 +3,8 @@ use Rattle.saphyr_scalar.specs.Seen.{state}
 use Rattle.saphyr_scanner.specs.Gap as spec
 use Rattle.saphyr_scanner.proofs.gap.skip_gap.Given as goal
 
-abbrev pub invariant-loop-c : goal.invariant-loop-c
-invariant-loop-c g l = spec.gap_at l.broke (state l.reader) ≡ spec.gap_at false (state l.fn.reader)
+abbrev pub invariant-loop-reader : goal.invariant-loop-reader
+invariant-loop-reader g l = spec.gap_at l.least l.broke l.tabbed (state l.reader) ≡ spec.gap_at l.least false false (state l.fn.reader)
 
-abbrev pub decreases-loop-c : goal.decreases-loop-c
-decreases-loop-c g l = length (state l.reader).rest
+abbrev pub decreases-loop-reader : goal.decreases-loop-reader
+decreases-loop-reader g l = length (state l.reader).rest

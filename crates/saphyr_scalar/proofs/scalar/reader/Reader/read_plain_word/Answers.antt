@@ -7,37 +7,41 @@ use Rattle.saphyr_scalar.proofs.scalar.reader.Reader.read_plain_word.Goals as go
 
 pub overflow_add-count : goal.overflow_add-count
 overflow_add-count g c =
-    let here = state c.loop-self.self in
-    let goes : spec.in_word c.args.in_flow here.rest ≡ true = sym c.plain_word_goes_on.ensures.value ∙ c.loop-self-test.true in
-    omega (arith, word_left c.args.in_flow here.rest goes, c.loop-self.invariant.ran.total, c.args.self.now.fits)
+    let here = state c.loop-c.self in
+    let goes : spec.in_word c.args.in_flow here.rest ≡ true = sym c.is_in_plain_word.ensures.value ∙ c.loop-c-test.true in
+    omega (arith, word_left c.args.in_flow here.rest goes, c.loop-c.invariant.ran.total, c.args.self.now.fits)
 
-pub loop-self-smaller : goal.loop-self-smaller
-loop-self-smaller g c =
-    let here = state c.loop-self.self in
-    let goes : spec.in_word c.args.in_flow here.rest ≡ true = sym c.plain_word_goes_on.ensures.value ∙ c.loop-self-test.true in
-    let after = c.skip.ensures.rest ∙ ap (λ (s : Cursor). drop 1 s.rest) c.plain_word_goes_on.ensures.same in
+pub loop-c-smaller : goal.loop-c-smaller
+loop-c-smaller g c =
+    let here = state c.loop-c.self in
+    let goes : spec.in_word c.args.in_flow here.rest ≡ true = sym c.is_in_plain_word.ensures.value ∙ c.loop-c-test.true in
+    let after = ap (λ (s : Cursor). s.rest) c.look-c-in-loop-c.ensures.same ∙ c.skip.ensures.rest ∙ ap (λ (s : Cursor). drop 1 s.rest) c.is_in_plain_word.ensures.same in
     rw (after, length-drop) (omega (arith, word_left c.args.in_flow here.rest goes))
 
-pub loop-self-preserved : goal.loop-self-preserved
-loop-self-preserved g c =
-    let here = state c.loop-self.self in
+pub loop-c-preserved : goal.loop-c-preserved
+loop-c-preserved g c =
+    let here = state c.loop-c.self in
     let start = state c.args.self.now in
-    let same = c.plain_word_goes_on.ensures.same in
-    let goes : spec.in_word c.args.in_flow here.rest ≡ true = sym c.plain_word_goes_on.ensures.value ∙ c.loop-self-test.true in
+    let same = c.is_in_plain_word.ensures.same in
+    let next = c.look-c-in-loop-c.ensures in
+    let goes : spec.in_word c.args.in_flow here.rest ≡ true = sym c.is_in_plain_word.ensures.value ∙ c.loop-c-test.true in
+    let after = ap (λ (s : Cursor). s.rest) next.same ∙ c.skip.ensures.rest ∙ ap (λ (s : Cursor). drop 1 s.rest) same in
     record {
-      ran = one_ran c.args.in_flow start.rest here.rest _ c.loop-self.count goes (c.skip.ensures.rest ∙ ap (λ (s : Cursor). drop 1 s.rest) same) c.loop-self.invariant.ran;
-      text = text_ran c.args.in_flow start.rest here.rest (string_bytes c.args.text.now) (string_bytes c.loop-self.text) _ c.loop-self.count c.peek-c.result goes
-          (c.peek-c.ensures ∙ ap (λ (s : Cursor). slice_index s.rest 0) same) c.loop-self.invariant.ran c.loop-self.invariant.text c.in_ok-push.ensures.bytes;
-      mark = ap (λ (s : Cursor). s.mark) same ∙ c.loop-self.invariant.mark;
+      ran = one_ran c.args.in_flow start.rest here.rest _ c.loop-c.count goes after c.loop-c.invariant.ran;
+      text = text_ran c.args.in_flow start.rest here.rest (string_bytes c.args.text.now) (string_bytes c.loop-c.text) _ c.loop-c.count c.loop-c.c goes
+          c.loop-c.invariant.value c.loop-c.invariant.ran c.loop-c.invariant.text c.in_ok-push.ensures.bytes;
+      mark = ap (λ (s : Cursor). s.mark) next.same ∙ ap (λ (s : Cursor). s.mark) same ∙ c.loop-c.invariant.mark;
+      value = next.value ∙ ap (λ (s : Cursor). slice_index s.rest 0) (sym next.same);
+      some = next.loaded;
     }
 
 pub returns : goal.returns
 returns g c =
     let start = state c.args.self.now in
-    let same = c.plain_word_goes_on.ensures.same in
-    let n = c.loop-self.count in
-    let left = (state c.plain_word_goes_on.new.self).rest in
-    let ran = subst (λ (xs : List ℕ). WordRan c.args.in_flow start.rest xs n) (sym (ap (λ (s : Cursor). s.rest) same)) c.loop-self.invariant.ran in
-    let stops : spec.in_word c.args.in_flow left ≡ false = ap (λ (s : Cursor). spec.in_word c.args.in_flow s.rest) same ∙ sym c.plain_word_goes_on.ensures.value ∙ c.loop-self-test.false in
-    ap Ok (word_done c.args.in_flow (string_bytes c.args.text.now) (string_bytes c.loop-self.text) n start left c.along-self.result ran stops c.loop-self.invariant.text
-    (c.along-self.ensures ∙ ap (λ (s : Cursor). along s.mark n) same ∙ ap (λ m. along m n) c.loop-self.invariant.mark))
+    let same = c.is_in_plain_word.ensures.same in
+    let n = c.loop-c.count in
+    let left = (state c.is_in_plain_word.new.self).rest in
+    let ran = subst (λ (xs : List ℕ). WordRan c.args.in_flow start.rest xs n) (sym (ap (λ (s : Cursor). s.rest) same)) c.loop-c.invariant.ran in
+    let stops : spec.in_word c.args.in_flow left ≡ false = ap (λ (s : Cursor). spec.in_word c.args.in_flow s.rest) same ∙ sym c.is_in_plain_word.ensures.value ∙ c.loop-c-test.false in
+    ap Ok (word_done c.args.in_flow (string_bytes c.args.text.now) (string_bytes c.loop-c.text) n start left c.along-self.result ran stops c.loop-c.invariant.text
+    (c.along-self.ensures ∙ ap (λ (s : Cursor). along s.mark n) same ∙ ap (λ m. along m n) c.loop-c.invariant.mark))

@@ -1,11 +1,11 @@
-use Rattle.std.proofs.Common.{◌≡◌, ◌≤◌, length, string_bytes}
-use Rattle.saphyr_scalar.specs.Quoted.{with_front, inside_at}
+use Rattle.std.proofs.Common.{◌≡◌, ℕ, ◌≤◌, length, string_bytes}
+use Rattle.saphyr_scalar.specs.Quoted.{with_front, inside_at, no_gap}
 use Rattle.saphyr_scalar.specs.Seen.{state}
 use Rattle.saphyr_scalar.proofs.scalar.reader.Reader.read_quoted_word.Given as goal
 
 abbrev pub invariant-loop-self : goal.invariant-loop-self
 invariant-loop-self g l = record {
-  same : with_front (string_bytes l.text) (inside_at l.fn.start (state l.self)) ≡ with_front (string_bytes l.fn.text) (inside_at l.fn.start (state l.fn.self));
+  same : (indent : ℕ) → with_front (string_bytes l.text) (inside_at l.fn.quote indent l.fn.start no_gap (state l.self)) ≡ with_front (string_bytes l.fn.text) (inside_at l.fn.quote indent l.fn.start no_gap (state l.fn.self));
   shorter : length (state l.self).rest ≤ length (state l.fn.self).rest;
 }
 

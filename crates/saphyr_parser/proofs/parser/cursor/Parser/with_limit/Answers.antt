@@ -1,0 +1,7 @@
+use Rattle.std.proofs.Common.{ap, ◌∙◌}
+use Rattle.saphyr_parser.specs.Cursor.{at_start}
+use Rattle.saphyr_parser.proofs.Completed.{completed}
+use Rattle.saphyr_parser.proofs.parser.cursor.Parser.with_limit.Goals as goal
+
+pub returns-clause-complete : goal.returns-clause-complete
+returns-clause-complete g c = completed c.scans_each_json.ensures c.gives_json.ensures.parser _ _ _ (c.new-2.ensures ∙ ap at_start c.new.ensures)

@@ -1,0 +1,40 @@
+-- What printing the events that are still to come does to them and to the writer.
+use Rattle.std.specs.Prelude.{◌≡◌, ℕ, ◌<◌, length, List, ◌∷◌, ◌++◌, Option, Some, None, Result, Ok, Err, string_bytes}
+use Rattle.std.specs.Io.KnownBytes.{Appends}
+use Rattle.saphyr_scalar.specs.declared.scalar.position.Span.{Span}
+use Rattle.saphyr_parser.specs.declared.parser.fault.Fault.TheVariants as fault
+use Rattle.saphyr_parser.specs.declared.printing.fault.DumpFault.{DumpFault}
+use Rattle.saphyr_parser.specs.declared.printing.fault.DumpFault.TheVariants as dump
+use Rattle.saphyr_parser.specs.Events.{Happening}
+use Rattle.saphyr_parser.specs.Answer.{Answer, Refused, none}
+use Rattle.saphyr_parser.specs.Cursor.{count}
+use Rattle.saphyr_parser.specs.Printed.{line, lines}
+
+-- The lines of some events were taken, and those behind are left.
+pub record Prints (all left : Answer) (old new : Option (List ℕ)) : Type 0 where
+  pub printed : List (Happening × Span)
+  pub split : all.events ≡ printed ++ left.events
+  pub fault : all.fault ≡ left.fault
+  pub taken : Appends old new (lines printed)
+
+-- The lines of some events were taken, and of one more line a beginning that isn't all of it. The events behind are left.
+pub record Cuts (all left : Answer) (old new : Option (List ℕ)) : Type 0 where
+  pub printed : List (Happening × Span)
+  pub event : Happening × Span
+  pub split : all.events ≡ printed ++ (event ∷ left.events)
+  pub fault : all.fault ≡ left.fault
+  pub front : List ℕ
+  pub back : List ℕ
+  pub cut : line event.0 ≡ front ++ back
+  pub missing : 0 < length back
+  pub taken : Appends old new (lines printed ++ front)
+
+-- Where a call of `dump` returns, what it says of the events that were still to come, of those that are left, and of what the
+-- writer holds. Memory may run out before any of the events.
+abbrev pub Dumps : Result (Unit {0}) DumpFault → Answer → Answer → Option (List ℕ) → Option (List ℕ) → Type 0
+Dumps (Ok u) all left old new = (all.fault ≡ None) × Appends old new (lines all.events) × (left ≡ none)
+Dumps (Err (dump.Parse (fault.Scan e))) all left old new = (all.fault ≡ Some (Refused e.mark (string_bytes e.info))) × Appends old new (lines all.events) × (left ≡ none)
+Dumps (Err (dump.Parse fault.OutOfMemory)) all left old new = ((lost : Answer) × Prints all lost old new × (0 < count lost)) × (left ≡ none)
+Dumps (Err (dump.Parse fault.Receiver)) all left old new = ⊥
+Dumps (Err (dump.Parse fault.InsideDocument)) all left old new = ⊥
+Dumps (Err dump.Write) all left old new = Cuts all left old new

@@ -1,0 +1,20 @@
+-- Which events a list of tokens gives.
+use Rattle.std.specs.Prelude.{◌≡◌, Bool, List, map, None}
+use Rattle.saphyr_scalar.specs.declared.scalar.position.Span.{Span}
+use Rattle.saphyr_scanner.specs.Tokens.{Kind}
+use Rattle.saphyr_scanner.specs.Seen.{Piece}
+use Rattle.saphyr_parser.specs.Events.{Happening}
+use Rattle.saphyr_parser.specs.Machine.{fresh}
+use Rattle.saphyr_parser.specs.Answer.{Answer, remaining}
+
+-- these events, whatever their spans, and no fault
+abbrev pub GivesExactly : List Happening → Answer → Type 0
+GivesExactly es a = (a.fault ≡ None) × (map (λ (e : Happening × Span). e.0) a.events ≡ es)
+
+-- tokens without their spans
+abbrev pub kinds : List Piece → List Kind
+kinds ts = map (λ (t : Piece). t.kind) ts
+
+-- the events of tokens that no refusal ends, `keep` telling whether prefixes of tags are kept for later documents
+abbrev pub told_by : Bool → List Piece → Answer
+told_by keep ts = remaining (record (fresh (record { pieces = ts; refusal = None })) { keep_tags = keep })

@@ -1,0 +1,120 @@
+ghost use Rattle.std.specs.Prelude.{◌≡◌, ◌++◌, codes, option_map};
+ghost use Rattle.std.specs.Fmt.{decimal};
+ghost use Rattle.saphyr_parser.specs.EventSeen.{happening, resolved_tag};
+ghost use Rattle.saphyr_parser.specs.Written.{Takes};
+ghost use Rattle.saphyr_parser.specs.Printed as printed;
+
+use crate::parser::{Event, Tag};
+use crate::printing::writing::{Unwritten, write_all, write_escaped, write_number};
+use saphyr_scalar::ScalarStyle;
+use std::io::Write;
+
+// Writes the line of an event.
+pub(super) fn write_line<W: Write>(out: &mut W, event: &Event<'_>) -> Result<(), Unwritten>
+    ensures { Takes result (W.contents out.old) (W.contents out.new) (printed.line (happening event.now)) }
+{
+    match event {
+        Event::Nothing => Ok(()),
+        Event::StreamStart => write_all(out, b"+STR\n"),
+        Event::StreamEnd => write_all(out, b"-STR\n"),
+        Event::DocumentStart(_) => write_all(out, b"+DOC\n"),
+        Event::DocumentEnd => write_all(out, b"-DOC\n"),
+        Event::Alias(id) => write_alias(out, *id),
+        Event::Scalar(text, style, id, tag) => write_scalar(out, text, *style, *id, tag),
+        Event::SequenceStart(id, tag) => write_start(out, b"+SEQ", *id, tag),
+        Event::SequenceEnd => write_all(out, b"-SEQ\n"),
+        Event::MappingStart(id, tag) => write_start(out, b"+MAP", *id, tag),
+        Event::MappingEnd => write_all(out, b"-MAP\n"),
+    }
+}
+
+#[tactic(auto, using(crate::proofs::Written::takes_three, crate::proofs::Written::loses_first, crate::proofs::Written::loses_second))]
+fn write_alias<W: Write>(out: &mut W, id: usize) -> Result<(), Unwritten>
+    ensures { Takes result (W.contents out.old) (W.contents out.new) (codes "=ALI *" ++ (decimal id ++ codes "\n")) }
+{
+    write_all(out, b"=ALI *")?;
+    write_number(out, id as u128)?;
+    write_all(out, b"\n")
+}
+
+#[tactic(auto, using(crate::proofs::Written::takes_four, crate::proofs::Written::loses_first, crate::proofs::Written::loses_second, crate::proofs::Written::loses_third))]
+fn write_scalar<W: Write>(
+    out: &mut W,
+    text: &str,
+    style: ScalarStyle,
+    id: usize,
+    tag: &Option<Tag>,
+) -> Result<(), Unwritten>
+    ensures { Takes result (W.contents out.old) (W.contents out.new) (printed.node_text (codes "=VAL") id (option_map resolved_tag tag.now) ++ ((codes " " ++ printed.mark style) ++ (printed.escaped text.now ++ codes "\n"))) }
+{
+    write_node(out, b"=VAL", id, tag)?;
+    write_all(out, mark(style))?;
+    write_escaped(out, text.as_bytes())?;
+    write_all(out, b"\n")
+}
+
+// What stands between a scalar's properties and its text.
+fn mark(style: ScalarStyle) -> &'static [u8]
+    ensures { result.now ≡ codes " " ++ printed.mark style }
+{
+    match style {
+        ScalarStyle::Plain => b" :",
+        ScalarStyle::SingleQuoted => b" '",
+        ScalarStyle::DoubleQuoted => b" \"",
+        ScalarStyle::Literal => b" |",
+        ScalarStyle::Folded => b" >",
+    }
+}
+
+// Writes the line of a collection's start.
+#[tactic(auto, using(crate::proofs::Written::takes_two, crate::proofs::Written::loses_first))]
+fn write_start<W: Write>(
+    out: &mut W,
+    name: &[u8],
+    id: usize,
+    tag: &Option<Tag>,
+) -> Result<(), Unwritten>
+    ensures { Takes result (W.contents out.old) (W.contents out.new) (printed.node_text name.now id (option_map resolved_tag tag.now) ++ codes "\n") }
+{
+    write_node(out, name, id, tag)?;
+    write_all(out, b"\n")
+}
+
+// Writes the name of an event, and the properties of its node.
+#[tactic(auto, using(crate::proofs::Written::takes_three, crate::proofs::Written::loses_first, crate::proofs::Written::loses_second))]
+fn write_node<W: Write>(
+    out: &mut W,
+    name: &[u8],
+    id: usize,
+    tag: &Option<Tag>,
+) -> Result<(), Unwritten>
+    ensures { Takes result (W.contents out.old) (W.contents out.new) (printed.node_text name.now id (option_map resolved_tag tag.now)) }
+{
+    write_all(out, name)?;
+    write_anchor(out, id)?;
+    match tag {
+        Some(tag) => write_tag(out, tag),
+        None => Ok(()),
+    }
+}
+
+#[tactic(auto, using(crate::proofs::Written::takes_two, crate::proofs::Written::loses_first))]
+fn write_anchor<W: Write>(out: &mut W, id: usize) -> Result<(), Unwritten>
+    ensures { Takes result (W.contents out.old) (W.contents out.new) (printed.anchor_text id) }
+{
+    if id == 0 {
+        return Ok(());
+    }
+    write_all(out, b" &")?;
+    write_number(out, id as u128)
+}
+
+#[tactic(auto, using(crate::proofs::Written::takes_four, crate::proofs::Written::loses_first, crate::proofs::Written::loses_second, crate::proofs::Written::loses_third))]
+fn write_tag<W: Write>(out: &mut W, tag: &Tag) -> Result<(), Unwritten>
+    ensures { Takes result (W.contents out.old) (W.contents out.new) (printed.tag_text (Some (resolved_tag tag.now))) }
+{
+    write_all(out, b" <")?;
+    write_all(out, tag.handle.as_bytes())?;
+    write_all(out, tag.suffix.as_bytes())?;
+    write_all(out, b">")
+}

@@ -1,0 +1,278 @@
+//! What no clause says: the lines against the table that they were taken from, the texts of faults, and
+//! that calls succeed.
+use crate::printing::line::write_line;
+use crate::{DumpFault, Event, Fault, Marker, Parser, ScalarStyle, ScanError, Tag, dump, run_dump};
+use std::alloc::{AllocError, Global};
+use std::borrow::CowStr;
+use std::io;
+use std::io::{ErrorKind, Read, Write};
+use std::process::Abort;
+use std::test::Fail;
+
+// A writer that takes a few bytes at a time, and fails once it has taken so many.
+#[derive(Drop)]
+struct Failing {
+    taken: Vec<u8>,
+    at_a_time: usize,
+    room: usize,
+    // Whether it takes nothing, where it would answer an error.
+    is_silent: bool,
+}
+
+impl Failing {
+    fn new(alloc: Global, at_a_time: usize, room: usize) -> Failing {
+        Failing {
+            taken: Vec::new(alloc),
+            at_a_time,
+            room,
+            is_silent: false,
+        }
+    }
+}
+
+impl Write for Failing {
+    fn write(&mut self, buf: &[u8]) -> io::Result<usize> {
+        let count = buf.len().min(self.at_a_time).min(self.room);
+        if count == 0 && !self.is_silent {
+            return Err(io::Error::from(ErrorKind::StorageFull));
+        }
+        self.taken.extend_from_slice(&buf[..count])?;
+        self.room -= count;
+        Ok(count)
+    }
+
+    fn flush(&mut self) -> io::Result<()> {
+        Ok(())
+    }
+}
+
+// A writer that holds what it takes and can't pass it on.
+#[derive(Drop)]
+struct Stuck {
+    taken: Vec<u8>,
+}
+
+impl Write for Stuck {
+    fn write(&mut self, buf: &[u8]) -> io::Result<usize> {
+        self.taken.extend_from_slice(buf)?;
+        Ok(buf.len())
+    }
+
+    fn flush(&mut self) -> io::Result<()> {
+        Err(io::Error::from(ErrorKind::BrokenPipe))
+    }
+}
+
+// A reader that fails behind some bytes.
+#[derive(Drop)]
+struct Broken<'a> {
+    rest: &'a [u8],
+}
+
+impl Read for Broken<'_> {
+    fn read(&mut self, buf: &mut [u8]) -> io::Result<usize> {
+        if self.rest.is_empty() {
+            return Err(io::Error::from(ErrorKind::ConnectionReset));
+        }
+        self.rest.read(buf)
+    }
+}
+
+fn tag(alloc: Global, handle: &str, suffix: &str) -> Result<Option<Tag>, AllocError> {
+    Ok(Some(Tag {
+        handle: String::from_str(alloc, handle)?,
+        suffix: String::from_str(alloc, suffix)?,
+    }))
+}
+
+fn expect_line(rt: &impl Abort, alloc: Global, event: &Event<'_>, line: &str) -> Result<(), Fail> {
+    let mut out = Vec::new(alloc);
+    assert!(rt; write_line(&mut out, event).is_ok(), "{line:?}");
+    assert!(rt; out.as_slice() == line.as_bytes(), "{line:?}");
+    Ok(())
+}
+
+#[test]
+fn prints_a_line_for_each_event(rt: HostRuntime) -> Result<(), Fail> {
+    let alloc = rt.alloc();
+    expect_line(&rt, alloc, &Event::Nothing, "")?;
+    expect_line(&rt, alloc, &Event::StreamStart, "+STR\n")?;
+    expect_line(&rt, alloc, &Event::StreamEnd, "-STR\n")?;
+    expect_line(&rt, alloc, &Event::DocumentStart(false), "+DOC\n")?;
+    expect_line(&rt, alloc, &Event::DocumentStart(true), "+DOC\n")?;
+    expect_line(&rt, alloc, &Event::DocumentEnd, "-DOC\n")?;
+    expect_line(&rt, alloc, &Event::SequenceStart(0, None), "+SEQ\n")?;
+    expect_line(&rt, alloc, &Event::SequenceStart(1, None), "+SEQ &1\n")?;
+    expect_line(&rt, alloc, &Event::SequenceEnd, "-SEQ\n")?;
+    expect_line(&rt, alloc, &Event::MappingStart(0, None), "+MAP\n")?;
+    expect_line(&rt, alloc, &Event::MappingEnd, "-MAP\n")?;
+    expect_line(&rt, alloc, &Event::Alias(1), "=ALI *1\n")?;
+    expect_line(&rt, alloc, &Event::Alias(120), "=ALI *120\n")?;
+    expect_line(
+        &rt,
+        alloc,
+        &Event::Alias(usize::MAX),
+        "=ALI *18446744073709551615\n",
+    )?;
+    let local = tag(alloc, "", "!é")?;
+    expect_line(&rt, alloc, &Event::SequenceStart(0, local), "+SEQ <!é>\n")?;
+    let yaml = tag(alloc, "tag:yaml.org,2002:", "map")?;
+    let line = "+MAP &23 <tag:yaml.org,2002:map>\n";
+    expect_line(&rt, alloc, &Event::MappingStart(23, yaml), line)
+}
+
+#[test]
+fn prints_scalars(rt: HostRuntime) -> Result<(), Fail> {
+    let alloc = rt.alloc();
+    let styles = [
+        (ScalarStyle::Plain, "=VAL :é b\n"),
+        (ScalarStyle::SingleQuoted, "=VAL 'é b\n"),
+        (ScalarStyle::DoubleQuoted, "=VAL \"é b\n"),
+        (ScalarStyle::Literal, "=VAL |é b\n"),
+        (ScalarStyle::Folded, "=VAL >é b\n"),
+    ];
+    for (style, line) in styles {
+        let event = Event::Scalar(CowStr::Borrowed("é b"), style, 0, None);
+        expect_line(&rt, alloc, &event, line)?;
+    }
+    let texts = [
+        ("", "=VAL :\n"),
+        ("\\", "=VAL :\\\\\n"),
+        ("a\nb\n", "=VAL :a\\nb\\n\n"),
+        ("\r\u{8}\t", "=VAL :\\r\\b\\t\n"),
+        (
+            "\0\u{7}\u{b}\u{c}\u{1b}\u{7f}\u{85}\u{feff}\"'",
+            "=VAL :\0\u{7}\u{b}\u{c}\u{1b}\u{7f}\u{85}\u{feff}\"'\n",
+        ),
+    ];
+    for (text, line) in texts {
+        let event = Event::Scalar(CowStr::Borrowed(text), ScalarStyle::Plain, 0, None);
+        expect_line(&rt, alloc, &event, line)?;
+    }
+    let string = tag(alloc, "!", "s")?;
+    let event = Event::Scalar(CowStr::Borrowed("x"), ScalarStyle::Folded, 4, string);
+    expect_line(&rt, alloc, &event, "=VAL &4 <!s> >x\n")
+}
+
+#[test]
+fn prints_through_a_writer_that_takes_little(rt: HostRuntime) -> Result<(), Fail> {
+    let alloc = rt.alloc();
+    for at_a_time in 1..4usize {
+        let mut out = Failing::new(alloc, at_a_time, usize::MAX);
+        let mut parser = Parser::new_from_str(alloc, "# c");
+        assert!(rt; dump(&mut parser, &mut out) == Ok(()));
+        assert!(rt; out.taken.as_slice() == "+STR\n-STR\n".as_bytes());
+        assert!(rt; dump(&mut parser, &mut out) == Ok(()));
+        assert!(rt; out.taken.len() == 10);
+    }
+    Ok(())
+}
+
+#[test]
+fn stops_where_the_writer_fails(rt: HostRuntime) -> Result<(), Fail> {
+    let alloc = rt.alloc();
+    let lines = b"+STR\n-STR\n";
+    for room in 0..10usize {
+        for is_silent in [false, true] {
+            let mut out = Failing::new(alloc, 3, room);
+            out.is_silent = is_silent;
+            let mut parser = Parser::new_from_str(alloc, "");
+            assert!(rt;
+                dump(&mut parser, &mut out) == Err(DumpFault::Write),
+                "{room}"
+            );
+            assert!(rt; out.taken.as_slice() == &lines[..room], "{room}");
+        }
+    }
+    Ok(())
+}
+
+#[test]
+fn stops_at_a_fault(rt: HostRuntime) -> Result<(), Fail> {
+    let alloc = rt.alloc();
+    let mut out = Vec::new(alloc);
+    let mut parser = Parser::new_from_str(alloc, "\0");
+    let error = ScanError::new_str(alloc, Marker::new(0, 1, 0), "found unprintable character")?;
+    assert!(rt; dump(&mut parser, &mut out) == Err(DumpFault::Parse(Fault::Scan(error))));
+    assert!(rt; out.as_slice() == "+STR\n".as_bytes());
+    assert!(rt; dump(&mut parser, &mut out) == Ok(()));
+    assert!(rt; out.as_slice() == "+STR\n".as_bytes());
+    Ok(())
+}
+
+#[test]
+fn says_why_lines_are_missing(rt: HostRuntime) -> Result<(), Fail> {
+    let error = ScanError::new_str(rt.alloc(), Marker::new(3, 1, 3), "x")?;
+    let faults = [
+        (
+            DumpFault::Parse(Fault::Scan(error)),
+            "x at byte 3 line 1 column 4",
+        ),
+        (DumpFault::Parse(Fault::OutOfMemory), "out of memory"),
+        (DumpFault::Write, "can't write"),
+    ];
+    for (fault, text) in &faults {
+        let printed = fault.to_string(rt.alloc())?;
+        assert_eq!(rt; printed.as_str(), *text);
+    }
+    Ok(())
+}
+
+fn expect_run(
+    rt: &impl Abort,
+    alloc: Global,
+    source: &[u8],
+    out: &[u8],
+    err: &str,
+    status: u8,
+) -> Result<(), Fail> {
+    let mut bytes = source;
+    let mut printed = Vec::new(alloc);
+    let mut said = Vec::new(alloc);
+    let answer = run_dump(alloc, "f", &mut bytes, &mut printed, &mut said);
+    assert!(rt; answer == status, "{err:?}");
+    assert!(rt; printed.as_slice() == out, "{err:?}");
+    assert!(rt; said.as_slice() == err.as_bytes(), "{err:?}");
+    Ok(())
+}
+
+#[test]
+fn runs(rt: HostRuntime) -> Result<(), Fail> {
+    let alloc = rt.alloc();
+    expect_run(&rt, alloc, b"", b"+STR\n-STR\n", "", 0)?;
+    expect_run(&rt, alloc, b"# c\n", b"+STR\n-STR\n", "", 0)?;
+    let unprintable = "found unprintable character at byte 4 line 2 column 1\n";
+    expect_run(&rt, alloc, b"# c\n\0", b"+STR\n", unprintable, 1)?;
+    let not_utf8 = "dump_events: f is not UTF-8\n";
+    expect_run(&rt, alloc, b"\xff", b"", not_utf8, 1)?;
+    expect_run(&rt, alloc, b"# \xe2\x82", b"", not_utf8, 1)
+}
+
+#[test]
+fn runs_where_reading_or_writing_fails(rt: HostRuntime) -> Result<(), Fail> {
+    let alloc = rt.alloc();
+    let mut source = Broken { rest: b"# c" };
+    let mut out = Vec::new(alloc);
+    let mut err = Vec::new(alloc);
+    assert!(rt; run_dump(alloc, "-", &mut source, &mut out, &mut err) == 1);
+    assert!(rt; out.is_empty());
+    assert!(rt; err.as_slice() == "dump_events: can't read -\n".as_bytes());
+
+    let mut text: &[u8] = b"";
+    let mut full = Failing::new(alloc, 1, 7);
+    let mut said = Vec::new(alloc);
+    assert!(rt; run_dump(alloc, "-", &mut text, &mut full, &mut said) == 1);
+    assert!(rt; full.taken.as_slice() == "+STR\n-S".as_bytes());
+    assert!(rt; said.as_slice() == "dump_events: can't write\n".as_bytes());
+
+    for input in ["", "\0"] {
+        let mut text = input.as_bytes();
+        let mut stuck = Stuck {
+            taken: Vec::new(alloc),
+        };
+        let mut mute = Failing::new(alloc, 1, 20);
+        assert!(rt; run_dump(alloc, "-", &mut text, &mut stuck, &mut mute) == 1);
+        assert!(rt; mute.taken.as_slice() == "dump_events: can't w".as_bytes());
+    }
+    Ok(())
+}

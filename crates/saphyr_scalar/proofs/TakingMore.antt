@@ -1,0 +1,214 @@
+-- Each reader of block scalars, anchors, tags and directives takes something off the text.
+use Rattle.std.proofs.Common.{◌≡◌, ℕ, ◌+◌, ◌≤◌, ◌<◌, inl, inr, Bool, true, List, [], ◌∷◌, ◌++◌, length, drop, Ok, ap, ◌∙◌, arith}
+use Rattle.std.specs.Prelude.{◌&&◌, slice_index, not, ◌==◌, nat_lt, nat_le, max, Option, Some, None, unwrap_or, codes}
+use Rattle.std.proofs.lemmas.List.{length-append}
+use Rattle.saphyr_input.specs.Classes.{is_bom, is_blank, is_break, is_breakz, is_z, is_digit, is_yaml_non_break, tab}
+use Rattle.saphyr_input.specs.Separation.{separation_len, is_bare_comment}
+use Rattle.saphyr_input.specs.declared.input.SkipTabs.{SkipTabs}
+use Rattle.saphyr_input.specs.declared.input.SkipTabs.TheVariants.{Yes}
+use Rattle.saphyr_scalar.specs.declared.reading.block.BlockStyle.{BlockStyle}
+use Rattle.saphyr_scalar.specs.declared.reading.block.Chomping.{Chomping}
+use Rattle.saphyr_scalar.specs.declared.scalar.position.Marker.{Marker}
+use Rattle.saphyr_scalar.specs.declared.scalar.position.Span.{Span}
+use Rattle.saphyr_scalar.specs.declared.scalar.block.header.BlockHeader.{BlockHeader}
+use Rattle.saphyr_scalar.specs.declared.scalar.block.lines.EmptyLines.{EmptyLines}
+use Rattle.saphyr_scalar.specs.Cursor.{Cursor, along, next_line, pass, pass_blanks, pass_break, behind_separation, separation}
+use Rattle.saphyr_scalar.specs.Quoted.{at}
+use Rattle.saphyr_scalar.specs.BlockScalar.{chomping, indicator, header_break, header_end, last_chomping, header_behind, header, is_indentation, is_cr_lf, empty_lines, line_starts, LinesRead, between, line, chomped, content, behind_leading, given_indentation, no_lines, behind_header, block_scalar}
+use Rattle.saphyr_scalar.specs.Anchor.{anchor}
+use Rattle.saphyr_scalar.specs.Tag.{tag}
+use Rattle.saphyr_scalar.specs.TagSpelling.{IsHandleText, IsTagText}
+use Rattle.saphyr_scalar.specs.Directive.{Directive, version, tag_prefix, reserved, directive}
+use Rattle.saphyr_scalar.specs.DirectiveSpelling.{IsReadDirective}
+use Rattle.saphyr_scalar.proofs.AnchorsRead.{spells_anchor}
+use Rattle.saphyr_scalar.proofs.TagsSpelled.{spells_tag}
+use Rattle.saphyr_scalar.proofs.DirectivesSpelled.{spells_directive}
+use Rattle.saphyr_scalar.proofs.Taking.{by_test, Given, given_bind, given_of, drop_shorter, break_shorter}
+
+first_off : (xs : List ℕ) → 0 < length xs → length (drop 1 xs) < length xs
+first_off [] h = h
+first_off (c ∷ cs) h = omega arith
+
+-- ## Block scalars
+
+abbrev Behind : (A : Type 0) → ℕ → A × Cursor → Type 0
+Behind A n x = length x.1.rest ≤ n
+
+abbrev Left : ℕ → Cursor → Type 0
+Left n t = length t.rest ≤ n
+
+chomping_within : (n : ℕ) (s : Cursor) → length s.rest ≤ n → length (chomping s).1.rest ≤ n
+unfolding chomping
+chomping_within n s h =
+    let l = drop_shorter 1 s.rest in
+    let k : length (drop 1 s.rest) ≤ n = omega (arith, l, h) in
+    by_test (slice_index s.rest 0 == 43) _ _ (Behind (Option Chomping) n) (λ _. k)
+    (λ _. by_test (slice_index s.rest 0 == 45) _ _ (Behind (Option Chomping) n) (λ _. k) (λ _. h))
+
+indicator_within : (n : ℕ) (start : Marker) (s : Cursor) → length s.rest ≤ n → Given (Behind ℕ n) (indicator start s)
+unfolding indicator
+indicator_within n start s h =
+    let l = drop_shorter 1 s.rest in
+    let k : length (drop 1 s.rest) ≤ n = omega (arith, l, h) in
+    by_test (not (is_digit (slice_index s.rest 0))) _ _ (Given (Behind ℕ n)) (λ _. h)
+    (λ _. by_test (slice_index s.rest 0 == 48) _ _ (Given (Behind ℕ n)) (λ _. tt) (λ _. k))
+
+break_within : (n : ℕ) (start : Marker) (s : Cursor) → length s.rest ≤ n → Given (Left n) (header_break start s)
+unfolding header_break
+break_within n start s h =
+    let l = break_shorter s in
+    let k : length (pass_break s).rest ≤ n = omega (arith, l, h) in
+    by_test (not (is_breakz (slice_index s.rest 0))) _ _ (Given (Left n)) (λ _. tt)
+    (λ _. by_test (slice_index (pass_break s).rest 0 == tab) _ _ (Given (Left n)) (λ _. tt) (λ _. k))
+
+separation_within : (n : ℕ) (tabs : SkipTabs) (s : Cursor) → length s.rest ≤ n → Given (Behind SkipTabs n) (separation tabs s)
+unfolding separation behind_separation
+separation_within n tabs s h =
+    let l = drop_shorter (separation_len tabs s.rest) s.rest in
+    let k : length (drop (separation_len tabs s.rest) s.rest) ≤ n = omega (arith, l, h) in
+    let t : Cursor = pass_blanks (separation_len tabs s.rest) s in
+    by_test (nat_lt 0 t.mark.col && is_bom (slice_index t.rest 0)) _ _ (Given (Behind SkipTabs n)) (λ _. tt)
+    (λ _. by_test (is_bare_comment tabs s.rest) _ _ (Given (Behind SkipTabs n)) (λ _. tt) (λ _. k))
+
+end_within : (n : ℕ) (start : Marker) (s : Cursor) → length s.rest ≤ n → Given (Left n) (header_end start s)
+unfolding header_end
+end_within n start s h =
+    given_bind (Left n) (separation Yes s) _ (λ x e.
+      break_within n start x.1 (given_of (Behind SkipTabs n) (separation Yes s) x (separation_within n Yes s h) e))
+
+last_within : (n : ℕ) (first : Option Chomping) (s : Cursor) → length s.rest ≤ n → length (last_chomping first s).1.rest ≤ n
+unfolding last_chomping
+last_within n (Some first) s h = h
+last_within n None s h = chomping_within n s h
+
+behind_within : (n : ℕ) (start : Marker) (i : ℕ) (x : Chomping × Cursor) → length x.1.rest ≤ n → Given (Behind BlockHeader n) (header_behind start i x)
+unfolding header_behind
+behind_within n start i x h =
+    given_bind (Behind BlockHeader n) (header_end start x.1) _ (λ s e. given_of (Left n) (header_end start x.1) s (end_within n start x.1 h) e)
+
+header_within : (n : ℕ) (s : Cursor) → length (drop 1 s.rest) ≤ n → Given (Behind BlockHeader n) (header s)
+unfolding header
+header_within n s h =
+    let first = chomping (pass 1 s) in
+    let given = indicator_within n s.mark first.1 (chomping_within n (pass 1 s) h) in
+    given_bind (Behind BlockHeader n) (indicator s.mark first.1) _ (λ x e.
+      behind_within n s.mark x.0 (last_chomping first.0 x.1) (last_within n first.0 x.1 (given_of (Behind ℕ n) (indicator s.mark first.1) x given e)))
+
+empty_within : (n : ℕ) (limit : Option ℕ) (before : EmptyLines) (b : Bool) (m : Marker) (t : List ℕ) → length t ≤ n → length (empty_lines limit before b m t).1.rest ≤ n
+unfolding empty_lines
+empty_within n limit before b m [] h = h
+empty_within n limit before b m (c ∷ cs) h =
+    let k : length cs ≤ n = omega (arith, h) in
+    let others = λ (l : EmptyLines) (a : Bool) (p : Marker). empty_within n limit l a p cs k in
+    by_test (is_indentation limit m.col c) _ _ (Behind EmptyLines n) (λ _. others _ _ _)
+    (λ _. by_test (is_cr_lf c cs) _ _ (Behind EmptyLines n) (λ _. others _ _ _)
+    (λ _. by_test (is_break c) _ _ (Behind EmptyLines n) (λ _. others _ _ _) (λ _. h)))
+
+abbrev LinesWithin : ℕ → LinesRead → Type 0
+LinesWithin n x = length x.2.rest ≤ n
+
+mutual
+  unfolding between line
+  between_within : (n : ℕ) (style : BlockStyle) (i : ℕ) (above : Option Bool) (lines : ℕ) (b : Bool) (m : Marker) (t : List ℕ) → length t ≤ n → LinesWithin n (between style i above lines b m t)
+  between_within n style i above lines b m [] h = h
+  between_within n style i above lines b m (c ∷ cs) h =
+      let k : length cs ≤ n = omega (arith, h) in
+      let others = λ (l : ℕ) (a : Bool) (p : Marker). between_within n style i above l a p cs k in
+      let content = line_within n style i (is_blank c) b (along m 1) cs k in
+      by_test (is_indentation (Some i) m.col c) _ _ (LinesWithin n) (λ _. others _ _ _)
+      (λ _. by_test (is_cr_lf c cs) _ _ (LinesWithin n) (λ _. others _ _ _)
+      (λ _. by_test (is_break c) _ _ (LinesWithin n) (λ _. others _ _ _)
+      (λ _. by_test (line_starts i m.col (c ∷ cs)) _ _ (LinesWithin n) (λ _. content) (λ _. h))))
+
+  line_within : (n : ℕ) (style : BlockStyle) (i : ℕ) (more b : Bool) (m : Marker) (t : List ℕ) → length t ≤ n → LinesWithin n (line style i more b m t)
+  line_within n style i more b m [] h = h
+  line_within n style i more b m (c ∷ cs) h =
+      let k : length cs ≤ n = omega (arith, h) in
+      let others = λ (p : Marker). line_within n style i more b p cs k in
+      let below = between_within n style i (Some more) 0 true (next_line m 1) cs k in
+      by_test (is_yaml_non_break c) _ _ (LinesWithin n) (λ _. others _)
+      (λ _. by_test (is_cr_lf c cs) _ _ (LinesWithin n) (λ _. others _)
+      (λ _. by_test (is_break c) _ _ (LinesWithin n) (λ _. below) (λ _. h)))
+
+abbrev ScalarWithin : ℕ → List ℕ × Span × Cursor → Type 0
+ScalarWithin n x = length x.2.rest ≤ n
+
+content_within : (n : ℕ) (style : BlockStyle) (c : Chomping) (indent i lines : ℕ) (s : Cursor) → length s.rest ≤ n → Given (ScalarWithin n) (content style c indent i lines s)
+unfolding content chomped
+content_within n style c indent i lines s h =
+    let read = between_within n style i None lines s.blank_so_far s.mark s.rest h in
+    by_test (nat_lt s.mark.col i && nat_le indent s.mark.col) _ _ (Given (ScalarWithin n)) (λ _. tt) (λ _. read)
+
+leading_within : (n : ℕ) (style : BlockStyle) (indent : ℕ) (start : Marker) (c : Chomping) (limit : Option ℕ) (x : EmptyLines × Cursor) → length x.1.rest ≤ n → Given (ScalarWithin n) (behind_leading style indent start c limit x)
+unfolding behind_leading
+leading_within n style indent start c limit x h =
+    by_test (is_z (slice_index x.1.rest 0)) _ _ (Given (ScalarWithin n)) (λ _. h)
+    (λ _. content_within n style c indent (unwrap_or limit (max x.0.widest indent)) x.0.count x.1 h)
+
+scalar_within : (n : ℕ) (style : BlockStyle) (indent : ℕ) (start : Marker) (x : BlockHeader × Cursor) → length x.1.rest ≤ n → Given (ScalarWithin n) (behind_header style indent start x)
+unfolding behind_header
+scalar_within n style indent start x h =
+    let limit = given_indentation indent x.0.indicator in
+    leading_within n style indent start x.0.chomping limit (empty_lines limit no_lines x.1.blank_so_far x.1.mark x.1.rest)
+      (empty_within n limit no_lines x.1.blank_so_far x.1.mark x.1.rest h)
+
+block_within : (n : ℕ) (style : BlockStyle) (indent : ℕ) (s : Cursor) → length (drop 1 s.rest) ≤ n → Given (ScalarWithin n) (block_scalar style indent s)
+unfolding block_scalar
+block_within n style indent s h =
+    given_bind (ScalarWithin n) (header s) _ (λ x e.
+      scalar_within n style indent s.mark x (given_of (Behind BlockHeader n) (header s) x (header_within n s h) e))
+
+pub block_scalar_takes : (style : BlockStyle) (indent : ℕ) (s t : Cursor) (text : List ℕ) (span : Span) → 0 < length s.rest → block_scalar style indent s ≡ Ok (text, span, t) → length t.rest < length s.rest
+block_scalar_takes style indent s t text span some e =
+    let n = length (drop 1 s.rest) in
+    let within = given_of (ScalarWithin n) (block_scalar style indent s) (text, span, t) (block_within n style indent s (omega arith)) e in
+    let less = first_off s.rest some in
+    omega (arith, within, less)
+
+-- ## Anchors, tags and directives
+
+pub anchor_takes : (s t : Cursor) (text : List ℕ) → 0 < length s.rest → anchor s ≡ Ok (text, t) → length t.rest < length s.rest
+anchor_takes s t text some e =
+    let spelled = spells_anchor s t text some e in
+    let is : length s.rest ≡ length (spelled.0 ∷ (spelled.1 ++ t.rest)) = ap length spelled.2 in
+    let whole = length-append spelled.1 t.rest in
+    omega (arith, is, whole)
+
+-- a text that begins with some character has one
+begins : (c : ℕ) (t cs : List ℕ) → t ≡ c ∷ cs → 0 < length t
+begins c t cs e = let is : length t ≡ length (c ∷ cs) = ap length e in omega (arith, is)
+
+handle_some : (handle back t : List ℕ) → IsHandleText handle → t ≡ handle ++ back → 0 < length t
+handle_some handle back t (inl alone) e = begins 33 t back (e ∙ ap (λ u. u ++ back) alone)
+handle_some handle back t (inr named) e = begins 33 t ((named.0 ++ codes "!") ++ back) (e ∙ ap (λ u. u ++ back) named.2)
+
+tag_some : (t handle suffix : List ℕ) → IsTagText t handle suffix → 0 < length t
+tag_some t handle suffix (inl alone) = begins 33 t [] alone.0
+tag_some t handle suffix (inr (inl verbatim)) = begins 33 t (60 ∷ (verbatim.0 ++ codes ">")) verbatim.3
+tag_some t handle suffix (inr (inr short)) = handle_some handle short.0 t short.1 short.4
+
+pub tag_takes : (in_flow : Bool) (s t : Cursor) (handle suffix : List ℕ) → slice_index s.rest 0 ≡ 33 → tag in_flow s ≡ Ok (handle, suffix, t) → length t.rest < length s.rest
+tag_takes in_flow s t handle suffix opening e =
+    let spelled = spells_tag in_flow s t handle suffix opening e in
+    let some = tag_some spelled.0 spelled.1 spelled.2 spelled.4 in
+    let is : length s.rest ≡ length (spelled.0 ++ t.rest) = ap length spelled.3 in
+    let whole = length-append spelled.0 t.rest in
+    omega (arith, some, is, whole)
+
+directive_some : (d : Directive) (t : List ℕ) → IsReadDirective d t → 0 < length t
+directive_some (version major minor) t is = begins 37 t _ is.6
+directive_some (tag_prefix handle prefix) t is = begins 37 t _ is.2.7
+directive_some (reserved name) t is = begins 37 t _ is.1.7
+
+pub directive_takes : (s t : Cursor) (d : Directive) (end : Marker) → slice_index s.rest 0 ≡ 37 → directive s ≡ Ok (d, end, t) → length t.rest < length s.rest
+directive_takes s t d end opening e =
+    let spelled = spells_directive s t d end opening e in
+    let x = spelled.2 in
+    let some = directive_some d spelled.0 spelled.4 in
+    let is : length s.rest ≡ length (spelled.0 ++ (spelled.1 ++ x)) = ap length spelled.3 in
+    let whole = length-append spelled.0 (spelled.1 ++ x) in
+    let back = length-append spelled.1 x in
+    let behind : Cursor = at (along s.mark (length spelled.0 + length spelled.1)) x in
+    let left : length t.rest ≡ length (pass_break behind).rest = ap (λ (u : Cursor). length u.rest) spelled.8 in
+    let less : length (pass_break behind).rest ≤ length x = break_shorter behind in
+    omega (arith, some, is, whole, back, left, less)

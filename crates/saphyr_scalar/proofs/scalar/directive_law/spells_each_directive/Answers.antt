@@ -1,0 +1,5 @@
+use Rattle.saphyr_scalar.proofs.DirectivesSpelled.{spells_directive}
+use Rattle.saphyr_scalar.proofs.scalar.directive_law.spells_each_directive.Goals as goal
+
+pub returns : goal.returns
+returns c = spells_directive

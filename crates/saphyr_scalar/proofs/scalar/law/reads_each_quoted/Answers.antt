@@ -1,0 +1,5 @@
+use Rattle.saphyr_scalar.proofs.QuotedReads.{quoted_read}
+use Rattle.saphyr_scalar.proofs.scalar.law.reads_each_quoted.Goals as goal
+
+pub returns : goal.returns
+returns c = quoted_read

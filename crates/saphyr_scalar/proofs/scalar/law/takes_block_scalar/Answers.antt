@@ -1,0 +1,5 @@
+use Rattle.saphyr_scalar.proofs.TakingMore.{block_scalar_takes}
+use Rattle.saphyr_scalar.proofs.scalar.law.takes_block_scalar.Goals as goal
+
+pub returns : goal.returns
+returns c = block_scalar_takes

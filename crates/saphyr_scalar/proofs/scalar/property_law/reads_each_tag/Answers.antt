@@ -1,0 +1,5 @@
+use Rattle.saphyr_scalar.proofs.TagsRead.{reads_tag}
+use Rattle.saphyr_scalar.proofs.scalar.property_law.reads_each_tag.Goals as goal
+
+pub returns : goal.returns
+returns c = reads_tag

@@ -1,0 +1,5 @@
+use Rattle.saphyr_scalar.proofs.AnchorsRead.{spells_anchor}
+use Rattle.saphyr_scalar.proofs.scalar.property_law.spells_each_anchor.Goals as goal
+
+pub returns : goal.returns
+returns c = spells_anchor

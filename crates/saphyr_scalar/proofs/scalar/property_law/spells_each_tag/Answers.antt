@@ -1,0 +1,5 @@
+use Rattle.saphyr_scalar.proofs.TagsSpelled.{spells_tag}
+use Rattle.saphyr_scalar.proofs.scalar.property_law.spells_each_tag.Goals as goal
+
+pub returns : goal.returns
+returns c = spells_tag

@@ -1,0 +1,12 @@
+use Rattle.std.proofs.Common.{◌≡◌, length, string_bytes}
+use Rattle.saphyr_scalar.specs.Quoted.{with_front}
+use Rattle.saphyr_scalar.specs.Tag.{decoded_at}
+use Rattle.saphyr_scalar.specs.Seen.{state}
+use Rattle.saphyr_scalar.proofs.scalar.reader.Reader.read_uri_characters.Given as goal
+
+abbrev pub invariant-loop-set : goal.invariant-loop-set
+invariant-loop-set g l =
+    with_front (string_bytes l.text) (decoded_at l.set l.start (state l.self)) ≡ with_front (string_bytes l.fn.text) (decoded_at l.set l.start (state l.fn.self))
+
+abbrev pub decreases-loop-set : goal.decreases-loop-set
+decreases-loop-set g l = length (state l.self).rest

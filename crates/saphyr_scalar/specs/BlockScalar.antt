@@ -1,0 +1,204 @@
+-- Block scalars (YAML 1.2.2, 8.1), from their header on, in the steps in which they are read.
+use Rattle.std.specs.Prelude.{ℕ, ◌+◌, ◌-◌, ◌^◌, min, max, Bool, true, false, ◌||◌, ◌&&◌, ◌==◌, not, nat_lt, nat_le, List, [], ◌∷◌, ◌++◌, take, slice_index, Option, Some, None, is_some, unwrap_or, Result, Ok, if◌then◌else◌, encode_utf8_all}
+use Rattle.std.specs.List.{prefix_len}
+use Rattle.saphyr_input.specs.Classes.{is_z, is_break, is_breakz, is_blank, is_digit, is_yaml_non_break, line_feed, carriage_return, space, tab}
+use Rattle.saphyr_input.specs.Places.{is_document_indicator}
+use Rattle.saphyr_input.specs.declared.input.SkipTabs.TheVariants.{Yes}
+use Rattle.saphyr_scalar.specs.declared.reading.block.BlockStyle.{BlockStyle}
+use Rattle.saphyr_scalar.specs.declared.reading.block.BlockStyle.TheVariants.{Literal, Folded}
+use Rattle.saphyr_scalar.specs.declared.reading.block.Chomping.{Chomping}
+use Rattle.saphyr_scalar.specs.declared.reading.block.Chomping.TheVariants.{Strip, Clip, Keep}
+use Rattle.saphyr_scalar.specs.declared.scalar.position.Marker.{Marker}
+use Rattle.saphyr_scalar.specs.declared.scalar.position.Span.{Span}
+use Rattle.saphyr_scalar.specs.declared.scalar.fault.Refusal.{Refusal}
+use Rattle.saphyr_scalar.specs.declared.scalar.fault.FaultText.TheVariants as fault
+use Rattle.saphyr_scalar.specs.declared.scalar.block.header.BlockHeader.{BlockHeader}
+use Rattle.saphyr_scalar.specs.declared.scalar.block.lines.EmptyLines.{EmptyLines}
+use Rattle.saphyr_scalar.specs.declared.scalar.block.breaks.BlockEnd.{BlockEnd}
+use Rattle.saphyr_scalar.specs.Cursor.{Cursor, ◌>>=◌, refuse, along, next_line, pass, pass_break, pass_comment, separation}
+use Rattle.saphyr_scalar.specs.Folding.{line_feeds, raw_break}
+
+-- 8.1.1.2: the chomping indicator that stands first, where one does, and what stands behind it
+unfoldable pub chomping : Cursor → Option Chomping × Cursor
+chomping s =
+    if slice_index s.rest 0 == 43 then (Some Keep, pass 1 s)
+    else if slice_index s.rest 0 == 45 then (Some Strip, pass 1 s)
+    else (None, s)
+
+-- 8.1.1.1: the indentation indicator that stands first, 0 where none does
+unfoldable pub indicator : Marker → Cursor → Result (ℕ × Cursor) Refusal
+indicator start s =
+    if not (is_digit (slice_index s.rest 0)) then Ok (0, s)
+    else if slice_index s.rest 0 == 48 then refuse fault.BlockScalarIndicatorZero start
+    else Ok (slice_index s.rest 0 - 48, pass 1 s)
+
+-- the break of a header's line, behind which no tab stands
+unfoldable pub header_break : Marker → Cursor → Result Cursor Refusal
+header_break start s =
+    if not (is_breakz (slice_index s.rest 0)) then refuse fault.BlockScalarHeaderEndExpected start
+    else if slice_index (pass_break s).rest 0 == tab then refuse fault.BlockScalarTabFirst start
+    else Ok (pass_break s)
+
+-- the end of a header's line: white space, a comment and the break
+unfoldable pub header_end : Marker → Cursor → Result Cursor Refusal
+header_end start s = separation Yes s >>= λ x. header_break start x.1
+
+-- the chomping behind an indentation indicator, where none stood before it: the last break stays without an indicator
+unfoldable pub last_chomping : Option Chomping → Cursor → Chomping × Cursor
+last_chomping (Some first) s = (first, s)
+last_chomping None s = (unwrap_or (chomping s).0 Clip, (chomping s).1)
+
+unfoldable pub header_behind : Marker → ℕ → Chomping × Cursor → Result (BlockHeader × Cursor) Refusal
+header_behind start n x = header_end start x.1 >>= λ s. Ok (record { chomping = x.0; indicator = n }, s)
+
+-- 8.1.1: a header, from its `|` or `>` on, with its line
+unfoldable pub header : Cursor → Result (BlockHeader × Cursor) Refusal
+header s = indicator s.mark (chomping (pass 1 s)).1 >>= λ x. header_behind s.mark x.0 (last_chomping (chomping (pass 1 s)).0 x.1)
+
+-- the place in the text cs, where only blanks stand before it on its line or others do
+abbrev pub there : Bool → Marker → List ℕ → Cursor
+there b m cs = record { rest = cs; mark = m; blank_so_far = b }
+
+-- whether a space at a column belongs to the indentation, which may have a limit
+abbrev pub is_indentation : Option ℕ → ℕ → ℕ → Bool
+is_indentation None col c = c == space
+is_indentation (Some limit) col c = (c == space) && nat_lt col limit
+
+-- a CR before an LF, which is one break with it
+abbrev pub is_cr_lf : ℕ → List ℕ → Bool
+is_cr_lf c cs = (c == carriage_return) && (slice_index cs 0 == line_feed)
+
+-- between the two characters of a break
+abbrev pub inside_break : Marker → Marker
+inside_break m = record { index = m.index + 1; line = m.line; col = m.col }
+
+-- lines that have no content, and the column that the longest of them reaches
+abbrev pub widened : EmptyLines → ℕ → EmptyLines
+widened lines col = record { count = lines.count; widest = max lines.widest col }
+
+abbrev pub one_more : EmptyLines → ℕ → EmptyLines
+one_more lines col = record { count = lines.count + 1; widest = max lines.widest col }
+
+-- Empty lines, which have spaces alone, and the indentation behind them. Some were met before.
+unfoldable pub empty_lines : Option ℕ → EmptyLines → Bool → Marker → List ℕ → EmptyLines × Cursor
+empty_lines limit lines b m [] = (widened lines m.col, there b m [])
+empty_lines limit lines b m (c ∷ cs) =
+    if is_indentation limit m.col c then empty_lines limit lines b (along m 1) cs
+    else if is_cr_lf c cs then empty_lines limit lines b (inside_break m) cs
+    else if is_break c then empty_lines limit (one_more lines m.col) true (next_line m 1) cs
+    else (widened lines m.col, there b m (c ∷ cs))
+
+abbrev pub empty_lines_at : Option ℕ → EmptyLines → Cursor → EmptyLines × Cursor
+empty_lines_at limit lines s = empty_lines limit lines s.blank_so_far s.mark s.rest
+
+-- whether a content line begins at a column: in column 0 no document marker does
+unfoldable pub line_starts : ℕ → ℕ → List ℕ → Bool
+line_starts indentation col xs =
+    (col == indentation) && is_yaml_non_break (slice_index xs 0) && not ((indentation == 0) && is_document_indicator xs)
+
+-- The breaks before a content line, by whether it and the content line above, where there is one, are more indented.
+-- (See `break_between` of the readings.)
+abbrev pub break_before : BlockStyle → Option Bool → ℕ → Bool → List ℕ
+break_before style None lines below = line_feeds lines
+break_before Literal (Some above) lines below = line_feeds (lines + 1)
+break_before Folded (Some above) lines below = if above || below then line_feeds (lines + 1) else raw_break lines
+
+-- what is read of the lines: the text up to the last content, the breaks behind it, and what stands behind these
+abbrev pub LinesRead : Type 0
+LinesRead = List ℕ × BlockEnd × Cursor
+
+abbrev pub with_text : List ℕ → LinesRead → LinesRead
+with_text text read = (text ++ read.0, read.1, read.2)
+
+abbrev pub ended : Bool → ℕ → Cursor → LinesRead
+ended broken lines s = ([], record { broken = broken; empty_lines = lines }, s)
+
+-- The content lines. `between` stands in the indentation of a line, behind the content line `above`, if there is one, and
+-- some empty lines; `line` stands inside the content of a line that is more indented or not.
+unfoldable mutual
+  pub between : BlockStyle → ℕ → Option Bool → ℕ → Bool → Marker → List ℕ → LinesRead
+  between style i above lines b m [] = ended (is_some above) lines (there b m [])
+  between style i above lines b m (c ∷ cs) =
+      if is_indentation (Some i) m.col c then between style i above lines b (along m 1) cs
+      else if is_cr_lf c cs then between style i above lines b (inside_break m) cs
+      else if is_break c then between style i above (lines + 1) true (next_line m 1) cs
+      else if line_starts i m.col (c ∷ cs) then
+      with_text (break_before style above lines (is_blank c) ++ c ∷ []) (line style i (is_blank c) b (along m 1) cs)
+      else ended (is_some above) lines (there b m (c ∷ cs))
+
+  pub line : BlockStyle → ℕ → Bool → Bool → Marker → List ℕ → LinesRead
+  line style i more b m [] = ended false 0 (there b m [])
+  line style i more b m (c ∷ cs) =
+      if is_yaml_non_break c then with_text (c ∷ []) (line style i more b (along m 1) cs)
+      else if is_cr_lf c cs then line style i more b (inside_break m) cs
+      else if is_break c then between style i (Some more) 0 true (next_line m 1) cs
+      else ended false 0 (there b m (c ∷ cs))
+
+abbrev pub between_at : BlockStyle → ℕ → Option Bool → ℕ → Cursor → LinesRead
+between_at style i above lines s = between style i above lines s.blank_so_far s.mark s.rest
+
+abbrev pub line_at : BlockStyle → ℕ → Bool → Cursor → LinesRead
+line_at style i more s = line style i more s.blank_so_far s.mark s.rest
+
+-- the rest of the line is put behind a text
+abbrev pub with_line : List ℕ → Cursor → List ℕ × Cursor
+with_line text s = (text ++ encode_utf8_all (take (prefix_len is_yaml_non_break s.rest) s.rest), pass_comment s)
+
+-- the lines behind a text
+abbrev pub with_front : List ℕ → LinesRead → List ℕ × BlockEnd × Cursor
+with_front text read = (text ++ encode_utf8_all read.0, read.1, read.2)
+
+-- 8.1.1.2: what stays of the breaks behind the last content. The last line may lack a break and count as if it had one.
+abbrev pub tail : Chomping → Bool → BlockEnd → List ℕ
+tail Strip unfinished end = []
+tail Clip unfinished end = if end.broken || unfinished then line_feeds 1 else []
+tail Keep unfinished end = (if end.broken then line_feeds 1 else []) ++ (if unfinished then line_feeds 1 else []) ++ line_feeds end.empty_lines
+
+-- The text's end or a NUL stands at the indentation of a line or behind it, so that it cuts the last line.
+unfoldable pub is_unfinished : ℕ → Cursor → Bool
+is_unfinished i s = is_z (slice_index s.rest 0) && nat_le (max i 1) s.mark.col
+
+-- the breaks that stay where there is no content: a last line of spaces that no break ends counts alone
+unfoldable pub tail_alone : Chomping → ℕ → Cursor → List ℕ
+tail_alone Strip lines s = []
+tail_alone Clip lines s = []
+tail_alone Keep lines s = if (lines == 0) && s.blank_so_far && nat_lt 0 s.mark.col then line_feeds 1 else line_feeds lines
+
+-- the indentation that an indicator gives, in columns: it counts from that of the enclosing block collection
+unfoldable pub given_indentation : ℕ → ℕ → Option ℕ
+given_indentation indent n = if n == 0 then None else Some (min (indent - 1 + n) (2 ^ 64 - 1))
+
+-- what is read of a scalar: its text, its span, and what stands behind it
+abbrev pub Reading : Type 0
+Reading = Result (List ℕ × Span × Cursor) Refusal
+
+unfoldable pub chomped : Chomping → ℕ → Marker → LinesRead → Reading
+chomped c i start x =
+    Ok (encode_utf8_all (x.0 ++ tail c (is_unfinished i x.2) x.1), record { start = start; end = x.2.mark }, x.2)
+
+-- the content lines, from the first on, behind some empty lines
+unfoldable pub content : BlockStyle → Chomping → ℕ → ℕ → ℕ → Cursor → Reading
+content style c indent i lines s =
+    if nat_lt s.mark.col i && nat_le indent s.mark.col then refuse fault.BlockScalarLineIndentation s.mark
+    else chomped c i s.mark (between_at style i None lines s)
+
+-- what stands behind the leading empty lines
+unfoldable pub behind_leading : BlockStyle → ℕ → Marker → Chomping → Option ℕ → EmptyLines × Cursor → Reading
+behind_leading style indent start c limit x =
+    if is_z (slice_index x.1.rest 0) then
+    Ok (encode_utf8_all (tail_alone c x.0.count x.1), record { start = start; end = x.1.mark }, x.1)
+    else content style c indent (unwrap_or limit (max x.0.widest indent)) x.0.count x.1
+
+-- no empty lines
+abbrev pub no_lines : EmptyLines
+no_lines = record { count = 0; widest = 0 }
+
+unfoldable pub behind_header : BlockStyle → ℕ → Marker → BlockHeader × Cursor → Reading
+behind_header style indent start x =
+    behind_leading style indent start x.0.chomping (given_indentation indent x.0.indicator)
+    (empty_lines_at (given_indentation indent x.0.indicator) no_lines x.1)
+
+-- A block scalar, from its `|` or `>` on: its text, its span, and what stands behind it.
+-- `indent` is the first column to the right of the enclosing block collection.
+unfoldable pub block_scalar : BlockStyle → ℕ → Cursor → Reading
+block_scalar style indent s = header s >>= behind_header style indent s.mark

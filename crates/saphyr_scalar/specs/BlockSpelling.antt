@@ -1,0 +1,104 @@
+-- The spellings of block scalars (YAML 1.2.2, 8.1), in texts whose breaks are line feeds.
+-- Each relation is between what stands at a place and what stands behind it.
+use Rattle.std.specs.Prelude.{◌≡◌, ◌≢◌, ℕ, ◌+◌, ◌-◌, ◌^◌, ◌<◌, ◌≤◌, Ok, encode_utf8_all, Bool, true, false, List, [], ◌∷◌, ◌++◌, slice_index, ◌⊎◌}
+use Rattle.saphyr_input.specs.Classes.{is_blank, is_yaml_non_break, is_z}
+use Rattle.saphyr_input.specs.Places.{is_document_indicator}
+use Rattle.saphyr_scalar.specs.declared.reading.block.Chomping.{Chomping}
+use Rattle.saphyr_scalar.specs.declared.reading.block.Chomping.TheVariants.{Strip, Clip, Keep}
+use Rattle.saphyr_scalar.specs.declared.reading.block.BlockStyle.{BlockStyle}
+use Rattle.saphyr_scalar.specs.declared.scalar.position.Span.{Span}
+use Rattle.saphyr_scalar.specs.Cursor.{Cursor}
+use Rattle.saphyr_scalar.specs.BlockReading.{Line, Empty, Content, lines_value}
+use Rattle.saphyr_scalar.specs.BlockRead.{spaces}
+use Rattle.saphyr_scalar.specs.BlockScalar.{block_scalar}
+
+-- characters of a class
+abbrev pub AreBlanks : List ℕ → Type 0
+AreBlanks [] = Unit {0}
+AreBlanks (c ∷ cs) = (is_blank c ≡ true) × AreBlanks cs
+
+abbrev pub AreContent : List ℕ → Type 0
+AreContent [] = Unit {0}
+AreContent (c ∷ cs) = (is_yaml_non_break c ≡ true) × AreContent cs
+
+-- 8.1.1.1: a digit from 1 to 9, or none, which is told as 0
+pub data IsIndicator : ℕ → List ℕ → List ℕ → Type 0 where
+  no_digit : (x : List ℕ) → IsIndicator 0 x x
+  digit : (d : ℕ) (x : List ℕ) → 1 ≤ d → d ≤ 9 → IsIndicator d ((48 + d) ∷ x) x
+
+-- 8.1.1.2: a chomping indicator, or none
+pub data IsChomping : Chomping → List ℕ → List ℕ → Type 0 where
+  strip : (x : List ℕ) → IsChomping Strip (45 ∷ x) x
+  clip : (x : List ℕ) → IsChomping Clip x x
+  keep : (x : List ℕ) → IsChomping Keep (43 ∷ x) x
+
+-- 6.6: blanks, and behind some blanks a comment, up to a line feed
+pub data IsLineEnd : List ℕ → List ℕ → Type 0 where
+  no_comment : (blanks x : List ℕ) → AreBlanks blanks → IsLineEnd (blanks ++ (10 ∷ x)) x
+  comment : (blank : ℕ) (blanks text x : List ℕ) → AreBlanks (blank ∷ blanks) → AreContent text → IsLineEnd ((blank ∷ blanks) ++ (35 ∷ (text ++ (10 ∷ x)))) x
+
+-- a line's content: characters that are no breaks, at column 0 none that begin a document marker
+pub record IsContent (i : ℕ) (c : ℕ) (cs x : List ℕ) : Type 0 where
+  pub all : AreContent (c ∷ cs)
+  pub no_marker : i ≡ 0 → is_document_indicator ((c ∷ cs) ++ x) ≡ false
+
+-- 8.1.2: lines, each empty or content behind the indentation i; the last one may lack a break at the text's end
+pub data AreLines (i : ℕ) (x : List ℕ) : List Line → List ℕ → Type 0 where
+  no_lines : AreLines i x [] x
+  empty : (j : ℕ) (ls : List Line) (t : List ℕ) → j ≤ i → AreLines i x ls t → AreLines i x (Empty ∷ ls) (spaces j ++ (10 ∷ t))
+  content : (c : ℕ) (cs : List ℕ) (ls : List Line) (t : List ℕ) → IsContent i c cs (10 ∷ t) → AreLines i x ls t → AreLines i x (Content (c ∷ cs) ∷ ls) (spaces i ++ (c ∷ (cs ++ (10 ∷ t))))
+  last : (c : ℕ) (cs : List ℕ) → IsContent i c cs [] → x ≡ [] → AreLines i x (Content (c ∷ cs) ∷ []) (spaces i ++ (c ∷ cs))
+
+-- what ends the lines: n spaces, and behind them no more of the indentation and no line
+pub record IsBehind (i n : ℕ) (x others : List ℕ) : Type 0 where
+  pub is : x ≡ spaces n ++ others
+  pub within : n ≤ i
+  pub finished : is_z (slice_index others 0) ≡ true → n ≡ 0
+  pub no_space : n < i → slice_index others 0 ≢ 32
+  pub no_break : slice_index others 0 ≢ 10
+  pub no_return : slice_index others 0 ≢ 13
+  pub no_content : n ≡ i → (is_yaml_non_break (slice_index others 0) ≡ false) ⊎ ((i ≡ 0) × (is_document_indicator others ≡ true))
+
+-- 8.1.1.1: a text with a content line, behind empty ones or none; where no indicator gives the indentation, its content
+-- begins with no space
+pub data IsBody (i : ℕ) (given : Bool) (x : List ℕ) : List Line → List ℕ → Type 0 where
+  leading : (j : ℕ) (ls : List Line) (t : List ℕ) → j ≤ i → IsBody i given x ls t → IsBody i given x (Empty ∷ ls) (spaces j ++ (10 ∷ t))
+  first : (c : ℕ) (cs : List ℕ) (ls : List Line) (t : List ℕ) → (given ≡ false → c ≢ 32) → IsContent i c cs (10 ∷ t) → AreLines i x ls t → IsBody i given x (Content (c ∷ cs) ∷ ls) (spaces i ++ (c ∷ (cs ++ (10 ∷ t))))
+  first_and_last : (c : ℕ) (cs : List ℕ) → (given ≡ false → c ≢ 32) → IsContent i c cs [] → x ≡ [] → IsBody i given x (Content (c ∷ cs) ∷ []) (spaces i ++ (c ∷ cs))
+
+-- 8.1.1: a header, with its line; its indicators stand in either order
+pub data IsHeader (n : ℕ) (chomping : Chomping) (x : List ℕ) : List ℕ → Type 0 where
+  digit_first : (mark : ℕ) (a b d : List ℕ) → IsIndicator n a b → IsChomping chomping b d → IsLineEnd d x → IsHeader n chomping x (mark ∷ a)
+  chomping_first : (mark : ℕ) (a b d : List ℕ) → IsChomping chomping a b → IsIndicator n b d → IsLineEnd d x → IsHeader n chomping x (mark ∷ a)
+
+-- 8.1.1.1: the indentation i counts from that of the enclosing block collection where a digit gives it. `indent` is the first
+-- column to the right of that collection.
+pub data IsIndentation (indent i : ℕ) : ℕ → Bool → Type 0 where
+  found : indent ≤ i → IsIndentation indent i 0 false
+  given : (d : ℕ) → 1 ≤ d → i ≡ indent - 1 + d → i < 2 ^ 64 → IsIndentation indent i d true
+
+-- A scalar stands before what ends it: n spaces, and others behind them.
+pub record IsBlockScalar (indent i n : ℕ) (chomping : Chomping) (ls : List Line) (t body others : List ℕ) : Type 0 where
+  pub digit : ℕ
+  pub is_given : Bool
+  pub behind : List ℕ
+  pub header : IsHeader digit chomping body t
+  pub no_tab : slice_index body 0 ≢ 9
+  pub indentation : IsIndentation indent i digit is_given
+  pub lines : IsBody i is_given behind ls body
+  pub ends : IsBehind i n behind others
+
+-- It was read from s: its lines, and the spaces of what ends them, are taken off. Its span starts behind the indentation of
+-- the first content line, and ends where reading did.
+pub record IsTaken (style : BlockStyle) (indent i n : ℕ) (chomping : Chomping) (ls : List Line) (s : Cursor) (body others : List ℕ) : Type 0 where
+  pub text : List ℕ
+  pub span : Span
+  pub left : Cursor
+  pub front : List ℕ
+  pub read : block_scalar style indent s ≡ Ok (text, span, left)
+  pub rest : left.rest ≡ others
+  pub column : (left.mark.col ≡ n) ⊎ (others ≡ [])
+  pub start : span.start.col ≡ i
+  pub end : span.end ≡ left.mark
+  pub taken : body ≡ front ++ others
+  pub value : text ≡ encode_utf8_all (lines_value style chomping true ls)

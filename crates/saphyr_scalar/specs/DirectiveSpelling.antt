@@ -1,0 +1,59 @@
+-- How directives are spelled (YAML 1.2.2, 6.8), and what may stand behind one on its line.
+use Rattle.std.specs.Prelude.{◌≡◌, ◌≢◌, ℕ, ◌+◌, ◌-◌, ◌*◌, ◌≤◌, ◌⊎◌, List, [], ◌∷◌, ◌++◌, length, slice_index, IsTrue, codes, encode_utf8_all}
+use Rattle.saphyr_input.specs.Classes.{is_blank, is_digit, is_yaml_non_space, is_yaml_non_break}
+use Rattle.saphyr_scalar.specs.Directive.{Directive, version, tag_prefix, reserved}
+use Rattle.saphyr_scalar.specs.TagSpelling.{AreIn, IsHandleText, IsPrefix}
+
+-- spaces and tabs, at least one
+abbrev pub AreBlanks : List ℕ → Type 0
+AreBlanks t = (t ≢ []) × AreIn is_blank t
+
+-- what decimal digits stand for, behind those that stand for v
+abbrev pub decimal_from : ℕ → List ℕ → ℕ
+decimal_from v [] = v
+decimal_from v (d ∷ ds) = decimal_from (v * 10 + (d - 48)) ds
+
+-- a number of one to nine digits
+abbrev pub IsVersionNumber : ℕ → List ℕ → Type 0
+IsVersionNumber v t = (t ≢ []) × (length t ≤ 9) × AreIn is_digit t × (decimal_from 0 t ≡ v)
+
+-- 6.8.1
+abbrev pub IsVersionDirective : ℕ → ℕ → List ℕ → Type 0
+IsVersionDirective major minor t =
+    (gap high low : List ℕ) × AreBlanks gap × IsVersionNumber major high × IsVersionNumber minor low × (t ≡ codes "%YAML" ++ (gap ++ (high ++ (codes "." ++ low))))
+
+-- 6.8.2
+abbrev pub IsTagDirective : List ℕ → List ℕ → List ℕ → Type 0
+IsTagDirective handle prefix t =
+    (first second written : List ℕ) × AreBlanks first × AreBlanks second × IsHandleText handle × IsPrefix prefix written × (t ≡ codes "%TAG" ++ (first ++ (handle ++ (second ++ written))))
+
+-- A tag directive as it is read: no blank has to stand between a handle that ends with `!` and its prefix.
+abbrev pub IsReadTagDirective : List ℕ → List ℕ → List ℕ → Type 0
+IsReadTagDirective handle prefix t =
+    (first second written : List ℕ) × AreBlanks first × AreIn is_blank second × IsHandleText handle × IsPrefix prefix written × (t ≡ codes "%TAG" ++ (first ++ (handle ++ (second ++ written))))
+
+-- what a directive says, and the directive as it is written: a version directive, or a tag directive
+abbrev pub IsDirectiveText : Directive → List ℕ → Type 0
+IsDirectiveText (version major minor) t = IsVersionDirective major minor t
+IsDirectiveText (tag_prefix handle prefix) t = (h p : List ℕ) × IsTagDirective h p t × (handle ≡ encode_utf8_all h) × (prefix ≡ encode_utf8_all p)
+IsDirectiveText (reserved name) t = ⊥
+
+-- 6.8: a directive of another name, with its parameters, up to the end of its line
+abbrev pub IsReservedDirective : List ℕ → List ℕ → Type 0
+IsReservedDirective name t =
+    (more : List ℕ) × (name ≢ []) × (name ≢ codes "YAML") × (name ≢ codes "TAG") × AreIn is_yaml_non_space name
+    × AreIn is_yaml_non_break more × ((more ≡ []) ⊎ IsTrue (is_blank (slice_index more 0))) × (t ≡ codes "%" ++ (name ++ more))
+
+-- 6.6: a comment, which has a blank before it
+abbrev pub IsComment : List ℕ → List ℕ → Type 0
+IsComment blanks t = (words : List ℕ) × (blanks ≢ []) × AreIn is_yaml_non_break words × (t ≡ codes "#" ++ words)
+
+-- the blanks and the comment behind a directive
+abbrev pub IsLineTail : List ℕ → Type 0
+IsLineTail t = (blanks comment : List ℕ) × AreIn is_blank blanks × ((comment ≡ []) ⊎ IsComment blanks comment) × (t ≡ blanks ++ comment)
+
+-- what a directive says, and the directive as it is read
+abbrev pub IsReadDirective : Directive → List ℕ → Type 0
+IsReadDirective (version major minor) t = IsVersionDirective major minor t
+IsReadDirective (tag_prefix handle prefix) t = (h p : List ℕ) × IsReadTagDirective h p t × (handle ≡ encode_utf8_all h) × (prefix ≡ encode_utf8_all p)
+IsReadDirective (reserved name) t = (n : List ℕ) × IsReservedDirective n t × (name ≡ encode_utf8_all n)

@@ -1,0 +1,49 @@
+-- What is read as a plain scalar (YAML 1.2.2, 7.3.3): a piece of the text, its reading, and what stands behind it.
+use Rattle.std.specs.Prelude.{◌≡◌, ◌≢◌, ℕ, Bool, true, ◌||◌, ◌==◌, List, [], ◌∷◌, ◌++◌, slice_index, IsTrue, IsFalse, if◌then◌else◌, encode_utf8_all}
+use Rattle.saphyr_input.specs.Classes.{nul, byte_order_mark, is_blank_or_breakz, is_bom, is_flow}
+use Rattle.saphyr_input.specs.Breaks.{normalized}
+use Rattle.saphyr_input.specs.Places.{is_blank_or_break, is_document_indicator}
+use Rattle.saphyr_scalar.specs.declared.scalar.position.Marker.{Marker}
+use Rattle.saphyr_scalar.specs.Cursor.{Cursor, along, next_line}
+use Rattle.saphyr_scalar.specs.FlowReading.{plain_value}
+use Rattle.saphyr_scalar.specs.Plain.{ends_line}
+
+abbrev pub AreWhite : List ℕ → Type 0
+AreWhite [] = Unit {0}
+AreWhite (c ∷ cs) = IsTrue (is_blank_or_break c) × AreWhite cs
+
+-- the place behind a text that begins at a place: a line more behind each break, and else a column more
+abbrev pub passed : Marker → List ℕ → Marker
+passed m [] = m
+passed m (c ∷ cs) = passed (if ends_line c cs then next_line m 1 else along m 1) cs
+
+-- How a piece of a plain scalar is spelled from the place m on, where `behind` stands behind it: no NUL and no byte order
+-- mark, no `#` at its start or behind a blank or break, no colon before a blank, break, NUL or the end, and no document
+-- marker at a line's start.
+abbrev pub IsSpelledPlain : Marker → Bool → List ℕ → List ℕ → Type 0
+IsSpelledPlain m apart [] behind = Unit {0}
+IsSpelledPlain m apart (c ∷ cs) behind =
+    (c ≢ nul) × (c ≢ byte_order_mark) × (IsTrue apart → c ≢ 35) × (c ≡ 58 → IsFalse (is_blank_or_breakz (slice_index (cs ++ behind) 0)))
+    × (m.col ≡ 0 → IsFalse (is_document_indicator (c ∷ (cs ++ behind))))
+    × IsSpelledPlain (if ends_line c (cs ++ behind) then next_line m 1 else along m 1) (is_blank_or_break c) cs behind
+
+-- what may stand behind a plain scalar: a blank, a break, NUL, a byte order mark, a colon, a flow indicator or the end
+abbrev pub ends_piece : ℕ → Bool
+ends_piece c = is_blank_or_breakz c || is_bom c || (c == 58) || is_flow c
+
+-- The text is the reading of a piece at the place s that ends at `end`, and t is the place behind the blanks and breaks
+-- that follow it.
+pub record IsPlainReading (s : Cursor) (text : List ℕ) (end : Marker) (t : Cursor) : Type 0 where
+  pub piece : List ℕ
+  pub white : List ℕ
+  pub is : s.rest ≡ piece ++ (white ++ t.rest)
+  pub spelled : IsSpelledPlain s.mark true piece (white ++ t.rest)
+  pub front : List ℕ
+  pub last : ℕ
+  pub closes : piece ≡ front ++ last ∷ []
+  pub is_ink : IsFalse (is_blank_or_break last)
+  pub follows : IsTrue (ends_piece (slice_index (white ++ t.rest) 0))
+  pub value : encode_utf8_all (plain_value (normalized piece)) ≡ text
+  pub ends : passed s.mark piece ≡ end
+  pub are_white : AreWhite white
+  pub behind : passed end white ≡ t.mark

@@ -1,0 +1,156 @@
+mod breaks;
+mod header;
+mod law;
+mod lines;
+#[cfg(test)]
+mod tests;
+
+ghost use Rattle.std.specs.Prelude.{◌≡◌, ◌<◌, ◌≤◌, length, string_bytes, IfOk, None, encode_utf8_all};
+ghost use Rattle.saphyr_scalar.specs.BlockScalar as spec;
+
+use crate::reading::{BlockStyle, Chomping};
+use crate::scalar::block::breaks::{push_line_feeds, push_tail};
+use crate::scalar::block::header::given_indentation;
+use crate::scalar::block::lines::EmptyLines;
+use crate::scalar::fault::{FaultText, Refusal, Stop};
+use crate::scalar::position::Span;
+use crate::scalar::reader::Reader;
+pub use law::{reads_each_block_scalar, reads_values_of_lines};
+use saphyr_input::char_traits::is_z;
+use saphyr_input::input::Input;
+use std::alloc::{AllocError, Global};
+
+/// The text of a block scalar, and where it stands.
+#[derive(Debug, PartialEq, Eq, Drop)]
+pub struct BlockScalar {
+    pub text: String,
+    /// From the place behind the indentation of the first content line to the place behind the
+    /// indentation of the line that ends the scalar. Without content it starts where it ends, or
+    /// at the header where the text ends there.
+    pub span: Span,
+}
+
+impl<T: Input> Reader<T> {
+    ghost use Rattle.saphyr_scalar.specs.Seen.{state, Moves};
+
+    // Whether the text's end or a NUL cuts the last line behind its indentation.
+    #[tactic(auto, unfolding(crate::specs::BlockScalar::is_unfinished))]
+    fn is_unfinished(&mut self, indentation: usize) -> bool
+        ensures value { result ≡ spec.is_unfinished indentation (state self.old) }
+        ensures same { state self.new ≡ state self.old }
+    {
+        is_z(self.look()) && self.mark.col >= indentation.max(1)
+    }
+
+    // The text of a scalar without content that the text's end or a NUL ends.
+    #[tactic(auto, unfolding(crate::specs::BlockScalar::tail_alone))]
+    fn text_without_content(
+        &self,
+        alloc: Global,
+        chomping: Chomping,
+        empty_lines: usize,
+    ) -> Result<String, AllocError>
+        ensures { IfOk result (λ text. string_bytes text ≡ encode_utf8_all (spec.tail_alone chomping empty_lines (state self.now))) }
+    {
+        let mut text = String::new(alloc);
+        if chomping == Chomping::Keep {
+            let unfinished = self.blank_so_far && self.mark.col > 0;
+            if empty_lines == 0 && unfinished {
+                push_line_feeds(&mut text, 1)?;
+            } else {
+                push_line_feeds(&mut text, empty_lines)?;
+            }
+        }
+        Ok(text)
+    }
+
+    // Takes off the content lines, behind some empty lines, and gives the scalar.
+    fn read_block_text(
+        &mut self,
+        alloc: Global,
+        style: BlockStyle,
+        chomping: Chomping,
+        indentation: usize,
+        leading: usize,
+    ) -> Result<BlockScalar, Stop>
+        requires { leading ≤ (state self.old).mark.index }
+        ensures { Moves (λ scalar. (string_bytes scalar.text, scalar.span, state self.new)) result (spec.chomped chomping indentation (state self.old).mark (spec.between_at style indentation None leading (state self.old))) }
+    {
+        let start = self.mark;
+        let mut text = String::new(alloc);
+        let end = self.read_block_lines(style, indentation, leading, &mut text)?;
+        let unfinished = self.is_unfinished(indentation);
+        push_tail(&mut text, chomping, unfinished, end)?;
+        Ok(BlockScalar {
+            text,
+            span: Span::new(start, self.mark),
+        })
+    }
+
+    // Takes off what stands behind the leading empty lines.
+    #[tactic(auto, unfolding(crate::specs::BlockScalar::content))]
+    fn read_block_content(
+        &mut self,
+        alloc: Global,
+        style: BlockStyle,
+        chomping: Chomping,
+        indent: usize,
+        indentation: usize,
+        leading: usize,
+    ) -> Result<BlockScalar, Stop>
+        requires { leading ≤ (state self.old).mark.index }
+        ensures { Moves (λ scalar. (string_bytes scalar.text, scalar.span, state self.new)) result (spec.content style chomping indent indentation leading (state self.old)) }
+    {
+        if self.mark.col < indentation && self.mark.col >= indent {
+            return Err(Stop::Refused(Refusal {
+                text: FaultText::BlockScalarLineIndentation,
+                mark: self.mark,
+            }));
+        }
+        self.read_block_text(alloc, style, chomping, indentation, leading)
+    }
+
+    /// Takes off a block scalar, from its `|` or `>` on, up to the line behind it, of which it
+    /// takes the indentation (YAML 1.2.2, 8.1).
+    ///
+    /// `indent` is the first column to the right of the enclosing block collection, 0 where there
+    /// is none. Refused are: an indentation indicator 0, a header that does not end with its line,
+    /// and a tab right behind it, each at the header's start; a comment without white space before
+    /// it, a byte order mark in the header's line, and a first content line right of the enclosing
+    /// collection and left of the indentation, each where it stands.
+    #[tactic(auto, unfolding(crate::specs::BlockScalar::block_scalar, crate::specs::BlockScalar::behind_header, crate::specs::BlockScalar::behind_leading))]
+    pub fn read_block_scalar(
+        &mut self,
+        alloc: Global,
+        style: BlockStyle,
+        indent: usize,
+    ) -> Result<BlockScalar, Stop>
+        requires { 0 < length (state self.old).rest }
+        ensures { Moves (λ scalar. (string_bytes scalar.text, scalar.span, state self.new)) result (spec.block_scalar style indent (state self.old)) }
+    {
+        let start = self.mark;
+        let header = self.read_block_header()?;
+        let limit = given_indentation(indent, header.indicator);
+        let none = EmptyLines {
+            count: 0,
+            widest: 0,
+        };
+        let leading = self.skip_empty_block_lines(limit, none);
+        if is_z(self.look()) {
+            let text = self.text_without_content(alloc, header.chomping, leading.count)?;
+            return Ok(BlockScalar {
+                text,
+                span: Span::new(start, self.mark),
+            });
+        }
+        let indentation = limit.unwrap_or(leading.widest.max(indent));
+        self.read_block_content(
+            alloc,
+            style,
+            header.chomping,
+            indent,
+            indentation,
+            leading.count,
+        )
+    }
+}

@@ -1,0 +1,115 @@
+ghost use Rattle.std.specs.Prelude.{◌≡◌, ◌+◌, ◌-◌, ◌<◌, length};
+ghost use Rattle.saphyr_scalar.specs.BlockScalar as spec;
+
+use crate::reading::Chomping;
+use crate::scalar::fault::{FaultText, Refusal};
+use crate::scalar::position::Marker;
+use crate::scalar::reader::Reader;
+use saphyr_input::char_traits::{is_breakz, is_digit};
+use saphyr_input::input::{Input, SkipTabs};
+
+// What a header says: the indicator of the indentation is 0 where none stands.
+#[derive(Clone, Copy)]
+pub(crate) struct BlockHeader {
+    pub(crate) chomping: Chomping,
+    pub(crate) indicator: usize,
+}
+
+// The indentation that an indicator gives: it counts from that of the enclosing collection.
+#[tactic(auto, unfolding(crate::specs::BlockScalar::given_indentation))]
+pub(crate) fn given_indentation(indent: usize, indicator: usize) -> Option<usize>
+    ensures { result ≡ spec.given_indentation indent indicator }
+{
+    if indicator == 0 {
+        return None;
+    }
+    Some(indent.saturating_sub(1).saturating_add(indicator))
+}
+
+impl<T: Input> Reader<T> {
+    ghost use Rattle.saphyr_scalar.specs.Seen.{state, Gives};
+
+    // Takes off the chomping indicator that stands first, where one does.
+    #[tactic(auto, using(crate::proofs::BlockLines::read_left), unfolding(crate::specs::BlockScalar::chomping))]
+    fn read_chomping(&mut self) -> Option<Chomping>
+        ensures { (result, state self.new) ≡ spec.chomping (state self.old) }
+    {
+        let chomping = match self.look() {
+            '+' => Chomping::Keep,
+            '-' => Chomping::Strip,
+            _ => return None,
+        };
+        self.skip_non_blank();
+        Some(chomping)
+    }
+
+    // Takes off the indentation indicator that stands first, and gives 0 where none does.
+    #[tactic(auto, using(crate::proofs::BlockLines::read_left), unfolding(crate::specs::BlockScalar::indicator))]
+    fn read_indentation_indicator(&mut self, start: Marker) -> Result<usize, Refusal>
+        ensures { Gives (λ n. (n, state self.new)) result (spec.indicator start (state self.old)) }
+    {
+        let c = self.look();
+        if !is_digit(c) {
+            return Ok(0);
+        }
+        if c == '0' {
+            return Err(Refusal {
+                text: FaultText::BlockScalarIndicatorZero,
+                mark: start,
+            });
+        }
+        self.skip_non_blank();
+        Ok(c as usize - '0' as usize)
+    }
+
+    // Takes off the end of a header's line.
+    #[tactic(auto, unfolding(crate::specs::BlockScalar::header_end, crate::specs::BlockScalar::header_break))]
+    fn end_block_header(&mut self, start: Marker) -> Result<(), Refusal>
+        ensures { Gives (λ _. state self.new) result (spec.header_end start (state self.old)) }
+    {
+        self.skip_ws_to_eol(SkipTabs::Yes)?;
+        if !is_breakz(self.look()) {
+            return Err(Refusal {
+                text: FaultText::BlockScalarHeaderEndExpected,
+                mark: start,
+            });
+        }
+        self.skip_line_break();
+        if self.look() == '\t' {
+            return Err(Refusal {
+                text: FaultText::BlockScalarTabFirst,
+                mark: start,
+            });
+        }
+        Ok(())
+    }
+
+    // The chomping, whose indicator may stand behind that of the indentation.
+    #[tactic(auto, unfolding(crate::specs::BlockScalar::last_chomping))]
+    fn read_last_chomping(&mut self, first: Option<Chomping>) -> Chomping
+        ensures { (result, state self.new) ≡ spec.last_chomping first (state self.old) }
+    {
+        match first {
+            Some(chomping) => chomping,
+            None => self.read_chomping().unwrap_or(Chomping::Clip),
+        }
+    }
+
+    // Takes off a header, from its `|` or `>` on, with its line.
+    #[tactic(auto, unfolding(crate::specs::BlockScalar::header, crate::specs::BlockScalar::header_behind))]
+    pub(crate) fn read_block_header(&mut self) -> Result<BlockHeader, Refusal>
+        requires { 0 < length (state self.old).rest }
+        ensures { Gives (λ header. (header, state self.new)) result (spec.header (state self.old)) }
+    {
+        let start = self.mark;
+        self.skip_non_blank();
+        let first = self.read_chomping();
+        let indicator = self.read_indentation_indicator(start)?;
+        let chomping = self.read_last_chomping(first);
+        self.end_block_header(start)?;
+        Ok(BlockHeader {
+            chomping,
+            indicator,
+        })
+    }
+}

@@ -1,0 +1,134 @@
+ghost use Rattle.std.specs.Prelude.{◌≡◌, ◌+◌, ◌≤◌, string_bytes, Ok, None};
+ghost use Rattle.saphyr_scalar.specs.BlockScalar as spec;
+
+use crate::reading::BlockStyle;
+use crate::scalar::block::breaks::{BlockEnd, push_break_before};
+use crate::scalar::fault::Stop;
+use crate::scalar::reader::Reader;
+use saphyr_input::char_traits::{is_blank, is_break, is_yaml_non_break};
+use saphyr_input::input::Input;
+
+// Lines of spaces alone: how many breaks end them, and the column that the longest reaches.
+#[derive(Clone, Copy)]
+pub(crate) struct EmptyLines {
+    pub(crate) count: usize,
+    pub(crate) widest: usize,
+}
+
+// Whether a space at a column belongs to the indentation, which may have a limit.
+#[inline]
+fn is_indentation(limit: Option<usize>, col: usize, c: char) -> bool
+    ensures { result ≡ spec.is_indentation limit col c }
+{
+    match limit {
+        Some(limit) => c == ' ' && col < limit,
+        None => c == ' ',
+    }
+}
+
+impl<T: Input> Reader<T> {
+    ghost use Rattle.saphyr_scalar.specs.Seen.{state, loaded, Moves};
+
+    // Takes off empty lines and the indentation behind them, which may have a limit.
+    pub(crate) fn skip_empty_block_lines(
+        &mut self,
+        limit: Option<usize>,
+        before: EmptyLines,
+    ) -> EmptyLines
+        requires { before.count ≤ (state self.old).mark.index }
+        ensures taken { (result, state self.new) ≡ spec.empty_lines_at limit before (state self.old) }
+        ensures few { result.count ≤ (state self.new).mark.index }
+    {
+        let mut lines = before;
+        loop {
+            let c = self.look();
+            if is_break(c) {
+                lines.count += 1;
+                lines.widest = lines.widest.max(self.mark.col);
+                self.skip_line_break();
+                continue;
+            }
+            if !is_indentation(limit, self.mark.col, c) {
+                break;
+            }
+            self.skip_blank();
+        }
+        lines.widest = lines.widest.max(self.mark.col);
+        lines
+    }
+
+    // Whether a content line begins here.
+    #[tactic(auto, unfolding(crate::specs::BlockScalar::line_starts))]
+    fn block_line_starts(&mut self, indentation: usize) -> bool
+        ensures value { result ≡ spec.line_starts indentation (state self.old).mark.col (state self.old).rest }
+        ensures same { state self.new ≡ state self.old }
+        ensures loaded { 1 ≤ loaded self.new }
+    {
+        self.load(4);
+        self.mark.col == indentation
+            && is_yaml_non_break(self.input.peek())
+            && !(indentation == 0 && self.input.next_is_document_indicator())
+    }
+
+    // Moves the rest of a line to the end of a text.
+    #[tactic(auto, using(crate::proofs::BlockRuns::words_within))]
+    fn read_block_line(&mut self, text: &mut String) -> Result<(), Stop>
+        ensures { Moves (λ _. (string_bytes text.new, state self.new)) result (Ok (spec.with_line (string_bytes text.old) (state self.old))) }
+    {
+        let mut count = 0;
+        loop {
+            count += self.input.fetch_while_is_yaml_non_space(text)?;
+            let c = self.input.peek();
+            if !is_blank(c) {
+                break;
+            }
+            text.push(c)?;
+            self.input.skip();
+            count += 1;
+        }
+        self.mark = self.mark.along(count);
+        Ok(())
+    }
+    // Moves the content lines to the end of a text, behind some empty lines, and gives what stands
+    // behind the last content.
+    pub(crate) fn read_block_lines(
+        &mut self,
+        style: BlockStyle,
+        indentation: usize,
+        leading: usize,
+        text: &mut String,
+    ) -> Result<BlockEnd, Stop>
+        requires { leading ≤ (state self.old).mark.index }
+        ensures { Moves (λ end. (string_bytes text.new, end, state self.new)) result (Ok (spec.with_front (string_bytes text.old) (spec.between_at style indentation None leading (state self.old)))) }
+    {
+        let mut above = None;
+        let mut lines = EmptyLines {
+            count: leading,
+            widest: 0,
+        };
+        loop {
+            lines = self.skip_empty_block_lines(Some(indentation), lines);
+            if !self.block_line_starts(indentation) {
+                return Ok(BlockEnd {
+                    broken: above.is_some(),
+                    empty_lines: lines.count,
+                });
+            }
+            let below = self.input.next_is_blank();
+            push_break_before(text, style, above, lines.count, below)?;
+            self.read_block_line(text)?;
+            if !is_break(self.look()) {
+                return Ok(BlockEnd {
+                    broken: false,
+                    empty_lines: 0,
+                });
+            }
+            self.skip_line_break();
+            above = Some(below);
+            lines = EmptyLines {
+                count: 0,
+                widest: 0,
+            };
+        }
+    }
+}

@@ -1,0 +1,238 @@
+ghost use Rattle.std.specs.Prelude.{◌≡◌, ℕ, ◌<◌, List, [], length, slice_index, string_bytes, Ok};
+ghost use Rattle.saphyr_scalar.specs.Directive as spec;
+ghost use Rattle.saphyr_scalar.specs.Quoted as run;
+
+use crate::scalar::fault::{FaultText, Refusal, Stop};
+use crate::scalar::position::Marker;
+use crate::scalar::reader::Reader;
+use crate::scalar::tag::{UriSet, named_handle};
+use saphyr_input::char_traits::{is_blank_or_breakz, is_breakz, is_digit, is_tag_char};
+use saphyr_input::input::{Input, SkipTabs};
+use std::alloc::Global;
+
+/// What a directive says (YAML 1.2.2, 6.8).
+#[derive(Debug, PartialEq, Eq, Drop)]
+pub enum Directive {
+    /// The major and the minor number of `%YAML`.
+    Version(u32, u32),
+    /// The handle of `%TAG` as it is written, and its prefix with percent escapes resolved.
+    TagPrefix(String, String),
+    /// The name of any other directive.
+    Reserved(String),
+}
+
+/// A directive, and the place behind it on its line.
+#[derive(Debug, PartialEq, Eq, Drop)]
+pub struct DirectiveLine {
+    pub directive: Directive,
+    pub end: Marker,
+}
+
+impl<T: Input> Reader<T> {
+    ghost use Rattle.saphyr_scalar.specs.Seen.{state, Gives, Moves};
+
+    // Takes blanks off.
+    #[tactic(auto, using(crate::proofs::Lengths::run_within))]
+    fn skip_blanks(&mut self)
+        ensures { state self.new ≡ spec.behind_blanks (state self.old) }
+    {
+        let count = self.input.skip_while_blank();
+        self.mark = self.mark.along(count);
+    }
+
+    // Takes off the name of a directive.
+    #[tactic(auto, using(crate::proofs::Lengths::run_within), unfolding(crate::specs::Directive::name, crate::specs::Directive::name_of))]
+    fn read_directive_name(&mut self, alloc: Global) -> Result<String, Stop>
+        ensures { Moves (λ name. (string_bytes name, state self.new)) result (spec.name (state self.old)) }
+    {
+        let start = self.mark;
+        let mut name = String::new(alloc);
+        let count = self.input.fetch_while_is_yaml_non_space(&mut name)?;
+        self.mark = self.mark.along(count);
+        self.blank_so_far = false;
+        if name.is_empty() {
+            return Err(Stop::Refused(Refusal {
+                text: FaultText::DirectiveNameExpected,
+                mark: start,
+            }));
+        }
+        if !is_blank_or_breakz(self.look()) {
+            return Err(Stop::Refused(Refusal {
+                text: FaultText::DirectiveNameCharacter,
+                mark: start,
+            }));
+        }
+        Ok(name)
+    }
+
+    // Takes off a number of one to nine digits.
+    #[tactic(auto, unfolding(crate::specs::Directive::number_from, crate::specs::Directive::number_end))]
+    fn read_version_number(&mut self, start: Marker) -> Result<u32, Refusal>
+        ensures { Gives (λ v. (v, state self.new)) result (spec.number start (state self.old)) }
+    {
+        let mut count = 0usize;
+        let mut value = 0u32;
+        let mut c = self.look();
+        while is_digit(c) {
+            if count == 9 {
+                return Err(Refusal {
+                    text: FaultText::VersionNumberTooLong,
+                    mark: start,
+                });
+            }
+            count += 1;
+            value = value * 10 + (c as u32 - '0' as u32);
+            self.skip_non_blank();
+            c = self.look();
+        }
+        if count == 0 {
+            return Err(Refusal {
+                text: FaultText::VersionNumberExpected,
+                mark: start,
+            });
+        }
+        self.blank_so_far = false;
+        Ok(value)
+    }
+
+    // Takes off the numbers of a version directive (YAML 1.2.2, 6.8.1).
+    #[tactic(auto, unfolding(crate::specs::Directive::version_directive, crate::specs::Directive::behind_major))]
+    fn read_version_directive(&mut self, start: Marker) -> Result<Directive, Refusal>
+        ensures { Gives (λ d. (spec.directive_of d, state self.new)) result (spec.version_directive start (state self.old)) }
+    {
+        self.skip_blanks();
+        let major = self.read_version_number(start)?;
+        if self.look() != '.' {
+            return Err(Refusal {
+                text: FaultText::VersionDigitOrDotExpected,
+                mark: start,
+            });
+        }
+        self.skip_non_blank();
+        let minor = self.read_version_number(start)?;
+        Ok(Directive::Version(major, minor))
+    }
+
+    // Takes off the handle of a tag directive: `!`, `!!` or `!word!`.
+    #[tactic(auto, unfolding(crate::specs::Directive::handle, crate::specs::Directive::behind_word))]
+    fn read_directive_handle(&mut self, alloc: Global, start: Marker) -> Result<String, Stop>
+        ensures { Moves (λ handle. (string_bytes handle, state self.new)) result (spec.handle start (state self.old)) }
+    {
+        if self.look() != '!' {
+            return Err(Stop::Refused(Refusal {
+                text: FaultText::TagHandleStartExpected,
+                mark: start,
+            }));
+        }
+        self.skip_non_blank();
+        let mut word = String::new(alloc);
+        self.read_tag_word(&mut word)?;
+        if self.look() == '!' {
+            self.skip_non_blank();
+            return Ok(named_handle(alloc, word.as_str())?);
+        }
+        if !word.is_empty() {
+            return Err(Stop::Refused(Refusal {
+                text: FaultText::TagDirectiveHandleEndExpected,
+                mark: start,
+            }));
+        }
+        Ok(String::from_str(alloc, "!")?)
+    }
+
+    // Takes off the prefix of a tag directive, with its escapes resolved.
+    #[tactic(auto, using(crate::proofs::Directives::prefix_left), unfolding(crate::specs::Directive::prefix))]
+    fn read_tag_prefix(&mut self, alloc: Global, start: Marker) -> Result<String, Stop>
+        ensures { Moves (λ prefix. (string_bytes prefix, state self.new)) result (spec.prefix start (state self.old)) }
+    {
+        let first = self.look();
+        if first != '!' && !is_tag_char(first) {
+            return Err(Stop::Refused(Refusal {
+                text: FaultText::TagPrefixCharacter,
+                mark: start,
+            }));
+        }
+        let c = self.read_uri_character(start)?;
+        let mut prefix = String::new(alloc);
+        prefix.push(c)?;
+        self.read_uri_characters(UriSet::Uri, start, &mut prefix)?;
+        Ok(prefix)
+    }
+
+    // Takes off the handle and the prefix of a tag directive (YAML 1.2.2, 6.8.2).
+    #[tactic(auto, unfolding(crate::specs::Directive::tag_directive, crate::specs::Directive::behind_prefix))]
+    fn read_tag_directive(&mut self, alloc: Global, start: Marker) -> Result<Directive, Stop>
+        ensures { Moves (λ d. (spec.directive_of d, state self.new)) result (spec.tag_directive start (state self.old)) }
+    {
+        self.skip_blanks();
+        let handle = self.read_directive_handle(alloc, start)?;
+        self.skip_blanks();
+        let prefix = self.read_tag_prefix(alloc, start)?;
+        if !is_blank_or_breakz(self.look()) {
+            return Err(Stop::Refused(Refusal {
+                text: FaultText::TagDirectiveEndExpected,
+                mark: start,
+            }));
+        }
+        Ok(Directive::TagPrefix(handle, prefix))
+    }
+
+    // Takes off what follows the name of a directive. The parameters of a reserved directive are passed.
+    #[tactic(auto, unfolding(crate::specs::Directive::value))]
+    fn read_directive_value(
+        &mut self,
+        alloc: Global,
+        name: String,
+        start: Marker,
+    ) -> Result<Directive, Stop>
+        ensures { Moves (λ d. (spec.directive_of d, state self.new)) result (spec.value start (string_bytes name, state self.old)) }
+    {
+        if name.as_str() == "YAML" {
+            return Ok(self.read_version_directive(start)?);
+        }
+        if name.as_str() == "TAG" {
+            return self.read_tag_directive(alloc, start);
+        }
+        self.skip_comment();
+        Ok(Directive::Reserved(name))
+    }
+
+    // Takes off the blanks, the comment and the break behind a directive.
+    #[tactic(auto, unfolding(crate::specs::Directive::line_end))]
+    fn end_directive_line(&mut self, start: Marker) -> Result<(), Refusal>
+        ensures { Gives (λ _. state self.new) result (spec.line_end start (state self.old)) }
+    {
+        self.skip_ws_to_eol(SkipTabs::Yes)?;
+        if !is_breakz(self.look()) {
+            return Err(Refusal {
+                text: FaultText::DirectiveEndExpected,
+                mark: start,
+            });
+        }
+        self.skip_line_break();
+        Ok(())
+    }
+
+    /// Takes off a directive (YAML 1.2.2, 6.8), from its `%` on to the end of its line: the blanks
+    /// and the comment behind it, and the break.
+    ///
+    /// A name without characters, or with a byte order mark behind it, is refused behind the `%`,
+    /// and what stands behind the directive where it stands: a byte order mark, or a comment
+    /// before which there is no blank. All other faults are refused at the `%`: a version number
+    /// without digits or with more than nine, no dot between the two, a handle without its last
+    /// `!`, a prefix that begins with no character of tags, a percent escape that is no UTF-8, and
+    /// content behind the directive. The parameters of a reserved directive are passed over.
+    #[tactic(auto, unfolding(crate::specs::Directive::directive))]
+    pub fn read_directive(&mut self, alloc: Global) -> Result<DirectiveLine, Stop>
+        requires { slice_index (state self.old).rest 0 ≡ 37 }
+        ensures { Moves (λ line. (spec.directive_of line.directive, line.end, state self.new)) result (spec.directive (state self.old)) }
+    {
+        let start = self.mark;
+        self.skip_non_blank();
+        let name = self.read_directive_name(alloc)?;
+        let directive = self.read_directive_value(alloc, name, start)?;
+        let end = self.mark;
+        self.end_directive_line(start)?;
+        Ok(DirectiveLine { directive, end })
+    }
+}

@@ -1,0 +1,306 @@
+ghost use Rattle.std.specs.Prelude.{◌≡◌, ℕ, ◌+◌, ◌*◌, ◌<◌, ◌≤◌, ◌^◌, List, [], length, slice_index, string_bytes, Ok, IfOk};
+ghost use Rattle.saphyr_input.specs.Classes as class;
+ghost use Rattle.saphyr_scalar.specs.Quoted as run;
+ghost use Rattle.saphyr_scalar.specs.Tag as spec;
+
+use crate::scalar::fault::{FaultText, Refusal, Stop};
+use crate::scalar::position::Marker;
+use crate::scalar::reader::Reader;
+use saphyr_input::char_traits::{
+    as_hex, is_blank_or_breakz, is_flow, is_hex, is_tag_char, is_uri_char,
+};
+use saphyr_input::input::Input;
+use std::alloc::{AllocError, Global};
+
+/// A tag as two texts: its handle as it is written, and its suffix with percent escapes resolved.
+///
+/// The handle of `!<uri>` is empty and its suffix the uri. The handle of `!` alone is empty and
+/// its suffix `!`.
+#[derive(Debug, PartialEq, Eq, Drop)]
+pub struct TagParts {
+    pub handle: String,
+    pub suffix: String,
+}
+
+// The characters that may stand in a uri, or in the suffix of a tag.
+#[derive(Clone, Copy)]
+pub(crate) enum UriSet {
+    Uri,
+    Suffix,
+}
+
+impl UriSet {
+    // Whether the character is one of the set.
+    #[inline]
+    fn has(self, c: char) -> bool
+        ensures { result ≡ spec.has self c }
+    {
+        match self {
+            UriSet::Uri => is_uri_char(c),
+            UriSet::Suffix => is_tag_char(c),
+        }
+    }
+}
+
+// How many bytes a character has in UTF-8 whose first byte is this one, 0 where none has.
+#[tactic(auto, unfolding(crate::specs::Tag::utf8_width))]
+fn utf8_width(byte: u32) -> usize
+    ensures value { result ≡ spec.utf8_width byte }
+    ensures small { result ≤ 4 }
+{
+    match byte {
+        0x00..=0x7F => 1,
+        0xC0..=0xDF => 2,
+        0xE0..=0xEF => 3,
+        0xF0..=0xF7 => 4,
+        _ => 0,
+    }
+}
+
+// What the first byte of a character's UTF-8 says of the character.
+#[tactic(auto, unfolding(crate::specs::Tag::leading_bits))]
+fn leading_bits(byte: u32) -> u32
+    requires { byte < 256 }
+    ensures value { result ≡ spec.leading_bits byte }
+    ensures small { result < 192 }
+{
+    match byte {
+        0xC0..=0xDF => byte - 0xC0,
+        0xE0..=0xEF => byte - 0xE0,
+        0xF0..=0xFF => byte - 0xF0,
+        _ => byte,
+    }
+}
+
+// The handle `!word!`, or `!!` of no word.
+pub(crate) fn named_handle(alloc: Global, word: &str) -> Result<String, AllocError>
+    ensures { IfOk result (λ handle. string_bytes handle ≡ spec.handle_of word.now) }
+{
+    format!(in alloc; "!{word}!")
+}
+
+impl<T: Input> Reader<T> {
+    ghost use Rattle.saphyr_scalar.specs.Seen.{state, Gives, Moves};
+
+    // Takes off the escape of one byte.
+    #[tactic(auto, unfolding(crate::specs::Tag::escaped_byte))]
+    fn read_escaped_byte(&mut self, start: Marker) -> Result<u32, Refusal>
+        ensures value { Gives (λ byte. (byte, state self.new)) result (spec.escaped_byte start (state self.old)) }
+        ensures small { IfOk result (λ byte. byte < 256) }
+    {
+        self.load(3);
+        let high = self.input.peek_nth(1);
+        let low = self.input.peek_nth(2);
+        if self.input.peek() != '%' || !is_hex(high) || !is_hex(low) {
+            return Err(Refusal {
+                text: FaultText::TagEscape,
+                mark: start,
+            });
+        }
+        self.skip_n_non_blank(3);
+        Ok(as_hex(high) * 16 + as_hex(low))
+    }
+
+    // Takes off the escape of a byte that is not the first of its character, and gives what it and
+    // the bytes before it say.
+    #[tactic(auto, unfolding(crate::specs::Tag::trailing_byte))]
+    fn read_trailing_byte(&mut self, value: u32, start: Marker) -> Result<u32, Refusal>
+        requires { value < 2 ^ 24 }
+        ensures value { Gives (λ grown. (grown, state self.new)) result (spec.trailing_byte start value (state self.old)) }
+        ensures small { IfOk result (λ grown. grown < 64 * value + 64) }
+    {
+        let byte = self.read_escaped_byte(start)?;
+        match byte {
+            0x80..=0xBF => Ok(value * 64 + (byte - 0x80)),
+            _ => Err(Refusal {
+                text: FaultText::TagEscapeTrailingByte,
+                mark: start,
+            }),
+        }
+    }
+
+    // Takes off the escapes of so many bytes behind the first one of a character.
+    #[tactic(auto, unfolding(crate::specs::Tag::trailing_bytes))]
+    fn read_trailing_bytes(
+        &mut self,
+        count: usize,
+        bits: u32,
+        start: Marker,
+    ) -> Result<u32, Refusal>
+        requires few { count ≤ 3 }
+        requires small { bits < 256 }
+        ensures { Gives (λ value. (value, state self.new)) result (spec.trailing_bytes start count bits (state self.old)) }
+    {
+        let mut value = bits;
+        for _ in 0..count {
+            value = self.read_trailing_byte(value, start)?;
+        }
+        Ok(value)
+    }
+
+    // Takes off a percent escape, and gives the character that it stands for (YAML 1.2.2, 5.6).
+    #[tactic(auto, unfolding(crate::specs::Tag::escape, crate::specs::Tag::behind_leading, crate::specs::Tag::encoded))]
+    fn read_percent_escape(&mut self, start: Marker) -> Result<char, Refusal>
+        ensures { Gives (λ c. (c, state self.new)) result (spec.escape start (state self.old)) }
+    {
+        let first = self.read_escaped_byte(start)?;
+        let width = utf8_width(first);
+        if width == 0 {
+            return Err(Refusal {
+                text: FaultText::TagEscapeLeadingByte,
+                mark: start,
+            });
+        }
+        let value = self.read_trailing_bytes(width - 1, leading_bits(first), start)?;
+        match char::from_u32(value) {
+            Some(c) if c.len_utf8() == width => Ok(c),
+            _ => Err(Refusal {
+                text: FaultText::TagEscapeCodePoint,
+                mark: start,
+            }),
+        }
+    }
+
+    // Takes off a character of a uri, or the escape of one.
+    #[tactic(auto, unfolding(crate::specs::Tag::uri_character))]
+    pub(crate) fn read_uri_character(&mut self, start: Marker) -> Result<char, Refusal>
+        requires { 0 < length (state self.old).rest }
+        ensures { Gives (λ c. (c, state self.new)) result (spec.uri_character start (state self.old)) }
+    {
+        let c = self.look();
+        if c == '%' {
+            return self.read_percent_escape(start);
+        }
+        self.skip_non_blank();
+        Ok(c)
+    }
+
+    // Moves characters of a set, with their escapes resolved, to the end of a text.
+    pub(crate) fn read_uri_characters(
+        &mut self,
+        set: UriSet,
+        start: Marker,
+        text: &mut String,
+    ) -> Result<(), Stop>
+        ensures { Moves (λ _. (string_bytes text.new, state self.new)) result (run.with_front (string_bytes text.old) (spec.decoded_at set start (state self.old))) }
+    {
+        while set.has(self.look()) {
+            let c = self.read_uri_character(start)?;
+            text.push(c)?;
+        }
+        self.blank_so_far = false;
+        Ok(())
+    }
+
+    // Moves the characters of a handle's word to the end of a text.
+    #[tactic(auto, using(crate::proofs::Lengths::run_within))]
+    pub(crate) fn read_tag_word(&mut self, text: &mut String) -> Result<(), Stop>
+        ensures { Moves (λ _. (string_bytes text.new, state self.new)) result (Ok (run.with_run class.is_alpha (string_bytes text.old) (state self.old))) }
+    {
+        let count = self.input.fetch_while_is_alpha(text)?;
+        self.mark = self.mark.along(count);
+        self.blank_so_far = false;
+        Ok(())
+    }
+
+    // Takes off `!<uri>`.
+    #[tactic(auto, unfolding(crate::specs::Tag::verbatim, crate::specs::Tag::verbatim_end))]
+    fn read_verbatim_tag(&mut self, alloc: Global) -> Result<TagParts, Stop>
+        requires { 2 ≤ length (state self.old).rest }
+        ensures { Moves (λ tag. (string_bytes tag.handle, string_bytes tag.suffix, state self.new)) result (spec.verbatim (state self.old)) }
+    {
+        let start = self.mark;
+        self.skip_n_non_blank(2);
+        let mut uri = String::new(alloc);
+        self.read_uri_characters(UriSet::Uri, start, &mut uri)?;
+        if self.look() != '>' {
+            return Err(Stop::Refused(Refusal {
+                text: FaultText::VerbatimTagEndExpected,
+                mark: start,
+            }));
+        }
+        self.skip_non_blank();
+        Ok(TagParts {
+            handle: String::new(alloc),
+            suffix: uri,
+        })
+    }
+
+    // Takes off the suffix of a tag behind `!!` or `!word!`.
+    #[tactic(auto, unfolding(crate::specs::Tag::named_tail, crate::specs::Tag::named_tag))]
+    fn read_named_suffix(
+        &mut self,
+        alloc: Global,
+        word: &str,
+        start: Marker,
+    ) -> Result<TagParts, Stop>
+        ensures { Moves (λ tag. (string_bytes tag.handle, string_bytes tag.suffix, state self.new)) result (spec.named_tail start word.now (state self.old)) }
+    {
+        let mut suffix = String::new(alloc);
+        self.read_uri_characters(UriSet::Suffix, start, &mut suffix)?;
+        if suffix.is_empty() {
+            return Err(Stop::Refused(Refusal {
+                text: FaultText::TagSuffixExpected,
+                mark: start,
+            }));
+        }
+        let handle = named_handle(alloc, word)?;
+        Ok(TagParts { handle, suffix })
+    }
+
+    // Takes off a tag of a handle and a suffix.
+    #[tactic(auto, unfolding(crate::specs::Tag::shorthand, crate::specs::Tag::behind_word, crate::specs::Tag::primary_tag))]
+    fn read_shorthand_tag(&mut self, alloc: Global) -> Result<TagParts, Stop>
+        requires { 0 < length (state self.old).rest }
+        ensures { Moves (λ tag. (string_bytes tag.handle, string_bytes tag.suffix, state self.new)) result (spec.shorthand (state self.old)) }
+    {
+        let start = self.mark;
+        self.skip_non_blank();
+        let mut word = String::new(alloc);
+        self.read_tag_word(&mut word)?;
+        if self.look() == '!' {
+            self.skip_non_blank();
+            return self.read_named_suffix(alloc, word.as_str(), start);
+        }
+        let mut suffix = word;
+        self.read_uri_characters(UriSet::Suffix, start, &mut suffix)?;
+        let mark = String::from_str(alloc, "!")?;
+        if suffix.is_empty() {
+            return Ok(TagParts {
+                handle: suffix,
+                suffix: mark,
+            });
+        }
+        Ok(TagParts {
+            handle: mark,
+            suffix,
+        })
+    }
+
+    /// Takes off a tag (YAML 1.2.2, 6.9.1), from its `!` on, inside flow or outside.
+    ///
+    /// All faults are refused at the `!`: a verbatim tag without its `>`, a handle `!!` or
+    /// `!word!` without a suffix, a percent escape that is no UTF-8, and a tag with anything but a
+    /// blank, a break or the end behind it, or in flow a flow indicator.
+    #[tactic(auto, unfolding(crate::specs::Tag::tag, crate::specs::Tag::tag_end))]
+    pub fn read_tag(&mut self, alloc: Global, in_flow: bool) -> Result<TagParts, Stop>
+        requires { slice_index (state self.old).rest 0 ≡ 33 }
+        ensures { Moves (λ tag. (string_bytes tag.handle, string_bytes tag.suffix, state self.new)) result (spec.tag in_flow (state self.old)) }
+    {
+        let start = self.mark;
+        self.load(2);
+        let tag = if self.input.nth_char_is(1, '<') {
+            self.read_verbatim_tag(alloc)?
+        } else {
+            self.read_shorthand_tag(alloc)?
+        };
+        let c = self.look();
+        if is_blank_or_breakz(c) || in_flow && is_flow(c) {
+            return Ok(tag);
+        }
+        Err(Stop::Refused(Refusal {
+            text: FaultText::TagEndExpected,
+            mark: start,
+        }))
+    }
+}

@@ -1,0 +1,83 @@
+-- Tokens are read until the first of the queue can be handed out.
+use Rattle.std.proofs.Common.{◌≡◌, ℕ, zero, suc, ◌+◌, ◌<◌, Bool, true, false, List, [], ◌∷◌, Result, Ok, Err, refl, sym, ap, ◌∙◌, arith, subst}
+use Rattle.std.specs.Prelude.{◌&&◌, not, Option, Some, None}
+use Rattle.saphyr_scalar.specs.declared.scalar.fault.Refusal.{Refusal}
+use Rattle.saphyr_scalar.specs.Cursor.{◌>>=◌}
+use Rattle.saphyr_scanner.specs.Core.{Candidate, Core, in_block, is_too_far, drop_far_key, forget_key}
+use Rattle.saphyr_scanner.specs.State.{State, carried}
+use Rattle.saphyr_scanner.specs.Fetch.{size, fetch_within, settled, needs_token, fill_in, fill}
+use Rattle.saphyr_scanner.proofs.Sizes.{by_test, Given, given_of}
+use Rattle.saphyr_scanner.proofs.TakingScalars.{Readers}
+use Rattle.saphyr_scanner.proofs.FetchSizes.{read_smaller}
+
+pub going : (ended b : Bool) → (not ended && b) ≡ true → ended ≡ false
+going true b e = sym e
+going false b e = refl
+
+-- the next token is read, and a candidate that is too far is dropped
+abbrev pub read : ℕ → State → Result State Refusal
+read limit s = fetch_within limit s >>= settled
+
+pub read_is : (limit : ℕ) (s t u : State) → fetch_within limit s ≡ Ok t → settled t ≡ Ok u → read limit s ≡ Ok u
+read_is limit s t u e f = rw e f
+
+pub smaller_read : Readers → (limit : ℕ) (s u : State) → needs_token s ≡ true → read limit s ≡ Ok u → size u.core < size s.core
+smaller_read laws limit s u needs e =
+    given_of (λ (t : State). size t.core < size s.core) (read limit s) u (read_smaller laws limit s (going s.core.ended _ needs)) e
+
+pub same_bind : {X Y : Type 0} → (r : Result X Refusal) (f g : X → Result Y Refusal) → ((x : X) → r ≡ Ok x → f x ≡ g x) → (r >>= f) ≡ (r >>= g)
+same_bind (Ok x) f g h = h x refl
+same_bind (Err e) f g h = refl
+
+pub enough : Readers → (limit n m : ℕ) (s : State) → size s.core < n → size s.core < m → fill_in n limit s ≡ fill_in m limit s
+enough laws limit zero m s a b = absurd (omega (arith, a))
+enough laws limit (suc n) zero s a b = absurd (omega (arith, b))
+enough laws limit (suc n) (suc m) s a b = go (needs_token s) refl (λ u less. enough laws limit n m u (omega (arith, less, a)) (omega (arith, less, b)))
+  where
+    go : (t : Bool) → needs_token s ≡ t → ((u : State) → size u.core < size s.core → fill_in n limit u ≡ fill_in m limit u) → fill_in (suc n) limit s ≡ fill_in (suc m) limit s
+    go true e h =
+        let step : (read limit s >>= fill_in n limit) ≡ (read limit s >>= fill_in m limit) = same_bind (read limit s) _ _ (λ u q. h u (smaller_read laws limit s u e q)) in
+        rw e step
+    go false e h = rw e refl
+
+-- one token more
+pub one_more : Readers → (limit : ℕ) (s u : State) → needs_token s ≡ true → read limit s ≡ Ok u → fill_in (suc (size u.core)) limit u ≡ fill_in (suc (size s.core)) limit s
+one_more laws limit s u needs e =
+    let less = smaller_read laws limit s u needs e in
+    let unfolded : fill_in (suc (size s.core)) limit s ≡ fill_in (size s.core) limit u = rw (needs, e) refl in
+    enough laws limit (suc (size u.core)) (size s.core) u (omega arith) less ∙ sym unfolded
+
+-- ## A candidate that was dropped stays so
+
+not_twice : (c d : Core) → drop_far_key c ≡ Ok d → drop_far_key d ≡ Ok d
+unfolding drop_far_key
+not_twice c d =
+    by_test (not (in_block c && is_too_far c.level.key c.cursor.mark)) _ _ (λ r. r ≡ Ok d → drop_far_key d ≡ Ok d)
+    (λ near e. let is : c ≡ d = cc in subst (λ x. drop_far_key x ≡ Ok x) is (rw near refl))
+    (λ far. by_test c.required _ _ (λ r. r ≡ Ok d → drop_far_key d ≡ Ok d) (λ _ e. absurd (cc))
+    (λ _ e. let is : forget_key c ≡ d = cc in subst (λ x. drop_far_key x ≡ Ok x) is (forgotten c (in_block c) refl)))
+  where
+    forgotten : (c : Core) (b : Bool) → in_block c ≡ b → drop_far_key (forget_key c) ≡ Ok (forget_key c)
+    forgotten c true e = rw e refl
+    forgotten c false e = rw e refl
+
+-- what no candidate is too far in
+abbrev pub IsSettled : State → Type 0
+IsSettled s = drop_far_key s.core ≡ Ok s.core
+
+carried_core : (r : Result Core Refusal) (s t : State) → carried r s.queue ≡ Ok t → r ≡ Ok t.core
+carried_core (Ok c) s t e = cc
+carried_core (Err f) s t e = absurd (cc)
+
+pub settled_once : (s t : State) → settled s ≡ Ok t → IsSettled t
+settled_once s t e = not_twice s.core t.core (carried_core (drop_far_key s.core) s t e)
+
+pub bind_ok : {X Y : Type 0} → (r : Result X Refusal) (f : X → Result Y Refusal) (y : Y) → (r >>= f) ≡ Ok y → (x : X) × (r ≡ Ok x) × (f x ≡ Ok y)
+bind_ok (Ok x) f y e = (x, refl, e)
+bind_ok (Err d) f y e = absurd (cc)
+
+pub read_settles : (limit : ℕ) (s u : State) → read limit s ≡ Ok u → IsSettled u
+read_settles limit s u e = let b = bind_ok (fetch_within limit s) settled u e in settled_once b.0 u b.2
+
+pub less_read : Readers → (limit : ℕ) (s u : State) → s.core.ended ≡ false → read limit s ≡ Ok u → size u.core < size s.core
+less_read laws limit s u over e = given_of (λ (t : State). size t.core < size s.core) (read limit s) u (read_smaller laws limit s over) e

@@ -1,0 +1,113 @@
+ghost use Rattle.std.specs.Prelude.{◌≡◌, Ok, ◌<◌, length};
+ghost use Rattle.saphyr_scanner.specs.Block as block;
+ghost use Rattle.saphyr_scanner.specs.State as spec_state;
+
+use crate::engine::{Context, Engine};
+use crate::gap::skip_spaces;
+use crate::token::TokenType;
+use saphyr_input::char_traits::{is_blank_or_breakz, is_break, is_flow};
+use saphyr_input::input::Input;
+use saphyr_scalar::{FaultText, Stop};
+
+impl Context {
+    // What is open behind `?`.
+    fn behind_question(self) -> Context
+        ensures { result ≡ block.behind_question self }
+    {
+        match self {
+            Context::FlowSequence => Context::ExplicitFlowPair,
+            Context::FlowPair => Context::MarkedFlowPair,
+            other => other,
+        }
+    }
+}
+
+impl<T: Input> Engine<T> {
+    ghost use Rattle.saphyr_scalar.specs.Seen.{Moves};
+    ghost use Rattle.saphyr_scanner.specs.Engine.{state};
+
+    // Whether a `-` stands here as an indicator.
+    fn is_dash_next(&mut self) -> bool
+        ensures value { result ≡ block.is_dash_next (state self.old).core }
+        ensures same { state self.new ≡ state self.old }
+    {
+        self.reader.load(2);
+        self.reader.input().peek() == '-' && is_blank_or_breakz(self.reader.input().peek_nth(1))
+    }
+
+    // Passes what stands behind `-` on its line.
+    #[tactic(auto, unfolding(crate::specs::Block::pass_dash))]
+    fn pass_dash(&mut self) -> Result<(), Stop>
+        ensures { Moves (λ _. state self.new) result (spec_state.carried (block.pass_dash (state self.old).core) (state self.old).queue) }
+    {
+        let found = self.separate()?;
+        let is_dash = self.is_dash_next();
+        if found.found_tabs() && is_dash {
+            return Err(self.refuse_here(FaultText::DashWithoutWhitespace));
+        }
+        self.deepen();
+        Ok(())
+    }
+
+    // Content on a later line, and flow collections, have to stand right of the `-`.
+    fn deepen(&mut self)
+        ensures { state self.new ≡ spec_state.changed (block.deepen (state self.old).core) (state self.old) }
+    {
+        let c = self.reader.look();
+        if is_break(c) || is_flow(c) {
+            self.go_deeper();
+        }
+    }
+
+    // `-`.
+    #[tactic(auto, unfolding(crate::specs::Block::entry, crate::specs::Block::next_entry))]
+    pub(super) fn fetch_block_entry(&mut self) -> Result<(), Stop>
+        requires { 0 < length (state self.old).core.cursor.rest }
+        ensures { Moves (λ _. state self.new) result (spec_state.acted (block.entry (state self.old).core) (state self.old).queue) }
+    {
+        if !self.in_block() {
+            return Err(self.refuse_here(FaultText::DashInsideFlow));
+        }
+        if !self.key_allowed {
+            return Err(self.refuse_here(FaultText::SequenceEntryNotAllowed));
+        }
+        let start = self.reader.mark();
+        if self.is_further(start.col) {
+            self.put_empty(start, TokenType::BlockSequenceStart)?;
+        }
+        self.reader.skip_non_blank();
+        self.roll(start.col)?;
+        self.pass_dash()?;
+        self.remove_key()?;
+        self.key_allowed = true;
+        let end = self.reader.mark();
+        self.put_empty(end, TokenType::BlockEntry)
+    }
+
+    // `?`.
+    #[tactic(auto, unfolding(crate::specs::Block::key, crate::specs::Block::begin_key, crate::specs::Block::behind_mark, crate::specs::Core::remove_key))]
+    pub(super) fn fetch_key(&mut self) -> Result<(), Stop>
+        requires { 0 < length (state self.old).core.cursor.rest }
+        ensures { Moves (λ _. state self.new) result (spec_state.acted (block.key (state self.old).core) (state self.old).queue) }
+    {
+        if self.in_block() && !self.key_allowed {
+            return Err(self.refuse_here(FaultText::KeyNotAllowed));
+        }
+        let start = self.reader.mark();
+        if self.is_further(start.col) {
+            self.put_empty(start, TokenType::BlockMappingStart)?;
+        }
+        self.roll(start.col)?;
+        self.level.context = self.level.context.behind_question();
+        self.remove_key()?;
+        self.key_allowed = self.in_block();
+        self.reader.skip_non_blank();
+        if !skip_spaces(&mut self.reader) {
+            return Err(self.refuse_here(FaultText::WhitespaceExpected));
+        }
+        if self.reader.look() == '\t' {
+            return Err(self.refuse_here(FaultText::TabNotAllowed));
+        }
+        self.put_from(start, TokenType::Key)
+    }
+}

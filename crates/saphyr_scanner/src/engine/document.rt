@@ -1,0 +1,124 @@
+ghost use Rattle.std.specs.Prelude.{◌≡◌, ◌≤◌, ◌<◌, length, slice_index, None};
+ghost use Rattle.saphyr_scanner.specs.Document as document;
+ghost use Rattle.saphyr_scanner.specs.State as spec_state;
+ghost use Rattle.saphyr_scanner.specs.Seen.{kind_of};
+ghost use Rattle.saphyr_scalar.specs.Directive.{directive_of};
+
+use crate::engine::Engine;
+use crate::token::TokenType;
+use saphyr_input::char_traits::is_breakz;
+use saphyr_input::input::Input;
+use saphyr_scalar::{Directive, FaultText, Marker, Stop};
+
+impl<T: Input> Engine<T> {
+    ghost use Rattle.saphyr_scalar.specs.Seen.{Moves};
+    ghost use Rattle.saphyr_scanner.specs.Engine.{state};
+
+    // Ends all block collections, and what may be a key.
+    #[tactic(auto, unfolding(crate::specs::Document::end_content))]
+    fn end_content(&mut self) -> Result<(), Stop>
+        ensures { Moves (λ _. state self.new) result (document.end_content (state self.old)) }
+    {
+        let mark = self.reader.mark();
+        self.unroll(None, mark)?;
+        self.remove_key()
+    }
+
+    // NUL, or the end of the text.
+    #[tactic(auto, unfolding(crate::specs::Document::end_stream, crate::specs::Document::end_at))]
+    pub(super) fn fetch_end(&mut self) -> Result<(), Stop>
+        requires { slice_index (state self.old).core.cursor.rest 0 ≡ 0 }
+        ensures { Moves (λ _. state self.new) result (document.end_stream (state self.old)) }
+    {
+        self.reader.load(1);
+        if self.reader.input().peek_opt().is_some() {
+            return Err(self.refuse_here(FaultText::UnprintableCharacter));
+        }
+        let mark = end_mark(self.reader.mark());
+        if self.required {
+            return Err(Self::refuse(FaultText::KeyExpected, mark));
+        }
+        self.unroll(None, mark)?;
+        self.key_allowed = false;
+        self.ended = true;
+        self.put_empty(mark, TokenType::StreamEnd)
+    }
+
+    // `---` or `...`.
+    #[tactic(auto, using(crate::proofs::Blocks::unrolled_cursor), unfolding(crate::specs::Document::marker, crate::specs::Document::end_content, crate::specs::Core::remove_key))]
+    pub(super) fn fetch_document_marker(&mut self, kind: TokenType) -> Result<(), Stop>
+        requires { 3 ≤ length (state self.old).core.cursor.rest }
+        ensures { Moves (λ _. state self.new) result (document.marker (kind_of kind) (state self.old)) }
+    {
+        self.end_content()?;
+        self.key_allowed = false;
+        let start = self.reader.mark();
+        self.reader.skip_n_non_blank(3);
+        self.put_from(start, kind)
+    }
+
+    // `...` and what stands behind it on its line.
+    #[tactic(auto, unfolding(crate::specs::Document::end_marker, crate::specs::Document::end_line))]
+    pub(super) fn fetch_document_end(&mut self) -> Result<(), Stop>
+        requires { 3 ≤ length (state self.old).core.cursor.rest }
+        ensures { Moves (λ _. state self.new) result (document.end_marker (state self.old)) }
+    {
+        self.fetch_document_marker(TokenType::DocumentEnd)?;
+        self.separate()?;
+        let c = self.reader.look();
+        if !is_breakz(c) {
+            return Err(self.refuse_here(FaultText::ContentAfterDocumentEnd));
+        }
+        Ok(())
+    }
+
+    // `%` and the rest of a directive's line.
+    #[tactic(auto, using(crate::proofs::Blocks::unrolled_cursor), unfolding(crate::specs::Document::directive, crate::specs::Document::read_directive, crate::specs::Document::end_content, crate::specs::Core::remove_key))]
+    pub(super) fn fetch_directive(&mut self) -> Result<(), Stop>
+        requires { slice_index (state self.old).core.cursor.rest 0 ≡ 37 }
+        ensures { Moves (λ _. state self.new) result (document.directive (state self.old)) }
+    {
+        self.end_content()?;
+        self.key_allowed = false;
+        let start = self.reader.mark();
+        let line = self.reader.read_directive(self.alloc)?;
+        self.put(start, line.end, kind_of_directive(line.directive))
+    }
+
+    // A byte order mark, which has a place at the start of a line outside flow alone.
+    #[tactic(auto, using(crate::proofs::Blocks::unrolled_cursor), unfolding(crate::specs::Document::byte_order_mark, crate::specs::Document::end_content, crate::specs::Core::remove_key))]
+    pub(super) fn fetch_byte_order_mark(&mut self) -> Result<(), Stop>
+        requires { 0 < length (state self.old).core.cursor.rest }
+        ensures { Moves (λ _. state self.new) result (document.byte_order_mark (state self.old)) }
+    {
+        let start = self.reader.mark();
+        if start.col > 0 || !self.in_block() {
+            return Err(self.refuse_here(FaultText::MisplacedByteOrderMark));
+        }
+        self.end_content()?;
+        self.reader.skip_byte_order_mark();
+        self.key_allowed = true;
+        self.put_from(start, TokenType::ByteOrderMark)
+    }
+}
+
+// Where the stream ends: at the end of the text, or on the next line where that ends no line.
+fn end_mark(mark: Marker) -> Marker
+    ensures { result ≡ document.end_mark mark }
+{
+    if mark.col == 0 {
+        return mark;
+    }
+    Marker::new(mark.index, mark.line.saturating_add(1), 0)
+}
+
+// The token of a directive.
+fn kind_of_directive(directive: Directive) -> TokenType
+    ensures { kind_of result ≡ document.directive_kind (directive_of directive) }
+{
+    match directive {
+        Directive::Version(major, minor) => TokenType::VersionDirective(major, minor),
+        Directive::TagPrefix(handle, prefix) => TokenType::TagDirective(handle, prefix),
+        Directive::Reserved(name) => TokenType::ReservedDirective(name),
+    }
+}

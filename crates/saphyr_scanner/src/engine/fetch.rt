@@ -1,0 +1,198 @@
+ghost use Rattle.std.specs.Prelude.{◌≡◌, ◌<◌, Ok, length, slice_index, option_map};
+ghost use Rattle.saphyr_scanner.specs.Fetch as fetch;
+ghost use Rattle.saphyr_scanner.specs.State as spec_state;
+
+use crate::engine::{Context, Engine, Level};
+use crate::token::{Token, TokenType};
+use saphyr_input::char_traits::{is_blank_or_breakz, is_bom, is_flow, is_z};
+use saphyr_input::input::Input;
+use saphyr_scalar::reading::BlockStyle;
+use saphyr_scalar::scalar::{
+    takes_anchor, takes_block_scalar, takes_directive, takes_plain, takes_quoted, takes_tag,
+};
+use saphyr_scalar::{FaultText, Stop};
+
+impl Level {
+    ghost use Rattle.saphyr_scanner.specs.Engine.{level};
+
+    // Whether the token at a place may be a key.
+    fn holds(&self, place: usize) -> bool
+        ensures { result ≡ fetch.holds place (level self.now) }
+    {
+        match self.key {
+            None => false,
+            Some(key) => key.place == place,
+        }
+    }
+}
+
+impl<T: Input> Engine<T> {
+    ghost use Rattle.saphyr_scalar.specs.Seen.{Moves};
+    ghost use Rattle.saphyr_scanner.specs.Engine.{state};
+    ghost use Rattle.saphyr_scanner.specs.Seen.{piece};
+
+    // Comes to where the next token begins.
+    #[tactic(auto, unfolding(crate::specs::Fetch::arrive))]
+    fn arrive(&mut self) -> Result<(), Stop>
+        ensures { Moves (λ _. state self.new) result (fetch.arrive (state self.old)) }
+    {
+        self.pass_gap()?;
+        self.drop_far_key()?;
+        let mark = self.reader.mark();
+        self.unroll(Some(mark.col), mark)
+    }
+
+    // Puts the next token into the queue.
+    #[tactic(auto, unfolding(crate::specs::Fetch::fetch))]
+    fn fetch(&mut self) -> Result<(), Stop>
+        ensures { Moves (λ _. state self.new) result (fetch.fetch (state self.old)) }
+    {
+        if !self.started {
+            self.started = true;
+            let mark = self.reader.mark();
+            return self.put_empty(mark, TokenType::StreamStart);
+        }
+        self.arrive()?;
+        self.fetch_here()
+    }
+
+    // Puts the token that stands here into the queue.
+    #[tactic(auto, using(crate::proofs::Lengths::some_left), unfolding(crate::specs::Fetch::fetch_here))]
+    fn fetch_here(&mut self) -> Result<(), Stop>
+        ensures { Moves (λ _. state self.new) result (fetch.fetch_here (state self.old)) }
+    {
+        self.reader.load(4);
+        let c = self.reader.input().peek();
+        if is_z(c) {
+            return self.fetch_end();
+        }
+        if is_bom(c) {
+            return self.fetch_byte_order_mark();
+        }
+        let column = self.reader.mark().col;
+        if column == 0 && c == '%' {
+            return self.fetch_directive();
+        }
+        if column == 0 && self.reader.input().next_is_document_start() {
+            return self.fetch_document_marker(TokenType::DocumentStart);
+        }
+        if column == 0 && self.reader.input().next_is_document_end() {
+            return self.fetch_document_end();
+        }
+        if column < self.least_column() {
+            return Err(self.refuse_here(FaultText::InvalidIndentation));
+        }
+        let next = self.reader.input().peek_nth(1);
+        self.fetch_content(c, next)
+    }
+
+    // Puts the token that the first character begins into the queue.
+    #[tactic(auto, unfolding(crate::specs::Fetch::content, crate::specs::Fetch::step))]
+    fn fetch_content(&mut self, c: char, next: char) -> Result<(), Stop>
+        requires some { 0 < length (state self.old).core.cursor.rest }
+        requires first { c ≡ slice_index (state self.old).core.cursor.rest 0 }
+        requires second { next ≡ slice_index (state self.old).core.cursor.rest 1 }
+        ensures { Moves (λ _. state self.new) result (fetch.content c next (state self.old)) }
+    {
+        match c {
+            '[' => self.fetch_flow_start(Context::FlowSequence, TokenType::FlowSequenceStart),
+            '{' => self.fetch_flow_start(Context::FlowMapping, TokenType::FlowMappingStart),
+            ']' => self.fetch_flow_end(true, TokenType::FlowSequenceEnd),
+            '}' => self.fetch_flow_end(false, TokenType::FlowMappingEnd),
+            ',' => self.fetch_flow_entry(),
+            '-' if is_blank_or_breakz(next) => self.fetch_block_entry(),
+            '?' if is_blank_or_breakz(next) => self.fetch_key(),
+            ':' if is_blank_or_breakz(next) => self.fetch_value(),
+            ':' if self.is_value_adjacent(next) => self.fetch_flow_value(next),
+            '"' => self.fetch_double_quoted(),
+            '\'' => self.fetch_single_quoted(),
+            '*' => self.fetch_name(true),
+            '&' => self.fetch_name(false),
+            '!' => self.fetch_tag(),
+            '|' if self.in_block() => self.fetch_block_scalar(BlockStyle::Literal),
+            '>' if self.in_block() => self.fetch_block_scalar(BlockStyle::Folded),
+            '%' | '@' | '`' => Err(self.refuse_here(FaultText::UnexpectedCharacter(c))),
+            _ => self.fetch_plain(),
+        }
+    }
+
+    // Whether a colon that no blank follows stands between a key and its value, inside flow.
+    fn is_value_adjacent(&self, next: char) -> bool
+        ensures { result ≡ fetch.is_value_adjacent next (state self.now).core }
+    {
+        !self.in_block() && (is_flow(next) || self.reader.mark().index == self.adjacent)
+    }
+
+    // A colon inside flow that no blank follows.
+    #[tactic(auto, unfolding(crate::specs::Fetch::flow_value))]
+    fn fetch_flow_value(&mut self, next: char) -> Result<(), Stop>
+        requires { 0 < length (state self.old).core.cursor.rest }
+        ensures { Moves (λ _. state self.new) result (spec_state.acted (fetch.flow_value next (state self.old).core) (state self.old).queue) }
+    {
+        if self.reader.mark().index != self.adjacent && (next == '[' || next == '{') {
+            return Err(self.refuse_here(FaultText::ColonBeforeFlow));
+        }
+        self.fetch_value()
+    }
+
+    // Whether the first token of the queue may yet turn out to be a key.
+    fn is_held(&self) -> bool
+        ensures { result ≡ fetch.is_held (state self.now) }
+    {
+        let place = self.queue.first();
+        if self.level.holds(place) {
+            return true;
+        }
+        for level in &self.outer {
+            if level.holds(place) {
+                return true;
+            }
+        }
+        false
+    }
+
+    // Whether the next token has to be read.
+    fn needs_token(&self) -> bool
+        ensures { result ≡ fetch.needs_token (state self.now) }
+    {
+        !self.ended && (self.queue.is_empty() || self.is_held())
+    }
+
+    // Puts the next token into the queue, where the text is not too long.
+    #[tactic(auto, unfolding(crate::specs::Fetch::fetch_within))]
+    fn fetch_within(&mut self, limit: usize) -> Result<(), Stop>
+        ensures { Moves (λ _. state self.new) result (fetch.fetch_within limit (state self.old)) }
+    {
+        self.fetch()?;
+        if self.reader.mark().index > limit {
+            return Err(self.refuse_here(FaultText::TextTooLong));
+        }
+        Ok(())
+    }
+
+    /// Has a token at the head of the queue that can be handed out, unless all were.
+    #[tactic(auto, unfolding(crate::specs::Fetch::fill))]
+    pub(crate) fn fill(&mut self, limit: usize) -> Result<(), Stop>
+        ensures { Moves (λ _. state self.new) result (fetch.fill limit (state self.old)) }
+    {
+        takes_plain();
+        takes_quoted();
+        takes_block_scalar();
+        takes_anchor();
+        takes_tag();
+        takes_directive();
+        self.drop_far_key()?;
+        while self.needs_token() {
+            self.fetch_within(limit)?;
+            self.drop_far_key()?;
+        }
+        Ok(())
+    }
+
+    /// Takes the first token off the queue.
+    pub(crate) fn take(&mut self) -> Result<Option<Token>, Stop>
+        ensures { Moves (λ t. (option_map piece t, state self.new)) result (Ok (fetch.take (state self.old))) }
+    {
+        self.queue.take()
+    }
+}

@@ -1,0 +1,132 @@
+ghost use Rattle.std.specs.Prelude.{◌≡◌, Ok, ◌<◌, length};
+ghost use Rattle.saphyr_scanner.specs.Core as spec;
+ghost use Rattle.saphyr_scanner.specs.Flow as flow;
+ghost use Rattle.saphyr_scanner.specs.State as spec_state;
+
+use crate::engine::{Context, Engine, Level};
+use crate::token::TokenType;
+use saphyr_input::input::Input;
+use saphyr_scalar::{FaultText, Stop};
+
+// How many flow collections may be open at once.
+const MOST_OPEN: usize = 255;
+
+impl Context {
+    // Whether a pair is open that ends with its entry.
+    fn ends_pair(self) -> bool
+        ensures { result ≡ flow.ends_pair self }
+    {
+        match self {
+            Context::FlowPair | Context::MarkedFlowPair => true,
+            Context::Block
+            | Context::FlowMapping
+            | Context::FlowSequence
+            | Context::ExplicitFlowPair => false,
+        }
+    }
+
+    // What is open behind a comma.
+    fn behind_entry(self) -> Context
+        ensures { result ≡ flow.behind_entry self }
+    {
+        match self {
+            Context::Block => Context::Block,
+            Context::FlowMapping => Context::FlowMapping,
+            Context::FlowSequence
+            | Context::FlowPair
+            | Context::ExplicitFlowPair
+            | Context::MarkedFlowPair => Context::FlowSequence,
+        }
+    }
+}
+
+impl<T: Input> Engine<T> {
+    ghost use Rattle.saphyr_scalar.specs.Seen.{Moves};
+    ghost use Rattle.saphyr_scanner.specs.Engine.{state};
+    ghost use Rattle.saphyr_scanner.specs.Queue.{next};
+    ghost use Rattle.saphyr_scanner.specs.Seen.{kind_of};
+
+    // A flow collection is open.
+    #[tactic(auto, using(crate::proofs::Levels::top_on))]
+    fn enter(&mut self, context: Context) -> Result<(), Stop>
+        ensures { Moves (λ _. state self.new) result (Ok (spec_state.changed (flow.enter context (state self.old).core) (state self.old))) }
+    {
+        self.outer.push(self.level)?;
+        self.level = Level { context, key: None };
+        self.key_allowed = true;
+        Ok(())
+    }
+
+    // The innermost flow collection is left.
+    #[tactic(auto, using(crate::proofs::Levels::top_off))]
+    fn leave(&mut self)
+        ensures { state self.new ≡ spec_state.changed (flow.leave (state self.old).core) (state self.old) }
+    {
+        self.level = match self.outer.pop() {
+            Some(level) => level,
+            None => Level {
+                context: Context::Block,
+                key: None,
+            },
+        };
+        self.key_allowed = false;
+    }
+
+    // `[` or `{`.
+    #[tactic(auto, unfolding(crate::specs::Flow::start, crate::specs::Flow::open_collection))]
+    pub(super) fn fetch_flow_start(&mut self, context: Context, kind: TokenType) -> Result<(), Stop>
+        requires { 0 < length (state self.old).core.cursor.rest }
+        ensures { Moves (λ _. state self.new) result (spec_state.acted (flow.start context (kind_of kind) (next (state self.old).queue) (state self.old).core) (state self.old).queue) }
+    {
+        self.save_key()?;
+        self.go_deeper();
+        if self.outer.len() >= MOST_OPEN {
+            return Err(self.refuse_here(FaultText::RecursionLimit));
+        }
+        self.enter(context)?;
+        let start = self.reader.mark();
+        self.reader.skip_non_blank();
+        self.separate()?;
+        self.put_from(start, kind)
+    }
+
+    // `]` or `}`.
+    #[tactic(auto, unfolding(crate::specs::Flow::end, crate::specs::Flow::close_collection))]
+    pub(super) fn fetch_flow_end(&mut self, is_sequence: bool, kind: TokenType) -> Result<(), Stop>
+        requires { 0 < length (state self.old).core.cursor.rest }
+        ensures { Moves (λ _. state self.new) result (spec_state.acted (flow.end is_sequence (kind_of kind) (state self.old).core) (state self.old).queue) }
+    {
+        if self.in_block() {
+            return Err(self.refuse_here(FaultText::MisplacedBracket));
+        }
+        let start = self.reader.mark();
+        if is_sequence && self.level.context.ends_pair() {
+            self.put_empty(start, TokenType::FlowMappingEnd)?;
+        }
+        self.leave();
+        self.reader.skip_non_blank();
+        self.separate()?;
+        if !self.in_block() {
+            self.adjacent = self.reader.mark().index;
+        }
+        self.put_from(start, kind)
+    }
+
+    // `,`.
+    #[tactic(auto, unfolding(crate::specs::Flow::entry, crate::specs::Flow::next_entry, crate::specs::Core::remove_key))]
+    pub(super) fn fetch_flow_entry(&mut self) -> Result<(), Stop>
+        requires { 0 < length (state self.old).core.cursor.rest }
+        ensures { Moves (λ _. state self.new) result (spec_state.acted (flow.entry (state self.old).core) (state self.old).queue) }
+    {
+        self.remove_key()?;
+        self.key_allowed = true;
+        let start = self.reader.mark();
+        if self.level.context.ends_pair() {
+            self.put_empty(start, TokenType::FlowMappingEnd)?;
+        }
+        self.level.context = self.level.context.behind_entry();
+        self.reader.skip_non_blank();
+        self.separate()?;
+        self.put_from(start, TokenType::FlowEntry)
+    }
+}

@@ -1,0 +1,104 @@
+ghost use Rattle.std.specs.Prelude.{◌≡◌, Ok, ◌+◌, ◌<◌, ◌^◌};
+ghost use Rattle.saphyr_scanner.specs.Core as spec;
+ghost use Rattle.saphyr_scanner.specs.Unrolling as unrolling;
+ghost use Rattle.saphyr_scanner.specs.State as spec_state;
+
+use crate::engine::Engine;
+use crate::token::TokenType;
+use saphyr_input::input::Input;
+use saphyr_scalar::{Marker, Stop};
+
+impl<T: Input> Engine<T> {
+    ghost use Rattle.saphyr_scalar.specs.Seen.{Moves};
+    ghost use Rattle.saphyr_scanner.specs.Engine.{state};
+
+    // The column left of which nothing belongs to what is open.
+    pub(super) fn least_column(&self) -> usize
+        ensures { result ≡ spec.least_column (state self.now).core }
+    {
+        if self.deeper {
+            self.indent
+        } else {
+            self.indent.saturating_sub(1)
+        }
+    }
+
+    // Content has to stand one column further right than the block collection.
+    pub(super) fn go_deeper(&mut self)
+        ensures { state self.new ≡ spec_state.changed (spec.go_deeper (state self.old).core) (state self.old) }
+    {
+        if self.in_block() && self.indent > 0 {
+            self.deeper = true;
+        }
+    }
+
+    // Whether a block collection begins at a column.
+    pub(super) fn is_further(&self, column: usize) -> bool
+        ensures { result ≡ spec.is_further column (state self.now).core }
+    {
+        self.in_block() && self.indent <= column
+    }
+
+    // A block collection begins at a column, if one does.
+    #[tactic(auto, using(crate::proofs::Stacks::top_on))]
+    pub(super) fn roll(&mut self, column: usize) -> Result<(), Stop>
+        requires { column + 1 < 2 ^ 64 }
+        ensures { Moves (λ _. state self.new) result (Ok (spec_state.changed (spec.roll column (state self.old).core) (state self.old))) }
+    {
+        if !self.is_further(column) {
+            return Ok(());
+        }
+        self.outer_indents.push(self.indent)?;
+        self.indent = column + 1;
+        self.deeper = false;
+        Ok(())
+    }
+
+    // The innermost block collection ends at a place.
+    #[tactic(auto, using(crate::proofs::Stacks::top_off))]
+    fn end_block(&mut self, mark: Marker) -> Result<(), Stop>
+        ensures { Moves (λ _. state self.new) result (Ok (unrolling.end_block mark (state self.old))) }
+    {
+        self.put_empty(mark, TokenType::BlockEnd)?;
+        self.indent = match self.outer_indents.pop() {
+            Some(indent) => indent,
+            None => 0,
+        };
+        Ok(())
+    }
+
+    // Whether the innermost block collection stands to the right of a column; each does for `None`.
+    fn is_right_of(&self, column: Option<usize>) -> bool
+        ensures { result ≡ unrolling.is_right_of column (state self.now).core.indent }
+    {
+        match column {
+            None => self.indent > 0,
+            Some(column) => self.indent.saturating_sub(1) > column,
+        }
+    }
+
+    // Content may stand at a column, though not right of its block collection.
+    fn go_less_deep(&mut self, column: Option<usize>)
+        ensures { state self.new ≡ spec_state.changed (unrolling.less_deep column (state self.old).core) (state self.old) }
+    {
+        self.deeper = match column {
+            None => false,
+            Some(column) => self.deeper && self.indent <= column,
+        };
+    }
+
+    // The block collections to the right of a column end at a place, and all of them for `None`.
+    #[tactic(auto, using(crate::proofs::Blocks::none_ends), unfolding(crate::specs::Unrolling::unroll))]
+    pub(super) fn unroll(&mut self, column: Option<usize>, mark: Marker) -> Result<(), Stop>
+        ensures { Moves (λ _. state self.new) result (Ok (unrolling.unroll column mark (state self.old))) }
+    {
+        if !self.in_block() {
+            return Ok(());
+        }
+        self.go_less_deep(column);
+        while self.is_right_of(column) {
+            self.end_block(mark)?;
+        }
+        Ok(())
+    }
+}

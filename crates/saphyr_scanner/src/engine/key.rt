@@ -1,0 +1,84 @@
+ghost use Rattle.std.specs.Prelude.{◌≡◌, Ok, ◌<◌, length};
+ghost use Rattle.saphyr_scanner.specs.Core as spec;
+ghost use Rattle.saphyr_scanner.specs.State as spec_state;
+
+use crate::engine::{Candidate, Engine};
+use saphyr_input::input::Input;
+use saphyr_scalar::{FaultText, Stop};
+
+// How far behind its start a key outside flow may have its colon.
+const LONGEST_KEY: usize = 1024;
+
+impl<T: Input> Engine<T> {
+    ghost use Rattle.saphyr_scalar.specs.Seen.{Moves};
+    ghost use Rattle.saphyr_scanner.specs.Engine.{state};
+    ghost use Rattle.saphyr_scanner.specs.Queue.{next};
+
+    // The token that comes next may be a key, where one is allowed.
+    pub(super) fn save_key(&mut self) -> Result<(), Stop>
+        requires { 0 < length (state self.old).core.cursor.rest }
+        ensures { Moves (λ _. state self.new) result (Ok (spec_state.changed (spec.save_key (next (state self.old).queue) (state self.old).core) (state self.old))) }
+    {
+        if !self.key_allowed {
+            return Ok(());
+        }
+        let mark = self.reader.mark();
+        let place = self.queue.next()?;
+        if self.in_block() {
+            self.required = !self.deeper && self.indent == mark.col + 1;
+        }
+        self.level.key = Some(Candidate { mark, place });
+        Ok(())
+    }
+
+    // No token of the level may be a key any more.
+    pub(super) fn forget_key(&mut self)
+        ensures { state self.new ≡ spec_state.changed (spec.forget_key (state self.old).core) (state self.old) }
+    {
+        self.level.key = None;
+        if self.in_block() {
+            self.required = false;
+        }
+    }
+
+    // The same, where a key that has to be one is refused.
+    #[tactic(auto, unfolding(crate::specs::Core::remove_key))]
+    pub(super) fn remove_key(&mut self) -> Result<(), Stop>
+        ensures { Moves (λ _. state self.new) result (spec_state.carried (spec.remove_key (state self.old).core) (state self.old).queue) }
+    {
+        if self.in_block() && self.required {
+            return Err(self.refuse_here(FaultText::KeyExpected));
+        }
+        self.forget_key();
+        Ok(())
+    }
+
+    // Whether the candidate is on another line, or too far away.
+    fn is_key_too_far(&self) -> bool
+        ensures { result ≡ spec.is_too_far (state self.now).core.level.key (state self.now).core.cursor.mark }
+    {
+        let mark = self.reader.mark();
+        match self.level.key {
+            None => false,
+            Some(key) => {
+                key.mark.line < mark.line
+                    || mark.index.saturating_sub(key.mark.index) > LONGEST_KEY
+            }
+        }
+    }
+
+    // A candidate outside flow lapses on the next line, and where its colon would be too far.
+    #[tactic(auto, unfolding(crate::specs::Core::drop_far_key))]
+    pub(super) fn drop_far_key(&mut self) -> Result<(), Stop>
+        ensures { Moves (λ _. state self.new) result (spec_state.carried (spec.drop_far_key (state self.old).core) (state self.old).queue) }
+    {
+        if !(self.in_block() && self.is_key_too_far()) {
+            return Ok(());
+        }
+        if self.required {
+            return Err(self.refuse_here(FaultText::KeyWithoutColon));
+        }
+        self.forget_key();
+        Ok(())
+    }
+}

@@ -1,0 +1,46 @@
+ghost use Rattle.std.specs.Prelude.{◌≡◌, ◌<◌, length, slice_index};
+ghost use Rattle.saphyr_scanner.specs.Property as property;
+ghost use Rattle.saphyr_scanner.specs.State as spec_state;
+
+use crate::engine::Engine;
+use crate::token::TokenType;
+use saphyr_input::input::Input;
+use saphyr_scalar::Stop;
+
+impl<T: Input> Engine<T> {
+    ghost use Rattle.saphyr_scalar.specs.Seen.{Moves};
+    ghost use Rattle.saphyr_scanner.specs.Engine.{state};
+    ghost use Rattle.saphyr_scanner.specs.Queue.{next};
+
+    // `&` and an anchor's name, or `*` and an alias's.
+    #[tactic(auto, unfolding(crate::specs::Property::name, crate::specs::Property::read_name))]
+    pub(super) fn fetch_name(&mut self, is_alias: bool) -> Result<(), Stop>
+        requires { 0 < length (state self.old).core.cursor.rest }
+        ensures { Moves (λ _. state self.new) result (spec_state.acted (property.name is_alias (next (state self.old).queue) (state self.old).core) (state self.old).queue) }
+    {
+        self.save_key()?;
+        self.key_allowed = false;
+        let start = self.reader.mark();
+        let name = self.reader.read_anchor(self.alloc)?;
+        let kind = if is_alias {
+            TokenType::Alias(name)
+        } else {
+            TokenType::Anchor(name)
+        };
+        self.put_from(start, kind)
+    }
+
+    // `!` and the rest of a tag.
+    #[tactic(auto, unfolding(crate::specs::Property::tag, crate::specs::Property::read_tag))]
+    pub(super) fn fetch_tag(&mut self) -> Result<(), Stop>
+        requires { slice_index (state self.old).core.cursor.rest 0 ≡ 33 }
+        ensures { Moves (λ _. state self.new) result (spec_state.acted (property.tag (next (state self.old).queue) (state self.old).core) (state self.old).queue) }
+    {
+        self.save_key()?;
+        self.key_allowed = false;
+        let start = self.reader.mark();
+        let in_flow = !self.in_block();
+        let tag = self.reader.read_tag(self.alloc, in_flow)?;
+        self.put_from(start, TokenType::Tag(tag.handle, tag.suffix))
+    }
+}

@@ -1,0 +1,123 @@
+ghost use Rattle.std.specs.Prelude.{◌≡◌, Ok, ◌<◌, length, slice_index, string_bytes};
+ghost use Rattle.saphyr_scanner.specs.Scalar as scalar;
+ghost use Rattle.saphyr_scanner.specs.State as spec_state;
+
+use crate::engine::Engine;
+use crate::token::TokenType;
+use saphyr_input::char_traits::is_breakz;
+use saphyr_input::input::Input;
+use saphyr_scalar::reading::BlockStyle;
+use saphyr_scalar::{FaultText, Marker, ScalarStyle, Stop};
+
+impl<T: Input> Engine<T> {
+    ghost use Rattle.saphyr_scalar.specs.Seen.{Moves};
+    ghost use Rattle.saphyr_scanner.specs.Engine.{state};
+    ghost use Rattle.saphyr_scanner.specs.Queue.{next};
+
+    // Whether the characters here may stand behind a quoted scalar that began at a place.
+    #[tactic(auto, unfolding(crate::specs::Scalar::goes_on_behind_quotes))]
+    fn goes_on_behind_quotes(&mut self, start: Marker) -> bool
+        ensures value { result ≡ scalar.goes_on_behind_quotes start (state self.old).core }
+        ensures same { state self.new ≡ state self.old }
+    {
+        let c = self.reader.look();
+        if self.in_block() {
+            is_breakz(c) || c == ':' && start.line == self.reader.mark().line
+        } else {
+            is_breakz(c) || c == ':' || c == ',' || c == ']' || c == '}'
+        }
+    }
+
+    // What stands behind a quoted scalar.
+    #[tactic(auto, unfolding(crate::specs::Scalar::behind_quotes))]
+    fn fetch_behind_quotes(
+        &mut self,
+        start: Marker,
+        style: ScalarStyle,
+        text: String,
+    ) -> Result<(), Stop>
+        ensures { Moves (λ _. state self.new) result (spec_state.acted (scalar.behind_quotes start style (string_bytes text) (state self.old).core) (state self.old).queue) }
+    {
+        self.separate()?;
+        if !self.goes_on_behind_quotes(start) {
+            return Err(self.refuse_here(FaultText::ContentAfterQuotes));
+        }
+        let end = self.reader.mark();
+        self.pass_gap()?;
+        self.adjacent = self.reader.mark().index;
+        self.put(start, end, TokenType::Scalar(style, text))
+    }
+
+    // A double quoted scalar.
+    #[tactic(auto, unfolding(crate::specs::Scalar::double_quoted, crate::specs::Scalar::read_double_quoted))]
+    pub(super) fn fetch_double_quoted(&mut self) -> Result<(), Stop>
+        requires { slice_index (state self.old).core.cursor.rest 0 ≡ 34 }
+        ensures { Moves (λ _. state self.new) result (spec_state.acted (scalar.double_quoted (next (state self.old).queue) (state self.old).core) (state self.old).queue) }
+    {
+        self.save_key()?;
+        self.key_allowed = false;
+        let start = self.reader.mark();
+        let least = self.least_column();
+        let text = self.reader.read_double_quoted(self.alloc, least)?;
+        self.fetch_behind_quotes(start, ScalarStyle::DoubleQuoted, text)
+    }
+
+    // A single quoted scalar.
+    #[tactic(auto, unfolding(crate::specs::Scalar::single_quoted, crate::specs::Scalar::read_single_quoted))]
+    pub(super) fn fetch_single_quoted(&mut self) -> Result<(), Stop>
+        requires { slice_index (state self.old).core.cursor.rest 0 ≡ 39 }
+        ensures { Moves (λ _. state self.new) result (spec_state.acted (scalar.single_quoted (next (state self.old).queue) (state self.old).core) (state self.old).queue) }
+    {
+        self.save_key()?;
+        self.key_allowed = false;
+        let start = self.reader.mark();
+        let least = self.least_column();
+        let text = self.reader.read_single_quoted(self.alloc, least)?;
+        self.fetch_behind_quotes(start, ScalarStyle::SingleQuoted, text)
+    }
+
+    // A plain scalar.
+    #[tactic(auto, unfolding(crate::specs::Scalar::plain, crate::specs::Scalar::read_plain))]
+    pub(super) fn fetch_plain(&mut self) -> Result<(), Stop>
+        requires { 0 < length (state self.old).core.cursor.rest }
+        ensures { Moves (λ _. state self.new) result (spec_state.acted (scalar.plain (next (state self.old).queue) (state self.old).core) (state self.old).queue) }
+    {
+        self.save_key()?;
+        self.key_allowed = false;
+        self.deeper = false;
+        let start = self.reader.mark();
+        let in_flow = !self.in_block();
+        if in_flow && start.col < self.indent {
+            return Err(self.refuse_here(FaultText::FlowIndentation));
+        }
+        let scalar = self.reader.read_plain(self.alloc, in_flow, self.indent)?;
+        self.key_allowed = self.reader.blank_so_far();
+        self.comment = scalar.comment;
+        let kind = TokenType::Scalar(ScalarStyle::Plain, scalar.text);
+        self.put(start, scalar.end, kind)
+    }
+
+    // A block scalar.
+    #[tactic(auto, unfolding(crate::specs::Scalar::block, crate::specs::Scalar::read_block))]
+    pub(super) fn fetch_block_scalar(&mut self, style: BlockStyle) -> Result<(), Stop>
+        requires { 0 < length (state self.old).core.cursor.rest }
+        ensures { Moves (λ _. state self.new) result (spec_state.acted (scalar.block style (next (state self.old).queue) (state self.old).core) (state self.old).queue) }
+    {
+        self.save_key()?;
+        self.key_allowed = true;
+        self.deeper = false;
+        let scalar = self.reader.read_block_scalar(self.alloc, style, self.indent)?;
+        let kind = TokenType::Scalar(style_of(style), scalar.text);
+        self.put(scalar.span.start, scalar.span.end, kind)
+    }
+}
+
+// The style of a block scalar among the styles of scalars.
+fn style_of(style: BlockStyle) -> ScalarStyle
+    ensures { result ≡ scalar.style_of style }
+{
+    match style {
+        BlockStyle::Literal => ScalarStyle::Literal,
+        BlockStyle::Folded => ScalarStyle::Folded,
+    }
+}

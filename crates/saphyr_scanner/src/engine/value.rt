@@ -1,0 +1,119 @@
+ghost use Rattle.std.specs.Prelude.{◌≡◌, Ok, ◌+◌, ◌<◌, ◌^◌, length};
+ghost use Rattle.saphyr_scanner.specs.Core as spec;
+ghost use Rattle.saphyr_scanner.specs.Value as value;
+ghost use Rattle.saphyr_scanner.specs.State as spec_state;
+
+use crate::engine::{Candidate, Context, Engine};
+use crate::queue::Opening;
+use crate::token::TokenType;
+use saphyr_input::char_traits::is_alpha;
+use saphyr_input::input::Input;
+use saphyr_scalar::{FaultText, Marker, Stop};
+
+impl Context {
+    // Whether a colon begins a pair that has no bracket of its own.
+    fn begins_pair(self) -> bool
+        ensures { result ≡ value.begins_pair self }
+    {
+        match self {
+            Context::FlowSequence | Context::FlowPair => true,
+            Context::Block
+            | Context::FlowMapping
+            | Context::ExplicitFlowPair
+            | Context::MarkedFlowPair => false,
+        }
+    }
+
+    // What is open behind a colon.
+    fn behind_colon(self) -> Context
+        ensures { result ≡ value.behind_colon self }
+    {
+        match self {
+            Context::FlowSequence => Context::FlowPair,
+            other => other,
+        }
+    }
+}
+
+impl<T: Input> Engine<T> {
+    ghost use Rattle.saphyr_scalar.specs.Seen.{Moves};
+    ghost use Rattle.saphyr_scanner.specs.Engine.{state, candidate};
+
+    // Passes what stands behind a colon, if that begins with a tab. Outside flow a space is wanted
+    // before a word.
+    #[tactic(auto, unfolding(crate::specs::Value::check_tab))]
+    fn check_tab(&mut self) -> Result<(), Stop>
+        ensures { Moves (λ _. state self.new) result (spec_state.carried (value.check_tab (state self.old).core) (state self.old).queue) }
+    {
+        if self.reader.look() != '\t' {
+            return Ok(());
+        }
+        let found = self.separate()?;
+        let c = self.reader.look();
+        if self.in_block() && !found.has_valid_yaml_ws() && (c == '-' || is_alpha(c)) {
+            return Err(self.refuse_here(FaultText::ColonWithoutWhitespace));
+        }
+        Ok(())
+    }
+
+    // `:`.
+    #[tactic(auto, unfolding(crate::specs::Value::fetch, crate::specs::Value::behind_key))]
+    pub(super) fn fetch_value(&mut self) -> Result<(), Stop>
+        requires { 0 < length (state self.old).core.cursor.rest }
+        ensures { Moves (λ _. state self.new) result (spec_state.acted (value.fetch (state self.old).core) (state self.old).queue) }
+    {
+        let start = self.reader.mark();
+        let begins_pair = self.level.context.begins_pair();
+        self.level.context = self.level.context.behind_colon();
+        self.reader.skip_non_blank();
+        self.check_tab()?;
+        match self.level.key {
+            Some(key) => self.fetch_value_of(key, begins_pair, start),
+            None => self.fetch_value_alone(begins_pair, start),
+        }
+    }
+
+    // The candidate is the colon's key.
+    #[tactic(auto, unfolding(crate::specs::Value::of_key))]
+    fn fetch_value_of(&mut self, key: Candidate, begins_pair: bool, start: Marker) -> Result<(), Stop>
+        ensures { Moves (λ _. state self.new) result (spec_state.acted (value.of_key (candidate key) begins_pair start (state self.old).core) (state self.old).queue) }
+    {
+        if begins_pair && key.mark.line < start.line {
+            return Err(Self::refuse(FaultText::MisplacedColon, start));
+        }
+        let opening = if begins_pair {
+            Opening::FlowMappingAndKey
+        } else if self.is_further(key.mark.col) {
+            Opening::BlockMappingAndKey
+        } else {
+            Opening::Key
+        };
+        self.queue.set_opening(key.place, opening);
+        self.roll(key.mark.col)?;
+        self.go_deeper();
+        self.forget_key();
+        self.key_allowed = false;
+        self.put_empty(start, TokenType::Value)
+    }
+
+    // The colon has no key on its line, or a key that `?` began.
+    #[tactic(auto, unfolding(crate::specs::Value::alone, crate::specs::Value::begin_alone))]
+    fn fetch_value_alone(&mut self, begins_pair: bool, start: Marker) -> Result<(), Stop>
+        requires { start.col + 1 < 2 ^ 64 }
+        ensures { Moves (λ _. state self.new) result (spec_state.acted (value.alone begins_pair start (state self.old).core) (state self.old).queue) }
+    {
+        if begins_pair {
+            self.put_empty(start, TokenType::FlowMappingStart)?;
+        }
+        if self.in_block() && !self.key_allowed {
+            return Err(Self::refuse(FaultText::ValueNotAllowed, start));
+        }
+        if self.is_further(start.col) {
+            self.put_empty(start, TokenType::BlockMappingStart)?;
+        }
+        self.roll(start.col)?;
+        self.go_deeper();
+        self.key_allowed = self.in_block();
+        self.put_empty(start, TokenType::Value)
+    }
+}

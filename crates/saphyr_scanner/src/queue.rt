@@ -1,0 +1,124 @@
+ghost use Rattle.std.specs.Prelude.{◌≡◌, Ok, length};
+ghost use Rattle.saphyr_scanner.specs.Queue as spec;
+
+use crate::token::{Token, TokenType};
+use saphyr_scalar::{Span, Stop};
+use std::alloc::Global;
+use std::collections::VecDeque;
+
+/// What stands in front of a token: nothing, or the tokens that make it a key.
+#[derive(Clone, Copy, Debug, PartialEq, Eq)]
+pub(crate) enum Opening {
+    Nothing,
+    Key,
+    BlockMappingAndKey,
+    FlowMappingAndKey,
+}
+
+/// A token, and what stands in front of it.
+#[derive(Drop)]
+pub(crate) struct Place {
+    opening: Opening,
+    token: Token,
+}
+
+/// The tokens that were read and not handed out, in places that are numbered from the text's start.
+///
+/// A token that may yet turn out to be a key is held here, and what makes it one is told at its
+/// own place: no token moves.
+#[derive(Drop)]
+pub(crate) struct Queue {
+    places: VecDeque<Place>,
+    handed: usize,
+}
+
+impl Queue {
+    ghost use Rattle.saphyr_scalar.specs.Seen.{Moves};
+    ghost use Rattle.saphyr_scanner.specs.Seen.{piece};
+    ghost use Rattle.saphyr_scanner.specs.QueueSeen.{queue};
+    ghost use Rattle.std.specs.Prelude.{option_map, ◌<◌};
+
+    pub(crate) fn new(alloc: Global) -> Self
+        ensures { queue result ≡ spec.empty }
+    {
+        Queue {
+            places: VecDeque::new(alloc),
+            handed: 0,
+        }
+    }
+
+    pub(crate) fn is_empty(&self) -> bool
+        ensures { result ≡ spec.is_empty (queue self.now) }
+    {
+        self.places.is_empty()
+    }
+
+    /// The number of the first place.
+    pub(crate) fn first(&self) -> usize
+        ensures { result ≡ (queue self.now).handed }
+    {
+        self.handed
+    }
+
+    /// The number of the place that comes next.
+    pub(crate) fn next(&self) -> Result<usize, Stop>
+        ensures { Moves (λ n. n) result (Ok (spec.next (queue self.now))) }
+    {
+        self.handed
+            .checked_add(self.places.len())
+            .ok_or(Stop::OutOfMemory)
+    }
+
+    /// Puts a token at the end.
+    pub(crate) fn put(&mut self, token: Token) -> Result<(), Stop>
+        ensures { Moves (λ _. queue self.new) result (Ok (spec.put (piece token) (queue self.old))) }
+    {
+        self.places.push_back(Place {
+            opening: Opening::Nothing,
+            token,
+        })?;
+        Ok(())
+    }
+
+    /// Tells what stands in front of the token at a place.
+    #[tactic(auto, using(crate::proofs::Places::opened_is_set, crate::proofs::Places::opened_outside))]
+    pub(crate) fn set_opening(&mut self, number: usize, opening: Opening)
+        ensures { queue self.new ≡ spec.with_opening number opening (queue self.old) }
+    {
+        if let Some(place) = self.places.get_mut(number.saturating_sub(self.handed)) {
+            place.opening = opening;
+        }
+    }
+
+    // Takes the first place off, and gives its token.
+    fn take_place(&mut self) -> Result<Option<Token>, Stop>
+        ensures { Moves (λ t. (option_map piece t, queue self.new)) result (Ok (spec.take_place (queue self.old))) }
+    {
+        let Some(handed) = self.handed.checked_add(1) else {
+            return Err(Stop::OutOfMemory);
+        };
+        let Some(place) = self.places.pop_front() else {
+            return Ok(None);
+        };
+        self.handed = handed;
+        Ok(Some(place.token))
+    }
+
+    /// Takes the first token off.
+    pub(crate) fn take(&mut self) -> Result<Option<Token>, Stop>
+        ensures { Moves (λ t. (option_map piece t, queue self.new)) result (Ok (spec.take (queue self.old))) }
+    {
+        let Some(place) = self.places.front_mut() else {
+            return Ok(None);
+        };
+        let span = Span::empty(place.token.span.start);
+        let (kind, left) = match place.opening {
+            Opening::Nothing => return self.take_place(),
+            Opening::Key => (TokenType::Key, Opening::Nothing),
+            Opening::BlockMappingAndKey => (TokenType::BlockMappingStart, Opening::Key),
+            Opening::FlowMappingAndKey => (TokenType::FlowMappingStart, Opening::Key),
+        };
+        place.opening = left;
+        Ok(Some(Token { span, kind }))
+    }
+}
