@@ -1,5 +1,5 @@
 -- Each step at a beginning or an end of a document leaves less to do.
-use Rattle.std.proofs.Common.{◌≡◌, ℕ, ◌+◌, ◌*◌, ◌≤◌, Bool, true, false, List, [], ◌∷◌, length, Result, Ok, Err, refl, sym, ap, arith, subst}
+use Rattle.std.proofs.Common.{◌≡◌, ℕ, ◌+◌, ◌*◌, ◌≤◌, Bool, true, false, List, [], ◌∷◌, length, Result, Ok, Err, refl, ap, arith, subst}
 use Rattle.std.specs.Prelude.{if◌then◌else◌}
 use Rattle.saphyr_scalar.specs.declared.scalar.position.Marker.{Marker}
 use Rattle.saphyr_scalar.specs.declared.scalar.fault.Refusal.{Refusal}
@@ -9,7 +9,7 @@ use Rattle.saphyr_scanner.specs.Seen.{Piece}
 use Rattle.saphyr_parser.specs.declared.parser.context.Context.TheVariants.{Block}
 use Rattle.saphyr_parser.specs.declared.parser.state.State.TheVariants as state
 use Rattle.saphyr_parser.specs.Machine.{◌>>=◌, Machine, Told, Names, put_back, push, take, take_from, with_pieces, is_listed}
-use Rattle.saphyr_parser.specs.DocumentSteps.{pass, pass_from, is_mark, is_end_or_mark, Declared, none_declared, is_directive, directive_at, add_version, tag_directive, directives, directives_from, stream_start, stream_start_at, forget_anchors, explicit_at, explicit_document, bare_document, implicit_start_at, implicit_start, explicit_start_at, explicit_start, no_content, content_at, document_content, behind_marks_at, behind_marks, behind_document_at, behind_document, forget_prefixes, document_end_at, document_end}
+use Rattle.saphyr_parser.specs.DocumentSteps.{pass, pass_from, is_mark, is_end_or_mark, Declared, none_declared, is_directive, directive_at, directives, directives_from, stream_start, stream_start_at, forget_anchors, explicit_at, explicit_document, bare_document, implicit_start_at, implicit_start, explicit_start_at, explicit_start, no_content, content_at, document_content, behind_marks_at, behind_marks, behind_document_at, behind_document, forget_prefixes, document_end_at, document_end}
 use Rattle.saphyr_parser.specs.Answer.{open_size, total_weight}
 use Rattle.saphyr_parser.proofs.Sizes.{Within, refuses, taken, popped_within, entered_within}
 use Rattle.saphyr_parser.proofs.NodeSizes.{node_within}

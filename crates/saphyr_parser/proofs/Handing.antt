@@ -1,14 +1,13 @@
 -- What a call hands out, from what reading ahead left.
-use Rattle.std.proofs.Common.{◌≡◌, ℕ, ◌+◌, ◌<◌, List, [], ◌∷◌, length, Bool, true, false, Option, Some, None, Result, Ok, Err, refl, sym, ap, ◌∙◌, subst, ◌⊎◌, inl, inr}
+use Rattle.std.proofs.Common.{◌≡◌, ℕ, ◌<◌, List, [], ◌∷◌, Option, Some, None, Result, Ok, Err, refl, sym, ap, ◌∙◌, subst, inl, inr}
 use Rattle.saphyr_scalar.specs.declared.scalar.position.Marker.{Marker}
 use Rattle.saphyr_scalar.specs.declared.scalar.position.Span.{Span}
 use Rattle.saphyr_parser.specs.declared.parser.event.Event.{Event}
 use Rattle.saphyr_parser.specs.declared.parser.fault.Fault.{Fault}
 use Rattle.saphyr_parser.specs.declared.parser.fault.Fault.TheVariants as fault
 use Rattle.saphyr_parser.specs.Events.{Happening}
-use Rattle.saphyr_parser.specs.Machine.{Machine}
-use Rattle.saphyr_parser.specs.Answer.{Ending, Refused, OutOfMemory, Answer, none, failed, before, remaining}
-use Rattle.saphyr_parser.specs.Cursor.{Cursor, Kept, IsKept, Hands, Stays, count, told, to_come, ahead, behind, event_of}
+use Rattle.saphyr_parser.specs.Answer.{Ending, Refused, OutOfMemory, Answer, none, failed}
+use Rattle.saphyr_parser.specs.Cursor.{Cursor, Kept, IsKept, Hands, Stays, count, told, to_come}
 
 from_none : (o : Option Kept) (e d : Cursor) → d.kept ≡ o → e.kept ≡ None → to_come d ≡ told d.kept → (IsKept d.kept → ⊥) → (d.kept ≡ None → e ≡ d) → to_come e ≡ none
 from_none None e d q h i j l = ap to_come (l q) ∙ i ∙ ap told q

@@ -1,5 +1,5 @@
 -- Each step at a node leaves less to do.
-use Rattle.std.proofs.Common.{◌≡◌, ℕ, ◌+◌, ◌≤◌, Bool, List, Result, Ok, Err, Option, Some, None, refl, arith}
+use Rattle.std.proofs.Common.{ℕ, ◌+◌, ◌≤◌, List, Result, Ok, Err, Option, Some, None, refl, arith}
 use Rattle.saphyr_scalar.specs.declared.scalar.position.Marker.{Marker}
 use Rattle.saphyr_scalar.specs.declared.scalar.position.Span.{Span}
 use Rattle.saphyr_scalar.specs.declared.scalar.fault.Refusal.{Refusal}
@@ -11,12 +11,12 @@ use Rattle.saphyr_parser.specs.declared.parser.context.Context.TheVariants.{Flow
 use Rattle.saphyr_parser.specs.declared.parser.state.State.{State}
 use Rattle.saphyr_parser.specs.declared.parser.state.State.TheVariants as state
 use Rattle.saphyr_parser.specs.Events.{ResolvedTag}
-use Rattle.saphyr_parser.specs.Machine.{◌>>=◌, Machine, Told, put_back, push, take, meaning}
+use Rattle.saphyr_parser.specs.Machine.{◌>>=◌, Machine, Told, put_back, push, meaning}
 use Rattle.saphyr_parser.specs.TagSteps.{resolved}
 use Rattle.saphyr_parser.specs.NodeSteps.{Properties, no_properties, has_property, without_content, content, content_at, next_content, alias, alias_of, register, behind_anchor, behind_anchor_at, behind_tag, behind_tag_at, node, node_at, inside}
 use Rattle.saphyr_parser.specs.Contexts.{allows_block, allows_indentless}
-use Rattle.saphyr_parser.specs.Answer.{weight, open_size, size}
-use Rattle.saphyr_parser.proofs.Sizes.{Within, gives, refuses, weaker, either, weight_is_small, taken, popped_within, entered_within}
+use Rattle.saphyr_parser.specs.Answer.{weight, open_size}
+use Rattle.saphyr_parser.proofs.Sizes.{Within, refuses, either, taken, popped_within, entered_within}
 
 -- how much more there may be to do behind the first token of a node
 abbrev pub room : Context → ℕ

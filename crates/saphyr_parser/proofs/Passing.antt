@@ -1,5 +1,5 @@
 -- Tokens that are passed, one at a time.
-use Rattle.std.proofs.Common.{◌≡◌, ℕ, ◌+◌, ◌<◌, Bool, true, false, cond, List, [], ◌∷◌, length, Result, Ok, Err, refl, sym, ap, ◌∙◌, arith, subst}
+use Rattle.std.proofs.Common.{◌≡◌, ℕ, ◌<◌, Bool, true, false, List, [], ◌∷◌, length, Result, Ok, Err, refl, sym, ap, ◌∙◌, arith, subst}
 use Rattle.saphyr_scalar.specs.declared.scalar.position.Marker.{Marker}
 use Rattle.saphyr_scalar.specs.declared.scalar.fault.Refusal.{Refusal}
 use Rattle.saphyr_scalar.specs.declared.scalar.fault.FaultText.TheVariants as fault
@@ -10,8 +10,8 @@ use Rattle.saphyr_scalar.specs.Seen.{Fails}
 use Rattle.saphyr_scanner.specs.Tokens as tokens
 use Rattle.saphyr_scanner.specs.Tokens.{Kind}
 use Rattle.saphyr_scanner.specs.Seen.{Piece, Remaining}
-use Rattle.saphyr_parser.specs.Machine.{◌>>=◌, Machine, take, take_from, with_pieces, ending, Names, is_listed}
-use Rattle.saphyr_parser.specs.DocumentSteps.{pass, pass_from, Declared, is_directive, directive_at, add_version, tag_directive, directives, directives_from}
+use Rattle.saphyr_parser.specs.Machine.{◌>>=◌, Machine, take, take_from, with_pieces, Names, is_listed}
+use Rattle.saphyr_parser.specs.DocumentSteps.{pass, pass_from, Declared, is_directive, directive_at, directives, directives_from}
 
 within : {A : Type 0} (x y : A) → (let r : Result A Refusal = Ok x in r) ≡ Ok y → x ≡ y
 within x y e = cc

@@ -1,12 +1,10 @@
 -- What one reading does to the events still to come.
-use Rattle.std.proofs.Common.{◌≡◌, ◌≢◌, ℕ, ◌+◌, ◌<◌, length, Bool, true, false, Result, Ok, Err, Option, Some, None, refl, sym, ap, ◌∙◌, arith}
-use Rattle.std.specs.Prelude.{if◌then◌else◌, is_some}
+use Rattle.std.proofs.Common.{◌≡◌, ◌≢◌, ◌<◌, Result, Ok, Err, refl, ap, ◌∙◌, arith}
 use Rattle.saphyr_scalar.specs.declared.scalar.position.Span.{Span}
 use Rattle.saphyr_scalar.specs.declared.scalar.fault.Refusal.{Refusal}
 use Rattle.saphyr_scalar.specs.declared.scalar.fault.Stop.{Stop}
 use Rattle.saphyr_scalar.specs.declared.scalar.fault.Stop.TheVariants as stop
 use Rattle.saphyr_scalar.specs.Seen.{Fails}
-use Rattle.saphyr_scalar.specs.Faults.{Says}
 use Rattle.saphyr_parser.specs.declared.parser.state.State.TheVariants.{End}
 use Rattle.saphyr_parser.specs.declared.parser.event.Event.{Event}
 use Rattle.saphyr_parser.specs.declared.parser.fault.Fault.{Fault}
@@ -14,9 +12,9 @@ use Rattle.saphyr_parser.specs.declared.parser.fault.Fault.TheVariants as fault
 use Rattle.saphyr_parser.specs.Machine.{Machine, Told}
 use Rattle.saphyr_parser.specs.Steps.{step}
 use Rattle.saphyr_parser.specs.Seen.{told_of}
-use Rattle.saphyr_parser.specs.Answer.{Answer, Refused, none, failed, before, deliver, remaining}
+use Rattle.saphyr_parser.specs.Answer.{none, before, deliver, remaining}
 use Rattle.saphyr_parser.specs.Faults.{IsFaultOf}
-use Rattle.saphyr_parser.specs.Cursor.{Reads, Refuses, count, event_of}
+use Rattle.saphyr_parser.specs.Cursor.{Refuses, count, event_of}
 use Rattle.saphyr_parser.proofs.Unroll.{unroll, over}
 
 pub is_over : (m : Machine) → m.state ≡ End → remaining m ≡ none

@@ -1,5 +1,5 @@
 -- The steps inside block collections (YAML 1.2.2, 8.2).
-use Rattle.std.specs.Prelude.{Result, Ok, Err}
+use Rattle.std.specs.Prelude.{Result}
 use Rattle.saphyr_scalar.specs.declared.scalar.position.Span.{Span}
 use Rattle.saphyr_scalar.specs.declared.scalar.fault.Refusal.{Refusal}
 use Rattle.saphyr_scalar.specs.declared.scalar.fault.FaultText.TheVariants as fault
@@ -8,7 +8,7 @@ use Rattle.saphyr_scanner.specs.Seen.{Piece}
 use Rattle.saphyr_parser.specs.declared.parser.context.Context.TheVariants.{Block, BlockMapping}
 use Rattle.saphyr_parser.specs.declared.parser.state.State.TheVariants as state
 use Rattle.saphyr_parser.specs.Events.{SequenceEnd, MappingEnd}
-use Rattle.saphyr_parser.specs.Machine.{◌>>=◌, Machine, Told, told, refuse, take, put_back, pop, left_out, empty_scalar, enter}
+use Rattle.saphyr_parser.specs.Machine.{◌>>=◌, Machine, Told, told, refuse, take, put_back, pop, left_out}
 use Rattle.saphyr_parser.specs.NodeSteps.{inside}
 
 -- ## Sequences

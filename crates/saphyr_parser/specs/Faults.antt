@@ -1,5 +1,5 @@
 -- What faults say.
-use Rattle.std.specs.Prelude.{◌≡◌, Bool, true, false, not, Option, Some, None, Result, Ok, Err, string_bytes}
+use Rattle.std.specs.Prelude.{Bool, true, false, not, Option, Some, None, Result, Ok, Err, string_bytes}
 use Rattle.saphyr_scalar.specs.Faults.{Says}
 use Rattle.saphyr_scalar.specs.Texts.{fault_text}
 use Rattle.saphyr_scalar.specs.declared.scalar.fault.Stop.{Stop}

@@ -1,9 +1,8 @@
 -- What contracts see of a reader.
-use Rattle.std.specs.Prelude.{Option, option_map, Bool, true, Some, None}
-use Rattle.saphyr_parser.specs.declared.parser.kept.Kept as code
+use Rattle.std.specs.Prelude.{option_map}
 use Rattle.saphyr_parser.specs.declared.parser.reader.Reader.{Reader}
 use Rattle.saphyr_parser.specs.Seen.{machine_of}
-use Rattle.saphyr_parser.specs.Cursor.{Cursor, Kept, event_of}
+use Rattle.saphyr_parser.specs.Cursor.{Cursor, event_of}
 use Rattle.saphyr_parser.specs.KeptSeen.{kept_of}
 
 abbrev pub cursor : {T : Type 0} → Reader T → Cursor

@@ -1,6 +1,5 @@
 -- What contracts see of a machine and of events.
-use Rattle.std.specs.Prelude.{◌≡◌, List, Option, Some, None, Result, Ok, Err, reverse, option_map, string_bytes}
-use Rattle.std.specs.Cow.{cow_str_bytes}
+use Rattle.std.specs.Prelude.{Option, Some, None, reverse}
 use Rattle.saphyr_scalar.specs.declared.scalar.position.Span.{Span}
 use Rattle.saphyr_scanner.specs.declared.token.Token.{Token}
 use Rattle.saphyr_scanner.specs.Seen.{Remaining, piece, before}

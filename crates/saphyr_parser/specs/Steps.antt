@@ -1,5 +1,5 @@
 -- The step of a machine, by what is expected.
-use Rattle.std.specs.Prelude.{Result, Ok, Err}
+use Rattle.std.specs.Prelude.{Result, Err}
 use Rattle.saphyr_scalar.specs.declared.scalar.fault.Refusal.{Refusal}
 use Rattle.saphyr_parser.specs.declared.parser.context.Context.TheVariants.{Block}
 use Rattle.saphyr_parser.specs.declared.parser.state.State.{State}

@@ -29,11 +29,7 @@ fn gives_the_events_of_a_text_without_documents(rt: HostRuntime) -> Result<(), F
 fn gives_a_fault_once(rt: HostRuntime) -> Result<(), Fail> {
     let cases = [
         ("\0", Marker::new(0, 1, 0), "found unprintable character"),
-        (
-            "}",
-            Marker::new(0, 1, 0),
-            "misplaced bracket",
-        ),
+        ("}", Marker::new(0, 1, 0), "misplaced bracket"),
     ];
     for (text, mark, info) in cases {
         let mut parser = Parser::new_from_str(rt.alloc(), text).keep_tags(true);

@@ -1,6 +1,6 @@
 -- What is read as a quoted scalar is counted: the index moves on by as many characters as are taken.
-use Rattle.std.proofs.Common.{◌≡◌, ℕ, zero, suc, pred, ◌+◌, Bool, true, false, List, [], ◌∷◌, length, drop, slice_index, Result, Ok, Err, refl, sym, ap, ◌∙◌, arith, subst}
-use Rattle.std.specs.Prelude.{◌||◌, ◌&&◌, ◌==◌, not, Option, Some, None, if◌then◌else◌, encode_utf8}
+use Rattle.std.proofs.Common.{◌≡◌, ℕ, zero, suc, pred, ◌+◌, List, [], ◌∷◌, length, drop, slice_index, Result, Ok, Err, refl, ap, arith, subst}
+use Rattle.std.specs.Prelude.{◌&&◌, ◌==◌, not, Option, Some, None, encode_utf8}
 use Rattle.saphyr_input.specs.Classes.{is_break, is_blank}
 use Rattle.saphyr_input.specs.Places.{next_2_are}
 use Rattle.saphyr_scalar.specs.declared.scalar.position.Marker.{Marker}

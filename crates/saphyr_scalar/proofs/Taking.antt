@@ -1,6 +1,6 @@
 -- Each reader takes something off the text.
-use Rattle.std.proofs.Common.{◌≡◌, ℕ, zero, suc, ◌+◌, ◌≤◌, ◌<◌, Bool, true, false, List, [], ◌∷◌, ◌++◌, length, drop, Result, Ok, Err, refl, sym, ap, ◌∙◌, arith, cond, subst}
-use Rattle.std.specs.Prelude.{◌&&◌, ◌||◌, slice_index, not, ◌==◌, nat_lt, nat_le, pred, Option, Some, None, encode_utf8}
+use Rattle.std.proofs.Common.{◌≡◌, ℕ, zero, suc, ◌≤◌, ◌<◌, Bool, true, false, List, [], ◌∷◌, ◌++◌, length, drop, Result, Ok, Err, refl, sym, ap, ◌∙◌, arith, cond, subst}
+use Rattle.std.specs.Prelude.{◌&&◌, ◌||◌, slice_index, not, ◌==◌, pred, Option, Some}
 use Rattle.std.specs.List.{prefix_len}
 use Rattle.std.proofs.lemmas.List.{length-drop}
 use Rattle.std.proofs.lemmas.List.{length-append}
@@ -8,7 +8,7 @@ use Rattle.saphyr_input.specs.Classes.{is_bom, is_blank, is_break, is_z, is_flow
 use Rattle.saphyr_input.specs.Places.{next_2_are, is_document_indicator, is_blank_or_break}
 use Rattle.saphyr_scalar.specs.declared.scalar.position.Marker.{Marker}
 use Rattle.saphyr_scalar.specs.declared.scalar.fault.Refusal.{Refusal}
-use Rattle.saphyr_scalar.specs.Cursor.{Cursor, ◌>>=◌, refuse, pass, pass_break, along, next_line}
+use Rattle.saphyr_scalar.specs.Cursor.{Cursor, ◌>>=◌, refuse, pass, pass_break, along}
 use Rattle.saphyr_scalar.specs.declared.scalar.fault.FaultText.TheVariants as fault
 use Rattle.saphyr_input.specs.Breaks.{normalized}
 use Rattle.saphyr_scalar.specs.declared.reading.flow.Quote.{Quote}
@@ -16,7 +16,7 @@ use Rattle.saphyr_scalar.specs.declared.reading.flow.Quote.TheVariants.{Single, 
 use Rattle.saphyr_scalar.specs.FlowReading as flow
 use Rattle.saphyr_scalar.specs.Quoted.{at, quoted}
 use Rattle.saphyr_scalar.proofs.QuotedPieces.{quoted_reading}
-use Rattle.saphyr_scalar.specs.Plain.{Gap, lines, reached, may_stand, at_line, ends_line, next_lines, gap_from, gap, goes_on, word_starts, in_word, between, word, plain, gap_len, ended, Reading}
+use Rattle.saphyr_scalar.specs.Plain.{Gap, lines, reached, may_stand, at_line, next_lines, gap_from, gap, goes_on, word_starts, in_word, between, word, plain, gap_len}
 
 -- a choice, by the test
 pub by_test : {X : Type 0} (b : Bool) (x y : X) (P : X → Type 0) → (b ≡ true → P x) → (b ≡ false → P y) → P (cond b x y)
@@ -75,8 +75,8 @@ gap_within indent start s =
     let less : length t.rest ≤ n = drop_shorter (prefix_len is_blank s.rest) s.rest in
     let behind = break_shorter t in
     let next : Given (GapWithin n) (next_lines indent start (pass_break t)) =
-      given_bind (GapWithin n) (lines indent start false [] (pass_break t).mark (pass_break t).rest) _ (λ g e.
-        given_of (GapWithin n) _ g (lines_within n indent start false [] (pass_break t).mark (pass_break t).rest (omega (arith, less, behind))) e) in
+    given_bind (GapWithin n) (lines indent start false [] (pass_break t).mark (pass_break t).rest) _ (λ g e.
+    given_of (GapWithin n) _ g (lines_within n indent start false [] (pass_break t).mark (pass_break t).rest (omega (arith, less, behind))) e) in
     by_test (is_break (slice_index t.rest 0)) _ _ (Given (GapWithin n)) (λ _. next) (λ _. less)
 
 abbrev Within : ℕ → List ℕ × Marker × Option Marker × Cursor → Type 0
@@ -84,14 +84,15 @@ Within n x = length x.3.rest ≤ n
 
 mutual
   unfolding between word
+
   between_within : (n : ℕ) (in_flow : Bool) (indent : ℕ) (start end : Marker) (g : Gap) (left : ℕ) (t : List ℕ) → length g.behind.rest ≤ n → length t ≤ n → Given (Within n) (between in_flow indent start end g left t)
   between_within n in_flow indent start end g left [] h k = h
   between_within n in_flow indent start end g zero (c ∷ cs) h k =
       let others = word_within n in_flow indent start (along g.behind.mark 1) cs (omega (arith, k)) in
       given_bind (Within n) (goes_on in_flow indent g.behind) _ (λ b e.
-        by_test b.0 _ _ (Given (Within n))
-          (λ _. given_bind (Within n) (word in_flow indent start (along g.behind.mark 1) cs) _ (λ x q. given_of (Within n) _ x others q))
-          (λ _. h))
+      by_test b.0 _ _ (Given (Within n))
+      (λ _. given_bind (Within n) (word in_flow indent start (along g.behind.mark 1) cs) _ (λ x q. given_of (Within n) _ x others q))
+      (λ _. h))
   between_within n in_flow indent start end g (suc left) (c ∷ cs) h k = between_within n in_flow indent start end g left cs h (omega (arith, k))
 
   word_within : (n : ℕ) (in_flow : Bool) (indent : ℕ) (start m : Marker) (t : List ℕ) → length t ≤ n → Given (Within n) (word in_flow indent start m t)
@@ -101,11 +102,11 @@ mutual
       let others = word_within n in_flow indent start (along m 1) cs k in
       let behind = λ (g : Gap) (left : ℕ) (q : length g.behind.rest ≤ n). between_within n in_flow indent start m g left cs q k in
       by_test (in_word in_flow (c ∷ cs)) _ _ (Given (Within n))
-        (λ _. given_bind (Within n) (word in_flow indent start (along m 1) cs) _ (λ x q. given_of (Within n) _ x others q))
-        (λ _. given_bind (Within n) (gap indent start (at m (c ∷ cs))) _ (λ g e.
-          let l = given_of (GapWithin (length (c ∷ cs))) _ g (gap_within indent start (at m (c ∷ cs))) e in
-          let q : length g.behind.rest ≤ n = omega (arith, l, h) in
-          by_test (gap_len (c ∷ cs) g == 0) _ _ (Given (Within n)) (λ _. q) (λ _. behind g (pred (gap_len (c ∷ cs) g)) q)))
+      (λ _. given_bind (Within n) (word in_flow indent start (along m 1) cs) _ (λ x q. given_of (Within n) _ x others q))
+      (λ _. given_bind (Within n) (gap indent start (at m (c ∷ cs))) _ (λ g e.
+      let l = given_of (GapWithin (length (c ∷ cs))) _ g (gap_within indent start (at m (c ∷ cs))) e in
+      let q : length g.behind.rest ≤ n = omega (arith, l, h) in
+      by_test (gap_len (c ∷ cs) g == 0) _ _ (Given (Within n)) (λ _. q) (λ _. behind g (pred (gap_len (c ∷ cs) g)) q)))
 
 -- a word has a character
 first_taken : (in_flow : Bool) (indent : ℕ) (start m : Marker) (t : List ℕ) (x : List ℕ × Marker × Option Marker × Cursor) → in_word in_flow t ≡ true → word in_flow indent start m t ≡ Ok x → length x.3.rest < length t
@@ -114,7 +115,7 @@ first_taken in_flow indent start m [] x w e = absurd (cc)
 first_taken in_flow indent start m (c ∷ cs) x w e =
     let others = word_within (length cs) in_flow indent start (along m 1) cs (omega arith) in
     let within : Given (Within (length cs)) (word in_flow indent start m (c ∷ cs)) =
-      rw w (given_bind (Within (length cs)) (word in_flow indent start (along m 1) cs) _ (λ y q. given_of (Within (length cs)) _ y others q)) in
+    rw w (given_bind (Within (length cs)) (word in_flow indent start (along m 1) cs) _ (λ y q. given_of (Within (length cs)) _ y others q)) in
     let less = given_of (Within (length cs)) _ x within e in
     omega (arith, less)
 

@@ -74,7 +74,7 @@ end_within : (n : ℕ) (start : Marker) (s : Cursor) → length s.rest ≤ n →
 unfolding header_end
 end_within n start s h =
     given_bind (Left n) (separation Yes s) _ (λ x e.
-      break_within n start x.1 (given_of (Behind SkipTabs n) (separation Yes s) x (separation_within n Yes s h) e))
+    break_within n start x.1 (given_of (Behind SkipTabs n) (separation Yes s) x (separation_within n Yes s h) e))
 
 last_within : (n : ℕ) (first : Option Chomping) (s : Cursor) → length s.rest ≤ n → length (last_chomping first s).1.rest ≤ n
 unfolding last_chomping
@@ -92,7 +92,7 @@ header_within n s h =
     let first = chomping (pass 1 s) in
     let given = indicator_within n s.mark first.1 (chomping_within n (pass 1 s) h) in
     given_bind (Behind BlockHeader n) (indicator s.mark first.1) _ (λ x e.
-      behind_within n s.mark x.0 (last_chomping first.0 x.1) (last_within n first.0 x.1 (given_of (Behind ℕ n) (indicator s.mark first.1) x given e)))
+    behind_within n s.mark x.0 (last_chomping first.0 x.1) (last_within n first.0 x.1 (given_of (Behind ℕ n) (indicator s.mark first.1) x given e)))
 
 empty_within : (n : ℕ) (limit : Option ℕ) (before : EmptyLines) (b : Bool) (m : Marker) (t : List ℕ) → length t ≤ n → length (empty_lines limit before b m t).1.rest ≤ n
 unfolding empty_lines
@@ -109,6 +109,7 @@ LinesWithin n x = length x.2.rest ≤ n
 
 mutual
   unfolding between line
+
   between_within : (n : ℕ) (style : BlockStyle) (i : ℕ) (above : Option Bool) (lines : ℕ) (b : Bool) (m : Marker) (t : List ℕ) → length t ≤ n → LinesWithin n (between style i above lines b m t)
   between_within n style i above lines b m [] h = h
   between_within n style i above lines b m (c ∷ cs) h =
@@ -150,13 +151,13 @@ unfolding behind_header
 scalar_within n style indent start x h =
     let limit = given_indentation indent x.0.indicator in
     leading_within n style indent start x.0.chomping limit (empty_lines limit no_lines x.1.blank_so_far x.1.mark x.1.rest)
-      (empty_within n limit no_lines x.1.blank_so_far x.1.mark x.1.rest h)
+    (empty_within n limit no_lines x.1.blank_so_far x.1.mark x.1.rest h)
 
 block_within : (n : ℕ) (style : BlockStyle) (indent : ℕ) (s : Cursor) → length (drop 1 s.rest) ≤ n → Given (ScalarWithin n) (block_scalar style indent s)
 unfolding block_scalar
 block_within n style indent s h =
     given_bind (ScalarWithin n) (header s) _ (λ x e.
-      scalar_within n style indent s.mark x (given_of (Behind BlockHeader n) (header s) x (header_within n s h) e))
+    scalar_within n style indent s.mark x (given_of (Behind BlockHeader n) (header s) x (header_within n s h) e))
 
 pub block_scalar_takes : (style : BlockStyle) (indent : ℕ) (s t : Cursor) (text : List ℕ) (span : Span) → 0 < length s.rest → block_scalar style indent s ≡ Ok (text, span, t) → length t.rest < length s.rest
 block_scalar_takes style indent s t text span some e =

@@ -1,8 +1,7 @@
 -- No block collection ends where the innermost does not.
-use Rattle.std.proofs.Common.{◌≡◌, ℕ, false, List, [], ◌∷◌, Option, Some, None, refl, ◌∙◌, cond, Bool, true}
+use Rattle.std.proofs.Common.{◌≡◌, ℕ, false, List, [], ◌∷◌, Option, Some, None, refl, ◌∙◌}
 use Rattle.saphyr_scalar.specs.declared.scalar.position.Marker.{Marker}
 use Rattle.saphyr_scanner.specs.State.{State}
-use Rattle.saphyr_scalar.specs.Cursor.{Cursor}
 use Rattle.saphyr_scanner.specs.Core.{Core, in_block}
 use Rattle.saphyr_scanner.specs.Unrolling.{end_blocks, end_block, is_right_of, outwards, less_deep, unroll}
 use Rattle.saphyr_scanner.proofs.Sizes.{by_test}

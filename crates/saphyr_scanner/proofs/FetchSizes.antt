@@ -1,7 +1,6 @@
 -- Each token that is fetched leaves less to fetch.
-use Rattle.std.proofs.Common.{◌≡◌, ℕ, ◌+◌, ◌≤◌, ◌<◌, Bool, true, false, List, [], ◌∷◌, length, drop, Result, Ok, Err, refl, sym, ap, ◌∙◌, arith, subst, cond}
+use Rattle.std.proofs.Common.{◌≡◌, ℕ, ◌<◌, Bool, true, false, List, [], ◌∷◌, length, drop, Result, Ok, Err, refl, ap, ◌∙◌, arith, cond}
 use Rattle.std.specs.Prelude.{◌&&◌, ◌||◌, slice_index, not, ◌==◌, nat_lt, nat_le, Option, Some, None}
-use Rattle.std.proofs.lemmas.Grind.{common_steps}
 use Rattle.std.proofs.lemmas.List.{length-drop}
 use Rattle.saphyr_input.specs.Classes.{is_bom, is_z, is_blank_or_breakz, is_breakz}
 use Rattle.saphyr_input.specs.Places.{is_document_start, is_document_end}
@@ -12,17 +11,13 @@ use Rattle.saphyr_scalar.specs.Cursor.{Cursor, ◌>>=◌}
 use Rattle.saphyr_scanner.specs.declared.engine.level.Context.TheVariants as context
 use Rattle.saphyr_scanner.specs.Tokens as tokens
 use Rattle.saphyr_scanner.specs.Tokens.{Kind}
-use Rattle.saphyr_scanner.specs.Queue.{Queue, next}
-use Rattle.saphyr_scanner.specs.Core.{Core, Step, Steps, in_block, least_column, remove_key, drop_far_key}
+use Rattle.saphyr_scanner.specs.Queue.{next}
+use Rattle.saphyr_scanner.specs.Core.{Core, Steps, in_block, least_column, remove_key, drop_far_key}
 use Rattle.saphyr_scanner.specs.Passing.{pass_gap, separate}
 use Rattle.saphyr_scanner.specs.State.{State, carried, acted, separated, changed}
 use Rattle.saphyr_scanner.specs.Unrolling.{unroll, end_blocks, end_block, is_right_of, outwards, less_deep}
 use Rattle.saphyr_scanner.specs.Document as document
-use Rattle.saphyr_scanner.specs.Block as block
-use Rattle.saphyr_scanner.specs.Flow as flow
-use Rattle.saphyr_scanner.specs.Value as value
-use Rattle.saphyr_scanner.specs.Scalar as scalar
-use Rattle.saphyr_scanner.specs.Fetch.{size, step, content, fetch_here, arrive, begin, fetch, within, fetch_within, settled, is_value_adjacent, flow_value}
+use Rattle.saphyr_scanner.specs.Fetch.{size, step, content, fetch_here, arrive, fetch, within, fetch_within, settled, is_value_adjacent}
 use Rattle.std.proofs.lemmas.Bool.Decides.{nat_tests}
 use Rattle.saphyr_scalar.specs.Directive as directives
 use Rattle.saphyr_scalar.specs.declared.reading.block.BlockStyle.TheVariants as block_style
@@ -124,10 +119,10 @@ end_marker_takes : (s : State) → 0 < length s.core.cursor.rest → Given (Took
 unfolding document.end_marker document.end_line
 end_marker_takes s h =
     given_bind (TookState s) (document.marker tokens.DocumentEnd s) _ (λ t q.
-      let took = given_of (TookState s) (document.marker tokens.DocumentEnd s) t (marker_takes tokens.DocumentEnd s h) q in
-      given_bind (TookState s) (separated (separate t.core) t) document.end_line (λ x e.
-        let more = given_of (λ y. TookState s y.1) (separated (separate t.core) t) x (parted t (separate t.core) took (separate_kept t.core)) e in
-        by_test (is_breakz (slice_index x.1.core.cursor.rest 0)) _ _ (Given (TookState s)) (λ _. more) (λ _. tt)))
+    let took = given_of (TookState s) (document.marker tokens.DocumentEnd s) t (marker_takes tokens.DocumentEnd s h) q in
+    given_bind (TookState s) (separated (separate t.core) t) document.end_line (λ x e.
+    let more = given_of (λ y. TookState s y.1) (separated (separate t.core) t) x (parted t (separate t.core) took (separate_kept t.core)) e in
+    by_test (is_breakz (slice_index x.1.core.cursor.rest 0)) _ _ (Given (TookState s)) (λ _. more) (λ _. tt)))
   where
     parted : (t : State) (r : Result (SkipTabs × Core) Refusal) → TookState s t → Given (λ y. Kept t.core y.1) r → Given (λ y. TookState s y.1) (separated r t)
     parted t (Ok y) a b = took_kept s.core t.core y.1 a b
@@ -143,10 +138,10 @@ directive_takes : Readers → (s : State) → slice_index s.core.cursor.rest 0 �
 unfolding document.directive document.read_directive
 directive_takes laws s h =
     given_bind (TookState s) (document.end_content s) _ (λ t e.
-      let k : KeptState s t = given_of (KeptState s) (document.end_content s) t (content_kept s) e in
-      let first : slice_index t.core.cursor.rest 0 ≡ 37 = ap (λ (x : Cursor). slice_index x.rest 0) (given_of (λ (u : State). u.core.cursor ≡ s.core.cursor) (document.end_content s) t (content_cursor s) e) ∙ h in
-      after s t k (document.read_directive t.core)
-        (given_bind (TookStep t.core) (directives.directive t.core.cursor) _ (λ x q. record { rest = laws.directive t.core.cursor x.2 x.0 x.1 first q; started = refl; ended = refl })))
+    let k : KeptState s t = given_of (KeptState s) (document.end_content s) t (content_kept s) e in
+    let first : slice_index t.core.cursor.rest 0 ≡ 37 = ap (λ (x : Cursor). slice_index x.rest 0) (given_of (λ (u : State). u.core.cursor ≡ s.core.cursor) (document.end_content s) t (content_cursor s) e) ∙ h in
+    after s t k (document.read_directive t.core)
+    (given_bind (TookStep t.core) (directives.directive t.core.cursor) _ (λ x q. record { rest = laws.directive t.core.cursor x.2 x.0 x.1 first q; started = refl; ended = refl })))
   where
     after : (s t : State) → KeptState s t → (r : Steps) → Given (TookStep t.core) r → Given (TookState s) (acted r t.queue)
     after s t k (Ok x) h = kept_took s.core t.core x.core k h
@@ -157,11 +152,11 @@ unfolding document.end_stream document.end_at
 end_smaller s going =
     by_test (length s.core.cursor.rest == 0) _ _ (Given (Smaller s))
     (λ _. by_test s.core.required _ _ (Given (Smaller s)) (λ _. tt) (λ _.
-      let m : Marker = document.end_mark s.core.cursor.mark in
-      let k : KeptState s (unroll None m s) = unroll_kept None m s in
-      let a = flags (unroll None m s).core.started s.core.started k.started in
-      let b : flag s.core.ended ≡ 1 = flags s.core.ended false going in
-      omega (arith, k.rest, a, b)))
+    let m : Marker = document.end_mark s.core.cursor.mark in
+    let k : KeptState s (unroll None m s) = unroll_kept None m s in
+    let a = flags (unroll None m s).core.started s.core.started k.started in
+    let b : flag s.core.ended ≡ 1 = flags s.core.ended false going in
+    omega (arith, k.rest, a, b)))
     (λ _. tt)
 
 -- ## What begins at a place
@@ -221,8 +216,8 @@ arrived_kept : (s : State) → Given (KeptState s) (arrive s)
 unfolding arrive
 arrived_kept s =
     given_bind (KeptState s) (carried (pass_gap s.core >>= drop_far_key) s.queue) _ (λ t e.
-      let k = given_of (KeptState s) (carried (pass_gap s.core >>= drop_far_key) s.queue) t both e in
-      kept_kept s.core t.core _ k (unroll_kept (Some t.core.cursor.mark.col) t.core.cursor.mark t))
+    let k = given_of (KeptState s) (carried (pass_gap s.core >>= drop_far_key) s.queue) t both e in
+    kept_kept s.core t.core _ k (unroll_kept (Some t.core.cursor.mark.col) t.core.cursor.mark t))
   where
     after : (c : Core) (r : Result Core Refusal) → Kept s.core c → Given (Kept c) r → Given (Kept s.core) r
     after c (Ok d) k h = kept_kept s.core c d k h
@@ -230,7 +225,7 @@ arrived_kept s =
 
     both : Given (KeptState s) (carried (pass_gap s.core >>= drop_far_key) s.queue)
     both = carried_kept s.core (pass_gap s.core >>= drop_far_key) s (same s.core s.core refl refl refl)
-      (given_bind (Kept s.core) (pass_gap s.core) drop_far_key (λ c e. after c (drop_far_key c) (given_of (Kept s.core) (pass_gap s.core) c (gap_kept s.core) e) (drop_kept c)))
+        (given_bind (Kept s.core) (pass_gap s.core) drop_far_key (λ c e. after c (drop_far_key c) (given_of (Kept s.core) (pass_gap s.core) c (gap_kept s.core) e) (drop_kept c)))
 
 kept_smaller : (s t : State) (r : Result State Refusal) → KeptState s t → Given (Smaller t) r → Given (Smaller s) r
 kept_smaller s t (Ok u) k h = let a = flags t.core.started s.core.started k.started in let b = flags t.core.ended s.core.ended k.ended in omega (arith, h, k.rest, a, b)
@@ -241,21 +236,21 @@ unfolding fetch
 fetch_smaller laws s going =
     by_test s.core.started _ _ (Given (Smaller s))
     (λ _. given_bind (Smaller s) (arrive s) fetch_here (λ t e.
-      let k = given_of (KeptState s) (arrive s) t (arrived_kept s) e in
-      kept_smaller s t (fetch_here t) k (here_smaller laws t (k.ended ∙ going))))
+    let k = given_of (KeptState s) (arrive s) t (arrived_kept s) e in
+    kept_smaller s t (fetch_here t) k (here_smaller laws t (k.ended ∙ going))))
     (λ first. let b : flag s.core.started ≡ 1 = flags s.core.started false first in omega (arith, b))
 
 pub within_smaller : Readers → (limit : ℕ) (s : State) → s.core.ended ≡ false → Given (Smaller s) (fetch_within limit s)
 unfolding fetch_within
 within_smaller laws limit s going =
     given_bind (Smaller s) (fetch s) (within limit) (λ t e.
-      by_test (nat_le t.core.cursor.mark.index limit) _ _ (Given (Smaller s)) (λ _. given_of (Smaller s) (fetch s) t (fetch_smaller laws s going) e) (λ _. tt))
+    by_test (nat_le t.core.cursor.mark.index limit) _ _ (Given (Smaller s)) (λ _. given_of (Smaller s) (fetch s) t (fetch_smaller laws s going) e) (λ _. tt))
 
 -- a token that is fetched, and the candidate of its line dropped where it is too far
 pub read_smaller : Readers → (limit : ℕ) (s : State) → s.core.ended ≡ false → Given (Smaller s) (fetch_within limit s >>= settled)
 read_smaller laws limit s going =
     given_bind (Smaller s) (fetch_within limit s) settled (λ t e.
-      settle t (drop_far_key t.core) (given_of (Smaller s) (fetch_within limit s) t (within_smaller laws limit s going) e) (drop_kept t.core))
+    settle t (drop_far_key t.core) (given_of (Smaller s) (fetch_within limit s) t (within_smaller laws limit s going) e) (drop_kept t.core))
   where
     settle : (t : State) (r : Result Core Refusal) → Smaller s t → Given (Kept t.core) r → Given (Smaller s) (carried r t.queue)
     settle t (Ok d) h k = let a = flags d.started t.core.started k.started in let b = flags d.ended t.core.ended k.ended in omega (arith, h, k.rest, a, b)

@@ -1,12 +1,12 @@
 -- Tokens are read until the first of the queue can be handed out.
-use Rattle.std.proofs.Common.{◌≡◌, ℕ, zero, suc, ◌+◌, ◌<◌, Bool, true, false, List, [], ◌∷◌, Result, Ok, Err, refl, sym, ap, ◌∙◌, arith, subst}
-use Rattle.std.specs.Prelude.{◌&&◌, not, Option, Some, None}
+use Rattle.std.proofs.Common.{◌≡◌, ℕ, zero, suc, ◌<◌, Bool, true, false, Result, Ok, Err, refl, sym, ◌∙◌, arith, subst}
+use Rattle.std.specs.Prelude.{◌&&◌, not}
 use Rattle.saphyr_scalar.specs.declared.scalar.fault.Refusal.{Refusal}
 use Rattle.saphyr_scalar.specs.Cursor.{◌>>=◌}
-use Rattle.saphyr_scanner.specs.Core.{Candidate, Core, in_block, is_too_far, drop_far_key, forget_key}
+use Rattle.saphyr_scanner.specs.Core.{Core, in_block, is_too_far, drop_far_key, forget_key}
 use Rattle.saphyr_scanner.specs.State.{State, carried}
-use Rattle.saphyr_scanner.specs.Fetch.{size, fetch_within, settled, needs_token, fill_in, fill}
-use Rattle.saphyr_scanner.proofs.Sizes.{by_test, Given, given_of}
+use Rattle.saphyr_scanner.specs.Fetch.{size, fetch_within, settled, needs_token, fill_in}
+use Rattle.saphyr_scanner.proofs.Sizes.{by_test, given_of}
 use Rattle.saphyr_scanner.proofs.TakingScalars.{Readers}
 use Rattle.saphyr_scanner.proofs.FetchSizes.{read_smaller}
 

@@ -3,7 +3,7 @@ use Rattle.std.proofs.Common.{◌≡◌, ℕ, zero, suc, ◌≤◌, List, [], �
 use Rattle.std.specs.Prelude.{map, set, slice_index_or}
 use Rattle.saphyr_scanner.specs.declared.queue.Place as declared
 use Rattle.saphyr_scanner.specs.declared.queue.Opening.{Opening}
-use Rattle.saphyr_scanner.specs.Queue.{Place, opened}
+use Rattle.saphyr_scanner.specs.Queue.{opened}
 use Rattle.saphyr_scanner.specs.QueueSeen.{place}
 
 pub opened_is_set : (n : ℕ) (o : Opening) (ps : List declared.Place) (p : declared.Place) → map place (set ps n (record (slice_index_or ps n p) { opening = o })) ≡ opened n o (map place ps)

@@ -1,25 +1,20 @@
 -- Each step takes something off the text.
-use Rattle.std.proofs.Common.{◌≡◌, ℕ, ◌+◌, ◌≤◌, ◌<◌, Bool, true, false, List, [], ◌∷◌, length, drop, Result, Ok, Err, refl, sym, ap, ◌∙◌, arith}
+use Rattle.std.proofs.Common.{◌≡◌, ℕ, ◌≤◌, ◌<◌, Bool, true, false, List, [], ◌∷◌, length, Result, Ok, Err, refl, ap, ◌∙◌, arith}
 use Rattle.std.specs.Prelude.{◌&&◌, ◌||◌, slice_index, not, ◌==◌, nat_lt, nat_le, Option, Some, None}
-use Rattle.saphyr_input.specs.Classes.{is_break, is_flow, is_alpha}
+use Rattle.saphyr_input.specs.Classes.{is_alpha}
 use Rattle.saphyr_input.specs.declared.input.SkipTabs.{SkipTabs}
 use Rattle.saphyr_input.specs.declared.input.SkipTabs.TheVariants as tabs
-use Rattle.saphyr_input.specs.Separation.{has_valid_yaml_ws, found_tabs}
+use Rattle.saphyr_input.specs.Separation.{has_valid_yaml_ws}
 use Rattle.saphyr_scalar.specs.declared.scalar.position.Marker.{Marker}
 use Rattle.saphyr_scalar.specs.declared.scalar.fault.Refusal.{Refusal}
-use Rattle.saphyr_scalar.specs.declared.scalar.style.ScalarStyle.{ScalarStyle}
 use Rattle.saphyr_scalar.specs.Cursor.{Cursor, ◌>>=◌, separation}
-use Rattle.saphyr_scalar.specs.Quoted as quoted
-use Rattle.saphyr_scalar.specs.Plain as words
 use Rattle.saphyr_scanner.specs.declared.engine.level.Context.{Context}
 use Rattle.saphyr_scanner.specs.Tokens.{Kind}
 use Rattle.saphyr_scanner.specs.Gap as gaps
-use Rattle.saphyr_scanner.specs.Core.{Candidate, Level, Core, Step, Steps, went, in_block, save_key, remove_key, drop_far_key, go_deeper, roll, is_further, least_column, with_context, is_too_far}
-use Rattle.saphyr_scanner.specs.Passing.{separate, pass_on, with_cursor, pass_gap, check_comment, goes_on_behind, behind_gap, intercepts}
+use Rattle.saphyr_scanner.specs.Core.{Candidate, Level, Core, Step, in_block, save_key, remove_key, drop_far_key, go_deeper, roll, is_further, least_column, with_context, is_too_far}
+use Rattle.saphyr_scanner.specs.Passing.{separate, pass_on, pass_gap, check_comment, goes_on_behind, behind_gap, intercepts}
 use Rattle.saphyr_scanner.specs.Flow as flow
 use Rattle.saphyr_scanner.specs.Value as value
-use Rattle.saphyr_scanner.specs.Block as block
-use Rattle.saphyr_scanner.specs.Scalar as scalar
 use Rattle.saphyr_scanner.specs.Fetch as fetching
 use Rattle.saphyr_scanner.proofs.Sizes.{by_test, Given, given_bind, given_of, pass_shorter, separation_shorter, gap_shorter}
 
@@ -79,10 +74,10 @@ pub gap_kept : (c : Core) → Given (Kept c) (pass_gap c)
 unfolding pass_gap
 gap_kept c =
     given_bind (Kept c) (gaps.pass_gap (least_column c) c.cursor) _ (λ g e.
-      let shorter = given_of _ (gaps.pass_gap (least_column c) c.cursor) g (gap_shorter (least_column c) (length c.cursor.rest) c.cursor.rest c.cursor.mark c.cursor.blank_so_far false false (omega arith)).0 e in
-      let first : Kept c (behind_gap c g) = record { rest = shorter; started = refl; ended = refl } in
-      let go : (r : Result Core Refusal) → Given (Kept (behind_gap c g)) r → Given (Kept c) r = λ r h. weaken r h first in
-      go (check_comment (behind_gap c g)) (check_kept (behind_gap c g)))
+    let shorter = given_of _ (gaps.pass_gap (least_column c) c.cursor) g (gap_shorter (least_column c) (length c.cursor.rest) c.cursor.rest c.cursor.mark c.cursor.blank_so_far false false (omega arith)).0 e in
+    let first : Kept c (behind_gap c g) = record { rest = shorter; started = refl; ended = refl } in
+    let go : (r : Result Core Refusal) → Given (Kept (behind_gap c g)) r → Given (Kept c) r = λ r h. weaken r h first in
+    go (check_comment (behind_gap c g)) (check_kept (behind_gap c g)))
   where
     weaken : {d : Core} → (r : Result Core Refusal) → Given (Kept d) r → Kept c d → Given (Kept c) r
     weaken {d} (Ok x) h k = kept_kept c d x k h
@@ -152,7 +147,7 @@ pub entry_takes : (c : Core) → 0 < length c.cursor.rest → Given (TookStep c)
 unfolding flow.entry flow.next_entry
 entry_takes c h =
     behind_removal (TookStep c) c _ (λ d e k. behind_separation (TookStep c) c _ _
-      (kept_took c d _ k (moved d (with_context (flow.behind_entry d.level.context) (record d { key_allowed = true })) refl refl refl (some_text c d e h))) (λ x t. t))
+    (kept_took c d _ k (moved d (with_context (flow.behind_entry d.level.context) (record d { key_allowed = true })) refl refl refl (some_text c d e h))) (λ x t. t))
 
 -- ## Values
 
@@ -161,8 +156,8 @@ unfolding value.check_tab
 tab_kept c =
     by_test (slice_index c.cursor.rest 0 == 9) _ _ (Given (Kept c))
     (λ _. given_bind (Kept c) (separate c) value.refuse_tab (λ x e.
-      let k = given_of (λ y. Kept c y.1) (separate c) x (separate_kept c) e in
-      by_test (in_block x.1 && not (has_valid_yaml_ws x.0) && ((slice_index x.1.cursor.rest 0 == 45) || is_alpha (slice_index x.1.cursor.rest 0))) _ _ (Given (Kept c)) (λ _. tt) (λ _. k)))
+    let k = given_of (λ y. Kept c y.1) (separate c) x (separate_kept c) e in
+    by_test (in_block x.1 && not (has_valid_yaml_ws x.0) && ((slice_index x.1.cursor.rest 0 == 45) || is_alpha (slice_index x.1.cursor.rest 0))) _ _ (Given (Kept c)) (λ _. tt) (λ _. k)))
     (λ _. same c c refl refl refl)
 
 key_takes : (k : Option Candidate) (begins : Bool) (start : Marker) (c d : Core) → Took c d → Given (TookStep c) (value.behind_key k begins start d)
@@ -180,7 +175,7 @@ value_takes c h =
     let d : Core = pass_on 1 (with_context (value.behind_colon c.level.context) c) in
     let t : Took c d = moved c (with_context (value.behind_colon c.level.context) c) refl refl refl h in
     given_bind (TookStep c) (value.check_tab d) _ (λ e q.
-      key_takes e.level.key (value.begins_pair c.level.context) c.cursor.mark c e (took_kept c d e t (given_of (Kept d) (value.check_tab d) e (tab_kept d) q)))
+    key_takes e.level.key (value.begins_pair c.level.context) c.cursor.mark c e (took_kept c d e t (given_of (Kept d) (value.check_tab d) e (tab_kept d) q)))
 
 pub flow_value_takes : (second : ℕ) (c : Core) → 0 < length c.cursor.rest → Given (TookStep c) (fetching.flow_value second c)
 unfolding fetching.flow_value

@@ -1,23 +1,16 @@
 -- Each step of block collections, of scalars and of documents takes something off the text.
-use Rattle.std.proofs.Common.{◌≡◌, ℕ, ◌+◌, ◌≤◌, ◌<◌, Bool, true, false, List, [], ◌∷◌, length, Result, Ok, Err, refl, sym, ap, ◌∙◌, arith}
-use Rattle.std.specs.Prelude.{◌&&◌, ◌||◌, slice_index, not, ◌==◌, nat_lt, nat_le, Option, Some, None}
+use Rattle.std.proofs.Common.{◌≡◌, ℕ, ◌≤◌, ◌<◌, Bool, true, false, List, [], ◌∷◌, length, refl, ◌∙◌, arith}
+use Rattle.std.specs.Prelude.{◌&&◌, ◌||◌, slice_index, not, ◌==◌, nat_le}
 use Rattle.saphyr_input.specs.Classes.{is_break, is_flow, is_yaml_non_break}
-use Rattle.saphyr_input.specs.declared.input.SkipTabs.{SkipTabs}
 use Rattle.saphyr_input.specs.Separation.{found_tabs}
 use Rattle.saphyr_scalar.specs.declared.scalar.position.Marker.{Marker}
-use Rattle.saphyr_scalar.specs.declared.scalar.fault.Refusal.{Refusal}
-use Rattle.saphyr_scalar.specs.declared.scalar.style.ScalarStyle.{ScalarStyle}
-use Rattle.saphyr_scalar.specs.declared.scalar.style.ScalarStyle.TheVariants.{DoubleQuoted}
-use Rattle.saphyr_scalar.specs.Cursor.{Cursor, ◌>>=◌, along, next_line}
-use Rattle.saphyr_scalar.specs.Quoted as quoted
-use Rattle.saphyr_scalar.specs.Plain as words
-use Rattle.saphyr_scanner.specs.Gap.{Spaced, spaces, line_comment, spaced, spaces_at}
-use Rattle.saphyr_scanner.specs.Core.{Core, Step, Steps, went, in_block, save_key, remove_key, roll, with_context}
-use Rattle.saphyr_scanner.specs.Passing.{separate, pass_on, with_cursor, pass_gap}
+use Rattle.saphyr_scalar.specs.Cursor.{◌>>=◌, along, next_line}
+use Rattle.saphyr_scanner.specs.Gap.{Spaced, spaces, line_comment, spaces_at}
+use Rattle.saphyr_scanner.specs.Core.{Core, in_block, remove_key, roll, with_context}
+use Rattle.saphyr_scanner.specs.Passing.{pass_on, with_cursor}
 use Rattle.saphyr_scanner.specs.Block as block
-use Rattle.saphyr_scanner.specs.Scalar as scalar
 use Rattle.saphyr_scanner.proofs.Sizes.{by_test, Given, given_bind, given_of}
-use Rattle.saphyr_scanner.proofs.Taking.{Kept, Took, TookStep, same, kept_kept, took_kept, kept_took, one_taken, moved, some_text, separate_kept, gap_kept, save_kept, roll_kept, behind_separation, behind_removal}
+use Rattle.saphyr_scanner.proofs.Taking.{Kept, Took, TookStep, same, kept_kept, took_kept, kept_took, one_taken, some_text, roll_kept, behind_separation, behind_removal}
 
 -- ## Block collections
 
@@ -43,8 +36,8 @@ next_entry_takes c h =
     let d : Core = roll c.cursor.mark.col (pass_on 1 c) in
     let t : Took c d = took_kept c (pass_on 1 c) d (one_taken c h) (roll_kept c.cursor.mark.col (pass_on 1 c)) in
     given_bind (TookStep c) (block.pass_dash d >>= remove_key) _ (λ e q.
-      let u : Given (Took c) (block.pass_dash d >>= remove_key) = given_bind (Took c) (block.pass_dash d) remove_key (λ x p. removed c x (given_of (Took c) (block.pass_dash d) x (dash_takes c d t) p)) in
-      took_kept c e _ (given_of (Took c) (block.pass_dash d >>= remove_key) e u q) (same e _ refl refl refl))
+    let u : Given (Took c) (block.pass_dash d >>= remove_key) = given_bind (Took c) (block.pass_dash d) remove_key (λ x p. removed c x (given_of (Took c) (block.pass_dash d) x (dash_takes c d t) p)) in
+    took_kept c e _ (given_of (Took c) (block.pass_dash d >>= remove_key) e u q) (same e _ refl refl refl))
 
 pub block_entry_takes : (c : Core) → 0 < length c.cursor.rest → Given (TookStep c) (block.entry c)
 unfolding block.entry
@@ -87,4 +80,4 @@ key_takes c h =
     begun : (d : Core) → Kept c d → d.cursor ≡ c.cursor → Given (Took c) (remove_key d >>= λ e. block.pass_mark (record e { key_allowed = in_block e }))
     begun d k e =
         behind_removal (Took c) d (λ f. block.pass_mark (record f { key_allowed = in_block f }))
-          (λ f q l. mark_takes c (record f { key_allowed = in_block f }) (kept_kept c d _ k (kept_kept d f _ l (same f _ refl refl refl))) (some_text c f (q ∙ e) h))
+        (λ f q l. mark_takes c (record f { key_allowed = in_block f }) (kept_kept c d _ k (kept_kept d f _ l (same f _ refl refl refl))) (some_text c f (q ∙ e) h))

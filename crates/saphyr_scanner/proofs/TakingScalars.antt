@@ -1,25 +1,24 @@
 -- Each step of scalars, anchors, aliases and tags takes something off the text, by the laws of their readers.
-use Rattle.std.proofs.Common.{◌≡◌, ℕ, ◌+◌, ◌≤◌, ◌<◌, Bool, true, false, List, [], ◌∷◌, length, Result, Ok, Err, refl, sym, ap, ◌∙◌, arith}
-use Rattle.std.specs.Prelude.{◌&&◌, ◌||◌, slice_index, not, ◌==◌, nat_lt, nat_le, Option, Some, None}
+use Rattle.std.proofs.Common.{◌≡◌, ℕ, ◌<◌, Bool, true, false, List, length, Ok, refl, ap, ◌∙◌}
+use Rattle.std.specs.Prelude.{◌&&◌, slice_index, not, nat_lt, Option}
 use Rattle.saphyr_scalar.specs.declared.reading.block.BlockStyle.{BlockStyle}
 use Rattle.saphyr_scalar.specs.declared.reading.flow.Quote.{Quote}
 use Rattle.saphyr_scalar.specs.declared.reading.flow.Quote.TheVariants.{Single, Double}
 use Rattle.saphyr_scalar.specs.FlowReading.{mark}
 use Rattle.saphyr_scalar.specs.declared.scalar.position.Marker.{Marker}
 use Rattle.saphyr_scalar.specs.declared.scalar.position.Span.{Span}
-use Rattle.saphyr_scalar.specs.declared.scalar.fault.Refusal.{Refusal}
 use Rattle.saphyr_scalar.specs.declared.scalar.style.ScalarStyle.{ScalarStyle}
 use Rattle.saphyr_scalar.specs.declared.scalar.style.ScalarStyle.TheVariants.{SingleQuoted, DoubleQuoted}
 use Rattle.saphyr_scalar.specs.Anchor as anchors
 use Rattle.saphyr_scalar.specs.BlockScalar as blocks
-use Rattle.saphyr_scalar.specs.Cursor.{Cursor, ◌>>=◌}
+use Rattle.saphyr_scalar.specs.Cursor.{Cursor}
 use Rattle.saphyr_scalar.specs.Directive as directives
 use Rattle.saphyr_scalar.specs.Directive.{Directive}
 use Rattle.saphyr_scalar.specs.Plain as words
 use Rattle.saphyr_scalar.specs.Quoted as quoted
 use Rattle.saphyr_scalar.specs.Tag as tags
-use Rattle.saphyr_scanner.specs.Core.{Core, Step, Steps, went, in_block, least_column, save_key}
-use Rattle.saphyr_scanner.specs.Passing.{separate, with_cursor, pass_gap}
+use Rattle.saphyr_scanner.specs.Core.{Core, in_block, least_column, save_key}
+use Rattle.saphyr_scanner.specs.Passing.{with_cursor, pass_gap}
 use Rattle.saphyr_scanner.specs.Property as property
 use Rattle.saphyr_scanner.specs.Scalar as scalar
 use Rattle.saphyr_scanner.proofs.Sizes.{by_test, Given, given_bind, given_of}
@@ -72,16 +71,16 @@ unfolding scalar.double_quoted scalar.read_double_quoted
 double_quoted_takes laws n c h =
     let d : Core = scalar.disallow_key (save_key n c) in
     given_bind (TookStep c) (quoted.double_quoted (least_column d) d.cursor) _ (λ x q.
-      quotes_take d.cursor.mark DoubleQuoted x.0 c (with_cursor x.1 d)
-        (read_off c d x.1 (saved n c d refl refl refl) (laws.double_quoted (least_column d) d.cursor x.1 x.0 (first_of n c 34 h) q)))
+    quotes_take d.cursor.mark DoubleQuoted x.0 c (with_cursor x.1 d)
+    (read_off c d x.1 (saved n c d refl refl refl) (laws.double_quoted (least_column d) d.cursor x.1 x.0 (first_of n c 34 h) q)))
 
 pub single_quoted_takes : Readers → (n : ℕ) (c : Core) → slice_index c.cursor.rest 0 ≡ 39 → Given (TookStep c) (scalar.single_quoted n c)
 unfolding scalar.single_quoted scalar.read_single_quoted
 single_quoted_takes laws n c h =
     let d : Core = scalar.disallow_key (save_key n c) in
     given_bind (TookStep c) (quoted.single_quoted (least_column d) d.cursor) _ (λ x q.
-      quotes_take d.cursor.mark SingleQuoted x.0 c (with_cursor x.1 d)
-        (read_off c d x.1 (saved n c d refl refl refl) (laws.single_quoted (least_column d) d.cursor x.1 x.0 (first_of n c 39 h) q)))
+    quotes_take d.cursor.mark SingleQuoted x.0 c (with_cursor x.1 d)
+    (read_off c d x.1 (saved n c d refl refl refl) (laws.single_quoted (least_column d) d.cursor x.1 x.0 (first_of n c 39 h) q)))
 
 pub plain_takes : Readers → (n : ℕ) (c : Core) → Given (TookStep c) (scalar.plain n c)
 unfolding scalar.plain scalar.read_plain
@@ -89,14 +88,14 @@ plain_takes laws n c =
     let d : Core = record (scalar.disallow_key (save_key n c)) { deeper = false } in
     by_test (not (in_block d) && nat_lt d.cursor.mark.col d.indent) _ _ (Given (TookStep c)) (λ _. tt)
     (λ _. given_bind (TookStep c) (words.plain (not (in_block d)) d.indent d.cursor) _ (λ x q.
-      kept_took c d _ (saved n c d refl refl refl) (record { rest = laws.plain (not (in_block d)) d.indent d.cursor x.3 x.0 x.1 x.2 q; started = refl; ended = refl })))
+    kept_took c d _ (saved n c d refl refl refl) (record { rest = laws.plain (not (in_block d)) d.indent d.cursor x.3 x.0 x.1 x.2 q; started = refl; ended = refl })))
 
 pub block_takes : Readers → (style : BlockStyle) (n : ℕ) (c : Core) → 0 < length c.cursor.rest → Given (TookStep c) (scalar.block style n c)
 unfolding scalar.block scalar.read_block
 block_takes laws style n c h =
     let d : Core = record (save_key n c) { key_allowed = true; deeper = false } in
     given_bind (TookStep c) (blocks.block_scalar style d.indent d.cursor) _ (λ x q.
-      read_off c d x.2 (saved n c d refl refl refl) (laws.block_scalar style d.indent d.cursor x.2 x.0 x.1 (some_text c d (saved_cursor n c) h) q))
+    read_off c d x.2 (saved n c d refl refl refl) (laws.block_scalar style d.indent d.cursor x.2 x.0 x.1 (some_text c d (saved_cursor n c) h) q))
 
 pub name_takes : Readers → (is_alias : Bool) (n : ℕ) (c : Core) → 0 < length c.cursor.rest → Given (TookStep c) (property.name is_alias n c)
 unfolding property.name property.read_name

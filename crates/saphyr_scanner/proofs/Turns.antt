@@ -1,23 +1,21 @@
 -- A token is handed out, and what remains.
-use Rattle.std.proofs.Common.{◌≡◌, ℕ, zero, suc, ◌+◌, ◌<◌, Bool, true, false, List, [], ◌∷◌, Result, Ok, Err, refl, sym, ap, ◌∙◌, arith, subst}
-use Rattle.std.specs.Prelude.{◌&&◌, ◌||◌, not, Option, Some, None, option_map}
-use Rattle.saphyr_scalar.specs.declared.scalar.fault.Refusal.{Refusal}
+use Rattle.std.proofs.Common.{◌≡◌, ℕ, suc, ◌+◌, Bool, true, false, List, [], ◌∷◌, Result, Ok, Err, refl, sym, ap, ◌∙◌, arith, subst}
+use Rattle.std.specs.Prelude.{◌&&◌, not, Option, Some, None, option_map}
 use Rattle.saphyr_scalar.specs.declared.scalar.fault.Stop.{Stop}
 use Rattle.saphyr_scalar.specs.declared.scalar.fault.Stop.TheVariants as stops
 use Rattle.saphyr_scalar.specs.Seen.{Fails, Moves}
-use Rattle.saphyr_scalar.specs.Cursor.{◌>>=◌}
 use Rattle.saphyr_scanner.specs.declared.token.Token.{Token}
 use Rattle.saphyr_scanner.specs.declared.queue.Opening.{Opening}
 use Rattle.saphyr_scanner.specs.declared.queue.Opening.TheVariants as opening
-use Rattle.saphyr_scanner.specs.Seen.{Piece, Remaining, none, refused, before, piece, Hands}
-use Rattle.saphyr_scanner.specs.Queue.{Place, Queue, take_of}
-use Rattle.saphyr_scanner.specs.Core.{Core, drop_far_key}
+use Rattle.saphyr_scanner.specs.Seen.{Piece, Remaining, none, before, piece, Hands}
+use Rattle.saphyr_scanner.specs.Queue.{Place}
+use Rattle.saphyr_scanner.specs.Core.{Core}
 use Rattle.saphyr_scanner.specs.State.{State}
-use Rattle.saphyr_scanner.specs.Fetch.{size, settled, needs_token, is_held, fill_in, fill, take}
-use Rattle.saphyr_scanner.specs.Remaining.{before_place, without_first, hand_out, delivered, run, remaining}
+use Rattle.saphyr_scanner.specs.Fetch.{size, settled, needs_token, fill, take}
+use Rattle.saphyr_scanner.specs.Remaining.{before_place, remaining}
 use Rattle.saphyr_scanner.proofs.TakingScalars.{Readers}
 use Rattle.saphyr_scanner.proofs.Filling.{IsSettled, settled_once, bind_ok}
-use Rattle.saphyr_scanner.proofs.Unroll.{refused_first, rest, behind, if_true, if_false, remaining_is, settled_is, Filled, filled_in}
+use Rattle.saphyr_scanner.proofs.Unroll.{refused_first, rest, if_true, if_false, remaining_is, settled_is, filled_in}
 
 -- a state with these places, of which so many were handed out before
 abbrev holding : Core → List Place → ℕ → State

@@ -1,20 +1,11 @@
 -- The tokens still to come, one at a time.
-use Rattle.std.proofs.Common.{◌≡◌, ℕ, zero, suc, ◌+◌, ◌<◌, Bool, true, false, List, [], ◌∷◌, Result, Ok, Err, refl, sym, ap, ◌∙◌, arith, subst, cond}
-use Rattle.std.specs.Prelude.{◌&&◌, ◌||◌, not, Option, Some, None, option_map}
-use Rattle.saphyr_scalar.specs.declared.scalar.position.Marker.{Marker}
+use Rattle.std.proofs.Common.{◌≡◌, ℕ, zero, suc, ◌<◌, Bool, true, false, List, [], ◌∷◌, Result, Ok, Err, refl, sym, ap, ◌∙◌, arith, subst, cond}
 use Rattle.saphyr_scalar.specs.declared.scalar.fault.Refusal.{Refusal}
 use Rattle.saphyr_scalar.specs.Cursor.{◌>>=◌}
-use Rattle.saphyr_scalar.specs.declared.scalar.fault.Stop.{Stop}
-use Rattle.saphyr_scalar.specs.declared.scalar.fault.Stop.TheVariants as stops
-use Rattle.saphyr_scalar.specs.Seen.{Fails}
-use Rattle.saphyr_scanner.specs.declared.token.Token.{Token}
-use Rattle.saphyr_scanner.specs.declared.queue.Opening.{Opening}
-use Rattle.saphyr_scanner.specs.declared.queue.Opening.TheVariants as opening
-use Rattle.saphyr_scanner.specs.Seen.{Piece, Remaining, none, refused, before, piece, Hands}
-use Rattle.saphyr_scanner.specs.Queue.{Place, Queue}
-use Rattle.saphyr_scanner.specs.Core.{Core, drop_far_key}
-use Rattle.saphyr_scanner.specs.State.{State, carried}
-use Rattle.saphyr_scanner.specs.Fetch.{size, fetch_within, settled, needs_token, is_held, fill_in, fill, take}
+use Rattle.saphyr_scanner.specs.Seen.{Remaining, none, refused}
+use Rattle.saphyr_scanner.specs.Queue.{Place}
+use Rattle.saphyr_scanner.specs.State.{State}
+use Rattle.saphyr_scanner.specs.Fetch.{size, settled, needs_token, fill_in, fill}
 use Rattle.saphyr_scanner.specs.Remaining.{before_place, without_first, hand_out, delivered, run, remaining}
 use Rattle.saphyr_scanner.proofs.TakingScalars.{Readers}
 use Rattle.saphyr_scanner.proofs.Filling.{read, going, smaller_read, less_read, IsSettled, settled_once, bind_ok, read_settles}

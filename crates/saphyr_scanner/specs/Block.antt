@@ -1,5 +1,5 @@
 -- The indicators of block collections (YAML 1.2.2, 8.2).
-use Rattle.std.specs.Prelude.{ℕ, Bool, true, false, ◌||◌, ◌&&◌, ◌==◌, not, List, [], ◌∷◌, Result, Ok, slice_index, if◌then◌else◌}
+use Rattle.std.specs.Prelude.{Bool, true, false, ◌||◌, ◌&&◌, ◌==◌, not, List, [], ◌∷◌, Result, Ok, slice_index, if◌then◌else◌}
 use Rattle.saphyr_input.specs.Classes.{is_break, is_flow, is_blank_or_breakz}
 use Rattle.saphyr_input.specs.Separation.{found_tabs}
 use Rattle.saphyr_input.specs.declared.input.SkipTabs.{SkipTabs}
@@ -9,7 +9,7 @@ use Rattle.saphyr_scalar.specs.declared.scalar.fault.FaultText.TheVariants as fa
 use Rattle.saphyr_scalar.specs.Cursor.{◌>>=◌, refuse}
 use Rattle.saphyr_scanner.specs.declared.engine.level.Context.{Context}
 use Rattle.saphyr_scanner.specs.declared.engine.level.Context.TheVariants as context
-use Rattle.saphyr_scanner.specs.Gap.{Spaced, spaces_at}
+use Rattle.saphyr_scanner.specs.Gap.{spaces_at}
 use Rattle.saphyr_scanner.specs.Tokens as tokens
 use Rattle.saphyr_scanner.specs.Tokens.{Kind}
 use Rattle.saphyr_scanner.specs.Core.{Core, Action, Steps, went, at_mark, up_to_here, in_block, remove_key, with_context, go_deeper, is_further, roll}
@@ -38,8 +38,8 @@ behind_start begins m kind a = if begins then at_mark m kind ∷ a ∷ [] else a
 unfoldable pub next_entry : Core → Steps
 next_entry c =
     pass_dash (roll c.cursor.mark.col (pass_on 1 c)) >>= remove_key >>= λ d. went
-      (behind_start (is_further c.cursor.mark.col c) c.cursor.mark tokens.BlockSequenceStart (at_mark d.cursor.mark tokens.BlockEntry))
-      (record d { key_allowed = true })
+    (behind_start (is_further c.cursor.mark.col c) c.cursor.mark tokens.BlockSequenceStart (at_mark d.cursor.mark tokens.BlockEntry))
+    (record d { key_allowed = true })
 
 -- `-`
 unfoldable pub entry : Core → Steps
@@ -73,4 +73,4 @@ unfoldable pub key : Core → Steps
 key c =
     if in_block c && not c.key_allowed then refuse fault.KeyNotAllowed c.cursor.mark
     else (begin_key c >>= λ d. went
-      (behind_start (is_further c.cursor.mark.col c) c.cursor.mark tokens.BlockMappingStart (up_to_here c.cursor.mark tokens.Key d)) d)
+    (behind_start (is_further c.cursor.mark.col c) c.cursor.mark tokens.BlockMappingStart (up_to_here c.cursor.mark tokens.Key d)) d)

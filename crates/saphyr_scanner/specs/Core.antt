@@ -1,9 +1,9 @@
 -- What a scanner knows besides the tokens that it holds, and what its steps do.
-use Rattle.std.specs.Prelude.{ℕ, ◌+◌, ◌-◌, Bool, true, false, ◌&&◌, ◌||◌, ◌==◌, not, nat_le, nat_lt, List, [], ◌∷◌, ◌++◌, Option, Some, None, Result, Ok, Err, if◌then◌else◌}
+use Rattle.std.specs.Prelude.{ℕ, ◌+◌, ◌-◌, Bool, true, false, ◌&&◌, ◌||◌, ◌==◌, not, nat_le, nat_lt, List, [], ◌∷◌, Option, Some, None, Result, Ok, if◌then◌else◌}
 use Rattle.saphyr_scalar.specs.declared.scalar.position.Marker.{Marker}
 use Rattle.saphyr_scalar.specs.declared.scalar.fault.Refusal.{Refusal}
 use Rattle.saphyr_scalar.specs.declared.scalar.fault.FaultText.TheVariants as fault
-use Rattle.saphyr_scalar.specs.Cursor.{Cursor, ◌>>=◌, fresh, refuse}
+use Rattle.saphyr_scalar.specs.Cursor.{Cursor, fresh, refuse}
 use Rattle.saphyr_scanner.specs.declared.engine.level.Context.{Context}
 use Rattle.saphyr_scanner.specs.declared.engine.level.Context.TheVariants as context
 use Rattle.saphyr_scanner.specs.declared.queue.Opening.{Opening}
@@ -43,8 +43,20 @@ at_root = record { context = context.Block; key = None }
 -- at the start of a text
 abbrev pub start : List ℕ → Core
 start text =
-    record { cursor = fresh text; level = at_root; outer = []; required = false; key_allowed = true; adjacent = 0;
-      indent = 0; deeper = false; outer_indents = []; comment = None; started = false; ended = false }
+    record {
+      cursor = fresh text;
+      level = at_root;
+      outer = [];
+      required = false;
+      key_allowed = true;
+      adjacent = 0;
+      indent = 0;
+      deeper = false;
+      outer_indents = [];
+      comment = None;
+      started = false;
+      ended = false;
+    }
 
 -- ## What a step does to the queue
 
@@ -103,8 +115,9 @@ with_key k c = record c { level = record { context = c.level.context; key = k } 
 abbrev pub save_key : ℕ → Core → Core
 save_key n c =
     if c.key_allowed then
-      record (with_key (Some (record { mark = c.cursor.mark; place = n })) c) {
-        required = (if in_block c then not c.deeper && (c.indent == c.cursor.mark.col + 1) else c.required) }
+    record (with_key (Some (record { mark = c.cursor.mark; place = n })) c) {
+      required = (if in_block c then not c.deeper && (c.indent == c.cursor.mark.col + 1) else c.required);
+    }
     else c
 
 -- no token of the level may be a key any more

@@ -1,5 +1,5 @@
 -- Documents and the end of the stream (YAML 1.2.2, chapter 9).
-use Rattle.std.specs.Prelude.{ℕ, Bool, true, false, ◌||◌, ◌==◌, not, nat_lt, List, [], ◌∷◌, length, slice_index, Option, None, Result, Ok, if◌then◌else◌}
+use Rattle.std.specs.Prelude.{true, false, ◌||◌, ◌==◌, not, nat_lt, [], ◌∷◌, length, slice_index, None, Result, Ok, if◌then◌else◌}
 use Rattle.saphyr_input.specs.Classes.{is_breakz}
 use Rattle.saphyr_input.specs.declared.input.SkipTabs.{SkipTabs}
 use Rattle.saphyr_scalar.specs.declared.scalar.position.Marker.{Marker}

@@ -17,9 +17,20 @@ level l = record { context = l.context; key = option_map candidate l.key }
 
 abbrev pub core : {T : Type 0} {g : Ghosts T} → Engine T g → Core
 core {T} {g} e =
-    record { cursor = reader.state e.reader; level = level e.level; outer = map level (reverse e.outer.items); required = e.required;
-      key_allowed = e.key_allowed; adjacent = e.adjacent; indent = e.indent; deeper = e.deeper; outer_indents = reverse e.outer_indents.items;
-      comment = e.comment; started = e.started; ended = e.ended }
+    record {
+      cursor = reader.state e.reader;
+      level = level e.level;
+      outer = map level (reverse e.outer.items);
+      required = e.required;
+      key_allowed = e.key_allowed;
+      adjacent = e.adjacent;
+      indent = e.indent;
+      deeper = e.deeper;
+      outer_indents = reverse e.outer_indents.items;
+      comment = e.comment;
+      started = e.started;
+      ended = e.ended;
+    }
 
 abbrev pub state : {T : Type 0} {g : Ghosts T} → Engine T g → State
 state {T} {g} e = record { core = core e; queue = queue e.queue }

@@ -1,6 +1,5 @@
 -- The indicators of flow collections (YAML 1.2.2, 7.4).
-use Rattle.std.specs.Prelude.{ℕ, Bool, true, false, ◌&&◌, nat_le, List, [], ◌∷◌, length, Option, None, Result, Ok, if◌then◌else◌}
-use Rattle.saphyr_input.specs.declared.input.SkipTabs.{SkipTabs}
+use Rattle.std.specs.Prelude.{ℕ, Bool, true, false, ◌&&◌, nat_le, List, [], ◌∷◌, length, None, if◌then◌else◌}
 use Rattle.saphyr_scalar.specs.declared.scalar.position.Marker.{Marker}
 use Rattle.saphyr_scalar.specs.declared.scalar.fault.FaultText.TheVariants as fault
 use Rattle.saphyr_scalar.specs.Cursor.{◌>>=◌, refuse}

@@ -1,5 +1,5 @@
 -- What a scanner passes between tokens and behind them.
-use Rattle.std.specs.Prelude.{ℕ, ◌-◌, Bool, true, false, ◌||◌, ◌&&◌, ◌==◌, not, nat_lt, nat_le, Option, Some, None, Result, Ok, slice_index, if◌then◌else◌}
+use Rattle.std.specs.Prelude.{ℕ, ◌-◌, Bool, false, ◌||◌, ◌&&◌, ◌==◌, not, nat_lt, nat_le, Option, Some, None, Result, Ok, slice_index, if◌then◌else◌}
 use Rattle.saphyr_input.specs.Classes.{is_z}
 use Rattle.saphyr_input.specs.Places.{can_be_plain, is_document_indicator}
 use Rattle.saphyr_input.specs.declared.input.SkipTabs.{SkipTabs}

@@ -1,6 +1,6 @@
 -- Anchors, aliases and tags (YAML 1.2.2, 6.9 and 7.1).
 use Rattle.std.specs.Prelude.{ℕ, Bool, not, List, [], ◌∷◌, if◌then◌else◌}
-use Rattle.saphyr_scalar.specs.Cursor.{Cursor, ◌>>=◌}
+use Rattle.saphyr_scalar.specs.Cursor.{◌>>=◌}
 use Rattle.saphyr_scalar.specs.Anchor as anchors
 use Rattle.saphyr_scalar.specs.Tag as tags
 use Rattle.saphyr_scanner.specs.Tokens as tokens

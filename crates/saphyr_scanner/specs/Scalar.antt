@@ -1,9 +1,7 @@
 -- Scalars as tokens (YAML 1.2.2, chapters 7 and 8).
-use Rattle.std.specs.Prelude.{ℕ, Bool, true, false, ◌||◌, ◌&&◌, ◌==◌, not, nat_lt, List, [], ◌∷◌, Option, Result, Ok, slice_index, if◌then◌else◌}
+use Rattle.std.specs.Prelude.{ℕ, Bool, true, false, ◌||◌, ◌&&◌, ◌==◌, not, nat_lt, List, [], ◌∷◌, Option, slice_index, if◌then◌else◌}
 use Rattle.saphyr_input.specs.Classes.{is_breakz}
-use Rattle.saphyr_input.specs.declared.input.SkipTabs.{SkipTabs}
 use Rattle.saphyr_scalar.specs.declared.scalar.position.Marker.{Marker}
-use Rattle.saphyr_scalar.specs.declared.scalar.fault.Refusal.{Refusal}
 use Rattle.saphyr_scalar.specs.declared.scalar.fault.FaultText.TheVariants as fault
 use Rattle.saphyr_scalar.specs.declared.scalar.style.ScalarStyle.{ScalarStyle}
 use Rattle.saphyr_scalar.specs.declared.scalar.style.ScalarStyle.TheVariants.{Plain, SingleQuoted, DoubleQuoted, Literal, Folded}
@@ -65,7 +63,7 @@ unfoldable pub read_plain : Core → Steps
 read_plain c =
     if not (in_block c) && nat_lt c.cursor.mark.col c.indent then refuse fault.FlowIndentation c.cursor.mark
     else (words.plain (not (in_block c)) c.indent c.cursor >>= λ x. went
-      (from_to c.cursor.mark x.1 (tokens.Scalar Plain x.0) ∷ []) (behind_plain x.2 x.3 c))
+    (from_to c.cursor.mark x.1 (tokens.Scalar Plain x.0) ∷ []) (behind_plain x.2 x.3 c))
 
 -- a plain scalar
 unfoldable pub plain : ℕ → Core → Steps

@@ -1,8 +1,6 @@
 -- The scanner as functions on what it knows and the tokens that it holds.
 use Rattle.std.specs.Prelude.{ℕ, List, Result, Ok, Err}
-use Rattle.saphyr_input.specs.declared.input.SkipTabs.{SkipTabs}
 use Rattle.saphyr_scalar.specs.declared.scalar.fault.Refusal.{Refusal}
-use Rattle.saphyr_scalar.specs.Cursor.{◌>>=◌}
 use Rattle.saphyr_scanner.specs.Queue as queue
 use Rattle.saphyr_scanner.specs.Queue.{Queue}
 use Rattle.saphyr_scanner.specs.Core as core

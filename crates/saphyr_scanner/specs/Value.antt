@@ -48,7 +48,7 @@ unfoldable pub of_key : Candidate → Bool → Marker → Core → Steps
 of_key k begins start c =
     if begins && nat_lt k.mark.line start.line then refuse fault.MisplacedColon start
     else went (Open k.place (opening_of begins k.mark.col c) ∷ at_mark start tokens.Value ∷ [])
-      (record (forget_key (go_deeper (roll k.mark.col c))) { key_allowed = false })
+    (record (forget_key (go_deeper (roll k.mark.col c))) { key_allowed = false })
 
 -- what a colon without a key begins
 unfoldable pub begin_alone : Bool → Marker → Core → List Action

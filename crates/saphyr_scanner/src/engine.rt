@@ -9,6 +9,11 @@ mod property;
 mod scalar;
 mod value;
 
+ghost use Rattle.std.specs.Prelude.{◌≡◌, ℕ, ◌<◌, ◌≤◌, ◌^◌, length, Ok};
+ghost use Rattle.saphyr_scanner.specs.Core as spec;
+ghost use Rattle.saphyr_scanner.specs.Passing as passing;
+ghost use Rattle.saphyr_scanner.specs.State as spec_state;
+
 use crate::gap::skip_gap;
 use crate::queue::{Opening, Queue};
 use crate::token::{Token, TokenType};
@@ -16,11 +21,6 @@ pub(crate) use level::{Candidate, Context, Level};
 use saphyr_input::input::{Input, SkipTabs};
 use saphyr_scalar::{FaultText, Marker, Reader, Refusal, Span, Stop};
 use std::alloc::Global;
-
-ghost use Rattle.std.specs.Prelude.{◌≡◌, ℕ, ◌<◌, ◌≤◌, ◌^◌, length, Ok};
-ghost use Rattle.saphyr_scanner.specs.Core as spec;
-ghost use Rattle.saphyr_scanner.specs.Passing as passing;
-ghost use Rattle.saphyr_scanner.specs.State as spec_state;
 
 /// What a scanner holds: the rest of the text, the tokens that were read and not handed out, and
 /// what is open.
@@ -170,7 +170,11 @@ impl<T: Input> Engine<T> {
         let input = self.reader.input();
         self.in_block()
             && mark.line.saturating_sub(comment.line) == 1
-            && (if self.deeper { self.indent < mark.col } else { self.indent <= mark.col })
+            && (if self.deeper {
+                self.indent < mark.col
+            } else {
+                self.indent <= mark.col
+            })
             && !input.next_is_z()
             && !(mark.col == 0 && input.next_is_document_indicator())
             && input.next_can_be_plain_scalar(false)

@@ -3,8 +3,8 @@
 
 mod engine;
 mod gap;
-mod queue;
 pub mod law;
+mod queue;
 mod scanner;
 #[cfg(test)]
 mod tests;

@@ -55,7 +55,18 @@ fn refuses(rt: HostRuntime) -> Result<(), Fail> {
             Marker::new(1, 1, 1),
         ),
         ("# abc", 4, FaultText::TextTooLong, Marker::new(5, 1, 5)),
-        ("\n- a", 100, FaultText::NotBuiltYet, Marker::new(1, 2, 0)),
+        (
+            "\n]",
+            100,
+            FaultText::MisplacedBracket,
+            Marker::new(1, 2, 0),
+        ),
+        (
+            "# c\n @",
+            100,
+            FaultText::UnexpectedCharacter('@'),
+            Marker::new(5, 2, 1),
+        ),
     ];
     for (text, limit, fault, mark) in cases {
         let (mut scanner, started) = next_after_start(rt.alloc(), text, limit);
@@ -66,5 +77,40 @@ fn refuses(rt: HostRuntime) -> Result<(), Fail> {
             "{text:?}"
         );
     }
+    Ok(())
+}
+
+// The kinds of a text's tokens, up to a fault.
+fn kinds_are(alloc: Global, text: &str, kinds: &[TokenType]) -> bool {
+    let mut scanner = Scanner::new(alloc, StrInput::new(text), 1000);
+    for kind in kinds {
+        match scanner.next_token() {
+            Ok(Some(token)) if token.kind == *kind => {}
+            _ => return false,
+        }
+    }
+    scanner.next_token() == Ok(None)
+}
+
+#[test]
+fn puts_a_key_before_its_token(rt: HostRuntime) -> Result<(), Fail> {
+    let alloc = rt.alloc();
+    let block = [
+        TokenType::StreamStart,
+        TokenType::BlockMappingStart,
+        TokenType::Key,
+        TokenType::Alias(String::from_str(alloc, "a")?),
+        TokenType::Value,
+        TokenType::FlowSequenceStart,
+        TokenType::FlowMappingStart,
+        TokenType::Key,
+        TokenType::Alias(String::from_str(alloc, "b")?),
+        TokenType::Value,
+        TokenType::FlowMappingEnd,
+        TokenType::FlowSequenceEnd,
+        TokenType::BlockEnd,
+        TokenType::StreamEnd,
+    ];
+    assert!(rt; kinds_are(alloc, "*a : [*b : ]", &block));
     Ok(())
 }

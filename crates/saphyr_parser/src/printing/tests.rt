@@ -276,3 +276,69 @@ fn runs_where_reading_or_writing_fails(rt: HostRuntime) -> Result<(), Fail> {
     }
     Ok(())
 }
+
+#[test]
+fn runs_on_flow_collections(rt: HostRuntime) -> Result<(), Fail> {
+    let alloc = rt.alloc();
+    let cases = [
+        (
+            "{\"a\":[1,true]}",
+            "+STR\n+DOC\n+MAP\n=VAL \"a\n+SEQ\n=VAL :1\n=VAL :true\n-SEQ\n-MAP\n-DOC\n-STR\n",
+        ),
+        (
+            "[&a x, *a]",
+            "+STR\n+DOC\n+SEQ\n=VAL &1 :x\n=ALI *1\n-SEQ\n-DOC\n-STR\n",
+        ),
+        (
+            "[? : x]",
+            "+STR\n+DOC\n+SEQ\n+MAP\n=VAL :\n=VAL :x\n-MAP\n-SEQ\n-DOC\n-STR\n",
+        ),
+        (
+            "[? ]",
+            "+STR\n+DOC\n+SEQ\n+MAP\n=VAL :\n=VAL :\n-MAP\n-SEQ\n-DOC\n-STR\n",
+        ),
+        ("[a:b]", "+STR\n+DOC\n+SEQ\n=VAL :a:b\n-SEQ\n-DOC\n-STR\n"),
+        ("!%C3%A9 x", "+STR\n+DOC\n=VAL <!é> :x\n-DOC\n-STR\n"),
+    ];
+    for (text, lines) in cases {
+        expect_run(&rt, alloc, text.as_bytes(), lines.as_bytes(), "", 0)?;
+    }
+    let adjacent = "':' may not precede any of `[{` in flow mapping at byte 2 line 1 column 3\n";
+    expect_run(&rt, alloc, b"[a:[]]", b"+STR\n", adjacent, 1)
+}
+
+#[test]
+fn runs_on_block_collections_and_scalars(rt: HostRuntime) -> Result<(), Fail> {
+    let alloc = rt.alloc();
+    let cases = [
+        (
+            "a: b\r\nc: d",
+            "+STR\n+DOC\n+MAP\n=VAL :a\n=VAL :b\n=VAL :c\n=VAL :d\n-MAP\n-DOC\n-STR\n",
+        ),
+        (
+            ">\n a\n b\n\n  c\n d\n",
+            "+STR\n+DOC\n=VAL >a b\\n\\n c\\nd\\n\n-DOC\n-STR\n",
+        ),
+        ("|\n a\n ", "+STR\n+DOC\n=VAL |a\\n\n-DOC\n-STR\n"),
+        ("|+\n a\n ", "+STR\n+DOC\n=VAL |a\\n\\n\n-DOC\n-STR\n"),
+        (
+            "--- |\na\n---\nb\n",
+            "+STR\n+DOC\n=VAL |a\\n\n-DOC\n+DOC\n=VAL :b\n-DOC\n-STR\n",
+        ),
+        (
+            "- &a x\n- *a\n- &a y\n- *a",
+            "+STR\n+DOC\n+SEQ\n=VAL &1 :x\n=ALI *1\n=VAL &2 :y\n=ALI *2\n-SEQ\n-DOC\n-STR\n",
+        ),
+        (
+            "\"a \\\n  b\n\n c\"",
+            "+STR\n+DOC\n=VAL \"a b\\nc\n-DOC\n-STR\n",
+        ),
+    ];
+    for (text, lines) in cases {
+        expect_run(&rt, alloc, text.as_bytes(), lines.as_bytes(), "", 0)?;
+    }
+    let printed = b"+STR\n+DOC\n=VAL :scalar key\n";
+    let value = "mapping values are not allowed in this context at byte 26 line 4 column 4\n";
+    let text = b"\n# syntax error\nscalar\nkey: [1, 2]]\nkey1:a2\n";
+    expect_run(&rt, alloc, text, printed, value, 1)
+}

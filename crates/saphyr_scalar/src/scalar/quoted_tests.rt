@@ -155,11 +155,11 @@ fn refuses_ends_and_markers_inside_quotes(rt: HostRuntime) -> Result<(), Fail> {
 fn refuses_lines_left_of_the_indentation(rt: HostRuntime) -> Result<(), Fail> {
     let start = Marker::new(0, 1, 0);
     for (text, indent) in [
-        ("\"a\nb\"", 2),
-        ("\"a\n b\"", 3),
-        ("\"a\n\"", 2),
-        ("\"a\\\n \"", 3),
-        ("'a\n\n b'", 3),
+        ("\"a\nb\"", 1),
+        ("\"a\n b\"", 2),
+        ("\"a\n\"", 1),
+        ("\"a\\\n \"", 2),
+        ("'a\n\n b'", 2),
     ] {
         expect_fault(
             &rt,
@@ -171,9 +171,9 @@ fn refuses_lines_left_of_the_indentation(rt: HostRuntime) -> Result<(), Fail> {
         )?;
     }
     for (text, indent, tab) in [
-        ("\"a\n\tb\"", 2, Marker::new(3, 2, 0)),
-        ("\"a\n \t\n   b\"", 3, Marker::new(4, 2, 1)),
-        ("'a\n\n\tb'", 2, Marker::new(4, 3, 0)),
+        ("\"a\n\tb\"", 1, Marker::new(3, 2, 0)),
+        ("\"a\n \t\n   b\"", 2, Marker::new(4, 2, 1)),
+        ("'a\n\n\tb'", 1, Marker::new(4, 3, 0)),
     ] {
         expect_fault(
             &rt,
@@ -185,12 +185,12 @@ fn refuses_lines_left_of_the_indentation(rt: HostRuntime) -> Result<(), Fail> {
         )?;
     }
     for (text, indent, value) in [
-        ("\"a\nb\"", 1, "a b"),
-        ("\"a\n b\"", 2, "a b"),
-        ("\"a\n \tb\"", 2, "a b"),
-        ("\"a\n\n  b\"", 3, "a\nb"),
-        ("\"a\\\n\"", 9, "a"),
-        ("\"a\tb\"", 9, "a\tb"),
+        ("\"a\nb\"", 0, "a b"),
+        ("\"a\n b\"", 1, "a b"),
+        ("\"a\n \tb\"", 1, "a b"),
+        ("\"a\n\n  b\"", 2, "a\nb"),
+        ("\"a\\\n\"", 8, "a"),
+        ("\"a\tb\"", 8, "a\tb"),
     ] {
         expect_value(&rt, rt.alloc(), text, indent, value)?;
     }

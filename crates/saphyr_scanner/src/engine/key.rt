@@ -61,8 +61,7 @@ impl<T: Input> Engine<T> {
         match self.level.key {
             None => false,
             Some(key) => {
-                key.mark.line < mark.line
-                    || mark.index.saturating_sub(key.mark.index) > LONGEST_KEY
+                key.mark.line < mark.line || mark.index.saturating_sub(key.mark.index) > LONGEST_KEY
             }
         }
     }

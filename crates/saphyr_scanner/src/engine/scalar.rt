@@ -106,7 +106,9 @@ impl<T: Input> Engine<T> {
         self.save_key()?;
         self.key_allowed = true;
         self.deeper = false;
-        let scalar = self.reader.read_block_scalar(self.alloc, style, self.indent)?;
+        let scalar = self
+            .reader
+            .read_block_scalar(self.alloc, style, self.indent)?;
         let kind = TokenType::Scalar(style_of(style), scalar.text);
         self.put(scalar.span.start, scalar.span.end, kind)
     }

@@ -75,7 +75,12 @@ impl<T: Input> Engine<T> {
 
     // The candidate is the colon's key.
     #[tactic(auto, unfolding(crate::specs::Value::of_key))]
-    fn fetch_value_of(&mut self, key: Candidate, begins_pair: bool, start: Marker) -> Result<(), Stop>
+    fn fetch_value_of(
+        &mut self,
+        key: Candidate,
+        begins_pair: bool,
+        start: Marker,
+    ) -> Result<(), Stop>
         ensures { Moves (λ _. state self.new) result (spec_state.acted (value.of_key (candidate key) begins_pair start (state self.old).core) (state self.old).queue) }
     {
         if begins_pair && key.mark.line < start.line {

@@ -1,4 +1,4 @@
-use Rattle.std.proofs.Common.{◌≡◌, true, sym, ◌∙◌}
+use Rattle.std.proofs.Common.{sym, ◌∙◌}
 use Rattle.saphyr_scanner.proofs.TakingScalars.{Readers, quoted_laws}
 use Rattle.saphyr_scanner.proofs.Filling.{read_is, smaller_read, one_more}
 use Rattle.saphyr_scanner.proofs.engine.Engine.fill.Goals as goal
@@ -15,7 +15,7 @@ loop-self-smaller g c =
       directive = c.takes_directive.ensures;
     } in
     smaller_read laws c.args.limit _ _ (sym c.needs_token.ensures ∙ c.loop-self-test.true)
-      (read_is c.args.limit _ _ _ (c.in_ok-fetch_within.ensures) (c.in_ok-drop_far_key-2.ensures))
+    (read_is c.args.limit _ _ _ (c.in_ok-fetch_within.ensures) (c.in_ok-drop_far_key-2.ensures))
 
 pub loop-self-preserved : goal.loop-self-preserved
 loop-self-preserved g c =
@@ -29,4 +29,4 @@ loop-self-preserved g c =
       directive = c.takes_directive.ensures;
     } in
     one_more laws c.args.limit _ _ (sym c.needs_token.ensures ∙ c.loop-self-test.true)
-      (read_is c.args.limit _ _ _ (c.in_ok-fetch_within.ensures) (c.in_ok-drop_far_key-2.ensures)) ∙ c.loop-self.invariant
+    (read_is c.args.limit _ _ _ (c.in_ok-fetch_within.ensures) (c.in_ok-drop_far_key-2.ensures)) ∙ c.loop-self.invariant
