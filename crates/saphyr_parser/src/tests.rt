@@ -1,4 +1,4 @@
-use crate::{Event, Fault, Marker, Parser, ScanError, Span};
+use crate::{Event, Fault, Input, Marker, Parser, ScanError, Span, StrInput};
 use std::alloc::{AllocError, Global};
 use std::test::Fail;
 
@@ -48,5 +48,34 @@ fn gives_a_fault_once(rt: HostRuntime) -> Result<(), Fail> {
         );
         assert!(rt; parser.next_event() == None, "{text:?}");
     }
+    Ok(())
+}
+
+// How many events a parser gives, and the text of the fault that ends them, if one does.
+fn events_and_fault<T: Input + Drop>(
+    alloc: Global,
+    parser: Parser<T>,
+) -> Result<(usize, Option<String>), AllocError> {
+    let mut count = 0usize;
+    for item in parser {
+        match item {
+            Ok(_) => count = count.saturating_add(1),
+            Err(Fault::Scan(error)) => {
+                return Ok((count, Some(String::from_str(alloc, error.info())?)));
+            }
+            Err(_) => return Ok((count, None)),
+        }
+    }
+    Ok((count, None))
+}
+
+#[test]
+fn refuses_a_text_past_the_limit(rt: HostRuntime) -> Result<(), Fail> {
+    let alloc = rt.alloc();
+    let within = Parser::with_limit(alloc, StrInput::new("abc"), 3);
+    assert!(rt; events_and_fault(alloc, within)? == (5, None));
+    let past = Parser::with_limit(alloc, StrInput::new("abcd"), 3);
+    let fault = String::from_str(alloc, "text longer than 4294967295 characters")?;
+    assert!(rt; events_and_fault(alloc, past)? == (1, Some(fault)));
     Ok(())
 }

@@ -52,8 +52,8 @@ impl<'input, T: Input> Parser<'input, T> {
         Parser::with_limit(alloc, src, MOST_CHARACTERS)
     }
 
-    // The same with another bound on the number of characters.
-    fn with_limit(alloc: Global, src: T, limit: usize) -> Self
+    // The same with another bound on the number of characters, for tests.
+    pub(crate) fn with_limit(alloc: Global, src: T, limit: usize) -> Self
         ensures decided { result ≡ spec.at_start (scan limit (T.rest src)) }
         ensures complete { ReadsJson limit (T.rest src) result }
     {
