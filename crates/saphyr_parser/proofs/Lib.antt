@@ -37,3 +37,6 @@ pub mod Escapes
 pub mod Dumping
 pub mod Complaints
 pub mod Running
+pub mod WithinLimit
+pub mod Handed
+pub mod Loading

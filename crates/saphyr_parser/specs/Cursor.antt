@@ -95,6 +95,12 @@ abbrev pub IsKept : Option Kept → Type 0
 IsKept None = ⊥
 IsKept (Some k) = Unit {0}
 
+-- a fault that is kept wasn't given yet, and no event stands before it
+abbrev pub IsUntold : Option (Happening × Span) → Option Kept → Type 0
+IsUntold current None = Unit {0}
+IsUntold None (Some k) = k.given ≡ false
+IsUntold (Some e) (Some k) = ⊥
+
 -- no event was handed out
 abbrev pub IsUnmoved : Cursor → Cursor → Type 0
 IsUnmoved old new = (new.inside ≡ old.inside) × (new.finished ≡ old.finished)

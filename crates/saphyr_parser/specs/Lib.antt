@@ -28,3 +28,4 @@ pub mod Printed
 pub mod Written
 pub mod Dumps
 pub mod Runs
+pub mod Loading

@@ -9,7 +9,8 @@ ghost use Rattle.saphyr_scanner.specs.Forest.{Forest};
 ghost use Rattle.saphyr_scanner.specs.Json.{IsJson};
 ghost use Rattle.saphyr_scanner.specs.JsonTokens.{json_tokens};
 ghost use Rattle.saphyr_scanner.specs.Seen.{Piece, Remaining};
-ghost use Rattle.saphyr_parser.specs.Cursor.{at_start, keeping_tags, to_come};
+ghost use Rattle.saphyr_parser.specs.Cursor.{Cursor, at_start, keeping_tags, to_come};
+ghost use Rattle.saphyr_parser.specs.Loading.{to_send};
 ghost use Rattle.saphyr_scanner.specs.TokenGrammar.{Yields};
 ghost use Rattle.saphyr_scanner.specs.Tokens.{Kind};
 ghost use Rattle.saphyr_parser.specs.Exactly.{GivesExactly, kinds, told_by};
@@ -67,3 +68,9 @@ pub fn gives_json()
 {
     saphyr_scanner::law::tells_json_tokens();
 }
+
+/// With `multi`, `load` hands over all events that are still to come, as iteration gives them, and meets
+/// the fault behind them.
+pub fn loads_all_events()
+    ensures { (parser : Cursor) → to_send true parser ≡ record { sent = (to_come parser).events; fault = (to_come parser).fault } }
+{}

@@ -7,7 +7,7 @@ mod printing;
 #[cfg(test)]
 mod tests;
 
-pub use parser::{Event, Fault, Parser, Tag};
+pub use parser::{Event, EventReceiver, Fault, Parser, Refused, SpannedEventReceiver, Tag};
 pub use printing::{DumpFault, dump, run_dump};
 pub use saphyr_input::{BufferedInput, Input, StrInput, input};
 pub use saphyr_scalar::{Marker, ScalarStyle, ScanError, Span};

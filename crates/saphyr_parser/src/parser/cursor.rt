@@ -1,5 +1,6 @@
-ghost use Rattle.std.specs.Prelude.{◌≡◌};
+ghost use Rattle.std.specs.Prelude.{◌≡◌, ℕ, List, take, IfOk};
 ghost use Rattle.std.specs.Str.{chars};
+ghost use Rattle.saphyr_input.specs.Listed.{Lists, Listed};
 ghost use Rattle.saphyr_scanner.specs.Remaining.{scan};
 ghost use Rattle.saphyr_parser.specs.Cursor as spec;
 ghost use Rattle.saphyr_parser.specs.Complete.{ReadsJson};
@@ -8,12 +9,13 @@ use crate::law::gives_json;
 use crate::parser::event::Event;
 use crate::parser::fault::Fault;
 use crate::parser::reader::Reader;
-use saphyr_input::StrInput;
+use crate::parser::receiver::SpannedEventReceiver;
 use saphyr_input::input::Input;
+use saphyr_input::{BufferedInput, StrInput};
 use saphyr_scalar::Span;
 use saphyr_scanner::Scanner;
 use saphyr_scanner::law::scans_each_json;
-use std::alloc::Global;
+use std::alloc::{AllocError, Global};
 use std::marker::Model;
 
 /// How many characters a text may have.
@@ -37,10 +39,14 @@ impl<'input, T: Input> Model for Parser<'input, T> {
 }
 
 impl<'input, T: Input> Parser<'input, T> {
-    ghost use Rattle.std.specs.Prelude.{⊤, []};
+    ghost use Rattle.std.specs.Prelude.{⊤, [], Some, None, Err, true, false};
     ghost use Rattle.std.specs.Borrow.{sem, follows_so};
     ghost use mathlib.Core.Option.{none};
     ghost use mir.Syntax.{named};
+    ghost use Rattle.saphyr_scalar.specs.declared.scalar.position.Span.{Span as PlaceSpan};
+    ghost use Rattle.saphyr_parser.specs.declared.parser.fault.Fault.TheVariants.{InsideDocument};
+    ghost use Rattle.saphyr_parser.specs.Events.{StreamEnd};
+    ghost use Rattle.saphyr_parser.specs.Loading as loading;
     ghost use Rattle.saphyr_parser.specs.contracts.parser.cursor.Parser.{the_row};
 
     /// The events of an input's text, which is refused past 4,294,967,295 characters.
@@ -91,6 +97,28 @@ impl<'input, T: Input> Parser<'input, T> {
         self.reader.look();
         self.reader.shown()
     }
+
+    /// Hands events to the receiver: those up to the end of a document or, with `multi` or where no
+    /// document is left, all of them up to the end of the stream. An event that was peeked is the first.
+    ///
+    /// - Where the stream's end was handed out, that event alone is handed over, with the same span.
+    /// - A fault of the text, or that memory ran out in reading, ends the events and is kept: it is
+    ///   answered now and by each later call, which hand over nothing. `next_event` still gives it once.
+    ///   Where it can't be copied, the answer is `OutOfMemory`.
+    /// - `Receiver` says that the receiver refused an event, behind which the parser stands.
+    /// - `InsideDocument` says that a document was begun and not ended: nothing was handed over or changed.
+    pub fn load<R: SpannedEventReceiver<'input>>(
+        &mut self,
+        recv: &mut R,
+        multi: bool,
+    ) -> Result<(), Fault>
+        ensures ended { spec.IsKept self.old.kept → loading.Tells result self.old.kept × (recv.new ≡ recv.old) × (self.new ≡ self.old) }
+        ensures finished { self.old.kept ≡ None → (span : PlaceSpan) → self.old.finished ≡ Some span → loading.SendsOne R.receives result (StreamEnd, span) recv.old recv.new × (self.new ≡ self.old) }
+        ensures inside { self.old.kept ≡ None → self.old.finished ≡ None → self.old.inside ≡ true → (result ≡ Err InsideDocument) × (recv.new ≡ recv.old) × (self.new ≡ self.old) }
+        ensures between { self.old.kept ≡ None → self.old.finished ≡ None → self.old.inside ≡ false → loading.Loads R.receives result (loading.to_send multi self.old) self.old recv.old recv.new self.new }
+    {
+        self.reader.load(recv, multi)
+    }
 }
 
 impl<'input> Parser<'input, StrInput<'input>> {
@@ -101,6 +129,20 @@ impl<'input> Parser<'input, StrInput<'input>> {
         ensures complete { ReadsJson 4294967295 (chars value.now) result }
     {
         Parser::new(alloc, StrInput::new(value))
+    }
+}
+
+impl<'input, I: Iterator<Item = char>> Parser<'input, BufferedInput<I>> {
+    /// The events of the characters that an iterator gives up to its first `None`, which are refused past
+    /// 4,294,967,295. They are to be one list; the iterator is not called yet.
+    ///
+    /// An error says that there was no memory for a window on the characters.
+    pub fn new_from_iter(alloc: Global, iter: I) -> Result<Self, AllocError>
+        requires { Listed I.can_next I.next_gives iter }
+        ensures decided { (text : List ℕ) → Lists I.can_next I.next_gives iter text → IfOk result (λ parser. parser ≡ spec.at_start (scan 4294967295 (take 4294967296 text))) }
+        ensures complete { (text : List ℕ) → Lists I.can_next I.next_gives iter text → IfOk result (λ parser. ReadsJson 4294967295 text parser) }
+    {
+        Ok(Parser::new(alloc, BufferedInput::new(alloc, iter)?))
     }
 }
 

@@ -44,6 +44,7 @@ impl<'input, T: Input> Reader<'input, T> {
         ensures stays { spec.Stays (spec.to_come (cursor self.old)) (spec.to_come (cursor self.new)) }
         ensures looked { IfNone self.new.current (spec.to_come (cursor self.new) ≡ spec.told (cursor self.new).kept) }
         ensures same { spec.IsUnmoved (cursor self.old) (cursor self.new) }
+        ensures untold { (cursor self.old).kept ≡ None → spec.IsUntold (cursor self.new).current (cursor self.new).kept }
     {
         if self.current.is_some() || self.kept.is_some() {
             return;
@@ -75,7 +76,7 @@ impl<'input, T: Input> Reader<'input, T> {
     }
 
     // Remembers what an event says of the place between events that stands behind it.
-    fn remember(&mut self, event: &Event<'input>, span: Span)
+    pub(super) fn remember(&mut self, event: &Event<'input>, span: Span)
         ensures { cursor self.new ≡ spec.remembered (happening event.now) span (cursor self.old) }
     {
         match event {

@@ -1,0 +1,238 @@
+-- What one call of `load` has handed over.
+use Rattle.std.proofs.Common.{◌≡◌, ◌+◌, ◌<◌, List, [], ◌∷◌, ◌++◌, Bool, true, false, Result, Ok, Err, Option, Some, None, refl, sym, ap, ◌∙◌, subst, append_assoc, inl, inr, arith}
+use Rattle.std.specs.Prelude.{if◌then◌else◌, string_bytes}
+use Rattle.std.proofs.lemmas.List.{append-nil}
+use Rattle.saphyr_scalar.specs.declared.scalar.position.Span.{Span}
+use Rattle.saphyr_parser.specs.declared.parser.fault.Fault.{Fault}
+use Rattle.saphyr_parser.specs.declared.parser.fault.Fault.TheVariants as faults
+use Rattle.saphyr_parser.specs.declared.parser.receiver.Refused.{Refused}
+use Rattle.saphyr_parser.specs.Events.{Happening}
+use Rattle.saphyr_parser.specs.Answer as answer
+use Rattle.saphyr_parser.specs.Answer.{Answer, Ending, before, failed}
+use Rattle.saphyr_parser.specs.Cursor.{Cursor, Kept, IsKept, IsUnmoved, IsUntold, Stays, count, finished_behind, inside_behind, to_come, told}
+use Rattle.saphyr_parser.specs.Loading.{Part, is_last, with_event, part, to_send, inside_over, finished_over, Remembered, Passed, Keeps, Tells, Sends, SendsOne, Stopped, Lost, Finished, Faulted, Loads}
+
+-- ## Lists of events
+
+inside_more : (es : List (Happening × Span)) (e : Happening × Span) (b : Bool) → inside_over (es ++ (e ∷ [])) b ≡ inside_behind e.0 (inside_over es b)
+inside_more [] e b = refl
+inside_more (d ∷ es) e b = inside_more es e (inside_behind d.0 b)
+
+finished_more : (es : List (Happening × Span)) (e : Happening × Span) (o : Option Span) → finished_over (es ++ (e ∷ [])) o ≡ finished_behind e.0 e.1 (finished_over es o)
+finished_more [] e o = refl
+finished_more (d ∷ es) e o = finished_more es e (finished_behind d.0 d.1 o)
+
+remembered_more : (old mid new : Cursor) (es : List (Happening × Span)) (e : Happening × Span) → Remembered old es mid → Remembered mid (e ∷ []) new → Remembered old (es ++ (e ∷ [])) new
+remembered_more old mid new es e so next = record {
+  inside = next.inside ∙ ap (inside_behind e.0) so.inside ∙ sym (inside_more es e old.inside);
+  finished = next.finished ∙ ap (finished_behind e.0 e.1) so.finished ∙ sym (finished_more es e old.finished);
+}
+
+-- ## A part of which some events were handed over
+
+abbrev pub with_events : List (Happening × Span) → Part → Part
+with_events es p = record { sent = es ++ p.sent; fault = p.fault }
+
+with_more : (es : List (Happening × Span)) (e : Happening × Span) (p : Part) → with_events (es ++ (e ∷ [])) p ≡ with_events es (with_event e p)
+with_more es e p = ap (λ (l : List (Happening × Span)). let q : Part = record { sent = l; fault = p.fault } in q) (append_assoc es (e ∷ []) p.sent)
+
+abbrev pub part_of : Bool → Answer → Part
+part_of multi a = part multi a.events a.fault
+
+pub part_all : (es : List (Happening × Span)) (f : Option Ending) → part true es f ≡ record { sent = es; fault = f }
+part_all [] f = refl
+part_all (e ∷ es) f = ap (with_event e) (part_all es f)
+
+-- what is left of a part behind its first event
+abbrev pub behind_first : Bool → Happening × Span → Part → Part
+behind_first last e p = if last then (record { sent = e ∷ []; fault = None }) else with_event e p
+
+part_before : (multi : Bool) (e : Happening × Span) (a mid : Answer) → mid ≡ before e a → part_of multi mid ≡ behind_first (is_last multi e.0) e (part_of multi a)
+part_before multi e a mid is = ap (part_of multi) is
+
+cut : (last : Bool) (e : Happening × Span) (p : Part) → (l : List (Happening × Span)) × ((behind_first last e p).sent ≡ e ∷ l)
+cut true e p = ([], refl)
+cut false e p = (p.sent, refl)
+
+passed_more : (old mid new : Cursor) (es : List (Happening × Span)) (e : Happening × Span) → Passed old es mid → to_come mid ≡ before e (to_come new) → Remembered mid (e ∷ []) new → Passed old (es ++ (e ∷ [])) new
+passed_more old mid new es e so is next = record {
+  events = so.events ∙ ap (λ (a : Answer). es ++ a.events) is ∙ sym (append_assoc es (e ∷ []) (to_come new).events);
+  fault = so.fault ∙ ap (λ (a : Answer). a.fault) is;
+  remembered = remembered_more old mid new es e so.remembered next;
+}
+
+unmoved_too : (old mid new : Cursor) (es : List (Happening × Span)) → Remembered old es mid → IsUnmoved mid new → Remembered old es new
+unmoved_too old mid new es so same = record { inside = same.0 ∙ so.inside; finished = same.1 ∙ so.finished }
+
+passed_still : (old mid new : Cursor) (es : List (Happening × Span)) → Passed old es mid → to_come new ≡ to_come mid → IsUnmoved mid new → Passed old es new
+passed_still old mid new es so is same = record {
+  events = so.events ∙ ap (λ (a : Answer). es ++ a.events) (sym is);
+  fault = so.fault ∙ ap (λ (a : Answer). a.fault) (sym is);
+  remembered = unmoved_too old mid new es so.remembered same;
+}
+
+-- ## Where nothing is next but a fault or the end
+
+with_kept : (k : Kept) → k.given ≡ false → Some k ≡ Some (record { fault = k.fault; given = false })
+with_kept k h = ap (λ (b : Bool). let x : Kept = record { fault = k.fault; given = b } in Some x) h
+
+settled : (new : Cursor) (k : Kept) → new.kept ≡ Some k → new.current ≡ None → IsUntold new.current new.kept → to_come new ≡ told new.kept → Keeps k.fault new × (to_come new ≡ failed k.fault)
+settled new k is nothing untold left =
+    let here : IsUntold None (Some k) = subst (λ (o : Option Kept). IsUntold None o) is (subst (λ (o : Option (Happening × Span)). IsUntold o new.kept) nothing untold) in
+    let same : new.kept ≡ Some (record { fault = k.fault; given = false }) = is ∙ with_kept k here in
+    (record { current = nothing; kept = same }, left ∙ ap told same)
+
+never : (f : Ending) → (let o : Option Ending = None in o) ≡ Some f → ⊥
+never f e = cc
+
+still_none : (mid new : Answer) → Stays mid new → new ≡ answer.none → new ≡ mid
+still_none mid new (inl e) is = e
+still_none mid new (inr (p, e)) is = absurd (never answer.OutOfMemory (ap (λ (a : Answer). a.fault) (sym is ∙ e)))
+
+other : (m : _) (info : _) → (let o : Option Ending = Some (answer.Refused m info) in o) ≡ Some answer.OutOfMemory → ⊥
+other m info e = cc
+
+still_refused : (mid new : Answer) (m : _) (info : _) → Stays mid new → new ≡ failed (answer.Refused m info) → new ≡ mid
+still_refused mid new m info (inl e) is = e
+still_refused mid new m info (inr (p, e)) is = absurd (other m info (ap (λ (a : Answer). a.fault) (sym is ∙ e)))
+
+abbrev fault_of : Option Ending → Ending
+fault_of None = answer.OutOfMemory
+fault_of (Some f) = f
+
+same_fault : (f g : Ending) → failed f ≡ failed g → f ≡ g
+same_fault f g e = ap (λ (a : Answer). fault_of a.fault) e
+
+count_part : (last : Bool) (e : Happening × Span) (p : Part) → 0 < count (record { events = (behind_first last e p).sent; fault = (behind_first last e p).fault })
+count_part true e p = omega arith
+count_part false e p = omega arith
+
+some_left : (multi : Bool) (es : List (Happening × Span)) (f : Option Ending) → 0 < count (record { events = es; fault = f }) → 0 < count (record { events = (part multi es f).sent; fault = (part multi es f).fault })
+some_left multi [] f h = h
+some_left multi (e ∷ es) f h = count_part (is_last multi e.0) e (part multi es f)
+
+module _ {R : Type 0} (receives : R → Happening × Span → Result (Unit {0}) Refused → R → Type 0) where
+  one_more : (r q s : R) (es : List (Happening × Span)) (e : Happening × Span) → Sends receives r es q → receives q e (Ok tt) s → Sends receives r (es ++ (e ∷ [])) s
+  one_more r q s [] e at taken = (s, subst (λ (x : R). receives x e (Ok tt) s) at taken, refl)
+  one_more r q s (d ∷ es) e (p, first, others) taken = (p, first, one_more p q s es e others taken)
+
+  -- some events of the part were handed over
+  pub record Going (multi : Bool) (old : Cursor) (first last : R) (new : Cursor) : Type 0 where
+    pub sent : List (Happening × Span)
+    pub part : to_send multi old ≡ with_events sent (to_send multi new)
+    pub passed : Passed old sent new
+    pub sends : Sends receives first sent last
+    pub kept : new.kept ≡ None
+
+  pub begins : (multi : Bool) (c : Cursor) (r : R) → c.kept ≡ None → Going multi c r r c
+  begins multi c r none = record { sent = []; part = refl; passed = record { events = refl; fault = refl; remembered = record { inside = refl; finished = refl } }; sends = refl; kept = none }
+
+  pub goes_on : (multi : Bool) (old mid new : Cursor) (first last next : R) (e : Happening × Span) → Going multi old first last mid → (to_come mid ≡ before e (to_come new)) × (new.kept ≡ None) × Remembered mid (e ∷ []) new → is_last multi e.0 ≡ false → receives last e (Ok tt) next → Going multi old first next new
+  goes_on multi old mid new first last next e so is more taken = record {
+    sent = so.sent ++ (e ∷ []);
+    part = so.part ∙ ap (with_events so.sent) (part_before multi e (to_come new) (to_come mid) is.0 ∙ ap (λ (b : Bool). behind_first b e (to_send multi new)) more) ∙ sym (with_more so.sent e (to_send multi new));
+    passed = passed_more old mid new so.sent e so.passed is.0 is.2;
+    sends = one_more first last next so.sent e so.sends taken;
+    kept = is.1;
+  }
+
+  pub ends : (multi : Bool) (old mid new : Cursor) (first last next : R) (e : Happening × Span) → Going multi old first last mid → (to_come mid ≡ before e (to_come new)) × (new.kept ≡ None) × Remembered mid (e ∷ []) new → is_last multi e.0 ≡ true → receives last e (Ok tt) next → Finished receives (to_send multi old) old first next new
+  ends multi old mid new first last next e so is final taken =
+      let p : to_send multi old ≡ with_events so.sent (record { sent = e ∷ []; fault = None }) = so.part ∙ ap (with_events so.sent) (part_before multi e (to_come new) (to_come mid) is.0 ∙ ap (λ (b : Bool). behind_first b e (to_send multi new)) final) in
+      let all : (to_send multi old).sent ≡ so.sent ++ (e ∷ []) = ap (λ (q : Part). q.sent) p in
+      record {
+        fault = ap (λ (q : Part). q.fault) p;
+        sends = subst (λ (l : List (Happening × Span)). Sends receives first l next) (sym all) (one_more first last next so.sent e so.sends taken);
+        passed = subst (λ (l : List (Happening × Span)). Passed old l new) (sym all) (passed_more old mid new so.sent e so.passed is.0 is.2);
+        kept = is.1;
+      }
+
+  pub refuses : (multi : Bool) (old mid new : Cursor) (first last next : R) (e : Happening × Span) → Going multi old first last mid → (to_come mid ≡ before e (to_come new)) × (new.kept ≡ None) × Remembered mid (e ∷ []) new → receives last e (Err (record {})) next → Stopped receives (to_send multi old) old first next new
+  refuses multi old mid new first last next e so is refused =
+      let c = cut (is_last multi e.0) e (to_send multi new) in
+      record {
+        sent = so.sent;
+        event = e;
+        unsent = c.0;
+        middle = last;
+        part = ap (λ (q : Part). q.sent) so.part ∙ ap (λ (l : List (Happening × Span)). so.sent ++ l) (ap (λ (q : Part). q.sent) (part_before multi e (to_come new) (to_come mid) is.0) ∙ c.1);
+        sends = so.sends;
+        refused = refused;
+        passed = passed_more old mid new so.sent e so.passed is.0 is.2;
+        kept = is.1;
+      }
+
+  pub stops : (f : Fault) (multi : Bool) (old mid new : Cursor) (first last next : R) (e : Happening × Span) → Going multi old first last mid → (to_come mid ≡ before e (to_come new)) × (new.kept ≡ None) × Remembered mid (e ∷ []) new → SendsOne receives (Err f) e last next → Loads receives (Err f) (to_send multi old) old first next new
+  stops faults.Receiver multi old mid new first last next e so is h = refuses multi old mid new first last next e so is h
+  stops (faults.Scan _) multi old mid new first last next e so is h = absurd h
+  stops faults.OutOfMemory multi old mid new first last next e so is h = absurd h
+  stops faults.InsideDocument multi old mid new first last next e so is h = absurd h
+
+  all_sent : (multi : Bool) (old mid : Cursor) (first last : R) (f : Option Ending) (so : Going multi old first last mid) → to_come mid ≡ record { events = []; fault = f } → to_send multi old ≡ record { sent = so.sent; fault = f }
+  all_sent multi old mid first last f so is =
+      so.part ∙ ap (λ (a : Answer). with_events so.sent (part_of multi a)) is ∙ ap (λ (l : List (Happening × Span)). let q : Part = record { sent = l; fault = f } in q) (append-nil so.sent)
+
+  finished : (multi : Bool) (old mid new : Cursor) (first last : R) → Going multi old first last mid → to_come new ≡ to_come mid → to_come new ≡ answer.none → IsUnmoved mid new → new.kept ≡ None → Finished receives (to_send multi old) old first last new
+  finished multi old mid new first last so is over same none =
+      let p = all_sent multi old mid first last None so (sym is ∙ over) in
+      let all : (to_send multi old).sent ≡ so.sent = ap (λ (q : Part). q.sent) p in
+      record {
+        fault = ap (λ (q : Part). q.fault) p;
+        sends = subst (λ (l : List (Happening × Span)). Sends receives first l last) (sym all) so.sends;
+        passed = subst (λ (l : List (Happening × Span)). Passed old l new) (sym all) (passed_still old mid new so.sent so.passed is same);
+        kept = none;
+      }
+
+  faulted : (multi : Bool) (old mid new : Cursor) (first last : R) (f : Ending) → Going multi old first last mid → to_come new ≡ to_come mid → to_come new ≡ failed f → IsUnmoved mid new → Keeps f new → Faulted receives f (to_send multi old) old first last new
+  faulted multi old mid new first last f so is over same keeps =
+      let p = all_sent multi old mid first last (Some f) so (sym is ∙ over) in
+      let all : (to_send multi old).sent ≡ so.sent = ap (λ (q : Part). q.sent) p in
+      record {
+        met = ap (λ (q : Part). q.fault) p;
+        sends = subst (λ (l : List (Happening × Span)). Sends receives first l last) (sym all) so.sends;
+        passed = subst (λ (l : List (Happening × Span)). Passed old l new) (sym all) (passed_still old mid new so.sent so.passed is same);
+        keeps = keeps;
+      }
+
+  lost : (multi : Bool) (old mid new : Cursor) (first last : R) (f : Ending) → Going multi old first last mid → Stays (to_come mid) (to_come new) → to_come new ≡ failed f → IsUnmoved mid new → Keeps f new → Lost receives (to_send multi old) old first last new
+  lost multi old mid new first last f so (inl is) over same keeps =
+      let p = all_sent multi old mid first last (Some f) so (sym is ∙ over) in
+      record {
+        sent = so.sent;
+        unsent = [];
+        fault = f;
+        part = ap (λ (q : Part). q.sent) p ∙ sym (append-nil so.sent);
+        left = rw (ap (λ (q : Part). q.fault) p) (omega arith);
+        cause = inr (refl, ap (λ (q : Part). q.fault) p);
+        sends = so.sends;
+        remembered = unmoved_too old mid new so.sent so.passed.remembered same;
+        keeps = keeps;
+      }
+  lost multi old mid new first last f so (inr (more, is)) over same keeps = record {
+    sent = so.sent;
+    unsent = (to_send multi mid).sent;
+    fault = f;
+    part = ap (λ (q : Part). q.sent) so.part;
+    left = rw (ap (λ (q : Part). q.fault) so.part) (some_left multi (to_come mid).events (to_come mid).fault more);
+    cause = inl (same_fault f answer.OutOfMemory (sym over ∙ is));
+    sends = so.sends;
+    remembered = unmoved_too old mid new so.sent so.passed.remembered same;
+    keeps = keeps;
+  }
+
+  lost_with : (multi : Bool) (old mid new : Cursor) (first last : R) (k : Option Kept) → new.kept ≡ k → IsKept k → Going multi old first last mid → Stays (to_come mid) (to_come new) → to_come new ≡ told new.kept → IsUnmoved mid new → new.current ≡ None → IsUntold new.current new.kept → Lost receives (to_send multi old) old first last new
+  lost_with multi old mid new first last None is h so stays left same nothing untold = absurd h
+  lost_with multi old mid new first last (Some k) is h so stays left same nothing untold =
+      let s = settled new k is nothing untold left in
+      lost multi old mid new first last k.fault so stays s.1 same s.0
+
+  pub over : (r : Result (Unit {0}) Fault) (multi : Bool) (old mid new : Cursor) (first last : R) → Going multi old first last mid → Stays (to_come mid) (to_come new) × (to_come new ≡ told new.kept) × IsUnmoved mid new × (new.current ≡ None) × IsUntold new.current new.kept → Tells r new.kept → Loads receives r (to_send multi old) old first last new
+  over (Ok u) multi old mid new first last so (stays, left, same, nothing, untold) h =
+      let none : to_come new ≡ answer.none = left ∙ ap told h in
+      finished multi old mid new first last so (still_none (to_come mid) (to_come new) stays none) none same h
+  over (Err (faults.Scan e)) multi old mid new first last so (stays, left, same, nothing, untold) (given, h) =
+      let s = settled new (record { fault = answer.Refused e.mark (string_bytes e.info); given = given }) h nothing untold left in
+      faulted multi old mid new first last (answer.Refused e.mark (string_bytes e.info)) so (still_refused (to_come mid) (to_come new) e.mark (string_bytes e.info) stays s.1) s.1 same s.0
+  over (Err faults.OutOfMemory) multi old mid new first last so (stays, left, same, nothing, untold) h = lost_with multi old mid new first last new.kept refl h so stays left same nothing untold
+  over (Err faults.Receiver) multi old mid new first last so gone h = absurd h
+  over (Err faults.InsideDocument) multi old mid new first last so gone h = absurd h

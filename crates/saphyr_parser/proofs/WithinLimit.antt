@@ -1,0 +1,11 @@
+-- A text within the limit is read as a whole, though no more items than a bound are taken.
+use Rattle.std.proofs.Common.{◌≡◌, ℕ, ◌≤◌, List, take, sym, subst, arith}
+use Rattle.std.proofs.lemmas.List.{take_all}
+use Rattle.saphyr_scanner.specs.Json.{IsJson}
+use Rattle.saphyr_parser.specs.Cursor.{Cursor}
+use Rattle.saphyr_parser.specs.Complete.{ReadsJson}
+
+pub reads_whole : (limit bound : ℕ) (text : List ℕ) (parser : Cursor) → limit ≤ bound → ReadsJson limit (take bound text) parser → ReadsJson limit text parser
+reads_whole limit bound text parser within reads forest keep told json few short has =
+    let whole : take bound text ≡ text = take_all bound text (omega arith) in
+    reads forest keep told (subst (IsJson forest) (sym whole) json) few (rw whole short) has
