@@ -17,14 +17,15 @@
 
 mod case;
 mod printing;
+#[cfg(test)]
+mod tests;
 
 use case::{Case, parse_cases};
 use list_input::ListInput;
 use printing::line_of;
 use saphyr_parser::{BufferedInput, Input, Parser};
 use std::alloc::{AllocError, Global};
-use std::fs;
-use std::io;
+use std::{fs, io};
 use thiserror::Error;
 
 /// How many differences are shown of a file.
