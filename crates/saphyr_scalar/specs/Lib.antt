@@ -20,6 +20,7 @@ pub mod Quoted
 pub mod QuotedLines
 pub mod QuotedSpelling
 pub mod Seen
+pub mod Spaces
 pub mod Spelling
 pub mod Tag
 pub mod TagSpelling

@@ -35,3 +35,5 @@ pub mod JsonPlains
 pub mod JsonPieces
 pub mod JsonNodes
 pub mod JsonLeads
+pub mod LayoutExamples
+pub mod LayoutRefused

@@ -1,6 +1,10 @@
 pub mod Characters
 pub mod Forest
 pub mod TagSpelling
+pub mod FlowScalars
+pub mod FlowNodes
+pub mod BlockNodes
+pub mod Layout
 pub mod Json
 pub mod JsonTokens
 pub mod Tokens

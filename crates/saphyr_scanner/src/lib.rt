@@ -2,6 +2,7 @@
 #![tactic(auto)]
 
 mod engine;
+pub mod examples_law;
 mod gap;
 pub mod law;
 mod queue;

@@ -1,0 +1,38 @@
+use Rattle.saphyr_scanner.proofs.LayoutExamples.{block_sequence, block_mapping, block_sequence_at_mapping, block_compact, block_explicit_key, block_properties, block_literal, block_folded, block_next_line, block_comment_left, block_indicator, block_explicit_collections}
+use Rattle.saphyr_scanner.proofs.examples_law.derives_block.Goals as goal
+
+pub returns-clause-sequence : goal.returns-clause-sequence
+returns-clause-sequence c = block_sequence
+
+pub returns-clause-mapping : goal.returns-clause-mapping
+returns-clause-mapping c = block_mapping
+
+pub returns-clause-sequence_at_mapping : goal.returns-clause-sequence_at_mapping
+returns-clause-sequence_at_mapping c = block_sequence_at_mapping
+
+pub returns-clause-compact : goal.returns-clause-compact
+returns-clause-compact c = block_compact
+
+pub returns-clause-explicit_key : goal.returns-clause-explicit_key
+returns-clause-explicit_key c = block_explicit_key
+
+pub returns-clause-properties : goal.returns-clause-properties
+returns-clause-properties c = block_properties
+
+pub returns-clause-literal : goal.returns-clause-literal
+returns-clause-literal c = block_literal
+
+pub returns-clause-folded : goal.returns-clause-folded
+returns-clause-folded c = block_folded
+
+pub returns-clause-next_line : goal.returns-clause-next_line
+returns-clause-next_line c = block_next_line
+
+pub returns-clause-comment_left : goal.returns-clause-comment_left
+returns-clause-comment_left c = block_comment_left
+
+pub returns-clause-indicator : goal.returns-clause-indicator
+returns-clause-indicator c = block_indicator
+
+pub returns-clause-explicit_collections : goal.returns-clause-explicit_collections
+returns-clause-explicit_collections c = block_explicit_collections
