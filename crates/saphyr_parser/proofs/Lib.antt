@@ -40,3 +40,4 @@ pub mod Running
 pub mod WithinLimit
 pub mod Handed
 pub mod Loading
+pub mod TakenExamples

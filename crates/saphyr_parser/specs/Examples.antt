@@ -1,6 +1,8 @@
 -- Forests with their events.
-use Rattle.std.specs.Prelude.{ℕ, true, false, List, [], ◌∷◌, Some, None, codes}
-use Rattle.saphyr_scanner.specs.Forest.{Plain, DoubleQuoted, Properties, no_properties, Tag, Primary, Named, Shorthand, Node, Alias, Scalar, Seq, NoNode, MoreNodes, Directive, TagPrefix, Document, bare, Forest}
+use Rattle.std.specs.Prelude.{◌≡◌, ℕ, true, false, List, [], ◌∷◌, Some, None, codes}
+use Rattle.saphyr_scanner.specs.Forest.{Plain, DoubleQuoted, Properties, no_properties, Tag, Primary, Named, Shorthand, Node, Alias, Scalar, Seq, NoNode, MoreNodes, Directive, TagPrefix, Document, bare, left_out, Forest}
+use Rattle.saphyr_scalar.specs.declared.scalar.position.Span.{Span}
+use Rattle.saphyr_parser.specs.Answer.{Answer}
 use Rattle.saphyr_parser.specs.Events as events
 use Rattle.saphyr_parser.specs.Events.{Happening, ResolvedTag}
 
@@ -79,3 +81,25 @@ declared_twice =
 abbrev pub declared_twice_events : List Happening
 declared_twice_events =
     events.StreamStart ∷ events.DocumentStart true ∷ tagged_event (codes "x:") (codes "A") (codes "a") ∷ events.DocumentEnd ∷ events.DocumentStart true ∷ tagged_event (codes "y:") (codes "B") (codes "b") ∷ events.DocumentEnd ∷ events.DocumentStart true ∷ tagged_event (codes "y:") (codes "C") (codes "c") ∷ events.DocumentEnd ∷ events.StreamEnd ∷ []
+
+-- ## The empty text
+
+abbrev pub at_start : Span
+at_start = record { start = record { index = 0; line = 1; col = 0 }; end = record { index = 0; line = 1; col = 0 } }
+
+abbrev pub no_documents : Answer
+no_documents = record { events = (events.StreamStart, at_start) ∷ (events.StreamEnd, at_start) ∷ []; fault = None }
+
+-- ## `---` on a line: a grammar of this text alone, and its events up to the marker's
+
+abbrev pub start_forest : Forest
+start_forest = explicit [] left_out ∷ []
+
+abbrev pub IsStart : Forest → List ℕ → Type 0
+IsStart forest text = (forest ≡ start_forest) × (text ≡ codes "---\n")
+
+abbrev pub IsNothing : List ℕ → Type 0
+IsNothing text = text ≡ []
+
+abbrev pub start_events : List Happening
+start_events = events.StreamStart ∷ events.DocumentStart true ∷ []

@@ -29,3 +29,5 @@ pub mod Written
 pub mod Dumps
 pub mod Runs
 pub mod Loading
+pub mod EventsTaken
+pub mod Premises

@@ -1,5 +1,5 @@
 //! Laws of the definitions.
-ghost use Rattle.std.specs.Prelude.{Bool, List, false, true, ℕ, ◌≡◌, ◌<◌, ◌≤◌, ◌^◌, length, None, Some};
+ghost use Rattle.std.specs.Prelude.{Bool, List, [], codes, false, true, ℕ, ◌≡◌, ◌<◌, ◌≤◌, ◌^◌, length, None, Some};
 ghost use Rattle.saphyr_parser.specs.Anchors.{IsLatest, anchors, latest};
 ghost use Rattle.saphyr_parser.specs.Preorder.{Part, parts};
 ghost use Rattle.saphyr_parser.specs.Examples as examples;
@@ -15,6 +15,9 @@ ghost use Rattle.saphyr_scanner.specs.TokenGrammar.{Yields};
 ghost use Rattle.saphyr_scanner.specs.Tokens.{Kind};
 ghost use Rattle.saphyr_parser.specs.Exactly.{GivesExactly, kinds, told_by};
 ghost use Rattle.saphyr_parser.specs.Events.{Happening};
+ghost use Rattle.saphyr_parser.specs.Complete.{ReadsJson};
+ghost use Rattle.saphyr_parser.specs.EventsTaken.{AreTaken};
+ghost use Rattle.saphyr_parser.specs.Premises.{IsClosed, ReadsClosed, ReadsEach, has_surrogate_escape};
 
 /// A node comes in preorder, between the events of its document and of the stream.
 pub fn tells_nodes_in_preorder()
@@ -73,4 +76,27 @@ pub fn gives_json()
 /// the fault behind them.
 pub fn loads_all_events()
     ensures { (parser : Cursor) → to_send true parser ≡ record { sent = (to_come parser).events; fault = (to_come parser).fault } }
+{}
+
+/// The events of the empty text are taken from it.
+pub fn takes_events()
+    ensures { AreTaken false [] examples.no_documents }
+{}
+
+/// A text of JSON needs no premise but those on its length, its depth and its tags.
+pub fn promises_json()
+    ensures { (limit : ℕ) (text : List ℕ) (parser : Cursor) → ReadsJson limit text parser → ReadsEach IsJson limit text parser }
+{}
+
+/// Behind the line `---` anything may follow: the start of its document is given. Where nothing follows, that
+/// is a part of what the text's events tell.
+pub fn closes_at_markers()
+    ensures alone { (parser : Cursor) → ReadsEach examples.IsStart 100 (codes "---\n") parser → ReadsClosed examples.IsStart examples.IsNothing 100 (codes "---\n") parser }
+    ensures followed { IsClosed examples.IsStart examples.IsNothing 100 false (codes "---\n[") examples.start_events }
+{}
+
+/// `\uD800` is the escape of half of a character, and `\uD7FF` is none.
+pub fn tells_surrogate_escapes()
+    ensures half { has_surrogate_escape (codes "\"\\uD800\"") ≡ true }
+    ensures whole { has_surrogate_escape (codes "\"\\uD7FF\"") ≡ false }
 {}

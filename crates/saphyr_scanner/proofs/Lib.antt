@@ -37,3 +37,4 @@ pub mod JsonNodes
 pub mod JsonLeads
 pub mod LayoutExamples
 pub mod LayoutRefused
+pub mod TakenExamples

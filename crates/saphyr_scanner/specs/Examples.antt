@@ -1,8 +1,11 @@
 -- Small texts with their forests and tokens.
-use Rattle.std.specs.Prelude.{ℕ, List, [], ◌∷◌, codes}
+use Rattle.std.specs.Prelude.{ℕ, List, [], ◌∷◌, None, codes}
+use Rattle.saphyr_scalar.specs.declared.scalar.position.Marker.{Marker}
+use Rattle.saphyr_scalar.specs.Cursor.{next_line}
 use Rattle.saphyr_scanner.specs.Forest.{Plain, DoubleQuoted, no_properties, Node, Scalar, Seq, Map, NoNode, MoreNodes, NoPair, MorePairs, bare, Forest}
 use Rattle.saphyr_scanner.specs.Tokens as tokens
 use Rattle.saphyr_scanner.specs.Tokens.{Kind}
+use Rattle.saphyr_scanner.specs.Seen.{Piece, Remaining}
 
 abbrev pub plain : List ℕ → Node
 plain value = Scalar no_properties Plain value
@@ -42,3 +45,21 @@ block_forest = bare block_mapping ∷ []
 abbrev pub block_tokens : List Kind
 block_tokens =
     tokens.StreamStart ∷ tokens.BlockMappingStart ∷ tokens.Key ∷ tokens.Scalar Plain (codes "a") ∷ tokens.Value ∷ tokens.BlockEntry ∷ tokens.Scalar Plain (codes "b") ∷ tokens.Key ∷ tokens.Scalar Plain (codes "c") ∷ tokens.Value ∷ tokens.Scalar Plain (codes "d") ∷ tokens.BlockEnd ∷ tokens.StreamEnd ∷ []
+
+-- ## `[]`: the tokens with their places
+
+abbrev pub at_column : ℕ → Marker
+at_column n = record { index = n; line = 1; col = n }
+
+abbrev pub token_from_to : ℕ → ℕ → Kind → Piece
+token_from_to a b kind = record { span = record { start = at_column a; end = at_column b }; kind = kind }
+
+abbrev pub brackets_end : Piece
+brackets_end = record { span = record { start = next_line (at_column 2) 0; end = next_line (at_column 2) 0 }; kind = tokens.StreamEnd }
+
+abbrev pub brackets_tokens : Remaining
+brackets_tokens =
+    record {
+      pieces = token_from_to 0 0 tokens.StreamStart ∷ token_from_to 0 1 tokens.FlowSequenceStart ∷ token_from_to 1 2 tokens.FlowSequenceEnd ∷ brackets_end ∷ [];
+      refusal = None;
+    }

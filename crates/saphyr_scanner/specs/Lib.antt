@@ -27,3 +27,4 @@ pub mod Document
 pub mod Fetch
 pub mod Remaining
 pub mod Engine
+pub mod TokensTaken

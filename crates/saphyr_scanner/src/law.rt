@@ -1,6 +1,6 @@
 //! Laws of the definitions.
 ghost use Rattle.std.specs.Prelude.{◌≡◌, ◌≤◌, List, codes, ◌∷◌, [], ℕ, length};
-ghost use Rattle.saphyr_scanner.specs.Examples.{block_forest, block_tokens, json_forest, json_text, json_tokens};
+ghost use Rattle.saphyr_scanner.specs.Examples.{block_forest, block_tokens, brackets_tokens, json_forest, json_text, json_tokens};
 ghost use Rattle.saphyr_scanner.specs.Forest.{Forest, Primary, Shorthand, open_in_forest};
 ghost use Rattle.saphyr_scanner.specs.TagSpelling.{IsTag};
 ghost use Rattle.saphyr_scanner.specs.Json.{IsJson};
@@ -8,6 +8,7 @@ ghost use Rattle.saphyr_scanner.specs.JsonTokens as json;
 ghost use Rattle.saphyr_scanner.specs.TokenGrammar.{Yields};
 ghost use Rattle.saphyr_scanner.specs.Tokens.{Kind};
 ghost use Rattle.saphyr_scanner.specs.Remaining.{Scans, scan};
+ghost use Rattle.saphyr_scanner.specs.TokensTaken.{AreTakenFrom};
 
 use saphyr_scalar::scalar::{
     counts_each_double_quoted, reads_each_double_quoted, reads_each_plain_word, takes_anchor,
@@ -23,6 +24,11 @@ pub fn reads_json()
 pub fn tells_tokens()
     ensures flow { Yields json_forest json_tokens }
     ensures block { Yields block_forest block_tokens }
+{}
+
+/// The tokens of `[]`, with their places, are taken from it.
+pub fn takes_tokens()
+    ensures { AreTakenFrom (codes "[]") brackets_tokens }
 {}
 
 /// Each text of JSON has a list of tokens.

@@ -1,0 +1,118 @@
+-- Which events are taken from a text (YAML 1.2.2, chapter 3): those of a forest, or a beginning of them and one fault,
+-- where tokens that are taken from the text are those of the forest, or a beginning of them.
+use Rattle.std.specs.Prelude.{◌≡◌, ◌⊎◌, ℕ, Bool, true, List, [], ◌∷◌, ◌++◌, map, Option, Some, None}
+use Rattle.saphyr_scalar.specs.declared.scalar.position.Span.{Span}
+use Rattle.saphyr_scalar.specs.declared.scalar.style.ScalarStyle.TheVariants.{Plain}
+use Rattle.saphyr_scanner.specs.Forest.{Forest}
+use Rattle.saphyr_scanner.specs.Tokens as tokens
+use Rattle.saphyr_scanner.specs.Tokens.{Kind}
+use Rattle.saphyr_scanner.specs.Seen.{Piece, Remaining}
+use Rattle.saphyr_scanner.specs.TokenGrammar.{Yields}
+use Rattle.saphyr_scanner.specs.TokensTaken.{IsPlaceOf, AreTakenFrom}
+use Rattle.saphyr_parser.specs.Events.{Happening, DocumentStart, Alias, Scalar, SequenceStart, MappingStart}
+use Rattle.saphyr_parser.specs.ForestEvents.{events}
+use Rattle.saphyr_parser.specs.Answer.{Ending, Refused, Answer}
+use Rattle.saphyr_parser.specs.Exactly.{kinds}
+
+-- ## The spans of events
+
+-- tokens that an event has for itself: nodes, properties, brackets and starts of documents
+abbrev pub BelongsToNone : Kind → Type 0
+BelongsToNone (tokens.Alias name) = ⊥
+BelongsToNone (tokens.Anchor name) = ⊥
+BelongsToNone (tokens.Tag handle suffix) = ⊥
+BelongsToNone (tokens.Scalar style value) = ⊥
+BelongsToNone tokens.DocumentStart = ⊥
+BelongsToNone tokens.FlowSequenceStart = ⊥
+BelongsToNone tokens.FlowMappingStart = ⊥
+BelongsToNone tokens.BlockSequenceStart = ⊥
+BelongsToNone tokens.BlockMappingStart = ⊥
+BelongsToNone _ = Unit {0}
+
+-- an anchor, a tag, or both in either order
+abbrev pub IsAnchor : Kind → Type 0
+IsAnchor (tokens.Anchor name) = Unit {0}
+IsAnchor _ = ⊥
+
+abbrev pub IsTag : Kind → Type 0
+IsTag (tokens.Tag handle suffix) = Unit {0}
+IsTag _ = ⊥
+
+abbrev pub AreProperties : List Piece → Type 0
+AreProperties [] = ⊥
+AreProperties (p ∷ []) = IsAnchor p.kind ⊎ IsTag p.kind
+AreProperties (p ∷ q ∷ []) = (IsAnchor p.kind × IsTag q.kind) ⊎ (IsTag p.kind × IsAnchor q.kind)
+AreProperties _ = ⊥
+
+-- from the start of the first token to the end of the last
+abbrev pub Spans : Piece → List Piece → Span → Type 0
+Spans first [] span = span ≡ record { start = first.span.start; end = first.span.end }
+Spans first (p ∷ []) span = span ≡ record { start = first.span.start; end = p.span.end }
+Spans first (p ∷ q ∷ []) span = span ≡ record { start = first.span.start; end = q.span.end }
+Spans first _ span = ⊥
+
+abbrev pub SpansAll : List Piece → Span → Type 0
+SpansAll [] span = ⊥
+SpansAll (p ∷ ps) span = Spans p ps span
+
+-- content of its own token, behind properties or none
+abbrev pub IsContent : Kind → List Piece → Type 0
+IsContent kind ts = (front : List Piece) × (own : Piece) × ((front ≡ []) ⊎ AreProperties front) × (own.kind ≡ kind) × (ts ≡ front ++ own ∷ [])
+
+-- A collection without a token of its own: a block sequence at its mapping's column, behind properties or none, or a pair
+-- in brackets.
+abbrev pub HasNoOpening : List Piece → Span → Type 0
+HasNoOpening [] span = Unit {0}
+HasNoOpening (p ∷ ps) span = AreProperties (p ∷ ps) × (span.start ≡ p.span.start)
+
+-- The tokens are the event's own, and it has their span. An explicit document's is its `---`.
+abbrev pub IsOf : Happening → Span → List Piece → Type 0
+IsOf (DocumentStart true) span ts = (own : Piece) × (own.kind ≡ tokens.DocumentStart) × (own.span ≡ span) × (ts ≡ own ∷ [])
+IsOf (Alias id) span ts = (own : Piece) × (name : List ℕ) × (own.kind ≡ tokens.Alias name) × (own.span ≡ span) × (ts ≡ own ∷ [])
+IsOf (Scalar text style id tag) span ts =
+    (IsContent (tokens.Scalar style text) ts × SpansAll ts span) ⊎ ((text ≡ []) × (style ≡ Plain) × AreProperties ts × SpansAll ts span)
+    ⊎ ((text ≡ []) × (style ≡ Plain) × (id ≡ 0) × (tag ≡ None) × (ts ≡ []))
+IsOf (SequenceStart id tag) span ts =
+    ((IsContent tokens.FlowSequenceStart ts ⊎ IsContent tokens.BlockSequenceStart ts) × SpansAll ts span) ⊎ HasNoOpening ts span
+IsOf (MappingStart id tag) span ts =
+    ((IsContent tokens.FlowMappingStart ts ⊎ IsContent tokens.BlockMappingStart ts) × SpansAll ts span) ⊎ HasNoOpening ts span
+IsOf _ span ts = ts ≡ []
+
+-- the events have their tokens, in order, and no token of a node is passed over before the last of these
+pub data HaveTokens : List (Happening × Span) → List Piece → Type 0 where
+  nothing : (ts : List Piece) → HaveTokens [] ts
+  passed : (es : List (Happening × Span)) (t : Piece) (ts : List Piece) → BelongsToNone t.kind → HaveTokens es ts → HaveTokens es (t ∷ ts)
+  event : (what : Happening) (span : Span) (es : List (Happening × Span)) (own ts : List Piece) → IsOf what span own → HaveTokens es ts → HaveTokens ((what, span) ∷ es) (own ++ ts)
+
+-- ## Events of a forest
+
+-- with no fault, all; with one, a beginning
+abbrev pub IsAllUnless : {X : Type 0} → Option Ending → List X → Type 0
+IsAllUnless None more = more ≡ []
+IsAllUnless (Some fault) more = Unit {0}
+
+-- Where the events end with a refusal, its place is one of the text. Want of memory has none.
+abbrev pub HasPlaceIn : List ℕ → Option Ending → Type 0
+HasPlaceIn text (Some (Refused place info)) = IsPlaceOf text place
+HasPlaceIn text _ = Unit {0}
+
+-- The answer is a beginning of the forest's events, and all of them where no fault ends it. Tokens that are taken from
+-- the text begin as the forest's do, and are all of them where there is no fault.
+pub record IsTakenBy (forest : Forest) (keep : Bool) (text : List ℕ) (a : Answer) : Type 0 where
+  pub tokens : Remaining
+  pub taken : AreTakenFrom text tokens
+  pub read : List Piece
+  pub unread : List Piece
+  pub are_read : tokens.pieces ≡ read ++ unread
+  pub expected : List Kind
+  pub yielded : Yields forest (kinds read ++ expected)
+  pub missing : List Happening
+  pub are_events : events forest keep ≡ Some (map (λ (e : Happening × Span). e.0) a.events ++ missing)
+  pub places : HaveTokens a.events read
+  pub all_read : IsAllUnless a.fault unread
+  pub all_expected : IsAllUnless a.fault expected
+  pub all_given : IsAllUnless a.fault missing
+  pub refused_at : HasPlaceIn text a.fault
+
+abbrev pub AreTaken : Bool → List ℕ → Answer → Type 0
+AreTaken keep text a = (forest : Forest) × IsTakenBy forest keep text a

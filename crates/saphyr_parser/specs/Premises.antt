@@ -1,0 +1,105 @@
+-- What is asked of a text whose forest's events a parser promises to give, and what is promised of its beginnings.
+use Rattle.std.specs.Prelude.{◌≡◌, ◌≤◌, ◌⊎◌, ℕ, Bool, true, false, ◌||◌, ◌&&◌, ◌==◌, nat_le, IsFalse, slice_index, List, [], ◌∷◌, ◌++◌, length, map, Some, codes}
+use Rattle.saphyr_input.specs.Breaks.{normalized}
+use Rattle.saphyr_input.specs.Classes.{is_hex, hex_value}
+use Rattle.saphyr_input.specs.Places.{next_2_are}
+use Rattle.saphyr_scalar.specs.declared.scalar.position.Span.{Span}
+use Rattle.saphyr_scanner.specs.Forest.{Forest, open_in_forest}
+use Rattle.saphyr_parser.specs.Events.{Happening, StreamEnd, DocumentStart, DocumentEnd}
+use Rattle.saphyr_parser.specs.Machine.{empty_scalar}
+use Rattle.saphyr_parser.specs.ForestEvents.{events}
+use Rattle.saphyr_parser.specs.Answer.{Answer}
+use Rattle.saphyr_parser.specs.Cursor.{Cursor, keeping_tags, to_come}
+use Rattle.saphyr_parser.specs.Exactly.{GivesExactly}
+
+-- A relation of forests and texts, such as a grammar.
+abbrev pub Grammar : Type 1
+Grammar = Forest → List ℕ → Type 0
+
+-- the text has at most so many characters
+abbrev pub IsWithin : ℕ → List ℕ → Type 0
+IsWithin limit text = length text ≤ limit
+
+-- at most 255 collections are open at once
+abbrev pub IsShallow : Forest → Type 0
+IsShallow forest = open_in_forest forest ≤ 255
+
+-- all forests of the text have the same events
+abbrev pub ForestsAgree : Grammar → Bool → List ℕ → List Happening → Type 0
+ForestsAgree G keep text told = (forest : Forest) → G forest text → events forest keep ≡ Some told
+
+-- `\u` and the number of half of a character, from D800 to DFFF
+abbrev pub is_surrogate_escape : List ℕ → Bool
+is_surrogate_escape xs =
+    next_2_are xs 92 117 && (hex_value (slice_index xs 2) == 13) && nat_le 8 (hex_value (slice_index xs 3))
+    && (is_hex (slice_index xs 2) && is_hex (slice_index xs 3) && is_hex (slice_index xs 4) && is_hex (slice_index xs 5))
+
+-- whether an escape of half of a character stands in the text (a backslash that is itself escaped begins none, so this tells of a few more texts)
+abbrev pub has_surrogate_escape : List ℕ → Bool
+has_surrogate_escape [] = false
+has_surrogate_escape (c ∷ cs) = is_surrogate_escape (c ∷ cs) || has_surrogate_escape cs
+
+-- ## Premises of the promise that a text gives exactly its forest's events
+
+pub record IsPromised (G : Grammar) (limit : ℕ) (keep : Bool) (forest : Forest) (text : List ℕ) (told : List Happening) : Type 0 where
+  pub stands_for : G forest text
+  pub within : IsWithin limit text
+  pub shallow : IsShallow forest
+  pub has_events : events forest keep ≡ Some told
+  pub agree : ForestsAgree G keep text told
+
+-- each text of the grammar gives exactly its forest's events, and no fault
+abbrev pub ReadsEach : Grammar → ℕ → List ℕ → Cursor → Type 0
+ReadsEach G limit text parser =
+    (forest : Forest) (keep : Bool) (told : List Happening) → IsPromised G limit keep forest text told → GivesExactly told (to_come (keeping_tags keep parser))
+
+-- ## Closed beginnings (9.1.2, 9.1.4)
+
+-- `---`, which starts a document, and `...`, which ends one
+pub data DocumentMarker : Type 0 where
+  Starts : DocumentMarker
+  Ends : DocumentMarker
+
+abbrev pub marker_text : DocumentMarker → List ℕ
+marker_text Starts = codes "---"
+marker_text Ends = codes "..."
+
+-- the marker's own event
+abbrev pub marker_event : DocumentMarker → Happening
+marker_event Starts = DocumentStart true
+marker_event Ends = DocumentEnd
+
+-- what follows it where the text ends with the marker's line
+abbrev pub behind_marker : DocumentMarker → List Happening
+behind_marker Starts = empty_scalar ∷ DocumentEnd ∷ StreamEnd ∷ []
+behind_marker Ends = StreamEnd ∷ []
+
+-- the text ends with the marker's line: the marker, what may stand behind it on its line, and the break
+abbrev pub EndsWithMarker : (List ℕ → Type 0) → DocumentMarker → List ℕ → Type 0
+EndsWithMarker IsTail marker text =
+    (front tail : List ℕ) × IsTail tail × ((front ≡ []) ⊎ ((others : List ℕ) × (front ≡ others ++ 10 ∷ []))) × (text ≡ front ++ (marker_text marker ++ (tail ++ 10 ∷ [])))
+
+-- The text begins with `front`, which the premises are asked of: it ends with a marker's line, and `first` are its events up
+-- to and with the marker's own. IsTail tells what may stand behind the marker on its line.
+pub record IsClosed (G : Grammar) (IsTail : List ℕ → Type 0) (limit : ℕ) (keep : Bool) (text : List ℕ) (first : List Happening) : Type 0 where
+  pub front : List ℕ
+  pub others : List ℕ
+  pub begins : normalized text ≡ normalized front ++ others
+  pub within : IsWithin limit text
+  pub marker : DocumentMarker
+  pub ends : EndsWithMarker IsTail marker (normalized front)
+  pub forest : Forest
+  pub told : List Happening
+  pub promised : IsPromised G limit keep forest front told
+  pub earlier : List Happening
+  pub is_first : first ≡ earlier ++ marker_event marker ∷ []
+  pub are_told : told ≡ first ++ behind_marker marker
+
+-- the answer's events begin with these
+abbrev pub GivesFirst : List Happening → Answer → Type 0
+GivesFirst es a = (others : List Happening) × (map (λ (e : Happening × Span). e.0) a.events ≡ es ++ others)
+
+-- whatever follows a closed beginning, its events come first
+abbrev pub ReadsClosed : Grammar → (List ℕ → Type 0) → ℕ → List ℕ → Cursor → Type 0
+ReadsClosed G IsTail limit text parser =
+    (keep : Bool) (first : List Happening) → IsClosed G IsTail limit keep text first → GivesFirst first (to_come (keeping_tags keep parser))

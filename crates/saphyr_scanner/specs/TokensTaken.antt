@@ -1,0 +1,229 @@
+-- Which tokens are taken from a text: up to the last token the text is the spellings of the tokens in order, parted by
+-- blanks, breaks and comments alone (YAML 1.2.2, chapters 5 to 9). Nothing else is passed over.
+-- A place is a cursor, of which what stands there and its line and column count here.
+use Rattle.std.specs.Prelude.{◌≡◌, ℕ, ◌+◌, ◌≤◌, Bool, not, ◌⊎◌, List, [], ◌∷◌, ◌++◌, length, drop, slice_index, Option, Some, None, IsTrue, IsFalse, codes, encode_utf8_all}
+use Rattle.saphyr_input.specs.Classes.{is_blank, is_break, is_breakz, is_blank_or_breakz, is_yaml_non_break, is_anchor_char, is_one_of, byte_order_mark}
+use Rattle.saphyr_input.specs.Places.{is_document_start, is_document_end}
+use Rattle.saphyr_scalar.specs.declared.scalar.position.Marker.{Marker}
+use Rattle.saphyr_scalar.specs.declared.scalar.position.Span.{Span}
+use Rattle.saphyr_scalar.specs.declared.scalar.fault.Refusal.{Refusal}
+use Rattle.saphyr_scalar.specs.declared.scalar.style.ScalarStyle.{ScalarStyle}
+use Rattle.saphyr_scalar.specs.declared.scalar.style.ScalarStyle.TheVariants as style
+use Rattle.saphyr_scalar.specs.declared.reading.folding.Item.{Item}
+use Rattle.saphyr_scalar.specs.declared.reading.flow.Quote.{Quote}
+use Rattle.saphyr_scalar.specs.declared.reading.flow.Quote.TheVariants.{Single, Double}
+use Rattle.saphyr_scalar.specs.declared.reading.block.BlockStyle.{BlockStyle}
+use Rattle.saphyr_scalar.specs.declared.reading.block.BlockStyle.TheVariants as block_style
+use Rattle.saphyr_scalar.specs.Cursor.{Cursor, fresh, along, next_line}
+use Rattle.saphyr_scalar.specs.Passing.{IsPassed}
+use Rattle.saphyr_scalar.specs.Quoted.{break_len}
+use Rattle.saphyr_scalar.specs.Folding.{folded}
+use Rattle.saphyr_scalar.specs.QuotedSpelling.{IsQuotedText}
+use Rattle.saphyr_scalar.specs.PlainReading.{IsPlainReading}
+use Rattle.saphyr_scalar.specs.BlockRead.{IsRead}
+use Rattle.saphyr_scalar.specs.TagSpelling.{AreIn, IsAnchorName, IsTagText}
+use Rattle.saphyr_scalar.specs.Directive.{Directive, version, tag_prefix, reserved}
+use Rattle.saphyr_scalar.specs.DirectiveSpelling.{IsReadDirective, IsLineTail}
+use Rattle.saphyr_scanner.specs.Tokens as tokens
+use Rattle.saphyr_scanner.specs.Tokens.{Kind}
+use Rattle.saphyr_scanner.specs.Seen.{Piece, Remaining}
+
+-- ## Places (5.4)
+
+-- a byte order mark at the start of a line has no column
+abbrev pub past_mark : Marker → Marker
+past_mark m = record { index = m.index + 1; line = m.line; col = m.col }
+
+-- From a place to a later one. A byte order mark inside a quoted scalar is a character of its line; at the start of a
+-- line elsewhere it has no column.
+pub data IsReached : Marker → List ℕ → Marker → List ℕ → Type 0 where
+  nothing : (m : Marker) (t : List ℕ) → IsReached m t m t
+  character : (m : Marker) (c : ℕ) (t : List ℕ) (n : Marker) (u : List ℕ) → IsFalse (is_break c) → IsReached (along m 1) t n u → IsReached m (c ∷ t) n u
+  mark : (m : Marker) (t : List ℕ) (n : Marker) (u : List ℕ) → m.col ≡ 0 → IsReached (past_mark m) t n u → IsReached m (byte_order_mark ∷ t) n u
+  line_break : (m : Marker) (t : List ℕ) (n : Marker) (u : List ℕ) → IsTrue (is_break (slice_index t 0)) → IsReached (next_line m (break_len t)) (drop (break_len t) t) n u → IsReached m t n u
+
+-- a place, or behind the last line, which no break ends, the start of the next
+abbrev pub IsPlaceOrEnd : Cursor → Marker → Type 0
+IsPlaceOrEnd s m = (m ≡ s.mark) ⊎ ((s.rest ≡ []) × (m ≡ next_line s.mark 0))
+
+-- a place of a text
+abbrev pub IsPlaceOf : List ℕ → Marker → Type 0
+IsPlaceOf text m = (s : Cursor) × IsReached (fresh text).mark text s.mark s.rest × IsPlaceOrEnd s m × (m.index ≤ length text)
+
+-- ## What stands between tokens (6.6, 6.7)
+
+-- blanks, breaks and comments. A comment is all of the line behind its `#`, up to a NUL or a byte order mark.
+pub data IsSeparation : Marker → List ℕ → Marker → List ℕ → Type 0 where
+  nothing : (m : Marker) (t : List ℕ) → IsSeparation m t m t
+  blank : (m : Marker) (c : ℕ) (t : List ℕ) (n : Marker) (u : List ℕ) → IsTrue (is_blank c) → IsSeparation (along m 1) t n u → IsSeparation m (c ∷ t) n u
+  line_break : (m : Marker) (t : List ℕ) (n : Marker) (u : List ℕ) → IsTrue (is_break (slice_index t 0)) → IsSeparation (next_line m (break_len t)) (drop (break_len t) t) n u → IsSeparation m t n u
+  comment : (m : Marker) (words t : List ℕ) (n : Marker) (u : List ℕ) → AreIn is_yaml_non_break words → IsFalse (is_yaml_non_break (slice_index t 0)) → IsSeparation (along m (1 + length words)) t n u → IsSeparation m (35 ∷ (words ++ t)) n u
+
+abbrev pub AreApart : Cursor → Cursor → Type 0
+AreApart s t = IsSeparation s.mark s.rest t.mark t.rest
+
+-- from s blanks, and behind some a comment, reach up to the place m of its line
+abbrev pub IsOnLine : Cursor → Marker → Type 0
+IsOnLine s m = (tail behind : List ℕ) × IsLineTail tail × (s.rest ≡ tail ++ behind) × (m ≡ along s.mark (length tail))
+
+-- ## Tokens without a text: starts and ends of block collections, an implicit key's, and a single pair's
+
+abbrev pub HasNoText : Span → Cursor → Cursor → Type 0
+HasNoText span s t = (span.end ≡ span.start) × IsPlaceOrEnd s span.start × (t ≡ s)
+
+-- ## Tokens that are their spans: markers, anchors, aliases, tags and directives
+
+-- a text from s to t on one line, which is the span
+pub record IsSpan (span : Span) (text : List ℕ) (s t : Cursor) : Type 0 where
+  pub is : s.rest ≡ text ++ t.rest
+  pub start : span.start ≡ s.mark
+  pub end : span.end ≡ t.mark
+  pub goes_on : t.mark ≡ along s.mark (length text)
+
+-- 9.1.2, 9.1.4: a document marker, at the start of a line
+abbrev pub IsMarker : (List ℕ → Bool) → List ℕ → Span → Cursor → Cursor → Type 0
+IsMarker stands text span s t = (s.mark.col ≡ 0) × IsTrue (stands s.rest) × IsSpan span text s t
+
+-- 5.2: a byte order mark, at the start of a line
+pub record IsMark (span : Span) (s t : Cursor) : Type 0 where
+  pub is : s.rest ≡ byte_order_mark ∷ t.rest
+  pub at_start : s.mark.col ≡ 0
+  pub start : span.start ≡ s.mark
+  pub end : span.end ≡ t.mark
+  pub goes_on : t.mark ≡ past_mark s.mark
+
+-- 6.9.2, 7.1: `&` or `*` and a name, which no character of names follows
+abbrev pub IsName : ℕ → List ℕ → Span → Cursor → Cursor → Type 0
+IsName indicator bytes span s t =
+    (name : List ℕ) × IsAnchorName name × (bytes ≡ encode_utf8_all name) × IsSpan span (indicator ∷ name) s t × IsFalse (is_anchor_char (slice_index t.rest 0))
+
+-- 6.9.1. A verbatim tag's uri may be empty.
+abbrev pub IsTag : List ℕ → List ℕ → Span → Cursor → Cursor → Type 0
+IsTag front back span s t =
+    (text handle suffix : List ℕ) × IsTagText text handle suffix × (front ≡ encode_utf8_all handle) × (back ≡ encode_utf8_all suffix) × IsSpan span text s t
+
+-- 6.8: a directive at the start of a line, on which nothing else stands but a comment
+abbrev pub IsDirective : Directive → Span → Cursor → Cursor → Type 0
+IsDirective d span s t =
+    (text tail behind : List ℕ) × (s.mark.col ≡ 0) × IsReadDirective d text × IsSpan span text s t
+    × IsLineTail tail × (t.rest ≡ tail ++ behind) × IsTrue (is_breakz (slice_index behind 0))
+
+-- ## Indicators (5.3)
+
+-- the indicator c stands from s to t
+abbrev pub IsCharacter : ℕ → Cursor → Cursor → Type 0
+IsCharacter c s t = (s.rest ≡ c ∷ t.rest) × (t.mark ≡ along s.mark 1)
+
+-- 7.4: a bracket or a comma, behind which the span has only blanks and a comment
+abbrev pub IsFlowIndicator : ℕ → Span → Cursor → Cursor → Type 0
+IsFlowIndicator c span s t = IsCharacter c s t × (span.start ≡ s.mark) × IsOnLine t span.end
+
+-- 8.2.1: `-`, whose span is empty and stands behind the blanks and the comment that follow
+abbrev pub IsDash : Span → Cursor → Cursor → Type 0
+IsDash span s t = IsCharacter 45 s t × IsTrue (is_blank_or_breakz (slice_index t.rest 0)) × IsOnLine t span.start × (span.end ≡ span.start)
+
+-- 7.4.2, 8.2.2: `?`, whose span goes on over blanks, breaks and comments
+abbrev pub IsQuestionMark : Span → Cursor → Cursor → Type 0
+IsQuestionMark span s t =
+    IsCharacter 63 s t × IsTrue (is_blank_or_breakz (slice_index t.rest 0)) × (span.start ≡ s.mark) × ((behind : List ℕ) × IsSeparation t.mark t.rest span.end behind)
+
+-- 7.4.2, 8.2.2: `:`, before which the span stands, empty
+abbrev pub IsColon : Span → Cursor → Cursor → Type 0
+IsColon span s t = IsCharacter 58 s t × (span.start ≡ s.mark) × (span.end ≡ s.mark)
+
+-- ## Scalars (7.3, 8.1)
+
+-- from quote to quote, behind which the span has only blanks and a comment
+abbrev pub IsQuotedScalar : Quote → List ℕ → Span → Cursor → Cursor → Type 0
+IsQuotedScalar quote value span s t =
+    (items : List Item) × IsQuotedText quote s.rest items t.rest × (value ≡ encode_utf8_all (folded items)) × IsPassed s.mark s.rest t.mark t.rest × (span.start ≡ s.mark) × IsOnLine t span.end
+
+-- no indicator with which another token begins inside flow and outside
+abbrev pub begins_plain : ℕ → Bool
+begins_plain c = not (is_one_of (codes ",[]{}#&*!'\"%@`") c)
+
+-- the span is the piece that is read; `-`, `?` and `:` begin one where no blank, break or NUL follows
+pub record IsPlainScalar (value : List ℕ) (span : Span) (s t : Cursor) : Type 0 where
+  pub start : span.start ≡ s.mark
+  pub begins : IsTrue (begins_plain (slice_index s.rest 0))
+  pub no_indicator : IsTrue (is_one_of (codes "-?:") (slice_index s.rest 0)) → IsFalse (is_blank_or_breakz (slice_index s.rest 1))
+  pub reading : IsPlainReading s value span.end t
+
+abbrev pub block_indicator : BlockStyle → ℕ
+block_indicator block_style.Literal = 124
+block_indicator block_style.Folded = 62
+
+-- The indentation that is given counts from the innermost open block collection, whose content stands right of its column.
+pub record IsBlockScalar (style : BlockStyle) (indent : ℕ) (value : List ℕ) (span : Span) (s t : Cursor) : Type 0 where
+  pub begins : slice_index s.rest 0 ≡ block_indicator style
+  pub reading : IsRead style indent s value t
+  pub passes : IsPassed s.mark s.rest t.mark t.rest
+  pub behind : List ℕ
+  pub start : IsPassed s.mark s.rest span.start behind
+  pub inside : IsPassed span.start behind t.mark t.rest
+  pub end : span.end ≡ t.mark
+
+abbrev pub IsScalar : ScalarStyle → ℕ → List ℕ → Span → Cursor → Cursor → Type 0
+IsScalar style.Plain indent value span s t = IsPlainScalar value span s t
+IsScalar style.SingleQuoted indent value span s t = IsQuotedScalar Single value span s t
+IsScalar style.DoubleQuoted indent value span s t = IsQuotedScalar Double value span s t
+IsScalar style.Literal indent value span s t = IsBlockScalar block_style.Literal indent value span s t
+IsScalar style.Folded indent value span s t = IsBlockScalar block_style.Folded indent value span s t
+
+-- ## Tokens
+
+-- A token from s to t. `indent` is the first column right of the innermost open block collection, 0 at the root.
+abbrev pub IsToken : ℕ → Kind → Span → Cursor → Cursor → Type 0
+IsToken indent tokens.StreamStart span s t = HasNoText span s t
+IsToken indent tokens.StreamEnd span s t = (s.rest ≡ []) × HasNoText span s t
+IsToken indent (tokens.VersionDirective major minor) span s t = IsDirective (version major minor) span s t
+IsToken indent (tokens.TagDirective handle prefix) span s t = IsDirective (tag_prefix handle prefix) span s t
+IsToken indent (tokens.ReservedDirective name) span s t = IsDirective (reserved name) span s t
+IsToken indent tokens.DocumentStart span s t = IsMarker is_document_start (codes "---") span s t
+IsToken indent tokens.DocumentEnd span s t = IsMarker is_document_end (codes "...") span s t
+IsToken indent tokens.ByteOrderMark span s t = IsMark span s t
+IsToken indent tokens.BlockSequenceStart span s t = HasNoText span s t
+IsToken indent tokens.BlockMappingStart span s t = HasNoText span s t
+IsToken indent tokens.BlockEnd span s t = HasNoText span s t
+IsToken indent tokens.FlowSequenceStart span s t = IsFlowIndicator 91 span s t
+IsToken indent tokens.FlowSequenceEnd span s t = IsFlowIndicator 93 span s t
+IsToken indent tokens.FlowMappingStart span s t = IsFlowIndicator 123 span s t ⊎ HasNoText span s t
+IsToken indent tokens.FlowMappingEnd span s t = IsFlowIndicator 125 span s t ⊎ HasNoText span s t
+IsToken indent tokens.BlockEntry span s t = IsDash span s t
+IsToken indent tokens.FlowEntry span s t = IsFlowIndicator 44 span s t
+IsToken indent tokens.Key span s t = IsQuestionMark span s t ⊎ HasNoText span s t
+IsToken indent tokens.Value span s t = IsColon span s t
+IsToken indent (tokens.Alias name) span s t = IsName 42 name span s t
+IsToken indent (tokens.Anchor name) span s t = IsName 38 name span s t
+IsToken indent (tokens.Tag handle suffix) span s t = IsTag handle suffix span s t
+IsToken indent (tokens.Scalar style value) span s t = IsScalar style indent value span s t
+
+-- the columns of the open block collections behind a token, the innermost first
+abbrev pub without_first : List ℕ → List ℕ
+without_first [] = []
+without_first (column ∷ columns) = columns
+
+abbrev pub open_behind : Kind → ℕ → List ℕ → List ℕ
+open_behind tokens.BlockSequenceStart column columns = column ∷ columns
+open_behind tokens.BlockMappingStart column columns = column ∷ columns
+open_behind tokens.BlockEnd column columns = without_first columns
+open_behind _ column columns = columns
+
+abbrev pub indentation : List ℕ → ℕ
+indentation [] = 0
+indentation (column ∷ columns) = column + 1
+
+-- tokens from one place to another, where block collections are open at these columns
+abbrev pub AreTokens : List ℕ → List Piece → Cursor → Cursor → Type 0
+AreTokens columns [] s u = u ≡ s
+AreTokens columns (p ∷ ps) s u =
+    (here behind : Cursor) × AreApart s here × IsToken (indentation columns) p.kind p.span here behind × AreTokens (open_behind p.kind p.span.start.col columns) ps behind u
+
+-- the whole text, or a beginning and a refusal with its place in the text
+abbrev pub IsEndOf : List ℕ → Option Refusal → Cursor → Type 0
+IsEndOf text None u = u.rest ≡ []
+IsEndOf text (Some e) u = IsPlaceOf text e.mark
+
+-- the tokens, and the refusal if one ends them, are taken from the text
+abbrev pub AreTakenFrom : List ℕ → Remaining → Type 0
+AreTakenFrom text r = (end : Cursor) × AreTokens [] r.pieces (fresh text) end × IsEndOf text r.refusal end
