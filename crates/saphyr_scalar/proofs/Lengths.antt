@@ -1,10 +1,12 @@
 -- What is taken off a text is no longer than the text.
-use Rattle.std.proofs.Common.{◌≡◌, ℕ, ◌≤◌, ◌<◌, Bool, List, [], ◌∷◌, length, drop, slice_index, refl, arith}
+use Rattle.std.proofs.Common.{◌≡◌, ℕ, ◌≤◌, ◌<◌, Bool, true, false, List, [], ◌∷◌, length, drop, slice_index, refl, arith}
+use Rattle.std.specs.Prelude.{◌&&◌, ◌==◌}
 use Rattle.std.specs.List.{prefix_len}
 use Rattle.std.proofs.lemmas.List.{length-drop}
 use Rattle.std.proofs.lemmas.List.Sums.{prefix_len-le-length}
 use Rattle.std.proofs.lemmas.Bool.Decides.{nat_tests}
 use Rattle.saphyr_input.specs.Classes.{is_yaml_non_break}
+use Rattle.saphyr_input.specs.Places.{next_2_are}
 use Rattle.saphyr_input.specs.Separation.{blank_len, comment_len, separation_len, is_skipped}
 use Rattle.saphyr_input.specs.declared.input.SkipTabs.{SkipTabs}
 
@@ -16,6 +18,21 @@ run_within = prefix_len-le-length
 pub some_left : (xs : List ℕ) → (slice_index xs 0 ≡ 0 → ⊥) → 0 < length xs
 some_left [] h = absurd (h refl)
 some_left (x ∷ xs) h = omega arith
+
+-- a place that shows what NUL is not is a character
+pub shown : (xs : List ℕ) (p : ℕ → Bool) (b : Bool) → p (slice_index xs 0) ≡ b → (p 0 ≡ b → ⊥) → 1 ≤ length xs
+shown [] p b e h = absurd (h e)
+shown (c ∷ cs) p b e h = omega arith
+
+-- CR and LF are two characters
+pub two_shown : (xs : List ℕ) → next_2_are xs 13 10 ≡ true → 2 ≤ length xs
+two_shown [] e = absurd (cc)
+two_shown (c ∷ []) e = absurd (no_and (c == 13) e)
+  where
+    no_and : (a : Bool) → (a && false) ≡ true → ⊥
+    no_and true h = absurd (cc)
+    no_and false h = absurd (cc)
+two_shown (c ∷ d ∷ cs) e = omega arith
 
 comment_within : (xs : List ℕ) → comment_len xs ≤ length xs
 comment_within xs = grind (arith, nat_tests, prefix_len-le-length is_yaml_non_break xs)

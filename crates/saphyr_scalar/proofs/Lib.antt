@@ -25,6 +25,7 @@ pub mod Lengths
 pub mod Taking
 pub mod TakingMore
 pub mod Counted
+pub mod CountedBlocks
 pub mod Lines
 pub mod Moving
 pub mod PlainGaps

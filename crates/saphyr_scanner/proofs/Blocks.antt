@@ -15,7 +15,7 @@ outwards_cursor : (is : List ℕ) (c : Core) → (outwards is c).cursor ≡ c.cu
 outwards_cursor [] c = refl
 outwards_cursor (i ∷ is) c = refl
 
-block_cursor : (m : Marker) (s : State) → (end_block m s).core.cursor ≡ s.core.cursor
+pub block_cursor : (m : Marker) (s : State) → (end_block m s).core.cursor ≡ s.core.cursor
 block_cursor m s = outwards_cursor s.core.outer_indents s.core
 
 blocks_cursor : (column : Option ℕ) (m : Marker) (is : List ℕ) (s : State) → (end_blocks column m is s).core.cursor ≡ s.core.cursor
@@ -23,7 +23,7 @@ blocks_cursor column m [] s = by_test (is_right_of column s.core.indent) _ _ (λ
 blocks_cursor column m (i ∷ is) s =
     by_test (is_right_of column s.core.indent) _ _ (λ (t : State). t.core.cursor ≡ s.core.cursor) (λ _. blocks_cursor column m is (end_block m s) ∙ block_cursor m s) (λ _. refl)
 
-less_deep_cursor : (column : Option ℕ) (c : Core) → (less_deep column c).cursor ≡ c.cursor
+pub less_deep_cursor : (column : Option ℕ) (c : Core) → (less_deep column c).cursor ≡ c.cursor
 less_deep_cursor None c = refl
 less_deep_cursor (Some column) c = refl
 

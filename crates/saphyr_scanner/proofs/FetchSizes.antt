@@ -84,13 +84,13 @@ removal_kept s t k = kept_from (remove_key t.core) (remove_kept t.core)
     kept_from (Ok d) h = kept_kept s.core t.core d k h
     kept_from (Err e) h = tt
 
-content_cursor : (s : State) → Given (λ (u : State). u.core.cursor ≡ s.core.cursor) (document.end_content s)
+pub content_cursor : (s : State) → Given (λ (u : State). u.core.cursor ≡ s.core.cursor) (document.end_content s)
 unfolding document.end_content remove_key
 content_cursor s =
     let t : State = unroll None s.core.cursor.mark s in
     by_test (in_block t.core && t.core.required) _ _ (λ r. Given (λ (u : State). u.core.cursor ≡ s.core.cursor) (carried r t.queue)) (λ _. tt) (λ _. unrolled_cursor None s.core.cursor.mark s)
 
-both_right : (a b : Bool) → (a && b) ≡ true → b ≡ true
+pub both_right : (a b : Bool) → (a && b) ≡ true → b ≡ true
 both_right true b e = e
 both_right false b e = absurd (cc)
 
@@ -165,7 +165,7 @@ stepped : (s : State) (r : Steps) → Given (TookStep s.core) r → Given (TookS
 stepped s (Ok x) h = h
 stepped s (Err e) h = tt
 
-is_number : (x n : ℕ) → (x == n) ≡ true → x ≡ n
+pub is_number : (x n : ℕ) → (x == n) ≡ true → x ≡ n
 is_number x n e = grind (arith, nat_tests)
 
 step_takes : Readers → (first second n : ℕ) (c : Core) → 0 < length c.cursor.rest → slice_index c.cursor.rest 0 ≡ first → Given (TookStep c) (step first second n c)
@@ -192,7 +192,7 @@ step_takes laws first second n c h f =
     (λ _. plain_takes laws n c)))))))))))))))))
 
 -- a place that shows no NUL is a character
-left : (t : List ℕ) → is_z (slice_index t 0) ≡ false → 0 < length t
+pub left : (t : List ℕ) → is_z (slice_index t 0) ≡ false → 0 < length t
 left [] e = absurd (cc)
 left (c ∷ cs) e = omega arith
 

@@ -38,3 +38,10 @@ pub mod JsonLeads
 pub mod LayoutExamples
 pub mod LayoutRefused
 pub mod TakenExamples
+pub mod Counted
+pub mod QueueInOrder
+pub mod OrderedFlow
+pub mod OrderedScalars
+pub mod OrderedFetch
+pub mod RunInOrder
+pub mod ReadersCounted

@@ -23,7 +23,7 @@ unfolding block.pass_dash
 dash_takes c d t =
     behind_separation (Took c) c d block.refuse_tab t (λ x k. by_test (found_tabs x.0 && block.is_dash_next x.1) _ _ (Given (Took c)) (λ _. tt) (λ _. took_kept c x.1 _ k (deepen_kept x.1)))
 
-roll_cursor : (column : ℕ) (c : Core) → (roll column c).cursor ≡ c.cursor
+pub roll_cursor : (column : ℕ) (c : Core) → (roll column c).cursor ≡ c.cursor
 roll_cursor column c = by_test (in_block c && nat_le c.indent column) _ _ (λ (d : Core). d.cursor ≡ c.cursor) (λ _. refl) (λ _. refl)
 
 removed : (c d : Core) → Took c d → Given (Took c) (remove_key d)

@@ -52,14 +52,14 @@ quotes_take : (start : Marker) (style : ScalarStyle) (text : List ℕ) (c d : Co
 unfolding scalar.behind_quotes
 quotes_take start style text c d t = behind_separation (TookStep c) c d _ t (λ x u. line_takes start style text c x.1 u)
 
-saved_cursor : (n : ℕ) (c : Core) → (save_key n c).cursor ≡ c.cursor
+pub saved_cursor : (n : ℕ) (c : Core) → (save_key n c).cursor ≡ c.cursor
 saved_cursor n c = by_test c.key_allowed _ _ (λ (d : Core). d.cursor ≡ c.cursor) (λ _. refl) (λ _. refl)
 
 -- a key may begin at the token, and what else changes before the text is read
 saved : (n : ℕ) (c d : Core) → d.cursor ≡ (save_key n c).cursor → d.started ≡ (save_key n c).started → d.ended ≡ (save_key n c).ended → Kept c d
 saved n c d e s k = kept_kept c (save_key n c) d (save_kept n c) (same (save_key n c) d e s k)
 
-first_of : (n : ℕ) (c : Core) (x : ℕ) → slice_index c.cursor.rest 0 ≡ x → slice_index (save_key n c).cursor.rest 0 ≡ x
+pub first_of : (n : ℕ) (c : Core) (x : ℕ) → slice_index c.cursor.rest 0 ≡ x → slice_index (save_key n c).cursor.rest 0 ≡ x
 first_of n c x h = ap (λ (s : Cursor). slice_index s.rest 0) (saved_cursor n c) ∙ h
 
 -- what was read of a core that has no more left

@@ -28,3 +28,4 @@ pub mod Fetch
 pub mod Remaining
 pub mod Engine
 pub mod TokensTaken
+pub mod SpansInOrder

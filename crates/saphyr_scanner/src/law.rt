@@ -8,11 +8,14 @@ ghost use Rattle.saphyr_scanner.specs.JsonTokens as json;
 ghost use Rattle.saphyr_scanner.specs.TokenGrammar.{Yields};
 ghost use Rattle.saphyr_scanner.specs.Tokens.{Kind};
 ghost use Rattle.saphyr_scanner.specs.Remaining.{Scans, scan};
+ghost use Rattle.saphyr_scanner.specs.SpansInOrder.{AreInOrder};
 ghost use Rattle.saphyr_scanner.specs.TokensTaken.{AreTakenFrom};
 
 use saphyr_scalar::scalar::{
-    counts_each_double_quoted, reads_each_double_quoted, reads_each_plain_word, takes_anchor,
-    takes_block_scalar, takes_directive, takes_plain, takes_quoted, takes_tag,
+    counts_each_block_scalar, counts_each_double_quoted, reads_each_double_quoted,
+    reads_each_plain_word, reads_plain_values, spells_each_anchor, spells_each_directive,
+    spells_each_quoted, spells_each_tag, takes_anchor, takes_block_scalar, takes_directive,
+    takes_plain, takes_quoted, takes_tag,
 };
 
 /// A text of JSON stands for its forest.
@@ -61,4 +64,16 @@ pub fn scans_each_json()
     takes_anchor();
     takes_tag();
     takes_directive();
+}
+
+/// The spans of a text's tokens stand one behind the other, within the text.
+pub fn orders_spans()
+    ensures { (limit : ℕ) (text : List ℕ) → AreInOrder (length text) 0 (scan limit text).pieces }
+{
+    reads_plain_values();
+    spells_each_quoted();
+    counts_each_block_scalar();
+    spells_each_anchor();
+    spells_each_tag();
+    spells_each_directive();
 }

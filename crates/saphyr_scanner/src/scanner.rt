@@ -1,8 +1,10 @@
-ghost use Rattle.std.specs.Prelude.{◌≡◌};
+ghost use Rattle.std.specs.Prelude.{◌≡◌, length};
 ghost use Rattle.saphyr_scanner.specs.Remaining.{scan};
 ghost use Rattle.saphyr_scanner.specs.Seen.{Hands};
+ghost use Rattle.saphyr_scanner.specs.SpansInOrder.{AreInOrder};
 
 use crate::engine::Engine;
+use crate::law::orders_spans;
 use crate::token::Token;
 use saphyr_input::input::Input;
 use saphyr_scalar::Stop;
@@ -35,9 +37,13 @@ impl<T: Input> Model for Scanner<T> {
 impl<T: Input> Scanner<T> {
     /// The tokens of the input's text, which is to have at most `limit` characters: a longer one
     /// is refused once a token has passed the limit, and that token is not given.
+    ///
+    /// The spans of the tokens stand one behind the other, within the text.
     pub fn new(alloc: Global, input: T, limit: usize) -> Self
-        ensures { result ≡ scan limit (T.rest input) }
+        ensures tokens { result ≡ scan limit (T.rest input) }
+        ensures spans { AreInOrder (length (T.rest input)) 0 result.pieces }
     {
+        orders_spans();
         Scanner {
             engine: Engine::new(alloc, input),
             limit,

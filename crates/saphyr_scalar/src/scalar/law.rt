@@ -1,4 +1,4 @@
-ghost use Rattle.std.specs.Prelude.{◌≡◌, ◌≢◌, ℕ, ◌+◌, ◌<◌, Bool, Option, Some, false, List, drop, ◌++◌, length, Ok, encode_utf8_all, slice_index};
+ghost use Rattle.std.specs.Prelude.{◌≡◌, ◌≢◌, ℕ, ◌+◌, ◌<◌, ◌≤◌, Bool, Option, Some, false, List, drop, ◌++◌, length, Ok, encode_utf8_all, slice_index};
 ghost use Rattle.std.specs.List.{prefix_len};
 ghost use Rattle.saphyr_input.specs.Places.{is_blank_or_break};
 ghost use Rattle.saphyr_scalar.specs.declared.scalar.position.Marker.{Marker};
@@ -108,6 +108,12 @@ pub fn counts_each_double_quoted()
 /// A block scalar takes characters off the text.
 pub fn takes_block_scalar()
     ensures { (style : BlockStyle) (indent : ℕ) (s t : Cursor) (text : List ℕ) (span : Span) → 0 < length s.rest → block_scalar style indent s ≡ Ok (text, span, t) → length t.rest < length s.rest }
+{}
+
+/// The span of a block scalar begins where the scalar stands or behind that, and ends at the place
+/// that is reached, whose index is further by as many characters as were taken off.
+pub fn counts_each_block_scalar()
+    ensures { (style : BlockStyle) (indent : ℕ) (s t : Cursor) (text : List ℕ) (span : Span) → 0 < length s.rest → block_scalar style indent s ≡ Ok (text, span, t) → (s.mark.index ≤ span.start.index) × (span.start.index ≤ span.end.index) × (span.end ≡ t.mark) × (t.mark.index + length t.rest ≡ s.mark.index + length s.rest) }
 {}
 
 /// An anchor or an alias takes characters off the text.

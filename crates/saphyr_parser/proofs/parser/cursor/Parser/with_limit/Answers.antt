@@ -4,4 +4,4 @@ use Rattle.saphyr_parser.proofs.Completed.{completed}
 use Rattle.saphyr_parser.proofs.parser.cursor.Parser.with_limit.Goals as goal
 
 pub returns-clause-complete : goal.returns-clause-complete
-returns-clause-complete g c = completed c.scans_each_json.ensures c.gives_json.ensures.parser _ _ _ (c.new-2.ensures ∙ ap at_start c.new.ensures)
+returns-clause-complete g c = completed c.scans_each_json.ensures c.gives_json.ensures.parser _ _ _ (c.new-2.ensures ∙ ap at_start c.new.ensures.tokens)
