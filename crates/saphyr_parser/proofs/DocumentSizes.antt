@@ -51,8 +51,8 @@ unfolding pass
 passes n passed m l = passes_from n passed m.tokens.pieces m l
 
 -- a directive leaves the states
-record Stays (m : Machine) (r : Result (Declared × Machine) Refusal) : Type 0 where
-  same : (x : Declared × Machine) → r ≡ Ok x → x.1.states ≡ m.states
+pub record Stays (m : Machine) (r : Result (Declared × Machine) Refusal) : Type 0 where
+  pub same : (x : Declared × Machine) → r ≡ Ok x → x.1.states ≡ m.states
 
 refuses_directive : (m : Machine) (f : Refusal) → Stays m (Err f)
 refuses_directive m f = record { same = λ x e. absurd (cc) }
@@ -72,7 +72,7 @@ handles : (b : Bool) (f : Refusal) (d : Declared) (m : Machine) (prefixes : Name
 handles true f d m p = refuses_directive m f
 handles false f d m p = declares m d (record m { prefixes = p }) refl
 
-directive_stays : (k : Kind) (t : Piece) (d : Declared) (m : Machine) → Stays m (directive_at k t d m)
+pub directive_stays : (k : Kind) (t : Piece) (d : Declared) (m : Machine) → Stays m (directive_at k t d m)
 directive_stays (tokens.VersionDirective major minor) t d m = versions d.version _ _ m
 directive_stays (tokens.TagDirective handle prefix) t d m = handles (is_listed handle d.handles) _ _ m _
 directive_stays _ t d m = declares m d m refl

@@ -6,6 +6,12 @@ pub mod NodeSizes
 pub mod BlockSizes
 pub mod FlowSizes
 pub mod DocumentSizes
+pub mod Spans
+pub mod NodeSpans
+pub mod BlockSpans
+pub mod FlowSpans
+pub mod DocumentSpans
+pub mod EventSpans
 pub mod Unroll
 pub mod Turns
 pub mod Handing

@@ -31,3 +31,4 @@ pub mod Runs
 pub mod Loading
 pub mod EventsTaken
 pub mod Premises
+pub mod SpansWithin

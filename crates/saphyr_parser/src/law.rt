@@ -9,6 +9,7 @@ ghost use Rattle.saphyr_scanner.specs.Forest.{Forest};
 ghost use Rattle.saphyr_scanner.specs.Json.{IsJson};
 ghost use Rattle.saphyr_scanner.specs.JsonTokens.{json_tokens};
 ghost use Rattle.saphyr_scanner.specs.Seen.{Piece, Remaining};
+ghost use Rattle.saphyr_scanner.specs.SpansInOrder.{AreInOrder};
 ghost use Rattle.saphyr_parser.specs.Cursor.{Cursor, at_start, keeping_tags, to_come};
 ghost use Rattle.saphyr_parser.specs.Loading.{to_send};
 ghost use Rattle.saphyr_scanner.specs.TokenGrammar.{Yields};
@@ -17,6 +18,7 @@ ghost use Rattle.saphyr_parser.specs.Exactly.{GivesExactly, kinds, told_by};
 ghost use Rattle.saphyr_parser.specs.Events.{Happening};
 ghost use Rattle.saphyr_parser.specs.Complete.{ReadsJson};
 ghost use Rattle.saphyr_parser.specs.EventsTaken.{AreTaken};
+ghost use Rattle.saphyr_parser.specs.SpansWithin.{HasSpansWithin};
 ghost use Rattle.saphyr_parser.specs.Premises.{IsClosed, ReadsClosed, ReadsEach, has_surrogate_escape};
 
 /// A node comes in preorder, between the events of its document and of the stream.
@@ -71,6 +73,12 @@ pub fn gives_json()
 {
     saphyr_scanner::law::tells_json_tokens();
 }
+
+/// Where the spans of tokens stand one behind the other within a text, each event's span has its start at or
+/// before its end, within that text.
+pub fn keeps_spans_within()
+    ensures { (n : ℕ) (tokens : Remaining) (keep : Bool) → AreInOrder n 0 tokens.pieces → HasSpansWithin n (to_come (keeping_tags keep (at_start tokens))) }
+{}
 
 /// With `multi`, `load` hands over all events that are still to come, as iteration gives them, and meets
 /// the fault behind them.

@@ -1,9 +1,10 @@
-ghost use Rattle.std.specs.Prelude.{◌≡◌, ℕ, List, take, IfOk};
+ghost use Rattle.std.specs.Prelude.{◌≡◌, ℕ, Bool, List, length, take, IfOk};
 ghost use Rattle.std.specs.Str.{chars};
 ghost use Rattle.saphyr_input.specs.Listed.{Lists, Listed};
 ghost use Rattle.saphyr_scanner.specs.Remaining.{scan};
 ghost use Rattle.saphyr_parser.specs.Cursor as spec;
 ghost use Rattle.saphyr_parser.specs.Complete.{ReadsJson};
+ghost use Rattle.saphyr_parser.specs.SpansWithin.{HasSpansWithin};
 
 use crate::law::gives_json;
 use crate::parser::event::Event;
@@ -21,7 +22,8 @@ use std::marker::Model;
 /// How many characters a text may have.
 const MOST_CHARACTERS: usize = 4294967295;
 
-/// The events of a text, one after the other.
+/// The events of a text, one after the other. Each has a span within the text, whose start is at or before
+/// its end.
 ///
 /// Contracts see a cursor in the list of the events, which at most one fault ends.
 #[derive(Drop)]
@@ -54,6 +56,7 @@ impl<'input, T: Input> Parser<'input, T> {
     pub fn new(alloc: Global, src: T) -> Self
         ensures decided { result ≡ spec.at_start (scan 4294967295 (T.rest src)) }
         ensures complete { ReadsJson 4294967295 (T.rest src) result }
+        ensures spans { (keep : Bool) → HasSpansWithin (length (T.rest src)) (spec.to_come (spec.keeping_tags keep result)) }
     {
         Parser::with_limit(alloc, src, MOST_CHARACTERS)
     }
@@ -62,6 +65,7 @@ impl<'input, T: Input> Parser<'input, T> {
     pub(crate) fn with_limit(alloc: Global, src: T, limit: usize) -> Self
         ensures decided { result ≡ spec.at_start (scan limit (T.rest src)) }
         ensures complete { ReadsJson limit (T.rest src) result }
+        ensures spans { (keep : Bool) → HasSpansWithin (length (T.rest src)) (spec.to_come (spec.keeping_tags keep result)) }
     {
         scans_each_json();
         gives_json();
@@ -127,6 +131,7 @@ impl<'input> Parser<'input, StrInput<'input>> {
     pub fn new_from_str(alloc: Global, value: &'input str) -> Self
         ensures decided { result ≡ spec.at_start (scan 4294967295 (chars value.now)) }
         ensures complete { ReadsJson 4294967295 (chars value.now) result }
+        ensures spans { (keep : Bool) → HasSpansWithin (length (chars value.now)) (spec.to_come (spec.keeping_tags keep result)) }
     {
         Parser::new(alloc, StrInput::new(value))
     }
@@ -141,6 +146,7 @@ impl<'input, I: Iterator<Item = char>> Parser<'input, BufferedInput<I>> {
         requires { Listed I.can_next I.next_gives iter }
         ensures decided { (text : List ℕ) → Lists I.can_next I.next_gives iter text → IfOk result (λ parser. parser ≡ spec.at_start (scan 4294967295 (take 4294967296 text))) }
         ensures complete { (text : List ℕ) → Lists I.can_next I.next_gives iter text → IfOk result (λ parser. ReadsJson 4294967295 text parser) }
+        ensures spans { (text : List ℕ) → Lists I.can_next I.next_gives iter text → IfOk result (λ parser. (keep : Bool) → HasSpansWithin (length text) (spec.to_come (spec.keeping_tags keep parser))) }
     {
         Ok(Parser::new(alloc, BufferedInput::new(alloc, iter)?))
     }

@@ -1,7 +1,11 @@
 use Rattle.std.proofs.Common.{ap, ◌∙◌}
 use Rattle.saphyr_parser.specs.Cursor.{at_start}
 use Rattle.saphyr_parser.proofs.Completed.{completed}
+use Rattle.saphyr_parser.proofs.EventSpans.{parser_spans_within}
 use Rattle.saphyr_parser.proofs.parser.cursor.Parser.with_limit.Goals as goal
 
 pub returns-clause-complete : goal.returns-clause-complete
 returns-clause-complete g c = completed c.scans_each_json.ensures c.gives_json.ensures.parser _ _ _ (c.new-2.ensures ∙ ap at_start c.new.ensures.tokens)
+
+pub returns-clause-spans : goal.returns-clause-spans
+returns-clause-spans g c = parser_spans_within _ c.new.result _ c.new-2.ensures c.new.ensures.spans
