@@ -47,3 +47,5 @@ pub mod WithinLimit
 pub mod Handed
 pub mod Loading
 pub mod TakenExamples
+pub mod TakenEvents
+pub mod ClosedLayout

@@ -68,7 +68,6 @@ promised =
     record {
       stands_for = (refl, refl);
       within = omega arith;
-      shallow = omega arith;
       has_events = start_has_events;
       agree = λ forest h. rw (h.0) start_has_events;
     }

@@ -7,6 +7,10 @@ use Rattle.saphyr_parser.specs.ForestEvents.{events}
 use Rattle.saphyr_parser.specs.Cursor.{Cursor, keeping_tags, to_come}
 use Rattle.saphyr_parser.specs.Exactly.{GivesExactly}
 
+-- a text of JSON with at most so many collections open at once, all of which are in flow style
+abbrev pub IsShallowJson : ℕ → Forest → List ℕ → Type 0
+IsShallowJson room forest text = IsJson forest text × (open_in_forest forest ≤ room)
+
 -- A text of JSON (RFC 8259) within the limit, with at most 255 collections open at once, gives exactly the events of its
 -- forest, and no fault, whether prefixes of tags are kept or not.
 abbrev pub ReadsJson : ℕ → List ℕ → Cursor → Type 0

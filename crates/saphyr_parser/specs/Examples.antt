@@ -1,7 +1,9 @@
 -- Forests with their events.
 use Rattle.std.specs.Prelude.{◌≡◌, ℕ, true, false, List, [], ◌∷◌, Some, None, codes}
 use Rattle.saphyr_scanner.specs.Forest.{Plain, DoubleQuoted, Properties, no_properties, Tag, Primary, Named, Shorthand, Node, Alias, Scalar, Seq, NoNode, MoreNodes, Directive, TagPrefix, Document, bare, left_out, Forest}
+use Rattle.saphyr_scalar.specs.declared.scalar.position.Marker.{Marker}
 use Rattle.saphyr_scalar.specs.declared.scalar.position.Span.{Span}
+use Rattle.saphyr_scanner.specs.TakenTexts.{at}
 use Rattle.saphyr_parser.specs.Answer.{Answer}
 use Rattle.saphyr_parser.specs.Events as events
 use Rattle.saphyr_parser.specs.Events.{Happening, ResolvedTag}
@@ -90,6 +92,33 @@ at_start = record { start = record { index = 0; line = 1; col = 0 }; end = recor
 abbrev pub no_documents : Answer
 no_documents = record { events = (events.StreamStart, at_start) ∷ (events.StreamEnd, at_start) ∷ []; fault = None }
 
+-- ## `- &a b` and `- *a` on two lines, with the places of its events
+
+abbrev pub block_alias : Forest
+block_alias = bare (Seq no_properties (MoreNodes (Scalar (anchored (codes "a")) Plain (codes "b")) (MoreNodes (Alias (codes "a")) NoNode))) ∷ []
+
+abbrev pub from_to : Marker → Marker → Span
+from_to start end = record { start = start; end = end }
+
+abbrev pub block_alias_end : Span
+block_alias_end = from_to (at 11 3 0) (at 11 3 0)
+
+abbrev pub block_alias_answer : Answer
+block_alias_answer =
+    record {
+      events =
+          (events.StreamStart, at_start) ∷
+          (events.DocumentStart false, at_start) ∷
+          (events.SequenceStart 0 None, at_start) ∷
+          (events.Scalar (codes "b") Plain 1 None, from_to (at 2 1 2) (at 6 1 6)) ∷
+          (events.Alias 1, from_to (at 9 2 2) (at 11 2 4)) ∷
+          (events.SequenceEnd, block_alias_end) ∷
+          (events.DocumentEnd, block_alias_end) ∷
+          (events.StreamEnd, block_alias_end) ∷
+          [];
+      fault = None;
+    }
+
 -- ## `---` on a line: a grammar of this text alone, and its events up to the marker's
 
 abbrev pub start_forest : Forest
@@ -103,3 +132,7 @@ IsNothing text = text ≡ []
 
 abbrev pub start_events : List Happening
 start_events = events.StreamStart ∷ events.DocumentStart true ∷ []
+
+-- all its events
+abbrev pub start_told : List Happening
+start_told = events.StreamStart ∷ events.DocumentStart true ∷ plain_event [] ∷ events.DocumentEnd ∷ events.StreamEnd ∷ []

@@ -32,3 +32,4 @@ pub mod Loading
 pub mod EventsTaken
 pub mod Premises
 pub mod SpansWithin
+pub mod Promises

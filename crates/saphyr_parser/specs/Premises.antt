@@ -1,10 +1,10 @@
 -- What is asked of a text whose forest's events a parser promises to give, and what is promised of its beginnings.
-use Rattle.std.specs.Prelude.{◌≡◌, ◌≤◌, ◌⊎◌, ℕ, Bool, true, false, ◌||◌, ◌&&◌, ◌==◌, nat_le, IsFalse, slice_index, List, [], ◌∷◌, ◌++◌, length, map, Some, codes}
+use Rattle.std.specs.Prelude.{◌≡◌, ◌≤◌, ◌⊎◌, ℕ, Bool, true, false, ◌||◌, ◌&&◌, ◌==◌, nat_le, slice_index, List, [], ◌∷◌, ◌++◌, length, map, Some, codes}
 use Rattle.saphyr_input.specs.Breaks.{normalized}
 use Rattle.saphyr_input.specs.Classes.{is_hex, hex_value}
 use Rattle.saphyr_input.specs.Places.{next_2_are}
 use Rattle.saphyr_scalar.specs.declared.scalar.position.Span.{Span}
-use Rattle.saphyr_scanner.specs.Forest.{Forest, open_in_forest}
+use Rattle.saphyr_scanner.specs.Forest.{Forest}
 use Rattle.saphyr_parser.specs.Events.{Happening, StreamEnd, DocumentStart, DocumentEnd}
 use Rattle.saphyr_parser.specs.Machine.{empty_scalar}
 use Rattle.saphyr_parser.specs.ForestEvents.{events}
@@ -12,17 +12,13 @@ use Rattle.saphyr_parser.specs.Answer.{Answer}
 use Rattle.saphyr_parser.specs.Cursor.{Cursor, keeping_tags, to_come}
 use Rattle.saphyr_parser.specs.Exactly.{GivesExactly}
 
--- A relation of forests and texts, such as a grammar.
+-- A relation of forests and texts, such as a grammar. How many flow collections may be open at once is a part of it.
 abbrev pub Grammar : Type 1
 Grammar = Forest → List ℕ → Type 0
 
 -- the text has at most so many characters
 abbrev pub IsWithin : ℕ → List ℕ → Type 0
 IsWithin limit text = length text ≤ limit
-
--- at most 255 collections are open at once
-abbrev pub IsShallow : Forest → Type 0
-IsShallow forest = open_in_forest forest ≤ 255
 
 -- all forests of the text have the same events
 abbrev pub ForestsAgree : Grammar → Bool → List ℕ → List Happening → Type 0
@@ -44,7 +40,6 @@ has_surrogate_escape (c ∷ cs) = is_surrogate_escape (c ∷ cs) || has_surrogat
 pub record IsPromised (G : Grammar) (limit : ℕ) (keep : Bool) (forest : Forest) (text : List ℕ) (told : List Happening) : Type 0 where
   pub stands_for : G forest text
   pub within : IsWithin limit text
-  pub shallow : IsShallow forest
   pub has_events : events forest keep ≡ Some told
   pub agree : ForestsAgree G keep text told
 

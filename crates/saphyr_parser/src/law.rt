@@ -1,5 +1,5 @@
 //! Laws of the definitions.
-ghost use Rattle.std.specs.Prelude.{Bool, List, [], codes, false, true, ℕ, ◌≡◌, ◌<◌, ◌≤◌, ◌^◌, length, None, Some};
+ghost use Rattle.std.specs.Prelude.{Bool, List, [], ◌∷◌, codes, false, true, ℕ, ◌≡◌, ◌<◌, ◌≤◌, ◌^◌, length, None, Some};
 ghost use Rattle.saphyr_parser.specs.Anchors.{IsLatest, anchors, latest};
 ghost use Rattle.saphyr_parser.specs.Preorder.{Part, parts};
 ghost use Rattle.saphyr_parser.specs.Examples as examples;
@@ -14,12 +14,17 @@ ghost use Rattle.saphyr_parser.specs.Cursor.{Cursor, at_start, keeping_tags, to_
 ghost use Rattle.saphyr_parser.specs.Loading.{to_send};
 ghost use Rattle.saphyr_scanner.specs.TokenGrammar.{Yields};
 ghost use Rattle.saphyr_scanner.specs.Tokens.{Kind};
+ghost use Rattle.saphyr_scanner.specs.Tokens as tokens;
+ghost use Rattle.saphyr_scanner.specs.TakenTexts.{at, from_to};
 ghost use Rattle.saphyr_parser.specs.Exactly.{GivesExactly, kinds, told_by};
-ghost use Rattle.saphyr_parser.specs.Events.{Happening};
-ghost use Rattle.saphyr_parser.specs.Complete.{ReadsJson};
-ghost use Rattle.saphyr_parser.specs.EventsTaken.{AreTaken};
+ghost use Rattle.saphyr_parser.specs.Events.{Alias, Happening};
+ghost use Rattle.saphyr_parser.specs.Complete.{IsShallowJson, ReadsJson};
+ghost use Rattle.saphyr_parser.specs.EventsTaken.{AreTaken, IsOf};
+ghost use Rattle.saphyr_parser.specs.Premises.{GivesFirst, IsClosed, IsPromised, ReadsClosed, ReadsEach, has_surrogate_escape};
+ghost use Rattle.saphyr_parser.specs.Promises.{ReadsClosedLayout, ReadsFlowLayout, ReadsLayout, TakesEvents};
+ghost use Rattle.saphyr_scalar.specs.Spaces.{IsLineRest};
+ghost use Rattle.saphyr_scanner.specs.Layout.{IsFlowLayoutText, IsLayoutText, most_open};
 ghost use Rattle.saphyr_parser.specs.SpansWithin.{HasSpansWithin};
-ghost use Rattle.saphyr_parser.specs.Premises.{IsClosed, ReadsClosed, ReadsEach, has_surrogate_escape};
 
 /// A node comes in preorder, between the events of its document and of the stream.
 pub fn tells_nodes_in_preorder()
@@ -86,14 +91,28 @@ pub fn loads_all_events()
     ensures { (parser : Cursor) → to_send true parser ≡ record { sent = (to_come parser).events; fault = (to_come parser).fault } }
 {}
 
-/// The events of the empty text are taken from it.
+/// The events of the empty text, and those of a sequence with an anchor and its alias, with their places,
+/// are taken from the text.
 pub fn takes_events()
-    ensures { AreTaken false [] examples.no_documents }
+    ensures nothing { AreTaken false [] examples.no_documents }
+    ensures alias { AreTaken false (codes "- &a b\n- *a") examples.block_alias_answer }
+    ensures promised { (text : List ℕ) (parser : Cursor) → TakesEvents text parser → AreTaken false text (to_come (keeping_tags false parser)) }
+{}
+
+/// An alias has no other span than its token.
+pub fn takes_no_other_span()
+    ensures { ¬ IsOf (Alias 1) (examples.from_to (at 9 2 2) (at 10 2 3)) (from_to (at 9 2 2) (at 11 2 4) (tokens.Alias (codes "a")) ∷ []) }
+{}
+
+/// The promise on the part of the layout grammar in flow style tells of a text of that part what the
+/// promise on the whole grammar does.
+pub fn promises_flow()
+    ensures { (limit : ℕ) (text : List ℕ) (parser : Cursor) → ReadsFlowLayout limit text parser → (forest : Forest) (keep : Bool) (told : List Happening) → IsFlowLayoutText most_open forest text → IsPromised (IsLayoutText most_open) limit keep forest text told → GivesExactly told (to_come (keeping_tags keep parser)) }
 {}
 
 /// A text of JSON needs no premise but those on its length, its depth and its tags.
 pub fn promises_json()
-    ensures { (limit : ℕ) (text : List ℕ) (parser : Cursor) → ReadsJson limit text parser → ReadsEach IsJson limit text parser }
+    ensures { (limit : ℕ) (text : List ℕ) (parser : Cursor) → ReadsJson limit text parser → ReadsEach (IsShallowJson most_open) limit text parser }
 {}
 
 /// Behind the line `---` anything may follow: the start of its document is given. Where nothing follows, that
@@ -101,6 +120,15 @@ pub fn promises_json()
 pub fn closes_at_markers()
     ensures alone { (parser : Cursor) → ReadsEach examples.IsStart 100 (codes "---\n") parser → ReadsClosed examples.IsStart examples.IsNothing 100 (codes "---\n") parser }
     ensures followed { IsClosed examples.IsStart examples.IsNothing 100 false (codes "---\n[") examples.start_events }
+{}
+
+/// The line `---` has all the premises of the promise on the layout grammar, and is a closed beginning:
+/// where the promises hold, a parser gives its events, and where `[` follows those up to the document's
+/// start.
+pub fn closes_layout()
+    ensures closed { (keep : Bool) → IsClosed (IsLayoutText most_open) IsLineRest 100 keep (codes "---\n[") examples.start_events }
+    ensures alone { (parser : Cursor) (keep : Bool) → ReadsLayout 100 (codes "---\n") parser → GivesExactly examples.start_told (to_come (keeping_tags keep parser)) }
+    ensures followed { (parser : Cursor) (keep : Bool) → ReadsClosedLayout 100 (codes "---\n[") parser → GivesFirst examples.start_events (to_come (keeping_tags keep parser)) }
 {}
 
 /// `\uD800` is the escape of half of a character, and `\uD7FF` is none.

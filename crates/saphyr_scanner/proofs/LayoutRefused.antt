@@ -1,5 +1,5 @@
 -- Near misses of the layout grammar. The entries of a flow sequence begin with no comma, so `[,]` stands for no sequence.
-use Rattle.std.proofs.Common.{◌≡◌, ◌≢◌, ℕ, ◌⊎◌, Bool, true, false, List, [], ◌∷◌, ◌++◌, Option, Some, None, inl, inr, refl, arith, codes, ap, IsTrue, slice_index}
+use Rattle.std.proofs.Common.{◌≡◌, ◌≢◌, ℕ, ◌⊎◌, Bool, true, false, List, [], ◌∷◌, ◌++◌, Option, Some, None, inl, inr, refl, arith, codes, ap, IsTrue}
 use Rattle.saphyr_input.specs.Classes.{is_blank}
 use Rattle.saphyr_scalar.specs.BlockRead.{spaces}
 use Rattle.saphyr_scalar.specs.TagSpelling.{AreIn}
@@ -10,15 +10,10 @@ use Rattle.saphyr_scanner.specs.FlowScalars.{begins_plain, IsFirstWord, IsPlain,
 use Rattle.saphyr_scanner.specs.FlowNodes.{IsAnchor, AreProperties, IsBeforeContent, IsScalarNode, IsColonAndValue, IsSinglePairText, IsSinglePair, IsOpening, IsBeforeColon, IsFlowNode, AreItems, IsPairItem}
 use Rattle.saphyr_scanner.specs.BlockNodes.{IsBlockNode}
 use Rattle.saphyr_scanner.specs.Layout.{IsBareDocument}
-
-abbrev Begins : (ℕ → Type 0) → List ℕ → Type 0
-Begins P t = (c : ℕ) × (cs : List ℕ) × P c × (t ≡ c ∷ cs)
+use Rattle.saphyr_scanner.proofs.Beginnings.{behind_first, heads, Begins, front_of}
 
 abbrev NoComma : List ℕ → Type 0
 NoComma t = Begins (λ c. c ≢ 44) t
-
-front_of : (P : ℕ → Type 0) (a b t : List ℕ) → Begins P a → t ≡ a ++ b → Begins P t
-front_of P a b t (c, cs, n, e) d = (c, cs ++ b, n, rw (d, e) refl)
 
 behind : (a b t : List ℕ) → (a ≡ []) ⊎ NoComma a → NoComma b → t ≡ a ++ b → NoComma t
 behind a b t (inl e) (c, cs, n, f) d = (c, cs, n, rw (d, e, f) refl)
@@ -26,7 +21,7 @@ behind a b t (inr h) g d = front_of (λ c. c ≢ 44) a b t h d
 
 -- ## Properties
 
-abbrev IsMark : ℕ → Type 0
+abbrev pub IsMark : ℕ → Type 0
 IsMark c = (c ≡ 38) ⊎ (c ≡ 33)
 
 anchor : (name t : List ℕ) → IsAnchor name t → Begins IsMark t
@@ -42,7 +37,7 @@ tag NonSpecific t e = (33, [], inr refl, e)
 tag (Verbatim uri) t (inside, n, d, e) = (33, 60 ∷ (inside ++ codes ">"), inr refl, e)
 tag (Shorthand h s) t (front, back, f, n, d, e) = front_of IsMark front back t (handle h front f) e
 
-properties : (a : Option (List ℕ)) (x : Option Tag) (t : List ℕ) → AreProperties a x t → Begins IsMark t
+pub properties : (a : Option (List ℕ)) (x : Option Tag) (t : List ℕ) → AreProperties a x t → Begins IsMark t
 properties None None t h = absurd h
 properties (Some name) None t h = anchor name t h
 properties None (Some x) t h = tag x t h
@@ -95,11 +90,11 @@ scalar p style v in_flow indent t (inr (front, content, b, h, e)) = behind front
 opening : (p : Properties) (c indent : ℕ) (t : List ℕ) → c ≢ 44 → IsOpening p (c ∷ []) indent t → NoComma t
 opening p c indent t n (front, separation, b, s, e) = behind front (c ∷ separation) t (weaker front (before p indent front b)) (c, separation, n, refl) e
 
-flow_node : (x : Node) (in_flow : Bool) (indent : ℕ) (t : List ℕ) → IsFlowNode x in_flow indent t → NoComma t
-flow_node (Alias name) in_flow indent t (h, e) = (42, name, (λ x. omega arith), e)
-flow_node (Scalar p style v) in_flow indent t h = scalar p style v in_flow indent t h
-flow_node (Seq p nodes) in_flow indent t (o, inside, h, i, e) = front_of (λ c. c ≢ 44) o (inside ++ codes "]") t (opening p 91 indent o (λ x. omega arith) h) e
-flow_node (Map p pairs) in_flow indent t (o, inside, h, i, e) = front_of (λ c. c ≢ 44) o (inside ++ codes "}") t (opening p 123 indent o (λ x. omega arith) h) e
+flow_node : (room : ℕ) (x : Node) (in_flow : Bool) (indent : ℕ) (t : List ℕ) → IsFlowNode room x in_flow indent t → NoComma t
+flow_node room (Alias name) in_flow indent t (h, e) = (42, name, (λ x. omega arith), e)
+flow_node room (Scalar p style v) in_flow indent t h = scalar p style v in_flow indent t h
+flow_node room (Seq p nodes) in_flow indent t (left, o, inside, r, h, i, e) = front_of (λ c. c ≢ 44) o (inside ++ codes "]") t (opening p 91 indent o (λ x. omega arith) h) e
+flow_node room (Map p pairs) in_flow indent t (left, o, inside, r, h, i, e) = front_of (λ c. c ≢ 44) o (inside ++ codes "}") t (opening p 123 indent o (λ x. omega arith) h) e
 
 -- ## Entries
 
@@ -107,28 +102,28 @@ colon : (adjacent : Bool) (v : Node) (V : List ℕ → Type 0) (indent : ℕ) (t
 colon adjacent v V indent t (inl (e, f)) = (58, [], (λ x. omega arith), f)
 colon adjacent v V indent t (inr (separation, text, s, a, h, e)) = (58, separation ++ text, (λ x. omega arith), e)
 
-pair_text : (k v : Node) (indent : ℕ) (t : List ℕ) → IsSinglePairText k v (IsFlowNode k true indent) (IsFlowNode v true indent) indent t → NoComma t
-pair_text k v indent t (inl (key, blanks, value, h, l, b, n, c, e)) = front_of (λ c. c ≢ 44) key (blanks ++ value) t (flow_node k true indent key h) e
-pair_text k v indent t (inr (inl (e, h))) = colon false v (IsFlowNode v true indent) indent t h
-pair_text k v indent t (inr (inr (separation, pair, s, h, e))) = (63, separation ++ pair, (λ x. omega arith), e)
+pair_text : (room : ℕ) (k v : Node) (indent : ℕ) (t : List ℕ) → IsSinglePairText k v (IsFlowNode room k true indent) (IsFlowNode room v true indent) indent t → NoComma t
+pair_text room k v indent t (inl (key, blanks, value, h, l, b, n, c, e)) = front_of (λ c. c ≢ 44) key (blanks ++ value) t (flow_node room k true indent key h) e
+pair_text room k v indent t (inr (inl (e, h))) = colon false v (IsFlowNode room v true indent) indent t h
+pair_text room k v indent t (inr (inr (separation, pair, s, h, e))) = (63, separation ++ pair, (λ x. omega arith), e)
 
-pair : (k v : Node) (indent : ℕ) (t : List ℕ) → IsSinglePair k v (IsFlowNode k true indent) (IsFlowNode v true indent) indent t → NoComma t
-pair k v indent t (inl (separation, a, b, s, e)) = (63, separation, (λ x. omega arith), e)
-pair k v indent t (inr (piece, separation, h, s, e)) = front_of (λ c. c ≢ 44) piece separation t (pair_text k v indent piece h) e
+pair : (room : ℕ) (k v : Node) (indent : ℕ) (t : List ℕ) → IsSinglePair k v (IsFlowNode room k true indent) (IsFlowNode room v true indent) indent t → NoComma t
+pair room k v indent t (inl (separation, a, b, s, e)) = (63, separation, (λ x. omega arith), e)
+pair room k v indent t (inr (piece, separation, h, s, e)) = front_of (λ c. c ≢ 44) piece separation t (pair_text room k v indent piece h) e
 
-pair_item : (x : Node) (indent : ℕ) (t : List ℕ) → IsPairItem x indent t → NoComma t
-pair_item (Alias name) indent t h = absurd h
-pair_item (Scalar p style v) indent t h = absurd h
-pair_item (Seq p nodes) indent t h = absurd h
-pair_item (Map p NoPair) indent t h = absurd h
-pair_item (Map p (MorePairs k v NoPair)) indent t (e, h) = pair k v indent t h
-pair_item (Map p (MorePairs k v (MorePairs a b ps))) indent t h = absurd h
+pair_item : (room : ℕ) (x : Node) (indent : ℕ) (t : List ℕ) → IsPairItem room x indent t → NoComma t
+pair_item room (Alias name) indent t h = absurd h
+pair_item room (Scalar p style v) indent t h = absurd h
+pair_item room (Seq p nodes) indent t h = absurd h
+pair_item room (Map p NoPair) indent t h = absurd h
+pair_item room (Map p (MorePairs k v NoPair)) indent t (e, h) = pair room k v indent t h
+pair_item room (Map p (MorePairs k v (MorePairs a b ps))) indent t h = absurd h
 
-pub no_entry_begins_with_a_comma : (nodes : Nodes) (indent : ℕ) (t : List ℕ) → AreItems nodes indent t → (t ≡ []) ⊎ NoComma t
-no_entry_begins_with_a_comma NoNode indent t e = inl e
-no_entry_begins_with_a_comma (MoreNodes x xs) indent t (item, others, inl (piece, separation, h, s, e), o, d) =
-    inr (front_of (λ c. c ≢ 44) item others t (front_of (λ c. c ≢ 44) piece separation item (flow_node x true indent piece h) e) d)
-no_entry_begins_with_a_comma (MoreNodes x xs) indent t (item, others, inr h, o, d) = inr (front_of (λ c. c ≢ 44) item others t (pair_item x indent item h) d)
+pub no_entry_begins_with_a_comma : (room : ℕ) (nodes : Nodes) (indent : ℕ) (t : List ℕ) → AreItems room nodes indent t → (t ≡ []) ⊎ NoComma t
+no_entry_begins_with_a_comma room NoNode indent t e = inl e
+no_entry_begins_with_a_comma room (MoreNodes x xs) indent t (item, others, inl (piece, separation, h, s, e), o, d) =
+    inr (front_of (λ c. c ≢ 44) item others t (front_of (λ c. c ≢ 44) piece separation item (flow_node room x true indent piece h) e) d)
+no_entry_begins_with_a_comma room (MoreNodes x xs) indent t (item, others, inr h, o, d) = inr (front_of (λ c. c ≢ 44) item others t (pair_item room x indent item h) d)
 
 -- ## Separation
 
@@ -161,13 +156,6 @@ separation_begins indent t (lines, blanks, (pieces, h, f), b, e) = both lines bl
 
 -- ## The text
 
-abbrev behind_first : List ℕ → List ℕ
-behind_first [] = []
-behind_first (c ∷ cs) = cs
-
-heads : (a b : ℕ) (s t : List ℕ) → a ∷ s ≡ b ∷ t → b ≡ a
-heads a b s t e = let f : a ≡ b = ap (λ x. slice_index x 0) e in omega (arith, f)
-
 inside_is_no_comma : (a b : List ℕ) → (a ≡ []) ⊎ NoComma a → (b ≡ []) ⊎ NoComma b → codes ",]" ≡ a ++ (b ++ codes "]") → ⊥
 inside_is_no_comma a b (inl e) (inl f) d = let x : codes ",]" ≡ codes "]" = rw (d, e, f) refl in let y : 93 ≡ 44 = heads 44 93 (codes "]") [] x in omega (arith, y)
 inside_is_no_comma a b (inl e) (inr (c, cs, n, f)) d = let x : codes ",]" ≡ c ∷ (cs ++ codes "]") = rw (d, e, f) refl in n (heads 44 c (codes "]") (cs ++ codes "]") x)
@@ -184,12 +172,12 @@ opened front separation inside indent (inr (c, cs, m, e)) s h d =
 joins : (o front separation inside : List ℕ) → o ≡ front ++ (91 ∷ separation) → codes "[,]" ≡ o ++ (inside ++ codes "]") → codes "[,]" ≡ (front ++ (91 ∷ separation)) ++ (inside ++ codes "]")
 joins o front separation inside e d = rw (d, e) refl
 
-pub comma_alone : (p : Properties) (nodes : Nodes) → IsFlowNode (Seq p nodes) false 0 (codes "[,]") → ⊥
-comma_alone p nodes (o, inside, (front, separation, b, s, e), i, d) =
-    opened front separation inside 0 (before p 0 front b) s (no_entry_begins_with_a_comma nodes 0 inside i) (joins o front separation inside e d)
+pub comma_alone : (room : ℕ) (p : Properties) (nodes : Nodes) → IsFlowNode room (Seq p nodes) false 0 (codes "[,]") → ⊥
+comma_alone room p nodes (left, o, inside, r, (front, separation, b, s, e), i, d) =
+    opened front separation inside 0 (before p 0 front b) s (no_entry_begins_with_a_comma left nodes 0 inside i) (joins o front separation inside e d)
 
-pub comma_first : (nodes : Nodes) (indent : ℕ) (t : List ℕ) → AreItems nodes indent (codes "," ++ t) → ⊥
-comma_first nodes indent t h = no_comma_first t (no_entry_begins_with_a_comma nodes indent (44 ∷ t) h)
+pub comma_first : (room : ℕ) (nodes : Nodes) (indent : ℕ) (t : List ℕ) → AreItems room nodes indent (codes "," ++ t) → ⊥
+comma_first room nodes indent t h = no_comma_first t (no_entry_begins_with_a_comma room nodes indent (44 ∷ t) h)
   where
     no_comma_first : (t : List ℕ) → ((44 ∷ t) ≡ []) ⊎ NoComma (44 ∷ t) → ⊥
     no_comma_first t (inl e) = cc
@@ -204,8 +192,8 @@ alias_key name (inr e) = cc
 pub colon_at_end : IsFirstWord false (codes "a:") → ⊥
 colon_at_end (h, b, x, y, z) = h.ink.2.1 refl refl
 
-pub marker_inside : (d : Document) (behind : List ℕ) → IsBareDocument IsBlockNode d (codes "a\n--- b") behind → ⊥
-marker_inside d behind (e, f, h) = cc
+pub marker_inside : (room : ℕ) (d : Document) (behind : List ℕ) → IsBareDocument (IsBlockNode room) d (codes "a\n--- b") behind → ⊥
+marker_inside room d behind (e, f, h) = cc
 
 pub two_versions : (major minor : ℕ) → AreCompatible (Version 1 2 ∷ Version major minor ∷ []) → ⊥
 two_versions major minor ((h, x), y) = h

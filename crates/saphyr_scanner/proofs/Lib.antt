@@ -36,7 +36,12 @@ pub mod JsonPieces
 pub mod JsonNodes
 pub mod JsonLeads
 pub mod LayoutExamples
+pub mod Beginnings
 pub mod LayoutRefused
+pub mod NearMisses
+pub mod AliasAlone
+pub mod OneForest
+pub mod FlowPart
 pub mod TakenExamples
 pub mod Counted
 pub mod QueueInOrder
@@ -45,3 +50,6 @@ pub mod OrderedScalars
 pub mod OrderedFetch
 pub mod RunInOrder
 pub mod ReadersCounted
+pub mod TakenTexts
+pub mod TakenBlocks
+pub mod TakenRefused

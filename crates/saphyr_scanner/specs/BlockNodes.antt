@@ -1,5 +1,5 @@
 -- Nodes in block style (YAML 1.2.2, chapter 8), in texts whose breaks are line feeds.
--- `behind` is what stands behind a piece, up to the text's end.
+-- `behind` is what stands behind a piece, up to the text's end; `room` is how many flow collections may be open at once.
 use Rattle.std.specs.Prelude.{◌≡◌, ◌≢◌, ℕ, suc, ◌+◌, ◌<◌, ◌≤◌, ◌⊎◌, Bool, true, false, List, [], ◌∷◌, ◌++◌, length, IsTrue, IsFalse, codes}
 use Rattle.saphyr_input.specs.Places.{is_document_indicator}
 use Rattle.saphyr_scalar.specs.declared.reading.block.BlockStyle.{BlockStyle}
@@ -80,9 +80,9 @@ abbrev pub IsLeftOut : Node → Place → List ℕ → List ℕ → Type 0
 IsLeftOut node place t behind = (node ≡ left_out) × IsFalse (is_start place) × IsEol t behind
 
 -- 8.2.3: a node in flow style, up to the end of its line
-abbrev pub IsFlowInBlock : Node → Place → List ℕ → List ℕ → Type 0
-IsFlowInBlock node place t behind =
-    (gap text end : List ℕ) × IsGapAt place gap × IsFlowNode node false (indent_at place) text × IsEol end behind × (t ≡ gap ++ (text ++ end))
+abbrev pub IsFlowInBlock : ℕ → Node → Place → List ℕ → List ℕ → Type 0
+IsFlowInBlock room node place t behind =
+    (gap text end : List ℕ) × IsGapAt place gap × IsFlowNode room node false (indent_at place) text × IsEol end behind × (t ≡ gap ++ (text ++ end))
 
 -- What may follow the lines of a block scalar whose content begins at column i: nothing, a document marker, a line left of
 -- the scalar, or a comment left of the content.
@@ -117,9 +117,9 @@ IsScalarInBlock p style value place t behind =
 -- Below, K and V hold of a place, of the text of a key or a value there, and of what stands behind it.
 
 -- 8.2.2: a key on one line, its colon at most 1,024 characters behind the key's start, and a value
-abbrev pub IsImplicitPair : Node → (Place → List ℕ → List ℕ → Type 0) → ℕ → List ℕ → List ℕ → Type 0
-IsImplicitPair key V m t behind =
-    (node between value : List ℕ) × IsFlowNode key false (suc m) node × IsOnLine node × AreSpaces 0 between × IsBeforeColon key between × (length (node ++ between) ≤ 1024) × V (BehindKey m) value behind × (t ≡ node ++ (between ++ (codes ":" ++ value)))
+abbrev pub IsImplicitPair : ℕ → Node → (Place → List ℕ → List ℕ → Type 0) → ℕ → List ℕ → List ℕ → Type 0
+IsImplicitPair room key V m t behind =
+    (node between value : List ℕ) × IsFlowNode room key false (suc m) node × IsOnLine node × AreSpaces 0 between × IsBeforeColon key between × (length (node ++ between) ≤ 1024) × V (BehindKey m) value behind × (t ≡ node ++ (between ++ (codes ":" ++ value)))
 
 -- 8.2.2: a `?` and a key, with no value
 abbrev pub IsKeyAlone : Node → (Place → List ℕ → List ℕ → Type 0) → ℕ → List ℕ → List ℕ → Type 0
@@ -134,8 +134,8 @@ abbrev pub IsMarkedPair : (Place → List ℕ → List ℕ → Type 0) → (Plac
 IsMarkedPair K V m t behind =
     (node colon value : List ℕ) × (node ≢ []) × K (BehindMark m) node (colon ++ (value ++ behind)) × IsValueMark m colon × V (BehindMark m) value behind × (t ≡ codes "?" ++ (node ++ (colon ++ value)))
 
-abbrev pub IsBlockPair : Node → Node → (Place → List ℕ → List ℕ → Type 0) → (Place → List ℕ → List ℕ → Type 0) → ℕ → List ℕ → List ℕ → Type 0
-IsBlockPair key value K V m t behind = IsImplicitPair key V m t behind ⊎ (IsKeyAlone value K m t behind ⊎ IsMarkedPair K V m t behind)
+abbrev pub IsBlockPair : ℕ → Node → Node → (Place → List ℕ → List ℕ → Type 0) → (Place → List ℕ → List ℕ → Type 0) → ℕ → List ℕ → List ℕ → Type 0
+IsBlockPair room key value K V m t behind = IsImplicitPair room key V m t behind ⊎ (IsKeyAlone value K m t behind ⊎ IsMarkedPair K V m t behind)
 
 -- ## Nodes
 
@@ -144,33 +144,33 @@ abbrev pub IsIndentation : ℕ → List ℕ → Type 0
 IsIndentation m t = (filler : List ℕ) × IsFiller filler × (t ≡ filler ++ spaces m)
 
 abbrev mutual
-  pub IsBlockNode : Node → Place → List ℕ → List ℕ → Type 0
-  IsBlockNode (Alias name) place t behind = IsFlowInBlock (Alias name) place t behind
-  IsBlockNode (Scalar p style value) place t behind =
-      IsLeftOut (Scalar p style value) place t behind ⊎ (IsFlowInBlock (Scalar p style value) place t behind ⊎ IsScalarInBlock p style value place t behind)
-  IsBlockNode (Seq p nodes) place t behind =
-      IsFlowInBlock (Seq p nodes) place t behind ⊎ ((m : ℕ) × (lead entries : List ℕ) × IsLead p place (sequence_indent_at place) m lead × AreEntries nodes m entries behind × (t ≡ lead ++ entries))
-  IsBlockNode (Map p pairs) place t behind =
-      IsFlowInBlock (Map p pairs) place t behind ⊎ ((m : ℕ) × (lead entries : List ℕ) × IsLead p place (indent_at place) m lead × ArePairs pairs m entries behind × (t ≡ lead ++ entries))
+  pub IsBlockNode : ℕ → Node → Place → List ℕ → List ℕ → Type 0
+  IsBlockNode room (Alias name) place t behind = IsFlowInBlock room (Alias name) place t behind
+  IsBlockNode room (Scalar p style value) place t behind =
+      IsLeftOut (Scalar p style value) place t behind ⊎ (IsFlowInBlock room (Scalar p style value) place t behind ⊎ IsScalarInBlock p style value place t behind)
+  IsBlockNode room (Seq p nodes) place t behind =
+      IsFlowInBlock room (Seq p nodes) place t behind ⊎ ((m : ℕ) × (lead entries : List ℕ) × IsLead p place (sequence_indent_at place) m lead × AreEntries room nodes m entries behind × (t ≡ lead ++ entries))
+  IsBlockNode room (Map p pairs) place t behind =
+      IsFlowInBlock room (Map p pairs) place t behind ⊎ ((m : ℕ) × (lead entries : List ℕ) × IsLead p place (indent_at place) m lead × ArePairs room pairs m entries behind × (t ≡ lead ++ entries))
 
   -- 8.2.1: the entries of a block sequence at column m, from the first `-` on
-  pub AreEntries : Nodes → ℕ → List ℕ → List ℕ → Type 0
-  AreEntries NoNode m t behind = ⊥
-  AreEntries (MoreNodes node nodes) m t behind =
-      (entry others : List ℕ) × IsBlockNode node (BehindDash m) entry (others ++ behind) × AreOtherEntries nodes m others behind × (t ≡ codes "-" ++ (entry ++ others))
+  pub AreEntries : ℕ → Nodes → ℕ → List ℕ → List ℕ → Type 0
+  AreEntries room NoNode m t behind = ⊥
+  AreEntries room (MoreNodes node nodes) m t behind =
+      (entry others : List ℕ) × IsBlockNode room node (BehindDash m) entry (others ++ behind) × AreOtherEntries room nodes m others behind × (t ≡ codes "-" ++ (entry ++ others))
 
-  pub AreOtherEntries : Nodes → ℕ → List ℕ → List ℕ → Type 0
-  AreOtherEntries NoNode m t behind = t ≡ []
-  AreOtherEntries (MoreNodes node nodes) m t behind =
-      (front entry others : List ℕ) × IsIndentation m front × IsBlockNode node (BehindDash m) entry (others ++ behind) × AreOtherEntries nodes m others behind × (t ≡ front ++ (codes "-" ++ (entry ++ others)))
+  pub AreOtherEntries : ℕ → Nodes → ℕ → List ℕ → List ℕ → Type 0
+  AreOtherEntries room NoNode m t behind = t ≡ []
+  AreOtherEntries room (MoreNodes node nodes) m t behind =
+      (front entry others : List ℕ) × IsIndentation m front × IsBlockNode room node (BehindDash m) entry (others ++ behind) × AreOtherEntries room nodes m others behind × (t ≡ front ++ (codes "-" ++ (entry ++ others)))
 
   -- 8.2.2: the pairs of a block mapping at column m, from the first key or `?` on
-  pub ArePairs : Pairs → ℕ → List ℕ → List ℕ → Type 0
-  ArePairs NoPair m t behind = ⊥
-  ArePairs (MorePairs key value pairs) m t behind =
-      (pair others : List ℕ) × IsBlockPair key value (IsBlockNode key) (IsBlockNode value) m pair (others ++ behind) × AreOtherPairs pairs m others behind × (t ≡ pair ++ others)
+  pub ArePairs : ℕ → Pairs → ℕ → List ℕ → List ℕ → Type 0
+  ArePairs room NoPair m t behind = ⊥
+  ArePairs room (MorePairs key value pairs) m t behind =
+      (pair others : List ℕ) × IsBlockPair room key value (IsBlockNode room key) (IsBlockNode room value) m pair (others ++ behind) × AreOtherPairs room pairs m others behind × (t ≡ pair ++ others)
 
-  pub AreOtherPairs : Pairs → ℕ → List ℕ → List ℕ → Type 0
-  AreOtherPairs NoPair m t behind = t ≡ []
-  AreOtherPairs (MorePairs key value pairs) m t behind =
-      (front pair others : List ℕ) × IsIndentation m front × IsBlockPair key value (IsBlockNode key) (IsBlockNode value) m pair (others ++ behind) × AreOtherPairs pairs m others behind × (t ≡ front ++ (pair ++ others))
+  pub AreOtherPairs : ℕ → Pairs → ℕ → List ℕ → List ℕ → Type 0
+  AreOtherPairs room NoPair m t behind = t ≡ []
+  AreOtherPairs room (MorePairs key value pairs) m t behind =
+      (front pair others : List ℕ) × IsIndentation m front × IsBlockPair room key value (IsBlockNode room key) (IsBlockNode room value) m pair (others ++ behind) × AreOtherPairs room pairs m others behind × (t ≡ front ++ (pair ++ others))

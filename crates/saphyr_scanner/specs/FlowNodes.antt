@@ -1,7 +1,7 @@
 -- Nodes in flow style (YAML 1.2.2, 6.9, 7.1, 7.4 and 7.5), in texts whose breaks are line feeds.
 -- `indent` is the first column to the right of the enclosing block collection, and 0 at the root; `in_flow` tells
--- whether a node stands inside brackets or braces.
-use Rattle.std.specs.Prelude.{◌≡◌, ◌≢◌, ℕ, ◌⊎◌, Bool, true, false, not, ◌==◌, List, [], ◌++◌, IsTrue, Option, Some, None, codes}
+-- whether a node stands inside brackets or braces; `room` is how many flow collections may still be opened.
+use Rattle.std.specs.Prelude.{◌≡◌, ◌≢◌, ℕ, suc, ◌⊎◌, Bool, true, false, not, ◌==◌, List, [], ◌++◌, IsTrue, Option, Some, None, codes}
 use Rattle.std.specs.List.{list_all}
 use Rattle.saphyr_input.specs.Classes.{is_blank, tab, line_feed}
 use Rattle.saphyr_scalar.specs.TagSpelling.{AreIn, IsAnchorName}
@@ -135,35 +135,39 @@ IsOpening p bracket indent t = (front separation : List ℕ) × IsBeforeContent 
 
 -- ## Nodes
 
+-- A collection in brackets or braces takes one of the room, and leaves the others to what is inside. A pair in brackets
+-- that has no braces of its own takes none.
 abbrev mutual
-  pub IsFlowNode : Node → Bool → ℕ → List ℕ → Type 0
-  IsFlowNode (Alias name) in_flow indent t = IsAlias name t
-  IsFlowNode (Scalar p style value) in_flow indent t = IsScalarNode p style value in_flow indent t
-  IsFlowNode (Seq p nodes) in_flow indent t = (opening inside : List ℕ) × IsOpening p (codes "[") indent opening × AreItems nodes indent inside × (t ≡ opening ++ (inside ++ codes "]"))
-  IsFlowNode (Map p pairs) in_flow indent t = (opening inside : List ℕ) × IsOpening p (codes "{") indent opening × AreFlowPairs pairs indent inside × (t ≡ opening ++ (inside ++ codes "}"))
+  pub IsFlowNode : ℕ → Node → Bool → ℕ → List ℕ → Type 0
+  IsFlowNode room (Alias name) in_flow indent t = IsAlias name t
+  IsFlowNode room (Scalar p style value) in_flow indent t = IsScalarNode p style value in_flow indent t
+  IsFlowNode room (Seq p nodes) in_flow indent t =
+      (left : ℕ) × (opening inside : List ℕ) × (room ≡ suc left) × IsOpening p (codes "[") indent opening × AreItems left nodes indent inside × (t ≡ opening ++ (inside ++ codes "]"))
+  IsFlowNode room (Map p pairs) in_flow indent t =
+      (left : ℕ) × (opening inside : List ℕ) × (room ≡ suc left) × IsOpening p (codes "{") indent opening × AreFlowPairs left pairs indent inside × (t ≡ opening ++ (inside ++ codes "}"))
 
   -- 7.4.1: the entries of a flow sequence: nodes, and mappings of one pair without braces
-  pub AreItems : Nodes → ℕ → List ℕ → Type 0
-  AreItems NoNode indent t = t ≡ []
-  AreItems (MoreNodes node nodes) indent t =
-      (item others : List ℕ) × (IsBeforeSeparation (IsFlowNode node true indent) indent item ⊎ IsPairItem node indent item) × AreOtherItems nodes indent others × (t ≡ item ++ others)
+  pub AreItems : ℕ → Nodes → ℕ → List ℕ → Type 0
+  AreItems room NoNode indent t = t ≡ []
+  AreItems room (MoreNodes node nodes) indent t =
+      (item others : List ℕ) × (IsBeforeSeparation (IsFlowNode room node true indent) indent item ⊎ IsPairItem room node indent item) × AreOtherItems room nodes indent others × (t ≡ item ++ others)
 
-  pub AreOtherItems : Nodes → ℕ → List ℕ → Type 0
-  AreOtherItems NoNode indent t = IsLastComma indent t
-  AreOtherItems (MoreNodes node nodes) indent t =
-      (comma item others : List ℕ) × IsComma indent comma × (IsBeforeSeparation (IsFlowNode node true indent) indent item ⊎ IsPairItem node indent item) × AreOtherItems nodes indent others × (t ≡ comma ++ (item ++ others))
+  pub AreOtherItems : ℕ → Nodes → ℕ → List ℕ → Type 0
+  AreOtherItems room NoNode indent t = IsLastComma indent t
+  AreOtherItems room (MoreNodes node nodes) indent t =
+      (comma item others : List ℕ) × IsComma indent comma × (IsBeforeSeparation (IsFlowNode room node true indent) indent item ⊎ IsPairItem room node indent item) × AreOtherItems room nodes indent others × (t ≡ comma ++ (item ++ others))
 
-  pub IsPairItem : Node → ℕ → List ℕ → Type 0
-  IsPairItem (Map p (MorePairs key value NoPair)) indent t = (p ≡ no_properties) × IsSinglePair key value (IsFlowNode key true indent) (IsFlowNode value true indent) indent t
-  IsPairItem _ indent t = ⊥
+  pub IsPairItem : ℕ → Node → ℕ → List ℕ → Type 0
+  IsPairItem room (Map p (MorePairs key value NoPair)) indent t = (p ≡ no_properties) × IsSinglePair key value (IsFlowNode room key true indent) (IsFlowNode room value true indent) indent t
+  IsPairItem room _ indent t = ⊥
 
   -- 7.4.2: the entries of a flow mapping
-  pub AreFlowPairs : Pairs → ℕ → List ℕ → Type 0
-  AreFlowPairs NoPair indent t = t ≡ []
-  AreFlowPairs (MorePairs key value pairs) indent t =
-      (pair others : List ℕ) × IsPair key value (IsFlowNode key true indent) (IsFlowNode value true indent) indent pair × AreOtherFlowPairs pairs indent others × (t ≡ pair ++ others)
+  pub AreFlowPairs : ℕ → Pairs → ℕ → List ℕ → Type 0
+  AreFlowPairs room NoPair indent t = t ≡ []
+  AreFlowPairs room (MorePairs key value pairs) indent t =
+      (pair others : List ℕ) × IsPair key value (IsFlowNode room key true indent) (IsFlowNode room value true indent) indent pair × AreOtherFlowPairs room pairs indent others × (t ≡ pair ++ others)
 
-  pub AreOtherFlowPairs : Pairs → ℕ → List ℕ → Type 0
-  AreOtherFlowPairs NoPair indent t = IsLastComma indent t
-  AreOtherFlowPairs (MorePairs key value pairs) indent t =
-      (comma pair others : List ℕ) × IsComma indent comma × IsPair key value (IsFlowNode key true indent) (IsFlowNode value true indent) indent pair × AreOtherFlowPairs pairs indent others × (t ≡ comma ++ (pair ++ others))
+  pub AreOtherFlowPairs : ℕ → Pairs → ℕ → List ℕ → Type 0
+  AreOtherFlowPairs room NoPair indent t = IsLastComma indent t
+  AreOtherFlowPairs room (MorePairs key value pairs) indent t =
+      (comma pair others : List ℕ) × IsComma indent comma × IsPair key value (IsFlowNode room key true indent) (IsFlowNode room value true indent) indent pair × AreOtherFlowPairs room pairs indent others × (t ≡ comma ++ (pair ++ others))

@@ -72,14 +72,23 @@ IsStream N forest t = (mark others : List ℕ) × ((mark ≡ []) ⊎ (mark ≡ b
 
 -- ## The layout grammar
 
+-- Below, at most `room` flow collections are open at once. Block collections are not counted.
+
+-- how many a parser takes
+abbrev pub most_open : ℕ
+most_open = 255
+
 -- on texts whose breaks are line feeds
-abbrev pub IsLayout : Forest → List ℕ → Type 0
-IsLayout forest t = IsStream IsBlockNode forest t
+abbrev pub IsLayout : ℕ → Forest → List ℕ → Type 0
+IsLayout room forest t = IsStream (IsBlockNode room) forest t
 
 -- the part of it in which each document's node is in flow style
-abbrev pub IsFlowLayout : Forest → List ℕ → Type 0
-IsFlowLayout forest t = IsStream IsFlowInBlock forest t
+abbrev pub IsFlowLayout : ℕ → Forest → List ℕ → Type 0
+IsFlowLayout room forest t = IsStream (IsFlowInBlock room) forest t
 
 -- 5.4: a text of the layout grammar, whatever its breaks are
-abbrev pub IsLayoutText : Forest → List ℕ → Type 0
-IsLayoutText forest t = IsLayout forest (normalized t)
+abbrev pub IsLayoutText : ℕ → Forest → List ℕ → Type 0
+IsLayoutText room forest t = IsLayout room forest (normalized t)
+
+abbrev pub IsFlowLayoutText : ℕ → Forest → List ℕ → Type 0
+IsFlowLayoutText room forest t = IsFlowLayout room forest (normalized t)

@@ -29,3 +29,4 @@ pub mod Remaining
 pub mod Engine
 pub mod TokensTaken
 pub mod SpansInOrder
+pub mod TakenTexts

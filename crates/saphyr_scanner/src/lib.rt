@@ -7,6 +7,7 @@ mod gap;
 pub mod law;
 mod queue;
 mod scanner;
+pub mod taken_law;
 #[cfg(test)]
 mod tests;
 mod token;

@@ -1,3 +1,4 @@
+use Rattle.saphyr_scanner.specs.Layout.{most_open}
 use Rattle.saphyr_scanner.proofs.LayoutExamples.{block_sequence, block_mapping, block_sequence_at_mapping, block_compact, block_explicit_key, block_properties, block_literal, block_folded, block_next_line, block_comment_left, block_indicator, block_explicit_collections}
 use Rattle.saphyr_scanner.proofs.examples_law.derives_block.Goals as goal
 
@@ -11,7 +12,7 @@ pub returns-clause-sequence_at_mapping : goal.returns-clause-sequence_at_mapping
 returns-clause-sequence_at_mapping c = block_sequence_at_mapping
 
 pub returns-clause-compact : goal.returns-clause-compact
-returns-clause-compact c = block_compact
+returns-clause-compact c = block_compact most_open
 
 pub returns-clause-explicit_key : goal.returns-clause-explicit_key
 returns-clause-explicit_key c = block_explicit_key

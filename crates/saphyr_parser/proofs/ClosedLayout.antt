@@ -1,0 +1,60 @@
+-- The line `---` is a text of the layout grammar with all premises, and so a closed beginning.
+use Rattle.std.specs.Prelude.{codes}
+use Rattle.std.proofs.Common.{◌≡◌, ℕ, Bool, true, false, List, [], ◌∷◌, Some, refl, inl, arith, ap, ◌∙◌}
+use Rattle.saphyr_scalar.specs.Spaces.{IsLineRest}
+use Rattle.saphyr_scanner.specs.Layout.{most_open, IsFlowLayoutText, IsLayoutText}
+use Rattle.saphyr_scanner.specs.Forest.{Forest}
+use Rattle.saphyr_scanner.proofs.FlowPart.{flow_part}
+use Rattle.saphyr_scanner.proofs.OneForest.{stands_for_one, one_forest}
+use Rattle.saphyr_parser.specs.Events as events
+use Rattle.saphyr_parser.specs.Events.{Happening}
+use Rattle.saphyr_parser.specs.ForestEvents.{events}
+use Rattle.saphyr_parser.specs.Examples as examples
+use Rattle.saphyr_parser.specs.Cursor.{Cursor, keeping_tags, to_come}
+use Rattle.saphyr_parser.specs.Exactly.{GivesExactly}
+use Rattle.saphyr_parser.specs.Premises.{IsClosed, IsPromised, Starts, GivesFirst}
+use Rattle.saphyr_parser.specs.Promises.{ReadsFlowLayout, ReadsLayout, ReadsClosedLayout}
+
+has_events : (keep : Bool) → events examples.start_forest keep ≡ Some examples.start_told
+has_events true = refl
+has_events false = refl
+
+pub promised : (keep : Bool) → IsPromised (IsLayoutText most_open) 100 keep examples.start_forest (codes "---\n") examples.start_told
+promised keep =
+    record {
+      stands_for = stands_for_one most_open;
+      within = omega arith;
+      has_events = has_events keep;
+      agree = λ forest h. ap (λ f. events f keep) (one_forest most_open forest h) ∙ has_events keep;
+    }
+
+pub closed : (keep : Bool) → IsClosed (IsLayoutText most_open) IsLineRest 100 keep (codes "---\n[") examples.start_events
+closed keep =
+    record {
+      front = codes "---\n";
+      others = codes "[";
+      begins = refl;
+      within = omega arith;
+      marker = Starts;
+      ends = ([], [], ([], [], (0, omega arith, refl), inl refl, refl), inl refl, refl);
+      forest = examples.start_forest;
+      told = examples.start_told;
+      promised = promised keep;
+      earlier = events.StreamStart ∷ [];
+      is_first = refl;
+      are_told = refl;
+    }
+
+pub gives_start : (parser : Cursor) (keep : Bool) → ReadsLayout 100 (codes "---\n") parser → GivesExactly examples.start_told (to_come (keeping_tags keep parser))
+gives_start parser keep r = r examples.start_forest keep examples.start_told (promised keep)
+
+pub gives_first : (parser : Cursor) (keep : Bool) → ReadsClosedLayout 100 (codes "---\n[") parser → GivesFirst examples.start_events (to_come (keeping_tags keep parser))
+gives_first parser keep r = r keep examples.start_events (closed keep)
+
+-- ## The part in flow style
+
+pub flow_promise :
+    (limit : ℕ) (text : List ℕ) (parser : Cursor) → ReadsFlowLayout limit text parser → (forest : Forest) (keep : Bool) (told : List Happening) → IsFlowLayoutText most_open forest text
+    → IsPromised (IsLayoutText most_open) limit keep forest text told → GivesExactly told (to_come (keeping_tags keep parser))
+flow_promise limit text parser r forest keep told f p =
+    r forest keep told (record { stands_for = f; within = p.within; has_events = p.has_events; agree = λ other h. p.agree other (flow_part most_open other text h) })

@@ -1,0 +1,24 @@
+-- The promises on texts of the layout grammar, and on all texts. Each is of a text and of a parser at its start.
+use Rattle.std.specs.Prelude.{ℕ, Bool, List}
+use Rattle.saphyr_scalar.specs.Spaces.{IsLineRest}
+use Rattle.saphyr_scanner.specs.Layout.{most_open, IsLayoutText, IsFlowLayoutText}
+use Rattle.saphyr_parser.specs.Cursor.{Cursor, keeping_tags, to_come}
+use Rattle.saphyr_parser.specs.EventsTaken.{AreTaken}
+use Rattle.saphyr_parser.specs.Premises.{ReadsEach, ReadsClosed}
+
+-- of every text: what comes is taken from it, whether prefixes of tags are kept or not
+abbrev pub TakesEvents : List ℕ → Cursor → Type 0
+TakesEvents text parser = (keep : Bool) → AreTaken keep text (to_come (keeping_tags keep parser))
+
+-- a text whose documents have nodes in flow style gives exactly its forest's events
+abbrev pub ReadsFlowLayout : ℕ → List ℕ → Cursor → Type 0
+ReadsFlowLayout limit text parser = ReadsEach (IsFlowLayoutText most_open) limit text parser
+
+-- each text of the layout grammar does
+abbrev pub ReadsLayout : ℕ → List ℕ → Cursor → Type 0
+ReadsLayout limit text parser = ReadsEach (IsLayoutText most_open) limit text parser
+
+-- Behind a beginning that a line of `---` or `...` closes, anything may follow. Behind the marker its line has spaces,
+-- and behind some spaces a comment.
+abbrev pub ReadsClosedLayout : ℕ → List ℕ → Cursor → Type 0
+ReadsClosedLayout limit text parser = ReadsClosed (IsLayoutText most_open) IsLineRest limit text parser

@@ -1,0 +1,14 @@
+use Rattle.saphyr_scanner.proofs.NearMisses.{tab_in_indentation, entry_left, key_over_lines, sequence_behind_key}
+use Rattle.saphyr_scanner.proofs.examples_law.refuses_in_block.Goals as goal
+
+pub returns-clause-tab_in_indentation : goal.returns-clause-tab_in_indentation
+returns-clause-tab_in_indentation c = tab_in_indentation
+
+pub returns-clause-entry_left : goal.returns-clause-entry_left
+returns-clause-entry_left c = entry_left
+
+pub returns-clause-key_over_lines : goal.returns-clause-key_over_lines
+returns-clause-key_over_lines c = key_over_lines
+
+pub returns-clause-sequence_behind_key : goal.returns-clause-sequence_behind_key
+returns-clause-sequence_behind_key c = sequence_behind_key

@@ -1,0 +1,18 @@
+use Rattle.saphyr_scanner.proofs.NearMisses.{dash_and_blank, indicator_first, two_digits, comment_without_blank}
+use Rattle.saphyr_scanner.proofs.AliasAlone.{alias_alone}
+use Rattle.saphyr_scanner.proofs.examples_law.refuses_scalars.Goals as goal
+
+pub returns-clause-dash_and_blank : goal.returns-clause-dash_and_blank
+returns-clause-dash_and_blank c = dash_and_blank
+
+pub returns-clause-indicator_first : goal.returns-clause-indicator_first
+returns-clause-indicator_first c = indicator_first
+
+pub returns-clause-two_digits : goal.returns-clause-two_digits
+returns-clause-two_digits c = two_digits
+
+pub returns-clause-comment_without_blank : goal.returns-clause-comment_without_blank
+returns-clause-comment_without_blank c = comment_without_blank
+
+pub returns-clause-alias_with_anchor : goal.returns-clause-alias_with_anchor
+returns-clause-alias_with_anchor c = alias_alone

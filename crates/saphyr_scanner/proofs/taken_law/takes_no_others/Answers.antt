@@ -1,0 +1,14 @@
+use Rattle.saphyr_scanner.proofs.TakenRefused.{dropped_word, other_value, other_start, place_behind}
+use Rattle.saphyr_scanner.proofs.taken_law.takes_no_others.Goals as goal
+
+pub returns-clause-dropped_word : goal.returns-clause-dropped_word
+returns-clause-dropped_word c = dropped_word
+
+pub returns-clause-other_value : goal.returns-clause-other_value
+returns-clause-other_value c = other_value
+
+pub returns-clause-other_start : goal.returns-clause-other_start
+returns-clause-other_start c = other_start
+
+pub returns-clause-place_behind : goal.returns-clause-place_behind
+returns-clause-place_behind c = place_behind

@@ -1,0 +1,37 @@
+//! Small texts and the tokens that are taken from them.
+ghost use Rattle.std.specs.Prelude.{codes};
+ghost use Rattle.saphyr_scanner.specs.TokensTaken.{AreTakenFrom, IsPlaceOf};
+ghost use Rattle.saphyr_scanner.specs.TakenTexts as texts;
+
+/// The tokens of texts in flow style, as a scanner gives them: a mapping with quoted scalars and a
+/// comment, and a sequence with an anchor and its alias.
+pub fn takes_flow()
+    ensures mapping { AreTakenFrom (codes "{'a': \"b\" # c\n}") texts.flow_mapping }
+    ensures alias { AreTakenFrom (codes "[&x a, *x]") texts.alias }
+{}
+
+/// The tokens of texts in block style: a sequence of mappings, a literal scalar, a folded one whose
+/// header gives its indentation, and a sequence with an anchor and its alias.
+pub fn takes_block()
+    ensures mappings { AreTakenFrom (codes "- a: b\n- c:\n") texts.block_mappings }
+    ensures alias { AreTakenFrom (codes "- &a b\n- *a") texts.block_alias }
+    ensures literal { AreTakenFrom (codes "--- |\n a\n") texts.literal }
+    ensures indentation { AreTakenFrom (codes "a: >1-\n  b\n c\n") texts.indentation }
+{}
+
+/// The tokens of streams: a directive with a tag, a byte order mark with the end of a document, and a
+/// text that is refused at its second colon.
+pub fn takes_streams()
+    ensures tag { AreTakenFrom (codes "%TAG !e! t:\n--- !e!u v\n") texts.tag }
+    ensures byte_order_mark { AreTakenFrom (codes "\u{feff}a\n...\n") texts.byte_order_mark }
+    ensures refusal { AreTakenFrom (codes "a: b: c") texts.refusal }
+{}
+
+/// What is not taken: `[a]` without the token of its `a`, `a` with the value `b`, and `[]` with a bracket
+/// whose span starts behind it. No place of a text stands behind its end.
+pub fn takes_no_others()
+    ensures dropped_word { ¬ AreTakenFrom (codes "[a]") texts.dropped_word }
+    ensures other_value { ¬ AreTakenFrom (codes "a") texts.other_value }
+    ensures other_start { ¬ AreTakenFrom (codes "[]") texts.other_start }
+    ensures place_behind { ¬ IsPlaceOf (codes "a") (texts.at 2 1 2) }
+{}
