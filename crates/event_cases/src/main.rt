@@ -23,6 +23,7 @@ mod tests;
 use case::{Case, parse_cases};
 use list_input::ListInput;
 use printing::line_of;
+use saphyr_parser::law::lists_characters;
 use saphyr_parser::{BufferedInput, Input, Parser};
 use std::alloc::{AllocError, Global};
 use std::{fs, io};
@@ -75,7 +76,9 @@ fn difference(alloc: Global, case: &Case) -> Result<Option<String>, AllocError> 
     if let Some(line) = wrong_line(alloc, case, Parser::new_from_str(alloc, text))? {
         return Ok(Some(format!(in alloc; "from a string: {line}")?));
     }
-    let buffered = BufferedInput::new(alloc, text.chars())?;
+    let iter = text.chars();
+    lists_characters(&iter);
+    let buffered = BufferedInput::new(alloc, iter)?;
     if let Some(line) = wrong_line(alloc, case, Parser::new(alloc, buffered))? {
         return Ok(Some(format!(in alloc; "from an iterator: {line}")?));
     }

@@ -8,7 +8,7 @@ ghost use Rattle.std.specs.Prelude.{◌≡◌, ◌≤◌, drop};
 mod tests;
 
 use saphyr_input::char_traits::is_yaml_non_break;
-use saphyr_input::input::Input;
+use saphyr_input::input::{CloneInput, Input};
 
 const WINDOW: usize = 8;
 
@@ -100,4 +100,10 @@ impl Input for ListInput<'_> {
     fn peek_opt(&self) -> Option<char> {
         self.rest.first().copied()
     }
+}
+
+impl CloneInput for ListInput<'_> {
+    ghost use Rattle.std.proofs.Common.{ap};
+
+    ghost faithful = { λ _ _ same. (ap (λ i. i.rest.now) same, ap (λ i. i.loaded) same) };
 }

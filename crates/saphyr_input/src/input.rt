@@ -5,6 +5,7 @@ ghost use Rattle.saphyr_input.specs.Classes as class;
 ghost use Rattle.saphyr_input.specs.Places as spec;
 
 pub mod buffered;
+pub mod cloning;
 pub mod str;
 
 use crate::char_traits::{is_yaml_non_break, is_yaml_non_space};
@@ -12,6 +13,7 @@ pub use crate::char_traits::{
     is_alpha, is_blank, is_blank_or_breakz, is_break, is_breakz, is_digit, is_flow, is_z,
 };
 pub use buffered::BufferedInput;
+pub use cloning::CloneInput;
 use std::alloc::AllocError;
 
 /// The characters of a text, which a scanner takes off the front.

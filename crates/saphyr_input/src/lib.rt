@@ -3,6 +3,7 @@
 
 pub mod char_traits;
 pub mod input;
+pub mod law;
 
 pub use input::str::StrInput;
-pub use input::{BufferedInput, Input, SkipTabs};
+pub use input::{BufferedInput, CloneInput, Input, SkipTabs};

@@ -14,7 +14,6 @@ pub mod DocumentSpans
 pub mod EventSpans
 pub mod Unroll
 pub mod Turns
-pub mod Handing
 pub mod JsonEvents
 pub mod Telling
 pub mod Remembering
@@ -49,3 +48,4 @@ pub mod Loading
 pub mod TakenExamples
 pub mod TakenEvents
 pub mod ClosedLayout
+pub mod Copies

@@ -1,5 +1,5 @@
 -- What one call of `load` has handed over.
-use Rattle.std.proofs.Common.{◌≡◌, ◌+◌, ◌<◌, List, [], ◌∷◌, ◌++◌, Bool, true, false, Result, Ok, Err, Option, Some, None, refl, sym, ap, ◌∙◌, subst, append_assoc, inl, inr, arith}
+use Rattle.std.proofs.Common.{◌≡◌, ◌<◌, List, [], ◌∷◌, ◌++◌, Bool, true, false, Result, Ok, Err, Option, Some, None, refl, sym, ap, ◌∙◌, subst, append_assoc, inl, inr, arith}
 use Rattle.std.specs.Prelude.{if◌then◌else◌, string_bytes}
 use Rattle.std.proofs.lemmas.List.{append-nil}
 use Rattle.saphyr_scalar.specs.declared.scalar.position.Span.{Span}

@@ -12,7 +12,7 @@ use Rattle.std.specs.declared.cmp.Ordering.TheVariants.{Less, Equal, Greater}
 use Rattle.saphyr_parser.specs.Machine.{Names, meaning, given, is_listed, listed}
 use Rattle.saphyr_parser.specs.Names.{ids_of, texts_of, names_of}
 
-abbrev seen : {A X Z : Type 0} → (X → Z) → List (String A × X) → Names Z
+abbrev pub seen : {A X Z : Type 0} → (X → Z) → List (String A × X) → Names Z
 seen {A} {X} {Z} f es = map (λ (e : String A × X). (string_bytes e.0, f e.1)) es
 
 chosen : {A X Z : Type 0} (f : X → Z) (o : Ordering) (a b c : List (String A × X)) → seen f (match_ordering o a b c) ≡ match_ordering o (seen f a) (seen f b) (seen f c)

@@ -26,6 +26,8 @@ ghost use Rattle.saphyr_scalar.specs.Spaces.{IsLineRest};
 ghost use Rattle.saphyr_scanner.specs.Layout.{IsFlowLayoutText, IsLayoutText, most_open};
 ghost use Rattle.saphyr_parser.specs.SpansWithin.{HasSpansWithin};
 
+pub use saphyr_input::law::lists_characters;
+
 /// A node comes in preorder, between the events of its document and of the stream.
 pub fn tells_nodes_in_preorder()
     ensures { events json_forest false ≡ Some examples.json_events }

@@ -2,6 +2,7 @@
 
 mod anchors;
 mod block;
+mod cloning;
 mod context;
 mod cursor;
 mod document;

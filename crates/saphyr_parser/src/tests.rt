@@ -1,4 +1,5 @@
-use crate::{Event, Fault, Input, Marker, Parser, ScanError, Span, StrInput};
+use crate::law::lists_characters;
+use crate::{CloneInput, Event, Fault, Input, Marker, Parser, ScanError, Span, StrInput};
 use std::alloc::{AllocError, Global};
 use std::test::Fail;
 
@@ -77,5 +78,71 @@ fn refuses_a_text_past_the_limit(rt: HostRuntime) -> Result<(), Fail> {
     let past = Parser::with_limit(alloc, StrInput::new("abcd"), 3);
     let fault = String::from_str(alloc, "text longer than 4294967295 characters")?;
     assert!(rt; events_and_fault(alloc, past)? == (1, Some(fault)));
+    Ok(())
+}
+
+type Item<'input> = Result<(Event<'input>, Span), Fault>;
+
+// What a parser has left to give.
+fn items_left<'input, T: Input + Drop>(
+    alloc: Global,
+    parser: Parser<'input, T>,
+) -> Result<Vec<Item<'input>>, AllocError> {
+    let mut items = Vec::new(alloc);
+    for item in parser {
+        items.push(item)?;
+    }
+    Ok(items)
+}
+
+// A parser has exactly these items left to give.
+fn gives<'input, T: Input + Drop>(parser: Parser<'input, T>, items: &[Item<'input>]) -> bool {
+    let mut expected = items.iter();
+    for item in parser {
+        if expected.next() != Some(&item) {
+            return false;
+        }
+    }
+    expected.next() == None
+}
+
+// A clone gives what the parser has left, and so does one that is made once the next item is peeked.
+fn clones_give<'input, T: CloneInput>(
+    parser: &mut Parser<'input, T>,
+    left: &[Item<'input>],
+) -> Result<bool, AllocError> {
+    let before = gives(parser.try_clone()?, left);
+    let shown = parser.peek().is_some();
+    let behind = gives(parser.try_clone()?, left);
+    Ok(before && shown && behind)
+}
+
+// At each place of the items a parser's clones give what is left, and leave the parser where it is.
+fn clones_everywhere<'input, T: CloneInput>(
+    mut parser: Parser<'input, T>,
+    items: &[Item<'input>],
+) -> Result<bool, AllocError> {
+    for (place, item) in items.iter().enumerate() {
+        let left = items.get(place..).unwrap_or(&[]);
+        if !clones_give(&mut parser, left)? || parser.next_event().as_ref() != Some(item) {
+            return Ok(false);
+        }
+    }
+    Ok(gives(parser, &[]))
+}
+
+#[test]
+fn clones_in_mid_text(rt: HostRuntime) -> Result<(), Fail> {
+    let alloc = rt.alloc();
+    // 18 events and a fault: the second document has a prefix of the first, and the third a fault.
+    let text = "%TAG !e! tag:e.org,2000:\n--- &a\n? - x\n: {[1] : *a}\n--- !e!b |-\n  c\n--- @";
+    let expected = items_left(alloc, Parser::new_from_str(alloc, text).keep_tags(true))?;
+    assert_eq!(rt; expected.len(), 19);
+    let of_text = Parser::new_from_str(alloc, text).keep_tags(true);
+    assert!(rt; clones_everywhere(of_text, expected.as_slice())?);
+    let iter = text.chars();
+    lists_characters(&iter);
+    let of_iter = Parser::new_from_iter(alloc, iter)?.keep_tags(true);
+    assert!(rt; clones_everywhere(of_iter, expected.as_slice())?);
     Ok(())
 }

@@ -1,3 +1,4 @@
+pub mod AlphaRuns
 pub mod AnchorsRead
 pub mod Choices
 pub mod Directives
@@ -49,6 +50,7 @@ pub mod ReadSpellings
 pub mod Runs
 pub mod Spelled
 pub mod SpelledLines
+pub mod SingleSpaces
 pub mod Spellings
 pub mod SpellingsRead
 pub mod Steps

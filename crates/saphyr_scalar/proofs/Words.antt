@@ -1,7 +1,6 @@
 -- The words of a plain scalar, read a piece at a time.
-use Rattle.std.proofs.Common.{◌≡◌, ℕ, ◌+◌, ◌<◌, ◌≤◌, Bool, true, false, List, [], ◌∷◌, ◌++◌, length, take, drop, length-drop, slice_index, get_or, refl, ap, ◌∙◌, arith, subst, encode_utf8_all, append_assoc, add-one, add-zero}
-use Rattle.std.specs.Prelude.{◌&&◌, ◌==◌, not, encode_utf8}
-use Rattle.std.proofs.lemmas.Bool.Decides.{nat_tests}
+use Rattle.std.proofs.Common.{◌≡◌, ℕ, ◌+◌, ◌<◌, Bool, true, false, List, [], ◌∷◌, ◌++◌, length, take, drop, length-drop, slice_index, get_or, refl, ap, ◌∙◌, arith, subst, encode_utf8_all, append_assoc, add-one, add-zero}
+use Rattle.std.specs.Prelude.{encode_utf8}
 use Rattle.std.proofs.lemmas.List.{append-nil, drop-drop, get_or-drop}
 use Rattle.std.proofs.lemmas.Str.{encodes-append}
 use Rattle.std.proofs.Math.Seq.{take-suc}
@@ -20,29 +19,6 @@ pub word_left : (f : Bool) (xs : List ℕ) → in_word f xs ≡ true → 0 < len
 unfolding in_word
 word_left f [] h = absurd (cc)
 word_left f (c ∷ cs) h = omega arith
-
--- a small letter goes on with a word
-pub letter_in_word : (f : Bool) (xs : List ℕ) → 97 ≤ slice_index xs 0 → slice_index xs 0 ≤ 122 → in_word f xs ≡ true
-unfolding in_word
-letter_in_word f xs low high =
-    let c = slice_index xs 0 in
-    let space : (c == 32) ≡ false = grind (arith, nat_tests) in
-    let tab : (c == 9) ≡ false = grind (arith, nat_tests) in
-    let feed : (c == 10) ≡ false = grind (arith, nat_tests) in
-    let return : (c == 13) ≡ false = grind (arith, nat_tests) in
-    let nul : (c == 0) ≡ false = grind (arith, nat_tests) in
-    let colon : (c == 58) ≡ false = grind (arith, nat_tests) in
-    let mark : (c == 65279) ≡ false = grind (arith, nat_tests) in
-    let comma : (c == 44) ≡ false = grind (arith, nat_tests) in
-    let opening : (c == 91) ≡ false = grind (arith, nat_tests) in
-    let closing : (c == 93) ≡ false = grind (arith, nat_tests) in
-    let left : (c == 123) ≡ false = grind (arith, nat_tests) in
-    let right : (c == 125) ≡ false = grind (arith, nat_tests) in
-    rw (space, tab, feed, return, nul, colon, mark, comma, opening, closing, left, right) (never f)
-  where
-    never : (f : Bool) → not (f && false) ≡ true
-    never true = refl
-    never false = refl
 
 pub none_ran : (f : Bool) (start : List ℕ) → WordRan f start start 0
 none_ran f start = record { run = omega arith; left = refl; total = omega arith }

@@ -1,6 +1,6 @@
 -- Plain scalars (YAML 1.2.2, 7.3.3).
 use Rattle.std.specs.Prelude.{ℕ, zero, suc, pred, ◌+◌, ◌-◌, Bool, true, false, ◌||◌, ◌&&◌, ◌==◌, not, nat_lt, List, [], ◌∷◌, ◌++◌, length, take, slice_index, Result, Ok, Option, Some, None, if◌then◌else◌, encode_utf8, encode_utf8_all}
-use Rattle.saphyr_input.specs.Classes.{is_z, is_break, is_blank, is_blank_or_breakz, is_flow, is_bom, tab, line_feed, carriage_return, space}
+use Rattle.saphyr_input.specs.Classes.{is_z, is_break, is_blank, is_blank_or_breakz, is_flow, is_alpha, is_bom, tab, line_feed, carriage_return, space}
 use Rattle.saphyr_input.specs.Places.{can_be_plain, is_document_indicator, is_blank_or_break}
 use Rattle.saphyr_scalar.specs.declared.scalar.position.Marker.{Marker}
 use Rattle.saphyr_scalar.specs.declared.scalar.fault.Refusal.{Refusal}
@@ -78,6 +78,14 @@ lines indent start tabbed feeds m (c ∷ cs) =
 -- a break before no empty line reads as a space, and another as its empty lines
 abbrev pub folded : Gap → Gap
 folded g = record g { text = if length g.text == 0 then space ∷ [] else g.text }
+
+-- what stands between two words reads as: a break before no empty line as a space
+abbrev pub gap_text : Bool → List ℕ → List ℕ
+gap_text over_lines text = if over_lines && (length text == 0) then space ∷ [] else text
+
+-- a space before a character that begins a word wherever it stands behind another on the line
+unfoldable pub is_single_space : List ℕ → Bool
+is_single_space xs = (slice_index xs 0 == space) && is_alpha (slice_index xs 1) && not (slice_index xs 1 == 45)
 
 -- a line behind a word's line begins
 abbrev pub next_lines : ℕ → Marker → Cursor → Result Gap Refusal

@@ -194,6 +194,10 @@ abbrev pub is_closing : Quote → List ℕ → Bool
 is_closing Single xs = (slice_index xs 0 == 39) && not (slice_index xs 1 == 39)
 is_closing Double xs = slice_index xs 0 == 34
 
+-- a space between two words of a line, or before the closing quote
+unfoldable pub is_single_space : List ℕ → Bool
+is_single_space xs = (slice_index xs 0 == 32) && not (is_blank_or_breakz (slice_index xs 1))
+
 -- what ends a word
 abbrev pub ends_word : Quote → List ℕ → Bool
 ends_word quote xs = is_blank_or_breakz (slice_index xs 0) || is_closing quote xs || is_escaped_break quote xs

@@ -1,12 +1,13 @@
 -- A comment among what stands between two tokens.
-use Rattle.std.proofs.Common.{◌≡◌, ℕ, ◌+◌, Bool, true, false, List, [], ◌∷◌, drop, get_or, refl, sym, ap, ◌∙◌, arith, nat_eq, suc, Result}
+use Rattle.std.proofs.Common.{◌≡◌, ℕ, ◌+◌, Bool, true, false, List, [], ◌∷◌, drop, get_or, slice_index, refl, sym, ap, ◌∙◌, arith, nat_eq, suc, Result, Ok}
+use Rattle.std.specs.Prelude.{◌||◌, ◌==◌}
 use Rattle.std.specs.List.{prefix_len}
 use Rattle.std.proofs.lemmas.Bool.Decides.{nat_tests}
-use Rattle.saphyr_input.specs.Classes.{is_blank, is_yaml_non_break}
+use Rattle.saphyr_input.specs.Classes.{is_blank, is_break, is_yaml_non_break}
 use Rattle.saphyr_scalar.specs.declared.scalar.position.Marker.{Marker}
 use Rattle.saphyr_scalar.specs.Cursor.{Cursor, along, pass_comment}
 use Rattle.saphyr_scalar.specs.declared.scalar.fault.Refusal.{Refusal}
-use Rattle.saphyr_scanner.specs.Gap.{Passed, gap, comment, gap_at, Spaced, spaces, line_comment, spaces_at}
+use Rattle.saphyr_scanner.specs.Gap.{Passed, stop, gap, comment, gap_at, pass_gap, Spaced, spaces, line_comment, spaces_at}
 
 along-zero : (m : Marker) → along m 0 ≡ m
 along-zero m = let i : m.index + 0 ≡ m.index = omega arith in let k : m.col + 0 ≡ m.col = omega arith in rw (i, k) refl
@@ -84,3 +85,25 @@ line_comment_passed space before read after all c first same passed sign known =
     go : (t : List ℕ) → get_or t 0 0 ≡ 35 → spaces (along before.mark (prefix_len is_yaml_non_break t)) before.blank_so_far space (drop (prefix_len is_yaml_non_break t) t) ≡ spaces before.mark before.blank_so_far space t
     go [] e = absurd (omega arith)
     go (c ∷ cs) e = rw e (sym (behind_line_sign cs (along before.mark 1) before.blank_so_far space ∙ spaces_further before.mark before.blank_so_far space (prefix_len is_yaml_non_break cs) 35 cs))
+
+right_false : (a b : Bool) → (a || b) ≡ false → b ≡ false
+right_false false b e = e
+right_false true b e = absurd cc
+
+left_false : (a b : Bool) → (a || b) ≡ false → a ≡ false
+left_false false b e = refl
+left_false true b e = absurd cc
+
+nothing : (least : ℕ) (m : Marker) (blank : Bool) (text : List ℕ) → is_blank (slice_index text 0) ≡ false → is_break (slice_index text 0) ≡ false → (slice_index text 0 == 35) ≡ false
+    → gap least m blank false false text ≡ Ok (record { cursor = record { rest = text; mark = m; blank_so_far = blank }; broke = false })
+unfolding stop
+nothing least m blank [] a b e = refl
+nothing least m blank (c ∷ cs) a b e =
+    let return : (c == 13) ≡ false = right_false (c == 10) (c == 13) b in
+    let feed : (c == 10) ≡ false = left_false (c == 10) (c == 13) b in
+    rw (a, return, feed, e) refl
+
+-- where a token stands right here, nothing is passed
+pub nothing_passed : (least : ℕ) (s t : Cursor) (c : ℕ) → c ≡ slice_index s.rest 0 → t ≡ s → is_blank c ≡ false → is_break c ≡ false → (c == 35) ≡ false → pass_gap least s ≡ Ok (record { cursor = t; broke = false })
+nothing_passed least s t c e same a b d =
+    nothing least s.mark s.blank_so_far s.rest (rw (sym e) a) (rw (sym e) b) (rw (sym e) d) ∙ ap (λ (u : Cursor). Ok (record { cursor = u; broke = false })) (sym same)

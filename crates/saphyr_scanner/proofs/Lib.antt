@@ -53,3 +53,4 @@ pub mod ReadersCounted
 pub mod TakenTexts
 pub mod TakenBlocks
 pub mod TakenRefused
+pub mod Copies

@@ -14,7 +14,7 @@ abbrev pub kind_of : TokenType → Kind
 kind_of code.StreamStart = tokens.StreamStart
 kind_of code.StreamEnd = tokens.StreamEnd
 kind_of (code.VersionDirective major minor) = tokens.VersionDirective major minor
-kind_of (code.TagDirective handle prefix) = tokens.TagDirective (string_bytes handle) (string_bytes prefix)
+kind_of (code.TagDirective tag) = tokens.TagDirective (string_bytes tag.value.handle) (string_bytes tag.value.prefix)
 kind_of (code.ReservedDirective name) = tokens.ReservedDirective (string_bytes name)
 kind_of code.DocumentStart = tokens.DocumentStart
 kind_of code.DocumentEnd = tokens.DocumentEnd
@@ -32,7 +32,7 @@ kind_of code.Key = tokens.Key
 kind_of code.Value = tokens.Value
 kind_of (code.Alias name) = tokens.Alias (string_bytes name)
 kind_of (code.Anchor name) = tokens.Anchor (string_bytes name)
-kind_of (code.Tag handle suffix) = tokens.Tag (string_bytes handle) (string_bytes suffix)
+kind_of (code.Tag tag) = tokens.Tag (string_bytes tag.value.handle) (string_bytes tag.value.suffix)
 kind_of (code.Scalar style value) = tokens.Scalar style (string_bytes value)
 
 -- a token with its span

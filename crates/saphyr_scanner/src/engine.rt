@@ -1,4 +1,5 @@
 mod block;
+mod cloning;
 mod document;
 mod fetch;
 mod flow;
@@ -9,7 +10,7 @@ mod property;
 mod scalar;
 mod value;
 
-ghost use Rattle.std.specs.Prelude.{◌≡◌, ℕ, ◌<◌, ◌≤◌, ◌^◌, length, Ok};
+ghost use Rattle.std.specs.Prelude.{◌≡◌, ℕ, ◌<◌, ◌≤◌, ◌^◌, length, Ok, OnOk};
 ghost use Rattle.saphyr_scanner.specs.Core as spec;
 ghost use Rattle.saphyr_scanner.specs.Passing as passing;
 ghost use Rattle.saphyr_scanner.specs.State as spec_state;
@@ -20,7 +21,7 @@ use crate::token::{Token, TokenType};
 pub(crate) use level::{Candidate, Context, Level};
 use saphyr_input::input::{Input, SkipTabs};
 use saphyr_scalar::{FaultText, Marker, Reader, Refusal, Span, Stop};
-use std::alloc::Global;
+use std::alloc::{AllocError, Global};
 
 /// What a scanner holds: the rest of the text, the tokens that were read and not handed out, and
 /// what is open.
@@ -102,25 +103,26 @@ impl<T: Input> Engine<T> {
     }
 
     // Puts a token from one place to another into the queue.
-    fn put(&mut self, start: Marker, end: Marker, kind: TokenType) -> Result<(), Stop>
-        ensures { Moves (λ _. state self.new) result (Ok (spec_state.acting (spec.from_to start end (kind_of kind)) (state self.old))) }
+    #[inline(always)]
+    fn put(&mut self, start: Marker, end: Marker, kind: TokenType) -> Result<(), AllocError>
+        ensures { OnOk result (state self.new ≡ spec_state.acting (spec.from_to start end (kind_of kind)) (state self.old)) }
     {
-        self.queue.put(Token {
-            span: Span::new(start, end),
-            kind,
-        })
+        let span = Span::new(start, end);
+        self.queue.put(self.alloc, Token { span, kind })
     }
 
     // Puts a token without characters into the queue.
-    fn put_empty(&mut self, mark: Marker, kind: TokenType) -> Result<(), Stop>
-        ensures { Moves (λ _. state self.new) result (Ok (spec_state.acting (spec.at_mark mark (kind_of kind)) (state self.old))) }
+    #[inline(always)]
+    fn put_empty(&mut self, mark: Marker, kind: TokenType) -> Result<(), AllocError>
+        ensures { OnOk result (state self.new ≡ spec_state.acting (spec.at_mark mark (kind_of kind)) (state self.old)) }
     {
         self.put(mark, mark, kind)
     }
 
     // Puts a token that ends here into the queue.
-    fn put_from(&mut self, start: Marker, kind: TokenType) -> Result<(), Stop>
-        ensures { Moves (λ _. state self.new) result (Ok (spec_state.acting (spec.up_to_here start (kind_of kind) (state self.old).core) (state self.old))) }
+    #[inline(always)]
+    fn put_from(&mut self, start: Marker, kind: TokenType) -> Result<(), AllocError>
+        ensures { OnOk result (state self.new ≡ spec_state.acting (spec.up_to_here start (kind_of kind) (state self.old).core) (state self.old)) }
     {
         let end = self.reader.mark();
         self.put(start, end, kind)
@@ -150,9 +152,10 @@ impl<T: Input> Engine<T> {
     fn check_comment(&mut self) -> Result<(), Stop>
         ensures { Moves (λ _. state self.new) result (spec_state.carried (passing.check_comment (state self.old).core) (state self.old).queue) }
     {
-        let Some(comment) = self.comment.take() else {
+        let Some(comment) = self.comment else {
             return Ok(());
         };
+        self.comment = None;
         if self.goes_on_behind(comment) {
             return Err(Self::refuse(FaultText::CommentInsideText, comment));
         }

@@ -36,11 +36,8 @@ fn end_gap<T: Input>(
     Ok(broke)
 }
 
-// Passes blanks, breaks and comments, and tells whether a break was met.
-//
-// A tab left of the column `least` is refused where content stands behind it on its line.
-
-pub(crate) fn skip_gap<T: Input>(reader: &mut Reader<T>, least: usize) -> Result<bool, Refusal>
+// The same, character by character.
+fn skip_gap_characters<T: Input>(reader: &mut Reader<T>, least: usize) -> Result<bool, Refusal>
     ensures { Gives (λ broke. record { cursor = state reader.new; broke = broke }) result (spec.pass_gap least (state reader.old)) }
 {
     let mut broke = false;
@@ -60,6 +57,21 @@ pub(crate) fn skip_gap<T: Input>(reader: &mut Reader<T>, least: usize) -> Result
             return end_gap(reader, c, broke, tabbed);
         }
     }
+}
+
+// Passes blanks, breaks and comments, and tells whether a break was met.
+//
+// A tab left of the column `least` is refused where content stands behind it on its line.
+#[inline]
+pub(crate) fn skip_gap<T: Input>(reader: &mut Reader<T>, least: usize) -> Result<bool, Refusal>
+    ensures { Gives (λ broke. record { cursor = state reader.new; broke = broke }) result (spec.pass_gap least (state reader.old)) }
+{
+    // Most often the next token stands right here.
+    let c = reader.look();
+    if is_blank(c) || is_break(c) || c == '#' {
+        return skip_gap_characters(reader, least);
+    }
+    Ok(false)
 }
 
 // Passes spaces, breaks and comments, and tells whether a space or a break was met.

@@ -4,6 +4,7 @@
 mod engine;
 pub mod examples_law;
 mod gap;
+mod held_span;
 pub mod law;
 mod queue;
 mod scanner;
@@ -13,4 +14,4 @@ mod tests;
 mod token;
 
 pub use scanner::Scanner;
-pub use token::{Token, TokenType};
+pub use token::{TagPrefix, Token, TokenType};

@@ -1,9 +1,12 @@
-ghost use Rattle.std.specs.Prelude.{◌≡◌, Ok, length};
+mod cloning;
+
+ghost use Rattle.std.specs.Prelude.{◌≡◌, Ok, OnOk, length};
 ghost use Rattle.saphyr_scanner.specs.Queue as spec;
 
+use crate::held_span::HeldSpan;
 use crate::token::{Token, TokenType};
 use saphyr_scalar::{Span, Stop};
-use std::alloc::Global;
+use std::alloc::{AllocError, Global};
 use std::collections::VecDeque;
 
 /// What stands in front of a token: nothing, or the tokens that make it a key.
@@ -18,8 +21,9 @@ pub(crate) enum Opening {
 /// A token, and what stands in front of it.
 #[derive(Drop)]
 pub(crate) struct Place {
+    kind: TokenType,
+    span: HeldSpan,
     opening: Opening,
-    token: Token,
 }
 
 /// The tokens that were read and not handed out, in places that are numbered from the text's start.
@@ -70,12 +74,14 @@ impl Queue {
     }
 
     /// Puts a token at the end.
-    pub(crate) fn put(&mut self, token: Token) -> Result<(), Stop>
-        ensures { Moves (λ _. queue self.new) result (Ok (spec.put (piece token) (queue self.old))) }
+    #[inline(always)]
+    pub(crate) fn put(&mut self, alloc: Global, token: Token) -> Result<(), AllocError>
+        ensures { OnOk result (queue self.new ≡ spec.put (piece token) (queue self.old)) }
     {
         self.places.push_back(Place {
+            span: HeldSpan::new(alloc, token.span)?,
+            kind: token.kind,
             opening: Opening::Nothing,
-            token,
         })?;
         Ok(())
     }
@@ -91,6 +97,7 @@ impl Queue {
     }
 
     // Takes the first place off, and gives its token.
+    #[inline(always)]
     fn take_place(&mut self) -> Result<Option<Token>, Stop>
         ensures { Moves (λ t. (option_map piece t, queue self.new)) result (Ok (spec.take_place (queue self.old))) }
     {
@@ -101,17 +108,22 @@ impl Queue {
             return Ok(None);
         };
         self.handed = handed;
-        Ok(Some(place.token))
+        let span = place.span.span();
+        Ok(Some(Token {
+            span,
+            kind: place.kind,
+        }))
     }
 
     /// Takes the first token off.
+    #[inline(always)]
     pub(crate) fn take(&mut self) -> Result<Option<Token>, Stop>
         ensures { Moves (λ t. (option_map piece t, queue self.new)) result (Ok (spec.take (queue self.old))) }
     {
         let Some(place) = self.places.front_mut() else {
             return Ok(None);
         };
-        let span = Span::empty(place.token.span.start);
+        let span = Span::empty(place.span.start());
         let (kind, left) = match place.opening {
             Opening::Nothing => return self.take_place(),
             Opening::Key => (TokenType::Key, Opening::Nothing),

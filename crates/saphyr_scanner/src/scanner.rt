@@ -6,12 +6,12 @@ ghost use Rattle.saphyr_scanner.specs.SpansInOrder.{AreInOrder};
 use crate::engine::Engine;
 use crate::law::orders_spans;
 use crate::token::Token;
-use saphyr_input::input::Input;
+use saphyr_input::input::{CloneInput, Input};
 use saphyr_scalar::Stop;
 use saphyr_scalar::scalar::{
     takes_anchor, takes_block_scalar, takes_directive, takes_plain, takes_quoted, takes_tag,
 };
-use std::alloc::Global;
+use std::alloc::{AllocError, Global};
 use std::marker::Model;
 
 /// The tokens of a text, one after the other.
@@ -64,5 +64,19 @@ impl<T: Input> Scanner<T> {
         takes_directive();
         self.engine.fill(self.limit)?;
         self.engine.take()
+    }
+}
+
+impl<T: CloneInput> Scanner<T> {
+    ghost use Rattle.std.specs.Prelude.{IfOk};
+
+    /// A scanner of its own with the same tokens still to give, unless memory runs out.
+    pub fn try_clone(&self) -> Result<Self, AllocError>
+        ensures { IfOk result (λ copy. copy ≡ self.now) }
+    {
+        Ok(Scanner {
+            engine: self.engine.try_clone()?,
+            limit: self.limit,
+        })
     }
 }

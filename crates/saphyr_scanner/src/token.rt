@@ -1,9 +1,20 @@
+mod cloning;
+
+use saphyr_scalar::scalar::TagParts;
 use saphyr_scalar::{ScalarStyle, Span};
+
+/// The handle of a tag directive and the prefix that it stands for.
+#[derive(Clone, Debug, PartialEq, Eq, Drop)]
+pub struct TagPrefix {
+    pub handle: String,
+    pub prefix: String,
+}
 
 /// What a token is.
 ///
 /// A tag and a tag directive have the handle as it is written, which is empty for `!` and
-/// `!<uri>`; percent escapes in suffixes and prefixes are decoded.
+/// `!<uri>`; percent escapes in suffixes and prefixes are decoded. Both are boxed, so that the
+/// tokens that are held in great numbers stay small.
 #[derive(Debug, PartialEq, Eq, Drop)]
 pub enum TokenType {
     StreamStart,
@@ -11,7 +22,7 @@ pub enum TokenType {
     /// The two numbers of a version directive.
     VersionDirective(u32, u32),
     /// The handle and the prefix of a tag directive.
-    TagDirective(String, String),
+    TagDirective(Box<TagPrefix>),
     /// The name of a reserved directive.
     ReservedDirective(String),
     /// The marker `---`.
@@ -33,7 +44,7 @@ pub enum TokenType {
     Alias(String),
     Anchor(String),
     /// The handle and the suffix of a tag.
-    Tag(String, String),
+    Tag(Box<TagParts>),
     Scalar(ScalarStyle, String),
 }
 

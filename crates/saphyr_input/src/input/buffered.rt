@@ -49,8 +49,9 @@ pub struct BufferedInput<I: Iterator<Item = char>> {
 }
 
 impl<I: Iterator<Item = char>> BufferedInput<I> {
-    /// An input over the items of the iterator, which are to be one list up to the first `None`.
-    /// The iterator is not called yet. An error says that there was no memory for the loaded places.
+    /// An input over the items of the iterator, which are to be one list up to the first `None`, as
+    /// those of a text's `chars` are by the law `lists_characters`. The iterator is not called yet.
+    /// An error says that there was no memory for the loaded places.
     pub fn new(alloc: Global, iter: I) -> Result<Self, AllocError>
         requires { Listed I.can_next I.next_gives iter }
         ensures rest { (xs : List ℕ) → Lists I.can_next I.next_gives iter xs → IfOk result (λ input. ⟦<BufferedInput<I> as Input>⟧.rest input ≡ take 4294967296 xs) }

@@ -2,7 +2,7 @@ ghost use Rattle.std.specs.Prelude.{◌≡◌, ℕ, Ok, string_bytes};
 ghost use Rattle.saphyr_parser.specs.Machine as spec;
 
 use saphyr_scalar::Stop;
-use std::alloc::Global;
+use std::alloc::{AllocError, Global};
 use std::collections::BTreeMap;
 use std::marker::Model;
 
@@ -25,6 +25,7 @@ impl Model for Anchors {
 }
 
 impl Anchors {
+    ghost use Rattle.std.specs.Prelude.{IfOk};
     ghost use Rattle.saphyr_scalar.specs.Seen.{Moves};
 
     pub fn new(alloc: Global) -> Anchors
@@ -60,5 +61,16 @@ impl Anchors {
         ensures { result ≡ spec.meaning name.now self.now.ids }
     {
         self.ids.get(name).copied()
+    }
+
+    #[tactic(auto, using(crate::proofs::Copies::ids_copied))]
+    /// The same names with the same ids.
+    pub fn try_clone(&self) -> Result<Anchors, AllocError>
+        ensures { IfOk result (λ copy. copy ≡ self.now) }
+    {
+        Ok(Anchors {
+            ids: self.ids.clone()?,
+            last: self.last,
+        })
     }
 }

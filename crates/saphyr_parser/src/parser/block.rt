@@ -29,6 +29,7 @@ impl<T: Input> Machine<T> {
     }
 
     // The node behind a `-`.
+    #[inline(always)]
     #[tactic(auto, unfolding(crate::specs::BlockSteps::sequence_node))]
     fn block_sequence_node<'input>(&mut self, dash: Span) -> Result<(Event<'input>, Span), Stop>
         ensures { Moves (told_of (machine_of self.new)) result (spec.sequence_node dash (machine_of self.old)) }

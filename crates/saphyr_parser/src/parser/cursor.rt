@@ -11,7 +11,7 @@ use crate::parser::event::Event;
 use crate::parser::fault::Fault;
 use crate::parser::reader::Reader;
 use crate::parser::receiver::SpannedEventReceiver;
-use saphyr_input::input::Input;
+use saphyr_input::input::{CloneInput, Input};
 use saphyr_input::{BufferedInput, StrInput};
 use saphyr_scalar::Span;
 use saphyr_scanner::Scanner;
@@ -86,6 +86,7 @@ impl<'input, T: Input> Parser<'input, T> {
     }
 
     /// Hands out the next event, and where a fault ends the events that fault, once.
+    #[inline(always)]
     pub fn next_event(&mut self) -> Option<Result<(Event<'input>, Span), Fault>>
         ensures hands { spec.Hands result (spec.to_come self.old) (spec.to_come self.new) }
         ensures remembers { spec.Remembers result self.old self.new }
@@ -125,6 +126,22 @@ impl<'input, T: Input> Parser<'input, T> {
     }
 }
 
+impl<'input, T: CloneInput> Parser<'input, T> {
+    /// A parser of its own at the same place of the events: with the same events still to come, one that was
+    /// peeked included, and the same setting of `keep_tags`. Advancing one doesn't move the other.
+    ///
+    /// All of what was read and not handed out is copied, and the input by its `clone`: over an iterator
+    /// both read on from their own copies of it. Want of memory is the only error, and leaves this parser
+    /// as it was.
+    pub fn try_clone(&self) -> Result<Self, AllocError>
+        ensures { IfOk result (λ copy. copy ≡ self.now) }
+    {
+        Ok(Parser {
+            reader: self.reader.try_clone()?,
+        })
+    }
+}
+
 impl<'input> Parser<'input, StrInput<'input>> {
     /// The events of a text in memory, which is refused past 4,294,967,295 characters.
     #[must_use]
@@ -139,7 +156,8 @@ impl<'input> Parser<'input, StrInput<'input>> {
 
 impl<'input, I: Iterator<Item = char>> Parser<'input, BufferedInput<I>> {
     /// The events of the characters that an iterator gives up to its first `None`, which are refused past
-    /// 4,294,967,295. They are to be one list; the iterator is not called yet.
+    /// 4,294,967,295. They are to be one list, as those of a text's `chars` are by the law `lists_characters`;
+    /// the iterator is not called yet.
     ///
     /// An error says that there was no memory for a window on the characters.
     pub fn new_from_iter(alloc: Global, iter: I) -> Result<Self, AllocError>

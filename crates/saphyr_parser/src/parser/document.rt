@@ -9,7 +9,7 @@ use crate::parser::machine::{Machine, refuse};
 use crate::parser::state::State;
 use saphyr_input::input::Input;
 use saphyr_scalar::{FaultText, Marker, Span, Stop};
-use saphyr_scanner::{Token, TokenType};
+use saphyr_scanner::{TagPrefix, Token, TokenType};
 use std::alloc::Global;
 
 fn is_mark(kind: &TokenType) -> bool
@@ -125,7 +125,8 @@ impl<T: Input> Machine<T> {
         let Token { span, kind } = token;
         match kind {
             TokenType::VersionDirective(_major, _minor) => declared.add_version(span.start),
-            TokenType::TagDirective(handle, prefix) => {
+            TokenType::TagDirective(tag) => {
+                let TagPrefix { handle, prefix } = Box::into_inner(tag);
                 self.tag_directive(handle, prefix, span.start, declared)
             }
             _ => Ok(()),

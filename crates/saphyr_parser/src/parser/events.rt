@@ -37,6 +37,7 @@ impl<T: Input> Machine<T> {
         }
     }
 
+    #[inline(always)]
     #[tactic(auto, unfolding(crate::specs::Steps::block_node))]
     fn block_node<'input>(&mut self) -> Result<(Event<'input>, Span), Stop>
         ensures { Moves (told_of (machine_of self.new)) result (spec.block_node (machine_of self.old)) }
@@ -53,6 +54,7 @@ impl<T: Input> Machine<T> {
     }
 
     // Reads the next event, if there is one.
+    #[inline(always)]
     #[tactic(auto, using(crate::proofs::Turns::reads, crate::proofs::Turns::is_over, crate::proofs::Turns::refused))]
     pub(super) fn read<'input>(&mut self) -> Option<Result<(Event<'input>, Span), Fault>>
         ensures reads { Reads result (remaining (machine_of self.old)) (remaining (machine_of self.new)) }
@@ -68,6 +70,7 @@ impl<T: Input> Machine<T> {
     }
 
     // The next event.
+    #[inline(never)]
     #[tactic(auto, unfolding(crate::specs::Steps::step))]
     pub(super) fn event<'input>(&mut self) -> Result<(Event<'input>, Span), Stop>
         requires { (machine_of self.old).state ≢ End }

@@ -15,6 +15,7 @@ impl<T: Input> Machine<T> {
     ghost use Rattle.saphyr_parser.specs.Seen.{machine_of, told_of};
 
     // The first entry of a flow sequence, or the one behind a comma, or the end of the sequence.
+    #[inline(always)]
     #[tactic(auto, unfolding(crate::specs::FlowSteps::first_entry))]
     pub(super) fn flow_sequence_first_entry<'input>(
         &mut self,
@@ -36,6 +37,7 @@ impl<T: Input> Machine<T> {
     }
 
     // The comma before an entry of a flow sequence, with the entry, or the end of the sequence.
+    #[inline(always)]
     #[tactic(auto, unfolding(crate::specs::FlowSteps::other_entry))]
     pub(super) fn flow_sequence_entry<'input>(&mut self) -> Result<(Event<'input>, Span), Stop>
         ensures { Moves (told_of (machine_of self.new)) result (spec.other_entry (machine_of self.old)) }
@@ -127,6 +129,7 @@ impl<T: Input> Machine<T> {
     }
 
     // The comma before a pair of a flow mapping, with its key, or the end of the mapping.
+    #[inline(always)]
     #[tactic(auto, unfolding(crate::specs::FlowSteps::other_pair))]
     pub(super) fn flow_mapping_key<'input>(&mut self) -> Result<(Event<'input>, Span), Stop>
         ensures { Moves (told_of (machine_of self.new)) result (spec.other_pair (machine_of self.old)) }
@@ -142,6 +145,7 @@ impl<T: Input> Machine<T> {
         }
     }
 
+    #[inline(always)]
     #[tactic(auto, unfolding(crate::specs::FlowSteps::pair_behind_comma))]
     fn flow_mapping_pair_behind_comma<'input>(
         &mut self,
@@ -154,6 +158,7 @@ impl<T: Input> Machine<T> {
     }
 
     // A pair begins with the token, or the mapping ends there, and its end has the span.
+    #[inline(always)]
     fn flow_mapping_pair<'input>(
         &mut self,
         end: Span,
@@ -177,6 +182,7 @@ impl<T: Input> Machine<T> {
     }
 
     // The node behind a key's token.
+    #[inline(always)]
     #[tactic(auto, unfolding(crate::specs::FlowSteps::key_node))]
     fn flow_key_node<'input>(&mut self) -> Result<(Event<'input>, Span), Stop>
         ensures { Moves (told_of (machine_of self.new)) result (spec.key_node (machine_of self.old)) }
@@ -192,6 +198,7 @@ impl<T: Input> Machine<T> {
     }
 
     // The value of a pair of a flow mapping.
+    #[inline(always)]
     #[tactic(auto, unfolding(crate::specs::FlowSteps::mapping_value))]
     pub(super) fn flow_mapping_value<'input>(&mut self) -> Result<(Event<'input>, Span), Stop>
         ensures { Moves (told_of (machine_of self.new)) result (spec.mapping_value (machine_of self.old)) }
@@ -205,6 +212,7 @@ impl<T: Input> Machine<T> {
     }
 
     // The node behind a value's token.
+    #[inline(always)]
     #[tactic(auto, unfolding(crate::specs::FlowSteps::value_node))]
     fn flow_value_node<'input>(&mut self, colon: Span) -> Result<(Event<'input>, Span), Stop>
         ensures { Moves (told_of (machine_of self.new)) result (spec.value_node colon (machine_of self.old)) }

@@ -34,17 +34,31 @@ pub(super) fn refuse(text: FaultText, mark: Marker) -> Stop
 }
 
 impl<T: Input> Machine<T> {
-    ghost use Rattle.std.specs.Prelude.{IfOk};
+    ghost use Rattle.std.specs.Prelude.{IfOk, IfNone, IfSome, Ok};
     ghost use Rattle.saphyr_scalar.specs.Seen.{Moves};
     ghost use Rattle.saphyr_scanner.specs.Seen.{piece};
     ghost use Rattle.saphyr_parser.specs.Seen.{machine_of, happening, told_of};
+
+    // Takes the token that was put back, if one was.
+    #[inline(always)]
+    fn take_back(&mut self) -> Option<Token>
+        ensures taken { IfSome result (λ t. spec.take (machine_of self.old) ≡ Ok (piece t, machine_of self.new)) }
+        ensures room { self.new.token ≡ None }
+        ensures same { IfNone result (self.new ≡ self.old) }
+    {
+        // Most often none was, and a test costs less than a move.
+        if self.token.is_none() {
+            return None;
+        }
+        self.token.take()
+    }
 
     // Takes the next token.
     pub(super) fn take(&mut self) -> Result<Token, Stop>
         ensures taken { Moves (λ t. (piece t, machine_of self.new)) result (spec.take (machine_of self.old)) }
         ensures room { IfOk result (λ t. self.new.token ≡ None) }
     {
-        if let Some(token) = self.token.take() {
+        if let Some(token) = self.take_back() {
             return Ok(token);
         }
         match self.scanner.next_token()? {
@@ -61,6 +75,7 @@ impl<T: Input> Machine<T> {
     }
 
     // Leaves the token to be read again.
+    #[inline(always)]
     pub(super) fn put_back(&mut self, token: Token)
         requires { self.old.token ≡ None }
         ensures { machine_of self.new ≡ spec.put_back (piece token) (machine_of self.old) }
@@ -69,6 +84,7 @@ impl<T: Input> Machine<T> {
     }
 
     // Goes back to what is expected behind the node that has ended.
+    #[inline(always)]
     #[tactic(auto, using(crate::proofs::Stacks::top_off))]
     pub(super) fn pop(&mut self)
         ensures moved { machine_of self.new ≡ spec.pop (machine_of self.old) }
@@ -81,6 +97,7 @@ impl<T: Input> Machine<T> {
     }
 
     // What is expected behind the node that begins.
+    #[inline(always)]
     #[tactic(auto, using(crate::proofs::Stacks::top_on))]
     pub(super) fn push(&mut self, state: State) -> Result<(), Stop>
         ensures moved { Moves (λ _. machine_of self.new) result (Ok (spec.push state (machine_of self.old))) }
@@ -91,6 +108,7 @@ impl<T: Input> Machine<T> {
     }
 
     // The event of a node that is left out.
+    #[inline(always)]
     pub(super) fn empty_scalar<'input>(&self) -> Event<'input>
         ensures { happening result ≡ spec.empty_scalar }
     {
@@ -103,6 +121,7 @@ impl<T: Input> Machine<T> {
     }
 
     // A node is left out before the token.
+    #[inline(always)]
     pub(super) fn left_out<'input>(
         &mut self,
         token: Token,

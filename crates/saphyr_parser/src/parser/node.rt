@@ -7,6 +7,7 @@ use crate::parser::machine::{Machine, refuse};
 use crate::parser::state::State;
 use crate::parser::tag::Tag;
 use saphyr_input::input::Input;
+use saphyr_scalar::scalar::TagParts;
 use saphyr_scalar::{FaultText, Marker, ScalarStyle, Span, Stop};
 use saphyr_scanner::{Token, TokenType};
 use std::borrow::CowStr;
@@ -25,6 +26,7 @@ impl Properties {
     ghost use Rattle.saphyr_parser.specs.NodeSeen.{properties};
 
     // No properties, at a place.
+    #[inline(always)]
     fn none(place: Marker) -> Properties
         ensures { properties result ≡ spec.no_properties place }
     {
@@ -36,6 +38,7 @@ impl Properties {
         }
     }
 
+    #[inline(always)]
     fn has_any(&self) -> bool
         ensures { result ≡ spec.has_property (properties self.now) }
     {
@@ -43,6 +46,7 @@ impl Properties {
     }
 
     // From the properties up to a place.
+    #[inline(always)]
     fn up_to(&self, place: Marker) -> Span
         ensures { result ≡ spec.up_to (properties self.now) place }
     {
@@ -79,6 +83,7 @@ impl<T: Input> Machine<T> {
         Ok((Event::Scalar(text, ScalarStyle::Plain, anchor, tag), span))
     }
 
+    #[inline(always)]
     fn open_sequence<'input>(
         &mut self,
         state: State,
@@ -93,6 +98,7 @@ impl<T: Input> Machine<T> {
         (Event::SequenceStart(anchor, tag), span)
     }
 
+    #[inline(always)]
     fn open_mapping<'input>(
         &mut self,
         state: State,
@@ -108,6 +114,7 @@ impl<T: Input> Machine<T> {
     }
 
     // The content of a node begins with the token.
+    #[inline(always)]
     #[tactic(auto, unfolding(crate::specs::NodeSteps::content))]
     fn content<'input>(
         &mut self,
@@ -191,8 +198,8 @@ impl<T: Input> Machine<T> {
             tag: None,
         };
         match kind {
-            TokenType::Tag(handle, suffix) => {
-                properties.tag = Some(self.resolve(handle, suffix, anchor.start)?);
+            TokenType::Tag(tag) => {
+                properties.tag = Some(self.resolve(Box::into_inner(tag), anchor.start)?);
                 properties.behind = span.end;
                 self.next_content(properties, context)
             }
@@ -204,14 +211,13 @@ impl<T: Input> Machine<T> {
     #[tactic(auto, unfolding(crate::specs::NodeSteps::behind_tag))]
     fn behind_tag<'input>(
         &mut self,
-        handle: String,
-        suffix: String,
+        tag: TagParts,
         place: Span,
         context: Context,
     ) -> Result<(Event<'input>, Span), Stop>
-        ensures { Moves (told_of (machine_of self.new)) result (spec.behind_tag (string_bytes handle) (string_bytes suffix) place context (machine_of self.old)) }
+        ensures { Moves (told_of (machine_of self.new)) result (spec.behind_tag (string_bytes tag.handle) (string_bytes tag.suffix) place context (machine_of self.old)) }
     {
-        let tag = self.resolve(handle, suffix, place.start)?;
+        let tag = self.resolve(tag, place.start)?;
         let Token { span, kind } = self.take()?;
         let mut properties = Properties {
             start: place.start,
@@ -230,6 +236,7 @@ impl<T: Input> Machine<T> {
     }
 
     // A node begins with the token.
+    #[inline(always)]
     #[tactic(auto, unfolding(crate::specs::NodeSteps::node))]
     pub(super) fn node<'input>(
         &mut self,
@@ -243,12 +250,13 @@ impl<T: Input> Machine<T> {
         match kind {
             TokenType::Alias(name) => self.alias(name.as_str(), span),
             TokenType::Anchor(name) => self.behind_anchor(name, span, context),
-            TokenType::Tag(handle, suffix) => self.behind_tag(handle, suffix, span, context),
+            TokenType::Tag(tag) => self.behind_tag(Box::into_inner(tag), span, context),
             kind => self.content(Properties::none(span.start), context, Token { span, kind }),
         }
     }
 
     // A node inside a collection, which goes on in the state behind it.
+    #[inline(always)]
     pub(super) fn inside<'input>(
         &mut self,
         state: State,

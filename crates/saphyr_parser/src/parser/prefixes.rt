@@ -59,4 +59,14 @@ impl Prefixes {
             None => Ok(None),
         }
     }
+
+    #[tactic(auto, using(crate::proofs::Copies::texts_copied))]
+    /// The same prefixes for the same handles.
+    pub fn try_clone(&self) -> Result<Prefixes, AllocError>
+        ensures { IfOk result (λ copy. copy ≡ self.now) }
+    {
+        Ok(Prefixes {
+            declared: self.declared.clone()?,
+        })
+    }
 }

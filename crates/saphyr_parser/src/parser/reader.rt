@@ -40,6 +40,7 @@ impl<'input, T: Input> Reader<'input, T> {
     }
 
     // Reads one event ahead, or the fault in place of it.
+    #[inline(always)]
     pub(super) fn look(&mut self)
         ensures stays { spec.Stays (spec.to_come (cursor self.old)) (spec.to_come (cursor self.new)) }
         ensures looked { IfNone self.new.current (spec.to_come (cursor self.new) ≡ spec.told (cursor self.new).kept) }
@@ -76,6 +77,7 @@ impl<'input, T: Input> Reader<'input, T> {
     }
 
     // Remembers what an event says of the place between events that stands behind it.
+    #[inline(always)]
     pub(super) fn remember(&mut self, event: &Event<'input>, span: Span)
         ensures { cursor self.new ≡ spec.remembered (happening event.now) span (cursor self.old) }
     {
@@ -118,17 +120,42 @@ impl<'input, T: Input> Reader<'input, T> {
         Some(Err(copy))
     }
 
-    /// Hands out the next event.
-    pub(super) fn next_event(&mut self) -> Option<Result<(Event<'input>, Span), Fault>>
+    // Hands out what was read ahead: an event, or the fault in place of it.
+    fn next_ahead(&mut self) -> Option<Result<(Event<'input>, Span), Fault>>
+        requires { IfNone self.old.current (spec.IsKept (cursor self.old).kept) }
         ensures hands { spec.Hands result (spec.to_come (cursor self.old)) (spec.to_come (cursor self.new)) }
         ensures remembers { spec.Remembers result (cursor self.old) (cursor self.new) }
         ensures given { spec.IsGiven result (cursor self.new).kept }
     {
-        self.look();
         if let Some((event, span)) = self.current.take() {
             self.remember(&event, span);
             return Some(Ok((event, span)));
         }
         self.give_fault()
+    }
+
+    /// Hands out the next event.
+    #[inline(always)]
+    pub(super) fn next_event(&mut self) -> Option<Result<(Event<'input>, Span), Fault>>
+        ensures hands { spec.Hands result (spec.to_come (cursor self.old)) (spec.to_come (cursor self.new)) }
+        ensures remembers { spec.Remembers result (cursor self.old) (cursor self.new) }
+        ensures given { spec.IsGiven result (cursor self.new).kept }
+    {
+        if self.current.is_some() || self.kept.is_some() {
+            return self.next_ahead();
+        }
+        match self.machine.read()? {
+            Ok((event, span)) => {
+                self.remember(&event, span);
+                Some(Ok((event, span)))
+            }
+            Err(fault) => {
+                self.kept = Some(Kept {
+                    fault,
+                    given: false,
+                });
+                self.give_fault()
+            }
+        }
     }
 }

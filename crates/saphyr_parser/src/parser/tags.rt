@@ -4,6 +4,7 @@ ghost use Rattle.saphyr_parser.specs.TagSteps as spec;
 use crate::parser::machine::{Machine, refuse};
 use crate::parser::tag::Tag;
 use saphyr_input::input::Input;
+use saphyr_scalar::scalar::TagParts;
 use saphyr_scalar::{FaultText, Marker, Stop};
 
 // Whether the handle has a word, and so has to be declared.
@@ -40,9 +41,10 @@ impl<T: Input> Machine<T> {
 
     // The tag with its prefix in place of the handle.
     #[tactic(auto, unfolding(crate::specs::TagSteps::resolved))]
-    pub(super) fn resolve(&self, handle: String, suffix: String, place: Marker) -> Result<Tag, Stop>
-        ensures { Moves resolved_tag result (spec.resolved self.now.prefixes (string_bytes handle) (string_bytes suffix) place) }
+    pub(super) fn resolve(&self, tag: TagParts, place: Marker) -> Result<Tag, Stop>
+        ensures { Moves resolved_tag result (spec.resolved self.now.prefixes (string_bytes tag.handle) (string_bytes tag.suffix) place) }
     {
+        let TagParts { handle, suffix } = tag;
         let handle = self.prefix_of(handle, place)?;
         Ok(Tag { handle, suffix })
     }

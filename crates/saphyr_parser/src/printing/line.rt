@@ -20,9 +20,12 @@ pub(super) fn write_line<W: Write>(out: &mut W, event: &Event<'_>) -> Result<(),
         Event::DocumentStart(_) => write_all(out, b"+DOC\n"),
         Event::DocumentEnd => write_all(out, b"-DOC\n"),
         Event::Alias(id) => write_alias(out, *id),
+        Event::Scalar(text, style, 0, None) => write_bare_scalar(out, text, *style),
         Event::Scalar(text, style, id, tag) => write_scalar(out, text, *style, *id, tag),
+        Event::SequenceStart(0, None) => write_all(out, b"+SEQ\n"),
         Event::SequenceStart(id, tag) => write_start(out, b"+SEQ", *id, tag),
         Event::SequenceEnd => write_all(out, b"-SEQ\n"),
+        Event::MappingStart(0, None) => write_all(out, b"+MAP\n"),
         Event::MappingStart(id, tag) => write_start(out, b"+MAP", *id, tag),
         Event::MappingEnd => write_all(out, b"-MAP\n"),
     }
@@ -51,6 +54,36 @@ fn write_scalar<W: Write>(
     write_all(out, mark(style))?;
     write_escaped(out, text.as_bytes())?;
     write_all(out, b"\n")
+}
+
+// Writes the line of a scalar without properties.
+fn write_bare_scalar<W: Write>(out: &mut W, text: &str, style: ScalarStyle) -> Result<(), Unwritten>
+    ensures { Takes result (W.contents out.old) (W.contents out.new) (codes "=VAL " ++ printed.mark style ++ (printed.escaped text.now ++ codes "\n")) }
+{
+    write_text(out, bare_mark(style), text)
+}
+
+// Writes a scalar's text behind what stands before it, and ends the line.
+#[tactic(auto, using(crate::proofs::Written::takes_three, crate::proofs::Written::loses_first, crate::proofs::Written::loses_second))]
+fn write_text<W: Write>(out: &mut W, front: &[u8], text: &str) -> Result<(), Unwritten>
+    ensures { Takes result (W.contents out.old) (W.contents out.new) (front.now ++ (printed.escaped text.now ++ codes "\n")) }
+{
+    write_all(out, front)?;
+    write_escaped(out, text.as_bytes())?;
+    write_all(out, b"\n")
+}
+
+// What stands before the text of a scalar without properties.
+fn bare_mark(style: ScalarStyle) -> &'static [u8]
+    ensures { result.now ≡ codes "=VAL " ++ printed.mark style }
+{
+    match style {
+        ScalarStyle::Plain => b"=VAL :",
+        ScalarStyle::SingleQuoted => b"=VAL '",
+        ScalarStyle::DoubleQuoted => b"=VAL \"",
+        ScalarStyle::Literal => b"=VAL |",
+        ScalarStyle::Folded => b"=VAL >",
+    }
 }
 
 // What stands between a scalar's properties and its text.

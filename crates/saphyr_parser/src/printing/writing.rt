@@ -37,11 +37,12 @@ pub(super) fn write_number<W: Write>(out: &mut W, number: u128) -> Result<(), Un
     write_all(out, &digit)
 }
 
-// Whether a byte of a scalar's text is escaped.
+// Whether a byte of a scalar's text may be escaped. Some rare bytes that are not are taken for one too.
+#[inline]
 fn is_escaped(byte: u8) -> bool
     ensures { result ≡ false → escape byte ≡ byte ∷ [] }
 {
-    matches!(byte, b'\\' | b'\n' | b'\r' | b'\t' | 8)
+    byte <= b'\r' || byte == b'\\'
 }
 
 // The bytes before the first that is escaped, and the others.

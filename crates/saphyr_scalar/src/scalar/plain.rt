@@ -1,5 +1,6 @@
-ghost use Rattle.std.specs.Prelude.{◌≡◌, ℕ, ◌<◌, ◌≤◌, List, length, slice_index, string_bytes, Ok, false, true};
+ghost use Rattle.std.specs.Prelude.{◌≡◌, ℕ, ◌<◌, ◌≤◌, List, ◌++◌, length, slice_index, string_bytes, Ok, OnOk, false, true, if◌then◌else◌};
 ghost use Rattle.saphyr_input.specs.Places.{is_blank_or_break};
+ghost use Rattle.saphyr_scalar.specs.Cursor as cursor;
 ghost use Rattle.saphyr_scalar.specs.Plain as spec;
 
 #[cfg(test)]
@@ -7,10 +8,12 @@ mod tests;
 
 use crate::scalar::fault::{FaultText, Refusal, Stop};
 use crate::scalar::position::Marker;
-use crate::scalar::reader::Reader;
-use saphyr_input::char_traits::{is_blank, is_blank_or_breakz, is_bom, is_break, is_flow, is_z};
+use crate::scalar::reader::{FIRST_ROOM, Reader};
+use saphyr_input::char_traits::{
+    is_alpha, is_blank, is_blank_or_breakz, is_bom, is_break, is_flow, is_z,
+};
 use saphyr_input::input::Input;
-use std::alloc::Global;
+use std::alloc::{AllocError, Global};
 
 /// The text of a plain scalar, and how it ended.
 #[derive(Debug, PartialEq, Eq, Drop)]
@@ -31,10 +34,23 @@ fn is_white(c: char) -> bool
     is_blank(c) || is_break(c)
 }
 
+// Moves what a gap between two words reads as to the end of a text: a break before no empty line
+// is a space.
+#[inline]
+fn push_gap(text: &mut String, over_lines: bool, gap: &str) -> Result<(), AllocError>
+    ensures { OnOk result (string_bytes text.new ≡ string_bytes text.old ++ spec.gap_text over_lines gap.now) }
+{
+    if over_lines && gap.is_empty() {
+        return text.push(' ');
+    }
+    text.push_str(gap)
+}
+
 impl<T: Input> Reader<T> {
     ghost use Rattle.saphyr_scalar.specs.Seen.{state, loaded, Gives, Moves};
 
     // Whether a word of a plain scalar begins here.
+    #[inline(always)]
     #[tactic(auto, unfolding(crate::specs::Plain::word_starts))]
     fn plain_word_starts(&mut self, in_flow: bool) -> Result<bool, Refusal>
         ensures { Gives (λ starts. (starts, state self.new)) result (spec.word_starts in_flow (state self.old)) }
@@ -54,8 +70,8 @@ impl<T: Input> Reader<T> {
     }
 
     // Whether a word goes on with c, the first character.
-    #[inline]
-    #[tactic(auto, using(crate::proofs::Words::letter_in_word), unfolding(crate::specs::Plain::in_word))]
+    #[inline(always)]
+    #[tactic(auto, unfolding(crate::specs::Plain::in_word))]
     fn is_in_plain_word(&mut self, c: char, in_flow: bool) -> bool
         requires first { c ≡ slice_index (state self.old).rest 0 }
         requires loaded { 1 ≤ loaded self.old }
@@ -63,10 +79,6 @@ impl<T: Input> Reader<T> {
         ensures same { state self.new ≡ state self.old }
         ensures loaded { 1 ≤ loaded self.new }
     {
-        // Most characters of words are small letters.
-        if matches!(c, 'a'..='z') {
-            return true;
-        }
         if c == ':' {
             self.load(2);
             let next = self.input.peek_nth(1);
@@ -80,12 +92,16 @@ impl<T: Input> Reader<T> {
         ensures { Moves (λ _. (string_bytes text.new, state self.new)) result (Ok (spec.with_word in_flow (string_bytes text.old) (state self.old))) }
     {
         let mut count = 0;
-        let mut c = self.look();
-        while self.is_in_plain_word(c, in_flow) {
+        loop {
+            // All characters of such a run are in a word.
+            count += self.input.fetch_while_is_alpha(text)?;
+            let c = self.look();
+            if !self.is_in_plain_word(c, in_flow) {
+                break;
+            }
             text.push(c)?;
             self.input.skip();
             count += 1;
-            c = self.look();
         }
         self.mark = self.mark.along(count);
         self.blank_so_far = false;
@@ -162,8 +178,27 @@ impl<T: Input> Reader<T> {
         Ok(tabbed)
     }
 
-    // Takes off what stands behind a word, and puts what it reads as between two words in place of
-    // a text. Gives whether a tab stands in the indentation of the line that is reached.
+    // Takes off a single space, if one stands here before a character with which another word of
+    // the line begins.
+    #[inline]
+    #[tactic(auto, unfolding(crate::specs::Plain::is_single_space))]
+    fn skip_single_space(&mut self) -> bool
+        ensures value { result ≡ spec.is_single_space (state self.old).rest }
+        ensures state { state self.new ≡ (if result then cursor.pass_blanks 1 (state self.old) else state self.old) }
+    {
+        self.load(2);
+        let next = self.input.peek_nth(1);
+        let single = self.input.peek() == ' ' && is_alpha(next) && next != '-';
+        if single {
+            self.skip_blank();
+        }
+        single
+    }
+
+    // Takes off what stands behind a word, and puts it in place of a text: its blanks, or a line
+    // feed for each empty line. Gives whether a tab stands in the indentation of the line that is
+    // reached.
+    #[inline]
     #[tactic(auto, unfolding(crate::specs::Plain::gap, crate::specs::Plain::gap_from))]
     fn read_plain_gap(
         &mut self,
@@ -171,7 +206,7 @@ impl<T: Input> Reader<T> {
         start: Marker,
         gap: &mut String,
     ) -> Result<bool, Stop>
-        ensures { Moves (λ tabbed. record { text = string_bytes gap.new; tabbed = tabbed; behind = state self.new }) result (spec.gap indent start (state self.old)) }
+        ensures { Moves (λ tabbed. record { text = spec.gap_text (state self.new).blank_so_far (string_bytes gap.new); tabbed = tabbed; behind = state self.new }) result (spec.gap indent start (state self.old)) }
     {
         gap.clear();
         self.read_blanks(gap)?;
@@ -180,14 +215,11 @@ impl<T: Input> Reader<T> {
         }
         gap.clear();
         self.skip_line_break();
-        let tabbed = self.skip_empty_lines(indent, start, gap)?;
-        if gap.is_empty() {
-            gap.push(' ')?;
-        }
-        Ok(tabbed)
+        self.skip_empty_lines(indent, start, gap)
     }
 
     // Whether another word of a plain scalar begins behind a gap.
+    #[inline(always)]
     #[tactic(auto, unfolding(crate::specs::Plain::goes_on))]
     fn plain_goes_on(&mut self, in_flow: bool, indent: usize) -> Result<bool, Refusal>
         ensures { Gives (λ goes_on. (goes_on, state self.new)) result (spec.goes_on in_flow indent (state self.old)) }
@@ -199,6 +231,7 @@ impl<T: Input> Reader<T> {
     }
 
     // The comment behind a scalar that keeps it from going on in the next line.
+    #[inline(always)]
     #[tactic(auto, unfolding(crate::specs::Plain::comment_of))]
     fn plain_comment(&mut self, in_flow: bool, tabbed: bool) -> Option<Marker>
         ensures value { result ≡ spec.comment_of in_flow tabbed (state self.old) }
@@ -254,17 +287,21 @@ impl<T: Input> Reader<T> {
                 mark: start,
             }));
         }
-        let mut text = String::new(alloc);
+        let mut text = String::with_capacity(alloc, FIRST_ROOM)?;
         let mut gap = String::new(alloc);
         loop {
             self.read_plain_word(in_flow, &mut text)?;
             let end = self.mark;
+            if self.skip_single_space() {
+                text.push(' ')?;
+                continue;
+            }
             let tabbed = self.read_plain_gap(indent, start, &mut gap)?;
             if !self.plain_goes_on(in_flow, indent)? {
                 let comment = self.plain_comment(in_flow, tabbed);
                 return Ok(PlainScalar { text, end, comment });
             }
-            text.push_str(gap.as_str())?;
+            push_gap(&mut text, self.blank_so_far, gap.as_str())?;
         }
     }
 }

@@ -1,12 +1,13 @@
-ghost use Rattle.std.specs.Prelude.{◌≡◌, ℕ, Bool, true, false, ◌==◌, ◌++◌, ◌<◌, ◌≤◌, length, slice_index, string_bytes, encode_utf8_all, Ok, OnOk, IsTrue};
+ghost use Rattle.std.specs.Prelude.{◌≡◌, ℕ, Bool, true, false, ◌==◌, ◌++◌, ◌<◌, ◌≤◌, length, slice_index, string_bytes, encode_utf8_all, Ok, OnOk, IsTrue, if◌then◌else◌};
 ghost use Rattle.saphyr_input.specs.Classes as class;
+ghost use Rattle.saphyr_scalar.specs.Cursor as cursor;
 ghost use Rattle.saphyr_scalar.specs.Quoted as spec;
 ghost use Rattle.saphyr_scalar.specs.FlowReading as flow;
 
 use crate::reading::Quote;
 use crate::scalar::fault::{FaultText, Refusal, Stop};
 use crate::scalar::position::Marker;
-use crate::scalar::reader::Reader;
+use crate::scalar::reader::{FIRST_ROOM, Reader};
 use saphyr_input::char_traits::{is_blank, is_blank_or_breakz, is_break, is_z};
 use saphyr_input::input::Input;
 use std::alloc::{AllocError, Global};
@@ -45,12 +46,16 @@ impl<T: Input> Reader<T> {
         ensures { Moves (λ _. (string_bytes text.new, state self.new)) result (Ok (spec.with_run (spec.is_literal quote) (string_bytes text.old) (state self.old))) }
     {
         let mut count = 0;
-        let mut c = self.input.look_ch();
-        while is_literal(quote, c) {
+        loop {
+            // All characters of such a run stand for themselves.
+            count += self.input.fetch_while_is_alpha(text)?;
+            let c = self.input.look_ch();
+            if !is_literal(quote, c) {
+                break;
+            }
             text.push(c)?;
             self.input.skip();
             count += 1;
-            c = self.input.look_ch();
         }
         self.mark = self.mark.along(count);
         self.blank_so_far = false;
@@ -58,6 +63,7 @@ impl<T: Input> Reader<T> {
     }
 
     // Moves the blanks inside a text to its end.
+    #[inline(always)]
     pub(crate) fn read_blanks(&mut self, text: &mut String) -> Result<(), Stop>
         ensures { Moves (λ _. (string_bytes text.new, state self.new)) result (Ok (spec.with_run class.is_blank (string_bytes text.old) (state self.old))) }
     {
@@ -97,8 +103,23 @@ impl<T: Input> Reader<T> {
         }
     }
 
-    // Moves what stands up to a blank, a break, escaped or not, the closing quote, NUL or the end to
-    // the end of a text, with its escapes resolved.
+    // Takes off a single space, if one stands here before another word or the closing quote.
+    #[inline]
+    #[tactic(auto, unfolding(crate::specs::Quoted::is_single_space))]
+    fn skip_quoted_space(&mut self) -> bool
+        ensures value { result ≡ spec.is_single_space (state self.old).rest }
+        ensures state { state self.new ≡ (if result then cursor.pass_blanks 1 (state self.old) else state self.old) }
+    {
+        self.load(2);
+        let single = self.input.peek() == ' ' && !is_blank_or_breakz(self.input.peek_nth(1));
+        if single {
+            self.skip_blank();
+        }
+        single
+    }
+
+    // Moves words, and the single spaces between them, to the end of a text, with their escapes
+    // resolved: up to a blank, a break, escaped or not, the closing quote, NUL or the end.
     fn read_quoted_word(
         &mut self,
         quote: Quote,
@@ -111,6 +132,10 @@ impl<T: Input> Reader<T> {
     {
         loop {
             self.read_literals(quote, text)?;
+            if self.skip_quoted_space() {
+                text.push(' ')?;
+                continue;
+            }
             let Some(c) = self.read_quoted_special(quote, start)? else {
                 return Ok(());
             };
@@ -245,7 +270,9 @@ impl<T: Input> Reader<T> {
     {
         let start = self.mark;
         self.skip_non_blank();
-        let mut text = String::new(alloc);
+        let is_empty = self.look() == quote.mark();
+        let room = if is_empty { 0 } else { FIRST_ROOM };
+        let mut text = String::with_capacity(alloc, room)?;
         let mut blanks = String::new(alloc);
         loop {
             self.read_quoted_word(quote, start, &mut text)?;

@@ -4,7 +4,12 @@ ghost use Rattle.saphyr_scalar.specs.Cursor as spec;
 use crate::scalar::fault::{FaultText, Refusal};
 use crate::scalar::position::Marker;
 use saphyr_input::char_traits::is_bom;
-use saphyr_input::input::{Input, SkipTabs};
+use saphyr_input::input::{CloneInput, Input, SkipTabs};
+use std::alloc::AllocError;
+
+/// How many bytes a scalar's text has room for at first. Most scalars need no more, and a smaller
+/// piece of memory costs as much.
+pub(crate) const FIRST_ROOM: usize = 24;
 
 /// The characters of a text, and the place that is reached in it.
 ///
@@ -118,6 +123,7 @@ impl<T: Input> Reader<T> {
     }
 
     /// Takes off the break that stands first, if one does: CR LF, CR or LF.
+    #[inline]
     pub fn skip_line_break(&mut self)
         ensures { state self.new ≡ spec.pass_break (state self.old) }
     {
@@ -132,6 +138,7 @@ impl<T: Input> Reader<T> {
     }
 
     // The place behind a break that was taken off.
+    #[inline]
     fn start_line(&mut self, count: usize)
         requires { (state self.old).mark.index + count + length (state self.old).rest < 2 ^ 64 }
         ensures { state self.new ≡ spec.begin_line count (state self.old) }
@@ -164,6 +171,7 @@ impl<T: Input> Reader<T> {
     ///
     /// A `#` before which no blank was taken begins no comment, and a byte order mark that does
     /// not begin the line has no place here: both are refused where they stand.
+    #[inline(always)]
     #[tactic(auto, using(crate::proofs::Lengths::separation_within), unfolding(crate::specs::Cursor::separation, crate::specs::Cursor::behind_separation))]
     pub fn skip_ws_to_eol(&mut self, skip_tabs: SkipTabs) -> Result<SkipTabs, Refusal>
         requires { separation.IsRequest skip_tabs }
@@ -181,6 +189,7 @@ impl<T: Input> Reader<T> {
     }
 
     // A refusal at the place that is reached.
+    #[inline]
     fn refusal(&self, text: FaultText) -> Refusal
         ensures text { result.text ≡ text }
         ensures mark { result.mark ≡ (state self.now).mark }
@@ -189,5 +198,22 @@ impl<T: Input> Reader<T> {
             text,
             mark: self.mark,
         }
+    }
+}
+
+impl<T: CloneInput> Reader<T> {
+    ghost use Rattle.std.specs.Prelude.{IfOk};
+    ghost use Rattle.saphyr_scalar.specs.Seen.{state, loaded};
+
+    /// A reader of its own at the same place of the same text, unless memory runs out.
+    pub fn try_clone(&self) -> Result<Self, AllocError>
+        ensures same { IfOk result (λ copy. state copy ≡ state self.now) }
+        ensures loaded { IfOk result (λ copy. loaded copy ≡ loaded self.now) }
+    {
+        Ok(Reader {
+            input: self.input.clone()?,
+            mark: self.mark,
+            blank_so_far: self.blank_so_far,
+        })
     }
 }

@@ -16,7 +16,7 @@ use std::alloc::{AllocError, Global};
 ///
 /// The handle of `!<uri>` is empty and its suffix the uri. The handle of `!` alone is empty and
 /// its suffix `!`.
-#[derive(Debug, PartialEq, Eq, Drop)]
+#[derive(Clone, Debug, PartialEq, Eq, Drop)]
 pub struct TagParts {
     pub handle: String,
     pub suffix: String,

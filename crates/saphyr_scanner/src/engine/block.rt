@@ -81,7 +81,8 @@ impl<T: Input> Engine<T> {
         self.remove_key()?;
         self.key_allowed = true;
         let end = self.reader.mark();
-        self.put_empty(end, TokenType::BlockEntry)
+        self.put_empty(end, TokenType::BlockEntry)?;
+        Ok(())
     }
 
     // `?`.
@@ -108,6 +109,7 @@ impl<T: Input> Engine<T> {
         if self.reader.look() == '\t' {
             return Err(self.refuse_here(FaultText::TabNotAllowed));
         }
-        self.put_from(start, TokenType::Key)
+        self.put_from(start, TokenType::Key)?;
+        Ok(())
     }
 }

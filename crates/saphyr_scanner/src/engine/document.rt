@@ -1,14 +1,15 @@
-ghost use Rattle.std.specs.Prelude.{◌≡◌, ◌≤◌, ◌<◌, length, slice_index, None};
+ghost use Rattle.std.specs.Prelude.{◌≡◌, ◌≤◌, ◌<◌, length, slice_index, None, IfOk};
 ghost use Rattle.saphyr_scanner.specs.Document as document;
 ghost use Rattle.saphyr_scanner.specs.State as spec_state;
 ghost use Rattle.saphyr_scanner.specs.Seen.{kind_of};
 ghost use Rattle.saphyr_scalar.specs.Directive.{directive_of};
 
 use crate::engine::Engine;
-use crate::token::TokenType;
+use crate::token::{TagPrefix, TokenType};
 use saphyr_input::char_traits::is_breakz;
 use saphyr_input::input::Input;
 use saphyr_scalar::{Directive, FaultText, Marker, Stop};
+use std::alloc::{AllocError, Global};
 
 impl<T: Input> Engine<T> {
     ghost use Rattle.saphyr_scalar.specs.Seen.{Moves};
@@ -41,7 +42,8 @@ impl<T: Input> Engine<T> {
         self.unroll(None, mark)?;
         self.key_allowed = false;
         self.ended = true;
-        self.put_empty(mark, TokenType::StreamEnd)
+        self.put_empty(mark, TokenType::StreamEnd)?;
+        Ok(())
     }
 
     // `---` or `...`.
@@ -54,7 +56,8 @@ impl<T: Input> Engine<T> {
         self.key_allowed = false;
         let start = self.reader.mark();
         self.reader.skip_n_non_blank(3);
-        self.put_from(start, kind)
+        self.put_from(start, kind)?;
+        Ok(())
     }
 
     // `...` and what stands behind it on its line.
@@ -82,7 +85,9 @@ impl<T: Input> Engine<T> {
         self.key_allowed = false;
         let start = self.reader.mark();
         let line = self.reader.read_directive(self.alloc)?;
-        self.put(start, line.end, kind_of_directive(line.directive))
+        let kind = kind_of_directive(self.alloc, line.directive)?;
+        self.put(start, line.end, kind)?;
+        Ok(())
     }
 
     // A byte order mark, which has a place at the start of a line outside flow alone.
@@ -98,7 +103,8 @@ impl<T: Input> Engine<T> {
         self.end_content()?;
         self.reader.skip_byte_order_mark();
         self.key_allowed = true;
-        self.put_from(start, TokenType::ByteOrderMark)
+        self.put_from(start, TokenType::ByteOrderMark)?;
+        Ok(())
     }
 }
 
@@ -113,12 +119,14 @@ fn end_mark(mark: Marker) -> Marker
 }
 
 // The token of a directive.
-fn kind_of_directive(directive: Directive) -> TokenType
-    ensures { kind_of result ≡ document.directive_kind (directive_of directive) }
+fn kind_of_directive(alloc: Global, directive: Directive) -> Result<TokenType, AllocError>
+    ensures { IfOk result (λ kind. kind_of kind ≡ document.directive_kind (directive_of directive)) }
 {
-    match directive {
+    Ok(match directive {
         Directive::Version(major, minor) => TokenType::VersionDirective(major, minor),
-        Directive::TagPrefix(handle, prefix) => TokenType::TagDirective(handle, prefix),
+        Directive::TagPrefix(handle, prefix) => {
+            TokenType::TagDirective(Box::new(alloc, TagPrefix { handle, prefix })?)
+        }
         Directive::Reserved(name) => TokenType::ReservedDirective(name),
-    }
+    })
 }

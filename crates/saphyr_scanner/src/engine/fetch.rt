@@ -50,7 +50,8 @@ impl<T: Input> Engine<T> {
         if !self.started {
             self.started = true;
             let mark = self.reader.mark();
-            return self.put_empty(mark, TokenType::StreamStart);
+            self.put_empty(mark, TokenType::StreamStart)?;
+            return Ok(());
         }
         self.arrive()?;
         self.fetch_here()

@@ -87,7 +87,8 @@ impl<T: Input> Engine<T> {
         let start = self.reader.mark();
         self.reader.skip_non_blank();
         self.separate()?;
-        self.put_from(start, kind)
+        self.put_from(start, kind)?;
+        Ok(())
     }
 
     // `]` or `}`.
@@ -109,7 +110,8 @@ impl<T: Input> Engine<T> {
         if !self.in_block() {
             self.adjacent = self.reader.mark().index;
         }
-        self.put_from(start, kind)
+        self.put_from(start, kind)?;
+        Ok(())
     }
 
     // `,`.
@@ -127,6 +129,7 @@ impl<T: Input> Engine<T> {
         self.level.context = self.level.context.behind_entry();
         self.reader.skip_non_blank();
         self.separate()?;
-        self.put_from(start, TokenType::FlowEntry)
+        self.put_from(start, TokenType::FlowEntry)?;
+        Ok(())
     }
 }

@@ -27,7 +27,8 @@ impl<T: Input> Engine<T> {
         } else {
             TokenType::Anchor(name)
         };
-        self.put_from(start, kind)
+        self.put_from(start, kind)?;
+        Ok(())
     }
 
     // `!` and the rest of a tag.
@@ -41,6 +42,8 @@ impl<T: Input> Engine<T> {
         let start = self.reader.mark();
         let in_flow = !self.in_block();
         let tag = self.reader.read_tag(self.alloc, in_flow)?;
-        self.put_from(start, TokenType::Tag(tag.handle, tag.suffix))
+        let tag = Box::new(self.alloc, tag)?;
+        self.put_from(start, TokenType::Tag(tag))?;
+        Ok(())
     }
 }

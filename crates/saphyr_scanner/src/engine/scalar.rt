@@ -45,7 +45,8 @@ impl<T: Input> Engine<T> {
         let end = self.reader.mark();
         self.pass_gap()?;
         self.adjacent = self.reader.mark().index;
-        self.put(start, end, TokenType::Scalar(style, text))
+        self.put(start, end, TokenType::Scalar(style, text))?;
+        Ok(())
     }
 
     // A double quoted scalar.
@@ -94,7 +95,8 @@ impl<T: Input> Engine<T> {
         self.key_allowed = self.reader.blank_so_far();
         self.comment = scalar.comment;
         let kind = TokenType::Scalar(ScalarStyle::Plain, scalar.text);
-        self.put(start, scalar.end, kind)
+        self.put(start, scalar.end, kind)?;
+        Ok(())
     }
 
     // A block scalar.
@@ -110,7 +112,8 @@ impl<T: Input> Engine<T> {
             .reader
             .read_block_scalar(self.alloc, style, self.indent)?;
         let kind = TokenType::Scalar(style_of(style), scalar.text);
-        self.put(scalar.span.start, scalar.span.end, kind)
+        self.put(scalar.span.start, scalar.span.end, kind)?;
+        Ok(())
     }
 }
 

@@ -98,7 +98,8 @@ impl<T: Input> Engine<T> {
         self.go_deeper();
         self.forget_key();
         self.key_allowed = false;
-        self.put_empty(start, TokenType::Value)
+        self.put_empty(start, TokenType::Value)?;
+        Ok(())
     }
 
     // The colon has no key on its line, or a key that `?` began.
@@ -119,6 +120,7 @@ impl<T: Input> Engine<T> {
         self.roll(start.col)?;
         self.go_deeper();
         self.key_allowed = self.in_block();
-        self.put_empty(start, TokenType::Value)
+        self.put_empty(start, TokenType::Value)?;
+        Ok(())
     }
 }

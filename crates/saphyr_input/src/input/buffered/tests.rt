@@ -3,6 +3,7 @@ ghost use Rattle.std.specs.Str.{chars};
 
 use super::BufferedInput;
 use crate::input::Input;
+use crate::law::lists_characters;
 use std::alloc::{AllocError, Global};
 use std::cell::Cell;
 use std::str::Chars;
@@ -12,7 +13,9 @@ fn characters_of<'a>(alloc: Global, text: &'a str) -> Result<BufferedInput<Chars
     ensures rest { IfOk result (λ input. ⟦<BufferedInput<Chars<'a>> as Input>⟧.rest input ≡ take 4294967296 (chars text.now)) }
     ensures loaded { IfOk result (λ input. ⟦<BufferedInput<Chars<'a>> as Input>⟧.loaded input ≡ 0) }
 {
-    BufferedInput::new(alloc, text.chars())
+    let iter = text.chars();
+    lists_characters(&iter);
+    BufferedInput::new(alloc, iter)
 }
 
 fn first_characters_of<'a>(
@@ -22,7 +25,9 @@ fn first_characters_of<'a>(
 ) -> Result<BufferedInput<Chars<'a>>, AllocError>
     requires { limit ≤ 4294967296 }
 {
-    BufferedInput::with_limit(alloc, text.chars(), limit)
+    let iter = text.chars();
+    lists_characters(&iter);
+    BufferedInput::with_limit(alloc, iter, limit)
 }
 
 // Gives `a`, then `None`, then `b`, and counts the calls.

@@ -58,7 +58,8 @@ impl Class for Alpha {
 
     #[inline]
     fn has_ascii(byte: u8) -> bool {
-        is_alpha(byte as char)
+        // Most are small letters.
+        matches!(byte, b'a'..=b'z') || is_alpha(byte as char)
     }
 }
 

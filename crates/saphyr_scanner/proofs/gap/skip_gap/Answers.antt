@@ -1,5 +1,6 @@
-use Rattle.saphyr_scanner.proofs.Gaps.{comment_passed}
+use Rattle.std.proofs.Common.{rules}
+use Rattle.saphyr_scanner.proofs.Gaps.{nothing_passed}
 use Rattle.saphyr_scanner.proofs.gap.skip_gap.Goals as goal
 
-pub loop-reader-preserved : goal.loop-reader-preserved
-loop-reader-preserved g c = comment_passed c.args.least c.loop-reader.broke c.loop-reader.tabbed _ _ _ _ _ c.look-c.ensures.value c.look-c.ensures.same c.skip_comment.ensures c.if-c-eq35.true c.loop-reader.invariant
+pub returns : goal.returns
+returns g c = nothing_passed c.args.least _ _ _ c.look-c.ensures.value c.look-c.ensures.same (search rules) (search rules) (search rules)

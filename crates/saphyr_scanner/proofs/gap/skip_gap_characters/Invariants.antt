@@ -1,7 +1,7 @@
 use Rattle.std.proofs.Common.{◌≡◌, length, false}
 use Rattle.saphyr_scalar.specs.Seen.{state}
 use Rattle.saphyr_scanner.specs.Gap as spec
-use Rattle.saphyr_scanner.proofs.gap.skip_gap.Given as goal
+use Rattle.saphyr_scanner.proofs.gap.skip_gap_characters.Given as goal
 
 abbrev pub invariant-loop-reader : goal.invariant-loop-reader
 invariant-loop-reader g l = spec.gap_at l.least l.broke l.tabbed (state l.reader) ≡ spec.gap_at l.least false false (state l.fn.reader)
