@@ -5,7 +5,7 @@ use Rattle.saphyr_scalar.specs.declared.scalar.fault.Refusal.{Refusal}
 use Rattle.saphyr_scalar.specs.Cursor.{◌>>=◌}
 use Rattle.saphyr_scanner.specs.Core.{Core, in_block, is_too_far, drop_far_key, forget_key}
 use Rattle.saphyr_scanner.specs.State.{State, carried}
-use Rattle.saphyr_scanner.specs.Fetch.{size, fetch_within, settled, needs_token, fill_in}
+use Rattle.saphyr_scanner.specs.Fetch.{size, fetch_within, settled, needs_token, is_ready, fill_in, fill}
 use Rattle.saphyr_scanner.proofs.Sizes.{by_test, given_of}
 use Rattle.saphyr_scanner.proofs.TakingScalars.{Readers}
 use Rattle.saphyr_scanner.proofs.FetchSizes.{read_smaller}
@@ -81,3 +81,16 @@ read_settles limit s u e = let b = bind_ok (fetch_within limit s) settled u e in
 
 pub less_read : Readers → (limit : ℕ) (s u : State) → s.core.ended ≡ false → read limit s ≡ Ok u → size u.core < size s.core
 less_read laws limit s u over e = given_of (λ (t : State). size t.core < size s.core) (read limit s) u (read_smaller laws limit s over) e
+
+ready : (limit : ℕ) (s : State) → (in_block s.core && is_too_far s.core.level.key s.core.cursor.mark) ≡ false → needs_token s ≡ false → fill limit s ≡ Ok s
+unfolding fill drop_far_key
+ready limit s a b = rw (a, b) refl
+
+both : (a b : Bool) → (not a && not b) ≡ true → (a ≡ false) × (b ≡ false)
+both false false e = (refl, refl)
+both false true e = absurd cc
+both true b e = absurd cc
+
+-- nothing is read where the head of the queue can be handed out
+pub ready_as_is : (limit : ℕ) (s : State) → is_ready s ≡ true → fill limit s ≡ Ok s
+ready_as_is limit s e = let x = both (in_block s.core && is_too_far s.core.level.key s.core.cursor.mark) (needs_token s) e in ready limit s x.0 x.1

@@ -10,7 +10,7 @@ use Rattle.saphyr_scanner.specs.Tokens as tokens
 use Rattle.saphyr_scanner.specs.Seen.{Piece}
 use Rattle.saphyr_scanner.specs.Queue as queue
 use Rattle.saphyr_scanner.specs.Queue.{Queue, next}
-use Rattle.saphyr_scanner.specs.Core.{Candidate, Level, Core, Steps, at_mark, in_block, least_column, drop_far_key}
+use Rattle.saphyr_scanner.specs.Core.{Candidate, Level, Core, Steps, at_mark, in_block, is_too_far, least_column, drop_far_key}
 use Rattle.saphyr_scanner.specs.Passing.{pass_gap}
 use Rattle.saphyr_scanner.specs.State.{State, changed, acting, carried, acted}
 use Rattle.saphyr_scanner.specs.Unrolling.{unroll}
@@ -110,6 +110,10 @@ is_held s = holds s.queue.handed s.core.level || any_holds s.queue.handed s.core
 -- the next token has to be read
 abbrev pub needs_token : State → Bool
 needs_token s = not s.core.ended && (queue.is_empty s.queue || is_held s)
+
+-- the head of the queue can be handed out as things are, unless all were
+abbrev pub is_ready : State → Bool
+is_ready s = not (in_block s.core && is_too_far s.core.level.key s.core.cursor.mark) && not (needs_token s)
 
 abbrev pub settled : State → Result State Refusal
 settled s = carried (drop_far_key s.core) s.queue

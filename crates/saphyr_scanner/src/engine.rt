@@ -25,6 +25,9 @@ use std::alloc::{AllocError, Global};
 
 /// What a scanner holds: the rest of the text, the tokens that were read and not handed out, and
 /// what is open.
+///
+/// Its steps are inlined into one another where each token passes them: a result is cleared before
+/// a call and copied behind it, which costs more than most steps do.
 #[derive(Drop)]
 pub(crate) struct Engine<T: Input> {
     reader: Reader<T>,
@@ -129,6 +132,7 @@ impl<T: Input> Engine<T> {
     }
 
     // Passes blanks and a comment, up to the end of the line.
+    #[inline(always)]
     fn separate(&mut self) -> Result<SkipTabs, Stop>
         ensures { Moves (λ found. (found, state self.new)) result (spec_state.separated (passing.separate (state self.old).core) (state self.old)) }
     {
@@ -136,6 +140,7 @@ impl<T: Input> Engine<T> {
     }
 
     // Passes what stands between two tokens.
+    #[inline(always)]
     #[tactic(auto, unfolding(crate::specs::Passing::pass_gap))]
     fn pass_gap(&mut self) -> Result<(), Stop>
         ensures { Moves (λ _. state self.new) result (spec_state.carried (passing.pass_gap (state self.old).core) (state self.old).queue) }
@@ -148,6 +153,7 @@ impl<T: Input> Engine<T> {
     }
 
     // Refuses a comment that ended a plain scalar, where the next line could go on with it.
+    #[inline(always)]
     #[tactic(auto, unfolding(crate::specs::Passing::check_comment))]
     fn check_comment(&mut self) -> Result<(), Stop>
         ensures { Moves (λ _. state self.new) result (spec_state.carried (passing.check_comment (state self.old).core) (state self.old).queue) }
@@ -163,6 +169,7 @@ impl<T: Input> Engine<T> {
     }
 
     // Whether the next line could go on with a plain scalar that a comment ended.
+    #[inline(never)]
     #[tactic(auto, unfolding(crate::specs::Passing::goes_on_behind))]
     fn goes_on_behind(&mut self, comment: Marker) -> bool
         ensures value { result ≡ passing.goes_on_behind comment (state self.old).core }

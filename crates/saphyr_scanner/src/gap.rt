@@ -62,7 +62,7 @@ fn skip_gap_characters<T: Input>(reader: &mut Reader<T>, least: usize) -> Result
 // Passes blanks, breaks and comments, and tells whether a break was met.
 //
 // A tab left of the column `least` is refused where content stands behind it on its line.
-#[inline]
+#[inline(always)]
 pub(crate) fn skip_gap<T: Input>(reader: &mut Reader<T>, least: usize) -> Result<bool, Refusal>
     ensures { Gives (λ broke. record { cursor = state reader.new; broke = broke }) result (spec.pass_gap least (state reader.old)) }
 {

@@ -53,6 +53,7 @@ impl<T: Input> Scanner<T> {
     /// Hands out the next token, or `None` behind the last.
     ///
     /// After an error nothing is known of what a further call gives.
+    #[inline(always)]
     pub fn next_token(&mut self) -> Result<Option<Token>, Stop>
         ensures { Hands result self.old self.new }
     {

@@ -44,6 +44,7 @@ impl<'a> StrInput<'a> {
     }
 
     // Moves the first `count` characters to the end of `out`, in one piece. `rest` is what stands behind them.
+    #[inline]
     fn fetch(&mut self, count: usize, rest: &'a str, out: &mut String) -> Result<usize, AllocError>
         requires { chars rest.now ≡ drop count (chars self.old.rest.now) }
         ensures ok { IfOk result (λ n. (n ≡ count) × spec.Transfers count (chars self.old.rest.now) (chars self.new.rest.now) (string_bytes out.old) (string_bytes out.new)) }
@@ -275,6 +276,7 @@ impl Input for StrInput<'_> {
         count
     }
 
+    #[inline]
     fn fetch_while_is_alpha(&mut self, out: &mut String) -> Result<usize, AllocError> {
         self.loaded = self.loaded.max(1);
         let (count, rest) = ascii_run::<Alpha>(self.rest);

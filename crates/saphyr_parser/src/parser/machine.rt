@@ -12,6 +12,8 @@ use std::alloc::Global;
 use std::borrow::CowStr;
 
 /// What turns tokens into events.
+///
+/// Its steps are inlined into one another, since tokens and events are large to move.
 #[derive(Drop)]
 pub struct Machine<T: Input> {
     pub(super) scanner: Scanner<T>,
@@ -54,6 +56,7 @@ impl<T: Input> Machine<T> {
     }
 
     // Takes the next token.
+    #[inline(always)]
     pub(super) fn take(&mut self) -> Result<Token, Stop>
         ensures taken { Moves (λ t. (piece t, machine_of self.new)) result (spec.take (machine_of self.old)) }
         ensures room { IfOk result (λ t. self.new.token ≡ None) }

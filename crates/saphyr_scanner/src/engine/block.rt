@@ -60,6 +60,7 @@ impl<T: Input> Engine<T> {
     }
 
     // `-`.
+    #[inline(always)]
     #[tactic(auto, unfolding(crate::specs::Block::entry, crate::specs::Block::next_entry))]
     pub(super) fn fetch_block_entry(&mut self) -> Result<(), Stop>
         requires { 0 < length (state self.old).core.cursor.rest }

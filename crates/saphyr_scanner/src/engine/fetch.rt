@@ -171,9 +171,18 @@ impl<T: Input> Engine<T> {
         Ok(())
     }
 
-    /// Has a token at the head of the queue that can be handed out, unless all were.
+    // Whether the head of the queue can be handed out as things are, unless all were.
+    #[inline(always)]
+    fn is_ready(&self) -> bool
+        ensures { result ≡ fetch.is_ready (state self.now) }
+    {
+        !(self.in_block() && self.is_key_too_far()) && !self.needs_token()
+    }
+
+    // Reads tokens until the head of the queue can be handed out, unless all were.
+    #[inline(never)]
     #[tactic(auto, unfolding(crate::specs::Fetch::fill))]
-    pub(crate) fn fill(&mut self, limit: usize) -> Result<(), Stop>
+    fn read_on(&mut self, limit: usize) -> Result<(), Stop>
         ensures { Moves (λ _. state self.new) result (fetch.fill limit (state self.old)) }
     {
         takes_plain();
@@ -190,7 +199,20 @@ impl<T: Input> Engine<T> {
         Ok(())
     }
 
+    /// Has a token at the head of the queue that can be handed out, unless all were.
+    #[inline(always)]
+    #[tactic(auto, using(crate::proofs::Filling::ready_as_is))]
+    pub(crate) fn fill(&mut self, limit: usize) -> Result<(), Stop>
+        ensures { Moves (λ _. state self.new) result (fetch.fill limit (state self.old)) }
+    {
+        if self.is_ready() {
+            return Ok(());
+        }
+        self.read_on(limit)
+    }
+
     /// Takes the first token off the queue.
+    #[inline(always)]
     pub(crate) fn take(&mut self) -> Result<Option<Token>, Stop>
         ensures { Moves (λ t. (option_map piece t, state self.new)) result (Ok (fetch.take (state self.old))) }
     {

@@ -47,6 +47,7 @@ impl<T: Input> Engine<T> {
     ghost use Rattle.saphyr_scanner.specs.Seen.{kind_of};
 
     // A flow collection is open.
+    #[inline(always)]
     #[tactic(auto, using(crate::proofs::Levels::top_on))]
     fn enter(&mut self, context: Context) -> Result<(), Stop>
         ensures { Moves (λ _. state self.new) result (Ok (spec_state.changed (flow.enter context (state self.old).core) (state self.old))) }
@@ -58,6 +59,7 @@ impl<T: Input> Engine<T> {
     }
 
     // The innermost flow collection is left.
+    #[inline(always)]
     #[tactic(auto, using(crate::proofs::Levels::top_off))]
     fn leave(&mut self)
         ensures { state self.new ≡ spec_state.changed (flow.leave (state self.old).core) (state self.old) }
@@ -73,6 +75,7 @@ impl<T: Input> Engine<T> {
     }
 
     // `[` or `{`.
+    #[inline(always)]
     #[tactic(auto, unfolding(crate::specs::Flow::start, crate::specs::Flow::open_collection))]
     pub(super) fn fetch_flow_start(&mut self, context: Context, kind: TokenType) -> Result<(), Stop>
         requires { 0 < length (state self.old).core.cursor.rest }
@@ -92,6 +95,7 @@ impl<T: Input> Engine<T> {
     }
 
     // `]` or `}`.
+    #[inline(always)]
     #[tactic(auto, unfolding(crate::specs::Flow::end, crate::specs::Flow::close_collection))]
     pub(super) fn fetch_flow_end(&mut self, is_sequence: bool, kind: TokenType) -> Result<(), Stop>
         requires { 0 < length (state self.old).core.cursor.rest }
@@ -115,6 +119,7 @@ impl<T: Input> Engine<T> {
     }
 
     // `,`.
+    #[inline(always)]
     #[tactic(auto, unfolding(crate::specs::Flow::entry, crate::specs::Flow::next_entry, crate::specs::Core::remove_key))]
     pub(super) fn fetch_flow_entry(&mut self) -> Result<(), Stop>
         requires { 0 < length (state self.old).core.cursor.rest }

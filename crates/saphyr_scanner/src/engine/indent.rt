@@ -40,6 +40,7 @@ impl<T: Input> Engine<T> {
     }
 
     // A block collection begins at a column, if one does.
+    #[inline(always)]
     #[tactic(auto, using(crate::proofs::Stacks::top_on))]
     pub(super) fn roll(&mut self, column: usize) -> Result<(), Stop>
         requires { column + 1 < 2 ^ 64 }
@@ -55,6 +56,7 @@ impl<T: Input> Engine<T> {
     }
 
     // The innermost block collection ends at a place.
+    #[inline(always)]
     #[tactic(auto, using(crate::proofs::Stacks::top_off))]
     fn end_block(&mut self, mark: Marker) -> Result<(), Stop>
         ensures { Moves (λ _. state self.new) result (Ok (unrolling.end_block mark (state self.old))) }
@@ -88,6 +90,7 @@ impl<T: Input> Engine<T> {
     }
 
     // The block collections to the right of a column end at a place, and all of them for `None`.
+    #[inline(always)]
     #[tactic(auto, using(crate::proofs::Blocks::none_ends), unfolding(crate::specs::Unrolling::unroll))]
     pub(super) fn unroll(&mut self, column: Option<usize>, mark: Marker) -> Result<(), Stop>
         ensures { Moves (λ _. state self.new) result (Ok (unrolling.unroll column mark (state self.old))) }

@@ -15,6 +15,7 @@ impl<T: Input> Engine<T> {
     ghost use Rattle.saphyr_scanner.specs.Queue.{next};
 
     // The token that comes next may be a key, where one is allowed.
+    #[inline(always)]
     pub(super) fn save_key(&mut self) -> Result<(), Stop>
         requires { 0 < length (state self.old).core.cursor.rest }
         ensures { Moves (λ _. state self.new) result (Ok (spec_state.changed (spec.save_key (next (state self.old).queue) (state self.old).core) (state self.old))) }
@@ -32,6 +33,7 @@ impl<T: Input> Engine<T> {
     }
 
     // No token of the level may be a key any more.
+    #[inline(always)]
     pub(super) fn forget_key(&mut self)
         ensures { state self.new ≡ spec_state.changed (spec.forget_key (state self.old).core) (state self.old) }
     {
@@ -42,6 +44,7 @@ impl<T: Input> Engine<T> {
     }
 
     // The same, where a key that has to be one is refused.
+    #[inline(always)]
     #[tactic(auto, unfolding(crate::specs::Core::remove_key))]
     pub(super) fn remove_key(&mut self) -> Result<(), Stop>
         ensures { Moves (λ _. state self.new) result (spec_state.carried (spec.remove_key (state self.old).core) (state self.old).queue) }
@@ -54,7 +57,7 @@ impl<T: Input> Engine<T> {
     }
 
     // Whether the candidate is on another line, or too far away.
-    fn is_key_too_far(&self) -> bool
+    pub(super) fn is_key_too_far(&self) -> bool
         ensures { result ≡ spec.is_too_far (state self.now).core.level.key (state self.now).core.cursor.mark }
     {
         let mark = self.reader.mark();
@@ -67,6 +70,7 @@ impl<T: Input> Engine<T> {
     }
 
     // A candidate outside flow lapses on the next line, and where its colon would be too far.
+    #[inline(always)]
     #[tactic(auto, unfolding(crate::specs::Core::drop_far_key))]
     pub(super) fn drop_far_key(&mut self) -> Result<(), Stop>
         ensures { Moves (λ _. state self.new) result (spec_state.carried (spec.drop_far_key (state self.old).core) (state self.old).queue) }

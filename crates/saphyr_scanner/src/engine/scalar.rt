@@ -29,6 +29,7 @@ impl<T: Input> Engine<T> {
     }
 
     // What stands behind a quoted scalar.
+    #[inline(always)]
     #[tactic(auto, unfolding(crate::specs::Scalar::behind_quotes))]
     fn fetch_behind_quotes(
         &mut self,
@@ -50,6 +51,7 @@ impl<T: Input> Engine<T> {
     }
 
     // A double quoted scalar.
+    #[inline(always)]
     #[tactic(auto, unfolding(crate::specs::Scalar::double_quoted, crate::specs::Scalar::read_double_quoted))]
     pub(super) fn fetch_double_quoted(&mut self) -> Result<(), Stop>
         requires { slice_index (state self.old).core.cursor.rest 0 ≡ 34 }

@@ -41,6 +41,7 @@ impl<T: Input> Engine<T> {
 
     // Passes what stands behind a colon, if that begins with a tab. Outside flow a space is wanted
     // before a word.
+    #[inline(always)]
     #[tactic(auto, unfolding(crate::specs::Value::check_tab))]
     fn check_tab(&mut self) -> Result<(), Stop>
         ensures { Moves (λ _. state self.new) result (spec_state.carried (value.check_tab (state self.old).core) (state self.old).queue) }
@@ -57,6 +58,7 @@ impl<T: Input> Engine<T> {
     }
 
     // `:`.
+    #[inline(always)]
     #[tactic(auto, unfolding(crate::specs::Value::fetch, crate::specs::Value::behind_key))]
     pub(super) fn fetch_value(&mut self) -> Result<(), Stop>
         requires { 0 < length (state self.old).core.cursor.rest }
@@ -74,6 +76,7 @@ impl<T: Input> Engine<T> {
     }
 
     // The candidate is the colon's key.
+    #[inline(always)]
     #[tactic(auto, unfolding(crate::specs::Value::of_key))]
     fn fetch_value_of(
         &mut self,

@@ -1,7 +1,7 @@
 use Rattle.std.proofs.Common.{◌≡◌, suc}
 use Rattle.saphyr_scanner.specs.Fetch.{fill, fill_in, size}
 use Rattle.saphyr_scanner.specs.Engine.{state}
-use Rattle.saphyr_scanner.proofs.engine.Engine.fill.Given as goal
+use Rattle.saphyr_scanner.proofs.engine.Engine.read_on.Given as goal
 
 abbrev pub invariant-loop-self : goal.invariant-loop-self
 invariant-loop-self g l = fill_in (suc (size (state l.self).core)) l.limit (state l.self) ≡ fill l.fn.limit (state l.fn.self)

@@ -1,7 +1,7 @@
 use Rattle.std.proofs.Common.{sym, ◌∙◌}
 use Rattle.saphyr_scanner.proofs.TakingScalars.{Readers, quoted_laws}
 use Rattle.saphyr_scanner.proofs.Filling.{read_is, smaller_read, one_more}
-use Rattle.saphyr_scanner.proofs.engine.Engine.fill.Goals as goal
+use Rattle.saphyr_scanner.proofs.engine.Engine.read_on.Goals as goal
 
 pub loop-self-smaller : goal.loop-self-smaller
 loop-self-smaller g c =
