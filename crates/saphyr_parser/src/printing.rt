@@ -17,6 +17,7 @@ pub use fault::DumpFault;
 use line::write_line;
 pub use run::run_dump;
 use saphyr_input::input::Input;
+use saphyr_scalar::Span;
 use std::io::Write;
 use writing::Unwritten;
 
@@ -33,7 +34,7 @@ pub fn dump<'input, T: Input, W: Write>(
 {
     while let Some(item) = parser.next_event() {
         match item {
-            Ok((event, _)) => print(event, out)?,
+            Ok(item) => print(item, out)?,
             Err(fault) => return Err(DumpFault::Parse(fault)),
         }
     }
@@ -41,8 +42,9 @@ pub fn dump<'input, T: Input, W: Write>(
 }
 
 // Writes the line of an event, which is done with then.
-fn print<W: Write>(event: Event<'_>, out: &mut W) -> Result<(), Unwritten>
-    ensures { Takes result (W.contents out.old) (W.contents out.new) (line (happening event.entry)) }
+#[inline(always)]
+fn print<W: Write>(item: (Event<'_>, Span), out: &mut W) -> Result<(), Unwritten>
+    ensures { Takes result (W.contents out.old) (W.contents out.new) (line (happening item.entry.0)) }
 {
-    write_line(out, &event)
+    write_line(out, &item.0)
 }

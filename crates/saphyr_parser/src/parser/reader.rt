@@ -145,9 +145,9 @@ impl<'input, T: Input> Reader<'input, T> {
             return self.next_ahead();
         }
         match self.machine.read()? {
-            Ok((event, span)) => {
-                self.remember(&event, span);
-                Some(Ok((event, span)))
+            Ok(item) => {
+                self.remember(&item.0, item.1);
+                Some(Ok(item))
             }
             Err(fault) => {
                 self.kept = Some(Kept {
