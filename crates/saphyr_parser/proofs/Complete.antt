@@ -39,11 +39,11 @@ mutual
       rw all (node_within key (node_parts value ++ (pair_parts qs ++ ps)) (node_within value (pair_parts qs ++ ps) (pairs_within qs ps h)))
 
 -- each document's directives go together
-abbrev AreAllCompatible : Forest → Type 0
+abbrev pub AreAllCompatible : Forest → Type 0
 AreAllCompatible [] = Unit {0}
 AreAllCompatible (d ∷ ds) = AreCompatible d.directives × AreAllCompatible ds
 
-documents_within : (ds : Forest) → AreAllCompatible ds → Within false (document_parts ds)
+pub documents_within : (ds : Forest) → AreAllCompatible ds → Within false (document_parts ds)
 documents_within [] h = (tt, tt)
 documents_within (d ∷ ds) h = (h.0, node_within d.node (CloseDocument ∷ document_parts ds) (tt, documents_within ds h.1))
 
@@ -51,7 +51,7 @@ document_compatible : (d : Document) (free : Bool) (t : List Kind) → IsDocumen
 document_compatible d free t (inl h) = subst (λ (ds : List Directive). AreCompatible ds) (sym h.1.1) tt
 document_compatible d free t (inr h) = h.1.2
 
-all_compatible : (ds : Forest) (free : Bool) (t : List Kind) → AreDocuments ds free t → AreAllCompatible ds
+pub all_compatible : (ds : Forest) (free : Bool) (t : List Kind) → AreDocuments ds free t → AreAllCompatible ds
 all_compatible [] free t h = tt
 all_compatible (d ∷ ds) free t h = (document_compatible d free h.0 h.2, behind h.3.4 (λ b u g. all_compatible ds b u g))
   where
@@ -61,14 +61,14 @@ all_compatible (d ∷ ds) free t h = (document_compatible d free h.0 h.2, behind
 
 -- ## The start
 
-abbrev at_first : Bool → Memory
+abbrev pub at_first : Bool → Memory
 at_first keep = record { anchors = no_anchors; prefixes = []; keep = keep }
 
 none_kept : (keep : Bool) → (let o : Option (List ℕ) = None in o) ≡ (if keep then None else None)
 none_kept true = refl
 none_kept false = refl
 
-fits_start : (keep : Bool) → FitsBetween keep [] (at_first keep)
+pub fits_start : (keep : Bool) → FitsBetween keep [] (at_first keep)
 fits_start keep = record { keeps = refl; count = refl; prefixes = λ handle. none_kept keep }
 
 nowhere : Span

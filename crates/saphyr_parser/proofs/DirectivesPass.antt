@@ -42,16 +42,16 @@ marks_pass (k ∷ ks) h = (ap is_mark h.0, marks_pass ks h.1)
 -- ## Directives
 
 -- a directive that may still be declared
-abbrev IsFree : Declared → Directive → Type 0
+abbrev pub IsFree : Declared → Directive → Type 0
 IsFree d (Version _ _) = d.version ≡ false
 IsFree d (TagPrefix handle _) = is_listed (handle_bytes handle) d.handles ≡ false
 IsFree d (Reserved _) = Unit {0}
 
-abbrev AreFree : Declared → List Directive → Type 0
+abbrev pub AreFree : Declared → List Directive → Type 0
 AreFree d [] = Unit {0}
 AreFree d (x ∷ xs) = IsFree d x × AreFree d xs
 
-abbrev declared_by : Directive → Declared → Declared
+abbrev pub declared_by : Directive → Declared → Declared
 declared_by (Version _ _) d = record { version = true; handles = d.handles }
 declared_by (TagPrefix handle _) d = record { version = d.version; handles = listed (handle_bytes handle) d.handles }
 declared_by (Reserved _) d = d

@@ -68,7 +68,7 @@ once : (a r : Bool) → (a || r) ≡ (a || (a || r))
 once true r = refl
 once false r = refl
 
-listed_test : (name other : List ℕ) (names : List (List ℕ)) → is_listed name (listed other names) ≡ (is_at (slice_cmp nat_cmp name) other || is_listed name names)
+pub listed_test : (name other : List ℕ) (names : List (List ℕ)) → is_listed name (listed other names) ≡ (is_at (slice_cmp nat_cmp name) other || is_listed name names)
 listed_test name other [] = refl
 listed_test name other (k ∷ ks) = by (slice_cmp nat_cmp other k) refl (listed_test name other ks)
   where

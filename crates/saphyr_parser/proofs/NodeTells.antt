@@ -39,13 +39,13 @@ handle_stands Secondary names place prefix None h = cc
 handle_stands (Named word) names place prefix None h = absurd (cc)
 handle_stands handle names place prefix (Some other) h = cc
 
-handle_is_some : (handle : Handle) → 0 < length (handle_bytes handle)
+pub handle_is_some : (handle : Handle) → 0 < length (handle_bytes handle)
 unfolding encode
 handle_is_some Primary = omega arith
 handle_is_some Secondary = omega arith
 handle_is_some (Named word) = omega arith
 
-has_handle : (handle : List ℕ) (names : Names (List ℕ)) (place : Marker) → 0 < length handle → prefix_of names handle place ≡ declared_or (meaning handle names) (undeclared handle place)
+pub has_handle : (handle : List ℕ) (names : Names (List ℕ)) (place : Marker) → 0 < length handle → prefix_of names handle place ≡ declared_or (meaning handle names) (undeclared handle place)
 unfolding prefix_of
 has_handle handle names place l = let some : nat_eq (length handle) 0 ≡ false = ne_eqb (length handle) 0 (λ e. omega (arith, l, e)) in ap (λ b. if b then Ok handle else declared_or (meaning handle names) (undeclared handle place)) some
 

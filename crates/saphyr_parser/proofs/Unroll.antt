@@ -54,7 +54,7 @@ alive_at state.BlockMappingKey m x e = key_is_positive (begins_with_value m.toke
 alive_at _ m x e = omega arith
 
 -- a step leaves less than there was
-shrinks_at : (n : ℕ) (m : Machine) (x : Told) → size m ≤ n → step m ≡ Ok x → size x.machine < n
+pub shrinks_at : (n : ℕ) (m : Machine) (x : Told) → size m ≤ n → step m ≡ Ok x → size x.machine < n
 unfolding step
 shrinks_at zero m x l e = let alive = alive_at m.state m x e in absurd (omega (arith, l, alive))
 shrinks_at (suc n) m x l e = let b = (steps_at n m.state m (omega (arith, l))).bound x e in omega (arith, b)

@@ -33,3 +33,6 @@ pub mod EventsTaken
 pub mod Premises
 pub mod SpansWithin
 pub mod Promises
+pub mod WellFormed
+pub mod Begins
+pub mod RefusedAt

@@ -19,12 +19,17 @@ ghost use Rattle.saphyr_scanner.specs.TakenTexts.{at, from_to};
 ghost use Rattle.saphyr_parser.specs.Exactly.{GivesExactly, kinds, told_by};
 ghost use Rattle.saphyr_parser.specs.Events.{Alias, Happening};
 ghost use Rattle.saphyr_parser.specs.Complete.{IsShallowJson, ReadsJson};
-ghost use Rattle.saphyr_parser.specs.EventsTaken.{AreTaken, IsOf};
+ghost use Rattle.saphyr_parser.specs.EventsTaken.{AreTaken, HasPlaceIn, IsOf};
 ghost use Rattle.saphyr_parser.specs.Premises.{GivesFirst, IsClosed, IsPromised, ReadsClosed, ReadsEach, has_surrogate_escape};
 ghost use Rattle.saphyr_parser.specs.Promises.{ReadsClosedLayout, ReadsFlowLayout, ReadsLayout, TakesEvents};
 ghost use Rattle.saphyr_scalar.specs.Spaces.{IsLineRest};
 ghost use Rattle.saphyr_scanner.specs.Layout.{IsFlowLayoutText, IsLayoutText, most_open};
 ghost use Rattle.saphyr_parser.specs.SpansWithin.{HasSpansWithin};
+ghost use Rattle.saphyr_parser.specs.Begins.{BeginsSomeForest};
+ghost use Rattle.saphyr_parser.specs.RefusedAt.{AreAtPlaces};
+ghost use Rattle.saphyr_parser.specs.Machine.{ending};
+ghost use Rattle.saphyr_scanner.specs.TokensTaken.{IsPlaceOf};
+ghost use Rattle.saphyr_parser.specs.WellFormed.{AreWellFormed};
 
 pub use saphyr_input::law::lists_characters;
 
@@ -137,4 +142,16 @@ pub fn closes_layout()
 pub fn tells_surrogate_escapes()
     ensures half { has_surrogate_escape (codes "\"\\uD800\"") ≡ true }
     ensures whole { has_surrogate_escape (codes "\"\\uD7FF\"") ≡ false }
+{}
+
+/// The events of any tokens are a beginning of some forest's, whose tokens begin as those do. Where no fault
+/// ends them, all are.
+pub fn begins_some_forest()
+    ensures { (tokens : Remaining) (keep : Bool) → AreWellFormed tokens.pieces → length tokens.pieces < 2 ^ 64 → BeginsSomeForest keep tokens (to_come (keeping_tags keep (at_start tokens))) }
+{}
+
+/// Where tokens begin at places of a text, and a refusal that ends them has its place there, the refusal that
+/// ends their events has its place there too.
+pub fn refuses_at_places()
+    ensures { (text : List ℕ) (tokens : Remaining) (keep : Bool) → AreAtPlaces text tokens.pieces → IsPlaceOf text (ending tokens.refusal).mark → HasPlaceIn text (to_come (keeping_tags keep (at_start tokens))).fault }
 {}

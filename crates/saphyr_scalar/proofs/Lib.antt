@@ -27,6 +27,8 @@ pub mod Taking
 pub mod TakingMore
 pub mod Counted
 pub mod CountedBlocks
+pub mod PlacedHeaders
+pub mod PlacedBlocks
 pub mod Lines
 pub mod Moving
 pub mod PlainGaps

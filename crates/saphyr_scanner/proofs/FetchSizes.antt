@@ -110,12 +110,12 @@ passed s t n d k a h e b f =
     let l = length-drop n t.core.cursor.rest in let r = ap length e in
     record { rest = omega (arith, k.rest, a, h, l, r); started = b ∙ k.started; ended = f ∙ k.ended }
 
-marker_takes : (kind : Kind) (s : State) → 0 < length s.core.cursor.rest → Given (TookState s) (document.marker kind s)
+pub marker_takes : (kind : Kind) (s : State) → 0 < length s.core.cursor.rest → Given (TookState s) (document.marker kind s)
 unfolding document.marker
 marker_takes kind s h =
     given_bind (TookState s) (document.end_content s) _ (λ t e. passed s t 3 _ (given_of (KeptState s) (document.end_content s) t (content_kept s) e) (omega arith) h refl refl refl)
 
-end_marker_takes : (s : State) → 0 < length s.core.cursor.rest → Given (TookState s) (document.end_marker s)
+pub end_marker_takes : (s : State) → 0 < length s.core.cursor.rest → Given (TookState s) (document.end_marker s)
 unfolding document.end_marker document.end_line
 end_marker_takes s h =
     given_bind (TookState s) (document.marker tokens.DocumentEnd s) _ (λ t q.
@@ -128,13 +128,13 @@ end_marker_takes s h =
     parted t (Ok y) a b = took_kept s.core t.core y.1 a b
     parted t (Err f) a b = tt
 
-mark_takes : (s : State) → 0 < length s.core.cursor.rest → Given (TookState s) (document.byte_order_mark s)
+pub mark_takes : (s : State) → 0 < length s.core.cursor.rest → Given (TookState s) (document.byte_order_mark s)
 unfolding document.byte_order_mark
 mark_takes s h =
     by_test (nat_lt 0 s.core.cursor.mark.col || not (in_block s.core)) _ _ (Given (TookState s)) (λ _. tt)
     (λ _. given_bind (TookState s) (document.end_content s) _ (λ t e. passed s t 1 _ (given_of (KeptState s) (document.end_content s) t (content_kept s) e) (omega arith) h refl refl refl))
 
-directive_takes : Readers → (s : State) → slice_index s.core.cursor.rest 0 ≡ 37 → Given (TookState s) (document.directive s)
+pub directive_takes : Readers → (s : State) → slice_index s.core.cursor.rest 0 ≡ 37 → Given (TookState s) (document.directive s)
 unfolding document.directive document.read_directive
 directive_takes laws s h =
     given_bind (TookState s) (document.end_content s) _ (λ t e.
@@ -161,14 +161,14 @@ end_smaller s going =
 
 -- ## What begins at a place
 
-stepped : (s : State) (r : Steps) → Given (TookStep s.core) r → Given (TookState s) (acted r s.queue)
+pub stepped : (s : State) (r : Steps) → Given (TookStep s.core) r → Given (TookState s) (acted r s.queue)
 stepped s (Ok x) h = h
 stepped s (Err e) h = tt
 
 pub is_number : (x n : ℕ) → (x == n) ≡ true → x ≡ n
 is_number x n e = grind (arith, nat_tests)
 
-step_takes : Readers → (first second n : ℕ) (c : Core) → 0 < length c.cursor.rest → slice_index c.cursor.rest 0 ≡ first → Given (TookStep c) (step first second n c)
+pub step_takes : Readers → (first second n : ℕ) (c : Core) → 0 < length c.cursor.rest → slice_index c.cursor.rest 0 ≡ first → Given (TookStep c) (step first second n c)
 unfolding step
 step_takes laws first second n c h f =
     let P = Given (TookStep c) in
@@ -212,7 +212,7 @@ here_smaller laws s going =
     (λ _. by_test (nat_lt s.core.cursor.mark.col (least_column s.core)) _ _ P (λ _. tt)
     (λ _. weaken s _ (stepped s (step (slice_index t 0) (slice_index t 1) (next s.queue) s.core) (step_takes laws (slice_index t 0) (slice_index t 1) (next s.queue) s.core h refl))))))))
 
-arrived_kept : (s : State) → Given (KeptState s) (arrive s)
+pub arrived_kept : (s : State) → Given (KeptState s) (arrive s)
 unfolding arrive
 arrived_kept s =
     given_bind (KeptState s) (carried (pass_gap s.core >>= drop_far_key) s.queue) _ (λ t e.

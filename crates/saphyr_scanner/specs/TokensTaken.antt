@@ -227,3 +227,7 @@ IsEndOf text (Some e) u = IsPlaceOf text e.mark
 -- the tokens, and the refusal if one ends them, are taken from the text
 abbrev pub AreTakenFrom : List ℕ → Remaining → Type 0
 AreTakenFrom text r = (end : Cursor) × AreTokens [] r.pieces (fresh text) end × IsEndOf text r.refusal end
+
+-- the same of the tokens alone, whatever the place of the refusal is
+abbrev pub TakesTokens : List ℕ → Remaining → Type 0
+TakesTokens text r = (end : Cursor) × AreTokens [] r.pieces (fresh text) end × (r.refusal ≡ None → end.rest ≡ [])

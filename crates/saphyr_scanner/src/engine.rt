@@ -61,7 +61,8 @@ impl<T: Input> Engine<T> {
     ghost use Rattle.saphyr_scalar.specs.declared.scalar.fault.Stop.TheVariants.{Refused};
 
     pub(crate) fn new(alloc: Global, input: T) -> Self
-        ensures { state result ≡ spec_state.start (T.rest input) }
+        ensures start { state result ≡ spec_state.start (T.rest input) }
+        ensures countable { length (T.rest input) < 2 ^ 63 }
     {
         Engine {
             reader: Reader::new(input),

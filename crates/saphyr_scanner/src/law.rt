@@ -9,13 +9,18 @@ ghost use Rattle.saphyr_scanner.specs.TokenGrammar.{Yields};
 ghost use Rattle.saphyr_scanner.specs.Tokens.{Kind};
 ghost use Rattle.saphyr_scanner.specs.Remaining.{Scans, scan};
 ghost use Rattle.saphyr_scanner.specs.SpansInOrder.{AreInOrder};
-ghost use Rattle.saphyr_scanner.specs.TokensTaken.{AreTakenFrom};
+ghost use Rattle.saphyr_scanner.specs.Gap as gaps;
+ghost use Rattle.saphyr_scanner.specs.TokensTaken.{AreApart, AreTakenFrom, IsOnLine, TakesTokens};
+ghost use Rattle.saphyr_scalar.specs.Cursor.{Cursor, separation};
+ghost use Rattle.saphyr_input.specs.declared.input.SkipTabs.{SkipTabs};
+ghost use Rattle.saphyr_input.specs.declared.input.SkipTabs.TheVariants.{Yes};
+ghost use Rattle.std.specs.Prelude.{◌<◌, ◌^◌, false, Ok};
 
 use saphyr_scalar::scalar::{
-    counts_each_block_scalar, counts_each_double_quoted, reads_each_double_quoted,
-    reads_each_plain_word, reads_plain_values, spells_each_anchor, spells_each_directive,
-    spells_each_quoted, spells_each_tag, takes_anchor, takes_block_scalar, takes_directive,
-    takes_plain, takes_quoted, takes_tag,
+    counts_each_block_scalar, counts_each_double_quoted, places_each_block_scalar,
+    reads_each_double_quoted, reads_each_plain_word, reads_plain_values, reads_values_of_lines,
+    spells_each_anchor, spells_each_directive, spells_each_quoted, spells_each_tag, takes_anchor,
+    takes_block_scalar, takes_directive, takes_plain, takes_quoted, takes_tag,
 };
 
 /// A text of JSON stands for its forest.
@@ -76,4 +81,31 @@ pub fn orders_spans()
     spells_each_anchor();
     spells_each_tag();
     spells_each_directive();
+}
+
+/// What is passed between two tokens is blanks, breaks and comments alone.
+pub fn passes_separation()
+    ensures gap { (least : ℕ) (s : Cursor) (g : gaps.Passed) → gaps.pass_gap least s ≡ Ok g → AreApart s g.cursor }
+    ensures spaces { (s : Cursor) → AreApart s (gaps.spaces_at false s).cursor }
+    ensures line { (s : Cursor) (x : SkipTabs × Cursor) → separation Yes s ≡ Ok x → AreApart s x.1 × IsOnLine s x.1.mark }
+{}
+
+/// The tokens of a text are taken from it: up to the last token it is their spellings in order, parted
+/// by blanks, breaks and comments alone, and all of it is where no refusal ends them.
+pub fn takes_all_tokens()
+    ensures { (limit : ℕ) (text : List ℕ) → length text < 2 ^ 63 → TakesTokens text (scan limit text) }
+{
+    reads_plain_values();
+    spells_each_quoted();
+    reads_values_of_lines();
+    places_each_block_scalar();
+    spells_each_anchor();
+    spells_each_tag();
+    spells_each_directive();
+    takes_plain();
+    takes_quoted();
+    takes_block_scalar();
+    takes_anchor();
+    takes_tag();
+    takes_directive();
 }

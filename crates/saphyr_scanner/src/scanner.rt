@@ -2,9 +2,10 @@ ghost use Rattle.std.specs.Prelude.{◌≡◌, length};
 ghost use Rattle.saphyr_scanner.specs.Remaining.{scan};
 ghost use Rattle.saphyr_scanner.specs.Seen.{Hands};
 ghost use Rattle.saphyr_scanner.specs.SpansInOrder.{AreInOrder};
+ghost use Rattle.saphyr_scanner.specs.TokensTaken.{TakesTokens};
 
 use crate::engine::Engine;
-use crate::law::orders_spans;
+use crate::law::{orders_spans, takes_all_tokens};
 use crate::token::Token;
 use saphyr_input::input::{CloneInput, Input};
 use saphyr_scalar::Stop;
@@ -38,12 +39,15 @@ impl<T: Input> Scanner<T> {
     /// The tokens of the input's text, which is to have at most `limit` characters: a longer one
     /// is refused once a token has passed the limit, and that token is not given.
     ///
-    /// The spans of the tokens stand one behind the other, within the text.
+    /// The spans of the tokens stand one behind the other, within the text. The tokens are taken from
+    /// the text: up to the last it is their spellings in order, parted by blanks, breaks and comments.
     pub fn new(alloc: Global, input: T, limit: usize) -> Self
         ensures tokens { result ≡ scan limit (T.rest input) }
         ensures spans { AreInOrder (length (T.rest input)) 0 result.pieces }
+        ensures taken { TakesTokens (T.rest input) result }
     {
         orders_spans();
+        takes_all_tokens();
         Scanner {
             engine: Engine::new(alloc, input),
             limit,

@@ -1,4 +1,5 @@
-ghost use Rattle.std.specs.Prelude.{◌≡◌, ◌≢◌, ℕ, ◌+◌, ◌<◌, ◌≤◌, Bool, Option, Some, false, List, drop, ◌++◌, length, Ok, encode_utf8_all, slice_index};
+ghost use Rattle.std.specs.Prelude.{◌≡◌, ◌≢◌, ℕ, ◌+◌, ◌-◌, ◌^◌, ◌<◌, ◌≤◌, ◌⊎◌, Bool, Option, Some, false, true, List, drop, ◌++◌, length, Ok, encode_utf8_all, slice_index};
+ghost use Rattle.saphyr_input.specs.Classes.{is_break, is_z};
 ghost use Rattle.std.specs.List.{prefix_len};
 ghost use Rattle.saphyr_input.specs.Places.{is_blank_or_break};
 ghost use Rattle.saphyr_scalar.specs.declared.scalar.position.Marker.{Marker};
@@ -129,4 +130,10 @@ pub fn takes_tag()
 /// A directive takes characters off the text.
 pub fn takes_directive()
     ensures { (s t : Cursor) (d : Directive) (end : Marker) → slice_index s.rest 0 ≡ 37 → directive s ≡ Ok (d, end, t) → length t.rest < length s.rest }
+{}
+
+/// A block scalar is passed character by character, to its end and to the start of its span, which
+/// ends where the scalar does: on a line behind the header's, or at NUL or the end.
+pub fn places_each_block_scalar()
+    ensures { (style : BlockStyle) (indent : ℕ) (s t : Cursor) (text : List ℕ) (span : Span) → is_break (slice_index s.rest 0) ≡ false → 0 < length s.rest → block_scalar style indent s ≡ Ok (text, span, t) → IsPassed s.mark s.rest t.mark t.rest × (span.end ≡ t.mark) × ((behind : List ℕ) × IsPassed s.mark s.rest span.start behind × IsPassed span.start behind t.mark t.rest) × (s.mark.line < 2 ^ 64 - 1 → (s.mark.line < t.mark.line) ⊎ (is_z (slice_index t.rest 0) ≡ true)) }
 {}

@@ -30,7 +30,8 @@ impl<T: Input> Reader<T> {
 
     /// A reader at the start of a text.
     pub fn new(mut input: T) -> Self
-        ensures { state result ≡ spec.fresh (T.rest input) }
+        ensures fresh { state result ≡ spec.fresh (T.rest input) }
+        ensures countable { length (T.rest input) < 2 ^ 63 }
     {
         input.lookahead(1);
         Reader {

@@ -1,0 +1,15 @@
+use Rattle.std.specs.Prelude.{false}
+use Rattle.saphyr_scanner.specs.Gap as gaps
+use Rattle.saphyr_scanner.proofs.Sizes.{given_of}
+use Rattle.saphyr_scanner.proofs.Separated.{gap_apart, spaces_apart}
+use Rattle.saphyr_input.specs.declared.input.SkipTabs.TheVariants.{Yes}
+use Rattle.saphyr_scalar.specs.Cursor.{separation}
+use Rattle.saphyr_scanner.proofs.LineTails.{separation_passes}
+use Rattle.saphyr_scanner.proofs.law.passes_separation.Goals as goal
+
+pub returns : goal.returns
+returns c = record {
+  gap = λ least s g e. given_of _ (gaps.pass_gap least s) g (gap_apart least false false s) e;
+  line = λ s x e. let h = given_of _ (separation Yes s) x (separation_passes s) e in (h.apart, h.on_line);
+  spaces = λ s. spaces_apart false s;
+}

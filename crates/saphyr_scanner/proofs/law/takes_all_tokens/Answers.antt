@@ -1,0 +1,42 @@
+use Rattle.std.proofs.Common.{◌≡◌, ◌<◌, ℕ, List, [], ◌∷◌, length, slice_index, ap, ◌∙◌, refl, arith, false}
+use Rattle.saphyr_input.specs.Classes.{is_break}
+use Rattle.saphyr_scalar.specs.declared.reading.block.BlockStyle.{BlockStyle}
+use Rattle.saphyr_scalar.specs.declared.reading.block.BlockStyle.TheVariants as block_style
+use Rattle.saphyr_scanner.specs.TokensTaken.{block_indicator}
+use Rattle.saphyr_scanner.proofs.TakingScalars.{Readers, quoted_laws}
+use Rattle.saphyr_scanner.proofs.HeldScalars.{TextLaws}
+use Rattle.saphyr_scanner.proofs.RunTaken.{scan_taken}
+use Rattle.saphyr_scanner.proofs.law.takes_all_tokens.Goals as goal
+
+indicator_begins : (style : BlockStyle) → is_break (block_indicator style) ≡ false
+indicator_begins block_style.Literal = refl
+indicator_begins block_style.Folded = refl
+
+some_indicator : (style : BlockStyle) (xs : List ℕ) → slice_index xs 0 ≡ block_indicator style → 0 < length xs
+some_indicator style (x ∷ xs) e = omega arith
+some_indicator block_style.Literal [] e = absurd (omega (arith, e))
+some_indicator block_style.Folded [] e = absurd (omega (arith, e))
+
+pub returns : goal.returns
+returns c =
+    let readers : Readers = record {
+      plain = c.takes_plain.ensures;
+      double_quoted = (quoted_laws c.takes_quoted.ensures).0;
+      single_quoted = (quoted_laws c.takes_quoted.ensures).1;
+      block_scalar = c.takes_block_scalar.ensures;
+      name = c.takes_anchor.ensures;
+      tag = c.takes_tag.ensures;
+      directive = c.takes_directive.ensures;
+    } in
+    let laws : TextLaws = record {
+      plain = c.reads_plain_values.ensures;
+      quotes = c.spells_each_quoted.ensures;
+      block_value = c.reads_values_of_lines.ensures;
+      block_place = λ style indent s t text span e r.
+          let p = c.places_each_block_scalar.ensures style indent s t text span (ap is_break e ∙ indicator_begins style) (some_indicator style s.rest e) r in
+          record { passes = p.0; behind = p.2.0; start = p.2.1; inside = p.2.2; end = p.1; line = p.3 };
+      name = c.spells_each_anchor.ensures;
+      tag = c.spells_each_tag.ensures;
+      directive = c.spells_each_directive.ensures;
+    } in
+    scan_taken laws readers
