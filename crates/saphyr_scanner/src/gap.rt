@@ -36,7 +36,7 @@ fn end_gap<T: Input>(
     Ok(broke)
 }
 
-// The same, character by character.
+// Passes blanks, breaks and comments character by character, as `skip_gap` says.
 fn skip_gap_characters<T: Input>(reader: &mut Reader<T>, least: usize) -> Result<bool, Refusal>
     ensures { Gives (λ broke. record { cursor = state reader.new; broke = broke }) result (spec.pass_gap least (state reader.old)) }
 {

@@ -80,6 +80,7 @@ impl HeldSpan {
             },
         }
     }
+
     /// An equal span, unless memory runs out.
     pub(crate) fn try_clone(&self) -> Result<HeldSpan, AllocError>
         ensures { IfOk result (λ copy. held_span copy ≡ held_span self.now) }
