@@ -55,6 +55,12 @@ count a = length a.events + (if is_some a.fault then 1 else 0)
 abbrev pub event_of : Event × Span → Happening × Span
 event_of e = (happening e.0, e.1)
 
+-- what was read, where an event is written into its place
+abbrev pub filled : {X : Type 0} → Event × Span → Option (Result X Fault) → Option (Result (Event × Span) Fault)
+filled next None = None
+filled next (Some (Ok x)) = Some (Ok next)
+filled next (Some (Err f)) = Some (Err f)
+
 -- what ends the events; the last two faults are given by `load` alone
 abbrev pub ending_of : Fault → Ending
 ending_of (fault.Scan e) = Refused e.mark (string_bytes e.info)

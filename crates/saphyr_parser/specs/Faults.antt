@@ -4,8 +4,6 @@ use Rattle.saphyr_scalar.specs.Faults.{Says}
 use Rattle.saphyr_scalar.specs.Texts.{fault_text}
 use Rattle.saphyr_scalar.specs.declared.scalar.fault.Stop.{Stop}
 use Rattle.saphyr_scalar.specs.declared.scalar.fault.Stop.TheVariants as stop
-use Rattle.saphyr_scalar.specs.declared.scalar.position.Span.{Span}
-use Rattle.saphyr_parser.specs.declared.parser.event.Event.{Event}
 use Rattle.saphyr_parser.specs.declared.parser.fault.Fault.{Fault}
 use Rattle.saphyr_parser.specs.declared.parser.fault.Fault.TheVariants as fault
 
@@ -31,7 +29,7 @@ is_own fault.Receiver = false
 is_own fault.InsideDocument = false
 
 -- a fault that reading doesn't give
-abbrev pub is_foreign : Option (Result (Event × Span) Fault) → Bool
+abbrev pub is_foreign : {X : Type 0} → Option (Result X Fault) → Bool
 is_foreign None = false
-is_foreign (Some (Ok e)) = false
+is_foreign (Some (Ok x)) = false
 is_foreign (Some (Err f)) = not (is_own f)

@@ -25,5 +25,6 @@ mod tags;
 pub use cursor::Parser;
 pub use event::Event;
 pub use fault::Fault;
+pub(crate) use reader::no_event;
 pub use receiver::{EventReceiver, Refused, SpannedEventReceiver};
 pub use tag::Tag;

@@ -7,7 +7,7 @@ use Rattle.saphyr_scalar.specs.Seen.{Fails, Moves}
 use Rattle.saphyr_scanner.specs.declared.token.Token.{Token}
 use Rattle.saphyr_scanner.specs.declared.queue.Opening.{Opening}
 use Rattle.saphyr_scanner.specs.declared.queue.Opening.TheVariants as opening
-use Rattle.saphyr_scanner.specs.Seen.{Piece, Remaining, none, before, piece, Hands}
+use Rattle.saphyr_scanner.specs.Seen.{Piece, Remaining, none, before, piece, written, handed, Hands}
 use Rattle.saphyr_scanner.specs.Queue.{Place}
 use Rattle.saphyr_scanner.specs.Core.{Core}
 use Rattle.saphyr_scanner.specs.State.{State}
@@ -85,8 +85,8 @@ hands limit t u (Some x) old is settles taken e =
     let gone = subst (Leaves limit t (take t).1) first taken in
     is ∙ gone ∙ ap (before (piece x)) (sym (remaining_of limit (take t).1 (taken_settles t settles)) ∙ ap (remaining limit) (sym second))
 
-pub handed : Readers → (limit : ℕ) (s t u : State) (r : Option Token) (old : Remaining) → fill limit s ≡ Ok t → take t ≡ (option_map piece r, u) → remaining limit s ≡ old → Hands (Ok r) old (remaining limit u)
-handed laws limit s t u r old e took is =
+hands_out : Readers → (limit : ℕ) (s t u : State) (r : Option Token) (old : Remaining) → fill limit s ≡ Ok t → take t ≡ (option_map piece r, u) → remaining limit s ≡ old → Hands (Ok r) old (remaining limit u)
+hands_out laws limit s t u r old e took is =
     let f = filled laws limit s t e in
     hands limit t u r old (sym is ∙ f.0) f.2 (first_taken limit t.core t.queue.places t.queue.handed f.1) (sym took)
 
@@ -94,7 +94,7 @@ pub stopped : Readers → (limit : ℕ) (s : State) (end : Stop) (old new : Rema
 stopped laws limit s stops.OutOfMemory old new f is = tt
 stopped laws limit s (stops.Refused e) old new f is = sym is ∙ refused_first laws limit s e f
 
-pub handed_over : Readers → (limit : ℕ) (s t u : State) (r : Result (Option Token) Stop) (old : Remaining) → fill limit s ≡ Ok t → Moves (λ x. (option_map piece x, u)) r (Ok (take t)) → remaining limit s ≡ old → Hands r old (remaining limit u)
-handed_over laws limit s t u (Ok x) old e took is = handed laws limit s t u x old e (cc) is
-handed_over laws limit s t u (Err stops.OutOfMemory) old e took is = tt
-handed_over laws limit s t u (Err (stops.Refused f)) old e took is = absurd (cc)
+pub handed_over : Readers → (limit : ℕ) (s t u : State) (token : Token) (r : Result Bool Stop) (old : Remaining) → fill limit s ≡ Ok t → Moves (λ x. (option_map piece (written x token), u)) r (Ok (take t)) → remaining limit s ≡ old → Hands (handed token r) old (remaining limit u)
+handed_over laws limit s t u token (Ok x) old e took is = hands_out laws limit s t u (written x token) old e (cc) is
+handed_over laws limit s t u token (Err stops.OutOfMemory) old e took is = tt
+handed_over laws limit s t u token (Err (stops.Refused f)) old e took is = absurd (cc)

@@ -1,5 +1,5 @@
 -- What contracts see of tokens, and the tokens that a scanner still has to give.
-use Rattle.std.specs.Prelude.{◌≡◌, List, [], ◌∷◌, Option, Some, None, Result, Ok, Err, string_bytes}
+use Rattle.std.specs.Prelude.{◌≡◌, Bool, true, false, List, [], ◌∷◌, Option, Some, None, Result, Ok, Err, string_bytes}
 use Rattle.saphyr_scalar.specs.declared.scalar.position.Span.{Span}
 use Rattle.saphyr_scalar.specs.declared.scalar.fault.Refusal.{Refusal}
 use Rattle.saphyr_scalar.specs.declared.scalar.fault.Stop.{Stop}
@@ -56,6 +56,16 @@ refused e = record { pieces = []; refusal = Some e }
 
 abbrev pub before : Piece → Remaining → Remaining
 before t r = record { pieces = t ∷ r.pieces; refusal = r.refusal }
+
+-- the token in a place, if one was written there
+abbrev pub written : Bool → Token → Option Token
+written false t = None
+written true t = Some t
+
+-- the same of a call
+abbrev pub handed : Token → Result Bool Stop → Result (Option Token) Stop
+handed t (Ok is_written) = Ok (written is_written t)
+handed t (Err e) = Err e
 
 -- what a call for the next token hands out, and what remains; behind a refusal nothing is known
 abbrev pub Hands : Result (Option Token) Stop → Remaining → Remaining → Type 0

@@ -38,7 +38,7 @@ pub(crate) struct Queue {
 
 impl Queue {
     ghost use Rattle.saphyr_scalar.specs.Seen.{Moves};
-    ghost use Rattle.saphyr_scanner.specs.Seen.{piece};
+    ghost use Rattle.saphyr_scanner.specs.Seen.{piece, written};
     ghost use Rattle.saphyr_scanner.specs.QueueSeen.{queue};
     ghost use Rattle.std.specs.Prelude.{option_map, ◌<◌};
 
@@ -96,41 +96,40 @@ impl Queue {
         }
     }
 
-    // Takes the first place off, and gives its token.
+    // Takes the first place off, if there is one, and writes its token into `token`.
     #[inline(always)]
-    fn take_place(&mut self) -> Result<Option<Token>, Stop>
-        ensures { Moves (λ t. (option_map piece t, queue self.new)) result (Ok (spec.take_place (queue self.old))) }
+    fn take_place(&mut self, token: &mut Token) -> Result<bool, Stop>
+        ensures { Moves (λ taken. (option_map piece (written taken token.new), queue self.new)) result (Ok (spec.take_place (queue self.old))) }
     {
         let Some(handed) = self.handed.checked_add(1) else {
             return Err(Stop::OutOfMemory);
         };
         let Some(place) = self.places.pop_front() else {
-            return Ok(None);
+            return Ok(false);
         };
         self.handed = handed;
-        let span = place.span.span();
-        Ok(Some(Token {
-            span,
-            kind: place.kind,
-        }))
+        token.span = place.span.span();
+        token.kind = place.kind;
+        Ok(true)
     }
 
-    /// Takes the first token off.
+    /// Takes the first token off, if there is one, and writes it into `token`.
     #[inline(always)]
-    pub(crate) fn take(&mut self) -> Result<Option<Token>, Stop>
-        ensures { Moves (λ t. (option_map piece t, queue self.new)) result (Ok (spec.take (queue self.old))) }
+    pub(crate) fn take_into(&mut self, token: &mut Token) -> Result<bool, Stop>
+        ensures { Moves (λ taken. (option_map piece (written taken token.new), queue self.new)) result (Ok (spec.take (queue self.old))) }
     {
         let Some(place) = self.places.front_mut() else {
-            return Ok(None);
+            return Ok(false);
         };
-        let span = Span::empty(place.span.start());
         let (kind, left) = match place.opening {
-            Opening::Nothing => return self.take_place(),
+            Opening::Nothing => return self.take_place(token),
             Opening::Key => (TokenType::Key, Opening::Nothing),
             Opening::BlockMappingAndKey => (TokenType::BlockMappingStart, Opening::Key),
             Opening::FlowMappingAndKey => (TokenType::FlowMappingStart, Opening::Key),
         };
+        token.span = Span::empty(place.span.start());
+        token.kind = kind;
         place.opening = left;
-        Ok(Some(Token { span, kind }))
+        Ok(true)
     }
 }

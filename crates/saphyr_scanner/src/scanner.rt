@@ -1,6 +1,6 @@
 ghost use Rattle.std.specs.Prelude.{◌≡◌, length};
 ghost use Rattle.saphyr_scanner.specs.Remaining.{scan};
-ghost use Rattle.saphyr_scanner.specs.Seen.{Hands};
+ghost use Rattle.saphyr_scanner.specs.Seen.{Hands, handed};
 ghost use Rattle.saphyr_scanner.specs.SpansInOrder.{AreInOrder};
 ghost use Rattle.saphyr_scanner.specs.TokensTaken.{TakesTokens};
 
@@ -57,9 +57,22 @@ impl<T: Input> Scanner<T> {
     /// Hands out the next token, or `None` behind the last.
     ///
     /// After an error nothing is known of what a further call gives.
-    #[inline(always)]
     pub fn next_token(&mut self) -> Result<Option<Token>, Stop>
         ensures { Hands result self.old self.new }
+    {
+        let mut token = Token::at_start();
+        Ok(if self.next_token_into(&mut token)? {
+            Some(token)
+        } else {
+            None
+        })
+    }
+
+    /// The same, with a place for the token, which is large to move: `true` says that the next token was
+    /// written there.
+    #[inline(always)]
+    pub fn next_token_into(&mut self, token: &mut Token) -> Result<bool, Stop>
+        ensures { Hands (handed token.new result) self.old self.new }
     {
         takes_plain();
         takes_quoted();
@@ -68,7 +81,7 @@ impl<T: Input> Scanner<T> {
         takes_tag();
         takes_directive();
         self.engine.fill(self.limit)?;
-        self.engine.take()
+        self.engine.take_into(token)
     }
 }
 

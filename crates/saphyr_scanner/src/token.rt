@@ -1,7 +1,7 @@
 mod cloning;
 
 use saphyr_scalar::scalar::TagParts;
-use saphyr_scalar::{ScalarStyle, Span};
+use saphyr_scalar::{Marker, ScalarStyle, Span};
 
 /// The handle of a tag directive and the prefix that it stands for.
 #[derive(Clone, Debug, PartialEq, Eq, Drop)]
@@ -53,4 +53,21 @@ pub enum TokenType {
 pub struct Token {
     pub span: Span,
     pub kind: TokenType,
+}
+
+impl Token {
+    /// The token at the start of each text, as a place for others.
+    #[must_use]
+    #[inline(always)]
+    pub fn at_start() -> Token {
+        let start = Marker {
+            index: 0,
+            line: 0,
+            col: 0,
+        };
+        Token {
+            span: Span::empty(start),
+            kind: TokenType::StreamStart,
+        }
+    }
 }

@@ -14,16 +14,20 @@ impl<T: Input> Machine<T> {
 
     // An entry of a block sequence, or its end.
     #[tactic(auto, unfolding(crate::specs::BlockSteps::sequence_entry))]
-    pub(super) fn block_sequence_entry<'input>(&mut self) -> Result<(Event<'input>, Span), Stop>
-        ensures { Moves (told_of (machine_of self.new)) result (spec.sequence_entry (machine_of self.old)) }
+    pub(super) fn block_sequence_entry<'input>(
+        &mut self,
+        next: &mut (Event<'input>, Span),
+    ) -> Result<(), Stop>
+        ensures { Moves (λ _. told_of (machine_of self.new) next.new) result (spec.sequence_entry (machine_of self.old)) }
     {
         let token = self.take()?;
         match token.kind {
             TokenType::BlockEnd => {
                 self.pop();
-                Ok((Event::SequenceEnd, token.span))
+                *next = (Event::SequenceEnd, token.span);
+                Ok(())
             }
-            TokenType::BlockEntry => self.block_sequence_node(token.span),
+            TokenType::BlockEntry => self.block_sequence_node(token.span, next),
             _ => Err(refuse(FaultText::SequenceEntryExpected, token.span.start)),
         }
     }
@@ -31,15 +35,19 @@ impl<T: Input> Machine<T> {
     // The node behind a `-`.
     #[inline(always)]
     #[tactic(auto, unfolding(crate::specs::BlockSteps::sequence_node))]
-    fn block_sequence_node<'input>(&mut self, dash: Span) -> Result<(Event<'input>, Span), Stop>
-        ensures { Moves (told_of (machine_of self.new)) result (spec.sequence_node dash (machine_of self.old)) }
+    fn block_sequence_node<'input>(
+        &mut self,
+        dash: Span,
+        next: &mut (Event<'input>, Span),
+    ) -> Result<(), Stop>
+        ensures { Moves (λ _. told_of (machine_of self.new) next.new) result (spec.sequence_node dash (machine_of self.old)) }
     {
         let token = self.take()?;
         match token.kind {
             TokenType::BlockEntry | TokenType::BlockEnd => {
-                self.left_out(token, State::BlockSequenceEntry, dash)
+                self.left_out(token, State::BlockSequenceEntry, dash, next)
             }
-            _ => self.inside(State::BlockSequenceEntry, Context::Block, token),
+            _ => self.inside(State::BlockSequenceEntry, Context::Block, token, next),
         }
     }
 
@@ -47,17 +55,19 @@ impl<T: Input> Machine<T> {
     #[tactic(auto, unfolding(crate::specs::BlockSteps::indentless_entry))]
     pub(super) fn indentless_sequence_entry<'input>(
         &mut self,
-    ) -> Result<(Event<'input>, Span), Stop>
-        ensures { Moves (told_of (machine_of self.new)) result (spec.indentless_entry (machine_of self.old)) }
+        next: &mut (Event<'input>, Span),
+    ) -> Result<(), Stop>
+        ensures { Moves (λ _. told_of (machine_of self.new) next.new) result (spec.indentless_entry (machine_of self.old)) }
     {
         let token = self.take()?;
         match token.kind {
-            TokenType::BlockEntry => self.indentless_sequence_node(token.span),
+            TokenType::BlockEntry => self.indentless_sequence_node(token.span, next),
             _ => {
                 let span = token.span;
                 self.put_back(token);
                 self.pop();
-                Ok((Event::SequenceEnd, span))
+                *next = (Event::SequenceEnd, span);
+                Ok(())
             }
         }
     }
@@ -66,33 +76,38 @@ impl<T: Input> Machine<T> {
     fn indentless_sequence_node<'input>(
         &mut self,
         dash: Span,
-    ) -> Result<(Event<'input>, Span), Stop>
-        ensures { Moves (told_of (machine_of self.new)) result (spec.indentless_node dash (machine_of self.old)) }
+        next: &mut (Event<'input>, Span),
+    ) -> Result<(), Stop>
+        ensures { Moves (λ _. told_of (machine_of self.new) next.new) result (spec.indentless_node dash (machine_of self.old)) }
     {
         let token = self.take()?;
         match token.kind {
             TokenType::BlockEntry | TokenType::Key | TokenType::Value | TokenType::BlockEnd => {
-                self.left_out(token, State::IndentlessSequenceEntry, dash)
+                self.left_out(token, State::IndentlessSequenceEntry, dash, next)
             }
-            _ => self.inside(State::IndentlessSequenceEntry, Context::Block, token),
+            _ => self.inside(State::IndentlessSequenceEntry, Context::Block, token, next),
         }
     }
 
     // A key of a block mapping, or its end.
     #[tactic(auto, unfolding(crate::specs::BlockSteps::mapping_key))]
-    pub(super) fn block_mapping_key<'input>(&mut self) -> Result<(Event<'input>, Span), Stop>
-        ensures { Moves (told_of (machine_of self.new)) result (spec.mapping_key (machine_of self.old)) }
+    pub(super) fn block_mapping_key<'input>(
+        &mut self,
+        next: &mut (Event<'input>, Span),
+    ) -> Result<(), Stop>
+        ensures { Moves (λ _. told_of (machine_of self.new) next.new) result (spec.mapping_key (machine_of self.old)) }
     {
         let token = self.take()?;
         match token.kind {
-            TokenType::Key => self.block_key_node(),
+            TokenType::Key => self.block_key_node(next),
             TokenType::Value => {
                 let span = token.span;
-                self.left_out(token, State::BlockMappingValue, span)
+                self.left_out(token, State::BlockMappingValue, span, next)
             }
             TokenType::BlockEnd => {
                 self.pop();
-                Ok((Event::MappingEnd, token.span))
+                *next = (Event::MappingEnd, token.span);
+                Ok(())
             }
             _ => Err(refuse(FaultText::BlockMappingKeyExpected, token.span.start)),
         }
@@ -100,43 +115,50 @@ impl<T: Input> Machine<T> {
 
     // The node behind a key's token.
     #[tactic(auto, unfolding(crate::specs::BlockSteps::key_node))]
-    fn block_key_node<'input>(&mut self) -> Result<(Event<'input>, Span), Stop>
-        ensures { Moves (told_of (machine_of self.new)) result (spec.key_node (machine_of self.old)) }
+    fn block_key_node<'input>(&mut self, next: &mut (Event<'input>, Span)) -> Result<(), Stop>
+        ensures { Moves (λ _. told_of (machine_of self.new) next.new) result (spec.key_node (machine_of self.old)) }
     {
         let token = self.take()?;
         match token.kind {
             TokenType::Key | TokenType::Value | TokenType::BlockEnd => {
                 let span = token.span;
-                self.left_out(token, State::BlockMappingValue, span)
+                self.left_out(token, State::BlockMappingValue, span, next)
             }
-            _ => self.inside(State::BlockMappingValue, Context::BlockMapping, token),
+            _ => self.inside(State::BlockMappingValue, Context::BlockMapping, token, next),
         }
     }
 
     // The value of a pair of a block mapping.
     #[tactic(auto, unfolding(crate::specs::BlockSteps::mapping_value))]
-    pub(super) fn block_mapping_value<'input>(&mut self) -> Result<(Event<'input>, Span), Stop>
-        ensures { Moves (told_of (machine_of self.new)) result (spec.mapping_value (machine_of self.old)) }
+    pub(super) fn block_mapping_value<'input>(
+        &mut self,
+        next: &mut (Event<'input>, Span),
+    ) -> Result<(), Stop>
+        ensures { Moves (λ _. told_of (machine_of self.new) next.new) result (spec.mapping_value (machine_of self.old)) }
     {
         let token = self.take()?;
         let span = token.span;
         match token.kind {
-            TokenType::Value => self.block_value_node(span),
-            _ => self.left_out(token, State::BlockMappingKey, span),
+            TokenType::Value => self.block_value_node(span, next),
+            _ => self.left_out(token, State::BlockMappingKey, span, next),
         }
     }
 
     // The node behind a value's token.
     #[tactic(auto, unfolding(crate::specs::BlockSteps::value_node))]
-    fn block_value_node<'input>(&mut self, colon: Span) -> Result<(Event<'input>, Span), Stop>
-        ensures { Moves (told_of (machine_of self.new)) result (spec.value_node colon (machine_of self.old)) }
+    fn block_value_node<'input>(
+        &mut self,
+        colon: Span,
+        next: &mut (Event<'input>, Span),
+    ) -> Result<(), Stop>
+        ensures { Moves (λ _. told_of (machine_of self.new) next.new) result (spec.value_node colon (machine_of self.old)) }
     {
         let token = self.take()?;
         match token.kind {
             TokenType::Key | TokenType::Value | TokenType::BlockEnd => {
-                self.left_out(token, State::BlockMappingKey, colon)
+                self.left_out(token, State::BlockMappingKey, colon, next)
             }
-            _ => self.inside(State::BlockMappingKey, Context::BlockMapping, token),
+            _ => self.inside(State::BlockMappingKey, Context::BlockMapping, token, next),
         }
     }
 }

@@ -95,6 +95,17 @@ impl<'input, T: Input> Parser<'input, T> {
         self.reader.next_event()
     }
 
+    // Hands out the next event, which is written into its place.
+    #[inline(always)]
+    pub(crate) fn next_into(
+        &mut self,
+        next: &mut (Event<'input>, Span),
+    ) -> Option<Result<(), Fault>>
+        ensures { spec.Hands (spec.filled next.new result) (spec.to_come self.old) (spec.to_come self.new) }
+    {
+        self.reader.next_into(next)
+    }
+
     /// Shows what `next_event` hands out next, and doesn't pass it.
     pub fn peek(&mut self) -> Option<Result<&(Event<'input>, Span), &Fault>>
         ensures* { sem 𝓛 (follows_so (the_row (record { mir = named 1; lft = [] }) T.row T.Input) (the_row (record { mir = named 1; lft = [] }) T.row T.Input) self.entry.ghost_name none (λ _ _. ⊤) (λ v. spec.Stays (spec.to_come self.old) (spec.to_come v) × (spec.IsUnmoved self.old v × spec.Shows result (spec.to_come v)))) }

@@ -149,14 +149,18 @@ impl<T: Input> Machine<T> {
 
     // The start of the stream.
     #[tactic(auto, unfolding(crate::specs::DocumentSteps::stream_start))]
-    pub(super) fn stream_start<'input>(&mut self) -> Result<(Event<'input>, Span), Stop>
-        ensures { Moves (told_of (machine_of self.new)) result (spec.stream_start (machine_of self.old)) }
+    pub(super) fn stream_start<'input>(
+        &mut self,
+        next: &mut (Event<'input>, Span),
+    ) -> Result<(), Stop>
+        ensures { Moves (λ _. told_of (machine_of self.new) next.new) result (spec.stream_start (machine_of self.old)) }
     {
         let token = self.take()?;
         match token.kind {
             TokenType::StreamStart => {
                 self.state = State::ImplicitDocumentStart;
-                Ok((Event::StreamStart, token.span))
+                *next = (Event::StreamStart, token.span);
+                Ok(())
             }
             _ => Err(refuse(FaultText::DocumentStartExpected, token.span.start)),
         }
@@ -164,9 +168,13 @@ impl<T: Input> Machine<T> {
 
     // A document with `---`, whose directives begin with the token.
     #[tactic(auto, unfolding(crate::specs::DocumentSteps::explicit_document))]
-    fn explicit_document<'input>(&mut self, token: Token) -> Result<(Event<'input>, Span), Stop>
+    fn explicit_document<'input>(
+        &mut self,
+        token: Token,
+        next: &mut (Event<'input>, Span),
+    ) -> Result<(), Stop>
         requires { self.old.token ≡ None }
-        ensures { Moves (told_of (machine_of self.new)) result (spec.explicit_document (piece token) (machine_of self.old)) }
+        ensures { Moves (λ _. told_of (machine_of self.new) next.new) result (spec.explicit_document (piece token) (machine_of self.old)) }
     {
         self.put_back(token);
         let token = self.directives()?;
@@ -175,7 +183,8 @@ impl<T: Input> Machine<T> {
                 self.anchors.forget();
                 self.push(State::DocumentEnd)?;
                 self.state = State::DocumentContent;
-                Ok((Event::DocumentStart(true), token.span))
+                *next = (Event::DocumentStart(true), token.span);
+                Ok(())
             }
             TokenType::ByteOrderMark => {
                 Err(refuse(FaultText::MisplacedByteOrderMark, token.span.start))
@@ -186,56 +195,72 @@ impl<T: Input> Machine<T> {
 
     // A document without `---`, whose content begins with the token.
     #[tactic(auto, unfolding(crate::specs::DocumentSteps::bare_document))]
-    fn bare_document<'input>(&mut self, token: Token) -> Result<(Event<'input>, Span), Stop>
+    fn bare_document<'input>(
+        &mut self,
+        token: Token,
+        next: &mut (Event<'input>, Span),
+    ) -> Result<(), Stop>
         requires { self.old.token ≡ None }
-        ensures { Moves (told_of (machine_of self.new)) result (spec.bare_document (piece token) (machine_of self.old)) }
+        ensures { Moves (λ _. told_of (machine_of self.new) next.new) result (spec.bare_document (piece token) (machine_of self.old)) }
     {
         let span = token.span;
         self.put_back(token);
         self.anchors.forget();
         self.push(State::DocumentEnd)?;
         self.state = State::BlockNode;
-        Ok((Event::DocumentStart(false), span))
+        *next = (Event::DocumentStart(false), span);
+        Ok(())
     }
 
     // The start of a document that may begin without `---`, or the end of the stream.
     #[tactic(auto, unfolding(crate::specs::DocumentSteps::implicit_start))]
-    pub(super) fn implicit_document_start<'input>(&mut self) -> Result<(Event<'input>, Span), Stop>
-        ensures { Moves (told_of (machine_of self.new)) result (spec.implicit_start (machine_of self.old)) }
+    pub(super) fn implicit_document_start<'input>(
+        &mut self,
+        next: &mut (Event<'input>, Span),
+    ) -> Result<(), Stop>
+        ensures { Moves (λ _. told_of (machine_of self.new) next.new) result (spec.implicit_start (machine_of self.old)) }
     {
         let token = self.pass_ends()?;
         match token.kind {
             TokenType::StreamEnd => {
                 self.state = State::End;
-                Ok((Event::StreamEnd, token.span))
+                *next = (Event::StreamEnd, token.span);
+                Ok(())
             }
             TokenType::VersionDirective(..)
             | TokenType::TagDirective(..)
             | TokenType::ReservedDirective(_)
-            | TokenType::DocumentStart => self.explicit_document(token),
-            _ => self.bare_document(token),
+            | TokenType::DocumentStart => self.explicit_document(token, next),
+            _ => self.bare_document(token, next),
         }
     }
 
     // The start of a document that begins with `---`, or the end of the stream.
     #[tactic(auto, unfolding(crate::specs::DocumentSteps::explicit_start))]
-    pub(super) fn document_start<'input>(&mut self) -> Result<(Event<'input>, Span), Stop>
-        ensures { Moves (told_of (machine_of self.new)) result (spec.explicit_start (machine_of self.old)) }
+    pub(super) fn document_start<'input>(
+        &mut self,
+        next: &mut (Event<'input>, Span),
+    ) -> Result<(), Stop>
+        ensures { Moves (λ _. told_of (machine_of self.new) next.new) result (spec.explicit_start (machine_of self.old)) }
     {
         let token = self.pass_ends()?;
         match token.kind {
             TokenType::StreamEnd => {
                 self.state = State::End;
-                Ok((Event::StreamEnd, token.span))
+                *next = (Event::StreamEnd, token.span);
+                Ok(())
             }
-            _ => self.explicit_document(token),
+            _ => self.explicit_document(token, next),
         }
     }
 
     // What stands behind `---`.
     #[tactic(auto, unfolding(crate::specs::DocumentSteps::document_content))]
-    pub(super) fn document_content<'input>(&mut self) -> Result<(Event<'input>, Span), Stop>
-        ensures { Moves (told_of (machine_of self.new)) result (spec.document_content (machine_of self.old)) }
+    pub(super) fn document_content<'input>(
+        &mut self,
+        next: &mut (Event<'input>, Span),
+    ) -> Result<(), Stop>
+        ensures { Moves (λ _. told_of (machine_of self.new) next.new) result (spec.document_content (machine_of self.old)) }
     {
         let token = self.take()?;
         match token.kind {
@@ -249,9 +274,10 @@ impl<T: Input> Machine<T> {
                 let span = token.span;
                 self.put_back(token);
                 self.pop();
-                Ok((self.empty_scalar(), span))
+                *next = (self.empty_scalar(), span);
+                Ok(())
             }
-            _ => self.node(Context::Block, token),
+            _ => self.node(Context::Block, token, next),
         }
     }
 
@@ -284,8 +310,11 @@ impl<T: Input> Machine<T> {
 
     // The end of a document.
     #[tactic(auto, unfolding(crate::specs::DocumentSteps::document_end))]
-    pub(super) fn document_end<'input>(&mut self) -> Result<(Event<'input>, Span), Stop>
-        ensures { Moves (told_of (machine_of self.new)) result (spec.document_end (machine_of self.old)) }
+    pub(super) fn document_end<'input>(
+        &mut self,
+        next: &mut (Event<'input>, Span),
+    ) -> Result<(), Stop>
+        ensures { Moves (λ _. told_of (machine_of self.new) next.new) result (spec.document_end (machine_of self.old)) }
     {
         let token = self.behind_document()?;
         let span = token.span;
@@ -304,6 +333,7 @@ impl<T: Input> Machine<T> {
                 self.state = State::DocumentStart;
             }
         }
-        Ok((Event::DocumentEnd, span))
+        *next = (Event::DocumentEnd, span);
+        Ok(())
     }
 }

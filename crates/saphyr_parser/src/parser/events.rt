@@ -18,7 +18,7 @@ impl<T: Input> Machine<T> {
     ghost use Rattle.saphyr_parser.specs.Seen.{machine_of, told_of};
     ghost use Rattle.saphyr_parser.specs.Machine.{fresh};
     ghost use Rattle.saphyr_parser.specs.Answer.{remaining};
-    ghost use Rattle.saphyr_parser.specs.Cursor.{Reads};
+    ghost use Rattle.saphyr_parser.specs.Cursor.{Reads, filled};
     ghost use Rattle.saphyr_parser.specs.Faults.{is_foreign};
     ghost use Rattle.saphyr_parser.specs.declared.parser.state.State.TheVariants.{End};
 
@@ -39,11 +39,11 @@ impl<T: Input> Machine<T> {
 
     #[inline(always)]
     #[tactic(auto, unfolding(crate::specs::Steps::block_node))]
-    fn block_node<'input>(&mut self) -> Result<(Event<'input>, Span), Stop>
-        ensures { Moves (told_of (machine_of self.new)) result (spec.block_node (machine_of self.old)) }
+    fn block_node<'input>(&mut self, next: &mut (Event<'input>, Span)) -> Result<(), Stop>
+        ensures { Moves (λ _. told_of (machine_of self.new) next.new) result (spec.block_node (machine_of self.old)) }
     {
         let token = self.take()?;
-        self.node(Context::Block, token)
+        self.node(Context::Block, token, next)
     }
 
     // Whether the end of the stream was reached.
@@ -53,51 +53,54 @@ impl<T: Input> Machine<T> {
         self.state == State::End
     }
 
-    // Reads the next event, if there is one.
+    // Reads the next event into its place, if there is one.
     #[inline(always)]
     #[tactic(auto, using(crate::proofs::Turns::reads, crate::proofs::Turns::is_over, crate::proofs::Turns::refused))]
-    pub(super) fn read<'input>(&mut self) -> Option<Result<(Event<'input>, Span), Fault>>
-        ensures reads { Reads result (remaining (machine_of self.old)) (remaining (machine_of self.new)) }
+    pub(super) fn read<'input>(
+        &mut self,
+        next: &mut (Event<'input>, Span),
+    ) -> Option<Result<(), Fault>>
+        ensures reads { Reads (filled next.new result) (remaining (machine_of self.old)) (remaining (machine_of self.new)) }
         ensures own { is_foreign result ≡ false }
     {
         if self.is_done() {
             return None;
         }
-        match self.event() {
-            Ok(event) => Some(Ok(event)),
+        match self.event(next) {
+            Ok(()) => Some(Ok(())),
             Err(stop) => Some(Err(Fault::new(self.alloc, stop))),
         }
     }
 
-    // The next event.
+    // The next event, which is written into its place.
     #[inline(never)]
     #[tactic(auto, unfolding(crate::specs::Steps::step))]
-    pub(super) fn event<'input>(&mut self) -> Result<(Event<'input>, Span), Stop>
+    pub(super) fn event<'input>(&mut self, next: &mut (Event<'input>, Span)) -> Result<(), Stop>
         requires { (machine_of self.old).state ≢ End }
-        ensures { Moves (told_of (machine_of self.new)) result (spec.step (machine_of self.old)) }
+        ensures { Moves (λ _. told_of (machine_of self.new) next.new) result (spec.step (machine_of self.old)) }
     {
         match self.state {
-            State::StreamStart => self.stream_start(),
-            State::ImplicitDocumentStart => self.implicit_document_start(),
-            State::DocumentStart => self.document_start(),
-            State::DocumentContent => self.document_content(),
-            State::DocumentEnd => self.document_end(),
-            State::BlockNode => self.block_node(),
-            State::BlockSequenceEntry => self.block_sequence_entry(),
-            State::IndentlessSequenceEntry => self.indentless_sequence_entry(),
-            State::BlockMappingKey => self.block_mapping_key(),
-            State::BlockMappingValue => self.block_mapping_value(),
-            State::FlowSequenceFirstEntry => self.flow_sequence_first_entry(),
-            State::FlowSequenceEntry => self.flow_sequence_entry(),
-            State::FlowSequenceEntryMappingKey => self.flow_sequence_entry_mapping_key(),
-            State::FlowSequenceEntryMappingValue => self.flow_sequence_entry_mapping_value(),
+            State::StreamStart => self.stream_start(next),
+            State::ImplicitDocumentStart => self.implicit_document_start(next),
+            State::DocumentStart => self.document_start(next),
+            State::DocumentContent => self.document_content(next),
+            State::DocumentEnd => self.document_end(next),
+            State::BlockNode => self.block_node(next),
+            State::BlockSequenceEntry => self.block_sequence_entry(next),
+            State::IndentlessSequenceEntry => self.indentless_sequence_entry(next),
+            State::BlockMappingKey => self.block_mapping_key(next),
+            State::BlockMappingValue => self.block_mapping_value(next),
+            State::FlowSequenceFirstEntry => self.flow_sequence_first_entry(next),
+            State::FlowSequenceEntry => self.flow_sequence_entry(next),
+            State::FlowSequenceEntryMappingKey => self.flow_sequence_entry_mapping_key(next),
+            State::FlowSequenceEntryMappingValue => self.flow_sequence_entry_mapping_value(next),
             State::FlowSequenceEntryMappingEnd(place) => {
-                self.flow_sequence_entry_mapping_end(place)
+                self.flow_sequence_entry_mapping_end(place, next)
             }
-            State::FlowMappingFirstKey => self.flow_mapping_first_key(),
-            State::FlowMappingKey => self.flow_mapping_key(),
-            State::FlowMappingValue => self.flow_mapping_value(),
-            State::FlowMappingEmptyValue => self.flow_mapping_empty_value(),
+            State::FlowMappingFirstKey => self.flow_mapping_first_key(next),
+            State::FlowMappingKey => self.flow_mapping_key(next),
+            State::FlowMappingValue => self.flow_mapping_value(next),
+            State::FlowMappingEmptyValue => self.flow_mapping_empty_value(next),
             State::End => unreachable!(),
         }
     }

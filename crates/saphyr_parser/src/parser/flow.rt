@@ -19,36 +19,43 @@ impl<T: Input> Machine<T> {
     #[tactic(auto, unfolding(crate::specs::FlowSteps::first_entry))]
     pub(super) fn flow_sequence_first_entry<'input>(
         &mut self,
-    ) -> Result<(Event<'input>, Span), Stop>
-        ensures { Moves (told_of (machine_of self.new)) result (spec.first_entry (machine_of self.old)) }
+        next: &mut (Event<'input>, Span),
+    ) -> Result<(), Stop>
+        ensures { Moves (λ _. told_of (machine_of self.new) next.new) result (spec.first_entry (machine_of self.old)) }
     {
         let token = self.take()?;
         match token.kind {
             TokenType::FlowSequenceEnd => {
                 self.pop();
-                Ok((Event::SequenceEnd, token.span))
+                *next = (Event::SequenceEnd, token.span);
+                Ok(())
             }
             TokenType::Key => {
                 self.state = State::FlowSequenceEntryMappingKey;
-                Ok((Event::MappingStart(0, None), token.span))
+                *next = (Event::MappingStart(0, None), token.span);
+                Ok(())
             }
-            _ => self.inside(State::FlowSequenceEntry, Context::Flow, token),
+            _ => self.inside(State::FlowSequenceEntry, Context::Flow, token, next),
         }
     }
 
     // The comma before an entry of a flow sequence, with the entry, or the end of the sequence.
     #[inline(always)]
     #[tactic(auto, unfolding(crate::specs::FlowSteps::other_entry))]
-    pub(super) fn flow_sequence_entry<'input>(&mut self) -> Result<(Event<'input>, Span), Stop>
-        ensures { Moves (told_of (machine_of self.new)) result (spec.other_entry (machine_of self.old)) }
+    pub(super) fn flow_sequence_entry<'input>(
+        &mut self,
+        next: &mut (Event<'input>, Span),
+    ) -> Result<(), Stop>
+        ensures { Moves (λ _. told_of (machine_of self.new) next.new) result (spec.other_entry (machine_of self.old)) }
     {
         let token = self.take()?;
         match token.kind {
             TokenType::FlowSequenceEnd => {
                 self.pop();
-                Ok((Event::SequenceEnd, token.span))
+                *next = (Event::SequenceEnd, token.span);
+                Ok(())
             }
-            TokenType::FlowEntry => self.flow_sequence_first_entry(),
+            TokenType::FlowEntry => self.flow_sequence_first_entry(next),
             _ => Err(refuse(FaultText::FlowSequenceEndExpected, token.span.start)),
         }
     }
@@ -57,16 +64,22 @@ impl<T: Input> Machine<T> {
     #[tactic(auto, unfolding(crate::specs::FlowSteps::pair_key))]
     pub(super) fn flow_sequence_entry_mapping_key<'input>(
         &mut self,
-    ) -> Result<(Event<'input>, Span), Stop>
-        ensures { Moves (told_of (machine_of self.new)) result (spec.pair_key (machine_of self.old)) }
+        next: &mut (Event<'input>, Span),
+    ) -> Result<(), Stop>
+        ensures { Moves (λ _. told_of (machine_of self.new) next.new) result (spec.pair_key (machine_of self.old)) }
     {
         let token = self.take()?;
         match token.kind {
             TokenType::Value | TokenType::FlowEntry | TokenType::FlowSequenceEnd => {
                 let span = token.span;
-                self.left_out(token, State::FlowSequenceEntryMappingValue, span)
+                self.left_out(token, State::FlowSequenceEntryMappingValue, span, next)
             }
-            _ => self.inside(State::FlowSequenceEntryMappingValue, Context::Flow, token),
+            _ => self.inside(
+                State::FlowSequenceEntryMappingValue,
+                Context::Flow,
+                token,
+                next,
+            ),
         }
     }
 
@@ -74,15 +87,21 @@ impl<T: Input> Machine<T> {
     #[tactic(auto, unfolding(crate::specs::FlowSteps::pair_value))]
     pub(super) fn flow_sequence_entry_mapping_value<'input>(
         &mut self,
-    ) -> Result<(Event<'input>, Span), Stop>
-        ensures { Moves (told_of (machine_of self.new)) result (spec.pair_value (machine_of self.old)) }
+        next: &mut (Event<'input>, Span),
+    ) -> Result<(), Stop>
+        ensures { Moves (λ _. told_of (machine_of self.new) next.new) result (spec.pair_value (machine_of self.old)) }
     {
         let token = self.take()?;
         match token.kind {
-            TokenType::Value => self.flow_sequence_entry_mapping_node(),
+            TokenType::Value => self.flow_sequence_entry_mapping_node(next),
             _ => {
                 let span = token.span;
-                self.left_out(token, State::FlowSequenceEntryMappingEnd(span.end), span)
+                self.left_out(
+                    token,
+                    State::FlowSequenceEntryMappingEnd(span.end),
+                    span,
+                    next,
+                )
             }
         }
     }
@@ -90,15 +109,20 @@ impl<T: Input> Machine<T> {
     // The node behind the colon of a pair of a flow sequence. The pair's end has its place behind the
     // node's first token.
     #[tactic(auto, unfolding(crate::specs::FlowSteps::pair_value_node))]
-    fn flow_sequence_entry_mapping_node<'input>(&mut self) -> Result<(Event<'input>, Span), Stop>
-        ensures { Moves (told_of (machine_of self.new)) result (spec.pair_value_node (machine_of self.old)) }
+    fn flow_sequence_entry_mapping_node<'input>(
+        &mut self,
+        next: &mut (Event<'input>, Span),
+    ) -> Result<(), Stop>
+        ensures { Moves (λ _. told_of (machine_of self.new) next.new) result (spec.pair_value_node (machine_of self.old)) }
     {
         let token = self.take()?;
         let span = token.span;
         let state = State::FlowSequenceEntryMappingEnd(span.end);
         match token.kind {
-            TokenType::FlowEntry | TokenType::FlowSequenceEnd => self.left_out(token, state, span),
-            _ => self.inside(state, Context::Flow, token),
+            TokenType::FlowEntry | TokenType::FlowSequenceEnd => self.left_out(
+                token, state, span, next,
+            ),
+            _ => self.inside(state, Context::Flow, token, next),
         }
     }
 
@@ -107,40 +131,49 @@ impl<T: Input> Machine<T> {
     pub(super) fn flow_sequence_entry_mapping_end<'input>(
         &mut self,
         place: Marker,
-    ) -> Result<(Event<'input>, Span), Stop>
-        ensures { Moves (told_of (machine_of self.new)) result (spec.pair_end place (machine_of self.old)) }
+        next: &mut (Event<'input>, Span),
+    ) -> Result<(), Stop>
+        ensures { Moves (λ _. told_of (machine_of self.new) next.new) result (spec.pair_end place (machine_of self.old)) }
     {
         self.state = State::FlowSequenceEntry;
         let span = Span {
             start: place,
             end: place,
         };
-        Ok((Event::MappingEnd, span))
+        *next = (Event::MappingEnd, span);
+        Ok(())
     }
 
     // The first pair of a flow mapping, or its end.
     #[tactic(auto, unfolding(crate::specs::FlowSteps::first_pair))]
-    pub(super) fn flow_mapping_first_key<'input>(&mut self) -> Result<(Event<'input>, Span), Stop>
-        ensures { Moves (told_of (machine_of self.new)) result (spec.first_pair (machine_of self.old)) }
+    pub(super) fn flow_mapping_first_key<'input>(
+        &mut self,
+        next: &mut (Event<'input>, Span),
+    ) -> Result<(), Stop>
+        ensures { Moves (λ _. told_of (machine_of self.new) next.new) result (spec.first_pair (machine_of self.old)) }
     {
         let token = self.take()?;
         let span = token.span;
-        self.flow_mapping_pair(span, token)
+        self.flow_mapping_pair(span, token, next)
     }
 
     // The comma before a pair of a flow mapping, with its key, or the end of the mapping.
     #[inline(always)]
     #[tactic(auto, unfolding(crate::specs::FlowSteps::other_pair))]
-    pub(super) fn flow_mapping_key<'input>(&mut self) -> Result<(Event<'input>, Span), Stop>
-        ensures { Moves (told_of (machine_of self.new)) result (spec.other_pair (machine_of self.old)) }
+    pub(super) fn flow_mapping_key<'input>(
+        &mut self,
+        next: &mut (Event<'input>, Span),
+    ) -> Result<(), Stop>
+        ensures { Moves (λ _. told_of (machine_of self.new) next.new) result (spec.other_pair (machine_of self.old)) }
     {
         let token = self.take()?;
         match token.kind {
             TokenType::FlowMappingEnd => {
                 self.pop();
-                Ok((Event::MappingEnd, token.span))
+                *next = (Event::MappingEnd, token.span);
+                Ok(())
             }
-            TokenType::FlowEntry => self.flow_mapping_pair_behind_comma(token.span),
+            TokenType::FlowEntry => self.flow_mapping_pair_behind_comma(token.span, next),
             _ => Err(refuse(FaultText::FlowMappingEndExpected, token.span.start)),
         }
     }
@@ -150,11 +183,12 @@ impl<T: Input> Machine<T> {
     fn flow_mapping_pair_behind_comma<'input>(
         &mut self,
         comma: Span,
-    ) -> Result<(Event<'input>, Span), Stop>
-        ensures { Moves (told_of (machine_of self.new)) result (spec.pair_behind_comma comma (machine_of self.old)) }
+        next: &mut (Event<'input>, Span),
+    ) -> Result<(), Stop>
+        ensures { Moves (λ _. told_of (machine_of self.new) next.new) result (spec.pair_behind_comma comma (machine_of self.old)) }
     {
         let token = self.take()?;
-        self.flow_mapping_pair(comma, token)
+        self.flow_mapping_pair(comma, token, next)
     }
 
     // A pair begins with the token, or the mapping ends there, and its end has the span.
@@ -163,76 +197,88 @@ impl<T: Input> Machine<T> {
         &mut self,
         end: Span,
         token: Token,
-    ) -> Result<(Event<'input>, Span), Stop>
+        next: &mut (Event<'input>, Span),
+    ) -> Result<(), Stop>
         requires { self.old.token ≡ None }
-        ensures { Moves (told_of (machine_of self.new)) result (spec.pair_at (piece token).kind end (piece token) (machine_of self.old)) }
+        ensures { Moves (λ _. told_of (machine_of self.new) next.new) result (spec.pair_at (piece token).kind end (piece token) (machine_of self.old)) }
     {
         match token.kind {
-            TokenType::Key => self.flow_key_node(),
+            TokenType::Key => self.flow_key_node(next),
             TokenType::Value => {
                 let span = token.span;
-                self.left_out(token, State::FlowMappingValue, span)
+                self.left_out(token, State::FlowMappingValue, span, next)
             }
             TokenType::FlowMappingEnd => {
                 self.pop();
-                Ok((Event::MappingEnd, end))
+                *next = (Event::MappingEnd, end);
+                Ok(())
             }
-            _ => self.inside(State::FlowMappingEmptyValue, Context::Flow, token),
+            _ => self.inside(State::FlowMappingEmptyValue, Context::Flow, token, next),
         }
     }
 
     // The node behind a key's token.
     #[inline(always)]
     #[tactic(auto, unfolding(crate::specs::FlowSteps::key_node))]
-    fn flow_key_node<'input>(&mut self) -> Result<(Event<'input>, Span), Stop>
-        ensures { Moves (told_of (machine_of self.new)) result (spec.key_node (machine_of self.old)) }
+    fn flow_key_node<'input>(&mut self, next: &mut (Event<'input>, Span)) -> Result<(), Stop>
+        ensures { Moves (λ _. told_of (machine_of self.new) next.new) result (spec.key_node (machine_of self.old)) }
     {
         let token = self.take()?;
         match token.kind {
             TokenType::Value | TokenType::FlowEntry | TokenType::FlowMappingEnd => {
                 let span = token.span;
-                self.left_out(token, State::FlowMappingValue, span)
+                self.left_out(token, State::FlowMappingValue, span, next)
             }
-            _ => self.inside(State::FlowMappingValue, Context::Flow, token),
+            _ => self.inside(State::FlowMappingValue, Context::Flow, token, next),
         }
     }
 
     // The value of a pair of a flow mapping.
     #[inline(always)]
     #[tactic(auto, unfolding(crate::specs::FlowSteps::mapping_value))]
-    pub(super) fn flow_mapping_value<'input>(&mut self) -> Result<(Event<'input>, Span), Stop>
-        ensures { Moves (told_of (machine_of self.new)) result (spec.mapping_value (machine_of self.old)) }
+    pub(super) fn flow_mapping_value<'input>(
+        &mut self,
+        next: &mut (Event<'input>, Span),
+    ) -> Result<(), Stop>
+        ensures { Moves (λ _. told_of (machine_of self.new) next.new) result (spec.mapping_value (machine_of self.old)) }
     {
         let token = self.take()?;
         let span = token.span;
         match token.kind {
-            TokenType::Value => self.flow_value_node(span),
-            _ => self.left_out(token, State::FlowMappingKey, span),
+            TokenType::Value => self.flow_value_node(span, next),
+            _ => self.left_out(token, State::FlowMappingKey, span, next),
         }
     }
 
     // The node behind a value's token.
     #[inline(always)]
     #[tactic(auto, unfolding(crate::specs::FlowSteps::value_node))]
-    fn flow_value_node<'input>(&mut self, colon: Span) -> Result<(Event<'input>, Span), Stop>
-        ensures { Moves (told_of (machine_of self.new)) result (spec.value_node colon (machine_of self.old)) }
+    fn flow_value_node<'input>(
+        &mut self,
+        colon: Span,
+        next: &mut (Event<'input>, Span),
+    ) -> Result<(), Stop>
+        ensures { Moves (λ _. told_of (machine_of self.new) next.new) result (spec.value_node colon (machine_of self.old)) }
     {
         let token = self.take()?;
         match token.kind {
             TokenType::FlowEntry | TokenType::FlowMappingEnd => {
-                self.left_out(token, State::FlowMappingKey, colon)
+                self.left_out(token, State::FlowMappingKey, colon, next)
             }
-            _ => self.inside(State::FlowMappingKey, Context::Flow, token),
+            _ => self.inside(State::FlowMappingKey, Context::Flow, token, next),
         }
     }
 
     // The value of a pair that has a key alone.
     #[tactic(auto, unfolding(crate::specs::FlowSteps::empty_value))]
-    pub(super) fn flow_mapping_empty_value<'input>(&mut self) -> Result<(Event<'input>, Span), Stop>
-        ensures { Moves (told_of (machine_of self.new)) result (spec.empty_value (machine_of self.old)) }
+    pub(super) fn flow_mapping_empty_value<'input>(
+        &mut self,
+        next: &mut (Event<'input>, Span),
+    ) -> Result<(), Stop>
+        ensures { Moves (λ _. told_of (machine_of self.new) next.new) result (spec.empty_value (machine_of self.old)) }
     {
         let token = self.take()?;
         let span = token.span;
-        self.left_out(token, State::FlowMappingKey, span)
+        self.left_out(token, State::FlowMappingKey, span, next)
     }
 }

@@ -13,7 +13,8 @@ use std::borrow::CowStr;
 
 /// What turns tokens into events.
 ///
-/// Its steps are inlined into one another, since tokens and events are large to move.
+/// Its steps are inlined into one another, and write the event into a place that they are given, since
+/// tokens and events are large to move.
 #[derive(Drop)]
 pub struct Machine<T: Input> {
     pub(super) scanner: Scanner<T>,
@@ -55,26 +56,38 @@ impl<T: Input> Machine<T> {
         self.token.take()
     }
 
+    // Takes the next token, and writes it into `token`.
+    #[inline(never)]
+    fn take_into(&mut self, token: &mut Token) -> Result<(), Stop>
+        ensures taken { Moves (λ _. (piece token.new, machine_of self.new)) result (spec.take (machine_of self.old)) }
+        ensures room { IfOk result (λ _. self.new.token ≡ None) }
+    {
+        if let Some(next) = self.take_back() {
+            *token = next;
+            return Ok(());
+        }
+        if self.scanner.next_token_into(token)? {
+            return Ok(());
+        }
+        Err(refuse(
+            FaultText::DocumentStartExpected,
+            Marker {
+                index: 0,
+                line: 0,
+                col: 0,
+            },
+        ))
+    }
+
     // Takes the next token.
     #[inline(always)]
     pub(super) fn take(&mut self) -> Result<Token, Stop>
         ensures taken { Moves (λ t. (piece t, machine_of self.new)) result (spec.take (machine_of self.old)) }
         ensures room { IfOk result (λ t. self.new.token ≡ None) }
     {
-        if let Some(token) = self.take_back() {
-            return Ok(token);
-        }
-        match self.scanner.next_token()? {
-            Some(token) => Ok(token),
-            None => Err(refuse(
-                FaultText::DocumentStartExpected,
-                Marker {
-                    index: 0,
-                    line: 0,
-                    col: 0,
-                },
-            )),
-        }
+        let mut token = Token::at_start();
+        self.take_into(&mut token)?;
+        Ok(token)
     }
 
     // Leaves the token to be read again.
@@ -130,12 +143,14 @@ impl<T: Input> Machine<T> {
         token: Token,
         state: State,
         span: Span,
-    ) -> Result<(Event<'input>, Span), Stop>
+        next: &mut (Event<'input>, Span),
+    ) -> Result<(), Stop>
         requires { self.old.token ≡ None }
-        ensures { Moves (told_of (machine_of self.new)) result (spec.left_out (piece token) state span (machine_of self.old)) }
+        ensures { Moves (λ _. told_of (machine_of self.new) next.new) result (spec.left_out (piece token) state span (machine_of self.old)) }
     {
         self.put_back(token);
         self.state = state;
-        Ok((self.empty_scalar(), span))
+        *next = (self.empty_scalar(), span);
+        Ok(())
     }
 }

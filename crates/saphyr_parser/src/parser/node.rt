@@ -25,19 +25,6 @@ pub struct Properties {
 impl Properties {
     ghost use Rattle.saphyr_parser.specs.NodeSeen.{properties};
 
-    // No properties, at a place.
-    #[inline(always)]
-    fn none(place: Marker) -> Properties
-        ensures { properties result ≡ spec.no_properties place }
-    {
-        Properties {
-            start: place,
-            behind: place,
-            anchor: 0,
-            tag: None,
-        }
-    }
-
     #[inline(always)]
     fn has_any(&self) -> bool
         ensures { result ≡ spec.has_property (properties self.now) }
@@ -68,9 +55,10 @@ impl<T: Input> Machine<T> {
         &mut self,
         properties: Properties,
         token: Token,
-    ) -> Result<(Event<'input>, Span), Stop>
+        next: &mut (Event<'input>, Span),
+    ) -> Result<(), Stop>
         requires { self.old.token ≡ None }
-        ensures { Moves (told_of (machine_of self.new)) result (spec.without_content (seen properties) (piece token) (machine_of self.old)) }
+        ensures { Moves (λ _. told_of (machine_of self.new) next.new) result (spec.without_content (seen properties) (piece token) (machine_of self.old)) }
     {
         if !properties.has_any() {
             return Err(refuse(FaultText::NodeContentExpected, token.span.start));
@@ -80,7 +68,8 @@ impl<T: Input> Machine<T> {
         let span = properties.up_to(properties.behind);
         let text = CowStr::Owned(String::new(self.alloc));
         let Properties { anchor, tag, .. } = properties;
-        Ok((Event::Scalar(text, ScalarStyle::Plain, anchor, tag), span))
+        *next = (Event::Scalar(text, ScalarStyle::Plain, anchor, tag), span);
+        Ok(())
     }
 
     #[inline(always)]
@@ -89,13 +78,14 @@ impl<T: Input> Machine<T> {
         state: State,
         properties: Properties,
         place: Marker,
-    ) -> (Event<'input>, Span)
-        ensures { told_of (machine_of self.new) result ≡ spec.opened_sequence state (seen properties) place (machine_of self.old) }
+        next: &mut (Event<'input>, Span),
+    )
+        ensures { told_of (machine_of self.new) next.new ≡ spec.opened_sequence state (seen properties) place (machine_of self.old) }
     {
         self.state = state;
         let span = properties.up_to(place);
         let Properties { anchor, tag, .. } = properties;
-        (Event::SequenceStart(anchor, tag), span)
+        *next = (Event::SequenceStart(anchor, tag), span);
     }
 
     #[inline(always)]
@@ -104,13 +94,14 @@ impl<T: Input> Machine<T> {
         state: State,
         properties: Properties,
         place: Marker,
-    ) -> (Event<'input>, Span)
-        ensures { told_of (machine_of self.new) result ≡ spec.opened_mapping state (seen properties) place (machine_of self.old) }
+        next: &mut (Event<'input>, Span),
+    )
+        ensures { told_of (machine_of self.new) next.new ≡ spec.opened_mapping state (seen properties) place (machine_of self.old) }
     {
         self.state = state;
         let span = properties.up_to(place);
         let Properties { anchor, tag, .. } = properties;
-        (Event::MappingStart(anchor, tag), span)
+        *next = (Event::MappingStart(anchor, tag), span);
     }
 
     // The content of a node begins with the token.
@@ -121,9 +112,10 @@ impl<T: Input> Machine<T> {
         properties: Properties,
         context: Context,
         token: Token,
-    ) -> Result<(Event<'input>, Span), Stop>
+        next: &mut (Event<'input>, Span),
+    ) -> Result<(), Stop>
         requires { self.old.token ≡ None }
-        ensures { Moves (told_of (machine_of self.new)) result (spec.content (seen properties) context (piece token) (machine_of self.old)) }
+        ensures { Moves (λ _. told_of (machine_of self.new) next.new) result (spec.content (seen properties) context (piece token) (machine_of self.old)) }
     {
         let Token { span, kind } = token;
         match kind {
@@ -131,25 +123,31 @@ impl<T: Input> Machine<T> {
                 self.pop();
                 let span = properties.up_to(span.end);
                 let Properties { anchor, tag, .. } = properties;
-                Ok((Event::Scalar(CowStr::Owned(text), style, anchor, tag), span))
+                *next = (Event::Scalar(CowStr::Owned(text), style, anchor, tag), span);
+                Ok(())
             }
             TokenType::FlowSequenceStart => {
-                Ok(self.open_sequence(State::FlowSequenceFirstEntry, properties, span.end))
+                self.open_sequence(State::FlowSequenceFirstEntry, properties, span.end, next);
+                Ok(())
             }
             TokenType::FlowMappingStart => {
-                Ok(self.open_mapping(State::FlowMappingFirstKey, properties, span.end))
+                self.open_mapping(State::FlowMappingFirstKey, properties, span.end, next);
+                Ok(())
             }
             TokenType::BlockSequenceStart if context.allows_block() => {
-                Ok(self.open_sequence(State::BlockSequenceEntry, properties, span.end))
+                self.open_sequence(State::BlockSequenceEntry, properties, span.end, next);
+                Ok(())
             }
             TokenType::BlockMappingStart if context.allows_block() => {
-                Ok(self.open_mapping(State::BlockMappingKey, properties, span.end))
+                self.open_mapping(State::BlockMappingKey, properties, span.end, next);
+                Ok(())
             }
             TokenType::BlockEntry if context.allows_indentless() => {
                 self.put_back(Token { span, kind });
-                Ok(self.open_sequence(State::IndentlessSequenceEntry, properties, span.end))
+                self.open_sequence(State::IndentlessSequenceEntry, properties, span.end, next);
+                Ok(())
             }
-            kind => self.without_content(properties, Token { span, kind }),
+            kind => self.without_content(properties, Token { span, kind }, next),
         }
     }
 
@@ -159,21 +157,28 @@ impl<T: Input> Machine<T> {
         &mut self,
         properties: Properties,
         context: Context,
-    ) -> Result<(Event<'input>, Span), Stop>
-        ensures { Moves (told_of (machine_of self.new)) result (spec.next_content (seen properties) context (machine_of self.old)) }
+        next: &mut (Event<'input>, Span),
+    ) -> Result<(), Stop>
+        ensures { Moves (λ _. told_of (machine_of self.new) next.new) result (spec.next_content (seen properties) context (machine_of self.old)) }
     {
         let token = self.take()?;
-        self.content(properties, context, token)
+        self.content(properties, context, token, next)
     }
 
     #[tactic(auto, unfolding(crate::specs::NodeSteps::alias))]
-    fn alias<'input>(&mut self, name: &str, span: Span) -> Result<(Event<'input>, Span), Stop>
-        ensures { Moves (told_of (machine_of self.new)) result (spec.alias name.now span (machine_of self.old)) }
+    fn alias<'input>(
+        &mut self,
+        name: &str,
+        span: Span,
+        next: &mut (Event<'input>, Span),
+    ) -> Result<(), Stop>
+        ensures { Moves (λ _. told_of (machine_of self.new) next.new) result (spec.alias name.now span (machine_of self.old)) }
     {
         match self.anchors.id_of(name) {
             Some(id) => {
                 self.pop();
-                Ok((Event::Alias(id), span))
+                *next = (Event::Alias(id), span);
+                Ok(())
             }
             None => Err(refuse(FaultText::UnknownAnchor, span.start)),
         }
@@ -186,8 +191,9 @@ impl<T: Input> Machine<T> {
         name: String,
         anchor: Span,
         context: Context,
-    ) -> Result<(Event<'input>, Span), Stop>
-        ensures { Moves (told_of (machine_of self.new)) result (spec.behind_anchor (string_bytes name) anchor context (machine_of self.old)) }
+        next: &mut (Event<'input>, Span),
+    ) -> Result<(), Stop>
+        ensures { Moves (λ _. told_of (machine_of self.new) next.new) result (spec.behind_anchor (string_bytes name) anchor context (machine_of self.old)) }
     {
         let id = self.anchors.register(name)?;
         let Token { span, kind } = self.take()?;
@@ -201,9 +207,9 @@ impl<T: Input> Machine<T> {
             TokenType::Tag(tag) => {
                 properties.tag = Some(self.resolve(Box::into_inner(tag), anchor.start)?);
                 properties.behind = span.end;
-                self.next_content(properties, context)
+                self.next_content(properties, context, next)
             }
-            kind => self.content(properties, context, Token { span, kind }),
+            kind => self.content(properties, context, Token { span, kind }, next),
         }
     }
 
@@ -214,8 +220,9 @@ impl<T: Input> Machine<T> {
         tag: TagParts,
         place: Span,
         context: Context,
-    ) -> Result<(Event<'input>, Span), Stop>
-        ensures { Moves (told_of (machine_of self.new)) result (spec.behind_tag (string_bytes tag.handle) (string_bytes tag.suffix) place context (machine_of self.old)) }
+        next: &mut (Event<'input>, Span),
+    ) -> Result<(), Stop>
+        ensures { Moves (λ _. told_of (machine_of self.new) next.new) result (spec.behind_tag (string_bytes tag.handle) (string_bytes tag.suffix) place context (machine_of self.old)) }
     {
         let tag = self.resolve(tag, place.start)?;
         let Token { span, kind } = self.take()?;
@@ -229,9 +236,9 @@ impl<T: Input> Machine<T> {
             TokenType::Anchor(name) => {
                 properties.anchor = self.anchors.register(name)?;
                 properties.behind = span.end;
-                self.next_content(properties, context)
+                self.next_content(properties, context, next)
             }
-            kind => self.content(properties, context, Token { span, kind }),
+            kind => self.content(properties, context, Token { span, kind }, next),
         }
     }
 
@@ -242,17 +249,62 @@ impl<T: Input> Machine<T> {
         &mut self,
         context: Context,
         token: Token,
-    ) -> Result<(Event<'input>, Span), Stop>
+        next: &mut (Event<'input>, Span),
+    ) -> Result<(), Stop>
         requires { self.old.token ≡ None }
-        ensures { Moves (told_of (machine_of self.new)) result (spec.node context (piece token) (machine_of self.old)) }
+        ensures { Moves (λ _. told_of (machine_of self.new) next.new) result (spec.node context (piece token) (machine_of self.old)) }
     {
         let Token { span, kind } = token;
         match kind {
-            TokenType::Alias(name) => self.alias(name.as_str(), span),
-            TokenType::Anchor(name) => self.behind_anchor(name, span, context),
-            TokenType::Tag(tag) => self.behind_tag(Box::into_inner(tag), span, context),
-            kind => self.content(Properties::none(span.start), context, Token { span, kind }),
+            TokenType::Alias(name) => self.alias(name.as_str(), span, next),
+            TokenType::Anchor(name) => self.behind_anchor(name, span, context, next),
+            TokenType::Tag(tag) => self.behind_tag(Box::into_inner(tag), span, context, next),
+            kind => self.bare_content(context, Token { span, kind }, next),
         }
+    }
+
+    // A node begins with the token, and has no properties.
+    #[inline(always)]
+    #[tactic(auto, unfolding(crate::specs::NodeSteps::content))]
+    fn bare_content<'input>(
+        &mut self,
+        context: Context,
+        token: Token,
+        next: &mut (Event<'input>, Span),
+    ) -> Result<(), Stop>
+        requires { self.old.token ≡ None }
+        ensures { Moves (λ _. told_of (machine_of self.new) next.new) result (spec.content (spec.no_properties (piece token).span.start) context (piece token) (machine_of self.old)) }
+    {
+        let Token { span, kind } = token;
+        match kind {
+            TokenType::Scalar(style, text) => {
+                self.pop();
+                *next = (Event::Scalar(CowStr::Owned(text), style, 0, None), span);
+            }
+            TokenType::FlowSequenceStart => {
+                self.state = State::FlowSequenceFirstEntry;
+                *next = (Event::SequenceStart(0, None), span);
+            }
+            TokenType::FlowMappingStart => {
+                self.state = State::FlowMappingFirstKey;
+                *next = (Event::MappingStart(0, None), span);
+            }
+            TokenType::BlockSequenceStart if context.allows_block() => {
+                self.state = State::BlockSequenceEntry;
+                *next = (Event::SequenceStart(0, None), span);
+            }
+            TokenType::BlockMappingStart if context.allows_block() => {
+                self.state = State::BlockMappingKey;
+                *next = (Event::MappingStart(0, None), span);
+            }
+            TokenType::BlockEntry if context.allows_indentless() => {
+                self.put_back(Token { span, kind });
+                self.state = State::IndentlessSequenceEntry;
+                *next = (Event::SequenceStart(0, None), span);
+            }
+            _ => return Err(refuse(FaultText::NodeContentExpected, span.start)),
+        }
+        Ok(())
     }
 
     // A node inside a collection, which goes on in the state behind it.
@@ -262,11 +314,12 @@ impl<T: Input> Machine<T> {
         state: State,
         context: Context,
         token: Token,
-    ) -> Result<(Event<'input>, Span), Stop>
+        next: &mut (Event<'input>, Span),
+    ) -> Result<(), Stop>
         requires { self.old.token ≡ None }
-        ensures { Moves (told_of (machine_of self.new)) result (spec.inside state context (piece token) (machine_of self.old)) }
+        ensures { Moves (λ _. told_of (machine_of self.new) next.new) result (spec.inside state context (piece token) (machine_of self.old)) }
     {
         self.push(state)?;
-        self.node(context, token)
+        self.node(context, token, next)
     }
 }

@@ -1,13 +1,25 @@
 ghost use Rattle.std.specs.Prelude.{◌≡◌, None, IfNone};
+ghost use Rattle.saphyr_parser.specs.Cursor.{filled};
 
 use crate::parser::event::Event;
 use crate::parser::fault::Fault;
 use crate::parser::kept::Kept;
 use crate::parser::machine::Machine;
 use saphyr_input::input::Input;
-use saphyr_scalar::Span;
+use saphyr_scalar::{Marker, Span};
 use saphyr_scanner::Scanner;
 use std::alloc::Global;
+
+// A place for an event.
+#[inline(always)]
+pub(crate) fn no_event<'input>() -> (Event<'input>, Span) {
+    let start = Marker {
+        index: 0,
+        line: 0,
+        col: 0,
+    };
+    (Event::Nothing, Span::empty(start))
+}
 
 /// A machine, with what was read ahead of it and what is remembered of the events that were handed out.
 #[derive(Drop)]
@@ -20,6 +32,22 @@ pub struct Reader<'input, T: Input> {
     pub(super) inside: bool,
     // The span of the stream's end, once that was handed out.
     pub(super) finished: Option<Span>,
+}
+
+// Writes the event that was handed out into its place.
+fn fill<'input>(
+    handed: Option<Result<(Event<'input>, Span), Fault>>,
+    next: &mut (Event<'input>, Span),
+) -> Option<Result<(), Fault>>
+    ensures { filled next.new result ≡ handed.entry }
+{
+    match handed? {
+        Ok(item) => {
+            *next = item;
+            Some(Ok(()))
+        }
+        Err(fault) => Some(Err(fault)),
+    }
 }
 
 impl<'input, T: Input> Reader<'input, T> {
@@ -50,8 +78,9 @@ impl<'input, T: Input> Reader<'input, T> {
         if self.current.is_some() || self.kept.is_some() {
             return;
         }
-        match self.machine.read() {
-            Some(Ok(event)) => self.current = Some(event),
+        let mut next = no_event();
+        match self.machine.read(&mut next) {
+            Some(Ok(())) => self.current = Some(next),
             Some(Err(fault)) => {
                 self.kept = Some(Kept {
                     fault,
@@ -134,6 +163,34 @@ impl<'input, T: Input> Reader<'input, T> {
         self.give_fault()
     }
 
+    /// Hands out the next event, which is written into its place.
+    #[inline(always)]
+    pub(super) fn next_into(
+        &mut self,
+        next: &mut (Event<'input>, Span),
+    ) -> Option<Result<(), Fault>>
+        ensures hands { spec.Hands (spec.filled next.new result) (spec.to_come (cursor self.old)) (spec.to_come (cursor self.new)) }
+        ensures remembers { spec.Remembers (spec.filled next.new result) (cursor self.old) (cursor self.new) }
+        ensures given { spec.IsGiven (spec.filled next.new result) (cursor self.new).kept }
+    {
+        if self.current.is_some() || self.kept.is_some() {
+            return fill(self.next_ahead(), next);
+        }
+        match self.machine.read(next)? {
+            Ok(()) => {
+                self.remember(&next.0, next.1);
+                Some(Ok(()))
+            }
+            Err(fault) => {
+                self.kept = Some(Kept {
+                    fault,
+                    given: false,
+                });
+                fill(self.give_fault(), next)
+            }
+        }
+    }
+
     /// Hands out the next event.
     #[inline(always)]
     pub(super) fn next_event(&mut self) -> Option<Result<(Event<'input>, Span), Fault>>
@@ -141,21 +198,10 @@ impl<'input, T: Input> Reader<'input, T> {
         ensures remembers { spec.Remembers result (cursor self.old) (cursor self.new) }
         ensures given { spec.IsGiven result (cursor self.new).kept }
     {
-        if self.current.is_some() || self.kept.is_some() {
-            return self.next_ahead();
-        }
-        match self.machine.read()? {
-            Ok(item) => {
-                self.remember(&item.0, item.1);
-                Some(Ok(item))
-            }
-            Err(fault) => {
-                self.kept = Some(Kept {
-                    fault,
-                    given: false,
-                });
-                self.give_fault()
-            }
+        let mut next = no_event();
+        match self.next_into(&mut next)? {
+            Ok(()) => Some(Ok(next)),
+            Err(fault) => Some(Err(fault)),
         }
     }
 }

@@ -29,7 +29,7 @@ impl Level {
 impl<T: Input> Engine<T> {
     ghost use Rattle.saphyr_scalar.specs.Seen.{Moves};
     ghost use Rattle.saphyr_scanner.specs.Engine.{state};
-    ghost use Rattle.saphyr_scanner.specs.Seen.{piece};
+    ghost use Rattle.saphyr_scanner.specs.Seen.{piece, written};
 
     // Comes to where the next token begins.
     #[tactic(auto, unfolding(crate::specs::Fetch::arrive))]
@@ -211,11 +211,11 @@ impl<T: Input> Engine<T> {
         self.read_on(limit)
     }
 
-    /// Takes the first token off the queue.
+    /// Takes the first token off the queue, if there is one, and writes it into `token`.
     #[inline(always)]
-    pub(crate) fn take(&mut self) -> Result<Option<Token>, Stop>
-        ensures { Moves (λ t. (option_map piece t, state self.new)) result (Ok (fetch.take (state self.old))) }
+    pub(crate) fn take_into(&mut self, token: &mut Token) -> Result<bool, Stop>
+        ensures { Moves (λ taken. (option_map piece (written taken token.new), state self.new)) result (Ok (fetch.take (state self.old))) }
     {
-        self.queue.take()
+        self.queue.take_into(token)
     }
 }

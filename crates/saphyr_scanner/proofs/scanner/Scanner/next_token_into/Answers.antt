@@ -1,7 +1,7 @@
 use Rattle.std.proofs.lemmas.Result.{err_from_is_err_and}
 use Rattle.saphyr_scanner.proofs.TakingScalars.{Readers, quoted_laws}
 use Rattle.saphyr_scanner.proofs.Turns.{handed_over, stopped}
-use Rattle.saphyr_scanner.proofs.scanner.Scanner.next_token.Goals as goal
+use Rattle.saphyr_scanner.proofs.scanner.Scanner.next_token_into.Goals as goal
 
 pub returns-in_err-fill : goal.returns-in_err-fill
 returns-in_err-fill g c =
@@ -28,4 +28,4 @@ returns g c =
       tag = c.takes_tag.ensures;
       directive = c.takes_directive.ensures;
     } in
-    handed_over laws c.self.inside.limit _ _ _ _ _ c.in_ok-fill.ensures c.take.ensures c.self.view_is
+    handed_over laws c.self.inside.limit _ _ _ _ _ _ c.in_ok-fill.ensures c.take_into.ensures c.self.view_is
