@@ -57,7 +57,7 @@ impl<T: Input> Machine<T> {
     }
 
     // Takes the next token, and writes it into `token`.
-    #[inline(never)]
+    #[inline(always)]
     fn take_into(&mut self, token: &mut Token) -> Result<(), Stop>
         ensures taken { Moves (λ _. (piece token.new, machine_of self.new)) result (spec.take (machine_of self.old)) }
         ensures room { IfOk result (λ _. self.new.token ≡ None) }

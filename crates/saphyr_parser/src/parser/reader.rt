@@ -149,6 +149,19 @@ impl<'input, T: Input> Reader<'input, T> {
         Some(Err(copy))
     }
 
+    // The same, where an event would be written into its place.
+    #[inline(never)]
+    fn give_fault_into(&mut self, next: &mut (Event<'input>, Span)) -> Option<Result<(), Fault>>
+        ensures hands { spec.Hands (filled next.new result) (spec.told (cursor self.old).kept) (spec.told (cursor self.new).kept) }
+        ensures given { spec.IsGiven (filled next.new result) (cursor self.new).kept }
+        ensures same { spec.IsUnmoved (cursor self.old) (cursor self.new) }
+        ensures current { self.new.current ≡ self.old.current }
+        ensures kept { spec.IsKept (cursor self.old).kept → spec.IsKept (cursor self.new).kept }
+        ensures nothing { (cursor self.old).kept ≡ None → cursor self.new ≡ cursor self.old }
+    {
+        fill(self.give_fault(), next)
+    }
+
     // Hands out what was read ahead: an event, or the fault in place of it.
     fn next_ahead(&mut self) -> Option<Result<(Event<'input>, Span), Fault>>
         requires { IfNone self.old.current (spec.IsKept (cursor self.old).kept) }
@@ -163,18 +176,29 @@ impl<'input, T: Input> Reader<'input, T> {
         self.give_fault()
     }
 
+    // The same, where an event is written into its place.
+    #[inline(never)]
+    fn next_ahead_into(&mut self, next: &mut (Event<'input>, Span)) -> Option<Result<(), Fault>>
+        requires { IfNone self.old.current (spec.IsKept (cursor self.old).kept) }
+        ensures hands { spec.Hands (filled next.new result) (spec.to_come (cursor self.old)) (spec.to_come (cursor self.new)) }
+        ensures remembers { spec.Remembers (filled next.new result) (cursor self.old) (cursor self.new) }
+        ensures given { spec.IsGiven (filled next.new result) (cursor self.new).kept }
+    {
+        fill(self.next_ahead(), next)
+    }
+
     /// Hands out the next event, which is written into its place.
     #[inline(always)]
     pub(super) fn next_into(
         &mut self,
         next: &mut (Event<'input>, Span),
     ) -> Option<Result<(), Fault>>
-        ensures hands { spec.Hands (spec.filled next.new result) (spec.to_come (cursor self.old)) (spec.to_come (cursor self.new)) }
-        ensures remembers { spec.Remembers (spec.filled next.new result) (cursor self.old) (cursor self.new) }
-        ensures given { spec.IsGiven (spec.filled next.new result) (cursor self.new).kept }
+        ensures hands { spec.Hands (filled next.new result) (spec.to_come (cursor self.old)) (spec.to_come (cursor self.new)) }
+        ensures remembers { spec.Remembers (filled next.new result) (cursor self.old) (cursor self.new) }
+        ensures given { spec.IsGiven (filled next.new result) (cursor self.new).kept }
     {
         if self.current.is_some() || self.kept.is_some() {
-            return fill(self.next_ahead(), next);
+            return self.next_ahead_into(next);
         }
         match self.machine.read(next)? {
             Ok(()) => {
@@ -186,7 +210,7 @@ impl<'input, T: Input> Reader<'input, T> {
                     fault,
                     given: false,
                 });
-                fill(self.give_fault(), next)
+                self.give_fault_into(next)
             }
         }
     }
