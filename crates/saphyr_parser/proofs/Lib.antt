@@ -67,3 +67,5 @@ pub mod Sound
 pub mod Refusing
 pub mod RefusingSteps
 pub mod RefusingDocuments
+pub mod TokensForm
+pub mod EventsTakenOf

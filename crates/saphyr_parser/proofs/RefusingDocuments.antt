@@ -1,5 +1,5 @@
 -- A refusal has the place of a token, or is the one that ends the tokens: documents, and all steps.
-use Rattle.std.proofs.Common.{ℕ, zero, suc, Bool, true, false, List, [], ◌∷◌, Result, Ok, Err}
+use Rattle.std.proofs.Common.{◌≡◌, ◌≢◌, ℕ, zero, suc, Bool, true, false, List, [], ◌∷◌, Option, Result, Ok, Err, refl, ◌⊎◌, inl, inr}
 use Rattle.std.specs.Prelude.{if◌then◌else◌}
 use Rattle.saphyr_scalar.specs.declared.scalar.position.Marker.{Marker}
 use Rattle.saphyr_scalar.specs.declared.scalar.fault.Refusal.{Refusal}
@@ -11,194 +11,232 @@ use Rattle.saphyr_scanner.specs.TokensTaken.{IsPlaceOf}
 use Rattle.saphyr_parser.specs.declared.parser.context.Context.TheVariants.{Block}
 use Rattle.saphyr_parser.specs.declared.parser.state.State.{State}
 use Rattle.saphyr_parser.specs.declared.parser.state.State.TheVariants as state
-use Rattle.saphyr_parser.specs.Machine.{◌>>=◌, Machine, Told, ending, with_pieces, take_from, put_back, given, is_listed, listed}
+use Rattle.saphyr_parser.specs.Machine.{◌>>=◌, Machine, Told, with_pieces, take_from, put_back, given, is_listed, listed}
 use Rattle.saphyr_parser.specs.DocumentSteps.{pass_from, pass, is_mark, is_end_or_mark, Declared, none_declared, is_directive, directive_at, directives_from, directives, stream_start_at, stream_start, explicit_at, explicit_document, bare_document, implicit_start_at, implicit_start, explicit_start_at, explicit_start, content_at, document_content, behind_marks_at, behind_marks, behind_document_at, behind_document, forget_prefixes, document_end_at, document_end}
 use Rattle.saphyr_parser.specs.Steps.{block_node, step, step_at}
 use Rattle.saphyr_parser.specs.Answer.{Answer, deliver, unless_ended, run, size, remaining}
 use Rattle.saphyr_parser.specs.Cursor.{at_start, keeping_tags, to_come}
 use Rattle.saphyr_parser.specs.EventsTaken.{HasPlaceIn}
-use Rattle.saphyr_parser.specs.RefusedAt.{AreAtPlaces}
-use Rattle.saphyr_parser.proofs.Refusing.{StartAt, IsFine, Refuses, taken, pop_fine, put_back_fine, node_refuses}
+use Rattle.saphyr_scanner.specs.AtPlaces.{AreAtPlaces}
+use Rattle.saphyr_parser.proofs.Refusing.{StartAt, IsLastOr, AreEnded, refused, IsFine, IsFineBehind, Refuses, taken, pop_fine, node_refuses}
 use Rattle.saphyr_parser.proofs.RefusingSteps as steps
 
 -- ## Tokens that are passed
 
 -- a token and the machine behind it
 abbrev Gives : (Marker → Type 0) → Result (Piece × Machine) Refusal → Type 0
-Gives P (Ok x) = P x.0.span.start × IsFine P x.1
+Gives P (Ok x) = IsFine P (put_back x.0 x.1)
 Gives P (Err f) = P f.mark
 
-goes_on : (P : Marker → Type 0) (r : Result (Piece × Machine) Refusal) (go : Piece × Machine → Result Told Refusal) → Gives P r → ((t : Piece) (k : Machine) → P t.span.start → IsFine P k → Refuses P (go (t, k))) → Refuses P (r >>= go)
-goes_on P (Ok x) go h k = k x.0 x.1 h.0 h.1
+goes_on : (P : Marker → Type 0) (r : Result (Piece × Machine) Refusal) (go : Piece × Machine → Result Told Refusal) → Gives P r → ((t : Piece) (k : Machine) → IsFine P (put_back t k) → Refuses P (go (t, k))) → Refuses P (r >>= go)
+goes_on P (Ok x) go h k = k x.0 x.1 h
 goes_on P (Err f) go h k = h
 
-either : (P : Marker → Type 0) (b : Bool) (r q : Result (Piece × Machine) Refusal) → Gives P r → Gives P q → Gives P (if b then r else q)
-either P true r q h k = h
-either P false r q h k = k
+-- no token that is passed is the end of the stream
+abbrev PassesNoEnd : (Marker → Type 0) → (Kind → Bool) → Type 0
+PassesNoEnd P p = (k : Kind) (r : Option Refusal) (ts : List Piece) → p k ≡ true → IsLastOr (AreEnded P r ts) ts k → AreEnded P r ts
 
-passed : (P : Marker → Type 0) (p : Kind → Bool) (ts : List Piece) (m : Machine) → StartAt P ts → P (ending m.tokens.refusal).mark → Gives P (pass_from p ts m)
-passed P p [] m a e = e
-passed P p (t ∷ ts) m a e = either P (p t.kind) (pass_from p ts (with_pieces ts m)) (Ok (t, with_pieces ts m)) (passed P p ts (with_pieces ts m) a.1 e) (a.0, (a.1, e))
+no_mark : (P : Marker → Type 0) → PassesNoEnd P is_mark
+no_mark P tokens.ByteOrderMark r ts y e = e
+no_mark P _ r ts y e = absurd (cc)
 
-version_gives : (P : Marker → Type 0) (b : Bool) (place : Marker) (ts : List Piece) (d : Declared) (m : Machine) → P place → ((d : Declared) (m : Machine) → P (ending m.tokens.refusal).mark → Gives P (directives_from ts d m)) → P (ending m.tokens.refusal).mark → Gives P (((if b then Err (record { text = fault.DuplicateVersionDirective; mark = place }) else (let y : Result Declared Refusal = Ok (record { version = true; handles = d.handles }) in y)) >>= (λ e. let y : Result (Declared × Machine) Refusal = Ok (e, m) in y)) >>= (λ s. directives_from ts s.0 s.1))
+no_end : (P : Marker → Type 0) → PassesNoEnd P is_end_or_mark
+no_end P tokens.DocumentEnd r ts y e = e
+no_end P tokens.ByteOrderMark r ts y e = e
+no_end P _ r ts y e = absurd (cc)
+
+passed : (P : Marker → Type 0) (p : Kind → Bool) (ts : List Piece) (m : Machine) → PassesNoEnd P p → StartAt P ts → AreEnded P m.tokens.refusal ts → Gives P (pass_from p ts m)
+passed P p [] m h a e = refused P m.tokens.refusal e
+passed P p (t ∷ ts) m h a e = by (p t.kind) refl (λ g. passed P p ts (with_pieces ts m) h a.1 g)
+  where
+    by : (b : Bool) → p t.kind ≡ b → (AreEnded P m.tokens.refusal ts → Gives P (pass_from p ts (with_pieces ts m))) → Gives P (if b then pass_from p ts (with_pieces ts m) else Ok (t, with_pieces ts m))
+    by true y go = go (h t.kind m.tokens.refusal ts y e)
+    by false y go = (a, e)
+
+version_gives : (P : Marker → Type 0) (b : Bool) (place : Marker) (ts : List Piece) (d : Declared) (m : Machine) → P place → ((d : Declared) (m : Machine) → AreEnded P m.tokens.refusal ts → Gives P (directives_from ts d m)) → AreEnded P m.tokens.refusal ts → Gives P (((if b then Err (record { text = fault.DuplicateVersionDirective; mark = place }) else (let y : Result Declared Refusal = Ok (record { version = true; handles = d.handles }) in y)) >>= (λ e. let y : Result (Declared × Machine) Refusal = Ok (e, m) in y)) >>= (λ s. directives_from ts s.0 s.1))
 version_gives P true place ts d m p go e = p
 version_gives P false place ts d m p go e = go _ m e
 
-tag_gives : (P : Marker → Type 0) (b : Bool) (handle prefix : List ℕ) (place : Marker) (ts : List Piece) (d : Declared) (m : Machine) → P place → ((d : Declared) (m : Machine) → P (ending m.tokens.refusal).mark → Gives P (directives_from ts d m)) → P (ending m.tokens.refusal).mark → Gives P ((if b then Err (record { text = fault.DuplicateTagDirective; mark = place }) else (let y : Result (Declared × Machine) Refusal = Ok (record { version = d.version; handles = listed handle d.handles }, record m { prefixes = given handle prefix m.prefixes }) in y)) >>= (λ s. directives_from ts s.0 s.1))
+tag_gives : (P : Marker → Type 0) (b : Bool) (handle prefix : List ℕ) (place : Marker) (ts : List Piece) (d : Declared) (m : Machine) → P place → ((d : Declared) (m : Machine) → AreEnded P m.tokens.refusal ts → Gives P (directives_from ts d m)) → AreEnded P m.tokens.refusal ts → Gives P ((if b then Err (record { text = fault.DuplicateTagDirective; mark = place }) else (let y : Result (Declared × Machine) Refusal = Ok (record { version = d.version; handles = listed handle d.handles }, record m { prefixes = given handle prefix m.prefixes }) in y)) >>= (λ s. directives_from ts s.0 s.1))
 tag_gives P true handle prefix place ts d m p go e = p
 tag_gives P false handle prefix place ts d m p go e = go _ _ e
 
-directive_gives : (P : Marker → Type 0) (k : Kind) (t : Piece) (ts : List Piece) (d : Declared) (m : Machine) → P t.span.start → StartAt P ts → ((d : Declared) (m : Machine) → P (ending m.tokens.refusal).mark → Gives P (directives_from ts d m)) → P (ending m.tokens.refusal).mark → Gives P (if is_directive k then directive_at k t d (with_pieces ts m) >>= (λ s. directives_from ts s.0 s.1) else Ok (t, with_pieces ts m))
-directive_gives P (tokens.VersionDirective major minor) t ts d m p a go e = version_gives P d.version t.span.start ts d (with_pieces ts m) p go e
-directive_gives P (tokens.TagDirective handle prefix) t ts d m p a go e = tag_gives P (is_listed handle d.handles) handle prefix t.span.start ts d (with_pieces ts m) p go e
-directive_gives P (tokens.ReservedDirective name) t ts d m p a go e = go d (with_pieces ts m) e
-directive_gives P _ t ts d m p a go e = (p, (a, e))
+directive_gives : (P : Marker → Type 0) (k : Kind) (t : Piece) (ts : List Piece) (d : Declared) (m : Machine) → IsFine P (put_back t (with_pieces ts m)) → IsLastOr (AreEnded P m.tokens.refusal ts) ts k → ((d : Declared) (m : Machine) → AreEnded P m.tokens.refusal ts → Gives P (directives_from ts d m)) → Gives P (if is_directive k then directive_at k t d (with_pieces ts m) >>= (λ s. directives_from ts s.0 s.1) else Ok (t, with_pieces ts m))
+directive_gives P (tokens.VersionDirective major minor) t ts d m b e go = version_gives P d.version t.span.start ts d (with_pieces ts m) b.0.0 go e
+directive_gives P (tokens.TagDirective handle prefix) t ts d m b e go = tag_gives P (is_listed handle d.handles) handle prefix t.span.start ts d (with_pieces ts m) b.0.0 go e
+directive_gives P (tokens.ReservedDirective name) t ts d m b e go = go d (with_pieces ts m) e
+directive_gives P _ t ts d m b e go = b
 
-directives_give : (P : Marker → Type 0) (ts : List Piece) (d : Declared) (m : Machine) → StartAt P ts → P (ending m.tokens.refusal).mark → Gives P (directives_from ts d m)
-directives_give P [] d m a e = e
-directives_give P (t ∷ ts) d m a e = directive_gives P t.kind t ts d m a.0 a.1 (λ c n g. directives_give P ts c n a.1 g) e
+directives_give : (P : Marker → Type 0) (ts : List Piece) (d : Declared) (m : Machine) → StartAt P ts → AreEnded P m.tokens.refusal ts → Gives P (directives_from ts d m)
+directives_give P [] d m a e = refused P m.tokens.refusal e
+directives_give P (t ∷ ts) d m a e = directive_gives P t.kind t ts d m (a, e) e (λ c n g. directives_give P ts c n a.1 g)
 
 -- ## Documents
 
-stream_at : (P : Marker → Type 0) (k : Kind) (t : Piece) (m : Machine) → P t.span.start → IsFine P m → Refuses P (stream_start_at k t m)
-stream_at P tokens.StreamStart t m p f = f
-stream_at P _ t m p f = p
+stream_at : (P : Marker → Type 0) (k : Kind) (t : Piece) (m : Machine) → IsFine P (put_back t m) → IsFineBehind P k m → Refuses P (stream_start_at k t m)
+stream_at P tokens.StreamStart t m b f = f
+stream_at P _ t m b f = b.0.0
 
 stream_refuses : (P : Marker → Type 0) (m : Machine) → IsFine P m → Refuses P (stream_start m)
 unfolding stream_start
-stream_refuses P m f = taken P m _ f (λ t k p g. stream_at P t.kind t k p g)
+stream_refuses P m f = taken P m _ f (λ t k b. stream_at P t.kind t k b (b.0.1, b.1))
 
-explicit_at_refuses : (P : Marker → Type 0) (k : Kind) (t : Piece) (m : Machine) → P t.span.start → IsFine P m → Refuses P (explicit_at k t m)
-explicit_at_refuses P tokens.DocumentStart t m p f = f
-explicit_at_refuses P tokens.ByteOrderMark t m p f = p
-explicit_at_refuses P _ t m p f = p
+explicit_at_refuses : (P : Marker → Type 0) (k : Kind) (t : Piece) (m : Machine) → IsFine P (put_back t m) → IsFineBehind P k m → Refuses P (explicit_at k t m)
+explicit_at_refuses P tokens.DocumentStart t m b f = f
+explicit_at_refuses P tokens.ByteOrderMark t m b f = b.0.0
+explicit_at_refuses P _ t m b f = b.0.0
 
-explicit_refuses : (P : Marker → Type 0) (t : Piece) (m : Machine) → P t.span.start → IsFine P m → Refuses P (explicit_document t m)
+explicit_refuses : (P : Marker → Type 0) (t : Piece) (m : Machine) → IsFine P (put_back t m) → Refuses P (explicit_document t m)
 unfolding explicit_document directives
-explicit_refuses P t m p f = goes_on P (directives_from (t ∷ m.tokens.pieces) none_declared (put_back t m)) _ (directives_give P (t ∷ m.tokens.pieces) none_declared (put_back t m) (p, f.0) f.1) (λ u k q g. explicit_at_refuses P u.kind u k q g)
+explicit_refuses P t m b = goes_on P (directives_from (t ∷ m.tokens.pieces) none_declared (put_back t m)) _ (directives_give P (t ∷ m.tokens.pieces) none_declared (put_back t m) b.0 b.1) (λ u k c. explicit_at_refuses P u.kind u k c (c.0.1, c.1))
 
-bare_refuses : (P : Marker → Type 0) (t : Piece) (m : Machine) → P t.span.start → IsFine P m → Refuses P (bare_document t m)
+bare_refuses : (P : Marker → Type 0) (t : Piece) (m : Machine) → IsFine P (put_back t m) → Refuses P (bare_document t m)
 unfolding bare_document
-bare_refuses P t m p f = put_back_fine P t m p f
+bare_refuses P t m b = b
 
-implicit_at : (P : Marker → Type 0) (k : Kind) (t : Piece) (m : Machine) → P t.span.start → IsFine P m → Refuses P (implicit_start_at k t m)
-implicit_at P tokens.StreamEnd t m p f = f
-implicit_at P (tokens.VersionDirective major minor) t m p f = explicit_refuses P t m p f
-implicit_at P (tokens.TagDirective handle prefix) t m p f = explicit_refuses P t m p f
-implicit_at P (tokens.ReservedDirective name) t m p f = explicit_refuses P t m p f
-implicit_at P tokens.DocumentStart t m p f = explicit_refuses P t m p f
-implicit_at P _ t m p f = bare_refuses P t m p f
+-- ## Steps that may be the last
 
-implicit_refuses : (P : Marker → Type 0) (m : Machine) → IsFine P m → Refuses P (implicit_start m)
+-- behind the end of the stream nothing is known of the tokens
+abbrev MayEnd : (Marker → Type 0) → Result Told Refusal → Type 0
+MayEnd P (Ok x) = (x.machine.state ≡ state.End) ⊎ IsFine P x.machine
+MayEnd P (Err f) = P f.mark
+
+may : (P : Marker → Type 0) (r : Result Told Refusal) → Refuses P r → MayEnd P r
+may P (Ok x) h = inr h
+may P (Err f) h = h
+
+may_go_on : (P : Marker → Type 0) (r : Result (Piece × Machine) Refusal) (go : Piece × Machine → Result Told Refusal) → Gives P r → ((t : Piece) (k : Machine) → IsFine P (put_back t k) → MayEnd P (go (t, k))) → MayEnd P (r >>= go)
+may_go_on P (Ok x) go h k = k x.0 x.1 h
+may_go_on P (Err f) go h k = h
+
+implicit_at : (P : Marker → Type 0) (k : Kind) (t : Piece) (m : Machine) → IsFine P (put_back t m) → MayEnd P (implicit_start_at k t m)
+implicit_at P tokens.StreamEnd t m b = inl refl
+implicit_at P (tokens.VersionDirective major minor) t m b = may P (explicit_document t m) (explicit_refuses P t m b)
+implicit_at P (tokens.TagDirective handle prefix) t m b = may P (explicit_document t m) (explicit_refuses P t m b)
+implicit_at P (tokens.ReservedDirective name) t m b = may P (explicit_document t m) (explicit_refuses P t m b)
+implicit_at P tokens.DocumentStart t m b = may P (explicit_document t m) (explicit_refuses P t m b)
+implicit_at P _ t m b = may P (bare_document t m) (bare_refuses P t m b)
+
+implicit_refuses : (P : Marker → Type 0) (m : Machine) → IsFine P m → MayEnd P (implicit_start m)
 unfolding implicit_start pass
-implicit_refuses P m f = goes_on P (pass_from is_end_or_mark m.tokens.pieces m) _ (passed P is_end_or_mark m.tokens.pieces m f.0 f.1) (λ t k p g. implicit_at P t.kind t k p g)
+implicit_refuses P m f = may_go_on P (pass_from is_end_or_mark m.tokens.pieces m) _ (passed P is_end_or_mark m.tokens.pieces m (no_end P) f.0 f.1) (λ t k b. implicit_at P t.kind t k b)
 
-start_at : (P : Marker → Type 0) (k : Kind) (t : Piece) (m : Machine) → P t.span.start → IsFine P m → Refuses P (explicit_start_at k t m)
-start_at P tokens.StreamEnd t m p f = f
-start_at P _ t m p f = explicit_refuses P t m p f
+start_at : (P : Marker → Type 0) (k : Kind) (t : Piece) (m : Machine) → IsFine P (put_back t m) → MayEnd P (explicit_start_at k t m)
+start_at P tokens.StreamEnd t m b = inl refl
+start_at P _ t m b = may P (explicit_document t m) (explicit_refuses P t m b)
 
-start_refuses : (P : Marker → Type 0) (m : Machine) → IsFine P m → Refuses P (explicit_start m)
+start_refuses : (P : Marker → Type 0) (m : Machine) → IsFine P m → MayEnd P (explicit_start m)
 unfolding explicit_start pass
-start_refuses P m f = goes_on P (pass_from is_end_or_mark m.tokens.pieces m) _ (passed P is_end_or_mark m.tokens.pieces m f.0 f.1) (λ t k p g. start_at P t.kind t k p g)
+start_refuses P m f = may_go_on P (pass_from is_end_or_mark m.tokens.pieces m) _ (passed P is_end_or_mark m.tokens.pieces m (no_end P) f.0 f.1) (λ t k b. start_at P t.kind t k b)
 
-content_at_refuses : (P : Marker → Type 0) (k : Kind) (t : Piece) (m : Machine) → P t.span.start → IsFine P m → Refuses P (content_at k t m)
-content_at_refuses P (tokens.VersionDirective major minor) t m p f = pop_fine P (put_back t m) (put_back_fine P t m p f)
-content_at_refuses P (tokens.TagDirective handle prefix) t m p f = pop_fine P (put_back t m) (put_back_fine P t m p f)
-content_at_refuses P (tokens.ReservedDirective name) t m p f = pop_fine P (put_back t m) (put_back_fine P t m p f)
-content_at_refuses P tokens.DocumentStart t m p f = pop_fine P (put_back t m) (put_back_fine P t m p f)
-content_at_refuses P tokens.DocumentEnd t m p f = pop_fine P (put_back t m) (put_back_fine P t m p f)
-content_at_refuses P tokens.ByteOrderMark t m p f = pop_fine P (put_back t m) (put_back_fine P t m p f)
-content_at_refuses P tokens.StreamEnd t m p f = pop_fine P (put_back t m) (put_back_fine P t m p f)
-content_at_refuses P _ t m p f = node_refuses P Block t m p f
+-- ## The content and the end of documents
+
+content_at_refuses : (P : Marker → Type 0) (k : Kind) (t : Piece) (m : Machine) → IsFine P (put_back t m) → IsFineBehind P k m → Refuses P (content_at k t m)
+content_at_refuses P (tokens.VersionDirective major minor) t m b f = pop_fine P (put_back t m) b
+content_at_refuses P (tokens.TagDirective handle prefix) t m b f = pop_fine P (put_back t m) b
+content_at_refuses P (tokens.ReservedDirective name) t m b f = pop_fine P (put_back t m) b
+content_at_refuses P tokens.DocumentStart t m b f = pop_fine P (put_back t m) b
+content_at_refuses P tokens.DocumentEnd t m b f = pop_fine P (put_back t m) b
+content_at_refuses P tokens.ByteOrderMark t m b f = pop_fine P (put_back t m) b
+content_at_refuses P tokens.StreamEnd t m b f = pop_fine P (put_back t m) b
+content_at_refuses P _ t m b f = node_refuses P Block t m b
 
 content_refuses : (P : Marker → Type 0) (m : Machine) → IsFine P m → Refuses P (document_content m)
 unfolding document_content
-content_refuses P m f = taken P m _ f (λ t k p g. content_at_refuses P t.kind t k p g)
+content_refuses P m f = taken P m _ f (λ t k b. content_at_refuses P t.kind t k b (b.0.1, b.1))
 
 block_node_refuses : (P : Marker → Type 0) (m : Machine) → IsFine P m → Refuses P (block_node m)
 unfolding block_node
-block_node_refuses P m f = taken P m _ f (λ t k p g. node_refuses P Block t k p g)
+block_node_refuses P m f = taken P m _ f (λ t k b. node_refuses P Block t k b)
 
-marks_at : (P : Marker → Type 0) (k : Kind) (place : Marker) (t : Piece) (m : Machine) → P place → P t.span.start → IsFine P m → Gives P (behind_marks_at k place t m)
-marks_at P tokens.DocumentStart place t m q p f = (p, f)
-marks_at P tokens.DocumentEnd place t m q p f = (p, f)
-marks_at P tokens.StreamEnd place t m q p f = (p, f)
-marks_at P _ place t m q p f = q
+marks_at : (P : Marker → Type 0) (k : Kind) (place : Marker) (t : Piece) (m : Machine) → P place → IsFine P (put_back t m) → Gives P (behind_marks_at k place t m)
+marks_at P tokens.DocumentStart place t m q b = b
+marks_at P tokens.DocumentEnd place t m q b = b
+marks_at P tokens.StreamEnd place t m q b = b
+marks_at P _ place t m q b = q
 
-gives_on : (P : Marker → Type 0) (r : Result (Piece × Machine) Refusal) (go : Piece × Machine → Result (Piece × Machine) Refusal) → Gives P r → ((t : Piece) (k : Machine) → P t.span.start → IsFine P k → Gives P (go (t, k))) → Gives P (r >>= go)
-gives_on P (Ok x) go h k = k x.0 x.1 h.0 h.1
+gives_on : (P : Marker → Type 0) (r : Result (Piece × Machine) Refusal) (go : Piece × Machine → Result (Piece × Machine) Refusal) → Gives P r → ((t : Piece) (k : Machine) → IsFine P (put_back t k) → Gives P (go (t, k))) → Gives P (r >>= go)
+gives_on P (Ok x) go h k = k x.0 x.1 h
 gives_on P (Err f) go h k = h
 
 marks_give : (P : Marker → Type 0) (place : Marker) (m : Machine) → P place → IsFine P m → Gives P (behind_marks place m)
 unfolding behind_marks pass
-marks_give P place m q f = gives_on P (pass_from is_mark m.tokens.pieces m) _ (passed P is_mark m.tokens.pieces m f.0 f.1) (λ t k p g. marks_at P t.kind place t k q p g)
+marks_give P place m q f = gives_on P (pass_from is_mark m.tokens.pieces m) _ (passed P is_mark m.tokens.pieces m (no_mark P) f.0 f.1) (λ t k b. marks_at P t.kind place t k q b)
 
-document_at : (P : Marker → Type 0) (k : Kind) (t : Piece) (m : Machine) → P t.span.start → IsFine P m → Gives P (behind_document_at k t m)
-document_at P tokens.ByteOrderMark t m p f = marks_give P t.span.start m p f
-document_at P _ t m p f = (p, f)
+document_at : (P : Marker → Type 0) (k : Kind) (t : Piece) (m : Machine) → IsFine P (put_back t m) → IsFineBehind P k m → Gives P (behind_document_at k t m)
+document_at P tokens.ByteOrderMark t m b f = marks_give P t.span.start m b.0.0 f
+document_at P _ t m b f = b
 
-document_from : (P : Marker → Type 0) (ts : List Piece) (m : Machine) → StartAt P ts → P (ending m.tokens.refusal).mark → Gives P (take_from ts m >>= (λ t. behind_document_at t.0.kind t.0 t.1))
-document_from P [] m a e = e
-document_from P (t ∷ ts) m a e = document_at P t.kind t (with_pieces ts m) a.0 (a.1, e)
+document_from : (P : Marker → Type 0) (ts : List Piece) (m : Machine) → StartAt P ts → AreEnded P m.tokens.refusal ts → Gives P (take_from ts m >>= (λ t. behind_document_at t.0.kind t.0 t.1))
+document_from P [] m a e = refused P m.tokens.refusal e
+document_from P (t ∷ ts) m a e = document_at P t.kind t (with_pieces ts m) (a, e) (a.1, e)
 
 document_gives : (P : Marker → Type 0) (m : Machine) → IsFine P m → Gives P (behind_document m)
 unfolding behind_document
 document_gives P m f = document_from P m.tokens.pieces m f.0 f.1
 
-end_at : (P : Marker → Type 0) (k : Kind) (t : Piece) (m : Machine) → P t.span.start → IsFine P m → Refuses P (document_end_at k t m)
-end_at P tokens.DocumentEnd t m p f = f
-end_at P (tokens.VersionDirective major minor) t m p f = p
-end_at P (tokens.TagDirective handle prefix) t m p f = p
-end_at P (tokens.ReservedDirective name) t m p f = p
-end_at P _ t m p f = put_back_fine P t m p f
+end_at : (P : Marker → Type 0) (k : Kind) (t : Piece) (m : Machine) → IsFine P (put_back t m) → IsFineBehind P k m → Refuses P (document_end_at k t m)
+end_at P tokens.DocumentEnd t m b f = f
+end_at P (tokens.VersionDirective major minor) t m b f = b.0.0
+end_at P (tokens.TagDirective handle prefix) t m b f = b.0.0
+end_at P (tokens.ReservedDirective name) t m b f = b.0.0
+end_at P _ t m b f = b
 
 end_refuses : (P : Marker → Type 0) (m : Machine) → IsFine P m → Refuses P (document_end m)
 unfolding document_end
-end_refuses P m f = goes_on P (behind_document m) _ (document_gives P m f) (λ t k p g. end_at P t.kind t (forget_prefixes k) p g)
+end_refuses P m f = goes_on P (behind_document m) _ (document_gives P m f) (λ t k b. end_at P t.kind t (forget_prefixes k) b (b.0.1, b.1))
 
 -- ## All steps
 
-steps_refuse : (P : Marker → Type 0) (s : State) (m : Machine) → IsFine P m → Refuses P (step_at s m)
-steps_refuse P state.StreamStart m f = stream_refuses P m f
-steps_refuse P state.ImplicitDocumentStart m f = implicit_refuses P m f
-steps_refuse P state.DocumentStart m f = start_refuses P m f
-steps_refuse P state.DocumentContent m f = content_refuses P m f
-steps_refuse P state.DocumentEnd m f = end_refuses P m f
-steps_refuse P state.BlockNode m f = block_node_refuses P m f
-steps_refuse P state.BlockSequenceEntry m f = steps.sequence_entry P m f
-steps_refuse P state.IndentlessSequenceEntry m f = steps.indentless_entry P m f
-steps_refuse P state.BlockMappingKey m f = steps.mapping_key P m f
-steps_refuse P state.BlockMappingValue m f = steps.block_mapping_value P m f
-steps_refuse P state.FlowSequenceFirstEntry m f = steps.first_entry P m f
-steps_refuse P state.FlowSequenceEntry m f = steps.other_entry P m f
-steps_refuse P state.FlowSequenceEntryMappingKey m f = steps.pair_key P m f
-steps_refuse P state.FlowSequenceEntryMappingValue m f = steps.pair_value P m f
-steps_refuse P (state.FlowSequenceEntryMappingEnd place) m f = steps.pair_end P place m f
-steps_refuse P state.FlowMappingFirstKey m f = steps.first_pair P m f
-steps_refuse P state.FlowMappingKey m f = steps.other_pair P m f
-steps_refuse P state.FlowMappingValue m f = steps.flow_mapping_value P m f
-steps_refuse P state.FlowMappingEmptyValue m f = steps.empty_value P m f
-steps_refuse P state.End m f = f.1
+steps_refuse : (P : Marker → Type 0) (s : State) (m : Machine) → s ≢ state.End → IsFine P m → MayEnd P (step_at s m)
+steps_refuse P state.StreamStart m n f = may P _ (stream_refuses P m f)
+steps_refuse P state.ImplicitDocumentStart m n f = implicit_refuses P m f
+steps_refuse P state.DocumentStart m n f = start_refuses P m f
+steps_refuse P state.DocumentContent m n f = may P _ (content_refuses P m f)
+steps_refuse P state.DocumentEnd m n f = may P _ (end_refuses P m f)
+steps_refuse P state.BlockNode m n f = may P _ (block_node_refuses P m f)
+steps_refuse P state.BlockSequenceEntry m n f = may P _ (steps.sequence_entry P m f)
+steps_refuse P state.IndentlessSequenceEntry m n f = may P _ (steps.indentless_entry P m f)
+steps_refuse P state.BlockMappingKey m n f = may P _ (steps.mapping_key P m f)
+steps_refuse P state.BlockMappingValue m n f = may P _ (steps.block_mapping_value P m f)
+steps_refuse P state.FlowSequenceFirstEntry m n f = may P _ (steps.first_entry P m f)
+steps_refuse P state.FlowSequenceEntry m n f = may P _ (steps.other_entry P m f)
+steps_refuse P state.FlowSequenceEntryMappingKey m n f = may P _ (steps.pair_key P m f)
+steps_refuse P state.FlowSequenceEntryMappingValue m n f = may P _ (steps.pair_value P m f)
+steps_refuse P (state.FlowSequenceEntryMappingEnd place) m n f = may P _ (steps.pair_end P place m f)
+steps_refuse P state.FlowMappingFirstKey m n f = may P _ (steps.first_pair P m f)
+steps_refuse P state.FlowMappingKey m n f = may P _ (steps.other_pair P m f)
+steps_refuse P state.FlowMappingValue m n f = may P _ (steps.flow_mapping_value P m f)
+steps_refuse P state.FlowMappingEmptyValue m n f = may P _ (steps.empty_value P m f)
+steps_refuse P state.End m n f = absurd (n refl)
 
-unless_over : (text : List ℕ) (s : State) (a : Answer) → HasPlaceIn text a.fault → HasPlaceIn text (unless_ended s a).fault
+unless_over : (text : List ℕ) (s : State) (a : Answer) → (s ≢ state.End → HasPlaceIn text a.fault) → HasPlaceIn text (unless_ended s a).fault
 unless_over text state.End a h = tt
-unless_over text _ a h = h
+unless_over text s a h = h (λ e. absurd (cc))
 
-delivers : (text : List ℕ) (r : Result Told Refusal) (go : Machine → Answer) → Refuses (IsPlaceOf text) r → ((m : Machine) → IsFine (IsPlaceOf text) m → HasPlaceIn text (go m).fault) → HasPlaceIn text (deliver r go).fault
+-- a machine that has ended, or whose tokens have their places
+abbrev IsOverOr : List ℕ → Machine → Type 0
+IsOverOr text m = (m.state ≡ state.End) ⊎ IsFine (IsPlaceOf text) m
+
+alive : (text : List ℕ) (m : Machine) → IsOverOr text m → m.state ≢ state.End → IsFine (IsPlaceOf text) m
+alive text m (inl e) n = absurd (n e)
+alive text m (inr f) n = f
+
+delivers : (text : List ℕ) (r : Result Told Refusal) (go : Machine → Answer) → MayEnd (IsPlaceOf text) r → ((m : Machine) → IsOverOr text m → HasPlaceIn text (go m).fault) → HasPlaceIn text (deliver r go).fault
 delivers text (Ok x) go h k = k x.machine h
 delivers text (Err f) go h k = h
 
-run_refuses : (text : List ℕ) (n : ℕ) (m : Machine) → IsFine (IsPlaceOf text) m → HasPlaceIn text (run n m).fault
+run_refuses : (text : List ℕ) (n : ℕ) (m : Machine) → IsOverOr text m → HasPlaceIn text (run n m).fault
 unfolding step
 run_refuses text zero m f = tt
-run_refuses text (suc n) m f = unless_over text m.state _ (delivers text (step m) _ (steps_refuse (IsPlaceOf text) m.state m f) (λ k g. run_refuses text n k g))
+run_refuses text (suc n) m f = unless_over text m.state _ (λ o. delivers text (step m) _ (steps_refuse (IsPlaceOf text) m.state m o (alive text m f o)) (λ k g. run_refuses text n k g))
 
 start_all : (text : List ℕ) (ts : List Piece) → AreAtPlaces text ts → StartAt (IsPlaceOf text) ts
 start_all text [] a = tt
 start_all text (t ∷ ts) a = (a.0, start_all text ts a.1)
 
-pub refused_at : (text : List ℕ) (tokens : Remaining) (keep : Bool) → AreAtPlaces text tokens.pieces → IsPlaceOf text (ending tokens.refusal).mark → HasPlaceIn text (to_come (keeping_tags keep (at_start tokens))).fault
+pub refused_at : (text : List ℕ) (tokens : Remaining) (keep : Bool) → AreAtPlaces text tokens.pieces → AreEnded (IsPlaceOf text) tokens.refusal tokens.pieces → HasPlaceIn text (to_come (keeping_tags keep (at_start tokens))).fault
 unfolding remaining
 refused_at text tokens keep a e =
     let m : Machine = (keeping_tags keep (at_start tokens)).machine in
-    run_refuses text (suc (size m)) m (start_all text tokens.pieces a, e)
+    run_refuses text (suc (size m)) m (inr (start_all text tokens.pieces a, e))

@@ -35,4 +35,3 @@ pub mod SpansWithin
 pub mod Promises
 pub mod WellFormed
 pub mod Begins
-pub mod RefusedAt

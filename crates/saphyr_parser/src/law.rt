@@ -26,9 +26,10 @@ ghost use Rattle.saphyr_scalar.specs.Spaces.{IsLineRest};
 ghost use Rattle.saphyr_scanner.specs.Layout.{IsFlowLayoutText, IsLayoutText, most_open};
 ghost use Rattle.saphyr_parser.specs.SpansWithin.{HasSpansWithin};
 ghost use Rattle.saphyr_parser.specs.Begins.{BeginsSomeForest};
-ghost use Rattle.saphyr_parser.specs.RefusedAt.{AreAtPlaces};
-ghost use Rattle.saphyr_parser.specs.Machine.{ending};
-ghost use Rattle.saphyr_scanner.specs.TokensTaken.{IsPlaceOf};
+ghost use Rattle.saphyr_scanner.specs.AtPlaces.{AreAtPlaces};
+ghost use Rattle.saphyr_scanner.specs.Ends.{EndsWithStream};
+ghost use Rattle.saphyr_scalar.specs.declared.scalar.fault.Refusal.{Refusal};
+ghost use Rattle.saphyr_scanner.specs.TokensTaken.{AreTakenFrom, IsPlaceOf};
 ghost use Rattle.saphyr_parser.specs.WellFormed.{AreWellFormed};
 
 pub use saphyr_input::law::lists_characters;
@@ -150,8 +151,16 @@ pub fn begins_some_forest()
     ensures { (tokens : Remaining) (keep : Bool) → AreWellFormed tokens.pieces → length tokens.pieces < 2 ^ 64 → BeginsSomeForest keep tokens (to_come (keeping_tags keep (at_start tokens))) }
 {}
 
-/// Where tokens begin at places of a text, and a refusal that ends them has its place there, the refusal that
-/// ends their events has its place there too.
+/// Where tokens begin at places of a text, and the end of the stream ends them, or a refusal that has its place
+/// there, the refusal that ends their events has its place there too.
 pub fn refuses_at_places()
-    ensures { (text : List ℕ) (tokens : Remaining) (keep : Bool) → AreAtPlaces text tokens.pieces → IsPlaceOf text (ending tokens.refusal).mark → HasPlaceIn text (to_come (keeping_tags keep (at_start tokens))).fault }
+    ensures { (text : List ℕ) (tokens : Remaining) (keep : Bool) → AreAtPlaces text tokens.pieces → EndsWithStream tokens → ((e : Refusal) → tokens.refusal ≡ Some e → IsPlaceOf text e.mark) → HasPlaceIn text (to_come (keeping_tags keep (at_start tokens))).fault }
 {}
+
+/// The events of tokens that are taken from a text are taken from it too, where there are fewer than 2^64 and the
+/// end of the stream or a refusal ends them.
+pub fn takes_all_events()
+    ensures { (text : List ℕ) (tokens : Remaining) → AreTakenFrom text tokens → EndsWithStream tokens → length tokens.pieces < 2 ^ 64 → TakesEvents text (at_start tokens) }
+{
+    saphyr_scanner::law::places_taken_tokens();
+}

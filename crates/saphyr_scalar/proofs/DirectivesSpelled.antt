@@ -46,7 +46,7 @@ pub record NameOf (m : Marker) (xs text : List ℕ) (u : Cursor) : Type 0 where
   pub ends : is_blank_or_breakz (slice_index u.rest 0) ≡ true
   pub place : u ≡ at (along m (length word)) u.rest
 
-name_spelled : (m : Marker) (xs text : List ℕ) (u : Cursor) → name (at m xs) ≡ Ok (text, u) → NameOf m xs text u
+pub name_spelled : (m : Marker) (xs text : List ℕ) (u : Cursor) → name (at m xs) ≡ Ok (text, u) → NameOf m xs text u
 unfolding name name_of
 name_spelled m xs text u h =
     let n = prefix_len is_yaml_non_space xs in
@@ -480,7 +480,7 @@ reserved_value w k zs some no_yaml no_tag all ends =
 abbrev OfValue : Marker → List ℕ → List ℕ → Directive × Cursor → Type 0
 OfValue k w zs x = ValueOf x.0 k w zs x.1
 
-value_spelled : (start k : Marker) (w zs : List ℕ) (d : Directive) (u : Cursor) → w ≢ [] → AreIn is_yaml_non_space w → is_blank_or_breakz (slice_index zs 0) ≡ true → value start (encode_utf8_all w, at k zs) ≡ Ok (d, u) → ValueOf d k w zs u
+pub value_spelled : (start k : Marker) (w zs : List ℕ) (d : Directive) (u : Cursor) → w ≢ [] → AreIn is_yaml_non_space w → is_blank_or_breakz (slice_index zs 0) ≡ true → value start (encode_utf8_all w, at k zs) ≡ Ok (d, u) → ValueOf d k w zs u
 unfolding value
 value_spelled start k w zs d u some all ends =
     by_test (bytes_eq (encode_utf8_all w) (codes "YAML")) (version_directive start (at k zs)) (cond (bytes_eq (encode_utf8_all w) (codes "TAG")) (tag_directive start (at k zs)) (Ok (reserved (encode_utf8_all w), pass_comment (at k zs))))
@@ -518,7 +518,7 @@ line_spells m ys text a b d u n is tail =
       tail.place ∙ ap (λ (j : Marker). pass_break (at (along j (length tail.tail)) tail.behind)) end ∙ ap (λ j. pass_break (at j tail.behind)) (along_more m (length t) (length tail.tail) (length t + length tail.tail) refl),
     )
 
-at_self : (b : Cursor) (k : Marker) (r : List ℕ) → b ≡ at k r → at b.mark b.rest ≡ b
+pub at_self : (b : Cursor) (k : Marker) (r : List ℕ) → b ≡ at k r → at b.mark b.rest ≡ b
 at_self b k r e = ap (λ (y : Cursor). at y.mark y.rest) e ∙ sym e
 
 directive_spelled : (m : Marker) (ys : List ℕ) (d : Directive) (end : Marker) (u : Cursor) → directive (at m (37 ∷ ys)) ≡ Ok (d, end, u) → Spelled m (37 ∷ ys) d end u

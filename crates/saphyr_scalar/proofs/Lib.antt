@@ -28,7 +28,15 @@ pub mod TakingMore
 pub mod Counted
 pub mod CountedBlocks
 pub mod PlacedHeaders
+pub mod PassedBreaks
 pub mod PlacedBlocks
+pub mod Refusals
+pub mod NoBreaks
+pub mod RefusedOnWay
+pub mod RefusedDirectives
+pub mod RefusedBlocks
+pub mod RefusedPlain
+pub mod RefusedQuotes
 pub mod Lines
 pub mod Moving
 pub mod PlainGaps

@@ -1,94 +1,35 @@
 -- Where a block scalar stands: its text is passed character by character, and it ends behind its first line, or at the end.
-use Rattle.std.proofs.Common.{◌≡◌, ℕ, suc, ◌+◌, ◌≤◌, ◌<◌, ◌⊎◌, Bool, true, false, List, [], ◌∷◌, length, drop, Result, Ok, Err, refl, sym, ap, ◌∙◌, arith, subst, inl, inr}
-use Rattle.std.specs.Prelude.{◌&&◌, ◌||◌, slice_index, not, ◌==◌, nat_lt, nat_le, min, max, Option, Some, None, unwrap_or}
-use Rattle.std.specs.List.{prefix_len}
-use Rattle.std.proofs.lemmas.Bool.Decides.{nat_tests}
-use Rattle.saphyr_input.specs.Classes.{is_bom, is_blank, is_break, is_breakz, is_z, is_digit, is_yaml_non_break, tab}
-use Rattle.saphyr_input.specs.Places.{next_2_are}
-use Rattle.saphyr_input.specs.Separation.{blank_len, comment_len, separation_len, is_bare_comment}
-use Rattle.saphyr_input.specs.declared.input.SkipTabs.{SkipTabs}
-use Rattle.saphyr_input.specs.declared.input.SkipTabs.TheVariants.{Yes}
+use Rattle.std.proofs.Common.{◌≡◌, ℕ, ◌+◌, ◌<◌, ◌⊎◌, Bool, true, false, List, [], ◌∷◌, length, Ok, refl, sym, ap, ◌∙◌, arith, inl, inr}
+use Rattle.std.specs.Prelude.{◌&&◌, slice_index, ◌==◌, nat_lt, nat_le, min, max, Option, Some, None, unwrap_or}
+use Rattle.saphyr_input.specs.Classes.{is_blank, is_break, is_z, is_yaml_non_break}
 use Rattle.saphyr_scalar.specs.declared.reading.block.BlockStyle.{BlockStyle}
 use Rattle.saphyr_scalar.specs.declared.reading.block.Chomping.{Chomping}
 use Rattle.saphyr_scalar.specs.declared.scalar.position.Marker.{Marker}
 use Rattle.saphyr_scalar.specs.declared.scalar.position.Span.{Span}
-use Rattle.saphyr_scalar.specs.declared.scalar.fault.Refusal.{Refusal}
 use Rattle.saphyr_scalar.specs.declared.scalar.block.header.BlockHeader.{BlockHeader}
 use Rattle.saphyr_scalar.specs.declared.scalar.block.lines.EmptyLines.{EmptyLines}
-use Rattle.saphyr_scalar.specs.Cursor.{Cursor, along, next_line, pass, pass_blanks, pass_break, behind_separation, separation}
+use Rattle.saphyr_scalar.specs.Cursor.{Cursor, along, next_line, pass}
 use Rattle.saphyr_scalar.specs.Passing as passing
 use Rattle.saphyr_scalar.specs.Passing.{IsPassed}
-use Rattle.saphyr_scalar.specs.Quoted.{break_len}
-use Rattle.saphyr_scalar.specs.BlockScalar.{chomping, indicator, header_break, header_end, last_chomping, header_behind, header, is_indentation, is_cr_lf, inside_break, one_more, empty_lines, line_starts, LinesRead, between, line, chomped, content, behind_leading, given_indentation, no_lines, behind_header, block_scalar}
-use Rattle.saphyr_scalar.proofs.Moving.{either, along_none, along_more, drop_more}
+use Rattle.saphyr_scalar.specs.BlockScalar.{header, is_indentation, is_cr_lf, inside_break, one_more, empty_lines, line_starts, LinesRead, between, line, chomped, content, behind_leading, given_indentation, no_lines, behind_header, block_scalar}
 use Rattle.saphyr_scalar.proofs.Taking.{by_test, Given, given_bind, given_of}
 use Rattle.saphyr_scalar.proofs.TagsSpelled.{is_number}
+use Rattle.saphyr_scalar.proofs.PassedBreaks.{Passes, inside_same, one_here, return_here, feed_here, stop_here, end_here}
 use Rattle.saphyr_scalar.proofs.PlacedHeaders.{top, passed_passed, passed_lines, first_is, non_break, Goes, one_passed, Ends, header_ends}
 
 -- ## The lines
-
--- what is passed from here on, and behind a CR before LF
-record Passes (m : Marker) (t : List ℕ) (r : Cursor) : Type 0 where
-  here : IsPassed m t r.mark r.rest
-  behind_return : (slice_index t 0 == 10) ≡ true → (k : Marker) → m ≡ inside_break k → IsPassed k (13 ∷ t) r.mark r.rest
 
 indentation_space : (limit : Option ℕ) (col c : ℕ) → is_indentation limit col c ≡ true → c ≡ 32
 indentation_space None col c e = is_number c 32 e
 indentation_space (Some l) col c e = is_number c 32 (first_is (c == 32) (nat_lt col l) e)
 
-not_both : (c a b : ℕ) → (a == b) ≡ false → c ≡ b → (c == a) ≡ true → ⊥
-not_both c a b e f g = let h : c ≡ a = is_number c a g in let k : (b == b) ≡ false = ap (λ x. x == b) (sym f ∙ h) ∙ e in differs b k
-  where
-    differs : (n : ℕ) → (n == n) ≡ false → ⊥
-    differs n e = grind (arith, nat_tests, e)
-
--- a character of the line
-one_here : (m : Marker) (c : ℕ) (cs : List ℕ) (r : Cursor) → is_break c ≡ false → Passes (along m 1) cs r → Passes m (c ∷ cs) r
-one_here m c cs r e p = record {
-  here = passing.character m c cs r.mark r.rest e p.here;
-  behind_return = λ f k q. absurd (let g : is_break c ≡ true = ap is_break (is_number c 10 f) in cc);
-}
-
-return_here : (m : Marker) (c : ℕ) (cs : List ℕ) (r : Cursor) → is_cr_lf c cs ≡ true → Passes (inside_break m) cs r → Passes m (c ∷ cs) r
-return_here m c cs r e p =
-    let thirteen : c ≡ 13 = is_number c 13 (first_is (c == 13) (slice_index cs 0 == 10) e) in
-    record {
-      here = subst (λ d. IsPassed m (d ∷ cs) r.mark r.rest) (sym thirteen) (p.behind_return (second_is (c == 13) (slice_index cs 0 == 10) e) m refl);
-      behind_return = λ f k q. absurd (not_both c 10 13 refl thirteen f);
-    }
-  where
-    second_is : (a b : Bool) → (a && b) ≡ true → b ≡ true
-    second_is true b e = e
-    second_is false b e = absurd (cc)
-
-feed_here : (m : Marker) (c : ℕ) (cs : List ℕ) (r : Cursor) → is_cr_lf c cs ≡ false → is_break c ≡ true → IsPassed (next_line m 1) cs r.mark r.rest → Passes m (c ∷ cs) r
-feed_here m c cs r e b p =
-    let one : break_len (c ∷ cs) ≡ 1 = rw e refl in
-    record {
-      here = passing.line_break m (c ∷ cs) r.mark r.rest b (subst (λ n. IsPassed (next_line m n) (drop n (c ∷ cs)) r.mark r.rest) (sym one) p);
-      behind_return = λ f k q. fed k (is_number c 10 f) q;
-    }
-  where
-    fed : (k : Marker) → c ≡ 10 → m ≡ inside_break k → IsPassed k (13 ∷ c ∷ cs) r.mark r.rest
-    fed k f q =
-        let i : k.index + 1 + 1 ≡ k.index + 2 = omega arith in
-        let same : next_line (inside_break k) 1 ≡ next_line k 2 = rw i refl in
-        let there : IsPassed (next_line k 2) cs r.mark r.rest = subst (λ (j : Marker). IsPassed j cs r.mark r.rest) (ap (λ (j : Marker). next_line j 1) q ∙ same) p in
-        subst (λ d. IsPassed k (13 ∷ d ∷ cs) r.mark r.rest) (sym f) (passing.line_break k (13 ∷ 10 ∷ cs) r.mark r.rest refl there)
-
-stop_here : (m : Marker) (c : ℕ) (cs : List ℕ) (b : Bool) → is_break c ≡ false → Passes m (c ∷ cs) (record { rest = c ∷ cs; mark = m; blank_so_far = b })
-stop_here m c cs b e = record { here = passing.nothing m (c ∷ cs); behind_return = λ f k q. absurd (let g : is_break c ≡ true = ap is_break (is_number c 10 f) in cc) }
-
-end_here : (m : Marker) (b : Bool) → Passes m [] (record { rest = []; mark = m; blank_so_far = b })
-end_here m b = record { here = passing.nothing m []; behind_return = λ f k q. absurd (cc) }
-
-empty_passes : (limit : Option ℕ) (before : EmptyLines) (b : Bool) (m : Marker) (t : List ℕ) → Passes m t (empty_lines limit before b m t).1
+pub empty_passes : (limit : Option ℕ) (before : EmptyLines) (b : Bool) (m : Marker) (t : List ℕ) → Passes m t (empty_lines limit before b m t).1
 unfolding empty_lines
 empty_passes limit before b m [] = end_here m b
 empty_passes limit before b m (c ∷ cs) =
     let P : EmptyLines × Cursor → Type 0 = λ x. Passes m (c ∷ cs) x.1 in
     by_test (is_indentation limit m.col c) _ _ P (λ e. one_here m c cs _ (ap is_break (indentation_space limit m.col c e)) (empty_passes limit before b (along m 1) cs))
-    (λ _. by_test (is_cr_lf c cs) _ _ P (λ e. return_here m c cs _ e (empty_passes limit before b (inside_break m) cs))
+    (λ _. by_test (is_cr_lf c cs) _ _ P (λ e. return_here m (inside_break m) c cs _ e (inside_same m) (empty_passes limit before b (inside_break m) cs))
     (λ e. by_test (is_break c) _ _ P (λ f. feed_here m c cs _ e f (empty_passes limit (one_more before m.col) true (next_line m 1) cs).here) (λ f. stop_here m c cs b f)))
 
 starts_non_break : (i col c : ℕ) (cs : List ℕ) → line_starts i col (c ∷ cs) ≡ true → is_break c ≡ false
@@ -108,7 +49,7 @@ mutual
   between_passes style i above lines b m (c ∷ cs) =
       let P : LinesRead → Type 0 = λ x. Passes m (c ∷ cs) x.2 in
       by_test (is_indentation (Some i) m.col c) _ _ P (λ e. one_here m c cs _ (ap is_break (indentation_space (Some i) m.col c e)) (between_passes style i above lines b (along m 1) cs))
-      (λ _. by_test (is_cr_lf c cs) _ _ P (λ e. return_here m c cs _ e (between_passes style i above lines b (inside_break m) cs))
+      (λ _. by_test (is_cr_lf c cs) _ _ P (λ e. return_here m (inside_break m) c cs _ e (inside_same m) (between_passes style i above lines b (inside_break m) cs))
       (λ e. by_test (is_break c) _ _ P (λ f. feed_here m c cs _ e f (between_passes style i above (lines + 1) true (next_line m 1) cs).here)
       (λ f. by_test (line_starts i m.col (c ∷ cs)) _ _ P (λ g. one_here m c cs _ (starts_non_break i m.col c cs g) (line_passes style i (is_blank c) b (along m 1) cs)) (λ _. stop_here m c cs b f))))
 
@@ -117,7 +58,7 @@ mutual
   line_passes style i more b m (c ∷ cs) =
       let P : LinesRead → Type 0 = λ x. Passes m (c ∷ cs) x.2 in
       by_test (is_yaml_non_break c) _ _ P (λ e. one_here m c cs _ (non_break c e) (line_passes style i more b (along m 1) cs))
-      (λ _. by_test (is_cr_lf c cs) _ _ P (λ e. return_here m c cs _ e (line_passes style i more b (inside_break m) cs))
+      (λ _. by_test (is_cr_lf c cs) _ _ P (λ e. return_here m (inside_break m) c cs _ e (inside_same m) (line_passes style i more b (inside_break m) cs))
       (λ e. by_test (is_break c) _ _ P (λ f. feed_here m c cs _ e f (between_passes style i (Some more) 0 true (next_line m 1) cs).here) (λ f. stop_here m c cs b f)))
 
 -- ## The scalar

@@ -1,25 +1,23 @@
 -- Where the header of a block scalar stands: its line is passed character by character, and its break, where one ends it.
-use Rattle.std.proofs.Common.{◌≡◌, ℕ, suc, ◌+◌, ◌≤◌, ◌<◌, ◌⊎◌, Bool, true, false, List, [], ◌∷◌, length, drop, Result, Ok, Err, refl, sym, ap, ◌∙◌, arith, subst, inl, inr}
-use Rattle.std.specs.Prelude.{◌&&◌, ◌||◌, slice_index, not, ◌==◌, nat_lt, nat_le, min, max, Option, Some, None, unwrap_or}
+use Rattle.std.proofs.Common.{◌≡◌, ℕ, suc, ◌+◌, ◌≤◌, ◌⊎◌, Bool, true, false, List, [], ◌∷◌, length, drop, Result, Ok, Err, refl, sym, ap, ◌∙◌, arith, subst, inl, inr}
+use Rattle.std.specs.Prelude.{◌&&◌, ◌||◌, slice_index, not, ◌==◌, nat_lt, min, Option, Some, None}
 use Rattle.std.specs.List.{prefix_len}
 use Rattle.std.proofs.lemmas.Bool.Decides.{nat_tests}
 use Rattle.saphyr_input.specs.Classes.{is_bom, is_blank, is_break, is_breakz, is_z, is_digit, is_yaml_non_break, tab}
 use Rattle.saphyr_input.specs.Places.{next_2_are}
-use Rattle.saphyr_input.specs.Separation.{blank_len, comment_len, separation_len, is_bare_comment}
+use Rattle.saphyr_input.specs.Separation.{is_skipped, blank_len, separation_len, is_bare_comment}
 use Rattle.saphyr_input.specs.declared.input.SkipTabs.{SkipTabs}
-use Rattle.saphyr_input.specs.declared.input.SkipTabs.TheVariants.{Yes}
-use Rattle.saphyr_scalar.specs.declared.reading.block.BlockStyle.{BlockStyle}
+use Rattle.saphyr_input.specs.declared.input.SkipTabs.TheVariants.{Yes, No}
+use Rattle.saphyr_input.specs.declared.input.SkipTabs.TheVariants as found
 use Rattle.saphyr_scalar.specs.declared.reading.block.Chomping.{Chomping}
 use Rattle.saphyr_scalar.specs.declared.scalar.position.Marker.{Marker}
-use Rattle.saphyr_scalar.specs.declared.scalar.position.Span.{Span}
 use Rattle.saphyr_scalar.specs.declared.scalar.fault.Refusal.{Refusal}
 use Rattle.saphyr_scalar.specs.declared.scalar.block.header.BlockHeader.{BlockHeader}
-use Rattle.saphyr_scalar.specs.declared.scalar.block.lines.EmptyLines.{EmptyLines}
 use Rattle.saphyr_scalar.specs.Cursor.{Cursor, along, next_line, pass, pass_blanks, pass_break, behind_separation, separation}
 use Rattle.saphyr_scalar.specs.Passing as passing
 use Rattle.saphyr_scalar.specs.Passing.{IsPassed}
 use Rattle.saphyr_scalar.specs.Quoted.{break_len}
-use Rattle.saphyr_scalar.specs.BlockScalar.{chomping, indicator, header_break, header_end, last_chomping, header_behind, header, is_indentation, is_cr_lf, inside_break, one_more, empty_lines, line_starts, LinesRead, between, line, chomped, content, behind_leading, given_indentation, no_lines, behind_header, block_scalar}
+use Rattle.saphyr_scalar.specs.BlockScalar.{chomping, indicator, header_break, header_end, last_chomping, header_behind, header}
 use Rattle.saphyr_scalar.proofs.Moving.{either, along_none, along_more, drop_more}
 use Rattle.saphyr_scalar.proofs.Taking.{by_test, Given, given_bind, given_of}
 use Rattle.saphyr_scalar.proofs.TagsSpelled.{is_number}
@@ -85,7 +83,7 @@ indicator_goes start s =
     some [] e = absurd (cc)
     some (c ∷ cs) e = omega arith
 
-run_passed : (p : ℕ → Bool) (m : Marker) (t : List ℕ) → ((c : ℕ) → p c ≡ true → is_break c ≡ false) → IsPassed m t (along m (prefix_len p t)) (drop (prefix_len p t) t)
+pub run_passed : (p : ℕ → Bool) (m : Marker) (t : List ℕ) → ((c : ℕ) → p c ≡ true → is_break c ≡ false) → IsPassed m t (along m (prefix_len p t)) (drop (prefix_len p t) t)
 run_passed p m [] h = subst (λ (k : Marker). IsPassed m [] k []) (sym (along_none m)) (passing.nothing m [])
 run_passed p m (c ∷ cs) h =
     by_test (p c) (1 + prefix_len p cs) 0 (λ n. IsPassed m (c ∷ cs) (along m n) (drop n (c ∷ cs)))
@@ -97,7 +95,7 @@ run_passed p m (c ∷ cs) h =
     subst (λ n. IsPassed m (c ∷ cs) (along m (1 + prefix_len p cs)) (drop n (c ∷ cs))) (sym one) whole)
     (λ _. subst (λ (k : Marker). IsPassed m (c ∷ cs) k (c ∷ cs)) (sym (along_none m)) (passing.nothing m (c ∷ cs)))
 
-blank_no_break : (c : ℕ) → is_blank c ≡ true → is_break c ≡ false
+pub blank_no_break : (c : ℕ) → is_blank c ≡ true → is_break c ≡ false
 blank_no_break c e = grind (arith, nat_tests)
 
 pub non_break : (c : ℕ) → is_yaml_non_break c ≡ true → is_break c ≡ false
@@ -107,11 +105,16 @@ non_break c e = by (is_break c) (is_z c) (is_bom c) e
     by true b d f = absurd (cc)
     by false b d f = refl
 
-line_passed : (s : Cursor) → Goes s (pass_blanks (separation_len Yes s.rest) s)
-line_passed s =
-    by_test (blank_len Yes s.rest == 0) _ _ (λ n. Goes s (pass_blanks n s)) (λ _. none)
-    (λ _. let b = prefix_len is_blank s.rest in
-    let first = run_passed is_blank s.mark s.rest blank_no_break in
+skipped_no_break : (tabs : SkipTabs) (c : ℕ) → is_skipped tabs c ≡ true → is_break c ≡ false
+skipped_no_break Yes c e = blank_no_break c e
+skipped_no_break No c e = ap is_break (is_number c 32 e)
+skipped_no_break (found.Result _ _) c e = ap is_break (is_number c 32 e)
+
+pub line_passed : (tabs : SkipTabs) (s : Cursor) → Goes s (pass_blanks (separation_len tabs s.rest) s)
+line_passed tabs s =
+    by_test (blank_len tabs s.rest == 0) _ _ (λ n. Goes s (pass_blanks n s)) (λ _. none)
+    (λ _. let b = prefix_len (is_skipped tabs) s.rest in
+    let first = run_passed (is_skipped tabs) s.mark s.rest (skipped_no_break tabs) in
     by_test (slice_index (drop b s.rest) 0 == 35) _ _ (λ n. Goes s (pass_blanks (b + n) s))
     (λ _. let n = prefix_len is_yaml_non_break (drop b s.rest) in
     let second = run_passed is_yaml_non_break (along s.mark b) (drop b s.rest) non_break in
@@ -133,7 +136,7 @@ separation_goes s =
     let P : SkipTabs × Cursor → Type 0 = λ x. Goes s x.1 in
     let t : Cursor = pass_blanks (separation_len Yes s.rest) s in
     by_test (nat_lt 0 t.mark.col && is_bom (slice_index t.rest 0)) _ _ (Given P) (λ _. tt)
-    (λ _. by_test (is_bare_comment Yes s.rest) _ _ (Given P) (λ _. tt) (λ _. line_passed s))
+    (λ _. by_test (is_bare_comment Yes s.rest) _ _ (Given P) (λ _. tt) (λ _. line_passed Yes s))
 
 -- ## The end of the header
 
@@ -152,7 +155,7 @@ pub first_is : (a b : Bool) → (a && b) ≡ true → a ≡ true
 first_is true b e = refl
 first_is false b e = absurd (cc)
 
-break_ends : (s : Cursor) → is_breakz (slice_index s.rest 0) ≡ true → Ends s (pass_break s)
+pub break_ends : (s : Cursor) → is_breakz (slice_index s.rest 0) ≡ true → Ends s (pass_break s)
 break_ends s e =
     by_test (next_2_are s.rest 13 10) _ _ (Ends s)
     (λ n. let two : break_len s.rest ≡ 2 = rw n refl in
@@ -194,11 +197,16 @@ unfolding header_behind
 header_behind_ends start i s x g =
     given_bind (λ (y : BlockHeader × Cursor). Ends s y.1) (header_end start x.1) _ (λ t e. given_of (Ends s) (header_end start x.1) t (header_end_ends start s x.1 g) e)
 
+-- where the header's indicators end
+pub header_goes : (s : Cursor) (x : ℕ × Cursor) → Goes s (pass 1 s) → indicator s.mark (chomping (pass 1 s)).1 ≡ Ok x → Goes s (last_chomping (chomping (pass 1 s)).0 x.1).1
+header_goes s x g e =
+    let first = chomping (pass 1 s) in
+    let h = goes_goes s (pass 1 s) first.1 g (chomping_goes (pass 1 s)) in
+    let k = goes_goes s first.1 x.1 h (given_of (λ (y : ℕ × Cursor). Goes first.1 y.1) (indicator s.mark first.1) x (indicator_goes s.mark first.1) e) in
+    goes_goes s x.1 (last_chomping first.0 x.1).1 k (last_goes first.0 x.1)
+
 pub header_ends : (s : Cursor) → Goes s (pass 1 s) → Given (λ (y : BlockHeader × Cursor). Ends s y.1) (header s)
 unfolding header
 header_ends s g =
     let first = chomping (pass 1 s) in
-    let h = goes_goes s (pass 1 s) first.1 g (chomping_goes (pass 1 s)) in
-    given_bind (λ (y : BlockHeader × Cursor). Ends s y.1) (indicator s.mark first.1) _ (λ x e.
-    let k = goes_goes s first.1 x.1 h (given_of (λ (y : ℕ × Cursor). Goes first.1 y.1) (indicator s.mark first.1) x (indicator_goes s.mark first.1) e) in
-    header_behind_ends s.mark x.0 s (last_chomping first.0 x.1) (goes_goes s x.1 (last_chomping first.0 x.1).1 k (last_goes first.0 x.1)))
+    given_bind (λ (y : BlockHeader × Cursor). Ends s y.1) (indicator s.mark first.1) _ (λ x e. header_behind_ends s.mark x.0 s (last_chomping first.0 x.1) (header_goes s x g e))

@@ -187,8 +187,12 @@ end_gap : (i : ℕ) (a m : Marker) → gap i a (at m []) ≡ Ok (record { text =
 unfolding gap gap_from
 end_gap i a m = ap (λ x. Ok (record { text = []; tabbed = false; behind = at x [] })) (along_none m)
 
+pub some_count : (n : ℕ) → (n == 0) ≡ false → n ≡ suc (pred n)
+some_count zero e = absurd (cc)
+some_count (suc n) e = refl
+
 -- what an end of a text is, by the count of what stands before it
-end_at : (xs : List ℕ) (g : Gap) → IsEnd xs g.behind.rest → (n : ℕ) → gap_len xs g ≡ n → drop n xs ≡ g.behind.rest
+pub end_at : (xs : List ℕ) (g : Gap) → IsEnd xs g.behind.rest → (n : ℕ) → gap_len xs g ≡ n → drop n xs ≡ g.behind.rest
 end_at xs g e n h = let same : e.taken ≡ n = omega (arith, e.count, h) in ap (λ k. drop k xs) (sym same) ∙ sym e.is
 
 pub word_over : (f : Bool) (i : ℕ) (a m : Marker) (xs : List ℕ) → in_word f xs ≡ false → word f i a m xs ≡ (gap i a (at m xs) >>= behind_gap f i a m)
@@ -206,10 +210,6 @@ word_over f i a m (c ∷ cs) h =
     let k = pred (gap_len (c ∷ cs) g) in
     let more : gap_len (c ∷ cs) g ≡ suc k = some_count (gap_len (c ∷ cs) g) some in
     between_all f i a m g k cs (end_at (c ∷ cs) g end (suc k) more)))
-  where
-    some_count : (n : ℕ) → (n == 0) ≡ false → n ≡ suc (pred n)
-    some_count zero e = absurd (cc)
-    some_count (suc n) e = refl
 
 -- What the calls that read a part leave.
 

@@ -156,7 +156,7 @@ record Word (q : Quote) (m : Marker) (xs y : List ℕ) (s : Cursor) : Type 0 whe
   bytes : (gap : Gap) → gap_front gap ++ y ≡ gap_bytes gap items
   passed : IsPassed m xs s.mark s.rest
 
-mark_no_break : (q : Quote) → is_break (flow.mark q) ≡ false
+pub mark_no_break : (q : Quote) → is_break (flow.mark q) ≡ false
 mark_no_break Single = refl
 mark_no_break Double = refl
 
@@ -291,7 +291,7 @@ backslash_word n indent start m (e ∷ xs) y s le known g = cases (is_break e)
       passed = esc.passes s.mark s.rest r.passed;
     })
 
-special_of : (q : Quote) (c : ℕ) → IsContent c → is_literal q c ≡ false → flow.is_special q c ≡ true
+pub special_of : (q : Quote) (c : ℕ) → IsContent c → is_literal q c ≡ false → flow.is_special q c ≡ true
 unfolding is_literal
 special_of q c is h = by_cases (is_blank c) (is_break c) (is_z c) (flow.is_special q c) is.blank is.break is.nul h
   where
@@ -319,9 +319,9 @@ word_spelled n q indent start m c cs y s is le known g = cases (is_literal q c)
         subst (λ (x : ℕ). Word Double m (x ∷ cs) y s) same (backslash_word n indent start m cs y s le known (ap (λ x. inside Double indent start no_gap 0 m (x ∷ cs)) same ∙ g)))
 
 -- what ends a gap
-record Ended (gap : Gap) (xs text : List ℕ) : Type 0 where
-  bytes : text ≡ gap_front gap
-  nul : is_z (slice_index xs 0) ≡ false
+pub record Ended (gap : Gap) (xs text : List ℕ) : Type 0 where
+  pub bytes : text ≡ gap_front gap
+  pub nul : is_z (slice_index xs 0) ≡ false
 
 no_refusal : {A X : Type 0} (r : Refusal) (x : A) → ◌≡◌ {A = Result A Refusal} (Err r) (Ok x) → X
 no_refusal r x e = absurd (cc)
@@ -332,7 +332,7 @@ given_is x y e = cc
 abbrev LinesEnded : Bool → ℕ → Cursor → List ℕ → Result Cursor Refusal → Type 0
 LinesEnded escaped n s text r = (r >>= λ t. Ok (encode_utf8_all (folded_break escaped n))) ≡ Ok text → Ended (over_lines escaped n) s.rest text
 
-gap_ended : (indent : ℕ) (start : Marker) (gap : Gap) (s : Cursor) (text : List ℕ) → end_gap indent start gap s ≡ Ok text → Ended gap s.rest text
+pub gap_ended : (indent : ℕ) (start : Marker) (gap : Gap) (s : Cursor) (text : List ℕ) → end_gap indent start gap s ≡ Ok text → Ended gap s.rest text
 unfolding end_gap begin_word
 gap_ended indent start (on_line bytes) s text =
     by_test (is_z (slice_index s.rest 0)) _ _ (λ (r : Result (List ℕ) Refusal). r ≡ Ok text → Ended (on_line bytes) s.rest text)

@@ -19,6 +19,7 @@ pub mod PlainSpelling
 pub mod Quoted
 pub mod QuotedLines
 pub mod QuotedSpelling
+pub mod RefusedInside
 pub mod Seen
 pub mod Spaces
 pub mod Spelling

@@ -17,6 +17,7 @@ mod quoted;
 #[cfg(test)]
 mod quoted_tests;
 mod reader;
+mod refusal_law;
 mod style;
 mod tag;
 
@@ -37,5 +38,6 @@ pub use plain::PlainScalar;
 pub use position::{Marker, Span};
 pub use property_law::{reads_each_anchor, reads_each_tag, spells_each_anchor, spells_each_tag};
 pub use reader::Reader;
+pub use refusal_law::refuses_inside;
 pub use style::ScalarStyle;
 pub use tag::TagParts;

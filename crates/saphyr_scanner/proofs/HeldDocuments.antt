@@ -68,7 +68,7 @@ behind_content P columns from s f h go =
 
 -- ## Markers
 
-three_at : (x : ℕ) (xs : List ℕ) → (0 == x) ≡ false → next_3_are xs x x x ≡ true → xs ≡ x ∷ x ∷ x ∷ drop 3 xs
+pub three_at : (x : ℕ) (xs : List ℕ) → (0 == x) ≡ false → next_3_are xs x x x ≡ true → xs ≡ x ∷ x ∷ x ∷ drop 3 xs
 three_at x xs z e =
     let a = both_of ((slice_index xs 0 == x) && (slice_index xs 1 == x)) (slice_index xs 2 == x) e in
     let b = both_of (slice_index xs 0 == x) (slice_index xs 1 == x) a.0 in
@@ -205,10 +205,10 @@ directive_holds laws columns from s h col f =
 
 -- ## The end of the stream
 
-end_place : (s : Cursor) → s.rest ≡ [] → IsPlaceOrEnd s (document.end_mark s.mark)
+pub end_place : (s : Cursor) → s.rest ≡ [] → IsPlaceOrEnd s (document.end_mark s.mark)
 end_place s e = by_test (s.mark.col == 0) _ _ (IsPlaceOrEnd s) (λ _. inl refl) (λ _. inr (e, refl))
 
-no_length : (xs : List ℕ) → (length xs == 0) ≡ true → xs ≡ []
+pub no_length : (xs : List ℕ) → (length xs == 0) ≡ true → xs ≡ []
 no_length [] e = refl
 no_length (c ∷ cs) e = absurd (let h : length (c ∷ cs) ≡ 0 = is_number (length (c ∷ cs)) 0 e in omega (arith, h))
 

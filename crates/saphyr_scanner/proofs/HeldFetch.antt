@@ -284,7 +284,7 @@ begin_read columns from s going h l = record {
   over = λ e. absurd (let f : s.core.ended ≡ true = e in cc);
 }
 
-fetch_read : TextLaws → Readers → (text : List ℕ) → length text < 2 ^ 63 → (columns : List ℕ) (from : Cursor) (s : State) → LaterThan (fresh text) from → s.core.ended ≡ false → TakenState columns from s → Live s.core s.queue → Given (Read columns from) (fetch s)
+pub fetch_read : TextLaws → Readers → (text : List ℕ) → length text < 2 ^ 63 → (columns : List ℕ) (from : Cursor) (s : State) → LaterThan (fresh text) from → s.core.ended ≡ false → TakenState columns from s → Live s.core s.queue → Given (Read columns from) (fetch s)
 unfolding fetch
 fetch_read laws readers text small columns from s l going h k =
     by_test s.core.started _ _ (Given (Read columns from))

@@ -1,5 +1,5 @@
 -- Each step of scalars and properties takes its token from the text, by the laws of the readers.
-use Rattle.std.proofs.Common.{◌≡◌, ◌≢◌, ℕ, ◌+◌, ◌≤◌, ◌<◌, ◌⊎◌, Bool, true, false, List, [], ◌∷◌, ◌++◌, length, Option, Ok, IsTrue, IsFalse, refl, sym, ap, ◌∙◌, arith, subst}
+use Rattle.std.proofs.Common.{◌≡◌, ◌≢◌, ℕ, ◌+◌, ◌≤◌, ◌<◌, ◌⊎◌, Bool, true, false, List, [], ◌∷◌, ◌++◌, length, Option, Ok, IsTrue, IsFalse, refl, sym, ap, ◌∙◌, arith, subst, inr}
 use Rattle.std.specs.Prelude.{◌&&◌, slice_index, not, nat_lt, codes, encode_utf8_all}
 use Rattle.saphyr_input.specs.Classes.{is_anchor_char, is_blank_or_breakz, is_one_of, is_z, is_breakz}
 use Rattle.saphyr_scalar.specs.declared.reading.block.BlockStyle.{BlockStyle}
@@ -37,7 +37,8 @@ use Rattle.saphyr_scanner.specs.Property as property
 use Rattle.saphyr_scanner.specs.Scalar as scalar
 use Rattle.saphyr_scanner.specs.TokensTaken as taken
 use Rattle.saphyr_scanner.specs.TokensTaken.{AreApart, IsToken, IsQuotedScalar, begins_plain}
-use Rattle.saphyr_scanner.proofs.Sizes.{by_test, Given, given_bind}
+use Rattle.saphyr_scanner.proofs.Sizes.{by_test, Given, given_bind, given_of}
+use Rattle.saphyr_scanner.proofs.PlainBehind.{Ends, plain_ends}
 use Rattle.saphyr_scanner.proofs.Separated.{apart_apart}
 use Rattle.saphyr_scanner.proofs.Later.{top}
 use Rattle.saphyr_scanner.proofs.TokenRuns.{is_quiet, Begins}
@@ -150,7 +151,7 @@ plain_holds_at laws columns from q c d s h f deep =
     let r = laws.plain (not (in_block d)) d.indent d.cursor x.3 x.0 x.1 x.2 e in
     let piece : Piece = record { span = record { start = d.cursor.mark; end = x.1 }; kind = tokens.Scalar Plain x.0 } in
     saved_put columns from q c d (scalar.behind_plain x.2 x.3 d) piece x.3 s refl (λ i a b k. k.start) refl deep
-    (record { start = refl; begins = starts.other (no_sign d.cursor x.3 x.0 x.1 r); no_indicator = starts.no_indicator; reading = r }) (taken.nothing _ _)
+    (record { start = refl; begins = starts.other (no_sign d.cursor x.3 x.0 x.1 r); no_indicator = starts.no_indicator; reading = r; uncut = inr (given_of Ends (words.plain (not (in_block d)) d.indent d.cursor) x (plain_ends (not (in_block d)) d.indent d.cursor) e).1 }) (taken.nothing _ _)
     (record { level = refl; outer = refl; indent = refl; outer_indents = refl }) h))
 
 pub plain_holds : TextLaws → (columns : List ℕ) (from : Cursor) (q : Queue) (c : Core) → Holds columns from c q → PlainStart c.cursor → (in_block c ≡ true → c.indent ≤ c.cursor.mark.col + 1) → Given (HoldsStep columns from q) (scalar.plain (next q) c)

@@ -1,4 +1,4 @@
--- The tokens of a text are taken from it.
+-- The tokens of a text are taken from it, and a refusal that ends them stands at a place of it.
 use Rattle.std.proofs.Common.{◌≡◌, ℕ, zero, suc, ◌+◌, ◌^◌, ◌<◌, Bool, true, false, List, [], ◌∷◌, ◌++◌, length, drop, Option, Some, None, Result, Ok, Err, refl, sym, ap, ◌∙◌, arith, subst, inl}
 use Rattle.std.specs.Prelude.{◌&&◌, ◌||◌, ◌==◌, not}
 use Rattle.std.proofs.lemmas.Bool.Decides.{nat_tests}
@@ -13,7 +13,7 @@ use Rattle.saphyr_scanner.specs.State.{State, start}
 use Rattle.saphyr_scanner.specs.Fetch.{size, settled, needs_token, fetch_within, is_place, holds, any_holds}
 use Rattle.saphyr_scanner.specs.Remaining.{before_place, hand_out, delivered, run, remaining, scan}
 use Rattle.saphyr_scanner.specs.TokensTaken as taken
-use Rattle.saphyr_scanner.specs.TokensTaken.{AreTokens, TakesTokens}
+use Rattle.saphyr_scanner.specs.TokensTaken.{IsPlaceOf, AreTokens, IsEndOf, AreTakenFrom}
 use Rattle.saphyr_scanner.proofs.FetchSizes.{read_smaller}
 use Rattle.saphyr_scanner.proofs.Filling.{going}
 use Rattle.saphyr_scanner.proofs.Leads.{flat, place_pieces}
@@ -24,6 +24,10 @@ use Rattle.saphyr_scanner.proofs.TokenRuns.{open_all, open_append, tokens_append
 use Rattle.saphyr_scanner.proofs.Held.{Stack, Key, KeyOf, lower, Keys, keys_weaken}
 use Rattle.saphyr_scanner.proofs.HeldScalars.{TextLaws}
 use Rattle.saphyr_scanner.proofs.HeldFetch.{Read, Ready, settled_ready, read_ready}
+use Rattle.saphyr_scanner.proofs.TokenPlaces.{Reaches, reaches_reaches, place_of, tokens_reached}
+use Rattle.saphyr_scanner.proofs.Told.{RefusalLaws}
+use Rattle.saphyr_scanner.proofs.ToldDocuments.{NotedState}
+use Rattle.saphyr_scanner.proofs.ToldReads.{told_ok, told_err, settled_told, read_told}
 
 abbrev holding : Core → List Place → ℕ → State
 holding c ps k = record { core = c; queue = record { places = ps; handed = k } }
@@ -68,14 +72,17 @@ not_held : (ended held : Bool) → ended ≡ false → (not ended && held) ≡ f
 not_held false h e f = f
 not_held true h e f = absurd (cc)
 
+abbrev From : List ℕ → Cursor → Type 0
+From text u = LaterThan (fresh text) u × Reaches (fresh text) u
+
 -- what is left where a place was handed out
 record Left (text : List ℕ) (columns : List ℕ) (from : Cursor) (c : Core) (p : Place) (ps : List Place) (n : ℕ) : Type 0 where
   between : Cursor
   tokens : AreTokens columns (place_pieces p.opening p.piece) from between
-  later : LaterThan (fresh text) between
+  later : From text between
   ready : Ready (open_all (place_pieces p.opening p.piece) columns) between (holding c ps (n + 1))
 
-one_left : (text : List ℕ) (columns : List ℕ) (from : Cursor) (c : Core) (p : Place) (ps : List Place) (n : ℕ) → LaterThan (fresh text) from → Ready columns from (holding c (p ∷ ps) n) → needs_token (holding c (p ∷ ps) n) ≡ false → Left text columns from c p ps n
+one_left : (text : List ℕ) (columns : List ℕ) (from : Cursor) (c : Core) (p : Place) (ps : List Place) (n : ℕ) → From text from → Ready columns from (holding c (p ∷ ps) n) → needs_token (holding c (p ∷ ps) n) ≡ false → Left text columns from c p ps n
 one_left text columns from c p ps n l h e =
     let ts = place_pieces p.opening p.piece in
     let r = tokens_part columns ts (flat ps) from h.taken.last h.taken.tokens in
@@ -83,7 +90,7 @@ one_left text columns from c p ps n l h e =
     record {
       between = r.between;
       tokens = r.front;
-      later = later_later (fresh text).mark text from.mark from.rest r.between.mark r.between.rest l (tokens_later columns ts from r.between r.front);
+      later = (later_later (fresh text).mark text from.mark from.rest r.between.mark r.between.rest l.0 (tokens_later columns ts from r.between r.front), reaches_reaches (fresh text) from r.between l.1 (tokens_reached columns ts from r.between r.front));
       ready = record {
         taken = record { last = h.taken.last; tokens = r.back; apart = h.taken.apart; stack = subst (λ cs. Stack cs c.indent c.outer_indents) (open_append ts (flat ps) columns) h.taken.stack };
         live = λ f nz.
@@ -96,44 +103,53 @@ one_left text columns from c p ps n l h e =
 
 -- ## What comes
 
-abbrev Follows : List ℕ → Cursor → Remaining → Type 0
-Follows columns from r = (end : Cursor) × AreTokens columns r.pieces from end × (r.refusal ≡ None → end.rest ≡ [])
+abbrev Follows : List ℕ → List ℕ → Cursor → Remaining → Type 0
+Follows text columns from r = (end : Cursor) × AreTokens columns r.pieces from end × (r.refusal ≡ None → end.rest ≡ []) × ((e : Refusal) → r.refusal ≡ Some e → IsPlaceOf text e.mark)
 
-place_follows : (columns : List ℕ) (from between : Cursor) (o : Opening) (t : Piece) (r : Remaining) → AreTokens columns (place_pieces o t) from between → Follows (open_all (place_pieces o t) columns) between r → Follows columns from (before_place o t r)
-place_follows columns from between o t r h k = by o (tokens_append columns (place_pieces o t) r.pieces from between k.0 h k.1)
+place_follows : (text columns : List ℕ) (from between : Cursor) (o : Opening) (t : Piece) (r : Remaining) → AreTokens columns (place_pieces o t) from between → Follows text (open_all (place_pieces o t) columns) between r → Follows text columns from (before_place o t r)
+place_follows text columns from between o t r h k = by o (tokens_append columns (place_pieces o t) r.pieces from between k.0 h k.1)
   where
-    by : (w : Opening) → AreTokens columns (place_pieces w t ++ r.pieces) from k.0 → Follows columns from (before_place w t r)
-    by opening.Nothing x = (k.0, x, k.2)
-    by opening.Key x = (k.0, x, k.2)
-    by opening.BlockMappingAndKey x = (k.0, x, k.2)
-    by opening.FlowMappingAndKey x = (k.0, x, k.2)
+    by : (w : Opening) → AreTokens columns (place_pieces w t ++ r.pieces) from k.0 → Follows text columns from (before_place w t r)
+    by opening.Nothing x = (k.0, x, k.2, k.3)
+    by opening.Key x = (k.0, x, k.2, k.3)
+    by opening.BlockMappingAndKey x = (k.0, x, k.2, k.3)
+    by opening.FlowMappingAndKey x = (k.0, x, k.2, k.3)
 
-handed_follow : (text : List ℕ) (go : State → Remaining) (c : Core) → ((columns : List ℕ) (from : Cursor) (n : ℕ) (ps : List Place) → LaterThan (fresh text) from → (c.ended ≡ true → ps ≡ []) → Ready columns from (holding c ps n) → Follows columns from (go (holding c ps n)))
-    → (columns : List ℕ) (from : Cursor) (n : ℕ) (ps : List Place) → LaterThan (fresh text) from → Ready columns from (holding c ps n) → Follows columns from (hand_out ps go (holding c ps n))
+handed_follow : (text : List ℕ) (go : State → Remaining) (c : Core) → ((columns : List ℕ) (from : Cursor) (n : ℕ) (ps : List Place) → From text from → (c.ended ≡ true → ps ≡ []) → Ready columns from (holding c ps n) → Follows text columns from (go (holding c ps n)))
+    → (columns : List ℕ) (from : Cursor) (n : ℕ) (ps : List Place) → From text from → Ready columns from (holding c ps n) → Follows text columns from (hand_out ps go (holding c ps n))
 handed_follow text go c others columns from n [] l h = others columns from n [] l (λ _. refl) h
 handed_follow text go c others columns from n (p ∷ ps) l h =
-    by_test (needs_token (holding c (p ∷ ps) n)) _ _ (Follows columns from)
+    by_test (needs_token (holding c (p ∷ ps) n)) _ _ (Follows text columns from)
     (λ e. others columns from n (p ∷ ps) l (λ f. absurd (let g = going c.ended _ e in cc)) h)
     (λ e.
     let w = one_left text columns from c p ps n l h e in
-    place_follows columns from w.between p.opening p.piece _ w.tokens (handed_follow text go c others (open_all (place_pieces p.opening p.piece) columns) w.between (n + 1) ps w.later w.ready))
+    place_follows text columns from w.between p.opening p.piece _ w.tokens (handed_follow text go c others (open_all (place_pieces p.opening p.piece) columns) w.between (n + 1) ps w.later w.ready))
 
-delivers : (columns : List ℕ) (from : Cursor) (r : Result State Refusal) (go : State → Remaining) → ((t : State) → r ≡ Ok t → Follows columns from (go t)) → Follows columns from (delivered r go)
-delivers columns from (Ok t) go h = h t refl
-delivers columns from (Err e) go h = (from, refl, λ i. absurd (cc))
+delivers : (text columns : List ℕ) (from : Cursor) (r : Result State Refusal) (go : State → Remaining) → ((t : State) → r ≡ Ok t → Follows text columns from (go t)) → ((e : Refusal) → r ≡ Err e → IsPlaceOf text e.mark) → Follows text columns from (delivered r go)
+delivers text columns from (Ok t) go h k = h t refl
+delivers text columns from (Err e) go h k = (from, refl, (λ i. absurd (cc)), (λ f i. k f (let same : e ≡ f = cc in ap (λ (x : Refusal). Err x) same)))
 
-run_follows : TextLaws → Readers → (text : List ℕ) → length text < 2 ^ 63 → (limit fuel : ℕ) (columns : List ℕ) (from : Cursor) (s : State) → LaterThan (fresh text) from → size s.core < fuel → Ready columns from s → Follows columns from (run fuel limit s)
-run_follows laws readers text small limit zero columns from s l f h = absurd (omega (arith, f))
-run_follows laws readers text small limit (suc fuel) columns from s l f h =
-    let later : (cs : List ℕ) (u : Cursor) (t : State) → LaterThan (fresh text) u → size t.core < fuel → Ready cs u t → Follows cs u (run fuel limit t) = λ cs u t. run_follows laws readers text small limit fuel cs u t in
+-- the laws of the readers
+pub record AllLaws : Type 0 where
+  pub texts : TextLaws
+  pub readers : Readers
+  pub refusals : RefusalLaws
+
+run_follows : AllLaws → (text : List ℕ) → length text < 2 ^ 63 → (limit fuel : ℕ) (columns : List ℕ) (from : Cursor) (s : State) → From text from → size s.core < fuel → Ready columns from s → NotedState s → Follows text columns from (run fuel limit s)
+run_follows laws text small limit zero columns from s l f h m = absurd (omega (arith, f))
+run_follows laws text small limit (suc fuel) columns from s l f h m =
+    let later : (cs : List ℕ) (u : Cursor) (t : State) → From text u → size t.core < fuel → Ready cs u t → NotedState t → Follows text cs u (run fuel limit t) = λ cs u t. run_follows laws text small limit fuel cs u t in
     handed_follow text _ s.core
     (λ cs u n ps k over w.
     let t : State = holding s.core ps n in
-    by_test t.core.ended _ _ (Follows cs u)
-    (λ e. let P : List Place → Type 0 = λ qs. AreTokens cs (flat qs) u u in (u, refl, λ _. w.over e u (subst P (sym (over e)) refl)))
-    (λ e. delivers cs u (fetch_within limit t >>= settled) (run fuel limit)
-    (λ v q. let less = given_of _ (fetch_within limit t >>= settled) v (read_smaller readers limit t e) q in
-    later cs u v k (omega (arith, less, f)) (given_of (Ready cs u) (fetch_within limit t >>= settled) v (read_ready laws readers text small limit cs u t k e w) q))))
+    let r = fetch_within limit t >>= settled in
+    by_test t.core.ended _ _ (Follows text cs u)
+    (λ e. let P : List Place → Type 0 = λ qs. AreTokens cs (flat qs) u u in (u, refl, (λ _. w.over e u (subst P (sym (over e)) refl)), (λ f i. absurd (cc))))
+    (λ e. let told = read_told laws.texts laws.readers laws.refusals text small limit cs u t k.0 k.1 e w m in
+    delivers text cs u r (run fuel limit)
+    (λ v q. let less = given_of _ r v (read_smaller laws.readers limit t e) q in
+    later cs u v k (omega (arith, less, f)) (given_of (Ready cs u) r v (read_ready laws.texts laws.readers text small limit cs u t k.0 e w) q) (told_ok NotedState (fresh text) r v told q))
+    (λ g q. place_of text g.mark (told_err NotedState (fresh text) r g told q))))
     columns from s.queue.handed s.queue.places l h
 
 start_read : (text : List ℕ) → Read [] (fresh text) (start text)
@@ -142,9 +158,19 @@ start_read text = record {
   over = λ e. absurd (cc);
 }
 
-pub scan_taken : TextLaws → Readers → (limit : ℕ) (text : List ℕ) → length text < 2 ^ 63 → TakesTokens text (scan limit text)
+scan_follows : AllLaws → (limit : ℕ) (text : List ℕ) → length text < 2 ^ 63 → Follows text [] (fresh text) (scan limit text)
 unfolding remaining
-scan_taken laws readers limit text small =
+scan_follows laws limit text small =
     let s : State = start text in
-    delivers [] (fresh text) (settled s) (λ t. run (suc (size t.core)) limit t)
-    (λ t e. run_follows laws readers text small limit (suc (size t.core)) [] (fresh text) t (later_here (fresh text).mark text) (omega arith) (given_of (Ready [] (fresh text)) (settled s) t (settled_ready [] (fresh text) s (start_read text)) e))
+    let here : Reaches (fresh text) (fresh text) = taken.nothing _ _ in
+    let told = settled_told text s here (inl refl) in
+    delivers text [] (fresh text) (settled s) (λ t. run (suc (size t.core)) limit t)
+    (λ t e. run_follows laws text small limit (suc (size t.core)) [] (fresh text) t (later_here (fresh text).mark text, here) (omega arith) (given_of (Ready [] (fresh text)) (settled s) t (settled_ready [] (fresh text) s (start_read text)) e) (told_ok NotedState (fresh text) (settled s) t told e))
+    (λ g q. place_of text g.mark (told_err NotedState (fresh text) (settled s) g told q))
+
+pub scan_taken : AllLaws → (limit : ℕ) (text : List ℕ) → length text < 2 ^ 63 → AreTakenFrom text (scan limit text)
+scan_taken laws limit text small = let h = scan_follows laws limit text small in (h.0, h.1, by (scan limit text).refusal h.0 h.2 h.3)
+  where
+    by : (o : Option Refusal) (end : Cursor) → (o ≡ None → end.rest ≡ []) → ((e : Refusal) → o ≡ Some e → IsPlaceOf text e.mark) → IsEndOf text o end
+    by None end a b = a refl
+    by (Some e) end a b = b e refl

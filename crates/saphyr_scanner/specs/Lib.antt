@@ -29,4 +29,6 @@ pub mod Remaining
 pub mod Engine
 pub mod TokensTaken
 pub mod SpansInOrder
+pub mod Ends
 pub mod TakenTexts
+pub mod AtPlaces

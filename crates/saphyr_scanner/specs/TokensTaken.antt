@@ -142,12 +142,14 @@ IsQuotedScalar quote value span s t =
 abbrev pub begins_plain : ℕ → Bool
 begins_plain c = not (is_one_of (codes ",[]{}#&*!'\"%@`") c)
 
--- the span is the piece that is read; `-`, `?` and `:` begin one where no blank, break or NUL follows
+-- the span is the piece that is read; `-`, `?` and `:` begin one where no blank, break or NUL follows. Where
+-- blanks and breaks behind it are passed no break stands behind those, so that none of two characters is cut.
 pub record IsPlainScalar (value : List ℕ) (span : Span) (s t : Cursor) : Type 0 where
   pub start : span.start ≡ s.mark
   pub begins : IsTrue (begins_plain (slice_index s.rest 0))
   pub no_indicator : IsTrue (is_one_of (codes "-?:") (slice_index s.rest 0)) → IsFalse (is_blank_or_breakz (slice_index s.rest 1))
   pub reading : IsPlainReading s value span.end t
+  pub uncut : (reading.white ≡ []) ⊎ IsFalse (is_break (slice_index t.rest 0))
 
 abbrev pub block_indicator : BlockStyle → ℕ
 block_indicator block_style.Literal = 124
@@ -227,7 +229,3 @@ IsEndOf text (Some e) u = IsPlaceOf text e.mark
 -- the tokens, and the refusal if one ends them, are taken from the text
 abbrev pub AreTakenFrom : List ℕ → Remaining → Type 0
 AreTakenFrom text r = (end : Cursor) × AreTokens [] r.pieces (fresh text) end × IsEndOf text r.refusal end
-
--- the same of the tokens alone, whatever the place of the refusal is
-abbrev pub TakesTokens : List ℕ → Remaining → Type 0
-TakesTokens text r = (end : Cursor) × AreTokens [] r.pieces (fresh text) end × (r.refusal ≡ None → end.rest ≡ [])

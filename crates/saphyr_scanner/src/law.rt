@@ -9,18 +9,22 @@ ghost use Rattle.saphyr_scanner.specs.TokenGrammar.{Yields};
 ghost use Rattle.saphyr_scanner.specs.Tokens.{Kind};
 ghost use Rattle.saphyr_scanner.specs.Remaining.{Scans, scan};
 ghost use Rattle.saphyr_scanner.specs.SpansInOrder.{AreInOrder};
+ghost use Rattle.saphyr_scanner.specs.AtPlaces.{AreAtPlaces};
+ghost use Rattle.saphyr_scanner.specs.Ends.{EndsWithStream};
 ghost use Rattle.saphyr_scanner.specs.Gap as gaps;
-ghost use Rattle.saphyr_scanner.specs.TokensTaken.{AreApart, AreTakenFrom, IsOnLine, TakesTokens};
-ghost use Rattle.saphyr_scalar.specs.Cursor.{Cursor, separation};
+ghost use Rattle.saphyr_scanner.specs.TokensTaken.{AreApart, AreTakenFrom, AreTokens, IsOnLine, IsPlaceOf};
+ghost use Rattle.saphyr_scalar.specs.Cursor.{Cursor, fresh, separation};
+ghost use Rattle.saphyr_scanner.specs.Seen.{Piece};
 ghost use Rattle.saphyr_input.specs.declared.input.SkipTabs.{SkipTabs};
 ghost use Rattle.saphyr_input.specs.declared.input.SkipTabs.TheVariants.{Yes};
-ghost use Rattle.std.specs.Prelude.{◌<◌, ◌^◌, false, Ok};
+ghost use Rattle.std.specs.Prelude.{◌+◌, ◌*◌, ◌<◌, ◌^◌, false, Ok, Some};
+ghost use Rattle.saphyr_scalar.specs.declared.scalar.fault.Refusal.{Refusal};
 
 use saphyr_scalar::scalar::{
     counts_each_block_scalar, counts_each_double_quoted, places_each_block_scalar,
     reads_each_double_quoted, reads_each_plain_word, reads_plain_values, reads_values_of_lines,
-    spells_each_anchor, spells_each_directive, spells_each_quoted, spells_each_tag, takes_anchor,
-    takes_block_scalar, takes_directive, takes_plain, takes_quoted, takes_tag,
+    refuses_inside, spells_each_anchor, spells_each_directive, spells_each_quoted, spells_each_tag,
+    takes_anchor, takes_block_scalar, takes_directive, takes_plain, takes_quoted, takes_tag,
 };
 
 /// A text of JSON stands for its forest.
@@ -83,6 +87,37 @@ pub fn orders_spans()
     spells_each_directive();
 }
 
+/// The end of the stream is the last token of a text, and no other is, unless a refusal ends the tokens
+/// before it.
+pub fn ends_with_the_stream()
+    ensures { (limit : ℕ) (text : List ℕ) → EndsWithStream (scan limit text) }
+{
+    takes_plain();
+    takes_quoted();
+    takes_block_scalar();
+    takes_anchor();
+    takes_tag();
+    takes_directive();
+}
+
+/// A text has five tokens at most for each character that the limit allows, and ten.
+pub fn bounds_tokens()
+    ensures { (limit : ℕ) (text : List ℕ) → length (scan limit text).pieces ≤ 5 * limit + 10 }
+{
+    reads_plain_values();
+    spells_each_quoted();
+    counts_each_block_scalar();
+    spells_each_anchor();
+    spells_each_tag();
+    spells_each_directive();
+    takes_plain();
+    takes_quoted();
+    takes_block_scalar();
+    takes_anchor();
+    takes_tag();
+    takes_directive();
+}
+
 /// What is passed between two tokens is blanks, breaks and comments alone.
 pub fn passes_separation()
     ensures gap { (least : ℕ) (s : Cursor) (g : gaps.Passed) → gaps.pass_gap least s ≡ Ok g → AreApart s g.cursor }
@@ -91,9 +126,10 @@ pub fn passes_separation()
 {}
 
 /// The tokens of a text are taken from it: up to the last token it is their spellings in order, parted
-/// by blanks, breaks and comments alone, and all of it is where no refusal ends them.
+/// by blanks, breaks and comments alone, and all of it is where no refusal ends them. A refusal that
+/// does stands at a place of the text.
 pub fn takes_all_tokens()
-    ensures { (limit : ℕ) (text : List ℕ) → length text < 2 ^ 63 → TakesTokens text (scan limit text) }
+    ensures { (limit : ℕ) (text : List ℕ) → length text < 2 ^ 63 → AreTakenFrom text (scan limit text) }
 {
     reads_plain_values();
     spells_each_quoted();
@@ -108,4 +144,24 @@ pub fn takes_all_tokens()
     takes_anchor();
     takes_tag();
     takes_directive();
+    refuses_inside();
+}
+
+/// Each token of a text begins at a place of it.
+pub fn begins_at_places()
+    ensures { (limit : ℕ) (text : List ℕ) → length text < 2 ^ 63 → AreAtPlaces text (scan limit text).pieces }
+{
+    takes_all_tokens();
+}
+
+/// Tokens that are taken from a text begin at places of it.
+pub fn places_taken_tokens()
+    ensures { (text : List ℕ) (pieces : List Piece) (end : Cursor) → AreTokens [] pieces (fresh text) end → AreAtPlaces text pieces }
+{}
+
+/// A refusal that ends the tokens of a text stands at a place of it.
+pub fn refuses_at_places()
+    ensures { (limit : ℕ) (text : List ℕ) → length text < 2 ^ 63 → (e : Refusal) → (scan limit text).refusal ≡ Some e → IsPlaceOf text e.mark }
+{
+    takes_all_tokens();
 }

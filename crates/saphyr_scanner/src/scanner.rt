@@ -2,7 +2,7 @@ ghost use Rattle.std.specs.Prelude.{◌≡◌, length};
 ghost use Rattle.saphyr_scanner.specs.Remaining.{scan};
 ghost use Rattle.saphyr_scanner.specs.Seen.{Hands, handed};
 ghost use Rattle.saphyr_scanner.specs.SpansInOrder.{AreInOrder};
-ghost use Rattle.saphyr_scanner.specs.TokensTaken.{TakesTokens};
+ghost use Rattle.saphyr_scanner.specs.TokensTaken.{AreTakenFrom};
 
 use crate::engine::Engine;
 use crate::law::{orders_spans, takes_all_tokens};
@@ -40,11 +40,12 @@ impl<T: Input> Scanner<T> {
     /// is refused once a token has passed the limit, and that token is not given.
     ///
     /// The spans of the tokens stand one behind the other, within the text. The tokens are taken from
-    /// the text: up to the last it is their spellings in order, parted by blanks, breaks and comments.
+    /// the text: up to the last it is their spellings in order, parted by blanks, breaks and comments. A
+    /// refusal that ends them stands at a place of the text.
     pub fn new(alloc: Global, input: T, limit: usize) -> Self
         ensures tokens { result ≡ scan limit (T.rest input) }
         ensures spans { AreInOrder (length (T.rest input)) 0 result.pieces }
-        ensures taken { TakesTokens (T.rest input) result }
+        ensures taken { AreTakenFrom (T.rest input) result }
     {
         orders_spans();
         takes_all_tokens();

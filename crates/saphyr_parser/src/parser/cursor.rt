@@ -1,12 +1,13 @@
-ghost use Rattle.std.specs.Prelude.{◌≡◌, ℕ, Bool, List, length, take, IfOk};
+ghost use Rattle.std.specs.Prelude.{◌≡◌, ◌≤◌, ℕ, Bool, List, length, take, IfOk};
 ghost use Rattle.std.specs.Str.{chars};
 ghost use Rattle.saphyr_input.specs.Listed.{Lists, Listed};
 ghost use Rattle.saphyr_scanner.specs.Remaining.{scan};
 ghost use Rattle.saphyr_parser.specs.Cursor as spec;
 ghost use Rattle.saphyr_parser.specs.Complete.{ReadsJson};
 ghost use Rattle.saphyr_parser.specs.SpansWithin.{HasSpansWithin};
+ghost use Rattle.saphyr_parser.specs.Promises.{TakesEvents};
 
-use crate::law::gives_json;
+use crate::law::{gives_json, takes_all_events};
 use crate::parser::event::Event;
 use crate::parser::fault::Fault;
 use crate::parser::reader::Reader;
@@ -15,7 +16,7 @@ use saphyr_input::input::{CloneInput, Input};
 use saphyr_input::{BufferedInput, StrInput};
 use saphyr_scalar::Span;
 use saphyr_scanner::Scanner;
-use saphyr_scanner::law::scans_each_json;
+use saphyr_scanner::law::{bounds_tokens, ends_with_the_stream, scans_each_json};
 use std::alloc::{AllocError, Global};
 use std::marker::Model;
 
@@ -52,11 +53,15 @@ impl<'input, T: Input> Parser<'input, T> {
     ghost use Rattle.saphyr_parser.specs.contracts.parser.cursor.Parser.{the_row};
 
     /// The events of an input's text, which is refused past 4,294,967,295 characters.
+    ///
+    /// They are taken from the text: all events of a forest, or a beginning of them and one fault. The text spells
+    /// the forest's tokens in order, or a beginning of them, and a refusal has its place in it.
     #[must_use]
     pub fn new(alloc: Global, src: T) -> Self
         ensures decided { result ≡ spec.at_start (scan 4294967295 (T.rest src)) }
         ensures complete { ReadsJson 4294967295 (T.rest src) result }
         ensures spans { (keep : Bool) → HasSpansWithin (length (T.rest src)) (spec.to_come (spec.keeping_tags keep result)) }
+        ensures taken { TakesEvents (T.rest src) result }
     {
         Parser::with_limit(alloc, src, MOST_CHARACTERS)
     }
@@ -66,9 +71,13 @@ impl<'input, T: Input> Parser<'input, T> {
         ensures decided { result ≡ spec.at_start (scan limit (T.rest src)) }
         ensures complete { ReadsJson limit (T.rest src) result }
         ensures spans { (keep : Bool) → HasSpansWithin (length (T.rest src)) (spec.to_come (spec.keeping_tags keep result)) }
+        ensures taken { limit ≤ 4294967295 → TakesEvents (T.rest src) result }
     {
         scans_each_json();
         gives_json();
+        ends_with_the_stream();
+        bounds_tokens();
+        takes_all_events();
         Parser {
             reader: Reader::new(alloc, Scanner::new(alloc, src, limit)),
         }
@@ -160,6 +169,7 @@ impl<'input> Parser<'input, StrInput<'input>> {
         ensures decided { result ≡ spec.at_start (scan 4294967295 (chars value.now)) }
         ensures complete { ReadsJson 4294967295 (chars value.now) result }
         ensures spans { (keep : Bool) → HasSpansWithin (length (chars value.now)) (spec.to_come (spec.keeping_tags keep result)) }
+        ensures taken { TakesEvents (chars value.now) result }
     {
         Parser::new(alloc, StrInput::new(value))
     }
@@ -176,6 +186,7 @@ impl<'input, I: Iterator<Item = char>> Parser<'input, BufferedInput<I>> {
         ensures decided { (text : List ℕ) → Lists I.can_next I.next_gives iter text → IfOk result (λ parser. parser ≡ spec.at_start (scan 4294967295 (take 4294967296 text))) }
         ensures complete { (text : List ℕ) → Lists I.can_next I.next_gives iter text → IfOk result (λ parser. ReadsJson 4294967295 text parser) }
         ensures spans { (text : List ℕ) → Lists I.can_next I.next_gives iter text → IfOk result (λ parser. (keep : Bool) → HasSpansWithin (length text) (spec.to_come (spec.keeping_tags keep parser))) }
+        ensures taken { (text : List ℕ) → Lists I.can_next I.next_gives iter text → IfOk result (λ parser. TakesEvents (take 4294967296 text) parser) }
     {
         Ok(Parser::new(alloc, BufferedInput::new(alloc, iter)?))
     }

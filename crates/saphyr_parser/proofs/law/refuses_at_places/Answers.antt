@@ -1,5 +1,7 @@
+use Rattle.saphyr_scanner.specs.TokensTaken.{IsPlaceOf}
+use Rattle.saphyr_parser.proofs.EventsTakenOf.{ended}
 use Rattle.saphyr_parser.proofs.RefusingDocuments.{refused_at}
 use Rattle.saphyr_parser.proofs.law.refuses_at_places.Goals as goal
 
 pub returns : goal.returns
-returns c = refused_at
+returns c = λ text tokens keep a e at. refused_at text tokens keep a (ended (IsPlaceOf text) tokens e at)

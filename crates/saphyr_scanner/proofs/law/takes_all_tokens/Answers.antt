@@ -5,7 +5,8 @@ use Rattle.saphyr_scalar.specs.declared.reading.block.BlockStyle.TheVariants as 
 use Rattle.saphyr_scanner.specs.TokensTaken.{block_indicator}
 use Rattle.saphyr_scanner.proofs.TakingScalars.{Readers, quoted_laws}
 use Rattle.saphyr_scanner.proofs.HeldScalars.{TextLaws}
-use Rattle.saphyr_scanner.proofs.RunTaken.{scan_taken}
+use Rattle.saphyr_scanner.proofs.RunTaken.{AllLaws, scan_taken}
+use Rattle.saphyr_scanner.proofs.Told.{RefusalLaws}
 use Rattle.saphyr_scanner.proofs.law.takes_all_tokens.Goals as goal
 
 indicator_begins : (style : BlockStyle) → is_break (block_indicator style) ≡ false
@@ -39,4 +40,13 @@ returns c =
       tag = c.spells_each_tag.ensures;
       directive = c.spells_each_directive.ensures;
     } in
-    scan_taken laws readers
+    let refusals : RefusalLaws = record {
+      name = c.refuses_inside.ensures.anchor;
+      tag = c.refuses_inside.ensures.tag;
+      separation = c.refuses_inside.ensures.separation;
+      directive = c.refuses_inside.ensures.directive;
+      quotes = c.refuses_inside.ensures.quoted;
+      plain = c.refuses_inside.ensures.plain;
+      block_scalar = c.refuses_inside.ensures.block_scalar;
+    } in
+    scan_taken (record { texts = laws; readers = readers; refusals = refusals })

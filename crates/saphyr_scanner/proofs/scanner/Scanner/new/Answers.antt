@@ -1,10 +1,10 @@
 use Rattle.std.proofs.Common.{sym, subst}
 use Rattle.saphyr_scanner.specs.Remaining.{remaining}
 use Rattle.saphyr_scanner.specs.State.{State}
-use Rattle.saphyr_scanner.specs.TokensTaken.{TakesTokens}
+use Rattle.saphyr_scanner.specs.TokensTaken.{AreTakenFrom}
 use Rattle.saphyr_scanner.proofs.scanner.Scanner.new.Goals as goal
 
 pub returns-clause-taken : goal.returns-clause-taken
 returns-clause-taken g c =
-    let P : State → Type 0 = λ s. TakesTokens (g.T.Input.rest c.args.input) (remaining c.args.limit s) in
+    let P : State → Type 0 = λ s. AreTakenFrom (g.T.Input.rest c.args.input) (remaining c.args.limit s) in
     subst P (sym c.new.ensures.start) (c.takes_all_tokens.ensures c.args.limit (g.T.Input.rest c.args.input) c.new.ensures.countable)

@@ -1,5 +1,6 @@
 use Rattle.std.proofs.Common.{ℕ, List, subst, arith}
 use Rattle.saphyr_parser.specs.Complete.{ReadsJson}
+use Rattle.saphyr_parser.specs.Promises.{TakesEvents}
 use Rattle.saphyr_parser.proofs.EventSpans.{within_whole}
 use Rattle.saphyr_parser.proofs.WithinLimit.{reads_whole}
 use Rattle.saphyr_parser.proofs.parser.cursor.Parser+BufferedInput+I.new_from_iter.Goals as goal
@@ -9,3 +10,6 @@ returns-clause-complete g c = λ text lists. reads_whole 4294967295 4294967296 t
 
 pub returns-clause-spans : goal.returns-clause-spans
 returns-clause-spans g c = λ text lists. within_whole 4294967296 text _ c.new-2.result (c.in_ok-new.ensures.rest text lists) c.new-2.ensures.spans
+
+pub returns-clause-taken : goal.returns-clause-taken
+returns-clause-taken g c = λ text lists. subst (λ (cs : List ℕ). TakesEvents cs c.new-2.result) (c.in_ok-new.ensures.rest text lists) c.new-2.ensures.taken

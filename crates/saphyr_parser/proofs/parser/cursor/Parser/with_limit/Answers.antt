@@ -1,6 +1,7 @@
 use Rattle.std.proofs.Common.{ap, ◌∙◌}
 use Rattle.saphyr_parser.specs.Cursor.{at_start}
 use Rattle.saphyr_parser.proofs.Completed.{completed}
+use Rattle.saphyr_parser.proofs.EventsTakenOf.{parser_takes}
 use Rattle.saphyr_parser.proofs.EventSpans.{parser_spans_within}
 use Rattle.saphyr_parser.proofs.parser.cursor.Parser.with_limit.Goals as goal
 
@@ -9,3 +10,6 @@ returns-clause-complete g c = completed c.scans_each_json.ensures c.gives_json.e
 
 pub returns-clause-spans : goal.returns-clause-spans
 returns-clause-spans g c = parser_spans_within _ c.new.result _ c.new-2.ensures c.new.ensures.spans
+
+pub returns-clause-taken : goal.returns-clause-taken
+returns-clause-taken g c = λ few. parser_takes c.takes_all_events.ensures _ _ c.new.result _ c.new-2.ensures c.new.ensures.tokens c.new.ensures.taken (c.ends_with_the_stream.ensures _ _) (c.bounds_tokens.ensures _ _) few

@@ -1,0 +1,12 @@
+use Rattle.std.specs.Prelude.{[]}
+use Rattle.saphyr_scalar.specs.Cursor.{fresh}
+use Rattle.saphyr_scanner.specs.Remaining.{scan}
+use Rattle.saphyr_scanner.specs.TokensTaken.{IsReached}
+use Rattle.saphyr_scanner.specs.TokensTaken as taken
+use Rattle.saphyr_scanner.proofs.TokenPlaces.{tokens_at}
+use Rattle.saphyr_scanner.proofs.law.begins_at_places.Goals as goal
+
+pub returns : goal.returns
+returns c = λ limit text small.
+    let h = c.takes_all_tokens.ensures limit text small in
+    tokens_at text [] (scan limit text).pieces (fresh text) h.0 (taken.nothing (fresh text).mark text) h.1

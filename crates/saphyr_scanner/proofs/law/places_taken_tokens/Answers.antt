@@ -1,0 +1,8 @@
+use Rattle.std.specs.Prelude.{[]}
+use Rattle.saphyr_scalar.specs.Cursor.{fresh}
+use Rattle.saphyr_scanner.specs.TokensTaken as taken
+use Rattle.saphyr_scanner.proofs.TokenPlaces.{tokens_at}
+use Rattle.saphyr_scanner.proofs.law.places_taken_tokens.Goals as goal
+
+pub returns : goal.returns
+returns c = λ text pieces end h. tokens_at text [] pieces (fresh text) end (taken.nothing (fresh text).mark text) h
