@@ -23,11 +23,11 @@ class_no_break p feed return c h =
     let second : nat_eq c 13 ≡ false = other_than p 13 c return h in
     rw (first, second) refl
 
-no_breaks_both : (a b : List ℕ) → NoBreaks a → NoBreaks b → NoBreaks (a ++ b)
+pub no_breaks_both : (a b : List ℕ) → NoBreaks a → NoBreaks b → NoBreaks (a ++ b)
 no_breaks_both [] b h k = k
 no_breaks_both (c ∷ a) b h k = (h.0, no_breaks_both a b h.1 k)
 
-no_breaks_in : (p : ℕ → Bool) → p 10 ≡ false → p 13 ≡ false → (t : List ℕ) → AreIn p t → NoBreaks t
+pub no_breaks_in : (p : ℕ → Bool) → p 10 ≡ false → p 13 ≡ false → (t : List ℕ) → AreIn p t → NoBreaks t
 no_breaks_in p feed return [] h = tt
 no_breaks_in p feed return (c ∷ cs) h = (class_no_break p feed return c h.0, no_breaks_in p feed return cs h.1)
 
@@ -55,12 +55,12 @@ character_no_break : (p : ℕ → Bool) → p 10 ≡ false → p 13 ≡ false �
 character_no_break p feed return c t (inl (set, other, text)) = subst NoBreaks (sym text) (class_no_break p feed return c set, tt)
 character_no_break p feed return c t (inr (scalar, escaped)) = escapes_no_break (encode_utf8 c) t escaped
 
-decoded_no_break : (p : ℕ → Bool) → p 10 ≡ false → p 13 ≡ false → (value t : List ℕ) → IsDecoded p value t → NoBreaks t
+pub decoded_no_break : (p : ℕ → Bool) → p 10 ≡ false → p 13 ≡ false → (value t : List ℕ) → IsDecoded p value t → NoBreaks t
 decoded_no_break p feed return [] t text = subst NoBreaks (sym text) tt
 decoded_no_break p feed return (c ∷ value) t (first, more, is, others, text) =
     subst NoBreaks (sym text) (no_breaks_both first more (character_no_break p feed return c first is) (decoded_no_break p feed return value more others))
 
-handle_no_break : (t : List ℕ) → IsHandleText t → NoBreaks t
+pub handle_no_break : (t : List ℕ) → IsHandleText t → NoBreaks t
 handle_no_break t (inl text) = subst NoBreaks (sym text) (refl, tt)
 handle_no_break t (inr (word, is, text)) = subst NoBreaks (sym text) (refl, no_breaks_both word (codes "!") (no_breaks_in is_alpha refl refl word is) (refl, tt))
 

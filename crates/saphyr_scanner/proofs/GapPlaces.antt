@@ -1,15 +1,15 @@
 -- What stands between two tokens is refused at a place of it.
-use Rattle.std.proofs.Common.{◌≡◌, ℕ, ◌⊎◌, Bool, true, false, List, [], ◌∷◌, Result, Ok, Err, refl, sym, ap, subst, inl, inr}
+use Rattle.std.proofs.Common.{◌≡◌, ℕ, Bool, true, false, List, [], ◌∷◌, Result, Ok, Err, refl, sym, ap, subst, inl, inr}
 use Rattle.std.specs.Prelude.{◌&&◌, ◌||◌, ◌==◌, not, slice_index}
 use Rattle.saphyr_input.specs.Classes.{is_bom, is_blank, is_break, is_yaml_non_break, is_z}
 use Rattle.saphyr_scalar.specs.declared.scalar.position.Marker.{Marker}
 use Rattle.saphyr_scalar.specs.declared.scalar.fault.Refusal.{Refusal}
 use Rattle.saphyr_scalar.specs.Cursor.{along, next_line}
+use Rattle.saphyr_scalar.proofs.NoBreaks.{class_no_break}
 use Rattle.saphyr_scalar.proofs.TagsSpelled.{is_number}
 use Rattle.saphyr_scanner.specs.Gap.{gap, comment, stop, Passed, is_tab_indentation}
 use Rattle.saphyr_scanner.specs.TokensTaken as taken
 use Rattle.saphyr_scanner.specs.TokensTaken.{IsReached}
-use Rattle.saphyr_scanner.proofs.NoBreaks.{clear_of}
 use Rattle.saphyr_scanner.proofs.Reached.{single, double}
 use Rattle.saphyr_scanner.proofs.Separated.{either, right_not, both_of}
 use Rattle.saphyr_scanner.proofs.Sizes.{by_test}
@@ -44,6 +44,7 @@ all_places l [] m blank broke tabbed =
     }
 all_places l (c ∷ cs) m blank broke tabbed =
     let P : Result Passed Refusal → Type 0 = Refused m (c ∷ cs) in
+    let indented = is_tab_indentation l m blank c || tabbed in
     let further : is_break c ≡ false → (r : Result Passed Refusal) → Refused (along m 1) cs r → P r = λ e r. refused_map m (c ∷ cs) (along m 1) cs r (λ k v p. taken.character m c cs k v e p) in
     let line : ((c == 13) && (slice_index cs 0 == 10)) ≡ false → is_break c ≡ true → P (gap l (next_line m 1) true true false cs) =
     λ e b. refused_map m (c ∷ cs) (next_line m 1) cs (gap l (next_line m 1) true true false cs) (λ k v p. single m c cs k v b e p) (all_places l cs (next_line m 1) true true false).between in
@@ -53,15 +54,15 @@ all_places l (c ∷ cs) m blank broke tabbed =
     let r = gap l (along m 1) blank broke x cs in
     refused_map m (c ∷ cs) m (13 ∷ cs) r (λ k v p. subst (λ d. IsReached m (d ∷ cs) k v) (sym (is_number c 13 f.0)) p) ((all_places l cs (along m 1) blank broke x).behind_return f.1 m refl) in
     let blanks : (x : Bool) → is_blank c ≡ true → P (gap l (along m 1) blank broke x cs) =
-    λ x b. further (clear_of is_blank refl refl c b) (gap l (along m 1) blank broke x cs) (all_places l cs (along m 1) blank broke x).between in
+    λ x b. further (class_no_break is_blank refl refl c b) (gap l (along m 1) blank broke x cs) (all_places l cs (along m 1) blank broke x).between in
     let comments : (c == 35) ≡ true → P (comment l (along m 1) blank broke tabbed cs) =
     λ e. further (ap is_break (is_number c 35 e)) (comment l (along m 1) blank broke tabbed cs) (all_places l cs (along m 1) blank broke tabbed).inside in
     let more : is_yaml_non_break c ≡ true → P (comment l (along m 1) blank broke tabbed cs) =
-    λ e. further (clear_of is_yaml_non_break refl refl c e) (comment l (along m 1) blank broke tabbed cs) (all_places l cs (along m 1) blank broke tabbed).inside in
+    λ e. further (class_no_break is_yaml_non_break refl refl c e) (comment l (along m 1) blank broke tabbed cs) (all_places l cs (along m 1) blank broke tabbed).inside in
     record {
       between =
           by_test (is_blank c || ((c == 13) && (slice_index cs 0 == 10))) _ _ P
-          (λ e. elim (either (is_blank c) ((c == 13) && (slice_index cs 0 == 10)) e) [ inl b ↦ blanks (is_tab_indentation l m blank c || tabbed) b | inr r ↦ return (is_tab_indentation l m blank c || tabbed) r ])
+          (λ e. elim (either (is_blank c) ((c == 13) && (slice_index cs 0 == 10)) e) [ inl b ↦ blanks indented b | inr r ↦ return indented r ])
           (λ e. by_test (is_break c) _ _ P (λ b. line (right_not (is_blank c) ((c == 13) && (slice_index cs 0 == 10)) e) b)
           (λ _. by_test (c == 35) _ _ P comments (λ _. stop_refused m blank broke tabbed (c ∷ cs))));
       inside =

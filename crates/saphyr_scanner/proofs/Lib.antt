@@ -74,7 +74,7 @@ pub mod TakenTexts
 pub mod TakenBlocks
 pub mod TakenRefused
 pub mod Copies
-pub mod NoBreaks
+pub mod LineTexts
 pub mod Reached
 pub mod PlainBehind
 pub mod TokenPlaces

@@ -1,12 +1,12 @@
 -- Behind a plain scalar no break stands, and a comment that keeps it from going on stands there.
-use Rattle.std.proofs.Common.{◌≡◌, ℕ, zero, suc, ◌⊎◌, Bool, true, false, List, [], ◌∷◌, ◌++◌, Option, Some, None, Result, Ok, Err, refl, inl, inr, cond}
-use Rattle.std.specs.Prelude.{◌&&◌, ◌||◌, ◌==◌, not, nat_lt, pred, slice_index, encode_utf8}
+use Rattle.std.proofs.Common.{◌≡◌, ℕ, zero, suc, ◌⊎◌, Bool, false, List, [], ◌∷◌, ◌++◌, Option, Some, None, Result, Ok, Err, refl, inl, inr, cond}
+use Rattle.std.specs.Prelude.{◌&&◌, ◌||◌, ◌==◌, not, nat_lt, pred, slice_index}
 use Rattle.saphyr_input.specs.Classes.{is_break, is_blank, is_bom, is_z, tab}
 use Rattle.saphyr_input.specs.Places.{is_blank_or_break}
 use Rattle.saphyr_scalar.specs.declared.scalar.position.Marker.{Marker}
 use Rattle.saphyr_scalar.specs.declared.scalar.fault.Refusal.{Refusal}
 use Rattle.saphyr_scalar.specs.Cursor.{Cursor, ◌>>=◌, along, next_line, pass_break}
-use Rattle.saphyr_scalar.specs.Plain.{Gap, Reading, plain, word_starts, word, between, goes_on, gap, gap_from, gap_len, in_word, next_lines, lines, reached, may_stand, ends_line, folded, ended, comment_of, with_text, at_line}
+use Rattle.saphyr_scalar.specs.Plain.{Gap, Reading, plain, word_starts, word, between, goes_on, gap, gap_from, gap_len, in_word, lines, reached, may_stand, ends_line, ended, comment_of, with_text, at_line}
 use Rattle.saphyr_scalar.specs.Quoted.{at}
 use Rattle.saphyr_scanner.proofs.Sizes.{by_test, Given}
 use Rattle.saphyr_scanner.proofs.Separated.{right_not}
@@ -31,13 +31,15 @@ line_stops : (start : Marker) (tabbed : Bool) (feeds : List ℕ) (s : Cursor) �
 unfolding may_stand
 line_stops start tabbed feeds s h =
     by_test (tabbed && is_bom (slice_index s.rest 0)) _ _ (λ r. Given StopsGap (r >>= λ t. Ok (record { text = feeds; tabbed = tabbed; behind = t }))) (λ _. tt)
-    (λ _. by_test (tabbed && not ((slice_index s.rest 0 == 35) || is_z (slice_index s.rest 0))) _ _ (λ r. Given StopsGap (r >>= λ t. Ok (record { text = feeds; tabbed = tabbed; behind = t }))) (λ _. tt) (λ _. h))
+    (λ _. by_test (tabbed && not ((slice_index s.rest 0 == 35) || is_z (slice_index s.rest 0))) _ _ (λ r. Given StopsGap (r >>= λ t. Ok (record { text = feeds; tabbed = tabbed; behind = t })))
+    (λ _. tt) (λ _. h))
 
 lines_stop : (indent : ℕ) (start : Marker) (tabbed : Bool) (feeds : List ℕ) (m : Marker) (xs : List ℕ) → Given StopsGap (lines indent start tabbed feeds m xs)
 unfolding lines
 lines_stop indent start tabbed feeds m [] = line_stops start tabbed feeds (at_line m []) refl
 lines_stop indent start tabbed feeds m (c ∷ cs) =
-    by_test (is_blank_or_break c) _ _ (Given StopsGap) (λ _. lines_stop indent start (is_blank c && (tabbed || ((c == tab) && nat_lt m.col indent))) (cond (ends_line c cs) (feeds ++ 10 ∷ []) feeds) (cond (ends_line c cs) (next_line m 1) (along m 1)) cs) (λ e. line_stops start tabbed feeds (at_line m (c ∷ cs)) (right_not (is_blank c) (is_break c) e))
+    by_test (is_blank_or_break c) _ _ (Given StopsGap) (λ _. lines_stop indent start (is_blank c && (tabbed || ((c == tab) && nat_lt m.col indent))) (cond (ends_line c cs) (feeds ++ 10 ∷ []) feeds)
+    (cond (ends_line c cs) (next_line m 1) (along m 1)) cs) (λ e. line_stops start tabbed feeds (at_line m (c ∷ cs)) (right_not (is_blank c) (is_break c) e))
 
 gap_stops : (indent : ℕ) (start : Marker) (blanks : List ℕ) (s : Cursor) → Given StopsGap (gap_from indent start blanks s)
 unfolding gap_from
@@ -66,7 +68,8 @@ mutual
   between_ends in_flow indent start end g left [] h = ended_ends in_flow end g h
   between_ends in_flow indent start end g zero (c ∷ cs) h =
       given_then (λ (b : Bool × Cursor). Unit {0}) Ends (goes_on in_flow indent g.behind) _ (any (goes_on in_flow indent g.behind))
-      (λ b _. by_test b.0 _ _ (Given Ends) (λ _. text_ends _ (word in_flow indent start (along g.behind.mark 1) cs) (word_ends in_flow indent start (along g.behind.mark 1) cs)) (λ _. ended_ends in_flow end g h))
+      (λ b _. by_test b.0 _ _ (Given Ends) (λ _. text_ends _ (word in_flow indent start (along g.behind.mark 1) cs) (word_ends in_flow indent start (along g.behind.mark 1) cs))
+      (λ _. ended_ends in_flow end g h))
   between_ends in_flow indent start end g (suc left) (c ∷ cs) h = between_ends in_flow indent start end g left cs h
 
   word_ends : (in_flow : Bool) (indent : ℕ) (start m : Marker) (xs : List ℕ) → Given Ends (word in_flow indent start m xs)

@@ -1,21 +1,20 @@
 -- What is passed leads from a place to a later one.
-use Rattle.std.proofs.Common.{◌≡◌, ℕ, ◌+◌, ◌⊎◌, Bool, true, false, List, [], ◌∷◌, ◌++◌, length, drop, refl, sym, ap, ◌∙◌, arith, subst, inl, inr}
+use Rattle.std.proofs.Common.{◌≡◌, ℕ, ◌+◌, ◌⊎◌, Bool, true, false, List, [], ◌∷◌, ◌++◌, length, drop, refl, sym, ◌∙◌, arith, subst, inl, inr}
 use Rattle.std.specs.Prelude.{◌&&◌, ◌||◌, ◌==◌, not, slice_index}
-use Rattle.std.proofs.lemmas.List.{append-nil}
-use Rattle.saphyr_input.specs.Classes.{is_break, is_blank}
+use Rattle.saphyr_input.specs.Classes.{is_break, is_blank, is_yaml_non_break}
 use Rattle.saphyr_scalar.specs.declared.scalar.position.Marker.{Marker}
-use Rattle.saphyr_scalar.specs.Cursor.{Cursor, along, next_line}
+use Rattle.saphyr_scalar.specs.Cursor.{along, next_line}
 use Rattle.saphyr_scalar.specs.Passing as passing
 use Rattle.saphyr_scalar.specs.Passing.{IsPassed}
 use Rattle.saphyr_scalar.specs.Plain.{ends_line}
 use Rattle.saphyr_scalar.specs.PlainReading.{passed}
 use Rattle.saphyr_scalar.specs.Quoted.{break_len}
+use Rattle.saphyr_scalar.proofs.NoBreaks.{NoBreaks, class_no_break, no_breaks_in}
 use Rattle.saphyr_scalar.proofs.Moving.{along_none, along_more}
 use Rattle.saphyr_scalar.proofs.TagsSpelled.{is_number}
 use Rattle.saphyr_scanner.specs.TokensTaken as taken
 use Rattle.saphyr_scanner.specs.TokensTaken.{IsReached, IsSeparation, past_mark}
 use Rattle.saphyr_scanner.proofs.Later.{break_later}
-use Rattle.saphyr_scanner.proofs.NoBreaks.{NoBreaks, clear_of, clear_words}
 use Rattle.saphyr_scanner.proofs.Separated.{both_of}
 use Rattle.saphyr_scanner.proofs.Sizes.{by_test}
 
@@ -46,9 +45,11 @@ along_reached m ws t e = words_reached m ws t (along m (length ws)) t e (taken.n
 
 pub apart_reached : (m : Marker) (t : List ℕ) (n : Marker) (u : List ℕ) → IsSeparation m t n u → IsReached m t n u
 apart_reached _ _ _ _ (taken.nothing m t) = taken.nothing m t
-apart_reached _ _ _ _ (taken.blank m c t n u e p) = taken.character m c t n u (clear_of is_blank refl refl c e) (apart_reached (along m 1) t n u p)
+apart_reached _ _ _ _ (taken.blank m c t n u e p) = taken.character m c t n u (class_no_break is_blank refl refl c e) (apart_reached (along m 1) t n u p)
 apart_reached _ _ _ _ (taken.line_break m t n u e p) = taken.line_break m t n u e (apart_reached (next_line m (break_len t)) (drop (break_len t) t) n u p)
-apart_reached _ _ _ _ (taken.comment m words t n u a e p) = words_reached m (35 ∷ words) t n u (refl, clear_words words a) (subst (λ i. IsReached (along m i) t n u) (omega arith) (apart_reached (along m (1 + length words)) t n u p))
+apart_reached _ _ _ _ (taken.comment m words t n u a e p) =
+    words_reached m (35 ∷ words) t n u (refl, no_breaks_in is_yaml_non_break refl refl words a)
+    (subst (λ i. IsReached (along m i) t n u) (omega arith) (apart_reached (along m (1 + length words)) t n u p))
 
 pub passed_reached : (m : Marker) (t : List ℕ) (n : Marker) (u : List ℕ) → IsPassed m t n u → IsReached m t n u
 passed_reached _ _ _ _ (passing.nothing m t) = taken.nothing m t
@@ -63,7 +64,8 @@ Uncut [] u = Unit {0}
 Uncut (c ∷ []) u = (is_break c ≡ false) ⊎ (is_break (slice_index u 0) ≡ false)
 Uncut (c ∷ d ∷ cs) u = Uncut (d ∷ cs) u
 
-pub single : (m : Marker) (c : ℕ) (t : List ℕ) (n : Marker) (u : List ℕ) → is_break c ≡ true → ((c == 13) && (slice_index t 0 == 10)) ≡ false → IsReached (next_line m 1) t n u → IsReached m (c ∷ t) n u
+pub single : (m : Marker) (c : ℕ) (t : List ℕ) (n : Marker) (u : List ℕ) → is_break c ≡ true → ((c == 13) && (slice_index t 0 == 10)) ≡ false → IsReached (next_line m 1) t n u
+    → IsReached m (c ∷ t) n u
 single m c t n u b e p =
     let one : break_len (c ∷ t) ≡ 1 = rw e refl in
     taken.line_break m (c ∷ t) n u b (subst (λ l. IsReached (next_line m l) (drop l (c ∷ t)) n u) (sym one) p)

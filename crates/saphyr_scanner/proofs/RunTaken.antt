@@ -41,7 +41,8 @@ neither true b e = absurd (cc)
 same_place : (n : ℕ) → (n == n) ≡ true
 same_place n = grind (arith, nat_tests)
 
-key_handed : (b n : ℕ) (p : Place) (ps : List Place) (block : Bool) (i : ℕ) (k : Option Candidate) → is_place n k ≡ false → KeyOf b (record { places = p ∷ ps; handed = n }) block i k → KeyOf b (record { places = ps; handed = n + 1 }) block i k
+key_handed : (b n : ℕ) (p : Place) (ps : List Place) (block : Bool) (i : ℕ) (k : Option Candidate) → is_place n k ≡ false → KeyOf b (record { places = p ∷ ps; handed = n }) block i k
+    → KeyOf b (record { places = ps; handed = n + 1 }) block i k
 key_handed b n p ps block i None e x = tt
 key_handed b n p ps block i (Some k) e x = by x.front x.places x.at
   where
@@ -62,7 +63,8 @@ key_handed b n p ps block i (Some k) e x = by x.front x.places x.at
       deep = x.deep;
     }
 
-keys_handed : (b n : ℕ) (p : Place) (ps : List Place) (i : ℕ) (ls : List Level) → any_holds n ls ≡ false → Keys b (record { places = p ∷ ps; handed = n }) i ls → Keys b (record { places = ps; handed = n + 1 }) i ls
+keys_handed : (b n : ℕ) (p : Place) (ps : List Place) (i : ℕ) (ls : List Level) → any_holds n ls ≡ false → Keys b (record { places = p ∷ ps; handed = n }) i ls
+    → Keys b (record { places = ps; handed = n + 1 }) i ls
 keys_handed b n p ps i [] e x = tt
 keys_handed b n p ps i (l ∷ ls) e x =
     let f = neither (holds n l) (any_holds n ls) e in
@@ -82,15 +84,18 @@ record Left (text : List ℕ) (columns : List ℕ) (from : Cursor) (c : Core) (p
   later : From text between
   ready : Ready (open_all (place_pieces p.opening p.piece) columns) between (holding c ps (n + 1))
 
-one_left : (text : List ℕ) (columns : List ℕ) (from : Cursor) (c : Core) (p : Place) (ps : List Place) (n : ℕ) → From text from → Ready columns from (holding c (p ∷ ps) n) → needs_token (holding c (p ∷ ps) n) ≡ false → Left text columns from c p ps n
+one_left : (text : List ℕ) (columns : List ℕ) (from : Cursor) (c : Core) (p : Place) (ps : List Place) (n : ℕ) → From text from → Ready columns from (holding c (p ∷ ps) n)
+    → needs_token (holding c (p ∷ ps) n) ≡ false → Left text columns from c p ps n
 one_left text columns from c p ps n l h e =
     let ts = place_pieces p.opening p.piece in
     let r = tokens_part columns ts (flat ps) from h.taken.last h.taken.tokens in
     let count : n + length (p ∷ ps) ≡ n + 1 + length ps = omega arith in
+    let further = tokens_later columns ts from r.between r.front in
+    let reached = tokens_reached columns ts from r.between r.front in
     record {
       between = r.between;
       tokens = r.front;
-      later = (later_later (fresh text).mark text from.mark from.rest r.between.mark r.between.rest l.0 (tokens_later columns ts from r.between r.front), reaches_reaches (fresh text) from r.between l.1 (tokens_reached columns ts from r.between r.front));
+      later = (later_later (fresh text).mark text from.mark from.rest r.between.mark r.between.rest l.0 further, reaches_reaches (fresh text) from r.between l.1 reached);
       ready = record {
         taken = record { last = h.taken.last; tokens = r.back; apart = h.taken.apart; stack = subst (λ cs. Stack cs c.indent c.outer_indents) (open_append ts (flat ps) columns) h.taken.stack };
         live = λ f nz.
@@ -106,7 +111,8 @@ one_left text columns from c p ps n l h e =
 abbrev Follows : List ℕ → List ℕ → Cursor → Remaining → Type 0
 Follows text columns from r = (end : Cursor) × AreTokens columns r.pieces from end × (r.refusal ≡ None → end.rest ≡ []) × ((e : Refusal) → r.refusal ≡ Some e → IsPlaceOf text e.mark)
 
-place_follows : (text columns : List ℕ) (from between : Cursor) (o : Opening) (t : Piece) (r : Remaining) → AreTokens columns (place_pieces o t) from between → Follows text (open_all (place_pieces o t) columns) between r → Follows text columns from (before_place o t r)
+place_follows : (text columns : List ℕ) (from between : Cursor) (o : Opening) (t : Piece) (r : Remaining) → AreTokens columns (place_pieces o t) from between
+    → Follows text (open_all (place_pieces o t) columns) between r → Follows text columns from (before_place o t r)
 place_follows text columns from between o t r h k = by o (tokens_append columns (place_pieces o t) r.pieces from between k.0 h k.1)
   where
     by : (w : Opening) → AreTokens columns (place_pieces w t ++ r.pieces) from k.0 → Follows text columns from (before_place w t r)
@@ -115,7 +121,8 @@ place_follows text columns from between o t r h k = by o (tokens_append columns 
     by opening.BlockMappingAndKey x = (k.0, x, k.2, k.3)
     by opening.FlowMappingAndKey x = (k.0, x, k.2, k.3)
 
-handed_follow : (text : List ℕ) (go : State → Remaining) (c : Core) → ((columns : List ℕ) (from : Cursor) (n : ℕ) (ps : List Place) → From text from → (c.ended ≡ true → ps ≡ []) → Ready columns from (holding c ps n) → Follows text columns from (go (holding c ps n)))
+handed_follow : (text : List ℕ) (go : State → Remaining) (c : Core)
+    → ((columns : List ℕ) (from : Cursor) (n : ℕ) (ps : List Place) → From text from → (c.ended ≡ true → ps ≡ []) → Ready columns from (holding c ps n) → Follows text columns from (go (holding c ps n)))
     → (columns : List ℕ) (from : Cursor) (n : ℕ) (ps : List Place) → From text from → Ready columns from (holding c ps n) → Follows text columns from (hand_out ps go (holding c ps n))
 handed_follow text go c others columns from n [] l h = others columns from n [] l (λ _. refl) h
 handed_follow text go c others columns from n (p ∷ ps) l h =
@@ -125,7 +132,8 @@ handed_follow text go c others columns from n (p ∷ ps) l h =
     let w = one_left text columns from c p ps n l h e in
     place_follows text columns from w.between p.opening p.piece _ w.tokens (handed_follow text go c others (open_all (place_pieces p.opening p.piece) columns) w.between (n + 1) ps w.later w.ready))
 
-delivers : (text columns : List ℕ) (from : Cursor) (r : Result State Refusal) (go : State → Remaining) → ((t : State) → r ≡ Ok t → Follows text columns from (go t)) → ((e : Refusal) → r ≡ Err e → IsPlaceOf text e.mark) → Follows text columns from (delivered r go)
+delivers : (text columns : List ℕ) (from : Cursor) (r : Result State Refusal) (go : State → Remaining) → ((t : State) → r ≡ Ok t → Follows text columns from (go t))
+    → ((e : Refusal) → r ≡ Err e → IsPlaceOf text e.mark) → Follows text columns from (delivered r go)
 delivers text columns from (Ok t) go h k = h t refl
 delivers text columns from (Err e) go h k = (from, refl, (λ i. absurd (cc)), (λ f i. k f (let same : e ≡ f = cc in ap (λ (x : Refusal). Err x) same)))
 
@@ -135,10 +143,10 @@ pub record AllLaws : Type 0 where
   pub readers : Readers
   pub refusals : RefusalLaws
 
-run_follows : AllLaws → (text : List ℕ) → length text < 2 ^ 63 → (limit fuel : ℕ) (columns : List ℕ) (from : Cursor) (s : State) → From text from → size s.core < fuel → Ready columns from s → NotedState s → Follows text columns from (run fuel limit s)
+run_follows : AllLaws → (text : List ℕ) → length text < 2 ^ 63 → (limit fuel : ℕ) (columns : List ℕ) (from : Cursor) (s : State) → From text from → size s.core < fuel → Ready columns from s
+    → NotedState s → Follows text columns from (run fuel limit s)
 run_follows laws text small limit zero columns from s l f h m = absurd (omega (arith, f))
 run_follows laws text small limit (suc fuel) columns from s l f h m =
-    let later : (cs : List ℕ) (u : Cursor) (t : State) → From text u → size t.core < fuel → Ready cs u t → NotedState t → Follows text cs u (run fuel limit t) = λ cs u t. run_follows laws text small limit fuel cs u t in
     handed_follow text _ s.core
     (λ cs u n ps k over w.
     let t : State = holding s.core ps n in
@@ -148,7 +156,7 @@ run_follows laws text small limit (suc fuel) columns from s l f h m =
     (λ e. let told = read_told laws.texts laws.readers laws.refusals text small limit cs u t k.0 k.1 e w m in
     delivers text cs u r (run fuel limit)
     (λ v q. let less = given_of _ r v (read_smaller laws.readers limit t e) q in
-    later cs u v k (omega (arith, less, f)) (given_of (Ready cs u) r v (read_ready laws.texts laws.readers text small limit cs u t k.0 e w) q) (told_ok NotedState (fresh text) r v told q))
+    run_follows laws text small limit fuel cs u v k (omega (arith, less, f)) (given_of (Ready cs u) r v (read_ready laws.texts laws.readers text small limit cs u t k.0 e w) q) (told_ok NotedState (fresh text) r v told q))
     (λ g q. place_of text g.mark (told_err NotedState (fresh text) r g told q))))
     columns from s.queue.handed s.queue.places l h
 
@@ -165,7 +173,8 @@ scan_follows laws limit text small =
     let here : Reaches (fresh text) (fresh text) = taken.nothing _ _ in
     let told = settled_told text s here (inl refl) in
     delivers text [] (fresh text) (settled s) (λ t. run (suc (size t.core)) limit t)
-    (λ t e. run_follows laws text small limit (suc (size t.core)) [] (fresh text) t (later_here (fresh text).mark text, here) (omega arith) (given_of (Ready [] (fresh text)) (settled s) t (settled_ready [] (fresh text) s (start_read text)) e) (told_ok NotedState (fresh text) (settled s) t told e))
+    (λ t e. run_follows laws text small limit (suc (size t.core)) [] (fresh text) t (later_here (fresh text).mark text, here) (omega arith)
+    (given_of (Ready [] (fresh text)) (settled s) t (settled_ready [] (fresh text) s (start_read text)) e) (told_ok NotedState (fresh text) (settled s) t told e))
     (λ g q. place_of text g.mark (told_err NotedState (fresh text) (settled s) g told q))
 
 pub scan_taken : AllLaws → (limit : ℕ) (text : List ℕ) → length text < 2 ^ 63 → AreTakenFrom text (scan limit text)

@@ -1,21 +1,21 @@
 -- Each token of a text begins at a place of it.
-use Rattle.std.proofs.Common.{◌≡◌, ℕ, ◌+◌, ◌≤◌, ◌⊎◌, Bool, true, false, List, [], ◌∷◌, ◌++◌, length, IsFalse, refl, sym, ap, ◌∙◌, arith, subst, inl, inr}
+use Rattle.std.proofs.Common.{◌≡◌, ℕ, ◌≤◌, ◌⊎◌, true, false, List, [], ◌∷◌, ◌++◌, length, IsFalse, refl, sym, ap, arith, subst, inl, inr}
 use Rattle.std.specs.Prelude.{slice_index}
 use Rattle.saphyr_input.specs.Classes.{is_break, is_blank}
-use Rattle.saphyr_input.specs.Places.{is_blank_or_break}
 use Rattle.saphyr_scalar.specs.declared.scalar.position.Marker.{Marker}
 use Rattle.saphyr_scalar.specs.declared.scalar.position.Span.{Span}
 use Rattle.saphyr_scalar.specs.declared.scalar.style.ScalarStyle.TheVariants as style
 use Rattle.saphyr_scalar.specs.Cursor.{Cursor, fresh, along}
 use Rattle.saphyr_scalar.specs.Directive.{version, tag_prefix, reserved}
 use Rattle.saphyr_scalar.specs.PlainReading.{passed, IsPlainReading}
+use Rattle.saphyr_scalar.proofs.NoBreaks.{NoBreaks, directive_no_break}
 use Rattle.saphyr_scanner.specs.Tokens as tokens
 use Rattle.saphyr_scanner.specs.Tokens.{Kind}
 use Rattle.saphyr_scanner.specs.Seen.{Piece}
 use Rattle.saphyr_scanner.specs.AtPlaces.{AreAtPlaces}
 use Rattle.saphyr_scanner.specs.TokensTaken as taken
 use Rattle.saphyr_scanner.specs.TokensTaken.{IsReached, IsPlaceOrEnd, IsPlaceOf, AreApart, HasNoText, IsSpan, IsMark, IsCharacter, IsDash, IsOnLine, IsPlainScalar, IsToken, AreTokens, open_behind, indentation}
-use Rattle.saphyr_scanner.proofs.NoBreaks.{NoBreaks, clear_name, clear_tag, clear_directive, clear_tail}
+use Rattle.saphyr_scanner.proofs.LineTexts.{name_no_break, tag_no_break, tail_no_break}
 use Rattle.saphyr_scanner.proofs.Reached.{reached_reached, reached_counted, along_reached, apart_reached, passed_reached, piece_reached, Uncut, uncut_ink, uncut_behind}
 use Rattle.saphyr_scanner.proofs.Separated.{right_not}
 
@@ -71,7 +71,8 @@ plain_reached s t text end r e =
     let P : List ℕ → Type 0 = λ p. IsReached s.mark (p ++ w) (passed s.mark p) w in
     let a : IsReached s.mark (r.piece ++ w) (passed s.mark r.piece) w = subst P (sym r.closes) (piece_reached s.mark (r.front ++ r.last ∷ []) w (uncut_ink r.front r.last w ink)) in
     let b : IsReached end w (passed end r.white) t.rest = piece_reached end r.white t.rest (whole e) in
-    let both = reached_reached s.mark (r.piece ++ w) end w t.mark t.rest (subst (λ (k : Marker). IsReached s.mark (r.piece ++ w) k w) r.ends a) (subst (λ (k : Marker). IsReached end w k t.rest) r.behind b) in
+    let both = reached_reached s.mark (r.piece ++ w) end w t.mark t.rest (subst (λ (k : Marker). IsReached s.mark (r.piece ++ w) k w) r.ends a)
+    (subst (λ (k : Marker). IsReached end w k t.rest) r.behind b) in
     subst (λ l. IsReached s.mark l t.mark t.rest) (sym r.is) both
   where
     whole : ((r.white ≡ []) ⊎ IsFalse (is_break (slice_index t.rest 0))) → Uncut r.white t.rest
@@ -81,9 +82,9 @@ plain_reached s t text end r e =
 pub token_reached : (i : ℕ) (kind : Kind) (span : Span) (s t : Cursor) → IsToken i kind span s t → Reaches s t
 token_reached i tokens.StreamStart span s t h = nothing_reached span s t h
 token_reached i tokens.StreamEnd span s t h = nothing_reached span s t h.1
-token_reached i (tokens.VersionDirective major minor) span s t h = span_reached span h.0 s t (clear_directive (version major minor) h.0 h.4) h.5
-token_reached i (tokens.TagDirective handle prefix) span s t h = span_reached span h.0 s t (clear_directive (tag_prefix handle prefix) h.0 h.4) h.5
-token_reached i (tokens.ReservedDirective name) span s t h = span_reached span h.0 s t (clear_directive (reserved name) h.0 h.4) h.5
+token_reached i (tokens.VersionDirective major minor) span s t h = span_reached span h.0 s t (directive_no_break (version major minor) h.0 h.4) h.5
+token_reached i (tokens.TagDirective handle prefix) span s t h = span_reached span h.0 s t (directive_no_break (tag_prefix handle prefix) h.0 h.4) h.5
+token_reached i (tokens.ReservedDirective name) span s t h = span_reached span h.0 s t (directive_no_break (reserved name) h.0 h.4) h.5
 token_reached i tokens.DocumentStart span s t h = span_reached span _ s t (refl, (refl, (refl, tt))) h.2
 token_reached i tokens.DocumentEnd span s t h = span_reached span _ s t (refl, (refl, (refl, tt))) h.2
 token_reached i tokens.ByteOrderMark span s t h = mark_reached span s t h
@@ -101,9 +102,9 @@ token_reached i tokens.FlowEntry span s t h = character_reached 44 s t refl h.0
 token_reached i tokens.Key span s t (inl h) = character_reached 63 s t refl h.0
 token_reached i tokens.Key span s t (inr h) = nothing_reached span s t h
 token_reached i tokens.Value span s t h = character_reached 58 s t refl h.0
-token_reached i (tokens.Alias name) span s t h = span_reached span (42 ∷ h.0) s t (refl, clear_name h.0 h.1) h.3
-token_reached i (tokens.Anchor name) span s t h = span_reached span (38 ∷ h.0) s t (refl, clear_name h.0 h.1) h.3
-token_reached i (tokens.Tag handle suffix) span s t h = span_reached span h.0 s t (clear_tag h.0 h.1 h.2 h.3) h.6
+token_reached i (tokens.Alias name) span s t h = span_reached span (42 ∷ h.0) s t (refl, name_no_break h.0 h.1) h.3
+token_reached i (tokens.Anchor name) span s t h = span_reached span (38 ∷ h.0) s t (refl, name_no_break h.0 h.1) h.3
+token_reached i (tokens.Tag handle suffix) span s t h = span_reached span h.0 s t (tag_no_break h.0 h.1 h.2 h.3) h.6
 token_reached i (tokens.Scalar style.Plain value) span s t h = plain_reached s t value span.end h.reading h.uncut
 token_reached i (tokens.Scalar style.SingleQuoted value) span s t h = passed_reached s.mark s.rest t.mark t.rest h.3
 token_reached i (tokens.Scalar style.DoubleQuoted value) span s t h = passed_reached s.mark s.rest t.mark t.rest h.3
@@ -128,7 +129,7 @@ nothing_at span s t h = (s, taken.nothing s.mark s.rest, h.1)
 
 line_at : (s : Cursor) (m : Marker) → IsOnLine s m → At s m
 line_at s m h =
-    let p = along_reached s.mark h.0 h.1 (clear_tail h.0 h.2) in
+    let p = along_reached s.mark h.0 h.1 (tail_no_break h.0 h.2) in
     at_reached s m h.1 (subst (λ (n : Marker). IsReached s.mark s.rest n h.1) (sym h.4) (subst (λ l. IsReached s.mark l (along s.mark (length h.0)) h.1) (sym h.3) p))
 
 pub token_at : (i : ℕ) (kind : Kind) (span : Span) (s t : Cursor) → IsToken i kind span s t → At s span.start
@@ -166,6 +167,8 @@ token_at i (tokens.Scalar style.Folded value) span s t h = at_reached s span.sta
 pub tokens_at : (text columns : List ℕ) (ps : List Piece) (s u : Cursor) → Reaches (fresh text) s → AreTokens columns ps s u → AreAtPlaces text ps
 tokens_at text columns [] s u r h = tt
 tokens_at text columns (p ∷ ps) s u r h =
+    let i = indentation columns in
     let a = reaches_reaches (fresh text) s h.0 r (apart_reached s.mark s.rest h.0.mark h.0.rest h.2) in
-    let b = reaches_reaches (fresh text) h.0 h.1 a (token_reached (indentation columns) p.kind p.span h.0 h.1 h.3) in
-    (place_of text p.span.start (at_further (fresh text) h.0 p.span.start a (token_at (indentation columns) p.kind p.span h.0 h.1 h.3)), tokens_at text (open_behind p.kind p.span.start.col columns) ps h.1 u b h.4)
+    let b = reaches_reaches (fresh text) h.0 h.1 a (token_reached i p.kind p.span h.0 h.1 h.3) in
+    let first = place_of text p.span.start (at_further (fresh text) h.0 p.span.start a (token_at i p.kind p.span h.0 h.1 h.3)) in
+    (first, tokens_at text (open_behind p.kind p.span.start.col columns) ps h.1 u b h.4)

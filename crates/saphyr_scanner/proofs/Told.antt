@@ -1,5 +1,5 @@
 -- What a step tells: what it gives, or a refusal at a place on the way from where it began.
-use Rattle.std.proofs.Common.{◌≡◌, ◌≢◌, ℕ, ◌<◌, ◌⊎◌, Bool, true, false, List, [], ◌∷◌, length, Option, Some, None, Result, Ok, Err, refl, sym, ap, ◌∙◌, subst, inl, inr}
+use Rattle.std.proofs.Common.{◌≡◌, ℕ, ◌<◌, Bool, false, length, Option, Some, None, Result, Ok, Err, refl, sym, ◌∙◌, subst, inl, inr}
 use Rattle.std.specs.Prelude.{◌&&◌, ◌==◌, not, slice_index}
 use Rattle.saphyr_input.specs.Classes.{is_break}
 use Rattle.saphyr_input.specs.declared.input.SkipTabs.{SkipTabs}
@@ -13,12 +13,12 @@ use Rattle.saphyr_scalar.specs.BlockScalar as blocks
 use Rattle.saphyr_scalar.specs.Cursor.{Cursor, ◌>>=◌, pass, separation}
 use Rattle.saphyr_scalar.specs.Directive as directives
 use Rattle.saphyr_scalar.specs.FlowReading.{mark}
-use Rattle.saphyr_scalar.specs.Passing.{IsPassed}
+use Rattle.saphyr_scalar.specs.RefusedInside.{IsRefusedInside}
 use Rattle.saphyr_scalar.specs.Plain as words
 use Rattle.saphyr_scalar.specs.Quoted as quoted
 use Rattle.saphyr_scalar.specs.Tag as tags
 use Rattle.saphyr_scanner.specs.Gap as gaps
-use Rattle.saphyr_scanner.specs.Core.{Core, Step, in_block, is_too_far, save_key, remove_key, drop_far_key, least_column, is_further, roll}
+use Rattle.saphyr_scanner.specs.Core.{Core, Step, in_block, is_too_far, remove_key, drop_far_key, least_column, is_further, roll}
 use Rattle.saphyr_scanner.specs.Passing.{separate, with_cursor, pass_gap, check_comment, goes_on_behind, behind_gap, intercepts}
 use Rattle.saphyr_scanner.specs.TokensTaken as taken
 use Rattle.saphyr_scanner.specs.TokensTaken.{AreApart}
@@ -31,18 +31,16 @@ use Rattle.saphyr_scanner.proofs.Separated.{gap_apart}
 use Rattle.saphyr_scanner.proofs.Sizes.{by_test, Given}
 use Rattle.saphyr_scanner.proofs.TokenPlaces.{Reaches, reaches_reaches, At, at_here, at_further, at_reached, here_at, character_reached}
 
-abbrev pub IsInside : Cursor → Refusal → Type 0
-IsInside s e = (behind : List ℕ) × IsPassed s.mark s.rest e.mark behind
-
 -- what the laws of the readers say of their refusals
 pub record RefusalLaws : Type 0 where
   pub name : (s : Cursor) (e : Refusal) → anchors.anchor s ≡ Err e → e.mark ≡ s.mark
   pub tag : (in_flow : Bool) (s : Cursor) (e : Refusal) → tags.tag in_flow s ≡ Err e → e.mark ≡ s.mark
-  pub separation : (tabs : SkipTabs) (s : Cursor) (e : Refusal) → separation tabs s ≡ Err e → IsInside s e
-  pub directive : (s : Cursor) (e : Refusal) → slice_index s.rest 0 ≡ 37 → directives.directive s ≡ Err e → IsInside s e
-  pub quotes : (quote : Quote) (indent : ℕ) (s : Cursor) (e : Refusal) → slice_index s.rest 0 ≡ mark quote → quoted.quoted quote indent s ≡ Err e → IsInside s e
-  pub plain : (in_flow : Bool) (indent : ℕ) (s : Cursor) (e : Refusal) → words.plain in_flow indent s ≡ Err e → IsInside s e
-  pub block_scalar : (style : BlockStyle) (indent : ℕ) (s : Cursor) (e : Refusal) → is_break (slice_index s.rest 0) ≡ false → 0 < length s.rest → blocks.block_scalar style indent s ≡ Err e → IsInside s e
+  pub separation : (tabs : SkipTabs) (s : Cursor) (e : Refusal) → separation tabs s ≡ Err e → IsRefusedInside s e
+  pub directive : (s : Cursor) (e : Refusal) → slice_index s.rest 0 ≡ 37 → directives.directive s ≡ Err e → IsRefusedInside s e
+  pub quotes : (quote : Quote) (indent : ℕ) (s : Cursor) (e : Refusal) → slice_index s.rest 0 ≡ mark quote → quoted.quoted quote indent s ≡ Err e → IsRefusedInside s e
+  pub plain : (in_flow : Bool) (indent : ℕ) (s : Cursor) (e : Refusal) → words.plain in_flow indent s ≡ Err e → IsRefusedInside s e
+  pub block_scalar : (style : BlockStyle) (indent : ℕ) (s : Cursor) (e : Refusal) → is_break (slice_index s.rest 0) ≡ false → 0 < length s.rest → blocks.block_scalar style indent s ≡ Err e
+      → IsRefusedInside s e
 
 abbrev pub Told : {X : Type 0} → (X → Type 0) → Cursor → Result X Refusal → Type 0
 Told P s (Ok x) = P x
@@ -57,7 +55,7 @@ told_further P s t (Ok x) a h = h
 told_further P s t (Err e) a h = at_further s t e.mark a h
 
 -- what a reader gives, and where it refuses
-pub reader_told : {X : Type 0} → (P : X → Type 0) (s : Cursor) (r : Result X Refusal) → Given P r → ((e : Refusal) → r ≡ Err e → IsInside s e) → Told P s r
+pub reader_told : {X : Type 0} → (P : X → Type 0) (s : Cursor) (r : Result X Refusal) → Given P r → ((e : Refusal) → r ≡ Err e → IsRefusedInside s e) → Told P s r
 reader_told P s (Ok x) h go = h
 reader_told P s (Err e) h go = let w = go e refl in at_reached s e.mark w.0 (passed_reached s.mark s.rest e.mark w.0 w.1)
 
@@ -116,7 +114,8 @@ roll_still column c = by_test (is_further column c) _ _ (Still c) (λ _. (refl, 
 pub separate_goes : RefusalLaws → (s : Cursor) (c : Core) → Goes s c → Told (λ (x : SkipTabs × Core). Goes s x.1) s (separate c)
 separate_goes laws s c g = by (separation tabs.Yes c.cursor) refl (separation_passes c.cursor)
   where
-    by : (r : Result (SkipTabs × Cursor) Refusal) → separation tabs.Yes c.cursor ≡ r → Given (λ (x : SkipTabs × Cursor). OnLine c.cursor x.1) r → Told (λ (x : SkipTabs × Core). Goes s x.1) s (r >>= λ x. Ok (x.0, with_cursor x.1 c))
+    by : (r : Result (SkipTabs × Cursor) Refusal) → separation tabs.Yes c.cursor ≡ r → Given (λ (x : SkipTabs × Cursor). OnLine c.cursor x.1) r
+        → Told (λ (x : SkipTabs × Core). Goes s x.1) s (r >>= λ x. Ok (x.0, with_cursor x.1 c))
     by (Ok x) e h = (reaches_reaches s c.cursor x.1 g.0 (apart_reached c.cursor.mark c.cursor.rest x.1.mark x.1.rest h.apart), g.1)
     by (Err e) f h =
         let w = laws.separation tabs.Yes c.cursor e f in
@@ -124,7 +123,8 @@ separate_goes laws s c g = by (separation tabs.Yes c.cursor) refl (separation_pa
 
 pub gap_told : (c : Core) → Noted c → Told (Goes c.cursor) c.cursor (pass_gap c)
 unfolding pass_gap check_comment
-gap_told c n = by (gaps.pass_gap (least_column c) c.cursor) (gap_apart (least_column c) false false c.cursor) (gap_refused (least_column c) c.cursor.mark c.cursor.blank_so_far false false c.cursor.rest)
+gap_told c n =
+    by (gaps.pass_gap (least_column c) c.cursor) (gap_apart (least_column c) false false c.cursor) (gap_refused (least_column c) c.cursor.mark c.cursor.blank_so_far false false c.cursor.rest)
   where
     checked : (o : Option Marker) (d : Core) → d.comment ≡ o → IsNoted o c.cursor → Reaches c.cursor d.cursor → Told (Goes c.cursor) c.cursor (intercepts o d)
     checked None d q m a = (a, q)
@@ -133,7 +133,8 @@ gap_told c n = by (gaps.pass_gap (least_column c) c.cursor) (gap_apart (least_co
         let e : Core = record d { comment = None } in
         by_test (goes_on_behind m e) _ _ (Told (Goes c.cursor) c.cursor) (λ _. here_at c.cursor m (cc)) (λ _. (a, refl))
 
-    by : (r : Result gaps.Passed Refusal) → Given (λ (p : gaps.Passed). AreApart c.cursor p.cursor) r → Refused c.cursor.mark c.cursor.rest r → Told (Goes c.cursor) c.cursor (r >>= λ g. intercepts (behind_gap c g).comment (behind_gap c g))
+    by : (r : Result gaps.Passed Refusal) → Given (λ (p : gaps.Passed). AreApart c.cursor p.cursor) r → Refused c.cursor.mark c.cursor.rest r
+        → Told (Goes c.cursor) c.cursor (r >>= λ g. intercepts (behind_gap c g).comment (behind_gap c g))
     by (Ok g) h k = checked c.comment (behind_gap c g) refl n (apart_reached c.cursor.mark c.cursor.rest g.cursor.mark g.cursor.rest h)
     by (Err e) h k = at_reached c.cursor e.mark k.0 k.1
 

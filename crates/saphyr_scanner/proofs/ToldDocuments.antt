@@ -1,7 +1,7 @@
 -- Where a fetch of the next token refuses.
-use Rattle.std.proofs.Common.{◌≡◌, ℕ, ◌<◌, Bool, true, false, List, [], ◌∷◌, ◌++◌, length, drop, Option, Some, None, Result, Ok, Err, IsTrue, refl, sym, ap, ◌∙◌, subst, inl, inr}
+use Rattle.std.proofs.Common.{◌≡◌, ℕ, ◌<◌, Bool, true, false, List, [], ◌∷◌, length, drop, Option, Some, None, Result, Ok, Err, refl, sym, ap, ◌∙◌, subst, inl}
 use Rattle.std.specs.Prelude.{◌&&◌, ◌||◌, ◌==◌, not, nat_lt, slice_index}
-use Rattle.saphyr_input.specs.Classes.{is_bom, is_break, is_breakz, is_z, is_blank_or_breakz, byte_order_mark}
+use Rattle.saphyr_input.specs.Classes.{is_bom, is_break, is_breakz, is_z, is_blank_or_breakz}
 use Rattle.saphyr_input.specs.Places.{is_document_start, is_document_end, next_3_are}
 use Rattle.saphyr_input.specs.declared.input.SkipTabs.{SkipTabs}
 use Rattle.saphyr_scalar.specs.declared.reading.block.BlockStyle.TheVariants as block_style
@@ -18,7 +18,7 @@ use Rattle.saphyr_scanner.specs.Core.{Core, Steps, in_block, remove_key, drop_fa
 use Rattle.saphyr_scanner.specs.Document as document
 use Rattle.saphyr_scanner.specs.Fetch.{step, content, fetch_here, arrive, fetch, is_value_adjacent}
 use Rattle.saphyr_scanner.specs.Passing.{separate, pass_gap}
-use Rattle.saphyr_scanner.specs.State.{State, carried, changed, separated, acted}
+use Rattle.saphyr_scanner.specs.State.{State, carried, separated, acted}
 use Rattle.saphyr_scanner.specs.TokensTaken as taken
 use Rattle.saphyr_scanner.specs.TokensTaken.{IsReached}
 use Rattle.saphyr_scanner.specs.Unrolling.{unroll, end_blocks, end_block, is_right_of, outwards, less_deep}
@@ -28,9 +28,9 @@ use Rattle.saphyr_scanner.proofs.HeldDocuments.{three_at, end_place, no_length}
 use Rattle.saphyr_scanner.proofs.HeldScalars.{TextLaws}
 use Rattle.saphyr_scanner.proofs.Reached.{along_reached}
 use Rattle.saphyr_scanner.proofs.Separated.{both_of}
-use Rattle.saphyr_scanner.proofs.Sizes.{by_test, Given}
-use Rattle.saphyr_scanner.proofs.TokenPlaces.{Reaches, reaches_reaches, At, at_here, at_further}
-use Rattle.saphyr_scanner.proofs.Told.{RefusalLaws, Told, told_then, told_further, reader_told, Goes, Noted, NotedStep, Still, goes_here, goes_still, at_core, remove_still, drop_still, separate_goes, gap_told}
+use Rattle.saphyr_scanner.proofs.Sizes.{by_test}
+use Rattle.saphyr_scanner.proofs.TokenPlaces.{Reaches, At, at_here, at_further}
+use Rattle.saphyr_scanner.proofs.Told.{RefusalLaws, Told, told_then, told_further, reader_told, Goes, Noted, NotedStep, Still, goes_still, at_core, remove_still, drop_still, separate_goes, gap_told}
 use Rattle.saphyr_scanner.proofs.ToldScalars.{given_any, double_told, single_told, plain_told, block_told, name_told, tag_told}
 use Rattle.saphyr_scanner.proofs.ToldSteps.{start_told, end_told, flow_entry_told, block_entry_told, key_told, value_told, flow_value_told}
 
@@ -46,7 +46,8 @@ outwards_comment (i ∷ is) c = refl
 blocks_comment : (column : Option ℕ) (m : Marker) (is : List ℕ) (s : State) → (end_blocks column m is s).core.comment ≡ s.core.comment
 blocks_comment column m [] s = by_test (is_right_of column s.core.indent) _ _ (λ (t : State). t.core.comment ≡ s.core.comment) (λ _. outwards_comment s.core.outer_indents s.core) (λ _. refl)
 blocks_comment column m (i ∷ is) s =
-    by_test (is_right_of column s.core.indent) _ _ (λ (t : State). t.core.comment ≡ s.core.comment) (λ _. blocks_comment column m is (end_block m s) ∙ outwards_comment s.core.outer_indents s.core) (λ _. refl)
+    by_test (is_right_of column s.core.indent) _ _ (λ (t : State). t.core.comment ≡ s.core.comment) (λ _. blocks_comment column m is (end_block m s) ∙ outwards_comment s.core.outer_indents s.core)
+    (λ _. refl)
 
 less_deep_comment : (column : Option ℕ) (c : Core) → (less_deep column c).comment ≡ c.comment
 less_deep_comment None c = refl
@@ -101,7 +102,8 @@ three_reached x s z b e =
 
 pub start_marker_told : (s : State) → is_document_start s.core.cursor.rest ≡ true → s.core.comment ≡ None → Told NotedState s.core.cursor (document.marker tokens.DocumentStart s)
 start_marker_told s e n =
-    weaker (document.marker tokens.DocumentStart s) (marker_told tokens.DocumentStart s (three_reached 45 s.core.cursor refl refl (both_of (next_3_are s.core.cursor.rest 45 45 45) (is_blank_or_breakz (slice_index s.core.cursor.rest 3)) e).0) n)
+    weaker (document.marker tokens.DocumentStart s)
+    (marker_told tokens.DocumentStart s (three_reached 45 s.core.cursor refl refl (both_of (next_3_are s.core.cursor.rest 45 45 45) (is_blank_or_breakz (slice_index s.core.cursor.rest 3)) e).0) n)
   where
     weaker : (r : Result State Refusal) → Told (GoesState s.core.cursor) s.core.cursor r → Told NotedState s.core.cursor r
     weaker (Ok t) h = inl h.1
@@ -116,7 +118,8 @@ end_marker_told laws s e n =
     (λ t h. told_then (λ (x : SkipTabs × State). Goes c x.1.core) NotedState c (separated (separate t.core) t) document.end_line (by t (separate t.core) (separate_goes laws c t.core h))
     (λ x g. by_test (is_breakz (slice_index x.1.core.cursor.rest 0)) _ _ (Told NotedState c) (λ _. inl g.1) (λ _. at_core c x.1.core g)))
   where
-    by : (t : State) (r : Result (SkipTabs × Core) Refusal) → Told (λ (x : SkipTabs × Core). Goes s.core.cursor x.1) s.core.cursor r → Told (λ (x : SkipTabs × State). Goes s.core.cursor x.1.core) s.core.cursor (separated r t)
+    by : (t : State) (r : Result (SkipTabs × Core) Refusal) → Told (λ (x : SkipTabs × Core). Goes s.core.cursor x.1) s.core.cursor r
+        → Told (λ (x : SkipTabs × State). Goes s.core.cursor x.1.core) s.core.cursor (separated r t)
     by t (Ok x) h = h
     by t (Err e) h = h
 
@@ -155,7 +158,8 @@ stream_told s n =
 
 -- ## What begins here
 
-pub step_told : TextLaws → RefusalLaws → (first second k : ℕ) (c : Core) → 0 < length c.cursor.rest → slice_index c.cursor.rest 0 ≡ first → c.comment ≡ None → Told NotedStep c.cursor (step first second k c)
+pub step_told : TextLaws → RefusalLaws → (first second k : ℕ) (c : Core) → 0 < length c.cursor.rest → slice_index c.cursor.rest 0 ≡ first → c.comment ≡ None
+    → Told NotedStep c.cursor (step first second k c)
 unfolding step
 step_told texts laws first second k c some f n =
     let P = Told NotedStep c.cursor in
@@ -213,5 +217,6 @@ pub fetch_told : TextLaws → RefusalLaws → (s : State) → NotedState s → T
 unfolding fetch
 fetch_told texts laws s n =
     by_test s.core.started _ _ (Told NotedState s.core.cursor)
-    (λ _. told_then (GoesState s.core.cursor) NotedState s.core.cursor (arrive s) fetch_here (arrive_told s n) (λ t g. told_further NotedState s.core.cursor t.core.cursor (fetch_here t) g.0 (here_told texts laws t g.1)))
+    (λ _. told_then (GoesState s.core.cursor) NotedState s.core.cursor (arrive s) fetch_here (arrive_told s n)
+    (λ t g. told_further NotedState s.core.cursor t.core.cursor (fetch_here t) g.0 (here_told texts laws t g.1)))
     (λ e. n)

@@ -1,5 +1,5 @@
 -- Where the reading of the next token refuses.
-use Rattle.std.proofs.Common.{◌≡◌, ℕ, ◌^◌, ◌<◌, false, List, length, Option, Result, Ok, Err, refl, sym, subst}
+use Rattle.std.proofs.Common.{◌≡◌, ℕ, ◌^◌, ◌<◌, false, List, length, Option, Result, Ok, Err, sym, subst}
 use Rattle.std.specs.Prelude.{nat_le}
 use Rattle.saphyr_scalar.specs.declared.scalar.position.Marker.{Marker}
 use Rattle.saphyr_scalar.specs.declared.scalar.fault.Refusal.{Refusal}
@@ -47,15 +47,18 @@ settled_told text t a n = carried_told Noted (fresh text) (drop_far_key t.core) 
     by (Ok d) h = noted_still t.core d h n
     by (Err e) h = at_further (fresh text) t.core.cursor e.mark a h
 
-pub read_told : TextLaws → Readers → RefusalLaws → (text : List ℕ) → length text < 2 ^ 63 → (limit : ℕ) (columns : List ℕ) (from : Cursor) (s : State) → LaterThan (fresh text) from → Reaches (fresh text) from → s.core.ended ≡ false → Ready columns from s → NotedState s
+pub read_told : TextLaws → Readers → RefusalLaws → (text : List ℕ) → length text < 2 ^ 63 → (limit : ℕ) (columns : List ℕ) (from : Cursor) (s : State) → LaterThan (fresh text) from
+    → Reaches (fresh text) from → s.core.ended ≡ false → Ready columns from s → NotedState s
     → Told NotedState (fresh text) (fetch_within limit s >>= settled)
 unfolding fetch_within
 read_told laws readers refusals text small limit columns from s l a going h n =
     by (fetch s) (fetch_read laws readers text small columns from s l going h.taken (h.live going))
-    (told_further NotedState (fresh text) s.core.cursor (fetch s) (reaches_reaches (fresh text) from s.core.cursor a (taken_reached columns from s.core s.queue h.taken)) (fetch_told laws refusals s n))
+    (told_further NotedState (fresh text) s.core.cursor (fetch s) (reaches_reaches (fresh text) from s.core.cursor a (taken_reached columns from s.core s.queue h.taken))
+    (fetch_told laws refusals s n))
   where
     by : (r : Result State Refusal) → Given (Read columns from) r → Told NotedState (fresh text) r → Told NotedState (fresh text) ((r >>= within limit) >>= settled)
     by (Ok t) k m =
         let there = reaches_reaches (fresh text) from t.core.cursor a (taken_reached columns from t.core t.queue k.fetched.taken) in
-        by_test (nat_le t.core.cursor.mark.index limit) _ _ (λ r. Told NotedState (fresh text) (r >>= settled)) (λ _. settled_told text t there m) (λ _. at_further (fresh text) t.core.cursor t.core.cursor.mark there (at_here t.core.cursor))
+        by_test (nat_le t.core.cursor.mark.index limit) _ _ (λ r. Told NotedState (fresh text) (r >>= settled)) (λ _. settled_told text t there m)
+        (λ _. at_further (fresh text) t.core.cursor t.core.cursor.mark there (at_here t.core.cursor))
     by (Err e) k m = m

@@ -1,5 +1,5 @@
 -- Where the steps of scalars and properties refuse.
-use Rattle.std.proofs.Common.{◌≡◌, ℕ, ◌<◌, Bool, true, false, List, [], ◌∷◌, length, Option, None, Result, Ok, Err, refl, sym, ap, ◌∙◌, inl, inr}
+use Rattle.std.proofs.Common.{◌≡◌, ℕ, ◌<◌, Bool, true, false, List, length, None, Result, Ok, Err, refl, ap, inl}
 use Rattle.std.specs.Prelude.{◌&&◌, not, nat_lt, slice_index}
 use Rattle.saphyr_input.specs.Classes.{is_break}
 use Rattle.saphyr_input.specs.declared.input.SkipTabs.{SkipTabs}
@@ -19,7 +19,7 @@ use Rattle.saphyr_scalar.specs.FlowReading.{mark}
 use Rattle.saphyr_scalar.specs.Plain as words
 use Rattle.saphyr_scalar.specs.Quoted as quoted
 use Rattle.saphyr_scalar.specs.Tag as tags
-use Rattle.saphyr_scanner.specs.Core.{Core, in_block, least_column, save_key}
+use Rattle.saphyr_scanner.specs.Core.{Core, in_block, least_column}
 use Rattle.saphyr_scanner.specs.Passing.{separate, pass_gap, with_cursor}
 use Rattle.saphyr_scanner.specs.Property as property
 use Rattle.saphyr_scanner.specs.Scalar as scalar
@@ -56,7 +56,8 @@ read_quoted_told texts laws quote style c e n =
     let P : List ℕ × Cursor → Type 0 = λ x. Reaches c.cursor x.1 in
     let r = quoted.quoted quote (least_column c) c.cursor in
     told_then P NotedStep c.cursor r _
-    (reader_told P c.cursor r (given_by P r (λ x q. passed_reached c.cursor.mark c.cursor.rest x.1.mark x.1.rest (texts.quotes quote (least_column c) c.cursor x.1 x.0 e q).3)) (λ f q. laws.quotes quote (least_column c) c.cursor f e q))
+    (reader_told P c.cursor r (given_by P r (λ x q. passed_reached c.cursor.mark c.cursor.rest x.1.mark x.1.rest (texts.quotes quote (least_column c) c.cursor x.1 x.0 e q).3))
+    (λ f q. laws.quotes quote (least_column c) c.cursor f e q))
     (λ x h. quotes_told laws c.cursor c.cursor.mark style x.0 (with_cursor x.1 c) (h, n))
 
 read_double_told : TextLaws → RefusalLaws → (c : Core) → slice_index c.cursor.rest 0 ≡ 34 → c.comment ≡ None → Told NotedStep c.cursor (scalar.read_double_quoted c)
@@ -100,14 +101,17 @@ indicator_begins : (style : BlockStyle) (x : ℕ) → x ≡ block_indicator styl
 indicator_begins block_style.Literal x e = ap is_break e
 indicator_begins block_style.Folded x e = ap is_break e
 
-read_block_told : RefusalLaws → (style : BlockStyle) (c : Core) → slice_index c.cursor.rest 0 ≡ block_indicator style → 0 < length c.cursor.rest → c.comment ≡ None → Told NotedStep c.cursor (scalar.read_block style c)
+read_block_told : RefusalLaws → (style : BlockStyle) (c : Core) → slice_index c.cursor.rest 0 ≡ block_indicator style → 0 < length c.cursor.rest → c.comment ≡ None
+    → Told NotedStep c.cursor (scalar.read_block style c)
 unfolding scalar.read_block
 read_block_told laws style c e some n =
     let P : List ℕ × Span × Cursor → Type 0 = λ x. Unit {0} in
     let r = blocks.block_scalar style c.indent c.cursor in
-    told_then P NotedStep c.cursor r _ (reader_told P c.cursor r (given_any r) (λ f q. laws.block_scalar style c.indent c.cursor f (indicator_begins style (slice_index c.cursor.rest 0) e) some q)) (λ x h. inl n)
+    told_then P NotedStep c.cursor r _ (reader_told P c.cursor r (given_any r) (λ f q. laws.block_scalar style c.indent c.cursor f (indicator_begins style (slice_index c.cursor.rest 0) e) some q))
+    (λ x h. inl n)
 
-pub block_told : RefusalLaws → (style : BlockStyle) (k : ℕ) (c : Core) → slice_index c.cursor.rest 0 ≡ block_indicator style → 0 < length c.cursor.rest → c.comment ≡ None → Told NotedStep c.cursor (scalar.block style k c)
+pub block_told : RefusalLaws → (style : BlockStyle) (k : ℕ) (c : Core) → slice_index c.cursor.rest 0 ≡ block_indicator style → 0 < length c.cursor.rest → c.comment ≡ None
+    → Told NotedStep c.cursor (scalar.block style k c)
 unfolding scalar.block
 block_told laws style k c e some n =
     by_test c.key_allowed _ _ (λ (d : Core). Told NotedStep c.cursor (scalar.read_block style (record d { key_allowed = true; deeper = false })))
@@ -124,7 +128,8 @@ read_name_told laws is_alias c n =
 pub name_told : RefusalLaws → (is_alias : Bool) (k : ℕ) (c : Core) → c.comment ≡ None → Told NotedStep c.cursor (property.name is_alias k c)
 unfolding property.name
 name_told laws is_alias k c n =
-    by_test c.key_allowed _ _ (λ (d : Core). Told NotedStep c.cursor (property.read_name is_alias (scalar.disallow_key d))) (λ _. read_name_told laws is_alias _ n) (λ _. read_name_told laws is_alias (scalar.disallow_key c) n)
+    by_test c.key_allowed _ _ (λ (d : Core). Told NotedStep c.cursor (property.read_name is_alias (scalar.disallow_key d))) (λ _. read_name_told laws is_alias _ n)
+    (λ _. read_name_told laws is_alias (scalar.disallow_key c) n)
 
 read_tag_told : RefusalLaws → (c : Core) → c.comment ≡ None → Told NotedStep c.cursor (property.read_tag c)
 unfolding property.read_tag

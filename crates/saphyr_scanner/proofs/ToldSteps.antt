@@ -1,27 +1,25 @@
 -- Where the steps of indicators refuse.
-use Rattle.std.proofs.Common.{◌≡◌, ℕ, ◌+◌, Bool, true, false, List, [], ◌∷◌, length, Option, Some, None, Result, Ok, Err, refl, sym, ap, ◌∙◌, subst, inl, inr}
+use Rattle.std.proofs.Common.{◌≡◌, ℕ, Bool, true, false, List, [], ◌∷◌, length, Option, Some, None, Result, refl, sym, ◌∙◌, subst, inl}
 use Rattle.std.specs.Prelude.{◌&&◌, ◌||◌, ◌==◌, not, nat_lt, nat_le, slice_index}
 use Rattle.saphyr_input.specs.Classes.{is_break, is_flow, is_alpha}
 use Rattle.saphyr_input.specs.declared.input.SkipTabs.{SkipTabs}
 use Rattle.saphyr_input.specs.Separation.{found_tabs, has_valid_yaml_ws}
-use Rattle.saphyr_scalar.specs.declared.scalar.position.Marker.{Marker}
 use Rattle.saphyr_scalar.specs.declared.scalar.fault.Refusal.{Refusal}
 use Rattle.saphyr_scalar.specs.Cursor.{Cursor, ◌>>=◌, pass}
 use Rattle.saphyr_scanner.specs.declared.engine.level.Context.{Context}
 use Rattle.saphyr_scanner.specs.Tokens.{Kind}
 use Rattle.saphyr_scanner.specs.Block as block
-use Rattle.saphyr_scanner.specs.Core.{Candidate, Level, Core, Step, in_block, save_key, forget_key, remove_key, go_deeper, roll, is_further, with_context}
+use Rattle.saphyr_scanner.specs.Core.{Candidate, Level, Core, in_block, remove_key, go_deeper, roll, with_context}
 use Rattle.saphyr_scanner.specs.Fetch as fetching
 use Rattle.saphyr_scanner.specs.Flow as flow
 use Rattle.saphyr_scanner.specs.Gap as gaps
 use Rattle.saphyr_scanner.specs.Passing.{separate, pass_on, with_cursor}
-use Rattle.saphyr_scanner.specs.TokensTaken as taken
 use Rattle.saphyr_scanner.specs.Value as value
 use Rattle.saphyr_scanner.proofs.Reached.{apart_reached}
 use Rattle.saphyr_scanner.proofs.Separated.{spaces_apart}
 use Rattle.saphyr_scanner.proofs.Sizes.{by_test}
-use Rattle.saphyr_scanner.proofs.TokenPlaces.{Reaches, reaches_reaches, At, at_here, at_further}
-use Rattle.saphyr_scanner.proofs.Told.{RefusalLaws, Told, told_then, Goes, Noted, NotedStep, Still, goes_here, goes_still, at_core, passes, remove_still, remove_goes, roll_still, separate_goes}
+use Rattle.saphyr_scanner.proofs.TokenPlaces.{Reaches, reaches_reaches, at_here}
+use Rattle.saphyr_scanner.proofs.Told.{RefusalLaws, Told, told_then, Goes, Noted, NotedStep, Still, goes_still, at_core, passes, remove_still, remove_goes, roll_still, separate_goes}
 
 -- a core that stands at the same place passes an indicator
 pub goes_on : (x : ℕ) (c d : Core) → (x == 0) ≡ false → is_break x ≡ false → slice_index c.cursor.rest 0 ≡ x → c.comment ≡ None → Still c d → Goes c.cursor (pass_on 1 d)
@@ -29,26 +27,32 @@ goes_on x c d z b e n s = let P : Cursor → Type 0 = λ u. Reaches c.cursor (pa
 
 -- ## Flow collections
 
-open_told : RefusalLaws → (x : Context) (kind : Kind) (i : ℕ) (c : Core) → (i == 0) ≡ false → is_break i ≡ false → slice_index c.cursor.rest 0 ≡ i → c.comment ≡ None → Told NotedStep c.cursor (flow.open_collection x kind c)
+open_told : RefusalLaws → (x : Context) (kind : Kind) (i : ℕ) (c : Core) → (i == 0) ≡ false → is_break i ≡ false → slice_index c.cursor.rest 0 ≡ i → c.comment ≡ None
+    → Told NotedStep c.cursor (flow.open_collection x kind c)
 unfolding flow.open_collection
 open_told laws x kind i c z b e n =
     by_test (nat_le 255 (length c.outer)) _ _ (Told NotedStep c.cursor) (λ _. at_here c.cursor)
-    (λ _. told_then (λ (d : SkipTabs × Core). Goes c.cursor d.1) NotedStep c.cursor (separate (pass_on 1 (flow.enter x c))) _ (separate_goes laws c.cursor (pass_on 1 (flow.enter x c)) (goes_on i c (flow.enter x c) z b e n (refl, refl))) (λ d g. inl g.1))
+    (λ _. told_then (λ (d : SkipTabs × Core). Goes c.cursor d.1) NotedStep c.cursor (separate (pass_on 1 (flow.enter x c))) _
+    (separate_goes laws c.cursor (pass_on 1 (flow.enter x c)) (goes_on i c (flow.enter x c) z b e n (refl, refl))) (λ d g. inl g.1))
 
-pub start_told : RefusalLaws → (x : Context) (kind : Kind) (i k : ℕ) (c : Core) → (i == 0) ≡ false → is_break i ≡ false → slice_index c.cursor.rest 0 ≡ i → c.comment ≡ None → Told NotedStep c.cursor (flow.start x kind k c)
+pub start_told : RefusalLaws → (x : Context) (kind : Kind) (i k : ℕ) (c : Core) → (i == 0) ≡ false → is_break i ≡ false → slice_index c.cursor.rest 0 ≡ i → c.comment ≡ None
+    → Told NotedStep c.cursor (flow.start x kind k c)
 unfolding flow.start
 start_told laws x kind i k c z b e n =
-    by_test c.key_allowed _ _ (λ (d : Core). Told NotedStep c.cursor (flow.open_collection x kind (go_deeper d))) (λ _. open_told laws x kind i _ z b e n) (λ _. open_told laws x kind i (go_deeper c) z b e n)
+    by_test c.key_allowed _ _ (λ (d : Core). Told NotedStep c.cursor (flow.open_collection x kind (go_deeper d))) (λ _. open_told laws x kind i _ z b e n)
+    (λ _. open_told laws x kind i (go_deeper c) z b e n)
 
 left_still : (ls : List Level) (c : Core) → Still c (flow.leave_to ls c)
 left_still [] c = (refl, refl)
 left_still (l ∷ ls) c = (refl, refl)
 
-pub end_told : RefusalLaws → (is_sequence : Bool) (kind : Kind) (i : ℕ) (c : Core) → (i == 0) ≡ false → is_break i ≡ false → slice_index c.cursor.rest 0 ≡ i → c.comment ≡ None → Told NotedStep c.cursor (flow.end is_sequence kind c)
+pub end_told : RefusalLaws → (is_sequence : Bool) (kind : Kind) (i : ℕ) (c : Core) → (i == 0) ≡ false → is_break i ≡ false → slice_index c.cursor.rest 0 ≡ i → c.comment ≡ None
+    → Told NotedStep c.cursor (flow.end is_sequence kind c)
 unfolding flow.end flow.close_collection
 end_told laws is_sequence kind i c z b e n =
     by_test (in_block c) _ _ (Told NotedStep c.cursor) (λ _. at_here c.cursor)
-    (λ _. told_then (λ (d : SkipTabs × Core). Goes c.cursor d.1) NotedStep c.cursor (separate (pass_on 1 (flow.leave c))) _ (separate_goes laws c.cursor (pass_on 1 (flow.leave c)) (goes_on i c (flow.leave c) z b e n (left_still c.outer c)))
+    (λ _. told_then (λ (d : SkipTabs × Core). Goes c.cursor d.1) NotedStep c.cursor (separate (pass_on 1 (flow.leave c))) _
+    (separate_goes laws c.cursor (pass_on 1 (flow.leave c)) (goes_on i c (flow.leave c) z b e n (left_still c.outer c)))
     (λ d g. by_test (in_block d.1) _ _ Noted (λ _. inl g.1) (λ _. inl g.1)))
 
 pub flow_entry_told : RefusalLaws → (c : Core) → slice_index c.cursor.rest 0 ≡ 44 → c.comment ≡ None → Told NotedStep c.cursor (flow.entry c)
@@ -57,7 +61,8 @@ flow_entry_told laws c e n =
     told_then (Still c) NotedStep c.cursor (remove_key c) flow.next_entry (remove_still c)
     (λ d s.
     let f : Core = with_context (flow.behind_entry d.level.context) (record d { key_allowed = true }) in
-    told_then (λ (x : SkipTabs × Core). Goes c.cursor x.1) NotedStep c.cursor (separate (pass_on 1 f)) _ (separate_goes laws c.cursor (pass_on 1 f) (goes_on 44 c f refl refl e n (s.0, s.1))) (λ x g. inl g.1))
+    told_then (λ (x : SkipTabs × Core). Goes c.cursor x.1) NotedStep c.cursor (separate (pass_on 1 f)) _ (separate_goes laws c.cursor (pass_on 1 f) (goes_on 44 c f refl refl e n (s.0, s.1)))
+    (λ x g. inl g.1))
 
 -- ## Block collections
 
@@ -76,7 +81,8 @@ block_entry_told laws c e n =
     let g : Goes s f = goes_still s (pass_on 1 c) f (roll_still c.cursor.mark.col (pass_on 1 c)) (goes_on 45 c c refl refl e n (refl, refl)) in
     by_test (not (in_block c)) _ _ (Told NotedStep s) (λ _. at_here s)
     (λ _. by_test (not c.key_allowed) _ _ (Told NotedStep s) (λ _. at_here s)
-    (λ _. told_then (Goes s) NotedStep s (block.pass_dash f >>= remove_key) _ (told_then (Goes s) (Goes s) s (block.pass_dash f) remove_key (dash_told laws s f g) (λ d h. remove_goes s d h)) (λ d h. inl h.1)))
+    (λ _. told_then (Goes s) NotedStep s (block.pass_dash f >>= remove_key) _ (told_then (Goes s) (Goes s) s (block.pass_dash f) remove_key (dash_told laws s f g) (λ d h. remove_goes s d h))
+    (λ d h. inl h.1)))
 
 mark_told : (s : Cursor) (c : Core) → Reaches s (pass 1 c.cursor) → c.comment ≡ None → Told (Goes s) s (block.pass_mark c)
 unfolding block.behind_mark
@@ -107,7 +113,8 @@ unfolding value.check_tab
 tab_told laws s c g =
     by_test (slice_index c.cursor.rest 0 == 9) _ _ (Told (Goes s) s)
     (λ _. told_then (λ (x : SkipTabs × Core). Goes s x.1) (Goes s) s (separate c) value.refuse_tab (separate_goes laws s c g)
-    (λ x h. by_test (in_block x.1 && not (has_valid_yaml_ws x.0) && ((slice_index x.1.cursor.rest 0 == 45) || is_alpha (slice_index x.1.cursor.rest 0))) _ _ (Told (Goes s) s) (λ _. at_core s x.1 h) (λ _. h)))
+    (λ x h. by_test (in_block x.1 && not (has_valid_yaml_ws x.0) && ((slice_index x.1.cursor.rest 0 == 45) || is_alpha (slice_index x.1.cursor.rest 0))) _ _ (Told (Goes s) s) (λ _. at_core s x.1 h)
+    (λ _. h)))
     (λ _. g)
 
 rolled : (column : ℕ) (c : Core) → c.comment ≡ None → (roll column c).comment ≡ None

@@ -5,7 +5,7 @@ use Rattle.saphyr_scalar.specs.declared.reading.block.BlockStyle.TheVariants as 
 use Rattle.saphyr_scanner.specs.TokensTaken.{block_indicator}
 use Rattle.saphyr_scanner.proofs.TakingScalars.{Readers, quoted_laws}
 use Rattle.saphyr_scanner.proofs.HeldScalars.{TextLaws}
-use Rattle.saphyr_scanner.proofs.RunTaken.{AllLaws, scan_taken}
+use Rattle.saphyr_scanner.proofs.RunTaken.{scan_taken}
 use Rattle.saphyr_scanner.proofs.Told.{RefusalLaws}
 use Rattle.saphyr_scanner.proofs.law.takes_all_tokens.Goals as goal
 
