@@ -180,7 +180,10 @@ end_fetches s =
     let end : Piece = empty_piece m tokens.StreamEnd in
     by_test (length s.core.cursor.rest == 0) _ _ (Given (Fetches s))
     (λ _. by_test s.core.required _ _ (Given (Fetches s)) (λ _. tt)
-    (λ _. let a = unroll_adds None m s in let b = added t end in (λ going h. (t.queue.places, end, a.1 h, refl, refl), let x = a.2 in let y = b in omega (arith, x, y))))
+    (λ _.
+    let a = unroll_adds None m s in
+    let b = added t end in
+    (λ going h. (t.queue.places, end, a.1 h, refl, refl), let x = a.2 in omega (arith, x, b))))
     (λ _. tt)
   where
     added : (t : State) (end : Piece) → due (document.finish end.span.start t) ≤ due t + 1
@@ -205,7 +208,8 @@ arrive_adds s =
     let passed : Given (Begins 0 s.core) r =
     given_bind (Begins 0 s.core) (pass_gap s.core) drop_far_key (λ c e. drop_begins 0 s.core c (given_of (Begins 0 s.core) (pass_gap s.core) c (gap_begins 0 s.core s.core (begins_none s.core)) e)) in
     given_bind (Adds 0 s) (carried r s.queue) _ (λ t e.
-    adds_adds 0 0 0 s t (unroll (Some t.core.cursor.mark.col) t.core.cursor.mark t) (omega arith) (given_of (Adds 0 s) (carried r s.queue) t (carried_adds s r passed) e) (unroll_adds (Some t.core.cursor.mark.col) t.core.cursor.mark t))
+    let a = given_of (Adds 0 s) (carried r s.queue) t (carried_adds s r passed) e in
+    adds_adds 0 0 0 s t (unroll (Some t.core.cursor.mark.col) t.core.cursor.mark t) (omega arith) a (unroll_adds (Some t.core.cursor.mark.col) t.core.cursor.mark t))
 
 onward : (s t : State) (r : Result State Refusal) → Adds 0 s t → Given (Fetches t) r → Given (Fetches s) r
 onward s t (Ok u) a b = (λ going h. b.0 (a.0 ∙ going) (a.1 h), let x = a.2 in let y = b.1 in omega (arith, x, y))
@@ -226,10 +230,13 @@ dropped s t (Ok d) a b =
     (λ going h. subst P (sym b.0) (a.0 going h), let x = a.1 in let y = b.1 in omega (arith, x, y))
 dropped s t (Err e) a b = tt
 
-pub read_fetches : (limit : ℕ) (s : State) → Given (Fetches s) (fetch_within limit s >>= settled)
+within_fetches : (limit : ℕ) (s : State) → Given (Fetches s) (fetch_within limit s)
 unfolding fetch_within
+within_fetches limit s =
+    given_bind (Fetches s) (fetch s) (within limit) (λ t e.
+    by_test (nat_le t.core.cursor.mark.index limit) _ _ (Given (Fetches s)) (λ _. given_of (Fetches s) (fetch s) t (fetch_fetches s) e) (λ _. tt))
+
+pub read_fetches : (limit : ℕ) (s : State) → Given (Fetches s) (fetch_within limit s >>= settled)
 read_fetches limit s =
-    given_bind (Fetches s) (fetch s >>= within limit) settled (λ t e.
-    dropped s t (drop_far_key t.core) (given_of (Fetches s) (fetch s >>= within limit) t
-    (given_bind (Fetches s) (fetch s) (within limit) (λ u q. by_test (nat_le u.core.cursor.mark.index limit) _ _ (Given (Fetches s)) (λ _. given_of (Fetches s) (fetch s) u (fetch_fetches s) q) (λ _. tt))) e)
-    (drop_begins 0 t.core t.core (begins_none t.core)))
+    given_bind (Fetches s) (fetch_within limit s) settled (λ t e.
+    dropped s t (drop_far_key t.core) (given_of (Fetches s) (fetch_within limit s) t (within_fetches limit s) e) (drop_begins 0 t.core t.core (begins_none t.core)))

@@ -12,7 +12,7 @@ use Rattle.saphyr_scanner.specs.declared.engine.level.Context.{Context}
 use Rattle.saphyr_scanner.specs.Tokens as tokens
 use Rattle.saphyr_scanner.specs.Tokens.{Kind}
 use Rattle.saphyr_scanner.specs.Gap as gaps
-use Rattle.saphyr_scanner.specs.Core.{Candidate, Level, Core, from_to, at_mark, in_block, save_key, remove_key, drop_far_key, is_too_far, is_further, go_deeper, roll, least_column, with_context}
+use Rattle.saphyr_scanner.specs.Core.{Candidate, Level, Core, Action, from_to, at_mark, in_block, save_key, remove_key, drop_far_key, is_too_far, is_further, go_deeper, roll, least_column, with_context}
 use Rattle.saphyr_scanner.specs.Passing.{separate, pass_on, pass_gap, check_comment, goes_on_behind, behind_gap, intercepts}
 use Rattle.saphyr_scanner.specs.Flow as flow
 use Rattle.saphyr_scanner.specs.Value as value
@@ -22,7 +22,8 @@ use Rattle.saphyr_scanner.proofs.Additions.{IsNoEnd, one_at_most, Begins, AddsFe
 
 -- ## What is passed
 
-pub behind_blanks : {X : Type 0} → (P : X → Type 0) (n : ℕ) (b c : Core) (f : SkipTabs × Core → Result X Refusal) → Begins n b c → ((x : SkipTabs × Core) → Begins n b x.1 → Given P (f x)) → Given P (separate c >>= f)
+pub behind_blanks : {X : Type 0} → (P : X → Type 0) (n : ℕ) (b c : Core) (f : SkipTabs × Core → Result X Refusal) → Begins n b c
+    → ((x : SkipTabs × Core) → Begins n b x.1 → Given P (f x)) → Given P (separate c >>= f)
 behind_blanks P n b c f a h = given_bind P (separate c) f (λ x e. h x (given_of (λ (y : SkipTabs × Core). Begins n b y.1) (separate c) x parted e))
   where
     parted : Given (λ (y : SkipTabs × Core). Begins n b y.1) (separate c)
@@ -122,8 +123,12 @@ tab_begins b c a =
     by_test (in_block x.1 && not (has_valid_yaml_ws x.0) && ((slice_index x.1.cursor.rest 0 == 45) || is_alpha (slice_index x.1.cursor.rest 0))) _ _ (Given (Begins 0 b)) (λ _. tt) (λ _. k)))
     (λ _. a)
 
+abbrev starts : Bool → Bool → Marker → List Action
+starts begins further start =
+    (if begins then at_mark start tokens.FlowMappingStart ∷ [] else []) ++ ((if further then at_mark start tokens.BlockMappingStart ∷ [] else []) ++ at_mark start tokens.Value ∷ [])
+
 alone_adds : (begins further : Bool) (start : Marker) (c d : Core) → Begins 2 c d
-    → AddsFew c (record { core = d; actions = (if begins then at_mark start tokens.FlowMappingStart ∷ [] else []) ++ ((if further then at_mark start tokens.BlockMappingStart ∷ [] else []) ++ at_mark start tokens.Value ∷ []) })
+    → AddsFew c (record { core = d; actions = starts begins further start })
 alone_adds true true start c d a = (a.0, (λ q. absurd (cc), (λ q. absurd (cc), (λ q. absurd (cc), tt))), let x = a.1 in omega (arith, x))
 alone_adds true false start c d a = (a.0, (λ q. absurd (cc), (λ q. absurd (cc), tt)), let x = a.1 in omega (arith, x))
 alone_adds false true start c d a = (a.0, (λ q. absurd (cc), (λ q. absurd (cc), tt)), let x = a.1 in omega (arith, x))

@@ -34,15 +34,17 @@ unfolding block.pass_dash
 dash_begins b c a =
     behind_blanks (Begins 2 b) 2 b c block.refuse_tab a (λ x k. by_test (found_tabs x.0 && block.is_dash_next x.1) _ _ (Given (Begins 2 b)) (λ _. tt) (λ _. deepen_begins b x.1 k))
 
+dash_passed : (c d : Core) → Begins 2 c d → Given (Begins 2 c) (block.pass_dash d >>= remove_key)
+dash_passed c d a = given_bind (Begins 2 c) (block.pass_dash d) remove_key (λ x q. remove_begins 2 c x (given_of (Begins 2 c) (block.pass_dash d) x (dash_begins c d a) q))
+
 next_entry_adds : (c : Core) → Given (AddsFew c) (block.next_entry c)
 unfolding block.next_entry
 next_entry_adds c =
     let d : Core = roll c.cursor.mark.col (pass_on 1 c) in
-    let a : Begins 2 c d = roll_begins c.cursor.mark.col c (pass_on 1 c) (begins_none c) in
-    let u : Given (Begins 2 c) (block.pass_dash d >>= remove_key) = given_bind (Begins 2 c) (block.pass_dash d) remove_key (λ x p. remove_begins 2 c x (given_of (Begins 2 c) (block.pass_dash d) x (dash_begins c d a) p)) in
+    let a = dash_passed c d (roll_begins c.cursor.mark.col c (pass_on 1 c) (begins_none c)) in
     given_bind (AddsFew c) (block.pass_dash d >>= remove_key) _ (λ e q.
-    some_put (is_further c.cursor.mark.col c) 2 c (record e { key_allowed = true }) e.cursor.mark e.cursor.mark c.cursor.mark tokens.BlockEntry tokens.BlockSequenceStart (omega arith) (λ i. absurd (cc)) (λ i. absurd (cc))
-    (given_of (Begins 2 c) (block.pass_dash d >>= remove_key) e u q))
+    some_put (is_further c.cursor.mark.col c) 2 c (record e { key_allowed = true }) e.cursor.mark e.cursor.mark c.cursor.mark tokens.BlockEntry tokens.BlockSequenceStart (omega arith)
+    (λ i. absurd (cc)) (λ i. absurd (cc)) (given_of (Begins 2 c) (block.pass_dash d >>= remove_key) e a q))
 
 pub block_entry_adds : (c : Core) → Given (AddsFew c) (block.entry c)
 unfolding block.entry

@@ -44,14 +44,16 @@ abbrev holding : Core → List Place → ℕ → State
 holding c ps k = record { core = c; queue = record { places = ps; handed = k } }
 
 -- while the stream goes on
-going_on : (go : State → Remaining) (c : Core) → ((k : ℕ) (ps : List Place) → PlacesGoOn ps → EndsWithStream (go (holding c ps k))) → (k : ℕ) (ps : List Place) → PlacesGoOn ps → EndsWithStream (hand_out ps go (holding c ps k))
+going_on : (go : State → Remaining) (c : Core) → ((k : ℕ) (ps : List Place) → PlacesGoOn ps → EndsWithStream (go (holding c ps k)))
+    → (k : ℕ) (ps : List Place) → PlacesGoOn ps → EndsWithStream (hand_out ps go (holding c ps k))
 going_on go c others k [] h = others k [] h
 going_on go c others k (p ∷ ps) h =
     let next = going_on go c others (k + 1) ps h.1 in
     by_test (needs_token (holding c (p ∷ ps) k)) _ _ EndsWithStream (λ _. others k (p ∷ ps) h) (λ _. place_before p.opening p.piece _ h.0 next)
 
 -- where the stream has ended all places are handed out
-ended : (go : State → Remaining) (c : Core) → c.ended ≡ true → ((k : ℕ) (ps : List Place) → go (holding c ps k) ≡ none) → (k : ℕ) (front : List Place) (end : Piece) → PlacesGoOn front → end.kind ≡ tokens.StreamEnd
+ended : (go : State → Remaining) (c : Core) → c.ended ≡ true → ((k : ℕ) (ps : List Place) → go (holding c ps k) ≡ none)
+    → (k : ℕ) (front : List Place) (end : Piece) → PlacesGoOn front → end.kind ≡ tokens.StreamEnd
     → EndsWithStream (hand_out (front ++ closed end ∷ []) go (holding c (front ++ closed end ∷ []) k))
 ended go c over others k [] end h e =
     by_test (needs_token (holding c (closed end ∷ []) k)) _ _ EndsWithStream (λ n. absurd (let g = going c.ended _ n in cc))

@@ -53,21 +53,22 @@ drop_stays limit s h =
     let P : Result Core Refusal → Type 0 = λ r. Given (IsWithin limit) (carried r s.queue) in
     by_test (not (in_block s.core && is_too_far s.core.level.key s.core.cursor.mark)) _ _ P (λ _. h) (λ _. by_test s.core.required _ _ P (λ _. tt) (λ _. h))
 
-read_stays : (limit : ℕ) (s : State) → Given (IsWithin limit) (fetch_within limit s >>= settled)
+within_stays : (limit : ℕ) (s : State) → Given (IsWithin limit) (fetch_within limit s)
 unfolding fetch_within
+within_stays limit s =
+    given_bind (IsWithin limit) (fetch s) (within limit) (λ t e.
+    by_test (nat_le t.core.cursor.mark.index limit) _ _ (Given (IsWithin limit)) (λ i. let j : t.core.cursor.mark.index ≤ limit = grind (arith, nat_tests) in j) (λ _. tt))
+
+read_stays : (limit : ℕ) (s : State) → Given (IsWithin limit) (fetch_within limit s >>= settled)
 read_stays limit s =
-    given_bind (IsWithin limit) (fetch s >>= within limit) settled (λ t e. drop_stays limit t (given_of (IsWithin limit) (fetch s >>= within limit) t checked e))
-  where
-    checked : Given (IsWithin limit) (fetch s >>= within limit)
-    checked = given_bind (IsWithin limit) (fetch s) (within limit) (λ u q.
-        by_test (nat_le u.core.cursor.mark.index limit) _ _ (Given (IsWithin limit)) (λ i. let j : u.core.cursor.mark.index ≤ limit = grind (arith, nat_tests) in j) (λ _. tt))
+    given_bind (IsWithin limit) (fetch_within limit s) settled (λ t e. drop_stays limit t (given_of (IsWithin limit) (fetch_within limit s) t (within_stays limit s) e))
 
 -- ## What comes
 
 -- The index and what is left are n together, and the index is within the limit.
 record Counts (n limit : ℕ) (s : State) : Type 0 where
   counted : s.core.cursor.mark.index + length s.core.cursor.rest ≡ n
-  limited : s.core.cursor.mark.index ≤ limit
+  limited : IsWithin limit s
 
 -- what comes, where so much is due and so much is to be read
 abbrev IsFew : ℕ → ℕ → State → Remaining → Type 0
@@ -110,11 +111,13 @@ run_few readers laws n limit (suc fuel) s h = handed (λ t. run_few readers laws
     handed : ((t : State) → Counts n limit t → IsFew n limit t (run fuel limit t)) → IsFew n limit s (run (suc fuel) limit s)
     handed others =
         whole (run (suc fuel) limit s)
-        (handed_counted (5 * n) (open_blocks s.core + 5 * limit + 5 * size s.core) (behind fuel limit) s.core (λ k ps. part ps (behind fuel limit (holding s.core ps k)) k (here others k ps)) s.queue.handed s.queue.places)
+        (handed_counted (5 * n) (open_blocks s.core + 5 * limit + 5 * size s.core) (behind fuel limit) s.core
+        (λ k ps. part ps (behind fuel limit (holding s.core ps k)) k (here others k ps)) s.queue.handed s.queue.places)
 
 pub scan_few : Readers → ReaderEnds → (limit : ℕ) (text : List ℕ) → length (scan limit text).pieces ≤ 5 * limit + 10
 unfolding remaining drop_far_key
-scan_few readers laws limit text = all (scan limit text) (run_few readers laws (length text) limit (suc (size (start text).core)) (start text) (record { counted = omega arith; limited = omega arith }))
+scan_few readers laws limit text =
+    all (scan limit text) (run_few readers laws (length text) limit (suc (size (start text).core)) (start text) (record { counted = omega arith; limited = omega arith }))
   where
     all : (r : Remaining) → IsFew (length text) limit (start text) r → length r.pieces ≤ 5 * limit + 10
     all r h = omega (arith, h)
