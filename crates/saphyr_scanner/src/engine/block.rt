@@ -36,6 +36,7 @@ impl<T: Input> Engine<T> {
     }
 
     // Passes what stands behind `-` on its line.
+    #[inline(always)]
     #[tactic(auto, unfolding(crate::specs::Block::pass_dash))]
     fn pass_dash(&mut self) -> Result<(), Stop>
         ensures { Moves (λ _. state self.new) result (spec_state.carried (block.pass_dash (state self.old).core) (state self.old).queue) }
