@@ -69,3 +69,8 @@ pub mod RefusingSteps
 pub mod RefusingDocuments
 pub mod TokensForm
 pub mod EventsTakenOf
+pub mod Longer
+pub mod LongerSteps
+pub mod LongerDocuments
+pub mod CommonBeginnings
+pub mod ClosedTokens

@@ -35,3 +35,4 @@ pub mod SpansWithin
 pub mod Promises
 pub mod WellFormed
 pub mod Begins
+pub mod More

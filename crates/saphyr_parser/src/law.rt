@@ -1,5 +1,5 @@
 //! Laws of the definitions.
-ghost use Rattle.std.specs.Prelude.{Bool, List, [], ◌∷◌, codes, false, true, ℕ, ◌≡◌, ◌<◌, ◌≤◌, ◌^◌, length, None, Some};
+ghost use Rattle.std.specs.Prelude.{Bool, List, [], ◌∷◌, ◌++◌, codes, false, true, ℕ, ◌≡◌, ◌<◌, ◌≤◌, ◌^◌, length, None, Ok, Option, Some};
 ghost use Rattle.saphyr_parser.specs.Anchors.{IsLatest, anchors, latest};
 ghost use Rattle.saphyr_parser.specs.Preorder.{Part, parts};
 ghost use Rattle.saphyr_parser.specs.Examples as examples;
@@ -20,7 +20,7 @@ ghost use Rattle.saphyr_parser.specs.Exactly.{GivesExactly, kinds, told_by};
 ghost use Rattle.saphyr_parser.specs.Events.{Alias, Happening};
 ghost use Rattle.saphyr_parser.specs.Complete.{IsShallowJson, ReadsJson};
 ghost use Rattle.saphyr_parser.specs.EventsTaken.{AreTaken, HasPlaceIn, IsOf};
-ghost use Rattle.saphyr_parser.specs.Premises.{GivesFirst, IsClosed, IsPromised, ReadsClosed, ReadsEach, has_surrogate_escape};
+ghost use Rattle.saphyr_parser.specs.Premises.{DocumentMarker, GivesFirst, IsClosed, IsPromised, ReadsClosed, ReadsEach, behind_marker, has_surrogate_escape};
 ghost use Rattle.saphyr_parser.specs.Promises.{ReadsClosedLayout, ReadsFlowLayout, ReadsLayout, TakesEvents};
 ghost use Rattle.saphyr_scalar.specs.Spaces.{IsLineRest};
 ghost use Rattle.saphyr_scanner.specs.Layout.{IsFlowLayoutText, IsLayoutText, most_open};
@@ -31,6 +31,10 @@ ghost use Rattle.saphyr_scanner.specs.Ends.{EndsWithStream};
 ghost use Rattle.saphyr_scalar.specs.declared.scalar.fault.Refusal.{Refusal};
 ghost use Rattle.saphyr_scanner.specs.TokensTaken.{AreTakenFrom, IsPlaceOf};
 ghost use Rattle.saphyr_parser.specs.WellFormed.{AreWellFormed};
+ghost use Rattle.saphyr_parser.specs.Machine.{Machine, Told, ending};
+ghost use Rattle.saphyr_parser.specs.Steps.{step};
+ghost use Rattle.saphyr_parser.specs.Answer.{remaining};
+ghost use Rattle.saphyr_parser.specs.More.{BeginsAs, marker_token, with_more};
 
 pub use saphyr_input::law::lists_characters;
 
@@ -164,3 +168,18 @@ pub fn takes_all_events()
 {
     saphyr_scanner::law::places_taken_tokens();
 }
+
+/// Each step takes tokens from the head alone. Where it gives an event it gives the same one with more tokens
+/// behind, and leaves these behind those that it leaves; so the events of tokens come first where more stand behind
+/// them, and where another fault than the end of the tokens ends them, or none, they are all.
+pub fn begins_alike()
+    ensures step { (m : Machine) (more : List Piece) (refusal : Option Refusal) (x : Told) → step m ≡ Ok x → step (with_more more refusal m) ≡ Ok (record x { machine = with_more more refusal x.machine }) }
+    ensures machine { (m : Machine) (more : List Piece) (refusal : Option Refusal) → BeginsAs (ending m.tokens.refusal) (remaining m) (remaining (with_more more refusal m)) }
+    ensures parser { (tokens : Remaining) (more : List Piece) (refusal : Option Refusal) (keep : Bool) → BeginsAs (ending tokens.refusal) (to_come (keeping_tags keep (at_start tokens))) (to_come (keeping_tags keep (at_start (record { pieces = tokens.pieces ++ more; refusal = refusal })))) }
+{}
+
+/// Tokens end with `---` or `...` and the end of the stream, and give exactly these events. Whatever stands
+/// behind that `---` or `...` in place of the stream's end, the events up to and with its own come first.
+pub fn closes_tokens()
+    ensures { (keep : Bool) (marker : DocumentMarker) (earlier more : List Piece) (last end : Piece) (refusal : Option Refusal) (first : List Happening) → last.kind ≡ marker_token marker → end.kind ≡ tokens.StreamEnd → GivesExactly (first ++ behind_marker marker) (told_by keep (earlier ++ last ∷ end ∷ [])) → GivesFirst first (to_come (keeping_tags keep (at_start (record { pieces = earlier ++ last ∷ more; refusal = refusal })))) }
+{}
