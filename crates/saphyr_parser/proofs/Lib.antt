@@ -74,3 +74,4 @@ pub mod LongerSteps
 pub mod LongerDocuments
 pub mod CommonBeginnings
 pub mod ClosedTokens
+pub mod ClosedBeginnings
