@@ -1,6 +1,6 @@
 -- The promise on closed beginnings, from one that the scanner's tokens begin with those of a closed beginning.
 use Rattle.std.specs.Prelude.{◌==◌, slice_index}
-use Rattle.std.proofs.Common.{◌≡◌, ℕ, ◌+◌, ◌≤◌, Bool, true, false, List, [], ◌∷◌, ◌++◌, length, None, refl, sym, ap, ◌∙◌, subst, arith, length-append}
+use Rattle.std.proofs.Common.{◌≡◌, ℕ, ◌≤◌, Bool, true, false, List, [], ◌∷◌, ◌++◌, length, None, refl, sym, ap, ◌∙◌, subst, arith, length-append}
 use Rattle.saphyr_input.specs.Breaks.{normalized}
 use Rattle.saphyr_scanner.specs.Forest.{Forest}
 use Rattle.saphyr_scanner.specs.Remaining.{scan}
@@ -11,7 +11,7 @@ use Rattle.saphyr_parser.specs.Events.{Happening}
 use Rattle.saphyr_parser.specs.Cursor.{at_start, keeping_tags, to_come}
 use Rattle.saphyr_parser.specs.Exactly.{GivesExactly, kinds}
 use Rattle.saphyr_parser.specs.More.{marker_token}
-use Rattle.saphyr_parser.specs.Premises.{Grammar, IsPromised, IsClosed, DocumentMarker, EndsWithMarker, GivesFirst, ReadsEach, ReadsClosed, behind_marker}
+use Rattle.saphyr_parser.specs.Premises.{Grammar, IsPromised, DocumentMarker, EndsWithMarker, GivesFirst, ReadsEach, ReadsClosed, behind_marker}
 use Rattle.saphyr_parser.proofs.ClosedTokens.{closed_tokens}
 
 -- ## A beginning of the normalized text is one of the text
@@ -100,7 +100,7 @@ gives_first :
     → GivesExactly (first ++ behind_marker marker) (to_come (keeping_tags keep (at_start alone))) → GivesFirst first (to_come (keeping_tags keep (at_start followed)))
 gives_first keep marker alone followed first h g =
     let given : GivesExactly (first ++ behind_marker marker) (to_come (keeping_tags keep (at_start (record { pieces = h.earlier ++ h.last ∷ h.end ∷ []; refusal = None })))) =
-        subst (λ r. GivesExactly (first ++ behind_marker marker) (to_come (keeping_tags keep (at_start r)))) h.ends g in
+    subst (λ r. GivesExactly (first ++ behind_marker marker) (to_come (keeping_tags keep (at_start r)))) h.ends g in
     subst (λ ts. GivesFirst first (to_come (keeping_tags keep (at_start (record { pieces = ts; refusal = followed.refusal }))))) (sym h.begins) (closed_tokens keep marker h.earlier h.more h.last h.end followed.refusal first h.is_marker h.is_end given)
 
 pub reads_closed : (G : Grammar) (IsTail : List ℕ → Type 0) (limit : ℕ) → SeesNormalized G → ((text : List ℕ) → ReadsEach G limit text (at_start (scan limit text))) → ScansEach G limit → HandsOutMarkers IsTail limit → (text : List ℕ) → ReadsClosed G IsTail limit text (at_start (scan limit text))
@@ -114,7 +114,7 @@ reads_closed G IsTail limit sees each scans hands text keep first c =
     let promised = promised_of G limit keep c.forest c.front p.front c.told sees (sym p.is_front) front_within c.promised in
     let of = scans c.forest p.front promised.stands_for front_within in
     let apart : normalized (p.front ++ p.behind) ≡ normalized p.front ++ normalized p.behind =
-        ap normalized (sym p.are_all) ∙ c.begins ∙ ap (λ xs. xs ++ c.others) (sym p.is_front) ∙ ap (λ ys. normalized p.front ++ ys) (sym p.is_behind) in
+    ap normalized (sym p.are_all) ∙ c.begins ∙ ap (λ xs. xs ++ c.others) (sym p.is_front) ∙ ap (λ ys. normalized p.front ++ ys) (sym p.is_behind) in
     let hands_out = hands c.marker of.1.0 p.front p.behind (subst (λ xs. EndsWithMarker IsTail c.marker xs) (sym p.is_front) c.ends) apart all_within of.0 of.1.1 in
     let given : GivesExactly (first ++ behind_marker c.marker) (to_come (keeping_tags keep (at_start (scan limit p.front)))) = subst (λ es. GivesExactly es (to_come (keeping_tags keep (at_start (scan limit p.front))))) c.are_told (each p.front c.forest keep c.told promised) in
     subst (λ xs. GivesFirst first (to_come (keeping_tags keep (at_start (scan limit xs))))) (sym p.are_all) (gives_first keep c.marker (scan limit p.front) (scan limit (p.front ++ p.behind)) first hands_out given)

@@ -1,5 +1,5 @@
 -- Tokens up to a document marker's give the events up to and with its own, whatever follows.
-use Rattle.std.proofs.Common.{◌≡◌, ◌≢◌, Bool, List, [], ◌∷◌, ◌++◌, map, Option, Some, None, refl, sym, ap, ◌∙◌, subst, ◌⊎◌, inl, inr}
+use Rattle.std.proofs.Common.{◌≡◌, ◌≢◌, Bool, List, [], ◌∷◌, ◌++◌, map, Option, None, refl, sym, ap, ◌∙◌, subst, ◌⊎◌, inl, inr}
 use Rattle.std.proofs.lemmas.List.{append_assoc, append_cancel_right, append-nil, map-append}
 use Rattle.saphyr_scalar.specs.declared.scalar.position.Span.{Span}
 use Rattle.saphyr_scalar.specs.declared.scalar.fault.Refusal.{Refusal}
@@ -20,7 +20,7 @@ use Rattle.saphyr_parser.specs.More.{marker_token}
 use Rattle.saphyr_parser.proofs.Unroll.{unroll, over}
 use Rattle.saphyr_parser.proofs.Longer.{More, longer, IsLastOr, End, Awaits}
 use Rattle.saphyr_parser.proofs.LongerDocuments.{IsStart}
-use Rattle.saphyr_parser.proofs.CommonBeginnings.{or_last, behind_all, IsStopped, GoesOn, goes_on}
+use Rattle.saphyr_parser.proofs.CommonBeginnings.{or_last, IsStopped, GoesOn, goes_on}
 
 -- ## What follows the marker where the stream ends
 
@@ -112,7 +112,7 @@ closes keep w ts us x s e first is t =
     let m : Machine = start keep (ts ++ x ∷ []) None in
     let end : List Piece = record { span = s; kind = tokens.StreamEnd } ∷ [] in
     also_first (ended_by w us e) None first _ _ (goes_on (ended_by w us e) m (inl (last w us e ts x is)))
-        (first_told w s first _ _ (goes_on (ended_by w end None) m (inl (last w end None ts x is))) t)
+    (first_told w s first _ _ (goes_on (ended_by w end None) m (inl (last w end None ts x is))) t)
 
 -- Tokens end with a marker's and the end of the stream, and give exactly these events. Where others follow the marker's
 -- token, the events up to and with the marker's come first.
@@ -123,5 +123,5 @@ closed_tokens keep w ts us x y e first is ends g =
     let same : (vs : List Piece) → (ts ++ x ∷ []) ++ vs ≡ ts ++ x ∷ vs = λ vs. append_assoc ts (x ∷ []) vs in
     let the_end : y ≡ record { span = y.span; kind = tokens.StreamEnd } = ap (λ k. record { span = y.span; kind = k }) ends in
     let given : told_of (remaining (start keep ((ts ++ x ∷ []) ++ record { span = y.span; kind = tokens.StreamEnd } ∷ []) None)) ≡ first ++ behind_marker w =
-        ap (λ vs. told_of (remaining (start keep vs None))) (same _ ∙ ap (λ v. ts ++ x ∷ v ∷ []) (sym the_end)) ∙ g.1 in
+    ap (λ vs. told_of (remaining (start keep vs None))) (same _ ∙ ap (λ v. ts ++ x ∷ v ∷ []) (sym the_end)) ∙ g.1 in
     subst (λ vs. GivesFirst first (remaining (start keep vs e))) (same us) (closes keep w ts us x y.span e first is given)

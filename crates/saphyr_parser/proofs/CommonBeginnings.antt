@@ -45,9 +45,11 @@ step_given z m x e is = by (ended m.state)
     agreed : Agrees z m.tokens.refusal (step_at m.state m) (step_at m.state (longer z m)) ⊎ (IsStart m.state × IsPassed z m (step_at m.state)) → step_at m.state (longer z m) ≡ Ok (record x { machine = longer z x.machine })
     agreed (inl a) = same_result z m.tokens.refusal (step_at m.state m) _ x a is
     agreed (inr p) = let no = p.1.1 in absurd (cc)
+
     none : (s : State) → s ≡ state.End → step_at s m ≡ Ok x → ⊥
     none state.End y i = absurd (cc)
     none _ y i = absurd (cc)
+
     by : (m.state ≡ state.End) ⊎ (m.state ≢ state.End) → step_at m.state (longer z m) ≡ Ok (record x { machine = longer z x.machine })
     by (inl y) = absurd (none m.state y is)
     by (inr n) = agreed (steps_agree z m.state m n e)
@@ -106,9 +108,11 @@ first_step z m next i = by (ended m.state) i
   where
     r : Option Refusal
     r = m.tokens.refusal
+
     agreed : m.state ≢ state.End → Agrees z r (step_at m.state m) (step_at m.state (longer z m)) ⊎ (IsStart m.state × IsPassed z m (step_at m.state)) → GoesOn z r (deliver (step_at m.state m) remaining) (deliver (step_at m.state (longer z m)) remaining)
     agreed h (inl a) = delivers z r m (step_at m.state m) (step_at m.state (longer z m)) a (sym (unroll (longer z m) h)) next
     agreed h (inr p) = rw p.1.1 (inr (refl, (with_pieces [] m, inr (refl, inr (p.1.0, p.0)), ap (λ q. deliver q remaining) p.1.2 ∙ sym (unroll (longer z (with_pieces [] m)) h))))
+
     by : (m.state ≡ state.End) ⊎ (m.state ≢ state.End) → IsLeft z m → GoesOn z r (remaining m) (remaining (longer z m))
     by (inl e) k = inl (over (longer z m) e ∙ sym (over m e))
     by (inr h) (inl e) = as_before z r _ _ _ _ (unroll m h) (unroll (longer z m) h) (agreed h (steps_agree z m.state m h e))

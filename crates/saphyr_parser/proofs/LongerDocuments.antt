@@ -77,16 +77,16 @@ ends_passed z (t ∷ ts) m e = passes_at z t.kind t ts m e e (λ g. ends_passed 
 version_gives :
     (z : More) (b : Bool) (place : Marker) (ts us : List Piece) (d : Declared) (m : Machine) → ((d : Declared) → Gives z m.tokens.refusal (directives_from ts d m) (directives_from us d (longer z m)))
     → Gives z m.tokens.refusal
-        (((if b then Err (record { text = fault.DuplicateVersionDirective; mark = place }) else (let y : Result Declared Refusal = Ok (record { version = true; handles = d.handles }) in y)) >>= (λ e. let y : Result (Declared × Machine) Refusal = Ok (e, m) in y)) >>= (λ s. directives_from ts s.0 s.1))
-        (((if b then Err (record { text = fault.DuplicateVersionDirective; mark = place }) else (let y : Result Declared Refusal = Ok (record { version = true; handles = d.handles }) in y)) >>= (λ e. let y : Result (Declared × Machine) Refusal = Ok (e, longer z m) in y)) >>= (λ s. directives_from us s.0 s.1))
+    (((if b then Err (record { text = fault.DuplicateVersionDirective; mark = place }) else (let y : Result Declared Refusal = Ok (record { version = true; handles = d.handles }) in y)) >>= (λ e. let y : Result (Declared × Machine) Refusal = Ok (e, m) in y)) >>= (λ s. directives_from ts s.0 s.1))
+    (((if b then Err (record { text = fault.DuplicateVersionDirective; mark = place }) else (let y : Result Declared Refusal = Ok (record { version = true; handles = d.handles }) in y)) >>= (λ e. let y : Result (Declared × Machine) Refusal = Ok (e, longer z m) in y)) >>= (λ s. directives_from us s.0 s.1))
 version_gives z true place ts us d m go = inr refl
 version_gives z false place ts us d m go = go _
 
 tag_gives :
     (z : More) (b : Bool) (handle prefix : List ℕ) (place : Marker) (ts us : List Piece) (d : Declared) (m : Machine) → ((d : Declared) (m : Machine) → Gives z m.tokens.refusal (directives_from ts d m) (directives_from us d (longer z m)))
     → Gives z m.tokens.refusal
-        ((if b then Err (record { text = fault.DuplicateTagDirective; mark = place }) else (let y : Result (Declared × Machine) Refusal = Ok (record { version = d.version; handles = listed handle d.handles }, record m { prefixes = given handle prefix m.prefixes }) in y)) >>= (λ s. directives_from ts s.0 s.1))
-        ((if b then Err (record { text = fault.DuplicateTagDirective; mark = place }) else (let y : Result (Declared × Machine) Refusal = Ok (record { version = d.version; handles = listed handle d.handles }, record (longer z m) { prefixes = given handle prefix m.prefixes }) in y)) >>= (λ s. directives_from us s.0 s.1))
+    ((if b then Err (record { text = fault.DuplicateTagDirective; mark = place }) else (let y : Result (Declared × Machine) Refusal = Ok (record { version = d.version; handles = listed handle d.handles }, record m { prefixes = given handle prefix m.prefixes }) in y)) >>= (λ s. directives_from ts s.0 s.1))
+    ((if b then Err (record { text = fault.DuplicateTagDirective; mark = place }) else (let y : Result (Declared × Machine) Refusal = Ok (record { version = d.version; handles = listed handle d.handles }, record (longer z m) { prefixes = given handle prefix m.prefixes }) in y)) >>= (λ s. directives_from us s.0 s.1))
 tag_gives z true handle prefix place ts us d m go = inr refl
 tag_gives z false handle prefix place ts us d m go = go _ _
 
@@ -94,8 +94,8 @@ directive_gives :
     (z : More) (k : Kind) (t : Piece) (ts : List Piece) (d : Declared) (m : Machine) → End z (t ∷ ts) → IsLastOr z.marker (End z ts) ts k
     → (End z ts → (d : Declared) (m : Machine) → Gives z m.tokens.refusal (directives_from ts d m) (directives_from (ts ++ z.pieces) d (longer z m)))
     → Gives z m.tokens.refusal
-        (if is_directive k then directive_at k t d (with_pieces ts m) >>= (λ s. directives_from ts s.0 s.1) else Ok (t, with_pieces ts m))
-        (if is_directive k then directive_at k t d (longer z (with_pieces ts m)) >>= (λ s. directives_from (ts ++ z.pieces) s.0 s.1) else Ok (t, longer z (with_pieces ts m)))
+    (if is_directive k then directive_at k t d (with_pieces ts m) >>= (λ s. directives_from ts s.0 s.1) else Ok (t, with_pieces ts m))
+    (if is_directive k then directive_at k t d (longer z (with_pieces ts m)) >>= (λ s. directives_from (ts ++ z.pieces) s.0 s.1) else Ok (t, longer z (with_pieces ts m)))
 directive_gives z (tokens.VersionDirective major minor) t ts d m b e go = version_gives z d.version t.span.start ts (ts ++ z.pieces) d (with_pieces ts m) (λ c. go e c (with_pieces ts m))
 directive_gives z (tokens.TagDirective handle prefix) t ts d m b e go = tag_gives z (is_listed handle d.handles) handle prefix t.span.start ts (ts ++ z.pieces) d (with_pieces ts m) (go e)
 directive_gives z (tokens.ReservedDirective name) t ts d m b e go = go e d (with_pieces ts m)

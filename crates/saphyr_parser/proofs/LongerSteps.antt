@@ -1,5 +1,5 @@
 -- More tokens behind those of a machine change nothing of what a step gives: steps inside collections.
-use Rattle.std.proofs.Common.{◌≡◌, ◌∷◌, refl, inl, inr}
+use Rattle.std.proofs.Common.{◌∷◌, refl, inl, inr}
 use Rattle.saphyr_scalar.specs.declared.scalar.position.Marker.{Marker}
 use Rattle.saphyr_scalar.specs.declared.scalar.position.Span.{Span}
 use Rattle.saphyr_scanner.specs.Tokens as tokens
