@@ -4,15 +4,16 @@ use Rattle.std.proofs.Common.{◌≡◌, ℕ, ◌≤◌, Bool, true, false, List
 use Rattle.saphyr_input.specs.Breaks.{normalized}
 use Rattle.saphyr_scanner.specs.Forest.{Forest}
 use Rattle.saphyr_scanner.specs.Remaining.{scan}
-use Rattle.saphyr_scanner.specs.Seen.{Piece, Remaining}
+use Rattle.saphyr_scanner.specs.Seen.{Remaining}
 use Rattle.saphyr_scanner.specs.TokenGrammar.{Yields}
 use Rattle.saphyr_scanner.specs.Tokens as tokens
+use Rattle.saphyr_scanner.specs.Tokens.{Kind}
 use Rattle.saphyr_parser.specs.Events.{Happening}
 use Rattle.saphyr_parser.specs.Cursor.{at_start, keeping_tags, to_come}
 use Rattle.saphyr_parser.specs.Exactly.{GivesExactly, kinds}
 use Rattle.saphyr_parser.specs.More.{marker_token}
 use Rattle.saphyr_parser.specs.Premises.{Grammar, IsPromised, DocumentMarker, EndsWithMarker, GivesFirst, ReadsEach, ReadsClosed, behind_marker}
-use Rattle.saphyr_parser.proofs.ClosedTokens.{closed_tokens}
+use Rattle.saphyr_parser.proofs.ByKinds.{exactly_too, closed_kinds}
 
 -- ## A beginning of the normalized text is one of the text
 
@@ -66,14 +67,10 @@ parts (c ∷ cs) (x ∷ xs) others e = with_first c cs x xs others (c == 13) (sl
 
 -- The tokens end with the marker's and the end of the stream, and those that come with more text behind begin with all but this.
 pub record HandsOut (marker : DocumentMarker) (alone followed : Remaining) : Type 0 where
-  pub earlier : List Piece
-  pub last : Piece
-  pub end : Piece
-  pub more : List Piece
-  pub is_marker : last.kind ≡ marker_token marker
-  pub is_end : end.kind ≡ tokens.StreamEnd
-  pub ends : alone ≡ record { pieces = earlier ++ last ∷ end ∷ []; refusal = None }
-  pub begins : followed.pieces ≡ earlier ++ last ∷ more
+  pub earlier : List Kind
+  pub more : List Kind
+  pub ends : kinds alone.pieces ≡ earlier ++ marker_token marker ∷ tokens.StreamEnd ∷ []
+  pub begins : kinds followed.pieces ≡ earlier ++ marker_token marker ∷ more
 
 -- The text ends with the line of a marker, and its tokens are those of a forest. Other text stands behind, and the break between them is whole.
 abbrev pub HandsOutMarkers : (List ℕ → Type 0) → ℕ → Type 0
@@ -99,9 +96,7 @@ gives_first :
     (keep : Bool) (marker : DocumentMarker) (alone followed : Remaining) (first : List Happening) → HandsOut marker alone followed
     → GivesExactly (first ++ behind_marker marker) (to_come (keeping_tags keep (at_start alone))) → GivesFirst first (to_come (keeping_tags keep (at_start followed)))
 gives_first keep marker alone followed first h g =
-    let given : GivesExactly (first ++ behind_marker marker) (to_come (keeping_tags keep (at_start (record { pieces = h.earlier ++ h.last ∷ h.end ∷ []; refusal = None })))) =
-    subst (λ r. GivesExactly (first ++ behind_marker marker) (to_come (keeping_tags keep (at_start r)))) h.ends g in
-    subst (λ ts. GivesFirst first (to_come (keeping_tags keep (at_start (record { pieces = ts; refusal = followed.refusal }))))) (sym h.begins) (closed_tokens keep marker h.earlier h.more h.last h.end followed.refusal first h.is_marker h.is_end given)
+    closed_kinds keep marker h.earlier h.more alone.pieces followed first h.ends h.begins (exactly_too keep alone (record { pieces = alone.pieces; refusal = None }) (first ++ behind_marker marker) refl g)
 
 pub reads_closed : (G : Grammar) (IsTail : List ℕ → Type 0) (limit : ℕ) → SeesNormalized G → ((text : List ℕ) → ReadsEach G limit text (at_start (scan limit text))) → ScansEach G limit → HandsOutMarkers IsTail limit → (text : List ℕ) → ReadsClosed G IsTail limit text (at_start (scan limit text))
 reads_closed G IsTail limit sees each scans hands text keep first c =

@@ -59,7 +59,7 @@ abbrev ended_by : DocumentMarker → List Piece → Option Refusal → More
 ended_by w us e = record { Early = ⊥; marker = w; pieces = us; refusal = e }
 
 -- the events without their spans
-abbrev told_of : Answer → List Happening
+abbrev pub told_of : Answer → List Happening
 told_of a = map (λ (e : Happening × Span). e.0) a.events
 
 told_behind : (w : DocumentMarker) (s : Span) (k : Machine) → Awaits w k ⊎ ((w ≡ Ends) × IsStart k.state) → told_of (remaining (alone s k)) ≡ behind_marker w

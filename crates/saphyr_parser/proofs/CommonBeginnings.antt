@@ -30,7 +30,7 @@ early : (w : DocumentMarker) (us : List Piece) (e : Option Refusal) (ts : List P
 early w us e [] = tt
 early w us e (t ∷ ts) = or_last w _ ts t.kind (early w us e ts)
 
-ended : (s : State) → (s ≡ state.End) ⊎ (s ≢ state.End)
+pub ended : (s : State) → (s ≡ state.End) ⊎ (s ≢ state.End)
 ended state.End = inl refl
 ended _ = inr (λ e. absurd (cc))
 

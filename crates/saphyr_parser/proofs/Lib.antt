@@ -74,4 +74,8 @@ pub mod LongerSteps
 pub mod LongerDocuments
 pub mod CommonBeginnings
 pub mod ClosedTokens
+pub mod Placeless
+pub mod PlacelessSteps
+pub mod PlacelessDocuments
+pub mod ByKinds
 pub mod ClosedBeginnings

@@ -178,8 +178,14 @@ pub fn begins_alike()
     ensures parser { (tokens : Remaining) (more : List Piece) (refusal : Option Refusal) (keep : Bool) → BeginsAs (ending tokens.refusal) (to_come (keeping_tags keep (at_start tokens))) (to_come (keeping_tags keep (at_start (record { pieces = tokens.pieces ++ more; refusal = refusal })))) }
 {}
 
+/// The events of tokens, but for their spans, are decided by their kinds.
+pub fn tells_by_kinds()
+    ensures exactly { (keep : Bool) (one other : Remaining) (told : List Happening) → kinds one.pieces ≡ kinds other.pieces → GivesExactly told (to_come (keeping_tags keep (at_start one))) → GivesExactly told (to_come (keeping_tags keep (at_start other))) }
+    ensures first { (keep : Bool) (one other : Remaining) (told : List Happening) → kinds one.pieces ≡ kinds other.pieces → GivesFirst told (to_come (keeping_tags keep (at_start one))) → GivesFirst told (to_come (keeping_tags keep (at_start other))) }
+{}
+
 /// Tokens end with `---` or `...` and the end of the stream, and give exactly these events. Whatever stands
 /// behind that `---` or `...` in place of the stream's end, the events up to and with its own come first.
 pub fn closes_tokens()
-    ensures { (keep : Bool) (marker : DocumentMarker) (earlier more : List Piece) (last end : Piece) (refusal : Option Refusal) (first : List Happening) → last.kind ≡ marker_token marker → end.kind ≡ tokens.StreamEnd → GivesExactly (first ++ behind_marker marker) (told_by keep (earlier ++ last ∷ end ∷ [])) → GivesFirst first (to_come (keeping_tags keep (at_start (record { pieces = earlier ++ last ∷ more; refusal = refusal })))) }
+    ensures { (keep : Bool) (marker : DocumentMarker) (earlier more : List Kind) (alone : List Piece) (followed : Remaining) (first : List Happening) → kinds alone ≡ earlier ++ marker_token marker ∷ tokens.StreamEnd ∷ [] → kinds followed.pieces ≡ earlier ++ marker_token marker ∷ more → GivesExactly (first ++ behind_marker marker) (told_by keep alone) → GivesFirst first (to_come (keeping_tags keep (at_start followed))) }
 {}
