@@ -3,6 +3,8 @@ use Rattle.std.specs.Prelude.{◌==◌, slice_index}
 use Rattle.std.proofs.Common.{◌≡◌, ℕ, ◌≤◌, Bool, true, false, List, [], ◌∷◌, ◌++◌, length, None, refl, sym, ap, ◌∙◌, subst, arith, length-append}
 use Rattle.saphyr_input.specs.Breaks.{normalized}
 use Rattle.saphyr_scanner.specs.Forest.{Forest}
+use Rattle.saphyr_scalar.specs.Spaces.{IsLineRest}
+use Rattle.saphyr_scanner.specs.Layout.{most_open, IsLayout, IsLayoutText}
 use Rattle.saphyr_scanner.specs.Remaining.{scan}
 use Rattle.saphyr_scanner.specs.Seen.{Remaining}
 use Rattle.saphyr_scanner.specs.TokenGrammar.{Yields}
@@ -12,6 +14,7 @@ use Rattle.saphyr_parser.specs.Events.{Happening}
 use Rattle.saphyr_parser.specs.Cursor.{at_start, keeping_tags, to_come}
 use Rattle.saphyr_parser.specs.Exactly.{GivesExactly, kinds}
 use Rattle.saphyr_parser.specs.More.{marker_token}
+use Rattle.saphyr_parser.specs.Promises.{ReadsLayout, ReadsClosedLayout}
 use Rattle.saphyr_parser.specs.Premises.{Grammar, IsPromised, DocumentMarker, EndsWithMarker, GivesFirst, ReadsEach, ReadsClosed, behind_marker}
 use Rattle.saphyr_parser.proofs.ByKinds.{exactly_too, closed_kinds}
 
@@ -113,3 +116,7 @@ reads_closed G IsTail limit sees each scans hands text keep first c =
     let hands_out = hands c.marker of.1.0 p.front p.behind (subst (λ xs. EndsWithMarker IsTail c.marker xs) (sym p.is_front) c.ends) apart all_within of.0 of.1.1 in
     let given : GivesExactly (first ++ behind_marker c.marker) (to_come (keeping_tags keep (at_start (scan limit p.front)))) = subst (λ es. GivesExactly es (to_come (keeping_tags keep (at_start (scan limit p.front))))) c.are_told (each p.front c.forest keep c.told promised) in
     subst (λ xs. GivesFirst first (to_come (keeping_tags keep (at_start (scan limit xs))))) (sym p.are_all) (gives_first keep c.marker (scan limit p.front) (scan limit (p.front ++ p.behind)) first hands_out given)
+
+-- the same of the layout grammar
+pub reads_closed_layout : (limit : ℕ) → ((text : List ℕ) → ReadsLayout limit text (at_start (scan limit text))) → ScansEach (IsLayoutText most_open) limit → HandsOutMarkers IsLineRest limit → (text : List ℕ) → ReadsClosedLayout limit text (at_start (scan limit text))
+reads_closed_layout limit each scans hands text = reads_closed (IsLayoutText most_open) IsLineRest limit (λ forest xs ys e g. subst (IsLayout most_open forest) e g) each scans hands text
