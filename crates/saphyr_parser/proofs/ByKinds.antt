@@ -84,12 +84,16 @@ none_if : {X : Type 0} (o : Option X) → is_some o ≡ false → o ≡ None
 none_if None e = refl
 none_if (Some x) e = absurd (cc)
 
-pub exactly_too : (keep : Bool) (a b : Remaining) (es : List Happening) → kinds a.pieces ≡ kinds b.pieces → GivesExactly es (to_come (keeping_tags keep (at_start a))) → GivesExactly es (to_come (keeping_tags keep (at_start b)))
+pub exactly_too :
+    (keep : Bool) (a b : Remaining) (es : List Happening) → kinds a.pieces ≡ kinds b.pieces → GivesExactly es (to_come (keeping_tags keep (at_start a)))
+    → GivesExactly es (to_come (keeping_tags keep (at_start b)))
 exactly_too keep a b es e g =
     let same = alike keep a b e in
     (none_if (to_come (keeping_tags keep (at_start b))).fault (same.fault ∙ ap is_some g.0), same.told ∙ g.1)
 
-pub first_too : (keep : Bool) (a b : Remaining) (es : List Happening) → kinds a.pieces ≡ kinds b.pieces → GivesFirst es (to_come (keeping_tags keep (at_start a))) → GivesFirst es (to_come (keeping_tags keep (at_start b)))
+pub first_too :
+    (keep : Bool) (a b : Remaining) (es : List Happening) → kinds a.pieces ≡ kinds b.pieces → GivesFirst es (to_come (keeping_tags keep (at_start a)))
+    → GivesFirst es (to_come (keeping_tags keep (at_start b)))
 first_too keep a b es e g = (g.0, (alike keep a b e).told ∙ g.1)
 
 -- ## Closed beginnings
@@ -115,5 +119,7 @@ closed_kinds keep w earlier more alone followed first a f g =
     let end : Piece = piece_of tokens.StreamEnd in
     let ending : List Piece = map piece_of earlier ++ last ∷ end ∷ [] in
     let others : List Piece = map piece_of earlier ++ last ∷ map piece_of more in
-    let given = exactly_too keep (record { pieces = alone; refusal = None }) (record { pieces = ending; refusal = None }) (first ++ behind_marker w) (a ∙ sym (all_kinds earlier (marker_token w ∷ tokens.StreamEnd ∷ []))) g in
-    first_too keep (record { pieces = others; refusal = None }) followed first (all_kinds earlier (marker_token w ∷ more) ∙ sym f) (closed_tokens keep w (map piece_of earlier) (map piece_of more) last end None first refl refl given)
+    let given = exactly_too keep (record { pieces = alone; refusal = None }) (record { pieces = ending; refusal = None }) (first ++ behind_marker w)
+    (a ∙ sym (all_kinds earlier (marker_token w ∷ tokens.StreamEnd ∷ []))) g in
+    first_too keep (record { pieces = others; refusal = None }) followed first (all_kinds earlier (marker_token w ∷ more) ∙ sym f)
+    (closed_tokens keep w (map piece_of earlier) (map piece_of more) last end None first refl refl given)

@@ -55,11 +55,23 @@ with_first c cs x xs others false feed e f less same n =
     record { front = c ∷ p.front; behind = p.behind; are_all = ap (λ vs. c ∷ vs) p.are_all; is_front = no_return c p.front e ∙ (let own = p.is_front in cc); is_behind = p.is_behind }
 with_first c cs x xs others true true e f less same n =
     let p = same (sym (before_feed c cs e f) ∙ n) in
-    record { front = c ∷ p.front; behind = p.behind; are_all = ap (λ vs. c ∷ vs) p.are_all; is_front = before_feed c p.front e (feed_first x xs p.front p.behind cs p.are_all p.is_front f) ∙ p.is_front; is_behind = p.is_behind }
+    record {
+      front = c ∷ p.front;
+      behind = p.behind;
+      are_all = ap (λ vs. c ∷ vs) p.are_all;
+      is_front = before_feed c p.front e (feed_first x xs p.front p.behind cs p.are_all p.is_front f) ∙ p.is_front;
+      is_behind = p.is_behind;
+    }
 with_first c cs x xs others true false e f less same n =
     let all = sym (lone_return c cs e f) ∙ n in
     let p = less (cc) in
-    record { front = c ∷ p.front; behind = p.behind; are_all = ap (λ vs. c ∷ vs) p.are_all; is_front = lone_return c p.front e (no_feed p.front p.behind cs p.are_all f) ∙ (let own = p.is_front in cc); is_behind = p.is_behind }
+    record {
+      front = c ∷ p.front;
+      behind = p.behind;
+      are_all = ap (λ vs. c ∷ vs) p.are_all;
+      is_front = lone_return c p.front e (no_feed p.front p.behind cs p.are_all f) ∙ (let own = p.is_front in cc);
+      is_behind = p.is_behind;
+    }
 
 parts : (text xs others : List ℕ) → normalized text ≡ xs ++ others → Parts text xs others
 parts text [] others e = record { front = []; behind = text; are_all = refl; is_front = refl; is_behind = e }
@@ -91,7 +103,9 @@ SeesNormalized G = (forest : Forest) (xs ys : List ℕ) → normalized xs ≡ no
 
 -- ## The promise
 
-promised_of : (G : Grammar) (limit : ℕ) (keep : Bool) (forest : Forest) (xs ys : List ℕ) (told : List Happening) → SeesNormalized G → normalized xs ≡ normalized ys → length ys ≤ limit → IsPromised G limit keep forest xs told → IsPromised G limit keep forest ys told
+promised_of :
+    (G : Grammar) (limit : ℕ) (keep : Bool) (forest : Forest) (xs ys : List ℕ) (told : List Happening) → SeesNormalized G → normalized xs ≡ normalized ys → length ys ≤ limit
+    → IsPromised G limit keep forest xs told → IsPromised G limit keep forest ys told
 promised_of G limit keep forest xs ys told sees e l p =
     record { stands_for = sees forest xs ys e p.stands_for; within = l; has_events = p.has_events; agree = λ f g. p.agree f (sees f ys xs (sym e) g) }
 
@@ -99,9 +113,12 @@ gives_first :
     (keep : Bool) (marker : DocumentMarker) (alone followed : Remaining) (first : List Happening) → HandsOut marker alone followed
     → GivesExactly (first ++ behind_marker marker) (to_come (keeping_tags keep (at_start alone))) → GivesFirst first (to_come (keeping_tags keep (at_start followed)))
 gives_first keep marker alone followed first h g =
-    closed_kinds keep marker h.earlier h.more alone.pieces followed first h.ends h.begins (exactly_too keep alone (record { pieces = alone.pieces; refusal = None }) (first ++ behind_marker marker) refl g)
+    closed_kinds keep marker h.earlier h.more alone.pieces followed first h.ends h.begins
+    (exactly_too keep alone (record { pieces = alone.pieces; refusal = None }) (first ++ behind_marker marker) refl g)
 
-pub reads_closed : (G : Grammar) (IsTail : List ℕ → Type 0) (limit : ℕ) → SeesNormalized G → ((text : List ℕ) → ReadsEach G limit text (at_start (scan limit text))) → ScansEach G limit → HandsOutMarkers IsTail limit → (text : List ℕ) → ReadsClosed G IsTail limit text (at_start (scan limit text))
+pub reads_closed :
+    (G : Grammar) (IsTail : List ℕ → Type 0) (limit : ℕ) → SeesNormalized G → ((text : List ℕ) → ReadsEach G limit text (at_start (scan limit text))) → ScansEach G limit
+    → HandsOutMarkers IsTail limit → (text : List ℕ) → ReadsClosed G IsTail limit text (at_start (scan limit text))
 reads_closed G IsTail limit sees each scans hands text keep first c =
     let p = parts text (normalized c.front) c.others c.begins in
     let len = length-append p.front p.behind in
@@ -114,9 +131,13 @@ reads_closed G IsTail limit sees each scans hands text keep first c =
     let apart : normalized (p.front ++ p.behind) ≡ normalized p.front ++ normalized p.behind =
     ap normalized (sym p.are_all) ∙ c.begins ∙ ap (λ xs. xs ++ c.others) (sym p.is_front) ∙ ap (λ ys. normalized p.front ++ ys) (sym p.is_behind) in
     let hands_out = hands c.marker of.1.0 p.front p.behind (subst (λ xs. EndsWithMarker IsTail c.marker xs) (sym p.is_front) c.ends) apart all_within of.0 of.1.1 in
-    let given : GivesExactly (first ++ behind_marker c.marker) (to_come (keeping_tags keep (at_start (scan limit p.front)))) = subst (λ es. GivesExactly es (to_come (keeping_tags keep (at_start (scan limit p.front))))) c.are_told (each p.front c.forest keep c.told promised) in
-    subst (λ xs. GivesFirst first (to_come (keeping_tags keep (at_start (scan limit xs))))) (sym p.are_all) (gives_first keep c.marker (scan limit p.front) (scan limit (p.front ++ p.behind)) first hands_out given)
+    let given : GivesExactly (first ++ behind_marker c.marker) (to_come (keeping_tags keep (at_start (scan limit p.front)))) =
+    subst (λ es. GivesExactly es (to_come (keeping_tags keep (at_start (scan limit p.front))))) c.are_told (each p.front c.forest keep c.told promised) in
+    subst (λ xs. GivesFirst first (to_come (keeping_tags keep (at_start (scan limit xs))))) (sym p.are_all)
+    (gives_first keep c.marker (scan limit p.front) (scan limit (p.front ++ p.behind)) first hands_out given)
 
 -- the same of the layout grammar
-pub reads_closed_layout : (limit : ℕ) → ((text : List ℕ) → ReadsLayout limit text (at_start (scan limit text))) → ScansEach (IsLayoutText most_open) limit → HandsOutMarkers IsLineRest limit → (text : List ℕ) → ReadsClosedLayout limit text (at_start (scan limit text))
+pub reads_closed_layout :
+    (limit : ℕ) → ((text : List ℕ) → ReadsLayout limit text (at_start (scan limit text))) → ScansEach (IsLayoutText most_open) limit → HandsOutMarkers IsLineRest limit → (text : List ℕ)
+    → ReadsClosedLayout limit text (at_start (scan limit text))
 reads_closed_layout limit each scans hands text = reads_closed (IsLayoutText most_open) IsLineRest limit (λ forest xs ys e g. subst (IsLayout most_open forest) e g) each scans hands text

@@ -47,11 +47,14 @@ start_told s k i =
 abbrev in_document : List State → Machine → Machine
 in_document ss k = record k { state = state.DocumentContent; states = state.DocumentEnd ∷ ss }
 
-content_told : (s : Span) (ss : List State) (k : Machine) → remaining (alone s (in_document ss k)) ≡ record { events = (empty_scalar, s) ∷ (events.DocumentEnd, s) ∷ (events.StreamEnd, s) ∷ []; fault = None }
+content_told :
+    (s : Span) (ss : List State) (k : Machine)
+    → remaining (alone s (in_document ss k)) ≡ record { events = (empty_scalar, s) ∷ (events.DocumentEnd, s) ∷ (events.StreamEnd, s) ∷ []; fault = None }
 unfolding step document_content document_end behind_document
 content_told s ss k =
     unroll (alone s (in_document ss k)) (λ e. absurd (cc))
-    ∙ ap (before (empty_scalar, s)) (unroll (alone s (record k { state = state.DocumentEnd; states = ss })) (λ e. absurd (cc)) ∙ ap (before (events.DocumentEnd, s)) (start_told s (forget_prefixes (record k { state = state.DocumentStart; states = ss })) tt))
+    ∙ ap (before (empty_scalar, s)) (unroll (alone s (record k { state = state.DocumentEnd; states = ss })) (λ e. absurd (cc)) ∙ ap (before (events.DocumentEnd, s))
+    (start_told s (forget_prefixes (record k { state = state.DocumentStart; states = ss })) tt))
 
 -- ## The marker
 
@@ -70,7 +73,9 @@ told_behind w s k (inl (inr a)) =
     rw a.0 (ap told_of (ap (λ v. remaining (alone s v)) same ∙ content_told s ss k))
 told_behind w s k (inr a) = rw a.0 (ap told_of (start_told s k a.1))
 
-told_stopped : (w : DocumentMarker) (s : Span) (k : Machine) → IsStopped (ended_by w (record { span = s; kind = tokens.StreamEnd } ∷ []) None) k → told_of (remaining (longer (ended_by w (record { span = s; kind = tokens.StreamEnd } ∷ []) None) k)) ≡ behind_marker w
+told_stopped :
+    (w : DocumentMarker) (s : Span) (k : Machine) → IsStopped (ended_by w (record { span = s; kind = tokens.StreamEnd } ∷ []) None) k
+    → told_of (remaining (longer (ended_by w (record { span = s; kind = tokens.StreamEnd } ∷ []) None) k)) ≡ behind_marker w
 told_stopped w s k (inl h) = absurd h
 told_stopped w s k (inr a) =
     ap (λ ts. told_of (remaining (record k { tokens = record { pieces = ts ++ record { span = s; kind = tokens.StreamEnd } ∷ []; refusal = None } }))) a.0 ∙ told_behind w s k a.1
@@ -86,7 +91,9 @@ last w us e (t ∷ ts) x is = or_last w _ (ts ++ x ∷ []) t.kind (last w us e t
 -- ## Whatever follows
 
 -- what is told before the stream's end, where more tokens follow
-first_told : (w : DocumentMarker) (s : Span) (first : List Happening) (a b : Answer) → GoesOn (ended_by w (record { span = s; kind = tokens.StreamEnd } ∷ []) None) None a b → told_of b ≡ first ++ behind_marker w → GivesFirst first a
+first_told :
+    (w : DocumentMarker) (s : Span) (first : List Happening) (a b : Answer) → GoesOn (ended_by w (record { span = s; kind = tokens.StreamEnd } ∷ []) None) None a b
+    → told_of b ≡ first ++ behind_marker w → GivesFirst first a
 first_told w s first a b (inl e) t = (behind_marker w, ap told_of (sym e) ∙ t)
 first_told w s first a b (inr g) t =
     let behind : Answer = remaining (longer (ended_by w (record { span = s; kind = tokens.StreamEnd } ∷ []) None) g.1.0) in

@@ -42,7 +42,9 @@ step_given : (z : More) (m : Machine) (x : Told) → End z m.tokens.pieces → s
 unfolding step
 step_given z m x e is = by (ended m.state)
   where
-    agreed : Agrees z m.tokens.refusal (step_at m.state m) (step_at m.state (longer z m)) ⊎ (IsStart m.state × IsPassed z m (step_at m.state)) → step_at m.state (longer z m) ≡ Ok (record x { machine = longer z x.machine })
+    agreed :
+        Agrees z m.tokens.refusal (step_at m.state m) (step_at m.state (longer z m)) ⊎ (IsStart m.state × IsPassed z m (step_at m.state))
+        → step_at m.state (longer z m) ≡ Ok (record x { machine = longer z x.machine })
     agreed (inl a) = same_result z m.tokens.refusal (step_at m.state m) _ x a is
     agreed (inr p) = let no = p.1.1 in absurd (cc)
 
@@ -92,7 +94,10 @@ passed_from ts m go e = rw e refl
 none_taken : (ts : List Piece) (m : Machine) (go : Piece × Machine → Result Told Refusal) → ts ≡ [] → (take_from ts m >>= go) ≡ Err (ending m.tokens.refusal)
 none_taken ts m go e = rw e refl
 
-awaits_at : (w : DocumentMarker) (s : State) (m : Machine) → m.tokens.pieces ≡ [] → ((w ≡ Ends) × (s ≡ state.ImplicitDocumentStart)) ⊎ ((w ≡ Starts) × (s ≡ state.DocumentContent) × ((ss : List State) × (m.states ≡ state.DocumentEnd ∷ ss))) → step_at s m ≡ Err (ending m.tokens.refusal)
+awaits_at :
+    (w : DocumentMarker) (s : State) (m : Machine) → m.tokens.pieces ≡ []
+    → ((w ≡ Ends) × (s ≡ state.ImplicitDocumentStart)) ⊎ ((w ≡ Starts) × (s ≡ state.DocumentContent) × ((ss : List State) × (m.states ≡ state.DocumentEnd ∷ ss)))
+    → step_at s m ≡ Err (ending m.tokens.refusal)
 unfolding implicit_start pass document_content
 awaits_at w state.ImplicitDocumentStart m e a = passed_from m.tokens.pieces m _ e
 awaits_at w state.DocumentContent m e a = none_taken m.tokens.pieces m _ e
@@ -109,14 +114,17 @@ first_step z m next i = by (ended m.state) i
     r : Option Refusal
     r = m.tokens.refusal
 
-    agreed : m.state ≢ state.End → Agrees z r (step_at m.state m) (step_at m.state (longer z m)) ⊎ (IsStart m.state × IsPassed z m (step_at m.state)) → GoesOn z r (deliver (step_at m.state m) remaining) (deliver (step_at m.state (longer z m)) remaining)
+    agreed :
+        m.state ≢ state.End → Agrees z r (step_at m.state m) (step_at m.state (longer z m)) ⊎ (IsStart m.state × IsPassed z m (step_at m.state))
+        → GoesOn z r (deliver (step_at m.state m) remaining) (deliver (step_at m.state (longer z m)) remaining)
     agreed h (inl a) = delivers z r m (step_at m.state m) (step_at m.state (longer z m)) a (sym (unroll (longer z m) h)) next
     agreed h (inr p) = rw p.1.1 (inr (refl, (with_pieces [] m, inr (refl, inr (p.1.0, p.0)), ap (λ q. deliver q remaining) p.1.2 ∙ sym (unroll (longer z (with_pieces [] m)) h))))
 
     by : (m.state ≡ state.End) ⊎ (m.state ≢ state.End) → IsLeft z m → GoesOn z r (remaining m) (remaining (longer z m))
     by (inl e) k = inl (over (longer z m) e ∙ sym (over m e))
     by (inr h) (inl e) = as_before z r _ _ _ _ (unroll m h) (unroll (longer z m) h) (agreed h (steps_agree z m.state m h e))
-    by (inr h) (inr k) = as_before z r _ (failed (ending_of (ending r))) _ _ (unroll m h ∙ ap (λ q. deliver q remaining) (awaits_at z.marker m.state m k.0 k.1)) refl (inr (refl, (m, inr (k.0, inl k.1), refl)))
+    by (inr h) (inr k) =
+        as_before z r _ (failed (ending_of (ending r))) _ _ (unroll m h ∙ ap (λ q. deliver q remaining) (awaits_at z.marker m.state m k.0 k.1)) refl (inr (refl, (m, inr (k.0, inl k.1), refl)))
 
 runs : (n : ℕ) (z : More) (m : Machine) → size m < n → IsLeft z m → GoesOn z m.tokens.refusal (remaining m) (remaining (longer z m))
 runs zero z m l i = absurd (omega (arith, l))

@@ -71,7 +71,9 @@ pub taken :
     → Agrees z m.tokens.refusal (take m >>= go) (take (longer z m) >>= go)
 taken z m go b h = taken_from z m.tokens.pieces m go b h
 
-tells_popped : (z : More) (what : Happening) (s : Span) (ss : List State) (m : Machine) → End z m.tokens.pieces → Agrees z m.tokens.refusal (told what s (popped ss m)) (told what s (popped ss (longer z m)))
+tells_popped :
+    (z : More) (what : Happening) (s : Span) (ss : List State) (m : Machine) → End z m.tokens.pieces
+    → Agrees z m.tokens.refusal (told what s (popped ss m)) (told what s (popped ss (longer z m)))
 tells_popped z what s [] m b = (inl b, refl, refl)
 tells_popped z what s (x ∷ ss) m b = (inl b, refl, refl)
 
@@ -93,7 +95,9 @@ goes_on z o (Err f) go ho h = inr refl
 without_agrees : (z : More) (q : Properties) (t : Piece) (m : Machine) → End z (t ∷ m.tokens.pieces) → Agrees z m.tokens.refusal (without_content q t m) (without_content q t (longer z m))
 without_agrees z q t m b = either z m.tokens.refusal (has_property q) _ _ _ _ (tells_end z _ _ (put_back t m) b) (inr refl)
 
-content_agrees : (z : More) (k : Kind) (q : Properties) (c : Context) (t : Piece) (m : Machine) → End z (t ∷ m.tokens.pieces) → EndBehind z k m → Agrees z m.tokens.refusal (content_at k q c t m) (content_at k q c t (longer z m))
+content_agrees :
+    (z : More) (k : Kind) (q : Properties) (c : Context) (t : Piece) (m : Machine) → End z (t ∷ m.tokens.pieces) → EndBehind z k m
+    → Agrees z m.tokens.refusal (content_at k q c t m) (content_at k q c t (longer z m))
 content_agrees z (tokens.Scalar style text) q c t m b f = tells_end z _ _ m f
 content_agrees z tokens.FlowSequenceStart q c t m b f = (inl f, refl, refl)
 content_agrees z tokens.FlowMappingStart q c t m b f = (inl f, refl, refl)
@@ -116,7 +120,9 @@ alias_agrees : (z : More) (o : Option ℕ) (s : Span) (m : Machine) → End z m.
 alias_agrees z None s m b = inr refl
 alias_agrees z (Some id) s m b = tells_end z _ _ m b
 
-behind_anchor_agrees : (z : More) (k : Kind) (id : ℕ) (s : Span) (c : Context) (t : Piece) (m : Machine) → End z (t ∷ m.tokens.pieces) → EndBehind z k m → Agrees z m.tokens.refusal (behind_anchor_at k id s c t m) (behind_anchor_at k id s c t (longer z m))
+behind_anchor_agrees :
+    (z : More) (k : Kind) (id : ℕ) (s : Span) (c : Context) (t : Piece) (m : Machine) → End z (t ∷ m.tokens.pieces) → EndBehind z k m
+    → Agrees z m.tokens.refusal (behind_anchor_at k id s c t m) (behind_anchor_at k id s c t (longer z m))
 unfolding content
 behind_anchor_agrees z (tokens.Tag handle suffix) id s c t m b f = goes_on z m.tokens.refusal (resolved m.prefixes handle suffix s.start) _ _ (λ v. next_agrees z _ c m f)
 behind_anchor_agrees z _ id s c t m b f = content_agrees z t.kind _ c t m b b
@@ -125,16 +131,20 @@ anchor_agrees : (z : More) (name : List ℕ) (s : Span) (c : Context) (m : Machi
 unfolding behind_anchor
 anchor_agrees z name s c m b = taken z (register name m) _ b (λ t us e. behind_anchor_agrees z t.kind _ s c t (with_pieces us (register name m)) e e)
 
-behind_tag_agrees : (z : More) (k : Kind) (v : ResolvedTag) (s : Span) (c : Context) (t : Piece) (m : Machine) → End z (t ∷ m.tokens.pieces) → EndBehind z k m → Agrees z m.tokens.refusal (behind_tag_at k v s c t m) (behind_tag_at k v s c t (longer z m))
+behind_tag_agrees :
+    (z : More) (k : Kind) (v : ResolvedTag) (s : Span) (c : Context) (t : Piece) (m : Machine) → End z (t ∷ m.tokens.pieces) → EndBehind z k m
+    → Agrees z m.tokens.refusal (behind_tag_at k v s c t m) (behind_tag_at k v s c t (longer z m))
 unfolding content
 behind_tag_agrees z (tokens.Anchor name) v s c t m b f = next_agrees z _ c (register name m) f
 behind_tag_agrees z _ v s c t m b f = content_agrees z t.kind _ c t m b b
 
-node_at_agrees : (z : More) (k : Kind) (c : Context) (t : Piece) (m : Machine) → End z (t ∷ m.tokens.pieces) → EndBehind z k m → Agrees z m.tokens.refusal (node_at k c t m) (node_at k c t (longer z m))
+node_at_agrees :
+    (z : More) (k : Kind) (c : Context) (t : Piece) (m : Machine) → End z (t ∷ m.tokens.pieces) → EndBehind z k m → Agrees z m.tokens.refusal (node_at k c t m) (node_at k c t (longer z m))
 unfolding alias behind_tag content
 node_at_agrees z (tokens.Alias name) c t m b f = alias_agrees z (meaning name m.anchors.ids) t.span m f
 node_at_agrees z (tokens.Anchor name) c t m b f = anchor_agrees z name t.span c m f
-node_at_agrees z (tokens.Tag handle suffix) c t m b f = goes_on z m.tokens.refusal (resolved m.prefixes handle suffix t.span.start) _ _ (λ v. taken z m _ f (λ u us e. behind_tag_agrees z u.kind v t.span c u (with_pieces us m) e e))
+node_at_agrees z (tokens.Tag handle suffix) c t m b f =
+    goes_on z m.tokens.refusal (resolved m.prefixes handle suffix t.span.start) _ _ (λ v. taken z m _ f (λ u us e. behind_tag_agrees z u.kind v t.span c u (with_pieces us m) e e))
 node_at_agrees z _ c t m b f = content_agrees z t.kind _ c t m b b
 
 pub node_agrees : (z : More) (c : Context) (t : Piece) (m : Machine) → End z (t ∷ m.tokens.pieces) → Agrees z m.tokens.refusal (node c t m) (node c t (longer z m))

@@ -48,7 +48,8 @@ marks_passed z (t ∷ ts) m e = by (is_mark t.kind) refl (λ g. marks_passed z t
   where
     by :
         (b : Bool) → is_mark t.kind ≡ b → (End z ts → Gives z m.tokens.refusal (pass_from is_mark ts (with_pieces ts m)) (pass_from is_mark (ts ++ z.pieces) (longer z (with_pieces ts m))))
-        → Gives z m.tokens.refusal (if b then pass_from is_mark ts (with_pieces ts m) else Ok (t, with_pieces ts m)) (if b then pass_from is_mark (ts ++ z.pieces) (longer z (with_pieces ts m)) else Ok (t, longer z (with_pieces ts m)))
+        → Gives z m.tokens.refusal (if b then pass_from is_mark ts (with_pieces ts m) else Ok (t, with_pieces ts m))
+        (if b then pass_from is_mark (ts ++ z.pieces) (longer z (with_pieces ts m)) else Ok (t, longer z (with_pieces ts m)))
     by true y go = go (behind_mark z t.kind ts y e)
     by false y go = (e, refl, refl)
 
@@ -62,7 +63,8 @@ Passes z m p q = Gives z m.tokens.refusal p q ⊎ ArePassed z m p q
 passes_at :
     (z : More) (k : Kind) (t : Piece) (ts : List Piece) (m : Machine) → IsLastOr z.marker (End z ts) ts k → End z (t ∷ ts)
     → (End z ts → Passes z m (pass_from is_end_or_mark ts (with_pieces ts m)) (pass_from is_end_or_mark (ts ++ z.pieces) (longer z (with_pieces ts m))))
-    → Passes z m (if is_end_or_mark k then pass_from is_end_or_mark ts (with_pieces ts m) else Ok (t, with_pieces ts m)) (if is_end_or_mark k then pass_from is_end_or_mark (ts ++ z.pieces) (longer z (with_pieces ts m)) else Ok (t, longer z (with_pieces ts m)))
+    → Passes z m (if is_end_or_mark k then pass_from is_end_or_mark ts (with_pieces ts m) else Ok (t, with_pieces ts m))
+    (if is_end_or_mark k then pass_from is_end_or_mark (ts ++ z.pieces) (longer z (with_pieces ts m)) else Ok (t, longer z (with_pieces ts m)))
 passes_at z tokens.DocumentEnd t ts m (inl e) b go = inr (e.0, rw e.1 refl, rw e.1 refl)
 passes_at z tokens.DocumentEnd t ts m (inr f) b go = go f
 passes_at z tokens.ByteOrderMark t ts m f b go = go f
@@ -77,16 +79,23 @@ ends_passed z (t ∷ ts) m e = passes_at z t.kind t ts m e e (λ g. ends_passed 
 version_gives :
     (z : More) (b : Bool) (place : Marker) (ts us : List Piece) (d : Declared) (m : Machine) → ((d : Declared) → Gives z m.tokens.refusal (directives_from ts d m) (directives_from us d (longer z m)))
     → Gives z m.tokens.refusal
-    (((if b then Err (record { text = fault.DuplicateVersionDirective; mark = place }) else (let y : Result Declared Refusal = Ok (record { version = true; handles = d.handles }) in y)) >>= (λ e. let y : Result (Declared × Machine) Refusal = Ok (e, m) in y)) >>= (λ s. directives_from ts s.0 s.1))
-    (((if b then Err (record { text = fault.DuplicateVersionDirective; mark = place }) else (let y : Result Declared Refusal = Ok (record { version = true; handles = d.handles }) in y)) >>= (λ e. let y : Result (Declared × Machine) Refusal = Ok (e, longer z m) in y)) >>= (λ s. directives_from us s.0 s.1))
+    (((if b then Err (record { text = fault.DuplicateVersionDirective; mark = place }) else (let y : Result Declared Refusal = Ok (record { version = true; handles = d.handles }) in y))
+    >>= (λ e. let y : Result (Declared × Machine) Refusal = Ok (e, m) in y)) >>= (λ s. directives_from ts s.0 s.1))
+    (((if b then Err (record { text = fault.DuplicateVersionDirective; mark = place }) else (let y : Result Declared Refusal = Ok (record { version = true; handles = d.handles }) in y))
+    >>= (λ e. let y : Result (Declared × Machine) Refusal = Ok (e, longer z m) in y)) >>= (λ s. directives_from us s.0 s.1))
 version_gives z true place ts us d m go = inr refl
 version_gives z false place ts us d m go = go _
 
 tag_gives :
-    (z : More) (b : Bool) (handle prefix : List ℕ) (place : Marker) (ts us : List Piece) (d : Declared) (m : Machine) → ((d : Declared) (m : Machine) → Gives z m.tokens.refusal (directives_from ts d m) (directives_from us d (longer z m)))
+    (z : More) (b : Bool) (handle prefix : List ℕ) (place : Marker) (ts us : List Piece) (d : Declared) (m : Machine)
+    → ((d : Declared) (m : Machine) → Gives z m.tokens.refusal (directives_from ts d m) (directives_from us d (longer z m)))
     → Gives z m.tokens.refusal
-    ((if b then Err (record { text = fault.DuplicateTagDirective; mark = place }) else (let y : Result (Declared × Machine) Refusal = Ok (record { version = d.version; handles = listed handle d.handles }, record m { prefixes = given handle prefix m.prefixes }) in y)) >>= (λ s. directives_from ts s.0 s.1))
-    ((if b then Err (record { text = fault.DuplicateTagDirective; mark = place }) else (let y : Result (Declared × Machine) Refusal = Ok (record { version = d.version; handles = listed handle d.handles }, record (longer z m) { prefixes = given handle prefix m.prefixes }) in y)) >>= (λ s. directives_from us s.0 s.1))
+    ((if b then Err (record { text = fault.DuplicateTagDirective; mark = place })
+    else (let y : Result (Declared × Machine) Refusal = Ok
+    (record { version = d.version; handles = listed handle d.handles }, record m { prefixes = given handle prefix m.prefixes }) in y)) >>= (λ s. directives_from ts s.0 s.1))
+    ((if b then Err (record { text = fault.DuplicateTagDirective; mark = place })
+    else (let y : Result (Declared × Machine) Refusal = Ok
+    (record { version = d.version; handles = listed handle d.handles }, record (longer z m) { prefixes = given handle prefix m.prefixes }) in y)) >>= (λ s. directives_from us s.0 s.1))
 tag_gives z true handle prefix place ts us d m go = inr refl
 tag_gives z false handle prefix place ts us d m go = go _ _
 
@@ -124,7 +133,9 @@ explicit_at_agrees z _ t m b = inr refl
 explicit_agrees : (z : More) (t : Piece) (m : Machine) → End z (t ∷ m.tokens.pieces) → Agrees z m.tokens.refusal (explicit_document t m) (explicit_document t (longer z m))
 unfolding explicit_document directives
 explicit_agrees z t m b =
-    goes_on z m.tokens.refusal (directives_from (t ∷ m.tokens.pieces) none_declared (put_back t m)) (directives_from ((t ∷ m.tokens.pieces) ++ z.pieces) none_declared (longer z (put_back t m))) _ (directives_give z (t ∷ m.tokens.pieces) b none_declared (put_back t m)) (λ u k c. explicit_at_agrees z u.kind u k c)
+    goes_on z m.tokens.refusal (directives_from (t ∷ m.tokens.pieces) none_declared (put_back t m))
+    (directives_from ((t ∷ m.tokens.pieces) ++ z.pieces) none_declared (longer z (put_back t m))) _ (directives_give z (t ∷ m.tokens.pieces) b none_declared (put_back t m))
+    (λ u k c. explicit_at_agrees z u.kind u k c)
 
 implicit_at : (z : More) (k : Kind) (t : Piece) (m : Machine) → End z (t ∷ m.tokens.pieces) → EndBehind z k m → Agrees z m.tokens.refusal (implicit_start_at k t m) (implicit_start_at k t (longer z m))
 unfolding bare_document
@@ -146,7 +157,8 @@ IsPassed z m go = (z.marker ≡ Ends) × (go m ≡ Err (ending m.tokens.refusal)
 passing :
     (z : More) (m : Machine) (p q : Result (Piece × Machine) Refusal) (go : Piece × Machine → Result Told Refusal) → Passes z m p q
     → ((t : Piece) (k : Machine) → End z (t ∷ k.tokens.pieces) → Agrees z k.tokens.refusal (go (t, k)) (go (t, longer z k)))
-    → Agrees z m.tokens.refusal (p >>= go) (q >>= go) ⊎ ((z.marker ≡ Ends) × (p >>= go ≡ Err (ending m.tokens.refusal)) × (q >>= go ≡ pass_from is_end_or_mark z.pieces (longer z (with_pieces [] m)) >>= go))
+    → Agrees z m.tokens.refusal (p >>= go) (q >>= go)
+    ⊎ ((z.marker ≡ Ends) × (p >>= go ≡ Err (ending m.tokens.refusal)) × (q >>= go ≡ pass_from is_end_or_mark z.pieces (longer z (with_pieces [] m)) >>= go))
 passing z m p q go (inl g) h = inl (goes_on z m.tokens.refusal p q go g h)
 passing z m p q go (inr e) h = inr (e.0, rw e.1 refl, rw e.2 refl)
 
@@ -178,7 +190,9 @@ block_node_agrees : (z : More) (m : Machine) → End z m.tokens.pieces → Agree
 unfolding block_node
 block_node_agrees z m f = taken z m _ f (λ t us b. node_agrees z Block t (with_pieces us m) b)
 
-marks_at : (z : More) (k : Kind) (place : Marker) (t : Piece) (m : Machine) → End z (t ∷ m.tokens.pieces) → Gives z m.tokens.refusal (behind_marks_at k place t m) (behind_marks_at k place t (longer z m))
+marks_at :
+    (z : More) (k : Kind) (place : Marker) (t : Piece) (m : Machine) → End z (t ∷ m.tokens.pieces)
+    → Gives z m.tokens.refusal (behind_marks_at k place t m) (behind_marks_at k place t (longer z m))
 marks_at z tokens.DocumentStart place t m b = (b, refl, refl)
 marks_at z tokens.DocumentEnd place t m b = (b, refl, refl)
 marks_at z tokens.StreamEnd place t m b = (b, refl, refl)
@@ -188,11 +202,15 @@ marks_give : (z : More) (place : Marker) (m : Machine) → End z m.tokens.pieces
 unfolding behind_marks pass
 marks_give z place m f = gives_on z m.tokens.refusal _ _ _ (marks_passed z m.tokens.pieces m f) (λ t k b. marks_at z t.kind place t k b)
 
-document_at : (z : More) (k : Kind) (t : Piece) (m : Machine) → End z (t ∷ m.tokens.pieces) → EndBehind z k m → Gives z m.tokens.refusal (behind_document_at k t m) (behind_document_at k t (longer z m))
+document_at :
+    (z : More) (k : Kind) (t : Piece) (m : Machine) → End z (t ∷ m.tokens.pieces) → EndBehind z k m
+    → Gives z m.tokens.refusal (behind_document_at k t m) (behind_document_at k t (longer z m))
 document_at z tokens.ByteOrderMark t m b f = marks_give z t.span.start m f
 document_at z _ t m b f = (b, refl, refl)
 
-document_from : (z : More) (ts : List Piece) (m : Machine) → End z ts → Gives z m.tokens.refusal (take_from ts m >>= (λ t. behind_document_at t.0.kind t.0 t.1)) (take_from (ts ++ z.pieces) (longer z m) >>= (λ t. behind_document_at t.0.kind t.0 t.1))
+document_from :
+    (z : More) (ts : List Piece) (m : Machine) → End z ts
+    → Gives z m.tokens.refusal (take_from ts m >>= (λ t. behind_document_at t.0.kind t.0 t.1)) (take_from (ts ++ z.pieces) (longer z m) >>= (λ t. behind_document_at t.0.kind t.0 t.1))
 document_from z [] m e = inl (e, refl)
 document_from z (t ∷ ts) m e = document_at z t.kind t (with_pieces ts m) e e
 
@@ -224,7 +242,8 @@ start_passed : {A B : Type 0} → A ⊎ B → A ⊎ (Unit {0} × B)
 start_passed (inl a) = inl a
 start_passed (inr b) = inr (tt, b)
 
-pub steps_agree : (z : More) (s : State) (m : Machine) → s ≢ state.End → End z m.tokens.pieces → Agrees z m.tokens.refusal (step_at s m) (step_at s (longer z m)) ⊎ (IsStart s × IsPassed z m (step_at s))
+pub steps_agree :
+    (z : More) (s : State) (m : Machine) → s ≢ state.End → End z m.tokens.pieces → Agrees z m.tokens.refusal (step_at s m) (step_at s (longer z m)) ⊎ (IsStart s × IsPassed z m (step_at s))
 steps_agree z state.StreamStart m n e = inl (stream_agrees z m e)
 steps_agree z state.ImplicitDocumentStart m n e = start_passed (implicit_agrees z m e)
 steps_agree z state.DocumentStart m n e = start_passed (start_agrees z m e)

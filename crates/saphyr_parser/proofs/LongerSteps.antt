@@ -17,7 +17,9 @@ use Rattle.saphyr_parser.proofs.Longer.{More, longer, End, EndBehind, Agrees, ta
 enters : (z : More) (s : State) (c : Context) (t : Piece) (m : Machine) → End z (t ∷ m.tokens.pieces) → Agrees z m.tokens.refusal (inside s c t m) (inside s c t (longer z m))
 enters z s c t m b = node_agrees z c t (push s m) b
 
-sequence_node_at : (z : More) (k : Kind) (s : Span) (t : Piece) (m : Machine) → End z (t ∷ m.tokens.pieces) → EndBehind z k m → Agrees z m.tokens.refusal (block.sequence_node_at k s t m) (block.sequence_node_at k s t (longer z m))
+sequence_node_at :
+    (z : More) (k : Kind) (s : Span) (t : Piece) (m : Machine) → End z (t ∷ m.tokens.pieces) → EndBehind z k m
+    → Agrees z m.tokens.refusal (block.sequence_node_at k s t m) (block.sequence_node_at k s t (longer z m))
 sequence_node_at z tokens.BlockEntry s t m b f = (inl b, refl, refl)
 sequence_node_at z tokens.BlockEnd s t m b f = (inl b, refl, refl)
 sequence_node_at z _ s t m b f = enters z _ Block t m b
@@ -26,7 +28,9 @@ pub sequence_node : (z : More) (s : Span) (m : Machine) → End z m.tokens.piece
 unfolding block.sequence_node
 sequence_node z s m f = taken z m _ f (λ t us b. sequence_node_at z t.kind s t (with_pieces us m) b b)
 
-sequence_entry_at : (z : More) (k : Kind) (t : Piece) (m : Machine) → End z (t ∷ m.tokens.pieces) → EndBehind z k m → Agrees z m.tokens.refusal (block.sequence_entry_at k t m) (block.sequence_entry_at k t (longer z m))
+sequence_entry_at :
+    (z : More) (k : Kind) (t : Piece) (m : Machine) → End z (t ∷ m.tokens.pieces) → EndBehind z k m
+    → Agrees z m.tokens.refusal (block.sequence_entry_at k t m) (block.sequence_entry_at k t (longer z m))
 sequence_entry_at z tokens.BlockEnd t m b f = tells_end z _ _ m f
 sequence_entry_at z tokens.BlockEntry t m b f = sequence_node z t.span m f
 sequence_entry_at z _ t m b f = inr refl
@@ -35,7 +39,9 @@ pub sequence_entry : (z : More) (m : Machine) → End z m.tokens.pieces → Agre
 unfolding block.sequence_entry
 sequence_entry z m f = taken z m _ f (λ t us b. sequence_entry_at z t.kind t (with_pieces us m) b b)
 
-indentless_node_at : (z : More) (k : Kind) (s : Span) (t : Piece) (m : Machine) → End z (t ∷ m.tokens.pieces) → EndBehind z k m → Agrees z m.tokens.refusal (block.indentless_node_at k s t m) (block.indentless_node_at k s t (longer z m))
+indentless_node_at :
+    (z : More) (k : Kind) (s : Span) (t : Piece) (m : Machine) → End z (t ∷ m.tokens.pieces) → EndBehind z k m
+    → Agrees z m.tokens.refusal (block.indentless_node_at k s t m) (block.indentless_node_at k s t (longer z m))
 indentless_node_at z tokens.BlockEntry s t m b f = (inl b, refl, refl)
 indentless_node_at z tokens.Key s t m b f = (inl b, refl, refl)
 indentless_node_at z tokens.Value s t m b f = (inl b, refl, refl)
@@ -46,7 +52,9 @@ pub indentless_node : (z : More) (s : Span) (m : Machine) → End z m.tokens.pie
 unfolding block.indentless_node
 indentless_node z s m f = taken z m _ f (λ t us b. indentless_node_at z t.kind s t (with_pieces us m) b b)
 
-indentless_entry_at : (z : More) (k : Kind) (t : Piece) (m : Machine) → End z (t ∷ m.tokens.pieces) → EndBehind z k m → Agrees z m.tokens.refusal (block.indentless_entry_at k t m) (block.indentless_entry_at k t (longer z m))
+indentless_entry_at :
+    (z : More) (k : Kind) (t : Piece) (m : Machine) → End z (t ∷ m.tokens.pieces) → EndBehind z k m
+    → Agrees z m.tokens.refusal (block.indentless_entry_at k t m) (block.indentless_entry_at k t (longer z m))
 indentless_entry_at z tokens.BlockEntry t m b f = indentless_node z t.span m f
 indentless_entry_at z _ t m b f = tells_end z _ _ (put_back t m) b
 
@@ -54,7 +62,8 @@ pub indentless_entry : (z : More) (m : Machine) → End z m.tokens.pieces → Ag
 unfolding block.indentless_entry
 indentless_entry z m f = taken z m _ f (λ t us b. indentless_entry_at z t.kind t (with_pieces us m) b b)
 
-block_key_at : (z : More) (k : Kind) (t : Piece) (m : Machine) → End z (t ∷ m.tokens.pieces) → EndBehind z k m → Agrees z m.tokens.refusal (block.key_node_at k t m) (block.key_node_at k t (longer z m))
+block_key_at :
+    (z : More) (k : Kind) (t : Piece) (m : Machine) → End z (t ∷ m.tokens.pieces) → EndBehind z k m → Agrees z m.tokens.refusal (block.key_node_at k t m) (block.key_node_at k t (longer z m))
 block_key_at z tokens.Key t m b f = (inl b, refl, refl)
 block_key_at z tokens.Value t m b f = (inl b, refl, refl)
 block_key_at z tokens.BlockEnd t m b f = (inl b, refl, refl)
@@ -64,7 +73,9 @@ pub block_key : (z : More) (m : Machine) → End z m.tokens.pieces → Agrees z 
 unfolding block.key_node
 block_key z m f = taken z m _ f (λ t us b. block_key_at z t.kind t (with_pieces us m) b b)
 
-mapping_key_at : (z : More) (k : Kind) (t : Piece) (m : Machine) → End z (t ∷ m.tokens.pieces) → EndBehind z k m → Agrees z m.tokens.refusal (block.mapping_key_at k t m) (block.mapping_key_at k t (longer z m))
+mapping_key_at :
+    (z : More) (k : Kind) (t : Piece) (m : Machine) → End z (t ∷ m.tokens.pieces) → EndBehind z k m
+    → Agrees z m.tokens.refusal (block.mapping_key_at k t m) (block.mapping_key_at k t (longer z m))
 mapping_key_at z tokens.Key t m b f = block_key z m f
 mapping_key_at z tokens.Value t m b f = (inl b, refl, refl)
 mapping_key_at z tokens.BlockEnd t m b f = tells_end z _ _ m f
@@ -74,7 +85,9 @@ pub mapping_key : (z : More) (m : Machine) → End z m.tokens.pieces → Agrees 
 unfolding block.mapping_key
 mapping_key z m f = taken z m _ f (λ t us b. mapping_key_at z t.kind t (with_pieces us m) b b)
 
-block_value_at : (z : More) (k : Kind) (s : Span) (t : Piece) (m : Machine) → End z (t ∷ m.tokens.pieces) → EndBehind z k m → Agrees z m.tokens.refusal (block.value_node_at k s t m) (block.value_node_at k s t (longer z m))
+block_value_at :
+    (z : More) (k : Kind) (s : Span) (t : Piece) (m : Machine) → End z (t ∷ m.tokens.pieces) → EndBehind z k m
+    → Agrees z m.tokens.refusal (block.value_node_at k s t m) (block.value_node_at k s t (longer z m))
 block_value_at z tokens.Key s t m b f = (inl b, refl, refl)
 block_value_at z tokens.Value s t m b f = (inl b, refl, refl)
 block_value_at z tokens.BlockEnd s t m b f = (inl b, refl, refl)
@@ -84,7 +97,9 @@ pub block_value : (z : More) (s : Span) (m : Machine) → End z m.tokens.pieces 
 unfolding block.value_node
 block_value z s m f = taken z m _ f (λ t us b. block_value_at z t.kind s t (with_pieces us m) b b)
 
-block_mapping_value_at : (z : More) (k : Kind) (t : Piece) (m : Machine) → End z (t ∷ m.tokens.pieces) → EndBehind z k m → Agrees z m.tokens.refusal (block.mapping_value_at k t m) (block.mapping_value_at k t (longer z m))
+block_mapping_value_at :
+    (z : More) (k : Kind) (t : Piece) (m : Machine) → End z (t ∷ m.tokens.pieces) → EndBehind z k m
+    → Agrees z m.tokens.refusal (block.mapping_value_at k t m) (block.mapping_value_at k t (longer z m))
 block_mapping_value_at z tokens.Value t m b f = block_value z t.span m f
 block_mapping_value_at z _ t m b f = (inl b, refl, refl)
 
@@ -101,7 +116,9 @@ pub first_entry : (z : More) (m : Machine) → End z m.tokens.pieces → Agrees 
 unfolding flow.first_entry
 first_entry z m f = taken z m _ f (λ t us b. first_entry_at z t.kind t (with_pieces us m) b b)
 
-other_entry_at : (z : More) (k : Kind) (t : Piece) (m : Machine) → End z (t ∷ m.tokens.pieces) → EndBehind z k m → Agrees z m.tokens.refusal (flow.other_entry_at k t m) (flow.other_entry_at k t (longer z m))
+other_entry_at :
+    (z : More) (k : Kind) (t : Piece) (m : Machine) → End z (t ∷ m.tokens.pieces) → EndBehind z k m
+    → Agrees z m.tokens.refusal (flow.other_entry_at k t m) (flow.other_entry_at k t (longer z m))
 other_entry_at z tokens.FlowSequenceEnd t m b f = tells_end z _ _ m f
 other_entry_at z tokens.FlowEntry t m b f = first_entry z m f
 other_entry_at z _ t m b f = inr refl
@@ -120,7 +137,9 @@ pub pair_key : (z : More) (m : Machine) → End z m.tokens.pieces → Agrees z m
 unfolding flow.pair_key
 pair_key z m f = taken z m _ f (λ t us b. pair_key_at z t.kind t (with_pieces us m) b b)
 
-pair_value_node_at : (z : More) (k : Kind) (t : Piece) (m : Machine) → End z (t ∷ m.tokens.pieces) → EndBehind z k m → Agrees z m.tokens.refusal (flow.pair_value_node_at k t m) (flow.pair_value_node_at k t (longer z m))
+pair_value_node_at :
+    (z : More) (k : Kind) (t : Piece) (m : Machine) → End z (t ∷ m.tokens.pieces) → EndBehind z k m
+    → Agrees z m.tokens.refusal (flow.pair_value_node_at k t m) (flow.pair_value_node_at k t (longer z m))
 pair_value_node_at z tokens.FlowEntry t m b f = (inl b, refl, refl)
 pair_value_node_at z tokens.FlowSequenceEnd t m b f = (inl b, refl, refl)
 pair_value_node_at z _ t m b f = enters z _ Flow t m b
@@ -129,7 +148,9 @@ pub pair_value_node : (z : More) (m : Machine) → End z m.tokens.pieces → Agr
 unfolding flow.pair_value_node
 pair_value_node z m f = taken z m _ f (λ t us b. pair_value_node_at z t.kind t (with_pieces us m) b b)
 
-pair_value_at : (z : More) (k : Kind) (t : Piece) (m : Machine) → End z (t ∷ m.tokens.pieces) → EndBehind z k m → Agrees z m.tokens.refusal (flow.pair_value_at k t m) (flow.pair_value_at k t (longer z m))
+pair_value_at :
+    (z : More) (k : Kind) (t : Piece) (m : Machine) → End z (t ∷ m.tokens.pieces) → EndBehind z k m
+    → Agrees z m.tokens.refusal (flow.pair_value_at k t m) (flow.pair_value_at k t (longer z m))
 pair_value_at z tokens.Value t m b f = pair_value_node z m f
 pair_value_at z _ t m b f = (inl b, refl, refl)
 
@@ -151,7 +172,9 @@ pub flow_key : (z : More) (m : Machine) → End z m.tokens.pieces → Agrees z m
 unfolding flow.key_node
 flow_key z m f = taken z m _ f (λ t us b. flow_key_at z t.kind t (with_pieces us m) b b)
 
-pair_at : (z : More) (k : Kind) (s : Span) (t : Piece) (m : Machine) → End z (t ∷ m.tokens.pieces) → EndBehind z k m → Agrees z m.tokens.refusal (flow.pair_at k s t m) (flow.pair_at k s t (longer z m))
+pair_at :
+    (z : More) (k : Kind) (s : Span) (t : Piece) (m : Machine) → End z (t ∷ m.tokens.pieces) → EndBehind z k m
+    → Agrees z m.tokens.refusal (flow.pair_at k s t m) (flow.pair_at k s t (longer z m))
 pair_at z tokens.Key s t m b f = flow_key z m f
 pair_at z tokens.Value s t m b f = (inl b, refl, refl)
 pair_at z tokens.FlowMappingEnd s t m b f = tells_end z _ _ m f
@@ -165,7 +188,9 @@ pub pair_behind_comma : (z : More) (s : Span) (m : Machine) → End z m.tokens.p
 unfolding flow.pair_behind_comma
 pair_behind_comma z s m f = taken z m _ f (λ t us b. pair_at z t.kind s t (with_pieces us m) b b)
 
-other_pair_at : (z : More) (k : Kind) (t : Piece) (m : Machine) → End z (t ∷ m.tokens.pieces) → EndBehind z k m → Agrees z m.tokens.refusal (flow.other_pair_at k t m) (flow.other_pair_at k t (longer z m))
+other_pair_at :
+    (z : More) (k : Kind) (t : Piece) (m : Machine) → End z (t ∷ m.tokens.pieces) → EndBehind z k m
+    → Agrees z m.tokens.refusal (flow.other_pair_at k t m) (flow.other_pair_at k t (longer z m))
 other_pair_at z tokens.FlowMappingEnd t m b f = tells_end z _ _ m f
 other_pair_at z tokens.FlowEntry t m b f = pair_behind_comma z t.span m f
 other_pair_at z _ t m b f = inr refl
@@ -174,7 +199,9 @@ pub other_pair : (z : More) (m : Machine) → End z m.tokens.pieces → Agrees z
 unfolding flow.other_pair
 other_pair z m f = taken z m _ f (λ t us b. other_pair_at z t.kind t (with_pieces us m) b b)
 
-flow_value_at : (z : More) (k : Kind) (s : Span) (t : Piece) (m : Machine) → End z (t ∷ m.tokens.pieces) → EndBehind z k m → Agrees z m.tokens.refusal (flow.value_node_at k s t m) (flow.value_node_at k s t (longer z m))
+flow_value_at :
+    (z : More) (k : Kind) (s : Span) (t : Piece) (m : Machine) → End z (t ∷ m.tokens.pieces) → EndBehind z k m
+    → Agrees z m.tokens.refusal (flow.value_node_at k s t m) (flow.value_node_at k s t (longer z m))
 flow_value_at z tokens.FlowEntry s t m b f = (inl b, refl, refl)
 flow_value_at z tokens.FlowMappingEnd s t m b f = (inl b, refl, refl)
 flow_value_at z _ s t m b f = enters z _ Flow t m b
@@ -183,7 +210,9 @@ pub flow_value : (z : More) (s : Span) (m : Machine) → End z m.tokens.pieces �
 unfolding flow.value_node
 flow_value z s m f = taken z m _ f (λ t us b. flow_value_at z t.kind s t (with_pieces us m) b b)
 
-flow_mapping_value_at : (z : More) (k : Kind) (t : Piece) (m : Machine) → End z (t ∷ m.tokens.pieces) → EndBehind z k m → Agrees z m.tokens.refusal (flow.mapping_value_at k t m) (flow.mapping_value_at k t (longer z m))
+flow_mapping_value_at :
+    (z : More) (k : Kind) (t : Piece) (m : Machine) → End z (t ∷ m.tokens.pieces) → EndBehind z k m
+    → Agrees z m.tokens.refusal (flow.mapping_value_at k t m) (flow.mapping_value_at k t (longer z m))
 flow_mapping_value_at z tokens.Value t m b f = flow_value z t.span m f
 flow_mapping_value_at z _ t m b f = (inl b, refl, refl)
 

@@ -42,11 +42,16 @@ abbrev pub Same : Result Told Refusal → Result Told Refusal → Type 0
 Same (Ok x) q = q ≡ Ok (record { what = x.what; span = no_span; machine = placeless x.machine })
 Same (Err f) q = (g : Refusal) × (q ≡ Err g)
 
-taken_from : (ts : List Piece) (m : Machine) (go ho : Piece × Machine → Result Told Refusal) → ((t : Piece) (us : List Piece) → Same (go (t, with_pieces us m)) (ho (placeless_piece t, placeless (with_pieces us m)))) → Same (take_from ts m >>= go) (take_from (map placeless_piece ts) (placeless m) >>= ho)
+taken_from :
+    (ts : List Piece) (m : Machine) (go ho : Piece × Machine → Result Told Refusal)
+    → ((t : Piece) (us : List Piece) → Same (go (t, with_pieces us m)) (ho (placeless_piece t, placeless (with_pieces us m))))
+    → Same (take_from ts m >>= go) (take_from (map placeless_piece ts) (placeless m) >>= ho)
 taken_from [] m go ho h = (_, refl)
 taken_from (t ∷ ts) m go ho h = h t ts
 
-pub taken : (m : Machine) (go ho : Piece × Machine → Result Told Refusal) → ((t : Piece) (us : List Piece) → Same (go (t, with_pieces us m)) (ho (placeless_piece t, placeless (with_pieces us m)))) → Same (take m >>= go) (take (placeless m) >>= ho)
+pub taken :
+    (m : Machine) (go ho : Piece × Machine → Result Told Refusal) → ((t : Piece) (us : List Piece) → Same (go (t, with_pieces us m)) (ho (placeless_piece t, placeless (with_pieces us m))))
+    → Same (take m >>= go) (take (placeless m) >>= ho)
 taken m go ho h = taken_from m.tokens.pieces m go ho h
 
 tells_popped : (what : Happening) (s : Span) (ss : List State) (m : Machine) → Same (told what s (popped ss m)) (told what no_span (popped (map placeless_state ss) (placeless m)))
@@ -81,13 +86,18 @@ same_or None r q h = h
 same_or (Some x) r q h = refl
 
 same_undeclared : (handle : List ℕ) (x y : Marker) → SameValue (undeclared handle x) (undeclared handle y)
-same_undeclared handle x y = same_if (bytes_eq handle (codes "!!")) (Ok (codes "tag:yaml.org,2002:")) _ _ _ refl (same_if (is_named handle) (Err (record { text = fault.UndeclaredHandle; mark = x })) (Ok handle) _ _ (_, refl) refl)
+same_undeclared handle x y =
+    same_if (bytes_eq handle (codes "!!")) (Ok (codes "tag:yaml.org,2002:")) _ _ _ refl
+    (same_if (is_named handle) (Err (record { text = fault.UndeclaredHandle; mark = x })) (Ok handle) _ _ (_, refl) refl)
 
 same_prefix : (names : Names (List ℕ)) (handle : List ℕ) (x y : Marker) → SameValue (prefix_of names handle x) (prefix_of names handle y)
 unfolding prefix_of
 same_prefix names handle x y = same_if (nat_eq (length handle) 0) (Ok handle) _ _ _ refl (same_or (meaning handle names) (undeclared handle x) (undeclared handle y) (same_undeclared handle x y))
 
-with_suffix : (r q : Result (List ℕ) Refusal) (suffix : List ℕ) → SameValue r q → SameValue (r >>= (λ prefix. let x : Result ResolvedTag Refusal = Ok (record { handle = prefix; suffix = suffix }) in x)) (q >>= (λ prefix. let x : Result ResolvedTag Refusal = Ok (record { handle = prefix; suffix = suffix }) in x))
+with_suffix :
+    (r q : Result (List ℕ) Refusal) (suffix : List ℕ) → SameValue r q
+    → SameValue (r >>= (λ prefix. let x : Result ResolvedTag Refusal = Ok (record { handle = prefix; suffix = suffix }) in x))
+    (q >>= (λ prefix. let x : Result ResolvedTag Refusal = Ok (record { handle = prefix; suffix = suffix }) in x))
 with_suffix (Ok v) q suffix e = rw e refl
 with_suffix (Err f) q suffix e = (e.0, rw e.1 refl)
 
@@ -128,7 +138,8 @@ alias_same (Some id) s m = tells_end _ no_span m
 
 behind_anchor_same : (k : Kind) (id : ℕ) (s : Span) (c : Context) (t : Piece) (m : Machine) → Same (behind_anchor_at k id s c t m) (behind_anchor_at k id no_span c (placeless_piece t) (placeless m))
 unfolding content
-behind_anchor_same (tokens.Tag handle suffix) id s c t m = goes_on (resolved m.prefixes handle suffix s.start) (resolved m.prefixes handle suffix no_place) _ _ (same_tag m.prefixes handle suffix s.start no_place) (λ v. next_same _ c m)
+behind_anchor_same (tokens.Tag handle suffix) id s c t m =
+    goes_on (resolved m.prefixes handle suffix s.start) (resolved m.prefixes handle suffix no_place) _ _ (same_tag m.prefixes handle suffix s.start no_place) (λ v. next_same _ c m)
 behind_anchor_same _ id s c t m = content_same t.kind _ c t m
 
 anchor_same : (name : List ℕ) (s : Span) (c : Context) (m : Machine) → Same (behind_anchor name s c m) (behind_anchor name no_span c (placeless m))
@@ -145,7 +156,8 @@ unfolding alias behind_tag content
 node_at_same (tokens.Alias name) c t m = alias_same (meaning name m.anchors.ids) t.span m
 node_at_same (tokens.Anchor name) c t m = anchor_same name t.span c m
 node_at_same (tokens.Tag handle suffix) c t m =
-    goes_on (resolved m.prefixes handle suffix t.span.start) (resolved m.prefixes handle suffix no_place) _ _ (same_tag m.prefixes handle suffix t.span.start no_place) (λ v. taken m _ _ (λ u us. behind_tag_same u.kind v t.span c u (with_pieces us m)))
+    goes_on (resolved m.prefixes handle suffix t.span.start) (resolved m.prefixes handle suffix no_place) _ _ (same_tag m.prefixes handle suffix t.span.start no_place)
+    (λ v. taken m _ _ (λ u us. behind_tag_same u.kind v t.span c u (with_pieces us m)))
 node_at_same _ c t m = content_same t.kind _ c t m
 
 pub node_same : (c : Context) (t : Piece) (m : Machine) → Same (node c t m) (node c (placeless_piece t) (placeless m))

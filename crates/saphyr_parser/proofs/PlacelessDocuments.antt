@@ -23,11 +23,15 @@ abbrev SameToken : Result (Piece × Machine) Refusal → Result (Piece × Machin
 SameToken (Ok x) q = q ≡ Ok (placeless_piece x.0, placeless x.1)
 SameToken (Err f) q = (g : Refusal) × (q ≡ Err g)
 
-goes_on : (p q : Result (Piece × Machine) Refusal) (go ho : Piece × Machine → Result Told Refusal) → SameToken p q → ((t : Piece) (k : Machine) → Same (go (t, k)) (ho (placeless_piece t, placeless k))) → Same (p >>= go) (q >>= ho)
+goes_on :
+    (p q : Result (Piece × Machine) Refusal) (go ho : Piece × Machine → Result Told Refusal) → SameToken p q
+    → ((t : Piece) (k : Machine) → Same (go (t, k)) (ho (placeless_piece t, placeless k))) → Same (p >>= go) (q >>= ho)
 goes_on (Ok x) q go ho e h = rw e (h x.0 x.1)
 goes_on (Err f) q go ho e h = (e.0, rw e.1 refl)
 
-gives_on : (p q : Result (Piece × Machine) Refusal) (go ho : Piece × Machine → Result (Piece × Machine) Refusal) → SameToken p q → ((t : Piece) (k : Machine) → SameToken (go (t, k)) (ho (placeless_piece t, placeless k))) → SameToken (p >>= go) (q >>= ho)
+gives_on :
+    (p q : Result (Piece × Machine) Refusal) (go ho : Piece × Machine → Result (Piece × Machine) Refusal) → SameToken p q
+    → ((t : Piece) (k : Machine) → SameToken (go (t, k)) (ho (placeless_piece t, placeless k))) → SameToken (p >>= go) (q >>= ho)
 gives_on (Ok x) q go ho e h = rw e (h x.0 x.1)
 gives_on (Err f) q go ho e h = (e.0, rw e.1 refl)
 
@@ -48,16 +52,20 @@ SameDeclared (Err f) q = (g : Refusal) × (q ≡ Err g)
 version_same :
     (b : Bool) (x y : Marker) (d : Declared) (m : Machine)
     → SameDeclared
-    ((if b then Err (record { text = fault.DuplicateVersionDirective; mark = x }) else (let v : Result Declared Refusal = Ok (record { version = true; handles = d.handles }) in v)) >>= (λ e. let v : Result (Declared × Machine) Refusal = Ok (e, m) in v))
-    ((if b then Err (record { text = fault.DuplicateVersionDirective; mark = y }) else (let v : Result Declared Refusal = Ok (record { version = true; handles = d.handles }) in v)) >>= (λ e. let v : Result (Declared × Machine) Refusal = Ok (e, placeless m) in v))
+    ((if b then Err (record { text = fault.DuplicateVersionDirective; mark = x }) else (let v : Result Declared Refusal = Ok (record { version = true; handles = d.handles }) in v))
+    >>= (λ e. let v : Result (Declared × Machine) Refusal = Ok (e, m) in v))
+    ((if b then Err (record { text = fault.DuplicateVersionDirective; mark = y }) else (let v : Result Declared Refusal = Ok (record { version = true; handles = d.handles }) in v))
+    >>= (λ e. let v : Result (Declared × Machine) Refusal = Ok (e, placeless m) in v))
 version_same true x y d m = (_, refl)
 version_same false x y d m = refl
 
 tag_same :
     (b : Bool) (handle prefix : List ℕ) (x y : Marker) (d : Declared) (m : Machine)
     → SameDeclared
-    (if b then Err (record { text = fault.DuplicateTagDirective; mark = x }) else Ok (record { version = d.version; handles = listed handle d.handles }, record m { prefixes = given handle prefix m.prefixes }))
-    (if b then Err (record { text = fault.DuplicateTagDirective; mark = y }) else Ok (record { version = d.version; handles = listed handle d.handles }, record (placeless m) { prefixes = given handle prefix m.prefixes }))
+    (if b then Err (record { text = fault.DuplicateTagDirective; mark = x }) else Ok
+    (record { version = d.version; handles = listed handle d.handles }, record m { prefixes = given handle prefix m.prefixes }))
+    (if b then Err (record { text = fault.DuplicateTagDirective; mark = y }) else Ok
+    (record { version = d.version; handles = listed handle d.handles }, record (placeless m) { prefixes = given handle prefix m.prefixes }))
 tag_same true handle prefix x y d m = (_, refl)
 tag_same false handle prefix x y d m = refl
 
@@ -66,7 +74,9 @@ directive_same (tokens.VersionDirective major minor) t d m = version_same d.vers
 directive_same (tokens.TagDirective handle prefix) t d m = tag_same (is_listed handle d.handles) handle prefix t.span.start no_place d m
 directive_same _ t d m = refl
 
-declared_on : (p q : Result (Declared × Machine) Refusal) (go ho : Declared × Machine → Result (Piece × Machine) Refusal) → SameDeclared p q → ((d : Declared) (k : Machine) → SameToken (go (d, k)) (ho (d, placeless k))) → SameToken (p >>= go) (q >>= ho)
+declared_on :
+    (p q : Result (Declared × Machine) Refusal) (go ho : Declared × Machine → Result (Piece × Machine) Refusal) → SameDeclared p q
+    → ((d : Declared) (k : Machine) → SameToken (go (d, k)) (ho (d, placeless k))) → SameToken (p >>= go) (q >>= ho)
 declared_on (Ok x) q go ho e h = rw e (h x.0 x.1)
 declared_on (Err f) q go ho e h = (e.0, rw e.1 refl)
 
@@ -74,7 +84,8 @@ directives_same : (ts : List Piece) (d : Declared) (m : Machine) → SameToken (
 directives_same [] d m = (_, refl)
 directives_same (t ∷ ts) d m =
     if_passed (is_directive t.kind) (directive_at t.kind t d (with_pieces ts m) >>= (λ s. directives_from ts s.0 s.1)) (Ok (t, with_pieces ts m)) _ _
-    (declared_on (directive_at t.kind t d (with_pieces ts m)) (directive_at t.kind (placeless_piece t) d (placeless (with_pieces ts m))) _ _ (directive_same t.kind t d (with_pieces ts m)) (λ e k. directives_same ts e k)) refl
+    (declared_on (directive_at t.kind t d (with_pieces ts m)) (directive_at t.kind (placeless_piece t) d (placeless (with_pieces ts m))) _ _ (directive_same t.kind t d (with_pieces ts m))
+    (λ e k. directives_same ts e k)) refl
 
 -- ## The beginnings of the stream and of documents
 
@@ -94,7 +105,8 @@ explicit_at_same _ t m = (_, refl)
 explicit_same : (t : Piece) (m : Machine) → Same (explicit_document t m) (explicit_document (placeless_piece t) (placeless m))
 unfolding explicit_document directives
 explicit_same t m =
-    goes_on (directives_from (t ∷ m.tokens.pieces) none_declared (put_back t m)) (directives_from (map placeless_piece (t ∷ m.tokens.pieces)) none_declared (placeless (put_back t m))) _ _ (directives_same (t ∷ m.tokens.pieces) none_declared (put_back t m)) (λ u k. explicit_at_same u.kind u k)
+    goes_on (directives_from (t ∷ m.tokens.pieces) none_declared (put_back t m)) (directives_from (map placeless_piece (t ∷ m.tokens.pieces)) none_declared (placeless (put_back t m))) _ _
+    (directives_same (t ∷ m.tokens.pieces) none_declared (put_back t m)) (λ u k. explicit_at_same u.kind u k)
 
 implicit_at : (k : Kind) (t : Piece) (m : Machine) → Same (implicit_start_at k t m) (implicit_start_at k (placeless_piece t) (placeless m))
 unfolding bare_document
@@ -151,7 +163,9 @@ document_at : (k : Kind) (t : Piece) (m : Machine) → SameToken (behind_documen
 document_at tokens.ByteOrderMark t m = marks_same t.span.start m
 document_at _ t m = refl
 
-document_from : (ts : List Piece) (m : Machine) → SameToken (take_from ts m >>= (λ t. behind_document_at t.0.kind t.0 t.1)) (take_from (map placeless_piece ts) (placeless m) >>= (λ t. behind_document_at t.0.kind t.0 t.1))
+document_from :
+    (ts : List Piece) (m : Machine)
+    → SameToken (take_from ts m >>= (λ t. behind_document_at t.0.kind t.0 t.1)) (take_from (map placeless_piece ts) (placeless m) >>= (λ t. behind_document_at t.0.kind t.0 t.1))
 document_from [] m = (_, refl)
 document_from (t ∷ ts) m = document_at t.kind t (with_pieces ts m)
 
