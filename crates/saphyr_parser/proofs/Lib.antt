@@ -79,3 +79,4 @@ pub mod PlacelessSteps
 pub mod PlacelessDocuments
 pub mod ByKinds
 pub mod ClosedBeginnings
+pub mod ReadsEachText

@@ -1,0 +1,33 @@
+-- A parser gives exactly the events of each text of a grammar whose tokens are those of its forests.
+use Rattle.std.proofs.Common.{◌≡◌, ◌+◌, ◌*◌, ◌≤◌, ◌<◌, ◌^◌, ℕ, List, length, sym, subst, arith}
+use Rattle.std.proofs.lemmas.List.{length-map}
+use Rattle.saphyr_scanner.specs.Forest.{Forest}
+use Rattle.saphyr_scanner.specs.Remaining.{Scans, scan}
+use Rattle.saphyr_scanner.specs.Seen.{Piece}
+use Rattle.saphyr_scanner.specs.TokenGrammar.{Yields}
+use Rattle.saphyr_scanner.specs.Tokens.{Kind}
+use Rattle.saphyr_parser.specs.Anchors.{anchors}
+use Rattle.saphyr_parser.specs.Preorder.{parts}
+use Rattle.saphyr_parser.specs.Cursor.{Cursor, at_start, keeping_tags, to_come}
+use Rattle.saphyr_parser.specs.Exactly.{GivesExactly, kinds}
+use Rattle.saphyr_parser.specs.Premises.{Grammar, ReadsEach}
+use Rattle.saphyr_parser.proofs.AnchorCount.{forest_count}
+use Rattle.saphyr_parser.proofs.Complete.{each_parsed}
+
+-- the tokens of each text within the limit are those of each of its forests
+abbrev pub ScansForests : Grammar → ℕ → Type 0
+ScansForests G limit = (forest : Forest) (text : List ℕ) → G forest text → length text ≤ limit → (tokens : List Kind) × Yields forest tokens × Scans tokens (scan limit text)
+
+pub few_anchors : (forest : Forest) (limit : ℕ) (text : List ℕ) → Yields forest (kinds (scan limit text).pieces) → length (scan limit text).pieces ≤ 5 * limit + 10 → limit ≤ 4294967295 → anchors (parts forest) < 2 ^ 64
+few_anchors forest limit text yields bound most =
+    let count = forest_count forest (kinds (scan limit text).pieces) yields in
+    let same = length-map (scan limit text).pieces (λ (t : Piece). t.kind) in
+    omega (arith, count, same, bound, most)
+
+pub reads_each_text : (G : Grammar) (limit : ℕ) → limit ≤ 4294967295 → ((text : List ℕ) → length (scan limit text).pieces ≤ 5 * limit + 10) → ScansForests G limit
+    → (text : List ℕ) (c : Cursor) → c ≡ at_start (scan limit text) → ReadsEach G limit text c
+reads_each_text G limit most bound scans text c is forest keep told promised =
+    let scanned = scans forest text promised.stands_for promised.within in
+    let yields = subst (Yields forest) (sym scanned.2.1) scanned.1 in
+    subst (λ (x : Cursor). GivesExactly told (to_come (keeping_tags keep x))) (sym is)
+    (each_parsed forest keep (scan limit text) told yields scanned.2.0 (few_anchors forest limit text yields (bound text) most) promised.has_events)
