@@ -2,8 +2,9 @@
 use Rattle.std.proofs.Common.{◌≡◌, ℕ, ◌+◌, ◌<◌, ◌≤◌, Bool, true, false, List, [], ◌∷◌, ◌++◌, length, slice_index, Ok, refl, sym, ap, ◌∙◌, arith, subst, cond}
 use Rattle.std.specs.Prelude.{Option, None}
 use Rattle.saphyr_input.specs.declared.input.SkipTabs.{SkipTabs}
+use Rattle.saphyr_input.specs.declared.input.SkipTabs.TheVariants.{Yes}
 use Rattle.saphyr_scalar.specs.declared.scalar.position.Marker.{Marker}
-use Rattle.saphyr_scalar.specs.Cursor.{Cursor, ◌>>=◌, along}
+use Rattle.saphyr_scalar.specs.Cursor.{Cursor, ◌>>=◌, along, separation}
 use Rattle.saphyr_scanner.specs.declared.engine.level.Context.{Context}
 use Rattle.saphyr_scanner.specs.declared.engine.level.Context.TheVariants as context
 use Rattle.saphyr_scanner.specs.Tokens as tokens
@@ -23,17 +24,18 @@ place_of a b kind = closed (record { span = record { start = a; end = b }; kind 
 
 -- ## An opening bracket
 
-starts : (y : Context) (kind : Kind) (n : ℕ) (s : Cursor) (x : Context) (k : Option Candidate) (ls : List Level) (a : Bool) (ad : ℕ)
+pub starts : (y : Context) (kind : Kind) (n : ℕ) (s : Cursor) (x : Context) (k : Option Candidate) (ls : List Level) (a : Bool) (ad : ℕ)
     → flow.start y kind n (core_at false s x k ls a ad) ≡ open_collection y kind (core_at false s x (saved a n s.mark k) ls a ad)
 unfolding flow.start
 starts y kind n s x k ls a ad = ap (λ (c : Core). open_collection y kind (go_deeper c)) (saves_key n s x k ls a ad) ∙ ap (open_collection y kind) (goes_deeper s x (saved a n s.mark k) ls a ad)
 
-opens : (y : Context) (kind : Kind) (ch : ℕ) (r : List ℕ) (m : Marker) (b : Bool) (x : Context) (k : Option Candidate) (ls : List Level) (a : Bool) (ad : ℕ) (p : Separates (cursor_at r (along m 1) false)) → length ls < 255
-    → open_collection y kind (core_at false (cursor_at (ch ∷ r) m b) x k ls a ad) ≡ went (from_to m p.there.mark kind ∷ []) (core_at false p.there y None (level_of x k ∷ ls) true ad)
+pub opens : (y : Context) (kind : Kind) (ch : ℕ) (r : List ℕ) (m : Marker) (b : Bool) (x : Context) (k : Option Candidate) (ls : List Level) (a : Bool) (ad : ℕ) (found : SkipTabs) (there : Cursor)
+    → separation Yes (cursor_at r (along m 1) false) ≡ Ok (found, there) → length ls < 255
+    → open_collection y kind (core_at false (cursor_at (ch ∷ r) m b) x k ls a ad) ≡ went (from_to m there.mark kind ∷ []) (core_at false there y None (level_of x k ∷ ls) true ad)
 unfolding open_collection
-opens y kind ch r m b x k ls a ad p low =
+opens y kind ch r m b x k ls a ad found there is low =
     let c = core_at false (cursor_at r (along m 1) false) y None (level_of x k ∷ ls) true ad in
-    rw (not_full (length ls) low) (ap (λ q. (q >>= λ (d : SkipTabs × Cursor). Ok (d.0, with_cursor d.1 c)) >>= λ (d : SkipTabs × Core). went (up_to_here m kind d.1 ∷ []) d.1) p.is)
+    rw (not_full (length ls) low) (ap (λ q. (q >>= λ (d : SkipTabs × Cursor). Ok (d.0, with_cursor d.1 c)) >>= λ (d : SkipTabs × Core). went (up_to_here m kind d.1 ∷ []) d.1) is)
 
 pub low_index : (s : Cursor) (n limit : ℕ) → total s ≡ n → n ≤ limit → s.mark.index ≤ limit
 low_index s n limit e h = omega (arith, e, h)
@@ -54,7 +56,7 @@ open_passes limit n below y kind ch r o content clean begins s x k ls a ad ps co
     let counted : total p.there ≡ n = further v.mark ch r n (total p.there) (v.count ∙ count) p.count in
     let c = core_at false (cursor_at (ch ∷ r) v.mark v.blank) x v.key ls v.allowed ad in
     let stepped = begins (slice_index r 0) (length ps) c ∙ starts y kind (length ps) (cursor_at (ch ∷ r) v.mark v.blank) x v.key ls v.allowed ad
-    ∙ opens y kind ch r v.mark v.blank x key ls v.allowed ad p low in
+    ∙ opens y kind ch r v.mark v.blank x key ls v.allowed ad p.found p.there p.is low in
     let came = one limit s x k ls a ad ps (ch ∷ r) v content p.there y None (level_of x key ∷ ls) true ad (ps ++ place_of v.mark p.there.mark kind ∷ []) (from_to v.mark p.there.mark kind ∷ []) stepped refl (low_index p.there n limit counted below) in
     (key, once true true ad p.there ps (place_of v.mark p.there.mark kind ∷ []) o (kind ∷ []) came (p.rest ∙ follows) counted refl (λ _. refl))
 
@@ -65,13 +67,14 @@ behind : (b : Bool) (s : Cursor) (x : Context) (k : Option Candidate) (ls : List
 behind true s x k ls ad = refl
 behind false s x k ls ad = refl
 
-closes : (kind : Kind) (ch : ℕ) (r : List ℕ) (m : Marker) (b : Bool) (y : Context) (k j : Option Candidate) (x : Context) (ls : List Level) (a : Bool) (ad : ℕ) (p : Separates (cursor_at r (along m 1) false))
-    → close_collection false kind (core_at false (cursor_at (ch ∷ r) m b) y k (level_of x j ∷ ls) a ad) ≡ went (from_to m p.there.mark kind ∷ []) (core_at false p.there x j ls false (cond (is_block x) ad p.there.mark.index))
+pub closes : (ends : Bool) (kind : Kind) (ch : ℕ) (r : List ℕ) (m : Marker) (b : Bool) (y : Context) (k j : Option Candidate) (x : Context) (ls : List Level) (a : Bool) (ad : ℕ) (found : SkipTabs) (there : Cursor)
+    → separation Yes (cursor_at r (along m 1) false) ≡ Ok (found, there)
+    → close_collection ends kind (core_at false (cursor_at (ch ∷ r) m b) y k (level_of x j ∷ ls) a ad) ≡ went (behind_pair ends m (from_to m there.mark kind)) (core_at false there x j ls false (cond (is_block x) ad there.mark.index))
 unfolding close_collection
-closes kind ch r m b y k j x ls a ad p =
+closes ends kind ch r m b y k j x ls a ad found there is =
     let c = core_at false (cursor_at r (along m 1) false) x j ls false ad in
-    ap (λ q. (q >>= λ (d : SkipTabs × Cursor). Ok (d.0, with_cursor d.1 c)) >>= λ (d : SkipTabs × Core). went (behind_pair false m (up_to_here m kind d.1)) (allow_adjacent d.1)) p.is
-    ∙ ap (went (from_to m p.there.mark kind ∷ [])) (behind (is_block x) p.there x j ls ad)
+    ap (λ q. (q >>= λ (d : SkipTabs × Cursor). Ok (d.0, with_cursor d.1 c)) >>= λ (d : SkipTabs × Core). went (behind_pair ends m (up_to_here m kind d.1)) (allow_adjacent d.1)) is
+    ∙ ap (went (behind_pair ends m (from_to m there.mark kind))) (behind (is_block x) there x j ls ad)
 
 pub close_passes : (limit n : ℕ) → n ≤ limit → (y : Context) (kind : Kind) (ch : ℕ) (r o : List ℕ) → IsContent (ch ∷ r) → IsClean (ch ∷ r)
     → ((second i : ℕ) (s : Cursor) (k : Option Candidate) (ls : List Level) (a : Bool) (ad : ℕ) → step ch second i (core_at false s y k ls a ad) ≡ close_collection false kind (core_at false s y k ls a ad))
@@ -81,7 +84,7 @@ close_passes limit n below y kind ch r o content clean begins s k j x ls a ad ps
     let v = arrives s y k (level_of x j ∷ ls) a ad ps (ch ∷ r) text clean in
     let p = separates (cursor_at r (along v.mark 1) false) (subst IsClean (sym follows) clean_behind) in
     let counted : total p.there ≡ n = further v.mark ch r n (total p.there) (v.count ∙ count) p.count in
-    let stepped = begins (slice_index r 0) (length ps) (cursor_at (ch ∷ r) v.mark v.blank) v.key (level_of x j ∷ ls) v.allowed ad ∙ closes kind ch r v.mark v.blank y v.key j x ls v.allowed ad p in
+    let stepped = begins (slice_index r 0) (length ps) (cursor_at (ch ∷ r) v.mark v.blank) v.key (level_of x j ∷ ls) v.allowed ad ∙ closes false kind ch r v.mark v.blank y v.key j x ls v.allowed ad p.found p.there p.is in
     let came = one limit s y k (level_of x j ∷ ls) a ad ps (ch ∷ r) v content p.there x j ls false (cond (is_block x) ad p.there.mark.index) (ps ++ place_of v.mark p.there.mark kind ∷ []) (from_to v.mark p.there.mark kind ∷ []) stepped refl (low_index p.there n limit counted below) in
     once false false (cond (is_block x) ad p.there.mark.index) p.there ps (place_of v.mark p.there.mark kind ∷ []) o (kind ∷ []) came (p.rest ∙ follows) counted refl (λ e. e)
 

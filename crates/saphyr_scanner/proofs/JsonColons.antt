@@ -27,7 +27,7 @@ use Rattle.saphyr_scanner.proofs.JsonStates.{or_true, skip, IsClean, total, curs
 use Rattle.saphyr_scanner.proofs.JsonMarks.{chain, Passes, Separates, separates}
 use Rattle.saphyr_scanner.proofs.JsonBrackets.{low_index, further}
 
-same_index : (m n : ℕ) → m ≡ n → (m == n) ≡ true
+pub same_index : (m n : ℕ) → m ≡ n → (m == n) ≡ true
 same_index m n e = grind (arith, nat_tests)
 
 -- a colon at the place where one may stand adjacent, inside flow
@@ -65,11 +65,11 @@ unfolding value.fetch of_key behind_key
 fetches r m b k ls a ad p = ap (λ q. q >>= λ (d : Core). behind_key d.level.key false m d) p.is
 
 -- the place before the others that come behind it is opened
-opened_seam : (o : Opening) (ps : List Place) (p : Place) (qs : List Place) → opened (length ps) o (ps ++ p ∷ qs) ≡ ps ++ record { opening = o; piece = p.piece } ∷ qs
+pub opened_seam : (o : Opening) (ps : List Place) (p : Place) (qs : List Place) → opened (length ps) o (ps ++ p ∷ qs) ≡ ps ++ record { opening = o; piece = p.piece } ∷ qs
 opened_seam o [] p qs = refl
 opened_seam o (q ∷ ps) p qs = ap (λ (x : List Place). q ∷ x) (opened_seam o ps p qs)
 
-none_off : (n : ℕ) → n - 0 ≡ n
+pub none_off : (n : ℕ) → n - 0 ≡ n
 none_off n = omega arith
 
 performs : (ps : List Place) (t v : Piece) → perform (Open (length ps) opening.Key ∷ Put v ∷ []) (queue_of (ps ++ closed t ∷ [])) ≡ queue_of (ps ++ record { opening = opening.Key; piece = t } ∷ closed v ∷ [])

@@ -67,7 +67,7 @@ further m k blank broke blank_then broke_then c w follow one same_blank same_bro
       line = λ h. let l = line h in let more = p.line l.1 in (omega (arith, l.0, more.0), more.1);
     }
 
-no_tab_indentation : (m : Marker) (blank : Bool) (c : ℕ) → (is_tab_indentation 0 m blank c || false) ≡ false
+pub no_tab_indentation : (m : Marker) (blank : Bool) (c : ℕ) → (is_tab_indentation 0 m blank c || false) ≡ false
 no_tab_indentation m blank c = grind (arith, nat_tests)
 
 blank_case : (m : Marker) (blank broke : Bool) (c : ℕ) (w follow : List ℕ) → is_blank c ≡ true → is_break c ≡ false → Passes (along m 1) blank broke w follow → Passes m blank broke (c ∷ w) follow
@@ -219,7 +219,7 @@ and_false : (b : Bool) → (b && false) ≡ false
 and_false true = refl
 and_false false = refl
 
-separated : (text : List ℕ) (t : Cursor) → (slice_index text 0 == 35) ≡ false → is_bom (slice_index t.rest 0) ≡ false → behind_separation Yes text t ≡ Ok (found_blanks Yes text, t)
+pub separated : (text : List ℕ) (t : Cursor) → (slice_index text 0 == 35) ≡ false → is_bom (slice_index t.rest 0) ≡ false → behind_separation Yes text t ≡ Ok (found_blanks Yes text, t)
 unfolding behind_separation
 separated text t sign mark = rw (mark, sign, and_false (nat_lt 0 t.mark.col), and_false (blank_len Yes text == 0)) refl
 

@@ -25,19 +25,21 @@ use Rattle.saphyr_scanner.proofs.JsonMarks.{chain, kinds, kinds_append}
 use Rattle.saphyr_scanner.proofs.JsonQuotes.{reader}
 use Rattle.saphyr_scanner.proofs.JsonNodes.{Premises, node_passes}
 
-begun : Place
+-- the token of the stream's start
+abbrev pub begun : Place
 begun = closed (empty_piece (record { index = 0; line = 1; col = 0 }) tokens.StreamStart)
 
-starts : (limit : ℕ) (text : List ℕ) → Comes limit (start text) false (fresh text) context.Block None [] true 0 (begun ∷ [])
-unfolding fetch begun
+pub starts : (limit : ℕ) (text : List ℕ) → Comes limit (start text) false (fresh text) context.Block None [] true 0 (begun ∷ [])
+unfolding fetch
 starts limit text = comes limit (start text) false (fresh text) context.Block None [] true 0 (begun ∷ []) refl refl (omega arith)
 
-finished : Marker → Place
+-- the token of the stream's end
+abbrev pub finished : Marker → Place
 finished m = closed (empty_piece (end_mark m) tokens.StreamEnd)
 
-here : (m : Marker) (b : Bool) (k : Option Candidate) (a : Bool) (ad : ℕ) (ps : List Place)
+pub here : (m : Marker) (b : Bool) (k : Option Candidate) (a : Bool) (ad : ℕ) (ps : List Place)
     → fetch_here (state_at false (cursor_at [] m b) context.Block k [] a ad ps) ≡ Ok (state_at true (cursor_at [] m b) context.Block k [] false ad (ps ++ finished m ∷ []))
-unfolding fetch_here end_stream end_at unroll finished
+unfolding fetch_here end_stream end_at unroll
 here m b k a ad ps = refl
 
 -- at the text's end
@@ -59,7 +61,6 @@ ends limit n below s k a ad ps count text =
     record { after = state_at true there context.Block came.key [] false ad (ps ++ finished v.mark ∷ []); mark = v.mark; leads = came.leads; over = refl; handed = refl; places = refl }
 
 told : (new : List Place) (m : Marker) (ts : List Kind) → kinds new ≡ ts → kinds ((begun ∷ new) ++ finished m ∷ []) ≡ tokens.StreamStart ∷ (ts ++ tokens.StreamEnd ∷ [])
-unfolding begun finished
 told new m ts e = ap (λ (x : List Kind). tokens.StreamStart ∷ x) (kinds_append new (finished m ∷ []) ∙ ap (λ (x : List Kind). x ++ tokens.StreamEnd ∷ []) e)
 
 -- Each text of JSON is taken up to its end, where the queue holds the tokens of its forest.

@@ -69,11 +69,11 @@ content_of c r (inr (inl e)) = subst (λ (z : ℕ). IsContent (z ∷ r)) (sym e)
 content_of c r (inr (inr (inl e))) = subst (λ (z : ℕ). IsContent (z ∷ r)) (sym e) (record { nul = refl; byte_order_mark = refl; directive = refl; document_start = refl; document_end = refl })
 content_of c r (inr (inr (inr e))) = subst (λ (z : ℕ). IsContent (z ∷ r)) (sym e) (record { nul = refl; byte_order_mark = refl; directive = refl; document_start = refl; document_end = refl })
 
-begins_sequence : (second i : ℕ) (c : Core) → step 91 second i c ≡ flow.start context.FlowSequence tokens.FlowSequenceStart i c
+pub begins_sequence : (second i : ℕ) (c : Core) → step 91 second i c ≡ flow.start context.FlowSequence tokens.FlowSequenceStart i c
 unfolding step
 begins_sequence second i c = refl
 
-begins_mapping : (second i : ℕ) (c : Core) → step 123 second i c ≡ flow.start context.FlowMapping tokens.FlowMappingStart i c
+pub begins_mapping : (second i : ℕ) (c : Core) → step 123 second i c ≡ flow.start context.FlowMapping tokens.FlowMappingStart i c
 unfolding step
 begins_mapping second i c = refl
 

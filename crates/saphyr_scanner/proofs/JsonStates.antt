@@ -169,7 +169,7 @@ drops_key e s context.MarkedFlowPair k ls a ad = record { left = k; is = refl; s
 pub no_less : (n : ℕ) → nat_lt n 0 ≡ false
 no_less n = grind (arith, nat_tests)
 
-none_unrolls : (col : ℕ) (m : Marker) (e : Bool) (s : Cursor) (x : Context) (k : Option Candidate) (ls : List Level) (a : Bool) (ad : ℕ) (ps : List Place)
+pub none_unrolls : (col : ℕ) (m : Marker) (e : Bool) (s : Cursor) (x : Context) (k : Option Candidate) (ls : List Level) (a : Bool) (ad : ℕ) (ps : List Place)
     → unroll (Some col) m (state_at e s x k ls a ad ps) ≡ state_at e s x k ls a ad ps
 unfolding unroll
 none_unrolls col m e s context.Block k ls a ad ps = rw (no_less col) refl
@@ -231,7 +231,7 @@ here s x k ls a ad ps h = rw (h.nul, h.byte_order_mark, h.directive, h.document_
 within_limit : (limit n : ℕ) → n ≤ limit → nat_le n limit ≡ true
 within_limit limit n h = grind (arith, nat_tests)
 
-none_before : (n : ℕ) → 0 + n ≡ n
+pub none_before : (n : ℕ) → 0 + n ≡ n
 none_before n = omega arith
 
 -- from a state the scanner comes to another, but for the key outside flow

@@ -5,6 +5,7 @@ ghost use Rattle.saphyr_scanner.specs.Forest.{Forest, Primary, Shorthand, open_i
 ghost use Rattle.saphyr_scanner.specs.TagSpelling.{IsTag};
 ghost use Rattle.saphyr_scanner.specs.Json.{IsJson};
 ghost use Rattle.saphyr_scanner.specs.JsonTokens as json;
+ghost use Rattle.saphyr_scanner.specs.Layout.{IsFlowLayoutText, most_open};
 ghost use Rattle.saphyr_scanner.specs.TokenGrammar.{Yields};
 ghost use Rattle.saphyr_scanner.specs.Tokens.{Kind};
 ghost use Rattle.saphyr_scanner.specs.Remaining.{Scans, scan};
@@ -13,16 +14,20 @@ ghost use Rattle.saphyr_scanner.specs.AtPlaces.{AreAtPlaces};
 ghost use Rattle.saphyr_scanner.specs.Ends.{EndsWithStream};
 ghost use Rattle.saphyr_scanner.specs.Gap as gaps;
 ghost use Rattle.saphyr_scanner.specs.TokensTaken.{AreApart, AreTakenFrom, AreTokens, IsOnLine, IsPlaceOf};
+ghost use Rattle.saphyr_input.specs.Classes.{carriage_return};
 ghost use Rattle.saphyr_scalar.specs.Cursor.{Cursor, fresh, separation};
+ghost use Rattle.saphyr_scalar.specs.TagSpelling.{AreIn};
 ghost use Rattle.saphyr_scanner.specs.Seen.{Piece};
 ghost use Rattle.saphyr_input.specs.declared.input.SkipTabs.{SkipTabs};
 ghost use Rattle.saphyr_input.specs.declared.input.SkipTabs.TheVariants.{Yes};
-ghost use Rattle.std.specs.Prelude.{◌+◌, ◌*◌, ◌<◌, ◌^◌, false, Ok, Some};
+ghost use Rattle.std.specs.Prelude.{◌+◌, ◌*◌, ◌<◌, ◌^◌, ◌==◌, false, not, Ok, Some};
 ghost use Rattle.saphyr_scalar.specs.declared.scalar.fault.Refusal.{Refusal};
 
 use saphyr_scalar::scalar::{
-    counts_each_block_scalar, counts_each_double_quoted, places_each_block_scalar,
-    reads_each_double_quoted, reads_each_plain_word, reads_plain_values, reads_values_of_lines,
+    counts_each_block_scalar, counts_each_double_quoted, passes_to_one_place,
+    places_each_block_scalar, reads_each_anchor, reads_each_directive, reads_each_double_quoted,
+    reads_each_plain_text, reads_each_plain_word, reads_each_quoted,
+    reads_each_reserved_directive, reads_each_tag, reads_plain_values, reads_values_of_lines,
     refuses_inside, spells_each_anchor, spells_each_directive, spells_each_quoted, spells_each_tag,
     takes_anchor, takes_block_scalar, takes_directive, takes_plain, takes_quoted, takes_tag,
 };
@@ -67,6 +72,26 @@ pub fn scans_each_json()
     reads_each_plain_word();
     reads_each_double_quoted();
     counts_each_double_quoted();
+    takes_plain();
+    takes_quoted();
+    takes_block_scalar();
+    takes_anchor();
+    takes_tag();
+    takes_directive();
+}
+
+/// Each text of the layout grammar whose nodes are in flow style, without carriage returns and within
+/// the limit, gives tokens of its forest, and no fault.
+pub fn scans_each_flow_text()
+    ensures { (limit : ℕ) (forest : Forest) (text : List ℕ) → IsFlowLayoutText most_open forest text → AreIn (λ c. not (c == carriage_return)) text → length text ≤ limit → (tokens : List Kind) × Yields forest tokens × Scans tokens (scan limit text) }
+{
+    reads_each_plain_text();
+    reads_each_quoted();
+    passes_to_one_place();
+    reads_each_anchor();
+    reads_each_tag();
+    reads_each_directive();
+    reads_each_reserved_directive();
     takes_plain();
     takes_quoted();
     takes_block_scalar();

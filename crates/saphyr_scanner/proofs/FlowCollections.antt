@@ -1,0 +1,162 @@
+-- Collections in brackets and braces, given the run over what is inside them.
+use Rattle.std.proofs.Common.{◌≡◌, ◌≢◌, ℕ, ◌+◌, ◌<◌, ◌≤◌, Bool, true, false, List, [], ◌∷◌, ◌++◌, length, slice_index, Ok, refl, sym, ap, ◌∙◌, arith, subst, append_assoc, IsTrue, ◌⊎◌, inl, inr}
+use Rattle.std.specs.Prelude.{◌||◌, ◌&&◌, not, Option, None}
+use Rattle.std.specs.List.{list_all}
+use Rattle.saphyr_input.specs.Classes.{is_blank, is_blank_or_breakz, is_flow}
+use Rattle.saphyr_input.specs.declared.input.SkipTabs.{SkipTabs}
+use Rattle.saphyr_input.specs.declared.input.SkipTabs.TheVariants.{Yes}
+use Rattle.saphyr_scalar.specs.declared.scalar.position.Marker.{Marker}
+use Rattle.saphyr_scalar.specs.Cursor.{Cursor, along, separation}
+use Rattle.saphyr_scalar.specs.TagSpelling.{EndsTag}
+use Rattle.saphyr_scalar.specs.Spaces.{IsSeparation}
+use Rattle.saphyr_scanner.specs.declared.engine.level.Context.{Context}
+use Rattle.saphyr_scanner.specs.Tokens.{Kind}
+use Rattle.saphyr_scanner.specs.TokenGrammar as grammar
+use Rattle.saphyr_scanner.specs.Seen.{Piece}
+use Rattle.saphyr_scanner.specs.Queue.{Place, closed}
+use Rattle.saphyr_scanner.specs.Core.{Candidate, Level, Core, is_block}
+use Rattle.saphyr_scanner.specs.Flow as flow
+use Rattle.saphyr_scanner.specs.Flow.{close_collection, ends_pair}
+use Rattle.saphyr_scanner.specs.State.{State}
+use Rattle.saphyr_scanner.specs.Forest.{Properties, no_properties}
+use Rattle.saphyr_scanner.specs.FlowNodes.{IsBeforeContent}
+use Rattle.saphyr_scanner.specs.Fetch.{step}
+use Rattle.saphyr_scanner.proofs.JsonStates.{cursor_at, core_at, state_at}
+use Rattle.saphyr_scanner.proofs.JsonMarks.{saved, level_of}
+use Rattle.saphyr_scanner.proofs.FlowStates.{moved, past, IsParted, IsBehindNode, IsBehindRoot, EndsNode, IsInk, Known, Passes, ended}
+use Rattle.saphyr_scanner.proofs.FlowPlaces.{moved_append}
+use Rattle.saphyr_scanner.proofs.FlowGaps.{past_ink, less_on}
+use Rattle.saphyr_scanner.proofs.FlowFillers.{EndsLine, rest_past}
+use Rattle.saphyr_scanner.proofs.FlowSeparates.{separates, separates_rest}
+use Rattle.saphyr_scanner.proofs.FlowJoins.{join, behind, knowing}
+use Rattle.saphyr_scanner.proofs.FlowBrackets.{IsMark, open_passes, pending, close_passes}
+use Rattle.saphyr_scanner.proofs.FlowSpaces.{separation_begins}
+use Rattle.saphyr_scanner.proofs.FlowPieces.{Fits, fits_front, fits_back, fits_so, fits_before}
+
+-- ## Behind the closing bracket
+
+-- what blanks and a comment behind a bracket at m give
+pub record EndsAt (m : Marker) (o : List ℕ) : Type 0 where
+  pub found : SkipTabs
+  pub there : Cursor
+  pub is : separation Yes (cursor_at o (along m 1) false) ≡ Ok (found, there)
+  pub lands : past there.mark there.rest ≡ past (along m 1) o
+
+pub ends_inside : (m : Marker) (o : List ℕ) → IsParted o → EndsAt m o
+ends_inside m o h =
+    let p = separates (cursor_at o (along m 1) false) h.separation h.first h.others h.is h.parts h.ink in
+    record { found = p.found; there = p.there; is = p.is; lands = p.lands }
+
+pub ends_root : (m e : Marker) (o : List ℕ) → IsBehindRoot e o → EndsAt m o
+ends_root m e o h =
+    let p = separates_rest (cursor_at o (along m 1) false) h.rest h.more h.is h.line h.break in
+    record {
+      found = p.0;
+      there = record { rest = h.more; mark = moved (along m 1) h.rest; blank_so_far = false };
+      is = p.1;
+      lands = sym (ap (past (along m 1)) h.is ∙ rest_past (along m 1) h.rest h.more h.line h.break);
+    }
+
+-- ## The brackets and what is inside
+
+-- the run over what is inside, up to the closing bracket ch
+pub record InsidePasses (limit : ℕ) (start : State) (Is : List Kind → Type 0) (ch : ℕ) (kind : Kind) (ls : List Level) (ps : List Place) (m : Marker) (o : List ℕ) : Type 0 where
+  pub inside : Context
+  pub closes : (second i : ℕ) (s : Cursor) (k : Option Candidate) (ms : List Level) (a : Bool) (ad : ℕ) → step ch second i (core_at false s inside k ms a ad) ≡ close_collection (ends_pair inside) kind (core_at false s inside k ms a ad)
+  pub tokens : List Kind
+  pub are : Is (tokens ++ pending (ends_pair inside))
+  pub passes : Passes limit start (ended m o) inside ls ps m o tokens
+
+-- a kind of collection: its brackets and their tokens
+pub record Brackets : Type 0 where
+  pub context : Context
+  pub opening : ℕ
+  pub closing : ℕ
+  pub opens : Kind
+  pub closes : Kind
+
+pub record AreBrackets (b : Brackets) : Type 0 where
+  pub flows : is_block b.context ≡ false
+  pub opening_mark : IsMark b.opening
+  pub closing_mark : IsMark b.closing
+  pub begins : (second i : ℕ) (c : Core) → step b.opening second i c ≡ flow.start b.context b.opens i c
+
+-- Behind a collection: as behind a node, of which blanks alone stand before a colon that may stand at once.
+pub record IsBracketed (x : Context) (kept : Option Candidate) (m : Marker) (o : List ℕ) (key : Option Candidate) (adjacent : ℕ) (new : List Place) : Type 0 where
+  pub piece : Piece
+  pub others : List Place
+  pub is : new ≡ closed piece ∷ others
+  pub keeps : is_block x ≡ false → key ≡ kept
+  pub near : is_block x ≡ false → (w more : List ℕ) → o ≡ w ++ (58 ∷ more) → IsSeparation 0 w → IsTrue (list_all is_blank w) → adjacent ≡ (moved m w).index
+  pub low : adjacent ≤ (past m o).0.index
+
+abbrev pub bracketed : Context → Option Candidate → Marker → List ℕ → Known
+bracketed x kept m o key allowed adjacent new = IsBracketed x kept m o key adjacent new
+
+-- the text from the opening bracket to the closing one
+abbrev pub bracket_text : Brackets → List ℕ → List ℕ → List ℕ
+bracket_text b w inside = (b.opening ∷ w) ++ (inside ++ (b.closing ∷ []))
+
+-- the run over what is inside, wherever the opening bracket leads
+abbrev pub RunsInside : ℕ → (List Kind → Type 0) → Brackets → Context → List Level → Marker → List ℕ → List ℕ → Type 0
+RunsInside limit Is b x ls m inside o =
+    (s : Cursor) (k j : Option Candidate) (a : Bool) (ad : ℕ) (ps : List Place) → k ≡ None → a ≡ true → ad < m.index → past s.mark s.rest ≡ past m (inside ++ (b.closing ∷ o))
+    → InsidePasses limit (state_at false s b.context k (level_of x j ∷ ls) a ad ps) Is b.closing b.closes (level_of x j ∷ ls) ps (moved m inside) (b.closing ∷ o)
+
+pub record BracketsPass (limit : ℕ) (start : State) (Is : List Kind → Type 0) (b : Brackets) (kept : Option Candidate) (x : Context) (ls : List Level) (ps : List Place) (m : Marker) (o : List ℕ) : Type 0 where
+  pub inside : List Kind
+  pub are : Is inside
+  pub passes : Passes limit start (bracketed x kept m o) x ls ps m o (b.opens ∷ (inside ++ b.closes ∷ []))
+
+-- a token of its own is the first, and no colon may stand at once from n on
+abbrev starts_with : Piece → ℕ → Known
+starts_with piece n key allowed adjacent new = ((others : List Place) × (new ≡ closed piece ∷ others)) × (adjacent ≤ n)
+
+all_told : (opens closes : Kind) (ts ends : List Kind) → ((opens ∷ []) ++ ts) ++ (ends ++ closes ∷ []) ≡ opens ∷ ((ts ++ ends) ++ closes ∷ [])
+all_told opens closes ts ends = ap (λ (x : List Kind). opens ∷ x) (sym (append_assoc ts ends (closes ∷ [])))
+
+pub brackets_pass : (limit : ℕ) (Is : List Kind → Type 0) (b : Brackets) → AreBrackets b → (m : Marker) (w inside o : List ℕ) → Fits limit m (bracket_text b w inside) o → IsSeparation 0 w
+    → IsParted (w ++ (inside ++ (b.closing ∷ o))) → EndsAt (moved (moved m (b.opening ∷ w)) inside) o
+    → (s : Cursor) (x : Context) (k : Option Candidate) (ls : List Level) (a : Bool) (ad : ℕ) (ps : List Place) → length ls < 255 → ad ≤ m.index → past s.mark s.rest ≡ past m (bracket_text b w inside ++ o)
+    → RunsInside limit Is b x ls (moved m (b.opening ∷ w)) inside o
+    → BracketsPass limit (state_at false s x k ls a ad ps) Is b (saved a (length ps) m k) x ls ps (moved m (bracket_text b w inside)) o
+brackets_pass limit Is b are m w inside o fits parts parted ends s x k ls a ad ps low before text run =
+    let close = b.closing ∷ [] in
+    let follow : (inside ++ close) ++ o ≡ inside ++ (b.closing ∷ o) = append_assoc inside close o in
+    let whole = fits_front m (b.opening ∷ w) (inside ++ close) o fits in
+    let first = fits_front m (b.opening ∷ []) w ((inside ++ close) ++ o) whole in
+    let opening_fits = fits_before m (b.opening ∷ []) (w ++ ((inside ++ close) ++ o)) (w ++ (inside ++ (b.closing ∷ o))) (ap (λ (t : List ℕ). w ++ t) follow) first in
+    let here = moved m (b.opening ∷ w) in
+    let closing_fits = fits_back here inside close o (fits_back m (b.opening ∷ w) (inside ++ close) o fits) in
+    let texts : bracket_text b w inside ++ o ≡ b.opening ∷ (w ++ (inside ++ (b.closing ∷ o))) =
+        append_assoc (b.opening ∷ w) (inside ++ close) o ∙ ap (λ (t : List ℕ). b.opening ∷ (w ++ t)) follow in
+    let opened = open_passes limit b.context are.flows b.opens b.opening are.opening_mark are.begins m (w ++ (inside ++ (b.closing ∷ o))) opening_fits.clear opening_fits.below parted
+        s x k ls a ad ps low before (text ∙ ap (past m) texts) in
+    let j = opened.0 in
+    let p = behind (moved m (b.opening ∷ [])) w (inside ++ (b.closing ∷ o)) parts opened.2 in
+    let r = run p.there p.key j p.allowed p.adjacent (ps ++ p.new) p.knows.0.0 p.knows.0.1 (less_on p.adjacent (moved m (b.opening ∷ [])) w p.knows.0.2) p.fits in
+    let piece = p.knows.1.0 in
+    let at_end = moved here inside in
+    let first_ended : r.passes.adjacent ≤ at_end.index = subst (λ (z : Marker × List ℕ). r.passes.adjacent ≤ z.0.index) (past_ink at_end b.closing o are.closing_mark.ink) r.passes.knows in
+    let q = join p r.passes (starts_with piece at_end.index) ((r.passes.new, ap (λ (z : List Place). z ++ r.passes.new) p.knows.1.1), first_ended) in
+    let c = close_passes limit r.inside (ends_pair r.inside) b.closes b.closing are.closing_mark r.closes at_end o closing_fits.clear closing_fits.below ends.found ends.there ends.is ends.lands
+        q.there q.key j x ls q.allowed q.adjacent (ps ++ q.new) q.knows.1 q.fits in
+    let end = moved at_end close in
+    let kept = saved a (length ps) m k in
+    let known : IsBracketed x kept end o c.key c.adjacent (q.new ++ c.new) = record {
+      piece = piece;
+      others = q.knows.0.0 ++ c.new;
+      is = ap (λ (z : List Place). z ++ c.new) q.knows.0.1;
+      keeps = λ e. c.knows.keeps e ∙ opened.1 e;
+      near = c.knows.near;
+      low = c.knows.low;
+    } in
+    let all = join q c (bracketed x kept end o) known in
+    let start = state_at false s x k ls a ad ps in
+    let place : end ≡ moved m (bracket_text b w inside) = sym (moved_append m (b.opening ∷ w) (inside ++ close) ∙ moved_append here inside close) in
+    subst (λ (e : Marker). BracketsPass limit start Is b kept x ls ps e o) place
+    (record {
+      inside = r.tokens ++ pending (ends_pair r.inside);
+      are = r.are;
+      passes = subst (λ (ts : List Kind). Passes limit start (bracketed x kept end o) x ls ps end o ts) (all_told b.opens b.closes r.tokens (pending (ends_pair r.inside))) all;
+    })

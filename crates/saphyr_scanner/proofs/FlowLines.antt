@@ -1,0 +1,108 @@
+-- Ends of lines, filler and the gaps before a document's node.
+use Rattle.std.proofs.Common.{◌≡◌, ℕ, zero, suc, ◌+◌, ◌≤◌, Bool, true, false, List, [], ◌∷◌, ◌++◌, length, slice_index, ◌⊎◌, inl, inr, refl, sym, ap, ◌∙◌, arith, subst, append_assoc, append-nil, codes}
+use Rattle.std.specs.Prelude.{◌||◌, ◌==◌}
+use Rattle.std.proofs.lemmas.Bool.Decides.{nat_tests}
+use Rattle.saphyr_input.specs.Classes.{is_blank_or_breakz, is_breakz, line_feed}
+use Rattle.saphyr_scalar.specs.declared.scalar.position.Marker.{Marker}
+use Rattle.saphyr_scalar.specs.Cursor.{next_line}
+use Rattle.saphyr_scalar.specs.BlockRead.{spaces}
+use Rattle.saphyr_scalar.specs.Spaces.{joined, AreEach, AreSpaces, IsComment, IsCommentBehind, IsLineRest, IsLineEnd, IsEol, IsFillerLine, IsFiller, IsNextLine, IsGap}
+use Rattle.saphyr_scanner.proofs.FlowStates.{moved, past}
+use Rattle.saphyr_scanner.proofs.FlowPlaces.{moved_append, moved_count}
+use Rattle.saphyr_scanner.proofs.FlowFillers.{IsPast, both_past, are_spaces_past, EndsLine, rest_past, line_end_past, filler_past}
+use Rattle.saphyr_scanner.proofs.FlowStands.{AtLine, Stands, passes_over}
+use Rattle.saphyr_scanner.specs.State.{State}
+use Rattle.saphyr_scanner.specs.Tokens.{Kind}
+
+-- ## The end of a line
+
+-- The rest of a line stands at m, and behind it nothing or a break, and then o at a line's start.
+pub record EndsWithLine (m : Marker) (t o : List ℕ) : Type 0 where
+  pub rest : List ℕ
+  pub more : List ℕ
+  pub is : t ≡ rest ++ more
+  pub line : IsLineRest rest
+  pub break : EndsLine more
+  pub mark : Marker
+  pub behind : past (moved m rest) more ≡ past mark o
+  pub count : mark.index + length o ≡ m.index + length t
+  pub place : AtLine o mark
+
+whole_line : (m : Marker) (rest o : List ℕ) → IsLineRest rest → EndsWithLine m (rest ++ (10 ∷ o)) o
+whole_line m rest o h =
+    let c = moved_count m rest (10 ∷ o) in
+    record { rest = rest; more = 10 ∷ o; is = refl; line = h; break = inr refl; mark = next_line (moved m rest) 1; behind = refl; count = further (moved m rest).index (length o) c; place = inl refl }
+  where
+    further : {n : ℕ} (i l : ℕ) → i + suc l ≡ n → i + 1 + l ≡ n
+    further i l e = omega (arith, e)
+
+last_line : (m : Marker) (rest : List ℕ) → IsLineRest rest → EndsWithLine m (rest ++ []) []
+last_line m rest h = record { rest = rest; more = []; is = refl; line = h; break = inl refl; mark = moved m rest; behind = refl; count = moved_count m rest []; place = inr refl }
+
+pub eol : (m : Marker) (end o : List ℕ) → IsEol end o → EndsWithLine m (end ++ o) o
+eol m end o (inl h) = subst (λ (t : List ℕ). EndsWithLine m t o) (sym (ap (λ (x : List ℕ). x ++ o) h.2 ∙ append_assoc h.0 (10 ∷ []) o)) (whole_line m h.0 o h.1)
+eol m end o (inr h) = subst (λ (z : List ℕ). EndsWithLine m (end ++ z) z) (sym h.1) (last_line m end h.0)
+
+pub eol_past : (m : Marker) (t o : List ℕ) (e : EndsWithLine m t o) → past m t ≡ past e.mark o
+eol_past m t o e = ap (past m) e.is ∙ rest_past m e.rest e.more e.line e.break ∙ e.behind
+
+pub break_ends : (more : List ℕ) → EndsLine more → is_breakz (slice_index more 0) ≡ true
+break_ends more (inl e) = ap (λ (t : List ℕ). is_breakz (slice_index t 0)) e
+break_ends more (inr e) = ap is_breakz e
+
+-- ## What stands first
+
+breakz_parts : (c : ℕ) → is_breakz c ≡ true → is_blank_or_breakz c ≡ true
+breakz_parts c h = grind (arith, nat_tests)
+
+pub rest_first : (rest more : List ℕ) → IsLineRest rest → EndsLine more → is_blank_or_breakz (slice_index (rest ++ more) 0) ≡ true
+rest_first rest more h ends =
+    subst (λ (x : List ℕ). is_blank_or_breakz (slice_index (x ++ more) 0) ≡ true) (sym h.4) (by_front h.2.0 h.0 h.1 h.2.2 h.3)
+  where
+    by_front : (n : ℕ) (front comment : List ℕ) → front ≡ spaces n → IsCommentBehind front comment → is_blank_or_breakz (slice_index ((front ++ comment) ++ more) 0) ≡ true
+    by_front zero front comment e (inl f) = rw (e, f) (breakz_parts (slice_index more 0) (break_ends more ends))
+    by_front zero front comment e (inr f) = absurd (f.0 e)
+    by_front (suc n) front comment e h = rw e refl
+
+pub eol_first : (m : Marker) (t o : List ℕ) → EndsWithLine m t o → is_blank_or_breakz (slice_index t 0) ≡ true
+eol_first m t o e = subst (λ (x : List ℕ). is_blank_or_breakz (slice_index x 0) ≡ true) (sym e.is) (rest_first e.rest e.more e.line e.break)
+
+pub gap_first : (w y : List ℕ) → IsGap 0 w → is_blank_or_breakz (slice_index (w ++ y) 0) ≡ true
+gap_first w y (inl h) = subst (λ (x : List ℕ). is_blank_or_breakz (slice_index (x ++ y) 0) ≡ true) (sym h.2) (some h.0 h.1)
+  where
+    some : (n : ℕ) → 1 ≤ n → is_blank_or_breakz (slice_index (spaces n ++ y) 0) ≡ true
+    some zero k = absurd (omega (arith, k))
+    some (suc n) k = refl
+gap_first w y (inr h) =
+    let line = h.3 in
+    let text : w ++ y ≡ line.0 ++ (10 ∷ ((h.1 ++ h.2) ++ y)) =
+        ap (λ (x : List ℕ). x ++ y) (h.6 ∙ ap (λ (x : List ℕ). x ++ (h.1 ++ h.2)) line.2 ∙ append_assoc line.0 (10 ∷ []) (h.1 ++ h.2)) ∙ append_assoc line.0 (10 ∷ (h.1 ++ h.2)) y in
+    subst (λ (x : List ℕ). is_blank_or_breakz (slice_index x 0) ≡ true) (sym text) (rest_first line.0 (10 ∷ ((h.1 ++ h.2) ++ y)) line.1 (inr refl))
+
+-- ## Gaps and filler are passed
+
+pub gap_is_past : (w : List ℕ) → IsGap 0 w → IsPast w
+gap_is_past w (inl h) = are_spaces_past 1 w h
+gap_is_past w (inr h) = subst IsPast (sym h.6) (both_past h.0 (h.1 ++ h.2) (line_end_past h.0 h.3) (both_past h.1 h.2 (λ m y. filler_past m h.1 y h.4) (are_spaces_past 0 h.2 h.5)))
+
+-- behind filler that begins at a line's start stands a line's start
+pub filler_line : (m : Marker) (w : List ℕ) → IsFiller w → m.col ≡ 0 → (moved m w).col ≡ 0
+filler_line m w h col = subst (λ (x : List ℕ). (moved m x).col ≡ 0) (sym h.2) (pieces m h.0 h.1 col)
+  where
+    pieces : (m : Marker) (ws : List (List ℕ)) → AreEach IsFillerLine ws → m.col ≡ 0 → (moved m (joined ws)).col ≡ 0
+    pieces m [] k e = e
+    pieces m (v ∷ vs) k e =
+        let line : (moved m v).col ≡ 0 = ap (λ (x : List ℕ). (moved m x).col) k.0.2 ∙ ap (λ (n : Marker). n.col) (moved_append m k.0.0 (10 ∷ [])) in
+        ap (λ (n : Marker). n.col) (moved_append m v (joined vs)) ∙ pieces (moved m v) vs k.1 line
+
+none_behind : (w y : List ℕ) → w ++ y ≡ [] → y ≡ []
+none_behind [] y e = e
+none_behind (c ∷ w) y e = absurd (cc)
+
+pub filler_at_line : (m : Marker) (w y : List ℕ) → IsFiller w → AtLine (w ++ y) m → AtLine y (moved m w)
+filler_at_line m w y h (inl e) = inl (filler_line m w h e)
+filler_at_line m w y h (inr e) = inr (none_behind w y e)
+
+pub passes_filler : {limit : ℕ} {start : State} {free : Bool} {ts : List Kind} (w y : List ℕ) → IsFiller w → Stands limit start free (AtLine (w ++ y)) (w ++ y) ts → Stands limit start free (AtLine y) y ts
+passes_filler {limit = limit} w y h v =
+    passes_over v (AtLine y) (moved v.mark w) y (filler_past v.mark w y h) (subst (λ (n : ℕ). n ≤ limit) (sym (moved_count v.mark w y)) v.count) (filler_at_line v.mark w y h v.line)

@@ -1,0 +1,157 @@
+-- The anchors, aliases and tags of a text in flow style are passed.
+use Rattle.std.proofs.Common.{◌≡◌, ℕ, ◌+◌, ◌≤◌, Bool, true, false, List, [], ◌∷◌, ◌++◌, length, slice_index, refl, sym, ap, ◌∙◌, arith, subst, IsTrue, encode_utf8_all}
+use Rattle.std.specs.Prelude.{◌==◌, not, Option}
+use Rattle.std.proofs.lemmas.Bool.Decides.{nat_tests}
+use Rattle.saphyr_input.specs.Classes.{is_break, is_anchor_char, line_feed}
+use Rattle.saphyr_scalar.specs.declared.scalar.position.Marker.{Marker}
+use Rattle.saphyr_scalar.specs.Cursor.{Cursor, ◌>>=◌, along}
+use Rattle.saphyr_scalar.specs.Quoted.{at}
+use Rattle.saphyr_scalar.specs.TagSpelling.{AreIn, IsAnchorName, IsTagText, EndsTag}
+use Rattle.saphyr_scalar.proofs.NoBreaks.{NoBreaks}
+use Rattle.saphyr_scanner.specs.declared.engine.level.Context.{Context}
+use Rattle.saphyr_scanner.specs.Tokens as tokens
+use Rattle.saphyr_scanner.specs.Tokens.{Kind, alias_token, anchor_token, tag_token}
+use Rattle.saphyr_scanner.specs.Forest.{Tag}
+use Rattle.saphyr_scanner.specs.Queue.{Place}
+use Rattle.saphyr_scanner.specs.Core.{Candidate, Level, Core, is_block, from_to, went}
+use Rattle.saphyr_scanner.specs.Passing.{with_cursor}
+use Rattle.saphyr_scanner.specs.Property as property
+use Rattle.saphyr_scanner.specs.Property.{name_token, read_name, read_tag}
+use Rattle.saphyr_scanner.specs.Scalar.{disallow_key}
+use Rattle.saphyr_scanner.specs.Fetch.{step}
+use Rattle.saphyr_scanner.specs.TagSpelling.{IsTag}
+use Rattle.saphyr_scanner.specs.FlowNodes.{IsAnchor, IsAlias}
+use Rattle.saphyr_scanner.proofs.LineTexts.{name_no_break, tag_no_break}
+use Rattle.saphyr_scanner.proofs.JsonStates.{cursor_at, core_at, state_at}
+use Rattle.saphyr_scanner.proofs.JsonMarks.{saved, saves_key}
+use Rattle.saphyr_scanner.proofs.FlowStates.{moved, past, IsClear, Reads, Passes}
+use Rattle.saphyr_scanner.proofs.FlowPlaces.{moved_along}
+use Rattle.saphyr_scanner.proofs.FlowTokens.{Begins, after_token, token_passes}
+use Rattle.saphyr_scanner.proofs.FlowTags.{tag_read, tag_first}
+
+no_feed : (c : ℕ) → is_break c ≡ false → IsTrue (not (c == line_feed))
+no_feed c h = grind (arith, nat_tests)
+
+on_line : (t : List ℕ) → NoBreaks t → AreIn (λ c. not (c == line_feed)) t
+on_line [] h = tt
+on_line (c ∷ cs) h = (no_feed c h.0, on_line cs h.1)
+
+pub unbroken_along : (m : Marker) (t : List ℕ) → NoBreaks t → moved m t ≡ along m (length t)
+unbroken_along m t h = moved_along m t (on_line t h)
+
+-- no key may begin behind the token, and the place where a colon may stand at once is still the same
+abbrev pub closes_key : ℕ → Bool → ℕ → Type 0
+closes_key ad allowed adjacent = (allowed ≡ false) × (adjacent ≡ ad)
+
+-- ## Names
+
+named_along : (m : Marker) (indicator : ℕ) (name : List ℕ) → is_break indicator ≡ false → IsAnchorName name → along m (1 + length name) ≡ moved m (indicator ∷ name)
+named_along m indicator name e h =
+    let one : 1 + length name ≡ length (indicator ∷ name) = omega arith in
+    ap (along m) one ∙ sym (unbroken_along m (indicator ∷ name) (e, name_no_break name h))
+
+name_step : Reads → (is_alias : Bool) (n : ℕ) (m : Marker) (b : Bool) (indicator : ℕ) (name o : List ℕ) → is_break indicator ≡ false → IsAnchorName name → is_anchor_char (slice_index o 0) ≡ false
+    → (x : Context) (k : Option Candidate) (ls : List Level) (a : Bool) (ad : ℕ)
+    → property.name is_alias n (core_at false (cursor_at (indicator ∷ (name ++ o)) m b) x k ls a ad)
+    ≡ went (from_to m (moved m (indicator ∷ name)) (name_token is_alias (encode_utf8_all name)) ∷ []) (core_at false (at (moved m (indicator ∷ name)) o) x (saved a n m k) ls false ad)
+unfolding property.name read_name
+name_step reads is_alias n m b indicator name o e h ends x k ls a ad =
+    let s = cursor_at (indicator ∷ (name ++ o)) m b in
+    let c = core_at false s x (saved a n m k) ls false ad in
+    let token = λ (y : List ℕ × Cursor). went (from_to m y.1.mark (name_token is_alias y.0) ∷ []) (with_cursor y.1 c) in
+    ap (λ (d : Core). read_name is_alias (disallow_key d)) (saves_key n s x k ls a ad)
+    ∙ ap (λ q. q >>= token) (reads.anchor s indicator name o refl h ends)
+    ∙ ap (λ (end : Marker). token (encode_utf8_all name, at end o)) (named_along m indicator name e h)
+
+name_passes : Reads → (limit : ℕ) (is_alias : Bool) (indicator : ℕ) (name o : List ℕ) (m : Marker) → ((second n : ℕ) (c : Core) → step indicator second n c ≡ property.name is_alias n c)
+    → Begins (indicator ∷ name) → is_break indicator ≡ false → IsAnchorName name → is_anchor_char (slice_index o 0) ≡ false → IsClear m (indicator ∷ name) o
+    → m.index + length ((indicator ∷ name) ++ o) ≤ limit
+    → (s : Cursor) (x : Context) (k : Option Candidate) (ls : List Level) (a : Bool) (ad : ℕ) (ps : List Place) → past s.mark s.rest ≡ past m ((indicator ∷ name) ++ o)
+    → Passes limit (state_at false s x k ls a ad ps) (after_token (closes_key ad) x (saved a (length ps) m k)) x ls ps (moved m (indicator ∷ name)) o (name_token is_alias (encode_utf8_all name) ∷ [])
+name_passes reads limit is_alias indicator name o m begins first break h ends clear below s x k ls a ad ps text =
+    let kind = name_token is_alias (encode_utf8_all name) in
+    let end = moved m (indicator ∷ name) in
+    token_passes limit (closes_key ad) kind (indicator ∷ name) o m first clear below s x k ls a ad ps text
+    (λ b j e. record {
+      there = at end o;
+      end = end;
+      allowed = false;
+      adjacent = ad;
+      is = begins (slice_index (name ++ o) 0) (length ps) (core_at false (cursor_at (indicator ∷ (name ++ o)) m b) x j ls e ad)
+          ∙ name_step reads is_alias (length ps) m b indicator name o break h ends x j ls e ad;
+      fits = refl;
+      tells = (refl, refl);
+    })
+
+begins_anchor : (second n : ℕ) (c : Core) → step 38 second n c ≡ property.name false n c
+unfolding step
+begins_anchor second n c = refl
+
+begins_alias : (second n : ℕ) (c : Core) → step 42 second n c ≡ property.name true n c
+unfolding step
+begins_alias second n c = refl
+
+anchor_first : (name : List ℕ) → Begins (38 ∷ name)
+anchor_first name = record { first = 38; others = name; is = refl; ink = record { blank = refl; break = refl; comment = refl; byte_order_mark = refl }; nul = refl; directive = refl }
+
+alias_first : (name : List ℕ) → Begins (42 ∷ name)
+alias_first name = record { first = 42; others = name; is = refl; ink = record { blank = refl; break = refl; comment = refl; byte_order_mark = refl }; nul = refl; directive = refl }
+
+pub anchor_passes : Reads → (limit : ℕ) (name t o : List ℕ) (m : Marker) → IsAnchor name t → is_anchor_char (slice_index o 0) ≡ false → IsClear m t o → m.index + length (t ++ o) ≤ limit
+    → (s : Cursor) (x : Context) (k : Option Candidate) (ls : List Level) (a : Bool) (ad : ℕ) (ps : List Place) → past s.mark s.rest ≡ past m (t ++ o)
+    → Passes limit (state_at false s x k ls a ad ps) (after_token (closes_key ad) x (saved a (length ps) m k)) x ls ps (moved m t) o (anchor_token name ∷ [])
+anchor_passes reads limit name t o m h ends clear below s x k ls a ad ps text =
+    subst (λ (p : List ℕ). IsClear m p o → m.index + length (p ++ o) ≤ limit → past s.mark s.rest ≡ past m (p ++ o)
+    → Passes limit (state_at false s x k ls a ad ps) (after_token (closes_key ad) x (saved a (length ps) m k)) x ls ps (moved m p) o (anchor_token name ∷ []))
+    (sym h.1) (λ c b e. name_passes reads limit false 38 name o m begins_anchor (anchor_first name) refl h.0 ends c b s x k ls a ad ps e) clear below text
+
+pub alias_token_passes : Reads → (limit : ℕ) (name t o : List ℕ) (m : Marker) → IsAlias name t → is_anchor_char (slice_index o 0) ≡ false → IsClear m t o → m.index + length (t ++ o) ≤ limit
+    → (s : Cursor) (x : Context) (k : Option Candidate) (ls : List Level) (a : Bool) (ad : ℕ) (ps : List Place) → past s.mark s.rest ≡ past m (t ++ o)
+    → Passes limit (state_at false s x k ls a ad ps) (after_token (closes_key ad) x (saved a (length ps) m k)) x ls ps (moved m t) o (alias_token name ∷ [])
+alias_token_passes reads limit name t o m h ends clear below s x k ls a ad ps text =
+    subst (λ (p : List ℕ). IsClear m p o → m.index + length (p ++ o) ≤ limit → past s.mark s.rest ≡ past m (p ++ o)
+    → Passes limit (state_at false s x k ls a ad ps) (after_token (closes_key ad) x (saved a (length ps) m k)) x ls ps (moved m p) o (alias_token name ∷ []))
+    (sym h.1) (λ c b e. name_passes reads limit true 42 name o m begins_alias (alias_first name) refl h.0 ends c b s x k ls a ad ps e) clear below text
+
+-- ## Tags
+
+tag_step : Reads → (n : ℕ) (m : Marker) (b : Bool) (t handle suffix o : List ℕ) → IsTagText t handle suffix → (x : Context) (k : Option Candidate) (ls : List Level) (a : Bool) (ad : ℕ)
+    → EndsTag (not (is_block x)) o
+    → property.tag n (core_at false (cursor_at (t ++ o) m b) x k ls a ad)
+    ≡ went (from_to m (moved m t) (tokens.Tag (encode_utf8_all handle) (encode_utf8_all suffix)) ∷ []) (core_at false (at (moved m t) o) x (saved a n m k) ls false ad)
+unfolding property.tag read_tag
+tag_step reads n m b t handle suffix o h x k ls a ad ends =
+    let s = cursor_at (t ++ o) m b in
+    let c = core_at false s x (saved a n m k) ls false ad in
+    let token = λ (y : List ℕ × List ℕ × Cursor). went (from_to m y.2.mark (tokens.Tag y.0 y.1) ∷ []) (with_cursor y.2 c) in
+    ap (λ (d : Core). read_tag (disallow_key d)) (saves_key n s x k ls a ad)
+    ∙ ap (λ q. q >>= token) (reads.tag (not (is_block x)) s t handle suffix o refl h ends)
+    ∙ ap (λ (end : Marker). token (encode_utf8_all handle, encode_utf8_all suffix, at end o)) (sym (unbroken_along m t (tag_no_break t handle suffix h)))
+
+begins_tag : (second n : ℕ) (c : Core) → step 33 second n c ≡ property.tag n c
+unfolding step
+begins_tag second n c = refl
+
+pub tag_passes : Reads → (limit : ℕ) (tag : Tag) (t o : List ℕ) (m : Marker) → IsTag tag t → IsClear m t o → m.index + length (t ++ o) ≤ limit
+    → (s : Cursor) (x : Context) (k : Option Candidate) (ls : List Level) (a : Bool) (ad : ℕ) (ps : List Place) → EndsTag (not (is_block x)) o → past s.mark s.rest ≡ past m (t ++ o)
+    → Passes limit (state_at false s x k ls a ad ps) (after_token (closes_key ad) x (saved a (length ps) m k)) x ls ps (moved m t) o (tag_token tag ∷ [])
+tag_passes reads limit tag t o m h clear below s x k ls a ad ps ends text =
+    let r = tag_read tag t h in
+    let f = tag_first t r.handle r.suffix r.is in
+    let first : Begins t = record { first = 33; others = f.0; is = f.1; ink = record { blank = refl; break = refl; comment = refl; byte_order_mark = refl }; nul = refl; directive = refl } in
+    let at_first : slice_index (t ++ o) 0 ≡ 33 = ap (λ (p : List ℕ). slice_index (p ++ o) 0) f.1 in
+    let second = slice_index (t ++ o) 1 in
+    let end = moved m t in
+    let n = length ps in
+    let kind = tokens.Tag (encode_utf8_all r.handle) (encode_utf8_all r.suffix) in
+    subst (λ (q : Kind). Passes limit (state_at false s x k ls a ad ps) (after_token (closes_key ad) x (saved a (length ps) m k)) x ls ps (moved m t) o (q ∷ [])) r.token
+    (token_passes limit (closes_key ad) kind t o m first clear below s x k ls a ad ps text
+    (λ b j e. let c = core_at false (cursor_at (t ++ o) m b) x j ls e ad in record {
+      there = at end o;
+      end = end;
+      allowed = false;
+      adjacent = ad;
+      is = ap (λ (i : ℕ). step i second n c) at_first ∙ begins_tag second n c ∙ tag_step reads n m b t r.handle r.suffix o r.is x j ls e ad ends;
+      fits = refl;
+      tells = (refl, refl);
+    }))

@@ -1,0 +1,208 @@
+-- The scanner takes a node in flow style and makes its tokens.
+use Rattle.std.proofs.Common.{◌≡◌, ℕ, suc, ◌+◌, ◌<◌, ◌≤◌, Bool, true, false, List, [], ◌∷◌, ◌++◌, length, refl, sym, ap, ◌∙◌, arith, subst, append_assoc, append-nil, inl, inr}
+use Rattle.std.specs.Prelude.{Option, None}
+use Rattle.saphyr_scalar.specs.declared.scalar.position.Marker.{Marker}
+use Rattle.saphyr_scalar.specs.Cursor.{Cursor}
+use Rattle.saphyr_scalar.specs.Spaces.{IsSeparation}
+use Rattle.saphyr_scanner.specs.declared.engine.level.Context.{Context}
+use Rattle.saphyr_scanner.specs.declared.engine.level.Context.TheVariants as context
+use Rattle.saphyr_scanner.specs.Tokens as tokens
+use Rattle.saphyr_scanner.specs.Tokens.{Kind}
+use Rattle.saphyr_scanner.specs.TokenGrammar as grammar
+use Rattle.saphyr_scanner.specs.Queue.{Place}
+use Rattle.saphyr_scanner.specs.Core.{Candidate, Level, is_block}
+use Rattle.saphyr_scanner.specs.Flow as flow
+use Rattle.saphyr_scanner.specs.Flow.{close_collection, ends_pair}
+use Rattle.saphyr_scanner.specs.Fetch.{step}
+use Rattle.saphyr_scanner.specs.Forest.{Properties, Node, Alias, Scalar, Seq, Map, Nodes, NoNode, MoreNodes, Pairs, NoPair, MorePairs}
+use Rattle.saphyr_scanner.specs.FlowNodes.{IsFlowNode}
+use Rattle.saphyr_scanner.proofs.JsonStates.{core_at, state_at}
+use Rattle.saphyr_scanner.proofs.JsonMarks.{saved, level_of}
+use Rattle.saphyr_scanner.proofs.JsonNodes.{begins_sequence, begins_mapping}
+use Rattle.saphyr_scanner.proofs.FlowStates.{moved, past, IsParted, IsBehindNode, Reads, after_node, NodePasses, RootCloses, PassesNode, PassesNodes, ClosesNode, ClosesNodes}
+use Rattle.saphyr_scanner.proofs.FlowGaps.{past_ink}
+use Rattle.saphyr_scanner.proofs.FlowJoins.{knowing, root}
+use Rattle.saphyr_scanner.proofs.FlowColons.{no_block}
+use Rattle.saphyr_scanner.proofs.FlowInks.{BeginsInk, node_ink}
+use Rattle.saphyr_scanner.proofs.FlowPieces.{Fits, fits_front, fits_back, fits_so}
+use Rattle.saphyr_scanner.proofs.FlowQuotes as quotes
+use Rattle.saphyr_scanner.proofs.FlowCollections.{EndsAt, ends_inside, ends_root, Brackets, AreBrackets, bracket_text, RunsInside}
+use Rattle.saphyr_scanner.proofs.FlowFronts.{CollectionPasses, collection_passes}
+use Rattle.saphyr_scanner.proofs.FlowItems.{PassesPairItem, PassesOtherItems, PassesItems, items_ink, pair_item_passes, no_others_pass, others_pass, no_items_pass, items_pass}
+use Rattle.saphyr_scanner.proofs.FlowBraces.{PassesOtherPairs, PassesPairs, pairs_ink, no_other_pairs_pass, other_pairs_pass, no_pairs_pass, pairs_pass}
+use Rattle.saphyr_scanner.proofs.FlowProperties.{alias_passes, alias_closes}
+use Rattle.saphyr_scanner.proofs.FlowScalarNodes.{scalar_passes, scalar_closes}
+
+-- ## Brackets and braces
+
+abbrev pub square : Brackets
+square = record { context = context.FlowSequence; opening = 91; closing = 93; opens = tokens.FlowSequenceStart; closes = tokens.FlowSequenceEnd }
+
+abbrev pub curly : Brackets
+curly = record { context = context.FlowMapping; opening = 123; closing = 125; opens = tokens.FlowMappingStart; closes = tokens.FlowMappingEnd }
+
+are_square : AreBrackets square
+are_square = record {
+  flows = refl;
+  opening_mark = record { ink = record { blank = refl; break = refl; comment = refl; byte_order_mark = refl }; nul = refl; directive = refl; feed = refl };
+  closing_mark = record { ink = record { blank = refl; break = refl; comment = refl; byte_order_mark = refl }; nul = refl; directive = refl; feed = refl };
+  begins = begins_sequence;
+}
+
+are_curly : AreBrackets curly
+are_curly = record {
+  flows = refl;
+  opening_mark = record { ink = record { blank = refl; break = refl; comment = refl; byte_order_mark = refl }; nul = refl; directive = refl; feed = refl };
+  closing_mark = record { ink = record { blank = refl; break = refl; comment = refl; byte_order_mark = refl }; nul = refl; directive = refl; feed = refl };
+  begins = begins_mapping;
+}
+
+ends_square : (z : Context) → is_block z ≡ false → (second i : ℕ) (s : Cursor) (k : Option Candidate) (ms : List Level) (a : Bool) (ad : ℕ)
+    → step 93 second i (core_at false s z k ms a ad) ≡ close_collection (ends_pair z) tokens.FlowSequenceEnd (core_at false s z k ms a ad)
+unfolding step flow.end
+ends_square context.Block e second i s k ms a ad = absurd (no_block e)
+ends_square context.FlowSequence e second i s k ms a ad = refl
+ends_square context.FlowMapping e second i s k ms a ad = refl
+ends_square context.FlowPair e second i s k ms a ad = refl
+ends_square context.ExplicitFlowPair e second i s k ms a ad = refl
+ends_square context.MarkedFlowPair e second i s k ms a ad = refl
+
+ends_curly : (second i : ℕ) (s : Cursor) (k : Option Candidate) (ms : List Level) (a : Bool) (ad : ℕ)
+    → step 125 second i (core_at false s context.FlowMapping k ms a ad) ≡ close_collection false tokens.FlowMappingEnd (core_at false s context.FlowMapping k ms a ad)
+unfolding step flow.end
+ends_curly second i s k ms a ad = refl
+
+-- ## A collection, given the run over its entries
+
+whole_text : (t opening front w inside : List ℕ) (c e : ℕ) → t ≡ opening ++ (inside ++ (e ∷ [])) → opening ≡ front ++ (c ∷ w) → t ≡ front ++ ((c ∷ w) ++ (inside ++ (e ∷ [])))
+whole_text t opening front w inside c e is open_is = is ∙ ap (λ (x : List ℕ). x ++ (inside ++ (e ∷ []))) open_is ∙ append_assoc front (c ∷ w) (inside ++ (e ∷ []))
+
+parted_by : (w t : List ℕ) → IsSeparation 0 w → BeginsInk t → IsParted (w ++ t)
+parted_by w t parts b = record { separation = w; first = b.first; others = b.others; is = ap (λ (x : List ℕ). w ++ x) b.is; parts = parts; ink = b.ink }
+
+-- in brackets
+sequence_run : {limit : ℕ} → Reads → (room : ℕ) (p : Properties) (nodes : Nodes) (in_flow : Bool) → ((left : ℕ) → PassesItems limit left nodes) → (m : Marker) (t o : List ℕ) → IsFlowNode room (Seq p nodes) in_flow 0 t → Fits limit m t o
+    → ((e : Marker) → EndsAt e o) → (s : Cursor) (x : Context) (k : Option Candidate) (ls : List Level) (a : Bool) (ad : ℕ) (ps : List Place) → room + length ls ≤ 255 → ad ≤ m.index → past s.mark s.rest ≡ past m (t ++ o)
+    → CollectionPasses limit (state_at false s x k ls a ad ps) (grammar.AreFlowEntries nodes) square p (saved a (length ps) m k) x ls ps (moved m t) o
+sequence_run {limit} reads room p nodes in_flow items m t o (left, opening, inside, r, (front, w, f, parts, e), h, is) fits ends s x k ls a ad ps low before text =
+    let text_is = whole_text t opening front w inside 91 93 is e in
+    let whole = fits_so m t (front ++ bracket_text square w inside) o text_is fits in
+    let here = moved (moved m front) (91 ∷ w) in
+    let inside_fits = fits_front here inside (93 ∷ []) o (fits_back (moved m front) (91 ∷ w) (inside ++ (93 ∷ [])) o (fits_back m front (bracket_text square w inside) o whole)) in
+    let run : RunsInside limit (grammar.AreFlowEntries nodes) square x ls here inside o = λ u c j b be qs no_candidate fresh on at.
+        let i = items left here inside o h inside_fits u c (level_of x j ∷ ls) b be qs no_candidate fresh (omega (arith, r, low)) on at in
+        record { inside = i.inside; closes = ends_square i.inside i.flows; tokens = i.tokens; are = i.are; passes = i.passes } in
+    let c = collection_passes limit p reads (grammar.AreFlowEntries nodes) square are_square m front w inside o whole f parts (parted_by w (inside ++ (93 ∷ o)) parts (items_ink left nodes inside o h))
+        s x k ls a ad ps (omega (arith, r, low)) before (text ∙ ap (λ (z : List ℕ). past m (z ++ o)) text_is) (ends (moved here inside), run) in
+    subst (λ (n : Marker). CollectionPasses limit (state_at false s x k ls a ad ps) (grammar.AreFlowEntries nodes) square p (saved a (length ps) m k) x ls ps n o) (ap (moved m) (sym text_is)) c
+
+-- in braces
+mapping_run : {limit : ℕ} → Reads → (room : ℕ) (p : Properties) (pairs : Pairs) (in_flow : Bool) → ((left : ℕ) → PassesPairs limit left pairs) → (m : Marker) (t o : List ℕ) → IsFlowNode room (Map p pairs) in_flow 0 t → Fits limit m t o
+    → ((e : Marker) → EndsAt e o) → (s : Cursor) (x : Context) (k : Option Candidate) (ls : List Level) (a : Bool) (ad : ℕ) (ps : List Place) → room + length ls ≤ 255 → ad ≤ m.index → past s.mark s.rest ≡ past m (t ++ o)
+    → CollectionPasses limit (state_at false s x k ls a ad ps) (grammar.AreFlowPairs pairs) curly p (saved a (length ps) m k) x ls ps (moved m t) o
+mapping_run {limit} reads room p pairs in_flow members m t o (left, opening, inside, r, (front, w, f, parts, e), h, is) fits ends s x k ls a ad ps low before text =
+    let text_is = whole_text t opening front w inside 123 125 is e in
+    let whole = fits_so m t (front ++ bracket_text curly w inside) o text_is fits in
+    let here = moved (moved m front) (123 ∷ w) in
+    let inside_fits = fits_front here inside (125 ∷ []) o (fits_back (moved m front) (123 ∷ w) (inside ++ (125 ∷ [])) o (fits_back m front (bracket_text curly w inside) o whole)) in
+    let run : RunsInside limit (grammar.AreFlowPairs pairs) curly x ls here inside o = λ u c j b be qs no_candidate fresh on at.
+        let i = members left here inside o h inside_fits u c (level_of x j ∷ ls) b be qs no_candidate fresh (omega (arith, r, low)) on at in
+        record { inside = context.FlowMapping; closes = ends_curly; tokens = i.tokens; are = subst (grammar.AreFlowPairs pairs) (sym (append-nil i.tokens)) i.are; passes = i.passes } in
+    let c = collection_passes limit p reads (grammar.AreFlowPairs pairs) curly are_curly m front w inside o whole f parts (parted_by w (inside ++ (125 ∷ o)) parts (pairs_ink left pairs inside o h))
+        s x k ls a ad ps (omega (arith, r, low)) before (text ∙ ap (λ (z : List ℕ). past m (z ++ o)) text_is) (ends (moved here inside), run) in
+    subst (λ (n : Marker). CollectionPasses limit (state_at false s x k ls a ad ps) (grammar.AreFlowPairs pairs) curly p (saved a (length ps) m k) x ls ps n o) (ap (moved m) (sym text_is)) c
+
+-- ## Collections as nodes
+
+behind_parted : (node : Node) (o : List ℕ) → IsBehindNode node o → IsParted o
+behind_parted node o h =
+    record { separation = h.separation; first = h.first; others = h.others; is = h.is; parts = h.parts; ink = (quotes.node_ink node h.separation h.others h.first h.ends).0 }
+
+weaker : (a b : ℕ) → a < b → a ≤ b
+weaker a b h = omega (arith, h)
+
+sequence_passes : {limit : ℕ} → Reads → (room : ℕ) (p : Properties) (nodes : Nodes) → ((left : ℕ) → PassesItems limit left nodes) → PassesNode limit room (Seq p nodes)
+sequence_passes {limit} reads room p nodes items m t o h clear below behind s x k ls a ad ps before flow low text =
+    let c = sequence_run reads room p nodes true items m t o h (record { clear = clear; below = below }) (λ e. ends_inside e o (behind_parted (Seq p nodes) o behind)) s x k ls a ad ps low (weaker ad m.index before) text in
+    let n = c.passes.knows in
+    record {
+      tokens = c.properties ++ (tokens.FlowSequenceStart ∷ (c.inside ++ tokens.FlowSequenceEnd ∷ []));
+      are = (c.properties, tokens.FlowSequenceStart ∷ (c.inside ++ tokens.FlowSequenceEnd ∷ []), c.are_properties, inl (c.inside, c.are, refl), refl);
+      passes = knowing c.passes (after_node x (saved a (length ps) m k) (Seq p nodes) (moved m t) o) (record { piece = n.piece; others = n.others; is = n.is; keeps = n.keeps; near = n.near; low = λ e. n.low });
+    }
+
+mapping_passes : {limit : ℕ} → Reads → (room : ℕ) (p : Properties) (pairs : Pairs) → ((left : ℕ) → PassesPairs limit left pairs) → PassesNode limit room (Map p pairs)
+mapping_passes {limit} reads room p pairs members m t o h clear below behind s x k ls a ad ps before flow low text =
+    let c = mapping_run reads room p pairs true members m t o h (record { clear = clear; below = below }) (λ e. ends_inside e o (behind_parted (Map p pairs) o behind)) s x k ls a ad ps low (weaker ad m.index before) text in
+    let n = c.passes.knows in
+    record {
+      tokens = c.properties ++ (tokens.FlowMappingStart ∷ (c.inside ++ tokens.FlowMappingEnd ∷ []));
+      are = (c.properties, tokens.FlowMappingStart ∷ (c.inside ++ tokens.FlowMappingEnd ∷ []), c.are_properties, inl (c.inside, c.are, refl), refl);
+      passes = knowing c.passes (after_node x (saved a (length ps) m k) (Map p pairs) (moved m t) o) (record { piece = n.piece; others = n.others; is = n.is; keeps = n.keeps; near = n.near; low = λ e. n.low });
+    }
+
+at_ink : (m : Marker) (t o : List ℕ) (ad : ℕ) → BeginsInk t → ad ≤ (past m (t ++ o)).0.index → ad ≤ m.index
+at_ink m t o ad b h = subst (λ (q : Marker × List ℕ). ad ≤ q.0.index) (ap (λ (x : List ℕ). past m (x ++ o)) b.is ∙ past_ink m b.first (b.others ++ o) b.ink) h
+
+all_room : 255 + 0 ≤ 255
+all_room = omega arith
+
+sequence_closes : {limit : ℕ} → Reads → (p : Properties) (nodes : Nodes) → ((left : ℕ) → PassesItems limit left nodes) → ClosesNode limit (Seq p nodes)
+sequence_closes {limit} reads p nodes items m t o h clear below behind s k a ad ps before text =
+    let low = at_ink m t o ad (node_ink 255 (Seq p nodes) false t h) before in
+    let c = sequence_run reads 255 p nodes false items m t o h (record { clear = clear; below = below }) (λ e. ends_root e (moved m t) o behind) s context.Block k [] a ad ps all_room low text in
+    record {
+      tokens = c.properties ++ (tokens.FlowSequenceStart ∷ (c.inside ++ tokens.FlowSequenceEnd ∷ []));
+      are = (c.properties, tokens.FlowSequenceStart ∷ (c.inside ++ tokens.FlowSequenceEnd ∷ []), c.are_properties, inl (c.inside, c.are, refl), refl);
+      closes = root c.passes c.passes.knows.low;
+    }
+
+mapping_closes : {limit : ℕ} → Reads → (p : Properties) (pairs : Pairs) → ((left : ℕ) → PassesPairs limit left pairs) → ClosesNode limit (Map p pairs)
+mapping_closes {limit} reads p pairs members m t o h clear below behind s k a ad ps before text =
+    let low = at_ink m t o ad (node_ink 255 (Map p pairs) false t h) before in
+    let c = mapping_run reads 255 p pairs false members m t o h (record { clear = clear; below = below }) (λ e. ends_root e (moved m t) o behind) s context.Block k [] a ad ps all_room low text in
+    record {
+      tokens = c.properties ++ (tokens.FlowMappingStart ∷ (c.inside ++ tokens.FlowMappingEnd ∷ []));
+      are = (c.properties, tokens.FlowMappingStart ∷ (c.inside ++ tokens.FlowMappingEnd ∷ []), c.are_properties, inl (c.inside, c.are, refl), refl);
+      closes = root c.passes c.passes.knows.low;
+    }
+
+-- ## All nodes
+
+mutual
+  pub nodes_pass : Reads → (limit room : ℕ) (node : Node) → PassesNode limit room node
+  nodes_pass reads limit room (Alias name) = alias_passes reads limit room name
+  nodes_pass reads limit room (Scalar p style value) = scalar_passes reads limit room p style value
+  nodes_pass reads limit room (Seq p nodes) = sequence_passes reads room p nodes (λ left. all_items_pass reads limit left nodes)
+  nodes_pass reads limit room (Map p pairs) = mapping_passes reads room p pairs (λ left. all_pairs_pass reads limit left pairs)
+
+  all_items_pass : Reads → (limit room : ℕ) (nodes : Nodes) → PassesItems limit room nodes
+  all_items_pass reads limit room NoNode = no_items_pass room
+  all_items_pass reads limit room (MoreNodes node nodes) = items_pass room node nodes (nodes_pass reads limit room node) (all_pair_items_pass reads limit room node) (all_others_pass reads limit room nodes)
+
+  all_others_pass : Reads → (limit room : ℕ) (nodes : Nodes) → PassesOtherItems limit room nodes
+  all_others_pass reads limit room NoNode = no_others_pass room
+  all_others_pass reads limit room (MoreNodes node nodes) = others_pass room node nodes (nodes_pass reads limit room node) (all_pair_items_pass reads limit room node) (all_others_pass reads limit room nodes)
+
+  all_pair_items_pass : Reads → (limit room : ℕ) (node : Node) → PassesPairItem limit room node
+  all_pair_items_pass reads limit room (Map p (MorePairs key value NoPair)) = pair_item_passes room p key value (nodes_pass reads limit room key) (nodes_pass reads limit room value)
+  all_pair_items_pass reads limit room (Map p (MorePairs key value (MorePairs other another pairs))) = λ m t c cs fits ends h. absurd h
+  all_pair_items_pass reads limit room (Map p NoPair) = λ m t c cs fits ends h. absurd h
+  all_pair_items_pass reads limit room (Alias name) = λ m t c cs fits ends h. absurd h
+  all_pair_items_pass reads limit room (Scalar p style value) = λ m t c cs fits ends h. absurd h
+  all_pair_items_pass reads limit room (Seq p nodes) = λ m t c cs fits ends h. absurd h
+
+  all_pairs_pass : Reads → (limit room : ℕ) (pairs : Pairs) → PassesPairs limit room pairs
+  all_pairs_pass reads limit room NoPair = no_pairs_pass room
+  all_pairs_pass reads limit room (MorePairs key value pairs) = pairs_pass room key value pairs (nodes_pass reads limit room key) (nodes_pass reads limit room value) (all_other_pairs_pass reads limit room pairs)
+
+  all_other_pairs_pass : Reads → (limit room : ℕ) (pairs : Pairs) → PassesOtherPairs limit room pairs
+  all_other_pairs_pass reads limit room NoPair = no_other_pairs_pass room
+  all_other_pairs_pass reads limit room (MorePairs key value pairs) = other_pairs_pass room key value pairs (nodes_pass reads limit room key) (nodes_pass reads limit room value) (all_other_pairs_pass reads limit room pairs)
+
+-- as a document's node
+pub nodes_close : Reads → (limit : ℕ) → ClosesNodes limit
+nodes_close reads limit (Alias name) = alias_closes reads limit name
+nodes_close reads limit (Scalar p style value) = scalar_closes reads limit p style value
+nodes_close reads limit (Seq p nodes) = sequence_closes reads p nodes (λ left. all_items_pass reads limit left nodes)
+nodes_close reads limit (Map p pairs) = mapping_closes reads p pairs (λ left. all_pairs_pass reads limit left pairs)

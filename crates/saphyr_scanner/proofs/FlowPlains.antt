@@ -1,0 +1,249 @@
+-- The plain scalars of a text in flow style are passed.
+use Rattle.std.proofs.Common.{◌≡◌, ◌≢◌, ℕ, ◌+◌, ◌<◌, ◌≤◌, Bool, true, false, List, [], ◌∷◌, ◌++◌, length, slice_index, Ok, refl, sym, ap, ◌∙◌, arith, subst, IsTrue, ◌⊎◌, inl, inr, encode_utf8_all}
+use Rattle.std.specs.Prelude.{◌||◌, ◌&&◌, ◌==◌, not, nat_lt, Option, None}
+use Rattle.std.proofs.lemmas.Bool.Decides.{nat_tests}
+use Rattle.saphyr_input.specs.Breaks.{normalized}
+use Rattle.saphyr_input.specs.Classes.{is_blank, is_blank_or_breakz, is_flow, is_z}
+use Rattle.saphyr_scalar.specs.declared.scalar.position.Marker.{Marker}
+use Rattle.saphyr_scalar.specs.Cursor.{Cursor, ◌>>=◌}
+use Rattle.saphyr_scalar.specs.FlowReading.{plain_value}
+use Rattle.saphyr_scalar.specs.Plain.{Reading, comment_of}
+use Rattle.saphyr_scalar.specs.PlainSpelling.{past_white, EndsPlain, is_word_ink, AreWordInk, IsPlainText}
+use Rattle.saphyr_scalar.proofs.Choices.{other_than}
+use Rattle.saphyr_scanner.specs.declared.engine.level.Context.{Context}
+use Rattle.saphyr_scanner.specs.declared.engine.level.Context.TheVariants as context
+use Rattle.saphyr_scanner.specs.Tokens as tokens
+use Rattle.saphyr_scanner.specs.Tokens.{Kind, scalar_token}
+use Rattle.saphyr_scanner.specs.Forest.{Plain}
+use Rattle.saphyr_scanner.specs.Queue.{Place}
+use Rattle.saphyr_scanner.specs.Core.{Candidate, Level, Core, is_block, from_to, went}
+use Rattle.saphyr_scanner.specs.Scalar as scalar
+use Rattle.saphyr_scanner.specs.Scalar.{read_plain, disallow_key, behind_plain}
+use Rattle.saphyr_scanner.specs.Fetch.{step, is_value_adjacent}
+use Rattle.saphyr_scanner.specs.FlowScalars.{begins_plain, IsPlain}
+use Rattle.saphyr_scanner.proofs.JsonStates.{cursor_at, core_at, state_at, no_less, and_false}
+use Rattle.saphyr_scanner.proofs.JsonMarks.{saved, saves_key}
+use Rattle.saphyr_scanner.proofs.JsonBrackets.{place_of}
+use Rattle.saphyr_scanner.proofs.FlowStates.{moved, past, IsClear, Reads, Passes, Closes}
+use Rattle.saphyr_scanner.proofs.FlowPlaces.{moved_count}
+use Rattle.saphyr_scanner.proofs.FlowFillers.{white_past}
+use Rattle.saphyr_scanner.proofs.FlowArrivals.{arrives, within_index}
+use Rattle.saphyr_scanner.proofs.FlowLow.{behind_low}
+use Rattle.saphyr_scanner.proofs.FlowTokens.{Begins, begins_past, begins_token, after_token, token_passes}
+use Rattle.saphyr_scanner.proofs.FlowWords.{passed_moved, normalized_same, ink_other, no_break, plain_text}
+use Rattle.saphyr_scanner.proofs.FlowNoted.{noted_one}
+
+-- ## The first two characters
+
+-- the first word of a plain scalar begins a text
+record BeginsWord (f : Bool) (t : List ℕ) : Type 0 where
+  first : ℕ
+  others : List ℕ
+  is : t ≡ first ∷ others
+  begins : IsTrue (begins_plain first)
+  ink : IsTrue (is_word_ink f first)
+  no_comment : first ≢ 35
+  further : (first ≡ 45) ⊎ ((first ≡ 63) ⊎ (first ≡ 58)) → (second : ℕ) × (more : List ℕ) × (others ≡ second ∷ more) × IsTrue (is_word_ink f second)
+
+word_begins : (f : Bool) (t : List ℕ) → IsPlain f 0 t → BeginsWord f t
+word_begins f t (word, others, (is_word, begins, no_dash, no_mark, no_colon), many, is) = by_word word is_word.some is_word.ink is_word.no_comment begins no_dash no_mark no_colon is
+  where
+    lone : (c d : ℕ) → c ≡ d → (c ∷ []) ≢ (d ∷ []) → ⊥
+    lone c d e other = other (ap (λ (z : ℕ). z ∷ []) e)
+
+    by_word : (w : List ℕ) → w ≢ [] → AreWordInk f w → slice_index w 0 ≢ 35 → IsTrue (begins_plain (slice_index w 0)) → w ≢ 45 ∷ [] → w ≢ 63 ∷ [] → w ≢ 58 ∷ [] → t ≡ w ++ others → BeginsWord f t
+    by_word [] some ink sign b dash mark colon e = absurd (some refl)
+    by_word (c ∷ []) some ink sign b dash mark colon e =
+        record { first = c; others = others; is = e; begins = b; ink = ink.0; no_comment = sign; further = alone }
+      where
+        alone : (c ≡ 45) ⊎ ((c ≡ 63) ⊎ (c ≡ 58)) → (second : ℕ) × (more : List ℕ) × (others ≡ second ∷ more) × IsTrue (is_word_ink f second)
+        alone (inl k) = absurd (lone c 45 k dash)
+        alone (inr (inl k)) = absurd (lone c 63 k mark)
+        alone (inr (inr k)) = absurd (lone c 58 k colon)
+    by_word (c ∷ d ∷ ds) some ink sign b dash mark colon e =
+        record { first = c; others = d ∷ (ds ++ others); is = e; begins = b; ink = ink.0; no_comment = sign; further = λ _. (d, ds ++ others, refl, ink.2.0) }
+
+no_blank : (c : ℕ) → is_blank_or_breakz c ≡ false → is_blank c ≡ false
+no_blank c h = grind (arith, nat_tests)
+
+no_nul : (c : ℕ) → is_blank_or_breakz c ≡ false → is_z c ≡ false
+no_nul c h = grind (arith, nat_tests)
+
+unequal : (c d : ℕ) → c ≢ d → (c == d) ≡ false
+unequal c d h = grind (arith, nat_tests)
+
+equal : (c d : ℕ) → (c == d) ≡ true → c ≡ d
+equal c d h = grind (arith, nat_tests)
+
+token_begins : (f : Bool) (t : List ℕ) → BeginsWord f t → Begins t
+token_begins f t b =
+    let o = ink_other f b.first b.ink in
+    record {
+      first = b.first;
+      others = b.others;
+      is = b.is;
+      ink = record { blank = no_blank b.first o.blank_or_breakz; break = no_break b.first o.blank_or_breakz; comment = unequal b.first 35 b.no_comment; byte_order_mark = o.byte_order_mark };
+      nul = no_nul b.first o.blank_or_breakz;
+      directive = other_than begins_plain 37 b.first refl b.begins;
+    }
+
+-- a character before a word's second one
+lone_test : (f : Bool) (first d second : ℕ) → (first ≡ d → IsTrue (is_word_ink f second)) → ((first == d) && is_blank_or_breakz second) ≡ false
+lone_test f first d second h = by_first (first == d) refl
+  where
+    by_first : (b : Bool) → (first == d) ≡ b → ((first == d) && is_blank_or_breakz second) ≡ false
+    by_first true e = rw e ((ink_other f second (h (equal first d e))).blank_or_breakz)
+    by_first false e = rw e refl
+
+-- no value stands where a colon is part of a word
+value_test : (block : Bool) (first second i ad : ℕ) → (first ≡ 58 → IsTrue (is_word_ink (not block) second)) → (block ≡ true) ⊎ (ad < i)
+    → ((first == 58) && (not block && (is_flow second || (i == ad)))) ≡ false
+value_test true first second i ad h low = and_false (first == 58)
+value_test false first second i ad h (inl e) = absurd (cc)
+value_test false first second i ad h (inr low) = by_first (first == 58) refl
+  where
+    further : (i ad : ℕ) → ad < i → (i == ad) ≡ false
+    further i ad h = grind (arith, nat_tests)
+
+    by_first : (b : Bool) → (first == 58) ≡ b → ((first == 58) && (true && (is_flow second || (i == ad)))) ≡ false
+    by_first true e = rw (e, (ink_other true second (h (equal first 58 e))).flow, further i ad low) refl
+    by_first false e = rw e refl
+
+plain_begins : (first second n : ℕ) (c : Core) → IsTrue (begins_plain first) → ((first == 45) && is_blank_or_breakz second) ≡ false → ((first == 63) && is_blank_or_breakz second) ≡ false
+    → ((first == 58) && is_blank_or_breakz second) ≡ false
+    → ((first == 58) && is_value_adjacent second c) ≡ false → step first second n c ≡ scalar.plain n c
+unfolding step
+plain_begins first second n c h dash mark colon value =
+    let other : (d : ℕ) → begins_plain d ≡ false → (first == d) ≡ false = λ d e. other_than begins_plain d first e h in
+    rw (
+      other 91 refl,
+      other 123 refl,
+      other 93 refl,
+      other 125 refl,
+      other 44 refl,
+      dash,
+      mark,
+      colon,
+      value,
+      other 34 refl,
+      other 39 refl,
+      other 42 refl,
+      other 38 refl,
+      other 33 refl,
+      other 124 refl,
+      other 62 refl,
+      other 37 refl,
+      other 64 refl,
+      other 96 refl,
+    ) refl
+
+-- ## The scalar is read
+
+-- the value of a plain scalar as a token
+abbrev plain_token : List ℕ → Kind
+plain_token t = scalar_token Plain (plain_value t)
+
+-- what is read of a text that ends at a place
+abbrev found : Bool → List ℕ → Marker → List ℕ → Reading
+found f o end v = Ok (encode_utf8_all (plain_value v), end, comment_of f false (past_white end false o), past_white end false o)
+
+plain_read : Reads → (n : ℕ) (m : Marker) (b : Bool) (t o : List ℕ) (x : Context) → IsPlainText (not (is_block x)) 0 m t o → IsClear m t o
+    → (k : Option Candidate) (ls : List Level) (a : Bool) (ad : ℕ)
+    → let u = past_white (moved m t) false o in scalar.plain n (core_at false (cursor_at (t ++ o) m b) x k ls a ad)
+    ≡ went (from_to m (moved m t) (plain_token t) ∷ []) (record (core_at false u x (saved a n m k) ls u.blank_so_far ad) { comment = comment_of (not (is_block x)) false u })
+unfolding scalar.plain read_plain
+plain_read reads n m b t o x h clear k ls a ad =
+    let s = cursor_at (t ++ o) m b in
+    let f = not (is_block x) in
+    let c = core_at false s x (saved a n m k) ls false ad in
+    let token = λ (z : List ℕ × Marker × Option Marker × Cursor). went (from_to m z.1 (tokens.Scalar Plain z.0) ∷ []) (behind_plain z.2 z.3 c) in
+    let refused : (f && nat_lt m.col 0) ≡ false = ap (λ (q : Bool). f && q) (no_less m.col) ∙ and_false f in
+    let got = reads.plain f 0 s t o refl h ∙ ap (λ (end : Marker). found f o end (normalized t)) (passed_moved m t clear.no_return) ∙ ap (found f o (moved m t)) (normalized_same t clear.no_return) in
+    ap (λ (d : Core). read_plain (record (disallow_key d) { deeper = false })) (saves_key n s x k ls a ad) ∙ rw refused (ap (λ q. q >>= token) got)
+
+-- ## The step
+
+-- The premises of a step over a plain scalar: outside flow, or where no colon may stand at once.
+plain_step : Reads → (n : ℕ) (m : Marker) (b : Bool) (t o : List ℕ) (x : Context) → IsPlain (not (is_block x)) 0 t → IsClear m t o → EndsPlain (not (is_block x)) 0 (moved m t) o
+    → (k : Option Candidate) (ls : List Level) (a : Bool) (ad : ℕ) → (is_block x ≡ true) ⊎ (ad < m.index)
+    → let u = past_white (moved m t) false o in step (slice_index (t ++ o) 0) (slice_index (t ++ o) 1) n (core_at false (cursor_at (t ++ o) m b) x k ls a ad)
+    ≡ went (from_to m (moved m t) (plain_token t) ∷ []) (record (core_at false u x (saved a n m k) ls u.blank_so_far ad) { comment = comment_of (not (is_block x)) false u })
+plain_step reads n m b t o x h clear ends k ls a ad low =
+    let f = not (is_block x) in
+    let w = word_begins f t h in
+    let c = core_at false (cursor_at (t ++ o) m b) x k ls a ad in
+    let first = slice_index (t ++ o) 0 in
+    let second = slice_index (t ++ o) 1 in
+    let at_first : first ≡ w.first = ap (λ (y : List ℕ). slice_index (y ++ o) 0) w.is in
+    let at_second : (first ≡ 45) ⊎ ((first ≡ 63) ⊎ (first ≡ 58)) → IsTrue (is_word_ink f second) =
+    λ e. second_ink f t o w (subst (λ (i : ℕ). (i ≡ 45) ⊎ ((i ≡ 63) ⊎ (i ≡ 58))) at_first e) in
+    plain_begins first second n c (subst (λ (i : ℕ). IsTrue (begins_plain i)) (sym at_first) w.begins)
+    (lone_test f first 45 second (λ e. at_second (inl e))) (lone_test f first 63 second (λ e. at_second (inr (inl e)))) (lone_test f first 58 second (λ e. at_second (inr (inr e))))
+    (value_test (is_block x) first second m.index ad (λ e. at_second (inr (inr e))) low)
+    ∙ plain_read reads n m b t o x (plain_text f m t o h clear ends) clear k ls a ad
+  where
+    second_ink : (f : Bool) (t o : List ℕ) (w : BeginsWord f t) → (w.first ≡ 45) ⊎ ((w.first ≡ 63) ⊎ (w.first ≡ 58)) → IsTrue (is_word_ink f (slice_index (t ++ o) 1))
+    second_ink f t o w e =
+        let r = w.further e in
+        let text : t ≡ w.first ∷ r.0 ∷ r.1 = w.is ∙ ap (λ (y : List ℕ). w.first ∷ y) r.2 in
+        subst (λ (y : List ℕ). IsTrue (is_word_ink f (slice_index (y ++ o) 1))) (sym text) r.3
+
+-- ## Inside flow
+
+-- the place where a colon may stand at once is still the same
+abbrev pub still_adjacent : ℕ → Bool → ℕ → Type 0
+still_adjacent ad allowed adjacent = adjacent ≡ ad
+
+no_comment : (f : Bool) (u : Cursor) → f ≡ true → comment_of f false u ≡ None
+unfolding comment_of
+no_comment f u e = rw e refl
+
+pub plain_passes : Reads → (limit : ℕ) (t o : List ℕ) (m : Marker) → IsPlain true 0 t → IsClear m t o → m.index + length (t ++ o) ≤ limit → EndsPlain true 0 (moved m t) o
+    → (s : Cursor) (x : Context) (k : Option Candidate) (ls : List Level) (a : Bool) (ad : ℕ) (ps : List Place) → is_block x ≡ false → ad < m.index → past s.mark s.rest ≡ past m (t ++ o)
+    → Passes limit (state_at false s x k ls a ad ps) (after_token (still_adjacent ad) x (saved a (length ps) m k)) x ls ps (moved m t) o (scalar_token Plain (plain_value t) ∷ [])
+plain_passes reads limit t o m h clear below ends s x k ls a ad ps flow low text =
+    let inside : not (is_block x) ≡ true = ap not flow in
+    let u = past_white (moved m t) false o in
+    let plain : IsPlain (not (is_block x)) 0 t = subst (λ (f : Bool). IsPlain f 0 t) (sym inside) h in
+    let stops : EndsPlain (not (is_block x)) 0 (moved m t) o = subst (λ (f : Bool). EndsPlain f 0 (moved m t) o) (sym inside) ends in
+    token_passes limit (still_adjacent ad) (plain_token t) t o m (token_begins true t (word_begins true t h)) clear below s x k ls a ad ps text
+    (λ b j e. record {
+      there = u;
+      end = moved m t;
+      allowed = u.blank_so_far;
+      adjacent = ad;
+      is = plain_step reads (length ps) m b t o x plain clear stops j ls e ad (inr low)
+          ∙ ap (λ (q : Option Marker). went (from_to m (moved m t) (plain_token t) ∷ []) (record (core_at false u x (saved e (length ps) m j) ls u.blank_so_far ad) { comment = q }))
+          (no_comment (not (is_block x)) u inside);
+      fits = white_past (moved m t) false o;
+      tells = refl;
+    })
+
+-- ## A document's node
+
+pub plain_closes : Reads → (limit : ℕ) (t o : List ℕ) (m : Marker) → IsPlain false 0 t → IsClear m t o → m.index + length (t ++ o) ≤ limit → EndsPlain false 0 (moved m t) o
+    → (s : Cursor) (k : Option Candidate) (a : Bool) (ad : ℕ) (ps : List Place) → ad ≤ m.index → past s.mark s.rest ≡ past m (t ++ o)
+    → Closes limit (state_at false s context.Block k [] a ad ps) ps (moved m t) o (scalar_token Plain (plain_value t) ∷ [])
+plain_closes reads limit t o m h clear below ends s k a ad ps before text =
+    let f = token_begins false t (word_begins false t h) in
+    let v = arrives s context.Block k [] a ad ps m (t ++ o) (text ∙ begins_past m t o f) in
+    let u = past_white (moved m t) false o in
+    let fits = white_past (moved m t) false o in
+    let count = moved_count m t o in
+    let low = within_index limit u (moved m t) o fits (omega (arith, count, below)) in
+    let new = place_of m (moved m t) (plain_token t) ∷ [] in
+    let stepped = plain_step reads (length ps) m v.blank t o context.Block h clear ends v.key [] v.allowed ad (inl refl) in
+    let came = noted_one limit s k [] a ad ps m (t ++ o) v (begins_token m t o f clear) (comment_of false false u) u (saved v.allowed (length ps) m v.key) [] u.blank_so_far ad (ps ++ new)
+    (from_to m (moved m t) (plain_token t) ∷ []) stepped refl low in
+    record {
+      there = u;
+      key = came.key;
+      allowed = u.blank_so_far;
+      adjacent = ad;
+      comment = comment_of false false u;
+      new = new;
+      leads = came.leads;
+      fits = fits;
+      are = refl;
+      low = behind_low ad m t o before;
+    }

@@ -1,0 +1,110 @@
+-- The `?` of a text in flow style is read.
+use Rattle.std.proofs.Common.{◌≡◌, ◌≢◌, ℕ, ◌+◌, ◌≤◌, Bool, true, false, List, [], ◌∷◌, ◌++◌, length, slice_index, Ok, refl, sym, ap, ◌∙◌, arith, subst, ◌⊎◌, inl, inr}
+use Rattle.std.specs.Prelude.{◌==◌, not, Option, None}
+use Rattle.std.proofs.lemmas.Bool.Decides.{nat_tests}
+use Rattle.saphyr_input.specs.Classes.{is_blank, is_blank_or_breakz, tab}
+use Rattle.saphyr_scalar.specs.declared.scalar.position.Marker.{Marker}
+use Rattle.saphyr_scalar.specs.Cursor.{Cursor, ◌>>=◌, along}
+use Rattle.saphyr_scalar.specs.TagSpelling.{AreIn}
+use Rattle.saphyr_scalar.specs.Spaces.{IsSeparation}
+use Rattle.saphyr_scanner.specs.declared.engine.level.Context.{Context}
+use Rattle.saphyr_scanner.specs.declared.engine.level.Context.TheVariants as context
+use Rattle.saphyr_scanner.specs.Gap.{Spaced, spaced, spaces}
+use Rattle.saphyr_scanner.specs.Tokens as tokens
+use Rattle.saphyr_scanner.specs.Queue.{Place}
+use Rattle.saphyr_scanner.specs.Core.{Candidate, Level, Core, is_block, from_to, up_to_here, went, remove_key}
+use Rattle.saphyr_scanner.specs.Block as block
+use Rattle.saphyr_scanner.specs.Block.{behind_question, behind_mark, pass_mark, begin_key}
+use Rattle.saphyr_scanner.specs.Passing.{with_cursor}
+use Rattle.saphyr_scanner.specs.Fetch.{step}
+use Rattle.saphyr_scanner.proofs.JsonStates.{cursor_at, core_at, state_at}
+use Rattle.saphyr_scanner.proofs.JsonBrackets.{place_of}
+use Rattle.saphyr_scanner.proofs.FlowStates.{moved, past, IsClear, IsInk, IsParted, no_key, Passes}
+use Rattle.saphyr_scanner.proofs.FlowGaps.{past_ink}
+use Rattle.saphyr_scanner.proofs.FlowFillers.{separation_past}
+use Rattle.saphyr_scanner.proofs.FlowArrivals.{arrives, one, within_index}
+use Rattle.saphyr_scanner.proofs.FlowJoins.{once}
+use Rattle.saphyr_scanner.proofs.FlowBrackets.{IsMark, mark_begins, mark_moved, one_on}
+use Rattle.saphyr_scanner.proofs.FlowColons.{no_block}
+use Rattle.saphyr_scanner.proofs.FlowSpaces.{separation_begins, Passed, spaces_passed}
+
+question : IsMark 63
+question = record { ink = record { blank = refl; break = refl; comment = refl; byte_order_mark = refl }; nul = refl; directive = refl; feed = refl }
+
+white_first : (w y : List ℕ) → IsSeparation 0 w → w ≢ [] → is_blank_or_breakz (slice_index (w ++ y) 0) ≡ true
+white_first w y parts some =
+    let b = separation_begins w parts some in
+    ap (λ (t : List ℕ). is_blank_or_breakz (slice_index (t ++ y) 0)) b.is ∙ by_first b.first b.white
+  where
+    blank : (c : ℕ) → is_blank c ≡ true → is_blank_or_breakz c ≡ true
+    blank c h = grind (arith, nat_tests)
+
+    by_first : (c : ℕ) → (is_blank c ≡ true) ⊎ (c ≡ 10) → is_blank_or_breakz c ≡ true
+    by_first c (inl h) = blank c h
+    by_first c (inr e) = ap is_blank_or_breakz e
+
+begins : (second i : ℕ) (c : Core) → is_blank_or_breakz second ≡ true → step 63 second i c ≡ block.key c
+unfolding step
+begins second i c h = rw h refl
+
+begins_key : (s : Cursor) (y : Context) (k : Option Candidate) (ls : List Level) (a : Bool) (ad : ℕ) → is_block y ≡ false → begin_key (core_at false s y k ls a ad) ≡ pass_mark (core_at false s (behind_question y) None ls false ad)
+unfolding begin_key remove_key
+begins_key s context.Block k ls a ad e = absurd (no_block e)
+begins_key s context.FlowSequence k ls a ad e = refl
+begins_key s context.FlowMapping k ls a ad e = refl
+begins_key s context.FlowPair k ls a ad e = refl
+begins_key s context.ExplicitFlowPair k ls a ad e = refl
+begins_key s context.MarkedFlowPair k ls a ad e = refl
+
+ink_no_tab : (c : ℕ) → is_blank c ≡ false → (c == 9) ≡ false
+ink_no_tab c h = grind (arith, nat_tests)
+
+passes_mark : (o : List ℕ) (m : Marker) (b : Bool) (y : Context) (ls : List Level) (ad : ℕ) (n : Marker) (blank : Bool) (c : ℕ) (cs : List ℕ) → IsInk c → spaces (along m 1) false false o ≡ spaced n blank true (c ∷ cs)
+    → pass_mark (core_at false (cursor_at (63 ∷ o) m b) y None ls false ad) ≡ Ok (core_at false (cursor_at (c ∷ cs) n blank) y None ls false ad)
+unfolding behind_mark
+passes_mark o m b y ls ad n blank c cs ink is =
+    let d = core_at false (cursor_at (63 ∷ o) m b) y None ls false ad in
+    ap (λ (x : Spaced). behind_mark x.space (with_cursor x.cursor d)) is ∙ rw (ink_no_tab c ink.blank) refl
+
+question_flows : (y : Context) → is_block y ≡ false → is_block (behind_question y) ≡ false
+question_flows context.Block e = absurd (no_block e)
+question_flows context.FlowSequence e = refl
+question_flows context.FlowMapping e = refl
+question_flows context.FlowPair e = refl
+question_flows context.ExplicitFlowPair e = refl
+question_flows context.MarkedFlowPair e = refl
+
+key_of : (s : Cursor) (y : Context) (k : Option Candidate) (ls : List Level) (a : Bool) (ad : ℕ) → is_block y ≡ false
+    → block.key (core_at false s y k ls a ad) ≡ (begin_key (core_at false s y k ls a ad) >>= λ d. went (up_to_here s.mark tokens.Key d ∷ []) d)
+unfolding block.key
+key_of s context.Block k ls a ad e = absurd (no_block e)
+key_of s context.FlowSequence k ls a ad e = refl
+key_of s context.FlowMapping k ls a ad e = refl
+key_of s context.FlowPair k ls a ad e = refl
+key_of s context.ExplicitFlowPair k ls a ad e = refl
+key_of s context.MarkedFlowPair k ls a ad e = refl
+
+-- A `?` before separation without a tab: the key behind it is not kept.
+pub mark_passes : (limit : ℕ) (y : Context) → is_block y ≡ false → (m : Marker) (o : List ℕ) → IsClear m (63 ∷ []) o → m.index + length (63 ∷ o) ≤ limit
+    → (parted : IsParted o) → parted.separation ≢ [] → AreIn (λ c. not (c == tab)) parted.separation
+    → (s : Cursor) (k : Option Candidate) (ls : List Level) (a : Bool) (ad : ℕ) (ps : List Place) → ad ≤ m.index → past s.mark s.rest ≡ past m (63 ∷ o)
+    → Passes limit (state_at false s y k ls a ad ps) (no_key (moved m (63 ∷ []))) (behind_question y) ls ps (moved m (63 ∷ [])) o (tokens.Key ∷ [])
+mark_passes limit y flows m o clear below parted some tabs s k ls a ad ps before text =
+    let v = arrives s y k ls a ad ps m (63 ∷ o) (text ∙ past_ink m 63 o question.ink) in
+    let w = parted.separation in
+    let c = parted.first in
+    let cs = parted.others in
+    let seen = cursor_at (63 ∷ o) m v.blank in
+    let p = spaces_passed (along m 1) false w c cs parted.parts some tabs parted.ink in
+    let n = moved (along m 1) w in
+    let there = cursor_at (c ∷ cs) n p.still_blank in
+    let white : is_blank_or_breakz (slice_index o 0) ≡ true = ap (λ (t : List ℕ). is_blank_or_breakz (slice_index t 0)) parted.is ∙ white_first w (c ∷ cs) parted.parts some in
+    let stepped = begins (slice_index o 0) (length ps) (core_at false seen y v.key ls v.allowed ad) white ∙ key_of seen y v.key ls v.allowed ad flows
+    ∙ ap (λ q. q >>= λ (d : Core). went (up_to_here m tokens.Key d ∷ []) d)
+    (begins_key seen y v.key ls v.allowed ad flows
+    ∙ passes_mark o m v.blank (behind_question y) ls ad n p.still_blank c cs parted.ink (ap (spaces (along m 1) false false) parted.is ∙ p.is)) in
+    let lands : past there.mark there.rest ≡ past (along m 1) o = sym (ap (past (along m 1)) parted.is ∙ separation_past (along m 1) w (c ∷ cs) parted.parts) in
+    let new = place_of m n tokens.Key ∷ [] in
+    let came = one limit s y k ls a ad ps m (63 ∷ o) v (mark_begins m 63 o question clear) there (behind_question y) None ls false ad (ps ++ new) (from_to m n tokens.Key ∷ []) stepped refl
+    (within_index limit there (along m 1) o lands (omega (arith, below))) in
+    once false ad there ps new (moved m (63 ∷ [])) o (tokens.Key ∷ []) (no_key (moved m (63 ∷ []))) came (lands ∙ ap (λ (q : Marker). past q o) (mark_moved m 63 question)) refl (came.same (question_flows y flows), refl, one_on m 63 ad before)

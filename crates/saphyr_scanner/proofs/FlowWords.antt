@@ -1,0 +1,167 @@
+-- The plain scalars of a text in flow style are plain scalars as they are read.
+use Rattle.std.proofs.Common.{◌≡◌, ◌≢◌, ℕ, Bool, true, false, List, [], ◌∷◌, ◌++◌, length, slice_index, refl, sym, ap, ◌∙◌, arith, subst, append_assoc, IsTrue, IsFalse, inl, inr}
+use Rattle.std.specs.Prelude.{◌||◌, ◌&&◌, ◌==◌, not, if◌then◌else◌}
+use Rattle.std.proofs.lemmas.Bool.Decides.{nat_tests}
+use Rattle.saphyr_input.specs.Breaks.{normalized}
+use Rattle.saphyr_input.specs.Classes.{is_blank, is_break, is_blank_or_breakz, is_bom, is_flow, line_feed, carriage_return}
+use Rattle.saphyr_input.specs.Places.{is_document_indicator}
+use Rattle.saphyr_scalar.specs.declared.scalar.position.Marker.{Marker}
+use Rattle.saphyr_scalar.specs.Cursor.{along, next_line}
+use Rattle.saphyr_scalar.specs.BlockRead.{spaces}
+use Rattle.saphyr_scalar.specs.Plain.{ends_line}
+use Rattle.saphyr_scalar.specs.PlainReading.{AreWhite, passed}
+use Rattle.saphyr_scalar.specs.PlainSpelling.{EndsPlain, is_word_ink, AreWordInk, IsWordIn, IsPlainGap, words_text, IsNoMarker, AreFurtherWords, IsPlainText}
+use Rattle.saphyr_scalar.specs.TagSpelling.{AreIn}
+use Rattle.saphyr_scalar.specs.Spaces.{joined, AreEach, AreSpaces}
+use Rattle.saphyr_scalar.proofs.NoBreaks.{NoBreaks}
+use Rattle.saphyr_scanner.specs.FlowScalars.{IsEmptyLine, IsFoldedGap, IsWordGap, IsFurtherWord, IsPlain}
+use Rattle.saphyr_scanner.proofs.FlowStates.{moved, IsClear}
+use Rattle.saphyr_scanner.proofs.FlowPlaces.{clear_front, clear_back, clear_here}
+use Rattle.saphyr_scanner.proofs.FlowFillers.{spaces_are_blank}
+use Rattle.saphyr_scanner.proofs.FlowNames.{unbroken_along}
+use Rattle.saphyr_scanner.proofs.FlowEnds.{blank_white}
+
+-- ## Texts without CR
+
+abbrev NoReturn : List ℕ → Type 0
+NoReturn t = AreIn (λ c. not (c == carriage_return)) t
+
+no_return : (c : ℕ) → IsTrue (not (c == carriage_return)) → (c == carriage_return) ≡ false
+no_return c h = grind (arith, nat_tests)
+
+feed_alone : (c : ℕ) (cs : List ℕ) → (c == carriage_return) ≡ false → ends_line c cs ≡ (c == line_feed)
+feed_alone c cs h = rw h (by_feed (c == line_feed))
+  where
+    by_feed : (b : Bool) → ((b || false) && not (false && (slice_index cs 0 == line_feed))) ≡ b
+    by_feed true = refl
+    by_feed false = refl
+
+pub passed_moved : (m : Marker) (t : List ℕ) → NoReturn t → passed m t ≡ moved m t
+passed_moved m [] h = refl
+passed_moved m (c ∷ cs) h =
+    ap (λ (b : Bool). passed (if b then next_line m 1 else along m 1) cs) (feed_alone c cs (no_return c h.0)) ∙ passed_moved (if c == line_feed then next_line m 1 else along m 1) cs h.1
+
+pub normalized_same : (t : List ℕ) → NoReturn t → normalized t ≡ t
+normalized_same [] h = refl
+normalized_same (c ∷ cs) h = rw (no_return c h.0) (ap (λ (t : List ℕ). c ∷ t) (normalized_same cs h.1))
+
+-- ## Words
+
+-- what ink is not
+pub record IsOther (f : Bool) (c : ℕ) : Type 0 where
+  pub blank_or_breakz : is_blank_or_breakz c ≡ false
+  pub byte_order_mark : is_bom c ≡ false
+  pub flow : (f && is_flow c) ≡ false
+
+three : (a b d : Bool) → (not a && not b && not d) ≡ true → (a ≡ false) × (b ≡ false) × (d ≡ false)
+three false false false h = (refl, refl, refl)
+three true b d h = absurd (cc)
+three false true d h = absurd (cc)
+three false false true h = absurd (cc)
+
+pub ink_other : (f : Bool) (c : ℕ) → IsTrue (is_word_ink f c) → IsOther f c
+ink_other f c h = let p = three (is_blank_or_breakz c) (is_bom c) (f && is_flow c) h in record { blank_or_breakz = p.0; byte_order_mark = p.1; flow = p.2 }
+
+pub no_break : (c : ℕ) → is_blank_or_breakz c ≡ false → is_break c ≡ false
+no_break c h = grind (arith, nat_tests)
+
+word_unbroken : (f : Bool) (w : List ℕ) → AreWordInk f w → NoBreaks w
+word_unbroken f [] h = tt
+word_unbroken f (c ∷ cs) h = (no_break c (ink_other f c h.0).blank_or_breakz, word_unbroken f cs h.2)
+
+-- ## Gaps
+
+blanks_white : (t : List ℕ) → AreIn is_blank t → AreWhite t
+blanks_white [] h = tt
+blanks_white (c ∷ cs) h = (blank_white c h.0, blanks_white cs h.1)
+
+both_white : (a b : List ℕ) → AreWhite a → AreWhite b → AreWhite (a ++ b)
+both_white [] b h k = k
+both_white (c ∷ cs) b h k = (h.0, both_white cs b h.1 k)
+
+spaces_white : (least : ℕ) (t : List ℕ) → AreSpaces least t → AreWhite t
+spaces_white least t h = subst AreWhite (sym h.2) (blanks_white (spaces h.0) (spaces_are_blank h.0))
+
+line_white : (t : List ℕ) → IsEmptyLine t → AreWhite t
+line_white t h = subst AreWhite (sym h.2) (both_white h.0 (10 ∷ []) (spaces_white 0 h.0 h.1) (refl, tt))
+
+lines_white : (ts : List (List ℕ)) → AreEach IsEmptyLine ts → AreWhite (joined ts)
+lines_white [] h = tt
+lines_white (t ∷ ts) h = both_white t (joined ts) (line_white t h.0) (lines_white ts h.1)
+
+not_nothing : (a : List ℕ) (c : ℕ) (b : List ℕ) → a ++ (c ∷ b) ≢ []
+not_nothing [] c b e = absurd (cc)
+not_nothing (d ∷ a) c b e = absurd (cc)
+
+folded_gap : (t : List ℕ) → IsFoldedGap 0 t → (t ≢ []) × AreWhite t
+folded_gap t (blanks, lines, front, are, (pieces, each, joins), spaced, is) =
+    let many : AreWhite lines = subst AreWhite (sym joins) (lines_white pieces each) in
+    let all : AreWhite (blanks ++ (10 ∷ (lines ++ front))) = both_white blanks (10 ∷ (lines ++ front)) (blanks_white blanks are) (refl, both_white lines front many (spaces_white 0 front spaced)) in
+    (λ e. not_nothing blanks 10 (lines ++ front) (sym is ∙ e), subst AreWhite (sym is) all)
+
+word_gap : (t : List ℕ) → IsWordGap 0 t → (t ≢ []) × AreWhite t
+word_gap t (inl h) = (h.0, blanks_white t h.1)
+word_gap t (inr h) = folded_gap t h
+
+plain_gap : (f : Bool) (m : Marker) (t : List ℕ) → IsWordGap 0 t → IsPlainGap f 0 m t
+plain_gap f m t h = let g = word_gap t h in record { some = g.0; white = g.1; tabs = inl refl; indented = inr (inr (omega arith)) }
+
+-- ## No marker begins a line
+
+marked : (n : ℕ) (b : Bool) → ((n == 0) && b) ≡ false → n ≡ 0 → IsFalse b
+marked n b h e = subst (λ (k : ℕ). ((k == 0) && b) ≡ false) e h
+
+no_marker : (m : Marker) (w o : List ℕ) → w ≢ [] → IsClear m w o → IsNoMarker m (w ++ o)
+no_marker m [] o some clear = absurd (some refl)
+no_marker m (c ∷ cs) o some clear = marked m.col (is_document_indicator (c ∷ (cs ++ o))) (clear_here m c cs o clear)
+
+-- ## The words behind the first
+
+record IsFurther (f : Bool) (m : Marker) (pieces : List (List ℕ)) (o : List ℕ) : Type 0 where
+  words : List (List ℕ × List ℕ)
+  is : joined pieces ≡ words_text words
+  further : AreFurtherWords f 0 m words o
+
+further_words : (f : Bool) (pieces : List (List ℕ)) → AreEach (IsFurtherWord f 0) pieces → (m : Marker) (o : List ℕ) → IsClear m (joined pieces) o → IsFurther f m pieces o
+further_words f [] h m o clear = record { words = []; is = refl; further = tt }
+further_words f (p ∷ ps) ((gap, word, gapped, is_word, is), others) m o clear =
+    let more = joined ps in
+    let text : p ++ more ≡ gap ++ (word ++ more) = ap (λ (t : List ℕ). t ++ more) is ∙ append_assoc gap word more in
+    let all : IsClear m (gap ++ (word ++ more)) o = subst (λ (t : List ℕ). IsClear m t o) text clear in
+    let there : passed m gap ≡ moved m gap = passed_moved m gap (clear_front m gap (word ++ more) o all).no_return in
+    let at_word : IsClear (passed m gap) (word ++ more) o = subst (λ (n : Marker). IsClear n (word ++ more) o) (sym there) (clear_back m gap (word ++ more) o all) in
+    let mark = along (passed m gap) (length word) in
+    let line : moved (passed m gap) word ≡ mark = unbroken_along (passed m gap) word (word_unbroken f word is_word.ink) in
+    let behind : IsClear mark more o = subst (λ (n : Marker). IsClear n more o) line (clear_back (passed m gap) word more o at_word) in
+    let rest = further_words f ps others mark o behind in
+    let unmarked : IsNoMarker (passed m gap) (word ++ (words_text rest.words ++ o)) =
+    subst (λ (t : List ℕ). IsNoMarker (passed m gap) (word ++ (t ++ o))) rest.is (no_marker (passed m gap) word (more ++ o) is_word.some (clear_front (passed m gap) word more o at_word)) in
+    record {
+      words = (gap, word) ∷ rest.words;
+      is = text ∙ ap (λ (t : List ℕ). gap ++ (word ++ t)) rest.is;
+      further = (plain_gap f m gap gapped, is_word, unmarked, rest.further);
+    }
+
+-- ## The whole scalar
+
+both_some : (a b : List ℕ) → a ≢ [] → a ++ b ≢ []
+both_some [] b some e = absurd (some refl)
+both_some (c ∷ a) b some e = absurd (cc)
+
+pub plain_text : (f : Bool) (m : Marker) (t o : List ℕ) → IsPlain f 0 t → IsClear m t o → EndsPlain f 0 (moved m t) o → IsPlainText f 0 m t o
+plain_text f m t o (first, others, is_first, (pieces, each, joins), is) clear ends =
+    let word : IsWordIn f first = is_first.0 in
+    let text : t ≡ first ++ joined pieces = is ∙ ap (λ (y : List ℕ). first ++ y) joins in
+    let all : IsClear m (first ++ joined pieces) o = subst (λ (y : List ℕ). IsClear m y o) text clear in
+    let line : moved m first ≡ along m (length first) = unbroken_along m first (word_unbroken f first word.ink) in
+    let behind : IsClear (along m (length first)) (joined pieces) o = subst (λ (n : Marker). IsClear n (joined pieces) o) line (clear_back m first (joined pieces) o all) in
+    let rest = further_words f pieces each (along m (length first)) o behind in
+    record {
+      first = first;
+      others = rest.words;
+      is = text ∙ ap (λ (y : List ℕ). first ++ y) rest.is;
+      word = word;
+      marker = no_marker m t o (λ e. both_some first (joined pieces) word.some (sym text ∙ e)) clear;
+      further = rest.further;
+      ends = subst (λ (n : Marker). EndsPlain f 0 n o) (sym (passed_moved m t clear.no_return)) ends;
+    }
