@@ -4,8 +4,16 @@ use Rattle.std.proofs.lemmas.List.{take_all}
 use Rattle.saphyr_scanner.specs.Json.{IsJson}
 use Rattle.saphyr_parser.specs.Cursor.{Cursor}
 use Rattle.saphyr_parser.specs.Complete.{ReadsJson}
+use Rattle.saphyr_parser.specs.Promises.{HasNoReturn, ReadsFlowLayout}
 
 pub reads_whole : (limit bound : ℕ) (text : List ℕ) (parser : Cursor) → limit ≤ bound → ReadsJson limit (take bound text) parser → ReadsJson limit text parser
 reads_whole limit bound text parser within reads forest keep told json few short has =
     let whole : take bound text ≡ text = take_all bound text (omega arith) in
     reads forest keep told (subst (IsJson forest) (sym whole) json) few (rw whole short) has
+
+-- the same of a text in flow style
+pub reads_whole_flow : (limit bound : ℕ) (text : List ℕ) (parser : Cursor) → limit ≤ bound → (HasNoReturn (take bound text) → ReadsFlowLayout limit (take bound text) parser) → HasNoReturn text → ReadsFlowLayout limit text parser
+reads_whole_flow limit bound text parser within reads feeds forest keep told promised =
+    let short = promised.within in
+    let whole : take bound text ≡ text = take_all bound text (omega (arith, short)) in
+    subst (λ (cs : List ℕ). HasNoReturn cs → ReadsFlowLayout limit cs parser) whole reads feeds forest keep told promised

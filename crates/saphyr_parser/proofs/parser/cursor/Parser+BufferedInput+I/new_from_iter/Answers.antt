@@ -1,8 +1,8 @@
 use Rattle.std.proofs.Common.{ℕ, List, subst, arith}
 use Rattle.saphyr_parser.specs.Complete.{ReadsJson}
-use Rattle.saphyr_parser.specs.Promises.{TakesEvents}
+use Rattle.saphyr_parser.specs.Promises.{HasNoReturn, ReadsFlowLayout, TakesEvents}
 use Rattle.saphyr_parser.proofs.EventSpans.{within_whole}
-use Rattle.saphyr_parser.proofs.WithinLimit.{reads_whole}
+use Rattle.saphyr_parser.proofs.WithinLimit.{reads_whole, reads_whole_flow}
 use Rattle.saphyr_parser.proofs.parser.cursor.Parser+BufferedInput+I.new_from_iter.Goals as goal
 
 pub returns-clause-complete : goal.returns-clause-complete
@@ -13,3 +13,6 @@ returns-clause-spans g c = λ text lists. within_whole 4294967296 text _ c.new-2
 
 pub returns-clause-taken : goal.returns-clause-taken
 returns-clause-taken g c = λ text lists. subst (λ (cs : List ℕ). TakesEvents cs c.new-2.result) (c.in_ok-new.ensures.rest text lists) c.new-2.ensures.taken
+
+pub returns-clause-flow : goal.returns-clause-flow
+returns-clause-flow g c = λ text lists. reads_whole_flow 4294967295 4294967296 text c.new-2.result (omega arith) (subst (λ (cs : List ℕ). HasNoReturn cs → ReadsFlowLayout 4294967295 cs c.new-2.result) (c.in_ok-new.ensures.rest text lists) c.new-2.ensures.flow)

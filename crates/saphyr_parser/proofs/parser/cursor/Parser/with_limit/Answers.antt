@@ -3,6 +3,8 @@ use Rattle.saphyr_parser.specs.Cursor.{at_start}
 use Rattle.saphyr_parser.proofs.Completed.{completed}
 use Rattle.saphyr_parser.proofs.EventsTakenOf.{parser_takes}
 use Rattle.saphyr_parser.proofs.EventSpans.{parser_spans_within}
+use Rattle.saphyr_parser.proofs.ReadsEachText.{reads_text}
+use Rattle.saphyr_scanner.specs.Layout.{IsFlowLayoutText, most_open}
 use Rattle.saphyr_parser.proofs.parser.cursor.Parser.with_limit.Goals as goal
 
 pub returns-clause-complete : goal.returns-clause-complete
@@ -13,3 +15,7 @@ returns-clause-spans g c = parser_spans_within _ c.new.result _ c.new-2.ensures 
 
 pub returns-clause-taken : goal.returns-clause-taken
 returns-clause-taken g c = λ few. parser_takes c.takes_all_events.ensures _ _ c.new.result _ c.new-2.ensures c.new.ensures.tokens c.new.ensures.taken (c.ends_with_the_stream.ensures _ _) (c.bounds_tokens.ensures _ _) few
+
+pub returns-clause-flow : goal.returns-clause-flow
+returns-clause-flow g c = λ few feeds.
+    reads_text (IsFlowLayoutText most_open) _ _ few (c.bounds_tokens.ensures _ _) (λ forest layout short. c.scans_each_flow_text.ensures _ forest _ layout feeds short) _ (c.new-2.ensures ∙ ap at_start c.new.ensures.tokens)
