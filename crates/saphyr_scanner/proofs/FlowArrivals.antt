@@ -76,7 +76,7 @@ neither false b c e = (refl, refl)
 neither true true c e = absurd (cc)
 neither true false c e = (refl, e)
 
-begins_here : (s : Cursor) (x : Context) (k : Option Candidate) (ls : List Level) (a : Bool) (ad : ℕ) (ps : List Place) → BeginsToken s.mark s.rest
+pub begins_here : (s : Cursor) (x : Context) (k : Option Candidate) (ls : List Level) (a : Bool) (ad : ℕ) (ps : List Place) → BeginsToken s.mark s.rest
     → fetch_here (state_at false s x k ls a ad ps) ≡ content (slice_index s.rest 0) (slice_index s.rest 1) (state_at false s x k ls a ad ps)
 unfolding fetch_here
 begins_here s x k ls a ad ps h =

@@ -14,7 +14,7 @@ use Rattle.saphyr_scanner.specs.Fetch.{step, content, fetch_here, fetch, within,
 use Rattle.saphyr_scanner.proofs.Leads.{Leads, stay, onward}
 use Rattle.saphyr_scanner.proofs.JsonStates.{cursor_at, core_at, state_at, queue_of, no_less, none_before, and_false}
 use Rattle.saphyr_scanner.proofs.FlowStates.{noted}
-use Rattle.saphyr_scanner.proofs.FlowArrivals.{Arrives, BeginsToken}
+use Rattle.saphyr_scanner.proofs.FlowArrivals.{Arrives, BeginsToken, begins_here}
 
 -- a state outside flow with a comment
 abbrev pub core_with : Option Marker → Cursor → Option Candidate → List Level → Bool → ℕ → Core
@@ -48,18 +48,6 @@ noted_comes limit start comment s k ls a ad ps going is low =
       key = d.0;
       leads = onward start st (noted comment (state_at false s context.Block d.0 ls a ad ps)) going (ap (λ r. r >>= within limit) is ∙ fits) (ap (λ r. carried r (queue_of ps)) d.1) stay;
     }
-
-neither : (a b c : Bool) → (a && (b || c)) ≡ false → ((a && b) ≡ false) × ((a && c) ≡ false)
-neither false b c e = (refl, refl)
-neither true true c e = absurd (cc)
-neither true false c e = (refl, e)
-
-begins_here : (s : Cursor) (x : Context) (k : Option Candidate) (ls : List Level) (a : Bool) (ad : ℕ) (ps : List Place) → BeginsToken s.mark s.rest
-    → fetch_here (state_at false s x k ls a ad ps) ≡ content (slice_index s.rest 0) (slice_index s.rest 1) (state_at false s x k ls a ad ps)
-unfolding fetch_here
-begins_here s x k ls a ad ps h =
-    let n = neither (s.mark.col == 0) (is_document_start s.rest) (is_document_end s.rest) h.marker in
-    rw (h.nul, h.byte_order_mark, h.directive, and_false (s.mark.col == 0), n.0, n.1, no_less s.mark.col) refl
 
 -- what the step at the next token's first characters gives
 pub noted_one : (limit : ℕ) (s : Cursor) (k : Option Candidate) (ls : List Level) (a : Bool) (ad : ℕ) (ps : List Place) (m : Marker) (y : List ℕ) (v : Arrives s context.Block k ls a ad ps m y)

@@ -61,7 +61,7 @@ neither : (a b : Bool) → (a || b) ≡ false → (a ≡ false) × (b ≡ false)
 neither true b e = absurd (cc)
 neither false b e = (refl, e)
 
-both : (a b : Bool) → a ≡ false → b ≡ false → (a || b) ≡ false
+pub both : (a b : Bool) → a ≡ false → b ≡ false → (a || b) ≡ false
 both a b e f = rw (e, f) refl
 
 front_unmarked : (at_start : Bool) (a b o : List ℕ) → marks_line at_start (a ++ b) o ≡ false → marks_line at_start a (b ++ o) ≡ false

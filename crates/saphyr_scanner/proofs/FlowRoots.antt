@@ -17,7 +17,7 @@ use Rattle.saphyr_scanner.proofs.Leads.{Leads}
 use Rattle.saphyr_scanner.proofs.JsonStates.{state_at}
 use Rattle.saphyr_scanner.proofs.JsonMarks.{chain, kinds, kinds_append}
 use Rattle.saphyr_scanner.proofs.FlowStates.{moved, past, marks_line, IsClear, IsBehindRoot, noted, ClosesNodes}
-use Rattle.saphyr_scanner.proofs.FlowPlaces.{moved_count, clear_front, clear_back}
+use Rattle.saphyr_scanner.proofs.FlowPlaces.{moved_count, clear_front, clear_back, both}
 use Rattle.saphyr_scanner.proofs.FlowFillers.{IsPast}
 use Rattle.saphyr_scanner.proofs.FlowLines.{EndsWithLine, eol, eol_past, gap_is_past}
 use Rattle.saphyr_scanner.proofs.FlowStands.{EndsDocument, AtLine, Stands}
@@ -33,14 +33,11 @@ lost_third true true z = refl
 lost_third true false z = refl
 lost_third false b z = refl
 
-neither : (a b : Bool) → a ≡ false → b ≡ false → (a || b) ≡ false
-neither a b e f = rw (e, f) refl
-
 feed_second : (c : ℕ) (t : List ℕ) → is_document_indicator (c ∷ 10 ∷ t) ≡ false
-feed_second c t = neither (is_document_start (c ∷ 10 ∷ t)) (is_document_end (c ∷ 10 ∷ t)) (lost_second (c == 45) _ _) (lost_second (c == 46) _ _)
+feed_second c t = both (is_document_start (c ∷ 10 ∷ t)) (is_document_end (c ∷ 10 ∷ t)) (lost_second (c == 45) _ _) (lost_second (c == 46) _ _)
 
 feed_third : (c d : ℕ) (t : List ℕ) → is_document_indicator (c ∷ d ∷ 10 ∷ t) ≡ false
-feed_third c d t = neither (is_document_start (c ∷ d ∷ 10 ∷ t)) (is_document_end (c ∷ d ∷ 10 ∷ t)) (lost_third (c == 45) (d == 45) _) (lost_third (c == 46) (d == 46) _)
+feed_third c d t = both (is_document_start (c ∷ d ∷ 10 ∷ t)) (is_document_end (c ∷ d ∷ 10 ∷ t)) (lost_third (c == 45) (d == 45) _) (lost_third (c == 46) (d == 46) _)
 
 -- a document marker ends before a line feed
 fed_marker : (c : ℕ) (cs behind : List ℕ) → is_document_indicator (c ∷ ((cs ++ (10 ∷ [])) ++ behind)) ≡ is_document_indicator (c ∷ (cs ++ (10 ∷ [])))
