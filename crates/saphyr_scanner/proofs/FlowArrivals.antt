@@ -1,6 +1,6 @@
 -- The next token of a text in flow style is reached, and read by a step.
-use Rattle.std.proofs.Common.{◌≡◌, ℕ, ◌+◌, ◌≤◌, Bool, true, false, List, [], ◌∷◌, ◌++◌, length, slice_index, Ok, refl, sym, ap, ◌∙◌, arith, subst}
-use Rattle.std.specs.Prelude.{◌||◌, ◌&&◌, ◌==◌, Option, Some, None}
+use Rattle.std.proofs.Common.{◌≡◌, ℕ, ◌+◌, ◌≤◌, Bool, true, false, List, length, slice_index, Ok, refl, ap, ◌∙◌, arith}
+use Rattle.std.specs.Prelude.{◌||◌, ◌&&◌, ◌==◌, Option, Some}
 use Rattle.saphyr_input.specs.Classes.{is_bom, is_z}
 use Rattle.saphyr_input.specs.Places.{is_document_indicator, is_document_start, is_document_end}
 use Rattle.saphyr_scalar.specs.declared.scalar.position.Marker.{Marker}

@@ -1,16 +1,14 @@
 -- The pairs of braces inside flow, one behind the other.
-use Rattle.std.proofs.Common.{◌≡◌, ℕ, ◌+◌, ◌<◌, ◌≤◌, Bool, true, false, List, [], ◌∷◌, ◌++◌, length, refl, sym, ap, ◌∙◌, subst, append_assoc, ◌⊎◌, inl, inr}
+use Rattle.std.proofs.Common.{◌≡◌, ℕ, ◌+◌, ◌<◌, ◌≤◌, Bool, true, false, List, [], ◌∷◌, ◌++◌, length, refl, sym, ap, ◌∙◌, subst, append_assoc, inl, inr}
 use Rattle.std.specs.Prelude.{Option, None}
 use Rattle.saphyr_scalar.specs.declared.scalar.position.Marker.{Marker}
 use Rattle.saphyr_scalar.specs.Cursor.{Cursor}
-use Rattle.saphyr_scanner.specs.declared.engine.level.Context.{Context}
 use Rattle.saphyr_scanner.specs.declared.engine.level.Context.TheVariants as context
 use Rattle.saphyr_scanner.specs.Tokens as tokens
 use Rattle.saphyr_scanner.specs.Tokens.{Kind}
 use Rattle.saphyr_scanner.specs.TokenGrammar as grammar
 use Rattle.saphyr_scanner.specs.Queue.{Place}
 use Rattle.saphyr_scanner.specs.Core.{Candidate, Level}
-use Rattle.saphyr_scanner.specs.State.{State}
 use Rattle.saphyr_scanner.specs.Forest.{Node, Pairs, NoPair, MorePairs}
 use Rattle.saphyr_scanner.specs.FlowNodes.{IsPairText, IsPair, IsFlowNode, AreFlowPairs, AreOtherFlowPairs}
 use Rattle.saphyr_scanner.proofs.JsonStates.{state_at}
@@ -95,7 +93,7 @@ other_pairs_pass {limit} room key value pairs K V O m p o (comma, pair, others, 
     let here = moved m comma in
     let inner = fits_back m comma (pair ++ others) behind_all whole in
     let n = one_passes room key value K V here pair (others ++ behind_all) (fits_front here pair others behind_all inner) (others_first room pairs others o h) i
-        q.there q.key ls q.allowed q.adjacent (ps ++ q.new) q.knows.0 q.knows.1 low q.knows.2 q.fits in
+    q.there q.key ls q.allowed q.adjacent (ps ++ q.new) q.knows.0 q.knows.1 low q.knows.2 q.fits in
     let there = moved here pair in
     let both = join q n.passes (ended there (others ++ behind_all)) n.passes.knows in
     let r = O there others o h (fits_back here pair others behind_all inner) both.there both.key ls both.allowed both.adjacent (ps ++ both.new) low both.knows both.fits in
@@ -127,7 +125,7 @@ pairs_pass {limit} room key value pairs K V O m p o (pair, others, i, h, e) fits
     let whole = fits_so m p (pair ++ others) behind_all e fits in
     let texts : p ++ behind_all ≡ pair ++ (others ++ behind_all) = ap (λ (t : List ℕ). t ++ behind_all) e ∙ append_assoc pair others behind_all in
     let n = one_passes room key value K V m pair (others ++ behind_all) (fits_front m pair others behind_all whole) (others_first room pairs others o h) i
-        s k ls a ad ps no_candidate fresh low before (text ∙ ap (past m) texts) in
+    s k ls a ad ps no_candidate fresh low before (text ∙ ap (past m) texts) in
     let there = moved m pair in
     let q = n.passes in
     let r = O there others o h (fits_back m pair others behind_all whole) q.there q.key ls q.allowed q.adjacent (ps ++ q.new) low q.knows q.fits in

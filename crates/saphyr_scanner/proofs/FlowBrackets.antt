@@ -1,8 +1,8 @@
 -- The brackets and braces of a text in flow style are read.
 use Rattle.std.proofs.Common.{◌≡◌, ℕ, ◌+◌, ◌<◌, ◌≤◌, Bool, true, false, List, [], ◌∷◌, ◌++◌, length, slice_index, Result, Ok, Err, refl, sym, ap, ◌∙◌, arith, subst, append_assoc, cond, IsTrue}
-use Rattle.std.specs.Prelude.{◌||◌, ◌&&◌, ◌==◌, Option, None}
+use Rattle.std.specs.Prelude.{◌&&◌, ◌==◌, Option, None}
 use Rattle.std.specs.List.{list_all}
-use Rattle.saphyr_input.specs.Classes.{is_blank, is_bom, is_z, line_feed}
+use Rattle.saphyr_input.specs.Classes.{is_blank, is_z, line_feed}
 use Rattle.saphyr_input.specs.declared.input.SkipTabs.{SkipTabs}
 use Rattle.saphyr_input.specs.declared.input.SkipTabs.TheVariants.{Yes}
 use Rattle.saphyr_scalar.specs.declared.scalar.position.Marker.{Marker}
@@ -11,7 +11,6 @@ use Rattle.saphyr_scalar.specs.Cursor.{Cursor, along, separation}
 use Rattle.saphyr_scalar.specs.TagSpelling.{AreIn}
 use Rattle.saphyr_scalar.specs.Spaces.{IsSeparation}
 use Rattle.saphyr_scanner.specs.declared.engine.level.Context.{Context}
-use Rattle.saphyr_scanner.specs.declared.engine.level.Context.TheVariants as context
 use Rattle.saphyr_scanner.specs.Tokens as tokens
 use Rattle.saphyr_scanner.specs.Tokens.{Kind}
 use Rattle.saphyr_scanner.specs.Seen.{Piece}
@@ -27,7 +26,7 @@ use Rattle.saphyr_scanner.proofs.FlowStates.{moved, past, IsClear, IsInk, IsPart
 use Rattle.saphyr_scanner.proofs.FlowPlaces.{moved_index, clear_here}
 use Rattle.saphyr_scanner.proofs.FlowGaps.{past_ink, past_low}
 use Rattle.saphyr_scanner.proofs.FlowArrivals.{BeginsToken, arrives, one, within_index}
-use Rattle.saphyr_scanner.proofs.FlowSeparates.{Separates, separates}
+use Rattle.saphyr_scanner.proofs.FlowSeparates.{separates}
 use Rattle.saphyr_scanner.proofs.FlowJoins.{once}
 
 -- a character that is a token
@@ -68,9 +67,12 @@ open_passes limit y in_flow kind ch mark begins m o clear below parted s x k ls 
     ∙ opens y kind ch o m v.blank x key ls v.allowed ad p.found p.there p.is low in
     let new = place_of m p.there.mark kind ∷ [] in
     let came = one limit s x k ls a ad ps m (ch ∷ o) v (mark_begins m ch o mark clear) p.there y None (level_of x key ∷ ls) true ad (ps ++ new) (from_to m p.there.mark kind ∷ []) stepped refl
-    (within_index limit p.there (along m 1) o p.lands (omega (arith, below))) in
-    (key, saved_so x a v.allowed (length ps) m k v.key v.same, once true ad p.there ps new (moved m (ch ∷ [])) o (kind ∷ []) (opened_collection (moved m (ch ∷ []))) came
-    (p.lands ∙ ap (λ (q : Marker). past q o) (mark_moved m ch mark)) refl ((came.same in_flow, refl, one_on m ch ad before), (record { span = record { start = m; end = p.there.mark }; kind = kind }, refl)))
+    (within_index limit p.there (along m 1) o p.lands (omega (arith, below))) in (
+      key,
+      saved_so x a v.allowed (length ps) m k v.key v.same,
+      once true ad p.there ps new (moved m (ch ∷ [])) o (kind ∷ []) (opened_collection (moved m (ch ∷ []))) came
+          (p.lands ∙ ap (λ (q : Marker). past q o) (mark_moved m ch mark)) refl ((came.same in_flow, refl, one_on m ch ad before), (record { span = record { start = m; end = p.there.mark }; kind = kind }, refl)),
+    )
 
 -- ## A closing bracket
 

@@ -1,37 +1,32 @@
 -- Collections in brackets and braces, given the run over what is inside them.
-use Rattle.std.proofs.Common.{◌≡◌, ◌≢◌, ℕ, ◌+◌, ◌<◌, ◌≤◌, Bool, true, false, List, [], ◌∷◌, ◌++◌, length, slice_index, Ok, refl, sym, ap, ◌∙◌, arith, subst, append_assoc, IsTrue, ◌⊎◌, inl, inr}
-use Rattle.std.specs.Prelude.{◌||◌, ◌&&◌, not, Option, None}
+use Rattle.std.proofs.Common.{◌≡◌, ℕ, ◌<◌, ◌≤◌, Bool, true, false, List, [], ◌∷◌, ◌++◌, length, Ok, sym, ap, ◌∙◌, subst, append_assoc, IsTrue}
+use Rattle.std.specs.Prelude.{Option, None}
 use Rattle.std.specs.List.{list_all}
-use Rattle.saphyr_input.specs.Classes.{is_blank, is_blank_or_breakz, is_flow}
+use Rattle.saphyr_input.specs.Classes.{is_blank}
 use Rattle.saphyr_input.specs.declared.input.SkipTabs.{SkipTabs}
 use Rattle.saphyr_input.specs.declared.input.SkipTabs.TheVariants.{Yes}
 use Rattle.saphyr_scalar.specs.declared.scalar.position.Marker.{Marker}
 use Rattle.saphyr_scalar.specs.Cursor.{Cursor, along, separation}
-use Rattle.saphyr_scalar.specs.TagSpelling.{EndsTag}
 use Rattle.saphyr_scalar.specs.Spaces.{IsSeparation}
 use Rattle.saphyr_scanner.specs.declared.engine.level.Context.{Context}
 use Rattle.saphyr_scanner.specs.Tokens.{Kind}
-use Rattle.saphyr_scanner.specs.TokenGrammar as grammar
 use Rattle.saphyr_scanner.specs.Seen.{Piece}
 use Rattle.saphyr_scanner.specs.Queue.{Place, closed}
 use Rattle.saphyr_scanner.specs.Core.{Candidate, Level, Core, is_block}
 use Rattle.saphyr_scanner.specs.Flow as flow
 use Rattle.saphyr_scanner.specs.Flow.{close_collection, ends_pair}
 use Rattle.saphyr_scanner.specs.State.{State}
-use Rattle.saphyr_scanner.specs.Forest.{Properties, no_properties}
-use Rattle.saphyr_scanner.specs.FlowNodes.{IsBeforeContent}
 use Rattle.saphyr_scanner.specs.Fetch.{step}
 use Rattle.saphyr_scanner.proofs.JsonStates.{cursor_at, core_at, state_at}
 use Rattle.saphyr_scanner.proofs.JsonMarks.{saved, level_of}
-use Rattle.saphyr_scanner.proofs.FlowStates.{moved, past, IsParted, IsBehindNode, IsBehindRoot, EndsNode, IsInk, Known, Passes, ended}
+use Rattle.saphyr_scanner.proofs.FlowStates.{moved, past, IsParted, IsBehindRoot, Known, Passes, ended}
 use Rattle.saphyr_scanner.proofs.FlowPlaces.{moved_append}
 use Rattle.saphyr_scanner.proofs.FlowGaps.{past_ink, less_on}
-use Rattle.saphyr_scanner.proofs.FlowFillers.{EndsLine, rest_past}
+use Rattle.saphyr_scanner.proofs.FlowFillers.{rest_past}
 use Rattle.saphyr_scanner.proofs.FlowSeparates.{separates, separates_rest}
-use Rattle.saphyr_scanner.proofs.FlowJoins.{join, behind, knowing}
+use Rattle.saphyr_scanner.proofs.FlowJoins.{join, behind}
 use Rattle.saphyr_scanner.proofs.FlowBrackets.{IsMark, open_passes, pending, close_passes}
-use Rattle.saphyr_scanner.proofs.FlowSpaces.{separation_begins}
-use Rattle.saphyr_scanner.proofs.FlowPieces.{Fits, fits_front, fits_back, fits_so, fits_before}
+use Rattle.saphyr_scanner.proofs.FlowPieces.{Fits, fits_front, fits_back, fits_before}
 
 -- ## Behind the closing bracket
 
@@ -129,9 +124,9 @@ brackets_pass limit Is b are m w inside o fits parts parted ends s x k ls a ad p
     let here = moved m (b.opening ∷ w) in
     let closing_fits = fits_back here inside close o (fits_back m (b.opening ∷ w) (inside ++ close) o fits) in
     let texts : bracket_text b w inside ++ o ≡ b.opening ∷ (w ++ (inside ++ (b.closing ∷ o))) =
-        append_assoc (b.opening ∷ w) (inside ++ close) o ∙ ap (λ (t : List ℕ). b.opening ∷ (w ++ t)) follow in
+    append_assoc (b.opening ∷ w) (inside ++ close) o ∙ ap (λ (t : List ℕ). b.opening ∷ (w ++ t)) follow in
     let opened = open_passes limit b.context are.flows b.opens b.opening are.opening_mark are.begins m (w ++ (inside ++ (b.closing ∷ o))) opening_fits.clear opening_fits.below parted
-        s x k ls a ad ps low before (text ∙ ap (past m) texts) in
+    s x k ls a ad ps low before (text ∙ ap (past m) texts) in
     let j = opened.0 in
     let p = behind (moved m (b.opening ∷ [])) w (inside ++ (b.closing ∷ o)) parts opened.2 in
     let r = run p.there p.key j p.allowed p.adjacent (ps ++ p.new) p.knows.0.0 p.knows.0.1 (less_on p.adjacent (moved m (b.opening ∷ [])) w p.knows.0.2) p.fits in
@@ -140,7 +135,7 @@ brackets_pass limit Is b are m w inside o fits parts parted ends s x k ls a ad p
     let first_ended : r.passes.adjacent ≤ at_end.index = subst (λ (z : Marker × List ℕ). r.passes.adjacent ≤ z.0.index) (past_ink at_end b.closing o are.closing_mark.ink) r.passes.knows in
     let q = join p r.passes (starts_with piece at_end.index) ((r.passes.new, ap (λ (z : List Place). z ++ r.passes.new) p.knows.1.1), first_ended) in
     let c = close_passes limit r.inside (ends_pair r.inside) b.closes b.closing are.closing_mark r.closes at_end o closing_fits.clear closing_fits.below ends.found ends.there ends.is ends.lands
-        q.there q.key j x ls q.allowed q.adjacent (ps ++ q.new) q.knows.1 q.fits in
+    q.there q.key j x ls q.allowed q.adjacent (ps ++ q.new) q.knows.1 q.fits in
     let end = moved at_end close in
     let kept = saved a (length ps) m k in
     let known : IsBracketed x kept end o c.key c.adjacent (q.new ++ c.new) = record {

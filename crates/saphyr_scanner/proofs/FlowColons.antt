@@ -1,12 +1,11 @@
 -- The colons of a text in flow style are read, behind a key and without one.
-use Rattle.std.proofs.Common.{◌≡◌, ℕ, ◌+◌, ◌-◌, ◌≤◌, Bool, true, false, List, [], ◌∷◌, ◌++◌, length, slice_index, Ok, refl, sym, ap, ◌∙◌, arith, subst, append_assoc, IsTrue, ◌⊎◌, inl, inr}
+use Rattle.std.proofs.Common.{◌≡◌, ℕ, Bool, true, false, List, [], ◌∷◌, ◌++◌, length, slice_index, Ok, refl, sym, ap, ◌∙◌, arith, append_assoc, IsTrue, ◌⊎◌, inl, inr}
 use Rattle.std.specs.Prelude.{◌||◌, ◌&&◌, ◌==◌, not, nat_lt, Option, Some, None}
 use Rattle.std.proofs.lemmas.Bool.Decides.{nat_tests}
 use Rattle.saphyr_input.specs.Classes.{is_blank_or_breakz, is_flow}
 use Rattle.saphyr_input.specs.declared.input.SkipTabs.{SkipTabs}
 use Rattle.saphyr_scalar.specs.declared.scalar.position.Marker.{Marker}
 use Rattle.saphyr_scalar.specs.Cursor.{Cursor, ◌>>=◌, along}
-use Rattle.saphyr_scalar.specs.Spaces.{IsSeparation}
 use Rattle.saphyr_scanner.specs.declared.engine.level.Context.{Context}
 use Rattle.saphyr_scanner.specs.declared.engine.level.Context.TheVariants as context
 use Rattle.saphyr_scanner.specs.declared.queue.Opening.{Opening}
@@ -19,21 +18,14 @@ use Rattle.saphyr_scanner.specs.Core.{Candidate, Level, Core, Put, Open, Steps, 
 use Rattle.saphyr_scanner.specs.Passing.{with_cursor}
 use Rattle.saphyr_scanner.specs.Value as value
 use Rattle.saphyr_scanner.specs.Value.{begins_pair, behind_colon, check_tab, refuse_tab, of_key, alone, begin_alone, behind_key}
-use Rattle.saphyr_scanner.specs.State.{State}
-use Rattle.saphyr_scanner.specs.Forest.{Node}
-use Rattle.saphyr_scanner.specs.FlowNodes.{allows_adjacent}
 use Rattle.saphyr_scanner.specs.Fetch.{step, flow_value}
 use Rattle.saphyr_scanner.proofs.Sizes.{by_test}
-use Rattle.saphyr_scanner.proofs.JsonStates.{or_true, cursor_at, core_at, state_at, queue_of}
-use Rattle.saphyr_scanner.proofs.JsonMarks.{chain, kinds, kinds_append}
+use Rattle.saphyr_scanner.proofs.JsonStates.{cursor_at, core_at, queue_of}
+use Rattle.saphyr_scanner.proofs.JsonMarks.{kinds, kinds_append}
 use Rattle.saphyr_scanner.proofs.JsonColons.{same_index, opened_seam, none_off}
-use Rattle.saphyr_scanner.proofs.FlowStates.{moved, past, IsClear, IsParted, ends_colon, no_key, after_node, Passes}
-use Rattle.saphyr_scanner.proofs.FlowGaps.{past_ink}
-use Rattle.saphyr_scanner.proofs.FlowFillers.{separation_past}
-use Rattle.saphyr_scanner.proofs.FlowArrivals.{arrives, one, within_index}
+use Rattle.saphyr_scanner.proofs.FlowStates.{past, IsParted, ends_colon}
 use Rattle.saphyr_scanner.proofs.FlowSeparates.{separates}
-use Rattle.saphyr_scanner.proofs.FlowJoins.{once}
-use Rattle.saphyr_scanner.proofs.FlowBrackets.{IsMark, mark_begins, mark_moved}
+use Rattle.saphyr_scanner.proofs.FlowBrackets.{IsMark}
 
 -- ## A colon is an indicator
 

@@ -1,10 +1,9 @@
 -- Directives are read.
-use Rattle.std.proofs.Common.{◌≡◌, ℕ, ◌+◌, ◌≤◌, Bool, true, false, List, [], ◌∷◌, ◌++◌, length, slice_index, Ok, IsTrue, ◌⊎◌, inl, inr, refl, sym, ap, ◌∙◌, arith, subst, append_assoc, append-nil, encode_utf8_all}
-use Rattle.std.specs.Prelude.{map, ◌==◌, Option, None}
-use Rattle.std.proofs.lemmas.Bool.Decides.{nat_tests}
+use Rattle.std.proofs.Common.{◌≡◌, ℕ, ◌+◌, ◌≤◌, Bool, true, false, List, [], ◌∷◌, ◌++◌, length, slice_index, Ok, inl, refl, sym, ap, ◌∙◌, arith, subst, append_assoc, append-nil, encode_utf8_all}
+use Rattle.std.specs.Prelude.{map, Option, None}
 use Rattle.std.proofs.lemmas.List.{length-append}
 use Rattle.saphyr_scalar.specs.declared.scalar.position.Marker.{Marker}
-use Rattle.saphyr_scalar.specs.Cursor.{Cursor, ◌>>=◌, along, next_line}
+use Rattle.saphyr_scalar.specs.Cursor.{Cursor, along, next_line}
 use Rattle.saphyr_scalar.specs.Directive as directives
 use Rattle.saphyr_scalar.specs.DirectiveSpelling.{IsDirectiveText, IsLineTail}
 use Rattle.saphyr_scanner.specs.declared.engine.level.Context.TheVariants as context
@@ -14,13 +13,13 @@ use Rattle.saphyr_scanner.specs.TagSpelling.{IsHandle}
 use Rattle.saphyr_scanner.specs.Tokens.{Kind, directive_token}
 use Rattle.saphyr_scanner.specs.Layout.{IsDirective, AreDirectives}
 use Rattle.saphyr_scanner.specs.Queue.{Place, closed}
-use Rattle.saphyr_scanner.specs.Core.{Candidate, Step, remove_key}
-use Rattle.saphyr_scanner.specs.State.{State, acted}
+use Rattle.saphyr_scanner.specs.Core.{Candidate, remove_key}
+use Rattle.saphyr_scanner.specs.State.{State}
 use Rattle.saphyr_scanner.specs.Unrolling.{unroll}
 use Rattle.saphyr_scanner.specs.Document as document
 use Rattle.saphyr_scanner.specs.Document.{end_content, read_directive, directive_kind}
 use Rattle.saphyr_scanner.specs.Fetch.{fetch_here}
-use Rattle.saphyr_scanner.proofs.JsonStates.{cursor_at, state_at, queue_of}
+use Rattle.saphyr_scanner.proofs.JsonStates.{cursor_at, state_at}
 use Rattle.saphyr_scanner.proofs.FlowStates.{past, Reads}
 use Rattle.saphyr_scanner.proofs.FlowLines.{passes_filler}
 use Rattle.saphyr_scanner.proofs.FlowStands.{at_start, AtLine, Stands, reads_token}
@@ -101,9 +100,9 @@ reads_directive {limit = limit} {start = start} {ts = ts} d t o h v =
     let text : t ++ (10 ∷ o) ≡ 37 ∷ (b.0 ++ (10 ∷ o)) = ap (λ (x : List ℕ). x ++ (10 ∷ o)) b.1 in
     let here : past v.mark (t ++ (10 ∷ o)) ≡ (v.mark, t ++ (10 ∷ o)) = ap (past v.mark) text ∙ ap (λ (x : List ℕ). (v.mark, x)) (sym text) in
     let fetched = λ (blank : Bool) (key : Option Candidate) (allowed : Bool) (ad : ℕ) (ps : List Place).
-        ap (λ (x : List ℕ). fetch_here (state_at false (cursor_at x v.mark blank) context.Block key [] allowed ad ps)) text
-        ∙ directive_here v.mark (h.end v.mark) blank (b.0 ++ (10 ∷ o)) h.said (cursor_at o n true) key allowed ad ps col
-        (ap (λ (x : List ℕ). directives.directive (cursor_at x v.mark blank)) (sym text) ∙ h.reads v.mark blank o) in
+    ap (λ (x : List ℕ). fetch_here (state_at false (cursor_at x v.mark blank) context.Block key [] allowed ad ps)) text
+    ∙ directive_here v.mark (h.end v.mark) blank (b.0 ++ (10 ∷ o)) h.said (cursor_at o n true) key allowed ad ps col
+    (ap (λ (x : List ℕ). directives.directive (cursor_at x v.mark blank)) (sym text) ∙ h.reads v.mark blank o) in
     subst (λ (k : Kind). Stands limit start true (AtLine o) o (ts ++ k ∷ [])) h.kind
     (reads_token v here (inl refl) (λ _. cursor_at o n true) false (piece_of v.mark (h.end v.mark) (directive_kind h.said)) fetched (AtLine o) n o (λ _. refl) (line_count v.mark t o limit v.count) (inl refl) (further v.mark.index (length t)))
 

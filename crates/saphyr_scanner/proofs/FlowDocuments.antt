@@ -1,34 +1,28 @@
 -- What stands behind a document in flow style, and a document and what parts it from the next are read.
-use Rattle.std.proofs.Common.{◌≡◌, ℕ, ◌+◌, ◌≤◌, Bool, true, false, List, [], ◌∷◌, ◌++◌, length, slice_index, IsTrue, ◌⊎◌, inl, inr, refl, sym, ap, ◌∙◌, arith, subst, append_assoc, append-nil}
-use Rattle.std.specs.Prelude.{map, ◌==◌, not, IsFalse, None}
-use Rattle.std.proofs.lemmas.Bool.Decides.{nat_tests}
-use Rattle.saphyr_input.specs.Classes.{is_blank_or_breakz, byte_order_mark, carriage_return}
+use Rattle.std.proofs.Common.{◌≡◌, ℕ, Bool, true, false, List, [], ◌∷◌, ◌++◌, slice_index, IsTrue, ◌⊎◌, inl, inr, refl, sym, ap, ◌∙◌, subst, append_assoc, append-nil}
+use Rattle.std.specs.Prelude.{map, ◌==◌, not}
+use Rattle.saphyr_input.specs.Classes.{is_blank_or_breakz, carriage_return}
 use Rattle.saphyr_input.specs.Places.{is_document_indicator}
 use Rattle.saphyr_scalar.specs.declared.scalar.position.Marker.{Marker}
 use Rattle.saphyr_scalar.specs.TagSpelling.{AreIn}
 use Rattle.saphyr_scalar.specs.Spaces.{IsEol, IsGap, IsFiller}
-use Rattle.saphyr_scanner.specs.Forest.{Node, Document, Forest, bare, AreCompatible}
-use Rattle.saphyr_scanner.specs.BlockNodes.{Place, AtStart, BehindMarker, IsFlowInBlock}
+use Rattle.saphyr_scanner.specs.Forest.{Node, Document, Forest, AreCompatible}
+use Rattle.saphyr_scanner.specs.BlockNodes.{AtStart, BehindMarker, IsFlowInBlock}
 use Rattle.saphyr_scanner.specs.Layout.{has_marker, AreDirectives, IsDocumentPrefix, IsDocumentSuffix, AreDocuments, most_open, IsFlowLayout}
 use Rattle.saphyr_scanner.specs.Tokens.{Kind, directive_token}
 use Rattle.saphyr_scanner.specs.State.{State, start}
 use Rattle.saphyr_scanner.proofs.FlowStates.{moved, past, marks_line, IsClear, Reads, ClosesNodes}
-use Rattle.saphyr_scanner.proofs.FlowPlaces.{in_front, in_back}
+use Rattle.saphyr_scanner.proofs.FlowPlaces.{in_back}
 use Rattle.saphyr_scanner.proofs.FlowFillers.{filler_past, last_filler_past}
-use Rattle.saphyr_scanner.proofs.FlowLines.{eol, eol_first, gap_first, filler_at_line, passes_filler}
+use Rattle.saphyr_scanner.proofs.FlowLines.{eol, eol_first, gap_first, filler_at_line}
 use Rattle.saphyr_scanner.proofs.FlowStands.{EndsDocument, AtLine, OffLine, Stands, at_start, passes_over}
-use Rattle.saphyr_scanner.proofs.FlowMarkers.{reads_start, start_ends, reads_mark, reads_end, end_ends, Finishes, reads_stream_end}
+use Rattle.saphyr_scanner.proofs.FlowMarkers.{reads_start, start_ends, end_ends}
 use Rattle.saphyr_scanner.proofs.FlowDirectives.{reads_directives}
 use Rattle.saphyr_scanner.proofs.FlowRoots.{whole_marks, Lands, reads_node, NodeStands}
-use Rattle.saphyr_scalar.specs.Cursor.{fresh}
 use Rattle.saphyr_scanner.specs.TokenGrammar.{AreEndsAndMarks, Yields}
-use Rattle.saphyr_scanner.proofs.Leads.{Leads}
-use Rattle.saphyr_scanner.proofs.JsonMarks.{kinds}
-use Rattle.saphyr_scanner.proofs.JsonLeads.{begun, starts}
 use Rattle.saphyr_scanner.specs.Layout as layout
 use Rattle.saphyr_scanner.specs.Tokens as tokens
 use Rattle.saphyr_scanner.specs.TokenGrammar as grammar
-use Rattle.saphyr_scanner.specs.declared.engine.level.Context.TheVariants as context
 
 -- the documents of a text in flow style
 abbrev pub AreFlowDocuments : Forest → Bool → List ℕ → Type 0
@@ -114,7 +108,7 @@ bare_node {limit = limit} {start = start} closes node t others ts unmarked (gap,
     let same : t ≡ (gap ++ text) ++ end = e ∙ sym (append_assoc gap text end) in
     let clear = bare_clear v.mark (gap ++ text) end others (subst (λ (x : List ℕ). AtLine (x ++ others) v.mark) same v.line) (subst HasNoReturn same clean) (ap (has_marker true) (sym same) ∙ unmarked) end_is in
     let w = subst (λ (x : List ℕ). Stands limit start true (λ m. IsClear m x others) (x ++ others) ts) e
-        (passes_over v (λ m. IsClear m t others) v.mark (t ++ others) refl v.count (subst (λ (x : List ℕ). IsClear v.mark x others) (sym same) clear)) in
+    (passes_over v (λ m. IsClear m t others) v.mark (t ++ others) refl v.count (subst (λ (x : List ℕ). IsClear v.mark x others) (sym same) clear)) in
     reads_node closes node gap text end others ts (or_none gap_is) is end_is lands w w.line
   where
     or_none : IsGap 0 gap ⊎ (IsTrue true × (gap ≡ [])) → (gap ≡ []) ⊎ IsGap 0 gap
@@ -131,7 +125,7 @@ explicit_node {limit = limit} {start = start} closes node t others ts unmarked (
     let same : t ≡ (gap ++ text) ++ end = e ∙ sym (append_assoc gap text end) in
     let clear = explicit_clear v.mark (gap ++ text) end others v.line (subst HasNoReturn same clean) (ap (has_marker false) (sym same) ∙ unmarked) end_is in
     let w = subst (λ (x : List ℕ). Stands limit start true (λ m. IsClear m x others) (x ++ others) ts) e
-        (passes_over v (λ m. IsClear m t others) v.mark (t ++ others) refl v.count (subst (λ (x : List ℕ). IsClear v.mark x others) (sym same) clear)) in
+    (passes_over v (λ m. IsClear m t others) v.mark (t ++ others) refl v.count (subst (λ (x : List ℕ). IsClear v.mark x others) (sym same) clear)) in
     reads_node closes node gap text end others ts (inr gap_is) is end_is lands w w.line
 
 token_list : (ts directives node : List Kind) (k : Kind) → ((ts ++ directives) ++ k ∷ []) ++ node ≡ ts ++ (directives ++ k ∷ node)
@@ -163,7 +157,7 @@ reads_document {limit = limit} {start = start} readers closes d free t others ts
 reads_document {limit = limit} {start = start} readers closes d free t others ts (inr (inl is_free, (directives, node, explicit, compatible, are, unmarked, is, e))) lands clean v =
     let text = ap (λ (x : List ℕ). x ++ others) e ∙ document_text directives node others in
     let first : Stands limit start true (AtLine (directives ++ (45 ∷ 45 ∷ 45 ∷ (node ++ others)))) (directives ++ (45 ∷ 45 ∷ 45 ∷ (node ++ others))) ts =
-        subst (λ (x : List ℕ). Stands limit start true (AtLine x) x ts) text (subst (λ (b : Bool). Stands limit start b (AtLine (t ++ others)) (t ++ others) ts) is_free v) in
+    subst (λ (x : List ℕ). Stands limit start true (AtLine x) x ts) text (subst (λ (b : Bool). Stands limit start b (AtLine (t ++ others)) (t ++ others) ts) is_free v) in
     reads_explicit closes d free node others ts (inl is_free) explicit compatible unmarked is lands (clean_node directives node (subst HasNoReturn e clean))
     (reads_directives readers d.directives directives (45 ∷ 45 ∷ 45 ∷ (node ++ others)) ts are first)
 reads_document {limit = limit} {start = start} readers closes d free t others ts (inr (inr none, (directives, node, explicit, compatible, are, unmarked, is, e))) lands clean v =

@@ -1,7 +1,7 @@
 -- The entries of braces and of brackets inside flow.
 use Rattle.std.proofs.Common.{◌≡◌, ℕ, ◌+◌, ◌<◌, ◌≤◌, Bool, true, false, List, [], ◌∷◌, ◌++◌, length, refl, sym, ap, ◌∙◌, subst, append_assoc, append-nil, ◌⊎◌, inl, inr}
-use Rattle.std.specs.Prelude.{◌==◌, not, Option, None}
-use Rattle.saphyr_input.specs.Classes.{is_blank, line_feed}
+use Rattle.std.specs.Prelude.{Option, None}
+use Rattle.saphyr_input.specs.Classes.{is_blank}
 use Rattle.saphyr_scalar.specs.declared.scalar.position.Marker.{Marker}
 use Rattle.saphyr_scalar.specs.Cursor.{Cursor, along}
 use Rattle.saphyr_scalar.specs.TagSpelling.{AreIn}
@@ -16,7 +16,7 @@ use Rattle.saphyr_scanner.specs.Core.{Candidate, Level, is_block}
 use Rattle.saphyr_scanner.specs.Flow.{behind_entry, ends_pair}
 use Rattle.saphyr_scanner.specs.State.{State}
 use Rattle.saphyr_scanner.specs.Forest.{no_properties, Node, Map, NoPair, MorePairs}
-use Rattle.saphyr_scanner.specs.FlowNodes.{IsOnLine, IsKeyAndValue, IsKeyOnLineAndValue, IsBeforeSeparation, IsPairText, IsPair, IsSinglePairText, IsSinglePair, IsFlowNode}
+use Rattle.saphyr_scanner.specs.FlowNodes.{IsOnLine, IsKeyAndValue, IsBeforeSeparation, IsPairText, IsPair, IsSinglePairText, IsSinglePair, IsFlowNode}
 use Rattle.saphyr_scanner.proofs.JsonStates.{state_at}
 use Rattle.saphyr_scanner.proofs.FlowStates.{moved, past, Passes, ended, PassesNode}
 use Rattle.saphyr_scanner.proofs.FlowPlaces.{moved_append, moved_along}
@@ -24,9 +24,8 @@ use Rattle.saphyr_scanner.proofs.FlowFillers.{separation_past}
 use Rattle.saphyr_scanner.proofs.FlowSeparates.{blanks_moved}
 use Rattle.saphyr_scanner.proofs.FlowJoins.{behind, knowing}
 use Rattle.saphyr_scanner.proofs.FlowBrackets.{pending}
-use Rattle.saphyr_scanner.proofs.FlowColons.{key_kinds}
 use Rattle.saphyr_scanner.proofs.FlowPieces.{Fits, fits_front, fits_so, IsBehindEntry, entry_behind, wider_entry}
-use Rattle.saphyr_scanner.proofs.FlowPairs.{Told, told_at, told_so, PairTokens, AloneTokens, key_passes, alone_passes}
+use Rattle.saphyr_scanner.proofs.FlowPairs.{Told, told_at, told_so, key_passes, alone_passes}
 use Rattle.saphyr_scanner.proofs.FlowMarkedPairs.{MarkedTokens, IsMarked, explicit_passes, lone_passes}
 
 -- ## In braces

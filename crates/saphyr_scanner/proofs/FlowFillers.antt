@@ -1,17 +1,16 @@
 -- Separation, filler and the ends of lines are passed between two tokens.
-use Rattle.std.proofs.Common.{◌≡◌, ℕ, zero, suc, Bool, true, false, List, [], ◌∷◌, ◌++◌, length, slice_index, refl, sym, ap, ◌∙◌, arith, subst, append_assoc, append-nil, IsTrue, ◌⊎◌, inl, inr, codes}
-use Rattle.std.specs.Prelude.{◌||◌, ◌&&◌, ◌==◌, not}
+use Rattle.std.proofs.Common.{◌≡◌, ℕ, zero, suc, Bool, true, false, List, [], ◌∷◌, ◌++◌, slice_index, refl, sym, ap, ◌∙◌, arith, subst, append_assoc, append-nil, ◌⊎◌, inl, inr}
+use Rattle.std.specs.Prelude.{◌||◌, ◌&&◌, ◌==◌}
 use Rattle.std.proofs.lemmas.Bool.Decides.{nat_tests}
 use Rattle.saphyr_input.specs.Classes.{is_blank, is_break, is_yaml_non_break, line_feed}
 use Rattle.saphyr_scalar.specs.declared.scalar.position.Marker.{Marker}
 use Rattle.saphyr_scalar.specs.Cursor.{Cursor, along, next_line}
-use Rattle.saphyr_scalar.specs.Plain.{ends_line}
 use Rattle.saphyr_scalar.specs.PlainSpelling.{past_white}
 use Rattle.saphyr_scalar.specs.TagSpelling.{AreIn}
 use Rattle.saphyr_scalar.specs.BlockRead.{spaces}
 use Rattle.saphyr_scalar.specs.Spaces.{joined, AreEach, AreMany, AreSpaces, IsComment, IsCommentBehind, IsLineRest, IsLineEnd, IsFillerText, IsFillerLine, IsFiller, IsLastFiller, IsSeparationLine, IsSeparation}
 use Rattle.saphyr_scanner.proofs.FlowStates.{moved, past, past_comment}
-use Rattle.saphyr_scanner.proofs.FlowPlaces.{behind_character, moved_append}
+use Rattle.saphyr_scanner.proofs.FlowPlaces.{moved_append}
 
 -- what is passed wherever it stands and whatever stands behind it
 abbrev pub IsPast : List ℕ → Type 0
@@ -112,7 +111,7 @@ separation_line_past : (w : List ℕ) → IsSeparationLine 0 w → IsPast w
 separation_line_past w h =
     let front = h.0 ++ h.1 in
     let text : w ≡ (front ++ (10 ∷ [])) ++ h.2 =
-        h.6 ∙ ap (λ (z : List ℕ). h.0 ++ (h.1 ++ (10 ∷ z))) (append-nil h.2) ∙ sym (append_assoc h.0 h.1 (10 ∷ h.2)) ∙ sym (append_assoc front (10 ∷ []) h.2) in
+    h.6 ∙ ap (λ (z : List ℕ). h.0 ++ (h.1 ++ (10 ∷ z))) (append-nil h.2) ∙ sym (append_assoc h.0 h.1 (10 ∷ h.2)) ∙ sym (append_assoc front (10 ∷ []) h.2) in
     subst IsPast (sym text)
     (both_past (front ++ (10 ∷ [])) h.2
     (line_past front (front ++ (10 ∷ [])) (λ m more ends. front_past m front h.0 h.1 more (blanks_past h.0 h.3) (behind_is h.0 h.1 h.4) refl ends) refl) (λ m y. filler_past m h.2 y h.5))

@@ -1,6 +1,6 @@
 -- Collections in brackets and braces behind their properties.
-use Rattle.std.proofs.Common.{◌≡◌, ◌≢◌, ℕ, ◌+◌, ◌<◌, ◌≤◌, Bool, true, false, List, [], ◌∷◌, ◌++◌, length, slice_index, refl, sym, ap, ◌∙◌, arith, subst, append_assoc, IsTrue, ◌⊎◌, inl, inr}
-use Rattle.std.specs.Prelude.{◌||◌, ◌&&◌, not, Option, None}
+use Rattle.std.proofs.Common.{◌≡◌, ◌≢◌, ℕ, ◌<◌, ◌≤◌, Bool, true, false, List, [], ◌∷◌, ◌++◌, length, refl, sym, ap, ◌∙◌, arith, subst, append_assoc, IsTrue, ◌⊎◌, inl, inr}
+use Rattle.std.specs.Prelude.{◌||◌, ◌&&◌, not, Option}
 use Rattle.std.proofs.lemmas.Bool.Decides.{nat_tests}
 use Rattle.saphyr_input.specs.Classes.{is_blank, is_blank_or_breakz, is_flow}
 use Rattle.saphyr_scalar.specs.declared.scalar.position.Marker.{Marker}
@@ -22,7 +22,7 @@ use Rattle.saphyr_scanner.proofs.FlowPlaces.{moved_append, moved_index}
 use Rattle.saphyr_scanner.proofs.FlowJoins.{join, behind}
 use Rattle.saphyr_scanner.proofs.FlowProperties.{behind_properties as read_properties, properties_read}
 use Rattle.saphyr_scanner.proofs.FlowSpaces.{separation_begins}
-use Rattle.saphyr_scanner.proofs.FlowPieces.{Fits, fits_front, fits_back, fits_before}
+use Rattle.saphyr_scanner.proofs.FlowPieces.{Fits, fits_front, fits_back}
 use Rattle.saphyr_scanner.proofs.FlowCollections.{EndsAt, Brackets, AreBrackets, IsBracketed, bracketed, bracket_text, RunsInside, brackets_pass}
 
 -- the tokens of properties and of a collection behind them, and the run over its text
@@ -74,7 +74,7 @@ behind_properties limit p P Is b are m t v w inside o fits h some gap parts part
     let start = state_at false s x k ls a ad ps in
     let kept = saved a (length ps) m k in
     let q : Passes limit start (read_properties x kept ad) x ls ps here (body ++ o) pp.tokens =
-        subst (λ (e : Marker). Passes limit start (read_properties x kept ad) x ls ps e (body ++ o) pp.tokens) (sym (moved_append m t v)) (behind (moved m t) v (body ++ o) gap pp.passes) in
+    subst (λ (e : Marker). Passes limit start (read_properties x kept ad) x ls ps e (body ++ o) pp.tokens) (sym (moved_append m t v)) (behind (moved m t) v (body ++ o) gap pp.passes) in
     let still_before : q.adjacent ≤ here.index = subst (λ (n : ℕ). n ≤ here.index) (sym q.knows.still) (no_less ad m (t ++ v) before) in
     let r = brackets_pass limit Is b are here w inside o (fits_back m (t ++ v) body o fits) parts parted run.0 q.there x q.key ls q.allowed q.adjacent (ps ++ q.new) low still_before q.fits run.1 in
     let end = moved here body in

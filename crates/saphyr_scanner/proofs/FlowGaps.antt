@@ -1,18 +1,14 @@
 -- What is passed between two tokens of a text in flow style, and the place behind it.
-use Rattle.std.proofs.Common.{◌≡◌, ℕ, zero, suc, ◌+◌, ◌<◌, ◌≤◌, Bool, true, false, List, [], ◌∷◌, ◌++◌, length, slice_index, refl, sym, ap, ◌∙◌, arith, subst, append_assoc, append-nil, IsTrue, ◌⊎◌, inl, inr, codes}
-use Rattle.std.specs.Prelude.{◌||◌, ◌&&◌, ◌==◌, not}
+use Rattle.std.proofs.Common.{◌≡◌, ℕ, suc, ◌+◌, ◌<◌, ◌≤◌, Bool, true, false, List, [], ◌∷◌, length, slice_index, refl, sym, ap, ◌∙◌, arith, subst}
+use Rattle.std.specs.Prelude.{◌||◌, ◌&&◌, ◌==◌}
 use Rattle.std.proofs.lemmas.Bool.Decides.{nat_tests}
-use Rattle.saphyr_input.specs.Classes.{is_blank, is_break, is_yaml_non_break, line_feed}
+use Rattle.saphyr_input.specs.Classes.{is_blank, is_break, is_yaml_non_break}
 use Rattle.saphyr_scalar.specs.declared.scalar.position.Marker.{Marker}
-use Rattle.saphyr_scalar.specs.Cursor.{Cursor, along, next_line}
-use Rattle.saphyr_scalar.specs.PlainSpelling.{past_white}
-use Rattle.saphyr_scalar.specs.TagSpelling.{AreIn}
-use Rattle.saphyr_scalar.specs.BlockRead.{spaces}
-use Rattle.saphyr_scalar.specs.Spaces.{joined, AreEach, AreMany, AreSpaces, IsComment, IsCommentBehind, IsLineRest, IsLineEnd, IsFillerText, IsFillerLine, IsFiller, IsSeparationLine, IsSeparation}
+use Rattle.saphyr_scalar.specs.Cursor.{along, next_line}
 use Rattle.saphyr_scanner.specs.Gap.{stop, gap, comment}
 use Rattle.saphyr_scanner.proofs.JsonGaps.{no_tab_indentation}
 use Rattle.saphyr_scanner.proofs.FlowStates.{moved, past, past_comment, IsInk}
-use Rattle.saphyr_scanner.proofs.FlowPlaces.{behind_character, moved_append, moved_index}
+use Rattle.saphyr_scanner.proofs.FlowPlaces.{moved_index}
 
 -- ## The gap before a token is what is behind it
 

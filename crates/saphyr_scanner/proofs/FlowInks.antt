@@ -1,16 +1,16 @@
 -- The first characters of the nodes of a text in flow style.
-use Rattle.std.proofs.Common.{◌≡◌, ◌≢◌, ℕ, Bool, true, false, List, [], ◌∷◌, ◌++◌, slice_index, refl, sym, ap, ◌∙◌, arith, subst, append_assoc, IsTrue, ◌⊎◌, inl, inr, codes}
+use Rattle.std.proofs.Common.{◌≡◌, ◌≢◌, ℕ, Bool, true, false, List, [], ◌∷◌, ◌++◌, refl, sym, ap, ◌∙◌, arith, subst, append_assoc, IsTrue, inl, inr, codes}
 use Rattle.std.specs.Prelude.{◌==◌, Option, Some, None}
 use Rattle.std.proofs.lemmas.Bool.Decides.{nat_tests}
 use Rattle.saphyr_input.specs.Classes.{is_blank, is_break, is_bom}
 use Rattle.saphyr_scalar.specs.declared.reading.flow.Quote.{Quote}
 use Rattle.saphyr_scalar.specs.declared.reading.flow.Quote.TheVariants.{Single, Double}
 use Rattle.saphyr_scalar.specs.FlowReading.{mark}
-use Rattle.saphyr_scalar.specs.PlainSpelling.{is_word_ink, AreWordInk, IsWordIn}
+use Rattle.saphyr_scalar.specs.PlainSpelling.{is_word_ink, IsWordIn}
 use Rattle.saphyr_scanner.specs.Forest.{Style, Plain, SingleQuoted, DoubleQuoted, Literal, Folded, Handle, Primary, Secondary, Named, Tag, NonSpecific, Verbatim, Shorthand, Properties, Node, Alias, Scalar, Seq, Map}
 use Rattle.saphyr_scanner.specs.TagSpelling.{IsHandle, IsTag}
-use Rattle.saphyr_scanner.specs.FlowScalars.{IsFirstWord, IsPlain, IsFlowScalar}
-use Rattle.saphyr_scanner.specs.FlowNodes.{IsAnchor, AreProperties, IsProperties, IsBeforeContent, IsScalarNode, IsOpening, IsFlowNode}
+use Rattle.saphyr_scanner.specs.FlowScalars.{IsFlowScalar}
+use Rattle.saphyr_scanner.specs.FlowNodes.{IsAnchor, AreProperties, IsProperties, IsBeforeContent, IsFlowNode}
 use Rattle.saphyr_scanner.proofs.FlowStates.{IsInk}
 
 -- a text begins with a character that begins a token

@@ -3,7 +3,6 @@ use Rattle.std.proofs.Common.{◌≡◌, ℕ, ◌+◌, ◌<◌, ◌≤◌, Bool,
 use Rattle.std.specs.Prelude.{Option, None}
 use Rattle.saphyr_scalar.specs.declared.scalar.position.Marker.{Marker}
 use Rattle.saphyr_scalar.specs.Cursor.{Cursor}
-use Rattle.saphyr_scalar.specs.Spaces.{IsSeparation}
 use Rattle.saphyr_scanner.specs.declared.engine.level.Context.{Context}
 use Rattle.saphyr_scanner.specs.declared.engine.level.Context.TheVariants as context
 use Rattle.saphyr_scanner.specs.Tokens as tokens
@@ -13,10 +12,10 @@ use Rattle.saphyr_scanner.specs.Queue.{Place}
 use Rattle.saphyr_scanner.specs.Core.{Candidate, Level, is_block}
 use Rattle.saphyr_scanner.specs.Flow.{behind_entry, ends_pair}
 use Rattle.saphyr_scanner.specs.State.{State}
-use Rattle.saphyr_scanner.specs.Forest.{no_properties, Properties, Node, Alias, Scalar, Seq, Map, Nodes, NoNode, MoreNodes, Pairs, NoPair, MorePairs}
-use Rattle.saphyr_scanner.specs.FlowNodes.{IsKeyOnLineAndValue, IsBeforeSeparation, IsSinglePairText, IsSinglePair, IsComma, IsLastComma, IsFlowNode, AreItems, AreOtherItems, IsPairItem}
+use Rattle.saphyr_scanner.specs.Forest.{Properties, Node, Alias, Scalar, Seq, Map, Nodes, NoNode, MoreNodes, NoPair, MorePairs}
+use Rattle.saphyr_scanner.specs.FlowNodes.{IsBeforeSeparation, IsSinglePairText, IsSinglePair, IsComma, IsLastComma, IsFlowNode, AreItems, AreOtherItems, IsPairItem}
 use Rattle.saphyr_scanner.proofs.JsonStates.{state_at}
-use Rattle.saphyr_scanner.proofs.FlowStates.{moved, past, IsInk, IsParted, Passes, fresh_key, ended, PassesNode}
+use Rattle.saphyr_scanner.proofs.FlowStates.{moved, past, IsParted, Passes, fresh_key, ended, PassesNode}
 use Rattle.saphyr_scanner.proofs.FlowPlaces.{moved_append}
 use Rattle.saphyr_scanner.proofs.FlowGaps.{past_ink, less_on, less_behind}
 use Rattle.saphyr_scanner.proofs.FlowJoins.{join, behind, knowing, none}
@@ -25,7 +24,7 @@ use Rattle.saphyr_scanner.proofs.FlowCommas.{comma_passes}
 use Rattle.saphyr_scanner.proofs.FlowInks.{BeginsInk, begins_with, ink_front, node_ink}
 use Rattle.saphyr_scanner.proofs.FlowPieces.{Fits, fits_front, fits_back, fits_so, fits_before, end_ink}
 use Rattle.saphyr_scanner.proofs.FlowMarkedPairs.{alone_ink}
-use Rattle.saphyr_scanner.proofs.FlowEntries.{IsEntry, ItemPasses, node_item_passes, single, single_passes}
+use Rattle.saphyr_scanner.proofs.FlowEntries.{IsEntry, ItemPasses, node_item_passes, single_passes}
 
 -- ## What stands first
 
@@ -203,7 +202,7 @@ others_pass {limit} room node nodes N P O m p o (comma, item, others, c, i, h, e
     let here = moved m comma in
     let inner = fits_back m comma (item ++ others) behind_all whole in
     let n = item_passes room node N P here item (others ++ behind_all) (fits_front here item others behind_all inner) (others_first room nodes others o h) i
-        q.there q.key ls q.allowed q.adjacent (ps ++ q.new) q.knows.0 q.knows.1 low q.knows.2 q.fits in
+    q.there q.key ls q.allowed q.adjacent (ps ++ q.new) q.knows.0 q.knows.1 low q.knows.2 q.fits in
     let there = moved here item in
     let both = join q n.passes (ended there (others ++ behind_all)) n.passes.knows in
     let r = O there others o h (fits_back here item others behind_all inner) n.inside n.flows n.back both.there both.key ls both.allowed both.adjacent (ps ++ both.new) low both.knows both.fits in
@@ -254,7 +253,7 @@ items_pass {limit} room node nodes N P O m p o (item, others, i, h, e) fits s k 
     let whole = fits_so m p (item ++ others) behind_all e fits in
     let texts : p ++ behind_all ≡ item ++ (others ++ behind_all) = ap (λ (t : List ℕ). t ++ behind_all) e ∙ append_assoc item others behind_all in
     let n = item_passes room node N P m item (others ++ behind_all) (fits_front m item others behind_all whole) (others_first room nodes others o h) i
-        s k ls a ad ps no_candidate fresh low before (text ∙ ap (past m) texts) in
+    s k ls a ad ps no_candidate fresh low before (text ∙ ap (past m) texts) in
     let there = moved m item in
     let q = n.passes in
     let r = O there others o h (fits_back m item others behind_all whole) n.inside n.flows n.back q.there q.key ls q.allowed q.adjacent (ps ++ q.new) low q.knows q.fits in
@@ -266,7 +265,12 @@ items_pass {limit} room node nodes N P O m p o (item, others, i, h, e) fits s k 
       flows = r.flows;
       back = r.back;
       tokens = n.tokens ++ r.tokens;
-      are = (n.tokens ++ pending (ends_pair n.inside), r.others, n.are, r.are,
-          first_regrouped n.tokens r.tokens (pending (ends_pair r.inside)) (pending (ends_pair n.inside)) r.others r.is);
+      are = (
+        n.tokens ++ pending (ends_pair n.inside),
+        r.others,
+        n.are,
+        r.are,
+        first_regrouped n.tokens r.tokens (pending (ends_pair r.inside)) (pending (ends_pair n.inside)) r.others r.is,
+      );
       passes = join q r.passes (ended end behind_all) r.passes.knows;
     })

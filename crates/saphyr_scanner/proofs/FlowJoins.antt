@@ -10,10 +10,10 @@ use Rattle.saphyr_scanner.specs.Tokens.{Kind}
 use Rattle.saphyr_scanner.specs.Queue.{Place}
 use Rattle.saphyr_scanner.specs.Core.{Candidate, Level}
 use Rattle.saphyr_scanner.specs.State.{State}
-use Rattle.saphyr_scanner.proofs.Leads.{Leads, stay}
+use Rattle.saphyr_scanner.proofs.Leads.{stay}
 use Rattle.saphyr_scanner.proofs.JsonStates.{state_at, Comes}
 use Rattle.saphyr_scanner.proofs.JsonMarks.{chain, kinds, kinds_append}
-use Rattle.saphyr_scanner.proofs.FlowStates.{moved, past, Known, Passes, noted, Closes}
+use Rattle.saphyr_scanner.proofs.FlowStates.{moved, past, Known, Passes, Closes}
 use Rattle.saphyr_scanner.proofs.FlowFillers.{separation_past}
 
 -- a piece, and another behind it

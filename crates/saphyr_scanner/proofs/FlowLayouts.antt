@@ -1,5 +1,5 @@
 -- Each text in flow style gives tokens of its forest.
-use Rattle.std.proofs.Common.{◌≡◌, ℕ, ◌≤◌, List, length, ap, ◌∙◌, subst}
+use Rattle.std.proofs.Common.{ℕ, ◌≤◌, List, length, ap, ◌∙◌, subst}
 use Rattle.std.specs.Prelude.{◌==◌, not, map}
 use Rattle.saphyr_input.specs.Classes.{carriage_return}
 use Rattle.saphyr_scalar.specs.TagSpelling.{AreIn}

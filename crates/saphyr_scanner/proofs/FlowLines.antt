@@ -1,12 +1,11 @@
 -- Ends of lines, filler and the gaps before a document's node.
-use Rattle.std.proofs.Common.{◌≡◌, ℕ, zero, suc, ◌+◌, ◌≤◌, Bool, true, false, List, [], ◌∷◌, ◌++◌, length, slice_index, ◌⊎◌, inl, inr, refl, sym, ap, ◌∙◌, arith, subst, append_assoc, append-nil, codes}
-use Rattle.std.specs.Prelude.{◌||◌, ◌==◌}
+use Rattle.std.proofs.Common.{◌≡◌, ℕ, zero, suc, ◌+◌, ◌≤◌, Bool, true, List, [], ◌∷◌, ◌++◌, length, slice_index, inl, inr, refl, sym, ap, ◌∙◌, arith, subst, append_assoc}
 use Rattle.std.proofs.lemmas.Bool.Decides.{nat_tests}
-use Rattle.saphyr_input.specs.Classes.{is_blank_or_breakz, is_breakz, line_feed}
+use Rattle.saphyr_input.specs.Classes.{is_blank_or_breakz, is_breakz}
 use Rattle.saphyr_scalar.specs.declared.scalar.position.Marker.{Marker}
 use Rattle.saphyr_scalar.specs.Cursor.{next_line}
 use Rattle.saphyr_scalar.specs.BlockRead.{spaces}
-use Rattle.saphyr_scalar.specs.Spaces.{joined, AreEach, AreSpaces, IsComment, IsCommentBehind, IsLineRest, IsLineEnd, IsEol, IsFillerLine, IsFiller, IsNextLine, IsGap}
+use Rattle.saphyr_scalar.specs.Spaces.{joined, AreEach, IsCommentBehind, IsLineRest, IsEol, IsFillerLine, IsFiller, IsGap}
 use Rattle.saphyr_scanner.proofs.FlowStates.{moved, past}
 use Rattle.saphyr_scanner.proofs.FlowPlaces.{moved_append, moved_count}
 use Rattle.saphyr_scanner.proofs.FlowFillers.{IsPast, both_past, are_spaces_past, EndsLine, rest_past, line_end_past, filler_past}
@@ -76,7 +75,7 @@ gap_first w y (inl h) = subst (λ (x : List ℕ). is_blank_or_breakz (slice_inde
 gap_first w y (inr h) =
     let line = h.3 in
     let text : w ++ y ≡ line.0 ++ (10 ∷ ((h.1 ++ h.2) ++ y)) =
-        ap (λ (x : List ℕ). x ++ y) (h.6 ∙ ap (λ (x : List ℕ). x ++ (h.1 ++ h.2)) line.2 ∙ append_assoc line.0 (10 ∷ []) (h.1 ++ h.2)) ∙ append_assoc line.0 (10 ∷ (h.1 ++ h.2)) y in
+    ap (λ (x : List ℕ). x ++ y) (h.6 ∙ ap (λ (x : List ℕ). x ++ (h.1 ++ h.2)) line.2 ∙ append_assoc line.0 (10 ∷ []) (h.1 ++ h.2)) ∙ append_assoc line.0 (10 ∷ (h.1 ++ h.2)) y in
     subst (λ (x : List ℕ). is_blank_or_breakz (slice_index x 0) ≡ true) (sym text) (rest_first line.0 (10 ∷ ((h.1 ++ h.2) ++ y)) line.1 (inr refl))
 
 -- ## Gaps and filler are passed

@@ -1,11 +1,8 @@
 -- Pairs that a `?` begins, inside flow.
-use Rattle.std.proofs.Common.{◌≡◌, ◌≢◌, ℕ, ◌+◌, ◌<◌, ◌≤◌, Bool, true, false, List, [], ◌∷◌, ◌++◌, length, refl, sym, ap, ◌∙◌, arith, subst, append_assoc, append-nil, ◌⊎◌, inl, inr}
-use Rattle.std.specs.Prelude.{◌==◌, not, Option, None}
-use Rattle.saphyr_input.specs.Classes.{tab}
+use Rattle.std.proofs.Common.{◌≡◌, ℕ, ◌+◌, ◌<◌, ◌≤◌, Bool, true, false, List, [], ◌∷◌, ◌++◌, length, refl, sym, ap, ◌∙◌, arith, subst, append_assoc, ◌⊎◌, inl, inr}
+use Rattle.std.specs.Prelude.{Option, None}
 use Rattle.saphyr_scalar.specs.declared.scalar.position.Marker.{Marker}
 use Rattle.saphyr_scalar.specs.Cursor.{Cursor}
-use Rattle.saphyr_scalar.specs.TagSpelling.{AreIn}
-use Rattle.saphyr_scalar.specs.Spaces.{IsSeparation}
 use Rattle.saphyr_scanner.specs.declared.engine.level.Context.{Context}
 use Rattle.saphyr_scanner.specs.Tokens as tokens
 use Rattle.saphyr_scanner.specs.Tokens.{Kind}
@@ -14,7 +11,6 @@ use Rattle.saphyr_scanner.specs.Queue.{Place}
 use Rattle.saphyr_scanner.specs.Core.{Candidate, Level, is_block}
 use Rattle.saphyr_scanner.specs.Block.{behind_question}
 use Rattle.saphyr_scanner.specs.Value.{begins_pair, behind_colon}
-use Rattle.saphyr_scanner.specs.State.{State}
 use Rattle.saphyr_scanner.specs.Forest.{Node, left_out}
 use Rattle.saphyr_scanner.specs.FlowNodes.{IsColonAndValue, IsKeyAndValue, IsValueAlone, IsBehindMark, IsExplicitPair, IsLoneMark, IsFlowNode}
 use Rattle.saphyr_scanner.proofs.JsonStates.{state_at}
@@ -26,7 +22,7 @@ use Rattle.saphyr_scanner.proofs.FlowValues.{alone_kinds}
 use Rattle.saphyr_scanner.proofs.FlowQuestions.{mark_passes}
 use Rattle.saphyr_scanner.proofs.FlowInks.{BeginsInk, begins_with, ink_front, node_ink}
 use Rattle.saphyr_scanner.proofs.FlowPieces.{Fits, fits_front, fits_back, fits_so, IsBehindEntry, end_ink, entry_behind}
-use Rattle.saphyr_scanner.proofs.FlowPairs.{Told, told_at, told_so, ValueTokens, PairTokens, AloneTokens, alone_passes, marked_key_passes}
+use Rattle.saphyr_scanner.proofs.FlowPairs.{Told, told_at, told_so, PairTokens, AloneTokens, alone_passes, marked_key_passes}
 
 -- the tokens of such a pair
 abbrev pub MarkedTokens : Node → Node → List Kind → Type 0

@@ -1,6 +1,6 @@
 -- Document markers, byte order marks and the text's end are read.
-use Rattle.std.proofs.Common.{◌≡◌, ℕ, ◌+◌, ◌≤◌, Bool, true, false, List, [], ◌∷◌, ◌++◌, length, slice_index, Ok, IsTrue, ◌⊎◌, inl, inr, refl, sym, ap, ◌∙◌, arith, subst, codes}
-use Rattle.std.specs.Prelude.{◌||◌, ◌&&◌, ◌==◌, not, nat_lt, Option, Some, None}
+use Rattle.std.proofs.Common.{◌≡◌, ℕ, ◌+◌, ◌≤◌, Bool, true, false, List, [], ◌∷◌, ◌++◌, length, slice_index, Ok, IsTrue, inl, inr, refl, sym, ap, ◌∙◌, arith}
+use Rattle.std.specs.Prelude.{◌==◌, nat_lt, Option, None}
 use Rattle.std.proofs.lemmas.Bool.Decides.{nat_tests}
 use Rattle.std.proofs.lemmas.List.{length-append}
 use Rattle.saphyr_input.specs.Classes.{is_blank_or_breakz, is_breakz}
@@ -8,29 +8,29 @@ use Rattle.saphyr_input.specs.Places.{is_document_indicator}
 use Rattle.saphyr_input.specs.declared.input.SkipTabs.{SkipTabs}
 use Rattle.saphyr_input.specs.declared.input.SkipTabs.TheVariants.{Yes}
 use Rattle.saphyr_scalar.specs.declared.scalar.position.Marker.{Marker}
-use Rattle.saphyr_scalar.specs.Cursor.{Cursor, ◌>>=◌, along, next_line, pass, pass_byte_order_mark, separation}
+use Rattle.saphyr_scalar.specs.Cursor.{Cursor, ◌>>=◌, along, separation}
 use Rattle.saphyr_scanner.specs.declared.engine.level.Context.TheVariants as context
 use Rattle.saphyr_scanner.specs.Tokens as tokens
 use Rattle.saphyr_scanner.specs.Tokens.{Kind}
 use Rattle.saphyr_scanner.specs.Seen.{Piece}
-use Rattle.saphyr_scanner.specs.Queue.{Place, closed, empty_piece}
-use Rattle.saphyr_scanner.specs.Core.{Candidate, Core, remove_key}
+use Rattle.saphyr_scanner.specs.Queue.{Place, closed}
+use Rattle.saphyr_scanner.specs.Core.{Candidate, remove_key}
 use Rattle.saphyr_scalar.specs.Spaces.{IsEol}
 use Rattle.saphyr_scanner.specs.Passing.{with_cursor}
-use Rattle.saphyr_scanner.specs.State.{changed, separated}
+use Rattle.saphyr_scanner.specs.State.{separated}
 use Rattle.saphyr_scanner.specs.State.{State}
 use Rattle.saphyr_scanner.specs.Unrolling.{unroll}
-use Rattle.saphyr_scanner.specs.Document.{end_content, marker, end_line, end_marker, byte_order_mark, end_mark, end_stream, end_at}
+use Rattle.saphyr_scanner.specs.Document.{end_content, marker, end_line, end_marker, byte_order_mark}
 use Rattle.saphyr_scanner.specs.Fetch.{fetch_here}
 use Rattle.saphyr_scanner.proofs.Leads.{Leads}
 use Rattle.saphyr_scanner.proofs.JsonStates.{cursor_at, core_at, state_at}
 use Rattle.saphyr_scanner.proofs.JsonLeads.{here, finished}
 use Rattle.saphyr_scanner.proofs.JsonMarks.{chain, kinds, kinds_append}
-use Rattle.saphyr_scanner.proofs.FlowStates.{moved, past, noted}
+use Rattle.saphyr_scanner.proofs.FlowStates.{moved, past}
 use Rattle.saphyr_scanner.proofs.FlowGaps.{past_count}
 use Rattle.saphyr_scanner.proofs.FlowSeparates.{separates_rest}
 use Rattle.saphyr_scanner.proofs.FlowLines.{eol, eol_first, break_ends}
-use Rattle.saphyr_scanner.proofs.FlowStands.{at_start, reads_here, AtLine, OffLine, Stands, passable, reads_token}
+use Rattle.saphyr_scanner.proofs.FlowStands.{at_start, reads_here, AtLine, OffLine, Stands, reads_token}
 
 no_greater : (n : ℕ) → n ≡ 0 → nat_lt 0 n ≡ false
 no_greater n h = grind (arith, nat_tests)
@@ -152,7 +152,7 @@ reads_stream_end {limit = limit} {free = free} {o = o} {ts = ts} v m text =
     let counted : m.index + 0 ≡ v.mark.index + length o = ap (λ (p : Marker × List ℕ). p.0.index + length p.1) (sym text) ∙ past_count v.mark o in
     let low = low_index m.index (length o) v.mark.index limit counted v.count in
     let r = reads_here limit v.comment v.there v.key v.allowed v.adjacent v.places m [] (v.fits ∙ text) (inr (inl refl)) true (λ blank. cursor_at [] m blank) (λ key. key) false (v.places ++ finished m ∷ [])
-        (λ blank key allowed. here m blank key allowed v.adjacent v.places) (λ _. low) in
+    (λ blank key allowed. here m blank key allowed v.adjacent v.places) (λ _. low) in
     record {
       last = state_at true (cursor_at [] m r.0) context.Block r.1 [] false v.adjacent (v.places ++ finished m ∷ []);
       leads = chain v.leads r.2;

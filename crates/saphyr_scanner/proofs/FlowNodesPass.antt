@@ -1,6 +1,6 @@
 -- The scanner takes a node in flow style and makes its tokens.
-use Rattle.std.proofs.Common.{◌≡◌, ℕ, suc, ◌+◌, ◌<◌, ◌≤◌, Bool, true, false, List, [], ◌∷◌, ◌++◌, length, refl, sym, ap, ◌∙◌, arith, subst, append_assoc, append-nil, inl, inr}
-use Rattle.std.specs.Prelude.{Option, None}
+use Rattle.std.proofs.Common.{◌≡◌, ℕ, ◌+◌, ◌<◌, ◌≤◌, Bool, true, false, List, [], ◌∷◌, ◌++◌, length, refl, sym, ap, ◌∙◌, arith, subst, append_assoc, append-nil, inl}
+use Rattle.std.specs.Prelude.{Option}
 use Rattle.saphyr_scalar.specs.declared.scalar.position.Marker.{Marker}
 use Rattle.saphyr_scalar.specs.Cursor.{Cursor}
 use Rattle.saphyr_scalar.specs.Spaces.{IsSeparation}
@@ -19,7 +19,7 @@ use Rattle.saphyr_scanner.specs.FlowNodes.{IsFlowNode}
 use Rattle.saphyr_scanner.proofs.JsonStates.{core_at, state_at}
 use Rattle.saphyr_scanner.proofs.JsonMarks.{saved, level_of}
 use Rattle.saphyr_scanner.proofs.JsonNodes.{begins_sequence, begins_mapping}
-use Rattle.saphyr_scanner.proofs.FlowStates.{moved, past, IsParted, IsBehindNode, Reads, after_node, NodePasses, RootCloses, PassesNode, PassesNodes, ClosesNode, ClosesNodes}
+use Rattle.saphyr_scanner.proofs.FlowStates.{moved, past, IsParted, IsBehindNode, Reads, after_node, PassesNode, ClosesNode, ClosesNodes}
 use Rattle.saphyr_scanner.proofs.FlowGaps.{past_ink}
 use Rattle.saphyr_scanner.proofs.FlowJoins.{knowing, root}
 use Rattle.saphyr_scanner.proofs.FlowColons.{no_block}
@@ -90,10 +90,10 @@ sequence_run {limit} reads room p nodes in_flow items m t o (left, opening, insi
     let here = moved (moved m front) (91 ∷ w) in
     let inside_fits = fits_front here inside (93 ∷ []) o (fits_back (moved m front) (91 ∷ w) (inside ++ (93 ∷ [])) o (fits_back m front (bracket_text square w inside) o whole)) in
     let run : RunsInside limit (grammar.AreFlowEntries nodes) square x ls here inside o = λ u c j b be qs no_candidate fresh on at.
-        let i = items left here inside o h inside_fits u c (level_of x j ∷ ls) b be qs no_candidate fresh (omega (arith, r, low)) on at in
-        record { inside = i.inside; closes = ends_square i.inside i.flows; tokens = i.tokens; are = i.are; passes = i.passes } in
+    let i = items left here inside o h inside_fits u c (level_of x j ∷ ls) b be qs no_candidate fresh (omega (arith, r, low)) on at in
+    record { inside = i.inside; closes = ends_square i.inside i.flows; tokens = i.tokens; are = i.are; passes = i.passes } in
     let c = collection_passes limit p reads (grammar.AreFlowEntries nodes) square are_square m front w inside o whole f parts (parted_by w (inside ++ (93 ∷ o)) parts (items_ink left nodes inside o h))
-        s x k ls a ad ps (omega (arith, r, low)) before (text ∙ ap (λ (z : List ℕ). past m (z ++ o)) text_is) (ends (moved here inside), run) in
+    s x k ls a ad ps (omega (arith, r, low)) before (text ∙ ap (λ (z : List ℕ). past m (z ++ o)) text_is) (ends (moved here inside), run) in
     subst (λ (n : Marker). CollectionPasses limit (state_at false s x k ls a ad ps) (grammar.AreFlowEntries nodes) square p (saved a (length ps) m k) x ls ps n o) (ap (moved m) (sym text_is)) c
 
 -- in braces
@@ -106,10 +106,10 @@ mapping_run {limit} reads room p pairs in_flow members m t o (left, opening, ins
     let here = moved (moved m front) (123 ∷ w) in
     let inside_fits = fits_front here inside (125 ∷ []) o (fits_back (moved m front) (123 ∷ w) (inside ++ (125 ∷ [])) o (fits_back m front (bracket_text curly w inside) o whole)) in
     let run : RunsInside limit (grammar.AreFlowPairs pairs) curly x ls here inside o = λ u c j b be qs no_candidate fresh on at.
-        let i = members left here inside o h inside_fits u c (level_of x j ∷ ls) b be qs no_candidate fresh (omega (arith, r, low)) on at in
-        record { inside = context.FlowMapping; closes = ends_curly; tokens = i.tokens; are = subst (grammar.AreFlowPairs pairs) (sym (append-nil i.tokens)) i.are; passes = i.passes } in
+    let i = members left here inside o h inside_fits u c (level_of x j ∷ ls) b be qs no_candidate fresh (omega (arith, r, low)) on at in
+    record { inside = context.FlowMapping; closes = ends_curly; tokens = i.tokens; are = subst (grammar.AreFlowPairs pairs) (sym (append-nil i.tokens)) i.are; passes = i.passes } in
     let c = collection_passes limit p reads (grammar.AreFlowPairs pairs) curly are_curly m front w inside o whole f parts (parted_by w (inside ++ (125 ∷ o)) parts (pairs_ink left pairs inside o h))
-        s x k ls a ad ps (omega (arith, r, low)) before (text ∙ ap (λ (z : List ℕ). past m (z ++ o)) text_is) (ends (moved here inside), run) in
+    s x k ls a ad ps (omega (arith, r, low)) before (text ∙ ap (λ (z : List ℕ). past m (z ++ o)) text_is) (ends (moved here inside), run) in
     subst (λ (n : Marker). CollectionPasses limit (state_at false s x k ls a ad ps) (grammar.AreFlowPairs pairs) curly p (saved a (length ps) m k) x ls ps n o) (ap (moved m) (sym text_is)) c
 
 -- ## Collections as nodes

@@ -1,18 +1,16 @@
 -- A step outside flow that notes a comment.
 use Rattle.std.proofs.Common.{◌≡◌, ℕ, ◌≤◌, Bool, true, false, List, length, slice_index, Ok, refl, ap, ◌∙◌, arith}
-use Rattle.std.specs.Prelude.{◌||◌, ◌&&◌, ◌==◌, nat_le, Option, None}
+use Rattle.std.specs.Prelude.{nat_le, Option, None}
 use Rattle.std.proofs.lemmas.Bool.Decides.{nat_tests}
-use Rattle.saphyr_input.specs.Places.{is_document_start, is_document_end}
 use Rattle.saphyr_scalar.specs.declared.scalar.position.Marker.{Marker}
 use Rattle.saphyr_scalar.specs.Cursor.{Cursor, ◌>>=◌}
-use Rattle.saphyr_scanner.specs.declared.engine.level.Context.{Context}
 use Rattle.saphyr_scanner.specs.declared.engine.level.Context.TheVariants as context
 use Rattle.saphyr_scanner.specs.Queue.{Place, Queue}
 use Rattle.saphyr_scanner.specs.Core.{Candidate, Level, Core, Action, perform, went, is_too_far, drop_far_key}
 use Rattle.saphyr_scanner.specs.State.{State, carried, acted}
 use Rattle.saphyr_scanner.specs.Fetch.{step, content, fetch_here, fetch, within, fetch_within}
 use Rattle.saphyr_scanner.proofs.Leads.{Leads, stay, onward}
-use Rattle.saphyr_scanner.proofs.JsonStates.{cursor_at, core_at, state_at, queue_of, no_less, none_before, and_false}
+use Rattle.saphyr_scanner.proofs.JsonStates.{cursor_at, core_at, state_at, queue_of, none_before}
 use Rattle.saphyr_scanner.proofs.FlowStates.{noted}
 use Rattle.saphyr_scanner.proofs.FlowArrivals.{Arrives, BeginsToken, begins_here}
 

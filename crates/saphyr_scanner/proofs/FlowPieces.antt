@@ -1,6 +1,6 @@
 -- Pieces of a text in flow style in parts, and what stands behind them.
-use Rattle.std.proofs.Common.{◌≡◌, ◌≢◌, ℕ, ◌+◌, ◌≤◌, Bool, true, false, List, [], ◌∷◌, ◌++◌, length, slice_index, refl, sym, ap, ◌∙◌, arith, subst, append_assoc, IsTrue, ◌⊎◌, inl, inr}
-use Rattle.std.specs.Prelude.{◌||◌, ◌==◌, not}
+use Rattle.std.proofs.Common.{◌≡◌, ◌≢◌, ℕ, ◌+◌, ◌≤◌, true, List, [], ◌∷◌, ◌++◌, length, slice_index, refl, sym, ap, arith, subst, append_assoc, IsTrue, ◌⊎◌, inl, inr}
+use Rattle.std.specs.Prelude.{◌||◌, ◌==◌}
 use Rattle.std.proofs.lemmas.Bool.Decides.{nat_tests}
 use Rattle.saphyr_input.specs.Classes.{is_blank, is_blank_or_breakz}
 use Rattle.saphyr_scalar.specs.declared.scalar.position.Marker.{Marker}
@@ -8,7 +8,7 @@ use Rattle.saphyr_scalar.specs.Spaces.{IsSeparation}
 use Rattle.saphyr_scanner.specs.Forest.{Node}
 use Rattle.saphyr_scanner.specs.FlowNodes.{IsBeforeColon, allows_adjacent}
 use Rattle.saphyr_scanner.proofs.FlowStates.{moved, IsClear, IsInk, IsParted, ends_colon, IsBehindNode}
-use Rattle.saphyr_scanner.proofs.FlowPlaces.{moved_append, moved_count, clear_front, clear_back}
+use Rattle.saphyr_scanner.proofs.FlowPlaces.{moved_count, clear_front, clear_back}
 use Rattle.saphyr_scanner.proofs.FlowSpaces.{separation_begins}
 use Rattle.saphyr_scanner.proofs.FlowInks.{BeginsInk}
 

@@ -1,5 +1,5 @@
 -- The `?` of a text in flow style is read.
-use Rattle.std.proofs.Common.{◌≡◌, ◌≢◌, ℕ, ◌+◌, ◌≤◌, Bool, true, false, List, [], ◌∷◌, ◌++◌, length, slice_index, Ok, refl, sym, ap, ◌∙◌, arith, subst, ◌⊎◌, inl, inr}
+use Rattle.std.proofs.Common.{◌≡◌, ◌≢◌, ℕ, ◌+◌, ◌≤◌, Bool, true, false, List, [], ◌∷◌, ◌++◌, length, slice_index, Ok, refl, sym, ap, ◌∙◌, arith, ◌⊎◌, inl, inr}
 use Rattle.std.specs.Prelude.{◌==◌, not, Option, None}
 use Rattle.std.proofs.lemmas.Bool.Decides.{nat_tests}
 use Rattle.saphyr_input.specs.Classes.{is_blank, is_blank_or_breakz, tab}
@@ -26,7 +26,7 @@ use Rattle.saphyr_scanner.proofs.FlowArrivals.{arrives, one, within_index}
 use Rattle.saphyr_scanner.proofs.FlowJoins.{once}
 use Rattle.saphyr_scanner.proofs.FlowBrackets.{IsMark, mark_begins, mark_moved, one_on}
 use Rattle.saphyr_scanner.proofs.FlowColons.{no_block}
-use Rattle.saphyr_scanner.proofs.FlowSpaces.{separation_begins, Passed, spaces_passed}
+use Rattle.saphyr_scanner.proofs.FlowSpaces.{separation_begins, spaces_passed}
 
 question : IsMark 63
 question = record { ink = record { blank = refl; break = refl; comment = refl; byte_order_mark = refl }; nul = refl; directive = refl; feed = refl }

@@ -1,10 +1,9 @@
 -- The node of a document in flow style is read.
-use Rattle.std.proofs.Common.{◌≡◌, ℕ, ◌+◌, ◌≤◌, Bool, true, false, List, [], ◌∷◌, ◌++◌, length, slice_index, IsTrue, ◌⊎◌, inl, inr, refl, sym, ap, ◌∙◌, arith, subst, append_assoc, append-nil}
-use Rattle.std.specs.Prelude.{◌||◌, ◌&&◌, ◌==◌, not, None, Option}
-use Rattle.saphyr_input.specs.Classes.{line_feed, carriage_return}
+use Rattle.std.proofs.Common.{◌≡◌, ℕ, ◌+◌, ◌≤◌, Bool, true, false, List, [], ◌∷◌, ◌++◌, length, ◌⊎◌, inl, inr, refl, sym, ap, ◌∙◌, arith, subst, append_assoc, append-nil}
+use Rattle.std.specs.Prelude.{◌||◌, ◌&&◌, ◌==◌, Option}
+use Rattle.saphyr_input.specs.Classes.{line_feed}
 use Rattle.saphyr_input.specs.Places.{is_document_start, is_document_end, is_document_indicator}
 use Rattle.saphyr_scalar.specs.declared.scalar.position.Marker.{Marker}
-use Rattle.saphyr_scalar.specs.TagSpelling.{AreIn}
 use Rattle.saphyr_scalar.specs.Spaces.{IsEol, IsGap}
 use Rattle.saphyr_scanner.specs.declared.engine.level.Context.TheVariants as context
 use Rattle.saphyr_scanner.specs.Forest.{Node}
@@ -19,7 +18,7 @@ use Rattle.saphyr_scanner.proofs.JsonMarks.{chain, kinds, kinds_append}
 use Rattle.saphyr_scanner.proofs.FlowStates.{moved, past, marks_line, IsClear, IsBehindRoot, noted, ClosesNodes}
 use Rattle.saphyr_scanner.proofs.FlowPlaces.{moved_count, clear_front, clear_back, both}
 use Rattle.saphyr_scanner.proofs.FlowFillers.{IsPast}
-use Rattle.saphyr_scanner.proofs.FlowLines.{EndsWithLine, eol, eol_past, gap_is_past}
+use Rattle.saphyr_scanner.proofs.FlowLines.{eol, eol_past, gap_is_past}
 use Rattle.saphyr_scanner.proofs.FlowStands.{EndsDocument, AtLine, Stands}
 
 -- ## No document marker begins a line
@@ -98,15 +97,15 @@ reads_node {limit = limit} {start = start} closes node gap text end others ts ga
     let e = eol n end others end_is in
     let lined = eol_past n o others e in
     let low : m.index + length (text ++ o) ≤ limit =
-        within m.index (length (text ++ o)) v.mark.index (length ((gap ++ (text ++ end)) ++ others)) limit (moved_count v.mark gap (text ++ o) ∙ ap (λ (x : List ℕ). v.mark.index + length x) (sym whole)) v.count in
+    within m.index (length (text ++ o)) v.mark.index (length ((gap ++ (text ++ end)) ++ others)) limit (moved_count v.mark gap (text ++ o) ∙ ap (λ (x : List ℕ). v.mark.index + length x) (sym whole)) v.count in
     let root : IsBehindRoot n o =
-        record { rest = e.rest; more = e.more; is = e.is; line = e.line; break = e.break; lands = subst (λ (x : Marker × List ℕ). EndsDocument x.0 x.1) (sym lined) (lands e.mark e.place) } in
+    record { rest = e.rest; more = e.more; is = e.is; line = e.line; break = e.break; lands = subst (λ (x : Marker × List ℕ). EndsDocument x.0 x.1) (sym lined) (lands e.mark e.place) } in
     let here : past v.mark ((gap ++ (text ++ end)) ++ others) ≡ past m (text ++ o) = ap (past v.mark) whole ∙ no_gap_past gap gap_is v.mark (text ++ o) in
     let there : past v.there.mark v.there.rest ≡ past m (text ++ o) = v.fits ∙ here in
     let r = closes node m text o text_is (clear_front m text end others (clear_back v.mark gap (text ++ end) others clear)) low root v.there v.key v.allowed v.adjacent v.places (subst (λ (q : Marker × List ℕ). v.adjacent ≤ q.0.index) here v.low) there in
     let c = r.closes in
     let led : Leads limit (state_at false v.there context.Block v.key [] v.allowed v.adjacent v.places) start =
-        subst (λ (co : Option Marker). Leads limit (noted co (state_at false v.there context.Block v.key [] v.allowed v.adjacent v.places)) start) (v.quiet refl) v.leads in
+    subst (λ (co : Option Marker). Leads limit (noted co (state_at false v.there context.Block v.key [] v.allowed v.adjacent v.places)) start) (v.quiet refl) v.leads in
     record {
       tokens = r.tokens;
       are = r.are;

@@ -1,5 +1,5 @@
 -- Blanks and a comment behind a token of a text in flow style are passed, up to the end of the line.
-use Rattle.std.proofs.Common.{◌≡◌, ◌≢◌, ℕ, suc, ◌+◌, ◌<◌, Bool, true, false, List, [], ◌∷◌, ◌++◌, length, drop, slice_index, Ok, refl, sym, ap, ◌∙◌, arith, subst, append_assoc, append-nil, IsTrue, ◌⊎◌, inl, inr, cond}
+use Rattle.std.proofs.Common.{◌≡◌, ◌≢◌, ℕ, ◌+◌, ◌<◌, Bool, true, false, List, [], ◌∷◌, ◌++◌, length, drop, slice_index, Ok, refl, sym, ap, ◌∙◌, arith, subst, append_assoc, append-nil, IsTrue, ◌⊎◌, inl, inr, cond}
 use Rattle.std.specs.Prelude.{◌==◌, not}
 use Rattle.std.specs.List.{prefix_len}
 use Rattle.std.proofs.Math.Seq.{drop-append_seam}
@@ -12,12 +12,12 @@ use Rattle.saphyr_input.specs.declared.input.SkipTabs.TheVariants.{Yes}
 use Rattle.saphyr_scalar.specs.declared.scalar.position.Marker.{Marker}
 use Rattle.saphyr_scalar.specs.Cursor.{Cursor, along, pass_blanks, separation, behind_separation}
 use Rattle.saphyr_scalar.specs.TagSpelling.{AreIn}
-use Rattle.saphyr_scalar.specs.Spaces.{joined, AreEach, AreMany, IsComment, IsCommentBehind, IsLineRest, IsSeparationLine, IsSeparation}
+use Rattle.saphyr_scalar.specs.Spaces.{joined, AreEach, IsComment, IsCommentBehind, IsLineRest, IsSeparationLine, IsSeparation}
 use Rattle.saphyr_scalar.proofs.Runs.{run_len}
 use Rattle.saphyr_scanner.proofs.JsonGaps.{separated}
 use Rattle.saphyr_scanner.proofs.FlowStates.{moved, past, IsInk}
 use Rattle.saphyr_scanner.proofs.FlowPlaces.{moved_along, in_back}
-use Rattle.saphyr_scanner.proofs.FlowFillers.{EndsLine, are_spaces_past, blanks_past, spaces_are_blank, rest_past, front_past, behind_is}
+use Rattle.saphyr_scanner.proofs.FlowFillers.{EndsLine, blanks_past, spaces_are_blank, front_past, behind_is}
 
 -- what ends blanks and a comment, or blanks alone
 record StopsLine (comment more : List ℕ) : Type 0 where
@@ -140,9 +140,11 @@ on_line s blanks c cs is are ink =
 pub line_rest : (s : Cursor) (blanks comment more : List ℕ) → s.rest ≡ blanks ++ (comment ++ more) → AreIn is_blank blanks → IsCommentBehind blanks comment → EndsLine more
     → (found : SkipTabs) × (separation Yes s ≡ Ok (found, record { rest = more; mark = moved s.mark (blanks ++ comment); blank_so_far = s.blank_so_far }))
 line_rest s blanks comment more is are k ends =
-    let mark = front_moved s.mark blanks comment are (behind_is blanks comment k) in
-    (found_blanks Yes s.rest, line_separated s blanks comment more is are k (line_stops comment more ends)
-    ∙ ap (λ (m : Marker). Ok (let t : SkipTabs × Cursor = (found_blanks Yes s.rest, record { rest = more; mark = m; blank_so_far = s.blank_so_far }) in t)) (sym mark))
+    let mark = front_moved s.mark blanks comment are (behind_is blanks comment k) in (
+      found_blanks Yes s.rest,
+      line_separated s blanks comment more is are k (line_stops comment more ends)
+          ∙ ap (λ (m : Marker). Ok (let t : SkipTabs × Cursor = (found_blanks Yes s.rest, record { rest = more; mark = m; blank_so_far = s.blank_so_far }) in t)) (sym mark),
+    )
 
 pub separates_rest : (s : Cursor) (rest more : List ℕ) → s.rest ≡ rest ++ more → IsLineRest rest → EndsLine more
     → (found : SkipTabs) × (separation Yes s ≡ Ok (found, record { rest = more; mark = moved s.mark rest; blank_so_far = s.blank_so_far }))

@@ -1,16 +1,16 @@
 -- What stands behind a `?` in flow style is passed.
-use Rattle.std.proofs.Common.{◌≡◌, ◌≢◌, ℕ, suc, ◌+◌, ◌<◌, ◌≤◌, Bool, true, false, List, [], ◌∷◌, ◌++◌, length, slice_index, Ok, refl, sym, ap, ◌∙◌, arith, subst, append_assoc, append-nil, IsTrue, ◌⊎◌, inl, inr}
-use Rattle.std.specs.Prelude.{◌||◌, ◌&&◌, ◌==◌, not, Option, None}
+use Rattle.std.proofs.Common.{◌≡◌, ◌≢◌, ℕ, Bool, true, false, List, [], ◌∷◌, ◌++◌, length, slice_index, refl, sym, ap, ◌∙◌, arith, subst, append_assoc, IsTrue, ◌⊎◌, inl, inr}
+use Rattle.std.specs.Prelude.{◌||◌, ◌&&◌, ◌==◌, not}
 use Rattle.std.proofs.lemmas.Bool.Decides.{nat_tests}
 use Rattle.std.proofs.lemmas.List.{length-append}
-use Rattle.saphyr_input.specs.Classes.{is_blank, is_break, is_blank_or_breakz, is_yaml_non_break, tab, line_feed}
+use Rattle.saphyr_input.specs.Classes.{is_blank, is_break, is_yaml_non_break, tab}
 use Rattle.saphyr_scalar.specs.declared.scalar.position.Marker.{Marker}
-use Rattle.saphyr_scalar.specs.Cursor.{Cursor, ◌>>=◌, along, next_line}
+use Rattle.saphyr_scalar.specs.Cursor.{along, next_line}
 use Rattle.saphyr_scalar.specs.TagSpelling.{AreIn}
-use Rattle.saphyr_scalar.specs.Spaces.{joined, AreEach, AreMany, IsComment, IsCommentBehind, IsSeparationLine, IsSeparation}
-use Rattle.saphyr_scanner.specs.Gap.{Spaced, spaced, spaces, line_comment}
+use Rattle.saphyr_scalar.specs.Spaces.{joined, AreEach, IsCommentBehind, IsSeparationLine, IsSeparation}
+use Rattle.saphyr_scanner.specs.Gap.{spaced, spaces, line_comment}
 use Rattle.saphyr_scanner.proofs.FlowStates.{moved, past, past_comment, IsInk}
-use Rattle.saphyr_scanner.proofs.FlowGaps.{past_ink, past_shorter, comment_shorter}
+use Rattle.saphyr_scanner.proofs.FlowGaps.{past_ink, comment_shorter}
 use Rattle.saphyr_scanner.proofs.FlowFillers.{separation_past}
 
 -- ## Spaces, breaks and comments without a tab are what is passed between two tokens

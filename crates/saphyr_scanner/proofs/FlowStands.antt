@@ -1,5 +1,5 @@
 -- The places between the documents of a text, and a step from one to the next.
-use Rattle.std.proofs.Common.{◌≡◌, ℕ, ◌+◌, ◌≤◌, Bool, true, false, List, [], ◌∷◌, ◌++◌, length, slice_index, Ok, IsTrue, ◌⊎◌, inl, inr, refl, sym, ap, ◌∙◌, arith, subst}
+use Rattle.std.proofs.Common.{◌≡◌, ℕ, ◌+◌, ◌≤◌, Bool, true, false, List, [], ◌∷◌, ◌++◌, length, slice_index, Ok, IsTrue, ◌⊎◌, inl, inr, refl, ap, ◌∙◌, arith, subst}
 use Rattle.std.specs.Prelude.{◌-◌, ◌||◌, ◌&&◌, ◌==◌, not, nat_lt, nat_le, Option, Some, None, if◌then◌else◌}
 use Rattle.std.proofs.lemmas.Bool.Decides.{nat_tests}
 use Rattle.saphyr_input.specs.Classes.{is_z}
@@ -17,7 +17,7 @@ use Rattle.saphyr_scanner.specs.State.{State, carried}
 use Rattle.saphyr_scanner.specs.Unrolling.{unroll}
 use Rattle.saphyr_scanner.specs.Fetch.{fetch_here, arrive, fetch}
 use Rattle.saphyr_scanner.proofs.Leads.{Leads}
-use Rattle.saphyr_scanner.proofs.JsonStates.{cursor_at, core_at, state_at, queue_of, drops_key, none_unrolls, Comes, comes}
+use Rattle.saphyr_scanner.proofs.JsonStates.{cursor_at, core_at, state_at, queue_of, drops_key, none_unrolls, comes}
 use Rattle.saphyr_scanner.proofs.JsonMarks.{chain, kinds, kinds_append}
 use Rattle.saphyr_scanner.proofs.FlowStates.{past, noted}
 use Rattle.saphyr_scanner.proofs.FlowGaps.{gap_past, past_low}
@@ -68,7 +68,7 @@ passes_noted (Some comment) s k a ad m y here (inr h) =
     let there = g.is ∙ ap (λ (p : Marker × List ℕ). stop p.0 g.still_blank g.now_broke false p.1) here in
     let b = (g.now_broke && true) || a in
     let goes : check_comment (record (core_at false (cursor_at y m g.still_blank) context.Block k [] b ad) { comment = Some comment }) ≡ Ok (core_at false (cursor_at y m g.still_blank) context.Block k [] b ad) =
-        rw (none_goes_on comment (core_at false (cursor_at y m g.still_blank) context.Block k [] b ad) h) refl in
+    rw (none_goes_on comment (core_at false (cursor_at y m g.still_blank) context.Block k [] b ad) h) refl in
     record { blank = g.still_blank; allowed = b; is = ap (λ r. r >>= λ (p : Passed). check_comment (behind_gap c p)) there ∙ goes }
 
 -- the text y begins with the next token, which stands at m
@@ -144,14 +144,14 @@ passable free co m y quiet (inr h) = inr h
 pub reads_token : {limit : ℕ} {start : State} {free : Bool} {P : Marker → Type 0} {y : List ℕ} {ts : List Kind} (v : Stands limit start free P y ts) → past v.mark y ≡ (v.mark, y) → (free ≡ true) ⊎ EndsDocument v.mark y
     → (t : Bool → Cursor) (b : Bool) (piece : Piece)
     → ((blank : Bool) (key : Option Candidate) (allowed : Bool) (ad : ℕ) (ps : List Place)
-        → fetch_here (state_at false (cursor_at y v.mark blank) context.Block key [] allowed ad ps) ≡ Ok (state_at false (t blank) context.Block None [] b ad (ps ++ closed piece ∷ [])))
+    → fetch_here (state_at false (cursor_at y v.mark blank) context.Block key [] allowed ad ps) ≡ Ok (state_at false (t blank) context.Block None [] b ad (ps ++ closed piece ∷ [])))
     → (Q : Marker → Type 0) (n : Marker) (o : List ℕ) → ((blank : Bool) → past (t blank).mark (t blank).rest ≡ past n o) → n.index + length o ≤ limit → Q n → v.mark.index ≤ n.index
     → Stands limit start true Q o (ts ++ piece.kind ∷ [])
 reads_token {limit = limit} {y = y} {ts = ts} v here may t b piece is Q n o fits count line later =
     let first : v.adjacent ≤ v.mark.index = subst (λ (q : Marker × List ℕ). v.adjacent ≤ q.0.index) here v.low in
     let on = past_low n o in
     let r = reads_here limit v.comment v.there v.key v.allowed v.adjacent v.places v.mark y (v.fits ∙ here) (passable _ v.comment v.mark y v.quiet may) false t (λ _. None) b (v.places ++ closed piece ∷ [])
-        (λ blank key allowed. is blank key allowed v.adjacent v.places) (λ blank. within_index limit (t blank) n o (fits blank) count) in
+    (λ blank key allowed. is blank key allowed v.adjacent v.places) (λ blank. within_index limit (t blank) n o (fits blank) count) in
     record {
       there = t r.0;
       key = r.1;

@@ -1,15 +1,10 @@
 -- The scanner takes a text in flow style and makes tokens of its forest.
-use Rattle.std.proofs.Common.{◌≡◌, ℕ, ◌+◌, ◌≤◌, Bool, true, false, List, [], ◌∷◌, ◌++◌, length, slice_index, IsTrue, ◌⊎◌, inl, inr, refl, sym, ap, ◌∙◌, arith, subst, append_assoc, append-nil}
-use Rattle.std.specs.Prelude.{map, None, ◌==◌, not, IsFalse}
-use Rattle.std.proofs.lemmas.Bool.Decides.{nat_tests}
-use Rattle.saphyr_input.specs.Classes.{byte_order_mark, carriage_return}
-use Rattle.saphyr_scalar.specs.declared.scalar.position.Marker.{Marker}
+use Rattle.std.proofs.Common.{◌≡◌, ℕ, ◌≤◌, Bool, true, false, List, [], ◌∷◌, ◌++◌, length, inl, inr, refl, sym, ap, ◌∙◌, arith, subst, append_assoc, append-nil}
+use Rattle.std.specs.Prelude.{None, ◌==◌, not}
+use Rattle.saphyr_input.specs.Classes.{carriage_return}
 use Rattle.saphyr_scalar.specs.Cursor.{fresh}
 use Rattle.saphyr_scalar.specs.TagSpelling.{AreIn}
-use Rattle.saphyr_scalar.specs.Spaces.{IsEol, IsGap, IsFiller}
-use Rattle.saphyr_scanner.specs.declared.engine.level.Context.TheVariants as context
-use Rattle.saphyr_scanner.specs.Forest.{Node, Document, bare, AreCompatible, Forest}
-use Rattle.saphyr_scanner.specs.BlockNodes.{AtStart, BehindMarker, IsFlowInBlock}
+use Rattle.saphyr_scanner.specs.Forest.{Forest}
 use Rattle.saphyr_scanner.specs.Layout as layout
 use Rattle.saphyr_scanner.specs.Layout.{has_marker, AreDirectives, IsDocumentPrefix, IsDocumentSuffix, IsFlowLayout, most_open}
 use Rattle.saphyr_scanner.specs.Tokens as tokens
@@ -20,15 +15,13 @@ use Rattle.saphyr_scanner.specs.State.{State, start}
 use Rattle.saphyr_scanner.proofs.Leads.{Leads}
 use Rattle.saphyr_scanner.proofs.JsonMarks.{kinds}
 use Rattle.saphyr_scanner.proofs.JsonLeads.{begun, starts}
-use Rattle.saphyr_scanner.proofs.FlowStates.{moved, past, marks_line, IsClear, Reads, ClosesNodes}
+use Rattle.saphyr_scanner.proofs.FlowStates.{moved, Reads, ClosesNodes}
 use Rattle.saphyr_scanner.proofs.FlowPlaces.{in_front, in_back}
 use Rattle.saphyr_scanner.proofs.FlowFillers.{last_filler_past}
 use Rattle.saphyr_scanner.proofs.FlowLines.{passes_filler}
-use Rattle.saphyr_scanner.proofs.FlowStands.{at_start, AtLine, OffLine, Stands, passes_over}
-use Rattle.saphyr_scanner.proofs.FlowMarkers.{reads_start, reads_mark, reads_end, Finishes, reads_stream_end}
-use Rattle.saphyr_scanner.proofs.FlowDirectives.{reads_directives}
-use Rattle.saphyr_scanner.proofs.FlowRoots.{whole_marks, Lands, NodeStands, reads_node}
-use Rattle.saphyr_scanner.proofs.FlowDocuments.{AreFlowDocuments, HasNoReturn, suffix_text, lands_behind, DocumentStands, reads_document}
+use Rattle.saphyr_scanner.proofs.FlowStands.{AtLine, Stands}
+use Rattle.saphyr_scanner.proofs.FlowMarkers.{reads_mark, reads_end, Finishes, reads_stream_end}
+use Rattle.saphyr_scanner.proofs.FlowDocuments.{AreFlowDocuments, HasNoReturn, suffix_text, lands_behind, reads_document}
 
 -- ## Between documents
 

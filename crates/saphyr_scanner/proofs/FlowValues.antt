@@ -1,6 +1,6 @@
 -- The colon behind a key inside flow, and a colon without a key, as pieces.
-use Rattle.std.proofs.Common.{◌≡◌, ℕ, ◌+◌, ◌≤◌, Bool, true, false, List, [], ◌∷◌, ◌++◌, length, slice_index, Ok, refl, sym, ap, ◌∙◌, arith, subst, append_assoc, IsTrue, ◌⊎◌, inl, inr}
-use Rattle.std.specs.Prelude.{◌&&◌, Option, Some, None}
+use Rattle.std.proofs.Common.{◌≡◌, ℕ, ◌+◌, ◌≤◌, Bool, true, false, List, [], ◌∷◌, ◌++◌, length, slice_index, refl, sym, ap, ◌∙◌, arith, subst, append_assoc, IsTrue, ◌⊎◌, inl, inr}
+use Rattle.std.specs.Prelude.{Option, Some, None}
 use Rattle.saphyr_scalar.specs.declared.scalar.position.Marker.{Marker}
 use Rattle.saphyr_scalar.specs.Cursor.{Cursor, along}
 use Rattle.saphyr_scalar.specs.Spaces.{IsSeparation}
@@ -9,7 +9,7 @@ use Rattle.saphyr_scanner.specs.declared.engine.level.Context.TheVariants as con
 use Rattle.saphyr_scanner.specs.Tokens as tokens
 use Rattle.saphyr_scanner.specs.Tokens.{Kind}
 use Rattle.saphyr_scanner.specs.Queue.{Place, closed, empty_piece}
-use Rattle.saphyr_scanner.specs.Core.{Candidate, Level, Action, Put, Open, Steps, is_block, at_mark, went, perform}
+use Rattle.saphyr_scanner.specs.Core.{Candidate, Level, Action, Open, is_block, at_mark, went, perform}
 use Rattle.saphyr_scanner.specs.Value as value
 use Rattle.saphyr_scanner.specs.Value.{begins_pair, behind_colon, alone, begin_alone, behind_key}
 use Rattle.saphyr_scanner.specs.State.{State}
