@@ -5,7 +5,6 @@ use Rattle.saphyr_scalar.specs.declared.scalar.position.Marker.{Marker}
 use Rattle.saphyr_scalar.specs.Cursor.{Cursor}
 use Rattle.saphyr_scanner.specs.declared.engine.level.Context.TheVariants as context
 use Rattle.saphyr_scanner.specs.Tokens as tokens
-use Rattle.saphyr_scanner.specs.Tokens.{Kind}
 use Rattle.saphyr_scanner.specs.TokenGrammar as grammar
 use Rattle.saphyr_scanner.specs.Queue.{Place}
 use Rattle.saphyr_scanner.specs.Core.{Candidate, Level}
@@ -52,7 +51,8 @@ pairs_ink room (MorePairs key value pairs) p o (pair, others, i, h, e) =
 
 -- ## One pair
 
-one_passes : {limit : ℕ} (room : ℕ) (key value : Node) → PassesNode limit room key → PassesNode limit room value → (m : Marker) (t o : List ℕ) → Fits limit m t o → BeginsEnd o → IsPairIn room key value t
+one_passes : {limit : ℕ} (room : ℕ) (key value : Node) → PassesNode limit room key → PassesNode limit room value → (m : Marker) (t o : List ℕ) → Fits limit m t o → BeginsEnd o
+    → IsPairIn room key value t
     → (s : Cursor) (k : Option Candidate) (ls : List Level) (a : Bool) (ad : ℕ) (ps : List Place) → k ≡ None → a ≡ true → room + length ls ≤ 255 → ad < m.index → past s.mark s.rest ≡ past m (t ++ o)
     → Told limit (state_at false s context.FlowMapping k ls a ad ps) (PairInBraces key value) context.FlowMapping ls ps (moved m t) o
 one_passes {limit} room key value K V m t o fits b h s k ls a ad ps no_candidate fresh low before text =
@@ -66,7 +66,8 @@ one_passes {limit} room key value K V m t o fits b h s k ls a ad ps no_candidate
 abbrev pub PassesOtherPairs : ℕ → ℕ → Pairs → Type 0
 PassesOtherPairs limit room pairs =
     (m : Marker) (p o : List ℕ) → AreOtherFlowPairs room pairs 0 p → Fits limit m p (125 ∷ o)
-    → (s : Cursor) (k : Option Candidate) (ls : List Level) (a : Bool) (ad : ℕ) (ps : List Place) → room + length ls ≤ 255 → ad ≤ (past m (p ++ (125 ∷ o))).0.index → past s.mark s.rest ≡ past m (p ++ (125 ∷ o))
+    → (s : Cursor) (k : Option Candidate) (ls : List Level) (a : Bool) (ad : ℕ) (ps : List Place) → room + length ls ≤ 255 → ad ≤ (past m (p ++ (125 ∷ o))).0.index
+    → past s.mark s.rest ≡ past m (p ++ (125 ∷ o))
     → Told limit (state_at false s context.FlowMapping k ls a ad ps) (grammar.AreOtherFlowPairs pairs) context.FlowMapping ls ps (moved m p) (125 ∷ o)
 
 pub no_other_pairs_pass : {limit : ℕ} (room : ℕ) → PassesOtherPairs limit room NoPair
@@ -77,19 +78,23 @@ no_other_pairs_pass {limit} room m p o (inl e) fits s k ls a ad ps low before te
     subst (λ (t : List ℕ). Told limit start (grammar.AreOtherFlowPairs NoPair) context.FlowMapping ls ps (moved m t) (125 ∷ o)) (sym e)
     (record { tokens = []; are = inl refl; passes = none limit s context.FlowMapping k ls a ad ps m (125 ∷ o) (ended m (125 ∷ o)) there near })
 no_other_pairs_pass {limit} room m p o (inr comma) fits s k ls a ad ps low before text =
-    let c = comma_behind limit context.FlowMapping context.FlowMapping refl refl m p (125 ∷ o) comma fits (begins_with 125 o (125 ∷ o) refl (end_ink 125 (inr (inr refl)))) s k ls a ad ps before text in
+    let c = comma_behind limit context.FlowMapping context.FlowMapping refl refl m p (125 ∷ o) comma fits (begins_with 125 o (125 ∷ o) refl (end_ink 125 (inr (inr refl)))) s k ls a ad ps before
+    text in
     record { tokens = tokens.FlowEntry ∷ []; are = inr refl; passes = knowing c (ended (moved m p) (125 ∷ o)) (less_behind c.adjacent (moved m p) [] (125 ∷ o) c.knows.2) }
 
-pub other_pairs_pass : {limit : ℕ} (room : ℕ) (key value : Node) (pairs : Pairs) → PassesNode limit room key → PassesNode limit room value → PassesOtherPairs limit room pairs → PassesOtherPairs limit room (MorePairs key value pairs)
+pub other_pairs_pass : {limit : ℕ} (room : ℕ) (key value : Node) (pairs : Pairs) → PassesNode limit room key → PassesNode limit room value → PassesOtherPairs limit room pairs
+    → PassesOtherPairs limit room (MorePairs key value pairs)
 other_pairs_pass {limit} room key value pairs K V O m p o (comma, pair, others, c, i, h, e) fits s k ls a ad ps low before text =
     let behind_all = 125 ∷ o in
     let start = state_at false s context.FlowMapping k ls a ad ps in
     let whole = fits_so m p (comma ++ (pair ++ others)) behind_all e fits in
     let follow : (pair ++ others) ++ behind_all ≡ pair ++ (others ++ behind_all) = append_assoc pair others behind_all in
-    let texts : p ++ behind_all ≡ comma ++ (pair ++ (others ++ behind_all)) = ap (λ (t : List ℕ). t ++ behind_all) e ∙ append_assoc comma (pair ++ others) behind_all ∙ ap (λ (t : List ℕ). comma ++ t) follow in
+    let texts : p ++ behind_all ≡ comma ++ (pair ++ (others ++ behind_all)) = ap (λ (t : List ℕ). t ++ behind_all) e ∙ append_assoc comma (pair ++ others) behind_all ∙ ap
+    (λ (t : List ℕ). comma ++ t) follow in
     let comma_fits = fits_before m comma ((pair ++ others) ++ behind_all) (pair ++ (others ++ behind_all)) follow (fits_front m comma (pair ++ others) behind_all whole) in
     let ink = ink_front pair (pair ++ (others ++ behind_all)) (others ++ behind_all) refl (pair_ink room key value pair i) in
-    let q = comma_behind limit context.FlowMapping context.FlowMapping refl refl m comma (pair ++ (others ++ behind_all)) c comma_fits ink s k ls a ad ps (subst (λ (t : List ℕ). ad ≤ (past m t).0.index) texts before) (text ∙ ap (past m) texts) in
+    let q = comma_behind limit context.FlowMapping context.FlowMapping refl refl m comma (pair ++ (others ++ behind_all)) c comma_fits ink s k ls a ad ps
+    (subst (λ (t : List ℕ). ad ≤ (past m t).0.index) texts before) (text ∙ ap (past m) texts) in
     let here = moved m comma in
     let inner = fits_back m comma (pair ++ others) behind_all whole in
     let n = one_passes room key value K V here pair (others ++ behind_all) (fits_front here pair others behind_all inner) (others_first room pairs others o h) i
@@ -108,7 +113,8 @@ other_pairs_pass {limit} room key value pairs K V O m p o (comma, pair, others, 
 abbrev pub PassesPairs : ℕ → ℕ → Pairs → Type 0
 PassesPairs limit room pairs =
     (m : Marker) (p o : List ℕ) → AreFlowPairs room pairs 0 p → Fits limit m p (125 ∷ o)
-    → (s : Cursor) (k : Option Candidate) (ls : List Level) (a : Bool) (ad : ℕ) (ps : List Place) → k ≡ None → a ≡ true → room + length ls ≤ 255 → ad < m.index → past s.mark s.rest ≡ past m (p ++ (125 ∷ o))
+    → (s : Cursor) (k : Option Candidate) (ls : List Level) (a : Bool) (ad : ℕ) (ps : List Place) → k ≡ None → a ≡ true → room + length ls ≤ 255 → ad < m.index
+    → past s.mark s.rest ≡ past m (p ++ (125 ∷ o))
     → Told limit (state_at false s context.FlowMapping k ls a ad ps) (grammar.AreFlowPairs pairs) context.FlowMapping ls ps (moved m p) (125 ∷ o)
 
 pub no_pairs_pass : {limit : ℕ} (room : ℕ) → PassesPairs limit room NoPair
@@ -118,7 +124,8 @@ no_pairs_pass {limit} room m p o e fits s k ls a ad ps no_candidate fresh low be
     subst (λ (t : List ℕ). Told limit start (grammar.AreFlowPairs NoPair) context.FlowMapping ls ps (moved m t) (125 ∷ o)) (sym e)
     (record { tokens = []; are = refl; passes = none limit s context.FlowMapping k ls a ad ps m (125 ∷ o) (ended m (125 ∷ o)) there (less_behind ad m [] (125 ∷ o) before) })
 
-pub pairs_pass : {limit : ℕ} (room : ℕ) (key value : Node) (pairs : Pairs) → PassesNode limit room key → PassesNode limit room value → PassesOtherPairs limit room pairs → PassesPairs limit room (MorePairs key value pairs)
+pub pairs_pass : {limit : ℕ} (room : ℕ) (key value : Node) (pairs : Pairs) → PassesNode limit room key → PassesNode limit room value → PassesOtherPairs limit room pairs
+    → PassesPairs limit room (MorePairs key value pairs)
 pairs_pass {limit} room key value pairs K V O m p o (pair, others, i, h, e) fits s k ls a ad ps no_candidate fresh low before text =
     let behind_all = 125 ∷ o in
     let start = state_at false s context.FlowMapping k ls a ad ps in

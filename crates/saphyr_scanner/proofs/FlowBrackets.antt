@@ -17,7 +17,7 @@ use Rattle.saphyr_scanner.specs.Seen.{Piece}
 use Rattle.saphyr_scanner.specs.Queue.{Place, closed, empty_piece}
 use Rattle.saphyr_scanner.specs.Core.{Candidate, Level, Core, is_block, from_to, perform}
 use Rattle.saphyr_scanner.specs.Flow as flow
-use Rattle.saphyr_scanner.specs.Flow.{close_collection, behind_pair, ends_pair}
+use Rattle.saphyr_scanner.specs.Flow.{close_collection, behind_pair}
 use Rattle.saphyr_scanner.specs.Fetch.{step}
 use Rattle.saphyr_scanner.proofs.JsonStates.{cursor_at, core_at, state_at, queue_of}
 use Rattle.saphyr_scanner.proofs.JsonMarks.{kinds, saved, level_of}

@@ -57,7 +57,8 @@ ends_root m e o h =
 -- the run over what is inside, up to the closing bracket ch
 pub record InsidePasses (limit : ℕ) (start : State) (Is : List Kind → Type 0) (ch : ℕ) (kind : Kind) (ls : List Level) (ps : List Place) (m : Marker) (o : List ℕ) : Type 0 where
   pub inside : Context
-  pub closes : (second i : ℕ) (s : Cursor) (k : Option Candidate) (ms : List Level) (a : Bool) (ad : ℕ) → step ch second i (core_at false s inside k ms a ad) ≡ close_collection (ends_pair inside) kind (core_at false s inside k ms a ad)
+  pub closes : (second i : ℕ) (s : Cursor) (k : Option Candidate) (ms : List Level) (a : Bool) (ad : ℕ)
+      → step ch second i (core_at false s inside k ms a ad) ≡ close_collection (ends_pair inside) kind (core_at false s inside k ms a ad)
   pub tokens : List Kind
   pub are : Is (tokens ++ pending (ends_pair inside))
   pub passes : Passes limit start (ended m o) inside ls ps m o tokens
@@ -98,7 +99,8 @@ RunsInside limit Is b x ls m inside o =
     (s : Cursor) (k j : Option Candidate) (a : Bool) (ad : ℕ) (ps : List Place) → k ≡ None → a ≡ true → ad < m.index → past s.mark s.rest ≡ past m (inside ++ (b.closing ∷ o))
     → InsidePasses limit (state_at false s b.context k (level_of x j ∷ ls) a ad ps) Is b.closing b.closes (level_of x j ∷ ls) ps (moved m inside) (b.closing ∷ o)
 
-pub record BracketsPass (limit : ℕ) (start : State) (Is : List Kind → Type 0) (b : Brackets) (kept : Option Candidate) (x : Context) (ls : List Level) (ps : List Place) (m : Marker) (o : List ℕ) : Type 0 where
+pub record BracketsPass (limit : ℕ) (start : State) (Is : List Kind → Type 0) (b : Brackets) (kept : Option Candidate) (x : Context) (ls : List Level) (ps : List Place) (m : Marker) (o : List ℕ) :
+    Type 0 where
   pub inside : List Kind
   pub are : Is inside
   pub passes : Passes limit start (bracketed x kept m o) x ls ps m o (b.opens ∷ (inside ++ b.closes ∷ []))
@@ -112,7 +114,8 @@ all_told opens closes ts ends = ap (λ (x : List Kind). opens ∷ x) (sym (appen
 
 pub brackets_pass : (limit : ℕ) (Is : List Kind → Type 0) (b : Brackets) → AreBrackets b → (m : Marker) (w inside o : List ℕ) → Fits limit m (bracket_text b w inside) o → IsSeparation 0 w
     → IsParted (w ++ (inside ++ (b.closing ∷ o))) → EndsAt (moved (moved m (b.opening ∷ w)) inside) o
-    → (s : Cursor) (x : Context) (k : Option Candidate) (ls : List Level) (a : Bool) (ad : ℕ) (ps : List Place) → length ls < 255 → ad ≤ m.index → past s.mark s.rest ≡ past m (bracket_text b w inside ++ o)
+    → (s : Cursor) (x : Context) (k : Option Candidate) (ls : List Level) (a : Bool) (ad : ℕ) (ps : List Place) → length ls < 255 → ad ≤ m.index
+    → past s.mark s.rest ≡ past m (bracket_text b w inside ++ o)
     → RunsInside limit Is b x ls (moved m (b.opening ∷ w)) inside o
     → BracketsPass limit (state_at false s x k ls a ad ps) Is b (saved a (length ps) m k) x ls ps (moved m (bracket_text b w inside)) o
 brackets_pass limit Is b are m w inside o fits parts parted ends s x k ls a ad ps low before text run =

@@ -36,12 +36,14 @@ in_braces = record { flows = refl; question = refl; inside = refl; no_pair = ref
 in_brackets : IsMarked context.FlowSequence context.ExplicitFlowPair
 in_brackets = record { flows = refl; question = refl; inside = refl; no_pair = refl; colon = refl }
 
-ended_behind : {limit : ℕ} {start : State} {x : Context} {ls : List Level} {ps : List Place} {ts : List Kind} (m : Marker) (w o : List ℕ) → IsSeparation 0 w → Passes limit start (ended m (w ++ o)) x ls ps m (w ++ o) ts → Passes limit start (ended (moved m w) o) x ls ps (moved m w) o ts
+ended_behind : {limit : ℕ} {start : State} {x : Context} {ls : List Level} {ps : List Place} {ts : List Kind} (m : Marker) (w o : List ℕ) → IsSeparation 0 w
+    → Passes limit start (ended m (w ++ o)) x ls ps m (w ++ o) ts → Passes limit start (ended (moved m w) o) x ls ps (moved m w) o ts
 ended_behind m w o parts p =
     let q = behind m w o parts p in
     knowing q (ended (moved m w) o) (subst (λ (r : Marker × List ℕ). q.adjacent ≤ r.0.index) (separation_past m w o parts) q.knows)
 
-told_behind : {limit : ℕ} {start : State} {Is : List Kind → Type 0} {x : Context} {ls : List Level} {ps : List Place} (m : Marker) (w o : List ℕ) → IsSeparation 0 w → Told limit start Is x ls ps m (w ++ o) → Told limit start Is x ls ps (moved m w) o
+told_behind : {limit : ℕ} {start : State} {Is : List Kind → Type 0} {x : Context} {ls : List Level} {ps : List Place} (m : Marker) (w o : List ℕ) → IsSeparation 0 w
+    → Told limit start Is x ls ps m (w ++ o) → Told limit start Is x ls ps (moved m w) o
 told_behind m w o parts t = record { tokens = t.tokens; are = t.are; passes = ended_behind m w o parts t.passes }
 
 abbrev pub PairInBraces : Node → Node → List Kind → Type 0
@@ -70,9 +72,11 @@ pair_text_passes room key value K V m t o fits ends (inr (inr (inr h))) s k ls a
     told_so (marked_in_braces key value) (explicit_passes room key value K V context.FlowMapping context.FlowMapping in_braces m t o fits ends h s k ls a ad ps low before text)
 
 -- a pair in braces, with the separation behind it
-pub pair_passes : {limit : ℕ} (room : ℕ) (key value : Node) → PassesNode limit room key → PassesNode limit room value → (m : Marker) (t : List ℕ) (c : ℕ) (cs : List ℕ) → Fits limit m t (c ∷ cs) → (c ≡ 44) ⊎ ((c ≡ 93) ⊎ (c ≡ 125))
+pub pair_passes : {limit : ℕ} (room : ℕ) (key value : Node) → PassesNode limit room key → PassesNode limit room value → (m : Marker) (t : List ℕ) (c : ℕ) (cs : List ℕ) → Fits limit m t (c ∷ cs)
+    → (c ≡ 44) ⊎ ((c ≡ 93) ⊎ (c ≡ 125))
     → IsPair key value (IsFlowNode room key true 0) (IsFlowNode room value true 0) 0 t
-    → (s : Cursor) (k : Option Candidate) (ls : List Level) (a : Bool) (ad : ℕ) (ps : List Place) → k ≡ None → a ≡ true → room + length ls ≤ 255 → ad < m.index → past s.mark s.rest ≡ past m (t ++ (c ∷ cs))
+    → (s : Cursor) (k : Option Candidate) (ls : List Level) (a : Bool) (ad : ℕ) (ps : List Place) → k ≡ None → a ≡ true → room + length ls ≤ 255 → ad < m.index
+    → past s.mark s.rest ≡ past m (t ++ (c ∷ cs))
     → Told limit (state_at false s context.FlowMapping k ls a ad ps) (PairInBraces key value) context.FlowMapping ls ps (moved m t) (c ∷ cs)
 pair_passes room key value K V m t c cs fits ends (inl h) s k ls a ad ps no_candidate fresh low before text =
     told_so (marked_in_braces key value) (lone_passes key value context.FlowMapping context.FlowMapping in_braces m t c cs fits ends h s k ls a ad ps before text)
@@ -98,14 +102,17 @@ pub record ItemPasses (limit : ℕ) (start : State) (Is : List Kind → Type 0) 
   pub are : Is (tokens ++ pending (ends_pair inside))
   pub passes : Passes limit start (ended m o) inside ls ps m o tokens
 
-item_at : {limit : ℕ} {start : State} {Is : List Kind → Type 0} {ls : List Level} {ps : List Place} {o : List ℕ} (m n : Marker) → m ≡ n → ItemPasses limit start Is ls ps m o → ItemPasses limit start Is ls ps n o
+item_at : {limit : ℕ} {start : State} {Is : List Kind → Type 0} {ls : List Level} {ps : List Place} {o : List ℕ} (m n : Marker) → m ≡ n → ItemPasses limit start Is ls ps m o
+    → ItemPasses limit start Is ls ps n o
 item_at {limit} {start} {Is} {ls} {ps} {o} m n e t = subst (λ (k : Marker). ItemPasses limit start Is ls ps k o) e t
 
-item_behind : {limit : ℕ} {start : State} {Is : List Kind → Type 0} {ls : List Level} {ps : List Place} (m : Marker) (w o : List ℕ) → IsSeparation 0 w → ItemPasses limit start Is ls ps m (w ++ o) → ItemPasses limit start Is ls ps (moved m w) o
+item_behind : {limit : ℕ} {start : State} {Is : List Kind → Type 0} {ls : List Level} {ps : List Place} (m : Marker) (w o : List ℕ) → IsSeparation 0 w → ItemPasses limit start Is ls ps m (w ++ o)
+    → ItemPasses limit start Is ls ps (moved m w) o
 item_behind m w o parts t = record { inside = t.inside; flows = t.flows; back = t.back; tokens = t.tokens; are = t.are; passes = ended_behind m w o parts t.passes }
 
 -- a node, with the separation behind it
-pub node_item_passes : {limit : ℕ} (room : ℕ) (node : Node) → PassesNode limit room node → (m : Marker) (t : List ℕ) (c : ℕ) (cs : List ℕ) → Fits limit m t (c ∷ cs) → (c ≡ 44) ⊎ ((c ≡ 93) ⊎ (c ≡ 125)) → IsBeforeSeparation (IsFlowNode room node true 0) 0 t
+pub node_item_passes : {limit : ℕ} (room : ℕ) (node : Node) → PassesNode limit room node → (m : Marker) (t : List ℕ) (c : ℕ) (cs : List ℕ) → Fits limit m t (c ∷ cs)
+    → (c ≡ 44) ⊎ ((c ≡ 93) ⊎ (c ≡ 125)) → IsBeforeSeparation (IsFlowNode room node true 0) 0 t
     → (s : Cursor) (k : Option Candidate) (ls : List Level) (a : Bool) (ad : ℕ) (ps : List Place) → room + length ls ≤ 255 → ad < m.index → past s.mark s.rest ≡ past m (t ++ (c ∷ cs))
     → ItemPasses limit (state_at false s context.FlowSequence k ls a ad ps) (IsEntry node) ls ps (moved m t) (c ∷ cs)
 node_item_passes {limit} room node N m t c cs fits ends (piece, separation, h, parts, e) s k ls a ad ps low before text =
@@ -157,9 +164,11 @@ single_text_passes {limit} room key value K V m t o fits ends (inr (inr h)) s k 
     record { inside = context.ExplicitFlowPair; flows = refl; back = refl; tokens = p.tokens; are = inr (refl, subst (MarkedTokens key value) (sym (append-nil p.tokens)) p.are); passes = p.passes }
 
 -- a pair in brackets, with the separation behind it
-pub single_passes : {limit : ℕ} (room : ℕ) (key value : Node) → PassesNode limit room key → PassesNode limit room value → (m : Marker) (t : List ℕ) (c : ℕ) (cs : List ℕ) → Fits limit m t (c ∷ cs) → (c ≡ 44) ⊎ ((c ≡ 93) ⊎ (c ≡ 125))
+pub single_passes : {limit : ℕ} (room : ℕ) (key value : Node) → PassesNode limit room key → PassesNode limit room value → (m : Marker) (t : List ℕ) (c : ℕ) (cs : List ℕ) → Fits limit m t (c ∷ cs)
+    → (c ≡ 44) ⊎ ((c ≡ 93) ⊎ (c ≡ 125))
     → IsSinglePair key value (IsFlowNode room key true 0) (IsFlowNode room value true 0) 0 t
-    → (s : Cursor) (k : Option Candidate) (ls : List Level) (a : Bool) (ad : ℕ) (ps : List Place) → k ≡ None → a ≡ true → room + length ls ≤ 255 → ad < m.index → past s.mark s.rest ≡ past m (t ++ (c ∷ cs))
+    → (s : Cursor) (k : Option Candidate) (ls : List Level) (a : Bool) (ad : ℕ) (ps : List Place) → k ≡ None → a ≡ true → room + length ls ≤ 255 → ad < m.index
+    → past s.mark s.rest ≡ past m (t ++ (c ∷ cs))
     → ItemPasses limit (state_at false s context.FlowSequence k ls a ad ps) (IsEntry (single key value)) ls ps (moved m t) (c ∷ cs)
 single_passes room key value K V m t c cs fits ends (inl h) s k ls a ad ps no_candidate fresh low before text =
     let p = lone_passes key value context.FlowSequence context.ExplicitFlowPair in_brackets m t c cs fits ends h s k ls a ad ps before text in

@@ -26,7 +26,8 @@ use Rattle.saphyr_scanner.proofs.FlowPieces.{Fits, fits_front, fits_back}
 use Rattle.saphyr_scanner.proofs.FlowCollections.{EndsAt, Brackets, AreBrackets, IsBracketed, bracketed, bracket_text, RunsInside, brackets_pass}
 
 -- the tokens of properties and of a collection behind them, and the run over its text
-pub record CollectionPasses (limit : ℕ) (start : State) (Is : List Kind → Type 0) (b : Brackets) (p : Properties) (kept : Option Candidate) (x : Context) (ls : List Level) (ps : List Place) (m : Marker) (o : List ℕ) : Type 0 where
+pub record CollectionPasses (limit : ℕ) (start : State) (Is : List Kind → Type 0) (b : Brackets) (p : Properties) (kept : Option Candidate) (x : Context) (ls : List Level) (ps : List Place)
+    (m : Marker) (o : List ℕ) : Type 0 where
   pub properties : List Kind
   pub are_properties : grammar.AreProperties p properties
   pub inside : List Kind
@@ -53,23 +54,28 @@ abbrev Inside : ℕ → (List Kind → Type 0) → Brackets → Context → List
 Inside limit Is b x ls m w inside o = EndsAt (moved (moved m (b.opening ∷ w)) inside) o × RunsInside limit Is b x ls (moved m (b.opening ∷ w)) inside o
 
 -- without properties
-bare_passes : (limit : ℕ) (p : Properties) → p ≡ no_properties → (Is : List Kind → Type 0) (b : Brackets) → AreBrackets b → (m : Marker) (w inside o : List ℕ) → Fits limit m (bracket_text b w inside) o → IsSeparation 0 w → IsParted (w ++ (inside ++ (b.closing ∷ o)))
-    → (s : Cursor) (x : Context) (k : Option Candidate) (ls : List Level) (a : Bool) (ad : ℕ) (ps : List Place) → length ls < 255 → ad ≤ m.index → past s.mark s.rest ≡ past m (bracket_text b w inside ++ o) → Inside limit Is b x ls m w inside o
+bare_passes : (limit : ℕ) (p : Properties) → p ≡ no_properties → (Is : List Kind → Type 0) (b : Brackets) → AreBrackets b → (m : Marker) (w inside o : List ℕ)
+    → Fits limit m (bracket_text b w inside) o → IsSeparation 0 w → IsParted (w ++ (inside ++ (b.closing ∷ o)))
+    → (s : Cursor) (x : Context) (k : Option Candidate) (ls : List Level) (a : Bool) (ad : ℕ) (ps : List Place) → length ls < 255 → ad ≤ m.index
+    → past s.mark s.rest ≡ past m (bracket_text b w inside ++ o) → Inside limit Is b x ls m w inside o
     → CollectionPasses limit (state_at false s x k ls a ad ps) Is b p (saved a (length ps) m k) x ls ps (moved m (bracket_text b w inside)) o
 bare_passes limit p none Is b are m w inside o fits parts parted s x k ls a ad ps low before text run =
     let r = brackets_pass limit Is b are m w inside o fits parts parted run.0 s x k ls a ad ps low before text run.1 in
     record { properties = []; are_properties = subst (λ (q : Properties). grammar.AreProperties q []) (sym none) refl; inside = r.inside; are = r.are; passes = r.passes }
 
 -- behind properties and some separation
-behind_properties : (limit : ℕ) (p : Properties) → Reads → (Is : List Kind → Type 0) (b : Brackets) → AreBrackets b → (m : Marker) (t v w inside o : List ℕ) → Fits limit m ((t ++ v) ++ bracket_text b w inside) o
+behind_properties : (limit : ℕ) (p : Properties) → Reads → (Is : List Kind → Type 0) (b : Brackets) → AreBrackets b → (m : Marker) (t v w inside o : List ℕ)
+    → Fits limit m ((t ++ v) ++ bracket_text b w inside) o
     → IsProperties p t → v ≢ [] → IsSeparation 0 v → IsSeparation 0 w → IsParted (w ++ (inside ++ (b.closing ∷ o)))
-    → (s : Cursor) (x : Context) (k : Option Candidate) (ls : List Level) (a : Bool) (ad : ℕ) (ps : List Place) → length ls < 255 → ad ≤ m.index → past s.mark s.rest ≡ past m (((t ++ v) ++ bracket_text b w inside) ++ o) → Inside limit Is b x ls (moved m (t ++ v)) w inside o
+    → (s : Cursor) (x : Context) (k : Option Candidate) (ls : List Level) (a : Bool) (ad : ℕ) (ps : List Place) → length ls < 255 → ad ≤ m.index
+    → past s.mark s.rest ≡ past m (((t ++ v) ++ bracket_text b w inside) ++ o) → Inside limit Is b x ls (moved m (t ++ v)) w inside o
     → CollectionPasses limit (state_at false s x k ls a ad ps) Is b p (saved a (length ps) m k) x ls ps (moved m ((t ++ v) ++ bracket_text b w inside)) o
 behind_properties limit p P Is b are m t v w inside o fits h some gap parts parted s x k ls a ad ps low before text run =
     let body = bracket_text b w inside in
     let front_fits = fits_front m t v (body ++ o) (fits_front m (t ++ v) body o fits) in
     let texts : ((t ++ v) ++ body) ++ o ≡ t ++ (v ++ (body ++ o)) = append_assoc (t ++ v) body o ∙ append_assoc t v (body ++ o) in
-    let pp = properties_read P limit p.anchor p.tag m t (v ++ (body ++ o)) h s x k ls a ad ps (white_ends_tag (not (is_block x)) v (body ++ o) gap some) front_fits.clear front_fits.below (text ∙ ap (past m) texts) in
+    let pp = properties_read P limit p.anchor p.tag m t (v ++ (body ++ o)) h s x k ls a ad ps (white_ends_tag (not (is_block x)) v (body ++ o) gap some) front_fits.clear front_fits.below
+    (text ∙ ap (past m) texts) in
     let here = moved m (t ++ v) in
     let start = state_at false s x k ls a ad ps in
     let kept = saved a (length ps) m k in
@@ -91,9 +97,11 @@ behind_properties limit p P Is b are m t v w inside o fits h some gap parts part
     subst (λ (e : Marker). CollectionPasses limit start Is b p kept x ls ps e o) (sym (moved_append m (t ++ v) body))
     (record { properties = pp.tokens; are_properties = pp.are; inside = r.inside; are = r.are; passes = join q c (bracketed x kept end o) known })
 
-pub collection_passes : (limit : ℕ) (p : Properties) → Reads → (Is : List Kind → Type 0) (b : Brackets) → AreBrackets b → (m : Marker) (front w inside o : List ℕ) → Fits limit m (front ++ bracket_text b w inside) o
+pub collection_passes : (limit : ℕ) (p : Properties) → Reads → (Is : List Kind → Type 0) (b : Brackets) → AreBrackets b → (m : Marker) (front w inside o : List ℕ)
+    → Fits limit m (front ++ bracket_text b w inside) o
     → IsBeforeContent p 0 front → IsSeparation 0 w → IsParted (w ++ (inside ++ (b.closing ∷ o)))
-    → (s : Cursor) (x : Context) (k : Option Candidate) (ls : List Level) (a : Bool) (ad : ℕ) (ps : List Place) → length ls < 255 → ad ≤ m.index → past s.mark s.rest ≡ past m ((front ++ bracket_text b w inside) ++ o) → Inside limit Is b x ls (moved m front) w inside o
+    → (s : Cursor) (x : Context) (k : Option Candidate) (ls : List Level) (a : Bool) (ad : ℕ) (ps : List Place) → length ls < 255 → ad ≤ m.index
+    → past s.mark s.rest ≡ past m ((front ++ bracket_text b w inside) ++ o) → Inside limit Is b x ls (moved m front) w inside o
     → CollectionPasses limit (state_at false s x k ls a ad ps) Is b p (saved a (length ps) m k) x ls ps (moved m (front ++ bracket_text b w inside)) o
 collection_passes limit p P Is b are m front w inside o fits (inl (none, e)) parts parted s x k ls a ad ps low before text run =
     subst

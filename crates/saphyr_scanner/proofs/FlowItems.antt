@@ -109,10 +109,12 @@ comma_behind limit y z flows back m comma o (separation, parts, e) fits b s k ls
 abbrev pub PassesPairItem : ℕ → ℕ → Node → Type 0
 PassesPairItem limit room node =
     (m : Marker) (t : List ℕ) (c : ℕ) (cs : List ℕ) → Fits limit m t (c ∷ cs) → EndsEntry c → IsPairItem room node 0 t
-    → (s : Cursor) (k : Option Candidate) (ls : List Level) (a : Bool) (ad : ℕ) (ps : List Place) → k ≡ None → a ≡ true → room + length ls ≤ 255 → ad < m.index → past s.mark s.rest ≡ past m (t ++ (c ∷ cs))
+    → (s : Cursor) (k : Option Candidate) (ls : List Level) (a : Bool) (ad : ℕ) (ps : List Place) → k ≡ None → a ≡ true → room + length ls ≤ 255 → ad < m.index
+    → past s.mark s.rest ≡ past m (t ++ (c ∷ cs))
     → ItemPasses limit (state_at false s context.FlowSequence k ls a ad ps) (IsEntry node) ls ps (moved m t) (c ∷ cs)
 
-pub pair_item_passes : {limit : ℕ} (room : ℕ) (p : Properties) (key value : Node) → PassesNode limit room key → PassesNode limit room value → PassesPairItem limit room (Map p (MorePairs key value NoPair))
+pub pair_item_passes : {limit : ℕ} (room : ℕ) (p : Properties) (key value : Node) → PassesNode limit room key → PassesNode limit room value
+    → PassesPairItem limit room (Map p (MorePairs key value NoPair))
 pair_item_passes {limit} room p key value K V m t c cs fits ends h s k ls a ad ps no_candidate fresh low before text =
     subst (λ (q : Properties). ItemPasses limit (state_at false s context.FlowSequence k ls a ad ps) (IsEntry (Map q (MorePairs key value NoPair))) ls ps (moved m t) (c ∷ cs)) (sym h.0)
     (single_passes room key value K V m t c cs fits ends h.1 s k ls a ad ps no_candidate fresh low before text)
@@ -147,7 +149,8 @@ pub record OthersPass (limit : ℕ) (start : State) (x : Context) (nodes : Nodes
 abbrev pub PassesOtherItems : ℕ → ℕ → Nodes → Type 0
 PassesOtherItems limit room nodes =
     (m : Marker) (p o : List ℕ) → AreOtherItems room nodes 0 p → Fits limit m p (93 ∷ o) → (x : Context) → is_block x ≡ false → behind_entry x ≡ context.FlowSequence
-    → (s : Cursor) (k : Option Candidate) (ls : List Level) (a : Bool) (ad : ℕ) (ps : List Place) → room + length ls ≤ 255 → ad ≤ (past m (p ++ (93 ∷ o))).0.index → past s.mark s.rest ≡ past m (p ++ (93 ∷ o))
+    → (s : Cursor) (k : Option Candidate) (ls : List Level) (a : Bool) (ad : ℕ) (ps : List Place) → room + length ls ≤ 255 → ad ≤ (past m (p ++ (93 ∷ o))).0.index
+    → past s.mark s.rest ≡ past m (p ++ (93 ∷ o))
     → OthersPass limit (state_at false s x k ls a ad ps) x nodes ls ps (moved m p) (93 ∷ o)
 
 pub no_others_pass : {limit : ℕ} (room : ℕ) → PassesOtherItems limit room NoNode
@@ -188,17 +191,20 @@ regrouped p i q r j o e is = front ∙ ap (λ (x : List Kind). p ++ (e ∷ (i ++
     back : p ++ (e ∷ (i ++ (j ++ o))) ≡ p ++ (e ∷ ((i ++ j) ++ o))
     back = simp append_assoc
 
-pub others_pass : {limit : ℕ} (room : ℕ) (node : Node) (nodes : Nodes) → PassesNode limit room node → PassesPairItem limit room node → PassesOtherItems limit room nodes → PassesOtherItems limit room (MoreNodes node nodes)
+pub others_pass : {limit : ℕ} (room : ℕ) (node : Node) (nodes : Nodes) → PassesNode limit room node → PassesPairItem limit room node → PassesOtherItems limit room nodes
+    → PassesOtherItems limit room (MoreNodes node nodes)
 others_pass {limit} room node nodes N P O m p o (comma, item, others, c, i, h, e) fits x flows back s k ls a ad ps low before text =
     let behind_all = 93 ∷ o in
     let start = state_at false s x k ls a ad ps in
     let whole = fits_so m p (comma ++ (item ++ others)) behind_all e fits in
     let follow : (item ++ others) ++ behind_all ≡ item ++ (others ++ behind_all) = append_assoc item others behind_all in
-    let texts : p ++ behind_all ≡ comma ++ (item ++ (others ++ behind_all)) = ap (λ (t : List ℕ). t ++ behind_all) e ∙ append_assoc comma (item ++ others) behind_all ∙ ap (λ (t : List ℕ). comma ++ t) follow in
+    let texts : p ++ behind_all ≡ comma ++ (item ++ (others ++ behind_all)) = ap (λ (t : List ℕ). t ++ behind_all) e ∙ append_assoc comma (item ++ others) behind_all ∙ ap
+    (λ (t : List ℕ). comma ++ t) follow in
     let comma_fits = fits_before m comma ((item ++ others) ++ behind_all) (item ++ (others ++ behind_all)) follow (fits_front m comma (item ++ others) behind_all whole) in
     let first = item_ink room node item i in
     let ink = ink_front item (item ++ (others ++ behind_all)) (others ++ behind_all) refl first in
-    let q = comma_behind limit x context.FlowSequence flows back m comma (item ++ (others ++ behind_all)) c comma_fits ink s k ls a ad ps (subst (λ (t : List ℕ). ad ≤ (past m t).0.index) texts before) (text ∙ ap (past m) texts) in
+    let q = comma_behind limit x context.FlowSequence flows back m comma (item ++ (others ++ behind_all)) c comma_fits ink s k ls a ad ps
+    (subst (λ (t : List ℕ). ad ≤ (past m t).0.index) texts before) (text ∙ ap (past m) texts) in
     let here = moved m comma in
     let inner = fits_back m comma (item ++ others) behind_all whole in
     let n = item_passes room node N P here item (others ++ behind_all) (fits_front here item others behind_all inner) (others_first room nodes others o h) i
@@ -226,7 +232,8 @@ others_pass {limit} room node nodes N P O m p o (comma, item, others, c, i, h, e
 abbrev pub PassesItems : ℕ → ℕ → Nodes → Type 0
 PassesItems limit room nodes =
     (m : Marker) (p o : List ℕ) → AreItems room nodes 0 p → Fits limit m p (93 ∷ o)
-    → (s : Cursor) (k : Option Candidate) (ls : List Level) (a : Bool) (ad : ℕ) (ps : List Place) → k ≡ None → a ≡ true → room + length ls ≤ 255 → ad < m.index → past s.mark s.rest ≡ past m (p ++ (93 ∷ o))
+    → (s : Cursor) (k : Option Candidate) (ls : List Level) (a : Bool) (ad : ℕ) (ps : List Place) → k ≡ None → a ≡ true → room + length ls ≤ 255 → ad < m.index
+    → past s.mark s.rest ≡ past m (p ++ (93 ∷ o))
     → ItemPasses limit (state_at false s context.FlowSequence k ls a ad ps) (grammar.AreFlowEntries nodes) ls ps (moved m p) (93 ∷ o)
 
 pub no_items_pass : {limit : ℕ} (room : ℕ) → PassesItems limit room NoNode
@@ -246,7 +253,8 @@ no_items_pass {limit} room m p o e fits s k ls a ad ps no_candidate fresh low be
 first_regrouped : (i q r j o : List Kind) → q ++ r ≡ j ++ o → (i ++ q) ++ r ≡ (i ++ j) ++ o
 first_regrouped i q r j o is = append_assoc i q r ∙ ap (λ (x : List Kind). i ++ x) is ∙ sym (append_assoc i j o)
 
-pub items_pass : {limit : ℕ} (room : ℕ) (node : Node) (nodes : Nodes) → PassesNode limit room node → PassesPairItem limit room node → PassesOtherItems limit room nodes → PassesItems limit room (MoreNodes node nodes)
+pub items_pass : {limit : ℕ} (room : ℕ) (node : Node) (nodes : Nodes) → PassesNode limit room node → PassesPairItem limit room node → PassesOtherItems limit room nodes
+    → PassesItems limit room (MoreNodes node nodes)
 items_pass {limit} room node nodes N P O m p o (item, others, i, h, e) fits s k ls a ad ps no_candidate fresh low before text =
     let behind_all = 93 ∷ o in
     let start = state_at false s context.FlowSequence k ls a ad ps in

@@ -16,7 +16,8 @@ use Rattle.saphyr_scanner.proofs.FlowWords.{normalized_same}
 use Rattle.saphyr_scanner.proofs.FlowStreams.{flow_leads}
 
 -- a text in flow style without CR gives tokens of its forest
-pub flow_scans : Readers → Reads → (limit : ℕ) → ClosesNodes limit → (forest : Forest) (text : List ℕ) → IsFlowLayoutText most_open forest text → AreIn (λ c. not (c == carriage_return)) text → length text ≤ limit
+pub flow_scans : Readers → Reads → (limit : ℕ) → ClosesNodes limit → (forest : Forest) (text : List ℕ) → IsFlowLayoutText most_open forest text → AreIn (λ c. not (c == carriage_return)) text
+    → length text ≤ limit
     → (tokens : List Kind) × Yields forest tokens × Scans tokens (scan limit text)
 flow_scans readers reads limit closes forest text layout clean short =
     let run = flow_leads reads limit closes forest text clean (subst (IsFlowLayout most_open forest) (normalized_same text clean) layout) short in

@@ -37,7 +37,8 @@ pub record IsMarked (y z : Context) : Type 0 where
   pub colon : behind_colon z ≡ z
 
 -- the `?` and the separation behind it
-mark_behind : (limit : ℕ) (y z : Context) → IsMarked y z → (m : Marker) (separation o : List ℕ) → Fits limit m (63 ∷ separation) o → IsBehindMark 0 separation → (first : ℕ) (others : List ℕ) → o ≡ first ∷ others → IsInk first
+mark_behind : (limit : ℕ) (y z : Context) → IsMarked y z → (m : Marker) (separation o : List ℕ) → Fits limit m (63 ∷ separation) o → IsBehindMark 0 separation → (first : ℕ) (others : List ℕ)
+    → o ≡ first ∷ others → IsInk first
     → (s : Cursor) (k : Option Candidate) (ls : List Level) (a : Bool) (ad : ℕ) (ps : List Place) → ad ≤ m.index → past s.mark s.rest ≡ past m (63 ∷ (separation ++ o))
     → Passes limit (state_at false s y k ls a ad ps) (no_key (moved m (63 ∷ separation))) z ls ps (moved m (63 ∷ separation)) o (tokens.Key ∷ [])
 mark_behind limit y z c m separation o fits (some, parts, tabs) first others is ink s k ls a ad ps before text =
@@ -64,7 +65,8 @@ key_ink room key value V t (node, separation, colon, h, parts, apart, c, e) = in
 -- what stands behind the separation of a mark
 abbrev Inside : ℕ → Node → Node → List ℕ → Type 0
 Inside room key value t =
-    ((value ≡ left_out) × IsFlowNode room key true 0 t) ⊎ (IsValueAlone key value (IsFlowNode room value true 0) 0 t ⊎ IsKeyAndValue key value (IsFlowNode room key true 0) (IsFlowNode room value true 0) 0 t)
+    ((value ≡ left_out) × IsFlowNode room key true 0 t) ⊎ (IsValueAlone key value (IsFlowNode room value true 0) 0 t ⊎ IsKeyAndValue key value (IsFlowNode room key true 0)
+    (IsFlowNode room value true 0) 0 t)
 
 inside_ink : (room : ℕ) (key value : Node) (t : List ℕ) → Inside room key value t → BeginsInk t
 inside_ink room key value t (inl h) = node_ink room key true t h.1
@@ -75,7 +77,8 @@ inside_ink room key value t (inr (inr h)) = key_ink room key value (IsFlowNode r
 abbrev InsideTokens : Node → Node → List Kind → Type 0
 InsideTokens key value t = MarkedTokens key value (tokens.Key ∷ t)
 
-inside_passes : {limit : ℕ} (room : ℕ) (key value : Node) → PassesNode limit room key → PassesNode limit room value → (y z : Context) → IsMarked y z → (m : Marker) (t o : List ℕ) → Fits limit m t o → IsBehindEntry o → Inside room key value t
+inside_passes : {limit : ℕ} (room : ℕ) (key value : Node) → PassesNode limit room key → PassesNode limit room value → (y z : Context) → IsMarked y z → (m : Marker) (t o : List ℕ) → Fits limit m t o
+    → IsBehindEntry o → Inside room key value t
     → (s : Cursor) (k : Option Candidate) (ls : List Level) (a : Bool) (ad : ℕ) (ps : List Place) → k ≡ None → a ≡ false → room + length ls ≤ 255 → ad < m.index → past s.mark s.rest ≡ past m (t ++ o)
     → Told limit (state_at false s z k ls a ad ps) (InsideTokens key value) z ls ps (moved m t) o
 inside_passes {limit} room key value K V y z c m t o fits ends (inl (none, h)) s k ls a ad ps no_candidate none_allowed low before text =
@@ -84,7 +87,14 @@ inside_passes {limit} room key value K V y z c m t o fits ends (inl (none, h)) s
 inside_passes {limit} room key value K V y z c m t o fits ends (inr (inl h)) s k ls a ad ps no_candidate none_allowed low before text =
     let start = state_at false s z k ls a ad ps in
     let v = alone_passes room key value V z c.inside m t o fits ends h s k ls a ad ps no_candidate low before text in
-    told_so (λ ts (vs, are, is). inl (tokens.Key ∷ [], tokens.Value ∷ vs, ([], inl (h.0, refl), refl), (vs, are, refl), ap (λ (x : List Kind). tokens.Key ∷ x) (is ∙ ap (λ (b : Bool). alone_kinds b ++ (tokens.Value ∷ vs)) c.no_pair)))
+    told_so (λ ts (vs, are, is). inl (
+      tokens.Key ∷ [],
+      tokens.Value ∷ vs,
+      ([], inl (h.0, refl), refl),
+      (vs, are, refl),
+      ap (λ (x : List Kind). tokens.Key ∷ x)
+          (is ∙ ap (λ (b : Bool). alone_kinds b ++ (tokens.Value ∷ vs)) c.no_pair),
+    ))
     (subst (λ (x : Context). Told limit start (AloneTokens (alone_kinds (begins_pair z)) value) x ls ps (moved m t) o) c.colon v)
 inside_passes {limit} room key value K V y z c m t o fits ends (inr (inr h)) s k ls a ad ps no_candidate none_allowed low before text =
     let start = state_at false s z k ls a ad ps in
@@ -93,7 +103,8 @@ inside_passes {limit} room key value K V y z c m t o fits ends (inr (inr h)) s k
     (subst (λ (x : Context). Told limit start (PairTokens [] key value) x ls ps (moved m t) o) c.colon v)
 
 -- a `?` with a key, a value or both
-pub explicit_passes : {limit : ℕ} (room : ℕ) (key value : Node) → PassesNode limit room key → PassesNode limit room value → (y z : Context) → IsMarked y z → (m : Marker) (t o : List ℕ) → Fits limit m t o → IsBehindEntry o
+pub explicit_passes : {limit : ℕ} (room : ℕ) (key value : Node) → PassesNode limit room key → PassesNode limit room value → (y z : Context) → IsMarked y z → (m : Marker) (t o : List ℕ)
+    → Fits limit m t o → IsBehindEntry o
     → IsExplicitPair key value (IsFlowNode room key true 0) (IsFlowNode room value true 0) 0 t
     → (s : Cursor) (k : Option Candidate) (ls : List Level) (a : Bool) (ad : ℕ) (ps : List Place) → room + length ls ≤ 255 → ad < m.index → past s.mark s.rest ≡ past m (t ++ o)
     → Told limit (state_at false s y k ls a ad ps) (MarkedTokens key value) z ls ps (moved m t) o
@@ -102,8 +113,10 @@ explicit_passes {limit} room key value K V y z c m t o fits ends (separation, pa
     let is : t ≡ (63 ∷ separation) ++ pair = e in
     let whole = fits_so m t ((63 ∷ separation) ++ pair) o is fits in
     let texts : t ++ o ≡ 63 ∷ (separation ++ (pair ++ o)) = ap (λ (x : List ℕ). x ++ o) is ∙ append_assoc (63 ∷ separation) pair o in
-    let p = mark_behind limit y z c m separation (pair ++ o) (fits_front m (63 ∷ separation) pair o whole) mark b.first (b.others ++ o) (ap (λ (x : List ℕ). x ++ o) b.is) b.ink s k ls a ad ps (omega (arith, before)) (text ∙ ap (past m) texts) in
-    let q = inside_passes room key value K V y z c (moved m (63 ∷ separation)) pair o (fits_back m (63 ∷ separation) pair o whole) ends h p.there p.key ls p.allowed p.adjacent (ps ++ p.new) p.knows.0 p.knows.1 low p.knows.2 p.fits in
+    let p = mark_behind limit y z c m separation (pair ++ o) (fits_front m (63 ∷ separation) pair o whole) mark b.first (b.others ++ o) (ap (λ (x : List ℕ). x ++ o) b.is) b.ink s k ls a ad ps
+    (omega (arith, before)) (text ∙ ap (past m) texts) in
+    let q = inside_passes room key value K V y z c (moved m (63 ∷ separation)) pair o (fits_back m (63 ∷ separation) pair o whole) ends h p.there p.key ls p.allowed p.adjacent (ps ++ p.new)
+    p.knows.0 p.knows.1 low p.knows.2 p.fits in
     told_at (moved (moved m (63 ∷ separation)) pair) (moved m t) (sym (moved_append m (63 ∷ separation) pair) ∙ ap (moved m) (sym is))
     (record { tokens = tokens.Key ∷ q.tokens; are = q.are; passes = join p q.passes (ended (moved (moved m (63 ∷ separation)) pair) o) q.passes.knows })
 
@@ -111,10 +124,17 @@ upto : (a b c : ℕ) → a < b → b ≤ c → a ≤ c
 upto a b c h k = omega (arith, h, k)
 
 -- a `?` alone
-pub lone_passes : {limit : ℕ} (key value : Node) (y z : Context) → IsMarked y z → (m : Marker) (t : List ℕ) (c : ℕ) (cs : List ℕ) → Fits limit m t (c ∷ cs) → (c ≡ 44) ⊎ ((c ≡ 93) ⊎ (c ≡ 125)) → IsLoneMark key value 0 t
+pub lone_passes : {limit : ℕ} (key value : Node) (y z : Context) → IsMarked y z → (m : Marker) (t : List ℕ) (c : ℕ) (cs : List ℕ) → Fits limit m t (c ∷ cs) → (c ≡ 44) ⊎ ((c ≡ 93) ⊎ (c ≡ 125))
+    → IsLoneMark key value 0 t
     → (s : Cursor) (k : Option Candidate) (ls : List Level) (a : Bool) (ad : ℕ) (ps : List Place) → ad < m.index → past s.mark s.rest ≡ past m (t ++ (c ∷ cs))
     → Told limit (state_at false s y k ls a ad ps) (MarkedTokens key value) z ls ps (moved m t) (c ∷ cs)
 lone_passes {limit} key value y z q m t c cs fits ends (separation, no_key_there, none, mark, e) s k ls a ad ps before text =
-    let p = mark_behind limit y z q m separation (c ∷ cs) (fits_so m t (63 ∷ separation) (c ∷ cs) e fits) mark c cs refl (end_ink c ends) s k ls a ad ps (omega (arith, before)) (text ∙ ap (λ (x : List ℕ). past m (x ++ (c ∷ cs))) e) in
+    let p = mark_behind limit y z q m separation (c ∷ cs) (fits_so m t (63 ∷ separation) (c ∷ cs) e fits) mark c cs refl (end_ink c ends) s k ls a ad ps (omega (arith, before))
+    (text ∙ ap (λ (x : List ℕ). past m (x ++ (c ∷ cs))) e) in
     told_at (moved m (63 ∷ separation)) (moved m t) (ap (moved m) (sym e))
-    (record { tokens = tokens.Key ∷ []; are = inr (none, ([], inl (no_key_there, refl), refl)); passes = knowing p (ended (moved m (63 ∷ separation)) (c ∷ cs)) (upto p.adjacent (moved m (63 ∷ separation)).index (past (moved m (63 ∷ separation)) (c ∷ cs)).0.index p.knows.2 (past_low (moved m (63 ∷ separation)) (c ∷ cs))) })
+    (record {
+      tokens = tokens.Key ∷ [];
+      are = inr (none, ([], inl (no_key_there, refl), refl));
+      passes = knowing p (ended (moved m (63 ∷ separation)) (c ∷ cs))
+          (upto p.adjacent (moved m (63 ∷ separation)).index (past (moved m (63 ∷ separation)) (c ∷ cs)).0.index p.knows.2 (past_low (moved m (63 ∷ separation)) (c ∷ cs)));
+    })

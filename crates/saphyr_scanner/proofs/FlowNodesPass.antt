@@ -7,7 +7,6 @@ use Rattle.saphyr_scalar.specs.Spaces.{IsSeparation}
 use Rattle.saphyr_scanner.specs.declared.engine.level.Context.{Context}
 use Rattle.saphyr_scanner.specs.declared.engine.level.Context.TheVariants as context
 use Rattle.saphyr_scanner.specs.Tokens as tokens
-use Rattle.saphyr_scanner.specs.Tokens.{Kind}
 use Rattle.saphyr_scanner.specs.TokenGrammar as grammar
 use Rattle.saphyr_scanner.specs.Queue.{Place}
 use Rattle.saphyr_scanner.specs.Core.{Candidate, Level, is_block}
@@ -81,8 +80,10 @@ parted_by : (w t : List ℕ) → IsSeparation 0 w → BeginsInk t → IsParted (
 parted_by w t parts b = record { separation = w; first = b.first; others = b.others; is = ap (λ (x : List ℕ). w ++ x) b.is; parts = parts; ink = b.ink }
 
 -- in brackets
-sequence_run : {limit : ℕ} → Reads → (room : ℕ) (p : Properties) (nodes : Nodes) (in_flow : Bool) → ((left : ℕ) → PassesItems limit left nodes) → (m : Marker) (t o : List ℕ) → IsFlowNode room (Seq p nodes) in_flow 0 t → Fits limit m t o
-    → ((e : Marker) → EndsAt e o) → (s : Cursor) (x : Context) (k : Option Candidate) (ls : List Level) (a : Bool) (ad : ℕ) (ps : List Place) → room + length ls ≤ 255 → ad ≤ m.index → past s.mark s.rest ≡ past m (t ++ o)
+sequence_run : {limit : ℕ} → Reads → (room : ℕ) (p : Properties) (nodes : Nodes) (in_flow : Bool) → ((left : ℕ) → PassesItems limit left nodes) → (m : Marker) (t o : List ℕ)
+    → IsFlowNode room (Seq p nodes) in_flow 0 t → Fits limit m t o
+    → ((e : Marker) → EndsAt e o) → (s : Cursor) (x : Context) (k : Option Candidate) (ls : List Level) (a : Bool) (ad : ℕ) (ps : List Place) → room + length ls ≤ 255 → ad ≤ m.index
+    → past s.mark s.rest ≡ past m (t ++ o)
     → CollectionPasses limit (state_at false s x k ls a ad ps) (grammar.AreFlowEntries nodes) square p (saved a (length ps) m k) x ls ps (moved m t) o
 sequence_run {limit} reads room p nodes in_flow items m t o (left, opening, inside, r, (front, w, f, parts, e), h, is) fits ends s x k ls a ad ps low before text =
     let text_is = whole_text t opening front w inside 91 93 is e in
@@ -97,8 +98,10 @@ sequence_run {limit} reads room p nodes in_flow items m t o (left, opening, insi
     subst (λ (n : Marker). CollectionPasses limit (state_at false s x k ls a ad ps) (grammar.AreFlowEntries nodes) square p (saved a (length ps) m k) x ls ps n o) (ap (moved m) (sym text_is)) c
 
 -- in braces
-mapping_run : {limit : ℕ} → Reads → (room : ℕ) (p : Properties) (pairs : Pairs) (in_flow : Bool) → ((left : ℕ) → PassesPairs limit left pairs) → (m : Marker) (t o : List ℕ) → IsFlowNode room (Map p pairs) in_flow 0 t → Fits limit m t o
-    → ((e : Marker) → EndsAt e o) → (s : Cursor) (x : Context) (k : Option Candidate) (ls : List Level) (a : Bool) (ad : ℕ) (ps : List Place) → room + length ls ≤ 255 → ad ≤ m.index → past s.mark s.rest ≡ past m (t ++ o)
+mapping_run : {limit : ℕ} → Reads → (room : ℕ) (p : Properties) (pairs : Pairs) (in_flow : Bool) → ((left : ℕ) → PassesPairs limit left pairs) → (m : Marker) (t o : List ℕ)
+    → IsFlowNode room (Map p pairs) in_flow 0 t → Fits limit m t o
+    → ((e : Marker) → EndsAt e o) → (s : Cursor) (x : Context) (k : Option Candidate) (ls : List Level) (a : Bool) (ad : ℕ) (ps : List Place) → room + length ls ≤ 255 → ad ≤ m.index
+    → past s.mark s.rest ≡ past m (t ++ o)
     → CollectionPasses limit (state_at false s x k ls a ad ps) (grammar.AreFlowPairs pairs) curly p (saved a (length ps) m k) x ls ps (moved m t) o
 mapping_run {limit} reads room p pairs in_flow members m t o (left, opening, inside, r, (front, w, f, parts, e), h, is) fits ends s x k ls a ad ps low before text =
     let text_is = whole_text t opening front w inside 123 125 is e in
@@ -123,22 +126,26 @@ weaker a b h = omega (arith, h)
 
 sequence_passes : {limit : ℕ} → Reads → (room : ℕ) (p : Properties) (nodes : Nodes) → ((left : ℕ) → PassesItems limit left nodes) → PassesNode limit room (Seq p nodes)
 sequence_passes {limit} reads room p nodes items m t o h clear below behind s x k ls a ad ps before flow low text =
-    let c = sequence_run reads room p nodes true items m t o h (record { clear = clear; below = below }) (λ e. ends_inside e o (behind_parted (Seq p nodes) o behind)) s x k ls a ad ps low (weaker ad m.index before) text in
+    let c = sequence_run reads room p nodes true items m t o h (record { clear = clear; below = below }) (λ e. ends_inside e o (behind_parted (Seq p nodes) o behind)) s x k ls a ad ps low
+    (weaker ad m.index before) text in
     let n = c.passes.knows in
     record {
       tokens = c.properties ++ (tokens.FlowSequenceStart ∷ (c.inside ++ tokens.FlowSequenceEnd ∷ []));
       are = (c.properties, tokens.FlowSequenceStart ∷ (c.inside ++ tokens.FlowSequenceEnd ∷ []), c.are_properties, inl (c.inside, c.are, refl), refl);
-      passes = knowing c.passes (after_node x (saved a (length ps) m k) (Seq p nodes) (moved m t) o) (record { piece = n.piece; others = n.others; is = n.is; keeps = n.keeps; near = n.near; low = λ e. n.low });
+      passes = knowing c.passes (after_node x (saved a (length ps) m k) (Seq p nodes) (moved m t) o)
+          (record { piece = n.piece; others = n.others; is = n.is; keeps = n.keeps; near = n.near; low = λ e. n.low });
     }
 
 mapping_passes : {limit : ℕ} → Reads → (room : ℕ) (p : Properties) (pairs : Pairs) → ((left : ℕ) → PassesPairs limit left pairs) → PassesNode limit room (Map p pairs)
 mapping_passes {limit} reads room p pairs members m t o h clear below behind s x k ls a ad ps before flow low text =
-    let c = mapping_run reads room p pairs true members m t o h (record { clear = clear; below = below }) (λ e. ends_inside e o (behind_parted (Map p pairs) o behind)) s x k ls a ad ps low (weaker ad m.index before) text in
+    let c = mapping_run reads room p pairs true members m t o h (record { clear = clear; below = below }) (λ e. ends_inside e o (behind_parted (Map p pairs) o behind)) s x k ls a ad ps low
+    (weaker ad m.index before) text in
     let n = c.passes.knows in
     record {
       tokens = c.properties ++ (tokens.FlowMappingStart ∷ (c.inside ++ tokens.FlowMappingEnd ∷ []));
       are = (c.properties, tokens.FlowMappingStart ∷ (c.inside ++ tokens.FlowMappingEnd ∷ []), c.are_properties, inl (c.inside, c.are, refl), refl);
-      passes = knowing c.passes (after_node x (saved a (length ps) m k) (Map p pairs) (moved m t) o) (record { piece = n.piece; others = n.others; is = n.is; keeps = n.keeps; near = n.near; low = λ e. n.low });
+      passes = knowing c.passes (after_node x (saved a (length ps) m k) (Map p pairs) (moved m t) o)
+          (record { piece = n.piece; others = n.others; is = n.is; keeps = n.keeps; near = n.near; low = λ e. n.low });
     }
 
 at_ink : (m : Marker) (t o : List ℕ) (ad : ℕ) → BeginsInk t → ad ≤ (past m (t ++ o)).0.index → ad ≤ m.index
@@ -178,11 +185,13 @@ mutual
 
   all_items_pass : Reads → (limit room : ℕ) (nodes : Nodes) → PassesItems limit room nodes
   all_items_pass reads limit room NoNode = no_items_pass room
-  all_items_pass reads limit room (MoreNodes node nodes) = items_pass room node nodes (nodes_pass reads limit room node) (all_pair_items_pass reads limit room node) (all_others_pass reads limit room nodes)
+  all_items_pass reads limit room (MoreNodes node nodes) = items_pass room node nodes (nodes_pass reads limit room node) (all_pair_items_pass reads limit room node)
+      (all_others_pass reads limit room nodes)
 
   all_others_pass : Reads → (limit room : ℕ) (nodes : Nodes) → PassesOtherItems limit room nodes
   all_others_pass reads limit room NoNode = no_others_pass room
-  all_others_pass reads limit room (MoreNodes node nodes) = others_pass room node nodes (nodes_pass reads limit room node) (all_pair_items_pass reads limit room node) (all_others_pass reads limit room nodes)
+  all_others_pass reads limit room (MoreNodes node nodes) = others_pass room node nodes (nodes_pass reads limit room node) (all_pair_items_pass reads limit room node)
+      (all_others_pass reads limit room nodes)
 
   all_pair_items_pass : Reads → (limit room : ℕ) (node : Node) → PassesPairItem limit room node
   all_pair_items_pass reads limit room (Map p (MorePairs key value NoPair)) = pair_item_passes room p key value (nodes_pass reads limit room key) (nodes_pass reads limit room value)
@@ -194,11 +203,13 @@ mutual
 
   all_pairs_pass : Reads → (limit room : ℕ) (pairs : Pairs) → PassesPairs limit room pairs
   all_pairs_pass reads limit room NoPair = no_pairs_pass room
-  all_pairs_pass reads limit room (MorePairs key value pairs) = pairs_pass room key value pairs (nodes_pass reads limit room key) (nodes_pass reads limit room value) (all_other_pairs_pass reads limit room pairs)
+  all_pairs_pass reads limit room (MorePairs key value pairs) = pairs_pass room key value pairs (nodes_pass reads limit room key) (nodes_pass reads limit room value)
+      (all_other_pairs_pass reads limit room pairs)
 
   all_other_pairs_pass : Reads → (limit room : ℕ) (pairs : Pairs) → PassesOtherPairs limit room pairs
   all_other_pairs_pass reads limit room NoPair = no_other_pairs_pass room
-  all_other_pairs_pass reads limit room (MorePairs key value pairs) = other_pairs_pass room key value pairs (nodes_pass reads limit room key) (nodes_pass reads limit room value) (all_other_pairs_pass reads limit room pairs)
+  all_other_pairs_pass reads limit room (MorePairs key value pairs) = other_pairs_pass room key value pairs (nodes_pass reads limit room key) (nodes_pass reads limit room value)
+      (all_other_pairs_pass reads limit room pairs)
 
 -- as a document's node
 pub nodes_close : Reads → (limit : ℕ) → ClosesNodes limit

@@ -32,10 +32,12 @@ pub record Told (limit : ℕ) (start : State) (Is : List Kind → Type 0) (x : C
   pub are : Is tokens
   pub passes : Passes limit start (ended m o) x ls ps m o tokens
 
-pub told_at : {limit : ℕ} {start : State} {Is : List Kind → Type 0} {x : Context} {ls : List Level} {ps : List Place} {o : List ℕ} (m n : Marker) → m ≡ n → Told limit start Is x ls ps m o → Told limit start Is x ls ps n o
+pub told_at : {limit : ℕ} {start : State} {Is : List Kind → Type 0} {x : Context} {ls : List Level} {ps : List Place} {o : List ℕ} (m n : Marker) → m ≡ n → Told limit start Is x ls ps m o
+    → Told limit start Is x ls ps n o
 told_at {limit} {start} {Is} {x} {ls} {ps} {o} m n e t = subst (λ (k : Marker). Told limit start Is x ls ps k o) e t
 
-pub told_so : {limit : ℕ} {start : State} {Is Are : List Kind → Type 0} {x : Context} {ls : List Level} {ps : List Place} {m : Marker} {o : List ℕ} → ((t : List Kind) → Is t → Are t) → Told limit start Is x ls ps m o → Told limit start Are x ls ps m o
+pub told_so : {limit : ℕ} {start : State} {Is Are : List Kind → Type 0} {x : Context} {ls : List Level} {ps : List Place} {m : Marker} {o : List ℕ} → ((t : List Kind) → Is t → Are t)
+    → Told limit start Is x ls ps m o → Told limit start Are x ls ps m o
 told_so f t = record { tokens = t.tokens; are = f t.tokens t.are; passes = t.passes }
 
 -- the tokens of a value that may be left out
@@ -49,17 +51,20 @@ abbrev pub IsValueText : ℕ → Node → List ℕ → Type 0
 IsValueText room value rest =
     ((value ≡ left_out) × (rest ≡ [])) ⊎ ((separation node : List ℕ) × IsSeparation 0 separation × IsFlowNode room value true 0 node × (rest ≡ separation ++ node))
 
-pub value_behind : {limit : ℕ} {start : State} {ls : List Level} {ps : List Place} {ts : List Kind} (room : ℕ) (value : Node) → PassesNode limit room value → (y : Context) → is_block y ≡ false → (m : Marker) (rest o : List ℕ)
+pub value_behind : {limit : ℕ} {start : State} {ls : List Level} {ps : List Place} {ts : List Kind} (room : ℕ) (value : Node) → PassesNode limit room value → (y : Context) → is_block y ≡ false
+    → (m : Marker) (rest o : List ℕ)
     → Fits limit m rest o → IsBehindEntry o → room + length ls ≤ 255 → IsValueText room value rest → Passes limit start (no_key m) y ls ps m (rest ++ o) ts
     → Told limit start (λ t. (vs : List Kind) × ValueTokens value vs × (t ≡ ts ++ vs)) y ls ps (moved m rest) o
 value_behind {limit} {start} {ls} {ps} {ts} room value V y flows m rest o fits ends low (inl (none, e)) p =
-    let q : Passes limit start (no_key m) y ls ps (moved m rest) o ts = subst (λ (t : List ℕ). Passes limit start (no_key m) y ls ps m (t ++ o) ts → Passes limit start (no_key m) y ls ps (moved m t) o ts) (sym e) (λ k. k) p in
+    let q : Passes limit start (no_key m) y ls ps (moved m rest) o ts = subst
+    (λ (t : List ℕ). Passes limit start (no_key m) y ls ps m (t ++ o) ts → Passes limit start (no_key m) y ls ps (moved m t) o ts) (sym e) (λ k. k) p in
     record { tokens = ts; are = ([], inl (none, refl), sym (append-nil ts)); passes = knowing q (ended (moved m rest) o) (less_behind q.adjacent m rest o q.knows.2) }
 value_behind {limit} {start} {ls} {ps} {ts} room value V y flows m rest o fits ends low (inr (separation, node, parts, h, e)) p =
     let f = fits_back m separation node o (fits_so m rest (separation ++ node) o e fits) in
     let text : rest ++ o ≡ separation ++ (node ++ o) = ap (λ (t : List ℕ). t ++ o) e ∙ append_assoc separation node o in
     let q = behind m separation (node ++ o) parts (subst (λ (t : List ℕ). Passes limit start (no_key m) y ls ps m t ts) text p) in
-    let n = V (moved m separation) node o h f.clear f.below (entry_behind value o ends) q.there y q.key ls q.allowed q.adjacent (ps ++ q.new) (less_on q.adjacent m separation q.knows.2) flows low q.fits in
+    let n = V (moved m separation) node o h f.clear f.below (entry_behind value o ends) q.there y q.key ls q.allowed q.adjacent (ps ++ q.new) (less_on q.adjacent m separation q.knows.2) flows low
+    q.fits in
     told_at (moved (moved m separation) node) (moved m rest) (sym (moved_append m separation node) ∙ ap (moved m) (sym e))
     (record { tokens = ts ++ n.tokens; are = (n.tokens, inr n.are, refl); passes = join q n.passes (ended (moved (moved m separation) node) o) (n.passes.knows.low flows) })
 
@@ -71,7 +76,8 @@ pub record IsColonText (room : ℕ) (adjacent : Bool) (value : Node) (colon o : 
   pub ends : IsTrue adjacent ⊎ IsTrue (ends_colon (slice_index (rest ++ o) 0))
   pub value_text : IsValueText room value rest
 
-pub colon_text : (room : ℕ) (adjacent : Bool) (value : Node) (colon o : List ℕ) → IsBehindEntry o → IsColonAndValue adjacent value (IsFlowNode room value true 0) 0 colon → IsColonText room adjacent value colon o
+pub colon_text : (room : ℕ) (adjacent : Bool) (value : Node) (colon o : List ℕ) → IsBehindEntry o → IsColonAndValue adjacent value (IsFlowNode room value true 0) 0 colon
+    → IsColonText room adjacent value colon o
 colon_text room adjacent value colon o ends (inl (none, e)) = record { rest = []; is = e; parted = entry_parted o ends; ends = inr (entry_ends_colon o ends); value_text = inl (none, refl) }
 colon_text room adjacent value colon o ends (inr (separation, node, parts, apart, h, e)) =
     let assoc = sym (append_assoc separation node o) in
@@ -92,7 +98,8 @@ colon_text room adjacent value colon o ends (inr (separation, node, parts, apart
 abbrev pub PairTokens : List Kind → Node → Node → List Kind → Type 0
 PairTokens front key value t = (ks vs : List Kind) × grammar.IsNode key grammar.InFlow ks × ValueTokens value vs × (t ≡ front ++ (ks ++ tokens.Value ∷ vs))
 
-behind_key : (room : ℕ) (key value : Node) (separation rest o : List ℕ) → IsSeparation 0 separation → IsBeforeColon key separation → (IsTrue (allows_adjacent key separation) ⊎ IsTrue (ends_colon (slice_index (rest ++ o) 0))) → IsBehindNode key (separation ++ (58 ∷ (rest ++ o)))
+behind_key : (room : ℕ) (key value : Node) (separation rest o : List ℕ) → IsSeparation 0 separation → IsBeforeColon key separation
+    → (IsTrue (allows_adjacent key separation) ⊎ IsTrue (ends_colon (slice_index (rest ++ o) 0))) → IsBehindNode key (separation ++ (58 ∷ (rest ++ o)))
 behind_key room key value separation rest o parts apart ends = record { separation = separation; first = 58; others = rest ++ o; is = refl; parts = parts; ends = inr (inr (inr (refl, apart, ends))) }
 
 regrouped : (front ks vs : List Kind) → (front ++ (ks ++ tokens.Value ∷ [])) ++ vs ≡ front ++ (ks ++ tokens.Value ∷ vs)
@@ -102,7 +109,8 @@ whole_moved : (m : Marker) (t node separation rest : List ℕ) → t ≡ node ++
 whole_moved m t node separation rest e = sym (ap (moved m) e ∙ moved_append m node (separation ++ (58 ∷ rest)) ∙ moved_append (moved m node) separation (58 ∷ rest))
 
 -- a key that may be one, without a mark before it
-pub key_passes : {limit : ℕ} (room : ℕ) (key value : Node) → PassesNode limit room key → PassesNode limit room value → (y : Context) → is_block y ≡ false → (m : Marker) (t o : List ℕ) → Fits limit m t o → IsBehindEntry o
+pub key_passes : {limit : ℕ} (room : ℕ) (key value : Node) → PassesNode limit room key → PassesNode limit room value → (y : Context) → is_block y ≡ false → (m : Marker) (t o : List ℕ)
+    → Fits limit m t o → IsBehindEntry o
     → (h : IsKeyAndValue key value (IsFlowNode room key true 0) (IsFlowNode room value true 0) 0 t) → (begins_pair y ≡ true → m.line ≡ (moved (moved m h.0) h.1).line)
     → (s : Cursor) (k : Option Candidate) (ls : List Level) (a : Bool) (ad : ℕ) (ps : List Place) → a ≡ true → room + length ls ≤ 255 → ad < m.index → past s.mark s.rest ≡ past m (t ++ o)
     → Told limit (state_at false s y k ls a ad ps) (PairTokens (key_kinds (begins_pair y)) key value) (behind_colon y) ls ps (moved m t) o
@@ -119,7 +127,8 @@ key_passes {limit} room key value K V y flows m t o fits ends (node, separation,
     let mark_fits = fits_front here (58 ∷ []) rest o colon_fits in
     let start = state_at false s y k ls a ad ps in
     let texts : t ++ o ≡ node ++ (separation ++ (58 ∷ (rest ++ o))) = ap (λ (z : List ℕ). z ++ o) is ∙ append_assoc node (separation ++ (58 ∷ rest)) o ∙ ap (λ (z : List ℕ). node ++ z) follow in
-    let n = K m node (separation ++ (58 ∷ (rest ++ o))) h node_fits.clear node_fits.below (behind_key room key value separation rest o parts apart x.ends) s y k ls a ad ps before flows low (text ∙ ap (past m) texts) in
+    let n = K m node (separation ++ (58 ∷ (rest ++ o))) h node_fits.clear node_fits.below (behind_key room key value separation rest o parts apart x.ends) s y k ls a ad ps before flows low
+    (text ∙ ap (past m) texts) in
     let q = n.passes in
     let kept = subst (λ (b : Bool). IsAfterNode y (saved b (length ps) m k) key at_end (separation ++ (58 ∷ (rest ++ o))) q.key q.adjacent q.new) fresh q.knows in
     let after = after_node y (Some (key_at m ps)) key at_end (separation ++ (58 ∷ (rest ++ o))) in
@@ -142,7 +151,8 @@ alone_passes {limit} room key value V y flows m t o fits ends (none, c) s k ls a
     let rest = x.rest in
     let whole = fits_so m t (58 ∷ rest) o x.is fits in
     let mark_fits = fits_front m (58 ∷ []) rest o whole in
-    let p = value_passes limit y flows m (rest ++ o) mark_fits.clear mark_fits.below x.parted s k ls a ad ps no_candidate (by_end (slice_index (rest ++ o) 0) x.ends) (omega (arith, before)) (text ∙ ap (λ (z : List ℕ). past m (z ++ o)) x.is) in
+    let p = value_passes limit y flows m (rest ++ o) mark_fits.clear mark_fits.below x.parted s k ls a ad ps no_candidate (by_end (slice_index (rest ++ o) 0) x.ends) (omega (arith, before))
+    (text ∙ ap (λ (z : List ℕ). past m (z ++ o)) x.is) in
     let v = value_behind room value V (behind_colon y) (colon_flows y flows) (moved m (58 ∷ [])) rest o (fits_back m (58 ∷ []) rest o whole) ends low x.value_text p in
     told_at (moved (moved m (58 ∷ [])) rest) (moved m t) (ap (moved m) (sym x.is))
     (record { tokens = v.tokens; are = (v.are.0, v.are.1, v.are.2 ∙ append_assoc (alone_kinds (begins_pair y)) (tokens.Value ∷ []) v.are.0); passes = v.passes })
@@ -161,7 +171,8 @@ abbrev at_colon : Marker → ℕ → Known
 at_colon here second key allowed adjacent new = (key ≡ None) × ((here.index ≡ adjacent) ⊎ IsTrue (ends_colon second)) × (adjacent ≤ here.index)
 
 -- behind `?` no key is kept
-pub marked_key_passes : {limit : ℕ} (room : ℕ) (key value : Node) → PassesNode limit room key → PassesNode limit room value → (y : Context) → is_block y ≡ false → begins_pair y ≡ false → (m : Marker) (t o : List ℕ) → Fits limit m t o → IsBehindEntry o
+pub marked_key_passes : {limit : ℕ} (room : ℕ) (key value : Node) → PassesNode limit room key → PassesNode limit room value → (y : Context) → is_block y ≡ false → begins_pair y ≡ false
+    → (m : Marker) (t o : List ℕ) → Fits limit m t o → IsBehindEntry o
     → IsKeyAndValue key value (IsFlowNode room key true 0) (IsFlowNode room value true 0) 0 t
     → (s : Cursor) (k : Option Candidate) (ls : List Level) (a : Bool) (ad : ℕ) (ps : List Place) → k ≡ None → a ≡ false → room + length ls ≤ 255 → ad < m.index → past s.mark s.rest ≡ past m (t ++ o)
     → Told limit (state_at false s y k ls a ad ps) (PairTokens [] key value) (behind_colon y) ls ps (moved m t) o
@@ -177,19 +188,27 @@ marked_key_passes {limit} room key value K V y flows no_pair m t o fits ends (no
     let here = moved at_end separation in
     let mark_fits = fits_front here (58 ∷ []) rest o colon_fits in
     let texts : t ++ o ≡ node ++ (separation ++ (58 ∷ (rest ++ o))) = ap (λ (z : List ℕ). z ++ o) is ∙ append_assoc node (separation ++ (58 ∷ rest)) o ∙ ap (λ (z : List ℕ). node ++ z) follow in
-    let n = K m node (separation ++ (58 ∷ (rest ++ o))) h node_fits.clear node_fits.below (behind_key room key value separation rest o parts apart x.ends) s y k ls a ad ps before flows low (text ∙ ap (past m) texts) in
+    let n = K m node (separation ++ (58 ∷ (rest ++ o))) h node_fits.clear node_fits.below (behind_key room key value separation rest o parts apart x.ends) s y k ls a ad ps before flows low
+    (text ∙ ap (past m) texts) in
     let known = n.passes.knows in
     let kept : saved a (length ps) m k ≡ None = rw (none_allowed, no_candidate) refl in
     let second = slice_index (rest ++ o) 0 in
     let ink : IsInk 58 = record { blank = refl; break = refl; comment = refl; byte_order_mark = refl } in
     let lands = separation_past at_end separation (58 ∷ (rest ++ o)) parts ∙ past_ink here 58 (rest ++ o) ink in
-    let told : at_colon here second n.passes.key n.passes.allowed n.passes.adjacent n.passes.new = (known.keeps flows ∙ kept, by_place separation second n.passes.adjacent here.index x.ends (known.near flows separation (rest ++ o) refl parts), subst (λ (z : Marker × List ℕ). n.passes.adjacent ≤ z.0.index) lands (known.low flows)) in
+    let told : at_colon here second n.passes.key n.passes.allowed n.passes.adjacent n.passes.new = (
+      known.keeps flows ∙ kept,
+      by_place separation second n.passes.adjacent here.index x.ends (known.near flows separation (rest ++ o) refl parts),
+      subst
+          (λ (z : Marker × List ℕ). n.passes.adjacent ≤ z.0.index) lands (known.low flows),
+    ) in
     let q = behind at_end separation (58 ∷ (rest ++ o)) parts (knowing n.passes (at_colon here second) told) in
     let p = value_passes limit y flows here (rest ++ o) mark_fits.clear mark_fits.below x.parted q.there q.key ls q.allowed q.adjacent (ps ++ q.new) q.knows.0 q.knows.1 q.knows.2 q.fits in
-    let v = value_behind room value V (behind_colon y) (colon_flows y flows) (moved here (58 ∷ [])) rest o (fits_back here (58 ∷ []) rest o colon_fits) ends low x.value_text (join q p (no_key (moved here (58 ∷ []))) p.knows) in
+    let v = value_behind room value V (behind_colon y) (colon_flows y flows) (moved here (58 ∷ [])) rest o (fits_back here (58 ∷ []) rest o colon_fits) ends low x.value_text
+    (join q p (no_key (moved here (58 ∷ []))) p.knows) in
     told_at (moved (moved here (58 ∷ [])) rest) (moved m t) (whole_moved m t node separation rest is)
     (record { tokens = v.tokens; are = (n.tokens, v.are.0, n.are, v.are.1, v.are.2 ∙ regrouped_alone (begins_pair y) n.tokens v.are.0 no_pair); passes = v.passes })
   where
-    by_place : (w : List ℕ) (c adjacent index : ℕ) → IsTrue (allows_adjacent key w) ⊎ IsTrue (ends_colon c) → (IsTrue (allows_adjacent key w) → adjacent ≡ index) → (index ≡ adjacent) ⊎ IsTrue (ends_colon c)
+    by_place : (w : List ℕ) (c adjacent index : ℕ) → IsTrue (allows_adjacent key w) ⊎ IsTrue (ends_colon c) → (IsTrue (allows_adjacent key w) → adjacent ≡ index)
+        → (index ≡ adjacent) ⊎ IsTrue (ends_colon c)
     by_place w c adjacent index (inl h) near = inl (sym (near h))
     by_place w c adjacent index (inr h) near = inr h

@@ -11,7 +11,7 @@ use Rattle.saphyr_scanner.specs.Tokens.{Kind}
 use Rattle.saphyr_scanner.specs.Queue.{Place, closed, empty_piece}
 use Rattle.saphyr_scanner.specs.Core.{Candidate, Level, Action, Open, is_block, at_mark, went, perform}
 use Rattle.saphyr_scanner.specs.Value as value
-use Rattle.saphyr_scanner.specs.Value.{begins_pair, behind_colon, alone, begin_alone, behind_key}
+use Rattle.saphyr_scanner.specs.Value.{begins_pair, behind_colon, alone, begin_alone}
 use Rattle.saphyr_scanner.specs.State.{State}
 use Rattle.saphyr_scanner.specs.Forest.{Node}
 use Rattle.saphyr_scanner.specs.FlowNodes.{allows_adjacent}
