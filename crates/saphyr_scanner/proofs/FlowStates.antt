@@ -34,8 +34,8 @@ use Rattle.saphyr_scanner.specs.Seen.{Piece}
 use Rattle.saphyr_scanner.specs.Queue.{Place, closed}
 use Rattle.saphyr_scanner.specs.Core.{Candidate, Level, is_block}
 use Rattle.saphyr_scanner.specs.State.{State}
-use Rattle.saphyr_scanner.specs.Forest.{Style, Properties, Node, Alias, Scalar}
-use Rattle.saphyr_scanner.specs.FlowNodes.{IsProperties, IsBeforeColon, allows_adjacent, IsFlowNode}
+use Rattle.saphyr_scanner.specs.Forest.{Properties, Node}
+use Rattle.saphyr_scanner.specs.FlowNodes.{IsBeforeColon, allows_adjacent, IsFlowNode}
 use Rattle.saphyr_scanner.proofs.Leads.{Leads}
 use Rattle.saphyr_scanner.proofs.JsonStates.{state_at}
 use Rattle.saphyr_scanner.proofs.JsonMarks.{kinds, saved}
@@ -256,18 +256,3 @@ ClosesNode limit node =
 -- each is
 abbrev pub ClosesNodes : ℕ → Type 0
 ClosesNodes limit = (node : Node) → ClosesNode limit node
-
--- Properties are passed, inside flow and at the root.
-abbrev pub PassesProperties : ℕ → Properties → Type 0
-PassesProperties limit p =
-    (m : Marker) (t o : List ℕ) → IsProperties p t → IsClear m t o → m.index + length (t ++ o) ≤ limit
-    → (s : Cursor) (x : Context) (k : Option Candidate) (ls : List Level) (a : Bool) (ad : ℕ) (ps : List Place) → EndsTag (not (is_block x)) o → past s.mark s.rest ≡ past m (t ++ o)
-    → PropertiesPass limit (state_at false s x k ls a ad ps) p (saved a (length ps) m k) x ls ps (moved m t) o
-
--- what is shown of leaves
-pub record Leaves (limit : ℕ) : Type 0 where
-  pub properties : (p : Properties) → PassesProperties limit p
-  pub alias : (room : ℕ) (name : List ℕ) → PassesNode limit room (Alias name)
-  pub scalar : (room : ℕ) (p : Properties) (style : Style) (value : List ℕ) → PassesNode limit room (Scalar p style value)
-  pub alias_closes : (name : List ℕ) → ClosesNode limit (Alias name)
-  pub scalar_closes : (p : Properties) (style : Style) (value : List ℕ) → ClosesNode limit (Scalar p style value)

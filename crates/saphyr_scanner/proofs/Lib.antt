@@ -86,7 +86,6 @@ pub mod FlowNoted
 pub mod FlowPlains
 pub mod FlowContents
 pub mod FlowScalarNodes
-pub mod FlowLeaves
 pub mod FlowLayouts
 pub mod TakenExamples
 pub mod Counted
