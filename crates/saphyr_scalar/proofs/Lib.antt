@@ -4,6 +4,7 @@ pub mod Choices
 pub mod Directives
 pub mod DirectivesRead
 pub mod DirectivesSpelled
+pub mod Breaks
 pub mod BlockComplete
 pub mod BlockHeaders
 pub mod BlockLaw

@@ -1,3 +1,4 @@
+pub mod Alike
 pub mod Anchor
 pub mod BlockRead
 pub mod BlockReading

@@ -1,6 +1,7 @@
 //! Positions and faults, and the reader that takes scalars off a text.
 mod anchor;
 mod block;
+mod break_law;
 mod directive;
 mod directive_law;
 #[cfg(test)]
@@ -22,6 +23,7 @@ mod style;
 mod tag;
 
 pub use block::{BlockScalar, reads_each_block_scalar, reads_values_of_lines};
+pub use break_law::reads_breaks_alike;
 pub use directive::{Directive, DirectiveLine};
 pub use directive_law::{
     reads_each_directive, reads_each_reserved_directive, spells_each_directive,
