@@ -76,7 +76,7 @@ wide : (limit : Option ℕ) (indent : ℕ) (m : Marker) (xs : List ℕ) → m.co
 wide None indent m xs e = omega arith
 wide (Some i) indent m xs e = within_limit i no_lines true m xs (omega arith) (omega arith)
 
-led : (limit : Option ℕ) (indent : ℕ) (u : Cursor) → u.mark.col ≡ 0 → u.blank_so_far ≡ true
+pub led : (limit : Option ℕ) (indent : ℕ) (u : Cursor) → u.mark.col ≡ 0 → u.blank_so_far ≡ true
     → Led (unwrap_or limit (max (empty_lines_at limit no_lines u).0.widest indent)) u (empty_lines_at limit no_lines u).1 (empty_lines_at limit no_lines u).0.count
 led limit indent u col blank =
     let m = u.mark in
@@ -168,7 +168,7 @@ cut_header st c i u z blank =
       value = ap encode_utf8_all (nothing_alone c u blank ∙ sym (ap (block_value st c i []) ends ∙ nothing_read st c i));
     }
 
-nothing_led : (limit : Option ℕ) (u : Cursor) → is_z (slice_index u.rest 0) ≡ true → empty_lines_at limit no_lines u ≡ (widened no_lines u.mark.col, u)
+pub nothing_led : (limit : Option ℕ) (u : Cursor) → is_z (slice_index u.rest 0) ≡ true → empty_lines_at limit no_lines u ≡ (widened no_lines u.mark.col, u)
 nothing_led limit u z =
     let first = z_stops (slice_index u.rest 0) z in
     stops limit no_lines u (ap (is_indentation limit u.mark.col) first ∙ no_indentation limit u.mark.col) (ap is_break first)
@@ -176,7 +176,7 @@ nothing_led limit u z =
 told : (st : BlockStyle) (c : Chomping) (i : ℕ) (u : Cursor) (x y : Read) → gave x ≡ gave y → Behind st c i u x.0 x.2 → Behind st c i u y.0 y.2
 told st c i u x y e b = subst (λ (r : Read). Behind st c i u r.0 r.2) (same_gift x y e) b
 
-behind_begun : (st : BlockStyle) (indent : ℕ) (start : Marker) (c : Chomping) (i k : ℕ) (limit : Option ℕ) (u : Cursor) (x : EmptyLines × Cursor) (y : Read) → Led i u x.1 x.0.count → unwrap_or limit (max x.0.widest indent) ≡ i
+pub behind_begun : (st : BlockStyle) (indent : ℕ) (start : Marker) (c : Chomping) (i k : ℕ) (limit : Option ℕ) (u : Cursor) (x : EmptyLines × Cursor) (y : Read) → Led i u x.1 x.0.count → unwrap_or limit (max x.0.widest indent) ≡ i
     → behind_leading st indent start c limit x ≡ Ok y → Behind st c i u y.0 y.2
 unfolding behind_leading content chomped
 behind_begun st indent start c i k limit u x y l same =
@@ -190,7 +190,7 @@ behind_begun st indent start c i k limit u x y l same =
     let z = between_at st i None x.0.count x.1 in
     told st c i u (encode_utf8_all (z.0 ++ tail c (is_unfinished i z.2) z.1), record { start = x.1.mark; end = z.2.mark }, z.2) y (subst P same e) (lines_behind st c i u x.1 x.0.count l h)))
 
-behind_cut : (st : BlockStyle) (indent : ℕ) (start : Marker) (c : Chomping) (i : ℕ) (limit : Option ℕ) (u : Cursor) (y : Read) → is_z (slice_index u.rest 0) ≡ true → u.blank_so_far ≡ false
+pub behind_cut : (st : BlockStyle) (indent : ℕ) (start : Marker) (c : Chomping) (i : ℕ) (limit : Option ℕ) (u : Cursor) (y : Read) → is_z (slice_index u.rest 0) ≡ true → u.blank_so_far ≡ false
     → behind_leading st indent start c limit (widened no_lines u.mark.col, u) ≡ Ok y → Behind st c i u y.0 y.2
 unfolding behind_leading
 behind_cut st indent start c i limit u y z blank e =

@@ -378,7 +378,7 @@ some_blanks m xs e =
     let len : length (blanks ++ comment) ≡ b + c = rw (length-append blanks comment) (omega (arith, run_count is_blank xs, comment_count zs)) in
     subst (λ n. (tail : List ℕ) × Line m xs tail n) some (blanks ++ comment, (text, (blanks, comment, run_is_in is_blank xs, comment_of blanks zs blank, refl), len))
 
-line_of : (m : Marker) (xs : List ℕ) → (tail : List ℕ) × Line m xs tail (separation_len Yes xs)
+pub line_of : (m : Marker) (xs : List ℕ) → (tail : List ℕ) × Line m xs tail (separation_len Yes xs)
 line_of m xs = by_test {X = Unit {0}} (nat_eq (blank_len Yes xs) 0) tt tt (λ _. (tail : List ℕ) × Line m xs tail (separation_len Yes xs)) (no_blanks m xs) (some_blanks m xs)
 
 line_spelled : (start m : Marker) (xs : List ℕ) (u : Cursor) → line_end start (at m xs) ≡ Ok u → TailOf m xs u

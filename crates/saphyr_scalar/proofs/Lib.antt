@@ -71,3 +71,4 @@ pub mod Words
 pub mod PlainSpelled
 pub mod PlainTexts
 pub mod PlainSound
+pub mod BlockTold

@@ -451,3 +451,27 @@ plain_reads f i s t text end comment is = by_start (word_starts f s) refl is
     by_start : (r : Result (Bool × Cursor) Refusal) → word_starts f s ≡ r → (r >>= λ b. if b.0 then word f i s.mark b.1.mark b.1.rest else refuse fault.PlainEnd s.mark) ≡ Ok x → IsPlainReading s text end t
     by_start (Ok b) q e = by_first b.0 b.1 q e
     by_start (Err r) q e = absurd (no_reading r x e)
+
+-- its first character
+
+first_ink : (f : Bool) (xs : List ℕ) → in_word f xs ≡ true → Ink (slice_index xs 0)
+first_ink f [] h = let none = word_left f [] h in absurd (omega arith)
+first_ink f (c ∷ cs) h = in_word_ink f c cs h
+
+pub plain_ink : (f : Bool) (i : ℕ) (s t : Cursor) (text : List ℕ) (end : Marker) (comment : Option Marker) → plain f i s ≡ Ok (text, end, comment, t) → is_blank_or_break (slice_index s.rest 0) ≡ false
+unfolding plain
+plain_ink f i s t text end comment is = by_start (word_starts f s) refl is
+  where
+    x : Read
+    x = (text, end, comment, t)
+
+    Goal : Type 0
+    Goal = is_blank_or_break (slice_index s.rest 0) ≡ false
+
+    by_first : (b : Bool) (u : Cursor) → word_starts f s ≡ Ok (b, u) → (if b then word f i s.mark u.mark u.rest else refuse fault.PlainEnd s.mark) ≡ Ok x → Goal
+    by_first false u q e = absurd (no_reading _ x e)
+    by_first true u q e = first_ink f s.rest ((starts_says f true s u q).goes refl)
+
+    by_start : (r : Result (Bool × Cursor) Refusal) → word_starts f s ≡ r → (r >>= λ b. if b.0 then word f i s.mark b.1.mark b.1.rest else refuse fault.PlainEnd s.mark) ≡ Ok x → Goal
+    by_start (Ok b) q e = by_first b.0 b.1 q e
+    by_start (Err r) q e = absurd (no_reading r x e)

@@ -4,6 +4,7 @@ pub mod BlockRead
 pub mod BlockReading
 pub mod BlockScalar
 pub mod BlockSpelling
+pub mod BlockText
 pub mod Cursor
 pub mod Directive
 pub mod DirectiveSpelling

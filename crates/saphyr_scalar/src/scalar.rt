@@ -22,7 +22,7 @@ mod refusal_law;
 mod style;
 mod tag;
 
-pub use block::{BlockScalar, reads_each_block_scalar, reads_values_of_lines};
+pub use block::{BlockScalar, reads_block_texts, reads_each_block_scalar, reads_values_of_lines};
 pub use break_law::reads_breaks_alike;
 pub use directive::{Directive, DirectiveLine};
 pub use directive_law::{
@@ -30,11 +30,12 @@ pub use directive_law::{
 };
 pub use fault::{FaultText, Refusal, ScanError, Stop};
 pub use law::{
-    counts_each_block_scalar, counts_each_double_quoted, ends_each_plain_scalar,
-    passes_blanks_and_breaks, passes_to_one_place, places_each_block_scalar,
-    reads_each_double_quoted, reads_each_plain_text, reads_each_plain_word, reads_each_quoted,
-    reads_each_quoted_on_line, reads_plain_values, reads_quoted_values, spells_each_quoted,
-    takes_anchor, takes_block_scalar, takes_directive, takes_plain, takes_quoted, takes_tag,
+    begins_plain_scalars_with_ink, counts_each_block_scalar, counts_each_double_quoted,
+    ends_each_plain_scalar, passes_blanks_and_breaks, passes_to_one_place,
+    places_each_block_scalar, reads_each_double_quoted, reads_each_plain_text,
+    reads_each_plain_word, reads_each_quoted, reads_each_quoted_on_line, reads_plain_values,
+    reads_quoted_values, spells_each_quoted, takes_anchor, takes_block_scalar, takes_directive,
+    takes_plain, takes_quoted, takes_tag,
 };
 pub use plain::PlainScalar;
 pub use position::{Marker, Span};

@@ -79,6 +79,11 @@ pub fn reads_plain_values()
     ensures { (in_flow : Bool) (indent : ℕ) (s t : Cursor) (text : List ℕ) (end : Marker) (comment : Option Marker) → plain in_flow indent s ≡ Ok (text, end, comment, t) → IsPlainReading s text end t }
 {}
 
+/// A plain scalar begins with a character that is neither a blank nor a break.
+pub fn begins_plain_scalars_with_ink()
+    ensures { (in_flow : Bool) (indent : ℕ) (s t : Cursor) (text : List ℕ) (end : Marker) (comment : Option Marker) → plain in_flow indent s ≡ Ok (text, end, comment, t) → is_blank_or_break (slice_index s.rest 0) ≡ false }
+{}
+
 /// Behind a scalar all blanks and breaks are passed, which the index counts.
 pub fn passes_blanks_and_breaks()
     ensures rest { (m : Marker) (blank_so_far : Bool) (xs : List ℕ) → (past_white m blank_so_far xs).rest ≡ drop (prefix_len is_blank_or_break xs) xs }

@@ -1,8 +1,10 @@
-ghost use Rattle.std.specs.Prelude.{◌≡◌, ℕ, List, Ok};
+ghost use Rattle.std.specs.Prelude.{◌≡◌, ℕ, ◌<◌, List, Ok, false, length, slice_index};
+ghost use Rattle.saphyr_input.specs.Classes.{is_break};
 ghost use Rattle.saphyr_scalar.specs.Cursor.{Cursor};
 ghost use Rattle.saphyr_scalar.specs.BlockScalar.{block_scalar};
 ghost use Rattle.saphyr_scalar.specs.BlockRead.{IsRead};
 ghost use Rattle.saphyr_scalar.specs.BlockReading.{Line};
+ghost use Rattle.saphyr_scalar.specs.BlockText.{IsBlockText};
 ghost use Rattle.saphyr_scalar.specs.BlockSpelling.{IsBlockScalar, IsTaken};
 
 use crate::reading::{BlockStyle, Chomping};
@@ -11,6 +13,12 @@ use crate::scalar::position::Span;
 /// What is read as a block scalar is the value of the lines that are taken off behind its header.
 pub fn reads_values_of_lines()
     ensures { (style : BlockStyle) (indent : ℕ) (s t : Cursor) (text : List ℕ) (span : Span) → block_scalar style indent s ≡ Ok (text, span, t) → IsRead style indent s text t }
+{}
+
+/// What is read as a block scalar is one: a header's line and lines, of which its text is the value.
+/// No content stands before its span.
+pub fn reads_block_texts()
+    ensures { (style : BlockStyle) (indent : ℕ) (s t : Cursor) (text : List ℕ) (span : Span) → is_break (slice_index s.rest 0) ≡ false → 0 < length s.rest → block_scalar style indent s ≡ Ok (text, span, t) → IsBlockText style indent s text span.start t }
 {}
 
 /// Where a block scalar is spelled with line feeds for its breaks, and behind it stands what ends
