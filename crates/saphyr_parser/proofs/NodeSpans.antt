@@ -1,5 +1,5 @@
 -- Each step at a node gives an event whose span lies within the text.
-use Rattle.std.proofs.Common.{ℕ, ◌≤◌, List, Result, Ok, Err, Option, Some, None, arith}
+use Rattle.std.proofs.Common.{ℕ, ◌≤◌, List, Result, Ok, Err, Option, Some, None, arith, length}
 use Rattle.saphyr_scalar.specs.declared.scalar.position.Span.{Span}
 use Rattle.saphyr_scalar.specs.declared.scalar.fault.Refusal.{Refusal}
 use Rattle.saphyr_scanner.specs.Tokens as tokens
@@ -13,7 +13,7 @@ use Rattle.saphyr_parser.specs.Machine.{◌>>=◌, Machine, Told, meaning}
 use Rattle.saphyr_parser.specs.TagSteps.{resolved}
 use Rattle.saphyr_parser.specs.NodeSteps.{Properties, no_properties, has_property, without_content, content, content_at, next_content, alias, alias_of, register, behind_anchor, behind_anchor_at, behind_tag, behind_tag_at, node, node_at, inside}
 use Rattle.saphyr_parser.specs.Contexts.{allows_block, allows_indentless}
-use Rattle.saphyr_parser.specs.SpansWithin.{IsWithin}
+use Rattle.saphyr_parser.specs.SpansWithin.{IsIn}
 use Rattle.saphyr_parser.proofs.Spans.{HasPlaceWithin, IsAhead, IsTaken, Keeps, gives, refuses, either, taken, end_in_text, own_span, up_to_end, from_start, put, pushed, entered, left}
 
 -- properties stand in order, and end at the index or before it
@@ -24,71 +24,71 @@ record AreBefore (low : ℕ) (p : Properties) : Type 0 where
 start_before : {low : ℕ} {p : Properties} → AreBefore low p → p.start.index ≤ low
 start_before b = let order = b.order in let end = b.end in omega (arith, order, end)
 
-no_content : (n low : ℕ) (p : Properties) (t : Piece) (m : Machine) → AreBefore low p → IsTaken n low t m → Keeps n (without_content p t m)
-no_content n low p t m b k =
+no_content : (text : List ℕ) (low : ℕ) (p : Properties) (t : Piece) (m : Machine) → AreBefore low p → IsTaken text low t m → Keeps text (without_content p t m)
+no_content text low p t m b k =
     let end = b.end in let first = k.start in let own = k.end in let within = end_in_text k in
-    either n (has_property p) _ _ (gives n _ (b.order, omega (arith, end, first, own, within)) (left (put k))) (refuses n _)
+    either text (has_property p) _ _ (gives text _ (b.order, omega (arith, end, first, own, within)) (left (put k))) (refuses text _)
 
-contents_at : (n low : ℕ) (k : Kind) (p : Properties) (c : Context) (t : Piece) (m : Machine) → AreBefore low p → IsTaken n low t m → Keeps n (content_at k p c t m)
-contents_at n low (tokens.Scalar style text) p c t m b k = gives n _ (up_to_end p.start (start_before b) k) (left k.behind)
-contents_at n low tokens.FlowSequenceStart p c t m b k = gives n _ (up_to_end p.start (start_before b) k) (entered state.FlowSequenceFirstEntry tt k.behind)
-contents_at n low tokens.FlowMappingStart p c t m b k = gives n _ (up_to_end p.start (start_before b) k) (entered state.FlowMappingFirstKey tt k.behind)
-contents_at n low tokens.BlockSequenceStart p c t m b k = either n (allows_block c) _ _ (gives n _ (up_to_end p.start (start_before b) k) (entered state.BlockSequenceEntry tt k.behind)) (no_content n low p t m b k)
-contents_at n low tokens.BlockMappingStart p c t m b k = either n (allows_block c) _ _ (gives n _ (up_to_end p.start (start_before b) k) (entered state.BlockMappingKey tt k.behind)) (no_content n low p t m b k)
-contents_at n low tokens.BlockEntry p c t m b k = either n (allows_indentless c) _ _ (gives n _ (up_to_end p.start (start_before b) k) (entered state.IndentlessSequenceEntry tt (put k))) (no_content n low p t m b k)
-contents_at n low _ p c t m b k = no_content n low p t m b k
+contents_at : (text : List ℕ) (low : ℕ) (k : Kind) (p : Properties) (c : Context) (t : Piece) (m : Machine) → AreBefore low p → IsTaken text low t m → Keeps text (content_at k p c t m)
+contents_at text low (tokens.Scalar style value) p c t m b k = gives text _ (up_to_end p.start (start_before b) k) (left k.behind)
+contents_at text low tokens.FlowSequenceStart p c t m b k = gives text _ (up_to_end p.start (start_before b) k) (entered state.FlowSequenceFirstEntry tt k.behind)
+contents_at text low tokens.FlowMappingStart p c t m b k = gives text _ (up_to_end p.start (start_before b) k) (entered state.FlowMappingFirstKey tt k.behind)
+contents_at text low tokens.BlockSequenceStart p c t m b k = either text (allows_block c) _ _ (gives text _ (up_to_end p.start (start_before b) k) (entered state.BlockSequenceEntry tt k.behind)) (no_content text low p t m b k)
+contents_at text low tokens.BlockMappingStart p c t m b k = either text (allows_block c) _ _ (gives text _ (up_to_end p.start (start_before b) k) (entered state.BlockMappingKey tt k.behind)) (no_content text low p t m b k)
+contents_at text low tokens.BlockEntry p c t m b k = either text (allows_indentless c) _ _ (gives text _ (up_to_end p.start (start_before b) k) (entered state.IndentlessSequenceEntry tt (put k))) (no_content text low p t m b k)
+contents_at text low _ p c t m b k = no_content text low p t m b k
 
-contents : (n low : ℕ) (p : Properties) (c : Context) (t : Piece) (m : Machine) → AreBefore low p → IsTaken n low t m → Keeps n (content p c t m)
+contents : (text : List ℕ) (low : ℕ) (p : Properties) (c : Context) (t : Piece) (m : Machine) → AreBefore low p → IsTaken text low t m → Keeps text (content p c t m)
 unfolding content
-contents n low p c t m b k = contents_at n low t.kind p c t m b k
+contents text low p c t m b k = contents_at text low t.kind p c t m b k
 
-next_contents : (n low : ℕ) (p : Properties) (c : Context) (m : Machine) → AreBefore low p → IsAhead n low m → Keeps n (next_content p c m)
+next_contents : (text : List ℕ) (low : ℕ) (p : Properties) (c : Context) (m : Machine) → AreBefore low p → IsAhead text low m → Keeps text (next_content p c m)
 unfolding next_content
-next_contents n low p c m b a = taken n low m _ a (λ t m k. contents n low p c t m b k)
+next_contents text low p c m b a = taken text low m _ a (λ t m k. contents text low p c t m b k)
 
-aliases : (n : ℕ) (o : Option ℕ) (s : Span) (m : Machine) → IsWithin n s → IsAhead n s.end.index m → Keeps n (alias_of o s m)
-aliases n None s m w a = refuses n _
-aliases n (Some id) s m w a = gives n _ w (left a)
+aliases : (text : List ℕ) (o : Option ℕ) (s : Span) (m : Machine) → IsIn text s → IsAhead text s.end.index m → Keeps text (alias_of o s m)
+aliases text None s m w a = refuses text _
+aliases text (Some id) s m w a = gives text _ w (left a)
 
-resolving : (n : ℕ) (r : Result ResolvedTag Refusal) (go : ResolvedTag → Result Told Refusal) → ((tag : ResolvedTag) → Keeps n (go tag)) → Keeps n (r >>= go)
-resolving n (Ok tag) go h = h tag
-resolving n (Err e) go h = refuses n e
+resolving : (text : List ℕ) (r : Result ResolvedTag Refusal) (go : ResolvedTag → Result Told Refusal) → ((tag : ResolvedTag) → Keeps text (go tag)) → Keeps text (r >>= go)
+resolving text (Ok tag) go h = h tag
+resolving text (Err e) go h = refuses text e
 
-registered : {n low : ℕ} {m : Machine} (name : List ℕ) → IsAhead n low m → IsAhead n low (register name m)
+registered : {text : List ℕ} {low : ℕ} {m : Machine} (name : List ℕ) → IsAhead text low m → IsAhead text low (register name m)
 registered name a = record { pieces = a.pieces; places = a.places }
 
 -- two properties, of which the second is a token that was taken behind the first
-both : {n low : ℕ} {t : Piece} {m : Machine} (start : ℕ) → start ≤ low → IsTaken n low t m → start ≤ t.span.end.index
+both : {text : List ℕ} {low : ℕ} {t : Piece} {m : Machine} (start : ℕ) → start ≤ low → IsTaken text low t m → start ≤ t.span.end.index
 both start l k = let first = k.start in let own = k.end in omega (arith, l, first, own)
 
-behind_anchors_at : (n : ℕ) (k : Kind) (id : ℕ) (s : Span) (c : Context) (t : Piece) (m : Machine) → s.start.index ≤ s.end.index → IsTaken n s.end.index t m → Keeps n (behind_anchor_at k id s c t m)
-behind_anchors_at n (tokens.Tag handle suffix) id s c t m l k =
-    resolving n (resolved m.prefixes handle suffix s.start) _ (λ tag. next_contents n t.span.end.index _ c m (record { order = both s.start.index l k; end = omega arith }) k.behind)
-behind_anchors_at n _ id s c t m l k = contents n s.end.index _ c t m (record { order = l; end = omega arith }) k
+behind_anchors_at : (text : List ℕ) (k : Kind) (id : ℕ) (s : Span) (c : Context) (t : Piece) (m : Machine) → s.start.index ≤ s.end.index → IsTaken text s.end.index t m → Keeps text (behind_anchor_at k id s c t m)
+behind_anchors_at text (tokens.Tag handle suffix) id s c t m l k =
+    resolving text (resolved m.prefixes handle suffix s.start) _ (λ tag. next_contents text t.span.end.index _ c m (record { order = both s.start.index l k; end = omega arith }) k.behind)
+behind_anchors_at text _ id s c t m l k = contents text s.end.index _ c t m (record { order = l; end = omega arith }) k
 
-behind_tags_at : (n : ℕ) (k : Kind) (tag : ResolvedTag) (s : Span) (c : Context) (t : Piece) (m : Machine) → s.start.index ≤ s.end.index → IsTaken n s.end.index t m → Keeps n (behind_tag_at k tag s c t m)
-behind_tags_at n (tokens.Anchor name) tag s c t m l k =
-    next_contents n t.span.end.index _ c (register name m) (record { order = both s.start.index l k; end = omega arith }) (registered name k.behind)
-behind_tags_at n _ tag s c t m l k = contents n s.end.index _ c t m (record { order = l; end = omega arith }) k
+behind_tags_at : (text : List ℕ) (k : Kind) (tag : ResolvedTag) (s : Span) (c : Context) (t : Piece) (m : Machine) → s.start.index ≤ s.end.index → IsTaken text s.end.index t m → Keeps text (behind_tag_at k tag s c t m)
+behind_tags_at text (tokens.Anchor name) tag s c t m l k =
+    next_contents text t.span.end.index _ c (register name m) (record { order = both s.start.index l k; end = omega arith }) (registered name k.behind)
+behind_tags_at text _ tag s c t m l k = contents text s.end.index _ c t m (record { order = l; end = omega arith }) k
 
-behind_anchors : (n : ℕ) (name : List ℕ) (s : Span) (c : Context) (m : Machine) → s.start.index ≤ s.end.index → IsAhead n s.end.index m → Keeps n (behind_anchor name s c m)
+behind_anchors : (text : List ℕ) (name : List ℕ) (s : Span) (c : Context) (m : Machine) → s.start.index ≤ s.end.index → IsAhead text s.end.index m → Keeps text (behind_anchor name s c m)
 unfolding behind_anchor
-behind_anchors n name s c m l a = taken n s.end.index (register name m) _ (registered name a) (λ t m k. behind_anchors_at n t.kind _ s c t m l k)
+behind_anchors text name s c m l a = taken text s.end.index (register name m) _ (registered name a) (λ t m k. behind_anchors_at text t.kind _ s c t m l k)
 
-behind_tags : (n : ℕ) (handle suffix : List ℕ) (s : Span) (c : Context) (m : Machine) → s.start.index ≤ s.end.index → IsAhead n s.end.index m → Keeps n (behind_tag handle suffix s c m)
+behind_tags : (text : List ℕ) (handle suffix : List ℕ) (s : Span) (c : Context) (m : Machine) → s.start.index ≤ s.end.index → IsAhead text s.end.index m → Keeps text (behind_tag handle suffix s c m)
 unfolding behind_tag
-behind_tags n handle suffix s c m l a = resolving n (resolved m.prefixes handle suffix s.start) _ (λ tag. taken n s.end.index m _ a (λ t m k. behind_tags_at n t.kind tag s c t m l k))
+behind_tags text handle suffix s c m l a = resolving text (resolved m.prefixes handle suffix s.start) _ (λ tag. taken text s.end.index m _ a (λ t m k. behind_tags_at text t.kind tag s c t m l k))
 
-nodes_at : (n low : ℕ) (k : Kind) (c : Context) (t : Piece) (m : Machine) → IsTaken n low t m → Keeps n (node_at k c t m)
+nodes_at : (text : List ℕ) (low : ℕ) (k : Kind) (c : Context) (t : Piece) (m : Machine) → IsTaken text low t m → Keeps text (node_at k c t m)
 unfolding alias
-nodes_at n low (tokens.Alias name) c t m k = aliases n (meaning name m.anchors.ids) t.span m (own_span k) k.behind
-nodes_at n low (tokens.Anchor name) c t m k = behind_anchors n name t.span c m k.end k.behind
-nodes_at n low (tokens.Tag handle suffix) c t m k = behind_tags n handle suffix t.span c m k.end k.behind
-nodes_at n low _ c t m k = contents n t.span.start.index (no_properties t.span.start) c t m (record { order = omega arith; end = omega arith }) (from_start k)
+nodes_at text low (tokens.Alias name) c t m k = aliases text (meaning name m.anchors.ids) t.span m (own_span k) k.behind
+nodes_at text low (tokens.Anchor name) c t m k = behind_anchors text name t.span c m k.end k.behind
+nodes_at text low (tokens.Tag handle suffix) c t m k = behind_tags text handle suffix t.span c m k.end k.behind
+nodes_at text low _ c t m k = contents text t.span.start.index (no_properties t.span.start) c t m (record { order = omega arith; end = omega arith }) (from_start k)
 
-pub node_keeps : (n low : ℕ) (c : Context) (t : Piece) (m : Machine) → IsTaken n low t m → Keeps n (node c t m)
+pub node_keeps : (text : List ℕ) (low : ℕ) (c : Context) (t : Piece) (m : Machine) → IsTaken text low t m → Keeps text (node c t m)
 unfolding node
-node_keeps n low c t m k = nodes_at n low t.kind c t m k
+node_keeps text low c t m k = nodes_at text low t.kind c t m k
 
-pub inside_keeps : (n low : ℕ) (s : State) (c : Context) (t : Piece) (m : Machine) → HasPlaceWithin n s → IsTaken n low t m → Keeps n (inside s c t m)
-inside_keeps n low s c t m p k = node_keeps n low c t _ (pushed s p k)
+pub inside_keeps : (text : List ℕ) (low : ℕ) (s : State) (c : Context) (t : Piece) (m : Machine) → HasPlaceWithin text s → IsTaken text low t m → Keeps text (inside s c t m)
+inside_keeps text low s c t m p k = node_keeps text low c t _ (pushed s p k)

@@ -44,7 +44,7 @@ starts_non_break i col c cs e = non_break c (middle (col == i) (is_yaml_non_brea
 mutual
   unfolding between line
 
-  between_passes : (style : BlockStyle) (i : ℕ) (above : Option Bool) (lines : ℕ) (b : Bool) (m : Marker) (t : List ℕ) → Passes m t (between style i above lines b m t).2
+  pub between_passes : (style : BlockStyle) (i : ℕ) (above : Option Bool) (lines : ℕ) (b : Bool) (m : Marker) (t : List ℕ) → Passes m t (between style i above lines b m t).2
   between_passes style i above lines b m [] = end_here m b
   between_passes style i above lines b m (c ∷ cs) =
       let P : LinesRead → Type 0 = λ x. Passes m (c ∷ cs) x.2 in

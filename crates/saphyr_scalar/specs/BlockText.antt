@@ -95,8 +95,8 @@ pub record IsBehindLines (i : ℕ) (t : Cursor) : Type 0 where
 
 -- ## The scalar
 
--- From s on a block scalar stands with this text: a header's line, and lines, up to t. Before the place `start` stands
--- no content, and it stands before the header or behind its line.
+-- From s on a block scalar stands with this text: a header's line, and lines, up to t. Before the place `start`, on the way,
+-- stands no content: it is that of the header, or stands behind its line.
 pub record IsBlockText (style : BlockStyle) (indent : ℕ) (s : Cursor) (text : List ℕ) (start : Marker) (t : Cursor) : Type 0 where
   pub header : BlockHeader
   pub first : List ℕ
@@ -113,4 +113,5 @@ pub record IsBlockText (style : BlockStyle) (indent : ℕ) (s : Cursor) (text : 
   pub behind : List ℕ
   pub split : s.rest ≡ before ++ behind
   pub starts : IsPassed s.mark s.rest start behind
+  pub goes_on : IsPassed start behind t.mark t.rest
   pub no_content : (before ≡ []) ⊎ ((empty : List ℕ) × (before ≡ first ++ empty) × HasNoContent indentation (normalized empty))

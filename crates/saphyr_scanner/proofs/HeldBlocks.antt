@@ -1,5 +1,5 @@
 -- Each step of block collections takes its tokens from the text.
-use Rattle.std.proofs.Common.{◌≡◌, ℕ, Bool, true, false, List, [], ◌∷◌, drop, Result, Ok, Err, refl, sym, ap, ◌∙◌, subst, inl, inr}
+use Rattle.std.proofs.Common.{◌≡◌, ℕ, Bool, true, false, List, [], ◌∷◌, drop, Result, Ok, Err, refl, sym, ap, ◌∙◌, subst, inl, inr, IsTrue}
 use Rattle.std.specs.Prelude.{◌&&◌, ◌||◌, ◌==◌, slice_index, not, if◌then◌else◌}
 use Rattle.saphyr_input.specs.Classes.{is_break, is_flow, is_blank_or_breakz}
 use Rattle.saphyr_input.specs.Separation.{found_tabs}
@@ -18,7 +18,7 @@ use Rattle.saphyr_scanner.specs.Core.{Core, at_mark, up_to_here, is_block, in_bl
 use Rattle.saphyr_scanner.specs.Passing.{pass_on, with_cursor}
 use Rattle.saphyr_scanner.specs.Block as block
 use Rattle.saphyr_scanner.specs.TokensTaken as taken
-use Rattle.saphyr_scanner.specs.TokensTaken.{AreApart, IsOnLine}
+use Rattle.saphyr_scanner.specs.TokensTaken.{AreApart, IsOnLine, begins_text}
 use Rattle.saphyr_scanner.proofs.Sizes.{by_test, Given}
 use Rattle.saphyr_scanner.proofs.Separated.{spaces_apart}
 use Rattle.saphyr_scanner.proofs.LineTails.{OnLine, separation_passes}
@@ -68,11 +68,11 @@ entry_put columns from q c d h n f g a o =
     }
 
 -- a block collection begins
-collection_put : (columns : List ℕ) (from : Cursor) (q : Queue) (c : Core) → Taken columns from c q
+collection_put : (columns : List ℕ) (from : Cursor) (q : Queue) (c : Core) → IsTrue (begins_text (slice_index c.cursor.rest 0)) → Taken columns from c q
     → Taken columns from (enter_block c.cursor.mark.col c) (put (empty_piece c.cursor.mark tokens.BlockSequenceStart) q) × Taken columns from (enter_block c.cursor.mark.col c) (put (empty_piece c.cursor.mark tokens.BlockMappingStart) q)
-collection_put columns from q c h = (
-  taken_put columns from c (enter_block c.cursor.mark.col c) q (empty_piece c.cursor.mark tokens.BlockSequenceStart) c.cursor c.cursor (taken.nothing _ _) (refl, inl refl, refl) (taken.nothing _ _) (λ cs k. (refl, k)) h,
-  taken_put columns from c (enter_block c.cursor.mark.col c) q (empty_piece c.cursor.mark tokens.BlockMappingStart) c.cursor c.cursor (taken.nothing _ _) (refl, inl refl, refl) (taken.nothing _ _) (λ cs k. (refl, k)) h,
+collection_put columns from q c first h = (
+  taken_put columns from c (enter_block c.cursor.mark.col c) q (empty_piece c.cursor.mark tokens.BlockSequenceStart) c.cursor c.cursor (taken.nothing _ _) (refl, refl, refl, first) (taken.nothing _ _) (λ cs k. (refl, k)) h,
+  taken_put columns from c (enter_block c.cursor.mark.col c) q (empty_piece c.cursor.mark tokens.BlockMappingStart) c.cursor c.cursor (taken.nothing _ _) (refl, refl, refl, first) (taken.nothing _ _) (λ cs k. (refl, k)) h,
 )
 
 next_entry_holds : (columns : List ℕ) (from : Cursor) (q : Queue) (c : Core) → Holds columns from c q → in_block c ≡ true → slice_index c.cursor.rest 0 ≡ 45 → is_blank_or_breakz (slice_index c.cursor.rest 1) ≡ true → Given (HoldsStep columns from q) (block.next_entry c)
@@ -82,7 +82,7 @@ next_entry_holds columns from q c h e f g =
     let n = outermost columns from c q h e in
     by_bool (is_further s.mark.col c)
     (λ b. Given (HoldsStep columns from q) ((block.pass_dash (if b then enter_block s.mark.col (pass_on 1 c) else pass_on 1 c) >>= remove_key) >>= λ d. went (block.behind_start b s.mark tokens.BlockSequenceStart (at_mark d.cursor.mark tokens.BlockEntry)) (record d { key_allowed = true })))
-    (λ _. behind_dash (HoldsStep columns from q) (enter_block s.mark.col (pass_on 1 c)) _ (λ d a o. entry_put columns from (put (empty_piece s.mark tokens.BlockSequenceStart) q) (enter_block s.mark.col c) d (collection_put columns from q c h.taken).0 n f g (record { level = a.level; outer = a.outer; indent = a.indent; outer_indents = a.outer_indents }) o))
+    (λ _. behind_dash (HoldsStep columns from q) (enter_block s.mark.col (pass_on 1 c)) _ (λ d a o. entry_put columns from (put (empty_piece s.mark tokens.BlockSequenceStart) q) (enter_block s.mark.col c) d (collection_put columns from q c (ap begins_text f) h.taken).0 n f g (record { level = a.level; outer = a.outer; indent = a.indent; outer_indents = a.outer_indents }) o))
     (λ _. behind_dash (HoldsStep columns from q) (pass_on 1 c) _ (λ d a o. entry_put columns from q c d h.taken n f g a o))
 
 not_false : (b : Bool) → not b ≡ false → b ≡ true
@@ -131,7 +131,7 @@ key_holds columns from q c h f g =
     behind_question_mark (HoldsStep columns from q) (with_context x (enter_block s.mark.col c)) _ (λ t a allowed.
     let d : Core = with_cursor t (record (forget_key (with_context x (enter_block s.mark.col c))) { key_allowed = allowed }) in
     record {
-      taken = taken_put columns from (enter_block s.mark.col c) d r (piece t) s (pass 1 s) (taken.nothing _ _) (inl (key_is s t f g a)) a (quiet_opens (piece t) (enter_block s.mark.col c) d refl refl refl) (collection_put columns from q c h.taken).1;
+      taken = taken_put columns from (enter_block s.mark.col c) d r (piece t) s (pass 1 s) (taken.nothing _ _) (inl (key_is s t f g a)) a (quiet_opens (piece t) (enter_block s.mark.col c) d refl refl refl) (collection_put columns from q c (ap begins_text f) h.taken).1;
       keys = no_keys (next (put (piece t) r)) (put (piece t) r) d.indent d.level d.outer refl n;
     }))
     (λ _.

@@ -1,5 +1,5 @@
 -- Each step of flow collections takes its tokens from the text.
-use Rattle.std.proofs.Common.{◌≡◌, ℕ, ◌+◌, ◌≤◌, ◌<◌, Bool, true, false, List, [], ◌∷◌, length, refl, sym, ap, ◌∙◌, arith, subst, inl, inr}
+use Rattle.std.proofs.Common.{◌≡◌, ℕ, ◌+◌, ◌≤◌, ◌<◌, Bool, true, false, List, [], ◌∷◌, length, refl, sym, ap, ◌∙◌, arith, subst, inl, inr, IsTrue}
 use Rattle.std.specs.Prelude.{◌&&◌, ◌==◌, slice_index, nat_le}
 use Rattle.saphyr_scalar.specs.declared.scalar.position.Marker.{Marker}
 use Rattle.saphyr_scalar.specs.declared.scalar.position.Span.{Span}
@@ -14,7 +14,7 @@ use Rattle.saphyr_scanner.specs.Core.{Level, Core, perform, up_to_here, is_block
 use Rattle.saphyr_scanner.specs.Passing.{separate, pass_on, with_cursor}
 use Rattle.saphyr_scanner.specs.Flow as flow
 use Rattle.saphyr_scanner.specs.TokensTaken as taken
-use Rattle.saphyr_scanner.specs.TokensTaken.{AreApart, IsToken, IsFlowIndicator}
+use Rattle.saphyr_scanner.specs.TokensTaken.{AreApart, IsToken, IsFlowIndicator, begins_text}
 use Rattle.saphyr_scanner.proofs.Sizes.{by_test, Given}
 use Rattle.saphyr_scanner.proofs.Later.{apart_later}
 use Rattle.saphyr_scanner.proofs.TokenRuns.{is_quiet, Begins}
@@ -46,13 +46,13 @@ pub comma : Bracket 44 tokens.FlowEntry
 comma = record { some = refl; quiet = refl; is = λ i span s t h. h }
 
 pub sequence_starts : IsStart tokens.FlowSequenceStart
-sequence_starts span l i s u h = h.1
+sequence_starts span l i s u h = (h.1, ap (λ t. begins_text (slice_index t 0)) h.0.0)
 
 pub mapping_starts : IsStart tokens.FlowMappingStart
 mapping_starts span l i s u h = by h
   where
-    by : IsToken i tokens.FlowMappingStart span s u → span.start ≡ s.mark
-    by (inl k) = k.1
+    by : IsToken i tokens.FlowMappingStart span s u → (span.start ≡ s.mark) × IsTrue (begins_text (slice_index s.rest 0))
+    by (inl k) = (k.1, ap (λ t. begins_text (slice_index t 0)) k.0.0)
     by (inr k) = absurd (let e : span.end.index ≡ span.start.index = ap (λ (m : Marker). m.index) k.0 in omega (arith, e, l))
 
 pub first_at : (x : ℕ) (s t : Cursor) → t ≡ s → slice_index s.rest 0 ≡ x → slice_index t.rest 0 ≡ x

@@ -1,7 +1,8 @@
 -- Each step of scalars and properties takes its token from the text, by the laws of the readers.
-use Rattle.std.proofs.Common.{◌≡◌, ◌≢◌, ℕ, ◌+◌, ◌≤◌, ◌<◌, ◌⊎◌, Bool, true, false, List, [], ◌∷◌, ◌++◌, length, Option, Ok, IsTrue, IsFalse, refl, sym, ap, ◌∙◌, arith, subst, inr}
-use Rattle.std.specs.Prelude.{◌&&◌, slice_index, not, nat_lt, codes, encode_utf8_all}
+use Rattle.std.proofs.Common.{◌≡◌, ◌≢◌, ℕ, ◌+◌, ◌≤◌, ◌<◌, ◌⊎◌, Bool, true, false, List, [], ◌∷◌, ◌++◌, length, Option, Ok, IsTrue, IsFalse, refl, sym, ap, ◌∙◌, arith, subst, inl, inr}
+use Rattle.std.specs.Prelude.{◌&&◌, ◌==◌, slice_index, not, nat_lt, codes, encode_utf8_all}
 use Rattle.saphyr_input.specs.Classes.{is_anchor_char, is_blank_or_breakz, is_one_of, is_z, is_breakz}
+use Rattle.saphyr_input.specs.Places.{is_blank_or_break}
 use Rattle.saphyr_scalar.specs.declared.reading.block.BlockStyle.{BlockStyle}
 use Rattle.saphyr_scalar.specs.declared.reading.flow.Quote.{Quote}
 use Rattle.saphyr_scalar.specs.declared.reading.flow.Quote.TheVariants.{Single, Double}
@@ -11,7 +12,7 @@ use Rattle.saphyr_scalar.specs.declared.scalar.position.Span.{Span}
 use Rattle.saphyr_scalar.specs.declared.scalar.style.ScalarStyle.{ScalarStyle}
 use Rattle.saphyr_scalar.specs.declared.scalar.style.ScalarStyle.TheVariants.{Plain, SingleQuoted, DoubleQuoted}
 use Rattle.saphyr_scalar.specs.Anchor as anchors
-use Rattle.saphyr_scalar.specs.BlockRead.{IsRead}
+use Rattle.saphyr_scalar.specs.BlockText.{IsBlockText}
 use Rattle.saphyr_scalar.specs.BlockScalar as blocks
 use Rattle.saphyr_scalar.specs.Cursor.{Cursor, ◌>>=◌, along, pass_break}
 use Rattle.saphyr_scalar.specs.Directive as directives
@@ -26,7 +27,8 @@ use Rattle.saphyr_scalar.specs.Quoted as quoted
 use Rattle.saphyr_scalar.specs.Quoted.{at}
 use Rattle.saphyr_scalar.specs.QuotedSpelling.{IsQuotedText}
 use Rattle.saphyr_scalar.specs.Tag as tags
-use Rattle.saphyr_scalar.specs.TagSpelling.{IsAnchorName, IsTagText, EndsTag}
+use Rattle.saphyr_scalar.specs.TagSpelling.{IsAnchorName, IsHandleText, IsTagText, EndsTag}
+use Rattle.saphyr_scalar.proofs.TagsSpelled.{is_number}
 use Rattle.saphyr_scanner.specs.Tokens as tokens
 use Rattle.saphyr_scanner.specs.Tokens.{Kind}
 use Rattle.saphyr_scanner.specs.Seen.{Piece}
@@ -36,7 +38,7 @@ use Rattle.saphyr_scanner.specs.Passing.{with_cursor}
 use Rattle.saphyr_scanner.specs.Property as property
 use Rattle.saphyr_scanner.specs.Scalar as scalar
 use Rattle.saphyr_scanner.specs.TokensTaken as taken
-use Rattle.saphyr_scanner.specs.TokensTaken.{AreApart, IsToken, IsQuotedScalar, begins_plain}
+use Rattle.saphyr_scanner.specs.TokensTaken.{AreApart, IsToken, IsQuotedScalar, begins_plain, begins_text}
 use Rattle.saphyr_scanner.proofs.Sizes.{by_test, Given, given_bind, given_of}
 use Rattle.saphyr_scanner.proofs.PlainBehind.{Ends, plain_ends}
 use Rattle.saphyr_scanner.proofs.Separated.{apart_apart}
@@ -49,9 +51,6 @@ use Rattle.saphyr_scanner.proofs.HeldFlow.{saved_taken, first_at}
 -- where a block scalar stands, and that it ends behind its line or at the end
 pub record BlockPlace (s : Cursor) (span : Span) (t : Cursor) : Type 0 where
   pub passes : IsPassed s.mark s.rest t.mark t.rest
-  pub behind : List ℕ
-  pub start : IsPassed s.mark s.rest span.start behind
-  pub inside : IsPassed span.start behind t.mark t.rest
   pub end : span.end ≡ t.mark
   pub line : s.mark.line < top → (s.mark.line < t.mark.line) ⊎ (is_z (slice_index t.rest 0) ≡ true)
 
@@ -60,7 +59,8 @@ pub record TextLaws : Type 0 where
   pub plain : (in_flow : Bool) (indent : ℕ) (s t : Cursor) (text : List ℕ) (end : Marker) (comment : Option Marker) → words.plain in_flow indent s ≡ Ok (text, end, comment, t) → IsPlainReading s text end t
   pub quotes : (quote : Quote) (indent : ℕ) (s t : Cursor) (text : List ℕ) → slice_index s.rest 0 ≡ mark quote → quoted.quoted quote indent s ≡ Ok (text, t)
       → (items : List Item) × IsQuotedText quote s.rest items t.rest × (encode_utf8_all (folded items) ≡ text) × IsPassed s.mark s.rest t.mark t.rest
-  pub block_value : (style : BlockStyle) (indent : ℕ) (s t : Cursor) (text : List ℕ) (span : Span) → blocks.block_scalar style indent s ≡ Ok (text, span, t) → IsRead style indent s text t
+  pub ink : (in_flow : Bool) (indent : ℕ) (s t : Cursor) (text : List ℕ) (end : Marker) (comment : Option Marker) → words.plain in_flow indent s ≡ Ok (text, end, comment, t) → is_blank_or_break (slice_index s.rest 0) ≡ false
+  pub block_text : (style : BlockStyle) (indent : ℕ) (s t : Cursor) (text : List ℕ) (span : Span) → slice_index s.rest 0 ≡ taken.block_indicator style → blocks.block_scalar style indent s ≡ Ok (text, span, t) → IsBlockText style indent s text span.start t
   pub block_place : (style : BlockStyle) (indent : ℕ) (s t : Cursor) (text : List ℕ) (span : Span) → slice_index s.rest 0 ≡ taken.block_indicator style → blocks.block_scalar style indent s ≡ Ok (text, span, t) → BlockPlace s span t
   pub name : (s t : Cursor) (text : List ℕ) → 0 < length s.rest → anchors.anchor s ≡ Ok (text, t)
       → (indicator : ℕ) × (name : List ℕ) × (s.rest ≡ indicator ∷ (name ++ t.rest)) × IsAnchorName name × (is_anchor_char (slice_index t.rest 0) ≡ false) × (t ≡ at (along s.mark (1 + length name)) t.rest) × (encode_utf8_all name ≡ text)
@@ -80,13 +80,17 @@ saved_put columns from q c d e t behind s quiet begins start deep is a l h = rec
       (saved_keys c q t d quiet begins (start ∙ ap (λ (u : Cursor). u.mark) s.cursor) deep s h.keys);
 }
 
+-- a span begins where a text does
+abbrev pub Starts : Span → Cursor → Type 0
+Starts span s = (span.start ≡ s.mark) × IsTrue (begins_text (slice_index s.rest 0))
+
 -- ## Quoted scalars
 
 -- the style of a quote
 record Quoting (quote : Quote) (style : ScalarStyle) : Type 0 where
   quiet : (value : List ℕ) → is_quiet (tokens.Scalar style value) ≡ true
   is : (i : ℕ) (value : List ℕ) (span : Span) (s t : Cursor) → IsQuotedScalar quote value span s t → IsToken i (tokens.Scalar style value) span s t
-  of : (i : ℕ) (value : List ℕ) (span : Span) (s t : Cursor) → IsToken i (tokens.Scalar style value) span s t → span.start ≡ s.mark
+  of : (i : ℕ) (value : List ℕ) (span : Span) (s t : Cursor) → IsToken i (tokens.Scalar style value) span s t → Starts span s
 
 quotes_hold : TextLaws → (columns : List ℕ) (from : Cursor) (q : Queue) (quote : Quote) (style : ScalarStyle) → Quoting quote style → (c d : Core) → Saved (next q) c d → Holds columns from c q → slice_index c.cursor.rest 0 ≡ mark quote
     → (in_block c ≡ true → c.indent ≤ c.cursor.mark.col + 1) → Given (HoldsStep columns from q) (quoted.quoted quote (least_column d) d.cursor >>= λ x. scalar.behind_quotes d.cursor.mark style x.0 (with_cursor x.1 d))
@@ -110,14 +114,22 @@ disallowed n c = saved_alike n c (save_key n c) (scalar.disallow_key (save_key n
 pub double_holds : TextLaws → (columns : List ℕ) (from : Cursor) (q : Queue) (c : Core) → Holds columns from c q → slice_index c.cursor.rest 0 ≡ 34 → (in_block c ≡ true → c.indent ≤ c.cursor.mark.col + 1) → Given (HoldsStep columns from q) (scalar.double_quoted (next q) c)
 unfolding scalar.double_quoted scalar.read_double_quoted
 double_holds laws columns from q c h f deep =
-    quotes_hold laws columns from q Double DoubleQuoted (record { quiet = λ v. refl; is = λ i v p s t k. k; of = λ i v p s t k. k.4 }) c (scalar.disallow_key (save_key (next q) c)) (disallowed (next q) c) h f deep
+    quotes_hold laws columns from q Double DoubleQuoted (record { quiet = λ v. refl; is = λ i v p s t k. k; of = λ i v p s t k. (k.4, ap (λ l. begins_text (slice_index l 0)) k.1.1) }) c (scalar.disallow_key (save_key (next q) c)) (disallowed (next q) c) h f deep
 
 pub single_holds : TextLaws → (columns : List ℕ) (from : Cursor) (q : Queue) (c : Core) → Holds columns from c q → slice_index c.cursor.rest 0 ≡ 39 → (in_block c ≡ true → c.indent ≤ c.cursor.mark.col + 1) → Given (HoldsStep columns from q) (scalar.single_quoted (next q) c)
 unfolding scalar.single_quoted scalar.read_single_quoted
 single_holds laws columns from q c h f deep =
-    quotes_hold laws columns from q Single SingleQuoted (record { quiet = λ v. refl; is = λ i v p s t k. k; of = λ i v p s t k. k.4 }) c (scalar.disallow_key (save_key (next q) c)) (disallowed (next q) c) h f deep
+    quotes_hold laws columns from q Single SingleQuoted (record { quiet = λ v. refl; is = λ i v p s t k. k; of = λ i v p s t k. (k.4, ap (λ l. begins_text (slice_index l 0)) k.1.1) }) c (scalar.disallow_key (save_key (next q) c)) (disallowed (next q) c) h f deep
 
 -- ## Plain scalars
+
+-- what a plain scalar begins with begins a text
+plain_begins : (c : ℕ) → IsTrue (begins_plain c) → IsFalse (is_blank_or_break c) → IsTrue (begins_text c)
+plain_begins c h ink = by (c == 35) refl
+  where
+    by : (b : Bool) → (c == 35) ≡ b → IsTrue (begins_text c)
+    by false e = rw (ink, e) refl
+    by true e = absurd (let same : c ≡ 35 = is_number c 35 e in let no : begins_plain c ≡ false = ap begins_plain same in cc)
 
 -- what a plain scalar begins with, but for `#`
 pub record PlainStart (s : Cursor) : Type 0 where
@@ -150,8 +162,8 @@ plain_holds_at laws columns from q c d s h f deep =
     (λ _. given_bind P (words.plain (not (in_block d)) d.indent d.cursor) _ (λ x e.
     let r = laws.plain (not (in_block d)) d.indent d.cursor x.3 x.0 x.1 x.2 e in
     let piece : Piece = record { span = record { start = d.cursor.mark; end = x.1 }; kind = tokens.Scalar Plain x.0 } in
-    saved_put columns from q c d (scalar.behind_plain x.2 x.3 d) piece x.3 s refl (λ i a b k. k.start) refl deep
-    (record { start = refl; begins = starts.other (no_sign d.cursor x.3 x.0 x.1 r); no_indicator = starts.no_indicator; reading = r; uncut = inr (given_of Ends (words.plain (not (in_block d)) d.indent d.cursor) x (plain_ends (not (in_block d)) d.indent d.cursor) e).1 }) (taken.nothing _ _)
+    saved_put columns from q c d (scalar.behind_plain x.2 x.3 d) piece x.3 s refl (λ i a b k. (k.start, plain_begins (slice_index a.rest 0) k.begins k.is_ink)) refl deep
+    (record { start = refl; begins = starts.other (no_sign d.cursor x.3 x.0 x.1 r); is_ink = laws.ink (not (in_block d)) d.indent d.cursor x.3 x.0 x.1 x.2 e; no_indicator = starts.no_indicator; reading = r; uncut = inr (given_of Ends (words.plain (not (in_block d)) d.indent d.cursor) x (plain_ends (not (in_block d)) d.indent d.cursor) e).1 }) (taken.nothing _ _)
     (record { level = refl; outer = refl; indent = refl; outer_indents = refl }) h))
 
 pub plain_holds : TextLaws → (columns : List ℕ) (from : Cursor) (q : Queue) (c : Core) → Holds columns from c q → PlainStart c.cursor → (in_block c ≡ true → c.indent ≤ c.cursor.mark.col + 1) → Given (HoldsStep columns from q) (scalar.plain (next q) c)
@@ -165,13 +177,23 @@ plain_holds laws columns from q c h f deep =
 pub record Named (is_alias : Bool) (x : ℕ) : Type 0 where
   pub quiet : (name : List ℕ) → is_quiet (property.name_token is_alias name) ≡ true
   pub is : (i : ℕ) (name : List ℕ) (span : Span) (s t : Cursor) → taken.IsName x name span s t → IsToken i (property.name_token is_alias name) span s t
-  pub of : (i : ℕ) (name : List ℕ) (span : Span) (s t : Cursor) → IsToken i (property.name_token is_alias name) span s t → span.start ≡ s.mark
+  pub of : (i : ℕ) (name : List ℕ) (span : Span) (s t : Cursor) → IsToken i (property.name_token is_alias name) span s t → Starts span s
 
 pub an_alias : Named true 42
-an_alias = record { quiet = λ n. refl; is = λ i n p s t h. h; of = λ i n p s t h. h.3.start }
+an_alias = record { quiet = λ n. refl; is = λ i n p s t h. h; of = λ i n p s t h. (h.3.start, ap (λ l. begins_text (slice_index l 0)) h.3.is) }
 
 pub an_anchor : Named false 38
-an_anchor = record { quiet = λ n. refl; is = λ i n p s t h. h; of = λ i n p s t h. h.3.start }
+an_anchor = record { quiet = λ n. refl; is = λ i n p s t h. h; of = λ i n p s t h. (h.3.start, ap (λ l. begins_text (slice_index l 0)) h.3.is) }
+
+-- a tag begins with `!`
+tag_begins : (text behind handle suffix : List ℕ) → IsTagText text handle suffix → slice_index (text ++ behind) 0 ≡ 33
+tag_begins text behind handle suffix (inl h) = ap (λ t. slice_index (t ++ behind) 0) h.0
+tag_begins text behind handle suffix (inr (inl h)) = ap (λ t. slice_index (t ++ behind) 0) h.3
+tag_begins text behind handle suffix (inr (inr h)) = ap (λ t. slice_index (t ++ behind) 0) h.4 ∙ by h.1
+  where
+    by : IsHandleText handle → slice_index ((handle ++ h.0) ++ behind) 0 ≡ 33
+    by (inl e) = ap (λ t. slice_index ((t ++ h.0) ++ behind) 0) e
+    by (inr e) = ap (λ t. slice_index ((t ++ h.0) ++ behind) 0) e.2
 
 name_holds_at : TextLaws → (columns : List ℕ) (from : Cursor) (q : Queue) (is_alias : Bool) (x : ℕ) → Named is_alias x → (c d : Core) → Saved (next q) c d → Holds columns from c q → 0 < length d.cursor.rest → slice_index d.cursor.rest 0 ≡ x
     → (in_block c ≡ true → c.indent ≤ c.cursor.mark.col + 1) → Given (HoldsStep columns from q) (property.read_name is_alias d)
@@ -205,7 +227,7 @@ tag_holds_at laws columns from q c d s h f deep =
     given_bind P (tags.tag (not (in_block d)) d.cursor) _ (λ y e.
     let r = laws.tag (not (in_block d)) d.cursor y.2 y.0 y.1 f e in
     let piece : Piece = record { span = record { start = d.cursor.mark; end = y.2.mark }; kind = tokens.Tag y.0 y.1 } in
-    saved_put columns from q c d (with_cursor y.2 d) piece y.2 s refl (λ i a b k. k.6.start) refl deep
+    saved_put columns from q c d (with_cursor y.2 d) piece y.2 s refl (λ i a b k. (k.6.start, ap (λ l. begins_text (slice_index l 0)) k.6.is ∙ ap begins_text (tag_begins k.0 b.rest k.1 k.2 k.3))) refl deep
     (r.0, r.1, r.2, r.4, sym r.7, sym r.8, record { is = r.3; start = refl; end = refl; goes_on = ap (λ (u : Cursor). u.mark) r.6 }) (taken.nothing _ _)
     (record { level = refl; outer = refl; indent = refl; outer_indents = refl }) h)
 

@@ -54,7 +54,7 @@ key_stands columns from c q b block i k l h x =
     let r = tokens_part columns (flat x.front) (x.token ∷ flat x.back) from h.last (subst Q (flat_append x.front (closed x.token ∷ x.back)) (subst P x.places h.tokens)) in
     let here = r.back.0 in
     let behind = r.back.1 in
-    let same : here.mark ≡ k.mark = sym (x.begins _ here behind r.back.3) ∙ x.marked in
+    let same : here.mark ≡ k.mark = sym (x.begins _ here behind r.back.3).0 ∙ x.marked in
     let first = later_later from.mark from.rest r.between.mark r.between.rest here.mark here.rest (tokens_later columns (flat x.front) from r.between r.front) (apart_later r.between.mark r.between.rest here.mark here.rest r.back.2) in
     let one = token_later _ x.token.kind x.token.span here behind r.back.3 in
     let others = tokens_later _ (flat x.back) behind h.last r.back.4 in
@@ -136,7 +136,7 @@ block_at laws text small columns from q style c d l s h b bd f =
     let first : slice_index d.cursor.rest 0 ≡ taken.block_indicator style = first_at (taken.block_indicator style) c.cursor d.cursor s.cursor f in
     let p = laws.block_place style d.indent d.cursor x.2 x.0 x.1 first e in
     let piece : Piece = record { span = record { start = x.1.start; end = x.1.end }; kind = tokens.Scalar (scalar.style_of style) x.0 } in
-    let is : IsBlockScalar style d.indent x.0 x.1 d.cursor x.2 = record { begins = first; reading = laws.block_value style d.indent d.cursor x.2 x.0 x.1 e; passes = p.passes; behind = p.behind; start = p.start; inside = p.inside; end = p.end } in
+    let is : IsBlockScalar style d.indent x.0 x.1 d.cursor x.2 = record { begins = first; reading = laws.block_text style d.indent d.cursor x.2 x.0 x.1 first e; passes = p.passes; end = p.end } in
     let held = saved_taken columns from (next q) c d q s h.taken in
     let e2 : Core = with_cursor x.2 d in
     let from_small : from.mark.line ≤ top = (l.lines (omega arith)).1 in

@@ -144,7 +144,7 @@ behind_start columns from q c d f a l none h =
     let r = same_blocks s.mark.col c d l in
     let outer = outermost columns from c q h (block_alike c d l (further_block s.mark.col d e)) in
     colon_put columns from (put (empty_piece s.mark tokens.BlockMappingStart) q) s (enter_block s.mark.col c) _ refl f a (record { level = r.level; outer = r.outer; indent = r.indent; outer_indents = r.outer_indents })
-    (loud_put columns from c (enter_block s.mark.col c) q (empty_piece s.mark tokens.BlockMappingStart) s s (taken.nothing _ _) (refl, inl refl, refl) (taken.nothing _ _) (λ cs k. (refl, k)) same outer h))
+    (loud_put columns from c (enter_block s.mark.col c) q (empty_piece s.mark tokens.BlockMappingStart) s s (taken.nothing _ _) (refl, refl, refl, ap taken.begins_text f) (taken.nothing _ _) (λ cs k. (refl, k)) same outer h))
     (λ _. colon_put columns from q s c _ refl f a (record { level = l.level; outer = l.outer; indent = l.indent; outer_indents = l.outer_indents }) h)
 
 alone_holds : (columns : List ℕ) (from : Cursor) (q : Queue) (c d : Core) (begins : Bool) → slice_index c.cursor.rest 0 ≡ 58 → AreApart (pass 1 c.cursor) d.cursor → Alike c d → d.level.key ≡ None → Holds columns from c q

@@ -1,4 +1,4 @@
--- Each token of a text begins at a place of it.
+-- Each token of a text begins and ends at a place of it.
 use Rattle.std.proofs.Common.{◌≡◌, ℕ, ◌≤◌, ◌⊎◌, true, false, List, [], ◌∷◌, ◌++◌, length, IsFalse, refl, sym, ap, arith, subst, inl, inr}
 use Rattle.std.specs.Prelude.{slice_index}
 use Rattle.saphyr_input.specs.Classes.{is_break, is_blank}
@@ -88,8 +88,8 @@ token_reached i (tokens.ReservedDirective name) span s t h = span_reached span h
 token_reached i tokens.DocumentStart span s t h = span_reached span _ s t (refl, (refl, (refl, tt))) h.2
 token_reached i tokens.DocumentEnd span s t h = span_reached span _ s t (refl, (refl, (refl, tt))) h.2
 token_reached i tokens.ByteOrderMark span s t h = mark_reached span s t h
-token_reached i tokens.BlockSequenceStart span s t h = nothing_reached span s t h
-token_reached i tokens.BlockMappingStart span s t h = nothing_reached span s t h
+token_reached i tokens.BlockSequenceStart span s t h = nothing_reached span s t (h.0, inl h.1, h.2)
+token_reached i tokens.BlockMappingStart span s t h = nothing_reached span s t (h.0, inl h.1, h.2)
 token_reached i tokens.BlockEnd span s t h = nothing_reached span s t h
 token_reached i tokens.FlowSequenceStart span s t h = character_reached 91 s t refl h.0
 token_reached i tokens.FlowSequenceEnd span s t h = character_reached 93 s t refl h.0
@@ -141,8 +141,8 @@ token_at i (tokens.ReservedDirective name) span s t h = here_at s span.start h.5
 token_at i tokens.DocumentStart span s t h = here_at s span.start h.2.start
 token_at i tokens.DocumentEnd span s t h = here_at s span.start h.2.start
 token_at i tokens.ByteOrderMark span s t h = here_at s span.start h.start
-token_at i tokens.BlockSequenceStart span s t h = nothing_at span s t h
-token_at i tokens.BlockMappingStart span s t h = nothing_at span s t h
+token_at i tokens.BlockSequenceStart span s t h = here_at s span.start h.1
+token_at i tokens.BlockMappingStart span s t h = here_at s span.start h.1
 token_at i tokens.BlockEnd span s t h = nothing_at span s t h
 token_at i tokens.FlowSequenceStart span s t h = here_at s span.start h.1
 token_at i tokens.FlowSequenceEnd span s t h = here_at s span.start h.1
@@ -161,8 +161,63 @@ token_at i (tokens.Tag handle suffix) span s t h = here_at s span.start h.6.star
 token_at i (tokens.Scalar style.Plain value) span s t h = here_at s span.start h.start
 token_at i (tokens.Scalar style.SingleQuoted value) span s t h = here_at s span.start h.4
 token_at i (tokens.Scalar style.DoubleQuoted value) span s t h = here_at s span.start h.4
-token_at i (tokens.Scalar style.Literal value) span s t h = at_reached s span.start h.behind (passed_reached s.mark s.rest span.start h.behind h.start)
-token_at i (tokens.Scalar style.Folded value) span s t h = at_reached s span.start h.behind (passed_reached s.mark s.rest span.start h.behind h.start)
+token_at i (tokens.Scalar style.Literal value) span s t h = at_reached s span.start h.reading.behind (passed_reached s.mark s.rest span.start h.reading.behind h.reading.starts)
+token_at i (tokens.Scalar style.Folded value) span s t h = at_reached s span.start h.reading.behind (passed_reached s.mark s.rest span.start h.reading.behind h.reading.starts)
+
+-- ## Their ends
+
+-- a place on the way from a later place
+at_behind : (s t : Cursor) (m : Marker) → Reaches s t → m ≡ t.mark → At s m
+at_behind s t m r e = at_further s t m r (here_at t m e)
+
+same_end : (s : Cursor) (span : Span) → span.end ≡ span.start → At s span.start → At s span.end
+same_end s span e a = subst (At s) (sym e) a
+
+-- a plain scalar's span ends before the blanks and breaks behind it
+plain_to : (s t : Cursor) (text : List ℕ) (end : Marker) → IsPlainReading s text end t → At s end
+plain_to s t text end r =
+    let w = r.white ++ t.rest in
+    let ink : is_break r.last ≡ false = right_not (is_blank r.last) (is_break r.last) r.is_ink in
+    let P : List ℕ → Type 0 = λ p. IsReached s.mark (p ++ w) (passed s.mark p) w in
+    let a : IsReached s.mark (r.piece ++ w) (passed s.mark r.piece) w = subst P (sym r.closes) (piece_reached s.mark (r.front ++ r.last ∷ []) w (uncut_ink r.front r.last w ink)) in
+    let b : IsReached s.mark (r.piece ++ w) end w = subst (λ (k : Marker). IsReached s.mark (r.piece ++ w) k w) r.ends a in
+    at_reached s end w (subst (λ l. IsReached s.mark l end w) (sym r.is) b)
+
+-- an end on the line behind a token
+line_to : (s t : Cursor) (m : Marker) → Reaches s t → IsOnLine t m → At s m
+line_to s t m r o = at_further s t m r (line_at t m o)
+
+pub token_to : (i : ℕ) (kind : Kind) (span : Span) (s t : Cursor) → IsToken i kind span s t → At s span.end
+token_to i tokens.StreamStart span s t h = same_end s span h.0 (token_at i tokens.StreamStart span s t h)
+token_to i tokens.StreamEnd span s t h = same_end s span h.1.0 (token_at i tokens.StreamEnd span s t h)
+token_to i (tokens.VersionDirective major minor) span s t h = at_behind s t span.end (token_reached i (tokens.VersionDirective major minor) span s t h) h.5.end
+token_to i (tokens.TagDirective handle prefix) span s t h = at_behind s t span.end (token_reached i (tokens.TagDirective handle prefix) span s t h) h.5.end
+token_to i (tokens.ReservedDirective name) span s t h = at_behind s t span.end (token_reached i (tokens.ReservedDirective name) span s t h) h.5.end
+token_to i tokens.DocumentStart span s t h = at_behind s t span.end (token_reached i tokens.DocumentStart span s t h) h.2.end
+token_to i tokens.DocumentEnd span s t h = at_behind s t span.end (token_reached i tokens.DocumentEnd span s t h) h.2.end
+token_to i tokens.ByteOrderMark span s t h = at_behind s t span.end (token_reached i tokens.ByteOrderMark span s t h) h.end
+token_to i tokens.BlockSequenceStart span s t h = same_end s span h.0 (token_at i tokens.BlockSequenceStart span s t h)
+token_to i tokens.BlockMappingStart span s t h = same_end s span h.0 (token_at i tokens.BlockMappingStart span s t h)
+token_to i tokens.BlockEnd span s t h = same_end s span h.0 (token_at i tokens.BlockEnd span s t h)
+token_to i tokens.FlowSequenceStart span s t h = line_to s t span.end (token_reached i tokens.FlowSequenceStart span s t h) h.2
+token_to i tokens.FlowSequenceEnd span s t h = line_to s t span.end (token_reached i tokens.FlowSequenceEnd span s t h) h.2
+token_to i tokens.FlowMappingStart span s t (inl h) = line_to s t span.end (character_reached 123 s t refl h.0) h.2
+token_to i tokens.FlowMappingStart span s t (inr h) = same_end s span h.0 (nothing_at span s t h)
+token_to i tokens.FlowMappingEnd span s t (inl h) = line_to s t span.end (character_reached 125 s t refl h.0) h.2
+token_to i tokens.FlowMappingEnd span s t (inr h) = same_end s span h.0 (nothing_at span s t h)
+token_to i tokens.BlockEntry span s t h = same_end s span h.3 (token_at i tokens.BlockEntry span s t h)
+token_to i tokens.FlowEntry span s t h = line_to s t span.end (token_reached i tokens.FlowEntry span s t h) h.2
+token_to i tokens.Key span s t (inl h) = at_further s t span.end (character_reached 63 s t refl h.0) (at_reached t span.end h.3.0 (apart_reached t.mark t.rest span.end h.3.0 h.3.1))
+token_to i tokens.Key span s t (inr h) = same_end s span h.0 (nothing_at span s t h)
+token_to i tokens.Value span s t h = here_at s span.end h.2
+token_to i (tokens.Alias name) span s t h = at_behind s t span.end (token_reached i (tokens.Alias name) span s t h) h.3.end
+token_to i (tokens.Anchor name) span s t h = at_behind s t span.end (token_reached i (tokens.Anchor name) span s t h) h.3.end
+token_to i (tokens.Tag handle suffix) span s t h = at_behind s t span.end (token_reached i (tokens.Tag handle suffix) span s t h) h.6.end
+token_to i (tokens.Scalar style.Plain value) span s t h = plain_to s t value span.end h.reading
+token_to i (tokens.Scalar style.SingleQuoted value) span s t h = line_to s t span.end (passed_reached s.mark s.rest t.mark t.rest h.3) h.5
+token_to i (tokens.Scalar style.DoubleQuoted value) span s t h = line_to s t span.end (passed_reached s.mark s.rest t.mark t.rest h.3) h.5
+token_to i (tokens.Scalar style.Literal value) span s t h = at_behind s t span.end (passed_reached s.mark s.rest t.mark t.rest h.passes) h.end
+token_to i (tokens.Scalar style.Folded value) span s t h = at_behind s t span.end (passed_reached s.mark s.rest t.mark t.rest h.passes) h.end
 
 pub tokens_at : (text columns : List ℕ) (ps : List Piece) (s u : Cursor) → Reaches (fresh text) s → AreTokens columns ps s u → AreAtPlaces text ps
 tokens_at text columns [] s u r h = tt
@@ -171,4 +226,5 @@ tokens_at text columns (p ∷ ps) s u r h =
     let a = reaches_reaches (fresh text) s h.0 r (apart_reached s.mark s.rest h.0.mark h.0.rest h.2) in
     let b = reaches_reaches (fresh text) h.0 h.1 a (token_reached i p.kind p.span h.0 h.1 h.3) in
     let first = place_of text p.span.start (at_further (fresh text) h.0 p.span.start a (token_at i p.kind p.span h.0 h.1 h.3)) in
-    (first, tokens_at text (open_behind p.kind p.span.start.col columns) ps h.1 u b h.4)
+    let last = place_of text p.span.end (at_further (fresh text) h.0 p.span.end a (token_to i p.kind p.span h.0 h.1 h.3)) in
+    ((first, last), tokens_at text (open_behind p.kind p.span.start.col columns) ps h.1 u b h.4)

@@ -1,5 +1,6 @@
 -- Tokens that are taken from a text, one part behind the other.
-use Rattle.std.proofs.Common.{◌≡◌, ℕ, suc, ◌+◌, Bool, true, false, List, [], ◌∷◌, ◌++◌, length, refl, sym, ap, ◌∙◌, arith, subst, inl, inr, append_assoc}
+use Rattle.std.proofs.Common.{◌≡◌, ℕ, suc, ◌+◌, Bool, true, false, List, [], ◌∷◌, ◌++◌, length, refl, sym, ap, ◌∙◌, arith, subst, inl, inr, append_assoc, IsTrue}
+use Rattle.std.specs.Prelude.{slice_index}
 use Rattle.saphyr_scalar.specs.declared.scalar.position.Span.{Span}
 use Rattle.saphyr_scalar.specs.declared.scalar.style.ScalarStyle.TheVariants as style
 use Rattle.saphyr_scalar.specs.Cursor.{Cursor}
@@ -10,7 +11,7 @@ use Rattle.saphyr_scanner.specs.Tokens.{Kind}
 use Rattle.saphyr_scanner.specs.Seen.{Piece}
 use Rattle.saphyr_scanner.specs.Queue.{Place, closed, opened}
 use Rattle.saphyr_scanner.specs.TokensTaken as taken
-use Rattle.saphyr_scanner.specs.TokensTaken.{AreApart, IsToken, AreTokens, open_behind}
+use Rattle.saphyr_scanner.specs.TokensTaken.{AreApart, IsToken, AreTokens, begins_text, open_behind}
 use Rattle.saphyr_scanner.proofs.Leads.{flat, place_pieces}
 
 -- the columns of the open block collections behind tokens
@@ -98,9 +99,9 @@ opened_behind o (f ∷ front) n p back =
     let e : length (f ∷ front) + suc n ≡ suc (length front + suc n) = omega arith in
     ap (λ i. opened i o (f ∷ (front ++ p ∷ back))) e ∙ ap (λ r. f ∷ r) (opened_behind o front n p back)
 
--- a token that begins where its span does
+-- a token with a text, which begins where its span does
 abbrev pub Begins : Piece → Type 0
-Begins t = (i : ℕ) (s u : Cursor) → IsToken i t.kind t.span s u → t.span.start ≡ s.mark
+Begins t = (i : ℕ) (s u : Cursor) → IsToken i t.kind t.span s u → (t.span.start ≡ s.mark) × IsTrue (begins_text (slice_index s.rest 0))
 
 -- what stands in front of a token
 abbrev pub opens_block : Opening → Bool
@@ -114,14 +115,14 @@ column_of _ column columns = columns
 opening_tokens : (columns : List ℕ) (o : Opening) (t : Piece) (back : List Piece) (s u : Cursor) → Begins t → (opens_block o ≡ true → AreQuiet (t ∷ back)) → AreTokens columns (t ∷ back) s u → AreTokens columns (place_pieces o t ++ back) s u
 opening_tokens columns opening.Nothing t back s u b q h = h
 opening_tokens columns opening.Key t back s u b q h =
-    (h.0, h.0, h.2, inr (refl, inl (b _ h.0 h.1 h.3), refl), (h.0, h.1, taken.nothing _ _, h.3, h.4))
+    (h.0, h.0, h.2, inr (refl, inl (b _ h.0 h.1 h.3).0, refl), (h.0, h.1, taken.nothing _ _, h.3, h.4))
 opening_tokens columns opening.FlowMappingAndKey t back s u b q h =
-    let place = b _ h.0 h.1 h.3 in
+    let place = (b _ h.0 h.1 h.3).0 in
     (h.0, h.0, h.2, inr (refl, inl place, refl), (h.0, h.0, taken.nothing _ _, inr (refl, inl place, refl), (h.0, h.1, taken.nothing _ _, h.3, h.4)))
 opening_tokens columns opening.BlockMappingAndKey t back s u b q h =
     let place = b _ h.0 h.1 h.3 in
     let k = quiet_tokens columns (t.span.start.col ∷ columns) (t ∷ back) h.0 u (q refl) (h.0, h.1, taken.nothing _ _, h.3, h.4) in
-    (h.0, h.0, h.2, (refl, inl place, refl), (h.0, h.0, taken.nothing _ _, inr (refl, inl place, refl), k))
+    (h.0, h.0, h.2, (refl, place.0, refl, place.1), (h.0, h.0, taken.nothing _ _, inr (refl, inl place.0, refl), k))
 
 opening_open : (columns : List ℕ) (o : Opening) (t : Piece) (back : List Piece) → (opens_block o ≡ true → AreQuiet (t ∷ back)) → open_all (place_pieces o t ++ back) columns ≡ column_of o t.span.start.col (open_all (t ∷ back) columns)
 opening_open columns opening.Nothing t back q = refl

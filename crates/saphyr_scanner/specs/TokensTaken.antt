@@ -1,9 +1,9 @@
 -- Which tokens are taken from a text: up to the last token the text is the spellings of the tokens in order, parted by
 -- blanks, breaks and comments alone (YAML 1.2.2, chapters 5 to 9). Nothing else is passed over.
 -- A place is a cursor, of which what stands there and its line and column count here.
-use Rattle.std.specs.Prelude.{◌≡◌, ℕ, ◌+◌, ◌≤◌, Bool, not, ◌⊎◌, List, [], ◌∷◌, ◌++◌, length, drop, slice_index, Option, Some, None, IsTrue, IsFalse, codes, encode_utf8_all}
+use Rattle.std.specs.Prelude.{◌≡◌, ℕ, ◌+◌, ◌≤◌, Bool, not, ◌&&◌, ◌==◌, ◌⊎◌, List, [], ◌∷◌, ◌++◌, length, drop, slice_index, Option, Some, None, IsTrue, IsFalse, codes, encode_utf8_all}
 use Rattle.saphyr_input.specs.Classes.{is_blank, is_break, is_breakz, is_blank_or_breakz, is_yaml_non_break, is_anchor_char, is_one_of, byte_order_mark}
-use Rattle.saphyr_input.specs.Places.{is_document_start, is_document_end}
+use Rattle.saphyr_input.specs.Places.{is_document_start, is_document_end, is_blank_or_break}
 use Rattle.saphyr_scalar.specs.declared.scalar.position.Marker.{Marker}
 use Rattle.saphyr_scalar.specs.declared.scalar.position.Span.{Span}
 use Rattle.saphyr_scalar.specs.declared.scalar.fault.Refusal.{Refusal}
@@ -20,7 +20,7 @@ use Rattle.saphyr_scalar.specs.Quoted.{break_len}
 use Rattle.saphyr_scalar.specs.Folding.{folded}
 use Rattle.saphyr_scalar.specs.QuotedSpelling.{IsQuotedText}
 use Rattle.saphyr_scalar.specs.PlainReading.{IsPlainReading}
-use Rattle.saphyr_scalar.specs.BlockRead.{IsRead}
+use Rattle.saphyr_scalar.specs.BlockText.{IsBlockText}
 use Rattle.saphyr_scalar.specs.TagSpelling.{AreIn, IsAnchorName, IsTagText}
 use Rattle.saphyr_scalar.specs.Directive.{Directive, version, tag_prefix, reserved}
 use Rattle.saphyr_scalar.specs.DirectiveSpelling.{IsReadDirective, IsLineTail}
@@ -66,10 +66,18 @@ AreApart s t = IsSeparation s.mark s.rest t.mark t.rest
 abbrev pub IsOnLine : Cursor → Marker → Type 0
 IsOnLine s m = (tail behind : List ℕ) × IsLineTail tail × (s.rest ≡ tail ++ behind) × (m ≡ along s.mark (length tail))
 
--- ## Tokens without a text: starts and ends of block collections, an implicit key's, and a single pair's
+-- ## Tokens without a text: the stream's ends, starts and ends of block collections, an implicit key's, and a single pair's
 
 abbrev pub HasNoText : Span → Cursor → Cursor → Type 0
 HasNoText span s t = (span.end ≡ span.start) × IsPlaceOrEnd s span.start × (t ≡ s)
+
+-- The start of a block collection stands where the text of the next token begins that has one: neither a blank, a break nor
+-- a comment stands there.
+abbrev pub begins_text : ℕ → Bool
+begins_text c = not (is_blank_or_break c) && not (c == 35)
+
+abbrev pub IsBlockStart : Span → Cursor → Cursor → Type 0
+IsBlockStart span s t = (span.end ≡ span.start) × (span.start ≡ s.mark) × (t ≡ s) × IsTrue (begins_text (slice_index s.rest 0))
 
 -- ## Tokens that are their spans: markers, anchors, aliases, tags and directives
 
@@ -142,11 +150,13 @@ IsQuotedScalar quote value span s t =
 abbrev pub begins_plain : ℕ → Bool
 begins_plain c = not (is_one_of (codes ",[]{}#&*!'\"%@`") c)
 
--- the span is the piece that is read; `-`, `?` and `:` begin one where no blank, break or NUL follows. Where
--- blanks and breaks behind it are passed no break stands behind those, so that none of two characters is cut.
+-- The span is the piece that is read. It begins with neither a blank nor a break, and with `-`, `?` or `:` only where no
+-- blank, break or NUL follows. Where blanks and breaks behind it are passed no break stands behind those, so that none of
+-- two characters is cut.
 pub record IsPlainScalar (value : List ℕ) (span : Span) (s t : Cursor) : Type 0 where
   pub start : span.start ≡ s.mark
   pub begins : IsTrue (begins_plain (slice_index s.rest 0))
+  pub is_ink : IsFalse (is_blank_or_break (slice_index s.rest 0))
   pub no_indicator : IsTrue (is_one_of (codes "-?:") (slice_index s.rest 0)) → IsFalse (is_blank_or_breakz (slice_index s.rest 1))
   pub reading : IsPlainReading s value span.end t
   pub uncut : (reading.white ≡ []) ⊎ IsFalse (is_break (slice_index t.rest 0))
@@ -156,13 +166,11 @@ block_indicator block_style.Literal = 124
 block_indicator block_style.Folded = 62
 
 -- The indentation that is given counts from the innermost open block collection, whose content stands right of its column.
+-- The span begins before the first content, and ends behind the lines.
 pub record IsBlockScalar (style : BlockStyle) (indent : ℕ) (value : List ℕ) (span : Span) (s t : Cursor) : Type 0 where
   pub begins : slice_index s.rest 0 ≡ block_indicator style
-  pub reading : IsRead style indent s value t
+  pub reading : IsBlockText style indent s value span.start t
   pub passes : IsPassed s.mark s.rest t.mark t.rest
-  pub behind : List ℕ
-  pub start : IsPassed s.mark s.rest span.start behind
-  pub inside : IsPassed span.start behind t.mark t.rest
   pub end : span.end ≡ t.mark
 
 abbrev pub IsScalar : ScalarStyle → ℕ → List ℕ → Span → Cursor → Cursor → Type 0
@@ -184,8 +192,8 @@ IsToken indent (tokens.ReservedDirective name) span s t = IsDirective (reserved 
 IsToken indent tokens.DocumentStart span s t = IsMarker is_document_start (codes "---") span s t
 IsToken indent tokens.DocumentEnd span s t = IsMarker is_document_end (codes "...") span s t
 IsToken indent tokens.ByteOrderMark span s t = IsMark span s t
-IsToken indent tokens.BlockSequenceStart span s t = HasNoText span s t
-IsToken indent tokens.BlockMappingStart span s t = HasNoText span s t
+IsToken indent tokens.BlockSequenceStart span s t = IsBlockStart span s t
+IsToken indent tokens.BlockMappingStart span s t = IsBlockStart span s t
 IsToken indent tokens.BlockEnd span s t = HasNoText span s t
 IsToken indent tokens.FlowSequenceStart span s t = IsFlowIndicator 91 span s t
 IsToken indent tokens.FlowSequenceEnd span s t = IsFlowIndicator 93 span s t

@@ -24,10 +24,11 @@ ghost use Rattle.std.specs.Prelude.{◌+◌, ◌*◌, ◌<◌, ◌^◌, ◌==◌
 ghost use Rattle.saphyr_scalar.specs.declared.scalar.fault.Refusal.{Refusal};
 
 use saphyr_scalar::scalar::{
+    begins_plain_scalars_with_ink,
     counts_each_block_scalar, counts_each_double_quoted, passes_to_one_place,
     places_each_block_scalar, reads_each_anchor, reads_each_directive, reads_each_double_quoted,
     reads_each_plain_text, reads_each_plain_word, reads_each_quoted, reads_each_reserved_directive,
-    reads_each_tag, reads_plain_values, reads_values_of_lines, refuses_inside, spells_each_anchor,
+    reads_block_texts, reads_each_tag, reads_plain_values, refuses_inside, spells_each_anchor,
     spells_each_directive, spells_each_quoted, spells_each_tag, takes_anchor, takes_block_scalar,
     takes_directive, takes_plain, takes_quoted, takes_tag,
 };
@@ -158,7 +159,8 @@ pub fn takes_all_tokens()
 {
     reads_plain_values();
     spells_each_quoted();
-    reads_values_of_lines();
+    begins_plain_scalars_with_ink();
+    reads_block_texts();
     places_each_block_scalar();
     spells_each_anchor();
     spells_each_tag();
@@ -172,14 +174,14 @@ pub fn takes_all_tokens()
     refuses_inside();
 }
 
-/// Each token of a text begins at a place of it.
+/// Each token of a text begins and ends at a place of it.
 pub fn begins_at_places()
     ensures { (limit : ℕ) (text : List ℕ) → length text < 2 ^ 63 → AreAtPlaces text (scan limit text).pieces }
 {
     takes_all_tokens();
 }
 
-/// Tokens that are taken from a text begin at places of it.
+/// Tokens that are taken from a text begin and end at places of it.
 pub fn places_taken_tokens()
     ensures { (text : List ℕ) (pieces : List Piece) (end : Cursor) → AreTokens [] pieces (fresh text) end → AreAtPlaces text pieces }
 {}

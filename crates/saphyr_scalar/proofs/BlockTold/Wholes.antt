@@ -29,7 +29,7 @@ use Rattle.saphyr_scalar.proofs.BlockTold.InsideLines.{Within, within_nothing, e
 use Rattle.saphyr_scalar.proofs.BlockTold.Widths.{indentation_told, indentation_at_end}
 use Rattle.saphyr_scalar.proofs.BlockWholes.{empties}
 use Rattle.saphyr_scalar.proofs.Moving.{by_test}
-use Rattle.saphyr_scalar.proofs.PlacedBlocks.{empty_passes}
+use Rattle.saphyr_scalar.proofs.PlacedBlocks.{empty_passes, between_passes}
 use Rattle.saphyr_scalar.proofs.PlacedHeaders.{passed_passed, one_passed, Ends, header_ends}
 use Rattle.saphyr_scalar.proofs.TagsSpelled.{is_number}
 use Rattle.saphyr_scalar.proofs.Taking.{given_of}
@@ -60,6 +60,7 @@ Read = List ℕ × Span × Cursor
 
 record Told (start : Marker) (x : EmptyLines × Cursor) (y : Read) : Type 0 where
   inside : Within (x.1.mark.col ≡ 0) x.1.rest y.2.rest
+  passes : IsPassed x.1.mark x.1.rest y.2.mark y.2.rest
   begins : (y.1.start ≡ start) ⊎ ((y.1.start ≡ x.1.mark) × (is_z (slice_index x.1.rest 0) ≡ false))
 
 leading_told : (style : BlockStyle) (indent : ℕ) (start : Marker) (c : Chomping) (limit : Option ℕ) (x : EmptyLines × Cursor) (y : Read) → behind_leading style indent start c limit x ≡ Ok y → Told start x y
@@ -67,10 +68,10 @@ unfolding behind_leading content chomped
 leading_told style indent start c limit x y =
     let i = unwrap_or limit (max x.0.widest indent) in
     by_test (is_z (slice_index x.1.rest 0)) _ _ (λ r. r ≡ gave y → Told start x y)
-    (λ _ e. subst (Told start x) (same_gift _ y e) (record { inside = within_nothing _ x.1.rest; begins = inl refl }))
+    (λ _ e. subst (Told start x) (same_gift _ y e) (record { inside = within_nothing _ x.1.rest; passes = passing.nothing x.1.mark x.1.rest; begins = inl refl }))
     (λ some. by_test (nat_lt x.1.mark.col i && nat_le indent x.1.mark.col) _ _ (λ r. r ≡ gave y → Told start x y)
     (λ _ e. refused _ y e)
-    (λ _ e. subst (Told start x) (same_gift _ y e) (record { inside = between_inside style i _ x.0.count x.1.blank_so_far x.1.mark x.1.rest; begins = inr (refl, some) })))
+    (λ _ e. subst (Told start x) (same_gift _ y e) (record { inside = between_inside style i _ x.0.count x.1.blank_so_far x.1.mark x.1.rest; passes = (between_passes style i _ x.0.count x.1.blank_so_far x.1.mark x.1.rest).here; begins = inr (refl, some) })))
 
 -- ## No content before the span
 
@@ -111,6 +112,7 @@ record Parts (style : BlockStyle) (indent : ℕ) (s : Cursor) (h : BlockHeader) 
   behind : List ℕ
   split : s.rest ≡ before ++ behind
   starts : IsPassed s.mark s.rest y.1.start behind
+  goes_on : IsPassed y.1.start behind y.2.mark y.2.rest
   no_content : (before ≡ []) ⊎ ((empty : List ℕ) × (before ≡ first ++ empty) × HasNoContent i (normalized empty))
 
 put_together : (style : BlockStyle) (indent : ℕ) (s : Cursor) (h : BlockHeader) (first : List ℕ) (u t : Cursor) (text : List ℕ) (span : Span) → s.rest ≡ first ++ u.rest → IsHeaderLine h u.rest first → Parts style indent s h first u (text, span, t)
@@ -131,6 +133,7 @@ put_together style indent s h first u t text span e l p = record {
   behind = p.behind;
   split = p.split;
   starts = p.starts;
+  goes_on = p.goes_on;
   no_content = p.no_content;
 }
 
@@ -148,12 +151,13 @@ at_line style indent s h first u y e p col blank is =
     let within = empty_inside limit no_lines u.blank_so_far u.mark u.rest y.2.rest told.inside in
     let inside = same_lines (u.mark.col ≡ 0) u.rest y.2.rest own.lines own.taken true (λ _. inl col) within in
     let indented = indentation_told indent h.indicator u col in
+    let passes = (empty_passes limit no_lines u.blank_so_far u.mark u.rest).here in
+    let whole = passed_passed s.mark s.rest u.mark u.rest x.1.mark x.1.rest p passes in
+    let all = passed_passed s.mark s.rest x.1.mark x.1.rest y.2.mark y.2.rest whole told.passes in
     elim told.begins [
-      | inl a ↦ record { i = i; own = own; indented = indented; inside = inside; before = []; behind = s.rest; split = refl; starts = subst (λ (m : Marker). IsPassed s.mark s.rest m s.rest) (sym a) (passing.nothing s.mark s.rest); no_content = inl refl }
+      | inl a ↦ record { i = i; own = own; indented = indented; inside = inside; before = []; behind = s.rest; split = refl; starts = subst (λ (m : Marker). IsPassed s.mark s.rest m s.rest) (sym a) (passing.nothing s.mark s.rest); goes_on = subst (λ (m : Marker). IsPassed m s.rest y.2.mark y.2.rest) (sym a) all; no_content = inl refl }
       | inr a ↦
           let w = empty_told i u x.1 x.0.count l in
-          let passes = (empty_passes limit no_lines u.blank_so_far u.mark u.rest).here in
-          let whole = passed_passed s.mark s.rest u.mark u.rest x.1.mark x.1.rest p passes in
           record {
             i = i;
             own = own;
@@ -163,6 +167,7 @@ at_line style indent s h first u y e p col blank is =
             behind = x.1.rest;
             split = e ∙ ap (λ r. first ++ r) w.1 ∙ sym (append_assoc first w.0 x.1.rest);
             starts = subst (λ (m : Marker). IsPassed s.mark s.rest m x.1.rest) (sym a.0) whole;
+            goes_on = subst (λ (m : Marker). IsPassed m x.1.rest y.2.mark y.2.rest) (sym a.0) told.passes;
             no_content = inr (w.0, refl, w.2);
           }
     ]
@@ -189,6 +194,9 @@ at_end style indent s h first u y e p z blank is =
     let within = empty_inside limit no_lines u.blank_so_far u.mark u.rest y.2.rest told.inside in
     let inside = same_lines (u.mark.col ≡ 0) u.rest y.2.rest own.lines own.taken false (λ k. absurd (cc)) within in
     let inside_all = no_lines_at_end u.rest y.2.rest z own.lines own.taken inside in
+    let passes = (empty_passes limit no_lines u.blank_so_far u.mark u.rest).here in
+    let whole = passed_passed s.mark s.rest u.mark u.rest x.1.mark x.1.rest p passes in
+    let all = passed_passed s.mark s.rest x.1.mark x.1.rest y.2.mark y.2.rest whole told.passes in
     let there : x.1 ≡ u = ap (λ (r : EmptyLines × Cursor). r.1) (nothing_led limit u z) in
     let start : y.1.start ≡ s.mark = elim told.begins [
       | inl a ↦ a
@@ -203,6 +211,7 @@ at_end style indent s h first u y e p z blank is =
       behind = s.rest;
       split = refl;
       starts = subst (λ (m : Marker). IsPassed s.mark s.rest m s.rest) (sym start) (passing.nothing s.mark s.rest);
+      goes_on = subst (λ (m : Marker). IsPassed m s.rest y.2.mark y.2.rest) (sym start) all;
       no_content = inl refl;
     }
 

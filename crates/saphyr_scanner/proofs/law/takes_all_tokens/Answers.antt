@@ -32,10 +32,11 @@ returns c =
     let laws : TextLaws = record {
       plain = c.reads_plain_values.ensures;
       quotes = c.spells_each_quoted.ensures;
-      block_value = c.reads_values_of_lines.ensures;
+      ink = c.begins_plain_scalars_with_ink.ensures;
+      block_text = λ style indent s t text span e r. c.reads_block_texts.ensures style indent s t text span (ap is_break e ∙ indicator_begins style) (some_indicator style s.rest e) r;
       block_place = λ style indent s t text span e r.
           let p = c.places_each_block_scalar.ensures style indent s t text span (ap is_break e ∙ indicator_begins style) (some_indicator style s.rest e) r in
-          record { passes = p.0; behind = p.2.0; start = p.2.1; inside = p.2.2; end = p.1; line = p.3 };
+          record { passes = p.0; end = p.1; line = p.3 };
       name = c.spells_each_anchor.ensures;
       tag = c.spells_each_tag.ensures;
       directive = c.spells_each_directive.ensures;
