@@ -1,5 +1,5 @@
--- Each step inside a block collection gives an event whose span lies within the text.
-use Rattle.std.proofs.Common.{ℕ, List, length}
+-- Each step inside a block collection gives an event whose span stands at places of the text.
+use Rattle.std.proofs.Common.{ℕ, List}
 use Rattle.saphyr_scalar.specs.declared.scalar.position.Span.{Span}
 use Rattle.saphyr_scanner.specs.Tokens.{Kind, BlockEnd, BlockEntry, Key, Value}
 use Rattle.saphyr_scanner.specs.Seen.{Piece}

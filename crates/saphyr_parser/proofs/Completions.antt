@@ -1,5 +1,5 @@
 -- Whatever is open can be closed: a shortest completion of each state, whose events depend on nothing before them.
-use Rattle.std.proofs.Common.{◌≡◌, ℕ, List, [], ◌∷◌, Option, Some, None, refl, sym, ap, ◌∙◌, subst, inl, inr}
+use Rattle.std.proofs.Common.{◌≡◌, ◌≢◌, ℕ, List, [], ◌∷◌, Option, Some, None, refl, sym, ap, ◌∙◌, subst, inl, inr}
 use Rattle.saphyr_scalar.specs.declared.scalar.style.ScalarStyle.TheVariants.{Plain}
 use Rattle.saphyr_scanner.specs.Forest as forest
 use Rattle.saphyr_scanner.specs.Forest.{NoNode, NoPair}
@@ -49,6 +49,11 @@ quiet_events (p ∷ ps) e q =
     let others : (es : List Happening) × (events_in (after p e) ps ≡ Some es) = quiet_events ps (after p e) q.1 in
     (one.0 ∷ others.0, ap (λ (o : Option Happening). before_all o (events_in (after p e) ps)) one.1 ∙ ap (before_all (Some one.0)) others.1)
 
+pub some_events : (ps : List Part) (e : Memory) (q : AreQuiet ps) → ps ≢ [] → (quiet_events ps e q).0 ≢ []
+unfolding quiet_events
+some_events [] e q h = absurd (h refl)
+some_events (p ∷ ps) e q h = λ k. cc
+
 no_anchor : (p : Part) → IsQuiet p → anchor_of p ≡ None
 no_anchor OpenStream q = refl
 no_anchor CloseStream q = refl
@@ -70,12 +75,13 @@ pub record Completion (s : State) (ss : List State) : Type 0 where
   pub follows : Follows s ss kinds parts
   pub starts : (ahead : List Kind) → Starts s ahead kinds
   pub quiet : AreQuiet parts
+  pub some : parts ≢ []
 
 outside : (s : State) → IsOutside s → Completion s []
-outside state.StreamStart i = record { kinds = StreamStart ∷ StreamEnd ∷ []; parts = OpenStream ∷ CloseStream ∷ []; follows = ([], ([], StreamEnd ∷ [], tt, refl, refl), refl); starts = λ ahead. tt; quiet = (tt, (tt, tt)) }
-outside state.ImplicitDocumentStart i = record { kinds = StreamEnd ∷ []; parts = CloseStream ∷ []; follows = ([], [], StreamEnd ∷ [], tt, refl, refl, refl); starts = λ ahead. tt; quiet = (tt, tt) }
-outside state.DocumentStart i = record { kinds = StreamEnd ∷ []; parts = CloseStream ∷ []; follows = ([], [], StreamEnd ∷ [], tt, refl, refl, refl); starts = λ ahead b. tt; quiet = (tt, tt) }
-outside state.DocumentEnd i = record { kinds = StreamEnd ∷ []; parts = CloseDocument ∷ CloseStream ∷ []; follows = ([], ([], [], StreamEnd ∷ [], tt, inl (refl, refl), refl), refl); starts = λ ahead. tt; quiet = (tt, (tt, tt)) }
+outside state.StreamStart i = record { kinds = StreamStart ∷ StreamEnd ∷ []; parts = OpenStream ∷ CloseStream ∷ []; follows = ([], ([], StreamEnd ∷ [], tt, refl, refl), refl); starts = λ ahead. tt; some = λ e. cc; quiet = (tt, (tt, tt)) }
+outside state.ImplicitDocumentStart i = record { kinds = StreamEnd ∷ []; parts = CloseStream ∷ []; follows = ([], [], StreamEnd ∷ [], tt, refl, refl, refl); starts = λ ahead. tt; some = λ e. cc; quiet = (tt, tt) }
+outside state.DocumentStart i = record { kinds = StreamEnd ∷ []; parts = CloseStream ∷ []; follows = ([], [], StreamEnd ∷ [], tt, refl, refl, refl); starts = λ ahead b. tt; some = λ e. cc; quiet = (tt, tt) }
+outside state.DocumentEnd i = record { kinds = StreamEnd ∷ []; parts = CloseDocument ∷ CloseStream ∷ []; follows = ([], ([], [], StreamEnd ∷ [], tt, inl (refl, refl), refl), refl); starts = λ ahead. tt; some = λ e. cc; quiet = (tt, (tt, tt)) }
 outside _ i = elim i [ ]
 
 abbrev leaf : Part
@@ -103,21 +109,21 @@ pair_value : (R : List Kind → List Part → Type 0) (ks : List Kind) (ps : Lis
 pair_value R ks ps r = put (IsAnyValueOf InFlow) (AtPairEnd R) [] (leaf ∷ []) _ _ (inr (refl, refl)) (pair_ends R ks ps r)
 
 inside : (s other : State) (ss : List State) → IsInside s → Completion other ss → Completion s (other ∷ ss)
-inside state.DocumentContent o ss i c = record { kinds = c.kinds; parts = leaf ∷ c.parts; follows = put (IsOptionalOf InBlock) (Follows o ss) [] (leaf ∷ []) c.kinds c.parts (forest.left_out, inl (refl, refl), refl) c.follows; starts = λ ahead. tt; quiet = (refl, c.quiet) }
-inside state.BlockNode o ss i c = record { kinds = scalar_token Plain [] ∷ c.kinds; parts = leaf ∷ c.parts; follows = put (IsNodeOf InBlock) (Follows o ss) (scalar_token Plain [] ∷ []) (leaf ∷ []) c.kinds c.parts (forest.left_out, ([], scalar_token Plain [] ∷ [], refl, inl refl, refl), refl) c.follows; starts = λ ahead. tt; quiet = (refl, c.quiet) }
-inside state.BlockSequenceEntry o ss i c = record { kinds = BlockEnd ∷ c.kinds; parts = CloseSequence ∷ c.parts; follows = closed BlockEntries (Follows o ss) (BlockEnd ∷ []) CloseSequence c.kinds c.parts (NoNode, refl, refl) c.follows; starts = λ ahead. tt; quiet = (tt, c.quiet) }
-inside state.IndentlessSequenceEntry o ss i c = record { kinds = BlockEntry ∷ c.kinds; parts = leaf ∷ CloseSequence ∷ c.parts; follows = one_entry (Then (Exactly [] (CloseSequence ∷ [])) (Follows o ss)) c.kinds (leaf ∷ CloseSequence ∷ c.parts) (put (IsOptionalOf InBlock) _ [] (leaf ∷ []) c.kinds (CloseSequence ∷ c.parts) (forest.left_out, inl (refl, refl), refl) (closed BlockEntries (Follows o ss) [] CloseSequence c.kinds c.parts (NoNode, refl, refl) c.follows)); starts = λ ahead b. tt; quiet = (refl, (tt, c.quiet)) }
-inside state.BlockMappingKey o ss i c = record { kinds = BlockEnd ∷ c.kinds; parts = CloseMapping ∷ c.parts; follows = block_pairs_end (Follows o ss) c.kinds c.parts c.follows; starts = λ ahead b. absurd b; quiet = (tt, c.quiet) }
-inside state.BlockMappingValue o ss i c = record { kinds = Value ∷ BlockEnd ∷ c.kinds; parts = leaf ∷ CloseMapping ∷ c.parts; follows = inl (marked_value InBlockMapping (InBlockPairs (Follows o ss)) (BlockEnd ∷ c.kinds) (leaf ∷ CloseMapping ∷ c.parts) (put (IsOptionalOf InBlockMapping) (InBlockPairs (Follows o ss)) [] (leaf ∷ []) _ _ (forest.left_out, inl (refl, refl), refl) (block_pairs_end (Follows o ss) c.kinds c.parts c.follows))); starts = λ ahead b. tt; quiet = (refl, (tt, c.quiet)) }
-inside state.FlowSequenceFirstEntry o ss i c = record { kinds = FlowSequenceEnd ∷ c.kinds; parts = CloseSequence ∷ c.parts; follows = closed FirstEntries (Follows o ss) (FlowSequenceEnd ∷ []) CloseSequence c.kinds c.parts (NoNode, refl, refl) c.follows; starts = λ ahead. tt; quiet = (tt, c.quiet) }
-inside state.FlowSequenceEntry o ss i c = record { kinds = FlowSequenceEnd ∷ c.kinds; parts = CloseSequence ∷ c.parts; follows = entries_end (Follows o ss) c.kinds c.parts c.follows; starts = λ ahead. tt; quiet = (tt, c.quiet) }
-inside state.FlowSequenceEntryMappingKey o ss i c = record { kinds = FlowSequenceEnd ∷ c.kinds; parts = leaf ∷ leaf ∷ CloseMapping ∷ CloseSequence ∷ c.parts; follows = maybe (AtPairValue (Follows o ss)) _ _ (pair_value (Follows o ss) c.kinds c.parts c.follows); starts = λ ahead. tt; quiet = (refl, (refl, (tt, (tt, c.quiet)))) }
-inside state.FlowSequenceEntryMappingValue o ss i c = record { kinds = FlowSequenceEnd ∷ c.kinds; parts = leaf ∷ CloseMapping ∷ CloseSequence ∷ c.parts; follows = pair_value (Follows o ss) c.kinds c.parts c.follows; starts = λ ahead. tt; quiet = (refl, (tt, (tt, c.quiet))) }
-inside (state.FlowSequenceEntryMappingEnd place) o ss i c = record { kinds = FlowSequenceEnd ∷ c.kinds; parts = CloseMapping ∷ CloseSequence ∷ c.parts; follows = pair_ends (Follows o ss) c.kinds c.parts c.follows; starts = λ ahead. tt; quiet = (tt, (tt, c.quiet)) }
-inside state.FlowMappingFirstKey o ss i c = record { kinds = FlowMappingEnd ∷ c.kinds; parts = CloseMapping ∷ c.parts; follows = closed FirstPairs (Follows o ss) (FlowMappingEnd ∷ []) CloseMapping c.kinds c.parts (NoPair, refl, refl) c.follows; starts = λ ahead. tt; quiet = (tt, c.quiet) }
-inside state.FlowMappingKey o ss i c = record { kinds = FlowMappingEnd ∷ c.kinds; parts = CloseMapping ∷ c.parts; follows = pairs_end (Follows o ss) c.kinds c.parts c.follows; starts = λ ahead. tt; quiet = (tt, c.quiet) }
-inside state.FlowMappingValue o ss i c = record { kinds = Value ∷ FlowMappingEnd ∷ c.kinds; parts = leaf ∷ CloseMapping ∷ c.parts; follows = any_value InFlow (InMapping (Follows o ss)) _ _ (marked_value InFlow (InMapping (Follows o ss)) (FlowMappingEnd ∷ c.kinds) (leaf ∷ CloseMapping ∷ c.parts) (maybe (InMapping (Follows o ss)) _ _ (pairs_end (Follows o ss) c.kinds c.parts c.follows))); starts = λ ahead b. tt; quiet = (refl, (tt, c.quiet)) }
-inside state.FlowMappingEmptyValue o ss i c = record { kinds = FlowMappingEnd ∷ c.kinds; parts = leaf ∷ CloseMapping ∷ c.parts; follows = skip (InMapping (Follows o ss)) _ _ (pairs_end (Follows o ss) c.kinds c.parts c.follows); starts = λ ahead. tt; quiet = (refl, (tt, c.quiet)) }
+inside state.DocumentContent o ss i c = record { kinds = c.kinds; parts = leaf ∷ c.parts; follows = put (IsOptionalOf InBlock) (Follows o ss) [] (leaf ∷ []) c.kinds c.parts (forest.left_out, inl (refl, refl), refl) c.follows; starts = λ ahead. tt; some = λ e. cc; quiet = (refl, c.quiet) }
+inside state.BlockNode o ss i c = record { kinds = scalar_token Plain [] ∷ c.kinds; parts = leaf ∷ c.parts; follows = put (IsNodeOf InBlock) (Follows o ss) (scalar_token Plain [] ∷ []) (leaf ∷ []) c.kinds c.parts (forest.left_out, ([], scalar_token Plain [] ∷ [], refl, inl refl, refl), refl) c.follows; starts = λ ahead. tt; some = λ e. cc; quiet = (refl, c.quiet) }
+inside state.BlockSequenceEntry o ss i c = record { kinds = BlockEnd ∷ c.kinds; parts = CloseSequence ∷ c.parts; follows = closed BlockEntries (Follows o ss) (BlockEnd ∷ []) CloseSequence c.kinds c.parts (NoNode, refl, refl) c.follows; starts = λ ahead. tt; some = λ e. cc; quiet = (tt, c.quiet) }
+inside state.IndentlessSequenceEntry o ss i c = record { kinds = BlockEntry ∷ c.kinds; parts = leaf ∷ CloseSequence ∷ c.parts; follows = one_entry (Then (Exactly [] (CloseSequence ∷ [])) (Follows o ss)) c.kinds (leaf ∷ CloseSequence ∷ c.parts) (put (IsOptionalOf InBlock) _ [] (leaf ∷ []) c.kinds (CloseSequence ∷ c.parts) (forest.left_out, inl (refl, refl), refl) (closed BlockEntries (Follows o ss) [] CloseSequence c.kinds c.parts (NoNode, refl, refl) c.follows)); starts = λ ahead b. tt; some = λ e. cc; quiet = (refl, (tt, c.quiet)) }
+inside state.BlockMappingKey o ss i c = record { kinds = BlockEnd ∷ c.kinds; parts = CloseMapping ∷ c.parts; follows = block_pairs_end (Follows o ss) c.kinds c.parts c.follows; starts = λ ahead b. absurd b; some = λ e. cc; quiet = (tt, c.quiet) }
+inside state.BlockMappingValue o ss i c = record { kinds = Value ∷ BlockEnd ∷ c.kinds; parts = leaf ∷ CloseMapping ∷ c.parts; follows = inl (marked_value InBlockMapping (InBlockPairs (Follows o ss)) (BlockEnd ∷ c.kinds) (leaf ∷ CloseMapping ∷ c.parts) (put (IsOptionalOf InBlockMapping) (InBlockPairs (Follows o ss)) [] (leaf ∷ []) _ _ (forest.left_out, inl (refl, refl), refl) (block_pairs_end (Follows o ss) c.kinds c.parts c.follows))); starts = λ ahead b. tt; some = λ e. cc; quiet = (refl, (tt, c.quiet)) }
+inside state.FlowSequenceFirstEntry o ss i c = record { kinds = FlowSequenceEnd ∷ c.kinds; parts = CloseSequence ∷ c.parts; follows = closed FirstEntries (Follows o ss) (FlowSequenceEnd ∷ []) CloseSequence c.kinds c.parts (NoNode, refl, refl) c.follows; starts = λ ahead. tt; some = λ e. cc; quiet = (tt, c.quiet) }
+inside state.FlowSequenceEntry o ss i c = record { kinds = FlowSequenceEnd ∷ c.kinds; parts = CloseSequence ∷ c.parts; follows = entries_end (Follows o ss) c.kinds c.parts c.follows; starts = λ ahead. tt; some = λ e. cc; quiet = (tt, c.quiet) }
+inside state.FlowSequenceEntryMappingKey o ss i c = record { kinds = FlowSequenceEnd ∷ c.kinds; parts = leaf ∷ leaf ∷ CloseMapping ∷ CloseSequence ∷ c.parts; follows = maybe (AtPairValue (Follows o ss)) _ _ (pair_value (Follows o ss) c.kinds c.parts c.follows); starts = λ ahead. tt; some = λ e. cc; quiet = (refl, (refl, (tt, (tt, c.quiet)))) }
+inside state.FlowSequenceEntryMappingValue o ss i c = record { kinds = FlowSequenceEnd ∷ c.kinds; parts = leaf ∷ CloseMapping ∷ CloseSequence ∷ c.parts; follows = pair_value (Follows o ss) c.kinds c.parts c.follows; starts = λ ahead. tt; some = λ e. cc; quiet = (refl, (tt, (tt, c.quiet))) }
+inside (state.FlowSequenceEntryMappingEnd place) o ss i c = record { kinds = FlowSequenceEnd ∷ c.kinds; parts = CloseMapping ∷ CloseSequence ∷ c.parts; follows = pair_ends (Follows o ss) c.kinds c.parts c.follows; starts = λ ahead. tt; some = λ e. cc; quiet = (tt, (tt, c.quiet)) }
+inside state.FlowMappingFirstKey o ss i c = record { kinds = FlowMappingEnd ∷ c.kinds; parts = CloseMapping ∷ c.parts; follows = closed FirstPairs (Follows o ss) (FlowMappingEnd ∷ []) CloseMapping c.kinds c.parts (NoPair, refl, refl) c.follows; starts = λ ahead. tt; some = λ e. cc; quiet = (tt, c.quiet) }
+inside state.FlowMappingKey o ss i c = record { kinds = FlowMappingEnd ∷ c.kinds; parts = CloseMapping ∷ c.parts; follows = pairs_end (Follows o ss) c.kinds c.parts c.follows; starts = λ ahead. tt; some = λ e. cc; quiet = (tt, c.quiet) }
+inside state.FlowMappingValue o ss i c = record { kinds = Value ∷ FlowMappingEnd ∷ c.kinds; parts = leaf ∷ CloseMapping ∷ c.parts; follows = any_value InFlow (InMapping (Follows o ss)) _ _ (marked_value InFlow (InMapping (Follows o ss)) (FlowMappingEnd ∷ c.kinds) (leaf ∷ CloseMapping ∷ c.parts) (maybe (InMapping (Follows o ss)) _ _ (pairs_end (Follows o ss) c.kinds c.parts c.follows))); starts = λ ahead b. tt; some = λ e. cc; quiet = (refl, (tt, c.quiet)) }
+inside state.FlowMappingEmptyValue o ss i c = record { kinds = FlowMappingEnd ∷ c.kinds; parts = leaf ∷ CloseMapping ∷ c.parts; follows = skip (InMapping (Follows o ss)) _ _ (pairs_end (Follows o ss) c.kinds c.parts c.follows); starts = λ ahead. tt; some = λ e. cc; quiet = (refl, (tt, c.quiet)) }
 inside _ o ss i c = elim i [ ]
 
 pub completed : (ss : List State) (s : State) → IsAlive s ss → Completion s ss

@@ -1,4 +1,4 @@
--- Each step at a beginning or an end of a document gives an event whose span lies within the text.
+-- Each step at a beginning or an end of a document gives an event whose span stands at places of the text.
 use Rattle.std.proofs.Common.{◌≡◌, ℕ, Bool, true, false, List, [], ◌∷◌, Result, Ok, Err, refl, sym, arith, subst, length}
 use Rattle.std.specs.Prelude.{if◌then◌else◌}
 use Rattle.saphyr_scalar.specs.declared.scalar.position.Marker.{Marker}
@@ -7,6 +7,7 @@ use Rattle.saphyr_scanner.specs.Tokens as tokens
 use Rattle.saphyr_scanner.specs.Tokens.{Kind}
 use Rattle.saphyr_scanner.specs.Seen.{Piece}
 use Rattle.saphyr_scanner.specs.SpansInOrder.{AreInOrder}
+use Rattle.saphyr_scanner.specs.AtPlaces.{AreAtPlaces}
 use Rattle.saphyr_parser.specs.declared.parser.context.Context.TheVariants.{Block}
 use Rattle.saphyr_parser.specs.declared.parser.state.State.TheVariants as state
 use Rattle.saphyr_parser.specs.Machine.{◌>>=◌, Machine, Told, take, take_from, with_pieces, put_back}
@@ -37,40 +38,40 @@ either : (text : List ℕ) (low : ℕ) (b : Bool) (r q : Result (Piece × Machin
 either text low true r q x y = x
 either text low false r q x y = y
 
-first_taken : {text : List ℕ} {low : ℕ} {t : Piece} {ts : List Piece} (m : Machine) → AreInOrder (length text) low (t ∷ ts) → HavePlacesWithin text m.states → IsTaken text low t (with_pieces ts m)
-first_taken m h p = record { start = h.0; end = h.1; behind = record { pieces = h.2; places = p } }
+first_taken : {text : List ℕ} {low : ℕ} {t : Piece} {ts : List Piece} (m : Machine) → AreInOrder (length text) low (t ∷ ts) → AreAtPlaces text (t ∷ ts) → HavePlacesWithin text m.states → IsTaken text low t (with_pieces ts m)
+first_taken m h a p = record { start = h.0; end = h.1; from = a.0.0; to = a.0.1; behind = record { pieces = h.2; at = a.1; places = p } }
 
 -- the tokens behind the first stand behind the index too
 others : (text : List ℕ) (low : ℕ) (t : Piece) (ts : List Piece) → AreInOrder (length text) low (t ∷ ts) → AreInOrder (length text) low ts
 others text low t ts h = let first = h.0 in let own = h.1 in lower_pieces text low t.span.end.index ts (omega (arith, first, own)) h.2
 
-takes_from : (text : List ℕ) (low : ℕ) (ts : List Piece) (m : Machine) → AreInOrder (length text) low ts → HavePlacesWithin text m.states → Takes text low (take_from ts m)
-takes_from text low [] m h p = refuses_token text low _
-takes_from text low (t ∷ ts) m h p = gives_token text low t _ (first_taken {t = t} {ts = ts} m h p)
+takes_from : (text : List ℕ) (low : ℕ) (ts : List Piece) (m : Machine) → AreInOrder (length text) low ts → AreAtPlaces text ts → HavePlacesWithin text m.states → Takes text low (take_from ts m)
+takes_from text low [] m h a p = refuses_token text low _
+takes_from text low (t ∷ ts) m h a p = gives_token text low t _ (first_taken {t = t} {ts = ts} m h a p)
 
 -- ## What is passed
 
-passes_from : (text : List ℕ) (low : ℕ) (passed : Kind → Bool) (ts : List Piece) (m : Machine) → AreInOrder (length text) low ts → HavePlacesWithin text m.states → Takes text low (pass_from passed ts m)
-passes_from text low passed [] m h p = refuses_token text low _
-passes_from text low passed (t ∷ ts) m h p =
-    either text low (passed t.kind) _ _ (passes_from text low passed ts (with_pieces ts m) (others text low t ts h) p) (gives_token text low t _ (first_taken {t = t} {ts = ts} m h p))
+passes_from : (text : List ℕ) (low : ℕ) (passed : Kind → Bool) (ts : List Piece) (m : Machine) → AreInOrder (length text) low ts → AreAtPlaces text ts → HavePlacesWithin text m.states → Takes text low (pass_from passed ts m)
+passes_from text low passed [] m h a p = refuses_token text low _
+passes_from text low passed (t ∷ ts) m h a p =
+    either text low (passed t.kind) _ _ (passes_from text low passed ts (with_pieces ts m) (others text low t ts h) a.1 p) (gives_token text low t _ (first_taken {t = t} {ts = ts} m h a p))
 
 passes : (text : List ℕ) (low : ℕ) (passed : Kind → Bool) (m : Machine) → IsAhead text low m → Takes text low (pass passed m)
 unfolding pass
-passes text low passed m a = passes_from text low passed m.tokens.pieces m a.pieces a.places
+passes text low passed m a = passes_from text low passed m.tokens.pieces m a.pieces a.at a.places
 
 then_directs : (text : List ℕ) (low : ℕ) (m : Machine) (r : Result (Declared × Machine) Refusal) (go : Declared × Machine → Result (Piece × Machine) Refusal) → Stays m r → ((d : Declared) (k : Machine) → k.states ≡ m.states → Takes text low (go (d, k))) → Takes text low (r >>= go)
 then_directs text low m (Err f) go w h = refuses_token text low f
 then_directs text low m (Ok x) go w h = h x.0 x.1 (w.same x refl)
 
-directs_from : (text : List ℕ) (low : ℕ) (ts : List Piece) (d : Declared) (m : Machine) → AreInOrder (length text) low ts → HavePlacesWithin text m.states → Takes text low (directives_from ts d m)
-directs_from text low [] d m h p = refuses_token text low _
-directs_from text low (t ∷ ts) d m h p =
-    either text low (is_directive t.kind) _ _ (then_directs text low (with_pieces ts m) (directive_at t.kind t d (with_pieces ts m)) _ (directive_stays t.kind t d (with_pieces ts m)) (λ e k s. directs_from text low ts e k (others text low t ts h) (subst (HavePlacesWithin text) (sym s) p))) (gives_token text low t _ (first_taken {t = t} {ts = ts} m h p))
+directs_from : (text : List ℕ) (low : ℕ) (ts : List Piece) (d : Declared) (m : Machine) → AreInOrder (length text) low ts → AreAtPlaces text ts → HavePlacesWithin text m.states → Takes text low (directives_from ts d m)
+directs_from text low [] d m h a p = refuses_token text low _
+directs_from text low (t ∷ ts) d m h a p =
+    either text low (is_directive t.kind) _ _ (then_directs text low (with_pieces ts m) (directive_at t.kind t d (with_pieces ts m)) _ (directive_stays t.kind t d (with_pieces ts m)) (λ e k s. directs_from text low ts e k (others text low t ts h) a.1 (subst (HavePlacesWithin text) (sym s) p))) (gives_token text low t _ (first_taken {t = t} {ts = ts} m h a p))
 
 directs : (text : List ℕ) (low : ℕ) (d : Declared) (m : Machine) → IsAhead text low m → Takes text low (directives d m)
 unfolding directives
-directs text low d m a = directs_from text low m.tokens.pieces d m a.pieces a.places
+directs text low d m a = directs_from text low m.tokens.pieces d m a.pieces a.at a.places
 
 -- ## The beginning of the stream and of documents
 
@@ -84,7 +85,7 @@ stream_start_keeps text low m a = taken text low m _ a (λ t m k. stream_starts_
 
 -- inside a document, whose end is expected behind its node
 document_begun : {text : List ℕ} {low : ℕ} {m : Machine} → IsAhead text low m → IsAhead text low (record (forget_anchors m) { states = state.DocumentEnd ∷ m.states })
-document_begun a = record { pieces = a.pieces; places = (tt, a.places) }
+document_begun a = record { pieces = a.pieces; at = a.at; places = (tt, a.places) }
 
 explicits_at : (text : List ℕ) (low : ℕ) (kind : Kind) (t : Piece) (m : Machine) → IsTaken text low t m → Keeps text (explicit_at kind t m)
 explicits_at text low tokens.DocumentStart t m k = gives text _ (own_span k) (entered state.DocumentContent tt (document_begun k.behind))
@@ -150,7 +151,7 @@ marks text low place m a = then_takes text low (pass is_mark m) _ (passes text l
 
 -- a token behind one that was taken
 behind_first : {text : List ℕ} {low : ℕ} {t : Piece} {m : Machine} → IsTaken text low t m → IsAhead text low m
-behind_first {text} {low} {t} {m} k = let first = k.start in let own = k.end in record { pieces = lower_pieces text low t.span.end.index m.tokens.pieces (omega (arith, first, own)) k.behind.pieces; places = k.behind.places }
+behind_first {text} {low} {t} {m} k = let first = k.start in let own = k.end in record { pieces = lower_pieces text low t.span.end.index m.tokens.pieces (omega (arith, first, own)) k.behind.pieces; at = k.behind.at; places = k.behind.places }
 
 behinds_at : (text : List ℕ) (low : ℕ) (kind : Kind) (t : Piece) (m : Machine) → IsTaken text low t m → Takes text low (behind_document_at kind t m)
 behinds_at text low tokens.ByteOrderMark t m k = marks text low t.span.start m (behind_first k)
@@ -158,10 +159,10 @@ behinds_at text low _ t m k = gives_token text low t m k
 
 behinds : (text : List ℕ) (low : ℕ) (m : Machine) → IsAhead text low m → Takes text low (behind_document m)
 unfolding behind_document
-behinds text low m a = then_takes text low (take m) _ (takes_from text low m.tokens.pieces m a.pieces a.places) (λ t m k. behinds_at text low t.kind t m k)
+behinds text low m a = then_takes text low (take m) _ (takes_from text low m.tokens.pieces m a.pieces a.at a.places) (λ t m k. behinds_at text low t.kind t m k)
 
 forgotten : {text : List ℕ} {low : ℕ} {t : Piece} {m : Machine} → IsTaken text low t m → IsTaken text low t (forget_prefixes m)
-forgotten k = record { start = k.start; end = k.end; behind = record { pieces = k.behind.pieces; places = k.behind.places } }
+forgotten k = record { start = k.start; end = k.end; from = k.from; to = k.to; behind = record { pieces = k.behind.pieces; at = k.behind.at; places = k.behind.places } }
 
 ends_at : (text : List ℕ) (low : ℕ) (kind : Kind) (t : Piece) (m : Machine) → IsTaken text low t m → Keeps text (document_end_at kind t m)
 ends_at text low tokens.DocumentEnd t m k = gives text _ (own_span k) (entered state.ImplicitDocumentStart tt k.behind)

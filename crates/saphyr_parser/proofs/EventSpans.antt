@@ -1,11 +1,11 @@
--- The spans of all events lie within the text, where those of the tokens stand in order there.
-use Rattle.std.proofs.Common.{◌≡◌, ℕ, zero, suc, ◌≤◌, Bool, List, length, take, Result, Ok, Err, refl, sym, subst, arith}
-use Rattle.std.proofs.lemmas.List.{length-take}
+-- The spans of all events stand at places of the text, where those of the tokens do, in order.
+use Rattle.std.proofs.Common.{◌≡◌, ℕ, zero, suc, Bool, List, length, Result, Ok, Err, refl, sym, subst}
 use Rattle.std.proofs.lemmas.List.Elements.{All-nil, All-cons}
 use Rattle.saphyr_scalar.specs.declared.scalar.position.Span.{Span}
 use Rattle.saphyr_scalar.specs.declared.scalar.fault.Refusal.{Refusal}
 use Rattle.saphyr_scanner.specs.Seen.{Remaining}
 use Rattle.saphyr_scanner.specs.SpansInOrder.{AreInOrder}
+use Rattle.saphyr_scanner.specs.AtPlaces.{AreAtPlaces}
 use Rattle.saphyr_parser.specs.declared.parser.context.Context.TheVariants.{Block}
 use Rattle.saphyr_parser.specs.declared.parser.state.State.{State}
 use Rattle.saphyr_parser.specs.declared.parser.state.State.TheVariants as state
@@ -69,20 +69,12 @@ all_within : (text : List ℕ) (m : Machine) → Stands text m → HasSpansIn te
 unfolding remaining
 all_within text m s = runs (suc (size m)) text m s
 
--- the tokens of a parser at its start give events with spans within the text
-pub spans_within : (text : List ℕ) (tokens : Remaining) (keep : Bool) → AreInOrder (length text) 0 tokens.pieces → HasSpansIn text (to_come (keeping_tags keep (at_start tokens)))
-spans_within text tokens keep h = all_within text _ (record { place = tt; ahead = record { pieces = h; places = tt } })
+-- the tokens of a parser at its start give events with spans in the text
+pub spans_in : (text : List ℕ) (tokens : Remaining) (keep : Bool) → AreInOrder (length text) 0 tokens.pieces → AreAtPlaces text tokens.pieces → HasSpansIn text (to_come (keeping_tags keep (at_start tokens)))
+spans_in text tokens keep h a = all_within text _ (record { place = tt; ahead = record { pieces = h; at = a; places = tt } })
 
 -- ## Parsers
 
 -- a parser that stands at the start of such tokens
-pub parser_spans_within : (text : List ℕ) (tokens : Remaining) (c : Cursor) → c ≡ at_start tokens → AreInOrder (length text) 0 tokens.pieces → (keep : Bool) → HasSpansIn text (to_come (keeping_tags keep c))
-parser_spans_within text tokens c is h keep = subst (λ (x : Cursor). HasSpansIn text (to_come (keeping_tags keep x))) (sym is) (spans_within text tokens keep h)
-
--- the spans lie within a longer text too
-within_longer : (text k : ℕ) (a : Answer) → text ≤ k → HasSpansIn text a → HasSpansWithin k a
-within_longer text k a l h = λ i d b. let w = h i d b in (w.0, let end = w.1 in omega (arith, l, end))
-
--- the spans of a parser of which no more than a beginning of the text is taken
-pub within_whole : (bound : ℕ) (value read : List ℕ) (c : Cursor) → read ≡ take bound value → ((keep : Bool) → HasSpansWithin (length read) (to_come (keeping_tags keep c))) → (keep : Bool) → HasSpansWithin (length value) (to_come (keeping_tags keep c))
-within_whole bound value read c same h keep = within_longer (length read) (length value) (to_come (keeping_tags keep c)) (let short = length-take bound value in rw same (omega (arith, short))) (h keep)
+pub parser_spans_in : (text : List ℕ) (tokens : Remaining) (c : Cursor) → c ≡ at_start tokens → AreInOrder (length text) 0 tokens.pieces → AreAtPlaces text tokens.pieces → (keep : Bool) → HasSpansIn text (to_come (keeping_tags keep c))
+parser_spans_in text tokens c is h a keep = subst (λ (x : Cursor). HasSpansIn text (to_come (keeping_tags keep x))) (sym is) (spans_in text tokens keep h a)

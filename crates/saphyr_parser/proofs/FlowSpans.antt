@@ -1,5 +1,5 @@
--- Each step inside a flow collection gives an event whose span lies within the text.
-use Rattle.std.proofs.Common.{ℕ, ◌≤◌, arith, List, length}
+-- Each step inside a flow collection gives an event whose span stands at places of the text.
+use Rattle.std.proofs.Common.{ℕ, arith, List}
 use Rattle.saphyr_scalar.specs.declared.scalar.position.Marker.{Marker}
 use Rattle.saphyr_scalar.specs.declared.scalar.position.Span.{Span}
 use Rattle.saphyr_scanner.specs.Tokens.{Kind, FlowSequenceEnd, FlowMappingEnd, FlowEntry, Key, Value}
@@ -8,8 +8,9 @@ use Rattle.saphyr_parser.specs.declared.parser.context.Context.TheVariants.{Flow
 use Rattle.saphyr_parser.specs.declared.parser.state.State.TheVariants as state
 use Rattle.saphyr_parser.specs.Machine.{Machine}
 use Rattle.saphyr_parser.specs.FlowSteps.{entry_at, first_entry, other_entry_at, other_entry, pair_key_at, pair_key, pair_value_node_at, pair_value_node, pair_value_at, pair_value, pair_end, key_node_at, key_node, pair_at, first_pair, pair_behind_comma, other_pair_at, other_pair, value_node_at, value_node, mapping_value_at, mapping_value, empty_value}
+use Rattle.saphyr_scanner.specs.TokensTaken.{IsPlaceOf}
 use Rattle.saphyr_parser.specs.SpansWithin.{IsIn}
-use Rattle.saphyr_parser.proofs.Spans.{IsAhead, IsTaken, Keeps, gives, refuses, taken, end_in_text, own_span, entered, left, leaves_out}
+use Rattle.saphyr_parser.proofs.Spans.{IsAhead, IsTaken, Keeps, gives, refuses, taken, own_span, entered, left, leaves_out}
 use Rattle.saphyr_parser.proofs.NodeSpans.{inside_keeps}
 
 -- ## Sequences
@@ -45,9 +46,9 @@ unfolding pair_key
 pair_key_keeps text low m a = taken text low m _ a (λ t m k. pair_keys_at text low t.kind t m k)
 
 pair_value_nodes_at : (text : List ℕ) (low : ℕ) (kind : Kind) (t : Piece) (m : Machine) → IsTaken text low t m → Keeps text (pair_value_node_at kind t m)
-pair_value_nodes_at text low FlowEntry t m k = leaves_out text low t (state.FlowSequenceEntryMappingEnd t.span.end) t.span m (end_in_text k) (own_span k) k
-pair_value_nodes_at text low FlowSequenceEnd t m k = leaves_out text low t (state.FlowSequenceEntryMappingEnd t.span.end) t.span m (end_in_text k) (own_span k) k
-pair_value_nodes_at text low _ t m k = inside_keeps text low (state.FlowSequenceEntryMappingEnd t.span.end) Flow t m (end_in_text k) k
+pair_value_nodes_at text low FlowEntry t m k = leaves_out text low t (state.FlowSequenceEntryMappingEnd t.span.end) t.span m k.to (own_span k) k
+pair_value_nodes_at text low FlowSequenceEnd t m k = leaves_out text low t (state.FlowSequenceEntryMappingEnd t.span.end) t.span m k.to (own_span k) k
+pair_value_nodes_at text low _ t m k = inside_keeps text low (state.FlowSequenceEntryMappingEnd t.span.end) Flow t m k.to k
 
 pair_value_nodes : (text : List ℕ) (low : ℕ) (m : Machine) → IsAhead text low m → Keeps text (pair_value_node m)
 unfolding pair_value_node
@@ -55,15 +56,15 @@ pair_value_nodes text low m a = taken text low m _ a (λ t m k. pair_value_nodes
 
 pair_values_at : (text : List ℕ) (low : ℕ) (kind : Kind) (t : Piece) (m : Machine) → IsTaken text low t m → Keeps text (pair_value_at kind t m)
 pair_values_at text low Value t m k = pair_value_nodes text t.span.end.index m k.behind
-pair_values_at text low _ t m k = leaves_out text low t (state.FlowSequenceEntryMappingEnd t.span.end) t.span m (end_in_text k) (own_span k) k
+pair_values_at text low _ t m k = leaves_out text low t (state.FlowSequenceEntryMappingEnd t.span.end) t.span m k.to (own_span k) k
 
 pub pair_value_keeps : (text : List ℕ) (low : ℕ) (m : Machine) → IsAhead text low m → Keeps text (pair_value m)
 unfolding pair_value
 pair_value_keeps text low m a = taken text low m _ a (λ t m k. pair_values_at text low t.kind t m k)
 
-pub pair_end_keeps : (text : List ℕ) (low : ℕ) (place : Marker) (m : Machine) → place.index ≤ text → IsAhead text low m → Keeps text (pair_end place m)
+pub pair_end_keeps : (text : List ℕ) (low : ℕ) (place : Marker) (m : Machine) → IsPlaceOf text place → IsAhead text low m → Keeps text (pair_end place m)
 unfolding pair_end
-pair_end_keeps text low place m l a = gives text _ (omega arith, l) (entered state.FlowSequenceEntry tt a)
+pair_end_keeps text low place m l a = gives text _ (omega arith, l, l) (entered state.FlowSequenceEntry tt a)
 
 -- ## Mappings
 

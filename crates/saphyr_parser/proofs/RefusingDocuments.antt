@@ -224,7 +224,7 @@ alive text m (inr f) n = f
 
 delivers : (text : List ℕ) (r : Result Told Refusal) (go : Machine → Answer) → MayEnd (IsPlaceOf text) r → ((m : Machine) → IsOverOr text m → HasPlaceIn text (go m).fault) → HasPlaceIn text (deliver r go).fault
 delivers text (Ok x) go h k = k x.machine h
-delivers text (Err f) go h k = h
+delivers text (Err f) go h k = (h, (f.text, refl))
 
 run_refuses : (text : List ℕ) (n : ℕ) (m : Machine) → IsOverOr text m → HasPlaceIn text (run n m).fault
 unfolding step
@@ -233,7 +233,7 @@ run_refuses text (suc n) m f = unless_over text m.state _ (λ o. delivers text (
 
 start_all : (text : List ℕ) (ts : List Piece) → AreAtPlaces text ts → StartAt (IsPlaceOf text) ts
 start_all text [] a = tt
-start_all text (t ∷ ts) a = (a.0, start_all text ts a.1)
+start_all text (t ∷ ts) a = (a.0.0, start_all text ts a.1)
 
 pub refused_at : (text : List ℕ) (tokens : Remaining) (keep : Bool) → AreAtPlaces text tokens.pieces → AreEnded (IsPlaceOf text) tokens.refusal tokens.pieces → HasPlaceIn text (to_come (keeping_tags keep (at_start tokens))).fault
 unfolding remaining

@@ -20,7 +20,7 @@ use Rattle.saphyr_parser.specs.Machine.{Machine, Told}
 use Rattle.saphyr_parser.specs.Steps.{step, step_at}
 use Rattle.saphyr_parser.specs.Answer.{Answer, none, before, ending_of, failed, deliver, remaining, size}
 use Rattle.saphyr_parser.specs.Cursor.{at_start, keeping_tags, to_come}
-use Rattle.saphyr_parser.specs.EventsTaken.{IsAllUnless}
+use Rattle.saphyr_parser.specs.EventsTaken.{IsAllUnless, IsCut}
 use Rattle.saphyr_parser.specs.WellFormed.{AreWellFormed}
 use Rattle.saphyr_parser.specs.Begins.{BeginsSomeForest}
 use Rattle.saphyr_parser.proofs.Telling.{Memory}
@@ -37,7 +37,7 @@ use Rattle.saphyr_parser.proofs.BlockTurns as block
 use Rattle.saphyr_parser.proofs.DocumentTurns.{Over, Moves, moves}
 use Rattle.saphyr_parser.proofs.DocumentTurns as document
 use Rattle.saphyr_parser.proofs.DocumentEndTurns as behind
-use Rattle.saphyr_parser.proofs.Completions.{Completion, completed, quiet_events, quiet_anchors}
+use Rattle.saphyr_parser.proofs.Completions.{Completion, completed, quiet_events, some_events, quiet_anchors}
 
 -- ## Each step
 
@@ -93,7 +93,7 @@ pub record Finishes (s : State) (ss : List State) (ts : List Piece) (e : Memory)
   pub places : HaveTokens a.events read
   pub all_read : IsAllUnless a.fault unread
   pub all_expected : IsAllUnless a.fault expected
-  pub all_given : IsAllUnless a.fault missing
+  pub all_given : IsCut a.fault missing
 
 stops : (s : State) (ss : List State) (ts : List Piece) (e : Memory) (f : Refusal) → IsAlive s ss → Finishes s ss ts e (failed (ending_of f))
 stops s ss ts e f a =
@@ -112,7 +112,7 @@ stops s ss ts e f a =
       places = taking.nothing [];
       all_read = tt;
       all_expected = tt;
-      all_given = tt;
+      all_given = some_events c.parts e c.quiet c.some;
     }
 
 joined : (part : Part) (ps : List Part) (e : Memory) (w : Happening) (es : List Happening) → event_in e part ≡ Some w → events_in (after part e) ps ≡ Some es → events_in e (part ∷ ps) ≡ Some (w ∷ es)

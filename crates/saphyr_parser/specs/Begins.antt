@@ -8,10 +8,10 @@ use Rattle.saphyr_scanner.specs.TokenGrammar.{Yields}
 use Rattle.saphyr_parser.specs.Events.{Happening}
 use Rattle.saphyr_parser.specs.ForestEvents.{events}
 use Rattle.saphyr_parser.specs.Answer.{Answer}
-use Rattle.saphyr_parser.specs.EventsTaken.{IsAllUnless, HaveTokens}
+use Rattle.saphyr_parser.specs.EventsTaken.{IsAllUnless, IsCut, HaveTokens}
 use Rattle.saphyr_parser.specs.Exactly.{kinds}
 
--- The answer's events are a beginning of the forest's, and all of them where no fault ends them. The tokens begin as the
+-- The answer's events are a beginning of the forest's: all of them where no fault ends them, and with a fault not all. The tokens begin as the
 -- forest's do, and are all of them where there is no fault. Each event has its tokens, and their span.
 pub record IsBeginningOf (forest : Forest) (keep : Bool) (pieces : List Piece) (a : Answer) : Type 0 where
   pub read : List Piece
@@ -24,7 +24,7 @@ pub record IsBeginningOf (forest : Forest) (keep : Bool) (pieces : List Piece) (
   pub places : HaveTokens a.events read
   pub all_read : IsAllUnless a.fault unread
   pub all_expected : IsAllUnless a.fault expected
-  pub all_given : IsAllUnless a.fault missing
+  pub all_given : IsCut a.fault missing
 
 abbrev pub BeginsSomeForest : Bool → Remaining → Answer → Type 0
 BeginsSomeForest keep tokens a = (forest : Forest) × IsBeginningOf forest keep tokens.pieces a

@@ -1,7 +1,9 @@
 -- Which events are taken from a text (YAML 1.2.2, chapter 3): those of a forest, or a beginning of them and one fault,
 -- where tokens that are taken from the text are those of the forest, or a beginning of them.
-use Rattle.std.specs.Prelude.{◌≡◌, ◌⊎◌, ℕ, Bool, true, List, [], ◌∷◌, ◌++◌, map, Option, Some, None}
+use Rattle.std.specs.Prelude.{◌≡◌, ◌≢◌, ◌⊎◌, ℕ, Bool, true, List, [], ◌∷◌, ◌++◌, map, Option, Some, None}
 use Rattle.saphyr_scalar.specs.declared.scalar.position.Span.{Span}
+use Rattle.saphyr_scalar.specs.declared.scalar.fault.FaultText.{FaultText}
+use Rattle.saphyr_scalar.specs.Texts.{fault_text}
 use Rattle.saphyr_scalar.specs.declared.scalar.style.ScalarStyle.TheVariants.{Plain}
 use Rattle.saphyr_scanner.specs.Forest.{Forest}
 use Rattle.saphyr_scanner.specs.Tokens as tokens
@@ -91,12 +93,22 @@ abbrev pub IsAllUnless : {X : Type 0} → Option Ending → List X → Type 0
 IsAllUnless None more = more ≡ []
 IsAllUnless (Some fault) more = Unit {0}
 
--- Where the events end with a refusal, its place is one of the text. Want of memory has none.
+-- with no fault, all; with one, not all: behind the end of the stream, which is the last event of a forest, no fault stands
+abbrev pub IsCut : {X : Type 0} → Option Ending → List X → Type 0
+IsCut None more = more ≡ []
+IsCut (Some fault) more = more ≢ []
+
+-- the text of one of the faults that there are
+abbrev pub IsFaultText : List ℕ → Type 0
+IsFaultText info = (fault : FaultText) × (info ≡ fault_text fault)
+
+-- Where the events end with a refusal, its place is one of the text, and it is one of those that there are. Want of memory
+-- has no place.
 abbrev pub HasPlaceIn : List ℕ → Option Ending → Type 0
-HasPlaceIn text (Some (Refused place info)) = IsPlaceOf text place
+HasPlaceIn text (Some (Refused place info)) = IsPlaceOf text place × IsFaultText info
 HasPlaceIn text _ = Unit {0}
 
--- The answer is a beginning of the forest's events, and all of them where no fault ends it. Tokens that are taken from
+-- The answer is a beginning of the forest's events: all of them where no fault ends it, and with a fault not all. Tokens that are taken from
 -- the text begin as the forest's do, and are all of them where there is no fault.
 pub record IsTakenBy (forest : Forest) (keep : Bool) (text : List ℕ) (a : Answer) : Type 0 where
   pub tokens : Remaining
@@ -111,7 +123,7 @@ pub record IsTakenBy (forest : Forest) (keep : Bool) (text : List ℕ) (a : Answ
   pub places : HaveTokens a.events read
   pub all_read : IsAllUnless a.fault unread
   pub all_expected : IsAllUnless a.fault expected
-  pub all_given : IsAllUnless a.fault missing
+  pub all_given : IsCut a.fault missing
   pub refused_at : HasPlaceIn text a.fault
 
 abbrev pub AreTaken : Bool → List ℕ → Answer → Type 0

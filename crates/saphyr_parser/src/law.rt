@@ -24,7 +24,7 @@ ghost use Rattle.saphyr_parser.specs.Premises.{DocumentMarker, GivesFirst, IsClo
 ghost use Rattle.saphyr_parser.specs.Promises.{ReadsClosedLayout, ReadsFlowLayout, ReadsLayout, TakesEvents};
 ghost use Rattle.saphyr_scalar.specs.Spaces.{IsLineRest};
 ghost use Rattle.saphyr_scanner.specs.Layout.{IsFlowLayoutText, IsLayoutText, most_open};
-ghost use Rattle.saphyr_parser.specs.SpansWithin.{HasSpansWithin};
+ghost use Rattle.saphyr_parser.specs.SpansWithin.{HasSpansIn};
 ghost use Rattle.saphyr_parser.specs.Begins.{BeginsSomeForest};
 ghost use Rattle.saphyr_scanner.specs.AtPlaces.{AreAtPlaces};
 ghost use Rattle.saphyr_scanner.specs.Ends.{EndsWithStream};
@@ -91,10 +91,10 @@ pub fn gives_json()
     saphyr_scanner::law::tells_json_tokens();
 }
 
-/// Where the spans of tokens stand one behind the other within a text, each event's span has its start at or
-/// before its end, within that text.
-pub fn keeps_spans_within()
-    ensures { (n : ℕ) (tokens : Remaining) (keep : Bool) → AreInOrder n 0 tokens.pieces → HasSpansWithin n (to_come (keeping_tags keep (at_start tokens))) }
+/// Where the spans of tokens stand one behind the other at places of a text, each event's span has its start at
+/// or before its end, and both are places of that text.
+pub fn keeps_spans_in()
+    ensures { (text : List ℕ) (tokens : Remaining) (keep : Bool) → AreInOrder (length text) 0 tokens.pieces → AreAtPlaces text tokens.pieces → HasSpansIn text (to_come (keeping_tags keep (at_start tokens))) }
 {}
 
 /// With `multi`, `load` hands over all events that are still to come, as iteration gives them, and meets

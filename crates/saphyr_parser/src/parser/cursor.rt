@@ -4,7 +4,7 @@ ghost use Rattle.saphyr_input.specs.Listed.{Lists, Listed};
 ghost use Rattle.saphyr_scanner.specs.Remaining.{scan};
 ghost use Rattle.saphyr_parser.specs.Cursor as spec;
 ghost use Rattle.saphyr_parser.specs.Complete.{ReadsJson};
-ghost use Rattle.saphyr_parser.specs.SpansWithin.{HasSpansWithin};
+ghost use Rattle.saphyr_parser.specs.SpansWithin.{HasSpansIn};
 ghost use Rattle.saphyr_parser.specs.Promises.{HasNoReturn, ReadsFlowLayout, TakesEvents};
 
 use crate::law::{gives_json, takes_all_events};
@@ -17,7 +17,8 @@ use saphyr_input::{BufferedInput, StrInput};
 use saphyr_scalar::Span;
 use saphyr_scanner::Scanner;
 use saphyr_scanner::law::{
-    bounds_tokens, ends_with_the_stream, scans_each_flow_text, scans_each_json,
+    bounds_tokens, ends_with_the_stream, places_taken_tokens, scans_each_flow_text,
+    scans_each_json,
 };
 use std::alloc::{AllocError, Global};
 use std::marker::Model;
@@ -65,7 +66,7 @@ impl<'input, T: Input> Parser<'input, T> {
         ensures decided { result ≡ spec.at_start (scan 4294967295 (T.rest src)) }
         ensures complete { ReadsJson 4294967295 (T.rest src) result }
         ensures flow { HasNoReturn (T.rest src) → ReadsFlowLayout 4294967295 (T.rest src) result }
-        ensures spans { (keep : Bool) → HasSpansWithin (length (T.rest src)) (spec.to_come (spec.keeping_tags keep result)) }
+        ensures spans { (keep : Bool) → HasSpansIn (T.rest src) (spec.to_come (spec.keeping_tags keep result)) }
         ensures taken { TakesEvents (T.rest src) result }
     {
         Parser::with_limit(alloc, src, MOST_CHARACTERS)
@@ -76,7 +77,7 @@ impl<'input, T: Input> Parser<'input, T> {
         ensures decided { result ≡ spec.at_start (scan limit (T.rest src)) }
         ensures complete { ReadsJson limit (T.rest src) result }
         ensures flow { limit ≤ 4294967295 → HasNoReturn (T.rest src) → ReadsFlowLayout limit (T.rest src) result }
-        ensures spans { (keep : Bool) → HasSpansWithin (length (T.rest src)) (spec.to_come (spec.keeping_tags keep result)) }
+        ensures spans { (keep : Bool) → HasSpansIn (T.rest src) (spec.to_come (spec.keeping_tags keep result)) }
         ensures taken { limit ≤ 4294967295 → TakesEvents (T.rest src) result }
     {
         scans_each_json();
@@ -85,6 +86,7 @@ impl<'input, T: Input> Parser<'input, T> {
         ends_with_the_stream();
         bounds_tokens();
         takes_all_events();
+        places_taken_tokens();
         Parser {
             reader: Reader::new(alloc, Scanner::new(alloc, src, limit)),
         }
@@ -176,7 +178,7 @@ impl<'input> Parser<'input, StrInput<'input>> {
         ensures decided { result ≡ spec.at_start (scan 4294967295 (chars value.now)) }
         ensures complete { ReadsJson 4294967295 (chars value.now) result }
         ensures flow { HasNoReturn (chars value.now) → ReadsFlowLayout 4294967295 (chars value.now) result }
-        ensures spans { (keep : Bool) → HasSpansWithin (length (chars value.now)) (spec.to_come (spec.keeping_tags keep result)) }
+        ensures spans { (keep : Bool) → HasSpansIn (chars value.now) (spec.to_come (spec.keeping_tags keep result)) }
         ensures taken { TakesEvents (chars value.now) result }
     {
         Parser::new(alloc, StrInput::new(value))
@@ -194,7 +196,7 @@ impl<'input, I: Iterator<Item = char>> Parser<'input, BufferedInput<I>> {
         ensures decided { (text : List ℕ) → Lists I.can_next I.next_gives iter text → IfOk result (λ parser. parser ≡ spec.at_start (scan 4294967295 (take 4294967296 text))) }
         ensures complete { (text : List ℕ) → Lists I.can_next I.next_gives iter text → IfOk result (λ parser. ReadsJson 4294967295 text parser) }
         ensures flow { (text : List ℕ) → Lists I.can_next I.next_gives iter text → IfOk result (λ parser. HasNoReturn text → ReadsFlowLayout 4294967295 text parser) }
-        ensures spans { (text : List ℕ) → Lists I.can_next I.next_gives iter text → IfOk result (λ parser. (keep : Bool) → HasSpansWithin (length text) (spec.to_come (spec.keeping_tags keep parser))) }
+        ensures spans { (text : List ℕ) → Lists I.can_next I.next_gives iter text → IfOk result (λ parser. (keep : Bool) → HasSpansIn (take 4294967296 text) (spec.to_come (spec.keeping_tags keep parser))) }
         ensures taken { (text : List ℕ) → Lists I.can_next I.next_gives iter text → IfOk result (λ parser. TakesEvents (take 4294967296 text) parser) }
     {
         Ok(Parser::new(alloc, BufferedInput::new(alloc, iter)?))

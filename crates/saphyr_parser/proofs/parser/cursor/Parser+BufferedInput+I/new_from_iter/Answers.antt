@@ -1,7 +1,8 @@
-use Rattle.std.proofs.Common.{ℕ, List, subst, arith}
+use Rattle.std.proofs.Common.{ℕ, Bool, List, subst, arith}
+use Rattle.saphyr_parser.specs.Cursor.{keeping_tags, to_come}
+use Rattle.saphyr_parser.specs.SpansWithin.{HasSpansIn}
 use Rattle.saphyr_parser.specs.Complete.{ReadsJson}
 use Rattle.saphyr_parser.specs.Promises.{HasNoReturn, ReadsFlowLayout, TakesEvents}
-use Rattle.saphyr_parser.proofs.EventSpans.{within_whole}
 use Rattle.saphyr_parser.proofs.WithinLimit.{reads_whole, reads_whole_flow}
 use Rattle.saphyr_parser.proofs.parser.cursor.Parser+BufferedInput+I.new_from_iter.Goals as goal
 
@@ -9,7 +10,7 @@ pub returns-clause-complete : goal.returns-clause-complete
 returns-clause-complete g c = λ text lists. reads_whole 4294967295 4294967296 text c.new-2.result (omega arith) (subst (λ (cs : List ℕ). ReadsJson 4294967295 cs c.new-2.result) (c.in_ok-new.ensures.rest text lists) c.new-2.ensures.complete)
 
 pub returns-clause-spans : goal.returns-clause-spans
-returns-clause-spans g c = λ text lists. within_whole 4294967296 text _ c.new-2.result (c.in_ok-new.ensures.rest text lists) c.new-2.ensures.spans
+returns-clause-spans g c = λ text lists. subst (λ (cs : List ℕ). (keep : Bool) → HasSpansIn cs (to_come (keeping_tags keep c.new-2.result))) (c.in_ok-new.ensures.rest text lists) c.new-2.ensures.spans
 
 pub returns-clause-taken : goal.returns-clause-taken
 returns-clause-taken g c = λ text lists. subst (λ (cs : List ℕ). TakesEvents cs c.new-2.result) (c.in_ok-new.ensures.rest text lists) c.new-2.ensures.taken

@@ -2,7 +2,7 @@ use Rattle.std.proofs.Common.{ap, ◌∙◌}
 use Rattle.saphyr_parser.specs.Cursor.{at_start}
 use Rattle.saphyr_parser.proofs.Completed.{completed}
 use Rattle.saphyr_parser.proofs.EventsTakenOf.{parser_takes}
-use Rattle.saphyr_parser.proofs.EventSpans.{parser_spans_within}
+use Rattle.saphyr_parser.proofs.EventSpans.{parser_spans_in}
 use Rattle.saphyr_parser.proofs.ReadsEachText.{reads_text}
 use Rattle.saphyr_scanner.specs.Layout.{IsFlowLayoutText, most_open}
 use Rattle.saphyr_parser.proofs.parser.cursor.Parser.with_limit.Goals as goal
@@ -11,7 +11,7 @@ pub returns-clause-complete : goal.returns-clause-complete
 returns-clause-complete g c = completed c.scans_each_json.ensures c.gives_json.ensures.parser _ _ _ (c.new-2.ensures ∙ ap at_start c.new.ensures.tokens)
 
 pub returns-clause-spans : goal.returns-clause-spans
-returns-clause-spans g c = parser_spans_within _ c.new.result _ c.new-2.ensures c.new.ensures.spans
+returns-clause-spans g c = parser_spans_in _ c.new.result _ c.new-2.ensures c.new.ensures.spans (let t = c.new.ensures.taken in c.places_taken_tokens.ensures _ _ t.0 t.1)
 
 pub returns-clause-taken : goal.returns-clause-taken
 returns-clause-taken g c = λ few. parser_takes c.takes_all_events.ensures _ _ c.new.result _ c.new-2.ensures c.new.ensures.tokens c.new.ensures.taken (c.ends_with_the_stream.ensures _ _) (c.bounds_tokens.ensures _ _) few

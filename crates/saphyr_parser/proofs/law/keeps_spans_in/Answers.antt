@@ -1,0 +1,5 @@
+use Rattle.saphyr_parser.proofs.EventSpans.{spans_in}
+use Rattle.saphyr_parser.proofs.law.keeps_spans_in.Goals as goal
+
+pub returns : goal.returns
+returns c = spans_in
