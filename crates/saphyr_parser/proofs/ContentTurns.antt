@@ -65,7 +65,7 @@ enough_for p front own l = let a = length-append front own in omega (arith, l, a
 
 -- ## Scalars
 
-pub leaf_goes : (p : forest.Properties) (q : Properties) (front own : List Piece) (style : ScalarStyle) (value : List ℕ) (span : Span) (c : grammar.Context) (ts : List Piece) (r : Option Refusal) (s : State) (ss : List State) (e : Memory) → Fronted e p q front → IsScalar p style value (kinds own) → IsAlive s ss → HasOwn (front ++ own) (Scalar (encode_utf8_all value) style q.anchor q.tag) span → Goes (Then (IsNodeOf c) (Follows s ss)) e (front ++ (own ++ ts)) (record { what = Scalar (encode_utf8_all value) style q.anchor q.tag; span = span; machine = machine ts r s ss (noted p.anchor e) })
+pub leaf_goes : (p : forest.Properties) (q : Properties) (front own : List Piece) (style : ScalarStyle) (value : List ℕ) (span : Span) (c : grammar.Context) (ts : List Piece) (r : Option Refusal) (s : State) (ss : List State) (e : Memory) → Fronted e p q front → IsScalar p style value (kinds own) → IsAlive s ss → HasOwn (front ++ own) (Scalar (encode_utf8_all value) style q.anchor q.tag) span ts → Goes (Then (IsNodeOf c) (Follows s ss)) e (front ++ (own ++ ts)) (record { what = Scalar (encode_utf8_all value) style q.anchor q.tag; span = span; machine = machine ts r s ss (noted p.anchor e) })
 leaf_goes p q front own style value span c ts r s ss e h i a o = record {
   used = front ++ own;
   part = Leaf p style value;
@@ -105,7 +105,7 @@ split front t u = ap (λ (l : List Kind). l ++ u) (kinds_append front (t ∷ [])
 pub taken_one : (front : List Piece) (t : Piece) (ts : List Piece) → front ++ t ∷ ts ≡ (front ++ t ∷ []) ++ ts
 taken_one front t ts = sym (append_assoc front (t ∷ []) ts)
 
-pub flow_sequence_goes : (t : Piece) (p : forest.Properties) (q : Properties) (front : List Piece) (span : Span) (c : grammar.Context) (ts : List Piece) (r : Option Refusal) (s : State) (ss : List State) (e : Memory) → t.kind ≡ tokens.FlowSequenceStart → Fronted e p q front → IsAlive s ss → HasOwn (front ++ t ∷ []) (SequenceStart q.anchor q.tag) span → Goes (Then (IsNodeOf c) (Follows s ss)) e (front ++ t ∷ ts) (record { what = SequenceStart q.anchor q.tag; span = span; machine = machine ts r state.FlowSequenceFirstEntry (s ∷ ss) (noted p.anchor e) })
+pub flow_sequence_goes : (t : Piece) (p : forest.Properties) (q : Properties) (front : List Piece) (span : Span) (c : grammar.Context) (ts : List Piece) (r : Option Refusal) (s : State) (ss : List State) (e : Memory) → t.kind ≡ tokens.FlowSequenceStart → Fronted e p q front → IsAlive s ss → HasOwn (front ++ t ∷ []) (SequenceStart q.anchor q.tag) span ts → Goes (Then (IsNodeOf c) (Follows s ss)) e (front ++ t ∷ ts) (record { what = SequenceStart q.anchor q.tag; span = span; machine = machine ts r state.FlowSequenceFirstEntry (s ∷ ss) (noted p.anchor e) })
 flow_sequence_goes t p q front span c ts r s ss e k h a o = record {
   used = front ++ t ∷ [];
   part = OpenSequence p;
@@ -118,7 +118,7 @@ flow_sequence_goes t p q front span c ts r s ss e k h a o = record {
   makes = λ ks ps f st. around FirstEntries (Follows s ss) (IsNodeOf c) (kinds (front ++ t ∷ [])) (tokens.FlowSequenceEnd ∷ []) (OpenSequence p) CloseSequence ks ps (λ u w g. (forest.Seq p g.0, (kinds front, tokens.FlowSequenceStart ∷ (u ++ tokens.FlowSequenceEnd ∷ []), h.are, inl (u, g.1, refl), split front t (u ++ tokens.FlowSequenceEnd ∷ []) ∙ ap (λ (y : Kind). kinds front ++ y ∷ (u ++ tokens.FlowSequenceEnd ∷ [])) k), ap (λ (l : List Part). OpenSequence p ∷ (l ++ CloseSequence ∷ [])) g.2)) f;
 }
 
-pub flow_mapping_goes : (t : Piece) (p : forest.Properties) (q : Properties) (front : List Piece) (span : Span) (c : grammar.Context) (ts : List Piece) (r : Option Refusal) (s : State) (ss : List State) (e : Memory) → t.kind ≡ tokens.FlowMappingStart → Fronted e p q front → IsAlive s ss → HasOwn (front ++ t ∷ []) (MappingStart q.anchor q.tag) span → Goes (Then (IsNodeOf c) (Follows s ss)) e (front ++ t ∷ ts) (record { what = MappingStart q.anchor q.tag; span = span; machine = machine ts r state.FlowMappingFirstKey (s ∷ ss) (noted p.anchor e) })
+pub flow_mapping_goes : (t : Piece) (p : forest.Properties) (q : Properties) (front : List Piece) (span : Span) (c : grammar.Context) (ts : List Piece) (r : Option Refusal) (s : State) (ss : List State) (e : Memory) → t.kind ≡ tokens.FlowMappingStart → Fronted e p q front → IsAlive s ss → HasOwn (front ++ t ∷ []) (MappingStart q.anchor q.tag) span ts → Goes (Then (IsNodeOf c) (Follows s ss)) e (front ++ t ∷ ts) (record { what = MappingStart q.anchor q.tag; span = span; machine = machine ts r state.FlowMappingFirstKey (s ∷ ss) (noted p.anchor e) })
 flow_mapping_goes t p q front span c ts r s ss e k h a o = record {
   used = front ++ t ∷ [];
   part = OpenMapping p;
@@ -131,7 +131,7 @@ flow_mapping_goes t p q front span c ts r s ss e k h a o = record {
   makes = λ ks ps f st. around FirstPairs (Follows s ss) (IsNodeOf c) (kinds (front ++ t ∷ [])) (tokens.FlowMappingEnd ∷ []) (OpenMapping p) CloseMapping ks ps (λ u w g. (forest.Map p g.0, (kinds front, tokens.FlowMappingStart ∷ (u ++ tokens.FlowMappingEnd ∷ []), h.are, inl (u, g.1, refl), split front t (u ++ tokens.FlowMappingEnd ∷ []) ∙ ap (λ (y : Kind). kinds front ++ y ∷ (u ++ tokens.FlowMappingEnd ∷ [])) k), ap (λ (l : List Part). OpenMapping p ∷ (l ++ CloseMapping ∷ [])) g.2)) f;
 }
 
-pub block_sequence_goes : (t : Piece) (p : forest.Properties) (q : Properties) (front : List Piece) (span : Span) (c : grammar.Context) (ts : List Piece) (r : Option Refusal) (s : State) (ss : List State) (e : Memory) → t.kind ≡ tokens.BlockSequenceStart → grammar.AllowsBlock c → Fronted e p q front → IsAlive s ss → HasOwn (front ++ t ∷ []) (SequenceStart q.anchor q.tag) span → Goes (Then (IsNodeOf c) (Follows s ss)) e (front ++ t ∷ ts) (record { what = SequenceStart q.anchor q.tag; span = span; machine = machine ts r state.BlockSequenceEntry (s ∷ ss) (noted p.anchor e) })
+pub block_sequence_goes : (t : Piece) (p : forest.Properties) (q : Properties) (front : List Piece) (span : Span) (c : grammar.Context) (ts : List Piece) (r : Option Refusal) (s : State) (ss : List State) (e : Memory) → t.kind ≡ tokens.BlockSequenceStart → grammar.AllowsBlock c → Fronted e p q front → IsAlive s ss → HasOwn (front ++ t ∷ []) (SequenceStart q.anchor q.tag) span ts → Goes (Then (IsNodeOf c) (Follows s ss)) e (front ++ t ∷ ts) (record { what = SequenceStart q.anchor q.tag; span = span; machine = machine ts r state.BlockSequenceEntry (s ∷ ss) (noted p.anchor e) })
 block_sequence_goes t p q front span c ts r s ss e k b h a o = record {
   used = front ++ t ∷ [];
   part = OpenSequence p;
@@ -144,7 +144,7 @@ block_sequence_goes t p q front span c ts r s ss e k b h a o = record {
   makes = λ ks ps f st. around BlockEntries (Follows s ss) (IsNodeOf c) (kinds (front ++ t ∷ [])) (tokens.BlockEnd ∷ []) (OpenSequence p) CloseSequence ks ps (λ u w g. (forest.Seq p g.0, (kinds front, tokens.BlockSequenceStart ∷ (u ++ tokens.BlockEnd ∷ []), h.are, inr (inl (b, (u, g.1, refl))), split front t (u ++ tokens.BlockEnd ∷ []) ∙ ap (λ (y : Kind). kinds front ++ y ∷ (u ++ tokens.BlockEnd ∷ [])) k), ap (λ (l : List Part). OpenSequence p ∷ (l ++ CloseSequence ∷ [])) g.2)) f;
 }
 
-pub block_mapping_goes : (t : Piece) (p : forest.Properties) (q : Properties) (front : List Piece) (span : Span) (c : grammar.Context) (ts : List Piece) (r : Option Refusal) (s : State) (ss : List State) (e : Memory) → t.kind ≡ tokens.BlockMappingStart → grammar.AllowsBlock c → Fronted e p q front → IsAlive s ss → HasOwn (front ++ t ∷ []) (MappingStart q.anchor q.tag) span → Goes (Then (IsNodeOf c) (Follows s ss)) e (front ++ t ∷ ts) (record { what = MappingStart q.anchor q.tag; span = span; machine = machine ts r state.BlockMappingKey (s ∷ ss) (noted p.anchor e) })
+pub block_mapping_goes : (t : Piece) (p : forest.Properties) (q : Properties) (front : List Piece) (span : Span) (c : grammar.Context) (ts : List Piece) (r : Option Refusal) (s : State) (ss : List State) (e : Memory) → t.kind ≡ tokens.BlockMappingStart → grammar.AllowsBlock c → Fronted e p q front → IsAlive s ss → HasOwn (front ++ t ∷ []) (MappingStart q.anchor q.tag) span ts → Goes (Then (IsNodeOf c) (Follows s ss)) e (front ++ t ∷ ts) (record { what = MappingStart q.anchor q.tag; span = span; machine = machine ts r state.BlockMappingKey (s ∷ ss) (noted p.anchor e) })
 block_mapping_goes t p q front span c ts r s ss e k b h a o = record {
   used = front ++ t ∷ [];
   part = OpenMapping p;

@@ -36,7 +36,7 @@ pub record Over (F : List Kind → List Part → Type 0) (e : Memory) (k : List 
   pub is_over : x.machine.state ≡ state.End
   pub tells : event_in e part ≡ Some x.what
   pub few : anchors (part ∷ []) ≤ length k
-  pub places : HasOwn k x.what x.span
+  pub places : HasOwn k x.what x.span []
   pub makes : F (kinds k) (part ∷ [])
 
 abbrev pub Moves : (List Kind → List Part → Type 0) → Memory → List Piece → Result Told Refusal → Type 0
@@ -178,7 +178,7 @@ stream_over F t us x e n k w o f = record {
   is_over = o;
   tells = ap (λ v. let y : Option events.Happening = Some v in y) (sym w);
   few = omega arith;
-  places = record { front = t ∷ []; own = []; are = ap (λ (l : List Piece). t ∷ l) n; passed = (subst BelongsToNone (sym k) tt, tt); is_of = subst (λ (v : events.Happening). IsOf v x.span []) (sym w) refl };
+  places = record { front = t ∷ []; own = []; are = ap (λ (l : List Piece). t ∷ l) n; passed = (subst BelongsToNone (sym k) tt, tt); is_of = subst (λ (v : events.Happening). IsOf v x.span [] []) (sym w) refl };
   makes = subst (λ (l : List Kind). F l (CloseStream ∷ [])) (sym (ap (λ (l : List Piece). t.kind ∷ kinds l) n ∙ ap (λ (l : Kind). l ∷ []) k)) f;
 }
 

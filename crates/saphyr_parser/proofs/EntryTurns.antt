@@ -57,5 +57,5 @@ pub closed : (A R : List Kind → List Part → Type 0) (close : List Kind) (clo
 closed A R close closing ks ps a r = put A (Then (Exactly close (closing ∷ [])) R) [] [] (close ++ ks) (closing ∷ ps) a (put (Exactly close (closing ∷ [])) R close (closing ∷ []) ks ps (refl, refl) r)
 
 -- its token
-pub ends : (F : List Kind → List Part → Type 0) (t : Piece) (what : Happening) (closing : Part) (sp : Span) (ts : List Piece) (r : Option Refusal) (x s : State) (ss : List State) (e : Memory) → event_in e closing ≡ Some what → after closing e ≡ e → anchors (closing ∷ []) ≡ 0 → BelongsToNone t.kind → IsOf what sp [] → IsAlive s ss → ((ks : List Kind) (ps : List Part) → Follows s ss ks ps → F (t.kind ∷ ks) (closing ∷ ps)) → Turned F e (t ∷ ts) (told what sp (pop (machine ts r x (s ∷ ss) e)))
+pub ends : (F : List Kind → List Part → Type 0) (t : Piece) (what : Happening) (closing : Part) (sp : Span) (ts : List Piece) (r : Option Refusal) (x s : State) (ss : List State) (e : Memory) → event_in e closing ≡ Some what → after closing e ≡ e → anchors (closing ∷ []) ≡ 0 → BelongsToNone t.kind → IsOf what sp [] ts → IsAlive s ss → ((ks : List Kind) (ps : List Part) → Follows s ss ks ps → F (t.kind ∷ ks) (closing ∷ ps)) → Turned F e (t ∷ ts) (told what sp (pop (machine ts r x (s ∷ ss) e)))
 ends F t what closing sp ts r x s ss e tells same none b o a go = record { used = t ∷ []; part = closing; taken = refl; tells = tells; remembers = sym same; few = omega (arith, none); places = passed_one t what sp b o; alive = a; makes = λ ks ps f c. go ks ps f }

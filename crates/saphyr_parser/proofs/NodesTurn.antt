@@ -53,7 +53,7 @@ indentless_makes p front s ss ks ps h i g b =
       parts_are = ap (λ (l : List Part). OpenSequence p ∷ l) (g.parts_are ∙ ap (λ (l : List Part). g.first ++ l) (g2.parts_are ∙ ap (λ (l : List Part). l ++ g2.second) g2.begins.1) ∙ ap (λ (l : List Part). l ++ (CloseSequence ∷ g2.second)) g.begins.2 ∙ sym (append_assoc (entry_parts g.begins.0) (CloseSequence ∷ []) g2.second));
     }
 
-indentless_goes : (t : Piece) (p : forest.Properties) (q : Properties) (front : List Piece) (span : Span) (ts : List Piece) (r : Option Refusal) (s : State) (ss : List State) (e : Memory) → t.kind ≡ tokens.BlockEntry → IsPairState s → Fronted e p q front → IsAlive s ss → HasOwn front (SequenceStart q.anchor q.tag) span → Goes (Then (IsNodeOf InBlockMapping) (Follows s ss)) e (front ++ t ∷ ts) (record { what = SequenceStart q.anchor q.tag; span = span; machine = machine (t ∷ ts) r state.IndentlessSequenceEntry (s ∷ ss) (noted p.anchor e) })
+indentless_goes : (t : Piece) (p : forest.Properties) (q : Properties) (front : List Piece) (span : Span) (ts : List Piece) (r : Option Refusal) (s : State) (ss : List State) (e : Memory) → t.kind ≡ tokens.BlockEntry → IsPairState s → Fronted e p q front → IsAlive s ss → HasOwn front (SequenceStart q.anchor q.tag) span (t ∷ ts) → Goes (Then (IsNodeOf InBlockMapping) (Follows s ss)) e (front ++ t ∷ ts) (record { what = SequenceStart q.anchor q.tag; span = span; machine = machine (t ∷ ts) r state.IndentlessSequenceEntry (s ∷ ss) (noted p.anchor e) })
 indentless_goes t p q front span ts r s ss e k i h a o = record {
   used = front;
   part = OpenSequence p;
@@ -76,16 +76,16 @@ scalar_turned style text value sp front p q c ts r x s ss e v h b a =
 content_turned : (k : Kind) (sp : Span) (front : List Piece) (p : forest.Properties) (q : Properties) (c : Context) (ts : List Piece) (r : Option Refusal) (x : State) (s : State) (ss : List State) (e : Memory) → IsWellFormed k → Suits c s → Fronted e p q front → StartsAt front sp.start q → IsAlive s ss → Turned (NodeThen c s ss) e (front ++ record { span = sp; kind = k } ∷ ts) (content_at k q c (record { span = sp; kind = k }) (machine ts r x (s ∷ ss) (noted p.anchor e)))
 content_turned (tokens.Scalar style text) sp front p q c ts r x s ss e w z h b a = scalar_turned style text w.0 sp front p q c ts r x s ss e w.1 h b a
 content_turned tokens.FlowSequenceStart sp front p q c ts r x s ss e w z h b a = flow_sequence_goes _ p q front _ (place_of c) ts r s ss e refl h a (whole _ _ _ (inl (inl (content_is tokens.FlowSequenceStart front q (record { span = sp; kind = tokens.FlowSequenceStart }) refl h.shape), content_spans front q (record { span = sp; kind = tokens.FlowSequenceStart }) h.shape b)))
-content_turned tokens.FlowMappingStart sp front p q c ts r x s ss e w z h b a = flow_mapping_goes _ p q front _ (place_of c) ts r s ss e refl h a (whole _ _ _ (inl (inl (content_is tokens.FlowMappingStart front q (record { span = sp; kind = tokens.FlowMappingStart }) refl h.shape), content_spans front q (record { span = sp; kind = tokens.FlowMappingStart }) h.shape b)))
+content_turned tokens.FlowMappingStart sp front p q c ts r x s ss e w z h b a = flow_mapping_goes _ p q front _ (place_of c) ts r s ss e refl h a (whole _ _ _ (inl (content_is tokens.FlowMappingStart front q (record { span = sp; kind = tokens.FlowMappingStart }) refl h.shape), content_spans front q (record { span = sp; kind = tokens.FlowMappingStart }) h.shape b))
 content_turned tokens.BlockSequenceStart sp front p q Flow ts r x s ss e w z h b a = alone_turned _ front p q Flow ts r x s ss e h a
 content_turned tokens.BlockSequenceStart sp front p q Block ts r x s ss e w z h b a = block_sequence_goes _ p q front _ (place_of Block) ts r s ss e refl tt h a (whole _ _ _ (inl (inr (content_is tokens.BlockSequenceStart front q (record { span = sp; kind = tokens.BlockSequenceStart }) refl h.shape), content_spans front q (record { span = sp; kind = tokens.BlockSequenceStart }) h.shape b)))
 content_turned tokens.BlockSequenceStart sp front p q BlockMapping ts r x s ss e w z h b a = block_sequence_goes _ p q front _ (place_of BlockMapping) ts r s ss e refl tt h a (whole _ _ _ (inl (inr (content_is tokens.BlockSequenceStart front q (record { span = sp; kind = tokens.BlockSequenceStart }) refl h.shape), content_spans front q (record { span = sp; kind = tokens.BlockSequenceStart }) h.shape b)))
 content_turned tokens.BlockMappingStart sp front p q Flow ts r x s ss e w z h b a = alone_turned _ front p q Flow ts r x s ss e h a
-content_turned tokens.BlockMappingStart sp front p q Block ts r x s ss e w z h b a = block_mapping_goes _ p q front _ (place_of Block) ts r s ss e refl tt h a (whole _ _ _ (inl (inr (content_is tokens.BlockMappingStart front q (record { span = sp; kind = tokens.BlockMappingStart }) refl h.shape), content_spans front q (record { span = sp; kind = tokens.BlockMappingStart }) h.shape b)))
-content_turned tokens.BlockMappingStart sp front p q BlockMapping ts r x s ss e w z h b a = block_mapping_goes _ p q front _ (place_of BlockMapping) ts r s ss e refl tt h a (whole _ _ _ (inl (inr (content_is tokens.BlockMappingStart front q (record { span = sp; kind = tokens.BlockMappingStart }) refl h.shape), content_spans front q (record { span = sp; kind = tokens.BlockMappingStart }) h.shape b)))
+content_turned tokens.BlockMappingStart sp front p q Block ts r x s ss e w z h b a = block_mapping_goes _ p q front _ (place_of Block) ts r s ss e refl tt h a (whole _ _ _ (inr (inl (content_is tokens.BlockMappingStart front q (record { span = sp; kind = tokens.BlockMappingStart }) refl h.shape)), content_spans front q (record { span = sp; kind = tokens.BlockMappingStart }) h.shape b))
+content_turned tokens.BlockMappingStart sp front p q BlockMapping ts r x s ss e w z h b a = block_mapping_goes _ p q front _ (place_of BlockMapping) ts r s ss e refl tt h a (whole _ _ _ (inr (inl (content_is tokens.BlockMappingStart front q (record { span = sp; kind = tokens.BlockMappingStart }) refl h.shape)), content_spans front q (record { span = sp; kind = tokens.BlockMappingStart }) h.shape b))
 content_turned tokens.BlockEntry sp front p q Flow ts r x s ss e w z h b a = alone_turned _ front p q Flow ts r x s ss e h a
 content_turned tokens.BlockEntry sp front p q Block ts r x s ss e w z h b a = alone_turned _ front p q Block ts r x s ss e h a
-content_turned tokens.BlockEntry sp front p q BlockMapping ts r x s ss e w z h b a = indentless_goes _ p q front _ ts r s ss e refl z h a (whole _ _ _ (inr (no_opening front q _ refl h.shape)))
+content_turned tokens.BlockEntry sp front p q BlockMapping ts r x s ss e w z h b a = indentless_goes _ p q front _ ts r s ss e refl z h a (whole _ _ _ (inr (no_opening front q (record { span = sp; kind = tokens.BlockEntry }) ts refl h.shape b)))
 content_turned k sp front p q c ts r x s ss e w z h b a = alone_turned (record { span = sp; kind = k }) front p q c ts r x s ss e h a
 
 next_turned : (ts front : List Piece) (p : forest.Properties) (q : Properties) (c : Context) (r : Option Refusal) (x : State) (s : State) (ss : List State) (e : Memory) → AreWellFormed ts → Suits c s → Fronted e p q front → ((m : Marker) → StartsAt front m q) → IsAlive s ss → Turned (NodeThen c s ss) e (front ++ ts) (next_content q c (machine ts r x (s ∷ ss) (noted p.anchor e)))

@@ -1,5 +1,5 @@
 -- The steps inside flow sequences are turned.
-use Rattle.saphyr_parser.proofs.OwnTokens.{whole, passed_one}
+use Rattle.saphyr_parser.proofs.OwnTokens.{whole}
 use Rattle.std.proofs.Common.{◌≡◌, List, [], ◌∷◌, ◌++◌, Option, refl, sym, ap, ◌∙◌, subst, ◌⊎◌, inl, inr, append-nil, arith}
 use Rattle.saphyr_scalar.specs.declared.scalar.position.Marker.{Marker}
 use Rattle.saphyr_scalar.specs.declared.scalar.position.Span.{Span}
@@ -73,7 +73,7 @@ pair_first R ks ps h =
 
 entry_turned : (k : Kind) (sp : Span) (ts : List Piece) (r : Option Refusal) (x s : State) (ss : List State) (e : Memory) → AreWellFormed (record { span = sp; kind = k } ∷ ts) → IsAlive s ss → Turned (AtFirst (Follows s ss)) e (record { span = sp; kind = k } ∷ ts) (entry_at k (record { span = sp; kind = k }) (machine ts r x (s ∷ ss) e))
 entry_turned FlowSequenceEnd sp ts r x s ss e w a = ends (AtFirst (Follows s ss)) _ SequenceEnd CloseSequence sp ts r x s ss e refl refl refl tt refl a (λ ks ps f. closed FirstEntries (Follows s ss) (FlowSequenceEnd ∷ []) CloseSequence ks ps (NoNode, refl, refl) f)
-entry_turned Key sp ts r x s ss e w a = record { used = record { span = sp; kind = Key } ∷ []; part = OpenMapping forest.no_properties; taken = refl; tells = refl; remembers = refl; few = omega arith; places = passed_one (record { span = sp; kind = Key }) _ _ tt (inr tt); alive = (tt, a); makes = λ ks ps f b. pair_first (Follows s ss) ks ps f }
+entry_turned Key sp ts r x s ss e w a = record { used = record { span = sp; kind = Key } ∷ []; part = OpenMapping forest.no_properties; taken = refl; tells = refl; remembers = refl; few = omega arith; places = whole (record { span = sp; kind = Key } ∷ []) _ _ (inr (inr (record { span = sp; kind = Key }, refl, refl)), refl); alive = (tt, a); makes = λ ks ps f b. pair_first (Follows s ss) ks ps f }
 entry_turned k sp ts r x s ss e w a = weaker (Then (IsNodeOf InFlow) (InSequence (Follows s ss))) (AtFirst (Follows s ss)) e _ _ (node_first (Follows s ss)) (entered Flow (record { span = sp; kind = k }) ts r x state.FlowSequenceEntry (s ∷ ss) e w tt (tt, a))
 
 pub first_entry_turned : (ts : List Piece) (r : Option Refusal) (x s : State) (ss : List State) (e : Memory) → AreWellFormed ts → IsAlive s ss → Turned (AtFirst (Follows s ss)) e ts (first_entry (machine ts r x (s ∷ ss) e))

@@ -1,7 +1,7 @@
 -- The events of any tokens are a beginning of some forest's.
 use Rattle.saphyr_parser.specs.EventsTaken.{HaveTokens}
 use Rattle.saphyr_parser.specs.EventsTaken as taking
-use Rattle.saphyr_parser.proofs.OwnTokens.{own_more}
+use Rattle.saphyr_parser.proofs.OwnTokens.{HasOwn, own_more}
 use Rattle.std.proofs.Common.{◌≡◌, ◌≢◌, ℕ, zero, suc, ◌+◌, ◌<◌, ◌≤◌, ◌^◌, Bool, true, false, List, [], ◌∷◌, ◌++◌, length, map, Option, Some, None, Result, Ok, Err, refl, sym, ap, ◌∙◌, subst, inl, inr, append_assoc, append-nil, arith, length-append}
 use Rattle.saphyr_scalar.specs.declared.scalar.position.Span.{Span}
 use Rattle.saphyr_scalar.specs.declared.scalar.fault.Refusal.{Refusal}
@@ -90,7 +90,7 @@ pub record Finishes (s : State) (ss : List State) (ts : List Piece) (e : Memory)
   pub wanted : Wanted s ss (kinds ts) (kinds read ++ expected) parts
   pub told : events_in e parts ≡ Some (happenings a ++ missing)
   pub few : anchors parts ≤ length read
-  pub places : HaveTokens a.events read
+  pub places : HaveTokens unread a.events read
   pub all_read : IsAllUnless a.fault unread
   pub all_expected : IsAllUnless a.fault expected
   pub all_given : IsCut a.fault missing
@@ -133,7 +133,7 @@ goes_on s ss ts e x a g h = record {
   wanted = subst (λ (l : List Kind). Wanted s ss (kinds ts) l (g.part ∷ h.parts)) (sym (ap (λ (l : List Kind). l ++ h.expected) (kinds_append g.used h.read) ∙ append_assoc (kinds g.used) (kinds h.read) h.expected)) (g.makes (kinds h.read ++ h.expected) h.parts h.wanted.0 h.wanted.1);
   told = joined g.part h.parts e x.what (happenings a ++ h.missing) g.tells (subst (λ (m : Memory). events_in m h.parts ≡ Some (happenings a ++ h.missing)) g.remembers h.told);
   few = (let l = length-append g.used h.read in let m = more_anchors (anchor_of g.part) (anchors h.parts) (length g.used) (length h.read) g.few h.few in omega (arith, l, m));
-  places = own_more g.used h.read x.what x.span a.events g.places h.places;
+  places = own_more g.used h.read h.unread x.what x.span a.events (subst (HasOwn g.used x.what x.span) h.are_read g.places) h.places;
   all_read = h.all_read;
   all_expected = h.all_expected;
   all_given = h.all_given;
@@ -150,7 +150,7 @@ is_over s ss ts e x o = record {
   wanted = subst (λ (l : List Kind). Wanted s ss (kinds ts) l (o.part ∷ [])) (sym (append-nil (kinds ts))) o.makes;
   told = joined o.part [] e x.what [] o.tells refl;
   few = o.few;
-  places = subst (λ (l : List Piece). HaveTokens ((x.what, x.span) ∷ []) l) (append-nil ts) (own_more ts [] x.what x.span [] o.places (taking.nothing []));
+  places = subst (λ (l : List Piece). HaveTokens [] ((x.what, x.span) ∷ []) l) (append-nil ts) (own_more ts [] [] x.what x.span [] o.places (taking.nothing []));
   all_read = refl;
   all_expected = refl;
   all_given = refl;

@@ -32,7 +32,7 @@ scalar = texts.from_to (at 5 1 5) (at 6 1 6) (tokens.Scalar Plain (codes "b"))
 abbrev alias : Piece
 alias = texts.from_to (at 9 2 2) (at 11 2 4) (tokens.Alias (codes "a"))
 
-have_tokens : HaveTokens examples.block_alias_answer.events pieces
+have_tokens : HaveTokens [] examples.block_alias_answer.events pieces
 have_tokens =
     taking.event _ _ _ [] _ refl
     (taking.event _ _ _ [] _ refl
@@ -72,7 +72,7 @@ takes_block_alias_events = (
 
 -- ## An alias whose event has another span than its token
 
-pub other_span : IsOf (events.Alias 1) (examples.from_to (at 9 2 2) (at 10 2 3)) (texts.from_to (at 9 2 2) (at 11 2 4) (tokens.Alias (codes "a")) ∷ []) → ⊥
+pub other_span : IsOf (events.Alias 1) (examples.from_to (at 9 2 2) (at 10 2 3)) (texts.from_to (at 9 2 2) (at 11 2 4) (tokens.Alias (codes "a")) ∷ []) [] → ⊥
 other_span (own, name, k, s, e) =
     let f : alias ≡ own = cc in
     let g : alias.span ≡ examples.from_to (at 9 2 2) (at 10 2 3) = ap (λ p. p.span) f ∙ s in

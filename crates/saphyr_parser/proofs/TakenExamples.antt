@@ -26,7 +26,7 @@ are_taken =
     let s = text.fresh [] in let apart : AreApart s s = taken.nothing s.mark s.rest in
     (s, (s, s, apart, (refl, inl refl, refl), (s, s, apart, (refl, (refl, inl refl, refl)), refl)), refl)
 
-have_tokens : HaveTokens examples.no_documents.events pieces
+have_tokens : HaveTokens [] examples.no_documents.events pieces
 have_tokens =
     taking.event events.StreamStart examples.at_start _ [] pieces refl
     (taking.event events.StreamEnd examples.at_start _ [] pieces refl (taking.nothing pieces))

@@ -28,7 +28,7 @@ pub record Goes (F : List Kind → List Part → Type 0) (e : Memory) (k : List 
   pub tells : event_in e part ≡ Some x.what
   pub remembers : memory x.machine ≡ after part e
   pub few : anchors (part ∷ []) ≤ length used
-  pub places : HasOwn used x.what x.span
+  pub places : HasOwn used x.what x.span x.machine.tokens.pieces
   pub alive : IsAlive x.machine.state x.machine.states
   pub makes : (ks : List Kind) (ps : List Part) → Follows x.machine.state x.machine.states ks ps → Starts x.machine.state (kinds x.machine.tokens.pieces) ks → F (kinds used ++ ks) (part ∷ ps)
 

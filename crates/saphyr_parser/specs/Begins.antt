@@ -21,7 +21,7 @@ pub record IsBeginningOf (forest : Forest) (keep : Bool) (pieces : List Piece) (
   pub yielded : Yields forest (kinds read ++ expected)
   pub missing : List Happening
   pub are_events : events forest keep ≡ Some (map (λ (e : Happening × Span). e.0) a.events ++ missing)
-  pub places : HaveTokens a.events read
+  pub places : HaveTokens unread a.events read
   pub all_read : IsAllUnless a.fault unread
   pub all_expected : IsAllUnless a.fault expected
   pub all_given : IsCut a.fault missing

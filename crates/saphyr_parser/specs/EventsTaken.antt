@@ -61,30 +61,35 @@ SpansAll (p ∷ ps) span = Spans p ps span
 abbrev pub IsContent : Kind → List Piece → Type 0
 IsContent kind ts = (front : List Piece) × (own : Piece) × ((front ≡ []) ⊎ AreProperties front) × (own.kind ≡ kind) × (ts ≡ front ++ own ∷ [])
 
--- A collection without a token of its own: a block sequence at its mapping's column, behind properties or none, or a pair
--- in brackets.
-abbrev pub HasNoOpening : List Piece → Span → Type 0
-HasNoOpening [] span = Unit {0}
-HasNoOpening (p ∷ ps) span = AreProperties (p ∷ ps) × (span.start ≡ p.span.start)
+-- A block sequence at its mapping's column, which has no start of its own, behind properties or none: the first `-` comes
+-- next, and the span goes up to its end.
+abbrev pub BeginsEntries : List Piece → Span → List Piece → Type 0
+BeginsEntries ts span [] = ⊥
+BeginsEntries ts span (entry ∷ others) = (entry.kind ≡ tokens.BlockEntry) × ((ts ≡ []) ⊎ AreProperties ts) × SpansAll (ts ++ entry ∷ []) span
 
--- The tokens are the event's own, and it has their span. An explicit document's is its `---`.
-abbrev pub IsOf : Happening → Span → List Piece → Type 0
-IsOf (DocumentStart true) span ts = (own : Piece) × (own.kind ≡ tokens.DocumentStart) × (own.span ≡ span) × (ts ≡ own ∷ [])
-IsOf (Alias id) span ts = (own : Piece) × (name : List ℕ) × (own.kind ≡ tokens.Alias name) × (own.span ≡ span) × (ts ≡ own ∷ [])
-IsOf (Scalar text style id tag) span ts =
+-- a pair in brackets without a start of its own, which its `?` begins
+abbrev pub IsPair : List Piece → Type 0
+IsPair ts = (mark : Piece) × (mark.kind ≡ tokens.Key) × (ts ≡ mark ∷ [])
+
+-- The tokens ts are the event's own, behind which others come, and it has their span. An explicit document's is its `---`.
+abbrev pub IsOf : Happening → Span → List Piece → List Piece → Type 0
+IsOf (DocumentStart true) span ts others = (own : Piece) × (own.kind ≡ tokens.DocumentStart) × (own.span ≡ span) × (ts ≡ own ∷ [])
+IsOf (Alias id) span ts others = (own : Piece) × (name : List ℕ) × (own.kind ≡ tokens.Alias name) × (own.span ≡ span) × (ts ≡ own ∷ [])
+IsOf (Scalar text style id tag) span ts others =
     (IsContent (tokens.Scalar style text) ts × SpansAll ts span) ⊎ ((text ≡ []) × (style ≡ Plain) × AreProperties ts × SpansAll ts span)
     ⊎ ((text ≡ []) × (style ≡ Plain) × (id ≡ 0) × (tag ≡ None) × (ts ≡ []))
-IsOf (SequenceStart id tag) span ts =
-    ((IsContent tokens.FlowSequenceStart ts ⊎ IsContent tokens.BlockSequenceStart ts) × SpansAll ts span) ⊎ HasNoOpening ts span
-IsOf (MappingStart id tag) span ts =
-    ((IsContent tokens.FlowMappingStart ts ⊎ IsContent tokens.BlockMappingStart ts) × SpansAll ts span) ⊎ HasNoOpening ts span
-IsOf _ span ts = ts ≡ []
+IsOf (SequenceStart id tag) span ts others =
+    ((IsContent tokens.FlowSequenceStart ts ⊎ IsContent tokens.BlockSequenceStart ts) × SpansAll ts span) ⊎ BeginsEntries ts span others
+IsOf (MappingStart id tag) span ts others =
+    (IsContent tokens.FlowMappingStart ts ⊎ (IsContent tokens.BlockMappingStart ts ⊎ IsPair ts)) × SpansAll ts span
+IsOf _ span ts others = ts ≡ []
 
--- the events have their tokens, in order, and no token of a node is passed over before the last of these
-pub data HaveTokens : List (Happening × Span) → List Piece → Type 0 where
-  nothing : (ts : List Piece) → HaveTokens [] ts
-  passed : (es : List (Happening × Span)) (t : Piece) (ts : List Piece) → BelongsToNone t.kind → HaveTokens es ts → HaveTokens es (t ∷ ts)
-  event : (what : Happening) (span : Span) (es : List (Happening × Span)) (own ts : List Piece) → IsOf what span own → HaveTokens es ts → HaveTokens ((what, span) ∷ es) (own ++ ts)
+-- The events have their tokens, in order, and no token of a node is passed over before the last of these. Behind them all
+-- stand the tokens `unread`.
+pub data HaveTokens (unread : List Piece) : List (Happening × Span) → List Piece → Type 0 where
+  nothing : (ts : List Piece) → HaveTokens unread [] ts
+  passed : (es : List (Happening × Span)) (t : Piece) (ts : List Piece) → BelongsToNone t.kind → HaveTokens unread es ts → HaveTokens unread es (t ∷ ts)
+  event : (what : Happening) (span : Span) (es : List (Happening × Span)) (own ts : List Piece) → IsOf what span own (ts ++ unread) → HaveTokens unread es ts → HaveTokens unread ((what, span) ∷ es) (own ++ ts)
 
 -- ## Events of a forest
 
@@ -120,7 +125,7 @@ pub record IsTakenBy (forest : Forest) (keep : Bool) (text : List ℕ) (a : Answ
   pub yielded : Yields forest (kinds read ++ expected)
   pub missing : List Happening
   pub are_events : events forest keep ≡ Some (map (λ (e : Happening × Span). e.0) a.events ++ missing)
-  pub places : HaveTokens a.events read
+  pub places : HaveTokens unread a.events read
   pub all_read : IsAllUnless a.fault unread
   pub all_expected : IsAllUnless a.fault expected
   pub all_given : IsCut a.fault missing

@@ -113,7 +113,7 @@ pub fn takes_events()
 
 /// An alias has no other span than its token.
 pub fn takes_no_other_span()
-    ensures { ¬ IsOf (Alias 1) (examples.from_to (at 9 2 2) (at 10 2 3)) (from_to (at 9 2 2) (at 11 2 4) (tokens.Alias (codes "a")) ∷ []) }
+    ensures { ¬ IsOf (Alias 1) (examples.from_to (at 9 2 2) (at 10 2 3)) (from_to (at 9 2 2) (at 11 2 4) (tokens.Alias (codes "a")) ∷ []) [] }
 {}
 
 /// The promise on the part of the layout grammar in flow style tells of a text of that part what the
