@@ -4,15 +4,15 @@ ghost use Rattle.std.specs.List.{prefix_len};
 ghost use Rattle.saphyr_input.specs.Classes as class;
 ghost use Rattle.saphyr_input.specs.Places as spec;
 
-pub mod buffered;
-pub mod cloning;
-pub mod str;
+mod buffered;
+mod cloning;
+pub(crate) mod str;
 
 use crate::char_traits::{is_yaml_non_break, is_yaml_non_space};
 pub use crate::char_traits::{
     is_alpha, is_blank, is_blank_or_breakz, is_break, is_breakz, is_digit, is_flow, is_z,
 };
-pub use buffered::BufferedInput;
+pub use buffered::{BufferedInput, FaithfulClone};
 pub use cloning::CloneInput;
 use std::alloc::AllocError;
 

@@ -6,4 +6,4 @@ pub mod input;
 pub mod law;
 
 pub use input::str::StrInput;
-pub use input::{BufferedInput, CloneInput, Input, SkipTabs};
+pub use input::{BufferedInput, CloneInput, FaithfulClone, Input, SkipTabs};

@@ -1,4 +1,5 @@
-//! Laws of the definitions.
+//! Laws of the definitions that the promises on a parser mean. Code needs none of them: they are for
+//! whoever proves more about parsers.
 ghost use Rattle.std.specs.Prelude.{Bool, List, [], ◌∷◌, ◌++◌, codes, false, true, ℕ, ◌≡◌, ◌<◌, ◌≤◌, ◌^◌, length, None, Ok, Option, Some};
 ghost use Rattle.saphyr_parser.specs.Anchors.{IsLatest, anchors, latest};
 ghost use Rattle.saphyr_parser.specs.Preorder.{Part, parts};
@@ -35,8 +36,6 @@ ghost use Rattle.saphyr_parser.specs.Machine.{Machine, Told, ending};
 ghost use Rattle.saphyr_parser.specs.Steps.{step};
 ghost use Rattle.saphyr_parser.specs.Answer.{remaining};
 ghost use Rattle.saphyr_parser.specs.More.{BeginsAs, marker_token, with_more};
-
-pub use saphyr_input::law::lists_characters;
 
 /// A node comes in preorder, between the events of its document and of the stream.
 pub fn tells_nodes_in_preorder()

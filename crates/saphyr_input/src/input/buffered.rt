@@ -36,7 +36,6 @@ impl FaithfulClone for Chars<'_> {
 ///
 /// At most 4,294,967,296 items are taken from the iterator, and it is never called again after
 /// its first `None`: what it would give later is no part of the text.
-#[derive(Drop)]
 pub struct BufferedInput<I: Iterator<Item = char>> {
     source: Source<I>,
     // The characters of the loaded places, as far as the text goes.
@@ -46,6 +45,17 @@ pub struct BufferedInput<I: Iterator<Item = char>> {
     ghost within: { loaded ≤ 16 },
     ghost held: { length ring.items ≤ loaded },
     ghost exhausted: { length ring.items < loaded → items source ≡ [] },
+}
+
+// Written out, so that a crate with such an input calls it, in place of a copy that is checked there.
+impl<I: Iterator<Item = char> + Drop> Drop for BufferedInput<I> {
+    fn drop(self) {
+        let BufferedInput {
+            source: _source,
+            ring: _ring,
+            loaded: _loaded,
+        } = self;
+    }
 }
 
 impl<I: Iterator<Item = char>> BufferedInput<I> {

@@ -29,9 +29,16 @@ const MOST_CHARACTERS: usize = 4294967295;
 /// its end.
 ///
 /// Contracts see a cursor in the list of the events, which at most one fault ends.
-#[derive(Drop)]
 pub struct Parser<'input, T: Input> {
     reader: Reader<'input, T>,
+}
+
+// Written out, so that a crate with a parser calls it: a derived one is copied, with those of all inner types,
+// to each place where a parser ends, and checked there.
+impl<T: Input + Drop> Drop for Parser<'_, T> {
+    fn drop(self) {
+        let Parser { reader: _reader } = self;
+    }
 }
 
 impl<'input, T: Input> Model for Parser<'input, T> {

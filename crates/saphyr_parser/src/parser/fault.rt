@@ -1,8 +1,8 @@
-ghost use Rattle.std.specs.Prelude.{IfOk};
+ghost use Rattle.std.specs.Prelude.{◌≡◌, IfOk};
 ghost use Rattle.saphyr_parser.specs.Faults.{IsFaultOf, IsCopy};
 
 use saphyr_scalar::{ScanError, Stop};
-use std::alloc::{AllocError, Global};
+use std::alloc::{AllocError, AllocFailed, Global};
 use thiserror::Error;
 
 /// Why the events of a text ended before its end, or why a call was refused.
@@ -19,6 +19,26 @@ pub enum Fault {
     /// A document was begun that hasn't ended.
     #[error("load was called inside a document")]
     InsideDocument,
+}
+
+impl From<AllocError> for Fault {
+    ghost use Rattle.saphyr_parser.specs.declared.parser.fault.Fault.TheVariants.{OutOfMemory};
+
+    ghost from_gives = { λ _ f. f ≡ OutOfMemory };
+
+    fn from(_e: AllocError) -> Fault {
+        Fault::OutOfMemory
+    }
+}
+
+impl<X: Drop> From<AllocFailed<X>> for Fault {
+    ghost use Rattle.saphyr_parser.specs.declared.parser.fault.Fault.TheVariants.{OutOfMemory};
+
+    ghost from_gives = { λ _ f. f ≡ OutOfMemory };
+
+    fn from(_e: AllocFailed<X>) -> Fault {
+        Fault::OutOfMemory
+    }
 }
 
 impl Fault {

@@ -1,6 +1,6 @@
 use super::PlainScalar;
 use crate::{FaultText, Marker, Reader, Refusal, Stop};
-use saphyr_input::input::str::StrInput;
+use saphyr_input::StrInput;
 use std::alloc::Global;
 use std::process::Abort;
 use std::test::Fail;

@@ -1,0 +1,26 @@
+//! Counts the keys of the mappings in a YAML text that standard input gives, in each way in which a
+//! parser can be read: an example of a crate over `saphyr_parser`.
+#![tactic(auto)]
+
+mod characters;
+mod counter;
+mod reading;
+
+use std::io;
+use std::io::Read;
+use std::process::ExitCode;
+
+fn main(rt: HostRuntime) -> io::Result<ExitCode> {
+    let mut text = String::new(rt.alloc());
+    rt.stdin().read_to_string(&mut text)?;
+    match reading::count_all(rt.alloc(), text.as_str()) {
+        Ok(counts) => {
+            println!(rt; "{counts:?}")?;
+            Ok(ExitCode::SUCCESS)
+        }
+        Err(fault) => {
+            println!(rt; "refused: {fault}")?;
+            Ok(ExitCode::FAILURE)
+        }
+    }
+}
