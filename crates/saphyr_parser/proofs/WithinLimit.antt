@@ -1,10 +1,10 @@
 -- A text within the limit is read as a whole, though no more items than a bound are taken.
-use Rattle.std.proofs.Common.{◌≡◌, ℕ, ◌≤◌, List, take, sym, subst, arith}
+use Rattle.std.proofs.Common.{◌≡◌, ℕ, ◌^◌, ◌≤◌, ◌<◌, List, take, sym, subst, arith}
 use Rattle.std.proofs.lemmas.List.{take_all}
 use Rattle.saphyr_scanner.specs.Json.{IsJson}
 use Rattle.saphyr_parser.specs.Cursor.{Cursor}
 use Rattle.saphyr_parser.specs.Complete.{ReadsJson}
-use Rattle.saphyr_parser.specs.Promises.{HasNoReturn, ReadsFlowLayout}
+use Rattle.saphyr_parser.specs.Promises.{ReadsFlowLayout}
 
 pub reads_whole : (limit bound : ℕ) (text : List ℕ) (parser : Cursor) → limit ≤ bound → ReadsJson limit (take bound text) parser → ReadsJson limit text parser
 reads_whole limit bound text parser within reads forest keep told json few short has =
@@ -12,8 +12,12 @@ reads_whole limit bound text parser within reads forest keep told json few short
     reads forest keep told (subst (IsJson forest) (sym whole) json) few (rw whole short) has
 
 -- the same of a text in flow style
-pub reads_whole_flow : (limit bound : ℕ) (text : List ℕ) (parser : Cursor) → limit ≤ bound → (HasNoReturn (take bound text) → ReadsFlowLayout limit (take bound text) parser) → HasNoReturn text → ReadsFlowLayout limit text parser
-reads_whole_flow limit bound text parser within reads feeds forest keep told promised =
+pub reads_whole_flow : (limit bound : ℕ) (text : List ℕ) (parser : Cursor) → limit ≤ bound → ReadsFlowLayout limit (take bound text) parser → ReadsFlowLayout limit text parser
+reads_whole_flow limit bound text parser within reads forest keep told promised =
     let short = promised.within in
     let whole : take bound text ≡ text = take_all bound text (omega (arith, short)) in
-    subst (λ (cs : List ℕ). HasNoReturn cs → ReadsFlowLayout limit cs parser) whole reads feeds forest keep told promised
+    subst (λ (cs : List ℕ). ReadsFlowLayout limit cs parser) whole reads forest keep told promised
+
+-- what is within the limit of a parser is not too long for its scanner
+pub not_long : (n limit : ℕ) → n ≤ limit → limit ≤ 4294967295 → n < 2 ^ 63
+not_long n limit short few = omega (arith, short, few)

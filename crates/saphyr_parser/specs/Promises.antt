@@ -1,8 +1,6 @@
 -- The promises on texts of the layout grammar, and on all texts. Each is of a text and of a parser at its start.
-use Rattle.std.specs.Prelude.{ℕ, Bool, not, ◌==◌, List}
-use Rattle.saphyr_input.specs.Classes.{carriage_return}
+use Rattle.std.specs.Prelude.{ℕ, Bool, List}
 use Rattle.saphyr_scalar.specs.Spaces.{IsLineRest}
-use Rattle.saphyr_scalar.specs.TagSpelling.{AreIn}
 use Rattle.saphyr_scanner.specs.Layout.{most_open, IsLayoutText, IsFlowLayoutText}
 use Rattle.saphyr_parser.specs.Cursor.{Cursor, keeping_tags, to_come}
 use Rattle.saphyr_parser.specs.EventsTaken.{AreTaken}
@@ -11,10 +9,6 @@ use Rattle.saphyr_parser.specs.Premises.{ReadsEach, ReadsClosed}
 -- of every text: what comes is taken from it, whether prefixes of tags are kept or not
 abbrev pub TakesEvents : List ℕ → Cursor → Type 0
 TakesEvents text parser = (keep : Bool) → AreTaken keep text (to_come (keeping_tags keep parser))
-
--- no carriage return stands in the text
-abbrev pub HasNoReturn : List ℕ → Type 0
-HasNoReturn text = AreIn (λ c. not (c == carriage_return)) text
 
 -- a text whose documents have nodes in flow style gives exactly its forest's events
 abbrev pub ReadsFlowLayout : ℕ → List ℕ → Cursor → Type 0

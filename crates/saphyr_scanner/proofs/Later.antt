@@ -87,14 +87,14 @@ passed_later _ _ _ _ (passing.line_break m t n u e p) =
     later_later m t (next_line m (break_len t)) (drop (break_len t) t) n u (break_later m t e) (passed_later (next_line m (break_len t)) (drop (break_len t) t) n u p)
 
 -- a piece of a plain scalar
-piece_later : (m : Marker) (cs u : List ℕ) → Later m (cs ++ u) (passed m cs) u
+pub piece_later : (m : Marker) (cs u : List ℕ) → Later m (cs ++ u) (passed m cs) u
 piece_later m [] u = later_here m u
 piece_later m (c ∷ cs) u =
     by_test (ends_line c cs) (next_line m 1) (along m 1) (λ (k : Marker). Later m (c ∷ (cs ++ u)) (passed k cs) u)
     (λ _. later_later m (c ∷ (cs ++ u)) (next_line m 1) (cs ++ u) (passed (next_line m 1) cs) u (line_later m 1 (c ∷ (cs ++ u)) (cs ++ u) (omega arith) (omega arith)) (piece_later (next_line m 1) cs u))
     (λ _. later_later m (c ∷ (cs ++ u)) (along m 1) (cs ++ u) (passed (along m 1) cs) u (along_later m 1 (c ∷ (cs ++ u)) (cs ++ u) (omega arith)) (piece_later (along m 1) cs u))
 
-plain_later : (s t : Cursor) (text : List ℕ) (end : Marker) → IsPlainReading s text end t → LaterThan s t
+pub plain_later : (s t : Cursor) (text : List ℕ) (end : Marker) → IsPlainReading s text end t → LaterThan s t
 plain_later s t text end r =
     let a = piece_later s.mark r.piece (r.white ++ t.rest) in
     let b = piece_later end r.white t.rest in

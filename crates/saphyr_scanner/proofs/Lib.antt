@@ -129,3 +129,4 @@ pub mod ToldSteps
 pub mod ToldScalars
 pub mod ToldDocuments
 pub mod ToldReads
+pub mod Breaks

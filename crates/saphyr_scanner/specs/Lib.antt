@@ -26,6 +26,7 @@ pub mod Property
 pub mod Document
 pub mod Fetch
 pub mod Remaining
+pub mod SameKinds
 pub mod Engine
 pub mod TokensTaken
 pub mod SpansInOrder

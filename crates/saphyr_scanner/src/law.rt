@@ -9,23 +9,23 @@ ghost use Rattle.saphyr_scanner.specs.Layout.{IsFlowLayoutText, most_open};
 ghost use Rattle.saphyr_scanner.specs.TokenGrammar.{Yields};
 ghost use Rattle.saphyr_scanner.specs.Tokens.{Kind};
 ghost use Rattle.saphyr_scanner.specs.Remaining.{Scans, scan};
+ghost use Rattle.saphyr_scanner.specs.SameKinds.{HaveSameKinds};
 ghost use Rattle.saphyr_scanner.specs.SpansInOrder.{AreInOrder};
 ghost use Rattle.saphyr_scanner.specs.AtPlaces.{AreAtPlaces};
 ghost use Rattle.saphyr_scanner.specs.Ends.{EndsWithStream};
 ghost use Rattle.saphyr_scanner.specs.Gap as gaps;
 ghost use Rattle.saphyr_scanner.specs.TokensTaken.{AreApart, AreTakenFrom, AreTokens, IsOnLine, IsPlaceOf};
-ghost use Rattle.saphyr_input.specs.Classes.{carriage_return};
+ghost use Rattle.saphyr_input.specs.Breaks.{normalized};
 ghost use Rattle.saphyr_scalar.specs.Cursor.{Cursor, fresh, separation};
-ghost use Rattle.saphyr_scalar.specs.TagSpelling.{AreIn};
 ghost use Rattle.saphyr_scanner.specs.Seen.{Piece};
 ghost use Rattle.saphyr_input.specs.declared.input.SkipTabs.{SkipTabs};
 ghost use Rattle.saphyr_input.specs.declared.input.SkipTabs.TheVariants.{Yes};
-ghost use Rattle.std.specs.Prelude.{◌+◌, ◌*◌, ◌<◌, ◌^◌, ◌==◌, false, not, Ok, Some};
+ghost use Rattle.std.specs.Prelude.{◌+◌, ◌*◌, ◌<◌, ◌^◌, false, Ok, Some};
 ghost use Rattle.saphyr_scalar.specs.declared.scalar.fault.Refusal.{Refusal};
 
 use saphyr_scalar::scalar::{
     begins_plain_scalars_with_ink, counts_each_block_scalar, counts_each_double_quoted,
-    passes_to_one_place, places_each_block_scalar, reads_block_texts, reads_each_anchor,
+    passes_to_one_place, places_each_block_scalar, reads_block_texts, reads_breaks_alike, reads_each_anchor,
     reads_each_directive, reads_each_double_quoted, reads_each_plain_text, reads_each_plain_word,
     reads_each_quoted, reads_each_reserved_directive, reads_each_tag, reads_plain_values,
     refuses_inside, spells_each_anchor, spells_each_directive, spells_each_quoted, spells_each_tag,
@@ -80,11 +80,35 @@ pub fn scans_each_json()
     takes_directive();
 }
 
-/// Each text of the layout grammar whose nodes are in flow style, without carriage returns and within
-/// the limit, gives tokens of its forest, and no fault.
-pub fn scans_each_flow_text()
-    ensures { (limit : ℕ) (forest : Forest) (text : List ℕ) → IsFlowLayoutText most_open forest text → AreIn (λ c. not (c == carriage_return)) text → length text ≤ limit → (tokens : List Kind) × Yields forest tokens × Scans tokens (scan limit text) }
+/// A text and its normalized text have tokens of the same kinds, and a refusal with the same text ends both
+/// or none.
+pub fn scans_breaks_alike()
+    ensures { (limit : ℕ) (text : List ℕ) → length text < 2 ^ 63 → length text ≤ limit
+        → HaveSameKinds (scan limit text) (scan limit (normalized text)) }
 {
+    reads_breaks_alike();
+    reads_plain_values();
+    spells_each_quoted();
+    places_each_block_scalar();
+    spells_each_anchor();
+    spells_each_tag();
+    spells_each_directive();
+    takes_plain();
+    takes_quoted();
+    takes_block_scalar();
+    takes_anchor();
+    takes_tag();
+    takes_directive();
+}
+
+/// Each text of the layout grammar whose nodes are in flow style, within the limit, gives tokens of its
+/// forest, and no fault.
+pub fn scans_each_flow_text()
+    ensures { (limit : ℕ) (forest : Forest) (text : List ℕ) → IsFlowLayoutText most_open forest text
+        → length text < 2 ^ 63 → length text ≤ limit
+        → (tokens : List Kind) × Yields forest tokens × Scans tokens (scan limit text) }
+{
+    scans_breaks_alike();
     reads_each_plain_text();
     reads_each_quoted();
     passes_to_one_place();

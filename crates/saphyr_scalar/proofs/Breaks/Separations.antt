@@ -48,7 +48,7 @@ first_more : (c : ℕ) → (13 == c) ≡ false → (10 == c) ≡ false → (othe
     → (r q : List ℕ) → Normal r q → mark_first c others r ≡ mark_first c others q
 first_more c a b others alike r q n = behind_first (λ x. x == c) a b others alike n
 
-marker_alike : (c : ℕ) → (13 == c) ≡ false → (10 == c) ≡ false → {r q : List ℕ} → Normal r q
+pub marker_alike : (c : ℕ) → (13 == c) ≡ false → (10 == c) ≡ false → {r q : List ℕ} → Normal r q
     → (next_3_are r c c c && is_blank_or_breakz (slice_index r 3)) ≡ (next_3_are q c c c && is_blank_or_breakz
     (slice_index q 3))
 marker_alike c a b {r = r} {q = q} n =

@@ -1,11 +1,11 @@
 use Rattle.saphyr_scanner.proofs.TakingScalars.{Readers, quoted_laws}
 use Rattle.saphyr_scanner.proofs.FlowStates.{Reads}
 use Rattle.saphyr_scanner.proofs.FlowNodesPass.{nodes_close}
-use Rattle.saphyr_scanner.proofs.FlowLayouts.{flow_scans}
+use Rattle.saphyr_scanner.proofs.Breaks.Layouts.{flow_scans_too}
 use Rattle.saphyr_scanner.proofs.law.scans_each_flow_text.Goals as goal
 
 pub returns : goal.returns
-returns c limit forest text layout clean short =
+returns c limit forest text layout small short =
     let laws : Readers = record {
       plain = c.takes_plain.ensures;
       double_quoted = (quoted_laws c.takes_quoted.ensures).0;
@@ -24,4 +24,5 @@ returns c limit forest text layout clean short =
       directive = c.reads_each_directive.ensures;
       reserved = c.reads_each_reserved_directive.ensures;
     } in
-    flow_scans laws reads limit (nodes_close reads limit) forest text layout clean short
+    let same = c.scans_breaks_alike.ensures limit text small short in
+    flow_scans_too laws reads limit (nodes_close reads limit) forest text same layout short

@@ -4,6 +4,7 @@ use Rattle.saphyr_parser.proofs.Completed.{completed}
 use Rattle.saphyr_parser.proofs.EventsTakenOf.{parser_takes}
 use Rattle.saphyr_parser.proofs.EventSpans.{parser_spans_in}
 use Rattle.saphyr_parser.proofs.ReadsEachText.{reads_text}
+use Rattle.saphyr_parser.proofs.WithinLimit.{not_long}
 use Rattle.saphyr_scanner.specs.Layout.{IsFlowLayoutText, most_open}
 use Rattle.saphyr_parser.proofs.parser.cursor.Parser.with_limit.Goals as goal
 
@@ -17,5 +18,5 @@ pub returns-clause-taken : goal.returns-clause-taken
 returns-clause-taken g c = λ few. parser_takes c.takes_all_events.ensures _ _ c.new.result _ c.new-2.ensures c.new.ensures.tokens c.new.ensures.taken (c.ends_with_the_stream.ensures _ _) (c.bounds_tokens.ensures _ _) few
 
 pub returns-clause-flow : goal.returns-clause-flow
-returns-clause-flow g c = λ few feeds.
-    reads_text (IsFlowLayoutText most_open) _ _ few (c.bounds_tokens.ensures _ _) (λ forest layout short. c.scans_each_flow_text.ensures _ forest _ layout feeds short) _ (c.new-2.ensures ∙ ap at_start c.new.ensures.tokens)
+returns-clause-flow g c = λ few.
+    reads_text (IsFlowLayoutText most_open) _ _ few (c.bounds_tokens.ensures _ _) (λ forest layout short. c.scans_each_flow_text.ensures _ forest _ layout (not_long _ _ short few) short) _ (c.new-2.ensures ∙ ap at_start c.new.ensures.tokens)
