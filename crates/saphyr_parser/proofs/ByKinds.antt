@@ -14,7 +14,7 @@ use Rattle.saphyr_parser.specs.Machine.{Machine, Told}
 use Rattle.saphyr_parser.specs.Steps.{step, step_at}
 use Rattle.saphyr_parser.specs.Answer.{Answer, deliver, remaining, size}
 use Rattle.saphyr_parser.specs.Cursor.{at_start, keeping_tags, to_come}
-use Rattle.saphyr_parser.specs.Exactly.{GivesExactly, kinds, told_by}
+use Rattle.saphyr_parser.specs.Exactly.{GivesExactly, TellTheSame, kinds, told_by}
 use Rattle.saphyr_parser.specs.More.{marker_token}
 use Rattle.saphyr_parser.proofs.Unroll.{unroll, over, shrinks_at}
 use Rattle.saphyr_parser.proofs.Placeless.{no_span, placeless_piece, placeless_state, placeless, Same}
@@ -79,6 +79,10 @@ alike keep a b e =
       told = sym y.told ∙ ap (λ m. told_of (remaining m)) (sym same) ∙ x.told;
       fault = sym y.fault ∙ ap (λ (m : Machine). is_some (remaining m).fault) (sym same) ∙ x.fault;
     }
+
+pub tells_too : (keep : Bool) (a b : Remaining) → kinds a.pieces ≡ kinds b.pieces
+    → TellTheSame (to_come (keeping_tags keep (at_start a))) (to_come (keeping_tags keep (at_start b)))
+tells_too keep a b e = let same = alike keep b a (sym e) in record { told = same.told; fault = same.fault }
 
 none_if : {X : Type 0} (o : Option X) → is_some o ≡ false → o ≡ None
 none_if None e = refl

@@ -1,5 +1,5 @@
 -- Which events a list of tokens gives.
-use Rattle.std.specs.Prelude.{◌≡◌, Bool, List, map, None}
+use Rattle.std.specs.Prelude.{◌≡◌, Bool, List, map, None, is_some}
 use Rattle.saphyr_scalar.specs.declared.scalar.position.Span.{Span}
 use Rattle.saphyr_scanner.specs.Tokens.{Kind}
 use Rattle.saphyr_scanner.specs.Seen.{Piece}
@@ -10,6 +10,11 @@ use Rattle.saphyr_parser.specs.Answer.{Answer, remaining}
 -- these events, whatever their spans, and no fault
 abbrev pub GivesExactly : List Happening → Answer → Type 0
 GivesExactly es a = (a.fault ≡ None) × (map (λ (e : Happening × Span). e.0) a.events ≡ es)
+
+-- the same events, whatever their spans, and a fault behind both or none
+pub record TellTheSame (a b : Answer) : Type 0 where
+  pub told : map (λ (e : Happening × Span). e.0) a.events ≡ map (λ (e : Happening × Span). e.0) b.events
+  pub fault : is_some a.fault ≡ is_some b.fault
 
 -- tokens without their spans
 abbrev pub kinds : List Piece → List Kind

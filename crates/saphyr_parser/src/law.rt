@@ -9,6 +9,8 @@ ghost use Rattle.saphyr_scanner.specs.Examples.{json_forest};
 ghost use Rattle.saphyr_scanner.specs.Forest.{Forest};
 ghost use Rattle.saphyr_scanner.specs.Json.{IsJson};
 ghost use Rattle.saphyr_scanner.specs.JsonTokens.{json_tokens};
+ghost use Rattle.saphyr_input.specs.Breaks.{normalized};
+ghost use Rattle.saphyr_scanner.specs.Remaining.{scan};
 ghost use Rattle.saphyr_scanner.specs.Seen.{Piece, Remaining};
 ghost use Rattle.saphyr_scanner.specs.SpansInOrder.{AreInOrder};
 ghost use Rattle.saphyr_parser.specs.Cursor.{Cursor, at_start, keeping_tags, to_come};
@@ -17,7 +19,7 @@ ghost use Rattle.saphyr_scanner.specs.TokenGrammar.{Yields};
 ghost use Rattle.saphyr_scanner.specs.Tokens.{Kind};
 ghost use Rattle.saphyr_scanner.specs.Tokens as tokens;
 ghost use Rattle.saphyr_scanner.specs.TakenTexts.{at, from_to};
-ghost use Rattle.saphyr_parser.specs.Exactly.{GivesExactly, kinds, told_by};
+ghost use Rattle.saphyr_parser.specs.Exactly.{GivesExactly, TellTheSame, kinds, told_by};
 ghost use Rattle.saphyr_parser.specs.Events.{Alias, Happening};
 ghost use Rattle.saphyr_parser.specs.Complete.{IsShallowJson, ReadsJson};
 ghost use Rattle.saphyr_parser.specs.EventsTaken.{AreTaken, HasPlaceIn, IsOf};
@@ -36,6 +38,8 @@ ghost use Rattle.saphyr_parser.specs.Machine.{Machine, Told, ending};
 ghost use Rattle.saphyr_parser.specs.Steps.{step};
 ghost use Rattle.saphyr_parser.specs.Answer.{remaining};
 ghost use Rattle.saphyr_parser.specs.More.{BeginsAs, marker_token, with_more};
+
+use saphyr_scanner::law::scans_breaks_alike;
 
 /// A node comes in preorder, between the events of its document and of the stream.
 pub fn tells_nodes_in_preorder()
@@ -182,6 +186,16 @@ pub fn tells_by_kinds()
     ensures exactly { (keep : Bool) (one other : Remaining) (told : List Happening) → kinds one.pieces ≡ kinds other.pieces → GivesExactly told (to_come (keeping_tags keep (at_start one))) → GivesExactly told (to_come (keeping_tags keep (at_start other))) }
     ensures first { (keep : Bool) (one other : Remaining) (told : List Happening) → kinds one.pieces ≡ kinds other.pieces → GivesFirst told (to_come (keeping_tags keep (at_start one))) → GivesFirst told (to_come (keeping_tags keep (at_start other))) }
 {}
+
+/// CR LF, CR and LF are one: each text gives the events of its normalized text, but for their spans, and a
+/// fault ends both or none.
+pub fn tells_breaks_alike()
+    ensures { (limit : ℕ) (keep : Bool) (text : List ℕ) → length text < 2 ^ 63 → length text ≤ limit
+        → TellTheSame (to_come (keeping_tags keep (at_start (scan limit text))))
+        (to_come (keeping_tags keep (at_start (scan limit (normalized text))))) }
+{
+    scans_breaks_alike();
+}
 
 /// Tokens end with `---` or `...` and the end of the stream, and give exactly these events. Whatever stands
 /// behind that `---` or `...` in place of the stream's end, the events up to and with its own come first.

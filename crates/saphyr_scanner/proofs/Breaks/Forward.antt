@@ -145,7 +145,8 @@ pub record Forwards : Type 0 where
       → directives.directive s ≡ Ok x → Forward s x.2
 
 -- a text of the line was read
-pub line_forward : (s t : Cursor) (text : List ℕ) → s.rest ≡ text ++ t.rest → t ≡ at (along s.mark (length text)) t.rest
+pub line_forward : (s t : Cursor) (text : List ℕ) → s.rest ≡ text ++ t.rest
+    → t ≡ at (along s.mark (length text)) t.rest
     → Forward s t
 line_forward s t text is e =
     let l : length s.rest ≡ length (text ++ t.rest) = ap length is in
