@@ -2,28 +2,23 @@
 //!
 //!     event_cases
 //!
-//! Reads the files `worked.txt`, `json.txt`, `layout.txt` and `hostile.txt` where it runs: texts that
-//! show one thing each, random texts of JSON and of YAML's layout, and broken and odd texts. Their lists
-//! come from another program. Each text is read from a string, from an iterator and from a list of
-//! characters. Where its events, their places or its fault differ from the list, the first difference is
-//! printed, for at most 20 of the cases. The last line for a file counts the cases that agree.
-//!
-//! A case begins with a line `= NAME`, with ` keep_tags` at its end where prefixes of tags hold for later
-//! documents too. Then come the line `< TEXT`, a line `> EVENT @ START END` for each event, and a line
-//! `! FAULT` where the text is refused. An event is written as `dump_events` prints it, but `+DOC ---`
-//! where a marker begins the document, and a place as `INDEX,LINE,COLUMN`. In a text, an event and a
-//! fault, `\\`, `\n`, `\r`, `\t` and `\u{HEX}` stand for the characters that they name.
+//! Reads the files `worked.txt`, `json.txt`, `layout.txt`, `hostile.txt`, `standard.txt` and `cuts.txt` where
+//! it runs: texts that show one thing each, random texts of JSON and of YAML's layout, broken and odd texts,
+//! texts where the parser departs from the standard, and the first of these cut at each place and with a
+//! character put in there. Their lists come from another program. Each text is read from a string, from an
+//! iterator and from a list of characters, and from each its events are taken in each way that there is. For
+//! the texts of `worked.txt` each event is then refused in turn, and each write. Where events, their places
+//! or a fault differ from the list, the first difference is printed, for at most 20 of the cases. The last
+//! line for a file counts the cases that agree.
 #![tactic(auto)]
 
-mod case;
-mod printing;
-#[cfg(test)]
-mod tests;
+mod inputs;
+mod long;
+mod refusing;
+mod ways;
+mod writing;
 
-use case::{Case, parse_cases};
-use list_input::ListInput;
-use printing::line_of;
-use saphyr_parser::{BufferedInput, Input, Parser, lists_characters};
+use case_files::{Case, Difference, parse_cases};
 use std::alloc::{AllocError, Global};
 use std::{fs, io};
 use thiserror::Error;
@@ -40,14 +35,37 @@ enum Failure {
     Io(#[from] io::Error),
 }
 
-fn main(rt: HostRuntime) -> Result<(), Failure> {
-    for name in ["worked", "json", "layout", "hostile"] {
-        check_file(&rt, name)?;
-    }
-    Ok(())
+/// What is compared with a case.
+#[derive(Clone, Copy, Debug)]
+enum Subject {
+    /// The events, by each way to take them.
+    Events,
+    /// What is left where a receiver refuses an event.
+    RefusedEvents,
+    /// What is written where a write fails.
+    FailedWrites,
 }
 
-fn check_file(rt: &HostRuntime, name: &str) -> Result<(), Failure> {
+impl Subject {
+    fn name(self) -> &'static str {
+        match self {
+            Subject::Events => "events",
+            Subject::RefusedEvents => "refused events",
+            Subject::FailedWrites => "failed writes",
+        }
+    }
+}
+
+fn main(rt: HostRuntime) -> Result<(), Failure> {
+    for name in ["worked", "json", "layout", "hostile", "standard", "cuts"] {
+        check_file(&rt, name, Subject::Events)?;
+    }
+    check_file(&rt, "worked", Subject::RefusedEvents)?;
+    check_file(&rt, "worked", Subject::FailedWrites)?;
+    check_long_texts(&rt)
+}
+
+fn check_file(rt: &HostRuntime, name: &str, subject: Subject) -> Result<(), Failure> {
     let alloc = rt.alloc();
     let path = format!(in alloc; "{name}.txt")?;
     let text = fs::read_to_string(rt, path.as_str())?;
@@ -55,9 +73,10 @@ fn check_file(rt: &HostRuntime, name: &str) -> Result<(), Failure> {
     let mut agreeing = 0usize;
     let mut shown = 0usize;
     for case in &cases {
-        match difference(alloc, case)? {
-            None => agreeing += 1,
-            Some(difference) => {
+        match compare(alloc, case, subject) {
+            Ok(()) => agreeing += 1,
+            Err(Difference::OutOfMemory(error)) => return Err(Failure::OutOfMemory(error)),
+            Err(Difference::Found(difference)) => {
                 if shown < MOST_SHOWN {
                     shown += 1;
                     println!(rt; "{}, {difference}", case.name)?;
@@ -65,50 +84,23 @@ fn check_file(rt: &HostRuntime, name: &str) -> Result<(), Failure> {
             }
         }
     }
-    println!(rt; "{name}: {agreeing} of {}", cases.len())?;
+    println!(rt; "{name}, {}: {agreeing} of {}", subject.name(), cases.len())?;
     Ok(())
 }
 
-// How the events of a text first differ from the list, by the first input that gives others.
-fn difference(alloc: Global, case: &Case) -> Result<Option<String>, AllocError> {
-    let text = case.text.as_str();
-    if let Some(line) = wrong_line(alloc, case, Parser::new_from_str(alloc, text))? {
-        return Ok(Some(format!(in alloc; "from a string: {line}")?));
+fn compare(alloc: Global, case: &Case, subject: Subject) -> Result<(), Difference> {
+    match subject {
+        Subject::Events => ways::compare(alloc, case),
+        Subject::RefusedEvents => refusing::compare(alloc, case),
+        Subject::FailedWrites => writing::compare(alloc, case),
     }
-    let iter = text.chars();
-    lists_characters(&iter);
-    let buffered = BufferedInput::new(alloc, iter)?;
-    if let Some(line) = wrong_line(alloc, case, Parser::new(alloc, buffered))? {
-        return Ok(Some(format!(in alloc; "from an iterator: {line}")?));
-    }
-    let characters: Vec<char> = text.chars().collect(alloc)?;
-    let list = ListInput::new(characters.as_slice());
-    if let Some(line) = wrong_line(alloc, case, Parser::new(alloc, list))? {
-        return Ok(Some(format!(in alloc; "from a list: {line}")?));
-    }
-    Ok(None)
 }
 
-// The first line that the list doesn't have there, beside what it has.
-fn wrong_line<'input, T: Input + Drop>(
-    alloc: Global,
-    case: &Case,
-    parser: Parser<'input, T>,
-) -> Result<Option<String>, AllocError> {
-    let mut expected = case.lines.iter();
-    for item in parser.keep_tags(case.keeps_tags) {
-        let line = line_of(alloc, &item)?;
-        match expected.next() {
-            None => return Ok(Some(format!(in alloc; "{line:?} is too much")?)),
-            Some(wanted) => {
-                if *wanted != line {
-                    return Ok(Some(format!(in alloc; "{line:?} in place of {wanted:?}")?));
-                }
-            }
-        }
+fn check_long_texts(rt: &HostRuntime) -> Result<(), Failure> {
+    match long::compare(rt.alloc()) {
+        Ok(()) => println!(rt; "long texts agree")?,
+        Err(Difference::OutOfMemory(error)) => return Err(Failure::OutOfMemory(error)),
+        Err(Difference::Found(difference)) => println!(rt; "long text, {difference}")?,
     }
-    match expected.next() {
-        None => Ok(None),
-        Some(wanted) => Ok(Some(format!(in alloc; "{wanted:?} is missing")?)),
-    }
+    Ok(())
 }

@@ -1,3 +1,4 @@
+//! The cases of a file.
 use std::alloc::{AllocError, Global};
 
 /// A text and the list of its events, as lines.

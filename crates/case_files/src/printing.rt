@@ -1,22 +1,24 @@
+//! What a parser hands out, as a line of a case.
 use saphyr_parser::{Event, Fault, Marker, ScalarStyle, Span, Tag};
-use std::alloc::{AllocError, Global};
+use std::alloc::AllocError;
 
-/// The line of what a parser hands out.
-pub fn line_of(
-    alloc: Global,
-    item: &Result<(Event<'_>, Span), Fault>,
-) -> Result<String, AllocError> {
+/// Puts the line of what a parser hands out behind a text.
+///
+/// The line of a fault is `! ` and what the fault prints.
+pub fn push_item(
+    line: &mut String,
+    item: Result<&(Event<'_>, Span), &Fault>,
+) -> Result<(), AllocError> {
     match item {
         Ok((event, span)) => {
-            let mut line = String::from_str(alloc, "> ")?;
-            push_event(&mut line, event)?;
+            line.push_str("> ")?;
+            push_event(line, event)?;
             line.push_str(" @ ")?;
-            push_place(&mut line, span.start)?;
+            push_place(line, span.start)?;
             line.push(' ')?;
-            push_place(&mut line, span.end)?;
-            Ok(line)
+            push_place(line, span.end)
         }
-        Err(fault) => format!(in alloc; "! {fault}"),
+        Err(fault) => write!(line, "! {fault}"),
     }
 }
 
@@ -38,16 +40,24 @@ fn push_event(line: &mut String, event: &Event<'_>) -> Result<(), AllocError> {
         Event::DocumentStart(true) => line.push_str("+DOC ---"),
         Event::DocumentEnd => line.push_str("-DOC"),
         Event::Alias(id) => write!(line, "=ALI *{id}"),
-        Event::Scalar(text, style, id, tag) => {
-            push_node(line, "=VAL", *id, tag)?;
-            line.push_str(mark(*style))?;
-            push_escaped(line, text)
-        }
+        Event::Scalar(text, style, id, tag) => push_scalar(line, text, *style, *id, tag),
         Event::SequenceStart(id, tag) => push_node(line, "+SEQ", *id, tag),
         Event::SequenceEnd => line.push_str("-SEQ"),
         Event::MappingStart(id, tag) => push_node(line, "+MAP", *id, tag),
         Event::MappingEnd => line.push_str("-MAP"),
     }
+}
+
+fn push_scalar(
+    line: &mut String,
+    text: &str,
+    style: ScalarStyle,
+    id: usize,
+    tag: &Option<Tag>,
+) -> Result<(), AllocError> {
+    push_node(line, "=VAL", id, tag)?;
+    line.push_str(mark(style))?;
+    push_escaped(line, text)
 }
 
 fn mark(style: ScalarStyle) -> &'static str {

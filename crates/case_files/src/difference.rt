@@ -1,0 +1,33 @@
+//! How the answers of a parser differ from a list.
+use std::alloc::{AllocError, Global};
+use thiserror::Error;
+
+/// Why a comparison ended early.
+#[derive(Debug, Drop, Error)]
+pub enum Difference {
+    #[error("out of memory")]
+    OutOfMemory(#[from] AllocError),
+    #[error("{0}")]
+    Found(String),
+}
+
+impl Difference {
+    /// A difference, or that there is no memory for its text.
+    pub fn new(alloc: Global, text: &str) -> Self {
+        match String::from_str(alloc, text) {
+            Ok(text) => Difference::Found(text),
+            Err(error) => Difference::OutOfMemory(error),
+        }
+    }
+
+    /// The difference, with where it was found.
+    pub fn within(self, alloc: Global, place: &str) -> Self {
+        match self {
+            Difference::Found(text) => match format!(in alloc; "{place}: {text}") {
+                Ok(text) => Difference::Found(text),
+                Err(error) => Difference::OutOfMemory(error),
+            },
+            Difference::OutOfMemory(error) => Difference::OutOfMemory(error),
+        }
+    }
+}

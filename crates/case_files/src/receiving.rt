@@ -1,0 +1,77 @@
+//! A receiver of events.
+use crate::difference::Difference;
+use crate::expected::Expected;
+use saphyr_parser::{Event, Fault, Refused, Span, SpannedEventReceiver};
+use std::alloc::Global;
+
+/// Compares events with lines, and refuses one after so many.
+#[derive(Drop)]
+pub struct ComparingReceiver<'a> {
+    expected: Expected<'a>,
+    before_refusal: usize,
+    // What came first that isn't as expected.
+    found: Option<Difference>,
+}
+
+impl<'a> ComparingReceiver<'a> {
+    /// One that refuses nothing.
+    pub fn new(alloc: Global, lines: &'a [String]) -> Self {
+        ComparingReceiver::refusing(alloc, lines, usize::MAX)
+    }
+
+    pub fn refusing(alloc: Global, lines: &'a [String], before_refusal: usize) -> Self {
+        ComparingReceiver {
+            expected: Expected::new(alloc, lines),
+            before_refusal,
+            found: None,
+        }
+    }
+
+    /// The lines that haven't come.
+    pub fn left(&self) -> &'a [String] {
+        self.expected.left()
+    }
+
+    /// What has come is as expected.
+    pub fn check(&mut self) -> Result<(), Difference> {
+        match self.found.take() {
+            Some(difference) => Err(difference),
+            None => Ok(()),
+        }
+    }
+
+    /// What has come is as expected, and no line is left.
+    pub fn check_end(&mut self) -> Result<(), Difference> {
+        self.check()?;
+        self.expected.is_next(None)
+    }
+
+    /// What has come is as expected, and where `load` answered a fault, its line is the next one.
+    pub fn check_answer(&mut self, answer: Result<(), Fault>) -> Result<(), Difference> {
+        self.check()?;
+        match answer {
+            Ok(()) => Ok(()),
+            Err(fault) => self.expected.pass(Some(Err(&fault))),
+        }
+    }
+}
+
+impl<'input> SpannedEventReceiver<'input> for ComparingReceiver<'_> {
+    ghost use Rattle.std.specs.Prelude.{⊤};
+
+    ghost receives = { λ _ _ _ _. ⊤ };
+
+    fn on_event(&mut self, ev: Event<'input>, span: Span) -> Result<(), Refused> {
+        if self.before_refusal == 0 {
+            return Err(Refused);
+        }
+        self.before_refusal -= 1;
+        match self.expected.pass(Some(Ok(&(ev, span)))) {
+            Ok(()) => Ok(()),
+            Err(difference) => {
+                self.found = Some(difference);
+                Err(Refused)
+            }
+        }
+    }
+}

@@ -1,0 +1,28 @@
+//! A text through three inputs.
+use case_files::Difference;
+use list_input::ListInput;
+use saphyr_parser::{CloneInput, Parser, lists_characters};
+use std::alloc::Global;
+
+/// What is compared of a parser, over any input.
+pub trait Comparison {
+    fn compare<T: CloneInput>(&self, parser: Parser<'_, T>) -> Result<(), Difference>;
+}
+
+/// Compares what a text gives from a string, from an iterator and from a list of characters.
+pub fn compare_inputs<C: Comparison>(
+    alloc: Global,
+    text: &str,
+    comparison: &C,
+) -> Result<(), Difference> {
+    let of_text = comparison.compare(Parser::new_from_str(alloc, text));
+    of_text.map_err(|it| it.within(alloc, "from a string"))?;
+    let iter = text.chars();
+    lists_characters(&iter);
+    let of_iter = comparison.compare(Parser::new_from_iter(alloc, iter)?);
+    of_iter.map_err(|it| it.within(alloc, "from an iterator"))?;
+    let characters: Vec<char> = text.chars().collect(alloc)?;
+    let list = ListInput::new(characters.as_slice());
+    let of_list = comparison.compare(Parser::new(alloc, list));
+    of_list.map_err(|it| it.within(alloc, "from a list"))
+}

@@ -1,0 +1,83 @@
+//! Texts that are long or deep.
+use crate::inputs::{Comparison, compare_inputs};
+use crate::writing::{WHOLE, is_dumped};
+use case_files::Difference;
+use saphyr_parser::{CloneInput, Parser};
+use std::alloc::{AllocError, Global};
+
+/// Compares what `dump` writes of each text.
+pub fn compare(alloc: Global) -> Result<(), Difference> {
+    nest_flow(alloc).map_err(|it| it.within(alloc, "deep flow mappings"))?;
+    nest_block(alloc).map_err(|it| it.within(alloc, "deep block sequences"))?;
+    take_key(alloc).map_err(|it| it.within(alloc, "a long key"))
+}
+
+// A colon may not stand before a brace, at the first of 10,000.
+fn nest_flow(alloc: Global) -> Result<(), Difference> {
+    let mut text = String::new(alloc);
+    push_many(&mut text, "{a:", 10_000)?;
+    push_many(&mut text, "}", 10_000)?;
+    let fault = "! ':' may not precede any of `[{` in flow mapping at byte 2 line 1 column 3";
+    let dumped = Dumped {
+        alloc,
+        lines: "+STR\n",
+        fault: Some(fault),
+    };
+    compare_inputs(alloc, text.as_str(), &dumped)
+}
+
+// Block collections may be nested as deep as one likes.
+fn nest_block(alloc: Global) -> Result<(), Difference> {
+    let mut text = String::new(alloc);
+    push_many(&mut text, "- ", 10_000)?;
+    text.push('a')?;
+    let mut lines = String::from_str(alloc, "+STR\n+DOC\n")?;
+    push_many(&mut lines, "+SEQ\n", 10_000)?;
+    lines.push_str("=VAL :a\n")?;
+    push_many(&mut lines, "-SEQ\n", 10_000)?;
+    lines.push_str("-DOC\n-STR\n")?;
+    let dumped = Dumped {
+        alloc,
+        lines: lines.as_str(),
+        fault: None,
+    };
+    compare_inputs(alloc, text.as_str(), &dumped)
+}
+
+// A key inside a flow collection may be as long as one likes.
+fn take_key(alloc: Global) -> Result<(), Difference> {
+    let mut text = String::from_str(alloc, "[")?;
+    push_many(&mut text, "a", 100_000)?;
+    text.push_str(": b]")?;
+    let mut lines = String::from_str(alloc, "+STR\n+DOC\n+SEQ\n+MAP\n=VAL :")?;
+    push_many(&mut lines, "a", 100_000)?;
+    lines.push_str("\n=VAL :b\n-MAP\n-SEQ\n-DOC\n-STR\n")?;
+    let dumped = Dumped {
+        alloc,
+        lines: lines.as_str(),
+        fault: None,
+    };
+    compare_inputs(alloc, text.as_str(), &dumped)
+}
+
+fn push_many(text: &mut String, piece: &str, count: usize) -> Result<(), AllocError> {
+    for _ in 0..count {
+        text.push_str(piece)?;
+    }
+    Ok(())
+}
+
+/// What `dump` is to write and to answer.
+#[derive(Drop)]
+struct Dumped<'a> {
+    alloc: Global,
+    lines: &'a str,
+    fault: Option<&'a str>,
+}
+
+impl Comparison for Dumped<'_> {
+    fn compare<T: CloneInput>(&self, parser: Parser<'_, T>) -> Result<(), Difference> {
+        is_dumped(self.alloc, parser, self.lines, self.fault, WHOLE)?;
+        Ok(())
+    }
+}

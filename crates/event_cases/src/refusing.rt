@@ -1,0 +1,54 @@
+//! What is left where a receiver refuses an event.
+use crate::ways::is_left;
+use case_files::{Case, ComparingReceiver, Difference};
+use saphyr_parser::{CloneInput, Fault, Parser};
+use std::alloc::Global;
+
+/// Refuses each event of a text in turn.
+pub fn compare(alloc: Global, case: &Case) -> Result<(), Difference> {
+    let lines = case.lines.as_slice();
+    for (place, line) in lines.iter().enumerate() {
+        if line.starts_with("> ") {
+            let parser = Parser::new_from_str(alloc, case.text.as_str());
+            let parser = parser.keep_tags(case.keeps_tags);
+            let (before, behind) = lines.split_at(place);
+            refuse_between(alloc, parser, before, behind).map_err(|it| it.within(
+                alloc,
+                line.as_str(),
+            ))?;
+        }
+    }
+    Ok(())
+}
+
+// Where the first of the lines behind is refused, those before it have come, and the others are left.
+fn refuse_between<T: CloneInput>(
+    alloc: Global,
+    mut parser: Parser<'_, T>,
+    before: &[String],
+    behind: &[String],
+) -> Result<(), Difference> {
+    let mut receiver = ComparingReceiver::refusing(alloc, before, before.len());
+    let answer = parser.load(&mut receiver, true);
+    receiver.check_end()?;
+    if answer != Err(Fault::Receiver) {
+        return Err(Difference::new(alloc, "`load` doesn't answer the refusal"));
+    }
+    is_left(alloc, parser.try_clone()?, behind.get(1..).unwrap_or(&[]))?;
+    if behind.len() == 1 {
+        return ends_again(alloc, parser, behind);
+    }
+    Ok(())
+}
+
+// `load` hands over the end of the stream, which was refused before, and nothing else.
+fn ends_again<T: CloneInput>(
+    alloc: Global,
+    mut parser: Parser<'_, T>,
+    end: &[String],
+) -> Result<(), Difference> {
+    let mut receiver = ComparingReceiver::new(alloc, end);
+    let answer = parser.load(&mut receiver, true);
+    receiver.check_answer(answer)?;
+    receiver.check_end()
+}

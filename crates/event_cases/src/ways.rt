@@ -1,0 +1,99 @@
+//! The events of a text by each way to take them: one by one, by `load`, with a peek before each, and by
+//! clones.
+use crate::inputs::{Comparison, compare_inputs};
+use case_files::{Case, ComparingReceiver, Difference, Expected};
+use saphyr_parser::{CloneInput, Input, Parser};
+use std::alloc::Global;
+
+/// How many lines a case may have whose parser is cloned at each place.
+const MOST_CLONED: usize = 16;
+
+/// Compares the events of a text with its lines, through each input and by each way.
+pub fn compare(alloc: Global, case: &Case) -> Result<(), Difference> {
+    compare_inputs(alloc, case.text.as_str(), &Ways { alloc, case })
+}
+
+#[derive(Drop)]
+struct Ways<'a> {
+    alloc: Global,
+    case: &'a Case,
+}
+
+impl Comparison for Ways<'_> {
+    fn compare<T: CloneInput>(&self, parser: Parser<'_, T>) -> Result<(), Difference> {
+        let alloc = self.alloc;
+        let lines = self.case.lines.as_slice();
+        let parser = parser.keep_tags(self.case.keeps_tags);
+        by_load(alloc, parser.try_clone()?, lines).map_err(|it| it.within(alloc, "by load"))?;
+        by_peek(alloc, parser.try_clone()?, lines).map_err(|it| it.within(alloc, "by peek"))?;
+        if lines.len() <= MOST_CLONED {
+            let of_clones = by_clones(alloc, parser.try_clone()?, lines);
+            of_clones.map_err(|it| it.within(alloc, "by clones"))?;
+        }
+        is_left(alloc, parser, lines)
+    }
+}
+
+/// What a parser has left to give is the lines.
+pub fn is_left<T: Input + Drop>(
+    alloc: Global,
+    parser: Parser<'_, T>,
+    lines: &[String],
+) -> Result<(), Difference> {
+    let mut expected = Expected::new(alloc, lines);
+    for item in parser {
+        expected.pass(Some(item.as_ref()))?;
+    }
+    expected.is_next(None)
+}
+
+// `load` hands over the events, a document at a time, and answers the fault.
+fn by_load<T: Input + Drop>(
+    alloc: Global,
+    mut parser: Parser<'_, T>,
+    lines: &[String],
+) -> Result<(), Difference> {
+    let mut receiver = ComparingReceiver::new(alloc, lines);
+    for _ in lines {
+        let answer = parser.load(&mut receiver, false);
+        receiver.check_answer(answer)?;
+        if receiver.left().is_empty() {
+            return Ok(());
+        }
+    }
+    receiver.check_end()
+}
+
+// `peek` shows each line, twice, before `next_event` gives it.
+fn by_peek<T: Input + Drop>(
+    alloc: Global,
+    mut parser: Parser<'_, T>,
+    lines: &[String],
+) -> Result<(), Difference> {
+    let mut expected = Expected::new(alloc, lines);
+    for _ in lines {
+        expected.is_next(parser.peek())?;
+        expected.is_next(parser.peek())?;
+        let item = parser.next_event();
+        expected.pass(item.as_ref().map(|it| it.as_ref()))?;
+    }
+    expected.is_next(parser.peek())?;
+    let item = parser.next_event();
+    expected.is_next(item.as_ref().map(|it| it.as_ref()))
+}
+
+// At each place clones give what is left, before the next line is peeked and behind that.
+fn by_clones<T: CloneInput>(
+    alloc: Global,
+    mut parser: Parser<'_, T>,
+    lines: &[String],
+) -> Result<(), Difference> {
+    for (place, _) in lines.iter().enumerate() {
+        let left = lines.get(place..).unwrap_or(&[]);
+        is_left(alloc, parser.try_clone()?, left)?;
+        let _ = parser.peek();
+        is_left(alloc, parser.try_clone()?, left)?;
+        let _ = parser.next_event();
+    }
+    is_left(alloc, parser, &[])
+}
