@@ -80,3 +80,4 @@ pub mod PlacelessDocuments
 pub mod ByKinds
 pub mod ClosedBeginnings
 pub mod ReadsEachText
+pub mod Wrong

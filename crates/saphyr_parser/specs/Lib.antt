@@ -34,5 +34,6 @@ pub mod Premises
 pub mod SpansWithin
 pub mod Promises
 pub mod WellFormed
+pub mod WrongAnswers
 pub mod Begins
 pub mod More

@@ -4,6 +4,7 @@
 pub mod law;
 mod parser;
 mod printing;
+pub mod taken_law;
 #[cfg(test)]
 mod tests;
 

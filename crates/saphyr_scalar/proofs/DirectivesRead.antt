@@ -380,7 +380,7 @@ begins_not_low c b bs others h e lt =
     let first : h.first ≡ b = cc in
     absurd (omega (arith, h.high))
 
-abbrev SameStart : ℕ → List ℕ → ℕ → List ℕ → Type 0
+abbrev pub SameStart : ℕ → List ℕ → ℕ → List ℕ → Type 0
 SameStart c bs b others = (c ≡ b) × (bs ≡ others)
 
 begins_low : (c b : ℕ) (bs others : List ℕ) → c < 128 → encode c ++ bs ≡ b ∷ others → SameStart c bs b others
@@ -388,7 +388,7 @@ begins_low c b bs others lt e =
     let is : c ∷ bs ≡ b ∷ others = sym (ap (λ u. u ++ bs) (encode_ascii c lt)) ∙ e in
     (cc, cc)
 
-begins : (c b : ℕ) (bs others : List ℕ) → encode c ++ bs ≡ b ∷ others → b < 128 → SameStart c bs b others
+pub begins : (c b : ℕ) (bs others : List ℕ) → encode c ++ bs ≡ b ∷ others → b < 128 → SameStart c bs b others
 begins c b bs others e lt =
     by_test {X = Unit {0}} (nat_lt c 128) tt tt (λ _. SameStart c bs b others) (λ h. begins_low c b bs others (grind (arith, nat_tests)) e)
     (λ h. absurd (begins_not_low c b bs others (begins_high c (grind (arith, nat_tests))) e lt))

@@ -6,7 +6,6 @@ use Rattle.saphyr_input.specs.Places.{is_document_indicator}
 use Rattle.saphyr_scalar.specs.declared.reading.block.BlockStyle.{BlockStyle}
 use Rattle.saphyr_scalar.specs.declared.reading.block.Chomping.{Chomping}
 use Rattle.saphyr_scalar.specs.declared.reading.block.Chomping.TheVariants.{Strip, Clip, Keep}
-use Rattle.saphyr_scalar.specs.declared.scalar.block.header.BlockHeader.{BlockHeader}
 use Rattle.saphyr_scalar.specs.declared.scalar.position.Marker.{Marker}
 use Rattle.saphyr_scalar.specs.Cursor.{Cursor}
 use Rattle.saphyr_scalar.specs.BlockRead.{ending, HasLines}
@@ -30,10 +29,8 @@ chomping_of Clip = []
 chomping_of Keep = codes "+"
 
 -- both indicators, in either order
-abbrev pub AreIndicators : BlockHeader → List ℕ → Type 0
-AreIndicators h t =
-    (h.indicator ≤ 9)
-    × ((t ≡ digit_of h.indicator ++ chomping_of h.chomping) ⊎ (t ≡ chomping_of h.chomping ++ digit_of h.indicator))
+abbrev pub AreIndicators : ℕ → Chomping → List ℕ → Type 0
+AreIndicators n chomping t = (n ≤ 9) × ((t ≡ digit_of n ++ chomping_of chomping) ⊎ (t ≡ chomping_of chomping ++ digit_of n))
 
 -- 5.4: a whole break, which stands before a text
 abbrev pub IsBreakBefore : List ℕ → List ℕ → Type 0
@@ -44,9 +41,9 @@ abbrev pub EndsHeader : List ℕ → List ℕ → Type 0
 EndsHeader behind t = (IsBreakBefore behind t × (slice_index behind 0 ≢ tab)) ⊎ ((t ≡ []) × IsTrue (is_z (slice_index behind 0)))
 
 -- a header's line: `|` or `>`, the indicators, blanks and behind some a comment, and the line's end
-abbrev pub IsHeaderLine : BlockHeader → List ℕ → List ℕ → Type 0
-IsHeaderLine h behind t =
-    (mark : ℕ) × (indicators : List ℕ) × (tail : List ℕ) × (end : List ℕ) × AreIndicators h indicators × IsLineTail tail × EndsHeader behind end
+abbrev pub IsHeaderLine : ℕ → Chomping → List ℕ → List ℕ → Type 0
+IsHeaderLine n chomping behind t =
+    (mark : ℕ) × (indicators : List ℕ) × (tail : List ℕ) × (end : List ℕ) × AreIndicators n chomping indicators × IsLineTail tail × EndsHeader behind end
     × (t ≡ mark ∷ (indicators ++ (tail ++ end)))
 
 -- ## The indentation (8.1.1.1)
@@ -98,17 +95,18 @@ pub record IsBehindLines (i : ℕ) (t : Cursor) : Type 0 where
 -- From s on a block scalar stands with this text: a header's line, and lines, up to t. Before the place `start`, on the way,
 -- stands no content: it is that of the header, or stands behind its line.
 pub record IsBlockText (style : BlockStyle) (indent : ℕ) (s : Cursor) (text : List ℕ) (start : Marker) (t : Cursor) : Type 0 where
-  pub header : BlockHeader
+  pub digit : ℕ
+  pub chomping : Chomping
   pub first : List ℕ
   pub lines : List ℕ
   pub is : s.rest ≡ first ++ (lines ++ t.rest)
-  pub begins : IsHeaderLine header (lines ++ t.rest) first
+  pub begins : IsHeaderLine digit chomping (lines ++ t.rest) first
   pub indentation : ℕ
-  pub indented : IsIndentation indent header.indicator (lines ++ t.rest) indentation
+  pub indented : IsIndentation indent digit (lines ++ t.rest) indentation
   pub shaped : HasLines indentation (normalized lines)
   pub inside : AreInside true lines t.rest
   pub ends : IsBehindLines indentation t
-  pub value : text ≡ encode_utf8_all (block_value style header.chomping indentation (normalized lines) (ending t))
+  pub value : text ≡ encode_utf8_all (block_value style chomping indentation (normalized lines) (ending t))
   pub before : List ℕ
   pub behind : List ℕ
   pub split : s.rest ≡ before ++ behind

@@ -130,3 +130,4 @@ pub mod ToldScalars
 pub mod ToldDocuments
 pub mod ToldReads
 pub mod Breaks
+pub mod Wrong

@@ -178,7 +178,8 @@ indentation =
       refusal = None;
     }
 
--- ## Near misses: `[a]` without its `a`, `a` with the value `b`, and `[]` whose first bracket's span starts behind it
+-- ## Near misses: `[a]` without its `a`, `a` with the value `b`, `[]` whose first bracket's span starts behind it, and
+-- ` a: |1` LF `   b` whose mapping starts before the blank, so that a given indentation would be less
 
 abbrev pub dropped_word : Remaining
 dropped_word =
@@ -211,6 +212,22 @@ other_start =
           empty_at (at 1 1 1) tokens.FlowSequenceStart ∷
           from_to (at 1 1 1) (at 2 1 2) tokens.FlowSequenceEnd ∷
           empty_at (at 2 2 0) tokens.StreamEnd ∷
+          [];
+      refusal = None;
+    }
+
+abbrev pub other_indentation : Remaining
+other_indentation =
+    record {
+      pieces =
+          empty_at (at 0 1 0) tokens.StreamStart ∷
+          empty_at (at 0 1 0) tokens.BlockMappingStart ∷
+          empty_at (at 1 1 1) tokens.Key ∷
+          from_to (at 1 1 1) (at 2 1 2) (tokens.Scalar Plain (codes "a")) ∷
+          empty_at (at 2 1 2) tokens.Value ∷
+          from_to (at 8 2 1) (at 11 2 4) (tokens.Scalar Literal (codes "  b\n")) ∷
+          empty_at (at 11 2 4) tokens.BlockEnd ∷
+          empty_at (at 11 3 0) tokens.StreamEnd ∷
           [];
       refusal = None;
     }

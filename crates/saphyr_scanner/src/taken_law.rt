@@ -1,6 +1,9 @@
 //! Small texts and the tokens that are taken from them.
-ghost use Rattle.std.specs.Prelude.{codes};
-ghost use Rattle.saphyr_scanner.specs.TokensTaken.{AreTakenFrom, IsPlaceOf};
+ghost use Rattle.std.specs.Prelude.{◌≡◌, ℕ, List, codes, false, slice_index};
+ghost use Rattle.saphyr_input.specs.Places.{is_blank_or_break};
+ghost use Rattle.saphyr_scalar.specs.Cursor.{Cursor};
+ghost use Rattle.saphyr_scalar.specs.declared.scalar.position.Span.{Span};
+ghost use Rattle.saphyr_scanner.specs.TokensTaken.{AreTakenFrom, IsPlaceOf, IsPlainScalar};
 ghost use Rattle.saphyr_scanner.specs.TakenTexts as texts;
 
 /// The tokens of texts in flow style, as a scanner gives them: a mapping with quoted scalars and a
@@ -27,11 +30,18 @@ pub fn takes_streams()
     ensures refusal { AreTakenFrom (codes "a: b: c") texts.refusal }
 {}
 
-/// What is not taken: `[a]` without the token of its `a`, `a` with the value `b`, and `[]` with a bracket
-/// whose span starts behind it. No place of a text stands behind its end.
+/// What is not taken: `[a]` without the token of its `a`, `a` with the value `b`, `[]` with a bracket
+/// whose span starts behind it, and a block mapping that starts before the blank of its line, from which
+/// an indentation that is given would be counted. No place of a text stands behind its end.
 pub fn takes_no_others()
     ensures dropped_word { ¬ AreTakenFrom (codes "[a]") texts.dropped_word }
     ensures other_value { ¬ AreTakenFrom (codes "a") texts.other_value }
     ensures other_start { ¬ AreTakenFrom (codes "[]") texts.other_start }
+    ensures other_indentation { ¬ AreTakenFrom (codes " a: |1\n   b") texts.other_indentation }
     ensures place_behind { ¬ IsPlaceOf (codes "a") (texts.at 2 1 2) }
+{}
+
+/// The value of a plain scalar begins with no blank and no break.
+pub fn begins_values_with_ink()
+    ensures { (value : List ℕ) (span : Span) (s t : Cursor) → IsPlainScalar value span s t → is_blank_or_break (slice_index value 0) ≡ false }
 {}

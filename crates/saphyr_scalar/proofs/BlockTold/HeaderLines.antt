@@ -65,7 +65,7 @@ chosen (Some c) = refl
 
 -- the indicators, by whether a chomping indicator stood first
 both_told : (o : Option Chomping) (n : ℕ) (r a : List ℕ) (b : Cursor) → n ≤ 9 → r ≡ mark_of o ++ a → a ≡ digit_of n ++ b.rest
-    → (t : List ℕ) × AreIndicators (record { chomping = (last_chomping o b).0; indicator = n }) t × (r ≡ t ++ (last_chomping o b).1.rest)
+    → (t : List ℕ) × AreIndicators n (last_chomping o b).0 t × (r ≡ t ++ (last_chomping o b).1.rest)
 unfolding last_chomping
 both_told (Some c) n r a b few e f = (chomping_of c ++ digit_of n, (few, inr refl), e ∙ ap (λ t. chomping_of c ++ t) f ∙ sym (append_assoc (chomping_of c) (digit_of n) b.rest))
 both_told None n r a b few e f =
@@ -154,7 +154,7 @@ first_cut [] h = absurd (omega (arith, h))
 first_cut (c ∷ cs) h = refl
 
 abbrev Headed : List ℕ → BlockHeader × Cursor → Type 0
-Headed xs x = (first : List ℕ) × (xs ≡ first ++ x.1.rest) × IsHeaderLine x.0 x.1.rest first
+Headed xs x = (first : List ℕ) × (xs ≡ first ++ x.1.rest) × IsHeaderLine x.0.indicator x.0.chomping x.1.rest first
 
 joined : (c : ℕ) (xs a b d behind : List ℕ) → xs ≡ a ++ (b ++ (d ++ behind)) → c ∷ xs ≡ (c ∷ (a ++ (b ++ d))) ++ behind
 joined c xs a b d behind e = ap (λ t. c ∷ t) (e ∙ ap (λ t. a ++ t) (sym (append_assoc b d behind)) ∙ sym (append_assoc a (b ++ d) behind))

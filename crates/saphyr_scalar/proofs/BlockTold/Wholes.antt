@@ -115,14 +115,15 @@ record Parts (style : BlockStyle) (indent : ℕ) (s : Cursor) (h : BlockHeader) 
   goes_on : IsPassed y.1.start behind y.2.mark y.2.rest
   no_content : (before ≡ []) ⊎ ((empty : List ℕ) × (before ≡ first ++ empty) × HasNoContent i (normalized empty))
 
-put_together : (style : BlockStyle) (indent : ℕ) (s : Cursor) (h : BlockHeader) (first : List ℕ) (u t : Cursor) (text : List ℕ) (span : Span) → s.rest ≡ first ++ u.rest → IsHeaderLine h u.rest first → Parts style indent s h first u (text, span, t)
+put_together : (style : BlockStyle) (indent : ℕ) (s : Cursor) (h : BlockHeader) (first : List ℕ) (u t : Cursor) (text : List ℕ) (span : Span) → s.rest ≡ first ++ u.rest → IsHeaderLine h.indicator h.chomping u.rest first → Parts style indent s h first u (text, span, t)
     → IsBlockText style indent s text span.start t
 put_together style indent s h first u t text span e l p = record {
-  header = h;
+  digit = h.indicator;
+  chomping = h.chomping;
   first = first;
   lines = p.own.lines;
   is = e ∙ ap (λ r. first ++ r) p.own.taken;
-  begins = subst (λ r. IsHeaderLine h r first) p.own.taken l;
+  begins = subst (λ r. IsHeaderLine h.indicator h.chomping r first) p.own.taken l;
   indentation = p.i;
   indented = subst (λ r. IsIndentation indent h.indicator r p.i) p.own.taken p.indented;
   shaped = p.own.indented;

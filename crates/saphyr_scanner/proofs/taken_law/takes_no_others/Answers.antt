@@ -1,4 +1,5 @@
 use Rattle.saphyr_scanner.proofs.TakenRefused.{dropped_word, other_value, other_start, place_behind}
+use Rattle.saphyr_scanner.proofs.Wrong.Places.{other_indentation}
 use Rattle.saphyr_scanner.proofs.taken_law.takes_no_others.Goals as goal
 
 pub returns-clause-dropped_word : goal.returns-clause-dropped_word
@@ -12,3 +13,6 @@ returns-clause-other_start c = other_start
 
 pub returns-clause-place_behind : goal.returns-clause-place_behind
 returns-clause-place_behind c = place_behind
+
+pub returns-clause-other_indentation : goal.returns-clause-other_indentation
+returns-clause-other_indentation c = other_indentation

@@ -1,0 +1,20 @@
+use Rattle.saphyr_parser.proofs.Wrong.Refused as refused
+use Rattle.saphyr_parser.proofs.taken_law.takes_no_wrong_answers.Goals as goal
+
+pub returns-clause-blank_first : goal.returns-clause-blank_first
+returns-clause-blank_first c = refused.blank_first
+
+pub returns-clause-break_first : goal.returns-clause-break_first
+returns-clause-break_first c = refused.break_first
+
+pub returns-clause-marker_inside : goal.returns-clause-marker_inside
+returns-clause-marker_inside c = refused.marker_inside
+
+pub returns-clause-nul_inside : goal.returns-clause-nul_inside
+returns-clause-nul_inside c = refused.nul_inside
+
+pub returns-clause-fault_behind_the_end : goal.returns-clause-fault_behind_the_end
+returns-clause-fault_behind_the_end c = refused.fault_behind_the_end
+
+pub returns-clause-no_events : goal.returns-clause-no_events
+returns-clause-no_events c = refused.no_events

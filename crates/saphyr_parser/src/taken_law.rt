@@ -1,0 +1,39 @@
+//! What is true of each answer that is taken from a text, and wrong answers that are not.
+ghost use Rattle.std.specs.Prelude.{[], Bool, List, codes, ℕ};
+ghost use Rattle.std.specs.List.{All};
+ghost use Rattle.saphyr_scalar.specs.declared.scalar.position.Span.{Span};
+ghost use Rattle.saphyr_parser.specs.Answer.{Answer};
+ghost use Rattle.saphyr_parser.specs.Events.{Happening};
+ghost use Rattle.saphyr_parser.specs.EventsTaken.{AreTaken, HaveTokens};
+ghost use Rattle.saphyr_parser.specs.SpansWithin.{HasSpansIn};
+ghost use Rattle.saphyr_parser.specs.WrongAnswers as wrong;
+ghost use Rattle.saphyr_parser.specs.WrongAnswers.{BeginsWithInk, EndsWithStreamEnd};
+
+/// The end of the stream is the last event, and no other is; where a fault ends the events, none is.
+pub fn ends_with_stream_end()
+    ensures { (keep : Bool) (text : List ℕ) (a : Answer) → AreTaken keep text a → EndsWithStreamEnd a }
+{}
+
+/// The value of no plain scalar begins with a blank or a break.
+pub fn begins_values_with_ink()
+    ensures { (keep : Bool) (text : List ℕ) (a : Answer) → AreTaken keep text a → All (λ (e : Happening × Span). BeginsWithInk e.0) a.events }
+{}
+
+/// What is not taken: `- a` with the value ` a`, and `a:` LF ` b` with the value ` b`; a block scalar
+/// that goes on over a document marker, or over a NUL; all events with a fault behind the end of the
+/// stream, and none without one.
+pub fn takes_no_wrong_answers()
+    ensures blank_first { (keep : Bool) → ¬ AreTaken keep (codes "- a") wrong.blank_first }
+    ensures break_first { (keep : Bool) → ¬ AreTaken keep (codes "a:\n b") wrong.break_first }
+    ensures marker_inside { (keep : Bool) → ¬ AreTaken keep (codes "--- |\na\n---\nb\n") wrong.marker_inside }
+    ensures nul_inside { (keep : Bool) → ¬ AreTaken keep (codes "|\n a\0b\n") wrong.nul_inside }
+    ensures fault_behind_the_end { (keep : Bool) → ¬ AreTaken keep (codes "- a") wrong.fault_behind_the_end }
+    ensures no_events { (keep : Bool) → ¬ AreTaken keep (codes "a") wrong.no_events }
+{}
+
+/// In `a:` LF `- [x]` the bracket is the second sequence's: where the first start has it, the second one
+/// has no span. No event has a line and a column that are no place's.
+pub fn takes_no_wrong_spans()
+    ensures free_start { ¬ HaveTokens [] wrong.free_start wrong.nested }
+    ensures wrong_line { ¬ HasSpansIn [] wrong.wrong_line }
+{}

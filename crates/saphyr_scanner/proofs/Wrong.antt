@@ -1,0 +1,5 @@
+-- Why wrong tokens are not taken from a text.
+pub mod BlockLines
+pub mod PlainValues
+pub mod Places
+pub mod Standing
