@@ -43,7 +43,7 @@ pub mod Dumping
 pub mod Complaints
 pub mod Running
 pub mod WithinLimit
-pub mod Handed
+pub mod Calls
 pub mod Loading
 pub mod TakenExamples
 pub mod TakenEvents

@@ -10,7 +10,10 @@ use Rattle.saphyr_parser.specs.Events.{Happening}
 use Rattle.saphyr_parser.specs.Answer as answer
 use Rattle.saphyr_parser.specs.Answer.{Answer, Ending, before, failed}
 use Rattle.saphyr_parser.specs.Cursor.{Cursor, Kept, IsKept, IsUnmoved, IsUntold, Stays, count, finished_behind, inside_behind, to_come, told}
+use Rattle.saphyr_parser.specs.Calls.{Advances, AdvancesOver, Looks}
 use Rattle.saphyr_parser.specs.Loading.{Part, is_last, with_event, part, to_send, inside_over, finished_over, Remembered, Passed, Keeps, Tells, Sends, SendsOne, Stopped, Lost, Finished, Faulted, Loads}
+use Rattle.saphyr_parser.proofs.Calls.Handing.{advances, over_more, remembers}
+use Rattle.saphyr_parser.proofs.Calls.Looking.{looked, looked_over, looks_stays, untold}
 
 -- ## Lists of events
 
@@ -54,12 +57,18 @@ cut : (last : Bool) (e : Happening × Span) (p : Part) → (l : List (Happening 
 cut true e p = ([], refl)
 cut false e p = (p.sent, refl)
 
-passed_more : (old mid new : Cursor) (es : List (Happening × Span)) (e : Happening × Span) → Passed old es mid → to_come mid ≡ before e (to_come new) → Remembered mid (e ∷ []) new → Passed old (es ++ (e ∷ [])) new
-passed_more old mid new es e so is next = record {
-  events = so.events ∙ ap (λ (a : Answer). es ++ a.events) is ∙ sym (append_assoc es (e ∷ []) (to_come new).events);
-  fault = so.fault ∙ ap (λ (a : Answer). a.fault) is;
-  remembered = remembered_more old mid new es e so.remembered next;
-}
+remembered_one : (mid new : Cursor) (e : Happening × Span) → Advances e mid new → Remembered mid (e ∷ []) new
+remembered_one mid new e h = let r = remembers e mid new h in record { inside = r.0; finished = r.1 }
+
+passed_more : (old mid new : Cursor) (es : List (Happening × Span)) (e : Happening × Span) → Passed old es mid → Advances e mid new → Passed old (es ++ (e ∷ [])) new
+passed_more old mid new es e so step =
+    let is = advances e mid new step in
+    let next = remembered_one mid new e step in
+    record {
+      events = so.events ∙ ap (λ (a : Answer). es ++ a.events) is ∙ sym (append_assoc es (e ∷ []) (to_come new).events);
+      fault = so.fault ∙ ap (λ (a : Answer). a.fault) is;
+      remembered = remembered_more old mid new es e so.remembered next;
+    }
 
 unmoved_too : (old mid new : Cursor) (es : List (Happening × Span)) → Remembered old es mid → IsUnmoved mid new → Remembered old es new
 unmoved_too old mid new es so same = record { inside = same.0 ∙ so.inside; finished = same.1 ∙ so.finished }
@@ -81,13 +90,6 @@ settled new k is nothing untold left =
     let here : IsUntold None (Some k) = subst (λ (o : Option Kept). IsUntold None o) is (subst (λ (o : Option (Happening × Span)). IsUntold o new.kept) nothing untold) in
     let same : new.kept ≡ Some (record { fault = k.fault; given = false }) = is ∙ with_kept k here in
     (record { current = nothing; kept = same }, left ∙ ap told same)
-
-never : (f : Ending) → (let o : Option Ending = None in o) ≡ Some f → ⊥
-never f e = cc
-
-still_none : (mid new : Answer) → Stays mid new → new ≡ answer.none → new ≡ mid
-still_none mid new (inl e) is = e
-still_none mid new (inr (p, e)) is = absurd (never answer.OutOfMemory (ap (λ (a : Answer). a.fault) (sym is ∙ e)))
 
 other : (m : _) (info : _) → (let o : Option Ending = Some (answer.Refused m info) in o) ≡ Some answer.OutOfMemory → ⊥
 other m info e = cc
@@ -122,32 +124,35 @@ module _ {R : Type 0} (receives : R → Happening × Span → Result (Unit {0}) 
     pub part : to_send multi old ≡ with_events sent (to_send multi new)
     pub passed : Passed old sent new
     pub sends : Sends receives first sent last
+    pub leaves : AdvancesOver sent old new
     pub kept : new.kept ≡ None
 
   pub begins : (multi : Bool) (c : Cursor) (r : R) → c.kept ≡ None → Going multi c r r c
-  begins multi c r none = record { sent = []; part = refl; passed = record { events = refl; fault = refl; remembered = record { inside = refl; finished = refl } }; sends = refl; kept = none }
+  begins multi c r none = record { sent = []; part = refl; passed = record { events = refl; fault = refl; remembered = record { inside = refl; finished = refl } }; sends = refl; leaves = refl; kept = none }
 
-  pub goes_on : (multi : Bool) (old mid new : Cursor) (first last next : R) (e : Happening × Span) → Going multi old first last mid → (to_come mid ≡ before e (to_come new)) × (new.kept ≡ None) × Remembered mid (e ∷ []) new → is_last multi e.0 ≡ false → receives last e (Ok tt) next → Going multi old first next new
+  pub goes_on : (multi : Bool) (old mid new : Cursor) (first last next : R) (e : Happening × Span) → Going multi old first last mid → Advances e mid new × (new.kept ≡ None) → is_last multi e.0 ≡ false → receives last e (Ok tt) next → Going multi old first next new
   goes_on multi old mid new first last next e so is more taken = record {
     sent = so.sent ++ (e ∷ []);
-    part = so.part ∙ ap (with_events so.sent) (part_before multi e (to_come new) (to_come mid) is.0 ∙ ap (λ (b : Bool). behind_first b e (to_send multi new)) more) ∙ sym (with_more so.sent e (to_send multi new));
-    passed = passed_more old mid new so.sent e so.passed is.0 is.2;
+    part = so.part ∙ ap (with_events so.sent) (part_before multi e (to_come new) (to_come mid) (advances e mid new is.0) ∙ ap (λ (b : Bool). behind_first b e (to_send multi new)) more) ∙ sym (with_more so.sent e (to_send multi new));
+    passed = passed_more old mid new so.sent e so.passed is.0;
     sends = one_more first last next so.sent e so.sends taken;
+    leaves = over_more so.sent e old mid new so.leaves is.0;
     kept = is.1;
   }
 
-  pub ends : (multi : Bool) (old mid new : Cursor) (first last next : R) (e : Happening × Span) → Going multi old first last mid → (to_come mid ≡ before e (to_come new)) × (new.kept ≡ None) × Remembered mid (e ∷ []) new → is_last multi e.0 ≡ true → receives last e (Ok tt) next → Finished receives (to_send multi old) old first next new
+  pub ends : (multi : Bool) (old mid new : Cursor) (first last next : R) (e : Happening × Span) → Going multi old first last mid → Advances e mid new × (new.kept ≡ None) → is_last multi e.0 ≡ true → receives last e (Ok tt) next → Finished receives (to_send multi old) old first next new
   ends multi old mid new first last next e so is final taken =
-      let p : to_send multi old ≡ with_events so.sent (record { sent = e ∷ []; fault = None }) = so.part ∙ ap (with_events so.sent) (part_before multi e (to_come new) (to_come mid) is.0 ∙ ap (λ (b : Bool). behind_first b e (to_send multi new)) final) in
+      let p : to_send multi old ≡ with_events so.sent (record { sent = e ∷ []; fault = None }) = so.part ∙ ap (with_events so.sent) (part_before multi e (to_come new) (to_come mid) (advances e mid new is.0) ∙ ap (λ (b : Bool). behind_first b e (to_send multi new)) final) in
       let all : (to_send multi old).sent ≡ so.sent ++ (e ∷ []) = ap (λ (q : Part). q.sent) p in
       record {
         fault = ap (λ (q : Part). q.fault) p;
         sends = subst (λ (l : List (Happening × Span)). Sends receives first l next) (sym all) (one_more first last next so.sent e so.sends taken);
-        passed = subst (λ (l : List (Happening × Span)). Passed old l new) (sym all) (passed_more old mid new so.sent e so.passed is.0 is.2);
+        passed = subst (λ (l : List (Happening × Span)). Passed old l new) (sym all) (passed_more old mid new so.sent e so.passed is.0);
+        leaves = subst (λ (l : List (Happening × Span)). AdvancesOver l old new) (sym all) (over_more so.sent e old mid new so.leaves is.0);
         kept = is.1;
       }
 
-  pub refuses : (multi : Bool) (old mid new : Cursor) (first last next : R) (e : Happening × Span) → Going multi old first last mid → (to_come mid ≡ before e (to_come new)) × (new.kept ≡ None) × Remembered mid (e ∷ []) new → receives last e (Err (record {})) next → Stopped receives (to_send multi old) old first next new
+  pub refuses : (multi : Bool) (old mid new : Cursor) (first last next : R) (e : Happening × Span) → Going multi old first last mid → Advances e mid new × (new.kept ≡ None) → receives last e (Err (record {})) next → Stopped receives (to_send multi old) old first next new
   refuses multi old mid new first last next e so is refused =
       let c = cut (is_last multi e.0) e (to_send multi new) in
       record {
@@ -155,14 +160,15 @@ module _ {R : Type 0} (receives : R → Happening × Span → Result (Unit {0}) 
         event = e;
         unsent = c.0;
         middle = last;
-        part = ap (λ (q : Part). q.sent) so.part ∙ ap (λ (l : List (Happening × Span)). so.sent ++ l) (ap (λ (q : Part). q.sent) (part_before multi e (to_come new) (to_come mid) is.0) ∙ c.1);
+        part = ap (λ (q : Part). q.sent) so.part ∙ ap (λ (l : List (Happening × Span)). so.sent ++ l) (ap (λ (q : Part). q.sent) (part_before multi e (to_come new) (to_come mid) (advances e mid new is.0)) ∙ c.1);
         sends = so.sends;
         refused = refused;
-        passed = passed_more old mid new so.sent e so.passed is.0 is.2;
+        passed = passed_more old mid new so.sent e so.passed is.0;
+        leaves = over_more so.sent e old mid new so.leaves is.0;
         kept = is.1;
       }
 
-  pub stops : (f : Fault) (multi : Bool) (old mid new : Cursor) (first last next : R) (e : Happening × Span) → Going multi old first last mid → (to_come mid ≡ before e (to_come new)) × (new.kept ≡ None) × Remembered mid (e ∷ []) new → SendsOne receives (Err f) e last next → Loads receives (Err f) (to_send multi old) old first next new
+  pub stops : (f : Fault) (multi : Bool) (old mid new : Cursor) (first last next : R) (e : Happening × Span) → Going multi old first last mid → Advances e mid new × (new.kept ≡ None) → SendsOne receives (Err f) e last next → Loads receives (Err f) (to_send multi old) old first next new
   stops faults.Receiver multi old mid new first last next e so is h = refuses multi old mid new first last next e so is h
   stops (faults.Scan _) multi old mid new first last next e so is h = absurd h
   stops faults.OutOfMemory multi old mid new first last next e so is h = absurd h
@@ -172,30 +178,32 @@ module _ {R : Type 0} (receives : R → Happening × Span → Result (Unit {0}) 
   all_sent multi old mid first last f so is =
       so.part ∙ ap (λ (a : Answer). with_events so.sent (part_of multi a)) is ∙ ap (λ (l : List (Happening × Span)). let q : Part = record { sent = l; fault = f } in q) (append-nil so.sent)
 
-  finished : (multi : Bool) (old mid new : Cursor) (first last : R) → Going multi old first last mid → to_come new ≡ to_come mid → to_come new ≡ answer.none → IsUnmoved mid new → new.kept ≡ None → Finished receives (to_send multi old) old first last new
-  finished multi old mid new first last so is over same none =
-      let p = all_sent multi old mid first last None so (sym is ∙ over) in
+  finished : (multi : Bool) (old mid new : Cursor) (first last : R) → Going multi old first last mid → new ≡ mid → to_come new ≡ answer.none → new.kept ≡ None → Finished receives (to_send multi old) old first last new
+  finished multi old mid new first last so same over none =
+      let p = all_sent multi old mid first last None so (sym (ap to_come same) ∙ over) in
       let all : (to_send multi old).sent ≡ so.sent = ap (λ (q : Part). q.sent) p in
       record {
         fault = ap (λ (q : Part). q.fault) p;
         sends = subst (λ (l : List (Happening × Span)). Sends receives first l last) (sym all) so.sends;
-        passed = subst (λ (l : List (Happening × Span)). Passed old l new) (sym all) (passed_still old mid new so.sent so.passed is same);
+        passed = subst (λ (l : List (Happening × Span)). Passed old l new) (sym all) (subst (λ (c : Cursor). Passed old so.sent c) (sym same) so.passed);
+        leaves = subst (λ (l : List (Happening × Span)). AdvancesOver l old new) (sym all) (subst (λ (c : Cursor). AdvancesOver so.sent old c) (sym same) so.leaves);
         kept = none;
       }
 
-  faulted : (multi : Bool) (old mid new : Cursor) (first last : R) (f : Ending) → Going multi old first last mid → to_come new ≡ to_come mid → to_come new ≡ failed f → IsUnmoved mid new → Keeps f new → Faulted receives f (to_send multi old) old first last new
-  faulted multi old mid new first last f so is over same keeps =
+  faulted : (multi : Bool) (old mid new : Cursor) (first last : R) (f : Ending) → Going multi old first last mid → Looks mid new → to_come new ≡ to_come mid → to_come new ≡ failed f → IsUnmoved mid new → Keeps f new → Faulted receives f (to_send multi old) old first last new
+  faulted multi old mid new first last f so looks is over same keeps =
       let p = all_sent multi old mid first last (Some f) so (sym is ∙ over) in
       let all : (to_send multi old).sent ≡ so.sent = ap (λ (q : Part). q.sent) p in
       record {
         met = ap (λ (q : Part). q.fault) p;
         sends = subst (λ (l : List (Happening × Span)). Sends receives first l last) (sym all) so.sends;
         passed = subst (λ (l : List (Happening × Span)). Passed old l new) (sym all) (passed_still old mid new so.sent so.passed is same);
+        leaves = (mid, subst (λ (l : List (Happening × Span)). AdvancesOver l old mid) (sym all) so.leaves, looks);
         keeps = keeps;
       }
 
-  lost : (multi : Bool) (old mid new : Cursor) (first last : R) (f : Ending) → Going multi old first last mid → Stays (to_come mid) (to_come new) → to_come new ≡ failed f → IsUnmoved mid new → Keeps f new → Lost receives (to_send multi old) old first last new
-  lost multi old mid new first last f so (inl is) over same keeps =
+  lost : (multi : Bool) (old mid new : Cursor) (first last : R) (f : Ending) → Going multi old first last mid → Looks mid new → Stays (to_come mid) (to_come new) → to_come new ≡ failed f → IsUnmoved mid new → Keeps f new → Lost receives (to_send multi old) old first last new
+  lost multi old mid new first last f so looks (inl is) over same keeps =
       let p = all_sent multi old mid first last (Some f) so (sym is ∙ over) in
       record {
         sent = so.sent;
@@ -206,9 +214,10 @@ module _ {R : Type 0} (receives : R → Happening × Span → Result (Unit {0}) 
         cause = inr (refl, ap (λ (q : Part). q.fault) p);
         sends = so.sends;
         remembered = unmoved_too old mid new so.sent so.passed.remembered same;
+        leaves = (mid, so.leaves, looks);
         keeps = keeps;
       }
-  lost multi old mid new first last f so (inr (more, is)) over same keeps = record {
+  lost multi old mid new first last f so looks (inr (more, is)) over same keeps = record {
     sent = so.sent;
     unsent = (to_send multi mid).sent;
     fault = f;
@@ -217,22 +226,24 @@ module _ {R : Type 0} (receives : R → Happening × Span → Result (Unit {0}) 
     cause = inl (same_fault f answer.OutOfMemory (sym over ∙ is));
     sends = so.sends;
     remembered = unmoved_too old mid new so.sent so.passed.remembered same;
+    leaves = (mid, so.leaves, looks);
     keeps = keeps;
   }
 
-  lost_with : (multi : Bool) (old mid new : Cursor) (first last : R) (k : Option Kept) → new.kept ≡ k → IsKept k → Going multi old first last mid → Stays (to_come mid) (to_come new) → to_come new ≡ told new.kept → IsUnmoved mid new → new.current ≡ None → IsUntold new.current new.kept → Lost receives (to_send multi old) old first last new
-  lost_with multi old mid new first last None is h so stays left same nothing untold = absurd h
-  lost_with multi old mid new first last (Some k) is h so stays left same nothing untold =
-      let s = settled new k is nothing untold left in
-      lost multi old mid new first last k.fault so stays s.1 same s.0
+  lost_with : (multi : Bool) (old mid new : Cursor) (first last : R) (k : Option Kept) → new.kept ≡ k → IsKept k → Going multi old first last mid → Looks mid new → new.current ≡ None → Lost receives (to_send multi old) old first last new
+  lost_with multi old mid new first last None is h so looks nothing = absurd h
+  lost_with multi old mid new first last (Some k) is h so looks nothing =
+      let stays = looks_stays mid new looks in
+      let s = settled new k is nothing (untold mid new so.kept looks) (looked mid new looks nothing) in
+      lost multi old mid new first last k.fault so looks stays.0 s.1 stays.1 s.0
 
-  pub over : (r : Result (Unit {0}) Fault) (multi : Bool) (old mid new : Cursor) (first last : R) → Going multi old first last mid → Stays (to_come mid) (to_come new) × (to_come new ≡ told new.kept) × IsUnmoved mid new × (new.current ≡ None) × IsUntold new.current new.kept → Tells r new.kept → Loads receives r (to_send multi old) old first last new
-  over (Ok u) multi old mid new first last so (stays, left, same, nothing, untold) h =
-      let none : to_come new ≡ answer.none = left ∙ ap told h in
-      finished multi old mid new first last so (still_none (to_come mid) (to_come new) stays none) none same h
-  over (Err (faults.Scan e)) multi old mid new first last so (stays, left, same, nothing, untold) (given, h) =
-      let s = settled new (record { fault = answer.Refused e.mark (string_bytes e.info); given = given }) h nothing untold left in
-      faulted multi old mid new first last (answer.Refused e.mark (string_bytes e.info)) so (still_refused (to_come mid) (to_come new) e.mark (string_bytes e.info) stays s.1) s.1 same s.0
-  over (Err faults.OutOfMemory) multi old mid new first last so (stays, left, same, nothing, untold) h = lost_with multi old mid new first last new.kept refl h so stays left same nothing untold
+  pub over : (r : Result (Unit {0}) Fault) (multi : Bool) (old mid new : Cursor) (first last : R) → Going multi old first last mid → Looks mid new × (new.current ≡ None) → Tells r new.kept → Loads receives r (to_send multi old) old first last new
+  over (Ok u) multi old mid new first last so (looks, nothing) h =
+      finished multi old mid new first last so (looked_over mid new looks nothing h) (looked mid new looks nothing ∙ ap told h) h
+  over (Err (faults.Scan e)) multi old mid new first last so (looks, nothing) (given, h) =
+      let stays = looks_stays mid new looks in
+      let s = settled new (record { fault = answer.Refused e.mark (string_bytes e.info); given = given }) h nothing (untold mid new so.kept looks) (looked mid new looks nothing) in
+      faulted multi old mid new first last (answer.Refused e.mark (string_bytes e.info)) so looks (still_refused (to_come mid) (to_come new) e.mark (string_bytes e.info) stays.0 s.1) s.1 stays.1 s.0
+  over (Err faults.OutOfMemory) multi old mid new first last so (looks, nothing) h = lost_with multi old mid new first last new.kept refl h so looks nothing
   over (Err faults.Receiver) multi old mid new first last so gone h = absurd h
   over (Err faults.InsideDocument) multi old mid new first last so gone h = absurd h

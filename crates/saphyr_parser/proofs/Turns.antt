@@ -1,27 +1,18 @@
--- What one reading does to the events still to come.
-use Rattle.std.proofs.Common.{◌≡◌, ◌≢◌, ◌<◌, Result, Ok, Err, refl, ap, ◌∙◌, arith}
-use Rattle.saphyr_scalar.specs.declared.scalar.position.Span.{Span}
+-- What a reading that failed says of the events still to come.
+use Rattle.std.proofs.Common.{◌≢◌, ◌<◌, Result, Ok, Err, refl, ap, ◌∙◌, arith}
 use Rattle.saphyr_scalar.specs.declared.scalar.fault.Refusal.{Refusal}
 use Rattle.saphyr_scalar.specs.declared.scalar.fault.Stop.{Stop}
 use Rattle.saphyr_scalar.specs.declared.scalar.fault.Stop.TheVariants as stop
 use Rattle.saphyr_scalar.specs.Seen.{Fails}
 use Rattle.saphyr_parser.specs.declared.parser.state.State.TheVariants.{End}
-use Rattle.saphyr_parser.specs.declared.parser.event.Event.{Event}
 use Rattle.saphyr_parser.specs.declared.parser.fault.Fault.{Fault}
 use Rattle.saphyr_parser.specs.declared.parser.fault.Fault.TheVariants as fault
 use Rattle.saphyr_parser.specs.Machine.{Machine, Told}
 use Rattle.saphyr_parser.specs.Steps.{step}
-use Rattle.saphyr_parser.specs.Seen.{told_of}
-use Rattle.saphyr_parser.specs.Answer.{none, before, deliver, remaining}
+use Rattle.saphyr_parser.specs.Answer.{deliver, remaining}
 use Rattle.saphyr_parser.specs.Faults.{IsFaultOf}
-use Rattle.saphyr_parser.specs.Cursor.{Refuses, count, event_of}
-use Rattle.saphyr_parser.proofs.Unroll.{unroll, over}
-
-pub is_over : (m : Machine) → m.state ≡ End → remaining m ≡ none
-is_over m e = over m e
-
-pub reads : (m n : Machine) (e : Event × Span) → m.state ≢ End → step m ≡ Ok (told_of n e) → remaining m ≡ before (event_of e) (remaining n)
-reads m n e more moved = unroll m more ∙ ap (λ (r : Result Told Refusal). deliver r remaining) moved
+use Rattle.saphyr_parser.specs.Cursor.{Refuses, count}
+use Rattle.saphyr_parser.proofs.Unroll.{unroll}
 
 something : (r : Result Told Refusal) → 0 < count (deliver r remaining)
 something (Ok x) = omega arith

@@ -81,12 +81,6 @@ Hands None old new = (old ≡ none) × (new ≡ none)
 Hands (Some (Ok e)) old new = old ≡ before (event_of e) new
 Hands (Some (Err f)) old new = Refuses f old × (new ≡ none)
 
--- the same of a reading, which says nothing of what remains behind a fault
-abbrev pub Reads : Option (Result (Event × Span) Fault) → Answer → Answer → Type 0
-Reads None old new = (old ≡ none) × (new ≡ none)
-Reads (Some (Ok e)) old new = old ≡ before (event_of e) new
-Reads (Some (Err f)) old new = Refuses f old
-
 -- Nothing was handed out; where memory ran out, that is what remains.
 abbrev pub Stays : Answer → Answer → Type 0
 Stays old new = (new ≡ old) ⊎ ((0 < count old) × (new ≡ failed OutOfMemory))

@@ -1,4 +1,4 @@
--- What printing the events that are still to come does to them and to the writer.
+-- What printing the events that are still to come does to the parser and to the writer.
 use Rattle.std.specs.Prelude.{◌≡◌, ℕ, ◌<◌, length, List, ◌∷◌, ◌++◌, Option, Some, None, Result, Ok, Err, string_bytes}
 use Rattle.std.specs.Io.KnownBytes.{Appends}
 use Rattle.saphyr_scalar.specs.declared.scalar.position.Span.{Span}
@@ -7,8 +7,10 @@ use Rattle.saphyr_parser.specs.declared.printing.fault.DumpFault.{DumpFault}
 use Rattle.saphyr_parser.specs.declared.printing.fault.DumpFault.TheVariants as dump
 use Rattle.saphyr_parser.specs.Events.{Happening}
 use Rattle.saphyr_parser.specs.Answer.{Answer, Refused, none}
-use Rattle.saphyr_parser.specs.Cursor.{count}
+use Rattle.saphyr_parser.specs.Cursor.{Cursor, count, to_come}
+use Rattle.saphyr_parser.specs.Calls.{Advances, AdvancesOver, Fails, IsOver}
 use Rattle.saphyr_parser.specs.Printed.{line, lines}
+use Rattle.saphyr_parser.specs.Written.{TakesSome}
 
 -- The lines of some events were taken, and those behind are left.
 pub record Prints (all left : Answer) (old new : Option (List ℕ)) : Type 0 where
@@ -38,3 +40,26 @@ Dumps (Err (dump.Parse fault.OutOfMemory)) all left old new = ((lost : Answer) �
 Dumps (Err (dump.Parse fault.Receiver)) all left old new = ⊥
 Dumps (Err (dump.Parse fault.InsideDocument)) all left old new = ⊥
 Dumps (Err dump.Write) all left old new = Cuts all left old new
+
+-- ## The parser that is left
+
+-- The lines of these events were taken, behind which the second parser stands.
+pub record PrintsUpTo (first last : Cursor) (old new : Option (List ℕ)) : Type 0 where
+  pub printed : List (Happening × Span)
+  pub over : AdvancesOver printed first last
+  pub taken : Appends old new (lines printed)
+
+-- The line of one more event was taken in part alone, behind which the second parser stands.
+pub record CutsAt (first last : Cursor) (old new : Option (List ℕ)) : Type 0 where
+  pub middle : Cursor
+  pub written : Option (List ℕ)
+  pub prints : PrintsUpTo first middle old written
+  pub event : Happening × Span
+  pub advances : Advances event middle last
+  pub cut : TakesSome written new (line event.0)
+
+-- The parser that a call of `dump` leaves: behind all events, behind the fault that was met, or behind the event whose line was cut.
+abbrev pub Leaves : Result (Unit {0}) DumpFault → Cursor → Cursor → Option (List ℕ) → Option (List ℕ) → Type 0
+Leaves (Ok u) first last old new = AdvancesOver (to_come first).events first last × IsOver last
+Leaves (Err (dump.Parse f)) first last old new = (middle : Cursor) × PrintsUpTo first middle old new × Fails f middle last
+Leaves (Err dump.Write) first last old new = CutsAt first last old new

@@ -14,10 +14,12 @@ pub mod Steps
 pub mod Answer
 pub mod Faults
 pub mod Cursor
+pub mod Calls
 pub mod Exactly
 pub mod Complete
 pub mod KeptSeen
 pub mod ReaderSeen
+pub mod Peeking
 pub mod Anchors
 pub mod EventSeen
 pub mod Examples

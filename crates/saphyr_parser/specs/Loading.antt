@@ -9,7 +9,8 @@ use Rattle.saphyr_parser.specs.Events as events
 use Rattle.saphyr_parser.specs.Events.{Happening}
 use Rattle.saphyr_parser.specs.Answer as answer
 use Rattle.saphyr_parser.specs.Answer.{Ending, before}
-use Rattle.saphyr_parser.specs.Cursor.{Cursor, Kept, IsKept, IsUnmoved, IsUntold, Stays, count, event_of, finished_behind, inside_behind, to_come, told}
+use Rattle.saphyr_parser.specs.Cursor.{Cursor, Kept, IsKept, count, event_of, finished_behind, inside_behind, to_come}
+use Rattle.saphyr_parser.specs.Calls.{Advances, AdvancesOver, Looks}
 
 -- ## Which events one call hands over
 
@@ -56,6 +57,10 @@ pub record Passed (old : Cursor) (passed : List (Happening × Span)) (new : Curs
   pub fault : (to_come old).fault ≡ (to_come new).fault
   pub remembered : Remembered old passed new
 
+-- behind these events a fault was met in reading ahead
+abbrev pub MeetsBehind : List (Happening × Span) → Cursor → Cursor → Type 0
+MeetsBehind es old new = (middle : Cursor) × AdvancesOver es old middle × Looks middle new
+
 -- nothing but this fault is still to come, which is kept and wasn't given yet
 pub record Keeps (fault : Ending) (c : Cursor) : Type 0 where
   pub current : c.current ≡ None
@@ -87,6 +92,7 @@ module _ {R : Type 0} (receives : R → Happening × Span → Result (Unit {0}) 
     pub sends : Sends first sent middle
     pub refused : receives middle event (Err (record {})) last
     pub passed : Passed old (sent ++ (event ∷ [])) new
+    pub leaves : AdvancesOver (sent ++ (event ∷ [])) old new
     pub kept : new.kept ≡ None
 
   -- Memory ran out: in reading, before something that was still to be sent or told, which is kept as a fault of its own;
@@ -100,6 +106,7 @@ module _ {R : Type 0} (receives : R → Happening × Span → Result (Unit {0}) 
     pub cause : (fault ≡ answer.OutOfMemory) ⊎ ((unsent ≡ []) × (p.fault ≡ Some fault))
     pub sends : Sends first sent last
     pub remembered : Remembered old sent new
+    pub leaves : MeetsBehind sent old new
     pub keeps : Keeps fault new
 
   -- all events of the part were sent, and no fault was met
@@ -107,6 +114,7 @@ module _ {R : Type 0} (receives : R → Happening × Span → Result (Unit {0}) 
     pub fault : p.fault ≡ None
     pub sends : Sends first p.sent last
     pub passed : Passed old p.sent new
+    pub leaves : AdvancesOver p.sent old new
     pub kept : new.kept ≡ None
 
   -- all events of the part were sent, and then this fault was met
@@ -114,6 +122,7 @@ module _ {R : Type 0} (receives : R → Happening × Span → Result (Unit {0}) 
     pub met : p.fault ≡ Some fault
     pub sends : Sends first p.sent last
     pub passed : Passed old p.sent new
+    pub leaves : MeetsBehind p.sent old new
     pub keeps : Keeps fault new
 
   -- a call that begins between documents
@@ -136,5 +145,5 @@ module _ {R : Type 0} (receives : R → Happening × Span → Result (Unit {0}) 
 
 -- the next event was passed, or there is none
 abbrev pub Passes : Option (Event × Span) → Cursor → Cursor → Type 0
-Passes (Some e) old new = (to_come old ≡ before (event_of e) (to_come new)) × (new.kept ≡ None) × Remembered old (event_of e ∷ []) new
-Passes None old new = Stays (to_come old) (to_come new) × (to_come new ≡ told new.kept) × IsUnmoved old new × (new.current ≡ None) × IsUntold new.current new.kept
+Passes (Some e) old new = Advances (event_of e) old new × (new.kept ≡ None)
+Passes None old new = Looks old new × (new.current ≡ None)

@@ -1,6 +1,7 @@
 //! The events of a text as lines, one for each, in the notation of the YAML test suites.
 ghost use Rattle.saphyr_parser.specs.Cursor.{to_come};
-ghost use Rattle.saphyr_parser.specs.Dumps.{Dumps};
+ghost use Rattle.saphyr_parser.specs.Calls.{EndsTheStream};
+ghost use Rattle.saphyr_parser.specs.Dumps.{Dumps, Leaves};
 
 mod fault;
 mod line;
@@ -25,7 +26,9 @@ pub fn dump<'input, T: Input, W: Write>(
     parser: &mut Parser<'input, T>,
     out: &mut W,
 ) -> Result<(), DumpFault>
-    ensures { Dumps result (to_come parser.old) (to_come parser.new) (W.contents out.old) (W.contents out.new) }
+    ensures dumps { Dumps result (to_come parser.old) (to_come parser.new) (W.contents out.old) (W.contents out.new) }
+    ensures leaves { Leaves result parser.old parser.new (W.contents out.old) (W.contents out.new) }
+    ensures over { EndsTheStream parser.new }
 {
     let mut next = no_event();
     dump_each(parser, &mut next, out)
@@ -33,13 +36,15 @@ pub fn dump<'input, T: Input, W: Write>(
 
 // The same, with one place for all events, which are large to move.
 #[inline(always)]
-#[tactic(auto, using(crate::proofs::Dumping::prints_none, crate::proofs::Dumping::prints_more, crate::proofs::Dumping::prints_all, crate::proofs::Dumping::prints_up_to_fault, crate::proofs::Dumping::cuts_line))]
+#[tactic(auto, using(crate::proofs::Dumping::prints_none))]
 fn dump_each<'input, T: Input, W: Write>(
     parser: &mut Parser<'input, T>,
     next: &mut (Event<'input>, Span),
     out: &mut W,
 ) -> Result<(), DumpFault>
-    ensures { Dumps result (to_come parser.old) (to_come parser.new) (W.contents out.old) (W.contents out.new) }
+    ensures dumps { Dumps result (to_come parser.old) (to_come parser.new) (W.contents out.old) (W.contents out.new) }
+    ensures leaves { Leaves result parser.old parser.new (W.contents out.old) (W.contents out.new) }
+    ensures over { EndsTheStream parser.new }
 {
     while let Some(read) = parser.next_into(next) {
         match read {

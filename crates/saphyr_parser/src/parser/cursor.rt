@@ -3,6 +3,7 @@ ghost use Rattle.std.specs.Str.{chars};
 ghost use Rattle.saphyr_input.specs.Listed.{Lists, Listed};
 ghost use Rattle.saphyr_scanner.specs.Remaining.{scan};
 ghost use Rattle.saphyr_parser.specs.Cursor as spec;
+ghost use Rattle.saphyr_parser.specs.Calls as calls;
 ghost use Rattle.saphyr_parser.specs.Complete.{ReadsJson};
 ghost use Rattle.saphyr_parser.specs.SpansWithin.{HasSpansIn};
 ghost use Rattle.saphyr_parser.specs.Promises.{ReadsFlowLayout, TakesEvents};
@@ -42,24 +43,25 @@ impl<T: Input + Drop> Drop for Parser<'_, T> {
 }
 
 impl<'input, T: Input> Model for Parser<'input, T> {
+    ghost use Rattle.saphyr_parser.specs.Calls.{IsSound};
     ghost use Rattle.saphyr_parser.specs.Cursor.{Cursor};
     ghost use Rattle.saphyr_parser.specs.ReaderSeen.{cursor};
 
     ghost Value = { Cursor };
 
     ghost view = { λ p. cursor p.reader };
+
+    ghost invariant = { λ p. IsSound (cursor p.reader) };
 }
 
 impl<'input, T: Input> Parser<'input, T> {
     ghost use Rattle.std.specs.Prelude.{⊤, [], Some, None, Err, true, false};
-    ghost use Rattle.std.specs.Borrow.{sem, follows_so};
-    ghost use mathlib.Core.Option.{none};
-    ghost use mir.Syntax.{named};
+    ghost use Rattle.std.specs.Borrow.{sem};
     ghost use Rattle.saphyr_scalar.specs.declared.scalar.position.Span.{Span as PlaceSpan};
     ghost use Rattle.saphyr_parser.specs.declared.parser.fault.Fault.TheVariants.{InsideDocument};
     ghost use Rattle.saphyr_parser.specs.Events.{StreamEnd};
     ghost use Rattle.saphyr_parser.specs.Loading as loading;
-    ghost use Rattle.saphyr_parser.specs.contracts.parser.cursor.Parser.{the_row};
+    ghost use Rattle.saphyr_parser.specs.Peeking.{LendsNext};
 
     /// The events of an input's text, which is refused past 4,294,967,295 characters.
     ///
@@ -110,11 +112,16 @@ impl<'input, T: Input> Parser<'input, T> {
     }
 
     /// Hands out the next event, and where a fault ends the events that fault, once.
+    ///
+    /// An event that was peeked is handed out without new memory. A fault is copied: where there is no memory
+    /// for that, `OutOfMemory` is handed out and kept in its place.
     #[inline(always)]
     pub fn next_event(&mut self) -> Option<Result<(Event<'input>, Span), Fault>>
         ensures hands { spec.Hands result (spec.to_come self.old) (spec.to_come self.new) }
         ensures remembers { spec.Remembers result self.old self.new }
         ensures given { spec.IsGiven result self.new.kept }
+        ensures leaves { calls.Gives result self.old self.new }
+        ensures over { calls.EndsTheStream self.new }
     {
         self.reader.next_event()
     }
@@ -125,14 +132,16 @@ impl<'input, T: Input> Parser<'input, T> {
         &mut self,
         next: &mut (Event<'input>, Span),
     ) -> Option<Result<(), Fault>>
-        ensures { spec.Hands (spec.filled next.new result) (spec.to_come self.old) (spec.to_come self.new) }
+        ensures leaves { calls.Gives (spec.filled next.new result) self.old self.new }
+        ensures over { calls.EndsTheStream self.new }
     {
         self.reader.next_into(next)
     }
 
-    /// Shows what `next_event` hands out next, and doesn't pass it.
+    /// Shows what `next_event` hands out next, and doesn't pass it. What was shown is shown again, without new
+    /// memory; and so is a fault, until it is handed out.
     pub fn peek(&mut self) -> Option<Result<&(Event<'input>, Span), &Fault>>
-        ensures* { sem 𝓛 (follows_so (the_row (record { mir = named 1; lft = [] }) T.row T.Input) (the_row (record { mir = named 1; lft = [] }) T.row T.Input) self.entry.ghost_name none (λ _ _. ⊤) (λ v. spec.Stays (spec.to_come self.old) (spec.to_come v) × (spec.IsUnmoved self.old v × spec.Shows result (spec.to_come v)))) }
+        ensures* { sem 𝓛 (LendsNext T.row T.Input self.entry result) }
     {
         self.reader.look();
         self.reader.shown()
@@ -156,6 +165,7 @@ impl<'input, T: Input> Parser<'input, T> {
         ensures finished { self.old.kept ≡ None → (span : PlaceSpan) → self.old.finished ≡ Some span → loading.SendsOne R.receives result (StreamEnd, span) recv.old recv.new × (self.new ≡ self.old) }
         ensures inside { self.old.kept ≡ None → self.old.finished ≡ None → self.old.inside ≡ true → (result ≡ Err InsideDocument) × (recv.new ≡ recv.old) × (self.new ≡ self.old) }
         ensures between { self.old.kept ≡ None → self.old.finished ≡ None → self.old.inside ≡ false → loading.Loads R.receives result (loading.to_send multi self.old) self.old recv.old recv.new self.new }
+        ensures over { calls.EndsTheStream self.new }
     {
         self.reader.load(recv, multi)
     }
@@ -213,9 +223,10 @@ impl<'input, T: Input + Drop> Iterator for Parser<'input, T> {
     type Item = Result<(Event<'input>, Span), Fault>;
 
     ghost use Rattle.std.specs.Iterator.{at_most};
-    ghost use Rattle.saphyr_parser.specs.Cursor.{Hands, Remembers, count, to_come};
+    ghost use Rattle.saphyr_parser.specs.Calls.{EndsTheStream, Gives};
+    ghost use Rattle.saphyr_parser.specs.Cursor.{Hands, IsGiven, Remembers, count, to_come};
 
-    ghost next_gives = { λ s r t. Hands r (to_come s) (to_come t) × Remembers r s t };
+    ghost next_gives = { λ s r t. Hands r (to_come s) (to_come t) × Remembers r s t × IsGiven r t.kept × Gives r s t × EndsTheStream t };
 
     ghost remaining = { λ s. at_most (count (to_come s)) };
 

@@ -17,8 +17,8 @@ impl<T: Input> Machine<T> {
     ghost use Rattle.saphyr_scalar.specs.Seen.{Moves};
     ghost use Rattle.saphyr_parser.specs.Seen.{machine_of, told_of};
     ghost use Rattle.saphyr_parser.specs.Machine.{fresh};
-    ghost use Rattle.saphyr_parser.specs.Answer.{remaining};
-    ghost use Rattle.saphyr_parser.specs.Cursor.{Reads, filled};
+    ghost use Rattle.saphyr_parser.specs.Calls.{Reads};
+    ghost use Rattle.saphyr_parser.specs.Cursor.{filled};
     ghost use Rattle.saphyr_parser.specs.Faults.{is_foreign};
     ghost use Rattle.saphyr_parser.specs.declared.parser.state.State.TheVariants.{End};
 
@@ -55,12 +55,12 @@ impl<T: Input> Machine<T> {
 
     // Reads the next event into its place, if there is one.
     #[inline(always)]
-    #[tactic(auto, using(crate::proofs::Turns::reads, crate::proofs::Turns::is_over, crate::proofs::Turns::refused))]
+    #[tactic(auto, using(crate::proofs::Turns::refused))]
     pub(super) fn read<'input>(
         &mut self,
         next: &mut (Event<'input>, Span),
     ) -> Option<Result<(), Fault>>
-        ensures reads { Reads (filled next.new result) (remaining (machine_of self.old)) (remaining (machine_of self.new)) }
+        ensures reads { Reads (filled next.new result) (machine_of self.old) (machine_of self.new) }
         ensures own { is_foreign result ≡ false }
     {
         if self.is_done() {

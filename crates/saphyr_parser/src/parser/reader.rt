@@ -53,6 +53,7 @@ fn fill<'input>(
 impl<'input, T: Input> Reader<'input, T> {
     ghost use Rattle.saphyr_parser.specs.Seen.{happening};
     ghost use Rattle.saphyr_parser.specs.Cursor as spec;
+    ghost use Rattle.saphyr_parser.specs.Calls as calls;
     ghost use Rattle.saphyr_parser.specs.ReaderSeen.{cursor};
 
     pub(super) fn new(alloc: Global, scanner: Scanner<T>) -> Self
@@ -70,10 +71,7 @@ impl<'input, T: Input> Reader<'input, T> {
     // Reads one event ahead, or the fault in place of it.
     #[inline(always)]
     pub(super) fn look(&mut self)
-        ensures stays { spec.Stays (spec.to_come (cursor self.old)) (spec.to_come (cursor self.new)) }
-        ensures looked { IfNone self.new.current (spec.to_come (cursor self.new) ≡ spec.told (cursor self.new).kept) }
-        ensures same { spec.IsUnmoved (cursor self.old) (cursor self.new) }
-        ensures untold { (cursor self.old).kept ≡ None → spec.IsUntold (cursor self.new).current (cursor self.new).kept }
+        ensures { calls.Looks (cursor self.old) (cursor self.new) }
     {
         if self.current.is_some() || self.kept.is_some() {
             return;
@@ -93,8 +91,7 @@ impl<'input, T: Input> Reader<'input, T> {
 
     // What was read ahead.
     pub(super) fn shown(&self) -> Option<Result<&(Event<'input>, Span), &Fault>>
-        requires { IfNone self.now.current (spec.to_come (cursor self.now) ≡ spec.told (cursor self.now).kept) }
-        ensures { spec.Shows result (spec.to_come (cursor self.now)) }
+        ensures { calls.IsShown result (cursor self.now) }
     {
         if let Some(event) = &self.current {
             return Some(Ok(event));
@@ -121,12 +118,7 @@ impl<'input, T: Input> Reader<'input, T> {
     // Gives the fault that ended the events, unless it was given before. Where it can't be copied, it is
     // lost for the want of memory.
     fn give_fault(&mut self) -> Option<Result<(Event<'input>, Span), Fault>>
-        ensures hands { spec.Hands result (spec.told (cursor self.old).kept) (spec.told (cursor self.new).kept) }
-        ensures given { spec.IsGiven result (cursor self.new).kept }
-        ensures same { spec.IsUnmoved (cursor self.old) (cursor self.new) }
-        ensures current { self.new.current ≡ self.old.current }
-        ensures kept { spec.IsKept (cursor self.old).kept → spec.IsKept (cursor self.new).kept }
-        ensures nothing { (cursor self.old).kept ≡ None → cursor self.new ≡ cursor self.old }
+        ensures { calls.GivesFault (cursor self.old).kept result (cursor self.old) (cursor self.new) }
     {
         let Some(kept) = self.kept.take() else {
             return None;
@@ -152,12 +144,7 @@ impl<'input, T: Input> Reader<'input, T> {
     // The same, where an event would be written into its place.
     #[inline(never)]
     fn give_fault_into(&mut self, next: &mut (Event<'input>, Span)) -> Option<Result<(), Fault>>
-        ensures hands { spec.Hands (filled next.new result) (spec.told (cursor self.old).kept) (spec.told (cursor self.new).kept) }
-        ensures given { spec.IsGiven (filled next.new result) (cursor self.new).kept }
-        ensures same { spec.IsUnmoved (cursor self.old) (cursor self.new) }
-        ensures current { self.new.current ≡ self.old.current }
-        ensures kept { spec.IsKept (cursor self.old).kept → spec.IsKept (cursor self.new).kept }
-        ensures nothing { (cursor self.old).kept ≡ None → cursor self.new ≡ cursor self.old }
+        ensures { calls.GivesFault (cursor self.old).kept (filled next.new result) (cursor self.old) (cursor self.new) }
     {
         fill(self.give_fault(), next)
     }
@@ -165,9 +152,7 @@ impl<'input, T: Input> Reader<'input, T> {
     // Hands out what was read ahead: an event, or the fault in place of it.
     fn next_ahead(&mut self) -> Option<Result<(Event<'input>, Span), Fault>>
         requires { IfNone self.old.current (spec.IsKept (cursor self.old).kept) }
-        ensures hands { spec.Hands result (spec.to_come (cursor self.old)) (spec.to_come (cursor self.new)) }
-        ensures remembers { spec.Remembers result (cursor self.old) (cursor self.new) }
-        ensures given { spec.IsGiven result (cursor self.new).kept }
+        ensures { calls.Gives result (cursor self.old) (cursor self.new) }
     {
         if let Some((event, span)) = self.current.take() {
             self.remember(&event, span);
@@ -180,9 +165,7 @@ impl<'input, T: Input> Reader<'input, T> {
     #[inline(never)]
     fn next_ahead_into(&mut self, next: &mut (Event<'input>, Span)) -> Option<Result<(), Fault>>
         requires { IfNone self.old.current (spec.IsKept (cursor self.old).kept) }
-        ensures hands { spec.Hands (filled next.new result) (spec.to_come (cursor self.old)) (spec.to_come (cursor self.new)) }
-        ensures remembers { spec.Remembers (filled next.new result) (cursor self.old) (cursor self.new) }
-        ensures given { spec.IsGiven (filled next.new result) (cursor self.new).kept }
+        ensures { calls.Gives (filled next.new result) (cursor self.old) (cursor self.new) }
     {
         fill(self.next_ahead(), next)
     }
@@ -193,9 +176,7 @@ impl<'input, T: Input> Reader<'input, T> {
         &mut self,
         next: &mut (Event<'input>, Span),
     ) -> Option<Result<(), Fault>>
-        ensures hands { spec.Hands (filled next.new result) (spec.to_come (cursor self.old)) (spec.to_come (cursor self.new)) }
-        ensures remembers { spec.Remembers (filled next.new result) (cursor self.old) (cursor self.new) }
-        ensures given { spec.IsGiven (filled next.new result) (cursor self.new).kept }
+        ensures { calls.Gives (filled next.new result) (cursor self.old) (cursor self.new) }
     {
         if self.current.is_some() || self.kept.is_some() {
             return self.next_ahead_into(next);
@@ -218,9 +199,7 @@ impl<'input, T: Input> Reader<'input, T> {
     /// Hands out the next event.
     #[inline(always)]
     pub(super) fn next_event(&mut self) -> Option<Result<(Event<'input>, Span), Fault>>
-        ensures hands { spec.Hands result (spec.to_come (cursor self.old)) (spec.to_come (cursor self.new)) }
-        ensures remembers { spec.Remembers result (cursor self.old) (cursor self.new) }
-        ensures given { spec.IsGiven result (cursor self.new).kept }
+        ensures { calls.Gives result (cursor self.old) (cursor self.new) }
     {
         let mut next = no_event();
         match self.next_into(&mut next)? {

@@ -1,6 +1,7 @@
 use Rattle.std.proofs.Common.{◌≡◌, ◌∙◌, Err, rules, sym}
 use Rattle.saphyr_parser.specs.Cursor.{event_of}
 use Rattle.saphyr_parser.specs.ReaderSeen.{cursor}
+use Rattle.saphyr_parser.proofs.Calls.Handing.{advances_less}
 use Rattle.saphyr_parser.proofs.Loading.{goes_on, ends, stops, over}
 use Rattle.saphyr_parser.proofs.parser.reader.Reader.load_part.Goals as goal
 
@@ -20,3 +21,6 @@ returns-in_err-send g c =
 pub returns : goal.returns
 returns g c =
     over g.R.SpannedEventReceiver.receives c.told_fault.result c.args.multi (cursor c.args.self.now) (cursor c.loop-event.self) (cursor c.pass.new.self) c.args.recv.now c.loop-event.recv c.loop-event.invariant c.in_default.ensures c.told_fault.ensures
+
+pub loop-event-smaller : goal.loop-event-smaller
+loop-event-smaller g c = advances_less (event_of (c.in-Some.event, c.in-Some.span)) (cursor c.loop-event.self) (cursor c.pass.new.self) c.in-Some.ensures.0
