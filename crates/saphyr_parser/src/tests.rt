@@ -1,5 +1,6 @@
-use crate::law::lists_characters;
-use crate::{CloneInput, Event, Fault, Input, Marker, Parser, ScanError, Span, StrInput};
+use crate::{
+    CloneInput, Event, Fault, Input, Marker, Parser, ScanError, Span, StrInput, lists_characters,
+};
 use std::alloc::{AllocError, Global};
 use std::test::Fail;
 

@@ -1,10 +1,10 @@
-//! Counts the keys of the mappings in a YAML text that standard input gives, in each way in which a
-//! parser can be read: an example of a crate over `saphyr_parser`.
+//! Counts the scalars of a YAML text that standard input gives, in each way in which a parser can be
+//! read: an example of a crate over `saphyr_parser`.
 #![tactic(auto)]
 
 mod characters;
-mod counter;
 mod reading;
+mod receivers;
 
 use std::io;
 use std::io::Read;

@@ -1,6 +1,6 @@
 use Rattle.std.specs.Prelude.{⊤}
 use Rattle.saphyr_parser.specs.Cursor.{to_come, count}
-use Rattle.count_keys.proofs.reading.by_next_event.Given as goal
+use Rattle.count_scalars.proofs.reading.by_next_event.Given as goal
 
 abbrev pub invariant-loop-item : goal.invariant-loop-item
 invariant-loop-item l = ⊤

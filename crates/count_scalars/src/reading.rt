@@ -1,10 +1,10 @@
 //! The ways in which a parser can be read.
 use crate::characters::Characters;
-use crate::counter::{KeyCounter, Reach};
+use crate::receivers::{Reach, ScalarCounter};
 use saphyr_parser::{Event, Fault, Input, Parser, lists_characters};
 use std::alloc::Global;
 
-/// The keys that each way of reading counts, and the furthest index of an event.
+/// The scalars that each way of reading counts, and the furthest index of an event.
 #[derive(Clone, Copy, Debug)]
 pub struct Counts {
     pub by_iterator: usize,
@@ -28,57 +28,62 @@ pub fn count_all(alloc: Global, text: &str) -> Result<Counts, Fault> {
     })
 }
 
-/// A parser is an iterator. Here prefixes of tags hold for later documents too.
-fn by_iterator(alloc: Global, text: &str) -> Result<usize, Fault> {
-    let mut counter = KeyCounter::new(alloc);
-    for item in Parser::new_from_str(alloc, text).keep_tags(true) {
+/// A parser is an iterator.
+pub fn by_iterator(alloc: Global, text: &str) -> Result<usize, Fault> {
+    let mut scalars = 0usize;
+    for item in Parser::new_from_str(alloc, text) {
         let (event, _span) = item?;
-        counter.count(event)?;
+        if let Event::Scalar(..) = event {
+            scalars = scalars.saturating_add(1);
+        }
     }
-    Ok(counter.keys())
+    Ok(scalars)
 }
 
-/// A loop of one's own. That it ends is for `proofs/reading/by_next_event/Invariants.antt` to say: each turn
-/// takes one of the items that are still to come.
-fn by_next_event(alloc: Global, text: &str) -> Result<usize, Fault> {
+/// A loop of one's own. That it ends is for `proofs/reading/by_next_event/Invariants.antt` to say: each turn takes
+/// one of the items that are still to come.
+pub fn by_next_event(alloc: Global, text: &str) -> Result<usize, Fault> {
     let mut parser = Parser::new_from_str(alloc, text);
-    let mut counter = KeyCounter::new(alloc);
+    let mut scalars = 0usize;
     while let Some(item) = parser.next_event() {
         let (event, _span) = item?;
-        counter.count(event)?;
+        if let Event::Scalar(..) = event {
+            scalars = scalars.saturating_add(1);
+        }
     }
-    Ok(counter.keys())
+    Ok(scalars)
 }
 
-/// Two parsers at the same place hand the same events to two receivers.
-fn by_load(alloc: Global, text: &str) -> Result<(usize, usize), Fault> {
-    let mut parser = Parser::new_from_str(alloc, text);
+/// Two parsers at the same place hand the same events to two receivers. Prefixes of tags hold for later documents,
+/// too.
+pub fn by_load(alloc: Global, text: &str) -> Result<(usize, usize), Fault> {
+    let mut parser = Parser::new_from_str(alloc, text).keep_tags(true);
     let mut twin = parser.try_clone()?;
-    let keys = load_keys(alloc, &mut parser)?;
+    let scalars = load_all(&mut parser)?;
     let mut reach = Reach { index: 0 };
     twin.load(&mut reach, true)?;
-    Ok((keys, reach.index))
+    Ok((scalars, reach.index))
 }
 
-fn load_keys<T: Input>(alloc: Global, parser: &mut Parser<'_, T>) -> Result<usize, Fault> {
-    let mut counter = KeyCounter::new(alloc);
+fn load_all<T: Input>(parser: &mut Parser<'_, T>) -> Result<usize, Fault> {
+    let mut counter = ScalarCounter { scalars: 0 };
     parser.load(&mut counter, true)?;
-    Ok(counter.keys())
+    Ok(counter.scalars)
 }
 
 /// The law `lists_characters` says that the iterator gives one list of characters, as `new_from_iter` asks.
-fn from_iterator(alloc: Global, text: &str) -> Result<usize, Fault> {
+pub fn from_iterator(alloc: Global, text: &str) -> Result<usize, Fault> {
     let characters = text.chars();
     lists_characters(&characters);
     let mut parser = Parser::new_from_iter(alloc, characters)?;
-    load_keys(alloc, &mut parser)
+    load_all(&mut parser)
 }
 
 /// A peek passes nothing: what it shows comes again.
-fn from_own_input(alloc: Global, characters: &[char]) -> Result<usize, Fault> {
+pub fn from_own_input(alloc: Global, characters: &[char]) -> Result<usize, Fault> {
     let mut parser = Parser::new(alloc, Characters::new(characters));
     if matches!(parser.peek(), Some(Ok((Event::StreamStart, _)))) {
-        load_keys(alloc, &mut parser)
+        load_all(&mut parser)
     } else {
         Ok(0)
     }
