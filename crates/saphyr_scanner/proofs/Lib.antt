@@ -129,5 +129,6 @@ pub mod ToldSteps
 pub mod ToldScalars
 pub mod ToldDocuments
 pub mod ToldReads
+pub mod Steps
 pub mod Breaks
 pub mod Wrong

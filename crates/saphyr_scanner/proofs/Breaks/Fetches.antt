@@ -1,5 +1,5 @@
 -- The next token is fetched alike from a text and from its normalized text.
-use Rattle.std.proofs.Common.{◌≡◌, ℕ, ◌≤◌, Bool, true, false, List, [], ◌∷◌, length, Some, Result, Ok, Err, refl, sym, ap, ◌∙◌, arith, subst}
+use Rattle.std.proofs.Common.{◌≡◌, ℕ, ◌≤◌, true, false, List, [], ◌∷◌, length, Some, Result, Ok, Err, refl, sym, ap, ◌∙◌, arith, subst}
 use Rattle.std.specs.Prelude.{◌&&◌, ◌||◌, ◌==◌, not, slice_index, nat_le, nat_lt}
 use Rattle.std.proofs.lemmas.Bool.Decides.{nat_tests}
 use Rattle.saphyr_input.specs.Breaks.{normalized}
@@ -21,6 +21,7 @@ use Rattle.saphyr_scanner.proofs.Separated.{both_of}
 use Rattle.saphyr_scalar.specs.Alike.{GiveAlike}
 use Rattle.saphyr_scalar.proofs.Breaks.Results.{both_then}
 use Rattle.saphyr_scalar.proofs.Breaks.Sides.{no_return}
+use Rattle.saphyr_scanner.proofs.Steps.Choice.{both_cases}
 use Rattle.saphyr_scanner.proofs.Breaks.Cores.{Indexes, near_core, Twin, Laws, Inked, of_cores, drop_twin}
 use Rattle.saphyr_scanner.proofs.Breaks.Documents.{stream_same, start_marker_same, end_marker_same, byte_order_mark_same, directive_same}
 use Rattle.saphyr_scanner.proofs.Breaks.Indicators.{start_same, end_same, entry_same, value_same, flow_value_same, adjacent_same, block_entry_same, key_same}
@@ -32,67 +33,39 @@ use Rattle.saphyr_scanner.proofs.Breaks.Steps.{both_choose}
 
 -- ## What begins at a place
 
--- what is asked of the second character is the same of both
-pub record Seconds (second other : ℕ) : Type 0 where
-  pub ends : is_blank_or_breakz other ≡ is_blank_or_breakz second
-  pub flow : is_flow other ≡ is_flow second
-  pub opens : ((other == 91) || (other == 123)) ≡ ((second == 91) || (second == 123))
-
 step_same : (text : List ℕ) (first second other n : ℕ) (c : Core) (x : Indexes) → Laws text → Twin text c x
-    → Inked c.cursor.rest → slice_index c.cursor.rest 0 ≡ first → Seconds second other
+    → Inked c.cursor.rest → slice_index c.cursor.rest 0 ≡ first → is_blank_or_breakz other ≡ is_blank_or_breakz second
+    → is_flow other ≡ is_flow second → ((other == 91) || (other == 123)) ≡ ((second == 91) || (second == 123))
     → GiveAlike (SameSteps text) (step first second n c) (step first other n (near_core x c))
-unfolding step
-step_same text first second other n c x laws t ink f s =
-    let R = SameSteps text in
-    let is : (k : ℕ) → (first == k) ≡ true → slice_index c.cursor.rest 0 ≡ k = λ k e. f ∙ is_number first k e in
-    let begins : (k : ℕ) (b : Bool) → ((first == k) && b) ≡ true → slice_index c.cursor.rest 0 ≡ k = λ k b e. is k
-    (both_of (first == k) b e).0 in
-    let near : (k : ℕ) → ((first == k) && is_blank_or_breakz other) ≡ ((first == k) && is_blank_or_breakz second) =
-    λ k. ap (λ b. (first == k) && b) s.ends in
+step_same text first second other n c x laws t ink f blank is_flow_too opens =
     let beside : is_value_adjacent other (near_core x c) ≡ is_value_adjacent second c =
-    ap (λ b. not (in_block c) && (b || (x.at == x.adjacent))) s.flow ∙ ap
-    (λ b. not (in_block c) && (is_flow second || b)) (adjacent_same text c x t) in
-    both_choose R (first == 91) (first == 91) _ _ _ _ refl
-    (λ _. start_same text context.FlowSequence tokens.FlowSequenceStart n c x laws t ink)
-    (λ _. both_choose R (first == 123) (first == 123) _ _ _ _ refl
-    (λ _. start_same text context.FlowMapping tokens.FlowMappingStart n c x laws t ink)
-    (λ _. both_choose R (first == 93) (first == 93) _ _ _ _ refl
-    (λ _. end_same text true tokens.FlowSequenceEnd c x laws t ink)
-    (λ _. both_choose R (first == 125) (first == 125) _ _ _ _ refl
-    (λ _. end_same text false tokens.FlowMappingEnd c x laws t ink)
-    (λ _. both_choose R (first == 44) (first == 44) _ _ _ _ refl (λ _. entry_same text c x laws t ink)
-    (λ _. both_choose R ((first == 45) && is_blank_or_breakz second)
-    ((first == 45) && is_blank_or_breakz other) _ _ _ _ (near 45) (λ _. block_entry_same text c x laws t ink)
-    (λ _. both_choose R ((first == 63) && is_blank_or_breakz second)
-    ((first == 63) && is_blank_or_breakz other) _ _ _ _ (near 63) (λ _. key_same text c x laws t ink)
-    (λ _. both_choose R ((first == 58) && is_blank_or_breakz second)
-    ((first == 58) && is_blank_or_breakz other) _ _ _ _ (near 58) (λ _. value_same text c x laws t ink)
-    (λ _. both_choose R ((first == 58) && is_value_adjacent second c)
-    ((first == 58) && is_value_adjacent other (near_core x c)) _ _ _ _ (ap (λ b. (first == 58) && b) beside)
-    (λ _. flow_value_same text second other c x laws t ink s.opens)
-    (λ _. both_choose R (first == 34) (first == 34) _ _ _ _ refl (λ e. double_same text n c x laws t (is 34 e))
-    (λ _. both_choose R (first == 39) (first == 39) _ _ _ _ refl (λ e. single_same text n c x laws t (is 39 e))
-    (λ _. both_choose R (first == 42) (first == 42) _ _ _ _ refl (λ _. name_same text true n c x laws t ink)
-    (λ _. both_choose R (first == 38) (first == 38) _ _ _ _ refl (λ _. name_same text false n c x laws t ink)
-    (λ _. both_choose R (first == 33) (first == 33) _ _ _ _ refl (λ e. tag_same text n c x laws t (is 33 e))
-    (λ _. both_choose R ((first == 124) && in_block c) ((first == 124) && in_block c) _ _ _ _ refl
-    (λ e. block_same text block_style.Literal n c x laws t (begins 124 (in_block c) e))
-    (λ _. both_choose R ((first == 62) && in_block c) ((first == 62) && in_block c) _ _ _ _ refl
-    (λ e. block_same text block_style.Folded n c x laws t (begins 62 (in_block c) e))
-    (λ _. both_choose R ((first == 37) || (first == 64) || (first == 96))
-    ((first == 37) || (first == 64) || (first == 96)) _ _ _ _ refl (λ _. refl)
-    (λ _. plain_same text n c x laws t)))))))))))))))))
+    ap (λ b. not (in_block c) && (b || (x.at == x.adjacent))) is_flow_too
+    ∙ ap (λ b. not (in_block c) && (is_flow second || b)) (adjacent_same text c x t) in
+    both_cases (GiveAlike (SameSteps text)) first second other n c (near_core x c) (sym blank) (sym beside) refl
+    (record {
+      sequence = λ _. start_same text context.FlowSequence tokens.FlowSequenceStart n c x laws t ink;
+      mapping = λ _. start_same text context.FlowMapping tokens.FlowMappingStart n c x laws t ink;
+      sequence_end = λ _. end_same text true tokens.FlowSequenceEnd c x laws t ink;
+      mapping_end = λ _. end_same text false tokens.FlowMappingEnd c x laws t ink;
+      comma = λ _. entry_same text c x laws t ink;
+      dash = λ _ _. block_entry_same text c x laws t ink;
+      question = λ _ _. key_same text c x laws t ink;
+      colon = λ _ _. value_same text c x laws t ink;
+      beside = λ _ _. flow_value_same text second other c x laws t ink opens;
+      double = λ e. double_same text n c x laws t (f ∙ e);
+      single = λ e. single_same text n c x laws t (f ∙ e);
+      alias = λ _. name_same text true n c x laws t ink;
+      anchor = λ _. name_same text false n c x laws t ink;
+      tag = λ e. tag_same text n c x laws t (f ∙ e);
+      literal = λ e _. block_same text block_style.Literal n c x laws t (f ∙ e);
+      folded = λ e _. block_same text block_style.Folded n c x laws t (f ∙ e);
+      reserved = refl;
+      plain = λ _. plain_same text n c x laws t;
+    })
 
 first_same : (t : List ℕ) → Inked t → slice_index (normalized t) 0 ≡ slice_index t 0
 first_same [] k = absurd k
 first_same (c ∷ t) k = let e = no_return c k in rw e refl
-
-seconds : (t : List ℕ) → is_break (slice_index t 0) ≡ false → Seconds (slice_index t 1) (slice_index (normalized t) 1)
-seconds t k = record {
-  ends = second_is is_blank_or_breakz refl t k;
-  flow = second_is is_flow refl t k;
-  opens = second_is (λ c. (c == 91) || (c == 123)) refl t k;
-}
 
 content_same : (text : List ℕ) (c : Core) (x : Indexes) (q r : Queue) → Laws text → Twin text c x → SameQueues q r
     → Inked c.cursor.rest → is_break (slice_index c.cursor.rest 0) ≡ false
@@ -107,7 +80,8 @@ content_same text c x q r laws t e ink k =
     (acted (step (slice_index s 0) (slice_index s 1) (next q) c) q)
     (acted (step f (slice_index n 1) i (near_core x c)) r) in
     let h = step_same text (slice_index s 0) (slice_index s 1) (slice_index n 1) (next q) c x laws t ink refl
-    (seconds s k) in
+    (second_is is_blank_or_breakz refl s k) (second_is is_flow refl s k)
+    (second_is (λ y. (y == 91) || (y == 123)) refl s k) in
     subst (λ f. P f (next r)) (sym (first_same s ink))
     (subst (λ i. P (slice_index s 0) i) (same_next q r e) (acted_same text _ _ q r h e))
 

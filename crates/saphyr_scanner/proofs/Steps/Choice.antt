@@ -1,0 +1,128 @@
+-- What a text's next characters begin: the choice of `step`, for what is shown of each of its results. Two steps are told
+-- side by side, of two cores and with two second characters that are asked the same; of one step alone both are one.
+use Rattle.std.proofs.Common.{◌≡◌, ℕ, Bool, true, false, refl, ap}
+use Rattle.std.specs.Prelude.{◌&&◌, ◌||◌, ◌==◌}
+use Rattle.saphyr_input.specs.Classes.{is_blank_or_breakz}
+use Rattle.saphyr_scalar.specs.declared.reading.block.BlockStyle.TheVariants as block_style
+use Rattle.saphyr_scalar.specs.declared.scalar.fault.FaultText.TheVariants as fault
+use Rattle.saphyr_scalar.specs.Cursor.{refuse}
+use Rattle.saphyr_scalar.proofs.Breaks.Results.{both_by}
+use Rattle.saphyr_scalar.proofs.TagsSpelled.{is_number}
+use Rattle.saphyr_scanner.specs.declared.engine.level.Context.TheVariants as context
+use Rattle.saphyr_scanner.specs.Tokens as tokens
+use Rattle.saphyr_scanner.specs.Block as block
+use Rattle.saphyr_scanner.specs.Core.{Core, Steps, in_block}
+use Rattle.saphyr_scanner.specs.Fetch.{step, is_value_adjacent, flow_value}
+use Rattle.saphyr_scanner.specs.Flow as flow
+use Rattle.saphyr_scanner.specs.Property as property
+use Rattle.saphyr_scanner.specs.Scalar as scalar
+use Rattle.saphyr_scanner.specs.Value as value
+use Rattle.saphyr_scanner.proofs.Separated.{both_of}
+
+-- no indicator stands here
+pub record NoIndicator (first second : ℕ) (c : Core) : Type 0 where
+  pub sequence : (first == 91) ≡ false
+  pub mapping : (first == 123) ≡ false
+  pub sequence_end : (first == 93) ≡ false
+  pub mapping_end : (first == 125) ≡ false
+  pub comma : (first == 44) ≡ false
+  pub dash : ((first == 45) && is_blank_or_breakz second) ≡ false
+  pub question : ((first == 63) && is_blank_or_breakz second) ≡ false
+  pub colon : ((first == 58) && is_blank_or_breakz second) ≡ false
+  pub beside : ((first == 58) && is_value_adjacent second c) ≡ false
+  pub double : (first == 34) ≡ false
+  pub single : (first == 39) ≡ false
+  pub alias : (first == 42) ≡ false
+  pub anchor : (first == 38) ≡ false
+  pub tag : (first == 33) ≡ false
+  pub literal : ((first == 124) && in_block c) ≡ false
+  pub folded : ((first == 62) && in_block c) ≡ false
+  pub reserved : ((first == 37) || (first == 64) || (first == 96)) ≡ false
+
+-- what is to be shown of each
+pub record Cases (P : Steps → Steps → Type 0) (first second other n : ℕ) (c d : Core) : Type 0 where
+  pub sequence : first ≡ 91
+      → P (flow.start context.FlowSequence tokens.FlowSequenceStart n c)
+      (flow.start context.FlowSequence tokens.FlowSequenceStart n d)
+  pub mapping : first ≡ 123
+      → P (flow.start context.FlowMapping tokens.FlowMappingStart n c)
+      (flow.start context.FlowMapping tokens.FlowMappingStart n d)
+  pub sequence_end : first ≡ 93 → P (flow.end true tokens.FlowSequenceEnd c) (flow.end true tokens.FlowSequenceEnd d)
+  pub mapping_end : first ≡ 125 → P (flow.end false tokens.FlowMappingEnd c) (flow.end false tokens.FlowMappingEnd d)
+  pub comma : first ≡ 44 → P (flow.entry c) (flow.entry d)
+  pub dash : first ≡ 45 → is_blank_or_breakz second ≡ true → P (block.entry c) (block.entry d)
+  pub question : first ≡ 63 → is_blank_or_breakz second ≡ true → P (block.key c) (block.key d)
+  pub colon : first ≡ 58 → is_blank_or_breakz second ≡ true → P (value.fetch c) (value.fetch d)
+  pub beside : first ≡ 58 → is_value_adjacent second c ≡ true → P (flow_value second c) (flow_value other d)
+  pub double : first ≡ 34 → P (scalar.double_quoted n c) (scalar.double_quoted n d)
+  pub single : first ≡ 39 → P (scalar.single_quoted n c) (scalar.single_quoted n d)
+  pub alias : first ≡ 42 → P (property.name true n c) (property.name true n d)
+  pub anchor : first ≡ 38 → P (property.name false n c) (property.name false n d)
+  pub tag : first ≡ 33 → P (property.tag n c) (property.tag n d)
+  pub literal : first ≡ 124 → in_block c ≡ true
+      → P (scalar.block block_style.Literal n c) (scalar.block block_style.Literal n d)
+  pub folded : first ≡ 62 → in_block c ≡ true
+      → P (scalar.block block_style.Folded n c) (scalar.block block_style.Folded n d)
+  pub reserved :
+      P (refuse (fault.UnexpectedCharacter first) c.cursor.mark)
+      (refuse (fault.UnexpectedCharacter first) d.cursor.mark)
+  pub plain : NoIndicator first second c → P (scalar.plain n c) (scalar.plain n d)
+
+pub both_cases : (P : Steps → Steps → Type 0) (first second other n : ℕ) (c d : Core)
+    → is_blank_or_breakz second ≡ is_blank_or_breakz other → is_value_adjacent second c ≡ is_value_adjacent other d
+    → in_block c ≡ in_block d → Cases P first second other n c d → P (step first second n c) (step first other n d)
+unfolding step
+both_cases P first second other n c d blank beside same h =
+    let is : (k : ℕ) → (first == k) ≡ true → first ≡ k = λ k e. is_number first k e in
+    let two : (k : ℕ) (b : Bool) → ((first == k) && b) ≡ true → (first ≡ k) × (b ≡ true) = λ k b e. let w = both_of
+    (first == k) b e in (is k w.0, w.1) in
+    let and : (k : ℕ) (a b : Bool) → a ≡ b → ((first == k) && a) ≡ ((first == k) && b) = λ k a b e. ap
+    (λ x. (first == k) && x) e in
+    both_by (first == 91) (first == 91) _ _ _ _ P refl (λ e _. h.sequence (is 91 e))
+    (λ e0 _. both_by (first == 123) (first == 123) _ _ _ _ P refl (λ e _. h.mapping (is 123 e))
+    (λ e1 _. both_by (first == 93) (first == 93) _ _ _ _ P refl (λ e _. h.sequence_end (is 93 e))
+    (λ e2 _. both_by (first == 125) (first == 125) _ _ _ _ P refl (λ e _. h.mapping_end (is 125 e))
+    (λ e3 _. both_by (first == 44) (first == 44) _ _ _ _ P refl (λ e _. h.comma (is 44 e))
+    (λ e4 _. both_by ((first == 45) && is_blank_or_breakz second) _ _ _ _ _ P (and 45 _ _ blank)
+    (λ e _. let w = two 45 _ e in h.dash w.0 w.1)
+    (λ e5 _. both_by ((first == 63) && is_blank_or_breakz second) _ _ _ _ _ P (and 63 _ _ blank)
+    (λ e _. let w = two 63 _ e in h.question w.0 w.1)
+    (λ e6 _. both_by ((first == 58) && is_blank_or_breakz second) _ _ _ _ _ P (and 58 _ _ blank)
+    (λ e _. let w = two 58 _ e in h.colon w.0 w.1)
+    (λ e7 _. both_by ((first == 58) && is_value_adjacent second c) _ _ _ _ _ P (and 58 _ _ beside)
+    (λ e _. let w = two 58 _ e in h.beside w.0 w.1)
+    (λ e8 _. both_by (first == 34) (first == 34) _ _ _ _ P refl (λ e _. h.double (is 34 e))
+    (λ e9 _. both_by (first == 39) (first == 39) _ _ _ _ P refl (λ e _. h.single (is 39 e))
+    (λ e10 _. both_by (first == 42) (first == 42) _ _ _ _ P refl (λ e _. h.alias (is 42 e))
+    (λ e11 _. both_by (first == 38) (first == 38) _ _ _ _ P refl (λ e _. h.anchor (is 38 e))
+    (λ e12 _. both_by (first == 33) (first == 33) _ _ _ _ P refl (λ e _. h.tag (is 33 e))
+    (λ e13 _. both_by ((first == 124) && in_block c) _ _ _ _ _ P (and 124 _ _ same)
+    (λ e _. let w = two 124 _ e in h.literal w.0 w.1)
+    (λ e14 _. both_by ((first == 62) && in_block c) _ _ _ _ _ P (and 62 _ _ same)
+    (λ e _. let w = two 62 _ e in h.folded w.0 w.1)
+    (λ e15 _. both_by ((first == 37) || (first == 64) || (first == 96))
+    ((first == 37) || (first == 64) || (first == 96)) _ _ _ _ P refl (λ _ _. h.reserved)
+    (λ e16 _. h.plain (record {
+      sequence = e0;
+      mapping = e1;
+      sequence_end = e2;
+      mapping_end = e3;
+      comma = e4;
+      dash = e5;
+      question = e6;
+      colon = e7;
+      beside = e8;
+      double = e9;
+      single = e10;
+      alias = e11;
+      anchor = e12;
+      tag = e13;
+      literal = e14;
+      folded = e15;
+      reserved = e16;
+    }))))))))))))))))))
+
+-- the same of one step
+pub cases : (Q : Steps → Type 0) (first second n : ℕ) (c : Core) → Cases (λ x y. Q x) first second second n c c
+    → Q (step first second n c)
+cases Q first second n c h = both_cases (λ x y. Q x) first second second n c c refl refl refl h
