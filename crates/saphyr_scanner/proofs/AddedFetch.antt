@@ -1,7 +1,7 @@
 -- Each token that is fetched adds few tokens, and the end of the stream comes behind all others.
 use Rattle.std.proofs.Common.{◌≡◌, ℕ, zero, suc, ◌+◌, ◌-◌, ◌≤◌, Bool, true, false, List, [], ◌∷◌, ◌++◌, length, Result, Ok, Err, refl, sym, ap, ◌∙◌, arith, subst}
 use Rattle.std.specs.Prelude.{◌&&◌, ◌||◌, slice_index, not, ◌==◌, nat_lt, nat_le, Option, Some, None}
-use Rattle.saphyr_input.specs.Classes.{is_bom, is_z, is_blank_or_breakz, is_breakz}
+use Rattle.saphyr_input.specs.Classes.{is_bom, is_z, is_breakz}
 use Rattle.saphyr_input.specs.Places.{is_document_start, is_document_end}
 use Rattle.saphyr_input.specs.declared.input.SkipTabs.{SkipTabs}
 use Rattle.saphyr_input.specs.declared.input.SkipTabs.TheVariants as tabs
@@ -21,7 +21,8 @@ use Rattle.saphyr_scanner.specs.Passing.{pass_gap, separate, with_cursor}
 use Rattle.saphyr_scanner.specs.State.{State, carried, separated, changed}
 use Rattle.saphyr_scanner.specs.Unrolling.{unroll, end_blocks, end_block, is_right_of, outwards, less_deep}
 use Rattle.saphyr_scanner.specs.Document as document
-use Rattle.saphyr_scanner.specs.Fetch.{step, content, fetch_here, arrive, begin, fetch, within, fetch_within, settled, is_value_adjacent}
+use Rattle.saphyr_scanner.specs.Fetch.{step, content, fetch_here, arrive, begin, fetch, within, fetch_within, settled}
+use Rattle.saphyr_scanner.proofs.Steps.Choice.{cases}
 use Rattle.saphyr_scanner.proofs.Sizes.{by_test, Given, given_bind, given_of}
 use Rattle.saphyr_scanner.proofs.Additions.{IsNoEnd, PlacesGoOn, at_most_one, one_at_most, open_blocks, Begins, AddsFew, due, Adds, tokens_put, begins_none, adds_none, adds_adds, carried_adds, acted_adds, put_adds, adds_onward}
 use Rattle.saphyr_scanner.proofs.AddedFlow.{gap_begins, remove_begins, drop_begins, one_put, start_adds, end_adds, entry_adds, value_adds, flow_value_adds}
@@ -129,27 +130,27 @@ directive_adds s = behind_content s _ (λ t. acted_adds t (document.read_directi
 -- ## What begins at a place
 
 step_adds : (first second n : ℕ) (c : Core) → Given (AddsFew c) (step first second n c)
-unfolding step
 step_adds first second n c =
-    let P = Given (AddsFew c) in
-    by_test (first == 91) _ _ P (λ _. start_adds context.FlowSequence tokens.FlowSequenceStart n c (λ i. absurd (cc)))
-    (λ _. by_test (first == 123) _ _ P (λ _. start_adds context.FlowMapping tokens.FlowMappingStart n c (λ i. absurd (cc)))
-    (λ _. by_test (first == 93) _ _ P (λ _. end_adds true tokens.FlowSequenceEnd c (λ i. absurd (cc)))
-    (λ _. by_test (first == 125) _ _ P (λ _. end_adds false tokens.FlowMappingEnd c (λ i. absurd (cc)))
-    (λ _. by_test (first == 44) _ _ P (λ _. entry_adds c)
-    (λ _. by_test ((first == 45) && is_blank_or_breakz second) _ _ P (λ _. block_entry_adds c)
-    (λ _. by_test ((first == 63) && is_blank_or_breakz second) _ _ P (λ _. block_key_adds c)
-    (λ _. by_test ((first == 58) && is_blank_or_breakz second) _ _ P (λ _. value_adds c)
-    (λ _. by_test ((first == 58) && is_value_adjacent second c) _ _ P (λ _. flow_value_adds second c)
-    (λ _. by_test (first == 34) _ _ P (λ _. double_quoted_adds n c)
-    (λ _. by_test (first == 39) _ _ P (λ _. single_quoted_adds n c)
-    (λ _. by_test (first == 42) _ _ P (λ _. name_adds true n c)
-    (λ _. by_test (first == 38) _ _ P (λ _. name_adds false n c)
-    (λ _. by_test (first == 33) _ _ P (λ _. tag_adds n c)
-    (λ _. by_test ((first == 124) && in_block c) _ _ P (λ _. block_adds block_style.Literal n c)
-    (λ _. by_test ((first == 62) && in_block c) _ _ P (λ _. block_adds block_style.Folded n c)
-    (λ _. by_test ((first == 37) || (first == 64) || (first == 96)) _ _ P (λ _. tt)
-    (λ _. plain_adds n c)))))))))))))))))
+    cases (Given (AddsFew c)) first second n c (record {
+      sequence = λ _. start_adds context.FlowSequence tokens.FlowSequenceStart n c (λ i. absurd (cc));
+      mapping = λ _. start_adds context.FlowMapping tokens.FlowMappingStart n c (λ i. absurd (cc));
+      sequence_end = λ _. end_adds true tokens.FlowSequenceEnd c (λ i. absurd (cc));
+      mapping_end = λ _. end_adds false tokens.FlowMappingEnd c (λ i. absurd (cc));
+      comma = λ _. entry_adds c;
+      dash = λ _ _. block_entry_adds c;
+      question = λ _ _. block_key_adds c;
+      colon = λ _ _. value_adds c;
+      beside = λ _ _. flow_value_adds second c;
+      double = λ _. double_quoted_adds n c;
+      single = λ _. single_quoted_adds n c;
+      alias = λ _. name_adds true n c;
+      anchor = λ _. name_adds false n c;
+      tag = λ _. tag_adds n c;
+      literal = λ _ _. block_adds block_style.Literal n c;
+      folded = λ _ _. block_adds block_style.Folded n c;
+      reserved = tt;
+      plain = λ _. plain_adds n c;
+    })
 
 -- ## A token is fetched
 

@@ -1,7 +1,7 @@
 -- A token that may be a key is the next one when it is saved: no candidate for an earlier place appears later.
 use Rattle.std.proofs.Common.{◌≡◌, ℕ, ◌≤◌, Bool, true, false, List, [], ◌∷◌, length, Result, Ok, Err, refl}
 use Rattle.std.specs.Prelude.{◌&&◌, ◌||◌, slice_index, not, ◌==◌, nat_lt, nat_le, Option, Some, None}
-use Rattle.saphyr_input.specs.Classes.{is_alpha, is_blank_or_breakz, is_break, is_flow}
+use Rattle.saphyr_input.specs.Classes.{is_alpha, is_break, is_flow}
 use Rattle.saphyr_input.specs.declared.input.SkipTabs.{SkipTabs}
 use Rattle.saphyr_input.specs.declared.input.SkipTabs.TheVariants as tabs
 use Rattle.saphyr_input.specs.Separation.{has_valid_yaml_ws, found_tabs}
@@ -31,7 +31,8 @@ use Rattle.saphyr_scalar.specs.declared.reading.block.BlockStyle.TheVariants as 
 use Rattle.saphyr_scanner.specs.Document as document
 use Rattle.saphyr_scanner.specs.Property as property
 use Rattle.saphyr_scanner.specs.Scalar as scalar
-use Rattle.saphyr_scanner.specs.Fetch.{step, is_value_adjacent, flow_value}
+use Rattle.saphyr_scanner.specs.Fetch.{step, flow_value}
+use Rattle.saphyr_scanner.proofs.Steps.Choice.{cases}
 use Rattle.saphyr_scanner.proofs.Sizes.{by_test, Given, given_bind}
 
 abbrev pub KeyAbove : ℕ → Option Candidate → Type 0
@@ -273,24 +274,24 @@ plain_keeps h n c l k =
 -- ## What begins at a place
 
 pub step_keeps : (h first second n : ℕ) (c : Core) → h ≤ n → Above h c → Given (Keeps h) (step first second n c)
-unfolding step
 step_keeps h first second n c l k =
-    let P = Given (Keeps h) in
-    by_test (first == 91) _ _ P (λ _. start_keeps h context.FlowSequence tokens.FlowSequenceStart n c l k)
-    (λ _. by_test (first == 123) _ _ P (λ _. start_keeps h context.FlowMapping tokens.FlowMappingStart n c l k)
-    (λ _. by_test (first == 93) _ _ P (λ _. end_keeps h true tokens.FlowSequenceEnd c k)
-    (λ _. by_test (first == 125) _ _ P (λ _. end_keeps h false tokens.FlowMappingEnd c k)
-    (λ _. by_test (first == 44) _ _ P (λ _. entry_keeps h c k)
-    (λ _. by_test ((first == 45) && is_blank_or_breakz second) _ _ P (λ _. block_entry_keeps h c k)
-    (λ _. by_test ((first == 63) && is_blank_or_breakz second) _ _ P (λ _. block_key_keeps h c k)
-    (λ _. by_test ((first == 58) && is_blank_or_breakz second) _ _ P (λ _. value_keeps h c k)
-    (λ _. by_test ((first == 58) && is_value_adjacent second c) _ _ P (λ _. flow_value_keeps h second c k)
-    (λ _. by_test (first == 34) _ _ P (λ _. double_quoted_keeps h n c l k)
-    (λ _. by_test (first == 39) _ _ P (λ _. single_quoted_keeps h n c l k)
-    (λ _. by_test (first == 42) _ _ P (λ _. name_keeps h true n c l k)
-    (λ _. by_test (first == 38) _ _ P (λ _. name_keeps h false n c l k)
-    (λ _. by_test (first == 33) _ _ P (λ _. tag_keeps h n c l k)
-    (λ _. by_test ((first == 124) && in_block c) _ _ P (λ _. block_scalar_keeps h block_style.Literal n c l k)
-    (λ _. by_test ((first == 62) && in_block c) _ _ P (λ _. block_scalar_keeps h block_style.Folded n c l k)
-    (λ _. by_test ((first == 37) || (first == 64) || (first == 96)) _ _ P (λ _. tt)
-    (λ _. plain_keeps h n c l k)))))))))))))))))
+    cases (Given (Keeps h)) first second n c (record {
+      sequence = λ _. start_keeps h context.FlowSequence tokens.FlowSequenceStart n c l k;
+      mapping = λ _. start_keeps h context.FlowMapping tokens.FlowMappingStart n c l k;
+      sequence_end = λ _. end_keeps h true tokens.FlowSequenceEnd c k;
+      mapping_end = λ _. end_keeps h false tokens.FlowMappingEnd c k;
+      comma = λ _. entry_keeps h c k;
+      dash = λ _ _. block_entry_keeps h c k;
+      question = λ _ _. block_key_keeps h c k;
+      colon = λ _ _. value_keeps h c k;
+      beside = λ _ _. flow_value_keeps h second c k;
+      double = λ _. double_quoted_keeps h n c l k;
+      single = λ _. single_quoted_keeps h n c l k;
+      alias = λ _. name_keeps h true n c l k;
+      anchor = λ _. name_keeps h false n c l k;
+      tag = λ _. tag_keeps h n c l k;
+      literal = λ _ _. block_scalar_keeps h block_style.Literal n c l k;
+      folded = λ _ _. block_scalar_keeps h block_style.Folded n c l k;
+      reserved = tt;
+      plain = λ _. plain_keeps h n c l k;
+    })

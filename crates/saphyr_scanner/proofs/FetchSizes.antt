@@ -2,7 +2,7 @@
 use Rattle.std.proofs.Common.{◌≡◌, ℕ, ◌<◌, Bool, true, false, List, [], ◌∷◌, length, drop, Result, Ok, Err, refl, ap, ◌∙◌, arith, cond}
 use Rattle.std.specs.Prelude.{◌&&◌, ◌||◌, slice_index, not, ◌==◌, nat_lt, nat_le, Option, Some, None}
 use Rattle.std.proofs.lemmas.List.{length-drop}
-use Rattle.saphyr_input.specs.Classes.{is_bom, is_z, is_blank_or_breakz, is_breakz}
+use Rattle.saphyr_input.specs.Classes.{is_bom, is_z, is_breakz}
 use Rattle.saphyr_input.specs.Places.{is_document_start, is_document_end}
 use Rattle.saphyr_input.specs.declared.input.SkipTabs.{SkipTabs}
 use Rattle.saphyr_scalar.specs.declared.scalar.position.Marker.{Marker}
@@ -17,10 +17,11 @@ use Rattle.saphyr_scanner.specs.Passing.{pass_gap, separate}
 use Rattle.saphyr_scanner.specs.State.{State, carried, acted, separated, changed}
 use Rattle.saphyr_scanner.specs.Unrolling.{unroll, end_blocks, end_block, is_right_of, outwards, less_deep}
 use Rattle.saphyr_scanner.specs.Document as document
-use Rattle.saphyr_scanner.specs.Fetch.{size, step, content, fetch_here, arrive, fetch, within, fetch_within, settled, is_value_adjacent}
+use Rattle.saphyr_scanner.specs.Fetch.{size, step, content, fetch_here, arrive, fetch, within, fetch_within, settled}
 use Rattle.std.proofs.lemmas.Bool.Decides.{nat_tests}
 use Rattle.saphyr_scalar.specs.Directive as directives
 use Rattle.saphyr_scalar.specs.declared.reading.block.BlockStyle.TheVariants as block_style
+use Rattle.saphyr_scanner.proofs.Steps.Choice.{cases}
 use Rattle.saphyr_scanner.proofs.Blocks.{unrolled_cursor}
 use Rattle.saphyr_scanner.proofs.Sizes.{by_test, Given, given_bind, given_of}
 use Rattle.saphyr_scanner.proofs.Taking.{Kept, Took, TookStep, same, kept_kept, kept_took, took_kept, gap_kept, drop_kept, separate_kept, remove_kept, start_takes, end_takes, entry_takes, value_takes, flow_value_takes}
@@ -169,27 +170,27 @@ pub is_number : (x n : ℕ) → (x == n) ≡ true → x ≡ n
 is_number x n e = grind (arith, nat_tests)
 
 pub step_takes : Readers → (first second n : ℕ) (c : Core) → 0 < length c.cursor.rest → slice_index c.cursor.rest 0 ≡ first → Given (TookStep c) (step first second n c)
-unfolding step
 step_takes laws first second n c h f =
-    let P = Given (TookStep c) in
-    by_test (first == 91) _ _ P (λ _. start_takes context.FlowSequence tokens.FlowSequenceStart n c h)
-    (λ _. by_test (first == 123) _ _ P (λ _. start_takes context.FlowMapping tokens.FlowMappingStart n c h)
-    (λ _. by_test (first == 93) _ _ P (λ _. end_takes true tokens.FlowSequenceEnd c h)
-    (λ _. by_test (first == 125) _ _ P (λ _. end_takes false tokens.FlowMappingEnd c h)
-    (λ _. by_test (first == 44) _ _ P (λ _. entry_takes c h)
-    (λ _. by_test ((first == 45) && is_blank_or_breakz second) _ _ P (λ _. block_entry_takes c h)
-    (λ _. by_test ((first == 63) && is_blank_or_breakz second) _ _ P (λ _. key_takes c h)
-    (λ _. by_test ((first == 58) && is_blank_or_breakz second) _ _ P (λ _. value_takes c h)
-    (λ _. by_test ((first == 58) && is_value_adjacent second c) _ _ P (λ _. flow_value_takes second c h)
-    (λ _. by_test (first == 34) _ _ P (λ e. double_quoted_takes laws n c (f ∙ is_number first 34 e))
-    (λ _. by_test (first == 39) _ _ P (λ e. single_quoted_takes laws n c (f ∙ is_number first 39 e))
-    (λ _. by_test (first == 42) _ _ P (λ _. name_takes laws true n c h)
-    (λ _. by_test (first == 38) _ _ P (λ _. name_takes laws false n c h)
-    (λ _. by_test (first == 33) _ _ P (λ e. tag_takes laws n c (f ∙ is_number first 33 e))
-    (λ _. by_test ((first == 124) && in_block c) _ _ P (λ _. block_takes laws block_style.Literal n c h)
-    (λ _. by_test ((first == 62) && in_block c) _ _ P (λ _. block_takes laws block_style.Folded n c h)
-    (λ _. by_test ((first == 37) || (first == 64) || (first == 96)) _ _ P (λ _. tt)
-    (λ _. plain_takes laws n c)))))))))))))))))
+    cases (Given (TookStep c)) first second n c (record {
+      sequence = λ _. start_takes context.FlowSequence tokens.FlowSequenceStart n c h;
+      mapping = λ _. start_takes context.FlowMapping tokens.FlowMappingStart n c h;
+      sequence_end = λ _. end_takes true tokens.FlowSequenceEnd c h;
+      mapping_end = λ _. end_takes false tokens.FlowMappingEnd c h;
+      comma = λ _. entry_takes c h;
+      dash = λ _ _. block_entry_takes c h;
+      question = λ _ _. key_takes c h;
+      colon = λ _ _. value_takes c h;
+      beside = λ _ _. flow_value_takes second c h;
+      double = λ e. double_quoted_takes laws n c (f ∙ e);
+      single = λ e. single_quoted_takes laws n c (f ∙ e);
+      alias = λ _. name_takes laws true n c h;
+      anchor = λ _. name_takes laws false n c h;
+      tag = λ e. tag_takes laws n c (f ∙ e);
+      literal = λ _ _. block_takes laws block_style.Literal n c h;
+      folded = λ _ _. block_takes laws block_style.Folded n c h;
+      reserved = tt;
+      plain = λ _. plain_takes laws n c;
+    })
 
 -- a place that shows no NUL is a character
 pub left : (t : List ℕ) → is_z (slice_index t 0) ≡ false → 0 < length t

@@ -18,7 +18,8 @@ use Rattle.saphyr_scanner.specs.Passing.{pass_gap, separate}
 use Rattle.saphyr_scanner.specs.State.{State, carried, separated, changed, acting}
 use Rattle.saphyr_scanner.specs.Unrolling.{unroll, end_blocks, end_block, is_right_of, less_deep}
 use Rattle.saphyr_scanner.specs.Document as document
-use Rattle.saphyr_scanner.specs.Fetch.{step, content, fetch_here, arrive, fetch, within, fetch_within, settled, is_value_adjacent}
+use Rattle.saphyr_scanner.specs.Fetch.{step, content, fetch_here, arrive, fetch, within, fetch_within, settled}
+use Rattle.saphyr_scanner.proofs.Steps.Choice.{cases}
 use Rattle.saphyr_scanner.proofs.Blocks.{block_cursor, less_deep_cursor, unrolled_cursor}
 use Rattle.saphyr_scanner.proofs.Sizes.{by_test, Given, given_bind, given_of}
 use Rattle.saphyr_scanner.proofs.FetchSizes.{content_cursor, both_right, is_number, left}
@@ -159,27 +160,27 @@ end_grows s =
 -- ## What begins at a place
 
 step_ordered : ReaderEnds → (first second n : ℕ) (c : Core) → 0 < length c.cursor.rest → slice_index c.cursor.rest 0 ≡ first → Given (Ordered c.cursor) (step first second n c)
-unfolding step
 step_ordered laws first second n c h f =
-    let P = Given (Ordered c.cursor) in
-    by_test (first == 91) _ _ P (λ _. start_ordered context.FlowSequence tokens.FlowSequenceStart n c h)
-    (λ _. by_test (first == 123) _ _ P (λ _. start_ordered context.FlowMapping tokens.FlowMappingStart n c h)
-    (λ _. by_test (first == 93) _ _ P (λ _. end_ordered true tokens.FlowSequenceEnd c h)
-    (λ _. by_test (first == 125) _ _ P (λ _. end_ordered false tokens.FlowMappingEnd c h)
-    (λ _. by_test (first == 44) _ _ P (λ _. entry_ordered c h)
-    (λ _. by_test ((first == 45) && is_blank_or_breakz second) _ _ P (λ _. block_entry_ordered c h)
-    (λ _. by_test ((first == 63) && is_blank_or_breakz second) _ _ P (λ _. key_ordered c h)
-    (λ _. by_test ((first == 58) && is_blank_or_breakz second) _ _ P (λ _. value_ordered c h)
-    (λ _. by_test ((first == 58) && is_value_adjacent second c) _ _ P (λ _. flow_value_ordered second c h)
-    (λ _. by_test (first == 34) _ _ P (λ e. double_quoted_ordered laws n c (f ∙ is_number first 34 e))
-    (λ _. by_test (first == 39) _ _ P (λ e. single_quoted_ordered laws n c (f ∙ is_number first 39 e))
-    (λ _. by_test (first == 42) _ _ P (λ _. name_ordered laws true n c h)
-    (λ _. by_test (first == 38) _ _ P (λ _. name_ordered laws false n c h)
-    (λ _. by_test (first == 33) _ _ P (λ e. tag_ordered laws n c (f ∙ is_number first 33 e))
-    (λ _. by_test ((first == 124) && in_block c) _ _ P (λ _. block_ordered laws block_style.Literal n c h)
-    (λ _. by_test ((first == 62) && in_block c) _ _ P (λ _. block_ordered laws block_style.Folded n c h)
-    (λ _. by_test ((first == 37) || (first == 64) || (first == 96)) _ _ P (λ _. tt)
-    (λ _. plain_ordered laws n c)))))))))))))))))
+    cases (Given (Ordered c.cursor)) first second n c (record {
+      sequence = λ _. start_ordered context.FlowSequence tokens.FlowSequenceStart n c h;
+      mapping = λ _. start_ordered context.FlowMapping tokens.FlowMappingStart n c h;
+      sequence_end = λ _. end_ordered true tokens.FlowSequenceEnd c h;
+      mapping_end = λ _. end_ordered false tokens.FlowMappingEnd c h;
+      comma = λ _. entry_ordered c h;
+      dash = λ _ _. block_entry_ordered c h;
+      question = λ _ _. key_ordered c h;
+      colon = λ _ _. value_ordered c h;
+      beside = λ _ _. flow_value_ordered second c h;
+      double = λ e. double_quoted_ordered laws n c (f ∙ e);
+      single = λ e. single_quoted_ordered laws n c (f ∙ e);
+      alias = λ _. name_ordered laws true n c h;
+      anchor = λ _. name_ordered laws false n c h;
+      tag = λ e. tag_ordered laws n c (f ∙ e);
+      literal = λ _ _. block_ordered laws block_style.Literal n c h;
+      folded = λ _ _. block_ordered laws block_style.Folded n c h;
+      reserved = tt;
+      plain = λ _. plain_ordered laws n c;
+    })
 
 here_grows : ReaderEnds → (s : State) → Given (Grows s) (fetch_here s)
 unfolding fetch_here content
