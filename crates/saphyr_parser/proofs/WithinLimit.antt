@@ -6,13 +6,15 @@ use Rattle.saphyr_parser.specs.Cursor.{Cursor}
 use Rattle.saphyr_parser.specs.Complete.{ReadsJson}
 use Rattle.saphyr_parser.specs.Promises.{ReadsFlowLayout}
 
-pub reads_whole : (limit bound : ℕ) (text : List ℕ) (parser : Cursor) → limit ≤ bound → ReadsJson limit (take bound text) parser → ReadsJson limit text parser
+pub reads_whole : (limit bound : ℕ) (text : List ℕ) (parser : Cursor) → limit ≤ bound
+    → ReadsJson limit (take bound text) parser → ReadsJson limit text parser
 reads_whole limit bound text parser within reads forest keep told json few short has =
     let whole : take bound text ≡ text = take_all bound text (omega arith) in
     reads forest keep told (subst (IsJson forest) (sym whole) json) few (rw whole short) has
 
 -- the same of a text in flow style
-pub reads_whole_flow : (limit bound : ℕ) (text : List ℕ) (parser : Cursor) → limit ≤ bound → ReadsFlowLayout limit (take bound text) parser → ReadsFlowLayout limit text parser
+pub reads_whole_flow : (limit bound : ℕ) (text : List ℕ) (parser : Cursor) → limit ≤ bound
+    → ReadsFlowLayout limit (take bound text) parser → ReadsFlowLayout limit text parser
 reads_whole_flow limit bound text parser within reads forest keep told promised =
     let short = promised.within in
     let whole : take bound text ≡ text = take_all bound text (omega (arith, short)) in

@@ -42,7 +42,6 @@ ghost use Rattle.saphyr_parser.specs.More.{BeginsAs, marker_token, with_more};
 mod comparing;
 
 pub use comparing::{orders_styles, orders_tags, reads_inputs_alike, starts_at_zero};
-
 use saphyr_scanner::law::scans_breaks_alike;
 
 /// A node comes in preorder, between the events of its document and of the stream.

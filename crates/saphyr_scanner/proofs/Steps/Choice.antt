@@ -1,5 +1,5 @@
--- What a text's next characters begin: the choice of `step`, for what is shown of each of its results. Two steps are told
--- side by side, of two cores and with two second characters that are asked the same; of one step alone both are one.
+-- What a text's next characters begin: the choice of `step`, for what is shown of each of its results. Two steps are
+-- told side by side, of two cores and with two second characters that are asked the same; of one step both are one.
 use Rattle.std.proofs.Common.{◌≡◌, ℕ, Bool, true, false, refl, ap}
 use Rattle.std.specs.Prelude.{◌&&◌, ◌||◌, ◌==◌}
 use Rattle.saphyr_input.specs.Classes.{is_blank_or_breakz}

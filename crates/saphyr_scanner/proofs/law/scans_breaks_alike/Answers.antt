@@ -42,8 +42,11 @@ returns c limit text small short =
           (some_indicator style s.rest f) e).0;
       name = λ s x some e. let r = c.spells_each_anchor.ensures s x.1 x.0 some e in line_forward s x.1
           (r.0 ∷ r.1) r.2 (r.5 ∙ at_one s.mark (length r.1) x.1.rest);
-      tag = λ in_flow s x f e. let r = c.spells_each_tag.ensures in_flow s x.2 x.0 x.1 f e in line_forward s x.2 r.0 r.3 r.6;
-      directive = λ s x f e. let r = c.spells_each_directive.ensures s x.2 x.0 x.1 f e in break_forward s x.2 r.0 r.1 r.2 r.3 r.8;
+      tag = λ in_flow s x f e. let r = c.spells_each_tag.ensures in_flow s x.2 x.0 x.1 f e in
+          line_forward s x.2 r.0 r.3 r.6;
+      directive = λ s x f e. let r = c.spells_each_directive.ensures s x.2 x.0 x.1 f e in
+          break_forward s x.2 r.0 r.1 r.2 r.3 r.8;
     } in
-    let known : Laws text = record { small = small; alike = c.reads_breaks_alike.ensures.reads text; forward = forward } in
+    let alike = c.reads_breaks_alike.ensures.reads text in
+    let known : Laws text = record { small = small; alike = alike; forward = forward } in
     scans_same text known readers limit short
