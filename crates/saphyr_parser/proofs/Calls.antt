@@ -4,3 +4,4 @@ pub mod Looking
 pub mod StreamEnds
 pub mod Soundness
 pub mod Loaded
+pub mod Settings

@@ -36,7 +36,8 @@ AdvancesFrom (Some next) kept e old new = (next ≡ e) × (new ≡ remembered e.
 AdvancesFrom None (Some k) e old new = ⊥
 AdvancesFrom None None e old new = (step old.machine ≡ told e.0 e.1 new.machine) × (new ≡ remembered e.0 e.1 (record old { machine = new.machine }))
 
--- This event is handed out. It was read ahead, or the machine makes one step; nothing else changes but what is remembered of it.
+-- This event is handed out. It was read ahead, or the machine makes one step; nothing else changes but what is
+-- remembered of it.
 abbrev pub Advances : Happening × Span → Cursor → Cursor → Type 0
 Advances e old new = AdvancesFrom old.current old.kept e old new
 
@@ -108,7 +109,8 @@ LooksFrom (Some next) kept old new = new ≡ old
 LooksFrom None (Some k) old new = new ≡ old
 LooksFrom None None old new = ReadsAhead new.current new.kept old new
 
--- What was read ahead stays, and so does a fault that is kept. Else the next event is read ahead, or the fault in place of it kept.
+-- What was read ahead stays, and so does a fault that is kept. Else the next event is read ahead, or the fault in
+-- place of it kept.
 abbrev pub Looks : Cursor → Cursor → Type 0
 Looks old new = LooksFrom old.current old.kept old new
 

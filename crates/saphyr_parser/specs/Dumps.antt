@@ -58,7 +58,8 @@ pub record CutsAt (first last : Cursor) (old new : Option (List ℕ)) : Type 0 w
   pub advances : Advances event middle last
   pub cut : TakesSome written new (line event.0)
 
--- The parser that a call of `dump` leaves: behind all events, behind the fault that was met, or behind the event whose line was cut.
+-- The parser that a call of `dump` leaves: behind all events, behind the fault that was met, or behind the event
+-- whose line was cut.
 abbrev pub Leaves : Result (Unit {0}) DumpFault → Cursor → Cursor → Option (List ℕ) → Option (List ℕ) → Type 0
 Leaves (Ok u) first last old new = AdvancesOver (to_come first).events first last × IsOver last
 Leaves (Err (dump.Parse f)) first last old new = (middle : Cursor) × PrintsUpTo first middle old new × Fails f middle last

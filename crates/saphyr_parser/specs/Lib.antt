@@ -15,6 +15,7 @@ pub mod Answer
 pub mod Faults
 pub mod Cursor
 pub mod Calls
+pub mod Settings
 pub mod Exactly
 pub mod Complete
 pub mod KeptSeen

@@ -1,6 +1,6 @@
 //! Laws of the definitions that the promises on a parser mean. Code needs none of them: they are for
 //! whoever proves more about parsers.
-ghost use Rattle.std.specs.Prelude.{Bool, List, [], ◌∷◌, ◌++◌, codes, false, true, ℕ, ◌≡◌, ◌<◌, ◌≤◌, ◌^◌, length, None, Ok, Option, Some};
+ghost use Rattle.std.specs.Prelude.{Bool, List, [], ◌∷◌, ◌++◌, codes, false, true, ℕ, ◌≡◌, ◌≢◌, ◌<◌, ◌≤◌, ◌^◌, length, None, Ok, Option, Some};
 ghost use Rattle.saphyr_parser.specs.Anchors.{IsLatest, anchors, latest};
 ghost use Rattle.saphyr_parser.specs.Preorder.{Part, parts};
 ghost use Rattle.saphyr_parser.specs.Examples as examples;
@@ -20,11 +20,12 @@ ghost use Rattle.saphyr_scanner.specs.Tokens.{Kind};
 ghost use Rattle.saphyr_scanner.specs.Tokens as tokens;
 ghost use Rattle.saphyr_scanner.specs.TakenTexts.{at, from_to};
 ghost use Rattle.saphyr_parser.specs.Exactly.{GivesExactly, TellTheSame, kinds, told_by};
-ghost use Rattle.saphyr_parser.specs.Events.{Alias, Happening};
+ghost use Rattle.saphyr_parser.specs.Events.{Alias, DocumentEnd, Happening};
 ghost use Rattle.saphyr_parser.specs.Complete.{IsShallowJson, ReadsJson};
 ghost use Rattle.saphyr_parser.specs.EventsTaken.{AreTaken, HasPlaceIn, IsOf};
 ghost use Rattle.saphyr_parser.specs.Premises.{DocumentMarker, GivesFirst, IsClosed, IsPromised, ReadsClosed, ReadsEach, behind_marker, has_surrogate_escape};
 ghost use Rattle.saphyr_parser.specs.Promises.{ReadsClosedLayout, ReadsFlowLayout, ReadsLayout, TakesEvents};
+ghost use Rattle.saphyr_scalar.specs.declared.scalar.position.Span.{Span};
 ghost use Rattle.saphyr_scalar.specs.Spaces.{IsLineRest};
 ghost use Rattle.saphyr_scanner.specs.Layout.{IsFlowLayoutText, IsLayoutText, most_open};
 ghost use Rattle.saphyr_parser.specs.SpansWithin.{HasSpansIn};
@@ -36,12 +37,17 @@ ghost use Rattle.saphyr_scanner.specs.TokensTaken.{AreTakenFrom, IsPlaceOf};
 ghost use Rattle.saphyr_parser.specs.WellFormed.{AreWellFormed};
 ghost use Rattle.saphyr_parser.specs.Machine.{Machine, Told, ending};
 ghost use Rattle.saphyr_parser.specs.Steps.{step};
-ghost use Rattle.saphyr_parser.specs.Answer.{remaining};
+ghost use Rattle.saphyr_parser.specs.Answer.{before, remaining};
+ghost use Rattle.saphyr_parser.specs.Calls.{Advances};
+ghost use Rattle.saphyr_parser.specs.Settings.{set_to, with_setting};
+ghost use Rattle.saphyr_parser.specs.declared.parser.state.State.TheVariants.{DocumentEnd as AtDocumentEnd};
 ghost use Rattle.saphyr_parser.specs.More.{BeginsAs, marker_token, with_more};
 
+mod calling;
 mod comparing;
 
-pub use comparing::{orders_styles, orders_tags, reads_inputs_alike, starts_at_zero};
+pub use calling::{hands_out_what_was_peeked, loads_the_end_again};
+pub use comparing::{hashes_alike, orders_styles, orders_tags, reads_inputs_alike, starts_at_zero};
 use saphyr_scanner::law::scans_breaks_alike;
 
 /// A node comes in preorder, between the events of its document and of the stream.
@@ -204,4 +210,12 @@ pub fn tells_breaks_alike()
 /// behind that `---` or `...` in place of the stream's end, the events up to and with its own come first.
 pub fn closes_tokens()
     ensures { (keep : Bool) (marker : DocumentMarker) (earlier more : List Kind) (alone : List Piece) (followed : Remaining) (first : List Happening) → kinds alone ≡ earlier ++ marker_token marker ∷ tokens.StreamEnd ∷ [] → kinds followed.pieces ≡ earlier ++ marker_token marker ∷ more → GivesExactly (first ++ behind_marker marker) (told_by keep alone) → GivesFirst first (to_come (keeping_tags keep (at_start followed))) }
+{}
+
+/// The setting of `keep_tags` counts at the ends of documents alone. Any other event is handed out whatever it
+/// is, and what comes behind that event is the same whether it was set before the event or behind it.
+pub fn sets_at_document_ends()
+    ensures step { (m : Machine) (keep : Bool) → m.state ≢ AtDocumentEnd → step (set_to keep m) ≡ with_setting keep (step m) }
+    ensures event { (e : Happening × Span) (old new : Cursor) (keep : Bool) → e.0 ≢ DocumentEnd → Advances e old new → Advances e (keeping_tags keep old) (keeping_tags keep new) }
+    ensures list { (e : Happening × Span) (old new : Cursor) (keep : Bool) → e.0 ≢ DocumentEnd → Advances e old new → to_come (keeping_tags keep old) ≡ before e (to_come (keeping_tags keep new)) }
 {}

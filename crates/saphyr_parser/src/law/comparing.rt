@@ -5,12 +5,15 @@ ghost use Rattle.std.specs.Ordering.{nat_cmp, ordering_then};
 ghost use Rattle.std.specs.declared.cmp.Ordering.TheVariants.{Equal};
 ghost use Rattle.saphyr_parser.specs.Cursor.{keeping_tags, to_come};
 ghost use Rattle.saphyr_parser.specs.EventSeen.{resolved_tag};
+ghost use Rattle.saphyr_parser.specs.declared.parser.tag.Tag.{Tag as DeclaredTag};
+ghost use Rattle.saphyr_scanner.specs.Forest.{Style};
 
 use crate::parser::{Parser, Tag};
 use saphyr_input::input::Input;
 use saphyr_scalar::{Marker, ScalarStyle, Span};
 use std::alloc::Global;
 use std::cmp::Ordering;
+use std::hash::Hash;
 
 /// Inputs of any two kinds with the same characters give equal parsers: the same events with the same spans, and
 /// the same fault, whether prefixes of tags are kept or not.
@@ -41,6 +44,12 @@ pub fn orders_styles(one: ScalarStyle, other: ScalarStyle) -> Ordering
 {
     one.cmp(&other)
 }
+
+/// Equal tags feed a hasher alike, and so do equal styles.
+pub fn hashes_alike()
+    ensures tags { (one other : DeclaredTag) → resolved_tag one ≡ resolved_tag other → ⟦<Tag as Hash>⟧.hash_input one ≡ ⟦<Tag as Hash>⟧.hash_input other }
+    ensures styles { (one other : Style) → one ≡ other → ⟦<ScalarStyle as Hash>⟧.hash_input one ≡ ⟦<ScalarStyle as Hash>⟧.hash_input other }
+{}
 
 /// A default place has index, line and column 0, and a default span is the empty one there.
 pub fn starts_at_zero() -> (Marker, Span)

@@ -1,0 +1,45 @@
+//! Callers of a parser, whose contracts follow from those of its calls alone.
+ghost use Rattle.std.specs.Prelude.{◌≡◌, ◌↔◌, None, IfSome, IsTrue};
+ghost use Rattle.saphyr_scalar.specs.declared.scalar.position.Span.{Span as PlaceSpan};
+ghost use Rattle.saphyr_parser.specs.Calls.{Gives};
+ghost use Rattle.saphyr_parser.specs.EventSeen.{happening};
+ghost use Rattle.saphyr_parser.specs.Events.{StreamEnd};
+ghost use Rattle.saphyr_parser.specs.Loading.{SendsOne};
+
+use crate::parser::{Event, Fault, Parser, SpannedEventReceiver};
+use saphyr_input::input::Input;
+use saphyr_scalar::Span;
+
+fn ends_the_stream(event: Event<'_>) -> bool
+    ensures { IsTrue result ↔ happening event.entry ≡ StreamEnd }
+{
+    matches!(event, Event::StreamEnd)
+}
+
+/// Behind iteration up to the end of the stream, `load` hands over that end alone. There is no answer where a
+/// fault ends the events, or where the end was handed out before.
+pub fn loads_the_end_again<'input, T: Input, R: SpannedEventReceiver<'input>>(
+    parser: &mut Parser<'input, T>,
+    recv: &mut R,
+) -> Option<Result<(), Fault>>
+    requires { parser.old.kept ≡ None }
+    ensures { IfSome result (λ answer. (span : PlaceSpan) × SendsOne R.receives answer (StreamEnd, span) recv.old recv.new) }
+{
+    while let Some(Ok((event, _))) = parser.next_event() {
+        let last = ends_the_stream(event);
+        if last {
+            return Some(parser.load(recv, true));
+        }
+    }
+    None
+}
+
+/// What is handed out, and the parser that is left, are the same where the next event was peeked before.
+pub fn hands_out_what_was_peeked<'input, T: Input>(
+    parser: &mut Parser<'input, T>,
+) -> Option<Result<(Event<'input>, Span), Fault>>
+    ensures { Gives result parser.old parser.new }
+{
+    let _ = parser.peek();
+    parser.next_event()
+}
