@@ -17,51 +17,53 @@ use Rattle.saphyr_scanner.specs.Flow as flow
 use Rattle.saphyr_scanner.specs.Flow.{close_collection, ends_pair}
 use Rattle.saphyr_scanner.specs.State.{State}
 use Rattle.saphyr_scanner.specs.Fetch.{step}
-use Rattle.saphyr_scanner.proofs.JsonStates.{cursor_at, core_at, state_at}
+use Rattle.saphyr_scanner.proofs.InFlow.States.{Around, core_at, state_at, Calm}
+use Rattle.saphyr_scanner.proofs.JsonStates.{cursor_at}
 use Rattle.saphyr_scanner.proofs.JsonMarks.{saved, level_of}
-use Rattle.saphyr_scanner.proofs.FlowStates.{moved, past, IsParted, IsBehindRoot, Known, Passes, ended}
+use Rattle.saphyr_scanner.proofs.FlowStates.{moved, past, IsParted, IsBehindRoot, Known, Passes, Fits, ended}
 use Rattle.saphyr_scanner.proofs.FlowPlaces.{moved_append}
 use Rattle.saphyr_scanner.proofs.FlowGaps.{past_ink, less_on}
-use Rattle.saphyr_scanner.proofs.FlowFillers.{rest_past}
+use Rattle.saphyr_scanner.proofs.FlowFillers.{one_right, rest_past}
 use Rattle.saphyr_scanner.proofs.FlowSeparates.{separates, separates_rest}
 use Rattle.saphyr_scanner.proofs.FlowJoins.{join, behind}
 use Rattle.saphyr_scanner.proofs.FlowBrackets.{IsMark, open_passes, pending, close_passes}
-use Rattle.saphyr_scanner.proofs.FlowPieces.{Fits, fits_front, fits_back, fits_before}
+use Rattle.saphyr_scanner.proofs.FlowPieces.{fits_front, fits_back, fits_before}
 
 -- ## Behind the closing bracket
 
 -- what blanks and a comment behind a bracket at m give
-pub record EndsAt (m : Marker) (o : List ℕ) : Type 0 where
+pub record EndsAt (indent : ℕ) (m : Marker) (o : List ℕ) : Type 0 where
   pub found : SkipTabs
   pub there : Cursor
   pub is : separation Yes (cursor_at o (along m 1) false) ≡ Ok (found, there)
-  pub lands : past there.mark there.rest ≡ past (along m 1) o
+  pub lands : past indent there.mark there.rest ≡ past indent (along m 1) o
 
-pub ends_inside : (m : Marker) (o : List ℕ) → IsParted o → EndsAt m o
-ends_inside m o h =
-    let p = separates (cursor_at o (along m 1) false) h.separation h.first h.others h.is h.parts h.ink in
+pub ends_inside : (indent : ℕ) (m : Marker) (o : List ℕ) → IsParted indent o → indent ≤ m.col → EndsAt indent m o
+ends_inside indent m o h right =
+    let p = separates indent (cursor_at o (along m 1) false) h.separation h.first h.others h.is h.parts (one_right indent m.col right) h.ink in
     record { found = p.found; there = p.there; is = p.is; lands = p.lands }
 
-pub ends_root : (m e : Marker) (o : List ℕ) → IsBehindRoot e o → EndsAt m o
-ends_root m e o h =
+pub ends_root : (indent : ℕ) (m e : Marker) (o : List ℕ) → IsBehindRoot indent e o → EndsAt indent m o
+ends_root indent m e o h =
     let p = separates_rest (cursor_at o (along m 1) false) h.rest h.more h.is h.line h.break in
     record {
       found = p.0;
       there = record { rest = h.more; mark = moved (along m 1) h.rest; blank_so_far = false };
       is = p.1;
-      lands = sym (ap (past (along m 1)) h.is ∙ rest_past (along m 1) h.rest h.more h.line h.break);
+      lands = sym (ap (past indent (along m 1)) h.is ∙ rest_past indent (along m 1) h.rest h.more h.line h.break);
     }
 
 -- ## The brackets and what is inside
 
 -- the run over what is inside, up to the closing bracket ch
-pub record InsidePasses (limit : ℕ) (start : State) (Is : List Kind → Type 0) (ch : ℕ) (kind : Kind) (ls : List Level) (ps : List Place) (m : Marker) (o : List ℕ) : Type 0 where
+pub record InsidePasses (around : Around) (start : Bool → State) (Is : List Kind → Type 0) (ch : ℕ) (kind : Kind) (ls : List Level) (ps : List Place) (m : Marker) (o : List ℕ) : Type 0 where
   pub inside : Context
-  pub closes : (second i : ℕ) (s : Cursor) (k : Option Candidate) (ms : List Level) (a : Bool) (ad : ℕ)
-      → step ch second i (core_at false s inside k ms a ad) ≡ close_collection (ends_pair inside) kind (core_at false s inside k ms a ad)
+  pub flows : is_block inside ≡ false
+  pub closes : (second i : ℕ) (d : Bool) (s : Cursor) (k : Option Candidate) (ms : List Level) (a : Bool) (ad : ℕ)
+      → step ch second i (core_at around d s inside k ms a ad) ≡ close_collection (ends_pair inside) kind (core_at around d s inside k ms a ad)
   pub tokens : List Kind
   pub are : Is (tokens ++ pending (ends_pair inside))
-  pub passes : Passes limit start (ended m o) inside ls ps m o tokens
+  pub passes : Passes around start (ended around.indent m o) inside ls ps m o tokens
 
 -- a kind of collection: its brackets and their tokens
 pub record Brackets : Type 0 where
@@ -78,32 +80,32 @@ pub record AreBrackets (b : Brackets) : Type 0 where
   pub begins : (second i : ℕ) (c : Core) → step b.opening second i c ≡ flow.start b.context b.opens i c
 
 -- Behind a collection: as behind a node, of which blanks alone stand before a colon that may stand at once.
-pub record IsBracketed (x : Context) (kept : Option Candidate) (m : Marker) (o : List ℕ) (key : Option Candidate) (adjacent : ℕ) (new : List Place) : Type 0 where
+pub record IsBracketed (indent : ℕ) (x : Context) (kept : Option Candidate) (m : Marker) (o : List ℕ) (key : Option Candidate) (adjacent : ℕ) (new : List Place) : Type 0 where
   pub piece : Piece
   pub others : List Place
   pub is : new ≡ closed piece ∷ others
   pub keeps : is_block x ≡ false → key ≡ kept
-  pub near : is_block x ≡ false → (w more : List ℕ) → o ≡ w ++ (58 ∷ more) → IsSeparation 0 w → IsTrue (list_all is_blank w) → adjacent ≡ (moved m w).index
-  pub low : adjacent ≤ (past m o).0.index
+  pub near : is_block x ≡ false → (w more : List ℕ) → o ≡ w ++ (58 ∷ more) → IsSeparation indent w → IsTrue (list_all is_blank w) → adjacent ≡ (moved m w).index
+  pub low : adjacent ≤ (past indent m o).0.index
 
-abbrev pub bracketed : Context → Option Candidate → Marker → List ℕ → Known
-bracketed x kept m o key allowed adjacent new = IsBracketed x kept m o key adjacent new
+abbrev pub bracketed : ℕ → Context → Option Candidate → Marker → List ℕ → Known
+bracketed indent x kept m o key allowed adjacent new = IsBracketed indent x kept m o key adjacent new
 
 -- the text from the opening bracket to the closing one
 abbrev pub bracket_text : Brackets → List ℕ → List ℕ → List ℕ
 bracket_text b w inside = (b.opening ∷ w) ++ (inside ++ (b.closing ∷ []))
 
 -- the run over what is inside, wherever the opening bracket leads
-abbrev pub RunsInside : ℕ → (List Kind → Type 0) → Brackets → Context → List Level → Marker → List ℕ → List ℕ → Type 0
-RunsInside limit Is b x ls m inside o =
-    (s : Cursor) (k j : Option Candidate) (a : Bool) (ad : ℕ) (ps : List Place) → k ≡ None → a ≡ true → ad < m.index → past s.mark s.rest ≡ past m (inside ++ (b.closing ∷ o))
-    → InsidePasses limit (state_at false s b.context k (level_of x j ∷ ls) a ad ps) Is b.closing b.closes (level_of x j ∷ ls) ps (moved m inside) (b.closing ∷ o)
+abbrev pub RunsInside : Around → (List Kind → Type 0) → Brackets → Context → List Level → Marker → List ℕ → List ℕ → Type 0
+RunsInside around Is b x ls m inside o =
+    (s : Cursor) (k j : Option Candidate) (a : Bool) (ad : ℕ) (ps : List Place) → k ≡ None → a ≡ true → ad < m.index → around.indent ≤ m.col → past around.indent s.mark s.rest ≡ past around.indent m (inside ++ (b.closing ∷ o))
+    → InsidePasses around (state_at around s b.context k (level_of x j ∷ ls) a ad ps) Is b.closing b.closes (level_of x j ∷ ls) ps (moved m inside) (b.closing ∷ o)
 
-pub record BracketsPass (limit : ℕ) (start : State) (Is : List Kind → Type 0) (b : Brackets) (kept : Option Candidate) (x : Context) (ls : List Level) (ps : List Place) (m : Marker) (o : List ℕ) :
+pub record BracketsPass (around : Around) (start : Bool → State) (Is : List Kind → Type 0) (b : Brackets) (kept : Option Candidate) (x : Context) (ls : List Level) (ps : List Place) (m : Marker) (o : List ℕ) :
     Type 0 where
   pub inside : List Kind
   pub are : Is inside
-  pub passes : Passes limit start (bracketed x kept m o) x ls ps m o (b.opens ∷ (inside ++ b.closes ∷ []))
+  pub passes : Passes around start (bracketed around.indent x kept m o) x ls ps m o (b.opens ∷ (inside ++ b.closes ∷ []))
 
 -- a token of its own is the first, and no colon may stand at once from n on
 abbrev starts_with : Piece → ℕ → Known
@@ -112,36 +114,37 @@ starts_with piece n key allowed adjacent new = ((others : List Place) × (new �
 all_told : (opens closes : Kind) (ts ends : List Kind) → ((opens ∷ []) ++ ts) ++ (ends ++ closes ∷ []) ≡ opens ∷ ((ts ++ ends) ++ closes ∷ [])
 all_told opens closes ts ends = ap (λ (x : List Kind). opens ∷ x) (sym (append_assoc ts ends (closes ∷ [])))
 
-pub brackets_pass : (limit : ℕ) (Is : List Kind → Type 0) (b : Brackets) → AreBrackets b → (m : Marker) (w inside o : List ℕ) → Fits limit m (bracket_text b w inside) o → IsSeparation 0 w
-    → IsParted (w ++ (inside ++ (b.closing ∷ o))) → EndsAt (moved (moved m (b.opening ∷ w)) inside) o
-    → (s : Cursor) (x : Context) (k : Option Candidate) (ls : List Level) (a : Bool) (ad : ℕ) (ps : List Place) → length ls < 255 → ad ≤ m.index
-    → past s.mark s.rest ≡ past m (bracket_text b w inside ++ o)
-    → RunsInside limit Is b x ls (moved m (b.opening ∷ w)) inside o
-    → BracketsPass limit (state_at false s x k ls a ad ps) Is b (saved a (length ps) m k) x ls ps (moved m (bracket_text b w inside)) o
-brackets_pass limit Is b are m w inside o fits parts parted ends s x k ls a ad ps low before text run =
+pub brackets_pass : (around : Around) (Is : List Kind → Type 0) (b : Brackets) → AreBrackets b → (m : Marker) (w inside o : List ℕ) → Fits around m (bracket_text b w inside) o → IsSeparation around.indent w
+    → IsParted around.indent (w ++ (inside ++ (b.closing ∷ o))) → (around.indent ≤ (moved (moved m (b.opening ∷ w)) inside).col → EndsAt around.indent (moved (moved m (b.opening ∷ w)) inside) o)
+    → (s : Cursor) (x : Context) (k : Option Candidate) (ls : List Level) (a : Bool) (ad : ℕ) (ps : List Place) → length ls < 255 → Calm around x → ad ≤ m.index
+    → past around.indent s.mark s.rest ≡ past around.indent m (bracket_text b w inside ++ o)
+    → RunsInside around Is b x ls (moved m (b.opening ∷ w)) inside o
+    → BracketsPass around (state_at around s x k ls a ad ps) Is b (saved a (length ps) m k) x ls ps (moved m (bracket_text b w inside)) o
+brackets_pass around Is b are m w inside o fits parts parted ends s x k ls a ad ps low calm before text run =
     let close = b.closing ∷ [] in
     let follow : (inside ++ close) ++ o ≡ inside ++ (b.closing ∷ o) = append_assoc inside close o in
     let whole = fits_front m (b.opening ∷ w) (inside ++ close) o fits in
     let first = fits_front m (b.opening ∷ []) w ((inside ++ close) ++ o) whole in
     let opening_fits = fits_before m (b.opening ∷ []) (w ++ ((inside ++ close) ++ o)) (w ++ (inside ++ (b.closing ∷ o))) (ap (λ (t : List ℕ). w ++ t) follow) first in
     let here = moved m (b.opening ∷ w) in
-    let closing_fits = fits_back here inside close o (fits_back m (b.opening ∷ w) (inside ++ close) o fits) in
     let texts : bracket_text b w inside ++ o ≡ b.opening ∷ (w ++ (inside ++ (b.closing ∷ o))) =
     append_assoc (b.opening ∷ w) (inside ++ close) o ∙ ap (λ (t : List ℕ). b.opening ∷ (w ++ t)) follow in
-    let opened = open_passes limit b.context are.flows b.opens b.opening are.opening_mark are.begins m (w ++ (inside ++ (b.closing ∷ o))) opening_fits.clear opening_fits.below parted
-    s x k ls a ad ps low before (text ∙ ap (past m) texts) in
+    let opened = open_passes around b.context are.flows b.opens b.opening are.opening_mark are.begins m (w ++ (inside ++ (b.closing ∷ o))) opening_fits parted
+    s x k ls a ad ps low calm before (text ∙ ap (past around.indent m) texts) in
     let j = opened.0 in
     let p = behind (moved m (b.opening ∷ [])) w (inside ++ (b.closing ∷ o)) parts opened.2 in
-    let r = run p.there p.key j p.allowed p.adjacent (ps ++ p.new) p.knows.0.0 p.knows.0.1 (less_on p.adjacent (moved m (b.opening ∷ [])) w p.knows.0.2) p.fits in
+    let r = run p.there p.key j p.allowed p.adjacent (ps ++ p.new) p.knows.0.0 p.knows.0.1 (less_on p.adjacent (moved m (b.opening ∷ [])) w p.knows.0.2) p.right p.fits in
+    let closing_fits = fits_back here inside close o r.passes.right (fits_back m (b.opening ∷ w) (inside ++ close) o p.right fits) in
+    let at_close = ends r.passes.right in
     let piece = p.knows.1.0 in
     let at_end = moved here inside in
-    let first_ended : r.passes.adjacent ≤ at_end.index = subst (λ (z : Marker × List ℕ). r.passes.adjacent ≤ z.0.index) (past_ink at_end b.closing o are.closing_mark.ink) r.passes.knows in
+    let first_ended : r.passes.adjacent ≤ at_end.index = subst (λ (z : Marker × List ℕ). r.passes.adjacent ≤ z.0.index) (past_ink around.indent at_end b.closing o are.closing_mark.ink) r.passes.knows in
     let q = join p r.passes (starts_with piece at_end.index) ((r.passes.new, ap (λ (z : List Place). z ++ r.passes.new) p.knows.1.1), first_ended) in
-    let c = close_passes limit r.inside (ends_pair r.inside) b.closes b.closing are.closing_mark r.closes at_end o closing_fits.clear closing_fits.below ends.found ends.there ends.is ends.lands
-    q.there q.key j x ls q.allowed q.adjacent (ps ++ q.new) q.knows.1 q.fits in
+    let c = close_passes around r.inside r.flows (ends_pair r.inside) b.closes b.closing are.closing_mark r.closes at_end o closing_fits at_close.found at_close.there at_close.is at_close.lands
+    q.there q.key j x ls q.allowed q.adjacent (ps ++ q.new) calm q.knows.1 q.fits in
     let end = moved at_end close in
     let kept = saved a (length ps) m k in
-    let known : IsBracketed x kept end o c.key c.adjacent (q.new ++ c.new) = record {
+    let known : IsBracketed around.indent x kept end o c.key c.adjacent (q.new ++ c.new) = record {
       piece = piece;
       others = q.knows.0.0 ++ c.new;
       is = ap (λ (z : List Place). z ++ c.new) q.knows.0.1;
@@ -149,12 +152,12 @@ brackets_pass limit Is b are m w inside o fits parts parted ends s x k ls a ad p
       near = c.knows.near;
       low = c.knows.low;
     } in
-    let all = join q c (bracketed x kept end o) known in
-    let start = state_at false s x k ls a ad ps in
+    let all = join q c (bracketed around.indent x kept end o) known in
+    let start = state_at around s x k ls a ad ps in
     let place : end ≡ moved m (bracket_text b w inside) = sym (moved_append m (b.opening ∷ w) (inside ++ close) ∙ moved_append here inside close) in
-    subst (λ (e : Marker). BracketsPass limit start Is b kept x ls ps e o) place
+    subst (λ (e : Marker). BracketsPass around start Is b kept x ls ps e o) place
     (record {
       inside = r.tokens ++ pending (ends_pair r.inside);
       are = r.are;
-      passes = subst (λ (ts : List Kind). Passes limit start (bracketed x kept end o) x ls ps end o ts) (all_told b.opens b.closes r.tokens (pending (ends_pair r.inside))) all;
+      passes = subst (λ (ts : List Kind). Passes around start (bracketed around.indent x kept end o) x ls ps end o ts) (all_told b.opens b.closes r.tokens (pending (ends_pair r.inside))) all;
     })

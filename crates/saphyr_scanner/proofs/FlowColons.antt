@@ -1,5 +1,5 @@
 -- The colons of a text in flow style are read, behind a key and without one.
-use Rattle.std.proofs.Common.{◌≡◌, ℕ, Bool, true, false, List, [], ◌∷◌, ◌++◌, length, slice_index, Ok, refl, sym, ap, ◌∙◌, arith, append_assoc, IsTrue, ◌⊎◌, inl, inr}
+use Rattle.std.proofs.Common.{◌≡◌, ℕ, ◌≤◌, Bool, true, false, List, [], ◌∷◌, ◌++◌, length, slice_index, Ok, refl, sym, ap, ◌∙◌, arith, append_assoc, IsTrue, ◌⊎◌, inl, inr}
 use Rattle.std.specs.Prelude.{◌||◌, ◌&&◌, ◌==◌, not, nat_lt, Option, Some, None}
 use Rattle.std.proofs.lemmas.Bool.Decides.{nat_tests}
 use Rattle.saphyr_input.specs.Classes.{is_blank_or_breakz, is_flow}
@@ -20,7 +20,8 @@ use Rattle.saphyr_scanner.specs.Value as value
 use Rattle.saphyr_scanner.specs.Value.{begins_pair, behind_colon, check_tab, refuse_tab, of_key, alone, begin_alone, behind_key}
 use Rattle.saphyr_scanner.specs.Fetch.{step, flow_value}
 use Rattle.saphyr_scanner.proofs.Sizes.{by_test}
-use Rattle.saphyr_scanner.proofs.JsonStates.{cursor_at, core_at, queue_of}
+use Rattle.saphyr_scanner.proofs.InFlow.States.{Around, core_at}
+use Rattle.saphyr_scanner.proofs.JsonStates.{cursor_at, queue_of}
 use Rattle.saphyr_scanner.proofs.JsonMarks.{kinds, kinds_append}
 use Rattle.saphyr_scanner.proofs.JsonColons.{same_index, opened_seam, none_off}
 use Rattle.saphyr_scanner.proofs.FlowStates.{past, IsParted, ends_colon}
@@ -47,41 +48,40 @@ and_none true = refl
 and_none false = refl
 
 -- where a colon may stand at once, or before what ends it
-pub begins : (second i : ℕ) (s : Cursor) (y : Context) (k : Option Candidate) (ls : List Level) (a : Bool) (ad : ℕ) → is_block y ≡ false → (s.mark.index ≡ ad) ⊎ IsTrue (ends_colon second)
-    → step 58 second i (core_at false s y k ls a ad) ≡ value.fetch (core_at false s y k ls a ad)
+pub begins : (around : Around) (d : Bool) (second i : ℕ) (s : Cursor) (y : Context) (k : Option Candidate) (ls : List Level) (a : Bool) (ad : ℕ) → is_block y ≡ false → (s.mark.index ≡ ad) ⊎ IsTrue (ends_colon second)
+    → step 58 second i (core_at around d s y k ls a ad) ≡ value.fetch (core_at around d s y k ls a ad)
 unfolding step flow_value
-begins second i s y k ls a ad e (inl f) =
-    let c = core_at false s y k ls a ad in
+begins around d second i s y k ls a ad e (inl f) =
+    let c = core_at around d s y k ls a ad in
     by_test (is_blank_or_breakz second) (value.fetch c) _ (λ (r : Steps). r ≡ value.fetch c) (λ _. refl) (λ _. rw (same_index s.mark.index ad f, or_both (is_flow second) true refl, e) refl)
-begins second i s y k ls a ad e (inr h) =
-    let c = core_at false s y k ls a ad in
+begins around d second i s y k ls a ad e (inr h) =
+    let c = core_at around d s y k ls a ad in
     by_test (is_blank_or_breakz second) (value.fetch c) _ (λ (r : Steps). r ≡ value.fetch c) (λ _. refl)
     (λ b. let f = is_flow_or_blank second h b in rw (f.0, f.1, and_none (not (s.mark.index == ad)), e) refl)
 
 -- ## Behind the colon
 
-pub record Tabbed (o : List ℕ) (m : Marker) (y : Context) (k : Option Candidate) (ls : List Level) (a : Bool) (ad : ℕ) : Type 0 where
+pub record Tabbed (around : Around) (o : List ℕ) (m : Marker) (y : Context) (k : Option Candidate) (ls : List Level) (a : Bool) (ad : ℕ) : Type 0 where
   pub there : Cursor
-  pub is : check_tab (core_at false (cursor_at o m false) y k ls a ad) ≡ Ok (core_at false there y k ls a ad)
-  pub lands : past there.mark there.rest ≡ past m o
+  pub is : (d : Bool) → check_tab (core_at around d (cursor_at o m false) y k ls a ad) ≡ Ok (core_at around d there y k ls a ad)
+  pub lands : past around.indent there.mark there.rest ≡ past around.indent m o
 
-no_refusal : (found : SkipTabs) (there : Cursor) (y : Context) (k : Option Candidate) (ls : List Level) (a : Bool) (ad : ℕ) → is_block y ≡ false → refuse_tab (found, core_at false there y k ls a ad) ≡ Ok (core_at false there y k ls a ad)
-no_refusal found there y k ls a ad e = rw e refl
+no_refusal : (around : Around) (d : Bool) (found : SkipTabs) (there : Cursor) (y : Context) (k : Option Candidate) (ls : List Level) (a : Bool) (ad : ℕ) → is_block y ≡ false → refuse_tab (found, core_at around d there y k ls a ad) ≡ Ok (core_at around d there y k ls a ad)
+no_refusal around d found there y k ls a ad e = rw e refl
 
-pub tabbed : (o : List ℕ) (m : Marker) (y : Context) (k : Option Candidate) (ls : List Level) (a : Bool) (ad : ℕ) → is_block y ≡ false → IsParted o → Tabbed o m y k ls a ad
+pub tabbed : (around : Around) (o : List ℕ) (m : Marker) (y : Context) (k : Option Candidate) (ls : List Level) (a : Bool) (ad : ℕ) → is_block y ≡ false → IsParted around.indent o → around.indent ≤ m.col → Tabbed around o m y k ls a ad
 unfolding check_tab
-tabbed o m y k ls a ad flows parted = by_tab (slice_index o 0 == 9) refl
+tabbed around o m y k ls a ad flows parted right = by_tab (slice_index o 0 == 9) refl
   where
-    by_tab : (b : Bool) → (slice_index o 0 == 9) ≡ b → Tabbed o m y k ls a ad
+    by_tab : (b : Bool) → (slice_index o 0 == 9) ≡ b → Tabbed around o m y k ls a ad
     by_tab true e =
-        let p = separates (cursor_at o m false) parted.separation parted.first parted.others parted.is parted.parts parted.ink in
-        let c = core_at false (cursor_at o m false) y k ls a ad in
+        let p = separates around.indent (cursor_at o m false) parted.separation parted.first parted.others parted.is parted.parts right parted.ink in
         record {
           there = p.there;
-          is = rw e (ap (λ q. (q >>= λ (d : SkipTabs × Cursor). Ok (d.0, with_cursor d.1 c)) >>= refuse_tab) p.is ∙ no_refusal p.found p.there y k ls a ad flows);
+          is = λ d. rw e (ap (λ q. (q >>= λ (z : SkipTabs × Cursor). Ok (z.0, with_cursor z.1 (core_at around d (cursor_at o m false) y k ls a ad))) >>= refuse_tab) p.is ∙ no_refusal around d p.found p.there y k ls a ad flows);
           lands = p.lands;
         }
-    by_tab false e = record { there = cursor_at o m false; is = rw e refl; lands = refl }
+    by_tab false e = record { there = cursor_at o m false; is = λ d. rw e refl; lands = refl }
 
 -- what stands in front of a key
 abbrev pub opened_key : Bool → Opening
@@ -98,20 +98,31 @@ no_block e = cc
 no_later : (a b : ℕ) → a ≡ b → nat_lt a b ≡ false
 no_later a b e = grind (arith, nat_tests)
 
-pub opens_key : (k : Candidate) (start : Marker) (there : Cursor) (y : Context) (ls : List Level) (a : Bool) (ad : ℕ) → is_block y ≡ false → (begins_pair y ≡ true → k.mark.line ≡ start.line)
-    → of_key k (begins_pair y) start (core_at false there (behind_colon y) (Some k) ls a ad) ≡ went (Open k.place (opened_key (begins_pair y)) ∷ at_mark start tokens.Value ∷ []) (core_at false there (behind_colon y) None ls false ad)
+pub opens_key : (around : Around) (d : Bool) (k : Candidate) (start : Marker) (there : Cursor) (y : Context) (ls : List Level) (a : Bool) (ad : ℕ) → is_block y ≡ false → (begins_pair y ≡ true → k.mark.line ≡ start.line)
+    → of_key k (begins_pair y) start (core_at around d there (behind_colon y) (Some k) ls a ad) ≡ went (Open k.place (opened_key (begins_pair y)) ∷ at_mark start tokens.Value ∷ []) (core_at around d there (behind_colon y) None ls false ad)
 unfolding of_key
-opens_key k start there context.Block ls a ad e line = absurd (no_block e)
-opens_key k start there context.FlowSequence ls a ad e line = rw (no_later k.mark.line start.line (line refl)) refl
-opens_key k start there context.FlowMapping ls a ad e line = refl
-opens_key k start there context.FlowPair ls a ad e line = rw (no_later k.mark.line start.line (line refl)) refl
-opens_key k start there context.ExplicitFlowPair ls a ad e line = refl
-opens_key k start there context.MarkedFlowPair ls a ad e line = refl
+opens_key around d k start there context.Block ls a ad e line = absurd (no_block e)
+opens_key around d k start there context.FlowSequence ls a ad e line = rw (no_later k.mark.line start.line (line refl)) refl
+opens_key around d k start there context.FlowMapping ls a ad e line = refl
+opens_key around d k start there context.FlowPair ls a ad e line = rw (no_later k.mark.line start.line (line refl)) refl
+opens_key around d k start there context.ExplicitFlowPair ls a ad e line = refl
+opens_key around d k start there context.MarkedFlowPair ls a ad e line = refl
 
-pub fetches : (o : List ℕ) (m : Marker) (b : Bool) (y : Context) (k : Option Candidate) (ls : List Level) (a : Bool) (ad : ℕ) (p : Tabbed o (along m 1) (behind_colon y) k ls a ad)
-    → value.fetch (core_at false (cursor_at (58 ∷ o) m b) y k ls a ad) ≡ behind_key k (begins_pair y) m (core_at false p.there (behind_colon y) k ls a ad)
+pub colon_flows : (y : Context) → is_block y ≡ false → is_block (behind_colon y) ≡ false
+colon_flows context.Block e = absurd (no_block e)
+colon_flows context.FlowSequence e = refl
+colon_flows context.FlowMapping e = refl
+colon_flows context.FlowPair e = refl
+colon_flows context.ExplicitFlowPair e = refl
+colon_flows context.MarkedFlowPair e = refl
+
+pub fetches : (around : Around) (d : Bool) (o : List ℕ) (m : Marker) (b : Bool) (y : Context) (k : Option Candidate) (ls : List Level) (a : Bool) (ad : ℕ) → is_block y ≡ false → (p : Tabbed around o (along m 1) (behind_colon y) k ls a ad)
+    → value.fetch (core_at around d (cursor_at (58 ∷ o) m b) y k ls a ad) ≡ behind_key k (begins_pair y) m (core_at around d p.there (behind_colon y) k ls a ad)
 unfolding value.fetch
-fetches o m b y k ls a ad p = ap (λ q. q >>= λ (d : Core). behind_key d.level.key (begins_pair y) m d) p.is
+fetches around d o m b y k ls a ad flows p =
+    let same : (around.required && not (is_block y)) ≡ (around.required && not (is_block (behind_colon y))) = ap (λ (q : Bool). around.required && not q) (flows ∙ sym (colon_flows y flows)) in
+    ap (λ (q : Bool). check_tab (record (core_at around d (cursor_at o (along m 1) false) (behind_colon y) k ls a ad) { required = q }) >>= λ (e : Core). behind_key e.level.key (begins_pair y) m e) same
+    ∙ ap (λ q. q >>= λ (e : Core). behind_key e.level.key (begins_pair y) m e) (p.is d)
 
 pub behind_some : (k : Candidate) (begins : Bool) (m : Marker) (c : Core) → behind_key (Some k) begins m c ≡ of_key k begins m c
 unfolding behind_key
@@ -123,14 +134,6 @@ behind_none begins m c = refl
 
 pub colon : IsMark 58
 colon = record { ink = record { blank = refl; break = refl; comment = refl; byte_order_mark = refl }; nul = refl; directive = refl; feed = refl }
-
-pub colon_flows : (y : Context) → is_block y ≡ false → is_block (behind_colon y) ≡ false
-colon_flows context.Block e = absurd (no_block e)
-colon_flows context.FlowSequence e = refl
-colon_flows context.FlowMapping e = refl
-colon_flows context.FlowPair e = refl
-colon_flows context.ExplicitFlowPair e = refl
-colon_flows context.MarkedFlowPair e = refl
 
 -- ## Behind a key
 

@@ -1,6 +1,6 @@
 -- The commas of a text in flow style are read.
-use Rattle.std.proofs.Common.{◌≡◌, ℕ, ◌+◌, ◌≤◌, Bool, true, false, List, [], ◌∷◌, ◌++◌, length, slice_index, Ok, refl, ap, ◌∙◌, arith}
-use Rattle.std.specs.Prelude.{Option, None}
+use Rattle.std.proofs.Common.{◌≡◌, ℕ, ◌+◌, ◌≤◌, Bool, true, false, List, [], ◌∷◌, ◌++◌, length, slice_index, Ok, refl, sym, ap, ◌∙◌, arith}
+use Rattle.std.specs.Prelude.{◌&&◌, not, Option, None}
 use Rattle.saphyr_input.specs.declared.input.SkipTabs.{SkipTabs}
 use Rattle.saphyr_input.specs.declared.input.SkipTabs.TheVariants.{Yes}
 use Rattle.saphyr_scalar.specs.declared.scalar.position.Marker.{Marker}
@@ -14,8 +14,11 @@ use Rattle.saphyr_scanner.specs.Passing.{with_cursor}
 use Rattle.saphyr_scanner.specs.Flow as flow
 use Rattle.saphyr_scanner.specs.Flow.{next_entry, behind_entry, behind_pair, ends_pair}
 use Rattle.saphyr_scanner.specs.Fetch.{step}
-use Rattle.saphyr_scanner.proofs.JsonStates.{cursor_at, core_at, state_at}
-use Rattle.saphyr_scanner.proofs.FlowStates.{moved, past, IsClear, IsParted, fresh_key, Passes}
+use Rattle.saphyr_scanner.proofs.InFlow.States.{Around, core_at, state_at, as_before}
+use Rattle.saphyr_scanner.proofs.JsonStates.{cursor_at}
+use Rattle.saphyr_scanner.proofs.FlowPlaces.{right_one}
+use Rattle.saphyr_scanner.proofs.FlowFillers.{one_right}
+use Rattle.saphyr_scanner.proofs.FlowStates.{moved, past, IsParted, fresh_key, Passes, Fits}
 use Rattle.saphyr_scanner.proofs.FlowGaps.{past_ink}
 use Rattle.saphyr_scanner.proofs.FlowArrivals.{arrives, one, within_index}
 use Rattle.saphyr_scanner.proofs.FlowSeparates.{separates}
@@ -25,30 +28,6 @@ use Rattle.saphyr_scanner.proofs.FlowBrackets.{IsMark, mark_begins, mark_moved, 
 no_block : true ≡ false → ⊥
 no_block e = cc
 
-parts : (o : List ℕ) (m : Marker) (b : Bool) (y : Context) (k : Option Candidate) (ls : List Level) (a : Bool) (ad : ℕ) (found : SkipTabs) (there : Cursor) → separation Yes (cursor_at o (along m 1) false) ≡ Ok (found, there)
-    → next_entry (core_at false (cursor_at (44 ∷ o) m b) y k ls a ad) ≡ went (behind_pair (ends_pair y) m (from_to m there.mark tokens.FlowEntry)) (core_at false there (behind_entry y) k ls true ad)
-unfolding next_entry
-parts o m b y k ls a ad found there is =
-    let c = core_at false (cursor_at o (along m 1) false) (behind_entry y) k ls true ad in
-    ap (λ q. (q >>= λ (d : SkipTabs × Cursor). Ok (d.0, with_cursor d.1 c)) >>= λ (d : SkipTabs × Core). went (behind_pair (ends_pair y) m (up_to_here m tokens.FlowEntry d.1)) d.1) is
-
-removes : (o : List ℕ) (m : Marker) (b : Bool) (y : Context) (k : Option Candidate) (ls : List Level) (a : Bool) (ad : ℕ) → is_block y ≡ false
-    → flow.entry (core_at false (cursor_at (44 ∷ o) m b) y k ls a ad) ≡ next_entry (core_at false (cursor_at (44 ∷ o) m b) y None ls a ad)
-unfolding flow.entry remove_key
-removes o m b context.Block k ls a ad e = absurd (no_block e)
-removes o m b context.FlowSequence k ls a ad e = refl
-removes o m b context.FlowMapping k ls a ad e = refl
-removes o m b context.FlowPair k ls a ad e = refl
-removes o m b context.ExplicitFlowPair k ls a ad e = refl
-removes o m b context.MarkedFlowPair k ls a ad e = refl
-
-begins : (second i : ℕ) (c : Core) → step 44 second i c ≡ flow.entry c
-unfolding step
-begins second i c = refl
-
-comma : IsMark 44
-comma = record { ink = record { blank = refl; break = refl; comment = refl; byte_order_mark = refl }; nul = refl; directive = refl; feed = refl }
-
 in_flow : (y : Context) → is_block y ≡ false → is_block (behind_entry y) ≡ false
 in_flow context.Block e = absurd (no_block e)
 in_flow context.FlowSequence e = refl
@@ -57,17 +36,44 @@ in_flow context.FlowPair e = refl
 in_flow context.ExplicitFlowPair e = refl
 in_flow context.MarkedFlowPair e = refl
 
+parts : (around : Around) (d : Bool) (o : List ℕ) (m : Marker) (b : Bool) (y : Context) (k : Option Candidate) (ls : List Level) (a : Bool) (ad : ℕ) → is_block y ≡ false → (found : SkipTabs) (there : Cursor) → separation Yes (cursor_at o (along m 1) false) ≡ Ok (found, there)
+    → next_entry (core_at around d (cursor_at (44 ∷ o) m b) y k ls a ad) ≡ went (behind_pair (ends_pair y) m (from_to m there.mark tokens.FlowEntry)) (core_at around d there (behind_entry y) k ls true ad)
+unfolding next_entry
+parts around d o m b y k ls a ad flows found there is =
+    let c : Core = record (core_at around d (cursor_at o (along m 1) false) (behind_entry y) k ls true ad) { required = around.required && not (is_block y) } in
+    let same : (around.required && not (is_block y)) ≡ (around.required && not (is_block (behind_entry y))) = ap (λ (q : Bool). around.required && not q) (flows ∙ sym (in_flow y flows)) in
+    ap (λ q. (q >>= λ (e : SkipTabs × Cursor). Ok (e.0, with_cursor e.1 c)) >>= λ (e : SkipTabs × Core). went (behind_pair (ends_pair y) m (up_to_here m tokens.FlowEntry e.1)) e.1) is
+    ∙ ap (λ (q : Bool). went (behind_pair (ends_pair y) m (from_to m there.mark tokens.FlowEntry)) (record (core_at around d there (behind_entry y) k ls true ad) { required = q })) same
+
+removes : (around : Around) (d : Bool) (o : List ℕ) (m : Marker) (b : Bool) (y : Context) (k : Option Candidate) (ls : List Level) (a : Bool) (ad : ℕ) → is_block y ≡ false
+    → flow.entry (core_at around d (cursor_at (44 ∷ o) m b) y k ls a ad) ≡ next_entry (core_at around d (cursor_at (44 ∷ o) m b) y None ls a ad)
+unfolding flow.entry remove_key
+removes around d o m b context.Block k ls a ad e = absurd (no_block e)
+removes around d o m b context.FlowSequence k ls a ad e = refl
+removes around d o m b context.FlowMapping k ls a ad e = refl
+removes around d o m b context.FlowPair k ls a ad e = refl
+removes around d o m b context.ExplicitFlowPair k ls a ad e = refl
+removes around d o m b context.MarkedFlowPair k ls a ad e = refl
+
+begins : (second i : ℕ) (c : Core) → step 44 second i c ≡ flow.entry c
+unfolding step
+begins second i c = refl
+
+comma : IsMark 44
+comma = record { ink = record { blank = refl; break = refl; comment = refl; byte_order_mark = refl }; nul = refl; directive = refl; feed = refl }
+
 -- A comma ends a pair that has no bracket of its own, and behind it a key may begin.
-pub comma_passes : (limit : ℕ) (y : Context) → is_block y ≡ false → (m : Marker) (o : List ℕ) → IsClear m (44 ∷ []) o → m.index + length (44 ∷ o) ≤ limit → IsParted o
-    → (s : Cursor) (k : Option Candidate) (ls : List Level) (a : Bool) (ad : ℕ) (ps : List Place) → ad ≤ m.index → past s.mark s.rest ≡ past m (44 ∷ o)
-    → Passes limit (state_at false s y k ls a ad ps) (fresh_key (moved m (44 ∷ []))) (behind_entry y) ls ps (moved m (44 ∷ [])) o (pending (ends_pair y) ++ tokens.FlowEntry ∷ [])
-comma_passes limit y flows m o clear below parted s k ls a ad ps before text =
-    let v = arrives s y k ls a ad ps m (44 ∷ o) (text ∙ past_ink m 44 o comma.ink) in
-    let p = separates (cursor_at o (along m 1) false) parted.separation parted.first parted.others parted.is parted.parts parted.ink in
-    let stepped = begins (slice_index o 0) (length ps) (core_at false (cursor_at (44 ∷ o) m v.blank) y v.key ls v.allowed ad) ∙ removes o m v.blank y v.key ls v.allowed ad flows
-    ∙ parts o m v.blank y None ls v.allowed ad p.found p.there p.is in
+pub comma_passes : (around : Around) (y : Context) → is_block y ≡ false → (m : Marker) (o : List ℕ) → Fits around m (44 ∷ []) o → IsParted around.indent o
+    → (s : Cursor) (k : Option Candidate) (ls : List Level) (a : Bool) (ad : ℕ) (ps : List Place) → ad ≤ m.index → past around.indent s.mark s.rest ≡ past around.indent m (44 ∷ o)
+    → Passes around (state_at around s y k ls a ad ps) (fresh_key (moved m (44 ∷ []))) (behind_entry y) ls ps (moved m (44 ∷ [])) o (pending (ends_pair y) ++ tokens.FlowEntry ∷ [])
+comma_passes around y flows m o fits parted s k ls a ad ps before text =
+    let v = arrives around s y k ls a ad ps m (44 ∷ o) (text ∙ past_ink around.indent m 44 o comma.ink) refl fits.right in
+    let p = separates around.indent (cursor_at o (along m 1) false) parted.separation parted.first parted.others parted.is parted.parts (one_right around.indent m.col fits.right) parted.ink in
+    let stepped = λ (d : Bool). begins (slice_index o 0) (length ps) (core_at around d (cursor_at (44 ∷ o) m v.blank) y v.key ls v.allowed ad) ∙ removes around d o m v.blank y v.key ls v.allowed ad flows
+    ∙ parts around d o m v.blank y None ls v.allowed ad flows p.found p.there p.is in
+    let below = fits.below in
     let new = mark_places (ends_pair y) m p.there.mark tokens.FlowEntry in
-    let came = one limit s y k ls a ad ps m (44 ∷ o) v (mark_begins m 44 o comma clear) p.there (behind_entry y) None ls true ad (ps ++ new) (behind_pair (ends_pair y) m (from_to m p.there.mark tokens.FlowEntry)) stepped
-    (mark_puts (ends_pair y) ps m p.there.mark tokens.FlowEntry) (within_index limit p.there (along m 1) o p.lands (omega (arith, below))) in
-    once true ad p.there ps new (moved m (44 ∷ [])) o (pending (ends_pair y) ++ tokens.FlowEntry ∷ []) (fresh_key (moved m (44 ∷ []))) came
-    (p.lands ∙ ap (λ (q : Marker). past q o) (mark_moved m 44 comma)) (mark_kinds (ends_pair y) m p.there.mark tokens.FlowEntry) (came.same (in_flow y flows), refl, one_on m 44 ad before)
+    let came = one around s y k ls a ad ps m (44 ∷ o) v (mark_begins m 44 o comma fits.clear) p.there (behind_entry y) None ls true ad (ps ++ new) (behind_pair (ends_pair y) m (from_to m p.there.mark tokens.FlowEntry)) (λ d. d) (as_before around) stepped
+    (mark_puts (ends_pair y) ps m p.there.mark tokens.FlowEntry) (within_index around.indent around.limit p.there (along m 1) o p.lands (omega (arith, below))) in
+    once true ad p.there ps new (moved m (44 ∷ [])) o (pending (ends_pair y) ++ tokens.FlowEntry ∷ []) (fresh_key (moved m (44 ∷ []))) came (right_one around.indent m 44 refl fits.right)
+    (p.lands ∙ ap (λ (q : Marker). past around.indent q o) (mark_moved m 44 comma)) (mark_kinds (ends_pair y) m p.there.mark tokens.FlowEntry) (came.same (in_flow y flows), refl, one_on m 44 ad before)

@@ -22,7 +22,8 @@ use Rattle.saphyr_scanner.specs.Fetch.{fetch_here}
 use Rattle.saphyr_scanner.proofs.JsonStates.{cursor_at, state_at}
 use Rattle.saphyr_scanner.proofs.FlowStates.{past, Reads}
 use Rattle.saphyr_scanner.proofs.FlowLines.{passes_filler}
-use Rattle.saphyr_scanner.proofs.FlowStands.{at_start, AtLine, Stands, reads_token}
+use Rattle.saphyr_scanner.proofs.FlowStands.{at_start, Lined, Stands, reads_token}
+use Rattle.saphyr_scanner.proofs.InBlock.Lines.{one_lined}
 use Rattle.saphyr_scanner.proofs.FlowMarkers.{piece_of, at_line}
 
 directive_here : (m e : Marker) (blank : Bool) (r : List ℕ) (d : directives.Directive) (u : Cursor) (k : Option Candidate) (a : Bool) (ad : ℕ) (ps : List Place) → m.col ≡ 0
@@ -88,34 +89,40 @@ not_none : (t : List ℕ) (o : List ℕ) → slice_index t 0 ≡ 37 → t ++ (10
 not_none [] o h e = cc
 not_none (c ∷ cs) o h e = cc
 
+wider : (l i n : ℕ) → l ≤ i + 1 → l ≤ i + n + 1
+wider l i n h = omega (arith, h)
+
+unopened : false ≡ true → ⊥
+unopened e = cc
+
 further : (i n : ℕ) → i ≤ i + n + 1
 further i n = omega arith
 
-reads_directive : {limit : ℕ} {start : State} {ts : List Kind} (d : forest.Directive) (t o : List ℕ) → ReadsAs d t → Stands limit start true (AtLine (t ++ (10 ∷ o))) (t ++ (10 ∷ o)) ts
-    → Stands limit start true (AtLine o) o (ts ++ directive_token d ∷ [])
+reads_directive : {limit : ℕ} {start : State} {ts : List Kind} (d : forest.Directive) (t o : List ℕ) → ReadsAs d t → Stands limit start true (Lined false (t ++ (10 ∷ o))) (t ++ (10 ∷ o)) ts
+    → Stands limit start true (Lined false o) o (ts ++ directive_token d ∷ [])
 reads_directive {limit = limit} {start = start} {ts = ts} d t o h v =
-    let col = at_line (t ++ (10 ∷ o)) v.mark v.line (not_none t o h.first) in
+    let col = at_line (t ++ (10 ∷ o)) v.mark v.line.0 (not_none t o h.first) in
     let b = begins t h.first in
     let n = next_line (along v.mark (length t)) 1 in
     let text : t ++ (10 ∷ o) ≡ 37 ∷ (b.0 ++ (10 ∷ o)) = ap (λ (x : List ℕ). x ++ (10 ∷ o)) b.1 in
-    let here : past v.mark (t ++ (10 ∷ o)) ≡ (v.mark, t ++ (10 ∷ o)) = ap (past v.mark) text ∙ ap (λ (x : List ℕ). (v.mark, x)) (sym text) in
+    let here : past 0 v.mark (t ++ (10 ∷ o)) ≡ (v.mark, t ++ (10 ∷ o)) = ap (past 0 v.mark) text ∙ ap (λ (x : List ℕ). (v.mark, x)) (sym text) in
     let fetched = λ (blank : Bool) (key : Option Candidate) (allowed : Bool) (ad : ℕ) (ps : List Place).
     ap (λ (x : List ℕ). fetch_here (state_at false (cursor_at x v.mark blank) context.Block key [] allowed ad ps)) text
     ∙ directive_here v.mark (h.end v.mark) blank (b.0 ++ (10 ∷ o)) h.said (cursor_at o n true) key allowed ad ps col
     (ap (λ (x : List ℕ). directives.directive (cursor_at x v.mark blank)) (sym text) ∙ h.reads v.mark blank o) in
-    subst (λ (k : Kind). Stands limit start true (AtLine o) o (ts ++ k ∷ [])) h.kind
-    (reads_token v here (inl refl) (λ _. cursor_at o n true) false (piece_of v.mark (h.end v.mark) (directive_kind h.said)) fetched (AtLine o) n o (λ _. refl) (line_count v.mark t o limit v.count) (inl refl) (further v.mark.index (length t)))
+    subst (λ (k : Kind). Stands limit start true (Lined false o) o (ts ++ k ∷ [])) h.kind
+    (reads_token v here (inl refl) (λ _. cursor_at o n true) false (piece_of v.mark (h.end v.mark) (directive_kind h.said)) fetched (Lined false o) n o (λ _. refl) (line_count v.mark t o limit v.count) (λ _. (inl refl, λ e. absurd (unopened e))) (further v.mark.index (length t)) (one_lined (along v.mark (length t)) 10 (wider v.mark.line v.mark.index (length t) v.lined)))
 
 lines_text : (directive filler more y : List ℕ) → (directive ++ (10 ∷ (filler ++ more))) ++ y ≡ directive ++ (10 ∷ (filler ++ (more ++ y)))
 lines_text directive filler more y = simp append_assoc
 
 -- directive lines, and what stands behind them
-pub reads_directives : {limit : ℕ} {start : State} → Reads → (ds : List forest.Directive) (t y : List ℕ) (ts : List Kind) → AreDirectives ds t → Stands limit start true (AtLine (t ++ y)) (t ++ y) ts
-    → Stands limit start true (AtLine y) y (ts ++ map directive_token ds)
+pub reads_directives : {limit : ℕ} {start : State} → Reads → (ds : List forest.Directive) (t y : List ℕ) (ts : List Kind) → AreDirectives ds t → Stands limit start true (Lined false (t ++ y)) (t ++ y) ts
+    → Stands limit start true (Lined false y) y (ts ++ map directive_token ds)
 reads_directives {limit = limit} {start = start} readers [] t y ts h v =
-    rw (append-nil ts) (subst (λ (x : List ℕ). Stands limit start true (AtLine (x ++ y)) (x ++ y) ts) h v)
+    rw (append-nil ts) (subst (λ (x : List ℕ). Stands limit start true (Lined false (x ++ y)) (x ++ y) ts) h v)
 reads_directives {limit = limit} {start = start} readers (d ∷ ds) t y ts (directive, filler, more, is, filler_is, others, e) v =
     let text : t ++ y ≡ directive ++ (10 ∷ (filler ++ (more ++ y))) = ap (λ (x : List ℕ). x ++ y) e ∙ lines_text directive filler more y in
-    let first = reads_directive d directive (filler ++ (more ++ y)) (reads_as readers d directive is) (subst (λ (x : List ℕ). Stands limit start true (AtLine x) x ts) text v) in
+    let first = reads_directive d directive (filler ++ (more ++ y)) (reads_as readers d directive is) (subst (λ (x : List ℕ). Stands limit start true (Lined false x) x ts) text v) in
     let last = reads_directives readers ds more y (ts ++ directive_token d ∷ []) others (passes_filler filler (more ++ y) filler_is first) in
-    subst (λ (x : List Kind). Stands limit start true (AtLine y) y x) (append_assoc ts (directive_token d ∷ []) (map directive_token ds)) last
+    subst (λ (x : List Kind). Stands limit start true (Lined false y) y x) (append_assoc ts (directive_token d ∷ []) (map directive_token ds)) last

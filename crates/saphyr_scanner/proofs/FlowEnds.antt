@@ -38,15 +38,15 @@ two_white : (a b : List ℕ) → BeginsWhite a → BeginsWhite b → BeginsWhite
 two_white [] b h k = k
 two_white (c ∷ cs) b h k = h
 
-line_white : (w : List ℕ) → IsSeparationLine 0 w → BeginsWhite w
-line_white w h = subst BeginsWhite (sym h.6) (behind_white h.0 h.1 (10 ∷ (h.2 ++ spaces 0)) (blanks_white h.0 h.3) h.4 refl)
+line_white : (indent : ℕ) (w : List ℕ) → IsSeparationLine indent w → BeginsWhite w
+line_white indent w h = subst BeginsWhite (sym h.6) (behind_white h.0 h.1 (10 ∷ (h.2 ++ spaces indent)) (blanks_white h.0 h.3) h.4 refl)
 
-pub separation_white : (w : List ℕ) → IsSeparation 0 w → BeginsWhite w
-separation_white w h = subst BeginsWhite (sym h.4) (two_white h.0 h.1 (subst BeginsWhite (sym h.2.2) (pieces h.2.0 h.2.1)) (blanks_white h.1 h.3))
+pub separation_white : (indent : ℕ) (w : List ℕ) → IsSeparation indent w → BeginsWhite w
+separation_white indent w h = subst BeginsWhite (sym h.4) (two_white h.0 h.1 (subst BeginsWhite (sym h.2.2) (pieces h.2.0 h.2.1)) (blanks_white h.1 h.3))
   where
-    pieces : (ws : List (List ℕ)) → AreEach (IsSeparationLine 0) ws → BeginsWhite (joined ws)
+    pieces : (ws : List (List ℕ)) → AreEach (IsSeparationLine indent) ws → BeginsWhite (joined ws)
     pieces [] k = tt
-    pieces (v ∷ vs) k = two_white v (joined vs) (line_white v k.0) (pieces vs k.1)
+    pieces (v ∷ vs) k = two_white v (joined vs) (line_white indent v k.0) (pieces vs k.1)
 
 rest_white : (rest more : List ℕ) → IsLineRest rest → BeginsWhite more → BeginsWhite (rest ++ more)
 rest_white rest more h k =
@@ -63,8 +63,8 @@ first_white [] h = refl
 first_white (c ∷ cs) h = white_breakz c h
 
 -- behind a document's node: a blank, a break or the end
-pub root_first : (m : Marker) (o : List ℕ) → IsBehindRoot m o → IsTrue (is_blank_or_breakz (slice_index o 0))
-root_first m o h = first_white o (subst BeginsWhite (sym h.is) (rest_white h.rest h.more h.line (ends h.more h.break)))
+pub root_first : (indent : ℕ) (m : Marker) (o : List ℕ) → IsBehindRoot indent m o → IsTrue (is_blank_or_breakz (slice_index o 0))
+root_first indent m o h = first_white o (subst BeginsWhite (sym h.is) (rest_white h.rest h.more h.line (ends h.more h.break)))
   where
     feed : (c : ℕ) → c ≡ line_feed → IsTrue (is_blank_or_break c)
     feed c e = rw e refl
@@ -75,8 +75,8 @@ root_first m o h = first_white o (subst BeginsWhite (sym h.is) (rest_white h.res
     ends (c ∷ cs) (inr e) = feed c e
 
 -- behind separation that is not empty
-pub behind_separation : (w y : List ℕ) → IsSeparation 0 w → w ≢ [] → IsTrue (is_blank_or_breakz (slice_index (w ++ y) 0))
-behind_separation w y h some = by_first w some (separation_white w h)
+pub behind_separation : (indent : ℕ) (w y : List ℕ) → IsSeparation indent w → w ≢ [] → IsTrue (is_blank_or_breakz (slice_index (w ++ y) 0))
+behind_separation indent w y h some = by_first w some (separation_white indent w h)
   where
     by_first : (w : List ℕ) → w ≢ [] → BeginsWhite w → IsTrue (is_blank_or_breakz (slice_index (w ++ y) 0))
     by_first [] some k = absurd (some refl)
@@ -86,8 +86,8 @@ behind_separation w y h some = by_first w some (separation_white w h)
 abbrev pub EndsHere : Node → ℕ → Type 0
 EndsHere node c = IsTrue (is_blank_or_breakz c) ⊎ ((c ≡ 44) ⊎ ((c ≡ 93) ⊎ ((c ≡ 125) ⊎ ((c ≡ 58) × IsTrue (not (needs_separation node))))))
 
-pub node_first : (node : Node) (o : List ℕ) → IsBehindNode node o → EndsHere node (slice_index o 0)
-node_first node o h = by_separation h.separation h.is h.parts h.ends
+pub node_first : (indent : ℕ) (node : Node) (o : List ℕ) → IsBehindNode indent node o → EndsHere node (slice_index o 0)
+node_first indent node o h = by_separation h.separation h.is h.parts h.ends
   where
     colon : IsBeforeColon node [] → IsTrue (not (needs_separation node))
     colon (inl some) = absurd (some refl)
@@ -99,9 +99,9 @@ node_first node o h = by_separation h.separation h.is h.parts h.ends
     ends (inr (inr (inl e))) = inr (inr (inr (inl e)))
     ends (inr (inr (inr e))) = inr (inr (inr (inr (e.0, colon e.1))))
 
-    by_separation : (w : List ℕ) → o ≡ w ++ (h.first ∷ h.others) → IsSeparation 0 w → EndsNode node w h.first h.others → EndsHere node (slice_index o 0)
+    by_separation : (w : List ℕ) → o ≡ w ++ (h.first ∷ h.others) → IsSeparation indent w → EndsNode node w h.first h.others → EndsHere node (slice_index o 0)
     by_separation [] is parts k = subst (λ (y : List ℕ). EndsHere node (slice_index y 0)) (sym is) (ends k)
-    by_separation (c ∷ cs) is parts k = subst (λ (y : List ℕ). EndsHere node (slice_index y 0)) (sym is) (inl (white_breakz c (separation_white (c ∷ cs) parts)))
+    by_separation (c ∷ cs) is parts k = subst (λ (y : List ℕ). EndsHere node (slice_index y 0)) (sym is) (inl (white_breakz c (separation_white indent (c ∷ cs) parts)))
 
 -- ## What it ends
 
@@ -121,8 +121,8 @@ pub white_ends_tag : (in_flow : Bool) (o : List ℕ) → IsTrue (is_blank_or_bre
 white_ends_tag in_flow o h = or_left (is_blank_or_breakz (slice_index o 0)) (in_flow && is_flow (slice_index o 0)) h
 
 -- behind a node that needs separation before a colon
-pub node_ends_tag : (node : Node) (o : List ℕ) → IsTrue (needs_separation node) → IsBehindNode node o → EndsTag true o
-node_ends_tag node o needs h = by_first (slice_index o 0) (node_first node o h)
+pub node_ends_tag : (indent : ℕ) (node : Node) (o : List ℕ) → IsTrue (needs_separation node) → IsBehindNode indent node o → EndsTag true o
+node_ends_tag indent node o needs h = by_first (slice_index o 0) (node_first indent node o h)
   where
     never : (b : Bool) → b ≡ true → IsTrue (not b) → ⊥
     never true e k = absurd (cc)

@@ -17,14 +17,14 @@ use Rattle.saphyr_scanner.specs.Flow.{behind_entry, ends_pair}
 use Rattle.saphyr_scanner.specs.State.{State}
 use Rattle.saphyr_scanner.specs.Forest.{no_properties, Node, Map, NoPair, MorePairs}
 use Rattle.saphyr_scanner.specs.FlowNodes.{IsOnLine, IsKeyAndValue, IsBeforeSeparation, IsPairText, IsPair, IsSinglePairText, IsSinglePair, IsFlowNode}
-use Rattle.saphyr_scanner.proofs.JsonStates.{state_at}
-use Rattle.saphyr_scanner.proofs.FlowStates.{moved, past, Passes, ended, PassesNode}
+use Rattle.saphyr_scanner.proofs.InFlow.States.{Around, state_at}
+use Rattle.saphyr_scanner.proofs.FlowStates.{Fits, moved, past, Passes, ended, PassesNode}
 use Rattle.saphyr_scanner.proofs.FlowPlaces.{moved_append, moved_along}
 use Rattle.saphyr_scanner.proofs.FlowFillers.{separation_past}
 use Rattle.saphyr_scanner.proofs.FlowSeparates.{blanks_moved}
 use Rattle.saphyr_scanner.proofs.FlowJoins.{behind, knowing}
 use Rattle.saphyr_scanner.proofs.FlowBrackets.{pending}
-use Rattle.saphyr_scanner.proofs.FlowPieces.{Fits, fits_front, fits_so, IsBehindEntry, entry_behind, wider_entry}
+use Rattle.saphyr_scanner.proofs.FlowPieces.{fits_front, fits_so, IsBehindEntry, entry_behind, wider_entry}
 use Rattle.saphyr_scanner.proofs.FlowPairs.{Told, told_at, told_so, key_passes, alone_passes}
 use Rattle.saphyr_scanner.proofs.FlowMarkedPairs.{MarkedTokens, IsMarked, explicit_passes, lone_passes}
 
@@ -36,14 +36,14 @@ in_braces = record { flows = refl; question = refl; inside = refl; no_pair = ref
 in_brackets : IsMarked context.FlowSequence context.ExplicitFlowPair
 in_brackets = record { flows = refl; question = refl; inside = refl; no_pair = refl; colon = refl }
 
-ended_behind : {limit : ℕ} {start : State} {x : Context} {ls : List Level} {ps : List Place} {ts : List Kind} (m : Marker) (w o : List ℕ) → IsSeparation 0 w
-    → Passes limit start (ended m (w ++ o)) x ls ps m (w ++ o) ts → Passes limit start (ended (moved m w) o) x ls ps (moved m w) o ts
-ended_behind m w o parts p =
+ended_behind : {around : Around} {start : Bool → State} {x : Context} {ls : List Level} {ps : List Place} {ts : List Kind} (m : Marker) (w o : List ℕ) → IsSeparation around.indent w
+    → Passes around start (ended around.indent m (w ++ o)) x ls ps m (w ++ o) ts → Passes around start (ended around.indent (moved m w) o) x ls ps (moved m w) o ts
+ended_behind {around = around} m w o parts p =
     let q = behind m w o parts p in
-    knowing q (ended (moved m w) o) (subst (λ (r : Marker × List ℕ). q.adjacent ≤ r.0.index) (separation_past m w o parts) q.knows)
+    knowing q (ended around.indent (moved m w) o) (subst (λ (r : Marker × List ℕ). q.adjacent ≤ r.0.index) (separation_past around.indent m w o parts p.right) q.knows)
 
-told_behind : {limit : ℕ} {start : State} {Is : List Kind → Type 0} {x : Context} {ls : List Level} {ps : List Place} (m : Marker) (w o : List ℕ) → IsSeparation 0 w
-    → Told limit start Is x ls ps m (w ++ o) → Told limit start Is x ls ps (moved m w) o
+told_behind : {around : Around} {start : Bool → State} {Is : List Kind → Type 0} {x : Context} {ls : List Level} {ps : List Place} (m : Marker) (w o : List ℕ) → IsSeparation around.indent w
+    → Told around start Is x ls ps m (w ++ o) → Told around start Is x ls ps (moved m w) o
 told_behind m w o parts t = record { tokens = t.tokens; are = t.are; passes = ended_behind m w o parts t.passes }
 
 abbrev pub PairInBraces : Node → Node → List Kind → Type 0
@@ -53,13 +53,13 @@ marked_in_braces : (key value : Node) (t : List Kind) → MarkedTokens key value
 marked_in_braces key value t (inl h) = inl h
 marked_in_braces key value t (inr h) = inr (inl h)
 
-pair_text_passes : {limit : ℕ} (room : ℕ) (key value : Node) → PassesNode limit room key → PassesNode limit room value → (m : Marker) (t o : List ℕ) → Fits limit m t o → IsBehindEntry o
-    → IsPairText key value (IsFlowNode room key true 0) (IsFlowNode room value true 0) 0 t
-    → (s : Cursor) (k : Option Candidate) (ls : List Level) (a : Bool) (ad : ℕ) (ps : List Place) → k ≡ None → a ≡ true → room + length ls ≤ 255 → ad < m.index → past s.mark s.rest ≡ past m (t ++ o)
-    → Told limit (state_at false s context.FlowMapping k ls a ad ps) (PairInBraces key value) context.FlowMapping ls ps (moved m t) o
-pair_text_passes room key value K V m t o fits ends (inl (none, h)) s k ls a ad ps no_candidate fresh low before text =
-    let n = K m t o h fits.clear fits.below (entry_behind key o ends) s context.FlowMapping k ls a ad ps before refl low text in
-    record { tokens = n.tokens; are = inr (inr (inr (none, n.are))); passes = knowing n.passes (ended (moved m t) o) (n.passes.knows.low refl) }
+pair_text_passes : {around : Around} (room : ℕ) (key value : Node) → PassesNode around room key → PassesNode around room value → (m : Marker) (t o : List ℕ) → Fits around m t o → IsBehindEntry around.indent o
+    → IsPairText key value (IsFlowNode room key true around.indent) (IsFlowNode room value true around.indent) around.indent t
+    → (s : Cursor) (k : Option Candidate) (ls : List Level) (a : Bool) (ad : ℕ) (ps : List Place) → k ≡ None → a ≡ true → room + length ls ≤ 255 → ad < m.index → past around.indent s.mark s.rest ≡ past around.indent m (t ++ o)
+    → Told around (state_at around s context.FlowMapping k ls a ad ps) (PairInBraces key value) context.FlowMapping ls ps (moved m t) o
+pair_text_passes {around} room key value K V m t o fits ends (inl (none, h)) s k ls a ad ps no_candidate fresh low before text =
+    let n = K m t o h fits (entry_behind around.indent key o ends) s context.FlowMapping k ls a ad ps before refl low text in
+    record { tokens = n.tokens; are = inr (inr (inr (none, n.are))); passes = knowing n.passes (ended around.indent (moved m t) o) (n.passes.knows.low refl) }
 pair_text_passes room key value K V m t o fits ends (inr (inl h)) s k ls a ad ps no_candidate fresh low before text =
     told_so (λ ts (ks, vs, are, others, is). inl (tokens.Key ∷ ks, tokens.Value ∷ vs, (ks, inr are, refl), (vs, others, refl), is))
     (key_passes room key value K V context.FlowMapping refl m t o fits ends h (λ e. absurd (none e)) s k ls a ad ps fresh low before text)
@@ -72,20 +72,20 @@ pair_text_passes room key value K V m t o fits ends (inr (inr (inr h))) s k ls a
     told_so (marked_in_braces key value) (explicit_passes room key value K V context.FlowMapping context.FlowMapping in_braces m t o fits ends h s k ls a ad ps low before text)
 
 -- a pair in braces, with the separation behind it
-pub pair_passes : {limit : ℕ} (room : ℕ) (key value : Node) → PassesNode limit room key → PassesNode limit room value → (m : Marker) (t : List ℕ) (c : ℕ) (cs : List ℕ) → Fits limit m t (c ∷ cs)
+pub pair_passes : {around : Around} (room : ℕ) (key value : Node) → PassesNode around room key → PassesNode around room value → (m : Marker) (t : List ℕ) (c : ℕ) (cs : List ℕ) → Fits around m t (c ∷ cs)
     → (c ≡ 44) ⊎ ((c ≡ 93) ⊎ (c ≡ 125))
-    → IsPair key value (IsFlowNode room key true 0) (IsFlowNode room value true 0) 0 t
+    → IsPair key value (IsFlowNode room key true around.indent) (IsFlowNode room value true around.indent) around.indent t
     → (s : Cursor) (k : Option Candidate) (ls : List Level) (a : Bool) (ad : ℕ) (ps : List Place) → k ≡ None → a ≡ true → room + length ls ≤ 255 → ad < m.index
-    → past s.mark s.rest ≡ past m (t ++ (c ∷ cs))
-    → Told limit (state_at false s context.FlowMapping k ls a ad ps) (PairInBraces key value) context.FlowMapping ls ps (moved m t) (c ∷ cs)
+    → past around.indent s.mark s.rest ≡ past around.indent m (t ++ (c ∷ cs))
+    → Told around (state_at around s context.FlowMapping k ls a ad ps) (PairInBraces key value) context.FlowMapping ls ps (moved m t) (c ∷ cs)
 pair_passes room key value K V m t c cs fits ends (inl h) s k ls a ad ps no_candidate fresh low before text =
     told_so (marked_in_braces key value) (lone_passes key value context.FlowMapping context.FlowMapping in_braces m t c cs fits ends h s k ls a ad ps before text)
-pair_passes {limit} room key value K V m t c cs fits ends (inr (piece, separation, h, parts, e)) s k ls a ad ps no_candidate fresh low before text =
+pair_passes {around} room key value K V m t c cs fits ends (inr (piece, separation, h, parts, e)) s k ls a ad ps no_candidate fresh low before text =
     let f = fits_front m piece separation (c ∷ cs) (fits_so m t (piece ++ separation) (c ∷ cs) e fits) in
     let texts = ap (λ (x : List ℕ). x ++ (c ∷ cs)) e ∙ append_assoc piece separation (c ∷ cs) in
     told_at (moved (moved m piece) separation) (moved m t) (sym (moved_append m piece separation) ∙ ap (moved m) (sym e))
     (told_behind (moved m piece) separation (c ∷ cs) parts
-    (pair_text_passes room key value K V m piece (separation ++ (c ∷ cs)) f (wider_entry separation cs c parts ends) h s k ls a ad ps no_candidate fresh low before (text ∙ ap (past m) texts)))
+    (pair_text_passes room key value K V m piece (separation ++ (c ∷ cs)) f (wider_entry around.indent separation cs c parts ends) h s k ls a ad ps no_candidate fresh low before (text ∙ ap (past around.indent m) texts)))
 
 -- ## In brackets
 
@@ -94,32 +94,32 @@ abbrev pub IsEntry : Node → List Kind → Type 0
 IsEntry node t = grammar.IsNode node grammar.InFlow t ⊎ grammar.IsPairEntry node t
 
 -- The run over an entry of brackets. A pair that has no bracket of its own is open behind it, and ends with what stands behind the entry.
-pub record ItemPasses (limit : ℕ) (start : State) (Is : List Kind → Type 0) (ls : List Level) (ps : List Place) (m : Marker) (o : List ℕ) : Type 0 where
+pub record ItemPasses (around : Around) (start : Bool → State) (Is : List Kind → Type 0) (ls : List Level) (ps : List Place) (m : Marker) (o : List ℕ) : Type 0 where
   pub inside : Context
   pub flows : is_block inside ≡ false
   pub back : behind_entry inside ≡ context.FlowSequence
   pub tokens : List Kind
   pub are : Is (tokens ++ pending (ends_pair inside))
-  pub passes : Passes limit start (ended m o) inside ls ps m o tokens
+  pub passes : Passes around start (ended around.indent m o) inside ls ps m o tokens
 
-item_at : {limit : ℕ} {start : State} {Is : List Kind → Type 0} {ls : List Level} {ps : List Place} {o : List ℕ} (m n : Marker) → m ≡ n → ItemPasses limit start Is ls ps m o
-    → ItemPasses limit start Is ls ps n o
-item_at {limit} {start} {Is} {ls} {ps} {o} m n e t = subst (λ (k : Marker). ItemPasses limit start Is ls ps k o) e t
+item_at : {around : Around} {start : Bool → State} {Is : List Kind → Type 0} {ls : List Level} {ps : List Place} {o : List ℕ} (m n : Marker) → m ≡ n → ItemPasses around start Is ls ps m o
+    → ItemPasses around start Is ls ps n o
+item_at {around} {start} {Is} {ls} {ps} {o} m n e t = subst (λ (k : Marker). ItemPasses around start Is ls ps k o) e t
 
-item_behind : {limit : ℕ} {start : State} {Is : List Kind → Type 0} {ls : List Level} {ps : List Place} (m : Marker) (w o : List ℕ) → IsSeparation 0 w → ItemPasses limit start Is ls ps m (w ++ o)
-    → ItemPasses limit start Is ls ps (moved m w) o
+item_behind : {around : Around} {start : Bool → State} {Is : List Kind → Type 0} {ls : List Level} {ps : List Place} (m : Marker) (w o : List ℕ) → IsSeparation around.indent w → ItemPasses around start Is ls ps m (w ++ o)
+    → ItemPasses around start Is ls ps (moved m w) o
 item_behind m w o parts t = record { inside = t.inside; flows = t.flows; back = t.back; tokens = t.tokens; are = t.are; passes = ended_behind m w o parts t.passes }
 
 -- a node, with the separation behind it
-pub node_item_passes : {limit : ℕ} (room : ℕ) (node : Node) → PassesNode limit room node → (m : Marker) (t : List ℕ) (c : ℕ) (cs : List ℕ) → Fits limit m t (c ∷ cs)
-    → (c ≡ 44) ⊎ ((c ≡ 93) ⊎ (c ≡ 125)) → IsBeforeSeparation (IsFlowNode room node true 0) 0 t
-    → (s : Cursor) (k : Option Candidate) (ls : List Level) (a : Bool) (ad : ℕ) (ps : List Place) → room + length ls ≤ 255 → ad < m.index → past s.mark s.rest ≡ past m (t ++ (c ∷ cs))
-    → ItemPasses limit (state_at false s context.FlowSequence k ls a ad ps) (IsEntry node) ls ps (moved m t) (c ∷ cs)
-node_item_passes {limit} room node N m t c cs fits ends (piece, separation, h, parts, e) s k ls a ad ps low before text =
+pub node_item_passes : {around : Around} (room : ℕ) (node : Node) → PassesNode around room node → (m : Marker) (t : List ℕ) (c : ℕ) (cs : List ℕ) → Fits around m t (c ∷ cs)
+    → (c ≡ 44) ⊎ ((c ≡ 93) ⊎ (c ≡ 125)) → IsBeforeSeparation (IsFlowNode room node true around.indent) around.indent t
+    → (s : Cursor) (k : Option Candidate) (ls : List Level) (a : Bool) (ad : ℕ) (ps : List Place) → room + length ls ≤ 255 → ad < m.index → past around.indent s.mark s.rest ≡ past around.indent m (t ++ (c ∷ cs))
+    → ItemPasses around (state_at around s context.FlowSequence k ls a ad ps) (IsEntry node) ls ps (moved m t) (c ∷ cs)
+node_item_passes {around} room node N m t c cs fits ends (piece, separation, h, parts, e) s k ls a ad ps low before text =
     let o = separation ++ (c ∷ cs) in
     let f = fits_front m piece separation (c ∷ cs) (fits_so m t (piece ++ separation) (c ∷ cs) e fits) in
     let texts = ap (λ (x : List ℕ). x ++ (c ∷ cs)) e ∙ append_assoc piece separation (c ∷ cs) in
-    let n = N m piece o h f.clear f.below (entry_behind node o (wider_entry separation cs c parts ends)) s context.FlowSequence k ls a ad ps before refl low (text ∙ ap (past m) texts) in
+    let n = N m piece o h f (entry_behind around.indent node o (wider_entry around.indent separation cs c parts ends)) s context.FlowSequence k ls a ad ps before refl low (text ∙ ap (past around.indent m) texts) in
     item_at (moved (moved m piece) separation) (moved m t) (sym (moved_append m piece separation) ∙ ap (moved m) (sym e))
     (item_behind (moved m piece) separation (c ∷ cs) parts
     (record {
@@ -128,7 +128,7 @@ node_item_passes {limit} room node N m t c cs fits ends (piece, separation, h, p
       back = refl;
       tokens = n.tokens;
       are = inl (subst (grammar.IsNode node grammar.InFlow) (sym (append-nil n.tokens)) n.are);
-      passes = knowing n.passes (ended (moved m piece) o) (n.passes.knows.low refl);
+      passes = knowing n.passes (ended around.indent (moved m piece) o) (n.passes.knows.low refl);
     }))
 
 -- the mapping of one pair
@@ -141,41 +141,41 @@ between key value t h = inl ([], tokens.FlowMappingStart ∷ (t ++ tokens.FlowMa
 same_line : (m : Marker) (node blanks : List ℕ) → IsOnLine node → AreIn is_blank blanks → m.line ≡ (moved (moved m node) blanks).line
 same_line m node blanks h are = ap (λ (k : Marker). k.line) (sym (blanks_moved (moved m node) blanks are ∙ ap (λ (k : Marker). along k (length blanks)) (moved_along m node h)))
 
-single_text_passes : {limit : ℕ} (room : ℕ) (key value : Node) → PassesNode limit room key → PassesNode limit room value → (m : Marker) (t o : List ℕ) → Fits limit m t o → IsBehindEntry o
-    → IsSinglePairText key value (IsFlowNode room key true 0) (IsFlowNode room value true 0) 0 t
-    → (s : Cursor) (k : Option Candidate) (ls : List Level) (a : Bool) (ad : ℕ) (ps : List Place) → k ≡ None → a ≡ true → room + length ls ≤ 255 → ad < m.index → past s.mark s.rest ≡ past m (t ++ o)
-    → ItemPasses limit (state_at false s context.FlowSequence k ls a ad ps) (IsEntry (single key value)) ls ps (moved m t) o
-single_text_passes {limit} room key value K V m t o fits ends (inl (node, blanks, colon, h, line, are, apart, c, e)) s k ls a ad ps no_candidate fresh low before text =
-    let pair : IsKeyAndValue key value (IsFlowNode room key true 0) (IsFlowNode room value true 0) 0 t = (node, blanks, colon, h, ([], blanks, ([], tt, refl), are, refl), apart, c, e) in
+single_text_passes : {around : Around} (room : ℕ) (key value : Node) → PassesNode around room key → PassesNode around room value → (m : Marker) (t o : List ℕ) → Fits around m t o → IsBehindEntry around.indent o
+    → IsSinglePairText key value (IsFlowNode room key true around.indent) (IsFlowNode room value true around.indent) around.indent t
+    → (s : Cursor) (k : Option Candidate) (ls : List Level) (a : Bool) (ad : ℕ) (ps : List Place) → k ≡ None → a ≡ true → room + length ls ≤ 255 → ad < m.index → past around.indent s.mark s.rest ≡ past around.indent m (t ++ o)
+    → ItemPasses around (state_at around s context.FlowSequence k ls a ad ps) (IsEntry (single key value)) ls ps (moved m t) o
+single_text_passes {around} room key value K V m t o fits ends (inl (node, blanks, colon, h, line, are, apart, c, e)) s k ls a ad ps no_candidate fresh low before text =
+    let pair : IsKeyAndValue key value (IsFlowNode room key true around.indent) (IsFlowNode room value true around.indent) around.indent t = (node, blanks, colon, h, ([], blanks, ([], tt, refl), are, refl), apart, c, e) in
     let p = key_passes room key value K V context.FlowSequence refl m t o fits ends pair (λ _. same_line m node blanks line are) s k ls a ad ps fresh low before text in
     let ks = p.are.0 in
     let vs = p.are.1 in
     let told : PairInBraces key value (tokens.Key ∷ (ks ++ tokens.Value ∷ vs)) = inl (tokens.Key ∷ ks, tokens.Value ∷ vs, (ks, inr p.are.2, refl), (vs, p.are.3, refl), refl) in
     let all = subst (λ (x : List Kind). IsEntry (single key value) (x ++ tokens.FlowMappingEnd ∷ [])) (sym p.are.4) (between key value (tokens.Key ∷ (ks ++ tokens.Value ∷ vs)) told) in
     record { inside = context.FlowPair; flows = refl; back = refl; tokens = p.tokens; are = all; passes = p.passes }
-single_text_passes {limit} room key value K V m t o fits ends (inr (inl h)) s k ls a ad ps no_candidate fresh low before text =
+single_text_passes {around} room key value K V m t o fits ends (inr (inl h)) s k ls a ad ps no_candidate fresh low before text =
     let p = alone_passes room key value V context.FlowSequence refl m t o fits ends h s k ls a ad ps no_candidate low before text in
     let vs = p.are.0 in
     let told : PairInBraces key value (tokens.Value ∷ vs) = inr (inr (inl (h.0, (vs, p.are.1, refl)))) in
     let all = subst (λ (x : List Kind). IsEntry (single key value) (x ++ tokens.FlowMappingEnd ∷ [])) (sym p.are.2) (between key value (tokens.Value ∷ vs) told) in
     record { inside = context.FlowPair; flows = refl; back = refl; tokens = p.tokens; are = all; passes = p.passes }
-single_text_passes {limit} room key value K V m t o fits ends (inr (inr h)) s k ls a ad ps no_candidate fresh low before text =
+single_text_passes {around} room key value K V m t o fits ends (inr (inr h)) s k ls a ad ps no_candidate fresh low before text =
     let p = explicit_passes room key value K V context.FlowSequence context.ExplicitFlowPair in_brackets m t o fits ends h s k ls a ad ps low before text in
     record { inside = context.ExplicitFlowPair; flows = refl; back = refl; tokens = p.tokens; are = inr (refl, subst (MarkedTokens key value) (sym (append-nil p.tokens)) p.are); passes = p.passes }
 
 -- a pair in brackets, with the separation behind it
-pub single_passes : {limit : ℕ} (room : ℕ) (key value : Node) → PassesNode limit room key → PassesNode limit room value → (m : Marker) (t : List ℕ) (c : ℕ) (cs : List ℕ) → Fits limit m t (c ∷ cs)
+pub single_passes : {around : Around} (room : ℕ) (key value : Node) → PassesNode around room key → PassesNode around room value → (m : Marker) (t : List ℕ) (c : ℕ) (cs : List ℕ) → Fits around m t (c ∷ cs)
     → (c ≡ 44) ⊎ ((c ≡ 93) ⊎ (c ≡ 125))
-    → IsSinglePair key value (IsFlowNode room key true 0) (IsFlowNode room value true 0) 0 t
+    → IsSinglePair key value (IsFlowNode room key true around.indent) (IsFlowNode room value true around.indent) around.indent t
     → (s : Cursor) (k : Option Candidate) (ls : List Level) (a : Bool) (ad : ℕ) (ps : List Place) → k ≡ None → a ≡ true → room + length ls ≤ 255 → ad < m.index
-    → past s.mark s.rest ≡ past m (t ++ (c ∷ cs))
-    → ItemPasses limit (state_at false s context.FlowSequence k ls a ad ps) (IsEntry (single key value)) ls ps (moved m t) (c ∷ cs)
+    → past around.indent s.mark s.rest ≡ past around.indent m (t ++ (c ∷ cs))
+    → ItemPasses around (state_at around s context.FlowSequence k ls a ad ps) (IsEntry (single key value)) ls ps (moved m t) (c ∷ cs)
 single_passes room key value K V m t c cs fits ends (inl h) s k ls a ad ps no_candidate fresh low before text =
     let p = lone_passes key value context.FlowSequence context.ExplicitFlowPair in_brackets m t c cs fits ends h s k ls a ad ps before text in
     record { inside = context.ExplicitFlowPair; flows = refl; back = refl; tokens = p.tokens; are = inr (refl, subst (MarkedTokens key value) (sym (append-nil p.tokens)) p.are); passes = p.passes }
-single_passes room key value K V m t c cs fits ends (inr (piece, separation, h, parts, e)) s k ls a ad ps no_candidate fresh low before text =
+single_passes {around} room key value K V m t c cs fits ends (inr (piece, separation, h, parts, e)) s k ls a ad ps no_candidate fresh low before text =
     let f = fits_front m piece separation (c ∷ cs) (fits_so m t (piece ++ separation) (c ∷ cs) e fits) in
     let texts = ap (λ (x : List ℕ). x ++ (c ∷ cs)) e ∙ append_assoc piece separation (c ∷ cs) in
     item_at (moved (moved m piece) separation) (moved m t) (sym (moved_append m piece separation) ∙ ap (moved m) (sym e))
     (item_behind (moved m piece) separation (c ∷ cs) parts
-    (single_text_passes room key value K V m piece (separation ++ (c ∷ cs)) f (wider_entry separation cs c parts ends) h s k ls a ad ps no_candidate fresh low before (text ∙ ap (past m) texts)))
+    (single_text_passes room key value K V m piece (separation ++ (c ∷ cs)) f (wider_entry around.indent separation cs c parts ends) h s k ls a ad ps no_candidate fresh low before (text ∙ ap (past around.indent m) texts)))

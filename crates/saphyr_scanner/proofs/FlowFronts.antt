@@ -15,28 +15,28 @@ use Rattle.saphyr_scanner.specs.Core.{Candidate, Level, is_block}
 use Rattle.saphyr_scanner.specs.State.{State}
 use Rattle.saphyr_scanner.specs.Forest.{Properties, no_properties}
 use Rattle.saphyr_scanner.specs.FlowNodes.{IsProperties, IsBeforeContent}
-use Rattle.saphyr_scanner.proofs.JsonStates.{state_at}
+use Rattle.saphyr_scanner.proofs.InFlow.States.{Around, state_at, Calm}
 use Rattle.saphyr_scanner.proofs.JsonMarks.{saved}
-use Rattle.saphyr_scanner.proofs.FlowStates.{moved, past, IsParted, Passes, Reads}
+use Rattle.saphyr_scanner.proofs.FlowStates.{moved, past, IsParted, Passes, Fits, Reads}
 use Rattle.saphyr_scanner.proofs.FlowPlaces.{moved_append, moved_index}
 use Rattle.saphyr_scanner.proofs.FlowJoins.{join, behind}
 use Rattle.saphyr_scanner.proofs.FlowProperties.{behind_properties as read_properties, properties_read}
 use Rattle.saphyr_scanner.proofs.FlowSpaces.{separation_begins}
-use Rattle.saphyr_scanner.proofs.FlowPieces.{Fits, fits_front, fits_back}
+use Rattle.saphyr_scanner.proofs.FlowPieces.{fits_front, fits_back}
 use Rattle.saphyr_scanner.proofs.FlowCollections.{EndsAt, Brackets, AreBrackets, IsBracketed, bracketed, bracket_text, RunsInside, brackets_pass}
 
 -- the tokens of properties and of a collection behind them, and the run over its text
-pub record CollectionPasses (limit : ℕ) (start : State) (Is : List Kind → Type 0) (b : Brackets) (p : Properties) (kept : Option Candidate) (x : Context) (ls : List Level) (ps : List Place)
+pub record CollectionPasses (around : Around) (start : Bool → State) (Is : List Kind → Type 0) (b : Brackets) (p : Properties) (kept : Option Candidate) (x : Context) (ls : List Level) (ps : List Place)
     (m : Marker) (o : List ℕ) : Type 0 where
   pub properties : List Kind
   pub are_properties : grammar.AreProperties p properties
   pub inside : List Kind
   pub are : Is inside
-  pub passes : Passes limit start (bracketed x kept m o) x ls ps m o (properties ++ (b.opens ∷ (inside ++ b.closes ∷ [])))
+  pub passes : Passes around start (bracketed around.indent x kept m o) x ls ps m o (properties ++ (b.opens ∷ (inside ++ b.closes ∷ [])))
 
-white_ends_tag : (in_flow : Bool) (w y : List ℕ) → IsSeparation 0 w → w ≢ [] → EndsTag in_flow (w ++ y)
-white_ends_tag in_flow w y parts some =
-    let h = separation_begins w parts some in
+white_ends_tag : (indent : ℕ) (in_flow : Bool) (w y : List ℕ) → IsSeparation indent w → w ≢ [] → EndsTag in_flow (w ++ y)
+white_ends_tag indent in_flow w y parts some =
+    let h = separation_begins indent w parts some in
     subst (λ (t : List ℕ). EndsTag in_flow (t ++ y)) (sym h.is) (by_first h.first h.white)
   where
     blank : (c : ℕ) → is_blank c ≡ true → is_blank_or_breakz c ≡ true
@@ -50,43 +50,43 @@ no_less : (ad : ℕ) (m : Marker) (p : List ℕ) → ad ≤ m.index → ad ≤ (
 no_less ad m p low = let i = moved_index m p in omega (arith, i, low)
 
 -- the run inside, from a place on
-abbrev Inside : ℕ → (List Kind → Type 0) → Brackets → Context → List Level → Marker → List ℕ → List ℕ → List ℕ → Type 0
-Inside limit Is b x ls m w inside o = EndsAt (moved (moved m (b.opening ∷ w)) inside) o × RunsInside limit Is b x ls (moved m (b.opening ∷ w)) inside o
+abbrev Inside : Around → (List Kind → Type 0) → Brackets → Context → List Level → Marker → List ℕ → List ℕ → List ℕ → Type 0
+Inside around Is b x ls m w inside o = (around.indent ≤ (moved (moved m (b.opening ∷ w)) inside).col → EndsAt around.indent (moved (moved m (b.opening ∷ w)) inside) o) × RunsInside around Is b x ls (moved m (b.opening ∷ w)) inside o
 
 -- without properties
-bare_passes : (limit : ℕ) (p : Properties) → p ≡ no_properties → (Is : List Kind → Type 0) (b : Brackets) → AreBrackets b → (m : Marker) (w inside o : List ℕ)
-    → Fits limit m (bracket_text b w inside) o → IsSeparation 0 w → IsParted (w ++ (inside ++ (b.closing ∷ o)))
-    → (s : Cursor) (x : Context) (k : Option Candidate) (ls : List Level) (a : Bool) (ad : ℕ) (ps : List Place) → length ls < 255 → ad ≤ m.index
-    → past s.mark s.rest ≡ past m (bracket_text b w inside ++ o) → Inside limit Is b x ls m w inside o
-    → CollectionPasses limit (state_at false s x k ls a ad ps) Is b p (saved a (length ps) m k) x ls ps (moved m (bracket_text b w inside)) o
-bare_passes limit p none Is b are m w inside o fits parts parted s x k ls a ad ps low before text run =
-    let r = brackets_pass limit Is b are m w inside o fits parts parted run.0 s x k ls a ad ps low before text run.1 in
+bare_passes : (around : Around) (p : Properties) → p ≡ no_properties → (Is : List Kind → Type 0) (b : Brackets) → AreBrackets b → (m : Marker) (w inside o : List ℕ)
+    → Fits around m (bracket_text b w inside) o → IsSeparation around.indent w → IsParted around.indent (w ++ (inside ++ (b.closing ∷ o)))
+    → (s : Cursor) (x : Context) (k : Option Candidate) (ls : List Level) (a : Bool) (ad : ℕ) (ps : List Place) → length ls < 255 → Calm around x → ad ≤ m.index
+    → past around.indent s.mark s.rest ≡ past around.indent m (bracket_text b w inside ++ o) → Inside around Is b x ls m w inside o
+    → CollectionPasses around (state_at around s x k ls a ad ps) Is b p (saved a (length ps) m k) x ls ps (moved m (bracket_text b w inside)) o
+bare_passes around p none Is b are m w inside o fits parts parted s x k ls a ad ps low calm before text run =
+    let r = brackets_pass around Is b are m w inside o fits parts parted run.0 s x k ls a ad ps low calm before text run.1 in
     record { properties = []; are_properties = subst (λ (q : Properties). grammar.AreProperties q []) (sym none) refl; inside = r.inside; are = r.are; passes = r.passes }
 
 -- behind properties and some separation
-behind_properties : (limit : ℕ) (p : Properties) → Reads → (Is : List Kind → Type 0) (b : Brackets) → AreBrackets b → (m : Marker) (t v w inside o : List ℕ)
-    → Fits limit m ((t ++ v) ++ bracket_text b w inside) o
-    → IsProperties p t → v ≢ [] → IsSeparation 0 v → IsSeparation 0 w → IsParted (w ++ (inside ++ (b.closing ∷ o)))
-    → (s : Cursor) (x : Context) (k : Option Candidate) (ls : List Level) (a : Bool) (ad : ℕ) (ps : List Place) → length ls < 255 → ad ≤ m.index
-    → past s.mark s.rest ≡ past m (((t ++ v) ++ bracket_text b w inside) ++ o) → Inside limit Is b x ls (moved m (t ++ v)) w inside o
-    → CollectionPasses limit (state_at false s x k ls a ad ps) Is b p (saved a (length ps) m k) x ls ps (moved m ((t ++ v) ++ bracket_text b w inside)) o
-behind_properties limit p P Is b are m t v w inside o fits h some gap parts parted s x k ls a ad ps low before text run =
+behind_properties : (around : Around) (p : Properties) → Reads → (Is : List Kind → Type 0) (b : Brackets) → AreBrackets b → (m : Marker) (t v w inside o : List ℕ)
+    → Fits around m ((t ++ v) ++ bracket_text b w inside) o
+    → IsProperties p t → v ≢ [] → IsSeparation around.indent v → IsSeparation around.indent w → IsParted around.indent (w ++ (inside ++ (b.closing ∷ o)))
+    → (s : Cursor) (x : Context) (k : Option Candidate) (ls : List Level) (a : Bool) (ad : ℕ) (ps : List Place) → length ls < 255 → Calm around x → ad ≤ m.index
+    → past around.indent s.mark s.rest ≡ past around.indent m (((t ++ v) ++ bracket_text b w inside) ++ o) → Inside around Is b x ls (moved m (t ++ v)) w inside o
+    → CollectionPasses around (state_at around s x k ls a ad ps) Is b p (saved a (length ps) m k) x ls ps (moved m ((t ++ v) ++ bracket_text b w inside)) o
+behind_properties around p P Is b are m t v w inside o fits h some gap parts parted s x k ls a ad ps low calm before text run =
     let body = bracket_text b w inside in
     let front_fits = fits_front m t v (body ++ o) (fits_front m (t ++ v) body o fits) in
     let texts : ((t ++ v) ++ body) ++ o ≡ t ++ (v ++ (body ++ o)) = append_assoc (t ++ v) body o ∙ append_assoc t v (body ++ o) in
-    let pp = properties_read P limit p.anchor p.tag m t (v ++ (body ++ o)) h s x k ls a ad ps (white_ends_tag (not (is_block x)) v (body ++ o) gap some) front_fits.clear front_fits.below
-    (text ∙ ap (past m) texts) in
+    let pp = properties_read P around p.anchor p.tag m t (v ++ (body ++ o)) h s x k ls a ad ps (white_ends_tag around.indent (not (is_block x)) v (body ++ o) gap some) front_fits
+    (text ∙ ap (past around.indent m) texts) in
     let here = moved m (t ++ v) in
-    let start = state_at false s x k ls a ad ps in
+    let start = state_at around s x k ls a ad ps in
     let kept = saved a (length ps) m k in
-    let q : Passes limit start (read_properties x kept ad) x ls ps here (body ++ o) pp.tokens =
-    subst (λ (e : Marker). Passes limit start (read_properties x kept ad) x ls ps e (body ++ o) pp.tokens) (sym (moved_append m t v)) (behind (moved m t) v (body ++ o) gap pp.passes) in
+    let q : Passes around start (read_properties x kept ad) x ls ps here (body ++ o) pp.tokens =
+    subst (λ (e : Marker). Passes around start (read_properties x kept ad) x ls ps e (body ++ o) pp.tokens) (sym (moved_append m t v)) (behind (moved m t) v (body ++ o) gap pp.passes) in
     let still_before : q.adjacent ≤ here.index = subst (λ (n : ℕ). n ≤ here.index) (sym q.knows.still) (no_less ad m (t ++ v) before) in
-    let r = brackets_pass limit Is b are here w inside o (fits_back m (t ++ v) body o fits) parts parted run.0 q.there x q.key ls q.allowed q.adjacent (ps ++ q.new) low still_before q.fits run.1 in
+    let r = brackets_pass around Is b are here w inside o (fits_back m (t ++ v) body o q.right fits) parts parted run.0 q.there x q.key ls q.allowed q.adjacent (ps ++ q.new) low calm still_before q.fits run.1 in
     let end = moved here body in
     let c = r.passes in
     let still : saved q.allowed (length (ps ++ q.new)) here q.key ≡ q.key = ap (λ (z : Bool). saved z (length (ps ++ q.new)) here q.key) q.knows.properties.closed in
-    let known : IsBracketed x kept end o c.key c.adjacent (q.new ++ c.new) = record {
+    let known : IsBracketed around.indent x kept end o c.key c.adjacent (q.new ++ c.new) = record {
       piece = q.knows.properties.piece;
       others = q.knows.properties.others ++ c.new;
       is = ap (λ (z : List Place). z ++ c.new) q.knows.properties.is;
@@ -94,22 +94,22 @@ behind_properties limit p P Is b are m t v w inside o fits h some gap parts part
       near = c.knows.near;
       low = c.knows.low;
     } in
-    subst (λ (e : Marker). CollectionPasses limit start Is b p kept x ls ps e o) (sym (moved_append m (t ++ v) body))
-    (record { properties = pp.tokens; are_properties = pp.are; inside = r.inside; are = r.are; passes = join q c (bracketed x kept end o) known })
+    subst (λ (e : Marker). CollectionPasses around start Is b p kept x ls ps e o) (sym (moved_append m (t ++ v) body))
+    (record { properties = pp.tokens; are_properties = pp.are; inside = r.inside; are = r.are; passes = join q c (bracketed around.indent x kept end o) known })
 
-pub collection_passes : (limit : ℕ) (p : Properties) → Reads → (Is : List Kind → Type 0) (b : Brackets) → AreBrackets b → (m : Marker) (front w inside o : List ℕ)
-    → Fits limit m (front ++ bracket_text b w inside) o
-    → IsBeforeContent p 0 front → IsSeparation 0 w → IsParted (w ++ (inside ++ (b.closing ∷ o)))
-    → (s : Cursor) (x : Context) (k : Option Candidate) (ls : List Level) (a : Bool) (ad : ℕ) (ps : List Place) → length ls < 255 → ad ≤ m.index
-    → past s.mark s.rest ≡ past m ((front ++ bracket_text b w inside) ++ o) → Inside limit Is b x ls (moved m front) w inside o
-    → CollectionPasses limit (state_at false s x k ls a ad ps) Is b p (saved a (length ps) m k) x ls ps (moved m (front ++ bracket_text b w inside)) o
-collection_passes limit p P Is b are m front w inside o fits (inl (none, e)) parts parted s x k ls a ad ps low before text run =
+pub collection_passes : (around : Around) (p : Properties) → Reads → (Is : List Kind → Type 0) (b : Brackets) → AreBrackets b → (m : Marker) (front w inside o : List ℕ)
+    → Fits around m (front ++ bracket_text b w inside) o
+    → IsBeforeContent p around.indent front → IsSeparation around.indent w → IsParted around.indent (w ++ (inside ++ (b.closing ∷ o)))
+    → (s : Cursor) (x : Context) (k : Option Candidate) (ls : List Level) (a : Bool) (ad : ℕ) (ps : List Place) → length ls < 255 → Calm around x → ad ≤ m.index
+    → past around.indent s.mark s.rest ≡ past around.indent m ((front ++ bracket_text b w inside) ++ o) → Inside around Is b x ls (moved m front) w inside o
+    → CollectionPasses around (state_at around s x k ls a ad ps) Is b p (saved a (length ps) m k) x ls ps (moved m (front ++ bracket_text b w inside)) o
+collection_passes around p P Is b are m front w inside o fits (inl (none, e)) parts parted s x k ls a ad ps low calm before text run =
     subst
-    (λ (f : List ℕ). Fits limit m (f ++ bracket_text b w inside) o → past s.mark s.rest ≡ past m ((f ++ bracket_text b w inside) ++ o) → Inside limit Is b x ls (moved m f) w inside o
-    → CollectionPasses limit (state_at false s x k ls a ad ps) Is b p (saved a (length ps) m k) x ls ps (moved m (f ++ bracket_text b w inside)) o)
-    (sym e) (λ f t r. bare_passes limit p none Is b are m w inside o f parts parted s x k ls a ad ps low before t r) fits text run
-collection_passes limit p P Is b are m front w inside o fits (inr (t, v, h, some, gap, e)) parts parted s x k ls a ad ps low before text run =
+    (λ (f : List ℕ). Fits around m (f ++ bracket_text b w inside) o → past around.indent s.mark s.rest ≡ past around.indent m ((f ++ bracket_text b w inside) ++ o) → Inside around Is b x ls (moved m f) w inside o
+    → CollectionPasses around (state_at around s x k ls a ad ps) Is b p (saved a (length ps) m k) x ls ps (moved m (f ++ bracket_text b w inside)) o)
+    (sym e) (λ f t r. bare_passes around p none Is b are m w inside o f parts parted s x k ls a ad ps low calm before t r) fits text run
+collection_passes around p P Is b are m front w inside o fits (inr (t, v, h, some, gap, e)) parts parted s x k ls a ad ps low calm before text run =
     subst
-    (λ (f : List ℕ). Fits limit m (f ++ bracket_text b w inside) o → past s.mark s.rest ≡ past m ((f ++ bracket_text b w inside) ++ o) → Inside limit Is b x ls (moved m f) w inside o
-    → CollectionPasses limit (state_at false s x k ls a ad ps) Is b p (saved a (length ps) m k) x ls ps (moved m (f ++ bracket_text b w inside)) o)
-    (sym e) (λ f z r. behind_properties limit p P Is b are m t v w inside o f h some gap parts parted s x k ls a ad ps low before z r) fits text run
+    (λ (f : List ℕ). Fits around m (f ++ bracket_text b w inside) o → past around.indent s.mark s.rest ≡ past around.indent m ((f ++ bracket_text b w inside) ++ o) → Inside around Is b x ls (moved m f) w inside o
+    → CollectionPasses around (state_at around s x k ls a ad ps) Is b p (saved a (length ps) m k) x ls ps (moved m (f ++ bracket_text b w inside)) o)
+    (sym e) (λ f z r. behind_properties around p P Is b are m t v w inside o f h some gap parts parted s x k ls a ad ps low calm before z r) fits text run

@@ -54,9 +54,9 @@ pub properties_ink : (p : Properties) (t : List ℕ) → IsProperties p t → Be
 properties_ink p t h = are_properties_ink p.anchor p.tag t h
 
 -- properties and what stands behind them, or that alone
-pub front_ink : (p : Properties) (front t o : List ℕ) → IsBeforeContent p 0 front → t ≡ front ++ o → BeginsInk o → BeginsInk t
-front_ink p front t o (inl (none, e)) is b = subst BeginsInk (sym (is ∙ ap (λ (x : List ℕ). x ++ o) e)) b
-front_ink p front t o (inr (properties, separation, h, some, parts, e)) is b =
+pub front_ink : (indent : ℕ) (p : Properties) (front t o : List ℕ) → IsBeforeContent p indent front → t ≡ front ++ o → BeginsInk o → BeginsInk t
+front_ink indent p front t o (inl (none, e)) is b = subst BeginsInk (sym (is ∙ ap (λ (x : List ℕ). x ++ o) e)) b
+front_ink indent p front t o (inr (properties, separation, h, some, parts, e)) is b =
     ink_front properties t (separation ++ o) (is ∙ ap (λ (x : List ℕ). x ++ o) e ∙ append_assoc properties separation o) (properties_ink p properties h)
 
 -- ## Scalars
@@ -87,12 +87,12 @@ quote_ink : (quote : Quote) → IsInk (mark quote)
 quote_ink Single = record { blank = refl; break = refl; comment = refl; byte_order_mark = refl }
 quote_ink Double = record { blank = refl; break = refl; comment = refl; byte_order_mark = refl }
 
-scalar_ink : (style : Style) (value : List ℕ) (in_flow : Bool) (t : List ℕ) → IsFlowScalar style value in_flow 0 t → BeginsInk t
-scalar_ink Plain value in_flow t h = let p = h.0 in ink_front p.0 t p.1 p.4 (words_ink in_flow p.0 p.2.0)
-scalar_ink SingleQuoted value in_flow t h = begins_with (mark Single) h.0 t h.5 (quote_ink Single)
-scalar_ink DoubleQuoted value in_flow t h = begins_with (mark Double) h.0 t h.5 (quote_ink Double)
-scalar_ink Literal value in_flow t h = absurd h
-scalar_ink Folded value in_flow t h = absurd h
+scalar_ink : (indent : ℕ) (style : Style) (value : List ℕ) (in_flow : Bool) (t : List ℕ) → IsFlowScalar style value in_flow indent t → BeginsInk t
+scalar_ink indent Plain value in_flow t h = let p = h.0 in ink_front p.0 t p.1 p.4 (words_ink in_flow p.0 p.2.0)
+scalar_ink indent SingleQuoted value in_flow t h = begins_with (mark Single) h.0 t h.5 (quote_ink Single)
+scalar_ink indent DoubleQuoted value in_flow t h = begins_with (mark Double) h.0 t h.5 (quote_ink Double)
+scalar_ink indent Literal value in_flow t h = absurd h
+scalar_ink indent Folded value in_flow t h = absurd h
 
 -- ## Nodes
 
@@ -102,11 +102,11 @@ bracket_ink = record { blank = refl; break = refl; comment = refl; byte_order_ma
 brace_ink : IsInk 123
 brace_ink = record { blank = refl; break = refl; comment = refl; byte_order_mark = refl }
 
-pub node_ink : (room : ℕ) (node : Node) (in_flow : Bool) (t : List ℕ) → IsFlowNode room node in_flow 0 t → BeginsInk t
-node_ink room (Alias name) in_flow t h = begins_with 42 name t h.1 (record { blank = refl; break = refl; comment = refl; byte_order_mark = refl })
-node_ink room (Scalar p style value) in_flow t (inl h) = properties_ink p t h.2
-node_ink room (Scalar p style value) in_flow t (inr (front, content, f, s, e)) = front_ink p front t content f e (scalar_ink style value in_flow content s)
-node_ink room (Seq p nodes) in_flow t (left, opening, inside, r, (front, separation, f, parts, e), items, is) =
-    ink_front opening t (inside ++ codes "]") is (front_ink p front opening (91 ∷ separation) f e (begins_with 91 separation (91 ∷ separation) refl bracket_ink))
-node_ink room (Map p pairs) in_flow t (left, opening, inside, r, (front, separation, f, parts, e), items, is) =
-    ink_front opening t (inside ++ codes "}") is (front_ink p front opening (123 ∷ separation) f e (begins_with 123 separation (123 ∷ separation) refl brace_ink))
+pub node_ink : (indent room : ℕ) (node : Node) (in_flow : Bool) (t : List ℕ) → IsFlowNode room node in_flow indent t → BeginsInk t
+node_ink indent room (Alias name) in_flow t h = begins_with 42 name t h.1 (record { blank = refl; break = refl; comment = refl; byte_order_mark = refl })
+node_ink indent room (Scalar p style value) in_flow t (inl h) = properties_ink p t h.2
+node_ink indent room (Scalar p style value) in_flow t (inr (front, content, f, s, e)) = front_ink indent p front t content f e (scalar_ink indent style value in_flow content s)
+node_ink indent room (Seq p nodes) in_flow t (left, opening, inside, r, (front, separation, f, parts, e), items, is) =
+    ink_front opening t (inside ++ codes "]") is (front_ink indent p front opening (91 ∷ separation) f e (begins_with 91 separation (91 ∷ separation) refl bracket_ink))
+node_ink indent room (Map p pairs) in_flow t (left, opening, inside, r, (front, separation, f, parts, e), items, is) =
+    ink_front opening t (inside ++ codes "}") is (front_ink indent p front opening (123 ∷ separation) f e (begins_with 123 separation (123 ∷ separation) refl brace_ink))

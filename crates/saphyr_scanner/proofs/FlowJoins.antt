@@ -1,5 +1,5 @@
 -- Runs over pieces of a text in flow style, one behind the other.
-use Rattle.std.proofs.Common.{◌≡◌, ℕ, ◌≤◌, Bool, false, List, [], ◌++◌, refl, ap, ◌∙◌, append_assoc, append-nil}
+use Rattle.std.proofs.Common.{◌≡◌, ℕ, ◌≤◌, Bool, List, [], ◌++◌, refl, ap, ◌∙◌, append_assoc, append-nil}
 use Rattle.std.specs.Prelude.{Option, None}
 use Rattle.saphyr_scalar.specs.declared.scalar.position.Marker.{Marker}
 use Rattle.saphyr_scalar.specs.Cursor.{Cursor}
@@ -10,16 +10,15 @@ use Rattle.saphyr_scanner.specs.Tokens.{Kind}
 use Rattle.saphyr_scanner.specs.Queue.{Place}
 use Rattle.saphyr_scanner.specs.Core.{Candidate, Level}
 use Rattle.saphyr_scanner.specs.State.{State}
-use Rattle.saphyr_scanner.proofs.Leads.{stay}
-use Rattle.saphyr_scanner.proofs.JsonStates.{state_at, Comes}
-use Rattle.saphyr_scanner.proofs.JsonMarks.{chain, kinds, kinds_append}
+use Rattle.saphyr_scanner.proofs.InFlow.States.{Around, state_at, stays, chains, Comes}
+use Rattle.saphyr_scanner.proofs.JsonMarks.{kinds, kinds_append}
 use Rattle.saphyr_scanner.proofs.FlowStates.{moved, past, Known, Passes, Closes}
-use Rattle.saphyr_scanner.proofs.FlowFillers.{separation_past}
+use Rattle.saphyr_scanner.proofs.FlowFillers.{separation_past, right_behind}
 
 -- a piece, and another behind it
-pub join : {limit : ℕ} {start : State} {known more : Known} {x y : Context} {ls ms : List Level} {ps : List Place} {m e : Marker} {o z : List ℕ} {ts us : List Kind} → (p : Passes limit start known x ls ps m o ts)
-    → (q : Passes limit (state_at false p.there x p.key ls p.allowed p.adjacent (ps ++ p.new)) more y ms (ps ++ p.new) e z us) → (all : Known) → all q.key q.allowed q.adjacent (p.new ++ q.new)
-    → Passes limit start all y ms ps e z (ts ++ us)
+pub join : {around : Around} {start : Bool → State} {known more : Known} {x y : Context} {ls ms : List Level} {ps : List Place} {m e : Marker} {o z : List ℕ} {ts us : List Kind} → (p : Passes around start known x ls ps m o ts)
+    → (q : Passes around (state_at around p.there x p.key ls p.allowed p.adjacent (ps ++ p.new)) more y ms (ps ++ p.new) e z us) → (all : Known) → all q.key q.allowed q.adjacent (p.new ++ q.new)
+    → Passes around start all y ms ps e z (ts ++ us)
 join {ps = ps} {ts = ts} {us = us} p q all knows =
     record {
       there = q.there;
@@ -27,15 +26,16 @@ join {ps = ps} {ts = ts} {us = us} p q all knows =
       allowed = q.allowed;
       adjacent = q.adjacent;
       new = p.new ++ q.new;
-      leads = rw (← append_assoc ps p.new q.new) (chain p.leads q.leads);
+      leads = rw (← append_assoc ps p.new q.new) (chains p.leads q.leads);
+      right = q.right;
       fits = q.fits;
       are = kinds_append p.new q.new ∙ ap (λ x. x ++ kinds q.new) p.are ∙ ap (λ x. ts ++ x) q.are;
       knows = knows;
     }
 
 -- a document's node, behind a piece that stands before it
-pub join_root : {limit : ℕ} {start : State} {known : Known} {ps : List Place} {m e : Marker} {o z : List ℕ} {ts us : List Kind} → (p : Passes limit start known context.Block [] ps m o ts)
-    → (q : Closes limit (state_at false p.there context.Block p.key [] p.allowed p.adjacent (ps ++ p.new)) (ps ++ p.new) e z us) → Closes limit start ps e z (ts ++ us)
+pub join_root : {around : Around} {start : Bool → State} {known : Known} {ps : List Place} {m e : Marker} {o z : List ℕ} {ts us : List Kind} → (p : Passes around start known context.Block [] ps m o ts)
+    → (q : Closes around (state_at around p.there context.Block p.key [] p.allowed p.adjacent (ps ++ p.new)) (ps ++ p.new) e z us) → Closes around start ps e z (ts ++ us)
 join_root {ps = ps} {ts = ts} p q =
     record {
       there = q.there;
@@ -44,34 +44,48 @@ join_root {ps = ps} {ts = ts} p q =
       adjacent = q.adjacent;
       comment = q.comment;
       new = p.new ++ q.new;
-      leads = rw (← append_assoc ps p.new q.new) (chain p.leads q.leads);
+      leads = rw (← append_assoc ps p.new q.new) (chains p.leads q.leads);
       fits = q.fits;
       are = kinds_append p.new q.new ∙ ap (λ x. x ++ kinds q.new) p.are ∙ ap (λ x. ts ++ x) q.are;
       low = q.low;
     }
 
 -- a document's node behind which no comment is noted
-pub root : {limit : ℕ} {start : State} {known : Known} {ps : List Place} {m : Marker} {o : List ℕ} {ts : List Kind} → (p : Passes limit start known context.Block [] ps m o ts) → p.adjacent ≤ (past m o).0.index → Closes limit start ps m o ts
+pub root : {around : Around} {start : Bool → State} {known : Known} {ps : List Place} {m : Marker} {o : List ℕ} {ts : List Kind} → (p : Passes around start known context.Block [] ps m o ts) → p.adjacent ≤ (past around.indent m o).0.index → Closes around start ps m o ts
 root p low = record { there = p.there; key = p.key; allowed = p.allowed; adjacent = p.adjacent; comment = None; new = p.new; leads = p.leads; fits = p.fits; are = p.are; low = low }
 
 -- the separation behind a piece
-pub behind : {limit : ℕ} {start : State} {known : Known} {x : Context} {ls : List Level} {ps : List Place} {ts : List Kind} → (m : Marker) (w o : List ℕ) → IsSeparation 0 w
-    → Passes limit start known x ls ps m (w ++ o) ts → Passes limit start known x ls ps (moved m w) o ts
-behind m w o h p =
-    record { there = p.there; key = p.key; allowed = p.allowed; adjacent = p.adjacent; new = p.new; leads = p.leads; fits = p.fits ∙ separation_past m w o h; are = p.are; knows = p.knows }
+pub behind : {around : Around} {start : Bool → State} {known : Known} {x : Context} {ls : List Level} {ps : List Place} {ts : List Kind} → (m : Marker) (w o : List ℕ) → IsSeparation around.indent w
+    → Passes around start known x ls ps m (w ++ o) ts → Passes around start known x ls ps (moved m w) o ts
+behind {around = around} m w o h p =
+    record {
+      there = p.there;
+      key = p.key;
+      allowed = p.allowed;
+      adjacent = p.adjacent;
+      new = p.new;
+      leads = p.leads;
+      right = right_behind around.indent m w h p.right;
+      fits = p.fits ∙ separation_past around.indent m w o h p.right;
+      are = p.are;
+      knows = p.knows;
+    }
 
 -- what is known, told otherwise
-pub knowing : {limit : ℕ} {start : State} {known : Known} {x : Context} {ls : List Level} {ps : List Place} {m : Marker} {o : List ℕ} {ts : List Kind} → (p : Passes limit start known x ls ps m o ts) → (other : Known) → other p.key p.allowed p.adjacent p.new
-    → Passes limit start other x ls ps m o ts
-knowing p other h = record { there = p.there; key = p.key; allowed = p.allowed; adjacent = p.adjacent; new = p.new; leads = p.leads; fits = p.fits; are = p.are; knows = h }
+pub knowing : {around : Around} {start : Bool → State} {known : Known} {x : Context} {ls : List Level} {ps : List Place} {m : Marker} {o : List ℕ} {ts : List Kind} → (p : Passes around start known x ls ps m o ts) → (other : Known)
+    → other p.key p.allowed p.adjacent p.new → Passes around start other x ls ps m o ts
+knowing p other h =
+    record { there = p.there; key = p.key; allowed = p.allowed; adjacent = p.adjacent; new = p.new; leads = p.leads; right = p.right; fits = p.fits; are = p.are; knows = h }
 
 -- one step
-pub once : {limit : ℕ} {start : State} {x : Context} {k : Option Candidate} {ls : List Level} (a : Bool) (ad : ℕ) (s : Cursor) (ps new : List Place) (m : Marker) (o : List ℕ) (ts : List Kind) (known : Known)
-    → (c : Comes limit start false s x k ls a ad (ps ++ new)) → past s.mark s.rest ≡ past m o → kinds new ≡ ts → known c.key a ad new → Passes limit start known x ls ps m o ts
-once a ad s ps new m o ts known c fits are knows = record { there = s; key = c.key; allowed = a; adjacent = ad; new = new; leads = c.leads; fits = fits; are = are; knows = knows }
+pub once : {around : Around} {start : Bool → State} {x : Context} {k : Option Candidate} {ls : List Level} (a : Bool) (ad : ℕ) (s : Cursor) (ps new : List Place) (m : Marker) (o : List ℕ) (ts : List Kind) (known : Known)
+    → (c : Comes around start s x k ls a ad (ps ++ new)) → around.indent ≤ m.col → past around.indent s.mark s.rest ≡ past around.indent m o → kinds new ≡ ts → known c.key a ad new → Passes around start known x ls ps m o ts
+once a ad s ps new m o ts known c right fits are knows =
+    record { there = s; key = c.key; allowed = a; adjacent = ad; new = new; leads = c.leads; right = right; fits = fits; are = are; knows = knows }
 
 -- no step
-pub none : (limit : ℕ) (s : Cursor) (x : Context) (k : Option Candidate) (ls : List Level) (a : Bool) (ad : ℕ) (ps : List Place) (m : Marker) (o : List ℕ) (known : Known) → past s.mark s.rest ≡ past m o → known k a ad []
-    → Passes limit (state_at false s x k ls a ad ps) known x ls ps m o []
-none limit s x k ls a ad ps m o known text knows =
-    record { there = s; key = k; allowed = a; adjacent = ad; new = []; leads = rw append-nil stay; fits = text; are = refl; knows = knows }
+pub none : (around : Around) (s : Cursor) (x : Context) (k : Option Candidate) (ls : List Level) (a : Bool) (ad : ℕ) (ps : List Place) (m : Marker) (o : List ℕ) (known : Known) → around.indent ≤ m.col
+    → past around.indent s.mark s.rest ≡ past around.indent m o → known k a ad []
+    → Passes around (state_at around s x k ls a ad ps) known x ls ps m o []
+none around s x k ls a ad ps m o known right text knows =
+    record { there = s; key = k; allowed = a; adjacent = ad; new = []; leads = rw append-nil (stays around _); right = right; fits = text; are = refl; knows = knows }

@@ -11,12 +11,13 @@ use Rattle.saphyr_scanner.specs.Remaining.{Scans, scan}
 use Rattle.saphyr_scanner.specs.Layout.{most_open, IsFlowLayout, IsFlowLayoutText}
 use Rattle.saphyr_scanner.proofs.TakingScalars.{Readers}
 use Rattle.saphyr_scanner.proofs.Lazy.{handed_out}
+use Rattle.saphyr_scanner.proofs.InFlow.States.{alone}
 use Rattle.saphyr_scanner.proofs.FlowStates.{Reads, ClosesNodes}
 use Rattle.saphyr_scanner.proofs.FlowWords.{normalized_same}
 use Rattle.saphyr_scanner.proofs.FlowStreams.{flow_leads}
 
 -- a text in flow style without CR gives tokens of its forest
-pub flow_scans : Readers → Reads → (limit : ℕ) → ClosesNodes limit → (forest : Forest) (text : List ℕ) → IsFlowLayoutText most_open forest text → AreIn (λ c. not (c == carriage_return)) text
+pub flow_scans : Readers → Reads → (limit : ℕ) → ClosesNodes (alone limit) → (forest : Forest) (text : List ℕ) → IsFlowLayoutText most_open forest text → AreIn (λ c. not (c == carriage_return)) text
     → length text ≤ limit
     → (tokens : List Kind) × Yields forest tokens × Scans tokens (scan limit text)
 flow_scans readers reads limit closes forest text layout clean short =

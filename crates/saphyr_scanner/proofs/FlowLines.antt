@@ -1,5 +1,5 @@
 -- Ends of lines, filler and the gaps before a document's node.
-use Rattle.std.proofs.Common.{◌≡◌, ℕ, zero, suc, ◌+◌, ◌≤◌, Bool, true, List, [], ◌∷◌, ◌++◌, length, slice_index, inl, inr, refl, sym, ap, ◌∙◌, arith, subst, append_assoc}
+use Rattle.std.proofs.Common.{◌≡◌, ℕ, zero, suc, ◌+◌, ◌≤◌, Bool, true, List, [], ◌∷◌, ◌++◌, length, slice_index, inl, inr, refl, sym, ap, ◌∙◌, arith, subst, append_assoc, ◌⊎◌}
 use Rattle.std.proofs.lemmas.Bool.Decides.{nat_tests}
 use Rattle.saphyr_input.specs.Classes.{is_blank_or_breakz, is_breakz}
 use Rattle.saphyr_scalar.specs.declared.scalar.position.Marker.{Marker}
@@ -9,7 +9,9 @@ use Rattle.saphyr_scalar.specs.Spaces.{joined, AreEach, IsCommentBehind, IsLineR
 use Rattle.saphyr_scanner.proofs.FlowStates.{moved, past}
 use Rattle.saphyr_scanner.proofs.FlowPlaces.{moved_append, moved_count}
 use Rattle.saphyr_scanner.proofs.FlowFillers.{IsPast, both_past, are_spaces_past, EndsLine, rest_past, line_end_past, filler_past}
-use Rattle.saphyr_scanner.proofs.FlowStands.{AtLine, Stands, passes_over}
+use Rattle.saphyr_scanner.proofs.FlowStands.{AtLine, Lined, Stands, passes_over}
+use Rattle.saphyr_scanner.proofs.InBlock.States.{crosses}
+use Rattle.saphyr_scanner.proofs.InBlock.Lines.{IsLined, one_lined, moved_lined}
 use Rattle.saphyr_scanner.specs.State.{State}
 use Rattle.saphyr_scanner.specs.Tokens.{Kind}
 
@@ -23,27 +25,29 @@ pub record EndsWithLine (m : Marker) (t o : List ℕ) : Type 0 where
   pub line : IsLineRest rest
   pub break : EndsLine more
   pub mark : Marker
-  pub behind : past (moved m rest) more ≡ past mark o
+  pub behind : (column : ℕ) → past column (moved m rest) more ≡ past column mark o
   pub count : mark.index + length o ≡ m.index + length t
   pub place : AtLine o mark
+  pub opens : (crosses more ≡ true) ⊎ (o ≡ [])
+  pub lined : IsLined m → IsLined mark
 
 whole_line : (m : Marker) (rest o : List ℕ) → IsLineRest rest → EndsWithLine m (rest ++ (10 ∷ o)) o
 whole_line m rest o h =
     let c = moved_count m rest (10 ∷ o) in
-    record { rest = rest; more = 10 ∷ o; is = refl; line = h; break = inr refl; mark = next_line (moved m rest) 1; behind = refl; count = further (moved m rest).index (length o) c; place = inl refl }
+    record { rest = rest; more = 10 ∷ o; is = refl; line = h; break = inr refl; mark = next_line (moved m rest) 1; behind = λ column. refl; count = further (moved m rest).index (length o) c; place = inl refl; opens = inl refl; lined = λ h. one_lined (moved m rest) 10 (moved_lined m rest h) }
   where
     further : {n : ℕ} (i l : ℕ) → i + suc l ≡ n → i + 1 + l ≡ n
     further i l e = omega (arith, e)
 
 last_line : (m : Marker) (rest : List ℕ) → IsLineRest rest → EndsWithLine m (rest ++ []) []
-last_line m rest h = record { rest = rest; more = []; is = refl; line = h; break = inl refl; mark = moved m rest; behind = refl; count = moved_count m rest []; place = inr refl }
+last_line m rest h = record { rest = rest; more = []; is = refl; line = h; break = inl refl; mark = moved m rest; behind = λ column. refl; count = moved_count m rest []; place = inr refl; opens = inr refl; lined = λ h. moved_lined m rest h }
 
 pub eol : (m : Marker) (end o : List ℕ) → IsEol end o → EndsWithLine m (end ++ o) o
 eol m end o (inl h) = subst (λ (t : List ℕ). EndsWithLine m t o) (sym (ap (λ (x : List ℕ). x ++ o) h.2 ∙ append_assoc h.0 (10 ∷ []) o)) (whole_line m h.0 o h.1)
 eol m end o (inr h) = subst (λ (z : List ℕ). EndsWithLine m (end ++ z) z) (sym h.1) (last_line m end h.0)
 
-pub eol_past : (m : Marker) (t o : List ℕ) (e : EndsWithLine m t o) → past m t ≡ past e.mark o
-eol_past m t o e = ap (past m) e.is ∙ rest_past m e.rest e.more e.line e.break ∙ e.behind
+pub eol_past : (column : ℕ) (m : Marker) (t o : List ℕ) (e : EndsWithLine m t o) → past column m t ≡ past column e.mark o
+eol_past column m t o e = ap (past column m) e.is ∙ rest_past column m e.rest e.more e.line e.break ∙ e.behind column
 
 pub break_ends : (more : List ℕ) → EndsLine more → is_breakz (slice_index more 0) ≡ true
 break_ends more (inl e) = ap (λ (t : List ℕ). is_breakz (slice_index t 0)) e
@@ -80,9 +84,11 @@ gap_first w y (inr h) =
 
 -- ## Gaps and filler are passed
 
-pub gap_is_past : (w : List ℕ) → IsGap 0 w → IsPast w
-gap_is_past w (inl h) = are_spaces_past 1 w h
-gap_is_past w (inr h) = subst IsPast (sym h.6) (both_past h.0 (h.1 ++ h.2) (line_end_past h.0 h.3) (both_past h.1 h.2 (λ m y. filler_past m h.1 y h.4) (are_spaces_past 0 h.2 h.5)))
+pub gap_is_past : (column indent : ℕ) (w : List ℕ) → IsGap indent w → IsPast column w
+gap_is_past column indent w (inl h) = are_spaces_past column 1 w h
+gap_is_past column indent w (inr h) =
+    subst (IsPast column) (sym h.6)
+    (both_past column h.0 (h.1 ++ h.2) (line_end_past column h.0 h.3) (both_past column h.1 h.2 (λ m y. filler_past column m h.1 y h.4) (are_spaces_past column indent h.2 h.5)))
 
 -- behind filler that begins at a line's start stands a line's start
 pub filler_line : (m : Marker) (w : List ℕ) → IsFiller w → m.col ≡ 0 → (moved m w).col ≡ 0
@@ -102,6 +108,10 @@ pub filler_at_line : (m : Marker) (w y : List ℕ) → IsFiller w → AtLine (w 
 filler_at_line m w y h (inl e) = inl (filler_line m w h e)
 filler_at_line m w y h (inr e) = inr (none_behind w y e)
 
-pub passes_filler : {limit : ℕ} {start : State} {free : Bool} {ts : List Kind} (w y : List ℕ) → IsFiller w → Stands limit start free (AtLine (w ++ y)) (w ++ y) ts → Stands limit start free (AtLine y) y ts
-passes_filler {limit = limit} w y h v =
-    passes_over v (AtLine y) (moved v.mark w) y (filler_past v.mark w y h) (subst (λ (n : ℕ). n ≤ limit) (sym (moved_count v.mark w y)) v.count) (filler_at_line v.mark w y h v.line)
+pub passes_filler : {limit : ℕ} {start : State} {free opened : Bool} {ts : List Kind} (w y : List ℕ) → IsFiller w → Stands limit start free (Lined opened (w ++ y)) (w ++ y) ts → Stands limit start free (Lined opened y) y ts
+passes_filler {limit = limit} {opened = opened} w y h v =
+    passes_over v (Lined opened y) (moved v.mark w) y (filler_past 0 v.mark w y h) (subst (λ (n : ℕ). n ≤ limit) (sym (moved_count v.mark w y)) v.count) (filler_at_line v.mark w y h v.line.0, λ e. still (v.line.1 e)) (moved_lined v.mark w v.lined)
+  where
+    still : {b : Bool} → (b ≡ true) ⊎ (w ++ y ≡ []) → (b ≡ true) ⊎ (y ≡ [])
+    still (inl k) = inl k
+    still (inr k) = inr (none_behind w y k)

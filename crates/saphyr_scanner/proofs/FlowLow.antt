@@ -6,14 +6,14 @@ use Rattle.saphyr_scanner.proofs.FlowPlaces.{moved_index}
 use Rattle.saphyr_scanner.proofs.FlowGaps.{past_ink, past_low}
 use Rattle.saphyr_scanner.proofs.FlowInks.{BeginsInk}
 
-pub start_low : (ad : ℕ) (m : Marker) (p o : List ℕ) → BeginsInk p → ad ≤ (past m (p ++ o)).0.index → ad ≤ m.index
-start_low ad m p o b low =
+pub start_low : (column ad : ℕ) (m : Marker) (p o : List ℕ) → BeginsInk p → ad ≤ (past column m (p ++ o)).0.index → ad ≤ m.index
+start_low column ad m p o b low =
     let front : p ++ o ≡ b.first ∷ (b.others ++ o) = ap (λ (t : List ℕ). t ++ o) b.is in
-    let here : past m (p ++ o) ≡ (m, p ++ o) = ap (past m) front ∙ past_ink m b.first (b.others ++ o) b.ink ∙ ap (λ (t : List ℕ). (m, t)) (sym front) in
+    let here : past column m (p ++ o) ≡ (m, p ++ o) = ap (past column m) front ∙ past_ink column m b.first (b.others ++ o) b.ink ∙ ap (λ (t : List ℕ). (m, t)) (sym front) in
     subst (λ (q : Marker × List ℕ). ad ≤ q.0.index) here low
 
-pub behind_low : (ad : ℕ) (m : Marker) (p o : List ℕ) → ad ≤ m.index → ad ≤ (past (moved m p) o).0.index
-behind_low ad m p o low =
+pub behind_low : (column ad : ℕ) (m : Marker) (p o : List ℕ) → ad ≤ m.index → ad ≤ (past column (moved m p) o).0.index
+behind_low column ad m p o low =
     let i = moved_index m p in
-    let on = past_low (moved m p) o in
+    let on = past_low column (moved m p) o in
     omega (arith, i, on, low)

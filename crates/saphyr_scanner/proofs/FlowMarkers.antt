@@ -1,6 +1,6 @@
 -- Document markers, byte order marks and the text's end are read.
-use Rattle.std.proofs.Common.{◌≡◌, ℕ, ◌+◌, ◌≤◌, Bool, true, false, List, [], ◌∷◌, ◌++◌, length, slice_index, Ok, IsTrue, inl, inr, refl, sym, ap, ◌∙◌, arith}
-use Rattle.std.specs.Prelude.{◌==◌, nat_lt, Option, None}
+use Rattle.std.proofs.Common.{◌≡◌, ℕ, ◌+◌, ◌≤◌, Bool, true, false, List, [], ◌∷◌, ◌++◌, length, slice_index, Ok, IsTrue, inl, inr, refl, sym, ap, ◌∙◌, arith, ◌⊎◌}
+use Rattle.std.specs.Prelude.{◌==◌, nat_lt, Option, None, ◌||◌}
 use Rattle.std.proofs.lemmas.Bool.Decides.{nat_tests}
 use Rattle.std.proofs.lemmas.List.{length-append}
 use Rattle.saphyr_input.specs.Classes.{is_blank_or_breakz, is_breakz}
@@ -30,7 +30,9 @@ use Rattle.saphyr_scanner.proofs.FlowStates.{moved, past}
 use Rattle.saphyr_scanner.proofs.FlowGaps.{past_count}
 use Rattle.saphyr_scanner.proofs.FlowSeparates.{separates_rest}
 use Rattle.saphyr_scanner.proofs.FlowLines.{eol, eol_first, break_ends}
-use Rattle.saphyr_scanner.proofs.FlowStands.{at_start, reads_here, AtLine, OffLine, Stands, reads_token}
+use Rattle.saphyr_scanner.proofs.FlowStands.{at_start, reads_here, AtLine, Lined, BehindStart, Stands, reads_token}
+use Rattle.saphyr_scanner.proofs.InBlock.States.{crosses}
+use Rattle.saphyr_scanner.proofs.InBlock.Follows.{comes_to_end}
 
 no_greater : (n : ℕ) → n ≡ 0 → nat_lt 0 n ≡ false
 no_greater n h = grind (arith, nat_tests)
@@ -48,6 +50,17 @@ not_empty : (c : ℕ) (cs : List ℕ) → c ∷ cs ≡ [] → ⊥
 not_empty c cs e = cc
 
 -- ## `---`
+
+along_lined : (m : Marker) (n : ℕ) → m.line ≤ m.index + 1 → m.line ≤ m.index + n + 1
+along_lined m n h = omega (arith, h)
+
+or_none : (b : Bool) → (b || false) ≡ b
+or_none true = refl
+or_none false = refl
+
+or_true : (b : Bool) → (b || true) ≡ true
+or_true true = refl
+or_true false = refl
 
 start_here : (m : Marker) (blank : Bool) (r : List ℕ) (k : Option Candidate) (a : Bool) (ad : ℕ) (ps : List Place) → m.col ≡ 0 → is_blank_or_breakz (slice_index r 0) ≡ true
     → fetch_here (state_at false (cursor_at (45 ∷ 45 ∷ 45 ∷ r) m blank) context.Block k [] a ad ps)
@@ -68,12 +81,12 @@ start_count m r limit h = omega (arith, h)
 pub start_ends : (r : List ℕ) → is_blank_or_breakz (slice_index r 0) ≡ true → IsTrue (is_document_indicator (45 ∷ 45 ∷ 45 ∷ r))
 start_ends r h = rw h refl
 
-pub reads_start : {limit : ℕ} {start : State} {free : Bool} {ts : List Kind} (r : List ℕ) → Stands limit start free (AtLine (45 ∷ 45 ∷ 45 ∷ r)) (45 ∷ 45 ∷ 45 ∷ r) ts → is_blank_or_breakz (slice_index r 0) ≡ true
-    → Stands limit start true OffLine r (ts ++ tokens.DocumentStart ∷ [])
+pub reads_start : {limit : ℕ} {start : State} {free opened : Bool} {ts : List Kind} (r : List ℕ) → Stands limit start free (Lined opened (45 ∷ 45 ∷ 45 ∷ r)) (45 ∷ 45 ∷ 45 ∷ r) ts → is_blank_or_breakz (slice_index r 0) ≡ true
+    → Stands limit start true (BehindStart r) r (ts ++ tokens.DocumentStart ∷ [])
 reads_start {limit = limit} r v h =
-    let col = at_line (45 ∷ 45 ∷ 45 ∷ r) v.mark v.line (not_empty 45 (45 ∷ 45 ∷ r)) in
+    let col = at_line (45 ∷ 45 ∷ 45 ∷ r) v.mark v.line.0 (not_empty 45 (45 ∷ 45 ∷ r)) in
     reads_token v refl (inr (inr (col, start_ends r h))) (λ _. cursor_at r (along v.mark 3) false) false (piece_of v.mark (along v.mark 3) tokens.DocumentStart)
-    (λ blank key allowed ad ps. start_here v.mark blank r key allowed ad ps col h) OffLine (along v.mark 3) r (λ _. refl) (start_count v.mark r limit v.count) (off_line v.mark.col) (further v.mark.index 3)
+    (λ blank key allowed ad ps. start_here v.mark blank r key allowed ad ps col h) (BehindStart r) (along v.mark 3) r (λ _. refl) (start_count v.mark r limit v.count) (λ _. (off_line v.mark.col, or_none (crosses r))) (further v.mark.index 3) (along_lined v.mark 3 v.lined)
 
 -- ## A byte order mark
 
@@ -90,11 +103,11 @@ mark_here m blank r k a ad ps col = rw (no_greater m.col col) refl
 mark_count : (m : Marker) (r : List ℕ) (limit : ℕ) → m.index + length (65279 ∷ r) ≤ limit → m.index + 1 + length r ≤ limit
 mark_count m r limit h = omega (arith, h)
 
-pub reads_mark : {limit : ℕ} {start : State} {ts : List Kind} (r : List ℕ) → Stands limit start true (AtLine (65279 ∷ r)) (65279 ∷ r) ts → Stands limit start true (AtLine r) r (ts ++ tokens.ByteOrderMark ∷ [])
+pub reads_mark : {limit : ℕ} {start : State} {opened : Bool} {ts : List Kind} (r : List ℕ) → Stands limit start true (Lined opened (65279 ∷ r)) (65279 ∷ r) ts → Stands limit start true (Lined true r) r (ts ++ tokens.ByteOrderMark ∷ [])
 reads_mark {limit = limit} r v =
-    let col = at_line (65279 ∷ r) v.mark v.line (not_empty 65279 r) in
+    let col = at_line (65279 ∷ r) v.mark v.line.0 (not_empty 65279 r) in
     reads_token v refl (inl refl) (λ blank. cursor_at r (behind_mark v.mark) blank) true (piece_of v.mark (behind_mark v.mark) tokens.ByteOrderMark)
-    (λ blank key allowed ad ps. mark_here v.mark blank r key allowed ad ps col) (AtLine r) (behind_mark v.mark) r (λ _. refl) (mark_count v.mark r limit v.count) (inl col) (further v.mark.index 1)
+    (λ blank key allowed ad ps. mark_here v.mark blank r key allowed ad ps col) (Lined true r) (behind_mark v.mark) r (λ _. refl) (mark_count v.mark r limit v.count) (λ _. (inl col, λ _. inl (or_true (crosses r)))) (further v.mark.index 1) (along_lined v.mark 1 v.lined)
 
 -- ## `...`
 
@@ -119,18 +132,22 @@ end_count m n r o limit h e = omega (arith, h, e)
 end_further : (m n : Marker) (end o : List ℕ) → n.index + length o ≡ m.index + 3 + length (end ++ o) → m.index ≤ n.index
 end_further m n end o e = let all = length-append end o in omega (arith, e, all)
 
-pub reads_end : {limit : ℕ} {start : State} {free : Bool} {ts : List Kind} (end o : List ℕ) → Stands limit start free (AtLine (46 ∷ 46 ∷ 46 ∷ (end ++ o))) (46 ∷ 46 ∷ 46 ∷ (end ++ o)) ts → IsEol end o
-    → Stands limit start true (AtLine o) o (ts ++ tokens.DocumentEnd ∷ [])
+pub reads_end : {limit : ℕ} {start : State} {free opened : Bool} {ts : List Kind} (end o : List ℕ) → Stands limit start free (Lined opened (46 ∷ 46 ∷ 46 ∷ (end ++ o))) (46 ∷ 46 ∷ 46 ∷ (end ++ o)) ts → IsEol end o
+    → Stands limit start true (Lined true o) o (ts ++ tokens.DocumentEnd ∷ [])
 reads_end {limit = limit} end o v h =
     let r = end ++ o in
-    let col = at_line (46 ∷ 46 ∷ 46 ∷ r) v.mark v.line (not_empty 46 (46 ∷ 46 ∷ r)) in
+    let col = at_line (46 ∷ 46 ∷ 46 ∷ r) v.mark v.line.0 (not_empty 46 (46 ∷ 46 ∷ r)) in
     let e = eol (along v.mark 3) end o h in
     let first = eol_first (along v.mark 3) r o e in
     let sep = separates_rest (cursor_at r (along v.mark 3) false) e.rest e.more e.is e.line e.break in
     let n = moved (along v.mark 3) e.rest in
     reads_token v refl (inr (inr (col, end_ends r first))) (λ _. cursor_at e.more n false) false (piece_of v.mark (along v.mark 3) tokens.DocumentEnd)
-    (λ blank key allowed ad ps. end_here v.mark n blank r e.more sep.0 key allowed ad ps col first sep.1 (break_ends e.more e.break)) (AtLine o) e.mark o (λ _. e.behind)
-    (end_count v.mark e.mark r o limit v.count e.count) e.place (end_further v.mark e.mark end o e.count)
+    (λ blank key allowed ad ps. end_here v.mark n blank r e.more sep.0 key allowed ad ps col first sep.1 (break_ends e.more e.break)) (Lined true o) e.mark o (λ _. e.behind 0)
+    (end_count v.mark e.mark r o limit v.count e.count) (λ _. (e.place, λ _. opens e.more o e.opens)) (end_further v.mark e.mark end o e.count) (e.lined (along_lined v.mark 3 v.lined))
+  where
+    opens : (more o : List ℕ) → (crosses more ≡ true) ⊎ (o ≡ []) → ((crosses more || false) ≡ true) ⊎ (o ≡ [])
+    opens more o (inl h) = inl (or_none (crosses more) ∙ h)
+    opens more o (inr h) = inr h
 
 -- ## The text's end
 
@@ -146,16 +163,16 @@ pub record Finishes (limit : ℕ) (start : State) (Told : List Kind → Type 0) 
 low_index : (i l n limit : ℕ) → i + 0 ≡ n + l → n + l ≤ limit → i ≤ limit
 low_index i l n limit e h = omega (arith, e, h)
 
-pub reads_stream_end : {limit : ℕ} {start : State} {free : Bool} {P : Marker → Type 0} {o : List ℕ} {ts : List Kind} (v : Stands limit start free P o ts) (m : Marker) → past v.mark o ≡ (m, [])
+pub reads_stream_end : {limit : ℕ} {start : State} {free : Bool} {P : Marker → Bool → Type 0} {o : List ℕ} {ts : List Kind} (v : Stands limit start free P o ts) (m : Marker) → past 0 v.mark o ≡ (m, [])
     → Finishes limit start (λ t. t ≡ tokens.StreamEnd ∷ []) ts
 reads_stream_end {limit = limit} {free = free} {o = o} {ts = ts} v m text =
-    let counted : m.index + 0 ≡ v.mark.index + length o = ap (λ (p : Marker × List ℕ). p.0.index + length p.1) (sym text) ∙ past_count v.mark o in
+    let counted : m.index + 0 ≡ v.mark.index + length o = ap (λ (p : Marker × List ℕ). p.0.index + length p.1) (sym text) ∙ past_count 0 v.mark o in
     let low = low_index m.index (length o) v.mark.index limit counted v.count in
     let r = reads_here limit v.comment v.there v.key v.allowed v.adjacent v.places m [] (v.fits ∙ text) (inr (inl refl)) true (λ blank. cursor_at [] m blank) (λ key. key) false (v.places ++ finished m ∷ [])
     (λ blank key allowed. here m blank key allowed v.adjacent v.places) (λ _. low) in
     record {
       last = state_at true (cursor_at [] m r.0) context.Block r.1 [] false v.adjacent (v.places ++ finished m ∷ []);
-      leads = chain v.leads r.2;
+      leads = comes_to_end v.follows refl r.4 refl;
       over = refl;
       others = tokens.StreamEnd ∷ [];
       told = refl;

@@ -1,6 +1,6 @@
 -- The scanner takes a node in flow style and makes its tokens.
 use Rattle.std.proofs.Common.{◌≡◌, ℕ, ◌+◌, ◌<◌, ◌≤◌, Bool, true, false, List, [], ◌∷◌, ◌++◌, length, refl, sym, ap, ◌∙◌, arith, subst, append_assoc, append-nil, inl}
-use Rattle.std.specs.Prelude.{Option}
+use Rattle.std.specs.Prelude.{◌&&◌, Option}
 use Rattle.saphyr_scalar.specs.declared.scalar.position.Marker.{Marker}
 use Rattle.saphyr_scalar.specs.Cursor.{Cursor}
 use Rattle.saphyr_scalar.specs.Spaces.{IsSeparation}
@@ -15,15 +15,16 @@ use Rattle.saphyr_scanner.specs.Flow.{close_collection, ends_pair}
 use Rattle.saphyr_scanner.specs.Fetch.{step}
 use Rattle.saphyr_scanner.specs.Forest.{Properties, Node, Alias, Scalar, Seq, Map, Nodes, NoNode, MoreNodes, Pairs, NoPair, MorePairs}
 use Rattle.saphyr_scanner.specs.FlowNodes.{IsFlowNode}
-use Rattle.saphyr_scanner.proofs.JsonStates.{core_at, state_at}
+use Rattle.saphyr_scanner.proofs.InFlow.States.{Around, core_at, state_at, Calm}
 use Rattle.saphyr_scanner.proofs.JsonMarks.{saved, level_of}
 use Rattle.saphyr_scanner.proofs.JsonNodes.{begins_sequence, begins_mapping}
-use Rattle.saphyr_scanner.proofs.FlowStates.{moved, past, IsParted, IsBehindNode, Reads, after_node, PassesNode, ClosesNode, ClosesNodes}
+use Rattle.saphyr_scanner.proofs.FlowStates.{moved, past, Fits, IsParted, IsBehindNode, Reads, after_node, PassesNode, ClosesNode, ClosesNodes}
+use Rattle.saphyr_scanner.proofs.FlowPlaces.{moved_append}
 use Rattle.saphyr_scanner.proofs.FlowGaps.{past_ink}
 use Rattle.saphyr_scanner.proofs.FlowJoins.{knowing, root}
 use Rattle.saphyr_scanner.proofs.FlowColons.{no_block}
 use Rattle.saphyr_scanner.proofs.FlowInks.{BeginsInk, node_ink}
-use Rattle.saphyr_scanner.proofs.FlowPieces.{Fits, fits_front, fits_back, fits_so}
+use Rattle.saphyr_scanner.proofs.FlowPieces.{fits_front, fits_back, fits_so}
 use Rattle.saphyr_scanner.proofs.FlowQuotes as quotes
 use Rattle.saphyr_scanner.proofs.FlowCollections.{EndsAt, ends_inside, ends_root, Brackets, AreBrackets, bracket_text, RunsInside}
 use Rattle.saphyr_scanner.proofs.FlowFronts.{CollectionPasses, collection_passes}
@@ -56,118 +57,137 @@ are_curly = record {
   begins = begins_mapping;
 }
 
-ends_square : (z : Context) → is_block z ≡ false → (second i : ℕ) (s : Cursor) (k : Option Candidate) (ms : List Level) (a : Bool) (ad : ℕ)
-    → step 93 second i (core_at false s z k ms a ad) ≡ close_collection (ends_pair z) tokens.FlowSequenceEnd (core_at false s z k ms a ad)
+ends_square : (around : Around) (z : Context) → is_block z ≡ false → (second i : ℕ) (d : Bool) (s : Cursor) (k : Option Candidate) (ms : List Level) (a : Bool) (ad : ℕ)
+    → step 93 second i (core_at around d s z k ms a ad) ≡ close_collection (ends_pair z) tokens.FlowSequenceEnd (core_at around d s z k ms a ad)
 unfolding step flow.end
-ends_square context.Block e second i s k ms a ad = absurd (no_block e)
-ends_square context.FlowSequence e second i s k ms a ad = refl
-ends_square context.FlowMapping e second i s k ms a ad = refl
-ends_square context.FlowPair e second i s k ms a ad = refl
-ends_square context.ExplicitFlowPair e second i s k ms a ad = refl
-ends_square context.MarkedFlowPair e second i s k ms a ad = refl
+ends_square around context.Block e second i d s k ms a ad = absurd (no_block e)
+ends_square around context.FlowSequence e second i d s k ms a ad = refl
+ends_square around context.FlowMapping e second i d s k ms a ad = refl
+ends_square around context.FlowPair e second i d s k ms a ad = refl
+ends_square around context.ExplicitFlowPair e second i d s k ms a ad = refl
+ends_square around context.MarkedFlowPair e second i d s k ms a ad = refl
 
-ends_curly : (second i : ℕ) (s : Cursor) (k : Option Candidate) (ms : List Level) (a : Bool) (ad : ℕ)
-    → step 125 second i (core_at false s context.FlowMapping k ms a ad) ≡ close_collection false tokens.FlowMappingEnd (core_at false s context.FlowMapping k ms a ad)
+ends_curly : (around : Around) (second i : ℕ) (d : Bool) (s : Cursor) (k : Option Candidate) (ms : List Level) (a : Bool) (ad : ℕ)
+    → step 125 second i (core_at around d s context.FlowMapping k ms a ad) ≡ close_collection false tokens.FlowMappingEnd (core_at around d s context.FlowMapping k ms a ad)
 unfolding step flow.end
-ends_curly second i s k ms a ad = refl
+ends_curly around second i d s k ms a ad = refl
 
 -- ## A collection, given the run over its entries
 
 whole_text : (t opening front w inside : List ℕ) (c e : ℕ) → t ≡ opening ++ (inside ++ (e ∷ [])) → opening ≡ front ++ (c ∷ w) → t ≡ front ++ ((c ∷ w) ++ (inside ++ (e ∷ [])))
 whole_text t opening front w inside c e is open_is = is ∙ ap (λ (x : List ℕ). x ++ (inside ++ (e ∷ []))) open_is ∙ append_assoc front (c ∷ w) (inside ++ (e ∷ []))
 
-parted_by : (w t : List ℕ) → IsSeparation 0 w → BeginsInk t → IsParted (w ++ t)
-parted_by w t parts b = record { separation = w; first = b.first; others = b.others; is = ap (λ (x : List ℕ). w ++ x) b.is; parts = parts; ink = b.ink }
+parted_by : (indent : ℕ) (w t : List ℕ) → IsSeparation indent w → BeginsInk t → IsParted indent (w ++ t)
+parted_by indent w t parts b = record { separation = w; first = b.first; others = b.others; is = ap (λ (x : List ℕ). w ++ x) b.is; parts = parts; ink = b.ink }
+
+-- the piece inside brackets, behind their front
+inner_fits : {around : Around} (m : Marker) (front opening inside closing o : List ℕ) → around.indent ≤ (moved (moved m front) opening).col → Fits around m (front ++ (opening ++ (inside ++ closing))) o
+    → Fits around (moved (moved m front) opening) inside (closing ++ o)
+inner_fits {around} m front opening inside closing o right fits =
+    fits_front (moved (moved m front) opening) inside closing o
+    (subst (λ (k : Marker). Fits around k (inside ++ closing) o) (moved_append m front opening)
+    (fits_back m (front ++ opening) (inside ++ closing) o (subst (λ (k : Marker). around.indent ≤ k.col) (sym (moved_append m front opening)) right)
+    (fits_so m (front ++ (opening ++ (inside ++ closing))) ((front ++ opening) ++ (inside ++ closing)) o (sym (append_assoc front opening (inside ++ closing))) fits)))
 
 -- in brackets
-sequence_run : {limit : ℕ} → Reads → (room : ℕ) (p : Properties) (nodes : Nodes) (in_flow : Bool) → ((left : ℕ) → PassesItems limit left nodes) → (m : Marker) (t o : List ℕ)
-    → IsFlowNode room (Seq p nodes) in_flow 0 t → Fits limit m t o
-    → ((e : Marker) → EndsAt e o) → (s : Cursor) (x : Context) (k : Option Candidate) (ls : List Level) (a : Bool) (ad : ℕ) (ps : List Place) → room + length ls ≤ 255 → ad ≤ m.index
-    → past s.mark s.rest ≡ past m (t ++ o)
-    → CollectionPasses limit (state_at false s x k ls a ad ps) (grammar.AreFlowEntries nodes) square p (saved a (length ps) m k) x ls ps (moved m t) o
-sequence_run {limit} reads room p nodes in_flow items m t o (left, opening, inside, r, (front, w, f, parts, e), h, is) fits ends s x k ls a ad ps low before text =
+sequence_run : {around : Around} → Reads → (room : ℕ) (p : Properties) (nodes : Nodes) (in_flow : Bool) → ((left : ℕ) → PassesItems around left nodes) → (m : Marker) (t o : List ℕ)
+    → IsFlowNode room (Seq p nodes) in_flow around.indent t → Fits around m t o
+    → ((e : Marker) → around.indent ≤ e.col → EndsAt around.indent e o) → (s : Cursor) (x : Context) (k : Option Candidate) (ls : List Level) (a : Bool) (ad : ℕ) (ps : List Place) → room + length ls ≤ 255 → Calm around x → ad ≤ m.index
+    → past around.indent s.mark s.rest ≡ past around.indent m (t ++ o)
+    → CollectionPasses around (state_at around s x k ls a ad ps) (grammar.AreFlowEntries nodes) square p (saved a (length ps) m k) x ls ps (moved m t) o
+sequence_run {around} reads room p nodes in_flow items m t o (left, opening, inside, r, (front, w, f, parts, e), h, is) fits ends s x k ls a ad ps low calm before text =
     let text_is = whole_text t opening front w inside 91 93 is e in
     let whole = fits_so m t (front ++ bracket_text square w inside) o text_is fits in
     let here = moved (moved m front) (91 ∷ w) in
-    let inside_fits = fits_front here inside (93 ∷ []) o (fits_back (moved m front) (91 ∷ w) (inside ++ (93 ∷ [])) o (fits_back m front (bracket_text square w inside) o whole)) in
-    let run : RunsInside limit (grammar.AreFlowEntries nodes) square x ls here inside o = λ u c j b be qs no_candidate fresh on at.
+    let run : RunsInside around (grammar.AreFlowEntries nodes) square x ls here inside o = λ u c j b be qs no_candidate fresh on right at.
+    let inside_fits = inner_fits m front (91 ∷ w) inside (93 ∷ []) o right whole in
     let i = items left here inside o h inside_fits u c (level_of x j ∷ ls) b be qs no_candidate fresh (omega (arith, r, low)) on at in
-    record { inside = i.inside; closes = ends_square i.inside i.flows; tokens = i.tokens; are = i.are; passes = i.passes } in
-    let c = collection_passes limit p reads (grammar.AreFlowEntries nodes) square are_square m front w inside o whole f parts (parted_by w (inside ++ (93 ∷ o)) parts (items_ink left nodes inside o h))
-    s x k ls a ad ps (omega (arith, r, low)) before (text ∙ ap (λ (z : List ℕ). past m (z ++ o)) text_is) (ends (moved here inside), run) in
-    subst (λ (n : Marker). CollectionPasses limit (state_at false s x k ls a ad ps) (grammar.AreFlowEntries nodes) square p (saved a (length ps) m k) x ls ps n o) (ap (moved m) (sym text_is)) c
+    record { inside = i.inside; flows = i.flows; closes = ends_square around i.inside i.flows; tokens = i.tokens; are = i.are; passes = i.passes } in
+    let c = collection_passes around p reads (grammar.AreFlowEntries nodes) square are_square m front w inside o whole f parts (parted_by around.indent w (inside ++ (93 ∷ o)) parts (items_ink around.indent left nodes inside o h))
+    s x k ls a ad ps (omega (arith, r, low)) calm before (text ∙ ap (λ (z : List ℕ). past around.indent m (z ++ o)) text_is) (ends (moved here inside), run) in
+    subst (λ (n : Marker). CollectionPasses around (state_at around s x k ls a ad ps) (grammar.AreFlowEntries nodes) square p (saved a (length ps) m k) x ls ps n o) (ap (moved m) (sym text_is)) c
 
 -- in braces
-mapping_run : {limit : ℕ} → Reads → (room : ℕ) (p : Properties) (pairs : Pairs) (in_flow : Bool) → ((left : ℕ) → PassesPairs limit left pairs) → (m : Marker) (t o : List ℕ)
-    → IsFlowNode room (Map p pairs) in_flow 0 t → Fits limit m t o
-    → ((e : Marker) → EndsAt e o) → (s : Cursor) (x : Context) (k : Option Candidate) (ls : List Level) (a : Bool) (ad : ℕ) (ps : List Place) → room + length ls ≤ 255 → ad ≤ m.index
-    → past s.mark s.rest ≡ past m (t ++ o)
-    → CollectionPasses limit (state_at false s x k ls a ad ps) (grammar.AreFlowPairs pairs) curly p (saved a (length ps) m k) x ls ps (moved m t) o
-mapping_run {limit} reads room p pairs in_flow members m t o (left, opening, inside, r, (front, w, f, parts, e), h, is) fits ends s x k ls a ad ps low before text =
+mapping_run : {around : Around} → Reads → (room : ℕ) (p : Properties) (pairs : Pairs) (in_flow : Bool) → ((left : ℕ) → PassesPairs around left pairs) → (m : Marker) (t o : List ℕ)
+    → IsFlowNode room (Map p pairs) in_flow around.indent t → Fits around m t o
+    → ((e : Marker) → around.indent ≤ e.col → EndsAt around.indent e o) → (s : Cursor) (x : Context) (k : Option Candidate) (ls : List Level) (a : Bool) (ad : ℕ) (ps : List Place) → room + length ls ≤ 255 → Calm around x → ad ≤ m.index
+    → past around.indent s.mark s.rest ≡ past around.indent m (t ++ o)
+    → CollectionPasses around (state_at around s x k ls a ad ps) (grammar.AreFlowPairs pairs) curly p (saved a (length ps) m k) x ls ps (moved m t) o
+mapping_run {around} reads room p pairs in_flow members m t o (left, opening, inside, r, (front, w, f, parts, e), h, is) fits ends s x k ls a ad ps low calm before text =
     let text_is = whole_text t opening front w inside 123 125 is e in
     let whole = fits_so m t (front ++ bracket_text curly w inside) o text_is fits in
     let here = moved (moved m front) (123 ∷ w) in
-    let inside_fits = fits_front here inside (125 ∷ []) o (fits_back (moved m front) (123 ∷ w) (inside ++ (125 ∷ [])) o (fits_back m front (bracket_text curly w inside) o whole)) in
-    let run : RunsInside limit (grammar.AreFlowPairs pairs) curly x ls here inside o = λ u c j b be qs no_candidate fresh on at.
+    let run : RunsInside around (grammar.AreFlowPairs pairs) curly x ls here inside o = λ u c j b be qs no_candidate fresh on right at.
+    let inside_fits = inner_fits m front (123 ∷ w) inside (125 ∷ []) o right whole in
     let i = members left here inside o h inside_fits u c (level_of x j ∷ ls) b be qs no_candidate fresh (omega (arith, r, low)) on at in
-    record { inside = context.FlowMapping; closes = ends_curly; tokens = i.tokens; are = subst (grammar.AreFlowPairs pairs) (sym (append-nil i.tokens)) i.are; passes = i.passes } in
-    let c = collection_passes limit p reads (grammar.AreFlowPairs pairs) curly are_curly m front w inside o whole f parts (parted_by w (inside ++ (125 ∷ o)) parts (pairs_ink left pairs inside o h))
-    s x k ls a ad ps (omega (arith, r, low)) before (text ∙ ap (λ (z : List ℕ). past m (z ++ o)) text_is) (ends (moved here inside), run) in
-    subst (λ (n : Marker). CollectionPasses limit (state_at false s x k ls a ad ps) (grammar.AreFlowPairs pairs) curly p (saved a (length ps) m k) x ls ps n o) (ap (moved m) (sym text_is)) c
+    record { inside = context.FlowMapping; flows = refl; closes = ends_curly around; tokens = i.tokens; are = subst (grammar.AreFlowPairs pairs) (sym (append-nil i.tokens)) i.are; passes = i.passes } in
+    let c = collection_passes around p reads (grammar.AreFlowPairs pairs) curly are_curly m front w inside o whole f parts (parted_by around.indent w (inside ++ (125 ∷ o)) parts (pairs_ink around.indent left pairs inside o h))
+    s x k ls a ad ps (omega (arith, r, low)) calm before (text ∙ ap (λ (z : List ℕ). past around.indent m (z ++ o)) text_is) (ends (moved here inside), run) in
+    subst (λ (n : Marker). CollectionPasses around (state_at around s x k ls a ad ps) (grammar.AreFlowPairs pairs) curly p (saved a (length ps) m k) x ls ps n o) (ap (moved m) (sym text_is)) c
+
+calm_in_flow : (around : Around) (x : Context) → is_block x ≡ false → Calm around x
+calm_in_flow around x e = ap (λ (b : Bool). around.required && b) e ∙ never around.required
+  where
+    never : (b : Bool) → (b && false) ≡ false
+    never true = refl
+    never false = refl
+
+calm_at_root : (around : Around) → around.required ≡ false → Calm around context.Block
+calm_at_root around e = ap (λ (b : Bool). b && true) e
 
 -- ## Collections as nodes
 
-behind_parted : (node : Node) (o : List ℕ) → IsBehindNode node o → IsParted o
-behind_parted node o h =
+behind_parted : (indent : ℕ) (node : Node) (o : List ℕ) → IsBehindNode indent node o → IsParted indent o
+behind_parted indent node o h =
     record { separation = h.separation; first = h.first; others = h.others; is = h.is; parts = h.parts; ink = (quotes.node_ink node h.separation h.others h.first h.ends).0 }
 
 weaker : (a b : ℕ) → a < b → a ≤ b
 weaker a b h = omega (arith, h)
 
-sequence_passes : {limit : ℕ} → Reads → (room : ℕ) (p : Properties) (nodes : Nodes) → ((left : ℕ) → PassesItems limit left nodes) → PassesNode limit room (Seq p nodes)
-sequence_passes {limit} reads room p nodes items m t o h clear below behind s x k ls a ad ps before flow low text =
-    let c = sequence_run reads room p nodes true items m t o h (record { clear = clear; below = below }) (λ e. ends_inside e o (behind_parted (Seq p nodes) o behind)) s x k ls a ad ps low
+sequence_passes : {around : Around} → Reads → (room : ℕ) (p : Properties) (nodes : Nodes) → ((left : ℕ) → PassesItems around left nodes) → PassesNode around room (Seq p nodes)
+sequence_passes {around} reads room p nodes items m t o h fits behind s x k ls a ad ps before flow low text =
+    let c = sequence_run reads room p nodes true items m t o h fits (λ e right. ends_inside around.indent e o (behind_parted around.indent (Seq p nodes) o behind) right) s x k ls a ad ps low (calm_in_flow around x flow)
     (weaker ad m.index before) text in
     let n = c.passes.knows in
     record {
       tokens = c.properties ++ (tokens.FlowSequenceStart ∷ (c.inside ++ tokens.FlowSequenceEnd ∷ []));
       are = (c.properties, tokens.FlowSequenceStart ∷ (c.inside ++ tokens.FlowSequenceEnd ∷ []), c.are_properties, inl (c.inside, c.are, refl), refl);
-      passes = knowing c.passes (after_node x (saved a (length ps) m k) (Seq p nodes) (moved m t) o)
+      passes = knowing c.passes (after_node around.indent x (saved a (length ps) m k) (Seq p nodes) (moved m t) o)
           (record { piece = n.piece; others = n.others; is = n.is; keeps = n.keeps; near = n.near; low = λ e. n.low });
     }
 
-mapping_passes : {limit : ℕ} → Reads → (room : ℕ) (p : Properties) (pairs : Pairs) → ((left : ℕ) → PassesPairs limit left pairs) → PassesNode limit room (Map p pairs)
-mapping_passes {limit} reads room p pairs members m t o h clear below behind s x k ls a ad ps before flow low text =
-    let c = mapping_run reads room p pairs true members m t o h (record { clear = clear; below = below }) (λ e. ends_inside e o (behind_parted (Map p pairs) o behind)) s x k ls a ad ps low
+mapping_passes : {around : Around} → Reads → (room : ℕ) (p : Properties) (pairs : Pairs) → ((left : ℕ) → PassesPairs around left pairs) → PassesNode around room (Map p pairs)
+mapping_passes {around} reads room p pairs members m t o h fits behind s x k ls a ad ps before flow low text =
+    let c = mapping_run reads room p pairs true members m t o h fits (λ e right. ends_inside around.indent e o (behind_parted around.indent (Map p pairs) o behind) right) s x k ls a ad ps low (calm_in_flow around x flow)
     (weaker ad m.index before) text in
     let n = c.passes.knows in
     record {
       tokens = c.properties ++ (tokens.FlowMappingStart ∷ (c.inside ++ tokens.FlowMappingEnd ∷ []));
       are = (c.properties, tokens.FlowMappingStart ∷ (c.inside ++ tokens.FlowMappingEnd ∷ []), c.are_properties, inl (c.inside, c.are, refl), refl);
-      passes = knowing c.passes (after_node x (saved a (length ps) m k) (Map p pairs) (moved m t) o)
+      passes = knowing c.passes (after_node around.indent x (saved a (length ps) m k) (Map p pairs) (moved m t) o)
           (record { piece = n.piece; others = n.others; is = n.is; keeps = n.keeps; near = n.near; low = λ e. n.low });
     }
 
-at_ink : (m : Marker) (t o : List ℕ) (ad : ℕ) → BeginsInk t → ad ≤ (past m (t ++ o)).0.index → ad ≤ m.index
-at_ink m t o ad b h = subst (λ (q : Marker × List ℕ). ad ≤ q.0.index) (ap (λ (x : List ℕ). past m (x ++ o)) b.is ∙ past_ink m b.first (b.others ++ o) b.ink) h
+at_ink : (indent : ℕ) (m : Marker) (t o : List ℕ) (ad : ℕ) → BeginsInk t → ad ≤ (past indent m (t ++ o)).0.index → ad ≤ m.index
+at_ink indent m t o ad b h = subst (λ (q : Marker × List ℕ). ad ≤ q.0.index) (ap (λ (x : List ℕ). past indent m (x ++ o)) b.is ∙ past_ink indent m b.first (b.others ++ o) b.ink) h
 
 all_room : 255 + 0 ≤ 255
 all_room = omega arith
 
-sequence_closes : {limit : ℕ} → Reads → (p : Properties) (nodes : Nodes) → ((left : ℕ) → PassesItems limit left nodes) → ClosesNode limit (Seq p nodes)
-sequence_closes {limit} reads p nodes items m t o h clear below behind s k a ad ps before text =
-    let low = at_ink m t o ad (node_ink 255 (Seq p nodes) false t h) before in
-    let c = sequence_run reads 255 p nodes false items m t o h (record { clear = clear; below = below }) (λ e. ends_root e (moved m t) o behind) s context.Block k [] a ad ps all_room low text in
+sequence_closes : {around : Around} → Reads → (p : Properties) (nodes : Nodes) → ((left : ℕ) → PassesItems around left nodes) → around.required ≡ false → ClosesNode around (Seq p nodes)
+sequence_closes {around} reads p nodes items none_required m t o h fits behind s k a ad ps before text =
+    let low = at_ink around.indent m t o ad (node_ink around.indent 255 (Seq p nodes) false t h) before in
+    let c = sequence_run reads 255 p nodes false items m t o h fits (λ e right. ends_root around.indent e (moved m t) o behind) s context.Block k [] a ad ps all_room (calm_at_root around none_required) low text in
     record {
       tokens = c.properties ++ (tokens.FlowSequenceStart ∷ (c.inside ++ tokens.FlowSequenceEnd ∷ []));
       are = (c.properties, tokens.FlowSequenceStart ∷ (c.inside ++ tokens.FlowSequenceEnd ∷ []), c.are_properties, inl (c.inside, c.are, refl), refl);
       closes = root c.passes c.passes.knows.low;
     }
 
-mapping_closes : {limit : ℕ} → Reads → (p : Properties) (pairs : Pairs) → ((left : ℕ) → PassesPairs limit left pairs) → ClosesNode limit (Map p pairs)
-mapping_closes {limit} reads p pairs members m t o h clear below behind s k a ad ps before text =
-    let low = at_ink m t o ad (node_ink 255 (Map p pairs) false t h) before in
-    let c = mapping_run reads 255 p pairs false members m t o h (record { clear = clear; below = below }) (λ e. ends_root e (moved m t) o behind) s context.Block k [] a ad ps all_room low text in
+mapping_closes : {around : Around} → Reads → (p : Properties) (pairs : Pairs) → ((left : ℕ) → PassesPairs around left pairs) → around.required ≡ false → ClosesNode around (Map p pairs)
+mapping_closes {around} reads p pairs members none_required m t o h fits behind s k a ad ps before text =
+    let low = at_ink around.indent m t o ad (node_ink around.indent 255 (Map p pairs) false t h) before in
+    let c = mapping_run reads 255 p pairs false members m t o h fits (λ e right. ends_root around.indent e (moved m t) o behind) s context.Block k [] a ad ps all_room (calm_at_root around none_required) low text in
     record {
       tokens = c.properties ++ (tokens.FlowMappingStart ∷ (c.inside ++ tokens.FlowMappingEnd ∷ []));
       are = (c.properties, tokens.FlowMappingStart ∷ (c.inside ++ tokens.FlowMappingEnd ∷ []), c.are_properties, inl (c.inside, c.are, refl), refl);
@@ -177,43 +197,43 @@ mapping_closes {limit} reads p pairs members m t o h clear below behind s k a ad
 -- ## All nodes
 
 mutual
-  pub nodes_pass : Reads → (limit room : ℕ) (node : Node) → PassesNode limit room node
-  nodes_pass reads limit room (Alias name) = alias_passes reads limit room name
-  nodes_pass reads limit room (Scalar p style value) = scalar_passes reads limit room p style value
-  nodes_pass reads limit room (Seq p nodes) = sequence_passes reads room p nodes (λ left. all_items_pass reads limit left nodes)
-  nodes_pass reads limit room (Map p pairs) = mapping_passes reads room p pairs (λ left. all_pairs_pass reads limit left pairs)
+  pub nodes_pass : Reads → (around : Around) (room : ℕ) (node : Node) → PassesNode around room node
+  nodes_pass reads around room (Alias name) = alias_passes reads around room name
+  nodes_pass reads around room (Scalar p style value) = scalar_passes reads around room p style value
+  nodes_pass reads around room (Seq p nodes) = sequence_passes reads room p nodes (λ left. all_items_pass reads around left nodes)
+  nodes_pass reads around room (Map p pairs) = mapping_passes reads room p pairs (λ left. all_pairs_pass reads around left pairs)
 
-  all_items_pass : Reads → (limit room : ℕ) (nodes : Nodes) → PassesItems limit room nodes
-  all_items_pass reads limit room NoNode = no_items_pass room
-  all_items_pass reads limit room (MoreNodes node nodes) = items_pass room node nodes (nodes_pass reads limit room node) (all_pair_items_pass reads limit room node)
-      (all_others_pass reads limit room nodes)
+  all_items_pass : Reads → (around : Around) (room : ℕ) (nodes : Nodes) → PassesItems around room nodes
+  all_items_pass reads around room NoNode = no_items_pass room
+  all_items_pass reads around room (MoreNodes node nodes) = items_pass room node nodes (nodes_pass reads around room node) (all_pair_items_pass reads around room node)
+      (all_others_pass reads around room nodes)
 
-  all_others_pass : Reads → (limit room : ℕ) (nodes : Nodes) → PassesOtherItems limit room nodes
-  all_others_pass reads limit room NoNode = no_others_pass room
-  all_others_pass reads limit room (MoreNodes node nodes) = others_pass room node nodes (nodes_pass reads limit room node) (all_pair_items_pass reads limit room node)
-      (all_others_pass reads limit room nodes)
+  all_others_pass : Reads → (around : Around) (room : ℕ) (nodes : Nodes) → PassesOtherItems around room nodes
+  all_others_pass reads around room NoNode = no_others_pass room
+  all_others_pass reads around room (MoreNodes node nodes) = others_pass room node nodes (nodes_pass reads around room node) (all_pair_items_pass reads around room node)
+      (all_others_pass reads around room nodes)
 
-  all_pair_items_pass : Reads → (limit room : ℕ) (node : Node) → PassesPairItem limit room node
-  all_pair_items_pass reads limit room (Map p (MorePairs key value NoPair)) = pair_item_passes room p key value (nodes_pass reads limit room key) (nodes_pass reads limit room value)
-  all_pair_items_pass reads limit room (Map p (MorePairs key value (MorePairs other another pairs))) = λ m t c cs fits ends h. absurd h
-  all_pair_items_pass reads limit room (Map p NoPair) = λ m t c cs fits ends h. absurd h
-  all_pair_items_pass reads limit room (Alias name) = λ m t c cs fits ends h. absurd h
-  all_pair_items_pass reads limit room (Scalar p style value) = λ m t c cs fits ends h. absurd h
-  all_pair_items_pass reads limit room (Seq p nodes) = λ m t c cs fits ends h. absurd h
+  all_pair_items_pass : Reads → (around : Around) (room : ℕ) (node : Node) → PassesPairItem around room node
+  all_pair_items_pass reads around room (Map p (MorePairs key value NoPair)) = pair_item_passes room p key value (nodes_pass reads around room key) (nodes_pass reads around room value)
+  all_pair_items_pass reads around room (Map p (MorePairs key value (MorePairs other another pairs))) = λ m t c cs fits ends h. absurd h
+  all_pair_items_pass reads around room (Map p NoPair) = λ m t c cs fits ends h. absurd h
+  all_pair_items_pass reads around room (Alias name) = λ m t c cs fits ends h. absurd h
+  all_pair_items_pass reads around room (Scalar p style value) = λ m t c cs fits ends h. absurd h
+  all_pair_items_pass reads around room (Seq p nodes) = λ m t c cs fits ends h. absurd h
 
-  all_pairs_pass : Reads → (limit room : ℕ) (pairs : Pairs) → PassesPairs limit room pairs
-  all_pairs_pass reads limit room NoPair = no_pairs_pass room
-  all_pairs_pass reads limit room (MorePairs key value pairs) = pairs_pass room key value pairs (nodes_pass reads limit room key) (nodes_pass reads limit room value)
-      (all_other_pairs_pass reads limit room pairs)
+  all_pairs_pass : Reads → (around : Around) (room : ℕ) (pairs : Pairs) → PassesPairs around room pairs
+  all_pairs_pass reads around room NoPair = no_pairs_pass room
+  all_pairs_pass reads around room (MorePairs key value pairs) = pairs_pass room key value pairs (nodes_pass reads around room key) (nodes_pass reads around room value)
+      (all_other_pairs_pass reads around room pairs)
 
-  all_other_pairs_pass : Reads → (limit room : ℕ) (pairs : Pairs) → PassesOtherPairs limit room pairs
-  all_other_pairs_pass reads limit room NoPair = no_other_pairs_pass room
-  all_other_pairs_pass reads limit room (MorePairs key value pairs) = other_pairs_pass room key value pairs (nodes_pass reads limit room key) (nodes_pass reads limit room value)
-      (all_other_pairs_pass reads limit room pairs)
+  all_other_pairs_pass : Reads → (around : Around) (room : ℕ) (pairs : Pairs) → PassesOtherPairs around room pairs
+  all_other_pairs_pass reads around room NoPair = no_other_pairs_pass room
+  all_other_pairs_pass reads around room (MorePairs key value pairs) = other_pairs_pass room key value pairs (nodes_pass reads around room key) (nodes_pass reads around room value)
+      (all_other_pairs_pass reads around room pairs)
 
--- as a document's node
-pub nodes_close : Reads → (limit : ℕ) → ClosesNodes limit
-nodes_close reads limit (Alias name) = alias_closes reads limit name
-nodes_close reads limit (Scalar p style value) = scalar_closes reads limit p style value
-nodes_close reads limit (Seq p nodes) = sequence_closes reads p nodes (λ left. all_items_pass reads limit left nodes)
-nodes_close reads limit (Map p pairs) = mapping_closes reads p pairs (λ left. all_pairs_pass reads limit left pairs)
+-- at block level, where no key is required
+pub nodes_close : Reads → (around : Around) → ClosesNodes around
+nodes_close reads around none_required (Alias name) = alias_closes reads around name
+nodes_close reads around none_required (Scalar p style value) = scalar_closes reads around p style value
+nodes_close reads around none_required (Seq p nodes) = sequence_closes reads p nodes (λ left. all_items_pass reads around left nodes) none_required
+nodes_close reads around none_required (Map p pairs) = mapping_closes reads p pairs (λ left. all_pairs_pass reads around left pairs) none_required

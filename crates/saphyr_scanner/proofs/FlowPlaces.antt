@@ -1,5 +1,5 @@
 -- Places behind the pieces of a text, and pieces that no document marker begins a line of.
-use Rattle.std.proofs.Common.{◌≡◌, ℕ, suc, ◌+◌, Bool, true, false, List, [], ◌∷◌, ◌++◌, length, refl, sym, ap, ◌∙◌, arith, append_assoc, IsTrue}
+use Rattle.std.proofs.Common.{◌≡◌, ℕ, suc, ◌+◌, ◌≤◌, Bool, true, false, List, [], ◌∷◌, ◌++◌, length, refl, sym, ap, ◌∙◌, arith, subst, append_assoc, IsTrue}
 use Rattle.std.specs.Prelude.{◌||◌, ◌&&◌, ◌==◌, not, if◌then◌else◌}
 use Rattle.std.proofs.lemmas.Bool.Decides.{nat_tests}
 use Rattle.std.proofs.lemmas.List.{length-append}
@@ -46,6 +46,16 @@ moved_along m (c ∷ cs) h =
     never : (b : Bool) → b ≡ true → IsTrue (not b) → ⊥
     never true e k = absurd (cc)
     never false e k = cc
+
+-- what stands right of a column goes on there
+pub right_along : (column : ℕ) (m : Marker) (p : List ℕ) → AreIn (λ c. not (c == line_feed)) p → column ≤ m.col → column ≤ (moved m p).col
+right_along column m p h low = subst (λ (k : Marker). column ≤ k.col) (sym (moved_along m p h)) (further m.col (length p) low)
+  where
+    further : (n l : ℕ) → column ≤ n → column ≤ n + l
+    further n l h = omega (arith, h)
+
+pub right_one : (column : ℕ) (m : Marker) (c : ℕ) → (c == line_feed) ≡ false → column ≤ m.col → column ≤ (moved m (c ∷ [])).col
+right_one column m c h low = right_along column m (c ∷ []) (ap not h, tt) low
 
 -- ## Clear pieces
 

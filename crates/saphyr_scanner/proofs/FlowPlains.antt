@@ -21,16 +21,17 @@ use Rattle.saphyr_scanner.specs.Scalar as scalar
 use Rattle.saphyr_scanner.specs.Scalar.{read_plain, disallow_key, behind_plain}
 use Rattle.saphyr_scanner.specs.Fetch.{step, is_value_adjacent}
 use Rattle.saphyr_scanner.specs.FlowScalars.{begins_plain, IsPlain}
-use Rattle.saphyr_scanner.proofs.JsonStates.{cursor_at, core_at, state_at, no_less, and_false}
-use Rattle.saphyr_scanner.proofs.JsonMarks.{saved, saves_key}
+use Rattle.saphyr_scanner.proofs.InFlow.States.{Around, core_at, state_at, not_left, saves_key, none_deeper}
+use Rattle.saphyr_scanner.proofs.JsonStates.{cursor_at, and_false}
+use Rattle.saphyr_scanner.proofs.JsonMarks.{saved}
 use Rattle.saphyr_scanner.proofs.JsonBrackets.{place_of}
-use Rattle.saphyr_scanner.proofs.FlowStates.{moved, past, IsClear, Reads, Passes, Closes}
+use Rattle.saphyr_scanner.proofs.FlowStates.{moved, past, IsClear, Reads, Passes, Closes, Fits}
 use Rattle.saphyr_scanner.proofs.FlowPlaces.{moved_count}
 use Rattle.saphyr_scanner.proofs.FlowFillers.{white_past}
 use Rattle.saphyr_scanner.proofs.FlowArrivals.{arrives, within_index}
 use Rattle.saphyr_scanner.proofs.FlowLow.{behind_low}
-use Rattle.saphyr_scanner.proofs.FlowTokens.{Begins, begins_past, begins_token, after_token, token_passes}
-use Rattle.saphyr_scanner.proofs.FlowWords.{passed_moved, normalized_same, ink_other, no_break, plain_text}
+use Rattle.saphyr_scanner.proofs.FlowTokens.{Begins, begins_past, begins_inked, begins_token, after_token, token_passes}
+use Rattle.saphyr_scanner.proofs.FlowWords.{passed_moved, normalized_same, ink_other, no_break, plain_text, plain_right}
 use Rattle.saphyr_scanner.proofs.FlowNoted.{noted_one}
 
 -- ## The first two characters
@@ -45,8 +46,8 @@ record BeginsWord (f : Bool) (t : List ℕ) : Type 0 where
   no_comment : first ≢ 35
   further : (first ≡ 45) ⊎ ((first ≡ 63) ⊎ (first ≡ 58)) → (second : ℕ) × (more : List ℕ) × (others ≡ second ∷ more) × IsTrue (is_word_ink f second)
 
-word_begins : (f : Bool) (t : List ℕ) → IsPlain f 0 t → BeginsWord f t
-word_begins f t (word, others, (is_word, begins, no_dash, no_mark, no_colon), many, is) = by_word word is_word.some is_word.ink is_word.no_comment begins no_dash no_mark no_colon is
+word_begins : (f : Bool) (indent : ℕ) (t : List ℕ) → IsPlain f indent t → BeginsWord f t
+word_begins f indent t (word, others, (is_word, begins, no_dash, no_mark, no_colon), many, is) = by_word word is_word.some is_word.ink is_word.no_comment begins no_dash no_mark no_colon is
   where
     lone : (c d : ℕ) → c ≡ d → (c ∷ []) ≢ (d ∷ []) → ⊥
     lone c d e other = other (ap (λ (z : ℕ). z ∷ []) e)
@@ -147,31 +148,31 @@ plain_token t = scalar_token Plain (plain_value t)
 abbrev found : Bool → List ℕ → Marker → List ℕ → Reading
 found f o end v = Ok (encode_utf8_all (plain_value v), end, comment_of f false (past_white end false o), past_white end false o)
 
-plain_read : Reads → (n : ℕ) (m : Marker) (b : Bool) (t o : List ℕ) (x : Context) → IsPlainText (not (is_block x)) 0 m t o → IsClear m t o
+plain_read : Reads → (around : Around) (d : Bool) (n : ℕ) (m : Marker) (b : Bool) (t o : List ℕ) (x : Context) → IsPlainText (not (is_block x)) around.indent m t o → IsClear m t o → around.indent ≤ m.col
     → (k : Option Candidate) (ls : List Level) (a : Bool) (ad : ℕ)
-    → let u = past_white (moved m t) false o in scalar.plain n (core_at false (cursor_at (t ++ o) m b) x k ls a ad)
-    ≡ went (from_to m (moved m t) (plain_token t) ∷ []) (record (core_at false u x (saved a n m k) ls u.blank_so_far ad) { comment = comment_of (not (is_block x)) false u })
+    → let u = past_white (moved m t) false o in scalar.plain n (core_at around d (cursor_at (t ++ o) m b) x k ls a ad)
+    ≡ went (from_to m (moved m t) (plain_token t) ∷ []) (record (core_at around false u x (saved a n m k) ls u.blank_so_far ad) { comment = comment_of (not (is_block x)) false u })
 unfolding scalar.plain read_plain
-plain_read reads n m b t o x h clear k ls a ad =
+plain_read reads around d n m b t o x h clear right k ls a ad =
     let s = cursor_at (t ++ o) m b in
     let f = not (is_block x) in
-    let c = core_at false s x (saved a n m k) ls false ad in
+    let c = core_at around false s x (saved a n m k) ls false ad in
     let token = λ (z : List ℕ × Marker × Option Marker × Cursor). went (from_to m z.1 (tokens.Scalar Plain z.0) ∷ []) (behind_plain z.2 z.3 c) in
-    let refused : (f && nat_lt m.col 0) ≡ false = ap (λ (q : Bool). f && q) (no_less m.col) ∙ and_false f in
-    let got = reads.plain f 0 s t o refl h ∙ ap (λ (end : Marker). found f o end (normalized t)) (passed_moved m t clear.no_return) ∙ ap (found f o (moved m t)) (normalized_same t clear.no_return) in
-    ap (λ (d : Core). read_plain (record (disallow_key d) { deeper = false })) (saves_key n s x k ls a ad) ∙ rw refused (ap (λ q. q >>= token) got)
+    let refused : (f && nat_lt m.col around.indent) ≡ false = ap (λ (q : Bool). f && q) (not_left around.indent m.col true right) ∙ and_false f in
+    let got = reads.plain f around.indent s t o refl h ∙ ap (λ (end : Marker). found f o end (normalized t)) (passed_moved m t clear.no_return) ∙ ap (found f o (moved m t)) (normalized_same t clear.no_return) in
+    ap (λ (q : Core). read_plain (record (disallow_key q) { deeper = false })) (saves_key n around d s x k ls a ad right) ∙ rw refused (ap (λ q. q >>= token) got)
 
 -- ## The step
 
 -- The premises of a step over a plain scalar: outside flow, or where no colon may stand at once.
-plain_step : Reads → (n : ℕ) (m : Marker) (b : Bool) (t o : List ℕ) (x : Context) → IsPlain (not (is_block x)) 0 t → IsClear m t o → EndsPlain (not (is_block x)) 0 (moved m t) o
-    → (k : Option Candidate) (ls : List Level) (a : Bool) (ad : ℕ) → (is_block x ≡ true) ⊎ (ad < m.index)
-    → let u = past_white (moved m t) false o in step (slice_index (t ++ o) 0) (slice_index (t ++ o) 1) n (core_at false (cursor_at (t ++ o) m b) x k ls a ad)
-    ≡ went (from_to m (moved m t) (plain_token t) ∷ []) (record (core_at false u x (saved a n m k) ls u.blank_so_far ad) { comment = comment_of (not (is_block x)) false u })
-plain_step reads n m b t o x h clear ends k ls a ad low =
+plain_step : Reads → (around : Around) (d : Bool) (n : ℕ) (m : Marker) (b : Bool) (t o : List ℕ) (x : Context) → IsPlain (not (is_block x)) around.indent t → IsClear m t o → EndsPlain (not (is_block x)) around.indent (moved m t) o
+    → (k : Option Candidate) (ls : List Level) (a : Bool) (ad : ℕ) → (is_block x ≡ true) ⊎ (ad < m.index) → around.indent ≤ m.col
+    → let u = past_white (moved m t) false o in step (slice_index (t ++ o) 0) (slice_index (t ++ o) 1) n (core_at around d (cursor_at (t ++ o) m b) x k ls a ad)
+    ≡ went (from_to m (moved m t) (plain_token t) ∷ []) (record (core_at around false u x (saved a n m k) ls u.blank_so_far ad) { comment = comment_of (not (is_block x)) false u })
+plain_step reads around d n m b t o x h clear ends k ls a ad low right =
     let f = not (is_block x) in
-    let w = word_begins f t h in
-    let c = core_at false (cursor_at (t ++ o) m b) x k ls a ad in
+    let w = word_begins f around.indent t h in
+    let c = core_at around d (cursor_at (t ++ o) m b) x k ls a ad in
     let first = slice_index (t ++ o) 0 in
     let second = slice_index (t ++ o) 1 in
     let at_first : first ≡ w.first = ap (λ (y : List ℕ). slice_index (y ++ o) 0) w.is in
@@ -180,7 +181,7 @@ plain_step reads n m b t o x h clear ends k ls a ad low =
     plain_begins first second n c (subst (λ (i : ℕ). IsTrue (begins_plain i)) (sym at_first) w.begins)
     (lone_test f first 45 second (λ e. at_second (inl e))) (lone_test f first 63 second (λ e. at_second (inr (inl e)))) (lone_test f first 58 second (λ e. at_second (inr (inr e))))
     (value_test (is_block x) first second m.index ad (λ e. at_second (inr (inr e))) low)
-    ∙ plain_read reads n m b t o x (plain_text f m t o h clear ends) clear k ls a ad
+    ∙ plain_read reads around d n m b t o x (plain_text f around.indent m t o h clear ends) clear right k ls a ad
   where
     second_ink : (f : Bool) (t o : List ℕ) (w : BeginsWord f t) → (w.first ≡ 45) ⊎ ((w.first ≡ 63) ⊎ (w.first ≡ 58)) → IsTrue (is_word_ink f (slice_index (t ++ o) 1))
     second_ink f t o w e =
@@ -198,43 +199,46 @@ no_comment : (f : Bool) (u : Cursor) → f ≡ true → comment_of f false u ≡
 unfolding comment_of
 no_comment f u e = rw e refl
 
-pub plain_passes : Reads → (limit : ℕ) (t o : List ℕ) (m : Marker) → IsPlain true 0 t → IsClear m t o → m.index + length (t ++ o) ≤ limit → EndsPlain true 0 (moved m t) o
-    → (s : Cursor) (x : Context) (k : Option Candidate) (ls : List Level) (a : Bool) (ad : ℕ) (ps : List Place) → is_block x ≡ false → ad < m.index → past s.mark s.rest ≡ past m (t ++ o)
-    → Passes limit (state_at false s x k ls a ad ps) (after_token (still_adjacent ad) x (saved a (length ps) m k)) x ls ps (moved m t) o (scalar_token Plain (plain_value t) ∷ [])
-plain_passes reads limit t o m h clear below ends s x k ls a ad ps flow low text =
+pub plain_passes : Reads → (around : Around) (t o : List ℕ) (m : Marker) → IsPlain true around.indent t → Fits around m t o → EndsPlain true around.indent (moved m t) o → is_blank (slice_index (past around.indent (moved m t) o).1 0) ≡ false
+    → (s : Cursor) (x : Context) (k : Option Candidate) (ls : List Level) (a : Bool) (ad : ℕ) (ps : List Place) → is_block x ≡ false → ad < m.index → past around.indent s.mark s.rest ≡ past around.indent m (t ++ o)
+    → Passes around (state_at around s x k ls a ad ps) (after_token (still_adjacent ad) x (saved a (length ps) m k)) x ls ps (moved m t) o (scalar_token Plain (plain_value t) ∷ [])
+plain_passes reads around t o m h fits ends inked s x k ls a ad ps flow low text =
     let inside : not (is_block x) ≡ true = ap not flow in
     let u = past_white (moved m t) false o in
-    let plain : IsPlain (not (is_block x)) 0 t = subst (λ (f : Bool). IsPlain f 0 t) (sym inside) h in
-    let stops : EndsPlain (not (is_block x)) 0 (moved m t) o = subst (λ (f : Bool). EndsPlain f 0 (moved m t) o) (sym inside) ends in
-    token_passes limit (still_adjacent ad) (plain_token t) t o m (token_begins true t (word_begins true t h)) clear below s x k ls a ad ps text
+    let plain : IsPlain (not (is_block x)) around.indent t = subst (λ (f : Bool). IsPlain f around.indent t) (sym inside) h in
+    let stops : EndsPlain (not (is_block x)) around.indent (moved m t) o = subst (λ (f : Bool). EndsPlain f around.indent (moved m t) o) (sym inside) ends in
+    token_passes around (still_adjacent ad) (plain_token t) t o m (token_begins true t (word_begins true around.indent t h)) fits (plain_right true around.indent m t o h fits.clear fits.right) s x k ls a ad ps text
     (λ b j e. record {
       there = u;
       end = moved m t;
       allowed = u.blank_so_far;
       adjacent = ad;
-      is = plain_step reads (length ps) m b t o x plain clear stops j ls e ad (inr low)
-          ∙ ap (λ (q : Option Marker). went (from_to m (moved m t) (plain_token t) ∷ []) (record (core_at false u x (saved e (length ps) m j) ls u.blank_so_far ad) { comment = q }))
+      to = λ d. false;
+      deepens = none_deeper around;
+      is = λ d. plain_step reads around d (length ps) m b t o x plain fits.clear stops j ls e ad (inr low) fits.right
+          ∙ ap (λ (q : Option Marker). went (from_to m (moved m t) (plain_token t) ∷ []) (record (core_at around false u x (saved e (length ps) m j) ls u.blank_so_far ad) { comment = q }))
           (no_comment (not (is_block x)) u inside);
-      fits = white_past (moved m t) false o;
+      fits = white_past around.indent (moved m t) false o inked;
       tells = refl;
     })
 
 -- ## A document's node
 
-pub plain_closes : Reads → (limit : ℕ) (t o : List ℕ) (m : Marker) → IsPlain false 0 t → IsClear m t o → m.index + length (t ++ o) ≤ limit → EndsPlain false 0 (moved m t) o
-    → (s : Cursor) (k : Option Candidate) (a : Bool) (ad : ℕ) (ps : List Place) → ad ≤ m.index → past s.mark s.rest ≡ past m (t ++ o)
-    → Closes limit (state_at false s context.Block k [] a ad ps) ps (moved m t) o (scalar_token Plain (plain_value t) ∷ [])
-plain_closes reads limit t o m h clear below ends s k a ad ps before text =
-    let f = token_begins false t (word_begins false t h) in
-    let v = arrives s context.Block k [] a ad ps m (t ++ o) (text ∙ begins_past m t o f) in
+pub plain_closes : Reads → (around : Around) (t o : List ℕ) (m : Marker) → IsPlain false around.indent t → Fits around m t o → EndsPlain false around.indent (moved m t) o → is_blank (slice_index (past around.indent (moved m t) o).1 0) ≡ false
+    → (s : Cursor) (k : Option Candidate) (a : Bool) (ad : ℕ) (ps : List Place) → ad ≤ m.index → past around.indent s.mark s.rest ≡ past around.indent m (t ++ o)
+    → Closes around (state_at around s context.Block k [] a ad ps) ps (moved m t) o (scalar_token Plain (plain_value t) ∷ [])
+plain_closes reads around t o m h fits ends inked s k a ad ps before text =
+    let f = token_begins false t (word_begins false around.indent t h) in
+    let v = arrives around s context.Block k [] a ad ps m (t ++ o) (text ∙ begins_past around.indent m t o f) (begins_inked t o f) fits.right in
     let u = past_white (moved m t) false o in
-    let fits = white_past (moved m t) false o in
+    let lands = white_past around.indent (moved m t) false o inked in
     let count = moved_count m t o in
-    let low = within_index limit u (moved m t) o fits (omega (arith, count, below)) in
+    let below = fits.below in
+    let low = within_index around.indent around.limit u (moved m t) o lands (omega (arith, count, below)) in
     let new = place_of m (moved m t) (plain_token t) ∷ [] in
-    let stepped = plain_step reads (length ps) m v.blank t o context.Block h clear ends v.key [] v.allowed ad (inl refl) in
-    let came = noted_one limit s k [] a ad ps m (t ++ o) v (begins_token m t o f clear) (comment_of false false u) u (saved v.allowed (length ps) m v.key) [] u.blank_so_far ad (ps ++ new)
-    (from_to m (moved m t) (plain_token t) ∷ []) stepped refl low in
+    let stepped = λ (d : Bool). plain_step reads around d (length ps) m v.blank t o context.Block h fits.clear ends v.key [] v.allowed ad (inl refl) fits.right in
+    let came = noted_one around s k [] a ad ps m (t ++ o) v (begins_token m t o f fits.clear) (comment_of false false u) u (saved v.allowed (length ps) m v.key) [] u.blank_so_far ad (ps ++ new)
+    (from_to m (moved m t) (plain_token t) ∷ []) (λ d. false) (none_deeper around) stepped refl low in
     record {
       there = u;
       key = came.key;
@@ -243,7 +247,7 @@ plain_closes reads limit t o m h clear below ends s k a ad ps before text =
       comment = comment_of false false u;
       new = new;
       leads = came.leads;
-      fits = fits;
+      fits = lands;
       are = refl;
-      low = behind_low ad m t o before;
+      low = behind_low around.indent ad m t o before;
     }

@@ -1,11 +1,11 @@
 -- The properties of a node in flow style are passed, and an alias is.
 use Rattle.std.proofs.Common.{◌≡◌, ℕ, zero, suc, ◌+◌, ◌≤◌, ◌<◌, Bool, true, false, List, [], ◌∷◌, ◌++◌, length, slice_index, refl, sym, ap, ◌∙◌, arith, subst, append_assoc, IsTrue, inl, inr}
 use Rattle.std.specs.Prelude.{not, option_map, Option, Some, None}
-use Rattle.saphyr_input.specs.Classes.{is_blank_or_breakz}
+use Rattle.saphyr_input.specs.Classes.{is_blank, is_blank_or_breakz}
 use Rattle.std.proofs.lemmas.Bool.{false≢true}
 use Rattle.saphyr_scalar.specs.declared.scalar.position.Marker.{Marker}
 use Rattle.saphyr_scalar.specs.Cursor.{Cursor}
-use Rattle.saphyr_scalar.specs.TagSpelling.{EndsTag}
+use Rattle.saphyr_scalar.specs.TagSpelling.{AreIn, EndsTag}
 use Rattle.saphyr_scalar.specs.Spaces.{AreSpaces}
 use Rattle.saphyr_scanner.specs.declared.engine.level.Context.{Context}
 use Rattle.saphyr_scanner.specs.declared.engine.level.Context.TheVariants as context
@@ -18,29 +18,19 @@ use Rattle.saphyr_scanner.specs.Forest.{Properties, Tag, Alias}
 use Rattle.saphyr_scanner.specs.TagSpelling.{IsTag}
 use Rattle.saphyr_scanner.specs.FlowNodes as layout
 use Rattle.saphyr_scanner.specs.FlowNodes.{IsAnchor, IsAlias, allows_adjacent}
-use Rattle.saphyr_scanner.proofs.JsonStates.{state_at}
+use Rattle.saphyr_scanner.proofs.InFlow.States.{Around, state_at}
 use Rattle.saphyr_scanner.proofs.JsonMarks.{saved}
-use Rattle.saphyr_scanner.proofs.FlowStates.{moved, past, IsClear, IsBehindNode, IsBehindRoot, Reads, Known, Passes, IsAfterNode, IsAfterProperties, after_properties, NodePasses, RootCloses, PropertiesPass}
-use Rattle.saphyr_scanner.proofs.FlowPlaces.{moved_append, moved_count, clear_front, clear_back}
+use Rattle.saphyr_scanner.proofs.FlowStates.{moved, past, IsBehindNode, IsBehindRoot, Reads, Known, Passes, Fits, IsAfterNode, IsAfterProperties, after_properties, NodePasses, RootCloses, PropertiesPass}
+use Rattle.saphyr_scanner.proofs.FlowPlaces.{moved_append}
 use Rattle.saphyr_scanner.proofs.FlowGaps.{less_behind}
-use Rattle.saphyr_scanner.proofs.FlowFillers.{are_spaces_past}
+use Rattle.saphyr_scanner.proofs.FlowFillers.{blanks_past, spaces_are_blank, are_spaces_past}
+use Rattle.saphyr_scanner.proofs.FlowPieces.{fits_front, fits_back}
 use Rattle.saphyr_scanner.proofs.FlowJoins.{join, root, knowing}
 use Rattle.saphyr_scanner.proofs.FlowInks.{node_ink}
 use Rattle.saphyr_scanner.proofs.FlowLow.{start_low, behind_low}
 use Rattle.saphyr_scanner.proofs.FlowTokens.{after_token}
 use Rattle.saphyr_scanner.proofs.FlowNames.{closes_key, anchor_passes, alias_token_passes, tag_passes}
 use Rattle.saphyr_scanner.proofs.FlowEnds.{tag_ends_name, white_ends_tag, node_ends_tag, root_first}
-
--- ## The parts of a piece
-
-pub front_below : (limit : ℕ) (m : Marker) (a b o : List ℕ) → m.index + length ((a ++ b) ++ o) ≤ limit → m.index + length (a ++ (b ++ o)) ≤ limit
-front_below limit m a b o h = subst (λ (t : List ℕ). m.index + length t ≤ limit) (append_assoc a b o) h
-
-pub back_below : (limit : ℕ) (m : Marker) (a b o : List ℕ) → m.index + length ((a ++ b) ++ o) ≤ limit → (moved m a).index + length (b ++ o) ≤ limit
-back_below limit m a b o h =
-    let front = front_below limit m a b o h in
-    let count = moved_count m a (b ++ o) in
-    omega (arith, front, count)
 
 -- ## What is known behind properties
 
@@ -55,23 +45,26 @@ behind_properties x kept ad key allowed adjacent new = IsBehindProperties x kept
 pub closed_saved : (a : Bool) (n : ℕ) (m : Marker) (k : Option Candidate) → a ≡ false → saved a n m k ≡ k
 closed_saved a n m k e = rw e refl
 
-one_property : {limit : ℕ} {start : State} {ls : List Level} {ps : List Place} {m : Marker} {o : List ℕ} {ts : List Kind} → (x : Context) (kept : Option Candidate) (ad : ℕ)
-    → Passes limit start (after_token (closes_key ad) x kept) x ls ps m o ts → Passes limit start (behind_properties x kept ad) x ls ps m o ts
+one_property : {around : Around} {start : Bool → State} {ls : List Level} {ps : List Place} {m : Marker} {o : List ℕ} {ts : List Kind} → (x : Context) (kept : Option Candidate) (ad : ℕ)
+    → Passes around start (after_token (closes_key ad) x kept) x ls ps m o ts → Passes around start (behind_properties x kept ad) x ls ps m o ts
 one_property x kept ad p =
     knowing p (behind_properties x kept ad)
     (record { properties = record { piece = p.knows.piece; others = []; is = p.knows.is; keeps = p.knows.keeps; closed = p.knows.tells.0 }; still = p.knows.tells.1 })
 
+spaces_right : (column : ℕ) (m : Marker) (w : List ℕ) → AreSpaces 1 w → column ≤ m.col → column ≤ (moved m w).col
+spaces_right column m w h low = (blanks_past column w (subst (AreIn is_blank) (sym h.2) (spaces_are_blank h.0)) m low).right
+
 -- two with spaces between
-two_properties : (limit : ℕ) (start : State) (x : Context) (kept : Option Candidate) (ls : List Level) (ps : List Place) (ad : ℕ) (m : Marker) (a w b o : List ℕ) (first second : Kind) → AreSpaces 1 w
-    → Passes limit start (after_token (closes_key ad) x kept) x ls ps (moved m a) ((w ++ b) ++ o) (first ∷ [])
-    → ((s : Cursor) (k : Option Candidate) (e : Bool) (be : ℕ) (qs : List Place) → past s.mark s.rest ≡ past (moved (moved m a) w) (b ++ o)
-    → Passes limit (state_at false s x k ls e be qs) (after_token (closes_key be) x (saved e (length qs) (moved (moved m a) w) k)) x ls qs (moved (moved (moved m a) w) b) o (second ∷ []))
-    → Passes limit start (behind_properties x kept ad) x ls ps (moved m (a ++ (w ++ b))) o (first ∷ second ∷ [])
-two_properties limit start x kept ls ps ad m a w b o first second h p passes =
-    let here : past p.there.mark p.there.rest ≡ past (moved (moved m a) w) (b ++ o) = p.fits ∙ ap (past (moved m a)) (append_assoc w b o) ∙ are_spaces_past 1 w h (moved m a) (b ++ o) in
-    let q = passes p.there p.key p.allowed p.adjacent (ps ++ p.new) here in
+two_properties : (around : Around) (start : Bool → State) (x : Context) (kept : Option Candidate) (ls : List Level) (ps : List Place) (ad : ℕ) (m : Marker) (a w b o : List ℕ) (first second : Kind) → AreSpaces 1 w
+    → Passes around start (after_token (closes_key ad) x kept) x ls ps (moved m a) ((w ++ b) ++ o) (first ∷ [])
+    → ((s : Cursor) (k : Option Candidate) (e : Bool) (be : ℕ) (qs : List Place) → past around.indent s.mark s.rest ≡ past around.indent (moved (moved m a) w) (b ++ o) → around.indent ≤ (moved (moved m a) w).col
+    → Passes around (state_at around s x k ls e be qs) (after_token (closes_key be) x (saved e (length qs) (moved (moved m a) w) k)) x ls qs (moved (moved (moved m a) w) b) o (second ∷ []))
+    → Passes around start (behind_properties x kept ad) x ls ps (moved m (a ++ (w ++ b))) o (first ∷ second ∷ [])
+two_properties around start x kept ls ps ad m a w b o first second h p passes =
+    let here : past around.indent p.there.mark p.there.rest ≡ past around.indent (moved (moved m a) w) (b ++ o) = p.fits ∙ ap (past around.indent (moved m a)) (append_assoc w b o) ∙ are_spaces_past around.indent 1 w h (moved m a) (b ++ o) in
+    let q = passes p.there p.key p.allowed p.adjacent (ps ++ p.new) here (spaces_right around.indent (moved m a) w h p.right) in
     let place : moved (moved (moved m a) w) b ≡ moved m (a ++ (w ++ b)) = sym (moved_append m a (w ++ b) ∙ moved_append (moved m a) w b) in
-    subst (λ (n : Marker). Passes limit start (behind_properties x kept ad) x ls ps n o (first ∷ second ∷ [])) place
+    subst (λ (n : Marker). Passes around start (behind_properties x kept ad) x ls ps n o (first ∷ second ∷ [])) place
     (join p q (behind_properties x kept ad)
     (record {
       properties = record {
@@ -94,103 +87,101 @@ spaces_end in_flow w b o h = subst (EndsTag in_flow) (sym (append_assoc w b o)) 
 -- ## Properties
 
 -- the tokens of an anchor and a tag, and the run over their text
-pub record PropertiesRead (limit : ℕ) (start : State) (anchor : Option (List ℕ)) (tag : Option Tag) (kept : Option Candidate) (x : Context) (ls : List Level) (ps : List Place) (ad : ℕ)
+pub record PropertiesRead (around : Around) (start : Bool → State) (anchor : Option (List ℕ)) (tag : Option Tag) (kept : Option Candidate) (x : Context) (ls : List Level) (ps : List Place) (ad : ℕ)
     (m : Marker) (o : List ℕ) : Type 0 where
   pub tokens : List Kind
   pub are : grammar.AreBoth (option_map anchor_token anchor) (option_map tag_token tag) tokens
-  pub passes : Passes limit start (behind_properties x kept ad) x ls ps m o tokens
+  pub passes : Passes around start (behind_properties x kept ad) x ls ps m o tokens
 
 -- what is shown of a piece with properties
-abbrev ReadsProperties : ℕ → Option (List ℕ) → Option Tag → Marker → List ℕ → List ℕ → Cursor → Context → Option Candidate → List Level → Bool → ℕ → List Place → Type 0
-ReadsProperties limit anchor tag m t o s x k ls a ad ps =
-    IsClear m t o → m.index + length (t ++ o) ≤ limit → past s.mark s.rest ≡ past m (t ++ o) → PropertiesRead limit (state_at false s x k ls a ad ps) anchor tag (saved a (length ps) m k) x ls ps
+abbrev ReadsProperties : Around → Option (List ℕ) → Option Tag → Marker → List ℕ → List ℕ → Cursor → Context → Option Candidate → List Level → Bool → ℕ → List Place → Type 0
+ReadsProperties around anchor tag m t o s x k ls a ad ps =
+    Fits around m t o → past around.indent s.mark s.rest ≡ past around.indent m (t ++ o) → PropertiesRead around (state_at around s x k ls a ad ps) anchor tag (saved a (length ps) m k) x ls ps
     ad (moved m t) o
 
-anchor_and_tag : Reads → (limit : ℕ) (name : List ℕ) (tag : Tag) (m : Marker) (a w b o : List ℕ) → IsAnchor name a → AreSpaces 1 w → IsTag tag b
+anchor_and_tag : Reads → (around : Around) (name : List ℕ) (tag : Tag) (m : Marker) (a w b o : List ℕ) → IsAnchor name a → AreSpaces 1 w → IsTag tag b
     → (s : Cursor) (x : Context) (k : Option Candidate) (ls : List Level) (e : Bool) (ad : ℕ) (ps : List Place) → EndsTag (not (is_block x)) o
-    → ReadsProperties limit (Some name) (Some tag) m (a ++ (w ++ b)) o s x k ls e ad ps
-anchor_and_tag reads limit name tag m a w b o h spaced g s x k ls e ad ps ends clear below text =
+    → ReadsProperties around (Some name) (Some tag) m (a ++ (w ++ b)) o s x k ls e ad ps
+anchor_and_tag reads around name tag m a w b o h spaced g s x k ls e ad ps ends fits text =
     let behind = (w ++ b) ++ o in
-    let last = clear_back m a (w ++ b) o clear in
-    let p = anchor_passes reads limit name a behind m h (tag_ends_name true behind (spaces_end true w b o spaced)) (clear_front m a (w ++ b) o clear) (front_below limit m a (w ++ b) o below)
-    s x k ls e ad ps (text ∙ ap (past m) (append_assoc a (w ++ b) o)) in
+    let p = anchor_passes reads around name a behind m h (tag_ends_name true behind (spaces_end true w b o spaced)) (fits_front m a (w ++ b) o fits)
+    s x k ls e ad ps (text ∙ ap (past around.indent m) (append_assoc a (w ++ b) o)) in
     record {
       tokens = anchor_token name ∷ tag_token tag ∷ [];
       are = inl refl;
-      passes = two_properties limit (state_at false s x k ls e ad ps) x (saved e (length ps) m k) ls ps ad m a w b o (anchor_token name) (tag_token tag) spaced p
-          (λ u j d be qs there. tag_passes reads limit tag b o (moved (moved m a) w) g (clear_back (moved m a) w b o last)
-          (back_below limit (moved m a) w b o (back_below limit m a (w ++ b) o below)) u x j ls d be qs ends there);
+      passes = two_properties around (state_at around s x k ls e ad ps) x (saved e (length ps) m k) ls ps ad m a w b o (anchor_token name) (tag_token tag) spaced p
+          (λ u j d be qs there right. tag_passes reads around tag b o (moved (moved m a) w) g (fits_back (moved m a) w b o right (fits_back m a (w ++ b) o p.right fits))
+          u x j ls d be qs ends there);
     }
 
-tag_and_anchor : Reads → (limit : ℕ) (name : List ℕ) (tag : Tag) (m : Marker) (a w b o : List ℕ) → IsTag tag a → AreSpaces 1 w → IsAnchor name b
+tag_and_anchor : Reads → (around : Around) (name : List ℕ) (tag : Tag) (m : Marker) (a w b o : List ℕ) → IsTag tag a → AreSpaces 1 w → IsAnchor name b
     → (s : Cursor) (x : Context) (k : Option Candidate) (ls : List Level) (e : Bool) (ad : ℕ) (ps : List Place) → EndsTag (not (is_block x)) o
-    → ReadsProperties limit (Some name) (Some tag) m (a ++ (w ++ b)) o s x k ls e ad ps
-tag_and_anchor reads limit name tag m a w b o g spaced h s x k ls e ad ps ends clear below text =
+    → ReadsProperties around (Some name) (Some tag) m (a ++ (w ++ b)) o s x k ls e ad ps
+tag_and_anchor reads around name tag m a w b o g spaced h s x k ls e ad ps ends fits text =
     let behind = (w ++ b) ++ o in
-    let last = clear_back m a (w ++ b) o clear in
-    let p = tag_passes reads limit tag a behind m g (clear_front m a (w ++ b) o clear) (front_below limit m a (w ++ b) o below) s x k ls e ad ps (spaces_end (not (is_block x)) w b o spaced)
-    (text ∙ ap (past m) (append_assoc a (w ++ b) o)) in
+    let p = tag_passes reads around tag a behind m g (fits_front m a (w ++ b) o fits) s x k ls e ad ps (spaces_end (not (is_block x)) w b o spaced)
+    (text ∙ ap (past around.indent m) (append_assoc a (w ++ b) o)) in
     record {
       tokens = tag_token tag ∷ anchor_token name ∷ [];
       are = inr refl;
-      passes = two_properties limit (state_at false s x k ls e ad ps) x (saved e (length ps) m k) ls ps ad m a w b o (tag_token tag) (anchor_token name) spaced p
-          (λ u j d be qs there. anchor_passes reads limit name b o (moved (moved m a) w) h (tag_ends_name (not (is_block x)) o ends) (clear_back (moved m a) w b o last)
-          (back_below limit (moved m a) w b o (back_below limit m a (w ++ b) o below)) u x j ls d be qs there);
+      passes = two_properties around (state_at around s x k ls e ad ps) x (saved e (length ps) m k) ls ps ad m a w b o (tag_token tag) (anchor_token name) spaced p
+          (λ u j d be qs there right. anchor_passes reads around name b o (moved (moved m a) w) h (tag_ends_name (not (is_block x)) o ends)
+          (fits_back (moved m a) w b o right (fits_back m a (w ++ b) o p.right fits)) u x j ls d be qs there);
     }
 
-pub properties_read : Reads → (limit : ℕ) (anchor : Option (List ℕ)) (tag : Option Tag) (m : Marker) (t o : List ℕ) → layout.AreProperties anchor tag t
-    → (s : Cursor) (x : Context) (k : Option Candidate) (ls : List Level) (a : Bool) (ad : ℕ) (ps : List Place) → EndsTag (not (is_block x)) o → ReadsProperties limit anchor tag m t o s x k ls a ad ps
-properties_read reads limit None None m t o h s x k ls a ad ps ends clear below text = absurd h
-properties_read reads limit (Some name) None m t o h s x k ls a ad ps ends clear below text =
-    let p = anchor_passes reads limit name t o m h (tag_ends_name (not (is_block x)) o ends) clear below s x k ls a ad ps text in
+pub properties_read : Reads → (around : Around) (anchor : Option (List ℕ)) (tag : Option Tag) (m : Marker) (t o : List ℕ) → layout.AreProperties anchor tag t
+    → (s : Cursor) (x : Context) (k : Option Candidate) (ls : List Level) (a : Bool) (ad : ℕ) (ps : List Place) → EndsTag (not (is_block x)) o → ReadsProperties around anchor tag m t o s x k ls a ad ps
+properties_read reads around None None m t o h s x k ls a ad ps ends fits text = absurd h
+properties_read reads around (Some name) None m t o h s x k ls a ad ps ends fits text =
+    let p = anchor_passes reads around name t o m h (tag_ends_name (not (is_block x)) o ends) fits s x k ls a ad ps text in
     record { tokens = anchor_token name ∷ []; are = refl; passes = one_property x (saved a (length ps) m k) ad p }
-properties_read reads limit None (Some tag) m t o h s x k ls a ad ps ends clear below text =
-    let p = tag_passes reads limit tag t o m h clear below s x k ls a ad ps ends text in
+properties_read reads around None (Some tag) m t o h s x k ls a ad ps ends fits text =
+    let p = tag_passes reads around tag t o m h fits s x k ls a ad ps ends text in
     record { tokens = tag_token tag ∷ []; are = refl; passes = one_property x (saved a (length ps) m k) ad p }
-properties_read reads limit (Some name) (Some tag) m t o (anchor, between, written, h, g, spaced, inl is) s x k ls a ad ps ends clear below text =
-    subst (λ (y : List ℕ). ReadsProperties limit (Some name) (Some tag) m y o s x k ls a ad ps) (sym is)
-    (anchor_and_tag reads limit name tag m anchor between written o h spaced g s x k ls a ad ps ends) clear below text
-properties_read reads limit (Some name) (Some tag) m t o (anchor, between, written, h, g, spaced, inr is) s x k ls a ad ps ends clear below text =
-    subst (λ (y : List ℕ). ReadsProperties limit (Some name) (Some tag) m y o s x k ls a ad ps) (sym is)
-    (tag_and_anchor reads limit name tag m written between anchor o g spaced h s x k ls a ad ps ends) clear below text
+properties_read reads around (Some name) (Some tag) m t o (anchor, between, written, h, g, spaced, inl is) s x k ls a ad ps ends fits text =
+    subst (λ (y : List ℕ). ReadsProperties around (Some name) (Some tag) m y o s x k ls a ad ps) (sym is)
+    (anchor_and_tag reads around name tag m anchor between written o h spaced g s x k ls a ad ps ends) fits text
+properties_read reads around (Some name) (Some tag) m t o (anchor, between, written, h, g, spaced, inr is) s x k ls a ad ps ends fits text =
+    subst (λ (y : List ℕ). ReadsProperties around (Some name) (Some tag) m y o s x k ls a ad ps) (sym is)
+    (tag_and_anchor reads around name tag m written between anchor o g spaced h s x k ls a ad ps ends) fits text
 
-pub properties_pass : Reads → (limit : ℕ) (p : Properties) (m : Marker) (t o : List ℕ) → layout.IsProperties p t → IsClear m t o → m.index + length (t ++ o) ≤ limit
-    → (s : Cursor) (x : Context) (k : Option Candidate) (ls : List Level) (a : Bool) (ad : ℕ) (ps : List Place) → EndsTag (not (is_block x)) o → past s.mark s.rest ≡ past m (t ++ o)
-    → PropertiesPass limit (state_at false s x k ls a ad ps) p (saved a (length ps) m k) x ls ps (moved m t) o
-properties_pass reads limit p m t o h clear below s x k ls a ad ps ends text =
-    let r = properties_read reads limit p.anchor p.tag m t o h s x k ls a ad ps ends clear below text in
+pub properties_pass : Reads → (around : Around) (p : Properties) (m : Marker) (t o : List ℕ) → layout.IsProperties p t → Fits around m t o
+    → (s : Cursor) (x : Context) (k : Option Candidate) (ls : List Level) (a : Bool) (ad : ℕ) (ps : List Place) → EndsTag (not (is_block x)) o → past around.indent s.mark s.rest ≡ past around.indent m (t ++ o)
+    → PropertiesPass around (state_at around s x k ls a ad ps) p (saved a (length ps) m k) x ls ps (moved m t) o
+properties_pass reads around p m t o h fits s x k ls a ad ps ends text =
+    let r = properties_read reads around p.anchor p.tag m t o h s x k ls a ad ps ends fits text in
     record { tokens = r.tokens; are = r.are; passes = knowing r.passes (after_properties x (saved a (length ps) m k)) r.passes.knows.properties }
 
 -- ## An alias
 
-pub alias_passes : Reads → (limit room : ℕ) (name : List ℕ) (m : Marker) (p o : List ℕ) → layout.IsFlowNode room (Alias name) true 0 p → IsClear m p o → m.index + length (p ++ o) ≤ limit
-    → IsBehindNode (Alias name) o
+pub alias_passes : Reads → (around : Around) (room : ℕ) (name : List ℕ) (m : Marker) (p o : List ℕ) → layout.IsFlowNode room (Alias name) true around.indent p → Fits around m p o
+    → IsBehindNode around.indent (Alias name) o
     → (s : Cursor) (x : Context) (k : Option Candidate) (ls : List Level) (a : Bool) (ad : ℕ) (ps : List Place) → ad < m.index → is_block x ≡ false → room + length ls ≤ 255
-    → past s.mark s.rest ≡ past m (p ++ o)
-    → NodePasses limit (state_at false s x k ls a ad ps) (Alias name) (saved a (length ps) m k) x ls ps (moved m p) o
-alias_passes reads limit room name m p o h clear below behind s x k ls a ad ps before flow small text =
-    let ends = tag_ends_name true o (node_ends_tag (Alias name) o refl behind) in
-    let q = alias_token_passes reads limit name p o m h ends clear below s x k ls a ad ps text in
+    → past around.indent s.mark s.rest ≡ past around.indent m (p ++ o)
+    → NodePasses around (state_at around s x k ls a ad ps) (Alias name) (saved a (length ps) m k) x ls ps (moved m p) o
+alias_passes reads around room name m p o h fits behind s x k ls a ad ps before flow small text =
+    let ends = tag_ends_name true o (node_ends_tag around.indent (Alias name) o refl behind) in
+    let q = alias_token_passes reads around name p o m h ends fits s x k ls a ad ps text in
     record {
       tokens = alias_token name ∷ [];
       are = refl;
-      passes = knowing q (λ key allowed adjacent new. IsAfterNode x (saved a (length ps) m k) (Alias name) (moved m p) o key adjacent new)
+      passes = knowing q (λ key allowed adjacent new. IsAfterNode around.indent x (saved a (length ps) m k) (Alias name) (moved m p) o key adjacent new)
           (record {
             piece = q.knows.piece;
             others = [];
             is = q.knows.is;
             keeps = q.knows.keeps;
             near = λ e separation more is parts allows. absurd (false≢true allows);
-            low = λ e. subst (λ (n : ℕ). n ≤ (past (moved m p) o).0.index) (sym q.knows.tells.1) (less_behind ad m p o before);
+            low = λ e. subst (λ (n : ℕ). n ≤ (past around.indent (moved m p) o).0.index) (sym q.knows.tells.1) (less_behind around.indent ad m p o before);
           });
     }
 
-pub alias_closes : Reads → (limit : ℕ) (name : List ℕ) (m : Marker) (p o : List ℕ) → layout.IsFlowNode 255 (Alias name) false 0 p → IsClear m p o → m.index + length (p ++ o) ≤ limit
-    → IsBehindRoot (moved m p) o
-    → (s : Cursor) (k : Option Candidate) (a : Bool) (ad : ℕ) (ps : List Place) → ad ≤ (past m (p ++ o)).0.index → past s.mark s.rest ≡ past m (p ++ o)
-    → RootCloses limit (state_at false s context.Block k [] a ad ps) (Alias name) ps (moved m p) o
-alias_closes reads limit name m p o h clear below behind s k a ad ps before text =
-    let first = start_low ad m p o (node_ink 255 (Alias name) false p h) before in
-    let ends = tag_ends_name true o (white_ends_tag true o (root_first (moved m p) o behind)) in
-    let q = alias_token_passes reads limit name p o m h ends clear below s context.Block k [] a ad ps text in
-    record { tokens = alias_token name ∷ []; are = refl; closes = root q (subst (λ (n : ℕ). n ≤ (past (moved m p) o).0.index) (sym q.knows.tells.1) (behind_low ad m p o first)) }
+pub alias_closes : Reads → (around : Around) (name : List ℕ) (m : Marker) (p o : List ℕ) → layout.IsFlowNode 255 (Alias name) false around.indent p → Fits around m p o
+    → IsBehindRoot around.indent (moved m p) o
+    → (s : Cursor) (k : Option Candidate) (a : Bool) (ad : ℕ) (ps : List Place) → ad ≤ (past around.indent m (p ++ o)).0.index → past around.indent s.mark s.rest ≡ past around.indent m (p ++ o)
+    → RootCloses around (state_at around s context.Block k [] a ad ps) (Alias name) ps (moved m p) o
+alias_closes reads around name m p o h fits behind s k a ad ps before text =
+    let first = start_low around.indent ad m p o (node_ink around.indent 255 (Alias name) false p h) before in
+    let ends = tag_ends_name true o (white_ends_tag true o (root_first around.indent (moved m p) o behind)) in
+    let q = alias_token_passes reads around name p o m h ends fits s context.Block k [] a ad ps text in
+    record { tokens = alias_token name ∷ []; are = refl; closes = root q (subst (λ (n : ℕ). n ≤ (past around.indent (moved m p) o).0.index) (sym q.knows.tells.1) (behind_low around.indent ad m p o first)) }

@@ -15,11 +15,16 @@ use Rattle.saphyr_scanner.specs.State.{State}
 use Rattle.saphyr_scanner.proofs.Leads.{Leads}
 use Rattle.saphyr_scanner.proofs.JsonStates.{state_at}
 use Rattle.saphyr_scanner.proofs.JsonMarks.{chain, kinds, kinds_append}
-use Rattle.saphyr_scanner.proofs.FlowStates.{moved, past, marks_line, IsClear, IsBehindRoot, noted, ClosesNodes}
+use Rattle.saphyr_scanner.proofs.InFlow.States.{alone}
+use Rattle.saphyr_scanner.proofs.InFlow.States as in_flow
+use Rattle.saphyr_scanner.proofs.FlowStates.{EndsDocument, moved, past, marks_line, IsClear, Fits, IsBehindRoot, noted, ClosesNodes}
 use Rattle.saphyr_scanner.proofs.FlowPlaces.{moved_count, clear_front, clear_back, both}
 use Rattle.saphyr_scanner.proofs.FlowFillers.{IsPast}
 use Rattle.saphyr_scanner.proofs.FlowLines.{eol, eol_past, gap_is_past}
-use Rattle.saphyr_scanner.proofs.FlowStands.{EndsDocument, AtLine, Stands}
+use Rattle.saphyr_scanner.proofs.FlowStands.{AtLine, Stands, Lined}
+use Rattle.saphyr_scanner.proofs.InBlock.States.{Follows}
+use Rattle.saphyr_scanner.proofs.InBlock.Follows.{goes_on}
+use Rattle.saphyr_scanner.proofs.InBlock.Lines.{moved_lined}
 
 -- ## No document marker begins a line
 
@@ -45,13 +50,13 @@ fed_marker c (d ∷ []) behind = feed_third c d behind ∙ sym (feed_third c d [
 fed_marker c (d ∷ e ∷ []) behind = refl
 fed_marker c (d ∷ e ∷ f ∷ more) behind = refl
 
-fed_marks : (at_start : Bool) (t behind : List ℕ) → marks_line at_start (t ++ (10 ∷ [])) behind ≡ has_marker at_start (t ++ (10 ∷ []))
+pub fed_marks : (at_start : Bool) (t behind : List ℕ) → marks_line at_start (t ++ (10 ∷ [])) behind ≡ has_marker at_start (t ++ (10 ∷ []))
 fed_marks at_start [] behind = refl
 fed_marks at_start (c ∷ cs) behind =
     ap (λ (b : Bool). (at_start && b) || marks_line (c == line_feed) (cs ++ (10 ∷ [])) behind) (fed_marker c cs behind)
     ∙ ap (λ (b : Bool). (at_start && is_document_indicator (c ∷ (cs ++ (10 ∷ [])))) || b) (fed_marks (c == line_feed) cs behind)
 
-last_marks : (at_start : Bool) (t : List ℕ) → marks_line at_start t [] ≡ has_marker at_start t
+pub last_marks : (at_start : Bool) (t : List ℕ) → marks_line at_start t [] ≡ has_marker at_start t
 last_marks at_start [] = refl
 last_marks at_start (c ∷ cs) =
     ap (λ (x : List ℕ). (at_start && is_document_indicator (c ∷ x)) || marks_line (c == line_feed) cs []) (append-nil cs)
@@ -67,11 +72,14 @@ whole_marks at_start front end behind (inr h) = subst (λ (x : List ℕ). marks_
 
 -- what stands behind a document lands where it ends
 abbrev pub Lands : Marker → List ℕ → Type 0
-Lands m o = EndsDocument (past m o).0 (past m o).1
+Lands m o = EndsDocument (past 0 m o).0 (past 0 m o).1
 
-no_gap_past : (w : List ℕ) → (w ≡ []) ⊎ IsGap 0 w → IsPast w
-no_gap_past w (inl e) = subst IsPast (sym e) (λ m y. refl)
-no_gap_past w (inr h) = gap_is_past w h
+no_gap_past : (w : List ℕ) → (w ≡ []) ⊎ IsGap 0 w → IsPast 0 w
+no_gap_past w (inl e) = subst (IsPast 0) (sym e) (λ m y. refl)
+no_gap_past w (inr h) = gap_is_past 0 0 w h
+
+none_left : (n : ℕ) → 0 ≤ n
+none_left n = omega arith
 
 within : (i l j k limit : ℕ) → i + l ≡ j + k → j + k ≤ limit → i + l ≤ limit
 within i l j k limit e h = omega (arith, e, h)
@@ -83,9 +91,9 @@ node_text gap text end others = simp append_assoc
 pub record NodeStands (limit : ℕ) (start : State) (node : Node) (others : List ℕ) (ts : List Kind) : Type 0 where
   pub tokens : List Kind
   pub are : grammar.IsNode node grammar.InBlock tokens
-  pub stands : Stands limit start false (AtLine others) others (ts ++ tokens)
+  pub stands : Stands limit start false (Lined false others) others (ts ++ tokens)
 
-pub reads_node : {limit : ℕ} {start : State} {P : Marker → Type 0} → ClosesNodes limit → (node : Node) (gap text end others : List ℕ) (ts : List Kind)
+pub reads_node : {limit : ℕ} {start : State} {P : Marker → Bool → Type 0} → ClosesNodes (alone limit) → (node : Node) (gap text end others : List ℕ) (ts : List Kind)
     → (gap ≡ []) ⊎ IsGap 0 gap → IsFlowNode 255 node false 0 text → IsEol end others → ((m : Marker) → AtLine others m → Lands m others)
     → (v : Stands limit start true P ((gap ++ (text ++ end)) ++ others) ts) → IsClear v.mark (gap ++ (text ++ end)) others
     → NodeStands limit start node others ts
@@ -95,17 +103,19 @@ reads_node {limit = limit} {start = start} closes node gap text end others ts ga
     let o = end ++ others in
     let whole = node_text gap text end others in
     let e = eol n end others end_is in
-    let lined = eol_past n o others e in
+    let lined = eol_past 0 n o others e in
     let low : m.index + length (text ++ o) ≤ limit =
     within m.index (length (text ++ o)) v.mark.index (length ((gap ++ (text ++ end)) ++ others)) limit (moved_count v.mark gap (text ++ o) ∙ ap (λ (x : List ℕ). v.mark.index + length x) (sym whole)) v.count in
-    let root : IsBehindRoot n o =
-    record { rest = e.rest; more = e.more; is = e.is; line = e.line; break = e.break; lands = subst (λ (x : Marker × List ℕ). EndsDocument x.0 x.1) (sym lined) (lands e.mark e.place) } in
-    let here : past v.mark ((gap ++ (text ++ end)) ++ others) ≡ past m (text ++ o) = ap (past v.mark) whole ∙ no_gap_past gap gap_is v.mark (text ++ o) in
-    let there : past v.there.mark v.there.rest ≡ past m (text ++ o) = v.fits ∙ here in
-    let r = closes node m text o text_is (clear_front m text end others (clear_back v.mark gap (text ++ end) others clear)) low root v.there v.key v.allowed v.adjacent v.places (subst (λ (q : Marker × List ℕ). v.adjacent ≤ q.0.index) here v.low) there in
+    let root : IsBehindRoot 0 n o =
+    record { rest = e.rest; more = e.more; is = e.is; line = e.line; break = e.break; lands = inl (subst (λ (x : Marker × List ℕ). EndsDocument x.0 x.1) (sym lined) (lands e.mark e.place)) } in
+    let here : past 0 v.mark ((gap ++ (text ++ end)) ++ others) ≡ past 0 m (text ++ o) = ap (past 0 v.mark) whole ∙ no_gap_past gap gap_is v.mark (text ++ o) in
+    let there : past 0 v.there.mark v.there.rest ≡ past 0 m (text ++ o) = v.fits ∙ here in
+    let fits : Fits (alone limit) m text o = record { clear = clear_front m text end others (clear_back v.mark gap (text ++ end) others clear); below = low; right = none_left m.col } in
+    let r = closes refl node m text o text_is fits root v.there v.key v.allowed v.adjacent v.places (subst (λ (q : Marker × List ℕ). v.adjacent ≤ q.0.index) here v.low) there in
     let c = r.closes in
-    let led : Leads limit (state_at false v.there context.Block v.key [] v.allowed v.adjacent v.places) start =
-    subst (λ (co : Option Marker). Leads limit (noted co (state_at false v.there context.Block v.key [] v.allowed v.adjacent v.places)) start) (v.quiet refl) v.leads in
+    let ran = c.leads.run false in
+    let led : Follows limit start (state_at false v.there context.Block v.key [] v.allowed v.adjacent v.places) =
+    subst (λ (co : Option Marker). Follows limit start (noted co (state_at false v.there context.Block v.key [] v.allowed v.adjacent v.places))) (v.quiet refl) v.follows in
     record {
       tokens = r.tokens;
       are = r.are;
@@ -117,12 +127,14 @@ reads_node {limit = limit} {start = start} closes node gap text end others ts ga
         comment = c.comment;
         places = v.places ++ c.new;
         mark = e.mark;
-        leads = chain led c.leads;
+        none = λ h. absurd (cc);
+        follows = goes_on led (subst (λ (d : Bool). Leads limit (noted c.comment (in_flow.state_at (alone limit) c.there context.Block c.key [] c.allowed c.adjacent (v.places ++ c.new) d)) (state_at false v.there context.Block v.key [] v.allowed v.adjacent v.places)) (ran.flat refl refl) ran.leads);
         fits = c.fits ∙ lined;
-        line = e.place;
+        line = (e.place, λ h. absurd (cc));
         count = within e.mark.index (length others) m.index (length (text ++ o)) limit (e.count ∙ moved_count m text o) low;
         are = kinds_append v.places c.new ∙ ap (λ (x : List Kind). x ++ kinds c.new) v.are ∙ ap (λ (x : List Kind). ts ++ x) c.are;
         quiet = λ h. absurd (cc);
         low = subst (λ (q : Marker × List ℕ). c.adjacent ≤ q.0.index) lined c.low;
+        lined = e.lined (moved_lined m text (moved_lined v.mark gap v.lined));
       };
     }

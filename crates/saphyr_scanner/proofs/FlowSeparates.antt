@@ -1,5 +1,5 @@
 -- Blanks and a comment behind a token of a text in flow style are passed, up to the end of the line.
-use Rattle.std.proofs.Common.{◌≡◌, ◌≢◌, ℕ, ◌+◌, ◌<◌, Bool, true, false, List, [], ◌∷◌, ◌++◌, length, drop, slice_index, Ok, refl, sym, ap, ◌∙◌, arith, subst, append_assoc, append-nil, IsTrue, ◌⊎◌, inl, inr, cond}
+use Rattle.std.proofs.Common.{◌≡◌, ◌≢◌, ℕ, ◌+◌, ◌<◌, ◌≤◌, Bool, true, false, List, [], ◌∷◌, ◌++◌, length, drop, slice_index, Ok, refl, sym, ap, ◌∙◌, arith, subst, append_assoc, append-nil, IsTrue, ◌⊎◌, inl, inr, cond}
 use Rattle.std.specs.Prelude.{◌==◌, not}
 use Rattle.std.specs.List.{prefix_len}
 use Rattle.std.proofs.Math.Seq.{drop-append_seam}
@@ -12,6 +12,7 @@ use Rattle.saphyr_input.specs.declared.input.SkipTabs.TheVariants.{Yes}
 use Rattle.saphyr_scalar.specs.declared.scalar.position.Marker.{Marker}
 use Rattle.saphyr_scalar.specs.Cursor.{Cursor, along, pass_blanks, separation, behind_separation}
 use Rattle.saphyr_scalar.specs.TagSpelling.{AreIn}
+use Rattle.saphyr_scalar.specs.BlockRead.{spaces}
 use Rattle.saphyr_scalar.specs.Spaces.{joined, AreEach, IsComment, IsCommentBehind, IsLineRest, IsSeparationLine, IsSeparation}
 use Rattle.saphyr_scalar.proofs.Runs.{run_len}
 use Rattle.saphyr_scanner.proofs.JsonGaps.{separated}
@@ -20,17 +21,17 @@ use Rattle.saphyr_scanner.proofs.FlowPlaces.{moved_along, in_back}
 use Rattle.saphyr_scanner.proofs.FlowFillers.{EndsLine, blanks_past, spaces_are_blank, front_past, behind_is}
 
 -- what ends blanks and a comment, or blanks alone
-record StopsLine (comment more : List ℕ) : Type 0 where
-  mark : is_bom (slice_index more 0) ≡ false
-  blank : comment ≡ [] → is_blank (slice_index more 0) ≡ false
-  sign : comment ≡ [] → (slice_index more 0 == 35) ≡ false
-  word : comment ≢ [] → is_yaml_non_break (slice_index more 0) ≡ false
+pub record StopsLine (comment more : List ℕ) : Type 0 where
+  pub mark : is_bom (slice_index more 0) ≡ false
+  pub blank : comment ≡ [] → is_blank (slice_index more 0) ≡ false
+  pub sign : comment ≡ [] → (slice_index more 0 == 35) ≡ false
+  pub word : comment ≢ [] → is_yaml_non_break (slice_index more 0) ≡ false
 
-line_stops : (comment more : List ℕ) → EndsLine more → StopsLine comment more
+pub line_stops : (comment more : List ℕ) → EndsLine more → StopsLine comment more
 line_stops comment more (inl e) = subst (StopsLine comment) (sym e) (record { mark = refl; blank = λ _. refl; sign = λ _. refl; word = λ _. refl })
 line_stops comment more (inr e) = record { mark = ap is_bom e; blank = λ _. ap is_blank e; sign = λ _. ap (λ (c : ℕ). c == 35) e; word = λ _. ap is_yaml_non_break e }
 
-ink_stops : (c : ℕ) (cs : List ℕ) → IsInk c → StopsLine [] (c ∷ cs)
+pub ink_stops : (c : ℕ) (cs : List ℕ) → IsInk c → StopsLine [] (c ∷ cs)
 ink_stops c cs h = record { mark = h.byte_order_mark; blank = λ _. h.blank; sign = λ _. h.comment; word = λ n. absurd (n refl) }
 
 comment_counts : (blanks comment more : List ℕ) → IsCommentBehind blanks comment → StopsLine comment more → comment_len (comment ++ more) ≡ length comment
@@ -51,7 +52,7 @@ starts_white (c ∷ cs) comment more are k h = no_sign c are.0
 starts_white [] comment more are (inl e) h = ap (λ (t : List ℕ). slice_index (t ++ more) 0 == 35) e ∙ h.sign e
 starts_white [] comment more are (inr k) h = absurd (k.0 refl)
 
-blank_stops : (blanks comment more : List ℕ) → IsCommentBehind blanks comment → StopsLine comment more → is_blank (slice_index (comment ++ more) 0) ≡ false
+pub blank_stops : (blanks comment more : List ℕ) → IsCommentBehind blanks comment → StopsLine comment more → is_blank (slice_index (comment ++ more) 0) ≡ false
 blank_stops blanks comment more (inl e) h = ap (λ (t : List ℕ). is_blank (slice_index (t ++ more) 0)) e ∙ h.blank e
 blank_stops blanks comment more (inr k) h = ap (λ (t : List ℕ). is_blank (slice_index (t ++ more) 0)) k.1.2
 
@@ -73,7 +74,7 @@ counts blanks comment more are k h =
     rw n (rw (drop-append_seam blanks (comment ++ more)) (rw (comment_counts blanks comment more k h) (none_or_some (length blanks) (length comment) (parted blanks comment k) ∙ sym (length-append blanks comment))))
 
 -- blanks and a comment, or none
-line_separated : (s : Cursor) (blanks comment more : List ℕ) → s.rest ≡ blanks ++ (comment ++ more) → AreIn is_blank blanks → IsCommentBehind blanks comment → StopsLine comment more
+pub line_separated : (s : Cursor) (blanks comment more : List ℕ) → s.rest ≡ blanks ++ (comment ++ more) → AreIn is_blank blanks → IsCommentBehind blanks comment → StopsLine comment more
     → separation Yes s ≡ Ok (found_blanks Yes s.rest, record { rest = more; mark = along s.mark (length (blanks ++ comment)); blank_so_far = s.blank_so_far })
 unfolding separation
 line_separated s blanks comment more is are k h =
@@ -109,29 +110,29 @@ comment_on_line comment (inr h) = subst (AreIn (λ c. not (c == line_feed))) (sy
 pub blanks_moved : (m : Marker) (w : List ℕ) → AreIn is_blank w → moved m w ≡ along m (length w)
 blanks_moved m w h = moved_along m w (within is_blank (λ c. not (c == line_feed)) blank_no_feed w h)
 
-front_moved : (m : Marker) (blanks comment : List ℕ) → AreIn is_blank blanks → (comment ≡ []) ⊎ IsComment comment → moved m (blanks ++ comment) ≡ along m (length (blanks ++ comment))
+pub front_moved : (m : Marker) (blanks comment : List ℕ) → AreIn is_blank blanks → (comment ≡ []) ⊎ IsComment comment → moved m (blanks ++ comment) ≡ along m (length (blanks ++ comment))
 front_moved m blanks comment h k =
     moved_along m (blanks ++ comment) (both_in (λ c. not (c == line_feed)) blanks comment (within is_blank (λ c. not (c == line_feed)) blank_no_feed blanks h) (comment_on_line comment k))
 
 -- ## What is passed before the character that begins a token
 
 -- behind a token, where y stands behind the separation w
-pub record Separates (s : Cursor) (w y : List ℕ) : Type 0 where
+pub record Separates (column : ℕ) (s : Cursor) (w y : List ℕ) : Type 0 where
   pub found : SkipTabs
   pub there : Cursor
   pub is : separation Yes s ≡ Ok (found, there)
-  pub lands : past there.mark there.rest ≡ past s.mark s.rest
+  pub lands : past column there.mark there.rest ≡ past column s.mark s.rest
   pub ends : (is_break (slice_index there.rest 0) ≡ true) ⊎ (there.rest ≡ y)
   pub near : AreIn is_blank w → (there.rest ≡ y) × (there.mark ≡ moved s.mark w)
 
-on_line : (s : Cursor) (blanks : List ℕ) (c : ℕ) (cs : List ℕ) → s.rest ≡ blanks ++ (c ∷ cs) → AreIn is_blank blanks → IsInk c → Separates s blanks (c ∷ cs)
-on_line s blanks c cs is are ink =
+on_line : (column : ℕ) (s : Cursor) (blanks : List ℕ) (c : ℕ) (cs : List ℕ) → s.rest ≡ blanks ++ (c ∷ cs) → AreIn is_blank blanks → column ≤ s.mark.col → IsInk c → Separates column s blanks (c ∷ cs)
+on_line column s blanks c cs is are low ink =
     let mark : along s.mark (length (blanks ++ [])) ≡ moved s.mark blanks = ap (λ (t : List ℕ). along s.mark (length t)) (append-nil blanks) ∙ sym (blanks_moved s.mark blanks are) in
     record {
       found = found_blanks Yes s.rest;
       there = record { rest = c ∷ cs; mark = along s.mark (length (blanks ++ [])); blank_so_far = s.blank_so_far };
       is = line_separated s blanks [] (c ∷ cs) is are (inl refl) (ink_stops c cs ink);
-      lands = ap (λ (m : Marker). past m (c ∷ cs)) mark ∙ sym (ap (past s.mark) is ∙ blanks_past blanks are s.mark (c ∷ cs));
+      lands = ap (λ (m : Marker). past column m (c ∷ cs)) mark ∙ sym (ap (past column s.mark) is ∙ (blanks_past column blanks are s.mark low).is (c ∷ cs));
       ends = inr refl;
       near = λ _. (refl, mark);
     }
@@ -157,29 +158,29 @@ separates_rest s rest more is (front, comment, (n, low, spaces_are), k, e) ends 
 no_blank_feed : (a b : List ℕ) → AreIn is_blank (a ++ (10 ∷ b)) → ⊥
 no_blank_feed a b h = absurd (let k : false ≡ true = (in_back is_blank a (10 ∷ b) h).0 in cc)
 
-over_lines : (s : Cursor) (w blanks comment more : List ℕ) (c : ℕ) (cs : List ℕ) → s.rest ≡ blanks ++ (comment ++ (10 ∷ more)) → w ++ (c ∷ cs) ≡ blanks ++ (comment ++ (10 ∷ more)) → ¬ (AreIn is_blank w)
-    → AreIn is_blank blanks → IsCommentBehind blanks comment → Separates s w (c ∷ cs)
-over_lines s w blanks comment more c cs is text wide are k =
+over_lines : (column : ℕ) (s : Cursor) (w blanks comment more : List ℕ) (c : ℕ) (cs : List ℕ) → s.rest ≡ blanks ++ (comment ++ (10 ∷ more)) → w ++ (c ∷ cs) ≡ blanks ++ (comment ++ (10 ∷ more)) → ¬ (AreIn is_blank w)
+    → AreIn is_blank blanks → IsCommentBehind blanks comment → column ≤ s.mark.col → Separates column s w (c ∷ cs)
+over_lines column s w blanks comment more c cs is text wide are k low =
     let r = line_rest s blanks comment (10 ∷ more) is are k (inr refl) in
     record {
       found = r.0;
       there = record { rest = 10 ∷ more; mark = moved s.mark (blanks ++ comment); blank_so_far = s.blank_so_far };
       is = r.1;
-      lands = sym (ap (past s.mark) (is ∙ sym (append_assoc blanks comment (10 ∷ more))) ∙ front_past s.mark (blanks ++ comment) blanks comment (10 ∷ more) (blanks_past blanks are) (behind_is blanks comment k) refl (inr refl));
+      lands = sym (ap (past column s.mark) (is ∙ sym (append_assoc blanks comment (10 ∷ more))) ∙ front_past column s.mark (blanks ++ comment) blanks comment (10 ∷ more) (blanks_past column blanks are s.mark low).is (behind_is blanks comment k) refl (inr refl));
       ends = inl refl;
       near = λ h. absurd (wide h);
     }
 
-pub separates : (s : Cursor) (w : List ℕ) (c : ℕ) (cs : List ℕ) → s.rest ≡ w ++ (c ∷ cs) → IsSeparation 0 w → IsInk c → Separates s w (c ∷ cs)
-separates s w c cs is (lines, blanks, (pieces, each, lines_are), are, e) ink = by_lines pieces each lines_are
+pub separates : (column : ℕ) (s : Cursor) (w : List ℕ) (c : ℕ) (cs : List ℕ) → s.rest ≡ w ++ (c ∷ cs) → IsSeparation column w → column ≤ s.mark.col → IsInk c → Separates column s w (c ∷ cs)
+separates column s w c cs is (lines, blanks, (pieces, each, lines_are), are, e) low ink = by_lines pieces each lines_are
   where
-    by_lines : (pieces : List (List ℕ)) → AreEach (IsSeparationLine 0) pieces → lines ≡ joined pieces → Separates s w (c ∷ cs)
+    by_lines : (pieces : List (List ℕ)) → AreEach (IsSeparationLine column) pieces → lines ≡ joined pieces → Separates column s w (c ∷ cs)
     by_lines [] each lines_are =
         let same : w ≡ blanks = e ∙ ap (λ (t : List ℕ). t ++ blanks) lines_are in
-        subst (λ (v : List ℕ). Separates s v (c ∷ cs)) (sym same) (on_line s blanks c cs (is ∙ ap (λ (t : List ℕ). t ++ (c ∷ cs)) same) are ink)
+        subst (λ (v : List ℕ). Separates column s v (c ∷ cs)) (sym same) (on_line column s blanks c cs (is ∙ ap (λ (t : List ℕ). t ++ (c ∷ cs)) same) are low ink)
     by_lines (p ∷ ps) ((first, comment, filler, first_are, k, filler_is, line_is), others) lines_are =
-        let more = (filler ++ []) ++ (joined ps ++ (blanks ++ (c ∷ cs))) in
-        let inside : w ≡ first ++ (comment ++ (10 ∷ ((filler ++ []) ++ (joined ps ++ blanks)))) = e ∙ ap (λ (t : List ℕ). t ++ blanks) lines_are ∙ ap (λ (t : List ℕ). (t ++ joined ps) ++ blanks) line_is ∙ simp append_assoc in
+        let more = (filler ++ spaces column) ++ (joined ps ++ (blanks ++ (c ∷ cs))) in
+        let inside : w ≡ first ++ (comment ++ (10 ∷ ((filler ++ spaces column) ++ (joined ps ++ blanks)))) = e ∙ ap (λ (t : List ℕ). t ++ blanks) lines_are ∙ ap (λ (t : List ℕ). (t ++ joined ps) ++ blanks) line_is ∙ simp append_assoc in
         let text : w ++ (c ∷ cs) ≡ first ++ (comment ++ (10 ∷ more)) = ap (λ (t : List ℕ). t ++ (c ∷ cs)) inside ∙ simp append_assoc in
-        let both : w ≡ (first ++ comment) ++ (10 ∷ ((filler ++ []) ++ (joined ps ++ blanks))) = inside ∙ sym (append_assoc first comment _) in
-        over_lines s w first comment more c cs (is ∙ text) text (λ h. no_blank_feed (first ++ comment) _ (subst (AreIn is_blank) both h)) first_are k
+        let both : w ≡ (first ++ comment) ++ (10 ∷ ((filler ++ spaces column) ++ (joined ps ++ blanks))) = inside ∙ sym (append_assoc first comment _) in
+        over_lines column s w first comment more c cs (is ∙ text) text (λ h. no_blank_feed (first ++ comment) _ (subst (AreIn is_blank) both h)) first_are k low

@@ -1,15 +1,16 @@
 -- What stands behind a `?` in flow style is passed.
-use Rattle.std.proofs.Common.{◌≡◌, ◌≢◌, ℕ, Bool, true, false, List, [], ◌∷◌, ◌++◌, length, slice_index, refl, sym, ap, ◌∙◌, arith, subst, append_assoc, IsTrue, ◌⊎◌, inl, inr}
-use Rattle.std.specs.Prelude.{◌||◌, ◌&&◌, ◌==◌, not}
+use Rattle.std.proofs.Common.{◌≡◌, ◌≢◌, ℕ, ◌≤◌, Bool, true, false, List, [], ◌∷◌, ◌++◌, length, slice_index, refl, sym, ap, ◌∙◌, arith, subst, append_assoc, IsTrue, ◌⊎◌, inl, inr}
+use Rattle.std.specs.Prelude.{◌||◌, ◌&&◌, ◌==◌, not, nat_lt}
 use Rattle.std.proofs.lemmas.Bool.Decides.{nat_tests}
 use Rattle.std.proofs.lemmas.List.{length-append}
 use Rattle.saphyr_input.specs.Classes.{is_blank, is_break, is_yaml_non_break, tab}
 use Rattle.saphyr_scalar.specs.declared.scalar.position.Marker.{Marker}
 use Rattle.saphyr_scalar.specs.Cursor.{along, next_line}
+use Rattle.saphyr_scalar.specs.BlockRead.{spaces as spaces_of}
 use Rattle.saphyr_scalar.specs.TagSpelling.{AreIn}
 use Rattle.saphyr_scalar.specs.Spaces.{joined, AreEach, IsCommentBehind, IsSeparationLine, IsSeparation}
 use Rattle.saphyr_scanner.specs.Gap.{spaced, spaces, line_comment}
-use Rattle.saphyr_scanner.proofs.FlowStates.{moved, past, past_comment, IsInk}
+use Rattle.saphyr_scanner.proofs.FlowStates.{moved, is_left_tab, past, past_comment, IsInk}
 use Rattle.saphyr_scanner.proofs.FlowGaps.{past_ink, comment_shorter}
 use Rattle.saphyr_scanner.proofs.FlowFillers.{separation_past}
 
@@ -27,6 +28,13 @@ record Comment (m : Marker) (blank space : Bool) (w y : List ℕ) (n : Marker) :
   some : Bool
   is : line_comment m blank space (w ++ y) ≡ spaced n still_blank some y
   has : space ≡ true → some ≡ true
+
+no_tab : (column : ℕ) (m : Marker) (c : ℕ) → IsTrue (not (c == tab)) → is_left_tab column m c ≡ false
+no_tab column m c h = by_tab (c == tab) h
+  where
+    by_tab : (b : Bool) → IsTrue (not b) → (b && nat_lt m.col column) ≡ false
+    by_tab true k = absurd (cc)
+    by_tab false k = refl
 
 space_alone : (c : ℕ) → IsTrue (not (c == tab)) → is_blank c ≡ (c == 32)
 space_alone c h = grind (arith, nat_tests)
@@ -49,91 +57,91 @@ not_return c b h = ap (λ (p : Bool). p && b) (no_return c h)
     no_return : (c : ℕ) → is_break c ≡ false → (c == 13) ≡ false
     no_return c h = grind (arith, nat_tests)
 
-spaces_end : (c : ℕ) (cs : List ℕ) → IsInk c → (m : Marker) (blank space : Bool) (n : Marker) → past m (c ∷ cs) ≡ (n, c ∷ cs) → Spaces m blank space [] (c ∷ cs) n
-spaces_end c cs ink m blank space n e =
-    let same : m ≡ n = place_of m n (c ∷ cs) (c ∷ cs) (sym (past_ink m c cs ink) ∙ e) in
+spaces_end : (column : ℕ) (c : ℕ) (cs : List ℕ) → IsInk c → (m : Marker) (blank space : Bool) (n : Marker) → past column m (c ∷ cs) ≡ (n, c ∷ cs) → Spaces m blank space [] (c ∷ cs) n
+spaces_end column c cs ink m blank space n e =
+    let same : m ≡ n = place_of m n (c ∷ cs) (c ∷ cs) (sym (past_ink column m c cs ink) ∙ e) in
     let here : spaces m blank space (c ∷ cs) ≡ spaced m blank space (c ∷ cs) = rw (not_space c ink.blank, ink.break, ink.comment, not_return c (slice_index cs 0 == 10) ink.break) refl in
     record { still_blank = blank; some = space; is = here ∙ ap (λ (k : Marker). spaced k blank space (c ∷ cs)) same; has = λ h. h }
 
-spaces_kind : (d : ℕ) (ds y : List ℕ) (m : Marker) (blank space : Bool) (n : Marker) → IsTrue (not (d == tab)) → (is_white is_line is_sign : Bool)
-    → (is_blank d || ((d == 13) && (slice_index (ds ++ y) 0 == 10))) ≡ is_white → is_break d ≡ is_line → (d == 35) ≡ is_sign → past m (d ∷ (ds ++ y)) ≡ (n, y)
-    → (past (along m 1) (ds ++ y) ≡ (n, y) → Spaces (along m 1) blank true ds y n) → (past (next_line m 1) (ds ++ y) ≡ (n, y) → Spaces (next_line m 1) true true ds y n)
-    → (past_comment (along m 1) (ds ++ y) ≡ (n, y) → Comment (along m 1) blank space ds y n) → Spaces m blank space (d ∷ ds) y n
-spaces_kind d ds y m blank space n other true q r e f g p on line sign =
-    let there : past m (d ∷ (ds ++ y)) ≡ past (along m 1) (ds ++ y) = rw e refl in
+spaces_kind : (column : ℕ) (d : ℕ) (ds y : List ℕ) (m : Marker) (blank space : Bool) (n : Marker) → IsTrue (not (d == tab)) → (is_white is_line is_sign : Bool)
+    → (is_blank d || ((d == 13) && (slice_index (ds ++ y) 0 == 10))) ≡ is_white → is_break d ≡ is_line → (d == 35) ≡ is_sign → past column m (d ∷ (ds ++ y)) ≡ (n, y)
+    → (past column (along m 1) (ds ++ y) ≡ (n, y) → Spaces (along m 1) blank true ds y n) → (past column (next_line m 1) (ds ++ y) ≡ (n, y) → Spaces (next_line m 1) true true ds y n)
+    → (past_comment column (along m 1) (ds ++ y) ≡ (n, y) → Comment (along m 1) blank space ds y n) → Spaces m blank space (d ∷ ds) y n
+spaces_kind column d ds y m blank space n other true q r e f g p on line sign =
+    let there : past column m (d ∷ (ds ++ y)) ≡ past column (along m 1) (ds ++ y) = rw (no_tab column m d other, e) refl in
     let k = on (sym there ∙ p) in
     let white = ap (λ (b : Bool). b || ((d == 13) && (slice_index (ds ++ y) 0 == 10))) (sym (space_alone d other)) ∙ e in
     let here : spaces m blank space (d ∷ (ds ++ y)) ≡ spaces (along m 1) blank true (ds ++ y) = rw white refl in
     record { still_blank = k.still_blank; some = k.some; is = here ∙ k.is; has = λ _. k.has refl }
-spaces_kind d ds y m blank space n other false true r e f g p on line sign =
-    let there : past m (d ∷ (ds ++ y)) ≡ past (next_line m 1) (ds ++ y) = rw (e, f) refl in
+spaces_kind column d ds y m blank space n other false true r e f g p on line sign =
+    let there : past column m (d ∷ (ds ++ y)) ≡ past column (next_line m 1) (ds ++ y) = rw (no_tab column m d other, e, f) refl in
     let k = line (sym there ∙ p) in
     let white = ap (λ (b : Bool). b || ((d == 13) && (slice_index (ds ++ y) 0 == 10))) (sym (space_alone d other)) ∙ e in
     let here : spaces m blank space (d ∷ (ds ++ y)) ≡ spaces (next_line m 1) true true (ds ++ y) = rw (white, f) refl in
     record { still_blank = k.still_blank; some = k.some; is = here ∙ k.is; has = λ _. k.has refl }
-spaces_kind d ds y m blank space n other false false true e f g p on line sign =
-    let there : past m (d ∷ (ds ++ y)) ≡ past_comment (along m 1) (ds ++ y) = rw (e, f, g) refl in
+spaces_kind column d ds y m blank space n other false false true e f g p on line sign =
+    let there : past column m (d ∷ (ds ++ y)) ≡ past_comment column (along m 1) (ds ++ y) = rw (no_tab column m d other, e, f, g) refl in
     let k = sign (sym there ∙ p) in
     let white = ap (λ (b : Bool). b || ((d == 13) && (slice_index (ds ++ y) 0 == 10))) (sym (space_alone d other)) ∙ e in
     let here : spaces m blank space (d ∷ (ds ++ y)) ≡ line_comment (along m 1) blank space (ds ++ y) = rw (white, f, g) refl in
     record { still_blank = k.still_blank; some = k.some; is = here ∙ k.is; has = k.has }
-spaces_kind d ds y m blank space n other false false false e f g p on line sign =
-    let there : past m (d ∷ (ds ++ y)) ≡ (m, d ∷ (ds ++ y)) = rw (e, f, g) refl in
+spaces_kind column d ds y m blank space n other false false false e f g p on line sign =
+    let there : past column m (d ∷ (ds ++ y)) ≡ (m, d ∷ (ds ++ y)) = rw (no_tab column m d other, e, f, g) refl in
     absurd (stays m d ds y n (sym there ∙ p))
 
-comment_kind : (d : ℕ) (ds y : List ℕ) (m : Marker) (blank space : Bool) (n : Marker) → (is_word is_return is_line : Bool)
-    → is_yaml_non_break d ≡ is_word → ((d == 13) && (slice_index (ds ++ y) 0 == 10)) ≡ is_return → is_break d ≡ is_line → past_comment m (d ∷ (ds ++ y)) ≡ (n, y)
-    → (past_comment (along m 1) (ds ++ y) ≡ (n, y) → Comment (along m 1) blank space ds y n) → (past (along m 1) (ds ++ y) ≡ (n, y) → Spaces (along m 1) blank true ds y n)
-    → (past (next_line m 1) (ds ++ y) ≡ (n, y) → Spaces (next_line m 1) true true ds y n) → Comment m blank space (d ∷ ds) y n
-comment_kind d ds y m blank space n true q r e f g p word on line =
-    let there : past_comment m (d ∷ (ds ++ y)) ≡ past_comment (along m 1) (ds ++ y) = rw e refl in
+comment_kind : (column : ℕ) (d : ℕ) (ds y : List ℕ) (m : Marker) (blank space : Bool) (n : Marker) → (is_word is_return is_line : Bool)
+    → is_yaml_non_break d ≡ is_word → ((d == 13) && (slice_index (ds ++ y) 0 == 10)) ≡ is_return → is_break d ≡ is_line → past_comment column m (d ∷ (ds ++ y)) ≡ (n, y)
+    → (past_comment column (along m 1) (ds ++ y) ≡ (n, y) → Comment (along m 1) blank space ds y n) → (past column (along m 1) (ds ++ y) ≡ (n, y) → Spaces (along m 1) blank true ds y n)
+    → (past column (next_line m 1) (ds ++ y) ≡ (n, y) → Spaces (next_line m 1) true true ds y n) → Comment m blank space (d ∷ ds) y n
+comment_kind column d ds y m blank space n true q r e f g p word on line =
+    let there : past_comment column m (d ∷ (ds ++ y)) ≡ past_comment column (along m 1) (ds ++ y) = rw e refl in
     let k = word (sym there ∙ p) in
     let here : line_comment m blank space (d ∷ (ds ++ y)) ≡ line_comment (along m 1) blank space (ds ++ y) = rw e refl in
     record { still_blank = k.still_blank; some = k.some; is = here ∙ k.is; has = k.has }
-comment_kind d ds y m blank space n false true r e f g p word on line =
-    let there : past_comment m (d ∷ (ds ++ y)) ≡ past (along m 1) (ds ++ y) = rw (e, f) refl in
+comment_kind column d ds y m blank space n false true r e f g p word on line =
+    let there : past_comment column m (d ∷ (ds ++ y)) ≡ past column (along m 1) (ds ++ y) = rw (e, f) refl in
     let k = on (sym there ∙ p) in
     let here : line_comment m blank space (d ∷ (ds ++ y)) ≡ spaces (along m 1) blank true (ds ++ y) = rw (e, f) refl in
     record { still_blank = k.still_blank; some = k.some; is = here ∙ k.is; has = λ _. k.has refl }
-comment_kind d ds y m blank space n false false true e f g p word on line =
-    let there : past_comment m (d ∷ (ds ++ y)) ≡ past (next_line m 1) (ds ++ y) = rw (e, f, g) refl in
+comment_kind column d ds y m blank space n false false true e f g p word on line =
+    let there : past_comment column m (d ∷ (ds ++ y)) ≡ past column (next_line m 1) (ds ++ y) = rw (e, f, g) refl in
     let k = line (sym there ∙ p) in
     let here : line_comment m blank space (d ∷ (ds ++ y)) ≡ spaces (next_line m 1) true true (ds ++ y) = rw (e, f, g) refl in
     record { still_blank = k.still_blank; some = k.some; is = here ∙ k.is; has = λ _. k.has refl }
-comment_kind d ds y m blank space n false false false e f g p word on line =
-    let there : past_comment m (d ∷ (ds ++ y)) ≡ (m, d ∷ (ds ++ y)) = rw (e, f, g) refl in
+comment_kind column d ds y m blank space n false false false e f g p word on line =
+    let there : past_comment column m (d ∷ (ds ++ y)) ≡ (m, d ∷ (ds ++ y)) = rw (e, f, g) refl in
     absurd (stays m d ds y n (sym there ∙ p))
 
-comment_back : (k : Marker) (t : List ℕ) (n : Marker) (c : ℕ) → past_comment k t ≡ (n, c ∷ t) → ⊥
-comment_back k t n c e = let l = ap (λ (q : Marker × List ℕ). length q.1) e in let h = comment_shorter k t in absurd (omega (arith, l, h))
+comment_back : (column : ℕ) (k : Marker) (t : List ℕ) (n : Marker) (c : ℕ) → past_comment column k t ≡ (n, c ∷ t) → ⊥
+comment_back column k t n c e = let l = ap (λ (q : Marker × List ℕ). length q.1) e in let h = comment_shorter column k t in absurd (omega (arith, l, h))
 
 -- no comment goes on at the end
-comment_end : (c : ℕ) (cs : List ℕ) → IsInk c → (m : Marker) (blank space : Bool) (n : Marker) → past_comment m (c ∷ cs) ≡ (n, c ∷ cs) → Comment m blank space [] (c ∷ cs) n
-comment_end c cs ink m blank space n p = by_word (is_yaml_non_break c) refl
+comment_end : (column : ℕ) (c : ℕ) (cs : List ℕ) → IsInk c → (m : Marker) (blank space : Bool) (n : Marker) → past_comment column m (c ∷ cs) ≡ (n, c ∷ cs) → Comment m blank space [] (c ∷ cs) n
+comment_end column c cs ink m blank space n p = by_word (is_yaml_non_break c) refl
   where
     by_word : (b : Bool) → is_yaml_non_break c ≡ b → Comment m blank space [] (c ∷ cs) n
     by_word true e =
-        let there : past_comment m (c ∷ cs) ≡ past_comment (along m 1) cs = rw e refl in
-        absurd (comment_back (along m 1) cs n c (sym there ∙ p))
+        let there : past_comment column m (c ∷ cs) ≡ past_comment column (along m 1) cs = rw e refl in
+        absurd (comment_back column (along m 1) cs n c (sym there ∙ p))
     by_word false e =
         let r = not_return c (slice_index cs 0 == 10) ink.break in
-        let there : past_comment m (c ∷ cs) ≡ (m, c ∷ cs) = rw (e, ink.break, r) refl in
+        let there : past_comment column m (c ∷ cs) ≡ (m, c ∷ cs) = rw (e, ink.break, r) refl in
         let same : m ≡ n = place_of m n (c ∷ cs) (c ∷ cs) (sym there ∙ p) in
         let here : line_comment m blank space (c ∷ cs) ≡ spaced m blank space (c ∷ cs) = rw (e, ink.break, r) refl in
         record { still_blank = blank; some = space; is = here ∙ ap (λ (k : Marker). spaced k blank space (c ∷ cs)) same; has = λ h. h }
 
 mutual
-  spaces_go : (w : List ℕ) (c : ℕ) (cs : List ℕ) → IsInk c → (m : Marker) (blank space : Bool) (n : Marker) → AreIn (λ x. not (x == tab)) w → past m (w ++ (c ∷ cs)) ≡ (n, c ∷ cs) → Spaces m blank space w (c ∷ cs) n
-  spaces_go [] c cs ink m blank space n tabs p = spaces_end c cs ink m blank space n p
-  spaces_go (d ∷ ds) c cs ink m blank space n tabs p =
-      spaces_kind d ds (c ∷ cs) m blank space n tabs.0 (is_blank d || ((d == 13) && (slice_index (ds ++ (c ∷ cs)) 0 == 10))) (is_break d) (d == 35) refl refl refl p
-      (λ e. spaces_go ds c cs ink (along m 1) blank true n tabs.1 e) (λ e. spaces_go ds c cs ink (next_line m 1) true true n tabs.1 e) (λ e. comment_go ds c cs ink (along m 1) blank space n tabs.1 e)
+  spaces_go : (column : ℕ) (w : List ℕ) (c : ℕ) (cs : List ℕ) → IsInk c → (m : Marker) (blank space : Bool) (n : Marker) → AreIn (λ x. not (x == tab)) w → past column m (w ++ (c ∷ cs)) ≡ (n, c ∷ cs) → Spaces m blank space w (c ∷ cs) n
+  spaces_go column [] c cs ink m blank space n tabs p = spaces_end column c cs ink m blank space n p
+  spaces_go column (d ∷ ds) c cs ink m blank space n tabs p =
+      spaces_kind column d ds (c ∷ cs) m blank space n tabs.0 (is_blank d || ((d == 13) && (slice_index (ds ++ (c ∷ cs)) 0 == 10))) (is_break d) (d == 35) refl refl refl p
+      (λ e. spaces_go column ds c cs ink (along m 1) blank true n tabs.1 e) (λ e. spaces_go column ds c cs ink (next_line m 1) true true n tabs.1 e) (λ e. comment_go column ds c cs ink (along m 1) blank space n tabs.1 e)
 
-  comment_go : (w : List ℕ) (c : ℕ) (cs : List ℕ) → IsInk c → (m : Marker) (blank space : Bool) (n : Marker) → AreIn (λ x. not (x == tab)) w → past_comment m (w ++ (c ∷ cs)) ≡ (n, c ∷ cs) → Comment m blank space w (c ∷ cs) n
-  comment_go [] c cs ink m blank space n tabs p = comment_end c cs ink m blank space n p
-  comment_go (d ∷ ds) c cs ink m blank space n tabs p =
-      comment_kind d ds (c ∷ cs) m blank space n (is_yaml_non_break d) ((d == 13) && (slice_index (ds ++ (c ∷ cs)) 0 == 10)) (is_break d) refl refl refl p
-      (λ e. comment_go ds c cs ink (along m 1) blank space n tabs.1 e) (λ e. spaces_go ds c cs ink (along m 1) blank true n tabs.1 e) (λ e. spaces_go ds c cs ink (next_line m 1) true true n tabs.1 e)
+  comment_go : (column : ℕ) (w : List ℕ) (c : ℕ) (cs : List ℕ) → IsInk c → (m : Marker) (blank space : Bool) (n : Marker) → AreIn (λ x. not (x == tab)) w → past_comment column m (w ++ (c ∷ cs)) ≡ (n, c ∷ cs) → Comment m blank space w (c ∷ cs) n
+  comment_go column [] c cs ink m blank space n tabs p = comment_end column c cs ink m blank space n p
+  comment_go column (d ∷ ds) c cs ink m blank space n tabs p =
+      comment_kind column d ds (c ∷ cs) m blank space n (is_yaml_non_break d) ((d == 13) && (slice_index (ds ++ (c ∷ cs)) 0 == 10)) (is_break d) refl refl refl p
+      (λ e. comment_go column ds c cs ink (along m 1) blank space n tabs.1 e) (λ e. spaces_go column ds c cs ink (along m 1) blank true n tabs.1 e) (λ e. spaces_go column ds c cs ink (next_line m 1) true true n tabs.1 e)
 
 -- ## Separation that is not empty
 
@@ -144,8 +152,8 @@ pub record BeginsWhite (w : List ℕ) : Type 0 where
   pub is : w ≡ first ∷ others
   pub white : (is_blank first ≡ true) ⊎ (first ≡ 10)
 
-pub separation_begins : (w : List ℕ) → IsSeparation 0 w → w ≢ [] → BeginsWhite w
-separation_begins w (lines, blanks, (pieces, each, lines_are), are, e) some = by_lines pieces each lines_are
+pub separation_begins : (column : ℕ) (w : List ℕ) → IsSeparation column w → w ≢ [] → BeginsWhite w
+separation_begins column w (lines, blanks, (pieces, each, lines_are), are, e) some = by_lines pieces each lines_are
   where
     of_blanks : (t : List ℕ) → AreIn is_blank t → w ≡ t → BeginsWhite w
     of_blanks [] k same = absurd (some same)
@@ -156,11 +164,11 @@ separation_begins w (lines, blanks, (pieces, each, lines_are), are, e) some = by
     of_line [] comment more k (inr behind) same = absurd (behind.0 refl)
     of_line (c ∷ cs) comment more k behind same = record { first = c; others = cs ++ (comment ++ (10 ∷ more)); is = same; white = inl k.0 }
 
-    by_lines : (pieces : List (List ℕ)) → AreEach (IsSeparationLine 0) pieces → lines ≡ joined pieces → BeginsWhite w
+    by_lines : (pieces : List (List ℕ)) → AreEach (IsSeparationLine column) pieces → lines ≡ joined pieces → BeginsWhite w
     by_lines [] each lines_are = of_blanks blanks are (e ∙ ap (λ (t : List ℕ). t ++ blanks) lines_are)
     by_lines (p ∷ ps) ((front, comment, filler, front_are, k, filler_is, line_is), others) lines_are =
-        let inside : w ≡ front ++ (comment ++ (10 ∷ ((filler ++ []) ++ (joined ps ++ blanks)))) = e ∙ ap (λ (t : List ℕ). t ++ blanks) lines_are ∙ ap (λ (t : List ℕ). (t ++ joined ps) ++ blanks) line_is ∙ simp append_assoc in
-        of_line front comment ((filler ++ []) ++ (joined ps ++ blanks)) front_are k inside
+        let inside : w ≡ front ++ (comment ++ (10 ∷ ((filler ++ spaces_of column) ++ (joined ps ++ blanks)))) = e ∙ ap (λ (t : List ℕ). t ++ blanks) lines_are ∙ ap (λ (t : List ℕ). (t ++ joined ps) ++ blanks) line_is ∙ simp append_assoc in
+        of_line front comment ((filler ++ spaces_of column) ++ (joined ps ++ blanks)) front_are k inside
 
 is_space : (c : ℕ) → is_blank c ≡ true → IsTrue (not (c == tab)) → c ≡ 32
 is_space c h k = grind (arith, nat_tests)
@@ -170,20 +178,20 @@ pub record Passed (m : Marker) (blank : Bool) (w y : List ℕ) : Type 0 where
   pub still_blank : Bool
   pub is : spaces m blank false (w ++ y) ≡ spaced (moved m w) still_blank true y
 
-pub spaces_passed : (m : Marker) (blank : Bool) (w : List ℕ) (c : ℕ) (cs : List ℕ) → IsSeparation 0 w → w ≢ [] → AreIn (λ x. not (x == tab)) w → IsInk c → Passed m blank w (c ∷ cs)
-spaces_passed m blank w c cs parts some tabs ink =
-    let b = separation_begins w parts some in
-    let there = separation_past m w (c ∷ cs) parts ∙ past_ink (moved m w) c cs ink in
+pub spaces_passed : (column : ℕ) (m : Marker) (blank : Bool) (w : List ℕ) (c : ℕ) (cs : List ℕ) → IsSeparation column w → column ≤ m.col → w ≢ [] → AreIn (λ x. not (x == tab)) w → IsInk c → Passed m blank w (c ∷ cs)
+spaces_passed column m blank w c cs parts low some tabs ink =
+    let b = separation_begins column w parts some in
+    let there = separation_past column m w (c ∷ cs) parts low ∙ past_ink column (moved m w) c cs ink in
     by_first b.first b.others b.is b.white there tabs
   where
-    onward : (d : ℕ) (ds : List ℕ) (k : Marker) (still : Bool) → w ≡ d ∷ ds → spaces m blank false (d ∷ (ds ++ (c ∷ cs))) ≡ spaces k still true (ds ++ (c ∷ cs)) → past m (d ∷ (ds ++ (c ∷ cs))) ≡ past k (ds ++ (c ∷ cs))
-        → past m (w ++ (c ∷ cs)) ≡ (moved m w, c ∷ cs) → AreIn (λ x. not (x == tab)) ds → Passed m blank w (c ∷ cs)
+    onward : (d : ℕ) (ds : List ℕ) (k : Marker) (still : Bool) → w ≡ d ∷ ds → spaces m blank false (d ∷ (ds ++ (c ∷ cs))) ≡ spaces k still true (ds ++ (c ∷ cs)) → past column m (d ∷ (ds ++ (c ∷ cs))) ≡ past column k (ds ++ (c ∷ cs))
+        → past column m (w ++ (c ∷ cs)) ≡ (moved m w, c ∷ cs) → AreIn (λ x. not (x == tab)) ds → Passed m blank w (c ∷ cs)
     onward d ds k still same step over p t =
-        let text = ap (λ (v : List ℕ). past m (v ++ (c ∷ cs))) same in
-        let g = spaces_go ds c cs ink k still true (moved m w) t (sym over ∙ sym text ∙ p) in
+        let text = ap (λ (v : List ℕ). past column m (v ++ (c ∷ cs))) same in
+        let g = spaces_go column ds c cs ink k still true (moved m w) t (sym over ∙ sym text ∙ p) in
         record { still_blank = g.still_blank; is = ap (λ (v : List ℕ). spaces m blank false (v ++ (c ∷ cs))) same ∙ step ∙ g.is ∙ ap (λ (q : Bool). spaced (moved m w) g.still_blank q (c ∷ cs)) (g.has refl) }
 
-    by_first : (d : ℕ) (ds : List ℕ) → w ≡ d ∷ ds → (is_blank d ≡ true) ⊎ (d ≡ 10) → past m (w ++ (c ∷ cs)) ≡ (moved m w, c ∷ cs) → AreIn (λ x. not (x == tab)) w → Passed m blank w (c ∷ cs)
+    by_first : (d : ℕ) (ds : List ℕ) → w ≡ d ∷ ds → (is_blank d ≡ true) ⊎ (d ≡ 10) → past column m (w ++ (c ∷ cs)) ≡ (moved m w, c ∷ cs) → AreIn (λ x. not (x == tab)) w → Passed m blank w (c ∷ cs)
     by_first d ds same (inl h) p t =
         let others = subst (AreIn (λ x. not (x == tab))) same t in
         let one : d ≡ 32 = is_space d h others.0 in

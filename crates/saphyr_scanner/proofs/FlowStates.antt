@@ -1,6 +1,6 @@
--- What is said of a piece of a text in flow style, and of the states before it and behind it. No block collection is open.
+-- What is said of a piece of a text in flow style, and of the states before it and behind it, whatever block collections are open.
 use Rattle.std.proofs.Common.{◌≡◌, ℕ, ◌+◌, ◌<◌, ◌≤◌, Bool, true, false, List, [], ◌∷◌, ◌++◌, length, slice_index, IsTrue, ◌⊎◌, Ok, encode_utf8_all}
-use Rattle.std.specs.Prelude.{◌||◌, ◌&&◌, ◌==◌, not, Option, None, if◌then◌else◌}
+use Rattle.std.specs.Prelude.{◌||◌, ◌&&◌, ◌==◌, not, nat_lt, Option, None, if◌then◌else◌}
 use Rattle.saphyr_input.specs.Breaks.{normalized}
 use Rattle.saphyr_input.specs.Classes.{is_blank, is_break, is_breakz, is_blank_or_breakz, is_yaml_non_break, is_anchor_char, is_bom, line_feed, carriage_return}
 use Rattle.saphyr_input.specs.Places.{is_document_indicator}
@@ -36,8 +36,7 @@ use Rattle.saphyr_scanner.specs.Core.{Candidate, Level, is_block}
 use Rattle.saphyr_scanner.specs.State.{State}
 use Rattle.saphyr_scanner.specs.Forest.{Properties, Node}
 use Rattle.saphyr_scanner.specs.FlowNodes.{IsBeforeColon, allows_adjacent, IsFlowNode}
-use Rattle.saphyr_scanner.proofs.Leads.{Leads}
-use Rattle.saphyr_scanner.proofs.JsonStates.{state_at}
+use Rattle.saphyr_scanner.proofs.InFlow.States.{Around, state_at, Runs}
 use Rattle.saphyr_scanner.proofs.JsonMarks.{kinds, saved}
 
 -- ## Places in a text
@@ -47,23 +46,29 @@ abbrev pub moved : Marker → List ℕ → Marker
 moved m [] = m
 moved m (c ∷ cs) = moved (if c == line_feed then next_line m 1 else along m 1) cs
 
--- The place and the text behind the blanks, breaks and comments at a place. Two places before the same token have the same.
+-- a tab left of a column
+abbrev pub is_left_tab : ℕ → Marker → ℕ → Bool
+is_left_tab column m c = (c == 9) && nat_lt m.col column
+
+-- The place and the text behind the blanks, breaks and comments at a place, up to a tab left of a column, which may not
+-- stand in indentation. Two places before the same token have the same.
 abbrev mutual
-  pub past : Marker → List ℕ → Marker × List ℕ
-  past m [] = (m, [])
-  past m (c ∷ cs) =
-      if is_blank c || ((c == 13) && (slice_index cs 0 == 10)) then past (along m 1) cs
-      else if is_break c then past (next_line m 1) cs
-      else if c == 35 then past_comment (along m 1) cs
+  pub past : ℕ → Marker → List ℕ → Marker × List ℕ
+  past column m [] = (m, [])
+  past column m (c ∷ cs) =
+      if is_left_tab column m c then (m, c ∷ cs)
+      else if is_blank c || ((c == 13) && (slice_index cs 0 == 10)) then past column (along m 1) cs
+      else if is_break c then past column (next_line m 1) cs
+      else if c == 35 then past_comment column (along m 1) cs
       else (m, c ∷ cs)
 
   -- behind the `#` of a comment
-  pub past_comment : Marker → List ℕ → Marker × List ℕ
-  past_comment m [] = (m, [])
-  past_comment m (c ∷ cs) =
-      if is_yaml_non_break c then past_comment (along m 1) cs
-      else if (c == 13) && (slice_index cs 0 == 10) then past (along m 1) cs
-      else if is_break c then past (next_line m 1) cs
+  pub past_comment : ℕ → Marker → List ℕ → Marker × List ℕ
+  past_comment column m [] = (m, [])
+  past_comment column m (c ∷ cs) =
+      if is_yaml_non_break c then past_comment column (along m 1) cs
+      else if (c == 13) && (slice_index cs 0 == 10) then past column (along m 1) cs
+      else if is_break c then past column (next_line m 1) cs
       else (m, c ∷ cs)
 
 -- whether a document marker begins a line of a text before `behind`, where the text stands at a line's start or elsewhere
@@ -86,12 +91,12 @@ pub record IsInk (c : ℕ) : Type 0 where
   pub byte_order_mark : is_bom c ≡ false
 
 -- separation, and a character behind it that begins a token
-pub record IsParted (o : List ℕ) : Type 0 where
+pub record IsParted (indent : ℕ) (o : List ℕ) : Type 0 where
   pub separation : List ℕ
   pub first : ℕ
   pub others : List ℕ
   pub is : o ≡ separation ++ (first ∷ others)
-  pub parts : IsSeparation 0 separation
+  pub parts : IsSeparation indent separation
   pub ink : IsInk first
 
 -- what may stand behind a colon that stands right behind no quote or bracket
@@ -104,23 +109,41 @@ EndsNode node separation c others =
     (c ≡ 44) ⊎ ((c ≡ 93) ⊎ ((c ≡ 125) ⊎ ((c ≡ 58) × IsBeforeColon node separation × (IsTrue (allows_adjacent node separation) ⊎ IsTrue (ends_colon (slice_index others 0))))))
 
 -- what stands behind a node inside flow
-pub record IsBehindNode (node : Node) (o : List ℕ) : Type 0 where
+pub record IsBehindNode (indent : ℕ) (node : Node) (o : List ℕ) : Type 0 where
   pub separation : List ℕ
   pub first : ℕ
   pub others : List ℕ
   pub is : o ≡ separation ++ (first ∷ others)
-  pub parts : IsSeparation 0 separation
+  pub parts : IsSeparation indent separation
   pub ends : EndsNode node separation first others
 
--- What stands behind a document's node, from its end m on: the rest of its line, and behind filler the text's end or a
--- document marker at a line's start.
-pub record IsBehindRoot (m : Marker) (o : List ℕ) : Type 0 where
+-- the text's end, or a document marker at a line's start
+abbrev pub EndsDocument : Marker → List ℕ → Type 0
+EndsDocument m y = (y ≡ []) ⊎ ((m.col ≡ 0) × IsTrue (is_document_indicator y))
+
+-- a token left of a column
+pub record IsLeft (column : ℕ) (m : Marker) (y : List ℕ) : Type 0 where
+  pub left : m.col < column
+  pub first : ℕ
+  pub others : List ℕ
+  pub is : y ≡ first ∷ others
+  pub ink : IsInk first
+
+-- What stands behind a node at block level, from its end m on: the rest of its line, and behind filler the text's end, a
+-- document marker at a line's start, or a token left of the node.
+pub record IsBehindRoot (indent : ℕ) (m : Marker) (o : List ℕ) : Type 0 where
   pub rest : List ℕ
   pub more : List ℕ
   pub is : o ≡ rest ++ more
   pub line : IsLineRest rest
   pub break : (more ≡ []) ⊎ (slice_index more 0 ≡ line_feed)
-  pub lands : ((past m o).1 ≡ []) ⊎ (((past m o).0.col ≡ 0) × IsTrue (is_document_indicator (past m o).1))
+  pub lands : EndsDocument (past indent m o).0 (past indent m o).1 ⊎ IsLeft indent (past indent m o).0 (past indent m o).1
+
+-- A piece that is clear, within the limit, and right of the block collection around it.
+pub record Fits (around : Around) (m : Marker) (p o : List ℕ) : Type 0 where
+  pub clear : IsClear m p o
+  pub below : m.index + length (p ++ o) ≤ around.limit
+  pub right : around.indent ≤ m.col
 
 -- ## What the readers of scalars, properties and directives promise
 
@@ -147,14 +170,15 @@ Known = Option Candidate → Bool → ℕ → List Place → Type 0
 
 -- From a state the scanner comes, behind a piece, to where the text o stands at m, or further within the separation at
 -- its front. The places of the piece hold these tokens.
-pub record Passes (limit : ℕ) (start : State) (known : Known) (x : Context) (ls : List Level) (ps : List Place) (m : Marker) (o : List ℕ) (ts : List Kind) : Type 0 where
+pub record Passes (around : Around) (start : Bool → State) (known : Known) (x : Context) (ls : List Level) (ps : List Place) (m : Marker) (o : List ℕ) (ts : List Kind) : Type 0 where
   pub there : Cursor
   pub key : Option Candidate
   pub allowed : Bool
   pub adjacent : ℕ
   pub new : List Place
-  pub leads : Leads limit (state_at false there x key ls allowed adjacent (ps ++ new)) start
-  pub fits : past there.mark there.rest ≡ past m o
+  pub leads : Runs around (state_at around there x key ls allowed adjacent (ps ++ new)) start
+  pub right : around.indent ≤ m.col
+  pub fits : past around.indent there.mark there.rest ≡ past around.indent m o
   pub are : kinds new ≡ ts
   pub knows : known key allowed adjacent new
 
@@ -163,17 +187,17 @@ abbrev pub noted : Option Marker → State → State
 noted comment s = record s { core = record s.core { comment = comment } }
 
 -- the same of a document's node
-pub record Closes (limit : ℕ) (start : State) (ps : List Place) (m : Marker) (o : List ℕ) (ts : List Kind) : Type 0 where
+pub record Closes (around : Around) (start : Bool → State) (ps : List Place) (m : Marker) (o : List ℕ) (ts : List Kind) : Type 0 where
   pub there : Cursor
   pub key : Option Candidate
   pub allowed : Bool
   pub adjacent : ℕ
   pub comment : Option Marker
   pub new : List Place
-  pub leads : Leads limit (noted comment (state_at false there context.Block key [] allowed adjacent (ps ++ new))) start
-  pub fits : past there.mark there.rest ≡ past m o
+  pub leads : Runs around (λ d. noted comment (state_at around there context.Block key [] allowed adjacent (ps ++ new) d)) start
+  pub fits : past around.indent there.mark there.rest ≡ past around.indent m o
   pub are : kinds new ≡ ts
-  pub low : adjacent ≤ (past m o).0.index
+  pub low : adjacent ≤ (past around.indent m o).0.index
 
 -- ## What is known behind a piece
 
@@ -189,21 +213,21 @@ abbrev pub no_key : Marker → Known
 no_key m key allowed adjacent new = (key ≡ None) × (allowed ≡ false) × (adjacent < m.index)
 
 -- before m and o, no colon may stand at once behind the next token
-abbrev pub ended : Marker → List ℕ → Known
-ended m o key allowed adjacent new = adjacent ≤ (past m o).0.index
+abbrev pub ended : ℕ → Marker → List ℕ → Known
+ended indent m o key allowed adjacent new = adjacent ≤ (past indent m o).0.index
 
 -- Behind a node that ends at m before o: its first token has nothing in front of it, inside flow the key is as told, and
 -- where a colon may stand at once, the place of that is kept.
-pub record IsAfterNode (x : Context) (kept : Option Candidate) (node : Node) (m : Marker) (o : List ℕ) (key : Option Candidate) (adjacent : ℕ) (new : List Place) : Type 0 where
+pub record IsAfterNode (indent : ℕ) (x : Context) (kept : Option Candidate) (node : Node) (m : Marker) (o : List ℕ) (key : Option Candidate) (adjacent : ℕ) (new : List Place) : Type 0 where
   pub piece : Piece
   pub others : List Place
   pub is : new ≡ closed piece ∷ others
   pub keeps : is_block x ≡ false → key ≡ kept
-  pub near : is_block x ≡ false → (separation more : List ℕ) → o ≡ separation ++ (58 ∷ more) → IsSeparation 0 separation → IsTrue (allows_adjacent node separation) → adjacent ≡ (moved m separation).index
-  pub low : is_block x ≡ false → adjacent ≤ (past m o).0.index
+  pub near : is_block x ≡ false → (separation more : List ℕ) → o ≡ separation ++ (58 ∷ more) → IsSeparation indent separation → IsTrue (allows_adjacent node separation) → adjacent ≡ (moved m separation).index
+  pub low : is_block x ≡ false → adjacent ≤ (past indent m o).0.index
 
-abbrev pub after_node : Context → Option Candidate → Node → Marker → List ℕ → Known
-after_node x kept node m o key allowed adjacent new = IsAfterNode x kept node m o key adjacent new
+abbrev pub after_node : ℕ → Context → Option Candidate → Node → Marker → List ℕ → Known
+after_node indent x kept node m o key allowed adjacent new = IsAfterNode indent x kept node m o key adjacent new
 
 -- behind properties, which keep the key that begins with them
 pub record IsAfterProperties (x : Context) (kept key : Option Candidate) (allowed : Bool) (new : List Place) : Type 0 where
@@ -219,40 +243,41 @@ after_properties x kept key allowed adjacent new = IsAfterProperties x kept key 
 -- ## What is shown of nodes
 
 -- The tokens of a node, and the run over its text.
-pub record NodePasses (limit : ℕ) (start : State) (node : Node) (kept : Option Candidate) (x : Context) (ls : List Level) (ps : List Place) (m : Marker) (o : List ℕ) : Type 0 where
+pub record NodePasses (around : Around) (start : Bool → State) (node : Node) (kept : Option Candidate) (x : Context) (ls : List Level) (ps : List Place) (m : Marker) (o : List ℕ) : Type 0 where
   pub tokens : List Kind
   pub are : grammar.IsNode node grammar.InFlow tokens
-  pub passes : Passes limit start (after_node x kept node m o) x ls ps m o tokens
+  pub passes : Passes around start (after_node around.indent x kept node m o) x ls ps m o tokens
 
-pub record RootCloses (limit : ℕ) (start : State) (node : Node) (ps : List Place) (m : Marker) (o : List ℕ) : Type 0 where
+pub record RootCloses (around : Around) (start : Bool → State) (node : Node) (ps : List Place) (m : Marker) (o : List ℕ) : Type 0 where
   pub tokens : List Kind
   pub are : grammar.IsNode node grammar.InBlock tokens
-  pub closes : Closes limit start ps m o tokens
+  pub closes : Closes around start ps m o tokens
 
 -- The tokens of properties, and the run over their text.
-pub record PropertiesPass (limit : ℕ) (start : State) (p : Properties) (kept : Option Candidate) (x : Context) (ls : List Level) (ps : List Place) (m : Marker) (o : List ℕ) : Type 0 where
+pub record PropertiesPass (around : Around) (start : Bool → State) (p : Properties) (kept : Option Candidate) (x : Context) (ls : List Level) (ps : List Place) (m : Marker) (o : List ℕ) : Type 0 where
   pub tokens : List Kind
   pub are : grammar.AreProperties p tokens
-  pub passes : Passes limit start (after_properties x kept) x ls ps m o tokens
+  pub passes : Passes around start (after_properties x kept) x ls ps m o tokens
 
 -- A node inside flow is passed, which may open so many flow collections.
-abbrev pub PassesNode : ℕ → ℕ → Node → Type 0
-PassesNode limit room node =
-    (m : Marker) (p o : List ℕ) → IsFlowNode room node true 0 p → IsClear m p o → m.index + length (p ++ o) ≤ limit → IsBehindNode node o
-    → (s : Cursor) (x : Context) (k : Option Candidate) (ls : List Level) (a : Bool) (ad : ℕ) (ps : List Place) → ad < m.index → is_block x ≡ false → room + length ls ≤ 255 → past s.mark s.rest ≡ past m (p ++ o)
-    → NodePasses limit (state_at false s x k ls a ad ps) node (saved a (length ps) m k) x ls ps (moved m p) o
+abbrev pub PassesNode : Around → ℕ → Node → Type 0
+PassesNode around room node =
+    (m : Marker) (p o : List ℕ) → IsFlowNode room node true around.indent p → Fits around m p o → IsBehindNode around.indent node o
+    → (s : Cursor) (x : Context) (k : Option Candidate) (ls : List Level) (a : Bool) (ad : ℕ) (ps : List Place) → ad < m.index → is_block x ≡ false → room + length ls ≤ 255
+    → past around.indent s.mark s.rest ≡ past around.indent m (p ++ o)
+    → NodePasses around (state_at around s x k ls a ad ps) node (saved a (length ps) m k) x ls ps (moved m p) o
 
 -- each is
-abbrev pub PassesNodes : ℕ → ℕ → Type 0
-PassesNodes limit room = (node : Node) → PassesNode limit room node
+abbrev pub PassesNodes : Around → ℕ → Type 0
+PassesNodes around room = (node : Node) → PassesNode around room node
 
--- A document's node is passed.
-abbrev pub ClosesNode : ℕ → Node → Type 0
-ClosesNode limit node =
-    (m : Marker) (p o : List ℕ) → IsFlowNode 255 node false 0 p → IsClear m p o → m.index + length (p ++ o) ≤ limit → IsBehindRoot (moved m p) o
-    → (s : Cursor) (k : Option Candidate) (a : Bool) (ad : ℕ) (ps : List Place) → ad ≤ (past m (p ++ o)).0.index → past s.mark s.rest ≡ past m (p ++ o)
-    → RootCloses limit (state_at false s context.Block k [] a ad ps) node ps (moved m p) o
+-- A node at block level is passed.
+abbrev pub ClosesNode : Around → Node → Type 0
+ClosesNode around node =
+    (m : Marker) (p o : List ℕ) → IsFlowNode 255 node false around.indent p → Fits around m p o → IsBehindRoot around.indent (moved m p) o
+    → (s : Cursor) (k : Option Candidate) (a : Bool) (ad : ℕ) (ps : List Place) → ad ≤ (past around.indent m (p ++ o)).0.index → past around.indent s.mark s.rest ≡ past around.indent m (p ++ o)
+    → RootCloses around (state_at around s context.Block k [] a ad ps) node ps (moved m p) o
 
--- each is
-abbrev pub ClosesNodes : ℕ → Type 0
-ClosesNodes limit = (node : Node) → ClosesNode limit node
+-- each is, where no key is required
+abbrev pub ClosesNodes : Around → Type 0
+ClosesNodes around = around.required ≡ false → (node : Node) → ClosesNode around node

@@ -1,7 +1,7 @@
 -- A token of a text in flow style is passed in one step.
 use Rattle.std.proofs.Common.{◌≡◌, ℕ, ◌+◌, ◌≤◌, Bool, false, List, [], ◌∷◌, ◌++◌, length, slice_index, refl, sym, ap, ◌∙◌, arith, subst}
 use Rattle.std.specs.Prelude.{◌==◌, Option}
-use Rattle.saphyr_input.specs.Classes.{is_z}
+use Rattle.saphyr_input.specs.Classes.{is_blank, is_z}
 use Rattle.saphyr_scalar.specs.declared.scalar.position.Marker.{Marker}
 use Rattle.saphyr_scalar.specs.Cursor.{Cursor}
 use Rattle.saphyr_scanner.specs.declared.engine.level.Context.{Context}
@@ -10,10 +10,11 @@ use Rattle.saphyr_scanner.specs.Seen.{Piece}
 use Rattle.saphyr_scanner.specs.Queue.{Place, closed}
 use Rattle.saphyr_scanner.specs.Core.{Candidate, Level, is_block, from_to, went}
 use Rattle.saphyr_scanner.specs.Fetch.{step}
-use Rattle.saphyr_scanner.proofs.JsonStates.{cursor_at, core_at, state_at}
+use Rattle.saphyr_scanner.proofs.InFlow.States.{Around, core_at, state_at, Deepens}
+use Rattle.saphyr_scanner.proofs.JsonStates.{cursor_at}
 use Rattle.saphyr_scanner.proofs.JsonMarks.{saved}
 use Rattle.saphyr_scanner.proofs.JsonBrackets.{place_of}
-use Rattle.saphyr_scanner.proofs.FlowStates.{moved, past, IsClear, IsInk, Known, Passes}
+use Rattle.saphyr_scanner.proofs.FlowStates.{moved, past, IsClear, IsInk, Known, Passes, Fits}
 use Rattle.saphyr_scanner.proofs.FlowPlaces.{moved_count, clear_here}
 use Rattle.saphyr_scanner.proofs.FlowGaps.{past_ink}
 use Rattle.saphyr_scanner.proofs.FlowArrivals.{BeginsToken, arrives, one, within_index}
@@ -27,10 +28,13 @@ pub record Begins (p : List ℕ) : Type 0 where
   pub nul : is_z first ≡ false
   pub directive : (first == 37) ≡ false
 
-pub begins_past : (m : Marker) (p o : List ℕ) → Begins p → past m (p ++ o) ≡ (m, p ++ o)
-begins_past m p o b =
+pub begins_past : (column : ℕ) (m : Marker) (p o : List ℕ) → Begins p → past column m (p ++ o) ≡ (m, p ++ o)
+begins_past column m p o b =
     let front : p ++ o ≡ b.first ∷ (b.others ++ o) = ap (λ (t : List ℕ). t ++ o) b.is in
-    ap (past m) front ∙ past_ink m b.first (b.others ++ o) b.ink ∙ ap (λ (t : List ℕ). (m, t)) (sym front)
+    ap (past column m) front ∙ past_ink column m b.first (b.others ++ o) b.ink ∙ ap (λ (t : List ℕ). (m, t)) (sym front)
+
+pub begins_inked : (p o : List ℕ) → Begins p → is_blank (slice_index (p ++ o) 0) ≡ false
+begins_inked p o b = ap (λ (t : List ℕ). is_blank (slice_index (t ++ o) 0)) b.is ∙ b.ink.blank
 
 pub begins_token : (m : Marker) (p o : List ℕ) → Begins p → IsClear m p o → BeginsToken m (p ++ o)
 begins_token m p o b clear =
@@ -41,14 +45,16 @@ begins_token m p o b clear =
 
 -- A step over a token that stands at m: y is what stands there, and behind the token o stands at n. `says` tells whether
 -- a key may begin behind it, and where a colon may stand at once.
-pub record Step (says : Bool → ℕ → Type 0) (kind : Kind) (y : List ℕ) (m n : Marker) (o : List ℕ) (x : Context) (ls : List Level) (ad place : ℕ) (b : Bool) (j : Option Candidate)
+pub record Step (around : Around) (says : Bool → ℕ → Type 0) (kind : Kind) (y : List ℕ) (m n : Marker) (o : List ℕ) (x : Context) (ls : List Level) (ad place : ℕ) (b : Bool) (j : Option Candidate)
     (e : Bool) : Type 0 where
   pub there : Cursor
   pub end : Marker
   pub allowed : Bool
   pub adjacent : ℕ
-  pub is : step (slice_index y 0) (slice_index y 1) place (core_at false (cursor_at y m b) x j ls e ad) ≡ went (from_to m end kind ∷ []) (core_at false there x (saved e place m j) ls allowed adjacent)
-  pub fits : past there.mark there.rest ≡ past n o
+  pub to : Bool → Bool
+  pub deepens : Deepens around to
+  pub is : (d : Bool) → step (slice_index y 0) (slice_index y 1) place (core_at around d (cursor_at y m b) x j ls e ad) ≡ went (from_to m end kind ∷ []) (core_at around (to d) there x (saved e place m j) ls allowed adjacent)
+  pub fits : past around.indent there.mark there.rest ≡ past around.indent n o
   pub tells : says allowed adjacent
 
 -- what is known behind a token
@@ -64,18 +70,19 @@ after_token says x kept key allowed adjacent new = IsAfterToken says x kept key 
 pub same_saved : (n : ℕ) (m : Marker) (a b : Bool) (k j : Option Candidate) → (j ≡ k) × (b ≡ a) → saved b n m j ≡ saved a n m k
 same_saved n m a b k j e = rw (e.0, e.1) refl
 
-pub token_passes : (limit : ℕ) (says : Bool → ℕ → Type 0) (kind : Kind) (p o : List ℕ) (m : Marker) → Begins p → IsClear m p o → m.index + length (p ++ o) ≤ limit
-    → (s : Cursor) (x : Context) (k : Option Candidate) (ls : List Level) (a : Bool) (ad : ℕ) (ps : List Place) → past s.mark s.rest ≡ past m (p ++ o)
-    → ((b : Bool) (j : Option Candidate) (e : Bool) → Step says kind (p ++ o) m (moved m p) o x ls ad (length ps) b j e)
-    → Passes limit (state_at false s x k ls a ad ps) (after_token says x (saved a (length ps) m k)) x ls ps (moved m p) o (kind ∷ [])
-token_passes limit says kind p o m f clear below s x k ls a ad ps text steps =
-    let v = arrives s x k ls a ad ps m (p ++ o) (text ∙ begins_past m p o f) in
+pub token_passes : (around : Around) (says : Bool → ℕ → Type 0) (kind : Kind) (p o : List ℕ) (m : Marker) → Begins p → Fits around m p o → around.indent ≤ (moved m p).col
+    → (s : Cursor) (x : Context) (k : Option Candidate) (ls : List Level) (a : Bool) (ad : ℕ) (ps : List Place) → past around.indent s.mark s.rest ≡ past around.indent m (p ++ o)
+    → ((b : Bool) (j : Option Candidate) (e : Bool) → Step around says kind (p ++ o) m (moved m p) o x ls ad (length ps) b j e)
+    → Passes around (state_at around s x k ls a ad ps) (after_token says x (saved a (length ps) m k)) x ls ps (moved m p) o (kind ∷ [])
+token_passes around says kind p o m f fits right s x k ls a ad ps text steps =
+    let v = arrives around s x k ls a ad ps m (p ++ o) (text ∙ begins_past around.indent m p o f) (begins_inked p o f) fits.right in
     let w = steps v.blank v.key v.allowed in
     let count = moved_count m p o in
-    let low = within_index limit w.there (moved m p) o w.fits (omega (arith, count, below)) in
+    let below = fits.below in
+    let low = within_index around.indent around.limit w.there (moved m p) o w.fits (omega (arith, count, below)) in
     let new = place_of m w.end kind ∷ [] in
-    let came = one limit s x k ls a ad ps m (p ++ o) v (begins_token m p o f clear) w.there x (saved v.allowed (length ps) m v.key) ls w.allowed w.adjacent (ps ++ new) (from_to m w.end kind ∷ [])
-    w.is refl low in
+    let came = one around s x k ls a ad ps m (p ++ o) v (begins_token m p o f fits.clear) w.there x (saved v.allowed (length ps) m v.key) ls w.allowed w.adjacent (ps ++ new) (from_to m w.end kind ∷ [])
+    w.to w.deepens w.is refl low in
     record {
       there = w.there;
       key = came.key;
@@ -83,6 +90,7 @@ token_passes limit says kind p o m f clear below s x k ls a ad ps text steps =
       adjacent = w.adjacent;
       new = new;
       leads = came.leads;
+      right = right;
       fits = w.fits;
       are = refl;
       knows = record {

@@ -1,23 +1,24 @@
 -- The plain scalars of a text in flow style are plain scalars as they are read.
-use Rattle.std.proofs.Common.{◌≡◌, ◌≢◌, ℕ, Bool, true, false, List, [], ◌∷◌, ◌++◌, length, slice_index, refl, sym, ap, ◌∙◌, arith, subst, append_assoc, IsTrue, IsFalse, inl, inr}
-use Rattle.std.specs.Prelude.{◌||◌, ◌&&◌, ◌==◌, not, if◌then◌else◌}
+use Rattle.std.proofs.Common.{◌≡◌, ◌≢◌, ℕ, zero, suc, ◌+◌, ◌≤◌, Bool, true, false, List, [], ◌∷◌, ◌++◌, length, drop, slice_index, refl, sym, ap, ◌∙◌, arith, subst, append_assoc, IsTrue, IsFalse, ◌⊎◌, inl, inr}
+use Rattle.std.specs.Prelude.{◌||◌, ◌&&◌, ◌==◌, not, nat_lt, if◌then◌else◌}
+use Rattle.std.specs.List.{prefix_len}
 use Rattle.std.proofs.lemmas.Bool.Decides.{nat_tests}
 use Rattle.saphyr_input.specs.Breaks.{normalized}
-use Rattle.saphyr_input.specs.Classes.{is_blank, is_break, is_blank_or_breakz, is_bom, is_flow, line_feed, carriage_return}
-use Rattle.saphyr_input.specs.Places.{is_document_indicator}
+use Rattle.saphyr_input.specs.Classes.{is_blank, is_break, is_blank_or_breakz, is_bom, is_flow, line_feed, carriage_return, tab}
+use Rattle.saphyr_input.specs.Places.{is_blank_or_break, is_document_indicator}
 use Rattle.saphyr_scalar.specs.declared.scalar.position.Marker.{Marker}
 use Rattle.saphyr_scalar.specs.Cursor.{along, next_line}
 use Rattle.saphyr_scalar.specs.BlockRead.{spaces}
 use Rattle.saphyr_scalar.specs.Plain.{ends_line}
 use Rattle.saphyr_scalar.specs.PlainReading.{AreWhite, passed}
-use Rattle.saphyr_scalar.specs.PlainSpelling.{EndsPlain, is_word_ink, AreWordInk, IsWordIn, IsPlainGap, words_text, IsNoMarker, AreFurtherWords, IsPlainText}
+use Rattle.saphyr_scalar.specs.PlainSpelling.{behind_blanks, tabs_fit, has_line_end, EndsPlain, is_word_ink, AreWordInk, IsWordIn, IsPlainGap, words_text, IsNoMarker, AreFurtherWords, IsPlainText}
 use Rattle.saphyr_scalar.specs.TagSpelling.{AreIn}
 use Rattle.saphyr_scalar.specs.Spaces.{joined, AreEach, AreSpaces}
 use Rattle.saphyr_scalar.proofs.NoBreaks.{NoBreaks}
 use Rattle.saphyr_scanner.specs.FlowScalars.{IsEmptyLine, IsFoldedGap, IsWordGap, IsFurtherWord, IsPlain}
 use Rattle.saphyr_scanner.proofs.FlowStates.{moved, IsClear}
-use Rattle.saphyr_scanner.proofs.FlowPlaces.{clear_front, clear_back, clear_here}
-use Rattle.saphyr_scanner.proofs.FlowFillers.{spaces_are_blank}
+use Rattle.saphyr_scanner.proofs.FlowPlaces.{moved_append, right_along, clear_front, clear_back, clear_here}
+use Rattle.saphyr_scanner.proofs.FlowFillers.{spaces_are_blank, blanks_past, spaces_column}
 use Rattle.saphyr_scanner.proofs.FlowNames.{unbroken_along}
 use Rattle.saphyr_scanner.proofs.FlowEnds.{blank_white}
 
@@ -93,18 +94,90 @@ not_nothing : (a : List ℕ) (c : ℕ) (b : List ℕ) → a ++ (c ∷ b) ≢ []
 not_nothing [] c b e = absurd (cc)
 not_nothing (d ∷ a) c b e = absurd (cc)
 
-folded_gap : (t : List ℕ) → IsFoldedGap 0 t → (t ≢ []) × AreWhite t
-folded_gap t (blanks, lines, front, are, (pieces, each, joins), spaced, is) =
+blanks_alone : (t : List ℕ) → AreIn is_blank t → behind_blanks t ≡ []
+blanks_alone [] h = refl
+blanks_alone (c ∷ cs) h = rw h.0 (let one : 1 + prefix_len is_blank cs ≡ suc (prefix_len is_blank cs) = omega arith in ap (λ (n : ℕ). drop n (c ∷ cs)) one ∙ blanks_alone cs h.1)
+
+blanks_before : (t : List ℕ) (c : ℕ) (cs : List ℕ) → AreIn is_blank t → is_blank c ≡ false → behind_blanks (t ++ (c ∷ cs)) ≡ c ∷ cs
+blanks_before [] c cs h e = rw e refl
+blanks_before (d ∷ ds) c cs h e =
+    rw h.0 (let one : 1 + prefix_len is_blank (ds ++ (c ∷ cs)) ≡ suc (prefix_len is_blank (ds ++ (c ∷ cs))) = omega arith in ap (λ (n : ℕ). drop n (d ∷ (ds ++ (c ∷ cs)))) one ∙ blanks_before ds c cs h.1 e)
+
+no_line_end : (t : List ℕ) → AreIn is_blank t → has_line_end t ≡ false
+no_line_end [] h = refl
+no_line_end (c ∷ cs) h = rw (blank_no_break c h.0) (no_line_end cs h.1)
+  where
+    blank_no_break : (c : ℕ) → IsTrue (is_blank c) → is_break c ≡ false
+    blank_no_break c h = grind (arith, nat_tests)
+
+-- where no tab is
+no_tabs_fit : (indent n : ℕ) (t : List ℕ) → AreIn (λ c. not (c == tab)) t → IsTrue (tabs_fit indent n t)
+no_tabs_fit indent n [] h = refl
+no_tabs_fit indent n (c ∷ cs) h = by_white (is_blank_or_break c) refl (no_tabs_fit indent (if ends_line c cs then 0 else n + 1) cs h.1)
+  where
+    none : (b q r : Bool) → (not b) ≡ true → r ≡ true → (not (b && q) && r) ≡ true
+    none true q r e f = absurd (cc)
+    none false q r e f = f
+
+    by_white : (b : Bool) → is_blank_or_break c ≡ b → IsTrue (tabs_fit indent (if ends_line c cs then 0 else n + 1) cs) → IsTrue (tabs_fit indent n (c ∷ cs))
+    by_white true e on = rw e (none (c == tab) (nat_lt n indent) (tabs_fit indent (if ends_line c cs then 0 else n + 1) cs) h.0 on)
+    by_white false e on = rw e refl
+
+both_no_tab : (a b : List ℕ) → AreIn (λ c. not (c == tab)) a → AreIn (λ c. not (c == tab)) b → AreIn (λ c. not (c == tab)) (a ++ b)
+both_no_tab [] b h k = k
+both_no_tab (c ∷ cs) b h k = (h.0, both_no_tab cs b h.1 k)
+
+spaces_no_tab : (n : ℕ) → AreIn (λ c. not (c == tab)) (spaces n)
+spaces_no_tab zero = tt
+spaces_no_tab (suc n) = (refl, spaces_no_tab n)
+
+lines_no_tab : (ts : List (List ℕ)) → AreEach IsEmptyLine ts → AreIn (λ c. not (c == tab)) (joined ts)
+lines_no_tab [] h = tt
+lines_no_tab (t ∷ ts) (h, k) =
+    both_no_tab t (joined ts) (subst (AreIn (λ c. not (c == tab))) (sym h.2) (both_no_tab h.0 (10 ∷ []) (subst (AreIn (λ c. not (c == tab))) (sym h.1.2) (spaces_no_tab h.1.0)) (refl, tt))) (lines_no_tab ts k)
+
+-- what stands between two words
+record Gapped (indent : ℕ) (m : Marker) (t : List ℕ) : Type 0 where
+  some : t ≢ []
+  white : AreWhite t
+  tabs : IsTrue (tabs_fit indent 0 (behind_blanks t))
+  indented : (has_line_end t ≡ false) ⊎ (indent ≤ (moved m t).col)
+  right : indent ≤ m.col → indent ≤ (moved m t).col
+
+folded_gap : (indent : ℕ) (m : Marker) (t : List ℕ) → IsFoldedGap indent t → Gapped indent m t
+folded_gap indent m t (blanks, lines, front, are, (pieces, each, joins), spaced, is) =
     let many : AreWhite lines = subst AreWhite (sym joins) (lines_white pieces each) in
-    let all : AreWhite (blanks ++ (10 ∷ (lines ++ front))) = both_white blanks (10 ∷ (lines ++ front)) (blanks_white blanks are) (refl, both_white lines front many (spaces_white 0 front spaced)) in
-    (λ e. not_nothing blanks 10 (lines ++ front) (sym is ∙ e), subst AreWhite (sym is) all)
+    let all : AreWhite (blanks ++ (10 ∷ (lines ++ front))) = both_white blanks (10 ∷ (lines ++ front)) (blanks_white blanks are) (refl, both_white lines front many (spaces_white indent front spaced)) in
+    let tabless : AreIn (λ c. not (c == tab)) (10 ∷ (lines ++ front)) =
+    (refl, both_no_tab lines front (subst (AreIn (λ c. not (c == tab))) (sym joins) (lines_no_tab pieces each)) (subst (AreIn (λ c. not (c == tab))) (sym spaced.2) (spaces_no_tab spaced.0))) in
+    let there = reaches front spaced (moved (moved m (blanks ++ (10 ∷ lines))) front).col (moved m (blanks ++ (10 ∷ lines))).col
+    (ap (λ (f : List ℕ). (moved (moved m (blanks ++ (10 ∷ lines))) f).col) spaced.2 ∙ spaces_column (moved m (blanks ++ (10 ∷ lines))) spaced.0) in
+    let whole : t ≡ (blanks ++ (10 ∷ lines)) ++ front = is ∙ sym (append_assoc blanks (10 ∷ lines) front) in
+    let right : indent ≤ (moved m t).col = subst (λ (k : Marker). indent ≤ k.col) (sym (ap (moved m) whole ∙ moved_append m (blanks ++ (10 ∷ lines)) front)) there in
+    record {
+      some = λ e. not_nothing blanks 10 (lines ++ front) (sym is ∙ e);
+      white = subst AreWhite (sym is) all;
+      tabs = subst (λ (y : List ℕ). IsTrue (tabs_fit indent 0 (behind_blanks y))) (sym is) (subst (λ (y : List ℕ). IsTrue (tabs_fit indent 0 y)) (sym (blanks_before blanks 10 (lines ++ front) are refl)) (no_tabs_fit indent 0 (10 ∷ (lines ++ front)) tabless));
+      indented = inr right;
+      right = λ _. right;
+    }
+  where
+    reaches : (front : List ℕ) (s : AreSpaces indent front) (a b : ℕ) → a ≡ b + s.0 → indent ≤ a
+    reaches front s a b e = let low = s.1 in omega (arith, low, e)
 
-word_gap : (t : List ℕ) → IsWordGap 0 t → (t ≢ []) × AreWhite t
-word_gap t (inl h) = (h.0, blanks_white t h.1)
-word_gap t (inr h) = folded_gap t h
+word_gap : (indent : ℕ) (m : Marker) (t : List ℕ) → IsWordGap indent t → Gapped indent m t
+word_gap indent m t (inl h) =
+    record {
+      some = h.0;
+      white = blanks_white t h.1;
+      tabs = subst (λ (y : List ℕ). IsTrue (tabs_fit indent 0 y)) (sym (blanks_alone t h.1)) refl;
+      indented = inl (no_line_end t h.1);
+      right = λ low. (blanks_past indent t h.1 m low).right;
+    }
+word_gap indent m t (inr h) = folded_gap indent m t h
 
-plain_gap : (f : Bool) (m : Marker) (t : List ℕ) → IsWordGap 0 t → IsPlainGap f 0 m t
-plain_gap f m t h = let g = word_gap t h in record { some = g.0; white = g.1; tabs = inl refl; indented = inr (inr (omega arith)) }
+plain_gap : (f : Bool) (indent : ℕ) (m : Marker) (t : List ℕ) → IsWordGap indent t → passed m t ≡ moved m t → IsPlainGap f indent m t
+plain_gap f indent m t h e = let g = word_gap indent m t h in record { some = g.some; white = g.white; tabs = inr g.tabs; indented = inr (subst (λ (k : Marker). (has_line_end t ≡ false) ⊎ (indent ≤ k.col)) (sym e) g.indented) }
 
 -- ## No marker begins a line
 
@@ -117,14 +190,22 @@ no_marker m (c ∷ cs) o some clear = marked m.col (is_document_indicator (c ∷
 
 -- ## The words behind the first
 
-record IsFurther (f : Bool) (m : Marker) (pieces : List (List ℕ)) (o : List ℕ) : Type 0 where
+word_line : (t : List ℕ) → NoBreaks t → AreIn (λ c. not (c == line_feed)) t
+word_line [] h = tt
+word_line (c ∷ cs) h = (no_feed c h.0, word_line cs h.1)
+  where
+    no_feed : (c : ℕ) → is_break c ≡ false → IsTrue (not (c == line_feed))
+    no_feed c h = grind (arith, nat_tests)
+
+record IsFurther (f : Bool) (indent : ℕ) (m : Marker) (pieces : List (List ℕ)) (o : List ℕ) : Type 0 where
   words : List (List ℕ × List ℕ)
   is : joined pieces ≡ words_text words
-  further : AreFurtherWords f 0 m words o
+  further : AreFurtherWords f indent m words o
+  right : indent ≤ m.col → indent ≤ (moved m (joined pieces)).col
 
-further_words : (f : Bool) (pieces : List (List ℕ)) → AreEach (IsFurtherWord f 0) pieces → (m : Marker) (o : List ℕ) → IsClear m (joined pieces) o → IsFurther f m pieces o
-further_words f [] h m o clear = record { words = []; is = refl; further = tt }
-further_words f (p ∷ ps) ((gap, word, gapped, is_word, is), others) m o clear =
+further_words : (f : Bool) (indent : ℕ) (pieces : List (List ℕ)) → AreEach (IsFurtherWord f indent) pieces → (m : Marker) (o : List ℕ) → IsClear m (joined pieces) o → IsFurther f indent m pieces o
+further_words f indent [] h m o clear = record { words = []; is = refl; further = tt; right = λ low. low }
+further_words f indent (p ∷ ps) ((gap, word, gapped, is_word, is), others) m o clear =
     let more = joined ps in
     let text : p ++ more ≡ gap ++ (word ++ more) = ap (λ (t : List ℕ). t ++ more) is ∙ append_assoc gap word more in
     let all : IsClear m (gap ++ (word ++ more)) o = subst (λ (t : List ℕ). IsClear m t o) text clear in
@@ -133,13 +214,16 @@ further_words f (p ∷ ps) ((gap, word, gapped, is_word, is), others) m o clear 
     let mark = along (passed m gap) (length word) in
     let line : moved (passed m gap) word ≡ mark = unbroken_along (passed m gap) word (word_unbroken f word is_word.ink) in
     let behind : IsClear mark more o = subst (λ (n : Marker). IsClear n more o) line (clear_back (passed m gap) word more o at_word) in
-    let rest = further_words f ps others mark o behind in
+    let rest = further_words f indent ps others mark o behind in
     let unmarked : IsNoMarker (passed m gap) (word ++ (words_text rest.words ++ o)) =
     subst (λ (t : List ℕ). IsNoMarker (passed m gap) (word ++ (t ++ o))) rest.is (no_marker (passed m gap) word (more ++ o) is_word.some (clear_front (passed m gap) word more o at_word)) in
     record {
       words = (gap, word) ∷ rest.words;
       is = text ∙ ap (λ (t : List ℕ). gap ++ (word ++ t)) rest.is;
-      further = (plain_gap f m gap gapped, is_word, unmarked, rest.further);
+      further = (plain_gap f indent m gap gapped there, is_word, unmarked, rest.further);
+      right = λ low. subst (λ (k : Marker). indent ≤ k.col) (sym (ap (moved m) text ∙ moved_append m gap (word ++ more) ∙ moved_append (moved m gap) word more ∙ ap (λ (k : Marker). moved (moved k word) more) (sym there) ∙ ap (λ (k : Marker). moved k more) line))
+          (rest.right (subst (λ (k : Marker). indent ≤ k.col) line (right_along indent (passed m gap) word (word_line word (word_unbroken f word is_word.ink))
+          (subst (λ (k : Marker). indent ≤ k.col) (sym there) ((word_gap indent m gap gapped).right low)))));
     }
 
 -- ## The whole scalar
@@ -148,14 +232,14 @@ both_some : (a b : List ℕ) → a ≢ [] → a ++ b ≢ []
 both_some [] b some e = absurd (some refl)
 both_some (c ∷ a) b some e = absurd (cc)
 
-pub plain_text : (f : Bool) (m : Marker) (t o : List ℕ) → IsPlain f 0 t → IsClear m t o → EndsPlain f 0 (moved m t) o → IsPlainText f 0 m t o
-plain_text f m t o (first, others, is_first, (pieces, each, joins), is) clear ends =
+pub plain_text : (f : Bool) (indent : ℕ) (m : Marker) (t o : List ℕ) → IsPlain f indent t → IsClear m t o → EndsPlain f indent (moved m t) o → IsPlainText f indent m t o
+plain_text f indent m t o (first, others, is_first, (pieces, each, joins), is) clear ends =
     let word : IsWordIn f first = is_first.0 in
     let text : t ≡ first ++ joined pieces = is ∙ ap (λ (y : List ℕ). first ++ y) joins in
     let all : IsClear m (first ++ joined pieces) o = subst (λ (y : List ℕ). IsClear m y o) text clear in
     let line : moved m first ≡ along m (length first) = unbroken_along m first (word_unbroken f first word.ink) in
     let behind : IsClear (along m (length first)) (joined pieces) o = subst (λ (n : Marker). IsClear n (joined pieces) o) line (clear_back m first (joined pieces) o all) in
-    let rest = further_words f pieces each (along m (length first)) o behind in
+    let rest = further_words f indent pieces each (along m (length first)) o behind in
     record {
       first = first;
       others = rest.words;
@@ -163,5 +247,16 @@ plain_text f m t o (first, others, is_first, (pieces, each, joins), is) clear en
       word = word;
       marker = no_marker m t o (λ e. both_some first (joined pieces) word.some (sym text ∙ e)) clear;
       further = rest.further;
-      ends = subst (λ (n : Marker). EndsPlain f 0 n o) (sym (passed_moved m t clear.no_return)) ends;
+      ends = subst (λ (n : Marker). EndsPlain f indent n o) (sym (passed_moved m t clear.no_return)) ends;
     }
+
+-- a plain scalar ends right of a column that its lines reach
+pub plain_right : (f : Bool) (indent : ℕ) (m : Marker) (t o : List ℕ) → IsPlain f indent t → IsClear m t o → indent ≤ m.col → indent ≤ (moved m t).col
+plain_right f indent m t o (first, others, is_first, (pieces, each, joins), is) clear low =
+    let text : t ≡ first ++ joined pieces = is ∙ ap (λ (y : List ℕ). first ++ y) joins in
+    let unbroken = word_unbroken f first is_first.0.ink in
+    let line : moved m first ≡ along m (length first) = unbroken_along m first unbroken in
+    let behind : IsClear (along m (length first)) (joined pieces) o = subst (λ (n : Marker). IsClear n (joined pieces) o) line (clear_back m first (joined pieces) o (subst (λ (y : List ℕ). IsClear m y o) text clear)) in
+    let rest = further_words f indent pieces each (along m (length first)) o behind in
+    let here = subst (λ (k : Marker). indent ≤ k.col) line (right_along indent m first (word_line first unbroken) low) in
+    subst (λ (k : Marker). indent ≤ k.col) (sym (ap (moved m) text ∙ moved_append m first (joined pieces) ∙ ap (λ (k : Marker). moved k (joined pieces)) line)) (rest.right here)

@@ -149,6 +149,7 @@ pub record DropsKey (e : Bool) (s : Cursor) (x : Context) (k : Option Candidate)
   pub left : Option Candidate
   pub is : drop_far_key (core_at e s x k ls a ad) ≡ Ok (core_at e s x left ls a ad)
   pub same : is_block x ≡ false → left ≡ k
+  pub none : k ≡ None → left ≡ None
 
 pub drops_key : (e : Bool) (s : Cursor) (x : Context) (k : Option Candidate) (ls : List Level) (a : Bool) (ad : ℕ) → DropsKey e s x k ls a ad
 unfolding drop_far_key
@@ -158,13 +159,13 @@ drops_key e s context.Block k ls a ad = by_distance (is_too_far k s.mark) refl
     none e = cc
 
     by_distance : (far : Bool) → is_too_far k s.mark ≡ far → DropsKey e s context.Block k ls a ad
-    by_distance true h = record { left = None; is = rw h refl; same = λ e. absurd (none e) }
-    by_distance false h = record { left = k; is = rw h refl; same = λ _. refl }
-drops_key e s context.FlowSequence k ls a ad = record { left = k; is = refl; same = λ _. refl }
-drops_key e s context.FlowMapping k ls a ad = record { left = k; is = refl; same = λ _. refl }
-drops_key e s context.FlowPair k ls a ad = record { left = k; is = refl; same = λ _. refl }
-drops_key e s context.ExplicitFlowPair k ls a ad = record { left = k; is = refl; same = λ _. refl }
-drops_key e s context.MarkedFlowPair k ls a ad = record { left = k; is = refl; same = λ _. refl }
+    by_distance true h = record { left = None; is = rw h refl; same = λ e. absurd (none e); none = λ _. refl }
+    by_distance false h = record { left = k; is = rw h refl; same = λ _. refl; none = λ e. e }
+drops_key e s context.FlowSequence k ls a ad = record { left = k; is = refl; same = λ _. refl; none = λ e. e }
+drops_key e s context.FlowMapping k ls a ad = record { left = k; is = refl; same = λ _. refl; none = λ e. e }
+drops_key e s context.FlowPair k ls a ad = record { left = k; is = refl; same = λ _. refl; none = λ e. e }
+drops_key e s context.ExplicitFlowPair k ls a ad = record { left = k; is = refl; same = λ _. refl; none = λ e. e }
+drops_key e s context.MarkedFlowPair k ls a ad = record { left = k; is = refl; same = λ _. refl; none = λ e. e }
 
 pub no_less : (n : ℕ) → nat_lt n 0 ≡ false
 no_less n = grind (arith, nat_tests)
@@ -228,7 +229,7 @@ here : (s : Cursor) (x : Context) (k : Option Candidate) (ls : List Level) (a : 
 unfolding fetch_here
 here s x k ls a ad ps h = rw (h.nul, h.byte_order_mark, h.directive, h.document_start, h.document_end, and_false (s.mark.col == 0), no_less s.mark.col) refl
 
-within_limit : (limit n : ℕ) → n ≤ limit → nat_le n limit ≡ true
+pub within_limit : (limit n : ℕ) → n ≤ limit → nat_le n limit ≡ true
 within_limit limit n h = grind (arith, nat_tests)
 
 pub none_before : (n : ℕ) → 0 + n ≡ n
@@ -239,6 +240,7 @@ pub record Comes (limit : ℕ) (start : State) (e : Bool) (s : Cursor) (x : Cont
   pub key : Option Candidate
   pub leads : Leads limit (state_at e s x key ls a ad ps) start
   pub same : is_block x ≡ false → key ≡ k
+  pub none : k ≡ None → key ≡ None
 
 -- where a step gives this, it leads there
 pub comes : (limit : ℕ) (start : State) (e : Bool) (s : Cursor) (x : Context) (k : Option Candidate) (ls : List Level) (a : Bool) (ad : ℕ) (ps : List Place)
@@ -252,6 +254,7 @@ comes limit start e s x k ls a ad ps going is low =
       key = d.left;
       leads = onward start st (state_at e s x d.left ls a ad ps) going (ap (λ r. r >>= within limit) is ∙ fits) (ap (λ r. carried r (queue_of ps)) d.is) stay;
       same = d.same;
+      none = d.none;
     }
 
 -- what the step at the next token's first characters gives

@@ -1,4 +1,5 @@
 pub mod AllTokens
+pub mod InBlock
 pub mod Places
 pub mod Turns
 pub mod Unroll
@@ -28,6 +29,7 @@ pub mod JsonGaps
 pub mod JsonReadWords
 pub mod JsonStates
 pub mod JsonMarks
+pub mod InFlow
 pub mod JsonBrackets
 pub mod JsonColons
 pub mod JsonQuotes

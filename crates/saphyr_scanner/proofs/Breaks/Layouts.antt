@@ -16,6 +16,7 @@ use Rattle.saphyr_scanner.specs.Tokens.{Kind}
 use Rattle.saphyr_scanner.proofs.FlowLayouts.{flow_scans}
 use Rattle.saphyr_scanner.proofs.FlowStates.{Reads, ClosesNodes}
 use Rattle.saphyr_scanner.proofs.FlowWords.{normalized_same}
+use Rattle.saphyr_scanner.proofs.InFlow.States.{alone}
 use Rattle.saphyr_scanner.proofs.TakingScalars.{Readers}
 use Rattle.saphyr_scanner.proofs.Breaks.Normal.{beside, normal_shorter}
 
@@ -41,7 +42,7 @@ scans_too ts r q h s = (
 )
 
 -- each text in flow style gives tokens of its forest
-pub flow_scans_too : Readers → Reads → (limit : ℕ) → ClosesNodes limit → (forest : Forest) (text : List ℕ)
+pub flow_scans_too : Readers → Reads → (limit : ℕ) → ClosesNodes (alone limit) → (forest : Forest) (text : List ℕ)
     → HaveSameKinds (scan limit text) (scan limit (normalized text))
     → IsFlowLayoutText most_open forest text → length text ≤ limit
     → (ts : List Kind) × Yields forest ts × Scans ts (scan limit text)

@@ -1,3 +1,4 @@
+use Rattle.saphyr_scanner.proofs.InFlow.States.{alone}
 use Rattle.saphyr_scanner.proofs.TakingScalars.{Readers, quoted_laws}
 use Rattle.saphyr_scanner.proofs.FlowStates.{Reads}
 use Rattle.saphyr_scanner.proofs.FlowNodesPass.{nodes_close}
@@ -25,4 +26,4 @@ returns c limit forest text layout small short =
       reserved = c.reads_each_reserved_directive.ensures;
     } in
     let same = c.scans_breaks_alike.ensures limit text small short in
-    flow_scans_too laws reads limit (nodes_close reads limit) forest text same layout short
+    flow_scans_too laws reads limit (nodes_close reads (alone limit)) forest text same layout short

@@ -1,0 +1,20 @@
+-- The layout grammar at block level: each text of it gives tokens of its forest.
+pub mod States
+pub mod Gaps
+pub mod Follows
+pub mod Closing
+pub mod Skips
+pub mod Entries
+pub mod Marks
+pub mod Lines
+pub mod Statements
+pub mod Texts
+pub mod ScalarTexts
+pub mod Scalars
+pub mod Properties
+pub mod Sequences
+pub mod Mappings
+pub mod Leads
+pub mod Nodes
+pub mod Documents
+pub mod Streams

@@ -1,0 +1,268 @@
+-- States of a scanner that reads a node in flow style, whatever block collections are open around it.
+use Rattle.std.proofs.Common.{◌≡◌, ℕ, ◌+◌, ◌<◌, ◌≤◌, Bool, true, false, List, [], ◌∷◌, length, Ok, refl, sym, ap, ◌∙◌, arith, cond}
+use Rattle.std.specs.Prelude.{◌-◌, ◌||◌, ◌&&◌, ◌==◌, not, nat_lt, nat_le, Option, Some, None, if◌then◌else◌}
+use Rattle.std.proofs.lemmas.Bool.Decides.{nat_tests}
+use Rattle.saphyr_input.specs.declared.input.SkipTabs.{SkipTabs}
+use Rattle.saphyr_input.specs.declared.input.SkipTabs.TheVariants.{Yes}
+use Rattle.saphyr_scalar.specs.declared.scalar.position.Marker.{Marker}
+use Rattle.saphyr_scalar.specs.Cursor.{Cursor, ◌>>=◌, along, separation}
+use Rattle.saphyr_scanner.specs.declared.engine.level.Context.{Context}
+use Rattle.saphyr_scanner.specs.declared.engine.level.Context.TheVariants as context
+use Rattle.saphyr_scanner.specs.Tokens.{Kind}
+use Rattle.saphyr_scanner.specs.Queue.{Place}
+use Rattle.saphyr_scanner.specs.Core.{Candidate, Level, Core, is_block, is_too_far, drop_far_key, save_key, go_deeper, from_to, up_to_here, went}
+use Rattle.saphyr_scanner.specs.Passing.{with_cursor}
+use Rattle.saphyr_scanner.specs.Flow as flow
+use Rattle.saphyr_scanner.specs.Flow.{open_collection, close_collection, allow_adjacent, behind_pair}
+use Rattle.saphyr_scanner.specs.State.{State, carried}
+use Rattle.saphyr_scanner.specs.Unrolling.{end_blocks, unroll}
+use Rattle.saphyr_scanner.specs.Fetch.{fetch, within, fetch_within}
+use Rattle.saphyr_scanner.proofs.Leads.{Leads, stay, onward}
+use Rattle.saphyr_scanner.proofs.JsonStates.{cursor_at, queue_of, within_limit}
+use Rattle.saphyr_scanner.proofs.JsonMarks.{chain, saved, level_of, not_full}
+
+-- ## What stays as it is
+
+-- How long the text may be, which block collections are open around the nodes that are read, and whether a key is
+-- required inside them. `indent` is the first column to the right of the innermost collection, and 0 where there is none.
+pub record Around : Type 0 where
+  pub limit : ℕ
+  pub indent : ℕ
+  pub outers : List ℕ
+  pub required : Bool
+
+-- no block collection is open
+abbrev pub alone : ℕ → Around
+alone limit = record { limit = limit; indent = 0; outers = []; required = false }
+
+-- ## States
+
+abbrev pub core_at : Around → Bool → Cursor → Context → Option Candidate → List Level → Bool → ℕ → Core
+core_at around d s x k ls a ad =
+    record {
+      cursor = s;
+      level = record { context = x; key = k };
+      outer = ls;
+      required = around.required && not (is_block x);
+      key_allowed = a;
+      adjacent = ad;
+      indent = around.indent;
+      deeper = d;
+      outer_indents = around.outers;
+      comment = None;
+      started = true;
+      ended = false;
+    }
+
+-- A state, and whether content has to stand one column further right, which comes last: it is so behind a bracket, and
+-- not behind a plain scalar, and nothing that is read depends on it. So runs are told for both.
+abbrev pub state_at : Around → Cursor → Context → Option Candidate → List Level → Bool → ℕ → List Place → Bool → State
+state_at around s x k ls a ad ps d = record { core = core_at around d s x k ls a ad; queue = queue_of ps }
+
+-- the column that content has to reach
+abbrev pub least : ℕ → Bool → ℕ
+least indent d = if d then indent else indent - 1
+
+pub least_low : (indent : ℕ) (d : Bool) → least indent d ≤ indent
+least_low indent true = omega arith
+least_low indent false = lower indent
+  where
+    lower : (n : ℕ) → n - 1 ≤ n
+    lower n = grind (arith, nat_tests)
+
+pub not_left : (indent col : ℕ) (d : Bool) → indent ≤ col → nat_lt col (least indent d) ≡ false
+not_left indent col d h = let low = least_low indent d in further col (least indent d) (omega (arith, low, h))
+  where
+    further : (a b : ℕ) → b ≤ a → nat_lt a b ≡ false
+    further a b h = grind (arith, nat_tests)
+
+-- A state from which the scanner comes to another. Where no block collection is open nothing gets deeper.
+pub record Run (around : Around) (d : Bool) (to : Bool → State) (start : State) : Type 0 where
+  pub deeper : Bool
+  pub flat : around.indent ≡ 0 → d ≡ false → deeper ≡ false
+  pub leads : Leads around.limit (to deeper) start
+
+pub record Runs (around : Around) (to start : Bool → State) : Type 0 where
+  pub run : (d : Bool) → Run around d to (start d)
+
+pub stays : (around : Around) (s : Bool → State) → Runs around s s
+stays around s = record { run = λ d. record { deeper = d; flat = λ _ e. e; leads = stay } }
+
+pub chains : {around : Around} {c b a : Bool → State} → Runs around b a → Runs around c b → Runs around c a
+chains f g = record {
+  run = λ d. let r = f.run d in let q = g.run r.deeper in record { deeper = q.deeper; flat = λ e h. q.flat e (r.flat e h); leads = chain r.leads q.leads };
+}
+
+-- ## A key outside flow may be forgotten
+
+pub record DropsKey (around : Around) (d : Bool) (s : Cursor) (x : Context) (k : Option Candidate) (ls : List Level) (a : Bool) (ad : ℕ) : Type 0 where
+  pub left : Option Candidate
+  pub is : drop_far_key (core_at around d s x k ls a ad) ≡ Ok (core_at around d s x left ls a ad)
+  pub same : is_block x ≡ false → left ≡ k
+
+-- the key that is left
+abbrev pub key_left : Context → Option Candidate → Marker → Option Candidate
+key_left x k m = if is_block x && is_too_far k m then None else k
+
+pub none_required : (b : Bool) → (b && false) ≡ false
+none_required true = refl
+none_required false = refl
+
+pub drops : (around : Around) (d : Bool) (s : Cursor) (x : Context) (k : Option Candidate) (ls : List Level) (a : Bool) (ad : ℕ)
+    → drop_far_key (core_at around d s x k ls a ad) ≡ Ok (core_at around d s x (key_left x k s.mark) ls a ad)
+unfolding drop_far_key
+drops around d s context.Block k ls a ad = by_distance (is_too_far k s.mark) refl
+  where
+    by_distance : (far : Bool) → is_too_far k s.mark ≡ far → drop_far_key (core_at around d s context.Block k ls a ad) ≡ Ok (core_at around d s context.Block (key_left context.Block k s.mark) ls a ad)
+    by_distance true h = rw (h, none_required around.required) refl
+    by_distance false h = rw h refl
+drops around d s context.FlowSequence k ls a ad = refl
+drops around d s context.FlowMapping k ls a ad = refl
+drops around d s context.FlowPair k ls a ad = refl
+drops around d s context.ExplicitFlowPair k ls a ad = refl
+drops around d s context.MarkedFlowPair k ls a ad = refl
+
+pub left_in_flow : (x : Context) (k : Option Candidate) (m : Marker) → is_block x ≡ false → key_left x k m ≡ k
+left_in_flow x k m e = rw e refl
+
+-- ## No block collection ends right of its indentation
+
+no_right : (indent col : ℕ) → indent ≤ col → nat_lt col (indent - 1) ≡ false
+no_right indent col h = not_left indent col false h
+
+no_ends : (col : ℕ) (m : Marker) (is : List ℕ) (s : State) → nat_lt col (s.core.indent - 1) ≡ false → end_blocks (Some col) m is s ≡ s
+no_ends col m [] s h = rw h refl
+no_ends col m (i ∷ is) s h = rw h refl
+
+pub none_unrolls : (around : Around) (col : ℕ) (m : Marker) (s : Cursor) (x : Context) (k : Option Candidate) (ls : List Level) (a : Bool) (ad : ℕ) (ps : List Place) (d : Bool) → around.indent ≤ col
+    → unroll (Some col) m (state_at around s x k ls a ad ps d) ≡ state_at around s x k ls a ad ps d
+unfolding unroll
+none_unrolls around col m s context.Block k ls a ad ps d h =
+    let same : (d && nat_le around.indent col) ≡ d = still d (nat_le around.indent col) (reaches around.indent col h) in
+    rw same (no_ends col m around.outers (state_at around s context.Block k ls a ad ps d) (no_right around.indent col h))
+  where
+    reaches : (a b : ℕ) → a ≤ b → nat_le a b ≡ true
+    reaches a b h = grind (arith, nat_tests)
+
+    still : (a b : Bool) → b ≡ true → (a && b) ≡ a
+    still true b e = e
+    still false b e = refl
+none_unrolls around col m s context.FlowSequence k ls a ad ps d h = refl
+none_unrolls around col m s context.FlowMapping k ls a ad ps d h = refl
+none_unrolls around col m s context.FlowPair k ls a ad ps d h = refl
+none_unrolls around col m s context.ExplicitFlowPair k ls a ad ps d h = refl
+none_unrolls around col m s context.MarkedFlowPair k ls a ad ps d h = refl
+
+-- ## Steps
+
+-- whether content has to stand further right behind a step, by whether it had to before it
+pub record Deepens (around : Around) (to : Bool → Bool) : Type 0 where
+  pub flat : around.indent ≡ 0 → to false ≡ false
+
+pub as_before : (around : Around) → Deepens around (λ d. d)
+as_before around = record { flat = λ _. refl }
+
+pub none_deeper : (around : Around) → Deepens around (λ d. false)
+none_deeper around = record { flat = λ _. refl }
+
+-- behind a bracket
+abbrev pub deepened : Around → Context → Bool → Bool
+deepened around x d = (is_block x && nat_lt 0 around.indent) || d
+
+pub bracket_deepens : (around : Around) (x : Context) → Deepens around (deepened around x)
+bracket_deepens around x = record { flat = λ e. rw e (none_further (is_block x)) }
+  where
+    none_further : (b : Bool) → ((b && nat_lt 0 0) || false) ≡ false
+    none_further true = refl
+    none_further false = refl
+
+-- from a state the scanner comes to another, but for the key outside flow
+pub record Comes (around : Around) (start : Bool → State) (s : Cursor) (x : Context) (k : Option Candidate) (ls : List Level) (a : Bool) (ad : ℕ) (ps : List Place) : Type 0 where
+  pub key : Option Candidate
+  pub leads : Runs around (state_at around s x key ls a ad ps) start
+  pub same : is_block x ≡ false → key ≡ k
+
+-- where a step gives this, it leads there
+pub comes : (around : Around) (start : Bool → State) (s : Cursor) (x : Context) (k : Option Candidate) (ls : List Level) (a : Bool) (ad : ℕ) (ps : List Place) (to : Bool → Bool) → Deepens around to
+    → ((d : Bool) → (start d).core.ended ≡ false) → ((d : Bool) → fetch (start d) ≡ Ok (state_at around s x k ls a ad ps (to d))) → s.mark.index ≤ around.limit → Comes around start s x k ls a ad ps
+unfolding fetch_within
+comes around start s x k ls a ad ps to deepens going is low =
+    let left = key_left x k s.mark in
+    record {
+      key = left;
+      leads = record { run = λ d. one d };
+      same = left_in_flow x k s.mark;
+    }
+  where
+    flatly : (d : Bool) → around.indent ≡ 0 → d ≡ false → to d ≡ false
+    flatly true e h = absurd (cc)
+    flatly false e h = deepens.flat e
+
+    one : (d : Bool) → Run around d (state_at around s x (key_left x k s.mark) ls a ad ps) (start d)
+    one d =
+        let st = state_at around s x k ls a ad ps (to d) in
+        let fits : within around.limit st ≡ Ok st = rw (within_limit around.limit s.mark.index low) refl in
+        record {
+          deeper = to d;
+          flat = flatly d;
+          leads = onward (start d) st (state_at around s x (key_left x k s.mark) ls a ad ps (to d)) (going d) (ap (λ r. r >>= within around.limit) (is d) ∙ fits)
+              (ap (λ r. carried r (queue_of ps)) (drops around (to d) s x k ls a ad)) stay;
+        }
+
+-- ## Keys and brackets
+
+off_column : (indent col : ℕ) (d : Bool) → indent ≤ col → (not d && (indent == col + 1)) ≡ false
+off_column indent col true h = refl
+off_column indent col false h = grind (arith, nat_tests)
+
+pub saves_key : (n : ℕ) (around : Around) (d : Bool) (s : Cursor) (x : Context) (k : Option Candidate) (ls : List Level) (a : Bool) (ad : ℕ) → around.indent ≤ s.mark.col
+    → save_key n (core_at around d s x k ls a ad) ≡ core_at around d s x (saved a n s.mark k) ls a ad
+saves_key n around d s x k ls false ad h = refl
+saves_key n around d s context.Block k ls true ad h = rw (off_column around.indent s.mark.col d h, none_required around.required) refl
+saves_key n around d s context.FlowSequence k ls true ad h = refl
+saves_key n around d s context.FlowMapping k ls true ad h = refl
+saves_key n around d s context.FlowPair k ls true ad h = refl
+saves_key n around d s context.ExplicitFlowPair k ls true ad h = refl
+saves_key n around d s context.MarkedFlowPair k ls true ad h = refl
+
+pub starts : (y : Context) (kind : Kind) (n : ℕ) (around : Around) (d : Bool) (s : Cursor) (x : Context) (k : Option Candidate) (ls : List Level) (a : Bool) (ad : ℕ) → around.indent ≤ s.mark.col
+    → flow.start y kind n (core_at around d s x k ls a ad) ≡ open_collection y kind (core_at around (deepened around x d) s x (saved a n s.mark k) ls a ad)
+unfolding flow.start
+starts y kind n around d s x k ls a ad h = ap (λ (c : Core). open_collection y kind (go_deeper c)) (saves_key n around d s x k ls a ad h)
+
+-- nothing is required around a collection, or the collection stands inside another
+abbrev pub Calm : Around → Context → Type 0
+Calm around x = (around.required && is_block x) ≡ false
+
+still_required : (required outer inner : Bool) → inner ≡ false → (required && outer) ≡ false → (required && not outer) ≡ (required && not inner)
+still_required true true inner e h = absurd (cc)
+still_required true false true e h = absurd (cc)
+still_required true false false e h = refl
+still_required false outer inner e h = refl
+
+pub opens : (y : Context) (kind : Kind) (ch : ℕ) (r : List ℕ) (m : Marker) (b : Bool) (around : Around) (d : Bool) (x : Context) (k : Option Candidate) (ls : List Level) (a : Bool) (ad : ℕ) (found : SkipTabs) (there : Cursor)
+    → separation Yes (cursor_at r (along m 1) false) ≡ Ok (found, there) → length ls < 255 → is_block y ≡ false → Calm around x
+    → open_collection y kind (core_at around d (cursor_at (ch ∷ r) m b) x k ls a ad) ≡ went (from_to m there.mark kind ∷ []) (core_at around d there y None (level_of x k ∷ ls) true ad)
+unfolding open_collection
+opens y kind ch r m b around d x k ls a ad found there is low flows calm =
+    let c : Core = record (core_at around d (cursor_at r (along m 1) false) y None (level_of x k ∷ ls) true ad) { required = around.required && not (is_block x) } in
+    rw (not_full (length ls) low) (ap (λ q. (q >>= λ (e : SkipTabs × Cursor). Ok (e.0, with_cursor e.1 c)) >>= λ (e : SkipTabs × Core). went (up_to_here m kind e.1 ∷ []) e.1) is
+    ∙ ap (λ (q : Bool). went (from_to m there.mark kind ∷ []) (record (core_at around d there y None (level_of x k ∷ ls) true ad) { required = q })) (still_required around.required (is_block x) (is_block y) flows calm))
+
+behind : (b : Bool) (around : Around) (d : Bool) (s : Cursor) (x : Context) (k : Option Candidate) (ls : List Level) (ad : ℕ)
+    → cond b (core_at around d s x k ls false ad) (core_at around d s x k ls false s.mark.index) ≡ core_at around d s x k ls false (cond b ad s.mark.index)
+behind true around d s x k ls ad = refl
+behind false around d s x k ls ad = refl
+
+pub closes : (ends : Bool) (kind : Kind) (ch : ℕ) (r : List ℕ) (m : Marker) (b : Bool) (around : Around) (d : Bool) (y : Context) (k j : Option Candidate) (x : Context) (ls : List Level) (a : Bool) (ad : ℕ) (found : SkipTabs)
+    (there : Cursor) → separation Yes (cursor_at r (along m 1) false) ≡ Ok (found, there) → is_block y ≡ false → Calm around x
+    → close_collection ends kind (core_at around d (cursor_at (ch ∷ r) m b) y k (level_of x j ∷ ls) a ad)
+    ≡ went (behind_pair ends m (from_to m there.mark kind)) (core_at around d there x j ls false (cond (is_block x) ad there.mark.index))
+unfolding close_collection
+closes ends kind ch r m b around d y k j x ls a ad found there is flows calm =
+    let was = around.required && not (is_block y) in
+    let c : Core = record (core_at around d (cursor_at r (along m 1) false) x j ls false ad) { required = was } in
+    ap (λ q. (q >>= λ (e : SkipTabs × Cursor). Ok (e.0, with_cursor e.1 c)) >>= λ (e : SkipTabs × Core). went (behind_pair ends m (up_to_here m kind e.1)) (allow_adjacent e.1)) is
+    ∙ ap (λ (q : Bool). went (behind_pair ends m (from_to m there.mark kind)) (allow_adjacent (record (core_at around d there x j ls false ad) { required = q })))
+    (sym (still_required around.required (is_block x) (is_block y) flows calm))
+    ∙ ap (went (behind_pair ends m (from_to m there.mark kind))) (behind (is_block x) around d there x j ls ad)
