@@ -72,3 +72,4 @@ pub mod PlainSpelled
 pub mod PlainTexts
 pub mod PlainSound
 pub mod BlockTold
+pub mod CleanQuotes

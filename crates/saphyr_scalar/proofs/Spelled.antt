@@ -11,7 +11,7 @@ use Rattle.saphyr_scalar.specs.declared.reading.flow.Quote.TheVariants.{Double}
 use Rattle.saphyr_scalar.specs.Cursor.{Cursor, ◌>>=◌, along, pass}
 use Rattle.saphyr_scalar.specs.Quoted.{simple_escape, digit_count, is_scalar, digits, character, numbered, escape_of, escape, with_front, at}
 use Rattle.saphyr_scalar.specs.LineSpelling as spelling
-use Rattle.saphyr_scalar.specs.QuotedSpelling as quotes
+use Rattle.saphyr_scalar.proofs.CleanQuotes as quotes
 use Rattle.saphyr_scalar.specs.Passing.{IsPassed}
 use Rattle.saphyr_scalar.specs.Passing as passing
 use Rattle.saphyr_scalar.proofs.Moving.{by_test}

@@ -15,10 +15,12 @@ use Rattle.saphyr_scalar.specs.Cursor.{Cursor, ◌>>=◌, along, pass_line, next
 use Rattle.saphyr_scalar.specs.FlowReading as flow
 use Rattle.saphyr_scalar.specs.Folding.{is_before_break, empty_lines, line_feeds, raw_break, folded_from, folded}
 use Rattle.saphyr_scalar.specs.Quoted.{TextRead, is_literal, at, Gap, on_line, over_lines, no_gap, is_left, blank_in, break_in, folded_break, begin_word, end_gap, escaped_gap, break_len, is_closing, escape, inside, inside_at, quoted}
-use Rattle.saphyr_scalar.specs.QuotedSpelling as quotes
+use Rattle.saphyr_scalar.specs.QuotedMarkers.{HasNoMarker}
+use Rattle.saphyr_scalar.proofs.CleanQuotes as quotes
+use Rattle.saphyr_scalar.proofs.CleanQuotes.{IsClear}
 use Rattle.saphyr_scalar.specs.Passing.{IsPassed, nothing, character, line_break}
 use Rattle.saphyr_scalar.proofs.Moving.{by_test, either, along_more}
-use Rattle.saphyr_scalar.proofs.Quoting.{behind_gap, behind_no_gap, word_from, IsContent, stands, one_blank, at_break}
+use Rattle.saphyr_scalar.proofs.Quoting.{break_cases, behind_gap, behind_no_gap, word_from, IsContent, stands, one_blank, at_break}
 use Rattle.saphyr_scalar.proofs.QuotedParts.{at_escape, at_two_quotes}
 use Rattle.saphyr_scalar.proofs.QuotedGaps.{by_break_len, at_escaped_break, at_closing}
 use Rattle.saphyr_scalar.proofs.Spelled.{GaveText, nothing_text, text_first, text_second, then_text, front_gave, escape_spelled, no_escape}
@@ -84,12 +86,22 @@ escaped_break_bytes (on_line bytes) items = ap (λ b. bytes ++ b) (escaped_break
 escaped_break_bytes (over_lines escaped n) items =
     ap (λ b. encode_utf8_all (folded_break escaped n) ++ b) (escaped_break_line items) ∙ none_left escaped n _
 
--- the text that was read is spelled so
+-- a line began
+abbrev IsOver : Gap → Type 0
+IsOver (on_line bytes) = ⊥
+IsOver (over_lines escaped n) = Unit {0}
+
+break_over : (gap : Gap) → IsOver (break_in gap)
+break_over (on_line bytes) = tt
+break_over (over_lines escaped n) = tt
+
+-- the text that was read is spelled so, and no line of it begins with a document marker
 pub record Spelled (q : Quote) (gap : Gap) (m : Marker) (xs b : List ℕ) (s : Cursor) : Type 0 where
   pub items : List Item
   pub is : quotes.IsText q xs items s.rest
   pub bytes : gap_bytes gap items ≡ b
   pub passed : IsPassed m xs s.mark s.rest
+  pub clear : IsOver gap → m.col ≡ 0 → IsClear xs
 
 -- what is known of shorter texts
 abbrev Known : ℕ → Quote → ℕ → Marker → Type 0
@@ -118,18 +130,24 @@ line_blank q indent start escaped k m c cs h = rw h refl
 pub blank_no_break : (c : ℕ) → is_blank c ≡ true → is_break c ≡ false
 blank_no_break c h = blank_cases c h (λ x. is_break x ≡ false) refl refl
 
+blank_clear : (c : ℕ) (cs : List ℕ) → is_blank c ≡ true → IsClear (c ∷ cs)
+blank_clear c cs h = blank_cases c h (λ x. IsClear (x ∷ cs)) refl refl
+
+break_clear : (c : ℕ) (cs : List ℕ) → is_break c ≡ true → IsClear (c ∷ cs)
+break_clear c cs h = break_cases c h (λ x. IsClear (x ∷ cs)) refl refl
+
 blank_step : (n : ℕ) (q : Quote) (indent : ℕ) (start : Marker) (gap : Gap) (m : Marker) (c : ℕ) (cs b : List ℕ) (s : Cursor) → is_blank c ≡ true → length cs ≤ n → Known n q indent start
     → GaveText (inside q indent start gap 0 m (c ∷ cs)) b s → Spelled q gap m (c ∷ cs) b s
 unfolding blank_in
 blank_step n q indent start (on_line bytes) m c cs b s h le known g =
     let r = known (on_line (bytes ++ encode_utf8 c)) (along m 1) cs b s le (sym (one_blank q indent start bytes m c cs h) ∙ g) in
-    record { items = Blank c ∷ r.items; is = blank_spelled q c cs r.items s.rest h r.is; bytes = sym (blank_bytes bytes c r.items) ∙ r.bytes; passed = character m c cs s.mark s.rest (blank_no_break c h) r.passed }
+    record { items = Blank c ∷ r.items; is = blank_spelled q c cs r.items s.rest h r.is; bytes = sym (blank_bytes bytes c r.items) ∙ r.bytes; passed = character m c cs s.mark s.rest (blank_no_break c h) r.passed; clear = λ o _. blank_clear c cs h }
 blank_step n q indent start (over_lines escaped k) m c cs b s h le known g =
     by_test ((c == 9) && is_left indent m) _ _ (λ (r : Result Gap Refusal). GaveText (r >>= λ g. inside q indent start g 0 (along m 1) cs) b s → Spelled q (over_lines escaped k) m (c ∷ cs) b s)
     (λ _ e. nothing_text _ b s e)
     (λ _ e.
     let r = known (over_lines escaped k) (along m 1) cs b s le e in
-    record { items = Blank c ∷ r.items; is = blank_spelled q c cs r.items s.rest h r.is; bytes = r.bytes; passed = character m c cs s.mark s.rest (blank_no_break c h) r.passed })
+    record { items = Blank c ∷ r.items; is = blank_spelled q c cs r.items s.rest h r.is; bytes = r.bytes; passed = character m c cs s.mark s.rest (blank_no_break c h) r.passed; clear = λ _ _. blank_clear c cs h })
     (sym (line_blank q indent start escaped k m c cs h) ∙ g)
 
 behind_break_shorter : (c : ℕ) (cs : List ℕ) → length (drop (break_len (c ∷ cs)) (c ∷ cs)) ≤ length cs
@@ -147,7 +165,7 @@ break_step n q indent start gap m c cs b s h le known g =
     let on : inside q indent start gap 0 m (c ∷ cs) ≡ inside_at q indent start (break_in gap) there =
     at_break q indent start gap here h ∙ ap (inside_at q indent start (break_in gap)) (by_break_len here h) in
     let r = known (break_in gap) there.mark there.rest b s (omega (arith, behind_break_shorter c cs)) (sym on ∙ g) in
-    record { items = Break ∷ r.items; is = quotes.broken q (c ∷ cs) r.items s.rest h r.is; bytes = sym (break_bytes gap r.items) ∙ r.bytes; passed = line_break m (c ∷ cs) s.mark s.rest h r.passed }
+    record { items = Break ∷ r.items; is = quotes.broken q (c ∷ cs) r.items s.rest h (r.clear (break_over gap) refl) r.is; bytes = sym (break_bytes gap r.items) ∙ r.bytes; passed = line_break m (c ∷ cs) s.mark s.rest h r.passed; clear = λ _ _. break_clear c cs h }
 
 -- A word, or the closing quote.
 record Word (q : Quote) (m : Marker) (xs y : List ℕ) (s : Cursor) : Type 0 where
@@ -262,6 +280,7 @@ line_word n indent start m (c ∷ cs) y s le known g = cases (c == 34)
           bytes = text_first [] y (at (along m 1) cs) s done;
           passed = subst (λ (u : Cursor). IsPassed m (34 ∷ cs) u.mark u.rest) (text_second [] y (at (along m 1) cs) s done)
               (character m 34 cs (along m 1) cs refl (nothing (along m 1) cs));
+          clear = λ _ _. refl;
         }
 
 -- an escape, or an escaped break
@@ -275,7 +294,7 @@ backslash_word n indent start m (e ∷ xs) y s le known g = cases (is_break e)
     let r = line_word n indent start (next_line (along m 1) (break_len (e ∷ xs))) (drop (break_len (e ∷ xs)) (e ∷ xs)) y s (omega (arith, drop_shorter (break_len (e ∷ xs)) (e ∷ xs))) known (sym (at_escaped_break indent start m (e ∷ xs) h) ∙ g) in
     record {
       items = EscapedBreak ∷ r.items;
-      is = quotes.escaped_break (e ∷ xs) r.items s.rest h r.is;
+      is = quotes.escaped_break (e ∷ xs) r.items s.rest h (r.clear tt refl) r.is;
       bytes = λ gap. ap (λ b. gap_front gap ++ b) (sym r.bytes) ∙ escaped_break_bytes gap r.items;
       passed = character m 92 (e ∷ xs) s.mark s.rest refl (line_break (along m 1) (e ∷ xs) s.mark s.rest h r.passed);
     })
@@ -319,8 +338,9 @@ word_spelled n q indent start m c cs y s is le known g = cases (is_literal q c)
         subst (λ (x : ℕ). Word Double m (x ∷ cs) y s) same (backslash_word n indent start m cs y s le known (ap (λ x. inside Double indent start no_gap 0 m (x ∷ cs)) same ∙ g)))
 
 -- what ends a gap
-pub record Ended (gap : Gap) (xs text : List ℕ) : Type 0 where
+pub record Ended (gap : Gap) (col : ℕ) (xs text : List ℕ) : Type 0 where
   pub bytes : text ≡ gap_front gap
+  pub clear : IsOver gap → col ≡ 0 → IsClear xs
   pub nul : is_z (slice_index xs 0) ≡ false
 
 no_refusal : {A X : Type 0} (r : Refusal) (x : A) → ◌≡◌ {A = Result A Refusal} (Err r) (Ok x) → X
@@ -330,18 +350,18 @@ given_is : (x y : List ℕ) → ◌≡◌ {A = Result (List ℕ) Refusal} (Ok x)
 given_is x y e = cc
 
 abbrev LinesEnded : Bool → ℕ → Cursor → List ℕ → Result Cursor Refusal → Type 0
-LinesEnded escaped n s text r = (r >>= λ t. Ok (encode_utf8_all (folded_break escaped n))) ≡ Ok text → Ended (over_lines escaped n) s.rest text
+LinesEnded escaped n s text r = (r >>= λ t. Ok (encode_utf8_all (folded_break escaped n))) ≡ Ok text → Ended (over_lines escaped n) s.mark.col s.rest text
 
-pub gap_ended : (indent : ℕ) (start : Marker) (gap : Gap) (s : Cursor) (text : List ℕ) → end_gap indent start gap s ≡ Ok text → Ended gap s.rest text
+pub gap_ended : (indent : ℕ) (start : Marker) (gap : Gap) (s : Cursor) (text : List ℕ) → end_gap indent start gap s ≡ Ok text → Ended gap s.mark.col s.rest text
 unfolding end_gap begin_word
 gap_ended indent start (on_line bytes) s text =
-    by_test (is_z (slice_index s.rest 0)) _ _ (λ (r : Result (List ℕ) Refusal). r ≡ Ok text → Ended (on_line bytes) s.rest text)
-    (λ _ e. no_refusal _ text e) (λ nul e. record { bytes = given_is bytes text e; nul = nul })
+    by_test (is_z (slice_index s.rest 0)) _ _ (λ (r : Result (List ℕ) Refusal). r ≡ Ok text → Ended (on_line bytes) s.mark.col s.rest text)
+    (λ _ e. no_refusal _ text e) (λ nul e. record { bytes = given_is bytes text e; clear = λ o. absurd o; nul = nul })
 gap_ended indent start (over_lines escaped n) s text =
     by_test ((s.mark.col == 0) && is_document_indicator s.rest) _ _ (LinesEnded escaped n s text) (λ _ e. no_refusal _ text e)
-    (λ _. by_test (is_z (slice_index s.rest 0)) _ _ (LinesEnded escaped n s text) (λ _ e. no_refusal _ text e)
+    (λ none. by_test (is_z (slice_index s.rest 0)) _ _ (LinesEnded escaped n s text) (λ _ e. no_refusal _ text e)
     (λ nul. by_test (is_left indent s.mark) _ _ (LinesEnded escaped n s text) (λ _ e. no_refusal _ text e)
-    (λ _ e. record { bytes = given_is (encode_utf8_all (folded_break escaped n)) text e; nul = nul })))
+    (λ _ e. record { bytes = given_is (encode_utf8_all (folded_break escaped n)) text e; clear = λ _ first. sym (ap (λ k. (k == 0) && is_document_indicator s.rest) first) ∙ none; nul = nul })))
 
 then_front : (r : Result (List ℕ) Refusal) (f : List ℕ → TextRead) (b : List ℕ) (s : Cursor) → GaveText (r >>= f) b s → (text : List ℕ) × (r ≡ Ok text) × GaveText (f text) b s
 then_front (Ok x) f b s e = (x, refl, e)
@@ -354,7 +374,7 @@ content_step n q indent start gap m c cs b s blank break le known g =
     let ended = gap_ended indent start gap (at m (c ∷ cs)) t.0 t.1 in
     let f = front_gave t.0 (word_from q indent start m c cs) b s t.2 in
     let w = word_spelled n q indent start m c cs f.0 s (record { blank = blank; break = break; nul = ended.nul }) le known (behind_no_gap q indent start m c cs blank break ended.nul ∙ f.1) in
-    record { items = w.items; is = w.is; bytes = sym (w.bytes gap) ∙ ap (λ x. x ++ f.0) (sym ended.bytes) ∙ f.2; passed = w.passed }
+    record { items = w.items; is = w.is; bytes = sym (w.bytes gap) ∙ ap (λ x. x ++ f.0) (sym ended.bytes) ∙ f.2; passed = w.passed; clear = ended.clear }
 
 at_text_end : (q : Quote) (indent : ℕ) (start : Marker) (gap : Gap) (m : Marker) (b : List ℕ) (s : Cursor) → GaveText (inside q indent start gap 0 m []) b s → Spelled q gap m [] b s
 unfolding inside
@@ -371,17 +391,18 @@ inside_spelled (suc n) q indent start gap m (c ∷ cs) b s le g =
     (λ break. break_step n q indent start gap m c cs b s break (omega arith) known g)
     (λ break. content_step n q indent start gap m c cs b s blank break (omega arith) known g))
 
--- What was read as a quoted scalar is spelled so, and its items read as the text.
-pub quoted_spelled : (q : Quote) (indent : ℕ) (t : Cursor) (b : List ℕ) (s : Cursor) → slice_index t.rest 0 ≡ flow.mark q → GaveText (quoted q indent t) b s
-    → (items : List Item) × quotes.IsQuotedText q t.rest items s.rest × (encode_utf8_all (folded items) ≡ b) × IsPassed t.mark t.rest s.mark s.rest
+-- What was read as a quoted scalar is spelled so, its items read as the text, and no line of it begins with a document marker.
+pub quoted_clean : (q : Quote) (indent : ℕ) (t : Cursor) (b : List ℕ) (s : Cursor) → slice_index t.rest 0 ≡ flow.mark q → GaveText (quoted q indent t) b s
+    → (items : List Item) × (is : quotes.IsQuotedText q t.rest items s.rest) × (encode_utf8_all (folded items) ≡ b) × IsPassed t.mark t.rest s.mark s.rest × HasNoMarker q is.0 items s.rest is.2
 unfolding quoted
-quoted_spelled q indent t b s quote g =
+quoted_clean q indent t b s quote g =
     let inner = inside_spelled (length (drop 1 t.rest)) q indent t.mark no_gap (along t.mark 1) (drop 1 t.rest) b s (omega arith) g in
     let cut = opened q t.rest quote in (
       inner.items,
-      (drop 1 t.rest, cut, inner.is),
+      (drop 1 t.rest, cut, inner.is.0),
       sym (no_gap_bytes inner.items) ∙ inner.bytes,
       subst (λ (l : List ℕ). IsPassed t.mark l s.mark s.rest) (sym cut) (character t.mark (flow.mark q) (drop 1 t.rest) s.mark s.rest (mark_no_break q) inner.passed),
+      inner.is.1,
     )
   where
     none : (q : Quote) → 0 ≡ flow.mark q → ⊥
@@ -391,3 +412,7 @@ quoted_spelled q indent t b s quote g =
     opened : (q : Quote) (xs : List ℕ) → slice_index xs 0 ≡ flow.mark q → xs ≡ flow.mark q ∷ drop 1 xs
     opened q [] h = absurd (none q h)
     opened q (c ∷ cs) h = ap (λ x. x ∷ cs) h
+
+pub quoted_spelled : (q : Quote) (indent : ℕ) (t : Cursor) (b : List ℕ) (s : Cursor) → slice_index t.rest 0 ≡ flow.mark q → GaveText (quoted q indent t) b s
+    → (items : List Item) × quotes.IsQuotedText q t.rest items s.rest × (encode_utf8_all (folded items) ≡ b) × IsPassed t.mark t.rest s.mark s.rest
+quoted_spelled q indent t b s quote g = let r = quoted_clean q indent t b s quote g in (r.0, r.1, r.2, r.3)

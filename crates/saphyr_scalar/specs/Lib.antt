@@ -20,6 +20,7 @@ pub mod PlainReading
 pub mod PlainSpelling
 pub mod Quoted
 pub mod QuotedLines
+pub mod QuotedMarkers
 pub mod QuotedSpelling
 pub mod RefusedInside
 pub mod Seen

@@ -15,6 +15,7 @@ ghost use Rattle.saphyr_scalar.specs.QuotedSpelling.{IsQuotedText};
 ghost use Rattle.saphyr_scalar.specs.FlowReading as flow;
 ghost use Rattle.saphyr_scalar.specs.FlowReading.{plain_value};
 ghost use Rattle.saphyr_scalar.specs.QuotedLines.{AreOnLine, LinesFit};
+ghost use Rattle.saphyr_scalar.specs.QuotedMarkers.{HasNoMarker};
 ghost use Rattle.saphyr_scalar.specs.Passing.{IsPassed};
 ghost use Rattle.saphyr_input.specs.Breaks.{normalized};
 ghost use Rattle.saphyr_scalar.specs.Folding.{folded};
@@ -53,6 +54,11 @@ pub fn passes_to_one_place()
 /// reading of what it spells, its lines folded, and its place is told of each character and break.
 pub fn spells_each_quoted()
     ensures { (quote : Quote) (indent : ℕ) (s t : Cursor) (text : List ℕ) → slice_index s.rest 0 ≡ flow.mark quote → quoted quote indent s ≡ Ok (text, t) → (items : List Item) × IsQuotedText quote s.rest items t.rest × (encode_utf8_all (folded items) ≡ text) × IsPassed s.mark s.rest t.mark t.rest }
+{}
+
+/// No later line of what is read as a quoted scalar begins with a document marker.
+pub fn keeps_markers_out_of_quotes()
+    ensures { (quote : Quote) (indent : ℕ) (s t : Cursor) (text : List ℕ) → slice_index s.rest 0 ≡ flow.mark quote → quoted quote indent s ≡ Ok (text, t) → (items : List Item) × (is : IsQuotedText quote s.rest items t.rest) × (encode_utf8_all (folded items) ≡ text) × IsPassed s.mark s.rest t.mark t.rest × HasNoMarker quote is.0 items t.rest is.2 }
 {}
 
 /// What is read as a quoted scalar is a piece of the text, quotes and all, and its text is the value

@@ -1,0 +1,5 @@
+use Rattle.saphyr_scalar.proofs.SpelledLines.{quoted_clean}
+use Rattle.saphyr_scalar.proofs.scalar.law.keeps_markers_out_of_quotes.Goals as goal
+
+pub returns : goal.returns
+returns c = λ quote indent s t text opening read. quoted_clean quote indent s text t opening read
