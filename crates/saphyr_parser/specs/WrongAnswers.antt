@@ -3,7 +3,7 @@ use Rattle.std.specs.Prelude.{◌≡◌, true, false, List, [], ◌∷◌, ◌++
 use Rattle.saphyr_input.specs.Places.{is_blank_or_break}
 use Rattle.saphyr_scalar.specs.declared.scalar.position.Marker.{Marker}
 use Rattle.saphyr_scalar.specs.declared.scalar.position.Span.{Span}
-use Rattle.saphyr_scanner.specs.Forest.{Plain, Literal}
+use Rattle.saphyr_scanner.specs.Forest.{Plain, DoubleQuoted, Literal}
 use Rattle.saphyr_scanner.specs.Seen.{Piece}
 use Rattle.saphyr_scanner.specs.TakenTexts.{at, from_to, empty_at}
 use Rattle.saphyr_scanner.specs.Tokens as tokens
@@ -121,6 +121,20 @@ nul_inside =
           (events.Scalar (codes "a\0b\n") Literal 0 None, span_of (at 3 2 1) (at 7 3 0)) ∷
           (events.DocumentEnd, span_of (at 7 3 0) (at 7 3 0)) ∷
           (events.StreamEnd, span_of (at 7 3 0) (at 7 3 0)) ∷
+          [];
+      fault = None;
+    }
+
+-- `"a` LF `--- b"` as one scalar
+abbrev pub marker_in_quotes : Answer
+marker_in_quotes =
+    record {
+      events =
+          (events.StreamStart, origin) ∷
+          (events.DocumentStart false, origin) ∷
+          (events.Scalar (codes "a --- b") DoubleQuoted 0 None, span_of (at 0 1 0) (at 9 2 6)) ∷
+          (events.DocumentEnd, span_of (at 9 2 6) (at 9 2 6)) ∷
+          (events.StreamEnd, span_of (at 9 2 6) (at 9 2 6)) ∷
           [];
       fault = None;
     }

@@ -20,12 +20,13 @@ pub fn begins_values_with_ink()
 {}
 
 /// What is not taken: `- a` with the value ` a`, and `a:` LF ` b` with the value ` b`; a block scalar
-/// that goes on over a document marker, or over a NUL; all events with a fault behind the end of the
+/// that goes on over a document marker, or over a NUL, and a quoted one over a document marker; all events with a fault behind the end of the
 /// stream, and none without one.
 pub fn takes_no_wrong_answers()
     ensures blank_first { (keep : Bool) → ¬ AreTaken keep (codes "- a") wrong.blank_first }
     ensures break_first { (keep : Bool) → ¬ AreTaken keep (codes "a:\n b") wrong.break_first }
     ensures marker_inside { (keep : Bool) → ¬ AreTaken keep (codes "--- |\na\n---\nb\n") wrong.marker_inside }
+    ensures marker_in_quotes { (keep : Bool) → ¬ AreTaken keep (codes "\"a\n--- b\"") wrong.marker_in_quotes }
     ensures nul_inside { (keep : Bool) → ¬ AreTaken keep (codes "|\n a\0b\n") wrong.nul_inside }
     ensures fault_behind_the_end { (keep : Bool) → ¬ AreTaken keep (codes "- a") wrong.fault_behind_the_end }
     ensures no_events { (keep : Bool) → ¬ AreTaken keep (codes "a") wrong.no_events }

@@ -25,6 +25,7 @@ use Rattle.saphyr_scalar.specs.Plain as words
 use Rattle.saphyr_scalar.specs.PlainReading.{IsSpelledPlain, IsPlainReading}
 use Rattle.saphyr_scalar.specs.Quoted as quoted
 use Rattle.saphyr_scalar.specs.Quoted.{at}
+use Rattle.saphyr_scalar.specs.QuotedMarkers.{HasNoMarker}
 use Rattle.saphyr_scalar.specs.QuotedSpelling.{IsQuotedText}
 use Rattle.saphyr_scalar.specs.Tag as tags
 use Rattle.saphyr_scalar.specs.TagSpelling.{IsAnchorName, IsHandleText, IsTagText, EndsTag}
@@ -58,7 +59,7 @@ pub record BlockPlace (s : Cursor) (span : Span) (t : Cursor) : Type 0 where
 pub record TextLaws : Type 0 where
   pub plain : (in_flow : Bool) (indent : ℕ) (s t : Cursor) (text : List ℕ) (end : Marker) (comment : Option Marker) → words.plain in_flow indent s ≡ Ok (text, end, comment, t) → IsPlainReading s text end t
   pub quotes : (quote : Quote) (indent : ℕ) (s t : Cursor) (text : List ℕ) → slice_index s.rest 0 ≡ mark quote → quoted.quoted quote indent s ≡ Ok (text, t)
-      → (items : List Item) × IsQuotedText quote s.rest items t.rest × (encode_utf8_all (folded items) ≡ text) × IsPassed s.mark s.rest t.mark t.rest
+      → (items : List Item) × (is : IsQuotedText quote s.rest items t.rest) × (encode_utf8_all (folded items) ≡ text) × IsPassed s.mark s.rest t.mark t.rest × HasNoMarker quote is.0 items t.rest is.2
   pub ink : (in_flow : Bool) (indent : ℕ) (s t : Cursor) (text : List ℕ) (end : Marker) (comment : Option Marker) → words.plain in_flow indent s ≡ Ok (text, end, comment, t) → is_blank_or_break (slice_index s.rest 0) ≡ false
   pub block_text : (style : BlockStyle) (indent : ℕ) (s t : Cursor) (text : List ℕ) (span : Span) → slice_index s.rest 0 ≡ taken.block_indicator style → blocks.block_scalar style indent s ≡ Ok (text, span, t) → IsBlockText style indent s text span.start t
   pub block_place : (style : BlockStyle) (indent : ℕ) (s t : Cursor) (text : List ℕ) (span : Span) → slice_index s.rest 0 ≡ taken.block_indicator style → blocks.block_scalar style indent s ≡ Ok (text, span, t) → BlockPlace s span t
@@ -104,7 +105,7 @@ quotes_hold laws columns from q quote style quoting c d s h f deep =
     (λ _. behind_gap_of P (with_cursor t (with_cursor x.1 d)) _ (λ g a apart.
     let piece : Piece = record { span = record { start = d.cursor.mark; end = t.mark }; kind = tokens.Scalar style x.0 } in
     saved_put columns from q c d (scalar.adjacent_here g) piece x.1 s (quoting.quiet x.0) (λ i. quoting.of i x.0 piece.span) refl deep
-    (quoting.is d.indent x.0 piece.span d.cursor x.1 (r.0, r.1, sym r.2, r.3, refl, o.on_line)) (apart_apart _ _ _ _ _ _ o.apart apart)
+    (quoting.is d.indent x.0 piece.span d.cursor x.1 (r.0, r.1, sym r.2, r.3, refl, o.on_line, r.4)) (apart_apart _ _ _ _ _ _ o.apart apart)
     (record { level = a.level; outer = a.outer; indent = a.indent; outer_indents = a.outer_indents }) h))
     (λ _. tt)))
 

@@ -21,7 +21,7 @@ apart e = cc
 pub takes_flow_mapping : AreTakenFrom (codes "{'a': \"b\" # c\n}") texts.flow_mapping
 unfolding encode
 takes_flow_mapping =
-    (cursor [] (at 15 2 1), (cursor (codes "{'a': \"b\" # c\n}") (at 0 1 0), cursor (codes "{'a': \"b\" # c\n}") (at 0 1 0), taken.nothing _ _, (refl, inl refl, refl), (cursor (codes "{'a': \"b\" # c\n}") (at 0 1 0), cursor (codes "'a': \"b\" # c\n}") (at 1 1 1), taken.nothing _ _, inl ((refl, refl), refl, ([], codes "'a': \"b\" # c\n}", ([], [], tt, inl refl, refl), refl, refl)), (cursor (codes "'a': \"b\" # c\n}") (at 1 1 1), cursor (codes "'a': \"b\" # c\n}") (at 1 1 1), taken.nothing _ _, inr (refl, inl refl, refl), (cursor (codes "'a': \"b\" # c\n}") (at 1 1 1), cursor (codes ": \"b\" # c\n}") (at 4 1 4), taken.nothing _ _, (Raw 97 ∷ [], (codes "a': \"b\" # c\n}", refl, itself _ 97 _ _ _ refl (closed _ _ refl)), refl, passing.character _ _ _ _ _ refl (passing.character _ _ _ _ _ refl (passing.character _ _ _ _ _ refl (passing.nothing _ _))), refl, ([], codes ": \"b\" # c\n}", ([], [], tt, inl refl, refl), refl, refl)), (cursor (codes ": \"b\" # c\n}") (at 4 1 4), cursor (codes " \"b\" # c\n}") (at 5 1 5), taken.nothing _ _, ((refl, refl), refl, refl), (cursor (codes "\"b\" # c\n}") (at 6 1 6), cursor (codes " # c\n}") (at 9 1 9), taken.blank _ _ _ _ _ refl (taken.nothing _ _), (Raw 98 ∷ [], (codes "b\" # c\n}", refl, itself _ 98 _ _ _ refl (closed _ _ refl)), refl, passing.character _ _ _ _ _ refl (passing.character _ _ _ _ _ refl (passing.character _ _ _ _ _ refl (passing.nothing _ _))), refl, (codes " # c", codes "\n}", (codes " ", codes "# c", (refl, tt), inr (codes " c", (λ e. cc), (refl, (refl, tt)), refl), refl), refl, refl)), (cursor (codes "}") (at 14 2 0), cursor [] (at 15 2 1), taken.blank _ _ _ _ _ refl (taken.comment _ (codes " c") (codes "\n}") _ _ (refl, (refl, tt)) refl (taken.line_break _ _ _ _ refl (taken.nothing _ _))), inl ((refl, refl), refl, ([], [], ([], [], tt, inl refl, refl), refl, refl)), (cursor [] (at 15 2 1), cursor [] (at 15 2 1), taken.nothing _ _, (refl, (refl, inr (refl, refl), refl)), refl)))))))), refl)
+    (cursor [] (at 15 2 1), (cursor (codes "{'a': \"b\" # c\n}") (at 0 1 0), cursor (codes "{'a': \"b\" # c\n}") (at 0 1 0), taken.nothing _ _, (refl, inl refl, refl), (cursor (codes "{'a': \"b\" # c\n}") (at 0 1 0), cursor (codes "'a': \"b\" # c\n}") (at 1 1 1), taken.nothing _ _, inl ((refl, refl), refl, ([], codes "'a': \"b\" # c\n}", ([], [], tt, inl refl, refl), refl, refl)), (cursor (codes "'a': \"b\" # c\n}") (at 1 1 1), cursor (codes "'a': \"b\" # c\n}") (at 1 1 1), taken.nothing _ _, inr (refl, inl refl, refl), (cursor (codes "'a': \"b\" # c\n}") (at 1 1 1), cursor (codes ": \"b\" # c\n}") (at 4 1 4), taken.nothing _ _, (Raw 97 ∷ [], (codes "a': \"b\" # c\n}", refl, itself _ 97 _ _ _ refl (closed _ _ refl)), refl, passing.character _ _ _ _ _ refl (passing.character _ _ _ _ _ refl (passing.character _ _ _ _ _ refl (passing.nothing _ _))), refl, ([], codes ": \"b\" # c\n}", ([], [], tt, inl refl, refl), refl, refl), tt), (cursor (codes ": \"b\" # c\n}") (at 4 1 4), cursor (codes " \"b\" # c\n}") (at 5 1 5), taken.nothing _ _, ((refl, refl), refl, refl), (cursor (codes "\"b\" # c\n}") (at 6 1 6), cursor (codes " # c\n}") (at 9 1 9), taken.blank _ _ _ _ _ refl (taken.nothing _ _), (Raw 98 ∷ [], (codes "b\" # c\n}", refl, itself _ 98 _ _ _ refl (closed _ _ refl)), refl, passing.character _ _ _ _ _ refl (passing.character _ _ _ _ _ refl (passing.character _ _ _ _ _ refl (passing.nothing _ _))), refl, (codes " # c", codes "\n}", (codes " ", codes "# c", (refl, tt), inr (codes " c", (λ e. cc), (refl, (refl, tt)), refl), refl), refl, refl), tt), (cursor (codes "}") (at 14 2 0), cursor [] (at 15 2 1), taken.blank _ _ _ _ _ refl (taken.comment _ (codes " c") (codes "\n}") _ _ (refl, (refl, tt)) refl (taken.line_break _ _ _ _ refl (taken.nothing _ _))), inl ((refl, refl), refl, ([], [], ([], [], tt, inl refl, refl), refl, refl)), (cursor [] (at 15 2 1), cursor [] (at 15 2 1), taken.nothing _ _, (refl, (refl, inr (refl, refl), refl)), refl)))))))), refl)
 
 pub takes_alias : AreTakenFrom (codes "[&x a, *x]") texts.alias
 unfolding encode

@@ -18,6 +18,7 @@ use Rattle.saphyr_scalar.specs.Cursor.{Cursor, fresh, along, next_line}
 use Rattle.saphyr_scalar.specs.Passing.{IsPassed}
 use Rattle.saphyr_scalar.specs.Quoted.{break_len}
 use Rattle.saphyr_scalar.specs.Folding.{folded}
+use Rattle.saphyr_scalar.specs.QuotedMarkers.{HasNoMarker}
 use Rattle.saphyr_scalar.specs.QuotedSpelling.{IsQuotedText}
 use Rattle.saphyr_scalar.specs.PlainReading.{IsPlainReading}
 use Rattle.saphyr_scalar.specs.BlockText.{IsBlockText}
@@ -141,10 +142,11 @@ IsColon span s t = IsCharacter 58 s t × (span.start ≡ s.mark) × (span.end �
 
 -- ## Scalars (7.3, 8.1)
 
--- from quote to quote, behind which the span has only blanks and a comment
+-- From quote to quote, behind which the span has only blanks and a comment. No later line begins with a document marker.
 abbrev pub IsQuotedScalar : Quote → List ℕ → Span → Cursor → Cursor → Type 0
 IsQuotedScalar quote value span s t =
-    (items : List Item) × IsQuotedText quote s.rest items t.rest × (value ≡ encode_utf8_all (folded items)) × IsPassed s.mark s.rest t.mark t.rest × (span.start ≡ s.mark) × IsOnLine t span.end
+    (items : List Item) × (is : IsQuotedText quote s.rest items t.rest) × (value ≡ encode_utf8_all (folded items)) × IsPassed s.mark s.rest t.mark t.rest × (span.start ≡ s.mark) × IsOnLine t span.end
+    × HasNoMarker quote is.0 items t.rest is.2
 
 -- no indicator with which another token begins inside flow and outside
 abbrev pub begins_plain : ℕ → Bool

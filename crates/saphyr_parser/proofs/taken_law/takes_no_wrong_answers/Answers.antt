@@ -1,4 +1,5 @@
 use Rattle.saphyr_parser.proofs.Wrong.Refused as refused
+use Rattle.saphyr_parser.proofs.Wrong.Quotes as quotes
 use Rattle.saphyr_parser.proofs.taken_law.takes_no_wrong_answers.Goals as goal
 
 pub returns-clause-blank_first : goal.returns-clause-blank_first
@@ -18,3 +19,6 @@ returns-clause-fault_behind_the_end c = refused.fault_behind_the_end
 
 pub returns-clause-no_events : goal.returns-clause-no_events
 returns-clause-no_events c = refused.no_events
+
+pub returns-clause-marker_in_quotes : goal.returns-clause-marker_in_quotes
+returns-clause-marker_in_quotes c = quotes.marker_in_quotes

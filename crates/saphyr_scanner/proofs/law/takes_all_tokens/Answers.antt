@@ -31,7 +31,7 @@ returns c =
     } in
     let laws : TextLaws = record {
       plain = c.reads_plain_values.ensures;
-      quotes = c.spells_each_quoted.ensures;
+      quotes = c.keeps_markers_out_of_quotes.ensures;
       ink = c.begins_plain_scalars_with_ink.ensures;
       block_text = λ style indent s t text span e r. c.reads_block_texts.ensures style indent s t text span (ap is_break e ∙ indicator_begins style) (some_indicator style s.rest e) r;
       block_place = λ style indent s t text span e r.
