@@ -27,11 +27,11 @@ or_cond : {X : Type 0} (a b : Bool) (x y : X) → cond (a || b) x y ≡ cond a x
 or_cond true b x y = refl
 or_cond false b x y = refl
 
-same_escape : (e : ℕ) → simple_escape e ≡ escapes.short_escape e
+pub same_escape : (e : ℕ) → simple_escape e ≡ escapes.short_escape e
 unfolding simple_escape
 same_escape e = ap (λ r. cond (e == 48) (Some 0x00) (cond (e == 97) (Some 0x07) (cond (e == 98) (Some 0x08) r))) (or_cond (e == 116) (e == 9) (Some 0x09) _)
 
-same_count : (e n : ℕ) → n ≡ digit_count e → 0 < n → escapes.digit_count e ≡ Some n
+pub same_count : (e n : ℕ) → n ≡ digit_count e → 0 < n → escapes.digit_count e ≡ Some n
 same_count e n is some = by_tests (e == 120) (e == 117) (e == 85) is
   where
     by_tests : (a b c : Bool) → n ≡ cond a 2 (cond b 4 (cond c 8 0)) → cond a (Some 2) (cond b (Some 4) (cond c (Some 8) None)) ≡ Some n
@@ -40,7 +40,7 @@ same_count e n is some = by_tests (e == 120) (e == 117) (e == 85) is
     by_tests false false true h = ap Some (sym h)
     by_tests false false false h = absurd (omega arith)
 
-same_scalar : (n : ℕ) → IsTrue (is_scalar n) → escapes.is_scalar_value n ≡ true
+pub same_scalar : (n : ℕ) → IsTrue (is_scalar n) → escapes.is_scalar_value n ≡ true
 same_scalar n h = ap (λ b. nat_lt n 0xD800 || (nat_le 0xE000 n && b)) (at_most n) ∙ h
   where
     at_most : (n : ℕ) → nat_le n 0x10FFFF ≡ nat_lt n 0x11_0000

@@ -10,7 +10,8 @@ ghost use Rattle.saphyr_scalar.specs.BlockScalar.{block_scalar};
 ghost use Rattle.saphyr_scalar.specs.Directive.{Directive, directive};
 ghost use Rattle.saphyr_scalar.specs.Tag.{tag};
 ghost use Rattle.saphyr_scalar.specs.Cursor.{Cursor, along};
-ghost use Rattle.saphyr_scalar.specs.Quoted.{double_quoted, quoted, at};
+ghost use Rattle.saphyr_scalar.specs.Escapes as escapes;
+ghost use Rattle.saphyr_scalar.specs.Quoted.{double_quoted, quoted, at, simple_escape, digit_count, is_scalar};
 ghost use Rattle.saphyr_scalar.specs.QuotedSpelling.{IsQuotedText};
 ghost use Rattle.saphyr_scalar.specs.FlowReading as flow;
 ghost use Rattle.saphyr_scalar.specs.FlowReading.{plain_value};
@@ -54,6 +55,14 @@ pub fn passes_to_one_place()
 /// reading of what it spells, its lines folded, and its place is told of each character and break.
 pub fn spells_each_quoted()
     ensures { (quote : Quote) (indent : ℕ) (s t : Cursor) (text : List ℕ) → slice_index s.rest 0 ≡ flow.mark quote → quoted quote indent s ≡ Ok (text, t) → (items : List Item) × IsQuotedText quote s.rest items t.rest × (encode_utf8_all (folded items) ≡ text) × IsPassed s.mark s.rest t.mark t.rest }
+{}
+
+/// The escapes that are read are those of the standard's table: what a name stands for, how many digits
+/// follow one, and which numbers are characters.
+pub fn reads_the_table_of_escapes()
+    ensures names { (name : ℕ) → simple_escape name ≡ escapes.short_escape name }
+    ensures digits { (name count : ℕ) → count ≡ digit_count name → 0 < count → escapes.digit_count name ≡ Some count }
+    ensures characters { (number : ℕ) → is_scalar number ≡ true → escapes.is_scalar_value number ≡ true }
 {}
 
 /// No later line of what is read as a quoted scalar begins with a document marker.
