@@ -3,6 +3,7 @@
 #![tactic(auto)]
 
 mod characters;
+mod inputs;
 mod reading;
 mod receivers;
 
@@ -13,7 +14,7 @@ use std::process::ExitCode;
 fn main(rt: HostRuntime) -> io::Result<ExitCode> {
     let mut text = String::new(rt.alloc());
     rt.stdin().read_to_string(&mut text)?;
-    match reading::count_all(rt.alloc(), text.as_str()) {
+    match inputs::count_all(rt.alloc(), text.as_str()) {
         Ok(counts) => {
             println!(rt; "{counts:?}")?;
             Ok(ExitCode::SUCCESS)
