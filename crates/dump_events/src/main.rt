@@ -11,24 +11,24 @@ ghost use Rattle.std.specs.Prelude.{◌≡◌};
 ghost use Rattle.std.specs.Process.{exit_status};
 
 use saphyr_parser::run_dump;
-use std::env;
+use std::env::{Env, FillError};
 use std::fs::File;
-use std::io::{BufWriter, Read};
+use std::io::{BufWriter, Read, Write};
 use std::process::ExitCode;
 
+/// How many bytes an argument has at most. Linux hands over no longer one.
+const LONGEST_ARGUMENT: usize = 131_072;
+
+// The arguments are counted and read without memory, so that their want is no call that isn't known.
 fn main(rt: HostRuntime) -> ExitCode {
-    // Arguments that can't be taken are no call that is known either.
-    let Ok(mut args) = env::args(&rt) else {
-        return usage(&rt);
-    };
-    args.next();
-    let path = args.next();
-    if args.next().is_some() {
+    if !matches!(rt.arg(2, &mut []), Err(FillError::NotPresent)) {
         return usage(&rt);
     }
-    match path {
-        Some(path) => dump_file(&rt, path.as_str()),
-        None => dump_from(&rt, "-", &mut rt.stdin()),
+    let mut bytes = [0; LONGEST_ARGUMENT];
+    match rt.arg(1, &mut bytes) {
+        Ok(count) => dump_named(&rt, &bytes[..count]),
+        Err(FillError::NotPresent) => dump_from(&rt, "-", &mut rt.stdin()),
+        Err(FillError::TooLong) => cant_read(&mut rt.stderr(), b"FILE"),
     }
 }
 
@@ -39,13 +39,28 @@ fn usage(rt: &HostRuntime) -> ExitCode
     ExitCode::from(2)
 }
 
+// Says that a source can't be read, whatever bytes its name has.
+fn cant_read<E: Write>(err: &mut E, name: &[u8]) -> ExitCode
+    ensures { exit_status result ≡ 1 }
+{
+    let _ = err.write_all(b"dump_events: can't read ");
+    let _ = err.write_all(name);
+    let _ = err.write_all(b"\n");
+    ExitCode::FAILURE
+}
+
+// The kit opens no file whose name isn't UTF-8.
+fn dump_named(rt: &HostRuntime, name: &[u8]) -> ExitCode {
+    match str::from_utf8(name) {
+        Ok(path) => dump_file(rt, path),
+        Err(_) => cant_read(&mut rt.stderr(), name),
+    }
+}
+
 fn dump_file(rt: &HostRuntime, path: &str) -> ExitCode {
     match File::open(rt, path) {
         Ok(mut file) => dump_from(rt, path, &mut file),
-        Err(_) => {
-            let _ = eprintln!(rt; "dump_events: can't read {path}");
-            ExitCode::FAILURE
-        }
+        Err(_) => cant_read(&mut rt.stderr(), path.as_bytes()),
     }
 }
 

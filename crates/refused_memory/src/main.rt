@@ -1,0 +1,119 @@
+//! Looks at what stands where a request for memory is refused.
+//!
+//!     refused_memory <CASE
+//!
+//! Reads a case of the tests from standard input, and takes its events in each way that there is. They are
+//! all that the case lists, or where a request for memory was refused a beginning of it and then want of
+//! memory, and what stands behind that is as it is to be. A line for each way says which of both it was. The
+//! program itself refuses no request: `tests/refused_memory.py` has each be refused in turn.
+//!
+//! The status is 1 where anything differs, and 2 where the case can't be read or compared, as for want of
+//! memory.
+#![tactic(auto)]
+
+mod clones;
+mod ended;
+mod outcome;
+mod parts;
+mod ways;
+
+use case_files::{Case, Difference, parse_cases, printed};
+use outcome::Outcome;
+use saphyr_parser::{Parser, StrInput};
+use std::alloc::{AllocError, Global};
+use std::io;
+use std::process::ExitCode;
+use thiserror::Error;
+
+/// Why there is no line for a way.
+#[derive(Debug, Drop, Error)]
+enum Failure {
+    #[error("out of memory")]
+    OutOfMemory(#[from] AllocError),
+    #[error("the case can't be read, or the lines can't be printed")]
+    Io(#[from] io::Error),
+    #[error("{0}")]
+    Differs(String),
+}
+
+impl Failure {
+    fn status(&self) -> u8 {
+        match self {
+            Failure::Differs(_) => 1,
+            Failure::OutOfMemory(_) | Failure::Io(_) => 2,
+        }
+    }
+}
+
+/// A way to take events, or to have something else made that takes memory.
+#[derive(Clone, Copy, Debug)]
+enum Way {
+    NextEvent,
+    Peek,
+    LoadAll,
+    LoadEach,
+    TryClone,
+    Copies,
+    Dump,
+    NewFromIter,
+    NewStr,
+}
+
+const WAYS: [Way; 9] = [
+    Way::NextEvent,
+    Way::Peek,
+    Way::LoadAll,
+    Way::LoadEach,
+    Way::TryClone,
+    Way::Copies,
+    Way::Dump,
+    Way::NewFromIter,
+    Way::NewStr,
+];
+
+fn main(rt: HostRuntime) -> ExitCode {
+    match run(&rt) {
+        Ok(()) => ExitCode::SUCCESS,
+        Err(failure) => {
+            let _ = eprintln!(rt; "refused_memory: {failure}");
+            ExitCode::from(failure.status())
+        }
+    }
+}
+
+fn run(rt: &HostRuntime) -> Result<(), Failure> {
+    let alloc = rt.alloc();
+    let text = io::read_to_string(alloc, rt.stdin())?;
+    for case in &parse_cases(alloc, text.as_str())? {
+        let lines = printed(alloc, case.lines.as_slice())?;
+        for way in WAYS {
+            match take(alloc, case, lines.as_str(), way) {
+                Ok(Outcome::Whole) => println!(rt; "{way:?}: whole")?,
+                Ok(Outcome::Refused) => println!(rt; "{way:?}: refused")?,
+                Err(Difference::OutOfMemory(error)) => return Err(Failure::OutOfMemory(error)),
+                Err(Difference::Found(text)) => return Err(Failure::Differs(text)),
+            }
+        }
+    }
+    Ok(())
+}
+
+fn take(alloc: Global, case: &Case, text: &str, way: Way) -> Result<Outcome, Difference> {
+    let parser = &mut parser_of(alloc, case);
+    let lines = case.lines.as_slice();
+    match way {
+        Way::NextEvent => ways::by_next_event(alloc, parser, lines),
+        Way::Peek => ways::by_peek(alloc, parser, lines),
+        Way::LoadAll => ways::by_load(alloc, parser, lines, true),
+        Way::LoadEach => ways::by_load(alloc, parser, lines, false),
+        Way::TryClone => clones::by_clones(alloc, parser, lines),
+        Way::Copies => clones::by_copies(alloc, parser, lines),
+        Way::Dump => parts::by_dump(alloc, parser, lines, text),
+        Way::NewFromIter => parts::by_iterator(alloc, case),
+        Way::NewStr => parts::by_error(alloc, case.name.as_str()),
+    }
+}
+
+fn parser_of<'a>(alloc: Global, case: &'a Case) -> Parser<'a, StrInput<'a>> {
+    Parser::new_from_str(alloc, case.text.as_str()).keep_tags(case.keeps_tags)
+}

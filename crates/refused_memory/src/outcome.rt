@@ -1,0 +1,9 @@
+//! How a comparison ends that finds no difference.
+
+#[derive(Clone, Copy, Debug, PartialEq, Eq)]
+pub enum Outcome {
+    /// All is as the case lists it.
+    Whole,
+    /// All is so up to a refused request for memory, and as it is to be behind that.
+    Refused,
+}
