@@ -1,8 +1,12 @@
 //! The lines that a parser is to give.
+ghost use Rattle.std.specs.Prelude.{◌≡◌, OnOk, [], drop, is_ok, if◌then◌else◌};
+ghost use Rattle.case_files.specs.Lines.{Comes};
+
 use crate::difference::Difference;
 use crate::printing::push_item;
 use saphyr_parser::{Event, Fault, Span};
-use std::alloc::{AllocError, Global};
+use std::alloc::Global;
+use std::marker::Model;
 
 /// The lines that are still to come.
 #[derive(Drop)]
@@ -13,8 +17,19 @@ pub struct Expected<'a> {
     shown: String,
 }
 
+impl<'a> Model for Expected<'a> {
+    ghost use Rattle.std.specs.Prelude.{List, String};
+    ghost use Rattle.std.specs.declared.alloc.Global.{Global as Heap};
+
+    ghost Value = { List (String Heap) };
+
+    ghost view = { λ e. e.lines.now };
+}
+
 impl<'a> Expected<'a> {
-    pub fn new(alloc: Global, lines: &'a [String]) -> Self {
+    pub fn new(alloc: Global, lines: &'a [String]) -> Self
+        ensures { result ≡ lines.now }
+    {
         Expected {
             alloc,
             lines,
@@ -23,7 +38,9 @@ impl<'a> Expected<'a> {
     }
 
     /// The lines that haven't come.
-    pub fn left(&self) -> &'a [String] {
+    pub fn left(&self) -> &'a [String]
+        ensures { result.now ≡ self.now }
+    {
         self.lines
     }
 
@@ -31,7 +48,10 @@ impl<'a> Expected<'a> {
     pub fn is_next(
         &mut self,
         item: Option<Result<&(Event<'_>, Span), &Fault>>,
-    ) -> Result<(), Difference> {
+    ) -> Result<(), Difference>
+        ensures comes { OnOk result (Comes item.entry self.old) }
+        ensures same { self.new ≡ self.old }
+    {
         let Some(item) = item else {
             return self.ends();
         };
@@ -52,14 +72,19 @@ impl<'a> Expected<'a> {
     pub fn pass(
         &mut self,
         item: Option<Result<&(Event<'_>, Span), &Fault>>,
-    ) -> Result<(), Difference> {
+    ) -> Result<(), Difference>
+        ensures comes { OnOk result (Comes item.entry self.old) }
+        ensures rest { self.new ≡ (if is_ok result then drop 1 self.old else self.old) }
+    {
         self.is_next(item)?;
         self.lines = self.lines.get(1..).unwrap_or(&[]);
         Ok(())
     }
 
     // No line is left.
-    fn ends(&self) -> Result<(), Difference> {
+    fn ends(&self) -> Result<(), Difference>
+        ensures { OnOk result (self.now ≡ []) }
+    {
         match self.lines.first() {
             None => Ok(()),
             Some(wanted) => Err(Difference::Found(format!(in self.alloc;

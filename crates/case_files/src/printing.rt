@@ -1,4 +1,10 @@
 //! What a parser hands out, as a line of a case.
+ghost use Rattle.std.specs.Prelude.{◌≡◌, ◌++◌, OnOk, IfOk, codes, string_bytes, option_map};
+ghost use Rattle.std.specs.Fmt.{decimal};
+ghost use Rattle.saphyr_parser.specs.EventSeen.{happening, resolved_tag};
+ghost use Rattle.saphyr_parser.specs.Printed as printed;
+ghost use Rattle.case_files.specs.Lines as lines;
+
 use saphyr_parser::{Event, Fault, Marker, ScalarStyle, Span, Tag};
 use std::alloc::AllocError;
 
@@ -8,7 +14,9 @@ use std::alloc::AllocError;
 pub fn push_item(
     line: &mut String,
     item: Result<&(Event<'_>, Span), &Fault>,
-) -> Result<(), AllocError> {
+) -> Result<(), AllocError>
+    ensures { IfOk item.entry (λ e. OnOk result (string_bytes line.new ≡ string_bytes line.old ++ lines.event_line (happening e.now.0) e.now.1)) }
+{
     match item {
         Ok((event, span)) => {
             line.push_str("> ")?;
@@ -22,7 +30,9 @@ pub fn push_item(
     }
 }
 
-fn push_place(line: &mut String, mark: Marker) -> Result<(), AllocError> {
+fn push_place(line: &mut String, mark: Marker) -> Result<(), AllocError>
+    ensures { OnOk result (string_bytes line.new ≡ string_bytes line.old ++ lines.place_text mark) }
+{
     let Marker {
         index,
         line: number,
@@ -31,7 +41,9 @@ fn push_place(line: &mut String, mark: Marker) -> Result<(), AllocError> {
     write!(line, "{index},{number},{col}")
 }
 
-fn push_event(line: &mut String, event: &Event<'_>) -> Result<(), AllocError> {
+fn push_event(line: &mut String, event: &Event<'_>) -> Result<(), AllocError>
+    ensures { OnOk result (string_bytes line.new ≡ string_bytes line.old ++ lines.event_text (happening event.now)) }
+{
     match event {
         Event::Nothing => line.push_str("nothing"),
         Event::StreamStart => line.push_str("+STR"),
@@ -54,13 +66,17 @@ fn push_scalar(
     style: ScalarStyle,
     id: usize,
     tag: &Option<Tag>,
-) -> Result<(), AllocError> {
+) -> Result<(), AllocError>
+    ensures { OnOk result (string_bytes line.new ≡ string_bytes line.old ++ (printed.node_text (codes "=VAL") id (option_map resolved_tag tag.now) ++ ((codes " " ++ printed.mark style) ++ lines.escaped text.now))) }
+{
     push_node(line, "=VAL", id, tag)?;
     line.push_str(mark(style))?;
     push_escaped(line, text)
 }
 
-fn mark(style: ScalarStyle) -> &'static str {
+fn mark(style: ScalarStyle) -> &'static str
+    ensures { result.now ≡ codes " " ++ printed.mark style }
+{
     match style {
         ScalarStyle::Plain => " :",
         ScalarStyle::SingleQuoted => " '",
@@ -70,12 +86,9 @@ fn mark(style: ScalarStyle) -> &'static str {
     }
 }
 
-fn push_node(
-    line: &mut String,
-    name: &str,
-    id: usize,
-    tag: &Option<Tag>,
-) -> Result<(), AllocError> {
+fn push_node(line: &mut String, name: &str, id: usize, tag: &Option<Tag>) -> Result<(), AllocError>
+    ensures { OnOk result (string_bytes line.new ≡ string_bytes line.old ++ printed.node_text name.now id (option_map resolved_tag tag.now)) }
+{
     line.push_str(name)?;
     if id != 0 {
         write!(line, " &{id}")?;
@@ -86,16 +99,24 @@ fn push_node(
     Ok(())
 }
 
-fn push_escaped(line: &mut String, text: &str) -> Result<(), AllocError> {
+fn push_escaped(line: &mut String, text: &str) -> Result<(), AllocError>
+    ensures { OnOk result (string_bytes line.new ≡ string_bytes line.old ++ lines.escaped text.now) }
+{
     for c in text.chars() {
-        match c {
-            '\\' => line.push_str("\\\\")?,
-            '\n' => line.push_str("\\n")?,
-            '\r' => line.push_str("\\r")?,
-            '\t' => line.push_str("\\t")?,
-            '\u{8}' => line.push_str("\\b")?,
-            _ => line.push(c)?,
-        }
+        push_escape(line, c)?;
     }
     Ok(())
+}
+
+fn push_escape(line: &mut String, c: char) -> Result<(), AllocError>
+    ensures { OnOk result (string_bytes line.new ≡ string_bytes line.old ++ lines.escape c) }
+{
+    match c {
+        '\\' => line.push_str("\\\\"),
+        '\n' => line.push_str("\\n"),
+        '\r' => line.push_str("\\r"),
+        '\t' => line.push_str("\\t"),
+        '\u{8}' => line.push_str("\\b"),
+        _ => line.push(c),
+    }
 }

@@ -1,8 +1,11 @@
 //! A receiver of events.
+ghost use Rattle.std.specs.Prelude.{◌≡◌, ◌<◌, OnOk, IfErr, OnErr, [], drop, length, Ok};
+
 use crate::difference::Difference;
 use crate::expected::Expected;
 use saphyr_parser::{Event, Fault, Refused, Span, SpannedEventReceiver};
 use std::alloc::Global;
+use std::marker::Model;
 
 /// Compares events with lines, and refuses one after so many.
 #[derive(Drop)]
@@ -13,13 +16,26 @@ pub struct ComparingReceiver<'a> {
     found: Option<Difference>,
 }
 
+impl<'a> Model for ComparingReceiver<'a> {
+    ghost use Rattle.std.specs.Prelude.{List, String};
+    ghost use Rattle.std.specs.declared.alloc.Global.{Global as Heap};
+
+    ghost Value = { List (String Heap) };
+
+    ghost view = { λ r. r.expected };
+}
+
 impl<'a> ComparingReceiver<'a> {
     /// One that refuses nothing.
-    pub fn new(alloc: Global, lines: &'a [String]) -> Self {
+    pub fn new(alloc: Global, lines: &'a [String]) -> Self
+        ensures { result ≡ lines.now }
+    {
         ComparingReceiver::refusing(alloc, lines, usize::MAX)
     }
 
-    pub fn refusing(alloc: Global, lines: &'a [String], before_refusal: usize) -> Self {
+    pub fn refusing(alloc: Global, lines: &'a [String], before_refusal: usize) -> Self
+        ensures { result ≡ lines.now }
+    {
         ComparingReceiver {
             expected: Expected::new(alloc, lines),
             before_refusal,
@@ -28,12 +44,16 @@ impl<'a> ComparingReceiver<'a> {
     }
 
     /// The lines that haven't come.
-    pub fn left(&self) -> &'a [String] {
+    pub fn left(&self) -> &'a [String]
+        ensures { result.now ≡ self.now }
+    {
         self.expected.left()
     }
 
     /// What has come is as expected.
-    pub fn check(&mut self) -> Result<(), Difference> {
+    pub fn check(&mut self) -> Result<(), Difference>
+        ensures { self.new ≡ self.old }
+    {
         match self.found.take() {
             Some(difference) => Err(difference),
             None => Ok(()),
@@ -41,13 +61,19 @@ impl<'a> ComparingReceiver<'a> {
     }
 
     /// What has come is as expected, and no line is left.
-    pub fn check_end(&mut self) -> Result<(), Difference> {
+    pub fn check_end(&mut self) -> Result<(), Difference>
+        ensures ends { OnOk result (self.old ≡ []) }
+        ensures same { self.new ≡ self.old }
+    {
         self.check()?;
         self.expected.is_next(None)
     }
 
     /// What has come is as expected, and where `load` answered a fault, its line is the next one.
-    pub fn check_answer(&mut self, answer: Result<(), Fault>) -> Result<(), Difference> {
+    pub fn check_answer(&mut self, answer: Result<(), Fault>) -> Result<(), Difference>
+        ensures whole { OnOk answer (self.new ≡ self.old) }
+        ensures fault { OnErr answer (OnOk result ((0 < length self.old) × (self.new ≡ drop 1 self.old))) }
+    {
         self.check()?;
         match answer {
             Ok(()) => Ok(()),
@@ -57,9 +83,9 @@ impl<'a> ComparingReceiver<'a> {
 }
 
 impl<'input> SpannedEventReceiver<'input> for ComparingReceiver<'_> {
-    ghost use Rattle.std.specs.Prelude.{⊤};
+    ghost use Rattle.case_files.specs.Lines.{Passes};
 
-    ghost receives = { λ _ _ _ _. ⊤ };
+    ghost receives = { λ s e r t. Passes r e.0 e.1 s t };
 
     fn on_event(&mut self, ev: Event<'input>, span: Span) -> Result<(), Refused> {
         if self.before_refusal == 0 {

@@ -1,7 +1,10 @@
 //! What `dump` is to write, and a writer that is to take it.
+ghost use Rattle.std.specs.Prelude.{◌≡◌, Some, option_map};
+
 use std::alloc::{AllocError, Global};
 use std::io;
 use std::io::{ErrorKind, Write};
+use std::marker::Model;
 
 /// The lines that `dump` writes for the lines of a case: the events, without the places and without what
 /// begins a document.
@@ -38,8 +41,18 @@ pub struct ComparingWriter<'a> {
     has_failed: bool,
 }
 
+impl<'a> Model for ComparingWriter<'a> {
+    ghost use Rattle.std.specs.Prelude.{ℕ, List, Option, None, Some, if◌then◌else◌};
+
+    ghost Value = { Option (List ℕ) };
+
+    ghost view = { λ w. if w.is_other then None else Some w.rest.now };
+}
+
 impl<'a> ComparingWriter<'a> {
-    pub fn new(text: &'a str, manner: Manner) -> Self {
+    pub fn new(text: &'a str, manner: Manner) -> Self
+        ensures { result ≡ Some text.now }
+    {
         ComparingWriter {
             manner,
             rest: text.as_bytes(),
@@ -49,10 +62,13 @@ impl<'a> ComparingWriter<'a> {
     }
 
     /// The bytes that haven't come, where those that have come are a beginning of the text.
-    pub fn rest(&self) -> Option<&'a [u8]> {
+    pub fn rest(&self) -> Option<&'a [u8]>
+        ensures { option_map (λ r. r.now) result ≡ self.now }
+    {
         if self.is_other { None } else { Some(self.rest) }
     }
 
+    /// Whether a write has failed.
     pub fn has_failed(&self) -> bool {
         self.has_failed
     }
