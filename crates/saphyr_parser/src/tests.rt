@@ -1,7 +1,12 @@
+//! What no clause says: that calls succeed, which fault a text gets, and what the private limit does.
+mod limits;
+
 use crate::{
-    CloneInput, Event, Fault, Input, Marker, Parser, ScanError, Span, StrInput, lists_characters,
+    CloneInput, Event, EventReceiver, Fault, Input, Marker, Parser, Refused, ScalarStyle,
+    ScanError, Span, StrInput, Tag, lists_characters,
 };
 use std::alloc::{AllocError, Global};
+use std::borrow::CowStr;
 use std::test::Fail;
 
 // The fault of a text at a place.
@@ -27,11 +32,26 @@ fn gives_the_events_of_a_text_without_documents(rt: HostRuntime) -> Result<(), F
     Ok(())
 }
 
+// Forgets each event.
+#[derive(Drop)]
+struct Forgetful;
+
+impl<'input> EventReceiver<'input> for Forgetful {
+    ghost use Rattle.std.specs.Prelude.{⊤};
+
+    ghost takes = { λ _ _ _ _. ⊤ };
+
+    fn on_event(&mut self, _ev: Event<'input>) -> Result<(), Refused> {
+        Ok(())
+    }
+}
+
 #[test]
 fn gives_a_fault_once(rt: HostRuntime) -> Result<(), Fail> {
     let cases = [
         ("\0", Marker::new(0, 1, 0), "found unprintable character"),
         ("}", Marker::new(0, 1, 0), "misplaced bracket"),
+        ("a\0b", Marker::new(1, 1, 1), "found unprintable character"),
     ];
     for (text, mark, info) in cases {
         let mut parser = Parser::new_from_str(rt.alloc(), text).keep_tags(true);
@@ -40,15 +60,18 @@ fn gives_a_fault_once(rt: HostRuntime) -> Result<(), Fail> {
             parser.next_event() == Some(Ok((Event::StreamStart, start))),
             "{text:?}"
         );
-        assert!(rt;
-            parser.peek() == Some(Err(&fault(rt.alloc(), mark, info)?)),
-            "{text:?}"
-        );
+        let expected = fault(rt.alloc(), mark, info)?;
+        assert!(rt; parser.peek() == Some(Err(&expected)), "{text:?}");
+        assert!(rt; parser.peek() == Some(Err(&expected)), "{text:?}");
         assert!(rt;
             parser.next_event() == Some(Err(fault(rt.alloc(), mark, info)?)),
             "{text:?}"
         );
         assert!(rt; parser.next_event() == None, "{text:?}");
+        assert!(rt;
+            parser.load(&mut Forgetful, true) == Err(expected),
+            "{text:?}"
+        );
     }
     Ok(())
 }
@@ -82,10 +105,10 @@ fn refuses_a_text_past_the_limit(rt: HostRuntime) -> Result<(), Fail> {
     Ok(())
 }
 
-type Item<'input> = Result<(Event<'input>, Span), Fault>;
+pub type Item<'input> = Result<(Event<'input>, Span), Fault>;
 
 // What a parser has left to give.
-fn items_left<'input, T: Input + Drop>(
+pub fn items_left<'input, T: Input + Drop>(
     alloc: Global,
     parser: Parser<'input, T>,
 ) -> Result<Vec<Item<'input>>, AllocError> {
@@ -145,5 +168,83 @@ fn clones_in_mid_text(rt: HostRuntime) -> Result<(), Fail> {
     lists_characters(&iter);
     let of_iter = Parser::new_from_iter(alloc, iter)?.keep_tags(true);
     assert!(rt; clones_everywhere(of_iter, expected.as_slice())?);
+    Ok(())
+}
+
+// A tag of these parts.
+fn tag(alloc: Global, handle: &str, suffix: &str) -> Result<Tag, AllocError> {
+    Ok(Tag {
+        handle: String::from_str(alloc, handle)?,
+        suffix: String::from_str(alloc, suffix)?,
+    })
+}
+
+// Three documents that use a prefix of the first.
+const PREFIXED: &str = "%TAG !prefix! tag:example.com,2011:
+--- !prefix!A
+a: b
+--- !prefix!B
+c: d
+--- !prefix!C
+e: f
+";
+
+// What is left where the setting is made before the first document's end is handed out.
+fn left_where_kept<'input>(
+    alloc: Global,
+    is_peeked: bool,
+) -> Result<Vec<Item<'input>>, AllocError> {
+    let mut parser = Parser::new_from_str(alloc, PREFIXED);
+    for _ in 0..6 {
+        let _ = parser.next_event();
+    }
+    if is_peeked {
+        let _ = parser.peek();
+    }
+    items_left(alloc, parser.keep_tags(true))
+}
+
+#[test]
+fn keeps_prefixes_from_an_end_that_is_not_yet_read(rt: HostRuntime) -> Result<(), Fail> {
+    let alloc = rt.alloc();
+    let left = left_where_kept(alloc, false)?;
+    assert_eq!(rt; left.len(), 14);
+    for (place, suffix) in [(2, "B"), (8, "C")] {
+        let tag = tag(alloc, "tag:example.com,2011:", suffix)?;
+        let event = Event::MappingStart(0, Some(tag));
+        let found = left.get(place);
+        assert!(rt;
+            matches!(found, Some(Ok((start, _))) if *start == event),
+            "{suffix:?}"
+        );
+    }
+    let mut left = left_where_kept(alloc, true)?;
+    let undeclared = fault(alloc, Marker::new(59, 4, 4), "the handle wasn't declared")?;
+    assert_eq!(rt; left.len(), 3);
+    assert!(rt; left.pop() == Some(Err(undeclared)));
+    Ok(())
+}
+
+#[test]
+fn copies_tags_and_scalars(rt: HostRuntime) -> Result<(), Fail> {
+    let alloc = rt.alloc();
+    for (handle, suffix) in [("!", "foo"), ("tag:yaml.org,2002:", "str")] {
+        let tag = tag(alloc, handle, suffix)?;
+        assert!(rt; tag.try_clone()? == tag, "{suffix:?}");
+        let text = CowStr::Borrowed("x");
+        let event = Event::Scalar(text, ScalarStyle::Plain, 0, Some(tag));
+        assert!(rt; event.try_clone()? == event, "{suffix:?}");
+    }
+    Ok(())
+}
+
+#[test]
+fn copies_errors(rt: HostRuntime) -> Result<(), Fail> {
+    let alloc = rt.alloc();
+    for mark in [Marker::new(3, 1, 3), Marker::new(0, 1, usize::MAX)] {
+        let error = ScanError::new(mark, String::from_str(alloc, "x")?);
+        assert!(rt; ScanError::new_str(alloc, mark, "x")? == error);
+        assert!(rt; error.try_clone()? == error);
+    }
     Ok(())
 }

@@ -80,7 +80,7 @@ impl<'input> EventReceiver<'input> for Outline {
     }
 }
 
-// Gives `a`, then `None`, then `b`.
+// Gives `a`, then `None`, then `b`. From the fourth place on `[`, `1`, then `None`, then `]`.
 #[derive(Drop)]
 struct Stutter {
     place: u8,
@@ -91,16 +91,19 @@ impl Iterator for Stutter {
 
     ghost use Rattle.std.specs.Prelude.{◌≡◌, ◌+◌, ◌<◌, ◌==◌, None, Some, if◌then◌else◌};
 
-    ghost next_gives = { λ s r t. (r ≡ (if s.place == 0 then Some 97 else (if s.place == 2 then Some 98 else None))) × (s.place < 3 → t.place ≡ s.place + 1) };
+    ghost next_gives = { λ s r t. (r ≡ (if s.place == 0 then Some 97 else (if s.place == 2 then Some 98 else (if s.place == 3 then Some 91 else (if s.place == 4 then Some 49 else (if s.place == 6 then Some 93 else None)))))) × (s.place < 7 → t.place ≡ s.place + 1) };
 
     fn next(&mut self) -> Option<char> {
         let place = self.place;
-        if place < 3 {
+        if place < 7 {
             self.place += 1;
         }
         match place {
             0 => Some('a'),
             2 => Some('b'),
+            3 => Some('['),
+            4 => Some('1'),
+            6 => Some(']'),
             _ => None,
         }
     }
@@ -108,6 +111,10 @@ impl Iterator for Stutter {
 
 fn stuttering<'a>(alloc: Global) -> Result<Parser<'a, BufferedInput<Stutter>>, AllocError> {
     Parser::new_from_iter(alloc, Stutter { place: 0 })
+}
+
+fn cut_short<'a>(alloc: Global) -> Result<Parser<'a, BufferedInput<Stutter>>, AllocError> {
+    Parser::new_from_iter(alloc, Stutter { place: 3 })
 }
 
 // The printed fault.
@@ -157,6 +164,19 @@ fn loads_an_iterator_up_to_its_first_none(rt: HostRuntime) -> Result<(), Fail> {
     let scalar = stored.events.get(2);
     assert!(rt;
         matches!(scalar, Some((Event::Scalar(text, _, 0, None), _)) if text.as_str() == "a")
+    );
+    Ok(())
+}
+
+#[test]
+fn refuses_an_iterator_that_ends_inside_a_sequence(rt: HostRuntime) -> Result<(), Fail> {
+    let mut parser = cut_short(rt.alloc())?;
+    let mut told = Outline::new(rt.alloc());
+    let answer = parser.load(&mut told, true);
+    assert_eq!(rt; told.text.as_str(), "+STR +DOC +SEQ =VAL ");
+    assert_eq!(rt;
+        printed(rt.alloc(), answer)?.as_str(),
+        "while parsing a flow sequence, expected ',' or ']' at byte 2 line 2 column 1"
     );
     Ok(())
 }
