@@ -50,12 +50,13 @@ pub record Arrives (around : Around) (s : Cursor) (x : Context) (k : Option Cand
   pub allowed : Bool
   pub is : (d : Bool) → arrive (state_at around s x k ls a ad ps d) ≡ Ok (state_at around (cursor_at y m blank) x key ls allowed ad ps d)
   pub right : around.indent ≤ m.col
+  pub calm : around.pending ≡ false
   pub same : is_block x ≡ false → (key ≡ k) × (allowed ≡ a)
 
 pub arrives : (around : Around) (s : Cursor) (x : Context) (k : Option Candidate) (ls : List Level) (a : Bool) (ad : ℕ) (ps : List Place) (m : Marker) (y : List ℕ) → past around.indent s.mark s.rest ≡ (m, y)
-    → is_blank (slice_index y 0) ≡ false → around.indent ≤ m.col → Arrives around s x k ls a ad ps m y
+    → is_blank (slice_index y 0) ≡ false → around.indent ≤ m.col → around.pending ≡ false → Arrives around s x k ls a ad ps m y
 unfolding arrive
-arrives around s x k ls a ad ps m y text inked right =
+arrives around s x k ls a ad ps m y text inked right calm =
     let g = passes_gap around s x k ls a ad m y text inked in
     let there = cursor_at y m g.blank in
     let left = key_left x k m in
@@ -63,10 +64,11 @@ arrives around s x k ls a ad ps m y text inked right =
       blank = g.blank;
       key = left;
       allowed = g.allowed;
-      is = λ d. let reached = ap (λ r. r >>= drop_far_key) (g.is d) ∙ drops around d there x k ls g.allowed ad in
+      is = λ d. let reached = ap (λ r. r >>= drop_far_key) (g.is d) ∙ drops around d there x k ls g.allowed ad calm in
           ap (λ r. carried r (queue_of ps) >>= λ (t : State). Ok (unroll (Some t.core.cursor.mark.col) t.core.cursor.mark t)) reached
           ∙ ap Ok (none_unrolls around m.col m there x left ls g.allowed ad ps d right);
       right = right;
+      calm = calm;
       same = λ e. (left_in_flow x k m e, g.same e);
     }
 
@@ -103,7 +105,7 @@ one around s x k ls a ad ps m y v h t z j ms b be qs actions to deepens is done 
     let there = ap (λ r. r >>= fetch_here) (v.is d) ∙ begins_here around d seen x v.key ls v.allowed ad ps h v.right in
     let at_place = ap (λ (n : ℕ). acted (step (slice_index y 0) (slice_index y 1) n c) (queue_of ps)) (none_before (length ps)) in
     let made = ap (λ r. acted r (queue_of ps)) (is d) ∙ ap (λ (q : Queue). Ok (let r : State = record { core = core_at around (to d) t z j ms b be; queue = q } in r)) done in
-    there ∙ at_place ∙ made) low
+    there ∙ at_place ∙ made) low v.calm
 
 -- a place before the same token is within the limit
 pub within_index : (column limit : ℕ) (t : Cursor) (m : Marker) (o : List ℕ) → past column t.mark t.rest ≡ past column m o → m.index + length o ≤ limit → t.mark.index ≤ limit

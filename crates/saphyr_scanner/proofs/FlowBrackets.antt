@@ -19,7 +19,7 @@ use Rattle.saphyr_scanner.specs.Core.{Candidate, Level, Core, is_block, from_to,
 use Rattle.saphyr_scanner.specs.Flow as flow
 use Rattle.saphyr_scanner.specs.Flow.{close_collection, behind_pair}
 use Rattle.saphyr_scanner.specs.Fetch.{step}
-use Rattle.saphyr_scanner.proofs.InFlow.States.{Around, core_at, state_at, Calm, starts, opens, closes, deepened, bracket_deepens, as_before}
+use Rattle.saphyr_scanner.proofs.InFlow.States.{Around, core_at, state_at, Calm, placed_right, starts, opens, closes, deepened, bracket_deepens, as_before}
 use Rattle.saphyr_scanner.proofs.JsonStates.{cursor_at, queue_of}
 use Rattle.saphyr_scanner.proofs.JsonMarks.{kinds, saved, level_of}
 use Rattle.saphyr_scanner.proofs.JsonBrackets.{place_of}
@@ -61,11 +61,11 @@ pub open_passes : (around : Around) (y : Context) → is_block y ≡ false → (
     → (s : Cursor) (x : Context) (k : Option Candidate) (ls : List Level) (a : Bool) (ad : ℕ) (ps : List Place) → length ls < 255 → Calm around x → ad ≤ m.index → past around.indent s.mark s.rest ≡ past around.indent m (ch ∷ o)
     → (j : Option Candidate) × (is_block x ≡ false → j ≡ saved a (length ps) m k) × Passes around (state_at around s x k ls a ad ps) (opened_collection (moved m (ch ∷ []))) y (level_of x j ∷ ls) ps (moved m (ch ∷ [])) o (kind ∷ [])
 open_passes around y in_flow kind ch mark begins m o fits parted s x k ls a ad ps low calm before text =
-    let v = arrives around s x k ls a ad ps m (ch ∷ o) (text ∙ past_ink around.indent m ch o mark.ink) mark.ink.blank fits.right in
+    let v = arrives around s x k ls a ad ps m (ch ∷ o) (text ∙ past_ink around.indent m ch o mark.ink) mark.ink.blank fits.right fits.calm in
     let key = saved v.allowed (length ps) m v.key in
     let p = separates around.indent (cursor_at o (along m 1) false) parted.separation parted.first parted.others parted.is parted.parts (one_right around.indent m.col fits.right) parted.ink in
     let stepped = λ (d : Bool). begins (slice_index o 0) (length ps) (core_at around d (cursor_at (ch ∷ o) m v.blank) x v.key ls v.allowed ad)
-    ∙ starts y kind (length ps) around d (cursor_at (ch ∷ o) m v.blank) x v.key ls v.allowed ad fits.right
+    ∙ starts y kind (length ps) around d (cursor_at (ch ∷ o) m v.blank) x v.key ls v.allowed ad (placed_right x v.allowed fits.calm fits.right)
     ∙ opens y kind ch o m v.blank around (deepened around x d) x key ls v.allowed ad p.found p.there p.is low in_flow calm in
     let below = fits.below in
     let new = place_of m p.there.mark kind ∷ [] in
@@ -141,7 +141,7 @@ pub close_passes : (around : Around) (y : Context) → is_block y ≡ false → 
     → (s : Cursor) (k j : Option Candidate) (x : Context) (ls : List Level) (a : Bool) (ad : ℕ) (ps : List Place) → Calm around x → ad ≤ m.index → past around.indent s.mark s.rest ≡ past around.indent m (ch ∷ o)
     → Passes around (state_at around s y k (level_of x j ∷ ls) a ad ps) (closed_collection around.indent x j (moved m (ch ∷ [])) o) x ls ps (moved m (ch ∷ [])) o (pending ends ++ kind ∷ [])
 close_passes around y flows ends kind ch mark begins m o fits found there is lands s k j x ls a ad ps calm before text =
-    let v = arrives around s y k (level_of x j ∷ ls) a ad ps m (ch ∷ o) (text ∙ past_ink around.indent m ch o mark.ink) mark.ink.blank fits.right in
+    let v = arrives around s y k (level_of x j ∷ ls) a ad ps m (ch ∷ o) (text ∙ past_ink around.indent m ch o mark.ink) mark.ink.blank fits.right fits.calm in
     let stepped = λ (d : Bool). begins (slice_index o 0) (length ps) d (cursor_at (ch ∷ o) m v.blank) v.key (level_of x j ∷ ls) v.allowed ad ∙ closes ends kind ch o m v.blank around d y v.key j x ls v.allowed ad found there is flows calm in
     let below = fits.below in
     let new = mark_places ends m there.mark kind in

@@ -1,6 +1,6 @@
 -- The colons of a text in flow style are read, behind a key and without one.
 use Rattle.std.proofs.Common.{◌≡◌, ℕ, ◌≤◌, Bool, true, false, List, [], ◌∷◌, ◌++◌, length, slice_index, Ok, refl, sym, ap, ◌∙◌, arith, append_assoc, IsTrue, ◌⊎◌, inl, inr}
-use Rattle.std.specs.Prelude.{◌||◌, ◌&&◌, ◌==◌, not, nat_lt, Option, Some, None}
+use Rattle.std.specs.Prelude.{if◌then◌else◌, ◌||◌, ◌&&◌, ◌==◌, not, nat_lt, Option, Some, None}
 use Rattle.std.proofs.lemmas.Bool.Decides.{nat_tests}
 use Rattle.saphyr_input.specs.Classes.{is_blank_or_breakz, is_flow}
 use Rattle.saphyr_input.specs.declared.input.SkipTabs.{SkipTabs}
@@ -20,7 +20,7 @@ use Rattle.saphyr_scanner.specs.Value as value
 use Rattle.saphyr_scanner.specs.Value.{begins_pair, behind_colon, check_tab, refuse_tab, of_key, alone, begin_alone, behind_key}
 use Rattle.saphyr_scanner.specs.Fetch.{step, flow_value}
 use Rattle.saphyr_scanner.proofs.Sizes.{by_test}
-use Rattle.saphyr_scanner.proofs.InFlow.States.{Around, core_at}
+use Rattle.saphyr_scanner.proofs.InFlow.States.{Around, required_at, core_at}
 use Rattle.saphyr_scanner.proofs.JsonStates.{cursor_at, queue_of}
 use Rattle.saphyr_scanner.proofs.JsonMarks.{kinds, kinds_append}
 use Rattle.saphyr_scanner.proofs.JsonColons.{same_index, opened_seam, none_off}
@@ -120,7 +120,7 @@ pub fetches : (around : Around) (d : Bool) (o : List ℕ) (m : Marker) (b : Bool
     → value.fetch (core_at around d (cursor_at (58 ∷ o) m b) y k ls a ad) ≡ behind_key k (begins_pair y) m (core_at around d p.there (behind_colon y) k ls a ad)
 unfolding value.fetch
 fetches around d o m b y k ls a ad flows p =
-    let same : (around.required && not (is_block y)) ≡ (around.required && not (is_block (behind_colon y))) = ap (λ (q : Bool). around.required && not q) (flows ∙ sym (colon_flows y flows)) in
+    let same : required_at around y ≡ required_at around (behind_colon y) = ap (λ (q : Bool). if q then around.pending else around.required) (flows ∙ sym (colon_flows y flows)) in
     ap (λ (q : Bool). check_tab (record (core_at around d (cursor_at o (along m 1) false) (behind_colon y) k ls a ad) { required = q }) >>= λ (e : Core). behind_key e.level.key (begins_pair y) m e) same
     ∙ ap (λ q. q >>= λ (e : Core). behind_key e.level.key (begins_pair y) m e) (p.is d)
 

@@ -1,6 +1,6 @@
 -- The commas of a text in flow style are read.
 use Rattle.std.proofs.Common.{◌≡◌, ℕ, ◌+◌, ◌≤◌, Bool, true, false, List, [], ◌∷◌, ◌++◌, length, slice_index, Ok, refl, sym, ap, ◌∙◌, arith}
-use Rattle.std.specs.Prelude.{◌&&◌, not, Option, None}
+use Rattle.std.specs.Prelude.{if◌then◌else◌, ◌&&◌, not, Option, None}
 use Rattle.saphyr_input.specs.declared.input.SkipTabs.{SkipTabs}
 use Rattle.saphyr_input.specs.declared.input.SkipTabs.TheVariants.{Yes}
 use Rattle.saphyr_scalar.specs.declared.scalar.position.Marker.{Marker}
@@ -14,7 +14,7 @@ use Rattle.saphyr_scanner.specs.Passing.{with_cursor}
 use Rattle.saphyr_scanner.specs.Flow as flow
 use Rattle.saphyr_scanner.specs.Flow.{next_entry, behind_entry, behind_pair, ends_pair}
 use Rattle.saphyr_scanner.specs.Fetch.{step}
-use Rattle.saphyr_scanner.proofs.InFlow.States.{Around, core_at, state_at, as_before}
+use Rattle.saphyr_scanner.proofs.InFlow.States.{Around, required_at, core_at, state_at, as_before}
 use Rattle.saphyr_scanner.proofs.JsonStates.{cursor_at}
 use Rattle.saphyr_scanner.proofs.FlowPlaces.{right_one}
 use Rattle.saphyr_scanner.proofs.FlowFillers.{one_right}
@@ -40,8 +40,8 @@ parts : (around : Around) (d : Bool) (o : List ℕ) (m : Marker) (b : Bool) (y :
     → next_entry (core_at around d (cursor_at (44 ∷ o) m b) y k ls a ad) ≡ went (behind_pair (ends_pair y) m (from_to m there.mark tokens.FlowEntry)) (core_at around d there (behind_entry y) k ls true ad)
 unfolding next_entry
 parts around d o m b y k ls a ad flows found there is =
-    let c : Core = record (core_at around d (cursor_at o (along m 1) false) (behind_entry y) k ls true ad) { required = around.required && not (is_block y) } in
-    let same : (around.required && not (is_block y)) ≡ (around.required && not (is_block (behind_entry y))) = ap (λ (q : Bool). around.required && not q) (flows ∙ sym (in_flow y flows)) in
+    let c : Core = record (core_at around d (cursor_at o (along m 1) false) (behind_entry y) k ls true ad) { required = required_at around y } in
+    let same : required_at around y ≡ required_at around (behind_entry y) = ap (λ (q : Bool). if q then around.pending else around.required) (flows ∙ sym (in_flow y flows)) in
     ap (λ q. (q >>= λ (e : SkipTabs × Cursor). Ok (e.0, with_cursor e.1 c)) >>= λ (e : SkipTabs × Core). went (behind_pair (ends_pair y) m (up_to_here m tokens.FlowEntry e.1)) e.1) is
     ∙ ap (λ (q : Bool). went (behind_pair (ends_pair y) m (from_to m there.mark tokens.FlowEntry)) (record (core_at around d there (behind_entry y) k ls true ad) { required = q })) same
 
@@ -67,7 +67,7 @@ pub comma_passes : (around : Around) (y : Context) → is_block y ≡ false → 
     → (s : Cursor) (k : Option Candidate) (ls : List Level) (a : Bool) (ad : ℕ) (ps : List Place) → ad ≤ m.index → past around.indent s.mark s.rest ≡ past around.indent m (44 ∷ o)
     → Passes around (state_at around s y k ls a ad ps) (fresh_key (moved m (44 ∷ []))) (behind_entry y) ls ps (moved m (44 ∷ [])) o (pending (ends_pair y) ++ tokens.FlowEntry ∷ [])
 comma_passes around y flows m o fits parted s k ls a ad ps before text =
-    let v = arrives around s y k ls a ad ps m (44 ∷ o) (text ∙ past_ink around.indent m 44 o comma.ink) refl fits.right in
+    let v = arrives around s y k ls a ad ps m (44 ∷ o) (text ∙ past_ink around.indent m 44 o comma.ink) refl fits.right fits.calm in
     let p = separates around.indent (cursor_at o (along m 1) false) parted.separation parted.first parted.others parted.is parted.parts (one_right around.indent m.col fits.right) parted.ink in
     let stepped = λ (d : Bool). begins (slice_index o 0) (length ps) (core_at around d (cursor_at (44 ∷ o) m v.blank) y v.key ls v.allowed ad) ∙ removes around d o m v.blank y v.key ls v.allowed ad flows
     ∙ parts around d o m v.blank y None ls v.allowed ad flows p.found p.there p.is in

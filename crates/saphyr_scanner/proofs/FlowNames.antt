@@ -22,7 +22,7 @@ use Rattle.saphyr_scanner.specs.Fetch.{step}
 use Rattle.saphyr_scanner.specs.TagSpelling.{IsTag}
 use Rattle.saphyr_scanner.specs.FlowNodes.{IsAnchor, IsAlias}
 use Rattle.saphyr_scanner.proofs.LineTexts.{name_no_break, tag_no_break}
-use Rattle.saphyr_scanner.proofs.InFlow.States.{Around, core_at, state_at, saves_key, as_before}
+use Rattle.saphyr_scanner.proofs.InFlow.States.{Around, core_at, state_at, Placed, placed_right, saves_key, as_before}
 use Rattle.saphyr_scanner.proofs.JsonStates.{cursor_at}
 use Rattle.saphyr_scanner.proofs.JsonMarks.{saved}
 use Rattle.saphyr_scanner.proofs.FlowStates.{moved, past, Reads, Passes, Fits}
@@ -55,15 +55,15 @@ named_along m indicator name e h =
     ap (along m) one ∙ sym (unbroken_along m (indicator ∷ name) (e, name_no_break name h))
 
 name_step : Reads → (around : Around) (d : Bool) (is_alias : Bool) (n : ℕ) (m : Marker) (b : Bool) (indicator : ℕ) (name o : List ℕ) → is_break indicator ≡ false → IsAnchorName name → is_anchor_char (slice_index o 0) ≡ false
-    → (x : Context) (k : Option Candidate) (ls : List Level) (a : Bool) (ad : ℕ) → around.indent ≤ m.col
+    → (x : Context) (k : Option Candidate) (ls : List Level) (a : Bool) (ad : ℕ) → Placed around x a m
     → property.name is_alias n (core_at around d (cursor_at (indicator ∷ (name ++ o)) m b) x k ls a ad)
     ≡ went (from_to m (moved m (indicator ∷ name)) (name_token is_alias (encode_utf8_all name)) ∷ []) (core_at around d (at (moved m (indicator ∷ name)) o) x (saved a n m k) ls false ad)
 unfolding property.name read_name
-name_step reads around d is_alias n m b indicator name o e h ends x k ls a ad right =
+name_step reads around d is_alias n m b indicator name o e h ends x k ls a ad placed =
     let s = cursor_at (indicator ∷ (name ++ o)) m b in
     let c = core_at around d s x (saved a n m k) ls false ad in
     let token = λ (y : List ℕ × Cursor). went (from_to m y.1.mark (name_token is_alias y.0) ∷ []) (with_cursor y.1 c) in
-    ap (λ (q : Core). read_name is_alias (disallow_key q)) (saves_key n around d s x k ls a ad right)
+    ap (λ (q : Core). read_name is_alias (disallow_key q)) (saves_key n around d s x k ls a ad placed)
     ∙ ap (λ q. q >>= token) (reads.anchor s indicator name o refl h ends)
     ∙ ap (λ (end : Marker). token (encode_utf8_all name, at end o)) (named_along m indicator name e h)
 
@@ -83,7 +83,7 @@ name_passes reads around is_alias indicator name o m begins first break h ends f
       to = λ d. d;
       deepens = as_before around;
       is = λ d. begins (slice_index (name ++ o) 0) (length ps) (core_at around d (cursor_at (indicator ∷ (name ++ o)) m b) x j ls e ad)
-          ∙ name_step reads around d is_alias (length ps) m b indicator name o break h ends x j ls e ad fits.right;
+          ∙ name_step reads around d is_alias (length ps) m b indicator name o break h ends x j ls e ad (placed_right x e fits.calm fits.right);
       fits = refl;
       tells = (refl, refl);
     })
@@ -121,15 +121,15 @@ alias_token_passes reads around name t o m h ends fits s x k ls a ad ps text =
 -- ## Tags
 
 tag_step : Reads → (around : Around) (d : Bool) (n : ℕ) (m : Marker) (b : Bool) (t handle suffix o : List ℕ) → IsTagText t handle suffix → (x : Context) (k : Option Candidate) (ls : List Level) (a : Bool) (ad : ℕ)
-    → EndsTag (not (is_block x)) o → around.indent ≤ m.col
+    → EndsTag (not (is_block x)) o → Placed around x a m
     → property.tag n (core_at around d (cursor_at (t ++ o) m b) x k ls a ad)
     ≡ went (from_to m (moved m t) (tokens.Tag (encode_utf8_all handle) (encode_utf8_all suffix)) ∷ []) (core_at around d (at (moved m t) o) x (saved a n m k) ls false ad)
 unfolding property.tag read_tag
-tag_step reads around d n m b t handle suffix o h x k ls a ad ends right =
+tag_step reads around d n m b t handle suffix o h x k ls a ad ends placed =
     let s = cursor_at (t ++ o) m b in
     let c = core_at around d s x (saved a n m k) ls false ad in
     let token = λ (y : List ℕ × List ℕ × Cursor). went (from_to m y.2.mark (tokens.Tag y.0 y.1) ∷ []) (with_cursor y.2 c) in
-    ap (λ (q : Core). read_tag (disallow_key q)) (saves_key n around d s x k ls a ad right)
+    ap (λ (q : Core). read_tag (disallow_key q)) (saves_key n around d s x k ls a ad placed)
     ∙ ap (λ q. q >>= token) (reads.tag (not (is_block x)) s t handle suffix o refl h ends)
     ∙ ap (λ (end : Marker). token (encode_utf8_all handle, encode_utf8_all suffix, at end o)) (sym (unbroken_along m t (tag_no_break t handle suffix h)))
 
@@ -159,7 +159,7 @@ tag_passes reads around tag t o m h fits s x k ls a ad ps ends text =
       to = λ d. d;
       deepens = as_before around;
       is = λ d. let c = core_at around d (cursor_at (t ++ o) m b) x j ls e ad in
-          ap (λ (i : ℕ). step i second n c) at_first ∙ begins_tag second n c ∙ tag_step reads around d n m b t r.handle r.suffix o r.is x j ls e ad ends fits.right;
+          ap (λ (i : ℕ). step i second n c) at_first ∙ begins_tag second n c ∙ tag_step reads around d n m b t r.handle r.suffix o r.is x j ls e ad ends (placed_right x e fits.calm fits.right);
       fits = refl;
       tells = (refl, refl);
     }))

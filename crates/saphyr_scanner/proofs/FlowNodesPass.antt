@@ -126,14 +126,14 @@ mapping_run {around} reads room p pairs in_flow members m t o (left, opening, in
     subst (λ (n : Marker). CollectionPasses around (state_at around s x k ls a ad ps) (grammar.AreFlowPairs pairs) curly p (saved a (length ps) m k) x ls ps n o) (ap (moved m) (sym text_is)) c
 
 calm_in_flow : (around : Around) (x : Context) → is_block x ≡ false → Calm around x
-calm_in_flow around x e = ap (λ (b : Bool). around.required && b) e ∙ never around.required
+calm_in_flow around x e h = absurd (clash (is_block x) e h)
   where
-    never : (b : Bool) → (b && false) ≡ false
-    never true = refl
-    never false = refl
+    clash : (b : Bool) → b ≡ false → b ≡ true → ⊥
+    clash true e h = cc
+    clash false e h = cc
 
-calm_at_root : (around : Around) → around.required ≡ false → Calm around context.Block
-calm_at_root around e = ap (λ (b : Bool). b && true) e
+calm_at_root : (around : Around) → around.pending ≡ false → around.required ≡ false → Calm around context.Block
+calm_at_root around p e h = p ∙ sym e
 
 -- ## Collections as nodes
 
@@ -177,7 +177,7 @@ all_room = omega arith
 sequence_closes : {around : Around} → Reads → (p : Properties) (nodes : Nodes) → ((left : ℕ) → PassesItems around left nodes) → around.required ≡ false → ClosesNode around (Seq p nodes)
 sequence_closes {around} reads p nodes items none_required m t o h fits behind s k a ad ps before text =
     let low = at_ink around.indent m t o ad (node_ink around.indent 255 (Seq p nodes) false t h) before in
-    let c = sequence_run reads 255 p nodes false items m t o h fits (λ e right. ends_root around.indent e (moved m t) o behind) s context.Block k [] a ad ps all_room (calm_at_root around none_required) low text in
+    let c = sequence_run reads 255 p nodes false items m t o h fits (λ e right. ends_root around.indent e (moved m t) o behind) s context.Block k [] a ad ps all_room (calm_at_root around fits.calm none_required) low text in
     record {
       tokens = c.properties ++ (tokens.FlowSequenceStart ∷ (c.inside ++ tokens.FlowSequenceEnd ∷ []));
       are = (c.properties, tokens.FlowSequenceStart ∷ (c.inside ++ tokens.FlowSequenceEnd ∷ []), c.are_properties, inl (c.inside, c.are, refl), refl);
@@ -187,7 +187,7 @@ sequence_closes {around} reads p nodes items none_required m t o h fits behind s
 mapping_closes : {around : Around} → Reads → (p : Properties) (pairs : Pairs) → ((left : ℕ) → PassesPairs around left pairs) → around.required ≡ false → ClosesNode around (Map p pairs)
 mapping_closes {around} reads p pairs members none_required m t o h fits behind s k a ad ps before text =
     let low = at_ink around.indent m t o ad (node_ink around.indent 255 (Map p pairs) false t h) before in
-    let c = mapping_run reads 255 p pairs false members m t o h fits (λ e right. ends_root around.indent e (moved m t) o behind) s context.Block k [] a ad ps all_room (calm_at_root around none_required) low text in
+    let c = mapping_run reads 255 p pairs false members m t o h fits (λ e right. ends_root around.indent e (moved m t) o behind) s context.Block k [] a ad ps all_room (calm_at_root around fits.calm none_required) low text in
     record {
       tokens = c.properties ++ (tokens.FlowMappingStart ∷ (c.inside ++ tokens.FlowMappingEnd ∷ []));
       are = (c.properties, tokens.FlowMappingStart ∷ (c.inside ++ tokens.FlowMappingEnd ∷ []), c.are_properties, inl (c.inside, c.are, refl), refl);

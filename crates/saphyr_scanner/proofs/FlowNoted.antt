@@ -9,7 +9,7 @@ use Rattle.saphyr_scanner.specs.Core.{Candidate, Level, Core, Action, perform, w
 use Rattle.saphyr_scanner.specs.State.{State, carried, acted}
 use Rattle.saphyr_scanner.specs.Fetch.{step, content, fetch_here, fetch, within, fetch_within}
 use Rattle.saphyr_scanner.proofs.Leads.{stay, onward}
-use Rattle.saphyr_scanner.proofs.InFlow.States.{Around, core_at, state_at, key_left, none_required, Run, Runs, Deepens}
+use Rattle.saphyr_scanner.proofs.InFlow.States.{Around, core_at, state_at, key_left, Run, Runs, Deepens}
 use Rattle.saphyr_scanner.proofs.JsonStates.{cursor_at, queue_of, none_before, within_limit}
 use Rattle.saphyr_scanner.proofs.FlowStates.{noted}
 use Rattle.saphyr_scanner.proofs.FlowArrivals.{Arrives, BeginsToken, begins_here}
@@ -18,13 +18,13 @@ use Rattle.saphyr_scanner.proofs.FlowArrivals.{Arrives, BeginsToken, begins_here
 abbrev pub core_with : Around → Bool → Option Marker → Cursor → Option Candidate → List Level → Bool → ℕ → Core
 core_with around d comment s k ls a ad = record (core_at around d s context.Block k ls a ad) { comment = comment }
 
-drops : (around : Around) (d : Bool) (comment : Option Marker) (s : Cursor) (k : Option Candidate) (ls : List Level) (a : Bool) (ad : ℕ)
+drops : (around : Around) (d : Bool) (comment : Option Marker) (s : Cursor) (k : Option Candidate) (ls : List Level) (a : Bool) (ad : ℕ) → around.pending ≡ false
     → drop_far_key (core_with around d comment s k ls a ad) ≡ Ok (core_with around d comment s (key_left context.Block k s.mark) ls a ad)
 unfolding drop_far_key
-drops around d comment s k ls a ad = by_distance (is_too_far k s.mark) refl
+drops around d comment s k ls a ad calm = by_distance (is_too_far k s.mark) refl
   where
     by_distance : (far : Bool) → is_too_far k s.mark ≡ far → drop_far_key (core_with around d comment s k ls a ad) ≡ Ok (core_with around d comment s (key_left context.Block k s.mark) ls a ad)
-    by_distance true h = rw (h, none_required around.required) refl
+    by_distance true h = rw (h, calm) refl
     by_distance false h = rw h refl
 
 -- where a step gives this, it leads there, but for the key
@@ -33,10 +33,10 @@ pub record NotedComes (around : Around) (start : Bool → State) (comment : Opti
   pub leads : Runs around (λ d. noted comment (state_at around s context.Block key ls a ad ps d)) start
 
 noted_comes : (around : Around) (start : Bool → State) (comment : Option Marker) (s : Cursor) (k : Option Candidate) (ls : List Level) (a : Bool) (ad : ℕ) (ps : List Place) (to : Bool → Bool) → Deepens around to
-    → ((d : Bool) → (start d).core.ended ≡ false) → ((d : Bool) → fetch (start d) ≡ Ok (noted comment (state_at around s context.Block k ls a ad ps (to d)))) → s.mark.index ≤ around.limit
+    → ((d : Bool) → (start d).core.ended ≡ false) → ((d : Bool) → fetch (start d) ≡ Ok (noted comment (state_at around s context.Block k ls a ad ps (to d)))) → s.mark.index ≤ around.limit → around.pending ≡ false
     → NotedComes around start comment s ls a ad ps
 unfolding fetch_within
-noted_comes around start comment s k ls a ad ps to deepens going is low = record { key = key_left context.Block k s.mark; leads = record { run = λ d. one d } }
+noted_comes around start comment s k ls a ad ps to deepens going is low calm = record { key = key_left context.Block k s.mark; leads = record { run = λ d. one d } }
   where
     flatly : (d : Bool) → around.indent ≡ 0 → d ≡ false → to d ≡ false
     flatly true e h = absurd (cc)
@@ -50,7 +50,7 @@ noted_comes around start comment s k ls a ad ps to deepens going is low = record
           deeper = to d;
           flat = flatly d;
           leads = onward (start d) st (noted comment (state_at around s context.Block (key_left context.Block k s.mark) ls a ad ps (to d))) (going d) (ap (λ r. r >>= within around.limit) (is d) ∙ fits)
-              (ap (λ r. carried r (queue_of ps)) (drops around (to d) comment s k ls a ad)) stay;
+              (ap (λ r. carried r (queue_of ps)) (drops around (to d) comment s k ls a ad calm)) stay;
         }
 
 -- what the step at the next token's first characters gives
@@ -68,4 +68,4 @@ noted_one around s k ls a ad ps m y v h comment t j ms b be qs actions to deepen
     let there = ap (λ r. r >>= fetch_here) (v.is d) ∙ begins_here around d seen context.Block v.key ls v.allowed ad ps h v.right in
     let at_place = ap (λ (n : ℕ). acted (step (slice_index y 0) (slice_index y 1) n c) (queue_of ps)) (none_before (length ps)) in
     let made = ap (λ r. acted r (queue_of ps)) (is d) ∙ ap (λ (q : Queue). Ok (let r : State = record { core = core_with around (to d) comment t j ms b be; queue = q } in r)) done in
-    there ∙ at_place ∙ made) low
+    there ∙ at_place ∙ made) low v.calm

@@ -17,13 +17,13 @@ use Rattle.saphyr_scanner.proofs.FlowInks.{BeginsInk}
 
 pub fits_front : {around : Around} (m : Marker) (a b o : List ℕ) → Fits around m (a ++ b) o → Fits around m a (b ++ o)
 fits_front {around} m a b o h =
-    record { clear = clear_front m a b o h.clear; below = subst (λ (t : List ℕ). m.index + length t ≤ around.limit) (append_assoc a b o) h.below; right = h.right }
+    record { clear = clear_front m a b o h.clear; below = subst (λ (t : List ℕ). m.index + length t ≤ around.limit) (append_assoc a b o) h.below; right = h.right; calm = h.calm }
 
 pub fits_back : {around : Around} (m : Marker) (a b o : List ℕ) → around.indent ≤ (moved m a).col → Fits around m (a ++ b) o → Fits around (moved m a) b o
 fits_back {around} m a b o right h =
     let whole : m.index + length (a ++ (b ++ o)) ≤ around.limit = subst (λ (t : List ℕ). m.index + length t ≤ around.limit) (append_assoc a b o) h.below in
     let count = moved_count m a (b ++ o) in
-    record { clear = clear_back m a b o h.clear; below = omega (arith, whole, count); right = right }
+    record { clear = clear_back m a b o h.clear; below = omega (arith, whole, count); right = right; calm = h.calm }
 
 pub fits_so : {around : Around} (m : Marker) (p q o : List ℕ) → p ≡ q → Fits around m p o → Fits around m q o
 fits_so {around} m p q o e h = subst (λ (t : List ℕ). Fits around m t o) e h

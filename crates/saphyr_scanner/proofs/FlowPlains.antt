@@ -21,7 +21,7 @@ use Rattle.saphyr_scanner.specs.Scalar as scalar
 use Rattle.saphyr_scanner.specs.Scalar.{read_plain, disallow_key, behind_plain}
 use Rattle.saphyr_scanner.specs.Fetch.{step, is_value_adjacent}
 use Rattle.saphyr_scanner.specs.FlowScalars.{begins_plain, IsPlain}
-use Rattle.saphyr_scanner.proofs.InFlow.States.{Around, core_at, state_at, not_left, saves_key, none_deeper}
+use Rattle.saphyr_scanner.proofs.InFlow.States.{Around, core_at, state_at, Placed, placed_right, plain_placed, saves_key, none_deeper}
 use Rattle.saphyr_scanner.proofs.JsonStates.{cursor_at, and_false}
 use Rattle.saphyr_scanner.proofs.JsonMarks.{saved}
 use Rattle.saphyr_scanner.proofs.JsonBrackets.{place_of}
@@ -148,28 +148,28 @@ plain_token t = scalar_token Plain (plain_value t)
 abbrev found : Bool → List ℕ → Marker → List ℕ → Reading
 found f o end v = Ok (encode_utf8_all (plain_value v), end, comment_of f false (past_white end false o), past_white end false o)
 
-plain_read : Reads → (around : Around) (d : Bool) (n : ℕ) (m : Marker) (b : Bool) (t o : List ℕ) (x : Context) → IsPlainText (not (is_block x)) around.indent m t o → IsClear m t o → around.indent ≤ m.col
-    → (k : Option Candidate) (ls : List Level) (a : Bool) (ad : ℕ)
+plain_read : Reads → (around : Around) (d : Bool) (n : ℕ) (m : Marker) (b : Bool) (t o : List ℕ) (x : Context) → IsPlainText (not (is_block x)) around.indent m t o → IsClear m t o
+    → (k : Option Candidate) (ls : List Level) (a : Bool) (ad : ℕ) → Placed around x a m
     → let u = past_white (moved m t) false o in scalar.plain n (core_at around d (cursor_at (t ++ o) m b) x k ls a ad)
     ≡ went (from_to m (moved m t) (plain_token t) ∷ []) (record (core_at around false u x (saved a n m k) ls u.blank_so_far ad) { comment = comment_of (not (is_block x)) false u })
 unfolding scalar.plain read_plain
-plain_read reads around d n m b t o x h clear right k ls a ad =
+plain_read reads around d n m b t o x h clear k ls a ad placed =
     let s = cursor_at (t ++ o) m b in
     let f = not (is_block x) in
     let c = core_at around false s x (saved a n m k) ls false ad in
     let token = λ (z : List ℕ × Marker × Option Marker × Cursor). went (from_to m z.1 (tokens.Scalar Plain z.0) ∷ []) (behind_plain z.2 z.3 c) in
-    let refused : (f && nat_lt m.col around.indent) ≡ false = ap (λ (q : Bool). f && q) (not_left around.indent m.col true right) ∙ and_false f in
+    let refused : (f && nat_lt m.col around.indent) ≡ false = plain_placed around x a m placed in
     let got = reads.plain f around.indent s t o refl h ∙ ap (λ (end : Marker). found f o end (normalized t)) (passed_moved m t clear.no_return) ∙ ap (found f o (moved m t)) (normalized_same t clear.no_return) in
-    ap (λ (q : Core). read_plain (record (disallow_key q) { deeper = false })) (saves_key n around d s x k ls a ad right) ∙ rw refused (ap (λ q. q >>= token) got)
+    ap (λ (q : Core). read_plain (record (disallow_key q) { deeper = false })) (saves_key n around d s x k ls a ad placed) ∙ rw refused (ap (λ q. q >>= token) got)
 
 -- ## The step
 
 -- The premises of a step over a plain scalar: outside flow, or where no colon may stand at once.
 plain_step : Reads → (around : Around) (d : Bool) (n : ℕ) (m : Marker) (b : Bool) (t o : List ℕ) (x : Context) → IsPlain (not (is_block x)) around.indent t → IsClear m t o → EndsPlain (not (is_block x)) around.indent (moved m t) o
-    → (k : Option Candidate) (ls : List Level) (a : Bool) (ad : ℕ) → (is_block x ≡ true) ⊎ (ad < m.index) → around.indent ≤ m.col
+    → (k : Option Candidate) (ls : List Level) (a : Bool) (ad : ℕ) → (is_block x ≡ true) ⊎ (ad < m.index) → Placed around x a m
     → let u = past_white (moved m t) false o in step (slice_index (t ++ o) 0) (slice_index (t ++ o) 1) n (core_at around d (cursor_at (t ++ o) m b) x k ls a ad)
     ≡ went (from_to m (moved m t) (plain_token t) ∷ []) (record (core_at around false u x (saved a n m k) ls u.blank_so_far ad) { comment = comment_of (not (is_block x)) false u })
-plain_step reads around d n m b t o x h clear ends k ls a ad low right =
+plain_step reads around d n m b t o x h clear ends k ls a ad low placed =
     let f = not (is_block x) in
     let w = word_begins f around.indent t h in
     let c = core_at around d (cursor_at (t ++ o) m b) x k ls a ad in
@@ -181,7 +181,7 @@ plain_step reads around d n m b t o x h clear ends k ls a ad low right =
     plain_begins first second n c (subst (λ (i : ℕ). IsTrue (begins_plain i)) (sym at_first) w.begins)
     (lone_test f first 45 second (λ e. at_second (inl e))) (lone_test f first 63 second (λ e. at_second (inr (inl e)))) (lone_test f first 58 second (λ e. at_second (inr (inr e))))
     (value_test (is_block x) first second m.index ad (λ e. at_second (inr (inr e))) low)
-    ∙ plain_read reads around d n m b t o x (plain_text f around.indent m t o h clear ends) clear right k ls a ad
+    ∙ plain_read reads around d n m b t o x (plain_text f around.indent m t o h clear ends) clear k ls a ad placed
   where
     second_ink : (f : Bool) (t o : List ℕ) (w : BeginsWord f t) → (w.first ≡ 45) ⊎ ((w.first ≡ 63) ⊎ (w.first ≡ 58)) → IsTrue (is_word_ink f (slice_index (t ++ o) 1))
     second_ink f t o w e =
@@ -215,7 +215,7 @@ plain_passes reads around t o m h fits ends inked s x k ls a ad ps flow low text
       adjacent = ad;
       to = λ d. false;
       deepens = none_deeper around;
-      is = λ d. plain_step reads around d (length ps) m b t o x plain fits.clear stops j ls e ad (inr low) fits.right
+      is = λ d. plain_step reads around d (length ps) m b t o x plain fits.clear stops j ls e ad (inr low) (placed_right x e fits.calm fits.right)
           ∙ ap (λ (q : Option Marker). went (from_to m (moved m t) (plain_token t) ∷ []) (record (core_at around false u x (saved e (length ps) m j) ls u.blank_so_far ad) { comment = q }))
           (no_comment (not (is_block x)) u inside);
       fits = white_past around.indent (moved m t) false o inked;
@@ -229,14 +229,14 @@ pub plain_closes : Reads → (around : Around) (t o : List ℕ) (m : Marker) →
     → Closes around (state_at around s context.Block k [] a ad ps) ps (moved m t) o (scalar_token Plain (plain_value t) ∷ [])
 plain_closes reads around t o m h fits ends inked s k a ad ps before text =
     let f = token_begins false t (word_begins false around.indent t h) in
-    let v = arrives around s context.Block k [] a ad ps m (t ++ o) (text ∙ begins_past around.indent m t o f) (begins_inked t o f) fits.right in
+    let v = arrives around s context.Block k [] a ad ps m (t ++ o) (text ∙ begins_past around.indent m t o f) (begins_inked t o f) fits.right fits.calm in
     let u = past_white (moved m t) false o in
     let lands = white_past around.indent (moved m t) false o inked in
     let count = moved_count m t o in
     let below = fits.below in
     let low = within_index around.indent around.limit u (moved m t) o lands (omega (arith, count, below)) in
     let new = place_of m (moved m t) (plain_token t) ∷ [] in
-    let stepped = λ (d : Bool). plain_step reads around d (length ps) m v.blank t o context.Block h fits.clear ends v.key [] v.allowed ad (inl refl) fits.right in
+    let stepped = λ (d : Bool). plain_step reads around d (length ps) m v.blank t o context.Block h fits.clear ends v.key [] v.allowed ad (inl refl) (placed_right context.Block v.allowed fits.calm fits.right) in
     let came = noted_one around s k [] a ad ps m (t ++ o) v (begins_token m t o f fits.clear) (comment_of false false u) u (saved v.allowed (length ps) m v.key) [] u.blank_so_far ad (ps ++ new)
     (from_to m (moved m t) (plain_token t) ∷ []) (λ d. false) (none_deeper around) stepped refl low in
     record {

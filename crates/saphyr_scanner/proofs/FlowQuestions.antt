@@ -92,7 +92,7 @@ pub mark_passes : (around : Around) (y : Context) → is_block y ≡ false → (
     → (s : Cursor) (k : Option Candidate) (ls : List Level) (a : Bool) (ad : ℕ) (ps : List Place) → ad ≤ m.index → past around.indent s.mark s.rest ≡ past around.indent m (63 ∷ o)
     → Passes around (state_at around s y k ls a ad ps) (no_key (moved m (63 ∷ []))) (behind_question y) ls ps (moved m (63 ∷ [])) o (tokens.Key ∷ [])
 mark_passes around y flows m o fits parted some tabs s k ls a ad ps before text =
-    let v = arrives around s y k ls a ad ps m (63 ∷ o) (text ∙ past_ink around.indent m 63 o question.ink) refl fits.right in
+    let v = arrives around s y k ls a ad ps m (63 ∷ o) (text ∙ past_ink around.indent m 63 o question.ink) refl fits.right fits.calm in
     let on = one_right around.indent m.col fits.right in
     let w = parted.separation in
     let c = parted.first in

@@ -23,7 +23,7 @@ use Rattle.saphyr_scanner.specs.Scalar as scalar
 use Rattle.saphyr_scanner.specs.Scalar.{read_single_quoted, read_double_quoted, disallow_key, behind_quotes, behind_line, goes_on_behind_quotes, adjacent_here}
 use Rattle.saphyr_scanner.specs.Fetch.{step}
 use Rattle.saphyr_scanner.specs.FlowScalars.{IsQuoted}
-use Rattle.saphyr_scanner.proofs.InFlow.States.{Around, core_at, state_at, least, least_low, saves_key, as_before}
+use Rattle.saphyr_scanner.proofs.InFlow.States.{Around, core_at, state_at, least, least_low, Placed, placed_right, saves_key, as_before}
 use Rattle.saphyr_scanner.proofs.InFlow.Tabs.{lands_on_ink}
 use Rattle.saphyr_scanner.proofs.JsonStates.{cursor_at}
 use Rattle.saphyr_scanner.proofs.JsonMarks.{saved}
@@ -121,21 +121,21 @@ style_of Single = SingleQuoted
 style_of Double = DoubleQuoted
 
 quoted_step : Reads → (around : Around) (d : Bool) (quote : Quote) (n : ℕ) (m : Marker) (b : Bool) (value t o : List ℕ) → IsQuoted quote around.indent value t → IsClear m t o → (slice_index o 0 == 39) ≡ false
-    → (x : Context) (k : Option Candidate) (ls : List Level) (a : Bool) (ad : ℕ) (c : ℕ) → c ≡ mark quote → around.indent ≤ m.col
+    → (x : Context) (k : Option Candidate) (ls : List Level) (a : Bool) (ad : ℕ) (c : ℕ) → c ≡ mark quote → Placed around x a m
     → step c (slice_index (t ++ o) 1) n (core_at around d (cursor_at (t ++ o) m b) x k ls a ad)
     ≡ behind_quotes m (style_of quote) (encode_utf8_all value) (core_at around d (at (moved m t) o) x (saved a n m k) ls false ad)
 unfolding step scalar.single_quoted scalar.double_quoted read_single_quoted read_double_quoted
-quoted_step reads around d Single n m b value t o h clear ends x k ls a ad c first right =
+quoted_step reads around d Single n m b value t o h clear ends x k ls a ad c first placed =
     let s = cursor_at (t ++ o) m b in
     let inner = core_at around d s x (saved a n m k) ls false ad in
     ap (λ (i : ℕ). step i (slice_index (t ++ o) 1) n (core_at around d s x k ls a ad)) first
-    ∙ ap (λ (e : Core). read_single_quoted (disallow_key e)) (saves_key n around d s x k ls a ad right)
+    ∙ ap (λ (e : Core). read_single_quoted (disallow_key e)) (saves_key n around d s x k ls a ad placed)
     ∙ ap (λ q. q >>= λ (y : List ℕ × Cursor). behind_quotes m SingleQuoted y.0 (with_cursor y.1 inner)) (quoted_read reads (least around.indent d) around.indent (least_low around.indent d) Single s value t o refl h clear ends)
-quoted_step reads around d Double n m b value t o h clear ends x k ls a ad c first right =
+quoted_step reads around d Double n m b value t o h clear ends x k ls a ad c first placed =
     let s = cursor_at (t ++ o) m b in
     let inner = core_at around d s x (saved a n m k) ls false ad in
     ap (λ (i : ℕ). step i (slice_index (t ++ o) 1) n (core_at around d s x k ls a ad)) first
-    ∙ ap (λ (e : Core). read_double_quoted (disallow_key e)) (saves_key n around d s x k ls a ad right)
+    ∙ ap (λ (e : Core). read_double_quoted (disallow_key e)) (saves_key n around d s x k ls a ad placed)
     ∙ ap (λ q. q >>= λ (y : List ℕ × Cursor). behind_quotes m DoubleQuoted y.0 (with_cursor y.1 inner)) (quoted_read reads (least around.indent d) around.indent (least_low around.indent d) Double s value t o refl h clear ends)
 
 quote_first : (quote : Quote) (inside : List ℕ) → Begins (mark quote ∷ inside)
@@ -164,7 +164,7 @@ quoted_passes reads around quote value t o m h fits apart s x k ls a ad ps p tex
       adjacent = behind.0.index;
       to = λ d. d;
       deepens = as_before around;
-      is = λ d. quoted_step reads around d quote place m b value t o h fits.clear apart x j ls e ad (slice_index (t ++ o) 0) at_first fits.right
+      is = λ d. quoted_step reads around d quote place m b value t o h fits.clear apart x j ls e ad (slice_index (t ++ o) 0) at_first (placed_right x e fits.calm fits.right)
           ∙ behind_step around d m (style_of quote) (encode_utf8_all value) (at (moved m t) o) x (saved e place m j) ls ad behind.0 behind.1 p g;
       fits = past_again around.indent (moved m t) o;
       tells = refl;

@@ -110,7 +110,7 @@ reads_node {limit = limit} {start = start} closes node gap text end others ts ga
     record { rest = e.rest; more = e.more; is = e.is; line = e.line; break = e.break; lands = inl (subst (λ (x : Marker × List ℕ). EndsDocument x.0 x.1) (sym lined) (lands e.mark e.place)) } in
     let here : past 0 v.mark ((gap ++ (text ++ end)) ++ others) ≡ past 0 m (text ++ o) = ap (past 0 v.mark) whole ∙ no_gap_past gap gap_is v.mark (text ++ o) in
     let there : past 0 v.there.mark v.there.rest ≡ past 0 m (text ++ o) = v.fits ∙ here in
-    let fits : Fits (alone limit) m text o = record { clear = clear_front m text end others (clear_back v.mark gap (text ++ end) others clear); below = low; right = none_left m.col } in
+    let fits : Fits (alone limit) m text o = record { clear = clear_front m text end others (clear_back v.mark gap (text ++ end) others clear); below = low; right = none_left m.col; calm = refl } in
     let r = closes refl node m text o text_is fits root v.there v.key v.allowed v.adjacent v.places (subst (λ (q : Marker × List ℕ). v.adjacent ≤ q.0.index) here v.low) there in
     let c = r.closes in
     let ran = c.leads.run false in

@@ -139,11 +139,12 @@ pub record IsBehindRoot (indent : ℕ) (m : Marker) (o : List ℕ) : Type 0 wher
   pub break : (more ≡ []) ⊎ (slice_index more 0 ≡ line_feed)
   pub lands : EndsDocument (past indent m o).0 (past indent m o).1 ⊎ IsLeft indent (past indent m o).0 (past indent m o).1
 
--- A piece that is clear, within the limit, and right of the block collection around it.
+-- A piece that is clear, within the limit, and right of the block collection around it, where no key is required.
 pub record Fits (around : Around) (m : Marker) (p o : List ℕ) : Type 0 where
   pub clear : IsClear m p o
   pub below : m.index + length (p ++ o) ≤ around.limit
   pub right : around.indent ≤ m.col
+  pub calm : around.pending ≡ false
 
 -- ## What the readers of scalars, properties and directives promise
 

@@ -75,7 +75,7 @@ pub token_passes : (around : Around) (says : Bool → ℕ → Type 0) (kind : Ki
     → ((b : Bool) (j : Option Candidate) (e : Bool) → Step around says kind (p ++ o) m (moved m p) o x ls ad (length ps) b j e)
     → Passes around (state_at around s x k ls a ad ps) (after_token says x (saved a (length ps) m k)) x ls ps (moved m p) o (kind ∷ [])
 token_passes around says kind p o m f fits right s x k ls a ad ps text steps =
-    let v = arrives around s x k ls a ad ps m (p ++ o) (text ∙ begins_past around.indent m p o f) (begins_inked p o f) fits.right in
+    let v = arrives around s x k ls a ad ps m (p ++ o) (text ∙ begins_past around.indent m p o f) (begins_inked p o f) fits.right fits.calm in
     let w = steps v.blank v.key v.allowed in
     let count = moved_count m p o in
     let below = fits.below in

@@ -42,7 +42,7 @@ colon_passes around y flows first e node w o parts fits parted ends same_line st
     let lands : past around.indent e (w ++ (58 ∷ o)) ≡ (m, 58 ∷ o) = separation_past around.indent e w (58 ∷ o) parts p.right ∙ past_ink around.indent m 58 o colon.ink in
     let before : p.adjacent ≤ m.index = subst (λ (q : Marker × List ℕ). p.adjacent ≤ q.0.index) lands (n.low flows) in
     let qs = ps ++ p.new in
-    let v = arrives around p.there y p.key ls p.allowed p.adjacent qs m (58 ∷ o) (p.fits ∙ lands) refl fits.right in
+    let v = arrives around p.there y p.key ls p.allowed p.adjacent qs m (58 ∷ o) (p.fits ∙ lands) refl fits.right fits.calm in
     let k = key_at first ps in
     let kept : v.key ≡ Some k = (v.same flows).0 ∙ n.keeps flows in
     let seen = cursor_at (58 ∷ o) m v.blank in
@@ -111,7 +111,7 @@ pub value_passes : (around : Around) (y : Context) → is_block y ≡ false → 
     → (s : Cursor) (k : Option Candidate) (ls : List Level) (a : Bool) (ad : ℕ) (ps : List Place) → k ≡ None → (m.index ≡ ad) ⊎ IsTrue (ends_colon (slice_index o 0)) → ad ≤ m.index → past around.indent s.mark s.rest ≡ past around.indent m (58 ∷ o)
     → Passes around (state_at around s y k ls a ad ps) (no_key (moved m (58 ∷ []))) (behind_colon y) ls ps (moved m (58 ∷ [])) o (alone_kinds (begins_pair y) ++ tokens.Value ∷ [])
 value_passes around y flows m o fits parted s k ls a ad ps none ends before text =
-    let v = arrives around s y k ls a ad ps m (58 ∷ o) (text ∙ past_ink around.indent m 58 o colon.ink) refl fits.right in
+    let v = arrives around s y k ls a ad ps m (58 ∷ o) (text ∙ past_ink around.indent m 58 o colon.ink) refl fits.right fits.calm in
     let seen = cursor_at (58 ∷ o) m v.blank in
     let t = tabbed around o (along m 1) (behind_colon y) None ls v.allowed ad (colon_flows y flows) parted (one_right around.indent m.col fits.right) in
     let stepped = λ (d : Bool). begins around d (slice_index o 0) (length ps) seen y v.key ls v.allowed ad flows ends

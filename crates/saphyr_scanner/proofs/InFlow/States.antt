@@ -1,5 +1,5 @@
 -- States of a scanner that reads a node in flow style, whatever block collections are open around it.
-use Rattle.std.proofs.Common.{◌≡◌, ℕ, ◌+◌, ◌<◌, ◌≤◌, Bool, true, false, List, [], ◌∷◌, length, Ok, refl, sym, ap, ◌∙◌, arith, cond}
+use Rattle.std.proofs.Common.{◌≡◌, ℕ, ◌+◌, ◌<◌, ◌≤◌, Bool, true, false, List, [], ◌∷◌, length, Ok, refl, sym, ap, ◌∙◌, arith, cond, subst}
 use Rattle.std.specs.Prelude.{◌-◌, ◌||◌, ◌&&◌, ◌==◌, not, nat_lt, nat_le, Option, Some, None, if◌then◌else◌}
 use Rattle.std.proofs.lemmas.Bool.Decides.{nat_tests}
 use Rattle.saphyr_input.specs.declared.input.SkipTabs.{SkipTabs}
@@ -24,18 +24,23 @@ use Rattle.saphyr_scanner.proofs.JsonMarks.{chain, saved, level_of, not_full}
 -- ## What stays as it is
 
 -- How long the text may be, which block collections are open around the nodes that are read, and whether a key is
--- required inside them. `indent` is the first column to the right of the innermost collection, and 0 where there is none.
+-- required at block level, and inside the nodes. `indent` is the first column to the right of the innermost collection,
+-- and 0 where there is none.
 pub record Around : Type 0 where
   pub limit : ℕ
   pub indent : ℕ
   pub outers : List ℕ
+  pub pending : Bool
   pub required : Bool
 
 -- no block collection is open
 abbrev pub alone : ℕ → Around
-alone limit = record { limit = limit; indent = 0; outers = []; required = false }
+alone limit = record { limit = limit; indent = 0; outers = []; pending = false; required = false }
 
 -- ## States
+
+abbrev pub required_at : Around → Context → Bool
+required_at around x = if is_block x then around.pending else around.required
 
 abbrev pub core_at : Around → Bool → Cursor → Context → Option Candidate → List Level → Bool → ℕ → Core
 core_at around d s x k ls a ad =
@@ -43,7 +48,7 @@ core_at around d s x k ls a ad =
       cursor = s;
       level = record { context = x; key = k };
       outer = ls;
-      required = around.required && not (is_block x);
+      required = required_at around x;
       key_allowed = a;
       adjacent = ad;
       indent = around.indent;
@@ -95,32 +100,23 @@ chains f g = record {
 
 -- ## A key outside flow may be forgotten
 
-pub record DropsKey (around : Around) (d : Bool) (s : Cursor) (x : Context) (k : Option Candidate) (ls : List Level) (a : Bool) (ad : ℕ) : Type 0 where
-  pub left : Option Candidate
-  pub is : drop_far_key (core_at around d s x k ls a ad) ≡ Ok (core_at around d s x left ls a ad)
-  pub same : is_block x ≡ false → left ≡ k
-
 -- the key that is left
 abbrev pub key_left : Context → Option Candidate → Marker → Option Candidate
 key_left x k m = if is_block x && is_too_far k m then None else k
 
-pub none_required : (b : Bool) → (b && false) ≡ false
-none_required true = refl
-none_required false = refl
-
-pub drops : (around : Around) (d : Bool) (s : Cursor) (x : Context) (k : Option Candidate) (ls : List Level) (a : Bool) (ad : ℕ)
+pub drops : (around : Around) (d : Bool) (s : Cursor) (x : Context) (k : Option Candidate) (ls : List Level) (a : Bool) (ad : ℕ) → around.pending ≡ false
     → drop_far_key (core_at around d s x k ls a ad) ≡ Ok (core_at around d s x (key_left x k s.mark) ls a ad)
 unfolding drop_far_key
-drops around d s context.Block k ls a ad = by_distance (is_too_far k s.mark) refl
+drops around d s context.Block k ls a ad calm = by_distance (is_too_far k s.mark) refl
   where
     by_distance : (far : Bool) → is_too_far k s.mark ≡ far → drop_far_key (core_at around d s context.Block k ls a ad) ≡ Ok (core_at around d s context.Block (key_left context.Block k s.mark) ls a ad)
-    by_distance true h = rw (h, none_required around.required) refl
+    by_distance true h = rw (h, calm) refl
     by_distance false h = rw h refl
-drops around d s context.FlowSequence k ls a ad = refl
-drops around d s context.FlowMapping k ls a ad = refl
-drops around d s context.FlowPair k ls a ad = refl
-drops around d s context.ExplicitFlowPair k ls a ad = refl
-drops around d s context.MarkedFlowPair k ls a ad = refl
+drops around d s context.FlowSequence k ls a ad calm = refl
+drops around d s context.FlowMapping k ls a ad calm = refl
+drops around d s context.FlowPair k ls a ad calm = refl
+drops around d s context.ExplicitFlowPair k ls a ad calm = refl
+drops around d s context.MarkedFlowPair k ls a ad calm = refl
 
 pub left_in_flow : (x : Context) (k : Option Candidate) (m : Marker) → is_block x ≡ false → key_left x k m ≡ k
 left_in_flow x k m e = rw e refl
@@ -184,9 +180,9 @@ pub record Comes (around : Around) (start : Bool → State) (s : Cursor) (x : Co
 
 -- where a step gives this, it leads there
 pub comes : (around : Around) (start : Bool → State) (s : Cursor) (x : Context) (k : Option Candidate) (ls : List Level) (a : Bool) (ad : ℕ) (ps : List Place) (to : Bool → Bool) → Deepens around to
-    → ((d : Bool) → (start d).core.ended ≡ false) → ((d : Bool) → fetch (start d) ≡ Ok (state_at around s x k ls a ad ps (to d))) → s.mark.index ≤ around.limit → Comes around start s x k ls a ad ps
+    → ((d : Bool) → (start d).core.ended ≡ false) → ((d : Bool) → fetch (start d) ≡ Ok (state_at around s x k ls a ad ps (to d))) → s.mark.index ≤ around.limit → around.pending ≡ false → Comes around start s x k ls a ad ps
 unfolding fetch_within
-comes around start s x k ls a ad ps to deepens going is low =
+comes around start s x k ls a ad ps to deepens going is low calm =
     let left = key_left x k s.mark in
     record {
       key = left;
@@ -206,7 +202,7 @@ comes around start s x k ls a ad ps to deepens going is low =
           deeper = to d;
           flat = flatly d;
           leads = onward (start d) st (state_at around s x (key_left x k s.mark) ls a ad ps (to d)) (going d) (ap (λ r. r >>= within around.limit) (is d) ∙ fits)
-              (ap (λ r. carried r (queue_of ps)) (drops around (to d) s x k ls a ad)) stay;
+              (ap (λ r. carried r (queue_of ps)) (drops around (to d) s x k ls a ad calm)) stay;
         }
 
 -- ## Keys and brackets
@@ -215,39 +211,81 @@ off_column : (indent col : ℕ) (d : Bool) → indent ≤ col → (not d && (ind
 off_column indent col true h = refl
 off_column indent col false h = grind (arith, nat_tests)
 
-pub saves_key : (n : ℕ) (around : Around) (d : Bool) (s : Cursor) (x : Context) (k : Option Candidate) (ls : List Level) (a : Bool) (ad : ℕ) → around.indent ≤ s.mark.col
-    → save_key n (core_at around d s x k ls a ad) ≡ core_at around d s x (saved a n s.mark k) ls a ad
-saves_key n around d s x k ls false ad h = refl
-saves_key n around d s context.Block k ls true ad h = rw (off_column around.indent s.mark.col d h, none_required around.required) refl
-saves_key n around d s context.FlowSequence k ls true ad h = refl
-saves_key n around d s context.FlowMapping k ls true ad h = refl
-saves_key n around d s context.FlowPair k ls true ad h = refl
-saves_key n around d s context.ExplicitFlowPair k ls true ad h = refl
-saves_key n around d s context.MarkedFlowPair k ls true ad h = refl
+-- What is known where a token begins: it stands right of the block collections, and at block level no key is required,
+-- or it is no first token of a key, and stands on a key's line.
+pub data Placed (around : Around) (x : Context) (a : Bool) (m : Marker) : Type 0 where
+  inside : is_block x ≡ false → around.indent ≤ m.col → Placed around x a m
+  right : around.pending ≡ false → around.indent ≤ m.col → Placed around x a m
+  behind_key : is_block x ≡ true → a ≡ false → Placed around x a m
 
-pub starts : (y : Context) (kind : Kind) (n : ℕ) (around : Around) (d : Bool) (s : Cursor) (x : Context) (k : Option Candidate) (ls : List Level) (a : Bool) (ad : ℕ) → around.indent ≤ s.mark.col
+pub placed_right : {around : Around} {m : Marker} (x : Context) (a : Bool) → around.pending ≡ false → around.indent ≤ m.col → Placed around x a m
+placed_right x a calm h = right calm h
+
+saves_in_flow : (n : ℕ) (around : Around) (d : Bool) (s : Cursor) (x : Context) (k : Option Candidate) (ls : List Level) (a : Bool) (ad : ℕ) → is_block x ≡ false
+    → save_key n (core_at around d s x k ls a ad) ≡ core_at around d s x (saved a n s.mark k) ls a ad
+saves_in_flow n around d s x k ls false ad e = refl
+saves_in_flow n around d s context.Block k ls true ad e = absurd (cc)
+saves_in_flow n around d s context.FlowSequence k ls true ad e = refl
+saves_in_flow n around d s context.FlowMapping k ls true ad e = refl
+saves_in_flow n around d s context.FlowPair k ls true ad e = refl
+saves_in_flow n around d s context.ExplicitFlowPair k ls true ad e = refl
+saves_in_flow n around d s context.MarkedFlowPair k ls true ad e = refl
+
+saves_right : (n : ℕ) (around : Around) (d : Bool) (s : Cursor) (x : Context) (k : Option Candidate) (ls : List Level) (a : Bool) (ad : ℕ) → around.pending ≡ false → around.indent ≤ s.mark.col
+    → save_key n (core_at around d s x k ls a ad) ≡ core_at around d s x (saved a n s.mark k) ls a ad
+saves_right n around d s x k ls false ad e h = refl
+saves_right n around d s context.Block k ls true ad e h = rw (off_column around.indent s.mark.col d h, e) refl
+saves_right n around d s context.FlowSequence k ls true ad e h = refl
+saves_right n around d s context.FlowMapping k ls true ad e h = refl
+saves_right n around d s context.FlowPair k ls true ad e h = refl
+saves_right n around d s context.ExplicitFlowPair k ls true ad e h = refl
+saves_right n around d s context.MarkedFlowPair k ls true ad e h = refl
+
+pub saves_key : (n : ℕ) (around : Around) (d : Bool) (s : Cursor) (x : Context) (k : Option Candidate) (ls : List Level) (a : Bool) (ad : ℕ) → Placed around x a s.mark
+    → save_key n (core_at around d s x k ls a ad) ≡ core_at around d s x (saved a n s.mark k) ls a ad
+saves_key n around d s x k ls a ad (inside e h) = saves_in_flow n around d s x k ls a ad e
+saves_key n around d s x k ls a ad (right e h) = saves_right n around d s x k ls a ad e h
+saves_key n around d s x k ls a ad (behind_key b e) =
+    subst (λ (q : Bool). save_key n (core_at around d s x k ls q ad) ≡ core_at around d s x (saved q n s.mark k) ls q ad) (sym e) refl
+
+-- a plain scalar inside flow is right of the block collections
+pub plain_placed : (around : Around) (x : Context) (a : Bool) (m : Marker) → Placed around x a m → (not (is_block x) && nat_lt m.col around.indent) ≡ false
+plain_placed around x a m (inside e h) = further (not (is_block x)) (not_left around.indent m.col true h)
+  where
+    further : (p : Bool) → nat_lt m.col around.indent ≡ false → (p && nat_lt m.col around.indent) ≡ false
+    further true e = e
+    further false e = refl
+plain_placed around x a m (right e h) = further (not (is_block x)) (not_left around.indent m.col true h)
+  where
+    further : (p : Bool) → nat_lt m.col around.indent ≡ false → (p && nat_lt m.col around.indent) ≡ false
+    further true e = e
+    further false e = refl
+plain_placed around x a m (behind_key b e) = rw b refl
+
+pub starts : (y : Context) (kind : Kind) (n : ℕ) (around : Around) (d : Bool) (s : Cursor) (x : Context) (k : Option Candidate) (ls : List Level) (a : Bool) (ad : ℕ) → Placed around x a s.mark
     → flow.start y kind n (core_at around d s x k ls a ad) ≡ open_collection y kind (core_at around (deepened around x d) s x (saved a n s.mark k) ls a ad)
 unfolding flow.start
 starts y kind n around d s x k ls a ad h = ap (λ (c : Core). open_collection y kind (go_deeper c)) (saves_key n around d s x k ls a ad h)
 
--- nothing is required around a collection, or the collection stands inside another
+-- what is required around a collection is so inside it
 abbrev pub Calm : Around → Context → Type 0
-Calm around x = (around.required && is_block x) ≡ false
+Calm around x = is_block x ≡ true → around.pending ≡ around.required
 
-still_required : (required outer inner : Bool) → inner ≡ false → (required && outer) ≡ false → (required && not outer) ≡ (required && not inner)
-still_required true true inner e h = absurd (cc)
-still_required true false true e h = absurd (cc)
-still_required true false false e h = refl
-still_required false outer inner e h = refl
+still_required : (around : Around) (x y : Context) → is_block y ≡ false → Calm around x → required_at around x ≡ required_at around y
+still_required around x y e calm = by_context (is_block x) refl
+  where
+    by_context : (b : Bool) → is_block x ≡ b → required_at around x ≡ required_at around y
+    by_context true h = rw (h, e) (calm h)
+    by_context false h = rw (h, e) refl
 
 pub opens : (y : Context) (kind : Kind) (ch : ℕ) (r : List ℕ) (m : Marker) (b : Bool) (around : Around) (d : Bool) (x : Context) (k : Option Candidate) (ls : List Level) (a : Bool) (ad : ℕ) (found : SkipTabs) (there : Cursor)
     → separation Yes (cursor_at r (along m 1) false) ≡ Ok (found, there) → length ls < 255 → is_block y ≡ false → Calm around x
     → open_collection y kind (core_at around d (cursor_at (ch ∷ r) m b) x k ls a ad) ≡ went (from_to m there.mark kind ∷ []) (core_at around d there y None (level_of x k ∷ ls) true ad)
 unfolding open_collection
 opens y kind ch r m b around d x k ls a ad found there is low flows calm =
-    let c : Core = record (core_at around d (cursor_at r (along m 1) false) y None (level_of x k ∷ ls) true ad) { required = around.required && not (is_block x) } in
+    let c : Core = record (core_at around d (cursor_at r (along m 1) false) y None (level_of x k ∷ ls) true ad) { required = required_at around x } in
     rw (not_full (length ls) low) (ap (λ q. (q >>= λ (e : SkipTabs × Cursor). Ok (e.0, with_cursor e.1 c)) >>= λ (e : SkipTabs × Core). went (up_to_here m kind e.1 ∷ []) e.1) is
-    ∙ ap (λ (q : Bool). went (from_to m there.mark kind ∷ []) (record (core_at around d there y None (level_of x k ∷ ls) true ad) { required = q })) (still_required around.required (is_block x) (is_block y) flows calm))
+    ∙ ap (λ (q : Bool). went (from_to m there.mark kind ∷ []) (record (core_at around d there y None (level_of x k ∷ ls) true ad) { required = q })) (still_required around x y flows calm))
 
 behind : (b : Bool) (around : Around) (d : Bool) (s : Cursor) (x : Context) (k : Option Candidate) (ls : List Level) (ad : ℕ)
     → cond b (core_at around d s x k ls false ad) (core_at around d s x k ls false s.mark.index) ≡ core_at around d s x k ls false (cond b ad s.mark.index)
@@ -260,9 +298,9 @@ pub closes : (ends : Bool) (kind : Kind) (ch : ℕ) (r : List ℕ) (m : Marker) 
     ≡ went (behind_pair ends m (from_to m there.mark kind)) (core_at around d there x j ls false (cond (is_block x) ad there.mark.index))
 unfolding close_collection
 closes ends kind ch r m b around d y k j x ls a ad found there is flows calm =
-    let was = around.required && not (is_block y) in
+    let was = required_at around y in
     let c : Core = record (core_at around d (cursor_at r (along m 1) false) x j ls false ad) { required = was } in
     ap (λ q. (q >>= λ (e : SkipTabs × Cursor). Ok (e.0, with_cursor e.1 c)) >>= λ (e : SkipTabs × Core). went (behind_pair ends m (up_to_here m kind e.1)) (allow_adjacent e.1)) is
     ∙ ap (λ (q : Bool). went (behind_pair ends m (from_to m there.mark kind)) (allow_adjacent (record (core_at around d there x j ls false ad) { required = q })))
-    (sym (still_required around.required (is_block x) (is_block y) flows calm))
+    (sym (still_required around x y flows calm))
     ∙ ap (went (behind_pair ends m (from_to m there.mark kind))) (behind (is_block x) around d there x j ls ad)
