@@ -25,7 +25,7 @@ pub record PassesGap (around : Around) (s : Cursor) (x : Context) (k : Option Ca
   pub is : (d : Bool) → pass_gap (core_at around d s x k ls a ad) ≡ Ok (core_at around d (cursor_at y m blank) x k ls allowed ad)
   pub same : is_block x ≡ false → allowed ≡ a
 
-stops_here : (m : Marker) (blank now : Bool) (t : List ℕ) → stop m blank now false t ≡ Ok (record { cursor = record { rest = t; mark = m; blank_so_far = blank }; broke = now })
+pub stops_here : (m : Marker) (blank now : Bool) (t : List ℕ) → stop m blank now false t ≡ Ok (record { cursor = record { rest = t; mark = m; blank_so_far = blank }; broke = now })
 unfolding stop
 stops_here m blank now t = refl
 
@@ -79,7 +79,7 @@ pub record BeginsToken (m : Marker) (t : List ℕ) : Type 0 where
   pub directive : (slice_index t 0 == 37) ≡ false
   pub marker : ((m.col == 0) && is_document_indicator t) ≡ false
 
-neither : (a b c : Bool) → (a && (b || c)) ≡ false → ((a && b) ≡ false) × ((a && c) ≡ false)
+pub neither : (a b c : Bool) → (a && (b || c)) ≡ false → ((a && b) ≡ false) × ((a && c) ≡ false)
 neither false b c e = (refl, refl)
 neither true true c e = absurd (cc)
 neither true false c e = (refl, e)

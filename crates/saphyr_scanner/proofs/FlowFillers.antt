@@ -50,10 +50,10 @@ many_right column P each w h = subst (IsPastRight column) (sym h.2) (pieces h.0 
     pieces [] k m low = record { right = low; is = λ y. refl }
     pieces (v ∷ vs) k m low = let one = each v k.0 m low in both_right column m v (joined vs) one (pieces vs k.1 (moved m v) one.right)
 
-no_feed : (c : ℕ) → is_blank c ≡ true → (c == line_feed) ≡ false
+pub no_feed : (c : ℕ) → is_blank c ≡ true → (c == line_feed) ≡ false
 no_feed c h = grind (arith, nat_tests)
 
-right_tab : (column : ℕ) (m : Marker) (c : ℕ) → column ≤ m.col → is_left_tab column m c ≡ false
+pub right_tab : (column : ℕ) (m : Marker) (c : ℕ) → column ≤ m.col → is_left_tab column m c ≡ false
 right_tab column m c low = further (c == 9) (no_less m.col column low)
   where
     no_less : (a b : ℕ) → b ≤ a → nat_lt a b ≡ false

@@ -24,7 +24,7 @@ record CommentPast (column : ℕ) (m : Marker) (blank broke : Bool) (t : List �
       → comment low m blank broke false t ≡ stop (past_comment column m t).0 still_blank now_broke false (past_comment column m t).1
 
 -- no tab left of a column is none left of a lower one
-right_tab : (column low : ℕ) (m : Marker) (blank : Bool) (c : ℕ) → is_left_tab column m c ≡ false → low ≤ column → (is_tab_indentation low m blank c || false) ≡ false
+pub right_tab : (column low : ℕ) (m : Marker) (blank : Bool) (c : ℕ) → is_left_tab column m c ≡ false → low ≤ column → (is_tab_indentation low m blank c || false) ≡ false
 right_tab column low m true c e h = further c m.col column low e h
   where
     further : (c col column low : ℕ) → ((c == 9) && nat_lt col column) ≡ false → low ≤ column → ((((c == 9) && true) && nat_lt col low) || false) ≡ false
@@ -219,7 +219,7 @@ less_behind column ad m p o low =
 pub comment_shorter : (column : ℕ) (m : Marker) (t : List ℕ) → length (past_comment column m t).1 ≤ length t
 comment_shorter column m t = comment_by_steps column (λ m t r. length r.1 ≤ length t) (no_longer column) m t
 
-no_return : (c : ℕ) → is_break c ≡ false → (c == 13) ≡ false
+pub no_return : (c : ℕ) → is_break c ≡ false → (c == 13) ≡ false
 no_return c f = grind (arith, nat_tests)
 
 -- a token stops it

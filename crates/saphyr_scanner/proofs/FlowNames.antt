@@ -54,7 +54,7 @@ named_along m indicator name e h =
     let one : 1 + length name ≡ length (indicator ∷ name) = omega arith in
     ap (along m) one ∙ sym (unbroken_along m (indicator ∷ name) (e, name_no_break name h))
 
-name_step : Reads → (around : Around) (d : Bool) (is_alias : Bool) (n : ℕ) (m : Marker) (b : Bool) (indicator : ℕ) (name o : List ℕ) → is_break indicator ≡ false → IsAnchorName name → is_anchor_char (slice_index o 0) ≡ false
+pub name_step : Reads → (around : Around) (d : Bool) (is_alias : Bool) (n : ℕ) (m : Marker) (b : Bool) (indicator : ℕ) (name o : List ℕ) → is_break indicator ≡ false → IsAnchorName name → is_anchor_char (slice_index o 0) ≡ false
     → (x : Context) (k : Option Candidate) (ls : List Level) (a : Bool) (ad : ℕ) → Placed around x a m
     → property.name is_alias n (core_at around d (cursor_at (indicator ∷ (name ++ o)) m b) x k ls a ad)
     ≡ went (from_to m (moved m (indicator ∷ name)) (name_token is_alias (encode_utf8_all name)) ∷ []) (core_at around d (at (moved m (indicator ∷ name)) o) x (saved a n m k) ls false ad)
@@ -88,18 +88,18 @@ name_passes reads around is_alias indicator name o m begins first break h ends f
       tells = (refl, refl);
     })
 
-begins_anchor : (second n : ℕ) (c : Core) → step 38 second n c ≡ property.name false n c
+pub begins_anchor : (second n : ℕ) (c : Core) → step 38 second n c ≡ property.name false n c
 unfolding step
 begins_anchor second n c = refl
 
-begins_alias : (second n : ℕ) (c : Core) → step 42 second n c ≡ property.name true n c
+pub begins_alias : (second n : ℕ) (c : Core) → step 42 second n c ≡ property.name true n c
 unfolding step
 begins_alias second n c = refl
 
-anchor_first : (name : List ℕ) → Begins (38 ∷ name)
+pub anchor_first : (name : List ℕ) → Begins (38 ∷ name)
 anchor_first name = record { first = 38; others = name; is = refl; ink = record { blank = refl; break = refl; comment = refl; byte_order_mark = refl }; nul = refl; directive = refl }
 
-alias_first : (name : List ℕ) → Begins (42 ∷ name)
+pub alias_first : (name : List ℕ) → Begins (42 ∷ name)
 alias_first name = record { first = 42; others = name; is = refl; ink = record { blank = refl; break = refl; comment = refl; byte_order_mark = refl }; nul = refl; directive = refl }
 
 pub anchor_passes : Reads → (around : Around) (name t o : List ℕ) (m : Marker) → IsAnchor name t → is_anchor_char (slice_index o 0) ≡ false → Fits around m t o
@@ -120,7 +120,7 @@ alias_token_passes reads around name t o m h ends fits s x k ls a ad ps text =
 
 -- ## Tags
 
-tag_step : Reads → (around : Around) (d : Bool) (n : ℕ) (m : Marker) (b : Bool) (t handle suffix o : List ℕ) → IsTagText t handle suffix → (x : Context) (k : Option Candidate) (ls : List Level) (a : Bool) (ad : ℕ)
+pub tag_step : Reads → (around : Around) (d : Bool) (n : ℕ) (m : Marker) (b : Bool) (t handle suffix o : List ℕ) → IsTagText t handle suffix → (x : Context) (k : Option Candidate) (ls : List Level) (a : Bool) (ad : ℕ)
     → EndsTag (not (is_block x)) o → Placed around x a m
     → property.tag n (core_at around d (cursor_at (t ++ o) m b) x k ls a ad)
     ≡ went (from_to m (moved m t) (tokens.Tag (encode_utf8_all handle) (encode_utf8_all suffix)) ∷ []) (core_at around d (at (moved m t) o) x (saved a n m k) ls false ad)
@@ -133,7 +133,7 @@ tag_step reads around d n m b t handle suffix o h x k ls a ad ends placed =
     ∙ ap (λ q. q >>= token) (reads.tag (not (is_block x)) s t handle suffix o refl h ends)
     ∙ ap (λ (end : Marker). token (encode_utf8_all handle, encode_utf8_all suffix, at end o)) (sym (unbroken_along m t (tag_no_break t handle suffix h)))
 
-begins_tag : (second n : ℕ) (c : Core) → step 33 second n c ≡ property.tag n c
+pub begins_tag : (second n : ℕ) (c : Core) → step 33 second n c ≡ property.tag n c
 unfolding step
 begins_tag second n c = refl
 

@@ -37,16 +37,16 @@ use Rattle.saphyr_scanner.proofs.FlowNoted.{noted_one}
 -- ## The first two characters
 
 -- the first word of a plain scalar begins a text
-record BeginsWord (f : Bool) (t : List ℕ) : Type 0 where
-  first : ℕ
-  others : List ℕ
-  is : t ≡ first ∷ others
-  begins : IsTrue (begins_plain first)
-  ink : IsTrue (is_word_ink f first)
-  no_comment : first ≢ 35
-  further : (first ≡ 45) ⊎ ((first ≡ 63) ⊎ (first ≡ 58)) → (second : ℕ) × (more : List ℕ) × (others ≡ second ∷ more) × IsTrue (is_word_ink f second)
+pub record BeginsWord (f : Bool) (t : List ℕ) : Type 0 where
+  pub first : ℕ
+  pub others : List ℕ
+  pub is : t ≡ first ∷ others
+  pub begins : IsTrue (begins_plain first)
+  pub ink : IsTrue (is_word_ink f first)
+  pub no_comment : first ≢ 35
+  pub further : (first ≡ 45) ⊎ ((first ≡ 63) ⊎ (first ≡ 58)) → (second : ℕ) × (more : List ℕ) × (others ≡ second ∷ more) × IsTrue (is_word_ink f second)
 
-word_begins : (f : Bool) (indent : ℕ) (t : List ℕ) → IsPlain f indent t → BeginsWord f t
+pub word_begins : (f : Bool) (indent : ℕ) (t : List ℕ) → IsPlain f indent t → BeginsWord f t
 word_begins f indent t (word, others, (is_word, begins, no_dash, no_mark, no_colon), many, is) = by_word word is_word.some is_word.ink is_word.no_comment begins no_dash no_mark no_colon is
   where
     lone : (c d : ℕ) → c ≡ d → (c ∷ []) ≢ (d ∷ []) → ⊥
@@ -76,7 +76,7 @@ unequal c d h = grind (arith, nat_tests)
 equal : (c d : ℕ) → (c == d) ≡ true → c ≡ d
 equal c d h = grind (arith, nat_tests)
 
-token_begins : (f : Bool) (t : List ℕ) → BeginsWord f t → Begins t
+pub token_begins : (f : Bool) (t : List ℕ) → BeginsWord f t → Begins t
 token_begins f t b =
     let o = ink_other f b.first b.ink in
     record {
@@ -110,7 +110,7 @@ value_test false first second i ad h (inr low) = by_first (first == 58) refl
     by_first true e = rw (e, (ink_other true second (h (equal first 58 e))).flow, further i ad low) refl
     by_first false e = rw e refl
 
-plain_begins : (first second n : ℕ) (c : Core) → IsTrue (begins_plain first) → ((first == 45) && is_blank_or_breakz second) ≡ false → ((first == 63) && is_blank_or_breakz second) ≡ false
+pub plain_begins : (first second n : ℕ) (c : Core) → IsTrue (begins_plain first) → ((first == 45) && is_blank_or_breakz second) ≡ false → ((first == 63) && is_blank_or_breakz second) ≡ false
     → ((first == 58) && is_blank_or_breakz second) ≡ false
     → ((first == 58) && is_value_adjacent second c) ≡ false → step first second n c ≡ scalar.plain n c
 unfolding step
@@ -165,7 +165,7 @@ plain_read reads around d n m b t o x h clear k ls a ad placed =
 -- ## The step
 
 -- The premises of a step over a plain scalar: outside flow, or where no colon may stand at once.
-plain_step : Reads → (around : Around) (d : Bool) (n : ℕ) (m : Marker) (b : Bool) (t o : List ℕ) (x : Context) → IsPlain (not (is_block x)) around.indent t → IsClear m t o → EndsPlain (not (is_block x)) around.indent (moved m t) o
+pub plain_step : Reads → (around : Around) (d : Bool) (n : ℕ) (m : Marker) (b : Bool) (t o : List ℕ) (x : Context) → IsPlain (not (is_block x)) around.indent t → IsClear m t o → EndsPlain (not (is_block x)) around.indent (moved m t) o
     → (k : Option Candidate) (ls : List Level) (a : Bool) (ad : ℕ) → (is_block x ≡ true) ⊎ (ad < m.index) → Placed around x a m
     → let u = past_white (moved m t) false o in step (slice_index (t ++ o) 0) (slice_index (t ++ o) 1) n (core_at around d (cursor_at (t ++ o) m b) x k ls a ad)
     ≡ went (from_to m (moved m t) (plain_token t) ∷ []) (record (core_at around false u x (saved a n m k) ls u.blank_so_far ad) { comment = comment_of (not (is_block x)) false u })

@@ -103,7 +103,7 @@ root_ends_quotes around start m o h =
     first more (inl e) = rw e refl
     first more (inr e) = rw e refl
 
-behind_step : (around : Around) (d : Bool) (start : Marker) (style : Style) (text : List ℕ) (s : Cursor) (x : Context) (k : Option Candidate) (ls : List Level) (ad : ℕ) (m : Marker) (y : List ℕ) (p : EndsQuotes around start s x)
+pub behind_step : (around : Around) (d : Bool) (start : Marker) (style : Style) (text : List ℕ) (s : Cursor) (x : Context) (k : Option Candidate) (ls : List Level) (ad : ℕ) (m : Marker) (y : List ℕ) (p : EndsQuotes around start s x)
     (g : PassesGap around p.there x k ls false ad m y)
     → behind_quotes start style text (core_at around d s x k ls false ad) ≡ went (from_to start p.there.mark (tokens.Scalar style text) ∷ [])
     (core_at around d (cursor_at y m g.blank) x k ls g.allowed m.index)
@@ -120,7 +120,7 @@ abbrev pub style_of : Quote → Style
 style_of Single = SingleQuoted
 style_of Double = DoubleQuoted
 
-quoted_step : Reads → (around : Around) (d : Bool) (quote : Quote) (n : ℕ) (m : Marker) (b : Bool) (value t o : List ℕ) → IsQuoted quote around.indent value t → IsClear m t o → (slice_index o 0 == 39) ≡ false
+pub quoted_step : Reads → (around : Around) (d : Bool) (quote : Quote) (n : ℕ) (m : Marker) (b : Bool) (value t o : List ℕ) → IsQuoted quote around.indent value t → IsClear m t o → (slice_index o 0 == 39) ≡ false
     → (x : Context) (k : Option Candidate) (ls : List Level) (a : Bool) (ad : ℕ) (c : ℕ) → c ≡ mark quote → Placed around x a m
     → step c (slice_index (t ++ o) 1) n (core_at around d (cursor_at (t ++ o) m b) x k ls a ad)
     ≡ behind_quotes m (style_of quote) (encode_utf8_all value) (core_at around d (at (moved m t) o) x (saved a n m k) ls false ad)
@@ -138,7 +138,7 @@ quoted_step reads around d Double n m b value t o h clear ends x k ls a ad c fir
     ∙ ap (λ (e : Core). read_double_quoted (disallow_key e)) (saves_key n around d s x k ls a ad placed)
     ∙ ap (λ q. q >>= λ (y : List ℕ × Cursor). behind_quotes m DoubleQuoted y.0 (with_cursor y.1 inner)) (quoted_read reads (least around.indent d) around.indent (least_low around.indent d) Double s value t o refl h clear ends)
 
-quote_first : (quote : Quote) (inside : List ℕ) → Begins (mark quote ∷ inside)
+pub quote_first : (quote : Quote) (inside : List ℕ) → Begins (mark quote ∷ inside)
 quote_first Single inside = record { first = 39; others = inside; is = refl; ink = record { blank = refl; break = refl; comment = refl; byte_order_mark = refl }; nul = refl; directive = refl }
 quote_first Double inside = record { first = 34; others = inside; is = refl; ink = record { blank = refl; break = refl; comment = refl; byte_order_mark = refl }; nul = refl; directive = refl }
 

@@ -126,7 +126,7 @@ left_in_flow x k m e = rw e refl
 no_right : (indent col : ℕ) → indent ≤ col → nat_lt col (indent - 1) ≡ false
 no_right indent col h = not_left indent col false h
 
-no_ends : (col : ℕ) (m : Marker) (is : List ℕ) (s : State) → nat_lt col (s.core.indent - 1) ≡ false → end_blocks (Some col) m is s ≡ s
+pub no_ends : (col : ℕ) (m : Marker) (is : List ℕ) (s : State) → nat_lt col (s.core.indent - 1) ≡ false → end_blocks (Some col) m is s ≡ s
 no_ends col m [] s h = rw h refl
 no_ends col m (i ∷ is) s h = rw h refl
 
@@ -207,7 +207,7 @@ comes around start s x k ls a ad ps to deepens going is low calm =
 
 -- ## Keys and brackets
 
-off_column : (indent col : ℕ) (d : Bool) → indent ≤ col → (not d && (indent == col + 1)) ≡ false
+pub off_column : (indent col : ℕ) (d : Bool) → indent ≤ col → (not d && (indent == col + 1)) ≡ false
 off_column indent col true h = refl
 off_column indent col false h = grind (arith, nat_tests)
 

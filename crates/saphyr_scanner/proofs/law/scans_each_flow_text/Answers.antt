@@ -1,3 +1,5 @@
+use Rattle.saphyr_scanner.proofs.InFlow.KeyLines.{token_led}
+use Rattle.saphyr_scanner.proofs.InFlow.OnLine.{node_lowers}
 use Rattle.saphyr_scanner.proofs.InFlow.States.{alone}
 use Rattle.saphyr_scanner.proofs.TakingScalars.{Readers, quoted_laws}
 use Rattle.saphyr_scanner.proofs.FlowStates.{Reads}
