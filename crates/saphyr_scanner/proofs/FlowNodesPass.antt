@@ -41,7 +41,7 @@ square = record { context = context.FlowSequence; opening = 91; closing = 93; op
 abbrev pub curly : Brackets
 curly = record { context = context.FlowMapping; opening = 123; closing = 125; opens = tokens.FlowMappingStart; closes = tokens.FlowMappingEnd }
 
-are_square : AreBrackets square
+pub are_square : AreBrackets square
 are_square = record {
   flows = refl;
   opening_mark = record { ink = record { blank = refl; break = refl; comment = refl; byte_order_mark = refl }; nul = refl; directive = refl; feed = refl };
@@ -49,7 +49,7 @@ are_square = record {
   begins = begins_sequence;
 }
 
-are_curly : AreBrackets curly
+pub are_curly : AreBrackets curly
 are_curly = record {
   flows = refl;
   opening_mark = record { ink = record { blank = refl; break = refl; comment = refl; byte_order_mark = refl }; nul = refl; directive = refl; feed = refl };
@@ -57,7 +57,7 @@ are_curly = record {
   begins = begins_mapping;
 }
 
-ends_square : (around : Around) (z : Context) → is_block z ≡ false → (second i : ℕ) (d : Bool) (s : Cursor) (k : Option Candidate) (ms : List Level) (a : Bool) (ad : ℕ)
+pub ends_square : (around : Around) (z : Context) → is_block z ≡ false → (second i : ℕ) (d : Bool) (s : Cursor) (k : Option Candidate) (ms : List Level) (a : Bool) (ad : ℕ)
     → step 93 second i (core_at around d s z k ms a ad) ≡ close_collection (ends_pair z) tokens.FlowSequenceEnd (core_at around d s z k ms a ad)
 unfolding step flow.end
 ends_square around context.Block e second i d s k ms a ad = absurd (no_block e)
@@ -67,17 +67,17 @@ ends_square around context.FlowPair e second i d s k ms a ad = refl
 ends_square around context.ExplicitFlowPair e second i d s k ms a ad = refl
 ends_square around context.MarkedFlowPair e second i d s k ms a ad = refl
 
-ends_curly : (around : Around) (second i : ℕ) (d : Bool) (s : Cursor) (k : Option Candidate) (ms : List Level) (a : Bool) (ad : ℕ)
+pub ends_curly : (around : Around) (second i : ℕ) (d : Bool) (s : Cursor) (k : Option Candidate) (ms : List Level) (a : Bool) (ad : ℕ)
     → step 125 second i (core_at around d s context.FlowMapping k ms a ad) ≡ close_collection false tokens.FlowMappingEnd (core_at around d s context.FlowMapping k ms a ad)
 unfolding step flow.end
 ends_curly around second i d s k ms a ad = refl
 
 -- ## A collection, given the run over its entries
 
-whole_text : (t opening front w inside : List ℕ) (c e : ℕ) → t ≡ opening ++ (inside ++ (e ∷ [])) → opening ≡ front ++ (c ∷ w) → t ≡ front ++ ((c ∷ w) ++ (inside ++ (e ∷ [])))
+pub whole_text : (t opening front w inside : List ℕ) (c e : ℕ) → t ≡ opening ++ (inside ++ (e ∷ [])) → opening ≡ front ++ (c ∷ w) → t ≡ front ++ ((c ∷ w) ++ (inside ++ (e ∷ [])))
 whole_text t opening front w inside c e is open_is = is ∙ ap (λ (x : List ℕ). x ++ (inside ++ (e ∷ []))) open_is ∙ append_assoc front (c ∷ w) (inside ++ (e ∷ []))
 
-parted_by : (indent : ℕ) (w t : List ℕ) → IsSeparation indent w → BeginsInk t → IsParted indent (w ++ t)
+pub parted_by : (indent : ℕ) (w t : List ℕ) → IsSeparation indent w → BeginsInk t → IsParted indent (w ++ t)
 parted_by indent w t parts b = record { separation = w; first = b.first; others = b.others; is = ap (λ (x : List ℕ). w ++ x) b.is; parts = parts; ink = b.ink }
 
 -- the piece inside brackets, behind their front
@@ -203,7 +203,7 @@ mutual
   nodes_pass reads around room (Seq p nodes) = sequence_passes reads room p nodes (λ left. all_items_pass reads around left nodes)
   nodes_pass reads around room (Map p pairs) = mapping_passes reads room p pairs (λ left. all_pairs_pass reads around left pairs)
 
-  all_items_pass : Reads → (around : Around) (room : ℕ) (nodes : Nodes) → PassesItems around room nodes
+  pub all_items_pass : Reads → (around : Around) (room : ℕ) (nodes : Nodes) → PassesItems around room nodes
   all_items_pass reads around room NoNode = no_items_pass room
   all_items_pass reads around room (MoreNodes node nodes) = items_pass room node nodes (nodes_pass reads around room node) (all_pair_items_pass reads around room node)
       (all_others_pass reads around room nodes)
@@ -221,7 +221,7 @@ mutual
   all_pair_items_pass reads around room (Scalar p style value) = λ m t c cs fits ends h. absurd h
   all_pair_items_pass reads around room (Seq p nodes) = λ m t c cs fits ends h. absurd h
 
-  all_pairs_pass : Reads → (around : Around) (room : ℕ) (pairs : Pairs) → PassesPairs around room pairs
+  pub all_pairs_pass : Reads → (around : Around) (room : ℕ) (pairs : Pairs) → PassesPairs around room pairs
   all_pairs_pass reads around room NoPair = no_pairs_pass room
   all_pairs_pass reads around room (MorePairs key value pairs) = pairs_pass room key value pairs (nodes_pass reads around room key) (nodes_pass reads around room value)
       (all_other_pairs_pass reads around room pairs)

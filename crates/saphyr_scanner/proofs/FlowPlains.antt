@@ -164,30 +164,35 @@ plain_read reads around d n m b t o x h clear k ls a ad placed =
 
 -- ## The step
 
--- The premises of a step over a plain scalar: outside flow, or where no colon may stand at once.
-pub plain_step : Reads → (around : Around) (d : Bool) (n : ℕ) (m : Marker) (b : Bool) (t o : List ℕ) (x : Context) → IsPlain (not (is_block x)) around.indent t → IsClear m t o → EndsPlain (not (is_block x)) around.indent (moved m t) o
-    → (k : Option Candidate) (ls : List Level) (a : Bool) (ad : ℕ) → (is_block x ≡ true) ⊎ (ad < m.index) → Placed around x a m
-    → let u = past_white (moved m t) false o in step (slice_index (t ++ o) 0) (slice_index (t ++ o) 1) n (core_at around d (cursor_at (t ++ o) m b) x k ls a ad)
-    ≡ went (from_to m (moved m t) (plain_token t) ∷ []) (record (core_at around false u x (saved a n m k) ls u.blank_so_far ad) { comment = comment_of (not (is_block x)) false u })
-plain_step reads around d n m b t o x h clear ends k ls a ad low placed =
+-- no other token begins where a plain scalar does
+pub plain_dispatches : (around : Around) (d : Bool) (s : Cursor) (n : ℕ) (t o : List ℕ) (x : Context) → IsPlain (not (is_block x)) around.indent t → (k : Option Candidate) (ls : List Level) (a : Bool) (ad : ℕ)
+    → (is_block x ≡ true) ⊎ (ad < s.mark.index)
+    → step (slice_index (t ++ o) 0) (slice_index (t ++ o) 1) n (core_at around d s x k ls a ad) ≡ scalar.plain n (core_at around d s x k ls a ad)
+plain_dispatches around d s n t o x h k ls a ad low =
     let f = not (is_block x) in
     let w = word_begins f around.indent t h in
-    let c = core_at around d (cursor_at (t ++ o) m b) x k ls a ad in
     let first = slice_index (t ++ o) 0 in
     let second = slice_index (t ++ o) 1 in
     let at_first : first ≡ w.first = ap (λ (y : List ℕ). slice_index (y ++ o) 0) w.is in
     let at_second : (first ≡ 45) ⊎ ((first ≡ 63) ⊎ (first ≡ 58)) → IsTrue (is_word_ink f second) =
     λ e. second_ink f t o w (subst (λ (i : ℕ). (i ≡ 45) ⊎ ((i ≡ 63) ⊎ (i ≡ 58))) at_first e) in
-    plain_begins first second n c (subst (λ (i : ℕ). IsTrue (begins_plain i)) (sym at_first) w.begins)
+    plain_begins first second n (core_at around d s x k ls a ad) (subst (λ (i : ℕ). IsTrue (begins_plain i)) (sym at_first) w.begins)
     (lone_test f first 45 second (λ e. at_second (inl e))) (lone_test f first 63 second (λ e. at_second (inr (inl e)))) (lone_test f first 58 second (λ e. at_second (inr (inr e))))
-    (value_test (is_block x) first second m.index ad (λ e. at_second (inr (inr e))) low)
-    ∙ plain_read reads around d n m b t o x (plain_text f around.indent m t o h clear ends) clear k ls a ad placed
+    (value_test (is_block x) first second s.mark.index ad (λ e. at_second (inr (inr e))) low)
   where
     second_ink : (f : Bool) (t o : List ℕ) (w : BeginsWord f t) → (w.first ≡ 45) ⊎ ((w.first ≡ 63) ⊎ (w.first ≡ 58)) → IsTrue (is_word_ink f (slice_index (t ++ o) 1))
     second_ink f t o w e =
         let r = w.further e in
         let text : t ≡ w.first ∷ r.0 ∷ r.1 = w.is ∙ ap (λ (y : List ℕ). w.first ∷ y) r.2 in
         subst (λ (y : List ℕ). IsTrue (is_word_ink f (slice_index (y ++ o) 1))) (sym text) r.3
+
+-- The premises of a step over a plain scalar: outside flow, or where no colon may stand at once.
+pub plain_step : Reads → (around : Around) (d : Bool) (n : ℕ) (m : Marker) (b : Bool) (t o : List ℕ) (x : Context) → IsPlain (not (is_block x)) around.indent t → IsClear m t o → EndsPlain (not (is_block x)) around.indent (moved m t) o
+    → (k : Option Candidate) (ls : List Level) (a : Bool) (ad : ℕ) → (is_block x ≡ true) ⊎ (ad < m.index) → Placed around x a m
+    → let u = past_white (moved m t) false o in step (slice_index (t ++ o) 0) (slice_index (t ++ o) 1) n (core_at around d (cursor_at (t ++ o) m b) x k ls a ad)
+    ≡ went (from_to m (moved m t) (plain_token t) ∷ []) (record (core_at around false u x (saved a n m k) ls u.blank_so_far ad) { comment = comment_of (not (is_block x)) false u })
+plain_step reads around d n m b t o x h clear ends k ls a ad low placed =
+    plain_dispatches around d (cursor_at (t ++ o) m b) n t o x h k ls a ad low ∙ plain_read reads around d n m b t o x (plain_text (not (is_block x)) around.indent m t o h clear ends) clear k ls a ad placed
 
 -- ## Inside flow
 

@@ -41,7 +41,7 @@ some_property (Some name) None t h = tt
 some_property None (Some tag) t h = tt
 some_property (Some name) (Some tag) t h = tt
 
-empty_are : (p : Properties) (t : List ℕ) (tokens : List Kind) (place : grammar.Context) → IsProperties p t → grammar.AreProperties p tokens → grammar.IsNode (Scalar p Plain []) place tokens
+pub empty_are : (p : Properties) (t : List ℕ) (tokens : List Kind) (place : grammar.Context) → IsProperties p t → grammar.AreProperties p tokens → grammar.IsNode (Scalar p Plain []) place tokens
 empty_are p t tokens place h are = (tokens, [], are, inr (some_property p.anchor p.tag t h, refl, refl, refl), sym (append-nil tokens))
 
 empty_passes : Reads → (around : Around) (p : Properties) (m : Marker) (t o : List ℕ) → IsProperties p t → Fits around m t o → IsBehindNode around.indent (Scalar p Plain []) o
@@ -80,7 +80,7 @@ empty_closes reads around p m t o h fits behind s k a ad ps before text =
 
 -- ## Content without properties
 
-bare_are : (p : Properties) (style : Style) (value : List ℕ) (place : grammar.Context) → p ≡ no_properties → grammar.IsNode (Scalar p style value) place (scalar_token style value ∷ [])
+pub bare_are : (p : Properties) (style : Style) (value : List ℕ) (place : grammar.Context) → p ≡ no_properties → grammar.IsNode (Scalar p style value) place (scalar_token style value ∷ [])
 bare_are p style value place e = ([], scalar_token style value ∷ [], subst (λ (q : Properties). grammar.AreProperties q []) (sym e) refl, inl refl, refl)
 
 bare_passes : Reads → (around : Around) (p : Properties) (style : Style) (value t o : List ℕ) (m : Marker) → p ≡ no_properties → IsFlowScalar style value true around.indent t → Fits around m t o → IsBehindNode around.indent (Scalar p style value) o
@@ -115,10 +115,10 @@ behind_parts around m a w b o parts fits =
       place = sym (moved_append m a (w ++ b) ∙ moved_append (moved m a) w b);
     }
 
-separation_ends : (indent : ℕ) (in_flow : Bool) (w b o : List ℕ) → w ≢ [] → IsSeparation indent w → EndsTag in_flow ((w ++ b) ++ o)
+pub separation_ends : (indent : ℕ) (in_flow : Bool) (w b o : List ℕ) → w ≢ [] → IsSeparation indent w → EndsTag in_flow ((w ++ b) ++ o)
 separation_ends indent in_flow w b o some h = subst (EndsTag in_flow) (sym (append_assoc w b o)) (white_ends_tag in_flow (w ++ (b ++ o)) (behind_separation indent w (b ++ o) h some))
 
-full_are : (p : Properties) (style : Style) (value : List ℕ) (tokens : List Kind) (place : grammar.Context) → grammar.AreProperties p tokens
+pub full_are : (p : Properties) (style : Style) (value : List ℕ) (tokens : List Kind) (place : grammar.Context) → grammar.AreProperties p tokens
     → grammar.IsNode (Scalar p style value) place (tokens ++ scalar_token style value ∷ [])
 full_are p style value tokens place are = (tokens, scalar_token style value ∷ [], are, inl refl, refl)
 

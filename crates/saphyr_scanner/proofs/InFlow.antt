@@ -3,3 +3,7 @@ pub mod Tabs
 pub mod Quotes
 pub mod OnLine
 pub mod KeyLines
+pub mod KeyTokens
+pub mod KeyScalars
+pub mod KeyCollections
+pub mod Keys

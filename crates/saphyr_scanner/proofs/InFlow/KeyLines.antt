@@ -48,7 +48,7 @@ keeps around d s k ls a ad near = rw (not_far k s.mark near) refl
 
 -- ## Blanks before a token
 
-ink_gap : (low : ℕ) (c : ℕ) (cs : List ℕ) → IsInk c → (m : Marker) (blank : Bool) → gap low m blank false false (c ∷ cs) ≡ stop m blank false false (c ∷ cs)
+pub ink_gap : (low : ℕ) (c : ℕ) (cs : List ℕ) → IsInk c → (m : Marker) (blank : Bool) → gap low m blank false false (c ∷ cs) ≡ stop m blank false false (c ∷ cs)
 ink_gap low c cs ink m blank = rw (ink.blank, ink.break, ink.comment, no_return c ink.break) refl
 
 blanks_gap : (low column : ℕ) → low ≤ column → (w : List ℕ) (c : ℕ) (cs : List ℕ) → AreIn is_blank w → IsInk c → (m : Marker) (blank : Bool) → column ≤ m.col

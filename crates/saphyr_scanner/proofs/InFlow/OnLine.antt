@@ -37,7 +37,7 @@ blanks_on_line indent w (lines, blanks, (pieces, each, lines_are), are, e) h = b
         let inside : w ≡ (first ++ comment) ++ (10 ∷ ((filler ++ spaces indent) ++ (joined ps ++ blanks))) = e ∙ ap (λ (t : List ℕ). t ++ blanks) lines_are ∙ ap (λ (t : List ℕ). (t ++ joined ps) ++ blanks) line_is ∙ simp append_assoc in
         absurd (no_feed (first ++ comment) ((filler ++ spaces indent) ++ (joined ps ++ blanks)) (subst IsOnLine inside h))
 
-separation_of_blanks : (indent : ℕ) (w : List ℕ) → AreIn is_blank w → IsSeparation indent w
+pub separation_of_blanks : (indent : ℕ) (w : List ℕ) → AreIn is_blank w → IsSeparation indent w
 separation_of_blanks indent w h = ([], w, ([], tt, refl), h, refl)
 
 separation_lowers : (i j : ℕ) (w : List ℕ) → IsOnLine w → IsSeparation i w → IsSeparation j w
