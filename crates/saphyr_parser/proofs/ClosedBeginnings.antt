@@ -107,7 +107,7 @@ promised_of :
     (G : Grammar) (limit : ℕ) (keep : Bool) (forest : Forest) (xs ys : List ℕ) (told : List Happening) → SeesNormalized G → normalized xs ≡ normalized ys → length ys ≤ limit
     → IsPromised G limit keep forest xs told → IsPromised G limit keep forest ys told
 promised_of G limit keep forest xs ys told sees e l p =
-    record { stands_for = sees forest xs ys e p.stands_for; within = l; has_events = p.has_events; agree = λ f g. p.agree f (sees f ys xs (sym e) g) }
+    record { stands_for = sees forest xs ys e p.stands_for; within = l; has_events = p.has_events }
 
 gives_first :
     (keep : Bool) (marker : DocumentMarker) (alone followed : Remaining) (first : List Happening) → HandsOut marker alone followed

@@ -1,11 +1,10 @@
 -- The line `---` is a text of the layout grammar with all premises, and so a closed beginning.
 use Rattle.std.specs.Prelude.{codes}
-use Rattle.std.proofs.Common.{◌≡◌, ℕ, Bool, true, false, List, [], ◌∷◌, Some, refl, inl, arith, ap, ◌∙◌}
+use Rattle.std.proofs.Common.{◌≡◌, ℕ, Bool, true, false, List, [], ◌∷◌, Some, refl, inl, arith}
 use Rattle.saphyr_scalar.specs.Spaces.{IsLineRest}
-use Rattle.saphyr_scanner.specs.Layout.{most_open, IsFlowLayoutText, IsLayoutText}
-use Rattle.saphyr_scanner.specs.Forest.{Forest}
+use Rattle.saphyr_scanner.specs.Layout.{most_open, IsLayoutText}
 use Rattle.saphyr_scanner.proofs.FlowPart.{flow_part}
-use Rattle.saphyr_scanner.proofs.OneForest.{stands_for_one, one_forest}
+use Rattle.saphyr_scanner.proofs.OneForest.{stands_for_one}
 use Rattle.saphyr_parser.specs.Events as events
 use Rattle.saphyr_parser.specs.Events.{Happening}
 use Rattle.saphyr_parser.specs.ForestEvents.{events}
@@ -25,7 +24,6 @@ promised keep =
       stands_for = stands_for_one most_open;
       within = omega arith;
       has_events = has_events keep;
-      agree = λ forest h. ap (λ f. events f keep) (one_forest most_open forest h) ∙ has_events keep;
     }
 
 pub closed : (keep : Bool) → IsClosed (IsLayoutText most_open) IsLineRest 100 keep (codes "---\n[") examples.start_events
@@ -53,8 +51,6 @@ gives_first parser keep r = r keep examples.start_events (closed keep)
 
 -- ## The part in flow style
 
-pub flow_promise :
-    (limit : ℕ) (text : List ℕ) (parser : Cursor) → ReadsFlowLayout limit text parser → (forest : Forest) (keep : Bool) (told : List Happening) → IsFlowLayoutText most_open forest text
-    → IsPromised (IsLayoutText most_open) limit keep forest text told → GivesExactly told (to_come (keeping_tags keep parser))
-flow_promise limit text parser r forest keep told f p =
-    r forest keep told (record { stands_for = f; within = p.within; has_events = p.has_events; agree = λ other h. p.agree other (flow_part most_open other text h) })
+pub flow_promise : (limit : ℕ) (text : List ℕ) (parser : Cursor) → ReadsLayout limit text parser → ReadsFlowLayout limit text parser
+flow_promise limit text parser r forest keep told p =
+    r forest keep told (record { stands_for = flow_part most_open forest text p.stands_for; within = p.within; has_events = p.has_events })

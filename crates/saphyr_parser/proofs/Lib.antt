@@ -80,4 +80,5 @@ pub mod PlacelessDocuments
 pub mod ByKinds
 pub mod ClosedBeginnings
 pub mod ReadsEachText
+pub mod OneMeaning
 pub mod Wrong

@@ -69,7 +69,6 @@ promised =
       stands_for = (refl, refl);
       within = omega arith;
       has_events = start_has_events;
-      agree = λ forest h. rw (h.0) start_has_events;
     }
 
 pub closes_start : IsClosed examples.IsStart examples.IsNothing 100 false (codes "---\n[") examples.start_events

@@ -20,10 +20,6 @@ Grammar = Forest → List ℕ → Type 0
 abbrev pub IsWithin : ℕ → List ℕ → Type 0
 IsWithin limit text = length text ≤ limit
 
--- all forests of the text have the same events
-abbrev pub ForestsAgree : Grammar → Bool → List ℕ → List Happening → Type 0
-ForestsAgree G keep text told = (forest : Forest) → G forest text → events forest keep ≡ Some told
-
 -- `\u` and the number of half of a character, from D800 to DFFF
 abbrev pub is_surrogate_escape : List ℕ → Bool
 is_surrogate_escape xs =
@@ -41,12 +37,22 @@ pub record IsPromised (G : Grammar) (limit : ℕ) (keep : Bool) (forest : Forest
   pub stands_for : G forest text
   pub within : IsWithin limit text
   pub has_events : events forest keep ≡ Some told
-  pub agree : ForestsAgree G keep text told
 
 -- each text of the grammar gives exactly its forest's events, and no fault
 abbrev pub ReadsEach : Grammar → ℕ → List ℕ → Cursor → Type 0
 ReadsEach G limit text parser =
     (forest : Forest) (keep : Bool) (told : List Happening) → IsPromised G limit keep forest text told → GivesExactly told (to_come (keeping_tags keep parser))
+
+-- ## One meaning
+
+-- a forest of the one grammar and a forest of the other that stand for the text have the same events, where both have any
+abbrev pub MeanTheSame : Grammar → Grammar → List ℕ → Type 0
+MeanTheSame G H text =
+    (keep : Bool) (one other : Forest) (first second : List Happening) → G one text → H other text → events one keep ≡ Some first → events other keep ≡ Some second → first ≡ second
+
+-- all forests of the text that have events have the same
+abbrev pub HasOneMeaning : Grammar → List ℕ → Type 0
+HasOneMeaning G text = MeanTheSame G G text
 
 -- ## Closed beginnings (9.1.2, 9.1.4)
 

@@ -23,7 +23,7 @@ ghost use Rattle.saphyr_parser.specs.Exactly.{GivesExactly, TellTheSame, kinds, 
 ghost use Rattle.saphyr_parser.specs.Events.{Alias, DocumentEnd, Happening};
 ghost use Rattle.saphyr_parser.specs.Complete.{IsShallowJson, ReadsJson};
 ghost use Rattle.saphyr_parser.specs.EventsTaken.{AreTaken, HasPlaceIn, IsOf};
-ghost use Rattle.saphyr_parser.specs.Premises.{DocumentMarker, GivesFirst, IsClosed, IsPromised, ReadsClosed, ReadsEach, behind_marker, has_surrogate_escape};
+ghost use Rattle.saphyr_parser.specs.Premises.{DocumentMarker, GivesFirst, HasOneMeaning, IsClosed, MeanTheSame, ReadsClosed, ReadsEach, behind_marker, has_surrogate_escape};
 ghost use Rattle.saphyr_parser.specs.Promises.{ReadsClosedLayout, ReadsFlowLayout, ReadsLayout, TakesEvents};
 ghost use Rattle.saphyr_scalar.specs.declared.scalar.position.Span.{Span};
 ghost use Rattle.saphyr_scalar.specs.Spaces.{IsLineRest};
@@ -48,7 +48,7 @@ mod comparing;
 
 pub use calling::{hands_out_what_was_peeked, loads_the_end_again};
 pub use comparing::{hashes_alike, orders_styles, orders_tags, reads_inputs_alike, starts_at_zero};
-use saphyr_scanner::law::scans_breaks_alike;
+use saphyr_scanner::law::{bounds_tokens, scans_breaks_alike, scans_each_flow_text, scans_each_json};
 
 /// A node comes in preorder, between the events of its document and of the stream.
 pub fn tells_nodes_in_preorder()
@@ -128,11 +128,28 @@ pub fn takes_no_other_span()
     ensures { ¬ IsOf (Alias 1) (examples.from_to (at 9 2 2) (at 10 2 3)) (from_to (at 9 2 2) (at 11 2 4) (tokens.Alias (codes "a")) ∷ []) [] }
 {}
 
-/// The promise on the part of the layout grammar in flow style tells of a text of that part what the
-/// promise on the whole grammar does.
+/// The promise on the layout grammar is one on its part in flow style.
 pub fn promises_flow()
-    ensures { (limit : ℕ) (text : List ℕ) (parser : Cursor) → ReadsFlowLayout limit text parser → (forest : Forest) (keep : Bool) (told : List Happening) → IsFlowLayoutText most_open forest text → IsPromised (IsLayoutText most_open) limit keep forest text told → GivesExactly told (to_come (keeping_tags keep parser)) }
+    ensures { (limit : ℕ) (text : List ℕ) (parser : Cursor) → ReadsLayout limit text parser → ReadsFlowLayout limit text parser }
 {}
+
+/// A text has one meaning: all forests that stand for it have the same events, where they have any. So it is
+/// of each grammar whose texts a parser reads, since its one list is the events of each of their forests: of the
+/// layout grammar in flow style, of JSON, and where a text is one of both; and of the whole layout grammar
+/// wherever a parser reads it.
+pub fn has_one_meaning()
+    ensures flow { (text : List ℕ) → length text ≤ 4294967295 → HasOneMeaning (IsFlowLayoutText most_open) text }
+    ensures json { (text : List ℕ) → length text ≤ 4294967295 → HasOneMeaning (IsShallowJson most_open) text }
+    ensures both { (text : List ℕ) → length text ≤ 4294967295
+        → MeanTheSame (IsShallowJson most_open) (IsFlowLayoutText most_open) text }
+    ensures layout { (limit : ℕ) (text : List ℕ) (parser : Cursor) → length text ≤ limit
+        → ReadsLayout limit text parser → HasOneMeaning (IsLayoutText most_open) text }
+{
+    scans_each_json();
+    scans_each_flow_text();
+    bounds_tokens();
+    gives_json();
+}
 
 /// A text of JSON needs no premise but those on its length, its depth and its tags.
 pub fn promises_json()
