@@ -1,7 +1,7 @@
 -- The line `---` is a text of the layout grammar with all premises, and so a closed beginning.
 use Rattle.std.specs.Prelude.{codes}
-use Rattle.std.proofs.Common.{◌≡◌, ℕ, Bool, true, false, List, [], ◌∷◌, Some, refl, inl, arith}
-use Rattle.saphyr_scalar.specs.Spaces.{IsLineRest}
+use Rattle.std.proofs.Common.{◌≡◌, ℕ, Bool, true, false, List, [], ◌∷◌, Some, refl, inl, inr, arith}
+use Rattle.saphyr_scalar.specs.Spaces.{IsEol, IsLineRest, IsFiller, IsFillerText}
 use Rattle.saphyr_scanner.specs.Layout.{most_open, IsLayoutText}
 use Rattle.saphyr_scanner.proofs.FlowPart.{flow_part}
 use Rattle.saphyr_scanner.proofs.OneForest.{stands_for_one}
@@ -26,6 +26,10 @@ promised keep =
       has_events = has_events keep;
     }
 
+-- nothing stands behind the marker
+no_tail : IsLineRest []
+no_tail = ([], [], (0, omega arith, refl), inl refl, refl)
+
 pub closed : (keep : Bool) → IsClosed (IsLayoutText most_open) IsLineRest 100 keep (codes "---\n[") examples.start_events
 closed keep =
     record {
@@ -34,10 +38,36 @@ closed keep =
       begins = refl;
       within = omega arith;
       marker = Starts;
-      ends = ([], [], ([], [], (0, omega arith, refl), inl refl, refl), inl refl, refl);
+      ends = ([], [], no_tail, inl (inl refl), refl);
       forest = examples.start_forest;
       told = examples.start_told;
       promised = promised keep;
+      earlier = events.StreamStart ∷ [];
+      is_first = refl;
+      are_told = refl;
+    }
+
+-- ## The same line behind a byte order mark
+
+marked_stands : IsLayoutText most_open examples.start_forest (codes "\u{feff}---\n")
+marked_stands =
+    let none : IsFiller [] = ([], tt, refl) in
+    let last : IsFillerText [] = ([], [], (0, omega arith, refl), inl refl, refl) in
+    let end : IsEol (codes "\n") [] = inl ([], no_tail, refl) in
+    (codes "\u{feff}", codes "---\n", inr refl, ([], codes "---\n", [], none, inr (inl refl, ([], codes "\n", refl, tt, refl, refl, inl (refl, refl, end), refl)), inl ([], [], none, last, refl), refl), refl)
+
+pub marked : (keep : Bool) → IsClosed (IsLayoutText most_open) IsLineRest 100 keep (codes "\u{feff}---\n[") examples.start_events
+marked keep =
+    record {
+      front = codes "\u{feff}---\n";
+      others = codes "[";
+      begins = refl;
+      within = omega arith;
+      marker = Starts;
+      ends = (codes "\u{feff}", [], no_tail, inr ([], inl refl, refl), refl);
+      forest = examples.start_forest;
+      told = examples.start_told;
+      promised = record { stands_for = marked_stands; within = omega arith; has_events = has_events keep };
       earlier = events.StreamStart ∷ [];
       is_first = refl;
       are_told = refl;

@@ -163,11 +163,12 @@ pub fn closes_at_markers()
     ensures followed { IsClosed examples.IsStart examples.IsNothing 100 false (codes "---\n[") examples.start_events }
 {}
 
-/// The line `---` has all the premises of the promise on the layout grammar, and is a closed beginning:
-/// where the promises hold, a parser gives its events, and where `[` follows those up to the document's
-/// start.
+/// The line `---` has all the premises of the promise on the layout grammar, and is a closed beginning, behind a
+/// byte order mark too: where the promises hold, a parser gives its events, and where `[` follows those up to the
+/// document's start.
 pub fn closes_layout()
     ensures closed { (keep : Bool) → IsClosed (IsLayoutText most_open) IsLineRest 100 keep (codes "---\n[") examples.start_events }
+    ensures marked { (keep : Bool) → IsClosed (IsLayoutText most_open) IsLineRest 100 keep (codes "\u{feff}---\n[") examples.start_events }
     ensures alone { (parser : Cursor) (keep : Bool) → ReadsLayout 100 (codes "---\n") parser → GivesExactly examples.start_told (to_come (keeping_tags keep parser)) }
     ensures followed { (parser : Cursor) (keep : Bool) → ReadsClosedLayout 100 (codes "---\n[") parser → GivesFirst examples.start_events (to_come (keeping_tags keep parser)) }
 {}

@@ -1,8 +1,11 @@
-use Rattle.saphyr_parser.proofs.ClosedLayout.{closed, gives_start, gives_first}
+use Rattle.saphyr_parser.proofs.ClosedLayout.{closed, marked, gives_start, gives_first}
 use Rattle.saphyr_parser.proofs.law.closes_layout.Goals as goal
 
 pub returns-clause-closed : goal.returns-clause-closed
 returns-clause-closed c = closed
+
+pub returns-clause-marked : goal.returns-clause-marked
+returns-clause-marked c = marked
 
 pub returns-clause-alone : goal.returns-clause-alone
 returns-clause-alone c = gives_start
