@@ -1,8 +1,7 @@
 -- What is asked of a text whose forest's events a parser promises to give, and what is promised of its beginnings.
-use Rattle.std.specs.Prelude.{◌≡◌, ◌≤◌, ◌⊎◌, ℕ, Bool, true, false, ◌||◌, ◌&&◌, ◌==◌, nat_le, slice_index, List, [], ◌∷◌, ◌++◌, length, map, Some, codes}
+use Rattle.std.specs.Prelude.{◌≡◌, ◌≤◌, ◌⊎◌, ℕ, Bool, true, List, [], ◌∷◌, ◌++◌, length, map, Some, codes}
 use Rattle.saphyr_input.specs.Breaks.{normalized}
-use Rattle.saphyr_input.specs.Classes.{is_hex, hex_value, line_feed, byte_order_mark}
-use Rattle.saphyr_input.specs.Places.{next_2_are}
+use Rattle.saphyr_input.specs.Classes.{line_feed, byte_order_mark}
 use Rattle.saphyr_scalar.specs.declared.scalar.position.Span.{Span}
 use Rattle.saphyr_scanner.specs.Forest.{Forest}
 use Rattle.saphyr_parser.specs.Events.{Happening, StreamEnd, DocumentStart, DocumentEnd}
@@ -19,17 +18,6 @@ Grammar = Forest → List ℕ → Type 0
 -- the text has at most so many characters
 abbrev pub IsWithin : ℕ → List ℕ → Type 0
 IsWithin limit text = length text ≤ limit
-
--- `\u` and the number of half of a character, from D800 to DFFF
-abbrev pub is_surrogate_escape : List ℕ → Bool
-is_surrogate_escape xs =
-    next_2_are xs 92 117 && (hex_value (slice_index xs 2) == 13) && nat_le 8 (hex_value (slice_index xs 3))
-    && (is_hex (slice_index xs 2) && is_hex (slice_index xs 3) && is_hex (slice_index xs 4) && is_hex (slice_index xs 5))
-
--- whether an escape of half of a character stands in the text (a backslash that is itself escaped begins none, so this tells of a few more texts)
-abbrev pub has_surrogate_escape : List ℕ → Bool
-has_surrogate_escape [] = false
-has_surrogate_escape (c ∷ cs) = is_surrogate_escape (c ∷ cs) || has_surrogate_escape cs
 
 -- ## Premises of the promise that a text gives exactly its forest's events
 

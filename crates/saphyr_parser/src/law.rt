@@ -23,7 +23,7 @@ ghost use Rattle.saphyr_parser.specs.Exactly.{GivesExactly, TellTheSame, kinds, 
 ghost use Rattle.saphyr_parser.specs.Events.{Alias, DocumentEnd, Happening};
 ghost use Rattle.saphyr_parser.specs.Complete.{IsShallowJson, ReadsJson};
 ghost use Rattle.saphyr_parser.specs.EventsTaken.{AreTaken, HasPlaceIn, IsOf};
-ghost use Rattle.saphyr_parser.specs.Premises.{DocumentMarker, GivesFirst, HasOneMeaning, IsClosed, MeanTheSame, ReadsClosed, ReadsEach, behind_marker, has_surrogate_escape};
+ghost use Rattle.saphyr_parser.specs.Premises.{DocumentMarker, GivesFirst, HasOneMeaning, IsClosed, MeanTheSame, ReadsClosed, ReadsEach, behind_marker};
 ghost use Rattle.saphyr_parser.specs.Promises.{ReadsClosedLayout, ReadsFlowLayout, ReadsLayout, TakesEvents};
 ghost use Rattle.saphyr_scalar.specs.declared.scalar.position.Span.{Span};
 ghost use Rattle.saphyr_scalar.specs.Spaces.{IsLineRest};
@@ -171,12 +171,6 @@ pub fn closes_layout()
     ensures marked { (keep : Bool) → IsClosed (IsLayoutText most_open) IsLineRest 100 keep (codes "\u{feff}---\n[") examples.start_events }
     ensures alone { (parser : Cursor) (keep : Bool) → ReadsLayout 100 (codes "---\n") parser → GivesExactly examples.start_told (to_come (keeping_tags keep parser)) }
     ensures followed { (parser : Cursor) (keep : Bool) → ReadsClosedLayout 100 (codes "---\n[") parser → GivesFirst examples.start_events (to_come (keeping_tags keep parser)) }
-{}
-
-/// `\uD800` is the escape of half of a character, and `\uD7FF` is none.
-pub fn tells_surrogate_escapes()
-    ensures half { has_surrogate_escape (codes "\"\\uD800\"") ≡ true }
-    ensures whole { has_surrogate_escape (codes "\"\\uD7FF\"") ≡ false }
 {}
 
 /// The events of any tokens are a beginning of some forest's, whose tokens begin as those do. Where no fault
