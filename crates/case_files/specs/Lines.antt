@@ -1,17 +1,22 @@
 -- What parsers hand out, as lines of cases, in UTF-8.
-use Rattle.std.specs.Prelude.{◌≡◌, ℕ, ◌<◌, Bool, true, false, List, [], ◌∷◌, ◌++◌, ◌==◌, if◌then◌else◌, length, drop, Option, Some, None, Result, Ok, Err, String, string_bytes, codes, encode_utf8}
+use Rattle.std.specs.Prelude.{◌≡◌, ℕ, ◌<◌, Bool, true, false, List, [], ◌∷◌, ◌++◌, ◌==◌, if◌then◌else◌, length, drop}
+use Rattle.std.specs.Prelude.{Option, Some, None, option_map, Result, Ok, Err, OnOk, String, string_bytes, codes, encode_utf8}
 use Rattle.std.specs.declared.alloc.Global.{Global}
+use Rattle.std.specs.declared.alloc.AllocError.{AllocError}
 use Rattle.std.specs.Borrow.{Bor}
 use Rattle.std.specs.List.{flat_map}
 use Rattle.std.specs.Str.{chars}
 use Rattle.std.specs.Fmt.{decimal}
 use Rattle.saphyr_scalar.specs.declared.scalar.position.Marker.{Marker}
 use Rattle.saphyr_scalar.specs.declared.scalar.position.Span.{Span}
+use Rattle.saphyr_scanner.specs.Forest.{Style}
 use Rattle.saphyr_parser.specs.declared.parser.event.Event.{Event}
+use Rattle.saphyr_parser.specs.declared.parser.tag.Tag.{Tag}
 use Rattle.saphyr_parser.specs.declared.parser.fault.Fault.{Fault}
 use Rattle.saphyr_parser.specs.declared.parser.receiver.Refused.{Refused}
-use Rattle.saphyr_parser.specs.EventSeen.{happening}
-use Rattle.saphyr_parser.specs.Events.{Happening, Nothing, StreamStart, StreamEnd, DocumentStart, DocumentEnd, Alias, Scalar, SequenceStart, SequenceEnd, MappingStart, MappingEnd}
+use Rattle.saphyr_parser.specs.EventSeen.{happening, resolved_tag}
+use Rattle.saphyr_parser.specs.Events as events
+use Rattle.saphyr_parser.specs.Events.{ResolvedTag, Happening}
 use Rattle.saphyr_parser.specs.Printed.{mark, node_text}
 
 abbrev pub place_text : Marker → List ℕ
@@ -19,7 +24,9 @@ place_text m = decimal m.index ++ (codes "," ++ (decimal m.line ++ (codes "," ++
 
 -- A character of a scalar's text: a backslash, LF, CR, a tab and a backspace are escaped.
 abbrev pub escape : ℕ → List ℕ
-escape c = if c == 92 then codes "\\\\" else (if c == 10 then codes "\\n" else (if c == 13 then codes "\\r" else (if c == 9 then codes "\\t" else (if c == 8 then codes "\\b" else encode_utf8 c))))
+escape c =
+    if c == 92 then codes "\\\\" else (if c == 10 then codes "\\n" else (if c == 13 then codes "\\r" else (
+    if c == 9 then codes "\\t" else (if c == 8 then codes "\\b" else encode_utf8 c))))
 
 abbrev pub escaped : List ℕ → List ℕ
 escaped text = flat_map escape (chars text)
@@ -28,36 +35,58 @@ abbrev pub document_text : Bool → List ℕ
 document_text false = codes "+DOC"
 document_text true = codes "+DOC ---"
 
+abbrev pub scalar_text : List ℕ → Style → ℕ → Option ResolvedTag → List ℕ
+scalar_text text style id tag = node_text (codes "=VAL") id tag ++ ((codes " " ++ mark style) ++ escaped text)
+
 abbrev pub event_text : Happening → List ℕ
-event_text Nothing = codes "nothing"
-event_text StreamStart = codes "+STR"
-event_text StreamEnd = codes "-STR"
-event_text (DocumentStart explicit) = document_text explicit
-event_text DocumentEnd = codes "-DOC"
-event_text (Alias id) = codes "=ALI *" ++ decimal id
-event_text (Scalar text style id tag) = node_text (codes "=VAL") id tag ++ ((codes " " ++ mark style) ++ escaped text)
-event_text (SequenceStart id tag) = node_text (codes "+SEQ") id tag
-event_text SequenceEnd = codes "-SEQ"
-event_text (MappingStart id tag) = node_text (codes "+MAP") id tag
-event_text MappingEnd = codes "-MAP"
+event_text events.Nothing = codes "nothing"
+event_text events.StreamStart = codes "+STR"
+event_text events.StreamEnd = codes "-STR"
+event_text (events.DocumentStart explicit) = document_text explicit
+event_text events.DocumentEnd = codes "-DOC"
+event_text (events.Alias id) = codes "=ALI *" ++ decimal id
+event_text (events.Scalar text style id tag) = scalar_text text style id tag
+event_text (events.SequenceStart id tag) = node_text (codes "+SEQ") id tag
+event_text events.SequenceEnd = codes "-SEQ"
+event_text (events.MappingStart id tag) = node_text (codes "+MAP") id tag
+event_text events.MappingEnd = codes "-MAP"
+
+abbrev pub span_text : Span → List ℕ
+span_text s = place_text s.start ++ (codes " " ++ place_text s.end)
 
 -- the line of an event with its span
 abbrev pub event_line : Happening → Span → List ℕ
-event_line e s = codes "> " ++ (event_text e ++ (codes " @ " ++ (place_text s.start ++ (codes " " ++ place_text s.end))))
+event_line e s = codes "> " ++ (event_text e ++ (codes " @ " ++ span_text s))
+
+-- what is seen of them
+abbrev pub line_of : Event × Span → List ℕ
+line_of e = event_line (happening e.0) e.1
+
+-- what is seen of a tag, where there is one
+abbrev pub tag_of : Option Tag → Option ResolvedTag
+tag_of tag = option_map resolved_tag tag
+
+-- A text is put behind a string, unless memory runs out.
+abbrev pub Pushes : Result (Unit {0}) AllocError → String Global → String Global → List ℕ → Type 0
+Pushes result old new text = OnOk result (string_bytes new ≡ string_bytes old ++ text)
 
 -- what comes first of these lines
 abbrev pub IsNext : List ℕ → List (String Global) → Type 0
 IsNext text [] = ⊥
 IsNext text (line ∷ lines) = string_bytes line ≡ text
 
--- The line of what a parser hands out is the first of these lines, or nothing comes where there is none. What a fault prints
--- isn't told.
+-- the first of some lines is passed
+abbrev pub IsPassed : List (String Global) → List (String Global) → Type 0
+IsPassed old new = (0 < length old) × (new ≡ drop 1 old)
+
+-- The line of what a parser hands out is the first of these lines, or nothing comes where there is none. What a fault
+-- prints isn't told.
 abbrev pub Comes : Option (Result (Bor (Event × Span)) (Bor Fault)) → List (String Global) → Type 0
 Comes None lines = lines ≡ []
-Comes (Some (Ok e)) lines = IsNext (event_line (happening e.now.0) e.now.1) lines
+Comes (Some (Ok e)) lines = IsNext (line_of e.now) lines
 Comes (Some (Err f)) lines = 0 < length lines
 
--- What comes is passed, or nothing is.
+-- What comes is the first line, which is passed; what is refused passes none.
 abbrev pub Passes : Result (Unit {0}) Refused → Happening → Span → List (String Global) → List (String Global) → Type 0
 Passes (Ok u) e s old new = IsNext (event_line e s) old × (new ≡ drop 1 old)
 Passes (Err r) e s old new = new ≡ old

@@ -1,9 +1,9 @@
 //! What a parser hands out, as a line of a case.
-ghost use Rattle.std.specs.Prelude.{◌≡◌, ◌++◌, OnOk, IfOk, codes, string_bytes, option_map};
-ghost use Rattle.std.specs.Fmt.{decimal};
-ghost use Rattle.saphyr_parser.specs.EventSeen.{happening, resolved_tag};
+ghost use Rattle.std.specs.Prelude.{◌≡◌, ◌++◌, IfOk, codes};
+ghost use Rattle.saphyr_parser.specs.EventSeen.{happening};
 ghost use Rattle.saphyr_parser.specs.Printed as printed;
 ghost use Rattle.case_files.specs.Lines as lines;
+ghost use Rattle.case_files.specs.Lines.{Pushes};
 
 use saphyr_parser::{Event, Fault, Marker, ScalarStyle, Span, Tag};
 use std::alloc::AllocError;
@@ -15,7 +15,7 @@ pub fn push_item(
     line: &mut String,
     item: Result<&(Event<'_>, Span), &Fault>,
 ) -> Result<(), AllocError>
-    ensures { IfOk item.entry (λ e. OnOk result (string_bytes line.new ≡ string_bytes line.old ++ lines.event_line (happening e.now.0) e.now.1)) }
+    ensures { IfOk item.entry (λ e. Pushes result line.old line.new (lines.line_of e.now)) }
 {
     match item {
         Ok((event, span)) => {
@@ -31,7 +31,7 @@ pub fn push_item(
 }
 
 fn push_place(line: &mut String, mark: Marker) -> Result<(), AllocError>
-    ensures { OnOk result (string_bytes line.new ≡ string_bytes line.old ++ lines.place_text mark) }
+    ensures { Pushes result line.old line.new (lines.place_text mark) }
 {
     let Marker {
         index,
@@ -42,7 +42,7 @@ fn push_place(line: &mut String, mark: Marker) -> Result<(), AllocError>
 }
 
 fn push_event(line: &mut String, event: &Event<'_>) -> Result<(), AllocError>
-    ensures { OnOk result (string_bytes line.new ≡ string_bytes line.old ++ lines.event_text (happening event.now)) }
+    ensures { Pushes result line.old line.new (lines.event_text (happening event.now)) }
 {
     match event {
         Event::Nothing => line.push_str("nothing"),
@@ -67,7 +67,7 @@ fn push_scalar(
     id: usize,
     tag: &Option<Tag>,
 ) -> Result<(), AllocError>
-    ensures { OnOk result (string_bytes line.new ≡ string_bytes line.old ++ (printed.node_text (codes "=VAL") id (option_map resolved_tag tag.now) ++ ((codes " " ++ printed.mark style) ++ lines.escaped text.now))) }
+    ensures { Pushes result line.old line.new (lines.scalar_text text.now style id (lines.tag_of tag.now)) }
 {
     push_node(line, "=VAL", id, tag)?;
     line.push_str(mark(style))?;
@@ -87,7 +87,7 @@ fn mark(style: ScalarStyle) -> &'static str
 }
 
 fn push_node(line: &mut String, name: &str, id: usize, tag: &Option<Tag>) -> Result<(), AllocError>
-    ensures { OnOk result (string_bytes line.new ≡ string_bytes line.old ++ printed.node_text name.now id (option_map resolved_tag tag.now)) }
+    ensures { Pushes result line.old line.new (printed.node_text name.now id (lines.tag_of tag.now)) }
 {
     line.push_str(name)?;
     if id != 0 {
@@ -100,7 +100,7 @@ fn push_node(line: &mut String, name: &str, id: usize, tag: &Option<Tag>) -> Res
 }
 
 fn push_escaped(line: &mut String, text: &str) -> Result<(), AllocError>
-    ensures { OnOk result (string_bytes line.new ≡ string_bytes line.old ++ lines.escaped text.now) }
+    ensures { Pushes result line.old line.new (lines.escaped text.now) }
 {
     for c in text.chars() {
         push_escape(line, c)?;
@@ -109,7 +109,7 @@ fn push_escaped(line: &mut String, text: &str) -> Result<(), AllocError>
 }
 
 fn push_escape(line: &mut String, c: char) -> Result<(), AllocError>
-    ensures { OnOk result (string_bytes line.new ≡ string_bytes line.old ++ lines.escape c) }
+    ensures { Pushes result line.old line.new (lines.escape c) }
 {
     match c {
         '\\' => line.push_str("\\\\"),

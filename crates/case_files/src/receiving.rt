@@ -1,5 +1,6 @@
 //! A receiver of events.
-ghost use Rattle.std.specs.Prelude.{◌≡◌, ◌<◌, OnOk, IfErr, OnErr, [], drop, length, Ok};
+ghost use Rattle.std.specs.Prelude.{◌≡◌, OnOk, OnErr, []};
+ghost use Rattle.case_files.specs.Lines.{IsPassed};
 
 use crate::difference::Difference;
 use crate::expected::Expected;
@@ -72,7 +73,7 @@ impl<'a> ComparingReceiver<'a> {
     /// What has come is as expected, and where `load` answered a fault, its line is the next one.
     pub fn check_answer(&mut self, answer: Result<(), Fault>) -> Result<(), Difference>
         ensures whole { OnOk answer (self.new ≡ self.old) }
-        ensures fault { OnErr answer (OnOk result ((0 < length self.old) × (self.new ≡ drop 1 self.old))) }
+        ensures fault { OnErr answer (OnOk result (IsPassed self.old self.new)) }
     {
         self.check()?;
         match answer {

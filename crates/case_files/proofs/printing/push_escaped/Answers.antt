@@ -10,5 +10,8 @@ use Rattle.case_files.proofs.printing.push_escaped.Goals as goal
 -- behind the loop all characters of the text have come
 pub returns : goal.returns
 returns c =
-    let all = YieldsList-end (YieldsList-from_chars c.args.text.now c.utf8.text cc) c.loop-c.yielded _ c.loop-c.yielded_by _ _ c.in-None.is c.next.ensures.steps in
-    c.loop-c.invariant ∙ ap (λ cs. string_bytes c.args.line.now ++ flat_map escape cs) (sym (map-id c.loop-c.yielded) ∙ all.0)
+    let all =
+    YieldsList-end (YieldsList-from_chars c.args.text.now c.utf8.text cc)
+    c.loop-c.yielded _ c.loop-c.yielded_by _ _ c.in-None.is c.next.ensures.steps in
+    let same = sym (map-id c.loop-c.yielded) ∙ all.0 in
+    c.loop-c.invariant ∙ ap (λ cs. string_bytes c.args.line.now ++ flat_map escape cs) same
