@@ -18,3 +18,4 @@ pub mod Leads
 pub mod Nodes
 pub mod Documents
 pub mod Streams
+pub mod Layouts

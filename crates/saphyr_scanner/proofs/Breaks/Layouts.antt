@@ -23,7 +23,7 @@ use Rattle.saphyr_scanner.proofs.Breaks.Normal.{beside, normal_shorter}
 abbrev HasNoReturn : List ℕ → Type 0
 HasNoReturn t = AreIn (λ c. not (c == carriage_return)) t
 
-no_return_left : {t n : List ℕ} → Normal t n → HasNoReturn n
+pub no_return_left : {t n : List ℕ} → Normal t n → HasNoReturn n
 no_return_left nothing = tt
 no_return_left (character c e h) = (ap not (no_return c e), no_return_left h)
 no_return_left (feed h) = (refl, no_return_left h)
