@@ -18,4 +18,5 @@ pub mod Leads
 pub mod Nodes
 pub mod Documents
 pub mod Streams
+pub mod Keys
 pub mod Layouts

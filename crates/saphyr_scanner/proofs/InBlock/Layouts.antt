@@ -14,19 +14,21 @@ use Rattle.saphyr_scanner.proofs.Breaks.Layouts.{no_return_left, scans_too}
 use Rattle.saphyr_scanner.proofs.Breaks.Normal.{beside, normal_shorter}
 use Rattle.saphyr_scanner.proofs.FlowInks.{node_ink}
 use Rattle.saphyr_scanner.proofs.FlowStates.{Reads}
+use Rattle.saphyr_scanner.proofs.InBlock.Keys.{reads_key}
 use Rattle.saphyr_scanner.proofs.InBlock.Properties.{reads_head, reads_properties}
 use Rattle.saphyr_scanner.proofs.InBlock.ScalarTexts.{ReadsBlocks, block_ink, scalar_ends}
 use Rattle.saphyr_scanner.proofs.InBlock.Scalars as scalars
-use Rattle.saphyr_scanner.proofs.InBlock.Statements.{Leaves, ReadsAt, ReadsKey}
+use Rattle.saphyr_scanner.proofs.InBlock.Statements.{Leaves, ReadsAt}
 use Rattle.saphyr_scanner.proofs.InBlock.Streams.{layout_leads}
 use Rattle.saphyr_scanner.proofs.Lazy.{handed_out}
 use Rattle.saphyr_scanner.proofs.TakingScalars.{Readers}
 
-pub leaves : Reads → ReadsBlocks → (limit : ℕ) → limit < 2 ^ 63 → ((node : Node) → ReadsAt limit node (IsFlowInBlock 255 node)) → ((node : Node) → ReadsKey limit node) → Leaves limit
-leaves reads blocks limit short flow key = record {
+-- What is left to show is that nodes in flow style are read.
+pub leaves : Reads → ReadsBlocks → (limit : ℕ) → limit < 2 ^ 63 → ((node : Node) → ReadsAt limit node (IsFlowInBlock 255 node)) → Leaves limit
+leaves reads blocks limit short flow = record {
   flow = flow;
   block_scalar = scalars.block_scalar blocks short (reads_head reads limit);
-  key = key;
+  key = reads_key reads limit;
   properties = reads_properties reads limit short;
   flow_ink = λ node room indent in_flow t. node_ink indent room node in_flow t;
   block_ink = block_ink;

@@ -363,11 +363,11 @@ key_along reads around same start (Scalar p style value) k qs t n r e ad h apart
 key_along reads around same start (Seq p nodes) k qs t n r e ad h apart white text low ready = sequence_key reads around same start p nodes k qs t n r e ad h text low ready
 key_along reads around same start (Map p pairs) k qs t n r e ad h apart white text low ready = mapping_key reads around same start p pairs k qs t n r e ad h text low ready
 
-spaces_on_line : (n : ℕ) → IsOnLine (spaces n)
+pub spaces_on_line : (n : ℕ) → IsOnLine (spaces n)
 spaces_on_line zero = tt
 spaces_on_line (suc n) = (refl, spaces_on_line n)
 
-both_on_line : (a b : List ℕ) → IsOnLine a → IsOnLine b → IsOnLine (a ++ b)
+pub both_on_line : (a b : List ℕ) → IsOnLine a → IsOnLine b → IsOnLine (a ++ b)
 both_on_line [] b h k = k
 both_on_line (c ∷ cs) b h k = (h.0, both_on_line cs b h.1 k)
 

@@ -1,9 +1,3 @@
-use Rattle.saphyr_scanner.proofs.InFlow.Keys.{key_read}
-use Rattle.saphyr_scanner.proofs.InFlow.KeyCollections.{collection_along}
-use Rattle.saphyr_scanner.proofs.InFlow.KeyScalars.{content_along}
-use Rattle.saphyr_scanner.proofs.InFlow.KeyTokens.{properties_along}
-use Rattle.saphyr_scanner.proofs.InFlow.KeyLines.{token_led}
-use Rattle.saphyr_scanner.proofs.InFlow.OnLine.{node_lowers}
 use Rattle.saphyr_scanner.proofs.InFlow.States.{alone}
 use Rattle.saphyr_scanner.proofs.TakingScalars.{Readers, quoted_laws}
 use Rattle.saphyr_scanner.proofs.FlowStates.{Reads}
