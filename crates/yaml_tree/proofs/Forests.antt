@@ -1,0 +1,211 @@
+-- The events of a forest nest.
+use Rattle.std.proofs.Common.{◌≡◌, Bool, List, [], ◌∷◌, ◌++◌, Option, Some, None, option_map, option_and_then, refl, sym, ap, subst, ◌∙◌, append_assoc, inl, inr, Err}
+use Rattle.saphyr_scanner.specs.Forest.{Node, Alias, Scalar, Seq, Map, Nodes, NoNode, MoreNodes, Pairs, NoPair, MorePairs, Forest}
+use Rattle.saphyr_scalar.specs.declared.scalar.position.Span.{Span}
+use Rattle.saphyr_parser.specs.Preorder as parts
+use Rattle.saphyr_parser.specs.Preorder.{Part, node_parts, entry_parts, pair_parts, document_parts}
+use Rattle.saphyr_parser.specs.Events as events
+use Rattle.saphyr_parser.specs.Events.{Happening}
+use Rattle.saphyr_parser.specs.ForestEvents.{event_of, before_all, events_behind}
+use Rattle.saphyr_parser.specs.ForestEvents as forests
+use Rattle.saphyr_parser.specs.Answer.{Ending, Answer}
+use Rattle.saphyr_parser.specs.EventsTaken.{IsAllUnless}
+use Rattle.yaml_tree.specs.declared.fault.TreeFault.TheVariants as fault
+use Rattle.yaml_tree.specs.declared.tally.Limits.{Limits}
+use Rattle.yaml_tree.specs.Nesting.{Place, InStream, BeforeRoot, BehindRoot, InSequence, BeforeKey, BeforeValue, Nest, outside, complete, behind_node, moved, entered, behind, behind_all}
+use Rattle.yaml_tree.specs.Loading.{told, IsWhole, IsNested, IsStreamStart, BeginsStream, IsAtStart, Loads}
+use Rattle.yaml_tree.specs.Forests.{IsOfForest}
+use Rattle.yaml_tree.proofs.Taking.{behind_all-append}
+
+-- ## Steps
+
+record Begins (e : Option Happening) (o : Option (List Happening)) (es : List Happening) : Type 0 where
+  first : Happening
+  others : List Happening
+  is : e ≡ Some first
+  are : o ≡ Some others
+  joined : es ≡ first ∷ others
+
+begins : (e : Option Happening) (o : Option (List Happening)) (es : List Happening) → before_all e o ≡ Some es
+    → Begins e o es
+begins (Some h) (Some hs) es p = record { first = h; others = hs; is = refl; are = refl; joined = cc }
+begins (Some h) None es p = absurd (cc)
+begins None (Some hs) es p = absurd (cc)
+begins None None es p = absurd (cc)
+
+-- parts are passed, and their events lead from a nest to another
+record Passes (keep : Bool) (rest : List Part) (es : List Happening) (n m : Nest) : Type 0 where
+  front : List Part
+  more : List Happening
+  are : events_behind keep front rest ≡ Some more
+  same : behind_all es n ≡ behind_all more m
+
+one_part : (keep : Bool) (front : List Part) (part : Part) (rest : List Part) (es : List Happening) (n m : Nest)
+    → events_behind keep front (part ∷ rest) ≡ Some es
+    → ((h : Happening) → event_of keep front part ≡ Some h → behind h n ≡ Some m)
+    → Passes keep rest es n m
+one_part keep front part rest es n m p step =
+    let b = begins (event_of keep front part) (events_behind keep (part ∷ front) rest) es p in
+    record {
+      front = part ∷ front;
+      more = b.others;
+      are = b.are;
+      same = ap (λ (hs : List Happening). behind_all hs n) b.joined
+          ∙ ap (option_and_then (behind_all b.others)) (step b.first b.is);
+    }
+
+and_then : (keep : Bool) (rest more : List Part) (es : List Happening) (n m k : Nest) → Passes keep rest es n m
+    → ((front : List Part) (hs : List Happening) → events_behind keep front rest ≡ Some hs → Passes keep more hs m k)
+    → Passes keep more es n k
+and_then keep rest more es n m k a next =
+    let b = next a.front a.more a.are in
+    record { front = b.front; more = b.more; are = b.are; same = a.same ∙ b.same }
+
+no_part : (keep : Bool) (front rest : List Part) (es : List Happening) (n : Nest)
+    → events_behind keep front rest ≡ Some es → Passes keep rest es n n
+no_part keep front rest es n p = record { front = front; more = es; are = p; same = refl }
+
+mapped : {A : Type 0} (f : A → Happening) (o : Option A) (h : Happening) (n : Nest) (m : Option Nest)
+    → ((x : A) → behind (f x) n ≡ m) → option_map f o ≡ Some h → behind h n ≡ m
+mapped f None h n m each p = absurd (cc)
+mapped f (Some x) h n m each p = let same : f x ≡ h = cc in ap (λ (g : Happening). behind g n) (sym same) ∙ each x
+
+given : (e h : Happening) (n : Nest) (m : Option Nest) → behind e n ≡ m → Some e ≡ Some h → behind h n ≡ m
+given e h n m each p = let same : e ≡ h = cc in ap (λ (g : Happening). behind g n) (sym same) ∙ each
+
+-- the nest behind a node
+abbrev at : Nest → Place → Nest
+at n place = record { innermost = place; outer = n.outer }
+
+behind_moved : (n : Nest) (place : Place) → behind_node n.innermost ≡ Some place
+    → moved behind_node n ≡ Some (at n place)
+behind_moved n place h = ap (option_map (λ (p : Place). record n { innermost = p })) h
+
+-- ## Nodes
+
+mutual
+  node_passes : (keep : Bool) (node : Node) (front rest : List Part) (es : List Happening) (n : Nest) (place : Place)
+      → behind_node n.innermost ≡ Some place
+      → events_behind keep front (node_parts node ++ rest) ≡ Some es → Passes keep rest es n (at n place)
+  node_passes keep (Alias name) front rest es n place h p =
+      one_part keep front (parts.Reference name) rest es n _ p
+      (λ e q. mapped events.Alias _ e n _ (λ id. behind_moved n place h) q)
+  node_passes keep (Scalar own style value) front rest es n place h p =
+      one_part keep front (parts.Leaf own style value) rest es n _ p
+      (λ e q. mapped (events.Scalar _ style _) _ e n _ (λ tag. behind_moved n place h) q)
+  node_passes keep (Seq own nodes) front rest es n place h p =
+      let begun = one_part keep front (parts.OpenSequence own)
+      ((entry_parts nodes ++ parts.CloseSequence ∷ []) ++ rest) es n (entered InSequence n) p
+      (λ e q. mapped (events.SequenceStart _) _ e n _ (λ tag. refl) q) in
+      let filled = and_then keep _ (parts.CloseSequence ∷ rest) es n _ (entered InSequence n) begun
+      (λ f hs q. entries_pass keep nodes f (parts.CloseSequence ∷ rest) hs _ (rw append_assoc at q)) in
+      and_then keep _ rest es n _ (at n place) filled
+      (λ f hs q. one_part keep f parts.CloseSequence rest hs _ _ q
+      (λ e r. given events.SequenceEnd e (entered InSequence n) _ (behind_moved n place h) r))
+  node_passes keep (Map own pairs) front rest es n place h p =
+      let begun = one_part keep front (parts.OpenMapping own)
+      ((pair_parts pairs ++ parts.CloseMapping ∷ []) ++ rest) es n (entered BeforeKey n) p
+      (λ e q. mapped (events.MappingStart _) _ e n _ (λ tag. refl) q) in
+      let filled = and_then keep _ (parts.CloseMapping ∷ rest) es n _ (entered BeforeKey n) begun
+      (λ f hs q. pairs_pass keep pairs f (parts.CloseMapping ∷ rest) hs _ (rw append_assoc at q)) in
+      and_then keep _ rest es n _ (at n place) filled
+      (λ f hs q. one_part keep f parts.CloseMapping rest hs _ _ q
+      (λ e r. given events.MappingEnd e (entered BeforeKey n) _ (behind_moved n place h) r))
+
+  entries_pass : (keep : Bool) (nodes : Nodes) (front rest : List Part) (es : List Happening) (outer : List Place)
+      → events_behind keep front (entry_parts nodes ++ rest) ≡ Some es
+      → Passes keep rest es (record { innermost = InSequence; outer = outer })
+      (record { innermost = InSequence; outer = outer })
+  entries_pass keep NoNode front rest es outer p = no_part keep front rest es _ p
+  entries_pass keep (MoreNodes node nodes) front rest es outer p =
+      let first = node_passes keep node front (entry_parts nodes ++ rest) es
+      (record { innermost = InSequence; outer = outer }) InSequence refl (rw append_assoc at p) in
+      and_then keep _ rest es _ _ _ first (λ f hs q. entries_pass keep nodes f rest hs outer q)
+
+  pairs_pass : (keep : Bool) (pairs : Pairs) (front rest : List Part) (es : List Happening) (outer : List Place)
+      → events_behind keep front (pair_parts pairs ++ rest) ≡ Some es
+      → Passes keep rest es (record { innermost = BeforeKey; outer = outer })
+      (record { innermost = BeforeKey; outer = outer })
+  pairs_pass keep NoPair front rest es outer p = no_part keep front rest es _ p
+  pairs_pass keep (MorePairs key value pairs) front rest es outer p =
+      let first = node_passes keep key front ((node_parts value ++ pair_parts pairs) ++ rest) es
+      (record { innermost = BeforeKey; outer = outer }) BeforeValue refl (rw append_assoc at p) in
+      let second = and_then keep _ (pair_parts pairs ++ rest) es _ _
+      (record { innermost = BeforeKey; outer = outer }) first
+      (λ f hs q. node_passes keep value f (pair_parts pairs ++ rest) hs
+      (record { innermost = BeforeValue; outer = outer }) BeforeKey refl (rw append_assoc at q)) in
+      and_then keep _ rest es _ _ _ second (λ f hs q. pairs_pass keep pairs f rest hs outer q)
+
+-- ## Documents
+
+abbrev stream : Nest
+stream = record { innermost = InStream; outer = [] }
+
+documents_pass : (keep : Bool) (documents : Forest) (front : List Part) (es : List Happening)
+    → events_behind keep front (document_parts documents) ≡ Some es
+    → Passes keep [] es stream complete
+documents_pass keep [] front es p = one_part keep front parts.CloseStream [] es _ complete p
+    (λ e q. given events.StreamEnd e _ _ refl q)
+documents_pass keep (d ∷ ds) front es p =
+    let begun = one_part keep front (parts.OpenDocument d.explicit d.directives)
+    (node_parts d.node ++ parts.CloseDocument ∷ document_parts ds) es stream (entered BeforeRoot stream) p
+    (λ e q. given (events.DocumentStart d.explicit) e stream _ refl q) in
+    let filled = and_then keep _ (parts.CloseDocument ∷ document_parts ds) es stream _ (entered BehindRoot stream) begun
+    (λ f hs q. node_passes keep d.node f (parts.CloseDocument ∷ document_parts ds) hs
+    (entered BeforeRoot stream) BehindRoot refl q) in
+    let ended = and_then keep _ (document_parts ds) es stream _ stream filled
+    (λ f hs q. one_part keep f parts.CloseDocument (document_parts ds) hs (entered BehindRoot stream) stream q
+    (λ e r. given events.DocumentEnd e (entered BehindRoot stream) _ refl r)) in
+    and_then keep _ [] es stream _ complete ended (λ f hs q. documents_pass keep ds f hs q)
+
+forest_passes : (forest : Forest) (keep : Bool) (es : List Happening) → forests.events forest keep ≡ Some es
+    → Passes keep [] es outside complete
+forest_passes forest keep es p =
+    let begun = one_part keep [] parts.OpenStream (document_parts forest) es outside stream p
+    (λ e q. given events.StreamStart e outside _ refl q) in
+    and_then keep _ [] es outside _ complete begun (λ f hs q. documents_pass keep forest f hs q)
+
+pub forest_nests : (forest : Forest) (keep : Bool) (es : List Happening) → forests.events forest keep ≡ Some es
+    → behind_all es outside ≡ Some complete
+forest_nests forest keep es p =
+    let passes = forest_passes forest keep es p in
+    let none : [] ≡ passes.more = cc passes.are in
+    passes.same ∙ ap (λ (hs : List Happening). behind_all hs complete) (sym none)
+
+-- ## Beginnings
+
+whole : (ending : Option Ending) (o : Option Nest) (missing : List Happening) → IsAllUnless ending missing
+    → option_and_then (behind_all missing) o ≡ Some complete → IsWhole ending o
+whole ending None missing h e = absurd (cc)
+whole (Some f) (Some n) missing h e = tt
+whole None (Some n) missing h e =
+    let same : behind_all missing n ≡ Some n = ap (λ (hs : List Happening). behind_all hs n) h in
+    let found : Some n ≡ Some complete = sym same ∙ e in
+    cc
+
+pub nests : (forest : Forest) (keep : Bool) (a : Answer) → IsOfForest forest keep a → IsNested a
+nests forest keep a h = whole a.fault (behind_all (told a.events) outside) h.missing h.all_given
+    (sym (behind_all-append (told a.events) h.missing outside)
+    ∙ forest_nests forest keep (told a.events ++ h.missing) h.are_events)
+
+-- ## Starts
+
+begins_stream : (es : List (Happening × Span)) (ending : Option Ending) (missing : List Happening) (h : Happening)
+    (others : List Happening) → IsAllUnless ending missing
+    → told es ++ missing ≡ h ∷ others → events.StreamStart ≡ h → BeginsStream es ending
+begins_stream (e ∷ es) ending missing h others k p q = let same : events.StreamStart ≡ e.0 = cc in
+    subst IsStreamStart same tt
+begins_stream [] (Some f) missing h others k p q = tt
+begins_stream [] None missing h others k p q = let none : [] ≡ h ∷ others = sym k ∙ p in absurd (cc)
+
+pub starts : (forest : Forest) (keep : Bool) (a : Answer) → IsOfForest forest keep a → IsAtStart a
+starts forest keep a h =
+    let b = begins (Some events.StreamStart) (events_behind keep (parts.OpenStream ∷ []) (document_parts forest))
+    (told a.events ++ h.missing) h.are_events in
+    let first : events.StreamStart ≡ b.first = cc b.is in
+    begins_stream a.events a.fault h.missing b.first b.others h.all_given b.joined first
+
+pub never_late : (forest : Forest) (keep : Bool) (limits : Limits) (all left : Answer) → IsOfForest forest keep all
+    → Loads limits (Err fault.NotFresh) all left → ⊥
+never_late forest keep limits all left h (inl late) = late.0 (starts forest keep all h)
+never_late forest keep limits all left h (inr ill) = ill (nests forest keep all h)

@@ -1,0 +1,103 @@
+-- A loader takes event after event.
+use Rattle.std.proofs.Common.{◌≡◌, List, [], ◌∷◌, ◌++◌, Option, Some, None, option_and_then, Result, Ok, Err, refl, sym, ap, subst, ◌∙◌}
+use Rattle.saphyr_scalar.specs.declared.scalar.position.Marker.{Marker}
+use Rattle.saphyr_parser.specs.Events.{Happening}
+use Rattle.yaml_tree.specs.declared.fault.TreeFault.{TreeFault}
+use Rattle.yaml_tree.specs.declared.fault.TreeFault.TheVariants as fault
+use Rattle.yaml_tree.specs.declared.tally.Limits.{Limits}
+use Rattle.yaml_tree.specs.declared.tally.Tally.{Tally}
+use Rattle.yaml_tree.specs.declared.loading.Loader.{Loader}
+use Rattle.yaml_tree.specs.Nesting.{Nest, behind, behind_all, outside}
+use Rattle.yaml_tree.specs.Counting.{Counts, counted, counted_all, nothing, StayWithin, Fits}
+use Rattle.yaml_tree.specs.TallySeen.{counts_of, Exceeds, Tells}
+use Rattle.yaml_tree.specs.BuilderSeen.{nest_of, Grows}
+use Rattle.yaml_tree.specs.LoaderSeen.{HasTaken, Forbids, Takes}
+
+-- ## Longer lists
+
+option_and_then-twice : {A B C : Type 0} (f : B → Option C) (g : A → Option B) (o : Option A)
+    → option_and_then (λ x. option_and_then f (g x)) o ≡ option_and_then f (option_and_then g o)
+option_and_then-twice f g None = refl
+option_and_then-twice f g (Some x) = refl
+
+and_then_along : {A B : Type 0} (f g : A → Option B) (o : Option A) → ((x : A) → f x ≡ g x)
+    → option_and_then f o ≡ option_and_then g o
+and_then_along f g None h = refl
+and_then_along f g (Some x) h = h x
+
+pub behind_all-append : (xs ys : List Happening) (n : Nest)
+    → behind_all (xs ++ ys) n ≡ option_and_then (behind_all ys) (behind_all xs n)
+behind_all-append [] ys n = refl
+behind_all-append (x ∷ xs) ys n = and_then_along _ _ (behind x n) (λ m. behind_all-append xs ys m)
+    ∙ option_and_then-twice (behind_all ys) (behind_all xs) (behind x n)
+
+pub counted_all-append : (xs ys : List Happening) (c : Counts)
+    → counted_all (xs ++ ys) c ≡ counted_all ys (counted_all xs c)
+counted_all-append [] ys c = refl
+counted_all-append (x ∷ xs) ys c = counted_all-append xs ys (counted x c)
+
+pub stays_within : (limits : Limits) (xs : List Happening) (x : Happening) (c : Counts) → StayWithin limits xs c
+    → Fits limits (counted x (counted_all xs c)) → StayWithin limits (xs ++ x ∷ []) c
+stays_within limits [] x c h f = (f, tt)
+stays_within limits (y ∷ ys) x c h f = (h.0, stays_within limits ys x (counted y c) h.1 f)
+
+-- ## One more event
+
+some_again : (o : Option Nest) → option_and_then (λ n. Some n) o ≡ o
+some_again None = refl
+some_again (Some n) = refl
+
+one : (h : Happening) (n : Nest) → behind_all (h ∷ []) n ≡ behind h n
+one h n = some_again (behind h n)
+
+pub nested_more : (events : List Happening) (h : Happening) (n : Nest) (o : Option Nest)
+    → behind_all events outside ≡ Some n → behind h n ≡ o → behind_all (events ++ h ∷ []) outside ≡ o
+nested_more events h n o e f = behind_all-append events (h ∷ []) outside
+    ∙ ap (option_and_then (behind_all (h ∷ []))) e ∙ one h n ∙ f
+
+pub counted_more : (events : List Happening) (h : Happening) (t : Tally) (d : Counts)
+    → counts_of t ≡ counted_all events nothing → d ≡ counted h (counts_of t)
+    → d ≡ counted_all (events ++ h ∷ []) nothing
+counted_more events h t d e f = f ∙ ap (counted h) e ∙ sym (counted_all-append events (h ∷ []) nothing)
+
+fits_more : (l m : Limits) (a b : Counts) (h : Happening) → l ≡ m → a ≡ b → Fits l (counted h a) → Fits m (counted h b)
+fits_more l m a b h e f x = subst (λ (k : Limits). Fits k (counted h b)) e
+    (subst (λ (d : Counts). Fits l (counted h d)) f x)
+
+fits_along : (l m : Limits) (a b : Counts) → l ≡ m → a ≡ b → Fits l a → Fits m b
+fits_along l m a b e f x = subst (λ (k : Limits). Fits k b) e (subst (λ (d : Counts). Fits l d) f x)
+
+exceeds_more : (f : TreeFault) (l m : Limits) (a b : Counts) (place : Marker) → l ≡ m → a ≡ b → Exceeds f l a place
+    → Exceeds f m b place
+exceeds_more f l m a b place e g x = subst (λ (k : Limits). Exceeds f k b place) e
+    (subst (λ (d : Counts). Exceeds f l d place) g x)
+
+pub takes : (limits : Limits) (events : List Happening) (h : Happening) (place : Marker) (old new : Loader)
+    (r : Result (Unit {0}) TreeFault) → HasTaken limits events old
+    → Tells (Ok tt) (counted h (counts_of old.tally)) place old.tally new.tally
+    → Grows r (h ∷ []) (behind h (nest_of old.builder)) old.builder new.builder
+    → Takes r limits (events ++ h ∷ []) place new
+takes limits events h place old new (Ok u) t c g = record {
+  same_limits = c.0 ∙ t.same_limits;
+  written = g.0 ∙ ap (λ (es : List Happening). es ++ h ∷ []) t.written;
+  nested = nested_more events h _ _ t.nested g.1;
+  counted = counted_more events h old.tally _ t.counted c.1;
+  within = stays_within limits events h nothing t.within (fits_more _ limits _ _ h t.same_limits t.counted c.2);
+}
+takes limits events h place old new (Err fault.NotFresh) t c g = nested_more events h _ _ t.nested g
+takes limits events h place old new (Err fault.OutOfMemory) t c g = fits_along _ limits _ _ t.same_limits
+    (counted_more events h old.tally _ t.counted refl) c.2
+takes limits events h place old new (Err (fault.Parse f)) t c g = absurd g
+takes limits events h place old new (Err (fault.TooManyNodes at most)) t c g = absurd g
+takes limits events h place old new (Err (fault.TooDeep at most)) t c g = absurd g
+
+pub exceeds : (limits : Limits) (events : List Happening) (h : Happening) (place : Marker) (old : Loader)
+    (f : TreeFault) → HasTaken limits events old
+    → Exceeds f old.tally.limits (counted h (counts_of old.tally)) place → Forbids f limits (events ++ h ∷ []) place
+exceeds limits events h place old (fault.TooManyNodes at most) t c = exceeds_more
+    (fault.TooManyNodes at most) _ limits _ _ place t.same_limits (counted_more events h old.tally _ t.counted refl) c
+exceeds limits events h place old (fault.TooDeep at most) t c = exceeds_more
+    (fault.TooDeep at most) _ limits _ _ place t.same_limits (counted_more events h old.tally _ t.counted refl) c
+exceeds limits events h place old (fault.Parse f) t c = absurd c
+exceeds limits events h place old fault.OutOfMemory t c = absurd c
+exceeds limits events h place old fault.NotFresh t c = absurd c

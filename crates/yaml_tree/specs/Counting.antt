@@ -1,0 +1,44 @@
+-- How many nodes come, and how many collections are open at once.
+use Rattle.std.specs.Prelude.{ℕ, ◌+◌, ◌-◌, ◌≤◌, List, [], ◌∷◌}
+use Rattle.saphyr_parser.specs.Events.{Happening, Alias, Scalar, SequenceStart, SequenceEnd, MappingStart, MappingEnd}
+use Rattle.yaml_tree.specs.declared.tally.Limits.{Limits}
+
+-- the nodes that came, and the collections that are open
+pub record Counts : Type 0 where
+  pub nodes : ℕ
+  pub depth : ℕ
+
+abbrev pub nothing : Counts
+nothing = record { nodes = 0; depth = 0 }
+
+abbrev pub with_node : Counts → Counts
+with_node c = record { nodes = c.nodes + 1; depth = c.depth }
+
+abbrev pub with_collection : Counts → Counts
+with_collection c = record { nodes = c.nodes + 1; depth = c.depth + 1 }
+
+abbrev pub with_end : Counts → Counts
+with_end c = record { nodes = c.nodes; depth = c.depth - 1 }
+
+-- behind an event; an alias is a node too
+abbrev pub counted : Happening → Counts → Counts
+counted (Alias id) c = with_node c
+counted (Scalar text style id tag) c = with_node c
+counted (SequenceStart id tag) c = with_collection c
+counted SequenceEnd c = with_end c
+counted (MappingStart id tag) c = with_collection c
+counted MappingEnd c = with_end c
+counted _ c = c
+
+abbrev pub counted_all : List Happening → Counts → Counts
+counted_all [] c = c
+counted_all (h ∷ hs) c = counted_all hs (counted h c)
+
+pub record Fits (limits : Limits) (c : Counts) : Type 0 where
+  pub nodes : c.nodes ≤ limits.nodes
+  pub depth : c.depth ≤ limits.depth
+
+-- behind each of the events the counts are within the limits
+abbrev pub StayWithin : Limits → List Happening → Counts → Type 0
+StayWithin limits [] c = Unit {0}
+StayWithin limits (h ∷ hs) c = Fits limits (counted h c) × StayWithin limits hs (counted h c)

@@ -1,0 +1,107 @@
+-- What loading documents answers, and what it leaves.
+use Rattle.std.specs.Prelude.{◌≡◌, ◌⊎◌, ◌<◌, Bool, true, false, List, [], ◌∷◌, ◌++◌, map, Option, Some, None, Result, Ok, Err, Vec, string_bytes}
+use Rattle.std.specs.Global.{Global}
+use Rattle.saphyr_scalar.specs.declared.scalar.position.Span.{Span}
+use Rattle.saphyr_parser.specs.declared.parser.fault.Fault.TheVariants as parse
+use Rattle.saphyr_parser.specs.Events.{Happening, StreamStart}
+use Rattle.saphyr_parser.specs.Answer.{Ending, Answer, Refused, none}
+use Rattle.saphyr_parser.specs.Cursor.{count, Stays}
+use Rattle.yaml_tree.specs.declared.fault.TreeFault.{TreeFault}
+use Rattle.yaml_tree.specs.declared.fault.TreeFault.TheVariants as fault
+use Rattle.yaml_tree.specs.declared.tally.Limits.{Limits}
+use Rattle.yaml_tree.specs.declared.document.Document.{Document}
+use Rattle.yaml_tree.specs.declared.loading.Loader.{Loader}
+use Rattle.yaml_tree.specs.Unloading.{unload}
+use Rattle.yaml_tree.specs.Nesting.{Nest, outside, complete, behind_all}
+use Rattle.yaml_tree.specs.Counting.{nothing, StayWithin}
+use Rattle.yaml_tree.specs.LoaderSeen.{HasTaken, Forbids}
+
+-- events without their spans
+abbrev pub told : List (Happening × Span) → List Happening
+told events = map (λ (e : Happening × Span). e.0) events
+
+-- ## Lists of events
+
+abbrev pub IsStreamStart : Happening → Type 0
+IsStreamStart StreamStart = Unit {0}
+IsStreamStart _ = ⊥
+
+abbrev pub BeginsStream : List (Happening × Span) → Option Ending → Type 0
+BeginsStream (e ∷ events) fault = IsStreamStart e.0
+BeginsStream [] (Some f) = Unit {0}
+BeginsStream [] None = ⊥
+
+-- nothing was handed out: the stream's start comes next, or a fault
+abbrev pub IsAtStart : Answer → Type 0
+IsAtStart a = BeginsStream a.events a.fault
+
+abbrev pub IsWhole : Option Ending → Option Nest → Type 0
+IsWhole fault None = ⊥
+IsWhole None (Some nest) = nest ≡ complete
+IsWhole (Some f) (Some nest) = Unit {0}
+
+-- the events nest, and are complete where no fault ends them
+abbrev pub IsNested : Answer → Type 0
+IsNested a = IsWhole a.fault (behind_all (told a.events) outside)
+
+-- ## Answers
+
+-- The last event that was handed out could not be taken. Those behind it are left.
+pub record Stops (f : TreeFault) (limits : Limits) (all left : Answer) : Type 0 where
+  pub taken : List (Happening × Span)
+  pub event : Happening × Span
+  pub split : all.events ≡ taken ++ (event ∷ left.events)
+  pub fault : all.fault ≡ left.fault
+  pub within : StayWithin limits (told taken) nothing
+  pub why : Forbids f limits (told taken ++ event.0 ∷ []) event.1.start
+
+-- the parser's memory ran out behind these events, before anything that was still to come
+pub record RunsOut (limits : Limits) (all : Answer) : Type 0 where
+  pub taken : List (Happening × Span)
+  pub lost : Answer
+  pub split : all.events ≡ taken ++ lost.events
+  pub fault : all.fault ≡ lost.fault
+  pub some_lost : 0 < count lost
+  pub within : StayWithin limits (told taken) nothing
+
+-- A fault, and what it leaves of all that was still to come. No text's events fail to nest.
+abbrev pub Fails : Limits → TreeFault → Answer → Answer → Type 0
+Fails limits (fault.Parse (parse.Scan e)) all left = (all.fault ≡ Some (Refused e.mark (string_bytes e.info)))
+    × StayWithin limits (told all.events) nothing × (left ≡ none)
+Fails limits (fault.Parse parse.OutOfMemory) all left = RunsOut limits all × (left ≡ none)
+Fails limits (fault.Parse parse.Receiver) all left = ⊥
+Fails limits (fault.Parse parse.InsideDocument) all left = ⊥
+Fails limits (fault.TooManyNodes at most) all left = Stops (fault.TooManyNodes at most) limits all left
+Fails limits (fault.TooDeep at most) all left = Stops (fault.TooDeep at most) limits all left
+Fails limits fault.OutOfMemory all left = Stops fault.OutOfMemory limits all left
+Fails limits fault.NotFresh all left = IsNested all → ⊥
+
+-- events were handed out before, and nothing is passed
+abbrev pub IsLate : Answer → Answer → Type 0
+IsLate all left = (IsAtStart all → ⊥) × (left ≡ all)
+
+-- What a call answers, and what it leaves of all that was still to come.
+abbrev pub Loads : Limits → Result (Vec Document Global) TreeFault → Answer → Answer → Type 0
+Loads limits (Ok documents) all left = (unload documents.items ≡ told all.events) × (all.fault ≡ None)
+    × StayWithin limits (told all.events) nothing × (left ≡ none)
+Loads limits (Err fault.NotFresh) all left = IsLate all left ⊎ Fails limits fault.NotFresh all left
+Loads limits (Err f) all left = Fails limits f all left
+
+-- ## Steps of a call
+
+-- whether nothing was handed out, where only want of memory changes what is to come
+abbrev pub BeginsSo : Bool → Answer → Answer → Type 0
+BeginsSo true all mid = Stays all mid × IsAtStart mid
+BeginsSo false all mid = IsLate all mid
+
+-- a loader has taken events, and the others are left
+pub record HasRead (limits : Limits) (all left : Answer) (l : Loader) : Type 0 where
+  pub taken : List (Happening × Span)
+  pub split : all.events ≡ taken ++ left.events
+  pub fault : all.fault ≡ left.fault
+  pub loader : HasTaken limits (told taken) l
+
+-- a loader takes all events, or fails
+abbrev pub TakesAll : Limits → Result (Unit {0}) TreeFault → Answer → Answer → Loader → Type 0
+TakesAll limits (Ok u) all left l = HasTaken limits (told all.events) l × (all.fault ≡ None) × (left ≡ none)
+TakesAll limits (Err f) all left l = Fails limits f all left

@@ -1,0 +1,144 @@
+//! Trees that grow event by event.
+ghost use Rattle.std.specs.Prelude.{◌≡◌, [], Some};
+ghost use Rattle.saphyr_parser.specs.Events as events;
+ghost use Rattle.saphyr_parser.specs.EventSeen.{happening};
+ghost use Rattle.yaml_tree.specs.Unloading.{node_events};
+ghost use Rattle.yaml_tree.specs.OpenSeen.{opened, place_of};
+ghost use Rattle.yaml_tree.specs.Nesting.{outside, behind_node, moved, entered};
+
+use crate::document::Document;
+use crate::fault::TreeFault;
+use crate::node::Node;
+use crate::open::Open;
+use saphyr_parser::Event;
+use std::alloc::Global;
+use std::mem;
+
+/// The documents that the events so far make, with what has not ended, the outermost first.
+#[derive(Drop)]
+pub(crate) struct Builder {
+    alloc: Global,
+    outer: Vec<Open>,
+    innermost: Open,
+}
+
+impl Builder {
+    ghost use Rattle.yaml_tree.specs.BuilderSeen.{written, nest_of, Grows, Follows, HandsOut, Finishes};
+
+    pub(crate) fn new(alloc: Global) -> Builder
+        ensures written { written result ≡ [] }
+        ensures nested { nest_of result ≡ outside }
+    {
+        Builder {
+            alloc,
+            outer: Vec::new(alloc),
+            innermost: Open::Nothing,
+        }
+    }
+
+    // Takes the next event. Behind an error no more may be taken.
+    pub(crate) fn take(&mut self, event: Event) -> Result<(), TreeFault>
+        ensures { Follows result (happening event.entry) self.old self.new }
+    {
+        match event {
+            Event::Nothing => Err(TreeFault::NotFresh),
+            Event::StreamStart => self.begin_stream(),
+            Event::StreamEnd => self.end_stream(),
+            Event::DocumentStart(explicit) => self.begin(Open::Document(explicit, None)),
+            Event::DocumentEnd => self.end_document(),
+            Event::Alias(id) => self.add(Node::Alias(id)),
+            Event::Scalar(text, style, id, tag) => match text.into_owned(self.alloc) {
+                Ok(text) => self.add(Node::Scalar(text, style, id, tag)),
+                Err(_) => Err(TreeFault::OutOfMemory),
+            },
+            Event::SequenceStart(id, tag) => {
+                self.begin(Open::Sequence(id, tag, Vec::new(self.alloc)))
+            }
+            Event::SequenceEnd => self.end_sequence(),
+            Event::MappingStart(id, tag) => {
+                self.begin(Open::Mapping(id, tag, Vec::new(self.alloc), None))
+            }
+            Event::MappingEnd => self.end_mapping(),
+        }
+    }
+
+    // The documents of a stream that has ended.
+    pub(crate) fn finish(self) -> Result<Vec<Document>, TreeFault>
+        ensures { Finishes result self }
+    {
+        if !self.outer.is_empty() {
+            return Err(TreeFault::NotFresh);
+        }
+        self.innermost.into_documents()
+    }
+
+    fn begin_stream(&mut self) -> Result<(), TreeFault>
+        ensures { Follows result events.StreamStart self.old self.new }
+    {
+        let stream = mem::replace(&mut self.innermost, Open::Nothing);
+        self.innermost = stream.begun(self.alloc)?;
+        Ok(())
+    }
+
+    fn end_stream(&mut self) -> Result<(), TreeFault>
+        ensures { Follows result events.StreamEnd self.old self.new }
+    {
+        let stream = mem::replace(&mut self.innermost, Open::Nothing);
+        self.innermost = stream.ended()?;
+        Ok(())
+    }
+
+    fn end_document(&mut self) -> Result<(), TreeFault>
+        ensures { Follows result events.DocumentEnd self.old self.new }
+    {
+        let document = self.end()?.into_document()?;
+        let stream = mem::replace(&mut self.innermost, Open::Nothing);
+        self.innermost = stream.with_document(document)?;
+        Ok(())
+    }
+
+    fn end_sequence(&mut self) -> Result<(), TreeFault>
+        ensures { Follows result events.SequenceEnd self.old self.new }
+    {
+        let node = self.end()?.into_sequence()?;
+        self.add(node)
+    }
+
+    fn end_mapping(&mut self) -> Result<(), TreeFault>
+        ensures { Follows result events.MappingEnd self.old self.new }
+    {
+        let node = self.end()?.into_mapping()?;
+        self.add(node)
+    }
+
+    // Adds a node that is complete.
+    fn add(&mut self, node: Node) -> Result<(), TreeFault>
+        ensures { Grows result (node_events node) (moved behind_node (nest_of self.old)) self.old self.new }
+    {
+        let open = mem::replace(&mut self.innermost, Open::Nothing);
+        self.innermost = open.with_node(node)?;
+        Ok(())
+    }
+
+    // Begins a document or a collection.
+    fn begin(&mut self, inner: Open) -> Result<(), TreeFault>
+        ensures { let nest = entered (place_of inner) (nest_of self.old) in
+            Grows result (opened inner) (Some nest) self.old self.new }
+    {
+        let around = mem::replace(&mut self.innermost, inner);
+        match self.outer.push(around) {
+            Ok(()) => Ok(()),
+            Err(_) => Err(TreeFault::OutOfMemory),
+        }
+    }
+
+    // Hands out the document or collection that has begun last.
+    fn end(&mut self) -> Result<Open, TreeFault>
+        ensures { HandsOut result self.old self.new }
+    {
+        match self.outer.pop() {
+            Some(around) => Ok(mem::replace(&mut self.innermost, around)),
+            None => Err(TreeFault::NotFresh),
+        }
+    }
+}

@@ -1,0 +1,37 @@
+//! Why documents were not loaded.
+
+use saphyr_parser::{Fault, Marker};
+use std::fmt;
+use thiserror::Error;
+
+/// Why the documents of a text were not loaded.
+#[derive(Debug, PartialEq, Eq, Drop, Error)]
+pub enum TreeFault {
+    /// The parser gave a fault in place of an event.
+    #[error(transparent)]
+    Parse(Fault),
+    /// One node more than this many came, at this place.
+    #[error("more than {1} nodes{place}", place = Place(*.0))]
+    TooManyNodes(Marker, usize),
+    /// One collection more than this many would be open at once, at this place.
+    #[error("more than {1} open collections{place}", place = Place(*.0))]
+    TooDeep(Marker, usize),
+    /// There was no memory for the trees.
+    #[error("out of memory")]
+    OutOfMemory,
+    /// The parser's next event isn't the stream's start.
+    #[error("the parser has handed out events")]
+    NotFresh,
+}
+
+// A place as faults print it.
+#[derive(Clone, Copy)]
+struct Place(Marker);
+
+impl fmt::Display for Place {
+    fn fmt<W: fmt::Write>(&self, f: &mut fmt::Formatter<W>) -> fmt::Result {
+        let Marker { index, line, col } = self.0;
+        let column = col as u128 + 1;
+        write!(f, " at byte {index} line {line} column {column}")
+    }
+}

@@ -1,0 +1,90 @@
+//! Documents from the events of a parser (YAML 1.2.2, 3.1.2).
+ghost use Rattle.std.specs.Prelude.{◌≡◌, List, [], ◌∷◌, ◌++◌};
+ghost use Rattle.saphyr_parser.specs.Events.{Happening};
+ghost use Rattle.saphyr_parser.specs.EventSeen.{happening};
+ghost use Rattle.saphyr_parser.specs.Cursor.{to_come};
+ghost use Rattle.yaml_tree.specs.Loading.{Loads, TakesAll, BeginsSo};
+
+use crate::builder::Builder;
+use crate::document::Document;
+use crate::fault::TreeFault;
+use crate::tally::{Limits, Tally};
+use saphyr_parser::{Event, Input, Marker, Parser};
+use std::alloc::Global;
+
+/// Loads all documents of a text, from a parser that has handed out no event.
+///
+/// It reads up to the end of the stream. Where a fault ends the events, that fault is the answer, and the
+/// parser is at its end. Behind `TooManyNodes`, `TooDeep` and `OutOfMemory` the parser stands behind the
+/// event that could not be taken, and gives the others. `NotFresh` passes no event.
+pub fn load_documents<'input, T: Input>(
+    alloc: Global,
+    parser: &mut Parser<'input, T>,
+    limits: Limits,
+) -> Result<Vec<Document>, TreeFault>
+    ensures { Loads limits result (to_come parser.old) (to_come parser.new) }
+{
+    if !is_at_start(parser) {
+        return Err(TreeFault::NotFresh);
+    }
+    let mut loader = Loader::new(alloc, limits);
+    loader.take_all(parser)?;
+    loader.builder.finish()
+}
+
+// Whether the stream's start comes next, or a fault.
+fn is_at_start<'input, T: Input>(parser: &mut Parser<'input, T>) -> bool
+    ensures { BeginsSo result (to_come parser.old) (to_come parser.new) }
+{
+    match parser.peek() {
+        Some(Ok((Event::StreamStart, _))) => true,
+        Some(Err(_)) => true,
+        _ => false,
+    }
+}
+
+// Trees that grow within limits.
+#[derive(Drop)]
+struct Loader {
+    tally: Tally,
+    builder: Builder,
+}
+
+impl Loader {
+    ghost use Rattle.yaml_tree.specs.LoaderSeen.{HasTaken, Takes};
+
+    fn new(alloc: Global, limits: Limits) -> Loader
+        ensures { HasTaken limits [] result }
+    {
+        Loader {
+            tally: Tally::new(limits),
+            builder: Builder::new(alloc),
+        }
+    }
+
+    // Takes all events that are still to come.
+    fn take_all<'input, T: Input>(
+        &mut self,
+        parser: &mut Parser<'input, T>,
+    ) -> Result<(), TreeFault>
+        ensures { (limits : Limits) → HasTaken limits [] self.old
+            → TakesAll limits result (to_come parser.old) (to_come parser.new) self.new }
+    {
+        while let Some(read) = parser.next_event() {
+            match read {
+                Ok((event, span)) => self.take(event, span.start)?,
+                Err(fault) => return Err(TreeFault::Parse(fault)),
+            }
+        }
+        Ok(())
+    }
+
+    // Takes an event whose span starts here. The limits are judged first.
+    fn take(&mut self, event: Event, place: Marker) -> Result<(), TreeFault>
+        ensures { (limits : Limits) (events : List Happening) → HasTaken limits events self.old
+            → Takes result limits (events ++ happening event.entry ∷ []) place self.new }
+    {
+        self.tally.count(&event, place)?;
+        self.builder.take(event)
+    }
+}

@@ -1,0 +1,148 @@
+//! Nodes (YAML 1.2.2, 3.2.1.1), and their drop.
+ghost use Rattle.std.specs.Prelude.{◌+◌, ◌<◌, ◌≤◌, ◌↔◌, None, IfSome, IsTrue};
+ghost use Rattle.yaml_tree.specs.Weight.{weight, IsBare, turns};
+
+use saphyr_parser::{ScalarStyle, Tag};
+use std::mem;
+
+/// A node of a tree.
+///
+/// The first number is the id of its anchor, 0 where it has none. Anchors aren't followed, so that no part
+/// of a tree is shared or repeated. A node that is left out is a plain scalar with empty text.
+#[derive(Debug, PartialEq, Eq)]
+pub enum Node {
+    /// A node that stands for the one with this anchor id.
+    Alias(usize),
+    /// A scalar: its text, how it is written, its anchor id and its tag.
+    Scalar(String, ScalarStyle, usize, Option<Tag>),
+    /// A sequence: its anchor id, its tag and its nodes.
+    Seq(usize, Option<Tag>, Vec<Node>),
+    /// A mapping: its anchor id, its tag and its pairs of a key and a value, in the order of the text.
+    Map(usize, Option<Tag>, Vec<(Node, Node)>),
+}
+
+impl Drop for Node {
+    // The collections around a part hang in one another, the outer one in a place of the inner one. So a
+    // deep tree needs no more stack than a flat one, and no memory.
+    fn drop(self) {
+        let mut outer = Node::Alias(0);
+        let mut part = self;
+        loop {
+            match part.turned(outer) {
+                Some(next) => (outer, part) = next,
+                None => return,
+            }
+        }
+    }
+}
+
+impl Node {
+    // What is left of the two once a leaf or an empty collection is dropped, or the last part of a
+    // collection has changed places with what is outer.
+    fn turned(self, outer: Node) -> Option<(Node, Node)>
+        ensures { IfSome result (λ next. turns next.0 next.1 < turns outer self) }
+    {
+        match self {
+            Node::Alias(_) => outer.next_part(),
+            Node::Scalar(_, _, _, _) => outer.next_part(),
+            Node::Seq(_, _, nodes) => turned_nodes(nodes, outer),
+            Node::Map(_, _, pairs) => turned_pairs(pairs, outer),
+        }
+    }
+
+    // A part to drop next, and what else is left.
+    fn next_part(self) -> Option<(Node, Node)>
+        ensures { IfSome result (λ next. weight next.0 + weight next.1 ≤ weight self) }
+    {
+        match self {
+            Node::Alias(_) => None,
+            Node::Scalar(_, _, _, _) => None,
+            Node::Seq(_, _, nodes) => next_node(nodes),
+            Node::Map(_, _, pairs) => next_of_pairs(pairs),
+        }
+    }
+
+    // Whether no node stands inside.
+    fn is_bare(&self) -> bool
+        ensures { IsTrue result ↔ IsBare self.now }
+    {
+        match self {
+            Node::Alias(_) => true,
+            Node::Scalar(_, _, _, _) => true,
+            Node::Seq(_, _, nodes) => nodes.is_empty(),
+            Node::Map(_, _, pairs) => pairs.is_empty(),
+        }
+    }
+
+    fn drop_bare(self)
+        requires { IsBare self }
+    {
+        match self {
+            Node::Alias(_) => {}
+            Node::Scalar(_, _, _, _) => {}
+            Node::Seq(_, _, nodes) => nodes.destroy_empty(),
+            Node::Map(_, _, pairs) => pairs.destroy_empty(),
+        }
+    }
+}
+
+fn turned_nodes(mut nodes: Vec<Node>, outer: Node) -> Option<(Node, Node)>
+    ensures { IfSome result (λ next. turns next.0 next.1 < turns outer (Node.Seq 0 None nodes)) }
+{
+    if nodes.is_empty() {
+        nodes.destroy_empty();
+        return outer.next_part();
+    }
+    let last = nodes.len() - 1;
+    let part = mem::replace(&mut nodes[last], outer);
+    Some((Node::Seq(0, None, nodes), part))
+}
+
+fn turned_pairs(mut pairs: Vec<(Node, Node)>, outer: Node) -> Option<(Node, Node)>
+    ensures { IfSome result (λ next. turns next.0 next.1 < turns outer (Node.Map 0 None pairs)) }
+{
+    if pairs.is_empty() {
+        pairs.destroy_empty();
+        return outer.next_part();
+    }
+    let last = pairs.len() - 1;
+    let part = mem::replace(&mut pairs[last].0, outer);
+    Some((Node::Map(0, None, pairs), part))
+}
+
+fn next_node(mut nodes: Vec<Node>) -> Option<(Node, Node)>
+    ensures { IfSome result (λ next. weight next.0 + weight next.1 ≤ weight (Node.Seq 0 None nodes)) }
+{
+    match nodes.pop() {
+        Some(part) => Some((Node::Seq(0, None, nodes), part)),
+        None => {
+            nodes.destroy_empty();
+            None
+        }
+    }
+}
+
+// A value with nodes inside leaves a leaf in its place.
+fn next_of_pairs(mut pairs: Vec<(Node, Node)>) -> Option<(Node, Node)>
+    ensures { IfSome result (λ next. weight next.0 + weight next.1 ≤ weight (Node.Map 0 None pairs)) }
+{
+    if pairs.is_empty() {
+        pairs.destroy_empty();
+        return None;
+    }
+    let last = pairs.len() - 1;
+    if !pairs[last].1.is_bare() {
+        let value = mem::replace(&mut pairs[last].1, Node::Alias(0));
+        return Some((Node::Map(0, None, pairs), value));
+    }
+    match pairs.pop() {
+        Some((key, value)) => {
+            value.drop_bare();
+            Some((Node::Map(0, None, pairs), key))
+        }
+        None => {
+            pairs.destroy_empty();
+            None
+        }
+    }
+}

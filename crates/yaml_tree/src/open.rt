@@ -1,0 +1,127 @@
+//! What has begun and not ended, of a stream, a document or a collection.
+ghost use Rattle.std.specs.Prelude.{◌≡◌, [], ◌∷◌};
+ghost use Rattle.saphyr_parser.specs.Events.{StreamStart, StreamEnd, DocumentEnd, SequenceEnd, MappingEnd};
+ghost use Rattle.yaml_tree.specs.Unloading.{node_events, document_events};
+ghost use Rattle.yaml_tree.specs.Nesting as nesting;
+
+use crate::document::Document;
+use crate::fault::TreeFault;
+use crate::node::Node;
+use saphyr_parser::Tag;
+use std::alloc::Global;
+
+/// A stream, a document or a collection with its parts that are complete.
+#[derive(Drop)]
+pub(crate) enum Open {
+    /// The stream has not begun.
+    Nothing,
+    Stream(Vec<Document>),
+    /// A document, whether a `---` begins it, and its node.
+    Document(bool, Option<Node>),
+    Sequence(usize, Option<Tag>, Vec<Node>),
+    /// A mapping, with its pairs and a key that has no value yet.
+    Mapping(usize, Option<Tag>, Vec<(Node, Node)>, Option<Node>),
+    /// The stream has ended.
+    Ended(Vec<Document>),
+}
+
+impl Open {
+    ghost use Rattle.yaml_tree.specs.OpenSeen.{place_of, Becomes, Ends, Completes};
+
+    // The stream that begins.
+    pub(crate) fn begun(self, alloc: Global) -> Result<Open, TreeFault>
+        ensures { Becomes result (StreamStart ∷ []) (nesting.behind_stream_start (place_of self)) self }
+    {
+        match self {
+            Open::Nothing => Ok(Open::Stream(Vec::new(alloc))),
+            _ => Err(TreeFault::NotFresh),
+        }
+    }
+
+    // The stream that ends.
+    pub(crate) fn ended(self) -> Result<Open, TreeFault>
+        ensures { Becomes result (StreamEnd ∷ []) (nesting.behind_stream_end (place_of self)) self }
+    {
+        match self {
+            Open::Stream(documents) => Ok(Open::Ended(documents)),
+            _ => Err(TreeFault::NotFresh),
+        }
+    }
+
+    // The same with one more document.
+    pub(crate) fn with_document(self, document: Document) -> Result<Open, TreeFault>
+        ensures { Becomes result (document_events document) (nesting.behind_document (place_of self)) self }
+    {
+        match self {
+            Open::Stream(mut documents) => match documents.push(document) {
+                Ok(()) => Ok(Open::Stream(documents)),
+                Err(_) => Err(TreeFault::OutOfMemory),
+            },
+            _ => Err(TreeFault::NotFresh),
+        }
+    }
+
+    // The same with one more node.
+    pub(crate) fn with_node(self, node: Node) -> Result<Open, TreeFault>
+        ensures { Becomes result (node_events node) (nesting.behind_node (place_of self)) self }
+    {
+        match self {
+            Open::Document(explicit, root) => match root {
+                None => Ok(Open::Document(explicit, Some(node))),
+                Some(_) => Err(TreeFault::NotFresh),
+            },
+            Open::Sequence(id, tag, mut nodes) => match nodes.push(node) {
+                Ok(()) => Ok(Open::Sequence(id, tag, nodes)),
+                Err(_) => Err(TreeFault::OutOfMemory),
+            },
+            Open::Mapping(id, tag, mut pairs, key) => match key {
+                None => Ok(Open::Mapping(id, tag, pairs, Some(node))),
+                Some(key) => match pairs.push((key, node)) {
+                    Ok(()) => Ok(Open::Mapping(id, tag, pairs, None)),
+                    Err(_) => Err(TreeFault::OutOfMemory),
+                },
+            },
+            _ => Err(TreeFault::NotFresh),
+        }
+    }
+
+    // The document that ends.
+    pub(crate) fn into_document(self) -> Result<Document, TreeFault>
+        ensures { Ends document_events result DocumentEnd nesting.BehindRoot self }
+    {
+        match self {
+            Open::Document(explicit, Some(root)) => Ok(Document { explicit, root }),
+            _ => Err(TreeFault::NotFresh),
+        }
+    }
+
+    // The sequence that ends.
+    pub(crate) fn into_sequence(self) -> Result<Node, TreeFault>
+        ensures { Ends node_events result SequenceEnd nesting.InSequence self }
+    {
+        match self {
+            Open::Sequence(id, tag, nodes) => Ok(Node::Seq(id, tag, nodes)),
+            _ => Err(TreeFault::NotFresh),
+        }
+    }
+
+    // The mapping that ends.
+    pub(crate) fn into_mapping(self) -> Result<Node, TreeFault>
+        ensures { Ends node_events result MappingEnd nesting.BeforeKey self }
+    {
+        match self {
+            Open::Mapping(id, tag, pairs, None) => Ok(Node::Map(id, tag, pairs)),
+            _ => Err(TreeFault::NotFresh),
+        }
+    }
+
+    // The documents of a stream that has ended.
+    pub(crate) fn into_documents(self) -> Result<Vec<Document>, TreeFault>
+        ensures { Completes result self }
+    {
+        match self {
+            Open::Ended(documents) => Ok(documents),
+            _ => Err(TreeFault::NotFresh),
+        }
+    }
+}
