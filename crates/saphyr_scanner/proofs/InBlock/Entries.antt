@@ -159,9 +159,11 @@ dash_step f m o h blank key ad deeper further e i =
     let all = ap pass_dash r.1 ∙ p.1 in
     let there : Moment = record n { cursor = cursor_at h.more (along (along m 1) (length (spaces h.n ++ h.comment))) false; deeper = p.0 } in
     let gone = ap (λ q. q >>= remove_key) all ∙ forgets g there refl in
-    let last = record (core_of g (record there { key = None; required = false })) { key_allowed = true } in
-    (p.0, rw h.first (ap (λ q. q >>= λ (d : Core). went (behind_start (is_further m.col c) m tokens.BlockSequenceStart (at_mark d.cursor.mark tokens.BlockEntry)) (record d { key_allowed = true })) gone
-    ∙ ap (λ (b : Bool). went (behind_start b m tokens.BlockSequenceStart (at_mark last.cursor.mark tokens.BlockEntry)) last) e))
+    let last = record (core_of g (record there { key = None; required = false })) { key_allowed = true } in (
+      p.0,
+      rw h.first (ap (λ q. q >>= λ (d : Core). went (behind_start (is_further m.col c) m tokens.BlockSequenceStart (at_mark d.cursor.mark tokens.BlockEntry)) (record d { key_allowed = true })) gone
+          ∙ ap (λ (b : Bool). went (behind_start b m tokens.BlockSequenceStart (at_mark last.cursor.mark tokens.BlockEntry)) last) e),
+    )
 
 -- what is put into the queue
 dash_places : Bool → Marker → Marker → List Place → List Place

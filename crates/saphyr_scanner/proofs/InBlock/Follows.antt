@@ -200,6 +200,8 @@ unfolding arrive drop_far_key
 lands_key f n ps m y here clean quiet near far =
     let p = passes f n m y here clean (inl quiet) in
     let there : Moment = moment_with n.required m y p.0 n.key (crosses n.cursor.rest || n.allowed) n.adjacent n.deeper in
-    let kept : drop_far_key (core_of f there) ≡ Ok (core_of f there) = rw near refl in
-    (p.0, ap (λ r. carried r (queue_of ps) >>= λ (t : State). Ok (unroll (Some t.core.cursor.mark.col) t.core.cursor.mark t)) (ap (λ r. r >>= drop_far_key) p.1 ∙ kept)
-    ∙ ap Ok (stays_open f n.required m y p.0 n.key (crosses n.cursor.rest || n.allowed) n.adjacent n.deeper ps far))
+    let kept : drop_far_key (core_of f there) ≡ Ok (core_of f there) = rw near refl in (
+      p.0,
+      ap (λ r. carried r (queue_of ps) >>= λ (t : State). Ok (unroll (Some t.core.cursor.mark.col) t.core.cursor.mark t)) (ap (λ r. r >>= drop_far_key) p.1 ∙ kept)
+          ∙ ap Ok (stays_open f n.required m y p.0 n.key (crosses n.cursor.rest || n.allowed) n.adjacent n.deeper ps far),
+    )

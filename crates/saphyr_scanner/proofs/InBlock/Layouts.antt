@@ -44,6 +44,9 @@ layout_scans readers reads limit leaves forest text same layout short =
     let clean = no_return_left (beside text) in
     let l = normal_shorter text in
     let run = layout_leads reads limit leaves forest n clean layout (omega (arith, l, short)) in
-    let all = handed_out readers limit n run.0 run.1 run.2 in
-    (run.3.0, run.3.1, scans_too run.3.0 (scan limit text) (scan limit n) same
-      (ap (λ (r : Remaining). r.refusal) all, ap (λ (r : Remaining). map (λ (t : Piece). t.kind) r.pieces) all ∙ run.3.2))
+    let all = handed_out readers limit n run.0 run.1 run.2 in (
+      run.3.0,
+      run.3.1,
+      scans_too run.3.0 (scan limit text) (scan limit n) same
+          (ap (λ (r : Remaining). r.refusal) all, ap (λ (r : Remaining). map (λ (t : Piece). t.kind) r.pieces) all ∙ run.3.2),
+    )

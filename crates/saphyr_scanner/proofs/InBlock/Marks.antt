@@ -97,9 +97,12 @@ question_step f m o blank key ad deeper further e h clean i =
     let p = passes_mark g m o blank ad r.0 h clean in
     let first = white_first o h in
     let last = core_of g (behind_question (past 0 (along m 1) o).0 (past 0 (along m 1) o).1 p.0 ad r.0) in
-    let begun = ap (λ q. q >>= λ (d : Core). block.pass_mark (record d { key_allowed = in_block d })) r.1 ∙ p.1 in
-    (p.0, r.0, rw first (ap (λ q. q >>= λ (d : Core). went (behind_start (is_further m.col c) m tokens.BlockMappingStart (up_to_here m tokens.Key d)) d) begun
-    ∙ ap (λ (b : Bool). went (behind_start b m tokens.BlockMappingStart (up_to_here m tokens.Key last)) last) e))
+    let begun = ap (λ q. q >>= λ (d : Core). block.pass_mark (record d { key_allowed = in_block d })) r.1 ∙ p.1 in (
+      p.0,
+      r.0,
+      rw first (ap (λ q. q >>= λ (d : Core). went (behind_start (is_further m.col c) m tokens.BlockMappingStart (up_to_here m tokens.Key d)) d) begun
+          ∙ ap (λ (b : Bool). went (behind_start b m tokens.BlockMappingStart (up_to_here m tokens.Key last)) last) e),
+    )
 
 -- what is put into the queue
 mark_places : Bool → Marker → Marker → List Place → List Place

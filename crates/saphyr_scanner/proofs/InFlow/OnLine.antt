@@ -211,10 +211,15 @@ mutual
   others_lower : (i j : ℕ) → j ≤ i → (room : ℕ) (nodes : Nodes) (t : List ℕ) → IsOnLine t → AreOtherItems room nodes i t → AreOtherItems room nodes j t
   others_lower i j low room NoNode t line h = last_lowers i j t line h
   others_lower i j low room (MoreNodes node nodes) t line (comma, item, others, c, k, h, e) =
-      let behind = back_on_line comma (item ++ others) t e line in
-      (comma, item, others, comma_lowers i j comma (front_on_line comma (item ++ others) t e line) c,
-      item_lowers i j room node (node_lowers i j low room node true) (pair_item_lowers i j low room node) item (front_on_line item others (item ++ others) refl behind) k,
-      others_lower i j low room nodes others (back_on_line item others (item ++ others) refl behind) h, e)
+      let behind = back_on_line comma (item ++ others) t e line in (
+        comma,
+        item,
+        others,
+        comma_lowers i j comma (front_on_line comma (item ++ others) t e line) c,
+        item_lowers i j room node (node_lowers i j low room node true) (pair_item_lowers i j low room node) item (front_on_line item others (item ++ others) refl behind) k,
+        others_lower i j low room nodes others (back_on_line item others (item ++ others) refl behind) h,
+        e,
+      )
 
   pair_item_lowers : (i j : ℕ) → j ≤ i → (room : ℕ) (node : Node) (t : List ℕ) → IsOnLine t → IsPairItem room node i t → IsPairItem room node j t
   pair_item_lowers i j low room (Map p (MorePairs key value NoPair)) t line h =
@@ -227,14 +232,23 @@ mutual
 
   pairs_lower : (i j : ℕ) → j ≤ i → (room : ℕ) (pairs : Pairs) (t : List ℕ) → IsOnLine t → AreFlowPairs room pairs i t → AreFlowPairs room pairs j t
   pairs_lower i j low room NoPair t line h = h
-  pairs_lower i j low room (MorePairs key value pairs) t line (pair, others, k, h, e) =
-      (pair, others, pair_lowers i j key value (IsFlowNode room key true i) (IsFlowNode room key true j) (IsFlowNode room value true i) (IsFlowNode room value true j) (node_lowers i j low room key true) (node_lowers i j low room value true) pair (front_on_line pair others t e line) k,
-      other_pairs_lower i j low room pairs others (back_on_line pair others t e line) h, e)
+  pairs_lower i j low room (MorePairs key value pairs) t line (pair, others, k, h, e) = (
+    pair,
+    others,
+    pair_lowers i j key value (IsFlowNode room key true i) (IsFlowNode room key true j) (IsFlowNode room value true i) (IsFlowNode room value true j) (node_lowers i j low room key true) (node_lowers i j low room value true) pair (front_on_line pair others t e line) k,
+    other_pairs_lower i j low room pairs others (back_on_line pair others t e line) h,
+    e,
+  )
 
   other_pairs_lower : (i j : ℕ) → j ≤ i → (room : ℕ) (pairs : Pairs) (t : List ℕ) → IsOnLine t → AreOtherFlowPairs room pairs i t → AreOtherFlowPairs room pairs j t
   other_pairs_lower i j low room NoPair t line h = last_lowers i j t line h
   other_pairs_lower i j low room (MorePairs key value pairs) t line (comma, pair, others, c, k, h, e) =
-      let behind = back_on_line comma (pair ++ others) t e line in
-      (comma, pair, others, comma_lowers i j comma (front_on_line comma (pair ++ others) t e line) c,
-      pair_lowers i j key value (IsFlowNode room key true i) (IsFlowNode room key true j) (IsFlowNode room value true i) (IsFlowNode room value true j) (node_lowers i j low room key true) (node_lowers i j low room value true) pair (front_on_line pair others (pair ++ others) refl behind) k,
-      other_pairs_lower i j low room pairs others (back_on_line pair others (pair ++ others) refl behind) h, e)
+      let behind = back_on_line comma (pair ++ others) t e line in (
+        comma,
+        pair,
+        others,
+        comma_lowers i j comma (front_on_line comma (pair ++ others) t e line) c,
+        pair_lowers i j key value (IsFlowNode room key true i) (IsFlowNode room key true j) (IsFlowNode room value true i) (IsFlowNode room value true j) (node_lowers i j low room key true) (node_lowers i j low room value true) pair (front_on_line pair others (pair ++ others) refl behind) k,
+        other_pairs_lower i j low room pairs others (back_on_line pair others (pair ++ others) refl behind) h,
+        e,
+      )
