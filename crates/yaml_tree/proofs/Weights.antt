@@ -138,6 +138,23 @@ taken_node part old new e =
     let last = sum_by-cons weight part [] in
     omega arith
 
+-- the last part of a collection is left alone
+pub last_node : (part : Node) (old new : Vec Node Global) → old.items ≡ new.items ++ part ∷ []
+    → weight part + weight (Alias 0) ≤ weight (Seq 0 None old)
+last_node part old new e =
+    let taken = taken_node part old new e in
+    let shell = weight-Seq 0 None new in
+    let leaf = weight-Alias 0 in
+    omega arith
+
+pub last_key : (key value : Node) (old new : Vec (Node × Node) Global) → old.items ≡ new.items ++ (key, value) ∷ []
+    → weight key + weight (Alias 0) ≤ weight (Map 0 None old)
+last_key key value old new e =
+    let taken = taken_key key value old new e in
+    let shell = weight-Map 0 None new in
+    let leaf = weight-Alias 0 in
+    omega arith
+
 -- ## Bare nodes
 
 no_node : (nodes : List Node) → sum_by weight nodes ≤ 0 → length nodes ≡ 0

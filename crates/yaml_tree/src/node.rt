@@ -22,7 +22,7 @@ pub enum Node {
 }
 
 impl Drop for Node {
-    // The collections around a part hang in one another, the outer one in a place of the inner one. So a
+    // The collections around a part hang in one another, each in the first place of the next inner one. So a
     // deep tree needs no more stack than a flat one, and no memory.
     fn drop(self) {
         let mut outer = Node::Alias(0);
@@ -37,7 +37,7 @@ impl Drop for Node {
 }
 
 impl Node {
-    // What is left of the two once a leaf or an empty collection is dropped, or the last part of a
+    // What is left of the two once a leaf or an empty collection is dropped, or the first part of a
     // collection has changed places with what is outer.
     fn turned(self, outer: Node) -> Option<(Node, Node)>
         ensures { IfSome result (λ next. turns next.0 next.1 < turns outer self) }
@@ -50,7 +50,7 @@ impl Node {
         }
     }
 
-    // A part to drop next, and what else is left.
+    // What is outer then, and a part to drop next. Where only what is outer is left, that is all.
     fn next_part(self) -> Option<(Node, Node)>
         ensures { IfSome result (λ next. weight next.0 + weight next.1 ≤ weight self) }
     {
@@ -93,8 +93,7 @@ fn turned_nodes(mut nodes: Vec<Node>, outer: Node) -> Option<(Node, Node)>
         nodes.destroy_empty();
         return outer.next_part();
     }
-    let last = nodes.len() - 1;
-    let part = mem::replace(&mut nodes[last], outer);
+    let part = mem::replace(&mut nodes[0], outer);
     Some((Node::Seq(0, None, nodes), part))
 }
 
@@ -105,8 +104,7 @@ fn turned_pairs(mut pairs: Vec<(Node, Node)>, outer: Node) -> Option<(Node, Node
         pairs.destroy_empty();
         return outer.next_part();
     }
-    let last = pairs.len() - 1;
-    let part = mem::replace(&mut pairs[last].0, outer);
+    let part = mem::replace(&mut pairs[0].0, outer);
     Some((Node::Map(0, None, pairs), part))
 }
 
@@ -114,6 +112,10 @@ fn next_node(mut nodes: Vec<Node>) -> Option<(Node, Node)>
     ensures { IfSome result (λ next. weight next.0 + weight next.1 ≤ weight (Node.Seq 0 None nodes)) }
 {
     match nodes.pop() {
+        Some(outer) if nodes.is_empty() => {
+            nodes.destroy_empty();
+            Some((outer, Node::Alias(0)))
+        }
         Some(part) => Some((Node::Seq(0, None, nodes), part)),
         None => {
             nodes.destroy_empty();
@@ -138,6 +140,10 @@ fn next_of_pairs(mut pairs: Vec<(Node, Node)>) -> Option<(Node, Node)>
     match pairs.pop() {
         Some((key, value)) => {
             value.drop_bare();
+            if pairs.is_empty() {
+                pairs.destroy_empty();
+                return Some((key, Node::Alias(0)));
+            }
             Some((Node::Map(0, None, pairs), key))
         }
         None => {

@@ -69,7 +69,7 @@ fn aliases_are_not_followed(rt: HostRuntime) -> Result<(), Fail> {
 #[test]
 fn documents_and_mappings(rt: HostRuntime) -> Result<(), Fail> {
     let alloc = rt.alloc();
-    let documents = load(alloc, "? {}\n--- &r\na:\n", limits(4, 2))?;
+    let documents = load(alloc, "? {}\n--- &r\na:\n", limits(6, 2))?;
     let empty = Node::Map(0, None, Vec::new(alloc));
     let pairs = vec![in alloc; (empty, plain(alloc, "", 0)?)]?;
     let first = Document {

@@ -1,5 +1,5 @@
 use Rattle.std.proofs.Common.{◌-◌, ◌<◌, length, arith, vec_len}
-use Rattle.yaml_tree.proofs.Weights.{taken_value, taken_key, nonzero, heavy, read_twice}
+use Rattle.yaml_tree.proofs.Weights.{taken_value, taken_key, last_key, nonzero, heavy, read_twice}
 use Rattle.yaml_tree.proofs.node.next_of_pairs.Goals as goal
 
 pub returns-then-not-is_bare : goal.returns-then-not-is_bare
@@ -11,5 +11,8 @@ returns-then-not-is_bare c =
     (taken_value c.index_mut.result.now _ c.args.pairs _ below c.index_mut.ensures.value
     (heavy _ _ c.if-not-is_bare.ensures.1 same))
 
-pub returns-in-Some : goal.returns-in-Some
-returns-in-Some c = taken_key c.in-Some.key c.in-Some.value c.args.pairs c.pop.new.self c.in-Some.ensures.items
+pub returns-then-is_empty-2 : goal.returns-then-is_empty-2
+returns-then-is_empty-2 c = last_key c.in-Some.key c.in-Some.value c.args.pairs c.pop.new.self c.in-Some.ensures.items
+
+pub returns-else-is_empty-2 : goal.returns-else-is_empty-2
+returns-else-is_empty-2 c = taken_key c.in-Some.key c.in-Some.value c.args.pairs c.pop.new.self c.in-Some.ensures.items
