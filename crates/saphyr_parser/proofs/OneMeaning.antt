@@ -1,6 +1,6 @@
 -- A text that a parser reads has one meaning: the parser's one list is the events of each of its forests.
 use Rattle.std.proofs.Common.{◌≡◌, ◌≤◌, ℕ, List, length, refl, sym, ◌∙◌}
-use Rattle.saphyr_scanner.specs.Layout.{IsFlowLayoutText, most_open}
+use Rattle.saphyr_scanner.specs.Layout.{most_open}
 use Rattle.saphyr_scanner.specs.Remaining.{scan}
 use Rattle.saphyr_parser.specs.Complete.{IsShallowJson}
 use Rattle.saphyr_parser.specs.Cursor.{Cursor, at_start}

@@ -3,7 +3,6 @@ use Rattle.saphyr_scanner.specs.Layout.{IsFlowLayoutText, IsLayoutText, most_ope
 use Rattle.saphyr_scanner.specs.Remaining.{scan}
 use Rattle.saphyr_parser.specs.Complete.{IsShallowJson}
 use Rattle.saphyr_parser.specs.Cursor.{at_start}
-use Rattle.saphyr_parser.specs.Premises.{ReadsEach}
 use Rattle.saphyr_parser.proofs.OneMeaning.{mean_the_same, reads_json}
 use Rattle.saphyr_parser.proofs.ReadsEachText.{reads_text}
 use Rattle.saphyr_parser.proofs.WithinLimit.{not_long}
