@@ -1,5 +1,5 @@
 -- The brackets and braces of a text in flow style are read.
-use Rattle.std.proofs.Common.{◌≡◌, ℕ, ◌+◌, ◌<◌, ◌≤◌, Bool, true, false, List, [], ◌∷◌, ◌++◌, length, slice_index, Result, Ok, Err, refl, sym, ap, ◌∙◌, arith, subst, append_assoc, cond, IsTrue}
+use Rattle.std.proofs.Common.{◌≡◌, ℕ, ◌<◌, ◌≤◌, Bool, true, false, List, [], ◌∷◌, ◌++◌, length, slice_index, Result, Ok, Err, refl, sym, ap, ◌∙◌, arith, subst, append_assoc, cond, IsTrue}
 use Rattle.std.specs.Prelude.{◌&&◌, ◌==◌, Option, None}
 use Rattle.std.specs.List.{list_all}
 use Rattle.saphyr_input.specs.Classes.{is_blank, is_z, line_feed}

@@ -25,7 +25,7 @@ use Rattle.saphyr_scanner.specs.Fetch.{fetch_here}
 use Rattle.saphyr_scanner.proofs.Leads.{Leads}
 use Rattle.saphyr_scanner.proofs.JsonStates.{cursor_at, core_at, state_at}
 use Rattle.saphyr_scanner.proofs.JsonLeads.{here, finished}
-use Rattle.saphyr_scanner.proofs.JsonMarks.{chain, kinds, kinds_append}
+use Rattle.saphyr_scanner.proofs.JsonMarks.{kinds, kinds_append}
 use Rattle.saphyr_scanner.proofs.FlowStates.{moved, past}
 use Rattle.saphyr_scanner.proofs.FlowGaps.{past_count}
 use Rattle.saphyr_scanner.proofs.FlowSeparates.{separates_rest}

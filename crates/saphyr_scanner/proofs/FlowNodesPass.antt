@@ -1,6 +1,6 @@
 -- The scanner takes a node in flow style and makes its tokens.
 use Rattle.std.proofs.Common.{◌≡◌, ℕ, ◌+◌, ◌<◌, ◌≤◌, Bool, true, false, List, [], ◌∷◌, ◌++◌, length, refl, sym, ap, ◌∙◌, arith, subst, append_assoc, append-nil, inl}
-use Rattle.std.specs.Prelude.{◌&&◌, Option}
+use Rattle.std.specs.Prelude.{Option}
 use Rattle.saphyr_scalar.specs.declared.scalar.position.Marker.{Marker}
 use Rattle.saphyr_scalar.specs.Cursor.{Cursor}
 use Rattle.saphyr_scalar.specs.Spaces.{IsSeparation}

@@ -1,6 +1,6 @@
 -- A step outside flow that notes a comment.
 use Rattle.std.proofs.Common.{◌≡◌, ℕ, ◌≤◌, Bool, true, false, List, length, slice_index, Ok, refl, ap, ◌∙◌}
-use Rattle.std.specs.Prelude.{Option, None}
+use Rattle.std.specs.Prelude.{Option}
 use Rattle.saphyr_scalar.specs.declared.scalar.position.Marker.{Marker}
 use Rattle.saphyr_scalar.specs.Cursor.{Cursor, ◌>>=◌}
 use Rattle.saphyr_scanner.specs.declared.engine.level.Context.TheVariants as context

@@ -14,7 +14,7 @@ use Rattle.saphyr_scanner.specs.TokenGrammar as grammar
 use Rattle.saphyr_scanner.specs.State.{State}
 use Rattle.saphyr_scanner.proofs.Leads.{Leads}
 use Rattle.saphyr_scanner.proofs.JsonStates.{state_at}
-use Rattle.saphyr_scanner.proofs.JsonMarks.{chain, kinds, kinds_append}
+use Rattle.saphyr_scanner.proofs.JsonMarks.{kinds, kinds_append}
 use Rattle.saphyr_scanner.proofs.InFlow.States.{alone}
 use Rattle.saphyr_scanner.proofs.InFlow.States as in_flow
 use Rattle.saphyr_scanner.proofs.FlowStates.{EndsDocument, moved, past, marks_line, IsClear, Fits, IsBehindRoot, noted, ClosesNodes}

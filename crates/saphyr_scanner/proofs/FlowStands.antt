@@ -1,5 +1,5 @@
 -- The places between the documents of a text, and a step from one to the next.
-use Rattle.std.proofs.Common.{◌≡◌, ℕ, ◌+◌, ◌≤◌, Bool, true, false, List, [], ◌∷◌, ◌++◌, length, slice_index, Ok, IsTrue, ◌⊎◌, inl, inr, refl, sym, ap, ◌∙◌, arith, subst}
+use Rattle.std.proofs.Common.{◌≡◌, ℕ, ◌+◌, ◌≤◌, Bool, true, false, List, [], ◌∷◌, ◌++◌, length, slice_index, Ok, ◌⊎◌, inl, inr, refl, sym, ap, ◌∙◌, arith, subst}
 use Rattle.std.specs.Prelude.{◌-◌, ◌||◌, ◌&&◌, ◌==◌, not, nat_lt, nat_le, Option, Some, None, if◌then◌else◌}
 use Rattle.std.proofs.lemmas.Bool.Decides.{nat_tests}
 use Rattle.saphyr_input.specs.Classes.{is_blank, is_z}
@@ -18,7 +18,7 @@ use Rattle.saphyr_scanner.specs.Unrolling.{unroll}
 use Rattle.saphyr_scanner.specs.Fetch.{fetch_here, arrive, fetch}
 use Rattle.saphyr_scanner.proofs.Leads.{Leads}
 use Rattle.saphyr_scanner.proofs.JsonStates.{cursor_at, core_at, state_at, queue_of, drops_key, none_unrolls, comes}
-use Rattle.saphyr_scanner.proofs.JsonMarks.{chain, kinds, kinds_append}
+use Rattle.saphyr_scanner.proofs.JsonMarks.{kinds, kinds_append}
 use Rattle.saphyr_scanner.proofs.InFlow.States.{alone}
 use Rattle.saphyr_scanner.proofs.InBlock.States.{crosses, Follows}
 use Rattle.saphyr_scanner.proofs.InBlock.Follows.{goes_on}

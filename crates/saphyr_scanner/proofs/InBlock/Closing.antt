@@ -1,6 +1,6 @@
 -- A block collection ends before a token to its left, and at the end of its document.
-use Rattle.std.proofs.Common.{◌≡◌, ℕ, ◌+◌, ◌<◌, ◌≤◌, Bool, true, false, List, [], ◌∷◌, ◌++◌, length, slice_index, refl, sym, ap, ◌∙◌, arith, subst, Ok, ◌⊎◌, inl, inr, IsTrue}
-use Rattle.std.specs.Prelude.{Result, ◌-◌, ◌||◌, ◌&&◌, ◌==◌, not, nat_le, nat_lt, Option, Some, None, if◌then◌else◌}
+use Rattle.std.proofs.Common.{◌≡◌, ℕ, ◌+◌, ◌<◌, ◌≤◌, Bool, true, false, List, [], ◌∷◌, ◌++◌, slice_index, refl, sym, ap, ◌∙◌, arith, subst, Ok, ◌⊎◌, inl, inr, IsTrue}
+use Rattle.std.specs.Prelude.{Result, ◌-◌, ◌||◌, ◌&&◌, ◌==◌, nat_le, nat_lt, Option, Some, None, if◌then◌else◌}
 use Rattle.std.proofs.lemmas.Bool.Decides.{nat_tests}
 use Rattle.saphyr_input.specs.Classes.{is_z, is_bom, is_blank_or_breakz}
 use Rattle.saphyr_input.specs.Places.{is_document_start, is_document_end, is_document_indicator}
@@ -8,7 +8,7 @@ use Rattle.saphyr_scalar.specs.declared.scalar.position.Marker.{Marker}
 use Rattle.saphyr_scalar.specs.declared.scalar.fault.Refusal.{Refusal}
 use Rattle.saphyr_scalar.specs.Cursor.{◌>>=◌}
 use Rattle.saphyr_scanner.specs.Passing.{separate}
-use Rattle.saphyr_scanner.specs.Core.{Candidate, is_too_far}
+use Rattle.saphyr_scanner.specs.Core.{Candidate}
 use Rattle.saphyr_scanner.specs.Document as document
 use Rattle.saphyr_scanner.specs.Document.{end_mark}
 use Rattle.saphyr_scanner.specs.Queue.{Place, closed, empty_piece}
@@ -16,9 +16,9 @@ use Rattle.saphyr_scanner.specs.State.{State, separated}
 use Rattle.saphyr_scanner.specs.Tokens as tokens
 use Rattle.saphyr_scanner.specs.Tokens.{Kind}
 use Rattle.saphyr_scanner.specs.Unrolling.{unroll}
-use Rattle.saphyr_scanner.specs.Fetch.{fetch, fetch_here, arrive}
+use Rattle.saphyr_scanner.specs.Fetch.{fetch, fetch_here}
 use Rattle.saphyr_scanner.proofs.JsonMarks.{kinds, kinds_append}
-use Rattle.saphyr_scanner.proofs.InBlock.States.{Frame, at_column, moment_at, core_of, state_of, IsStop, EndsDocument, Follows, At}
+use Rattle.saphyr_scanner.proofs.InBlock.States.{Frame, at_column, moment_at, state_of, EndsDocument, At}
 use Rattle.saphyr_scanner.proofs.InBlock.Follows.{goes_alike, arrives_at, stays_open}
 
 -- the token that ends a collection

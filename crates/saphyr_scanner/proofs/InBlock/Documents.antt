@@ -1,6 +1,6 @@
 -- What stands behind a document, and a document and what parts it from the next are read (YAML 1.2.2, chapter 9).
-use Rattle.std.proofs.Common.{◌≡◌, ℕ, zero, suc, ◌+◌, ◌^◌, ◌<◌, ◌≤◌, Bool, true, false, List, [], ◌∷◌, ◌++◌, length, slice_index, refl, sym, ap, ◌∙◌, arith, subst, append_assoc, append-nil, ◌⊎◌, inl, inr, IsTrue, IsFalse, Ok}
-use Rattle.std.specs.Prelude.{map, ◌||◌, ◌&&◌, ◌==◌, not, nat_lt, nat_le, Option, Some, None, if◌then◌else◌}
+use Rattle.std.proofs.Common.{◌≡◌, ℕ, ◌+◌, ◌≤◌, Bool, true, false, List, [], ◌∷◌, ◌++◌, length, slice_index, refl, sym, ap, ◌∙◌, arith, subst, append_assoc, append-nil, ◌⊎◌, inl, inr, IsTrue}
+use Rattle.std.specs.Prelude.{map, ◌||◌, ◌&&◌, ◌==◌, not, nat_lt, nat_le, Option, None}
 use Rattle.std.proofs.lemmas.Bool.Decides.{nat_tests}
 use Rattle.saphyr_input.specs.Classes.{is_blank, is_break, is_blank_or_breakz, is_yaml_non_break, carriage_return, line_feed}
 use Rattle.saphyr_input.specs.Places.{is_document_start, is_document_indicator}

@@ -1,28 +1,27 @@
 -- The `-` of an entry of a block sequence is read (YAML 1.2.2, 8.2.1).
-use Rattle.std.proofs.Common.{◌≡◌, ◌≢◌, ℕ, zero, suc, ◌+◌, ◌<◌, ◌≤◌, Bool, true, false, List, [], ◌∷◌, ◌++◌, length, slice_index, refl, sym, ap, ◌∙◌, arith, subst, append_assoc, append-nil, Ok, ◌⊎◌, inl, inr, IsTrue}
-use Rattle.std.specs.Prelude.{◌-◌, ◌||◌, ◌&&◌, ◌==◌, not, nat_le, nat_lt, take, Option, Some, None, Result, if◌then◌else◌}
+use Rattle.std.proofs.Common.{◌≡◌, ℕ, zero, suc, ◌+◌, ◌≤◌, Bool, true, false, List, [], ◌∷◌, ◌++◌, length, slice_index, refl, sym, ap, ◌∙◌, arith, append_assoc, Ok, ◌⊎◌, inl}
+use Rattle.std.specs.Prelude.{◌||◌, ◌==◌, nat_le, nat_lt, take, Option, None, if◌then◌else◌}
 use Rattle.std.specs.List.{prefix_len, list_any}
 use Rattle.std.proofs.lemmas.Bool.Decides.{nat_tests}
 use Rattle.std.proofs.lemmas.List.{length-append}
-use Rattle.saphyr_input.specs.Classes.{is_z, is_bom, is_blank, is_break, is_breakz, is_flow, is_blank_or_breakz, is_yaml_non_break}
+use Rattle.saphyr_input.specs.Classes.{is_blank, is_break, is_flow, is_blank_or_breakz}
 use Rattle.saphyr_input.specs.Places.{is_document_indicator}
 use Rattle.saphyr_input.specs.Separation.{found_blanks, found_tabs}
 use Rattle.saphyr_input.specs.declared.input.SkipTabs.{SkipTabs}
 use Rattle.saphyr_input.specs.declared.input.SkipTabs.TheVariants.{Yes}
 use Rattle.saphyr_scalar.specs.declared.scalar.position.Marker.{Marker}
-use Rattle.saphyr_scalar.specs.declared.scalar.fault.Refusal.{Refusal}
 use Rattle.saphyr_scalar.specs.BlockRead.{spaces}
 use Rattle.saphyr_scalar.specs.Cursor.{Cursor, ◌>>=◌, along, separation}
 use Rattle.saphyr_scalar.specs.Spaces.{IsCommentBehind}
-use Rattle.saphyr_scanner.specs.Core.{least_column, Core, Candidate, Action, drop_far_key, went, at_mark, perform, is_too_far, is_further, roll, go_deeper, remove_key}
-use Rattle.saphyr_scanner.specs.Block.{entry, next_entry, pass_dash, deepen, refuse_tab, is_dash_next, behind_start}
-use Rattle.saphyr_scanner.specs.Passing.{separate, pass_on, with_cursor}
+use Rattle.saphyr_scanner.specs.Core.{least_column, Core, Candidate, went, at_mark, perform, is_further, roll, remove_key}
+use Rattle.saphyr_scanner.specs.Block.{entry, next_entry, pass_dash, deepen, refuse_tab, behind_start}
+use Rattle.saphyr_scanner.specs.Passing.{pass_on, with_cursor}
 use Rattle.saphyr_scanner.specs.Queue.{next, Place, Queue, closed, empty_piece}
 use Rattle.saphyr_scanner.specs.State.{State, acted}
 use Rattle.saphyr_scanner.specs.Tokens as tokens
 use Rattle.saphyr_scanner.specs.Tokens.{Kind}
-use Rattle.saphyr_scanner.specs.Fetch.{fetch, fetch_here, fetch_within, within, settled, content, step, arrive}
-use Rattle.saphyr_scanner.proofs.Leads.{Leads, stay, onward}
+use Rattle.saphyr_scanner.specs.Fetch.{fetch, fetch_here, content, step}
+use Rattle.saphyr_scanner.proofs.Leads.{Leads}
 use Rattle.saphyr_scanner.proofs.JsonStates.{queue_of, cursor_at, and_false}
 use Rattle.saphyr_scanner.proofs.JsonMarks.{kinds, kinds_append}
 use Rattle.saphyr_scanner.proofs.FlowStates.{past}
@@ -30,7 +29,7 @@ use Rattle.saphyr_scanner.proofs.FlowGaps.{past_low}
 use Rattle.saphyr_scanner.specs.BlockNodes as layout
 use Rattle.saphyr_scanner.specs.BlockNodes.{Place as Position}
 use Rattle.saphyr_scanner.proofs.FlowFillers.{spaces_are_blank}
-use Rattle.saphyr_scanner.proofs.FlowSeparates.{StopsLine, blank_stops, line_separated, front_moved}
+use Rattle.saphyr_scanner.proofs.FlowSeparates.{StopsLine, blank_stops, line_separated}
 use Rattle.saphyr_scanner.proofs.InBlock.States.{Frame, Moment, at_column, moment_at, core_of, state_of, tabbed, IsUntabbed, crosses, is_compact, IsPlaced, At, Before}
 use Rattle.saphyr_scanner.proofs.InBlock.Gaps.{past_stops}
 use Rattle.saphyr_scanner.proofs.InBlock.Skips.{has_tab}

@@ -1,14 +1,12 @@
 -- Runs at block level, told at the next token.
-use Rattle.std.proofs.Common.{◌≡◌, ℕ, ◌+◌, ◌≤◌, Bool, true, false, List, [], ◌∷◌, ◌++◌, slice_index, refl, sym, ap, ◌∙◌, arith, subst, Ok, Err, ◌⊎◌, inl, inr}
-use Rattle.std.specs.Prelude.{◌-◌, ◌||◌, ◌&&◌, ◌==◌, not, nat_le, nat_lt, Option, Some, None, Result, if◌then◌else◌}
+use Rattle.std.proofs.Common.{◌≡◌, ℕ, ◌+◌, ◌≤◌, Bool, true, false, List, [], ◌∷◌, slice_index, refl, sym, ap, ◌∙◌, arith, subst, Ok, ◌⊎◌, inl, inr}
+use Rattle.std.specs.Prelude.{◌-◌, ◌||◌, ◌&&◌, ◌==◌, nat_le, nat_lt, Option, Some, None, if◌then◌else◌}
 use Rattle.std.proofs.lemmas.Bool.Decides.{nat_tests}
 use Rattle.saphyr_input.specs.Classes.{is_z, is_bom}
 use Rattle.saphyr_input.specs.Places.{is_document_start, is_document_end, is_document_indicator}
 use Rattle.saphyr_scalar.specs.declared.scalar.position.Marker.{Marker}
-use Rattle.saphyr_scalar.specs.declared.scalar.fault.Refusal.{Refusal}
-use Rattle.saphyr_scalar.specs.Cursor.{Cursor, ◌>>=◌}
-use Rattle.saphyr_scanner.specs.Core.{Core, Candidate, is_too_far, drop_far_key, least_column, forget_key, in_block}
-use Rattle.saphyr_scanner.specs.Gap as gap
+use Rattle.saphyr_scalar.specs.Cursor.{◌>>=◌}
+use Rattle.saphyr_scanner.specs.Core.{Core, Candidate, is_too_far, drop_far_key, least_column}
 use Rattle.saphyr_scanner.specs.Gap.{Passed}
 use Rattle.saphyr_scanner.specs.Passing.{pass_gap, check_comment, goes_on_behind, behind_gap, intercepts}
 use Rattle.saphyr_scanner.specs.Queue.{Place}

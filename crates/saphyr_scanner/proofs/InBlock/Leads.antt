@@ -1,24 +1,22 @@
 -- What stands before a block collection is passed: its properties, or nothing, and the way to its first entry.
-use Rattle.std.proofs.Common.{◌≡◌, ℕ, zero, suc, ◌+◌, ◌<◌, ◌≤◌, Bool, true, false, List, [], ◌∷◌, ◌++◌, length, slice_index, refl, sym, ap, ◌∙◌, arith, subst, append_assoc, append-nil, ◌⊎◌, inl, inr, IsTrue, IsFalse}
-use Rattle.std.specs.Prelude.{◌||◌, ◌==◌, None}
+use Rattle.std.proofs.Common.{◌≡◌, ℕ, ◌+◌, ◌≤◌, Bool, true, false, List, [], ◌∷◌, ◌++◌, refl, sym, ap, ◌∙◌, arith, subst, append_assoc, append-nil, inl, inr}
+use Rattle.std.specs.Prelude.{◌||◌}
 use Rattle.saphyr_scalar.specs.declared.scalar.position.Marker.{Marker}
 use Rattle.saphyr_scalar.specs.BlockRead.{spaces}
-use Rattle.saphyr_scalar.specs.Cursor.{along}
 use Rattle.saphyr_scalar.specs.Spaces.{IsLineEnd, IsFiller}
 use Rattle.saphyr_scanner.specs.State.{State}
 use Rattle.saphyr_scanner.specs.Tokens.{Kind}
 use Rattle.saphyr_scanner.specs.TokenGrammar as grammar
 use Rattle.saphyr_scanner.specs.Forest.{Properties, no_properties}
-use Rattle.saphyr_scanner.specs.FlowNodes.{IsProperties}
-use Rattle.saphyr_scanner.specs.BlockNodes.{Place, BehindDash, BehindMark, BehindKey, BehindMarker, AtStart, indent_at, sequence_indent_at, AreSpacesAt, IsCollectionFront, IsNextLineLead, IsCompactLead, IsLead}
-use Rattle.saphyr_scanner.proofs.FlowStates.{IsInk, moved, past}
+use Rattle.saphyr_scanner.specs.BlockNodes.{Place, BehindDash, BehindMark, BehindKey, BehindMarker, AtStart, indent_at, sequence_indent_at, IsLead}
+use Rattle.saphyr_scanner.proofs.FlowStates.{moved, past}
 use Rattle.saphyr_scanner.proofs.FlowPlaces.{moved_append}
 use Rattle.saphyr_scanner.proofs.InBlock.Lines.{Fits, fits_so}
 use Rattle.saphyr_scanner.proofs.FlowInks.{BeginsInk}
 use Rattle.saphyr_scanner.proofs.InBlock.States.{Frame, crosses, is_compact, IsPlaced, At, Before}
 use Rattle.saphyr_scanner.proofs.InBlock.Skips.{IsSkipped, skipped_append, filler_skipped, spaces_skipped, line_end_skipped, line_end_crosses}
-use Rattle.saphyr_scanner.proofs.InBlock.Statements.{Leaves, IsNextLineText, PropertiesRead}
-use Rattle.saphyr_scanner.proofs.InBlock.Texts.{reaches, spaces_moved, indentation_col, eol_ends}
+use Rattle.saphyr_scanner.proofs.InBlock.Statements.{Leaves, IsNextLineText}
+use Rattle.saphyr_scanner.proofs.InBlock.Texts.{reaches, spaces_moved, indentation_col}
 
 -- What stands before a collection at a column was read, up to its first token.
 pub record LeadRead (limit : ℕ) (start : State) (p : Properties) (f : Frame) (m : Marker) (y : List ℕ) (ts : List Kind) : Type 0 where

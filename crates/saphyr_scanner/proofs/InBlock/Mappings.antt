@@ -1,14 +1,11 @@
 -- The pairs of a block mapping are read (YAML 1.2.2, 8.2.2).
-use Rattle.std.proofs.Common.{◌≡◌, ℕ, zero, suc, ◌+◌, ◌<◌, ◌≤◌, Bool, true, false, List, [], ◌∷◌, ◌++◌, length, slice_index, refl, sym, ap, ◌∙◌, arith, subst, append_assoc, append-nil, ◌⊎◌, inl, inr, IsTrue, IsFalse}
-use Rattle.std.specs.Prelude.{◌≢◌, ◌==◌, ◌&&◌, nat_le, None, if◌then◌else◌}
+use Rattle.std.proofs.Common.{◌≡◌, ℕ, suc, ◌+◌, ◌≤◌, Bool, true, false, List, [], ◌∷◌, ◌++◌, length, refl, sym, ap, ◌∙◌, arith, subst, append_assoc, append-nil, ◌⊎◌, inl, inr}
+use Rattle.std.specs.Prelude.{◌≢◌, ◌==◌, ◌&&◌, nat_le, if◌then◌else◌}
 use Rattle.std.proofs.lemmas.Bool.Decides.{nat_tests}
-use Rattle.std.proofs.lemmas.List.{length-append}
-use Rattle.saphyr_input.specs.Classes.{is_blank_or_breakz}
 use Rattle.saphyr_input.specs.Places.{is_document_indicator}
 use Rattle.saphyr_scalar.specs.declared.scalar.position.Marker.{Marker}
 use Rattle.saphyr_scalar.specs.BlockRead.{spaces}
 use Rattle.saphyr_scalar.specs.Cursor.{along}
-use Rattle.saphyr_scalar.specs.Spaces.{IsFiller}
 use Rattle.saphyr_scanner.specs.Queue.{closed}
 use Rattle.saphyr_scanner.specs.State.{State}
 use Rattle.saphyr_scanner.specs.Tokens as tokens
@@ -20,11 +17,10 @@ use Rattle.saphyr_scanner.specs.BlockNodes.{BehindMark, BehindKey, IsIndentation
 use Rattle.saphyr_scanner.proofs.FlowStates.{IsInk, IsClear, moved, past}
 use Rattle.saphyr_scanner.proofs.FlowPlaces.{moved_append, moved_along, clear_here}
 use Rattle.saphyr_scanner.proofs.InBlock.Lines.{Fits, fits_front, fits_back, fits_so}
-use Rattle.saphyr_scanner.proofs.FlowInks.{BeginsInk}
 use Rattle.saphyr_scanner.proofs.InBlock.States.{Frame, EndsDocument, At, Before}
 use Rattle.saphyr_scanner.proofs.InBlock.Entries.{BeginsWhite, frame_behind}
 use Rattle.saphyr_scanner.proofs.InBlock.Marks.{key_kinds, reads_question, reads_value, reads_colon}
-use Rattle.saphyr_scanner.proofs.InBlock.Statements.{IsBehind, ArrivedAt, Arrived, EndsWithLine, as_optional, NodeRead, ReadsAt, Leaves, PairsRead}
+use Rattle.saphyr_scanner.proofs.InBlock.Statements.{IsBehind, ArrivedAt, Arrived, EndsWithLine, as_optional, ReadsAt, Leaves, PairsRead}
 use Rattle.saphyr_scanner.proofs.InBlock.Texts.{node_ends, pair_ends, node_behind, pair_ink, further_ink, behind_indented, indentation_skipped, indentation_col, reaches, spaces_moved}
 use Rattle.saphyr_scanner.proofs.InBlock.Sequences.{StartsLine, starts_behind, not_empty, frame_indent, suc_is, goes_on}
 

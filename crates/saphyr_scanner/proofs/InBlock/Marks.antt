@@ -1,36 +1,34 @@
 -- The `?` and the `:` of a block mapping are read (YAML 1.2.2, 8.2.2).
-use Rattle.std.proofs.Common.{◌≡◌, ℕ, zero, suc, ◌+◌, ◌<◌, ◌≤◌, Bool, true, false, List, [], ◌∷◌, ◌++◌, length, slice_index, refl, sym, ap, ◌∙◌, arith, subst, append_assoc, Ok, ◌⊎◌, inl, inr, IsTrue}
-use Rattle.std.specs.Prelude.{◌-◌, ◌||◌, ◌&&◌, ◌==◌, not, nat_le, nat_lt, Option, Some, None, Result, if◌then◌else◌}
+use Rattle.std.proofs.Common.{◌≡◌, ℕ, suc, ◌+◌, ◌<◌, ◌≤◌, Bool, true, false, List, [], ◌∷◌, ◌++◌, length, slice_index, refl, sym, ap, ◌∙◌, arith, append_assoc, Ok, ◌⊎◌, inl, inr}
+use Rattle.std.specs.Prelude.{◌||◌, ◌==◌, nat_le, nat_lt, Option, Some, None, if◌then◌else◌}
 use Rattle.std.proofs.lemmas.Bool.Decides.{nat_tests}
-use Rattle.saphyr_input.specs.Classes.{is_blank, is_break, is_blank_or_breakz}
+use Rattle.saphyr_input.specs.Classes.{is_blank, is_blank_or_breakz}
 use Rattle.saphyr_input.specs.Places.{is_document_indicator}
 use Rattle.saphyr_scalar.specs.declared.scalar.position.Marker.{Marker}
-use Rattle.saphyr_scalar.specs.declared.scalar.fault.Refusal.{Refusal}
-use Rattle.saphyr_scalar.specs.Cursor.{Cursor, ◌>>=◌, along}
+use Rattle.saphyr_scalar.specs.Cursor.{◌>>=◌, along}
 use Rattle.saphyr_scanner.specs.declared.engine.level.Context.TheVariants as context
 use Rattle.saphyr_scanner.specs.declared.queue.Opening.{Opening}
 use Rattle.saphyr_scanner.specs.declared.queue.Opening.TheVariants as opening
-use Rattle.saphyr_scanner.specs.Core.{least_column, Core, Candidate, Action, Open, Put, went, at_mark, from_to, up_to_here, perform, is_too_far, is_further, roll, go_deeper, forget_key, remove_key, with_context, in_block}
+use Rattle.saphyr_scanner.specs.Core.{least_column, Core, Candidate, Open, went, at_mark, from_to, up_to_here, perform, is_too_far, is_further, roll, remove_key, with_context, in_block}
 use Rattle.saphyr_scanner.specs.Block as block
 use Rattle.saphyr_scanner.specs.Block.{behind_start}
 use Rattle.saphyr_scanner.specs.Gap as gap
-use Rattle.saphyr_scanner.specs.Passing.{pass_on, with_cursor}
+use Rattle.saphyr_scanner.specs.Passing.{with_cursor}
 use Rattle.saphyr_scanner.specs.Queue.{next, Place, Queue, closed, empty_piece}
 use Rattle.saphyr_scanner.specs.Seen.{Piece}
 use Rattle.saphyr_scanner.specs.State.{State, acted}
 use Rattle.saphyr_scanner.specs.Tokens as tokens
 use Rattle.saphyr_scanner.specs.Tokens.{Kind}
 use Rattle.saphyr_scanner.specs.Value as value
-use Rattle.saphyr_scanner.specs.Fetch.{fetch, fetch_here, content, step, arrive}
+use Rattle.saphyr_scanner.specs.Fetch.{fetch, fetch_here, content, step}
 use Rattle.saphyr_scanner.specs.BlockNodes as layout
-use Rattle.saphyr_scanner.proofs.Leads.{Leads}
 use Rattle.saphyr_scanner.proofs.JsonStates.{queue_of, cursor_at, and_false}
 use Rattle.saphyr_scanner.proofs.JsonMarks.{kinds, kinds_append}
 use Rattle.saphyr_scanner.proofs.FlowColons.{pair_places, performs}
-use Rattle.saphyr_scanner.proofs.FlowGaps.{past_low, past_count, past_again}
+use Rattle.saphyr_scanner.proofs.FlowGaps.{past_count, past_again}
 use Rattle.saphyr_scanner.proofs.FlowStates.{past}
-use Rattle.saphyr_scanner.proofs.InBlock.States.{Frame, Moment, at_column, moment_at, moment_with, core_of, state_of, IsUntabbed, IsStop, crosses, IsPlaced, Follows, At, Before}
-use Rattle.saphyr_scanner.proofs.InBlock.Gaps.{past_stops, stop_tabbed, stop_crosses, stop_past}
+use Rattle.saphyr_scanner.proofs.InBlock.States.{Frame, Moment, moment_at, moment_with, core_of, state_of, IsUntabbed, IsStop, crosses, Follows, At, Before}
+use Rattle.saphyr_scanner.proofs.InBlock.Gaps.{past_stops, stop_tabbed}
 use Rattle.saphyr_scanner.proofs.InBlock.Skips.{IsClean, has_tab, spaces_reach}
 use Rattle.saphyr_scanner.proofs.InBlock.Follows.{BeginsToken, steps_from, begins_here, deeper_at, lands_key}
 use Rattle.saphyr_scanner.proofs.InBlock.Entries.{BeginsWhite, frame_behind, steps_on, before_next}

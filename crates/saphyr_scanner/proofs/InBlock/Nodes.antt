@@ -1,28 +1,28 @@
 -- All nodes at block level are read, given the leaves (YAML 1.2.2, chapter 8).
-use Rattle.std.proofs.Common.{◌≡◌, ℕ, zero, suc, ◌+◌, ◌<◌, ◌≤◌, Bool, true, false, List, [], ◌∷◌, ◌++◌, length, slice_index, refl, sym, ap, ◌∙◌, arith, subst, append_assoc, append-nil, ◌⊎◌, inl, inr, IsTrue, IsFalse}
-use Rattle.std.specs.Prelude.{◌||◌, ◌==◌, nat_le, None, if◌then◌else◌}
+use Rattle.std.proofs.Common.{◌≡◌, ℕ, suc, ◌+◌, ◌<◌, ◌≤◌, Bool, true, false, List, [], ◌∷◌, ◌++◌, refl, sym, ap, ◌∙◌, arith, subst, append_assoc, append-nil, ◌⊎◌, inl, inr}
+use Rattle.std.specs.Prelude.{◌||◌, nat_le, None}
 use Rattle.std.proofs.lemmas.Bool.Decides.{nat_tests}
 use Rattle.saphyr_scalar.specs.declared.scalar.position.Marker.{Marker}
-use Rattle.saphyr_scalar.specs.Spaces.{IsLineRest, IsEol}
+use Rattle.saphyr_scalar.specs.Spaces.{IsEol}
 use Rattle.saphyr_scanner.specs.State.{State}
 use Rattle.saphyr_scanner.specs.Tokens as tokens
 use Rattle.saphyr_scanner.specs.Tokens.{Kind}
 use Rattle.saphyr_scanner.specs.TokenGrammar as grammar
-use Rattle.saphyr_scanner.specs.Forest.{Style, Properties, Node, Alias, Scalar, Seq, Map, Nodes, NoNode, MoreNodes, Pairs, NoPair, MorePairs}
-use Rattle.saphyr_scanner.specs.BlockNodes.{Place, BehindDash, BehindMark, BehindKey, BehindMarker, AtStart, is_start, indent_at, sequence_indent_at, IsLead, IsLeftOut, IsFlowInBlock, IsBlockNode, AreEntries, ArePairs}
+use Rattle.saphyr_scanner.specs.Forest.{Properties, Node, Alias, Scalar, Seq, Map, Nodes, NoNode, MoreNodes, Pairs, NoPair, MorePairs}
+use Rattle.saphyr_scanner.specs.BlockNodes.{Place, BehindDash, BehindMark, BehindKey, BehindMarker, AtStart, indent_at, sequence_indent_at, IsLead, IsLeftOut, IsFlowInBlock, IsBlockNode, AreEntries, ArePairs}
 use Rattle.saphyr_scanner.proofs.FlowStates.{moved, past}
 use Rattle.saphyr_scanner.proofs.FlowPlaces.{moved_append}
 use Rattle.saphyr_scanner.proofs.InBlock.Lines.{Fits, fits_front, fits_back, fits_so}
 use Rattle.saphyr_scanner.proofs.FlowFillers.{rest_past}
-use Rattle.saphyr_scanner.proofs.InBlock.States.{Frame, crosses, is_compact, EndsDocument, At, Before}
+use Rattle.saphyr_scanner.proofs.InBlock.States.{Frame, is_compact, EndsDocument, At, Before}
 use Rattle.saphyr_scanner.proofs.InBlock.Closing.{closes_block}
 use Rattle.saphyr_scanner.proofs.InBlock.Skips.{line_end_skipped, line_end_crosses, skipped_past}
 use Rattle.saphyr_scanner.proofs.InBlock.Entries.{frame_behind}
 use Rattle.saphyr_scanner.proofs.InBlock.Statements.{context_at, IsBehind, ArrivedAt, Arrived, NodeRead, ReadsAt, Leaves}
 use Rattle.saphyr_scanner.proofs.InBlock.Texts.{behind_wider, entries_ink, pairs_ink, further_ink}
 use Rattle.saphyr_scanner.proofs.InBlock.Leads.{reads_lead, lead_col, mapping_least, sequence_least}
-use Rattle.saphyr_scanner.proofs.InBlock.Sequences.{ReadsOthers, no_others, more_others, sequence_start, reads_entries}
-use Rattle.saphyr_scanner.proofs.InBlock.Mappings.{ReadsOtherPairs, no_other_pairs, more_pairs, mapping_start, reads_pairs}
+use Rattle.saphyr_scanner.proofs.InBlock.Sequences.{ReadsOthers, no_others, more_others, reads_entries}
+use Rattle.saphyr_scanner.proofs.InBlock.Mappings.{ReadsOtherPairs, no_other_pairs, more_pairs, reads_pairs}
 
 -- ## A node that is left out
 

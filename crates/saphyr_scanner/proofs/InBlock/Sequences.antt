@@ -1,8 +1,7 @@
 -- The entries of a block sequence are read (YAML 1.2.2, 8.2.1).
-use Rattle.std.proofs.Common.{◌≡◌, ℕ, zero, suc, ◌+◌, ◌<◌, ◌≤◌, Bool, true, false, List, [], ◌∷◌, ◌++◌, length, slice_index, refl, sym, ap, ◌∙◌, arith, subst, append_assoc, append-nil, ◌⊎◌, inl, inr, IsTrue, IsFalse}
+use Rattle.std.proofs.Common.{◌≡◌, ℕ, suc, ◌+◌, ◌≤◌, Bool, true, false, List, [], ◌∷◌, ◌++◌, slice_index, refl, sym, ap, ◌∙◌, arith, subst, append_assoc, append-nil, ◌⊎◌, inl, inr, IsTrue}
 use Rattle.std.specs.Prelude.{◌==◌, nat_le, None, if◌then◌else◌}
 use Rattle.std.proofs.lemmas.Bool.Decides.{nat_tests}
-use Rattle.std.proofs.lemmas.List.{length-append}
 use Rattle.saphyr_input.specs.Classes.{is_blank_or_breakz}
 use Rattle.saphyr_input.specs.Places.{is_document_indicator}
 use Rattle.saphyr_scalar.specs.declared.scalar.position.Marker.{Marker}
@@ -10,16 +9,15 @@ use Rattle.saphyr_scalar.specs.Cursor.{along}
 use Rattle.saphyr_scanner.specs.State.{State}
 use Rattle.saphyr_scanner.specs.Tokens as tokens
 use Rattle.saphyr_scanner.specs.Tokens.{Kind}
-use Rattle.saphyr_scanner.specs.TokenGrammar as grammar
 use Rattle.saphyr_scanner.specs.Forest.{Node, Nodes, NoNode, MoreNodes}
-use Rattle.saphyr_scanner.specs.BlockNodes.{BehindDash, IsIndentation, IsBlockNode, AreOtherEntries, AreEntries}
+use Rattle.saphyr_scanner.specs.BlockNodes.{BehindDash, IsBlockNode, AreOtherEntries, AreEntries}
 use Rattle.saphyr_scanner.proofs.FlowStates.{moved, past}
 use Rattle.saphyr_scanner.proofs.FlowPlaces.{moved_append}
 use Rattle.saphyr_scanner.proofs.InBlock.Lines.{Fits, fits_front, fits_back, fits_so}
 use Rattle.saphyr_scanner.proofs.InBlock.States.{Frame, EndsDocument, At}
-use Rattle.saphyr_scanner.proofs.InBlock.Entries.{IsBehindIndicator, frame_behind, dash_kinds, reads_dash}
+use Rattle.saphyr_scanner.proofs.InBlock.Entries.{frame_behind, dash_kinds, reads_dash}
 use Rattle.saphyr_scanner.proofs.InBlock.Statements.{IsBehind, ArrivedAt, Arrived, EndsWithLine, as_optional, NodeRead, ReadsAt, Leaves, EntriesRead}
-use Rattle.saphyr_scanner.proofs.InBlock.Texts.{dash_ink, node_ends, node_behind, other_entries_end, behind_indented, behind_wider, indentation_skipped, indentation_col, reaches}
+use Rattle.saphyr_scanner.proofs.InBlock.Texts.{dash_ink, node_ends, node_behind, behind_indented, indentation_skipped, indentation_col, reaches}
 
 -- ## What stands behind an entry
 

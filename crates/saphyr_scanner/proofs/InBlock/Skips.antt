@@ -1,18 +1,18 @@
 -- Spaces, comments and breaks between two tokens at block level.
-use Rattle.std.proofs.Common.{◌≡◌, ℕ, zero, suc, ◌+◌, ◌<◌, ◌≤◌, Bool, true, false, List, [], ◌∷◌, ◌++◌, length, slice_index, refl, sym, ap, ◌∙◌, arith, subst, append_assoc, append-nil, ◌⊎◌, inl, inr, IsTrue}
-use Rattle.std.specs.Prelude.{◌≢◌, ◌||◌, ◌&&◌, ◌==◌, not, nat_lt, if◌then◌else◌}
+use Rattle.std.proofs.Common.{◌≡◌, ℕ, zero, suc, Bool, true, false, List, [], ◌∷◌, ◌++◌, slice_index, refl, sym, ap, ◌∙◌, arith, subst, append_assoc, ◌⊎◌, inl, inr}
+use Rattle.std.specs.Prelude.{◌||◌, ◌&&◌, ◌==◌, if◌then◌else◌}
 use Rattle.std.proofs.lemmas.Bool.Decides.{nat_tests}
-use Rattle.saphyr_input.specs.Classes.{is_bom, is_blank, is_break, is_blank_or_breakz, is_yaml_non_break, line_feed}
+use Rattle.saphyr_input.specs.Classes.{is_blank, is_break, is_yaml_non_break, line_feed}
 use Rattle.saphyr_scalar.specs.declared.scalar.position.Marker.{Marker}
 use Rattle.saphyr_scalar.specs.BlockRead.{spaces}
 use Rattle.saphyr_scalar.specs.Cursor.{along, next_line}
 use Rattle.saphyr_scalar.specs.TagSpelling.{AreIn}
-use Rattle.saphyr_scalar.specs.Spaces.{AreEach, AreMany, AreSpaces, joined, IsComment, IsCommentBehind, IsLineRest, IsLineEnd, IsFillerText, IsFillerLine, IsFiller}
+use Rattle.saphyr_scalar.specs.Spaces.{AreEach, AreSpaces, joined, IsComment, IsCommentBehind, IsLineRest, IsLineEnd, IsFillerLine, IsFiller}
 use Rattle.saphyr_scanner.specs.Gap as gap
-use Rattle.saphyr_scanner.proofs.FlowStates.{IsInk, moved, past, past_comment}
+use Rattle.saphyr_scanner.proofs.FlowStates.{moved, past, past_comment}
 use Rattle.saphyr_scanner.proofs.FlowPlaces.{moved_append}
 use Rattle.saphyr_scanner.proofs.InBlock.Gaps.{no_left}
-use Rattle.saphyr_scanner.proofs.InBlock.States.{tabbed, tabbed_comment, crosses, crosses_comment, IsStop}
+use Rattle.saphyr_scanner.proofs.InBlock.States.{tabbed, tabbed_comment, crosses, crosses_comment}
 
 -- ## The text between two tokens
 

@@ -1,11 +1,11 @@
 -- What is shown of nodes and collections at block level.
-use Rattle.std.proofs.Common.{◌≡◌, ℕ, suc, ◌+◌, ◌<◌, ◌≤◌, Bool, true, false, List, [], ◌∷◌, ◌++◌, length, slice_index, IsTrue, IsFalse, ◌⊎◌, inl, inr}
-use Rattle.std.specs.Prelude.{◌==◌, nat_le, Option, Some, None, if◌then◌else◌}
+use Rattle.std.proofs.Common.{◌≡◌, ℕ, suc, ◌+◌, ◌≤◌, Bool, true, false, List, [], ◌∷◌, ◌++◌, length, slice_index, IsFalse, ◌⊎◌, inl, inr}
+use Rattle.std.specs.Prelude.{Some, None}
 use Rattle.saphyr_input.specs.Classes.{is_blank_or_breakz}
 use Rattle.saphyr_scalar.specs.declared.scalar.position.Marker.{Marker}
 use Rattle.saphyr_scalar.specs.BlockRead.{spaces}
 use Rattle.saphyr_scalar.specs.Spaces.{IsLineEnd, IsFiller}
-use Rattle.saphyr_scanner.specs.Core.{Candidate, is_too_far, least_column}
+use Rattle.saphyr_scanner.specs.Core.{is_too_far, least_column}
 use Rattle.saphyr_scanner.specs.Queue as queue
 use Rattle.saphyr_scanner.specs.Queue.{closed}
 use Rattle.saphyr_scanner.specs.Seen.{Piece}
@@ -14,7 +14,7 @@ use Rattle.saphyr_scanner.specs.Tokens.{Kind}
 use Rattle.saphyr_scanner.specs.TokenGrammar as grammar
 use Rattle.saphyr_scanner.specs.Forest.{Style, Properties, Node, Scalar, Nodes, Pairs, left_out}
 use Rattle.saphyr_scanner.specs.FlowNodes.{IsFlowNode, IsOnLine, IsBeforeColon, IsProperties}
-use Rattle.saphyr_scanner.specs.BlockNodes.{Place, BehindDash, BehindMark, BehindKey, BehindMarker, AtStart, is_start, indent_at, AreSpacesAt, IsFlowInBlock, IsStyled, IsScalarFront, IsScalarInBlock, IsBlockNode}
+use Rattle.saphyr_scanner.specs.BlockNodes.{Place, BehindMark, BehindKey, is_start, indent_at, AreSpacesAt, IsFlowInBlock, IsStyled, IsScalarFront, IsScalarInBlock}
 use Rattle.saphyr_scanner.proofs.JsonMarks.{kinds}
 use Rattle.saphyr_scanner.proofs.FlowStates.{moved, past}
 use Rattle.saphyr_scanner.proofs.FlowInks.{BeginsInk}

@@ -1,8 +1,7 @@
 -- What is said of a piece of a text at block level, and of the states before it and behind it. Block collections may be open.
-use Rattle.std.proofs.Common.{◌≡◌, ℕ, suc, ◌+◌, ◌<◌, ◌≤◌, Bool, true, false, List, [], ◌∷◌, ◌++◌, length, slice_index, IsTrue, ◌⊎◌, Ok}
-use Rattle.std.specs.Prelude.{◌-◌, ◌||◌, ◌&&◌, ◌==◌, not, nat_lt, Option, None, if◌then◌else◌}
+use Rattle.std.proofs.Common.{◌≡◌, ℕ, ◌+◌, ◌<◌, ◌≤◌, Bool, true, false, List, [], ◌∷◌, slice_index, ◌⊎◌}
+use Rattle.std.specs.Prelude.{◌||◌, ◌&&◌, ◌==◌, Option, None, if◌then◌else◌}
 use Rattle.saphyr_input.specs.Classes.{is_blank, is_break, is_yaml_non_break}
-use Rattle.saphyr_input.specs.Places.{is_document_indicator}
 use Rattle.saphyr_scalar.specs.declared.scalar.position.Marker.{Marker}
 use Rattle.saphyr_scalar.specs.Cursor.{Cursor, along, next_line}
 use Rattle.saphyr_scanner.specs.declared.engine.level.Context.TheVariants as context

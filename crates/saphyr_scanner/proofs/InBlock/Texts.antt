@@ -1,26 +1,24 @@
 -- The texts of nodes at block level: where they end, and what stands behind their parts.
 use Rattle.std.proofs.Common.{◌≡◌, ℕ, zero, suc, ◌+◌, ◌<◌, ◌≤◌, Bool, true, false, List, [], ◌∷◌, ◌++◌, length, slice_index, refl, sym, ap, ◌∙◌, arith, subst, append_assoc, append-nil, ◌⊎◌, inl, inr, IsTrue, IsFalse}
-use Rattle.std.specs.Prelude.{◌≢◌, ◌||◌, ◌&&◌, ◌==◌, not, codes, if◌then◌else◌}
+use Rattle.std.specs.Prelude.{◌||◌, ◌&&◌, ◌==◌, not}
 use Rattle.std.proofs.lemmas.Bool.Decides.{nat_tests}
-use Rattle.saphyr_input.specs.Classes.{line_feed, is_bom, is_blank, is_break, is_blank_or_breakz, is_yaml_non_break}
-use Rattle.saphyr_input.specs.Places.{is_document_indicator}
+use Rattle.saphyr_input.specs.Classes.{line_feed, is_break, is_blank_or_breakz, is_yaml_non_break}
 use Rattle.saphyr_scalar.specs.declared.scalar.position.Marker.{Marker}
 use Rattle.saphyr_scalar.specs.BlockRead.{spaces}
 use Rattle.saphyr_scalar.specs.Cursor.{along, next_line}
 use Rattle.saphyr_scalar.specs.TagSpelling.{AreIn}
-use Rattle.saphyr_scalar.specs.Spaces.{AreSpaces, IsComment, IsCommentBehind, IsLineRest, IsLineEnd, IsEol, IsFiller, IsNextLine, IsGap}
-use Rattle.saphyr_scanner.specs.Forest.{Properties, no_properties, Node, Alias, Scalar, Seq, Map, Nodes, NoNode, MoreNodes, Pairs, NoPair, MorePairs}
-use Rattle.saphyr_scanner.specs.FlowNodes.{IsProperties}
-use Rattle.saphyr_scanner.specs.BlockNodes.{Place, BehindDash, BehindMark, BehindKey, BehindMarker, AtStart, is_start, indent_at, sequence_indent_at, IsGapAt, AreSpacesAt, IsCollectionFront, IsNextLineLead, IsCompactLead, IsLead, IsLeftOut, IsFlowInBlock, IsScalarFront, IsScalarInBlock, IsImplicitPair, IsKeyAlone, IsValueMark, IsMarkedPair, IsBlockPair, IsIndentation, IsBlockNode, AreEntries, AreOtherEntries, ArePairs, AreOtherPairs}
+use Rattle.saphyr_scalar.specs.Spaces.{AreSpaces, IsComment, IsCommentBehind, IsLineRest, IsLineEnd, IsEol, IsNextLine}
+use Rattle.saphyr_scanner.specs.Forest.{Properties, Node, Alias, Scalar, Seq, Map, Nodes, NoNode, MoreNodes, Pairs, NoPair, MorePairs}
+use Rattle.saphyr_scanner.specs.BlockNodes.{Place, BehindDash, BehindMark, BehindKey, BehindMarker, AtStart, is_start, indent_at, sequence_indent_at, IsGapAt, AreSpacesAt, IsCollectionFront, IsLead, IsLeftOut, IsFlowInBlock, IsBlockPair, IsIndentation, IsBlockNode, AreEntries, AreOtherEntries, ArePairs, AreOtherPairs}
 use Rattle.saphyr_scanner.proofs.FlowStates.{IsInk, moved, past}
 use Rattle.saphyr_scanner.proofs.FlowPlaces.{moved_append, moved_along}
 use Rattle.saphyr_scanner.proofs.FlowLines.{filler_line}
 use Rattle.saphyr_scanner.proofs.FlowFillers.{EndsLine, spaces_are_blank, behind_is, front_past, spaces_past}
-use Rattle.saphyr_scanner.proofs.FlowSeparates.{StopsLine, line_stops, ink_stops, front_moved, blanks_moved}
+use Rattle.saphyr_scanner.proofs.FlowSeparates.{line_stops, ink_stops, front_moved}
 use Rattle.saphyr_scanner.proofs.FlowInks.{BeginsInk, properties_ink}
-use Rattle.saphyr_scanner.proofs.InBlock.States.{crosses, crosses_comment, tabbed, EndsDocument}
-use Rattle.saphyr_scanner.proofs.InBlock.Gaps.{ink_stop, stop_crosses, stop_tabbed, stop_past}
-use Rattle.saphyr_scanner.proofs.InBlock.Skips.{IsSkipped, spaces_no_line, rest_crosses, IsClean, has_tab, skipped_past, skipped_crosses, skipped_clean, skipped_no_tab, skipped_append, spaces_skipped, rest_skipped, line_end_skipped, filler_skipped, comment_ends_past, comment_ends_clean, comment_ends_no_tab}
+use Rattle.saphyr_scanner.proofs.InBlock.States.{crosses, crosses_comment, EndsDocument}
+use Rattle.saphyr_scanner.proofs.InBlock.Gaps.{ink_stop, stop_tabbed, stop_past}
+use Rattle.saphyr_scanner.proofs.InBlock.Skips.{IsSkipped, spaces_no_line, rest_crosses, IsClean, has_tab, skipped_past, skipped_crosses, skipped_clean, skipped_no_tab, skipped_append, spaces_skipped, line_end_skipped, filler_skipped, comment_ends_clean, comment_ends_no_tab}
 use Rattle.saphyr_scanner.proofs.InBlock.Entries.{BeginsWhite, IsBehindIndicator}
 use Rattle.saphyr_scanner.proofs.InBlock.Statements.{EndsWithLine, IsBehind, Leaves}
 

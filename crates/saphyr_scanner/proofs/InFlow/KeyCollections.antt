@@ -1,7 +1,6 @@
 -- A flow collection that is a key on one line at block level.
-use Rattle.std.proofs.Common.{◌≡◌, ℕ, suc, ◌+◌, ◌<◌, ◌≤◌, Bool, true, false, List, [], ◌∷◌, ◌++◌, length, slice_index, Ok, refl, sym, ap, ◌∙◌, arith, subst, append_assoc, append-nil, cond}
+use Rattle.std.proofs.Common.{◌≡◌, ℕ, suc, ◌+◌, ◌<◌, ◌≤◌, Bool, true, false, List, [], ◌∷◌, ◌++◌, length, slice_index, Ok, refl, sym, ap, ◌∙◌, arith, subst, append_assoc, append-nil}
 use Rattle.std.specs.Prelude.{Option, Some, None}
-use Rattle.std.proofs.lemmas.List.{length-append}
 use Rattle.saphyr_scalar.specs.declared.scalar.position.Marker.{Marker}
 use Rattle.saphyr_scalar.specs.Cursor.{Cursor, ◌>>=◌, along}
 use Rattle.saphyr_scalar.specs.BlockRead.{spaces}
@@ -9,18 +8,18 @@ use Rattle.saphyr_scalar.specs.Spaces.{IsSeparation}
 use Rattle.saphyr_scanner.specs.declared.engine.level.Context.{Context}
 use Rattle.saphyr_scanner.specs.declared.engine.level.Context.TheVariants as context
 use Rattle.saphyr_scanner.specs.Tokens.{Kind}
-use Rattle.saphyr_scanner.specs.Queue.{Place, Queue, closed}
-use Rattle.saphyr_scanner.specs.Core.{Candidate, Level, Core, is_block, from_to, went, perform, drop_far_key}
-use Rattle.saphyr_scanner.specs.Flow.{close_collection, ends_pair, behind_pair}
+use Rattle.saphyr_scanner.specs.Queue.{Place, Queue}
+use Rattle.saphyr_scanner.specs.Core.{Candidate, Level, is_block, from_to, went}
+use Rattle.saphyr_scanner.specs.Flow.{close_collection, ends_pair}
 use Rattle.saphyr_scanner.specs.State.{State, carried, acted}
-use Rattle.saphyr_scanner.specs.Fetch.{step, content, fetch_here, arrive, fetch, within, fetch_within}
+use Rattle.saphyr_scanner.specs.Fetch.{step, content, fetch_here, fetch, within, fetch_within}
 use Rattle.saphyr_scanner.proofs.Leads.{Leads, stay, onward}
 use Rattle.saphyr_scanner.proofs.JsonStates.{cursor_at, queue_of, none_before, within_limit}
 use Rattle.saphyr_scanner.proofs.JsonMarks.{chain, kinds, kinds_append, level_of}
 use Rattle.saphyr_scanner.proofs.JsonBrackets.{place_of}
 use Rattle.saphyr_scanner.proofs.InFlow.States.{Around, core_at, state_at, drops, left_in_flow, behind_key, starts, opens, closes, deepened}
 use Rattle.saphyr_scanner.proofs.InFlow.OnLine.{separation_of_blanks}
-use Rattle.saphyr_scanner.proofs.InFlow.KeyLines.{IsNear, Ready, keeps}
+use Rattle.saphyr_scanner.proofs.InFlow.KeyLines.{Ready, keeps}
 use Rattle.saphyr_scanner.proofs.InFlow.KeyTokens.{InKey, in_near, in_back, in_right, in_limit, in_so, Along}
 use Rattle.saphyr_scanner.proofs.InFlow.KeyScalars.{colon_ink, colon_text, behind}
 use Rattle.saphyr_scanner.proofs.FlowStates.{moved, past, IsParted}

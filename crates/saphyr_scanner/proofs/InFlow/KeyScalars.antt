@@ -1,9 +1,8 @@
 -- The content of a key on one line at block level: plain and quoted scalars.
-use Rattle.std.proofs.Common.{◌≡◌, ◌≢◌, ℕ, zero, suc, ◌+◌, ◌≤◌, Bool, true, false, List, [], ◌∷◌, ◌++◌, length, slice_index, Ok, refl, sym, ap, ◌∙◌, arith, subst, append_assoc, append-nil, IsTrue, ◌⊎◌, inl, inr, encode_utf8_all}
-use Rattle.std.specs.Prelude.{◌||◌, ◌&&◌, ◌==◌, not, Option, Some, None}
+use Rattle.std.proofs.Common.{◌≡◌, ◌≢◌, ℕ, zero, suc, ◌≤◌, Bool, true, false, List, [], ◌∷◌, ◌++◌, length, slice_index, Ok, refl, sym, ap, ◌∙◌, arith, subst, append-nil, inl, inr, encode_utf8_all}
+use Rattle.std.specs.Prelude.{◌==◌, Option, Some, None}
 use Rattle.std.proofs.lemmas.Bool.Decides.{nat_tests}
-use Rattle.saphyr_input.specs.Classes.{is_blank, is_break, is_breakz, is_blank_or_breakz}
-use Rattle.saphyr_input.specs.Places.{is_blank_or_break}
+use Rattle.saphyr_input.specs.Classes.{is_blank, is_blank_or_breakz}
 use Rattle.saphyr_scalar.specs.declared.scalar.position.Marker.{Marker}
 use Rattle.saphyr_scalar.specs.declared.reading.flow.Quote.{Quote}
 use Rattle.saphyr_scalar.specs.declared.reading.flow.Quote.TheVariants.{Single, Double}
@@ -13,27 +12,21 @@ use Rattle.saphyr_scalar.specs.Quoted.{at}
 use Rattle.saphyr_scalar.specs.Plain.{in_word, comment_of}
 use Rattle.saphyr_scalar.specs.PlainSpelling.{past_white, EndsPlain}
 use Rattle.saphyr_scalar.specs.BlockRead.{spaces}
-use Rattle.saphyr_scalar.specs.TagSpelling.{AreIn}
-use Rattle.saphyr_scalar.proofs.Choices.{or_left}
 use Rattle.saphyr_scanner.specs.declared.engine.level.Context.TheVariants as context
-use Rattle.saphyr_scanner.specs.Tokens as tokens
-use Rattle.saphyr_scanner.specs.Tokens.{Kind, scalar_token}
+use Rattle.saphyr_scanner.specs.Tokens.{scalar_token}
 use Rattle.saphyr_scanner.specs.Gap.{Passed, gap}
 use Rattle.saphyr_scanner.specs.Queue.{Place}
-use Rattle.saphyr_scanner.specs.Core.{Candidate, Level, Core, from_to, went}
+use Rattle.saphyr_scanner.specs.Core.{Candidate, Level, from_to, went}
 use Rattle.saphyr_scanner.specs.Passing.{pass_gap, check_comment, behind_gap}
 use Rattle.saphyr_scanner.specs.Scalar.{goes_on_behind_quotes}
 use Rattle.saphyr_scanner.specs.State.{State}
-use Rattle.saphyr_scanner.specs.Fetch.{step}
 use Rattle.saphyr_scanner.specs.Forest.{Style, Plain, SingleQuoted, DoubleQuoted, Literal, Folded}
 use Rattle.saphyr_scanner.specs.FlowScalars.{IsPlain, IsQuoted, IsFlowScalar}
-use Rattle.saphyr_scanner.proofs.Leads.{Leads}
 use Rattle.saphyr_scanner.proofs.JsonStates.{cursor_at}
-use Rattle.saphyr_scanner.proofs.JsonBrackets.{place_of}
-use Rattle.saphyr_scanner.proofs.InFlow.States.{Around, core_at, state_at, least, least_low, behind_key}
+use Rattle.saphyr_scanner.proofs.InFlow.States.{Around, core_at, least, behind_key}
 use Rattle.saphyr_scanner.proofs.InFlow.Tabs.{tabs_behind}
 use Rattle.saphyr_scanner.proofs.InFlow.OnLine.{separation_of_blanks}
-use Rattle.saphyr_scanner.proofs.InFlow.KeyLines.{IsNear, Ready, token_led, ink_gap}
+use Rattle.saphyr_scanner.proofs.InFlow.KeyLines.{Ready, token_led, ink_gap}
 use Rattle.saphyr_scanner.proofs.InFlow.KeyTokens.{InKey, in_near, in_back, in_right, in_limit, Along}
 use Rattle.saphyr_scanner.proofs.FlowStates.{moved, past, IsInk, Reads}
 use Rattle.saphyr_scanner.proofs.FlowPlaces.{moved_index, clear_front}

@@ -1,13 +1,11 @@
 -- The tokens of a key on one line at block level, one behind the other.
-use Rattle.std.proofs.Common.{◌≡◌, ◌≢◌, ℕ, zero, suc, ◌+◌, ◌≤◌, Bool, true, false, List, [], ◌∷◌, ◌++◌, length, slice_index, Ok, refl, sym, ap, ◌∙◌, arith, subst, append_assoc, append-nil, IsTrue, ◌⊎◌, inl, inr, encode_utf8_all}
-use Rattle.std.specs.Prelude.{◌||◌, ◌&&◌, ◌==◌, not, option_map, Option, Some, None}
-use Rattle.std.proofs.lemmas.Bool.Decides.{nat_tests}
+use Rattle.std.proofs.Common.{◌≡◌, ℕ, zero, suc, ◌+◌, ◌≤◌, Bool, true, false, List, [], ◌∷◌, ◌++◌, length, slice_index, refl, sym, ap, ◌∙◌, arith, subst, append_assoc, inl, inr, encode_utf8_all}
+use Rattle.std.specs.Prelude.{option_map, Option, Some, None}
 use Rattle.std.proofs.lemmas.List.{length-append}
-use Rattle.saphyr_input.specs.Classes.{is_blank, is_break, is_breakz, is_blank_or_breakz, is_anchor_char, line_feed}
+use Rattle.saphyr_input.specs.Classes.{is_blank, is_break, is_anchor_char}
 use Rattle.saphyr_scalar.specs.declared.scalar.position.Marker.{Marker}
 use Rattle.saphyr_scalar.specs.Cursor.{Cursor, along}
 use Rattle.saphyr_scalar.specs.Quoted.{at}
-use Rattle.saphyr_scalar.specs.BlockRead.{spaces}
 use Rattle.saphyr_scalar.specs.TagSpelling.{AreIn, IsAnchorName, EndsTag}
 use Rattle.saphyr_scalar.specs.Spaces.{AreSpaces}
 use Rattle.saphyr_scanner.specs.declared.engine.level.Context.TheVariants as context
@@ -25,12 +23,11 @@ use Rattle.saphyr_scanner.specs.Forest.{Tag}
 use Rattle.saphyr_scanner.specs.TagSpelling.{IsTag}
 use Rattle.saphyr_scanner.specs.FlowNodes as layout
 use Rattle.saphyr_scanner.specs.FlowNodes.{IsOnLine, IsAnchor, IsAlias}
-use Rattle.saphyr_scanner.proofs.LineTexts.{name_no_break, tag_no_break}
 use Rattle.saphyr_scanner.proofs.Leads.{Leads}
 use Rattle.saphyr_scanner.proofs.JsonStates.{cursor_at}
 use Rattle.saphyr_scanner.proofs.JsonMarks.{chain, kinds, kinds_append}
 use Rattle.saphyr_scanner.proofs.JsonBrackets.{place_of}
-use Rattle.saphyr_scanner.proofs.InFlow.States.{Around, core_at, state_at, Placed, behind_key}
+use Rattle.saphyr_scanner.proofs.InFlow.States.{Around, core_at, state_at, behind_key}
 use Rattle.saphyr_scanner.proofs.InFlow.OnLine.{front_on_line, back_on_line}
 use Rattle.saphyr_scanner.proofs.InFlow.KeyLines.{IsNear, Ready, later_ready, token_led}
 use Rattle.saphyr_scanner.proofs.FlowStates.{moved, IsClear, Reads}
@@ -38,7 +35,7 @@ use Rattle.saphyr_scanner.proofs.FlowPlaces.{moved_append, moved_index, moved_al
 use Rattle.saphyr_scanner.proofs.FlowArrivals.{BeginsToken}
 use Rattle.saphyr_scanner.proofs.FlowFillers.{spaces_are_blank}
 use Rattle.saphyr_scanner.proofs.FlowTokens.{Begins, begins_token}
-use Rattle.saphyr_scanner.proofs.FlowNames.{name_step, begins_anchor, begins_alias, anchor_first, alias_first, tag_step, begins_tag}
+use Rattle.saphyr_scanner.proofs.FlowNames.{name_step, begins_anchor, begins_alias, anchor_first, tag_step, begins_tag}
 use Rattle.saphyr_scanner.proofs.FlowTags.{tag_read, tag_first}
 use Rattle.saphyr_scanner.proofs.FlowEnds.{tag_ends_name}
 

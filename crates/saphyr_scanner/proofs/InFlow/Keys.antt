@@ -1,12 +1,12 @@
 -- A node in flow style on one line at block level is read as a key.
-use Rattle.std.proofs.Common.{◌≡◌, ◌≢◌, ℕ, zero, suc, ◌+◌, ◌≤◌, Bool, true, false, List, [], ◌∷◌, ◌++◌, length, slice_index, refl, sym, ap, ◌∙◌, arith, subst, append_assoc, append-nil, IsTrue, ◌⊎◌, inl, inr, codes}
-use Rattle.std.specs.Prelude.{not, option_map, Option, Some, None}
+use Rattle.std.proofs.Common.{◌≡◌, ◌≢◌, ℕ, zero, suc, ◌+◌, ◌≤◌, Bool, true, false, List, [], ◌∷◌, ◌++◌, length, slice_index, refl, sym, ap, ◌∙◌, arith, subst, append_assoc, append-nil, IsTrue, ◌⊎◌, inl, inr}
+use Rattle.std.specs.Prelude.{Option, Some, None}
 use Rattle.std.proofs.lemmas.Bool.{false≢true}
-use Rattle.saphyr_input.specs.Classes.{is_blank, is_anchor_char, is_blank_or_breakz}
+use Rattle.saphyr_input.specs.Classes.{is_blank_or_breakz}
 use Rattle.saphyr_scalar.specs.declared.scalar.position.Marker.{Marker}
 use Rattle.saphyr_scalar.specs.Cursor.{Cursor}
 use Rattle.saphyr_scalar.specs.BlockRead.{spaces}
-use Rattle.saphyr_scalar.specs.TagSpelling.{AreIn, EndsTag}
+use Rattle.saphyr_scalar.specs.TagSpelling.{EndsTag}
 use Rattle.saphyr_scalar.specs.Spaces.{IsSeparation}
 use Rattle.saphyr_scanner.specs.declared.engine.level.Context.{Context}
 use Rattle.saphyr_scanner.specs.declared.engine.level.Context.TheVariants as context
@@ -14,7 +14,7 @@ use Rattle.saphyr_scanner.specs.Tokens as tokens
 use Rattle.saphyr_scanner.specs.Tokens.{Kind, alias_token, anchor_token, tag_token, scalar_token}
 use Rattle.saphyr_scanner.specs.TokenGrammar as grammar
 use Rattle.saphyr_scanner.specs.Queue.{Place}
-use Rattle.saphyr_scanner.specs.Core.{Candidate, Level, Core, is_block}
+use Rattle.saphyr_scanner.specs.Core.{Candidate, Core}
 use Rattle.saphyr_scanner.specs.State.{State}
 use Rattle.saphyr_scanner.specs.Property as property
 use Rattle.saphyr_scanner.specs.Scalar as scalar
@@ -22,7 +22,7 @@ use Rattle.saphyr_scalar.specs.declared.reading.flow.Quote.TheVariants.{Single, 
 use Rattle.saphyr_scanner.specs.Flow as flow
 use Rattle.saphyr_scanner.specs.Flow.{open_collection}
 use Rattle.saphyr_scanner.specs.Fetch.{step}
-use Rattle.saphyr_scanner.specs.Forest.{Style, Plain, SingleQuoted, DoubleQuoted, Literal, Folded, Tag, Properties, no_properties, Node, Alias, Scalar, Seq, Map, Nodes, Pairs}
+use Rattle.saphyr_scanner.specs.Forest.{Style, Plain, SingleQuoted, DoubleQuoted, Literal, Folded, Tag, Properties, Node, Alias, Scalar, Seq, Map, Nodes, Pairs}
 use Rattle.saphyr_scanner.specs.FlowNodes as layout
 use Rattle.saphyr_scanner.specs.FlowNodes.{IsOnLine, IsProperties, IsBeforeContent, IsScalarNode, IsBeforeColon, IsFlowNode, needs_separation}
 use Rattle.saphyr_scanner.specs.FlowScalars.{IsFlowScalar}
@@ -34,7 +34,7 @@ use Rattle.saphyr_scanner.proofs.InFlow.OnLine.{front_on_line, back_on_line, bla
 use Rattle.saphyr_scanner.proofs.InFlow.KeyLines.{Ready, Fresh, keyed, deeper_at, first_ready}
 use Rattle.saphyr_scanner.proofs.InFlow.KeyTokens.{InKey, in_back, in_right, in_so, Along, along_joins, along_ready, alias_along, tag_begins, anchor_begins, properties_along}
 use Rattle.saphyr_scanner.proofs.InFlow.KeyScalars.{colon_text, behind, content_along}
-use Rattle.saphyr_scanner.proofs.InFlow.KeyCollections.{calmed, CollectionAlong, collection_along}
+use Rattle.saphyr_scanner.proofs.InFlow.KeyCollections.{calmed, collection_along}
 use Rattle.saphyr_scanner.proofs.FlowStates.{moved, Fits, IsClear, IsParted, Reads}
 use Rattle.saphyr_scanner.proofs.FlowPlaces.{moved_append, clear_front}
 use Rattle.saphyr_scanner.proofs.FlowFillers.{spaces_are_blank}

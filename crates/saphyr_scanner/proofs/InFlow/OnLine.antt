@@ -1,5 +1,5 @@
 -- On one line the indentation of a node in flow style does not matter.
-use Rattle.std.proofs.Common.{◌≡◌, ◌≢◌, ℕ, ◌≤◌, Bool, true, false, List, [], ◌∷◌, ◌++◌, drop, slice_index, refl, sym, ap, ◌∙◌, arith, subst, append_assoc, IsTrue, ◌⊎◌, inl, inr, codes}
+use Rattle.std.proofs.Common.{◌≡◌, ℕ, ◌≤◌, Bool, true, false, List, [], ◌∷◌, ◌++◌, drop, slice_index, refl, sym, ap, ◌∙◌, arith, subst, append_assoc, IsTrue, ◌⊎◌, inl, inr, codes}
 use Rattle.std.specs.Prelude.{◌==◌, not}
 use Rattle.saphyr_input.specs.Classes.{is_blank, is_break, line_feed}
 use Rattle.saphyr_scalar.specs.declared.reading.folding.Item.{Item}

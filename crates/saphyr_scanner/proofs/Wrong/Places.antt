@@ -1,7 +1,6 @@
 -- The start of a block mapping before the blanks of its line is not taken.
-use Rattle.std.proofs.Common.{◌≡◌, true, List, [], refl, sym, ap, ◌∙◌}
+use Rattle.std.proofs.Common.{◌≡◌, true, sym, ap, ◌∙◌}
 use Rattle.std.specs.Prelude.{codes, slice_index}
-use Rattle.saphyr_scalar.specs.Cursor.{fresh}
 use Rattle.saphyr_scanner.specs.TokensTaken.{AreTakenFrom, begins_text}
 use Rattle.saphyr_scanner.specs.TakenTexts as texts
 use Rattle.saphyr_scanner.specs.TakenTexts.{at}
