@@ -1,6 +1,6 @@
 -- The next token of a text in flow style is reached, and read by a step.
-use Rattle.std.proofs.Common.{◌≡◌, ℕ, ◌+◌, ◌≤◌, Bool, true, false, List, length, slice_index, Ok, refl, ap, ◌∙◌, arith}
-use Rattle.std.specs.Prelude.{◌||◌, ◌&&◌, ◌==◌, Option, Some}
+use Rattle.std.proofs.Common.{◌≡◌, ◌⊎◌, ℕ, ◌+◌, ◌≤◌, Bool, true, false, List, length, slice_index, Ok, refl, ap, ◌∙◌, arith}
+use Rattle.std.specs.Prelude.{◌||◌, ◌&&◌, ◌==◌, Option, Some, None}
 use Rattle.saphyr_input.specs.Classes.{is_blank, is_bom, is_z}
 use Rattle.saphyr_input.specs.Places.{is_document_indicator, is_document_start, is_document_end}
 use Rattle.saphyr_scalar.specs.declared.scalar.position.Marker.{Marker}
@@ -14,7 +14,7 @@ use Rattle.saphyr_scanner.specs.State.{State, carried, acted}
 use Rattle.saphyr_scanner.specs.Unrolling.{unroll}
 use Rattle.saphyr_scanner.specs.Fetch.{step, content, fetch_here, arrive, fetch}
 use Rattle.saphyr_scanner.proofs.JsonStates.{cursor_at, queue_of, none_before, and_false}
-use Rattle.saphyr_scanner.proofs.InFlow.States.{Around, core_at, state_at, least, least_low, not_left, drops, key_left, left_in_flow, none_unrolls, Deepens, Comes, comes}
+use Rattle.saphyr_scanner.proofs.InFlow.States.{Around, core_at, state_at, least, least_low, not_left, drops, key_left, left_in_flow, left_or_none, none_unrolls, Deepens, Comes, comes}
 use Rattle.saphyr_scanner.proofs.FlowStates.{past}
 use Rattle.saphyr_scanner.proofs.FlowGaps.{gap_past, past_count}
 
@@ -52,6 +52,7 @@ pub record Arrives (around : Around) (s : Cursor) (x : Context) (k : Option Cand
   pub right : around.indent ≤ m.col
   pub calm : around.pending ≡ false
   pub same : is_block x ≡ false → (key ≡ k) × (allowed ≡ a)
+  pub kept : (key ≡ None) ⊎ (key ≡ k)
 
 pub arrives : (around : Around) (s : Cursor) (x : Context) (k : Option Candidate) (ls : List Level) (a : Bool) (ad : ℕ) (ps : List Place) (m : Marker) (y : List ℕ) → past around.indent s.mark s.rest ≡ (m, y)
     → is_blank (slice_index y 0) ≡ false → around.indent ≤ m.col → around.pending ≡ false → Arrives around s x k ls a ad ps m y
@@ -70,6 +71,7 @@ arrives around s x k ls a ad ps m y text inked right calm =
       right = right;
       calm = calm;
       same = λ e. (left_in_flow x k m e, g.same e);
+      kept = left_or_none x k m;
     }
 
 -- neither the end nor something else that stands at the start of a line alone

@@ -1,5 +1,5 @@
 -- The brackets and braces of a text in flow style are read.
-use Rattle.std.proofs.Common.{◌≡◌, ℕ, ◌<◌, ◌≤◌, Bool, true, false, List, [], ◌∷◌, ◌++◌, length, slice_index, Result, Ok, Err, refl, sym, ap, ◌∙◌, arith, subst, append_assoc, cond, IsTrue}
+use Rattle.std.proofs.Common.{◌≡◌, ◌⊎◌, ℕ, ◌<◌, ◌≤◌, Bool, true, false, List, [], ◌∷◌, ◌++◌, length, slice_index, Result, Ok, Err, refl, sym, ap, ◌∙◌, arith, subst, append_assoc, cond, IsTrue}
 use Rattle.std.specs.Prelude.{◌&&◌, ◌==◌, Option, None}
 use Rattle.std.specs.List.{list_all}
 use Rattle.saphyr_input.specs.Classes.{is_blank, is_z, line_feed}
@@ -23,11 +23,12 @@ use Rattle.saphyr_scanner.proofs.InFlow.States.{Around, core_at, state_at, Calm,
 use Rattle.saphyr_scanner.proofs.JsonStates.{cursor_at, queue_of}
 use Rattle.saphyr_scanner.proofs.JsonMarks.{kinds, saved, level_of}
 use Rattle.saphyr_scanner.proofs.JsonBrackets.{place_of}
-use Rattle.saphyr_scanner.proofs.FlowStates.{moved, past, IsClear, IsInk, IsParted, Known, fresh_key, Passes, Fits}
+use Rattle.saphyr_scanner.proofs.FlowStates.{Since, moved, past, IsClear, IsInk, IsParted, Known, fresh_key, Passes, Fits}
 use Rattle.saphyr_scanner.proofs.FlowPlaces.{moved_index, right_one, clear_here}
 use Rattle.saphyr_scanner.proofs.FlowFillers.{one_right}
 use Rattle.saphyr_scanner.proofs.FlowGaps.{past_ink, past_low}
 use Rattle.saphyr_scanner.proofs.FlowArrivals.{BeginsToken, arrives, one, within_index}
+use Rattle.saphyr_scanner.proofs.FlowTokens.{saved_since}
 use Rattle.saphyr_scanner.proofs.FlowSeparates.{separates}
 use Rattle.saphyr_scanner.proofs.FlowJoins.{once}
 
@@ -60,6 +61,7 @@ pub open_passes : (around : Around) (y : Context) → is_block y ≡ false → (
     → (m : Marker) (o : List ℕ) → Fits around m (ch ∷ []) o → IsParted around.indent o
     → (s : Cursor) (x : Context) (k : Option Candidate) (ls : List Level) (a : Bool) (ad : ℕ) (ps : List Place) → length ls < 255 → Calm around x → ad ≤ m.index → past around.indent s.mark s.rest ≡ past around.indent m (ch ∷ o)
     → (j : Option Candidate) × (is_block x ≡ false → j ≡ saved a (length ps) m k) × Passes around (state_at around s x k ls a ad ps) (opened_collection (moved m (ch ∷ []))) y (level_of x j ∷ ls) ps (moved m (ch ∷ [])) o (kind ∷ [])
+    × ((t : List ℕ) → (key : Option Candidate) → (key ≡ None) ⊎ (key ≡ j) → Since k m t key)
 open_passes around y in_flow kind ch mark begins m o fits parted s x k ls a ad ps low calm before text =
     let v = arrives around s x k ls a ad ps m (ch ∷ o) (text ∙ past_ink around.indent m ch o mark.ink) mark.ink.blank fits.right fits.calm in
     let key = saved v.allowed (length ps) m v.key in
@@ -75,6 +77,7 @@ open_passes around y in_flow kind ch mark begins m o fits parted s x k ls a ad p
       saved_so x a v.allowed (length ps) m k v.key v.same,
       once true ad p.there ps new (moved m (ch ∷ [])) o (kind ∷ []) (opened_collection (moved m (ch ∷ []))) came (right_one around.indent m ch mark.feed fits.right)
           (p.lands ∙ ap (λ (q : Marker). past around.indent q o) (mark_moved m ch mark)) refl ((came.same in_flow, refl, one_on m ch ad before), (record { span = record { start = m; end = p.there.mark }; kind = kind }, refl)),
+      λ t j h. saved_since v.allowed (length ps) m k v.key t j v.kept h,
     )
 
 -- ## A closing bracket
@@ -100,6 +103,7 @@ mark_kinds false m e kind = refl
 -- Behind a collection the key is that of the level around it. Where blanks alone stand before a colon, it may stand at once.
 pub record IsClosed (indent : ℕ) (x : Context) (j : Option Candidate) (m : Marker) (o : List ℕ) (key : Option Candidate) (adjacent : ℕ) : Type 0 where
   pub keeps : is_block x ≡ false → key ≡ j
+  pub kept : (key ≡ None) ⊎ (key ≡ j)
   pub near : is_block x ≡ false → (w more : List ℕ) → o ≡ w ++ (58 ∷ more) → IsSeparation indent w → IsTrue (list_all is_blank w) → adjacent ≡ (moved m w).index
   pub low : adjacent ≤ (past indent m o).0.index
 
@@ -153,6 +157,7 @@ close_passes around y flows ends kind ch mark begins m o fits found there is lan
     (lands ∙ ap (λ (q : Marker). past around.indent q o) here) (mark_kinds ends m there.mark kind)
     (record {
       keeps = came.same;
+      kept = came.kept;
       near = λ e w more text parts blank.
           rw e (ap (λ (q : Marker). q.index) (one_place around.indent (cursor_at o (along m 1) false) found there is w more text parts (one_right around.indent m.col fits.right) blank ∙ ap (λ (q : Marker). moved q w) here));
       low = either (is_block x) ad there.mark.index (past around.indent (moved m (ch ∷ [])) o).0.index (one_behind around.indent m ch o ad before)

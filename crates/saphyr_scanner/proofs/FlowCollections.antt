@@ -20,7 +20,7 @@ use Rattle.saphyr_scanner.specs.Fetch.{step}
 use Rattle.saphyr_scanner.proofs.InFlow.States.{Around, core_at, state_at, Calm}
 use Rattle.saphyr_scanner.proofs.JsonStates.{cursor_at}
 use Rattle.saphyr_scanner.proofs.JsonMarks.{saved, level_of}
-use Rattle.saphyr_scanner.proofs.FlowStates.{moved, past, IsParted, IsBehindRoot, Known, Passes, Fits, ended}
+use Rattle.saphyr_scanner.proofs.FlowStates.{Since, Kept, keeping, moved, past, IsParted, IsBehindRoot, Known, Passes, Fits, ended}
 use Rattle.saphyr_scanner.proofs.FlowPlaces.{moved_append}
 use Rattle.saphyr_scanner.proofs.FlowGaps.{past_ink, less_on}
 use Rattle.saphyr_scanner.proofs.FlowFillers.{one_right, rest_past}
@@ -80,15 +80,16 @@ pub record AreBrackets (b : Brackets) : Type 0 where
   pub begins : (second i : ℕ) (c : Core) → step b.opening second i c ≡ flow.start b.context b.opens i c
 
 -- Behind a collection: as behind a node, of which blanks alone stand before a colon that may stand at once.
-pub record IsBracketed (indent : ℕ) (x : Context) (kept : Option Candidate) (m : Marker) (o : List ℕ) (key : Option Candidate) (adjacent : ℕ) (new : List Place) : Type 0 where
+pub record IsBracketed (indent : ℕ) (x : Context) (kept : Kept) (m : Marker) (o : List ℕ) (key : Option Candidate) (adjacent : ℕ) (new : List Place) : Type 0 where
   pub piece : Piece
   pub others : List Place
   pub is : new ≡ closed piece ∷ others
-  pub keeps : is_block x ≡ false → key ≡ kept
+  pub keeps : is_block x ≡ false → key ≡ kept.kept
+  pub since : Since kept.before kept.from kept.over key
   pub near : is_block x ≡ false → (w more : List ℕ) → o ≡ w ++ (58 ∷ more) → IsSeparation indent w → IsTrue (list_all is_blank w) → adjacent ≡ (moved m w).index
   pub low : adjacent ≤ (past indent m o).0.index
 
-abbrev pub bracketed : ℕ → Context → Option Candidate → Marker → List ℕ → Known
+abbrev pub bracketed : ℕ → Context → Kept → Marker → List ℕ → Known
 bracketed indent x kept m o key allowed adjacent new = IsBracketed indent x kept m o key adjacent new
 
 -- the text from the opening bracket to the closing one
@@ -101,7 +102,7 @@ RunsInside around Is b x ls m inside o =
     (s : Cursor) (k j : Option Candidate) (a : Bool) (ad : ℕ) (ps : List Place) → k ≡ None → a ≡ true → ad < m.index → around.indent ≤ m.col → past around.indent s.mark s.rest ≡ past around.indent m (inside ++ (b.closing ∷ o))
     → InsidePasses around (state_at around s b.context k (level_of x j ∷ ls) a ad ps) Is b.closing b.closes (level_of x j ∷ ls) ps (moved m inside) (b.closing ∷ o)
 
-pub record BracketsPass (around : Around) (start : Bool → State) (Is : List Kind → Type 0) (b : Brackets) (kept : Option Candidate) (x : Context) (ls : List Level) (ps : List Place) (m : Marker) (o : List ℕ) :
+pub record BracketsPass (around : Around) (start : Bool → State) (Is : List Kind → Type 0) (b : Brackets) (kept : Kept) (x : Context) (ls : List Level) (ps : List Place) (m : Marker) (o : List ℕ) :
     Type 0 where
   pub inside : List Kind
   pub are : Is inside
@@ -119,7 +120,7 @@ pub brackets_pass : (around : Around) (Is : List Kind → Type 0) (b : Brackets)
     → (s : Cursor) (x : Context) (k : Option Candidate) (ls : List Level) (a : Bool) (ad : ℕ) (ps : List Place) → length ls < 255 → Calm around x → ad ≤ m.index
     → past around.indent s.mark s.rest ≡ past around.indent m (bracket_text b w inside ++ o)
     → RunsInside around Is b x ls (moved m (b.opening ∷ w)) inside o
-    → BracketsPass around (state_at around s x k ls a ad ps) Is b (saved a (length ps) m k) x ls ps (moved m (bracket_text b w inside)) o
+    → BracketsPass around (state_at around s x k ls a ad ps) Is b (keeping a (length ps) m k (bracket_text b w inside)) x ls ps (moved m (bracket_text b w inside)) o
 brackets_pass around Is b are m w inside o fits parts parted ends s x k ls a ad ps low calm before text run =
     let close = b.closing ∷ [] in
     let follow : (inside ++ close) ++ o ≡ inside ++ (b.closing ∷ o) = append_assoc inside close o in
@@ -143,12 +144,13 @@ brackets_pass around Is b are m w inside o fits parts parted ends s x k ls a ad 
     let c = close_passes around r.inside r.flows (ends_pair r.inside) b.closes b.closing are.closing_mark r.closes at_end o closing_fits at_close.found at_close.there at_close.is at_close.lands
     q.there q.key j x ls q.allowed q.adjacent (ps ++ q.new) calm q.knows.1 q.fits in
     let end = moved at_end close in
-    let kept = saved a (length ps) m k in
+    let kept = keeping a (length ps) m k (bracket_text b w inside) in
     let known : IsBracketed around.indent x kept end o c.key c.adjacent (q.new ++ c.new) = record {
       piece = piece;
       others = q.knows.0.0 ++ c.new;
       is = ap (λ (z : List Place). z ++ c.new) q.knows.0.1;
       keeps = λ e. c.knows.keeps e ∙ opened.1 e;
+      since = opened.3 (bracket_text b w inside) c.key c.knows.kept;
       near = c.knows.near;
       low = c.knows.low;
     } in

@@ -90,14 +90,14 @@ quotes_pass reads around node quote value t o m h fits behind s x k ls a ad ps f
 abbrev pub ClosesContent : Around → Style → List ℕ → List ℕ → List ℕ → Marker → Type 0
 ClosesContent around style value t o m =
     (s : Cursor) (k : Option Candidate) (a : Bool) (ad : ℕ) (ps : List Place) → ad ≤ m.index → past around.indent s.mark s.rest ≡ past around.indent m (t ++ o)
-    → Closes around (state_at around s context.Block k [] a ad ps) ps (moved m t) o (scalar_token style value ∷ [])
+    → Closes around (state_at around s context.Block k [] a ad ps) k m t ps (moved m t) o (scalar_token style value ∷ [])
 
 quotes_close : Reads → (around : Around) (quote : Quote) (value t o : List ℕ) (m : Marker) → IsQuoted quote around.indent value t → Fits around m t o → IsBehindRoot around.indent (moved m t) o
     → ClosesContent around (style_of quote) value t o m
 quotes_close reads around quote value t o m h fits behind s k a ad ps before text =
     let apart = white_apart (slice_index o 0) (root_first around.indent (moved m t) o behind) in
     let q = quoted_passes reads around quote value t o m h fits apart s context.Block k [] a ad ps (root_ends_quotes around m (moved m t) o behind) text in
-    root q (same_low q.adjacent (past around.indent (moved m t) o).0.index q.knows.tells)
+    root q (same_low q.adjacent (past around.indent (moved m t) o).0.index q.knows.tells) q.knows.since
 
 -- ## Plain scalars
 
@@ -128,7 +128,7 @@ plains_close reads around value t o m h fits behind s k a ad ps before text =
     let right = plain_right false around.indent m t o h.0 fits.clear fits.right in
     let end = past around.indent (moved m t) o in
     let q = plain_closes reads around t o m h.0 fits (ends_at_root around.indent (moved m t) o behind right) (lands_on_ink around.indent end.0 end.1 behind.lands) s k a ad ps before text in
-    subst (λ (v : List ℕ). Closes around (state_at around s context.Block k [] a ad ps) ps (moved m t) o (scalar_token Plain v ∷ [])) (sym h.1) q
+    subst (λ (v : List ℕ). Closes around (state_at around s context.Block k [] a ad ps) k m t ps (moved m t) o (scalar_token Plain v ∷ [])) (sym h.1) q
 
 -- ## The content
 

@@ -17,16 +17,16 @@ use Rattle.saphyr_scanner.specs.Forest.{Properties, no_properties}
 use Rattle.saphyr_scanner.specs.FlowNodes.{IsProperties, IsBeforeContent}
 use Rattle.saphyr_scanner.proofs.InFlow.States.{Around, state_at, Calm}
 use Rattle.saphyr_scanner.proofs.JsonMarks.{saved}
-use Rattle.saphyr_scanner.proofs.FlowStates.{moved, past, IsParted, Passes, Fits, Reads}
+use Rattle.saphyr_scanner.proofs.FlowStates.{Since, Kept, keeping, moved, past, IsParted, Passes, Fits, Reads}
 use Rattle.saphyr_scanner.proofs.FlowPlaces.{moved_append, moved_index}
-use Rattle.saphyr_scanner.proofs.FlowJoins.{join, behind}
+use Rattle.saphyr_scanner.proofs.FlowJoins.{since_join, join, behind}
 use Rattle.saphyr_scanner.proofs.FlowProperties.{behind_properties as read_properties, properties_read}
 use Rattle.saphyr_scanner.proofs.FlowSpaces.{separation_begins}
 use Rattle.saphyr_scanner.proofs.FlowPieces.{fits_front, fits_back}
 use Rattle.saphyr_scanner.proofs.FlowCollections.{EndsAt, Brackets, AreBrackets, IsBracketed, bracketed, bracket_text, RunsInside, brackets_pass}
 
 -- the tokens of properties and of a collection behind them, and the run over its text
-pub record CollectionPasses (around : Around) (start : Bool → State) (Is : List Kind → Type 0) (b : Brackets) (p : Properties) (kept : Option Candidate) (x : Context) (ls : List Level) (ps : List Place)
+pub record CollectionPasses (around : Around) (start : Bool → State) (Is : List Kind → Type 0) (b : Brackets) (p : Properties) (kept : Kept) (x : Context) (ls : List Level) (ps : List Place)
     (m : Marker) (o : List ℕ) : Type 0 where
   pub properties : List Kind
   pub are_properties : grammar.AreProperties p properties
@@ -58,7 +58,7 @@ bare_passes : (around : Around) (p : Properties) → p ≡ no_properties → (Is
     → Fits around m (bracket_text b w inside) o → IsSeparation around.indent w → IsParted around.indent (w ++ (inside ++ (b.closing ∷ o)))
     → (s : Cursor) (x : Context) (k : Option Candidate) (ls : List Level) (a : Bool) (ad : ℕ) (ps : List Place) → length ls < 255 → Calm around x → ad ≤ m.index
     → past around.indent s.mark s.rest ≡ past around.indent m (bracket_text b w inside ++ o) → Inside around Is b x ls m w inside o
-    → CollectionPasses around (state_at around s x k ls a ad ps) Is b p (saved a (length ps) m k) x ls ps (moved m (bracket_text b w inside)) o
+    → CollectionPasses around (state_at around s x k ls a ad ps) Is b p (keeping a (length ps) m k (bracket_text b w inside)) x ls ps (moved m (bracket_text b w inside)) o
 bare_passes around p none Is b are m w inside o fits parts parted s x k ls a ad ps low calm before text run =
     let r = brackets_pass around Is b are m w inside o fits parts parted run.0 s x k ls a ad ps low calm before text run.1 in
     record { properties = []; are_properties = subst (λ (q : Properties). grammar.AreProperties q []) (sym none) refl; inside = r.inside; are = r.are; passes = r.passes }
@@ -69,7 +69,7 @@ behind_properties : (around : Around) (p : Properties) → Reads → (Is : List 
     → IsProperties p t → v ≢ [] → IsSeparation around.indent v → IsSeparation around.indent w → IsParted around.indent (w ++ (inside ++ (b.closing ∷ o)))
     → (s : Cursor) (x : Context) (k : Option Candidate) (ls : List Level) (a : Bool) (ad : ℕ) (ps : List Place) → length ls < 255 → Calm around x → ad ≤ m.index
     → past around.indent s.mark s.rest ≡ past around.indent m (((t ++ v) ++ bracket_text b w inside) ++ o) → Inside around Is b x ls (moved m (t ++ v)) w inside o
-    → CollectionPasses around (state_at around s x k ls a ad ps) Is b p (saved a (length ps) m k) x ls ps (moved m ((t ++ v) ++ bracket_text b w inside)) o
+    → CollectionPasses around (state_at around s x k ls a ad ps) Is b p (keeping a (length ps) m k ((t ++ v) ++ bracket_text b w inside)) x ls ps (moved m ((t ++ v) ++ bracket_text b w inside)) o
 behind_properties around p P Is b are m t v w inside o fits h some gap parts parted s x k ls a ad ps low calm before text run =
     let body = bracket_text b w inside in
     let front_fits = fits_front m t v (body ++ o) (fits_front m (t ++ v) body o fits) in
@@ -78,9 +78,10 @@ behind_properties around p P Is b are m t v w inside o fits h some gap parts par
     (text ∙ ap (past around.indent m) texts) in
     let here = moved m (t ++ v) in
     let start = state_at around s x k ls a ad ps in
-    let kept = saved a (length ps) m k in
-    let q : Passes around start (read_properties x kept ad) x ls ps here (body ++ o) pp.tokens =
-    subst (λ (e : Marker). Passes around start (read_properties x kept ad) x ls ps e (body ++ o) pp.tokens) (sym (moved_append m t v)) (behind (moved m t) v (body ++ o) gap pp.passes) in
+    let kept = keeping a (length ps) m k ((t ++ v) ++ body) in
+    let front = keeping a (length ps) m k t in
+    let q : Passes around start (read_properties x front ad) x ls ps here (body ++ o) pp.tokens =
+    subst (λ (e : Marker). Passes around start (read_properties x front ad) x ls ps e (body ++ o) pp.tokens) (sym (moved_append m t v)) (behind (moved m t) v (body ++ o) gap pp.passes) in
     let still_before : q.adjacent ≤ here.index = subst (λ (n : ℕ). n ≤ here.index) (sym q.knows.still) (no_less ad m (t ++ v) before) in
     let r = brackets_pass around Is b are here w inside o (fits_back m (t ++ v) body o q.right fits) parts parted run.0 q.there x q.key ls q.allowed q.adjacent (ps ++ q.new) low calm still_before q.fits run.1 in
     let end = moved here body in
@@ -91,6 +92,8 @@ behind_properties around p P Is b are m t v w inside o fits h some gap parts par
       others = q.knows.properties.others ++ c.new;
       is = ap (λ (z : List Place). z ++ c.new) q.knows.properties.is;
       keeps = λ e. c.knows.keeps e ∙ still ∙ q.knows.properties.keeps e;
+      since = subst (λ (z : List ℕ). Since k m z c.key) (sym (append_assoc t v body))
+          (since_join k m t v body q.key c.key q.knows.since (subst (λ (z : Marker). Since q.key z body c.key) (moved_append m t v) c.knows.since));
       near = c.knows.near;
       low = c.knows.low;
     } in
@@ -102,14 +105,14 @@ pub collection_passes : (around : Around) (p : Properties) → Reads → (Is : L
     → IsBeforeContent p around.indent front → IsSeparation around.indent w → IsParted around.indent (w ++ (inside ++ (b.closing ∷ o)))
     → (s : Cursor) (x : Context) (k : Option Candidate) (ls : List Level) (a : Bool) (ad : ℕ) (ps : List Place) → length ls < 255 → Calm around x → ad ≤ m.index
     → past around.indent s.mark s.rest ≡ past around.indent m ((front ++ bracket_text b w inside) ++ o) → Inside around Is b x ls (moved m front) w inside o
-    → CollectionPasses around (state_at around s x k ls a ad ps) Is b p (saved a (length ps) m k) x ls ps (moved m (front ++ bracket_text b w inside)) o
+    → CollectionPasses around (state_at around s x k ls a ad ps) Is b p (keeping a (length ps) m k (front ++ bracket_text b w inside)) x ls ps (moved m (front ++ bracket_text b w inside)) o
 collection_passes around p P Is b are m front w inside o fits (inl (none, e)) parts parted s x k ls a ad ps low calm before text run =
     subst
     (λ (f : List ℕ). Fits around m (f ++ bracket_text b w inside) o → past around.indent s.mark s.rest ≡ past around.indent m ((f ++ bracket_text b w inside) ++ o) → Inside around Is b x ls (moved m f) w inside o
-    → CollectionPasses around (state_at around s x k ls a ad ps) Is b p (saved a (length ps) m k) x ls ps (moved m (f ++ bracket_text b w inside)) o)
+    → CollectionPasses around (state_at around s x k ls a ad ps) Is b p (keeping a (length ps) m k (f ++ bracket_text b w inside)) x ls ps (moved m (f ++ bracket_text b w inside)) o)
     (sym e) (λ f t r. bare_passes around p none Is b are m w inside o f parts parted s x k ls a ad ps low calm before t r) fits text run
 collection_passes around p P Is b are m front w inside o fits (inr (t, v, h, some, gap, e)) parts parted s x k ls a ad ps low calm before text run =
     subst
     (λ (f : List ℕ). Fits around m (f ++ bracket_text b w inside) o → past around.indent s.mark s.rest ≡ past around.indent m ((f ++ bracket_text b w inside) ++ o) → Inside around Is b x ls (moved m f) w inside o
-    → CollectionPasses around (state_at around s x k ls a ad ps) Is b p (saved a (length ps) m k) x ls ps (moved m (f ++ bracket_text b w inside)) o)
+    → CollectionPasses around (state_at around s x k ls a ad ps) Is b p (keeping a (length ps) m k (f ++ bracket_text b w inside)) x ls ps (moved m (f ++ bracket_text b w inside)) o)
     (sym e) (λ f z r. behind_properties around p P Is b are m t v w inside o f h some gap parts parted s x k ls a ad ps low calm before z r) fits text run

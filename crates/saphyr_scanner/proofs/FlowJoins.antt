@@ -1,6 +1,6 @@
 -- Runs over pieces of a text in flow style, one behind the other.
-use Rattle.std.proofs.Common.{◌≡◌, ℕ, ◌≤◌, Bool, List, [], ◌++◌, refl, ap, ◌∙◌, append_assoc, append-nil}
-use Rattle.std.specs.Prelude.{Option, None}
+use Rattle.std.proofs.Common.{◌≡◌, ◌⊎◌, inl, inr, sym, ℕ, ◌≤◌, Bool, List, [], ◌++◌, refl, ap, ◌∙◌, append_assoc, append-nil}
+use Rattle.std.specs.Prelude.{Option, Some, None}
 use Rattle.saphyr_scalar.specs.declared.scalar.position.Marker.{Marker}
 use Rattle.saphyr_scalar.specs.Cursor.{Cursor}
 use Rattle.saphyr_scalar.specs.Spaces.{IsSeparation}
@@ -12,7 +12,8 @@ use Rattle.saphyr_scanner.specs.Core.{Candidate, Level}
 use Rattle.saphyr_scanner.specs.State.{State}
 use Rattle.saphyr_scanner.proofs.InFlow.States.{Around, state_at, stays, chains, Comes}
 use Rattle.saphyr_scanner.proofs.JsonMarks.{kinds, kinds_append}
-use Rattle.saphyr_scanner.proofs.FlowStates.{moved, past, Known, Passes, Closes}
+use Rattle.saphyr_scanner.proofs.FlowStates.{moved, past, Since, Known, Passes, Closes}
+use Rattle.saphyr_scanner.proofs.FlowPlaces.{moved_append}
 use Rattle.saphyr_scanner.proofs.FlowFillers.{separation_past, right_behind}
 
 -- a piece, and another behind it
@@ -33,10 +34,29 @@ join {ps = ps} {ts = ts} {us = us} p q all knows =
       knows = knows;
     }
 
+-- what may be a key behind two texts with separation between
+pub since_join : (k : Option Candidate) (m : Marker) (a w b : List ℕ) (j key : Option Candidate) → Since k m a j → Since j (moved (moved m a) w) b key → Since k m (a ++ (w ++ b)) key
+since_join k m a w b j key f (inl e) = inl e
+since_join k m a w b j key f (inr (inl e)) = earlier f
+  where
+    earlier : Since k m a j → Since k m (a ++ (w ++ b)) key
+    earlier (inl g) = inl (e ∙ g)
+    earlier (inr (inl g)) = inr (inl (e ∙ g))
+    earlier (inr (inr (front, back, place, is, g))) = inr (inr (front, back ++ (w ++ b), place, ap (λ (x : List ℕ). x ++ (w ++ b)) is ∙ append_assoc front back (w ++ b), e ∙ g))
+since_join k m a w b j key f (inr (inr (front, back, place, is, g))) =
+    let here : moved (moved (moved m a) w) front ≡ moved m (a ++ (w ++ front)) = sym (moved_append m a (w ++ front) ∙ moved_append (moved m a) w front) in
+    inr (inr (
+      a ++ (w ++ front),
+      back,
+      place,
+      ap (λ (x : List ℕ). a ++ (w ++ x)) is ∙ ap (λ (x : List ℕ). a ++ x) (sym (append_assoc w front back)) ∙ sym (append_assoc a (w ++ front) back),
+      g ∙ ap (λ (n : Marker). Some (let c : Candidate = record { mark = n; place = place } in c)) here,
+    ))
+
 -- a document's node, behind a piece that stands before it
 pub join_root : {around : Around} {start : Bool → State} {known : Known} {ps : List Place} {m e : Marker} {o z : List ℕ} {ts us : List Kind} → (p : Passes around start known context.Block [] ps m o ts)
-    → (q : Closes around (state_at around p.there context.Block p.key [] p.allowed p.adjacent (ps ++ p.new)) (ps ++ p.new) e z us) → Closes around start ps e z (ts ++ us)
-join_root {ps = ps} {ts = ts} p q =
+    {j k : Option Candidate} {first next : Marker} {t u : List ℕ} → (q : Closes around (state_at around p.there context.Block p.key [] p.allowed p.adjacent (ps ++ p.new)) j next u (ps ++ p.new) e z us) → Since k first t q.key → Closes around start k first t ps e z (ts ++ us)
+join_root {ps = ps} {ts = ts} p q late =
     record {
       there = q.there;
       key = q.key;
@@ -48,11 +68,12 @@ join_root {ps = ps} {ts = ts} p q =
       fits = q.fits;
       are = kinds_append p.new q.new ∙ ap (λ x. x ++ kinds q.new) p.are ∙ ap (λ x. ts ++ x) q.are;
       low = q.low;
+      late = late;
     }
 
 -- a document's node behind which no comment is noted
-pub root : {around : Around} {start : Bool → State} {known : Known} {ps : List Place} {m : Marker} {o : List ℕ} {ts : List Kind} → (p : Passes around start known context.Block [] ps m o ts) → p.adjacent ≤ (past around.indent m o).0.index → Closes around start ps m o ts
-root p low = record { there = p.there; key = p.key; allowed = p.allowed; adjacent = p.adjacent; comment = None; new = p.new; leads = p.leads; fits = p.fits; are = p.are; low = low }
+pub root : {around : Around} {start : Bool → State} {known : Known} {ps : List Place} {m : Marker} {o : List ℕ} {ts : List Kind} → (p : Passes around start known context.Block [] ps m o ts) → p.adjacent ≤ (past around.indent m o).0.index → {k : Option Candidate} {first : Marker} {t : List ℕ} → Since k first t p.key → Closes around start k first t ps m o ts
+root p low late = record { there = p.there; key = p.key; allowed = p.allowed; adjacent = p.adjacent; comment = None; new = p.new; leads = p.leads; fits = p.fits; are = p.are; low = low; late = late }
 
 -- the separation behind a piece
 pub behind : {around : Around} {start : Bool → State} {known : Known} {x : Context} {ls : List Level} {ps : List Place} {ts : List Kind} → (m : Marker) (w o : List ℕ) → IsSeparation around.indent w

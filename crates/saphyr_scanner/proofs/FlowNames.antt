@@ -25,7 +25,7 @@ use Rattle.saphyr_scanner.proofs.LineTexts.{name_no_break, tag_no_break}
 use Rattle.saphyr_scanner.proofs.InFlow.States.{Around, core_at, state_at, Placed, placed_right, saves_key, as_before}
 use Rattle.saphyr_scanner.proofs.JsonStates.{cursor_at}
 use Rattle.saphyr_scanner.proofs.JsonMarks.{saved}
-use Rattle.saphyr_scanner.proofs.FlowStates.{moved, past, Reads, Passes, Fits}
+use Rattle.saphyr_scanner.proofs.FlowStates.{keeping, moved, past, Reads, Passes, Fits}
 use Rattle.saphyr_scanner.proofs.FlowPlaces.{moved_along, right_along}
 use Rattle.saphyr_scanner.proofs.FlowTokens.{Begins, after_token, token_passes}
 use Rattle.saphyr_scanner.proofs.FlowTags.{tag_read, tag_first}
@@ -70,7 +70,7 @@ name_step reads around d is_alias n m b indicator name o e h ends x k ls a ad pl
 name_passes : Reads → (around : Around) (is_alias : Bool) (indicator : ℕ) (name o : List ℕ) (m : Marker) → ((second n : ℕ) (c : Core) → step indicator second n c ≡ property.name is_alias n c)
     → Begins (indicator ∷ name) → is_break indicator ≡ false → IsAnchorName name → is_anchor_char (slice_index o 0) ≡ false → Fits around m (indicator ∷ name) o
     → (s : Cursor) (x : Context) (k : Option Candidate) (ls : List Level) (a : Bool) (ad : ℕ) (ps : List Place) → past around.indent s.mark s.rest ≡ past around.indent m ((indicator ∷ name) ++ o)
-    → Passes around (state_at around s x k ls a ad ps) (after_token (closes_key ad) x (saved a (length ps) m k)) x ls ps (moved m (indicator ∷ name)) o (name_token is_alias (encode_utf8_all name) ∷ [])
+    → Passes around (state_at around s x k ls a ad ps) (after_token (closes_key ad) x (keeping a (length ps) m k (indicator ∷ name))) x ls ps (moved m (indicator ∷ name)) o (name_token is_alias (encode_utf8_all name) ∷ [])
 name_passes reads around is_alias indicator name o m begins first break h ends fits s x k ls a ad ps text =
     let kind = name_token is_alias (encode_utf8_all name) in
     let end = moved m (indicator ∷ name) in
@@ -104,18 +104,18 @@ alias_first name = record { first = 42; others = name; is = refl; ink = record {
 
 pub anchor_passes : Reads → (around : Around) (name t o : List ℕ) (m : Marker) → IsAnchor name t → is_anchor_char (slice_index o 0) ≡ false → Fits around m t o
     → (s : Cursor) (x : Context) (k : Option Candidate) (ls : List Level) (a : Bool) (ad : ℕ) (ps : List Place) → past around.indent s.mark s.rest ≡ past around.indent m (t ++ o)
-    → Passes around (state_at around s x k ls a ad ps) (after_token (closes_key ad) x (saved a (length ps) m k)) x ls ps (moved m t) o (anchor_token name ∷ [])
+    → Passes around (state_at around s x k ls a ad ps) (after_token (closes_key ad) x (keeping a (length ps) m k t)) x ls ps (moved m t) o (anchor_token name ∷ [])
 anchor_passes reads around name t o m h ends fits s x k ls a ad ps text =
     subst (λ (p : List ℕ). Fits around m p o → past around.indent s.mark s.rest ≡ past around.indent m (p ++ o)
-    → Passes around (state_at around s x k ls a ad ps) (after_token (closes_key ad) x (saved a (length ps) m k)) x ls ps (moved m p) o (anchor_token name ∷ []))
+    → Passes around (state_at around s x k ls a ad ps) (after_token (closes_key ad) x (keeping a (length ps) m k p)) x ls ps (moved m p) o (anchor_token name ∷ []))
     (sym h.1) (λ f e. name_passes reads around false 38 name o m begins_anchor (anchor_first name) refl h.0 ends f s x k ls a ad ps e) fits text
 
 pub alias_token_passes : Reads → (around : Around) (name t o : List ℕ) (m : Marker) → IsAlias name t → is_anchor_char (slice_index o 0) ≡ false → Fits around m t o
     → (s : Cursor) (x : Context) (k : Option Candidate) (ls : List Level) (a : Bool) (ad : ℕ) (ps : List Place) → past around.indent s.mark s.rest ≡ past around.indent m (t ++ o)
-    → Passes around (state_at around s x k ls a ad ps) (after_token (closes_key ad) x (saved a (length ps) m k)) x ls ps (moved m t) o (alias_token name ∷ [])
+    → Passes around (state_at around s x k ls a ad ps) (after_token (closes_key ad) x (keeping a (length ps) m k t)) x ls ps (moved m t) o (alias_token name ∷ [])
 alias_token_passes reads around name t o m h ends fits s x k ls a ad ps text =
     subst (λ (p : List ℕ). Fits around m p o → past around.indent s.mark s.rest ≡ past around.indent m (p ++ o)
-    → Passes around (state_at around s x k ls a ad ps) (after_token (closes_key ad) x (saved a (length ps) m k)) x ls ps (moved m p) o (alias_token name ∷ []))
+    → Passes around (state_at around s x k ls a ad ps) (after_token (closes_key ad) x (keeping a (length ps) m k p)) x ls ps (moved m p) o (alias_token name ∷ []))
     (sym h.1) (λ f e. name_passes reads around true 42 name o m begins_alias (alias_first name) refl h.0 ends f s x k ls a ad ps e) fits text
 
 -- ## Tags
@@ -139,7 +139,7 @@ begins_tag second n c = refl
 
 pub tag_passes : Reads → (around : Around) (tag : Tag) (t o : List ℕ) (m : Marker) → IsTag tag t → Fits around m t o
     → (s : Cursor) (x : Context) (k : Option Candidate) (ls : List Level) (a : Bool) (ad : ℕ) (ps : List Place) → EndsTag (not (is_block x)) o → past around.indent s.mark s.rest ≡ past around.indent m (t ++ o)
-    → Passes around (state_at around s x k ls a ad ps) (after_token (closes_key ad) x (saved a (length ps) m k)) x ls ps (moved m t) o (tag_token tag ∷ [])
+    → Passes around (state_at around s x k ls a ad ps) (after_token (closes_key ad) x (keeping a (length ps) m k t)) x ls ps (moved m t) o (tag_token tag ∷ [])
 tag_passes reads around tag t o m h fits s x k ls a ad ps ends text =
     let r = tag_read tag t h in
     let f = tag_first t r.handle r.suffix r.is in
@@ -149,7 +149,7 @@ tag_passes reads around tag t o m h fits s x k ls a ad ps ends text =
     let end = moved m t in
     let n = length ps in
     let kind = tokens.Tag (encode_utf8_all r.handle) (encode_utf8_all r.suffix) in
-    subst (λ (q : Kind). Passes around (state_at around s x k ls a ad ps) (after_token (closes_key ad) x (saved a (length ps) m k)) x ls ps (moved m t) o (q ∷ [])) r.token
+    subst (λ (q : Kind). Passes around (state_at around s x k ls a ad ps) (after_token (closes_key ad) x (keeping a (length ps) m k t)) x ls ps (moved m t) o (q ∷ [])) r.token
     (token_passes around (closes_key ad) kind t o m first fits (unbroken_right around.indent m t (tag_no_break t r.handle r.suffix r.is) fits.right) s x k ls a ad ps text
     (λ b j e. record {
       there = at end o;

@@ -18,7 +18,7 @@ use Rattle.saphyr_scanner.specs.FlowNodes.{IsFlowNode}
 use Rattle.saphyr_scanner.proofs.InFlow.States.{Around, core_at, state_at, Calm}
 use Rattle.saphyr_scanner.proofs.JsonMarks.{saved, level_of}
 use Rattle.saphyr_scanner.proofs.JsonNodes.{begins_sequence, begins_mapping}
-use Rattle.saphyr_scanner.proofs.FlowStates.{moved, past, Fits, IsParted, IsBehindNode, Reads, after_node, PassesNode, ClosesNode, ClosesNodes}
+use Rattle.saphyr_scanner.proofs.FlowStates.{keeping, moved, past, Fits, IsParted, IsBehindNode, Reads, after_node, PassesNode, ClosesNode, ClosesNodes}
 use Rattle.saphyr_scanner.proofs.FlowPlaces.{moved_append}
 use Rattle.saphyr_scanner.proofs.FlowGaps.{past_ink}
 use Rattle.saphyr_scanner.proofs.FlowJoins.{knowing, root}
@@ -94,7 +94,7 @@ sequence_run : {around : Around} → Reads → (room : ℕ) (p : Properties) (no
     → IsFlowNode room (Seq p nodes) in_flow around.indent t → Fits around m t o
     → ((e : Marker) → around.indent ≤ e.col → EndsAt around.indent e o) → (s : Cursor) (x : Context) (k : Option Candidate) (ls : List Level) (a : Bool) (ad : ℕ) (ps : List Place) → room + length ls ≤ 255 → Calm around x → ad ≤ m.index
     → past around.indent s.mark s.rest ≡ past around.indent m (t ++ o)
-    → CollectionPasses around (state_at around s x k ls a ad ps) (grammar.AreFlowEntries nodes) square p (saved a (length ps) m k) x ls ps (moved m t) o
+    → CollectionPasses around (state_at around s x k ls a ad ps) (grammar.AreFlowEntries nodes) square p (keeping a (length ps) m k t) x ls ps (moved m t) o
 sequence_run {around} reads room p nodes in_flow items m t o (left, opening, inside, r, (front, w, f, parts, e), h, is) fits ends s x k ls a ad ps low calm before text =
     let text_is = whole_text t opening front w inside 91 93 is e in
     let whole = fits_so m t (front ++ bracket_text square w inside) o text_is fits in
@@ -105,14 +105,14 @@ sequence_run {around} reads room p nodes in_flow items m t o (left, opening, ins
     record { inside = i.inside; flows = i.flows; closes = ends_square around i.inside i.flows; tokens = i.tokens; are = i.are; passes = i.passes } in
     let c = collection_passes around p reads (grammar.AreFlowEntries nodes) square are_square m front w inside o whole f parts (parted_by around.indent w (inside ++ (93 ∷ o)) parts (items_ink around.indent left nodes inside o h))
     s x k ls a ad ps (omega (arith, r, low)) calm before (text ∙ ap (λ (z : List ℕ). past around.indent m (z ++ o)) text_is) (ends (moved here inside), run) in
-    subst (λ (n : Marker). CollectionPasses around (state_at around s x k ls a ad ps) (grammar.AreFlowEntries nodes) square p (saved a (length ps) m k) x ls ps n o) (ap (moved m) (sym text_is)) c
+    subst (λ (z : List ℕ). CollectionPasses around (state_at around s x k ls a ad ps) (grammar.AreFlowEntries nodes) square p (keeping a (length ps) m k z) x ls ps (moved m z) o) (sym text_is) c
 
 -- in braces
 mapping_run : {around : Around} → Reads → (room : ℕ) (p : Properties) (pairs : Pairs) (in_flow : Bool) → ((left : ℕ) → PassesPairs around left pairs) → (m : Marker) (t o : List ℕ)
     → IsFlowNode room (Map p pairs) in_flow around.indent t → Fits around m t o
     → ((e : Marker) → around.indent ≤ e.col → EndsAt around.indent e o) → (s : Cursor) (x : Context) (k : Option Candidate) (ls : List Level) (a : Bool) (ad : ℕ) (ps : List Place) → room + length ls ≤ 255 → Calm around x → ad ≤ m.index
     → past around.indent s.mark s.rest ≡ past around.indent m (t ++ o)
-    → CollectionPasses around (state_at around s x k ls a ad ps) (grammar.AreFlowPairs pairs) curly p (saved a (length ps) m k) x ls ps (moved m t) o
+    → CollectionPasses around (state_at around s x k ls a ad ps) (grammar.AreFlowPairs pairs) curly p (keeping a (length ps) m k t) x ls ps (moved m t) o
 mapping_run {around} reads room p pairs in_flow members m t o (left, opening, inside, r, (front, w, f, parts, e), h, is) fits ends s x k ls a ad ps low calm before text =
     let text_is = whole_text t opening front w inside 123 125 is e in
     let whole = fits_so m t (front ++ bracket_text curly w inside) o text_is fits in
@@ -123,7 +123,7 @@ mapping_run {around} reads room p pairs in_flow members m t o (left, opening, in
     record { inside = context.FlowMapping; flows = refl; closes = ends_curly around; tokens = i.tokens; are = subst (grammar.AreFlowPairs pairs) (sym (append-nil i.tokens)) i.are; passes = i.passes } in
     let c = collection_passes around p reads (grammar.AreFlowPairs pairs) curly are_curly m front w inside o whole f parts (parted_by around.indent w (inside ++ (125 ∷ o)) parts (pairs_ink around.indent left pairs inside o h))
     s x k ls a ad ps (omega (arith, r, low)) calm before (text ∙ ap (λ (z : List ℕ). past around.indent m (z ++ o)) text_is) (ends (moved here inside), run) in
-    subst (λ (n : Marker). CollectionPasses around (state_at around s x k ls a ad ps) (grammar.AreFlowPairs pairs) curly p (saved a (length ps) m k) x ls ps n o) (ap (moved m) (sym text_is)) c
+    subst (λ (z : List ℕ). CollectionPasses around (state_at around s x k ls a ad ps) (grammar.AreFlowPairs pairs) curly p (keeping a (length ps) m k z) x ls ps (moved m z) o) (sym text_is) c
 
 calm_in_flow : (around : Around) (x : Context) → is_block x ≡ false → Calm around x
 calm_in_flow around x e h = absurd (clash (is_block x) e h)
@@ -181,7 +181,7 @@ sequence_closes {around} reads p nodes items none_required m t o h fits behind s
     record {
       tokens = c.properties ++ (tokens.FlowSequenceStart ∷ (c.inside ++ tokens.FlowSequenceEnd ∷ []));
       are = (c.properties, tokens.FlowSequenceStart ∷ (c.inside ++ tokens.FlowSequenceEnd ∷ []), c.are_properties, inl (c.inside, c.are, refl), refl);
-      closes = root c.passes c.passes.knows.low;
+      closes = root c.passes c.passes.knows.low c.passes.knows.since;
     }
 
 mapping_closes : {around : Around} → Reads → (p : Properties) (pairs : Pairs) → ((left : ℕ) → PassesPairs around left pairs) → around.required ≡ false → ClosesNode around (Map p pairs)
@@ -191,7 +191,7 @@ mapping_closes {around} reads p pairs members none_required m t o h fits behind 
     record {
       tokens = c.properties ++ (tokens.FlowMappingStart ∷ (c.inside ++ tokens.FlowMappingEnd ∷ []));
       are = (c.properties, tokens.FlowMappingStart ∷ (c.inside ++ tokens.FlowMappingEnd ∷ []), c.are_properties, inl (c.inside, c.are, refl), refl);
-      closes = root c.passes c.passes.knows.low;
+      closes = root c.passes c.passes.knows.low c.passes.knows.since;
     }
 
 -- ## All nodes

@@ -1,6 +1,6 @@
 -- A step outside flow that notes a comment.
-use Rattle.std.proofs.Common.{◌≡◌, ℕ, ◌≤◌, Bool, true, false, List, length, slice_index, Ok, refl, ap, ◌∙◌}
-use Rattle.std.specs.Prelude.{Option}
+use Rattle.std.proofs.Common.{◌≡◌, ◌⊎◌, ℕ, ◌≤◌, Bool, true, false, List, length, slice_index, Ok, refl, ap, ◌∙◌}
+use Rattle.std.specs.Prelude.{Option, None}
 use Rattle.saphyr_scalar.specs.declared.scalar.position.Marker.{Marker}
 use Rattle.saphyr_scalar.specs.Cursor.{Cursor, ◌>>=◌}
 use Rattle.saphyr_scanner.specs.declared.engine.level.Context.TheVariants as context
@@ -9,7 +9,7 @@ use Rattle.saphyr_scanner.specs.Core.{Candidate, Level, Core, Action, perform, w
 use Rattle.saphyr_scanner.specs.State.{State, carried, acted}
 use Rattle.saphyr_scanner.specs.Fetch.{step, content, fetch_here, fetch, within, fetch_within}
 use Rattle.saphyr_scanner.proofs.Leads.{stay, onward}
-use Rattle.saphyr_scanner.proofs.InFlow.States.{Around, core_at, state_at, key_left, Run, Runs, Deepens}
+use Rattle.saphyr_scanner.proofs.InFlow.States.{Around, core_at, state_at, key_left, left_or_none, Run, Runs, Deepens}
 use Rattle.saphyr_scanner.proofs.JsonStates.{cursor_at, queue_of, none_before, within_limit}
 use Rattle.saphyr_scanner.proofs.FlowStates.{noted}
 use Rattle.saphyr_scanner.proofs.FlowArrivals.{Arrives, BeginsToken, begins_here}
@@ -28,15 +28,16 @@ drops around d comment s k ls a ad calm = by_distance (is_too_far k s.mark) refl
     by_distance false h = rw h refl
 
 -- where a step gives this, it leads there, but for the key
-pub record NotedComes (around : Around) (start : Bool → State) (comment : Option Marker) (s : Cursor) (ls : List Level) (a : Bool) (ad : ℕ) (ps : List Place) : Type 0 where
+pub record NotedComes (around : Around) (start : Bool → State) (comment : Option Marker) (s : Cursor) (k : Option Candidate) (ls : List Level) (a : Bool) (ad : ℕ) (ps : List Place) : Type 0 where
   pub key : Option Candidate
   pub leads : Runs around (λ d. noted comment (state_at around s context.Block key ls a ad ps d)) start
+  pub kept : (key ≡ None) ⊎ (key ≡ k)
 
 noted_comes : (around : Around) (start : Bool → State) (comment : Option Marker) (s : Cursor) (k : Option Candidate) (ls : List Level) (a : Bool) (ad : ℕ) (ps : List Place) (to : Bool → Bool) → Deepens around to
     → ((d : Bool) → (start d).core.ended ≡ false) → ((d : Bool) → fetch (start d) ≡ Ok (noted comment (state_at around s context.Block k ls a ad ps (to d)))) → s.mark.index ≤ around.limit → around.pending ≡ false
-    → NotedComes around start comment s ls a ad ps
+    → NotedComes around start comment s k ls a ad ps
 unfolding fetch_within
-noted_comes around start comment s k ls a ad ps to deepens going is low calm = record { key = key_left context.Block k s.mark; leads = record { run = λ d. one d } }
+noted_comes around start comment s k ls a ad ps to deepens going is low calm = record { key = key_left context.Block k s.mark; leads = record { run = λ d. one d }; kept = left_or_none context.Block k s.mark }
   where
     flatly : (d : Bool) → around.indent ≡ 0 → d ≡ false → to d ≡ false
     flatly true e h = absurd (cc)
@@ -59,7 +60,7 @@ pub noted_one : (around : Around) (s : Cursor) (k : Option Candidate) (ls : List
     → (comment : Option Marker) (t : Cursor) (j : Option Candidate) (ms : List Level) (b : Bool) (be : ℕ) (qs : List Place) (actions : List Action) (to : Bool → Bool) → Deepens around to
     → ((d : Bool) → step (slice_index y 0) (slice_index y 1) (length ps) (core_at around d (cursor_at y m v.blank) context.Block v.key ls v.allowed ad) ≡ went actions (core_with around (to d) comment t j ms b be))
     → perform actions (queue_of ps) ≡ queue_of qs → t.mark.index ≤ around.limit
-    → NotedComes around (state_at around s context.Block k ls a ad ps) comment t ms b be qs
+    → NotedComes around (state_at around s context.Block k ls a ad ps) comment t j ms b be qs
 unfolding fetch content
 noted_one around s k ls a ad ps m y v h comment t j ms b be qs actions to deepens is done low =
     let seen = cursor_at y m v.blank in

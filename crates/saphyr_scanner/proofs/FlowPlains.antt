@@ -25,12 +25,12 @@ use Rattle.saphyr_scanner.proofs.InFlow.States.{Around, core_at, state_at, Place
 use Rattle.saphyr_scanner.proofs.JsonStates.{cursor_at, and_false}
 use Rattle.saphyr_scanner.proofs.JsonMarks.{saved}
 use Rattle.saphyr_scanner.proofs.JsonBrackets.{place_of}
-use Rattle.saphyr_scanner.proofs.FlowStates.{moved, past, IsClear, Reads, Passes, Closes, Fits}
+use Rattle.saphyr_scanner.proofs.FlowStates.{keeping, moved, past, IsClear, Reads, Passes, Closes, Fits}
 use Rattle.saphyr_scanner.proofs.FlowPlaces.{moved_count}
 use Rattle.saphyr_scanner.proofs.FlowFillers.{white_past}
 use Rattle.saphyr_scanner.proofs.FlowArrivals.{arrives, within_index}
 use Rattle.saphyr_scanner.proofs.FlowLow.{behind_low}
-use Rattle.saphyr_scanner.proofs.FlowTokens.{Begins, begins_past, begins_inked, begins_token, after_token, token_passes}
+use Rattle.saphyr_scanner.proofs.FlowTokens.{Begins, saved_since, begins_past, begins_inked, begins_token, after_token, token_passes}
 use Rattle.saphyr_scanner.proofs.FlowWords.{passed_moved, normalized_same, ink_other, no_break, plain_text, plain_right}
 use Rattle.saphyr_scanner.proofs.FlowNoted.{noted_one}
 
@@ -206,7 +206,7 @@ no_comment f u e = rw e refl
 
 pub plain_passes : Reads → (around : Around) (t o : List ℕ) (m : Marker) → IsPlain true around.indent t → Fits around m t o → EndsPlain true around.indent (moved m t) o → is_blank (slice_index (past around.indent (moved m t) o).1 0) ≡ false
     → (s : Cursor) (x : Context) (k : Option Candidate) (ls : List Level) (a : Bool) (ad : ℕ) (ps : List Place) → is_block x ≡ false → ad < m.index → past around.indent s.mark s.rest ≡ past around.indent m (t ++ o)
-    → Passes around (state_at around s x k ls a ad ps) (after_token (still_adjacent ad) x (saved a (length ps) m k)) x ls ps (moved m t) o (scalar_token Plain (plain_value t) ∷ [])
+    → Passes around (state_at around s x k ls a ad ps) (after_token (still_adjacent ad) x (keeping a (length ps) m k t)) x ls ps (moved m t) o (scalar_token Plain (plain_value t) ∷ [])
 plain_passes reads around t o m h fits ends inked s x k ls a ad ps flow low text =
     let inside : not (is_block x) ≡ true = ap not flow in
     let u = past_white (moved m t) false o in
@@ -231,7 +231,7 @@ plain_passes reads around t o m h fits ends inked s x k ls a ad ps flow low text
 
 pub plain_closes : Reads → (around : Around) (t o : List ℕ) (m : Marker) → IsPlain false around.indent t → Fits around m t o → EndsPlain false around.indent (moved m t) o → is_blank (slice_index (past around.indent (moved m t) o).1 0) ≡ false
     → (s : Cursor) (k : Option Candidate) (a : Bool) (ad : ℕ) (ps : List Place) → ad ≤ m.index → past around.indent s.mark s.rest ≡ past around.indent m (t ++ o)
-    → Closes around (state_at around s context.Block k [] a ad ps) ps (moved m t) o (scalar_token Plain (plain_value t) ∷ [])
+    → Closes around (state_at around s context.Block k [] a ad ps) k m t ps (moved m t) o (scalar_token Plain (plain_value t) ∷ [])
 plain_closes reads around t o m h fits ends inked s k a ad ps before text =
     let f = token_begins false t (word_begins false around.indent t h) in
     let v = arrives around s context.Block k [] a ad ps m (t ++ o) (text ∙ begins_past around.indent m t o f) (begins_inked t o f) fits.right fits.calm in
@@ -255,4 +255,5 @@ plain_closes reads around t o m h fits ends inked s k a ad ps before text =
       fits = lands;
       are = refl;
       low = behind_low around.indent ad m t o before;
+      late = saved_since v.allowed (length ps) m k v.key t came.key v.kept came.kept;
     }

@@ -20,12 +20,12 @@ use Rattle.saphyr_scanner.specs.FlowNodes as layout
 use Rattle.saphyr_scanner.specs.FlowNodes.{IsAnchor, IsAlias, allows_adjacent}
 use Rattle.saphyr_scanner.proofs.InFlow.States.{Around, state_at}
 use Rattle.saphyr_scanner.proofs.JsonMarks.{saved}
-use Rattle.saphyr_scanner.proofs.FlowStates.{moved, past, IsBehindNode, IsBehindRoot, Reads, Known, Passes, Fits, IsAfterNode, IsAfterProperties, after_properties, NodePasses, RootCloses, PropertiesPass}
+use Rattle.saphyr_scanner.proofs.FlowStates.{Since, Kept, keeping, moved, past, IsBehindNode, IsBehindRoot, Reads, Known, Passes, Fits, IsAfterNode, IsAfterProperties, after_properties, NodePasses, RootCloses, PropertiesPass}
 use Rattle.saphyr_scanner.proofs.FlowPlaces.{moved_append}
 use Rattle.saphyr_scanner.proofs.FlowGaps.{less_behind}
 use Rattle.saphyr_scanner.proofs.FlowFillers.{blanks_past, spaces_are_blank, are_spaces_past}
 use Rattle.saphyr_scanner.proofs.FlowPieces.{fits_front, fits_back}
-use Rattle.saphyr_scanner.proofs.FlowJoins.{join, root, knowing}
+use Rattle.saphyr_scanner.proofs.FlowJoins.{since_join, join, root, knowing}
 use Rattle.saphyr_scanner.proofs.FlowInks.{node_ink}
 use Rattle.saphyr_scanner.proofs.FlowLow.{start_low, behind_low}
 use Rattle.saphyr_scanner.proofs.FlowTokens.{after_token}
@@ -35,37 +35,38 @@ use Rattle.saphyr_scanner.proofs.FlowEnds.{tag_ends_name, white_ends_tag, node_e
 -- ## What is known behind properties
 
 -- as IsAfterProperties, and the place where a colon may stand at once is still the same
-pub record IsBehindProperties (x : Context) (kept : Option Candidate) (ad : ℕ) (key : Option Candidate) (allowed : Bool) (adjacent : ℕ) (new : List Place) : Type 0 where
-  pub properties : IsAfterProperties x kept key allowed new
+pub record IsBehindProperties (x : Context) (kept : Kept) (ad : ℕ) (key : Option Candidate) (allowed : Bool) (adjacent : ℕ) (new : List Place) : Type 0 where
+  pub properties : IsAfterProperties x kept.kept key allowed new
+  pub since : Since kept.before kept.from kept.over key
   pub still : adjacent ≡ ad
 
-abbrev pub behind_properties : Context → Option Candidate → ℕ → Known
+abbrev pub behind_properties : Context → Kept → ℕ → Known
 behind_properties x kept ad key allowed adjacent new = IsBehindProperties x kept ad key allowed adjacent new
 
 pub closed_saved : (a : Bool) (n : ℕ) (m : Marker) (k : Option Candidate) → a ≡ false → saved a n m k ≡ k
 closed_saved a n m k e = rw e refl
 
-one_property : {around : Around} {start : Bool → State} {ls : List Level} {ps : List Place} {m : Marker} {o : List ℕ} {ts : List Kind} → (x : Context) (kept : Option Candidate) (ad : ℕ)
+one_property : {around : Around} {start : Bool → State} {ls : List Level} {ps : List Place} {m : Marker} {o : List ℕ} {ts : List Kind} → (x : Context) (kept : Kept) (ad : ℕ)
     → Passes around start (after_token (closes_key ad) x kept) x ls ps m o ts → Passes around start (behind_properties x kept ad) x ls ps m o ts
 one_property x kept ad p =
     knowing p (behind_properties x kept ad)
-    (record { properties = record { piece = p.knows.piece; others = []; is = p.knows.is; keeps = p.knows.keeps; closed = p.knows.tells.0 }; still = p.knows.tells.1 })
+    (record { properties = record { piece = p.knows.piece; others = []; is = p.knows.is; keeps = p.knows.keeps; closed = p.knows.tells.0 }; since = p.knows.since; still = p.knows.tells.1 })
 
 spaces_right : (column : ℕ) (m : Marker) (w : List ℕ) → AreSpaces 1 w → column ≤ m.col → column ≤ (moved m w).col
 spaces_right column m w h low = (blanks_past column w (subst (AreIn is_blank) (sym h.2) (spaces_are_blank h.0)) m low).right
 
 -- two with spaces between
-two_properties : (around : Around) (start : Bool → State) (x : Context) (kept : Option Candidate) (ls : List Level) (ps : List Place) (ad : ℕ) (m : Marker) (a w b o : List ℕ) (first second : Kind) → AreSpaces 1 w
-    → Passes around start (after_token (closes_key ad) x kept) x ls ps (moved m a) ((w ++ b) ++ o) (first ∷ [])
+two_properties : (around : Around) (start : Bool → State) (x : Context) (kept before : Option Candidate) (ls : List Level) (ps : List Place) (ad : ℕ) (m : Marker) (a w b o : List ℕ) (first second : Kind) → AreSpaces 1 w
+    → Passes around start (after_token (closes_key ad) x (record { kept = kept; before = before; from = m; over = a })) x ls ps (moved m a) ((w ++ b) ++ o) (first ∷ [])
     → ((s : Cursor) (k : Option Candidate) (e : Bool) (be : ℕ) (qs : List Place) → past around.indent s.mark s.rest ≡ past around.indent (moved (moved m a) w) (b ++ o) → around.indent ≤ (moved (moved m a) w).col
-    → Passes around (state_at around s x k ls e be qs) (after_token (closes_key be) x (saved e (length qs) (moved (moved m a) w) k)) x ls qs (moved (moved (moved m a) w) b) o (second ∷ []))
-    → Passes around start (behind_properties x kept ad) x ls ps (moved m (a ++ (w ++ b))) o (first ∷ second ∷ [])
-two_properties around start x kept ls ps ad m a w b o first second h p passes =
+    → Passes around (state_at around s x k ls e be qs) (after_token (closes_key be) x (keeping e (length qs) (moved (moved m a) w) k b)) x ls qs (moved (moved (moved m a) w) b) o (second ∷ []))
+    → Passes around start (behind_properties x (record { kept = kept; before = before; from = m; over = a ++ (w ++ b) }) ad) x ls ps (moved m (a ++ (w ++ b))) o (first ∷ second ∷ [])
+two_properties around start x kept before ls ps ad m a w b o first second h p passes =
     let here : past around.indent p.there.mark p.there.rest ≡ past around.indent (moved (moved m a) w) (b ++ o) = p.fits ∙ ap (past around.indent (moved m a)) (append_assoc w b o) ∙ are_spaces_past around.indent 1 w h (moved m a) (b ++ o) in
     let q = passes p.there p.key p.allowed p.adjacent (ps ++ p.new) here (spaces_right around.indent (moved m a) w h p.right) in
     let place : moved (moved (moved m a) w) b ≡ moved m (a ++ (w ++ b)) = sym (moved_append m a (w ++ b) ∙ moved_append (moved m a) w b) in
-    subst (λ (n : Marker). Passes around start (behind_properties x kept ad) x ls ps n o (first ∷ second ∷ [])) place
-    (join p q (behind_properties x kept ad)
+    subst (λ (n : Marker). Passes around start (behind_properties x (record { kept = kept; before = before; from = m; over = a ++ (w ++ b) }) ad) x ls ps n o (first ∷ second ∷ [])) place
+    (join p q (behind_properties x (record { kept = kept; before = before; from = m; over = a ++ (w ++ b) }) ad)
     (record {
       properties = record {
         piece = p.knows.piece;
@@ -74,6 +75,7 @@ two_properties around start x kept ls ps ad m a w b o first second h p passes =
         keeps = λ e. q.knows.keeps e ∙ closed_saved p.allowed (length (ps ++ p.new)) (moved (moved m a) w) p.key p.knows.tells.0 ∙ p.knows.keeps e;
         closed = q.knows.tells.0;
       };
+      since = since_join before m a w b p.key q.key p.knows.since q.knows.since;
       still = q.knows.tells.1 ∙ p.knows.tells.1;
     }))
 
@@ -87,7 +89,7 @@ spaces_end in_flow w b o h = subst (EndsTag in_flow) (sym (append_assoc w b o)) 
 -- ## Properties
 
 -- the tokens of an anchor and a tag, and the run over their text
-pub record PropertiesRead (around : Around) (start : Bool → State) (anchor : Option (List ℕ)) (tag : Option Tag) (kept : Option Candidate) (x : Context) (ls : List Level) (ps : List Place) (ad : ℕ)
+pub record PropertiesRead (around : Around) (start : Bool → State) (anchor : Option (List ℕ)) (tag : Option Tag) (kept : Kept) (x : Context) (ls : List Level) (ps : List Place) (ad : ℕ)
     (m : Marker) (o : List ℕ) : Type 0 where
   pub tokens : List Kind
   pub are : grammar.AreBoth (option_map anchor_token anchor) (option_map tag_token tag) tokens
@@ -96,7 +98,7 @@ pub record PropertiesRead (around : Around) (start : Bool → State) (anchor : O
 -- what is shown of a piece with properties
 abbrev ReadsProperties : Around → Option (List ℕ) → Option Tag → Marker → List ℕ → List ℕ → Cursor → Context → Option Candidate → List Level → Bool → ℕ → List Place → Type 0
 ReadsProperties around anchor tag m t o s x k ls a ad ps =
-    Fits around m t o → past around.indent s.mark s.rest ≡ past around.indent m (t ++ o) → PropertiesRead around (state_at around s x k ls a ad ps) anchor tag (saved a (length ps) m k) x ls ps
+    Fits around m t o → past around.indent s.mark s.rest ≡ past around.indent m (t ++ o) → PropertiesRead around (state_at around s x k ls a ad ps) anchor tag (keeping a (length ps) m k t) x ls ps
     ad (moved m t) o
 
 anchor_and_tag : Reads → (around : Around) (name : List ℕ) (tag : Tag) (m : Marker) (a w b o : List ℕ) → IsAnchor name a → AreSpaces 1 w → IsTag tag b
@@ -109,7 +111,7 @@ anchor_and_tag reads around name tag m a w b o h spaced g s x k ls e ad ps ends 
     record {
       tokens = anchor_token name ∷ tag_token tag ∷ [];
       are = inl refl;
-      passes = two_properties around (state_at around s x k ls e ad ps) x (saved e (length ps) m k) ls ps ad m a w b o (anchor_token name) (tag_token tag) spaced p
+      passes = two_properties around (state_at around s x k ls e ad ps) x (saved e (length ps) m k) k ls ps ad m a w b o (anchor_token name) (tag_token tag) spaced p
           (λ u j d be qs there right. tag_passes reads around tag b o (moved (moved m a) w) g (fits_back (moved m a) w b o right (fits_back m a (w ++ b) o p.right fits))
           u x j ls d be qs ends there);
     }
@@ -124,7 +126,7 @@ tag_and_anchor reads around name tag m a w b o g spaced h s x k ls e ad ps ends 
     record {
       tokens = tag_token tag ∷ anchor_token name ∷ [];
       are = inr refl;
-      passes = two_properties around (state_at around s x k ls e ad ps) x (saved e (length ps) m k) ls ps ad m a w b o (tag_token tag) (anchor_token name) spaced p
+      passes = two_properties around (state_at around s x k ls e ad ps) x (saved e (length ps) m k) k ls ps ad m a w b o (tag_token tag) (anchor_token name) spaced p
           (λ u j d be qs there right. anchor_passes reads around name b o (moved (moved m a) w) h (tag_ends_name (not (is_block x)) o ends)
           (fits_back (moved m a) w b o right (fits_back m a (w ++ b) o p.right fits)) u x j ls d be qs there);
     }
@@ -134,10 +136,10 @@ pub properties_read : Reads → (around : Around) (anchor : Option (List ℕ)) (
 properties_read reads around None None m t o h s x k ls a ad ps ends fits text = absurd h
 properties_read reads around (Some name) None m t o h s x k ls a ad ps ends fits text =
     let p = anchor_passes reads around name t o m h (tag_ends_name (not (is_block x)) o ends) fits s x k ls a ad ps text in
-    record { tokens = anchor_token name ∷ []; are = refl; passes = one_property x (saved a (length ps) m k) ad p }
+    record { tokens = anchor_token name ∷ []; are = refl; passes = one_property x (keeping a (length ps) m k t) ad p }
 properties_read reads around None (Some tag) m t o h s x k ls a ad ps ends fits text =
     let p = tag_passes reads around tag t o m h fits s x k ls a ad ps ends text in
-    record { tokens = tag_token tag ∷ []; are = refl; passes = one_property x (saved a (length ps) m k) ad p }
+    record { tokens = tag_token tag ∷ []; are = refl; passes = one_property x (keeping a (length ps) m k t) ad p }
 properties_read reads around (Some name) (Some tag) m t o (anchor, between, written, h, g, spaced, inl is) s x k ls a ad ps ends fits text =
     subst (λ (y : List ℕ). ReadsProperties around (Some name) (Some tag) m y o s x k ls a ad ps) (sym is)
     (anchor_and_tag reads around name tag m anchor between written o h spaced g s x k ls a ad ps ends) fits text
@@ -179,9 +181,9 @@ alias_passes reads around room name m p o h fits behind s x k ls a ad ps before 
 pub alias_closes : Reads → (around : Around) (name : List ℕ) (m : Marker) (p o : List ℕ) → layout.IsFlowNode 255 (Alias name) false around.indent p → Fits around m p o
     → IsBehindRoot around.indent (moved m p) o
     → (s : Cursor) (k : Option Candidate) (a : Bool) (ad : ℕ) (ps : List Place) → ad ≤ (past around.indent m (p ++ o)).0.index → past around.indent s.mark s.rest ≡ past around.indent m (p ++ o)
-    → RootCloses around (state_at around s context.Block k [] a ad ps) (Alias name) ps (moved m p) o
+    → RootCloses around (state_at around s context.Block k [] a ad ps) (Alias name) k m p ps (moved m p) o
 alias_closes reads around name m p o h fits behind s k a ad ps before text =
     let first = start_low around.indent ad m p o (node_ink around.indent 255 (Alias name) false p h) before in
     let ends = tag_ends_name true o (white_ends_tag true o (root_first around.indent (moved m p) o behind)) in
     let q = alias_token_passes reads around name p o m h ends fits s context.Block k [] a ad ps text in
-    record { tokens = alias_token name ∷ []; are = refl; closes = root q (subst (λ (n : ℕ). n ≤ (past around.indent (moved m p) o).0.index) (sym q.knows.tells.1) (behind_low around.indent ad m p o first)) }
+    record { tokens = alias_token name ∷ []; are = refl; closes = root q (subst (λ (n : ℕ). n ≤ (past around.indent (moved m p) o).0.index) (sym q.knows.tells.1) (behind_low around.indent ad m p o first)) q.knows.since }

@@ -27,7 +27,7 @@ use Rattle.saphyr_scanner.proofs.InFlow.States.{Around, core_at, state_at, least
 use Rattle.saphyr_scanner.proofs.InFlow.Tabs.{lands_on_ink}
 use Rattle.saphyr_scanner.proofs.JsonStates.{cursor_at}
 use Rattle.saphyr_scanner.proofs.JsonMarks.{saved}
-use Rattle.saphyr_scanner.proofs.FlowStates.{moved, past, IsClear, IsInk, EndsNode, IsBehindNode, IsBehindRoot, Reads, Passes, Fits}
+use Rattle.saphyr_scanner.proofs.FlowStates.{keeping, moved, past, IsClear, IsInk, EndsNode, IsBehindNode, IsBehindRoot, Reads, Passes, Fits}
 use Rattle.saphyr_scanner.proofs.FlowGaps.{past_again, past_ink}
 use Rattle.saphyr_scanner.proofs.FlowFillers.{EndsLine, rest_past, separation_past}
 use Rattle.saphyr_scanner.proofs.FlowArrivals.{PassesGap, passes_gap}
@@ -149,7 +149,7 @@ adjacent_at n allowed adjacent = adjacent ≡ n
 pub quoted_passes : Reads → (around : Around) (quote : Quote) (value t o : List ℕ) (m : Marker) → IsQuoted quote around.indent value t → Fits around m t o
     → (slice_index o 0 == 39) ≡ false
     → (s : Cursor) (x : Context) (k : Option Candidate) (ls : List Level) (a : Bool) (ad : ℕ) (ps : List Place) → EndsQuotes around m (at (moved m t) o) x → past around.indent s.mark s.rest ≡ past around.indent m (t ++ o)
-    → Passes around (state_at around s x k ls a ad ps) (after_token (adjacent_at (past around.indent (moved m t) o).0.index) x (saved a (length ps) m k)) x ls ps (moved m t) o
+    → Passes around (state_at around s x k ls a ad ps) (after_token (adjacent_at (past around.indent (moved m t) o).0.index) x (keeping a (length ps) m k t)) x ls ps (moved m t) o
     (scalar_token (style_of quote) value ∷ [])
 quoted_passes reads around quote value t o m h fits apart s x k ls a ad ps p text =
     let first = subst Begins (sym h.5) (quote_first quote h.0) in

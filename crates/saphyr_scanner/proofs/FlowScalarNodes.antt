@@ -23,7 +23,7 @@ use Rattle.saphyr_scanner.proofs.FlowPlaces.{moved_append, moved_index}
 use Rattle.saphyr_scanner.proofs.FlowGaps.{less_behind}
 use Rattle.saphyr_scanner.proofs.FlowFillers.{separation_past, right_behind}
 use Rattle.saphyr_scanner.proofs.FlowPieces.{fits_front, fits_back}
-use Rattle.saphyr_scanner.proofs.FlowJoins.{join, join_root, root, knowing}
+use Rattle.saphyr_scanner.proofs.FlowJoins.{since_join, join, join_root, root, knowing}
 use Rattle.saphyr_scanner.proofs.FlowInks.{node_ink}
 use Rattle.saphyr_scanner.proofs.FlowLow.{start_low, behind_low}
 use Rattle.saphyr_scanner.proofs.FlowEnds.{white_ends_tag, node_ends_tag, behind_separation, root_first}
@@ -68,14 +68,14 @@ empty_passes reads around p m t o h fits behind s x k ls a ad ps low flow text =
 
 empty_closes : Reads → (around : Around) (p : Properties) (m : Marker) (t o : List ℕ) → IsProperties p t → Fits around m t o → IsBehindRoot around.indent (moved m t) o
     → (s : Cursor) (k : Option Candidate) (a : Bool) (ad : ℕ) (ps : List Place) → ad ≤ m.index → past around.indent s.mark s.rest ≡ past around.indent m (t ++ o)
-    → RootCloses around (state_at around s context.Block k [] a ad ps) (Scalar p Plain []) ps (moved m t) o
+    → RootCloses around (state_at around s context.Block k [] a ad ps) (Scalar p Plain []) k m t ps (moved m t) o
 empty_closes reads around p m t o h fits behind s k a ad ps before text =
     let ends = white_ends_tag false o (root_first around.indent (moved m t) o behind) in
     let r = properties_read reads around p.anchor p.tag m t o h s context.Block k [] a ad ps ends fits text in
     record {
       tokens = r.tokens;
       are = empty_are p t r.tokens grammar.InBlock h r.are;
-      closes = root r.passes (subst (λ (n : ℕ). n ≤ (past around.indent (moved m t) o).0.index) (sym r.passes.knows.still) (behind_low around.indent ad m t o before));
+      closes = root r.passes (subst (λ (n : ℕ). n ≤ (past around.indent (moved m t) o).0.index) (sym r.passes.knows.still) (behind_low around.indent ad m t o before)) r.passes.knows.since;
     }
 
 -- ## Content without properties
@@ -159,7 +159,7 @@ full_passes reads around p style value a w b o m h some parts g fits behind s x 
 full_closes : Reads → (around : Around) (p : Properties) (style : Style) (value a w b o : List ℕ) (m : Marker) → IsProperties p a → w ≢ [] → IsSeparation around.indent w → IsFlowScalar style value false around.indent b
     → Fits around m (a ++ (w ++ b)) o → IsBehindRoot around.indent (moved m (a ++ (w ++ b))) o
     → (s : Cursor) (k : Option Candidate) (e : Bool) (ad : ℕ) (ps : List Place) → ad ≤ m.index → past around.indent s.mark s.rest ≡ past around.indent m ((a ++ (w ++ b)) ++ o)
-    → RootCloses around (state_at around s context.Block k [] e ad ps) (Scalar p style value) ps (moved m (a ++ (w ++ b))) o
+    → RootCloses around (state_at around s context.Block k [] e ad ps) (Scalar p style value) k m (a ++ (w ++ b)) ps (moved m (a ++ (w ++ b))) o
 full_closes reads around p style value a w b o m h some parts g fits behind s k e ad ps before text =
     let d = behind_parts around m a w b o parts fits in
     let n = moved (moved m a) w in
@@ -175,7 +175,8 @@ full_closes reads around p style value a w b o m h some parts g fits behind s k 
     record {
       tokens = r.tokens ++ scalar_token style value ∷ [];
       are = full_are p style value r.tokens grammar.InBlock r.are;
-      closes = subst (λ (z : Marker). Closes around (state_at around s context.Block k [] e ad ps) ps z o (r.tokens ++ scalar_token style value ∷ [])) d.place (join_root q c);
+      closes = subst (λ (z : Marker). Closes around (state_at around s context.Block k [] e ad ps) k m (a ++ (w ++ b)) ps z o (r.tokens ++ scalar_token style value ∷ [])) d.place
+          (join_root q c (since_join k m a w b q.key c.key q.knows.since c.late));
     }
 
 -- ## All scalars
@@ -216,7 +217,7 @@ abbrev ScalarCloses : Around → Properties → Style → List ℕ → List ℕ 
 ScalarCloses around p style value t o m =
     Fits around m t o → IsBehindRoot around.indent (moved m t) o
     → (s : Cursor) (k : Option Candidate) (a : Bool) (ad : ℕ) (ps : List Place) → ad ≤ m.index → past around.indent s.mark s.rest ≡ past around.indent m (t ++ o)
-    → RootCloses around (state_at around s context.Block k [] a ad ps) (Scalar p style value) ps (moved m t) o
+    → RootCloses around (state_at around s context.Block k [] a ad ps) (Scalar p style value) k m t ps (moved m t) o
 
 content_root : Reads → (around : Around) (p : Properties) (style : Style) (value front content o : List ℕ) (m : Marker) → IsBeforeContent p around.indent front → IsFlowScalar style value false around.indent content
     → ScalarCloses around p style value (front ++ content) o m
@@ -241,6 +242,6 @@ scalar_root reads around p style value t o m (inr (front, content, before, g, is
 
 pub scalar_closes : Reads → (around : Around) (p : Properties) (style : Style) (value : List ℕ) (m : Marker) (t o : List ℕ) → layout.IsFlowNode 255 (Scalar p style value) false around.indent t → Fits around m t o → IsBehindRoot around.indent (moved m t) o
     → (s : Cursor) (k : Option Candidate) (a : Bool) (ad : ℕ) (ps : List Place) → ad ≤ (past around.indent m (t ++ o)).0.index → past around.indent s.mark s.rest ≡ past around.indent m (t ++ o)
-    → RootCloses around (state_at around s context.Block k [] a ad ps) (Scalar p style value) ps (moved m t) o
+    → RootCloses around (state_at around s context.Block k [] a ad ps) (Scalar p style value) k m t ps (moved m t) o
 scalar_closes reads around p style value m t o h fits behind s k a ad ps before text =
     scalar_root reads around p style value t o m h fits behind s k a ad ps (start_low around.indent ad m t o (node_ink around.indent 255 (Scalar p style value) false t h) before) text

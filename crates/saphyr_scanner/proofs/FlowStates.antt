@@ -1,6 +1,6 @@
 -- What is said of a piece of a text in flow style, and of the states before it and behind it, whatever block collections are open.
 use Rattle.std.proofs.Common.{◌≡◌, ℕ, ◌+◌, ◌<◌, ◌≤◌, Bool, true, false, List, [], ◌∷◌, ◌++◌, length, slice_index, IsTrue, ◌⊎◌, Ok, encode_utf8_all}
-use Rattle.std.specs.Prelude.{◌||◌, ◌&&◌, ◌==◌, not, nat_lt, Option, None, if◌then◌else◌}
+use Rattle.std.specs.Prelude.{◌||◌, ◌&&◌, ◌==◌, not, nat_lt, Option, Some, None, if◌then◌else◌}
 use Rattle.saphyr_input.specs.Breaks.{normalized}
 use Rattle.saphyr_input.specs.Classes.{is_blank, is_break, is_breakz, is_blank_or_breakz, is_yaml_non_break, is_anchor_char, is_bom, line_feed, carriage_return}
 use Rattle.saphyr_input.specs.Places.{is_document_indicator}
@@ -163,6 +163,23 @@ pub record Reads : Type 0 where
   pub reserved : (s : Cursor) (name t x : List ℕ) → s.rest ≡ t ++ x → IsReservedDirective name t → is_breakz (slice_index x 0) ≡ true
       → directives.directive s ≡ Ok (directives.reserved (encode_utf8_all name), along s.mark (length t), pass_break (at (along s.mark (length t)) x))
 
+-- ## What may be a key
+
+-- What may be a key behind a text that stands at m: nothing, what could be one before it, or what begins in it.
+abbrev pub Since : Option Candidate → Marker → List ℕ → Option Candidate → Type 0
+Since k m t key =
+    (key ≡ None) ⊎ ((key ≡ k) ⊎ ((front back : List ℕ) × (place : ℕ) × (t ≡ front ++ back) × (key ≡ Some (record { mark = moved m front; place = place }))))
+
+-- what is kept inside flow behind a text, and what could be a key before it, and where the text stands
+pub record Kept : Type 0 where
+  pub kept : Option Candidate
+  pub before : Option Candidate
+  pub from : Marker
+  pub over : List ℕ
+
+abbrev pub keeping : Bool → ℕ → Marker → Option Candidate → List ℕ → Kept
+keeping a n m k t = record { kept = saved a n m k; before = k; from = m; over = t }
+
 -- ## Runs over a piece
 
 -- what is known behind a piece: of the key, whether one may begin, where a colon may stand at once, and the new places
@@ -188,7 +205,7 @@ abbrev pub noted : Option Marker → State → State
 noted comment s = record s { core = record s.core { comment = comment } }
 
 -- the same of a document's node
-pub record Closes (around : Around) (start : Bool → State) (ps : List Place) (m : Marker) (o : List ℕ) (ts : List Kind) : Type 0 where
+pub record Closes (around : Around) (start : Bool → State) (k : Option Candidate) (first : Marker) (t : List ℕ) (ps : List Place) (m : Marker) (o : List ℕ) (ts : List Kind) : Type 0 where
   pub there : Cursor
   pub key : Option Candidate
   pub allowed : Bool
@@ -199,6 +216,7 @@ pub record Closes (around : Around) (start : Bool → State) (ps : List Place) (
   pub fits : past around.indent there.mark there.rest ≡ past around.indent m o
   pub are : kinds new ≡ ts
   pub low : adjacent ≤ (past around.indent m o).0.index
+  pub late : Since k first t key
 
 -- ## What is known behind a piece
 
@@ -249,10 +267,10 @@ pub record NodePasses (around : Around) (start : Bool → State) (node : Node) (
   pub are : grammar.IsNode node grammar.InFlow tokens
   pub passes : Passes around start (after_node around.indent x kept node m o) x ls ps m o tokens
 
-pub record RootCloses (around : Around) (start : Bool → State) (node : Node) (ps : List Place) (m : Marker) (o : List ℕ) : Type 0 where
+pub record RootCloses (around : Around) (start : Bool → State) (node : Node) (k : Option Candidate) (first : Marker) (t : List ℕ) (ps : List Place) (m : Marker) (o : List ℕ) : Type 0 where
   pub tokens : List Kind
   pub are : grammar.IsNode node grammar.InBlock tokens
-  pub closes : Closes around start ps m o tokens
+  pub closes : Closes around start k first t ps m o tokens
 
 -- The tokens of properties, and the run over their text.
 pub record PropertiesPass (around : Around) (start : Bool → State) (p : Properties) (kept : Option Candidate) (x : Context) (ls : List Level) (ps : List Place) (m : Marker) (o : List ℕ) : Type 0 where
@@ -277,7 +295,7 @@ abbrev pub ClosesNode : Around → Node → Type 0
 ClosesNode around node =
     (m : Marker) (p o : List ℕ) → IsFlowNode 255 node false around.indent p → Fits around m p o → IsBehindRoot around.indent (moved m p) o
     → (s : Cursor) (k : Option Candidate) (a : Bool) (ad : ℕ) (ps : List Place) → ad ≤ (past around.indent m (p ++ o)).0.index → past around.indent s.mark s.rest ≡ past around.indent m (p ++ o)
-    → RootCloses around (state_at around s context.Block k [] a ad ps) node ps (moved m p) o
+    → RootCloses around (state_at around s context.Block k [] a ad ps) node k m p ps (moved m p) o
 
 -- each is, where no key is required
 abbrev pub ClosesNodes : Around → Type 0

@@ -1,6 +1,6 @@
 -- A token of a text in flow style is passed in one step.
-use Rattle.std.proofs.Common.{◌≡◌, ℕ, ◌≤◌, Bool, false, List, [], ◌∷◌, ◌++◌, length, slice_index, refl, sym, ap, ◌∙◌, arith, subst}
-use Rattle.std.specs.Prelude.{◌==◌, Option}
+use Rattle.std.proofs.Common.{◌≡◌, ◌⊎◌, inl, inr, ℕ, ◌≤◌, Bool, true, false, List, [], ◌∷◌, ◌++◌, length, slice_index, refl, sym, ap, ◌∙◌, arith, subst}
+use Rattle.std.specs.Prelude.{◌==◌, Option, None}
 use Rattle.saphyr_input.specs.Classes.{is_blank, is_z}
 use Rattle.saphyr_scalar.specs.declared.scalar.position.Marker.{Marker}
 use Rattle.saphyr_scalar.specs.Cursor.{Cursor}
@@ -14,7 +14,7 @@ use Rattle.saphyr_scanner.proofs.InFlow.States.{Around, core_at, state_at, Deepe
 use Rattle.saphyr_scanner.proofs.JsonStates.{cursor_at}
 use Rattle.saphyr_scanner.proofs.JsonMarks.{saved}
 use Rattle.saphyr_scanner.proofs.JsonBrackets.{place_of}
-use Rattle.saphyr_scanner.proofs.FlowStates.{moved, past, IsClear, IsInk, Known, Passes, Fits}
+use Rattle.saphyr_scanner.proofs.FlowStates.{moved, past, IsClear, IsInk, Since, Kept, keeping, Known, Passes, Fits}
 use Rattle.saphyr_scanner.proofs.FlowPlaces.{moved_count, clear_here}
 use Rattle.saphyr_scanner.proofs.FlowGaps.{past_ink}
 use Rattle.saphyr_scanner.proofs.FlowArrivals.{BeginsToken, arrives, one, within_index}
@@ -58,22 +58,30 @@ pub record Step (around : Around) (says : Bool → ℕ → Type 0) (kind : Kind)
   pub tells : says allowed adjacent
 
 -- what is known behind a token
-pub record IsAfterToken (says : Bool → ℕ → Type 0) (x : Context) (kept key : Option Candidate) (allowed : Bool) (adjacent : ℕ) (new : List Place) : Type 0 where
+pub record IsAfterToken (says : Bool → ℕ → Type 0) (x : Context) (kept : Kept) (key : Option Candidate) (allowed : Bool) (adjacent : ℕ) (new : List Place) : Type 0 where
   pub piece : Piece
   pub is : new ≡ closed piece ∷ []
-  pub keeps : is_block x ≡ false → key ≡ kept
+  pub keeps : is_block x ≡ false → key ≡ kept.kept
+  pub since : Since kept.before kept.from kept.over key
   pub tells : says allowed adjacent
 
-abbrev pub after_token : (Bool → ℕ → Type 0) → Context → Option Candidate → Known
+abbrev pub after_token : (Bool → ℕ → Type 0) → Context → Kept → Known
 after_token says x kept key allowed adjacent new = IsAfterToken says x kept key allowed adjacent new
 
 pub same_saved : (n : ℕ) (m : Marker) (a b : Bool) (k j : Option Candidate) → (j ≡ k) × (b ≡ a) → saved b n m j ≡ saved a n m k
 same_saved n m a b k j e = rw (e.0, e.1) refl
 
+-- the candidate behind a token is what was one, or the token
+pub saved_since : (e : Bool) (n : ℕ) (m : Marker) (k j : Option Candidate) (p : List ℕ) (key : Option Candidate) → (j ≡ None) ⊎ (j ≡ k) → (key ≡ None) ⊎ (key ≡ saved e n m j) → Since k m p key
+saved_since e n m k j p key h (inl g) = inl g
+saved_since true n m k j p key h (inr g) = inr (inr ([], p, n, refl, g))
+saved_since false n m k j p key (inl h) (inr g) = inl (g ∙ h)
+saved_since false n m k j p key (inr h) (inr g) = inr (inl (g ∙ h))
+
 pub token_passes : (around : Around) (says : Bool → ℕ → Type 0) (kind : Kind) (p o : List ℕ) (m : Marker) → Begins p → Fits around m p o → around.indent ≤ (moved m p).col
     → (s : Cursor) (x : Context) (k : Option Candidate) (ls : List Level) (a : Bool) (ad : ℕ) (ps : List Place) → past around.indent s.mark s.rest ≡ past around.indent m (p ++ o)
     → ((b : Bool) (j : Option Candidate) (e : Bool) → Step around says kind (p ++ o) m (moved m p) o x ls ad (length ps) b j e)
-    → Passes around (state_at around s x k ls a ad ps) (after_token says x (saved a (length ps) m k)) x ls ps (moved m p) o (kind ∷ [])
+    → Passes around (state_at around s x k ls a ad ps) (after_token says x (keeping a (length ps) m k p)) x ls ps (moved m p) o (kind ∷ [])
 token_passes around says kind p o m f fits right s x k ls a ad ps text steps =
     let v = arrives around s x k ls a ad ps m (p ++ o) (text ∙ begins_past around.indent m p o f) (begins_inked p o f) fits.right fits.calm in
     let w = steps v.blank v.key v.allowed in
@@ -97,6 +105,7 @@ token_passes around says kind p o m f fits right s x k ls a ad ps text steps =
         piece = record { span = record { start = m; end = w.end }; kind = kind };
         is = refl;
         keeps = λ e. came.same e ∙ same_saved (length ps) m a v.allowed k v.key (v.same e);
+        since = saved_since v.allowed (length ps) m k v.key p came.key v.kept came.kept;
         tells = w.tells;
       };
     }

@@ -1,5 +1,5 @@
 -- States of a scanner that reads a node in flow style, whatever block collections are open around it.
-use Rattle.std.proofs.Common.{◌≡◌, ℕ, ◌+◌, ◌<◌, ◌≤◌, Bool, true, false, List, [], ◌∷◌, length, Ok, refl, sym, ap, ◌∙◌, arith, cond, subst}
+use Rattle.std.proofs.Common.{◌≡◌, ◌⊎◌, inl, inr, ℕ, ◌+◌, ◌<◌, ◌≤◌, Bool, true, false, List, [], ◌∷◌, length, Ok, refl, sym, ap, ◌∙◌, arith, cond, subst}
 use Rattle.std.specs.Prelude.{◌-◌, ◌||◌, ◌&&◌, ◌==◌, not, nat_lt, nat_le, Option, Some, None, if◌then◌else◌}
 use Rattle.std.proofs.lemmas.Bool.Decides.{nat_tests}
 use Rattle.saphyr_input.specs.declared.input.SkipTabs.{SkipTabs}
@@ -118,6 +118,13 @@ drops around d s context.FlowPair k ls a ad calm = refl
 drops around d s context.ExplicitFlowPair k ls a ad calm = refl
 drops around d s context.MarkedFlowPair k ls a ad calm = refl
 
+pub left_or_none : (x : Context) (k : Option Candidate) (m : Marker) → (key_left x k m ≡ None) ⊎ (key_left x k m ≡ k)
+left_or_none x k m = by_distance (is_block x && is_too_far k m) refl
+  where
+    by_distance : (b : Bool) → (is_block x && is_too_far k m) ≡ b → (key_left x k m ≡ None) ⊎ (key_left x k m ≡ k)
+    by_distance true e = inl (rw e refl)
+    by_distance false e = inr (rw e refl)
+
 pub left_in_flow : (x : Context) (k : Option Candidate) (m : Marker) → is_block x ≡ false → key_left x k m ≡ k
 left_in_flow x k m e = rw e refl
 
@@ -177,6 +184,7 @@ pub record Comes (around : Around) (start : Bool → State) (s : Cursor) (x : Co
   pub key : Option Candidate
   pub leads : Runs around (state_at around s x key ls a ad ps) start
   pub same : is_block x ≡ false → key ≡ k
+  pub kept : (key ≡ None) ⊎ (key ≡ k)
 
 -- where a step gives this, it leads there
 pub comes : (around : Around) (start : Bool → State) (s : Cursor) (x : Context) (k : Option Candidate) (ls : List Level) (a : Bool) (ad : ℕ) (ps : List Place) (to : Bool → Bool) → Deepens around to
@@ -188,6 +196,7 @@ comes around start s x k ls a ad ps to deepens going is low calm =
       key = left;
       leads = record { run = λ d. one d };
       same = left_in_flow x k s.mark;
+      kept = left_or_none x k s.mark;
     }
   where
     flatly : (d : Bool) → around.indent ≡ 0 → d ≡ false → to d ≡ false
