@@ -15,8 +15,9 @@ use Rattle.saphyr_scanner.specs.Unrolling.{unroll}
 use Rattle.saphyr_scanner.specs.Fetch.{step, content, fetch_here, arrive, fetch}
 use Rattle.saphyr_scanner.proofs.JsonStates.{cursor_at, queue_of, none_before, and_false}
 use Rattle.saphyr_scanner.proofs.InFlow.States.{Around, core_at, state_at, least, least_low, not_left, drops, key_left, left_in_flow, left_or_none, none_unrolls, Deepens, Comes, comes}
-use Rattle.saphyr_scanner.proofs.FlowStates.{past}
+use Rattle.saphyr_scanner.proofs.FlowStates.{crosses, past}
 use Rattle.saphyr_scanner.proofs.FlowGaps.{gap_past, past_count}
+use Rattle.saphyr_scanner.proofs.InBlock.Gaps.{gap_broke}
 
 -- What stands between two tokens is passed, up to the place m, where y stands.
 pub record PassesGap (around : Around) (s : Cursor) (x : Context) (k : Option Candidate) (ls : List Level) (a : Bool) (ad : ℕ) (m : Marker) (y : List ℕ) : Type 0 where
@@ -24,6 +25,7 @@ pub record PassesGap (around : Around) (s : Cursor) (x : Context) (k : Option Ca
   pub allowed : Bool
   pub is : (d : Bool) → pass_gap (core_at around d s x k ls a ad) ≡ Ok (core_at around d (cursor_at y m blank) x k ls allowed ad)
   pub same : is_block x ≡ false → allowed ≡ a
+  pub fresh : is_block x ≡ true → crosses s.rest ≡ true → allowed ≡ true
 
 pub stops_here : (m : Marker) (blank now : Bool) (t : List ℕ) → stop m blank now false t ≡ Ok (record { cursor = record { rest = t; mark = m; blank_so_far = blank }; broke = now })
 unfolding stop
@@ -41,7 +43,12 @@ passes_gap around s x k ls a ad m y here inked =
       is = λ d. let there = g.is stands (least around.indent d) (least_low around.indent d) ∙ ap (λ (p : Marker × List ℕ). stop p.0 g.still_blank g.now_broke false p.1) here ∙ stops_here m g.still_blank g.now_broke y in
           ap (λ r. r >>= λ (p : Passed). check_comment (behind_gap (core_at around d s x k ls a ad) p)) there;
       same = λ e. rw e (ap (λ (b : Bool). b || a) (and_false g.now_broke));
+      fresh = λ e h. let passed = g.is stands 0 (none_less around.indent) ∙ stops_here (past around.indent s.mark s.rest).0 g.still_blank g.now_broke (past around.indent s.mark s.rest).1 in
+          rw (gap_broke 0 s.mark s.blank_so_far s.rest _ passed ∙ h, e) refl;
     }
+  where
+    none_less : (n : ℕ) → 0 ≤ n
+    none_less n = omega arith
 
 -- the text y begins with the next token, which stands at m
 pub record Arrives (around : Around) (s : Cursor) (x : Context) (k : Option Candidate) (ls : List Level) (a : Bool) (ad : ℕ) (ps : List Place) (m : Marker) (y : List ℕ) : Type 0 where

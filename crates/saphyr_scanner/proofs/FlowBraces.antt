@@ -14,6 +14,7 @@ use Rattle.saphyr_scanner.proofs.InFlow.States.{Around, state_at}
 use Rattle.saphyr_scanner.proofs.FlowStates.{Fits, moved, past, ended, PassesNode}
 use Rattle.saphyr_scanner.proofs.FlowPlaces.{moved_append}
 use Rattle.saphyr_scanner.proofs.FlowGaps.{less_behind}
+use Rattle.saphyr_scanner.proofs.InBlock.Crossings.{fresh_in_flow}
 use Rattle.saphyr_scanner.proofs.FlowJoins.{join, knowing, none}
 use Rattle.saphyr_scanner.proofs.FlowInks.{BeginsInk, begins_with, ink_front, node_ink}
 use Rattle.saphyr_scanner.proofs.FlowPieces.{fits_front, fits_back, fits_so, fits_before, end_ink}
@@ -76,7 +77,7 @@ no_other_pairs_pass {around} room m p o (inl e) fits s k ls a ad ps low before t
     let there : past around.indent s.mark s.rest ≡ past around.indent m (125 ∷ o) = text ∙ ap (λ (t : List ℕ). past around.indent m (t ++ (125 ∷ o))) e in
     let near : ad ≤ (past around.indent m (125 ∷ o)).0.index = subst (λ (t : List ℕ). ad ≤ (past around.indent m (t ++ (125 ∷ o))).0.index) e before in
     subst (λ (t : List ℕ). Told around start (grammar.AreOtherFlowPairs NoPair) context.FlowMapping ls ps (moved m t) (125 ∷ o)) (sym e)
-    (record { tokens = []; are = inl refl; passes = none around s context.FlowMapping k ls a ad ps m (125 ∷ o) (ended around.indent m (125 ∷ o)) fits.right there near })
+    (record { tokens = []; are = inl refl; passes = none around s context.FlowMapping k ls a ad ps m (125 ∷ o) (ended around.indent m (125 ∷ o)) fits.right there (fresh_in_flow context.FlowMapping (125 ∷ o) a s refl) near })
 no_other_pairs_pass {around} room m p o (inr comma) fits s k ls a ad ps low before text =
     let c = comma_behind around context.FlowMapping context.FlowMapping refl refl m p (125 ∷ o) comma fits (begins_with 125 o (125 ∷ o) refl (end_ink 125 (inr (inr refl)))) s k ls a ad ps before
     text in
@@ -122,7 +123,7 @@ no_pairs_pass {around} room m p o e fits s k ls a ad ps no_candidate fresh low b
     let start = state_at around s context.FlowMapping k ls a ad ps in
     let there : past around.indent s.mark s.rest ≡ past around.indent m (125 ∷ o) = text ∙ ap (λ (t : List ℕ). past around.indent m (t ++ (125 ∷ o))) e in
     subst (λ (t : List ℕ). Told around start (grammar.AreFlowPairs NoPair) context.FlowMapping ls ps (moved m t) (125 ∷ o)) (sym e)
-    (record { tokens = []; are = refl; passes = none around s context.FlowMapping k ls a ad ps m (125 ∷ o) (ended around.indent m (125 ∷ o)) fits.right there (less_behind around.indent ad m [] (125 ∷ o) before) })
+    (record { tokens = []; are = refl; passes = none around s context.FlowMapping k ls a ad ps m (125 ∷ o) (ended around.indent m (125 ∷ o)) fits.right there (fresh_in_flow context.FlowMapping (125 ∷ o) a s refl) (less_behind around.indent ad m [] (125 ∷ o) before) })
 
 pub pairs_pass : {around : Around} (room : ℕ) (key value : Node) (pairs : Pairs) → PassesNode around room key → PassesNode around room value → PassesOtherPairs around room pairs
     → PassesPairs around room (MorePairs key value pairs)

@@ -23,7 +23,7 @@ use Rattle.saphyr_scanner.proofs.InFlow.States.{Around, core_at, state_at, Calm,
 use Rattle.saphyr_scanner.proofs.JsonStates.{cursor_at, queue_of}
 use Rattle.saphyr_scanner.proofs.JsonMarks.{kinds, saved, level_of}
 use Rattle.saphyr_scanner.proofs.JsonBrackets.{place_of}
-use Rattle.saphyr_scanner.proofs.FlowStates.{Since, moved, past, IsClear, IsInk, IsParted, Known, fresh_key, Passes, Fits}
+use Rattle.saphyr_scanner.proofs.FlowStates.{IsFresh, Since, moved, past, IsClear, IsInk, IsParted, Known, fresh_key, Passes, Fits}
 use Rattle.saphyr_scanner.proofs.FlowPlaces.{moved_index, right_one, clear_here}
 use Rattle.saphyr_scanner.proofs.FlowFillers.{one_right}
 use Rattle.saphyr_scanner.proofs.FlowGaps.{past_ink, past_low}
@@ -31,6 +31,7 @@ use Rattle.saphyr_scanner.proofs.FlowArrivals.{BeginsToken, arrives, one, within
 use Rattle.saphyr_scanner.proofs.FlowTokens.{saved_since}
 use Rattle.saphyr_scanner.proofs.FlowSeparates.{separates}
 use Rattle.saphyr_scanner.proofs.FlowJoins.{once}
+use Rattle.saphyr_scanner.proofs.InBlock.Crossings.{fresh_in_flow}
 
 -- a character that is a token
 pub record IsMark (c : ℕ) : Type 0 where
@@ -76,7 +77,7 @@ open_passes around y in_flow kind ch mark begins m o fits parted s x k ls a ad p
       key,
       saved_so x a v.allowed (length ps) m k v.key v.same,
       once true ad p.there ps new (moved m (ch ∷ [])) o (kind ∷ []) (opened_collection (moved m (ch ∷ []))) came (right_one around.indent m ch mark.feed fits.right)
-          (p.lands ∙ ap (λ (q : Marker). past around.indent q o) (mark_moved m ch mark)) refl ((came.same in_flow, refl, one_on m ch ad before), (record { span = record { start = m; end = p.there.mark }; kind = kind }, refl)),
+          (p.lands ∙ ap (λ (q : Marker). past around.indent q o) (mark_moved m ch mark)) (fresh_in_flow y o true p.there in_flow) refl ((came.same in_flow, refl, one_on m ch ad before), (record { span = record { start = m; end = p.there.mark }; kind = kind }, refl)),
       λ t j h. saved_since v.allowed (length ps) m k v.key t j v.kept h,
     )
 
@@ -142,9 +143,9 @@ one_behind indent m c o ad low =
 pub close_passes : (around : Around) (y : Context) → is_block y ≡ false → (ends : Bool) (kind : Kind) (ch : ℕ) → IsMark ch
     → ((second i : ℕ) (d : Bool) (s : Cursor) (k : Option Candidate) (ls : List Level) (a : Bool) (ad : ℕ) → step ch second i (core_at around d s y k ls a ad) ≡ close_collection ends kind (core_at around d s y k ls a ad))
     → (m : Marker) (o : List ℕ) → Fits around m (ch ∷ []) o → (found : SkipTabs) (there : Cursor) → separation Yes (cursor_at o (along m 1) false) ≡ Ok (found, there) → past around.indent there.mark there.rest ≡ past around.indent (along m 1) o
-    → (s : Cursor) (k j : Option Candidate) (x : Context) (ls : List Level) (a : Bool) (ad : ℕ) (ps : List Place) → Calm around x → ad ≤ m.index → past around.indent s.mark s.rest ≡ past around.indent m (ch ∷ o)
+    → (s : Cursor) (k j : Option Candidate) (x : Context) (ls : List Level) (a : Bool) (ad : ℕ) (ps : List Place) → IsFresh x o false there → Calm around x → ad ≤ m.index → past around.indent s.mark s.rest ≡ past around.indent m (ch ∷ o)
     → Passes around (state_at around s y k (level_of x j ∷ ls) a ad ps) (closed_collection around.indent x j (moved m (ch ∷ [])) o) x ls ps (moved m (ch ∷ [])) o (pending ends ++ kind ∷ [])
-close_passes around y flows ends kind ch mark begins m o fits found there is lands s k j x ls a ad ps calm before text =
+close_passes around y flows ends kind ch mark begins m o fits found there is lands s k j x ls a ad ps fresh calm before text =
     let v = arrives around s y k (level_of x j ∷ ls) a ad ps m (ch ∷ o) (text ∙ past_ink around.indent m ch o mark.ink) mark.ink.blank fits.right fits.calm in
     let stepped = λ (d : Bool). begins (slice_index o 0) (length ps) d (cursor_at (ch ∷ o) m v.blank) v.key (level_of x j ∷ ls) v.allowed ad ∙ closes ends kind ch o m v.blank around d y v.key j x ls v.allowed ad found there is flows calm in
     let below = fits.below in
@@ -154,7 +155,7 @@ close_passes around y flows ends kind ch mark begins m o fits found there is lan
     (mark_puts ends ps m there.mark kind) (within_index around.indent around.limit there (along m 1) o lands (omega (arith, below))) in
     let here = mark_moved m ch mark in
     once false near_here there ps new (moved m (ch ∷ [])) o (pending ends ++ kind ∷ []) (closed_collection around.indent x j (moved m (ch ∷ [])) o) came (right_one around.indent m ch mark.feed fits.right)
-    (lands ∙ ap (λ (q : Marker). past around.indent q o) here) (mark_kinds ends m there.mark kind)
+    (lands ∙ ap (λ (q : Marker). past around.indent q o) here) fresh (mark_kinds ends m there.mark kind)
     (record {
       keeps = came.same;
       kept = came.kept;

@@ -9,6 +9,7 @@ use Rattle.saphyr_scalar.specs.declared.scalar.position.Marker.{Marker}
 use Rattle.saphyr_scalar.specs.Cursor.{Cursor, along, separation}
 use Rattle.saphyr_scalar.specs.Spaces.{IsSeparation}
 use Rattle.saphyr_scanner.specs.declared.engine.level.Context.{Context}
+use Rattle.saphyr_scanner.specs.declared.engine.level.Context.TheVariants as context
 use Rattle.saphyr_scanner.specs.Tokens.{Kind}
 use Rattle.saphyr_scanner.specs.Seen.{Piece}
 use Rattle.saphyr_scanner.specs.Queue.{Place, closed}
@@ -20,30 +21,32 @@ use Rattle.saphyr_scanner.specs.Fetch.{step}
 use Rattle.saphyr_scanner.proofs.InFlow.States.{Around, core_at, state_at, Calm}
 use Rattle.saphyr_scanner.proofs.JsonStates.{cursor_at}
 use Rattle.saphyr_scanner.proofs.JsonMarks.{saved, level_of}
-use Rattle.saphyr_scanner.proofs.FlowStates.{Since, Kept, keeping, moved, past, IsParted, IsBehindRoot, Known, Passes, Fits, ended}
+use Rattle.saphyr_scanner.proofs.FlowStates.{crosses, IsFresh, Since, Kept, keeping, moved, past, IsParted, IsBehindRoot, Known, Passes, Fits, ended}
 use Rattle.saphyr_scanner.proofs.FlowPlaces.{moved_append}
 use Rattle.saphyr_scanner.proofs.FlowGaps.{past_ink, less_on}
 use Rattle.saphyr_scanner.proofs.FlowFillers.{one_right, rest_past}
 use Rattle.saphyr_scanner.proofs.FlowSeparates.{separates, separates_rest}
 use Rattle.saphyr_scanner.proofs.FlowJoins.{join, behind}
 use Rattle.saphyr_scanner.proofs.FlowBrackets.{IsMark, open_passes, pending, close_passes}
+use Rattle.saphyr_scanner.proofs.InBlock.Crossings.{fresh_in_flow, line_rest_crosses}
 use Rattle.saphyr_scanner.proofs.FlowPieces.{fits_front, fits_back, fits_before}
 
 -- ## Behind the closing bracket
 
 -- what blanks and a comment behind a bracket at m give
-pub record EndsAt (indent : ℕ) (m : Marker) (o : List ℕ) : Type 0 where
+pub record EndsAt (indent : ℕ) (x : Context) (m : Marker) (o : List ℕ) : Type 0 where
   pub found : SkipTabs
   pub there : Cursor
   pub is : separation Yes (cursor_at o (along m 1) false) ≡ Ok (found, there)
   pub lands : past indent there.mark there.rest ≡ past indent (along m 1) o
+  pub fresh : IsFresh x o false there
 
-pub ends_inside : (indent : ℕ) (m : Marker) (o : List ℕ) → IsParted indent o → indent ≤ m.col → EndsAt indent m o
-ends_inside indent m o h right =
+pub ends_inside : (indent : ℕ) (x : Context) (m : Marker) (o : List ℕ) → is_block x ≡ false → IsParted indent o → indent ≤ m.col → EndsAt indent x m o
+ends_inside indent x m o flow h right =
     let p = separates indent (cursor_at o (along m 1) false) h.separation h.first h.others h.is h.parts (one_right indent m.col right) h.ink in
-    record { found = p.found; there = p.there; is = p.is; lands = p.lands }
+    record { found = p.found; there = p.there; is = p.is; lands = p.lands; fresh = fresh_in_flow x o false p.there flow }
 
-pub ends_root : (indent : ℕ) (m e : Marker) (o : List ℕ) → IsBehindRoot indent e o → EndsAt indent m o
+pub ends_root : (indent : ℕ) (m e : Marker) (o : List ℕ) → IsBehindRoot indent e o → EndsAt indent context.Block m o
 ends_root indent m e o h =
     let p = separates_rest (cursor_at o (along m 1) false) h.rest h.more h.is h.line h.break in
     record {
@@ -51,6 +54,7 @@ ends_root indent m e o h =
       there = record { rest = h.more; mark = moved (along m 1) h.rest; blank_so_far = false };
       is = p.1;
       lands = sym (ap (past indent (along m 1)) h.is ∙ rest_past indent (along m 1) h.rest h.more h.line h.break);
+      fresh = λ _ e. line_rest_crosses h.rest h.more h.line h.break (ap crosses (sym h.is) ∙ e);
     }
 
 -- ## The brackets and what is inside
@@ -116,12 +120,13 @@ all_told : (opens closes : Kind) (ts ends : List Kind) → ((opens ∷ []) ++ ts
 all_told opens closes ts ends = ap (λ (x : List Kind). opens ∷ x) (sym (append_assoc ts ends (closes ∷ [])))
 
 pub brackets_pass : (around : Around) (Is : List Kind → Type 0) (b : Brackets) → AreBrackets b → (m : Marker) (w inside o : List ℕ) → Fits around m (bracket_text b w inside) o → IsSeparation around.indent w
-    → IsParted around.indent (w ++ (inside ++ (b.closing ∷ o))) → (around.indent ≤ (moved (moved m (b.opening ∷ w)) inside).col → EndsAt around.indent (moved (moved m (b.opening ∷ w)) inside) o)
+    → IsParted around.indent (w ++ (inside ++ (b.closing ∷ o)))
     → (s : Cursor) (x : Context) (k : Option Candidate) (ls : List Level) (a : Bool) (ad : ℕ) (ps : List Place) → length ls < 255 → Calm around x → ad ≤ m.index
     → past around.indent s.mark s.rest ≡ past around.indent m (bracket_text b w inside ++ o)
+    → (around.indent ≤ (moved (moved m (b.opening ∷ w)) inside).col → EndsAt around.indent x (moved (moved m (b.opening ∷ w)) inside) o)
     → RunsInside around Is b x ls (moved m (b.opening ∷ w)) inside o
     → BracketsPass around (state_at around s x k ls a ad ps) Is b (keeping a (length ps) m k (bracket_text b w inside)) x ls ps (moved m (bracket_text b w inside)) o
-brackets_pass around Is b are m w inside o fits parts parted ends s x k ls a ad ps low calm before text run =
+brackets_pass around Is b are m w inside o fits parts parted s x k ls a ad ps low calm before text ends run =
     let close = b.closing ∷ [] in
     let follow : (inside ++ close) ++ o ≡ inside ++ (b.closing ∷ o) = append_assoc inside close o in
     let whole = fits_front m (b.opening ∷ w) (inside ++ close) o fits in
@@ -142,7 +147,7 @@ brackets_pass around Is b are m w inside o fits parts parted ends s x k ls a ad 
     let first_ended : r.passes.adjacent ≤ at_end.index = subst (λ (z : Marker × List ℕ). r.passes.adjacent ≤ z.0.index) (past_ink around.indent at_end b.closing o are.closing_mark.ink) r.passes.knows in
     let q = join p r.passes (starts_with piece at_end.index) ((r.passes.new, ap (λ (z : List Place). z ++ r.passes.new) p.knows.1.1), first_ended) in
     let c = close_passes around r.inside r.flows (ends_pair r.inside) b.closes b.closing are.closing_mark r.closes at_end o closing_fits at_close.found at_close.there at_close.is at_close.lands
-    q.there q.key j x ls q.allowed q.adjacent (ps ++ q.new) calm q.knows.1 q.fits in
+    q.there q.key j x ls q.allowed q.adjacent (ps ++ q.new) at_close.fresh calm q.knows.1 q.fits in
     let end = moved at_end close in
     let kept = keeping a (length ps) m k (bracket_text b w inside) in
     let known : IsBracketed around.indent x kept end o c.key c.adjacent (q.new ++ c.new) = record {

@@ -23,6 +23,7 @@ use Rattle.saphyr_scanner.proofs.FlowGaps.{past_ink}
 use Rattle.saphyr_scanner.proofs.FlowArrivals.{arrives, one, within_index}
 use Rattle.saphyr_scanner.proofs.FlowSeparates.{separates}
 use Rattle.saphyr_scanner.proofs.FlowJoins.{once}
+use Rattle.saphyr_scanner.proofs.InBlock.Crossings.{fresh_in_flow}
 use Rattle.saphyr_scanner.proofs.FlowBrackets.{IsMark, mark_begins, mark_moved, one_on, pending, mark_places, mark_puts, mark_kinds}
 
 no_block : true ≡ false → ⊥
@@ -76,4 +77,4 @@ comma_passes around y flows m o fits parted s k ls a ad ps before text =
     let came = one around s y k ls a ad ps m (44 ∷ o) v (mark_begins m 44 o comma fits.clear) p.there (behind_entry y) None ls true ad (ps ++ new) (behind_pair (ends_pair y) m (from_to m p.there.mark tokens.FlowEntry)) (λ d. d) (as_before around) stepped
     (mark_puts (ends_pair y) ps m p.there.mark tokens.FlowEntry) (within_index around.indent around.limit p.there (along m 1) o p.lands (omega (arith, below))) in
     once true ad p.there ps new (moved m (44 ∷ [])) o (pending (ends_pair y) ++ tokens.FlowEntry ∷ []) (fresh_key (moved m (44 ∷ []))) came (right_one around.indent m 44 refl fits.right)
-    (p.lands ∙ ap (λ (q : Marker). past around.indent q o) (mark_moved m 44 comma)) (mark_kinds (ends_pair y) m p.there.mark tokens.FlowEntry) (came.same (in_flow y flows), refl, one_on m 44 ad before)
+    (p.lands ∙ ap (λ (q : Marker). past around.indent q o) (mark_moved m 44 comma)) (fresh_in_flow (behind_entry y) o true p.there (in_flow y flows)) (mark_kinds (ends_pair y) m p.there.mark tokens.FlowEntry) (came.same (in_flow y flows), refl, one_on m 44 ad before)

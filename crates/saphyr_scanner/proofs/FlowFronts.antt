@@ -51,7 +51,7 @@ no_less ad m p low = let i = moved_index m p in omega (arith, i, low)
 
 -- the run inside, from a place on
 abbrev Inside : Around → (List Kind → Type 0) → Brackets → Context → List Level → Marker → List ℕ → List ℕ → List ℕ → Type 0
-Inside around Is b x ls m w inside o = (around.indent ≤ (moved (moved m (b.opening ∷ w)) inside).col → EndsAt around.indent (moved (moved m (b.opening ∷ w)) inside) o) × RunsInside around Is b x ls (moved m (b.opening ∷ w)) inside o
+Inside around Is b x ls m w inside o = (around.indent ≤ (moved (moved m (b.opening ∷ w)) inside).col → EndsAt around.indent x (moved (moved m (b.opening ∷ w)) inside) o) × RunsInside around Is b x ls (moved m (b.opening ∷ w)) inside o
 
 -- without properties
 bare_passes : (around : Around) (p : Properties) → p ≡ no_properties → (Is : List Kind → Type 0) (b : Brackets) → AreBrackets b → (m : Marker) (w inside o : List ℕ)
@@ -60,7 +60,7 @@ bare_passes : (around : Around) (p : Properties) → p ≡ no_properties → (Is
     → past around.indent s.mark s.rest ≡ past around.indent m (bracket_text b w inside ++ o) → Inside around Is b x ls m w inside o
     → CollectionPasses around (state_at around s x k ls a ad ps) Is b p (keeping a (length ps) m k (bracket_text b w inside)) x ls ps (moved m (bracket_text b w inside)) o
 bare_passes around p none Is b are m w inside o fits parts parted s x k ls a ad ps low calm before text run =
-    let r = brackets_pass around Is b are m w inside o fits parts parted run.0 s x k ls a ad ps low calm before text run.1 in
+    let r = brackets_pass around Is b are m w inside o fits parts parted s x k ls a ad ps low calm before text run.0 run.1 in
     record { properties = []; are_properties = subst (λ (q : Properties). grammar.AreProperties q []) (sym none) refl; inside = r.inside; are = r.are; passes = r.passes }
 
 -- behind properties and some separation
@@ -83,7 +83,7 @@ behind_properties around p P Is b are m t v w inside o fits h some gap parts par
     let q : Passes around start (read_properties x front ad) x ls ps here (body ++ o) pp.tokens =
     subst (λ (e : Marker). Passes around start (read_properties x front ad) x ls ps e (body ++ o) pp.tokens) (sym (moved_append m t v)) (behind (moved m t) v (body ++ o) gap pp.passes) in
     let still_before : q.adjacent ≤ here.index = subst (λ (n : ℕ). n ≤ here.index) (sym q.knows.still) (no_less ad m (t ++ v) before) in
-    let r = brackets_pass around Is b are here w inside o (fits_back m (t ++ v) body o q.right fits) parts parted run.0 q.there x q.key ls q.allowed q.adjacent (ps ++ q.new) low calm still_before q.fits run.1 in
+    let r = brackets_pass around Is b are here w inside o (fits_back m (t ++ v) body o q.right fits) parts parted q.there x q.key ls q.allowed q.adjacent (ps ++ q.new) low calm still_before q.fits run.0 run.1 in
     let end = moved here body in
     let c = r.passes in
     let still : saved q.allowed (length (ps ++ q.new)) here q.key ≡ q.key = ap (λ (z : Bool). saved z (length (ps ++ q.new)) here q.key) q.knows.properties.closed in

@@ -122,10 +122,10 @@ mutual
 -- ## By the characters that are passed
 
 -- P holds of each place and what is behind it, where it does where nothing is passed, and behind each character.
-record Steps (column : ℕ) (P : Marker → List ℕ → Marker × List ℕ → Type 0) : Type 0 where
-  stays : (m : Marker) (t : List ℕ) → past column m t ≡ (m, t) → P m t (m, t)
-  onward : (m : Marker) (c : ℕ) (cs : List ℕ) (r : Marker × List ℕ) → P (along m 1) cs r → P m (c ∷ cs) r
-  line : (m : Marker) (c : ℕ) (cs : List ℕ) (r : Marker × List ℕ) → P (next_line m 1) cs r → P m (c ∷ cs) r
+pub record Steps (column : ℕ) (P : Marker → List ℕ → Marker × List ℕ → Type 0) : Type 0 where
+  pub stays : (m : Marker) (t : List ℕ) → past column m t ≡ (m, t) → P m t (m, t)
+  pub onward : (m : Marker) (c : ℕ) (cs : List ℕ) (r : Marker × List ℕ) → P (along m 1) cs r → P m (c ∷ cs) r
+  pub line : (m : Marker) (c : ℕ) (cs : List ℕ) (r : Marker × List ℕ) → P (next_line m 1) cs r → P m (c ∷ cs) r
 
 step_kind : (column : ℕ) (P : Marker → List ℕ → Marker × List ℕ → Type 0) → Steps column P → (m : Marker) (c : ℕ) (cs : List ℕ) (is_tab is_white is_line is_sign : Bool) → is_left_tab column m c ≡ is_tab
     → (is_blank c || ((c == 13) && (slice_index cs 0 == 10))) ≡ is_white → is_break c ≡ is_line → (c == 35) ≡ is_sign
@@ -166,7 +166,7 @@ comment_step column P steps m c cs false false true e f g word on line = rw (e, 
 comment_step column P steps m c cs false false false e f g word on line = rw (e, f, g) (steps.stays m (c ∷ cs) (ends_comment column m c cs e g))
 
 mutual
-  by_steps : (column : ℕ) (P : Marker → List ℕ → Marker × List ℕ → Type 0) → Steps column P → (m : Marker) (t : List ℕ) → P m t (past column m t)
+  pub by_steps : (column : ℕ) (P : Marker → List ℕ → Marker × List ℕ → Type 0) → Steps column P → (m : Marker) (t : List ℕ) → P m t (past column m t)
   by_steps column P steps m [] = steps.stays m [] refl
   by_steps column P steps m (c ∷ cs) =
       step_kind column P steps m c cs (is_left_tab column m c) (is_blank c || ((c == 13) && (slice_index cs 0 == 10))) (is_break c) (c == 35) refl refl refl refl

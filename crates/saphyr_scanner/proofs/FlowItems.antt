@@ -18,6 +18,7 @@ use Rattle.saphyr_scanner.proofs.InFlow.States.{Around, state_at}
 use Rattle.saphyr_scanner.proofs.FlowStates.{Fits, moved, past, IsParted, Passes, fresh_key, ended, PassesNode}
 use Rattle.saphyr_scanner.proofs.FlowPlaces.{moved_append}
 use Rattle.saphyr_scanner.proofs.FlowGaps.{past_ink, less_on, less_behind}
+use Rattle.saphyr_scanner.proofs.InBlock.Crossings.{fresh_in_flow}
 use Rattle.saphyr_scanner.proofs.FlowJoins.{join, behind, knowing, none}
 use Rattle.saphyr_scanner.proofs.FlowBrackets.{pending}
 use Rattle.saphyr_scanner.proofs.FlowCommas.{comma_passes}
@@ -167,7 +168,7 @@ no_others_pass {around} room m p o (inl e) fits x flows back s k ls a ad ps low 
       others = [];
       is = sym (append-nil (pending (ends_pair x)));
       are = inl refl;
-      passes = none around s x k ls a ad ps m (93 ∷ o) (ended around.indent m (93 ∷ o)) fits.right there near;
+      passes = none around s x k ls a ad ps m (93 ∷ o) (ended around.indent m (93 ∷ o)) fits.right there (fresh_in_flow x (93 ∷ o) a s flows) near;
     })
 no_others_pass {around} room m p o (inr comma) fits x flows back s k ls a ad ps low before text =
     let c = comma_behind around x context.FlowSequence flows back m p (93 ∷ o) comma fits (begins_with 93 o (93 ∷ o) refl (end_ink 93 (inr (inl refl)))) s k ls a ad ps before text in
@@ -247,7 +248,7 @@ no_items_pass {around} room m p o e fits s k ls a ad ps no_candidate fresh low b
       back = refl;
       tokens = [];
       are = refl;
-      passes = none around s context.FlowSequence k ls a ad ps m (93 ∷ o) (ended around.indent m (93 ∷ o)) fits.right there (less_behind around.indent ad m [] (93 ∷ o) before);
+      passes = none around s context.FlowSequence k ls a ad ps m (93 ∷ o) (ended around.indent m (93 ∷ o)) fits.right there (fresh_in_flow context.FlowSequence (93 ∷ o) a s refl) (less_behind around.indent ad m [] (93 ∷ o) before);
     })
 
 first_regrouped : (i q r j o : List Kind) → q ++ r ≡ j ++ o → (i ++ q) ++ r ≡ (i ++ j) ++ o

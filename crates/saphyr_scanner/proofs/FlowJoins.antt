@@ -12,9 +12,10 @@ use Rattle.saphyr_scanner.specs.Core.{Candidate, Level}
 use Rattle.saphyr_scanner.specs.State.{State}
 use Rattle.saphyr_scanner.proofs.InFlow.States.{Around, state_at, stays, chains, Comes}
 use Rattle.saphyr_scanner.proofs.JsonMarks.{kinds, kinds_append}
-use Rattle.saphyr_scanner.proofs.FlowStates.{moved, past, Since, Known, Passes, Closes}
+use Rattle.saphyr_scanner.proofs.FlowStates.{moved, past, IsFresh, Since, Known, Passes, Closes}
 use Rattle.saphyr_scanner.proofs.FlowPlaces.{moved_append}
 use Rattle.saphyr_scanner.proofs.FlowFillers.{separation_past, right_behind}
+use Rattle.saphyr_scanner.proofs.InBlock.Crossings.{separation_crosses}
 
 -- a piece, and another behind it
 pub join : {around : Around} {start : Bool → State} {known more : Known} {x y : Context} {ls ms : List Level} {ps : List Place} {m e : Marker} {o z : List ℕ} {ts us : List Kind} → (p : Passes around start known x ls ps m o ts)
@@ -30,6 +31,7 @@ join {ps = ps} {ts = ts} {us = us} p q all knows =
       leads = rw (← append_assoc ps p.new q.new) (chains p.leads q.leads);
       right = q.right;
       fits = q.fits;
+      fresh = q.fresh;
       are = kinds_append p.new q.new ∙ ap (λ x. x ++ kinds q.new) p.are ∙ ap (λ x. ts ++ x) q.are;
       knows = knows;
     }
@@ -69,11 +71,12 @@ join_root {ps = ps} {ts = ts} p q late =
       are = kinds_append p.new q.new ∙ ap (λ x. x ++ kinds q.new) p.are ∙ ap (λ x. ts ++ x) q.are;
       low = q.low;
       late = late;
+      fresh = q.fresh;
     }
 
 -- a document's node behind which no comment is noted
 pub root : {around : Around} {start : Bool → State} {known : Known} {ps : List Place} {m : Marker} {o : List ℕ} {ts : List Kind} → (p : Passes around start known context.Block [] ps m o ts) → p.adjacent ≤ (past around.indent m o).0.index → {k : Option Candidate} {first : Marker} {t : List ℕ} → Since k first t p.key → Closes around start k first t ps m o ts
-root p low late = record { there = p.there; key = p.key; allowed = p.allowed; adjacent = p.adjacent; comment = None; new = p.new; leads = p.leads; fits = p.fits; are = p.are; low = low; late = late }
+root p low late = record { there = p.there; key = p.key; allowed = p.allowed; adjacent = p.adjacent; comment = None; new = p.new; leads = p.leads; fits = p.fits; are = p.are; low = low; late = late; fresh = p.fresh }
 
 -- the separation behind a piece
 pub behind : {around : Around} {start : Bool → State} {known : Known} {x : Context} {ls : List Level} {ps : List Place} {ts : List Kind} → (m : Marker) (w o : List ℕ) → IsSeparation around.indent w
@@ -88,6 +91,7 @@ behind {around = around} m w o h p =
       leads = p.leads;
       right = right_behind around.indent m w h p.right;
       fits = p.fits ∙ separation_past around.indent m w o h p.right;
+      fresh = λ b e. p.fresh b (separation_crosses around.indent w o h e);
       are = p.are;
       knows = p.knows;
     }
@@ -96,17 +100,18 @@ behind {around = around} m w o h p =
 pub knowing : {around : Around} {start : Bool → State} {known : Known} {x : Context} {ls : List Level} {ps : List Place} {m : Marker} {o : List ℕ} {ts : List Kind} → (p : Passes around start known x ls ps m o ts) → (other : Known)
     → other p.key p.allowed p.adjacent p.new → Passes around start other x ls ps m o ts
 knowing p other h =
-    record { there = p.there; key = p.key; allowed = p.allowed; adjacent = p.adjacent; new = p.new; leads = p.leads; right = p.right; fits = p.fits; are = p.are; knows = h }
+    record { there = p.there; key = p.key; allowed = p.allowed; adjacent = p.adjacent; new = p.new; leads = p.leads; right = p.right; fits = p.fits; fresh = p.fresh; are = p.are; knows = h }
 
 -- one step
 pub once : {around : Around} {start : Bool → State} {x : Context} {k : Option Candidate} {ls : List Level} (a : Bool) (ad : ℕ) (s : Cursor) (ps new : List Place) (m : Marker) (o : List ℕ) (ts : List Kind) (known : Known)
-    → (c : Comes around start s x k ls a ad (ps ++ new)) → around.indent ≤ m.col → past around.indent s.mark s.rest ≡ past around.indent m o → kinds new ≡ ts → known c.key a ad new → Passes around start known x ls ps m o ts
-once a ad s ps new m o ts known c right fits are knows =
-    record { there = s; key = c.key; allowed = a; adjacent = ad; new = new; leads = c.leads; right = right; fits = fits; are = are; knows = knows }
+    → (c : Comes around start s x k ls a ad (ps ++ new)) → around.indent ≤ m.col → past around.indent s.mark s.rest ≡ past around.indent m o → IsFresh x o a s → kinds new ≡ ts → known c.key a ad new
+    → Passes around start known x ls ps m o ts
+once a ad s ps new m o ts known c right fits fresh are knows =
+    record { there = s; key = c.key; allowed = a; adjacent = ad; new = new; leads = c.leads; right = right; fits = fits; fresh = fresh; are = are; knows = knows }
 
 -- no step
 pub none : (around : Around) (s : Cursor) (x : Context) (k : Option Candidate) (ls : List Level) (a : Bool) (ad : ℕ) (ps : List Place) (m : Marker) (o : List ℕ) (known : Known) → around.indent ≤ m.col
-    → past around.indent s.mark s.rest ≡ past around.indent m o → known k a ad []
+    → past around.indent s.mark s.rest ≡ past around.indent m o → IsFresh x o a s → known k a ad []
     → Passes around (state_at around s x k ls a ad ps) known x ls ps m o []
-none around s x k ls a ad ps m o known right text knows =
-    record { there = s; key = k; allowed = a; adjacent = ad; new = []; leads = rw append-nil (stays around _); right = right; fits = text; are = refl; knows = knows }
+none around s x k ls a ad ps m o known right text fresh knows =
+    record { there = s; key = k; allowed = a; adjacent = ad; new = []; leads = rw append-nil (stays around _); right = right; fits = text; fresh = fresh; are = refl; knows = knows }

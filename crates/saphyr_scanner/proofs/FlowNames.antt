@@ -85,6 +85,7 @@ name_passes reads around is_alias indicator name o m begins first break h ends f
       is = λ d. begins (slice_index (name ++ o) 0) (length ps) (core_at around d (cursor_at (indicator ∷ (name ++ o)) m b) x j ls e ad)
           ∙ name_step reads around d is_alias (length ps) m b indicator name o break h ends x j ls e ad (placed_right x e fits.calm fits.right);
       fits = refl;
+      fresh = λ _ e. e;
       tells = (refl, refl);
     })
 
@@ -161,5 +162,6 @@ tag_passes reads around tag t o m h fits s x k ls a ad ps ends text =
       is = λ d. let c = core_at around d (cursor_at (t ++ o) m b) x j ls e ad in
           ap (λ (i : ℕ). step i second n c) at_first ∙ begins_tag second n c ∙ tag_step reads around d n m b t r.handle r.suffix o r.is x j ls e ad ends (placed_right x e fits.calm fits.right);
       fits = refl;
+      fresh = λ _ e. e;
       tells = (refl, refl);
     }))

@@ -92,10 +92,11 @@ inner_fits {around} m front opening inside closing o right fits =
 -- in brackets
 sequence_run : {around : Around} → Reads → (room : ℕ) (p : Properties) (nodes : Nodes) (in_flow : Bool) → ((left : ℕ) → PassesItems around left nodes) → (m : Marker) (t o : List ℕ)
     → IsFlowNode room (Seq p nodes) in_flow around.indent t → Fits around m t o
-    → ((e : Marker) → around.indent ≤ e.col → EndsAt around.indent e o) → (s : Cursor) (x : Context) (k : Option Candidate) (ls : List Level) (a : Bool) (ad : ℕ) (ps : List Place) → room + length ls ≤ 255 → Calm around x → ad ≤ m.index
+    → (s : Cursor) (x : Context) (k : Option Candidate) (ls : List Level) (a : Bool) (ad : ℕ) (ps : List Place)
+    → ((e : Marker) → around.indent ≤ e.col → EndsAt around.indent x e o) → room + length ls ≤ 255 → Calm around x → ad ≤ m.index
     → past around.indent s.mark s.rest ≡ past around.indent m (t ++ o)
     → CollectionPasses around (state_at around s x k ls a ad ps) (grammar.AreFlowEntries nodes) square p (keeping a (length ps) m k t) x ls ps (moved m t) o
-sequence_run {around} reads room p nodes in_flow items m t o (left, opening, inside, r, (front, w, f, parts, e), h, is) fits ends s x k ls a ad ps low calm before text =
+sequence_run {around} reads room p nodes in_flow items m t o (left, opening, inside, r, (front, w, f, parts, e), h, is) fits s x k ls a ad ps ends low calm before text =
     let text_is = whole_text t opening front w inside 91 93 is e in
     let whole = fits_so m t (front ++ bracket_text square w inside) o text_is fits in
     let here = moved (moved m front) (91 ∷ w) in
@@ -110,10 +111,11 @@ sequence_run {around} reads room p nodes in_flow items m t o (left, opening, ins
 -- in braces
 mapping_run : {around : Around} → Reads → (room : ℕ) (p : Properties) (pairs : Pairs) (in_flow : Bool) → ((left : ℕ) → PassesPairs around left pairs) → (m : Marker) (t o : List ℕ)
     → IsFlowNode room (Map p pairs) in_flow around.indent t → Fits around m t o
-    → ((e : Marker) → around.indent ≤ e.col → EndsAt around.indent e o) → (s : Cursor) (x : Context) (k : Option Candidate) (ls : List Level) (a : Bool) (ad : ℕ) (ps : List Place) → room + length ls ≤ 255 → Calm around x → ad ≤ m.index
+    → (s : Cursor) (x : Context) (k : Option Candidate) (ls : List Level) (a : Bool) (ad : ℕ) (ps : List Place)
+    → ((e : Marker) → around.indent ≤ e.col → EndsAt around.indent x e o) → room + length ls ≤ 255 → Calm around x → ad ≤ m.index
     → past around.indent s.mark s.rest ≡ past around.indent m (t ++ o)
     → CollectionPasses around (state_at around s x k ls a ad ps) (grammar.AreFlowPairs pairs) curly p (keeping a (length ps) m k t) x ls ps (moved m t) o
-mapping_run {around} reads room p pairs in_flow members m t o (left, opening, inside, r, (front, w, f, parts, e), h, is) fits ends s x k ls a ad ps low calm before text =
+mapping_run {around} reads room p pairs in_flow members m t o (left, opening, inside, r, (front, w, f, parts, e), h, is) fits s x k ls a ad ps ends low calm before text =
     let text_is = whole_text t opening front w inside 123 125 is e in
     let whole = fits_so m t (front ++ bracket_text curly w inside) o text_is fits in
     let here = moved (moved m front) (123 ∷ w) in
@@ -146,7 +148,7 @@ weaker a b h = omega (arith, h)
 
 sequence_passes : {around : Around} → Reads → (room : ℕ) (p : Properties) (nodes : Nodes) → ((left : ℕ) → PassesItems around left nodes) → PassesNode around room (Seq p nodes)
 sequence_passes {around} reads room p nodes items m t o h fits behind s x k ls a ad ps before flow low text =
-    let c = sequence_run reads room p nodes true items m t o h fits (λ e right. ends_inside around.indent e o (behind_parted around.indent (Seq p nodes) o behind) right) s x k ls a ad ps low (calm_in_flow around x flow)
+    let c = sequence_run reads room p nodes true items m t o h fits s x k ls a ad ps (λ e right. ends_inside around.indent x e o flow (behind_parted around.indent (Seq p nodes) o behind) right) low (calm_in_flow around x flow)
     (weaker ad m.index before) text in
     let n = c.passes.knows in
     record {
@@ -158,7 +160,7 @@ sequence_passes {around} reads room p nodes items m t o h fits behind s x k ls a
 
 mapping_passes : {around : Around} → Reads → (room : ℕ) (p : Properties) (pairs : Pairs) → ((left : ℕ) → PassesPairs around left pairs) → PassesNode around room (Map p pairs)
 mapping_passes {around} reads room p pairs members m t o h fits behind s x k ls a ad ps before flow low text =
-    let c = mapping_run reads room p pairs true members m t o h fits (λ e right. ends_inside around.indent e o (behind_parted around.indent (Map p pairs) o behind) right) s x k ls a ad ps low (calm_in_flow around x flow)
+    let c = mapping_run reads room p pairs true members m t o h fits s x k ls a ad ps (λ e right. ends_inside around.indent x e o flow (behind_parted around.indent (Map p pairs) o behind) right) low (calm_in_flow around x flow)
     (weaker ad m.index before) text in
     let n = c.passes.knows in
     record {
@@ -177,7 +179,7 @@ all_room = omega arith
 sequence_closes : {around : Around} → Reads → (p : Properties) (nodes : Nodes) → ((left : ℕ) → PassesItems around left nodes) → around.required ≡ false → ClosesNode around (Seq p nodes)
 sequence_closes {around} reads p nodes items none_required m t o h fits behind s k a ad ps before text =
     let low = at_ink around.indent m t o ad (node_ink around.indent 255 (Seq p nodes) false t h) before in
-    let c = sequence_run reads 255 p nodes false items m t o h fits (λ e right. ends_root around.indent e (moved m t) o behind) s context.Block k [] a ad ps all_room (calm_at_root around fits.calm none_required) low text in
+    let c = sequence_run reads 255 p nodes false items m t o h fits s context.Block k [] a ad ps (λ e right. ends_root around.indent e (moved m t) o behind) all_room (calm_at_root around fits.calm none_required) low text in
     record {
       tokens = c.properties ++ (tokens.FlowSequenceStart ∷ (c.inside ++ tokens.FlowSequenceEnd ∷ []));
       are = (c.properties, tokens.FlowSequenceStart ∷ (c.inside ++ tokens.FlowSequenceEnd ∷ []), c.are_properties, inl (c.inside, c.are, refl), refl);
@@ -187,7 +189,7 @@ sequence_closes {around} reads p nodes items none_required m t o h fits behind s
 mapping_closes : {around : Around} → Reads → (p : Properties) (pairs : Pairs) → ((left : ℕ) → PassesPairs around left pairs) → around.required ≡ false → ClosesNode around (Map p pairs)
 mapping_closes {around} reads p pairs members none_required m t o h fits behind s k a ad ps before text =
     let low = at_ink around.indent m t o ad (node_ink around.indent 255 (Map p pairs) false t h) before in
-    let c = mapping_run reads 255 p pairs false members m t o h fits (λ e right. ends_root around.indent e (moved m t) o behind) s context.Block k [] a ad ps all_room (calm_at_root around fits.calm none_required) low text in
+    let c = mapping_run reads 255 p pairs false members m t o h fits s context.Block k [] a ad ps (λ e right. ends_root around.indent e (moved m t) o behind) all_room (calm_at_root around fits.calm none_required) low text in
     record {
       tokens = c.properties ++ (tokens.FlowMappingStart ∷ (c.inside ++ tokens.FlowMappingEnd ∷ []));
       are = (c.properties, tokens.FlowMappingStart ∷ (c.inside ++ tokens.FlowMappingEnd ∷ []), c.are_properties, inl (c.inside, c.are, refl), refl);

@@ -33,6 +33,7 @@ use Rattle.saphyr_scanner.proofs.FlowLow.{behind_low}
 use Rattle.saphyr_scanner.proofs.FlowTokens.{Begins, saved_since, begins_past, begins_inked, begins_token, after_token, token_passes}
 use Rattle.saphyr_scanner.proofs.FlowWords.{passed_moved, normalized_same, ink_other, no_break, plain_text, plain_right}
 use Rattle.saphyr_scanner.proofs.FlowNoted.{noted_one}
+use Rattle.saphyr_scanner.proofs.InBlock.Crossings.{white_crosses}
 
 -- ## The first two characters
 
@@ -224,6 +225,7 @@ plain_passes reads around t o m h fits ends inked s x k ls a ad ps flow low text
           ∙ ap (λ (q : Option Marker). went (from_to m (moved m t) (plain_token t) ∷ []) (record (core_at around false u x (saved e (length ps) m j) ls u.blank_so_far ad) { comment = q }))
           (no_comment (not (is_block x)) u inside);
       fits = white_past around.indent (moved m t) false o inked;
+      fresh = λ _ e. white_crosses (moved m t) false o e;
       tells = refl;
     })
 
@@ -256,4 +258,5 @@ plain_closes reads around t o m h fits ends inked s k a ad ps before text =
       are = refl;
       low = behind_low around.indent ad m t o before;
       late = saved_since v.allowed (length ps) m k v.key t came.key v.kept came.kept;
+      fresh = λ _ e. white_crosses (moved m t) false o e;
     }

@@ -26,6 +26,7 @@ use Rattle.saphyr_scanner.proofs.FlowGaps.{past_ink}
 use Rattle.saphyr_scanner.proofs.FlowFillers.{one_right, separation_past}
 use Rattle.saphyr_scanner.proofs.FlowArrivals.{arrives, one, within_index}
 use Rattle.saphyr_scanner.proofs.FlowJoins.{once}
+use Rattle.saphyr_scanner.proofs.InBlock.Crossings.{fresh_in_flow}
 use Rattle.saphyr_scanner.proofs.FlowBrackets.{IsMark, mark_begins, mark_moved, one_on}
 use Rattle.saphyr_scanner.proofs.FlowColons.{no_block}
 use Rattle.saphyr_scanner.proofs.FlowSpaces.{separation_begins, spaces_passed}
@@ -111,4 +112,4 @@ mark_passes around y flows m o fits parted some tabs s k ls a ad ps before text 
     let new = place_of m n tokens.Key ∷ [] in
     let came = one around s y k ls a ad ps m (63 ∷ o) v (mark_begins m 63 o question fits.clear) there (behind_question y) None ls false ad (ps ++ new) (from_to m n tokens.Key ∷ []) (λ d. d) (as_before around) stepped refl
     (within_index around.indent around.limit there (along m 1) o lands (omega (arith, below))) in
-    once false ad there ps new (moved m (63 ∷ [])) o (tokens.Key ∷ []) (no_key (moved m (63 ∷ []))) came (right_one around.indent m 63 refl fits.right) (lands ∙ ap (λ (q : Marker). past around.indent q o) (mark_moved m 63 question)) refl (came.same (question_flows y flows), refl, one_on m 63 ad before)
+    once false ad there ps new (moved m (63 ∷ [])) o (tokens.Key ∷ []) (no_key (moved m (63 ∷ []))) came (right_one around.indent m 63 refl fits.right) (lands ∙ ap (λ (q : Marker). past around.indent q o) (mark_moved m 63 question)) (fresh_in_flow (behind_question y) o false there (question_flows y flows)) refl (came.same (question_flows y flows), refl, one_on m 63 ad before)

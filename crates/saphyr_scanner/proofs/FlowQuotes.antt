@@ -27,13 +27,14 @@ use Rattle.saphyr_scanner.proofs.InFlow.States.{Around, core_at, state_at, least
 use Rattle.saphyr_scanner.proofs.InFlow.Tabs.{lands_on_ink}
 use Rattle.saphyr_scanner.proofs.JsonStates.{cursor_at}
 use Rattle.saphyr_scanner.proofs.JsonMarks.{saved}
-use Rattle.saphyr_scanner.proofs.FlowStates.{keeping, moved, past, IsClear, IsInk, EndsNode, IsBehindNode, IsBehindRoot, Reads, Passes, Fits}
-use Rattle.saphyr_scanner.proofs.FlowGaps.{past_again, past_ink}
+use Rattle.saphyr_scanner.proofs.FlowStates.{keeping, moved, past, crosses, IsClear, IsInk, EndsNode, IsBehindNode, IsBehindRoot, Reads, Passes, Fits}
+use Rattle.saphyr_scanner.proofs.FlowGaps.{clash, past_again, past_ink}
 use Rattle.saphyr_scanner.proofs.FlowFillers.{EndsLine, rest_past, separation_past}
 use Rattle.saphyr_scanner.proofs.FlowArrivals.{PassesGap, passes_gap}
 use Rattle.saphyr_scanner.proofs.FlowSeparates.{separates, separates_rest}
 use Rattle.saphyr_scanner.proofs.FlowTokens.{Begins, after_token, token_passes}
 use Rattle.saphyr_scanner.proofs.FlowQuoted.{quoted_read, quoted_right}
+use Rattle.saphyr_scanner.proofs.InBlock.Crossings.{line_rest_crosses}
 
 -- ## Behind the closing quote
 
@@ -44,6 +45,7 @@ pub record EndsQuotes (around : Around) (start : Marker) (s : Cursor) (x : Conte
   pub is : separation Yes s ≡ Ok (found, there)
   pub lands : past around.indent there.mark there.rest ≡ past around.indent s.mark s.rest
   pub inked : is_blank (slice_index (past around.indent s.mark s.rest).1 0) ≡ false
+  pub stays : is_block x ≡ true → crosses s.rest ≡ true → crosses there.rest ≡ true
   pub goes : (d : Bool) (k : Option Candidate) (ls : List Level) (a : Bool) (ad : ℕ) → goes_on_behind_quotes start (core_at around d there x k ls a ad) ≡ true
 
 abbrev ends_entry : ℕ → Bool
@@ -79,6 +81,7 @@ flow_ends_quotes around node start m o x flow h right =
       is = p.is;
       lands = p.lands;
       inked = ap (λ (z : Marker × List ℕ). is_blank (slice_index z.1 0)) reached ∙ ink.0.blank;
+      stays = λ b _. absurd (clash (is_block x) b flow);
       goes = λ d k ls a ad. goes_in_flow around d start p.there x k ls a ad flow (first p.there.rest ink.1 p.ends);
     }
   where
@@ -96,6 +99,7 @@ root_ends_quotes around start m o h =
       is = p.1;
       lands = sym (ap (past around.indent m) h.is ∙ rest_past around.indent m h.rest h.more h.line h.break);
       inked = lands_on_ink around.indent (past around.indent m o).0 (past around.indent m o).1 h.lands;
+      stays = λ _ e. line_rest_crosses h.rest h.more h.line h.break (ap crosses (sym h.is) ∙ e);
       goes = λ d k ls a ad. goes_at_root around d start there k ls a ad (first h.more h.break);
     }
   where
@@ -167,5 +171,6 @@ quoted_passes reads around quote value t o m h fits apart s x k ls a ad ps p tex
       is = λ d. quoted_step reads around d quote place m b value t o h fits.clear apart x j ls e ad (slice_index (t ++ o) 0) at_first (placed_right x e fits.calm fits.right)
           ∙ behind_step around d m (style_of quote) (encode_utf8_all value) (at (moved m t) o) x (saved e place m j) ls ad behind.0 behind.1 p g;
       fits = past_again around.indent (moved m t) o;
+      fresh = λ b e. or_left g.allowed (crosses behind.1) (g.fresh b (p.stays b e));
       tells = refl;
     })

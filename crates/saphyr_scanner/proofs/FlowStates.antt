@@ -71,6 +71,24 @@ abbrev mutual
       else if is_break c then past column (next_line m 1) cs
       else (m, c ∷ cs)
 
+-- Whether a break stands before the next token (the text's end): what `gap` knows where it stops.
+abbrev mutual
+  pub crosses : List ℕ → Bool
+  crosses [] = false
+  crosses (c ∷ cs) =
+      if is_blank c || ((c == 13) && (slice_index cs 0 == 10)) then crosses cs
+      else if is_break c then true
+      else if c == 35 then crosses_comment cs
+      else false
+
+  pub crosses_comment : List ℕ → Bool
+  crosses_comment [] = false
+  crosses_comment (c ∷ cs) =
+      if is_yaml_non_break c then crosses_comment cs
+      else if (c == 13) && (slice_index cs 0 == 10) then crosses cs
+      else if is_break c then true
+      else false
+
 -- whether a document marker begins a line of a text before `behind`, where the text stands at a line's start or elsewhere
 abbrev pub marks_line : Bool → List ℕ → List ℕ → Bool
 marks_line at_start [] behind = false
@@ -121,13 +139,13 @@ pub record IsBehindNode (indent : ℕ) (node : Node) (o : List ℕ) : Type 0 whe
 abbrev pub EndsDocument : Marker → List ℕ → Type 0
 EndsDocument m y = (y ≡ []) ⊎ ((m.col ≡ 0) × IsTrue (is_document_indicator y))
 
--- a token left of a column
+-- a character left of a column that is no blank
 pub record IsLeft (column : ℕ) (m : Marker) (y : List ℕ) : Type 0 where
   pub left : m.col < column
   pub first : ℕ
   pub others : List ℕ
   pub is : y ≡ first ∷ others
-  pub ink : IsInk first
+  pub blank : is_blank first ≡ false
 
 -- What stands behind a node at block level, from its end m on: the rest of its line, and behind filler the text's end, a
 -- document marker at a line's start, or a token left of the node.
@@ -180,6 +198,12 @@ pub record Kept : Type 0 where
 abbrev pub keeping : Bool → ℕ → Marker → Option Candidate → List ℕ → Kept
 keeping a n m k t = record { kept = saved a n m k; before = k; from = m; over = t }
 
+-- ## Where a key may begin
+
+-- Behind a piece at block level, where a break stands before the next token, a key may begin, or the break is still ahead.
+abbrev pub IsFresh : Context → List ℕ → Bool → Cursor → Type 0
+IsFresh x o allowed there = is_block x ≡ true → crosses o ≡ true → (allowed || crosses there.rest) ≡ true
+
 -- ## Runs over a piece
 
 -- what is known behind a piece: of the key, whether one may begin, where a colon may stand at once, and the new places
@@ -197,6 +221,7 @@ pub record Passes (around : Around) (start : Bool → State) (known : Known) (x 
   pub leads : Runs around (state_at around there x key ls allowed adjacent (ps ++ new)) start
   pub right : around.indent ≤ m.col
   pub fits : past around.indent there.mark there.rest ≡ past around.indent m o
+  pub fresh : IsFresh x o allowed there
   pub are : kinds new ≡ ts
   pub knows : known key allowed adjacent new
 
@@ -217,6 +242,7 @@ pub record Closes (around : Around) (start : Bool → State) (k : Option Candida
   pub are : kinds new ≡ ts
   pub low : adjacent ≤ (past around.indent m o).0.index
   pub late : Since k first t key
+  pub fresh : IsFresh context.Block o allowed there
 
 -- ## What is known behind a piece
 

@@ -14,7 +14,7 @@ use Rattle.saphyr_scanner.proofs.InFlow.States.{Around, core_at, state_at, Deepe
 use Rattle.saphyr_scanner.proofs.JsonStates.{cursor_at}
 use Rattle.saphyr_scanner.proofs.JsonMarks.{saved}
 use Rattle.saphyr_scanner.proofs.JsonBrackets.{place_of}
-use Rattle.saphyr_scanner.proofs.FlowStates.{moved, past, IsClear, IsInk, Since, Kept, keeping, Known, Passes, Fits}
+use Rattle.saphyr_scanner.proofs.FlowStates.{moved, past, IsClear, IsInk, IsFresh, Since, Kept, keeping, Known, Passes, Fits}
 use Rattle.saphyr_scanner.proofs.FlowPlaces.{moved_count, clear_here}
 use Rattle.saphyr_scanner.proofs.FlowGaps.{past_ink}
 use Rattle.saphyr_scanner.proofs.FlowArrivals.{BeginsToken, arrives, one, within_index}
@@ -55,6 +55,7 @@ pub record Step (around : Around) (says : Bool → ℕ → Type 0) (kind : Kind)
   pub deepens : Deepens around to
   pub is : (d : Bool) → step (slice_index y 0) (slice_index y 1) place (core_at around d (cursor_at y m b) x j ls e ad) ≡ went (from_to m end kind ∷ []) (core_at around (to d) there x (saved e place m j) ls allowed adjacent)
   pub fits : past around.indent there.mark there.rest ≡ past around.indent n o
+  pub fresh : IsFresh x o allowed there
   pub tells : says allowed adjacent
 
 -- what is known behind a token
@@ -100,6 +101,7 @@ token_passes around says kind p o m f fits right s x k ls a ad ps text steps =
       leads = came.leads;
       right = right;
       fits = w.fits;
+      fresh = w.fresh;
       are = refl;
       knows = record {
         piece = record { span = record { start = m; end = w.end }; kind = kind };

@@ -24,6 +24,7 @@ use Rattle.saphyr_scanner.proofs.FlowGaps.{past_ink}
 use Rattle.saphyr_scanner.proofs.FlowFillers.{one_right, separation_past}
 use Rattle.saphyr_scanner.proofs.FlowArrivals.{arrives, one, within_index}
 use Rattle.saphyr_scanner.proofs.FlowJoins.{once}
+use Rattle.saphyr_scanner.proofs.InBlock.Crossings.{fresh_in_flow}
 use Rattle.saphyr_scanner.proofs.FlowBrackets.{mark_begins, mark_moved, one_on}
 use Rattle.saphyr_scanner.proofs.FlowColons.{begins, tabbed, opened_key, key_kinds, no_block, opens_key, fetches, behind_some, behind_none, colon, colon_flows, pair_places, performs, pair_kinds}
 
@@ -65,6 +66,7 @@ colon_passes around y flows first e node w o parts fits parted ends same_line st
       leads = chains p.leads came.leads;
       right = right_one around.indent m 58 refl fits.right;
       fits = t.lands ∙ ap (λ (q : Marker). past around.indent q o) (mark_moved m 58 colon);
+      fresh = fresh_in_flow (behind_colon y) o false t.there (colon_flows y flows);
       are = pair_kinds (begins_pair y) n.piece n.others p.new m ts n.is p.are;
       knows = (came.same (colon_flows y flows), refl, one_on m 58 p.adjacent before);
     }
@@ -123,4 +125,4 @@ value_passes around y flows m o fits parted s k ls a ad ps none ends before text
     let came = one around s y k ls a ad ps m (58 ∷ o) v (mark_begins m 58 o colon fits.clear) t.there (behind_colon y) None ls false ad (ps ++ new) (alone_actions (begins_pair y) m) (λ d. d) (as_before around) stepped
     (alone_puts (begins_pair y) ps m) (within_index around.indent around.limit t.there (along m 1) o t.lands (omega (arith, below))) in
     once false ad t.there ps new (moved m (58 ∷ [])) o (alone_kinds (begins_pair y) ++ tokens.Value ∷ []) (no_key (moved m (58 ∷ []))) came (right_one around.indent m 58 refl fits.right)
-    (t.lands ∙ ap (λ (q : Marker). past around.indent q o) (mark_moved m 58 colon)) (alone_told (begins_pair y) m) (came.same (colon_flows y flows), refl, one_on m 58 ad before)
+    (t.lands ∙ ap (λ (q : Marker). past around.indent q o) (mark_moved m 58 colon)) (fresh_in_flow (behind_colon y) o false t.there (colon_flows y flows)) (alone_told (begins_pair y) m) (came.same (colon_flows y flows), refl, one_on m 58 ad before)

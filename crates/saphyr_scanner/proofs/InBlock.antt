@@ -1,6 +1,8 @@
 -- The layout grammar at block level: each text of it gives tokens of its forest.
 pub mod States
 pub mod Gaps
+pub mod Crossings
+pub mod Untabbed
 pub mod Follows
 pub mod Closing
 pub mod Skips
@@ -19,4 +21,5 @@ pub mod Nodes
 pub mod Documents
 pub mod Streams
 pub mod Keys
+pub mod FlowNodes
 pub mod Layouts

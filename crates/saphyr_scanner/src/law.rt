@@ -5,7 +5,7 @@ ghost use Rattle.saphyr_scanner.specs.Forest.{Forest, Primary, Shorthand, open_i
 ghost use Rattle.saphyr_scanner.specs.TagSpelling.{IsTag};
 ghost use Rattle.saphyr_scanner.specs.Json.{IsJson};
 ghost use Rattle.saphyr_scanner.specs.JsonTokens as json;
-ghost use Rattle.saphyr_scanner.specs.Layout.{IsFlowLayoutText, most_open};
+ghost use Rattle.saphyr_scanner.specs.Layout.{IsLayoutText, most_open};
 ghost use Rattle.saphyr_scanner.specs.TokenGrammar.{Yields};
 ghost use Rattle.saphyr_scanner.specs.Tokens.{Kind};
 ghost use Rattle.saphyr_scanner.specs.Remaining.{Scans, scan};
@@ -26,7 +26,7 @@ ghost use Rattle.saphyr_scalar.specs.declared.scalar.fault.Refusal.{Refusal};
 use saphyr_scalar::scalar::{
     begins_plain_scalars_with_ink, counts_each_block_scalar, counts_each_double_quoted,
     keeps_markers_out_of_quotes, passes_to_one_place, places_each_block_scalar, reads_block_texts,
-    reads_breaks_alike, reads_each_anchor, reads_each_directive, reads_each_double_quoted,
+    reads_breaks_alike, reads_each_anchor, reads_each_block_scalar, reads_each_directive, reads_each_double_quoted,
     reads_each_plain_text, reads_each_plain_word, reads_each_quoted, reads_each_reserved_directive,
     reads_each_tag, reads_plain_values, refuses_inside, spells_each_anchor, spells_each_directive,
     spells_each_quoted, spells_each_tag, takes_anchor, takes_block_scalar, takes_directive,
@@ -102,16 +102,17 @@ pub fn scans_breaks_alike()
     takes_directive();
 }
 
-/// Each text of the layout grammar whose nodes are in flow style, within the limit, gives tokens of its
-/// forest, and no fault.
-pub fn scans_each_flow_text()
-    ensures { (limit : ℕ) (forest : Forest) (text : List ℕ) → IsFlowLayoutText most_open forest text
-        → length text < 2 ^ 63 → length text ≤ limit
+/// Each text of the layout grammar, within the limit, gives tokens of its forest, and no fault.
+pub fn scans_each_layout_text()
+    ensures { (limit : ℕ) (forest : Forest) (text : List ℕ) → IsLayoutText most_open forest text
+        → length text ≤ limit → limit < 2 ^ 63
         → (tokens : List Kind) × Yields forest tokens × Scans tokens (scan limit text) }
 {
     scans_breaks_alike();
     reads_each_plain_text();
     reads_each_quoted();
+    reads_each_block_scalar();
+    places_each_block_scalar();
     passes_to_one_place();
     reads_each_anchor();
     reads_each_tag();

@@ -1,10 +1,12 @@
 -- What stands between two tokens at block level: where it ends, whether a break stands in it, and a tab in its last indentation.
-use Rattle.std.proofs.Common.{◌≡◌, ℕ, Bool, true, false, List, [], ◌∷◌, slice_index, refl, ap, ◌∙◌, arith, Ok}
-use Rattle.std.specs.Prelude.{◌||◌, ◌&&◌, ◌==◌, nat_lt}
+use Rattle.std.proofs.Common.{◌≡◌, ℕ, Bool, true, false, List, [], ◌∷◌, slice_index, refl, sym, ap, ◌∙◌, arith, Result, Ok, Err}
+use Rattle.std.specs.Prelude.{◌||◌, ◌&&◌, ◌==◌, not, nat_lt, if◌then◌else◌}
 use Rattle.std.proofs.lemmas.Bool.Decides.{nat_tests}
-use Rattle.saphyr_input.specs.Classes.{is_blank, is_break, is_yaml_non_break}
+use Rattle.saphyr_input.specs.Classes.{is_blank, is_break, is_bom, is_z, is_yaml_non_break}
 use Rattle.saphyr_scalar.specs.declared.scalar.position.Marker.{Marker}
-use Rattle.saphyr_scalar.specs.Cursor.{Cursor, along, next_line}
+use Rattle.saphyr_scalar.specs.Cursor.{Cursor, along, next_line, refuse}
+use Rattle.saphyr_scalar.specs.declared.scalar.fault.Refusal.{Refusal}
+use Rattle.saphyr_scalar.specs.declared.scalar.fault.FaultText.TheVariants as fault
 use Rattle.saphyr_scanner.specs.Gap.{Passed, gap, comment, stop, is_tab_indentation, pass_gap}
 use Rattle.saphyr_scanner.proofs.FlowStates.{IsInk, is_left_tab, past, past_comment}
 use Rattle.saphyr_scanner.proofs.InBlock.States.{IsStop, tabbed, tabbed_comment, IsUntabbed, crosses, crosses_comment}
@@ -87,6 +89,24 @@ mutual
 stops_untabbed : (m : Marker) (blank broke : Bool) (t : List ℕ) → stop m blank broke false t ≡ Ok (record { cursor = record { rest = t; mark = m; blank_so_far = blank }; broke = broke })
 unfolding stop
 stops_untabbed m blank broke t = refl
+
+broke_by : (x y : Bool) (n : Marker) (q p : Passed) → (if x then refuse fault.MisplacedByteOrderMark n else if y then refuse fault.TabInBlockIndentation n else Ok q) ≡ Ok p → p.broke ≡ q.broke
+broke_by true y n q p e = absurd (cc)
+broke_by false true n q p e = absurd (cc)
+broke_by false false n q p e = ap broke_of (sym e)
+  where
+    broke_of : Result Passed Refusal → Bool
+    broke_of (Ok r) = r.broke
+    broke_of (Err e) = false
+
+-- a gap that is passed tells whether a break stands in it
+pub gap_broke : (least : ℕ) (m : Marker) (blank : Bool) (t : List ℕ) (p : Passed) → gap least m blank false false t ≡ Ok p → p.broke ≡ crosses t
+unfolding stop
+gap_broke least m blank t p is =
+    let g = gap_stops least m blank false false t in
+    let n = past 0 m t in
+    let tab = tabbed least m blank false t in
+    broke_by (tab && is_bom (slice_index n.1 0)) (tab && not (is_z (slice_index n.1 0))) n.0 (record { cursor = record { rest = n.1; mark = n.0; blank_so_far = g.still_blank }; broke = crosses t }) p (sym g.is ∙ is)
 
 pub past_stops : (m : Marker) (t : List ℕ) → IsStop (past 0 m t).1
 past_stops m t = (gap_stops 0 m false false false t).stop

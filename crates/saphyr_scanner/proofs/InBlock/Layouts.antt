@@ -2,8 +2,7 @@
 use Rattle.std.proofs.Common.{◌≡◌, ℕ, ◌<◌, ◌^◌, ◌≤◌, List, length, ap, sym, ◌∙◌, arith, subst}
 use Rattle.std.specs.Prelude.{map}
 use Rattle.saphyr_input.specs.Breaks.{normalized}
-use Rattle.saphyr_scanner.specs.BlockNodes.{IsFlowInBlock}
-use Rattle.saphyr_scanner.specs.Forest.{Forest, Node}
+use Rattle.saphyr_scanner.specs.Forest.{Forest}
 use Rattle.saphyr_scanner.specs.Layout.{most_open, IsLayout, IsLayoutText}
 use Rattle.saphyr_scanner.specs.Remaining.{Scans, scan}
 use Rattle.saphyr_scanner.specs.SameKinds.{HaveSameKinds}
@@ -14,19 +13,19 @@ use Rattle.saphyr_scanner.proofs.Breaks.Layouts.{no_return_left, scans_too}
 use Rattle.saphyr_scanner.proofs.Breaks.Normal.{beside, normal_shorter}
 use Rattle.saphyr_scanner.proofs.FlowInks.{node_ink}
 use Rattle.saphyr_scanner.proofs.FlowStates.{Reads}
+use Rattle.saphyr_scanner.proofs.InBlock.FlowNodes.{reads_flow}
 use Rattle.saphyr_scanner.proofs.InBlock.Keys.{reads_key}
 use Rattle.saphyr_scanner.proofs.InBlock.Properties.{reads_head, reads_properties}
 use Rattle.saphyr_scanner.proofs.InBlock.ScalarTexts.{ReadsBlocks, block_ink, scalar_ends}
 use Rattle.saphyr_scanner.proofs.InBlock.Scalars as scalars
-use Rattle.saphyr_scanner.proofs.InBlock.Statements.{Leaves, ReadsAt}
+use Rattle.saphyr_scanner.proofs.InBlock.Statements.{Leaves}
 use Rattle.saphyr_scanner.proofs.InBlock.Streams.{layout_leads}
 use Rattle.saphyr_scanner.proofs.Lazy.{handed_out}
 use Rattle.saphyr_scanner.proofs.TakingScalars.{Readers}
 
--- What is left to show is that nodes in flow style are read.
-pub leaves : Reads → ReadsBlocks → (limit : ℕ) → limit < 2 ^ 63 → ((node : Node) → ReadsAt limit node (IsFlowInBlock 255 node)) → Leaves limit
-leaves reads blocks limit short flow = record {
-  flow = flow;
+leaves : Reads → ReadsBlocks → (limit : ℕ) → limit < 2 ^ 63 → Leaves limit
+leaves reads blocks limit short = record {
+  flow = reads_flow reads limit short;
   block_scalar = scalars.block_scalar blocks short (reads_head reads limit);
   key = reads_key reads limit;
   properties = reads_properties reads limit short;
@@ -35,15 +34,16 @@ leaves reads blocks limit short flow = record {
   scalar_ends = scalar_ends;
 }
 
-pub layout_scans : Readers → Reads → (limit : ℕ) → Leaves limit → (forest : Forest) (text : List ℕ)
+-- each text of the layout grammar gives tokens of its forest
+pub layout_scans : Readers → Reads → ReadsBlocks → (limit : ℕ) → limit < 2 ^ 63 → (forest : Forest) (text : List ℕ)
     → HaveSameKinds (scan limit text) (scan limit (normalized text))
     → IsLayoutText most_open forest text → length text ≤ limit
     → (ts : List Kind) × Yields forest ts × Scans ts (scan limit text)
-layout_scans readers reads limit leaves forest text same layout short =
+layout_scans readers reads blocks limit low forest text same layout short =
     let n = normalized text in
     let clean = no_return_left (beside text) in
     let l = normal_shorter text in
-    let run = layout_leads reads limit leaves forest n clean layout (omega (arith, l, short)) in
+    let run = layout_leads reads limit (leaves reads blocks limit low) forest n clean layout (omega (arith, l, short)) in
     let all = handed_out readers limit n run.0 run.1 run.2 in (
       run.3.0,
       run.3.1,

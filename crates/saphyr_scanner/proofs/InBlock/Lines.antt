@@ -6,7 +6,8 @@ use Rattle.saphyr_input.specs.Classes.{line_feed}
 use Rattle.saphyr_scalar.specs.declared.scalar.position.Marker.{Marker}
 use Rattle.saphyr_scalar.specs.Cursor.{along, next_line}
 use Rattle.saphyr_scanner.proofs.Sizes.{by_test}
-use Rattle.saphyr_scanner.proofs.FlowStates.{moved, IsClear}
+use Rattle.saphyr_scanner.proofs.FlowStates.{moved, past, IsClear}
+use Rattle.saphyr_scanner.proofs.FlowGaps.{by_steps}
 use Rattle.saphyr_scanner.proofs.FlowPlaces.{behind_character, moved_append, moved_index, moved_count, clear_front, clear_back}
 
 -- A place has at most as many lines before it as characters.
@@ -45,6 +46,28 @@ moved_line m (c ∷ cs) h low =
 
     back : (i j l : ℕ) → j ≡ i + 1 → i + suc l < 2 ^ 63 → j + l < 2 ^ 63
     back i j l e h = omega (arith, e, h)
+
+-- what is passed leads to no earlier line
+pub past_line : (m : Marker) (t : List ℕ) → IsLined m → m.index + length t < 2 ^ 63 → m.line ≤ (past 0 m t).0.line
+past_line m t =
+    by_steps 0 (λ m t r. IsLined m → m.index + length t < 2 ^ 63 → m.line ≤ r.0.line)
+    (record {
+      stays = λ m t e h low. omega arith;
+      onward = λ m c cs r p h low. p (further m.line m.index h) (shorter m.index (length cs) low);
+      line = λ m c cs r p h low. next m.line m.index (length cs) r.0.line h low (p (broken m.line m.index h) (shorter m.index (length cs) low));
+    }) m t
+  where
+    further : (l i : ℕ) → l ≤ i + 1 → l ≤ i + 1 + 1
+    further l i h = omega (arith, h)
+
+    shorter : (i l : ℕ) → i + suc l < 2 ^ 63 → i + 1 + l < 2 ^ 63
+    shorter i l h = omega (arith, h)
+
+    broken : (l i : ℕ) → l ≤ i + 1 → min (l + 1) (2 ^ 64 - 1) ≤ i + 1 + 1
+    broken l i h = omega (arith, h)
+
+    next : (l i n r : ℕ) → l ≤ i + 1 → i + suc n < 2 ^ 63 → min (l + 1) (2 ^ 64 - 1) ≤ r → l ≤ r
+    next l i n r h low k = omega (arith, h, low, k)
 
 -- behind a break stands a later line
 pub later_line : (m : Marker) (a b : List ℕ) → IsLined m → m.index + length (a ++ (10 ∷ b)) < 2 ^ 63 → m.line < (moved m (a ++ (10 ∷ b))).line

@@ -1,5 +1,5 @@
 -- Spaces, comments and breaks between two tokens at block level.
-use Rattle.std.proofs.Common.{◌≡◌, ℕ, zero, suc, Bool, true, false, List, [], ◌∷◌, ◌++◌, slice_index, refl, sym, ap, ◌∙◌, arith, subst, append_assoc, ◌⊎◌, inl, inr}
+use Rattle.std.proofs.Common.{◌≡◌, ℕ, zero, suc, Bool, true, false, List, [], ◌∷◌, ◌++◌, slice_index, refl, sym, ap, ◌∙◌, arith, subst, append_assoc, append-nil, ◌⊎◌, inl, inr}
 use Rattle.std.specs.Prelude.{◌||◌, ◌&&◌, ◌==◌, if◌then◌else◌}
 use Rattle.std.proofs.lemmas.Bool.Decides.{nat_tests}
 use Rattle.saphyr_input.specs.Classes.{is_blank, is_break, is_yaml_non_break, line_feed}
@@ -46,7 +46,7 @@ line_skipped t front c w n spaced rest is k =
     by_comment (inl e) = subst (λ (x : List ℕ). IsSkipped (x ++ (10 ∷ w))) (sym e) (one_break w k)
     by_comment (inr h) = comment_skipped c w h k
 
-maybe : (white c : List ℕ) → IsCommentBehind white c → (c ≡ []) ⊎ IsComment c
+pub maybe : (white c : List ℕ) → IsCommentBehind white c → (c ≡ []) ⊎ IsComment c
 maybe white c (inl e) = inl e
 maybe white c (inr h) = inr h.1
 
@@ -115,9 +115,22 @@ skipped_crosses _ y (one_space w h) = skipped_crosses w y h
 skipped_crosses _ y (one_break w h) = refl
 skipped_crosses _ y (one_comment words w are h) = ap crosses_comment (append_assoc words (10 ∷ w) y) ∙ words_cross words (w ++ y) are
 
-comment_crosses : (comment o : List ℕ) → (comment ≡ []) ⊎ IsComment comment → crosses (comment ++ (10 ∷ o)) ≡ true
+pub comment_crosses : (comment o : List ℕ) → (comment ≡ []) ⊎ IsComment comment → crosses (comment ++ (10 ∷ o)) ≡ true
 comment_crosses comment o (inl e) = ap (λ (x : List ℕ). crosses (x ++ (10 ∷ o))) e
 comment_crosses comment o (inr (words, are, is)) = ap (λ (x : List ℕ). crosses (x ++ (10 ∷ o))) is ∙ words_cross words o are
+
+words_end_uncrossed : (words : List ℕ) → AreIn is_yaml_non_break words → crosses_comment words ≡ false
+words_end_uncrossed [] h = refl
+words_end_uncrossed (c ∷ cs) h = rw h.0 (words_end_uncrossed cs h.1)
+
+-- on a text's last line no break stands
+pub last_crosses : (n : ℕ) (comment : List ℕ) → (comment ≡ []) ⊎ IsComment comment → crosses (spaces n ++ (comment ++ [])) ≡ false
+last_crosses n comment k =
+    skipped_crosses (spaces n) (comment ++ []) (spaces_skipped n) ∙ ap (λ (b : Bool). b || crosses (comment ++ [])) (spaces_no_line n) ∙ ap crosses (append-nil comment) ∙ by_comment k
+  where
+    by_comment : (comment ≡ []) ⊎ IsComment comment → crosses comment ≡ false
+    by_comment (inl e) = ap crosses e
+    by_comment (inr (words, are, is)) = ap crosses is ∙ words_end_uncrossed words are
 
 pub rest_crosses : (n : ℕ) (comment o : List ℕ) → (comment ≡ []) ⊎ IsComment comment → crosses (spaces n ++ (comment ++ (10 ∷ o))) ≡ true
 rest_crosses n comment o k =

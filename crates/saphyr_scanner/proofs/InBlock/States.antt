@@ -17,7 +17,7 @@ use Rattle.saphyr_scanner.proofs.Leads.{Leads}
 use Rattle.saphyr_scanner.proofs.JsonStates.{queue_of, cursor_at}
 use Rattle.saphyr_scanner.proofs.JsonMarks.{kinds}
 use Rattle.saphyr_scanner.proofs.FlowStates.{past}
-pub use Rattle.saphyr_scanner.proofs.FlowStates.{EndsDocument}
+pub use Rattle.saphyr_scanner.proofs.FlowStates.{EndsDocument, crosses, crosses_comment}
 
 -- ## The block collections that are open
 
@@ -98,24 +98,6 @@ abbrev mutual
 -- no tab stands in the indentation before the next token
 abbrev pub IsUntabbed : ℕ → Cursor → Type 0
 IsUntabbed least s = tabbed least s.mark s.blank_so_far false s.rest ≡ false
-
--- Whether a break stands before the next token (the text's end): what `gap` knows where it stops.
-abbrev mutual
-  pub crosses : List ℕ → Bool
-  crosses [] = false
-  crosses (c ∷ cs) =
-      if is_blank c || ((c == 13) && (slice_index cs 0 == 10)) then crosses cs
-      else if is_break c then true
-      else if c == 35 then crosses_comment cs
-      else false
-
-  pub crosses_comment : List ℕ → Bool
-  crosses_comment [] = false
-  crosses_comment (c ∷ cs) =
-      if is_yaml_non_break c then crosses_comment cs
-      else if (c == 13) && (slice_index cs 0 == 10) then crosses cs
-      else if is_break c then true
-      else false
 
 -- ## What stands behind
 

@@ -18,7 +18,7 @@ use Rattle.saphyr_scanner.proofs.FlowSeparates.{line_stops, ink_stops, front_mov
 use Rattle.saphyr_scanner.proofs.FlowInks.{BeginsInk, properties_ink}
 use Rattle.saphyr_scanner.proofs.InBlock.States.{crosses, crosses_comment, EndsDocument}
 use Rattle.saphyr_scanner.proofs.InBlock.Gaps.{ink_stop, stop_tabbed, stop_past}
-use Rattle.saphyr_scanner.proofs.InBlock.Skips.{IsSkipped, spaces_no_line, rest_crosses, IsClean, has_tab, skipped_past, skipped_crosses, skipped_clean, skipped_no_tab, skipped_append, spaces_skipped, line_end_skipped, filler_skipped, comment_ends_clean, comment_ends_no_tab}
+use Rattle.saphyr_scanner.proofs.InBlock.Skips.{IsSkipped, spaces_no_line, rest_crosses, last_crosses, IsClean, has_tab, skipped_past, skipped_crosses, skipped_clean, skipped_no_tab, skipped_append, spaces_skipped, line_end_skipped, filler_skipped, comment_ends_clean, comment_ends_no_tab}
 use Rattle.saphyr_scanner.proofs.InBlock.Entries.{BeginsWhite, IsBehindIndicator}
 use Rattle.saphyr_scanner.proofs.InBlock.Statements.{EndsWithLine, IsBehind, Leaves}
 
@@ -214,18 +214,6 @@ rest_first (suc n) comment more k ends = refl
 rest_first zero comment more (inr k) ends = absurd (k.0 refl)
 rest_first zero comment more (inl e) (inl none) = ap (λ (x : List ℕ). is_blank_or_breakz (slice_index (x ++ more) 0)) e ∙ ap (λ (x : List ℕ). is_blank_or_breakz (slice_index x 0)) none
 rest_first zero comment more (inl e) (inr feed) = ap (λ (x : List ℕ). is_blank_or_breakz (slice_index (x ++ more) 0)) e ∙ ap is_blank_or_breakz feed
-
-words_end_uncrossed : (words : List ℕ) → AreIn is_yaml_non_break words → crosses_comment words ≡ false
-words_end_uncrossed [] h = refl
-words_end_uncrossed (c ∷ cs) h = rw h.0 (words_end_uncrossed cs h.1)
-
-last_crosses : (n : ℕ) (comment : List ℕ) → (comment ≡ []) ⊎ IsComment comment → crosses (spaces n ++ (comment ++ [])) ≡ false
-last_crosses n comment k =
-    skipped_crosses (spaces n) (comment ++ []) (spaces_skipped n) ∙ ap (λ (b : Bool). b || crosses (comment ++ [])) (spaces_no_line n) ∙ ap crosses (append-nil comment) ∙ by_comment k
-  where
-    by_comment : (comment ≡ []) ⊎ IsComment comment → crosses comment ≡ false
-    by_comment (inl e) = ap crosses e
-    by_comment (inr (words, are, is)) = ap crosses is ∙ words_end_uncrossed words are
 
 last_no_tab : (n : ℕ) (comment : List ℕ) → (comment ≡ []) ⊎ IsComment comment → has_tab (spaces n ++ (comment ++ [])) ≡ false
 last_no_tab n comment k = skipped_no_tab (spaces n) (comment ++ []) (spaces_skipped n) ∙ ap has_tab (append-nil comment) ∙ by_comment k

@@ -28,9 +28,10 @@ use Rattle.saphyr_scanner.proofs.InFlow.Tabs.{tabs_behind}
 use Rattle.saphyr_scanner.proofs.InFlow.OnLine.{separation_of_blanks}
 use Rattle.saphyr_scanner.proofs.InFlow.KeyLines.{Ready, token_led, ink_gap}
 use Rattle.saphyr_scanner.proofs.InFlow.KeyTokens.{InKey, in_near, in_back, in_right, in_limit, Along}
-use Rattle.saphyr_scanner.proofs.FlowStates.{moved, past, IsInk, Reads}
+use Rattle.saphyr_scanner.proofs.FlowStates.{moved, past, crosses, IsInk, Reads}
 use Rattle.saphyr_scanner.proofs.FlowPlaces.{moved_index, clear_front}
-use Rattle.saphyr_scanner.proofs.FlowGaps.{past_ink}
+use Rattle.saphyr_scanner.proofs.FlowGaps.{clash, past_ink}
+use Rattle.saphyr_scanner.proofs.InBlock.Crossings.{spaces_uncrossed}
 use Rattle.saphyr_scanner.proofs.FlowFillers.{spaces_past, spaces_are_blank, blanks_past}
 use Rattle.saphyr_scanner.proofs.FlowArrivals.{PassesGap, stops_here}
 use Rattle.saphyr_scanner.proofs.FlowSeparates.{separates}
@@ -154,6 +155,7 @@ key_quotes around start m n r right line =
         is = p.is;
         lands = p.lands;
         inked = ap (λ (z : Marker × List ℕ). is_blank (slice_index z.1 0)) (colon_lands around.indent m n r);
+        stays = λ _ e. absurd (clash (crosses (colon_text n r)) e (spaces_uncrossed n r));
         goes = λ d k ls a ad. goes_before_colon around d start p.there r k ls a ad near.0 (line ∙ ap (λ (z : Marker). z.line) (sym near.1));
       };
       rest = near.0;
@@ -179,7 +181,7 @@ quotes_along reads around start k qs quote value t n r e ad h text ready =
     let ends = key_quotes around e end n r right (text.line ∙ sym last.line) in
     let shut = ends.ends.there in
     let g : PassesGap around shut context.Block (Some k) [] false ad m (58 ∷ r) =
-    record { blank = shut.blank_so_far; allowed = false; is = λ d. gap_to_colon around d shut k ad m r ends.rest ends.mark; same = λ _. refl } in
+    record { blank = shut.blank_so_far; allowed = false; is = λ d. gap_to_colon around d shut k ad m r ends.rest ends.mark; same = λ _. refl; fresh = λ _ e. absurd (clash (crosses (58 ∷ r)) (ap crosses (sym ends.rest) ∙ e) refl) } in
     let first : slice_index (t ++ o) 0 ≡ mark quote = ap (λ (y : List ℕ). slice_index (y ++ o) 0) h.5 in
     let there = cursor_at (58 ∷ r) m shut.blank_so_far in
     let stepped = quoted_step reads around ready.deeper quote (length qs) e ready.blank value t o h clear (no_quote n r) context.Block (Some k) [] false ad (slice_index (t ++ o) 0) first (behind_key refl refl)

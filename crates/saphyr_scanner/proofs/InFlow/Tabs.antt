@@ -34,7 +34,7 @@ starts_marker y h = by_first (slice_index y 0 == 45) (slice_index y 0 == 46) ref
 pub lands_on_ink : (column : ℕ) (m : Marker) (y : List ℕ) → EndsDocument m y ⊎ IsLeft column m y → is_blank (slice_index y 0) ≡ false
 lands_on_ink column m y (inl (inl e)) = ap (λ (t : List ℕ). is_blank (slice_index t 0)) e
 lands_on_ink column m y (inl (inr h)) = starts_marker y h.1
-lands_on_ink column m y (inr h) = ap (λ (t : List ℕ). is_blank (slice_index t 0)) h.is ∙ h.ink.blank
+lands_on_ink column m y (inr h) = ap (λ (t : List ℕ). is_blank (slice_index t 0)) h.is ∙ h.blank
 
 -- ## No tab stands in indentation
 

@@ -1,12 +1,12 @@
-use Rattle.saphyr_scanner.proofs.InFlow.States.{alone}
+use Rattle.std.proofs.Common.{arith}
 use Rattle.saphyr_scanner.proofs.TakingScalars.{Readers, quoted_laws}
 use Rattle.saphyr_scanner.proofs.FlowStates.{Reads}
-use Rattle.saphyr_scanner.proofs.FlowNodesPass.{nodes_close}
-use Rattle.saphyr_scanner.proofs.Breaks.Layouts.{flow_scans_too}
-use Rattle.saphyr_scanner.proofs.law.scans_each_flow_text.Goals as goal
+use Rattle.saphyr_scanner.proofs.InBlock.ScalarTexts.{ReadsBlocks}
+use Rattle.saphyr_scanner.proofs.InBlock.Layouts.{layout_scans}
+use Rattle.saphyr_scanner.proofs.law.scans_each_layout_text.Goals as goal
 
 pub returns : goal.returns
-returns c limit forest text layout small short =
+returns c limit forest text layout short small =
     let laws : Readers = record {
       plain = c.takes_plain.ensures;
       double_quoted = (quoted_laws c.takes_quoted.ensures).0;
@@ -25,5 +25,10 @@ returns c limit forest text layout small short =
       directive = c.reads_each_directive.ensures;
       reserved = c.reads_each_reserved_directive.ensures;
     } in
-    let same = c.scans_breaks_alike.ensures limit text small short in
-    flow_scans_too laws reads limit (nodes_close reads (alone limit)) forest text same layout short
+    let blocks : ReadsBlocks = record {
+      reads = c.reads_each_block_scalar.ensures;
+      passes = λ style indent s t text span e f g. (c.places_each_block_scalar.ensures style indent s t text span e f g).0;
+      place = c.passes_to_one_place.ensures;
+    } in
+    let same = c.scans_breaks_alike.ensures limit text (omega (arith, short, small)) short in
+    layout_scans laws reads blocks limit small forest text same layout short
