@@ -20,7 +20,7 @@ use Rattle.saphyr_scanner.specs.State.{State}
 use Rattle.saphyr_scanner.specs.Fetch.{step}
 use Rattle.saphyr_scanner.proofs.InFlow.States.{Around, core_at, state_at, Calm}
 use Rattle.saphyr_scanner.proofs.JsonStates.{cursor_at}
-use Rattle.saphyr_scanner.proofs.JsonMarks.{saved, level_of}
+use Rattle.saphyr_scanner.proofs.JsonMarks.{level_of}
 use Rattle.saphyr_scanner.proofs.FlowStates.{crosses, IsFresh, Since, Kept, keeping, moved, past, IsParted, IsBehindRoot, Known, Passes, Fits, ended}
 use Rattle.saphyr_scanner.proofs.FlowPlaces.{moved_append}
 use Rattle.saphyr_scanner.proofs.FlowGaps.{past_ink, less_on}

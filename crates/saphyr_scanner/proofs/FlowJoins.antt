@@ -1,5 +1,5 @@
 -- Runs over pieces of a text in flow style, one behind the other.
-use Rattle.std.proofs.Common.{◌≡◌, ◌⊎◌, inl, inr, sym, ℕ, ◌≤◌, Bool, List, [], ◌++◌, refl, ap, ◌∙◌, append_assoc, append-nil}
+use Rattle.std.proofs.Common.{◌≡◌, inl, inr, sym, ℕ, ◌≤◌, Bool, List, [], ◌++◌, refl, ap, ◌∙◌, append_assoc, append-nil}
 use Rattle.std.specs.Prelude.{Option, Some, None}
 use Rattle.saphyr_scalar.specs.declared.scalar.position.Marker.{Marker}
 use Rattle.saphyr_scalar.specs.Cursor.{Cursor}

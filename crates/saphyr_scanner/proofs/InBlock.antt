@@ -18,6 +18,7 @@ pub mod Sequences
 pub mod Mappings
 pub mod Leads
 pub mod Nodes
+pub mod MarkedLines
 pub mod Documents
 pub mod Streams
 pub mod Keys

@@ -66,14 +66,10 @@ pub mod LayoutRefused
 pub mod NearMisses
 pub mod AliasAlone
 pub mod OneForest
-pub mod FlowPart
 pub mod FlowStands
 pub mod FlowLines
 pub mod FlowMarkers
 pub mod FlowDirectives
-pub mod FlowRoots
-pub mod FlowDocuments
-pub mod FlowStreams
 pub mod FlowLow
 pub mod FlowTokens
 pub mod FlowTags
@@ -88,7 +84,6 @@ pub mod FlowNoted
 pub mod FlowPlains
 pub mod FlowContents
 pub mod FlowScalarNodes
-pub mod FlowLayouts
 pub mod TakenExamples
 pub mod Counted
 pub mod QueueInOrder

@@ -7,7 +7,7 @@ use Rattle.saphyr_scalar.specs.DirectiveSpelling.{IsVersionDirective, IsTagDirec
 use Rattle.saphyr_scalar.specs.Spaces.{IsEol, IsFiller, IsLastFiller}
 use Rattle.saphyr_scanner.specs.Forest.{Directive, Version, TagPrefix, Reserved, AreCompatible, bare, Node, Document, Forest}
 use Rattle.saphyr_scanner.specs.TagSpelling.{IsHandle}
-use Rattle.saphyr_scanner.specs.BlockNodes.{Place, AtStart, BehindMarker, IsFlowInBlock, IsBlockNode}
+use Rattle.saphyr_scanner.specs.BlockNodes.{Place, AtStart, BehindMarker, IsBlockNode}
 
 -- ## 6.8: directives
 
@@ -82,13 +82,6 @@ most_open = 255
 abbrev pub IsLayout : ℕ → Forest → List ℕ → Type 0
 IsLayout room forest t = IsStream (IsBlockNode room) forest t
 
--- the part of it in which each document's node is in flow style
-abbrev pub IsFlowLayout : ℕ → Forest → List ℕ → Type 0
-IsFlowLayout room forest t = IsStream (IsFlowInBlock room) forest t
-
 -- 5.4: a text of the layout grammar, whatever its breaks are
 abbrev pub IsLayoutText : ℕ → Forest → List ℕ → Type 0
 IsLayoutText room forest t = IsLayout room forest (normalized t)
-
-abbrev pub IsFlowLayoutText : ℕ → Forest → List ℕ → Type 0
-IsFlowLayoutText room forest t = IsFlowLayout room forest (normalized t)

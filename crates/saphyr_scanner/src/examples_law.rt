@@ -9,7 +9,7 @@ ghost use Rattle.saphyr_scanner.specs.Forest.{Plain, SingleQuoted, DoubleQuoted,
 ghost use Rattle.saphyr_scanner.specs.BlockNodes.{AreOtherEntries, BehindKey, IsBlockNode, IsImplicitPair, IsLead};
 ghost use Rattle.saphyr_scanner.specs.FlowNodes.{AreItems, IsBeforeColon, IsFlowNode};
 ghost use Rattle.saphyr_scanner.specs.FlowScalars.{IsFirstWord, IsPlain};
-ghost use Rattle.saphyr_scanner.specs.Layout.{IsBareDocument, IsFlowLayoutText, IsLayoutText, most_open};
+ghost use Rattle.saphyr_scanner.specs.Layout.{IsBareDocument, IsLayoutText, most_open};
 
 /// Texts in flow style, each with the forest that it stands for: collections, pairs, properties, and
 /// scalars on several lines.
@@ -56,11 +56,6 @@ pub fn derives_streams()
     ensures carriage_return { IsLayoutText most_open (bare (Seq no_properties (MoreNodes (plain (codes "a")) (MoreNodes (plain (codes "b")) NoNode))) ∷ []) (codes "[a\r\n ,b]\n") }
     ensures properties { IsLayoutText most_open ((record { explicit = true; directives = (TagPrefix Primary (codes "!t") ∷ TagPrefix Secondary (codes "u") ∷ []); node = (Seq (record { anchor = Some (codes "x"); tag = None }) (MoreNodes (Alias (codes "x")) NoNode)) }) ∷ []) (codes "%TAG ! !t\n%TAG !! u\n--- &x\n- *x") }
     ensures mark_behind_filler { IsLayoutText most_open (bare (Scalar (record { anchor = None; tag = Some (NonSpecific) }) Plain ([])) ∷ []) (codes "!\n...\n# c\n\u{feff}\n") }
-{}
-
-/// A text of the part in which each document's node is in flow style is a text of the layout grammar.
-pub fn has_flow_part()
-    ensures { (room : ℕ) (forest : Forest) (text : List ℕ) → IsFlowLayoutText room forest text → IsLayoutText room forest text }
 {}
 
 /// How many flow collections are open at once: where there is no room for one, no sequence in brackets

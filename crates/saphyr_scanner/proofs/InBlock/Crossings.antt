@@ -1,7 +1,6 @@
 -- Whether a break is ahead, before what is passed and behind it.
-use Rattle.std.proofs.Common.{◌≡◌, ℕ, zero, suc, Bool, true, false, List, [], ◌∷◌, ◌++◌, slice_index, refl, sym, ap, ◌∙◌, append_assoc, append-nil, ◌⊎◌, inl, inr}
-use Rattle.std.specs.Prelude.{◌||◌, ◌==◌, if◌then◌else◌}
-use Rattle.std.proofs.lemmas.Bool.Decides.{nat_tests}
+use Rattle.std.proofs.Common.{◌≡◌, ℕ, Bool, true, false, List, [], ◌∷◌, ◌++◌, slice_index, refl, sym, ap, ◌∙◌, append_assoc, inl, inr}
+use Rattle.std.specs.Prelude.{◌||◌, if◌then◌else◌}
 use Rattle.saphyr_input.specs.Classes.{is_blank, is_break}
 use Rattle.saphyr_input.specs.Places.{is_blank_or_break}
 use Rattle.saphyr_scalar.specs.declared.scalar.position.Marker.{Marker}
@@ -9,7 +8,7 @@ use Rattle.saphyr_scalar.specs.BlockRead.{spaces}
 use Rattle.saphyr_scalar.specs.Cursor.{Cursor, along, next_line}
 use Rattle.saphyr_scalar.specs.Plain.{ends_line}
 use Rattle.saphyr_scalar.specs.PlainSpelling.{past_white}
-use Rattle.saphyr_scalar.specs.Spaces.{AreEach, AreSpaces, joined, IsLineRest, IsSeparation, IsSeparationLine}
+use Rattle.saphyr_scalar.specs.Spaces.{AreEach, joined, IsLineRest, IsSeparation, IsSeparationLine}
 use Rattle.saphyr_scalar.specs.TagSpelling.{AreIn}
 use Rattle.saphyr_scanner.specs.declared.engine.level.Context.{Context}
 use Rattle.saphyr_scanner.specs.Core.{is_block}

@@ -30,7 +30,7 @@ use Rattle.saphyr_scanner.proofs.FlowInks.{BeginsInk}
 use Rattle.saphyr_scanner.proofs.FlowLines.{eol, eol_first, filler_at_line}
 use Rattle.saphyr_scanner.proofs.FlowMarkers.{start_ends, end_ends, reads_start}
 use Rattle.saphyr_scanner.proofs.FlowDirectives.{reads_directives}
-use Rattle.saphyr_scanner.proofs.FlowRoots.{fed_marks, last_marks}
+use Rattle.saphyr_scanner.proofs.InBlock.MarkedLines.{fed_marks, last_marks}
 use Rattle.saphyr_scanner.proofs.FlowStands.{AtLine, Lined, OffLine, BehindStart, Stands, at_start, passes_over}
 use Rattle.saphyr_scanner.proofs.JsonStates.{cursor_at}
 use Rattle.saphyr_scanner.proofs.InBlock.States.{Moment, root, moment_at, state_of, tabbed, tabbed_comment, crosses, IsStop, is_compact, IsPlaced, Before}

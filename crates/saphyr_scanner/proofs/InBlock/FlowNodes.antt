@@ -7,14 +7,12 @@ use Rattle.saphyr_input.specs.Classes.{is_z}
 use Rattle.saphyr_input.specs.Places.{can_be_plain, is_document_indicator}
 use Rattle.saphyr_scalar.specs.declared.scalar.position.Marker.{Marker}
 use Rattle.saphyr_scalar.specs.Spaces.{IsEol}
-use Rattle.saphyr_scanner.specs.declared.engine.level.Context.TheVariants as context
-use Rattle.saphyr_scanner.specs.Core.{Candidate, is_too_far, least_column}
+use Rattle.saphyr_scanner.specs.Core.{Candidate, least_column}
 use Rattle.saphyr_scanner.specs.Forest.{Node, Alias, Scalar, Seq, Map}
 use Rattle.saphyr_scanner.specs.BlockNodes as layout
 use Rattle.saphyr_scanner.specs.BlockNodes.{Place, indent_at, IsFlowInBlock}
 use Rattle.saphyr_scanner.specs.FlowNodes.{IsFlowNode}
 use Rattle.saphyr_scanner.specs.Passing.{goes_on_behind}
-use Rattle.saphyr_scanner.specs.State.{State}
 use Rattle.saphyr_scanner.specs.TokenGrammar as grammar
 use Rattle.saphyr_scanner.specs.Tokens.{Kind}
 use Rattle.saphyr_scanner.proofs.InFlow.States.{least_low}
@@ -22,20 +20,20 @@ use Rattle.saphyr_scanner.proofs.JsonMarks.{kinds, kinds_append}
 use Rattle.saphyr_scanner.proofs.JsonStates.{cursor_at}
 use Rattle.saphyr_scanner.proofs.FlowStates as flow
 use Rattle.saphyr_scanner.proofs.FlowStates.{moved, past, crosses, EndsDocument, IsLeft, IsBehindRoot, Since, Reads, Closes, RootCloses}
-use Rattle.saphyr_scanner.proofs.FlowPlaces.{moved_append, moved_count, moved_index, clear_front, clear_back}
+use Rattle.saphyr_scanner.proofs.FlowPlaces.{moved_append, moved_count}
 use Rattle.saphyr_scanner.proofs.FlowGaps.{past_low}
 use Rattle.saphyr_scanner.proofs.FlowFillers.{rest_past}
 use Rattle.saphyr_scanner.proofs.FlowInks.{node_ink}
 use Rattle.saphyr_scanner.proofs.FlowLines.{eol}
 use Rattle.saphyr_scanner.proofs.FlowNodesPass.{nodes_close}
-use Rattle.saphyr_scanner.proofs.InBlock.States.{Frame, Moment, core_of, IsUntabbed, IsStop, IsLeftOf, Follows, At, Before}
+use Rattle.saphyr_scanner.proofs.InBlock.States.{Frame, Moment, core_of, IsStop, IsLeftOf, Before}
 use Rattle.saphyr_scanner.proofs.InBlock.Gaps.{past_stops}
-use Rattle.saphyr_scanner.proofs.InBlock.Follows.{goes_alike, goes_on, IsQuiet, landed, lands, left_key, left_again}
+use Rattle.saphyr_scanner.proofs.InBlock.Follows.{goes_alike, goes_on, IsQuiet, lands, left_key, left_again}
 use Rattle.saphyr_scanner.proofs.InBlock.Keys.{around_of}
 use Rattle.saphyr_scanner.proofs.InBlock.Lines.{IsLined, Fits, fits_front, fits_back, fits_so, later_line, moved_lined, past_line}
 use Rattle.saphyr_scanner.proofs.InBlock.Scalars.{gap_reaches, lands_behind, older}
-use Rattle.saphyr_scanner.proofs.InBlock.Skips.{has_tab, line_end_crosses}
-use Rattle.saphyr_scanner.proofs.InBlock.Statements.{context_at, IsBehind, Arrived, NodeRead, ReadsAt}
+use Rattle.saphyr_scanner.proofs.InBlock.Skips.{line_end_crosses}
+use Rattle.saphyr_scanner.proofs.InBlock.Statements.{context_at, ReadsAt}
 use Rattle.saphyr_scanner.proofs.InBlock.Texts.{further_ink}
 use Rattle.saphyr_scanner.proofs.InBlock.Untabbed.{untabbed_past, settles}
 

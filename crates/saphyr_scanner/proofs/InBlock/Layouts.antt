@@ -1,9 +1,9 @@
 -- Each text of the layout grammar gives tokens of its forest.
-use Rattle.std.proofs.Common.{◌≡◌, ℕ, ◌<◌, ◌^◌, ◌≤◌, List, length, ap, sym, ◌∙◌, arith, subst}
+use Rattle.std.proofs.Common.{ℕ, ◌<◌, ◌^◌, ◌≤◌, List, length, ap, ◌∙◌, arith}
 use Rattle.std.specs.Prelude.{map}
 use Rattle.saphyr_input.specs.Breaks.{normalized}
 use Rattle.saphyr_scanner.specs.Forest.{Forest}
-use Rattle.saphyr_scanner.specs.Layout.{most_open, IsLayout, IsLayoutText}
+use Rattle.saphyr_scanner.specs.Layout.{most_open, IsLayoutText}
 use Rattle.saphyr_scanner.specs.Remaining.{Scans, scan}
 use Rattle.saphyr_scanner.specs.SameKinds.{HaveSameKinds}
 use Rattle.saphyr_scanner.specs.Seen.{Piece, Remaining}

@@ -2,7 +2,7 @@
 use Rattle.std.proofs.Common.{◌≡◌, ℕ, zero, suc, ◌+◌, ◌<◌, ◌≤◌, Bool, true, false, List, [], ◌∷◌, ◌++◌, length, slice_index, refl, sym, ap, ◌∙◌, arith, subst, append_assoc, append-nil, ◌⊎◌, inl, inr, IsTrue, IsFalse}
 use Rattle.std.specs.Prelude.{◌||◌, ◌&&◌, ◌==◌, not}
 use Rattle.std.proofs.lemmas.Bool.Decides.{nat_tests}
-use Rattle.saphyr_input.specs.Classes.{line_feed, is_break, is_blank_or_breakz, is_yaml_non_break}
+use Rattle.saphyr_input.specs.Classes.{line_feed, is_break, is_blank_or_breakz}
 use Rattle.saphyr_scalar.specs.declared.scalar.position.Marker.{Marker}
 use Rattle.saphyr_scalar.specs.BlockRead.{spaces}
 use Rattle.saphyr_scalar.specs.Cursor.{along, next_line}
@@ -16,7 +16,7 @@ use Rattle.saphyr_scanner.proofs.FlowLines.{filler_line}
 use Rattle.saphyr_scanner.proofs.FlowFillers.{EndsLine, spaces_are_blank, behind_is, front_past, spaces_past}
 use Rattle.saphyr_scanner.proofs.FlowSeparates.{line_stops, ink_stops, front_moved}
 use Rattle.saphyr_scanner.proofs.FlowInks.{BeginsInk, properties_ink}
-use Rattle.saphyr_scanner.proofs.InBlock.States.{crosses, crosses_comment, EndsDocument}
+use Rattle.saphyr_scanner.proofs.InBlock.States.{crosses, EndsDocument}
 use Rattle.saphyr_scanner.proofs.InBlock.Gaps.{ink_stop, stop_tabbed, stop_past}
 use Rattle.saphyr_scanner.proofs.InBlock.Skips.{IsSkipped, spaces_no_line, rest_crosses, last_crosses, IsClean, has_tab, skipped_past, skipped_crosses, skipped_clean, skipped_no_tab, skipped_append, spaces_skipped, line_end_skipped, filler_skipped, comment_ends_clean, comment_ends_no_tab}
 use Rattle.saphyr_scanner.proofs.InBlock.Entries.{BeginsWhite, IsBehindIndicator}
