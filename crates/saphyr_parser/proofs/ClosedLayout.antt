@@ -3,7 +3,6 @@ use Rattle.std.specs.Prelude.{codes}
 use Rattle.std.proofs.Common.{◌≡◌, ℕ, Bool, true, false, List, [], ◌∷◌, Some, refl, inl, inr, arith}
 use Rattle.saphyr_scalar.specs.Spaces.{IsEol, IsLineRest, IsFiller, IsFillerText}
 use Rattle.saphyr_scanner.specs.Layout.{most_open, IsLayoutText}
-use Rattle.saphyr_scanner.proofs.FlowPart.{flow_part}
 use Rattle.saphyr_scanner.proofs.OneForest.{stands_for_one}
 use Rattle.saphyr_parser.specs.Events as events
 use Rattle.saphyr_parser.specs.Events.{Happening}
@@ -12,7 +11,7 @@ use Rattle.saphyr_parser.specs.Examples as examples
 use Rattle.saphyr_parser.specs.Cursor.{Cursor, keeping_tags, to_come}
 use Rattle.saphyr_parser.specs.Exactly.{GivesExactly}
 use Rattle.saphyr_parser.specs.Premises.{IsClosed, IsPromised, Starts, GivesFirst}
-use Rattle.saphyr_parser.specs.Promises.{ReadsFlowLayout, ReadsLayout, ReadsClosedLayout}
+use Rattle.saphyr_parser.specs.Promises.{ReadsLayout, ReadsClosedLayout}
 
 has_events : (keep : Bool) → events examples.start_forest keep ≡ Some examples.start_told
 has_events true = refl
@@ -78,9 +77,3 @@ gives_start parser keep r = r examples.start_forest keep examples.start_told (pr
 
 pub gives_first : (parser : Cursor) (keep : Bool) → ReadsClosedLayout 100 (codes "---\n[") parser → GivesFirst examples.start_events (to_come (keeping_tags keep parser))
 gives_first parser keep r = r keep examples.start_events (closed keep)
-
--- ## The part in flow style
-
-pub flow_promise : (limit : ℕ) (text : List ℕ) (parser : Cursor) → ReadsLayout limit text parser → ReadsFlowLayout limit text parser
-flow_promise limit text parser r forest keep told p =
-    r forest keep told (record { stands_for = flow_part most_open forest text p.stands_for; within = p.within; has_events = p.has_events })

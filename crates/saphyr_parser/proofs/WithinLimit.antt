@@ -4,7 +4,7 @@ use Rattle.std.proofs.lemmas.List.{take_all}
 use Rattle.saphyr_scanner.specs.Json.{IsJson}
 use Rattle.saphyr_parser.specs.Cursor.{Cursor}
 use Rattle.saphyr_parser.specs.Complete.{ReadsJson}
-use Rattle.saphyr_parser.specs.Promises.{ReadsFlowLayout}
+use Rattle.saphyr_parser.specs.Promises.{ReadsLayout}
 
 pub reads_whole : (limit bound : ℕ) (text : List ℕ) (parser : Cursor) → limit ≤ bound
     → ReadsJson limit (take bound text) parser → ReadsJson limit text parser
@@ -12,14 +12,10 @@ reads_whole limit bound text parser within reads forest keep told json few short
     let whole : take bound text ≡ text = take_all bound text (omega arith) in
     reads forest keep told (subst (IsJson forest) (sym whole) json) few (rw whole short) has
 
--- the same of a text in flow style
-pub reads_whole_flow : (limit bound : ℕ) (text : List ℕ) (parser : Cursor) → limit ≤ bound
-    → ReadsFlowLayout limit (take bound text) parser → ReadsFlowLayout limit text parser
-reads_whole_flow limit bound text parser within reads forest keep told promised =
+-- the same of a text of the layout grammar
+pub reads_whole_layout : (limit bound : ℕ) (text : List ℕ) (parser : Cursor) → limit ≤ bound
+    → ReadsLayout limit (take bound text) parser → ReadsLayout limit text parser
+reads_whole_layout limit bound text parser within reads forest keep told promised =
     let short = promised.within in
     let whole : take bound text ≡ text = take_all bound text (omega (arith, short)) in
-    subst (λ (cs : List ℕ). ReadsFlowLayout limit cs parser) whole reads forest keep told promised
-
--- what is within the limit of a parser is not too long for its scanner
-pub not_long : (n limit : ℕ) → n ≤ limit → limit ≤ 4294967295 → n < 2 ^ 63
-not_long n limit short few = omega (arith, short, few)
+    subst (λ (cs : List ℕ). ReadsLayout limit cs parser) whole reads forest keep told promised

@@ -1,7 +1,7 @@
 -- The promises on texts of the layout grammar, and on all texts. Each is of a text and of a parser at its start.
 use Rattle.std.specs.Prelude.{ℕ, Bool, List}
 use Rattle.saphyr_scalar.specs.Spaces.{IsLineRest}
-use Rattle.saphyr_scanner.specs.Layout.{most_open, IsLayoutText, IsFlowLayoutText}
+use Rattle.saphyr_scanner.specs.Layout.{most_open, IsLayoutText}
 use Rattle.saphyr_parser.specs.Cursor.{Cursor, keeping_tags, to_come}
 use Rattle.saphyr_parser.specs.EventsTaken.{AreTaken}
 use Rattle.saphyr_parser.specs.Premises.{ReadsEach, ReadsClosed}
@@ -10,11 +10,7 @@ use Rattle.saphyr_parser.specs.Premises.{ReadsEach, ReadsClosed}
 abbrev pub TakesEvents : List ℕ → Cursor → Type 0
 TakesEvents text parser = (keep : Bool) → AreTaken keep text (to_come (keeping_tags keep parser))
 
--- a text whose documents have nodes in flow style gives exactly its forest's events
-abbrev pub ReadsFlowLayout : ℕ → List ℕ → Cursor → Type 0
-ReadsFlowLayout limit text parser = ReadsEach (IsFlowLayoutText most_open) limit text parser
-
--- each text of the layout grammar does
+-- each text of the layout grammar gives exactly its forest's events
 abbrev pub ReadsLayout : ℕ → List ℕ → Cursor → Type 0
 ReadsLayout limit text parser = ReadsEach (IsLayoutText most_open) limit text parser
 

@@ -24,10 +24,10 @@ ghost use Rattle.saphyr_parser.specs.Events.{Alias, DocumentEnd, Happening};
 ghost use Rattle.saphyr_parser.specs.Complete.{IsShallowJson, ReadsJson};
 ghost use Rattle.saphyr_parser.specs.EventsTaken.{AreTaken, HasPlaceIn, IsOf};
 ghost use Rattle.saphyr_parser.specs.Premises.{DocumentMarker, GivesFirst, HasOneMeaning, IsClosed, MeanTheSame, ReadsClosed, ReadsEach, behind_marker};
-ghost use Rattle.saphyr_parser.specs.Promises.{ReadsClosedLayout, ReadsFlowLayout, ReadsLayout, TakesEvents};
+ghost use Rattle.saphyr_parser.specs.Promises.{ReadsClosedLayout, ReadsLayout, TakesEvents};
 ghost use Rattle.saphyr_scalar.specs.declared.scalar.position.Span.{Span};
 ghost use Rattle.saphyr_scalar.specs.Spaces.{IsLineRest};
-ghost use Rattle.saphyr_scanner.specs.Layout.{IsFlowLayoutText, IsLayoutText, most_open};
+ghost use Rattle.saphyr_scanner.specs.Layout.{IsLayoutText, most_open};
 ghost use Rattle.saphyr_parser.specs.SpansWithin.{HasSpansIn};
 ghost use Rattle.saphyr_parser.specs.Begins.{BeginsSomeForest};
 ghost use Rattle.saphyr_scanner.specs.AtPlaces.{AreAtPlaces};
@@ -49,7 +49,7 @@ mod comparing;
 pub use calling::{hands_out_what_was_peeked, loads_the_end_again};
 pub use comparing::{hashes_alike, orders_styles, orders_tags, reads_inputs_alike, starts_at_zero};
 use saphyr_scanner::law::{
-    bounds_tokens, scans_breaks_alike, scans_each_flow_text, scans_each_json,
+    bounds_tokens, scans_breaks_alike, scans_each_layout_text, scans_each_json,
 };
 
 /// A node comes in preorder, between the events of its document and of the stream.
@@ -130,25 +130,17 @@ pub fn takes_no_other_span()
     ensures { ¬ IsOf (Alias 1) (examples.from_to (at 9 2 2) (at 10 2 3)) (from_to (at 9 2 2) (at 11 2 4) (tokens.Alias (codes "a")) ∷ []) [] }
 {}
 
-/// The promise on the layout grammar is one on its part in flow style.
-pub fn promises_flow()
-    ensures { (limit : ℕ) (text : List ℕ) (parser : Cursor) → ReadsLayout limit text parser → ReadsFlowLayout limit text parser }
-{}
-
 /// A text has one meaning: all forests that stand for it have the same events, where they have any. So it is
 /// of each grammar whose texts a parser reads, since its one list is the events of each of their forests: of the
-/// layout grammar in flow style, of JSON, and where a text is one of both; and of the whole layout grammar
-/// wherever a parser reads it.
+/// layout grammar, of JSON, and where a text is one of both.
 pub fn has_one_meaning()
-    ensures flow { (text : List ℕ) → length text ≤ 4294967295 → HasOneMeaning (IsFlowLayoutText most_open) text }
+    ensures layout { (text : List ℕ) → length text ≤ 4294967295 → HasOneMeaning (IsLayoutText most_open) text }
     ensures json { (text : List ℕ) → length text ≤ 4294967295 → HasOneMeaning (IsShallowJson most_open) text }
     ensures both { (text : List ℕ) → length text ≤ 4294967295
-        → MeanTheSame (IsShallowJson most_open) (IsFlowLayoutText most_open) text }
-    ensures layout { (limit : ℕ) (text : List ℕ) (parser : Cursor) → length text ≤ limit
-        → ReadsLayout limit text parser → HasOneMeaning (IsLayoutText most_open) text }
+        → MeanTheSame (IsShallowJson most_open) (IsLayoutText most_open) text }
 {
     scans_each_json();
-    scans_each_flow_text();
+    scans_each_layout_text();
     bounds_tokens();
     gives_json();
 }

@@ -6,7 +6,7 @@ ghost use Rattle.saphyr_parser.specs.Cursor as spec;
 ghost use Rattle.saphyr_parser.specs.Calls as calls;
 ghost use Rattle.saphyr_parser.specs.Complete.{ReadsJson};
 ghost use Rattle.saphyr_parser.specs.SpansWithin.{HasSpansIn};
-ghost use Rattle.saphyr_parser.specs.Promises.{ReadsFlowLayout, TakesEvents};
+ghost use Rattle.saphyr_parser.specs.Promises.{ReadsLayout, TakesEvents};
 
 use crate::law::{gives_json, takes_all_events};
 use crate::parser::event::Event;
@@ -18,7 +18,7 @@ use saphyr_input::{BufferedInput, StrInput};
 use saphyr_scalar::Span;
 use saphyr_scanner::Scanner;
 use saphyr_scanner::law::{
-    bounds_tokens, ends_with_the_stream, places_taken_tokens, scans_each_flow_text, scans_each_json,
+    bounds_tokens, ends_with_the_stream, places_taken_tokens, scans_each_layout_text, scans_each_json,
 };
 use std::alloc::{AllocError, Global};
 use std::marker::Model;
@@ -65,15 +65,15 @@ impl<'input, T: Input> Parser<'input, T> {
 
     /// The events of an input's text, which is refused past 4,294,967,295 characters.
     ///
-    /// Each text of the layout grammar whose documents have nodes in flow style gives exactly its forest's
-    /// events, and so does each text of JSON. Those of every text are taken from it: all events of a
-    /// forest, or a beginning of them and one fault. The text spells the forest's tokens in order, or a
-    /// beginning of them, and a refusal has its place in it.
+    /// Each text of the layout grammar gives exactly its forest's events, and so does each text of JSON.
+    /// Those of every text are taken from it: all events of a forest, or a beginning of them and one
+    /// fault. The text spells the forest's tokens in order, or a beginning of them, and a refusal has its
+    /// place in it.
     #[must_use]
     pub fn new(alloc: Global, src: T) -> Self
         ensures decided { result ≡ spec.at_start (scan 4294967295 (T.rest src)) }
         ensures complete { ReadsJson 4294967295 (T.rest src) result }
-        ensures flow { ReadsFlowLayout 4294967295 (T.rest src) result }
+        ensures layout { ReadsLayout 4294967295 (T.rest src) result }
         ensures spans { (keep : Bool) → HasSpansIn (T.rest src) (spec.to_come (spec.keeping_tags keep result)) }
         ensures taken { TakesEvents (T.rest src) result }
     {
@@ -84,12 +84,12 @@ impl<'input, T: Input> Parser<'input, T> {
     pub(crate) fn with_limit(alloc: Global, src: T, limit: usize) -> Self
         ensures decided { result ≡ spec.at_start (scan limit (T.rest src)) }
         ensures complete { ReadsJson limit (T.rest src) result }
-        ensures flow { limit ≤ 4294967295 → ReadsFlowLayout limit (T.rest src) result }
+        ensures layout { limit ≤ 4294967295 → ReadsLayout limit (T.rest src) result }
         ensures spans { (keep : Bool) → HasSpansIn (T.rest src) (spec.to_come (spec.keeping_tags keep result)) }
         ensures taken { limit ≤ 4294967295 → TakesEvents (T.rest src) result }
     {
         scans_each_json();
-        scans_each_flow_text();
+        scans_each_layout_text();
         gives_json();
         ends_with_the_stream();
         bounds_tokens();
@@ -193,7 +193,7 @@ impl<'input> Parser<'input, StrInput<'input>> {
     pub fn new_from_str(alloc: Global, value: &'input str) -> Self
         ensures decided { result ≡ spec.at_start (scan 4294967295 (chars value.now)) }
         ensures complete { ReadsJson 4294967295 (chars value.now) result }
-        ensures flow { ReadsFlowLayout 4294967295 (chars value.now) result }
+        ensures layout { ReadsLayout 4294967295 (chars value.now) result }
         ensures spans { (keep : Bool) → HasSpansIn (chars value.now) (spec.to_come (spec.keeping_tags keep result)) }
         ensures taken { TakesEvents (chars value.now) result }
     {
@@ -211,7 +211,7 @@ impl<'input, I: Iterator<Item = char>> Parser<'input, BufferedInput<I>> {
         requires { Listed I.can_next I.next_gives iter }
         ensures decided { (text : List ℕ) → Lists I.can_next I.next_gives iter text → IfOk result (λ parser. parser ≡ spec.at_start (scan 4294967295 (take 4294967296 text))) }
         ensures complete { (text : List ℕ) → Lists I.can_next I.next_gives iter text → IfOk result (λ parser. ReadsJson 4294967295 text parser) }
-        ensures flow { (text : List ℕ) → Lists I.can_next I.next_gives iter text → IfOk result (λ parser. ReadsFlowLayout 4294967295 text parser) }
+        ensures layout { (text : List ℕ) → Lists I.can_next I.next_gives iter text → IfOk result (λ parser. ReadsLayout 4294967295 text parser) }
         ensures spans { (text : List ℕ) → Lists I.can_next I.next_gives iter text → IfOk result (λ parser. (keep : Bool) → HasSpansIn (take 4294967296 text) (spec.to_come (spec.keeping_tags keep parser))) }
         ensures taken { (text : List ℕ) → Lists I.can_next I.next_gives iter text → IfOk result (λ parser. TakesEvents (take 4294967296 text) parser) }
     {

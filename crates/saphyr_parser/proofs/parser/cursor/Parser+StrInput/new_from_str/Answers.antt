@@ -1,14 +1,14 @@
 use Rattle.std.proofs.Common.{ℕ, Bool, List, subst}
 use Rattle.saphyr_parser.specs.Cursor.{keeping_tags, to_come}
 use Rattle.saphyr_parser.specs.SpansWithin.{HasSpansIn}
-use Rattle.saphyr_parser.specs.Promises.{ReadsFlowLayout, TakesEvents}
+use Rattle.saphyr_parser.specs.Promises.{ReadsLayout, TakesEvents}
 use Rattle.saphyr_parser.proofs.parser.cursor.Parser+StrInput.new_from_str.Goals as goal
 
 pub returns-clause-taken : goal.returns-clause-taken
 returns-clause-taken c = subst (λ (cs : List ℕ). TakesEvents cs c.new-2.result) c.new.ensures.rest c.new-2.ensures.taken
 
-pub returns-clause-flow : goal.returns-clause-flow
-returns-clause-flow c = subst (λ (cs : List ℕ). ReadsFlowLayout 4294967295 cs c.new-2.result) c.new.ensures.rest c.new-2.ensures.flow
+pub returns-clause-layout : goal.returns-clause-layout
+returns-clause-layout c = subst (λ (cs : List ℕ). ReadsLayout 4294967295 cs c.new-2.result) c.new.ensures.rest c.new-2.ensures.layout
 
 pub returns-clause-spans : goal.returns-clause-spans
 returns-clause-spans c = subst (λ (cs : List ℕ). (keep : Bool) → HasSpansIn cs (to_come (keeping_tags keep c.new-2.result))) c.new.ensures.rest c.new-2.ensures.spans

@@ -4,5 +4,5 @@ use Rattle.saphyr_parser.proofs.parser.cursor.Parser.new.Goals as goal
 pub returns-clause-taken : goal.returns-clause-taken
 returns-clause-taken g c = c.with_limit.ensures.taken (omega arith)
 
-pub returns-clause-flow : goal.returns-clause-flow
-returns-clause-flow g c = c.with_limit.ensures.flow (omega arith)
+pub returns-clause-layout : goal.returns-clause-layout
+returns-clause-layout g c = c.with_limit.ensures.layout (omega arith)

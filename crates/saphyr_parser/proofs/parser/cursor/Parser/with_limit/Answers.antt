@@ -1,11 +1,10 @@
-use Rattle.std.proofs.Common.{ap, ◌∙◌}
+use Rattle.std.proofs.Common.{ap, ◌∙◌, arith}
 use Rattle.saphyr_parser.specs.Cursor.{at_start}
 use Rattle.saphyr_parser.proofs.Completed.{completed}
 use Rattle.saphyr_parser.proofs.EventsTakenOf.{parser_takes}
 use Rattle.saphyr_parser.proofs.EventSpans.{parser_spans_in}
 use Rattle.saphyr_parser.proofs.ReadsEachText.{reads_text}
-use Rattle.saphyr_parser.proofs.WithinLimit.{not_long}
-use Rattle.saphyr_scanner.specs.Layout.{IsFlowLayoutText, most_open}
+use Rattle.saphyr_scanner.specs.Layout.{IsLayoutText, most_open}
 use Rattle.saphyr_parser.proofs.parser.cursor.Parser.with_limit.Goals as goal
 
 pub returns-clause-complete : goal.returns-clause-complete
@@ -17,6 +16,6 @@ returns-clause-spans g c = parser_spans_in _ c.new.result _ c.new-2.ensures c.ne
 pub returns-clause-taken : goal.returns-clause-taken
 returns-clause-taken g c = λ few. parser_takes c.takes_all_events.ensures _ _ c.new.result _ c.new-2.ensures c.new.ensures.tokens c.new.ensures.taken (c.ends_with_the_stream.ensures _ _) (c.bounds_tokens.ensures _ _) few
 
-pub returns-clause-flow : goal.returns-clause-flow
-returns-clause-flow g c = λ few.
-    reads_text (IsFlowLayoutText most_open) _ _ few (c.bounds_tokens.ensures _ _) (λ forest layout short. c.scans_each_flow_text.ensures _ forest _ layout (not_long _ _ short few) short) _ (c.new-2.ensures ∙ ap at_start c.new.ensures.tokens)
+pub returns-clause-layout : goal.returns-clause-layout
+returns-clause-layout g c = λ few.
+    reads_text (IsLayoutText most_open) _ _ few (c.bounds_tokens.ensures _ _) (λ forest layout short. c.scans_each_layout_text.ensures _ forest _ layout short (omega (arith, few))) _ (c.new-2.ensures ∙ ap at_start c.new.ensures.tokens)
