@@ -49,7 +49,7 @@ mod comparing;
 pub use calling::{hands_out_what_was_peeked, loads_the_end_again};
 pub use comparing::{hashes_alike, orders_styles, orders_tags, reads_inputs_alike, starts_at_zero};
 use saphyr_scanner::law::{
-    bounds_tokens, scans_breaks_alike, scans_each_layout_text, scans_each_json,
+    bounds_tokens, scans_breaks_alike, scans_each_json, scans_each_layout_text,
 };
 
 /// A node comes in preorder, between the events of its document and of the stream.

@@ -26,11 +26,11 @@ ghost use Rattle.saphyr_scalar.specs.declared.scalar.fault.Refusal.{Refusal};
 use saphyr_scalar::scalar::{
     begins_plain_scalars_with_ink, counts_each_block_scalar, counts_each_double_quoted,
     keeps_markers_out_of_quotes, passes_to_one_place, places_each_block_scalar, reads_block_texts,
-    reads_breaks_alike, reads_each_anchor, reads_each_block_scalar, reads_each_directive, reads_each_double_quoted,
-    reads_each_plain_text, reads_each_plain_word, reads_each_quoted, reads_each_reserved_directive,
-    reads_each_tag, reads_plain_values, refuses_inside, spells_each_anchor, spells_each_directive,
-    spells_each_quoted, spells_each_tag, takes_anchor, takes_block_scalar, takes_directive,
-    takes_plain, takes_quoted, takes_tag,
+    reads_breaks_alike, reads_each_anchor, reads_each_block_scalar, reads_each_directive,
+    reads_each_double_quoted, reads_each_plain_text, reads_each_plain_word, reads_each_quoted,
+    reads_each_reserved_directive, reads_each_tag, reads_plain_values, refuses_inside,
+    spells_each_anchor, spells_each_directive, spells_each_quoted, spells_each_tag, takes_anchor,
+    takes_block_scalar, takes_directive, takes_plain, takes_quoted, takes_tag,
 };
 
 /// A text of JSON stands for its forest.

@@ -18,7 +18,8 @@ use saphyr_input::{BufferedInput, StrInput};
 use saphyr_scalar::Span;
 use saphyr_scanner::Scanner;
 use saphyr_scanner::law::{
-    bounds_tokens, ends_with_the_stream, places_taken_tokens, scans_each_layout_text, scans_each_json,
+    bounds_tokens, ends_with_the_stream, places_taken_tokens, scans_each_json,
+    scans_each_layout_text,
 };
 use std::alloc::{AllocError, Global};
 use std::marker::Model;
