@@ -2,13 +2,13 @@
 use Rattle.std.proofs.Common.{◌≡◌, ◌≢◌, ℕ, ◌≤◌, Bool, true, false, List, [], ◌∷◌, ◌++◌, length, slice_index, Ok, refl, sym, ap, ◌∙◌, arith, ◌⊎◌, inl, inr}
 use Rattle.std.specs.Prelude.{◌==◌, not, Option, None}
 use Rattle.std.proofs.lemmas.Bool.Decides.{nat_tests}
-use Rattle.saphyr_input.specs.Classes.{is_blank, is_blank_or_breakz, tab}
+use Rattle.saphyr_input.specs.Classes.{is_blank, is_blank_or_breakz}
 use Rattle.saphyr_scalar.specs.declared.scalar.position.Marker.{Marker}
 use Rattle.saphyr_scalar.specs.Cursor.{Cursor, ◌>>=◌, along}
-use Rattle.saphyr_scalar.specs.TagSpelling.{AreIn}
 use Rattle.saphyr_scalar.specs.Spaces.{IsSeparation}
 use Rattle.saphyr_scanner.specs.declared.engine.level.Context.{Context}
 use Rattle.saphyr_scanner.specs.declared.engine.level.Context.TheVariants as context
+use Rattle.saphyr_scanner.specs.FlowNodes.{has_tab_outside}
 use Rattle.saphyr_scanner.specs.Gap.{Spaced, spaced, spaces}
 use Rattle.saphyr_scanner.specs.Tokens as tokens
 use Rattle.saphyr_scanner.specs.Queue.{Place}
@@ -89,7 +89,7 @@ key_of around d s context.MarkedFlowPair k ls a ad e = refl
 
 -- A `?` before separation without a tab: the key behind it is not kept.
 pub mark_passes : (around : Around) (y : Context) → is_block y ≡ false → (m : Marker) (o : List ℕ) → Fits around m (63 ∷ []) o
-    → (parted : IsParted around.indent o) → parted.separation ≢ [] → AreIn (λ c. not (c == tab)) parted.separation
+    → (parted : IsParted around.indent o) → parted.separation ≢ [] → has_tab_outside false parted.separation ≡ false
     → (s : Cursor) (k : Option Candidate) (ls : List Level) (a : Bool) (ad : ℕ) (ps : List Place) → ad ≤ m.index → past around.indent s.mark s.rest ≡ past around.indent m (63 ∷ o)
     → Passes around (state_at around s y k ls a ad ps) (no_key (moved m (63 ∷ []))) (behind_question y) ls ps (moved m (63 ∷ [])) o (tokens.Key ∷ [])
 mark_passes around y flows m o fits parted some tabs s k ls a ad ps before text =

@@ -9,6 +9,7 @@ use Rattle.saphyr_scalar.specs.Cursor.{along, next_line}
 use Rattle.saphyr_scalar.specs.BlockRead.{spaces as spaces_of}
 use Rattle.saphyr_scalar.specs.TagSpelling.{AreIn}
 use Rattle.saphyr_scalar.specs.Spaces.{joined, AreEach, IsCommentBehind, IsSeparationLine, IsSeparation}
+use Rattle.saphyr_scanner.specs.FlowNodes.{has_tab_outside}
 use Rattle.saphyr_scanner.specs.Gap.{spaced, spaces, line_comment}
 use Rattle.saphyr_scanner.proofs.FlowStates.{moved, is_left_tab, past, past_comment, IsInk}
 use Rattle.saphyr_scanner.proofs.FlowGaps.{past_ink, comment_shorter}
@@ -29,14 +30,25 @@ record Comment (m : Marker) (blank space : Bool) (w y : List ℕ) (n : Marker) :
   is : line_comment m blank space (w ++ y) ≡ spaced n still_blank some y
   has : space ≡ true → some ≡ true
 
-no_tab : (column : ℕ) (m : Marker) (c : ℕ) → IsTrue (not (c == tab)) → is_left_tab column m c ≡ false
-no_tab column m c h = by_tab (c == tab) h
-  where
-    by_tab : (b : Bool) → IsTrue (not b) → (b && nat_lt m.col column) ≡ false
-    by_tab true k = absurd (cc)
-    by_tab false k = refl
+neither : (a b : Bool) → (a || b) ≡ false → (a ≡ false) × (b ≡ false)
+neither false b e = (refl, e)
+neither true b e = absurd (cc)
 
-space_alone : (c : ℕ) → IsTrue (not (c == tab)) → is_blank c ≡ (c == 32)
+-- what is outside comments behind a character
+outside : (d : ℕ) (ds : List ℕ) (sign : Bool) → (d == 35) ≡ sign → has_tab_outside false (d ∷ ds) ≡ false → has_tab_outside sign ds ≡ false
+outside d ds sign e h = ap (λ (b : Bool). has_tab_outside b ds) (sym e) ∙ (neither (d == tab) (has_tab_outside (d == 35) ds) h).1
+
+white_no_sign : (d : ℕ) (r : Bool) → (is_blank d || ((d == 13) && r)) ≡ true → (d == 35) ≡ false
+white_no_sign d true h = grind (arith, nat_tests)
+white_no_sign d false h = grind (arith, nat_tests)
+
+break_no_sign : (d : ℕ) → is_break d ≡ true → (d == 35) ≡ false
+break_no_sign d h = grind (arith, nat_tests)
+
+no_tab : (column : ℕ) (m : Marker) (c : ℕ) → (c == tab) ≡ false → is_left_tab column m c ≡ false
+no_tab column m c h = ap (λ (b : Bool). b && nat_lt m.col column) h
+
+space_alone : (c : ℕ) → (c == tab) ≡ false → is_blank c ≡ (c == 32)
 space_alone c h = grind (arith, nat_tests)
 
 stays : (m : Marker) (d : ℕ) (w y : List ℕ) (n : Marker) → let t : Marker × List ℕ = (m, d ∷ (w ++ y)) in t ≡ (n, y) → ⊥
@@ -63,52 +75,72 @@ spaces_end column c cs ink m blank space n e =
     let here : spaces m blank space (c ∷ cs) ≡ spaced m blank space (c ∷ cs) = rw (not_space c ink.blank, ink.break, ink.comment, not_return c (slice_index cs 0 == 10) ink.break) refl in
     record { still_blank = blank; some = space; is = here ∙ ap (λ (k : Marker). spaced k blank space (c ∷ cs)) same; has = λ h. h }
 
-spaces_kind : (column : ℕ) (d : ℕ) (ds y : List ℕ) (m : Marker) (blank space : Bool) (n : Marker) → IsTrue (not (d == tab)) → (is_white is_line is_sign : Bool)
+spaces_kind : (column : ℕ) (d : ℕ) (ds y : List ℕ) (m : Marker) (blank space : Bool) (n : Marker) → has_tab_outside false (d ∷ ds) ≡ false → (is_white is_line is_sign : Bool)
     → (is_blank d || ((d == 13) && (slice_index (ds ++ y) 0 == 10))) ≡ is_white → is_break d ≡ is_line → (d == 35) ≡ is_sign → past column m (d ∷ (ds ++ y)) ≡ (n, y)
-    → (past column (along m 1) (ds ++ y) ≡ (n, y) → Spaces (along m 1) blank true ds y n) → (past column (next_line m 1) (ds ++ y) ≡ (n, y) → Spaces (next_line m 1) true true ds y n)
-    → (past_comment column (along m 1) (ds ++ y) ≡ (n, y) → Comment (along m 1) blank space ds y n) → Spaces m blank space (d ∷ ds) y n
-spaces_kind column d ds y m blank space n other true q r e f g p on line sign =
-    let there : past column m (d ∷ (ds ++ y)) ≡ past column (along m 1) (ds ++ y) = rw (no_tab column m d other, e) refl in
-    let k = on (sym there ∙ p) in
-    let white = ap (λ (b : Bool). b || ((d == 13) && (slice_index (ds ++ y) 0 == 10))) (sym (space_alone d other)) ∙ e in
+    → (has_tab_outside false ds ≡ false → past column (along m 1) (ds ++ y) ≡ (n, y) → Spaces (along m 1) blank true ds y n)
+    → (has_tab_outside false ds ≡ false → past column (next_line m 1) (ds ++ y) ≡ (n, y) → Spaces (next_line m 1) true true ds y n)
+    → (has_tab_outside true ds ≡ false → past_comment column (along m 1) (ds ++ y) ≡ (n, y) → Comment (along m 1) blank space ds y n) → Spaces m blank space (d ∷ ds) y n
+spaces_kind column d ds y m blank space n tabs true q r e f g p on line sign =
+    let there : past column m (d ∷ (ds ++ y)) ≡ past column (along m 1) (ds ++ y) = rw (no_tab column m d (neither (d == tab) (has_tab_outside (d == 35) ds) tabs).0, e) refl in
+    let k = on (outside d ds false (white_no_sign d (slice_index (ds ++ y) 0 == 10) e) tabs) (sym there ∙ p) in
+    let white = ap (λ (b : Bool). b || ((d == 13) && (slice_index (ds ++ y) 0 == 10))) (sym (space_alone d (neither (d == tab) (has_tab_outside (d == 35) ds) tabs).0)) ∙ e in
     let here : spaces m blank space (d ∷ (ds ++ y)) ≡ spaces (along m 1) blank true (ds ++ y) = rw white refl in
     record { still_blank = k.still_blank; some = k.some; is = here ∙ k.is; has = λ _. k.has refl }
-spaces_kind column d ds y m blank space n other false true r e f g p on line sign =
-    let there : past column m (d ∷ (ds ++ y)) ≡ past column (next_line m 1) (ds ++ y) = rw (no_tab column m d other, e, f) refl in
-    let k = line (sym there ∙ p) in
-    let white = ap (λ (b : Bool). b || ((d == 13) && (slice_index (ds ++ y) 0 == 10))) (sym (space_alone d other)) ∙ e in
+spaces_kind column d ds y m blank space n tabs false true r e f g p on line sign =
+    let there : past column m (d ∷ (ds ++ y)) ≡ past column (next_line m 1) (ds ++ y) = rw (no_tab column m d (neither (d == tab) (has_tab_outside (d == 35) ds) tabs).0, e, f) refl in
+    let k = line (outside d ds false (break_no_sign d f) tabs) (sym there ∙ p) in
+    let white = ap (λ (b : Bool). b || ((d == 13) && (slice_index (ds ++ y) 0 == 10))) (sym (space_alone d (neither (d == tab) (has_tab_outside (d == 35) ds) tabs).0)) ∙ e in
     let here : spaces m blank space (d ∷ (ds ++ y)) ≡ spaces (next_line m 1) true true (ds ++ y) = rw (white, f) refl in
     record { still_blank = k.still_blank; some = k.some; is = here ∙ k.is; has = λ _. k.has refl }
-spaces_kind column d ds y m blank space n other false false true e f g p on line sign =
-    let there : past column m (d ∷ (ds ++ y)) ≡ past_comment column (along m 1) (ds ++ y) = rw (no_tab column m d other, e, f, g) refl in
-    let k = sign (sym there ∙ p) in
-    let white = ap (λ (b : Bool). b || ((d == 13) && (slice_index (ds ++ y) 0 == 10))) (sym (space_alone d other)) ∙ e in
+spaces_kind column d ds y m blank space n tabs false false true e f g p on line sign =
+    let there : past column m (d ∷ (ds ++ y)) ≡ past_comment column (along m 1) (ds ++ y) = rw (no_tab column m d (neither (d == tab) (has_tab_outside (d == 35) ds) tabs).0, e, f, g) refl in
+    let k = sign (outside d ds true g tabs) (sym there ∙ p) in
+    let white = ap (λ (b : Bool). b || ((d == 13) && (slice_index (ds ++ y) 0 == 10))) (sym (space_alone d (neither (d == tab) (has_tab_outside (d == 35) ds) tabs).0)) ∙ e in
     let here : spaces m blank space (d ∷ (ds ++ y)) ≡ line_comment (along m 1) blank space (ds ++ y) = rw (white, f, g) refl in
     record { still_blank = k.still_blank; some = k.some; is = here ∙ k.is; has = k.has }
-spaces_kind column d ds y m blank space n other false false false e f g p on line sign =
-    let there : past column m (d ∷ (ds ++ y)) ≡ (m, d ∷ (ds ++ y)) = rw (no_tab column m d other, e, f, g) refl in
+spaces_kind column d ds y m blank space n tabs false false false e f g p on line sign =
+    let there : past column m (d ∷ (ds ++ y)) ≡ (m, d ∷ (ds ++ y)) = rw (no_tab column m d (neither (d == tab) (has_tab_outside (d == 35) ds) tabs).0, e, f, g) refl in
     absurd (stays m d ds y n (sym there ∙ p))
+
+word_no_break : (d : ℕ) → is_yaml_non_break d ≡ true → is_break d ≡ false
+word_no_break d h = grind (arith, nat_tests)
+
+return_breaks : (d : ℕ) (b : Bool) → ((d == 13) && b) ≡ true → is_break d ≡ true
+return_breaks d true h = grind (arith, nat_tests)
+return_breaks d false h = absurd (none (d == 13) h)
+  where
+    none : (a : Bool) → (a && false) ≡ true → ⊥
+    none true e = cc
+    none false e = cc
+
+behind_word : (d : ℕ) (ds : List ℕ) → is_break d ≡ false → has_tab_outside true (d ∷ ds) ≡ false → has_tab_outside true ds ≡ false
+behind_word d ds e h = ap (λ (b : Bool). has_tab_outside (not b) ds) (sym e) ∙ h
+
+behind_break : (d : ℕ) (ds : List ℕ) → is_break d ≡ true → has_tab_outside true (d ∷ ds) ≡ false → has_tab_outside false ds ≡ false
+behind_break d ds e h = ap (λ (b : Bool). has_tab_outside (not b) ds) (sym e) ∙ h
 
 comment_kind : (column : ℕ) (d : ℕ) (ds y : List ℕ) (m : Marker) (blank space : Bool) (n : Marker) → (is_word is_return is_line : Bool)
     → is_yaml_non_break d ≡ is_word → ((d == 13) && (slice_index (ds ++ y) 0 == 10)) ≡ is_return → is_break d ≡ is_line → past_comment column m (d ∷ (ds ++ y)) ≡ (n, y)
-    → (past_comment column (along m 1) (ds ++ y) ≡ (n, y) → Comment (along m 1) blank space ds y n) → (past column (along m 1) (ds ++ y) ≡ (n, y) → Spaces (along m 1) blank true ds y n)
-    → (past column (next_line m 1) (ds ++ y) ≡ (n, y) → Spaces (next_line m 1) true true ds y n) → Comment m blank space (d ∷ ds) y n
-comment_kind column d ds y m blank space n true q r e f g p word on line =
+    → has_tab_outside true (d ∷ ds) ≡ false
+    → (has_tab_outside true ds ≡ false → past_comment column (along m 1) (ds ++ y) ≡ (n, y) → Comment (along m 1) blank space ds y n)
+    → (has_tab_outside false ds ≡ false → past column (along m 1) (ds ++ y) ≡ (n, y) → Spaces (along m 1) blank true ds y n)
+    → (has_tab_outside false ds ≡ false → past column (next_line m 1) (ds ++ y) ≡ (n, y) → Spaces (next_line m 1) true true ds y n) → Comment m blank space (d ∷ ds) y n
+comment_kind column d ds y m blank space n true q r e f g p tabs word on line =
     let there : past_comment column m (d ∷ (ds ++ y)) ≡ past_comment column (along m 1) (ds ++ y) = rw e refl in
-    let k = word (sym there ∙ p) in
+    let k = word (behind_word d ds (word_no_break d e) tabs) (sym there ∙ p) in
     let here : line_comment m blank space (d ∷ (ds ++ y)) ≡ line_comment (along m 1) blank space (ds ++ y) = rw e refl in
     record { still_blank = k.still_blank; some = k.some; is = here ∙ k.is; has = k.has }
-comment_kind column d ds y m blank space n false true r e f g p word on line =
+comment_kind column d ds y m blank space n false true r e f g p tabs word on line =
     let there : past_comment column m (d ∷ (ds ++ y)) ≡ past column (along m 1) (ds ++ y) = rw (e, f) refl in
-    let k = on (sym there ∙ p) in
+    let k = on (behind_break d ds (return_breaks d (slice_index (ds ++ y) 0 == 10) f) tabs) (sym there ∙ p) in
     let here : line_comment m blank space (d ∷ (ds ++ y)) ≡ spaces (along m 1) blank true (ds ++ y) = rw (e, f) refl in
     record { still_blank = k.still_blank; some = k.some; is = here ∙ k.is; has = λ _. k.has refl }
-comment_kind column d ds y m blank space n false false true e f g p word on line =
+comment_kind column d ds y m blank space n false false true e f g p tabs word on line =
     let there : past_comment column m (d ∷ (ds ++ y)) ≡ past column (next_line m 1) (ds ++ y) = rw (e, f, g) refl in
-    let k = line (sym there ∙ p) in
+    let k = line (behind_break d ds g tabs) (sym there ∙ p) in
     let here : line_comment m blank space (d ∷ (ds ++ y)) ≡ spaces (next_line m 1) true true (ds ++ y) = rw (e, f, g) refl in
     record { still_blank = k.still_blank; some = k.some; is = here ∙ k.is; has = λ _. k.has refl }
-comment_kind column d ds y m blank space n false false false e f g p word on line =
+comment_kind column d ds y m blank space n false false false e f g p tabs word on line =
     let there : past_comment column m (d ∷ (ds ++ y)) ≡ (m, d ∷ (ds ++ y)) = rw (e, f, g) refl in
     absurd (stays m d ds y n (sym there ∙ p))
 
@@ -131,17 +163,17 @@ comment_end column c cs ink m blank space n p = by_word (is_yaml_non_break c) re
         record { still_blank = blank; some = space; is = here ∙ ap (λ (k : Marker). spaced k blank space (c ∷ cs)) same; has = λ h. h }
 
 mutual
-  spaces_go : (column : ℕ) (w : List ℕ) (c : ℕ) (cs : List ℕ) → IsInk c → (m : Marker) (blank space : Bool) (n : Marker) → AreIn (λ x. not (x == tab)) w → past column m (w ++ (c ∷ cs)) ≡ (n, c ∷ cs) → Spaces m blank space w (c ∷ cs) n
+  spaces_go : (column : ℕ) (w : List ℕ) (c : ℕ) (cs : List ℕ) → IsInk c → (m : Marker) (blank space : Bool) (n : Marker) → has_tab_outside false w ≡ false → past column m (w ++ (c ∷ cs)) ≡ (n, c ∷ cs) → Spaces m blank space w (c ∷ cs) n
   spaces_go column [] c cs ink m blank space n tabs p = spaces_end column c cs ink m blank space n p
   spaces_go column (d ∷ ds) c cs ink m blank space n tabs p =
-      spaces_kind column d ds (c ∷ cs) m blank space n tabs.0 (is_blank d || ((d == 13) && (slice_index (ds ++ (c ∷ cs)) 0 == 10))) (is_break d) (d == 35) refl refl refl p
-      (λ e. spaces_go column ds c cs ink (along m 1) blank true n tabs.1 e) (λ e. spaces_go column ds c cs ink (next_line m 1) true true n tabs.1 e) (λ e. comment_go column ds c cs ink (along m 1) blank space n tabs.1 e)
+      spaces_kind column d ds (c ∷ cs) m blank space n tabs (is_blank d || ((d == 13) && (slice_index (ds ++ (c ∷ cs)) 0 == 10))) (is_break d) (d == 35) refl refl refl p
+      (λ t e. spaces_go column ds c cs ink (along m 1) blank true n t e) (λ t e. spaces_go column ds c cs ink (next_line m 1) true true n t e) (λ t e. comment_go column ds c cs ink (along m 1) blank space n t e)
 
-  comment_go : (column : ℕ) (w : List ℕ) (c : ℕ) (cs : List ℕ) → IsInk c → (m : Marker) (blank space : Bool) (n : Marker) → AreIn (λ x. not (x == tab)) w → past_comment column m (w ++ (c ∷ cs)) ≡ (n, c ∷ cs) → Comment m blank space w (c ∷ cs) n
+  comment_go : (column : ℕ) (w : List ℕ) (c : ℕ) (cs : List ℕ) → IsInk c → (m : Marker) (blank space : Bool) (n : Marker) → has_tab_outside true w ≡ false → past_comment column m (w ++ (c ∷ cs)) ≡ (n, c ∷ cs) → Comment m blank space w (c ∷ cs) n
   comment_go column [] c cs ink m blank space n tabs p = comment_end column c cs ink m blank space n p
   comment_go column (d ∷ ds) c cs ink m blank space n tabs p =
-      comment_kind column d ds (c ∷ cs) m blank space n (is_yaml_non_break d) ((d == 13) && (slice_index (ds ++ (c ∷ cs)) 0 == 10)) (is_break d) refl refl refl p
-      (λ e. comment_go column ds c cs ink (along m 1) blank space n tabs.1 e) (λ e. spaces_go column ds c cs ink (along m 1) blank true n tabs.1 e) (λ e. spaces_go column ds c cs ink (next_line m 1) true true n tabs.1 e)
+      comment_kind column d ds (c ∷ cs) m blank space n (is_yaml_non_break d) ((d == 13) && (slice_index (ds ++ (c ∷ cs)) 0 == 10)) (is_break d) refl refl refl p tabs
+      (λ t e. comment_go column ds c cs ink (along m 1) blank space n t e) (λ t e. spaces_go column ds c cs ink (along m 1) blank true n t e) (λ t e. spaces_go column ds c cs ink (next_line m 1) true true n t e)
 
 -- ## Separation that is not empty
 
@@ -170,30 +202,31 @@ separation_begins column w (lines, blanks, (pieces, each, lines_are), are, e) so
         let inside : w ≡ front ++ (comment ++ (10 ∷ ((filler ++ spaces_of column) ++ (joined ps ++ blanks)))) = e ∙ ap (λ (t : List ℕ). t ++ blanks) lines_are ∙ ap (λ (t : List ℕ). (t ++ joined ps) ++ blanks) line_is ∙ simp append_assoc in
         of_line front comment ((filler ++ spaces_of column) ++ (joined ps ++ blanks)) front_are k inside
 
-is_space : (c : ℕ) → is_blank c ≡ true → IsTrue (not (c == tab)) → c ≡ 32
+is_space : (c : ℕ) → is_blank c ≡ true → (c == tab) ≡ false → c ≡ 32
 is_space c h k = grind (arith, nat_tests)
 
--- where separation without a tab stands, and a token behind it
+-- where separation without a tab outside comments stands, and a token behind it
 pub record Passed (m : Marker) (blank : Bool) (w y : List ℕ) : Type 0 where
   pub still_blank : Bool
   pub is : spaces m blank false (w ++ y) ≡ spaced (moved m w) still_blank true y
 
-pub spaces_passed : (column : ℕ) (m : Marker) (blank : Bool) (w : List ℕ) (c : ℕ) (cs : List ℕ) → IsSeparation column w → column ≤ m.col → w ≢ [] → AreIn (λ x. not (x == tab)) w → IsInk c → Passed m blank w (c ∷ cs)
+pub spaces_passed : (column : ℕ) (m : Marker) (blank : Bool) (w : List ℕ) (c : ℕ) (cs : List ℕ) → IsSeparation column w → column ≤ m.col → w ≢ [] → has_tab_outside false w ≡ false → IsInk c → Passed m blank w (c ∷ cs)
 spaces_passed column m blank w c cs parts low some tabs ink =
     let b = separation_begins column w parts some in
     let there = separation_past column m w (c ∷ cs) parts low ∙ past_ink column (moved m w) c cs ink in
     by_first b.first b.others b.is b.white there tabs
   where
     onward : (d : ℕ) (ds : List ℕ) (k : Marker) (still : Bool) → w ≡ d ∷ ds → spaces m blank false (d ∷ (ds ++ (c ∷ cs))) ≡ spaces k still true (ds ++ (c ∷ cs)) → past column m (d ∷ (ds ++ (c ∷ cs))) ≡ past column k (ds ++ (c ∷ cs))
-        → past column m (w ++ (c ∷ cs)) ≡ (moved m w, c ∷ cs) → AreIn (λ x. not (x == tab)) ds → Passed m blank w (c ∷ cs)
+        → past column m (w ++ (c ∷ cs)) ≡ (moved m w, c ∷ cs) → has_tab_outside false ds ≡ false → Passed m blank w (c ∷ cs)
     onward d ds k still same step over p t =
         let text = ap (λ (v : List ℕ). past column m (v ++ (c ∷ cs))) same in
         let g = spaces_go column ds c cs ink k still true (moved m w) t (sym over ∙ sym text ∙ p) in
         record { still_blank = g.still_blank; is = ap (λ (v : List ℕ). spaces m blank false (v ++ (c ∷ cs))) same ∙ step ∙ g.is ∙ ap (λ (q : Bool). spaced (moved m w) g.still_blank q (c ∷ cs)) (g.has refl) }
 
-    by_first : (d : ℕ) (ds : List ℕ) → w ≡ d ∷ ds → (is_blank d ≡ true) ⊎ (d ≡ 10) → past column m (w ++ (c ∷ cs)) ≡ (moved m w, c ∷ cs) → AreIn (λ x. not (x == tab)) w → Passed m blank w (c ∷ cs)
+    by_first : (d : ℕ) (ds : List ℕ) → w ≡ d ∷ ds → (is_blank d ≡ true) ⊎ (d ≡ 10) → past column m (w ++ (c ∷ cs)) ≡ (moved m w, c ∷ cs) → has_tab_outside false w ≡ false → Passed m blank w (c ∷ cs)
     by_first d ds same (inl h) p t =
-        let others = subst (AreIn (λ x. not (x == tab))) same t in
-        let one : d ≡ 32 = is_space d h others.0 in
-        onward 32 ds (along m 1) blank (same ∙ ap (λ (z : ℕ). z ∷ ds) one) refl refl p others.1
-    by_first d ds same (inr h) p t = onward 10 ds (next_line m 1) true (same ∙ ap (λ (z : ℕ). z ∷ ds) h) refl refl p (subst (AreIn (λ x. not (x == tab))) same t).1
+        let others : has_tab_outside false (d ∷ ds) ≡ false = ap (has_tab_outside false) (sym same) ∙ t in
+        let one : d ≡ 32 = is_space d h (neither (d == tab) (has_tab_outside (d == 35) ds) others).0 in
+        onward 32 ds (along m 1) blank (same ∙ ap (λ (z : ℕ). z ∷ ds) one) refl refl p (outside d ds false (ap (λ (z : ℕ). z == 35) one) others)
+    by_first d ds same (inr h) p t =
+        onward 10 ds (next_line m 1) true (same ∙ ap (λ (z : ℕ). z ∷ ds) h) refl refl p (outside d ds false (ap (λ (z : ℕ). z == 35) h) (ap (has_tab_outside false) (sym same) ∙ t))

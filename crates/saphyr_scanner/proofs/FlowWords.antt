@@ -1,5 +1,5 @@
 -- The plain scalars of a text in flow style are plain scalars as they are read.
-use Rattle.std.proofs.Common.{◌≡◌, ◌≢◌, ℕ, zero, suc, ◌+◌, ◌≤◌, Bool, true, false, List, [], ◌∷◌, ◌++◌, length, drop, slice_index, refl, sym, ap, ◌∙◌, arith, subst, append_assoc, IsTrue, IsFalse, ◌⊎◌, inl, inr}
+use Rattle.std.proofs.Common.{◌≡◌, ◌≢◌, ℕ, zero, suc, ◌+◌, ◌≤◌, Bool, true, false, List, [], ◌∷◌, ◌++◌, length, drop, slice_index, refl, sym, ap, ◌∙◌, arith, subst, append_assoc, append-nil, IsTrue, IsFalse, ◌⊎◌, inl, inr}
 use Rattle.std.specs.Prelude.{◌||◌, ◌&&◌, ◌==◌, not, nat_lt, if◌then◌else◌}
 use Rattle.std.specs.List.{prefix_len}
 use Rattle.std.proofs.lemmas.Bool.Decides.{nat_tests}
@@ -15,7 +15,7 @@ use Rattle.saphyr_scalar.specs.PlainSpelling.{behind_blanks, tabs_fit, has_line_
 use Rattle.saphyr_scalar.specs.TagSpelling.{AreIn}
 use Rattle.saphyr_scalar.specs.Spaces.{joined, AreEach, AreSpaces}
 use Rattle.saphyr_scalar.proofs.NoBreaks.{NoBreaks}
-use Rattle.saphyr_scanner.specs.FlowScalars.{IsEmptyLine, IsFoldedGap, IsWordGap, IsFurtherWord, IsPlain}
+use Rattle.saphyr_scanner.specs.FlowScalars.{IsLinePrefix, IsEmptyLine, IsFoldedGap, IsWordGap, IsFurtherWord, IsPlain}
 use Rattle.saphyr_scanner.proofs.FlowStates.{moved, IsClear}
 use Rattle.saphyr_scanner.proofs.FlowPlaces.{moved_append, right_along, clear_front, clear_back, clear_here}
 use Rattle.saphyr_scanner.proofs.FlowFillers.{spaces_are_blank, blanks_past, spaces_column}
@@ -83,12 +83,16 @@ both_white (c ∷ cs) b h k = (h.0, both_white cs b h.1 k)
 spaces_white : (least : ℕ) (t : List ℕ) → AreSpaces least t → AreWhite t
 spaces_white least t h = subst AreWhite (sym h.2) (blanks_white (spaces h.0) (spaces_are_blank h.0))
 
-line_white : (t : List ℕ) → IsEmptyLine t → AreWhite t
-line_white t h = subst AreWhite (sym h.2) (both_white h.0 (10 ∷ []) (spaces_white 0 h.0 h.1) (refl, tt))
+prefix_white : (indent : ℕ) (t : List ℕ) → IsLinePrefix indent t → AreWhite t
+prefix_white indent t (front, blanks, spaced, are, is) = subst AreWhite (sym is) (both_white front blanks (spaces_white indent front spaced) (blanks_white blanks are))
 
-lines_white : (ts : List (List ℕ)) → AreEach IsEmptyLine ts → AreWhite (joined ts)
-lines_white [] h = tt
-lines_white (t ∷ ts) h = both_white t (joined ts) (line_white t h.0) (lines_white ts h.1)
+line_white : (indent : ℕ) (t : List ℕ) → IsEmptyLine indent t → AreWhite t
+line_white indent t (front, inl h, is) = subst AreWhite (sym is) (both_white front (10 ∷ []) (spaces_white 0 front h) (refl, tt))
+line_white indent t (front, inr h, is) = subst AreWhite (sym is) (both_white front (10 ∷ []) (prefix_white indent front h) (refl, tt))
+
+lines_white : (indent : ℕ) (ts : List (List ℕ)) → AreEach (IsEmptyLine indent) ts → AreWhite (joined ts)
+lines_white indent [] h = tt
+lines_white indent (t ∷ ts) h = both_white t (joined ts) (line_white indent t h.0) (lines_white indent ts h.1)
 
 not_nothing : (a : List ℕ) (c : ℕ) (b : List ℕ) → a ++ (c ∷ b) ≢ []
 not_nothing [] c b e = absurd (cc)
@@ -110,31 +114,59 @@ no_line_end (c ∷ cs) h = rw (blank_no_break c h.0) (no_line_end cs h.1)
     blank_no_break : (c : ℕ) → IsTrue (is_blank c) → is_break c ≡ false
     blank_no_break c h = grind (arith, nat_tests)
 
--- where no tab is
-no_tabs_fit : (indent n : ℕ) (t : List ℕ) → AreIn (λ c. not (c == tab)) t → IsTrue (tabs_fit indent n t)
-no_tabs_fit indent n [] h = refl
-no_tabs_fit indent n (c ∷ cs) h = by_white (is_blank_or_break c) refl (no_tabs_fit indent (if ends_line c cs then 0 else n + 1) cs h.1)
+-- spaces fit wherever they stand
+spaces_fit : (indent n k : ℕ) (y : List ℕ) → IsTrue (tabs_fit indent (n + k) y) → IsTrue (tabs_fit indent n (spaces k ++ y))
+spaces_fit indent n zero y h = subst (λ (i : ℕ). IsTrue (tabs_fit indent i y)) (none n) h
   where
-    none : (b q r : Bool) → (not b) ≡ true → r ≡ true → (not (b && q) && r) ≡ true
-    none true q r e f = absurd (cc)
-    none false q r e f = f
+    none : (n : ℕ) → n + 0 ≡ n
+    none n = omega arith
+spaces_fit indent n (suc k) y h = spaces_fit indent (n + 1) k y (subst (λ (i : ℕ). IsTrue (tabs_fit indent i y)) (one n k) h)
+  where
+    one : (n k : ℕ) → n + suc k ≡ n + 1 + k
+    one n k = omega arith
 
-    by_white : (b : Bool) → is_blank_or_break c ≡ b → IsTrue (tabs_fit indent (if ends_line c cs then 0 else n + 1) cs) → IsTrue (tabs_fit indent n (c ∷ cs))
-    by_white true e on = rw e (none (c == tab) (nat_lt n indent) (tabs_fit indent (if ends_line c cs then 0 else n + 1) cs) h.0 on)
-    by_white false e on = rw e refl
+-- and blanks right of the indentation do
+blanks_fit : (indent n : ℕ) (w y : List ℕ) → AreIn is_blank w → indent ≤ n → ((i : ℕ) → IsTrue (tabs_fit indent i y)) → IsTrue (tabs_fit indent n (w ++ y))
+blanks_fit indent n [] y h right fits = fits n
+blanks_fit indent n (c ∷ cs) y h right fits =
+    rw (blank_white c h.0, no_line c h.0, not_left n indent right, and_true (c == tab)) (blanks_fit indent (n + 1) cs y h.1 (omega (arith, right)) fits)
+  where
+    no_line : (c : ℕ) → IsTrue (is_blank c) → is_break c ≡ false
+    no_line c h = grind (arith, nat_tests)
 
-both_no_tab : (a b : List ℕ) → AreIn (λ c. not (c == tab)) a → AreIn (λ c. not (c == tab)) b → AreIn (λ c. not (c == tab)) (a ++ b)
-both_no_tab [] b h k = k
-both_no_tab (c ∷ cs) b h k = (h.0, both_no_tab cs b h.1 k)
+    not_left : (a b : ℕ) → b ≤ a → nat_lt a b ≡ false
+    not_left a b h = grind (arith, nat_tests)
 
-spaces_no_tab : (n : ℕ) → AreIn (λ c. not (c == tab)) (spaces n)
-spaces_no_tab zero = tt
-spaces_no_tab (suc n) = (refl, spaces_no_tab n)
+    and_true : (b : Bool) → (b && false) ≡ false
+    and_true true = refl
+    and_true false = refl
 
-lines_no_tab : (ts : List (List ℕ)) → AreEach IsEmptyLine ts → AreIn (λ c. not (c == tab)) (joined ts)
-lines_no_tab [] h = tt
-lines_no_tab (t ∷ ts) (h, k) =
-    both_no_tab t (joined ts) (subst (AreIn (λ c. not (c == tab))) (sym h.2) (both_no_tab h.0 (10 ∷ []) (subst (AreIn (λ c. not (c == tab))) (sym h.1.2) (spaces_no_tab h.1.0)) (refl, tt))) (lines_no_tab ts k)
+prefix_fits : (indent : ℕ) (t y : List ℕ) → IsLinePrefix indent t → ((i : ℕ) → IsTrue (tabs_fit indent i y)) → IsTrue (tabs_fit indent 0 (t ++ y))
+prefix_fits indent t y (front, blanks, (n, low, spaced), are, is) fits =
+    let text : t ++ y ≡ spaces n ++ (blanks ++ y) = ap (λ (x : List ℕ). x ++ y) (is ∙ ap (λ (x : List ℕ). x ++ blanks) spaced) ∙ append_assoc (spaces n) blanks y in
+    subst (λ (x : List ℕ). IsTrue (tabs_fit indent 0 x)) (sym text) (spaces_fit indent 0 n (blanks ++ y) (at_column 0 n refl (blanks_fit indent n blanks y are low fits)))
+  where
+    none : (n : ℕ) → 0 + n ≡ n
+    none n = omega arith
+
+    at_column : (z n : ℕ) → z ≡ 0 → IsTrue (tabs_fit indent n (blanks ++ y)) → IsTrue (tabs_fit indent (z + n) (blanks ++ y))
+    at_column z n e h = subst (λ (i : ℕ). IsTrue (tabs_fit indent i (blanks ++ y))) (sym (ap (λ (i : ℕ). i + n) e ∙ none n)) h
+
+feed_fits : (indent n : ℕ) (y : List ℕ) → IsTrue (tabs_fit indent 0 y) → IsTrue (tabs_fit indent n (10 ∷ y))
+feed_fits indent n y h = h
+
+line_fits : (indent : ℕ) (t y : List ℕ) → IsEmptyLine indent t → IsTrue (tabs_fit indent 0 y) → IsTrue (tabs_fit indent 0 (t ++ y))
+line_fits indent t y (front, inl (n, low, spaced), is) h =
+    let text : t ++ y ≡ spaces n ++ (10 ∷ y) = ap (λ (x : List ℕ). x ++ y) (is ∙ ap (λ (x : List ℕ). x ++ (10 ∷ [])) spaced) ∙ append_assoc (spaces n) (10 ∷ []) y in
+    subst (λ (x : List ℕ). IsTrue (tabs_fit indent 0 x)) (sym text) (spaces_fit indent 0 n (10 ∷ y) (feed_fits indent n y h))
+line_fits indent t y (front, inr p, is) h =
+    let text : t ++ y ≡ front ++ (10 ∷ y) = ap (λ (x : List ℕ). x ++ y) is ∙ append_assoc front (10 ∷ []) y in
+    subst (λ (x : List ℕ). IsTrue (tabs_fit indent 0 x)) (sym text) (prefix_fits indent front (10 ∷ y) p (λ i. feed_fits indent i y h))
+
+lines_fit : (indent : ℕ) (ts : List (List ℕ)) (y : List ℕ) → AreEach (IsEmptyLine indent) ts → IsTrue (tabs_fit indent 0 y) → IsTrue (tabs_fit indent 0 (joined ts ++ y))
+lines_fit indent [] y h fits = fits
+lines_fit indent (t ∷ ts) y h fits =
+    subst (λ (x : List ℕ). IsTrue (tabs_fit indent 0 x)) (sym (append_assoc t (joined ts) y)) (line_fits indent t (joined ts ++ y) h.0 (lines_fit indent ts y h.1 fits))
 
 -- what stands between two words
 record Gapped (indent : ℕ) (m : Marker) (t : List ℕ) : Type 0 where
@@ -144,26 +176,29 @@ record Gapped (indent : ℕ) (m : Marker) (t : List ℕ) : Type 0 where
   indented : (has_line_end t ≡ false) ⊎ (indent ≤ (moved m t).col)
   right : indent ≤ m.col → indent ≤ (moved m t).col
 
+-- a line's prefix reaches the indentation
+prefix_reaches : (indent : ℕ) (m : Marker) (t : List ℕ) → IsLinePrefix indent t → indent ≤ (moved m t).col
+prefix_reaches indent m t (front, blanks, (n, low, spaced), are, is) =
+    let k = moved m front in
+    let there = ap (λ (f : List ℕ). (moved m f).col) spaced ∙ spaces_column m n in
+    subst (λ (i : Marker). indent ≤ i.col) (sym (ap (moved m) is ∙ moved_append m front blanks)) (blanks_past indent blanks are k (omega (arith, low, there))).right
+
 folded_gap : (indent : ℕ) (m : Marker) (t : List ℕ) → IsFoldedGap indent t → Gapped indent m t
-folded_gap indent m t (blanks, lines, front, are, (pieces, each, joins), spaced, is) =
-    let many : AreWhite lines = subst AreWhite (sym joins) (lines_white pieces each) in
-    let all : AreWhite (blanks ++ (10 ∷ (lines ++ front))) = both_white blanks (10 ∷ (lines ++ front)) (blanks_white blanks are) (refl, both_white lines front many (spaces_white indent front spaced)) in
-    let tabless : AreIn (λ c. not (c == tab)) (10 ∷ (lines ++ front)) =
-    (refl, both_no_tab lines front (subst (AreIn (λ c. not (c == tab))) (sym joins) (lines_no_tab pieces each)) (subst (AreIn (λ c. not (c == tab))) (sym spaced.2) (spaces_no_tab spaced.0))) in
-    let there = reaches front spaced (moved (moved m (blanks ++ (10 ∷ lines))) front).col (moved m (blanks ++ (10 ∷ lines))).col
-    (ap (λ (f : List ℕ). (moved (moved m (blanks ++ (10 ∷ lines))) f).col) spaced.2 ∙ spaces_column (moved m (blanks ++ (10 ∷ lines))) spaced.0) in
+folded_gap indent m t (blanks, lines, front, are, (pieces, each, joins), prefix, is) =
+    let many : AreWhite lines = subst AreWhite (sym joins) (lines_white indent pieces each) in
+    let all : AreWhite (blanks ++ (10 ∷ (lines ++ front))) = both_white blanks (10 ∷ (lines ++ front)) (blanks_white blanks are) (refl, both_white lines front many (prefix_white indent front prefix)) in
+    let last : IsTrue (tabs_fit indent 0 front) = subst (λ (x : List ℕ). IsTrue (tabs_fit indent 0 x)) (append-nil front) (prefix_fits indent front [] prefix (λ i. refl)) in
+    let fit : IsTrue (tabs_fit indent 0 (lines ++ front)) = subst (λ (x : List ℕ). IsTrue (tabs_fit indent 0 (x ++ front))) (sym joins) (lines_fit indent pieces front each last) in
     let whole : t ≡ (blanks ++ (10 ∷ lines)) ++ front = is ∙ sym (append_assoc blanks (10 ∷ lines) front) in
-    let right : indent ≤ (moved m t).col = subst (λ (k : Marker). indent ≤ k.col) (sym (ap (moved m) whole ∙ moved_append m (blanks ++ (10 ∷ lines)) front)) there in
+    let right : indent ≤ (moved m t).col = subst (λ (k : Marker). indent ≤ k.col) (sym (ap (moved m) whole ∙ moved_append m (blanks ++ (10 ∷ lines)) front)) (prefix_reaches indent (moved m (blanks ++ (10 ∷ lines))) front prefix) in
     record {
       some = λ e. not_nothing blanks 10 (lines ++ front) (sym is ∙ e);
       white = subst AreWhite (sym is) all;
-      tabs = subst (λ (y : List ℕ). IsTrue (tabs_fit indent 0 (behind_blanks y))) (sym is) (subst (λ (y : List ℕ). IsTrue (tabs_fit indent 0 y)) (sym (blanks_before blanks 10 (lines ++ front) are refl)) (no_tabs_fit indent 0 (10 ∷ (lines ++ front)) tabless));
+      tabs = subst (λ (y : List ℕ). IsTrue (tabs_fit indent 0 (behind_blanks y))) (sym is)
+          (subst (λ (y : List ℕ). IsTrue (tabs_fit indent 0 y)) (sym (blanks_before blanks 10 (lines ++ front) are refl)) (feed_fits indent 0 (lines ++ front) fit));
       indented = inr right;
       right = λ _. right;
     }
-  where
-    reaches : (front : List ℕ) (s : AreSpaces indent front) (a b : ℕ) → a ≡ b + s.0 → indent ≤ a
-    reaches front s a b e = let low = s.1 in omega (arith, low, e)
 
 word_gap : (indent : ℕ) (m : Marker) (t : List ℕ) → IsWordGap indent t → Gapped indent m t
 word_gap indent m t (inl h) =

@@ -37,11 +37,11 @@ flow_single_pairs =
 
 pub flow_explicit_pairs : IsLayoutText most_open (bare (Seq no_properties (MoreNodes (Map no_properties (MorePairs (Scalar no_properties Plain (codes "a")) (Scalar no_properties Plain (codes "b")) NoPair)) (MoreNodes (Map no_properties (MorePairs left_out (Scalar no_properties Plain (codes "d")) NoPair)) (MoreNodes (Map no_properties (MorePairs left_out left_out NoPair)) NoNode)))) ∷ []) (codes "[? a : b, : d, ? ]")
 flow_explicit_pairs =
-    ([], codes "[? a : b, : d, ? ]", (inl refl), ([], codes "[? a : b, : d, ? ]", [], ([], tt, refl), (inl (refl, (refl, refl, (inl ([], codes "[? a : b, : d, ? ]", [], (inr (refl, refl)), (254, codes "[", codes "? a : b, : d, ? ", refl, ([], [], (inl (refl, refl)), ([], [], ([], tt, refl), tt, refl), refl), (codes "? a : b", codes ", : d, ? ", (inr (refl, (inr (codes "? a : b", [], (inr (inr (codes " ", codes "a : b", ((λ e. cc), ([], codes " ", ([], tt, refl), (refl, tt), refl), (refl, tt)), (inr (inr (codes "a", codes " ", codes ": b", (inr ([], codes "a", (inl (refl, refl)), ((codes "a", [], (record { some = (λ e. cc); ink = (refl, (λ e f. omega arith), tt); no_comment = (λ e. omega arith); no_lone_dash = (λ e f. apart (ap (λ x. same x (codes "-")) f)) }, refl, (λ e. apart (ap (λ x. same x (codes "-")) e)), (λ e. apart (ap (λ x. same x (codes "?")) e)), (λ e. apart (ap (λ x. same x (codes ":")) e))), ([], tt, refl), refl), refl), refl)), ([], codes " ", ([], tt, refl), (refl, tt), refl), (inr refl), (inr (codes " ", codes "b", ([], codes " ", ([], tt, refl), (refl, tt), refl), (inl (λ e. cc)), (inr ([], codes "b", (inl (refl, refl)), ((codes "b", [], (record { some = (λ e. cc); ink = (refl, (λ e f. omega arith), tt); no_comment = (λ e. omega arith); no_lone_dash = (λ e f. apart (ap (λ x. same x (codes "-")) f)) }, refl, (λ e. apart (ap (λ x. same x (codes "-")) e)), (λ e. apart (ap (λ x. same x (codes "?")) e)), (λ e. apart (ap (λ x. same x (codes ":")) e))), ([], tt, refl), refl), refl), refl)), refl)), refl))), refl))), ([], [], ([], tt, refl), tt, refl), refl)))), (codes ", ", codes ": d", codes ", ? ", (codes " ", ([], codes " ", ([], tt, refl), (refl, tt), refl), refl), (inr (refl, (inr (codes ": d", [], (inr (inl (refl, (inr (codes " ", codes "d", ([], codes " ", ([], tt, refl), (refl, tt), refl), (inl (λ e. cc)), (inr ([], codes "d", (inl (refl, refl)), ((codes "d", [], (record { some = (λ e. cc); ink = (refl, (λ e f. omega arith), tt); no_comment = (λ e. omega arith); no_lone_dash = (λ e f. apart (ap (λ x. same x (codes "-")) f)) }, refl, (λ e. apart (ap (λ x. same x (codes "-")) e)), (λ e. apart (ap (λ x. same x (codes "?")) e)), (λ e. apart (ap (λ x. same x (codes ":")) e))), ([], tt, refl), refl), refl), refl)), refl))))), ([], [], ([], tt, refl), tt, refl), refl)))), (codes ", ", codes "? ", [], (codes " ", ([], codes " ", ([], tt, refl), (refl, tt), refl), refl), (inr (refl, (inl (codes " ", refl, refl, ((λ e. cc), ([], codes " ", ([], tt, refl), (refl, tt), refl), (refl, tt)), refl)))), (inl refl), refl), refl), refl), refl), (inr (([], [], (0, omega arith, refl), (inl refl), refl), refl)), refl))))), (inl ([], [], ([], tt, refl), ([], [], (0, omega arith, refl), (inl refl), refl), refl)), refl), refl)
+    ([], codes "[? a : b, : d, ? ]", (inl refl), ([], codes "[? a : b, : d, ? ]", [], ([], tt, refl), (inl (refl, (refl, refl, (inl ([], codes "[? a : b, : d, ? ]", [], (inr (refl, refl)), (254, codes "[", codes "? a : b, : d, ? ", refl, ([], [], (inl (refl, refl)), ([], [], ([], tt, refl), tt, refl), refl), (codes "? a : b", codes ", : d, ? ", (inr (refl, (inr (codes "? a : b", [], (inr (inr (codes " ", codes "a : b", ((λ e. cc), ([], codes " ", ([], tt, refl), (refl, tt), refl), refl), (inr (inr (codes "a", codes " ", codes ": b", (inr ([], codes "a", (inl (refl, refl)), ((codes "a", [], (record { some = (λ e. cc); ink = (refl, (λ e f. omega arith), tt); no_comment = (λ e. omega arith); no_lone_dash = (λ e f. apart (ap (λ x. same x (codes "-")) f)) }, refl, (λ e. apart (ap (λ x. same x (codes "-")) e)), (λ e. apart (ap (λ x. same x (codes "?")) e)), (λ e. apart (ap (λ x. same x (codes ":")) e))), ([], tt, refl), refl), refl), refl)), ([], codes " ", ([], tt, refl), (refl, tt), refl), (inr refl), (inr (codes " ", codes "b", ([], codes " ", ([], tt, refl), (refl, tt), refl), (inl (λ e. cc)), (inr ([], codes "b", (inl (refl, refl)), ((codes "b", [], (record { some = (λ e. cc); ink = (refl, (λ e f. omega arith), tt); no_comment = (λ e. omega arith); no_lone_dash = (λ e f. apart (ap (λ x. same x (codes "-")) f)) }, refl, (λ e. apart (ap (λ x. same x (codes "-")) e)), (λ e. apart (ap (λ x. same x (codes "?")) e)), (λ e. apart (ap (λ x. same x (codes ":")) e))), ([], tt, refl), refl), refl), refl)), refl)), refl))), refl))), ([], [], ([], tt, refl), tt, refl), refl)))), (codes ", ", codes ": d", codes ", ? ", (codes " ", ([], codes " ", ([], tt, refl), (refl, tt), refl), refl), (inr (refl, (inr (codes ": d", [], (inr (inl (refl, (inr (codes " ", codes "d", ([], codes " ", ([], tt, refl), (refl, tt), refl), (inl (λ e. cc)), (inr ([], codes "d", (inl (refl, refl)), ((codes "d", [], (record { some = (λ e. cc); ink = (refl, (λ e f. omega arith), tt); no_comment = (λ e. omega arith); no_lone_dash = (λ e f. apart (ap (λ x. same x (codes "-")) f)) }, refl, (λ e. apart (ap (λ x. same x (codes "-")) e)), (λ e. apart (ap (λ x. same x (codes "?")) e)), (λ e. apart (ap (λ x. same x (codes ":")) e))), ([], tt, refl), refl), refl), refl)), refl))))), ([], [], ([], tt, refl), tt, refl), refl)))), (codes ", ", codes "? ", [], (codes " ", ([], codes " ", ([], tt, refl), (refl, tt), refl), refl), (inr (refl, (inl (codes " ", refl, refl, ((λ e. cc), ([], codes " ", ([], tt, refl), (refl, tt), refl), refl), refl)))), (inl refl), refl), refl), refl), refl), (inr (([], [], (0, omega arith, refl), (inl refl), refl), refl)), refl))))), (inl ([], [], ([], tt, refl), ([], [], (0, omega arith, refl), (inl refl), refl), refl)), refl), refl)
 
 pub flow_entries : IsLayoutText most_open (bare (Map no_properties (MorePairs (Scalar no_properties Plain (codes "a")) left_out (MorePairs (Scalar no_properties Plain (codes "b")) left_out (MorePairs left_out (Scalar no_properties Plain (codes "c")) (MorePairs left_out (Scalar no_properties Plain (codes "d")) (MorePairs (Alias (codes "x")) left_out NoPair)))))) ∷ []) (codes "{a, ? b, ? : c, : d, *x :}")
 flow_entries =
-    ([], codes "{a, ? b, ? : c, : d, *x :}", (inl refl), ([], codes "{a, ? b, ? : c, : d, *x :}", [], ([], tt, refl), (inl (refl, (refl, refl, (inl ([], codes "{a, ? b, ? : c, : d, *x :}", [], (inr (refl, refl)), (254, codes "{", codes "a, ? b, ? : c, : d, *x :", refl, ([], [], (inl (refl, refl)), ([], [], ([], tt, refl), tt, refl), refl), (codes "a", codes ", ? b, ? : c, : d, *x :", (inr (codes "a", [], (inl (refl, (inr ([], codes "a", (inl (refl, refl)), ((codes "a", [], (record { some = (λ e. cc); ink = (refl, (λ e f. omega arith), tt); no_comment = (λ e. omega arith); no_lone_dash = (λ e f. apart (ap (λ x. same x (codes "-")) f)) }, refl, (λ e. apart (ap (λ x. same x (codes "-")) e)), (λ e. apart (ap (λ x. same x (codes "?")) e)), (λ e. apart (ap (λ x. same x (codes ":")) e))), ([], tt, refl), refl), refl), refl)))), ([], [], ([], tt, refl), tt, refl), refl)), (codes ", ", codes "? b", codes ", ? : c, : d, *x :", (codes " ", ([], codes " ", ([], tt, refl), (refl, tt), refl), refl), (inr (codes "? b", [], (inr (inr (inr (codes " ", codes "b", ((λ e. cc), ([], codes " ", ([], tt, refl), (refl, tt), refl), (refl, tt)), (inl (refl, (inr ([], codes "b", (inl (refl, refl)), ((codes "b", [], (record { some = (λ e. cc); ink = (refl, (λ e f. omega arith), tt); no_comment = (λ e. omega arith); no_lone_dash = (λ e f. apart (ap (λ x. same x (codes "-")) f)) }, refl, (λ e. apart (ap (λ x. same x (codes "-")) e)), (λ e. apart (ap (λ x. same x (codes "?")) e)), (λ e. apart (ap (λ x. same x (codes ":")) e))), ([], tt, refl), refl), refl), refl)))), refl)))), ([], [], ([], tt, refl), tt, refl), refl)), (codes ", ", codes "? : c", codes ", : d, *x :", (codes " ", ([], codes " ", ([], tt, refl), (refl, tt), refl), refl), (inr (codes "? : c", [], (inr (inr (inr (codes " ", codes ": c", ((λ e. cc), ([], codes " ", ([], tt, refl), (refl, tt), refl), (refl, tt)), (inr (inl (refl, (inr (codes " ", codes "c", ([], codes " ", ([], tt, refl), (refl, tt), refl), (inl (λ e. cc)), (inr ([], codes "c", (inl (refl, refl)), ((codes "c", [], (record { some = (λ e. cc); ink = (refl, (λ e f. omega arith), tt); no_comment = (λ e. omega arith); no_lone_dash = (λ e f. apart (ap (λ x. same x (codes "-")) f)) }, refl, (λ e. apart (ap (λ x. same x (codes "-")) e)), (λ e. apart (ap (λ x. same x (codes "?")) e)), (λ e. apart (ap (λ x. same x (codes ":")) e))), ([], tt, refl), refl), refl), refl)), refl))))), refl)))), ([], [], ([], tt, refl), tt, refl), refl)), (codes ", ", codes ": d", codes ", *x :", (codes " ", ([], codes " ", ([], tt, refl), (refl, tt), refl), refl), (inr (codes ": d", [], (inr (inr (inl (refl, (inr (codes " ", codes "d", ([], codes " ", ([], tt, refl), (refl, tt), refl), (inl (λ e. cc)), (inr ([], codes "d", (inl (refl, refl)), ((codes "d", [], (record { some = (λ e. cc); ink = (refl, (λ e f. omega arith), tt); no_comment = (λ e. omega arith); no_lone_dash = (λ e f. apart (ap (λ x. same x (codes "-")) f)) }, refl, (λ e. apart (ap (λ x. same x (codes "-")) e)), (λ e. apart (ap (λ x. same x (codes "?")) e)), (λ e. apart (ap (λ x. same x (codes ":")) e))), ([], tt, refl), refl), refl), refl)), refl)))))), ([], [], ([], tt, refl), tt, refl), refl)), (codes ", ", codes "*x :", [], (codes " ", ([], codes " ", ([], tt, refl), (refl, tt), refl), refl), (inr (codes "*x :", [], (inr (inl (codes "*x", codes " ", codes ":", (((λ e. cc), (refl, tt)), refl), ([], codes " ", ([], tt, refl), (refl, tt), refl), (inl (λ e. cc)), (inl (refl, refl)), refl))), ([], [], ([], tt, refl), tt, refl), refl)), (inl refl), refl), refl), refl), refl), refl), refl), (inr (([], [], (0, omega arith, refl), (inl refl), refl), refl)), refl))))), (inl ([], [], ([], tt, refl), ([], [], (0, omega arith, refl), (inl refl), refl), refl)), refl), refl)
+    ([], codes "{a, ? b, ? : c, : d, *x :}", (inl refl), ([], codes "{a, ? b, ? : c, : d, *x :}", [], ([], tt, refl), (inl (refl, (refl, refl, (inl ([], codes "{a, ? b, ? : c, : d, *x :}", [], (inr (refl, refl)), (254, codes "{", codes "a, ? b, ? : c, : d, *x :", refl, ([], [], (inl (refl, refl)), ([], [], ([], tt, refl), tt, refl), refl), (codes "a", codes ", ? b, ? : c, : d, *x :", (inr (codes "a", [], (inl (refl, (inr ([], codes "a", (inl (refl, refl)), ((codes "a", [], (record { some = (λ e. cc); ink = (refl, (λ e f. omega arith), tt); no_comment = (λ e. omega arith); no_lone_dash = (λ e f. apart (ap (λ x. same x (codes "-")) f)) }, refl, (λ e. apart (ap (λ x. same x (codes "-")) e)), (λ e. apart (ap (λ x. same x (codes "?")) e)), (λ e. apart (ap (λ x. same x (codes ":")) e))), ([], tt, refl), refl), refl), refl)))), ([], [], ([], tt, refl), tt, refl), refl)), (codes ", ", codes "? b", codes ", ? : c, : d, *x :", (codes " ", ([], codes " ", ([], tt, refl), (refl, tt), refl), refl), (inr (codes "? b", [], (inr (inr (inr (codes " ", codes "b", ((λ e. cc), ([], codes " ", ([], tt, refl), (refl, tt), refl), refl), (inl (refl, (inr ([], codes "b", (inl (refl, refl)), ((codes "b", [], (record { some = (λ e. cc); ink = (refl, (λ e f. omega arith), tt); no_comment = (λ e. omega arith); no_lone_dash = (λ e f. apart (ap (λ x. same x (codes "-")) f)) }, refl, (λ e. apart (ap (λ x. same x (codes "-")) e)), (λ e. apart (ap (λ x. same x (codes "?")) e)), (λ e. apart (ap (λ x. same x (codes ":")) e))), ([], tt, refl), refl), refl), refl)))), refl)))), ([], [], ([], tt, refl), tt, refl), refl)), (codes ", ", codes "? : c", codes ", : d, *x :", (codes " ", ([], codes " ", ([], tt, refl), (refl, tt), refl), refl), (inr (codes "? : c", [], (inr (inr (inr (codes " ", codes ": c", ((λ e. cc), ([], codes " ", ([], tt, refl), (refl, tt), refl), refl), (inr (inl (refl, (inr (codes " ", codes "c", ([], codes " ", ([], tt, refl), (refl, tt), refl), (inl (λ e. cc)), (inr ([], codes "c", (inl (refl, refl)), ((codes "c", [], (record { some = (λ e. cc); ink = (refl, (λ e f. omega arith), tt); no_comment = (λ e. omega arith); no_lone_dash = (λ e f. apart (ap (λ x. same x (codes "-")) f)) }, refl, (λ e. apart (ap (λ x. same x (codes "-")) e)), (λ e. apart (ap (λ x. same x (codes "?")) e)), (λ e. apart (ap (λ x. same x (codes ":")) e))), ([], tt, refl), refl), refl), refl)), refl))))), refl)))), ([], [], ([], tt, refl), tt, refl), refl)), (codes ", ", codes ": d", codes ", *x :", (codes " ", ([], codes " ", ([], tt, refl), (refl, tt), refl), refl), (inr (codes ": d", [], (inr (inr (inl (refl, (inr (codes " ", codes "d", ([], codes " ", ([], tt, refl), (refl, tt), refl), (inl (λ e. cc)), (inr ([], codes "d", (inl (refl, refl)), ((codes "d", [], (record { some = (λ e. cc); ink = (refl, (λ e f. omega arith), tt); no_comment = (λ e. omega arith); no_lone_dash = (λ e f. apart (ap (λ x. same x (codes "-")) f)) }, refl, (λ e. apart (ap (λ x. same x (codes "-")) e)), (λ e. apart (ap (λ x. same x (codes "?")) e)), (λ e. apart (ap (λ x. same x (codes ":")) e))), ([], tt, refl), refl), refl), refl)), refl)))))), ([], [], ([], tt, refl), tt, refl), refl)), (codes ", ", codes "*x :", [], (codes " ", ([], codes " ", ([], tt, refl), (refl, tt), refl), refl), (inr (codes "*x :", [], (inr (inl (codes "*x", codes " ", codes ":", (((λ e. cc), (refl, tt)), refl), ([], codes " ", ([], tt, refl), (refl, tt), refl), (inl (λ e. cc)), (inl (refl, refl)), refl))), ([], [], ([], tt, refl), tt, refl), refl)), (inl refl), refl), refl), refl), refl), refl), refl), (inr (([], [], (0, omega arith, refl), (inl refl), refl), refl)), refl))))), (inl ([], [], ([], tt, refl), ([], [], (0, omega arith, refl), (inl refl), refl), refl)), refl), refl)
 
 pub flow_lines : IsLayoutText most_open (bare (Seq no_properties (MoreNodes (Scalar no_properties Plain (codes "a")) (MoreNodes (Scalar no_properties Plain (codes "b")) NoNode))) ∷ []) (codes "[\n a # x\n ,b]")
 flow_lines =
@@ -61,7 +61,12 @@ flow_collection_key =
 
 pub flow_plain_lines : IsLayoutText most_open (bare (Scalar no_properties Plain (codes "a b\nc")) ∷ []) (codes "a b \n\n c")
 flow_plain_lines =
-    ([], codes "a b \n\n c", (inl refl), ([], codes "a b \n\n c", [], ([], tt, refl), (inl (refl, (refl, refl, (inr (inl ([], codes "a b \n\n c", [], (inr (refl, refl)), (inr ([], codes "a b \n\n c", (inl (refl, refl)), ((codes "a", codes " b \n\n c", (record { some = (λ e. cc); ink = (refl, (λ e f. omega arith), tt); no_comment = (λ e. omega arith); no_lone_dash = (λ e f. apart e) }, refl, (λ e. apart (ap (λ x. same x (codes "-")) e)), (λ e. apart (ap (λ x. same x (codes "?")) e)), (λ e. apart (ap (λ x. same x (codes ":")) e))), ((codes " b" ∷ codes " \n\n c" ∷ []), ((codes " ", codes "b", (inl ((λ e. cc), (refl, tt))), record { some = (λ e. cc); ink = (refl, (λ e f. omega arith), tt); no_comment = (λ e. omega arith); no_lone_dash = (λ e f. apart e) }, refl), ((codes " \n\n ", codes "c", (inr (codes " ", codes "\n", codes " ", (refl, tt), ((codes "\n" ∷ []), (([], (0, omega arith, refl), refl), tt), refl), (1, omega arith, refl), refl)), record { some = (λ e. cc); ink = (refl, (λ e f. omega arith), tt); no_comment = (λ e. omega arith); no_lone_dash = (λ e f. apart e) }, refl), tt)), refl), refl), refl), refl)), (inr (([], [], (0, omega arith, refl), (inl refl), refl), refl)), refl)))))), (inl ([], [], ([], tt, refl), ([], [], (0, omega arith, refl), (inl refl), refl), refl)), refl), refl)
+    ([], codes "a b \n\n c", (inl refl), ([], codes "a b \n\n c", [], ([], tt, refl), (inl (refl, (refl, refl, (inr (inl ([], codes "a b \n\n c", [], (inr (refl, refl)), (inr ([], codes "a b \n\n c", (inl (refl, refl)), ((codes "a", codes " b \n\n c", (record { some = (λ e. cc); ink = (refl, (λ e f. omega arith), tt); no_comment = (λ e. omega arith); no_lone_dash = (λ e f. apart e) }, refl, (λ e. apart (ap (λ x. same x (codes "-")) e)), (λ e. apart (ap (λ x. same x (codes "?")) e)), (λ e. apart (ap (λ x. same x (codes ":")) e))), ((codes " b" ∷ codes " \n\n c" ∷ []), ((codes " ", codes "b", (inl ((λ e. cc), (refl, tt))), record { some = (λ e. cc); ink = (refl, (λ e f. omega arith), tt); no_comment = (λ e. omega arith); no_lone_dash = (λ e f. apart e) }, refl), ((codes " \n\n ", codes "c", (inr (codes " ", codes "\n", codes " ", (refl, tt), ((codes "\n" ∷ []), (([], inl (0, omega arith, refl), refl), tt), refl), (codes " ", [], (1, omega arith, refl), tt, refl), refl)), record { some = (λ e. cc); ink = (refl, (λ e f. omega arith), tt); no_comment = (λ e. omega arith); no_lone_dash = (λ e f. apart e) }, refl), tt)), refl), refl), refl), refl)), (inr (([], [], (0, omega arith, refl), (inl refl), refl), refl)), refl)))))), (inl ([], [], ([], tt, refl), ([], [], (0, omega arith, refl), (inl refl), refl), refl)), refl), refl)
+
+-- blanks before the word of a later line, and on an empty line
+pub flow_plain_tabs : IsLayoutText most_open (bare (Scalar no_properties Plain (codes "a\nb")) ∷ []) (codes "a\n\t\n \tb")
+flow_plain_tabs =
+    ([], codes "a\n\t\n \tb", (inl refl), ([], codes "a\n\t\n \tb", [], ([], tt, refl), (inl (refl, (refl, refl, (inr (inl ([], codes "a\n\t\n \tb", [], (inr (refl, refl)), (inr ([], codes "a\n\t\n \tb", (inl (refl, refl)), ((codes "a", codes "\n\t\n \tb", (record { some = (λ e. cc); ink = (refl, (λ e f. omega arith), tt); no_comment = (λ e. omega arith); no_lone_dash = (λ e f. apart e) }, refl, (λ e. apart (ap (λ x. same x (codes "-")) e)), (λ e. apart (ap (λ x. same x (codes "?")) e)), (λ e. apart (ap (λ x. same x (codes ":")) e))), ((codes "\n\t\n \tb" ∷ []), ((codes "\n\t\n \t", codes "b", (inr ([], codes "\t\n", codes " \t", tt, ((codes "\t\n" ∷ []), ((codes "\t", inr ([], codes "\t", (0, omega arith, refl), (refl, tt), refl), refl), tt), refl), (codes " ", codes "\t", (1, omega arith, refl), (refl, tt), refl), refl)), record { some = (λ e. cc); ink = (refl, (λ e f. omega arith), tt); no_comment = (λ e. omega arith); no_lone_dash = (λ e f. apart e) }, refl), tt), refl), refl), refl), refl)), (inr (([], [], (0, omega arith, refl), (inl refl), refl), refl)), refl)))))), (inl ([], [], ([], tt, refl), ([], [], (0, omega arith, refl), (inl refl), refl), refl)), refl), refl)
 
 pub flow_quoted_lines : IsLayoutText most_open (bare (Seq no_properties (MoreNodes (Scalar no_properties SingleQuoted (codes "it's\nso")) (MoreNodes (Scalar no_properties DoubleQuoted (codes "a b")) NoNode))) ∷ []) (codes "['it''s\n\n so', \"a\n b\"]")
 flow_quoted_lines =

@@ -1,9 +1,9 @@
 -- Nodes in flow style (YAML 1.2.2, 6.9, 7.1, 7.4 and 7.5), in texts whose breaks are line feeds.
 -- `indent` is the first column to the right of the enclosing block collection, and 0 at the root; `in_flow` tells
 -- whether a node stands inside brackets or braces; `room` is how many flow collections may still be opened.
-use Rattle.std.specs.Prelude.{◌≡◌, ◌≢◌, ℕ, suc, ◌⊎◌, Bool, true, false, not, ◌==◌, List, [], ◌++◌, IsTrue, Option, Some, None, codes}
+use Rattle.std.specs.Prelude.{◌≡◌, ◌≢◌, ℕ, suc, ◌⊎◌, Bool, true, false, not, ◌==◌, ◌||◌, List, [], ◌∷◌, ◌++◌, IsTrue, IsFalse, Option, Some, None, codes}
 use Rattle.std.specs.List.{list_all}
-use Rattle.saphyr_input.specs.Classes.{is_blank, tab, line_feed}
+use Rattle.saphyr_input.specs.Classes.{is_blank, is_break, tab, line_feed}
 use Rattle.saphyr_scalar.specs.TagSpelling.{AreIn, IsAnchorName}
 use Rattle.saphyr_scalar.specs.Spaces.{AreSpaces, IsSeparation}
 use Rattle.saphyr_scanner.specs.Forest.{Style, Plain, SingleQuoted, DoubleQuoted, Tag, Properties, no_properties, Node, Alias, Scalar, Seq, Map, Nodes, NoNode, MoreNodes, Pairs, NoPair, MorePairs, left_out}
@@ -87,9 +87,15 @@ IsKeyOnLineAndValue key value K V indent t =
 abbrev pub IsValueAlone : Node → Node → (List ℕ → Type 0) → ℕ → List ℕ → Type 0
 IsValueAlone key value V indent t = (key ≡ left_out) × IsColonAndValue false value V indent t
 
--- the separation behind a `?`; it has no tab
+-- whether a tab stands in separation outside its comments; the first argument tells that a comment goes on
+abbrev pub has_tab_outside : Bool → List ℕ → Bool
+has_tab_outside in_comment [] = false
+has_tab_outside true (c ∷ cs) = has_tab_outside (not (is_break c)) cs
+has_tab_outside false (c ∷ cs) = (c == tab) || has_tab_outside (c == 35) cs
+
+-- the separation behind a `?`; tabs stand in its comments alone
 abbrev pub IsBehindMark : ℕ → List ℕ → Type 0
-IsBehindMark indent t = (t ≢ []) × IsSeparation indent t × AreIn (λ c. not (c == tab)) t
+IsBehindMark indent t = (t ≢ []) × IsSeparation indent t × IsFalse (has_tab_outside false t)
 
 -- 7.4.2: a `?` with a key, a value or both
 abbrev pub IsExplicitPair : Node → Node → (List ℕ → Type 0) → (List ℕ → Type 0) → ℕ → List ℕ → Type 0

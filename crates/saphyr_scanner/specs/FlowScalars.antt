@@ -24,14 +24,18 @@ begins_plain c = not (is_one_of (codes ",[]{}#&*!|>'\"%@`") c)
 abbrev pub IsFirstWord : Bool → List ℕ → Type 0
 IsFirstWord in_flow word = IsWordIn in_flow word × IsTrue (begins_plain (slice_index word 0)) × (word ≢ codes "-") × (word ≢ codes "?") × (word ≢ codes ":")
 
--- 6.4: an empty line, of spaces or none
-abbrev pub IsEmptyLine : List ℕ → Type 0
-IsEmptyLine t = (front : List ℕ) × AreSpaces 0 front × (t ≡ front ++ codes "\n")
+-- 6.3: what stands before the content of a later line: its indentation, and any blanks
+abbrev pub IsLinePrefix : ℕ → List ℕ → Type 0
+IsLinePrefix indent t = (front blanks : List ℕ) × AreSpaces indent front × AreIn is_blank blanks × (t ≡ front ++ blanks)
 
--- 6.5: between words on different lines: blanks, the break, empty lines, and the next line's indentation
+-- 6.4: an empty line, of spaces or none, or of what stands before content
+abbrev pub IsEmptyLine : ℕ → List ℕ → Type 0
+IsEmptyLine indent t = (front : List ℕ) × (AreSpaces 0 front ⊎ IsLinePrefix indent front) × (t ≡ front ++ codes "\n")
+
+-- 6.5: between words on different lines: blanks, the break, empty lines, and what stands before the next line's content
 abbrev pub IsFoldedGap : ℕ → List ℕ → Type 0
 IsFoldedGap indent t =
-    (blanks lines front : List ℕ) × AreIn is_blank blanks × AreMany IsEmptyLine lines × AreSpaces indent front × (t ≡ blanks ++ (codes "\n" ++ (lines ++ front)))
+    (blanks lines front : List ℕ) × AreIn is_blank blanks × AreMany (IsEmptyLine indent) lines × IsLinePrefix indent front × (t ≡ blanks ++ (codes "\n" ++ (lines ++ front)))
 
 -- between two words: some blanks, or a folded break
 abbrev pub IsWordGap : ℕ → List ℕ → Type 0

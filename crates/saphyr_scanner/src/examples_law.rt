@@ -25,6 +25,7 @@ pub fn derives_flow()
     ensures properties_alone { IsLayoutText most_open (bare (Seq no_properties (MoreNodes (Scalar (record { anchor = None; tag = Some (Shorthand Secondary (codes "t")) }) Plain ([])) (MoreNodes (Scalar (record { anchor = Some (codes "x"); tag = Some (Verbatim (codes "u")) }) DoubleQuoted (codes "b")) NoNode))) ∷ []) (codes "[!!t, !<u> &x\t\"b\"]") }
     ensures collection_key { IsLayoutText most_open (bare (Seq no_properties (MoreNodes (Map no_properties (MorePairs (Map no_properties (MorePairs (plain (codes "a")) (plain (codes "b")) NoPair)) (plain (codes "c")) NoPair)) NoNode)) ∷ []) (codes "[ {a: b}:c]") }
     ensures plain_lines { IsLayoutText most_open (bare (plain (codes "a b\nc")) ∷ []) (codes "a b \n\n c") }
+    ensures plain_tabs { IsLayoutText most_open (bare (plain (codes "a\nb")) ∷ []) (codes "a\n\t\n \tb") }
     ensures quoted_lines { IsLayoutText most_open (bare (Seq no_properties (MoreNodes (Scalar no_properties SingleQuoted (codes "it's\nso")) (MoreNodes (double_quoted (codes "a b")) NoNode))) ∷ []) (codes "['it''s\n\n so', \"a\n b\"]") }
     ensures comment_before_colon { IsLayoutText most_open (bare (Map no_properties (MorePairs (double_quoted (codes "a")) (plain (codes "b")) NoPair)) ∷ []) (codes "{\"a\" # c\n :b}") }
 {}

@@ -12,7 +12,7 @@ use Rattle.saphyr_scalar.specs.QuotedLines.{space_count, IsLine, LinesFit}
 use Rattle.saphyr_scalar.specs.TagSpelling.{AreIn}
 use Rattle.saphyr_scalar.specs.Spaces.{joined, AreEach, IsSeparationLine, IsSeparation}
 use Rattle.saphyr_scanner.specs.Forest.{Style, Plain, SingleQuoted, DoubleQuoted, Literal, Folded, Properties, Node, Alias, Scalar, Seq, Map, Nodes, NoNode, MoreNodes, Pairs, NoPair, MorePairs, left_out}
-use Rattle.saphyr_scanner.specs.FlowScalars.{IsWordGap, IsFurtherWord, IsPlain, IsQuoted, IsFlowScalar}
+use Rattle.saphyr_scanner.specs.FlowScalars.{IsLinePrefix, IsEmptyLine, IsWordGap, IsFurtherWord, IsPlain, IsQuoted, IsFlowScalar}
 use Rattle.saphyr_scanner.specs.FlowNodes.{IsOnLine, IsBeforeContent, IsScalarNode, IsColonAndValue, IsKeyAndValue, IsKeyOnLineAndValue, IsValueAlone, IsBehindMark, IsExplicitPair, IsLoneMark, IsBeforeSeparation, IsPairText, IsPair, IsSinglePairText, IsSinglePair, IsComma, IsLastComma, IsOpening, IsFlowNode, AreItems, AreOtherItems, IsPairItem, AreFlowPairs, AreOtherFlowPairs}
 use Rattle.saphyr_scanner.proofs.FlowPlaces.{in_front, in_back}
 
@@ -45,12 +45,18 @@ separation_lowers i j w line h = separation_of_blanks j w (blanks_on_line i w h 
 
 -- ## Scalars
 
+prefix_lowers : (i j : ℕ) → j ≤ i → (t : List ℕ) → IsLinePrefix i t → IsLinePrefix j t
+prefix_lowers i j low t (front, blanks, (n, least, spaced), are, is) = (front, blanks, (n, omega (arith, low, least), spaced), are, is)
+
+empty_lines_lower : (i j : ℕ) → j ≤ i → (ts : List (List ℕ)) → AreEach (IsEmptyLine i) ts → AreEach (IsEmptyLine j) ts
+empty_lines_lower i j low [] h = tt
+empty_lines_lower i j low (t ∷ ts) ((front, inl spaced, is), others) = ((front, inl spaced, is), empty_lines_lower i j low ts others)
+empty_lines_lower i j low (t ∷ ts) ((front, inr prefix, is), others) = ((front, inr (prefix_lowers i j low front prefix), is), empty_lines_lower i j low ts others)
+
 gap_lowers : (i j : ℕ) → j ≤ i → (t : List ℕ) → IsWordGap i t → IsWordGap j t
 gap_lowers i j low t (inl h) = inl h
-gap_lowers i j low t (inr (blanks, lines, front, are, many, (n, least, spaced), is)) = inr (blanks, lines, front, are, many, (n, further n least, spaced), is)
-  where
-    further : (n : ℕ) → i ≤ n → j ≤ n
-    further n h = omega (arith, low, h)
+gap_lowers i j low t (inr (blanks, lines, front, are, (pieces, each, joins), prefix, is)) =
+    inr (blanks, lines, front, are, (pieces, empty_lines_lower i j low pieces each, joins), prefix_lowers i j low front prefix, is)
 
 words_lower : (i j : ℕ) → j ≤ i → (f : Bool) (pieces : List (List ℕ)) → AreEach (IsFurtherWord f i) pieces → AreEach (IsFurtherWord f j) pieces
 words_lower i j low f [] h = tt

@@ -1,4 +1,4 @@
-use Rattle.saphyr_scanner.proofs.LayoutExamples.{flow_sequence, flow_mapping, flow_empty_collections, flow_single_pairs, flow_explicit_pairs, flow_entries, flow_lines, flow_properties, flow_properties_alone, flow_collection_key, flow_plain_lines, flow_quoted_lines, flow_comment_before_colon}
+use Rattle.saphyr_scanner.proofs.LayoutExamples.{flow_sequence, flow_mapping, flow_empty_collections, flow_single_pairs, flow_explicit_pairs, flow_entries, flow_lines, flow_properties, flow_properties_alone, flow_collection_key, flow_plain_lines, flow_plain_tabs, flow_quoted_lines, flow_comment_before_colon}
 use Rattle.saphyr_scanner.proofs.examples_law.derives_flow.Goals as goal
 
 pub returns-clause-sequence : goal.returns-clause-sequence
@@ -39,3 +39,6 @@ returns-clause-quoted_lines c = flow_quoted_lines
 
 pub returns-clause-comment_before_colon : goal.returns-clause-comment_before_colon
 returns-clause-comment_before_colon c = flow_comment_before_colon
+
+pub returns-clause-plain_tabs : goal.returns-clause-plain_tabs
+returns-clause-plain_tabs c = flow_plain_tabs
