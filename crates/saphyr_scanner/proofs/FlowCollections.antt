@@ -24,7 +24,7 @@ use Rattle.saphyr_scanner.proofs.JsonMarks.{level_of}
 use Rattle.saphyr_scanner.proofs.FlowStates.{crosses, IsFresh, Since, Kept, keeping, moved, past, IsParted, IsBehindRoot, Known, Passes, Fits, ended}
 use Rattle.saphyr_scanner.proofs.FlowPlaces.{moved_append}
 use Rattle.saphyr_scanner.proofs.FlowGaps.{past_ink, less_on}
-use Rattle.saphyr_scanner.proofs.FlowFillers.{one_right, rest_past}
+use Rattle.saphyr_scanner.proofs.FlowFillers.{one_right, content_rest_past}
 use Rattle.saphyr_scanner.proofs.FlowSeparates.{separates, separates_rest}
 use Rattle.saphyr_scanner.proofs.FlowJoins.{join, behind}
 use Rattle.saphyr_scanner.proofs.FlowBrackets.{IsMark, open_passes, pending, close_passes}
@@ -46,14 +46,14 @@ ends_inside indent x m o flow h right =
     let p = separates indent (cursor_at o (along m 1) false) h.separation h.first h.others h.is h.parts (one_right indent m.col right) h.ink in
     record { found = p.found; there = p.there; is = p.is; lands = p.lands; fresh = fresh_in_flow x o false p.there flow }
 
-pub ends_root : (indent : ℕ) (m e : Marker) (o : List ℕ) → IsBehindRoot indent e o → EndsAt indent context.Block m o
-ends_root indent m e o h =
+pub ends_root : (indent : ℕ) (m e : Marker) (o : List ℕ) → IsBehindRoot indent e o → indent ≤ m.col → EndsAt indent context.Block m o
+ends_root indent m e o h right =
     let p = separates_rest (cursor_at o (along m 1) false) h.rest h.more h.is h.line h.break in
     record {
       found = p.0;
       there = record { rest = h.more; mark = moved (along m 1) h.rest; blank_so_far = false };
       is = p.1;
-      lands = sym (ap (past indent (along m 1)) h.is ∙ rest_past indent (along m 1) h.rest h.more h.line h.break);
+      lands = sym (ap (past indent (along m 1)) h.is ∙ content_rest_past indent (along m 1) h.rest h.more h.line h.break (one_right indent m.col right));
       fresh = λ _ e. line_rest_crosses h.rest h.more h.line h.break (ap crosses (sym h.is) ∙ e);
     }
 

@@ -96,7 +96,7 @@ quotes_close : Reads → (around : Around) (quote : Quote) (value t o : List ℕ
     → ClosesContent around (style_of quote) value t o m
 quotes_close reads around quote value t o m h fits behind s k a ad ps before text =
     let apart = white_apart (slice_index o 0) (root_first around.indent (moved m t) o behind) in
-    let q = quoted_passes reads around quote value t o m h fits apart s context.Block k [] a ad ps (root_ends_quotes around m (moved m t) o behind) text in
+    let q = quoted_passes reads around quote value t o m h fits apart s context.Block k [] a ad ps (root_ends_quotes around m (moved m t) o behind (quoted_right around.indent quote m value t o h fits.clear fits.right)) text in
     root q (same_low q.adjacent (past around.indent (moved m t) o).0.index q.knows.tells) q.knows.since
 
 -- ## Plain scalars
@@ -127,7 +127,7 @@ plains_close : Reads → (around : Around) (value t o : List ℕ) (m : Marker) �
 plains_close reads around value t o m h fits behind s k a ad ps before text =
     let right = plain_right false around.indent m t o h.0 fits.clear fits.right in
     let end = past around.indent (moved m t) o in
-    let q = plain_closes reads around t o m h.0 fits (ends_at_root around.indent (moved m t) o behind right) (lands_on_ink around.indent end.0 end.1 behind.lands) s k a ad ps before text in
+    let q = plain_closes reads around t o m h.0 fits (ends_at_root around.indent (moved m t) o behind right) (lands_on_ink around.indent end.0 end.1 (behind.lands right)) s k a ad ps before text in
     subst (λ (v : List ℕ). Closes around (state_at around s context.Block k [] a ad ps) k m t ps (moved m t) o (scalar_token Plain v ∷ [])) (sym h.1) q
 
 -- ## The content

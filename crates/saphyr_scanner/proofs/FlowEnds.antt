@@ -7,7 +7,8 @@ use Rattle.saphyr_input.specs.Places.{is_blank_or_break}
 use Rattle.saphyr_scalar.specs.declared.scalar.position.Marker.{Marker}
 use Rattle.saphyr_scalar.specs.BlockRead.{spaces}
 use Rattle.saphyr_scalar.specs.TagSpelling.{AreIn, EndsTag}
-use Rattle.saphyr_scalar.specs.Spaces.{joined, AreEach, IsCommentBehind, IsLineRest, IsSeparationLine, IsSeparation}
+use Rattle.saphyr_scalar.specs.Spaces.{joined, AreEach, IsCommentBehind, IsSeparationLine, IsSeparation}
+use Rattle.saphyr_scanner.specs.BlockNodes.{IsContentRest}
 use Rattle.saphyr_scalar.proofs.Choices.{or_left}
 use Rattle.saphyr_scanner.specs.Forest.{Node}
 use Rattle.saphyr_scanner.specs.FlowNodes.{needs_separation, IsBeforeColon}
@@ -48,10 +49,8 @@ separation_white indent w h = subst BeginsWhite (sym h.4) (two_white h.0 h.1 (su
     pieces [] k = tt
     pieces (v ∷ vs) k = two_white v (joined vs) (line_white indent v k.0) (pieces vs k.1)
 
-rest_white : (rest more : List ℕ) → IsLineRest rest → BeginsWhite more → BeginsWhite (rest ++ more)
-rest_white rest more h k =
-    let front : AreIn is_blank h.0 = subst (AreIn is_blank) (sym h.2.2) (spaces_are_blank h.2.0) in
-    subst BeginsWhite (sym (ap (λ (y : List ℕ). y ++ more) h.4 ∙ append_assoc h.0 h.1 more)) (behind_white h.0 h.1 more (blanks_white h.0 front) h.3 k)
+rest_white : (rest more : List ℕ) → IsContentRest rest → BeginsWhite more → BeginsWhite (rest ++ more)
+rest_white rest more h k = subst BeginsWhite (sym (ap (λ (y : List ℕ). y ++ more) h.4 ∙ append_assoc h.0 h.1 more)) (behind_white h.0 h.1 more (blanks_white h.0 h.2) h.3 k)
 
 -- ## The first character behind a node
 

@@ -8,7 +8,8 @@ use Rattle.saphyr_scalar.specs.Cursor.{Cursor, along, next_line}
 use Rattle.saphyr_scalar.specs.PlainSpelling.{past_white}
 use Rattle.saphyr_scalar.specs.TagSpelling.{AreIn}
 use Rattle.saphyr_scalar.specs.BlockRead.{spaces}
-use Rattle.saphyr_scalar.specs.Spaces.{joined, AreEach, AreMany, AreSpaces, IsComment, IsCommentBehind, IsLineRest, IsLineEnd, IsFillerText, IsFillerLine, IsFiller, IsLastFiller, IsSeparationLine, IsSeparation}
+use Rattle.saphyr_scalar.specs.Spaces.{joined, AreEach, AreMany, AreSpaces, IsComment, IsCommentBehind, IsLineRest, IsLineEnd, IsEol, IsFillerText, IsFillerLine, IsFiller, IsLastFiller, IsSeparationLine, IsSeparation}
+use Rattle.saphyr_scanner.specs.BlockNodes.{IsContentRest, IsContentEnd}
 use Rattle.saphyr_scanner.proofs.FlowStates.{moved, is_left_tab, past, past_comment}
 use Rattle.saphyr_scanner.proofs.FlowPlaces.{moved_append}
 use Rattle.saphyr_scanner.proofs.FlowGaps.{tab_blank, clash}
@@ -131,6 +132,18 @@ behind_is white comment (inr h) = inr h.1
 
 pub rest_past : (column : ℕ) (m : Marker) (rest more : List ℕ) → IsLineRest rest → EndsLine more → past column m (rest ++ more) ≡ past column (moved m rest) more
 rest_past column m rest more h ends = front_past column m rest h.0 h.1 more (are_spaces_past column 0 h.0 h.2 m) (behind_is h.0 h.1 h.3) h.4 ends
+
+-- a line's rest is one behind content
+pub content_rest : (t : List ℕ) → IsLineRest t → IsContentRest t
+content_rest t (front, comment, (n, low, spaced), k, is) = (front, comment, subst (AreIn is_blank) (sym spaced) (spaces_are_blank n), k, is)
+
+pub content_end : (t behind : List ℕ) → IsEol t behind → IsContentEnd t behind
+content_end t behind (inl (rest, h, is)) = inl (rest, content_rest rest h, is)
+content_end t behind (inr (h, none)) = inr (content_rest t h, none)
+
+-- right of a column, blanks and a comment behind content are passed
+pub content_rest_past : (column : ℕ) (m : Marker) (rest more : List ℕ) → IsContentRest rest → EndsLine more → column ≤ m.col → past column m (rest ++ more) ≡ past column (moved m rest) more
+content_rest_past column m rest more h ends right = front_past column m rest h.0 h.1 more (λ y. (blanks_past column h.0 h.2 m right).is y) (behind_is h.0 h.1 h.3) h.4 ends
 
 pub filler_text_past : (column : ℕ) (m : Marker) (t more : List ℕ) → IsFillerText t → EndsLine more → past column m (t ++ more) ≡ past column (moved m t) more
 filler_text_past column m t more h ends = front_past column m t h.0 h.1 more (are_spaces_past column 0 h.0 h.2 m) h.3 h.4 ends

@@ -65,6 +65,7 @@ join_root {ps = ps} {ts = ts} p q late =
       allowed = q.allowed;
       adjacent = q.adjacent;
       comment = q.comment;
+      right = q.right;
       new = p.new ++ q.new;
       leads = rw (← append_assoc ps p.new q.new) (chains p.leads q.leads);
       fits = q.fits;
@@ -76,7 +77,7 @@ join_root {ps = ps} {ts = ts} p q late =
 
 -- a document's node behind which no comment is noted
 pub root : {around : Around} {start : Bool → State} {known : Known} {ps : List Place} {m : Marker} {o : List ℕ} {ts : List Kind} → (p : Passes around start known context.Block [] ps m o ts) → p.adjacent ≤ (past around.indent m o).0.index → {k : Option Candidate} {first : Marker} {t : List ℕ} → Since k first t p.key → Closes around start k first t ps m o ts
-root p low late = record { there = p.there; key = p.key; allowed = p.allowed; adjacent = p.adjacent; comment = None; new = p.new; leads = p.leads; fits = p.fits; are = p.are; low = low; late = late; fresh = p.fresh }
+root p low late = record { there = p.there; key = p.key; allowed = p.allowed; adjacent = p.adjacent; comment = None; new = p.new; leads = p.leads; right = p.right; fits = p.fits; are = p.are; low = low; late = late; fresh = p.fresh }
 
 -- the separation behind a piece
 pub behind : {around : Around} {start : Bool → State} {known : Known} {x : Context} {ls : List Level} {ps : List Place} {ts : List Kind} → (m : Marker) (w o : List ℕ) → IsSeparation around.indent w

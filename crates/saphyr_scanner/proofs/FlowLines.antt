@@ -1,14 +1,16 @@
 -- Ends of lines, filler and the gaps before a document's node.
 use Rattle.std.proofs.Common.{◌≡◌, ℕ, zero, suc, ◌+◌, ◌≤◌, Bool, true, List, [], ◌∷◌, ◌++◌, length, slice_index, inl, inr, refl, sym, ap, ◌∙◌, arith, subst, append_assoc, ◌⊎◌}
 use Rattle.std.proofs.lemmas.Bool.Decides.{nat_tests}
-use Rattle.saphyr_input.specs.Classes.{is_blank_or_breakz, is_breakz}
+use Rattle.saphyr_input.specs.Classes.{is_blank, is_blank_or_breakz, is_breakz}
 use Rattle.saphyr_scalar.specs.declared.scalar.position.Marker.{Marker}
 use Rattle.saphyr_scalar.specs.Cursor.{next_line}
 use Rattle.saphyr_scalar.specs.BlockRead.{spaces}
-use Rattle.saphyr_scalar.specs.Spaces.{joined, AreEach, IsCommentBehind, IsLineRest, IsEol, IsFillerLine, IsFiller, IsGap}
+use Rattle.saphyr_scalar.specs.Spaces.{joined, AreEach, IsCommentBehind, IsFillerLine, IsFiller, IsGap}
+use Rattle.saphyr_scalar.specs.TagSpelling.{AreIn}
+use Rattle.saphyr_scanner.specs.BlockNodes.{IsContentRest, IsContentEnd}
 use Rattle.saphyr_scanner.proofs.FlowStates.{moved, past}
 use Rattle.saphyr_scanner.proofs.FlowPlaces.{moved_append, moved_count}
-use Rattle.saphyr_scanner.proofs.FlowFillers.{IsPast, both_past, are_spaces_past, EndsLine, rest_past, line_end_past, filler_past}
+use Rattle.saphyr_scanner.proofs.FlowFillers.{IsPast, both_past, are_spaces_past, EndsLine, content_rest, line_end_past, filler_past}
 use Rattle.saphyr_scanner.proofs.FlowStands.{AtLine, Lined, Stands, passes_over}
 use Rattle.saphyr_scanner.proofs.InBlock.States.{crosses}
 use Rattle.saphyr_scanner.proofs.InBlock.Lines.{IsLined, one_lined, moved_lined}
@@ -22,7 +24,7 @@ pub record EndsWithLine (m : Marker) (t o : List ℕ) : Type 0 where
   pub rest : List ℕ
   pub more : List ℕ
   pub is : t ≡ rest ++ more
-  pub line : IsLineRest rest
+  pub line : IsContentRest rest
   pub break : EndsLine more
   pub mark : Marker
   pub behind : (column : ℕ) → past column (moved m rest) more ≡ past column mark o
@@ -31,7 +33,7 @@ pub record EndsWithLine (m : Marker) (t o : List ℕ) : Type 0 where
   pub opens : (crosses more ≡ true) ⊎ (o ≡ [])
   pub lined : IsLined m → IsLined mark
 
-whole_line : (m : Marker) (rest o : List ℕ) → IsLineRest rest → EndsWithLine m (rest ++ (10 ∷ o)) o
+whole_line : (m : Marker) (rest o : List ℕ) → IsContentRest rest → EndsWithLine m (rest ++ (10 ∷ o)) o
 whole_line m rest o h =
     let c = moved_count m rest (10 ∷ o) in
     record { rest = rest; more = 10 ∷ o; is = refl; line = h; break = inr refl; mark = next_line (moved m rest) 1; behind = λ column. refl; count = further (moved m rest).index (length o) c; place = inl refl; opens = inl refl; lined = λ h. one_lined (moved m rest) 10 (moved_lined m rest h) }
@@ -39,15 +41,12 @@ whole_line m rest o h =
     further : {n : ℕ} (i l : ℕ) → i + suc l ≡ n → i + 1 + l ≡ n
     further i l e = omega (arith, e)
 
-last_line : (m : Marker) (rest : List ℕ) → IsLineRest rest → EndsWithLine m (rest ++ []) []
+last_line : (m : Marker) (rest : List ℕ) → IsContentRest rest → EndsWithLine m (rest ++ []) []
 last_line m rest h = record { rest = rest; more = []; is = refl; line = h; break = inl refl; mark = moved m rest; behind = λ column. refl; count = moved_count m rest []; place = inr refl; opens = inr refl; lined = λ h. moved_lined m rest h }
 
-pub eol : (m : Marker) (end o : List ℕ) → IsEol end o → EndsWithLine m (end ++ o) o
+pub eol : (m : Marker) (end o : List ℕ) → IsContentEnd end o → EndsWithLine m (end ++ o) o
 eol m end o (inl h) = subst (λ (t : List ℕ). EndsWithLine m t o) (sym (ap (λ (x : List ℕ). x ++ o) h.2 ∙ append_assoc h.0 (10 ∷ []) o)) (whole_line m h.0 o h.1)
 eol m end o (inr h) = subst (λ (z : List ℕ). EndsWithLine m (end ++ z) z) (sym h.1) (last_line m end h.0)
-
-pub eol_past : (column : ℕ) (m : Marker) (t o : List ℕ) (e : EndsWithLine m t o) → past column m t ≡ past column e.mark o
-eol_past column m t o e = ap (past column m) e.is ∙ rest_past column m e.rest e.more e.line e.break ∙ e.behind column
 
 pub break_ends : (more : List ℕ) → EndsLine more → is_breakz (slice_index more 0) ≡ true
 break_ends more (inl e) = ap (λ (t : List ℕ). is_breakz (slice_index t 0)) e
@@ -58,14 +57,16 @@ break_ends more (inr e) = ap is_breakz e
 breakz_parts : (c : ℕ) → is_breakz c ≡ true → is_blank_or_breakz c ≡ true
 breakz_parts c h = grind (arith, nat_tests)
 
-pub rest_first : (rest more : List ℕ) → IsLineRest rest → EndsLine more → is_blank_or_breakz (slice_index (rest ++ more) 0) ≡ true
-rest_first rest more h ends =
-    subst (λ (x : List ℕ). is_blank_or_breakz (slice_index (x ++ more) 0) ≡ true) (sym h.4) (by_front h.2.0 h.0 h.1 h.2.2 h.3)
+blank_parts : (c : ℕ) → is_blank c ≡ true → is_blank_or_breakz c ≡ true
+blank_parts c h = grind (arith, nat_tests)
+
+pub rest_first : (rest more : List ℕ) → IsContentRest rest → EndsLine more → is_blank_or_breakz (slice_index (rest ++ more) 0) ≡ true
+rest_first rest more (front, comment, are, k, is) ends = subst (λ (x : List ℕ). is_blank_or_breakz (slice_index (x ++ more) 0) ≡ true) (sym is) (by_front front are k)
   where
-    by_front : (n : ℕ) (front comment : List ℕ) → front ≡ spaces n → IsCommentBehind front comment → is_blank_or_breakz (slice_index ((front ++ comment) ++ more) 0) ≡ true
-    by_front zero front comment e (inl f) = rw (e, f) (breakz_parts (slice_index more 0) (break_ends more ends))
-    by_front zero front comment e (inr f) = absurd (f.0 e)
-    by_front (suc n) front comment e h = rw e refl
+    by_front : (front : List ℕ) → AreIn is_blank front → IsCommentBehind front comment → is_blank_or_breakz (slice_index ((front ++ comment) ++ more) 0) ≡ true
+    by_front [] are (inl f) = rw f (breakz_parts (slice_index more 0) (break_ends more ends))
+    by_front [] are (inr f) = absurd (f.0 refl)
+    by_front (c ∷ cs) are h = blank_parts c are.0
 
 pub eol_first : (m : Marker) (t o : List ℕ) → EndsWithLine m t o → is_blank_or_breakz (slice_index t 0) ≡ true
 eol_first m t o e = subst (λ (x : List ℕ). is_blank_or_breakz (slice_index x 0) ≡ true) (sym e.is) (rest_first e.rest e.more e.line e.break)
@@ -80,7 +81,7 @@ gap_first w y (inr h) =
     let line = h.3 in
     let text : w ++ y ≡ line.0 ++ (10 ∷ ((h.1 ++ h.2) ++ y)) =
     ap (λ (x : List ℕ). x ++ y) (h.6 ∙ ap (λ (x : List ℕ). x ++ (h.1 ++ h.2)) line.2 ∙ append_assoc line.0 (10 ∷ []) (h.1 ++ h.2)) ∙ append_assoc line.0 (10 ∷ (h.1 ++ h.2)) y in
-    subst (λ (x : List ℕ). is_blank_or_breakz (slice_index x 0) ≡ true) (sym text) (rest_first line.0 (10 ∷ ((h.1 ++ h.2) ++ y)) line.1 (inr refl))
+    subst (λ (x : List ℕ). is_blank_or_breakz (slice_index x 0) ≡ true) (sym text) (rest_first line.0 (10 ∷ ((h.1 ++ h.2) ++ y)) (content_rest line.0 line.1) (inr refl))
 
 -- ## Gaps and filler are passed
 

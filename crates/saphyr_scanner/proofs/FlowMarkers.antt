@@ -15,7 +15,7 @@ use Rattle.saphyr_scanner.specs.Tokens.{Kind}
 use Rattle.saphyr_scanner.specs.Seen.{Piece}
 use Rattle.saphyr_scanner.specs.Queue.{Place, closed}
 use Rattle.saphyr_scanner.specs.Core.{Candidate, remove_key}
-use Rattle.saphyr_scalar.specs.Spaces.{IsEol}
+use Rattle.saphyr_scanner.specs.BlockNodes.{IsContentEnd}
 use Rattle.saphyr_scanner.specs.Passing.{with_cursor}
 use Rattle.saphyr_scanner.specs.State.{separated}
 use Rattle.saphyr_scanner.specs.State.{State}
@@ -132,7 +132,7 @@ end_count m n r o limit h e = omega (arith, h, e)
 end_further : (m n : Marker) (end o : List ℕ) → n.index + length o ≡ m.index + 3 + length (end ++ o) → m.index ≤ n.index
 end_further m n end o e = let all = length-append end o in omega (arith, e, all)
 
-pub reads_end : {limit : ℕ} {start : State} {free opened : Bool} {ts : List Kind} (end o : List ℕ) → Stands limit start free (Lined opened (46 ∷ 46 ∷ 46 ∷ (end ++ o))) (46 ∷ 46 ∷ 46 ∷ (end ++ o)) ts → IsEol end o
+pub reads_end : {limit : ℕ} {start : State} {free opened : Bool} {ts : List Kind} (end o : List ℕ) → Stands limit start free (Lined opened (46 ∷ 46 ∷ 46 ∷ (end ++ o))) (46 ∷ 46 ∷ 46 ∷ (end ++ o)) ts → IsContentEnd end o
     → Stands limit start true (Lined true o) o (ts ++ tokens.DocumentEnd ∷ [])
 reads_end {limit = limit} end o v h =
     let r = end ++ o in

@@ -179,7 +179,7 @@ all_room = omega arith
 sequence_closes : {around : Around} → Reads → (p : Properties) (nodes : Nodes) → ((left : ℕ) → PassesItems around left nodes) → around.required ≡ false → ClosesNode around (Seq p nodes)
 sequence_closes {around} reads p nodes items none_required m t o h fits behind s k a ad ps before text =
     let low = at_ink around.indent m t o ad (node_ink around.indent 255 (Seq p nodes) false t h) before in
-    let c = sequence_run reads 255 p nodes false items m t o h fits s context.Block k [] a ad ps (λ e right. ends_root around.indent e (moved m t) o behind) all_room (calm_at_root around fits.calm none_required) low text in
+    let c = sequence_run reads 255 p nodes false items m t o h fits s context.Block k [] a ad ps (λ e right. ends_root around.indent e (moved m t) o behind right) all_room (calm_at_root around fits.calm none_required) low text in
     record {
       tokens = c.properties ++ (tokens.FlowSequenceStart ∷ (c.inside ++ tokens.FlowSequenceEnd ∷ []));
       are = (c.properties, tokens.FlowSequenceStart ∷ (c.inside ++ tokens.FlowSequenceEnd ∷ []), c.are_properties, inl (c.inside, c.are, refl), refl);
@@ -189,7 +189,7 @@ sequence_closes {around} reads p nodes items none_required m t o h fits behind s
 mapping_closes : {around : Around} → Reads → (p : Properties) (pairs : Pairs) → ((left : ℕ) → PassesPairs around left pairs) → around.required ≡ false → ClosesNode around (Map p pairs)
 mapping_closes {around} reads p pairs members none_required m t o h fits behind s k a ad ps before text =
     let low = at_ink around.indent m t o ad (node_ink around.indent 255 (Map p pairs) false t h) before in
-    let c = mapping_run reads 255 p pairs false members m t o h fits s context.Block k [] a ad ps (λ e right. ends_root around.indent e (moved m t) o behind) all_room (calm_at_root around fits.calm none_required) low text in
+    let c = mapping_run reads 255 p pairs false members m t o h fits s context.Block k [] a ad ps (λ e right. ends_root around.indent e (moved m t) o behind right) all_room (calm_at_root around fits.calm none_required) low text in
     record {
       tokens = c.properties ++ (tokens.FlowMappingStart ∷ (c.inside ++ tokens.FlowMappingEnd ∷ []));
       are = (c.properties, tokens.FlowMappingStart ∷ (c.inside ++ tokens.FlowMappingEnd ∷ []), c.are_properties, inl (c.inside, c.are, refl), refl);

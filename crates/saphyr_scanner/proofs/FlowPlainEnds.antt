@@ -131,10 +131,10 @@ ends_in_flow column node m o apart h right =
 -- outside flow
 pub ends_at_root : (column : ℕ) (m : Marker) (o : List ℕ) → IsBehindRoot column m o → column ≤ m.col → EndsPlain false column m o
 ends_at_root column m o h right =
-    record { stops = stops (reaches column m o inked) h.lands; apart = other (slice_index o 0) (root_first column m o h); tabs = inr (tabs_behind column m o inked) }
+    record { stops = stops (reaches column m o inked) (h.lands right); apart = other (slice_index o 0) (root_first column m o h); tabs = inr (tabs_behind column m o inked) }
   where
     inked : is_blank (slice_index (past column m o).1 0) ≡ false
-    inked = lands_on_ink column (past column m o).0 (past column m o).1 h.lands
+    inked = lands_on_ink column (past column m o).0 (past column m o).1 (h.lands right)
 
     other : (c : ℕ) → IsTrue (is_blank_or_breakz c) → c ≢ 35
     other c k e = absurd (false≢true (subst (λ (d : ℕ). IsTrue (is_blank_or_breakz d)) e k))

@@ -254,6 +254,7 @@ plain_closes reads around t o m h fits ends inked s k a ad ps before text =
       comment = comment_of false false u;
       new = new;
       leads = came.leads;
+      right = plain_right false around.indent m t o h fits.clear fits.right;
       fits = lands;
       are = refl;
       low = behind_low around.indent ad m t o before;

@@ -29,7 +29,7 @@ use Rattle.saphyr_scanner.proofs.JsonStates.{cursor_at}
 use Rattle.saphyr_scanner.proofs.JsonMarks.{saved}
 use Rattle.saphyr_scanner.proofs.FlowStates.{keeping, moved, past, crosses, IsClear, IsInk, EndsNode, IsBehindNode, IsBehindRoot, Reads, Passes, Fits}
 use Rattle.saphyr_scanner.proofs.FlowGaps.{clash, past_again, past_ink}
-use Rattle.saphyr_scanner.proofs.FlowFillers.{EndsLine, rest_past, separation_past}
+use Rattle.saphyr_scanner.proofs.FlowFillers.{EndsLine, content_rest_past, separation_past}
 use Rattle.saphyr_scanner.proofs.FlowArrivals.{PassesGap, passes_gap}
 use Rattle.saphyr_scanner.proofs.FlowSeparates.{separates, separates_rest}
 use Rattle.saphyr_scanner.proofs.FlowTokens.{Begins, after_token, token_passes}
@@ -89,16 +89,16 @@ flow_ends_quotes around node start m o x flow h right =
     first rest e (inl k) = break_entry (slice_index rest 0) k
     first rest e (inr k) = rw k e
 
-pub root_ends_quotes : (around : Around) (start m : Marker) (o : List ℕ) → IsBehindRoot around.indent m o → EndsQuotes around start (at m o) context.Block
-root_ends_quotes around start m o h =
+pub root_ends_quotes : (around : Around) (start m : Marker) (o : List ℕ) → IsBehindRoot around.indent m o → around.indent ≤ m.col → EndsQuotes around start (at m o) context.Block
+root_ends_quotes around start m o h right =
     let p = separates_rest (at m o) h.rest h.more h.is h.line h.break in
     let there : Cursor = record { rest = h.more; mark = moved m h.rest; blank_so_far = false } in
     record {
       found = p.0;
       there = there;
       is = p.1;
-      lands = sym (ap (past around.indent m) h.is ∙ rest_past around.indent m h.rest h.more h.line h.break);
-      inked = lands_on_ink around.indent (past around.indent m o).0 (past around.indent m o).1 h.lands;
+      lands = sym (ap (past around.indent m) h.is ∙ content_rest_past around.indent m h.rest h.more h.line h.break right);
+      inked = lands_on_ink around.indent (past around.indent m o).0 (past around.indent m o).1 (h.lands right);
       stays = λ _ e. line_rest_crosses h.rest h.more h.line h.break (ap crosses (sym h.is) ∙ e);
       goes = λ d k ls a ad. goes_at_root around d start there k ls a ad (first h.more h.break);
     }

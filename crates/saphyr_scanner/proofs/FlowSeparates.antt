@@ -13,7 +13,8 @@ use Rattle.saphyr_scalar.specs.declared.scalar.position.Marker.{Marker}
 use Rattle.saphyr_scalar.specs.Cursor.{Cursor, along, pass_blanks, separation, behind_separation}
 use Rattle.saphyr_scalar.specs.TagSpelling.{AreIn}
 use Rattle.saphyr_scalar.specs.BlockRead.{spaces}
-use Rattle.saphyr_scalar.specs.Spaces.{joined, AreEach, IsComment, IsCommentBehind, IsLineRest, IsSeparationLine, IsSeparation}
+use Rattle.saphyr_scalar.specs.Spaces.{joined, AreEach, IsComment, IsCommentBehind, IsSeparationLine, IsSeparation}
+use Rattle.saphyr_scanner.specs.BlockNodes.{IsContentRest}
 use Rattle.saphyr_scalar.proofs.Runs.{run_len}
 use Rattle.saphyr_scanner.proofs.JsonGaps.{separated}
 use Rattle.saphyr_scanner.proofs.FlowStates.{moved, past, IsInk}
@@ -147,11 +148,10 @@ line_rest s blanks comment more is are k ends =
           ∙ ap (λ (m : Marker). Ok (let t : SkipTabs × Cursor = (found_blanks Yes s.rest, record { rest = more; mark = m; blank_so_far = s.blank_so_far }) in t)) (sym mark),
     )
 
-pub separates_rest : (s : Cursor) (rest more : List ℕ) → s.rest ≡ rest ++ more → IsLineRest rest → EndsLine more
+pub separates_rest : (s : Cursor) (rest more : List ℕ) → s.rest ≡ rest ++ more → IsContentRest rest → EndsLine more
     → (found : SkipTabs) × (separation Yes s ≡ Ok (found, record { rest = more; mark = moved s.mark rest; blank_so_far = s.blank_so_far }))
-separates_rest s rest more is (front, comment, (n, low, spaces_are), k, e) ends =
+separates_rest s rest more is (front, comment, blank, k, e) ends =
     let text : s.rest ≡ front ++ (comment ++ more) = is ∙ ap (λ (t : List ℕ). t ++ more) e ∙ append_assoc front comment more in
-    let blank : AreIn is_blank front = subst (AreIn is_blank) (sym spaces_are) (spaces_are_blank n) in
     let r = line_rest s front comment more text blank k ends in
     (r.0, r.1 ∙ ap (λ (t : List ℕ). Ok (let u : SkipTabs × Cursor = (r.0, record { rest = more; mark = moved s.mark t; blank_so_far = s.blank_so_far }) in u)) (sym e))
 

@@ -25,7 +25,7 @@ use Rattle.saphyr_scalar.specs.DirectiveSpelling.{IsDirectiveText, IsReservedDir
 use Rattle.saphyr_scalar.specs.declared.reading.folding.Item.{Item}
 use Rattle.saphyr_scalar.specs.declared.reading.flow.Quote.{Quote}
 use Rattle.saphyr_scalar.specs.TagSpelling.{AreIn, IsAnchorName, IsTagText, EndsTag}
-use Rattle.saphyr_scalar.specs.Spaces.{IsLineRest, IsSeparation}
+use Rattle.saphyr_scalar.specs.Spaces.{IsSeparation}
 use Rattle.saphyr_scanner.specs.declared.engine.level.Context.{Context}
 use Rattle.saphyr_scanner.specs.declared.engine.level.Context.TheVariants as context
 use Rattle.saphyr_scanner.specs.Tokens.{Kind}
@@ -35,6 +35,7 @@ use Rattle.saphyr_scanner.specs.Queue.{Place, closed}
 use Rattle.saphyr_scanner.specs.Core.{Candidate, Level, is_block}
 use Rattle.saphyr_scanner.specs.State.{State}
 use Rattle.saphyr_scanner.specs.Forest.{Properties, Node}
+use Rattle.saphyr_scanner.specs.BlockNodes.{IsContentRest}
 use Rattle.saphyr_scanner.specs.FlowNodes.{IsBeforeColon, allows_adjacent, IsFlowNode}
 use Rattle.saphyr_scanner.proofs.InFlow.States.{Around, state_at, Runs}
 use Rattle.saphyr_scanner.proofs.JsonMarks.{kinds, saved}
@@ -153,9 +154,9 @@ pub record IsBehindRoot (indent : ℕ) (m : Marker) (o : List ℕ) : Type 0 wher
   pub rest : List ℕ
   pub more : List ℕ
   pub is : o ≡ rest ++ more
-  pub line : IsLineRest rest
+  pub line : IsContentRest rest
   pub break : (more ≡ []) ⊎ (slice_index more 0 ≡ line_feed)
-  pub lands : EndsDocument (past indent m o).0 (past indent m o).1 ⊎ IsLeft indent (past indent m o).0 (past indent m o).1
+  pub lands : indent ≤ m.col → EndsDocument (past indent m o).0 (past indent m o).1 ⊎ IsLeft indent (past indent m o).0 (past indent m o).1
 
 -- A piece that is clear, within the limit, and right of the block collection around it, where no key is required.
 pub record Fits (around : Around) (m : Marker) (p o : List ℕ) : Type 0 where
@@ -238,6 +239,7 @@ pub record Closes (around : Around) (start : Bool → State) (k : Option Candida
   pub comment : Option Marker
   pub new : List Place
   pub leads : Runs around (λ d. noted comment (state_at around there context.Block key [] allowed adjacent (ps ++ new) d)) start
+  pub right : around.indent ≤ m.col
   pub fits : past around.indent there.mark there.rest ≡ past around.indent m o
   pub are : kinds new ≡ ts
   pub low : adjacent ≤ (past around.indent m o).0.index

@@ -4,14 +4,15 @@ use Rattle.saphyr_input.specs.Classes.{byte_order_mark}
 use Rattle.saphyr_scalar.specs.BlockRead.{spaces}
 use Rattle.saphyr_scalar.specs.PlainSpelling.{is_word_ink}
 use Rattle.saphyr_scalar.specs.TagSpelling.{AreIn}
-use Rattle.saphyr_scalar.specs.Spaces.{IsEol, IsFiller, IsFillerText}
+use Rattle.saphyr_scalar.specs.Spaces.{IsFiller, IsFillerText}
 use Rattle.saphyr_scanner.specs.Forest.{Style, Plain, SingleQuoted, DoubleQuoted, Literal, Folded, Properties, Node, Alias, Scalar, Seq, Map, Nodes, NoNode, MoreNodes, Pairs, NoPair, MorePairs, left_out, Directive, Version, TagPrefix, Reserved, Document, Forest}
 use Rattle.saphyr_scanner.specs.FlowScalars.{IsFirstWord, IsFlowScalar}
 use Rattle.saphyr_scanner.specs.FlowNodes.{IsScalarNode, IsOpening, IsFlowNode}
-use Rattle.saphyr_scanner.specs.BlockNodes.{Place, BehindDash, AtStart, BehindMarker, IsLead, IsFlowInBlock, IsStyled, IsScalarInBlock, IsBlockNode, AreEntries, ArePairs}
+use Rattle.saphyr_scanner.specs.BlockNodes.{Place, BehindDash, AtStart, BehindMarker, IsLead, IsContentEnd, IsFlowInBlock, IsStyled, IsScalarInBlock, IsBlockNode, AreEntries, ArePairs}
 use Rattle.saphyr_scanner.specs.Layout.{IsDirective, AreDirectives, has_marker, IsExplicitDocument, IsDocument, IsBehindDocument, AreDocuments, IsLayoutText}
 use Rattle.saphyr_scanner.proofs.Beginnings.{heads, tails, Begins, front_of, behind_in, before_in, lacks, IsFirst, no_first, filler_text, behind_filler}
 use Rattle.saphyr_scanner.proofs.LayoutRefused.{properties, IsMark}
+use Rattle.saphyr_scanner.proofs.FlowFillers.{content_end}
 
 abbrev is : ℕ → ℕ → Bool
 is c x = x == c
@@ -22,7 +23,7 @@ IsAll c t = AreIn (is c) t
 
 -- ## Text of dashes alone, before another dash, is no node
 
-no_eol : (t behind : List ℕ) → IsEol t behind → behind ≢ [] → IsAll 45 t → ⊥
+no_eol : (t behind : List ℕ) → IsContentEnd t behind → behind ≢ [] → IsAll 45 t → ⊥
 no_eol t behind (inl (rest, r, e)) n h = lacks (is 45) 10 t rest [] refl e h
 no_eol t behind (inr (r, e)) n h = n e
 
@@ -61,7 +62,7 @@ no_lead p column least m t (inr (e, (suc n, l, f, g))) h = lacks (is 45) 32 t []
 -- behind a dash
 no_entry : (room : ℕ) (x : Node) (column : ℕ) (t behind : List ℕ) → IsBlockNode room x (BehindDash column) t behind → behind ≢ [] → IsAll 45 t → ⊥
 no_entry room (Alias name) column t behind h n i = no_flow room (Alias name) (BehindDash column) t behind h n i
-no_entry room (Scalar p style value) column t behind (inl (e, s, l)) n i = no_eol t behind l n i
+no_entry room (Scalar p style value) column t behind (inl (e, s, l)) n i = no_eol t behind (content_end t behind l) n i
 no_entry room (Scalar p style value) column t behind (inr (inl h)) n i = no_flow room (Scalar p style value) (BehindDash column) t behind h n i
 no_entry room (Scalar p style value) column t behind (inr (inr h)) n i = no_scalar 45 p style value (BehindDash column) t behind refl refl h i
 no_entry room (Seq p nodes) column t behind (inl h) n i = no_flow room (Seq p nodes) (BehindDash column) t behind h n i
@@ -81,7 +82,7 @@ no_entries room (MoreNodes x nodes) m t behind (entry, others, h, o, e) n i =
 -- at the start of a bare document
 no_bare : (room : ℕ) (x : Node) (t behind : List ℕ) → IsBlockNode room x AtStart t behind → behind ≢ [] → IsAll 45 t → ⊥
 no_bare room (Alias name) t behind h n i = no_flow room (Alias name) AtStart t behind h n i
-no_bare room (Scalar p style value) t behind (inl (e, s, l)) n i = no_eol t behind l n i
+no_bare room (Scalar p style value) t behind (inl (e, s, l)) n i = no_eol t behind (content_end t behind l) n i
 no_bare room (Scalar p style value) t behind (inr (inl h)) n i = no_flow room (Scalar p style value) AtStart t behind h n i
 no_bare room (Scalar p style value) t behind (inr (inr h)) n i = no_scalar 45 p style value AtStart t behind refl refl h i
 no_bare room (Seq p nodes) t behind (inl h) n i = no_flow room (Seq p nodes) AtStart t behind h n i

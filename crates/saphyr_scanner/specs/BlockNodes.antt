@@ -1,6 +1,7 @@
 -- Nodes in block style (YAML 1.2.2, chapter 8), in texts whose breaks are line feeds.
 -- `behind` is what stands behind a piece, up to the text's end; `room` is how many flow collections may be open at once.
 use Rattle.std.specs.Prelude.{◌≡◌, ◌≢◌, ℕ, suc, ◌+◌, ◌<◌, ◌≤◌, ◌⊎◌, Bool, true, false, List, [], ◌∷◌, ◌++◌, length, IsTrue, IsFalse, codes}
+use Rattle.saphyr_input.specs.Classes.{is_blank}
 use Rattle.saphyr_input.specs.Places.{is_document_indicator}
 use Rattle.saphyr_scalar.specs.declared.reading.block.BlockStyle.{BlockStyle}
 use Rattle.saphyr_scalar.specs.declared.reading.block.BlockStyle.TheVariants as block
@@ -8,7 +9,8 @@ use Rattle.saphyr_scalar.specs.declared.reading.block.Chomping.{Chomping}
 use Rattle.saphyr_scalar.specs.BlockReading.{Line, lines_value}
 use Rattle.saphyr_scalar.specs.BlockRead.{spaces}
 use Rattle.saphyr_scalar.specs.BlockSpelling.{IsBlockScalar}
-use Rattle.saphyr_scalar.specs.Spaces.{AreSpaces, IsLineEnd, IsEol, IsFiller, IsGap}
+use Rattle.saphyr_scalar.specs.Spaces.{AreSpaces, IsCommentBehind, IsLineEnd, IsEol, IsFiller, IsGap}
+use Rattle.saphyr_scalar.specs.TagSpelling.{AreIn}
 use Rattle.saphyr_scanner.specs.Forest.{Style, Literal, Folded, Properties, no_properties, Node, Alias, Scalar, Seq, Map, Nodes, NoNode, MoreNodes, Pairs, NoPair, MorePairs, left_out}
 use Rattle.saphyr_scanner.specs.FlowNodes.{IsProperties, IsOnLine, IsBeforeColon, IsFlowNode}
 
@@ -79,10 +81,18 @@ IsLead p place least m t = IsNextLineLead p place least m t ⊎ ((p ≡ no_prope
 abbrev pub IsLeftOut : Node → Place → List ℕ → List ℕ → Type 0
 IsLeftOut node place t behind = (node ≡ left_out) × IsFalse (is_start place) × IsEol t behind
 
+-- 6.6: what may stand behind content on its line: blanks, and behind some blanks a comment
+abbrev pub IsContentRest : List ℕ → Type 0
+IsContentRest t = (blanks comment : List ℕ) × AreIn is_blank blanks × IsCommentBehind blanks comment × (t ≡ blanks ++ comment)
+
+-- the end of such a line before `behind`: the last line may lack its break
+abbrev pub IsContentEnd : List ℕ → List ℕ → Type 0
+IsContentEnd t behind = ((rest : List ℕ) × IsContentRest rest × (t ≡ rest ++ codes "\n")) ⊎ (IsContentRest t × (behind ≡ []))
+
 -- 8.2.3: a node in flow style, up to the end of its line
 abbrev pub IsFlowInBlock : ℕ → Node → Place → List ℕ → List ℕ → Type 0
 IsFlowInBlock room node place t behind =
-    (gap text end : List ℕ) × IsGapAt place gap × IsFlowNode room node false (indent_at place) text × IsEol end behind × (t ≡ gap ++ (text ++ end))
+    (gap text end : List ℕ) × IsGapAt place gap × IsFlowNode room node false (indent_at place) text × IsContentEnd end behind × (t ≡ gap ++ (text ++ end))
 
 -- What may follow the lines of a block scalar whose content begins at column i: nothing, a document marker, a line left of
 -- the scalar, or a comment left of the content.

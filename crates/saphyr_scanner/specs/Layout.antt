@@ -4,10 +4,10 @@ use Rattle.saphyr_input.specs.Breaks.{normalized}
 use Rattle.saphyr_input.specs.Classes.{byte_order_mark, line_feed}
 use Rattle.saphyr_input.specs.Places.{is_document_indicator}
 use Rattle.saphyr_scalar.specs.DirectiveSpelling.{IsVersionDirective, IsTagDirective, IsReservedDirective, IsLineTail}
-use Rattle.saphyr_scalar.specs.Spaces.{IsEol, IsFiller, IsLastFiller}
+use Rattle.saphyr_scalar.specs.Spaces.{IsFiller, IsLastFiller}
 use Rattle.saphyr_scanner.specs.Forest.{Directive, Version, TagPrefix, Reserved, AreCompatible, bare, Node, Document, Forest}
 use Rattle.saphyr_scanner.specs.TagSpelling.{IsHandle}
-use Rattle.saphyr_scanner.specs.BlockNodes.{Place, AtStart, BehindMarker, IsBlockNode}
+use Rattle.saphyr_scanner.specs.BlockNodes.{Place, AtStart, BehindMarker, IsContentEnd, IsBlockNode}
 
 -- ## 6.8: directives
 
@@ -55,7 +55,7 @@ IsDocumentPrefix t = (t ≡ []) ⊎ ((filler : List ℕ) × IsFiller filler × (
 -- 9.1.2: a `...` line behind filler, and behind it what may stand before a document
 abbrev pub IsDocumentSuffix : List ℕ → List ℕ → Type 0
 IsDocumentSuffix t behind =
-    (filler end prefix : List ℕ) × IsFiller filler × IsEol end (prefix ++ behind) × IsDocumentPrefix prefix × (t ≡ filler ++ (codes "..." ++ (end ++ prefix)))
+    (filler end prefix : List ℕ) × IsFiller filler × IsContentEnd end (prefix ++ behind) × IsDocumentPrefix prefix × (t ≡ filler ++ (codes "..." ++ (end ++ prefix)))
 
 -- behind a document: what Others tells, or a `...` line first
 abbrev pub IsBehindDocument : (Bool → List ℕ → Type 0) → List ℕ → Type 0

@@ -8,8 +8,9 @@ use Rattle.saphyr_scalar.specs.BlockRead.{spaces}
 use Rattle.saphyr_scalar.specs.Cursor.{Cursor, along, next_line}
 use Rattle.saphyr_scalar.specs.Plain.{ends_line}
 use Rattle.saphyr_scalar.specs.PlainSpelling.{past_white}
-use Rattle.saphyr_scalar.specs.Spaces.{AreEach, joined, IsLineRest, IsSeparation, IsSeparationLine}
+use Rattle.saphyr_scalar.specs.Spaces.{AreEach, joined, IsSeparation, IsSeparationLine}
 use Rattle.saphyr_scalar.specs.TagSpelling.{AreIn}
+use Rattle.saphyr_scanner.specs.BlockNodes.{IsContentRest}
 use Rattle.saphyr_scanner.specs.declared.engine.level.Context.{Context}
 use Rattle.saphyr_scanner.specs.Core.{is_block}
 use Rattle.saphyr_scanner.proofs.FlowStates.{crosses, IsFresh}
@@ -47,12 +48,16 @@ feed_crosses [] e = absurd (cc)
 feed_crosses (c ∷ cs) e = rw e refl
 
 -- behind the rest of a line its break is still ahead
-pub line_rest_crosses : (rest more : List ℕ) → IsLineRest rest → EndsLine more → crosses (rest ++ more) ≡ true → crosses more ≡ true
+pub line_rest_crosses : (rest more : List ℕ) → IsContentRest rest → EndsLine more → crosses (rest ++ more) ≡ true → crosses more ≡ true
 line_rest_crosses rest more h (inr feed) e = feed_crosses more feed
-line_rest_crosses rest more (front, comment, (n, low, spaced), k, is) (inl none) e =
-    let text : rest ++ more ≡ spaces n ++ (comment ++ []) =
-    ap (λ (t : List ℕ). rest ++ t) none ∙ ap (λ (t : List ℕ). t ++ []) (is ∙ ap (λ (t : List ℕ). t ++ comment) spaced) ∙ append_assoc (spaces n) comment [] in
-    absurd (clash (crosses (rest ++ more)) e (ap crosses text ∙ last_crosses n comment (maybe front comment k)))
+line_rest_crosses rest more (blanks, comment, are, k, is) (inl none) e =
+    let text : rest ++ more ≡ blanks ++ (comment ++ []) = ap (λ (t : List ℕ). rest ++ t) none ∙ ap (λ (t : List ℕ). t ++ []) is ∙ append_assoc blanks comment [] in
+    absurd (clash (crosses (rest ++ more)) e (ap crosses text ∙ blanks_cross blanks (comment ++ []) are ∙ last_crosses 0 comment (maybe blanks comment k)))
+
+-- a break stands at the end of a line
+pub content_crosses : (rest o : List ℕ) → IsContentRest rest → crosses (rest ++ (10 ∷ o)) ≡ true
+content_crosses rest o (blanks, comment, are, k, is) =
+    ap crosses (ap (λ (t : List ℕ). t ++ (10 ∷ o)) is ∙ append_assoc blanks comment (10 ∷ o)) ∙ blanks_cross blanks (comment ++ (10 ∷ o)) are ∙ comment_crosses comment o (maybe blanks comment k)
 
 -- ## Behind a plain scalar
 

@@ -6,11 +6,10 @@ use Rattle.std.proofs.lemmas.List.{length-append}
 use Rattle.saphyr_input.specs.Classes.{is_z}
 use Rattle.saphyr_input.specs.Places.{can_be_plain, is_document_indicator}
 use Rattle.saphyr_scalar.specs.declared.scalar.position.Marker.{Marker}
-use Rattle.saphyr_scalar.specs.Spaces.{IsEol}
 use Rattle.saphyr_scanner.specs.Core.{Candidate, least_column}
 use Rattle.saphyr_scanner.specs.Forest.{Node, Alias, Scalar, Seq, Map}
 use Rattle.saphyr_scanner.specs.BlockNodes as layout
-use Rattle.saphyr_scanner.specs.BlockNodes.{Place, indent_at, IsFlowInBlock}
+use Rattle.saphyr_scanner.specs.BlockNodes.{Place, indent_at, IsContentEnd, IsFlowInBlock}
 use Rattle.saphyr_scanner.specs.FlowNodes.{IsFlowNode}
 use Rattle.saphyr_scanner.specs.Passing.{goes_on_behind}
 use Rattle.saphyr_scanner.specs.TokenGrammar as grammar
@@ -22,7 +21,7 @@ use Rattle.saphyr_scanner.proofs.FlowStates as flow
 use Rattle.saphyr_scanner.proofs.FlowStates.{moved, past, crosses, EndsDocument, IsLeft, IsBehindRoot, Since, Reads, Closes, RootCloses}
 use Rattle.saphyr_scanner.proofs.FlowPlaces.{moved_append, moved_count}
 use Rattle.saphyr_scanner.proofs.FlowGaps.{past_low}
-use Rattle.saphyr_scanner.proofs.FlowFillers.{rest_past}
+use Rattle.saphyr_scanner.proofs.FlowFillers.{content_rest_past}
 use Rattle.saphyr_scanner.proofs.FlowInks.{node_ink}
 use Rattle.saphyr_scanner.proofs.FlowLines.{eol}
 use Rattle.saphyr_scanner.proofs.FlowNodesPass.{nodes_close}
@@ -32,7 +31,7 @@ use Rattle.saphyr_scanner.proofs.InBlock.Follows.{goes_alike, goes_on, IsQuiet, 
 use Rattle.saphyr_scanner.proofs.InBlock.Keys.{around_of}
 use Rattle.saphyr_scanner.proofs.InBlock.Lines.{IsLined, Fits, fits_front, fits_back, fits_so, later_line, moved_lined, past_line}
 use Rattle.saphyr_scanner.proofs.InBlock.Scalars.{gap_reaches, lands_behind, older}
-use Rattle.saphyr_scanner.proofs.InBlock.Skips.{line_end_crosses}
+use Rattle.saphyr_scanner.proofs.InBlock.Crossings.{content_crosses}
 use Rattle.saphyr_scanner.proofs.InBlock.Statements.{context_at, ReadsAt}
 use Rattle.saphyr_scanner.proofs.InBlock.Texts.{further_ink}
 use Rattle.saphyr_scanner.proofs.InBlock.Untabbed.{untabbed_past, settles}
@@ -40,12 +39,12 @@ use Rattle.saphyr_scanner.proofs.InBlock.Untabbed.{untabbed_past, settles}
 -- ## What stands behind the end of its line
 
 -- what stands behind the end of a line is reached from its start
-eol_moved : (column : ℕ) (m : Marker) (end o : List ℕ) → IsEol end o → past column m (end ++ o) ≡ past column (moved m end) o
-eol_moved column m end o (inl (rest, h, is)) =
+eol_moved : (column : ℕ) (m : Marker) (end o : List ℕ) → IsContentEnd end o → column ≤ m.col → past column m (end ++ o) ≡ past column (moved m end) o
+eol_moved column m end o (inl (rest, h, is)) right =
     let text : end ++ o ≡ rest ++ (10 ∷ o) = ap (λ (x : List ℕ). x ++ o) is ∙ append_assoc rest (10 ∷ []) o in
-    ap (past column m) text ∙ rest_past column m rest (10 ∷ o) h (inr refl)
+    ap (past column m) text ∙ content_rest_past column m rest (10 ∷ o) h (inr refl) right
     ∙ ap (λ (k : Marker). past column k o) (sym (ap (moved m) is ∙ moved_append m rest (10 ∷ [])))
-eol_moved column m end o (inr (h, none)) = rest_past column m end o h (inl none)
+eol_moved column m end o (inr (h, none)) right = content_rest_past column m end o h (inl none) right
 
 none_of : (a b c d e g : Bool) → (c ≡ false) ⊎ ((d ≡ false) ⊎ (e ≡ false)) → (a && b && c && d && e && g) ≡ false
 none_of false b c d e g h = refl
@@ -131,12 +130,12 @@ swapped false true e = refl
 swapped false false e = absurd (cc)
 
 -- behind a node and the end of its line the document ends, or a key may begin and none is kept
-what_comes : (limit : ℕ) → limit < 2 ^ 63 → (m : Marker) (t : List ℕ) (at : Marker) (text end o : List ℕ) → moved m t ≡ moved (moved at text) end → Fits limit at (text ++ end) o → IsEol end o
+what_comes : (limit : ℕ) → limit < 2 ^ 63 → (m : Marker) (t : List ℕ) (at : Marker) (text end o : List ℕ) → moved m t ≡ moved (moved at text) end → Fits limit at (text ++ end) o → IsContentEnd end o
     → (k : Option Candidate) → k ≡ None → (key : Option Candidate) → Since k at text key → (allowed : Bool) (left : List ℕ) → (crosses (end ++ o) ≡ true → (allowed || crosses left) ≡ true)
     → EndsDocument (past 0 (moved m t) o).0 (past 0 (moved m t) o).1 ⊎ ((left_key key (past 0 (moved m t) o).0 ≡ None) × ((crosses left || allowed) ≡ true))
 what_comes limit short m t at text end o place fits (inr (h, none)) k none_before key since allowed left fresh = inl (inl (ap (λ (x : List ℕ). (past 0 (moved m t) x).1) none))
 what_comes limit short m t at text end o place fits (inl (rest, h, is)) k none_before key since allowed left fresh =
-    inr (none_kept k at text key (past 0 (moved m t) o).0 since none_before later, swapped allowed (crosses left) (fresh (line_end_crosses end o (rest, h, is))))
+    inr (none_kept k at text key (past 0 (moved m t) o).0 since none_before later, swapped allowed (crosses left) (fresh (ap crosses (ap (λ (x : List ℕ). x ++ o) is ∙ append_assoc rest (10 ∷ []) o) ∙ content_crosses rest o h)))
   where
     later : (front back : List ℕ) → text ≡ front ++ back → (moved at front).line < (past 0 (moved m t) o).0.line
     later front back parts =
@@ -148,7 +147,7 @@ what_comes limit short m t at text end o place fits (inl (rest, h, is)) k none_b
 -- ## The node
 
 -- what stands behind a node, as its runs ask for it
-behind_root : (f : Frame) (n : Marker) (end o : List ℕ) → IsEol end o → (q : Marker × List ℕ) → past f.indent n (end ++ o) ≡ q → IsStop q.1 → IsLeftOf f.indent q.0 q.1 → IsBehindRoot f.indent n (end ++ o)
+behind_root : (f : Frame) (n : Marker) (end o : List ℕ) → IsContentEnd end o → (q : Marker × List ℕ) → (f.indent ≤ n.col → past f.indent n (end ++ o) ≡ q) → IsStop q.1 → IsLeftOf f.indent q.0 q.1 → IsBehindRoot f.indent n (end ++ o)
 behind_root f n end o h q is stop left =
     let e = eol n end o h in
     record {
@@ -157,7 +156,7 @@ behind_root f n end o h q is stop left =
       is = e.is;
       line = e.line;
       break = e.break;
-      lands = subst (λ (z : Marker × List ℕ). EndsDocument z.0 z.1 ⊎ IsLeft f.indent z.0 z.1) (sym is) (by_text q.0 q.1 stop left);
+      lands = λ right. subst (λ (z : Marker × List ℕ). EndsDocument z.0 z.1 ⊎ IsLeft f.indent z.0 z.1) (sym (is right)) (by_text q.0 q.1 stop left);
     }
   where
     by_text : (m : Marker) (y : List ℕ) → IsStop y → IsLeftOf f.indent m y → EndsDocument m y ⊎ IsLeft f.indent m y
@@ -181,7 +180,7 @@ reads_flow reads limit short node place f same m t o (gap, text, end, gap_is, no
     let fits_text = fits_front at text end o fits_all in
     let inside : flow.Fits around at text rest = record { clear = fits_text.clear; below = fits_text.below; right = subst (λ (i : ℕ). i ≤ at.col) (sym same) (gap_reaches place m gap gap_is before.placed); calm = refl } in
     let q = past 0 (moved m t) o in
-    let lands_at : past f.indent n rest ≡ q = eol_moved f.indent n end o end_is ∙ ap (λ (k : Marker). past f.indent k o) (sym place_is) ∙ untabbed_past f.indent (moved m t) o behind.no_tab in
+    let lands_at : f.indent ≤ n.col → past f.indent n rest ≡ q = λ right. eol_moved f.indent n end o end_is right ∙ ap (λ (k : Marker). past f.indent k o) (sym place_is) ∙ untabbed_past f.indent (moved m t) o behind.no_tab in
     let root = behind_root f n end o end_is q lands_at (past_stops (moved m t) o) behind.left in
     let start_low = v.low in
     let on = past_low f.indent at (text ++ rest) in
@@ -189,7 +188,7 @@ reads_flow reads limit short node place f same m t o (gap, text, end, gap_is, no
     let c = r.closes in
     let ran = c.leads.run v.deeper in
     let there : Moment = record { cursor = c.there; key = c.key; allowed = c.allowed; adjacent = c.adjacent; deeper = ran.deeper; required = false; comment = c.comment } in
-    let reached : past f.indent c.there.mark c.there.rest ≡ q = c.fits ∙ lands_at in
+    let reached : past f.indent c.there.mark c.there.rest ≡ q = c.fits ∙ lands_at c.right in
     let s = settles f.indent c.there.mark c.there.rest (subst (λ (z : Marker × List ℕ). IsStop z.1) (sym reached) (past_stops (moved m t) o)) in
     let clean = s.1 (least_column (core_of f there)) (least_low f.indent ran.deeper) c.there.blank_so_far in
     let land = lands f there (v.places ++ c.new) q.0 q.1 refl (s.0 ∙ reached) clean (quiet_left f there q.0 q.1 behind.left) in
@@ -208,7 +207,7 @@ reads_flow reads limit short node place f same m t o (gap, text, end, gap_is, no
           stop = past_stops (moved m t) o;
           near = left_again c.key q.0;
           are = kinds_append v.places c.new ∙ ap (λ (x : List Kind). x ++ kinds c.new) v.are ∙ ap (λ (x : List Kind). ts ++ x) c.are;
-          low = subst (λ (z : Marker × List ℕ). c.adjacent ≤ z.0.index) lands_at c.low;
+          low = subst (λ (z : Marker × List ℕ). c.adjacent ≤ z.0.index) (lands_at c.right) c.low;
         };
         next = what_comes limit short m t at text end o place_is fits_all end_is v.key l.1 c.key c.late c.allowed c.there.rest (λ e. c.fresh refl e);
       };

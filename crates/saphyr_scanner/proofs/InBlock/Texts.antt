@@ -9,11 +9,11 @@ use Rattle.saphyr_scalar.specs.Cursor.{along, next_line}
 use Rattle.saphyr_scalar.specs.TagSpelling.{AreIn}
 use Rattle.saphyr_scalar.specs.Spaces.{AreSpaces, IsComment, IsCommentBehind, IsLineRest, IsLineEnd, IsEol, IsNextLine}
 use Rattle.saphyr_scanner.specs.Forest.{Properties, Node, Alias, Scalar, Seq, Map, Nodes, NoNode, MoreNodes, Pairs, NoPair, MorePairs}
-use Rattle.saphyr_scanner.specs.BlockNodes.{Place, BehindDash, BehindMark, BehindKey, BehindMarker, AtStart, is_start, indent_at, sequence_indent_at, IsGapAt, AreSpacesAt, IsCollectionFront, IsLead, IsLeftOut, IsFlowInBlock, IsBlockPair, IsIndentation, IsBlockNode, AreEntries, AreOtherEntries, ArePairs, AreOtherPairs}
+use Rattle.saphyr_scanner.specs.BlockNodes.{Place, BehindDash, BehindMark, BehindKey, BehindMarker, AtStart, is_start, indent_at, sequence_indent_at, IsGapAt, AreSpacesAt, IsCollectionFront, IsLead, IsLeftOut, IsContentEnd, IsFlowInBlock, IsBlockPair, IsIndentation, IsBlockNode, AreEntries, AreOtherEntries, ArePairs, AreOtherPairs}
 use Rattle.saphyr_scanner.proofs.FlowStates.{IsInk, moved, past}
 use Rattle.saphyr_scanner.proofs.FlowPlaces.{moved_append, moved_along}
 use Rattle.saphyr_scanner.proofs.FlowLines.{filler_line}
-use Rattle.saphyr_scanner.proofs.FlowFillers.{EndsLine, spaces_are_blank, behind_is, front_past, spaces_past}
+use Rattle.saphyr_scanner.proofs.FlowFillers.{EndsLine, content_end, spaces_are_blank, behind_is, front_past, spaces_past}
 use Rattle.saphyr_scanner.proofs.FlowSeparates.{line_stops, ink_stops, front_moved}
 use Rattle.saphyr_scanner.proofs.FlowInks.{BeginsInk, properties_ink}
 use Rattle.saphyr_scanner.proofs.InBlock.States.{crosses, EndsDocument}
@@ -31,7 +31,7 @@ ends_back a t o (inr h) = inr h
 ends_so : (t u o : List ℕ) → t ≡ u → EndsWithLine u o → EndsWithLine t o
 ends_so t u o e h = subst (λ (x : List ℕ). EndsWithLine x o) (sym e) h
 
-pub eol_ends : (t o : List ℕ) → IsEol t o → EndsWithLine t o
+pub eol_ends : (t o : List ℕ) → IsContentEnd t o → EndsWithLine t o
 eol_ends t o (inl (rest, h, is)) = ends_so t (rest ++ (10 ∷ [])) o is (ends_back rest (10 ∷ []) o (inl (λ m. refl)))
 eol_ends t o (inr h) = inr h.1
 
@@ -40,7 +40,7 @@ last_ends a t o (inr h) first = ends_back a t o h
 last_ends a t o (inl e) first = ends_so (a ++ t) a o (ap (λ (x : List ℕ). a ++ x) e ∙ append-nil a) (subst (λ (x : List ℕ). EndsWithLine a (x ++ o)) e first)
 
 left_out_ends : (node : Node) (place : Place) (t o : List ℕ) → IsLeftOut node place t o → EndsWithLine t o
-left_out_ends node place t o h = eol_ends t o h.2
+left_out_ends node place t o h = eol_ends t o (content_end t o h.2)
 
 flow_ends : (room : ℕ) (node : Node) (place : Place) (t o : List ℕ) → IsFlowInBlock room node place t o → EndsWithLine t o
 flow_ends room node place t o (gap, text, end, gap_is, is, end_is, e) = ends_so t (gap ++ (text ++ end)) o e (ends_back gap (text ++ end) o (ends_back text end o (eol_ends end o end_is)))
