@@ -76,6 +76,11 @@ pub block_sequence : IsLayoutText most_open (bare (Seq no_properties (MoreNodes 
 block_sequence =
     ([], codes "- a\n- b", (inl refl), ([], codes "- a\n- b", [], ([], tt, refl), (inl (refl, (refl, refl, (inr (0, [], codes "- a\n- b", (inr (refl, refl)), (codes " a\n", codes "- b", (inr (inl (codes " ", codes "a", codes "\n", (inl (inl (1, omega arith, refl))), (inr ([], codes "a", (inl (refl, refl)), ((codes "a", [], (record { some = (λ e. cc); ink = (refl, (λ e f. omega arith), tt); no_comment = (λ e. omega arith); no_lone_dash = (λ e f. apart e) }, refl, (λ e. apart (ap (λ x. same x (codes "-")) e)), (λ e. apart (ap (λ x. same x (codes "?")) e)), (λ e. apart (ap (λ x. same x (codes ":")) e))), ([], tt, refl), refl), refl), refl)), (inl ([], ([], [], tt, (inl refl), refl), refl)), refl))), ([], codes " b", [], ([], ([], tt, refl), refl), (inr (inl (codes " ", codes "b", [], (inl (inl (1, omega arith, refl))), (inr ([], codes "b", (inl (refl, refl)), ((codes "b", [], (record { some = (λ e. cc); ink = (refl, (λ e f. omega arith), tt); no_comment = (λ e. omega arith); no_lone_dash = (λ e f. apart e) }, refl, (λ e. apart (ap (λ x. same x (codes "-")) e)), (λ e. apart (ap (λ x. same x (codes "?")) e)), (λ e. apart (ap (λ x. same x (codes ":")) e))), ([], tt, refl), refl), refl), refl)), (inr (([], [], tt, (inl refl), refl), refl)), refl))), refl, refl), refl), refl))))), (inl ([], [], ([], tt, refl), ([], [], (0, omega arith, refl), (inl refl), refl), refl)), refl), refl)
 
+-- tabs behind the content of a line, and before its comment
+pub block_tabs_at_ends : IsLayoutText most_open (bare (Seq no_properties (MoreNodes (Scalar no_properties Plain (codes "a")) (MoreNodes (Scalar no_properties Plain (codes "b")) NoNode))) ∷ []) (codes "- a\t\n- b \t# c")
+block_tabs_at_ends =
+    ([], codes "- a\t\n- b \t# c", (inl refl), ([], codes "- a\t\n- b \t# c", [], ([], tt, refl), (inl (refl, (refl, refl, (inr (0, [], codes "- a\t\n- b \t# c", (inr (refl, refl)), (codes " a\t\n", codes "- b \t# c", (inr (inl (codes " ", codes "a", codes "\t\n", (inl (inl (1, omega arith, refl))), (inr ([], codes "a", (inl (refl, refl)), ((codes "a", [], (record { some = (λ e. cc); ink = (refl, (λ e f. omega arith), tt); no_comment = (λ e. omega arith); no_lone_dash = (λ e f. apart e) }, refl, (λ e. apart (ap (λ x. same x (codes "-")) e)), (λ e. apart (ap (λ x. same x (codes "?")) e)), (λ e. apart (ap (λ x. same x (codes ":")) e))), ([], tt, refl), refl), refl), refl)), (inl (codes "\t", (codes "\t", [], (refl, tt), (inl refl), refl), refl)), refl))), ([], codes " b \t# c", [], ([], ([], tt, refl), refl), (inr (inl (codes " ", codes "b", codes " \t# c", (inl (inl (1, omega arith, refl))), (inr ([], codes "b", (inl (refl, refl)), ((codes "b", [], (record { some = (λ e. cc); ink = (refl, (λ e f. omega arith), tt); no_comment = (λ e. omega arith); no_lone_dash = (λ e f. apart e) }, refl, (λ e. apart (ap (λ x. same x (codes "-")) e)), (λ e. apart (ap (λ x. same x (codes "?")) e)), (λ e. apart (ap (λ x. same x (codes ":")) e))), ([], tt, refl), refl), refl), refl)), (inr ((codes " \t", codes "# c", (refl, (refl, tt)), (inr ((λ e. cc), (codes " c", (refl, (refl, tt)), refl))), refl), refl)), refl))), refl, refl), refl), refl))))), (inl ([], [], ([], tt, refl), ([], [], (0, omega arith, refl), (inl refl), refl), refl)), refl), refl)
+
 pub block_mapping : IsLayoutText most_open (bare (Map no_properties (MorePairs (Scalar no_properties Plain (codes "a")) (Scalar no_properties Plain (codes "b")) (MorePairs (Scalar no_properties Plain (codes "c")) (Seq no_properties (MoreNodes (Scalar no_properties Plain (codes "d")) NoNode)) NoPair))) ∷ []) (codes "a: b\nc:\n  - d")
 block_mapping =
     ([], codes "a: b\nc:\n  - d", (inl refl), ([], codes "a: b\nc:\n  - d", [], ([], tt, refl), (inl (refl, (refl, refl, (inr (0, [], codes "a: b\nc:\n  - d", (inr (refl, refl)), (codes "a: b\n", codes "c:\n  - d", (inl (codes "a", [], codes " b\n", (inr ([], codes "a", (inl (refl, refl)), ((codes "a", [], (record { some = (λ e. cc); ink = (refl, (λ e f. omega arith), tt); no_comment = (λ e. omega arith); no_lone_dash = (λ e f. apart e) }, refl, (λ e. apart (ap (λ x. same x (codes "-")) e)), (λ e. apart (ap (λ x. same x (codes "?")) e)), (λ e. apart (ap (λ x. same x (codes ":")) e))), ([], tt, refl), refl), refl), refl)), (refl, tt), (0, omega arith, refl), (inr refl), omega arith, (inr (inl (codes " ", codes "b", codes "\n", (inl (inl (1, omega arith, refl))), (inr ([], codes "b", (inl (refl, refl)), ((codes "b", [], (record { some = (λ e. cc); ink = (refl, (λ e f. omega arith), tt); no_comment = (λ e. omega arith); no_lone_dash = (λ e f. apart e) }, refl, (λ e. apart (ap (λ x. same x (codes "-")) e)), (λ e. apart (ap (λ x. same x (codes "?")) e)), (λ e. apart (ap (λ x. same x (codes ":")) e))), ([], tt, refl), refl), refl), refl)), (inl ([], ([], [], tt, (inl refl), refl), refl)), refl))), refl)), ([], codes "c:\n  - d", [], ([], ([], tt, refl), refl), (inl (codes "c", [], codes "\n  - d", (inr ([], codes "c", (inl (refl, refl)), ((codes "c", [], (record { some = (λ e. cc); ink = (refl, (λ e f. omega arith), tt); no_comment = (λ e. omega arith); no_lone_dash = (λ e f. apart e) }, refl, (λ e. apart (ap (λ x. same x (codes "-")) e)), (λ e. apart (ap (λ x. same x (codes "?")) e)), (λ e. apart (ap (λ x. same x (codes ":")) e))), ([], tt, refl), refl), refl), refl)), (refl, tt), (0, omega arith, refl), (inr refl), omega arith, (inr (2, codes "\n  ", codes "- d", (inl ([], codes "\n", [], omega arith, (inl (refl, refl)), ([], ([], [], (0, omega arith, refl), (inl refl), refl), refl), ([], tt, refl), refl)), (codes " d", [], (inr (inl (codes " ", codes "d", [], (inl (inl (1, omega arith, refl))), (inr ([], codes "d", (inl (refl, refl)), ((codes "d", [], (record { some = (λ e. cc); ink = (refl, (λ e f. omega arith), tt); no_comment = (λ e. omega arith); no_lone_dash = (λ e f. apart e) }, refl, (λ e. apart (ap (λ x. same x (codes "-")) e)), (λ e. apart (ap (λ x. same x (codes "?")) e)), (λ e. apart (ap (λ x. same x (codes ":")) e))), ([], tt, refl), refl), refl), refl)), (inr (([], [], tt, (inl refl), refl), refl)), refl))), refl, refl), refl)), refl)), refl, refl), refl), refl))))), (inl ([], [], ([], tt, refl), ([], [], (0, omega arith, refl), (inl refl), refl), refl)), refl), refl)

@@ -34,6 +34,7 @@ pub fn derives_flow()
 /// compact ones, explicit keys, properties, block scalars, and a value on the next line.
 pub fn derives_block()
     ensures sequence { IsLayoutText most_open (bare (Seq no_properties (MoreNodes (plain (codes "a")) (MoreNodes (plain (codes "b")) NoNode))) ∷ []) (codes "- a\n- b") }
+    ensures tabs_at_ends { IsLayoutText most_open (bare (Seq no_properties (MoreNodes (plain (codes "a")) (MoreNodes (plain (codes "b")) NoNode))) ∷ []) (codes "- a\t\n- b \t# c") }
     ensures mapping { IsLayoutText most_open (bare (Map no_properties (MorePairs (plain (codes "a")) (plain (codes "b")) (MorePairs (plain (codes "c")) (Seq no_properties (MoreNodes (plain (codes "d")) NoNode)) NoPair))) ∷ []) (codes "a: b\nc:\n  - d") }
     ensures sequence_at_mapping { IsLayoutText most_open (bare (Map no_properties (MorePairs (plain (codes "a")) (Seq no_properties (MoreNodes (plain (codes "b")) (MoreNodes left_out NoNode))) (MorePairs (plain (codes "c")) (plain (codes "d")) NoPair))) ∷ []) (codes "a:\n- b\n-\nc : d") }
     ensures compact { IsLayoutText most_open (bare (Seq no_properties (MoreNodes (Seq no_properties (MoreNodes (plain (codes "a")) (MoreNodes (plain (codes "b")) NoNode))) (MoreNodes (Map no_properties (MorePairs (plain (codes "c")) left_out NoPair)) NoNode))) ∷ []) (codes "- - a\n  - b\n# x\n- c:") }

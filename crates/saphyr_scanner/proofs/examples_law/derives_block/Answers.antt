@@ -1,5 +1,5 @@
 use Rattle.saphyr_scanner.specs.Layout.{most_open}
-use Rattle.saphyr_scanner.proofs.LayoutExamples.{block_sequence, block_mapping, block_sequence_at_mapping, block_compact, block_explicit_key, block_properties, block_literal, block_folded, block_next_line, block_comment_left, block_indicator, block_explicit_collections}
+use Rattle.saphyr_scanner.proofs.LayoutExamples.{block_sequence, block_tabs_at_ends, block_mapping, block_sequence_at_mapping, block_compact, block_explicit_key, block_properties, block_literal, block_folded, block_next_line, block_comment_left, block_indicator, block_explicit_collections}
 use Rattle.saphyr_scanner.proofs.examples_law.derives_block.Goals as goal
 
 pub returns-clause-sequence : goal.returns-clause-sequence
@@ -37,3 +37,6 @@ returns-clause-indicator c = block_indicator
 
 pub returns-clause-explicit_collections : goal.returns-clause-explicit_collections
 returns-clause-explicit_collections c = block_explicit_collections
+
+pub returns-clause-tabs_at_ends : goal.returns-clause-tabs_at_ends
+returns-clause-tabs_at_ends c = block_tabs_at_ends
