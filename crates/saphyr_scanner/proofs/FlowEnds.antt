@@ -13,7 +13,6 @@ use Rattle.saphyr_scalar.proofs.Choices.{or_left}
 use Rattle.saphyr_scanner.specs.Forest.{Node}
 use Rattle.saphyr_scanner.specs.FlowNodes.{needs_separation, IsBeforeColon}
 use Rattle.saphyr_scanner.proofs.FlowStates.{EndsNode, IsBehindNode, IsBehindRoot}
-use Rattle.saphyr_scanner.proofs.FlowFillers.{spaces_are_blank}
 
 -- ## White space first
 

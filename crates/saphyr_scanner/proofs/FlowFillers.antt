@@ -92,9 +92,6 @@ spaces_column m (suc n) = let on = spaces_column (along m 1) n in further (moved
 pub are_spaces_past : (column least : ℕ) (w : List ℕ) → AreSpaces least w → IsPast column w
 are_spaces_past column least w h = subst (IsPast column) (sym h.2) (spaces_past column h.0)
 
-pub feed_past : (column : ℕ) (m : Marker) (y : List ℕ) → past column m (10 ∷ y) ≡ past column (next_line m 1) y
-feed_past column m y = refl
-
 -- ## Comments
 
 word_no_feed : (c : ℕ) → is_yaml_non_break c ≡ true → (c == line_feed) ≡ false
@@ -213,7 +210,7 @@ right_behind column m w h low = (separation_right column w h m low).right
 blank_no_break : (c : ℕ) → is_blank c ≡ true → is_break c ≡ false
 blank_no_break c h = grind (arith, nat_tests)
 
-return_breaks : (c : ℕ) (b : Bool) → ((c == 13) && b) ≡ true → is_break c ≡ true
+pub return_breaks : (c : ℕ) (b : Bool) → ((c == 13) && b) ≡ true → is_break c ≡ true
 return_breaks c true h = grind (arith, nat_tests)
 return_breaks c false h = absurd (none (c == 13) h)
   where

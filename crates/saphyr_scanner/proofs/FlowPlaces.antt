@@ -67,7 +67,7 @@ pub in_back : (set : ℕ → Bool) (a b : List ℕ) → AreIn set (a ++ b) → A
 in_back set [] b h = h
 in_back set (c ∷ cs) b h = in_back set cs b h.1
 
-neither : (a b : Bool) → (a || b) ≡ false → (a ≡ false) × (b ≡ false)
+pub neither : (a b : Bool) → (a || b) ≡ false → (a ≡ false) × (b ≡ false)
 neither true b e = absurd (cc)
 neither false b e = (refl, e)
 

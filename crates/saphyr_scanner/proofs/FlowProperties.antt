@@ -14,13 +14,13 @@ use Rattle.saphyr_scanner.specs.TokenGrammar as grammar
 use Rattle.saphyr_scanner.specs.Queue.{Place}
 use Rattle.saphyr_scanner.specs.Core.{Candidate, Level, is_block}
 use Rattle.saphyr_scanner.specs.State.{State}
-use Rattle.saphyr_scanner.specs.Forest.{Properties, Tag, Alias}
+use Rattle.saphyr_scanner.specs.Forest.{Tag, Alias}
 use Rattle.saphyr_scanner.specs.TagSpelling.{IsTag}
 use Rattle.saphyr_scanner.specs.FlowNodes as layout
 use Rattle.saphyr_scanner.specs.FlowNodes.{IsAnchor, IsAlias, allows_adjacent}
 use Rattle.saphyr_scanner.proofs.InFlow.States.{Around, state_at}
 use Rattle.saphyr_scanner.proofs.JsonMarks.{saved}
-use Rattle.saphyr_scanner.proofs.FlowStates.{Since, Kept, keeping, moved, past, IsBehindNode, IsBehindRoot, Reads, Known, Passes, Fits, IsAfterNode, IsAfterProperties, after_properties, NodePasses, RootCloses, PropertiesPass}
+use Rattle.saphyr_scanner.proofs.FlowStates.{Since, Kept, keeping, moved, past, IsBehindNode, IsBehindRoot, Reads, Known, Passes, Fits, IsAfterNode, IsAfterProperties, NodePasses, RootCloses}
 use Rattle.saphyr_scanner.proofs.FlowPlaces.{moved_append}
 use Rattle.saphyr_scanner.proofs.FlowGaps.{less_behind}
 use Rattle.saphyr_scanner.proofs.FlowFillers.{blanks_past, spaces_are_blank, are_spaces_past}
@@ -146,13 +146,6 @@ properties_read reads around (Some name) (Some tag) m t o (anchor, between, writ
 properties_read reads around (Some name) (Some tag) m t o (anchor, between, written, h, g, spaced, inr is) s x k ls a ad ps ends fits text =
     subst (λ (y : List ℕ). ReadsProperties around (Some name) (Some tag) m y o s x k ls a ad ps) (sym is)
     (tag_and_anchor reads around name tag m written between anchor o g spaced h s x k ls a ad ps ends) fits text
-
-pub properties_pass : Reads → (around : Around) (p : Properties) (m : Marker) (t o : List ℕ) → layout.IsProperties p t → Fits around m t o
-    → (s : Cursor) (x : Context) (k : Option Candidate) (ls : List Level) (a : Bool) (ad : ℕ) (ps : List Place) → EndsTag (not (is_block x)) o → past around.indent s.mark s.rest ≡ past around.indent m (t ++ o)
-    → PropertiesPass around (state_at around s x k ls a ad ps) p (saved a (length ps) m k) x ls ps (moved m t) o
-properties_pass reads around p m t o h fits s x k ls a ad ps ends text =
-    let r = properties_read reads around p.anchor p.tag m t o h s x k ls a ad ps ends fits text in
-    record { tokens = r.tokens; are = r.are; passes = knowing r.passes (after_properties x (saved a (length ps) m k)) r.passes.knows.properties }
 
 -- ## An alias
 

@@ -1,6 +1,6 @@
 -- The `?` of a text in flow style is read.
 use Rattle.std.proofs.Common.{◌≡◌, ◌≢◌, ℕ, ◌≤◌, Bool, true, false, List, [], ◌∷◌, ◌++◌, length, slice_index, Ok, refl, sym, ap, ◌∙◌, arith, ◌⊎◌, inl, inr}
-use Rattle.std.specs.Prelude.{◌==◌, not, Option, None}
+use Rattle.std.specs.Prelude.{◌==◌, Option, None}
 use Rattle.std.proofs.lemmas.Bool.Decides.{nat_tests}
 use Rattle.saphyr_input.specs.Classes.{is_blank, is_blank_or_breakz}
 use Rattle.saphyr_scalar.specs.declared.scalar.position.Marker.{Marker}

@@ -19,7 +19,7 @@ use Rattle.saphyr_scalar.proofs.Runs.{run_len}
 use Rattle.saphyr_scanner.proofs.JsonGaps.{separated}
 use Rattle.saphyr_scanner.proofs.FlowStates.{moved, past, IsInk}
 use Rattle.saphyr_scanner.proofs.FlowPlaces.{moved_along, in_back}
-use Rattle.saphyr_scanner.proofs.FlowFillers.{EndsLine, blanks_past, spaces_are_blank, front_past, behind_is}
+use Rattle.saphyr_scanner.proofs.FlowFillers.{EndsLine, blanks_past, front_past, behind_is}
 
 -- what ends blanks and a comment, or blanks alone
 pub record StopsLine (comment more : List ℕ) : Type 0 where

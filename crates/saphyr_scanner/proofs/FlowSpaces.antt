@@ -1,5 +1,5 @@
 -- What stands behind a `?` in flow style is passed.
-use Rattle.std.proofs.Common.{◌≡◌, ◌≢◌, ℕ, ◌≤◌, Bool, true, false, List, [], ◌∷◌, ◌++◌, length, slice_index, refl, sym, ap, ◌∙◌, arith, subst, append_assoc, IsTrue, ◌⊎◌, inl, inr}
+use Rattle.std.proofs.Common.{◌≡◌, ◌≢◌, ℕ, ◌≤◌, Bool, true, false, List, [], ◌∷◌, ◌++◌, length, slice_index, refl, sym, ap, ◌∙◌, arith, append_assoc, ◌⊎◌, inl, inr}
 use Rattle.std.specs.Prelude.{◌||◌, ◌&&◌, ◌==◌, not, nat_lt}
 use Rattle.std.proofs.lemmas.Bool.Decides.{nat_tests}
 use Rattle.std.proofs.lemmas.List.{length-append}
@@ -13,7 +13,8 @@ use Rattle.saphyr_scanner.specs.FlowNodes.{has_tab_outside}
 use Rattle.saphyr_scanner.specs.Gap.{spaced, spaces, line_comment}
 use Rattle.saphyr_scanner.proofs.FlowStates.{moved, is_left_tab, past, past_comment, IsInk}
 use Rattle.saphyr_scanner.proofs.FlowGaps.{past_ink, comment_shorter}
-use Rattle.saphyr_scanner.proofs.FlowFillers.{separation_past}
+use Rattle.saphyr_scanner.proofs.FlowPlaces.{neither}
+use Rattle.saphyr_scanner.proofs.FlowFillers.{return_breaks, separation_past}
 
 -- ## Spaces, breaks and comments without a tab are what is passed between two tokens
 
@@ -29,10 +30,6 @@ record Comment (m : Marker) (blank space : Bool) (w y : List ℕ) (n : Marker) :
   some : Bool
   is : line_comment m blank space (w ++ y) ≡ spaced n still_blank some y
   has : space ≡ true → some ≡ true
-
-neither : (a b : Bool) → (a || b) ≡ false → (a ≡ false) × (b ≡ false)
-neither false b e = (refl, e)
-neither true b e = absurd (cc)
 
 -- what is outside comments behind a character
 outside : (d : ℕ) (ds : List ℕ) (sign : Bool) → (d == 35) ≡ sign → has_tab_outside false (d ∷ ds) ≡ false → has_tab_outside sign ds ≡ false
@@ -104,14 +101,6 @@ spaces_kind column d ds y m blank space n tabs false false false e f g p on line
 
 word_no_break : (d : ℕ) → is_yaml_non_break d ≡ true → is_break d ≡ false
 word_no_break d h = grind (arith, nat_tests)
-
-return_breaks : (d : ℕ) (b : Bool) → ((d == 13) && b) ≡ true → is_break d ≡ true
-return_breaks d true h = grind (arith, nat_tests)
-return_breaks d false h = absurd (none (d == 13) h)
-  where
-    none : (a : Bool) → (a && false) ≡ true → ⊥
-    none true e = cc
-    none false e = cc
 
 behind_word : (d : ℕ) (ds : List ℕ) → is_break d ≡ false → has_tab_outside true (d ∷ ds) ≡ false → has_tab_outside true ds ≡ false
 behind_word d ds e h = ap (λ (b : Bool). has_tab_outside (not b) ds) (sym e) ∙ h

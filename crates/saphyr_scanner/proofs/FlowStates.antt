@@ -34,7 +34,7 @@ use Rattle.saphyr_scanner.specs.Seen.{Piece}
 use Rattle.saphyr_scanner.specs.Queue.{Place, closed}
 use Rattle.saphyr_scanner.specs.Core.{Candidate, Level, is_block}
 use Rattle.saphyr_scanner.specs.State.{State}
-use Rattle.saphyr_scanner.specs.Forest.{Properties, Node}
+use Rattle.saphyr_scanner.specs.Forest.{Node}
 use Rattle.saphyr_scanner.specs.BlockNodes.{IsContentRest}
 use Rattle.saphyr_scanner.specs.FlowNodes.{IsBeforeColon, allows_adjacent, IsFlowNode}
 use Rattle.saphyr_scanner.proofs.InFlow.States.{Around, state_at, Runs}
@@ -248,9 +248,6 @@ pub record Closes (around : Around) (start : Bool → State) (k : Option Candida
 
 -- ## What is known behind a piece
 
-abbrev pub nothing_known : Known
-nothing_known key allowed adjacent new = Unit {0}
-
 -- a key may begin and none is kept, and no colon may stand at once from m on
 abbrev pub fresh_key : Marker → Known
 fresh_key m key allowed adjacent new = (key ≡ None) × (allowed ≡ true) × (adjacent < m.index)
@@ -284,9 +281,6 @@ pub record IsAfterProperties (x : Context) (kept key : Option Candidate) (allowe
   pub keeps : is_block x ≡ false → key ≡ kept
   pub closed : allowed ≡ false
 
-abbrev pub after_properties : Context → Option Candidate → Known
-after_properties x kept key allowed adjacent new = IsAfterProperties x kept key allowed new
-
 -- ## What is shown of nodes
 
 -- The tokens of a node, and the run over its text.
@@ -300,12 +294,6 @@ pub record RootCloses (around : Around) (start : Bool → State) (node : Node) (
   pub are : grammar.IsNode node grammar.InBlock tokens
   pub closes : Closes around start k first t ps m o tokens
 
--- The tokens of properties, and the run over their text.
-pub record PropertiesPass (around : Around) (start : Bool → State) (p : Properties) (kept : Option Candidate) (x : Context) (ls : List Level) (ps : List Place) (m : Marker) (o : List ℕ) : Type 0 where
-  pub tokens : List Kind
-  pub are : grammar.AreProperties p tokens
-  pub passes : Passes around start (after_properties x kept) x ls ps m o tokens
-
 -- A node inside flow is passed, which may open so many flow collections.
 abbrev pub PassesNode : Around → ℕ → Node → Type 0
 PassesNode around room node =
@@ -313,10 +301,6 @@ PassesNode around room node =
     → (s : Cursor) (x : Context) (k : Option Candidate) (ls : List Level) (a : Bool) (ad : ℕ) (ps : List Place) → ad < m.index → is_block x ≡ false → room + length ls ≤ 255
     → past around.indent s.mark s.rest ≡ past around.indent m (p ++ o)
     → NodePasses around (state_at around s x k ls a ad ps) node (saved a (length ps) m k) x ls ps (moved m p) o
-
--- each is
-abbrev pub PassesNodes : Around → ℕ → Type 0
-PassesNodes around room = (node : Node) → PassesNode around room node
 
 -- A node at block level is passed.
 abbrev pub ClosesNode : Around → Node → Type 0

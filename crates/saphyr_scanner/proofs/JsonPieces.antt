@@ -1,7 +1,7 @@
 -- The first characters of pieces of JSON, behind their white space.
 use Rattle.std.proofs.Common.{◌≡◌, ℕ, Bool, true, false, List, [], ◌∷◌, ◌++◌, refl, sym, ap, ◌∙◌, subst, append_assoc, ◌⊎◌, inl, inr}
-use Rattle.std.specs.Prelude.{◌==◌, not}
-use Rattle.saphyr_input.specs.Classes.{is_blank, is_break, is_bom}
+use Rattle.std.specs.Prelude.{not}
+use Rattle.saphyr_input.specs.Classes.{is_blank, is_break}
 use Rattle.saphyr_scanner.specs.Forest.{Node, Alias, Scalar, Seq, Map, Plain, SingleQuoted, DoubleQuoted, Literal, Folded, Nodes, NoNode, MoreNodes, Pairs, NoPair, MorePairs}
 use Rattle.saphyr_scanner.specs.Json.{IsStructural, IsString, IsName, IsValue, AreElements, AreOtherElements, AreMembers, AreOtherMembers}
 use Rattle.saphyr_scanner.proofs.JsonWords.{IsBehindValue}
@@ -17,9 +17,6 @@ pub around : (c : ℕ) (t o : List ℕ) → is_blank c ≡ false → is_break c 
 around c t o blank break h =
     let text : t ++ o ≡ h.0 ++ (c ∷ (h.1 ++ o)) = ap (λ (x : List ℕ). x ++ o) h.4 ∙ append_assoc h.0 (c ∷ h.1) o in
     (h.1 ++ o, ap skip text ∙ skip_white h.0 (c ∷ (h.1 ++ o)) h.2 ∙ skip_none c (h.1 ++ o) blank break, skip_white h.1 o h.3)
-
-begins_clean : (c : ℕ) (t o : List ℕ) → (c == 35) ≡ false → is_bom c ≡ false → Begins c t o → IsClean (skip (t ++ o))
-begins_clean c t o comment mark h = subst IsClean (sym h.1) (comment, mark)
 
 -- ## What stands behind a value
 

@@ -103,9 +103,6 @@ stand_here text s i x =
 pub stand_alike : (text : List ℕ) (s : Cursor) (i : ℕ) → Stand text s i → AreAlike text s (near i s)
 stand_alike text s i x = record { line = refl; col = refl; rest = refl; blank = refl; here = x.here; there = x.there }
 
-pub alike_stand : (text : List ℕ) (s t : Cursor) → AreAlike text s t → Stand text s t.mark.index
-alike_stand text s t x = record { here = x.here; there = x.there ∙ sym x.rest }
-
 pub alike_is : (text : List ℕ) (s t : Cursor) → AreAlike text s t → t ≡ near t.mark.index s
 alike_is text s t x = same t (normalized s.rest) s.mark.line s.mark.col s.blank_so_far x.rest x.line x.col x.blank
   where

@@ -7,7 +7,7 @@ use Rattle.saphyr_scalar.specs.Cursor.{Cursor}
 use Rattle.saphyr_scanner.specs.declared.queue.Opening.{Opening}
 use Rattle.saphyr_scanner.specs.Seen.{Piece}
 use Rattle.saphyr_scanner.specs.Queue.{Place, Queue, closed, opened, next}
-use Rattle.saphyr_scanner.specs.Core.{Core, Action, Put, Open, Step, act, perform, in_block, went}
+use Rattle.saphyr_scanner.specs.Core.{Core, Action, Put, Open, Step, act, perform, in_block}
 use Rattle.saphyr_scanner.specs.State.{State, carried, acted}
 use Rattle.saphyr_scanner.specs.Unrolling.{unroll, end_blocks, end_block, is_right_of, outwards, less_deep}
 use Rattle.saphyr_scalar.specs.Alike.{GiveAlike}
@@ -90,10 +90,6 @@ SameSteps text a b = Cores text a.core b.core × SameActions a.actions b.actions
 
 abbrev pub States : List ℕ → State → State → Type 0
 States text s t = Cores text s.core t.core × SameQueues s.queue t.queue
-
-pub steps_went : (text : List ℕ) (xs ys : List Action) (c : Core) (x : Indexes) → Twin text c x → SameActions xs ys
-    → GiveAlike (SameSteps text) (went xs c) (went ys (near_core x c))
-steps_went text xs ys c x t e = ((x, refl, t), e)
 
 pub acted_same : (text : List ℕ) (r q : Result Step Refusal) (u v : Queue) → GiveAlike (SameSteps text) r q
     → SameQueues u v → GiveAlike (States text) (acted r u) (acted q v)

@@ -142,9 +142,6 @@ lands_behind leaves ds o (inr (suffix, others, (filler, end, prefix, filler_is, 
 
 -- ## The text of a node is clear
 
-behind_last : (m : Marker) (c d : ℕ) (ds : List ℕ) → moved m (c ∷ d ∷ ds) ≡ moved (behind_character m c) (d ∷ ds)
-behind_last m c d ds = refl
-
 -- a text behind which a line starts ends with a break
 feed_last : (m : Marker) (c : ℕ) (cs : List ℕ) → (moved m (c ∷ cs)).col ≡ 0 → (front : List ℕ) × (c ∷ cs ≡ front ++ (10 ∷ []))
 feed_last m c [] e = by_feed (c == line_feed) refl e

@@ -216,9 +216,6 @@ before_next {limit} {start} {ts} place g n qs m o leads are none free quiet low 
     left_none : (k : Option Candidate) → k ≡ None → (m : Marker) → left_key k m ≡ None
     left_none k e m = rw e refl
 
-less_than : (a b : ℕ) → nat_le a b ≡ true → a ≤ b
-less_than a b h = grind (arith, nat_tests)
-
 -- `-` is read, which begins a sequence or goes on with one
 pub reads_dash : {limit : ℕ} {start : State} {ts : List Kind} (f : Frame) (m : Marker) (o : List ℕ) (further : Bool) → nat_le f.indent m.col ≡ further → f.indent ≤ m.col + 1 → IsBehindIndicator o
     → m.index + length (45 ∷ o) ≤ limit → (v : At limit start f m (45 ∷ o) ts) → v.allowed ≡ true → Before limit start (layout.BehindDash m.col) (frame_behind further m.col f) (along m 1) o (ts ++ dash_kinds further)

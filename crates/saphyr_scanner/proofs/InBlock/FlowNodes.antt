@@ -6,6 +6,7 @@ use Rattle.std.proofs.lemmas.List.{length-append}
 use Rattle.saphyr_input.specs.Classes.{is_z}
 use Rattle.saphyr_input.specs.Places.{can_be_plain, is_document_indicator}
 use Rattle.saphyr_scalar.specs.declared.scalar.position.Marker.{Marker}
+use Rattle.saphyr_scalar.proofs.Choices.{or_swap}
 use Rattle.saphyr_scanner.specs.Core.{Candidate, least_column}
 use Rattle.saphyr_scanner.specs.Forest.{Node, Alias, Scalar, Seq, Map}
 use Rattle.saphyr_scanner.specs.BlockNodes as layout
@@ -123,19 +124,13 @@ none_kept k m t key n (inl e) none later = rw e refl
 none_kept k m t key n (inr (inl e)) none later = rw (e ∙ none) refl
 none_kept k m t key n (inr (inr (front, back, place, is, e))) none later = rw e (far_left (record { mark = moved m front; place = place }) n (later front back is))
 
-swapped : (a b : Bool) → (a || b) ≡ true → (b || a) ≡ true
-swapped true true e = refl
-swapped true false e = refl
-swapped false true e = refl
-swapped false false e = absurd (cc)
-
 -- behind a node and the end of its line the document ends, or a key may begin and none is kept
 what_comes : (limit : ℕ) → limit < 2 ^ 63 → (m : Marker) (t : List ℕ) (at : Marker) (text end o : List ℕ) → moved m t ≡ moved (moved at text) end → Fits limit at (text ++ end) o → IsContentEnd end o
     → (k : Option Candidate) → k ≡ None → (key : Option Candidate) → Since k at text key → (allowed : Bool) (left : List ℕ) → (crosses (end ++ o) ≡ true → (allowed || crosses left) ≡ true)
     → EndsDocument (past 0 (moved m t) o).0 (past 0 (moved m t) o).1 ⊎ ((left_key key (past 0 (moved m t) o).0 ≡ None) × ((crosses left || allowed) ≡ true))
 what_comes limit short m t at text end o place fits (inr (h, none)) k none_before key since allowed left fresh = inl (inl (ap (λ (x : List ℕ). (past 0 (moved m t) x).1) none))
 what_comes limit short m t at text end o place fits (inl (rest, h, is)) k none_before key since allowed left fresh =
-    inr (none_kept k at text key (past 0 (moved m t) o).0 since none_before later, swapped allowed (crosses left) (fresh (ap crosses (ap (λ (x : List ℕ). x ++ o) is ∙ append_assoc rest (10 ∷ []) o) ∙ content_crosses rest o h)))
+    inr (none_kept k at text key (past 0 (moved m t) o).0 since none_before later, or_swap allowed (crosses left) (fresh (ap crosses (ap (λ (x : List ℕ). x ++ o) is ∙ append_assoc rest (10 ∷ []) o) ∙ content_crosses rest o h)))
   where
     later : (front back : List ℕ) → text ≡ front ++ back → (moved at front).line < (past 0 (moved m t) o).0.line
     later front back parts =

@@ -41,9 +41,6 @@ or_true false = refl
 true_crosses : (place : Place) (t : List ℕ) → crosses t ≡ true → (is_compact place || crosses t) ≡ true
 true_crosses place t e = rw e (or_true (is_compact place))
 
-next_text : (front end filler y : List ℕ) (column : ℕ) → (front ++ (end ++ (filler ++ spaces column))) ++ y ≡ front ++ ((end ++ (filler ++ spaces column)) ++ y)
-next_text front end filler y column = append_assoc front (end ++ (filler ++ spaces column)) y
-
 -- up to the first token of a collection, given its lead
 pub reads_lead : {limit : ℕ} → Leaves limit → (p : Properties) (place : Place) (least column : ℕ) (f : Frame) → f.indent ≡ indent_at place → (m : Marker) (lead y : List ℕ) → IsLead p place least column lead → BeginsInk y
     → Fits limit m lead y → (start : State) (ts : List Kind) → Before limit start place f m (lead ++ y) ts → LeadRead limit start p f (moved m lead) y ts

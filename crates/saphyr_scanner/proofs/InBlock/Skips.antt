@@ -188,13 +188,6 @@ skipped_no_tab _ y (one_comment words w are h) = ap comment_has_tab (append_asso
 
 -- ## A comment at the text's end
 
-pub comment_ends_past : (m : Marker) (t : List ℕ) → IsComment t → past 0 m t ≡ (moved m t, [])
-comment_ends_past m t (words, are, is) = subst (λ (x : List ℕ). past 0 m x ≡ (moved m x, [])) (sym is) (by_words (along m 1) words are)
-  where
-    by_words : (m : Marker) (words : List ℕ) → AreIn is_yaml_non_break words → past_comment 0 m words ≡ (moved m words, [])
-    by_words m [] h = refl
-    by_words m (c ∷ cs) h = rw (h.0, no_blank c h.0) (by_words (along m 1) cs h.1)
-
 pub comment_ends_clean : (t : List ℕ) → IsComment t → IsClean t
 comment_ends_clean t (words, are, is) least m blank = subst (λ (x : List ℕ). tabbed least m blank false x ≡ false) (sym is) (by_words (along m 1) words are)
   where

@@ -5,15 +5,12 @@ use Rattle.saphyr_input.specs.Classes.{is_blank, is_break, is_yaml_non_break}
 use Rattle.saphyr_scalar.specs.declared.scalar.position.Marker.{Marker}
 use Rattle.saphyr_scalar.specs.Cursor.{along, next_line}
 use Rattle.saphyr_scanner.proofs.FlowStates.{is_left_tab, past, past_comment}
+use Rattle.saphyr_scanner.proofs.FlowPlaces.{neither}
 use Rattle.saphyr_scanner.proofs.FlowGaps as gaps
 use Rattle.saphyr_scanner.proofs.FlowGaps.{tab_blank, right_tab, clash}
 use Rattle.saphyr_scanner.proofs.InBlock.Gaps.{no_left}
 use Rattle.saphyr_scanner.proofs.InBlock.Skips.{has_tab, comment_has_tab}
 use Rattle.saphyr_scanner.proofs.InBlock.States.{IsStop, tabbed, tabbed_comment}
-
-neither : (a b : Bool) → (a || b) ≡ false → (a ≡ false) × (b ≡ false)
-neither false b e = (refl, e)
-neither true b e = absurd (cc)
 
 -- ## No tab at all
 
