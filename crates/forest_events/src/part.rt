@@ -1,3 +1,5 @@
+//! Forests taken to parts, one for each event, in the order of the events.
+
 ghost use Rattle.std.specs.Prelude.{◌≡◌, ◌++◌, IfOk, OnOk, encode_utf8_all, map, option_map};
 ghost use Rattle.std.specs.Str.{chars};
 ghost use Rattle.saphyr_parser.specs.Anchors.{anchor_of};

@@ -1,3 +1,5 @@
+//! Small forests and their events; tags and copies of events by themselves.
+
 use crate::tree::{Directive, Document, Handle, Node, Properties, WrittenTag};
 use crate::walk::forest_events;
 use saphyr_parser::{Event, Tag};

@@ -1,3 +1,5 @@
+//! Forests: documents, and in each a tree of nodes (YAML 1.2.2, chapter 3).
+
 use saphyr_scalar::ScalarStyle;
 
 /// The handle of a tag: `!`, `!!`, or `!word!` with its word.

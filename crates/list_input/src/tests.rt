@@ -1,3 +1,5 @@
+//! The calls of an input over lists: NUL past the end, runs, comments and document markers.
+
 use crate::ListInput;
 use saphyr_input::input::{Input, SkipTabs};
 use std::alloc::{AllocError, Global};

@@ -1,3 +1,7 @@
+//! What a scanner holds while it goes through a text, and the steps that several kinds of tokens share.
+//! `fetch` chooses by the next characters; `block`, `flow`, `value`, `scalar`, `property` and `document` read the
+//! token; `level`, `key` and `indent` say what is open, and what may be a key.
+
 mod block;
 mod cloning;
 mod document;

@@ -1,3 +1,5 @@
+//! What stands between two tokens: blanks, breaks and comments (YAML 1.2.2, 6.7).
+
 ghost use Rattle.std.specs.Prelude.{◌≡◌, ◌||◌, false, slice_index};
 ghost use Rattle.saphyr_scalar.specs.Seen.{state, Gives};
 ghost use Rattle.saphyr_scanner.specs.Gap as spec;

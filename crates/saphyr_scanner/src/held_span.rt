@@ -1,3 +1,5 @@
+//! The spans of the tokens in the queue. They are kept small, since the queue may hold all tokens of a text.
+
 ghost use Rattle.std.specs.Prelude.{◌≡◌, IfSome, IfOk};
 ghost use Rattle.saphyr_scanner.specs.QueueSeen.{held_span, near_marker};
 

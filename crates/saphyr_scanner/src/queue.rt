@@ -1,3 +1,5 @@
+//! Tokens that wait to be handed out, and what is told in front of one that turns out to be a key.
+
 mod cloning;
 
 ghost use Rattle.std.specs.Prelude.{◌≡◌, Ok, OnOk, length};

@@ -1,3 +1,5 @@
+//! The scanner as its callers see it: it reads as far into the text as the next token needs.
+
 ghost use Rattle.std.specs.Prelude.{◌≡◌, length};
 ghost use Rattle.saphyr_scanner.specs.Remaining.{scan};
 ghost use Rattle.saphyr_scanner.specs.Seen.{Hands, handed};

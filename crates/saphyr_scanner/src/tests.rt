@@ -1,3 +1,5 @@
+//! Small texts: where the stream ends, which faults there are and where, and what stands in front of a key.
+
 use crate::{Scanner, Token, TokenType};
 use saphyr_input::StrInput;
 use saphyr_scalar::{FaultText, Marker, Refusal, Span, Stop};

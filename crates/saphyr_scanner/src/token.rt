@@ -1,3 +1,6 @@
+//! Tokens: the indicators, properties and scalars of a text in their order, and among them what no characters stand
+//! for, as the starts and the ends of block collections and a key without `?`.
+
 mod cloning;
 
 use saphyr_scalar::scalar::TagParts;

@@ -1,3 +1,5 @@
+//! The ids of anchors, and which of them an alias means (YAML 1.2.2, 3.2.2.2, 6.9.2 and 7.1).
+
 ghost use Rattle.std.specs.Prelude.{◌≡◌, ℕ, Ok, string_bytes};
 ghost use Rattle.saphyr_parser.specs.Machine as spec;
 

@@ -1,3 +1,5 @@
+//! The states inside block collections (YAML 1.2.2, 8.2).
+
 ghost use Rattle.saphyr_parser.specs.BlockSteps as spec;
 
 use crate::parser::context::Context;

@@ -1,3 +1,5 @@
+//! Copies of machines and of readers.
+
 ghost use Rattle.std.specs.Prelude.{◌≡◌, IfOk, option_map};
 ghost use Rattle.saphyr_scanner.specs.Seen.{piece};
 ghost use Rattle.saphyr_parser.specs.Cursor.{event_of};

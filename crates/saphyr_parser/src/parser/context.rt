@@ -1,3 +1,5 @@
+//! Which block collections may stand where a node stands (YAML 1.2.2, 8.2.3).
+
 ghost use Rattle.std.specs.Prelude.{◌≡◌};
 
 /// Where a node stands.

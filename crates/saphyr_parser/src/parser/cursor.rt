@@ -1,3 +1,5 @@
+//! The parser as its callers see it: a place in the list of a text's events.
+
 ghost use Rattle.std.specs.Prelude.{◌≡◌, ◌≤◌, ℕ, Bool, List, length, take, IfOk};
 ghost use Rattle.std.specs.Str.{chars};
 ghost use Rattle.saphyr_input.specs.Listed.{Lists, Listed};

@@ -1,3 +1,6 @@
+//! The states at the beginnings and the ends of the stream and of documents, with the directives
+//! (YAML 1.2.2, 6.8 and chapter 9).
+
 ghost use Rattle.std.specs.Prelude.{◌≡◌, None, string_bytes};
 ghost use Rattle.saphyr_scanner.specs.Seen.{kind_of};
 ghost use Rattle.saphyr_parser.specs.DocumentSteps as spec;

@@ -1,3 +1,5 @@
+//! A machine at its start, and its next event by the state that it is in.
+
 ghost use Rattle.std.specs.Prelude.{◌≡◌, ◌≢◌, ◌↔◌, IsTrue, false};
 ghost use Rattle.saphyr_parser.specs.Steps as spec;
 

@@ -1,3 +1,5 @@
+//! What a parser answers where it has no event to give.
+
 ghost use Rattle.std.specs.Prelude.{◌≡◌, IfOk};
 ghost use Rattle.saphyr_parser.specs.Faults.{IsFaultOf, IsCopy};
 

@@ -1,3 +1,5 @@
+//! The states inside flow collections (YAML 1.2.2, 7.4).
+
 ghost use Rattle.std.specs.Prelude.{◌≡◌, None};
 ghost use Rattle.saphyr_parser.specs.FlowSteps as spec;
 

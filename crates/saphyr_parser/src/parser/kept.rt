@@ -1,3 +1,5 @@
+//! A fault that is kept, to be answered again.
+
 ghost use Rattle.std.specs.Prelude.{◌≡◌, true};
 ghost use Rattle.saphyr_parser.specs.Faults.{is_own};
 

@@ -1,3 +1,5 @@
+//! Events for a receiver, a document at a time or all of them.
+
 ghost use Rattle.std.specs.Prelude.{◌≡◌, None};
 ghost use Rattle.saphyr_parser.specs.Loading as spec;
 ghost use Rattle.saphyr_parser.specs.EventSeen.{happening};

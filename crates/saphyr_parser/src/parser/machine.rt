@@ -1,3 +1,6 @@
+//! The machine that turns tokens into events: what it holds, and the moves that its states share. The states are
+//! read in `document`, `block` and `flow`, and the nodes there in `node`.
+
 ghost use Rattle.std.specs.Prelude.{◌≡◌, None};
 ghost use Rattle.saphyr_parser.specs.Machine as spec;
 

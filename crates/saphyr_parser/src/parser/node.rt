@@ -1,3 +1,6 @@
+//! The event with which a node begins: an alias, or properties and the content behind them
+//! (YAML 1.2.2, 6.9, 7.1, 7.5 and 8.2.3).
+
 ghost use Rattle.std.specs.Prelude.{◌≡◌, None, string_bytes};
 ghost use Rattle.saphyr_parser.specs.NodeSteps as spec;
 

@@ -1,3 +1,5 @@
+//! What the handles of tags stand for, by `%TAG` directives (YAML 1.2.2, 6.8.2).
+
 ghost use Rattle.std.specs.Prelude.{◌≡◌, [], Ok, string_bytes, option_map};
 ghost use Rattle.saphyr_parser.specs.Machine as spec;
 

@@ -1,3 +1,5 @@
+//! A machine with at most one event read ahead, so that an event can be shown before it is handed out.
+
 ghost use Rattle.std.specs.Prelude.{◌≡◌, None, IfNone};
 ghost use Rattle.saphyr_parser.specs.Cursor.{filled};
 

@@ -1,3 +1,5 @@
+//! Receivers, to which `load` hands events, with their spans or without.
+
 ghost use Rattle.saphyr_parser.specs.EventSeen.{happening};
 
 use crate::parser::event::Event;

@@ -1,3 +1,5 @@
+//! The states of the machine: how far it is in the stream, a document or a collection.
+
 use saphyr_scalar::Marker;
 
 /// What the machine expects next.

@@ -1,3 +1,5 @@
+//! The tags of events (YAML 1.2.2, 3.2.1.2).
+
 ghost use Rattle.std.specs.Prelude.{◌≡◌, ◌↔◌, IfOk, IsTrue, codes};
 ghost use Rattle.saphyr_parser.specs.EventSeen.{resolved_tag};
 

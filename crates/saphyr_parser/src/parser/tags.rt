@@ -1,3 +1,5 @@
+//! Tags with prefixes in place of their handles (YAML 1.2.2, 6.8.2 and 6.9.1).
+
 ghost use Rattle.std.specs.Prelude.{◌≡◌, string_bytes};
 ghost use Rattle.saphyr_parser.specs.TagSteps as spec;
 

@@ -1,3 +1,5 @@
+//! Why `dump` ends before all lines are written.
+
 ghost use Rattle.std.specs.Prelude.{◌≡◌};
 
 use crate::parser::Fault;

@@ -1,3 +1,5 @@
+//! The line of an event: its name, the properties of its node, and a scalar's text.
+
 ghost use Rattle.std.specs.Prelude.{◌≡◌, ◌++◌, codes, option_map};
 ghost use Rattle.std.specs.Fmt.{decimal};
 ghost use Rattle.saphyr_parser.specs.EventSeen.{happening, resolved_tag};

@@ -1,3 +1,5 @@
+//! A run of the program `dump_events`: what it reads and prints, its message and its status.
+
 ghost use Rattle.std.specs.Prelude.{◌≡◌, ◌+◌, ◌++◌, codes, string_bytes};
 ghost use Rattle.std.specs.Fmt.{decimal};
 ghost use Rattle.std.specs.Io.KnownBytes.{Keeps};

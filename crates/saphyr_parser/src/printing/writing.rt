@@ -1,3 +1,5 @@
+//! Bytes, numbers and escaped texts, written to the last byte however few a writer takes at a time.
+
 ghost use Rattle.std.specs.Prelude.{◌≡◌, false, [], ◌∷◌, ◌++◌};
 ghost use Rattle.std.specs.Fmt.{decimal};
 ghost use Rattle.saphyr_parser.specs.Written.{Takes};

@@ -1,3 +1,5 @@
+//! Line breaks, folding, and the values of scalars in each style.
+
 use super::{
     BlockStyle, Chomping, Ending, Item, block_value, double_quoted_value, folded, normalized,
     plain_value, single_quoted_value,

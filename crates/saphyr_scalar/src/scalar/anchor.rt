@@ -1,3 +1,5 @@
+//! The names of anchors and aliases, taken off a text (YAML 1.2.2, 6.9.2 and 7.1).
+
 ghost use Rattle.std.specs.Prelude.{◌≡◌, ℕ, ◌<◌, List, length, string_bytes, Ok};
 ghost use Rattle.saphyr_input.specs.Classes as class;
 ghost use Rattle.saphyr_scalar.specs.Anchor as spec;

@@ -1,3 +1,5 @@
+//! Block scalars, taken off a text: their headers, and the lines behind them (YAML 1.2.2, 8.1).
+
 mod breaks;
 mod header;
 mod law;

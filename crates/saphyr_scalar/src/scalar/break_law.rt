@@ -1,3 +1,6 @@
+//! Laws: what the readers promise of the three kinds of line breaks (YAML 1.2.2, 5.4). By them what is known of
+//! texts with line feeds is known of all texts.
+
 ghost use Rattle.std.specs.Prelude.{List, ℕ};
 ghost use Rattle.saphyr_input.specs.Breaks.{normalized};
 ghost use Rattle.saphyr_scalar.specs.Alike.{AreAlike, ReadsAlike};

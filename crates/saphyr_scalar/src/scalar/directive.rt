@@ -1,3 +1,5 @@
+//! Directives, taken off a text to the ends of their lines (YAML 1.2.2, 6.8).
+
 ghost use Rattle.std.specs.Prelude.{◌≡◌, ℕ, ◌<◌, List, [], length, slice_index, string_bytes, Ok};
 ghost use Rattle.saphyr_scalar.specs.Directive as spec;
 ghost use Rattle.saphyr_scalar.specs.Quoted as run;

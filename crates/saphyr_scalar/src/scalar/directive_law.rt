@@ -1,3 +1,6 @@
+//! Laws: what the reader of directives promises in the standard's words, both ways: what is spelled so is read,
+//! and what is read is spelled so (YAML 1.2.2, 6.8).
+
 ghost use Rattle.std.specs.Prelude.{◌≡◌, ℕ, ◌+◌, true, List, ◌++◌, length, Ok, encode_utf8_all, slice_index};
 ghost use Rattle.saphyr_input.specs.Classes.{is_breakz};
 ghost use Rattle.saphyr_scalar.specs.Cursor.{Cursor, along, pass_break};

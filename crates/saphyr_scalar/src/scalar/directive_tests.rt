@@ -1,3 +1,5 @@
+//! Directives, the places behind them, and their faults.
+
 use crate::{Directive, DirectiveLine, FaultText, Marker, Reader, Refusal, Stop};
 use saphyr_input::StrInput;
 use saphyr_input::input::SkipTabs;

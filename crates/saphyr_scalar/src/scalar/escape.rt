@@ -1,3 +1,5 @@
+//! The escapes of double quoted scalars, taken off a text (YAML 1.2.2, 5.7).
+
 ghost use Rattle.std.specs.Prelude.{◌≡◌, ◌≤◌, slice_index};
 ghost use Rattle.saphyr_scalar.specs.Quoted as spec;
 

@@ -1,3 +1,5 @@
+//! Why reading ends: a text is refused, for one of the reasons here, or there is no memory.
+
 ghost use Rattle.std.specs.Prelude.{◌≡◌, IfOk, string_bytes};
 ghost use Rattle.saphyr_scalar.specs.Faults.{Says};
 ghost use Rattle.saphyr_scalar.specs.Texts.{fault_text};

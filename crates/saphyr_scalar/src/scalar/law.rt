@@ -1,3 +1,7 @@
+//! Laws: what the readers of scalars promise in the standard's words (YAML 1.2.2, 7.3): what is read is spelled so
+//! and has that value, and what is spelled so is read. And that each reader takes characters off, so that a
+//! scanner comes to an end.
+
 ghost use Rattle.std.specs.Prelude.{◌≡◌, ◌≢◌, ℕ, ◌+◌, ◌-◌, ◌^◌, ◌<◌, ◌≤◌, ◌⊎◌, Bool, Option, Some, false, true, List, drop, ◌++◌, length, Ok, encode_utf8_all, slice_index};
 ghost use Rattle.saphyr_input.specs.Classes.{is_break, is_z};
 ghost use Rattle.std.specs.List.{prefix_len};

@@ -1,3 +1,5 @@
+//! Plain scalars, taken off a text word by word, with their lines folded on the way (YAML 1.2.2, 7.3.3 and 6.5).
+
 ghost use Rattle.std.specs.Prelude.{◌≡◌, ℕ, ◌<◌, ◌≤◌, List, ◌++◌, length, slice_index, string_bytes, Ok, OnOk, false, true, if◌then◌else◌};
 ghost use Rattle.saphyr_input.specs.Places.{is_blank_or_break};
 ghost use Rattle.saphyr_scalar.specs.Cursor as cursor;

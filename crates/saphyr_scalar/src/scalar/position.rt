@@ -1,3 +1,5 @@
+//! Places of a text, by which tokens, events and faults say where they stand.
+
 ghost use Rattle.std.specs.Prelude.{◌≡◌, ◌+◌, ◌-◌, ◌<◌, ◌≤◌, ◌^◌, ◌==◌};
 ghost use Rattle.saphyr_scalar.specs.Cursor as spec;
 

@@ -1,3 +1,6 @@
+//! Laws: what the readers of anchors, aliases and tags promise in the standard's words, both ways: what is spelled
+//! so is read, and what is read is spelled so (YAML 1.2.2, 6.9 and 7.1).
+
 ghost use Rattle.std.specs.Prelude.{◌≡◌, ℕ, ◌+◌, ◌<◌, Bool, false, List, ◌∷◌, ◌++◌, length, Ok, encode_utf8_all, slice_index};
 ghost use Rattle.saphyr_input.specs.Classes.{is_anchor_char};
 ghost use Rattle.saphyr_scalar.specs.Cursor.{Cursor, along};

@@ -1,3 +1,5 @@
+//! Tags, anchors and aliases, their ends and their faults.
+
 use crate::{FaultText, Marker, Reader, Refusal, Stop, TagParts};
 use saphyr_input::StrInput;
 use saphyr_input::input::SkipTabs;

@@ -1,3 +1,6 @@
+//! Quoted scalars, taken off a text word by word, with their lines folded on the way
+//! (YAML 1.2.2, 7.3.1, 7.3.2 and 6.5).
+
 ghost use Rattle.std.specs.Prelude.{◌≡◌, ℕ, Bool, true, false, ◌==◌, ◌++◌, ◌<◌, ◌≤◌, length, slice_index, string_bytes, encode_utf8_all, Ok, OnOk, IsTrue, if◌then◌else◌};
 ghost use Rattle.saphyr_input.specs.Classes as class;
 ghost use Rattle.saphyr_scalar.specs.Cursor as cursor;

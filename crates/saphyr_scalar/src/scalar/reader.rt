@@ -1,3 +1,6 @@
+//! The characters of a text with the place that is reached, and the steps over blanks, breaks and comments
+//! (YAML 1.2.2, 5.4, 6.2 and 6.6).
+
 ghost use Rattle.std.specs.Prelude.{◌≡◌, ℕ, ◌+◌, ◌<◌, ◌≤◌, ◌^◌, length, slice_index};
 ghost use Rattle.saphyr_scalar.specs.Cursor as spec;
 

@@ -1,3 +1,5 @@
+//! Laws: where the readers refuse a text. By them each refusal of a scanner has its place in the text.
+
 ghost use Rattle.std.specs.Prelude.{◌≡◌, ℕ, ◌<◌, Bool, false, length, Err, slice_index};
 ghost use Rattle.saphyr_input.specs.Classes.{is_break};
 ghost use Rattle.saphyr_input.specs.declared.input.SkipTabs.{SkipTabs};

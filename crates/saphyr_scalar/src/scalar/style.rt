@@ -1,4 +1,6 @@
-/// How a scalar is written (YAML 1.2.2, 7.3 and 8.1).
+//! The styles of scalars (YAML 1.2.2, 7.3 and 8.1).
+
+/// How a scalar is written.
 #[derive(Clone, Copy, Debug, PartialEq, Eq, PartialOrd, Ord, Hash)]
 pub enum ScalarStyle {
     /// Without quotes.

@@ -1,3 +1,6 @@
+//! The indicators `-` and `?`: entries of block sequences, and keys that are told as such
+//! (YAML 1.2.2, 8.2.1, 8.2.2 and 7.4.2).
+
 ghost use Rattle.std.specs.Prelude.{◌≡◌, Ok, ◌<◌, length};
 ghost use Rattle.saphyr_scanner.specs.Block as block;
 ghost use Rattle.saphyr_scanner.specs.State as spec_state;

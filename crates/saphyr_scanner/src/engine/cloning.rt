@@ -1,3 +1,5 @@
+//! Copies of engines.
+
 ghost use Rattle.std.specs.Prelude.{◌≡◌, IfOk};
 
 use crate::engine::Engine;

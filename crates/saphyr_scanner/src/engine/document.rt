@@ -1,3 +1,6 @@
+//! What stands between documents: directives, the markers `---` and `...`, and byte order marks; and the end of
+//! the text (YAML 1.2.2, 6.8 and chapter 9).
+
 ghost use Rattle.std.specs.Prelude.{◌≡◌, ◌≤◌, ◌<◌, length, slice_index, None, IfOk};
 ghost use Rattle.saphyr_scanner.specs.Document as document;
 ghost use Rattle.saphyr_scanner.specs.State as spec_state;

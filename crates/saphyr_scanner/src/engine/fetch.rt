@@ -1,3 +1,6 @@
+//! Which token stands next, by its first characters (YAML 1.2.2, 5.3), and how many tokens are read before the
+//! first of them is handed out.
+
 ghost use Rattle.std.specs.Prelude.{◌≡◌, ◌<◌, Ok, length, slice_index, option_map};
 ghost use Rattle.saphyr_scanner.specs.Fetch as fetch;
 ghost use Rattle.saphyr_scanner.specs.State as spec_state;

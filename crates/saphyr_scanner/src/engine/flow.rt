@@ -1,3 +1,5 @@
+//! Flow collections: their brackets, and the commas between their entries (YAML 1.2.2, 7.4).
+
 ghost use Rattle.std.specs.Prelude.{◌≡◌, Ok, ◌<◌, length};
 ghost use Rattle.saphyr_scanner.specs.Core as spec;
 ghost use Rattle.saphyr_scanner.specs.Flow as flow;

@@ -1,3 +1,5 @@
+//! Indentation: where block collections begin and end, for which no characters stand (YAML 1.2.2, 6.1 and 8.2).
+
 ghost use Rattle.std.specs.Prelude.{◌≡◌, Ok, ◌+◌, ◌<◌, ◌^◌};
 ghost use Rattle.saphyr_scanner.specs.Core as spec;
 ghost use Rattle.saphyr_scanner.specs.Unrolling as unrolling;

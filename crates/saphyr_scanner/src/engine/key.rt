@@ -1,3 +1,6 @@
+//! Tokens that may turn out to be keys: that a key without `?` is one, the colon behind it tells
+//! (YAML 1.2.2, 7.4.2 and 8.2.2).
+
 ghost use Rattle.std.specs.Prelude.{◌≡◌, Ok, ◌<◌, length};
 ghost use Rattle.saphyr_scanner.specs.Core as spec;
 ghost use Rattle.saphyr_scanner.specs.State as spec_state;

@@ -1,3 +1,5 @@
+//! What is open at a place of the text, and which token there may be a key.
+
 ghost use Rattle.std.specs.Prelude.{◌≡◌, ◌<◌, ◌+◌, ◌^◌};
 ghost use Rattle.saphyr_scanner.specs.Core as spec;
 

@@ -1,3 +1,5 @@
+//! Anchors, aliases and tags (YAML 1.2.2, 6.9 and 7.1).
+
 ghost use Rattle.std.specs.Prelude.{◌≡◌, ◌<◌, length, slice_index};
 ghost use Rattle.saphyr_scanner.specs.Property as property;
 ghost use Rattle.saphyr_scanner.specs.State as spec_state;

@@ -1,3 +1,5 @@
+//! Scalars of all styles, and what may stand behind a quoted one (YAML 1.2.2, 7.3 and 8.1).
+
 ghost use Rattle.std.specs.Prelude.{◌≡◌, Ok, ◌<◌, length, slice_index, string_bytes};
 ghost use Rattle.saphyr_scanner.specs.Scalar as scalar;
 ghost use Rattle.saphyr_scanner.specs.State as spec_state;

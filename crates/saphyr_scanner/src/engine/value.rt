@@ -1,3 +1,6 @@
+//! The colon between a key and its value, which makes a key of what stands before it
+//! (YAML 1.2.2, 7.4.2 and 8.2.2).
+
 ghost use Rattle.std.specs.Prelude.{◌≡◌, Ok, ◌+◌, ◌<◌, ◌^◌, length};
 ghost use Rattle.saphyr_scanner.specs.Core as spec;
 ghost use Rattle.saphyr_scanner.specs.Value as value;

@@ -1,3 +1,5 @@
+//! Copies of queues.
+
 ghost use Rattle.std.specs.Prelude.{◌≡◌, IfOk};
 ghost use Rattle.saphyr_scanner.specs.QueueSeen.{place, queue};
 

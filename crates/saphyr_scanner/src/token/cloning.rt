@@ -1,3 +1,5 @@
+//! Copies of tokens.
+
 ghost use Rattle.std.specs.Prelude.{◌≡◌, IfOk};
 ghost use Rattle.saphyr_scanner.specs.Seen.{kind_of, piece};
 

@@ -1,3 +1,5 @@
+//! Iterators as inputs: up to the first `None`, up to the limit, and cloned in mid-text.
+
 ghost use Rattle.std.specs.Prelude.{◌≡◌, ◌+◌, ◌<◌, ◌≤◌, ◌==◌, None, Some, [], ◌∷◌, take, if◌then◌else◌, IfOk};
 ghost use Rattle.std.specs.Str.{chars};
 

@@ -1,3 +1,5 @@
+//! Texts as inputs: what comes next, what is taken off, and NUL past the end.
+
 ghost use Rattle.std.specs.Prelude.{◌≡◌};
 
 use super::*;

@@ -1,3 +1,5 @@
+//! What `load` hands over and where it stops: at a document's end, at a fault, and where the receiver refuses.
+
 use crate::{
     BufferedInput, Event, EventReceiver, Fault, Marker, Parser, Refused, Span, SpannedEventReceiver,
 };

@@ -1,3 +1,6 @@
+//! What the line breaks of block scalars are read as: kept or folded before a line, and chomped behind the last
+//! (YAML 1.2.2, 8.1.1.2 and 8.1.3).
+
 ghost use Rattle.std.specs.Prelude.{◌≡◌, ◌+◌, ◌++◌, string_bytes, OnOk, encode_utf8_all};
 ghost use Rattle.saphyr_scalar.specs.BlockScalar as spec;
 ghost use Rattle.saphyr_scalar.specs.Folding.{line_feeds};

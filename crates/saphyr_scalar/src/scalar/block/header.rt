@@ -1,3 +1,5 @@
+//! The headers of block scalars: their indicators, and the rest of their lines (YAML 1.2.2, 8.1.1).
+
 ghost use Rattle.std.specs.Prelude.{◌≡◌, ◌+◌, ◌-◌, ◌<◌, length};
 ghost use Rattle.saphyr_scalar.specs.BlockScalar as spec;
 

@@ -1,3 +1,6 @@
+//! Laws: what the reader of block scalars promises in the standard's words (YAML 1.2.2, 8.1): what is read is the
+//! value of its lines, and what is spelled with line feeds is read.
+
 ghost use Rattle.std.specs.Prelude.{◌≡◌, ℕ, ◌<◌, List, Ok, false, length, slice_index};
 ghost use Rattle.saphyr_input.specs.Classes.{is_break};
 ghost use Rattle.saphyr_scalar.specs.Cursor.{Cursor};

@@ -1,3 +1,6 @@
+//! The lines of block scalars: those with content, and empty ones, which are counted
+//! (YAML 1.2.2, 8.1.2 and 8.1.3).
+
 ghost use Rattle.std.specs.Prelude.{◌≡◌, ◌+◌, ◌≤◌, string_bytes, Ok, None};
 ghost use Rattle.saphyr_scalar.specs.BlockScalar as spec;
 

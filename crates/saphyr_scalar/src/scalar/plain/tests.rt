@@ -1,3 +1,5 @@
+//! Plain scalars of one line and of several, the comments that end them, and their faults.
+
 use super::PlainScalar;
 use crate::{FaultText, Marker, Reader, Refusal, Stop};
 use saphyr_input::StrInput;
