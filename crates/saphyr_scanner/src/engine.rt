@@ -34,25 +34,39 @@ use std::alloc::{AllocError, Global};
 /// a call and copied behind it, which costs more than most steps do.
 #[derive(Drop)]
 pub(crate) struct Engine<T: Input> {
+    // The rest of the text, and the place that is reached.
     reader: Reader<T>,
+    // The tokens that were read and not handed out.
     queue: Queue,
+    // The innermost flow collection, or what is outside of all, and the token there that may be a key.
     level: Level,
-    // What is open around the level, the outermost first.
+    // What is open around the level, the outermost first: at `b` in `[a, {b`, the outside and the sequence.
     outer: Vec<Level>,
-    // Whether the candidate outside flow has to be a key.
+    // Whether the candidate outside flow has to be a key, since it stands at the column of the innermost
+    // block collection: `b` in the line behind `a: 1` is refused without its colon.
     required: bool,
+    // Whether the next token may begin a key; outside flow, also whether a `-`, a `?` or a colon that has no
+    // candidate may come. So it is at the start of a line and behind these three outside flow, and inside flow
+    // behind an opening bracket and a comma: `a: b: c` and `a: - b` are refused.
     key_allowed: bool,
-    // Where a colon may stand right behind its key.
+    // The index at which a colon inside flow needs no blank behind it: where a quoted scalar or a flow
+    // collection has ended, and the blanks behind it. So `{"a":b}` is a pair, and `{a:b}` has the key `a:b` alone.
     adjacent: usize,
-    // The first column to the right of the innermost block collection.
+    // The first column to the right of the innermost block collection, 0 where none is open: 3 at `b` in `- a: b`.
     indent: usize,
-    // Whether content has to stand one column further right.
+    // Whether content has to stand at `indent` or right of it, as behind `a:`, and in the brackets of `- [`.
+    // Otherwise it may stand one column further left too, where the collection's next entry does.
     deeper: bool,
+    // What `indent` was around each block collection, the outermost first: 0 and 1 at `b` in `- a: b`.
     outer_indents: Vec<usize>,
-    // The comment that ended a plain scalar.
+    // The comment that ended the last plain scalar. It is kept up to the next token, since content of the next line
+    // that would go on with the scalar is refused.
     comment: Option<Marker>,
+    // Whether the token of the stream's start was put into the queue.
     started: bool,
+    // Whether the token of the stream's end was.
     ended: bool,
+    // Where the memory of tokens and their texts comes from.
     alloc: Global,
 }
 

@@ -15,26 +15,34 @@ use std::collections::VecDeque;
 #[derive(Clone, Copy, Debug, PartialEq, Eq)]
 pub(crate) enum Opening {
     Nothing,
+    /// The token of a key, of a mapping that is open.
     Key,
+    /// The same for the first key of a block mapping, behind the mapping's start.
     BlockMappingAndKey,
+    /// The same for a pair in a flow sequence, as in `[a: b]`, which is a mapping of its own.
     FlowMappingAndKey,
 }
 
 /// A token, and what stands in front of it.
 #[derive(Drop)]
 pub(crate) struct Place {
+    // What the token is, and where it stands.
     kind: TokenType,
     span: HeldSpan,
+    // What is handed out before it.
     opening: Opening,
 }
 
 /// The tokens that were read and not handed out, in places that are numbered from the text's start.
 ///
-/// A token that may yet turn out to be a key is held here, and what makes it one is told at its
-/// own place: no token moves.
+/// A token that may yet turn out to be a key may have to get a mapping's start and a key before it. So it
+/// is held here until that is known, and with it all that was read behind it: in `[a, b]: c` the bracket and the
+/// tokens behind it wait for the colon. What makes a token a key is told at its own place: no token moves.
 #[derive(Drop)]
 pub(crate) struct Queue {
+    // The tokens in the order of the text.
     places: VecDeque<Place>,
+    // How many places were handed out, which is the number of the first one here.
     handed: usize,
 }
 

@@ -77,6 +77,7 @@ impl<T: Input> Scanner<T> {
     pub fn next_token_into(&mut self, token: &mut Token) -> Result<bool, Stop>
         ensures { Hands (handed token.new result) self.old self.new }
     {
+        // Laws, which do nothing when they run: each says that its reader takes characters off.
         takes_plain();
         takes_quoted();
         takes_block_scalar();

@@ -20,15 +20,22 @@ use std::borrow::CowStr;
 /// tokens and events are large to move.
 #[derive(Drop)]
 pub struct Machine<T: Input> {
+    // What gives the tokens.
     pub(super) scanner: Scanner<T>,
-    // A token that was taken and put back.
+    // A token that was taken and put back, which comes before those of the scanner.
     pub(super) token: Option<Token>,
+    // What is expected next.
     pub(super) state: State,
-    // What is expected behind each node that is open.
+    // What is expected behind each node that is open, the innermost last: the document's end and the sequence's
+    // next entry behind `[a, {`.
     pub(super) states: Vec<State>,
+    // The anchors of the document, which its aliases name.
     pub(super) anchors: Anchors,
+    // What the directives of the document declare, and of those before where `keep_tags` is set.
     pub(super) prefixes: Prefixes,
+    // Whether prefixes hold for later documents too.
     pub(super) keep_tags: bool,
+    // Where the memory of events comes from.
     pub(super) alloc: Global,
 }
 

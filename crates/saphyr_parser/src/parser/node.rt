@@ -266,7 +266,8 @@ impl<T: Input> Machine<T> {
         }
     }
 
-    // A node begins with the token, and has no properties.
+    // A node begins with the token, and has no properties. It is read as by `content`, but as most nodes are
+    // such, no `Properties` are made for it.
     #[inline(always)]
     #[tactic(auto, unfolding(crate::specs::NodeSteps::content))]
     fn bare_content<'input>(

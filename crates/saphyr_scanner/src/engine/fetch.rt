@@ -139,7 +139,8 @@ impl<T: Input> Engine<T> {
         self.fetch_value()
     }
 
-    // Whether the first token of the queue may yet turn out to be a key.
+    // Whether the first token of the queue may yet turn out to be a key, in whatever is open. Then it can't be
+    // handed out, nor what stands behind it: a mapping's start and a key may have to come before it.
     fn is_held(&self) -> bool
         ensures { result ≡ fetch.is_held (state self.now) }
     {
@@ -188,6 +189,7 @@ impl<T: Input> Engine<T> {
     fn read_on(&mut self, limit: usize) -> Result<(), Stop>
         ensures { Moves (λ _. state self.new) result (fetch.fill limit (state self.old)) }
     {
+        // Laws, which do nothing when they run: each says that its reader takes characters off.
         takes_plain();
         takes_quoted();
         takes_block_scalar();

@@ -81,7 +81,8 @@ impl<T: Input> Engine<T> {
         }
     }
 
-    // Content may stand at a column, though not right of its block collection.
+    // At the column of the block collection its next entry stands, and left of it what is behind it: neither has
+    // to stand right of it.
     fn go_less_deep(&mut self, column: Option<usize>)
         ensures { state self.new ≡ spec_state.changed (unrolling.less_deep column (state self.old).core) (state self.old) }
     {

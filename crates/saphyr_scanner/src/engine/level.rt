@@ -10,14 +10,15 @@ use saphyr_scalar::Marker;
 pub(crate) enum Context {
     /// Nothing, or block collections.
     Block,
+    /// A flow mapping.
     FlowMapping,
     /// A flow sequence with no pair open that has no bracket of its own.
     FlowSequence,
-    /// A flow sequence with a pair that its colon began.
+    /// A flow sequence with a pair that its colon began, as in `[a: b`.
     FlowPair,
-    /// A flow sequence with a pair that `?` began.
+    /// A flow sequence with a pair that `?` began, as in `[? a : b`.
     ExplicitFlowPair,
-    /// A flow sequence with a `?` behind the colon that began a pair.
+    /// A flow sequence with a `?` behind the colon that began a pair, as in `[a: ? b`.
     MarkedFlowPair,
 }
 
@@ -36,10 +37,12 @@ impl Context {
     }
 }
 
-/// A token that may be a key: where it begins, and the number of its place in the queue.
+/// A token that may be a key, or begin one: the `[` of `[a, b]: c`, and the anchor of `&x a: b`.
 #[derive(Clone, Copy, Debug, PartialEq, Eq)]
 pub(crate) struct Candidate {
+    // Where it begins. Outside flow, its colon has to stand on this line.
     pub(super) mark: Marker,
+    // The number of its place in the queue, where a colon has the key's token told in front of it.
     pub(super) place: usize,
     ghost near: { mark.col + 1 < 2 ^ 64 },
 }
@@ -47,6 +50,8 @@ pub(crate) struct Candidate {
 /// What is open, and the token in it that may be a key.
 #[derive(Clone, Copy, Debug, PartialEq, Eq)]
 pub(crate) struct Level {
+    // What is open.
     pub(super) context: Context,
+    // The token with which the last node began that may be a key, until its colon comes or can't come any more.
     pub(super) key: Option<Candidate>,
 }
