@@ -18,6 +18,8 @@ pub mod Passing
 pub mod Plain
 pub mod PlainReading
 pub mod PlainSpelling
+pub mod LineBreaks
+pub mod QuotedWords
 pub mod Quoted
 pub mod QuotedLines
 pub mod QuotedMarkers

@@ -2,7 +2,7 @@
 -- Each relation is between what stands at a place, what it stands for, and what stands behind it.
 use Rattle.std.specs.Prelude.{◌≡◌, ℕ, ◌+◌, ◌*◌, ◌<◌, Bool, ◌&&◌, ◌==◌, not, List, [], ◌∷◌, ◌++◌, length, Some, IsTrue}
 use Rattle.saphyr_input.specs.Classes.{is_breakz, is_hex, hex_value}
-use Rattle.saphyr_scalar.specs.Quoted.{simple_escape, digit_count, is_scalar}
+use Rattle.saphyr_scalar.specs.QuotedWords.{simple_escape, digit_count, is_scalar}
 
 -- a character that stands for itself between double quotes: no break, NUL, quote or backslash
 abbrev pub stands_for_itself : ℕ → Bool

@@ -2,7 +2,7 @@
 use Rattle.std.specs.Prelude.{ℕ, List, ◌∷◌, drop, slice_index, IsTrue, IsFalse}
 use Rattle.saphyr_input.specs.Classes.{is_break}
 use Rattle.saphyr_scalar.specs.Cursor.{along, next_line}
-use Rattle.saphyr_scalar.specs.Quoted.{break_len}
+use Rattle.saphyr_scalar.specs.LineBreaks.{break_len}
 use Rattle.saphyr_scalar.specs.declared.scalar.position.Marker.{Marker}
 
 -- from a place and what stands there to a later place and what stands behind

@@ -6,6 +6,7 @@ use Rattle.saphyr_scalar.specs.declared.scalar.position.Marker.{Marker}
 use Rattle.saphyr_scalar.specs.declared.scalar.fault.Refusal.{Refusal}
 use Rattle.saphyr_scalar.specs.declared.scalar.fault.FaultText.TheVariants as fault
 use Rattle.saphyr_scalar.specs.Cursor.{Cursor, ◌>>=◌, refuse, along, next_line, pass, pass_blanks, pass_break}
+pub use Rattle.saphyr_scalar.specs.LineBreaks.{ends_line}
 use Rattle.saphyr_scalar.specs.Quoted.{at, with_run}
 
 -- a word goes on with the first character
@@ -38,10 +39,6 @@ pub record Gap : Type 0 where
   pub text : List ℕ
   pub tabbed : Bool
   pub behind : Cursor
-
--- whether a line ends with the character: CR before LF does not end it
-abbrev pub ends_line : ℕ → List ℕ → Bool
-ends_line c cs = is_break c && not ((c == carriage_return) && (slice_index cs 0 == line_feed))
 
 -- behind a line's blanks, where a tab stands in its indentation: only a comment may, or nothing
 unfoldable pub may_stand : Marker → Bool → Cursor → Result Cursor Refusal

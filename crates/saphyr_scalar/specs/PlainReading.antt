@@ -6,7 +6,7 @@ use Rattle.saphyr_input.specs.Places.{is_blank_or_break, is_document_indicator}
 use Rattle.saphyr_scalar.specs.declared.scalar.position.Marker.{Marker}
 use Rattle.saphyr_scalar.specs.Cursor.{Cursor, along, next_line}
 use Rattle.saphyr_scalar.specs.FlowReading.{plain_value}
-use Rattle.saphyr_scalar.specs.Plain.{ends_line}
+use Rattle.saphyr_scalar.specs.LineBreaks.{ends_line}
 
 abbrev pub AreWhite : List ℕ → Type 0
 AreWhite [] = Unit {0}

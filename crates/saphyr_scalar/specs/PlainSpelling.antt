@@ -5,7 +5,8 @@ use Rattle.saphyr_input.specs.Classes.{is_blank, is_break, is_blank_or_breakz, i
 use Rattle.saphyr_input.specs.Places.{is_blank_or_break, is_document_indicator}
 use Rattle.saphyr_scalar.specs.declared.scalar.position.Marker.{Marker}
 use Rattle.saphyr_scalar.specs.Cursor.{Cursor, along, next_line}
-use Rattle.saphyr_scalar.specs.Plain.{in_word, ends_line}
+use Rattle.saphyr_scalar.specs.LineBreaks.{ends_line}
+use Rattle.saphyr_scalar.specs.Plain.{in_word}
 use Rattle.saphyr_scalar.specs.PlainReading.{AreWhite, passed}
 
 -- a character that goes on with a word whatever follows it, inside flow and outside

@@ -10,41 +10,14 @@ use Rattle.saphyr_scalar.specs.declared.reading.flow.Quote.{Quote}
 use Rattle.saphyr_scalar.specs.declared.reading.flow.Quote.TheVariants.{Single, Double}
 use Rattle.saphyr_scalar.specs.Cursor.{Cursor, ◌>>=◌, refuse, along, next_line, pass}
 use Rattle.saphyr_scalar.specs.FlowReading as flow
+pub use Rattle.saphyr_scalar.specs.LineBreaks.{break_len}
+unfoldable pub use Rattle.saphyr_scalar.specs.QuotedWords.{simple_escape}
+pub use Rattle.saphyr_scalar.specs.QuotedWords.{digit_count, is_scalar, is_closing}
 use Rattle.saphyr_scalar.specs.Folding.{raw_break, line_feeds}
 
 -- a character that stands for itself between the quotes and is no blank
 unfoldable pub is_literal : Quote → ℕ → Bool
 is_literal quote c = not (is_blank_or_breakz c) && not (flow.is_special quote c)
-
--- what an escape of one letter stands for
-unfoldable pub simple_escape : ℕ → Option ℕ
-simple_escape c =
-    if c == 48 then Some 0x00
-    else if c == 97 then Some 0x07
-    else if c == 98 then Some 0x08
-    else if (c == 116) || (c == 9) then Some 0x09
-    else if c == 110 then Some 0x0A
-    else if c == 118 then Some 0x0B
-    else if c == 102 then Some 0x0C
-    else if c == 114 then Some 0x0D
-    else if c == 101 then Some 0x1B
-    else if c == 32 then Some 0x20
-    else if c == 34 then Some 0x22
-    else if c == 47 then Some 0x2F
-    else if c == 92 then Some 0x5C
-    else if c == 78 then Some 0x85
-    else if c == 95 then Some 0xA0
-    else if c == 76 then Some 0x2028
-    else if c == 80 then Some 0x2029
-    else None
-
--- how many hexadecimal digits follow the letter of an escape, 0 where none do
-abbrev pub digit_count : ℕ → ℕ
-digit_count c = if c == 120 then 2 else if c == 117 then 4 else if c == 85 then 8 else 0
-
--- a Unicode scalar value
-abbrev pub is_scalar : ℕ → Bool
-is_scalar v = nat_lt v 0xD800 || (nat_le 0xE000 v && nat_lt v 0x11_0000)
 
 -- n hexadecimal digits behind those that stand for v
 unfoldable pub digits : Marker → ℕ → ℕ → Cursor → Result (ℕ × Cursor) Refusal
@@ -141,10 +114,6 @@ end_gap indent start (over_lines escaped n) s = begin_word indent start s >>= λ
 abbrev pub escaped_gap : Quote → ℕ → Gap
 escaped_gap quote c = if c == flow.mark quote then no_gap else over_lines true 0
 
--- how many characters the break that stands first has (5.4)
-abbrev pub break_len : List ℕ → ℕ
-break_len xs = if next_2_are xs 13 10 then 2 else 1
-
 abbrev pub if_some : {X : Type 0} → Option ℕ → (ℕ → X) → X → X
 if_some (Some c) f x = f c
 if_some None f x = x
@@ -188,11 +157,6 @@ with_run p text s = (text ++ encode_utf8_all (take (prefix_len p s.rest) s.rest)
 abbrev pub is_escaped_break : Quote → List ℕ → Bool
 is_escaped_break Single xs = false
 is_escaped_break Double xs = (slice_index xs 0 == 92) && is_break (slice_index xs 1)
-
--- the closing quote, and not the first of two single quotes
-abbrev pub is_closing : Quote → List ℕ → Bool
-is_closing Single xs = (slice_index xs 0 == 39) && not (slice_index xs 1 == 39)
-is_closing Double xs = slice_index xs 0 == 34
 
 -- a space between two words of a line, or before the closing quote
 unfoldable pub is_single_space : List ℕ → Bool

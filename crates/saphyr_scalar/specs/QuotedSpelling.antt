@@ -4,7 +4,8 @@ use Rattle.std.specs.Prelude.{◌≡◌, ℕ, Bool, ◌&&◌, not, List, [], ◌
 use Rattle.saphyr_input.specs.Classes.{is_break, is_breakz}
 use Rattle.saphyr_scalar.specs.FlowReading.{mark, is_special, raw_item, apostrophe, backslash}
 use Rattle.saphyr_scalar.specs.LineSpelling.{IsNumber}
-use Rattle.saphyr_scalar.specs.Quoted.{simple_escape, break_len, is_closing}
+use Rattle.saphyr_scalar.specs.LineBreaks.{break_len}
+use Rattle.saphyr_scalar.specs.QuotedWords.{simple_escape, is_closing}
 use Rattle.saphyr_scalar.specs.declared.reading.folding.Item.{Item}
 use Rattle.saphyr_scalar.specs.declared.reading.folding.Item.TheVariants.{Raw, Escaped, Break, EscapedBreak}
 use Rattle.saphyr_scalar.specs.declared.reading.flow.Quote.{Quote}

@@ -16,7 +16,7 @@ use Rattle.saphyr_scalar.specs.declared.reading.block.BlockStyle.{BlockStyle}
 use Rattle.saphyr_scalar.specs.declared.reading.block.BlockStyle.TheVariants as block_style
 use Rattle.saphyr_scalar.specs.Cursor.{Cursor, fresh, along, next_line}
 use Rattle.saphyr_scalar.specs.Passing.{IsPassed}
-use Rattle.saphyr_scalar.specs.Quoted.{break_len}
+use Rattle.saphyr_scalar.specs.LineBreaks.{break_len}
 use Rattle.saphyr_scalar.specs.Folding.{folded}
 use Rattle.saphyr_scalar.specs.QuotedMarkers.{HasNoMarker}
 use Rattle.saphyr_scalar.specs.QuotedSpelling.{IsQuotedText}
