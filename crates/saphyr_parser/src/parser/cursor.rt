@@ -206,8 +206,8 @@ impl<'input> Parser<'input, StrInput<'input>> {
 
 impl<'input, I: Iterator<Item = char>> Parser<'input, BufferedInput<I>> {
     /// The events of the characters that an iterator gives up to its first `None`, which are refused past
-    /// 4,294,967,295. They are to be one list, as those of a text's `chars` are by the law `lists_characters`;
-    /// the iterator is not called yet.
+    /// 4,294,967,295. They are to be one list, as those of a text's `chars` are by the law `lists_characters`.
+    /// The first of them is asked for here.
     ///
     /// An error says that there was no memory for a window on the characters.
     pub fn new_from_iter(alloc: Global, iter: I) -> Result<Self, AllocError>
