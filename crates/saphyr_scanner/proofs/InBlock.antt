@@ -9,6 +9,9 @@ pub mod Skips
 pub mod Entries
 pub mod Marks
 pub mod Lines
+pub mod LineStarts
+pub mod DirectiveLines
+pub mod Further
 pub mod Statements
 pub mod Texts
 pub mod ScalarTexts
@@ -20,6 +23,7 @@ pub mod Leads
 pub mod Nodes
 pub mod MarkedLines
 pub mod Documents
+pub mod Firsts
 pub mod Streams
 pub mod Keys
 pub mod FlowNodes
