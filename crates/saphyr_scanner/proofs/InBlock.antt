@@ -24,6 +24,7 @@ pub mod Nodes
 pub mod MarkedLines
 pub mod Documents
 pub mod Firsts
+pub mod HandedMarkers
 pub mod Streams
 pub mod Keys
 pub mod FlowNodes

@@ -1,4 +1,4 @@
--- The first tokens of nodes, of documents, and of what stands behind a document.
+-- The first tokens of nodes and of documents.
 use Rattle.std.proofs.Common.{◌≡◌, ℕ, Bool, true, false, List, [], ◌∷◌, ◌++◌, IsTrue, IsFalse, refl, sym, ap, ◌∙◌, arith, subst, append_assoc, append-nil, ◌⊎◌, inl, inr}
 use Rattle.saphyr_scalar.specs.BlockRead.{spaces}
 use Rattle.saphyr_scalar.specs.Spaces.{IsLastFiller}
@@ -10,7 +10,7 @@ use Rattle.saphyr_scanner.proofs.FlowStates.{IsInk}
 use Rattle.saphyr_scanner.proofs.FlowInks.{BeginsInk, properties_ink}
 use Rattle.saphyr_scanner.proofs.InBlock.Skips.{IsSkipped, nothing, skipped_append, filler_skipped, spaces_skipped, are_spaces_skipped, line_end_skipped}
 use Rattle.saphyr_scanner.proofs.InBlock.Statements.{Leaves}
-use Rattle.saphyr_scanner.proofs.InBlock.Texts.{further_ink, entries_ink, pairs_ink}
+use Rattle.saphyr_scanner.proofs.InBlock.Texts.{dash_ink, further_ink, entries_ink, pairs_ink}
 use Rattle.saphyr_scanner.proofs.InBlock.Documents.{AreBlockDocuments}
 use Rattle.saphyr_scanner.proofs.InBlock.DirectiveLines.{DirectiveLine, directive_line}
 
@@ -79,12 +79,6 @@ node_token leaves (Map p pairs) place t o (inr (m, lead, entries, lead_is, h, e)
 
 -- ## Documents
 
-dash_ink : IsInk 45
-dash_ink = record { blank = refl; break = refl; comment = refl; byte_order_mark = refl }
-
-dot_ink : IsInk 46
-dot_ink = record { blank = refl; break = refl; comment = refl; byte_order_mark = refl }
-
 percent_ink : IsInk 37
 percent_ink = record { blank = refl; break = refl; comment = refl; byte_order_mark = refl }
 
@@ -111,10 +105,3 @@ pub documents_token : {limit : ℕ} → Leaves limit → (ds : Forest) (free : B
 documents_token leaves [] free t h = inl (refl, h)
 documents_token leaves (d ∷ ds) free t (filler, document, others, filler_is, is, behind, e) =
     inr (subst HasToken (sym e) (token_behind filler (document ++ others) (filler_skipped filler filler_is) (token_front document others (document_token leaves d free document others is))))
-
--- the same of what stands behind a document
-pub behind_token : {limit : ℕ} → Leaves limit → (ds : Forest) (o : List ℕ) → layout.IsBehindDocument (AreBlockDocuments ds) o → ((ds ≡ []) × IsLastFiller o) ⊎ HasToken o
-behind_token leaves ds o (inl h) = documents_token leaves ds false o h
-behind_token leaves ds o (inr (suffix, others, (filler, end, prefix, filler_is, end_is, prefix_is, text), behind, e)) =
-    inr (subst HasToken (sym (e ∙ ap (λ (x : List ℕ). x ++ others) text ∙ append_assoc filler (46 ∷ 46 ∷ 46 ∷ (end ++ prefix)) others))
-    (token_behind filler (46 ∷ 46 ∷ 46 ∷ ((end ++ prefix) ++ others)) (filler_skipped filler filler_is) (here 46 (46 ∷ 46 ∷ ((end ++ prefix) ++ others)) (46 ∷ 46 ∷ 46 ∷ ((end ++ prefix) ++ others)) dot_ink refl)))
