@@ -25,7 +25,9 @@ pub mod MarkedLines
 pub mod Documents
 pub mod Firsts
 pub mod HandedMarkers
+pub mod Stops
 pub mod Streams
+pub mod ToMarkers
 pub mod Keys
 pub mod FlowNodes
 pub mod Layouts

@@ -186,7 +186,7 @@ feed_last m c [] e = by_feed (c == line_feed) refl e
     by_feed false k e = absurd (let place : moved m (c ∷ []) ≡ along m 1 = rw (moved, k) refl in let col : m.col + 1 ≡ 0 = sym (ap (λ (n : Marker). n.col) place) ∙ e in omega (arith, col))
 feed_last m c (d ∷ ds) e = let r = feed_last (behind_character m c) d ds e in (c ∷ r.0, ap (λ (x : List ℕ). c ∷ x) r.1)
 
-node_marks : (at_start : Bool) (t o : List ℕ) → EndsWithLine t o → marks_line at_start t o ≡ has_marker at_start t
+pub node_marks : (at_start : Bool) (t o : List ℕ) → EndsWithLine t o → marks_line at_start t o ≡ has_marker at_start t
 node_marks at_start t o (inr e) = subst (λ (x : List ℕ). marks_line at_start t x ≡ has_marker at_start t) (sym e) (last_marks at_start t)
 node_marks at_start [] o (inl h) = refl
 node_marks at_start (c ∷ cs) o (inl h) =

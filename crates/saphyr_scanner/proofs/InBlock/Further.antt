@@ -10,8 +10,10 @@ use Rattle.saphyr_scalar.specs.Spaces.{IsEol}
 use Rattle.saphyr_scalar.specs.declared.reading.block.BlockStyle.{BlockStyle}
 use Rattle.saphyr_scalar.specs.declared.reading.block.BlockStyle.TheVariants as block
 use Rattle.saphyr_scalar.specs.declared.reading.block.Chomping.{Chomping}
-use Rattle.saphyr_scanner.specs.Forest.{Style, Literal, Folded, Plain, SingleQuoted, DoubleQuoted, Node, Alias, Scalar, Seq, Map, Nodes, NoNode, MoreNodes, Pairs, NoPair, MorePairs}
-use Rattle.saphyr_scanner.specs.BlockNodes.{Place, BehindDash, BehindMark, BehindKey, indent_at, IsFlowInBlock, IsLineLeft, IsBehindScalar, IsBlockText, IsStyled, IsBlockPair, IsBlockNode, AreEntries, AreOtherEntries, ArePairs, AreOtherPairs}
+use Rattle.saphyr_scanner.specs.Forest.{Style, Literal, Folded, Plain, SingleQuoted, DoubleQuoted, Node, Alias, Scalar, Seq, Map, Nodes, NoNode, MoreNodes, Pairs, NoPair, MorePairs, Document}
+use Rattle.saphyr_scanner.specs.BlockNodes.{Place, BehindDash, BehindMark, BehindKey, BehindMarker, AtStart, indent_at, IsFlowInBlock, IsLineLeft, IsBehindScalar, IsBlockText, IsStyled, IsBlockPair, IsBlockNode, AreEntries, AreOtherEntries, ArePairs, AreOtherPairs}
+use Rattle.saphyr_scanner.specs.Layout as layout
+use Rattle.saphyr_scanner.specs.Layout.{most_open}
 use Rattle.saphyr_scanner.proofs.FlowRoots.{fed_marker}
 
 -- ## Texts that end with a break
@@ -50,6 +52,19 @@ fed_back : (n : ℕ) (o front : List ℕ) → spaces n ++ o ≡ front ++ (10 ∷
 fed_back zero o front e = record { front = front; is = e }
 fed_back (suc n) o [] e = absurd (cc)
 fed_back (suc n) o (c ∷ cs) e = fed_back n o cs (cc)
+
+-- behind any text
+pub fed_behind : (a : List ℕ) (c : ℕ) (cs : List ℕ) → EndsFed (a ++ (c ∷ cs)) → EndsFed (c ∷ cs)
+fed_behind a c cs h = by_front a h.front h.is
+  where
+    by_front : (a front : List ℕ) → a ++ (c ∷ cs) ≡ front ++ (10 ∷ []) → EndsFed (c ∷ cs)
+    by_front [] front e = record { front = front; is = e }
+    by_front (b ∷ bs) [] e = absurd (none_inside bs (cc))
+      where
+        none_inside : (bs : List ℕ) → bs ++ (c ∷ cs) ≡ [] → ⊥
+        none_inside [] e = cc
+        none_inside (b ∷ bs) e = cc
+    by_front (b ∷ bs) (d ∷ ds) e = by_front bs ds (cc)
 
 -- ## Block scalars
 
@@ -153,7 +168,7 @@ styled_further more DoubleQuoted value indent t o fed h = absurd h
 
 -- ## Nodes
 
-eol_further : (more t o : List ℕ) → EndsFed o → IsEol t o → IsEol t (o ++ more)
+pub eol_further : (more t o : List ℕ) → EndsFed o → IsEol t o → IsEol t (o ++ more)
 eol_further more t o fed (inl h) = inl h
 eol_further more t o fed (inr (h, e)) = absurd (none_fed o fed e)
 
@@ -217,3 +232,10 @@ mutual
       other_pairs_further more room pairs m others o fed k,
       e,
     )
+
+-- ## Documents
+
+pub document_further : (more : List ℕ) (d : Document) (free : Bool) (t o : List ℕ) → EndsFed o → layout.IsDocument (IsBlockNode most_open) d free t o → layout.IsDocument (IsBlockNode most_open) d free t (o ++ more)
+document_further more d free t o fed (inl (is_free, (same, unmarked, is))) = inl (is_free, (same, unmarked, node_further more most_open d.node AtStart t o fed is))
+document_further more d free t o fed (inr (may, (directives, node, explicit, compatible, are, unmarked, is, e))) =
+    inr (may, (directives, node, explicit, compatible, are, unmarked, node_further more most_open d.node BehindMarker node o fed is, e))

@@ -1,16 +1,17 @@
 -- Where lines begin in a text, and pieces of which no document marker begins a line.
-use Rattle.std.proofs.Common.{◌≡◌, ℕ, Bool, true, false, List, [], ◌∷◌, ◌++◌, IsTrue, refl, sym, ap, ◌∙◌, arith, subst, append_assoc, append-nil}
+use Rattle.std.proofs.Common.{◌≡◌, ℕ, Bool, true, false, List, [], ◌∷◌, ◌++◌, IsTrue, refl, sym, ap, ◌∙◌, arith, subst, append_assoc, append-nil, ◌⊎◌, inl, inr}
 use Rattle.std.proofs.lemmas.Bool.Decides.{nat_tests}
 use Rattle.std.specs.Prelude.{◌||◌, ◌&&◌, ◌==◌, not}
 use Rattle.saphyr_input.specs.Classes.{line_feed, is_yaml_non_break}
 use Rattle.saphyr_input.specs.Places.{is_document_indicator}
-use Rattle.saphyr_scalar.specs.declared.scalar.position.Marker.{Marker}
+use Rattle.saphyr_scalar.specs.BlockRead.{spaces}
+use Rattle.saphyr_scalar.specs.Spaces.{IsComment, IsLineRest, IsEol, IsLastFiller}
 use Rattle.saphyr_scalar.specs.TagSpelling.{AreIn}
-use Rattle.saphyr_scanner.proofs.FlowStates.{marks_line, moved, past}
+use Rattle.saphyr_scanner.specs.Layout.{IsDocumentPrefix}
+use Rattle.saphyr_scanner.proofs.FlowStates.{marks_line}
 use Rattle.saphyr_scanner.proofs.FlowPlaces.{both}
-use Rattle.saphyr_scanner.proofs.InBlock.States.{IsStop}
-use Rattle.saphyr_scanner.proofs.InBlock.Gaps.{stop_past}
-use Rattle.saphyr_scanner.proofs.InBlock.Skips.{IsSkipped, nothing, one_space, one_break, one_comment, skipped_past}
+use Rattle.saphyr_scanner.proofs.FlowFillers.{behind_is}
+use Rattle.saphyr_scanner.proofs.InBlock.Skips.{IsSkipped, nothing, one_space, one_break, one_comment, spaces_skipped, filler_skipped, line_end_skipped}
 
 -- ## Starts of lines
 
@@ -89,6 +90,27 @@ skipped_unmarked _ (one_comment words w are h) at_start o =
     first_unmarked 35 (words ++ (10 ∷ w)) o refl refl
     (join_unmarked false words (10 ∷ w) o (words_unmarked words ((10 ∷ w) ++ o) line) (λ s p. first_unmarked 10 w p refl refl (skipped_unmarked w h true p) s)) at_start
 
+comment_unmarked : (t : List ℕ) → (t ≡ []) ⊎ IsComment t → IsUnmarked t
+comment_unmarked t (inl e) = subst IsUnmarked (sym e) (λ at_start o. refl)
+comment_unmarked t (inr (words, are, e)) = subst IsUnmarked (sym e) (line_unmarked 35 words refl refl (refl, on_line is_yaml_non_break word_line words are))
+
+pub last_unmarked : (t : List ℕ) → IsLastFiller t → IsUnmarked t
+last_unmarked t (filler, text, filler_is, (front, comment, (n, low, spaced), k, text_is), e) =
+    let last = both_unmarked front comment (subst IsUnmarked (sym spaced) (skipped_unmarked (spaces n) (spaces_skipped n))) (comment_unmarked comment k) in
+    subst IsUnmarked (sym e) (both_unmarked filler text (skipped_unmarked filler (filler_skipped filler filler_is)) (subst IsUnmarked (sym text_is) last))
+
+rest_unmarked : (t : List ℕ) → IsLineRest t → IsUnmarked t
+rest_unmarked t (front, comment, (n, low, spaced), k, e) =
+    subst IsUnmarked (sym e) (both_unmarked front comment (subst IsUnmarked (sym spaced) (skipped_unmarked (spaces n) (spaces_skipped n))) (comment_unmarked comment (behind_is front comment k)))
+
+pub eol_unmarked : (t o : List ℕ) → IsEol t o → IsUnmarked t
+eol_unmarked t o (inl h) = skipped_unmarked t (line_end_skipped t h)
+eol_unmarked t o (inr h) = rest_unmarked t h.0
+
+pub prefix_unmarked : (t : List ℕ) → IsDocumentPrefix t → IsUnmarked t
+prefix_unmarked t (inl e) = subst IsUnmarked (sym e) (λ at_start o. refl)
+prefix_unmarked t (inr (filler, is, e)) = subst IsUnmarked (sym e) (both_unmarked filler (65279 ∷ []) (skipped_unmarked filler (filler_skipped filler is)) (line_unmarked 65279 [] refl refl (refl, tt)))
+
 -- ## A document marker stands behind such a piece
 
 -- The text has y at a line's start, behind a front.
@@ -111,11 +133,15 @@ behind_piece at_start (c ∷ cs) b (d ∷ ds) y e unmarked line marker =
     let n = (neither (at_start && is_document_indicator (c ∷ (cs ++ b))) (marks_line (c == line_feed) cs b) unmarked).1 in
     behind_piece (c == line_feed) cs b ds y others n (subst (λ (z : ℕ). opens_line (z == line_feed) ds ≡ true) (sym same) line) marker
 
--- ## What is skipped ends nowhere but at its end
+-- a text of which none begins a line has none
+pub no_line : (t y : List ℕ) → IsUnmarked t → HasLine t y → IsTrue (is_document_indicator y) → ⊥
+no_line t y h l marker =
+    let k = behind_piece true t [] l.front y (append-nil t ∙ l.is) (h true []) l.line marker in
+    clash (ap is_document_indicator (none_left k.front y (sym k.is))) marker
+  where
+    none_left : (a b : List ℕ) → a ++ b ≡ [] → b ≡ []
+    none_left [] b e = e
+    none_left (c ∷ cs) b e = absurd (cc)
 
-pub skipped_whole : (w y s : List ℕ) → IsSkipped w → IsStop y → IsSkipped s → w ++ y ≡ s → y ≡ []
-skipped_whole w y s h stop k e =
-    let m : Marker = record { index = 0; line = 1; col = 0 } in
-    let one : (past 0 m (w ++ y)).1 ≡ y = ap (λ (q : Marker × List ℕ). q.1) (skipped_past m w y h ∙ stop_past (moved m w) y stop) in
-    let other : (past 0 m s).1 ≡ [] = ap (λ (x : List ℕ). (past 0 m x).1) (sym (append-nil s)) ∙ ap (λ (q : Marker × List ℕ). q.1) (skipped_past m s [] k) in
-    sym one ∙ ap (λ (x : List ℕ). (past 0 m x).1) e ∙ other
+    clash : {b : Bool} → b ≡ false → b ≡ true → ⊥
+    clash e f = let k = sym e ∙ f in cc
