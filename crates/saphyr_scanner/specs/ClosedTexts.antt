@@ -1,9 +1,12 @@
 -- Texts that end with the line of a document marker (YAML 1.2.2, 9.1.2, 9.1.4), in texts whose breaks are line feeds.
-use Rattle.std.specs.Prelude.{◌≡◌, ◌⊎◌, ℕ, List, [], ◌∷◌, ◌++◌, codes}
+use Rattle.std.specs.Prelude.{◌≡◌, ◌⊎◌, ℕ, List, [], ◌∷◌, ◌++◌, map, codes}
 use Rattle.saphyr_input.specs.Classes.{line_feed, byte_order_mark}
 use Rattle.saphyr_scalar.specs.Spaces.{IsLineEnd, IsFiller}
 use Rattle.saphyr_scanner.specs.Tokens as tokens
 use Rattle.saphyr_scanner.specs.Tokens.{Kind}
+use Rattle.saphyr_scanner.specs.Forest.{Forest}
+use Rattle.saphyr_scanner.specs.Seen.{Piece, Remaining}
+use Rattle.saphyr_scanner.specs.TokenGrammar.{Yields}
 
 -- `---`, which starts a document, and `...`, which ends one
 pub data DocumentMarker : Type 0 where
@@ -37,3 +40,10 @@ IsBeforeMarker front = IsBeforeLine front ⊎ EndsWithMark front
 abbrev pub EndsWithMarker : (List ℕ → Type 0) → DocumentMarker → List ℕ → Type 0
 EndsWithMarker IsTail marker text =
     (front tail : List ℕ) × IsTail tail × IsBeforeMarker front × (text ≡ front ++ (marker_text marker ++ (tail ++ line_feed ∷ [])))
+
+-- The tokens begin with those of a forest up to and with a marker's, behind which the stream's end would be the last.
+pub record HandsOut (marker : DocumentMarker) (forest : Forest) (r : Remaining) : Type 0 where
+  pub earlier : List Kind
+  pub more : List Kind
+  pub yields : Yields forest (earlier ++ marker_token marker ∷ tokens.StreamEnd ∷ [])
+  pub begins : map (λ (t : Piece). t.kind) r.pieces ≡ earlier ++ marker_token marker ∷ more

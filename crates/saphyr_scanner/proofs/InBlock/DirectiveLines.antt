@@ -1,12 +1,11 @@
 -- Directives stand on a line each, and no document marker begins a line of directives.
-use Rattle.std.proofs.Common.{◌≡◌, ◌≢◌, ℕ, Bool, true, false, List, [], ◌∷◌, ◌++◌, IsTrue, IsFalse, refl, sym, ap, ◌∙◌, arith, subst, append_assoc, append-nil, ◌⊎◌, inl, inr, codes}
+use Rattle.std.proofs.Common.{◌≡◌, ℕ, Bool, List, [], ◌∷◌, ◌++◌, IsTrue, refl, sym, ap, ◌∙◌, arith, subst, inl, inr, codes}
 use Rattle.std.proofs.lemmas.Bool.Decides.{nat_tests}
 use Rattle.std.specs.Prelude.{◌||◌, ◌==◌, not}
 use Rattle.std.specs.Char.{encode_utf8}
 use Rattle.saphyr_input.specs.Classes.{line_feed, is_blank, is_digit, is_alpha, is_tag_char, is_uri_char, is_yaml_non_break, is_yaml_non_space, IsHex}
-use Rattle.saphyr_scalar.specs.BlockRead.{spaces}
 use Rattle.saphyr_scalar.specs.DirectiveSpelling.{IsVersionDirective, IsTagDirective, IsReservedDirective, IsLineTail}
-use Rattle.saphyr_scalar.specs.TagSpelling.{AreIn, IsHandleText, IsPrefix, IsByteEscape, AreByteEscapes, IsCharacter, IsDecoded}
+use Rattle.saphyr_scalar.specs.TagSpelling.{AreIn, IsHandleText, IsPrefix, AreByteEscapes, IsCharacter, IsDecoded}
 use Rattle.saphyr_scanner.specs.Forest.{Directive, Version, TagPrefix, Reserved}
 use Rattle.saphyr_scanner.specs.Layout.{IsDirective, AreDirectives}
 use Rattle.saphyr_scanner.proofs.InBlock.Skips.{nothing, one_break, filler_skipped}
@@ -71,15 +70,40 @@ tail_line t (blanks, comment, are, inr (words, some, word_are, is), e) =
 
 version_line : (major minor : ℕ) (t : List ℕ) → IsVersionDirective major minor t → IsLine t
 version_line major minor t (gap, high, low, gap_is, high_is, low_is, e) =
-    subst IsLine (sym e)
-    (refl, (refl, (refl, (refl, (refl, both_lines gap (high ++ (46 ∷ low)) (on_line is_blank blank_line gap gap_is.1)
-    (both_lines high (46 ∷ low) (on_line is_digit digit_line high high_is.2) (refl, on_line is_digit digit_line low low_is.2)))))))
+    subst IsLine (sym e) (
+      refl,
+      (
+        refl,
+        (
+          refl,
+          (
+            refl,
+            (
+              refl,
+              both_lines gap (high ++ (46 ∷ low)) (on_line is_blank blank_line gap gap_is.1)
+                  (both_lines high (46 ∷ low) (on_line is_digit digit_line high high_is.2) (refl, on_line is_digit digit_line low low_is.2)),
+            ),
+          ),
+        ),
+      ),
+    )
 
 tag_line : (handle prefix t : List ℕ) → IsTagDirective handle prefix t → IsLine t
 tag_line handle prefix t (first, second, written, first_are, second_are, handle_is, prefix_is, e) =
-    subst IsLine (sym e)
-    (refl, (refl, (refl, (refl, both_lines first (handle ++ (second ++ written)) (on_line is_blank blank_line first first_are.1)
-    (both_lines handle (second ++ written) (handle_line handle handle_is) (both_lines second written (on_line is_blank blank_line second second_are.1) (prefix_line prefix written prefix_is)))))))
+    subst IsLine (sym e) (
+      refl,
+      (
+        refl,
+        (
+          refl,
+          (
+            refl,
+            both_lines first (handle ++ (second ++ written)) (on_line is_blank blank_line first first_are.1)
+                (both_lines handle (second ++ written) (handle_line handle handle_is) (both_lines second written (on_line is_blank blank_line second second_are.1) (prefix_line prefix written prefix_is))),
+          ),
+        ),
+      ),
+    )
 
 reserved_line : (name t : List ℕ) → IsReservedDirective name t → IsLine t
 reserved_line name t (more, some, no_version, no_tag, name_is, more_is, parts, e) =

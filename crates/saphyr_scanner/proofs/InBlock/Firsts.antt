@@ -1,9 +1,9 @@
 -- The first tokens of nodes and of documents.
-use Rattle.std.proofs.Common.{◌≡◌, ℕ, Bool, true, false, List, [], ◌∷◌, ◌++◌, IsTrue, IsFalse, refl, sym, ap, ◌∙◌, arith, subst, append_assoc, append-nil, ◌⊎◌, inl, inr}
+use Rattle.std.proofs.Common.{◌≡◌, ℕ, Bool, true, false, List, [], ◌∷◌, ◌++◌, refl, sym, ap, ◌∙◌, subst, append_assoc, ◌⊎◌, inl, inr}
 use Rattle.saphyr_scalar.specs.BlockRead.{spaces}
 use Rattle.saphyr_scalar.specs.Spaces.{IsLastFiller}
 use Rattle.saphyr_scanner.specs.Forest.{Properties, Directive, Node, Alias, Scalar, Seq, Map, Document, Forest}
-use Rattle.saphyr_scanner.specs.BlockNodes.{Place, BehindDash, BehindMark, BehindKey, BehindMarker, AtStart, is_start, indent_at, sequence_indent_at, IsGapAt, AreSpacesAt, IsLead, IsLeftOut, IsFlowInBlock, IsBlockNode}
+use Rattle.saphyr_scanner.specs.BlockNodes.{Place, BehindDash, BehindMark, BehindKey, BehindMarker, AtStart, indent_at, sequence_indent_at, IsGapAt, AreSpacesAt, IsLead, IsLeftOut, IsFlowInBlock, IsBlockNode}
 use Rattle.saphyr_scanner.specs.Layout as layout
 use Rattle.saphyr_scanner.specs.Layout.{most_open, AreDirectives}
 use Rattle.saphyr_scanner.proofs.FlowStates.{IsInk}
@@ -12,7 +12,7 @@ use Rattle.saphyr_scanner.proofs.InBlock.Skips.{IsSkipped, nothing, skipped_appe
 use Rattle.saphyr_scanner.proofs.InBlock.Statements.{Leaves}
 use Rattle.saphyr_scanner.proofs.InBlock.Texts.{dash_ink, further_ink, entries_ink, pairs_ink}
 use Rattle.saphyr_scanner.proofs.InBlock.Documents.{AreBlockDocuments}
-use Rattle.saphyr_scanner.proofs.InBlock.DirectiveLines.{DirectiveLine, directive_line}
+use Rattle.saphyr_scanner.proofs.InBlock.DirectiveLines.{directive_line}
 
 -- ## A token behind what is skipped
 
@@ -28,7 +28,7 @@ pub record HasToken (t : List ℕ) : Type 0 where
 ink_token : (w t u : List ℕ) → IsSkipped w → BeginsInk t → u ≡ w ++ t → HasToken u
 ink_token w t u h b e = record { white = w; skipped = h; first = b.first; others = b.others; ink = b.ink; is = e ∙ ap (λ (x : List ℕ). w ++ x) b.is }
 
-token_front : (t o : List ℕ) → HasToken t → HasToken (t ++ o)
+pub token_front : (t o : List ℕ) → HasToken t → HasToken (t ++ o)
 token_front t o h = record { white = h.white; skipped = h.skipped; first = h.first; others = h.others ++ o; ink = h.ink; is = ap (λ (x : List ℕ). x ++ o) h.is ∙ append_assoc h.white (h.first ∷ h.others) o }
 
 token_behind : (w t : List ℕ) → IsSkipped w → HasToken t → HasToken (w ++ t)

@@ -1,5 +1,5 @@
 -- A node at block level stands where more text follows as well, if what stands behind it ends with a break.
-use Rattle.std.proofs.Common.{◌≡◌, ◌≢◌, ℕ, zero, suc, ◌+◌, ◌<◌, ◌≤◌, Bool, true, false, List, [], ◌∷◌, ◌++◌, slice_index, IsTrue, refl, sym, ap, ◌∙◌, subst, append_assoc, ◌⊎◌, inl, inr}
+use Rattle.std.proofs.Common.{◌≡◌, ℕ, zero, suc, Bool, true, false, List, [], ◌∷◌, ◌++◌, slice_index, refl, sym, ap, ◌∙◌, subst, append_assoc, ◌⊎◌, inl, inr}
 use Rattle.saphyr_input.specs.Classes.{is_z, is_yaml_non_break}
 use Rattle.saphyr_input.specs.Places.{is_document_indicator}
 use Rattle.saphyr_scalar.specs.BlockRead.{spaces}
@@ -11,7 +11,7 @@ use Rattle.saphyr_scalar.specs.declared.reading.block.BlockStyle.{BlockStyle}
 use Rattle.saphyr_scalar.specs.declared.reading.block.BlockStyle.TheVariants as block
 use Rattle.saphyr_scalar.specs.declared.reading.block.Chomping.{Chomping}
 use Rattle.saphyr_scanner.specs.Forest.{Style, Literal, Folded, Plain, SingleQuoted, DoubleQuoted, Node, Alias, Scalar, Seq, Map, Nodes, NoNode, MoreNodes, Pairs, NoPair, MorePairs, Document}
-use Rattle.saphyr_scanner.specs.BlockNodes.{Place, BehindDash, BehindMark, BehindKey, BehindMarker, AtStart, indent_at, IsFlowInBlock, IsLineLeft, IsBehindScalar, IsBlockText, IsStyled, IsBlockPair, IsBlockNode, AreEntries, AreOtherEntries, ArePairs, AreOtherPairs}
+use Rattle.saphyr_scanner.specs.BlockNodes.{Place, BehindDash, BehindMark, BehindKey, BehindMarker, AtStart, indent_at, IsFlowInBlock, IsBehindScalar, IsBlockText, IsStyled, IsBlockPair, IsBlockNode, AreEntries, AreOtherEntries, ArePairs, AreOtherPairs}
 use Rattle.saphyr_scanner.specs.Layout as layout
 use Rattle.saphyr_scanner.specs.Layout.{most_open}
 use Rattle.saphyr_scanner.proofs.FlowRoots.{fed_marker}
@@ -212,26 +212,26 @@ mutual
   pairs_further : (more : List ℕ) (room : ℕ) (pairs : Pairs) (m : ℕ) (t o : List ℕ) → EndsFed o → ArePairs room pairs m t o → ArePairs room pairs m t (o ++ more)
   pairs_further more room NoPair m t o fed h = absurd h
   pairs_further more room (MorePairs key value pairs) m t o fed (pair, others, h, k, e) = (
-      pair,
-      others,
-      subst (IsBlockPair room key value (IsBlockNode room key) (IsBlockNode room value) m pair) (append_assoc others o more)
-          (pair_further more room key value (λ place u z f k. node_further more room key place u z f k) (λ place u z f k. node_further more room value place u z f k) m pair (others ++ o) (fed_front others o fed) h),
-      other_pairs_further more room pairs m others o fed k,
-      e,
-    )
+    pair,
+    others,
+    subst (IsBlockPair room key value (IsBlockNode room key) (IsBlockNode room value) m pair) (append_assoc others o more)
+        (pair_further more room key value (λ place u z f k. node_further more room key place u z f k) (λ place u z f k. node_further more room value place u z f k) m pair (others ++ o) (fed_front others o fed) h),
+    other_pairs_further more room pairs m others o fed k,
+    e,
+  )
 
   other_pairs_further : (more : List ℕ) (room : ℕ) (pairs : Pairs) (m : ℕ) (t o : List ℕ) → EndsFed o → AreOtherPairs room pairs m t o → AreOtherPairs room pairs m t (o ++ more)
   other_pairs_further more room NoPair m t o fed h = h
   other_pairs_further more room (MorePairs key value pairs) m t o fed (front, pair, others, front_is, h, k, e) = (
-      front,
-      pair,
-      others,
-      front_is,
-      subst (IsBlockPair room key value (IsBlockNode room key) (IsBlockNode room value) m pair) (append_assoc others o more)
-          (pair_further more room key value (λ place u z f k. node_further more room key place u z f k) (λ place u z f k. node_further more room value place u z f k) m pair (others ++ o) (fed_front others o fed) h),
-      other_pairs_further more room pairs m others o fed k,
-      e,
-    )
+    front,
+    pair,
+    others,
+    front_is,
+    subst (IsBlockPair room key value (IsBlockNode room key) (IsBlockNode room value) m pair) (append_assoc others o more)
+        (pair_further more room key value (λ place u z f k. node_further more room key place u z f k) (λ place u z f k. node_further more room value place u z f k) m pair (others ++ o) (fed_front others o fed) h),
+    other_pairs_further more room pairs m others o fed k,
+    e,
+  )
 
 -- ## Documents
 

@@ -1,11 +1,9 @@
 -- The text from the first token of a text on, which is one however the text is parted.
-use Rattle.std.proofs.Common.{◌≡◌, ℕ, Bool, true, false, List, [], ◌∷◌, ◌++◌, refl, sym, ap, ◌∙◌, subst, append_assoc, ◌⊎◌, inl, inr}
-use Rattle.std.specs.Prelude.{◌==◌}
+use Rattle.std.proofs.Common.{◌≡◌, ℕ, Bool, true, false, List, [], ◌∷◌, ◌++◌, refl, sym, ap, ◌∙◌, ◌⊎◌, inl, inr}
 use Rattle.saphyr_input.specs.Classes.{is_bom}
 use Rattle.saphyr_scalar.specs.declared.scalar.position.Marker.{Marker}
 use Rattle.saphyr_scalar.specs.Spaces.{IsEol, IsLastFiller}
 use Rattle.saphyr_scanner.specs.Forest.{Forest}
-use Rattle.saphyr_scanner.specs.Layout.{IsDocumentPrefix}
 use Rattle.saphyr_scanner.proofs.FlowStates.{IsInk, moved, past}
 use Rattle.saphyr_scanner.proofs.FlowFillers.{last_filler_past}
 use Rattle.saphyr_scanner.proofs.FlowLines.{eol, eol_past}
@@ -50,13 +48,15 @@ mark_stops filler o h = skipped_stops filler (65279 ∷ o) h (refl, refl, refl)
 no_ink : (c : ℕ) → IsInk c → c ≡ 65279 → ⊥
 no_ink c ink e = let k : true ≡ false = sym (ap is_bom e) ∙ ink.byte_order_mark in cc
 
--- a text with documents, or none, does not stop at a byte order mark
-pub unmarked_documents : {limit : ℕ} → Leaves limit → (ds : Forest) (free : Bool) (t o : List ℕ) → AreBlockDocuments ds free t → StopsAt t (65279 ∷ o) → ⊥
-unmarked_documents leaves ds free t o h stops = by_token (documents_token leaves ds free t h)
+-- Where a text stops, which is not at a byte order mark.
+pub record StopsUnmarked (t : List ℕ) : Type 0 where
+  pub at : List ℕ
+  pub stops : StopsAt t at
+  pub unmarked : (o : List ℕ) → at ≡ 65279 ∷ o → ⊥
+
+pub documents_stop : {limit : ℕ} → Leaves limit → (ds : Forest) (free : Bool) (t : List ℕ) → AreBlockDocuments ds free t → StopsUnmarked t
+documents_stop leaves ds free t h = by_token (documents_token leaves ds free t h)
   where
-    by_token : ((ds ≡ []) × IsLastFiller t) ⊎ HasToken t → ⊥
-    by_token (inl k) = let e = one_stop t t (65279 ∷ o) [] refl stops (last_stops t k.1) in cc
-    by_token (inr k) =
-        let e = one_stop t t (65279 ∷ o) (k.first ∷ k.others) refl stops (token_stops t k) in
-        let same : k.first ≡ 65279 = cc in
-        no_ink k.first k.ink same
+    by_token : ((ds ≡ []) × IsLastFiller t) ⊎ HasToken t → StopsUnmarked t
+    by_token (inl k) = record { at = []; stops = last_stops t k.1; unmarked = λ o e. cc }
+    by_token (inr k) = record { at = k.first ∷ k.others; stops = token_stops t k; unmarked = λ o e. no_ink k.first k.ink (cc) }
