@@ -14,7 +14,7 @@ use Rattle.saphyr_scanner.specs.Forest.{Style, Literal, Folded, Plain, SingleQuo
 use Rattle.saphyr_scanner.specs.BlockNodes.{Place, BehindDash, BehindMark, BehindKey, BehindMarker, AtStart, indent_at, IsFlowInBlock, IsBehindScalar, IsBlockText, IsStyled, IsBlockPair, IsBlockNode, AreEntries, AreOtherEntries, ArePairs, AreOtherPairs}
 use Rattle.saphyr_scanner.specs.Layout as layout
 use Rattle.saphyr_scanner.specs.Layout.{most_open}
-use Rattle.saphyr_scanner.proofs.FlowRoots.{fed_marker}
+use Rattle.saphyr_scanner.proofs.InBlock.MarkedLines.{fed_marker}
 
 -- ## Texts that end with a break
 
