@@ -28,7 +28,7 @@ pub mod HandedMarkers
 pub mod Stops
 pub mod Streams
 pub mod ToMarkers
-pub mod Closed
 pub mod Keys
 pub mod FlowNodes
 pub mod Layouts
+pub mod Closed

@@ -1,6 +1,6 @@
 -- A text of the layout grammar ends with the line of a document marker: whatever follows, the tokens up to and with the
 -- marker's own come first.
-use Rattle.std.proofs.Common.{◌≡◌, ℕ, ◌≤◌, true, false, List, [], ◌∷◌, ◌++◌, length, slice_index, refl, sym, ap, ◌∙◌, subst, append_assoc, append-nil, ◌⊎◌, inl, inr, arith}
+use Rattle.std.proofs.Common.{◌≡◌, ℕ, ◌≤◌, ◌<◌, ◌^◌, true, false, List, [], ◌∷◌, ◌++◌, length, slice_index, refl, sym, ap, ◌∙◌, subst, append_assoc, append-nil, ◌⊎◌, inl, inr, arith}
 use Rattle.std.specs.Prelude.{map, ◌==◌}
 use Rattle.saphyr_input.specs.Breaks.{normalized}
 use Rattle.saphyr_input.specs.Classes.{is_blank_or_breakz, line_feed}
@@ -30,6 +30,8 @@ use Rattle.saphyr_scanner.proofs.InBlock.Documents.{AreBlockDocuments, HasNoRetu
 use Rattle.saphyr_scanner.proofs.InBlock.Firsts.{HasToken, token_front, node_token, documents_token}
 use Rattle.saphyr_scanner.proofs.InBlock.HandedMarkers.{Handed, hands_start, hands_end}
 use Rattle.saphyr_scanner.proofs.InBlock.Stops.{StopsAt, one_stop, skipped_stops, token_stops, marker_stops, eol_stops, mark_stops, documents_stop}
+use Rattle.saphyr_scanner.proofs.InBlock.Layouts.{leaves}
+use Rattle.saphyr_scanner.proofs.InBlock.ScalarTexts.{ReadsBlocks}
 use Rattle.saphyr_scanner.proofs.InBlock.Streams.{begins}
 use Rattle.saphyr_scanner.proofs.InBlock.ToMarkers.{Closes, closes_on, IsMarkerRest, StartsHere, EndsHere, Found, passes_suffix, closes_documents}
 use Rattle.saphyr_scanner.proofs.Lazy.{onto, holding, free_block, begins_so}
@@ -245,13 +247,13 @@ closed_begins readers reads limit leaves marker forest text more clean ends layo
     }
 
 -- The same of every text whose normalized breaks give such a text. The break between it and what follows is whole.
-pub closed_scans : Readers → Reads → (limit : ℕ) → Leaves limit → (marker : DocumentMarker) (forest : Forest) (text more : List ℕ)
+pub closed_scans : Readers → Reads → ReadsBlocks → (limit : ℕ) → limit < 2 ^ 63 → (marker : DocumentMarker) (forest : Forest) (text more : List ℕ)
     → HaveSameKinds (scan limit (text ++ more)) (scan limit (normalized (text ++ more)))
     → IsLayoutText most_open forest text → EndsWithMarker IsLineRest marker (normalized text) → normalized (text ++ more) ≡ normalized text ++ normalized more → length (text ++ more) ≤ limit
     → HandsOut marker forest (scan limit (text ++ more))
-closed_scans readers reads limit leaves marker forest text more same layout ends apart short =
+closed_scans readers reads blocks limit low marker forest text more same layout ends apart short =
     let clean = no_return_left (beside text) in
     let less = normal_shorter (text ++ more) in
     let long = ap length apart in
-    let h = closed_begins readers reads limit leaves marker forest (normalized text) (normalized more) clean ends layout (omega (arith, less, long, short)) in
+    let h = closed_begins readers reads limit (leaves reads blocks limit low) marker forest (normalized text) (normalized more) clean ends layout (omega (arith, less, long, short)) in
     record { earlier = h.earlier; more = h.more; yields = h.yields; begins = same.kinds ∙ ap (λ (x : List ℕ). map (λ (t : Piece). t.kind) (scan limit x).pieces) apart ∙ h.begins }
