@@ -163,6 +163,8 @@ pub fn closes_at_markers()
 pub fn closes_layout()
     ensures closed { (keep : Bool) → IsClosed (IsLayoutText most_open) IsLineRest 100 keep (codes "---\n[") examples.start_events }
     ensures marked { (keep : Bool) → IsClosed (IsLayoutText most_open) IsLineRest 100 keep (codes "\u{feff}---\n[") examples.start_events }
+    ensures behind { (keep : Bool) → IsClosed (IsLayoutText most_open) IsLineRest 100 keep
+        (codes "---\n...\n\u{feff}---\n[") examples.two_starts_events }
     ensures alone { (parser : Cursor) (keep : Bool) → ReadsLayout 100 (codes "---\n") parser → GivesExactly examples.start_told (to_come (keeping_tags keep parser)) }
     ensures followed { (parser : Cursor) (keep : Bool) → ReadsClosedLayout 100 (codes "---\n[") parser → GivesFirst examples.start_events (to_come (keeping_tags keep parser)) }
 {}
