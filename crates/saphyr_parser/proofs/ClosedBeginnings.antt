@@ -3,7 +3,7 @@ use Rattle.std.specs.Prelude.{◌==◌, slice_index}
 use Rattle.std.proofs.Common.{◌≡◌, ℕ, ◌+◌, ◌*◌, ◌^◌, ◌<◌, ◌≤◌, Bool, true, false, List, [], ◌∷◌, ◌++◌, map, length, Some, None, refl, sym, ap, ◌∙◌, subst, arith}
 use Rattle.std.proofs.lemmas.List.{length-append, length-map}
 use Rattle.saphyr_input.specs.Breaks.{normalized}
-use Rattle.saphyr_scalar.specs.Spaces.{IsLineRest}
+use Rattle.saphyr_scanner.specs.BlockNodes.{IsContentRest}
 use Rattle.saphyr_scanner.specs.ClosedTexts.{HandsOut}
 use Rattle.saphyr_scanner.specs.Forest.{Forest}
 use Rattle.saphyr_scanner.specs.Layout.{most_open, IsLayout, IsLayoutText}
@@ -135,8 +135,8 @@ reads_closed G IsTail limit most sees bounds hands text keep first c =
     (gives_first limit keep c.marker c.forest (p.front ++ p.behind) first most bounds hands_out (c.promised.has_events ∙ ap Some c.are_told))
 
 -- the same of the layout grammar
-pub reads_closed_layout : (limit : ℕ) → limit ≤ 4294967295 → BoundsTokens limit → HandsOutMarkers (IsLayoutText most_open) IsLineRest limit → (text : List ℕ) (parser : Cursor) → parser ≡ at_start (scan limit text)
+pub reads_closed_layout : (limit : ℕ) → limit ≤ 4294967295 → BoundsTokens limit → HandsOutMarkers (IsLayoutText most_open) IsContentRest limit → (text : List ℕ) (parser : Cursor) → parser ≡ at_start (scan limit text)
     → ReadsClosedLayout limit text parser
 reads_closed_layout limit most bounds hands text parser is =
     subst (ReadsClosedLayout limit text) (sym is)
-    (reads_closed (IsLayoutText most_open) IsLineRest limit most (λ forest xs ys e g. subst (IsLayout most_open forest) e g) bounds hands text)
+    (reads_closed (IsLayoutText most_open) IsContentRest limit most (λ forest xs ys e g. subst (IsLayout most_open forest) e g) bounds hands text)

@@ -1,10 +1,10 @@
 -- The line `---` is a text of the layout grammar with all premises, and so a closed beginning, behind a byte order mark too.
 use Rattle.std.specs.Prelude.{codes}
 use Rattle.std.proofs.Common.{◌≡◌, ℕ, Bool, true, false, List, [], ◌∷◌, Some, refl, inl, inr, arith}
-use Rattle.saphyr_scalar.specs.Spaces.{IsEol, IsLineRest, IsFiller, IsLastFiller}
+use Rattle.saphyr_scalar.specs.Spaces.{IsEol, IsFiller, IsLastFiller}
 use Rattle.saphyr_scanner.specs.Layout.{most_open, IsDocument, IsDocumentSuffix, AreDocuments, IsLayoutText}
 use Rattle.saphyr_scanner.specs.Forest.{left_out}
-use Rattle.saphyr_scanner.specs.BlockNodes.{IsBlockNode}
+use Rattle.saphyr_scanner.specs.BlockNodes.{IsContentRest, IsBlockNode}
 use Rattle.saphyr_scanner.proofs.OneForest.{stands_for_one}
 use Rattle.saphyr_parser.specs.Events as events
 use Rattle.saphyr_parser.specs.Events.{Happening}
@@ -29,10 +29,10 @@ promised keep =
     }
 
 -- nothing stands behind the marker
-no_tail : IsLineRest []
-no_tail = ([], [], (0, omega arith, refl), inl refl, refl)
+no_tail : IsContentRest []
+no_tail = ([], [], tt, inl refl, refl)
 
-pub closed : (keep : Bool) → IsClosed (IsLayoutText most_open) IsLineRest 100 keep (codes "---\n[") examples.start_events
+pub closed : (keep : Bool) → IsClosed (IsLayoutText most_open) IsContentRest 100 keep (codes "---\n[") examples.start_events
 closed keep =
     record {
       front = codes "---\n";
@@ -58,7 +58,7 @@ no_last_filler : IsLastFiller []
 no_last_filler = ([], [], no_filler, ([], [], (0, omega arith, refl), inl refl, refl), refl)
 
 line_end : (behind : List ℕ) → IsEol (codes "\n") behind
-line_end behind = inl ([], no_tail, refl)
+line_end behind = inl ([], ([], [], (0, omega arith, refl), inl refl, refl), refl)
 
 -- a document of `---` alone
 starts : (free : Bool) (behind : List ℕ) → IsDocument (IsBlockNode most_open) (examples.explicit [] left_out) free (codes "---\n") behind
@@ -70,7 +70,7 @@ last_start = ([], codes "---\n", [], no_filler, starts true [], inl no_last_fill
 marked_stands : IsLayoutText most_open examples.start_forest (codes "\u{feff}---\n")
 marked_stands = (codes "\u{feff}", codes "---\n", inr refl, last_start, refl)
 
-pub marked : (keep : Bool) → IsClosed (IsLayoutText most_open) IsLineRest 100 keep (codes "\u{feff}---\n[") examples.start_events
+pub marked : (keep : Bool) → IsClosed (IsLayoutText most_open) IsContentRest 100 keep (codes "\u{feff}---\n[") examples.start_events
 marked keep =
     record {
       front = codes "\u{feff}---\n";
@@ -89,14 +89,14 @@ marked keep =
 
 behind_stands : IsLayoutText most_open examples.two_starts (codes "---\n...\n\u{feff}---\n")
 behind_stands =
-    let suffix : IsDocumentSuffix (codes "...\n\u{feff}") (codes "---\n") = ([], codes "\n", codes "\u{feff}", no_filler, line_end (codes "\u{feff}---\n"), inr ([], no_filler, refl), refl) in
+    let suffix : IsDocumentSuffix (codes "...\n\u{feff}") (codes "---\n") = ([], codes "\n", codes "\u{feff}", no_filler, inl ([], no_tail, refl), inr ([], no_filler, refl), refl) in
     ([], codes "---\n...\n\u{feff}---\n", inl refl, ([], codes "---\n", codes "...\n\u{feff}---\n", no_filler, starts true (codes "...\n\u{feff}---\n"), inr (codes "...\n\u{feff}", codes "---\n", suffix, last_start, refl), refl), refl)
 
 behind_events : (keep : Bool) → events examples.two_starts keep ≡ Some examples.two_starts_told
 behind_events true = refl
 behind_events false = refl
 
-pub behind : (keep : Bool) → IsClosed (IsLayoutText most_open) IsLineRest 100 keep (codes "---\n...\n\u{feff}---\n[") examples.two_starts_events
+pub behind : (keep : Bool) → IsClosed (IsLayoutText most_open) IsContentRest 100 keep (codes "---\n...\n\u{feff}---\n[") examples.two_starts_events
 behind keep =
     record {
       front = codes "---\n...\n\u{feff}---\n";
@@ -104,7 +104,7 @@ behind keep =
       begins = refl;
       within = omega arith;
       marker = Starts;
-      ends = (codes "---\n...\n\u{feff}", [], no_tail, inr (inr (codes "---\n", codes "\n", [], inr (codes "---", refl), ([], no_tail, refl), no_filler, refl)), refl);
+      ends = (codes "---\n...\n\u{feff}", [], no_tail, inr (inr (codes "---\n", [], [], inr (codes "---", refl), no_tail, no_filler, refl)), refl);
       forest = examples.two_starts;
       told = examples.two_starts_told;
       promised = record { stands_for = behind_stands; within = omega arith; has_events = behind_events keep };

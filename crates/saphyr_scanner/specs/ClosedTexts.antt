@@ -1,7 +1,8 @@
 -- Texts that end with the line of a document marker (YAML 1.2.2, 9.1.2, 9.1.4), in texts whose breaks are line feeds.
 use Rattle.std.specs.Prelude.{◌≡◌, ◌⊎◌, ℕ, List, [], ◌∷◌, ◌++◌, map, codes}
 use Rattle.saphyr_input.specs.Classes.{line_feed, byte_order_mark}
-use Rattle.saphyr_scalar.specs.Spaces.{IsLineEnd, IsFiller}
+use Rattle.saphyr_scalar.specs.Spaces.{IsFiller}
+use Rattle.saphyr_scanner.specs.BlockNodes.{IsContentRest}
 use Rattle.saphyr_scanner.specs.Tokens as tokens
 use Rattle.saphyr_scanner.specs.Tokens.{Kind}
 use Rattle.saphyr_scanner.specs.Forest.{Forest}
@@ -30,7 +31,8 @@ IsBeforeLine front = (front ≡ []) ⊎ ((others : List ℕ) × (front ≡ other
 abbrev pub EndsWithMark : List ℕ → Type 0
 EndsWithMark front =
     (front ≡ byte_order_mark ∷ [])
-    ⊎ ((others end filler : List ℕ) × IsBeforeLine others × IsLineEnd end × IsFiller filler × (front ≡ others ++ (codes "..." ++ (end ++ (filler ++ byte_order_mark ∷ [])))))
+    ⊎ ((others rest filler : List ℕ) × IsBeforeLine others × IsContentRest rest × IsFiller filler
+    × (front ≡ others ++ (codes "..." ++ (rest ++ line_feed ∷ (filler ++ byte_order_mark ∷ [])))))
 
 -- behind this text a marker's line begins, perhaps with a byte order mark, which takes up no column
 abbrev pub IsBeforeMarker : List ℕ → Type 0

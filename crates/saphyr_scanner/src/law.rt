@@ -7,7 +7,7 @@ ghost use Rattle.saphyr_scanner.specs.Json.{IsJson};
 ghost use Rattle.saphyr_scanner.specs.JsonTokens as json;
 ghost use Rattle.saphyr_scanner.specs.ClosedTexts.{DocumentMarker, EndsWithMarker, HandsOut};
 ghost use Rattle.saphyr_scanner.specs.Layout.{IsLayoutText, most_open};
-ghost use Rattle.saphyr_scalar.specs.Spaces.{IsLineRest};
+ghost use Rattle.saphyr_scanner.specs.BlockNodes.{IsContentRest};
 ghost use Rattle.saphyr_scanner.specs.TokenGrammar.{Yields};
 ghost use Rattle.saphyr_scanner.specs.Tokens.{Kind};
 ghost use Rattle.saphyr_scanner.specs.Remaining.{Scans, scan};
@@ -132,7 +132,7 @@ pub fn scans_each_layout_text()
 /// and with the marker's come first, as they are those of its forest.
 pub fn hands_out_markers()
     ensures { (limit : ℕ) (marker : DocumentMarker) (forest : Forest) (text others : List ℕ)
-        → IsLayoutText most_open forest text → EndsWithMarker IsLineRest marker (normalized text)
+        → IsLayoutText most_open forest text → EndsWithMarker IsContentRest marker (normalized text)
         → normalized (text ++ others) ≡ normalized text ++ normalized others
         → length (text ++ others) ≤ limit → limit < 2 ^ 63
         → HandsOut marker forest (scan limit (text ++ others)) }

@@ -11,7 +11,7 @@ use Rattle.saphyr_scalar.specs.declared.reading.block.BlockStyle.{BlockStyle}
 use Rattle.saphyr_scalar.specs.declared.reading.block.BlockStyle.TheVariants as block
 use Rattle.saphyr_scalar.specs.declared.reading.block.Chomping.{Chomping}
 use Rattle.saphyr_scanner.specs.Forest.{Style, Literal, Folded, Plain, SingleQuoted, DoubleQuoted, Node, Alias, Scalar, Seq, Map, Nodes, NoNode, MoreNodes, Pairs, NoPair, MorePairs, Document}
-use Rattle.saphyr_scanner.specs.BlockNodes.{Place, BehindDash, BehindMark, BehindKey, BehindMarker, AtStart, indent_at, IsFlowInBlock, IsBehindScalar, IsBlockText, IsStyled, IsBlockPair, IsBlockNode, AreEntries, AreOtherEntries, ArePairs, AreOtherPairs}
+use Rattle.saphyr_scanner.specs.BlockNodes.{Place, BehindDash, BehindMark, BehindKey, BehindMarker, AtStart, indent_at, IsContentEnd, IsFlowInBlock, IsBehindScalar, IsBlockText, IsStyled, IsBlockPair, IsBlockNode, AreEntries, AreOtherEntries, ArePairs, AreOtherPairs}
 use Rattle.saphyr_scanner.specs.Layout as layout
 use Rattle.saphyr_scanner.specs.Layout.{most_open}
 use Rattle.saphyr_scanner.proofs.InBlock.MarkedLines.{fed_marker}
@@ -168,12 +168,16 @@ styled_further more DoubleQuoted value indent t o fed h = absurd h
 
 -- ## Nodes
 
-pub eol_further : (more t o : List ℕ) → EndsFed o → IsEol t o → IsEol t (o ++ more)
+pub end_further : (more t o : List ℕ) → EndsFed o → IsContentEnd t o → IsContentEnd t (o ++ more)
+end_further more t o fed (inl h) = inl h
+end_further more t o fed (inr (h, e)) = absurd (none_fed o fed e)
+
+eol_further : (more t o : List ℕ) → EndsFed o → IsEol t o → IsEol t (o ++ more)
 eol_further more t o fed (inl h) = inl h
 eol_further more t o fed (inr (h, e)) = absurd (none_fed o fed e)
 
 flow_further : (more : List ℕ) (room : ℕ) (node : Node) (place : Place) (t o : List ℕ) → EndsFed o → IsFlowInBlock room node place t o → IsFlowInBlock room node place t (o ++ more)
-flow_further more room node place t o fed (gap, text, end, gap_is, is, end_is, e) = (gap, text, end, gap_is, is, eol_further more end o fed end_is, e)
+flow_further more room node place t o fed (gap, text, end, gap_is, is, end_is, e) = (gap, text, end, gap_is, is, end_further more end o fed end_is, e)
 
 -- how a node stands before what ends with a break
 abbrev GoesOn : List ℕ → (Place → List ℕ → List ℕ → Type 0) → Type 0

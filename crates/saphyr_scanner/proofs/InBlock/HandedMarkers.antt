@@ -5,7 +5,7 @@ use Rattle.std.specs.Prelude.{Option, None}
 use Rattle.saphyr_input.specs.Classes.{is_blank_or_breakz}
 use Rattle.saphyr_scalar.specs.declared.scalar.position.Marker.{Marker}
 use Rattle.saphyr_scalar.specs.Cursor.{Cursor, along}
-use Rattle.saphyr_scalar.specs.Spaces.{IsEol}
+use Rattle.saphyr_scanner.specs.BlockNodes.{IsContentEnd}
 use Rattle.saphyr_scanner.specs.declared.engine.level.Context.TheVariants as context
 use Rattle.saphyr_scanner.specs.Tokens as tokens
 use Rattle.saphyr_scanner.specs.Tokens.{Kind}
@@ -67,7 +67,7 @@ hands_start {limit = limit} r v h =
     hands_token v refl (inr (col, start_ends r h)) (cursor_at r (along v.mark 3) false) (piece_of v.mark (along v.mark 3) tokens.DocumentStart)
     (λ blank key allowed ad ps. start_here v.mark blank r key allowed ad ps col h) (front_low (v.mark.index + 3) (length r) limit (start_count v.mark r limit v.count))
 
-pub hands_end : {limit : ℕ} {start : State} {free opened : Bool} {ts : List Kind} (end o : List ℕ) → Stands limit start free (Lined opened (46 ∷ 46 ∷ 46 ∷ (end ++ o))) (46 ∷ 46 ∷ 46 ∷ (end ++ o)) ts → IsEol end o
+pub hands_end : {limit : ℕ} {start : State} {free opened : Bool} {ts : List Kind} (end o : List ℕ) → Stands limit start free (Lined opened (46 ∷ 46 ∷ 46 ∷ (end ++ o))) (46 ∷ 46 ∷ 46 ∷ (end ++ o)) ts → IsContentEnd end o
     → Handed limit start (ts ++ tokens.DocumentEnd ∷ [])
 hands_end {limit = limit} end o v h =
     let r = end ++ o in

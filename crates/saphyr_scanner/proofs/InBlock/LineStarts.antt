@@ -2,16 +2,17 @@
 use Rattle.std.proofs.Common.{◌≡◌, ℕ, Bool, true, false, List, [], ◌∷◌, ◌++◌, IsTrue, refl, sym, ap, ◌∙◌, arith, subst, append_assoc, append-nil, ◌⊎◌, inl, inr}
 use Rattle.std.proofs.lemmas.Bool.Decides.{nat_tests}
 use Rattle.std.specs.Prelude.{◌||◌, ◌&&◌, ◌==◌, not}
-use Rattle.saphyr_input.specs.Classes.{line_feed, is_yaml_non_break}
+use Rattle.saphyr_input.specs.Classes.{line_feed, is_blank, is_yaml_non_break}
 use Rattle.saphyr_input.specs.Places.{is_document_indicator}
 use Rattle.saphyr_scalar.specs.BlockRead.{spaces}
-use Rattle.saphyr_scalar.specs.Spaces.{IsComment, IsLineRest, IsEol, IsLastFiller}
+use Rattle.saphyr_scalar.specs.Spaces.{IsComment, IsLastFiller}
 use Rattle.saphyr_scalar.specs.TagSpelling.{AreIn}
+use Rattle.saphyr_scanner.specs.BlockNodes.{IsContentRest, IsContentEnd}
 use Rattle.saphyr_scanner.specs.Layout.{IsDocumentPrefix}
 use Rattle.saphyr_scanner.proofs.FlowStates.{marks_line}
 use Rattle.saphyr_scanner.proofs.FlowPlaces.{both}
 use Rattle.saphyr_scanner.proofs.FlowFillers.{behind_is}
-use Rattle.saphyr_scanner.proofs.InBlock.Skips.{IsSkipped, nothing, one_space, one_break, one_comment, spaces_skipped, filler_skipped, line_end_skipped}
+use Rattle.saphyr_scanner.proofs.InBlock.Skips.{IsSkipped, nothing, one_space, one_break, one_comment, spaces_skipped, filler_skipped}
 
 -- ## Starts of lines
 
@@ -99,13 +100,22 @@ last_unmarked t (filler, text, filler_is, (front, comment, (n, low, spaced), k, 
     let last = both_unmarked front comment (subst IsUnmarked (sym spaced) (skipped_unmarked (spaces n) (spaces_skipped n))) (comment_unmarked comment k) in
     subst IsUnmarked (sym e) (both_unmarked filler text (skipped_unmarked filler (filler_skipped filler filler_is)) (subst IsUnmarked (sym text_is) last))
 
-rest_unmarked : (t : List ℕ) → IsLineRest t → IsUnmarked t
-rest_unmarked t (front, comment, (n, low, spaced), k, e) =
-    subst IsUnmarked (sym e) (both_unmarked front comment (subst IsUnmarked (sym spaced) (skipped_unmarked (spaces n) (spaces_skipped n))) (comment_unmarked comment (behind_is front comment k)))
+blanks_unmarked : (w : List ℕ) → AreIn is_blank w → IsUnmarked w
+blanks_unmarked [] h at_start o = refl
+blanks_unmarked (c ∷ cs) h at_start o = first_unmarked c cs o (no_dash c h.0) (no_dot c h.0) (blanks_unmarked cs h.1 (c == line_feed) o) at_start
+  where
+    no_dash : (c : ℕ) → IsTrue (is_blank c) → (c == 45) ≡ false
+    no_dash c h = grind (arith, nat_tests)
 
-pub eol_unmarked : (t o : List ℕ) → IsEol t o → IsUnmarked t
-eol_unmarked t o (inl h) = skipped_unmarked t (line_end_skipped t h)
-eol_unmarked t o (inr h) = rest_unmarked t h.0
+    no_dot : (c : ℕ) → IsTrue (is_blank c) → (c == 46) ≡ false
+    no_dot c h = grind (arith, nat_tests)
+
+rest_unmarked : (t : List ℕ) → IsContentRest t → IsUnmarked t
+rest_unmarked t (blanks, comment, are, k, e) = subst IsUnmarked (sym e) (both_unmarked blanks comment (blanks_unmarked blanks are) (comment_unmarked comment (behind_is blanks comment k)))
+
+pub end_unmarked : (t o : List ℕ) → IsContentEnd t o → IsUnmarked t
+end_unmarked t o (inl (rest, h, e)) = subst IsUnmarked (sym e) (both_unmarked rest (10 ∷ []) (rest_unmarked rest h) (skipped_unmarked (10 ∷ []) (one_break [] nothing)))
+end_unmarked t o (inr h) = rest_unmarked t h.0
 
 pub prefix_unmarked : (t : List ℕ) → IsDocumentPrefix t → IsUnmarked t
 prefix_unmarked t (inl e) = subst IsUnmarked (sym e) (λ at_start o. refl)

@@ -1,12 +1,13 @@
 -- The text from the first token of a text on, which is one however the text is parted.
-use Rattle.std.proofs.Common.{◌≡◌, ℕ, Bool, true, false, List, [], ◌∷◌, ◌++◌, refl, sym, ap, ◌∙◌, ◌⊎◌, inl, inr}
+use Rattle.std.proofs.Common.{◌≡◌, ℕ, Bool, true, false, List, [], ◌∷◌, ◌++◌, refl, sym, ap, ◌∙◌, arith, ◌⊎◌, inl, inr}
 use Rattle.saphyr_input.specs.Classes.{is_bom}
 use Rattle.saphyr_scalar.specs.declared.scalar.position.Marker.{Marker}
-use Rattle.saphyr_scalar.specs.Spaces.{IsEol, IsLastFiller}
+use Rattle.saphyr_scalar.specs.Spaces.{IsLastFiller}
+use Rattle.saphyr_scanner.specs.BlockNodes.{IsContentEnd}
 use Rattle.saphyr_scanner.specs.Forest.{Forest}
 use Rattle.saphyr_scanner.proofs.FlowStates.{IsInk, moved, past}
-use Rattle.saphyr_scanner.proofs.FlowFillers.{last_filler_past}
-use Rattle.saphyr_scanner.proofs.FlowLines.{eol, eol_past}
+use Rattle.saphyr_scanner.proofs.FlowFillers.{last_filler_past, content_rest_past}
+use Rattle.saphyr_scanner.proofs.FlowLines.{eol}
 use Rattle.saphyr_scanner.proofs.InBlock.States.{IsStop}
 use Rattle.saphyr_scanner.proofs.InBlock.Gaps.{ink_stop, stop_past}
 use Rattle.saphyr_scanner.proofs.InBlock.Skips.{IsSkipped, filler_skipped, skipped_past}
@@ -33,8 +34,10 @@ token_stops t h m = ap (λ (x : List ℕ). (past 0 m x).1) h.is ∙ skipped_stop
 pub marker_stops : (o : List ℕ) (k : OpensMarker o) → StopsAt o (k.first ∷ k.others)
 marker_stops o k m = ap (λ (x : List ℕ). (past 0 m x).1) k.is ∙ skipped_stops k.filler (k.first ∷ k.others) (filler_skipped k.filler k.filler_is) (ink_stop k.first k.others k.ink) m
 
-pub eol_stops : (end o s : List ℕ) → IsEol end o → StopsAt o s → StopsAt (end ++ o) s
-eol_stops end o s h k m = let e = eol m end o h in ap (λ (q : Marker × List ℕ). q.1) (eol_past 0 m (end ++ o) o e) ∙ k e.mark
+pub end_stops : (end o s : List ℕ) → IsContentEnd end o → StopsAt o s → StopsAt (end ++ o) s
+end_stops end o s h k m =
+    let e = eol m end o h in
+    ap (λ (q : Marker × List ℕ). q.1) (ap (past 0 m) e.is ∙ content_rest_past 0 m e.rest e.more e.line e.break (omega arith) ∙ e.behind 0) ∙ k e.mark
 
 pub last_stops : (o : List ℕ) → IsLastFiller o → StopsAt o []
 last_stops o h m = ap (λ (q : Marker × List ℕ). q.1) (last_filler_past 0 m o h)

@@ -3,9 +3,9 @@ use Rattle.std.proofs.Common.{◌≡◌, ℕ, Bool, true, false, List, [], ◌�
 use Rattle.std.specs.Prelude.{map, ◌==◌}
 use Rattle.saphyr_input.specs.Classes.{is_blank_or_breakz, line_feed}
 use Rattle.saphyr_input.specs.Places.{is_document_indicator}
-use Rattle.saphyr_scalar.specs.Spaces.{IsEol, IsLastFiller}
+use Rattle.saphyr_scalar.specs.Spaces.{IsLastFiller}
 use Rattle.saphyr_scanner.specs.Forest.{Document, Forest, AreCompatible}
-use Rattle.saphyr_scanner.specs.BlockNodes.{BehindMarker, AtStart, IsBlockNode}
+use Rattle.saphyr_scanner.specs.BlockNodes.{BehindMarker, AtStart, IsContentEnd, IsBlockNode}
 use Rattle.saphyr_scanner.specs.ClosedTexts.{DocumentMarker, Starts, Ends, marker_text, marker_token}
 use Rattle.saphyr_scanner.specs.Layout as layout
 use Rattle.saphyr_scanner.specs.Layout.{most_open, IsDocumentPrefix}
@@ -19,8 +19,8 @@ use Rattle.saphyr_scanner.proofs.FlowLines.{passes_filler}
 use Rattle.saphyr_scanner.proofs.FlowMarkers.{start_ends, end_ends, reads_end}
 use Rattle.saphyr_scanner.proofs.FlowStands.{Lined, Stands}
 use Rattle.saphyr_scanner.proofs.InBlock.Skips.{filler_skipped}
-use Rattle.saphyr_scanner.proofs.InBlock.LineStarts.{opens_line, HasLine, behind_piece, no_line, skipped_unmarked, last_unmarked, eol_unmarked, prefix_unmarked}
-use Rattle.saphyr_scanner.proofs.InBlock.Further.{EndsFed, fed_front, fed_behind, same_marker, eol_further, document_further}
+use Rattle.saphyr_scanner.proofs.InBlock.LineStarts.{opens_line, HasLine, behind_piece, no_line, skipped_unmarked, last_unmarked, end_unmarked, prefix_unmarked}
+use Rattle.saphyr_scanner.proofs.InBlock.Further.{EndsFed, fed_front, fed_behind, same_marker, end_further, document_further}
 use Rattle.saphyr_scanner.proofs.InBlock.Statements.{Leaves}
 use Rattle.saphyr_scanner.proofs.InBlock.Texts.{node_ends}
 use Rattle.saphyr_scanner.proofs.InBlock.Documents.{AreBlockDocuments, HasNoReturn, OpensMarker, opens_marker, lands_marked, plain_marked, suffix_text, document_text, node_marks, reads_front, reads_document}
@@ -71,7 +71,7 @@ StartsHere limit start marker more r =
 
 abbrev pub EndsHere : ℕ → State → DocumentMarker → List ℕ → List ℕ → Type 0
 EndsHere limit start marker more r =
-    (ds : Forest) (end prefix others : List ℕ) (ts : List Kind) → IsEol end (prefix ++ others) → IsDocumentPrefix prefix → AreBlockDocuments ds true others → HasNoReturn others → end ++ (prefix ++ others) ≡ r
+    (ds : Forest) (end prefix others : List ℕ) (ts : List Kind) → IsContentEnd end (prefix ++ others) → IsDocumentPrefix prefix → AreBlockDocuments ds true others → HasNoReturn others → end ++ (prefix ++ others) ≡ r
     → Stands limit start false (Lined false (46 ∷ 46 ∷ 46 ∷ (r ++ more))) (46 ∷ 46 ∷ 46 ∷ (r ++ more)) ts
     → Closes limit start marker (grammar.IsBehindDocument (grammar.AreDocuments ds)) ts
 
@@ -89,12 +89,12 @@ marked_fed w r t h l = subst EndsFed (sym l.is) (fed_front l.front (marker_text 
 -- ## A `...` line is passed
 
 -- Behind a `...` line and what may stand before a document, the scanner goes on with documents.
-pub passes_suffix : {limit : ℕ} {start : State} {marker : DocumentMarker} (ds : Forest) (end prefix others more : List ℕ) (ts : List Kind) → IsEol end (prefix ++ others) → IsDocumentPrefix prefix → EndsFed (prefix ++ others)
+pub passes_suffix : {limit : ℕ} {start : State} {marker : DocumentMarker} (ds : Forest) (end prefix others more : List ℕ) (ts : List Kind) → IsContentEnd end (prefix ++ others) → IsDocumentPrefix prefix → EndsFed (prefix ++ others)
     → Stands limit start false (Lined false (46 ∷ 46 ∷ 46 ∷ (end ++ (prefix ++ (others ++ more))))) (46 ∷ 46 ∷ 46 ∷ (end ++ (prefix ++ (others ++ more)))) ts
     → ((us : List Kind) → Stands limit start true (Lined true (others ++ more)) (others ++ more) us → Closes limit start marker (grammar.AreDocuments ds true) us)
     → Closes limit start marker (grammar.IsBehindDocument (grammar.AreDocuments ds)) ts
 passes_suffix {limit = limit} {start = start} {marker = marker} ds end prefix others more ts end_is prefix_is fed v go =
-    let longer : IsEol end (prefix ++ (others ++ more)) = subst (IsEol end) (append_assoc prefix others more) (eol_further more end (prefix ++ others) fed end_is) in
+    let longer : IsContentEnd end (prefix ++ (others ++ more)) = subst (IsContentEnd end) (append_assoc prefix others more) (end_further more end (prefix ++ others) fed end_is) in
     let p = reads_prefix prefix (others ++ more) (ts ++ tokens.DocumentEnd ∷ []) prefix_is (reads_end end (prefix ++ (others ++ more)) v longer) in
     closes_on ts (tokens.DocumentEnd ∷ p.marks) (λ all told. ([], tokens.DocumentEnd ∷ p.marks, all, tt, inr (p.marks, p.are, refl, told), refl))
     (subst (Closes limit start marker (grammar.AreDocuments ds true)) (append_assoc ts (tokens.DocumentEnd ∷ []) p.marks) (go ((ts ++ tokens.DocumentEnd ∷ []) ++ p.marks) p.stands))
@@ -195,7 +195,7 @@ closes_behind {limit = limit} {start = start} {marker = marker} w r more rest fo
     by_front left first (c ∷ cs) same opens =
         let dot : c ≡ 46 = cc in
         let text : 46 ∷ 46 ∷ (end ++ (prefix ++ others)) ≡ cs ++ (marker_text w ++ r) = cc in
-        let k = behind_piece false (46 ∷ 46 ∷ end) (prefix ++ others) cs (marker_text w ++ r) text (eol_unmarked end (prefix ++ others) end_is false (prefix ++ others)) (subst (λ (x : ℕ). opens_line (x == line_feed) cs ≡ true) dot opens) (indicator w r rest) in
+        let k = behind_piece false (46 ∷ 46 ∷ end) (prefix ++ others) cs (marker_text w ++ r) text (end_unmarked end (prefix ++ others) end_is false (prefix ++ others)) (subst (λ (x : ℕ). opens_line (x == line_feed) cs ≡ true) dot opens) (indicator w r rest) in
         let l = behind_piece true prefix others k.front (marker_text w ++ r) k.is (prefix_unmarked prefix prefix_is true others) k.line (indicator w r rest) in
         let behind : (end ++ (prefix ++ others)) ++ more ≡ end ++ (prefix ++ (others ++ more)) = append_assoc end (prefix ++ others) more ∙ ap (λ (x : List ℕ). end ++ x) (append_assoc prefix others more) in
         passes_suffix ds end prefix others more ts end_is prefix_is (marked_fed w r (prefix ++ others) rest k)
