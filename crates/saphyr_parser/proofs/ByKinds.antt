@@ -102,10 +102,10 @@ first_too keep a b es e g = (g.0, (alike keep a b e).told ∙ g.1)
 
 -- ## Closed beginnings
 
-abbrev piece_of : Kind → Piece
+abbrev pub piece_of : Kind → Piece
 piece_of k = record { span = no_span; kind = k }
 
-kinds_of : (ks : List Kind) → kinds (map piece_of ks) ≡ ks
+pub kinds_of : (ks : List Kind) → kinds (map piece_of ks) ≡ ks
 kinds_of [] = refl
 kinds_of (k ∷ ks) = ap (λ vs. k ∷ vs) (kinds_of ks)
 

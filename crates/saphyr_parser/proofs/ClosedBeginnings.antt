@@ -1,22 +1,29 @@
 -- The promise on closed beginnings, from one that the scanner's tokens begin with those of a closed beginning.
 use Rattle.std.specs.Prelude.{◌==◌, slice_index}
-use Rattle.std.proofs.Common.{◌≡◌, ℕ, ◌≤◌, Bool, true, false, List, [], ◌∷◌, ◌++◌, length, None, refl, sym, ap, ◌∙◌, subst, arith, length-append}
+use Rattle.std.proofs.Common.{◌≡◌, ℕ, ◌+◌, ◌*◌, ◌^◌, ◌<◌, ◌≤◌, Bool, true, false, List, [], ◌∷◌, ◌++◌, map, length, Some, None, refl, sym, ap, ◌∙◌, subst, arith}
+use Rattle.std.proofs.lemmas.List.{length-append, length-map}
 use Rattle.saphyr_input.specs.Breaks.{normalized}
+use Rattle.saphyr_scanner.specs.BlockNodes.{IsContentRest}
+use Rattle.saphyr_scanner.specs.ClosedTexts.{HandsOut}
 use Rattle.saphyr_scanner.specs.Forest.{Forest}
-use Rattle.saphyr_scalar.specs.Spaces.{IsLineRest}
 use Rattle.saphyr_scanner.specs.Layout.{most_open, IsLayout, IsLayoutText}
 use Rattle.saphyr_scanner.specs.Remaining.{scan}
-use Rattle.saphyr_scanner.specs.Seen.{Remaining}
+use Rattle.saphyr_scanner.specs.Seen.{Piece}
 use Rattle.saphyr_scanner.specs.TokenGrammar.{Yields}
 use Rattle.saphyr_scanner.specs.Tokens as tokens
 use Rattle.saphyr_scanner.specs.Tokens.{Kind}
+use Rattle.saphyr_parser.specs.Anchors.{anchors}
+use Rattle.saphyr_parser.specs.Preorder.{parts}
 use Rattle.saphyr_parser.specs.Events.{Happening}
-use Rattle.saphyr_parser.specs.Cursor.{at_start, keeping_tags, to_come}
-use Rattle.saphyr_parser.specs.Exactly.{GivesExactly, kinds}
+use Rattle.saphyr_parser.specs.ForestEvents.{events}
+use Rattle.saphyr_parser.specs.Cursor.{Cursor, at_start, keeping_tags, to_come}
+use Rattle.saphyr_parser.specs.Exactly.{kinds}
 use Rattle.saphyr_parser.specs.More.{marker_token}
-use Rattle.saphyr_parser.specs.Promises.{ReadsLayout, ReadsClosedLayout}
-use Rattle.saphyr_parser.specs.Premises.{Grammar, IsPromised, DocumentMarker, EndsWithMarker, GivesFirst, ReadsEach, ReadsClosed, behind_marker}
-use Rattle.saphyr_parser.proofs.ByKinds.{exactly_too, closed_kinds}
+use Rattle.saphyr_parser.specs.Promises.{ReadsClosedLayout}
+use Rattle.saphyr_parser.specs.Premises.{Grammar, DocumentMarker, EndsWithMarker, GivesFirst, ReadsClosed, behind_marker}
+use Rattle.saphyr_parser.proofs.AnchorCount.{forest_count}
+use Rattle.saphyr_parser.proofs.ByKinds.{piece_of, kinds_of, closed_kinds}
+use Rattle.saphyr_parser.proofs.Complete.{each_parsed}
 
 -- ## A beginning of the normalized text is one of the text
 
@@ -73,71 +80,63 @@ with_first c cs x xs others true false e f less same n =
       is_behind = p.is_behind;
     }
 
-parts : (text xs others : List ℕ) → normalized text ≡ xs ++ others → Parts text xs others
-parts text [] others e = record { front = []; behind = text; are_all = refl; is_front = refl; is_behind = e }
-parts [] (x ∷ xs) others e = absurd (cc)
-parts (c ∷ cs) (x ∷ xs) others e = with_first c cs x xs others (c == 13) (slice_index cs 0 == 10) refl refl (λ n. parts cs xs others n) (λ n. parts cs (x ∷ xs) others n) e
+parted : (text xs others : List ℕ) → normalized text ≡ xs ++ others → Parts text xs others
+parted text [] others e = record { front = []; behind = text; are_all = refl; is_front = refl; is_behind = e }
+parted [] (x ∷ xs) others e = absurd (cc)
+parted (c ∷ cs) (x ∷ xs) others e = with_first c cs x xs others (c == 13) (slice_index cs 0 == 10) refl refl (λ n. parted cs xs others n) (λ n. parted cs (x ∷ xs) others n) e
 
--- ## What the scanner owes
+-- ## The promise
 
--- The tokens end with the marker's and the end of the stream, and those that come with more text behind begin with all but this.
-pub record HandsOut (marker : DocumentMarker) (alone followed : Remaining) : Type 0 where
-  pub earlier : List Kind
-  pub more : List Kind
-  pub ends : kinds alone.pieces ≡ earlier ++ marker_token marker ∷ tokens.StreamEnd ∷ []
-  pub begins : kinds followed.pieces ≡ earlier ++ marker_token marker ∷ more
+-- The tokens of each text that ends with the line of a marker are handed out up to the marker's, whatever follows. The break
+-- between is whole.
+abbrev pub HandsOutMarkers : Grammar → (List ℕ → Type 0) → ℕ → Type 0
+HandsOutMarkers G IsTail limit =
+    (marker : DocumentMarker) (forest : Forest) (text others : List ℕ) → G forest text → EndsWithMarker IsTail marker (normalized text)
+    → normalized (text ++ others) ≡ normalized text ++ normalized others → length (text ++ others) ≤ limit → HandsOut marker forest (scan limit (text ++ others))
 
--- The text ends with the line of a marker, and its tokens are those of a forest. Other text stands behind, and the break between them is whole.
-abbrev pub HandsOutMarkers : (List ℕ → Type 0) → ℕ → Type 0
-HandsOutMarkers IsTail limit =
-    (marker : DocumentMarker) (forest : Forest) (text others : List ℕ) → EndsWithMarker IsTail marker (normalized text) → normalized (text ++ others) ≡ normalized text ++ normalized others
-    → length (text ++ others) ≤ limit → (scan limit text).refusal ≡ None → Yields forest (kinds (scan limit text).pieces) → HandsOut marker (scan limit text) (scan limit (text ++ others))
-
--- the tokens of each text of the grammar are those of a forest
-abbrev pub ScansEach : Grammar → ℕ → Type 0
-ScansEach G limit = (forest : Forest) (text : List ℕ) → G forest text → length text ≤ limit → ((scan limit text).refusal ≡ None) × ((f : Forest) × Yields f (kinds (scan limit text).pieces))
+-- a text has no more tokens than its limit allows
+abbrev pub BoundsTokens : ℕ → Type 0
+BoundsTokens limit = (text : List ℕ) → length (scan limit text).pieces ≤ 5 * limit + 10
 
 -- the grammar sees normalized breaks alone
 abbrev pub SeesNormalized : Grammar → Type 0
 SeesNormalized G = (forest : Forest) (xs ys : List ℕ) → normalized xs ≡ normalized ys → G forest xs → G forest ys
 
--- ## The promise
+few_anchors : (forest : Forest) (limit : ℕ) (ts earlier more : List Kind) (k end : Kind) → ts ≡ earlier ++ k ∷ more → length ts ≤ 5 * limit + 10 → limit ≤ 4294967295 → anchors (parts forest) ≤ length (earlier ++ k ∷ end ∷ [])
+    → anchors (parts forest) < 2 ^ 64
+few_anchors forest limit ts earlier more k end e bound most count =
+    let all = ap length e in
+    let one = length-append earlier (k ∷ more) in
+    let other = length-append earlier (k ∷ end ∷ []) in
+    omega (arith, count, all, one, other, bound, most)
 
-promised_of :
-    (G : Grammar) (limit : ℕ) (keep : Bool) (forest : Forest) (xs ys : List ℕ) (told : List Happening) → SeesNormalized G → normalized xs ≡ normalized ys → length ys ≤ limit
-    → IsPromised G limit keep forest xs told → IsPromised G limit keep forest ys told
-promised_of G limit keep forest xs ys told sees e l p =
-    record { stands_for = sees forest xs ys e p.stands_for; within = l; has_events = p.has_events }
+-- Were the stream's end the next token, the forest's events would be given exactly.
+gives_first : (limit : ℕ) (keep : Bool) (marker : DocumentMarker) (forest : Forest) (text : List ℕ) (first : List Happening) → limit ≤ 4294967295 → BoundsTokens limit → HandsOut marker forest (scan limit text)
+    → events forest keep ≡ Some (first ++ behind_marker marker) → GivesFirst first (to_come (keeping_tags keep (at_start (scan limit text))))
+gives_first limit keep marker forest text first most bounds h told =
+    let all = h.earlier ++ marker_token marker ∷ tokens.StreamEnd ∷ [] in
+    let alone = map piece_of all in
+    let bound : length (kinds (scan limit text).pieces) ≤ 5 * limit + 10 = subst (λ (n : ℕ). n ≤ 5 * limit + 10) (sym (length-map (scan limit text).pieces (λ (t : Piece). t.kind))) (bounds text) in
+    let few = few_anchors forest limit (kinds (scan limit text).pieces) h.earlier h.more (marker_token marker) tokens.StreamEnd h.begins bound most (forest_count forest all h.yields) in
+    let given = each_parsed forest keep (record { pieces = alone; refusal = None }) (first ++ behind_marker marker) (subst (Yields forest) (sym (kinds_of all)) h.yields) refl few told in
+    closed_kinds keep marker h.earlier h.more alone (scan limit text) first (kinds_of all) h.begins given
 
-gives_first :
-    (keep : Bool) (marker : DocumentMarker) (alone followed : Remaining) (first : List Happening) → HandsOut marker alone followed
-    → GivesExactly (first ++ behind_marker marker) (to_come (keeping_tags keep (at_start alone))) → GivesFirst first (to_come (keeping_tags keep (at_start followed)))
-gives_first keep marker alone followed first h g =
-    closed_kinds keep marker h.earlier h.more alone.pieces followed first h.ends h.begins
-    (exactly_too keep alone (record { pieces = alone.pieces; refusal = None }) (first ++ behind_marker marker) refl g)
-
-pub reads_closed :
-    (G : Grammar) (IsTail : List ℕ → Type 0) (limit : ℕ) → SeesNormalized G → ((text : List ℕ) → ReadsEach G limit text (at_start (scan limit text))) → ScansEach G limit
-    → HandsOutMarkers IsTail limit → (text : List ℕ) → ReadsClosed G IsTail limit text (at_start (scan limit text))
-reads_closed G IsTail limit sees each scans hands text keep first c =
-    let p = parts text (normalized c.front) c.others c.begins in
-    let len = length-append p.front p.behind in
+pub reads_closed : (G : Grammar) (IsTail : List ℕ → Type 0) (limit : ℕ) → limit ≤ 4294967295 → SeesNormalized G → BoundsTokens limit → HandsOutMarkers G IsTail limit → (text : List ℕ) → ReadsClosed G IsTail limit text (at_start (scan limit text))
+reads_closed G IsTail limit most sees bounds hands text keep first c =
+    let p = parted text (normalized c.front) c.others c.begins in
     let whole = ap length p.are_all in
     let within = c.within in
-    let front_within : length p.front ≤ limit = omega (arith, len, whole, within) in
     let all_within : length (p.front ++ p.behind) ≤ limit = omega (arith, whole, within) in
-    let promised = promised_of G limit keep c.forest c.front p.front c.told sees (sym p.is_front) front_within c.promised in
-    let of = scans c.forest p.front promised.stands_for front_within in
+    let layout = sees c.forest c.front p.front (sym p.is_front) c.promised.stands_for in
     let apart : normalized (p.front ++ p.behind) ≡ normalized p.front ++ normalized p.behind =
     ap normalized (sym p.are_all) ∙ c.begins ∙ ap (λ xs. xs ++ c.others) (sym p.is_front) ∙ ap (λ ys. normalized p.front ++ ys) (sym p.is_behind) in
-    let hands_out = hands c.marker of.1.0 p.front p.behind (subst (λ xs. EndsWithMarker IsTail c.marker xs) (sym p.is_front) c.ends) apart all_within of.0 of.1.1 in
-    let given : GivesExactly (first ++ behind_marker c.marker) (to_come (keeping_tags keep (at_start (scan limit p.front)))) =
-    subst (λ es. GivesExactly es (to_come (keeping_tags keep (at_start (scan limit p.front))))) c.are_told (each p.front c.forest keep c.told promised) in
+    let hands_out = hands c.marker c.forest p.front p.behind layout (subst (λ xs. EndsWithMarker IsTail c.marker xs) (sym p.is_front) c.ends) apart all_within in
     subst (λ xs. GivesFirst first (to_come (keeping_tags keep (at_start (scan limit xs))))) (sym p.are_all)
-    (gives_first keep c.marker (scan limit p.front) (scan limit (p.front ++ p.behind)) first hands_out given)
+    (gives_first limit keep c.marker c.forest (p.front ++ p.behind) first most bounds hands_out (c.promised.has_events ∙ ap Some c.are_told))
 
 -- the same of the layout grammar
-pub reads_closed_layout :
-    (limit : ℕ) → ((text : List ℕ) → ReadsLayout limit text (at_start (scan limit text))) → ScansEach (IsLayoutText most_open) limit → HandsOutMarkers IsLineRest limit → (text : List ℕ)
-    → ReadsClosedLayout limit text (at_start (scan limit text))
-reads_closed_layout limit each scans hands text = reads_closed (IsLayoutText most_open) IsLineRest limit (λ forest xs ys e g. subst (IsLayout most_open forest) e g) each scans hands text
+pub reads_closed_layout : (limit : ℕ) → limit ≤ 4294967295 → BoundsTokens limit → HandsOutMarkers (IsLayoutText most_open) IsContentRest limit → (text : List ℕ) (parser : Cursor) → parser ≡ at_start (scan limit text)
+    → ReadsClosedLayout limit text parser
+reads_closed_layout limit most bounds hands text parser is =
+    subst (ReadsClosedLayout limit text) (sym is)
+    (reads_closed (IsLayoutText most_open) IsContentRest limit most (λ forest xs ys e g. subst (IsLayout most_open forest) e g) bounds hands text)

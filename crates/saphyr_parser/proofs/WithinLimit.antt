@@ -1,10 +1,10 @@
 -- A text within the limit is read as a whole, though no more items than a bound are taken.
-use Rattle.std.proofs.Common.{◌≡◌, ℕ, ◌^◌, ◌≤◌, ◌<◌, List, take, sym, subst, arith}
+use Rattle.std.proofs.Common.{◌≡◌, ℕ, ◌≤◌, List, take, sym, subst, arith}
 use Rattle.std.proofs.lemmas.List.{take_all}
 use Rattle.saphyr_scanner.specs.Json.{IsJson}
 use Rattle.saphyr_parser.specs.Cursor.{Cursor}
 use Rattle.saphyr_parser.specs.Complete.{ReadsJson}
-use Rattle.saphyr_parser.specs.Promises.{ReadsLayout}
+use Rattle.saphyr_parser.specs.Promises.{ReadsClosedLayout, ReadsLayout}
 
 pub reads_whole : (limit bound : ℕ) (text : List ℕ) (parser : Cursor) → limit ≤ bound
     → ReadsJson limit (take bound text) parser → ReadsJson limit text parser
@@ -19,3 +19,11 @@ reads_whole_layout limit bound text parser within reads forest keep told promise
     let short = promised.within in
     let whole : take bound text ≡ text = take_all bound text (omega (arith, short)) in
     subst (λ (cs : List ℕ). ReadsLayout limit cs parser) whole reads forest keep told promised
+
+-- and of a closed beginning
+pub reads_whole_closed : (limit bound : ℕ) (text : List ℕ) (parser : Cursor) → limit ≤ bound
+    → ReadsClosedLayout limit (take bound text) parser → ReadsClosedLayout limit text parser
+reads_whole_closed limit bound text parser within reads keep first closed =
+    let short = closed.within in
+    let whole : take bound text ≡ text = take_all bound text (omega (arith, short)) in
+    subst (λ (cs : List ℕ). ReadsClosedLayout limit cs parser) whole reads keep first closed

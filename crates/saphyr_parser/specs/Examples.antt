@@ -1,5 +1,5 @@
 -- Forests with their events.
-use Rattle.std.specs.Prelude.{◌≡◌, ℕ, true, false, List, [], ◌∷◌, Some, None, codes}
+use Rattle.std.specs.Prelude.{◌≡◌, ℕ, true, false, List, [], ◌∷◌, ◌++◌, Some, None, codes}
 use Rattle.saphyr_scanner.specs.Forest.{Plain, DoubleQuoted, Properties, no_properties, Tag, Primary, Named, Shorthand, Node, Alias, Scalar, Seq, NoNode, MoreNodes, Directive, TagPrefix, Document, bare, left_out, Forest}
 use Rattle.saphyr_scalar.specs.declared.scalar.position.Marker.{Marker}
 use Rattle.saphyr_scalar.specs.declared.scalar.position.Span.{Span}
@@ -136,3 +136,13 @@ start_events = events.StreamStart ∷ events.DocumentStart true ∷ []
 -- all its events
 abbrev pub start_told : List Happening
 start_told = events.StreamStart ∷ events.DocumentStart true ∷ plain_event [] ∷ events.DocumentEnd ∷ events.StreamEnd ∷ []
+
+-- the same again, behind `...` and a byte order mark
+abbrev pub two_starts : Forest
+two_starts = explicit [] left_out ∷ explicit [] left_out ∷ []
+
+abbrev pub two_starts_events : List Happening
+two_starts_events = events.StreamStart ∷ events.DocumentStart true ∷ plain_event [] ∷ events.DocumentEnd ∷ events.DocumentStart true ∷ []
+
+abbrev pub two_starts_told : List Happening
+two_starts_told = two_starts_events ++ plain_event [] ∷ events.DocumentEnd ∷ events.StreamEnd ∷ []

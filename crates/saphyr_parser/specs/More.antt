@@ -2,13 +2,11 @@
 use Rattle.std.specs.Prelude.{◌≡◌, ◌⊎◌, List, ◌++◌, Option, Some}
 use Rattle.saphyr_scalar.specs.declared.scalar.position.Span.{Span}
 use Rattle.saphyr_scalar.specs.declared.scalar.fault.Refusal.{Refusal}
-use Rattle.saphyr_scanner.specs.Tokens as tokens
-use Rattle.saphyr_scanner.specs.Tokens.{Kind}
+pub use Rattle.saphyr_scanner.specs.ClosedTexts.{marker_token}
 use Rattle.saphyr_scanner.specs.Seen.{Piece}
 use Rattle.saphyr_parser.specs.Events.{Happening}
 use Rattle.saphyr_parser.specs.Machine.{Machine}
 use Rattle.saphyr_parser.specs.Answer.{Answer, ending_of}
-use Rattle.saphyr_parser.specs.Premises.{DocumentMarker, Starts, Ends}
 
 -- more tokens stand behind those of the machine, and the refusal ends them all
 abbrev pub with_more : List Piece → Option Refusal → Machine → Machine
@@ -17,8 +15,3 @@ with_more us e m = record m { tokens = record { pieces = m.tokens.pieces ++ us; 
 -- The answers are the same; or e is the fault of the first, and all of its events come first in the second.
 abbrev pub BeginsAs : Refusal → Answer → Answer → Type 0
 BeginsAs e a b = (b ≡ a) ⊎ ((a.fault ≡ Some (ending_of e)) × ((others : List (Happening × Span)) × (b.events ≡ a.events ++ others)))
-
--- the token of a document marker
-abbrev pub marker_token : DocumentMarker → Kind
-marker_token Starts = tokens.DocumentStart
-marker_token Ends = tokens.DocumentEnd

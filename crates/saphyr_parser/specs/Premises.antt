@@ -1,9 +1,9 @@
 -- What is asked of a text whose forest's events a parser promises to give, and what is promised of its beginnings.
-use Rattle.std.specs.Prelude.{◌≡◌, ◌≤◌, ◌⊎◌, ℕ, Bool, true, List, [], ◌∷◌, ◌++◌, length, map, Some, codes}
+use Rattle.std.specs.Prelude.{◌≡◌, ◌≤◌, ℕ, Bool, true, List, [], ◌∷◌, ◌++◌, length, map, Some}
 use Rattle.saphyr_input.specs.Breaks.{normalized}
-use Rattle.saphyr_input.specs.Classes.{line_feed, byte_order_mark}
 use Rattle.saphyr_scalar.specs.declared.scalar.position.Span.{Span}
 use Rattle.saphyr_scanner.specs.Forest.{Forest}
+pub use Rattle.saphyr_scanner.specs.ClosedTexts.{DocumentMarker, Starts, Ends, EndsWithMarker}
 use Rattle.saphyr_parser.specs.Events.{Happening, StreamEnd, DocumentStart, DocumentEnd}
 use Rattle.saphyr_parser.specs.Machine.{empty_scalar}
 use Rattle.saphyr_parser.specs.ForestEvents.{events}
@@ -44,15 +44,6 @@ HasOneMeaning G text = MeanTheSame G G text
 
 -- ## Closed beginnings (9.1.2, 9.1.4)
 
--- `---`, which starts a document, and `...`, which ends one
-pub data DocumentMarker : Type 0 where
-  Starts : DocumentMarker
-  Ends : DocumentMarker
-
-abbrev pub marker_text : DocumentMarker → List ℕ
-marker_text Starts = codes "---"
-marker_text Ends = codes "..."
-
 -- the marker's own event
 abbrev pub marker_event : DocumentMarker → Happening
 marker_event Starts = DocumentStart true
@@ -62,19 +53,6 @@ marker_event Ends = DocumentEnd
 abbrev pub behind_marker : DocumentMarker → List Happening
 behind_marker Starts = empty_scalar ∷ DocumentEnd ∷ StreamEnd ∷ []
 behind_marker Ends = StreamEnd ∷ []
-
--- behind this text a line begins: it is empty, or ends with a break
-abbrev pub IsBeforeLine : List ℕ → Type 0
-IsBeforeLine front = (front ≡ []) ⊎ ((others : List ℕ) × (front ≡ others ++ line_feed ∷ []))
-
--- behind this text a marker's line begins, perhaps with a byte order mark (5.2), which takes up no column
-abbrev pub IsBeforeMarker : List ℕ → Type 0
-IsBeforeMarker front = IsBeforeLine front ⊎ ((others : List ℕ) × IsBeforeLine others × (front ≡ others ++ byte_order_mark ∷ []))
-
--- the text ends with the marker's line: the marker, what may stand behind it on its line, and the break
-abbrev pub EndsWithMarker : (List ℕ → Type 0) → DocumentMarker → List ℕ → Type 0
-EndsWithMarker IsTail marker text =
-    (front tail : List ℕ) × IsTail tail × IsBeforeMarker front × (text ≡ front ++ (marker_text marker ++ (tail ++ line_feed ∷ [])))
 
 -- The text begins with `front`, which the premises are asked of: it ends with a marker's line, and `first` are its events up
 -- to and with the marker's own. IsTail tells what may stand behind the marker on its line.

@@ -26,7 +26,7 @@ ghost use Rattle.saphyr_parser.specs.EventsTaken.{AreTaken, HasPlaceIn, IsOf};
 ghost use Rattle.saphyr_parser.specs.Premises.{DocumentMarker, GivesFirst, HasOneMeaning, IsClosed, MeanTheSame, ReadsClosed, ReadsEach, behind_marker};
 ghost use Rattle.saphyr_parser.specs.Promises.{ReadsClosedLayout, ReadsLayout, TakesEvents};
 ghost use Rattle.saphyr_scalar.specs.declared.scalar.position.Span.{Span};
-ghost use Rattle.saphyr_scalar.specs.Spaces.{IsLineRest};
+ghost use Rattle.saphyr_scanner.specs.BlockNodes.{IsContentRest};
 ghost use Rattle.saphyr_scanner.specs.Layout.{IsLayoutText, most_open};
 ghost use Rattle.saphyr_parser.specs.SpansWithin.{HasSpansIn};
 ghost use Rattle.saphyr_parser.specs.Begins.{BeginsSomeForest};
@@ -161,8 +161,10 @@ pub fn closes_at_markers()
 /// byte order mark too: where the promises hold, a parser gives its events, and where `[` follows those up to the
 /// document's start.
 pub fn closes_layout()
-    ensures closed { (keep : Bool) → IsClosed (IsLayoutText most_open) IsLineRest 100 keep (codes "---\n[") examples.start_events }
-    ensures marked { (keep : Bool) → IsClosed (IsLayoutText most_open) IsLineRest 100 keep (codes "\u{feff}---\n[") examples.start_events }
+    ensures closed { (keep : Bool) → IsClosed (IsLayoutText most_open) IsContentRest 100 keep (codes "---\n[") examples.start_events }
+    ensures marked { (keep : Bool) → IsClosed (IsLayoutText most_open) IsContentRest 100 keep (codes "\u{feff}---\n[") examples.start_events }
+    ensures behind { (keep : Bool) → IsClosed (IsLayoutText most_open) IsContentRest 100 keep
+        (codes "---\n...\n\u{feff}---\n[") examples.two_starts_events }
     ensures alone { (parser : Cursor) (keep : Bool) → ReadsLayout 100 (codes "---\n") parser → GivesExactly examples.start_told (to_come (keeping_tags keep parser)) }
     ensures followed { (parser : Cursor) (keep : Bool) → ReadsClosedLayout 100 (codes "---\n[") parser → GivesFirst examples.start_events (to_come (keeping_tags keep parser)) }
 {}

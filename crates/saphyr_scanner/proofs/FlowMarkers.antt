@@ -46,7 +46,7 @@ pub at_line : (o : List ℕ) (m : Marker) → AtLine o m → ¬ (o ≡ []) → m
 at_line o m (inl e) h = e
 at_line o m (inr e) h = absurd (h e)
 
-not_empty : (c : ℕ) (cs : List ℕ) → c ∷ cs ≡ [] → ⊥
+pub not_empty : (c : ℕ) (cs : List ℕ) → c ∷ cs ≡ [] → ⊥
 not_empty c cs e = cc
 
 -- ## `---`
@@ -62,7 +62,7 @@ or_true : (b : Bool) → (b || true) ≡ true
 or_true true = refl
 or_true false = refl
 
-start_here : (m : Marker) (blank : Bool) (r : List ℕ) (k : Option Candidate) (a : Bool) (ad : ℕ) (ps : List Place) → m.col ≡ 0 → is_blank_or_breakz (slice_index r 0) ≡ true
+pub start_here : (m : Marker) (blank : Bool) (r : List ℕ) (k : Option Candidate) (a : Bool) (ad : ℕ) (ps : List Place) → m.col ≡ 0 → is_blank_or_breakz (slice_index r 0) ≡ true
     → fetch_here (state_at false (cursor_at (45 ∷ 45 ∷ 45 ∷ r) m blank) context.Block k [] a ad ps)
     ≡ Ok (state_at false (cursor_at r (along m 3) false) context.Block None [] false ad (ps ++ closed (piece_of m (along m 3) tokens.DocumentStart) ∷ []))
 unfolding fetch_here marker end_content remove_key unroll
@@ -74,7 +74,7 @@ off_line n = grind (arith, nat_tests)
 further : (i n : ℕ) → i ≤ i + n
 further i n = omega arith
 
-start_count : (m : Marker) (r : List ℕ) (limit : ℕ) → m.index + length (45 ∷ 45 ∷ 45 ∷ r) ≤ limit → m.index + 3 + length r ≤ limit
+pub start_count : (m : Marker) (r : List ℕ) (limit : ℕ) → m.index + length (45 ∷ 45 ∷ 45 ∷ r) ≤ limit → m.index + 3 + length r ≤ limit
 start_count m r limit h = omega (arith, h)
 
 -- `---` and `...` end a document
@@ -111,7 +111,7 @@ reads_mark {limit = limit} r v =
 
 -- ## `...`
 
-end_here : (m n : Marker) (blank : Bool) (r more : List ℕ) (found : SkipTabs) (k : Option Candidate) (a : Bool) (ad : ℕ) (ps : List Place) → m.col ≡ 0 → is_blank_or_breakz (slice_index r 0) ≡ true
+pub end_here : (m n : Marker) (blank : Bool) (r more : List ℕ) (found : SkipTabs) (k : Option Candidate) (a : Bool) (ad : ℕ) (ps : List Place) → m.col ≡ 0 → is_blank_or_breakz (slice_index r 0) ≡ true
     → separation Yes (cursor_at r (along m 3) false) ≡ Ok (found, cursor_at more n false) → is_breakz (slice_index more 0) ≡ true
     → fetch_here (state_at false (cursor_at (46 ∷ 46 ∷ 46 ∷ r) m blank) context.Block k [] a ad ps)
     ≡ Ok (state_at false (cursor_at more n false) context.Block None [] false ad (ps ++ closed (piece_of m (along m 3) tokens.DocumentEnd) ∷ []))
@@ -126,7 +126,7 @@ end_here m n blank r more found k a ad ps col first is h =
 pub end_ends : (r : List ℕ) → is_blank_or_breakz (slice_index r 0) ≡ true → IsTrue (is_document_indicator (46 ∷ 46 ∷ 46 ∷ r))
 end_ends r h = rw h refl
 
-end_count : (m n : Marker) (r o : List ℕ) (limit : ℕ) → m.index + length (46 ∷ 46 ∷ 46 ∷ r) ≤ limit → n.index + length o ≡ m.index + 3 + length r → n.index + length o ≤ limit
+pub end_count : (m n : Marker) (r o : List ℕ) (limit : ℕ) → m.index + length (46 ∷ 46 ∷ 46 ∷ r) ≤ limit → n.index + length o ≡ m.index + 3 + length r → n.index + length o ≤ limit
 end_count m n r o limit h e = omega (arith, h, e)
 
 end_further : (m n : Marker) (end o : List ℕ) → n.index + length o ≡ m.index + 3 + length (end ++ o) → m.index ≤ n.index

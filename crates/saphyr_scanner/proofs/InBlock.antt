@@ -9,6 +9,9 @@ pub mod Skips
 pub mod Entries
 pub mod Marks
 pub mod Lines
+pub mod LineStarts
+pub mod DirectiveLines
+pub mod Further
 pub mod Statements
 pub mod Texts
 pub mod ScalarTexts
@@ -20,7 +23,12 @@ pub mod Leads
 pub mod Nodes
 pub mod MarkedLines
 pub mod Documents
+pub mod Firsts
+pub mod HandedMarkers
+pub mod Stops
 pub mod Streams
+pub mod ToMarkers
 pub mod Keys
 pub mod FlowNodes
 pub mod Layouts
+pub mod Closed

@@ -27,6 +27,7 @@ pub mod Document
 pub mod Fetch
 pub mod Remaining
 pub mod SameKinds
+pub mod ClosedTexts
 pub mod Engine
 pub mod TokensTaken
 pub mod SpansInOrder

@@ -1,11 +1,13 @@
 //! Laws of the definitions.
-ghost use Rattle.std.specs.Prelude.{◌≡◌, ◌≤◌, List, codes, ◌∷◌, [], ℕ, length};
+ghost use Rattle.std.specs.Prelude.{◌≡◌, ◌≤◌, List, codes, ◌∷◌, ◌++◌, [], ℕ, length};
 ghost use Rattle.saphyr_scanner.specs.Examples.{block_forest, block_tokens, brackets_tokens, json_forest, json_text, json_tokens};
 ghost use Rattle.saphyr_scanner.specs.Forest.{Forest, Primary, Shorthand, open_in_forest};
 ghost use Rattle.saphyr_scanner.specs.TagSpelling.{IsTag};
 ghost use Rattle.saphyr_scanner.specs.Json.{IsJson};
 ghost use Rattle.saphyr_scanner.specs.JsonTokens as json;
+ghost use Rattle.saphyr_scanner.specs.ClosedTexts.{DocumentMarker, EndsWithMarker, HandsOut};
 ghost use Rattle.saphyr_scanner.specs.Layout.{IsLayoutText, most_open};
+ghost use Rattle.saphyr_scanner.specs.BlockNodes.{IsContentRest};
 ghost use Rattle.saphyr_scanner.specs.TokenGrammar.{Yields};
 ghost use Rattle.saphyr_scanner.specs.Tokens.{Kind};
 ghost use Rattle.saphyr_scanner.specs.Remaining.{Scans, scan};
@@ -107,6 +109,33 @@ pub fn scans_each_layout_text()
     ensures { (limit : ℕ) (forest : Forest) (text : List ℕ) → IsLayoutText most_open forest text
         → length text ≤ limit → limit < 2 ^ 63
         → (tokens : List Kind) × Yields forest tokens × Scans tokens (scan limit text) }
+{
+    scans_breaks_alike();
+    reads_each_plain_text();
+    reads_each_quoted();
+    reads_each_block_scalar();
+    places_each_block_scalar();
+    passes_to_one_place();
+    reads_each_anchor();
+    reads_each_tag();
+    reads_each_directive();
+    reads_each_reserved_directive();
+    takes_plain();
+    takes_quoted();
+    takes_block_scalar();
+    takes_anchor();
+    takes_tag();
+    takes_directive();
+}
+
+/// A text of the layout grammar ends with a line of `---` or `...`: whatever follows its last break, the tokens up to
+/// and with the marker's come first, as they are those of its forest.
+pub fn hands_out_markers()
+    ensures { (limit : ℕ) (marker : DocumentMarker) (forest : Forest) (text others : List ℕ)
+        → IsLayoutText most_open forest text → EndsWithMarker IsContentRest marker (normalized text)
+        → normalized (text ++ others) ≡ normalized text ++ normalized others
+        → length (text ++ others) ≤ limit → limit < 2 ^ 63
+        → HandsOut marker forest (scan limit (text ++ others)) }
 {
     scans_breaks_alike();
     reads_each_plain_text();

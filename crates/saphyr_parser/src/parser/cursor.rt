@@ -8,7 +8,7 @@ ghost use Rattle.saphyr_parser.specs.Cursor as spec;
 ghost use Rattle.saphyr_parser.specs.Calls as calls;
 ghost use Rattle.saphyr_parser.specs.Complete.{ReadsJson};
 ghost use Rattle.saphyr_parser.specs.SpansWithin.{HasSpansIn};
-ghost use Rattle.saphyr_parser.specs.Promises.{ReadsLayout, TakesEvents};
+ghost use Rattle.saphyr_parser.specs.Promises.{ReadsClosedLayout, ReadsLayout, TakesEvents};
 
 use crate::law::{gives_json, takes_all_events};
 use crate::parser::event::Event;
@@ -20,7 +20,7 @@ use saphyr_input::{BufferedInput, StrInput};
 use saphyr_scalar::Span;
 use saphyr_scanner::Scanner;
 use saphyr_scanner::law::{
-    bounds_tokens, ends_with_the_stream, places_taken_tokens, scans_each_json,
+    bounds_tokens, ends_with_the_stream, hands_out_markers, places_taken_tokens, scans_each_json,
     scans_each_layout_text,
 };
 use std::alloc::{AllocError, Global};
@@ -69,7 +69,10 @@ impl<'input, T: Input> Parser<'input, T> {
     /// The events of an input's text, which is refused past 4,294,967,295 characters.
     ///
     /// Each text of the layout grammar gives exactly its forest's events, and so does each text of JSON.
-    /// Those of every text are taken from it: all events of a forest, or a beginning of them and one
+    /// Where one ends with a line of `---` or `...`, its events up to and with the marker's come first,
+    /// whatever follows.
+    ///
+    /// The events of every text are taken from it: all events of a forest, or a beginning of them and one
     /// fault. The text spells the forest's tokens in order, or a beginning of them, and a refusal has its
     /// place in it.
     #[must_use]
@@ -77,6 +80,7 @@ impl<'input, T: Input> Parser<'input, T> {
         ensures decided { result ≡ spec.at_start (scan 4294967295 (T.rest src)) }
         ensures complete { ReadsJson 4294967295 (T.rest src) result }
         ensures layout { ReadsLayout 4294967295 (T.rest src) result }
+        ensures closed { ReadsClosedLayout 4294967295 (T.rest src) result }
         ensures spans { (keep : Bool) → HasSpansIn (T.rest src) (spec.to_come (spec.keeping_tags keep result)) }
         ensures taken { TakesEvents (T.rest src) result }
     {
@@ -88,11 +92,13 @@ impl<'input, T: Input> Parser<'input, T> {
         ensures decided { result ≡ spec.at_start (scan limit (T.rest src)) }
         ensures complete { ReadsJson limit (T.rest src) result }
         ensures layout { limit ≤ 4294967295 → ReadsLayout limit (T.rest src) result }
+        ensures closed { limit ≤ 4294967295 → ReadsClosedLayout limit (T.rest src) result }
         ensures spans { (keep : Bool) → HasSpansIn (T.rest src) (spec.to_come (spec.keeping_tags keep result)) }
         ensures taken { limit ≤ 4294967295 → TakesEvents (T.rest src) result }
     {
         scans_each_json();
         scans_each_layout_text();
+        hands_out_markers();
         gives_json();
         ends_with_the_stream();
         bounds_tokens();
@@ -197,6 +203,7 @@ impl<'input> Parser<'input, StrInput<'input>> {
         ensures decided { result ≡ spec.at_start (scan 4294967295 (chars value.now)) }
         ensures complete { ReadsJson 4294967295 (chars value.now) result }
         ensures layout { ReadsLayout 4294967295 (chars value.now) result }
+        ensures closed { ReadsClosedLayout 4294967295 (chars value.now) result }
         ensures spans { (keep : Bool) → HasSpansIn (chars value.now) (spec.to_come (spec.keeping_tags keep result)) }
         ensures taken { TakesEvents (chars value.now) result }
     {
@@ -215,6 +222,8 @@ impl<'input, I: Iterator<Item = char>> Parser<'input, BufferedInput<I>> {
         ensures decided { (text : List ℕ) → Lists I.can_next I.next_gives iter text → IfOk result (λ parser. parser ≡ spec.at_start (scan 4294967295 (take 4294967296 text))) }
         ensures complete { (text : List ℕ) → Lists I.can_next I.next_gives iter text → IfOk result (λ parser. ReadsJson 4294967295 text parser) }
         ensures layout { (text : List ℕ) → Lists I.can_next I.next_gives iter text → IfOk result (λ parser. ReadsLayout 4294967295 text parser) }
+        ensures closed { (text : List ℕ) → Lists I.can_next I.next_gives iter text
+            → IfOk result (λ parser. ReadsClosedLayout 4294967295 text parser) }
         ensures spans { (text : List ℕ) → Lists I.can_next I.next_gives iter text → IfOk result (λ parser. (keep : Bool) → HasSpansIn (take 4294967296 text) (spec.to_come (spec.keeping_tags keep parser))) }
         ensures taken { (text : List ℕ) → Lists I.can_next I.next_gives iter text → IfOk result (λ parser. TakesEvents (take 4294967296 text) parser) }
     {

@@ -73,14 +73,7 @@ some_left : (c : ℕ) (cs : List ℕ) (m : Marker) → AtLine (c ∷ cs) m → m
 some_left c cs m (inl e) = e
 some_left c cs m (inr e) = absurd (cc)
 
-lands_marked : (filler : List ℕ) (c : ℕ) (cs o : List ℕ) → IsFiller filler → o ≡ filler ++ (c ∷ cs) → IsInk c → IsTrue (is_document_indicator (c ∷ cs)) → (m : Marker) → AtLine o m → Lands m o
-lands_marked filler c cs o filler_is e ink h m line =
-    let n = moved m filler in
-    let there : past 0 m o ≡ (n, c ∷ cs) = ap (past 0 m) e ∙ reaches m filler c cs (filler_skipped filler filler_is) ink in
-    let col = some_left c cs n (filler_at_line m filler (c ∷ cs) filler_is (subst (λ (x : List ℕ). AtLine x m) e line)) in
-    subst (λ (x : Marker × List ℕ). EndsDocument x.0 x.1) (sym there) (inr (col, h))
-
-plain_marked : (filler : List ℕ) (c : ℕ) (cs o : List ℕ) → IsFiller filler → o ≡ filler ++ (c ∷ cs) → IsInk c → IsPlainBehind o
+pub plain_marked : (filler : List ℕ) (c : ℕ) (cs o : List ℕ) → IsFiller filler → o ≡ filler ++ (c ∷ cs) → IsInk c → IsPlainBehind o
 plain_marked filler c cs o filler_is e ink =
     let k = filler_skipped filler filler_is in
     subst IsPlainBehind (sym e) (record { clean = skipped_clean filler (c ∷ cs) k (ink_clean c cs ink); no_tab = skipped_no_tab filler (c ∷ cs) k ∙ ink_no_tab c cs ink })
@@ -102,7 +95,7 @@ last_plain o (filler, text, filler_is, (front, comment, (n, low, spaced), k, tex
 dash_ink : IsInk 45
 dash_ink = record { blank = refl; break = refl; comment = refl; byte_order_mark = refl }
 
-dot_ink : IsInk 46
+pub dot_ink : IsInk 46
 dot_ink = record { blank = refl; break = refl; comment = refl; byte_order_mark = refl }
 
 -- a `...` line before what stands behind it
@@ -125,20 +118,59 @@ plain_behind ds o (inr (suffix, others, (filler, end, prefix, filler_is, end_is,
 explicit_first : {limit : ℕ} → Leaves limit → (node : Node) (t others : List ℕ) → IsBlockNode most_open node BehindMarker t others → IsPlainBehind others → is_blank_or_breakz (slice_index (t ++ others) 0) ≡ true
 explicit_first leaves node t others h plain = let b = node_behind leaves node BehindMarker t others refl h plain.clean plain.no_tab in b.first
 
--- what stands behind a document: the text's end or a document marker
-pub lands_behind : {limit : ℕ} → Leaves limit → (ds : Forest) (o : List ℕ) → layout.IsBehindDocument (AreBlockDocuments ds) o → (m : Marker) → AtLine o m → Lands m o
-lands_behind leaves [] o (inl h) m line = inl (ap (λ (x : Marker × List ℕ). x.1) (last_filler_past 0 m o h))
-lands_behind leaves (d ∷ ds) o (inl (filler, document, others, filler_is, inl h, behind, e)) m line = absurd (not_true h.0)
-lands_behind leaves (d ∷ ds) o (inl (filler, document, others, filler_is, inr (inl h, is), behind, e)) m line = absurd (not_true h)
-lands_behind leaves (d ∷ ds) o (inl (filler, document, others, filler_is, inr (inr none, (directives, node, explicit, compatible, directives_are, unmarked, node_is, text)), behind, e)) m line =
+-- behind filler a document marker begins a line
+pub record OpensMarker (o : List ℕ) : Type 0 where
+  pub filler : List ℕ
+  pub filler_is : IsFiller filler
+  pub first : ℕ
+  pub others : List ℕ
+  pub ink : IsInk first
+  pub marker : IsTrue (is_document_indicator (first ∷ others))
+  pub is : o ≡ filler ++ (first ∷ others)
+
+pub lands_marked : (o : List ℕ) → OpensMarker o → (m : Marker) → AtLine o m → Lands m o
+lands_marked o k m line =
+    let n = moved m k.filler in
+    let there : past 0 m o ≡ (n, k.first ∷ k.others) = ap (past 0 m) k.is ∙ reaches m k.filler k.first k.others (filler_skipped k.filler k.filler_is) k.ink in
+    let col = some_left k.first k.others n (filler_at_line m k.filler (k.first ∷ k.others) k.filler_is (subst (λ (x : List ℕ). AtLine x m) k.is line)) in
+    subst (λ (x : Marker × List ℕ). EndsDocument x.0 x.1) (sym there) (inr (col, k.marker))
+
+-- what stands behind a document: filler alone, or a document marker
+pub opens_marker : {limit : ℕ} → Leaves limit → (ds : Forest) (o : List ℕ) → layout.IsBehindDocument (AreBlockDocuments ds) o → ((ds ≡ []) × IsLastFiller o) ⊎ OpensMarker o
+opens_marker leaves [] o (inl h) = inl (refl, h)
+opens_marker leaves (d ∷ ds) o (inl (filler, document, others, filler_is, inl h, behind, e)) = absurd (not_true h.0)
+opens_marker leaves (d ∷ ds) o (inl (filler, document, others, filler_is, inr (inl h, is), behind, e)) = absurd (not_true h)
+opens_marker leaves (d ∷ ds) o (inl (filler, document, others, filler_is, inr (inr none, (directives, node, explicit, compatible, directives_are, unmarked, node_is, text)), behind, e)) =
     let empty = no_directives d directives none directives_are in
     let begins : document ≡ 45 ∷ 45 ∷ 45 ∷ node = text ∙ ap (λ (x : List ℕ). x ++ (45 ∷ 45 ∷ 45 ∷ node)) empty in
-    lands_marked filler 45 (45 ∷ 45 ∷ (node ++ others)) o filler_is (e ∙ ap (λ (x : List ℕ). filler ++ (x ++ others)) begins) dash_ink
-    (start_ends (node ++ others) (explicit_first leaves d.node node others node_is (plain_behind ds others behind))) m line
-lands_behind leaves ds o (inr (suffix, others, (filler, end, prefix, filler_is, end_is, prefix_is, text), behind, e)) m line =
-    let whole : o ≡ filler ++ (46 ∷ 46 ∷ 46 ∷ (end ++ (prefix ++ others))) = e ∙ ap (λ (x : List ℕ). x ++ others) text ∙ suffix_text filler end prefix others in
-    lands_marked filler 46 (46 ∷ 46 ∷ (end ++ (prefix ++ others))) o filler_is whole dot_ink
-    (end_ends (end ++ (prefix ++ others)) (eol_first m (end ++ (prefix ++ others)) (prefix ++ others) (eol m end (prefix ++ others) end_is))) m line
+    inr (record {
+      filler = filler;
+      filler_is = filler_is;
+      first = 45;
+      others = 45 ∷ 45 ∷ (node ++ others);
+      ink = dash_ink;
+      marker = start_ends (node ++ others) (explicit_first leaves d.node node others node_is (plain_behind ds others behind));
+      is = e ∙ ap (λ (x : List ℕ). filler ++ (x ++ others)) begins;
+    })
+opens_marker leaves ds o (inr (suffix, others, (filler, end, prefix, filler_is, end_is, prefix_is, text), behind, e)) =
+    let m : Marker = record { index = 0; line = 1; col = 0 } in
+    inr (record {
+      filler = filler;
+      filler_is = filler_is;
+      first = 46;
+      others = 46 ∷ 46 ∷ (end ++ (prefix ++ others));
+      ink = dot_ink;
+      marker = end_ends (end ++ (prefix ++ others)) (eol_first m (end ++ (prefix ++ others)) (prefix ++ others) (eol m end (prefix ++ others) end_is));
+      is = e ∙ ap (λ (x : List ℕ). x ++ others) text ∙ suffix_text filler end prefix others;
+    })
+
+-- so it is the text's end, or a document marker
+pub lands_behind : {limit : ℕ} → Leaves limit → (ds : Forest) (o : List ℕ) → layout.IsBehindDocument (AreBlockDocuments ds) o → (m : Marker) → AtLine o m → Lands m o
+lands_behind leaves ds o h m line = by_first (opens_marker leaves ds o h)
+  where
+    by_first : ((ds ≡ []) × IsLastFiller o) ⊎ OpensMarker o → Lands m o
+    by_first (inl k) = inl (ap (λ (x : Marker × List ℕ). x.1) (last_filler_past 0 m o k.1))
+    by_first (inr k) = lands_marked o k m line
 
 -- ## The text of a node is clear
 
@@ -154,7 +186,7 @@ feed_last m c [] e = by_feed (c == line_feed) refl e
     by_feed false k e = absurd (let place : moved m (c ∷ []) ≡ along m 1 = rw (moved, k) refl in let col : m.col + 1 ≡ 0 = sym (ap (λ (n : Marker). n.col) place) ∙ e in omega (arith, col))
 feed_last m c (d ∷ ds) e = let r = feed_last (behind_character m c) d ds e in (c ∷ r.0, ap (λ (x : List ℕ). c ∷ x) r.1)
 
-node_marks : (at_start : Bool) (t o : List ℕ) → EndsWithLine t o → marks_line at_start t o ≡ has_marker at_start t
+pub node_marks : (at_start : Bool) (t o : List ℕ) → EndsWithLine t o → marks_line at_start t o ≡ has_marker at_start t
 node_marks at_start t o (inr e) = subst (λ (x : List ℕ). marks_line at_start t x ≡ has_marker at_start t) (sym e) (last_marks at_start t)
 node_marks at_start [] o (inl h) = refl
 node_marks at_start (c ∷ cs) o (inl h) =
@@ -373,7 +405,7 @@ reads_explicit {limit = limit} {start = start} leaves d free t others ts may exp
       stands = subst (Stands limit start false (Lined false others) others) (token_list ts (map directive_token d.directives) n.tokens tokens.DocumentStart) n.stands;
     }
 
-document_text : (directives node others : List ℕ) → (directives ++ (45 ∷ 45 ∷ 45 ∷ node)) ++ others ≡ directives ++ (45 ∷ 45 ∷ 45 ∷ (node ++ others))
+pub document_text : (directives node others : List ℕ) → (directives ++ (45 ∷ 45 ∷ 45 ∷ node)) ++ others ≡ directives ++ (45 ∷ 45 ∷ 45 ∷ (node ++ others))
 document_text directives node others = simp append_assoc
 
 clean_node : (directives node : List ℕ) → HasNoReturn (directives ++ (45 ∷ 45 ∷ 45 ∷ node)) → HasNoReturn node
@@ -382,6 +414,26 @@ clean_node directives node h = in_back _ (45 ∷ 45 ∷ 45 ∷ []) node (in_back
 -- where directives may stand, no key is asked for
 unopened : {limit : ℕ} {start : State} {free opened : Bool} {o : List ℕ} {ts : List Kind} → Stands limit start free (Lined opened o) o ts → Stands limit start free (Lined false o) o ts
 unopened {o = o} v = passes_over v (Lined false o) v.mark o refl v.count (v.line.0, λ e. absurd (cc)) v.lined
+
+-- The scanner has read a document's directives, and stands before its `---`.
+pub record MarkerStands (limit : ℕ) (start : State) (d : Document) (y : List ℕ) (ts : List Kind) : Type 0 where
+  pub free : Bool
+  pub opened : Bool
+  pub stands : Stands limit start free (Lined opened (45 ∷ 45 ∷ 45 ∷ y)) (45 ∷ 45 ∷ 45 ∷ y) (ts ++ map directive_token d.directives)
+
+pub reads_front : {limit : ℕ} {start : State} → Reads → (d : Document) (free : Bool) (directives y : List ℕ) (ts : List Kind) → IsTrue free ⊎ (d.directives ≡ []) → AreDirectives d.directives directives
+    → Stands limit start free (Lined free (directives ++ (45 ∷ 45 ∷ 45 ∷ y))) (directives ++ (45 ∷ 45 ∷ 45 ∷ y)) ts → MarkerStands limit start d y ts
+reads_front {limit = limit} {start = start} readers d free directives y ts (inl is_free) are v =
+    let t = directives ++ (45 ∷ 45 ∷ 45 ∷ y) in
+    record { free = true; opened = false; stands = reads_directives readers d.directives directives (45 ∷ 45 ∷ 45 ∷ y) ts are (unopened (subst (λ (b : Bool). Stands limit start b (Lined b t) t ts) is_free v)) }
+reads_front {limit = limit} {start = start} readers d free directives y ts (inr none) are v =
+    let empty = no_directives d directives none are in
+    let first = subst (λ (x : List ℕ). Stands limit start free (Lined free (x ++ (45 ∷ 45 ∷ 45 ∷ y))) (x ++ (45 ∷ 45 ∷ 45 ∷ y)) ts) empty v in
+    record {
+      free = free;
+      opened = free;
+      stands = subst (λ (x : List Kind). Stands limit start free (Lined free (45 ∷ 45 ∷ 45 ∷ y)) (45 ∷ 45 ∷ 45 ∷ y) x) (sym (ap (λ ds. ts ++ map directive_token ds) none ∙ append-nil ts)) first;
+    }
 
 -- a bare node is not left out
 some_node : (node : Node) (ts : List Kind) → AreRead node AtStart ts → grammar.IsNode node grammar.InBlock ts
@@ -393,14 +445,7 @@ pub reads_document : {limit : ℕ} {start : State} → Reads → Leaves limit �
 reads_document {limit = limit} {start = start} readers leaves d free t others ts (inl (is_free, (same, unmarked, is))) lands plain clean v =
     let n = bare_node leaves d.node t others ts unmarked is lands plain clean (subst (λ (b : Bool). Stands limit start b (Lined b (t ++ others)) (t ++ others) ts) is_free v) in
     record { tokens = n.tokens; are = inl (is_free, (ap (λ (x : Document). x.explicit) same, ap (λ (x : Document). x.directives) same, some_node d.node n.tokens n.are)); stands = n.stands }
-reads_document {limit = limit} {start = start} readers leaves d free t others ts (inr (inl is_free, (directives, node, explicit, compatible, are, unmarked, is, e))) lands plain clean v =
+reads_document {limit = limit} {start = start} readers leaves d free t others ts (inr (may, (directives, node, explicit, compatible, are, unmarked, is, e))) lands plain clean v =
     let text = ap (λ (x : List ℕ). x ++ others) e ∙ document_text directives node others in
-    let first : Stands limit start true (Lined true (directives ++ (45 ∷ 45 ∷ 45 ∷ (node ++ others)))) (directives ++ (45 ∷ 45 ∷ 45 ∷ (node ++ others))) ts =
-    subst (λ (x : List ℕ). Stands limit start true (Lined true x) x ts) text (subst (λ (b : Bool). Stands limit start b (Lined b (t ++ others)) (t ++ others) ts) is_free v) in
-    reads_explicit leaves d free node others ts (inl is_free) explicit compatible unmarked is lands plain (clean_node directives node (subst HasNoReturn e clean))
-    (reads_directives readers d.directives directives (45 ∷ 45 ∷ 45 ∷ (node ++ others)) ts are (unopened first))
-reads_document {limit = limit} {start = start} readers leaves d free t others ts (inr (inr none, (directives, node, explicit, compatible, are, unmarked, is, e))) lands plain clean v =
-    let text = ap (λ (x : List ℕ). x ++ others) e ∙ document_text directives node others ∙ ap (λ (x : List ℕ). x ++ (45 ∷ 45 ∷ 45 ∷ (node ++ others))) (no_directives d directives none are) in
-    let first = subst (λ (x : List ℕ). Stands limit start free (Lined free x) x ts) text v in
-    reads_explicit leaves d free node others ts (inr none) explicit compatible unmarked is lands plain (clean_node directives node (subst HasNoReturn e clean))
-    (subst (λ (x : List Kind). Stands limit start free (Lined free (45 ∷ 45 ∷ 45 ∷ (node ++ others))) (45 ∷ 45 ∷ 45 ∷ (node ++ others)) x) (sym (ap (λ ds. ts ++ map directive_token ds) none ∙ append-nil ts)) first)
+    let f = reads_front readers d free directives (node ++ others) ts may are (subst (λ (x : List ℕ). Stands limit start free (Lined free x) x ts) text v) in
+    reads_explicit leaves d free node others ts may explicit compatible unmarked is lands plain (clean_node directives node (subst HasNoReturn e clean)) f.stands

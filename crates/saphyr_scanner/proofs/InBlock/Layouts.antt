@@ -23,7 +23,7 @@ use Rattle.saphyr_scanner.proofs.InBlock.Streams.{layout_leads}
 use Rattle.saphyr_scanner.proofs.Lazy.{handed_out}
 use Rattle.saphyr_scanner.proofs.TakingScalars.{Readers}
 
-leaves : Reads → ReadsBlocks → (limit : ℕ) → limit < 2 ^ 63 → Leaves limit
+pub leaves : Reads → ReadsBlocks → (limit : ℕ) → limit < 2 ^ 63 → Leaves limit
 leaves reads blocks limit short = record {
   flow = reads_flow reads limit short;
   block_scalar = scalars.block_scalar blocks short (reads_head reads limit);

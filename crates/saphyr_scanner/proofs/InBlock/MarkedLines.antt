@@ -23,7 +23,7 @@ feed_third : (c d : ℕ) (t : List ℕ) → is_document_indicator (c ∷ d ∷ 1
 feed_third c d t = both (is_document_start (c ∷ d ∷ 10 ∷ t)) (is_document_end (c ∷ d ∷ 10 ∷ t)) (lost_third (c == 45) (d == 45) _) (lost_third (c == 46) (d == 46) _)
 
 -- a document marker ends before a line feed
-fed_marker : (c : ℕ) (cs behind : List ℕ) → is_document_indicator (c ∷ ((cs ++ (10 ∷ [])) ++ behind)) ≡ is_document_indicator (c ∷ (cs ++ (10 ∷ [])))
+pub fed_marker : (c : ℕ) (cs behind : List ℕ) → is_document_indicator (c ∷ ((cs ++ (10 ∷ [])) ++ behind)) ≡ is_document_indicator (c ∷ (cs ++ (10 ∷ [])))
 fed_marker c [] behind = feed_second c behind ∙ sym (feed_second c [])
 fed_marker c (d ∷ []) behind = feed_third c d behind ∙ sym (feed_third c d [])
 fed_marker c (d ∷ e ∷ []) behind = refl

@@ -29,12 +29,12 @@ use Rattle.saphyr_scanner.proofs.InBlock.Documents.{plain_behind, AreBlockDocume
 -- ## Between documents
 
 -- The scanner has read what may stand before a document.
-record PrefixStands (limit : ℕ) (start : State) (others : List ℕ) (ts : List Kind) : Type 0 where
-  marks : List Kind
-  are : AreEndsAndMarks marks
-  stands : Stands limit start true (Lined true others) others (ts ++ marks)
+pub record PrefixStands (limit : ℕ) (start : State) (others : List ℕ) (ts : List Kind) : Type 0 where
+  pub marks : List Kind
+  pub are : AreEndsAndMarks marks
+  pub stands : Stands limit start true (Lined true others) others (ts ++ marks)
 
-reads_prefix : {limit : ℕ} {start : State} (prefix others : List ℕ) (ts : List Kind) → IsDocumentPrefix prefix → Stands limit start true (Lined true (prefix ++ others)) (prefix ++ others) ts → PrefixStands limit start others ts
+pub reads_prefix : {limit : ℕ} {start : State} (prefix others : List ℕ) (ts : List Kind) → IsDocumentPrefix prefix → Stands limit start true (Lined true (prefix ++ others)) (prefix ++ others) ts → PrefixStands limit start others ts
 reads_prefix {limit = limit} {start = start} prefix others ts (inl e) v =
     record {
       marks = [];
@@ -88,7 +88,7 @@ or_true : (b : Bool) → (b || true) ≡ true
 or_true true = refl
 or_true false = refl
 
-begins : (limit : ℕ) (text : List ℕ) → length text ≤ limit → Stands limit (start text) true (Lined true text) text (tokens.StreamStart ∷ [])
+pub begins : (limit : ℕ) (text : List ℕ) → length text ≤ limit → Stands limit (start text) true (Lined true text) text (tokens.StreamStart ∷ [])
 begins limit text h =
     let first = starts limit text in
     record {

@@ -1,4 +1,4 @@
-use Rattle.saphyr_parser.proofs.ClosedLayout.{closed, marked, gives_start, gives_first}
+use Rattle.saphyr_parser.proofs.ClosedLayout.{closed, marked, behind, gives_start, gives_first}
 use Rattle.saphyr_parser.proofs.law.closes_layout.Goals as goal
 
 pub returns-clause-closed : goal.returns-clause-closed
@@ -6,6 +6,9 @@ returns-clause-closed c = closed
 
 pub returns-clause-marked : goal.returns-clause-marked
 returns-clause-marked c = marked
+
+pub returns-clause-behind : goal.returns-clause-behind
+returns-clause-behind c = behind
 
 pub returns-clause-alone : goal.returns-clause-alone
 returns-clause-alone c = gives_start

@@ -6,3 +6,6 @@ returns-clause-taken g c = c.with_limit.ensures.taken (omega arith)
 
 pub returns-clause-layout : goal.returns-clause-layout
 returns-clause-layout g c = c.with_limit.ensures.layout (omega arith)
+
+pub returns-clause-closed : goal.returns-clause-closed
+returns-clause-closed g c = c.with_limit.ensures.closed (omega arith)

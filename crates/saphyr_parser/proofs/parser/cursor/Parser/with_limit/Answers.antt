@@ -1,5 +1,6 @@
 use Rattle.std.proofs.Common.{ap, ◌∙◌, arith}
 use Rattle.saphyr_parser.specs.Cursor.{at_start}
+use Rattle.saphyr_parser.proofs.ClosedBeginnings.{reads_closed_layout}
 use Rattle.saphyr_parser.proofs.Completed.{completed}
 use Rattle.saphyr_parser.proofs.EventsTakenOf.{parser_takes}
 use Rattle.saphyr_parser.proofs.EventSpans.{parser_spans_in}
@@ -19,3 +20,8 @@ returns-clause-taken g c = λ few. parser_takes c.takes_all_events.ensures _ _ c
 pub returns-clause-layout : goal.returns-clause-layout
 returns-clause-layout g c = λ few.
     reads_text (IsLayoutText most_open) _ _ few (c.bounds_tokens.ensures _ _) (λ forest layout short. c.scans_each_layout_text.ensures _ forest _ layout short (omega (arith, few))) _ (c.new-2.ensures ∙ ap at_start c.new.ensures.tokens)
+
+pub returns-clause-closed : goal.returns-clause-closed
+returns-clause-closed g c = λ few.
+    reads_closed_layout _ few (λ text. c.bounds_tokens.ensures _ text) (λ marker forest text others layout ends apart short. c.hands_out_markers.ensures _ marker forest text others layout ends apart short (omega (arith, few))) _ _
+    (c.new-2.ensures ∙ ap at_start c.new.ensures.tokens)

@@ -1,0 +1,34 @@
+use Rattle.std.proofs.Common.{arith, ◌++◌}
+use Rattle.saphyr_scanner.proofs.TakingScalars.{Readers, quoted_laws}
+use Rattle.saphyr_scanner.proofs.FlowStates.{Reads}
+use Rattle.saphyr_scanner.proofs.InBlock.ScalarTexts.{ReadsBlocks}
+use Rattle.saphyr_scanner.proofs.InBlock.Closed.{closed_scans}
+use Rattle.saphyr_scanner.proofs.law.hands_out_markers.Goals as goal
+
+pub returns : goal.returns
+returns c limit marker forest text others layout ends apart short small =
+    let laws : Readers = record {
+      plain = c.takes_plain.ensures;
+      double_quoted = (quoted_laws c.takes_quoted.ensures).0;
+      single_quoted = (quoted_laws c.takes_quoted.ensures).1;
+      block_scalar = c.takes_block_scalar.ensures;
+      name = c.takes_anchor.ensures;
+      tag = c.takes_tag.ensures;
+      directive = c.takes_directive.ensures;
+    } in
+    let reads : Reads = record {
+      plain = c.reads_each_plain_text.ensures;
+      quoted = c.reads_each_quoted.ensures;
+      place = c.passes_to_one_place.ensures;
+      anchor = c.reads_each_anchor.ensures;
+      tag = c.reads_each_tag.ensures;
+      directive = c.reads_each_directive.ensures;
+      reserved = c.reads_each_reserved_directive.ensures;
+    } in
+    let blocks : ReadsBlocks = record {
+      reads = c.reads_each_block_scalar.ensures;
+      passes = λ style indent s t text span e f g. (c.places_each_block_scalar.ensures style indent s t text span e f g).0;
+      place = c.passes_to_one_place.ensures;
+    } in
+    let same = c.scans_breaks_alike.ensures limit (text ++ others) (omega (arith, short, small)) short in
+    closed_scans laws reads blocks limit small marker forest text others same layout ends apart short
