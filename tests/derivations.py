@@ -35,7 +35,7 @@ def is_marker(text):
 
 
 def folded(text):
-    """What a flow scalar reads as (Folding.antt). U+E003 is an escaped break's backslash, ESCAPED white space escaped."""
+    """What a flow scalar reads as (Folding.antt): U+E003 is an escaped break's backslash, ESCAPED an escaped blank."""
     text = re.sub("\ue003[ \t\n]*", lambda it: ESCAPED[2] * (it[0].count("\n") - 1), text)
     text = re.sub("[ \t]*\n[ \t\n]*", lambda it: "\n" * (it[0].count("\n") - 1) or " ", text)
     return text.translate(str.maketrans(ESCAPED, " \t\n"))
