@@ -18,14 +18,13 @@ import subprocess
 import sys
 
 PROGRAM = os.path.dirname(os.path.dirname(os.path.abspath(__file__))) + "/crates/dump_events/out/dump_events"
-MOST_OPEN, LONGEST_KEY, MARK, FLOW = 255, 1024, "\ufeff", ",[]{}"
+MOST_OPEN, LONGEST_KEY, MARK, ESCAPED, FLOW = 255, 1024, "\ufeff", "\ue000\ue001\ue002", ",[]{}"
 INK = "aab1" * 6 + "-?:.#&*!|>'\"%@`\\/=_~" + FLOW + "\x01\x7f\x85\xa0é\u2028\ufffe\U0001f600"
 OPEN_INK = "".join(c for c in INK if c not in FLOW)
 URI, SUFFIX = "aab1-#;/?:@&=+$,_.!~*'()[]", "aab1-#;/?:@&=+$_.~*'()"
 ESCAPES = list(zip('0abt\tnvfre "/\\N_LP', "\0\a\b\t\t\n\v\f\r\x1b \"/\\\x85\xa0\u2028\u2029"))
 ESCAPES += [(form % ord(c), c) for form, most in (("x%02x", 0xff), ("u%04X", 0xffff), ("U%08x", 0x10ffff))
             for c in "\0\t\n\r \\Zé\xff\ud7ff\ufeff\uffff\U0001f600\U0010ffff" if ord(c) <= most]
-ESCAPED = "\ue000\ue001\ue002"
 SHOWN = {"\\": "\\\\", "\n": "\\n", "\r": "\\r", "\b": "\\b", "\t": "\\t"}
 NO_PROPERTIES, LEFT_OUT = (None, None), [("=VAL", (None, None), ":")]
 
@@ -82,19 +81,19 @@ class Derivation:
         return "".join(self.one_of(among) for _ in range(least + self.few()))
 
     # ## Spaces.antt. `indent` is None where no line may end.
-    def comment(self, tab="\t"):
-        return "#" + self.characters(INK + " " + tab, self.few())
+    def comment(self):
+        self.hits.append("comment")
+        return "#" + self.characters(INK + " \t", self.few())
 
-    def line_end(self, blanks=" ", tab="\t"):
+    def line_end(self, blanks=" "):
         front = self.characters(blanks)
-        return front + (self.comment(tab) if front and self.rarely(2) else "") + "\n"
+        return front + (self.comment() if front and self.rarely(2) else "") + "\n"
 
     def eol(self, behind):
         return self.line_end()[:-1 if not behind and self.pick("last line", ended=1, cut=1) == "cut" else None]
 
-    def filler(self, tab="\t", last=0):
-        kinds = [self.pick("filler line", spaces=1, comment=1) for _ in range(self.one_of((0, 0, 0, 0, 1, 2)) + last)]
-        lines = [self.characters(" ") + (self.comment(tab) if it == "comment" else "") for it in kinds]
+    def filler(self, last=0):
+        lines = [self.characters(" ") + (self.comment() if self.rarely(2) else "") for _ in range(self.few() + last)]
         return "\n".join(lines + [""] * (bool(lines) and not last))
 
     def gap(self, place):
@@ -103,11 +102,10 @@ class Derivation:
             return self.line_end() + self.filler() + self.characters(" ", place[1] + 1)
         return self.characters(" ", 1) if kind == "spaces" else ""
 
-    def separation(self, indent, least=0, tab="\t"):
-        blanks = "   " + tab
+    def separation(self, indent, least=0, blanks="   \t"):
         if indent is None or self.pick("separation", blanks=4, lines=1) == "blanks":
             return self.characters(blanks, least)
-        lines = [self.line_end(blanks, tab) + self.filler(tab) + " " * indent for _ in range(1 + self.few())]
+        lines = [self.line_end(blanks) + self.filler() + " " * indent for _ in range(1 + self.few())]
         return "".join(lines) + self.characters(blanks)
 
     # ## TagSpelling.antt and DirectiveSpelling.antt
@@ -170,7 +168,9 @@ class Derivation:
         return "a" + word if is_refused or word[0] == "#" else word
 
     def next_line(self, indent):
-        return "\n" + "".join(self.characters(" ") + "\n" for _ in range(self.few())) + self.characters(" ", indent)
+        fronts = [self.characters(" ", indent) + self.characters("  \t") for _ in range(1 + self.few())]
+        empty = [front if self.rarely(2) else self.characters(" ") for front in fronts[1:]]
+        return "\n".join(["", *empty, fronts[0]])
 
     def plain(self, in_flow, indent):
         text = self.word(in_flow, True)
@@ -238,7 +238,7 @@ class Derivation:
 
     def pair(self, room, indent, inside):
         kind = self.pick(f"pair in {inside}", both=4, value=1, key=int(inside == "braces"), explicit=2, lone_mark=1)
-        mark = "?" + self.separation(indent, 1, "") if kind in ("explicit", "lone_mark") else ""
+        mark = "?" + self.separation(indent, 1, " ") if kind in ("explicit", "lone_mark") else ""
         if kind == "lone_mark":
             return mark, LEFT_OUT + LEFT_OUT
         kind = self.pick("explicit pair", key=1, value=1, both=1) if kind == "explicit" else kind
