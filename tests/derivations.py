@@ -89,8 +89,8 @@ class Derivation:
         front = self.characters(blanks)
         return front + (self.comment() if front and self.rarely(2) else "") + "\n"
 
-    def eol(self, behind):
-        return self.line_end()[:-1 if not behind and self.pick("last line", ended=1, cut=1) == "cut" else None]
+    def eol(self, behind, blanks=" "):
+        return self.line_end(blanks)[:-1 if not behind and self.pick("last line", ended=1, cut=1) == "cut" else None]
 
     def filler(self, last=0):
         lines = [self.characters(" ") + (self.comment() if self.rarely(2) else "") for _ in range(self.few() + last)]
@@ -272,7 +272,7 @@ class Derivation:
         if kind in ("sequence", "mapping"):
             return self.block_collection(place, behind, kind)
         text, parts = self.flow_node(MOST_OPEN, False, indent)
-        return self.gap(place) + text + self.eol(behind), parts
+        return self.gap(place) + text + self.eol(behind, "  \t"), parts
 
     def block_scalar(self, behind, column, digit):
         first, lines = self.few(), []
@@ -346,7 +346,7 @@ class Derivation:
         others, forest = self.documents(kind != "nothing", count - 1)
         if kind != "nothing":
             others = (self.filler() + MARK if kind == "suffix_with_a_mark" else "") + others
-            others = self.filler() + "..." + self.eol(others) + others
+            others = self.filler() + "..." + self.eol(others, "  \t") + others
         text, document = self.document(free, others)
         return self.filler() + text + others, [document] + forest
 
