@@ -94,8 +94,8 @@ abbrev pub IsFlowInBlock : ℕ → Node → Place → List ℕ → List ℕ → 
 IsFlowInBlock room node place t behind =
     (gap text end : List ℕ) × IsGapAt place gap × IsFlowNode room node false (indent_at place) text × IsContentEnd end behind × (t ≡ gap ++ (text ++ end))
 
--- What may follow the lines of a block scalar whose content begins at column i: nothing, a document marker, a line left of
--- the scalar, or a comment left of the content.
+-- What may follow the lines of a block scalar whose content begins at column i: nothing, a document marker, a line that
+-- begins at or left of the enclosing collection's column, or a comment left of the content.
 abbrev pub IsLineLeft : ℕ → ℕ → List ℕ → Type 0
 IsLineLeft indent i t =
     (n c : ℕ) × (others : List ℕ) × (c ≢ 32) × (c ≢ 10) × ((n < indent) ⊎ ((c ≡ 35) × (n < i))) × (t ≡ spaces n ++ (c ∷ others))

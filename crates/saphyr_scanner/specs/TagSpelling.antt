@@ -1,6 +1,6 @@
--- How tags, handles and prefixes are spelled (YAML 1.2.2, 6.8.2 and 6.9.1), and what the spellings stand for.
+-- How tags and handles are spelled (YAML 1.2.2, 6.8.2 and 6.9.1), and what the spellings stand for.
 -- Percent escapes are decoded here and nowhere else.
-use Rattle.std.specs.Prelude.{◌≡◌, ◌≢◌, ℕ, ◌+◌, ◌*◌, ◌||◌, ◌==◌, ◌⊎◌, Bool, List, [], ◌∷◌, ◌++◌, IsTrue, codes}
+use Rattle.std.specs.Prelude.{◌≡◌, ◌≢◌, ℕ, ◌+◌, ◌*◌, ◌⊎◌, Bool, List, [], ◌∷◌, ◌++◌, IsTrue, codes}
 use Rattle.std.specs.Char.{encode_utf8}
 use Rattle.saphyr_input.specs.Classes.{is_alpha, is_tag_char, is_uri_char, hex_value, IsHex}
 use Rattle.saphyr_scanner.specs.Characters.{AreAll, IsScalarValue}
@@ -38,8 +38,3 @@ abbrev pub IsTag : Tag → List ℕ → Type 0
 IsTag NonSpecific t = t ≡ codes "!"
 IsTag (Verbatim uri) t = (inside : List ℕ) × (uri ≢ []) × IsDecoded is_uri_char uri inside × (t ≡ codes "!<" ++ (inside ++ codes ">"))
 IsTag (Shorthand handle suffix) t = (front back : List ℕ) × IsHandle handle front × (suffix ≢ []) × IsDecoded is_tag_char suffix back × (t ≡ front ++ back)
-
--- 6.8.2.2: a prefix begins with `!` or a character of tags
-abbrev pub IsPrefix : List ℕ → List ℕ → Type 0
-IsPrefix [] t = ⊥
-IsPrefix (c ∷ others) t = (first more : List ℕ) × IsCharacter (λ x. is_tag_char x || (x == 33)) c first × IsDecoded is_uri_char others more × (t ≡ first ++ more)
