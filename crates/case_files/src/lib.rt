@@ -9,6 +9,7 @@
 
 mod case;
 mod difference;
+mod escape;
 mod expected;
 mod printing;
 mod receiving;

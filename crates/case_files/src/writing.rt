@@ -1,5 +1,7 @@
 //! What `dump` is to write, and a writer that is to take it.
-ghost use Rattle.std.specs.Prelude.{◌≡◌, Some, option_map};
+ghost use Rattle.std.specs.Prelude.{◌≡◌, IfOk, Some, option_map, string_bytes};
+ghost use Rattle.case_files.specs.Files as files;
+ghost use Rattle.case_files.specs.Files.{dumped};
 
 use std::alloc::{AllocError, Global};
 use std::io;
@@ -8,16 +10,25 @@ use std::marker::Model;
 
 /// The lines that `dump` writes for the lines of a case: the events, without the places and without what
 /// begins a document.
-pub fn printed(alloc: Global, lines: &[String]) -> Result<String, AllocError> {
+pub fn printed(alloc: Global, lines: &[String]) -> Result<String, AllocError>
+    ensures { IfOk result (λ text. string_bytes text ≡ dumped lines.now) }
+{
     let mut text = String::new(alloc);
     for line in lines {
         if let Some(event) = line.strip_prefix("> ") {
-            let (event, _) = event.rsplit_once(" @ ").unwrap_or((event, ""));
-            text.push_str(if event == "+DOC ---" { "+DOC" } else { event })?;
+            text.push_str(shown(event))?;
             text.push('\n')?;
         }
     }
     Ok(text)
+}
+
+// An event without its place.
+fn shown(event: &str) -> &str
+    ensures { result.now ≡ files.shown event.now }
+{
+    let (event, _) = event.rsplit_once(" @ ").unwrap_or((event, ""));
+    if event == "+DOC ---" { "+DOC" } else { event }
 }
 
 /// How a writer takes bytes.

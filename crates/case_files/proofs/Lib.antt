@@ -1,0 +1,5 @@
+pub mod Fronts
+pub mod Reading
+pub mod Sections
+pub mod Places
+pub mod Dumping
