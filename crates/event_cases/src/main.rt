@@ -15,6 +15,7 @@
 mod inputs;
 mod long;
 mod refusing;
+mod trees;
 mod ways;
 mod writing;
 
@@ -44,6 +45,8 @@ enum Subject {
     RefusedEvents,
     /// What is written where a write fails.
     FailedWrites,
+    /// The documents as trees, within limits.
+    Trees,
 }
 
 impl Subject {
@@ -52,6 +55,7 @@ impl Subject {
             Subject::Events => "events",
             Subject::RefusedEvents => "refused events",
             Subject::FailedWrites => "failed writes",
+            Subject::Trees => "trees",
         }
     }
 }
@@ -62,6 +66,9 @@ fn main(rt: HostRuntime) -> Result<(), Failure> {
     }
     check_file(&rt, "worked", Subject::RefusedEvents)?;
     check_file(&rt, "worked", Subject::FailedWrites)?;
+    for name in ["worked", "json", "layout", "hostile", "standard", "cuts"] {
+        check_file(&rt, name, Subject::Trees)?;
+    }
     check_long_texts(&rt)
 }
 
@@ -93,6 +100,7 @@ fn compare(alloc: Global, case: &Case, subject: Subject) -> Result<(), Differenc
         Subject::Events => ways::compare(alloc, case),
         Subject::RefusedEvents => refusing::compare(alloc, case),
         Subject::FailedWrites => writing::compare(alloc, case),
+        Subject::Trees => trees::compare(alloc, case),
     }
 }
 
