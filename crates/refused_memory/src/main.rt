@@ -3,9 +3,9 @@
 //!     refused_memory <CASE
 //!
 //! Reads a case of the tests from standard input, takes its events in each way that there is, and loads its
-//! documents. They are all that the case lists, or where a request for memory was refused a beginning of it and then want of
-//! memory, and what stands behind that is as it is to be. A line for each way says which of both it was. The
-//! program itself refuses no request: `tests/refused_memory.py` has each be refused in turn.
+//! documents. They are all that the case lists, or where a request for memory was refused a beginning of it
+//! and then want of memory, and what stands behind that is as it is to be. A line for each way says which of
+//! both it was. The program itself refuses no request: `tests/refused_memory.py` has each be refused in turn.
 //!
 //! The status is 1 where anything differs, and 2 where the case can't be read or compared, as for want of
 //! memory.
