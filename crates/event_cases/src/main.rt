@@ -7,14 +7,16 @@
 //! texts where the parser departs from the standard, and the first of these cut at each place and with a
 //! character put in there. Their lists come from another program. Each text is read from a string, from an
 //! iterator and from a list of characters, and from each its events are taken in each way that there is. For
-//! the texts of `worked.txt` each event is then refused in turn, and each write. Where events, their places
-//! or a fault differ from the list, the first difference is printed, for at most 20 of the cases. The last
-//! line for a file counts the cases that agree.
+//! the texts of `worked.txt` each event is then refused in turn, and each write. Last, the documents of each
+//! text are loaded as trees, within limits of several widths, and the events of the trees are compared with
+//! those of the parser. Where events, their places or a fault differ from the list, the first difference is
+//! printed, for at most 20 of the cases. The last line for a file counts the cases that agree.
 #![tactic(auto)]
 
 mod inputs;
 mod long;
 mod refusing;
+mod trees;
 mod ways;
 mod writing;
 
@@ -22,6 +24,9 @@ use case_files::{Case, Difference, parse_cases};
 use std::alloc::{AllocError, Global};
 use std::{fs, io};
 use thiserror::Error;
+
+/// The names of the files.
+const FILES: [&str; 6] = ["worked", "json", "layout", "hostile", "standard", "cuts"];
 
 /// How many differences are shown of a file.
 const MOST_SHOWN: usize = 20;
@@ -44,6 +49,8 @@ enum Subject {
     RefusedEvents,
     /// What is written where a write fails.
     FailedWrites,
+    /// The documents as trees, within limits.
+    Trees,
 }
 
 impl Subject {
@@ -52,16 +59,20 @@ impl Subject {
             Subject::Events => "events",
             Subject::RefusedEvents => "refused events",
             Subject::FailedWrites => "failed writes",
+            Subject::Trees => "trees",
         }
     }
 }
 
 fn main(rt: HostRuntime) -> Result<(), Failure> {
-    for name in ["worked", "json", "layout", "hostile", "standard", "cuts"] {
+    for name in FILES {
         check_file(&rt, name, Subject::Events)?;
     }
     check_file(&rt, "worked", Subject::RefusedEvents)?;
     check_file(&rt, "worked", Subject::FailedWrites)?;
+    for name in FILES {
+        check_file(&rt, name, Subject::Trees)?;
+    }
     check_long_texts(&rt)
 }
 
@@ -93,6 +104,7 @@ fn compare(alloc: Global, case: &Case, subject: Subject) -> Result<(), Differenc
         Subject::Events => ways::compare(alloc, case),
         Subject::RefusedEvents => refusing::compare(alloc, case),
         Subject::FailedWrites => writing::compare(alloc, case),
+        Subject::Trees => trees::compare(alloc, case),
     }
 }
 

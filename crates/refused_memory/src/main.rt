@@ -2,10 +2,10 @@
 //!
 //!     refused_memory <CASE
 //!
-//! Reads a case of the tests from standard input, and takes its events in each way that there is. They are
-//! all that the case lists, or where a request for memory was refused a beginning of it and then want of
-//! memory, and what stands behind that is as it is to be. A line for each way says which of both it was. The
-//! program itself refuses no request: `tests/refused_memory.py` has each be refused in turn.
+//! Reads a case of the tests from standard input, takes its events in each way that there is, and loads its
+//! documents. They are all that the case lists, or where a request for memory was refused a beginning of it
+//! and then want of memory, and what stands behind that is as it is to be. A line for each way says which of
+//! both it was. The program itself refuses no request: `tests/refused_memory.py` has each be refused in turn.
 //!
 //! The status is 1 where anything differs, and 2 where the case can't be read or compared, as for want of
 //! memory.
@@ -15,6 +15,7 @@ mod clones;
 mod ended;
 mod outcome;
 mod parts;
+mod trees;
 mod ways;
 
 use case_files::{Case, Difference, parse_cases, printed};
@@ -57,9 +58,10 @@ enum Way {
     Dump,
     NewFromIter,
     NewStr,
+    LoadDocuments,
 }
 
-const WAYS: [Way; 9] = [
+const WAYS: [Way; 10] = [
     Way::NextEvent,
     Way::Peek,
     Way::LoadAll,
@@ -69,6 +71,7 @@ const WAYS: [Way; 9] = [
     Way::Dump,
     Way::NewFromIter,
     Way::NewStr,
+    Way::LoadDocuments,
 ];
 
 fn main(rt: HostRuntime) -> ExitCode {
@@ -111,6 +114,7 @@ fn take(alloc: Global, case: &Case, text: &str, way: Way) -> Result<Outcome, Dif
         Way::Dump => parts::by_dump(alloc, parser, lines, text),
         Way::NewFromIter => parts::by_iterator(alloc, case),
         Way::NewStr => parts::by_error(alloc, case.name.as_str()),
+        Way::LoadDocuments => trees::by_load_documents(alloc, parser, lines),
     }
 }
 

@@ -1,9 +1,10 @@
 //! What no clause says: that calls succeed while there is memory, which fault a text gets, the printed texts,
-//! and that a deep tree is dropped on a small stack.
+//! that a deep tree is dropped on a small stack, and how much memory a node takes.
 
 use crate::{Document, Limits, Node, TreeFault, load_documents};
 use saphyr_parser::{Parser, ScalarStyle};
 use std::alloc::{AllocError, Global};
+use std::mem::size_of;
 use std::process::Abort;
 use std::test::Fail;
 
@@ -110,6 +111,12 @@ fn faults_of_the_text(rt: HostRuntime) -> Result<(), Fail> {
     expect_fault(&rt, alloc, load_late(alloc, "{\"a\":[1,true]}"), printed)?;
     expect_fault(&rt, alloc, load_late(alloc, ""), printed)?;
     Ok(())
+}
+
+#[test]
+fn bytes_of_a_node(rt: HostRuntime) {
+    assert_eq!(rt; size_of::<Node>(), 104);
+    assert_eq!(rt; size_of::<(Node, Node)>(), 208);
 }
 
 // As many times this text.
