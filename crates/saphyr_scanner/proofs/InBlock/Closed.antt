@@ -216,7 +216,7 @@ closes_placed readers leaves marker tail more tail_is forest t ts h clean v (inr
     closes_documents readers leaves Ends (mark_rest end filler (last_line marker tail)) more (mark_rest_is marker end filler tail end_is) (mark_end readers leaves marker end filler tail more end_is filler_is tail_is) forest true t ts h clean v line
 
 -- From the start of the text, whatever follows, the scanner comes behind the marker, and holds nothing back.
-pub closed_leads : Reads → (limit : ℕ) → Leaves limit → (marker : DocumentMarker) (forest : Forest) (text more : List ℕ) → HasNoReturn text → EndsWithMarker IsContentRest marker text → IsLayout most_open forest text → length (text ++ more) ≤ limit
+closed_leads : Reads → (limit : ℕ) → Leaves limit → (marker : DocumentMarker) (forest : Forest) (text more : List ℕ) → HasNoReturn text → EndsWithMarker IsContentRest marker text → IsLayout most_open forest text → length (text ++ more) ≤ limit
     → Closes limit (start (text ++ more)) marker (Yields forest) []
 closed_leads readers limit leaves marker forest text more clean (front, tail, tail_is, before, at) (mark, others, inl none, documents, e) short =
     let same : text ≡ others = e ∙ ap (λ (x : List ℕ). x ++ others) none in
@@ -236,7 +236,7 @@ onto_kinds [] r = refl
 onto_kinds (t ∷ ts) r = ap (λ ks. t.kind ∷ ks) (onto_kinds ts r)
 
 -- they come first, whatever the text behind the marker's line gives
-pub closed_begins : Readers → Reads → (limit : ℕ) → Leaves limit → (marker : DocumentMarker) (forest : Forest) (text more : List ℕ) → HasNoReturn text → EndsWithMarker IsContentRest marker text → IsLayout most_open forest text → length (text ++ more) ≤ limit
+closed_begins : Readers → Reads → (limit : ℕ) → Leaves limit → (marker : DocumentMarker) (forest : Forest) (text more : List ℕ) → HasNoReturn text → EndsWithMarker IsContentRest marker text → IsLayout most_open forest text → length (text ++ more) ≤ limit
     → HandsOut marker forest (scan limit (text ++ more))
 closed_begins readers reads limit leaves marker forest text more clean ends layout short =
     let c = closed_leads reads limit leaves marker forest text more clean ends layout short in

@@ -25,7 +25,7 @@ pub record EndsFed (o : List ℕ) : Type 0 where
 pub fed_front : (a b : List ℕ) → EndsFed b → EndsFed (a ++ b)
 fed_front a b h = record { front = a ++ h.front; is = ap (λ (x : List ℕ). a ++ x) h.is ∙ sym (append_assoc a h.front (10 ∷ [])) }
 
-pub none_fed : (o : List ℕ) → EndsFed o → o ≡ [] → ⊥
+none_fed : (o : List ℕ) → EndsFed o → o ≡ [] → ⊥
 none_fed o h e = some h.front (sym h.is ∙ e)
   where
     some : (front : List ℕ) → front ++ (10 ∷ []) ≡ [] → ⊥
@@ -33,7 +33,7 @@ none_fed o h e = some h.front (sym h.is ∙ e)
     some (c ∷ cs) e = cc
 
 -- what follows does not change the first character, or whether a document marker begins here
-pub same_first : (o more : List ℕ) → EndsFed o → slice_index (o ++ more) 0 ≡ slice_index o 0
+same_first : (o more : List ℕ) → EndsFed o → slice_index (o ++ more) 0 ≡ slice_index o 0
 same_first o more h = subst (λ (x : List ℕ). slice_index (x ++ more) 0 ≡ slice_index x 0) (sym h.is) (by_front h.front)
   where
     by_front : (front : List ℕ) → slice_index ((front ++ (10 ∷ [])) ++ more) 0 ≡ slice_index (front ++ (10 ∷ [])) 0

@@ -10,7 +10,7 @@ use Rattle.saphyr_scalar.specs.TagSpelling.{AreIn}
 use Rattle.saphyr_scanner.specs.BlockNodes.{IsContentRest, IsContentEnd}
 use Rattle.saphyr_scanner.specs.Layout.{IsDocumentPrefix}
 use Rattle.saphyr_scanner.proofs.FlowStates.{marks_line}
-use Rattle.saphyr_scanner.proofs.FlowPlaces.{both}
+use Rattle.saphyr_scanner.proofs.FlowPlaces.{both, neither}
 use Rattle.saphyr_scanner.proofs.FlowFillers.{behind_is}
 use Rattle.saphyr_scanner.proofs.InBlock.Skips.{IsSkipped, nothing, one_space, one_break, one_comment, spaces_skipped, filler_skipped}
 
@@ -30,10 +30,6 @@ opens_too at_start [] e = refl
 opens_too at_start (c ∷ cs) e = e
 
 -- ## Pieces of which no document marker begins a line
-
-neither : (a b : Bool) → (a || b) ≡ false → (a ≡ false) × (b ≡ false)
-neither true b e = absurd (cc)
-neither false b e = (refl, e)
 
 and_false : (a b : Bool) → b ≡ false → (a && b) ≡ false
 and_false true b e = e

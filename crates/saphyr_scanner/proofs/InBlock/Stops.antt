@@ -25,7 +25,7 @@ one_stop t u s r e h k =
     let m : Marker = record { index = 0; line = 1; col = 0 } in
     sym (h m) ∙ ap (λ (x : List ℕ). (past 0 m x).1) e ∙ k m
 
-pub skipped_stops : (w s : List ℕ) → IsSkipped w → IsStop s → StopsAt (w ++ s) s
+skipped_stops : (w s : List ℕ) → IsSkipped w → IsStop s → StopsAt (w ++ s) s
 skipped_stops w s h stop m = ap (λ (q : Marker × List ℕ). q.1) (skipped_past m w s h ∙ stop_past (moved m w) s stop)
 
 pub token_stops : (t : List ℕ) (h : HasToken t) → StopsAt t (h.first ∷ h.others)
@@ -39,7 +39,7 @@ end_stops end o s h k m =
     let e = eol m end o h in
     ap (λ (q : Marker × List ℕ). q.1) (ap (past 0 m) e.is ∙ content_rest_past 0 m e.rest e.more e.line e.break (omega arith) ∙ e.behind 0) ∙ k e.mark
 
-pub last_stops : (o : List ℕ) → IsLastFiller o → StopsAt o []
+last_stops : (o : List ℕ) → IsLastFiller o → StopsAt o []
 last_stops o h m = ap (λ (q : Marker × List ℕ). q.1) (last_filler_past 0 m o h)
 
 -- at a byte order mark
