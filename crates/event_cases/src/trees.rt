@@ -52,7 +52,7 @@ fn load_within<T: CloneInput>(
     let answer = load_documents(alloc, &mut parser, limits);
     match given.first_beyond(limits) {
         Some((place, wanted)) => {
-            is_refused(alloc, answer, &wanted)?;
+            is_refused(alloc, &answer, &wanted)?;
             is_left(alloc, parser, lines.get(place..).unwrap_or(&[]))
         }
         None => {
@@ -66,7 +66,7 @@ fn load_within<T: CloneInput>(
 fn load_again<T: CloneInput>(alloc: Global, mut parser: Parser<'_, T>) -> Result<(), Difference> {
     let _first = load_documents(alloc, &mut parser, WIDE);
     let answer = load_documents(alloc, &mut parser, WIDE);
-    is_refused(alloc, answer, &TreeFault::NotFresh)?;
+    is_refused(alloc, &answer, &TreeFault::NotFresh)?;
     is_left(alloc, parser, &[])
 }
 
@@ -83,18 +83,18 @@ fn load_late<T: CloneInput>(
         given.is_loaded(alloc, answer)?;
         return is_left(alloc, parser, &[]);
     }
-    is_refused(alloc, answer, &TreeFault::NotFresh)?;
+    is_refused(alloc, &answer, &TreeFault::NotFresh)?;
     is_left(alloc, parser, lines.get(1..).unwrap_or(&[]))
 }
 
 // The answer is this fault.
 fn is_refused(
     alloc: Global,
-    answer: Result<Vec<Document>, TreeFault>,
+    answer: &Result<Vec<Document>, TreeFault>,
     wanted: &TreeFault,
 ) -> Result<(), Difference> {
     match answer {
-        Err(fault) if fault == *wanted => Ok(()),
+        Err(fault) if *fault == *wanted => Ok(()),
         Err(fault) => {
             let text = format!(in alloc; "{fault} in place of {wanted}")?;
             Err(Difference::Found(text))
