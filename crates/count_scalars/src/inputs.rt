@@ -1,6 +1,6 @@
 //! The inputs that a parser can have.
-use crate::characters::Characters;
 use crate::reading::{by_iterator, by_load, by_next_event, last_index};
+use characters::Characters;
 use saphyr_parser::{Fault, Parser, lists_characters};
 use std::alloc::Global;
 

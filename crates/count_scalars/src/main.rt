@@ -2,7 +2,6 @@
 //! read: an example of a crate over `saphyr_parser`.
 #![tactic(auto)]
 
-mod characters;
 mod inputs;
 mod reading;
 mod receivers;

@@ -1,4 +1,6 @@
-//! An input of one's own: the characters of a slice.
+//! An input of one's own, over the characters of a slice: an example, which `count_scalars` reads from.
+#![tactic(auto)]
+
 ghost use Rattle.std.specs.Prelude.{◌≤◌};
 
 use saphyr_parser::Input;
