@@ -18,7 +18,7 @@ import subprocess
 import sys
 
 PROGRAM = os.path.dirname(os.path.dirname(os.path.abspath(__file__))) + "/crates/dump_events/out/dump_events"
-MOST_OPEN, LONGEST_KEY, MARK, ESCAPED, FLOW = 255, 1024, "\ufeff", "\ue000\ue001\ue002", ",[]{}"
+TABS, MOST_OPEN, LONGEST_KEY, MARK, ESCAPED, FLOW = "  \t", 255, 1024, "\ufeff", "\ue000\ue001\ue002", ",[]{}"
 INK = "aab1" * 6 + "-?:.#&*!|>'\"%@`\\/=_~" + FLOW + "\x01\x7f\x85\xa0é\u2028\ufffe\U0001f600"
 OPEN_INK = "".join(c for c in INK if c not in FLOW)
 URI, SUFFIX = "aab1-#;/?:@&=+$,_.!~*'()[]", "aab1-#;/?:@&=+$_.~*'()"
@@ -85,21 +85,25 @@ class Derivation:
         self.hits.append("comment")
         return "#" + self.characters(INK + " \t", self.few())
 
-    def line_end(self, blanks=" "):
+    def line_end(self, blanks=TABS):
         front = self.characters(blanks)
         return front + (self.comment() if front and self.rarely(2) else "") + "\n"
 
-    def eol(self, behind, blanks=" "):
+    def eol(self, behind, blanks=TABS):
         return self.line_end(blanks)[:-1 if not behind and self.pick("last line", ended=1, cut=1) == "cut" else None]
 
     def filler(self, last=0):
         lines = [self.characters(" ") + (self.comment() if self.rarely(2) else "") for _ in range(self.few() + last)]
         return "\n".join(lines + [""] * (bool(lines) and not last))
 
+    def blanks(self, place):
+        """What may stand at the end of a line right behind what a place is behind."""
+        return " " if place[0] == "question" else TABS
+
     def gap(self, place):
         kind = self.pick(f"gap behind a {place[0]}", spaces=3, next_line=1, nothing=6 * (place[0] == "start"))
         if kind == "next_line":
-            return self.line_end() + self.filler() + self.characters(" ", place[1] + 1)
+            return self.line_end(self.blanks(place)) + self.filler() + self.characters(" ", place[1] + 1)
         return self.characters(" ", 1) if kind == "spaces" else ""
 
     def separation(self, indent, least=0, blanks="   \t"):
@@ -180,6 +184,16 @@ class Derivation:
             text += self.word(in_flow, False)
         return text, ":" + folded(text)
 
+    def plain_key(self, in_flow, indent):
+        """A plain scalar that is a key, right before its colon, and its node: any ink may stand in its last word."""
+        front = self.plain(in_flow, indent)[0] + self.characters("   \t", 1) if self.rarely(2) else ""
+        word = self.characters(OPEN_INK if in_flow else INK, self.few()) + self.characters("::::-?", 1)
+        is_refused = not front and (word[0] in FLOW + "&*!|>'\"%@`" or word in "-?:")
+        text = front + ("a" + word if is_refused or word[0] == "#" else word)
+        before, properties = self.before("a plain key", self.separation(indent, 1))
+        self.hits.append("key: its last word is free")
+        return before + text, [("=VAL", properties, ":" + folded(text))]
+
     def quoted(self, quote, indent):
         double, breaks, text, read = 2 * (quote == '"'), 4 * (indent is not None), "", ""
         among = [c for c in INK + MARK + "     \t\t" if c != quote and (c != "\\" or not double)]
@@ -249,10 +263,11 @@ class Derivation:
         text = ":" + text if kind != "key" else ""
         if kind != "value":
             line = None if kind == "both" and inside == "brackets" and not mark else indent
-            node, key = self.flow_node(room, True, line, is_adjacent)
+            is_plain = kind == "both" and not is_adjacent and self.rarely(6)
+            node, key = self.plain_key(True, line) if is_plain else self.flow_node(room, True, line, is_adjacent)
             line = None if is_adjacent and key[0][0] != "=VAL" else line
             needs_separation = key[0][0] == "=ALI" or key[0][2] == ":"
-            text = node + (self.separation(line, needs_separation) if kind == "both" else "") + text
+            text = node + (self.separation(line, needs_separation) if kind == "both" and not is_plain else "") + text
         return mark + text + self.separation(indent), key + value
 
     # ## BlockNodes.antt and BlockSpelling.antt. A place is a kind and a column, which is -1 at the root.
@@ -264,7 +279,7 @@ class Derivation:
                          sequence=grows, mapping=grows)
         self.fuel -= 1
         if kind == "left_out":
-            return self.eol(behind), LEFT_OUT
+            return self.eol(behind, self.blanks(place)), LEFT_OUT
         if kind == "scalar":
             text, shown = self.block_scalar(behind, *self.one_of(starts))
             front, properties = self.before("a block scalar", self.characters(" ", 1))
@@ -272,7 +287,7 @@ class Derivation:
         if kind in ("sequence", "mapping"):
             return self.block_collection(place, behind, kind)
         text, parts = self.flow_node(MOST_OPEN, False, indent)
-        return self.gap(place) + text + self.eol(behind, "  \t"), parts
+        return self.gap(place) + text + self.eol(behind), parts
 
     def block_scalar(self, behind, column, digit):
         first, lines = self.few(), []
@@ -292,15 +307,16 @@ class Derivation:
 
     def block_collection(self, place, behind, kind):
         name, column = place
-        lead = self.pick(f"block {kind} behind a {name}", next_line=2, compact=2 * (name in ("dash", "mark", "start")))
-        spaces, least = self.characters(" ", int(name != "start")), kind != "sequence" or name not in ("mark", "key")
+        lead = self.pick(f"block {kind} behind a {name}", next_line=2, compact=2 * (name not in ("key", "marker")))
+        spaces = self.characters(" ", int(name != "start"))
+        least = kind != "sequence" or name in ("dash", "marker", "start")
         at = column + 1 + len(spaces) if lead == "compact" else column + least + self.few()
         text, parts = self.entries(at, behind, kind)
         if lead == "compact":
             return spaces + text, self.collection(kind, NO_PROPERTIES, parts)
         self.hits += ["block sequence: at its mapping's column"] * (at == column)
         front, properties = self.before("a block collection", "")
-        front = (front and spaces + front) + self.line_end() + self.filler()
+        front = (front and spaces + front) + self.line_end(TABS if front else self.blanks(place)) + self.filler()
         return front + " " * at + text, self.collection(kind, properties, parts)
 
     def entries(self, column, behind, kind):
@@ -316,9 +332,14 @@ class Derivation:
         text, value = ("", LEFT_OUT) if kind == "key_alone" else self.block_node((kind, column), behind)
         if kind != "key":
             colon = self.filler() + " " * column + ":" if kind == "mark" else ""
-            node, key = self.block_node(("mark", column), colon + text + behind)
+            node, key = self.block_node(("question", column), colon + text + behind)
             return "?" + (node or "\n") + colon + text, key + value
-        node, key = self.flow_node(MOST_OPEN, False, None)
+        names, is_plain = set(self.names), self.rarely(6)
+        node, key = self.plain_key(False, None) if is_plain else self.flow_node(MOST_OPEN, False, None)
+        if is_plain and len(node) <= LONGEST_KEY:
+            return node + ":" + text, key + value
+        if is_plain:
+            node, key, self.names = "a", [("=VAL", NO_PROPERTIES, ":a")], names
         node += self.characters(" ", key[0][0] == "=ALI" or key[0][2] == ":")
         node = node.ljust(LONGEST_KEY) if self.pick("key", any=60, as_long_as_it_may_be=1) != "any" else node
         if len(node) > LONGEST_KEY:
@@ -346,7 +367,7 @@ class Derivation:
         others, forest = self.documents(kind != "nothing", count - 1)
         if kind != "nothing":
             others = (self.filler() + MARK if kind == "suffix_with_a_mark" else "") + others
-            others = self.filler() + "..." + self.eol(others, "  \t") + others
+            others = self.filler() + "..." + self.eol(others) + others
         text, document = self.document(free, others)
         return self.filler() + text + others, [document] + forest
 

@@ -1,9 +1,13 @@
 -- What stands behind the front of a line, and before its end.
-use Rattle.std.proofs.Common.{◌≡◌, ◌≢◌, ℕ, List, [], ◌∷◌, ◌++◌, ◌==◌, ◌-◌, length, take, drop, reverse, refl, sym, ap, ◌∙◌, Option, Some, None, MatchOption, inl, inr, Bor}
+use Rattle.std.proofs.Common.{subst, true, false, ◌+◌, ◌≡◌, ◌≢◌, ℕ, List, [], ◌∷◌, ◌++◌, ◌==◌, ◌-◌, length, take, drop, reverse, refl, sym, ap, ◌∙◌, Option, Some, None, MatchOption, inl, inr, Bor}
 use Rattle.std.specs.Prelude.{option_map, unwrap_or, is_some}
 use Rattle.std.specs.Str.Pattern.{FindsTextPrefix, FindsTextSuffix, StripsPrefix, StripsSuffix}
 use Rattle.std.proofs.lemmas.Bool.{cases_eq, eq-eqb, ne_eqb, cond-true, cond-false}
 use Rattle.std.proofs.lemmas.List.{reverse-append, reverse-reverse}
+use Rattle.std.proofs.lemmas.List.{take-append-drop}
+use Rattle.std.specs.Cmp.Lexicographic.{same_text}
+use Rattle.std.specs.Prelude.{⊤}
+use Rattle.std.specs.Str.{bytes_eq}
 use Rattle.case_files.specs.Files.{behind, before}
 
 pub behind_front : (front rest : List ℕ) → behind front (front ++ rest) ≡ Some rest
@@ -64,3 +68,24 @@ now_unwrap_or (Some x) d = refl
 pub is_some_now : (o : Option (Bor (List ℕ))) → is_some o ≡ is_some (option_map (λ x. x.now) o)
 is_some_now None = refl
 is_some_now (Some x) = refl
+
+-- what `strip_prefix` answers of bytes
+strips_same : (front text : List ℕ) (r : Option (Bor (List ℕ)))
+    → MatchOption r (bytes_eq (take (length front) text) front ≡ false) (λ x.
+    (bytes_eq (take (length front) text) front ≡ true) × (x.now ≡ drop (length front) text)
+    × (length x.now + length front ≡ length text))
+    → MatchOption r ⊤ (λ rest. text ≡ front ++ rest.now)
+strips_same front text None other = tt
+strips_same front text (Some rest) (begins, is, _) =
+    sym (take-append-drop (length front) text)
+    ∙ ap (λ l. l ++ drop (length front) text) (same_text (take (length front) text) front (sym begins))
+    ∙ ap (λ l. front ++ l) (sym is)
+
+pub strips_bytes : (front text begins bytes : List ℕ) (r : Option (Bor (List ℕ))) → begins ≡ front → bytes ≡ text
+    → MatchOption r (bytes_eq (take (length begins) bytes) begins ≡ false) (λ x.
+    (bytes_eq (take (length begins) bytes) begins ≡ true) × (x.now ≡ drop (length begins) bytes)
+    × (length x.now + length begins ≡ length bytes))
+    → MatchOption r ⊤ (λ rest. text ≡ front ++ rest.now)
+strips_bytes front text begins bytes r is same cases =
+    subst (λ f. MatchOption r ⊤ (λ rest. text ≡ f ++ rest.now)) is
+    (subst (λ t. MatchOption r ⊤ (λ rest. t ≡ begins ++ rest.now)) same (strips_same begins bytes r cases))

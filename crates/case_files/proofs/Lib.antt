@@ -3,3 +3,4 @@ pub mod Reading
 pub mod Sections
 pub mod Places
 pub mod Dumping
+pub mod Listings

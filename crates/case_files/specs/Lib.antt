@@ -1,3 +1,4 @@
 pub mod Escapes
 pub mod Files
 pub mod Lines
+pub mod Listings

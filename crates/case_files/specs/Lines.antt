@@ -1,6 +1,8 @@
 -- What parsers hand out, as lines of cases, in UTF-8.
 use Rattle.std.specs.Prelude.{◌≡◌, ℕ, ◌<◌, Bool, true, false, List, [], ◌∷◌, ◌++◌, ◌==◌, if◌then◌else◌, length, drop}
 use Rattle.std.specs.Prelude.{Option, Some, None, option_map, Result, Ok, Err, OnOk, String, string_bytes, codes, encode_utf8}
+use Rattle.std.specs.Prelude.{◌+◌, ◌-◌, ◌⊎◌}
+use Rattle.std.specs.Result.{result_copied}
 use Rattle.std.specs.declared.alloc.Global.{Global}
 use Rattle.std.specs.declared.alloc.AllocError.{AllocError}
 use Rattle.std.specs.Borrow.{Bor}
@@ -9,12 +11,13 @@ use Rattle.std.specs.Str.{chars}
 use Rattle.std.specs.Fmt.{decimal}
 use Rattle.saphyr_scalar.specs.declared.scalar.position.Marker.{Marker}
 use Rattle.saphyr_scalar.specs.declared.scalar.position.Span.{Span}
-use Rattle.saphyr_scanner.specs.Forest.{Style}
+use Rattle.saphyr_scanner.specs.Grammar.Forest.{Style}
 use Rattle.saphyr_parser.specs.declared.parser.event.Event.{Event}
 use Rattle.saphyr_parser.specs.declared.parser.tag.Tag.{Tag}
 use Rattle.saphyr_parser.specs.declared.parser.fault.Fault.{Fault}
+use Rattle.saphyr_parser.specs.declared.parser.fault.Fault.TheVariants as fault
 use Rattle.saphyr_parser.specs.declared.parser.receiver.Refused.{Refused}
-use Rattle.saphyr_parser.specs.EventSeen.{happening, resolved_tag}
+use Rattle.saphyr_parser.specs.Views.Events.{happening, resolved_tag}
 use Rattle.saphyr_parser.specs.Events as events
 use Rattle.saphyr_parser.specs.Events.{ResolvedTag, Happening}
 use Rattle.saphyr_parser.specs.Printed.{mark, node_text}
@@ -70,23 +73,54 @@ tag_of tag = option_map resolved_tag tag
 abbrev pub Pushes : Result (Unit {0}) AllocError → String Global → String Global → List ℕ → Type 0
 Pushes result old new text = OnOk result (string_bytes new ≡ string_bytes old ++ text)
 
+-- how a refusal is printed
+abbrev pub refusal_text : Marker → List ℕ → List ℕ
+refusal_text m info =
+    info ++ codes " at byte " ++ decimal m.index ++ codes " line " ++ decimal m.line ++ codes " column "
+    ++ decimal (m.col + 1)
+
+abbrev pub refusal_line : Marker → List ℕ → List ℕ
+refusal_line m info = codes "! " ++ refusal_text m info
+
+-- the line of want of memory
+abbrev pub want_line : List ℕ
+want_line = codes "! out of memory"
+
+abbrev pub line_of_fault : Fault → List ℕ
+line_of_fault (fault.Scan e) = refusal_line e.mark (string_bytes e.info)
+line_of_fault fault.OutOfMemory = want_line
+line_of_fault fault.Receiver = codes "! the receiver refused an event"
+line_of_fault fault.InsideDocument = codes "! load was called inside a document"
+
+-- the line of what is handed out
+abbrev pub line_of_item : Result (Event × Span) Fault → List ℕ
+line_of_item (Ok e) = line_of e
+line_of_item (Err f) = line_of_fault f
+
+-- what is handed out or shown, behind its references
+abbrev pub item_of : Option (Result (Bor (Event × Span)) (Bor Fault)) → Option (Result (Event × Span) Fault)
+item_of item = option_map result_copied item
+
 -- what comes first of these lines
 abbrev pub IsNext : List ℕ → List (String Global) → Type 0
 IsNext text [] = ⊥
 IsNext text (line ∷ lines) = string_bytes line ≡ text
 
--- the first of some lines is passed
-abbrev pub IsPassed : List (String Global) → List (String Global) → Type 0
-IsPassed old new = (0 < length old) × (new ≡ drop 1 old)
-
--- The line of what a parser hands out is the first of these lines, or nothing comes where there is none. What a fault
--- prints isn't told.
-abbrev pub Comes : Option (Result (Bor (Event × Span)) (Bor Fault)) → List (String Global) → Type 0
+-- The line of what is handed out is the first of these lines, or nothing comes where there is none.
+abbrev pub Comes : Option (Result (Event × Span) Fault) → List (String Global) → Type 0
 Comes None lines = lines ≡ []
-Comes (Some (Ok e)) lines = IsNext (line_of e.now) lines
-Comes (Some (Err f)) lines = 0 < length lines
+Comes (Some r) lines = IsNext (line_of_item r) lines
 
--- What comes is the first line, which is passed; what is refused passes none.
-abbrev pub Passes : Result (Unit {0}) Refused → Happening → Span → List (String Global) → List (String Global) → Type 0
-Passes (Ok u) e s old new = IsNext (event_line e s) old × (new ≡ drop 1 old)
-Passes (Err r) e s old new = new ≡ old
+-- A receiver that compares: the lines that are left, whether something else has come, and how many events it takes
+-- before it refuses one.
+pub record Comparing : Type 0 where
+  pub left : List (String Global)
+  pub differs : Bool
+  pub before_refusal : ℕ
+
+-- What comes is the first line, which is passed. What is refused passes none: it is one too many, or differs.
+abbrev pub Passes : Result (Unit {0}) Refused → Happening → Span → Comparing → Comparing → Type 0
+Passes (Ok u) e s old new = IsNext (event_line e s) old.left
+    × (new ≡ record old { left = drop 1 old.left; before_refusal = old.before_refusal - 1 })
+Passes (Err r) e s old new = ((old.before_refusal ≡ 0) × (new ≡ old))
+    ⊎ (new ≡ record old { differs = true; before_refusal = old.before_refusal - 1 })

@@ -1,7 +1,8 @@
 //! The cases of a file.
-ghost use Rattle.std.specs.Prelude.{◌≡◌, [], IfOk, OnOk, map};
+ghost use Rattle.std.specs.Prelude.{◌≡◌, [], IfOk, OnOk, map, option_map};
 ghost use Rattle.std.specs.Str.Lines.{lines};
 ghost use Rattle.case_files.specs.Files.{TakesLine, case_of, cases_of, listed};
+ghost use Rattle.case_files.specs.Listings.{fault_line_of, is_fault_line};
 
 use crate::escape::unescaped;
 use std::alloc::{AllocError, Global};
@@ -30,7 +31,22 @@ pub fn parse_cases(alloc: Global, text: &str) -> Result<Vec<Case>, AllocError>
     Ok(cases)
 }
 
+/// Whether a line is that of a fault.
+pub fn is_fault(line: &str) -> bool
+    ensures { result ≡ is_fault_line line.now }
+{
+    line.starts_with("! ")
+}
+
 impl Case {
+    /// The line of the fault that ends the events, where one does.
+    pub fn fault_line(&self) -> Option<&str>
+        ensures { option_map (λ line. line.now) result ≡ fault_line_of self.now.lines.items }
+    {
+        let line = self.lines.last()?.as_str();
+        if is_fault(line) { Some(line) } else { None }
+    }
+
     // The case that a line `= TITLE` begins.
     fn new(alloc: Global, title: &str) -> Result<Case, AllocError>
         ensures { IfOk result (λ case. listed case ≡ case_of (title.now, [])) }

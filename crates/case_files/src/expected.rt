@@ -1,6 +1,6 @@
 //! The lines that a parser is to give.
 ghost use Rattle.std.specs.Prelude.{◌≡◌, OnOk, [], drop, is_ok, if◌then◌else◌};
-ghost use Rattle.case_files.specs.Lines.{Comes};
+ghost use Rattle.case_files.specs.Lines.{Comes, item_of};
 
 use crate::difference::Difference;
 use crate::printing::push_item;
@@ -49,7 +49,7 @@ impl<'a> Expected<'a> {
         &mut self,
         item: Option<Result<&(Event<'_>, Span), &Fault>>,
     ) -> Result<(), Difference>
-        ensures comes { OnOk result (Comes item.entry self.old) }
+        ensures comes { OnOk result (Comes (item_of item.entry) self.old) }
         ensures same { self.new ≡ self.old }
     {
         let Some(item) = item else {
@@ -73,12 +73,26 @@ impl<'a> Expected<'a> {
         &mut self,
         item: Option<Result<&(Event<'_>, Span), &Fault>>,
     ) -> Result<(), Difference>
-        ensures comes { OnOk result (Comes item.entry self.old) }
+        ensures comes { OnOk result (Comes (item_of item.entry) self.old) }
         ensures rest { self.new ≡ (if is_ok result then drop 1 self.old else self.old) }
     {
         self.is_next(item)?;
         self.lines = self.lines.get(1..).unwrap_or(&[]);
         Ok(())
+    }
+
+    /// The same of what was handed out.
+    pub fn pass_given(
+        &mut self,
+        item: Option<Result<(Event<'_>, Span), Fault>>,
+    ) -> Result<(), Difference>
+        ensures comes { OnOk result (Comes item.entry self.old) }
+        ensures rest { self.new ≡ (if is_ok result then drop 1 self.old else self.old) }
+    {
+        match &item {
+            Some(item) => self.pass(Some(item.as_ref())),
+            None => self.pass(None),
+        }
     }
 
     // No line is left.

@@ -13,11 +13,13 @@ mod escape;
 mod expected;
 mod printing;
 mod receiving;
+#[cfg(test)]
+mod tests;
 mod writing;
 
-pub use case::{Case, parse_cases};
+pub use case::{Case, is_fault, parse_cases};
 pub use difference::Difference;
 pub use expected::Expected;
 pub use printing::push_item;
 pub use receiving::ComparingReceiver;
-pub use writing::{ComparingWriter, Manner, printed};
+pub use writing::{KeepingWriter, Manner, printed};

@@ -1,6 +1,7 @@
 //! What a parser hands out, as a line of a case.
-ghost use Rattle.std.specs.Prelude.{◌≡◌, ◌++◌, IfOk, codes};
-ghost use Rattle.saphyr_parser.specs.EventSeen.{happening};
+ghost use Rattle.std.specs.Prelude.{◌≡◌, ◌++◌, codes};
+ghost use Rattle.std.specs.Result.{result_copied};
+ghost use Rattle.saphyr_parser.specs.Views.Events.{happening};
 ghost use Rattle.saphyr_parser.specs.Printed as printed;
 ghost use Rattle.case_files.specs.Lines as lines;
 ghost use Rattle.case_files.specs.Lines.{Pushes};
@@ -10,12 +11,13 @@ use std::alloc::AllocError;
 
 /// Puts the line of what a parser hands out behind a text.
 ///
-/// The line of a fault is `! ` and what the fault prints.
+/// The line of a fault is `! ` and what the fault prints, which is written out here: no clause of its own
+/// says what it is.
 pub fn push_item(
     line: &mut String,
     item: Result<&(Event<'_>, Span), &Fault>,
 ) -> Result<(), AllocError>
-    ensures { IfOk item.entry (λ e. Pushes result line.old line.new (lines.line_of e.now)) }
+    ensures { Pushes result line.old line.new (lines.line_of_item (result_copied item.entry)) }
 {
     match item {
         Ok((event, span)) => {
@@ -26,7 +28,10 @@ pub fn push_item(
             line.push(' ')?;
             push_place(line, span.end)
         }
-        Err(fault) => write!(line, "! {fault}"),
+        Err(Fault::Scan(error)) => write!(line, "! {error}"),
+        Err(Fault::OutOfMemory) => line.push_str("! out of memory"),
+        Err(Fault::Receiver) => line.push_str("! the receiver refused an event"),
+        Err(Fault::InsideDocument) => line.push_str("! load was called inside a document"),
     }
 }
 
@@ -67,7 +72,8 @@ fn push_scalar(
     id: usize,
     tag: &Option<Tag>,
 ) -> Result<(), AllocError>
-    ensures { Pushes result line.old line.new (lines.scalar_text text.now style id (lines.tag_of tag.now)) }
+    ensures { Pushes result line.old line.new
+        (lines.scalar_text text.now style id (lines.tag_of tag.now)) }
 {
     push_node(line, "=VAL", id, tag)?;
     line.push_str(mark(style))?;

@@ -1,6 +1,6 @@
 //! A receiver of events.
-ghost use Rattle.std.specs.Prelude.{◌≡◌, OnOk, OnErr, []};
-ghost use Rattle.case_files.specs.Lines.{IsPassed};
+ghost use Rattle.std.specs.Prelude.{◌≡◌, ◌^◌, ◌-◌, OnOk, IfErr, [], drop, false};
+ghost use Rattle.case_files.specs.Lines.{IsNext, line_of_fault};
 
 use crate::difference::Difference;
 use crate::expected::Expected;
@@ -18,24 +18,36 @@ pub struct ComparingReceiver<'a> {
 }
 
 impl<'a> Model for ComparingReceiver<'a> {
-    ghost use Rattle.std.specs.Prelude.{List, String};
-    ghost use Rattle.std.specs.declared.alloc.Global.{Global as Heap};
+    ghost use Rattle.std.specs.Prelude.{is_some};
+    ghost use Rattle.case_files.specs.Lines.{Comparing};
 
-    ghost Value = { List (String Heap) };
+    ghost Value = { Comparing };
 
-    ghost view = { λ r. r.expected };
+    ghost view = { λ r. record {
+      left = r.expected;
+      differs = is_some r.found;
+      before_refusal = r.before_refusal;
+    } };
 }
 
 impl<'a> ComparingReceiver<'a> {
     /// One that refuses nothing.
     pub fn new(alloc: Global, lines: &'a [String]) -> Self
-        ensures { result ≡ lines.now }
+        ensures { result ≡ record {
+          left = lines.now;
+          differs = false;
+          before_refusal = 2 ^ 64 - 1;
+        } }
     {
         ComparingReceiver::refusing(alloc, lines, usize::MAX)
     }
 
     pub fn refusing(alloc: Global, lines: &'a [String], before_refusal: usize) -> Self
-        ensures { result ≡ lines.now }
+        ensures { result ≡ record {
+          left = lines.now;
+          differs = false;
+          before_refusal = before_refusal;
+        } }
     {
         ComparingReceiver {
             expected: Expected::new(alloc, lines),
@@ -46,14 +58,15 @@ impl<'a> ComparingReceiver<'a> {
 
     /// The lines that haven't come.
     pub fn left(&self) -> &'a [String]
-        ensures { result.now ≡ self.now }
+        ensures { result.now ≡ self.now.left }
     {
         self.expected.left()
     }
 
-    /// What has come is as expected.
+    /// What has come is as expected. What differed is told once.
     pub fn check(&mut self) -> Result<(), Difference>
-        ensures { self.new ≡ self.old }
+        ensures same { OnOk result (self.old.differs ≡ false) }
+        ensures told { self.new ≡ record self.old { differs = false } }
     {
         match self.found.take() {
             Some(difference) => Err(difference),
@@ -63,8 +76,9 @@ impl<'a> ComparingReceiver<'a> {
 
     /// What has come is as expected, and no line is left.
     pub fn check_end(&mut self) -> Result<(), Difference>
-        ensures ends { OnOk result (self.old ≡ []) }
-        ensures same { self.new ≡ self.old }
+        ensures ends { OnOk result (self.old.left ≡ []) }
+        ensures same { OnOk result (self.old.differs ≡ false) }
+        ensures told { self.new ≡ record self.old { differs = false } }
     {
         self.check()?;
         self.expected.is_next(None)
@@ -72,8 +86,10 @@ impl<'a> ComparingReceiver<'a> {
 
     /// What has come is as expected, and where `load` answered a fault, its line is the next one.
     pub fn check_answer(&mut self, answer: Result<(), Fault>) -> Result<(), Difference>
-        ensures whole { OnOk answer (self.new ≡ self.old) }
-        ensures fault { OnErr answer (OnOk result (IsPassed self.old self.new)) }
+        ensures same { OnOk result (self.old.differs ≡ false) }
+        ensures whole { OnOk answer (self.new.left ≡ self.old.left) }
+        ensures fault { IfErr answer (λ f. OnOk result
+            (IsNext (line_of_fault f) self.old.left × (self.new.left ≡ drop 1 self.old.left))) }
     {
         self.check()?;
         match answer {

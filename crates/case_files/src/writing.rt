@@ -1,5 +1,5 @@
 //! What `dump` is to write, and a writer that is to take it.
-ghost use Rattle.std.specs.Prelude.{◌≡◌, IfOk, Some, option_map, string_bytes};
+ghost use Rattle.std.specs.Prelude.{◌≡◌, ◌++◌, ⊤, [], IfOk, MatchOption, string_bytes};
 ghost use Rattle.case_files.specs.Files as files;
 ghost use Rattle.case_files.specs.Files.{dumped};
 
@@ -42,41 +42,38 @@ pub struct Manner {
     pub is_silent: bool,
 }
 
-/// Compares the bytes that it takes with a text.
+/// Keeps the bytes that it takes.
 #[derive(Drop)]
-pub struct ComparingWriter<'a> {
+pub struct KeepingWriter {
     manner: Manner,
-    rest: &'a [u8],
-    // Whether other bytes have come.
-    is_other: bool,
+    taken: Vec<u8>,
     has_failed: bool,
 }
 
-impl<'a> Model for ComparingWriter<'a> {
-    ghost use Rattle.std.specs.Prelude.{ℕ, List, Option, None, Some, if◌then◌else◌};
+impl Model for KeepingWriter {
+    ghost use Rattle.std.specs.Prelude.{ℕ, List};
 
-    ghost Value = { Option (List ℕ) };
+    ghost Value = { List ℕ };
 
-    ghost view = { λ w. if w.is_other then None else Some w.rest.now };
+    ghost view = { λ w. w.taken.items };
 }
 
-impl<'a> ComparingWriter<'a> {
-    pub fn new(text: &'a str, manner: Manner) -> Self
-        ensures { result ≡ Some text.now }
+impl KeepingWriter {
+    pub fn new(alloc: Global, manner: Manner) -> Self
+        ensures { result ≡ [] }
     {
-        ComparingWriter {
+        KeepingWriter {
             manner,
-            rest: text.as_bytes(),
-            is_other: false,
+            taken: Vec::new(alloc),
             has_failed: false,
         }
     }
 
-    /// The bytes that haven't come, where those that have come are a beginning of the text.
-    pub fn rest(&self) -> Option<&'a [u8]>
-        ensures { option_map (λ r. r.now) result ≡ self.now }
+    /// What is left of a text behind the bytes that came, where they are its beginning.
+    pub fn rest_of<'a>(&self, text: &'a str) -> Option<&'a [u8]>
+        ensures { MatchOption result ⊤ (λ rest. text.now ≡ self.now ++ rest.now) }
     {
-        if self.is_other { None } else { Some(self.rest) }
+        text.as_bytes().strip_prefix(self.taken.as_slice())
     }
 
     /// Whether a write has failed.
@@ -85,7 +82,11 @@ impl<'a> ComparingWriter<'a> {
     }
 }
 
-impl Write for ComparingWriter<'_> {
+impl Write for KeepingWriter {
+    ghost use Rattle.std.specs.Prelude.{Some};
+
+    ghost contents = { λ w. Some w };
+
     fn write(&mut self, buf: &[u8]) -> io::Result<usize> {
         if self.manner.before_failure == 0 {
             self.has_failed = true;
@@ -96,11 +97,9 @@ impl Write for ComparingWriter<'_> {
         }
         self.manner.before_failure -= 1;
         let count = buf.len().min(self.manner.at_a_time);
-        match self.rest.strip_prefix(&buf[..count]) {
-            Some(rest) => self.rest = rest,
-            None => self.is_other = true,
-        }
-        Ok(count)
+        let answer = self.taken.write(&buf[..count]);
+        self.has_failed = answer.is_err();
+        answer
     }
 
     fn flush(&mut self) -> io::Result<()> {

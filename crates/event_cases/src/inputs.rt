@@ -1,4 +1,9 @@
 //! A text through three inputs.
+ghost use Rattle.std.specs.Prelude.{OnOk};
+ghost use Rattle.std.specs.Str.{chars};
+ghost use Rattle.saphyr_scanner.specs.Steps.Remaining.{scan};
+ghost use Rattle.saphyr_parser.specs.Cursor.{at_start};
+
 use case_files::Difference;
 use list_input::ListInput;
 use saphyr_parser::{CloneInput, Parser, lists_characters};
@@ -6,7 +11,13 @@ use std::alloc::Global;
 
 /// What is compared of a parser, over any input.
 pub trait Comparison {
-    fn compare<T: CloneInput>(&self, parser: Parser<'_, T>) -> Result<(), Difference>;
+    ghost use Rattle.saphyr_parser.specs.Cursor.{Cursor};
+
+    /// What is so of a parser of which no difference is found.
+    ghost agrees: { Self → Cursor → Type 0 };
+
+    fn compare<T: CloneInput>(&self, parser: Parser<'_, T>) -> Result<(), Difference>
+        ensures { OnOk result (agrees self.now parser.entry) };
 }
 
 /// Compares what a text gives from a string, from an iterator and from a list of characters.
@@ -14,7 +25,10 @@ pub fn compare_inputs<C: Comparison>(
     alloc: Global,
     text: &str,
     comparison: &C,
-) -> Result<(), Difference> {
+) -> Result<(), Difference>
+    ensures { OnOk result
+        (C.agrees comparison.now (at_start (scan 4294967295 (chars text.now)))) }
+{
     let of_text = comparison.compare(Parser::new_from_str(alloc, text));
     of_text.map_err(|it| it.within(alloc, "from a string"))?;
     let iter = text.chars();

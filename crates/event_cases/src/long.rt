@@ -76,8 +76,17 @@ struct Dumped<'a> {
 }
 
 impl Comparison for Dumped<'_> {
+    ghost use Rattle.std.specs.Prelude.{option_map};
+    ghost use Rattle.saphyr_parser.specs.Cursor.{to_come};
+    ghost use Rattle.event_cases.specs.Dumped.{IsDump};
+
+    ghost agrees = { λ d parser.
+        IsDump (option_map (λ line. line.now) d.fault) d.lines.now (to_come parser) };
+
     fn compare<T: CloneInput>(&self, parser: Parser<'_, T>) -> Result<(), Difference> {
-        is_dumped(self.alloc, parser, self.lines, self.fault, WHOLE)?;
+        if is_dumped(self.alloc, parser, self.lines, self.fault, WHOLE)? {
+            return Err(Difference::new(self.alloc, "a writer that takes all fails"));
+        }
         Ok(())
     }
 }

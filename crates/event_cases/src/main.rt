@@ -13,6 +13,7 @@
 //! printed, for at most 20 of the cases. The last line for a file counts the cases that agree.
 #![tactic(auto)]
 
+mod findings;
 mod inputs;
 mod long;
 mod refusing;
@@ -20,16 +21,14 @@ mod trees;
 mod ways;
 mod writing;
 
-use case_files::{Case, Difference, parse_cases};
-use std::alloc::{AllocError, Global};
+use case_files::{Difference, parse_cases};
+use findings::{Subject, compare_all};
+use std::alloc::AllocError;
 use std::{fs, io};
 use thiserror::Error;
 
 /// The names of the files.
 const FILES: [&str; 6] = ["worked", "json", "layout", "hostile", "standard", "cuts"];
-
-/// How many differences are shown of a file.
-const MOST_SHOWN: usize = 20;
 
 /// Why the cases can't be compared.
 #[derive(Debug, Drop, Error)]
@@ -38,30 +37,6 @@ enum Failure {
     OutOfMemory(#[from] AllocError),
     #[error("the cases can't be read, or the lines can't be printed")]
     Io(#[from] io::Error),
-}
-
-/// What is compared with a case.
-#[derive(Clone, Copy, Debug)]
-enum Subject {
-    /// The events, by each way to take them.
-    Events,
-    /// What is left where a receiver refuses an event.
-    RefusedEvents,
-    /// What is written where a write fails.
-    FailedWrites,
-    /// The documents as trees, within limits.
-    Trees,
-}
-
-impl Subject {
-    fn name(self) -> &'static str {
-        match self {
-            Subject::Events => "events",
-            Subject::RefusedEvents => "refused events",
-            Subject::FailedWrites => "failed writes",
-            Subject::Trees => "trees",
-        }
-    }
 }
 
 fn main(rt: HostRuntime) -> Result<(), Failure> {
@@ -81,31 +56,13 @@ fn check_file(rt: &HostRuntime, name: &str, subject: Subject) -> Result<(), Fail
     let path = format!(in alloc; "{name}.txt")?;
     let text = fs::read_to_string(rt, path.as_str())?;
     let cases = parse_cases(alloc, text.as_str())?;
-    let mut agreeing = 0usize;
-    let mut shown = 0usize;
-    for case in &cases {
-        match compare(alloc, case, subject) {
-            Ok(()) => agreeing += 1,
-            Err(Difference::OutOfMemory(error)) => return Err(Failure::OutOfMemory(error)),
-            Err(Difference::Found(difference)) => {
-                if shown < MOST_SHOWN {
-                    shown += 1;
-                    println!(rt; "{}, {difference}", case.name)?;
-                }
-            }
-        }
+    let found = compare_all(alloc, cases.as_slice(), subject)?;
+    for difference in &found.differences {
+        println!(rt; "{difference}")?;
     }
+    let agreeing = found.agreeing;
     println!(rt; "{name}, {}: {agreeing} of {}", subject.name(), cases.len())?;
     Ok(())
-}
-
-fn compare(alloc: Global, case: &Case, subject: Subject) -> Result<(), Difference> {
-    match subject {
-        Subject::Events => ways::compare(alloc, case),
-        Subject::RefusedEvents => refusing::compare(alloc, case),
-        Subject::FailedWrites => writing::compare(alloc, case),
-        Subject::Trees => trees::compare(alloc, case),
-    }
 }
 
 fn check_long_texts(rt: &HostRuntime) -> Result<(), Failure> {

@@ -1,5 +1,9 @@
 //! The events of a text by each way to take them: one by one, by `load`, with a peek before each, and by
 //! clones.
+ghost use Rattle.std.specs.Prelude.{OnOk};
+ghost use Rattle.saphyr_parser.specs.Cursor.{keeping_tags, to_come};
+ghost use Rattle.case_files.specs.Listings.{Agrees, ListAll};
+
 use crate::inputs::{Comparison, compare_inputs};
 use case_files::{Case, ComparingReceiver, Difference, Expected};
 use saphyr_parser::{CloneInput, Input, Parser};
@@ -9,7 +13,9 @@ use std::alloc::Global;
 const MOST_CLONED: usize = 16;
 
 /// Compares the events of a text with its lines, through each input and by each way.
-pub fn compare(alloc: Global, case: &Case) -> Result<(), Difference> {
+pub fn compare(alloc: Global, case: &Case) -> Result<(), Difference>
+    ensures { OnOk result (Agrees case.now) }
+{
     compare_inputs(alloc, case.text.as_str(), &Ways { alloc, case })
 }
 
@@ -20,6 +26,9 @@ struct Ways<'a> {
 }
 
 impl Comparison for Ways<'_> {
+    ghost agrees = { λ w parser.
+        ListAll w.case.now.lines.items (to_come (keeping_tags w.case.now.keeps_tags parser)) };
+
     fn compare<T: CloneInput>(&self, parser: Parser<'_, T>) -> Result<(), Difference> {
         let alloc = self.alloc;
         let lines = self.case.lines.as_slice();
@@ -39,10 +48,12 @@ pub fn is_left<T: Input + Drop>(
     alloc: Global,
     parser: Parser<'_, T>,
     lines: &[String],
-) -> Result<(), Difference> {
+) -> Result<(), Difference>
+    ensures { OnOk result (ListAll lines.now (to_come parser.entry)) }
+{
     let mut expected = Expected::new(alloc, lines);
     for item in parser {
-        expected.pass(Some(item.as_ref()))?;
+        expected.pass_given(Some(item))?;
     }
     expected.is_next(None)
 }
@@ -64,22 +75,22 @@ fn by_load<T: Input + Drop>(
     receiver.check_end()
 }
 
-// `peek` shows each line, twice, before `next_event` gives it.
+// `peek` shows each line, twice, before `next_event` gives it, and nothing behind the last.
 fn by_peek<T: Input + Drop>(
     alloc: Global,
     mut parser: Parser<'_, T>,
     lines: &[String],
-) -> Result<(), Difference> {
+) -> Result<(), Difference>
+    ensures { OnOk result (ListAll lines.now (to_come parser.entry)) }
+{
     let mut expected = Expected::new(alloc, lines);
-    for _ in lines {
+    for _line in lines {
         expected.is_next(parser.peek())?;
         expected.is_next(parser.peek())?;
-        let item = parser.next_event();
-        expected.pass(item.as_ref().map(|it| it.as_ref()))?;
+        expected.pass_given(parser.next_event())?;
     }
     expected.is_next(parser.peek())?;
-    let item = parser.next_event();
-    expected.is_next(item.as_ref().map(|it| it.as_ref()))
+    is_left(alloc, parser, expected.left())
 }
 
 // At each place clones give what is left, before the next line is peeked and behind that.
@@ -87,13 +98,15 @@ fn by_clones<T: CloneInput>(
     alloc: Global,
     mut parser: Parser<'_, T>,
     lines: &[String],
-) -> Result<(), Difference> {
-    for (place, _) in lines.iter().enumerate() {
-        let left = lines.get(place..).unwrap_or(&[]);
-        is_left(alloc, parser.try_clone()?, left)?;
+) -> Result<(), Difference>
+    ensures { OnOk result (ListAll lines.now (to_come parser.entry)) }
+{
+    let mut expected = Expected::new(alloc, lines);
+    for _line in lines {
+        is_left(alloc, parser.try_clone()?, expected.left())?;
         let _ = parser.peek();
-        is_left(alloc, parser.try_clone()?, left)?;
-        let _ = parser.next_event();
+        is_left(alloc, parser.try_clone()?, expected.left())?;
+        expected.pass_given(parser.next_event())?;
     }
-    is_left(alloc, parser, &[])
+    is_left(alloc, parser, expected.left())
 }

@@ -1,5 +1,12 @@
 //! What `dump` writes, and what a writer has taken where it fails.
-use case_files::{Case, ComparingWriter, Difference, Manner, printed, push_item};
+ghost use Rattle.std.specs.Prelude.{◌≡◌, IfOk, OnOk, Some, false, option_map};
+ghost use Rattle.saphyr_parser.specs.Cursor.{to_come};
+ghost use Rattle.case_files.specs.Lines.{line_of_fault};
+ghost use Rattle.case_files.specs.Listings.{fault_line_of, told_by};
+ghost use Rattle.event_cases.specs.Agreement.{DumpAgrees};
+ghost use Rattle.event_cases.specs.Dumped.{IsWritten};
+
+use case_files::{Case, Difference, KeepingWriter, Manner, printed, push_item};
 use saphyr_parser::{DumpFault, Fault, Input, Parser, dump};
 use std::alloc::Global;
 
@@ -15,13 +22,17 @@ pub const WHOLE: Manner = Manner {
 
 /// Has each write of a text's lines fail in turn, by an error and by nothing taken. Where there are few,
 /// each byte is refused too.
-pub fn compare(alloc: Global, case: &Case) -> Result<(), Difference> {
+pub fn compare(alloc: Global, case: &Case) -> Result<(), Difference>
+    ensures { OnOk result (DumpAgrees case.now) }
+{
     let text = printed(alloc, case.lines.as_slice())?;
     let by_bytes = Manner {
         at_a_time: 1,
         ..WHOLE
     };
-    write_case(alloc, case, text.as_str(), by_bytes)?;
+    if write_case(alloc, case, text.as_str(), by_bytes)? {
+        return Err(Difference::new(alloc, "a writer that takes bytes fails"));
+    }
     fail_each(alloc, case, text.as_str(), WHOLE)?;
     let silent = Manner {
         is_silent: true,
@@ -49,10 +60,12 @@ fn fail_each(alloc: Global, case: &Case, text: &str, manner: Manner) -> Result<(
 }
 
 // Writes the lines of a case. Whether the writer has failed.
-fn write_case(alloc: Global, case: &Case, text: &str, manner: Manner) -> Result<bool, Difference> {
+fn write_case(alloc: Global, case: &Case, text: &str, manner: Manner) -> Result<bool, Difference>
+    ensures { IfOk result (λ has_failed.
+        IsWritten has_failed (fault_line_of case.now.lines.items) text.now (told_by case.now)) }
+{
     let parser = Parser::new_from_str(alloc, case.text.as_str()).keep_tags(case.keeps_tags);
-    let fault = case.lines.last().filter(|it| it.starts_with("! "));
-    is_dumped(alloc, parser, text, fault.map(|it| it.as_str()), manner)
+    is_dumped(alloc, parser, text, case.fault_line(), manner)
 }
 
 /// `dump` writes the text up to where the writer fails, and answers that, or the fault. Whether the writer
@@ -63,10 +76,13 @@ pub fn is_dumped<T: Input + Drop>(
     text: &str,
     fault: Option<&str>,
     manner: Manner,
-) -> Result<bool, Difference> {
-    let mut writer = ComparingWriter::new(text, manner);
+) -> Result<bool, Difference>
+    ensures { IfOk result (λ has_failed.
+        IsWritten has_failed (option_map (λ line. line.now) fault.entry) text.now (to_come parser.entry)) }
+{
+    let mut writer = KeepingWriter::new(alloc, manner);
     let answer = dump(&mut parser, &mut writer);
-    let Some(rest) = writer.rest() else {
+    let Some(rest) = writer.rest_of(text) else {
         return Err(Difference::new(alloc, "other bytes are written"));
     };
     match answer {
@@ -78,7 +94,10 @@ pub fn is_dumped<T: Input + Drop>(
 }
 
 // The line of a fault is as expected. No writer has failed.
-fn is_fault(alloc: Global, found: &Fault, fault: Option<&str>) -> Result<bool, Difference> {
+fn is_fault(alloc: Global, found: &Fault, fault: Option<&str>) -> Result<bool, Difference>
+    ensures { IfOk result (λ has_failed. (has_failed ≡ false)
+        × (option_map (λ line. line.now) fault.entry ≡ Some (line_of_fault found.now))) }
+{
     let mut line = String::new(alloc);
     push_item(&mut line, Err(found))?;
     if fault != Some(line.as_str()) {

@@ -4,7 +4,9 @@ use Rattle.std.proofs.lemmas.List.{map-append, reverse-append, take_more}
 use Rattle.forest_events.specs.TreeSeen.{part_view, behind}
 use Rattle.forest_events.specs.declared.part.Part.{Part}
 
-pub behind_more : (xs : List Part) (i : ℕ) (d : Part) → i < length xs → behind (take (i + 1) xs) ≡ part_view (get_or xs i d) ∷ behind (take i xs)
+pub behind_more : (xs : List Part) (i : ℕ) (d : Part) → i < length xs
+    → behind (take (i + 1) xs) ≡ part_view (get_or xs i d) ∷ behind (take i xs)
 behind_more xs i d h =
     let x : Part = get_or xs i d in
-    ap behind (take_more xs i d h) ∙ ap reverse (map-append part_view (take i xs) (x ∷ [])) ∙ reverse-append (map part_view (take i xs)) (part_view x ∷ [])
+    ap behind (take_more xs i d h) ∙ ap reverse (map-append part_view (take i xs) (x ∷ []))
+    ∙ reverse-append (map part_view (take i xs)) (part_view x ∷ [])

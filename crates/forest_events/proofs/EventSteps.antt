@@ -7,4 +7,5 @@ use Rattle.forest_events.specs.declared.part.Part.{Part}
 
 -- what is found of the first i parts, and the events of the others
 abbrev pub found_at : Bool → List Part → ℕ → List Happening → Option (List Happening)
-found_at keep all i found = option_map (λ events. found ++ events) (events_behind keep (behind (take i all)) (map part_view (drop i all)))
+found_at keep all i found =
+    option_map (λ events. found ++ events) (events_behind keep (behind (take i all)) (map part_view (drop i all)))

@@ -2,7 +2,7 @@
 use Rattle.std.proofs.Common.{◌≡◌, ℕ, List, ◌++◌, refl, ap, codes}
 use lib.Utf8.{encode, encodes}
 use Rattle.std.proofs.lemmas.Str.{encodes-append}
-use Rattle.saphyr_scanner.specs.Forest.{Primary, Secondary, Named, handle_bytes}
+use Rattle.saphyr_scanner.specs.Grammar.Forest.{Primary, Secondary, Named, handle_bytes}
 
 pub primary : handle_bytes Primary ≡ codes "!"
 unfolding encode

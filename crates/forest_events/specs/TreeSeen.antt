@@ -2,7 +2,7 @@
 use Rattle.std.specs.Prelude.{ℕ, List, [], ◌∷◌, map, option_map, reverse, String, string_bytes}
 use Rattle.std.specs.Str.{chars}
 use Rattle.std.specs.declared.alloc.Global.{Global}
-use Rattle.saphyr_scanner.specs.Forest as forest
+use Rattle.saphyr_scanner.specs.Grammar.Forest as forest
 use Rattle.saphyr_parser.specs.Preorder as preorder
 use Rattle.forest_events.specs.declared.tree.Handle.{Handle}
 use Rattle.forest_events.specs.declared.tree.Handle.TheVariants as handles
@@ -63,7 +63,12 @@ directive_view (directives.TagPrefix handle prefix) = forest.TagPrefix (handle_v
 directive_view (directives.Reserved name) = forest.Reserved (text_view name)
 
 abbrev pub document_view : Document → forest.Document
-document_view d = record { explicit = d.explicit; directives = map directive_view d.directives.items; node = node_view d.node }
+document_view d = record {
+  explicit =
+      d.explicit;
+  directives = map directive_view d.directives.items;
+  node = node_view d.node;
+}
 
 abbrev pub part_view : Part → preorder.Part
 part_view parts.OpenStream = preorder.OpenStream

@@ -46,7 +46,8 @@ impl<'a> Part<'a> {
 
     /// The name of the anchor that the part has.
     pub fn anchor(&self) -> Option<&'a str>
-        ensures { option_map (λ name. encode_utf8_all (chars name.now)) result ≡ anchor_of (part_view self.now) }
+        ensures { option_map (λ name. encode_utf8_all (chars name.now)) result
+            ≡ anchor_of (part_view self.now) }
     {
         match self {
             Part::Leaf(properties, _, _) => properties.anchor.as_deref(),
@@ -59,7 +60,8 @@ impl<'a> Part<'a> {
 
 /// The parts of a forest, in the order of their events.
 pub fn parts<'a>(alloc: Global, forest: &'a [Document]) -> Result<Vec<Part<'a>>, AllocError>
-    ensures { IfOk result (λ all. map part_view all.items ≡ spec.parts (map document_view forest.now)) }
+    ensures { IfOk result (λ all. map part_view all.items
+        ≡ spec.parts (map document_view forest.now)) }
 {
     let mut parts = Vec::new(alloc);
     parts.push(Part::OpenStream)?;
@@ -75,7 +77,8 @@ pub fn parts<'a>(alloc: Global, forest: &'a [Document]) -> Result<Vec<Part<'a>>,
 /// Adds the parts of a node.
 #[cycle(push_node)]
 fn push_node<'a>(parts: &mut Vec<Part<'a>>, node: &'a Node) -> Result<(), AllocError>
-    ensures { OnOk result (map part_view parts.new.items ≡ map part_view parts.old.items ++ node_parts (node_view node.now)) }
+    ensures { OnOk result (map part_view parts.new.items
+        ≡ map part_view parts.old.items ++ node_parts (node_view node.now)) }
 {
     match node {
         Node::Alias(name) => parts.push(Part::Reference(name.as_str()))?,
@@ -98,7 +101,8 @@ fn push_node<'a>(parts: &mut Vec<Part<'a>>, node: &'a Node) -> Result<(), AllocE
 
 #[cycle(push_node)]
 fn push_nodes<'a>(parts: &mut Vec<Part<'a>>, nodes: &'a Vec<Node>) -> Result<(), AllocError>
-    ensures { OnOk result (map part_view parts.new.items ≡ map part_view parts.old.items ++ entry_parts (nodes_view nodes.now.items)) }
+    ensures { OnOk result (map part_view parts.new.items
+        ≡ map part_view parts.old.items ++ entry_parts (nodes_view nodes.now.items)) }
 {
     for node in nodes {
         push_node(parts, node)?;
@@ -108,7 +112,8 @@ fn push_nodes<'a>(parts: &mut Vec<Part<'a>>, nodes: &'a Vec<Node>) -> Result<(),
 
 #[cycle(push_node)]
 fn push_pairs<'a>(parts: &mut Vec<Part<'a>>, pairs: &'a Vec<(Node, Node)>) -> Result<(), AllocError>
-    ensures { OnOk result (map part_view parts.new.items ≡ map part_view parts.old.items ++ pair_parts (pairs_view pairs.now.items)) }
+    ensures { OnOk result (map part_view parts.new.items
+        ≡ map part_view parts.old.items ++ pair_parts (pairs_view pairs.now.items)) }
 {
     for pair in pairs {
         push_node(parts, &pair.0)?;

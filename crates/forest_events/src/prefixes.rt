@@ -1,7 +1,7 @@
 //! The prefixes that handles stand for, and tags with them.
 ghost use Rattle.std.specs.Prelude.{◌≡◌, IfOk, map, option_map, string_bytes};
-ghost use Rattle.saphyr_scanner.specs.Forest.{handle_bytes};
-ghost use Rattle.saphyr_parser.specs.EventSeen.{resolved_tag};
+ghost use Rattle.saphyr_scanner.specs.Grammar.Forest.{handle_bytes};
+ghost use Rattle.saphyr_parser.specs.Views.Events.{resolved_tag};
 ghost use Rattle.saphyr_parser.specs.TagResolution as spec;
 ghost use Rattle.forest_events.specs.TreeSeen.{behind, directive_view, handle_view, tag_view};
 
@@ -35,7 +35,8 @@ fn prefix_in(
     handle: &Handle,
     directives: &[Directive],
 ) -> Result<Option<String>, AllocError>
-    ensures { IfOk result (λ prefix. option_map string_bytes prefix ≡ spec.prefix_in (handle_view handle.now) (map directive_view directives.now)) }
+    ensures { IfOk result (λ prefix. option_map string_bytes prefix
+        ≡ spec.prefix_in (handle_view handle.now) (map directive_view directives.now)) }
 {
     let text = handle_text(alloc, handle)?;
     for directive in directives {
@@ -58,7 +59,8 @@ fn declared(
     before: &[Part],
     keep: bool,
 ) -> Result<Option<String>, AllocError>
-    ensures { IfOk result (λ prefix. option_map string_bytes prefix ≡ spec.declared keep (handle_view handle.now) (behind before.now)) }
+    ensures { IfOk result (λ prefix. option_map string_bytes prefix
+        ≡ spec.declared keep (handle_view handle.now) (behind before.now)) }
 {
     let mut declared = None;
     for part in before {
@@ -80,7 +82,8 @@ fn prefix_of(
     before: &[Part],
     keep: bool,
 ) -> Result<Option<String>, AllocError>
-    ensures { IfOk result (λ prefix. option_map string_bytes prefix ≡ spec.prefix_of keep (handle_view handle.now) (behind before.now)) }
+    ensures { IfOk result (λ prefix. option_map string_bytes prefix
+        ≡ spec.prefix_of keep (handle_view handle.now) (behind before.now)) }
 {
     if let Some(prefix) = declared(alloc, handle, before, keep)? {
         return Ok(Some(prefix));
@@ -99,7 +102,8 @@ fn resolve(
     before: &[Part],
     keep: bool,
 ) -> Result<Option<Tag>, AllocError>
-    ensures { IfOk result (λ resolved. option_map resolved_tag resolved ≡ spec.resolve keep (tag_view tag.now) (behind before.now)) }
+    ensures { IfOk result (λ resolved. option_map resolved_tag resolved
+        ≡ spec.resolve keep (tag_view tag.now) (behind before.now)) }
 {
     let (prefix, suffix) = match tag {
         WrittenTag::NonSpecific => (Some(String::new(alloc)), String::from_str(alloc, "!")?),
@@ -122,7 +126,8 @@ pub fn resolve_any(
     before: &[Part],
     keep: bool,
 ) -> Result<Option<Option<Tag>>, AllocError>
-    ensures { IfOk result (λ resolved. option_map (λ any. option_map resolved_tag any) resolved ≡ spec.resolve_any keep (option_map tag_view tag.now) (behind before.now)) }
+    ensures { IfOk result (λ resolved. option_map (λ any. option_map resolved_tag any) resolved
+        ≡ spec.resolve_any keep (option_map tag_view tag.now) (behind before.now)) }
 {
     Ok(match tag {
         Some(tag) => match resolve(alloc, tag, before, keep)? {

@@ -1,7 +1,7 @@
 //! The events of a forest, one part after the other, each found by looking back at the parts before it.
 ghost use Rattle.std.specs.Prelude.{[], ◌≡◌, IfOk, map, option_map};
 ghost use Rattle.saphyr_parser.specs.ForestEvents as spec;
-ghost use Rattle.saphyr_parser.specs.EventSeen.{happening};
+ghost use Rattle.saphyr_parser.specs.Views.Events.{happening};
 ghost use Rattle.forest_events.specs.TreeSeen.{behind, document_view, part_view, properties_view};
 ghost use Rattle.saphyr_parser.specs.Anchors.{own_id};
 
@@ -23,7 +23,8 @@ pub fn forest_events(
     forest: &[Document],
     keep: bool,
 ) -> Result<Option<Vec<Event<'static>>>, AllocError>
-    ensures { IfOk result (λ found. option_map (λ events. map happening events.items) found ≡ spec.events (map document_view forest.now) keep) }
+    ensures { IfOk result (λ found. option_map (λ events. map happening events.items) found
+        ≡ spec.events (map document_view forest.now) keep) }
 {
     let all = parts(alloc, forest)?;
     events_of(alloc, all.as_slice(), keep)
@@ -35,7 +36,8 @@ fn events_of(
     all: &[Part],
     keep: bool,
 ) -> Result<Option<Vec<Event<'static>>>, AllocError>
-    ensures { IfOk result (λ found. option_map (λ events. map happening events.items) found ≡ spec.events_behind keep [] (map part_view all.now)) }
+    ensures { IfOk result (λ found. option_map (λ events. map happening events.items) found
+        ≡ spec.events_behind keep [] (map part_view all.now)) }
 {
     let mut events = Vec::new(alloc);
     for (i, part) in all.iter().enumerate() {
@@ -54,7 +56,8 @@ fn event_of(
     before: &[Part],
     keep: bool,
 ) -> Result<Option<Event<'static>>, AllocError>
-    ensures { IfOk result (λ event. option_map happening event ≡ spec.event_of keep (behind before.now) (part_view part.now)) }
+    ensures { IfOk result (λ event. option_map happening event
+        ≡ spec.event_of keep (behind before.now) (part_view part.now)) }
 {
     Ok(match part {
         Part::OpenStream => Some(Event::StreamStart),

@@ -71,7 +71,7 @@ pub fn by_copies<T: Input>(
         if copy_item(alloc, &item)? == Outcome::Refused {
             outcome = Outcome::Refused;
         }
-        expected.pass(item.as_ref().map(|it| it.as_ref()))?;
+        expected.pass_given(item)?;
     }
     Ok(outcome)
 }

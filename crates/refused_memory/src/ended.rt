@@ -1,16 +1,26 @@
 //! What stands behind all that a parser gives.
+ghost use Rattle.std.specs.Prelude.{◌≡◌, OnOk, string_bytes};
+ghost use Rattle.saphyr_parser.specs.Answer.{none};
+ghost use Rattle.saphyr_parser.specs.Cursor.{to_come};
+ghost use Rattle.case_files.specs.Listings.{is_fault_line};
+
 use crate::outcome::Outcome;
 use case_files::{ComparingReceiver, Difference};
 use saphyr_parser::{Fault, Input, Parser};
 use std::alloc::Global;
 
 /// Whether the line is that of a fault.
-pub fn is_fault(line: &String) -> bool {
-    line.starts_with("! ")
+pub fn is_fault(line: &String) -> bool
+    ensures { result ≡ is_fault_line (string_bytes line.now) }
+{
+    case_files::is_fault(line.as_str())
 }
 
 /// Nothing is left to show or to give.
-fn gives_nothing<T: Input>(alloc: Global, parser: &mut Parser<'_, T>) -> Result<(), Difference> {
+fn gives_nothing<T: Input>(alloc: Global, parser: &mut Parser<'_, T>) -> Result<(), Difference>
+    ensures before { OnOk result (to_come parser.old ≡ none) }
+    ensures behind { OnOk result (to_come parser.new ≡ none) }
+{
     if parser.peek().is_some() {
         return Err(Difference::new(alloc, "`peek` shows more"));
     }
@@ -24,15 +34,24 @@ fn gives_nothing<T: Input>(alloc: Global, parser: &mut Parser<'_, T>) -> Result<
 pub fn is_ended_by_memory<T: Input>(
     alloc: Global,
     parser: &mut Parser<'_, T>,
-) -> Result<(), Difference> {
-    for _ in 0..2 {
-        gives_nothing(alloc, parser)?;
-        let mut receiver = ComparingReceiver::new(alloc, &[]);
-        let answer = parser.load(&mut receiver, true);
-        receiver.check_end()?;
-        if answer != Err(Fault::OutOfMemory) {
-            return Err(Difference::new(alloc, "`load` forgets want of memory"));
-        }
+) -> Result<(), Difference>
+    ensures before { OnOk result (to_come parser.old ≡ none) }
+    ensures behind { OnOk result (to_come parser.new ≡ none) }
+{
+    gives_nothing(alloc, parser)?;
+    keeps_want(alloc, parser)?;
+    keeps_want(alloc, parser)
+}
+
+// `load` answers want of memory and sends nothing, and nothing is left behind it.
+fn keeps_want<T: Input>(alloc: Global, parser: &mut Parser<'_, T>) -> Result<(), Difference>
+    ensures { OnOk result (to_come parser.new ≡ none) }
+{
+    let mut receiver = ComparingReceiver::new(alloc, &[]);
+    let answer = parser.load(&mut receiver, true);
+    receiver.check_end()?;
+    if answer != Err(Fault::OutOfMemory) {
+        return Err(Difference::new(alloc, "`load` forgets want of memory"));
     }
     gives_nothing(alloc, parser)
 }
@@ -43,7 +62,9 @@ pub fn is_ended<T: Input>(
     alloc: Global,
     parser: &mut Parser<'_, T>,
     last: &[String],
-) -> Result<Outcome, Difference> {
+) -> Result<Outcome, Difference>
+    ensures { OnOk result (to_come parser.old ≡ none) }
+{
     gives_nothing(alloc, parser)?;
     let mut receiver = ComparingReceiver::new(alloc, last);
     let answer = parser.load(&mut receiver, true);

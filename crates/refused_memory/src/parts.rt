@@ -2,9 +2,9 @@
 use crate::ended::{is_ended, is_ended_by_memory};
 use crate::outcome::Outcome;
 use crate::ways::{by_next_event, last};
-use case_files::{Case, ComparingWriter, Difference, Expected, Manner};
+use case_files::{Case, Difference, Expected, KeepingWriter, Manner};
 use saphyr_parser::{DumpFault, Fault, Input, Marker, Parser, ScanError, dump, lists_characters};
-use std::alloc::Global;
+use std::alloc::{AllocError, Global};
 
 /// `dump` writes whole lines, and where it answers want of memory, nothing is left.
 pub fn by_dump<T: Input>(
@@ -18,9 +18,9 @@ pub fn by_dump<T: Input>(
         before_failure: usize::MAX,
         is_silent: false,
     };
-    let mut writer = ComparingWriter::new(text, manner);
+    let mut writer = KeepingWriter::new(alloc, manner);
     let answer = dump(parser, &mut writer);
-    let Some(rest) = writer.rest() else {
+    let Some(rest) = writer.rest_of(text) else {
         return Err(Difference::new(alloc, "other bytes are written"));
     };
     let mut expected = Expected::new(alloc, last(lines));
@@ -31,6 +31,10 @@ pub fn by_dump<T: Input>(
             return Ok(Outcome::Refused);
         }
         Err(DumpFault::Parse(fault)) => expected.is_next(Some(Err(&fault)))?,
+        // The writer keeps what it takes.
+        Err(DumpFault::Write) if writer.has_failed() => {
+            return Err(Difference::OutOfMemory(AllocError));
+        }
         Err(DumpFault::Write) => return Err(Difference::new(alloc, "no write has failed")),
         Ok(()) => {}
     }

@@ -56,7 +56,7 @@ fn have_events<T: Input>(
             Some(Err(Fault::OutOfMemory)) => return Err(Difference::OutOfMemory(AllocError)),
             _ => return Err(Difference::new(alloc, "a tree has other events")),
         }
-        expected.pass(item.as_ref().map(|it| it.as_ref()))?;
+        expected.pass_given(item)?;
     }
     expected.is_next(None)
 }

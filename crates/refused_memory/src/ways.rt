@@ -1,13 +1,23 @@
 //! The ways to take events one by one and by `load`.
+ghost use Rattle.std.specs.Prelude.{◌≡◌, ◌<◌, ◌-◌, OnOk, Ok, drop, length, true};
+ghost use Rattle.saphyr_parser.specs.Answer as answer;
+ghost use Rattle.saphyr_parser.specs.Answer.{failed, none};
+ghost use Rattle.saphyr_parser.specs.Cursor.{Stays, count, to_come};
+ghost use Rattle.case_files.specs.Listings.{ListAll};
+ghost use Rattle.refused_memory.specs.declared.outcome.Outcome.TheVariants.{Whole};
+
 use crate::ended::{is_ended, is_ended_by_memory, is_fault};
 use crate::outcome::Outcome;
 use case_files::{ComparingReceiver, Difference, Expected};
 use saphyr_parser::{Fault, Input, Parser};
 use std::alloc::Global;
 
-/// The last line of a case.
-pub fn last(lines: &[String]) -> &[String] {
-    lines.get(lines.len().saturating_sub(1)..).unwrap_or(&[])
+/// The last line of a case, where there is one.
+pub fn last(lines: &[String]) -> &[String]
+    ensures { result.now ≡ drop (length lines.now - 1) lines.now }
+{
+    let (_, last) = lines.split_at(lines.len().saturating_sub(1));
+    last
 }
 
 /// What is left to give is the lines, or a beginning of them and then want of memory.
@@ -15,15 +25,18 @@ pub fn take_left<T: Input>(
     alloc: Global,
     parser: &mut Parser<'_, T>,
     lines: &[String],
-) -> Result<Outcome, Difference> {
+) -> Result<Outcome, Difference>
+    ensures whole { result ≡ Ok Whole → ListAll lines.now (to_come parser.old) }
+    ensures ended { OnOk result (to_come parser.new ≡ none) }
+{
     let mut expected = Expected::new(alloc, lines);
-    for _ in 0..=lines.len() {
-        let item = parser.next_event();
-        if matches!(item, Some(Err(Fault::OutOfMemory))) {
+    while let Some(item) = parser.next_event() {
+        if matches!(item, Err(Fault::OutOfMemory)) {
             return Ok(Outcome::Refused);
         }
-        expected.pass(item.as_ref().map(|it| it.as_ref()))?;
+        expected.pass_given(Some(item))?;
     }
+    expected.is_next(None)?;
     Ok(Outcome::Whole)
 }
 
@@ -32,7 +45,9 @@ pub fn by_next_event<T: Input>(
     alloc: Global,
     parser: &mut Parser<'_, T>,
     lines: &[String],
-) -> Result<Outcome, Difference> {
+) -> Result<Outcome, Difference>
+    ensures { result ≡ Ok Whole → ListAll lines.now (to_come parser.old) }
+{
     match take_left(alloc, parser, lines)? {
         Outcome::Whole => is_ended(alloc, parser, last(lines)),
         Outcome::Refused => {
@@ -48,7 +63,9 @@ pub fn by_peek<T: Input>(
     alloc: Global,
     parser: &mut Parser<'_, T>,
     lines: &[String],
-) -> Result<Outcome, Difference> {
+) -> Result<Outcome, Difference>
+    ensures { result ≡ Ok Whole → ListAll lines.now (to_come parser.old) }
+{
     let mut expected = Expected::new(alloc, lines);
     for line in lines {
         if shows_want(parser) {
@@ -61,17 +78,24 @@ pub fn by_peek<T: Input>(
             is_ended_by_memory(alloc, parser)?;
             return Ok(Outcome::Refused);
         }
-        expected.pass(item.as_ref().map(|it| it.as_ref()))?;
+        expected.pass_given(item)?;
     }
+    expected.is_next(None)?;
     is_ended(alloc, parser, last(lines))
 }
 
-fn shows_want<T: Input>(parser: &mut Parser<'_, T>) -> bool {
+fn shows_want<T: Input>(parser: &mut Parser<'_, T>) -> bool
+    ensures stays { Stays (to_come parser.old) (to_come parser.new) }
+    ensures want { result ≡ true → to_come parser.new ≡ failed answer.OutOfMemory }
+{
     matches!(parser.peek(), Some(Err(Fault::OutOfMemory)))
 }
 
 /// Want of memory is shown until it is given, and then nothing is left.
-pub fn give_want<T: Input>(alloc: Global, parser: &mut Parser<'_, T>) -> Result<(), Difference> {
+pub fn give_want<T: Input>(alloc: Global, parser: &mut Parser<'_, T>) -> Result<(), Difference>
+    ensures lost { OnOk result (0 < count (to_come parser.old)) }
+    ensures ended { OnOk result (to_come parser.new ≡ none) }
+{
     if !(shows_want(parser) && shows_want(parser)) {
         return Err(Difference::new(alloc, "`peek` doesn't show want of memory"));
     }

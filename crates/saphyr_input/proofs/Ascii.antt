@@ -2,7 +2,7 @@
 use Rattle.std.proofs.Common.{◌≡◌, ℕ, ◌+◌, ◌<◌, ◌≤◌, Bool, true, false, List, [], ◌∷◌, ◌++◌, length, take, drop, get_or, IsUtf8, refl, sym, ap, ◌∙◌, subst, arith, add-one, inl, inr, ◌&&◌, ◌==◌, encode_utf8_all, zero, suc, lit<, add-zero, rules, length-append}
 use Rattle.std.specs.List.{prefix_len}
 use Rattle.std.specs.Str.{chars, IsAscii, IsCharBoundary}
-use Rattle.std.proofs.lemmas.Bool.{cases_lt}
+use Rattle.std.proofs.lemmas.Bool.{cases_lt, eqb-true}
 use Rattle.std.proofs.lemmas.Bool.Decides.{nat_tests}
 use Rattle.std.proofs.lemmas.List.{take-append-drop, drop_at, take_at, length-take-le, get_or-take, get_or-drop, drop_all, get_or_past}
 use Rattle.std.proofs.lemmas.List.Sums.{prefix_len-le-length, prefix_len_passes, prefix_len_stops}
@@ -10,6 +10,7 @@ use Rattle.std.proofs.lemmas.Str.{chars-nil, chars-append, chars-IsAscii, IsUtf8
 use Rattle.std.proofs.lemmas.Str.Ascii.{IsAscii-from_reads}
 use Rattle.saphyr_input.specs.Fronts.{ascii_in, IsAsciiClass, StandsFor, is_marker}
 use Rattle.saphyr_input.specs.Classes.{is_blank_or_breakz}
+use Rattle.saphyr_input.proofs.Basics.Booleans.{and_true_left, and_true_right}
 
 -- n ASCII bytes come first
 pub record PastAscii (bs : List ℕ) (n : ℕ) : Type 0 where
@@ -19,7 +20,8 @@ pub record PastAscii (bs : List ℕ) (n : ℕ) : Type 0 where
   pub utf8 : IsUtf8 (drop n bs)
   pub boundary : IsCharBoundary bs n
 
-boundary_past : (bs : List ℕ) (n : ℕ) → IsUtf8 bs → n ≤ length bs → ((k : ℕ) → k < n → get_or bs k 0 < 128) → IsCharBoundary bs n
+boundary_past : (bs : List ℕ) (n : ℕ) → IsUtf8 bs → n ≤ length bs → ((k : ℕ) → k < n → get_or bs k 0 < 128)
+    → IsCharBoundary bs n
 boundary_past bs zero u l h = IsCharBoundary-start bs u
 boundary_past bs (suc n) u l h =
     let lt : n < length bs = omega (arith, l) in
@@ -27,14 +29,16 @@ boundary_past bs (suc n) u l h =
     rw (← add-one n) (IsCharBoundary-after_ascii bs n u lt here)
 
 front_IsAscii : (bs : List ℕ) (n : ℕ) → n ≤ length bs → ((k : ℕ) → k < n → get_or bs k 0 < 128) → IsAscii (take n bs)
-front_IsAscii bs n l h = IsAscii-from_reads (take n bs) n (omega (arith, length-take-le n bs l)) (λ k lt. rw get_or-take (h k lt))
+front_IsAscii bs n l h =
+    IsAscii-from_reads (take n bs) n (omega (arith, length-take-le n bs l)) (λ k lt. rw get_or-take (h k lt))
 
 split_past : (bs : List ℕ) (n : ℕ) → IsAscii (take n bs) → chars bs ≡ take n bs ++ chars (drop n bs)
 split_past bs n a =
     ap chars (sym (take-append-drop n bs)) ∙ chars-append (take n bs) (drop n bs) (IsUtf8-from_ascii (take n bs) a)
     ∙ ap (λ (xs : List ℕ). xs ++ chars (drop n bs)) (chars-IsAscii (take n bs) a)
 
-pub past_ascii : (bs : List ℕ) (n : ℕ) → IsUtf8 bs → n ≤ length bs → ((k : ℕ) → k < n → get_or bs k 0 < 128) → PastAscii bs n
+pub past_ascii : (bs : List ℕ) (n : ℕ) → IsUtf8 bs → n ≤ length bs → ((k : ℕ) → k < n → get_or bs k 0 < 128)
+    → PastAscii bs n
 past_ascii bs n u l h =
     let s = split_past bs n (front_IsAscii bs n l h) in
     let len : length (take n bs) ≡ n = length-take-le n bs l in
@@ -47,7 +51,7 @@ past_ascii bs n u l h =
       boundary = b;
     }
 
-at_drop : (xs : List ℕ) (n : ℕ) → get_or (drop n xs) 0 0 ≡ get_or xs n 0
+pub at_drop : (xs : List ℕ) (n : ℕ) → get_or (drop n xs) 0 0 ≡ get_or xs n 0
 at_drop xs n = get_or-drop n xs 0 0 ∙ ap (λ (i : ℕ). get_or xs i 0) (add-zero n)
 
 -- the first byte stands for the first character
@@ -79,7 +83,8 @@ pub run_stops : (p : ℕ → Bool) (xs : List ℕ) → (0 < length xs → p (get
 run_stops p [] h = refl
 run_stops p (x ∷ xs) h = rw (h (omega arith)) refl
 
-run_append : (p : ℕ → Bool) (xs ys : List ℕ) → ((k : ℕ) → k < length xs → p (get_or xs k 0) ≡ true) → prefix_len p (xs ++ ys) ≡ length xs + prefix_len p ys
+run_append : (p : ℕ → Bool) (xs ys : List ℕ) → ((k : ℕ) → k < length xs → p (get_or xs k 0) ≡ true)
+    → prefix_len p (xs ++ ys) ≡ length xs + prefix_len p ys
 run_append p [] ys h = omega arith
 run_append p (x ∷ xs) ys h =
     let t : p x ≡ true = h 0 (omega arith) in
@@ -91,16 +96,19 @@ pub record AsciiRun (p : ℕ → Bool) (bs : List ℕ) (n : ℕ) : Type 0 where
   pub goes_on : n + prefix_len p (chars (drop n bs)) ≡ prefix_len p (chars bs)
   pub ends : IsAsciiClass p → n ≡ prefix_len p (chars bs)
 
-passing_bytes : (p : ℕ → Bool) (bs : List ℕ) (n k : ℕ) → n ≡ prefix_len (ascii_in p) bs → k < n → (get_or bs k 0 < 128) × (p (get_or bs k 0) ≡ true)
+passing_bytes : (p : ℕ → Bool) (bs : List ℕ) (n k : ℕ) → n ≡ prefix_len (ascii_in p) bs → k < n
+    → (get_or bs k 0 < 128) × (p (get_or bs k 0) ≡ true)
 passing_bytes p bs n k e l =
     let lt : k < prefix_len (ascii_in p) bs = omega (arith, l, e) in
     let h = prefix_len_passes (ascii_in p) bs k 0 lt in
     (grind (arith, nat_tests), grind (arith, nat_tests))
 
-passing_front : (p : ℕ → Bool) (bs : List ℕ) (n : ℕ) → n ≤ length bs → ((k : ℕ) → k < n → p (get_or bs k 0) ≡ true) → PastAscii bs n → n + prefix_len p (chars (drop n bs)) ≡ prefix_len p (chars bs)
+passing_front : (p : ℕ → Bool) (bs : List ℕ) (n : ℕ) → n ≤ length bs → ((k : ℕ) → k < n → p (get_or bs k 0) ≡ true)
+    → PastAscii bs n → n + prefix_len p (chars (drop n bs)) ≡ prefix_len p (chars bs)
 passing_front p bs n l h s =
     let len : length (take n bs) ≡ n = length-take-le n bs l in
-    let all : (k : ℕ) → k < length (take n bs) → p (get_or (take n bs) k 0) ≡ true = λ k m. (let lt : k < n = omega (arith, m, len) in rw get_or-take (h k lt)) in
+    let all : (k : ℕ) → k < length (take n bs) → p (get_or (take n bs) k 0) ≡ true =
+    λ k m. (let lt : k < n = omega (arith, m, len) in rw get_or-take (h k lt)) in
     let e = run_append p (take n bs) (chars (drop n bs)) all in
     ap (λ (m : ℕ). m + prefix_len p (chars (drop n bs))) (sym len) ∙ sym e ∙ ap (prefix_len p) (sym s.split)
 
@@ -110,25 +118,18 @@ ascii_in_class p c h = grind (arith, nat_tests)
 failing_char : (p : ℕ → Bool) (c : ℕ) → IsAsciiClass p → ascii_in p c ≡ false → p c ≡ false
 failing_char p c h f = elim (cases_lt c 128) [ inl lt ↦ grind (arith, nat_tests) | inr ge ↦ h c ge ]
 
-equal_from : (x y : ℕ) → (x == y) ≡ true → x ≡ y
-equal_from x y t = grind (arith, nat_tests)
-
-and_left : (x y : Bool) → (x && y) ≡ true → x ≡ true
-and_left true y t = refl
-and_left false y t = absurd (cc)
-
-and_right : (x y : Bool) → (x && y) ≡ true → y ≡ true
-and_right true y t = t
-and_right false y t = absurd (cc)
-
 -- the byte behind them fails, and so does its character, if it is ASCII
-failing_next : (p : ℕ → Bool) (bs : List ℕ) (n : ℕ) → n ≡ prefix_len (ascii_in p) bs → n ≤ length bs → IsAsciiClass p → PastAscii bs n → prefix_len p (chars (drop n bs)) ≡ 0
-failing_next p bs n e l h s = run_stops p (chars (drop n bs)) (λ some. failing_char p (get_or (chars (drop n bs)) 0 0) h (sym (same_byte some) ∙ stops some))
+failing_next : (p : ℕ → Bool) (bs : List ℕ) (n : ℕ) → n ≡ prefix_len (ascii_in p) bs → n ≤ length bs → IsAsciiClass p
+    → PastAscii bs n → prefix_len p (chars (drop n bs)) ≡ 0
+failing_next p bs n e l h s =
+    run_stops p (chars (drop n bs))
+    (λ some. failing_char p (get_or (chars (drop n bs)) 0 0) h (sym (same_byte some) ∙ stops some))
   where
     short : 0 < length (chars (drop n bs)) → n < length bs
     short some = elim (cases_lt n (length bs)) [
       | inl lt ↦ lt
-      | inr ge ↦ (let none : chars (drop n bs) ≡ [] = rw (drop_all n bs ge, chars-nil) refl in absurd (omega (arith, some, ap length none)))
+      | inr ge ↦ (let none : chars (drop n bs) ≡ [] =
+          rw (drop_all n bs ge, chars-nil) refl in absurd (omega (arith, some, ap length none)))
     ]
 
     stops : 0 < length (chars (drop n bs)) → ascii_in p (get_or (drop n bs) 0 0) ≡ false
@@ -137,8 +138,10 @@ failing_next p bs n e l h s = run_stops p (chars (drop n bs)) (λ some. failing_
         let f = prefix_len_stops (ascii_in p) bs 0 lt in
         rw (at_drop bs n, e) f
 
-    same_byte : 0 < length (chars (drop n bs)) → ascii_in p (get_or (drop n bs) 0 0) ≡ ascii_in p (get_or (chars (drop n bs)) 0 0)
-    same_byte some = same_test (ascii_in p) (get_or (drop n bs) 0 0) (get_or (chars (drop n bs)) 0 0) (ascii_in_class p) (first_stands (drop n bs) s.utf8)
+    same_byte : 0 < length (chars (drop n bs))
+        → ascii_in p (get_or (drop n bs) 0 0) ≡ ascii_in p (get_or (chars (drop n bs)) 0 0)
+    same_byte some = same_test (ascii_in p) (get_or (drop n bs) 0 0) (get_or (chars (drop n bs)) 0 0) (ascii_in_class p)
+        (first_stands (drop n bs) s.utf8)
 
 pub ascii_run_is : (p : ℕ → Bool) (bs : List ℕ) (n : ℕ) → IsUtf8 bs → n ≡ prefix_len (ascii_in p) bs → AsciiRun p bs n
 ascii_run_is p bs n u e =
@@ -153,10 +156,12 @@ first_two bs a b zero l = a
 first_two bs a b (suc zero) l = b
 first_two bs a b (suc (suc k)) l = absurd (omega arith)
 
-pub second_is : (bs : List ℕ) → IsUtf8 bs → 1 < length bs → get_or bs 0 0 < 128 → get_or bs 1 0 < 128 → get_or (chars bs) 1 0 ≡ get_or bs 1 0
+pub second_is : (bs : List ℕ) → IsUtf8 bs → 1 < length bs → get_or bs 0 0 < 128 → get_or bs 1 0 < 128
+    → get_or (chars bs) 1 0 ≡ get_or bs 1 0
 second_is bs u l a b =
     let s = past_ascii bs 2 u (omega (arith, l)) (first_two bs a b) in
-    sym (get_or-take 2 (chars bs) 1 0 (lit< tt)) ∙ ap (λ (xs : List ℕ). get_or xs 1 0) s.front ∙ get_or-take 2 bs 1 0 (lit< tt)
+    sym (get_or-take 2 (chars bs) 1 0 (lit< tt)) ∙ ap (λ (xs : List ℕ). get_or xs 1 0) s.front
+    ∙ get_or-take 2 bs 1 0 (lit< tt)
 
 marks_fit : (bs : List ℕ) (n mark : ℕ) → 0 < mark → ((k : ℕ) → k < n → get_or bs k 0 ≡ mark) → n ≤ length bs
 marks_fit bs zero mark some h = search rules
@@ -166,25 +171,30 @@ marks_fit bs (suc n) mark some h = elim (cases_lt n (length bs)) [
 ]
 
 -- a test of the place behind n equal marks, on the byte and on the character
-test_at : (p : ℕ → Bool) (bs : List ℕ) (n mark : ℕ) → IsUtf8 bs → IsAsciiClass p → mark < 128 → 0 < mark → ((k : ℕ) → k < n → get_or bs k 0 ≡ mark) → p (get_or bs n 0) ≡ p (get_or (chars bs) n 0)
+test_at : (p : ℕ → Bool) (bs : List ℕ) (n mark : ℕ) → IsUtf8 bs → IsAsciiClass p → mark < 128 → 0 < mark
+    → ((k : ℕ) → k < n → get_or bs k 0 ≡ mark) → p (get_or bs n 0) ≡ p (get_or (chars bs) n 0)
 test_at p bs n mark u a l some h =
     let s = past_ascii bs n u (marks_fit bs n mark some h) (λ k lt. omega (arith, l, h k lt)) in
-    ap p (sym (at_drop bs n)) ∙ same_test p (get_or (drop n bs) 0 0) (get_or (chars (drop n bs)) 0 0) a (first_stands (drop n bs) s.utf8)
+    ap p (sym (at_drop bs n))
+    ∙ same_test p (get_or (drop n bs) 0 0) (get_or (chars (drop n bs)) 0 0) a (first_stands (drop n bs) s.utf8)
     ∙ ap (λ (xs : List ℕ). p (get_or xs 0 0)) s.rest ∙ ap p (at_drop (chars bs) n)
 
 marks1 : (bs : List ℕ) (mark : ℕ) → (get_or bs 0 0 == mark) ≡ true → (k : ℕ) → k < 1 → get_or bs k 0 ≡ mark
-marks1 bs mark t zero l = equal_from (get_or bs 0 0) mark t
+marks1 bs mark t zero l = eqb-true (get_or bs 0 0) mark t
 marks1 bs mark t (suc k) l = absurd (omega arith)
 
-marks2 : (bs : List ℕ) (mark : ℕ) → ((get_or bs 0 0 == mark) && (get_or bs 1 0 == mark)) ≡ true → (k : ℕ) → k < 2 → get_or bs k 0 ≡ mark
-marks2 bs mark t zero l = equal_from (get_or bs 0 0) mark (and_left _ _ t)
-marks2 bs mark t (suc zero) l = equal_from (get_or bs 1 0) mark (and_right _ _ t)
+marks2 : (bs : List ℕ) (mark : ℕ) → ((get_or bs 0 0 == mark) && (get_or bs 1 0 == mark)) ≡ true → (k : ℕ) → k < 2
+    → get_or bs k 0 ≡ mark
+marks2 bs mark t zero l = eqb-true (get_or bs 0 0) mark (and_true_left _ _ t)
+marks2 bs mark t (suc zero) l = eqb-true (get_or bs 1 0) mark (and_true_right _ _ t)
 marks2 bs mark t (suc (suc k)) l = absurd (omega arith)
 
-marks3 : (bs : List ℕ) (mark : ℕ) → ((get_or bs 0 0 == mark) && (get_or bs 1 0 == mark) && (get_or bs 2 0 == mark)) ≡ true → (k : ℕ) → k < 3 → get_or bs k 0 ≡ mark
-marks3 bs mark t zero l = equal_from (get_or bs 0 0) mark (and_left _ _ (and_left _ _ t))
-marks3 bs mark t (suc zero) l = equal_from (get_or bs 1 0) mark (and_right _ _ (and_left _ _ t))
-marks3 bs mark t (suc (suc zero)) l = equal_from (get_or bs 2 0) mark (and_right _ _ t)
+marks3 : (bs : List ℕ) (mark : ℕ)
+    → ((get_or bs 0 0 == mark) && (get_or bs 1 0 == mark) && (get_or bs 2 0 == mark)) ≡ true → (k : ℕ) → k < 3
+    → get_or bs k 0 ≡ mark
+marks3 bs mark t zero l = eqb-true (get_or bs 0 0) mark (and_true_left _ _ (and_true_left _ _ t))
+marks3 bs mark t (suc zero) l = eqb-true (get_or bs 1 0) mark (and_true_right _ _ (and_true_left _ _ t))
+marks3 bs mark t (suc (suc zero)) l = eqb-true (get_or bs 2 0) mark (and_true_right _ _ t)
 marks3 bs mark t (suc (suc (suc k))) l = absurd (omega arith)
 
 and_same : (x y p q : Bool) → x ≡ y → (x ≡ true → p ≡ q) → (x && p) ≡ (y && q)
@@ -192,7 +202,8 @@ and_same true y p q e h = ap (λ (b : Bool). true && b) (h refl) ∙ ap (λ (b :
 and_same false y p q e h = ap (λ (b : Bool). b && q) e
 
 -- three marks before the end of a line, in the bytes and in the characters
-pub same_marker : (mark : ℕ) (bs : List ℕ) → IsUtf8 bs → mark < 128 → 0 < mark → is_marker mark bs ≡ is_marker mark (chars bs)
+pub same_marker : (mark : ℕ) (bs : List ℕ) → IsUtf8 bs → mark < 128 → 0 < mark
+    → is_marker mark bs ≡ is_marker mark (chars bs)
 same_marker mark bs u l some =
     let p : ℕ → Bool = λ x. x == mark in
     let a : IsAsciiClass p = λ c h. grind (arith, nat_tests) in
@@ -210,8 +221,11 @@ prefix_same p q [] h = refl
 prefix_same p q (x ∷ xs) h = rw (h x, prefix_same p q xs h) refl
 
 ascii_same : (p : ℕ → Bool) → IsAsciiClass p → (c : ℕ) → p c ≡ ascii_in p c
-ascii_same p h c = elim (cases_lt c 128) [ inl lt ↦ grind (arith, nat_tests) | inr ge ↦ h c ge ∙ sym (ascii_in_class p c ge) ]
+ascii_same p h c = elim (cases_lt c 128)
+    [ inl lt ↦ grind (arith, nat_tests) | inr ge ↦ h c ge ∙ sym (ascii_in_class p c ge) ]
 
 -- a run of a class of ASCII characters is the same in the bytes
-pub ascii_class_run : (p q : ℕ → Bool) (bs : List ℕ) (n : ℕ) → IsUtf8 bs → IsAsciiClass p → ((c : ℕ) → q c ≡ p c) → n ≡ prefix_len q bs → AsciiRun p bs n
-ascii_class_run p q bs n u h e m = ascii_run_is p bs n u (m ∙ prefix_same q (ascii_in p) bs (λ c. e c ∙ ascii_same p h c))
+pub ascii_class_run : (p q : ℕ → Bool) (bs : List ℕ) (n : ℕ) → IsUtf8 bs → IsAsciiClass p → ((c : ℕ) → q c ≡ p c)
+    → n ≡ prefix_len q bs → AsciiRun p bs n
+ascii_class_run p q bs n u h e m =
+    ascii_run_is p bs n u (m ∙ prefix_same q (ascii_in p) bs (λ c. e c ∙ ascii_same p h c))

@@ -1,4 +1,5 @@
 pub mod Ascii
+pub mod Basics
 pub mod ListedChars
 pub mod Listing
 pub mod Runs
@@ -6,3 +7,4 @@ pub mod Separations
 pub mod Sets
 pub mod SkippedBlanks
 pub mod Texts
+pub mod WordRuns

@@ -17,14 +17,28 @@ ends s utf8 e =
     let none : length (chars_rest s) ≡ 0 = ap length empty in
     ((none, refl), (λ some. absurd (omega arith)), sym (ap (λ (cs : List ℕ). slice_get cs 0) e))
 
-comes : (s : Chars) (x : ℕ) (xs : List ℕ) → IsUtf8 (chars_rest s) → chars (chars_rest s) ≡ x ∷ xs → (t : Chars) × chars_steps s (Some x) t
-comes s x xs utf8 e =
-    (record s { rest = record s.rest { now = encode_utf8_all xs } }, (sym (encodes-chars (chars_rest s) utf8) ∙ ap encode_utf8_all e, (λ some. refl), sym (ap (λ (cs : List ℕ). slice_get cs 0) e)))
+comes : (s : Chars) (x : ℕ) (xs : List ℕ) → IsUtf8 (chars_rest s) → chars (chars_rest s) ≡ x ∷ xs
+    → (t : Chars) × chars_steps s (Some x) t
+comes s x xs utf8 e = (
+  record s { rest = record s.rest { now = encode_utf8_all xs } },
+  (
+    sym (encodes-chars (chars_rest s) utf8)
+        ∙ ap encode_utf8_all e,
+    (λ some. refl),
+    sym (ap (λ (cs : List ℕ). slice_get cs 0) e),
+  ),
+)
 
-gives_only : (s : Chars) (r : Option ℕ) (cs : List ℕ) → chars (chars_rest s) ≡ cs → slice_get cs 0 ≡ r → ((t : Chars) × chars_steps s r t) → GivesOnly (λ _. ⊤) chars_steps s r
-gives_only s r cs e first p = (∣ p ∣₁, λ (q : Option ℕ) (t : Chars) (step : chars_steps s q t). step.2 ∙ ap (λ (ds : List ℕ). slice_get ds 0) e ∙ first)
+gives_only : (s : Chars) (r : Option ℕ) (cs : List ℕ) → chars (chars_rest s) ≡ cs → slice_get cs 0 ≡ r
+    → ((t : Chars) × chars_steps s r t) → GivesOnly (λ _. ⊤) chars_steps s r
+gives_only s r cs e first p = (
+  ∣ p ∣₁,
+  λ (q : Option ℕ) (t : Chars) (step : chars_steps s q t). step.2 ∙ ap (λ (ds : List ℕ). slice_get ds 0) e
+      ∙ first,
+)
 
-lists_from : (xs : List ℕ) (s : Chars) → IsUtf8 (chars_rest s) → chars (chars_rest s) ≡ xs → Lists (λ _. ⊤) chars_steps s xs
+lists_from : (xs : List ℕ) (s : Chars) → IsUtf8 (chars_rest s) → chars (chars_rest s) ≡ xs
+    → Lists (λ _. ⊤) chars_steps s xs
 lists_from [] s utf8 e = (callable s, gives_only s None [] e refl (s, ends s utf8 e))
 lists_from (x ∷ xs) s utf8 e = (
   callable s,
@@ -34,7 +48,8 @@ lists_from (x ∷ xs) s utf8 e = (
       lists_from xs t (IsUtf8-past_char (chars_rest s) (chars_rest t) x utf8 step.0) (cc),
 )
 
-pub chars_lists : (text : List ℕ) (s : Chars) → IsUtf8 text → chars_rest s ≡ text → Lists (λ _. ⊤) chars_steps s (chars text)
+pub chars_lists : (text : List ℕ) (s : Chars) → IsUtf8 text → chars_rest s ≡ text
+    → Lists (λ _. ⊤) chars_steps s (chars text)
 chars_lists text s utf8 e = lists_from (chars text) s (subst IsUtf8 (sym e) utf8) (ap chars e)
 
 pub chars_listed : (text : List ℕ) (s : Chars) → IsUtf8 text → chars_rest s ≡ text → Listed (λ _. ⊤) chars_steps s

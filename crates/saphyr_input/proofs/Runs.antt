@@ -12,9 +12,6 @@ pub record Ran (p : ℕ → Bool) (start now : List ℕ) (n : ℕ) : Type 0 wher
   pub left : now ≡ drop n start
   pub total : n + length now ≡ length start
 
-pub ran_none : (p : ℕ → Bool) (start now : List ℕ) → now ≡ start → Ran p start now 0
-ran_none p start now e = record { run = rw e (omega arith); left = e; total = rw e (omega arith) }
-
 -- a place that passes is a character, where NUL doesn't pass
 pub record Goes (p : ℕ → Bool) (xs : List ℕ) : Type 0 where
   pub run : prefix_len p xs ≡ prefix_len p (drop 1 xs) + 1
@@ -29,7 +26,8 @@ pub run_stops : (p : ℕ → Bool) (xs : List ℕ) → p (get_or xs 0 0) ≡ fal
 run_stops p [] h = refl
 run_stops p (x ∷ xs) h = rw h refl
 
-pub ran_more : (p : ℕ → Bool) (start now after : List ℕ) (n : ℕ) → p 0 ≡ false → p (get_or now 0 0) ≡ true → after ≡ drop 1 now → Ran p start now n → Ran p start after (n + 1)
+pub ran_more : (p : ℕ → Bool) (start now after : List ℕ) (n : ℕ) → p 0 ≡ false → p (get_or now 0 0) ≡ true
+    → after ≡ drop 1 now → Ran p start now n → Ran p start after (n + 1)
 ran_more p start now after n z h e r =
     let one = goes p now z h in
     record {
@@ -39,17 +37,22 @@ ran_more p start now after n z h e r =
     }
 
 -- a place that fails ends the run
-pub ran_all : (p : ℕ → Bool) (start now : List ℕ) (n : ℕ) → p (get_or now 0 0) ≡ false → Ran p start now n → n ≡ prefix_len p start
+pub ran_all : (p : ℕ → Bool) (start now : List ℕ) (n : ℕ) → p (get_or now 0 0) ≡ false → Ran p start now n
+    → n ≡ prefix_len p start
 ran_all p start now n h r = omega (arith, run_stops p now h, r.run)
 
 -- the text grows by each character of the run
-pub text_more : (p : ℕ → Bool) (start now text grown pushed : List ℕ) (n : ℕ) → p 0 ≡ false → p (get_or now 0 0) ≡ true → Ran p start now n
-    → grown ≡ text ++ encode_utf8_all (take n start) → pushed ≡ grown ++ encode_utf8 (get_or now 0 0) → pushed ≡ text ++ encode_utf8_all (take (n + 1) start)
+pub text_more : (p : ℕ → Bool) (start now text grown pushed : List ℕ) (n : ℕ) → p 0 ≡ false → p (get_or now 0 0) ≡ true
+    → Ran p start now n
+    → grown ≡ text ++ encode_utf8_all (take n start) → pushed ≡ grown ++ encode_utf8 (get_or now 0 0)
+    → pushed ≡ text ++ encode_utf8_all (take (n + 1) start)
 text_more p start now text grown pushed n z h r e f =
     let one = goes p now z h in
     let lt : n < length start = omega (arith, one.total, r.total) in
-    let same : get_or now 0 0 ≡ get_or start n 0 = ap (λ (xs : List ℕ). get_or xs 0 0) r.left ∙ get_or-drop n start 0 0 ∙ ap (λ (i : ℕ). get_or start i 0) (add-zero n) in
-    let more : take (n + 1) start ≡ take n start ++ (get_or now 0 0 ∷ []) = rw (add-one, same) (take-suc start n 0 lt) in
+    let same : get_or now 0 0 ≡ get_or start n 0 = ap (λ (xs : List ℕ). get_or xs 0 0) r.left ∙ get_or-drop n start 0 0
+    ∙ ap (λ (i : ℕ). get_or start i 0) (add-zero n) in
+    let more : take (n + 1) start ≡ take n start ++ (get_or now 0 0 ∷ []) =
+    rw (add-one, same) (take-suc start n 0 lt) in
     f ∙ rw (e, more, encodes-append) (simp (append_assoc, append-nil))
 
 -- a loop that takes off the run of p: c is read, and the text that it began at can be counted
@@ -59,14 +62,17 @@ pub record Runs (p : ℕ → Bool) (start now : List ℕ) (n c loaded : ℕ) : T
   pub ready : 1 ≤ loaded
   pub countable : length start < 2 ^ 64
 
-pub runs_more : (p : ℕ → Bool) (start now after : List ℕ) (n c d loaded more : ℕ) → p 0 ≡ false → p c ≡ true → Runs p start now n c loaded → after ≡ drop 1 now → d ≡ get_or after 0 0 → 1 ≤ more
+pub runs_more : (p : ℕ → Bool) (start now after : List ℕ) (n c d loaded more : ℕ) → p 0 ≡ false → p c ≡ true
+    → Runs p start now n c loaded → after ≡ drop 1 now → d ≡ get_or after 0 0 → 1 ≤ more
     → Runs p start after (n + 1) d more
 runs_more p start now after n c d loaded more z h r e read ready =
     let here : p (get_or now 0 0) ≡ true = rw (← r.read) h in
     record { ran = ran_more p start now after n z here e r.ran; read = read; ready = ready; countable = r.countable }
 
-pub runs_text : (p : ℕ → Bool) (start now text grown pushed : List ℕ) (n c loaded : ℕ) → p 0 ≡ false → p c ≡ true → Runs p start now n c loaded
-    → grown ≡ text ++ encode_utf8_all (take n start) → pushed ≡ grown ++ encode_utf8 c → pushed ≡ text ++ encode_utf8_all (take (n + 1) start)
+pub runs_text : (p : ℕ → Bool) (start now text grown pushed : List ℕ) (n c loaded : ℕ) → p 0 ≡ false → p c ≡ true
+    → Runs p start now n c loaded
+    → grown ≡ text ++ encode_utf8_all (take n start) → pushed ≡ grown ++ encode_utf8 c
+    → pushed ≡ text ++ encode_utf8_all (take (n + 1) start)
 runs_text p start now text grown pushed n c loaded z h r e f =
     let here : p (get_or now 0 0) ≡ true = rw (← r.read) h in
     let same : pushed ≡ grown ++ encode_utf8 (get_or now 0 0) = rw (← r.read) f in

@@ -8,16 +8,19 @@ use Rattle.saphyr_input.specs.Separation as separation
 use Rattle.saphyr_input.specs.declared.input.SkipTabs.{SkipTabs}
 use Rattle.saphyr_input.proofs.Runs.{Runs, ran_all}
 
-module _ (tabs : SkipTabs) (start now : List ℕ) (n c loaded : ℕ) (runs : Runs (separation.is_skipped tabs) start now n c loaded)
+module _ (tabs : SkipTabs) (start now : List ℕ) (n c loaded : ℕ)
+    (runs : Runs (separation.is_skipped tabs) start now n c loaded)
     (stops : separation.is_skipped tabs c ≡ false) where
   ended : n ≡ separation.blank_len tabs start
   ended = ran_all (separation.is_skipped tabs) start now n (rw (← runs.read) stops) runs.ran
 
-  told : separation.separation_len tabs start ≡ cond (nat_eq n 0) 0 (n + cond (nat_eq c 35) (prefix_len class.is_yaml_non_break now) 0)
+  told : separation.separation_len tabs start
+      ≡ cond (nat_eq n 0) 0 (n + cond (nat_eq c 35) (prefix_len class.is_yaml_non_break now) 0)
   told = rw (← ended, ← runs.ran.left, ← runs.read) refl
 
   -- a comment behind the white space
-  pub with_comment : (m : ℕ) → (n ≡ 0 → ⊥) → c ≡ 35 → m ≡ prefix_len class.is_yaml_non_break now → n + m ≡ separation.separation_len tabs start
+  pub with_comment : (m : ℕ) → (n ≡ 0 → ⊥) → c ≡ 35 → m ≡ prefix_len class.is_yaml_non_break now
+      → n + m ≡ separation.separation_len tabs start
   with_comment m some hash e =
       let many : nat_eq n 0 ≡ false = grind (arith, nat_tests) in
       let is : nat_eq c 35 ≡ true = rw hash refl in
@@ -33,7 +36,8 @@ module _ (tabs : SkipTabs) (start now : List ℕ) (n c loaded : ℕ) (runs : Run
       none_added k = grind (arith, nat_tests)
 
   -- the blanks that were met
-  pub blanks_met : (test : ℕ → Bool) (met : Bool) → met ≡ list_any test (take n start) → met ≡ list_any test (take (separation.blank_len tabs start) start)
+  pub blanks_met : (test : ℕ → Bool) (met : Bool) → met ≡ list_any test (take n start)
+      → met ≡ list_any test (take (separation.blank_len tabs start) start)
   blanks_met test met e = rw (← ended) e
 
   -- all of it is in the text

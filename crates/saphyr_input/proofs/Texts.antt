@@ -9,13 +9,16 @@ use Rattle.std.proofs.lemmas.Str.{chars_past_char, chars-nil, encodes-chars, len
 use Rattle.std.proofs.lemmas.List.Sums.{prefix_len-le-length}
 use Rattle.std.proofs.lemmas.List.{nil_from_length, take-append-drop, take_at, drop-drop}
 
-passed : (s : Chars) (r : Option ℕ) (t : Chars) → IsUtf8 s.rest.now → chars_steps s r t → chars t.rest.now ≡ drop 1 (chars s.rest.now)
+passed : (s : Chars) (r : Option ℕ) (t : Chars) → IsUtf8 s.rest.now → chars_steps s r t
+    → chars t.rest.now ≡ drop 1 (chars s.rest.now)
 passed s None t u h = rw (h.0.1, nil_from_length s.rest.now h.0.0, chars-nil) refl
 passed s (Some c) t u h = rw (chars_past_char s.rest.now t.rest.now c u h.0) refl
 
 -- behind the first character of a text
-pub passed_from : (bs : List ℕ) (s : Chars) (r : Option ℕ) (t : Chars) → IsUtf8 bs → s.rest.now ≡ bs → chars_steps s r t → chars t.rest.now ≡ drop 1 (chars bs)
-passed_from bs s r t u e h = let v : IsUtf8 s.rest.now = subst IsUtf8 (sym e) u in passed s r t v h ∙ ap (λ (xs : List ℕ). drop 1 (chars xs)) e
+pub passed_from : (bs : List ℕ) (s : Chars) (r : Option ℕ) (t : Chars) → IsUtf8 bs → s.rest.now ≡ bs → chars_steps s r t
+    → chars t.rest.now ≡ drop 1 (chars bs)
+passed_from bs s r t u e h =
+    let v : IsUtf8 s.rest.now = subst IsUtf8 (sym e) u in passed s r t v h ∙ ap (λ (xs : List ℕ). drop 1 (chars xs)) e
 
 pub length-chars : (bs : List ℕ) → IsUtf8 bs → length (chars bs) ≤ length bs
 length-chars bs u = let h = length-le-encodes (chars bs) in rw (encodes-chars bs u) at h
@@ -30,12 +33,16 @@ pub record Front (bs rs : List ℕ) (n : ℕ) : Type 0 where
   pub boundary : IsCharBoundary bs (length bs - length rs)
   pub front : take (length bs - length rs) bs ≡ encode_utf8_all (take n (chars bs))
 
-split_at_char : (bs rs : List ℕ) (n : ℕ) → IsUtf8 bs → IsUtf8 rs → chars rs ≡ drop n (chars bs) → bs ≡ encode_utf8_all (take n (chars bs)) ++ rs
+split_at_char : (bs rs : List ℕ) (n : ℕ) → IsUtf8 bs → IsUtf8 rs → chars rs ≡ drop n (chars bs)
+    → bs ≡ encode_utf8_all (take n (chars bs)) ++ rs
 split_at_char bs rs n u v e =
-    sym (encodes-chars bs u) ∙ ap encode_utf8_all (sym (take-append-drop n (chars bs))) ∙ encodes-append (take n (chars bs)) (drop n (chars bs))
-    ∙ ap (λ (ds : List ℕ). encode_utf8_all (take n (chars bs)) ++ encode_utf8_all ds) (sym e) ∙ ap (λ (ds : List ℕ). encode_utf8_all (take n (chars bs)) ++ ds) (encodes-chars rs v)
+    sym (encodes-chars bs u) ∙ ap encode_utf8_all (sym (take-append-drop n (chars bs)))
+    ∙ encodes-append (take n (chars bs)) (drop n (chars bs))
+    ∙ ap (λ (ds : List ℕ). encode_utf8_all (take n (chars bs)) ++ encode_utf8_all ds) (sym e)
+    ∙ ap (λ (ds : List ℕ). encode_utf8_all (take n (chars bs)) ++ ds) (encodes-chars rs v)
 
-front_at_seam : (bs xs rs : List ℕ) → IsUtf8 rs → bs ≡ xs ++ rs → (length rs ≤ length bs) × IsCharBoundary bs (length bs - length rs) × (take (length bs - length rs) bs ≡ xs)
+front_at_seam : (bs xs rs : List ℕ) → IsUtf8 rs → bs ≡ xs ++ rs
+    → (length rs ≤ length bs) × IsCharBoundary bs (length bs - length rs) × (take (length bs - length rs) bs ≡ xs)
 front_at_seam bs xs rs v e =
     let len : length bs ≡ length xs + length rs = ap length e ∙ length-append xs rs in
     let m : length xs ≡ length bs - length rs = omega (arith, len) in (
@@ -58,8 +65,10 @@ pub record Ran (p : ℕ → Bool) (start now : List ℕ) (n : ℕ) : Type 0 wher
   pub run : n + prefix_len p now ≡ prefix_len p start
   pub behind : now ≡ drop n start
 
-pub ran_on : (p : ℕ → Bool) (start now next last : List ℕ) (n k : ℕ) → n + prefix_len p now ≡ prefix_len p start → now ≡ drop n start
-    → prefix_len p now ≡ 1 + prefix_len p next → next ≡ drop 1 now → k + prefix_len p last ≡ prefix_len p next → last ≡ drop k next → Ran p start last (n + (1 + k))
+pub ran_on : (p : ℕ → Bool) (start now next last : List ℕ) (n k : ℕ) → n + prefix_len p now ≡ prefix_len p start
+    → now ≡ drop n start
+    → prefix_len p now ≡ 1 + prefix_len p next → next ≡ drop 1 now → k + prefix_len p last ≡ prefix_len p next
+    → last ≡ drop k next → Ran p start last (n + (1 + k))
 ran_on p start now next last n k a b c d e f = record {
   run = omega (arith, a, c, e);
   behind = f ∙ ap (drop k) d ∙ drop-drop k 1 now ∙ ap (drop (1 + k)) b ∙ drop-drop (1 + k) n start;

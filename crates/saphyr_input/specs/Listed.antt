@@ -1,5 +1,6 @@
 -- An iterator over characters whose calls of `next` give the items of one list, up to the first `None`.
--- `can` holds of the states at which `next` may be called, and `gives` of a state, what `next` gives there and the state after it.
+-- `can` holds of the states at which `next` may be called, and `gives` of a state, what `next` gives there and the
+-- state after it.
 use Rattle.std.specs.Prelude.{◌≡◌, ℕ, suc, zero, List, [], ◌∷◌, take, Option, Some, None, refl}
 use Rattle.std.proofs.Common.{sym, ◌∙◌, ap, subst}
 use Rattle.std.proofs.Props.{props}
@@ -43,8 +44,10 @@ module _ {S : Type 0} (can : S → Type 0) (gives : S → Option ℕ → S → T
 
   pub Lists-one : (s : S) (xs ys : List ℕ) → Lists s xs → Lists s ys → xs ≡ ys
   Lists-one s [] [] a b = refl
-  Lists-one s [] (y ∷ ys) a b = ∥∥₁_elim b.1.0 (hlevel props) (λ (p : (t : S) × gives s (Some y) t). came_not y (sym (a.1.1 (Some y) p.0 p.1)))
-  Lists-one s (x ∷ xs) [] a b = ∥∥₁_elim a.1.0 (hlevel props) (λ (p : (t : S) × gives s (Some x) t). came_not x (sym (b.1.1 (Some x) p.0 p.1)))
+  Lists-one s [] (y ∷ ys) a b =
+      ∥∥₁_elim b.1.0 (hlevel props) (λ (p : (t : S) × gives s (Some y) t). came_not y (sym (a.1.1 (Some y) p.0 p.1)))
+  Lists-one s (x ∷ xs) [] a b =
+      ∥∥₁_elim a.1.0 (hlevel props) (λ (p : (t : S) × gives s (Some x) t). came_not x (sym (b.1.1 (Some x) p.0 p.1)))
   Lists-one s (x ∷ xs) (y ∷ ys) a b =
       ∥∥₁_elim b.1.0 (hlevel props)
       (λ (p : (t : S) × gives s (Some y) t).

@@ -1,8 +1,8 @@
 -- What the calls of an input answer and take, over the list of its remaining characters.
 -- Past the end of the list every place reads as NUL, as `slice_index` does.
-use Rattle.std.specs.Prelude.{◌≡◌, ℕ, ◌≤◌, Bool, ◌||◌, ◌&&◌, ◌==◌, not, List, ◌++◌, take, drop, slice_index, if◌then◌else◌, encode_utf8_all}
+use Rattle.std.specs.Prelude.{◌≡◌, ℕ, ◌+◌, ◌≤◌, min, Bool, false, ◌||◌, ◌&&◌, ◌==◌, not, List, [], ◌∷◌, ◌++◌, take, drop, slice_index, if◌then◌else◌, encode_utf8_all}
 use Rattle.std.specs.List.{prefix_len}
-use Rattle.saphyr_input.specs.Classes.{is_blank, is_break, is_blank_or_breakz, is_flow, byte_order_mark}
+use Rattle.saphyr_input.specs.Classes.{is_blank, is_break, is_blank_or_breakz, is_flow, byte_order_mark, space}
 
 abbrev pub next_2_are : List ℕ → ℕ → ℕ → Bool
 next_2_are xs a b = (slice_index xs 0 == a) && (slice_index xs 1 == b)
@@ -21,10 +21,12 @@ is_document_end xs = next_3_are xs 46 46 46 && is_blank_or_breakz (slice_index x
 abbrev pub is_document_indicator : List ℕ → Bool
 is_document_indicator xs = is_document_start xs || is_document_end xs
 
--- whether a plain scalar, inside flow or outside, goes on with the first character, which is no blank, break or NUL (YAML 1.2.2, 7.3.3)
+-- whether a plain scalar, inside flow or outside, goes on with the first character, which is no blank, break or NUL
+-- (YAML 1.2.2, 7.3.3)
 abbrev pub can_be_plain : Bool → List ℕ → Bool
 can_be_plain in_flow xs =
-    if slice_index xs 0 == 58 then not (is_blank_or_breakz (slice_index xs 1) || (in_flow && is_flow (slice_index xs 1)))
+    if slice_index xs 0 == 58 then
+    not (is_blank_or_breakz (slice_index xs 1) || (in_flow && is_flow (slice_index xs 1)))
     else not ((slice_index xs 0 == byte_order_mark) || (in_flow && is_flow (slice_index xs 0)))
 
 abbrev pub is_blank_or_break : ℕ → Bool
@@ -45,3 +47,18 @@ pub record TransfersPart (p : ℕ → Bool) (before after text grown : List ℕ)
   pub count : ℕ
   pub within : count ≤ prefix_len p before
   pub transfers : Transfers count before after text grown
+
+-- How many characters come first that are of a set, or are single spaces before a character of a second set.
+unfoldable pub words_len : (ℕ → Bool) → (ℕ → Bool) → List ℕ → ℕ
+words_len p q [] = 0
+words_len p q (c ∷ cs) = if p c || ((c == space) && q (slice_index cs 0)) then 1 + words_len p q cs else 0
+
+-- such a beginning was taken off and appended: n characters, up to one that is not of the first set
+pub record TransfersWords (p q : ℕ → Bool) (n : ℕ) (before after text grown : List ℕ) : Type 0 where
+  pub within : n ≤ words_len p q before
+  pub stops : p (slice_index after 0) ≡ false
+  pub transfers : Transfers n before after text grown
+
+-- how many spaces come first, but no more than `most`
+abbrev pub spaces_within : ℕ → List ℕ → ℕ
+spaces_within most xs = min most (prefix_len (λ c. c == space) xs)

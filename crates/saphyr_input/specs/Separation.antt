@@ -31,12 +31,14 @@ is_bare_comment tabs xs = (blank_len tabs xs == 0) && (slice_index xs 0 == 35)
 
 -- how many characters are skipped
 abbrev pub separation_len : SkipTabs → List ℕ → ℕ
-separation_len tabs xs = if blank_len tabs xs == 0 then 0 else blank_len tabs xs + comment_len (drop (blank_len tabs xs) xs)
+separation_len tabs xs =
+    if blank_len tabs xs == 0 then 0 else blank_len tabs xs + comment_len (drop (blank_len tabs xs) xs)
 
 -- which blanks were met: tabs, and spaces
 abbrev pub found_blanks : SkipTabs → List ℕ → SkipTabs
 found_blanks tabs xs =
-    Result (list_any (λ c. c == tab) (take (blank_len tabs xs) xs)) (list_any (λ c. c == space) (take (blank_len tabs xs) xs))
+    Result (list_any (λ c. c == tab) (take (blank_len tabs xs) xs))
+    (list_any (λ c. c == space) (take (blank_len tabs xs) xs))
 
 abbrev pub found_tabs : SkipTabs → Bool
 found_tabs Yes = false

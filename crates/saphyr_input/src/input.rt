@@ -8,6 +8,7 @@ mod buffered;
 mod cloning;
 pub(crate) mod str;
 
+use crate::char_set::{CharSet, SpacedSet};
 use crate::char_traits::{is_yaml_non_break, is_yaml_non_space};
 pub use crate::char_traits::{
     is_alpha, is_blank, is_blank_or_breakz, is_break, is_breakz, is_digit, is_flow, is_z,
@@ -73,7 +74,8 @@ pub trait Input {
     fn raw_read_non_breakz_ch(&mut self) -> Option<char>
         requires { loaded self.old ≡ 0 }
         ensures taken { is_some result ≡ class.is_yaml_non_break (slice_index (rest self.old) 0) }
-        ensures some { IfSome result (λ c. (c ≡ slice_index (rest self.old) 0) × (rest self.new ≡ drop 1 (rest self.old)) × (loaded self.new ≡ 0)) }
+        ensures some { IfSome result (λ c. (c ≡ slice_index (rest self.old) 0)
+            × (rest self.new ≡ drop 1 (rest self.old)) × (loaded self.new ≡ 0)) }
         ensures none { IfNone result ((rest self.new ≡ rest self.old) × (loaded self.new ≤ 1)) };
 
     /// Takes the first character off, if there is one.
@@ -178,9 +180,12 @@ pub trait Input {
     fn skip_ws_to_eol(&mut self, skip_tabs: SkipTabs) -> (usize, Result<SkipTabs, &'static str>)
         requires { separation.IsRequest skip_tabs }
         ensures count { result.0 ≡ separation.separation_len skip_tabs (rest self.old) }
-        ensures refused { IsErr result.1 ↔ IsTrue (separation.is_bare_comment skip_tabs (rest self.old)) }
-        ensures found { IfOk result.1 (λ found. found ≡ separation.found_blanks skip_tabs (rest self.old)) }
-        ensures text { IfErr result.1 (λ text. text.now ≡ codes "comments must be separated from other tokens by whitespace") }
+        ensures refused { IsErr result.1 ↔ IsTrue (separation.is_bare_comment skip_tabs
+            (rest self.old)) }
+        ensures found { IfOk result.1 (λ found. found
+            ≡ separation.found_blanks skip_tabs (rest self.old)) }
+        ensures text { IfErr result.1 (λ text. text.now
+            ≡ codes "comments must be separated from other tokens by whitespace") }
         ensures rest { rest self.new ≡ drop result.0 (rest self.old) }
         ensures loaded { 1 ≤ loaded self.new }
     {
@@ -330,8 +335,10 @@ pub trait Input {
     ///
     /// Where `out` can't grow, exactly the characters that were appended have been taken off.
     fn fetch_while_is_alpha(&mut self, out: &mut String) -> Result<usize, AllocError>
-        ensures ok { IfOk result (λ n. spec.TransfersRun class.is_alpha n (rest self.old) (rest self.new) (string_bytes out.old) (string_bytes out.new)) }
-        ensures err { OnErr result (spec.TransfersPart class.is_alpha (rest self.old) (rest self.new) (string_bytes out.old) (string_bytes out.new)) }
+        ensures ok { IfOk result (λ n. spec.TransfersRun class.is_alpha n (rest self.old)
+            (rest self.new) (string_bytes out.old) (string_bytes out.new)) }
+        ensures err { OnErr result (spec.TransfersPart class.is_alpha (rest self.old)
+            (rest self.new) (string_bytes out.old) (string_bytes out.new)) }
         ensures loaded { 1 ≤ loaded self.new }
     {
         let mut count = 0;
@@ -350,8 +357,10 @@ pub trait Input {
     ///
     /// Where `out` can't grow, exactly the characters that were appended have been taken off.
     fn fetch_while_is_yaml_non_space(&mut self, out: &mut String) -> Result<usize, AllocError>
-        ensures ok { IfOk result (λ n. spec.TransfersRun class.is_yaml_non_space n (rest self.old) (rest self.new) (string_bytes out.old) (string_bytes out.new)) }
-        ensures err { OnErr result (spec.TransfersPart class.is_yaml_non_space (rest self.old) (rest self.new) (string_bytes out.old) (string_bytes out.new)) }
+        ensures ok { IfOk result (λ n. spec.TransfersRun class.is_yaml_non_space n (rest self.old)
+            (rest self.new) (string_bytes out.old) (string_bytes out.new)) }
+        ensures err { OnErr result (spec.TransfersPart class.is_yaml_non_space (rest self.old)
+            (rest self.new) (string_bytes out.old) (string_bytes out.new)) }
         ensures loaded { 1 ≤ loaded self.new }
     {
         let mut count = 0;
@@ -363,6 +372,55 @@ pub trait Input {
             c = self.look_ch();
         }
         Ok(count)
+    }
+
+    /// Moves characters of a set to the end of `out`. Gives how many.
+    ///
+    /// Where `out` can't grow, exactly the characters that were appended have been taken off.
+    fn fetch_while<C: CharSet>(&mut self, out: &mut String) -> Result<usize, AllocError>
+        ensures ok { IfOk result (λ n. spec.TransfersRun C.test n (rest self.old) (rest self.new)
+            (string_bytes out.old) (string_bytes out.new)) }
+        ensures err { OnErr result (spec.TransfersPart C.test (rest self.old) (rest self.new)
+            (string_bytes out.old) (string_bytes out.new)) }
+        ensures loaded { 1 ≤ loaded self.new }
+    {
+        let mut count = 0;
+        let mut c = self.look_ch();
+        while C::has(c) {
+            out.push(c)?;
+            self.skip();
+            count += 1;
+            c = self.look_ch();
+        }
+        Ok(count)
+    }
+
+    /// Moves characters of a set to the end of `out`, and single spaces among them before some of
+    /// the set's characters. Gives how many. It may end at any space.
+    fn fetch_words<C: SpacedSet>(&mut self, out: &mut String) -> Result<usize, AllocError>
+        ensures ok { IfOk result (λ n. spec.TransfersWords C.CharSet.test C.lead n (rest self.old)
+            (rest self.new) (string_bytes out.old) (string_bytes out.new)) }
+        ensures err { OnErr result (spec.TransfersPart C.CharSet.test (rest self.old)
+            (rest self.new) (string_bytes out.old) (string_bytes out.new)) }
+        ensures loaded { 1 ≤ loaded self.new }
+    {
+        self.fetch_while::<C>(out)
+    }
+
+    /// Takes spaces off, but no more than `most`. Gives how many.
+    fn skip_spaces(&mut self, most: usize) -> usize
+        ensures count { result ≡ spec.spaces_within most (rest self.old) }
+        ensures rest { rest self.new ≡ drop result (rest self.old) }
+    {
+        let mut count = 0;
+        while count < most {
+            if self.look_ch() != ' ' {
+                break;
+            }
+            self.skip();
+            count += 1;
+        }
+        count
     }
 
     /// At least 8 places can be loaded at once.

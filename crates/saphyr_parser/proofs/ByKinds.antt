@@ -3,24 +3,25 @@ use Rattle.std.specs.Prelude.{is_some}
 use Rattle.std.proofs.Common.{◌≡◌, ◌≢◌, ℕ, zero, suc, ◌<◌, Bool, false, List, [], ◌∷◌, ◌++◌, map, Option, Some, None, Result, Ok, Err, refl, sym, ap, ◌∙◌, arith, ◌⊎◌, inl, inr}
 use Rattle.std.proofs.lemmas.List.{map-append}
 use Rattle.saphyr_scalar.specs.declared.scalar.fault.Refusal.{Refusal}
-use Rattle.saphyr_scanner.specs.Tokens as tokens
-use Rattle.saphyr_scanner.specs.Tokens.{Kind}
-use Rattle.saphyr_scanner.specs.Seen.{Piece, Remaining}
+use Rattle.saphyr_scanner.specs.Grammar.Tokens as tokens
+use Rattle.saphyr_scanner.specs.Grammar.Tokens.{Kind}
+use Rattle.saphyr_scanner.specs.Views.Tokens.{Piece, Remaining}
 use Rattle.saphyr_parser.specs.declared.parser.state.State.{State}
 use Rattle.saphyr_parser.specs.declared.parser.state.State.TheVariants as state
 use Rattle.saphyr_parser.specs.Events.{Happening}
 use Rattle.saphyr_parser.specs.Premises.{DocumentMarker, GivesFirst, behind_marker}
-use Rattle.saphyr_parser.specs.Machine.{Machine, Told}
-use Rattle.saphyr_parser.specs.Steps.{step, step_at}
+use Rattle.saphyr_parser.specs.Steps.Machine.{Machine, Told}
+use Rattle.saphyr_parser.specs.Steps.Expected.{step, step_at}
 use Rattle.saphyr_parser.specs.Answer.{Answer, deliver, remaining, size}
 use Rattle.saphyr_parser.specs.Cursor.{at_start, keeping_tags, to_come}
 use Rattle.saphyr_parser.specs.Exactly.{GivesExactly, TellTheSame, kinds, told_by}
 use Rattle.saphyr_parser.specs.More.{marker_token}
 use Rattle.saphyr_parser.proofs.Unroll.{unroll, over, shrinks_at}
-use Rattle.saphyr_parser.proofs.Placeless.{no_span, placeless_piece, placeless_state, placeless, Same}
-use Rattle.saphyr_parser.proofs.PlacelessDocuments.{steps_same}
-use Rattle.saphyr_parser.proofs.CommonBeginnings.{ended}
-use Rattle.saphyr_parser.proofs.ClosedTokens.{closed_tokens, told_of}
+use Rattle.saphyr_parser.proofs.Placeless.Nodes.{no_span, placeless_piece, placeless_state, placeless, Same}
+use Rattle.saphyr_parser.proofs.Placeless.Documents.{steps_same}
+use Rattle.saphyr_parser.proofs.Promises.CommonBeginnings.{ended}
+use Rattle.saphyr_parser.proofs.Promises.ClosedTokens.{closed_tokens}
+use Rattle.saphyr_parser.proofs.Happenings.{told_of}
 
 -- ## All steps
 
@@ -36,20 +37,32 @@ not_over : (s : State) → s ≢ state.End → placeless_state s ≢ state.End
 not_over (state.FlowSequenceEntryMappingEnd place) h = λ e. absurd (cc)
 not_over s h = h
 
-delivers : (p q : Result Told Refusal) → Same p q → ((x : Told) → p ≡ Ok x → Alike (remaining x.machine) (remaining (placeless x.machine))) → Alike (deliver p remaining) (deliver q remaining)
-delivers (Ok x) q e h = let behind = h x refl in rw e (record { told = ap (λ es. x.what ∷ es) behind.told; fault = behind.fault })
+delivers : (p q : Result Told Refusal) → Same p q
+    → ((x : Told) → p ≡ Ok x → Alike (remaining x.machine) (remaining (placeless x.machine)))
+    → Alike (deliver p remaining) (deliver q remaining)
+delivers (Ok x) q e h = let behind =
+    h x refl in rw e (record { told = ap (λ es. x.what ∷ es) behind.told; fault = behind.fault })
 delivers (Err f) q e h = rw e.1 (record { told = refl; fault = refl })
 
 as_before : (a c b d : Answer) → a ≡ c → b ≡ d → Alike c d → Alike a b
-as_before a c b d e f h = record { told = ap told_of f ∙ h.told ∙ sym (ap told_of e); fault = ap (λ (v : Answer). is_some v.fault) f ∙ h.fault ∙ sym (ap (λ (v : Answer). is_some v.fault) e) }
+as_before a c b d e f h =
+    record {
+      told = ap told_of f ∙ h.told ∙ sym (ap told_of e);
+      fault =
+          ap (λ (v : Answer). is_some v.fault) f ∙ h.fault ∙ sym (ap (λ (v : Answer). is_some v.fault) e);
+    }
 
-first_step : (m : Machine) → ((x : Told) → step m ≡ Ok x → Alike (remaining x.machine) (remaining (placeless x.machine))) → Alike (remaining m) (remaining (placeless m))
+first_step : (m : Machine)
+    → ((x : Told) → step m ≡ Ok x → Alike (remaining x.machine) (remaining (placeless x.machine)))
+    → Alike (remaining m) (remaining (placeless m))
 unfolding step
 first_step m next = by (ended m.state)
   where
     by : (m.state ≡ state.End) ⊎ (m.state ≢ state.End) → Alike (remaining m) (remaining (placeless m))
-    by (inl e) = as_before _ _ _ _ (over m e) (over (placeless m) (over_too m.state e)) (record { told = refl; fault = refl })
-    by (inr h) = as_before _ _ _ _ (unroll m h) (unroll (placeless m) (not_over m.state h)) (delivers (step_at m.state m) (step_at (placeless_state m.state) (placeless m)) (steps_same m.state m) next)
+    by (inl e) = as_before _ _ _ _ (over m e) (over (placeless m) (over_too m.state e))
+        (record { told = refl; fault = refl })
+    by (inr h) = as_before _ _ _ _ (unroll m h) (unroll (placeless m) (not_over m.state h))
+        (delivers (step_at m.state m) (step_at (placeless_state m.state) (placeless m)) (steps_same m.state m) next)
 
 runs : (n : ℕ) (m : Machine) → size m < n → Alike (remaining m) (remaining (placeless m))
 runs zero m l = absurd (omega (arith, l))
@@ -64,17 +77,20 @@ same_pieces (t ∷ ts) [] e = absurd (cc)
 same_pieces (t ∷ ts) (u ∷ us) e =
     let first : t.kind ≡ u.kind = cc in
     let others : kinds ts ≡ kinds us = cc in
-    ap (λ k. record { span = no_span; kind = k } ∷ map placeless_piece ts) first ∙ ap (λ vs. placeless_piece u ∷ vs) (same_pieces ts us others)
+    ap (λ k. record { span = no_span; kind = k } ∷ map placeless_piece ts) first
+    ∙ ap (λ vs. placeless_piece u ∷ vs) (same_pieces ts us others)
 
 -- the machine of a parser at the start of tokens
 abbrev start : Bool → Remaining → Machine
 start keep tokens = (keeping_tags keep (at_start tokens)).machine
 
-alike : (keep : Bool) (a b : Remaining) → kinds a.pieces ≡ kinds b.pieces → Alike (to_come (keeping_tags keep (at_start a))) (to_come (keeping_tags keep (at_start b)))
+alike : (keep : Bool) (a b : Remaining) → kinds a.pieces ≡ kinds b.pieces
+    → Alike (to_come (keeping_tags keep (at_start a))) (to_come (keeping_tags keep (at_start b)))
 alike keep a b e =
     let x = runs (suc (size (start keep a))) (start keep a) (omega arith) in
     let y = runs (suc (size (start keep b))) (start keep b) (omega arith) in
-    let same : placeless (start keep a) ≡ placeless (start keep b) = ap (λ ts. start keep (record { pieces = ts; refusal = None })) (same_pieces a.pieces b.pieces e) in
+    let same : placeless (start keep a) ≡ placeless (start keep b) =
+    ap (λ ts. start keep (record { pieces = ts; refusal = None })) (same_pieces a.pieces b.pieces e) in
     record {
       told = sym y.told ∙ ap (λ m. told_of (remaining m)) (sym same) ∙ x.told;
       fault = sym y.fault ∙ ap (λ (m : Machine). is_some (remaining m).fault) (sym same) ∙ x.fault;
@@ -89,14 +105,16 @@ none_if None e = refl
 none_if (Some x) e = absurd (cc)
 
 pub exactly_too :
-    (keep : Bool) (a b : Remaining) (es : List Happening) → kinds a.pieces ≡ kinds b.pieces → GivesExactly es (to_come (keeping_tags keep (at_start a)))
+    (keep : Bool) (a b : Remaining) (es : List Happening) → kinds a.pieces ≡ kinds b.pieces
+    → GivesExactly es (to_come (keeping_tags keep (at_start a)))
     → GivesExactly es (to_come (keeping_tags keep (at_start b)))
 exactly_too keep a b es e g =
     let same = alike keep a b e in
     (none_if (to_come (keeping_tags keep (at_start b))).fault (same.fault ∙ ap is_some g.0), same.told ∙ g.1)
 
 pub first_too :
-    (keep : Bool) (a b : Remaining) (es : List Happening) → kinds a.pieces ≡ kinds b.pieces → GivesFirst es (to_come (keeping_tags keep (at_start a)))
+    (keep : Bool) (a b : Remaining) (es : List Happening) → kinds a.pieces ≡ kinds b.pieces
+    → GivesFirst es (to_come (keeping_tags keep (at_start a)))
     → GivesFirst es (to_come (keeping_tags keep (at_start b)))
 first_too keep a b es e g = (g.0, (alike keep a b e).told ∙ g.1)
 
@@ -115,15 +133,20 @@ all_kinds ks ls = ap kinds (sym (map-append piece_of ks ls)) ∙ kinds_of (ks ++
 -- Tokens end with a marker's and the end of the stream, and give exactly these events. Where others follow the marker's
 -- token, the events up to and with the marker's come first.
 pub closed_kinds :
-    (keep : Bool) (w : DocumentMarker) (earlier more : List Kind) (alone : List Piece) (followed : Remaining) (first : List Happening)
-    → kinds alone ≡ earlier ++ marker_token w ∷ tokens.StreamEnd ∷ [] → kinds followed.pieces ≡ earlier ++ marker_token w ∷ more
-    → GivesExactly (first ++ behind_marker w) (told_by keep alone) → GivesFirst first (to_come (keeping_tags keep (at_start followed)))
+    (keep : Bool) (w : DocumentMarker) (earlier more : List Kind) (alone : List Piece) (followed : Remaining)
+    (first : List Happening)
+    → kinds alone ≡ earlier ++ marker_token w ∷ tokens.StreamEnd ∷ []
+    → kinds followed.pieces ≡ earlier ++ marker_token w ∷ more
+    → GivesExactly (first ++ behind_marker w) (told_by keep alone)
+    → GivesFirst first (to_come (keeping_tags keep (at_start followed)))
 closed_kinds keep w earlier more alone followed first a f g =
     let last : Piece = piece_of (marker_token w) in
     let end : Piece = piece_of tokens.StreamEnd in
     let ending : List Piece = map piece_of earlier ++ last ∷ end ∷ [] in
     let others : List Piece = map piece_of earlier ++ last ∷ map piece_of more in
-    let given = exactly_too keep (record { pieces = alone; refusal = None }) (record { pieces = ending; refusal = None }) (first ++ behind_marker w)
+    let given = exactly_too keep (record { pieces = alone; refusal = None })
+    (record { pieces = ending; refusal = None }) (first ++ behind_marker w)
     (a ∙ sym (all_kinds earlier (marker_token w ∷ tokens.StreamEnd ∷ []))) g in
-    first_too keep (record { pieces = others; refusal = None }) followed first (all_kinds earlier (marker_token w ∷ more) ∙ sym f)
+    first_too keep (record { pieces = others; refusal = None }) followed first
+    (all_kinds earlier (marker_token w ∷ more) ∙ sym f)
     (closed_tokens keep w (map piece_of earlier) (map piece_of more) last end None first refl refl given)

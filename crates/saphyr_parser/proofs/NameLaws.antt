@@ -9,7 +9,7 @@ use Rattle.std.specs.Str.{bytes_eq}
 use Rattle.std.proofs.lemmas.Map.Text.{is_eq-slice_cmp}
 use Rattle.std.proofs.lemmas.Map.Lookups.{exact_bytes}
 use Rattle.std.proofs.lemmas.Slice.Eq.{bytes_eq-Decides}
-use Rattle.saphyr_parser.specs.Machine.{Names, meaning, given, is_listed, listed}
+use Rattle.saphyr_parser.specs.Steps.Machine.{Names, meaning, given, is_listed, listed}
 
 -- a name that comes behind another is another name
 behind_is_other : (a b : List ℕ) → slice_cmp nat_cmp a b ≡ Greater → bytes_eq a b ≡ false
@@ -18,7 +18,8 @@ behind_is_other a b h = sym (is_eq-slice_cmp a b) ∙ ap is_eq h
 -- ## Meanings
 
 -- the tests of two names on a third are not both passed, where that one is not the first
-order : {X : Type 0} (a b : Bool) (x y : X) (o : Option X) → (a ≡ true → b ≡ true → ⊥) → cond a (Some x) (cond b (Some y) o) ≡ cond b (Some y) (cond a (Some x) o)
+order : {X : Type 0} (a b : Bool) (x y : X) (o : Option X) → (a ≡ true → b ≡ true → ⊥)
+    → cond a (Some x) (cond b (Some y) o) ≡ cond b (Some y) (cond a (Some x) o)
 order true true x y o h = absurd (h refl refl)
 order true false x y o h = refl
 order false true x y o h = refl
@@ -34,27 +35,45 @@ found name es = lookup (λ (k : List ℕ). bytes_eq name k) es
 found_meaning : {X : Type 0} (name : List ℕ) (es : Names X) → meaning name es ≡ found name es
 unfolding found
 found_meaning name [] = refl
-found_meaning {X} name (e ∷ es) = ap (λ (b : Bool). cond b (Some e.1) (meaning name es)) (is_eq-slice_cmp name e.0) ∙ ap (λ (o : Option X). cond (bytes_eq name e.0) (Some e.1) o) (found_meaning name es)
+found_meaning {X} name (e ∷ es) =
+    ap (λ (b : Bool). cond b (Some e.1) (meaning name es)) (is_eq-slice_cmp name e.0)
+    ∙ ap (λ (o : Option X). cond (bytes_eq name e.0) (Some e.1) o) (found_meaning name es)
 
-not_both : (name other key : List ℕ) → bytes_eq other key ≡ false → bytes_eq name key ≡ true → bytes_eq name other ≡ true → ⊥
+not_both : (name other key : List ℕ) → bytes_eq other key ≡ false → bytes_eq name key ≡ true
+    → bytes_eq name other ≡ true → ⊥
 not_both name other key h a b =
     let x : name ≡ key = (bytes_eq-Decides name key).0 a in
     let y : name ≡ other = (bytes_eq-Decides name other).0 b in
     let z : bytes_eq other key ≡ true = (bytes_eq-Decides other key).1 (sym y ∙ x) in
     let no : true ≡ false = sym z ∙ h in cc
 
-given_found : {X : Type 0} (name other : List ℕ) (x : X) (es : Names X) → found name (given other x es) ≡ cond (bytes_eq name other) (Some x) (found name es)
+given_found : {X : Type 0} (name other : List ℕ) (x : X) (es : Names X)
+    → found name (given other x es) ≡ cond (bytes_eq name other) (Some x) (found name es)
 unfolding found
 given_found name other x [] = refl
 given_found {X} name other x (e ∷ es) = by (slice_cmp nat_cmp other e.0) refl (given_found name other x es)
   where
-    by : (o : Ordering) → slice_cmp nat_cmp other e.0 ≡ o → lookup (λ (k : List ℕ). bytes_eq name k) (given other x es) ≡ cond (bytes_eq name other) (Some x) (lookup (λ (k : List ℕ). bytes_eq name k) es) → lookup (λ (k : List ℕ). bytes_eq name k) (match_ordering o ((other, x) ∷ e ∷ es) ((e.0, x) ∷ es) (e ∷ given other x es)) ≡ cond (bytes_eq name other) (Some x) (cond (bytes_eq name e.0) (Some e.1) (lookup (λ (k : List ℕ). bytes_eq name k) es))
+    by : (o : Ordering) → slice_cmp nat_cmp other e.0 ≡ o
+        → lookup (λ (k : List ℕ). bytes_eq name k) (given other x es)
+        ≡ cond (bytes_eq name other) (Some x) (lookup (λ (k : List ℕ). bytes_eq name k) es)
+        → lookup (λ (k : List ℕ). bytes_eq name k)
+        (match_ordering o ((other, x) ∷ e ∷ es) ((e.0, x) ∷ es) (e ∷ given other x es))
+        ≡ cond (bytes_eq name other) (Some x)
+        (cond (bytes_eq name e.0) (Some e.1) (lookup (λ (k : List ℕ). bytes_eq name k) es))
     by Less h ih = refl
-    by Equal h ih = twice (bytes_eq name e.0) x e.1 _ ∙ ap (λ (k : List ℕ). cond (bytes_eq name k) (Some x) (cond (bytes_eq name e.0) (Some e.1) (lookup (λ (k : List ℕ). bytes_eq name k) es))) (sym (exact_bytes other e.0 h))
-    by Greater h ih = ap (λ (o : Option X). cond (bytes_eq name e.0) (Some e.1) o) ih ∙ order (bytes_eq name e.0) (bytes_eq name other) e.1 x _ (not_both name other e.0 (behind_is_other other e.0 h))
+    by Equal h ih = twice (bytes_eq name e.0) x e.1 _
+        ∙ ap (λ (k : List ℕ). cond (bytes_eq name k) (Some x)
+        (cond (bytes_eq name e.0) (Some e.1) (lookup (λ (k : List ℕ). bytes_eq name k) es)))
+        (sym (exact_bytes other e.0 h))
+    by Greater h ih = ap (λ (o : Option X). cond (bytes_eq name e.0) (Some e.1) o) ih
+        ∙ order (bytes_eq name e.0) (bytes_eq name other) e.1 x _
+        (not_both name other e.0 (behind_is_other other e.0 h))
 
-pub given_meaning : {X : Type 0} (name other : List ℕ) (x : X) (es : Names X) → meaning name (given other x es) ≡ (if bytes_eq name other then Some x else meaning name es)
-given_meaning {X} name other x es = found_meaning name (given other x es) ∙ given_found name other x es ∙ ap (λ (o : Option X). cond (bytes_eq name other) (Some x) o) (sym (found_meaning name es))
+pub given_meaning : {X : Type 0} (name other : List ℕ) (x : X) (es : Names X)
+    → meaning name (given other x es) ≡ (if bytes_eq name other then Some x else meaning name es)
+given_meaning {X} name other x es =
+    found_meaning name (given other x es) ∙ given_found name other x es
+    ∙ ap (λ (o : Option X). cond (bytes_eq name other) (Some x) o) (sym (found_meaning name es))
 
 -- ## Lists of names
 
@@ -68,14 +87,21 @@ once : (a r : Bool) → (a || r) ≡ (a || (a || r))
 once true r = refl
 once false r = refl
 
-pub listed_test : (name other : List ℕ) (names : List (List ℕ)) → is_listed name (listed other names) ≡ (is_at (slice_cmp nat_cmp name) other || is_listed name names)
+pub listed_test : (name other : List ℕ) (names : List (List ℕ))
+    → is_listed name (listed other names) ≡ (is_at (slice_cmp nat_cmp name) other || is_listed name names)
 listed_test name other [] = refl
 listed_test name other (k ∷ ks) = by (slice_cmp nat_cmp other k) refl (listed_test name other ks)
   where
-    by : (o : Ordering) → slice_cmp nat_cmp other k ≡ o → is_listed name (listed other ks) ≡ (is_at (slice_cmp nat_cmp name) other || is_listed name ks) → is_listed name (match_ordering o (other ∷ k ∷ ks) (k ∷ ks) (k ∷ listed other ks)) ≡ (is_at (slice_cmp nat_cmp name) other || (is_at (slice_cmp nat_cmp name) k || is_listed name ks))
+    by : (o : Ordering) → slice_cmp nat_cmp other k ≡ o
+        → is_listed name (listed other ks) ≡ (is_at (slice_cmp nat_cmp name) other || is_listed name ks)
+        → is_listed name (match_ordering o (other ∷ k ∷ ks) (k ∷ ks) (k ∷ listed other ks))
+        ≡ (is_at (slice_cmp nat_cmp name) other || (is_at (slice_cmp nat_cmp name) k || is_listed name ks))
     by Less h ih = refl
-    by Equal h ih = once (is_at (slice_cmp nat_cmp name) k) (is_listed name ks) ∙ ap (λ (x : List ℕ). is_at (slice_cmp nat_cmp name) x || (is_at (slice_cmp nat_cmp name) k || is_listed name ks)) (sym (exact_bytes other k h))
-    by Greater h ih = ap (λ b. is_at (slice_cmp nat_cmp name) k || b) ih ∙ either (is_at (slice_cmp nat_cmp name) k) (is_at (slice_cmp nat_cmp name) other) (is_listed name ks)
+    by Equal h ih = once (is_at (slice_cmp nat_cmp name) k) (is_listed name ks)
+        ∙ ap (λ (x : List ℕ). is_at (slice_cmp nat_cmp name) x
+        || (is_at (slice_cmp nat_cmp name) k || is_listed name ks)) (sym (exact_bytes other k h))
+    by Greater h ih = ap (λ b. is_at (slice_cmp nat_cmp name) k || b) ih
+        ∙ either (is_at (slice_cmp nat_cmp name) k) (is_at (slice_cmp nat_cmp name) other) (is_listed name ks)
 
 pub different : (a b : List ℕ) → a ≢ b → bytes_eq a b ≡ false
 different a b h = by (bytes_eq a b) refl
@@ -85,7 +111,9 @@ different a b h = by (bytes_eq a b) refl
     by true e = absurd (h ((bytes_eq-Decides a b).0 e))
 
 -- another name is listed if it was
-pub still_unlisted : (name other : List ℕ) (names : List (List ℕ)) → other ≢ name → is_listed name names ≡ false → is_listed name (listed other names) ≡ false
+pub still_unlisted : (name other : List ℕ) (names : List (List ℕ)) → other ≢ name → is_listed name names ≡ false
+    → is_listed name (listed other names) ≡ false
 still_unlisted name other names h u =
-    let test : is_at (slice_cmp nat_cmp name) other ≡ false = is_eq-slice_cmp name other ∙ different name other (λ e. h (sym e)) in
+    let test : is_at (slice_cmp nat_cmp name) other ≡ false = is_eq-slice_cmp name other
+    ∙ different name other (λ e. h (sym e)) in
     listed_test name other names ∙ rw (test, u) refl

@@ -9,28 +9,35 @@ use Rattle.std.specs.Map.{lookup}
 use Rattle.std.specs.Ordering.{nat_cmp, match_ordering}
 use Rattle.std.specs.declared.cmp.Ordering.{Ordering}
 use Rattle.std.specs.declared.cmp.Ordering.TheVariants.{Less, Equal, Greater}
-use Rattle.saphyr_parser.specs.Machine.{Names, meaning, given, is_listed, listed}
+use Rattle.saphyr_parser.specs.Steps.Machine.{Names, meaning, given, is_listed, listed}
 use Rattle.saphyr_parser.specs.Names.{ids_of, texts_of, names_of}
 
 abbrev pub seen : {A X Z : Type 0} → (X → Z) → List (String A × X) → Names Z
 seen {A} {X} {Z} f es = map (λ (e : String A × X). (string_bytes e.0, f e.1)) es
 
-chosen : {A X Z : Type 0} (f : X → Z) (o : Ordering) (a b c : List (String A × X)) → seen f (match_ordering o a b c) ≡ match_ordering o (seen f a) (seen f b) (seen f c)
+chosen : {A X Z : Type 0} (f : X → Z) (o : Ordering) (a b c : List (String A × X))
+    → seen f (match_ordering o a b c) ≡ match_ordering o (seen f a) (seen f b) (seen f c)
 chosen f Less a b c = refl
 chosen f Equal a b c = refl
 chosen f Greater a b c = refl
 
-inserted : {A X Z : Type 0} (f : X → Z) (es : List (String A × X)) (k : String A) (v : X) → seen f (insert_entry string_cmp es k v) ≡ insert_entry (slice_cmp nat_cmp) (seen f es) (string_bytes k) (f v)
+inserted : {A X Z : Type 0} (f : X → Z) (es : List (String A × X)) (k : String A) (v : X)
+    → seen f (insert_entry string_cmp es k v) ≡ insert_entry (slice_cmp nat_cmp) (seen f es) (string_bytes k) (f v)
 inserted f [] k v = refl
 inserted {A} {X} {Z} f (e ∷ es) k v =
     chosen f (string_cmp k e.0) ((k, v) ∷ e ∷ es) ((e.0, v) ∷ es) (e ∷ insert_entry string_cmp es k v)
-    ∙ ap (λ (r : Names Z). match_ordering (slice_cmp nat_cmp (string_bytes k) (string_bytes e.0)) ((string_bytes k, f v) ∷ seen f (e ∷ es)) ((string_bytes e.0, f v) ∷ seen f es) ((string_bytes e.0, f e.1) ∷ r)) (inserted f es k v)
+    ∙ ap (λ (r : Names Z). match_ordering (slice_cmp nat_cmp (string_bytes k) (string_bytes e.0))
+    ((string_bytes k, f v) ∷ seen f (e ∷ es)) ((string_bytes e.0, f v) ∷ seen f es) ((string_bytes e.0, f e.1) ∷ r))
+    (inserted f es k v)
 
-split : {X Z : Type 0} (f : X → Z) (b : Bool) (x : X) (o : Option X) → option_map f (cond b (Some x) o) ≡ cond b (Some (f x)) (option_map f o)
+split : {X Z : Type 0} (f : X → Z) (b : Bool) (x : X) (o : Option X)
+    → option_map f (cond b (Some x) o) ≡ cond b (Some (f x)) (option_map f o)
 split f true x o = refl
 split f false x o = refl
 
-found : {A X Z : Type 0} (f : X → Z) (name : List ℕ) (es : List (String A × X)) → option_map f (lookup (is_at (λ (k : String A). slice_cmp nat_cmp name (string_bytes k))) es) ≡ meaning name (seen f es)
+found : {A X Z : Type 0} (f : X → Z) (name : List ℕ) (es : List (String A × X))
+    → option_map f (lookup (is_at (λ (k : String A). slice_cmp nat_cmp name (string_bytes k))) es)
+    ≡ meaning name (seen f es)
 found f name [] = refl
 found {A} {X} {Z} f name (e ∷ es) =
     let here : Bool = is_at (slice_cmp nat_cmp name) (string_bytes e.0) in
@@ -41,16 +48,22 @@ kept : {X : Type 0} (o : Option X) → option_map (λ x. x) o ≡ o
 kept None = refl
 kept (Some x) = refl
 
-pub ids_given : {A : Type 0} (m n : BTreeMap (String A) ℕ) (name : String A) (id : ℕ) → n.entries ≡ insert_entry string_cmp m.entries name id → ids_of n ≡ given (string_bytes name) id (ids_of m)
+pub ids_given : {A : Type 0} (m n : BTreeMap (String A) ℕ) (name : String A) (id : ℕ)
+    → n.entries ≡ insert_entry string_cmp m.entries name id → ids_of n ≡ given (string_bytes name) id (ids_of m)
 ids_given m n name id e = rw e (inserted (λ (x : ℕ). x) m.entries name id)
 
-pub ids_meaning : {A : Type 0} (m : BTreeMap (String A) ℕ) (name : List ℕ) → get_by (λ (k : String A). slice_cmp nat_cmp name (string_bytes k)) m ≡ meaning name (ids_of m)
+pub ids_meaning : {A : Type 0} (m : BTreeMap (String A) ℕ) (name : List ℕ)
+    → get_by (λ (k : String A). slice_cmp nat_cmp name (string_bytes k)) m ≡ meaning name (ids_of m)
 ids_meaning m name = sym (kept _) ∙ found (λ (x : ℕ). x) name m.entries
 
-pub texts_given : {A : Type 0} (m n : BTreeMap (String A) (String A)) (handle prefix : String A) → n.entries ≡ insert_entry string_cmp m.entries handle prefix → texts_of n ≡ given (string_bytes handle) (string_bytes prefix) (texts_of m)
+pub texts_given : {A : Type 0} (m n : BTreeMap (String A) (String A)) (handle prefix : String A)
+    → n.entries ≡ insert_entry string_cmp m.entries handle prefix
+    → texts_of n ≡ given (string_bytes handle) (string_bytes prefix) (texts_of m)
 texts_given m n handle prefix e = rw e (inserted string_bytes m.entries handle prefix)
 
-pub texts_meaning : {A : Type 0} (m : BTreeMap (String A) (String A)) (handle : List ℕ) → option_map string_bytes (get_by (λ (k : String A). slice_cmp nat_cmp handle (string_bytes k)) m) ≡ meaning handle (texts_of m)
+pub texts_meaning : {A : Type 0} (m : BTreeMap (String A) (String A)) (handle : List ℕ)
+    → option_map string_bytes (get_by (λ (k : String A). slice_cmp nat_cmp handle (string_bytes k)) m)
+    ≡ meaning handle (texts_of m)
 texts_meaning m handle = found string_bytes handle m.entries
 
 -- ## Sets
@@ -58,23 +71,29 @@ texts_meaning m handle = found string_bytes handle m.entries
 abbrev texts : {A : Type 0} → List (String A) → List (List ℕ)
 texts {A} ks = map (λ (k : String A). string_bytes k) ks
 
-among : {A : Type 0} (o : Ordering) (a b c : List (String A)) → texts (match_ordering o a b c) ≡ match_ordering o (texts a) (texts b) (texts c)
+among : {A : Type 0} (o : Ordering) (a b c : List (String A))
+    → texts (match_ordering o a b c) ≡ match_ordering o (texts a) (texts b) (texts c)
 among Less a b c = refl
 among Equal a b c = refl
 among Greater a b c = refl
 
-added : {A : Type 0} (ks : List (String A)) (k : String A) → texts (insert_key string_cmp ks k) ≡ listed (string_bytes k) (texts ks)
+added : {A : Type 0} (ks : List (String A)) (k : String A)
+    → texts (insert_key string_cmp ks k) ≡ listed (string_bytes k) (texts ks)
 added [] k = refl
 added (x ∷ ks) k =
     among (string_cmp k x) (k ∷ x ∷ ks) (x ∷ ks) (x ∷ insert_key string_cmp ks k)
-    ∙ ap (λ (r : List (List ℕ)). match_ordering (slice_cmp nat_cmp (string_bytes k) (string_bytes x)) (string_bytes k ∷ texts (x ∷ ks)) (texts (x ∷ ks)) (string_bytes x ∷ r)) (added ks k)
+    ∙ ap (λ (r : List (List ℕ)). match_ordering (slice_cmp nat_cmp (string_bytes k) (string_bytes x))
+    (string_bytes k ∷ texts (x ∷ ks)) (texts (x ∷ ks)) (string_bytes x ∷ r)) (added ks k)
 
-has : {A : Type 0} (ks : List (String A)) (name : List ℕ) → list_any (is_at (λ (k : String A). slice_cmp nat_cmp name (string_bytes k))) ks ≡ is_listed name (texts ks)
+has : {A : Type 0} (ks : List (String A)) (name : List ℕ)
+    → list_any (is_at (λ (k : String A). slice_cmp nat_cmp name (string_bytes k))) ks ≡ is_listed name (texts ks)
 has [] name = refl
 has (x ∷ ks) name = ap (λ b. is_at (slice_cmp nat_cmp name) (string_bytes x) || b) (has ks name)
 
-pub names_listed : {A : Type 0} (s n : BTreeSet (String A)) (name : String A) → n.keys ≡ insert_key string_cmp s.keys name → names_of n ≡ listed (string_bytes name) (names_of s)
+pub names_listed : {A : Type 0} (s n : BTreeSet (String A)) (name : String A)
+    → n.keys ≡ insert_key string_cmp s.keys name → names_of n ≡ listed (string_bytes name) (names_of s)
 names_listed s n name e = rw e (added s.keys name)
 
-pub name_listed : {A : Type 0} (s : BTreeSet (String A)) (name : List ℕ) → contains_by (λ (k : String A). slice_cmp nat_cmp name (string_bytes k)) s ≡ is_listed name (names_of s)
+pub name_listed : {A : Type 0} (s : BTreeSet (String A)) (name : List ℕ)
+    → contains_by (λ (k : String A). slice_cmp nat_cmp name (string_bytes k)) s ≡ is_listed name (names_of s)
 name_listed s name = has s.keys name

@@ -2,25 +2,25 @@
 use Rattle.std.proofs.Common.{◌≡◌, ◌≢◌, ℕ, List, [], ◌∷◌, ◌++◌, Option, Some, None, option_map, refl, subst, sym, ap, ◌∙◌, ◌⊎◌, inl, inr, append_assoc}
 use lib.Utf8.{encode}
 use Rattle.saphyr_scalar.specs.declared.scalar.position.Span.{Span}
-use Rattle.saphyr_scanner.specs.Forest.{Tag, NonSpecific, Verbatim, Shorthand, HasOne, HasProperty, Properties, Node, Nodes, NoNode, MoreNodes}
-use Rattle.saphyr_scanner.specs.Forest as forest
-use Rattle.saphyr_scanner.specs.Tokens as tokens
-use Rattle.saphyr_scanner.specs.Tokens.{Kind, alias_token, anchor_token, tag_token, scalar_token}
-use Rattle.saphyr_scanner.specs.TokenGrammar as grammar
-use Rattle.saphyr_scanner.specs.TokenGrammar.{InFlow, InBlock, InBlockMapping, AllowsBlock, IsInBlockMapping, AreBoth, AreProperties, IsOptional, IsNode}
-use Rattle.saphyr_scanner.specs.Seen.{Piece}
+use Rattle.saphyr_scanner.specs.Grammar.Forest.{Tag, NonSpecific, Verbatim, Shorthand, HasOne, HasProperty, Properties, Node, Nodes, NoNode, MoreNodes}
+use Rattle.saphyr_scanner.specs.Grammar.Forest as forest
+use Rattle.saphyr_scanner.specs.Grammar.Tokens as tokens
+use Rattle.saphyr_scanner.specs.Grammar.Tokens.{Kind, alias_token, anchor_token, tag_token, scalar_token}
+use Rattle.saphyr_scanner.specs.Grammar.TokenGrammar as grammar
+use Rattle.saphyr_scanner.specs.Grammar.TokenGrammar.{InFlow, InBlock, InBlockMapping, AllowsBlock, IsInBlockMapping, AreBoth, YieldProperties, YieldsOptional, YieldsNode}
+use Rattle.saphyr_scanner.specs.Views.Tokens.{Piece}
 use Rattle.saphyr_parser.specs.declared.parser.context.Context.{Context}
 use Rattle.saphyr_parser.specs.declared.parser.context.Context.TheVariants.{Flow, Block, BlockMapping}
 use Rattle.saphyr_parser.specs.declared.parser.state.State.{State}
 use Rattle.saphyr_parser.specs.declared.parser.state.State.TheVariants.{End}
 use Rattle.saphyr_parser.specs.Preorder.{Part, Leaf, node_parts}
-use Rattle.saphyr_parser.specs.Machine.{Machine, told, empty_scalar}
-use Rattle.saphyr_parser.specs.NodeSteps as steps
-use Rattle.saphyr_parser.specs.NodeSteps.{without_content, content_at}
-use Rattle.saphyr_parser.specs.Steps.{step}
-use Rattle.saphyr_parser.proofs.Telling.{Spans, Memory, at}
+use Rattle.saphyr_parser.specs.Steps.Machine.{Machine, told, empty_scalar}
+use Rattle.saphyr_parser.specs.Steps.Nodes as steps
+use Rattle.saphyr_parser.specs.Steps.Nodes.{without_content, content_at}
+use Rattle.saphyr_parser.specs.Steps.Expected.{step}
+use Rattle.saphyr_parser.proofs.Told.Telling.{Spans, Memory, at}
 use Rattle.saphyr_parser.proofs.Remembering.{after_node, Says, Tells, plainly}
-use Rattle.saphyr_parser.proofs.NodeTells.{next_node, IsContent}
+use Rattle.saphyr_parser.proofs.Told.Nodes.{next_node, IsContent}
 
 abbrev pub context_of : grammar.Context → Context
 context_of InFlow = Flow
@@ -53,36 +53,56 @@ tag_starts c (Verbatim uri) = tt
 tag_starts c (Shorthand handle suffix) = tt
 
 -- tokens that begin with properties, or else with content
-property_head : (c : grammar.Context) (anchor : Option (List ℕ)) (tag : Option Tag) (front content t : List Kind) → AreBoth (option_map anchor_token anchor) (option_map tag_token tag) front → HasOne anchor tag ⊎ Head c content → t ≡ front ++ content → Head c t
+property_head : (c : grammar.Context) (anchor : Option (List ℕ)) (tag : Option Tag) (front content t : List Kind)
+    → AreBoth (option_map anchor_token anchor) (option_map tag_token tag) front → HasOne anchor tag ⊎ Head c content
+    → t ≡ front ++ content → Head c t
 property_head c None None front content t h (inl z) e = absurd z
-property_head c None None front content t h (inr d) e = record { first = d.first; others = d.others; is = e ∙ ap (λ l. l ++ content) h ∙ d.is; starts = d.starts }
-property_head c (Some a) None front content t h z e = record { first = anchor_token a; others = content; is = e ∙ ap (λ l. l ++ content) h; starts = tt }
-property_head c None (Some g) front content t h z e = record { first = tag_token g; others = content; is = e ∙ ap (λ l. l ++ content) h; starts = tag_starts c g }
-property_head c (Some a) (Some g) front content t (inl h) z e = record { first = anchor_token a; others = tag_token g ∷ content; is = e ∙ ap (λ l. l ++ content) h; starts = tt }
-property_head c (Some a) (Some g) front content t (inr h) z e = record { first = tag_token g; others = anchor_token a ∷ content; is = e ∙ ap (λ l. l ++ content) h; starts = tag_starts c g }
+property_head c None None front content t h (inr d) e =
+    record { first = d.first; others = d.others; is = e ∙ ap (λ l. l ++ content) h ∙ d.is; starts = d.starts }
+property_head c (Some a) None front content t h z e =
+    record { first = anchor_token a; others = content; is = e ∙ ap (λ l. l ++ content) h; starts = tt }
+property_head c None (Some g) front content t h z e =
+    record { first = tag_token g; others = content; is = e ∙ ap (λ l. l ++ content) h; starts = tag_starts c g }
+property_head c (Some a) (Some g) front content t (inl h) z e =
+    record { first = anchor_token a; others = tag_token g ∷ content; is = e ∙ ap (λ l. l ++ content) h; starts = tt }
+property_head c (Some a) (Some g) front content t (inr h) z e =
+    record {
+      first = tag_token g;
+      others =
+          anchor_token a ∷ content;
+      is = e ∙ ap (λ l. l ++ content) h;
+      starts = tag_starts c g;
+    }
 
 begins_with : (c : grammar.Context) (k : Kind) (ks t : List Kind) → t ≡ k ∷ ks → Starts c k → Head c t
 begins_with c k ks t e s = record { first = k; others = ks; is = e; starts = s }
 
-scalar_head : (c : grammar.Context) (p : Properties) (style : forest.Style) (value : List ℕ) (content : List Kind) → grammar.IsScalar p style value content → HasProperty p ⊎ Head c content
+scalar_head : (c : grammar.Context) (p : Properties) (style : forest.Style) (value : List ℕ) (content : List Kind)
+    → grammar.YieldsScalar p style value content → HasProperty p ⊎ Head c content
 scalar_head c p style value content (inl e) = inr (begins_with c (scalar_token style value) [] content e tt)
 scalar_head c p style value content (inr h) = inl h.0
 
-sequence_head : (c : grammar.Context) (nodes : Nodes) (content : List Kind) → grammar.IsSequence nodes c (grammar.AreFlowEntries nodes) (grammar.AreBlockEntries nodes) content → Head c content
+sequence_head : (c : grammar.Context) (nodes : Nodes) (content : List Kind)
+    → grammar.YieldsSequence nodes c (grammar.YieldFlowEntries nodes) (grammar.YieldBlockEntries nodes) content
+    → Head c content
 sequence_head c nodes content (inl h) = begins_with c tokens.FlowSequenceStart _ content h.2 tt
 sequence_head c nodes content (inr (inl h)) = begins_with c tokens.BlockSequenceStart _ content h.1.2 h.0
 sequence_head c NoNode content (inr (inr h)) = absurd h.1
 sequence_head c (MoreNodes node nodes) content (inr (inr h)) = begins_with c tokens.BlockEntry _ content h.2.4 h.0
 
-mapping_head : (c : grammar.Context) (pairs : forest.Pairs) (content : List Kind) → grammar.IsMapping c (grammar.AreFlowPairs pairs) (grammar.AreBlockPairs pairs) content → Head c content
+mapping_head : (c : grammar.Context) (pairs : forest.Pairs) (content : List Kind)
+    → grammar.YieldsMapping c (grammar.YieldFlowPairs pairs) (grammar.YieldBlockPairs pairs) content → Head c content
 mapping_head c pairs content (inl h) = begins_with c tokens.FlowMappingStart _ content h.2 tt
 mapping_head c pairs content (inr h) = begins_with c tokens.BlockMappingStart _ content h.1.2 h.0
 
-pub node_head : (n : Node) (c : grammar.Context) (t : List Kind) → IsNode n c t → Head c t
+pub node_head : (n : Node) (c : grammar.Context) (t : List Kind) → YieldsNode n c t → Head c t
 node_head (forest.Alias name) c t h = begins_with c (alias_token name) [] t h tt
-node_head (forest.Scalar p style value) c t h = property_head c p.anchor p.tag h.0 h.1 t h.2 (scalar_head c p style value h.1 h.3) h.4
-node_head (forest.Seq p nodes) c t h = property_head c p.anchor p.tag h.0 h.1 t h.2 (inr (sequence_head c nodes h.1 h.3)) h.4
-node_head (forest.Map p pairs) c t h = property_head c p.anchor p.tag h.0 h.1 t h.2 (inr (mapping_head c pairs h.1 h.3)) h.4
+node_head (forest.Scalar p style value) c t h =
+    property_head c p.anchor p.tag h.0 h.1 t h.2 (scalar_head c p style value h.1 h.3) h.4
+node_head (forest.Seq p nodes) c t h =
+    property_head c p.anchor p.tag h.0 h.1 t h.2 (inr (sequence_head c nodes h.1 h.3)) h.4
+node_head (forest.Map p pairs) c t h =
+    property_head c p.anchor p.tag h.0 h.1 t h.2 (inr (mapping_head c pairs h.1 h.3)) h.4
 
 -- ## What may stand behind
 
@@ -117,7 +137,8 @@ follow_is_content InBlockMapping (tokens.Tag _ _) h = h
 follow_is_content _ _ h = tt
 
 -- behind properties it shows that their node has no content
-pub follow_ends : (c : grammar.Context) (k : Kind) (q : steps.Properties) (t : Piece) (m : Machine) → MayFollow c k → content_at k q (context_of c) t m ≡ without_content q t m
+pub follow_ends : (c : grammar.Context) (k : Kind) (q : steps.Properties) (t : Piece) (m : Machine) → MayFollow c k
+    → content_at k q (context_of c) t m ≡ without_content q t m
 follow_ends InFlow tokens.FlowEntry q t m h = refl
 follow_ends InFlow tokens.FlowSequenceEnd q t m h = refl
 follow_ends InFlow tokens.FlowMappingEnd q t m h = refl
@@ -139,33 +160,67 @@ follow_ends _ _ q t m h = elim h [ ]
 
 -- From any machine that goes on with a node of these tokens, its events are told, and then those of what follows.
 pub record NodeSays (n : Node) (c : grammar.Context) (t : List Kind) : Type 0 where
-  pub by : (f : Spans) (k : Kind) (ks : List Kind) (m : Machine) (x s : State) (ss : List State) (e : Memory) (ps : List Part) → MayFollow c k → m.state ≢ End → step m ≡ next_node (context_of c) (at f (t ++ k ∷ ks) x (s ∷ ss) e) → Tells f (k ∷ ks) s ss (after_node n e) ps → Says e m (node_parts n ++ ps)
+  pub by : (f : Spans) (k : Kind) (ks : List Kind) (m : Machine) (x s : State) (ss : List State) (e : Memory)
+      (ps : List Part) → MayFollow c k → m.state ≢ End
+      → step m ≡ next_node (context_of c) (at f (t ++ k ∷ ks) x (s ∷ ss) e) → Tells f (k ∷ ks) s ss (after_node n e) ps
+      → Says e m (node_parts n ++ ps)
 
 -- The state behind the node may depend on the tokens that the node begins.
-pub enters : (n : Node) (c : grammar.Context) (t : List Kind) → IsNode n c t → NodeSays n c t → (f : Spans) (k : Kind) (ks : List Kind) (machine : List Kind → Machine) (x : State) (behind : List Kind → State) (ss : List State) (e : Memory) (ps : List Part) → MayFollow c k → ((l : List Kind) → (machine l).state ≢ End) → ((j : Kind) (l : List Kind) → Starts c j → step (machine (j ∷ l)) ≡ next_node (context_of c) (at f (j ∷ l) x (behind (j ∷ l) ∷ ss) e)) → Tells f (k ∷ ks) (behind (t ++ k ∷ ks)) ss (after_node n e) ps → Says e (machine (t ++ k ∷ ks)) (node_parts n ++ ps)
+pub enters : (n : Node) (c : grammar.Context) (t : List Kind) → YieldsNode n c t → NodeSays n c t
+    → (f : Spans) (k : Kind) (ks : List Kind) (machine : List Kind → Machine) (x : State) (behind : List Kind → State)
+    (ss : List State) (e : Memory) (ps : List Part) → MayFollow c k → ((l : List Kind) → (machine l).state ≢ End)
+    → ((j : Kind) (l : List Kind) → Starts c j
+    → step (machine (j ∷ l)) ≡ next_node (context_of c) (at f (j ∷ l) x (behind (j ∷ l) ∷ ss) e))
+    → Tells f (k ∷ ks) (behind (t ++ k ∷ ks)) ss (after_node n e) ps
+    → Says e (machine (t ++ k ∷ ks)) (node_parts n ++ ps)
 enters n c t h g f k ks machine x behind ss e ps z more go l =
     let d : Head c t = node_head n c t h in
-    g.by f k ks (machine (t ++ k ∷ ks)) x (behind (t ++ k ∷ ks)) ss e ps z (more (t ++ k ∷ ks)) (subst (λ (u : List Kind). step (machine (u ++ k ∷ ks)) ≡ next_node (context_of c) (at f (u ++ k ∷ ks) x (behind (u ++ k ∷ ks) ∷ ss) e)) (sym d.is) (go d.first (d.others ++ k ∷ ks) d.starts)) l
+    g.by f k ks (machine (t ++ k ∷ ks)) x (behind (t ++ k ∷ ks)) ss e ps z (more (t ++ k ∷ ks))
+    (subst (λ (u : List Kind). step (machine (u ++ k ∷ ks))
+    ≡ next_node (context_of c) (at f (u ++ k ∷ ks) x (behind (u ++ k ∷ ks) ∷ ss) e)) (sym d.is)
+    (go d.first (d.others ++ k ∷ ks) d.starts)) l
 
 -- one step tells a node that is left out
-pub skipped : (e : Memory) (m n : Machine) (ps : List Part) (span : Span) → m.state ≢ End → step m ≡ told empty_scalar span n → Says e n ps → Says e m (node_parts forest.left_out ++ ps)
+pub skipped : (e : Memory) (m n : Machine) (ps : List Part) (span : Span) → m.state ≢ End
+    → step m ≡ told empty_scalar span n → Says e n ps → Says e m (node_parts forest.left_out ++ ps)
 unfolding encode
-skipped e m n ps span more q l = plainly e m n (Leaf forest.no_properties forest.Plain []) ps empty_scalar span more refl q l
+skipped e m n ps span more q l =
+    plainly e m n (Leaf forest.no_properties forest.Plain []) ps empty_scalar span more refl q l
 
-left_out_says : (n : Node) (t : List Kind) (k : Kind) (ks : List Kind) (f : Spans) (machine : List Kind → Machine) (behind : List Kind → State) (ss : List State) (e : Memory) (ps : List Part) → n ≡ forest.left_out → t ≡ [] → (Tells f (k ∷ ks) (behind (k ∷ ks)) ss (after_node forest.left_out e) ps → Says e (machine (k ∷ ks)) (node_parts forest.left_out ++ ps)) → Tells f (k ∷ ks) (behind (t ++ k ∷ ks)) ss (after_node n e) ps → Says e (machine (t ++ k ∷ ks)) (node_parts n ++ ps)
+left_out_says : (n : Node) (t : List Kind) (k : Kind) (ks : List Kind) (f : Spans) (machine : List Kind → Machine)
+    (behind : List Kind → State) (ss : List State) (e : Memory) (ps : List Part) → n ≡ forest.left_out → t ≡ []
+    → (Tells f (k ∷ ks) (behind (k ∷ ks)) ss (after_node forest.left_out e) ps
+    → Says e (machine (k ∷ ks)) (node_parts forest.left_out ++ ps))
+    → Tells f (k ∷ ks) (behind (t ++ k ∷ ks)) ss (after_node n e) ps
+    → Says e (machine (t ++ k ∷ ks)) (node_parts n ++ ps)
 left_out_says n t k ks f machine behind ss e ps a b q =
-    subst (λ (v : Node). Tells f (k ∷ ks) (behind (t ++ k ∷ ks)) ss (after_node v e) ps → Says e (machine (t ++ k ∷ ks)) (node_parts v ++ ps)) (sym a)
-    (subst (λ (u : List Kind). Tells f (k ∷ ks) (behind (u ++ k ∷ ks)) ss (after_node forest.left_out e) ps → Says e (machine (u ++ k ∷ ks)) (node_parts forest.left_out ++ ps)) (sym b) q)
+    subst (λ (v : Node). Tells f (k ∷ ks) (behind (t ++ k ∷ ks)) ss (after_node v e) ps
+    → Says e (machine (t ++ k ∷ ks)) (node_parts v ++ ps)) (sym a)
+    (subst (λ (u : List Kind). Tells f (k ∷ ks) (behind (u ++ k ∷ ks)) ss (after_node forest.left_out e) ps
+    → Says e (machine (u ++ k ∷ ks)) (node_parts forest.left_out ++ ps)) (sym b) q)
 
 -- the same of a node that may be left out
-pub enters_or_skips : (n : Node) (c : grammar.Context) (t : List Kind) → IsOptional n (IsNode n c) t → (IsNode n c t → NodeSays n c t) → (f : Spans) (k : Kind) (ks : List Kind) (machine : List Kind → Machine) (x : State) (behind : List Kind → State) (ss : List State) (e : Memory) (ps : List Part) → MayFollow c k → ((l : List Kind) → (machine l).state ≢ End) → (span : Span) → step (machine (k ∷ ks)) ≡ told empty_scalar span (at f (k ∷ ks) (behind (k ∷ ks)) ss e) → ((j : Kind) (l : List Kind) → Starts c j → step (machine (j ∷ l)) ≡ next_node (context_of c) (at f (j ∷ l) x (behind (j ∷ l) ∷ ss) e)) → Tells f (k ∷ ks) (behind (t ++ k ∷ ks)) ss (after_node n e) ps → Says e (machine (t ++ k ∷ ks)) (node_parts n ++ ps)
-enters_or_skips n c t (inr h) g f k ks machine x behind ss e ps z more span skip go l = enters n c t h (g h) f k ks machine x behind ss e ps z more go l
+pub enters_or_skips : (n : Node) (c : grammar.Context) (t : List Kind) → YieldsOptional n (YieldsNode n c) t
+    → (YieldsNode n c t → NodeSays n c t)
+    → (f : Spans) (k : Kind) (ks : List Kind) (machine : List Kind → Machine) (x : State) (behind : List Kind → State)
+    (ss : List State) (e : Memory) (ps : List Part) → MayFollow c k → ((l : List Kind) → (machine l).state ≢ End)
+    → (span : Span) → step (machine (k ∷ ks)) ≡ told empty_scalar span (at f (k ∷ ks) (behind (k ∷ ks)) ss e)
+    → ((j : Kind) (l : List Kind) → Starts c j
+    → step (machine (j ∷ l)) ≡ next_node (context_of c) (at f (j ∷ l) x (behind (j ∷ l) ∷ ss) e))
+    → Tells f (k ∷ ks) (behind (t ++ k ∷ ks)) ss (after_node n e) ps
+    → Says e (machine (t ++ k ∷ ks)) (node_parts n ++ ps)
+enters_or_skips n c t (inr h) g f k ks machine x behind ss e ps z more span skip go l =
+    enters n c t h (g h) f k ks machine x behind ss e ps z more go l
 enters_or_skips n c t (inl h) g f k ks machine x behind ss e ps z more span skip go l =
-    let q : Tells f (k ∷ ks) (behind (k ∷ ks)) ss (after_node forest.left_out e) ps → Says e (machine (k ∷ ks)) (node_parts forest.left_out ++ ps) = skipped e (machine (k ∷ ks)) (at f (k ∷ ks) (behind (k ∷ ks)) ss e) ps span (more (k ∷ ks)) skip in
+    let q : Tells f (k ∷ ks) (behind (k ∷ ks)) ss (after_node forest.left_out e) ps
+    → Says e (machine (k ∷ ks)) (node_parts forest.left_out ++ ps) =
+    skipped e (machine (k ∷ ks)) (at f (k ∷ ks) (behind (k ∷ ks)) ss e) ps span (more (k ∷ ks)) skip in
     left_out_says n t k ks f machine behind ss e ps h.0 h.1 q l
 
 -- ## Pairs
 
 -- the tokens of a pair with both marks, and what stands behind it
-pub marked_tokens : (t front back key value others : List Kind) → front ≡ tokens.Key ∷ key → back ≡ tokens.Value ∷ value → t ≡ front ++ back → t ++ others ≡ tokens.Key ∷ (key ++ tokens.Value ∷ (value ++ others))
-marked_tokens t front back key value others a b c = rw (c, a, b) (ap (λ l. tokens.Key ∷ l) (append_assoc key (tokens.Value ∷ value) others))
+pub marked_tokens : (t front back key value others : List Kind) → front ≡ tokens.Key ∷ key → back ≡ tokens.Value ∷ value
+    → t ≡ front ++ back → t ++ others ≡ tokens.Key ∷ (key ++ tokens.Value ∷ (value ++ others))
+marked_tokens t front back key value others a b c =
+    rw (c, a, b) (ap (λ l. tokens.Key ∷ l) (append_assoc key (tokens.Value ∷ value) others))

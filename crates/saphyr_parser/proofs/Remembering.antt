@@ -3,36 +3,47 @@ use Rattle.std.proofs.Common.{◌≡◌, ◌≢◌, ℕ, List, [], ◌∷◌, Op
 use Rattle.std.specs.Prelude.{if◌then◌else◌}
 use Rattle.std.specs.Option.{option_or}
 use Rattle.saphyr_scalar.specs.declared.scalar.position.Span.{Span}
-use Rattle.saphyr_scanner.specs.Forest.{handle_bytes, Tag, NonSpecific, Verbatim, Shorthand, Directive, Version, TagPrefix, Reserved, Node, Nodes, NoNode, MoreNodes, Pairs, NoPair, MorePairs}
-use Rattle.saphyr_scanner.specs.Forest as forest
-use Rattle.saphyr_scanner.specs.Tokens.{Kind}
+use Rattle.saphyr_scanner.specs.Grammar.Forest.{handle_bytes, Tag, NonSpecific, Verbatim, Shorthand, Directive, Version, TagPrefix, Reserved, Node, Nodes, NoNode, MoreNodes, Pairs, NoPair, MorePairs}
+use Rattle.saphyr_scanner.specs.Grammar.Forest as forest
+use Rattle.saphyr_scanner.specs.Grammar.Tokens.{Kind}
 use Rattle.saphyr_parser.specs.declared.parser.state.State.{State}
 use Rattle.saphyr_parser.specs.declared.parser.state.State.TheVariants.{End}
 use Rattle.saphyr_parser.specs.Preorder.{Part, OpenStream, CloseStream, OpenDocument, CloseDocument, Reference, Leaf, OpenSequence, CloseSequence, OpenMapping, CloseMapping}
 use Rattle.saphyr_parser.specs.Events.{Happening, ResolvedTag, StreamStart, StreamEnd, DocumentStart, DocumentEnd, Alias, Scalar, SequenceStart, SequenceEnd, MappingStart, MappingEnd}
 use Rattle.saphyr_parser.specs.ForestEvents.{before_all}
 use Rattle.saphyr_parser.specs.TagResolution.{default_prefix}
-use Rattle.saphyr_parser.specs.Machine.{Names, meaning, given, forgotten, next_id, registered, Machine, told}
-use Rattle.saphyr_parser.specs.Steps.{step}
+use Rattle.saphyr_parser.specs.Steps.Machine.{Names, meaning, given, forgotten, next_id, registered, Machine, told}
+use Rattle.saphyr_parser.specs.Steps.Expected.{step}
 use Rattle.saphyr_parser.specs.Answer.{remaining}
 use Rattle.saphyr_parser.specs.Exactly.{GivesExactly}
-use Rattle.saphyr_parser.proofs.Telling.{Spans, Memory, at, tells}
+use Rattle.saphyr_parser.proofs.Told.Telling.{Spans, Memory, at, tells}
 
 -- ## What is remembered
 
 abbrev pub noted : Option (List ℕ) → Memory → Memory
 noted None e = e
-noted (Some name) e = record { anchors = registered (encode_utf8_all name) e.anchors; prefixes = e.prefixes; keep = e.keep }
+noted (Some name) e = record {
+  anchors =
+      registered (encode_utf8_all name) e.anchors;
+  prefixes = e.prefixes;
+  keep = e.keep;
+}
 
 -- the prefixes behind directives
 abbrev pub declaring : List Directive → Names (List ℕ) → Names (List ℕ)
 declaring [] names = names
-declaring (TagPrefix handle prefix ∷ others) names = declaring others (given (handle_bytes handle) (encode_utf8_all prefix) names)
+declaring (TagPrefix handle prefix ∷ others) names =
+    declaring others (given (handle_bytes handle) (encode_utf8_all prefix) names)
 declaring (Version _ _ ∷ others) names = declaring others names
 declaring (Reserved _ ∷ others) names = declaring others names
 
 abbrev pub opening : List Directive → Memory → Memory
-opening directives e = record { anchors = forgotten e.anchors; prefixes = declaring directives e.prefixes; keep = e.keep }
+opening directives e = record {
+  anchors =
+      forgotten e.anchors;
+  prefixes = declaring directives e.prefixes;
+  keep = e.keep;
+}
 
 abbrev pub closing : Memory → Memory
 closing e = record { anchors = e.anchors; prefixes = if e.keep then e.prefixes else []; keep = e.keep }
@@ -70,7 +81,9 @@ own_id e (Some _) = next_id e.anchors
 abbrev pub resolve : Names (List ℕ) → Tag → Option ResolvedTag
 resolve names NonSpecific = Some (record { handle = []; suffix = codes "!" })
 resolve names (Verbatim uri) = Some (record { handle = []; suffix = encode_utf8_all uri })
-resolve names (Shorthand handle suffix) = option_map (λ prefix. record { handle = prefix; suffix = encode_utf8_all suffix }) (option_or (meaning (handle_bytes handle) names) (default_prefix handle))
+resolve names (Shorthand handle suffix) =
+    option_map (λ prefix. record { handle = prefix; suffix = encode_utf8_all suffix })
+    (option_or (meaning (handle_bytes handle) names) (default_prefix handle))
 
 abbrev pub resolve_any : Names (List ℕ) → Option Tag → Option (Option ResolvedTag)
 resolve_any names None = Some None
@@ -106,18 +119,27 @@ Says e m ps = (es : List Happening) → events_in e ps ≡ Some es → GivesExac
 abbrev pub Tells : Spans → List Kind → State → List State → Memory → List Part → Type 0
 Tells f ks s ss e ps = Says e (at f ks s ss e) ps
 
-both : (a : Option Happening) (b : Option (List Happening)) (es : List Happening) → before_all a b ≡ Some es → (w : Happening) × (ws : List Happening) × (a ≡ Some w) × (b ≡ Some ws) × (w ∷ ws ≡ es)
+both : (a : Option Happening) (b : Option (List Happening)) (es : List Happening) → before_all a b ≡ Some es
+    → (w : Happening) × (ws : List Happening) × (a ≡ Some w) × (b ≡ Some ws) × (w ∷ ws ≡ es)
 both (Some w) (Some ws) es h = (w, ws, refl, refl, (cc))
 both (Some w) None es h = absurd (cc)
 both None b es h = absurd (cc)
 
 -- one step tells the first part
-pub says : (e : Memory) (m n : Machine) (part : Part) (ps : List Part) → m.state ≢ End → ((w : Happening) → event_in e part ≡ Some w → (span : Span) × (step m ≡ told w span n)) → Says (after part e) n ps → Says e m (part ∷ ps)
+pub says : (e : Memory) (m n : Machine) (part : Part) (ps : List Part) → m.state ≢ End
+    → ((w : Happening) → event_in e part ≡ Some w → (span : Span) × (step m ≡ told w span n)) → Says (after part e) n ps
+    → Says e m (part ∷ ps)
 says e m n part ps more go h es q =
-    let r : (w : Happening) × (ws : List Happening) × (event_in e part ≡ Some w) × (events_in (after part e) ps ≡ Some ws) × (w ∷ ws ≡ es) = both (event_in e part) (events_in (after part e) ps) es q in
+    let r : (w : Happening) × (ws : List Happening) × (event_in e part ≡ Some w)
+    × (events_in (after part e) ps ≡ Some ws) × (w ∷ ws ≡ es) =
+    both (event_in e part) (events_in (after part e) ps) es q in
     let s : (span : Span) × (step m ≡ told r.0 span n) = go r.0 r.2 in
-    subst (λ l. GivesExactly l (remaining m)) r.4 (tells m (record { what = r.0; span = s.0; machine = n }) r.1 more s.1 (h r.1 r.3))
+    subst (λ l. GivesExactly l (remaining m)) r.4
+    (tells m (record { what = r.0; span = s.0; machine = n }) r.1 more s.1 (h r.1 r.3))
 
 -- the same of a part that always has its event
-pub plainly : (e : Memory) (m n : Machine) (part : Part) (ps : List Part) (w : Happening) (span : Span) → m.state ≢ End → event_in e part ≡ Some w → step m ≡ told w span n → Says (after part e) n ps → Says e m (part ∷ ps)
-plainly e m n part ps w span more a q h = says e m n part ps more (λ v b. (span, q ∙ ap (λ u. told u span n) (let same : w ≡ v = (let c : Some w ≡ Some v = sym a ∙ b in cc) in same))) h
+pub plainly : (e : Memory) (m n : Machine) (part : Part) (ps : List Part) (w : Happening) (span : Span) → m.state ≢ End
+    → event_in e part ≡ Some w → step m ≡ told w span n → Says (after part e) n ps → Says e m (part ∷ ps)
+plainly e m n part ps w span more a q h =
+    says e m n part ps more (λ v b.
+    (span, q ∙ ap (λ u. told u span n) (let same : w ≡ v = (let c : Some w ≡ Some v = sym a ∙ b in cc) in same))) h

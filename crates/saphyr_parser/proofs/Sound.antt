@@ -5,10 +5,10 @@ use Rattle.saphyr_parser.proofs.OwnTokens.{HasOwn, own_more}
 use Rattle.std.proofs.Common.{◌≡◌, ◌≢◌, ℕ, zero, suc, ◌+◌, ◌<◌, ◌≤◌, ◌^◌, Bool, true, false, List, [], ◌∷◌, ◌++◌, length, map, Option, Some, None, Result, Ok, Err, refl, sym, ap, ◌∙◌, subst, inl, inr, append_assoc, append-nil, arith, length-append}
 use Rattle.saphyr_scalar.specs.declared.scalar.position.Span.{Span}
 use Rattle.saphyr_scalar.specs.declared.scalar.fault.Refusal.{Refusal}
-use Rattle.saphyr_scanner.specs.Forest.{Forest}
-use Rattle.saphyr_scanner.specs.Tokens.{Kind}
-use Rattle.saphyr_scanner.specs.Seen.{Piece, Remaining}
-use Rattle.saphyr_scanner.specs.TokenGrammar.{Yields}
+use Rattle.saphyr_scanner.specs.Grammar.Forest.{Forest}
+use Rattle.saphyr_scanner.specs.Grammar.Tokens.{Kind}
+use Rattle.saphyr_scanner.specs.Views.Tokens.{Piece, Remaining}
+use Rattle.saphyr_scanner.specs.Grammar.TokenGrammar.{Yields}
 use Rattle.saphyr_parser.specs.declared.parser.state.State.{State}
 use Rattle.saphyr_parser.specs.declared.parser.state.State.TheVariants as state
 use Rattle.saphyr_parser.specs.Anchors.{one_more, anchor_of, anchors}
@@ -16,68 +16,99 @@ use Rattle.saphyr_parser.specs.Preorder.{Part, parts}
 use Rattle.saphyr_parser.specs.Events.{Happening}
 use Rattle.saphyr_parser.specs.ForestEvents.{before_all, events}
 use Rattle.saphyr_parser.specs.Exactly.{kinds}
-use Rattle.saphyr_parser.specs.Machine.{Machine, Told}
-use Rattle.saphyr_parser.specs.Steps.{step, step_at}
+use Rattle.saphyr_parser.specs.Steps.Machine.{Machine, Told}
+use Rattle.saphyr_parser.specs.Steps.Expected.{step, step_at}
 use Rattle.saphyr_parser.specs.Answer.{Answer, none, before, ending_of, failed, deliver, remaining, size}
 use Rattle.saphyr_parser.specs.Cursor.{at_start, keeping_tags, to_come}
 use Rattle.saphyr_parser.specs.EventsTaken.{IsAllUnless, IsCut}
 use Rattle.saphyr_parser.specs.WellFormed.{AreWellFormed}
 use Rattle.saphyr_parser.specs.Begins.{BeginsSomeForest}
-use Rattle.saphyr_parser.proofs.Telling.{Memory}
+use Rattle.saphyr_parser.proofs.Told.Telling.{Memory}
 use Rattle.saphyr_parser.proofs.Remembering.{after, event_in, events_in}
 use Rattle.saphyr_parser.proofs.MemoryFits.{Within, same_events}
-use Rattle.saphyr_parser.proofs.Complete.{documents_within, all_compatible, at_first, fits_start}
+use Rattle.saphyr_parser.proofs.Promises.Forests.{documents_within, all_compatible, at_first, fits_start}
 use Rattle.saphyr_parser.proofs.Unroll.{unroll, over, shrinks_at}
-use Rattle.saphyr_parser.proofs.Following.{IsAlive, IsOutside, IsInside}
-use Rattle.saphyr_parser.proofs.Turning.{machine, memory, Goes, Turned, weaker, kinds_append}
-use Rattle.saphyr_parser.proofs.EntryTurns.{Wanted}
-use Rattle.saphyr_parser.proofs.SequenceTurns as sequence
-use Rattle.saphyr_parser.proofs.MappingTurns as mapping
-use Rattle.saphyr_parser.proofs.BlockTurns as block
-use Rattle.saphyr_parser.proofs.DocumentTurns.{Over, Moves, moves}
-use Rattle.saphyr_parser.proofs.DocumentTurns as document
-use Rattle.saphyr_parser.proofs.DocumentEndTurns as behind
+use Rattle.saphyr_parser.proofs.Turned.Following.{IsAlive, IsOutside, IsInside}
+use Rattle.saphyr_parser.proofs.Turned.Turning.{machine, memory, Goes, Turned, weaker, kinds_append}
+use Rattle.saphyr_parser.proofs.Turned.Entries.{Wanted}
+use Rattle.saphyr_parser.proofs.Turned.Sequences as sequence
+use Rattle.saphyr_parser.proofs.Turned.Mappings as mapping
+use Rattle.saphyr_parser.proofs.Turned.Block as block
+use Rattle.saphyr_parser.proofs.Turned.Documents.{Over, Moves, moves}
+use Rattle.saphyr_parser.proofs.Turned.Documents as document
+use Rattle.saphyr_parser.proofs.Turned.DocumentEnds as behind
 use Rattle.saphyr_parser.proofs.Completions.{Completion, completed, quiet_events, some_events, quiet_anchors}
+use Rattle.saphyr_parser.proofs.Happenings.{told_of}
 
 -- ## Each step
 
 -- a state before which any token may stand
-plainly : (F G : List Kind → List Part → Type 0) (e : Memory) (k : List Piece) (r : Result Told Refusal) → ((ks : List Kind) (ps : List Part) → F ks ps → G ks ps) → Turned F e k r → Moves G e k r
+plainly : (F G : List Kind → List Part → Type 0) (e : Memory) (k : List Piece) (r : Result Told Refusal)
+    → ((ks : List Kind) (ps : List Part) → F ks ps → G ks ps) → Turned F e k r → Moves G e k r
 plainly F G e k r i h = moves G e k r (weaker F G e k r i h)
 
-outside_moves : (s x : State) (ts : List Piece) (r : Option Refusal) (e : Memory) → AreWellFormed ts → IsOutside s → Moves (Wanted s [] (kinds ts)) e ts (step_at s (machine ts r x [] e))
-outside_moves state.StreamStart x ts r e w i = moves (Wanted state.StreamStart [] (kinds ts)) e ts _ (document.stream_turned ts r x e)
+outside_moves : (s x : State) (ts : List Piece) (r : Option Refusal) (e : Memory) → AreWellFormed ts → IsOutside s
+    → Moves (Wanted s [] (kinds ts)) e ts (step_at s (machine ts r x [] e))
+outside_moves state.StreamStart x ts r e w i =
+    moves (Wanted state.StreamStart [] (kinds ts)) e ts _ (document.stream_turned ts r x e)
 outside_moves state.ImplicitDocumentStart x ts r e w i = document.implicit_moves ts r x e w
 outside_moves state.DocumentStart x ts r e w i = document.explicit_moves ts r x e w
-outside_moves state.DocumentEnd x ts r e w i = plainly _ (Wanted state.DocumentEnd [] (kinds ts)) e ts _ (λ ks ps f. (f, tt)) (behind.document_end_turned ts r x e)
+outside_moves state.DocumentEnd x ts r e w i =
+    plainly _ (Wanted state.DocumentEnd [] (kinds ts)) e ts _ (λ ks ps f. (f, tt)) (behind.document_end_turned ts r x e)
 outside_moves _ x ts r e w i = elim i [ ]
 
-inside_moves : (s x o : State) (ss : List State) (ts : List Piece) (r : Option Refusal) (e : Memory) → AreWellFormed ts → IsInside s → IsAlive o ss → Moves (Wanted s (o ∷ ss) (kinds ts)) e ts (step_at s (machine ts r x (o ∷ ss) e))
-inside_moves state.DocumentContent x o ss ts r e w i a = plainly _ (Wanted state.DocumentContent (o ∷ ss) (kinds ts)) e ts _ (λ ks ps f. (f, tt)) (behind.content_turned ts r x o ss e w a)
-inside_moves state.BlockNode x o ss ts r e w i a = plainly _ (Wanted state.BlockNode (o ∷ ss) (kinds ts)) e ts _ (λ ks ps f. (f, tt)) (behind.block_node_turned ts r x o ss e w a)
-inside_moves state.BlockSequenceEntry x o ss ts r e w i a = plainly _ (Wanted state.BlockSequenceEntry (o ∷ ss) (kinds ts)) e ts _ (λ ks ps f. (f, tt)) (block.sequence_entry_turned ts r x o ss e w a)
-inside_moves state.IndentlessSequenceEntry x o ss ts r e w i a = moves (Wanted state.IndentlessSequenceEntry (o ∷ ss) (kinds ts)) e ts _ (block.indentless_entry_turned ts r x o ss e w a)
-inside_moves state.BlockMappingKey x o ss ts r e w i a = moves (Wanted state.BlockMappingKey (o ∷ ss) (kinds ts)) e ts _ (block.mapping_key_turned ts r x o ss e w a)
-inside_moves state.BlockMappingValue x o ss ts r e w i a = moves (Wanted state.BlockMappingValue (o ∷ ss) (kinds ts)) e ts _ (block.mapping_value_turned ts r x o ss e w a)
-inside_moves state.FlowSequenceFirstEntry x o ss ts r e w i a = plainly _ (Wanted state.FlowSequenceFirstEntry (o ∷ ss) (kinds ts)) e ts _ (λ ks ps f. (f, tt)) (sequence.first_entry_turned ts r x o ss e w a)
-inside_moves state.FlowSequenceEntry x o ss ts r e w i a = plainly _ (Wanted state.FlowSequenceEntry (o ∷ ss) (kinds ts)) e ts _ (λ ks ps f. (f, tt)) (sequence.other_entry_turned ts r x o ss e w a)
-inside_moves state.FlowSequenceEntryMappingKey x o ss ts r e w i a = plainly _ (Wanted state.FlowSequenceEntryMappingKey (o ∷ ss) (kinds ts)) e ts _ (λ ks ps f. (f, tt)) (sequence.pair_key_turned ts r x o ss e w a)
-inside_moves state.FlowSequenceEntryMappingValue x o ss ts r e w i a = plainly _ (Wanted state.FlowSequenceEntryMappingValue (o ∷ ss) (kinds ts)) e ts _ (λ ks ps f. (f, tt)) (sequence.pair_value_turned ts r x o ss e w a)
-inside_moves (state.FlowSequenceEntryMappingEnd place) x o ss ts r e w i a = plainly _ (Wanted (state.FlowSequenceEntryMappingEnd place) (o ∷ ss) (kinds ts)) e ts _ (λ ks ps f. (f, tt)) (sequence.pair_end_turned place ts r x o ss e a)
-inside_moves state.FlowMappingFirstKey x o ss ts r e w i a = plainly _ (Wanted state.FlowMappingFirstKey (o ∷ ss) (kinds ts)) e ts _ (λ ks ps f. (f, tt)) (mapping.first_pair_turned ts r x o ss e w a)
-inside_moves state.FlowMappingKey x o ss ts r e w i a = plainly _ (Wanted state.FlowMappingKey (o ∷ ss) (kinds ts)) e ts _ (λ ks ps f. (f, tt)) (mapping.other_pair_turned ts r x o ss e w a)
-inside_moves state.FlowMappingValue x o ss ts r e w i a = moves (Wanted state.FlowMappingValue (o ∷ ss) (kinds ts)) e ts _ (mapping.mapping_value_turned ts r x o ss e w a)
-inside_moves state.FlowMappingEmptyValue x o ss ts r e w i a = plainly _ (Wanted state.FlowMappingEmptyValue (o ∷ ss) (kinds ts)) e ts _ (λ ks ps f. (f, tt)) (mapping.empty_value_turned ts r x o ss e a)
+inside_moves : (s x o : State) (ss : List State) (ts : List Piece) (r : Option Refusal) (e : Memory) → AreWellFormed ts
+    → IsInside s → IsAlive o ss → Moves (Wanted s (o ∷ ss) (kinds ts)) e ts (step_at s (machine ts r x (o ∷ ss) e))
+inside_moves state.DocumentContent x o ss ts r e w i a =
+    plainly _ (Wanted state.DocumentContent (o ∷ ss) (kinds ts)) e ts _ (λ ks ps f. (f, tt))
+    (behind.content_turned ts r x o ss e w a)
+inside_moves state.BlockNode x o ss ts r e w i a =
+    plainly _ (Wanted state.BlockNode (o ∷ ss) (kinds ts)) e ts _ (λ ks ps f. (f, tt))
+    (behind.block_node_turned ts r x o ss e w a)
+inside_moves state.BlockSequenceEntry x o ss ts r e w i a =
+    plainly _ (Wanted state.BlockSequenceEntry (o ∷ ss) (kinds ts)) e ts _ (λ ks ps f. (f, tt))
+    (block.sequence_entry_turned ts r x o ss e w a)
+inside_moves state.IndentlessSequenceEntry x o ss ts r e w i a =
+    moves (Wanted state.IndentlessSequenceEntry (o ∷ ss) (kinds ts)) e ts _
+    (block.indentless_entry_turned ts r x o ss e w a)
+inside_moves state.BlockMappingKey x o ss ts r e w i a =
+    moves (Wanted state.BlockMappingKey (o ∷ ss) (kinds ts)) e ts _ (block.mapping_key_turned ts r x o ss e w a)
+inside_moves state.BlockMappingValue x o ss ts r e w i a =
+    moves (Wanted state.BlockMappingValue (o ∷ ss) (kinds ts)) e ts _ (block.mapping_value_turned ts r x o ss e w a)
+inside_moves state.FlowSequenceFirstEntry x o ss ts r e w i a =
+    plainly _ (Wanted state.FlowSequenceFirstEntry (o ∷ ss) (kinds ts)) e ts _ (λ ks ps f. (f, tt))
+    (sequence.first_entry_turned ts r x o ss e w a)
+inside_moves state.FlowSequenceEntry x o ss ts r e w i a =
+    plainly _ (Wanted state.FlowSequenceEntry (o ∷ ss) (kinds ts)) e ts _ (λ ks ps f. (f, tt))
+    (sequence.other_entry_turned ts r x o ss e w a)
+inside_moves state.FlowSequenceEntryMappingKey x o ss ts r e w i a =
+    plainly _ (Wanted state.FlowSequenceEntryMappingKey (o ∷ ss) (kinds ts)) e ts _ (λ ks ps f. (f, tt))
+    (sequence.pair_key_turned ts r x o ss e w a)
+inside_moves state.FlowSequenceEntryMappingValue x o ss ts r e w i a =
+    plainly _ (Wanted state.FlowSequenceEntryMappingValue (o ∷ ss) (kinds ts)) e ts _ (λ ks ps f. (f, tt))
+    (sequence.pair_value_turned ts r x o ss e w a)
+inside_moves (state.FlowSequenceEntryMappingEnd place) x o ss ts r e w i a =
+    plainly _ (Wanted (state.FlowSequenceEntryMappingEnd place) (o ∷ ss) (kinds ts)) e ts _ (λ ks ps f. (f, tt))
+    (sequence.pair_end_turned place ts r x o ss e a)
+inside_moves state.FlowMappingFirstKey x o ss ts r e w i a =
+    plainly _ (Wanted state.FlowMappingFirstKey (o ∷ ss) (kinds ts)) e ts _ (λ ks ps f. (f, tt))
+    (mapping.first_pair_turned ts r x o ss e w a)
+inside_moves state.FlowMappingKey x o ss ts r e w i a =
+    plainly _ (Wanted state.FlowMappingKey (o ∷ ss) (kinds ts)) e ts _ (λ ks ps f. (f, tt))
+    (mapping.other_pair_turned ts r x o ss e w a)
+inside_moves state.FlowMappingValue x o ss ts r e w i a =
+    moves (Wanted state.FlowMappingValue (o ∷ ss) (kinds ts)) e ts _ (mapping.mapping_value_turned ts r x o ss e w a)
+inside_moves state.FlowMappingEmptyValue x o ss ts r e w i a =
+    plainly _ (Wanted state.FlowMappingEmptyValue (o ∷ ss) (kinds ts)) e ts _ (λ ks ps f. (f, tt))
+    (mapping.empty_value_turned ts r x o ss e a)
 inside_moves _ x o ss ts r e w i a = elim i [ ]
 
-step_moves : (s x : State) (ss : List State) (ts : List Piece) (r : Option Refusal) (e : Memory) → AreWellFormed ts → IsAlive s ss → Moves (Wanted s ss (kinds ts)) e ts (step_at s (machine ts r x ss e))
+step_moves : (s x : State) (ss : List State) (ts : List Piece) (r : Option Refusal) (e : Memory) → AreWellFormed ts
+    → IsAlive s ss → Moves (Wanted s ss (kinds ts)) e ts (step_at s (machine ts r x ss e))
 step_moves s x [] ts r e w a = outside_moves s x ts r e w a
 step_moves s x (o ∷ ss) ts r e w a = inside_moves s x o ss ts r e w a.0 a.1
 
 -- ## All steps
-
-abbrev happenings : Answer → List Happening
-happenings a = map (λ (e : Happening × Span). e.0) a.events
 
 -- The events are a beginning of those of some parts that may follow, by a beginning of their tokens.
 pub record Finishes (s : State) (ss : List State) (ts : List Piece) (e : Memory) (a : Answer) : Type 0 where
@@ -88,14 +119,15 @@ pub record Finishes (s : State) (ss : List State) (ts : List Piece) (e : Memory)
   pub missing : List Happening
   pub are_read : ts ≡ read ++ unread
   pub wanted : Wanted s ss (kinds ts) (kinds read ++ expected) parts
-  pub told : events_in e parts ≡ Some (happenings a ++ missing)
+  pub told : events_in e parts ≡ Some (told_of a ++ missing)
   pub few : anchors parts ≤ length read
   pub places : HaveTokens unread a.events read
   pub all_read : IsAllUnless a.fault unread
   pub all_expected : IsAllUnless a.fault expected
   pub all_given : IsCut a.fault missing
 
-stops : (s : State) (ss : List State) (ts : List Piece) (e : Memory) (f : Refusal) → IsAlive s ss → Finishes s ss ts e (failed (ending_of f))
+stops : (s : State) (ss : List State) (ts : List Piece) (e : Memory) (f : Refusal) → IsAlive s ss
+    → Finishes s ss ts e (failed (ending_of f))
 stops s ss ts e f a =
     let c : Completion s ss = completed ss s a in
     let es : (es : List Happening) × (events_in e c.parts ≡ Some es) = quiet_events c.parts e c.quiet in
@@ -115,14 +147,19 @@ stops s ss ts e f a =
       all_given = some_events c.parts e c.quiet c.some;
     }
 
-joined : (part : Part) (ps : List Part) (e : Memory) (w : Happening) (es : List Happening) → event_in e part ≡ Some w → events_in (after part e) ps ≡ Some es → events_in e (part ∷ ps) ≡ Some (w ∷ es)
-joined part ps e w es h k = ap (λ (o : Option Happening). before_all o (events_in (after part e) ps)) h ∙ ap (before_all (Some w)) k
+joined : (part : Part) (ps : List Part) (e : Memory) (w : Happening) (es : List Happening) → event_in e part ≡ Some w
+    → events_in (after part e) ps ≡ Some es → events_in e (part ∷ ps) ≡ Some (w ∷ es)
+joined part ps e w es h k =
+    ap (λ (o : Option Happening). before_all o (events_in (after part e) ps)) h ∙ ap (before_all (Some w)) k
 
 more_anchors : (o : Option (List ℕ)) (n a b : ℕ) → one_more o 0 ≤ a → n ≤ b → one_more o n ≤ a + b
 more_anchors None n a b h k = omega (arith, h, k)
 more_anchors (Some x) n a b h k = omega (arith, h, k)
 
-goes_on : (s : State) (ss : List State) (ts : List Piece) (e : Memory) (x : Told) (a : Answer) → Goes (Wanted s ss (kinds ts)) e ts x → Finishes x.machine.state x.machine.states x.machine.tokens.pieces (memory x.machine) a → Finishes s ss ts e (before (x.what, x.span) a)
+goes_on : (s : State) (ss : List State) (ts : List Piece) (e : Memory) (x : Told) (a : Answer)
+    → Goes (Wanted s ss (kinds ts)) e ts x
+    → Finishes x.machine.state x.machine.states x.machine.tokens.pieces (memory x.machine) a
+    → Finishes s ss ts e (before (x.what, x.span) a)
 goes_on s ss ts e x a g h = record {
   read = g.used ++ h.read;
   unread = h.unread;
@@ -130,16 +167,24 @@ goes_on s ss ts e x a g h = record {
   parts = g.part ∷ h.parts;
   missing = h.missing;
   are_read = g.taken ∙ ap (λ (l : List Piece). g.used ++ l) h.are_read ∙ sym (append_assoc g.used h.read h.unread);
-  wanted = subst (λ (l : List Kind). Wanted s ss (kinds ts) l (g.part ∷ h.parts)) (sym (ap (λ (l : List Kind). l ++ h.expected) (kinds_append g.used h.read) ∙ append_assoc (kinds g.used) (kinds h.read) h.expected)) (g.makes (kinds h.read ++ h.expected) h.parts h.wanted.0 h.wanted.1);
-  told = joined g.part h.parts e x.what (happenings a ++ h.missing) g.tells (subst (λ (m : Memory). events_in m h.parts ≡ Some (happenings a ++ h.missing)) g.remembers h.told);
-  few = (let l = length-append g.used h.read in let m = more_anchors (anchor_of g.part) (anchors h.parts) (length g.used) (length h.read) g.few h.few in omega (arith, l, m));
-  places = own_more g.used h.read h.unread x.what x.span a.events (subst (HasOwn g.used x.what x.span) h.are_read g.places) h.places;
+  wanted = subst (λ (l : List Kind). Wanted s ss (kinds ts) l (g.part ∷ h.parts))
+      (sym (ap (λ (l : List Kind). l ++ h.expected) (kinds_append g.used h.read)
+      ∙ append_assoc (kinds g.used) (kinds h.read) h.expected))
+      (g.makes (kinds h.read ++ h.expected) h.parts h.wanted.0 h.wanted.1);
+  told = joined g.part h.parts e x.what (told_of a ++ h.missing) g.tells
+      (subst (λ (m : Memory). events_in m h.parts ≡ Some (told_of a ++ h.missing)) g.remembers h.told);
+  few = (let l = length-append g.used h.read in let m =
+      more_anchors (anchor_of g.part) (anchors h.parts) (length g.used) (length h.read) g.few h.few in
+      omega (arith, l, m));
+  places = own_more g.used h.read h.unread x.what x.span a.events
+      (subst (HasOwn g.used x.what x.span) h.are_read g.places) h.places;
   all_read = h.all_read;
   all_expected = h.all_expected;
   all_given = h.all_given;
 }
 
-is_over : (s : State) (ss : List State) (ts : List Piece) (e : Memory) (x : Told) → Over (Wanted s ss (kinds ts)) e ts x → Finishes s ss ts e (before (x.what, x.span) none)
+is_over : (s : State) (ss : List State) (ts : List Piece) (e : Memory) (x : Told) → Over (Wanted s ss (kinds ts)) e ts x
+    → Finishes s ss ts e (before (x.what, x.span) none)
 is_over s ss ts e x o = record {
   read = ts;
   unread = [];
@@ -150,7 +195,8 @@ is_over s ss ts e x o = record {
   wanted = subst (λ (l : List Kind). Wanted s ss (kinds ts) l (o.part ∷ [])) (sym (append-nil (kinds ts))) o.makes;
   told = joined o.part [] e x.what [] o.tells refl;
   few = o.few;
-  places = subst (λ (l : List Piece). HaveTokens [] ((x.what, x.span) ∷ []) l) (append-nil ts) (own_more ts [] [] x.what x.span [] o.places (taking.nothing []));
+  places = subst (λ (l : List Piece). HaveTokens [] ((x.what, x.span) ∷ []) l) (append-nil ts)
+      (own_more ts [] [] x.what x.span [] o.places (taking.nothing []));
   all_read = refl;
   all_expected = refl;
   all_given = refl;
@@ -164,32 +210,67 @@ alive_is_no_end : (s : State) (ss : List State) → IsAlive s ss → s ≢ state
 alive_is_no_end s [] a e = subst IsOutside e a
 alive_is_no_end s (o ∷ ss) a e = subst IsInside e a.0
 
-finishes : (n : ℕ) (m : Machine) → size m < n → AreWellFormed m.tokens.pieces → IsAlive m.state m.states → Finishes m.state m.states m.tokens.pieces (memory m) (remaining m)
+finishes : (n : ℕ) (m : Machine) → size m < n → AreWellFormed m.tokens.pieces → IsAlive m.state m.states
+    → Finishes m.state m.states m.tokens.pieces (memory m) (remaining m)
 unfolding step
 finishes zero m l w a = absurd (omega (arith, l))
 finishes (suc n) m l w a =
-    subst (λ (b : Answer). Finishes m.state m.states m.tokens.pieces (memory m) b) (sym (unroll m (alive_is_no_end m.state m.states a)))
-    (by (step m) refl (step_moves m.state m.state m.states m.tokens.pieces m.tokens.refusal (memory m) w a) (λ k. finishes n k))
+    subst (λ (b : Answer). Finishes m.state m.states m.tokens.pieces (memory m) b)
+    (sym (unroll m (alive_is_no_end m.state m.states a)))
+    (by (step m) refl (step_moves m.state m.state m.states m.tokens.pieces m.tokens.refusal (memory m) w a)
+    (λ k. finishes n k))
   where
-    by : (r : Result Told Refusal) → step m ≡ r → Moves (Wanted m.state m.states (kinds m.tokens.pieces)) (memory m) m.tokens.pieces r → ((k : Machine) → size k < n → AreWellFormed k.tokens.pieces → IsAlive k.state k.states → Finishes k.state k.states k.tokens.pieces (memory k) (remaining k)) → Finishes m.state m.states m.tokens.pieces (memory m) (deliver r remaining)
+    by : (r : Result Told Refusal) → step m ≡ r
+        → Moves (Wanted m.state m.states (kinds m.tokens.pieces)) (memory m) m.tokens.pieces r
+        → ((k : Machine) → size k < n → AreWellFormed k.tokens.pieces → IsAlive k.state k.states
+        → Finishes k.state k.states k.tokens.pieces (memory k) (remaining k))
+        → Finishes m.state m.states m.tokens.pieces (memory m) (deliver r remaining)
     by (Err f) e h go = stops m.state m.states m.tokens.pieces (memory m) f a
-    by (Ok x) e (inl g) go = goes_on m.state m.states m.tokens.pieces (memory m) x (remaining x.machine) g (go x.machine (let s = shrinks_at (size m) m x (omega arith) e in omega (arith, l, s)) (behind_used g.used m.tokens.pieces x.machine.tokens.pieces g.taken w) g.alive)
-    by (Ok x) e (inr o) go = subst (λ (b : Answer). Finishes m.state m.states m.tokens.pieces (memory m) (before (x.what, x.span) b)) (sym (over x.machine o.is_over)) (is_over m.state m.states m.tokens.pieces (memory m) x o)
+    by (Ok x) e (inl g) go =
+        goes_on m.state m.states m.tokens.pieces (memory m) x (remaining x.machine) g
+        (go x.machine (let s = shrinks_at (size m) m x (omega arith) e in omega (arith, l, s))
+        (behind_used g.used m.tokens.pieces x.machine.tokens.pieces g.taken w) g.alive)
+    by (Ok x) e (inr o) go =
+        subst (λ (b : Answer). Finishes m.state m.states m.tokens.pieces (memory m) (before (x.what, x.span) b))
+        (sym (over x.machine o.is_over)) (is_over m.state m.states m.tokens.pieces (memory m) x o)
 
 -- ## From the start
 
-from_start : (tokens : Remaining) (keep : Bool) (a : Answer) → length tokens.pieces < 2 ^ 64 → Finishes state.StreamStart [] tokens.pieces (at_first keep) a → BeginsSomeForest keep tokens a
+from_start : (tokens : Remaining) (keep : Bool) (a : Answer) → length tokens.pieces < 2 ^ 64
+    → Finishes state.StreamStart [] tokens.pieces (at_first keep) a → BeginsSomeForest keep tokens a
 from_start tokens keep a l h =
     let f : Forest = h.wanted.0.0 in
     let yielded : Yields f (kinds h.read ++ h.expected) = h.wanted.0.1 in
     let are : h.parts ≡ parts f = h.wanted.0.2 in
     let within : Within false (parts f) = (tt, documents_within f (all_compatible f true yielded.1 yielded.3)) in
     let count : anchors (parts f) ≤ length h.read = subst (λ (ps : List Part). anchors ps ≤ length h.read) are h.few in
-    let few : anchors (parts f) < 2 ^ 64 = (let b = ap length h.are_read in let c = length-append h.read h.unread in omega (arith, l, b, c, count)) in
-    let same : events_in (at_first keep) (parts f) ≡ events f keep = same_events (parts f) false keep [] (at_first keep) within (fits_start keep) (omega (arith, few)) in
-    (f, record { read = h.read; unread = h.unread; are_read = h.are_read; expected = h.expected; yielded = yielded; missing = h.missing; are_events = sym same ∙ subst (λ (ps : List Part). events_in (at_first keep) ps ≡ Some (happenings a ++ h.missing)) are h.told; places = h.places; all_read = h.all_read; all_expected = h.all_expected; all_given = h.all_given })
+    let few : anchors (parts f) < 2 ^ 64 =
+    (let b = ap length h.are_read in let c = length-append h.read h.unread in omega (arith, l, b, c, count)) in
+    let same : events_in (at_first keep) (parts f) ≡ events f keep =
+    same_events (parts f) false keep [] (at_first keep) within (fits_start keep) (omega (arith, few)) in (
+      f,
+      record {
+        read = h.read;
+        unread =
+            h.unread;
+        are_read = h.are_read;
+        expected =
+            h.expected;
+        yielded = yielded;
+        missing =
+            h.missing;
+        are_events = sym same
+            ∙ subst (λ (ps : List Part). events_in (at_first keep) ps ≡ Some (told_of a ++ h.missing)) are h.told;
+        places =
+            h.places;
+        all_read = h.all_read;
+        all_expected = h.all_expected;
+        all_given = h.all_given;
+      },
+    )
 
-pub begins : (tokens : Remaining) (keep : Bool) → AreWellFormed tokens.pieces → length tokens.pieces < 2 ^ 64 → BeginsSomeForest keep tokens (to_come (keeping_tags keep (at_start tokens)))
+pub begins : (tokens : Remaining) (keep : Bool) → AreWellFormed tokens.pieces → length tokens.pieces < 2 ^ 64
+    → BeginsSomeForest keep tokens (to_come (keeping_tags keep (at_start tokens)))
 begins tokens keep w l =
     let m : Machine = machine tokens.pieces tokens.refusal state.StreamStart [] (at_first keep) in
     from_start tokens keep (remaining m) l (finishes (suc (size m)) m (omega arith) w tt)

@@ -9,13 +9,14 @@ use Rattle.saphyr_scalar.specs.declared.scalar.style.ScalarStyle.{ScalarStyle}
 use Rattle.saphyr_scalar.specs.declared.scalar.style.ScalarStyle.TheVariants as style
 use Rattle.saphyr_scalar.specs.Cursor.{Cursor}
 use Rattle.saphyr_scalar.specs.TagSpelling.{IsHandleText, IsTagText}
-use Rattle.saphyr_scanner.specs.Forest.{Handle, Primary, Named, handle_text, handle_bytes, Tag, NonSpecific, Verbatim, Shorthand}
-use Rattle.saphyr_scanner.specs.Tokens as tokens
-use Rattle.saphyr_scanner.specs.Tokens.{Kind, tag_token}
-use Rattle.saphyr_scanner.specs.Seen.{Piece}
-use Rattle.saphyr_scanner.specs.TokensTaken.{IsScalar, IsToken, open_behind, indentation, AreTokens}
-use Rattle.saphyr_parser.proofs.Refusing.{IsLastOr, AreEnded}
+use Rattle.saphyr_scanner.specs.Grammar.Forest.{Handle, Primary, Named, handle_text, handle_bytes, Tag, NonSpecific, Verbatim, Shorthand}
+use Rattle.saphyr_scanner.specs.Grammar.Tokens as tokens
+use Rattle.saphyr_scanner.specs.Grammar.Tokens.{Kind, tag_token}
+use Rattle.saphyr_scanner.specs.Views.Tokens.{Piece}
+use Rattle.saphyr_scanner.specs.TokensTaken.{IsScalarToken, IsToken, open_behind, least_column, AreTokens}
+use Rattle.saphyr_parser.proofs.Refusing.Nodes.{IsLastOr, AreEnded}
 use Rattle.saphyr_parser.specs.WellFormed.{IsEncoded, IsWellFormed, MayStandBefore, AreWellFormed}
+use Rattle.saphyr_scalar.proofs.Properties.TagsRead.{mark_bytes}
 
 -- ## Handles and tags
 
@@ -24,28 +25,33 @@ handle_of : (text : List ℕ) → IsHandleText text → (h : Handle) × (text �
 handle_of text (inl e) = (Primary, e)
 handle_of text (inr n) = (Named n.0, n.2)
 
-with_bytes : (text bytes : List ℕ) → bytes ≡ encode_utf8_all text → IsHandleText text → (h : Handle) × (bytes ≡ handle_bytes h)
+with_bytes : (text bytes : List ℕ) → bytes ≡ encode_utf8_all text → IsHandleText text
+    → (h : Handle) × (bytes ≡ handle_bytes h)
 with_bytes text bytes e i =
     let h : (h : Handle) × (text ≡ handle_text h) = handle_of text i in
     (h.0, e ∙ ap encode_utf8_all h.1)
 
-as_token : (front back handle suffix : List ℕ) → front ≡ handle → back ≡ suffix → tokens.Tag front back ≡ tokens.Tag handle suffix
+as_token : (front back handle suffix : List ℕ) → front ≡ handle → back ≡ suffix
+    → tokens.Tag front back ≡ tokens.Tag handle suffix
 as_token front back handle suffix e f = ap (λ (x : List ℕ). tokens.Tag x back) e ∙ ap (tokens.Tag handle) f
 
-mark_bytes : encode_utf8_all (codes "!") ≡ codes "!"
-unfolding encode
-mark_bytes = refl
-
-tag_of : (text handle suffix front back : List ℕ) → IsTagText text handle suffix → front ≡ encode_utf8_all handle → back ≡ encode_utf8_all suffix → (tag : Tag) × (tokens.Tag front back ≡ tag_token tag)
-tag_of text handle suffix front back (inl n) e f = (NonSpecific, as_token front back [] (codes "!") (e ∙ ap encode_utf8_all n.1) (f ∙ ap encode_utf8_all n.2 ∙ mark_bytes))
-tag_of text handle suffix front back (inr (inl v)) e f = (Verbatim suffix, as_token front back [] (encode_utf8_all suffix) (e ∙ ap encode_utf8_all v.2) f)
+tag_of : (text handle suffix front back : List ℕ) → IsTagText text handle suffix → front ≡ encode_utf8_all handle
+    → back ≡ encode_utf8_all suffix → (tag : Tag) × (tokens.Tag front back ≡ tag_token tag)
+tag_of text handle suffix front back (inl n) e f = (
+  NonSpecific,
+  as_token front back [] (codes "!") (e ∙ ap encode_utf8_all n.1)
+      (f ∙ ap encode_utf8_all n.2 ∙ mark_bytes),
+)
+tag_of text handle suffix front back (inr (inl v)) e f =
+    (Verbatim suffix, as_token front back [] (encode_utf8_all suffix) (e ∙ ap encode_utf8_all v.2) f)
 tag_of text handle suffix front back (inr (inr s)) e f =
     let h : (h : Handle) × (front ≡ handle_bytes h) = with_bytes handle front e s.1 in
     (Shorthand h.0 suffix, as_token front back (handle_bytes h.0) (encode_utf8_all suffix) h.1 f)
 
 -- ## Tokens
 
-scalar_form : (k : ScalarStyle) (indent : ℕ) (value : List ℕ) (span : Span) (s t : Cursor) → IsScalar k indent value span s t → IsEncoded value
+scalar_form : (k : ScalarStyle) (indent : ℕ) (value : List ℕ) (span : Span) (s t : Cursor)
+    → IsScalarToken k indent value span s t → IsEncoded value
 scalar_form style.Plain indent value span s t i = (_, sym i.reading.value)
 scalar_form style.SingleQuoted indent value span s t i = (_, i.2)
 scalar_form style.DoubleQuoted indent value span s t i = (_, i.2)
@@ -70,12 +76,19 @@ may_stand A tokens.StreamEnd ts h = h
 may_stand A _ ts h = tt
 
 -- and behind another the rest is ended
-goes_on : (P : Marker → Type 0) (r : Option Refusal) (k : Kind) (ts : List Piece) → IsLastOr (AreEnded P r ts) ts k → (ts ≡ []) ⊎ AreEnded P r ts
+goes_on : (P : Marker → Type 0) (r : Option Refusal) (k : Kind) (ts : List Piece) → IsLastOr (AreEnded P r ts) ts k
+    → (ts ≡ []) ⊎ AreEnded P r ts
 goes_on P r tokens.StreamEnd ts h = inl h
 goes_on P r _ ts h = inr h
 
 -- tokens that are taken from a text and that the end of the stream or a refusal ends are well formed
-pub tokens_form : (P : Marker → Type 0) (r : Option Refusal) (columns : List ℕ) (ps : List Piece) (s u : Cursor) → AreTokens columns ps s u → (ps ≡ []) ⊎ AreEnded P r ps → AreWellFormed ps
+pub tokens_form : (P : Marker → Type 0) (r : Option Refusal) (columns : List ℕ) (ps : List Piece) (s u : Cursor)
+    → AreTokens columns ps s u → (ps ≡ []) ⊎ AreEnded P r ps → AreWellFormed ps
 tokens_form P r columns [] s u a l = tt
 tokens_form P r columns (p ∷ ps) s u a (inl e) = absurd (cc)
-tokens_form P r columns (p ∷ ps) s u a (inr l) = (token_form p.kind (indentation columns) p.span a.0 a.1 a.3, may_stand (AreEnded P r ps) p.kind ps l, tokens_form P r (open_behind p.kind p.span.start.col columns) ps a.1 u a.4 (goes_on P r p.kind ps l))
+tokens_form P r columns (p ∷ ps) s u a (inr l) = (
+  token_form p.kind (least_column columns) p.span a.0 a.1 a.3,
+  may_stand (AreEnded P r ps) p.kind ps l,
+  tokens_form P
+      r (open_behind p.kind p.span.start.col columns) ps a.1 u a.4 (goes_on P r p.kind ps l),
+)

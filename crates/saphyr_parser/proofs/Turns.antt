@@ -7,8 +7,8 @@ use Rattle.saphyr_scalar.specs.Seen.{Fails}
 use Rattle.saphyr_parser.specs.declared.parser.state.State.TheVariants.{End}
 use Rattle.saphyr_parser.specs.declared.parser.fault.Fault.{Fault}
 use Rattle.saphyr_parser.specs.declared.parser.fault.Fault.TheVariants as fault
-use Rattle.saphyr_parser.specs.Machine.{Machine, Told}
-use Rattle.saphyr_parser.specs.Steps.{step}
+use Rattle.saphyr_parser.specs.Steps.Machine.{Machine, Told}
+use Rattle.saphyr_parser.specs.Steps.Expected.{step}
 use Rattle.saphyr_parser.specs.Answer.{deliver, remaining}
 use Rattle.saphyr_parser.specs.Faults.{IsFaultOf}
 use Rattle.saphyr_parser.specs.Cursor.{Refuses, count}
@@ -18,9 +18,11 @@ something : (r : Result Told Refusal) → 0 < count (deliver r remaining)
 something (Ok x) = omega arith
 something (Err f) = omega arith
 
-pub refused : (m : Machine) (s : Stop) (f : Fault) → m.state ≢ End → Fails s (step m) → IsFaultOf s f → Refuses f (remaining m)
+pub refused : (m : Machine) (s : Stop) (f : Fault) → m.state ≢ End → Fails s (step m) → IsFaultOf s f
+    → Refuses f (remaining m)
 refused m s fault.OutOfMemory more h w = rw (unroll m more) (something (step m))
 refused m stop.OutOfMemory (fault.Scan e) more h w = absurd w
-refused m (stop.Refused r) (fault.Scan e) more h w = unroll m more ∙ ap (λ (q : Result Told Refusal). deliver q remaining) h ∙ rw (w.place, w.text) refl
+refused m (stop.Refused r) (fault.Scan e) more h w =
+    unroll m more ∙ ap (λ (q : Result Told Refusal). deliver q remaining) h ∙ rw (w.place, w.text) refl
 refused m s fault.Receiver more h w = absurd w
 refused m s fault.InsideDocument more h w = absurd w

@@ -5,14 +5,14 @@ use Rattle.saphyr_scalar.specs.declared.scalar.fault.Refusal.{Refusal}
 use Rattle.saphyr_parser.specs.declared.parser.context.Context.TheVariants.{Block}
 use Rattle.saphyr_parser.specs.declared.parser.state.State.{State}
 use Rattle.saphyr_parser.specs.declared.parser.state.State.TheVariants as state
-use Rattle.saphyr_parser.specs.Machine.{Machine, Told}
-use Rattle.saphyr_parser.specs.Steps.{block_node, step, step_at}
+use Rattle.saphyr_parser.specs.Steps.Machine.{Machine, Told}
+use Rattle.saphyr_parser.specs.Steps.Expected.{block_node, step, step_at}
 use Rattle.saphyr_parser.specs.Answer.{Answer, none, before, deliver, unless_ended, run, remaining, open_size, size, weight_before, begins_with_value}
-use Rattle.saphyr_parser.proofs.Sizes.{Within, refuses, taken}
-use Rattle.saphyr_parser.proofs.NodeSizes.{node_within}
-use Rattle.saphyr_parser.proofs.BlockSizes as block
-use Rattle.saphyr_parser.proofs.FlowSizes as flow
-use Rattle.saphyr_parser.proofs.DocumentSizes as document
+use Rattle.saphyr_parser.proofs.Sizes.Steps.{Within, refuses, taken}
+use Rattle.saphyr_parser.proofs.Sizes.Nodes.{node_within}
+use Rattle.saphyr_parser.proofs.Sizes.Block as block
+use Rattle.saphyr_parser.proofs.Sizes.Flow as flow
+use Rattle.saphyr_parser.proofs.Sizes.Documents as document
 
 block_node_within : (n : ℕ) (m : Machine) → open_size m ≤ n → Within n (block_node m)
 unfolding block_node
@@ -22,7 +22,8 @@ keyed : (b : Bool) (k n : ℕ) → k + (if b then 3 else 1) ≤ n + 1 → k + (i
 keyed true k n l = omega (arith, l)
 keyed false k n l = omega (arith, l)
 
-steps_at : (n : ℕ) (s : State) (m : Machine) → open_size m + weight_before s m.tokens.pieces ≤ n + 1 → Within n (step_at s m)
+steps_at : (n : ℕ) (s : State) (m : Machine) → open_size m + weight_before s m.tokens.pieces ≤ n + 1
+    → Within n (step_at s m)
 steps_at n state.StreamStart m l = document.stream_start_within n m (omega (arith, l))
 steps_at n state.ImplicitDocumentStart m l = document.implicit_start_within n m (omega (arith, l))
 steps_at n state.DocumentStart m l = document.explicit_start_within n m (omega (arith, l))
@@ -31,7 +32,8 @@ steps_at n state.DocumentEnd m l = document.document_end_within n m (omega (arit
 steps_at n state.BlockNode m l = block_node_within n m (omega (arith, l))
 steps_at n state.BlockSequenceEntry m l = block.sequence_entry_within n m (omega (arith, l))
 steps_at n state.IndentlessSequenceEntry m l = block.indentless_entry_within n m (omega (arith, l))
-steps_at n state.BlockMappingKey m l = block.mapping_key_within n m (keyed (begins_with_value m.tokens.pieces) (open_size m) n l)
+steps_at n state.BlockMappingKey m l =
+    block.mapping_key_within n m (keyed (begins_with_value m.tokens.pieces) (open_size m) n l)
 steps_at n state.BlockMappingValue m l = block.mapping_value_within n m (omega (arith, l))
 steps_at n state.FlowSequenceFirstEntry m l = flow.first_entry_within n m (omega (arith, l))
 steps_at n state.FlowSequenceEntry m l = flow.other_entry_within n m (omega (arith, l))
@@ -59,14 +61,18 @@ unfolding step
 shrinks_at zero m x l e = let alive = alive_at m.state m x e in absurd (omega (arith, l, alive))
 shrinks_at (suc n) m x l e = let b = (steps_at n m.state m (omega (arith, l))).bound x e in omega (arith, b)
 
-same_delivery : (r : Result Told Refusal) (go ho : Machine → Answer) → ((x : Told) → r ≡ Ok x → go x.machine ≡ ho x.machine) → deliver r go ≡ deliver r ho
+same_delivery : (r : Result Told Refusal) (go ho : Machine → Answer)
+    → ((x : Told) → r ≡ Ok x → go x.machine ≡ ho x.machine) → deliver r go ≡ deliver r ho
 same_delivery (Err e) go ho h = refl
 same_delivery (Ok x) go ho h = ap (before (x.what, x.span)) (h x refl)
 
 enough : (n k : ℕ) (m : Machine) → size m < n → size m < k → run n m ≡ run k m
 enough zero k m a b = absurd (omega (arith, a))
 enough (suc n) zero m a b = absurd (omega (arith, b))
-enough (suc n) (suc k) m a b = ap (unless_ended m.state) (same_delivery (step m) _ _ (λ x e. enough n k x.machine (shrinks_at n m x (omega (arith, a)) e) (shrinks_at k m x (omega (arith, b)) e)))
+enough (suc n) (suc k) m a b =
+    ap (unless_ended m.state)
+    (same_delivery (step m) _ _
+    (λ x e. enough n k x.machine (shrinks_at n m x (omega (arith, a)) e) (shrinks_at k m x (omega (arith, b)) e)))
 
 goes_on : (s : State) (a : Answer) → s ≢ state.End → unless_ended s a ≡ a
 goes_on state.End a h = absurd (h refl)
@@ -77,7 +83,9 @@ is_over s a e = rw e refl
 
 pub unroll : (m : Machine) → m.state ≢ state.End → remaining m ≡ deliver (step m) remaining
 unfolding remaining
-unroll m h = goes_on m.state _ h ∙ same_delivery (step m) _ _ (λ x e. enough (size m) (suc (size x.machine)) x.machine (shrinks_at (size m) m x (omega arith) e) (omega arith))
+unroll m h = goes_on m.state _ h
+    ∙ same_delivery (step m) _ _
+    (λ x e. enough (size m) (suc (size x.machine)) x.machine (shrinks_at (size m) m x (omega arith) e) (omega arith))
 
 pub over : (m : Machine) → m.state ≡ state.End → remaining m ≡ none
 unfolding remaining

@@ -1,4 +1,5 @@
--- The ids of anchors (YAML 1.2.2, 3.2.2.2, 6.9.2 and 7.1): 1, 2, 3 and so on in the order of the parts, over all documents.
+-- The ids of anchors (YAML 1.2.2, 3.2.2.2, 6.9.2 and 7.1): 1, 2, 3 and so on in the order of the parts, over all
+-- documents.
 -- Each definition looks back at the parts that stand before, the latest first.
 use Rattle.std.specs.Prelude.{◌≡◌, ◌≢◌, ◌++◌, ℕ, suc, Bool, false, if◌then◌else◌, List, [], ◌∷◌, Option, Some, None, option_map, encode_utf8_all}
 use Rattle.std.specs.Str.{bytes_eq}
@@ -33,7 +34,9 @@ is_named name (Some other) = bytes_eq name other
 -- stands before its entries, so its own anchor counts.
 abbrev pub latest : List ℕ → List Part → Option ℕ
 latest name [] = None
-latest name (part ∷ front) = if opens_document part then None else (if is_named name (anchor_of part) then Some (suc (anchors front)) else latest name front)
+latest name (part ∷ front) =
+    if opens_document part then None else
+    (if is_named name (anchor_of part) then Some (suc (anchors front)) else latest name front)
 
 -- ## The same at once, in place of step by step
 
@@ -45,4 +48,5 @@ AreWithout name (part ∷ others) = (opens_document part ≡ false) × (anchor_o
 -- the latest anchor of the name: parts without one stand behind it, and its id is one more than the anchors before it
 abbrev pub IsLatest : List ℕ → List Part → ℕ → Type 0
 IsLatest name front id =
-    (later : List Part) × (part : Part) × (earlier : List Part) × AreWithout name later × (anchor_of part ≡ Some name) × (id ≡ suc (anchors earlier)) × (front ≡ later ++ part ∷ earlier)
+    (later : List Part) × (part : Part) × (earlier : List Part) × AreWithout name later × (anchor_of part ≡ Some name)
+    × (id ≡ suc (anchors earlier)) × (front ≡ later ++ part ∷ earlier)

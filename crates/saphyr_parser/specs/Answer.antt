@@ -4,14 +4,14 @@ use Rattle.saphyr_scalar.specs.Texts.{fault_text}
 use Rattle.saphyr_scalar.specs.declared.scalar.position.Marker.{Marker}
 use Rattle.saphyr_scalar.specs.declared.scalar.position.Span.{Span}
 use Rattle.saphyr_scalar.specs.declared.scalar.fault.Refusal.{Refusal}
-use Rattle.saphyr_scanner.specs.Tokens as tokens
-use Rattle.saphyr_scanner.specs.Tokens.{Kind}
-use Rattle.saphyr_scanner.specs.Seen.{Piece}
+use Rattle.saphyr_scanner.specs.Grammar.Tokens as tokens
+use Rattle.saphyr_scanner.specs.Grammar.Tokens.{Kind}
+use Rattle.saphyr_scanner.specs.Views.Tokens.{Piece}
 use Rattle.saphyr_parser.specs.declared.parser.state.State.{State}
 use Rattle.saphyr_parser.specs.declared.parser.state.State.TheVariants as state
 use Rattle.saphyr_parser.specs.Events.{Happening}
-use Rattle.saphyr_parser.specs.Machine.{Machine, Told}
-use Rattle.saphyr_parser.specs.Steps.{step}
+use Rattle.saphyr_parser.specs.Steps.Machine.{Machine, Told}
+use Rattle.saphyr_parser.specs.Steps.Expected.{step}
 
 -- what ends the events before their end: a refusal with its place and its text, or that memory ran out
 pub data Ending : Type 0 where

@@ -1,17 +1,18 @@
 -- An answer as a beginning of a forest's events, by a beginning of the forest's tokens.
 use Rattle.std.specs.Prelude.{◌≡◌, Bool, List, ◌++◌, map, Some}
 use Rattle.saphyr_scalar.specs.declared.scalar.position.Span.{Span}
-use Rattle.saphyr_scanner.specs.Forest.{Forest}
-use Rattle.saphyr_scanner.specs.Tokens.{Kind}
-use Rattle.saphyr_scanner.specs.Seen.{Piece, Remaining}
-use Rattle.saphyr_scanner.specs.TokenGrammar.{Yields}
+use Rattle.saphyr_scanner.specs.Grammar.Forest.{Forest}
+use Rattle.saphyr_scanner.specs.Grammar.Tokens.{Kind}
+use Rattle.saphyr_scanner.specs.Views.Tokens.{Piece, Remaining}
+use Rattle.saphyr_scanner.specs.Grammar.TokenGrammar.{Yields}
 use Rattle.saphyr_parser.specs.Events.{Happening}
 use Rattle.saphyr_parser.specs.ForestEvents.{events}
 use Rattle.saphyr_parser.specs.Answer.{Answer}
 use Rattle.saphyr_parser.specs.EventsTaken.{IsAllUnless, IsCut, HaveTokens}
 use Rattle.saphyr_parser.specs.Exactly.{kinds}
 
--- The answer's events are a beginning of the forest's: all of them where no fault ends them, and with a fault not all. The tokens begin as the
+-- The answer's events are a beginning of the forest's: all of them where no fault ends them, and with a fault not all.
+-- The tokens begin as the
 -- forest's do, and are all of them where there is no fault. Each event has its tokens, and their span.
 pub record IsBeginningOf (forest : Forest) (keep : Bool) (pieces : List Piece) (a : Answer) : Type 0 where
   pub read : List Piece

@@ -5,15 +5,23 @@ use Rattle.saphyr_scalar.specs.declared.scalar.position.Span.{Span}
 use Rattle.saphyr_parser.specs.declared.parser.event.Event.{Event}
 use Rattle.saphyr_parser.specs.declared.parser.fault.Fault.{Fault}
 use Rattle.saphyr_parser.specs.declared.parser.fault.Fault.TheVariants as fault
+use Rattle.saphyr_parser.specs.declared.parser.progress.Progress.{Progress}
+use Rattle.saphyr_parser.specs.declared.parser.progress.Progress.TheVariants as progress
 use Rattle.saphyr_parser.specs.declared.parser.state.State.{State}
 use Rattle.saphyr_parser.specs.declared.parser.state.State.TheVariants as state
 use Rattle.saphyr_parser.specs.Events as events
 use Rattle.saphyr_parser.specs.Events.{Happening}
-use Rattle.saphyr_parser.specs.Seen.{happening}
-use Rattle.saphyr_parser.specs.Machine.{Machine, told}
-use Rattle.saphyr_parser.specs.Steps.{step}
+use Rattle.saphyr_parser.specs.Views.Machines.{happening}
+use Rattle.saphyr_parser.specs.Steps.Machine.{Machine, told}
+use Rattle.saphyr_parser.specs.Steps.Expected.{step}
 use Rattle.saphyr_parser.specs.Answer.{Answer, Ending, Refused, OutOfMemory, failed, none, remaining}
 use Rattle.saphyr_parser.specs.Cursor.{Cursor, Kept, IsUnmoved, Refuses, Shows, Stays, count, ending_of, event_of, keeping_tags, remembered, to_come}
+
+-- what was read, where an event or a fault is written into its place
+abbrev pub placed : Event × Span → Fault → Progress → Option (Result (Event × Span) Fault)
+placed next fault progress.Event = Some (Ok next)
+placed next fault progress.Fault = Some (Err fault)
+placed next fault progress.Over = None
 
 -- ## A reading
 
@@ -34,7 +42,8 @@ Ends OutOfMemory a = 0 < count a
 abbrev pub AdvancesFrom : Option (Happening × Span) → Option Kept → Happening × Span → Cursor → Cursor → Type 0
 AdvancesFrom (Some next) kept e old new = (next ≡ e) × (new ≡ remembered e.0 e.1 (record old { current = None }))
 AdvancesFrom None (Some k) e old new = ⊥
-AdvancesFrom None None e old new = (step old.machine ≡ told e.0 e.1 new.machine) × (new ≡ remembered e.0 e.1 (record old { machine = new.machine }))
+AdvancesFrom None None e old new =
+    (step old.machine ≡ told e.0 e.1 new.machine) × (new ≡ remembered e.0 e.1 (record old { machine = new.machine }))
 
 -- This event is handed out. It was read ahead, or the machine makes one step; nothing else changes but what is
 -- remembered of it.
@@ -61,7 +70,8 @@ as_given f = Some (record { fault = ending_of f; given = true })
 abbrev pub FailsFrom : Option (Happening × Span) → Option Kept → Fault → Cursor → Cursor → Type 0
 FailsFrom (Some next) kept f old new = ⊥
 FailsFrom None (Some k) f old new = (k.given ≡ false) × IsToldAs k.fault f × (new ≡ record old { kept = as_given f })
-FailsFrom None None f old new = Refuses f (remaining old.machine) × (new ≡ record old { kept = as_given f; machine = new.machine })
+FailsFrom None None f old new =
+    Refuses f (remaining old.machine) × (new ≡ record old { kept = as_given f; machine = new.machine })
 
 -- This fault is handed out, and kept as one that was.
 abbrev pub Fails : Fault → Cursor → Cursor → Type 0
@@ -73,7 +83,8 @@ GivesFault None None old new = new ≡ old
 GivesFault None (Some r) old new = ⊥
 GivesFault (Some k) None old new = (k.given ≡ true) × (new ≡ old)
 GivesFault (Some k) (Some (Ok e)) old new = ⊥
-GivesFault (Some k) (Some (Err f)) old new = (k.given ≡ false) × IsToldAs k.fault f × (new ≡ record old { kept = as_given f })
+GivesFault (Some k) (Some (Err f)) old new =
+    (k.given ≡ false) × IsToldAs k.fault f × (new ≡ record old { kept = as_given f })
 
 -- ## Where nothing is left
 
@@ -100,8 +111,11 @@ EndsTheStream c = (span : Span) → c.finished ≡ Some span → (keep : Bool) �
 
 abbrev pub ReadsAhead : Option (Happening × Span) → Option Kept → Cursor → Cursor → Type 0
 ReadsAhead (Some e) (Some k) old new = ⊥
-ReadsAhead (Some e) None old new = (step old.machine ≡ told e.0 e.1 new.machine) × (new ≡ record old { current = Some e; machine = new.machine })
-ReadsAhead None (Some k) old new = (k.given ≡ false) × Ends k.fault (remaining old.machine) × (new ≡ record old { kept = Some k; machine = new.machine })
+ReadsAhead (Some e) None old new =
+    (step old.machine ≡ told e.0 e.1 new.machine) × (new ≡ record old { current = Some e; machine = new.machine })
+ReadsAhead None (Some k) old new =
+    (k.given ≡ false) × Ends k.fault (remaining old.machine)
+    × (new ≡ record old { kept = Some k; machine = new.machine })
 ReadsAhead None None old new = (old.machine.state ≡ state.End) × (new ≡ old)
 
 abbrev pub LooksFrom : Option (Happening × Span) → Option Kept → Cursor → Cursor → Type 0

@@ -2,14 +2,14 @@
 use Rattle.std.specs.Prelude.{◌≡◌, ℕ, ◌+◌, ◌<◌, length, is_some, Bool, true, false, Option, Some, None, Result, Ok, Err, if◌then◌else◌, ◌⊎◌, string_bytes}
 use Rattle.std.specs.Borrow.{Bor}
 use Rattle.saphyr_scalar.specs.declared.scalar.position.Span.{Span}
-use Rattle.saphyr_scanner.specs.Seen.{Remaining}
+use Rattle.saphyr_scanner.specs.Views.Tokens.{Remaining}
 use Rattle.saphyr_parser.specs.declared.parser.event.Event.{Event}
 use Rattle.saphyr_parser.specs.declared.parser.fault.Fault.{Fault}
 use Rattle.saphyr_parser.specs.declared.parser.fault.Fault.TheVariants as fault
 use Rattle.saphyr_parser.specs.Events as events
 use Rattle.saphyr_parser.specs.Events.{Happening}
-use Rattle.saphyr_parser.specs.Seen.{happening}
-use Rattle.saphyr_parser.specs.Machine.{Machine, fresh}
+use Rattle.saphyr_parser.specs.Views.Machines.{happening}
+use Rattle.saphyr_parser.specs.Steps.Machine.{Machine, fresh}
 use Rattle.saphyr_parser.specs.Answer.{Ending, Refused, OutOfMemory, Answer, none, failed, before, remaining}
 
 -- the fault that ended the events, and whether it was handed out
@@ -17,7 +17,8 @@ pub record Kept : Type 0 where
   pub fault : Ending
   pub given : Bool
 
--- An event that was read ahead, the fault that ended the events, what is still to be read, whether a document was handed
+-- An event that was read ahead, the fault that ended the events, what is still to be read, whether a document was
+-- handed
 -- out whose end wasn't, and the span of the stream's end where that was handed out.
 pub record Cursor : Type 0 where
   pub current : Option (Happening × Span)
@@ -117,7 +118,8 @@ finished_behind events.StreamEnd span finished = Some span
 finished_behind _ span finished = finished
 
 abbrev pub remembered : Happening → Span → Cursor → Cursor
-remembered what span c = record c { inside = inside_behind what c.inside; finished = finished_behind what span c.finished }
+remembered what span c =
+    record c { inside = inside_behind what c.inside; finished = finished_behind what span c.finished }
 
 -- a fault that ends the events was handed out
 abbrev pub IsGiven : Option (Result (Event × Span) Fault) → Option Kept → Type 0
@@ -126,7 +128,9 @@ IsGiven (Some (Ok e)) kept = Unit {0}
 IsGiven (Some (Err f)) kept = kept ≡ Some (record { fault = ending_of f; given = true })
 
 abbrev pub Remembers : Option (Result (Event × Span) Fault) → Cursor → Cursor → Type 0
-Remembers (Some (Ok e)) old new = (new.inside ≡ inside_behind (happening e.0) old.inside) × (new.finished ≡ finished_behind (happening e.0) e.1 old.finished)
+Remembers (Some (Ok e)) old new =
+    (new.inside ≡ inside_behind (happening e.0) old.inside)
+    × (new.finished ≡ finished_behind (happening e.0) e.1 old.finished)
 Remembers _ old new = IsUnmoved old new
 
 -- what `peek` shows of what remains

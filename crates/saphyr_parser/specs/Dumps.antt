@@ -19,7 +19,8 @@ pub record Prints (all left : Answer) (old new : Option (List ℕ)) : Type 0 whe
   pub fault : all.fault ≡ left.fault
   pub taken : Appends old new (lines printed)
 
--- The lines of some events were taken, and of one more line a beginning that isn't all of it. The events behind are left.
+-- The lines of some events were taken, and of one more line a beginning that isn't all of it. The events behind are
+-- left.
 pub record Cuts (all left : Answer) (old new : Option (List ℕ)) : Type 0 where
   pub printed : List (Happening × Span)
   pub event : Happening × Span
@@ -31,12 +32,15 @@ pub record Cuts (all left : Answer) (old new : Option (List ℕ)) : Type 0 where
   pub missing : 0 < length back
   pub taken : Appends old new (lines printed ++ front)
 
--- Where a call of `dump` returns, what it says of the events that were still to come, of those that are left, and of what the
+-- Where a call of `dump` returns, what it says of the events that were still to come, of those that are left, and of
+-- what the
 -- writer holds. Memory may run out before any of the events.
 abbrev pub Dumps : Result (Unit {0}) DumpFault → Answer → Answer → Option (List ℕ) → Option (List ℕ) → Type 0
 Dumps (Ok u) all left old new = (all.fault ≡ None) × Appends old new (lines all.events) × (left ≡ none)
-Dumps (Err (dump.Parse (fault.Scan e))) all left old new = (all.fault ≡ Some (Refused e.mark (string_bytes e.info))) × Appends old new (lines all.events) × (left ≡ none)
-Dumps (Err (dump.Parse fault.OutOfMemory)) all left old new = ((lost : Answer) × Prints all lost old new × (0 < count lost)) × (left ≡ none)
+Dumps (Err (dump.Parse (fault.Scan e))) all left old new =
+    (all.fault ≡ Some (Refused e.mark (string_bytes e.info))) × Appends old new (lines all.events) × (left ≡ none)
+Dumps (Err (dump.Parse fault.OutOfMemory)) all left old new =
+    ((lost : Answer) × Prints all lost old new × (0 < count lost)) × (left ≡ none)
 Dumps (Err (dump.Parse fault.Receiver)) all left old new = ⊥
 Dumps (Err (dump.Parse fault.InsideDocument)) all left old new = ⊥
 Dumps (Err dump.Write) all left old new = Cuts all left old new
@@ -62,5 +66,6 @@ pub record CutsAt (first last : Cursor) (old new : Option (List ℕ)) : Type 0 w
 -- whose line was cut.
 abbrev pub Leaves : Result (Unit {0}) DumpFault → Cursor → Cursor → Option (List ℕ) → Option (List ℕ) → Type 0
 Leaves (Ok u) first last old new = AdvancesOver (to_come first).events first last × IsOver last
-Leaves (Err (dump.Parse f)) first last old new = (middle : Cursor) × PrintsUpTo first middle old new × Fails f middle last
+Leaves (Err (dump.Parse f)) first last old new =
+    (middle : Cursor) × PrintsUpTo first middle old new × Fails f middle last
 Leaves (Err dump.Write) first last old new = CutsAt first last old new

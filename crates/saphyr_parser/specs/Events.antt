@@ -1,6 +1,6 @@
 -- Events without their spans.
 use Rattle.std.specs.Prelude.{ℕ, Bool, List, Option}
-use Rattle.saphyr_scanner.specs.Forest.{Style}
+use Rattle.saphyr_scanner.specs.Grammar.Forest.{Style}
 
 -- a tag with its prefix in place of the handle, both in UTF-8
 pub record ResolvedTag : Type 0 where

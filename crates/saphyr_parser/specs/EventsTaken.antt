@@ -5,11 +5,11 @@ use Rattle.saphyr_scalar.specs.declared.scalar.position.Span.{Span}
 use Rattle.saphyr_scalar.specs.declared.scalar.fault.FaultText.{FaultText}
 use Rattle.saphyr_scalar.specs.Texts.{fault_text}
 use Rattle.saphyr_scalar.specs.declared.scalar.style.ScalarStyle.TheVariants.{Plain}
-use Rattle.saphyr_scanner.specs.Forest.{Forest}
-use Rattle.saphyr_scanner.specs.Tokens as tokens
-use Rattle.saphyr_scanner.specs.Tokens.{Kind}
-use Rattle.saphyr_scanner.specs.Seen.{Piece, Remaining}
-use Rattle.saphyr_scanner.specs.TokenGrammar.{Yields}
+use Rattle.saphyr_scanner.specs.Grammar.Forest.{Forest}
+use Rattle.saphyr_scanner.specs.Grammar.Tokens as tokens
+use Rattle.saphyr_scanner.specs.Grammar.Tokens.{Kind}
+use Rattle.saphyr_scanner.specs.Views.Tokens.{Piece, Remaining}
+use Rattle.saphyr_scanner.specs.Grammar.TokenGrammar.{Yields}
 use Rattle.saphyr_scanner.specs.TokensTaken.{IsPlaceOf, AreTakenFrom}
 use Rattle.saphyr_parser.specs.Events.{Happening, DocumentStart, Alias, Scalar, SequenceStart, MappingStart}
 use Rattle.saphyr_parser.specs.ForestEvents.{events}
@@ -32,19 +32,19 @@ BelongsToNone tokens.BlockMappingStart = ⊥
 BelongsToNone _ = Unit {0}
 
 -- an anchor, a tag, or both in either order
-abbrev pub IsAnchor : Kind → Type 0
-IsAnchor (tokens.Anchor name) = Unit {0}
-IsAnchor _ = ⊥
+abbrev pub IsAnchorKind : Kind → Type 0
+IsAnchorKind (tokens.Anchor name) = Unit {0}
+IsAnchorKind _ = ⊥
 
-abbrev pub IsTag : Kind → Type 0
-IsTag (tokens.Tag handle suffix) = Unit {0}
-IsTag _ = ⊥
+abbrev pub IsTagKind : Kind → Type 0
+IsTagKind (tokens.Tag handle suffix) = Unit {0}
+IsTagKind _ = ⊥
 
-abbrev pub AreProperties : List Piece → Type 0
-AreProperties [] = ⊥
-AreProperties (p ∷ []) = IsAnchor p.kind ⊎ IsTag p.kind
-AreProperties (p ∷ q ∷ []) = (IsAnchor p.kind × IsTag q.kind) ⊎ (IsTag p.kind × IsAnchor q.kind)
-AreProperties _ = ⊥
+abbrev pub ArePropertyTokens : List Piece → Type 0
+ArePropertyTokens [] = ⊥
+ArePropertyTokens (p ∷ []) = IsAnchorKind p.kind ⊎ IsTagKind p.kind
+ArePropertyTokens (p ∷ q ∷ []) = (IsAnchorKind p.kind × IsTagKind q.kind) ⊎ (IsTagKind p.kind × IsAnchorKind q.kind)
+ArePropertyTokens _ = ⊥
 
 -- from the start of the first token to the end of the last
 abbrev pub Spans : Piece → List Piece → Span → Type 0
@@ -58,38 +58,51 @@ SpansAll [] span = ⊥
 SpansAll (p ∷ ps) span = Spans p ps span
 
 -- content of its own token, behind properties or none
-abbrev pub IsContent : Kind → List Piece → Type 0
-IsContent kind ts = (front : List Piece) × (own : Piece) × ((front ≡ []) ⊎ AreProperties front) × (own.kind ≡ kind) × (ts ≡ front ++ own ∷ [])
+abbrev pub AreContentTokens : Kind → List Piece → Type 0
+AreContentTokens kind ts =
+    (front : List Piece) × (own : Piece) × ((front ≡ []) ⊎ ArePropertyTokens front) × (own.kind ≡ kind)
+    × (ts ≡ front ++ own ∷ [])
 
--- A block sequence at its mapping's column, which has no start of its own, behind properties or none: the first `-` comes
+-- A block sequence at its mapping's column, which has no start of its own, behind properties or none: the first `-`
+-- comes
 -- next, and the span goes up to its end.
 abbrev pub BeginsEntries : List Piece → Span → List Piece → Type 0
 BeginsEntries ts span [] = ⊥
-BeginsEntries ts span (entry ∷ others) = (entry.kind ≡ tokens.BlockEntry) × ((ts ≡ []) ⊎ AreProperties ts) × SpansAll (ts ++ entry ∷ []) span
+BeginsEntries ts span (entry ∷ others) =
+    (entry.kind ≡ tokens.BlockEntry) × ((ts ≡ []) ⊎ ArePropertyTokens ts) × SpansAll (ts ++ entry ∷ []) span
 
 -- a pair in brackets without a start of its own, which its `?` begins
-abbrev pub IsPair : List Piece → Type 0
-IsPair ts = (mark : Piece) × (mark.kind ≡ tokens.Key) × (ts ≡ mark ∷ [])
+abbrev pub ArePairTokens : List Piece → Type 0
+ArePairTokens ts = (mark : Piece) × (mark.kind ≡ tokens.Key) × (ts ≡ mark ∷ [])
 
--- The tokens ts are the event's own, behind which others come, and it has their span. An explicit document's is its `---`.
+-- The tokens ts are the event's own, behind which others come, and it has their span. An explicit document's is its
+-- `---`.
 abbrev pub IsOf : Happening → Span → List Piece → List Piece → Type 0
-IsOf (DocumentStart true) span ts others = (own : Piece) × (own.kind ≡ tokens.DocumentStart) × (own.span ≡ span) × (ts ≡ own ∷ [])
-IsOf (Alias id) span ts others = (own : Piece) × (name : List ℕ) × (own.kind ≡ tokens.Alias name) × (own.span ≡ span) × (ts ≡ own ∷ [])
+IsOf (DocumentStart true) span ts others =
+    (own : Piece) × (own.kind ≡ tokens.DocumentStart) × (own.span ≡ span) × (ts ≡ own ∷ [])
+IsOf (Alias id) span ts others =
+    (own : Piece) × (name : List ℕ) × (own.kind ≡ tokens.Alias name) × (own.span ≡ span) × (ts ≡ own ∷ [])
 IsOf (Scalar text style id tag) span ts others =
-    (IsContent (tokens.Scalar style text) ts × SpansAll ts span) ⊎ ((text ≡ []) × (style ≡ Plain) × AreProperties ts × SpansAll ts span)
+    (AreContentTokens (tokens.Scalar style text) ts × SpansAll ts span)
+    ⊎ ((text ≡ []) × (style ≡ Plain) × ArePropertyTokens ts × SpansAll ts span)
     ⊎ ((text ≡ []) × (style ≡ Plain) × (id ≡ 0) × (tag ≡ None) × (ts ≡ []))
 IsOf (SequenceStart id tag) span ts others =
-    ((IsContent tokens.FlowSequenceStart ts ⊎ IsContent tokens.BlockSequenceStart ts) × SpansAll ts span) ⊎ BeginsEntries ts span others
+    ((AreContentTokens tokens.FlowSequenceStart ts ⊎ AreContentTokens tokens.BlockSequenceStart ts) × SpansAll ts span)
+    ⊎ BeginsEntries ts span others
 IsOf (MappingStart id tag) span ts others =
-    (IsContent tokens.FlowMappingStart ts ⊎ (IsContent tokens.BlockMappingStart ts ⊎ IsPair ts)) × SpansAll ts span
+    (AreContentTokens tokens.FlowMappingStart ts ⊎ (AreContentTokens tokens.BlockMappingStart ts ⊎ ArePairTokens ts))
+    × SpansAll ts span
 IsOf _ span ts others = ts ≡ []
 
--- The events have their tokens, in order, and no token of a node is passed over before the last of these. Behind them all
+-- The events have their tokens, in order, and no token of a node is passed over before the last of these. Behind them
+-- all
 -- stand the tokens `unread`.
 pub data HaveTokens (unread : List Piece) : List (Happening × Span) → List Piece → Type 0 where
   nothing : (ts : List Piece) → HaveTokens unread [] ts
-  passed : (es : List (Happening × Span)) (t : Piece) (ts : List Piece) → BelongsToNone t.kind → HaveTokens unread es ts → HaveTokens unread es (t ∷ ts)
-  event : (what : Happening) (span : Span) (es : List (Happening × Span)) (own ts : List Piece) → IsOf what span own (ts ++ unread) → HaveTokens unread es ts → HaveTokens unread ((what, span) ∷ es) (own ++ ts)
+  passed : (es : List (Happening × Span)) (t : Piece) (ts : List Piece) → BelongsToNone t.kind → HaveTokens unread es ts
+      → HaveTokens unread es (t ∷ ts)
+  event : (what : Happening) (span : Span) (es : List (Happening × Span)) (own ts : List Piece)
+      → IsOf what span own (ts ++ unread) → HaveTokens unread es ts → HaveTokens unread ((what, span) ∷ es) (own ++ ts)
 
 -- ## Events of a forest
 
@@ -98,7 +111,8 @@ abbrev pub IsAllUnless : {X : Type 0} → Option Ending → List X → Type 0
 IsAllUnless None more = more ≡ []
 IsAllUnless (Some fault) more = Unit {0}
 
--- with no fault, all; with one, not all: behind the end of the stream, which is the last event of a forest, no fault stands
+-- with no fault, all; with one, not all: behind the end of the stream, which is the last event of a forest, no fault
+-- stands
 abbrev pub IsCut : {X : Type 0} → Option Ending → List X → Type 0
 IsCut None more = more ≡ []
 IsCut (Some fault) more = more ≢ []
@@ -107,13 +121,15 @@ IsCut (Some fault) more = more ≢ []
 abbrev pub IsFaultText : List ℕ → Type 0
 IsFaultText info = (fault : FaultText) × (info ≡ fault_text fault)
 
--- Where the events end with a refusal, its place is one of the text, and it is one of those that there are. Want of memory
+-- Where the events end with a refusal, its place is one of the text, and it is one of those that there are. Want of
+-- memory
 -- has no place.
 abbrev pub HasPlaceIn : List ℕ → Option Ending → Type 0
 HasPlaceIn text (Some (Refused place info)) = IsPlaceOf text place × IsFaultText info
 HasPlaceIn text _ = Unit {0}
 
--- The answer is a beginning of the forest's events: all of them where no fault ends it, and with a fault not all. Tokens that are taken from
+-- The answer is a beginning of the forest's events: all of them where no fault ends it, and with a fault not all.
+-- Tokens that are taken from
 -- the text begin as the forest's do, and are all of them where there is no fault.
 pub record IsTakenBy (forest : Forest) (keep : Bool) (text : List ℕ) (a : Answer) : Type 0 where
   pub tokens : Remaining

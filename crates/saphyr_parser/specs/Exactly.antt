@@ -1,10 +1,10 @@
 -- Which events a list of tokens gives.
 use Rattle.std.specs.Prelude.{◌≡◌, Bool, List, map, None, is_some}
 use Rattle.saphyr_scalar.specs.declared.scalar.position.Span.{Span}
-use Rattle.saphyr_scanner.specs.Tokens.{Kind}
-use Rattle.saphyr_scanner.specs.Seen.{Piece}
+use Rattle.saphyr_scanner.specs.Grammar.Tokens.{Kind}
+use Rattle.saphyr_scanner.specs.Views.Tokens.{Piece}
 use Rattle.saphyr_parser.specs.Events.{Happening}
-use Rattle.saphyr_parser.specs.Machine.{fresh}
+use Rattle.saphyr_parser.specs.Steps.Machine.{fresh}
 use Rattle.saphyr_parser.specs.Answer.{Answer, remaining}
 
 -- these events, whatever their spans, and no fault

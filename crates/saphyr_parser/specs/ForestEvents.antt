@@ -1,12 +1,13 @@
 -- The events of a forest.
 use Rattle.std.specs.Prelude.{Bool, List, [], ◌∷◌, Option, Some, None, option_map, encode_utf8_all}
-use Rattle.saphyr_scanner.specs.Forest.{Forest}
+use Rattle.saphyr_scanner.specs.Grammar.Forest.{Forest}
 use Rattle.saphyr_parser.specs.Preorder.{Part, OpenStream, CloseStream, OpenDocument, CloseDocument, Reference, Leaf, OpenSequence, CloseSequence, OpenMapping, CloseMapping, parts}
 use Rattle.saphyr_parser.specs.Events.{Happening, StreamStart, StreamEnd, DocumentStart, DocumentEnd, Alias, Scalar, SequenceStart, SequenceEnd, MappingStart, MappingEnd}
 use Rattle.saphyr_parser.specs.Anchors.{latest, own_id}
 use Rattle.saphyr_parser.specs.TagResolution.{resolve_any}
 
--- The event of a part, behind the parts before it, the latest first. There is none for an alias without an anchor of its
+-- The event of a part, behind the parts before it, the latest first. There is none for an alias without an anchor of
+-- its
 -- name, nor for a tag whose handle is not declared.
 abbrev pub event_of : Bool → List Part → Part → Option Happening
 event_of keep front OpenStream = Some StreamStart
@@ -14,7 +15,8 @@ event_of keep front CloseStream = Some StreamEnd
 event_of keep front (OpenDocument explicit directives) = Some (DocumentStart explicit)
 event_of keep front CloseDocument = Some DocumentEnd
 event_of keep front (Reference name) = option_map Alias (latest (encode_utf8_all name) front)
-event_of keep front (Leaf p style value) = option_map (Scalar (encode_utf8_all value) style (own_id front p.anchor)) (resolve_any keep p.tag front)
+event_of keep front (Leaf p style value) =
+    option_map (Scalar (encode_utf8_all value) style (own_id front p.anchor)) (resolve_any keep p.tag front)
 event_of keep front (OpenSequence p) = option_map (SequenceStart (own_id front p.anchor)) (resolve_any keep p.tag front)
 event_of keep front CloseSequence = Some SequenceEnd
 event_of keep front (OpenMapping p) = option_map (MappingStart (own_id front p.anchor)) (resolve_any keep p.tag front)
@@ -27,7 +29,8 @@ before_all _ _ = None
 -- the events of parts, behind the parts before them
 abbrev pub events_behind : Bool → List Part → List Part → Option (List Happening)
 events_behind keep front [] = Some []
-events_behind keep front (part ∷ others) = before_all (event_of keep front part) (events_behind keep (part ∷ front) others)
+events_behind keep front (part ∷ others) =
+    before_all (event_of keep front part) (events_behind keep (part ∷ front) others)
 
 -- The events of a forest, `keep` telling whether prefixes of tags are kept for later documents. There are none where an
 -- alias or a handle stands for nothing.

@@ -30,7 +30,8 @@ with_event e p = record { sent = e ∷ p.sent; fault = p.fault }
 -- of the events still to come, and the fault behind them
 abbrev pub part : Bool → List (Happening × Span) → Option Ending → Part
 part multi [] fault = record { sent = []; fault = fault }
-part multi (e ∷ es) fault = if is_last multi e.0 then (record { sent = e ∷ []; fault = None }) else with_event e (part multi es fault)
+part multi (e ∷ es) fault =
+    if is_last multi e.0 then (record { sent = e ∷ []; fault = None }) else with_event e (part multi es fault)
 
 -- what one call hands over where it begins between documents
 abbrev pub to_send : Bool → Cursor → Part
@@ -69,7 +70,8 @@ pub record Keeps (fault : Ending) (c : Cursor) : Type 0 where
 -- the fault that ended the events, as it is told; memory may run out while it is copied
 abbrev pub Tells : Result (Unit {0}) Fault → Option Kept → Type 0
 Tells (Ok u) kept = kept ≡ None
-Tells (Err (faults.Scan e)) kept = (given : Bool) × (kept ≡ Some (record { fault = answer.Refused e.mark (string_bytes e.info); given = given }))
+Tells (Err (faults.Scan e)) kept =
+    (given : Bool) × (kept ≡ Some (record { fault = answer.Refused e.mark (string_bytes e.info); given = given }))
 Tells (Err faults.OutOfMemory) kept = IsKept kept
 Tells (Err faults.Receiver) kept = ⊥
 Tells (Err faults.InsideDocument) kept = ⊥
@@ -95,7 +97,8 @@ module _ {R : Type 0} (receives : R → Happening × Span → Result (Unit {0}) 
     pub leaves : AdvancesOver (sent ++ (event ∷ [])) old new
     pub kept : new.kept ≡ None
 
-  -- Memory ran out: in reading, before something that was still to be sent or told, which is kept as a fault of its own;
+  -- Memory ran out: in reading, before something that was still to be sent or told, which is kept as a fault of its
+  -- own;
   -- or while the fault behind all events was copied.
   pub record Lost (p : Part) (old : Cursor) (first last : R) (new : Cursor) : Type 0 where
     pub sent : List (Happening × Span)
@@ -128,7 +131,8 @@ module _ {R : Type 0} (receives : R → Happening × Span → Result (Unit {0}) 
   -- a call that begins between documents
   abbrev pub Loads : Result (Unit {0}) Fault → Part → Cursor → R → R → Cursor → Type 0
   Loads (Ok u) p old first last new = Finished p old first last new
-  Loads (Err (faults.Scan e)) p old first last new = Faulted (answer.Refused e.mark (string_bytes e.info)) p old first last new
+  Loads (Err (faults.Scan e)) p old first last new =
+      Faulted (answer.Refused e.mark (string_bytes e.info)) p old first last new
   Loads (Err faults.OutOfMemory) p old first last new = Lost p old first last new
   Loads (Err faults.Receiver) p old first last new = Stopped p old first last new
   Loads (Err faults.InsideDocument) p old first last new = ⊥

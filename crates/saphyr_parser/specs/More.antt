@@ -2,10 +2,10 @@
 use Rattle.std.specs.Prelude.{◌≡◌, ◌⊎◌, List, ◌++◌, Option, Some}
 use Rattle.saphyr_scalar.specs.declared.scalar.position.Span.{Span}
 use Rattle.saphyr_scalar.specs.declared.scalar.fault.Refusal.{Refusal}
-pub use Rattle.saphyr_scanner.specs.ClosedTexts.{marker_token}
-use Rattle.saphyr_scanner.specs.Seen.{Piece}
+pub use Rattle.saphyr_scanner.specs.Grammar.ClosedTexts.{marker_token}
+use Rattle.saphyr_scanner.specs.Views.Tokens.{Piece}
 use Rattle.saphyr_parser.specs.Events.{Happening}
-use Rattle.saphyr_parser.specs.Machine.{Machine}
+use Rattle.saphyr_parser.specs.Steps.Machine.{Machine}
 use Rattle.saphyr_parser.specs.Answer.{Answer, ending_of}
 
 -- more tokens stand behind those of the machine, and the refusal ends them all
@@ -14,4 +14,5 @@ with_more us e m = record m { tokens = record { pieces = m.tokens.pieces ++ us; 
 
 -- The answers are the same; or e is the fault of the first, and all of its events come first in the second.
 abbrev pub BeginsAs : Refusal → Answer → Answer → Type 0
-BeginsAs e a b = (b ≡ a) ⊎ ((a.fault ≡ Some (ending_of e)) × ((others : List (Happening × Span)) × (b.events ≡ a.events ++ others)))
+BeginsAs e a b = (b ≡ a)
+    ⊎ ((a.fault ≡ Some (ending_of e)) × ((others : List (Happening × Span)) × (b.events ≡ a.events ++ others)))

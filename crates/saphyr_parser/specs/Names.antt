@@ -2,7 +2,7 @@
 use Rattle.std.specs.Prelude.{ℕ, List, map, String, string_bytes}
 use Rattle.std.specs.BTreeMap.{BTreeMap}
 use Rattle.std.specs.BTreeSet.{BTreeSet}
-use Rattle.saphyr_parser.specs.Machine.{Names}
+use Rattle.saphyr_parser.specs.Steps.Machine.{Names}
 
 abbrev pub ids_of : {A : Type 0} → BTreeMap (String A) ℕ → Names ℕ
 ids_of {A} m = map (λ (e : String A × ℕ). (string_bytes e.0, e.1)) m.entries

@@ -12,5 +12,6 @@ use Rattle.saphyr_parser.specs.Cursor.{Cursor}
 use Rattle.saphyr_parser.specs.Calls.{Peeks}
 
 -- The parser lends what comes next, and is then as `Peeks` says. S is its input's type.
-abbrev pub LendsNext : (S : RattleType) (g : Ghosts S.Denot) → MutBor Cursor → Option (Result (Bor (Event × Span)) (Bor Fault)) → Fml
+abbrev pub LendsNext : (S : RattleType) (g : Ghosts S.Denot) → MutBor Cursor
+    → Option (Result (Bor (Event × Span)) (Bor Fault)) → Fml
 LendsNext S g parser shown = Rests (the_row (record { mir = named 1; lft = [] }) S g) parser (Peeks parser.now shown)

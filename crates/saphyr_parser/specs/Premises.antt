@@ -2,10 +2,10 @@
 use Rattle.std.specs.Prelude.{◌≡◌, ◌≤◌, ℕ, Bool, true, List, [], ◌∷◌, ◌++◌, length, map, Some}
 use Rattle.saphyr_input.specs.Breaks.{normalized}
 use Rattle.saphyr_scalar.specs.declared.scalar.position.Span.{Span}
-use Rattle.saphyr_scanner.specs.Forest.{Forest}
-pub use Rattle.saphyr_scanner.specs.ClosedTexts.{DocumentMarker, Starts, Ends, EndsWithMarker}
+use Rattle.saphyr_scanner.specs.Grammar.Forest.{Forest}
+pub use Rattle.saphyr_scanner.specs.Grammar.ClosedTexts.{DocumentMarker, Starts, Ends, EndsWithMarker}
 use Rattle.saphyr_parser.specs.Events.{Happening, StreamEnd, DocumentStart, DocumentEnd}
-use Rattle.saphyr_parser.specs.Machine.{empty_scalar}
+use Rattle.saphyr_parser.specs.Steps.Machine.{empty_scalar}
 use Rattle.saphyr_parser.specs.ForestEvents.{events}
 use Rattle.saphyr_parser.specs.Answer.{Answer}
 use Rattle.saphyr_parser.specs.Cursor.{Cursor, keeping_tags, to_come}
@@ -21,7 +21,8 @@ IsWithin limit text = length text ≤ limit
 
 -- ## Premises of the promise that a text gives exactly its forest's events
 
-pub record IsPromised (G : Grammar) (limit : ℕ) (keep : Bool) (forest : Forest) (text : List ℕ) (told : List Happening) : Type 0 where
+pub record IsPromised (G : Grammar) (limit : ℕ) (keep : Bool) (forest : Forest) (text : List ℕ)
+    (told : List Happening) : Type 0 where
   pub stands_for : G forest text
   pub within : IsWithin limit text
   pub has_events : events forest keep ≡ Some told
@@ -29,14 +30,17 @@ pub record IsPromised (G : Grammar) (limit : ℕ) (keep : Bool) (forest : Forest
 -- each text of the grammar gives exactly its forest's events, and no fault
 abbrev pub ReadsEach : Grammar → ℕ → List ℕ → Cursor → Type 0
 ReadsEach G limit text parser =
-    (forest : Forest) (keep : Bool) (told : List Happening) → IsPromised G limit keep forest text told → GivesExactly told (to_come (keeping_tags keep parser))
+    (forest : Forest) (keep : Bool) (told : List Happening) → IsPromised G limit keep forest text told
+    → GivesExactly told (to_come (keeping_tags keep parser))
 
 -- ## One meaning
 
--- a forest of the one grammar and a forest of the other that stand for the text have the same events, where both have any
+-- a forest of the one grammar and a forest of the other that stand for the text have the same events, where both have
+-- any
 abbrev pub MeanTheSame : Grammar → Grammar → List ℕ → Type 0
 MeanTheSame G H text =
-    (keep : Bool) (one other : Forest) (first second : List Happening) → G one text → H other text → events one keep ≡ Some first → events other keep ≡ Some second → first ≡ second
+    (keep : Bool) (one other : Forest) (first second : List Happening) → G one text → H other text
+    → events one keep ≡ Some first → events other keep ≡ Some second → first ≡ second
 
 -- all forests of the text that have events have the same
 abbrev pub HasOneMeaning : Grammar → List ℕ → Type 0
@@ -54,9 +58,11 @@ abbrev pub behind_marker : DocumentMarker → List Happening
 behind_marker Starts = empty_scalar ∷ DocumentEnd ∷ StreamEnd ∷ []
 behind_marker Ends = StreamEnd ∷ []
 
--- The text begins with `front`, which the premises are asked of: it ends with a marker's line, and `first` are its events up
+-- The text begins with `front`, which the premises are asked of: it ends with a marker's line, and `first` are its
+-- events up
 -- to and with the marker's own. IsTail tells what may stand behind the marker on its line.
-pub record IsClosed (G : Grammar) (IsTail : List ℕ → Type 0) (limit : ℕ) (keep : Bool) (text : List ℕ) (first : List Happening) : Type 0 where
+pub record IsClosed (G : Grammar) (IsTail : List ℕ → Type 0) (limit : ℕ) (keep : Bool) (text : List ℕ)
+    (first : List Happening) : Type 0 where
   pub front : List ℕ
   pub others : List ℕ
   pub begins : normalized text ≡ normalized front ++ others
@@ -77,4 +83,5 @@ GivesFirst es a = (others : List Happening) × (map (λ (e : Happening × Span).
 -- whatever follows a closed beginning, its events come first
 abbrev pub ReadsClosed : Grammar → (List ℕ → Type 0) → ℕ → List ℕ → Cursor → Type 0
 ReadsClosed G IsTail limit text parser =
-    (keep : Bool) (first : List Happening) → IsClosed G IsTail limit keep text first → GivesFirst first (to_come (keeping_tags keep parser))
+    (keep : Bool) (first : List Happening) → IsClosed G IsTail limit keep text first
+    → GivesFirst first (to_come (keeping_tags keep parser))

@@ -1,7 +1,8 @@
--- The parts of a forest, in the order of their events: a collection comes before its entries and ends behind them, a key
+-- The parts of a forest, in the order of their events: a collection comes before its entries and ends behind them, a
+-- key
 -- comes before its value (YAML 1.2.2, 3.2.2.1 and 3.2.3).
 use Rattle.std.specs.Prelude.{ℕ, Bool, true, false, List, [], ◌∷◌, ◌++◌}
-use Rattle.saphyr_scanner.specs.Forest.{Style, Properties, Node, Alias, Scalar, Seq, Map, Nodes, NoNode, MoreNodes, Pairs, NoPair, MorePairs, Directive, Forest}
+use Rattle.saphyr_scanner.specs.Grammar.Forest.{Style, Properties, Node, Alias, Scalar, Seq, Map, Nodes, NoNode, MoreNodes, Pairs, NoPair, MorePairs, Directive, Forest}
 
 pub data Part : Type 0 where
   OpenStream : Part
@@ -41,7 +42,8 @@ abbrev mutual
 
 abbrev pub document_parts : Forest → List Part
 document_parts [] = CloseStream ∷ []
-document_parts (d ∷ ds) = OpenDocument d.explicit d.directives ∷ (node_parts d.node ++ CloseDocument ∷ document_parts ds)
+document_parts (d ∷ ds) =
+    OpenDocument d.explicit d.directives ∷ (node_parts d.node ++ CloseDocument ∷ document_parts ds)
 
 abbrev pub parts : Forest → List Part
 parts forest = OpenStream ∷ document_parts forest

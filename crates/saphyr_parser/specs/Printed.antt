@@ -2,12 +2,15 @@
 use Rattle.std.specs.Prelude.{ℕ, List, [], ◌∷◌, ◌++◌, ◌==◌, if◌then◌else◌, Option, Some, None, codes}
 use Rattle.std.specs.Fmt.{decimal}
 use Rattle.saphyr_scalar.specs.declared.scalar.position.Span.{Span}
-use Rattle.saphyr_scanner.specs.Forest.{Style, Plain, SingleQuoted, DoubleQuoted, Literal, Folded}
+use Rattle.saphyr_scanner.specs.Grammar.Forest.{Style, Plain, SingleQuoted, DoubleQuoted, Literal, Folded}
 use Rattle.saphyr_parser.specs.Events.{ResolvedTag, Happening, Nothing, StreamStart, StreamEnd, DocumentStart, DocumentEnd, Alias, Scalar, SequenceStart, SequenceEnd, MappingStart, MappingEnd}
 
 -- A byte of a scalar's text: a backslash, LF, CR, a backspace and a tab are escaped, and all else stands as it is.
 abbrev pub escape : ℕ → List ℕ
-escape byte = if byte == 92 then codes "\\\\" else (if byte == 10 then codes "\\n" else (if byte == 13 then codes "\\r" else (if byte == 8 then codes "\\b" else (if byte == 9 then codes "\\t" else byte ∷ []))))
+escape byte = if byte == 92 then codes "\\\\" else
+    (if byte == 10 then codes "\\n" else
+    (if byte == 13 then codes "\\r" else
+    (if byte == 8 then codes "\\b" else (if byte == 9 then codes "\\t" else byte ∷ []))))
 
 abbrev pub escaped : List ℕ → List ℕ
 escaped [] = []
@@ -41,7 +44,8 @@ line StreamEnd = codes "-STR\n"
 line (DocumentStart explicit) = codes "+DOC\n"
 line DocumentEnd = codes "-DOC\n"
 line (Alias id) = codes "=ALI *" ++ (decimal id ++ codes "\n")
-line (Scalar text style id tag) = node_text (codes "=VAL") id tag ++ ((codes " " ++ mark style) ++ (escaped text ++ codes "\n"))
+line (Scalar text style id tag) =
+    node_text (codes "=VAL") id tag ++ ((codes " " ++ mark style) ++ (escaped text ++ codes "\n"))
 line (SequenceStart id tag) = node_text (codes "+SEQ") id tag ++ codes "\n"
 line SequenceEnd = codes "-SEQ\n"
 line (MappingStart id tag) = node_text (codes "+MAP") id tag ++ codes "\n"

@@ -1,7 +1,10 @@
--- The promises on texts of the layout grammar, and on all texts. Each is of a text and of a parser at its start.
-use Rattle.std.specs.Prelude.{ℕ, Bool, List}
-use Rattle.saphyr_scanner.specs.BlockNodes.{IsContentRest}
-use Rattle.saphyr_scanner.specs.Layout.{most_open, IsLayoutText}
+-- The promises on texts of JSON and of the layout grammar, and on all texts. Each is of a text and of a parser at its
+-- start.
+use Rattle.std.specs.Prelude.{◌≤◌, ℕ, Bool, List}
+use Rattle.saphyr_scalar.specs.Spaces.{IsLineRest}
+use Rattle.saphyr_scanner.specs.Grammar.Forest.{Forest, open_in_forest}
+use Rattle.saphyr_scanner.specs.Grammar.Json.{IsJson}
+use Rattle.saphyr_scanner.specs.Grammar.Layout.{most_open, IsLayoutText}
 use Rattle.saphyr_parser.specs.Cursor.{Cursor, keeping_tags, to_come}
 use Rattle.saphyr_parser.specs.EventsTaken.{AreTaken}
 use Rattle.saphyr_parser.specs.Premises.{ReadsEach, ReadsClosed}
@@ -10,6 +13,14 @@ use Rattle.saphyr_parser.specs.Premises.{ReadsEach, ReadsClosed}
 abbrev pub TakesEvents : List ℕ → Cursor → Type 0
 TakesEvents text parser = (keep : Bool) → AreTaken keep text (to_come (keeping_tags keep parser))
 
+-- a text of JSON with at most so many collections open at once, all of which are in flow style
+abbrev pub IsShallowJson : ℕ → Forest → List ℕ → Type 0
+IsShallowJson room forest text = IsJson forest text × (open_in_forest forest ≤ room)
+
+-- each text of JSON (RFC 8259) gives exactly its forest's events
+abbrev pub ReadsJson : ℕ → List ℕ → Cursor → Type 0
+ReadsJson limit text parser = ReadsEach (IsShallowJson most_open) limit text parser
+
 -- each text of the layout grammar gives exactly its forest's events
 abbrev pub ReadsLayout : ℕ → List ℕ → Cursor → Type 0
 ReadsLayout limit text parser = ReadsEach (IsLayoutText most_open) limit text parser
@@ -17,4 +28,4 @@ ReadsLayout limit text parser = ReadsEach (IsLayoutText most_open) limit text pa
 -- Behind a beginning that a line of `---` or `...` closes, anything may follow. Behind the marker its line has blanks,
 -- and behind some blanks a comment.
 abbrev pub ReadsClosedLayout : ℕ → List ℕ → Cursor → Type 0
-ReadsClosedLayout limit text parser = ReadsClosed (IsLayoutText most_open) IsContentRest limit text parser
+ReadsClosedLayout limit text parser = ReadsClosed (IsLayoutText most_open) IsLineRest limit text parser

@@ -5,7 +5,7 @@ use Rattle.std.specs.Io.KnownBytes.{Appends, Consumes, IsAtEnd, Keeps}
 use Rattle.std.specs.Fmt.{decimal}
 use Rattle.saphyr_scalar.specs.declared.scalar.position.Marker.{Marker}
 use Rattle.saphyr_scalar.specs.Faults.{error_text}
-use Rattle.saphyr_scanner.specs.Remaining.{scan}
+use Rattle.saphyr_scanner.specs.Steps.Remaining.{scan}
 use Rattle.saphyr_parser.specs.declared.parser.fault.Fault.{Fault}
 use Rattle.saphyr_parser.specs.declared.parser.fault.Fault.TheVariants as fault
 use Rattle.saphyr_parser.specs.declared.printing.fault.DumpFault.{DumpFault}
@@ -31,7 +31,8 @@ pub record TakesBeginning (old new : Option (List ℕ)) (bytes : List ℕ) : Typ
 -- What a run does with a text that it has read, and what the writer holds before and behind.
 abbrev pub PrintsText : Result (Unit {0}) RunFault → Answer → Option (List ℕ) → Option (List ℕ) → Type 0
 PrintsText (Ok u) a old new = (a.fault ≡ None) × Appends old new (lines a.events)
-PrintsText (Err (run.Parse (fault.Scan e))) a old new = (a.fault ≡ Some (Refused e.mark (string_bytes e.info))) × Appends old new (lines a.events)
+PrintsText (Err (run.Parse (fault.Scan e))) a old new =
+    (a.fault ≡ Some (Refused e.mark (string_bytes e.info))) × Appends old new (lines a.events)
 PrintsText (Err (run.Parse fault.OutOfMemory)) a old new = (lost : Answer) × Prints a lost old new × (0 < count lost)
 PrintsText (Err (run.Parse fault.Receiver)) a old new = ⊥
 PrintsText (Err (run.Parse fault.InsideDocument)) a old new = ⊥
@@ -53,13 +54,18 @@ Becomes _ _ = ⊥
 abbrev pub ReadsAll : Option (List ℕ) → Option (List ℕ) → List ℕ → Type 0
 ReadsAll old new bytes = Consumes old new bytes × IsAtEnd new
 
-abbrev pub ReadsText : Result (Unit {0}) RunFault → Option (List ℕ) → Option (List ℕ) → Option (List ℕ) → Option (List ℕ) → Type 0
-ReadsText outcome unread left old new = (bytes : List ℕ) × ReadsAll unread left bytes × IsUtf8 bytes × PrintsText outcome (told bytes) old new
+abbrev pub ReadsText : Result (Unit {0}) RunFault → Option (List ℕ) → Option (List ℕ) → Option (List ℕ)
+    → Option (List ℕ) → Type 0
+ReadsText outcome unread left old new =
+    (bytes : List ℕ) × ReadsAll unread left bytes × IsUtf8 bytes × PrintsText outcome (told bytes) old new
 
--- What a run does with what it reads: the bytes that the reader has left, and those that the writer holds, before and behind.
-abbrev pub PrintsSource : Result (Unit {0}) RunFault → Option (List ℕ) → Option (List ℕ) → Option (List ℕ) → Option (List ℕ) → Type 0
+-- What a run does with what it reads: the bytes that the reader has left, and those that the writer holds, before and
+-- behind.
+abbrev pub PrintsSource : Result (Unit {0}) RunFault → Option (List ℕ) → Option (List ℕ) → Option (List ℕ)
+    → Option (List ℕ) → Type 0
 PrintsSource (Err run.CantRead) unread left old new = Keeps old new
-PrintsSource (Err run.NotUtf8) unread left old new = ((bytes : List ℕ) × ReadsAll unread left bytes × (¬ IsUtf8 bytes)) × Keeps old new
+PrintsSource (Err run.NotUtf8) unread left old new =
+    ((bytes : List ℕ) × ReadsAll unread left bytes × (¬ IsUtf8 bytes)) × Keeps old new
 PrintsSource (Err (run.Parse f)) unread left old new = ReadsText (Err (run.Parse f)) unread left old new
 PrintsSource (Err run.CantWrite) unread left old new = ReadsText (Err run.CantWrite) unread left old new
 PrintsSource (Ok u) unread left old new = ReadsText (Ok u) unread left old new
@@ -68,7 +74,8 @@ PrintsSource (Ok u) unread left old new = ReadsText (Ok u) unread left old new
 
 -- how a fault's place is printed
 abbrev pub place_text : Marker → List ℕ
-place_text m = (codes " at byte " ++ decimal m.index) ++ ((codes " line " ++ decimal m.line) ++ (codes " column " ++ decimal (m.col + 1)))
+place_text m = (codes " at byte " ++ decimal m.index)
+    ++ ((codes " line " ++ decimal m.line) ++ (codes " column " ++ decimal (m.col + 1)))
 
 abbrev pub fault_line : Fault → List ℕ
 fault_line (fault.Scan e) = error_text e ++ codes "\n"
@@ -91,9 +98,11 @@ abbrev pub status_of : Result (Unit {0}) RunFault → ℕ
 status_of (Ok u) = 0
 status_of (Err f) = 1
 
--- A run with its status and the name of its input: what it reads, what it prints and what it complains of, where the bytes are
+-- A run with its status and the name of its input: what it reads, what it prints and what it complains of, where the
+-- bytes are
 -- known that are unread and left, printed before and behind, and complained of before and behind.
-pub record Runs (status : ℕ) (name : List ℕ) (unread left printed now_printed said now_said : Option (List ℕ)) : Type 0 where
+pub record Runs (status : ℕ) (name : List ℕ) (unread left printed now_printed said now_said : Option (List ℕ)) : Type
+    0 where
   pub outcome : Result (Unit {0}) RunFault
   pub answers : status ≡ status_of outcome
   pub prints : PrintsSource outcome unread left printed now_printed

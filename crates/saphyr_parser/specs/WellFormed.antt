@@ -1,9 +1,9 @@
 -- What is asked of tokens of which the events are told. A scanner's tokens are such.
 use Rattle.std.specs.Prelude.{◌≡◌, ℕ, List, [], ◌∷◌, encode_utf8_all}
-use Rattle.saphyr_scanner.specs.Forest.{Handle, handle_bytes, Tag}
-use Rattle.saphyr_scanner.specs.Tokens as tokens
-use Rattle.saphyr_scanner.specs.Tokens.{Kind, tag_token}
-use Rattle.saphyr_scanner.specs.Seen.{Piece}
+use Rattle.saphyr_scanner.specs.Grammar.Forest.{Handle, handle_bytes, Tag}
+use Rattle.saphyr_scanner.specs.Grammar.Tokens as tokens
+use Rattle.saphyr_scanner.specs.Grammar.Tokens.{Kind, tag_token}
+use Rattle.saphyr_scanner.specs.Views.Tokens.{Piece}
 
 -- a text in UTF-8
 abbrev pub IsEncoded : List ℕ → Type 0
@@ -15,7 +15,8 @@ IsWellFormed (tokens.Alias name) = IsEncoded name
 IsWellFormed (tokens.Anchor name) = IsEncoded name
 IsWellFormed (tokens.Tag handle suffix) = (tag : Tag) × (tokens.Tag handle suffix ≡ tag_token tag)
 IsWellFormed (tokens.Scalar style value) = IsEncoded value
-IsWellFormed (tokens.TagDirective handle prefix) = (declared : Handle) × (handle ≡ handle_bytes declared) × IsEncoded prefix
+IsWellFormed (tokens.TagDirective handle prefix) =
+    (declared : Handle) × (handle ≡ handle_bytes declared) × IsEncoded prefix
 IsWellFormed (tokens.ReservedDirective name) = IsEncoded name
 IsWellFormed _ = Unit {0}
 

@@ -3,31 +3,30 @@
 ghost use Rattle.std.specs.Prelude.{Bool, List, [], ◌∷◌, ◌++◌, codes, false, true, ℕ, ◌≡◌, ◌≢◌, ◌<◌, ◌≤◌, ◌^◌, length, None, Ok, Option, Some};
 ghost use Rattle.saphyr_parser.specs.Anchors.{IsLatest, anchors, latest};
 ghost use Rattle.saphyr_parser.specs.Preorder.{Part, parts};
-ghost use Rattle.saphyr_parser.specs.Examples as examples;
+ghost use Rattle.saphyr_parser.specs.Examples.Forests as examples;
 ghost use Rattle.saphyr_parser.specs.ForestEvents.{events};
-ghost use Rattle.saphyr_scanner.specs.Examples.{json_forest};
-ghost use Rattle.saphyr_scanner.specs.Forest.{Forest};
-ghost use Rattle.saphyr_scanner.specs.Json.{IsJson};
-ghost use Rattle.saphyr_scanner.specs.JsonTokens.{json_tokens};
+ghost use Rattle.saphyr_scanner.specs.Examples.Forests.{json_forest};
+ghost use Rattle.saphyr_scanner.specs.Grammar.Forest.{Forest};
+ghost use Rattle.saphyr_scanner.specs.Grammar.Json.{IsJson};
+ghost use Rattle.saphyr_scanner.specs.Grammar.JsonTokens.{json_tokens};
 ghost use Rattle.saphyr_input.specs.Breaks.{normalized};
-ghost use Rattle.saphyr_scanner.specs.Remaining.{scan};
-ghost use Rattle.saphyr_scanner.specs.Seen.{Piece, Remaining};
+ghost use Rattle.saphyr_scanner.specs.Steps.Remaining.{scan};
+ghost use Rattle.saphyr_scanner.specs.Views.Tokens.{Piece, Remaining};
 ghost use Rattle.saphyr_scanner.specs.SpansInOrder.{AreInOrder};
 ghost use Rattle.saphyr_parser.specs.Cursor.{Cursor, at_start, keeping_tags, to_come};
 ghost use Rattle.saphyr_parser.specs.Loading.{to_send};
-ghost use Rattle.saphyr_scanner.specs.TokenGrammar.{Yields};
-ghost use Rattle.saphyr_scanner.specs.Tokens.{Kind};
-ghost use Rattle.saphyr_scanner.specs.Tokens as tokens;
-ghost use Rattle.saphyr_scanner.specs.TakenTexts.{at, from_to};
+ghost use Rattle.saphyr_scanner.specs.Grammar.TokenGrammar.{Yields};
+ghost use Rattle.saphyr_scanner.specs.Grammar.Tokens.{Kind};
+ghost use Rattle.saphyr_scanner.specs.Grammar.Tokens as tokens;
+ghost use Rattle.saphyr_scanner.specs.Examples.TakenTexts.{at, from_to};
 ghost use Rattle.saphyr_parser.specs.Exactly.{GivesExactly, TellTheSame, kinds, told_by};
 ghost use Rattle.saphyr_parser.specs.Events.{Alias, DocumentEnd, Happening};
-ghost use Rattle.saphyr_parser.specs.Complete.{IsShallowJson, ReadsJson};
 ghost use Rattle.saphyr_parser.specs.EventsTaken.{AreTaken, HasPlaceIn, IsOf};
 ghost use Rattle.saphyr_parser.specs.Premises.{DocumentMarker, GivesFirst, HasOneMeaning, IsClosed, MeanTheSame, ReadsClosed, ReadsEach, behind_marker};
-ghost use Rattle.saphyr_parser.specs.Promises.{ReadsClosedLayout, ReadsLayout, TakesEvents};
+ghost use Rattle.saphyr_parser.specs.Promises.{IsShallowJson, ReadsClosedLayout, ReadsLayout, TakesEvents};
 ghost use Rattle.saphyr_scalar.specs.declared.scalar.position.Span.{Span};
-ghost use Rattle.saphyr_scanner.specs.BlockNodes.{IsContentRest};
-ghost use Rattle.saphyr_scanner.specs.Layout.{IsLayoutText, most_open};
+ghost use Rattle.saphyr_scalar.specs.Spaces.{IsLineRest};
+ghost use Rattle.saphyr_scanner.specs.Grammar.Layout.{IsLayoutText, most_open};
 ghost use Rattle.saphyr_parser.specs.SpansWithin.{HasSpansIn};
 ghost use Rattle.saphyr_parser.specs.Begins.{BeginsSomeForest};
 ghost use Rattle.saphyr_scanner.specs.AtPlaces.{AreAtPlaces};
@@ -35,11 +34,11 @@ ghost use Rattle.saphyr_scanner.specs.Ends.{EndsWithStream};
 ghost use Rattle.saphyr_scalar.specs.declared.scalar.fault.Refusal.{Refusal};
 ghost use Rattle.saphyr_scanner.specs.TokensTaken.{AreTakenFrom, IsPlaceOf};
 ghost use Rattle.saphyr_parser.specs.WellFormed.{AreWellFormed};
-ghost use Rattle.saphyr_parser.specs.Machine.{Machine, Told, ending};
-ghost use Rattle.saphyr_parser.specs.Steps.{step};
+ghost use Rattle.saphyr_parser.specs.Steps.Machine.{Machine, Told, ending};
+ghost use Rattle.saphyr_parser.specs.Steps.Expected.{step};
 ghost use Rattle.saphyr_parser.specs.Answer.{before, remaining};
 ghost use Rattle.saphyr_parser.specs.Calls.{Advances};
-ghost use Rattle.saphyr_parser.specs.Settings.{set_to, with_setting};
+ghost use Rattle.saphyr_parser.specs.Steps.Settings.{set_to, with_setting};
 ghost use Rattle.saphyr_parser.specs.declared.parser.state.State.TheVariants.{DocumentEnd as AtDocumentEnd};
 ghost use Rattle.saphyr_parser.specs.More.{BeginsAs, marker_token, with_more};
 
@@ -76,31 +75,45 @@ pub fn resolves_tags()
 
 /// An alias has the latest anchor of its name: behind it stand in the document only parts without one.
 pub fn finds_the_latest_anchor()
-    ensures found { (name : List ℕ) (front : List Part) (id : ℕ) → latest name front ≡ Some id → IsLatest name front id }
-    ensures each { (name : List ℕ) (front : List Part) (id : ℕ) → IsLatest name front id → latest name front ≡ Some id }
+    ensures found { (name : List ℕ) (front : List Part) (id : ℕ) → latest name front ≡ Some id
+        → IsLatest name front id }
+    ensures each { (name : List ℕ) (front : List Part) (id : ℕ) → IsLatest name front id
+        → latest name front ≡ Some id }
 {}
 
 /// Each text of JSON has events.
 pub fn has_events()
-    ensures { (forest : Forest) (text : List ℕ) (keep : Bool) → IsJson forest text → (told : List Happening) × (events forest keep ≡ Some told) }
+    ensures { (forest : Forest) (text : List ℕ) (keep : Bool) → IsJson forest text
+        → (told : List Happening) × (events forest keep ≡ Some told) }
 {}
 
 /// A forest has no more anchors than tokens.
 pub fn counts_anchors()
-    ensures { (forest : Forest) (tokens : List Kind) → Yields forest tokens → anchors (parts forest) ≤ length tokens }
+    ensures { (forest : Forest) (tokens : List Kind) → Yields forest tokens
+        → anchors (parts forest) ≤ length tokens }
 {}
 
 /// The tokens of a forest give exactly its events, and no fault; and a parser that reads them does. The ids
 /// of anchors are told as long as there are fewer than 2^64 anchors.
 pub fn gives_each_forest()
-    ensures machine { (forest : Forest) (keep : Bool) (pieces : List Piece) (told : List Happening) → Yields forest (kinds pieces) → anchors (parts forest) < 2 ^ 64 → events forest keep ≡ Some told → GivesExactly told (told_by keep pieces) }
-    ensures parser { (forest : Forest) (keep : Bool) (tokens : Remaining) (told : List Happening) → Yields forest (kinds tokens.pieces) → tokens.refusal ≡ None → anchors (parts forest) < 2 ^ 64 → events forest keep ≡ Some told → GivesExactly told (to_come (keeping_tags keep (at_start tokens))) }
+    ensures machine { (forest : Forest) (keep : Bool) (pieces : List Piece) (told : List Happening)
+        → Yields forest (kinds pieces) → anchors (parts forest) < 2 ^ 64
+        → events forest keep ≡ Some told → GivesExactly told (told_by keep pieces) }
+    ensures parser { (forest : Forest) (keep : Bool) (tokens : Remaining) (told : List Happening)
+        → Yields forest (kinds tokens.pieces) → tokens.refusal ≡ None
+        → anchors (parts forest) < 2 ^ 64 → events forest keep ≡ Some told
+        → GivesExactly told (to_come (keeping_tags keep (at_start tokens))) }
 {}
 
 /// The same of the tokens of a text of JSON, which has no anchors.
 pub fn gives_json()
-    ensures machine { (forest : Forest) (text : List ℕ) (keep : Bool) (pieces : List Piece) (told : List Happening) → IsJson forest text → kinds pieces ≡ json_tokens forest → events forest keep ≡ Some told → GivesExactly told (told_by keep pieces) }
-    ensures parser { (forest : Forest) (text : List ℕ) (keep : Bool) (tokens : Remaining) (told : List Happening) → IsJson forest text → kinds tokens.pieces ≡ json_tokens forest → tokens.refusal ≡ None → events forest keep ≡ Some told → GivesExactly told (to_come (keeping_tags keep (at_start tokens))) }
+    ensures machine { (forest : Forest) (text : List ℕ) (keep : Bool) (pieces : List Piece)
+        (told : List Happening) → IsJson forest text → kinds pieces ≡ json_tokens forest
+        → events forest keep ≡ Some told → GivesExactly told (told_by keep pieces) }
+    ensures parser { (forest : Forest) (text : List ℕ) (keep : Bool) (tokens : Remaining)
+        (told : List Happening) → IsJson forest text → kinds tokens.pieces ≡ json_tokens forest
+        → tokens.refusal ≡ None → events forest keep ≡ Some told
+        → GivesExactly told (to_come (keeping_tags keep (at_start tokens))) }
 {
     saphyr_scanner::law::tells_json_tokens();
 }
@@ -108,13 +121,16 @@ pub fn gives_json()
 /// Where the spans of tokens stand one behind the other at places of a text, each event's span has its start at
 /// or before its end, and both are places of that text.
 pub fn keeps_spans_in()
-    ensures { (text : List ℕ) (tokens : Remaining) (keep : Bool) → AreInOrder (length text) 0 tokens.pieces → AreAtPlaces text tokens.pieces → HasSpansIn text (to_come (keeping_tags keep (at_start tokens))) }
+    ensures { (text : List ℕ) (tokens : Remaining) (keep : Bool)
+        → AreInOrder (length text) 0 tokens.pieces → AreAtPlaces text tokens.pieces
+        → HasSpansIn text (to_come (keeping_tags keep (at_start tokens))) }
 {}
 
 /// With `multi`, `load` hands over all events that are still to come, as iteration gives them, and meets
 /// the fault behind them.
 pub fn loads_all_events()
-    ensures { (parser : Cursor) → to_send true parser ≡ record { sent = (to_come parser).events; fault = (to_come parser).fault } }
+    ensures { (parser : Cursor) → to_send true parser
+        ≡ record { sent = (to_come parser).events; fault = (to_come parser).fault } }
 {}
 
 /// The events of the empty text, and those of a sequence with an anchor and its alias, with their places,
@@ -122,20 +138,24 @@ pub fn loads_all_events()
 pub fn takes_events()
     ensures nothing { AreTaken false [] examples.no_documents }
     ensures alias { AreTaken false (codes "- &a b\n- *a") examples.block_alias_answer }
-    ensures promised { (text : List ℕ) (parser : Cursor) → TakesEvents text parser → AreTaken false text (to_come (keeping_tags false parser)) }
+    ensures promised { (text : List ℕ) (parser : Cursor) → TakesEvents text parser
+        → AreTaken false text (to_come (keeping_tags false parser)) }
 {}
 
 /// An alias has no other span than its token.
 pub fn takes_no_other_span()
-    ensures { ¬ IsOf (Alias 1) (examples.from_to (at 9 2 2) (at 10 2 3)) (from_to (at 9 2 2) (at 11 2 4) (tokens.Alias (codes "a")) ∷ []) [] }
+    ensures { ¬ IsOf (Alias 1) (examples.from_to (at 9 2 2) (at 10 2 3))
+        (from_to (at 9 2 2) (at 11 2 4) (tokens.Alias (codes "a")) ∷ []) [] }
 {}
 
 /// A text has one meaning: all forests that stand for it have the same events, where they have any. So it is
 /// of each grammar whose texts a parser reads, since its one list is the events of each of their forests: of the
 /// layout grammar, of JSON, and where a text is one of both.
 pub fn has_one_meaning()
-    ensures layout { (text : List ℕ) → length text ≤ 4294967295 → HasOneMeaning (IsLayoutText most_open) text }
-    ensures json { (text : List ℕ) → length text ≤ 4294967295 → HasOneMeaning (IsShallowJson most_open) text }
+    ensures layout { (text : List ℕ) → length text ≤ 4294967295
+        → HasOneMeaning (IsLayoutText most_open) text }
+    ensures json { (text : List ℕ) → length text ≤ 4294967295
+        → HasOneMeaning (IsShallowJson most_open) text }
     ensures both { (text : List ℕ) → length text ≤ 4294967295
         → MeanTheSame (IsShallowJson most_open) (IsLayoutText most_open) text }
 {
@@ -145,46 +165,54 @@ pub fn has_one_meaning()
     gives_json();
 }
 
-/// A text of JSON needs no premise but those on its length, its depth and its tags.
-pub fn promises_json()
-    ensures { (limit : ℕ) (text : List ℕ) (parser : Cursor) → ReadsJson limit text parser → ReadsEach (IsShallowJson most_open) limit text parser }
-{}
-
 /// Behind the line `---` anything may follow: the start of its document is given. Where nothing follows, that
 /// is a part of what the text's events tell.
 pub fn closes_at_markers()
-    ensures alone { (parser : Cursor) → ReadsEach examples.IsStart 100 (codes "---\n") parser → ReadsClosed examples.IsStart examples.IsNothing 100 (codes "---\n") parser }
-    ensures followed { IsClosed examples.IsStart examples.IsNothing 100 false (codes "---\n[") examples.start_events }
+    ensures alone { (parser : Cursor) → ReadsEach examples.IsStart 100 (codes "---\n") parser
+        → ReadsClosed examples.IsStart examples.IsNothing 100 (codes "---\n") parser }
+    ensures followed { IsClosed examples.IsStart examples.IsNothing 100 false (codes "---\n[")
+        examples.start_events }
 {}
 
 /// The line `---` has all the premises of the promise on the layout grammar, and is a closed beginning, behind a
 /// byte order mark too: where the promises hold, a parser gives its events, and where `[` follows those up to the
 /// document's start.
 pub fn closes_layout()
-    ensures closed { (keep : Bool) → IsClosed (IsLayoutText most_open) IsContentRest 100 keep (codes "---\n[") examples.start_events }
-    ensures marked { (keep : Bool) → IsClosed (IsLayoutText most_open) IsContentRest 100 keep (codes "\u{feff}---\n[") examples.start_events }
-    ensures behind { (keep : Bool) → IsClosed (IsLayoutText most_open) IsContentRest 100 keep
+    ensures closed { (keep : Bool) → IsClosed (IsLayoutText most_open) IsLineRest 100 keep
+        (codes "---\n[") examples.start_events }
+    ensures marked { (keep : Bool) → IsClosed (IsLayoutText most_open) IsLineRest 100 keep
+        (codes "\u{feff}---\n[") examples.start_events }
+    ensures behind { (keep : Bool) → IsClosed (IsLayoutText most_open) IsLineRest 100 keep
         (codes "---\n...\n\u{feff}---\n[") examples.two_starts_events }
-    ensures alone { (parser : Cursor) (keep : Bool) → ReadsLayout 100 (codes "---\n") parser → GivesExactly examples.start_told (to_come (keeping_tags keep parser)) }
-    ensures followed { (parser : Cursor) (keep : Bool) → ReadsClosedLayout 100 (codes "---\n[") parser → GivesFirst examples.start_events (to_come (keeping_tags keep parser)) }
+    ensures alone { (parser : Cursor) (keep : Bool) → ReadsLayout 100 (codes "---\n") parser
+        → GivesExactly examples.start_told (to_come (keeping_tags keep parser)) }
+    ensures followed { (parser : Cursor) (keep : Bool)
+        → ReadsClosedLayout 100 (codes "---\n[") parser
+        → GivesFirst examples.start_events (to_come (keeping_tags keep parser)) }
 {}
 
 /// The events of any tokens are a beginning of some forest's, whose tokens begin as those do. Where no fault
 /// ends them, all are.
 pub fn begins_some_forest()
-    ensures { (tokens : Remaining) (keep : Bool) → AreWellFormed tokens.pieces → length tokens.pieces < 2 ^ 64 → BeginsSomeForest keep tokens (to_come (keeping_tags keep (at_start tokens))) }
+    ensures { (tokens : Remaining) (keep : Bool) → AreWellFormed tokens.pieces
+        → length tokens.pieces < 2 ^ 64
+        → BeginsSomeForest keep tokens (to_come (keeping_tags keep (at_start tokens))) }
 {}
 
 /// Where tokens begin at places of a text, and the end of the stream ends them, or a refusal that has its place
 /// there, the refusal that ends their events has its place there too.
 pub fn refuses_at_places()
-    ensures { (text : List ℕ) (tokens : Remaining) (keep : Bool) → AreAtPlaces text tokens.pieces → EndsWithStream tokens → ((e : Refusal) → tokens.refusal ≡ Some e → IsPlaceOf text e.mark) → HasPlaceIn text (to_come (keeping_tags keep (at_start tokens))).fault }
+    ensures { (text : List ℕ) (tokens : Remaining) (keep : Bool) → AreAtPlaces text tokens.pieces
+        → EndsWithStream tokens → ((e : Refusal) → tokens.refusal ≡ Some e → IsPlaceOf text e.mark)
+        → HasPlaceIn text (to_come (keeping_tags keep (at_start tokens))).fault }
 {}
 
 /// The events of tokens that are taken from a text are taken from it too, where there are fewer than 2^64 and the
 /// end of the stream or a refusal ends them.
 pub fn takes_all_events()
-    ensures { (text : List ℕ) (tokens : Remaining) → AreTakenFrom text tokens → EndsWithStream tokens → length tokens.pieces < 2 ^ 64 → TakesEvents text (at_start tokens) }
+    ensures { (text : List ℕ) (tokens : Remaining) → AreTakenFrom text tokens
+        → EndsWithStream tokens → length tokens.pieces < 2 ^ 64
+        → TakesEvents text (at_start tokens) }
 {
     saphyr_scanner::law::places_taken_tokens();
 }
@@ -193,15 +221,28 @@ pub fn takes_all_events()
 /// behind, and leaves these behind those that it leaves; so the events of tokens come first where more stand behind
 /// them, and where another fault than the end of the tokens ends them, or none, they are all.
 pub fn begins_alike()
-    ensures step { (m : Machine) (more : List Piece) (refusal : Option Refusal) (x : Told) → step m ≡ Ok x → step (with_more more refusal m) ≡ Ok (record x { machine = with_more more refusal x.machine }) }
-    ensures machine { (m : Machine) (more : List Piece) (refusal : Option Refusal) → BeginsAs (ending m.tokens.refusal) (remaining m) (remaining (with_more more refusal m)) }
-    ensures parser { (tokens : Remaining) (more : List Piece) (refusal : Option Refusal) (keep : Bool) → BeginsAs (ending tokens.refusal) (to_come (keeping_tags keep (at_start tokens))) (to_come (keeping_tags keep (at_start (record { pieces = tokens.pieces ++ more; refusal = refusal })))) }
+    ensures step { (m : Machine) (more : List Piece) (refusal : Option Refusal) (x : Told)
+        → step m ≡ Ok x → step (with_more more refusal m)
+        ≡ Ok (record x { machine = with_more more refusal x.machine }) }
+    ensures machine { (m : Machine) (more : List Piece) (refusal : Option Refusal)
+        → BeginsAs (ending m.tokens.refusal) (remaining m) (remaining (with_more more refusal m)) }
+    ensures parser { (tokens : Remaining) (more : List Piece) (refusal : Option Refusal)
+        (keep : Bool) → BeginsAs (ending tokens.refusal)
+        (to_come (keeping_tags keep (at_start tokens)))
+        (to_come (keeping_tags keep
+        (at_start (record { pieces = tokens.pieces ++ more; refusal = refusal })))) }
 {}
 
 /// The events of tokens, but for their spans, are decided by their kinds.
 pub fn tells_by_kinds()
-    ensures exactly { (keep : Bool) (one other : Remaining) (told : List Happening) → kinds one.pieces ≡ kinds other.pieces → GivesExactly told (to_come (keeping_tags keep (at_start one))) → GivesExactly told (to_come (keeping_tags keep (at_start other))) }
-    ensures first { (keep : Bool) (one other : Remaining) (told : List Happening) → kinds one.pieces ≡ kinds other.pieces → GivesFirst told (to_come (keeping_tags keep (at_start one))) → GivesFirst told (to_come (keeping_tags keep (at_start other))) }
+    ensures exactly { (keep : Bool) (one other : Remaining) (told : List Happening)
+        → kinds one.pieces ≡ kinds other.pieces
+        → GivesExactly told (to_come (keeping_tags keep (at_start one)))
+        → GivesExactly told (to_come (keeping_tags keep (at_start other))) }
+    ensures first { (keep : Bool) (one other : Remaining) (told : List Happening)
+        → kinds one.pieces ≡ kinds other.pieces
+        → GivesFirst told (to_come (keeping_tags keep (at_start one)))
+        → GivesFirst told (to_come (keeping_tags keep (at_start other))) }
 {}
 
 /// CR LF, CR and LF are one: each text gives the events of its normalized text, but for their spans, and a
@@ -217,13 +258,22 @@ pub fn tells_breaks_alike()
 /// Tokens end with `---` or `...` and the end of the stream, and give exactly these events. Whatever stands
 /// behind that `---` or `...` in place of the stream's end, the events up to and with its own come first.
 pub fn closes_tokens()
-    ensures { (keep : Bool) (marker : DocumentMarker) (earlier more : List Kind) (alone : List Piece) (followed : Remaining) (first : List Happening) → kinds alone ≡ earlier ++ marker_token marker ∷ tokens.StreamEnd ∷ [] → kinds followed.pieces ≡ earlier ++ marker_token marker ∷ more → GivesExactly (first ++ behind_marker marker) (told_by keep alone) → GivesFirst first (to_come (keeping_tags keep (at_start followed))) }
+    ensures { (keep : Bool) (marker : DocumentMarker) (earlier more : List Kind)
+        (alone : List Piece) (followed : Remaining) (first : List Happening)
+        → kinds alone ≡ earlier ++ marker_token marker ∷ tokens.StreamEnd ∷ []
+        → kinds followed.pieces ≡ earlier ++ marker_token marker ∷ more
+        → GivesExactly (first ++ behind_marker marker) (told_by keep alone)
+        → GivesFirst first (to_come (keeping_tags keep (at_start followed))) }
 {}
 
 /// The setting of `keep_tags` counts at the ends of documents alone. Any other event is handed out whatever it
 /// is, and what comes behind that event is the same whether it was set before the event or behind it.
 pub fn sets_at_document_ends()
-    ensures step { (m : Machine) (keep : Bool) → m.state ≢ AtDocumentEnd → step (set_to keep m) ≡ with_setting keep (step m) }
-    ensures event { (e : Happening × Span) (old new : Cursor) (keep : Bool) → e.0 ≢ DocumentEnd → Advances e old new → Advances e (keeping_tags keep old) (keeping_tags keep new) }
-    ensures list { (e : Happening × Span) (old new : Cursor) (keep : Bool) → e.0 ≢ DocumentEnd → Advances e old new → to_come (keeping_tags keep old) ≡ before e (to_come (keeping_tags keep new)) }
+    ensures step { (m : Machine) (keep : Bool) → m.state ≢ AtDocumentEnd
+        → step (set_to keep m) ≡ with_setting keep (step m) }
+    ensures event { (e : Happening × Span) (old new : Cursor) (keep : Bool) → e.0 ≢ DocumentEnd
+        → Advances e old new → Advances e (keeping_tags keep old) (keeping_tags keep new) }
+    ensures list { (e : Happening × Span) (old new : Cursor) (keep : Bool) → e.0 ≢ DocumentEnd
+        → Advances e old new → to_come (keeping_tags keep old)
+        ≡ before e (to_come (keeping_tags keep new)) }
 {}

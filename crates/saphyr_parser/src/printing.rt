@@ -10,7 +10,7 @@ mod run;
 mod tests;
 mod writing;
 
-use crate::parser::{Event, Parser, no_event};
+use crate::parser::{Event, Fault, Parser, Progress, no_event};
 pub use fault::DumpFault;
 use line::write_line;
 pub use run::run_dump;
@@ -26,7 +26,8 @@ pub fn dump<'input, T: Input, W: Write>(
     parser: &mut Parser<'input, T>,
     out: &mut W,
 ) -> Result<(), DumpFault>
-    ensures dumps { Dumps result (to_come parser.old) (to_come parser.new) (W.contents out.old) (W.contents out.new) }
+    ensures dumps { Dumps result (to_come parser.old) (to_come parser.new) (W.contents out.old)
+        (W.contents out.new) }
     ensures leaves { Leaves result parser.old parser.new (W.contents out.old) (W.contents out.new) }
     ensures over { EndsTheStream parser.new }
 {
@@ -36,21 +37,23 @@ pub fn dump<'input, T: Input, W: Write>(
 
 // The same, with one place for all events, which are large to move.
 #[inline(always)]
-#[tactic(auto, using(crate::proofs::Dumping::prints_none))]
+#[tactic(auto, using(crate::proofs::Printed::Dumping::prints_none))]
 fn dump_each<'input, T: Input, W: Write>(
     parser: &mut Parser<'input, T>,
     next: &mut (Event<'input>, Span),
     out: &mut W,
 ) -> Result<(), DumpFault>
-    ensures dumps { Dumps result (to_come parser.old) (to_come parser.new) (W.contents out.old) (W.contents out.new) }
+    ensures dumps { Dumps result (to_come parser.old) (to_come parser.new) (W.contents out.old)
+        (W.contents out.new) }
     ensures leaves { Leaves result parser.old parser.new (W.contents out.old) (W.contents out.new) }
     ensures over { EndsTheStream parser.new }
 {
-    while let Some(read) = parser.next_into(next) {
-        match read {
-            Ok(()) => write_line(out, &next.0)?,
-            Err(fault) => return Err(DumpFault::Parse(fault)),
+    let mut fault = Fault::OutOfMemory;
+    loop {
+        match parser.advance(next, &mut fault) {
+            Progress::Event => write_line(out, &next.0)?,
+            Progress::Fault => return Err(DumpFault::Parse(fault)),
+            Progress::Over => return Ok(()),
         }
     }
-    Ok(())
 }

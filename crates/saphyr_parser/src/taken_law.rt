@@ -6,17 +6,19 @@ ghost use Rattle.saphyr_parser.specs.Answer.{Answer};
 ghost use Rattle.saphyr_parser.specs.Events.{Happening};
 ghost use Rattle.saphyr_parser.specs.EventsTaken.{AreTaken, HaveTokens};
 ghost use Rattle.saphyr_parser.specs.SpansWithin.{HasSpansIn};
-ghost use Rattle.saphyr_parser.specs.WrongAnswers as wrong;
-ghost use Rattle.saphyr_parser.specs.WrongAnswers.{BeginsWithInk, EndsWithStreamEnd};
+ghost use Rattle.saphyr_parser.specs.Examples.WrongAnswers as wrong;
+ghost use Rattle.saphyr_parser.specs.Examples.WrongAnswers.{BeginsWithInk, EndsWithStreamEnd};
 
 /// The end of the stream is the last event, and no other is; where a fault ends the events, none is.
 pub fn ends_with_stream_end()
-    ensures { (keep : Bool) (text : List ℕ) (a : Answer) → AreTaken keep text a → EndsWithStreamEnd a }
+    ensures { (keep : Bool) (text : List ℕ) (a : Answer) → AreTaken keep text a
+        → EndsWithStreamEnd a }
 {}
 
 /// The value of no plain scalar begins with a blank or a break.
 pub fn begins_values_with_ink()
-    ensures { (keep : Bool) (text : List ℕ) (a : Answer) → AreTaken keep text a → All (λ (e : Happening × Span). BeginsWithInk e.0) a.events }
+    ensures { (keep : Bool) (text : List ℕ) (a : Answer) → AreTaken keep text a
+        → All (λ (e : Happening × Span). BeginsWithInk e.0) a.events }
 {}
 
 /// What is not taken: `- a` with the value ` a`, and `a:` LF ` b` with the value ` b`; a block scalar
@@ -25,10 +27,13 @@ pub fn begins_values_with_ink()
 pub fn takes_no_wrong_answers()
     ensures blank_first { (keep : Bool) → ¬ AreTaken keep (codes "- a") wrong.blank_first }
     ensures break_first { (keep : Bool) → ¬ AreTaken keep (codes "a:\n b") wrong.break_first }
-    ensures marker_inside { (keep : Bool) → ¬ AreTaken keep (codes "--- |\na\n---\nb\n") wrong.marker_inside }
-    ensures marker_in_quotes { (keep : Bool) → ¬ AreTaken keep (codes "\"a\n--- b\"") wrong.marker_in_quotes }
+    ensures marker_inside { (keep : Bool) → ¬ AreTaken keep (codes "--- |\na\n---\nb\n")
+        wrong.marker_inside }
+    ensures marker_in_quotes { (keep : Bool) → ¬ AreTaken keep (codes "\"a\n--- b\"")
+        wrong.marker_in_quotes }
     ensures nul_inside { (keep : Bool) → ¬ AreTaken keep (codes "|\n a\0b\n") wrong.nul_inside }
-    ensures fault_behind_the_end { (keep : Bool) → ¬ AreTaken keep (codes "- a") wrong.fault_behind_the_end }
+    ensures fault_behind_the_end { (keep : Bool) → ¬ AreTaken keep (codes "- a")
+        wrong.fault_behind_the_end }
     ensures no_events { (keep : Bool) → ¬ AreTaken keep (codes "a") wrong.no_events }
 {}
 

@@ -14,16 +14,6 @@ use Rattle.saphyr_input.specs.declared.input.SkipTabs.{SkipTabs}
 pub run_within : (p : ℕ → Bool) (xs : List ℕ) → prefix_len p xs ≤ length xs
 run_within = prefix_len-le-length
 
--- a place that shows no NUL is a character
-pub some_left : (xs : List ℕ) → (slice_index xs 0 ≡ 0 → ⊥) → 0 < length xs
-some_left [] h = absurd (h refl)
-some_left (x ∷ xs) h = omega arith
-
--- a place that shows what NUL is not is a character
-pub shown : (xs : List ℕ) (p : ℕ → Bool) (b : Bool) → p (slice_index xs 0) ≡ b → (p 0 ≡ b → ⊥) → 1 ≤ length xs
-shown [] p b e h = absurd (h e)
-shown (c ∷ cs) p b e h = omega arith
-
 -- CR and LF are two characters
 pub two_shown : (xs : List ℕ) → next_2_are xs 13 10 ≡ true → 2 ≤ length xs
 two_shown [] e = absurd (cc)
@@ -40,4 +30,10 @@ comment_within xs = grind (arith, nat_tests, prefix_len-le-length is_yaml_non_br
 -- white space with its comment is no longer than the text
 pub separation_within : (tabs : SkipTabs) (xs : List ℕ) → separation_len tabs xs ≤ length xs
 separation_within tabs xs =
-    grind (arith, nat_tests, prefix_len-le-length (is_skipped tabs) xs, comment_within (drop (blank_len tabs xs) xs), length-drop (blank_len tabs xs) xs)
+    grind (
+      arith,
+      nat_tests,
+      prefix_len-le-length (is_skipped tabs) xs,
+      comment_within (drop (blank_len tabs xs) xs),
+      length-drop (blank_len tabs xs) xs,
+    )

@@ -5,15 +5,6 @@ use Rattle.std.proofs.lemmas.List.{drop-drop}
 use Rattle.saphyr_scalar.specs.declared.scalar.position.Marker.{Marker}
 use Rattle.saphyr_scalar.specs.Cursor.{◌>>=◌, along}
 
--- a choice, by the test
-pub by_test : {X : Type 0} (b : Bool) (x y : X) (P : X → Type 0) → (b ≡ true → P x) → (b ≡ false → P y) → P (cond b x y)
-by_test true x y P at_true at_false = at_true refl
-by_test false x y P at_true at_false = at_false refl
-
-pub either : (a b : Bool) (P : Type 0) → (a || b) ≡ true → (a ≡ true → P) → (b ≡ true → P) → P
-either true b P h left right = left refl
-either false b P h left right = right h
-
 pub along_none : (m : Marker) → along m 0 ≡ m
 along_none m = rw (add-zero m.index, add-zero m.col) refl
 
@@ -26,6 +17,7 @@ along_more m a b n e =
 pub drop_more : (a b n : ℕ) (xs : List ℕ) → n ≡ b + a → drop a (drop b xs) ≡ drop n xs
 drop_more a b n xs e = drop-drop a b xs ∙ ap (λ k. drop k xs) (sym e)
 
-pub bind_same : {A B E : Type 0} (r : Result A E) (f g : A → Result B E) → ((x : A) → r ≡ Ok x → f x ≡ g x) → (r >>= f) ≡ (r >>= g)
+pub bind_same : {A B E : Type 0} (r : Result A E) (f g : A → Result B E) → ((x : A) → r ≡ Ok x → f x ≡ g x)
+    → (r >>= f) ≡ (r >>= g)
 bind_same (Ok x) f g h = h x refl
 bind_same (Err e) f g h = refl

@@ -5,12 +5,15 @@ use Rattle.std.proofs.lemmas.Bool.Decides.{nat_tests}
 use Rattle.saphyr_input.specs.Classes.{is_break, is_blank, is_digit, is_alpha, is_tag_char, is_uri_char, is_yaml_non_break, is_yaml_non_space, IsHex}
 use Rattle.saphyr_scalar.specs.declared.scalar.position.Marker.{Marker}
 use Rattle.saphyr_scalar.specs.Cursor.{along}
+use Rattle.saphyr_scalar.specs.declared.reading.flow.Quote.{Quote}
+use Rattle.saphyr_scalar.specs.declared.reading.flow.Quote.TheVariants.{Single, Double}
+use Rattle.saphyr_scalar.specs.FlowReading as flow
 use Rattle.saphyr_scalar.specs.Directive.{Directive, version, tag_prefix, reserved}
 use Rattle.saphyr_scalar.specs.DirectiveSpelling.{IsReadDirective}
 use Rattle.saphyr_scalar.specs.Passing.{IsPassed, nothing, character}
 use Rattle.saphyr_scalar.specs.TagSpelling.{AreIn, IsByteEscape, AreByteEscapes, IsCharacter, IsDecoded, IsHandleText, IsPrefix}
-use Rattle.saphyr_scalar.proofs.Choices.{other_than}
 use Rattle.saphyr_scalar.proofs.Moving.{along_none, along_more}
+use Rattle.saphyr_input.proofs.Basics.Booleans.{other_than}
 
 abbrev pub NoBreaks : List ℕ → Type 0
 NoBreaks [] = Unit {0}
@@ -35,7 +38,8 @@ pub no_breaks_passed : (m : Marker) (t u : List ℕ) → NoBreaks t → IsPassed
 no_breaks_passed m [] u h = subst (λ (k : Marker). IsPassed m u k u) (sym (along_none m)) (nothing m u)
 no_breaks_passed m (c ∷ cs) u h =
     character m c (cs ++ u) (along m (length (c ∷ cs))) u h.0
-    (subst (λ (k : Marker). IsPassed (along m 1) (cs ++ u) k u) (along_more m 1 (length cs) (length (c ∷ cs)) (omega arith)) (no_breaks_passed (along m 1) cs u h.1))
+    (subst (λ (k : Marker). IsPassed (along m 1) (cs ++ u) k u)
+    (along_more m 1 (length cs) (length (c ∷ cs)) (omega arith)) (no_breaks_passed (along m 1) cs u h.1))
 
 -- ## Tags' parts
 
@@ -45,39 +49,88 @@ hex_no_break c (inr (inl small)) = grind (arith, nat_tests)
 hex_no_break c (inr (inr large)) = grind (arith, nat_tests)
 
 escape_no_break : (byte : ℕ) (t : List ℕ) → IsByteEscape byte t → NoBreaks t
-escape_no_break byte t (high, low, is_high, is_low, value, text) = subst NoBreaks (sym text) (refl, (hex_no_break high is_high, (hex_no_break low is_low, tt)))
+escape_no_break byte t (high, low, is_high, is_low, value, text) =
+    subst NoBreaks (sym text) (refl, (hex_no_break high is_high, (hex_no_break low is_low, tt)))
 
 escapes_no_break : (bytes t : List ℕ) → AreByteEscapes bytes t → NoBreaks t
 escapes_no_break [] t text = subst NoBreaks (sym text) tt
-escapes_no_break (byte ∷ bytes) t (escape, more, first, others, text) = subst NoBreaks (sym text) (no_breaks_both escape more (escape_no_break byte escape first) (escapes_no_break bytes more others))
+escapes_no_break (byte ∷ bytes) t (escape, more, first, others, text) =
+    subst NoBreaks (sym text)
+    (no_breaks_both escape more (escape_no_break byte escape first) (escapes_no_break bytes more others))
 
-character_no_break : (p : ℕ → Bool) → p 10 ≡ false → p 13 ≡ false → (c : ℕ) (t : List ℕ) → IsCharacter p c t → NoBreaks t
-character_no_break p feed return c t (inl (set, other, text)) = subst NoBreaks (sym text) (class_no_break p feed return c set, tt)
+character_no_break : (p : ℕ → Bool) → p 10 ≡ false → p 13 ≡ false → (c : ℕ) (t : List ℕ) → IsCharacter p c t
+    → NoBreaks t
+character_no_break p feed return c t (inl (set, other, text)) =
+    subst NoBreaks (sym text) (class_no_break p feed return c set, tt)
 character_no_break p feed return c t (inr (scalar, escaped)) = escapes_no_break (encode_utf8 c) t escaped
 
-pub decoded_no_break : (p : ℕ → Bool) → p 10 ≡ false → p 13 ≡ false → (value t : List ℕ) → IsDecoded p value t → NoBreaks t
+pub decoded_no_break : (p : ℕ → Bool) → p 10 ≡ false → p 13 ≡ false → (value t : List ℕ) → IsDecoded p value t
+    → NoBreaks t
 decoded_no_break p feed return [] t text = subst NoBreaks (sym text) tt
 decoded_no_break p feed return (c ∷ value) t (first, more, is, others, text) =
-    subst NoBreaks (sym text) (no_breaks_both first more (character_no_break p feed return c first is) (decoded_no_break p feed return value more others))
+    subst NoBreaks (sym text)
+    (no_breaks_both first more (character_no_break p feed return c first is)
+    (decoded_no_break p feed return value more others))
 
 pub handle_no_break : (t : List ℕ) → IsHandleText t → NoBreaks t
 handle_no_break t (inl text) = subst NoBreaks (sym text) (refl, tt)
-handle_no_break t (inr (word, is, text)) = subst NoBreaks (sym text) (refl, no_breaks_both word (codes "!") (no_breaks_in is_alpha refl refl word is) (refl, tt))
+handle_no_break t (inr (word, is, text)) =
+    subst NoBreaks (sym text)
+    (refl, no_breaks_both word (codes "!") (no_breaks_in is_alpha refl refl word is) (refl, tt))
 
 prefix_no_break : (value t : List ℕ) → IsPrefix value t → NoBreaks t
 prefix_no_break [] t is = absurd is
 prefix_no_break (c ∷ value) t (first, more, is, others, text) =
-    subst NoBreaks (sym text) (no_breaks_both first more (character_no_break (λ x. is_tag_char x || (x == 33)) refl refl c first is) (decoded_no_break is_uri_char refl refl value more others))
+    subst NoBreaks (sym text)
+    (no_breaks_both first more (character_no_break (λ x. is_tag_char x || (x == 33)) refl refl c first is)
+    (decoded_no_break is_uri_char refl refl value more others))
 
 -- ## Directives
 
 pub directive_no_break : (d : Directive) (t : List ℕ) → IsReadDirective d t → NoBreaks t
 directive_no_break (version major minor) t (gap, high, low, blanks, first, second, text) =
-    let numbers : NoBreaks (high ++ (46 ∷ low)) = no_breaks_both high (46 ∷ low) (no_breaks_in is_digit refl refl high first.2) (refl, no_breaks_in is_digit refl refl low second.2) in
-    subst NoBreaks (sym text) (refl, (refl, (refl, (refl, (refl, no_breaks_both gap (high ++ (46 ∷ low)) (no_breaks_in is_blank refl refl gap blanks.1) numbers)))))
-directive_no_break (tag_prefix handle prefix) t (h, p, (first, second, written, before, between, is_handle, is_prefix, text), _, _) =
-    let last : NoBreaks (second ++ written) = no_breaks_both second written (no_breaks_in is_blank refl refl second between) (prefix_no_break p written is_prefix) in
-    let parts : NoBreaks (h ++ (second ++ written)) = no_breaks_both h (second ++ written) (handle_no_break h is_handle) last in
-    subst NoBreaks (sym text) (refl, (refl, (refl, (refl, no_breaks_both first (h ++ (second ++ written)) (no_breaks_in is_blank refl refl first before.1) parts))))
+    let numbers : NoBreaks (high ++ (46 ∷ low)) = no_breaks_both high (46 ∷ low)
+    (no_breaks_in is_digit refl refl high first.2) (refl, no_breaks_in is_digit refl refl low second.2) in
+    subst NoBreaks (sym text) (
+      refl,
+      (
+        refl,
+        (
+          refl,
+          (
+            refl,
+            (refl, no_breaks_both gap (high ++ (46 ∷ low)) (no_breaks_in is_blank refl refl gap blanks.1) numbers),
+          ),
+        ),
+      ),
+    )
+directive_no_break (tag_prefix handle prefix) t
+    (h, p, (first, second, written, before, between, is_handle, is_prefix, text), _, _) =
+    let last : NoBreaks (second ++ written) = no_breaks_both second written
+    (no_breaks_in is_blank refl refl second between) (prefix_no_break p written is_prefix) in
+    let parts : NoBreaks (h ++ (second ++ written)) = no_breaks_both h (second ++ written) (handle_no_break h is_handle)
+    last in
+    subst NoBreaks (sym text) (
+      refl,
+      (
+        refl,
+        (
+          refl,
+          (
+            refl,
+            no_breaks_both first (h ++ (second ++ written))
+                (no_breaks_in is_blank refl refl first before.1) parts,
+          ),
+        ),
+      ),
+    )
 directive_no_break (reserved name) t (n, (more, _, _, _, all, others, _, text), _) =
-    subst NoBreaks (sym text) (refl, no_breaks_both n more (no_breaks_in is_yaml_non_space refl refl n all) (no_breaks_in is_yaml_non_break refl refl more others))
+    subst NoBreaks (sym text) (
+      refl,
+      no_breaks_both n more (no_breaks_in is_yaml_non_space refl refl n all)
+          (no_breaks_in is_yaml_non_break refl refl more others),
+    )
+
+pub mark_no_break : (q : Quote) → is_break (flow.mark q) ≡ false
+mark_no_break Single = refl
+mark_no_break Double = refl

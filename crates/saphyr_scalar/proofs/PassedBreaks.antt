@@ -1,21 +1,35 @@
 -- What is passed from inside a text, where a break may have begun before it.
-use Rattle.std.proofs.Common.{◌≡◌, ℕ, ◌+◌, Bool, true, false, List, [], ◌∷◌, drop, refl, sym, ap, ◌∙◌, arith, subst}
-use Rattle.std.specs.Prelude.{slice_index, ◌==◌}
+use Rattle.std.proofs.Common.{◌≡◌, ℕ, ◌+◌, Bool, true, false, List, [], ◌∷◌, length, ◌<◌, ◌≤◌, drop, refl, sym, ap, ◌∙◌, arith, subst}
+use Rattle.std.specs.Prelude.{slice_index, ◌==◌, if◌then◌else◌}
+use Rattle.std.proofs.lemmas.Bool.{false≢true, eqb-true}
 use Rattle.std.proofs.lemmas.Bool.Decides.{nat_tests}
+use Rattle.std.proofs.lemmas.List.{length-drop}
+use Rattle.saphyr_input.proofs.Basics.Lists.{shown}
 use Rattle.saphyr_input.specs.Classes.{is_break}
 use Rattle.saphyr_scalar.specs.declared.scalar.position.Marker.{Marker}
+use Rattle.saphyr_scalar.specs.LineBreaks.{ends_line}
 use Rattle.saphyr_scalar.specs.BlockScalar.{is_cr_lf, inside_break}
-use Rattle.saphyr_scalar.specs.Cursor.{Cursor, along, next_line}
+use Rattle.saphyr_scalar.specs.Cursor.{Cursor, along, next_line, pass_break}
 use Rattle.saphyr_scalar.specs.Passing as passing
 use Rattle.saphyr_scalar.specs.Passing.{IsPassed}
 use Rattle.saphyr_scalar.specs.Quoted.{break_len}
-use Rattle.saphyr_scalar.proofs.Choices.{and_left, and_right}
-use Rattle.saphyr_scalar.proofs.TagsSpelled.{is_number}
+use Rattle.saphyr_input.proofs.Basics.Booleans.{and_true_left, and_true_right}
 
 -- what is passed from here on, and from a CR on that stands before, where an LF stands first
 pub record Passes (m : Marker) (t : List ℕ) (r : Cursor) : Type 0 where
   pub here : IsPassed m t r.mark r.rest
-  pub behind_return : (slice_index t 0 == 10) ≡ true → (k : Marker) → next_line m 1 ≡ next_line k 2 → IsPassed k (13 ∷ t) r.mark r.rest
+  pub behind_return : (slice_index t 0 == 10) ≡ true → (k : Marker) → next_line m 1 ≡ next_line k 2
+      → IsPassed k (13 ∷ t) r.mark r.rest
+
+-- the place behind one character, which may end its line
+abbrev pub behind_one : Marker → ℕ → List ℕ → Marker
+behind_one m c cs = if ends_line c cs then next_line m 1 else along m 1
+
+-- a break is taken off
+pub break_shorter : (s : Cursor) → is_break (slice_index s.rest 0) ≡ true → length (pass_break s).rest < length s.rest
+break_shorter s h =
+    let some : 1 ≤ length s.rest = shown s.rest is_break true h (λ e. false≢true e) in
+    grind (arith, nat_tests, length-drop {A = ℕ})
 
 -- the place between the two characters may be told in two ways
 pub inside_same : (m : Marker) → next_line (inside_break m) 1 ≡ next_line m 2
@@ -25,41 +39,55 @@ pub along_same : (m : Marker) → next_line (along m 1) 1 ≡ next_line m 2
 along_same m = let i : m.index + 1 + 1 ≡ m.index + 2 = omega arith in rw i refl
 
 not_both : (c a b : ℕ) → (a == b) ≡ false → c ≡ b → (c == a) ≡ true → ⊥
-not_both c a b e f g = let h : c ≡ a = is_number c a g in let k : (b == b) ≡ false = ap (λ x. x == b) (sym f ∙ h) ∙ e in differs b k
+not_both c a b e f g = let h : c ≡ a =
+    eqb-true c a g in let k : (b == b) ≡ false = ap (λ x. x == b) (sym f ∙ h) ∙ e in differs b k
   where
     differs : (n : ℕ) → (n == n) ≡ false → ⊥
     differs n e = grind (arith, nat_tests, e)
 
 -- a character of the line
-pub one_here : (m : Marker) (c : ℕ) (cs : List ℕ) (r : Cursor) → is_break c ≡ false → Passes (along m 1) cs r → Passes m (c ∷ cs) r
+pub one_here : (m : Marker) (c : ℕ) (cs : List ℕ) (r : Cursor) → is_break c ≡ false → Passes (along m 1) cs r
+    → Passes m (c ∷ cs) r
 one_here m c cs r e p = record {
   here = passing.character m c cs r.mark r.rest e p.here;
-  behind_return = λ f k q. absurd (let g : is_break c ≡ true = ap is_break (is_number c 10 f) in cc);
+  behind_return = λ f k q. absurd (let g : is_break c ≡ true = ap is_break (eqb-true c 10 f) in cc);
 }
 
-pub return_here : (m j : Marker) (c : ℕ) (cs : List ℕ) (r : Cursor) → is_cr_lf c cs ≡ true → next_line j 1 ≡ next_line m 2 → Passes j cs r → Passes m (c ∷ cs) r
+pub return_here : (m j : Marker) (c : ℕ) (cs : List ℕ) (r : Cursor) → is_cr_lf c cs ≡ true
+    → next_line j 1 ≡ next_line m 2 → Passes j cs r → Passes m (c ∷ cs) r
 return_here m j c cs r e same p =
-    let thirteen : c ≡ 13 = is_number c 13 (and_left (c == 13) (slice_index cs 0 == 10) e) in
+    let thirteen : c ≡ 13 = eqb-true c 13 (and_true_left (c == 13) (slice_index cs 0 == 10) e) in
     record {
-      here = subst (λ d. IsPassed m (d ∷ cs) r.mark r.rest) (sym thirteen) (p.behind_return (and_right (c == 13) (slice_index cs 0 == 10) e) m same);
+      here = subst (λ d. IsPassed m (d ∷ cs) r.mark r.rest) (sym thirteen)
+          (p.behind_return (and_true_right (c == 13) (slice_index cs 0 == 10) e) m same);
       behind_return = λ f k q. absurd (not_both c 10 13 refl thirteen f);
     }
 
-pub feed_here : (m : Marker) (c : ℕ) (cs : List ℕ) (r : Cursor) → is_cr_lf c cs ≡ false → is_break c ≡ true → IsPassed (next_line m 1) cs r.mark r.rest → Passes m (c ∷ cs) r
+pub feed_here : (m : Marker) (c : ℕ) (cs : List ℕ) (r : Cursor) → is_cr_lf c cs ≡ false → is_break c ≡ true
+    → IsPassed (next_line m 1) cs r.mark r.rest → Passes m (c ∷ cs) r
 feed_here m c cs r e b p =
     let one : break_len (c ∷ cs) ≡ 1 = rw e refl in
     record {
-      here = passing.line_break m (c ∷ cs) r.mark r.rest b (subst (λ n. IsPassed (next_line m n) (drop n (c ∷ cs)) r.mark r.rest) (sym one) p);
-      behind_return = λ f k q. fed k (is_number c 10 f) q;
+      here = passing.line_break m (c ∷ cs) r.mark r.rest b
+          (subst (λ n. IsPassed (next_line m n) (drop n (c ∷ cs)) r.mark r.rest) (sym one) p);
+      behind_return = λ f k q. fed k (eqb-true c 10 f) q;
     }
   where
     fed : (k : Marker) → c ≡ 10 → next_line m 1 ≡ next_line k 2 → IsPassed k (13 ∷ c ∷ cs) r.mark r.rest
     fed k f q =
-        let there : IsPassed (next_line k 2) cs r.mark r.rest = subst (λ (j : Marker). IsPassed j cs r.mark r.rest) q p in
-        subst (λ d. IsPassed k (13 ∷ d ∷ cs) r.mark r.rest) (sym f) (passing.line_break k (13 ∷ 10 ∷ cs) r.mark r.rest refl there)
+        let there : IsPassed (next_line k 2) cs r.mark r.rest = subst (λ (j : Marker). IsPassed j cs r.mark r.rest) q
+        p in
+        subst (λ d. IsPassed k (13 ∷ d ∷ cs) r.mark r.rest) (sym f)
+        (passing.line_break k (13 ∷ 10 ∷ cs) r.mark r.rest refl there)
 
-pub stop_here : (m : Marker) (c : ℕ) (cs : List ℕ) (b : Bool) → is_break c ≡ false → Passes m (c ∷ cs) (record { rest = c ∷ cs; mark = m; blank_so_far = b })
-stop_here m c cs b e = record { here = passing.nothing m (c ∷ cs); behind_return = λ f k q. absurd (let g : is_break c ≡ true = ap is_break (is_number c 10 f) in cc) }
+pub stop_here : (m : Marker) (c : ℕ) (cs : List ℕ) (b : Bool) → is_break c ≡ false
+    → Passes m (c ∷ cs) (record { rest = c ∷ cs; mark = m; blank_so_far = b })
+stop_here m c cs b e = record {
+  here =
+      passing.nothing m (c ∷ cs);
+  behind_return =
+      λ f k q. absurd (let g : is_break c ≡ true = ap is_break (eqb-true c 10 f) in cc);
+}
 
 pub end_here : (m : Marker) (b : Bool) → Passes m [] (record { rest = []; mark = m; blank_so_far = b })
 end_here m b = record { here = passing.nothing m []; behind_return = λ f k q. absurd (cc) }

@@ -9,11 +9,14 @@ use Rattle.saphyr_scalar.specs.Cursor.{along, next_line}
 use Rattle.saphyr_scalar.specs.LineSpelling as spelling
 use Rattle.saphyr_scalar.specs.Passing.{IsPassed, nothing, character, line_break}
 use Rattle.saphyr_scalar.specs.Quoted.{break_len}
-use Rattle.saphyr_scalar.proofs.Moving.{by_test, either, along_more, along_none}
+use Rattle.saphyr_scalar.proofs.Moving.{along_more, along_none}
+use Rattle.saphyr_input.proofs.Basics.Booleans.{clash, by_test, either}
 
-pub letter_passed : (m : Marker) (e : ℕ) (t : List ℕ) (n : Marker) (x : List ℕ) → is_break e ≡ false → IsPassed (along m 2) t n x → IsPassed m (92 ∷ e ∷ t) n x
+pub letter_passed : (m : Marker) (e : ℕ) (t : List ℕ) (n : Marker) (x : List ℕ) → is_break e ≡ false
+    → IsPassed (along m 2) t n x → IsPassed m (92 ∷ e ∷ t) n x
 letter_passed m e t n x h p =
-    character m 92 (e ∷ t) n x refl (character (along m 1) e t n x h (subst (λ (k : Marker). IsPassed k t n x) (sym (along_more m 1 1 2 refl)) p))
+    character m 92 (e ∷ t) n x refl
+    (character (along m 1) e t n x h (subst (λ (k : Marker). IsPassed k t n x) (sym (along_more m 1 1 2 refl)) p))
 
 pub hex_no_break : (d : ℕ) → IsTrue (is_hex d) → is_break d ≡ false
 hex_no_break d h = by_test (is_break d) refl
@@ -31,55 +34,68 @@ hex_no_break d h = by_test (is_break d) refl
     by_test true is = let no = numbers d is in absurd (cc)
     by_test false is = refl
 
-pub digits_passed : (m : Marker) (ds t : List ℕ) (n : Marker) (x : List ℕ) → spelling.AreHex ds → IsPassed (along m (length ds)) t n x → IsPassed m (ds ++ t) n x
+pub digits_passed : (m : Marker) (ds t : List ℕ) (n : Marker) (x : List ℕ) → spelling.AreHex ds
+    → IsPassed (along m (length ds)) t n x → IsPassed m (ds ++ t) n x
 digits_passed m [] t n x h p = subst (λ (k : Marker). IsPassed k t n x) (along_none m) p
 digits_passed m (d ∷ ds) t n x h p =
     character m d (ds ++ t) n x (hex_no_break d h.0)
-    (digits_passed (along m 1) ds t n x h.1 (subst (λ (k : Marker). IsPassed k t n x) (sym (along_more m 1 (length ds) (suc (length ds)) (omega arith))) p))
+    (digits_passed (along m 1) ds t n x h.1
+    (subst (λ (k : Marker). IsPassed k t n x) (sym (along_more m 1 (length ds) (suc (length ds)) (omega arith))) p))
 
 -- A place is determined by what is passed.
 
 drop_less : (t : List ℕ) → is_break (slice_index t 0) ≡ true → length (drop (break_len t) t) < length t
 drop_less [] h = absurd (cc)
 drop_less (c ∷ cs) h =
-    by_test (next_2_are (c ∷ cs) 13 10) 2 1 (λ n. length (drop n (c ∷ cs)) < length (c ∷ cs)) (λ _. omega (arith, length-drop {A = ℕ} 1 cs)) (λ _. omega arith)
+    by_test (next_2_are (c ∷ cs) 13 10) 2 1 (λ n. length (drop n (c ∷ cs)) < length (c ∷ cs))
+    (λ _. omega (arith, length-drop {A = ℕ} 1 cs)) (λ _. omega arith)
 
 passed_shorter : (m : Marker) (t : List ℕ) (n : Marker) (u : List ℕ) → IsPassed m t n u → length u ≤ length t
 passed_shorter _ _ _ _ (nothing m t) = omega arith
 passed_shorter _ _ _ _ (character m c t n u h p) = omega (arith, passed_shorter (along m 1) t n u p)
-passed_shorter _ _ _ _ (line_break m t n u h p) = omega (arith, passed_shorter (next_line m (break_len t)) (drop (break_len t) t) n u p, drop_less t h)
+passed_shorter _ _ _ _ (line_break m t n u h p) =
+    omega (arith, passed_shorter (next_line m (break_len t)) (drop (break_len t) t) n u p, drop_less t h)
 
 -- what a passing begins with
 record Stays (m : Marker) (s : List ℕ) (n : Marker) (u : List ℕ) : Type 0 where
   text : u ≡ s
   place : n ≡ m
 
-no_break_at_break : {X : Type 0} (b : Bool) → b ≡ true → b ≡ false → X
-no_break_at_break true h k = absurd (cc)
-no_break_at_break false h k = absurd (cc)
-
-behind_character : (m : Marker) (s : List ℕ) (n : Marker) (u : List ℕ) → IsPassed m s n u → (c : ℕ) (t : List ℕ) → s ≡ c ∷ t → is_break c ≡ false → Stays m s n u ⊎ IsPassed (along m 1) t n u
+behind_character : (m : Marker) (s : List ℕ) (n : Marker) (u : List ℕ) → IsPassed m s n u → (c : ℕ) (t : List ℕ)
+    → s ≡ c ∷ t → is_break c ≡ false → Stays m s n u ⊎ IsPassed (along m 1) t n u
 behind_character _ _ _ _ (nothing m s) c t e h = inl (record { text = refl; place = refl })
-behind_character _ _ _ _ (character m d s n u k p) c t e h = inr (subst (λ (l : List ℕ). IsPassed (along m 1) l n u) (ap (drop 1) e) p)
-behind_character _ _ _ _ (line_break m s n u k p) c t e h = no_break_at_break (is_break (slice_index s 0)) k (ap (λ (l : List ℕ). is_break (slice_index l 0)) e ∙ h)
+behind_character _ _ _ _ (character m d s n u k p) c t e h =
+    inr (subst (λ (l : List ℕ). IsPassed (along m 1) l n u) (ap (drop 1) e) p)
+behind_character _ _ _ _ (line_break m s n u k p) c t e h =
+    clash (is_break (slice_index s 0)) k (ap (λ (l : List ℕ). is_break (slice_index l 0)) e ∙ h)
 
-behind_break : (m : Marker) (s : List ℕ) (n : Marker) (u : List ℕ) → IsPassed m s n u → is_break (slice_index s 0) ≡ true → Stays m s n u ⊎ IsPassed (next_line m (break_len s)) (drop (break_len s) s) n u
+behind_break : (m : Marker) (s : List ℕ) (n : Marker) (u : List ℕ) → IsPassed m s n u
+    → is_break (slice_index s 0) ≡ true
+    → Stays m s n u ⊎ IsPassed (next_line m (break_len s)) (drop (break_len s) s) n u
 behind_break _ _ _ _ (nothing m s) h = inl (record { text = refl; place = refl })
-behind_break _ _ _ _ (character m d s n u k p) h = no_break_at_break (is_break d) h k
+behind_break _ _ _ _ (character m d s n u k p) h = clash (is_break d) h k
 behind_break _ _ _ _ (line_break m s n u k p) h = inr p
 
 same_as_nothing : (m : Marker) (s : List ℕ) (n : Marker) (u : List ℕ) → IsPassed m s n u → length s ≤ length u → n ≡ m
 same_as_nothing _ _ _ _ (nothing m s) le = refl
 same_as_nothing _ _ _ _ (character m c s n u k p) le = absurd (omega (arith, passed_shorter (along m 1) s n u p))
-same_as_nothing _ _ _ _ (line_break m s n u k p) le = absurd (omega (arith, passed_shorter (next_line m (break_len s)) (drop (break_len s) s) n u p, drop_less s k))
+same_as_nothing _ _ _ _ (line_break m s n u k p) le =
+    absurd (omega (arith, passed_shorter (next_line m (break_len s)) (drop (break_len s) s) n u p, drop_less s k))
 
-pub one_place : (m : Marker) (s : List ℕ) (n : Marker) (u : List ℕ) → IsPassed m s n u → (k : Marker) → IsPassed m s k u → k ≡ n
+pub one_place : (m : Marker) (s : List ℕ) (n : Marker) (u : List ℕ) → IsPassed m s n u → (k : Marker) → IsPassed m s k u
+    → k ≡ n
 one_place _ _ _ _ (nothing m s) k q = same_as_nothing m s k s q (omega arith)
 one_place _ _ _ _ (character m c s n u h p) k q = elim (behind_character m (c ∷ s) k u q c s refl h) [
   | inl stays ↦ absurd (omega (arith, passed_shorter (along m 1) s n u p, ap (λ (l : List ℕ). length l) stays.text))
   | inr r ↦ one_place (along m 1) s n u p k r
 ]
 one_place _ _ _ _ (line_break m s n u h p) k q = elim (behind_break m s k u q h) [
-  | inl stays ↦ absurd (omega (arith, passed_shorter (next_line m (break_len s)) (drop (break_len s) s) n u p, drop_less s h, ap (λ (l : List ℕ). length l) stays.text))
+  | inl stays ↦ absurd (omega (
+    arith,
+    passed_shorter (next_line m (break_len s)) (drop (break_len s) s) n u p,
+    drop_less s h,
+    ap
+        (λ (l : List ℕ). length l) stays.text,
+  ))
   | inr r ↦ one_place (next_line m (break_len s)) (drop (break_len s) s) n u p k r
 ]

@@ -11,22 +11,25 @@ use Rattle.saphyr_scalar.specs.Quoted.{with_front, with_run, at}
 use Rattle.saphyr_scalar.specs.Anchor as names
 use Rattle.saphyr_scalar.specs.Anchor.{anchor}
 use Rattle.saphyr_scalar.specs.Tag.{has, shows_byte, escaped_byte, utf8_width, leading_bits, is_trailing, is_encoded, trailing_byte, trailing_bytes, encoded, behind_leading, escape, uri_character, uri_tail, decoded, decoded_at, Parts, verbatim_end, verbatim, named_tag, named_tail, behind_word, shorthand, tag_end, tag}
-use Rattle.saphyr_scalar.proofs.Taking.{by_test}
+use Rattle.saphyr_input.proofs.Basics.Booleans.{by_test}
 
 -- what is refused, if anything is, has this property
 abbrev pub Refused : {X : Type 0} → (Refusal → Type 0) → Result X Refusal → Type 0
 Refused P (Ok x) = Unit {0}
 Refused P (Err e) = P e
 
-pub refused_bind : {X Y : Type 0} → (P : Refusal → Type 0) (r : Result X Refusal) (f : X → Result Y Refusal) → Refused P r → ((x : X) → r ≡ Ok x → Refused P (f x)) → Refused P (r >>= f)
+pub refused_bind : {X Y : Type 0} → (P : Refusal → Type 0) (r : Result X Refusal) (f : X → Result Y Refusal)
+    → Refused P r → ((x : X) → r ≡ Ok x → Refused P (f x)) → Refused P (r >>= f)
 refused_bind P (Ok x) f h k = k x refl
 refused_bind P (Err e) f h k = h
 
-pub refused_of : {X : Type 0} → (P : Refusal → Type 0) (r : Result X Refusal) (e : Refusal) → Refused P r → r ≡ Err e → P e
+pub refused_of : {X : Type 0} → (P : Refusal → Type 0) (r : Result X Refusal) (e : Refusal) → Refused P r → r ≡ Err e
+    → P e
 refused_of P (Ok x) e h is = absurd (cc)
 refused_of P (Err d) e h is = let same : d ≡ e = cc in subst P same h
 
-pub refused_more : {X : Type 0} → (P Q : Refusal → Type 0) (r : Result X Refusal) → Refused P r → ((e : Refusal) → P e → Q e) → Refused Q r
+pub refused_more : {X : Type 0} → (P Q : Refusal → Type 0) (r : Result X Refusal) → Refused P r
+    → ((e : Refusal) → P e → Q e) → Refused Q r
 refused_more P Q (Ok x) h k = tt
 refused_more P Q (Err e) h k = k e h
 
@@ -38,7 +41,8 @@ RefusedAt start r = Refused (λ e. e.mark ≡ start) r
 
 pub anchor_refused : (s : Cursor) → RefusedAt s.mark (anchor s)
 unfolding anchor names.name_of
-anchor_refused s = by_test (length (with_run is_anchor_char [] (pass 1 s)).0 == 0) _ _ (RefusedAt s.mark) (λ _. refl) (λ _. tt)
+anchor_refused s = by_test (length (with_run is_anchor_char [] (pass 1 s)).0 == 0) _ _ (RefusedAt s.mark) (λ _. refl)
+    (λ _. tt)
 
 -- ## Tags
 
@@ -48,37 +52,46 @@ byte_refused start s = by_test (shows_byte s.rest) _ _ (RefusedAt start) (λ _. 
 
 trailing_refused : (start : Marker) (v : ℕ) (s : Cursor) → RefusedAt start (trailing_byte start v s)
 unfolding trailing_byte
-trailing_refused start v s = refused_bind (λ e. e.mark ≡ start) (escaped_byte start s) _ (byte_refused start s) (λ b e. by_test (is_trailing b.0) _ _ (RefusedAt start) (λ _. tt) (λ _. refl))
+trailing_refused start v s =
+    refused_bind (λ e. e.mark ≡ start) (escaped_byte start s) _ (byte_refused start s)
+    (λ b e. by_test (is_trailing b.0) _ _ (RefusedAt start) (λ _. tt) (λ _. refl))
 
 bytes_refused : (start : Marker) (n v : ℕ) (s : Cursor) → RefusedAt start (trailing_bytes start n v s)
 unfolding trailing_bytes
 bytes_refused start zero v s = tt
-bytes_refused start (suc n) v s = refused_bind (λ e. e.mark ≡ start) (trailing_byte start v s) _ (trailing_refused start v s) (λ x e. bytes_refused start n x.0 x.1)
+bytes_refused start (suc n) v s =
+    refused_bind (λ e. e.mark ≡ start) (trailing_byte start v s) _ (trailing_refused start v s)
+    (λ x e. bytes_refused start n x.0 x.1)
 
 leading_refused : (start : Marker) (b : ℕ) (s : Cursor) → RefusedAt start (behind_leading start b s)
 unfolding behind_leading encoded
 leading_refused start b s =
     by_test (utf8_width b == 0) _ _ (RefusedAt start) (λ _. refl)
-    (λ _. refused_bind (λ e. e.mark ≡ start) (trailing_bytes start (utf8_width b - 1) (leading_bits b) s) _ (bytes_refused start (utf8_width b - 1) (leading_bits b) s)
+    (λ _. refused_bind (λ e. e.mark ≡ start) (trailing_bytes start (utf8_width b - 1) (leading_bits b) s) _
+    (bytes_refused start (utf8_width b - 1) (leading_bits b) s)
     (λ x e. by_test (is_encoded (utf8_width b) x.0) _ _ (RefusedAt start) (λ _. tt) (λ _. refl)))
 
 pub character_refused : (start : Marker) (s : Cursor) → RefusedAt start (uri_character start s)
 unfolding uri_character escape
 character_refused start s =
     by_test (slice_index s.rest 0 == 37) _ _ (RefusedAt start)
-    (λ _. refused_bind (λ e. e.mark ≡ start) (escaped_byte start s) _ (byte_refused start s) (λ b e. leading_refused start b.0 b.1)) (λ _. tt)
+    (λ _. refused_bind (λ e. e.mark ≡ start) (escaped_byte start s) _ (byte_refused start s)
+    (λ b e. leading_refused start b.0 b.1)) (λ _. tt)
 
-pub front_refused : (P : Refusal → Type 0) (front : List ℕ) (r : Result (List ℕ × Cursor) Refusal) → Refused P r → Refused P (with_front front r)
+pub front_refused : (P : Refusal → Type 0) (front : List ℕ) (r : Result (List ℕ × Cursor) Refusal) → Refused P r
+    → Refused P (with_front front r)
 front_refused P front r h = refused_bind P r _ h (λ x e. tt)
 
-pub decoded_refused : (set : UriSet) (start : Marker) (k : ℕ) (m : Marker) (t : List ℕ) → RefusedAt start (decoded set start k m t)
+pub decoded_refused : (set : UriSet) (start : Marker) (k : ℕ) (m : Marker) (t : List ℕ)
+    → RefusedAt start (decoded set start k m t)
 unfolding decoded
 decoded_refused set start k m [] = tt
 decoded_refused set start zero m (c ∷ cs) =
     let P : Refusal → Type 0 = λ e. e.mark ≡ start in
     by_test (has set c) _ _ (RefusedAt start)
     (λ _. refused_bind P (uri_character start (at m (c ∷ cs))) _ (character_refused start (at m (c ∷ cs))) (λ x e.
-    front_refused P (encode_utf8 x.0) (decoded set start (uri_tail (c ∷ cs)) (along m 1) cs) (decoded_refused set start (uri_tail (c ∷ cs)) (along m 1) cs)))
+    front_refused P (encode_utf8 x.0) (decoded set start (uri_tail (c ∷ cs)) (along m 1) cs)
+    (decoded_refused set start (uri_tail (c ∷ cs)) (along m 1) cs)))
     (λ _. tt)
 decoded_refused set start (suc k) m (c ∷ cs) = decoded_refused set start k (along m 1) cs
 
@@ -95,13 +108,19 @@ word_refused start w =
     let P : Refusal → Type 0 = λ e. e.mark ≡ start in
     let t : Cursor = pass 1 w.1 in
     by_test (slice_index w.1.rest 0 == 33) _ _ (RefusedAt start)
-    (λ _. refused_bind P (decoded_at Suffix start t) _ (decoded_refused Suffix start 0 t.mark t.rest) (λ x e. by_test (length x.0 == 0) _ _ (RefusedAt start) (λ _. refl) (λ _. tt)))
-    (λ _. refused_bind P (with_front w.0 (decoded_at Suffix start w.1)) _ (front_refused P w.0 (decoded_at Suffix start w.1) (decoded_refused Suffix start 0 w.1.mark w.1.rest)) (λ x e. tt))
+    (λ _. refused_bind P (decoded_at Suffix start t) _ (decoded_refused Suffix start 0 t.mark t.rest)
+    (λ x e. by_test (length x.0 == 0) _ _ (RefusedAt start) (λ _. refl) (λ _. tt)))
+    (λ _. refused_bind P (with_front w.0 (decoded_at Suffix start w.1)) _
+    (front_refused P w.0 (decoded_at Suffix start w.1) (decoded_refused Suffix start 0 w.1.mark w.1.rest))
+    (λ x e. tt))
 
 pub tag_refused : (in_flow : Bool) (s : Cursor) → RefusedAt s.mark (tag in_flow s)
 unfolding tag shorthand tag_end
 tag_refused in_flow s =
     let P : Refusal → Type 0 = λ e. e.mark ≡ s.mark in
-    let end = λ (p : Parts) (e : _). by_test (is_blank_or_breakz (slice_index p.2.rest 0) || (in_flow && is_flow (slice_index p.2.rest 0))) _ _ (RefusedAt s.mark) (λ _. tt) (λ _. refl) in
-    let parts = by_test (slice_index s.rest 1 == 60) _ _ (RefusedAt s.mark) (λ _. verbatim_refused s) (λ _. word_refused s.mark (with_run is_alpha [] (pass 1 s))) in
+    let end = λ (p : Parts) (e : _). by_test
+    (is_blank_or_breakz (slice_index p.2.rest 0) || (in_flow && is_flow (slice_index p.2.rest 0))) _ _
+    (RefusedAt s.mark) (λ _. tt) (λ _. refl) in
+    let parts = by_test (slice_index s.rest 1 == 60) _ _ (RefusedAt s.mark) (λ _. verbatim_refused s)
+    (λ _. word_refused s.mark (with_run is_alpha [] (pass 1 s))) in
     refused_bind P _ _ parts end

@@ -4,27 +4,20 @@ use Rattle.std.specs.List.{prefix_len}
 use Rattle.std.proofs.Math.Seq.{take-append_seam, drop-append_seam}
 use Rattle.saphyr_input.proofs.Runs.{Ran, ran_all, run_stops}
 use Rattle.saphyr_scalar.specs.TagSpelling.{AreIn}
-use Rattle.saphyr_scalar.proofs.Moving.{by_test}
 use Rattle.saphyr_scalar.specs.declared.scalar.position.Marker.{Marker}
 use Rattle.saphyr_scalar.specs.Cursor.{Cursor, along, pass}
 use Rattle.saphyr_scalar.specs.Quoted.{at, with_run}
-
-abbrev together : List ℕ → Cursor → List ℕ × Cursor
-together text s = (text, s)
-
-pub run_done : (p : ℕ → Bool) (text grown : List ℕ) (n : ℕ) (s : Cursor) (left : List ℕ) (m : Marker) → Ran p s.rest left n → p (slice_index left 0) ≡ false
-    → grown ≡ text ++ encode_utf8_all (take n s.rest) → m ≡ along s.mark n → with_run p text s ≡ (grown, at m left)
-run_done p text grown n s left m r stops e place =
-    let all : n ≡ prefix_len p s.rest = ran_all p s.rest left n stops r in
-    let here : together (text ++ encode_utf8_all (take n s.rest)) (pass n s) ≡ together grown (at m left) = rw (e, place, r.left) refl in
-    subst (λ k. together (text ++ encode_utf8_all (take k s.rest)) (pass k s) ≡ together grown (at m left)) all here
+use Rattle.saphyr_input.proofs.Basics.Booleans.{by_test}
+use Rattle.saphyr_scalar.proofs.Given.{together}
 
 -- a spelled run, before a character that ends it
 pub run_len : (p : ℕ → Bool) (w y : List ℕ) → AreIn p w → p (slice_index y 0) ≡ false → prefix_len p (w ++ y) ≡ length w
 run_len p [] y are ends = run_stops p y ends
-run_len p (c ∷ w) y (is, are) ends = let one : 1 + length w ≡ suc (length w) = omega arith in rw (is, run_len p w y are ends) one
+run_len p (c ∷ w) y (is, are) ends =
+    let one : 1 + length w ≡ suc (length w) = omega arith in rw (is, run_len p w y are ends) one
 
-pub run_read : (p : ℕ → Bool) (m : Marker) (w y : List ℕ) → AreIn p w → p (slice_index y 0) ≡ false → with_run p [] (at m (w ++ y)) ≡ (encode_utf8_all w, at (along m (length w)) y)
+pub run_read : (p : ℕ → Bool) (m : Marker) (w y : List ℕ) → AreIn p w → p (slice_index y 0) ≡ false
+    → with_run p [] (at m (w ++ y)) ≡ (encode_utf8_all w, at (along m (length w)) y)
 run_read p m w y are ends =
     ap (λ n. together (encode_utf8_all (take n (w ++ y))) (pass n (at m (w ++ y)))) (run_len p w y are ends)
     ∙ rw (take-append_seam w y, drop-append_seam w y) refl

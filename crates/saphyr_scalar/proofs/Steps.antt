@@ -23,7 +23,8 @@ pub ok_same : {A : Type 0} (z y : A) → (let r : Result A Refusal = Ok z in r �
 ok_same z y h = cc
 
 -- a choice between something and a refusal
-pub cond_ok : {A : Type 0} (t : Bool) (z y : A) (e : Refusal) → (let r : Result A Refusal = cond t (Ok z) (Err e) in r ≡ Ok y) → Chosen t z y
+pub cond_ok : {A : Type 0} (t : Bool) (z y : A) (e : Refusal)
+    → (let r : Result A Refusal = cond t (Ok z) (Err e) in r ≡ Ok y) → Chosen t z y
 cond_ok true z y e h = record { test = refl; same = ok_same z y h }
 cond_ok false z y e h = no_result e y (Chosen false z y) h
 
@@ -31,7 +32,8 @@ pub record Otherwise {A : Type 0} (t : Bool) (r : Result A Refusal) (y : A) : Ty
   pub test : t ≡ false
   pub same : r ≡ Ok y
 
-pub cond_not : {A : Type 0} (t : Bool) (r : Result A Refusal) (y : A) (e : Refusal) → cond t (Err e) r ≡ Ok y → Otherwise t r y
+pub cond_not : {A : Type 0} (t : Bool) (r : Result A Refusal) (y : A) (e : Refusal) → cond t (Err e) r ≡ Ok y
+    → Otherwise t r y
 cond_not true r y e h = no_result e y (Otherwise true r y) h
 cond_not false r y e h = record { test = refl; same = h }
 
@@ -39,6 +41,7 @@ pub record Then {A : Type 0} (t : Bool) (r : Result A Refusal) (y : A) : Type 0 
   pub test : t ≡ true
   pub same : r ≡ Ok y
 
-pub cond_then : {A : Type 0} (t : Bool) (r : Result A Refusal) (y : A) (e : Refusal) → cond t r (Err e) ≡ Ok y → Then t r y
+pub cond_then : {A : Type 0} (t : Bool) (r : Result A Refusal) (y : A) (e : Refusal) → cond t r (Err e) ≡ Ok y
+    → Then t r y
 cond_then true r y e h = record { test = refl; same = h }
 cond_then false r y e h = no_result e y (Then false r y) h

@@ -15,57 +15,45 @@ use Rattle.saphyr_scalar.specs.declared.reading.flow.Quote.{Quote}
 use Rattle.saphyr_scalar.specs.declared.reading.flow.Quote.TheVariants.{Single, Double}
 use Rattle.saphyr_scalar.specs.FlowReading as flow
 use Rattle.saphyr_scalar.specs.Quoted.{at, quoted}
-use Rattle.saphyr_scalar.proofs.QuotedPieces.{quoted_reading}
+use Rattle.saphyr_scalar.proofs.Quoted.Pieces.{quoted_reading}
 use Rattle.saphyr_scalar.specs.Plain.{Gap, lines, reached, may_stand, at_line, next_lines, gap_from, gap, goes_on, word_starts, in_word, between, word, plain, gap_len}
-
--- a choice, by the test
-pub by_test : {X : Type 0} (b : Bool) (x y : X) (P : X → Type 0) → (b ≡ true → P x) → (b ≡ false → P y) → P (cond b x y)
-by_test true x y P at_true at_false = at_true refl
-by_test false x y P at_true at_false = at_false refl
-
--- what is given, if something is, has this property
-abbrev pub Given : {X : Type 0} → (X → Type 0) → Result X Refusal → Type 0
-Given P (Ok x) = P x
-Given P (Err e) = Unit {0}
-
-pub given_bind : {X Y : Type 0} → (P : Y → Type 0) (r : Result X Refusal) (f : X → Result Y Refusal) → ((x : X) → r ≡ Ok x → Given P (f x)) → Given P (r >>= f)
-given_bind P (Ok x) f h = h x refl
-given_bind P (Err e) f h = tt
-
-pub given_of : {X : Type 0} → (P : X → Type 0) (r : Result X Refusal) (x : X) → Given P r → r ≡ Ok x → P x
-given_of P (Ok y) x h e = let same : y ≡ x = cc in subst P same h
-given_of P (Err f) x h e = absurd (cc)
-
-pub drop_shorter : (n : ℕ) (t : List ℕ) → length (drop n t) ≤ length t
-drop_shorter n t = let l = length-drop n t in omega (arith, l)
+use Rattle.saphyr_input.proofs.Basics.Booleans.{by_test}
+use Rattle.saphyr_input.proofs.Basics.Lists.{drop_shorter}
+use Rattle.saphyr_scalar.proofs.Given.{Given, given_bind, given_of, bind_ok}
 
 pub break_shorter : (s : Cursor) → length (pass_break s).rest ≤ length s.rest
 break_shorter s =
     by_test (next_2_are s.rest 13 10) _ _ (λ (t : Cursor). length t.rest ≤ length s.rest) (λ _. drop_shorter 2 s.rest)
-    (λ _. by_test (is_break (slice_index s.rest 0)) _ _ (λ (t : Cursor). length t.rest ≤ length s.rest) (λ _. drop_shorter 1 s.rest) (λ _. omega arith))
+    (λ _. by_test (is_break (slice_index s.rest 0)) _ _ (λ (t : Cursor). length t.rest ≤ length s.rest)
+    (λ _. drop_shorter 1 s.rest) (λ _. omega arith))
 
 -- ## Plain scalars
 
 abbrev GapWithin : ℕ → Gap → Type 0
 GapWithin n g = length g.behind.rest ≤ n
 
-reached_within : (n : ℕ) (start : Marker) (tabbed : Bool) (feeds : List ℕ) (s : Cursor) → length s.rest ≤ n → Given (GapWithin n) (reached start tabbed feeds s)
+reached_within : (n : ℕ) (start : Marker) (tabbed : Bool) (feeds : List ℕ) (s : Cursor) → length s.rest ≤ n
+    → Given (GapWithin n) (reached start tabbed feeds s)
 unfolding may_stand
 reached_within n start tabbed feeds s h =
-    given_bind (GapWithin n) (may_stand start tabbed s) _ (λ t e. given_of (λ (u : Cursor). length u.rest ≤ n) (may_stand start tabbed s) t stands e)
+    given_bind (GapWithin n) (may_stand start tabbed s) _
+    (λ t e. given_of (λ (u : Cursor). length u.rest ≤ n) (may_stand start tabbed s) t stands e)
   where
     stands : Given (λ (u : Cursor). length u.rest ≤ n) (may_stand start tabbed s)
     stands =
         by_test (tabbed && is_bom (slice_index s.rest 0)) _ _ (Given (λ (u : Cursor). length u.rest ≤ n)) (λ _. tt)
-        (λ _. by_test (tabbed && not ((slice_index s.rest 0 == 35) || is_z (slice_index s.rest 0))) _ _ (Given (λ (u : Cursor). length u.rest ≤ n)) (λ _. tt) (λ _. h))
+        (λ _. by_test (tabbed && not ((slice_index s.rest 0 == 35) || is_z (slice_index s.rest 0))) _ _
+        (Given (λ (u : Cursor). length u.rest ≤ n)) (λ _. tt) (λ _. h))
 
-lines_within : (n indent : ℕ) (start : Marker) (tabbed : Bool) (feeds : List ℕ) (m : Marker) (t : List ℕ) → length t ≤ n → Given (GapWithin n) (lines indent start tabbed feeds m t)
+lines_within : (n indent : ℕ) (start : Marker) (tabbed : Bool) (feeds : List ℕ) (m : Marker) (t : List ℕ) → length t ≤ n
+    → Given (GapWithin n) (lines indent start tabbed feeds m t)
 unfolding lines
 lines_within n indent start tabbed feeds m [] h = reached_within n start tabbed feeds (at_line m []) h
 lines_within n indent start tabbed feeds m (c ∷ cs) h =
     let k : length cs ≤ n = omega (arith, h) in
     let others = λ (b : Bool) (f : List ℕ) (l : Marker). lines_within n indent start b f l cs k in
-    by_test (is_blank_or_break c) _ _ (Given (GapWithin n)) (λ _. others _ _ _) (λ _. reached_within n start tabbed feeds (at_line m (c ∷ cs)) h)
+    by_test (is_blank_or_break c) _ _ (Given (GapWithin n)) (λ _. others _ _ _)
+    (λ _. reached_within n start tabbed feeds (at_line m (c ∷ cs)) h)
 
 gap_within : (indent : ℕ) (start : Marker) (s : Cursor) → Given (GapWithin (length s.rest)) (gap indent start s)
 unfolding gap gap_from
@@ -76,7 +64,9 @@ gap_within indent start s =
     let behind = break_shorter t in
     let next : Given (GapWithin n) (next_lines indent start (pass_break t)) =
     given_bind (GapWithin n) (lines indent start false [] (pass_break t).mark (pass_break t).rest) _ (λ g e.
-    given_of (GapWithin n) _ g (lines_within n indent start false [] (pass_break t).mark (pass_break t).rest (omega (arith, less, behind))) e) in
+    given_of (GapWithin n) _ g
+    (lines_within n indent start false [] (pass_break t).mark (pass_break t).rest (omega (arith, less, behind)))
+    e) in
     by_test (is_break (slice_index t.rest 0)) _ _ (Given (GapWithin n)) (λ _. next) (λ _. less)
 
 abbrev Within : ℕ → List ℕ × Marker × Option Marker × Cursor → Type 0
@@ -85,37 +75,46 @@ Within n x = length x.3.rest ≤ n
 mutual
   unfolding between word
 
-  between_within : (n : ℕ) (in_flow : Bool) (indent : ℕ) (start end : Marker) (g : Gap) (left : ℕ) (t : List ℕ) → length g.behind.rest ≤ n → length t ≤ n → Given (Within n) (between in_flow indent start end g left t)
+  between_within : (n : ℕ) (in_flow : Bool) (indent : ℕ) (start end : Marker) (g : Gap) (left : ℕ) (t : List ℕ)
+      → length g.behind.rest ≤ n → length t ≤ n → Given (Within n) (between in_flow indent start end g left t)
   between_within n in_flow indent start end g left [] h k = h
   between_within n in_flow indent start end g zero (c ∷ cs) h k =
       let others = word_within n in_flow indent start (along g.behind.mark 1) cs (omega (arith, k)) in
       given_bind (Within n) (goes_on in_flow indent g.behind) _ (λ b e.
       by_test b.0 _ _ (Given (Within n))
-      (λ _. given_bind (Within n) (word in_flow indent start (along g.behind.mark 1) cs) _ (λ x q. given_of (Within n) _ x others q))
+      (λ _. given_bind (Within n) (word in_flow indent start (along g.behind.mark 1) cs) _
+      (λ x q. given_of (Within n) _ x others q))
       (λ _. h))
-  between_within n in_flow indent start end g (suc left) (c ∷ cs) h k = between_within n in_flow indent start end g left cs h (omega (arith, k))
+  between_within n in_flow indent start end g (suc left) (c ∷ cs) h k =
+      between_within n in_flow indent start end g left cs h (omega (arith, k))
 
-  word_within : (n : ℕ) (in_flow : Bool) (indent : ℕ) (start m : Marker) (t : List ℕ) → length t ≤ n → Given (Within n) (word in_flow indent start m t)
+  word_within : (n : ℕ) (in_flow : Bool) (indent : ℕ) (start m : Marker) (t : List ℕ) → length t ≤ n
+      → Given (Within n) (word in_flow indent start m t)
   word_within n in_flow indent start m [] h = h
   word_within n in_flow indent start m (c ∷ cs) h =
       let k : length cs ≤ n = omega (arith, h) in
       let others = word_within n in_flow indent start (along m 1) cs k in
-      let behind = λ (g : Gap) (left : ℕ) (q : length g.behind.rest ≤ n). between_within n in_flow indent start m g left cs q k in
+      let behind = λ (g : Gap) (left : ℕ) (q : length g.behind.rest ≤ n). between_within n in_flow indent start m g left
+      cs q k in
       by_test (in_word in_flow (c ∷ cs)) _ _ (Given (Within n))
-      (λ _. given_bind (Within n) (word in_flow indent start (along m 1) cs) _ (λ x q. given_of (Within n) _ x others q))
+      (λ _. given_bind (Within n) (word in_flow indent start (along m 1) cs) _
+      (λ x q. given_of (Within n) _ x others q))
       (λ _. given_bind (Within n) (gap indent start (at m (c ∷ cs))) _ (λ g e.
       let l = given_of (GapWithin (length (c ∷ cs))) _ g (gap_within indent start (at m (c ∷ cs))) e in
       let q : length g.behind.rest ≤ n = omega (arith, l, h) in
       by_test (gap_len (c ∷ cs) g == 0) _ _ (Given (Within n)) (λ _. q) (λ _. behind g (pred (gap_len (c ∷ cs) g)) q)))
 
 -- a word has a character
-first_taken : (in_flow : Bool) (indent : ℕ) (start m : Marker) (t : List ℕ) (x : List ℕ × Marker × Option Marker × Cursor) → in_word in_flow t ≡ true → word in_flow indent start m t ≡ Ok x → length x.3.rest < length t
+first_taken : (in_flow : Bool) (indent : ℕ) (start m : Marker) (t : List ℕ)
+    (x : List ℕ × Marker × Option Marker × Cursor) → in_word in_flow t ≡ true → word in_flow indent start m t ≡ Ok x
+    → length x.3.rest < length t
 unfolding word in_word
 first_taken in_flow indent start m [] x w e = absurd (cc)
 first_taken in_flow indent start m (c ∷ cs) x w e =
     let others = word_within (length cs) in_flow indent start (along m 1) cs (omega arith) in
     let within : Given (Within (length cs)) (word in_flow indent start m (c ∷ cs)) =
-    rw w (given_bind (Within (length cs)) (word in_flow indent start (along m 1) cs) _ (λ y q. given_of (Within (length cs)) _ y others q)) in
+    rw w (given_bind (Within (length cs)) (word in_flow indent start (along m 1) cs) _
+    (λ y q. given_of (Within (length cs)) _ y others q)) in
     let less = given_of (Within (length cs)) _ x within e in
     omega (arith, less)
 
@@ -125,24 +124,26 @@ Starts in_flow s b = (b.1 ≡ s) × (b.0 ≡ true → in_word in_flow s.rest ≡
 starts_here : (in_flow : Bool) (s : Cursor) → Given (Starts in_flow s) (word_starts in_flow s)
 unfolding word_starts
 starts_here in_flow s =
-    by_test ((slice_index s.rest 0 == 35) || ((s.mark.col == 0) && is_document_indicator s.rest)) _ _ (Given (Starts in_flow s)) (λ _. (refl, λ e. absurd (cc)))
-    (λ _. by_test (in_flow && (slice_index s.rest 0 == 45) && is_flow (slice_index s.rest 1)) _ _ (Given (Starts in_flow s)) (λ _. tt) (λ _. (refl, λ e. e)))
+    by_test ((slice_index s.rest 0 == 35) || ((s.mark.col == 0) && is_document_indicator s.rest)) _ _
+    (Given (Starts in_flow s)) (λ _. (refl, λ e. absurd (cc)))
+    (λ _. by_test (in_flow && (slice_index s.rest 0 == 45) && is_flow (slice_index s.rest 1)) _ _
+    (Given (Starts in_flow s)) (λ _. tt) (λ _. (refl, λ e. e)))
 
-bind_ok : {X Y : Type 0} → (r : Result X Refusal) (f : X → Result Y Refusal) (y : Y) → (r >>= f) ≡ Ok y → (x : X) × (r ≡ Ok x) × (f x ≡ Ok y)
-bind_ok (Ok x) f y e = (x, refl, e)
-bind_ok (Err d) f y e = absurd (cc)
-
-pub plain_takes : (in_flow : Bool) (indent : ℕ) (s t : Cursor) (text : List ℕ) (end : Marker) (comment : Option Marker) → plain in_flow indent s ≡ Ok (text, end, comment, t) → length t.rest < length s.rest
+pub plain_takes : (in_flow : Bool) (indent : ℕ) (s t : Cursor) (text : List ℕ) (end : Marker) (comment : Option Marker)
+    → plain in_flow indent s ≡ Ok (text, end, comment, t) → length t.rest < length s.rest
 unfolding plain
 plain_takes in_flow indent s t text end comment e =
     let b = bind_ok (word_starts in_flow s) _ (text, end, comment, t) e in
     let at_start = given_of (Starts in_flow s) (word_starts in_flow s) b.0 (starts_here in_flow s) b.1 in
     by b.0 at_start b.2
   where
-    by : (b : Bool × Cursor) → Starts in_flow s b → cond b.0 (word in_flow indent s.mark b.1.mark b.1.rest) (refuse fault.PlainEnd s.mark) ≡ Ok (text, end, comment, t) → length t.rest < length s.rest
+    by : (b : Bool × Cursor) → Starts in_flow s b
+        → cond b.0 (word in_flow indent s.mark b.1.mark b.1.rest) (refuse fault.PlainEnd s.mark)
+        ≡ Ok (text, end, comment, t) → length t.rest < length s.rest
     by (true, u) h q =
         let same : length u.rest ≡ length s.rest = ap (λ (v : Cursor). length v.rest) h.0 in
-        let less = first_taken in_flow indent s.mark u.mark u.rest (text, end, comment, t) (ap (λ (v : Cursor). in_word in_flow v.rest) h.0 ∙ h.1 refl) q in
+        let less = first_taken in_flow indent s.mark u.mark u.rest (text, end, comment, t)
+        (ap (λ (v : Cursor). in_word in_flow v.rest) h.0 ∙ h.1 refl) q in
         omega (arith, same, less)
     by (false, u) h q = absurd (cc)
 
@@ -156,9 +157,11 @@ longer : (piece rest : List ℕ) → (piece ≡ [] → ⊥) → length rest < le
 longer [] rest h = absurd (h refl)
 longer (c ∷ cs) rest h = let l = length-append cs rest in omega (arith, l)
 
-pub quoted_takes : (quote : Quote) (indent : ℕ) (s t : Cursor) (text : List ℕ) → slice_index s.rest 0 ≡ flow.mark quote → quoted quote indent s ≡ Ok (text, t) → length t.rest < length s.rest
+pub quoted_takes : (quote : Quote) (indent : ℕ) (s t : Cursor) (text : List ℕ) → slice_index s.rest 0 ≡ flow.mark quote
+    → quoted quote indent s ≡ Ok (text, t) → length t.rest < length s.rest
 quoted_takes quote indent s t text opening read =
     let r = quoted_reading quote indent s text t opening read in
-    let less = longer r.0 t.rest (λ e. no_value quote r.1 (ap (λ p. flow.quoted_value quote (normalized p)) (sym e) ∙ r.3)) in
+    let less = longer r.0 t.rest
+    (λ e. no_value quote r.1 (ap (λ p. flow.quoted_value quote (normalized p)) (sym e) ∙ r.3)) in
     let is = ap length r.2 in
     omega (arith, less, is)

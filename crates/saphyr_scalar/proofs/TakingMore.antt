@@ -20,14 +20,13 @@ use Rattle.saphyr_scalar.specs.Tag.{tag}
 use Rattle.saphyr_scalar.specs.TagSpelling.{IsHandleText, IsTagText}
 use Rattle.saphyr_scalar.specs.Directive.{Directive, version, tag_prefix, reserved, directive}
 use Rattle.saphyr_scalar.specs.DirectiveSpelling.{IsReadDirective}
-use Rattle.saphyr_scalar.proofs.AnchorsRead.{spells_anchor}
-use Rattle.saphyr_scalar.proofs.TagsSpelled.{spells_tag}
-use Rattle.saphyr_scalar.proofs.DirectivesSpelled.{spells_directive}
-use Rattle.saphyr_scalar.proofs.Taking.{by_test, Given, given_bind, given_of, drop_shorter, break_shorter}
-
-first_off : (xs : List ℕ) → 0 < length xs → length (drop 1 xs) < length xs
-first_off [] h = h
-first_off (c ∷ cs) h = omega arith
+use Rattle.saphyr_scalar.proofs.Properties.AnchorsRead.{spells_anchor}
+use Rattle.saphyr_scalar.proofs.Properties.TagsSpelled.{spells_tag}
+use Rattle.saphyr_scalar.proofs.Directives.Spelled.{spells_directive}
+use Rattle.saphyr_scalar.proofs.Taking.{break_shorter}
+use Rattle.saphyr_input.proofs.Basics.Booleans.{by_test}
+use Rattle.saphyr_input.proofs.Basics.Lists.{drop_shorter, drop_one_shorter}
+use Rattle.saphyr_scalar.proofs.Given.{Given, given_bind, given_of}
 
 -- ## Block scalars
 
@@ -61,7 +60,8 @@ break_within n start s h =
     by_test (not (is_breakz (slice_index s.rest 0))) _ _ (Given (Left n)) (λ _. tt)
     (λ _. by_test (slice_index (pass_break s).rest 0 == tab) _ _ (Given (Left n)) (λ _. tt) (λ _. k))
 
-separation_within : (n : ℕ) (tabs : SkipTabs) (s : Cursor) → length s.rest ≤ n → Given (Behind SkipTabs n) (separation tabs s)
+separation_within : (n : ℕ) (tabs : SkipTabs) (s : Cursor) → length s.rest ≤ n
+    → Given (Behind SkipTabs n) (separation tabs s)
 unfolding separation behind_separation
 separation_within n tabs s h =
     let l = drop_shorter (separation_len tabs s.rest) s.rest in
@@ -76,15 +76,18 @@ end_within n start s h =
     given_bind (Left n) (separation Yes s) _ (λ x e.
     break_within n start x.1 (given_of (Behind SkipTabs n) (separation Yes s) x (separation_within n Yes s h) e))
 
-last_within : (n : ℕ) (first : Option Chomping) (s : Cursor) → length s.rest ≤ n → length (last_chomping first s).1.rest ≤ n
+last_within : (n : ℕ) (first : Option Chomping) (s : Cursor) → length s.rest ≤ n
+    → length (last_chomping first s).1.rest ≤ n
 unfolding last_chomping
 last_within n (Some first) s h = h
 last_within n None s h = chomping_within n s h
 
-behind_within : (n : ℕ) (start : Marker) (i : ℕ) (x : Chomping × Cursor) → length x.1.rest ≤ n → Given (Behind BlockHeader n) (header_behind start i x)
+behind_within : (n : ℕ) (start : Marker) (i : ℕ) (x : Chomping × Cursor) → length x.1.rest ≤ n
+    → Given (Behind BlockHeader n) (header_behind start i x)
 unfolding header_behind
 behind_within n start i x h =
-    given_bind (Behind BlockHeader n) (header_end start x.1) _ (λ s e. given_of (Left n) (header_end start x.1) s (end_within n start x.1 h) e)
+    given_bind (Behind BlockHeader n) (header_end start x.1) _
+    (λ s e. given_of (Left n) (header_end start x.1) s (end_within n start x.1 h) e)
 
 header_within : (n : ℕ) (s : Cursor) → length (drop 1 s.rest) ≤ n → Given (Behind BlockHeader n) (header s)
 unfolding header
@@ -92,9 +95,11 @@ header_within n s h =
     let first = chomping (pass 1 s) in
     let given = indicator_within n s.mark first.1 (chomping_within n (pass 1 s) h) in
     given_bind (Behind BlockHeader n) (indicator s.mark first.1) _ (λ x e.
-    behind_within n s.mark x.0 (last_chomping first.0 x.1) (last_within n first.0 x.1 (given_of (Behind ℕ n) (indicator s.mark first.1) x given e)))
+    behind_within n s.mark x.0 (last_chomping first.0 x.1)
+    (last_within n first.0 x.1 (given_of (Behind ℕ n) (indicator s.mark first.1) x given e)))
 
-empty_within : (n : ℕ) (limit : Option ℕ) (before : EmptyLines) (b : Bool) (m : Marker) (t : List ℕ) → length t ≤ n → length (empty_lines limit before b m t).1.rest ≤ n
+empty_within : (n : ℕ) (limit : Option ℕ) (before : EmptyLines) (b : Bool) (m : Marker) (t : List ℕ) → length t ≤ n
+    → length (empty_lines limit before b m t).1.rest ≤ n
 unfolding empty_lines
 empty_within n limit before b m [] h = h
 empty_within n limit before b m (c ∷ cs) h =
@@ -110,7 +115,8 @@ LinesWithin n x = length x.2.rest ≤ n
 mutual
   unfolding between line
 
-  between_within : (n : ℕ) (style : BlockStyle) (i : ℕ) (above : Option Bool) (lines : ℕ) (b : Bool) (m : Marker) (t : List ℕ) → length t ≤ n → LinesWithin n (between style i above lines b m t)
+  between_within : (n : ℕ) (style : BlockStyle) (i : ℕ) (above : Option Bool) (lines : ℕ) (b : Bool) (m : Marker)
+      (t : List ℕ) → length t ≤ n → LinesWithin n (between style i above lines b m t)
   between_within n style i above lines b m [] h = h
   between_within n style i above lines b m (c ∷ cs) h =
       let k : length cs ≤ n = omega (arith, h) in
@@ -121,7 +127,8 @@ mutual
       (λ _. by_test (is_break c) _ _ (LinesWithin n) (λ _. others _ _ _)
       (λ _. by_test (line_starts i m.col (c ∷ cs)) _ _ (LinesWithin n) (λ _. content) (λ _. h))))
 
-  line_within : (n : ℕ) (style : BlockStyle) (i : ℕ) (more b : Bool) (m : Marker) (t : List ℕ) → length t ≤ n → LinesWithin n (line style i more b m t)
+  line_within : (n : ℕ) (style : BlockStyle) (i : ℕ) (more b : Bool) (m : Marker) (t : List ℕ) → length t ≤ n
+      → LinesWithin n (line style i more b m t)
   line_within n style i more b m [] h = h
   line_within n style i more b m (c ∷ cs) h =
       let k : length cs ≤ n = omega (arith, h) in
@@ -134,41 +141,50 @@ mutual
 abbrev ScalarWithin : ℕ → List ℕ × Span × Cursor → Type 0
 ScalarWithin n x = length x.2.rest ≤ n
 
-content_within : (n : ℕ) (style : BlockStyle) (c : Chomping) (indent i lines : ℕ) (s : Cursor) → length s.rest ≤ n → Given (ScalarWithin n) (content style c indent i lines s)
+content_within : (n : ℕ) (style : BlockStyle) (c : Chomping) (indent i lines : ℕ) (s : Cursor) → length s.rest ≤ n
+    → Given (ScalarWithin n) (content style c indent i lines s)
 unfolding content chomped
 content_within n style c indent i lines s h =
     let read = between_within n style i None lines s.blank_so_far s.mark s.rest h in
     by_test (nat_lt s.mark.col i && nat_le indent s.mark.col) _ _ (Given (ScalarWithin n)) (λ _. tt) (λ _. read)
 
-leading_within : (n : ℕ) (style : BlockStyle) (indent : ℕ) (start : Marker) (c : Chomping) (limit : Option ℕ) (x : EmptyLines × Cursor) → length x.1.rest ≤ n → Given (ScalarWithin n) (behind_leading style indent start c limit x)
+leading_within : (n : ℕ) (style : BlockStyle) (indent : ℕ) (start : Marker) (c : Chomping) (limit : Option ℕ)
+    (x : EmptyLines × Cursor) → length x.1.rest ≤ n
+    → Given (ScalarWithin n) (behind_leading style indent start c limit x)
 unfolding behind_leading
 leading_within n style indent start c limit x h =
     by_test (is_z (slice_index x.1.rest 0)) _ _ (Given (ScalarWithin n)) (λ _. h)
     (λ _. content_within n style c indent (unwrap_or limit (max x.0.widest indent)) x.0.count x.1 h)
 
-scalar_within : (n : ℕ) (style : BlockStyle) (indent : ℕ) (start : Marker) (x : BlockHeader × Cursor) → length x.1.rest ≤ n → Given (ScalarWithin n) (behind_header style indent start x)
+scalar_within : (n : ℕ) (style : BlockStyle) (indent : ℕ) (start : Marker) (x : BlockHeader × Cursor)
+    → length x.1.rest ≤ n → Given (ScalarWithin n) (behind_header style indent start x)
 unfolding behind_header
 scalar_within n style indent start x h =
     let limit = given_indentation indent x.0.indicator in
-    leading_within n style indent start x.0.chomping limit (empty_lines limit no_lines x.1.blank_so_far x.1.mark x.1.rest)
+    leading_within n style indent start x.0.chomping limit
+    (empty_lines limit no_lines x.1.blank_so_far x.1.mark x.1.rest)
     (empty_within n limit no_lines x.1.blank_so_far x.1.mark x.1.rest h)
 
-block_within : (n : ℕ) (style : BlockStyle) (indent : ℕ) (s : Cursor) → length (drop 1 s.rest) ≤ n → Given (ScalarWithin n) (block_scalar style indent s)
+block_within : (n : ℕ) (style : BlockStyle) (indent : ℕ) (s : Cursor) → length (drop 1 s.rest) ≤ n
+    → Given (ScalarWithin n) (block_scalar style indent s)
 unfolding block_scalar
 block_within n style indent s h =
     given_bind (ScalarWithin n) (header s) _ (λ x e.
     scalar_within n style indent s.mark x (given_of (Behind BlockHeader n) (header s) x (header_within n s h) e))
 
-pub block_scalar_takes : (style : BlockStyle) (indent : ℕ) (s t : Cursor) (text : List ℕ) (span : Span) → 0 < length s.rest → block_scalar style indent s ≡ Ok (text, span, t) → length t.rest < length s.rest
+pub block_scalar_takes : (style : BlockStyle) (indent : ℕ) (s t : Cursor) (text : List ℕ) (span : Span)
+    → 0 < length s.rest → block_scalar style indent s ≡ Ok (text, span, t) → length t.rest < length s.rest
 block_scalar_takes style indent s t text span some e =
     let n = length (drop 1 s.rest) in
-    let within = given_of (ScalarWithin n) (block_scalar style indent s) (text, span, t) (block_within n style indent s (omega arith)) e in
-    let less = first_off s.rest some in
+    let within = given_of (ScalarWithin n) (block_scalar style indent s) (text, span, t)
+    (block_within n style indent s (omega arith)) e in
+    let less = drop_one_shorter s.rest some in
     omega (arith, within, less)
 
 -- ## Anchors, tags and directives
 
-pub anchor_takes : (s t : Cursor) (text : List ℕ) → 0 < length s.rest → anchor s ≡ Ok (text, t) → length t.rest < length s.rest
+pub anchor_takes : (s t : Cursor) (text : List ℕ) → 0 < length s.rest → anchor s ≡ Ok (text, t)
+    → length t.rest < length s.rest
 anchor_takes s t text some e =
     let spelled = spells_anchor s t text some e in
     let is : length s.rest ≡ length (spelled.0 ∷ (spelled.1 ++ t.rest)) = ap length spelled.2 in
@@ -188,7 +204,8 @@ tag_some t handle suffix (inl alone) = begins 33 t [] alone.0
 tag_some t handle suffix (inr (inl verbatim)) = begins 33 t (60 ∷ (verbatim.0 ++ codes ">")) verbatim.3
 tag_some t handle suffix (inr (inr short)) = handle_some handle short.0 t short.1 short.4
 
-pub tag_takes : (in_flow : Bool) (s t : Cursor) (handle suffix : List ℕ) → slice_index s.rest 0 ≡ 33 → tag in_flow s ≡ Ok (handle, suffix, t) → length t.rest < length s.rest
+pub tag_takes : (in_flow : Bool) (s t : Cursor) (handle suffix : List ℕ) → slice_index s.rest 0 ≡ 33
+    → tag in_flow s ≡ Ok (handle, suffix, t) → length t.rest < length s.rest
 tag_takes in_flow s t handle suffix opening e =
     let spelled = spells_tag in_flow s t handle suffix opening e in
     let some = tag_some spelled.0 spelled.1 spelled.2 spelled.4 in
@@ -201,7 +218,8 @@ directive_some (version major minor) t is = begins 37 t _ is.6
 directive_some (tag_prefix handle prefix) t is = begins 37 t _ is.2.7
 directive_some (reserved name) t is = begins 37 t _ is.1.7
 
-pub directive_takes : (s t : Cursor) (d : Directive) (end : Marker) → slice_index s.rest 0 ≡ 37 → directive s ≡ Ok (d, end, t) → length t.rest < length s.rest
+pub directive_takes : (s t : Cursor) (d : Directive) (end : Marker) → slice_index s.rest 0 ≡ 37
+    → directive s ≡ Ok (d, end, t) → length t.rest < length s.rest
 directive_takes s t d end opening e =
     let spelled = spells_directive s t d end opening e in
     let x = spelled.2 in

@@ -25,17 +25,17 @@ abbrev pub spaces : ℕ → List ℕ
 spaces n = replicate n space
 
 -- a line of a scalar: an empty one, or content behind the indentation
-abbrev pub IsLine : ℕ → List ℕ → Type 0
-IsLine i line = (is_empty_line i line ≡ true) ⊎ ((text : List ℕ) × (line ≡ spaces i ++ text))
+abbrev pub IsReadLine : ℕ → List ℕ → Type 0
+IsReadLine i line = (is_empty_line i line ≡ true) ⊎ ((text : List ℕ) × (line ≡ spaces i ++ text))
 
-abbrev pub AreLines : ℕ → List (List ℕ) → Type 0
-AreLines i [] = Unit {0}
-AreLines i (line ∷ lines) = IsLine i line × AreLines i lines
+abbrev pub AreReadLines : ℕ → List (List ℕ) → Type 0
+AreReadLines i [] = Unit {0}
+AreReadLines i (line ∷ lines) = IsReadLine i line × AreReadLines i lines
 
 -- a text of such lines; the last one may lack a break
 pub record HasLines (i : ℕ) (text : List ℕ) : Type 0 where
-  pub ended : AreLines i (ended_lines text)
-  pub last : IsLine i (last_line text)
+  pub ended : AreReadLines i (ended_lines text)
+  pub last : IsReadLine i (last_line text)
 
 -- no more of a scalar's lines: neither indentation, nor a break, nor content
 pub record EndsLines (i : ℕ) (s : Cursor) : Type 0 where
@@ -43,7 +43,8 @@ pub record EndsLines (i : ℕ) (s : Cursor) : Type 0 where
   pub no_break : is_break (slice_index s.rest 0) ≡ false
   pub no_content : block.line_starts i s.mark.col s.rest ≡ false
 
--- From s a scalar with this text was read, and t stands behind it: behind the header come the lines, and the indentation
+-- From s a scalar with this text was read, and t stands behind it: behind the header come the lines, and the
+-- indentation
 -- of the line that ends them.
 pub record IsRead (style : BlockStyle) (indent : ℕ) (s : Cursor) (text : List ℕ) (t : Cursor) : Type 0 where
   pub header : BlockHeader
@@ -53,4 +54,5 @@ pub record IsRead (style : BlockStyle) (indent : ℕ) (s : Cursor) (text : List 
   pub taken : behind.rest ≡ lines ++ t.rest
   pub indented : HasLines (indentation_of indent header behind) (normalized lines)
   pub ends : EndsLines (indentation_of indent header behind) t
-  pub value : text ≡ encode_utf8_all (block_value style header.chomping (indentation_of indent header behind) (normalized lines) (ending t))
+  pub value : text ≡ encode_utf8_all
+      (block_value style header.chomping (indentation_of indent header behind) (normalized lines) (ending t))

@@ -33,7 +33,8 @@ has_content (Content text ∷ lines) = true
 abbrev pub is_more_indented : List ℕ → Bool
 is_more_indented text = is_blank (slice_index text 0)
 
--- The break between two content lines that have only empty lines between them. In literal style (8.1.2) each break stays,
+-- The break between two content lines that have only empty lines between them. In literal style (8.1.2) each break
+-- stays,
 -- and in folded style (8.1.3) they are folded unless one of the lines is more indented.
 abbrev pub break_between : BlockStyle → List ℕ → ℕ → List ℕ → List ℕ
 break_between Literal above empty_lines below = line_feeds (empty_lines + 1)
@@ -82,15 +83,18 @@ is_at_end AtEnd = true
 is_at_end AtMark = false
 
 -- Whether the last line, which no break ends, counts. One of spaces, at most as many as the indentation, counts at the
--- end alone, and only where it has a space: behind content where it reaches the indentation, and without content where it
+-- end alone, and only where it has a space: behind content where it reaches the indentation, and without content where
+-- it
 -- stands alone behind the header's line.
 abbrev pub is_counted : ℕ → List Line → List ℕ → Ending → Bool
 is_counted indentation lines last ending =
     if is_empty_line indentation last then
-    is_at_end ending && not (length last == 0) && (if has_content lines then length last == indentation else length lines == 0)
+    is_at_end ending && not (length last == 0)
+    && (if has_content lines then length last == indentation else length lines == 0)
     else true
 
--- whether the last content line is broken: one that is cut by the end counts as broken, and one that is cut by a mark does not
+-- whether the last content line is broken: one that is cut by the end counts as broken, and one that is cut by a mark
+-- does not
 abbrev pub is_broken : ℕ → List ℕ → Ending → Bool
 is_broken indentation last ending = is_empty_line indentation last || is_at_end ending
 
@@ -102,7 +106,8 @@ lines_of indentation text = map (line_of indentation) (ended_lines text)
 abbrev pub counted_lines : ℕ → List ℕ → Ending → List Line
 counted_lines indentation text ending =
     lines_of indentation text
-    ++ (if is_counted indentation (lines_of indentation text) (last_line text) ending then line_of indentation (last_line text) ∷ [] else [])
+    ++ (if is_counted indentation (lines_of indentation text) (last_line text) ending then line_of indentation
+    (last_line text) ∷ [] else [])
 
 -- the value of a block scalar, from the text behind its header's line
 abbrev pub block_value : BlockStyle → Chomping → ℕ → List ℕ → Ending → List ℕ

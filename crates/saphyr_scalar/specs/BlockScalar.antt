@@ -53,7 +53,8 @@ header_behind start n x = header_end start x.1 >>= λ s. Ok (record { chomping =
 
 -- 8.1.1: a header, from its `|` or `>` on, with its line
 unfoldable pub header : Cursor → Result (BlockHeader × Cursor) Refusal
-header s = indicator s.mark (chomping (pass 1 s)).1 >>= λ x. header_behind s.mark x.0 (last_chomping (chomping (pass 1 s)).0 x.1)
+header s = indicator s.mark (chomping (pass 1 s)).1 >>= λ x. header_behind s.mark x.0
+    (last_chomping (chomping (pass 1 s)).0 x.1)
 
 -- the place in the text cs, where only blanks stand before it on its line or others do
 abbrev pub there : Bool → Marker → List ℕ → Cursor
@@ -63,6 +64,11 @@ there b m cs = record { rest = cs; mark = m; blank_so_far = b }
 abbrev pub is_indentation : Option ℕ → ℕ → ℕ → Bool
 is_indentation None col c = c == space
 is_indentation (Some limit) col c = (c == space) && nat_lt col limit
+
+-- how many spaces from a column on belong to the indentation, which may have a limit
+abbrev pub indentation_left : Option ℕ → ℕ → ℕ
+indentation_left None col = 2 ^ 64 - 1
+indentation_left (Some limit) col = limit - col
 
 -- a CR before an LF, which is one break with it
 abbrev pub is_cr_lf : ℕ → List ℕ → Bool
@@ -113,7 +119,8 @@ with_text text read = (text ++ read.0, read.1, read.2)
 abbrev pub ended : Bool → ℕ → Cursor → LinesRead
 ended broken lines s = ([], record { broken = broken; empty_lines = lines }, s)
 
--- The content lines. `between` stands in the indentation of a line, behind the content line `above`, if there is one, and
+-- The content lines. `between` stands in the indentation of a line, behind the content line `above`, if there is one,
+-- and
 -- some empty lines; `line` stands inside the content of a line that is more indented or not.
 unfoldable mutual
   pub between : BlockStyle → ℕ → Option Bool → ℕ → Bool → Marker → List ℕ → LinesRead
@@ -152,7 +159,8 @@ with_front text read = (text ++ encode_utf8_all read.0, read.1, read.2)
 abbrev pub tail : Chomping → Bool → BlockEnd → List ℕ
 tail Strip unfinished end = []
 tail Clip unfinished end = if end.broken || unfinished then line_feeds 1 else []
-tail Keep unfinished end = (if end.broken then line_feeds 1 else []) ++ (if unfinished then line_feeds 1 else []) ++ line_feeds end.empty_lines
+tail Keep unfinished end =
+    (if end.broken then line_feeds 1 else []) ++ (if unfinished then line_feeds 1 else []) ++ line_feeds end.empty_lines
 
 -- The text's end or a NUL stands at the indentation of a line or behind it, so that it cuts the last line.
 unfoldable pub is_unfinished : ℕ → Cursor → Bool
@@ -162,7 +170,8 @@ is_unfinished i s = is_z (slice_index s.rest 0) && nat_le (max i 1) s.mark.col
 unfoldable pub tail_alone : Chomping → ℕ → Cursor → List ℕ
 tail_alone Strip lines s = []
 tail_alone Clip lines s = []
-tail_alone Keep lines s = if (lines == 0) && s.blank_so_far && nat_lt 0 s.mark.col then line_feeds 1 else line_feeds lines
+tail_alone Keep lines s =
+    if (lines == 0) && s.blank_so_far && nat_lt 0 s.mark.col then line_feeds 1 else line_feeds lines
 
 -- the indentation that an indicator gives, in columns: it counts from that of the enclosing block collection
 unfoldable pub given_indentation : ℕ → ℕ → Option ℕ

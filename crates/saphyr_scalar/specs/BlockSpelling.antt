@@ -33,9 +33,10 @@ pub data IsChomping : Chomping → List ℕ → List ℕ → Type 0 where
   keep : (x : List ℕ) → IsChomping Keep (43 ∷ x) x
 
 -- 6.6: blanks, and behind some blanks a comment, up to a line feed
-pub data IsLineEnd : List ℕ → List ℕ → Type 0 where
-  no_comment : (blanks x : List ℕ) → AreBlanks blanks → IsLineEnd (blanks ++ (10 ∷ x)) x
-  comment : (blank : ℕ) (blanks text x : List ℕ) → AreBlanks (blank ∷ blanks) → AreContent text → IsLineEnd ((blank ∷ blanks) ++ (35 ∷ (text ++ (10 ∷ x)))) x
+pub data IsHeaderEnd : List ℕ → List ℕ → Type 0 where
+  no_comment : (blanks x : List ℕ) → AreBlanks blanks → IsHeaderEnd (blanks ++ (10 ∷ x)) x
+  comment : (blank : ℕ) (blanks text x : List ℕ) → AreBlanks (blank ∷ blanks) → AreContent text
+      → IsHeaderEnd ((blank ∷ blanks) ++ (35 ∷ (text ++ (10 ∷ x)))) x
 
 -- a line's content: characters that are no breaks, at column 0 none that begin a document marker
 pub record IsContent (i : ℕ) (c : ℕ) (cs x : List ℕ) : Type 0 where
@@ -45,9 +46,12 @@ pub record IsContent (i : ℕ) (c : ℕ) (cs x : List ℕ) : Type 0 where
 -- 8.1.2: lines, each empty or content behind the indentation i; the last one may lack a break at the text's end
 pub data AreLines (i : ℕ) (x : List ℕ) : List Line → List ℕ → Type 0 where
   no_lines : AreLines i x [] x
-  empty : (j : ℕ) (ls : List Line) (t : List ℕ) → j ≤ i → AreLines i x ls t → AreLines i x (Empty ∷ ls) (spaces j ++ (10 ∷ t))
-  content : (c : ℕ) (cs : List ℕ) (ls : List Line) (t : List ℕ) → IsContent i c cs (10 ∷ t) → AreLines i x ls t → AreLines i x (Content (c ∷ cs) ∷ ls) (spaces i ++ (c ∷ (cs ++ (10 ∷ t))))
-  last : (c : ℕ) (cs : List ℕ) → IsContent i c cs [] → x ≡ [] → AreLines i x (Content (c ∷ cs) ∷ []) (spaces i ++ (c ∷ cs))
+  empty : (j : ℕ) (ls : List Line) (t : List ℕ) → j ≤ i → AreLines i x ls t
+      → AreLines i x (Empty ∷ ls) (spaces j ++ (10 ∷ t))
+  content : (c : ℕ) (cs : List ℕ) (ls : List Line) (t : List ℕ) → IsContent i c cs (10 ∷ t) → AreLines i x ls t
+      → AreLines i x (Content (c ∷ cs) ∷ ls) (spaces i ++ (c ∷ (cs ++ (10 ∷ t))))
+  last : (c : ℕ) (cs : List ℕ) → IsContent i c cs [] → x ≡ []
+      → AreLines i x (Content (c ∷ cs) ∷ []) (spaces i ++ (c ∷ cs))
 
 -- what ends the lines: n spaces, and behind them no more of the indentation and no line
 pub record IsBehind (i n : ℕ) (x others : List ℕ) : Type 0 where
@@ -57,21 +61,28 @@ pub record IsBehind (i n : ℕ) (x others : List ℕ) : Type 0 where
   pub no_space : n < i → slice_index others 0 ≢ 32
   pub no_break : slice_index others 0 ≢ 10
   pub no_return : slice_index others 0 ≢ 13
-  pub no_content : n ≡ i → (is_yaml_non_break (slice_index others 0) ≡ false) ⊎ ((i ≡ 0) × (is_document_indicator others ≡ true))
+  pub no_content : n ≡ i → (is_yaml_non_break (slice_index others 0) ≡ false)
+      ⊎ ((i ≡ 0) × (is_document_indicator others ≡ true))
 
 -- 8.1.1.1: a text with a content line, behind empty ones or none; where no indicator gives the indentation, its content
 -- begins with no space
 pub data IsBody (i : ℕ) (given : Bool) (x : List ℕ) : List Line → List ℕ → Type 0 where
-  leading : (j : ℕ) (ls : List Line) (t : List ℕ) → j ≤ i → IsBody i given x ls t → IsBody i given x (Empty ∷ ls) (spaces j ++ (10 ∷ t))
-  first : (c : ℕ) (cs : List ℕ) (ls : List Line) (t : List ℕ) → (given ≡ false → c ≢ 32) → IsContent i c cs (10 ∷ t) → AreLines i x ls t → IsBody i given x (Content (c ∷ cs) ∷ ls) (spaces i ++ (c ∷ (cs ++ (10 ∷ t))))
-  first_and_last : (c : ℕ) (cs : List ℕ) → (given ≡ false → c ≢ 32) → IsContent i c cs [] → x ≡ [] → IsBody i given x (Content (c ∷ cs) ∷ []) (spaces i ++ (c ∷ cs))
+  leading : (j : ℕ) (ls : List Line) (t : List ℕ) → j ≤ i → IsBody i given x ls t
+      → IsBody i given x (Empty ∷ ls) (spaces j ++ (10 ∷ t))
+  first : (c : ℕ) (cs : List ℕ) (ls : List Line) (t : List ℕ) → (given ≡ false → c ≢ 32) → IsContent i c cs (10 ∷ t)
+      → AreLines i x ls t → IsBody i given x (Content (c ∷ cs) ∷ ls) (spaces i ++ (c ∷ (cs ++ (10 ∷ t))))
+  first_and_last : (c : ℕ) (cs : List ℕ) → (given ≡ false → c ≢ 32) → IsContent i c cs [] → x ≡ []
+      → IsBody i given x (Content (c ∷ cs) ∷ []) (spaces i ++ (c ∷ cs))
 
 -- 8.1.1: a header, with its line; its indicators stand in either order
 pub data IsHeader (n : ℕ) (chomping : Chomping) (x : List ℕ) : List ℕ → Type 0 where
-  digit_first : (mark : ℕ) (a b d : List ℕ) → IsIndicator n a b → IsChomping chomping b d → IsLineEnd d x → IsHeader n chomping x (mark ∷ a)
-  chomping_first : (mark : ℕ) (a b d : List ℕ) → IsChomping chomping a b → IsIndicator n b d → IsLineEnd d x → IsHeader n chomping x (mark ∷ a)
+  digit_first : (mark : ℕ) (a b d : List ℕ) → IsIndicator n a b → IsChomping chomping b d → IsHeaderEnd d x
+      → IsHeader n chomping x (mark ∷ a)
+  chomping_first : (mark : ℕ) (a b d : List ℕ) → IsChomping chomping a b → IsIndicator n b d → IsHeaderEnd d x
+      → IsHeader n chomping x (mark ∷ a)
 
--- 8.1.1.1: the indentation i counts from that of the enclosing block collection where a digit gives it. `indent` is the first
+-- 8.1.1.1: the indentation i counts from that of the enclosing block collection where a digit gives it. `indent` is the
+-- first
 -- column to the right of that collection.
 pub data IsIndentation (indent i : ℕ) : ℕ → Bool → Type 0 where
   found : indent ≤ i → IsIndentation indent i 0 false
@@ -88,9 +99,11 @@ pub record IsBlockScalar (indent i n : ℕ) (chomping : Chomping) (ls : List Lin
   pub lines : IsBody i is_given behind ls body
   pub ends : IsBehind i n behind others
 
--- It was read from s: its lines, and the spaces of what ends them, are taken off. Its span starts behind the indentation of
+-- It was read from s: its lines, and the spaces of what ends them, are taken off. Its span starts behind the
+-- indentation of
 -- the first content line, and ends where reading did.
-pub record IsTaken (style : BlockStyle) (indent i n : ℕ) (chomping : Chomping) (ls : List Line) (s : Cursor) (body others : List ℕ) : Type 0 where
+pub record IsTaken (style : BlockStyle) (indent i n : ℕ) (chomping : Chomping) (ls : List Line) (s : Cursor)
+    (body others : List ℕ) : Type 0 where
   pub text : List ℕ
   pub span : Span
   pub left : Cursor

@@ -30,7 +30,8 @@ chomping_of Keep = codes "+"
 
 -- both indicators, in either order
 abbrev pub AreIndicators : ℕ → Chomping → List ℕ → Type 0
-AreIndicators n chomping t = (n ≤ 9) × ((t ≡ digit_of n ++ chomping_of chomping) ⊎ (t ≡ chomping_of chomping ++ digit_of n))
+AreIndicators n chomping t =
+    (n ≤ 9) × ((t ≡ digit_of n ++ chomping_of chomping) ⊎ (t ≡ chomping_of chomping ++ digit_of n))
 
 -- 5.4: a whole break, which stands before a text
 abbrev pub IsBreakBefore : List ℕ → List ℕ → Type 0
@@ -38,12 +39,14 @@ IsBreakBefore behind t = (t ≡ codes "\n") ⊎ (t ≡ codes "\r\n") ⊎ ((t ≡
 
 -- what ends a header's line: its break, behind which no tab stands, or nothing before a NUL or the end
 abbrev pub EndsHeader : List ℕ → List ℕ → Type 0
-EndsHeader behind t = (IsBreakBefore behind t × (slice_index behind 0 ≢ tab)) ⊎ ((t ≡ []) × IsTrue (is_z (slice_index behind 0)))
+EndsHeader behind t = (IsBreakBefore behind t × (slice_index behind 0 ≢ tab))
+    ⊎ ((t ≡ []) × IsTrue (is_z (slice_index behind 0)))
 
 -- a header's line: `|` or `>`, the indicators, blanks and behind some a comment, and the line's end
 abbrev pub IsHeaderLine : ℕ → Chomping → List ℕ → List ℕ → Type 0
 IsHeaderLine n chomping behind t =
-    (mark : ℕ) × (indicators : List ℕ) × (tail : List ℕ) × (end : List ℕ) × AreIndicators n chomping indicators × IsLineTail tail × EndsHeader behind end
+    (mark : ℕ) × (indicators : List ℕ) × (tail : List ℕ) × (end : List ℕ) × AreIndicators n chomping indicators
+    × IsLineTail tail × EndsHeader behind end
     × (t ≡ mark ∷ (indicators ++ (tail ++ end)))
 
 -- ## The indentation (8.1.1.1)
@@ -59,8 +62,10 @@ widest (line ∷ lines) = max (length line) (widest lines)
 abbrev pub is_space_or_break : ℕ → Bool
 is_space_or_break c = (c == space) || is_break c
 
--- Where no digit gives it, the indentation is told by the lines of spaces up to the first other character, with which the
--- content begins: it is that of the widest of them, and at least `indent`, the first column to the right of the enclosing
+-- Where no digit gives it, the indentation is told by the lines of spaces up to the first other character, with which
+-- the
+-- content begins: it is that of the widest of them, and at least `indent`, the first column to the right of the
+-- enclosing
 -- block collection.
 abbrev pub IsFound : ℕ → List ℕ → ℕ → Type 0
 IsFound indent behind i =
@@ -68,9 +73,9 @@ IsFound indent behind i =
     × IsFalse (is_space_or_break (slice_index others 0)) × (i ≡ max (widest (all_lines (normalized leading))) indent)
 
 -- A digit counts from the column of that collection, up to the last number of 64 bits.
-abbrev pub IsIndentation : ℕ → ℕ → List ℕ → ℕ → Type 0
-IsIndentation indent zero behind i = IsFound indent behind i
-IsIndentation indent (suc n) behind i = i ≡ min (indent - 1 + suc n) (2 ^ 64 - 1)
+abbrev pub IsIndentationFrom : ℕ → ℕ → List ℕ → ℕ → Type 0
+IsIndentationFrom indent zero behind i = IsFound indent behind i
+IsIndentationFrom indent (suc n) behind i = i ≡ min (indent - 1 + suc n) (2 ^ 64 - 1)
 
 -- ## The lines (8.1.2)
 
@@ -78,7 +83,8 @@ IsIndentation indent (suc n) behind i = i ≡ min (indent - 1 + suc n) (2 ^ 64 -
 abbrev pub AreInside : Bool → List ℕ → List ℕ → Type 0
 AreInside starts [] behind = Unit {0}
 AreInside starts (c ∷ cs) behind =
-    IsTrue (is_break c || is_yaml_non_break c) × (IsTrue starts → IsFalse (is_document_indicator (c ∷ (cs ++ behind)))) × AreInside (is_break c) cs behind
+    IsTrue (is_break c || is_yaml_non_break c) × (IsTrue starts → IsFalse (is_document_indicator (c ∷ (cs ++ behind))))
+    × AreInside (is_break c) cs behind
 
 -- no line of a text is content
 abbrev pub HasNoContent : ℕ → List ℕ → Type 0
@@ -88,13 +94,16 @@ HasNoContent i text = IsFalse (has_content (map (line_of i) (all_lines text)))
 pub record IsBehindLines (i : ℕ) (t : Cursor) : Type 0 where
   pub no_space : slice_index t.rest 0 ≡ space → i ≤ t.mark.col
   pub no_break : IsFalse (is_break (slice_index t.rest 0))
-  pub no_content : t.mark.col ≡ i → IsFalse (is_yaml_non_break (slice_index t.rest 0)) ⊎ ((i ≡ 0) × IsTrue (is_document_indicator t.rest))
+  pub no_content : t.mark.col ≡ i
+      → IsFalse (is_yaml_non_break (slice_index t.rest 0)) ⊎ ((i ≡ 0) × IsTrue (is_document_indicator t.rest))
 
 -- ## The scalar
 
--- From s on a block scalar stands with this text: a header's line, and lines, up to t. Before the place `start`, on the way,
+-- From s on a block scalar stands with this text: a header's line, and lines, up to t. Before the place `start`, on the
+-- way,
 -- stands no content: it is that of the header, or stands behind its line.
-pub record IsBlockText (style : BlockStyle) (indent : ℕ) (s : Cursor) (text : List ℕ) (start : Marker) (t : Cursor) : Type 0 where
+pub record IsBlockText (style : BlockStyle) (indent : ℕ) (s : Cursor) (text : List ℕ) (start : Marker) (t : Cursor) :
+    Type 0 where
   pub digit : ℕ
   pub chomping : Chomping
   pub first : List ℕ
@@ -102,7 +111,7 @@ pub record IsBlockText (style : BlockStyle) (indent : ℕ) (s : Cursor) (text : 
   pub is : s.rest ≡ first ++ (lines ++ t.rest)
   pub begins : IsHeaderLine digit chomping (lines ++ t.rest) first
   pub indentation : ℕ
-  pub indented : IsIndentation indent digit (lines ++ t.rest) indentation
+  pub indented : IsIndentationFrom indent digit (lines ++ t.rest) indentation
   pub shaped : HasLines indentation (normalized lines)
   pub inside : AreInside true lines t.rest
   pub ends : IsBehindLines indentation t
@@ -112,4 +121,5 @@ pub record IsBlockText (style : BlockStyle) (indent : ℕ) (s : Cursor) (text : 
   pub split : s.rest ≡ before ++ behind
   pub starts : IsPassed s.mark s.rest start behind
   pub goes_on : IsPassed start behind t.mark t.rest
-  pub no_content : (before ≡ []) ⊎ ((empty : List ℕ) × (before ≡ first ++ empty) × HasNoContent indentation (normalized empty))
+  pub no_content : (before ≡ [])
+      ⊎ ((empty : List ℕ) × (before ≡ first ++ empty) × HasNoContent indentation (normalized empty))

@@ -2,7 +2,7 @@
 use Rattle.std.specs.Prelude.{ℕ, ◌+◌, ◌-◌, ◌^◌, min, Bool, true, false, ◌&&◌, nat_lt, List, drop, slice_index, Result, Ok, Err, if◌then◌else◌}
 use Rattle.std.specs.List.{prefix_len}
 use Rattle.saphyr_input.specs.Classes.{is_break, is_bom, is_yaml_non_break}
-use Rattle.saphyr_input.specs.Places.{next_2_are}
+use Rattle.saphyr_input.specs.Places.{next_2_are, spaces_within}
 use Rattle.saphyr_input.specs.Separation.{separation_len, is_bare_comment, found_blanks}
 use Rattle.saphyr_input.specs.declared.input.SkipTabs.{SkipTabs}
 use Rattle.saphyr_scalar.specs.declared.scalar.position.Marker.{Marker}
@@ -41,6 +41,10 @@ next_line m n = record { index = m.index + n; line = min (m.line + 1) (2 ^ 64 - 
 abbrev pub pass_blanks : ℕ → Cursor → Cursor
 pass_blanks n s = record { rest = drop n s.rest; mark = along s.mark n; blank_so_far = s.blank_so_far }
 
+-- spaces are passed, but no more than `most`
+abbrev pub pass_spaces : ℕ → Cursor → Cursor
+pass_spaces most s = pass_blanks (spaces_within most s.rest) s
+
 -- n characters of the line are passed
 abbrev pub pass : ℕ → Cursor → Cursor
 pass n s = record { rest = drop n s.rest; mark = along s.mark n; blank_so_far = false }
@@ -67,7 +71,12 @@ pass_comment s = pass_blanks (prefix_len is_yaml_non_break s.rest) s
 -- a byte order mark is passed, which has no column
 abbrev pub pass_byte_order_mark : Cursor → Cursor
 pass_byte_order_mark s =
-    record { rest = drop 1 s.rest; mark = record { index = s.mark.index + 1; line = s.mark.line; col = s.mark.col }; blank_so_far = s.blank_so_far }
+    record {
+      rest = drop 1 s.rest;
+      mark =
+          record { index = s.mark.index + 1; line = s.mark.line; col = s.mark.col };
+      blank_so_far = s.blank_so_far;
+    }
 
 -- what stands behind white space and a comment: a byte order mark is refused behind a line's start
 unfoldable pub behind_separation : SkipTabs → List ℕ → Cursor → Result (SkipTabs × Cursor) Refusal

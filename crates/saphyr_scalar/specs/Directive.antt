@@ -49,7 +49,8 @@ unfoldable pub number_from : Marker → ℕ → ℕ → Marker → List ℕ → 
 number_from start n v m [] = number_end start n v (at m [])
 number_from start n v m (c ∷ cs) =
     if is_digit c then
-    (if nat_lt n 9 then number_from start (suc n) (v * 10 + (c - 48)) (along m 1) cs else refuse fault.VersionNumberTooLong start)
+    (if nat_lt n 9 then number_from start (suc n) (v * 10 + (c - 48)) (along m 1) cs else refuse
+    fault.VersionNumberTooLong start)
     else number_end start n v (at m (c ∷ cs))
 
 abbrev pub number : Marker → Cursor → Result (ℕ × Cursor) Refusal
@@ -86,10 +87,12 @@ prefix start s =
 
 unfoldable pub behind_prefix : Marker → List ℕ → List ℕ × Cursor → Result (Directive × Cursor) Refusal
 behind_prefix start h x =
-    if is_blank_or_breakz (slice_index x.1.rest 0) then Ok (tag_prefix h x.0, x.1) else refuse fault.TagDirectiveEndExpected start
+    if is_blank_or_breakz (slice_index x.1.rest 0) then Ok (tag_prefix h x.0, x.1) else refuse
+    fault.TagDirectiveEndExpected start
 
 unfoldable pub tag_directive : Marker → Cursor → Result (Directive × Cursor) Refusal
-tag_directive start s = handle start (behind_blanks s) >>= λ h. prefix start (behind_blanks h.1) >>= λ x. behind_prefix start h.0 x
+tag_directive start s = handle start (behind_blanks s) >>= λ h. prefix start (behind_blanks h.1) >>= λ x. behind_prefix
+    start h.0 x
 
 -- what a directive of a name says; the parameters of a reserved one are passed
 unfoldable pub value : Marker → List ℕ × Cursor → Result (Directive × Cursor) Refusal
@@ -101,7 +104,8 @@ value start x =
 -- blanks, a comment and the line's break
 unfoldable pub line_end : Marker → Cursor → Result Cursor Refusal
 line_end start s =
-    separation Yes s >>= λ x. if is_breakz (slice_index x.1.rest 0) then Ok (pass_break x.1) else refuse fault.DirectiveEndExpected start
+    separation Yes s >>= λ x. if is_breakz (slice_index x.1.rest 0) then Ok (pass_break x.1) else refuse
+    fault.DirectiveEndExpected start
 
 -- A directive, from its `%` on: what it says, the place behind it, and what stands behind its line.
 unfoldable pub directive : Cursor → Result (Directive × Marker × Cursor) Refusal

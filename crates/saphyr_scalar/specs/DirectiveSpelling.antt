@@ -20,40 +20,47 @@ IsVersionNumber v t = (t ≢ []) × (length t ≤ 9) × AreIn is_digit t × (dec
 -- 6.8.1
 abbrev pub IsVersionDirective : ℕ → ℕ → List ℕ → Type 0
 IsVersionDirective major minor t =
-    (gap high low : List ℕ) × AreBlanks gap × IsVersionNumber major high × IsVersionNumber minor low × (t ≡ codes "%YAML" ++ (gap ++ (high ++ (codes "." ++ low))))
+    (gap high low : List ℕ) × AreBlanks gap × IsVersionNumber major high × IsVersionNumber minor low
+    × (t ≡ codes "%YAML" ++ (gap ++ (high ++ (codes "." ++ low))))
 
 -- 6.8.2
 abbrev pub IsTagDirective : List ℕ → List ℕ → List ℕ → Type 0
 IsTagDirective handle prefix t =
-    (first second written : List ℕ) × AreBlanks first × AreBlanks second × IsHandleText handle × IsPrefix prefix written × (t ≡ codes "%TAG" ++ (first ++ (handle ++ (second ++ written))))
+    (first second written : List ℕ) × AreBlanks first × AreBlanks second × IsHandleText handle × IsPrefix prefix written
+    × (t ≡ codes "%TAG" ++ (first ++ (handle ++ (second ++ written))))
 
 -- A tag directive as it is read: no blank has to stand between a handle that ends with `!` and its prefix.
 abbrev pub IsReadTagDirective : List ℕ → List ℕ → List ℕ → Type 0
 IsReadTagDirective handle prefix t =
-    (first second written : List ℕ) × AreBlanks first × AreIn is_blank second × IsHandleText handle × IsPrefix prefix written × (t ≡ codes "%TAG" ++ (first ++ (handle ++ (second ++ written))))
+    (first second written : List ℕ) × AreBlanks first × AreIn is_blank second × IsHandleText handle
+    × IsPrefix prefix written × (t ≡ codes "%TAG" ++ (first ++ (handle ++ (second ++ written))))
 
 -- what a directive says, and the directive as it is written: a version directive, or a tag directive
 abbrev pub IsDirectiveText : Directive → List ℕ → Type 0
 IsDirectiveText (version major minor) t = IsVersionDirective major minor t
-IsDirectiveText (tag_prefix handle prefix) t = (h p : List ℕ) × IsTagDirective h p t × (handle ≡ encode_utf8_all h) × (prefix ≡ encode_utf8_all p)
+IsDirectiveText (tag_prefix handle prefix) t =
+    (h p : List ℕ) × IsTagDirective h p t × (handle ≡ encode_utf8_all h) × (prefix ≡ encode_utf8_all p)
 IsDirectiveText (reserved name) t = ⊥
 
 -- 6.8: a directive of another name, with its parameters, up to the end of its line
 abbrev pub IsReservedDirective : List ℕ → List ℕ → Type 0
 IsReservedDirective name t =
     (more : List ℕ) × (name ≢ []) × (name ≢ codes "YAML") × (name ≢ codes "TAG") × AreIn is_yaml_non_space name
-    × AreIn is_yaml_non_break more × ((more ≡ []) ⊎ IsTrue (is_blank (slice_index more 0))) × (t ≡ codes "%" ++ (name ++ more))
+    × AreIn is_yaml_non_break more × ((more ≡ []) ⊎ IsTrue (is_blank (slice_index more 0)))
+    × (t ≡ codes "%" ++ (name ++ more))
 
 -- 6.6: a comment, which has a blank before it
-abbrev pub IsComment : List ℕ → List ℕ → Type 0
-IsComment blanks t = (words : List ℕ) × (blanks ≢ []) × AreIn is_yaml_non_break words × (t ≡ codes "#" ++ words)
+abbrev pub IsTailComment : List ℕ → List ℕ → Type 0
+IsTailComment blanks t = (words : List ℕ) × (blanks ≢ []) × AreIn is_yaml_non_break words × (t ≡ codes "#" ++ words)
 
 -- the blanks and the comment behind a directive
 abbrev pub IsLineTail : List ℕ → Type 0
-IsLineTail t = (blanks comment : List ℕ) × AreIn is_blank blanks × ((comment ≡ []) ⊎ IsComment blanks comment) × (t ≡ blanks ++ comment)
+IsLineTail t = (blanks comment : List ℕ) × AreIn is_blank blanks × ((comment ≡ []) ⊎ IsTailComment blanks comment)
+    × (t ≡ blanks ++ comment)
 
 -- what a directive says, and the directive as it is read
 abbrev pub IsReadDirective : Directive → List ℕ → Type 0
 IsReadDirective (version major minor) t = IsVersionDirective major minor t
-IsReadDirective (tag_prefix handle prefix) t = (h p : List ℕ) × IsReadTagDirective h p t × (handle ≡ encode_utf8_all h) × (prefix ≡ encode_utf8_all p)
+IsReadDirective (tag_prefix handle prefix) t =
+    (h p : List ℕ) × IsReadTagDirective h p t × (handle ≡ encode_utf8_all h) × (prefix ≡ encode_utf8_all p)
 IsReadDirective (reserved name) t = (n : List ℕ) × IsReservedDirective n t × (name ≡ encode_utf8_all n)

@@ -45,7 +45,8 @@ hex_character number (d ∷ ds) = if is_hex d then hex_character (number * 16 + 
 
 -- the character that an escape by number stands for, and how many digits that takes
 abbrev pub long_escape : List ℕ → ℕ → Option (ℕ × ℕ)
-long_escape text count = if nat_le count (length text) then option_map (λ c. (c, count)) (hex_character 0 (take count text)) else None
+long_escape text count =
+    if nat_le count (length text) then option_map (λ c. (c, count)) (hex_character 0 (take count text)) else None
 
 abbrev pub escape_named : Option ℕ → Option (ℕ × ℕ) → Option (Item × ℕ)
 escape_named (Some c) long = Some (Escaped c, 1)

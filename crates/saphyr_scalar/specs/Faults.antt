@@ -10,4 +10,5 @@ pub record Says (mark : Marker) (info : List ℕ) (e : ScanError) : Type 0 where
   pub text : string_bytes e.info ≡ info
 
 abbrev pub error_text : ScanError → List ℕ
-error_text e = string_bytes e.info ++ codes " at byte " ++ decimal e.mark.index ++ codes " line " ++ decimal e.mark.line ++ codes " column " ++ decimal (e.mark.col + 1)
+error_text e = string_bytes e.info ++ codes " at byte " ++ decimal e.mark.index ++ codes " line " ++ decimal e.mark.line
+    ++ codes " column " ++ decimal (e.mark.col + 1)

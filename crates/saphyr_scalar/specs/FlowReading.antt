@@ -56,7 +56,8 @@ items_to_quote quote taken [] = None
 items_to_quote quote (suc taken) (c ∷ text) = items_to_quote quote taken text
 items_to_quote quote zero (c ∷ text) =
     if is_closing quote c text then Some []
-    else option_and_then (λ first. option_map (λ items. first.0 ∷ items) (items_to_quote quote (pred first.1) text)) (first_item quote (c ∷ text))
+    else option_and_then (λ first. option_map (λ items. first.0 ∷ items) (items_to_quote quote (pred first.1) text))
+    (first_item quote (c ∷ text))
 
 -- the items of a quoted scalar, which its quotes begin and end
 abbrev pub quoted_items : Quote → List ℕ → Option (List Item)

@@ -34,7 +34,8 @@ raw_break (suc n) = line_feeds (suc n)
 -- raw break go. A raw break at a line's start ends an empty line, which the break before it has counted.
 abbrev pub folded_from : Bool → List Item → List ℕ
 folded_from at_start [] = []
-folded_from at_start (Blank c ∷ items) = (if at_start || is_before_break items then [] else c ∷ []) ++ folded_from at_start items
+folded_from at_start (Blank c ∷ items) =
+    (if at_start || is_before_break items then [] else c ∷ []) ++ folded_from at_start items
 folded_from at_start (Raw c ∷ items) = c ∷ folded_from false items
 folded_from at_start (Escaped c ∷ items) = c ∷ folded_from false items
 folded_from true (Break ∷ items) = folded_from true items
@@ -56,9 +57,11 @@ AreBlanks (EscapedBreak ∷ items) = ⊥
 -- so many raw breaks, with any blanks before, between and behind them
 abbrev pub AreBreaks : ℕ → List Item → Type 0
 AreBreaks zero items = AreBlanks items
-AreBreaks (suc n) items = (blanks others : List Item) × AreBlanks blanks × AreBreaks n others × (items ≡ blanks ++ (Break ∷ others))
+AreBreaks (suc n) items =
+    (blanks others : List Item) × AreBlanks blanks × AreBreaks n others × (items ≡ blanks ++ (Break ∷ others))
 
--- Line folding, told without a state: before a character, breaks of which n end empty lines read as one raw break before
+-- Line folding, told without a state: before a character, breaks of which n end empty lines read as one raw break
+-- before
 -- n empty lines does, and an escaped break and n empty lines read as n line feeds. No blank of them stays.
 abbrev pub FoldsBreaks : ℕ → List Item → ℕ → List Item → Type 0
 FoldsBreaks n breaks c others =

@@ -26,6 +26,7 @@ pub mod QuotedMarkers
 pub mod QuotedSpelling
 pub mod RefusedInside
 pub mod Seen
+pub mod Sets
 pub mod Spaces
 pub mod Spelling
 pub mod Tag

@@ -8,5 +8,7 @@ use Rattle.saphyr_scalar.specs.declared.scalar.position.Marker.{Marker}
 -- from a place and what stands there to a later place and what stands behind
 pub data IsPassed : Marker → List ℕ → Marker → List ℕ → Type 0 where
   nothing : (m : Marker) (t : List ℕ) → IsPassed m t m t
-  character : (m : Marker) (c : ℕ) (t : List ℕ) (n : Marker) (u : List ℕ) → IsFalse (is_break c) → IsPassed (along m 1) t n u → IsPassed m (c ∷ t) n u
-  line_break : (m : Marker) (t : List ℕ) (n : Marker) (u : List ℕ) → IsTrue (is_break (slice_index t 0)) → IsPassed (next_line m (break_len t)) (drop (break_len t) t) n u → IsPassed m t n u
+  character : (m : Marker) (c : ℕ) (t : List ℕ) (n : Marker) (u : List ℕ) → IsFalse (is_break c)
+      → IsPassed (along m 1) t n u → IsPassed m (c ∷ t) n u
+  line_break : (m : Marker) (t : List ℕ) (n : Marker) (u : List ℕ) → IsTrue (is_break (slice_index t 0))
+      → IsPassed (next_line m (break_len t)) (drop (break_len t) t) n u → IsPassed m t n u

@@ -1,6 +1,6 @@
 -- Plain scalars (YAML 1.2.2, 7.3.3).
-use Rattle.std.specs.Prelude.{ℕ, zero, suc, pred, ◌+◌, ◌-◌, Bool, true, false, ◌||◌, ◌&&◌, ◌==◌, not, nat_lt, List, [], ◌∷◌, ◌++◌, length, take, slice_index, Result, Ok, Option, Some, None, if◌then◌else◌, encode_utf8, encode_utf8_all}
-use Rattle.saphyr_input.specs.Classes.{is_z, is_break, is_blank, is_blank_or_breakz, is_flow, is_alpha, is_bom, tab, line_feed, carriage_return, space}
+use Rattle.std.specs.Prelude.{◌≡◌, ◌<◌, ℕ, zero, suc, pred, ◌+◌, ◌-◌, Bool, true, false, ◌||◌, ◌&&◌, ◌==◌, not, nat_lt, List, [], ◌∷◌, ◌++◌, length, take, slice_index, Result, Ok, Option, Some, None, if◌then◌else◌, encode_utf8, encode_utf8_all}
+use Rattle.saphyr_input.specs.Classes.{is_z, is_break, is_blank, is_blank_or_breakz, is_flow, is_bom, tab, line_feed, carriage_return, space}
 use Rattle.saphyr_input.specs.Places.{can_be_plain, is_document_indicator, is_blank_or_break}
 use Rattle.saphyr_scalar.specs.declared.scalar.position.Marker.{Marker}
 use Rattle.saphyr_scalar.specs.declared.scalar.fault.Refusal.{Refusal}
@@ -18,15 +18,12 @@ abbrev pub word_len : Bool → List ℕ → ℕ
 word_len in_flow [] = 0
 word_len in_flow (c ∷ cs) = if in_word in_flow (c ∷ cs) then 1 + word_len in_flow cs else 0
 
--- a word is put behind a text
-abbrev pub with_word : Bool → List ℕ → Cursor → List ℕ × Cursor
-with_word in_flow text s = (text ++ encode_utf8_all (take (word_len in_flow s.rest) s.rest), pass (word_len in_flow s.rest) s)
-
 -- whether a word of the scalar begins: neither a comment nor a document marker does, and in flow no lone `-`
 unfoldable pub word_starts : Bool → Cursor → Result (Bool × Cursor) Refusal
 word_starts in_flow s =
     if (slice_index s.rest 0 == 35) || ((s.mark.col == 0) && is_document_indicator s.rest) then Ok (false, s)
-    else if in_flow && (slice_index s.rest 0 == 45) && is_flow (slice_index s.rest 1) then refuse fault.PlainDashBeforeFlow s.mark
+    else if in_flow && (slice_index s.rest 0 == 45) && is_flow (slice_index s.rest 1) then refuse
+    fault.PlainDashBeforeFlow s.mark
     else Ok (in_word in_flow s.rest, s)
 
 -- content inside flow stands right of the enclosing block collection
@@ -44,12 +41,14 @@ pub record Gap : Type 0 where
 unfoldable pub may_stand : Marker → Bool → Cursor → Result Cursor Refusal
 may_stand start tabbed s =
     if tabbed && is_bom (slice_index s.rest 0) then refuse fault.MisplacedByteOrderMark s.mark
-    else if tabbed && not ((slice_index s.rest 0 == 35) || is_z (slice_index s.rest 0)) then refuse fault.TabInsidePlain start
+    else if tabbed && not ((slice_index s.rest 0 == 35) || is_z (slice_index s.rest 0)) then refuse fault.TabInsidePlain
+    start
     else Ok s
 
 -- a line is reached
 abbrev pub reached : Marker → Bool → List ℕ → Cursor → Result Gap Refusal
-reached start tabbed feeds s = may_stand start tabbed s >>= λ t. Ok (record { text = feeds; tabbed = tabbed; behind = t })
+reached start tabbed feeds s =
+    may_stand start tabbed s >>= λ t. Ok (record { text = feeds; tabbed = tabbed; behind = t })
 
 -- on a line, with blanks alone before it
 abbrev pub at_line : Marker → List ℕ → Cursor
@@ -80,10 +79,6 @@ folded g = record g { text = if length g.text == 0 then space ∷ [] else g.text
 abbrev pub gap_text : Bool → List ℕ → List ℕ
 gap_text over_lines text = if over_lines && (length text == 0) then space ∷ [] else text
 
--- a space before a character that begins a word wherever it stands behind another on the line
-unfoldable pub is_single_space : List ℕ → Bool
-is_single_space xs = (slice_index xs 0 == space) && is_alpha (slice_index xs 1) && not (slice_index xs 1 == 45)
-
 -- a line behind a word's line begins
 abbrev pub next_lines : ℕ → Marker → Cursor → Result Gap Refusal
 next_lines indent start s = lines indent start false [] s.mark s.rest >>= λ g. Ok (folded g)
@@ -109,7 +104,8 @@ unfoldable pub comment_of : Bool → Bool → Cursor → Option Marker
 comment_of in_flow tabbed s =
     if not in_flow && (slice_index s.rest 0 == 35) && (tabbed || not s.blank_so_far) then Some s.mark else None
 
--- what is read of a scalar: its text, the place behind its last word, a comment that keeps it from going on, and what stands behind it
+-- what is read of a scalar: its text, the place behind its last word, a comment that keeps it from going on, and what
+-- stands behind it
 abbrev pub Reading : Type 0
 Reading = Result (List ℕ × Marker × Option Marker × Cursor) Refusal
 
@@ -130,7 +126,8 @@ unfoldable mutual
   pub between : Bool → ℕ → Marker → Marker → Gap → ℕ → List ℕ → Reading
   between in_flow indent start end g left [] = ended in_flow end g
   between in_flow indent start end g zero (c ∷ cs) = goes_on in_flow indent g.behind >>= λ b.
-      if b.0 then with_text (g.text ++ encode_utf8 c) (word in_flow indent start (along g.behind.mark 1) cs) else ended in_flow end g
+      if b.0 then with_text (g.text ++ encode_utf8 c) (word in_flow indent start (along g.behind.mark 1) cs) else ended
+      in_flow end g
   between in_flow indent start end g (suc left) (c ∷ cs) = between in_flow indent start end g left cs
 
   -- in a word that began before m
@@ -139,10 +136,20 @@ unfoldable mutual
   word in_flow indent start m (c ∷ cs) =
       if in_word in_flow (c ∷ cs) then with_text (encode_utf8 c) (word in_flow indent start (along m 1) cs)
       else gap indent start (at m (c ∷ cs)) >>= λ g.
-      if gap_len (c ∷ cs) g == 0 then ended in_flow m g else between in_flow indent start m g (pred (gap_len (c ∷ cs) g)) cs
+      if gap_len (c ∷ cs) g == 0 then ended in_flow m g else between in_flow indent start m g
+      (pred (gap_len (c ∷ cs) g)) cs
 
 -- A plain scalar: its text, the place behind its last word, a comment that keeps it from going on, and what stands
 -- behind it. `indent` is the first column to the right of the enclosing block collection.
 unfoldable pub plain : Bool → ℕ → Cursor → Reading
 plain in_flow indent s = word_starts in_flow s >>= λ b.
     if b.0 then word in_flow indent s.mark b.1.mark b.1.rest else refuse fault.PlainEnd s.mark
+
+-- What a call that reads words of a scalar leaves: s is before them, inside a word, and t is where a word ends.
+pub record WordsMoved (in_flow : Bool) (text grown : List ℕ) (s t : Cursor) : Type 0 where
+  pub same : (indent : ℕ) (start : Marker)
+      → with_text grown (word in_flow indent start t.mark t.rest)
+      ≡ with_text text (word in_flow indent start s.mark s.rest)
+  pub on_line : t.blank_so_far ≡ false
+  pub stops : in_word in_flow t.rest ≡ false
+  pub shorter : in_word in_flow s.rest ≡ true → length t.rest < length s.rest

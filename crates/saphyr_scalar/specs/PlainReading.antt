@@ -17,13 +17,15 @@ abbrev pub passed : Marker → List ℕ → Marker
 passed m [] = m
 passed m (c ∷ cs) = passed (if ends_line c cs then next_line m 1 else along m 1) cs
 
--- How a piece of a plain scalar is spelled from the place m on, where `behind` stands behind it: no NUL and no byte order
+-- How a piece of a plain scalar is spelled from the place m on, where `behind` stands behind it: no NUL and no byte
+-- order
 -- mark, no `#` at its start or behind a blank or break, no colon before a blank, break, NUL or the end, and no document
 -- marker at a line's start.
 abbrev pub IsSpelledPlain : Marker → Bool → List ℕ → List ℕ → Type 0
 IsSpelledPlain m apart [] behind = Unit {0}
 IsSpelledPlain m apart (c ∷ cs) behind =
-    (c ≢ nul) × (c ≢ byte_order_mark) × (IsTrue apart → c ≢ 35) × (c ≡ 58 → IsFalse (is_blank_or_breakz (slice_index (cs ++ behind) 0)))
+    (c ≢ nul) × (c ≢ byte_order_mark) × (IsTrue apart → c ≢ 35)
+    × (c ≡ 58 → IsFalse (is_blank_or_breakz (slice_index (cs ++ behind) 0)))
     × (m.col ≡ 0 → IsFalse (is_document_indicator (c ∷ (cs ++ behind))))
     × IsSpelledPlain (if ends_line c (cs ++ behind) then next_line m 1 else along m 1) (is_blank_or_break c) cs behind
 

@@ -35,14 +35,16 @@ behind_blanks xs = drop (prefix_len is_blank xs) xs
 abbrev pub past_white : Marker → Bool → List ℕ → Cursor
 past_white m blank_so_far [] = record { rest = []; mark = m; blank_so_far = blank_so_far }
 past_white m blank_so_far (c ∷ cs) =
-    if is_blank_or_break c then past_white (if ends_line c cs then next_line m 1 else along m 1) (blank_so_far || is_break c) cs
+    if is_blank_or_break c then past_white (if ends_line c cs then next_line m 1 else along m 1)
+    (blank_so_far || is_break c) cs
     else record { rest = c ∷ cs; mark = m; blank_so_far = blank_so_far }
 
 -- Among the blanks and breaks at the front, from the column on, no tab stands left of the indentation.
 abbrev pub tabs_fit : ℕ → ℕ → List ℕ → Bool
 tabs_fit indent col [] = true
 tabs_fit indent col (c ∷ cs) =
-    if is_blank_or_break c then not ((c == tab) && nat_lt col indent) && tabs_fit indent (if ends_line c cs then 0 else col + 1) cs else true
+    if is_blank_or_break c then not ((c == tab) && nat_lt col indent) && tabs_fit indent
+    (if ends_line c cs then 0 else col + 1) cs else true
 
 -- no word goes on, a comment or a document marker stands, or outside flow content left of the scalar's indentation
 abbrev pub StopsPlain : Bool → ℕ → Cursor → Type 0
@@ -52,7 +54,8 @@ StopsPlain in_flow indent s =
     ⊎ (((s.mark.col ≡ 0) × IsTrue (is_document_indicator s.rest))
     ⊎ ((in_flow ≡ false) × IsTrue s.blank_so_far × (s.mark.col < indent))))
 
--- What may stand behind the last word of a scalar, which ends at `end`: blanks and breaks, and then what ends the scalar.
+-- What may stand behind the last word of a scalar, which ends at `end`: blanks and breaks, and then what ends the
+-- scalar.
 -- No tab stands in the indentation of the lines behind its own.
 pub record EndsPlain (in_flow : Bool) (indent : ℕ) (end : Marker) (xs : List ℕ) : Type 0 where
   pub stops : StopsPlain in_flow indent (past_white end false xs)
@@ -76,6 +79,21 @@ pub record IsWordIn (in_flow : Bool) (w : List ℕ) : Type 0 where
   pub ink : AreWordInk in_flow w
   pub no_comment : slice_index w 0 ≢ 35
   pub no_lone_dash : in_flow ≡ true → w ≢ 45 ∷ []
+
+-- the same before what stands behind the word: a colon stands before a character of a word
+abbrev pub AreInkBefore : Bool → List ℕ → List ℕ → Type 0
+AreInkBefore in_flow [] behind = Unit {0}
+AreInkBefore in_flow (c ∷ cs) behind =
+    IsTrue (is_word_ink in_flow c) × (c ≡ 58 → IsTrue (is_word_ink in_flow (slice_index (cs ++ behind) 0)))
+    × AreInkBefore in_flow cs behind
+
+-- a word before what stands behind it: its last character may be a colon, and inside flow it is no `-` before a flow
+-- indicator
+pub record IsWordBefore (in_flow : Bool) (w behind : List ℕ) : Type 0 where
+  pub some : w ≢ []
+  pub ink : AreInkBefore in_flow w behind
+  pub no_comment : slice_index w 0 ≢ 35
+  pub no_lone_dash : (in_flow && (slice_index (w ++ behind) 0 == 45) && is_flow (slice_index (w ++ behind) 1)) ≡ false
 
 -- whether a line ends in the text
 abbrev pub has_line_end : List ℕ → Bool
@@ -102,7 +120,8 @@ IsNoMarker m xs = m.col ≡ 0 → IsFalse (is_document_indicator xs)
 abbrev pub AreFurtherWords : Bool → ℕ → Marker → List (List ℕ × List ℕ) → List ℕ → Type 0
 AreFurtherWords in_flow indent m [] behind = Unit {0}
 AreFurtherWords in_flow indent m (p ∷ ps) behind =
-    IsPlainGap in_flow indent m p.0 × IsWordIn in_flow p.1 × IsNoMarker (passed m p.0) (p.1 ++ (words_text ps ++ behind))
+    IsPlainGap in_flow indent m p.0 × IsWordBefore in_flow p.1 (words_text ps ++ behind)
+    × IsNoMarker (passed m p.0) (p.1 ++ (words_text ps ++ behind))
     × AreFurtherWords in_flow indent (along (passed m p.0) (length p.1)) ps behind
 
 -- a plain scalar's text from m on, before what ends it
@@ -110,7 +129,7 @@ pub record IsPlainText (in_flow : Bool) (indent : ℕ) (m : Marker) (text behind
   pub first : List ℕ
   pub others : List (List ℕ × List ℕ)
   pub is : text ≡ first ++ words_text others
-  pub word : IsWordIn in_flow first
+  pub word : IsWordBefore in_flow first (words_text others ++ behind)
   pub marker : IsNoMarker m (text ++ behind)
   pub further : AreFurtherWords in_flow indent (along m (length first)) others behind
   pub ends : EndsPlain in_flow indent (passed m text) behind

@@ -1,5 +1,5 @@
 -- Quoted scalars (YAML 1.2.2, 7.3.1 and 7.3.2), and the escapes of double quoted ones (5.7).
-use Rattle.std.specs.Prelude.{ℕ, zero, suc, pred, ◌+◌, ◌*◌, Bool, true, false, ◌||◌, ◌&&◌, ◌==◌, not, nat_lt, nat_le, List, [], ◌∷◌, ◌++◌, take, drop, slice_index, Option, Some, None, Result, Ok, Err, ◌≡◌, if◌then◌else◌, encode_utf8, encode_utf8_all}
+use Rattle.std.specs.Prelude.{ℕ, zero, suc, pred, ◌+◌, ◌*◌, Bool, true, false, ◌||◌, ◌&&◌, ◌==◌, not, nat_lt, nat_le, List, [], ◌∷◌, ◌++◌, take, drop, length, ◌≤◌, slice_index, Option, Some, None, Result, Ok, Err, ◌≡◌, if◌then◌else◌, encode_utf8, encode_utf8_all}
 use Rattle.std.specs.List.{prefix_len}
 use Rattle.saphyr_input.specs.Classes.{is_z, is_break, is_blank, is_blank_or_breakz, is_hex, hex_value}
 use Rattle.saphyr_input.specs.Places.{next_2_are, is_document_indicator}
@@ -61,7 +61,8 @@ at m cs = record { rest = cs; mark = m; blank_so_far = false }
 unfoldable pub special : Quote → Marker → Cursor → Result (Option ℕ × Cursor) Refusal
 special Single start s = if next_2_are s.rest 39 39 then Ok (Some 39, pass 2 s) else Ok (None, s)
 special Double start s =
-    if (slice_index s.rest 0 == 92) && not (is_break (slice_index s.rest 1)) then (escape start s >>= λ e. Ok (Some e.0, e.1))
+    if (slice_index s.rest 0 == 92) && not (is_break (slice_index s.rest 1)) then
+    (escape start s >>= λ e. Ok (Some e.0, e.1))
     else Ok (None, s)
 
 -- how many characters such a spelling has behind its first one
@@ -107,8 +108,10 @@ begin_word indent start s =
 
 -- the bytes of a gap before a word or the closing quote
 unfoldable pub end_gap : ℕ → Marker → Gap → Cursor → Result (List ℕ) Refusal
-end_gap indent start (on_line bytes) s = if is_z (slice_index s.rest 0) then refuse fault.EndInsideQuotes start else Ok bytes
-end_gap indent start (over_lines escaped n) s = begin_word indent start s >>= λ t. Ok (encode_utf8_all (folded_break escaped n))
+end_gap indent start (on_line bytes) s =
+    if is_z (slice_index s.rest 0) then refuse fault.EndInsideQuotes start else Ok bytes
+end_gap indent start (over_lines escaped n) s =
+    begin_word indent start s >>= λ t. Ok (encode_utf8_all (folded_break escaped n))
 
 -- what an escaped break begins: right before the closing quote nothing, and there the quote may stand anywhere
 abbrev pub escaped_gap : Quote → ℕ → Gap
@@ -118,19 +121,23 @@ abbrev pub if_some : {X : Type 0} → Option ℕ → (ℕ → X) → X → X
 if_some (Some c) f x = f c
 if_some None f x = x
 
--- The text behind the quote at `start`: its bytes, and what stands behind the closing quote. `gap` stands before it. The
+-- The text behind the quote at `start`: its bytes, and what stands behind the closing quote. `gap` stands before it.
+-- The
 -- next k characters are taken off already, and m is the place behind them.
 unfoldable pub inside : Quote → ℕ → Marker → Gap → ℕ → Marker → List ℕ → TextRead
 inside quote indent start gap k m [] = refuse fault.EndInsideQuotes start
 inside quote indent start gap zero m (c ∷ cs) =
     if is_blank c then (blank_in indent gap m c >>= λ g. inside quote indent start g zero (along m 1) cs)
-    else if is_break c then inside quote indent start (break_in gap) (pred (break_len (c ∷ cs))) (next_line m (break_len (c ∷ cs))) cs
+    else if is_break c then inside quote indent start (break_in gap) (pred (break_len (c ∷ cs)))
+    (next_line m (break_len (c ∷ cs))) cs
     else (end_gap indent start gap (at m (c ∷ cs)) >>= λ text. with_front text
     (if is_literal quote c then with_front (encode_utf8 c) (inside quote indent start no_gap zero (along m 1) cs)
     else (special quote start (at m (c ∷ cs)) >>= λ x. if_some x.0
-    (λ d. with_front (encode_utf8 d) (inside quote indent start no_gap (special_len quote (slice_index cs 0)) x.1.mark cs))
+    (λ d. with_front (encode_utf8 d)
+    (inside quote indent start no_gap (special_len quote (slice_index cs 0)) x.1.mark cs))
     (if c == flow.mark quote then Ok ([], at (along m 1) cs)
-    else inside quote indent start (escaped_gap quote (slice_index (drop (break_len cs) cs) 0)) (break_len cs) (next_line (along m 1) (break_len cs)) cs))))
+    else inside quote indent start (escaped_gap quote (slice_index (drop (break_len cs) cs) 0)) (break_len cs)
+    (next_line (along m 1) (break_len cs)) cs))))
 inside quote indent start gap (suc k) m (c ∷ cs) = inside quote indent start gap k m cs
 
 abbrev pub inside_at : Quote → ℕ → Marker → Gap → Cursor → TextRead
@@ -158,10 +165,6 @@ abbrev pub is_escaped_break : Quote → List ℕ → Bool
 is_escaped_break Single xs = false
 is_escaped_break Double xs = (slice_index xs 0 == 92) && is_break (slice_index xs 1)
 
--- a space between two words of a line, or before the closing quote
-unfoldable pub is_single_space : List ℕ → Bool
-is_single_space xs = (slice_index xs 0 == 32) && not (is_blank_or_breakz (slice_index xs 1))
-
 -- what ends a word
 abbrev pub ends_word : Quote → List ℕ → Bool
 ends_word quote xs = is_blank_or_breakz (slice_index xs 0) || is_closing quote xs || is_escaped_break quote xs
@@ -170,3 +173,11 @@ ends_word quote xs = is_blank_or_breakz (slice_index xs 0) || is_closing quote x
 abbrev pub Leads : {X : Type 0} → Result X Refusal → (X → TextRead) → TextRead → Type 0
 Leads (Ok x) now before = now x ≡ before
 Leads (Err e) now before = before ≡ Err e
+
+-- Words were put behind a text, up to a character that does not stand for itself.
+pub record WordsMoved (quote : Quote) (text grown : List ℕ) (s t : Cursor) : Type 0 where
+  pub same : (indent : ℕ) (start : Marker)
+      → with_front grown (inside_at quote indent start no_gap t)
+      ≡ with_front text (inside_at quote indent start no_gap s)
+  pub stops : is_literal quote (slice_index t.rest 0) ≡ false
+  pub shorter : length t.rest ≤ length s.rest

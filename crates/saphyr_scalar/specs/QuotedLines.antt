@@ -32,8 +32,10 @@ AreOnLine (EscapedBreak ∷ items) = ⊥
 abbrev pub LinesFit : ℕ → (q : Quote) (t : List ℕ) (items : List Item) (x : List ℕ) → IsText q t items x → Type 0
 LinesFit indent _ _ _ _ (closed q x h) = Unit {0}
 LinesFit indent _ _ _ _ (itself q c t items x h r) = LinesFit indent q t items x r
-LinesFit indent _ _ _ _ (broken q t items x h r) = IsLine indent (drop (break_len t) t) × LinesFit indent q (drop (break_len t) t) items x r
+LinesFit indent _ _ _ _ (broken q t items x h r) =
+    IsLine indent (drop (break_len t) t) × LinesFit indent q (drop (break_len t) t) items x r
 LinesFit indent _ _ _ _ (two_quotes t items x r) = LinesFit indent _ t items x r
 LinesFit indent _ _ _ _ (escaped e c t items x h r) = LinesFit indent _ t items x r
 LinesFit indent _ _ _ _ (numbered e c ds t items x h r) = LinesFit indent _ t items x r
-LinesFit indent _ _ _ _ (escaped_break t items x h r) = IsLine indent (drop (break_len t) t) × LinesFit indent _ (drop (break_len t) t) items x r
+LinesFit indent _ _ _ _ (escaped_break t items x h r) =
+    IsLine indent (drop (break_len t) t) × LinesFit indent _ (drop (break_len t) t) items x r

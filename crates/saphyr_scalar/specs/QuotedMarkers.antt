@@ -10,8 +10,10 @@ use Rattle.saphyr_scalar.specs.declared.reading.flow.Quote.{Quote}
 abbrev pub HasNoMarker : (q : Quote) (t : List ℕ) (items : List Item) (x : List ℕ) → IsText q t items x → Type 0
 HasNoMarker _ _ _ _ (closed q x h) = Unit {0}
 HasNoMarker _ _ _ _ (itself q c t items x h r) = HasNoMarker q t items x r
-HasNoMarker _ _ _ _ (broken q t items x h r) = IsFalse (is_document_indicator (drop (break_len t) t)) × HasNoMarker q (drop (break_len t) t) items x r
+HasNoMarker _ _ _ _ (broken q t items x h r) =
+    IsFalse (is_document_indicator (drop (break_len t) t)) × HasNoMarker q (drop (break_len t) t) items x r
 HasNoMarker _ _ _ _ (two_quotes t items x r) = HasNoMarker _ t items x r
 HasNoMarker _ _ _ _ (escaped e c t items x h r) = HasNoMarker _ t items x r
 HasNoMarker _ _ _ _ (numbered e c ds t items x h r) = HasNoMarker _ t items x r
-HasNoMarker _ _ _ _ (escaped_break t items x h r) = IsFalse (is_document_indicator (drop (break_len t) t)) × HasNoMarker _ (drop (break_len t) t) items x r
+HasNoMarker _ _ _ _ (escaped_break t items x h r) =
+    IsFalse (is_document_indicator (drop (break_len t) t)) × HasNoMarker _ (drop (break_len t) t) items x r

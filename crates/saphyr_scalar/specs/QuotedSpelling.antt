@@ -18,12 +18,18 @@ stands_for_itself quote c = not (is_breakz c) && not (is_special quote c)
 -- what stands behind the opening quote, up to the closing one
 pub data IsText : Quote → List ℕ → List Item → List ℕ → Type 0 where
   closed : (q : Quote) (x : List ℕ) → IsTrue (is_closing q (mark q ∷ x)) → IsText q (mark q ∷ x) [] x
-  itself : (q : Quote) (c : ℕ) (t : List ℕ) (items : List Item) (x : List ℕ) → IsTrue (stands_for_itself q c) → IsText q t items x → IsText q (c ∷ t) (raw_item c ∷ items) x
-  broken : (q : Quote) (t : List ℕ) (items : List Item) (x : List ℕ) → IsTrue (is_break (slice_index t 0)) → IsText q (drop (break_len t) t) items x → IsText q t (Break ∷ items) x
-  two_quotes : (t : List ℕ) (items : List Item) (x : List ℕ) → IsText Single t items x → IsText Single (apostrophe ∷ apostrophe ∷ t) (Raw apostrophe ∷ items) x
-  escaped : (e c : ℕ) (t : List ℕ) (items : List Item) (x : List ℕ) → simple_escape e ≡ Some c → IsText Double t items x → IsText Double (backslash ∷ e ∷ t) (Escaped c ∷ items) x
-  numbered : (e c : ℕ) (ds t : List ℕ) (items : List Item) (x : List ℕ) → IsNumber e c ds → IsText Double t items x → IsText Double (backslash ∷ e ∷ (ds ++ t)) (Escaped c ∷ items) x
-  escaped_break : (t : List ℕ) (items : List Item) (x : List ℕ) → IsTrue (is_break (slice_index t 0)) → IsText Double (drop (break_len t) t) items x → IsText Double (backslash ∷ t) (EscapedBreak ∷ items) x
+  itself : (q : Quote) (c : ℕ) (t : List ℕ) (items : List Item) (x : List ℕ) → IsTrue (stands_for_itself q c)
+      → IsText q t items x → IsText q (c ∷ t) (raw_item c ∷ items) x
+  broken : (q : Quote) (t : List ℕ) (items : List Item) (x : List ℕ) → IsTrue (is_break (slice_index t 0))
+      → IsText q (drop (break_len t) t) items x → IsText q t (Break ∷ items) x
+  two_quotes : (t : List ℕ) (items : List Item) (x : List ℕ) → IsText Single t items x
+      → IsText Single (apostrophe ∷ apostrophe ∷ t) (Raw apostrophe ∷ items) x
+  escaped : (e c : ℕ) (t : List ℕ) (items : List Item) (x : List ℕ) → simple_escape e ≡ Some c → IsText Double t items x
+      → IsText Double (backslash ∷ e ∷ t) (Escaped c ∷ items) x
+  numbered : (e c : ℕ) (ds t : List ℕ) (items : List Item) (x : List ℕ) → IsNumber e c ds → IsText Double t items x
+      → IsText Double (backslash ∷ e ∷ (ds ++ t)) (Escaped c ∷ items) x
+  escaped_break : (t : List ℕ) (items : List Item) (x : List ℕ) → IsTrue (is_break (slice_index t 0))
+      → IsText Double (drop (break_len t) t) items x → IsText Double (backslash ∷ t) (EscapedBreak ∷ items) x
 
 -- a scalar from its opening quote to its closing one
 abbrev pub IsQuotedText : Quote → List ℕ → List Item → List ℕ → Type 0

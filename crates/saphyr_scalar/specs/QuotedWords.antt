@@ -1,4 +1,5 @@
--- The escapes of double quoted scalars (YAML 1.2.2, 5.7), and the closing quote (7.3.1, 7.3.2). Spellings and the steps of
+-- The escapes of double quoted scalars (YAML 1.2.2, 5.7), and the closing quote (7.3.1, 7.3.2). Spellings and the steps
+-- of
 -- the reader are told with these words.
 use Rattle.std.specs.Prelude.{ℕ, Bool, ◌||◌, ◌&&◌, ◌==◌, not, nat_lt, nat_le, List, slice_index, Option, Some, None, if◌then◌else◌}
 use Rattle.saphyr_scalar.specs.declared.reading.flow.Quote.{Quote}

@@ -36,9 +36,10 @@ IsCommentBehind white t = (t ≡ []) ⊎ ((white ≢ []) × IsComment t)
 
 -- ## Ends of lines
 
--- 6.6: what may stand behind a token on its line: spaces, and behind some spaces a comment. Tabs are left out.
+-- 6.6: what may stand behind a token on its line: blanks, and behind some blanks a comment
 abbrev pub IsLineRest : List ℕ → Type 0
-IsLineRest t = (front comment : List ℕ) × AreSpaces 0 front × IsCommentBehind front comment × (t ≡ front ++ comment)
+IsLineRest t = (blanks comment : List ℕ) × AreIn is_blank blanks × IsCommentBehind blanks comment
+    × (t ≡ blanks ++ comment)
 
 -- the end of a line, with its break
 abbrev pub IsLineEnd : List ℕ → Type 0
@@ -50,7 +51,8 @@ IsEol t behind = IsLineEnd t ⊎ (IsLineRest t × (behind ≡ []))
 
 -- 6.6, 6.4: a line of spaces, or of spaces and a comment, without its break
 abbrev pub IsFillerText : List ℕ → Type 0
-IsFillerText t = (front comment : List ℕ) × AreSpaces 0 front × ((comment ≡ []) ⊎ IsComment comment) × (t ≡ front ++ comment)
+IsFillerText t = (front comment : List ℕ) × AreSpaces 0 front × ((comment ≡ []) ⊎ IsComment comment)
+    × (t ≡ front ++ comment)
 
 abbrev pub IsFillerLine : List ℕ → Type 0
 IsFillerLine t = (text : List ℕ) × IsFillerText text × (t ≡ text ++ codes "\n")
@@ -67,7 +69,8 @@ IsLastFiller t = (filler text : List ℕ) × IsFiller filler × IsFillerText tex
 
 -- 6.7 in block style, behind an indicator: spaces, or the end of the line, filler and the next line's indentation
 abbrev pub IsNextLine : ℕ → List ℕ → Type 0
-IsNextLine indent t = (end filler front : List ℕ) × IsLineEnd end × IsFiller filler × AreSpaces indent front × (t ≡ end ++ (filler ++ front))
+IsNextLine indent t = (end filler front : List ℕ) × IsLineEnd end × IsFiller filler × AreSpaces indent front
+    × (t ≡ end ++ (filler ++ front))
 
 abbrev pub IsGap : ℕ → List ℕ → Type 0
 IsGap indent t = AreSpaces 1 t ⊎ IsNextLine indent t
@@ -75,8 +78,10 @@ IsGap indent t = AreSpaces 1 t ⊎ IsNextLine indent t
 -- 6.7 in flow style: blanks, a comment behind some blank or none, the break, filler and the next line's indentation
 abbrev pub IsSeparationLine : ℕ → List ℕ → Type 0
 IsSeparationLine indent t =
-    (blanks comment filler : List ℕ) × AreIn is_blank blanks × IsCommentBehind blanks comment × IsFiller filler × (t ≡ blanks ++ (comment ++ (codes "\n" ++ (filler ++ spaces indent))))
+    (blanks comment filler : List ℕ) × AreIn is_blank blanks × IsCommentBehind blanks comment × IsFiller filler
+    × (t ≡ blanks ++ (comment ++ (codes "\n" ++ (filler ++ spaces indent))))
 
 -- any number of such lines, and blanks; it may be empty
 abbrev pub IsSeparation : ℕ → List ℕ → Type 0
-IsSeparation indent t = (lines blanks : List ℕ) × AreMany (IsSeparationLine indent) lines × AreIn is_blank blanks × (t ≡ lines ++ blanks)
+IsSeparation indent t = (lines blanks : List ℕ) × AreMany (IsSeparationLine indent) lines × AreIn is_blank blanks
+    × (t ≡ lines ++ blanks)

@@ -1,4 +1,5 @@
--- How the items of a quoted scalar are spelled between its quotes (YAML 1.2.2, 7.3.1 and 7.3.2). The breaks are normalized.
+-- How the items of a quoted scalar are spelled between its quotes (YAML 1.2.2, 7.3.1 and 7.3.2). The breaks are
+-- normalized.
 use Rattle.std.specs.Prelude.{◌≡◌, ℕ, ◌⊎◌, IsFalse, Some, List, [], ◌∷◌, ◌++◌, length}
 use Rattle.saphyr_input.specs.Classes.{line_feed}
 use Rattle.saphyr_scalar.specs.Escapes.{short_escape, digit_count, hex_character}
@@ -18,7 +19,8 @@ IsShortEscape c text = (name : ℕ) × (short_escape name ≡ Some c) × (text �
 
 -- 5.7: a name and as many hexadecimal digits as it asks for, which spell the number of a character
 abbrev pub IsLongEscape : ℕ → List ℕ → Type 0
-IsLongEscape c text = (name : ℕ) × (digits : List ℕ) × (digit_count name ≡ Some (length digits)) × (hex_character 0 digits ≡ Some c) × (text ≡ name ∷ digits)
+IsLongEscape c text = (name : ℕ) × (digits : List ℕ) × (digit_count name ≡ Some (length digits))
+    × (hex_character 0 digits ≡ Some c) × (text ≡ name ∷ digits)
 
 -- what stands behind a backslash
 abbrev pub IsEscape : Item → List ℕ → Type 0
@@ -44,8 +46,10 @@ IsSpelling Double item text = IsItself Double item text ⊎ IsEscapeSequence ite
 -- the text is the spellings of the items, one after another
 abbrev pub Spells : Quote → List Item → List ℕ → Type 0
 Spells quote [] text = text ≡ []
-Spells quote (item ∷ items) text = (front back : List ℕ) × IsSpelling quote item front × Spells quote items back × (text ≡ front ++ back)
+Spells quote (item ∷ items) text =
+    (front back : List ℕ) × IsSpelling quote item front × Spells quote items back × (text ≡ front ++ back)
 
 -- a quoted scalar with these items, quotes and all
-abbrev pub IsQuoted : Quote → List Item → List ℕ → Type 0
-IsQuoted quote items text = (inside : List ℕ) × Spells quote items inside × (text ≡ mark quote ∷ (inside ++ mark quote ∷ []))
+abbrev pub IsSpelledQuote : Quote → List Item → List ℕ → Type 0
+IsSpelledQuote quote items text =
+    (inside : List ℕ) × Spells quote items inside × (text ≡ mark quote ∷ (inside ++ mark quote ∷ []))

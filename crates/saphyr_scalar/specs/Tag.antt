@@ -38,7 +38,8 @@ utf8_width b =
 
 -- what the first byte says of the character
 unfoldable pub leading_bits : ℕ → ℕ
-leading_bits b = if nat_lt b 0xC0 then b else if nat_lt b 0xE0 then b - 0xC0 else if nat_lt b 0xF0 then b - 0xE0 else b - 0xF0
+leading_bits b = if nat_lt b 0xC0 then b else if nat_lt b 0xE0 then b - 0xC0 else if nat_lt b 0xF0 then b - 0xE0 else b
+    - 0xF0
 
 abbrev pub is_trailing : ℕ → Bool
 is_trailing b = nat_le 0x80 b && nat_lt b 0xC0
@@ -46,7 +47,8 @@ is_trailing b = nat_le 0x80 b && nat_lt b 0xC0
 -- one byte behind those that say v
 unfoldable pub trailing_byte : Marker → ℕ → Cursor → Result (ℕ × Cursor) Refusal
 trailing_byte start v s =
-    escaped_byte start s >>= λ b. if is_trailing b.0 then Ok (v * 64 + (b.0 - 0x80), b.1) else refuse fault.TagEscapeTrailingByte start
+    escaped_byte start s >>= λ b. if is_trailing b.0 then Ok (v * 64 + (b.0 - 0x80), b.1) else refuse
+    fault.TagEscapeTrailingByte start
 
 -- n bytes behind those that say v
 unfoldable pub trailing_bytes : Marker → ℕ → ℕ → Cursor → Result (ℕ × Cursor) Refusal
@@ -82,7 +84,8 @@ uri_tail xs = if slice_index xs 0 == 37 then 3 * utf8_width (byte_value xs) - 1 
 unfoldable pub decoded : UriSet → Marker → ℕ → Marker → List ℕ → Result (List ℕ × Cursor) Refusal
 decoded set start k m [] = Ok ([], at (along m k) [])
 decoded set start zero m (c ∷ cs) =
-    if has set c then (uri_character start (at m (c ∷ cs)) >>= λ x. with_front (encode_utf8 x.0) (decoded set start (uri_tail (c ∷ cs)) (along m 1) cs))
+    if has set c then (uri_character start (at m (c ∷ cs)) >>= λ x. with_front (encode_utf8 x.0)
+    (decoded set start (uri_tail (c ∷ cs)) (along m 1) cs))
     else Ok ([], at m (c ∷ cs))
 decoded set start (suc k) m (c ∷ cs) = decoded set start k (along m 1) cs
 
@@ -95,7 +98,8 @@ Parts = List ℕ × List ℕ × Cursor
 
 -- `!<uri>`: the uri is the suffix
 unfoldable pub verbatim_end : Marker → List ℕ × Cursor → Result Parts Refusal
-verbatim_end start x = if slice_index x.1.rest 0 == 62 then Ok ([], x.0, pass 1 x.1) else refuse fault.VerbatimTagEndExpected start
+verbatim_end start x = if slice_index x.1.rest 0 == 62 then Ok ([], x.0, pass 1 x.1) else refuse
+    fault.VerbatimTagEndExpected start
 
 unfoldable pub verbatim : Cursor → Result Parts Refusal
 verbatim s = decoded_at Uri s.mark (pass 2 s) >>= λ x. verbatim_end s.mark x

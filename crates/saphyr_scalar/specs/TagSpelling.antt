@@ -22,21 +22,25 @@ percent = 37
 
 -- a byte as `%` and two hexadecimal digits
 abbrev pub IsByteEscape : ℕ → List ℕ → Type 0
-IsByteEscape byte t = (high low : ℕ) × IsHex high × IsHex low × (byte ≡ hex_value high * 16 + hex_value low) × (t ≡ percent ∷ high ∷ low ∷ [])
+IsByteEscape byte t = (high low : ℕ) × IsHex high × IsHex low × (byte ≡ hex_value high * 16 + hex_value low)
+    × (t ≡ percent ∷ high ∷ low ∷ [])
 
 abbrev pub AreByteEscapes : List ℕ → List ℕ → Type 0
 AreByteEscapes [] t = t ≡ []
-AreByteEscapes (byte ∷ others) t = (escape more : List ℕ) × IsByteEscape byte escape × AreByteEscapes others more × (t ≡ escape ++ more)
+AreByteEscapes (byte ∷ others) t =
+    (escape more : List ℕ) × IsByteEscape byte escape × AreByteEscapes others more × (t ≡ escape ++ more)
 
 -- A character of the set: itself, or its bytes in UTF-8, each escaped. So no overlong form stands for a character, and
 -- no escapes stand for a surrogate or for a number past U+10FFFF.
 abbrev pub IsCharacter : (ℕ → Bool) → ℕ → List ℕ → Type 0
-IsCharacter set c t = (IsTrue (set c) × (c ≢ percent) × (t ≡ c ∷ [])) ⊎ (IsScalarValue c × AreByteEscapes (encode_utf8 c) t)
+IsCharacter set c t = (IsTrue (set c) × (c ≢ percent) × (t ≡ c ∷ []))
+    ⊎ (IsScalarValue c × AreByteEscapes (encode_utf8 c) t)
 
 -- characters of the set and percent escapes, which stand for the decoded characters
 abbrev pub IsDecoded : (ℕ → Bool) → List ℕ → List ℕ → Type 0
 IsDecoded set [] t = t ≡ []
-IsDecoded set (c ∷ others) t = (character more : List ℕ) × IsCharacter set c character × IsDecoded set others more × (t ≡ character ++ more)
+IsDecoded set (c ∷ others) t =
+    (character more : List ℕ) × IsCharacter set c character × IsDecoded set others more × (t ≡ character ++ more)
 
 -- 6.8.2.1: a handle as it is written, `!!` and `!word!`, or `!`
 abbrev pub IsNamedHandle : List ℕ → Type 0
@@ -50,13 +54,16 @@ abbrev pub IsNonSpecificTag : List ℕ → List ℕ → List ℕ → Type 0
 IsNonSpecificTag t handle suffix = (t ≡ codes "!") × (handle ≡ []) × (suffix ≡ codes "!")
 
 abbrev pub IsVerbatimTag : List ℕ → List ℕ → List ℕ → Type 0
-IsVerbatimTag t handle suffix = (inside : List ℕ) × IsDecoded is_uri_char suffix inside × (handle ≡ []) × (t ≡ codes "!<" ++ (inside ++ codes ">"))
+IsVerbatimTag t handle suffix =
+    (inside : List ℕ) × IsDecoded is_uri_char suffix inside × (handle ≡ []) × (t ≡ codes "!<" ++ (inside ++ codes ">"))
 
 abbrev pub IsShorthandTag : List ℕ → List ℕ → List ℕ → Type 0
-IsShorthandTag t handle suffix = (back : List ℕ) × IsHandleText handle × (suffix ≢ []) × IsDecoded is_tag_char suffix back × (t ≡ handle ++ back)
+IsShorthandTag t handle suffix =
+    (back : List ℕ) × IsHandleText handle × (suffix ≢ []) × IsDecoded is_tag_char suffix back × (t ≡ handle ++ back)
 
 abbrev pub IsTagText : List ℕ → List ℕ → List ℕ → Type 0
-IsTagText t handle suffix = IsNonSpecificTag t handle suffix ⊎ (IsVerbatimTag t handle suffix ⊎ IsShorthandTag t handle suffix)
+IsTagText t handle suffix =
+    IsNonSpecificTag t handle suffix ⊎ (IsVerbatimTag t handle suffix ⊎ IsShorthandTag t handle suffix)
 
 -- what may stand behind a tag: a blank, a break, NUL or the end, and in flow a flow indicator
 abbrev pub EndsTag : Bool → List ℕ → Type 0
@@ -65,4 +72,6 @@ EndsTag in_flow x = IsTrue (is_blank_or_breakz (slice_index x 0) || (in_flow && 
 -- 6.8.2.2: a prefix begins with `!` or a character of tags
 abbrev pub IsPrefix : List ℕ → List ℕ → Type 0
 IsPrefix [] t = ⊥
-IsPrefix (c ∷ others) t = (first more : List ℕ) × IsCharacter (λ x. is_tag_char x || (x == 33)) c first × IsDecoded is_uri_char others more × (t ≡ first ++ more)
+IsPrefix (c ∷ others) t =
+    (first more : List ℕ) × IsCharacter (λ x. is_tag_char x || (x == 33)) c first × IsDecoded is_uri_char others more
+    × (t ≡ first ++ more)

@@ -31,6 +31,10 @@ pub back_in : (set : ℕ → Bool) (a b : List ℕ) → AreIn set (a ++ b) → A
 back_in set [] b h = h
 back_in set (c ∷ cs) b (h, hs) = back_in set cs b hs
 
+pub both_in : (set : ℕ → Bool) (a b : List ℕ) → AreIn set a → AreIn set b → AreIn set (a ++ b)
+both_in set [] b h k = k
+both_in set (c ∷ cs) b h k = (h.0, both_in set cs b h.1 k)
+
 pub behind_in : (set : ℕ → Bool) (t a b : List ℕ) → t ≡ a ++ b → AreIn set t → AreIn set b
 behind_in set t a b e h = back_in set a b (subst (λ (u : List ℕ). AreIn set u) e h)
 
@@ -65,7 +69,8 @@ filler_line t (text, h, e) = with_break text t e (filler_text text h)
 
 lines : (pieces : List (List ℕ)) → AreEach IsFillerLine pieces → (joined pieces ≡ []) ⊎ Begins IsFirst (joined pieces)
 lines [] h = inl refl
-lines (line ∷ others) (h, hs) = inr (front_of IsFirst line (joined others) (line ++ joined others) (filler_line line h) refl)
+lines (line ∷ others) (h, hs) =
+    inr (front_of IsFirst line (joined others) (line ++ joined others) (filler_line line h) refl)
 
 along : (a b : List ℕ) → a ≡ b → (b ≡ []) ⊎ Begins IsFirst b → (a ≡ []) ⊎ Begins IsFirst a
 along a b e h = rw e h

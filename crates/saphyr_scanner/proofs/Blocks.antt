@@ -1,12 +1,13 @@
 -- No block collection ends where the innermost does not.
 use Rattle.std.proofs.Common.{◌≡◌, ℕ, false, List, [], ◌∷◌, Option, Some, None, refl, ◌∙◌}
 use Rattle.saphyr_scalar.specs.declared.scalar.position.Marker.{Marker}
-use Rattle.saphyr_scanner.specs.State.{State}
-use Rattle.saphyr_scanner.specs.Core.{Core, in_block}
-use Rattle.saphyr_scanner.specs.Unrolling.{end_blocks, end_block, is_right_of, outwards, less_deep, unroll}
-use Rattle.saphyr_scanner.proofs.Sizes.{by_test}
+use Rattle.saphyr_scanner.specs.Steps.State.{State}
+use Rattle.saphyr_scanner.specs.Steps.Core.{Core, in_block}
+use Rattle.saphyr_scanner.specs.Steps.Unrolling.{end_blocks, end_block, is_right_of, outwards, less_deep, unroll}
+use Rattle.saphyr_input.proofs.Basics.Booleans.{by_test}
 
-pub none_ends : (column : Option ℕ) (m : Marker) (is : List ℕ) (s : State) → is_right_of column s.core.indent ≡ false → end_blocks column m is s ≡ s
+pub none_ends : (column : Option ℕ) (m : Marker) (is : List ℕ) (s : State) → is_right_of column s.core.indent ≡ false
+    → end_blocks column m is s ≡ s
 none_ends column m [] s e = rw e refl
 none_ends column m (i ∷ is) s e = rw e refl
 
@@ -18,10 +19,14 @@ outwards_cursor (i ∷ is) c = refl
 pub block_cursor : (m : Marker) (s : State) → (end_block m s).core.cursor ≡ s.core.cursor
 block_cursor m s = outwards_cursor s.core.outer_indents s.core
 
-blocks_cursor : (column : Option ℕ) (m : Marker) (is : List ℕ) (s : State) → (end_blocks column m is s).core.cursor ≡ s.core.cursor
-blocks_cursor column m [] s = by_test (is_right_of column s.core.indent) _ _ (λ (t : State). t.core.cursor ≡ s.core.cursor) (λ _. block_cursor m s) (λ _. refl)
+blocks_cursor : (column : Option ℕ) (m : Marker) (is : List ℕ) (s : State)
+    → (end_blocks column m is s).core.cursor ≡ s.core.cursor
+blocks_cursor column m [] s =
+    by_test (is_right_of column s.core.indent) _ _ (λ (t : State). t.core.cursor ≡ s.core.cursor)
+    (λ _. block_cursor m s) (λ _. refl)
 blocks_cursor column m (i ∷ is) s =
-    by_test (is_right_of column s.core.indent) _ _ (λ (t : State). t.core.cursor ≡ s.core.cursor) (λ _. blocks_cursor column m is (end_block m s) ∙ block_cursor m s) (λ _. refl)
+    by_test (is_right_of column s.core.indent) _ _ (λ (t : State). t.core.cursor ≡ s.core.cursor)
+    (λ _. blocks_cursor column m is (end_block m s) ∙ block_cursor m s) (λ _. refl)
 
 pub less_deep_cursor : (column : Option ℕ) (c : Core) → (less_deep column c).cursor ≡ c.cursor
 less_deep_cursor None c = refl
@@ -30,4 +35,5 @@ less_deep_cursor (Some column) c = refl
 pub unrolled_cursor : (column : Option ℕ) (m : Marker) (s : State) → (unroll column m s).core.cursor ≡ s.core.cursor
 unfolding unroll
 unrolled_cursor column m s =
-    by_test (in_block s.core) _ _ (λ (t : State). t.core.cursor ≡ s.core.cursor) (λ _. blocks_cursor column m s.core.outer_indents _ ∙ less_deep_cursor column s.core) (λ _. refl)
+    by_test (in_block s.core) _ _ (λ (t : State). t.core.cursor ≡ s.core.cursor)
+    (λ _. blocks_cursor column m s.core.outer_indents _ ∙ less_deep_cursor column s.core) (λ _. refl)

@@ -11,9 +11,11 @@ use Rattle.saphyr_scalar.specs.declared.scalar.fault.Refusal.{Refusal}
 use Rattle.saphyr_scalar.specs.Cursor.{Cursor, along, next_line, pass_blanks, pass_line, pass_break, separation, behind_separation}
 use Rattle.saphyr_scalar.specs.Passing.{IsPassed, nothing, character, line_break}
 use Rattle.saphyr_scalar.specs.Quoted.{break_len}
-use Rattle.saphyr_scalar.proofs.Lengths.{shown, two_shown, separation_within}
-use Rattle.saphyr_scanner.specs.Gap.{gap, comment, stop, Passed, is_tab_indentation, Spaced, spaces, line_comment}
-use Rattle.saphyr_scanner.proofs.Sizes.{by_test, Given}
+use Rattle.saphyr_scalar.proofs.Lengths.{two_shown, separation_within}
+use Rattle.saphyr_scanner.specs.Steps.Gap.{gap, comment, stop, Passed, is_tab_indentation, Spaced, spaces, line_comment}
+use Rattle.saphyr_input.proofs.Basics.Lists.{shown}
+use Rattle.saphyr_input.proofs.Basics.Booleans.{by_test}
+use Rattle.saphyr_scalar.proofs.Given.{Given}
 
 -- t stands at the place of s or behind it, and each character between them is counted
 pub record Ahead (s t : Cursor) : Type 0 where
@@ -21,20 +23,27 @@ pub record Ahead (s t : Cursor) : Type 0 where
   pub counted : t.mark.index + length t.rest ≡ s.mark.index + length s.rest
 
 pub stays : (s t : Cursor) → t ≡ s → Ahead s t
-stays s t e = let P : Cursor → Type 0 = λ u. Ahead s u in subst P (sym e) (record { later = omega arith; counted = refl })
+stays s t e = let P : Cursor → Type 0 =
+    λ u. Ahead s u in subst P (sym e) (record { later = omega arith; counted = refl })
 
 pub ahead_ahead : (s t u : Cursor) → Ahead s t → Ahead t u → Ahead s u
-ahead_ahead s t u a b = record { later = omega (arith, a.later, b.later); counted = omega (arith, a.counted, b.counted) }
+ahead_ahead s t u a b = record {
+  later =
+      omega (arith, a.later, b.later);
+  counted = omega (arith, a.counted, b.counted);
+}
 
 -- n characters that stand there are passed
-pub taken_off : (s t : Cursor) (n : ℕ) → t.mark.index ≡ s.mark.index + n → t.rest ≡ drop n s.rest → n ≤ length s.rest → Ahead s t
+pub taken_off : (s t : Cursor) (n : ℕ) → t.mark.index ≡ s.mark.index + n → t.rest ≡ drop n s.rest → n ≤ length s.rest
+    → Ahead s t
 taken_off s t n i r h =
     let l = length-drop n s.rest in
     let k : length t.rest ≡ length (drop n s.rest) = ap length r in
     record { later = omega arith; counted = omega (arith, l, k) }
 
 -- a text is passed
-pub text_passed : (s t : Cursor) (text : List ℕ) → s.rest ≡ text ++ t.rest → t.mark.index ≡ s.mark.index + length text → Ahead s t
+pub text_passed : (s t : Cursor) (text : List ℕ) → s.rest ≡ text ++ t.rest → t.mark.index ≡ s.mark.index + length text
+    → Ahead s t
 text_passed s t text r i =
     let l = length-append text t.rest in
     let k : length s.rest ≡ length (text ++ t.rest) = ap length r in
@@ -43,13 +52,16 @@ text_passed s t text r i =
 -- ## Breaks
 
 break_within : (t : List ℕ) → is_break (slice_index t 0) ≡ true → break_len t ≤ length t
-break_within t e = by_test (next_2_are t 13 10) 2 1 (λ n. n ≤ length t) (two_shown t) (λ _. shown t is_break true e (λ k. absurd (cc)))
+break_within t e = by_test (next_2_are t 13 10) 2 1 (λ n. n ≤ length t) (two_shown t)
+    (λ _. shown t is_break true e (λ k. absurd (cc)))
 
 -- the break that stands first is passed, if one does
 pub pass_break_counted : (s : Cursor) → Ahead s (pass_break s)
 pass_break_counted s =
     by_test (next_2_are s.rest 13 10) _ _ (Ahead s) (λ e. taken_off s (pass_line 2 s) 2 refl refl (two_shown s.rest e))
-    (λ _. by_test (is_break (slice_index s.rest 0)) _ _ (Ahead s) (λ e. taken_off s (pass_line 1 s) 1 refl refl (shown s.rest is_break true e (λ k. absurd (cc)))) (λ _. stays s s refl))
+    (λ _. by_test (is_break (slice_index s.rest 0)) _ _ (Ahead s)
+    (λ e. taken_off s (pass_line 1 s) 1 refl refl (shown s.rest is_break true e (λ k. absurd (cc))))
+    (λ _. stays s s refl))
 
 -- ## From a place to another
 
@@ -58,7 +70,8 @@ At low n m t = (low ≤ m.index) × (m.index + length t ≡ n)
 
 passed_at : (m : Marker) (t : List ℕ) (k : Marker) (u : List ℕ) → IsPassed m t k u → At m.index (m.index + length t) k u
 passed_at _ _ _ _ (nothing m t) = (omega arith, refl)
-passed_at _ _ _ _ (character m c t k u h p) = let q = passed_at (along m 1) t k u p in (omega (arith, q.0), omega (arith, q.1))
+passed_at _ _ _ _ (character m c t k u h p) =
+    let q = passed_at (along m 1) t k u p in (omega (arith, q.0), omega (arith, q.1))
 passed_at _ _ _ _ (line_break m t k u h p) =
     let q = passed_at (next_line m (break_len t)) (drop (break_len t) t) k u p in
     let l = length-drop (break_len t) t in
@@ -70,7 +83,8 @@ passed_over s t p = let q = passed_at s.mark s.rest t.mark t.rest p in record { 
 
 -- ## What stands between two tokens
 
-pub separation_counted : (tabs : SkipTabs) (s : Cursor) → Given (λ (x : SkipTabs × Cursor). Ahead s x.1) (separation tabs s)
+pub separation_counted : (tabs : SkipTabs) (s : Cursor)
+    → Given (λ (x : SkipTabs × Cursor). Ahead s x.1) (separation tabs s)
 unfolding separation behind_separation
 separation_counted tabs s =
     let P : SkipTabs × Cursor → Type 0 = λ x. Ahead s x.1 in
@@ -82,31 +96,43 @@ separation_counted tabs s =
 abbrev PassedAt : ℕ → ℕ → Passed → Type 0
 PassedAt low n p = At low n p.cursor.mark p.cursor.rest
 
-stop_at : (low n : ℕ) (m : Marker) (blank broke tabbed : Bool) (t : List ℕ) → At low n m t → Given (PassedAt low n) (stop m blank broke tabbed t)
+stop_at : (low n : ℕ) (m : Marker) (blank broke tabbed : Bool) (t : List ℕ) → At low n m t
+    → Given (PassedAt low n) (stop m blank broke tabbed t)
 unfolding stop
 stop_at low n m blank broke tabbed t h =
     by_test (tabbed && is_bom (slice_index t 0)) _ _ (Given (PassedAt low n)) (λ _. tt)
     (λ _. by_test (tabbed && not (is_z (slice_index t 0))) _ _ (Given (PassedAt low n)) (λ _. tt) (λ _. h))
 
-gap_at : (low n l : ℕ) (t : List ℕ) (m : Marker) (blank broke tabbed : Bool) → At low n m t → Given (PassedAt low n) (gap l m blank broke tabbed t) × Given (PassedAt low n) (comment l m blank broke tabbed t)
-gap_at low n l [] m blank broke tabbed h = (stop_at low n m blank broke tabbed [] h, stop_at low n m blank broke tabbed [] h)
+gap_at : (low n l : ℕ) (t : List ℕ) (m : Marker) (blank broke tabbed : Bool) → At low n m t
+    → Given (PassedAt low n) (gap l m blank broke tabbed t) × Given (PassedAt low n) (comment l m blank broke tabbed t)
+gap_at low n l [] m blank broke tabbed h =
+    (stop_at low n m blank broke tabbed [] h, stop_at low n m blank broke tabbed [] h)
 gap_at low n l (c ∷ cs) m blank broke tabbed h =
     let P = Given (PassedAt low n) in
     let k : At low n (along m 1) cs = (omega (arith, h.0), omega (arith, h.1)) in
     let line : P (gap l (next_line m 1) true true false cs) = (gap_at low n l cs (next_line m 1) true true false k).0 in
-    let further : (b : Bool) → P (gap l (along m 1) blank broke b cs) = λ b. (gap_at low n l cs (along m 1) blank broke b k).0 in
-    let inside : P (comment l (along m 1) blank broke tabbed cs) = (gap_at low n l cs (along m 1) blank broke tabbed k).1 in
+    let further : (b : Bool) → P (gap l (along m 1) blank broke b cs) =
+    λ b. (gap_at low n l cs (along m 1) blank broke b k).0 in
+    let inside : P (comment l (along m 1) blank broke tabbed cs) =
+    (gap_at low n l cs (along m 1) blank broke tabbed k).1 in
     let here : P (stop m blank broke tabbed (c ∷ cs)) = stop_at low n m blank broke tabbed (c ∷ cs) h in (
-      by_test (is_blank c || ((c == 13) && (slice_index cs 0 == 10))) _ _ P (λ _. further (is_tab_indentation l m blank c || tabbed))
+      by_test (is_blank c || ((c == 13) && (slice_index cs 0 == 10))) _ _ P
+          (λ _. further (is_tab_indentation l m blank c || tabbed))
           (λ _. by_test (is_break c) _ _ P (λ _. line) (λ _. by_test (c == 35) _ _ P (λ _. inside) (λ _. here))),
       by_test (is_yaml_non_break c) _ _ P (λ _. inside)
-          (λ _. by_test ((c == 13) && (slice_index cs 0 == 10)) _ _ P (λ _. further tabbed) (λ _. by_test (is_break c) _ _ P (λ _. line) (λ _. here))),
+          (λ _. by_test ((c == 13) && (slice_index cs 0 == 10)) _ _ P (λ _. further tabbed)
+          (λ _. by_test (is_break c) _ _ P (λ _. line) (λ _. here))),
     )
 
-pub gap_counted : (l : ℕ) (broke tabbed : Bool) (s : Cursor) → Given (λ (p : Passed). Ahead s p.cursor) (gap l s.mark s.blank_so_far broke tabbed s.rest)
-gap_counted l broke tabbed s = ahead_of (gap l s.mark s.blank_so_far broke tabbed s.rest) (gap_at s.mark.index (s.mark.index + length s.rest) l s.rest s.mark s.blank_so_far broke tabbed (omega arith, refl)).0
+pub gap_counted : (l : ℕ) (broke tabbed : Bool) (s : Cursor)
+    → Given (λ (p : Passed). Ahead s p.cursor) (gap l s.mark s.blank_so_far broke tabbed s.rest)
+gap_counted l broke tabbed s =
+    ahead_of (gap l s.mark s.blank_so_far broke tabbed s.rest)
+    (gap_at s.mark.index (s.mark.index + length s.rest) l s.rest s.mark s.blank_so_far broke tabbed
+    (omega arith, refl)).0
   where
-    ahead_of : (r : Result Passed Refusal) → Given (PassedAt s.mark.index (s.mark.index + length s.rest)) r → Given (λ (p : Passed). Ahead s p.cursor) r
+    ahead_of : (r : Result Passed Refusal) → Given (PassedAt s.mark.index (s.mark.index + length s.rest)) r
+        → Given (λ (p : Passed). Ahead s p.cursor) r
     ahead_of (Ok p) h = record { later = h.0; counted = h.1 }
     ahead_of (Err e) h = tt
 
@@ -115,7 +141,8 @@ gap_counted l broke tabbed s = ahead_of (gap l s.mark s.blank_so_far broke tabbe
 abbrev SpacedAt : ℕ → ℕ → Spaced → Type 0
 SpacedAt low n r = At low n r.cursor.mark r.cursor.rest
 
-spaces_at : (low n : ℕ) (t : List ℕ) (m : Marker) (blank space : Bool) → At low n m t → SpacedAt low n (spaces m blank space t) × SpacedAt low n (line_comment m blank space t)
+spaces_at : (low n : ℕ) (t : List ℕ) (m : Marker) (blank space : Bool) → At low n m t
+    → SpacedAt low n (spaces m blank space t) × SpacedAt low n (line_comment m blank space t)
 spaces_at low n [] m blank space h = (h, h)
 spaces_at low n (c ∷ cs) m blank space h =
     let P = SpacedAt low n in
@@ -126,10 +153,12 @@ spaces_at low n (c ∷ cs) m blank space h =
       by_test ((c == 32) || ((c == 13) && (slice_index cs 0 == 10))) _ _ P (λ _. further)
           (λ _. by_test (is_break c) _ _ P (λ _. line) (λ _. by_test (c == 35) _ _ P (λ _. inside) (λ _. h))),
       by_test (is_yaml_non_break c) _ _ P (λ _. inside)
-          (λ _. by_test ((c == 13) && (slice_index cs 0 == 10)) _ _ P (λ _. further) (λ _. by_test (is_break c) _ _ P (λ _. line) (λ _. h))),
+          (λ _. by_test ((c == 13) && (slice_index cs 0 == 10)) _ _ P (λ _. further)
+          (λ _. by_test (is_break c) _ _ P (λ _. line) (λ _. h))),
     )
 
 pub spaces_counted : (space : Bool) (s : Cursor) → Ahead s (spaces s.mark s.blank_so_far space s.rest).cursor
 spaces_counted space s =
-    let h = (spaces_at s.mark.index (s.mark.index + length s.rest) s.rest s.mark s.blank_so_far space (omega arith, refl)).0 in
+    let h = (spaces_at s.mark.index (s.mark.index + length s.rest) s.rest s.mark s.blank_so_far space
+    (omega arith, refl)).0 in
     record { later = h.0; counted = h.1 }

@@ -3,12 +3,13 @@ use Rattle.std.proofs.Common.{◌≡◌, ℕ, zero, suc, ◌<◌, Bool, true, fa
 use Rattle.std.specs.Prelude.{◌&&◌, not}
 use Rattle.saphyr_scalar.specs.declared.scalar.fault.Refusal.{Refusal}
 use Rattle.saphyr_scalar.specs.Cursor.{◌>>=◌}
-use Rattle.saphyr_scanner.specs.Core.{Core, in_block, is_too_far, drop_far_key, forget_key}
-use Rattle.saphyr_scanner.specs.State.{State, carried}
-use Rattle.saphyr_scanner.specs.Fetch.{size, fetch_within, settled, needs_token, is_ready, fill_in, fill}
-use Rattle.saphyr_scanner.proofs.Sizes.{by_test, given_of}
-use Rattle.saphyr_scanner.proofs.TakingScalars.{Readers}
-use Rattle.saphyr_scanner.proofs.FetchSizes.{read_smaller}
+use Rattle.saphyr_scanner.specs.Steps.Core.{Core, in_block, is_too_far, drop_far_key, forget_key}
+use Rattle.saphyr_scanner.specs.Steps.State.{State, carried}
+use Rattle.saphyr_scanner.specs.Steps.Fetch.{size, fetch_within, settled, needs_token, is_ready, fill_in, fill}
+use Rattle.saphyr_scanner.proofs.Sizes.Scalars.{Readers}
+use Rattle.saphyr_scanner.proofs.Sizes.Fetch.{read_smaller}
+use Rattle.saphyr_input.proofs.Basics.Booleans.{by_test, neither_parts}
+use Rattle.saphyr_scalar.proofs.Given.{given_of, bind_ok}
 
 pub going : (ended b : Bool) → (not ended && b) ≡ true → ended ≡ false
 going true b e = sym e
@@ -21,27 +22,36 @@ read limit s = fetch_within limit s >>= settled
 pub read_is : (limit : ℕ) (s t u : State) → fetch_within limit s ≡ Ok t → settled t ≡ Ok u → read limit s ≡ Ok u
 read_is limit s t u e f = rw e f
 
-pub smaller_read : Readers → (limit : ℕ) (s u : State) → needs_token s ≡ true → read limit s ≡ Ok u → size u.core < size s.core
+pub smaller_read : Readers → (limit : ℕ) (s u : State) → needs_token s ≡ true → read limit s ≡ Ok u
+    → size u.core < size s.core
 smaller_read laws limit s u needs e =
-    given_of (λ (t : State). size t.core < size s.core) (read limit s) u (read_smaller laws limit s (going s.core.ended _ needs)) e
+    given_of (λ (t : State). size t.core < size s.core) (read limit s) u
+    (read_smaller laws limit s (going s.core.ended _ needs)) e
 
-pub same_bind : {X Y : Type 0} → (r : Result X Refusal) (f g : X → Result Y Refusal) → ((x : X) → r ≡ Ok x → f x ≡ g x) → (r >>= f) ≡ (r >>= g)
+pub same_bind : {X Y : Type 0} → (r : Result X Refusal) (f g : X → Result Y Refusal) → ((x : X) → r ≡ Ok x → f x ≡ g x)
+    → (r >>= f) ≡ (r >>= g)
 same_bind (Ok x) f g h = h x refl
 same_bind (Err e) f g h = refl
 
-pub enough : Readers → (limit n m : ℕ) (s : State) → size s.core < n → size s.core < m → fill_in n limit s ≡ fill_in m limit s
+pub enough : Readers → (limit n m : ℕ) (s : State) → size s.core < n → size s.core < m
+    → fill_in n limit s ≡ fill_in m limit s
 enough laws limit zero m s a b = absurd (omega (arith, a))
 enough laws limit (suc n) zero s a b = absurd (omega (arith, b))
-enough laws limit (suc n) (suc m) s a b = go (needs_token s) refl (λ u less. enough laws limit n m u (omega (arith, less, a)) (omega (arith, less, b)))
+enough laws limit (suc n) (suc m) s a b =
+    go (needs_token s) refl (λ u less. enough laws limit n m u (omega (arith, less, a)) (omega (arith, less, b)))
   where
-    go : (t : Bool) → needs_token s ≡ t → ((u : State) → size u.core < size s.core → fill_in n limit u ≡ fill_in m limit u) → fill_in (suc n) limit s ≡ fill_in (suc m) limit s
+    go : (t : Bool) → needs_token s ≡ t
+        → ((u : State) → size u.core < size s.core → fill_in n limit u ≡ fill_in m limit u)
+        → fill_in (suc n) limit s ≡ fill_in (suc m) limit s
     go true e h =
-        let step : (read limit s >>= fill_in n limit) ≡ (read limit s >>= fill_in m limit) = same_bind (read limit s) _ _ (λ u q. h u (smaller_read laws limit s u e q)) in
+        let step : (read limit s >>= fill_in n limit) ≡ (read limit s >>= fill_in m limit) =
+        same_bind (read limit s) _ _ (λ u q. h u (smaller_read laws limit s u e q)) in
         rw e step
     go false e h = rw e refl
 
 -- one token more
-pub one_more : Readers → (limit : ℕ) (s u : State) → needs_token s ≡ true → read limit s ≡ Ok u → fill_in (suc (size u.core)) limit u ≡ fill_in (suc (size s.core)) limit s
+pub one_more : Readers → (limit : ℕ) (s u : State) → needs_token s ≡ true → read limit s ≡ Ok u
+    → fill_in (suc (size u.core)) limit u ≡ fill_in (suc (size s.core)) limit s
 one_more laws limit s u needs e =
     let less = smaller_read laws limit s u needs e in
     let unfolded : fill_in (suc (size s.core)) limit s ≡ fill_in (size s.core) limit u = rw (needs, e) refl in
@@ -72,25 +82,21 @@ carried_core (Err f) s t e = absurd (cc)
 pub settled_once : (s t : State) → settled s ≡ Ok t → IsSettled t
 settled_once s t e = not_twice s.core t.core (carried_core (drop_far_key s.core) s t e)
 
-pub bind_ok : {X Y : Type 0} → (r : Result X Refusal) (f : X → Result Y Refusal) (y : Y) → (r >>= f) ≡ Ok y → (x : X) × (r ≡ Ok x) × (f x ≡ Ok y)
-bind_ok (Ok x) f y e = (x, refl, e)
-bind_ok (Err d) f y e = absurd (cc)
-
 pub read_settles : (limit : ℕ) (s u : State) → read limit s ≡ Ok u → IsSettled u
 read_settles limit s u e = let b = bind_ok (fetch_within limit s) settled u e in settled_once b.0 u b.2
 
-pub less_read : Readers → (limit : ℕ) (s u : State) → s.core.ended ≡ false → read limit s ≡ Ok u → size u.core < size s.core
-less_read laws limit s u over e = given_of (λ (t : State). size t.core < size s.core) (read limit s) u (read_smaller laws limit s over) e
+pub less_read : Readers → (limit : ℕ) (s u : State) → s.core.ended ≡ false → read limit s ≡ Ok u
+    → size u.core < size s.core
+less_read laws limit s u over e =
+    given_of (λ (t : State). size t.core < size s.core) (read limit s) u (read_smaller laws limit s over) e
 
-ready : (limit : ℕ) (s : State) → (in_block s.core && is_too_far s.core.level.key s.core.cursor.mark) ≡ false → needs_token s ≡ false → fill limit s ≡ Ok s
+ready : (limit : ℕ) (s : State) → (in_block s.core && is_too_far s.core.level.key s.core.cursor.mark) ≡ false
+    → needs_token s ≡ false → fill limit s ≡ Ok s
 unfolding fill drop_far_key
 ready limit s a b = rw (a, b) refl
 
-both : (a b : Bool) → (not a && not b) ≡ true → (a ≡ false) × (b ≡ false)
-both false false e = (refl, refl)
-both false true e = absurd cc
-both true b e = absurd cc
-
 -- nothing is read where the head of the queue can be handed out
 pub ready_as_is : (limit : ℕ) (s : State) → is_ready s ≡ true → fill limit s ≡ Ok s
-ready_as_is limit s e = let x = both (in_block s.core && is_too_far s.core.level.key s.core.cursor.mark) (needs_token s) e in ready limit s x.0 x.1
+ready_as_is limit s e = let x =
+    neither_parts (in_block s.core && is_too_far s.core.level.key s.core.cursor.mark) (needs_token s) e in
+    ready limit s x.0 x.1

@@ -6,20 +6,20 @@ use Rattle.saphyr_scalar.specs.declared.scalar.position.Marker.{Marker}
 use Rattle.saphyr_scalar.specs.declared.scalar.fault.Refusal.{Refusal}
 use Rattle.saphyr_scalar.specs.Cursor.{along, next_line}
 use Rattle.saphyr_scalar.proofs.NoBreaks.{class_no_break}
-use Rattle.saphyr_scalar.proofs.TagsSpelled.{is_number}
-use Rattle.saphyr_scanner.specs.Gap.{gap, comment, stop, Passed, is_tab_indentation}
+use Rattle.saphyr_scanner.specs.Steps.Gap.{gap, comment, stop, Passed, is_tab_indentation}
 use Rattle.saphyr_scanner.specs.TokensTaken as taken
 use Rattle.saphyr_scanner.specs.TokensTaken.{IsReached}
 use Rattle.saphyr_scanner.proofs.Reached.{single, double}
-use Rattle.saphyr_scanner.proofs.Separated.{either, right_not, both_of}
-use Rattle.saphyr_scanner.proofs.Sizes.{by_test}
+use Rattle.std.proofs.lemmas.Bool.{eqb-true, and_parts, or_cases}
+use Rattle.saphyr_input.proofs.Basics.Booleans.{by_test, or_false_right}
 
 -- a refusal, if there is one, stands at a place on the way from m
 abbrev pub Refused : Marker → List ℕ → Result Passed Refusal → Type 0
 Refused m t (Ok p) = Unit {0}
 Refused m t (Err e) = (u : List ℕ) × IsReached m t e.mark u
 
-refused_map : (m : Marker) (t : List ℕ) (n : Marker) (u : List ℕ) (r : Result Passed Refusal) → ((k : Marker) (v : List ℕ) → IsReached n u k v → IsReached m t k v) → Refused n u r → Refused m t r
+refused_map : (m : Marker) (t : List ℕ) (n : Marker) (u : List ℕ) (r : Result Passed Refusal)
+    → ((k : Marker) (v : List ℕ) → IsReached n u k v → IsReached m t k v) → Refused n u r → Refused m t r
 refused_map m t n u (Ok p) f h = tt
 refused_map m t n u (Err e) f h = (h.0, f e.mark h.0 h.1)
 
@@ -33,7 +33,8 @@ stop_refused m blank broke tabbed t =
 record Places (l : ℕ) (t : List ℕ) (m : Marker) (blank broke tabbed : Bool) : Type 0 where
   between : Refused m t (gap l m blank broke tabbed t)
   inside : Refused m t (comment l m blank broke tabbed t)
-  behind_return : (slice_index t 0 == 10) ≡ true → (k : Marker) → m ≡ along k 1 → Refused k (13 ∷ t) (gap l m blank broke tabbed t)
+  behind_return : (slice_index t 0 == 10) ≡ true → (k : Marker) → m ≡ along k 1
+      → Refused k (13 ∷ t) (gap l m blank broke tabbed t)
 
 all_places : (l : ℕ) (t : List ℕ) (m : Marker) (blank broke tabbed : Bool) → Places l t m blank broke tabbed
 all_places l [] m blank broke tabbed =
@@ -45,38 +46,50 @@ all_places l [] m blank broke tabbed =
 all_places l (c ∷ cs) m blank broke tabbed =
     let P : Result Passed Refusal → Type 0 = Refused m (c ∷ cs) in
     let indented = is_tab_indentation l m blank c || tabbed in
-    let further : is_break c ≡ false → (r : Result Passed Refusal) → Refused (along m 1) cs r → P r = λ e r. refused_map m (c ∷ cs) (along m 1) cs r (λ k v p. taken.character m c cs k v e p) in
-    let line : ((c == 13) && (slice_index cs 0 == 10)) ≡ false → is_break c ≡ true → P (gap l (next_line m 1) true true false cs) =
-    λ e b. refused_map m (c ∷ cs) (next_line m 1) cs (gap l (next_line m 1) true true false cs) (λ k v p. single m c cs k v b e p) (all_places l cs (next_line m 1) true true false).between in
+    let further : is_break c ≡ false → (r : Result Passed Refusal) → Refused (along m 1) cs r → P r =
+    λ e r. refused_map m (c ∷ cs) (along m 1) cs r (λ k v p. taken.character m c cs k v e p) in
+    let line : ((c == 13) && (slice_index cs 0 == 10)) ≡ false → is_break c ≡ true
+    → P (gap l (next_line m 1) true true false cs) =
+    λ e b. refused_map m (c ∷ cs) (next_line m 1) cs (gap l (next_line m 1) true true false cs)
+    (λ k v p. single m c cs k v b e p) (all_places l cs (next_line m 1) true true false).between in
     let return : (x : Bool) → ((c == 13) && (slice_index cs 0 == 10)) ≡ true → P (gap l (along m 1) blank broke x cs) =
     λ x e.
-    let f = both_of (c == 13) (slice_index cs 0 == 10) e in
+    let f = and_parts (c == 13) (slice_index cs 0 == 10) e in
     let r = gap l (along m 1) blank broke x cs in
-    refused_map m (c ∷ cs) m (13 ∷ cs) r (λ k v p. subst (λ d. IsReached m (d ∷ cs) k v) (sym (is_number c 13 f.0)) p) ((all_places l cs (along m 1) blank broke x).behind_return f.1 m refl) in
+    refused_map m (c ∷ cs) m (13 ∷ cs) r (λ k v p. subst (λ d. IsReached m (d ∷ cs) k v) (sym (eqb-true c 13 f.0)) p)
+    ((all_places l cs (along m 1) blank broke x).behind_return f.1 m refl) in
     let blanks : (x : Bool) → is_blank c ≡ true → P (gap l (along m 1) blank broke x cs) =
-    λ x b. further (class_no_break is_blank refl refl c b) (gap l (along m 1) blank broke x cs) (all_places l cs (along m 1) blank broke x).between in
+    λ x b. further (class_no_break is_blank refl refl c b) (gap l (along m 1) blank broke x cs)
+    (all_places l cs (along m 1) blank broke x).between in
     let comments : (c == 35) ≡ true → P (comment l (along m 1) blank broke tabbed cs) =
-    λ e. further (ap is_break (is_number c 35 e)) (comment l (along m 1) blank broke tabbed cs) (all_places l cs (along m 1) blank broke tabbed).inside in
+    λ e. further (ap is_break (eqb-true c 35 e)) (comment l (along m 1) blank broke tabbed cs)
+    (all_places l cs (along m 1) blank broke tabbed).inside in
     let more : is_yaml_non_break c ≡ true → P (comment l (along m 1) blank broke tabbed cs) =
-    λ e. further (class_no_break is_yaml_non_break refl refl c e) (comment l (along m 1) blank broke tabbed cs) (all_places l cs (along m 1) blank broke tabbed).inside in
+    λ e. further (class_no_break is_yaml_non_break refl refl c e) (comment l (along m 1) blank broke tabbed cs)
+    (all_places l cs (along m 1) blank broke tabbed).inside in
     record {
       between =
           by_test (is_blank c || ((c == 13) && (slice_index cs 0 == 10))) _ _ P
-          (λ e. elim (either (is_blank c) ((c == 13) && (slice_index cs 0 == 10)) e) [ inl b ↦ blanks indented b | inr r ↦ return indented r ])
-          (λ e. by_test (is_break c) _ _ P (λ b. line (right_not (is_blank c) ((c == 13) && (slice_index cs 0 == 10)) e) b)
+          (λ e. elim (or_cases (is_blank c) ((c == 13) && (slice_index cs 0 == 10)) e)
+          [ inl b ↦ blanks indented b | inr r ↦ return indented r ])
+          (λ e. by_test (is_break c) _ _ P
+          (λ b. line (or_false_right (is_blank c) ((c == 13) && (slice_index cs 0 == 10)) e) b)
           (λ _. by_test (c == 35) _ _ P comments (λ _. stop_refused m blank broke tabbed (c ∷ cs))));
       inside =
           by_test (is_yaml_non_break c) _ _ P more
           (λ n. by_test ((c == 13) && (slice_index cs 0 == 10)) _ _ P (λ r. return tabbed r)
           (λ e. by_test (is_break c) _ _ P (λ b. line e b) (λ _. stop_refused m blank broke tabbed (c ∷ cs))));
-      behind_return = λ e k q. fed c (is_number c 10 e) k q (all_places l cs (next_line m 1) true true false).between;
+      behind_return = λ e k q. fed c (eqb-true c 10 e) k q (all_places l cs (next_line m 1) true true false).between;
     }
   where
-    fed : (d : ℕ) → d ≡ 10 → (k : Marker) → m ≡ along k 1 → Refused (next_line m 1) cs (gap l (next_line m 1) true true false cs) → Refused k (13 ∷ d ∷ cs) (gap l m blank broke tabbed (d ∷ cs))
+    fed : (d : ℕ) → d ≡ 10 → (k : Marker) → m ≡ along k 1
+        → Refused (next_line m 1) cs (gap l (next_line m 1) true true false cs)
+        → Refused k (13 ∷ d ∷ cs) (gap l m blank broke tabbed (d ∷ cs))
     fed d e k q h =
         subst (λ x. Refused k (13 ∷ x ∷ cs) (gap l m blank broke tabbed (x ∷ cs))) (sym e)
         (refused_map k (13 ∷ 10 ∷ cs) (next_line m 1) cs (gap l (next_line m 1) true true false cs)
         (λ j v p. double k cs j v (subst (λ (i : Marker). IsReached (next_line i 1) cs j v) q p)) h)
 
-pub gap_refused : (l : ℕ) (m : Marker) (blank broke tabbed : Bool) (t : List ℕ) → Refused m t (gap l m blank broke tabbed t)
+pub gap_refused : (l : ℕ) (m : Marker) (blank broke tabbed : Bool) (t : List ℕ)
+    → Refused m t (gap l m blank broke tabbed t)
 gap_refused l m blank broke tabbed t = (all_places l t m blank broke tabbed).between

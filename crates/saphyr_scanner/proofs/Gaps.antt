@@ -7,10 +7,9 @@ use Rattle.saphyr_input.specs.Classes.{is_blank, is_break, is_yaml_non_break}
 use Rattle.saphyr_scalar.specs.declared.scalar.position.Marker.{Marker}
 use Rattle.saphyr_scalar.specs.Cursor.{Cursor, along, pass_comment}
 use Rattle.saphyr_scalar.specs.declared.scalar.fault.Refusal.{Refusal}
-use Rattle.saphyr_scanner.specs.Gap.{Passed, stop, gap, comment, gap_at, pass_gap, Spaced, spaces, line_comment, spaces_at}
-
-along-zero : (m : Marker) → along m 0 ≡ m
-along-zero m = let i : m.index + 0 ≡ m.index = omega arith in let k : m.col + 0 ≡ m.col = omega arith in rw (i, k) refl
+use Rattle.saphyr_scanner.specs.Steps.Gap.{Passed, stop, gap, comment, gap_at, pass_gap, Spaced, spaces, line_comment, spaces_at}
+use Rattle.saphyr_scalar.proofs.Moving.{along_none}
+use Rattle.saphyr_input.proofs.Basics.Booleans.{or_false_left, or_false_right}
 
 along-along : (m : Marker) (a b : ℕ) → along (along m a) b ≡ along m (a + b)
 along-along m a b =
@@ -27,83 +26,119 @@ no_tab c e = grind (arith, nat_tests)
 no_sign : (c : ℕ) → is_yaml_non_break c ≡ false → nat_eq c 35 ≡ false
 no_sign c e = grind (arith, nat_tests)
 
-one_further : (l : ℕ) (m : Marker) (blank broke tabbed : Bool) (n c : ℕ) (cs : List ℕ) → gap l (along (along m 1) n) blank broke tabbed (drop n cs) ≡ gap l (along m (1 + n)) blank broke tabbed (drop (1 + n) (c ∷ cs))
+one_further : (l : ℕ) (m : Marker) (blank broke tabbed : Bool) (n c : ℕ) (cs : List ℕ)
+    → gap l (along (along m 1) n) blank broke tabbed (drop n cs)
+    ≡ gap l (along m (1 + n)) blank broke tabbed (drop (1 + n) (c ∷ cs))
 one_further l m blank broke tabbed n c cs = let one : 1 + n ≡ suc n = omega arith in rw (along-along m 1 n, one) refl
 
 -- behind the `#`, the rest of the comment is passed
-behind_sign : (l : ℕ) (t : List ℕ) (m : Marker) (blank broke tabbed : Bool) → comment l m blank broke tabbed t ≡ gap l (along m (prefix_len is_yaml_non_break t)) blank broke tabbed (drop (prefix_len is_yaml_non_break t) t)
-behind_sign l [] m blank broke tabbed = rw (along-zero m) refl
-behind_sign l (c ∷ cs) m blank broke tabbed = by_test (is_yaml_non_break c) refl (behind_sign l cs (along m 1) blank broke tabbed)
+behind_sign : (l : ℕ) (t : List ℕ) (m : Marker) (blank broke tabbed : Bool)
+    → comment l m blank broke tabbed t
+    ≡ gap l (along m (prefix_len is_yaml_non_break t)) blank broke tabbed (drop (prefix_len is_yaml_non_break t) t)
+behind_sign l [] m blank broke tabbed = rw (along_none m) refl
+behind_sign l (c ∷ cs) m blank broke tabbed =
+    by_test (is_yaml_non_break c) refl (behind_sign l cs (along m 1) blank broke tabbed)
   where
-    by_test : (b : Bool) → is_yaml_non_break c ≡ b → comment l (along m 1) blank broke tabbed cs ≡ gap l (along (along m 1) (prefix_len is_yaml_non_break cs)) blank broke tabbed (drop (prefix_len is_yaml_non_break cs) cs)
-        → comment l m blank broke tabbed (c ∷ cs) ≡ gap l (along m (prefix_len is_yaml_non_break (c ∷ cs))) blank broke tabbed (drop (prefix_len is_yaml_non_break (c ∷ cs)) (c ∷ cs))
+    by_test : (b : Bool) → is_yaml_non_break c ≡ b
+        → comment l (along m 1) blank broke tabbed cs
+        ≡ gap l (along (along m 1) (prefix_len is_yaml_non_break cs)) blank broke tabbed
+        (drop (prefix_len is_yaml_non_break cs) cs)
+        → comment l m blank broke tabbed (c ∷ cs)
+        ≡ gap l (along m (prefix_len is_yaml_non_break (c ∷ cs))) blank broke tabbed
+        (drop (prefix_len is_yaml_non_break (c ∷ cs)) (c ∷ cs))
     by_test true e ih = rw e (ih ∙ one_further l m blank broke tabbed (prefix_len is_yaml_non_break cs) c cs)
     by_test false e ih =
         let b = no_blank c e in
         let s = no_sign c e in
         let t = no_tab c e in
-        let none : comment l m blank broke tabbed (c ∷ cs) ≡ gap l m blank broke tabbed (c ∷ cs) = rw (e, b, s, t) refl in
-        let last : gap l (along m 0) blank broke tabbed (c ∷ cs) ≡ gap l (along m (prefix_len is_yaml_non_break (c ∷ cs))) blank broke tabbed (drop (prefix_len is_yaml_non_break (c ∷ cs)) (c ∷ cs)) = rw e refl in
-        none ∙ ap (λ (k : Marker). gap l k blank broke tabbed (c ∷ cs)) (sym (along-zero m)) ∙ last
+        let none : comment l m blank broke tabbed (c ∷ cs) ≡ gap l m blank broke tabbed (c ∷ cs) =
+        rw (e, b, s, t) refl in
+        let last : gap l (along m 0) blank broke tabbed (c ∷ cs)
+        ≡ gap l (along m (prefix_len is_yaml_non_break (c ∷ cs))) blank broke tabbed
+        (drop (prefix_len is_yaml_non_break (c ∷ cs)) (c ∷ cs)) = rw e refl in
+        none ∙ ap (λ (k : Marker). gap l k blank broke tabbed (c ∷ cs)) (sym (along_none m)) ∙ last
 
-on_comment : (l : ℕ) (broke tabbed : Bool) (s : Cursor) → get_or s.rest 0 0 ≡ 35 → gap_at l broke tabbed (pass_comment s) ≡ gap_at l broke tabbed s
+on_comment : (l : ℕ) (broke tabbed : Bool) (s : Cursor) → get_or s.rest 0 0 ≡ 35
+    → gap_at l broke tabbed (pass_comment s) ≡ gap_at l broke tabbed s
 on_comment l broke tabbed s h = go s.rest h
   where
-    go : (t : List ℕ) → get_or t 0 0 ≡ 35 → gap l (along s.mark (prefix_len is_yaml_non_break t)) s.blank_so_far broke tabbed (drop (prefix_len is_yaml_non_break t) t) ≡ gap l s.mark s.blank_so_far broke tabbed t
+    go : (t : List ℕ) → get_or t 0 0 ≡ 35
+        → gap l (along s.mark (prefix_len is_yaml_non_break t)) s.blank_so_far broke tabbed
+        (drop (prefix_len is_yaml_non_break t) t) ≡ gap l s.mark s.blank_so_far broke tabbed t
     go [] e = absurd (omega arith)
-    go (c ∷ cs) e = rw e (sym (behind_sign l cs (along s.mark 1) s.blank_so_far broke tabbed ∙ one_further l s.mark s.blank_so_far broke tabbed (prefix_len is_yaml_non_break cs) 35 cs))
+    go (c ∷ cs) e = rw e (sym
+        (behind_sign l cs (along s.mark 1) s.blank_so_far broke tabbed
+        ∙ one_further l s.mark s.blank_so_far broke tabbed (prefix_len is_yaml_non_break cs) 35 cs))
 
 -- the comment that is read is passed
-pub comment_passed : (l : ℕ) (broke tabbed : Bool) (before read after : Cursor) (all : Result Passed Refusal) (c : ℕ) → c ≡ get_or before.rest 0 0 → read ≡ before → after ≡ pass_comment read → c ≡ 35 → gap_at l broke tabbed before ≡ all → gap_at l broke tabbed after ≡ all
-comment_passed l broke tabbed before read after all c first same passed sign known = rw (passed, same) (on_comment l broke tabbed before (sym first ∙ sign) ∙ known)
+pub comment_passed : (l : ℕ) (broke tabbed : Bool) (before read after : Cursor) (all : Result Passed Refusal) (c : ℕ)
+    → c ≡ get_or before.rest 0 0 → read ≡ before → after ≡ pass_comment read → c ≡ 35
+    → gap_at l broke tabbed before ≡ all → gap_at l broke tabbed after ≡ all
+comment_passed l broke tabbed before read after all c first same passed sign known =
+    rw (passed, same) (on_comment l broke tabbed before (sym first ∙ sign) ∙ known)
 
 -- ## The same behind `?`
 
-spaces_further : (m : Marker) (blank space : Bool) (n c : ℕ) (cs : List ℕ) → spaces (along (along m 1) n) blank space (drop n cs) ≡ spaces (along m (1 + n)) blank space (drop (1 + n) (c ∷ cs))
+spaces_further : (m : Marker) (blank space : Bool) (n c : ℕ) (cs : List ℕ)
+    → spaces (along (along m 1) n) blank space (drop n cs)
+    ≡ spaces (along m (1 + n)) blank space (drop (1 + n) (c ∷ cs))
 spaces_further m blank space n c cs = let one : 1 + n ≡ suc n = omega arith in rw (along-along m 1 n, one) refl
 
 no_space : (c : ℕ) → is_yaml_non_break c ≡ false → nat_eq c 32 ≡ false
 no_space c e = grind (arith, nat_tests)
 
-behind_line_sign : (t : List ℕ) (m : Marker) (blank space : Bool) → line_comment m blank space t ≡ spaces (along m (prefix_len is_yaml_non_break t)) blank space (drop (prefix_len is_yaml_non_break t) t)
-behind_line_sign [] m blank space = rw (along-zero m) refl
-behind_line_sign (c ∷ cs) m blank space = by_test (is_yaml_non_break c) refl (behind_line_sign cs (along m 1) blank space)
+behind_line_sign : (t : List ℕ) (m : Marker) (blank space : Bool)
+    → line_comment m blank space t
+    ≡ spaces (along m (prefix_len is_yaml_non_break t)) blank space (drop (prefix_len is_yaml_non_break t) t)
+behind_line_sign [] m blank space = rw (along_none m) refl
+behind_line_sign (c ∷ cs) m blank space =
+    by_test (is_yaml_non_break c) refl (behind_line_sign cs (along m 1) blank space)
   where
-    by_test : (b : Bool) → is_yaml_non_break c ≡ b → line_comment (along m 1) blank space cs ≡ spaces (along (along m 1) (prefix_len is_yaml_non_break cs)) blank space (drop (prefix_len is_yaml_non_break cs) cs)
-        → line_comment m blank space (c ∷ cs) ≡ spaces (along m (prefix_len is_yaml_non_break (c ∷ cs))) blank space (drop (prefix_len is_yaml_non_break (c ∷ cs)) (c ∷ cs))
+    by_test : (b : Bool) → is_yaml_non_break c ≡ b
+        → line_comment (along m 1) blank space cs
+        ≡ spaces (along (along m 1) (prefix_len is_yaml_non_break cs)) blank space
+        (drop (prefix_len is_yaml_non_break cs) cs)
+        → line_comment m blank space (c ∷ cs)
+        ≡ spaces (along m (prefix_len is_yaml_non_break (c ∷ cs))) blank space
+        (drop (prefix_len is_yaml_non_break (c ∷ cs)) (c ∷ cs))
     by_test true e ih = rw e (ih ∙ spaces_further m blank space (prefix_len is_yaml_non_break cs) c cs)
     by_test false e ih =
         let b = no_space c e in
         let s = no_sign c e in
         let none : line_comment m blank space (c ∷ cs) ≡ spaces m blank space (c ∷ cs) = rw (e, b, s) refl in
-        let last : spaces (along m 0) blank space (c ∷ cs) ≡ spaces (along m (prefix_len is_yaml_non_break (c ∷ cs))) blank space (drop (prefix_len is_yaml_non_break (c ∷ cs)) (c ∷ cs)) = rw e refl in
-        none ∙ ap (λ (k : Marker). spaces k blank space (c ∷ cs)) (sym (along-zero m)) ∙ last
+        let last : spaces (along m 0) blank space (c ∷ cs)
+        ≡ spaces (along m (prefix_len is_yaml_non_break (c ∷ cs))) blank space
+        (drop (prefix_len is_yaml_non_break (c ∷ cs)) (c ∷ cs)) = rw e refl in
+        none ∙ ap (λ (k : Marker). spaces k blank space (c ∷ cs)) (sym (along_none m)) ∙ last
 
-pub line_comment_passed : (space : Bool) (before read after : Cursor) (all : Spaced) (c : ℕ) → c ≡ get_or before.rest 0 0 → read ≡ before → after ≡ pass_comment read → c ≡ 35 → spaces_at space before ≡ all → spaces_at space after ≡ all
-line_comment_passed space before read after all c first same passed sign known = rw (passed, same) (go before.rest (sym first ∙ sign) ∙ known)
+pub line_comment_passed : (space : Bool) (before read after : Cursor) (all : Spaced) (c : ℕ)
+    → c ≡ get_or before.rest 0 0 → read ≡ before → after ≡ pass_comment read → c ≡ 35 → spaces_at space before ≡ all
+    → spaces_at space after ≡ all
+line_comment_passed space before read after all c first same passed sign known =
+    rw (passed, same) (go before.rest (sym first ∙ sign) ∙ known)
   where
-    go : (t : List ℕ) → get_or t 0 0 ≡ 35 → spaces (along before.mark (prefix_len is_yaml_non_break t)) before.blank_so_far space (drop (prefix_len is_yaml_non_break t) t) ≡ spaces before.mark before.blank_so_far space t
+    go : (t : List ℕ) → get_or t 0 0 ≡ 35
+        → spaces (along before.mark (prefix_len is_yaml_non_break t)) before.blank_so_far space
+        (drop (prefix_len is_yaml_non_break t) t) ≡ spaces before.mark before.blank_so_far space t
     go [] e = absurd (omega arith)
-    go (c ∷ cs) e = rw e (sym (behind_line_sign cs (along before.mark 1) before.blank_so_far space ∙ spaces_further before.mark before.blank_so_far space (prefix_len is_yaml_non_break cs) 35 cs))
+    go (c ∷ cs) e = rw e (sym
+        (behind_line_sign cs (along before.mark 1) before.blank_so_far space
+        ∙ spaces_further before.mark before.blank_so_far space (prefix_len is_yaml_non_break cs) 35 cs))
 
-right_false : (a b : Bool) → (a || b) ≡ false → b ≡ false
-right_false false b e = e
-right_false true b e = absurd cc
-
-left_false : (a b : Bool) → (a || b) ≡ false → a ≡ false
-left_false false b e = refl
-left_false true b e = absurd cc
-
-nothing : (least : ℕ) (m : Marker) (blank : Bool) (text : List ℕ) → is_blank (slice_index text 0) ≡ false → is_break (slice_index text 0) ≡ false → (slice_index text 0 == 35) ≡ false
-    → gap least m blank false false text ≡ Ok (record { cursor = record { rest = text; mark = m; blank_so_far = blank }; broke = false })
+nothing : (least : ℕ) (m : Marker) (blank : Bool) (text : List ℕ) → is_blank (slice_index text 0) ≡ false
+    → is_break (slice_index text 0) ≡ false → (slice_index text 0 == 35) ≡ false
+    → gap least m blank false false text
+    ≡ Ok (record { cursor = record { rest = text; mark = m; blank_so_far = blank }; broke = false })
 unfolding stop
 nothing least m blank [] a b e = refl
 nothing least m blank (c ∷ cs) a b e =
-    let return : (c == 13) ≡ false = right_false (c == 10) (c == 13) b in
-    let feed : (c == 10) ≡ false = left_false (c == 10) (c == 13) b in
+    let return : (c == 13) ≡ false = or_false_right (c == 10) (c == 13) b in
+    let feed : (c == 10) ≡ false = or_false_left (c == 10) (c == 13) b in
     rw (a, return, feed, e) refl
 
 -- where a token stands right here, nothing is passed
-pub nothing_passed : (least : ℕ) (s t : Cursor) (c : ℕ) → c ≡ slice_index s.rest 0 → t ≡ s → is_blank c ≡ false → is_break c ≡ false → (c == 35) ≡ false → pass_gap least s ≡ Ok (record { cursor = t; broke = false })
+pub nothing_passed : (least : ℕ) (s t : Cursor) (c : ℕ) → c ≡ slice_index s.rest 0 → t ≡ s → is_blank c ≡ false
+    → is_break c ≡ false → (c == 35) ≡ false → pass_gap least s ≡ Ok (record { cursor = t; broke = false })
 nothing_passed least s t c e same a b d =
-    nothing least s.mark s.blank_so_far s.rest (rw (sym e) a) (rw (sym e) b) (rw (sym e) d) ∙ ap (λ (u : Cursor). Ok (record { cursor = u; broke = false })) (sym same)
+    nothing least s.mark s.blank_so_far s.rest (rw (sym e) a) (rw (sym e) b) (rw (sym e) d)
+    ∙ ap (λ (u : Cursor). Ok (record { cursor = u; broke = false })) (sym same)

@@ -8,18 +8,18 @@ use Rattle.saphyr_scalar.specs.declared.scalar.position.Marker.{Marker}
 use Rattle.saphyr_scalar.specs.declared.scalar.fault.Refusal.{Refusal}
 use Rattle.saphyr_scalar.specs.Cursor.{◌>>=◌}
 use Rattle.saphyr_scanner.specs.declared.queue.Opening.{Opening}
-use Rattle.saphyr_scanner.specs.Tokens as tokens
-use Rattle.saphyr_scanner.specs.Tokens.{Kind}
-use Rattle.saphyr_scanner.specs.Seen.{Piece}
-use Rattle.saphyr_scanner.specs.Queue.{Place, Queue, next, put, opened, closed}
-use Rattle.saphyr_scanner.specs.Core.{Core, Action, Put, Open, Steps, perform, in_block, least_column, remove_key, drop_far_key}
-use Rattle.saphyr_scanner.specs.Passing.{pass_gap, separate}
-use Rattle.saphyr_scanner.specs.State.{State, carried, acted, separated}
-use Rattle.saphyr_scanner.specs.Unrolling.{unroll, end_blocks, end_block, is_right_of, outwards, less_deep}
-use Rattle.saphyr_scanner.specs.Document as document
-use Rattle.saphyr_scanner.specs.Fetch.{step, content, fetch_here, arrive, fetch, within, fetch_within, settled}
-use Rattle.saphyr_scanner.proofs.Sizes.{Given}
-use Rattle.saphyr_scanner.proofs.Candidates.{Above, ActionsAbove, Keeps, behind, step_keeps, directive_keeps, gap_above, drop_above, remove_above, separate_above}
+use Rattle.saphyr_scanner.specs.Grammar.Tokens as tokens
+use Rattle.saphyr_scanner.specs.Grammar.Tokens.{Kind}
+use Rattle.saphyr_scanner.specs.Views.Tokens.{Piece}
+use Rattle.saphyr_scanner.specs.Steps.Queue.{Place, Queue, next, put, opened, closed}
+use Rattle.saphyr_scanner.specs.Steps.Core.{Core, Action, Put, Open, Steps, perform, in_block, least_column, remove_key, drop_far_key}
+use Rattle.saphyr_scanner.specs.Steps.Passing.{pass_gap, separate}
+use Rattle.saphyr_scanner.specs.Steps.State.{State, carried, acted, separated}
+use Rattle.saphyr_scanner.specs.Steps.Unrolling.{unroll, end_blocks, end_block, is_right_of, outwards, less_deep}
+use Rattle.saphyr_scanner.specs.Steps.Document as document
+use Rattle.saphyr_scanner.specs.Steps.Fetch.{step, content, fetch_here, arrive, fetch, within, fetch_within, settled}
+use Rattle.saphyr_scanner.proofs.Taken.Candidates.{Above, ActionsAbove, Keeps, behind, step_keeps, directive_keeps, gap_above, drop_above, remove_above, separate_above}
+use Rattle.saphyr_scalar.proofs.Given.{Given}
 
 -- the first queue holds these places, and in the second they were handed out
 pub record Behind (hs : List Place) (q p : Queue) : Type 0 where
@@ -47,7 +47,8 @@ at c q = record { core = c; queue = q }
 abbrev pub Agrees : List Place → (State → Result State Refusal) → Type 0
 Agrees hs f = (c : Core) (q p : Queue) → Behind hs q p → Above (length hs) c → Same hs (f (at c q)) (f (at c p))
 
-same_if : (hs : List Place) (b : Bool) (r s t u : Result State Refusal) → Same hs r t → Same hs s u → Same hs (cond b r s) (cond b t u)
+same_if : (hs : List Place) (b : Bool) (r s t u : Result State Refusal) → Same hs r t → Same hs s u
+    → Same hs (cond b r s) (cond b t u)
 same_if hs true r s t u x y = x
 same_if hs false r s t u x y = y
 
@@ -55,10 +56,13 @@ goes_if : (hs : List Place) (b : Bool) (r s t u : State) → Goes hs r t → Goe
 goes_if hs true r s t u x y = x
 goes_if hs false r s t u x y = y
 
-pub agreed : (hs : List Place) (f : State → Result State Refusal) (s t : State) → Agrees hs f → Goes hs s t → Same hs (f s) (f t)
-agreed hs f s t h g = subst (λ (c : Core). Same hs (f s) (f (at c t.queue))) (sym g.core) (h s.core s.queue t.queue g.queue g.above)
+pub agreed : (hs : List Place) (f : State → Result State Refusal) (s t : State) → Agrees hs f → Goes hs s t
+    → Same hs (f s) (f t)
+agreed hs f s t h g = subst (λ (c : Core). Same hs (f s) (f (at c t.queue))) (sym g.core)
+    (h s.core s.queue t.queue g.queue g.above)
 
-same_then : (hs : List Place) (r s : Result State Refusal) (f : State → Result State Refusal) → Same hs r s → Agrees hs f → Same hs (r >>= f) (s >>= f)
+same_then : (hs : List Place) (r s : Result State Refusal) (f : State → Result State Refusal) → Same hs r s
+    → Agrees hs f → Same hs (r >>= f) (s >>= f)
 same_then hs (Ok s) (Ok t) f g h = agreed hs f s t h g
 same_then hs (Ok s) (Err e) f g h = absurd g
 same_then hs (Err e) (Ok t) f g h = absurd g
@@ -66,7 +70,8 @@ same_then hs (Err e) (Err d) f g h = g
 
 -- ## What is done to the queue
 
-opened_behind : (o : Opening) (hs ws : List Place) (n : ℕ) → length hs ≤ n → opened n o (hs ++ ws) ≡ hs ++ opened (n - length hs) o ws
+opened_behind : (o : Opening) (hs ws : List Place) (n : ℕ) → length hs ≤ n
+    → opened n o (hs ++ ws) ≡ hs ++ opened (n - length hs) o ws
 opened_behind o [] ws n h = let e : n ≡ n - 0 = omega arith in ap (λ m. opened m o ws) e
 opened_behind o (p ∷ hs) ws zero h = absurd (omega (arith, h))
 opened_behind o (p ∷ hs) ws (suc n) h =
@@ -74,24 +79,36 @@ opened_behind o (p ∷ hs) ws (suc n) h =
     ap (λ xs. p ∷ xs) (opened_behind o hs ws n (omega (arith, h)) ∙ ap (λ m. hs ++ opened m o ws) e)
 
 put_behind : (hs : List Place) (t : Piece) (q p : Queue) → Behind hs q p → Behind hs (put t q) (put t p)
-put_behind hs t q p b = record { places = ap (λ xs. xs ++ closed t ∷ []) b.places ∙ append_assoc hs p.places (closed t ∷ []); none = b.none; handed = b.handed }
+put_behind hs t q p b = record {
+  places =
+      ap (λ xs. xs ++ closed t ∷ []) b.places ∙ append_assoc hs p.places (closed t ∷ []);
+  none =
+      b.none;
+  handed = b.handed;
+}
 
-acts_behind : (hs : List Place) (actions : List Action) (q p : Queue) → Behind hs q p → ActionsAbove (length hs) actions → Behind hs (perform actions q) (perform actions p)
+acts_behind : (hs : List Place) (actions : List Action) (q p : Queue) → Behind hs q p → ActionsAbove (length hs) actions
+    → Behind hs (perform actions q) (perform actions p)
 acts_behind hs [] q p b k = b
 acts_behind hs (Put t ∷ others) q p b k = acts_behind hs others (put t q) (put t p) (put_behind hs t q p b) k
 acts_behind hs (Open n o ∷ others) q p b k =
     let same_number : n - q.handed ≡ n = let z = b.none in omega (arith, z) in
-    let places = ap (λ m. opened m o q.places) same_number ∙ ap (opened n o) b.places ∙ opened_behind o hs p.places n k.0 ∙ ap (λ m. hs ++ opened (n - m) o p.places) (sym b.handed) in
+    let places = ap (λ m. opened m o q.places) same_number ∙ ap (opened n o) b.places
+    ∙ opened_behind o hs p.places n k.0 ∙ ap (λ m. hs ++ opened (n - m) o p.places) (sym b.handed) in
     acts_behind hs others _ _ (record { places = places; none = b.none; handed = b.handed }) k.1
 
 same_next : (hs : List Place) (q p : Queue) → Behind hs q p → next q ≡ next p
-same_next hs q p b = let z = b.none in let y = b.handed in let x = ap length b.places in let l = length-append hs p.places in omega (arith, x, y, z, l)
+same_next hs q p b = let z =
+    b.none in let y = b.handed in let x =
+    ap length b.places in let l = length-append hs p.places in omega (arith, x, y, z, l)
 
-acted_same : (hs : List Place) (r : Steps) (q p : Queue) → Behind hs q p → Given (Keeps (length hs)) r → Same hs (acted r q) (acted r p)
+acted_same : (hs : List Place) (r : Steps) (q p : Queue) → Behind hs q p → Given (Keeps (length hs)) r
+    → Same hs (acted r q) (acted r p)
 acted_same hs (Ok x) q p b k = record { core = refl; queue = acts_behind hs x.actions q p b k.1; above = k.0 }
 acted_same hs (Err e) q p b k = refl
 
-carried_same : (hs : List Place) (r : Result Core Refusal) (q p : Queue) → Behind hs q p → Given (Above (length hs)) r → Same hs (carried r q) (carried r p)
+carried_same : (hs : List Place) (r : Result Core Refusal) (q p : Queue) → Behind hs q p → Given (Above (length hs)) r
+    → Same hs (carried r q) (carried r p)
 carried_same hs (Ok c) q p b k = record { core = refl; queue = b; above = k }
 carried_same hs (Err e) q p b k = refl
 
@@ -105,20 +122,29 @@ less_above : (h : ℕ) (column : Option ℕ) (c : Core) → Above h c → Above 
 less_above h None c k = k
 less_above h (Some column) c k = k
 
-block_goes : (hs : List Place) (m : Marker) (c : Core) (q p : Queue) → Behind hs q p → Above (length hs) c → Goes hs (end_block m (at c q)) (end_block m (at c p))
-block_goes hs m c q p b k = record { core = refl; queue = put_behind hs _ q p b; above = outwards_above (length hs) c.outer_indents c k }
+block_goes : (hs : List Place) (m : Marker) (c : Core) (q p : Queue) → Behind hs q p → Above (length hs) c
+    → Goes hs (end_block m (at c q)) (end_block m (at c p))
+block_goes hs m c q p b k =
+    record { core = refl; queue = put_behind hs _ q p b; above = outwards_above (length hs) c.outer_indents c k }
 
-blocks_go : (hs : List Place) (column : Option ℕ) (m : Marker) (is : List ℕ) (c : Core) (q p : Queue) → Behind hs q p → Above (length hs) c → Goes hs (end_blocks column m is (at c q)) (end_blocks column m is (at c p))
+blocks_go : (hs : List Place) (column : Option ℕ) (m : Marker) (is : List ℕ) (c : Core) (q p : Queue) → Behind hs q p
+    → Above (length hs) c → Goes hs (end_blocks column m is (at c q)) (end_blocks column m is (at c p))
 blocks_go hs column m [] c q p b k =
-    goes_if hs (is_right_of column c.indent) _ _ _ _ (block_goes hs m c q p b k) (record { core = refl; queue = b; above = k })
+    goes_if hs (is_right_of column c.indent) _ _ _ _ (block_goes hs m c q p b k)
+    (record { core = refl; queue = b; above = k })
 blocks_go hs column m (i ∷ is) c q p b k =
     let g = block_goes hs m c q p b k in
-    goes_if hs (is_right_of column c.indent) _ _ _ _ (blocks_go hs column m is (outwards c.outer_indents c) _ _ g.queue g.above) (record { core = refl; queue = b; above = k })
+    goes_if hs (is_right_of column c.indent) _ _ _ _
+    (blocks_go hs column m is (outwards c.outer_indents c) _ _ g.queue g.above)
+    (record { core = refl; queue = b; above = k })
 
-unroll_goes : (hs : List Place) (column : Option ℕ) (m : Marker) (c : Core) (q p : Queue) → Behind hs q p → Above (length hs) c → Goes hs (unroll column m (at c q)) (unroll column m (at c p))
+unroll_goes : (hs : List Place) (column : Option ℕ) (m : Marker) (c : Core) (q p : Queue) → Behind hs q p
+    → Above (length hs) c → Goes hs (unroll column m (at c q)) (unroll column m (at c p))
 unfolding unroll
 unroll_goes hs column m c q p b k =
-    goes_if hs (in_block c) _ _ _ _ (blocks_go hs column m c.outer_indents (less_deep column c) q p b (less_above (length hs) column c k)) (record { core = refl; queue = b; above = k })
+    goes_if hs (in_block c) _ _ _ _
+    (blocks_go hs column m c.outer_indents (less_deep column c) q p b (less_above (length hs) column c k))
+    (record { core = refl; queue = b; above = k })
 
 -- ## Documents
 
@@ -127,7 +153,8 @@ removal_agrees hs c q p b k = carried_same hs (remove_key c) q p b (remove_above
 
 content_ends : (hs : List Place) → Agrees hs document.end_content
 unfolding document.end_content
-content_ends hs c q p b k = agreed hs document.remove_key_of _ _ (removal_agrees hs) (unroll_goes hs None c.cursor.mark c q p b k)
+content_ends hs c q p b k =
+    agreed hs document.remove_key_of _ _ (removal_agrees hs) (unroll_goes hs None c.cursor.mark c q p b k)
 
 marker_agrees : (hs : List Place) (kind : Kind) → Agrees hs (document.marker kind)
 unfolding document.marker
@@ -138,11 +165,15 @@ marker_agrees hs kind c q p b k =
 end_marker_agrees : (hs : List Place) → Agrees hs document.end_marker
 unfolding document.end_marker document.end_line
 end_marker_agrees hs c q p b k =
-    same_then hs (document.marker tokens.DocumentEnd (at c q)) (document.marker tokens.DocumentEnd (at c p)) _ (marker_agrees hs tokens.DocumentEnd c q p b k)
+    same_then hs (document.marker tokens.DocumentEnd (at c q)) (document.marker tokens.DocumentEnd (at c p)) _
+    (marker_agrees hs tokens.DocumentEnd c q p b k)
     (λ d r s e a. line (separate d) d r s e (separate_above (length hs) d a))
   where
-    line : (x : Result (SkipTabs × Core) Refusal) (d : Core) (r s : Queue) → Behind hs r s → Given (λ y. Above (length hs) y.1) x → Same hs (separated x (at d r) >>= document.end_line) (separated x (at d s) >>= document.end_line)
-    line (Ok x) d r s e a = same_if hs (is_breakz (slice_index x.1.cursor.rest 0)) _ _ _ _ (record { core = refl; queue = e; above = a }) refl
+    line : (x : Result (SkipTabs × Core) Refusal) (d : Core) (r s : Queue) → Behind hs r s
+        → Given (λ y. Above (length hs) y.1) x
+        → Same hs (separated x (at d r) >>= document.end_line) (separated x (at d s) >>= document.end_line)
+    line (Ok x) d r s e a = same_if hs (is_breakz (slice_index x.1.cursor.rest 0)) _ _ _ _
+        (record { core = refl; queue = e; above = a }) refl
     line (Err f) d r s e a = refl
 
 mark_agrees : (hs : List Place) → Agrees hs document.byte_order_mark
@@ -152,14 +183,18 @@ mark_agrees hs c q p b k =
     (same_then hs (document.end_content (at c q)) (document.end_content (at c p)) _ (content_ends hs c q p b k)
     (λ d r s e a. record { core = refl; queue = put_behind hs _ r s e; above = a }))
 
-finish_goes : (hs : List Place) (m : Marker) (s t : State) → Goes hs s t → Goes hs (document.finish m s) (document.finish m t)
-finish_goes hs m s t g = record { core = ap document.finished g.core; queue = put_behind hs _ s.queue t.queue g.queue; above = g.above }
+finish_goes : (hs : List Place) (m : Marker) (s t : State) → Goes hs s t
+    → Goes hs (document.finish m s) (document.finish m t)
+finish_goes hs m s t g =
+    record { core = ap document.finished g.core; queue = put_behind hs _ s.queue t.queue g.queue; above = g.above }
 
 stream_agrees : (hs : List Place) → Agrees hs document.end_stream
 unfolding document.end_stream document.end_at
 stream_agrees hs c q p b k =
     same_if hs (length c.cursor.rest == 0) _ _ _ _
-    (same_if hs c.required _ _ _ _ refl (let m : Marker = document.end_mark c.cursor.mark in finish_goes hs m _ _ (unroll_goes hs None m c q p b k))) refl
+    (same_if hs c.required _ _ _ _ refl
+    (let m : Marker = document.end_mark c.cursor.mark in finish_goes hs m _ _ (unroll_goes hs None m c q p b k)))
+    refl
 
 -- ## What begins at a place
 
@@ -169,7 +204,8 @@ content_agrees hs first second c q p b k =
     let n : next q ≡ next p = same_next hs q p b in
     let places = ap length b.places in let l = length-append hs p.places in
     let before : length hs ≤ next q = omega (arith, places, l) in
-    let told = acted_same hs (step first second (next q) c) q p b (step_keeps (length hs) first second (next q) c before k) in
+    let told = acted_same hs (step first second (next q) c) q p b
+    (step_keeps (length hs) first second (next q) c before k) in
     subst (λ (m : ℕ). Same hs (acted (step first second (next q) c) q) (acted (step first second m c) p)) n told
 
 directive_agrees : (hs : List Place) → Agrees hs document.directive
@@ -185,7 +221,8 @@ here_agrees hs c q p b k =
     same_if hs (is_z (slice_index t 0)) _ _ _ _ (stream_agrees hs c q p b k)
     (same_if hs (is_bom (slice_index t 0)) _ _ _ _ (mark_agrees hs c q p b k)
     (same_if hs ((c.cursor.mark.col == 0) && (slice_index t 0 == 37)) _ _ _ _ (directive_agrees hs c q p b k)
-    (same_if hs ((c.cursor.mark.col == 0) && is_document_start t) _ _ _ _ (marker_agrees hs tokens.DocumentStart c q p b k)
+    (same_if hs ((c.cursor.mark.col == 0) && is_document_start t) _ _ _ _
+    (marker_agrees hs tokens.DocumentStart c q p b k)
     (same_if hs ((c.cursor.mark.col == 0) && is_document_end t) _ _ _ _ (end_marker_agrees hs c q p b k)
     (same_if hs (nat_lt c.cursor.mark.col (least_column c)) _ _ _ _ refl
     (content_agrees hs (slice_index t 0) (slice_index t 1) c q p b k))))))
@@ -195,17 +232,20 @@ unfolding arrive
 arrive_agrees hs c q p b k =
     let h : ℕ = length hs in
     let reached = behind h (Above h) (pass_gap c) drop_far_key (gap_above h c k) (λ d a. drop_above h d a) in
-    same_then hs (carried (pass_gap c >>= drop_far_key) q) (carried (pass_gap c >>= drop_far_key) p) _ (carried_same hs _ q p b reached)
+    same_then hs (carried (pass_gap c >>= drop_far_key) q) (carried (pass_gap c >>= drop_far_key) p) _
+    (carried_same hs _ q p b reached)
     (λ d r s e a. unroll_goes hs (Some d.cursor.mark.col) d.cursor.mark d r s e a)
 
 fetch_agrees : (hs : List Place) → Agrees hs fetch
 unfolding fetch
 fetch_agrees hs c q p b k =
-    same_if hs c.started _ _ _ _ (same_then hs (arrive (at c q)) (arrive (at c p)) fetch_here (arrive_agrees hs c q p b k) (here_agrees hs))
+    same_if hs c.started _ _ _ _
+    (same_then hs (arrive (at c q)) (arrive (at c p)) fetch_here (arrive_agrees hs c q p b k) (here_agrees hs))
     (record { core = refl; queue = put_behind hs _ q p b; above = k })
 
 within_agrees : (hs : List Place) (limit : ℕ) → Agrees hs (within limit)
-within_agrees hs limit c q p b k = same_if hs (nat_le c.cursor.mark.index limit) _ _ _ _ (record { core = refl; queue = b; above = k }) refl
+within_agrees hs limit c q p b k =
+    same_if hs (nat_le c.cursor.mark.index limit) _ _ _ _ (record { core = refl; queue = b; above = k }) refl
 
 settled_agrees : (hs : List Place) → Agrees hs settled
 settled_agrees hs c q p b k = carried_same hs (drop_far_key c) q p b (drop_above (length hs) c k)

@@ -14,6 +14,7 @@ pub mod DirectiveLines
 pub mod Further
 pub mod Statements
 pub mod Texts
+pub mod TabsAhead
 pub mod ScalarTexts
 pub mod Scalars
 pub mod Properties

@@ -2,18 +2,20 @@
 use Rattle.std.proofs.Common.{◌≡◌, ℕ, false, List, [], ◌∷◌, ◌++◌, Ok}
 use Rattle.saphyr_scanner.specs.declared.queue.Opening.{Opening}
 use Rattle.saphyr_scanner.specs.declared.queue.Opening.TheVariants as opening
-use Rattle.saphyr_scanner.specs.Tokens as tokens
-use Rattle.saphyr_scanner.specs.Seen.{Piece}
-use Rattle.saphyr_scanner.specs.Queue.{Place, empty_piece}
-use Rattle.saphyr_scanner.specs.State.{State}
-use Rattle.saphyr_scanner.specs.Fetch.{fetch_within, settled}
+use Rattle.saphyr_scanner.specs.Grammar.Tokens as tokens
+use Rattle.saphyr_scanner.specs.Views.Tokens.{Piece}
+use Rattle.saphyr_scanner.specs.Steps.Queue.{Place, empty_piece}
+use Rattle.saphyr_scanner.specs.Steps.State.{State}
+use Rattle.saphyr_scanner.specs.Steps.Fetch.{fetch_within, settled}
 
 -- the tokens of a place
 abbrev pub place_pieces : Opening → Piece → List Piece
 place_pieces opening.Nothing t = t ∷ []
 place_pieces opening.Key t = empty_piece t.span.start tokens.Key ∷ t ∷ []
-place_pieces opening.BlockMappingAndKey t = empty_piece t.span.start tokens.BlockMappingStart ∷ empty_piece t.span.start tokens.Key ∷ t ∷ []
-place_pieces opening.FlowMappingAndKey t = empty_piece t.span.start tokens.FlowMappingStart ∷ empty_piece t.span.start tokens.Key ∷ t ∷ []
+place_pieces opening.BlockMappingAndKey t =
+    empty_piece t.span.start tokens.BlockMappingStart ∷ empty_piece t.span.start tokens.Key ∷ t ∷ []
+place_pieces opening.FlowMappingAndKey t =
+    empty_piece t.span.start tokens.FlowMappingStart ∷ empty_piece t.span.start tokens.Key ∷ t ∷ []
 
 -- the tokens of places, in order
 abbrev pub flat : List Place → List Piece
@@ -23,4 +25,5 @@ flat (p ∷ ps) = place_pieces p.opening p.piece ++ flat ps
 -- from a state to d, a token after the other
 pub data Leads (limit : ℕ) (d : State) : State → Type 0 where
   stay : Leads limit d d
-  onward : (s t u : State) → s.core.ended ≡ false → fetch_within limit s ≡ Ok t → settled t ≡ Ok u → Leads limit d u → Leads limit d s
+  onward : (s t u : State) → s.core.ended ≡ false → fetch_within limit s ≡ Ok t → settled t ≡ Ok u → Leads limit d u
+      → Leads limit d s

@@ -4,21 +4,21 @@ use Rattle.std.specs.Prelude.{map, reverse, ◌||◌}
 use Rattle.std.proofs.lemmas.List.{reverse-append, map-append}
 use Rattle.std.proofs.Math.Seq.{drop-cons}
 use Rattle.saphyr_scanner.specs.declared.engine.level.Level as declared
-use Rattle.saphyr_scanner.specs.Core.{Level}
-use Rattle.saphyr_scanner.specs.Engine.{level}
-use Rattle.saphyr_scanner.specs.Fetch.{holds, any_holds}
+use Rattle.saphyr_scanner.specs.Steps.Core.{Level}
+use Rattle.saphyr_scanner.specs.Views.Engine.{level}
+use Rattle.saphyr_scanner.specs.Steps.Fetch.{holds, any_holds}
+use Rattle.saphyr_input.proofs.Basics.Booleans.{or_assoc}
+use Rattle.std.proofs.Math.Bool.{or-false}
 
-pub top_off : (before after : List declared.Level) (l : declared.Level) → before ≡ after ++ l ∷ [] → map level (reverse before) ≡ level l ∷ map level (reverse after)
+pub top_off : (before after : List declared.Level) (l : declared.Level) → before ≡ after ++ l ∷ []
+    → map level (reverse before) ≡ level l ∷ map level (reverse after)
 top_off before after l e = rw (e, reverse-append) refl
 
-pub top_on : (before after : List declared.Level) (l : declared.Level) → after ≡ before ++ l ∷ [] → map level (reverse after) ≡ level l ∷ map level (reverse before)
+pub top_on : (before after : List declared.Level) (l : declared.Level) → after ≡ before ++ l ∷ []
+    → map level (reverse after) ≡ level l ∷ map level (reverse before)
 top_on before after l e = rw (e, reverse-append) refl
 
 -- ## Whether one of them holds a place
-
-or_assoc : (a b c : Bool) → ((a || b) || c) ≡ (a || (b || c))
-or_assoc true b c = refl
-or_assoc false b c = refl
 
 or_comm : (a b : Bool) → (a || b) ≡ (b || a)
 or_comm true true = refl
@@ -26,24 +26,25 @@ or_comm true false = refl
 or_comm false true = refl
 or_comm false false = refl
 
-or_false : (a : Bool) → (a || false) ≡ a
-or_false true = refl
-or_false false = refl
-
 any_append : (p : ℕ) (xs ys : List Level) → any_holds p (xs ++ ys) ≡ (any_holds p xs || any_holds p ys)
 any_append p [] ys = refl
-any_append p (x ∷ xs) ys = ap (λ b. holds p x || b) (any_append p xs ys) ∙ sym (or_assoc (holds p x) (any_holds p xs) (any_holds p ys))
+any_append p (x ∷ xs) ys =
+    ap (λ b. holds p x || b) (any_append p xs ys) ∙ sym (or_assoc (holds p x) (any_holds p xs) (any_holds p ys))
 
 any_reverse : (p : ℕ) (xs : List declared.Level) → any_holds p (map level (reverse xs)) ≡ any_holds p (map level xs)
 any_reverse p [] = refl
 any_reverse p (x ∷ xs) =
     let one : reverse (x ∷ xs) ≡ reverse xs ++ x ∷ [] = reverse-append (x ∷ []) xs in
-    ap (λ ys. any_holds p (map level ys)) one ∙ ap (any_holds p) (map-append level (reverse xs) (x ∷ [])) ∙ any_append p (map level (reverse xs)) (level x ∷ [])
-    ∙ ap (λ b. b || (holds p (level x) || false)) (any_reverse p xs) ∙ ap (λ b. any_holds p (map level xs) || b) (or_false (holds p (level x)))
+    ap (λ ys. any_holds p (map level ys)) one ∙ ap (any_holds p) (map-append level (reverse xs) (x ∷ []))
+    ∙ any_append p (map level (reverse xs)) (level x ∷ [])
+    ∙ ap (λ b. b || (holds p (level x) || false)) (any_reverse p xs)
+    ∙ ap (λ b. any_holds p (map level xs) || b) (or-false (holds p (level x)))
     ∙ or_comm (any_holds p (map level xs)) (holds p (level x))
 
 -- one of those from i on does
-pub one_holds : (p i : ℕ) (xs : List declared.Level) (x : declared.Level) (b : Bool) → i < length xs → x ≡ get_or xs i x → holds p (level x) ≡ true → any_holds p (map level (drop i xs)) ≡ any_holds p (map level xs) → true ≡ (b || any_holds p (map level (reverse xs)))
+pub one_holds : (p i : ℕ) (xs : List declared.Level) (x : declared.Level) (b : Bool) → i < length xs → x ≡ get_or xs i x
+    → holds p (level x) ≡ true → any_holds p (map level (drop i xs)) ≡ any_holds p (map level xs)
+    → true ≡ (b || any_holds p (map level (reverse xs)))
 one_holds p i xs x b h item told others = sym (from_any b (any_reverse p xs ∙ sym others ∙ head))
   where
     front : drop i xs ≡ x ∷ drop (suc i) xs
@@ -52,7 +53,8 @@ one_holds p i xs x b h item told others = sym (from_any b (any_reverse p xs ∙ 
     head : any_holds p (map level (drop i xs)) ≡ true
     head = ap (λ ys. any_holds p (map level ys)) front ∙ ap (λ c. c || any_holds p (map level (drop (suc i) xs))) told
 
-    from_any : (a : Bool) → any_holds p (map level (reverse xs)) ≡ true → (a || any_holds p (map level (reverse xs))) ≡ true
+    from_any : (a : Bool) → any_holds p (map level (reverse xs)) ≡ true
+        → (a || any_holds p (map level (reverse xs))) ≡ true
     from_any true e = refl
     from_any false e = e
 
@@ -66,7 +68,9 @@ past_end zero (x ∷ xs) h = absurd (omega (arith, h))
 past_end (suc i) (x ∷ xs) h = past_end i xs (omega (arith, h))
 
 -- none does
-pub none_holds : (p i : ℕ) (xs : List declared.Level) (innermost : Level) → length xs ≤ i → holds p innermost ≡ false → any_holds p (map level (drop i xs)) ≡ any_holds p (map level xs) → false ≡ (holds p innermost || any_holds p (map level (reverse xs)))
+pub none_holds : (p i : ℕ) (xs : List declared.Level) (innermost : Level) → length xs ≤ i → holds p innermost ≡ false
+    → any_holds p (map level (drop i xs)) ≡ any_holds p (map level xs)
+    → false ≡ (holds p innermost || any_holds p (map level (reverse xs)))
 none_holds p i xs innermost h told others =
     let rest : any_holds p (map level (drop i xs)) ≡ false = ap (λ ys. any_holds p (map level ys)) (past_end i xs h) in
     sym (ap (λ c. c || any_holds p (map level (reverse xs))) told ∙ any_reverse p xs ∙ sym others ∙ rest)

@@ -10,27 +10,26 @@ use Rattle.saphyr_input.specs.declared.input.SkipTabs.TheVariants.{Yes}
 use Rattle.saphyr_input.specs.Separation.{blank_len, comment_len, separation_len, is_bare_comment}
 use Rattle.saphyr_scalar.specs.declared.scalar.position.Marker.{Marker}
 use Rattle.saphyr_scalar.specs.Cursor.{Cursor, along, pass_blanks, separation, behind_separation}
-use Rattle.saphyr_scalar.specs.DirectiveSpelling.{IsComment, IsLineTail}
+use Rattle.saphyr_scalar.specs.DirectiveSpelling.{IsTailComment, IsLineTail}
 use Rattle.saphyr_scalar.specs.TagSpelling.{AreIn}
 use Rattle.saphyr_scalar.proofs.Moving.{along_none, along_more, drop_more}
 use Rattle.saphyr_scalar.proofs.Runs.{run_is_in}
-use Rattle.saphyr_scalar.proofs.TagsSpelled.{cut_at, is_number}
+use Rattle.saphyr_scalar.proofs.Properties.TagsSpelled.{cut_at}
 use Rattle.saphyr_scanner.specs.TokensTaken as taken
-use Rattle.saphyr_scanner.specs.TokensTaken.{IsSeparation, AreApart, IsOnLine}
-use Rattle.saphyr_scanner.proofs.Sizes.{by_test, Given}
+use Rattle.saphyr_scanner.specs.TokensTaken.{IsPassedOver, AreApart, LiesOnLine}
+use Rattle.std.proofs.lemmas.Bool.{eqb-true}
+use Rattle.saphyr_input.proofs.Basics.Booleans.{by_test}
+use Rattle.saphyr_scalar.proofs.Given.{Given}
+use Rattle.saphyr_input.proofs.Basics.Lists.{run_ends}
 
-blanks_apart : (m : Marker) (blanks t : List ℕ) (n : Marker) (u : List ℕ) → AreIn is_blank blanks → IsSeparation (along m (length blanks)) t n u → IsSeparation m (blanks ++ t) n u
-blanks_apart m [] t n u are p = subst (λ (k : Marker). IsSeparation k t n u) (along_none m) p
+blanks_apart : (m : Marker) (blanks t : List ℕ) (n : Marker) (u : List ℕ) → AreIn is_blank blanks
+    → IsPassedOver (along m (length blanks)) t n u → IsPassedOver m (blanks ++ t) n u
+blanks_apart m [] t n u are p = subst (λ (k : Marker). IsPassedOver k t n u) (along_none m) p
 blanks_apart m (c ∷ cs) t n u are p =
     taken.blank m c (cs ++ t) n u are.0
-    (blanks_apart (along m 1) cs t n u are.1 (subst (λ (k : Marker). IsSeparation k t n u) (sym (along_more m 1 (length cs) (length (c ∷ cs)) (omega arith))) p))
-
--- where the run of a set ends, no character of it stands
-pub run_ends : (p : ℕ → Bool) (xs : List ℕ) → p 0 ≡ false → p (slice_index (drop (prefix_len p xs) xs) 0) ≡ false
-run_ends p [] z = z
-run_ends p (c ∷ cs) z =
-    by_test (p c) (1 + prefix_len p cs) 0 (λ n. p (slice_index (drop n (c ∷ cs)) 0) ≡ false)
-    (λ e. let one : 1 + prefix_len p cs ≡ suc (prefix_len p cs) = omega arith in rw one (run_ends p cs z)) (λ e. e)
+    (blanks_apart (along m 1) cs t n u are.1
+    (subst (λ (k : Marker). IsPassedOver k t n u) (sym (along_more m 1 (length cs) (length (c ∷ cs)) (omega arith)))
+    p))
 
 -- blanks and a comment, which ends where it has to
 pub record Tail (m : Marker) (t : List ℕ) (n : ℕ) : Type 0 where
@@ -40,7 +39,7 @@ pub record Tail (m : Marker) (t : List ℕ) (n : ℕ) : Type 0 where
   pub count : length tail ≡ n
   pub line : IsLineTail tail
   pub rest : behind ≡ drop n t
-  pub apart : IsSeparation m t (along m n) behind
+  pub apart : IsPassedOver m t (along m n) behind
 
 no_tail : (m : Marker) (t : List ℕ) → Tail m t 0
 no_tail m t = record {
@@ -50,32 +49,45 @@ no_tail m t = record {
   count = refl;
   line = ([], [], tt, inl refl, refl);
   rest = refl;
-  apart = subst (λ (k : Marker). IsSeparation m t k t) (sym (along_none m)) (taken.nothing m t);
+  apart = subst (λ (k : Marker). IsPassedOver m t k t) (sym (along_none m)) (taken.nothing m t);
 }
 
-comment_apart : (m : Marker) (words t : List ℕ) → AreIn is_yaml_non_break words → is_yaml_non_break (slice_index t 0) ≡ false → IsSeparation m (35 ∷ (words ++ t)) (along m (1 + length words)) t
-comment_apart m words t are e = taken.comment m words t (along m (1 + length words)) t are e (taken.nothing (along m (1 + length words)) t)
+comment_apart : (m : Marker) (words t : List ℕ) → AreIn is_yaml_non_break words
+    → is_yaml_non_break (slice_index t 0) ≡ false → IsPassedOver m (35 ∷ (words ++ t)) (along m (1 + length words)) t
+comment_apart m words t are e =
+    taken.comment m words t (along m (1 + length words)) t are e (taken.nothing (along m (1 + length words)) t)
 
 -- blanks, and behind some a comment
-tail_of : (m : Marker) (blanks comment x : List ℕ) → AreIn is_blank blanks → ((comment ≡ []) ⊎ IsComment blanks comment) → (IsComment blanks comment → is_yaml_non_break (slice_index x 0) ≡ false)
-    → IsSeparation m (blanks ++ (comment ++ x)) (along m (length (blanks ++ comment))) x
+tail_of : (m : Marker) (blanks comment x : List ℕ) → AreIn is_blank blanks
+    → ((comment ≡ []) ⊎ IsTailComment blanks comment)
+    → (IsTailComment blanks comment → is_yaml_non_break (slice_index x 0) ≡ false)
+    → IsPassedOver m (blanks ++ (comment ++ x)) (along m (length (blanks ++ comment))) x
 tail_of m blanks comment x are (inl e) ends =
-    let l : length (blanks ++ comment) ≡ length blanks = ap (λ c. length (blanks ++ c)) e ∙ ap length (append-nil blanks) in
-    let p : IsSeparation m (blanks ++ x) (along m (length blanks)) x = blanks_apart m blanks x (along m (length blanks)) x are (taken.nothing (along m (length blanks)) x) in
-    subst (λ c. IsSeparation m (blanks ++ (c ++ x)) (along m (length (blanks ++ comment))) x) (sym e) (subst (λ n. IsSeparation m (blanks ++ x) (along m n) x) (sym l) p)
+    let l : length (blanks ++ comment) ≡ length blanks = ap (λ c. length (blanks ++ c)) e
+    ∙ ap length (append-nil blanks) in
+    let p : IsPassedOver m (blanks ++ x) (along m (length blanks)) x =
+    blanks_apart m blanks x (along m (length blanks)) x are (taken.nothing (along m (length blanks)) x) in
+    subst (λ c. IsPassedOver m (blanks ++ (c ++ x)) (along m (length (blanks ++ comment))) x) (sym e)
+    (subst (λ n. IsPassedOver m (blanks ++ x) (along m n) x) (sym l) p)
 tail_of m blanks comment x are (inr w) ends =
     let one : comment ≡ 35 ∷ w.0 = w.3 in
-    let l : length (blanks ++ comment) ≡ length blanks + (1 + length w.0) = ap (λ c. length (blanks ++ c)) one ∙ length-append blanks (35 ∷ w.0) ∙ omega arith in
-    let p : IsSeparation (along m (length blanks)) (35 ∷ (w.0 ++ x)) (along (along m (length blanks)) (1 + length w.0)) x = comment_apart (along m (length blanks)) w.0 x w.2 (ends w) in
-    let q : IsSeparation m (blanks ++ (35 ∷ (w.0 ++ x))) (along (along m (length blanks)) (1 + length w.0)) x = blanks_apart m blanks (35 ∷ (w.0 ++ x)) _ x are p in
-    subst (λ c. IsSeparation m (blanks ++ (c ++ x)) (along m (length (blanks ++ comment))) x) (sym one)
-    (subst (λ (k : Marker). IsSeparation m (blanks ++ (35 ∷ (w.0 ++ x))) k x) (along_more m (length blanks) (1 + length w.0) (length (blanks ++ comment)) l) q)
+    let l : length (blanks ++ comment) ≡ length blanks + (1 + length w.0) =
+    ap (λ c. length (blanks ++ c)) one ∙ length-append blanks (35 ∷ w.0) ∙ omega arith in
+    let p : IsPassedOver (along m (length blanks)) (35 ∷ (w.0 ++ x)) (along (along m (length blanks)) (1 + length w.0))
+    x = comment_apart (along m (length blanks)) w.0 x w.2 (ends w) in
+    let q : IsPassedOver m (blanks ++ (35 ∷ (w.0 ++ x))) (along (along m (length blanks)) (1 + length w.0)) x =
+    blanks_apart m blanks (35 ∷ (w.0 ++ x)) _ x are p in
+    subst (λ c. IsPassedOver m (blanks ++ (c ++ x)) (along m (length (blanks ++ comment))) x) (sym one)
+    (subst (λ (k : Marker). IsPassedOver m (blanks ++ (35 ∷ (w.0 ++ x))) k x)
+    (along_more m (length blanks) (1 + length w.0) (length (blanks ++ comment)) l) q)
 
-pub tail_apart : (m : Marker) (tail x : List ℕ) → IsLineTail tail → is_yaml_non_break (slice_index x 0) ≡ false → IsSeparation m (tail ++ x) (along m (length tail)) x
+pub tail_apart : (m : Marker) (tail x : List ℕ) → IsLineTail tail → is_yaml_non_break (slice_index x 0) ≡ false
+    → IsPassedOver m (tail ++ x) (along m (length tail)) x
 tail_apart m tail x is ends =
     let p = tail_of m is.0 is.1 x is.2 is.3 (λ _. ends) in
     let e : is.0 ++ (is.1 ++ x) ≡ tail ++ x = sym (append_assoc is.0 is.1 x) ∙ ap (λ t. t ++ x) (sym is.4) in
-    subst (λ t. IsSeparation m (tail ++ x) (along m (length t)) x) (sym is.4) (subst (λ t. IsSeparation m t (along m (length (is.0 ++ is.1))) x) e p)
+    subst (λ t. IsPassedOver m (tail ++ x) (along m (length t)) x) (sym is.4)
+    (subst (λ t. IsPassedOver m t (along m (length (is.0 ++ is.1))) x) e p)
 
 -- ## What a separation passes
 
@@ -87,11 +99,16 @@ some_blanks xs e none =
     let P : ℕ → Type 0 = λ n. (n == 0) ≡ false in
     absurd (let f = subst P z e in cc)
 
-tail_from : (m : Marker) (xs : List ℕ) (n : ℕ) → let b = prefix_len is_blank xs in let zs = drop b xs in ((take n zs ≡ []) ⊎ IsComment (take b xs) (take n zs)) → (IsComment (take b xs) (take n zs) → is_yaml_non_break (slice_index (drop n zs) 0) ≡ false) → length (take n zs) ≡ n → Tail m xs (b + n)
+tail_from : (m : Marker) (xs : List ℕ) (n : ℕ)
+    → let b = prefix_len is_blank xs in let zs =
+    drop b xs in ((take n zs ≡ []) ⊎ IsTailComment (take b xs) (take n zs))
+    → (IsTailComment (take b xs) (take n zs) → is_yaml_non_break (slice_index (drop n zs) 0) ≡ false)
+    → length (take n zs) ≡ n → Tail m xs (b + n)
 tail_from m xs n comment ends l =
     let b = prefix_len is_blank xs in
     let zs = drop b xs in
-    let whole : take b xs ++ (take n zs ++ drop n zs) ≡ xs = ap (λ r. take b xs ++ r) (take-append-drop n zs) ∙ take-append-drop b xs in
+    let whole : take b xs ++ (take n zs ++ drop n zs) ≡ xs = ap (λ r. take b xs ++ r) (take-append-drop n zs)
+    ∙ take-append-drop b xs in
     let k = length-prefix_len is_blank xs in
     let a = length-append (take b xs) (take n zs) in
     let count : length (take b xs ++ take n zs) ≡ b + n = omega (arith, k, l, a) in
@@ -103,10 +120,12 @@ tail_from m xs n comment ends l =
       count = count;
       line = (take b xs, take n zs, run_is_in is_blank xs, comment, refl);
       rest = drop_more n b (b + n) xs refl;
-      apart = subst (λ i. IsSeparation m xs (along m i) (drop n zs)) count (subst (λ t. IsSeparation m t (along m (length (take b xs ++ take n zs))) (drop n zs)) whole p);
+      apart = subst (λ i. IsPassedOver m xs (along m i) (drop n zs)) count
+          (subst (λ t. IsPassedOver m t (along m (length (take b xs ++ take n zs))) (drop n zs)) whole p);
     }
 
-with_comment : (m : Marker) (xs : List ℕ) → (prefix_len is_blank xs == 0) ≡ false → Tail m xs (prefix_len is_blank xs + comment_len (drop (prefix_len is_blank xs) xs))
+with_comment : (m : Marker) (xs : List ℕ) → (prefix_len is_blank xs == 0) ≡ false
+    → Tail m xs (prefix_len is_blank xs + comment_len (drop (prefix_len is_blank xs) xs))
 with_comment m xs e =
     let b = prefix_len is_blank xs in
     let zs = drop b xs in
@@ -114,27 +133,31 @@ with_comment m xs e =
     by_test (slice_index zs 0 == 35) (prefix_len is_yaml_non_break zs) 0 (λ n. Tail m xs (b + n))
     (λ s.
     let ys = drop 1 zs in
-    let first : zs ≡ 35 ∷ ys = cut_at 35 zs refl (is_number (slice_index zs 0) 35 s) in
+    let first : zs ≡ 35 ∷ ys = cut_at 35 zs refl (eqb-true (slice_index zs 0) 35 s) in
     let words = take (prefix_len is_yaml_non_break ys) ys in
-    let whole : take (prefix_len is_yaml_non_break zs) zs ≡ 35 ∷ words = ap (λ u. take (prefix_len is_yaml_non_break u) u) first ∙ one_more ys in
-    tail_from m xs (prefix_len is_yaml_non_break zs) (inr (words, some, run_is_in is_yaml_non_break ys, whole)) (λ _. run_ends is_yaml_non_break zs refl) (length-prefix_len is_yaml_non_break zs))
+    let whole : take (prefix_len is_yaml_non_break zs) zs ≡ 35 ∷ words =
+    ap (λ u. take (prefix_len is_yaml_non_break u) u) first ∙ one_more ys in
+    tail_from m xs (prefix_len is_yaml_non_break zs) (inr (words, some, run_is_in is_yaml_non_break ys, whole))
+    (λ _. run_ends is_yaml_non_break zs refl) (length-prefix_len is_yaml_non_break zs))
     (λ _. tail_from m xs 0 (inl refl) (λ w. absurd (let z : [] ≡ 35 ∷ w.0 = w.3 in cc)) refl)
   where
-    one_more : (ys : List ℕ) → take (1 + prefix_len is_yaml_non_break ys) (35 ∷ ys) ≡ 35 ∷ take (prefix_len is_yaml_non_break ys) ys
-    one_more ys = let one : 1 + prefix_len is_yaml_non_break ys ≡ suc (prefix_len is_yaml_non_break ys) = omega arith in rw one refl
+    one_more : (ys : List ℕ)
+        → take (1 + prefix_len is_yaml_non_break ys) (35 ∷ ys) ≡ 35 ∷ take (prefix_len is_yaml_non_break ys) ys
+    one_more ys = let one : 1 + prefix_len is_yaml_non_break ys ≡ suc (prefix_len is_yaml_non_break ys) =
+        omega arith in rw one refl
 
 separation_tail : (m : Marker) (xs : List ℕ) → Tail m xs (separation_len Yes xs)
 separation_tail m xs = by_test (blank_len Yes xs == 0) _ _ (Tail m xs) (λ _. no_tail m xs) (with_comment m xs)
 
 -- what a separation passes on its line
 pub record OnLine (s t : Cursor) : Type 0 where
-  pub on_line : IsOnLine s t.mark
+  pub on_line : LiesOnLine s t.mark
   pub apart : AreApart s t
 
 on_line : (s : Cursor) (n : ℕ) → Tail s.mark s.rest n → OnLine s (pass_blanks n s)
 on_line s n t = record {
   on_line = (t.tail, t.behind, t.line, t.is, ap (λ i. along s.mark i) (sym t.count));
-  apart = subst (λ u. IsSeparation s.mark s.rest (along s.mark n) u) t.rest t.apart;
+  apart = subst (λ u. IsPassedOver s.mark s.rest (along s.mark n) u) t.rest t.apart;
 }
 
 pub separation_passes : (s : Cursor) → Given (λ (x : SkipTabs × Cursor). OnLine s x.1) (separation Yes s)

@@ -8,8 +8,8 @@ use Rattle.saphyr_scalar.specs.declared.scalar.fault.Refusal.{Refusal}
 use Rattle.saphyr_scalar.specs.Cursor.{Cursor, ◌>>=◌, along, next_line, pass_break}
 use Rattle.saphyr_scalar.specs.Plain.{Gap, Reading, plain, word_starts, word, between, goes_on, gap, gap_from, gap_len, in_word, lines, reached, may_stand, ends_line, ended, comment_of, with_text, at_line}
 use Rattle.saphyr_scalar.specs.Quoted.{at}
-use Rattle.saphyr_scanner.proofs.Sizes.{by_test, Given}
-use Rattle.saphyr_scanner.proofs.Separated.{right_not}
+use Rattle.saphyr_input.proofs.Basics.Booleans.{by_test, or_false_right}
+use Rattle.saphyr_scalar.proofs.Given.{Given}
 
 abbrev pub Stops : Cursor → Type 0
 Stops s = is_break (slice_index s.rest 0) ≡ false
@@ -23,35 +23,49 @@ IsNoted comment s = (comment ≡ None) ⊎ (comment ≡ Some s.mark)
 abbrev pub Ends : List ℕ × Marker × Option Marker × Cursor → Type 0
 Ends x = IsNoted x.2 x.3 × Stops x.3
 
-given_then : {X Y : Type 0} → (P : X → Type 0) (Q : Y → Type 0) (r : Result X Refusal) (f : X → Result Y Refusal) → Given P r → ((x : X) → P x → Given Q (f x)) → Given Q (r >>= f)
+given_then : {X Y : Type 0} → (P : X → Type 0) (Q : Y → Type 0) (r : Result X Refusal) (f : X → Result Y Refusal)
+    → Given P r → ((x : X) → P x → Given Q (f x)) → Given Q (r >>= f)
 given_then P Q (Ok x) f h go = go x h
 given_then P Q (Err e) f h go = tt
 
-line_stops : (start : Marker) (tabbed : Bool) (feeds : List ℕ) (s : Cursor) → Stops s → Given StopsGap (reached start tabbed feeds s)
+line_stops : (start : Marker) (tabbed : Bool) (feeds : List ℕ) (s : Cursor) → Stops s
+    → Given StopsGap (reached start tabbed feeds s)
 unfolding may_stand
 line_stops start tabbed feeds s h =
-    by_test (tabbed && is_bom (slice_index s.rest 0)) _ _ (λ r. Given StopsGap (r >>= λ t. Ok (record { text = feeds; tabbed = tabbed; behind = t }))) (λ _. tt)
-    (λ _. by_test (tabbed && not ((slice_index s.rest 0 == 35) || is_z (slice_index s.rest 0))) _ _ (λ r. Given StopsGap (r >>= λ t. Ok (record { text = feeds; tabbed = tabbed; behind = t })))
+    by_test (tabbed && is_bom (slice_index s.rest 0)) _ _
+    (λ r. Given StopsGap (r >>= λ t. Ok (record { text = feeds; tabbed = tabbed; behind = t }))) (λ _. tt)
+    (λ _. by_test (tabbed && not ((slice_index s.rest 0 == 35) || is_z (slice_index s.rest 0))) _ _
+    (λ r. Given StopsGap (r >>= λ t. Ok (record { text = feeds; tabbed = tabbed; behind = t })))
     (λ _. tt) (λ _. h))
 
-lines_stop : (indent : ℕ) (start : Marker) (tabbed : Bool) (feeds : List ℕ) (m : Marker) (xs : List ℕ) → Given StopsGap (lines indent start tabbed feeds m xs)
+lines_stop : (indent : ℕ) (start : Marker) (tabbed : Bool) (feeds : List ℕ) (m : Marker) (xs : List ℕ)
+    → Given StopsGap (lines indent start tabbed feeds m xs)
 unfolding lines
 lines_stop indent start tabbed feeds m [] = line_stops start tabbed feeds (at_line m []) refl
 lines_stop indent start tabbed feeds m (c ∷ cs) =
-    by_test (is_blank_or_break c) _ _ (Given StopsGap) (λ _. lines_stop indent start (is_blank c && (tabbed || ((c == tab) && nat_lt m.col indent))) (cond (ends_line c cs) (feeds ++ 10 ∷ []) feeds)
-    (cond (ends_line c cs) (next_line m 1) (along m 1)) cs) (λ e. line_stops start tabbed feeds (at_line m (c ∷ cs)) (right_not (is_blank c) (is_break c) e))
+    by_test (is_blank_or_break c) _ _ (Given StopsGap)
+    (λ _. lines_stop indent start (is_blank c && (tabbed || ((c == tab) && nat_lt m.col indent)))
+    (cond (ends_line c cs) (feeds ++ 10 ∷ []) feeds)
+    (cond (ends_line c cs) (next_line m 1) (along m 1)) cs)
+    (λ e. line_stops start tabbed feeds (at_line m (c ∷ cs)) (or_false_right (is_blank c) (is_break c) e))
 
-gap_stops : (indent : ℕ) (start : Marker) (blanks : List ℕ) (s : Cursor) → Given StopsGap (gap_from indent start blanks s)
+gap_stops : (indent : ℕ) (start : Marker) (blanks : List ℕ) (s : Cursor)
+    → Given StopsGap (gap_from indent start blanks s)
 unfolding gap_from
 gap_stops indent start blanks s =
     by_test (is_break (slice_index s.rest 0)) _ _ (Given StopsGap)
-    (λ _. let t = pass_break s in given_then StopsGap StopsGap (lines indent start false [] t.mark t.rest) _ (lines_stop indent start false [] t.mark t.rest) (λ g h. h))
+    (λ _. let t = pass_break s in
+    given_then StopsGap StopsGap (lines indent start false [] t.mark t.rest) _
+    (lines_stop indent start false [] t.mark t.rest) (λ g h. h))
     (λ e. e)
 
 ended_ends : (in_flow : Bool) (end : Marker) (g : Gap) → StopsGap g → Given Ends (ended in_flow end g)
 unfolding comment_of
-ended_ends in_flow end g h =
-    (by_test (not in_flow && (slice_index g.behind.rest 0 == 35) && (g.tabbed || not g.behind.blank_so_far)) (Some g.behind.mark) None (λ o. IsNoted o g.behind) (λ _. inr refl) (λ _. inl refl), h)
+ended_ends in_flow end g h = (
+  by_test (not in_flow && (slice_index g.behind.rest 0 == 35) && (g.tabbed || not g.behind.blank_so_far))
+      (Some g.behind.mark) None (λ o. IsNoted o g.behind) (λ _. inr refl) (λ _. inl refl),
+  h,
+)
 
 text_ends : (text : List ℕ) (r : Reading) → Given Ends r → Given Ends (with_text text r)
 text_ends text (Ok x) h = h
@@ -64,20 +78,28 @@ any (Err e) = tt
 mutual
   unfolding between word gap
 
-  between_ends : (in_flow : Bool) (indent : ℕ) (start end : Marker) (g : Gap) (left : ℕ) (xs : List ℕ) → StopsGap g → Given Ends (between in_flow indent start end g left xs)
+  between_ends : (in_flow : Bool) (indent : ℕ) (start end : Marker) (g : Gap) (left : ℕ) (xs : List ℕ) → StopsGap g
+      → Given Ends (between in_flow indent start end g left xs)
   between_ends in_flow indent start end g left [] h = ended_ends in_flow end g h
   between_ends in_flow indent start end g zero (c ∷ cs) h =
-      given_then (λ (b : Bool × Cursor). Unit {0}) Ends (goes_on in_flow indent g.behind) _ (any (goes_on in_flow indent g.behind))
-      (λ b _. by_test b.0 _ _ (Given Ends) (λ _. text_ends _ (word in_flow indent start (along g.behind.mark 1) cs) (word_ends in_flow indent start (along g.behind.mark 1) cs))
+      given_then (λ (b : Bool × Cursor). Unit {0}) Ends (goes_on in_flow indent g.behind) _
+      (any (goes_on in_flow indent g.behind))
+      (λ b _. by_test b.0 _ _ (Given Ends)
+      (λ _. text_ends _ (word in_flow indent start (along g.behind.mark 1) cs)
+      (word_ends in_flow indent start (along g.behind.mark 1) cs))
       (λ _. ended_ends in_flow end g h))
   between_ends in_flow indent start end g (suc left) (c ∷ cs) h = between_ends in_flow indent start end g left cs h
 
-  word_ends : (in_flow : Bool) (indent : ℕ) (start m : Marker) (xs : List ℕ) → Given Ends (word in_flow indent start m xs)
-  word_ends in_flow indent start m [] = ended_ends in_flow m (record { text = []; tabbed = false; behind = at m [] }) refl
+  word_ends : (in_flow : Bool) (indent : ℕ) (start m : Marker) (xs : List ℕ)
+      → Given Ends (word in_flow indent start m xs)
+  word_ends in_flow indent start m [] =
+      ended_ends in_flow m (record { text = []; tabbed = false; behind = at m [] }) refl
   word_ends in_flow indent start m (c ∷ cs) =
-      by_test (in_word in_flow (c ∷ cs)) _ _ (Given Ends) (λ _. text_ends _ (word in_flow indent start (along m 1) cs) (word_ends in_flow indent start (along m 1) cs))
+      by_test (in_word in_flow (c ∷ cs)) _ _ (Given Ends)
+      (λ _. text_ends _ (word in_flow indent start (along m 1) cs) (word_ends in_flow indent start (along m 1) cs))
       (λ _. given_then StopsGap Ends (gap indent start (at m (c ∷ cs))) _ (gap_stops indent start _ _)
-      (λ g h. by_test (gap_len (c ∷ cs) g == 0) _ _ (Given Ends) (λ _. ended_ends in_flow m g h) (λ _. between_ends in_flow indent start m g (pred (gap_len (c ∷ cs) g)) cs h)))
+      (λ g h. by_test (gap_len (c ∷ cs) g == 0) _ _ (Given Ends) (λ _. ended_ends in_flow m g h)
+      (λ _. between_ends in_flow indent start m g (pred (gap_len (c ∷ cs) g)) cs h)))
 
 pub plain_ends : (in_flow : Bool) (indent : ℕ) (s : Cursor) → Given Ends (plain in_flow indent s)
 unfolding plain

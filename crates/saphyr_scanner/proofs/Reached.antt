@@ -11,23 +11,28 @@ use Rattle.saphyr_scalar.specs.PlainReading.{passed}
 use Rattle.saphyr_scalar.specs.Quoted.{break_len}
 use Rattle.saphyr_scalar.proofs.NoBreaks.{NoBreaks, class_no_break, no_breaks_in}
 use Rattle.saphyr_scalar.proofs.Moving.{along_none, along_more}
-use Rattle.saphyr_scalar.proofs.TagsSpelled.{is_number}
 use Rattle.saphyr_scanner.specs.TokensTaken as taken
-use Rattle.saphyr_scanner.specs.TokensTaken.{IsReached, IsSeparation, past_mark}
-use Rattle.saphyr_scanner.proofs.Later.{break_later}
-use Rattle.saphyr_scanner.proofs.Separated.{both_of}
-use Rattle.saphyr_scanner.proofs.Sizes.{by_test}
+use Rattle.saphyr_scanner.specs.TokensTaken.{IsReached, IsPassedOver, past_mark}
+use Rattle.saphyr_scanner.proofs.Taken.Later.{break_later}
+use Rattle.std.proofs.lemmas.Bool.{eqb-true, and_parts, not-true}
+use Rattle.saphyr_input.proofs.Basics.Booleans.{by_test}
 
-pub reached_reached : (m : Marker) (t : List ℕ) (n : Marker) (u : List ℕ) (k : Marker) (v : List ℕ) → IsReached m t n u → IsReached n u k v → IsReached m t k v
+pub reached_reached : (m : Marker) (t : List ℕ) (n : Marker) (u : List ℕ) (k : Marker) (v : List ℕ) → IsReached m t n u
+    → IsReached n u k v → IsReached m t k v
 reached_reached _ _ _ _ k v (taken.nothing m t) q = q
-reached_reached _ _ _ _ k v (taken.character m c t n u e p) q = taken.character m c t k v e (reached_reached (along m 1) t n u k v p q)
-reached_reached _ _ _ _ k v (taken.mark m t n u e p) q = taken.mark m t k v e (reached_reached (past_mark m) t n u k v p q)
-reached_reached _ _ _ _ k v (taken.line_break m t n u e p) q = taken.line_break m t k v e (reached_reached (next_line m (break_len t)) (drop (break_len t) t) n u k v p q)
+reached_reached _ _ _ _ k v (taken.character m c t n u e p) q =
+    taken.character m c t k v e (reached_reached (along m 1) t n u k v p q)
+reached_reached _ _ _ _ k v (taken.mark m t n u e p) q =
+    taken.mark m t k v e (reached_reached (past_mark m) t n u k v p q)
+reached_reached _ _ _ _ k v (taken.line_break m t n u e p) q =
+    taken.line_break m t k v e (reached_reached (next_line m (break_len t)) (drop (break_len t) t) n u k v p q)
 
 -- a place has as many characters before it as were passed
-pub reached_counted : (m : Marker) (t : List ℕ) (n : Marker) (u : List ℕ) → IsReached m t n u → n.index + length u ≡ m.index + length t
+pub reached_counted : (m : Marker) (t : List ℕ) (n : Marker) (u : List ℕ) → IsReached m t n u
+    → n.index + length u ≡ m.index + length t
 reached_counted _ _ _ _ (taken.nothing m t) = refl
-reached_counted _ _ _ _ (taken.character m c t n u e p) = let h = reached_counted (along m 1) t n u p in omega (arith, h)
+reached_counted _ _ _ _ (taken.character m c t n u e p) =
+    let h = reached_counted (along m 1) t n u p in omega (arith, h)
 reached_counted _ _ _ _ (taken.mark m t n u e p) = let h = reached_counted (past_mark m) t n u p in omega (arith, h)
 reached_counted _ _ _ _ (taken.line_break m t n u e p) =
     let h = reached_counted (next_line m (break_len t)) (drop (break_len t) t) n u p in
@@ -35,26 +40,34 @@ reached_counted _ _ _ _ (taken.line_break m t n u e p) =
     h ∙ b.counted
 
 -- characters of a line
-pub words_reached : (m : Marker) (ws t : List ℕ) (n : Marker) (u : List ℕ) → NoBreaks ws → IsReached (along m (length ws)) t n u → IsReached m (ws ++ t) n u
+pub words_reached : (m : Marker) (ws t : List ℕ) (n : Marker) (u : List ℕ) → NoBreaks ws
+    → IsReached (along m (length ws)) t n u → IsReached m (ws ++ t) n u
 words_reached m [] t n u e p = subst (λ (k : Marker). IsReached k t n u) (along_none m) p
 words_reached m (c ∷ cs) t n u e p =
-    taken.character m c (cs ++ t) n u e.0 (words_reached (along m 1) cs t n u e.1 (subst (λ (k : Marker). IsReached k t n u) (sym (along_more m 1 (length cs) (length (c ∷ cs)) (omega arith))) p))
+    taken.character m c (cs ++ t) n u e.0
+    (words_reached (along m 1) cs t n u e.1
+    (subst (λ (k : Marker). IsReached k t n u) (sym (along_more m 1 (length cs) (length (c ∷ cs)) (omega arith)))
+    p))
 
 pub along_reached : (m : Marker) (ws t : List ℕ) → NoBreaks ws → IsReached m (ws ++ t) (along m (length ws)) t
 along_reached m ws t e = words_reached m ws t (along m (length ws)) t e (taken.nothing (along m (length ws)) t)
 
-pub apart_reached : (m : Marker) (t : List ℕ) (n : Marker) (u : List ℕ) → IsSeparation m t n u → IsReached m t n u
+pub apart_reached : (m : Marker) (t : List ℕ) (n : Marker) (u : List ℕ) → IsPassedOver m t n u → IsReached m t n u
 apart_reached _ _ _ _ (taken.nothing m t) = taken.nothing m t
-apart_reached _ _ _ _ (taken.blank m c t n u e p) = taken.character m c t n u (class_no_break is_blank refl refl c e) (apart_reached (along m 1) t n u p)
-apart_reached _ _ _ _ (taken.line_break m t n u e p) = taken.line_break m t n u e (apart_reached (next_line m (break_len t)) (drop (break_len t) t) n u p)
+apart_reached _ _ _ _ (taken.blank m c t n u e p) =
+    taken.character m c t n u (class_no_break is_blank refl refl c e) (apart_reached (along m 1) t n u p)
+apart_reached _ _ _ _ (taken.line_break m t n u e p) =
+    taken.line_break m t n u e (apart_reached (next_line m (break_len t)) (drop (break_len t) t) n u p)
 apart_reached _ _ _ _ (taken.comment m words t n u a e p) =
     words_reached m (35 ∷ words) t n u (refl, no_breaks_in is_yaml_non_break refl refl words a)
     (subst (λ i. IsReached (along m i) t n u) (omega arith) (apart_reached (along m (1 + length words)) t n u p))
 
 pub passed_reached : (m : Marker) (t : List ℕ) (n : Marker) (u : List ℕ) → IsPassed m t n u → IsReached m t n u
 passed_reached _ _ _ _ (passing.nothing m t) = taken.nothing m t
-passed_reached _ _ _ _ (passing.character m c t n u e p) = taken.character m c t n u e (passed_reached (along m 1) t n u p)
-passed_reached _ _ _ _ (passing.line_break m t n u e p) = taken.line_break m t n u e (passed_reached (next_line m (break_len t)) (drop (break_len t) t) n u p)
+passed_reached _ _ _ _ (passing.character m c t n u e p) =
+    taken.character m c t n u e (passed_reached (along m 1) t n u p)
+passed_reached _ _ _ _ (passing.line_break m t n u e p) =
+    taken.line_break m t n u e (passed_reached (next_line m (break_len t)) (drop (break_len t) t) n u p)
 
 -- ## Pieces of plain scalars
 
@@ -64,13 +77,15 @@ Uncut [] u = Unit {0}
 Uncut (c ∷ []) u = (is_break c ≡ false) ⊎ (is_break (slice_index u 0) ≡ false)
 Uncut (c ∷ d ∷ cs) u = Uncut (d ∷ cs) u
 
-pub single : (m : Marker) (c : ℕ) (t : List ℕ) (n : Marker) (u : List ℕ) → is_break c ≡ true → ((c == 13) && (slice_index t 0 == 10)) ≡ false → IsReached (next_line m 1) t n u
+pub single : (m : Marker) (c : ℕ) (t : List ℕ) (n : Marker) (u : List ℕ) → is_break c ≡ true
+    → ((c == 13) && (slice_index t 0 == 10)) ≡ false → IsReached (next_line m 1) t n u
     → IsReached m (c ∷ t) n u
 single m c t n u b e p =
     let one : break_len (c ∷ t) ≡ 1 = rw e refl in
     taken.line_break m (c ∷ t) n u b (subst (λ l. IsReached (next_line m l) (drop l (c ∷ t)) n u) (sym one) p)
 
-pub double : (m : Marker) (t : List ℕ) (n : Marker) (u : List ℕ) → IsReached (next_line (along m 1) 1) t n u → IsReached m (13 ∷ 10 ∷ t) n u
+pub double : (m : Marker) (t : List ℕ) (n : Marker) (u : List ℕ) → IsReached (next_line (along m 1) 1) t n u
+    → IsReached m (13 ∷ 10 ∷ t) n u
 double m t n u p =
     let i : m.index + 1 + 1 ≡ m.index + 2 = omega arith in
     let same : next_line (along m 1) 1 ≡ next_line m 2 = rw i refl in
@@ -80,10 +95,6 @@ no_end : (a b : Bool) → (a && not (b && false)) ≡ false → a ≡ false
 no_end false b e = refl
 no_end true true e = absurd (cc)
 no_end true false e = absurd (cc)
-
-not_true : (b : Bool) → not b ≡ true → b ≡ false
-not_true false e = refl
-not_true true e = absurd (cc)
 
 not_both : (a b : Bool) → (a && not b) ≡ false → (a ≡ false) ⊎ (b ≡ true)
 not_both false b e = inl refl
@@ -100,25 +111,32 @@ piece_reached m [] u h = taken.nothing m u
 piece_reached m (c ∷ []) u h =
     by_test (ends_line c []) (next_line m 1) (along m 1) (λ (k : Marker). IsReached m (c ∷ u) k u)
     (λ e.
-    let b : is_break c ≡ true = (both_of (is_break c) _ e).0 in
-    let whole : ((c == 13) && (slice_index u 0 == 10)) ≡ false = elim h [ inl f ↦ absurd (cc) | inr f ↦ never (c == 13) (slice_index u 0 == 10) (slice_index u 0 == 13) f ] in
+    let b : is_break c ≡ true = (and_parts (is_break c) _ e).0 in
+    let whole : ((c == 13) && (slice_index u 0 == 10)) ≡ false =
+    elim h [ inl f ↦ absurd (cc) | inr f ↦ never (c == 13) (slice_index u 0 == 10) (slice_index u 0 == 13) f ] in
     single m c u (next_line m 1) u b whole (taken.nothing (next_line m 1) u))
     (λ e. taken.character m c u (along m 1) u (no_end (is_break c) (c == 13) e) (taken.nothing (along m 1) u))
 piece_reached m (c ∷ d ∷ cs) u h =
-    by_test (ends_line c (d ∷ cs)) (next_line m 1) (along m 1) (λ (k : Marker). IsReached m (c ∷ d ∷ (cs ++ u)) (passed k (d ∷ cs)) u)
+    by_test (ends_line c (d ∷ cs)) (next_line m 1) (along m 1)
+    (λ (k : Marker). IsReached m (c ∷ d ∷ (cs ++ u)) (passed k (d ∷ cs)) u)
     (λ e.
-    let w = both_of (is_break c) _ e in
-    single m c (d ∷ (cs ++ u)) (passed (next_line m 1) (d ∷ cs)) u w.0 (not_true ((c == 13) && (d == 10)) w.1) (piece_reached (next_line m 1) (d ∷ cs) u h))
+    let w = and_parts (is_break c) _ e in
+    single m c (d ∷ (cs ++ u)) (passed (next_line m 1) (d ∷ cs)) u w.0 (not-true ((c == 13) && (d == 10)) w.1)
+    (piece_reached (next_line m 1) (d ∷ cs) u h))
     (λ e. elim (not_both (is_break c) ((c == 13) && (d == 10)) e) [
-      | inl f ↦ taken.character m c (d ∷ (cs ++ u)) (passed (along m 1) (d ∷ cs)) u f (piece_reached (along m 1) (d ∷ cs) u h)
-      | inr f ↦ let w = both_of (c == 13) (d == 10) f in two c d (is_number c 13 w.0) (is_number d 10 w.1) (piece_reached (next_line (along m 1) 1) cs u (less cs h))
+      | inl f ↦ taken.character m c (d ∷ (cs ++ u)) (passed (along m 1) (d ∷ cs)) u f
+          (piece_reached (along m 1) (d ∷ cs) u h)
+      | inr f ↦ let w = and_parts (c == 13) (d == 10) f in
+          two c d (eqb-true c 13 w.0) (eqb-true d 10 w.1) (piece_reached (next_line (along m 1) 1) cs u (less cs h))
     ])
   where
     less : (xs : List ℕ) → Uncut (d ∷ xs) u → Uncut xs u
     less [] k = tt
     less (x ∷ xs) k = k
 
-    two : (x y : ℕ) → x ≡ 13 → y ≡ 10 → IsReached (next_line (along m 1) 1) (cs ++ u) (passed (next_line (along m 1) 1) cs) u → IsReached m (x ∷ y ∷ (cs ++ u)) (passed (along m 1) (y ∷ cs)) u
+    two : (x y : ℕ) → x ≡ 13 → y ≡ 10
+        → IsReached (next_line (along m 1) 1) (cs ++ u) (passed (next_line (along m 1) 1) cs) u
+        → IsReached m (x ∷ y ∷ (cs ++ u)) (passed (along m 1) (y ∷ cs)) u
     two x y e f p =
         let P : ℕ → Type 0 = λ z. IsReached m (z ∷ y ∷ (cs ++ u)) (passed (along m 1) (y ∷ cs)) u in
         let Q : ℕ → Type 0 = λ z. IsReached m (13 ∷ z ∷ (cs ++ u)) (passed (along m 1) (z ∷ cs)) u in

@@ -25,9 +25,9 @@ use Rattle.saphyr_scalar.specs.Quoted.{at}
 use Rattle.saphyr_scalar.specs.QuotedSpelling.{IsQuotedText}
 use Rattle.saphyr_scalar.specs.Tag as tags
 use Rattle.saphyr_scalar.specs.TagSpelling.{IsAnchorName, IsTagText, EndsTag}
-use Rattle.saphyr_scalar.proofs.PlainTexts.{passed_index}
+use Rattle.saphyr_scalar.proofs.Plain.Texts.{passed_index}
 use Rattle.saphyr_scanner.proofs.Counted.{Ahead, ahead_ahead, text_passed, passed_over, pass_break_counted}
-use Rattle.saphyr_scanner.proofs.OrderedScalars.{Reads, ReadsSpan, ReaderEnds}
+use Rattle.saphyr_scanner.proofs.Ordered.Scalars.{Reads, ReadsSpan, ReaderEnds}
 
 -- ## Plain scalars
 
@@ -40,22 +40,29 @@ plain_counted s t text end r =
     let l : length s.rest ≡ length (r.piece ++ (r.white ++ t.rest)) = ap length r.is in
     let x = length-append r.piece (r.white ++ t.rest) in
     let y = length-append r.white t.rest in
-    record { ahead = record { later = omega (arith, a, b, i, j); counted = omega (arith, a, b, i, j, l, x, y) }; begins = omega (arith, a, i); ends = omega (arith, b, j) }
+    record {
+      ahead = record { later = omega (arith, a, b, i, j); counted = omega (arith, a, b, i, j, l, x, y) };
+      begins = omega (arith, a, i);
+      ends = omega (arith, b, j);
+    }
 
 -- ## Names and tags
 
 -- what stands behind a text of the line
-at_end : (s t : Cursor) (text : List ℕ) → s.rest ≡ text ++ t.rest → t ≡ at (along s.mark (length text)) t.rest → Ahead s t
+at_end : (s t : Cursor) (text : List ℕ) → s.rest ≡ text ++ t.rest → t ≡ at (along s.mark (length text)) t.rest
+    → Ahead s t
 at_end s t text is e = text_passed s t text is (ap (λ (c : Cursor). c.mark.index) e)
 
-name_counted : (s t : Cursor) (indicator : ℕ) (name : List ℕ) → s.rest ≡ indicator ∷ (name ++ t.rest) → t ≡ at (along s.mark (1 + length name)) t.rest → Ahead s t
+name_counted : (s t : Cursor) (indicator : ℕ) (name : List ℕ) → s.rest ≡ indicator ∷ (name ++ t.rest)
+    → t ≡ at (along s.mark (1 + length name)) t.rest → Ahead s t
 name_counted s t indicator name is e =
     let i : t.mark.index ≡ s.mark.index + (1 + length name) = ap (λ (c : Cursor). c.mark.index) e in
     text_passed s t (indicator ∷ name) is (omega (arith, i))
 
 -- ## Directives
 
-directive_counted : (s u : Cursor) (end : Marker) (t tail x : List ℕ) → s.rest ≡ t ++ (tail ++ x) → end ≡ along s.mark (length t) → u ≡ pass_break (at (along s.mark (length t + length tail)) x) → Reads s end u
+directive_counted : (s u : Cursor) (end : Marker) (t tail x : List ℕ) → s.rest ≡ t ++ (tail ++ x)
+    → end ≡ along s.mark (length t) → u ≡ pass_break (at (along s.mark (length t + length tail)) x) → Reads s end u
 directive_counted s u end t tail x is ends e =
     let v : Cursor = at (along s.mark (length t + length tail)) x in
     let l : length s.rest ≡ length (t ++ (tail ++ x)) = ap length is in
@@ -70,32 +77,54 @@ directive_counted s u end t tail x is ends e =
 
 -- ## Block scalars
 
-block_counted : (s t : Cursor) (span : Span) → s.mark.index ≤ span.start.index → span.start.index ≤ span.end.index → span.end ≡ t.mark → t.mark.index + length t.rest ≡ s.mark.index + length s.rest → ReadsSpan s span t
+block_counted : (s t : Cursor) (span : Span) → s.mark.index ≤ span.start.index → span.start.index ≤ span.end.index
+    → span.end ≡ t.mark → t.mark.index + length t.rest ≡ s.mark.index + length s.rest → ReadsSpan s span t
 block_counted s t span a b e c =
     let i : span.end.index ≡ t.mark.index = ap (λ (m : Marker). m.index) e in
-    record { ahead = record { later = omega (arith, a, b, i); counted = c }; begins = a; inside = b; ends = omega (arith, i) }
+    record {
+      ahead = record { later = omega (arith, a, b, i); counted = c };
+      begins =
+          a;
+      inside = b;
+      ends = omega (arith, i);
+    }
 
 -- ## All readers
 
 -- the laws as they are called
-pub reader_ends : ((in_flow : Bool) (indent : ℕ) (s t : Cursor) (text : List ℕ) (end : Marker) (comment : Option Marker) → words.plain in_flow indent s ≡ Ok (text, end, comment, t) → IsPlainReading s text end t)
-    → ((quote : Quote) (indent : ℕ) (s t : Cursor) (text : List ℕ) → slice_index s.rest 0 ≡ mark quote → quoted.quoted quote indent s ≡ Ok (text, t)
-    → (items : List Item) × IsQuotedText quote s.rest items t.rest × (encode_utf8_all (folded items) ≡ text) × IsPassed s.mark s.rest t.mark t.rest)
-    → ((style : BlockStyle) (indent : ℕ) (s t : Cursor) (text : List ℕ) (span : Span) → 0 < length s.rest → blocks.block_scalar style indent s ≡ Ok (text, span, t)
-    → (s.mark.index ≤ span.start.index) × (span.start.index ≤ span.end.index) × (span.end ≡ t.mark) × (t.mark.index + length t.rest ≡ s.mark.index + length s.rest))
+pub reader_ends : ((in_flow : Bool) (indent : ℕ) (s t : Cursor) (text : List ℕ) (end : Marker) (comment : Option Marker)
+    → words.plain in_flow indent s ≡ Ok (text, end, comment, t) → IsPlainReading s text end t)
+    → ((quote : Quote) (indent : ℕ) (s t : Cursor) (text : List ℕ) → slice_index s.rest 0 ≡ mark quote
+    → quoted.quoted quote indent s ≡ Ok (text, t)
+    → (items : List Item) × IsQuotedText quote s.rest items t.rest × (encode_utf8_all (folded items) ≡ text)
+    × IsPassed s.mark s.rest t.mark t.rest)
+    → ((style : BlockStyle) (indent : ℕ) (s t : Cursor) (text : List ℕ) (span : Span) → 0 < length s.rest
+    → blocks.block_scalar style indent s ≡ Ok (text, span, t)
+    → (s.mark.index ≤ span.start.index) × (span.start.index ≤ span.end.index) × (span.end ≡ t.mark)
+    × (t.mark.index + length t.rest ≡ s.mark.index + length s.rest))
     → ((s t : Cursor) (text : List ℕ) → 0 < length s.rest → anchors.anchor s ≡ Ok (text, t)
-    → (indicator : ℕ) × (name : List ℕ) × (s.rest ≡ indicator ∷ (name ++ t.rest)) × IsAnchorName name × (is_anchor_char (slice_index t.rest 0) ≡ false) × (t ≡ at (along s.mark (1 + length name)) t.rest) × (encode_utf8_all name ≡ text))
-    → ((in_flow : Bool) (s u : Cursor) (front back : List ℕ) → slice_index s.rest 0 ≡ 33 → tags.tag in_flow s ≡ Ok (front, back, u)
-    → (t : List ℕ) × (handle : List ℕ) × (suffix : List ℕ) × (s.rest ≡ t ++ u.rest) × IsTagText t handle suffix × EndsTag in_flow u.rest × (u ≡ at (along s.mark (length t)) u.rest) × (encode_utf8_all handle ≡ front) × (encode_utf8_all suffix ≡ back))
-    → ((s u : Cursor) (d : Directive) (end : Marker) → slice_index s.rest 0 ≡ 37 → directives.directive s ≡ Ok (d, end, u)
-    → (t : List ℕ) × (tail : List ℕ) × (x : List ℕ) × (s.rest ≡ t ++ (tail ++ x)) × IsReadDirective d t × IsLineTail tail × (is_breakz (slice_index x 0) ≡ true) × (end ≡ along s.mark (length t)) × (u ≡ pass_break (at (along s.mark (length t + length tail)) x)))
+    → (indicator : ℕ) × (name : List ℕ) × (s.rest ≡ indicator ∷ (name ++ t.rest)) × IsAnchorName name
+    × (is_anchor_char (slice_index t.rest 0) ≡ false) × (t ≡ at (along s.mark (1 + length name)) t.rest)
+    × (encode_utf8_all name ≡ text))
+    → ((in_flow : Bool) (s u : Cursor) (front back : List ℕ) → slice_index s.rest 0 ≡ 33
+    → tags.tag in_flow s ≡ Ok (front, back, u)
+    → (t : List ℕ) × (handle : List ℕ) × (suffix : List ℕ) × (s.rest ≡ t ++ u.rest) × IsTagText t handle suffix
+    × EndsTag in_flow u.rest × (u ≡ at (along s.mark (length t)) u.rest) × (encode_utf8_all handle ≡ front)
+    × (encode_utf8_all suffix ≡ back))
+    → ((s u : Cursor) (d : Directive) (end : Marker) → slice_index s.rest 0 ≡ 37
+    → directives.directive s ≡ Ok (d, end, u)
+    → (t : List ℕ) × (tail : List ℕ) × (x : List ℕ) × (s.rest ≡ t ++ (tail ++ x)) × IsReadDirective d t
+    × IsLineTail tail × (is_breakz (slice_index x 0) ≡ true) × (end ≡ along s.mark (length t))
+    × (u ≡ pass_break (at (along s.mark (length t + length tail)) x)))
     → ReaderEnds
 reader_ends plain quotes block name tag directive = record {
   plain = λ f i s t text end comment e. plain_counted s t text end (plain f i s t text end comment e);
   double_quoted = λ i s t text first e. passed_over s t (quotes Double i s t text first e).3;
   single_quoted = λ i s t text first e. passed_over s t (quotes Single i s t text first e).3;
-  block_scalar = λ style i s t text span some e. let x = block style i s t text span some e in block_counted s t span x.0 x.1 x.2 x.3;
+  block_scalar = λ style i s t text span some e. let x =
+      block style i s t text span some e in block_counted s t span x.0 x.1 x.2 x.3;
   name = λ s t text some e. let x = name s t text some e in name_counted s t x.0 x.1 x.2 x.5;
   tag = λ f s t handle suffix first e. let x = tag f s t handle suffix first e in at_end s t x.0 x.3 x.6;
-  directive = λ s t d end first e. let x = directive s t d end first e in directive_counted s t end x.0 x.1 x.2 x.3 x.7 x.8;
+  directive = λ s t d end first e. let x =
+      directive s t d end first e in directive_counted s t end x.0 x.1 x.2 x.3 x.7 x.8;
 }

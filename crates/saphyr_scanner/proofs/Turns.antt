@@ -7,19 +7,18 @@ use Rattle.saphyr_scalar.specs.Seen.{Fails, Moves}
 use Rattle.saphyr_scanner.specs.declared.token.Token.{Token}
 use Rattle.saphyr_scanner.specs.declared.queue.Opening.{Opening}
 use Rattle.saphyr_scanner.specs.declared.queue.Opening.TheVariants as opening
-use Rattle.saphyr_scanner.specs.Seen.{Piece, Remaining, none, before, piece, written, handed, Hands}
-use Rattle.saphyr_scanner.specs.Queue.{Place}
-use Rattle.saphyr_scanner.specs.Core.{Core}
-use Rattle.saphyr_scanner.specs.State.{State}
-use Rattle.saphyr_scanner.specs.Fetch.{size, settled, needs_token, fill, take}
-use Rattle.saphyr_scanner.specs.Remaining.{before_place, remaining}
-use Rattle.saphyr_scanner.proofs.TakingScalars.{Readers}
-use Rattle.saphyr_scanner.proofs.Filling.{IsSettled, settled_once, bind_ok}
-use Rattle.saphyr_scanner.proofs.Unroll.{refused_first, rest, if_true, if_false, remaining_is, settled_is, filled_in}
-
--- a state with these places, of which so many were handed out before
-abbrev holding : Core → List Place → ℕ → State
-holding c ps n = record { core = c; queue = record { places = ps; handed = n } }
+use Rattle.saphyr_scanner.specs.Views.Tokens.{Piece, Remaining, none, before, piece, written, handed, Hands}
+use Rattle.saphyr_scanner.specs.Steps.Queue.{Place}
+use Rattle.saphyr_scanner.specs.Steps.Core.{Core}
+use Rattle.saphyr_scanner.specs.Steps.State.{State}
+use Rattle.saphyr_scanner.specs.Steps.Fetch.{size, settled, needs_token, fill, take}
+use Rattle.saphyr_scanner.specs.Steps.Remaining.{before_place, remaining}
+use Rattle.saphyr_scanner.proofs.Sizes.Scalars.{Readers}
+use Rattle.saphyr_scanner.proofs.Filling.{IsSettled, settled_once}
+use Rattle.saphyr_scanner.proofs.Unroll.{refused_first, rest, remaining_is, settled_is, filled_in}
+use Rattle.saphyr_scalar.proofs.Given.{bind_ok}
+use Rattle.std.proofs.lemmas.Bool.{cond-true, cond-false}
+use Rattle.saphyr_scanner.proofs.Queues.{holding, with_front}
 
 -- what is taken of a state, and what remains of it
 abbrev Leaves : ℕ → State → State → Option Piece → Type 0
@@ -30,30 +29,34 @@ abbrev Takes : ℕ → State → Option Piece × State → Type 0
 Takes limit t r = Leaves limit t r.1 r.0
 
 at_end : (limit : ℕ) (c : Core) (n : ℕ) → needs_token (holding c [] n) ≡ false → rest limit (holding c [] n) ≡ none
-at_end limit c n ready = if_true c.ended _ _ (over c.ended ready)
+at_end limit c n ready = cond-true c.ended _ _ (over c.ended ready)
   where
     over : (b : Bool) → (not b && true) ≡ false → b ≡ true
     over true e = refl
     over false e = absurd (cc)
 
 -- the tokens of a place that is not held back come first
-place_first : (limit : ℕ) (c : Core) (p : Place) (ps : List Place) (n : ℕ) → needs_token (holding c (p ∷ ps) n) ≡ false → rest limit (holding c (p ∷ ps) n) ≡ before_place p.opening p.piece (rest limit (holding c ps (n + 1)))
-place_first limit c p ps n ready = if_false (needs_token (holding c (p ∷ ps) n)) _ _ ready
-
-abbrev placed : Opening → Piece → Place
-placed o t = record { opening = o; piece = t }
+place_first : (limit : ℕ) (c : Core) (p : Place) (ps : List Place) (n : ℕ) → needs_token (holding c (p ∷ ps) n) ≡ false
+    → rest limit (holding c (p ∷ ps) n) ≡ before_place p.opening p.piece (rest limit (holding c ps (n + 1)))
+place_first limit c p ps n ready = cond-false (needs_token (holding c (p ∷ ps) n)) _ _ ready
 
 -- Whether a token has to be read does not depend on what stands in front of the first one.
-place_taken : (limit : ℕ) (c : Core) (o : Opening) (t : Piece) (ps : List Place) (n : ℕ) → needs_token (holding c (placed o t ∷ ps) n) ≡ false → Takes limit (holding c (placed o t ∷ ps) n) (take (holding c (placed o t ∷ ps) n))
-place_taken limit c opening.Nothing t ps n ready = place_first limit c (placed opening.Nothing t) ps n ready
+place_taken : (limit : ℕ) (c : Core) (o : Opening) (t : Piece) (ps : List Place) (n : ℕ)
+    → needs_token (holding c (with_front o t ∷ ps) n) ≡ false
+    → Takes limit (holding c (with_front o t ∷ ps) n) (take (holding c (with_front o t ∷ ps) n))
+place_taken limit c opening.Nothing t ps n ready = place_first limit c (with_front opening.Nothing t) ps n ready
 place_taken limit c opening.Key t ps n ready =
-    place_first limit c (placed opening.Key t) ps n ready ∙ ap (before _) (sym (place_first limit c (placed opening.Nothing t) ps n ready))
+    place_first limit c (with_front opening.Key t) ps n ready
+    ∙ ap (before _) (sym (place_first limit c (with_front opening.Nothing t) ps n ready))
 place_taken limit c opening.BlockMappingAndKey t ps n ready =
-    place_first limit c (placed opening.BlockMappingAndKey t) ps n ready ∙ ap (before _) (sym (place_first limit c (placed opening.Key t) ps n ready))
+    place_first limit c (with_front opening.BlockMappingAndKey t) ps n ready
+    ∙ ap (before _) (sym (place_first limit c (with_front opening.Key t) ps n ready))
 place_taken limit c opening.FlowMappingAndKey t ps n ready =
-    place_first limit c (placed opening.FlowMappingAndKey t) ps n ready ∙ ap (before _) (sym (place_first limit c (placed opening.Key t) ps n ready))
+    place_first limit c (with_front opening.FlowMappingAndKey t) ps n ready
+    ∙ ap (before _) (sym (place_first limit c (with_front opening.Key t) ps n ready))
 
-first_taken : (limit : ℕ) (c : Core) (ps : List Place) (n : ℕ) → needs_token (holding c ps n) ≡ false → Takes limit (holding c ps n) (take (holding c ps n))
+first_taken : (limit : ℕ) (c : Core) (ps : List Place) (n : ℕ) → needs_token (holding c ps n) ≡ false
+    → Takes limit (holding c ps n) (take (holding c ps n))
 first_taken limit c [] n ready = (at_end limit c n ready, refl)
 first_taken limit c (p ∷ ps) n ready = place_taken limit c p.opening p.piece ps n ready
 
@@ -66,14 +69,16 @@ remaining_of : (limit : ℕ) (t : State) → IsSettled t → remaining limit t �
 remaining_of limit t h = remaining_is limit t t (settled_is t h)
 
 -- what was read first
-pub filled : Readers → (limit : ℕ) (s t : State) → fill limit s ≡ Ok t → (remaining limit s ≡ rest limit t) × (needs_token t ≡ false) × IsSettled t
+pub filled : Readers → (limit : ℕ) (s t : State) → fill limit s ≡ Ok t
+    → (remaining limit s ≡ rest limit t) × (needs_token t ≡ false) × IsSettled t
 unfolding fill
 filled laws limit s t e =
     let b = bind_ok (settled s) _ t e in
     let f = filled_in laws limit (suc (size b.0.core)) b.0 t (omega arith) (settled_once s b.0 b.1) b.2 in
     (remaining_is limit s b.0 b.1 ∙ f.same, f.ready, f.settles)
 
-hands : (limit : ℕ) (t u : State) (r : Option Token) (old : Remaining) → old ≡ rest limit t → IsSettled t → Takes limit t (take t) → (option_map piece r, u) ≡ take t → Hands (Ok r) old (remaining limit u)
+hands : (limit : ℕ) (t u : State) (r : Option Token) (old : Remaining) → old ≡ rest limit t → IsSettled t
+    → Takes limit t (take t) → (option_map piece r, u) ≡ take t → Hands (Ok r) old (remaining limit u)
 hands limit t u None old is settles taken e =
     let first : (take t).0 ≡ None = ap (λ x. x.0) (sym e) in
     let second : u ≡ (take t).1 = ap (λ x. x.1) e in
@@ -83,18 +88,23 @@ hands limit t u (Some x) old is settles taken e =
     let first : (take t).0 ≡ Some (piece x) = ap (λ x. x.0) (sym e) in
     let second : u ≡ (take t).1 = ap (λ x. x.1) e in
     let gone = subst (Leaves limit t (take t).1) first taken in
-    is ∙ gone ∙ ap (before (piece x)) (sym (remaining_of limit (take t).1 (taken_settles t settles)) ∙ ap (remaining limit) (sym second))
+    is ∙ gone ∙ ap (before (piece x))
+    (sym (remaining_of limit (take t).1 (taken_settles t settles)) ∙ ap (remaining limit) (sym second))
 
-hands_out : Readers → (limit : ℕ) (s t u : State) (r : Option Token) (old : Remaining) → fill limit s ≡ Ok t → take t ≡ (option_map piece r, u) → remaining limit s ≡ old → Hands (Ok r) old (remaining limit u)
+hands_out : Readers → (limit : ℕ) (s t u : State) (r : Option Token) (old : Remaining) → fill limit s ≡ Ok t
+    → take t ≡ (option_map piece r, u) → remaining limit s ≡ old → Hands (Ok r) old (remaining limit u)
 hands_out laws limit s t u r old e took is =
     let f = filled laws limit s t e in
     hands limit t u r old (sym is ∙ f.0) f.2 (first_taken limit t.core t.queue.places t.queue.handed f.1) (sym took)
 
-pub stopped : Readers → (limit : ℕ) (s : State) (end : Stop) (old new : Remaining) → Fails end (fill limit s) → remaining limit s ≡ old → Hands (Err end) old new
+pub stopped : Readers → (limit : ℕ) (s : State) (end : Stop) (old new : Remaining) → Fails end (fill limit s)
+    → remaining limit s ≡ old → Hands (Err end) old new
 stopped laws limit s stops.OutOfMemory old new f is = tt
 stopped laws limit s (stops.Refused e) old new f is = sym is ∙ refused_first laws limit s e f
 
-pub handed_over : Readers → (limit : ℕ) (s t u : State) (token : Token) (r : Result Bool Stop) (old : Remaining) → fill limit s ≡ Ok t → Moves (λ x. (option_map piece (written x token), u)) r (Ok (take t)) → remaining limit s ≡ old → Hands (handed token r) old (remaining limit u)
+pub handed_over : Readers → (limit : ℕ) (s t u : State) (token : Token) (r : Result Bool Stop) (old : Remaining)
+    → fill limit s ≡ Ok t → Moves (λ x. (option_map piece (written x token), u)) r (Ok (take t))
+    → remaining limit s ≡ old → Hands (handed token r) old (remaining limit u)
 handed_over laws limit s t u token (Ok x) old e took is = hands_out laws limit s t u (written x token) old e (cc) is
 handed_over laws limit s t u token (Err stops.OutOfMemory) old e took is = tt
 handed_over laws limit s t u token (Err (stops.Refused f)) old e took is = absurd (cc)

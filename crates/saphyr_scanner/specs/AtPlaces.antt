@@ -1,6 +1,6 @@
 -- Where the tokens of a text stand.
 use Rattle.std.specs.Prelude.{ℕ, List, [], ◌∷◌}
-use Rattle.saphyr_scanner.specs.Seen.{Piece}
+use Rattle.saphyr_scanner.specs.Views.Tokens.{Piece}
 use Rattle.saphyr_scanner.specs.TokensTaken.{IsPlaceOf}
 
 -- each token begins and ends at a place of the text

@@ -1,7 +1,7 @@
 -- Tokens of the same kinds, wherever they stand.
 use Rattle.std.specs.Prelude.{◌≡◌, map, option_map}
 use Rattle.saphyr_scalar.specs.declared.scalar.fault.Refusal.{Refusal}
-use Rattle.saphyr_scanner.specs.Seen.{Piece, Remaining}
+use Rattle.saphyr_scanner.specs.Views.Tokens.{Piece, Remaining}
 
 -- The same kinds in the same order, and a refusal with the same text behind both, or none.
 pub record HaveSameKinds (r q : Remaining) : Type 0 where

@@ -25,9 +25,9 @@ use Rattle.saphyr_scalar.specs.BlockText.{IsBlockText}
 use Rattle.saphyr_scalar.specs.TagSpelling.{AreIn, IsAnchorName, IsTagText}
 use Rattle.saphyr_scalar.specs.Directive.{Directive, version, tag_prefix, reserved}
 use Rattle.saphyr_scalar.specs.DirectiveSpelling.{IsReadDirective, IsLineTail}
-use Rattle.saphyr_scanner.specs.Tokens as tokens
-use Rattle.saphyr_scanner.specs.Tokens.{Kind}
-use Rattle.saphyr_scanner.specs.Seen.{Piece, Remaining}
+use Rattle.saphyr_scanner.specs.Grammar.Tokens as tokens
+use Rattle.saphyr_scanner.specs.Grammar.Tokens.{Kind}
+use Rattle.saphyr_scanner.specs.Views.Tokens.{Piece, Remaining}
 
 -- ## Places (5.4)
 
@@ -39,9 +39,12 @@ past_mark m = record { index = m.index + 1; line = m.line; col = m.col }
 -- line elsewhere it has no column.
 pub data IsReached : Marker → List ℕ → Marker → List ℕ → Type 0 where
   nothing : (m : Marker) (t : List ℕ) → IsReached m t m t
-  character : (m : Marker) (c : ℕ) (t : List ℕ) (n : Marker) (u : List ℕ) → IsFalse (is_break c) → IsReached (along m 1) t n u → IsReached m (c ∷ t) n u
-  mark : (m : Marker) (t : List ℕ) (n : Marker) (u : List ℕ) → m.col ≡ 0 → IsReached (past_mark m) t n u → IsReached m (byte_order_mark ∷ t) n u
-  line_break : (m : Marker) (t : List ℕ) (n : Marker) (u : List ℕ) → IsTrue (is_break (slice_index t 0)) → IsReached (next_line m (break_len t)) (drop (break_len t) t) n u → IsReached m t n u
+  character : (m : Marker) (c : ℕ) (t : List ℕ) (n : Marker) (u : List ℕ) → IsFalse (is_break c)
+      → IsReached (along m 1) t n u → IsReached m (c ∷ t) n u
+  mark : (m : Marker) (t : List ℕ) (n : Marker) (u : List ℕ) → m.col ≡ 0 → IsReached (past_mark m) t n u
+      → IsReached m (byte_order_mark ∷ t) n u
+  line_break : (m : Marker) (t : List ℕ) (n : Marker) (u : List ℕ) → IsTrue (is_break (slice_index t 0))
+      → IsReached (next_line m (break_len t)) (drop (break_len t) t) n u → IsReached m t n u
 
 -- a place, or behind the last line, which no break ends, the start of the next
 abbrev pub IsPlaceOrEnd : Cursor → Marker → Type 0
@@ -49,36 +52,44 @@ IsPlaceOrEnd s m = (m ≡ s.mark) ⊎ ((s.rest ≡ []) × (m ≡ next_line s.mar
 
 -- a place of a text
 abbrev pub IsPlaceOf : List ℕ → Marker → Type 0
-IsPlaceOf text m = (s : Cursor) × IsReached (fresh text).mark text s.mark s.rest × IsPlaceOrEnd s m × (m.index ≤ length text)
+IsPlaceOf text m = (s : Cursor) × IsReached (fresh text).mark text s.mark s.rest × IsPlaceOrEnd s m
+    × (m.index ≤ length text)
 
 -- ## What stands between tokens (6.6, 6.7)
 
 -- blanks, breaks and comments. A comment is all of the line behind its `#`, up to a NUL or a byte order mark.
-pub data IsSeparation : Marker → List ℕ → Marker → List ℕ → Type 0 where
-  nothing : (m : Marker) (t : List ℕ) → IsSeparation m t m t
-  blank : (m : Marker) (c : ℕ) (t : List ℕ) (n : Marker) (u : List ℕ) → IsTrue (is_blank c) → IsSeparation (along m 1) t n u → IsSeparation m (c ∷ t) n u
-  line_break : (m : Marker) (t : List ℕ) (n : Marker) (u : List ℕ) → IsTrue (is_break (slice_index t 0)) → IsSeparation (next_line m (break_len t)) (drop (break_len t) t) n u → IsSeparation m t n u
-  comment : (m : Marker) (words t : List ℕ) (n : Marker) (u : List ℕ) → AreIn is_yaml_non_break words → IsFalse (is_yaml_non_break (slice_index t 0)) → IsSeparation (along m (1 + length words)) t n u → IsSeparation m (35 ∷ (words ++ t)) n u
+pub data IsPassedOver : Marker → List ℕ → Marker → List ℕ → Type 0 where
+  nothing : (m : Marker) (t : List ℕ) → IsPassedOver m t m t
+  blank : (m : Marker) (c : ℕ) (t : List ℕ) (n : Marker) (u : List ℕ) → IsTrue (is_blank c)
+      → IsPassedOver (along m 1) t n u → IsPassedOver m (c ∷ t) n u
+  line_break : (m : Marker) (t : List ℕ) (n : Marker) (u : List ℕ) → IsTrue (is_break (slice_index t 0))
+      → IsPassedOver (next_line m (break_len t)) (drop (break_len t) t) n u → IsPassedOver m t n u
+  comment : (m : Marker) (words t : List ℕ) (n : Marker) (u : List ℕ) → AreIn is_yaml_non_break words
+      → IsFalse (is_yaml_non_break (slice_index t 0)) → IsPassedOver (along m (1 + length words)) t n u
+      → IsPassedOver m (35 ∷ (words ++ t)) n u
 
 abbrev pub AreApart : Cursor → Cursor → Type 0
-AreApart s t = IsSeparation s.mark s.rest t.mark t.rest
+AreApart s t = IsPassedOver s.mark s.rest t.mark t.rest
 
 -- from s blanks, and behind some a comment, reach up to the place m of its line
-abbrev pub IsOnLine : Cursor → Marker → Type 0
-IsOnLine s m = (tail behind : List ℕ) × IsLineTail tail × (s.rest ≡ tail ++ behind) × (m ≡ along s.mark (length tail))
+abbrev pub LiesOnLine : Cursor → Marker → Type 0
+LiesOnLine s m = (tail behind : List ℕ) × IsLineTail tail × (s.rest ≡ tail ++ behind) × (m ≡ along s.mark (length tail))
 
--- ## Tokens without a text: the stream's ends, starts and ends of block collections, an implicit key's, and a single pair's
+-- ## Tokens without a text: the stream's ends, starts and ends of block collections, an implicit key's, and a single
+-- pair's
 
 abbrev pub HasNoText : Span → Cursor → Cursor → Type 0
 HasNoText span s t = (span.end ≡ span.start) × IsPlaceOrEnd s span.start × (t ≡ s)
 
--- The start of a block collection stands where the text of the next token begins that has one: neither a blank, a break nor
+-- The start of a block collection stands where the text of the next token begins that has one: neither a blank, a break
+-- nor
 -- a comment stands there.
 abbrev pub begins_text : ℕ → Bool
 begins_text c = not (is_blank_or_break c) && not (c == 35)
 
 abbrev pub IsBlockStart : Span → Cursor → Cursor → Type 0
-IsBlockStart span s t = (span.end ≡ span.start) × (span.start ≡ s.mark) × (t ≡ s) × IsTrue (begins_text (slice_index s.rest 0))
+IsBlockStart span s t = (span.end ≡ span.start) × (span.start ≡ s.mark) × (t ≡ s)
+    × IsTrue (begins_text (slice_index s.rest 0))
 
 -- ## Tokens that are their spans: markers, anchors, aliases, tags and directives
 
@@ -102,64 +113,73 @@ pub record IsMark (span : Span) (s t : Cursor) : Type 0 where
   pub goes_on : t.mark ≡ past_mark s.mark
 
 -- 6.9.2, 7.1: `&` or `*` and a name, which no character of names follows
-abbrev pub IsName : ℕ → List ℕ → Span → Cursor → Cursor → Type 0
-IsName indicator bytes span s t =
-    (name : List ℕ) × IsAnchorName name × (bytes ≡ encode_utf8_all name) × IsSpan span (indicator ∷ name) s t × IsFalse (is_anchor_char (slice_index t.rest 0))
+abbrev pub IsNameToken : ℕ → List ℕ → Span → Cursor → Cursor → Type 0
+IsNameToken indicator bytes span s t =
+    (name : List ℕ) × IsAnchorName name × (bytes ≡ encode_utf8_all name) × IsSpan span (indicator ∷ name) s t
+    × IsFalse (is_anchor_char (slice_index t.rest 0))
 
 -- 6.9.1. A verbatim tag's uri may be empty.
-abbrev pub IsTag : List ℕ → List ℕ → Span → Cursor → Cursor → Type 0
-IsTag front back span s t =
-    (text handle suffix : List ℕ) × IsTagText text handle suffix × (front ≡ encode_utf8_all handle) × (back ≡ encode_utf8_all suffix) × IsSpan span text s t
+abbrev pub IsTagToken : List ℕ → List ℕ → Span → Cursor → Cursor → Type 0
+IsTagToken front back span s t =
+    (text handle suffix : List ℕ) × IsTagText text handle suffix × (front ≡ encode_utf8_all handle)
+    × (back ≡ encode_utf8_all suffix) × IsSpan span text s t
 
 -- 6.8: a directive at the start of a line, on which nothing else stands but a comment
-abbrev pub IsDirective : Directive → Span → Cursor → Cursor → Type 0
-IsDirective d span s t =
+abbrev pub IsDirectiveToken : Directive → Span → Cursor → Cursor → Type 0
+IsDirectiveToken d span s t =
     (text tail behind : List ℕ) × (s.mark.col ≡ 0) × IsReadDirective d text × IsSpan span text s t
     × IsLineTail tail × (t.rest ≡ tail ++ behind) × IsTrue (is_breakz (slice_index behind 0))
 
 -- ## Indicators (5.3)
 
 -- the indicator c stands from s to t
-abbrev pub IsCharacter : ℕ → Cursor → Cursor → Type 0
-IsCharacter c s t = (s.rest ≡ c ∷ t.rest) × (t.mark ≡ along s.mark 1)
+abbrev pub TakesCharacter : ℕ → Cursor → Cursor → Type 0
+TakesCharacter c s t = (s.rest ≡ c ∷ t.rest) × (t.mark ≡ along s.mark 1)
 
 -- 7.4: a bracket or a comma, behind which the span has only blanks and a comment
 abbrev pub IsFlowIndicator : ℕ → Span → Cursor → Cursor → Type 0
-IsFlowIndicator c span s t = IsCharacter c s t × (span.start ≡ s.mark) × IsOnLine t span.end
+IsFlowIndicator c span s t = TakesCharacter c s t × (span.start ≡ s.mark) × LiesOnLine t span.end
 
 -- 8.2.1: `-`, whose span is empty and stands behind the blanks and the comment that follow
 abbrev pub IsDash : Span → Cursor → Cursor → Type 0
-IsDash span s t = IsCharacter 45 s t × IsTrue (is_blank_or_breakz (slice_index t.rest 0)) × IsOnLine t span.start × (span.end ≡ span.start)
+IsDash span s t = TakesCharacter 45 s t × IsTrue (is_blank_or_breakz (slice_index t.rest 0)) × LiesOnLine t span.start
+    × (span.end ≡ span.start)
 
 -- 7.4.2, 8.2.2: `?`, whose span goes on over blanks, breaks and comments
 abbrev pub IsQuestionMark : Span → Cursor → Cursor → Type 0
 IsQuestionMark span s t =
-    IsCharacter 63 s t × IsTrue (is_blank_or_breakz (slice_index t.rest 0)) × (span.start ≡ s.mark) × ((behind : List ℕ) × IsSeparation t.mark t.rest span.end behind)
+    TakesCharacter 63 s t × IsTrue (is_blank_or_breakz (slice_index t.rest 0)) × (span.start ≡ s.mark)
+    × ((behind : List ℕ) × IsPassedOver t.mark t.rest span.end behind)
 
 -- 7.4.2, 8.2.2: `:`, before which the span stands, empty
 abbrev pub IsColon : Span → Cursor → Cursor → Type 0
-IsColon span s t = IsCharacter 58 s t × (span.start ≡ s.mark) × (span.end ≡ s.mark)
+IsColon span s t = TakesCharacter 58 s t × (span.start ≡ s.mark) × (span.end ≡ s.mark)
 
 -- ## Scalars (7.3, 8.1)
 
--- From quote to quote, behind which the span has only blanks and a comment. No later line begins with a document marker.
-abbrev pub IsQuotedScalar : Quote → List ℕ → Span → Cursor → Cursor → Type 0
-IsQuotedScalar quote value span s t =
-    (items : List Item) × (is : IsQuotedText quote s.rest items t.rest) × (value ≡ encode_utf8_all (folded items)) × IsPassed s.mark s.rest t.mark t.rest × (span.start ≡ s.mark) × IsOnLine t span.end
+-- From quote to quote, behind which the span has only blanks and a comment. No later line begins with a document
+-- marker.
+abbrev pub IsQuotedToken : Quote → List ℕ → Span → Cursor → Cursor → Type 0
+IsQuotedToken quote value span s t =
+    (items : List Item) × (is : IsQuotedText quote s.rest items t.rest) × (value ≡ encode_utf8_all (folded items))
+    × IsPassed s.mark s.rest t.mark t.rest × (span.start ≡ s.mark) × LiesOnLine t span.end
     × HasNoMarker quote is.0 items t.rest is.2
 
 -- no indicator with which another token begins inside flow and outside
-abbrev pub begins_plain : ℕ → Bool
-begins_plain c = not (is_one_of (codes ",[]{}#&*!'\"%@`") c)
+abbrev pub may_begin_plain : ℕ → Bool
+may_begin_plain c = not (is_one_of (codes ",[]{}#&*!'\"%@`") c)
 
--- The span is the piece that is read. It begins with neither a blank nor a break, and with `-`, `?` or `:` only where no
--- blank, break or NUL follows. Where blanks and breaks behind it are passed no break stands behind those, so that none of
+-- The span is the piece that is read. It begins with neither a blank nor a break, and with `-`, `?` or `:` only where
+-- no
+-- blank, break or NUL follows. Where blanks and breaks behind it are passed no break stands behind those, so that none
+-- of
 -- two characters is cut.
-pub record IsPlainScalar (value : List ℕ) (span : Span) (s t : Cursor) : Type 0 where
+pub record IsPlainToken (value : List ℕ) (span : Span) (s t : Cursor) : Type 0 where
   pub start : span.start ≡ s.mark
-  pub begins : IsTrue (begins_plain (slice_index s.rest 0))
+  pub begins : IsTrue (may_begin_plain (slice_index s.rest 0))
   pub is_ink : IsFalse (is_blank_or_break (slice_index s.rest 0))
-  pub no_indicator : IsTrue (is_one_of (codes "-?:") (slice_index s.rest 0)) → IsFalse (is_blank_or_breakz (slice_index s.rest 1))
+  pub no_indicator : IsTrue (is_one_of (codes "-?:") (slice_index s.rest 0))
+      → IsFalse (is_blank_or_breakz (slice_index s.rest 1))
   pub reading : IsPlainReading s value span.end t
   pub uncut : (reading.white ≡ []) ⊎ IsFalse (is_break (slice_index t.rest 0))
 
@@ -167,20 +187,22 @@ abbrev pub block_indicator : BlockStyle → ℕ
 block_indicator block_style.Literal = 124
 block_indicator block_style.Folded = 62
 
--- The indentation that is given counts from the innermost open block collection, whose content stands right of its column.
+-- The least_column that is given counts from the innermost open block collection, whose content stands right of its
+-- column.
 -- The span begins before the first content, and ends behind the lines.
-pub record IsBlockScalar (style : BlockStyle) (indent : ℕ) (value : List ℕ) (span : Span) (s t : Cursor) : Type 0 where
+pub record IsBlockScalarToken (style : BlockStyle) (indent : ℕ) (value : List ℕ) (span : Span) (s t : Cursor) : Type
+    0 where
   pub begins : slice_index s.rest 0 ≡ block_indicator style
   pub reading : IsBlockText style indent s value span.start t
   pub passes : IsPassed s.mark s.rest t.mark t.rest
   pub end : span.end ≡ t.mark
 
-abbrev pub IsScalar : ScalarStyle → ℕ → List ℕ → Span → Cursor → Cursor → Type 0
-IsScalar style.Plain indent value span s t = IsPlainScalar value span s t
-IsScalar style.SingleQuoted indent value span s t = IsQuotedScalar Single value span s t
-IsScalar style.DoubleQuoted indent value span s t = IsQuotedScalar Double value span s t
-IsScalar style.Literal indent value span s t = IsBlockScalar block_style.Literal indent value span s t
-IsScalar style.Folded indent value span s t = IsBlockScalar block_style.Folded indent value span s t
+abbrev pub IsScalarToken : ScalarStyle → ℕ → List ℕ → Span → Cursor → Cursor → Type 0
+IsScalarToken style.Plain indent value span s t = IsPlainToken value span s t
+IsScalarToken style.SingleQuoted indent value span s t = IsQuotedToken Single value span s t
+IsScalarToken style.DoubleQuoted indent value span s t = IsQuotedToken Double value span s t
+IsScalarToken style.Literal indent value span s t = IsBlockScalarToken block_style.Literal indent value span s t
+IsScalarToken style.Folded indent value span s t = IsBlockScalarToken block_style.Folded indent value span s t
 
 -- ## Tokens
 
@@ -188,9 +210,9 @@ IsScalar style.Folded indent value span s t = IsBlockScalar block_style.Folded i
 abbrev pub IsToken : ℕ → Kind → Span → Cursor → Cursor → Type 0
 IsToken indent tokens.StreamStart span s t = HasNoText span s t
 IsToken indent tokens.StreamEnd span s t = (s.rest ≡ []) × HasNoText span s t
-IsToken indent (tokens.VersionDirective major minor) span s t = IsDirective (version major minor) span s t
-IsToken indent (tokens.TagDirective handle prefix) span s t = IsDirective (tag_prefix handle prefix) span s t
-IsToken indent (tokens.ReservedDirective name) span s t = IsDirective (reserved name) span s t
+IsToken indent (tokens.VersionDirective major minor) span s t = IsDirectiveToken (version major minor) span s t
+IsToken indent (tokens.TagDirective handle prefix) span s t = IsDirectiveToken (tag_prefix handle prefix) span s t
+IsToken indent (tokens.ReservedDirective name) span s t = IsDirectiveToken (reserved name) span s t
 IsToken indent tokens.DocumentStart span s t = IsMarker is_document_start (codes "---") span s t
 IsToken indent tokens.DocumentEnd span s t = IsMarker is_document_end (codes "...") span s t
 IsToken indent tokens.ByteOrderMark span s t = IsMark span s t
@@ -205,31 +227,32 @@ IsToken indent tokens.BlockEntry span s t = IsDash span s t
 IsToken indent tokens.FlowEntry span s t = IsFlowIndicator 44 span s t
 IsToken indent tokens.Key span s t = IsQuestionMark span s t ⊎ HasNoText span s t
 IsToken indent tokens.Value span s t = IsColon span s t
-IsToken indent (tokens.Alias name) span s t = IsName 42 name span s t
-IsToken indent (tokens.Anchor name) span s t = IsName 38 name span s t
-IsToken indent (tokens.Tag handle suffix) span s t = IsTag handle suffix span s t
-IsToken indent (tokens.Scalar style value) span s t = IsScalar style indent value span s t
+IsToken indent (tokens.Alias name) span s t = IsNameToken 42 name span s t
+IsToken indent (tokens.Anchor name) span s t = IsNameToken 38 name span s t
+IsToken indent (tokens.Tag handle suffix) span s t = IsTagToken handle suffix span s t
+IsToken indent (tokens.Scalar style value) span s t = IsScalarToken style indent value span s t
 
 -- the columns of the open block collections behind a token, the innermost first
-abbrev pub without_first : List ℕ → List ℕ
-without_first [] = []
-without_first (column ∷ columns) = columns
+abbrev pub without_innermost : List ℕ → List ℕ
+without_innermost [] = []
+without_innermost (column ∷ columns) = columns
 
 abbrev pub open_behind : Kind → ℕ → List ℕ → List ℕ
 open_behind tokens.BlockSequenceStart column columns = column ∷ columns
 open_behind tokens.BlockMappingStart column columns = column ∷ columns
-open_behind tokens.BlockEnd column columns = without_first columns
+open_behind tokens.BlockEnd column columns = without_innermost columns
 open_behind _ column columns = columns
 
-abbrev pub indentation : List ℕ → ℕ
-indentation [] = 0
-indentation (column ∷ columns) = column + 1
+abbrev pub least_column : List ℕ → ℕ
+least_column [] = 0
+least_column (column ∷ columns) = column + 1
 
 -- tokens from one place to another, where block collections are open at these columns
 abbrev pub AreTokens : List ℕ → List Piece → Cursor → Cursor → Type 0
 AreTokens columns [] s u = u ≡ s
 AreTokens columns (p ∷ ps) s u =
-    (here behind : Cursor) × AreApart s here × IsToken (indentation columns) p.kind p.span here behind × AreTokens (open_behind p.kind p.span.start.col columns) ps behind u
+    (here behind : Cursor) × AreApart s here × IsToken (least_column columns) p.kind p.span here behind
+    × AreTokens (open_behind p.kind p.span.start.col columns) ps behind u
 
 -- the whole text, or a beginning and a refusal with its place in the text
 abbrev pub IsEndOf : List ℕ → Option Refusal → Cursor → Type 0

@@ -15,9 +15,9 @@ mod scalar;
 mod value;
 
 ghost use Rattle.std.specs.Prelude.{◌≡◌, ℕ, ◌<◌, ◌≤◌, ◌^◌, length, Ok, OnOk};
-ghost use Rattle.saphyr_scanner.specs.Core as spec;
-ghost use Rattle.saphyr_scanner.specs.Passing as passing;
-ghost use Rattle.saphyr_scanner.specs.State as spec_state;
+ghost use Rattle.saphyr_scanner.specs.Steps.Core as spec;
+ghost use Rattle.saphyr_scanner.specs.Steps.Passing as passing;
+ghost use Rattle.saphyr_scanner.specs.Steps.State as spec_state;
 
 use crate::gap::skip_gap;
 use crate::queue::{Opening, Queue};
@@ -73,8 +73,8 @@ pub(crate) struct Engine<T: Input> {
 impl<T: Input> Engine<T> {
     ghost use Rattle.std.specs.Prelude.{Err, false};
     ghost use Rattle.saphyr_scalar.specs.Seen.{Gives, Moves};
-    ghost use Rattle.saphyr_scanner.specs.Engine.{state};
-    ghost use Rattle.saphyr_scanner.specs.Seen.{kind_of, piece};
+    ghost use Rattle.saphyr_scanner.specs.Views.Engine.{state};
+    ghost use Rattle.saphyr_scanner.specs.Views.Tokens.{kind_of, piece};
     ghost use Rattle.saphyr_input.specs.Separation as separation;
     ghost use Rattle.saphyr_scalar.specs.declared.scalar.fault.Stop.TheVariants.{Refused};
 
@@ -119,7 +119,8 @@ impl<T: Input> Engine<T> {
 
     // A refusal at the place that is reached.
     fn refuse_here(&self, text: FaultText) -> Stop
-        ensures { result ≡ Refused (record { text = text; mark = (state self.now).core.cursor.mark }) }
+        ensures { result ≡ Refused (record
+            { text = text; mark = (state self.now).core.cursor.mark }) }
     {
         Self::refuse(text, self.reader.mark())
     }
@@ -127,7 +128,8 @@ impl<T: Input> Engine<T> {
     // Puts a token from one place to another into the queue.
     #[inline(always)]
     fn put(&mut self, start: Marker, end: Marker, kind: TokenType) -> Result<(), AllocError>
-        ensures { OnOk result (state self.new ≡ spec_state.acting (spec.from_to start end (kind_of kind)) (state self.old)) }
+        ensures { OnOk result (state self.new
+            ≡ spec_state.acting (spec.from_to start end (kind_of kind)) (state self.old)) }
     {
         let span = Span::new(start, end);
         self.queue.put(self.alloc, Token { span, kind })
@@ -136,7 +138,8 @@ impl<T: Input> Engine<T> {
     // Puts a token without characters into the queue.
     #[inline(always)]
     fn put_empty(&mut self, mark: Marker, kind: TokenType) -> Result<(), AllocError>
-        ensures { OnOk result (state self.new ≡ spec_state.acting (spec.at_mark mark (kind_of kind)) (state self.old)) }
+        ensures { OnOk result (state self.new
+            ≡ spec_state.acting (spec.at_mark mark (kind_of kind)) (state self.old)) }
     {
         self.put(mark, mark, kind)
     }
@@ -144,7 +147,9 @@ impl<T: Input> Engine<T> {
     // Puts a token that ends here into the queue.
     #[inline(always)]
     fn put_from(&mut self, start: Marker, kind: TokenType) -> Result<(), AllocError>
-        ensures { OnOk result (state self.new ≡ spec_state.acting (spec.up_to_here start (kind_of kind) (state self.old).core) (state self.old)) }
+        ensures { OnOk result (state self.new
+            ≡ spec_state.acting (spec.up_to_here start (kind_of kind) (state self.old).core)
+            (state self.old)) }
     {
         let end = self.reader.mark();
         self.put(start, end, kind)
@@ -153,16 +158,18 @@ impl<T: Input> Engine<T> {
     // Passes blanks and a comment, up to the end of the line.
     #[inline(always)]
     fn separate(&mut self) -> Result<SkipTabs, Stop>
-        ensures { Moves (λ found. (found, state self.new)) result (spec_state.separated (passing.separate (state self.old).core) (state self.old)) }
+        ensures { Moves (λ found. (found, state self.new)) result
+            (spec_state.separated (passing.separate (state self.old).core) (state self.old)) }
     {
         Ok(self.reader.skip_ws_to_eol(SkipTabs::Yes)?)
     }
 
     // Passes what stands between two tokens.
     #[inline(always)]
-    #[tactic(auto, unfolding(crate::specs::Passing::pass_gap))]
+    #[tactic(auto, unfolding(crate::specs::Steps::Passing::pass_gap))]
     fn pass_gap(&mut self) -> Result<(), Stop>
-        ensures { Moves (λ _. state self.new) result (spec_state.carried (passing.pass_gap (state self.old).core) (state self.old).queue) }
+        ensures { Moves (λ _. state self.new) result
+            (spec_state.carried (passing.pass_gap (state self.old).core) (state self.old).queue) }
     {
         let least = self.least_column();
         if skip_gap(&mut self.reader, least)? && self.in_block() {
@@ -173,9 +180,11 @@ impl<T: Input> Engine<T> {
 
     // Refuses a comment that ended a plain scalar, where the next line could go on with it.
     #[inline(always)]
-    #[tactic(auto, unfolding(crate::specs::Passing::check_comment))]
+    #[tactic(auto, unfolding(crate::specs::Steps::Passing::check_comment))]
     fn check_comment(&mut self) -> Result<(), Stop>
-        ensures { Moves (λ _. state self.new) result (spec_state.carried (passing.check_comment (state self.old).core) (state self.old).queue) }
+        ensures { Moves (λ _. state self.new) result
+            (spec_state.carried (passing.check_comment (state self.old).core)
+            (state self.old).queue) }
     {
         let Some(comment) = self.comment else {
             return Ok(());
@@ -189,7 +198,7 @@ impl<T: Input> Engine<T> {
 
     // Whether the next line could go on with a plain scalar that a comment ended.
     #[inline(never)]
-    #[tactic(auto, unfolding(crate::specs::Passing::goes_on_behind))]
+    #[tactic(auto, unfolding(crate::specs::Steps::Passing::goes_on_behind))]
     fn goes_on_behind(&mut self, comment: Marker) -> bool
         ensures value { result ≡ passing.goes_on_behind comment (state self.old).core }
         ensures same { state self.new ≡ state self.old }

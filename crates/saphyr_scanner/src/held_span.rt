@@ -1,7 +1,7 @@
 //! The spans of the tokens in the queue. They are kept small, since the queue may hold all tokens of a text.
 
 ghost use Rattle.std.specs.Prelude.{◌≡◌, IfSome, IfOk};
-ghost use Rattle.saphyr_scanner.specs.QueueSeen.{held_span, near_marker};
+ghost use Rattle.saphyr_scanner.specs.Views.Queue.{held_span, near_marker};
 
 use saphyr_scalar::{Marker, Span};
 use std::alloc::{AllocError, Global};
@@ -46,15 +46,15 @@ pub(crate) enum HeldSpan {
 
 impl HeldSpan {
     #[inline(always)]
-    pub(crate) fn new(alloc: Global, span: Span) -> Result<HeldSpan, AllocError>
-        ensures { IfOk result (λ held. held_span held ≡ span) }
+    pub(crate) fn new(alloc: Global, span: &Span) -> Result<HeldSpan, AllocError>
+        ensures { IfOk result (λ held. held_span held ≡ span.now) }
     {
         if let Some(start) = NearMarker::new(span.start)
             && let Some(end) = NearMarker::new(span.end)
         {
             return Ok(HeldSpan::Near(start, end));
         }
-        Ok(HeldSpan::Far(Box::new(alloc, span)?))
+        Ok(HeldSpan::Far(Box::new(alloc, *span)?))
     }
 
     #[inline(always)]

@@ -1,25 +1,25 @@
 //! Laws of the definitions.
 ghost use Rattle.std.specs.Prelude.{◌≡◌, ◌≤◌, List, codes, ◌∷◌, ◌++◌, [], ℕ, length};
-ghost use Rattle.saphyr_scanner.specs.Examples.{block_forest, block_tokens, brackets_tokens, json_forest, json_text, json_tokens};
-ghost use Rattle.saphyr_scanner.specs.Forest.{Forest, Primary, Shorthand, open_in_forest};
-ghost use Rattle.saphyr_scanner.specs.TagSpelling.{IsTag};
-ghost use Rattle.saphyr_scanner.specs.Json.{IsJson};
-ghost use Rattle.saphyr_scanner.specs.JsonTokens as json;
-ghost use Rattle.saphyr_scanner.specs.ClosedTexts.{DocumentMarker, EndsWithMarker, HandsOut};
-ghost use Rattle.saphyr_scanner.specs.Layout.{IsLayoutText, most_open};
-ghost use Rattle.saphyr_scanner.specs.BlockNodes.{IsContentRest};
-ghost use Rattle.saphyr_scanner.specs.TokenGrammar.{Yields};
-ghost use Rattle.saphyr_scanner.specs.Tokens.{Kind};
-ghost use Rattle.saphyr_scanner.specs.Remaining.{Scans, scan};
+ghost use Rattle.saphyr_scalar.specs.Spaces.{IsLineRest};
+ghost use Rattle.saphyr_scanner.specs.Examples.Forests.{block_forest, block_tokens, brackets_tokens, json_forest, json_text, json_tokens};
+ghost use Rattle.saphyr_scanner.specs.Grammar.Forest.{Forest, Primary, Shorthand, open_in_forest};
+ghost use Rattle.saphyr_scanner.specs.Grammar.TagSpelling.{IsTag};
+ghost use Rattle.saphyr_scanner.specs.Grammar.Json.{IsJson};
+ghost use Rattle.saphyr_scanner.specs.Grammar.JsonTokens as json;
+ghost use Rattle.saphyr_scanner.specs.Grammar.ClosedTexts.{DocumentMarker, EndsWithMarker, HandsOut};
+ghost use Rattle.saphyr_scanner.specs.Grammar.Layout.{IsLayoutText, most_open};
+ghost use Rattle.saphyr_scanner.specs.Grammar.TokenGrammar.{Yields};
+ghost use Rattle.saphyr_scanner.specs.Grammar.Tokens.{Kind};
+ghost use Rattle.saphyr_scanner.specs.Steps.Remaining.{Scans, scan};
 ghost use Rattle.saphyr_scanner.specs.SameKinds.{HaveSameKinds};
 ghost use Rattle.saphyr_scanner.specs.SpansInOrder.{AreInOrder};
 ghost use Rattle.saphyr_scanner.specs.AtPlaces.{AreAtPlaces};
 ghost use Rattle.saphyr_scanner.specs.Ends.{EndsWithStream};
-ghost use Rattle.saphyr_scanner.specs.Gap as gaps;
-ghost use Rattle.saphyr_scanner.specs.TokensTaken.{AreApart, AreTakenFrom, AreTokens, IsOnLine, IsPlaceOf};
+ghost use Rattle.saphyr_scanner.specs.Steps.Gap as gaps;
+ghost use Rattle.saphyr_scanner.specs.TokensTaken.{AreApart, AreTakenFrom, AreTokens, LiesOnLine, IsPlaceOf};
 ghost use Rattle.saphyr_input.specs.Breaks.{normalized};
 ghost use Rattle.saphyr_scalar.specs.Cursor.{Cursor, fresh, separation};
-ghost use Rattle.saphyr_scanner.specs.Seen.{Piece};
+ghost use Rattle.saphyr_scanner.specs.Views.Tokens.{Piece};
 ghost use Rattle.saphyr_input.specs.declared.input.SkipTabs.{SkipTabs};
 ghost use Rattle.saphyr_input.specs.declared.input.SkipTabs.TheVariants.{Yes};
 ghost use Rattle.std.specs.Prelude.{◌+◌, ◌*◌, ◌<◌, ◌^◌, false, Ok, Some};
@@ -53,7 +53,8 @@ pub fn takes_tokens()
 
 /// Each text of JSON has a list of tokens.
 pub fn has_tokens()
-    ensures { (forest : Forest) (text : List ℕ) → IsJson forest text → (tokens : List Kind) × Yields forest tokens }
+    ensures { (forest : Forest) (text : List ℕ) → IsJson forest text
+        → (tokens : List Kind) × Yields forest tokens }
 {}
 
 /// In a tag the percent escapes of the UTF-8 of a character stand for the character.
@@ -64,13 +65,16 @@ pub fn reads_tags()
 /// These are tokens of a JSON text's forest: a pair's key and value each behind its token, a comma between
 /// entries, and no comma behind the last one.
 pub fn tells_json_tokens()
-    ensures { (forest : Forest) (text : List ℕ) → IsJson forest text → Yields forest (json.json_tokens forest) }
+    ensures { (forest : Forest) (text : List ℕ) → IsJson forest text
+        → Yields forest (json.json_tokens forest) }
 {}
 
 /// Each text of JSON within the limit, with at most 255 collections open at once, gives the tokens of
 /// its forest, and no fault.
 pub fn scans_each_json()
-    ensures { (limit : ℕ) (forest : Forest) (text : List ℕ) → IsJson forest text → open_in_forest forest ≤ 255 → length text ≤ limit → Scans (json.json_tokens forest) (scan limit text) }
+    ensures { (limit : ℕ) (forest : Forest) (text : List ℕ) → IsJson forest text
+        → open_in_forest forest ≤ 255 → length text ≤ limit
+        → Scans (json.json_tokens forest) (scan limit text) }
 {
     reads_each_plain_word();
     reads_each_double_quoted();
@@ -132,7 +136,7 @@ pub fn scans_each_layout_text()
 /// and with the marker's come first, as they are those of its forest.
 pub fn hands_out_markers()
     ensures { (limit : ℕ) (marker : DocumentMarker) (forest : Forest) (text others : List ℕ)
-        → IsLayoutText most_open forest text → EndsWithMarker IsContentRest marker (normalized text)
+        → IsLayoutText most_open forest text → EndsWithMarker IsLineRest marker (normalized text)
         → normalized (text ++ others) ≡ normalized text ++ normalized others
         → length (text ++ others) ≤ limit → limit < 2 ^ 63
         → HandsOut marker forest (scan limit (text ++ others)) }
@@ -200,16 +204,19 @@ pub fn bounds_tokens()
 
 /// What is passed between two tokens is blanks, breaks and comments alone.
 pub fn passes_separation()
-    ensures gap { (least : ℕ) (s : Cursor) (g : gaps.Passed) → gaps.pass_gap least s ≡ Ok g → AreApart s g.cursor }
+    ensures gap { (least : ℕ) (s : Cursor) (g : gaps.Passed) → gaps.pass_gap least s ≡ Ok g
+        → AreApart s g.cursor }
     ensures spaces { (s : Cursor) → AreApart s (gaps.spaces_at false s).cursor }
-    ensures line { (s : Cursor) (x : SkipTabs × Cursor) → separation Yes s ≡ Ok x → AreApart s x.1 × IsOnLine s x.1.mark }
+    ensures line { (s : Cursor) (x : SkipTabs × Cursor) → separation Yes s ≡ Ok x
+        → AreApart s x.1 × LiesOnLine s x.1.mark }
 {}
 
 /// The tokens of a text are taken from it: up to the last token it is their spellings in order, parted
 /// by blanks, breaks and comments alone, and all of it is where no refusal ends them. A refusal that
 /// does stands at a place of the text.
 pub fn takes_all_tokens()
-    ensures { (limit : ℕ) (text : List ℕ) → length text < 2 ^ 63 → AreTakenFrom text (scan limit text) }
+    ensures { (limit : ℕ) (text : List ℕ) → length text < 2 ^ 63
+        → AreTakenFrom text (scan limit text) }
 {
     reads_plain_values();
     keeps_markers_out_of_quotes();
@@ -230,19 +237,22 @@ pub fn takes_all_tokens()
 
 /// Each token of a text begins and ends at a place of it.
 pub fn begins_at_places()
-    ensures { (limit : ℕ) (text : List ℕ) → length text < 2 ^ 63 → AreAtPlaces text (scan limit text).pieces }
+    ensures { (limit : ℕ) (text : List ℕ) → length text < 2 ^ 63
+        → AreAtPlaces text (scan limit text).pieces }
 {
     takes_all_tokens();
 }
 
 /// Tokens that are taken from a text begin and end at places of it.
 pub fn places_taken_tokens()
-    ensures { (text : List ℕ) (pieces : List Piece) (end : Cursor) → AreTokens [] pieces (fresh text) end → AreAtPlaces text pieces }
+    ensures { (text : List ℕ) (pieces : List Piece) (end : Cursor)
+        → AreTokens [] pieces (fresh text) end → AreAtPlaces text pieces }
 {}
 
 /// A refusal that ends the tokens of a text stands at a place of it.
 pub fn refuses_at_places()
-    ensures { (limit : ℕ) (text : List ℕ) → length text < 2 ^ 63 → (e : Refusal) → (scan limit text).refusal ≡ Some e → IsPlaceOf text e.mark }
+    ensures { (limit : ℕ) (text : List ℕ) → length text < 2 ^ 63 → (e : Refusal)
+        → (scan limit text).refusal ≡ Some e → IsPlaceOf text e.mark }
 {
     takes_all_tokens();
 }

@@ -1,11 +1,13 @@
 //! Tokens that wait to be handed out, and what is told in front of one that turns out to be a key.
 
 mod cloning;
+mod slot;
 
-ghost use Rattle.std.specs.Prelude.{◌≡◌, Ok, OnOk, length};
-ghost use Rattle.saphyr_scanner.specs.Queue as spec;
+ghost use Rattle.std.specs.Prelude.{◌≡◌, false, Ok, OnOk, length};
+ghost use Rattle.saphyr_scanner.specs.Steps.Queue as spec;
 
 use crate::held_span::HeldSpan;
+use crate::queue::slot::Slot;
 use crate::token::{Token, TokenType};
 use saphyr_scalar::{Span, Stop};
 use std::alloc::{AllocError, Global};
@@ -40,7 +42,10 @@ pub(crate) struct Place {
 /// tokens behind it wait for the colon. What makes a token a key is told at its own place: no token moves.
 #[derive(Drop)]
 pub(crate) struct Queue {
-    // The tokens in the order of the text.
+    // The first two tokens of a queue that was empty. Most often no more are held at once.
+    first: Slot,
+    second: Slot,
+    // The tokens behind them in the order of the text.
     places: VecDeque<Place>,
     // How many places were handed out, which is the number of the first one here.
     handed: usize,
@@ -48,23 +53,26 @@ pub(crate) struct Queue {
 
 impl Queue {
     ghost use Rattle.saphyr_scalar.specs.Seen.{Moves};
-    ghost use Rattle.saphyr_scanner.specs.Seen.{piece, written};
-    ghost use Rattle.saphyr_scanner.specs.QueueSeen.{queue};
+    ghost use Rattle.saphyr_scanner.specs.Views.Tokens.{kind_of, piece, written};
+    ghost use Rattle.saphyr_scanner.specs.Views.Queue.{queue};
     ghost use Rattle.std.specs.Prelude.{option_map, ◌<◌};
 
     pub(crate) fn new(alloc: Global) -> Self
         ensures { queue result ≡ spec.empty }
     {
         Queue {
+            first: Slot::new(),
+            second: Slot::new(),
             places: VecDeque::new(alloc),
             handed: 0,
         }
     }
 
+    #[inline(always)]
     pub(crate) fn is_empty(&self) -> bool
         ensures { result ≡ spec.is_empty (queue self.now) }
     {
-        self.places.is_empty()
+        !self.first.is_full && !self.second.is_full && self.places.is_empty()
     }
 
     /// The number of the first place.
@@ -78,21 +86,46 @@ impl Queue {
     pub(crate) fn next(&self) -> Result<usize, Stop>
         ensures { Moves (λ n. n) result (Ok (spec.next (queue self.now))) }
     {
-        self.handed
-            .checked_add(self.places.len())
+        let slots = usize::from(self.first.is_full) + usize::from(self.second.is_full);
+        self.places
+            .len()
+            .checked_add(slots)
+            .and_then(|count| self.handed.checked_add(count))
             .ok_or(Stop::OutOfMemory)
     }
 
     /// Puts a token at the end.
     #[inline(always)]
+    #[tactic(auto, using(crate::proofs::Places::behind_slots))]
     pub(crate) fn put(&mut self, alloc: Global, token: Token) -> Result<(), AllocError>
         ensures { OnOk result (queue self.new ≡ spec.put (piece token) (queue self.old)) }
     {
-        self.places.push_back(Place {
-            span: HeldSpan::new(alloc, token.span)?,
-            kind: token.kind,
+        if self.second.is_full || !self.places.is_empty() {
+            let Token { span, kind } = token;
+            return self.put_behind(alloc, &span, kind);
+        }
+        if self.first.is_full {
+            self.second.put(token);
+        } else {
+            self.first.put(token);
+        }
+        Ok(())
+    }
+
+    // The same behind tokens that are held.
+    #[inline(never)]
+    #[tactic(auto, using(crate::proofs::Places::behind_slots))]
+    fn put_behind(&mut self, alloc: Global, span: &Span, kind: TokenType) -> Result<(), AllocError>
+        ensures { OnOk result (queue self.new
+            ≡ spec.put (record { span = span.now; kind = kind_of kind }) (queue self.old)) }
+    {
+        let span = HeldSpan::new(alloc, span)?;
+        self.places.reserve(1)?;
+        self.places.push_back_reserved(Place {
+            span,
+            kind,
             opening: Opening::Nothing,
-        })?;
+        });
         Ok(())
     }
 
@@ -101,15 +134,33 @@ impl Queue {
     pub(crate) fn set_opening(&mut self, number: usize, opening: Opening)
         ensures { queue self.new ≡ spec.with_opening number opening (queue self.old) }
     {
-        if let Some(place) = self.places.get_mut(number.saturating_sub(self.handed)) {
+        let mut nth = number.saturating_sub(self.handed);
+        if self.first.is_full {
+            if nth == 0 {
+                self.first.opening = opening;
+                return;
+            }
+            nth -= 1;
+        }
+        if self.second.is_full {
+            if nth == 0 {
+                self.second.opening = opening;
+                return;
+            }
+            nth -= 1;
+        }
+        if let Some(place) = self.places.get_mut(nth) {
             place.opening = opening;
         }
     }
 
-    // Takes the first place off, if there is one, and writes its token into `token`.
+    // Takes the first place behind the slots off, if there is one, and writes its token into `token`.
     #[inline(always)]
     fn take_place(&mut self, token: &mut Token) -> Result<bool, Stop>
-        ensures { Moves (λ taken. (option_map piece (written taken token.new), queue self.new)) result (Ok (spec.take_place (queue self.old))) }
+        requires first { self.old.first.is_full ≡ false }
+        requires second { self.old.second.is_full ≡ false }
+        ensures { Moves (λ taken. (option_map piece (written taken token.new), queue self.new))
+            result (Ok (spec.take_place (queue self.old))) }
     {
         let Some(handed) = self.handed.checked_add(1) else {
             return Err(Stop::OutOfMemory);
@@ -123,10 +174,13 @@ impl Queue {
         Ok(true)
     }
 
-    /// Takes the first token off, if there is one, and writes it into `token`.
+    // Takes the first token behind the slots off, if there is one, and writes it into `token`.
     #[inline(always)]
-    pub(crate) fn take_into(&mut self, token: &mut Token) -> Result<bool, Stop>
-        ensures { Moves (λ taken. (option_map piece (written taken token.new), queue self.new)) result (Ok (spec.take (queue self.old))) }
+    fn take_behind(&mut self, token: &mut Token) -> Result<bool, Stop>
+        requires first { self.old.first.is_full ≡ false }
+        requires second { self.old.second.is_full ≡ false }
+        ensures { Moves (λ taken. (option_map piece (written taken token.new), queue self.new))
+            result (Ok (spec.take (queue self.old))) }
     {
         let Some(place) = self.places.front_mut() else {
             return Ok(false);
@@ -140,6 +194,26 @@ impl Queue {
         token.span = Span::empty(place.span.start());
         token.kind = kind;
         place.opening = left;
+        Ok(true)
+    }
+
+    /// Takes the first token off, if there is one, and writes it into `token`.
+    #[inline(always)]
+    pub(crate) fn take_into(&mut self, token: &mut Token) -> Result<bool, Stop>
+        ensures { Moves (λ taken. (option_map piece (written taken token.new), queue self.new))
+            result (Ok (spec.take (queue self.old))) }
+    {
+        if !self.first.is_full && !self.second.is_full {
+            return self.take_behind(token);
+        }
+        if self.handed == usize::MAX {
+            return Err(Stop::OutOfMemory);
+        }
+        if self.first.is_full {
+            self.first.take_into(token, &mut self.handed);
+        } else {
+            self.second.take_into(token, &mut self.handed);
+        }
         Ok(true)
     }
 }

@@ -1,8 +1,8 @@
 //! The scanner as its callers see it: it reads as far into the text as the next token needs.
 
 ghost use Rattle.std.specs.Prelude.{◌≡◌, length};
-ghost use Rattle.saphyr_scanner.specs.Remaining.{scan};
-ghost use Rattle.saphyr_scanner.specs.Seen.{Hands, handed};
+ghost use Rattle.saphyr_scanner.specs.Steps.Remaining.{scan};
+ghost use Rattle.saphyr_scanner.specs.Views.Tokens.{Hands, handed};
 ghost use Rattle.saphyr_scanner.specs.SpansInOrder.{AreInOrder};
 ghost use Rattle.saphyr_scanner.specs.TokensTaken.{AreTakenFrom};
 
@@ -28,9 +28,9 @@ pub struct Scanner<T: Input> {
 }
 
 impl<T: Input> Model for Scanner<T> {
-    ghost use Rattle.saphyr_scanner.specs.Seen.{Remaining};
-    ghost use Rattle.saphyr_scanner.specs.Remaining.{remaining};
-    ghost use Rattle.saphyr_scanner.specs.Engine.{state};
+    ghost use Rattle.saphyr_scanner.specs.Views.Tokens.{Remaining};
+    ghost use Rattle.saphyr_scanner.specs.Steps.Remaining.{remaining};
+    ghost use Rattle.saphyr_scanner.specs.Views.Engine.{state};
 
     ghost Value = { Remaining };
 

@@ -3,8 +3,8 @@ ghost use Rattle.std.specs.Prelude.{◌≡◌, ℕ, List, codes, false, slice_in
 ghost use Rattle.saphyr_input.specs.Places.{is_blank_or_break};
 ghost use Rattle.saphyr_scalar.specs.Cursor.{Cursor};
 ghost use Rattle.saphyr_scalar.specs.declared.scalar.position.Span.{Span};
-ghost use Rattle.saphyr_scanner.specs.TokensTaken.{AreTakenFrom, IsPlaceOf, IsPlainScalar};
-ghost use Rattle.saphyr_scanner.specs.TakenTexts as texts;
+ghost use Rattle.saphyr_scanner.specs.TokensTaken.{AreTakenFrom, IsPlaceOf, IsPlainToken};
+ghost use Rattle.saphyr_scanner.specs.Examples.TakenTexts as texts;
 
 /// The tokens of texts in flow style, as a scanner gives them: a mapping with quoted scalars and a
 /// comment, and a sequence with an anchor and its alias.
@@ -43,5 +43,6 @@ pub fn takes_no_others()
 
 /// The value of a plain scalar begins with no blank and no break.
 pub fn begins_values_with_ink()
-    ensures { (value : List ℕ) (span : Span) (s t : Cursor) → IsPlainScalar value span s t → is_blank_or_break (slice_index value 0) ≡ false }
+    ensures { (value : List ℕ) (span : Span) (s t : Cursor) → IsPlainToken value span s t
+        → is_blank_or_break (slice_index value 0) ≡ false }
 {}

@@ -6,7 +6,7 @@ use Rattle.saphyr_parser.specs.declared.parser.tag.Tag.{Tag}
 use Rattle.saphyr_parser.specs.declared.parser.event.Event.{Event}
 use Rattle.saphyr_parser.specs.declared.parser.event.Event.TheVariants as event
 use Rattle.saphyr_parser.specs.Events.{Happening}
-use Rattle.saphyr_parser.specs.EventSeen.{happening, resolved_tag}
+use Rattle.saphyr_parser.specs.Views.Events.{happening, resolved_tag}
 use Rattle.yaml_tree.specs.declared.node.Node.{Node, Seq, Map}
 use Rattle.yaml_tree.specs.Unloading.{node_events, pair_events}
 use Rattle.yaml_tree.proofs.Unloads.{node_events-Seq, node_events-Map}

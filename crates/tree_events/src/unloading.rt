@@ -1,7 +1,7 @@
 //! The events of documents, in the order in which a text has them (YAML 1.2.2, 3.1.1).
 ghost use Rattle.std.specs.Prelude.{◌≡◌, ◌++◌, IfOk, OnOk, map, option_map};
 ghost use Rattle.std.specs.List.{flat_map};
-ghost use Rattle.saphyr_parser.specs.EventSeen.{happening, resolved_tag};
+ghost use Rattle.saphyr_parser.specs.Views.Events.{happening, resolved_tag};
 ghost use Rattle.yaml_tree.specs.Unloading.{document_events, node_events, pair_events, unload};
 
 use saphyr_parser::{Event, Tag};

@@ -1,6 +1,6 @@
 -- Answers whose events are those of a forest.
 use Rattle.std.specs.Prelude.{◌≡◌, Bool, List, ◌++◌, Some}
-use Rattle.saphyr_scanner.specs.Forest.{Forest}
+use Rattle.saphyr_scanner.specs.Grammar.Forest.{Forest}
 use Rattle.saphyr_parser.specs.Events.{Happening}
 use Rattle.saphyr_parser.specs.ForestEvents.{events}
 use Rattle.saphyr_parser.specs.Answer.{Answer}

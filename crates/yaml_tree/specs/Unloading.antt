@@ -3,7 +3,7 @@
 use Rattle.std.specs.Prelude.{List, [], ◌∷◌, ◌++◌, option_map, string_bytes}
 use Rattle.std.specs.List.{flat_map}
 use Rattle.saphyr_parser.specs.Events.{Happening, StreamStart, StreamEnd, DocumentStart, DocumentEnd, Alias, Scalar, SequenceStart, SequenceEnd, MappingStart, MappingEnd}
-use Rattle.saphyr_parser.specs.EventSeen.{resolved_tag}
+use Rattle.saphyr_parser.specs.Views.Events.{resolved_tag}
 use Rattle.yaml_tree.specs.declared.node.Node.{Node, fold-Node}
 use Rattle.yaml_tree.specs.declared.node.Node.TheOpen.{Node-F}
 use Rattle.yaml_tree.specs.declared.document.Document.{Document}

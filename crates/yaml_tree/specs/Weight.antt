@@ -20,6 +20,7 @@ weight = fold-Node ℕ weight_step
 abbrev pub IsBare : Node → Type 0
 IsBare node = weight node ≤ 2
 
--- What each step of a drop makes smaller: the weight of what is left or, where that stays, the weight of the part in hand.
+-- What each step of a drop makes smaller: the weight of what is left or, where that stays, the weight of the part in
+-- hand.
 abbrev pub turns : Node → Node → ℕ
 turns outer part = let all = weight outer + weight part in all * (all + 1) + weight part

@@ -1,7 +1,7 @@
 //! Trees that grow event by event.
 ghost use Rattle.std.specs.Prelude.{◌≡◌, [], Some};
 ghost use Rattle.saphyr_parser.specs.Events as events;
-ghost use Rattle.saphyr_parser.specs.EventSeen.{happening};
+ghost use Rattle.saphyr_parser.specs.Views.Events.{happening};
 ghost use Rattle.yaml_tree.specs.Unloading.{node_events};
 ghost use Rattle.yaml_tree.specs.OpenSeen.{opened, place_of};
 ghost use Rattle.yaml_tree.specs.Nesting.{outside, behind_node, moved, entered};
@@ -113,7 +113,8 @@ impl Builder {
 
     // Adds a node that is complete.
     fn add(&mut self, node: Node) -> Result<(), TreeFault>
-        ensures { Grows result (node_events node) (moved behind_node (nest_of self.old)) self.old self.new }
+        ensures { Grows result (node_events node) (moved behind_node (nest_of self.old)) self.old
+            self.new }
     {
         let open = mem::replace(&mut self.innermost, Open::Nothing);
         self.innermost = open.with_node(node)?;

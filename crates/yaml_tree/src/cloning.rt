@@ -1,7 +1,7 @@
 //! Copies of trees.
 ghost use Rattle.std.specs.Prelude.{◌≡◌, IfOk, option_map};
 ghost use Rattle.std.specs.List.{flat_map};
-ghost use Rattle.saphyr_parser.specs.EventSeen.{resolved_tag};
+ghost use Rattle.saphyr_parser.specs.Views.Events.{resolved_tag};
 ghost use Rattle.yaml_tree.specs.Unloading.{node_events, pair_events, document_events};
 
 use crate::document::Document;
@@ -40,7 +40,8 @@ impl Node {
 
 #[cycle(cloning)]
 fn copy_nodes(nodes: &Vec<Node>) -> Result<Vec<Node>, AllocError>
-    ensures { IfOk result (λ copy. flat_map node_events copy.items ≡ flat_map node_events nodes.now.items) }
+    ensures { IfOk result (λ copy. flat_map node_events copy.items
+        ≡ flat_map node_events nodes.now.items) }
 {
     let mut copies = Vec::new(*nodes.allocator());
     for node in nodes {
@@ -51,7 +52,8 @@ fn copy_nodes(nodes: &Vec<Node>) -> Result<Vec<Node>, AllocError>
 
 #[cycle(cloning)]
 fn copy_pairs(pairs: &Vec<(Node, Node)>) -> Result<Vec<(Node, Node)>, AllocError>
-    ensures { IfOk result (λ copy. flat_map pair_events copy.items ≡ flat_map pair_events pairs.now.items) }
+    ensures { IfOk result (λ copy. flat_map pair_events copy.items
+        ≡ flat_map pair_events pairs.now.items) }
 {
     let mut copies = Vec::new(*pairs.allocator());
     for (key, value) in pairs {

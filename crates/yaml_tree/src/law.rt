@@ -1,6 +1,6 @@
 //! What the events of forests are to a loader.
 ghost use Rattle.std.specs.Prelude.{Bool, Err};
-ghost use Rattle.saphyr_scanner.specs.Forest.{Forest};
+ghost use Rattle.saphyr_scanner.specs.Grammar.Forest.{Forest};
 ghost use Rattle.saphyr_parser.specs.Answer.{Answer};
 ghost use Rattle.yaml_tree.specs.declared.tally.Limits.{Limits};
 ghost use Rattle.yaml_tree.specs.declared.fault.TreeFault.TheVariants.{NotFresh};
@@ -12,8 +12,10 @@ ghost use Rattle.yaml_tree.specs.Loading.{IsAtStart, IsNested, Loads};
 /// What a new parser gives is such, as it promises (`taken`). So `load_documents` on a new parser never
 /// answers `NotFresh`.
 pub fn nests_each_forest()
-    ensures nests { (forest : Forest) (keep : Bool) (a : Answer) → IsOfForest forest keep a → IsNested a }
-    ensures starts { (forest : Forest) (keep : Bool) (a : Answer) → IsOfForest forest keep a → IsAtStart a }
+    ensures nests { (forest : Forest) (keep : Bool) (a : Answer) → IsOfForest forest keep a
+        → IsNested a }
+    ensures starts { (forest : Forest) (keep : Bool) (a : Answer) → IsOfForest forest keep a
+        → IsAtStart a }
     ensures fresh { (forest : Forest) (keep : Bool) (limits : Limits) (all left : Answer)
         → IsOfForest forest keep all → Loads limits (Err NotFresh) all left → ⊥ }
 {}

@@ -1,7 +1,7 @@
 //! Documents from the events of a parser (YAML 1.2.2, 3.1.2).
 ghost use Rattle.std.specs.Prelude.{◌≡◌, List, [], ◌∷◌, ◌++◌};
 ghost use Rattle.saphyr_parser.specs.Events.{Happening};
-ghost use Rattle.saphyr_parser.specs.EventSeen.{happening};
+ghost use Rattle.saphyr_parser.specs.Views.Events.{happening};
 ghost use Rattle.saphyr_parser.specs.Cursor.{to_come};
 ghost use Rattle.yaml_tree.specs.Loading.{Loads, TakesAll, BeginsSo};
 

@@ -30,7 +30,8 @@ impl Open {
 
     // The stream that begins.
     pub(crate) fn begun(self, alloc: Global) -> Result<Open, TreeFault>
-        ensures { Becomes result (StreamStart ∷ []) (nesting.behind_stream_start (place_of self)) self }
+        ensures { Becomes result (StreamStart ∷ []) (nesting.behind_stream_start (place_of self))
+            self }
     {
         match self {
             Open::Nothing => Ok(Open::Stream(Vec::new(alloc))),
@@ -50,7 +51,8 @@ impl Open {
 
     // The same with one more document.
     pub(crate) fn with_document(self, document: Document) -> Result<Open, TreeFault>
-        ensures { Becomes result (document_events document) (nesting.behind_document (place_of self)) self }
+        ensures { Becomes result (document_events document)
+            (nesting.behind_document (place_of self)) self }
     {
         match self {
             Open::Stream(mut documents) => match documents.push(document) {

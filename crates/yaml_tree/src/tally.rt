@@ -1,6 +1,6 @@
 //! The limits on trees, and what was counted of them.
 ghost use Rattle.std.specs.Prelude.{◌≡◌, ◌+◌, ◌≤◌};
-ghost use Rattle.saphyr_parser.specs.EventSeen.{happening};
+ghost use Rattle.saphyr_parser.specs.Views.Events.{happening};
 
 use crate::fault::TreeFault;
 use saphyr_parser::{Event, Marker};
@@ -40,7 +40,8 @@ impl Tally {
 
     // Counts an event, whose span starts here, unless a limit forbids it.
     pub(crate) fn count(&mut self, event: &Event, place: Marker) -> Result<(), TreeFault>
-        ensures { Tells result (counted (happening event.now) (counts_of self.old)) place self.old self.new }
+        ensures { Tells result (counted (happening event.now) (counts_of self.old)) place self.old
+            self.new }
     {
         match event {
             Event::Alias(_) => self.count_node(place),

@@ -64,7 +64,8 @@ impl<I: Iterator<Item = char>> BufferedInput<I> {
     /// An error says that there was no memory for the loaded places.
     pub fn new(alloc: Global, iter: I) -> Result<Self, AllocError>
         requires { Listed I.can_next I.next_gives iter }
-        ensures rest { (xs : List ℕ) → Lists I.can_next I.next_gives iter xs → IfOk result (λ input. ⟦<BufferedInput<I> as Input>⟧.rest input ≡ take 4294967296 xs) }
+        ensures rest { (xs : List ℕ) → Lists I.can_next I.next_gives iter xs
+            → IfOk result (λ input. ⟦<BufferedInput<I> as Input>⟧.rest input ≡ take 4294967296 xs) }
         ensures loaded { IfOk result (λ input. ⟦<BufferedInput<I> as Input>⟧.loaded input ≡ 0) }
     {
         BufferedInput::with_limit(alloc, iter, MOST_ITEMS)
@@ -74,7 +75,8 @@ impl<I: Iterator<Item = char>> BufferedInput<I> {
     fn with_limit(alloc: Global, iter: I, limit: u64) -> Result<Self, AllocError>
         requires bounded { limit ≤ 4294967296 }
         requires listed { Listed I.can_next I.next_gives iter }
-        ensures rest { (xs : List ℕ) → Lists I.can_next I.next_gives iter xs → IfOk result (λ input. ⟦<BufferedInput<I> as Input>⟧.rest input ≡ take limit xs) }
+        ensures rest { (xs : List ℕ) → Lists I.can_next I.next_gives iter xs
+            → IfOk result (λ input. ⟦<BufferedInput<I> as Input>⟧.rest input ≡ take limit xs) }
         ensures loaded { IfOk result (λ input. ⟦<BufferedInput<I> as Input>⟧.loaded input ≡ 0) }
     {
         let ring = HeapCircularBuffer::with_capacity(alloc, WINDOW)?;
@@ -88,8 +90,10 @@ impl<I: Iterator<Item = char>> BufferedInput<I> {
     // Loads one place more.
     fn load(&mut self)
         requires { ⟦<BufferedInput<I> as Input>⟧.loaded self.old < 16 }
-        ensures rest { ⟦<BufferedInput<I> as Input>⟧.rest self.new ≡ ⟦<BufferedInput<I> as Input>⟧.rest self.old }
-        ensures loaded { ⟦<BufferedInput<I> as Input>⟧.loaded self.new ≡ ⟦<BufferedInput<I> as Input>⟧.loaded self.old + 1 }
+        ensures rest { ⟦<BufferedInput<I> as Input>⟧.rest self.new
+            ≡ ⟦<BufferedInput<I> as Input>⟧.rest self.old }
+        ensures loaded { ⟦<BufferedInput<I> as Input>⟧.loaded self.new
+            ≡ ⟦<BufferedInput<I> as Input>⟧.loaded self.old + 1 }
     {
         if let Some(c) = self.source.next() {
             self.ring.push_back(c);

@@ -8,9 +8,10 @@ mod tests;
 mod text;
 
 use self::text::{
-    Alpha, Blank, NonBreak, NonSpace, ascii_run, begins_with_2, behind, first_byte, is_marker,
-    nth_char, run, second_char, split_blanks, split_first,
+    ascii_run, begins_with_2, behind, first_byte, is_marker, nth_char, run, second_char, spaces,
+    split_blanks, split_first, words,
 };
+use crate::char_set::{Alpha, Blank, CharSet, NonBreak, NonSpace, SpacedSet};
 use crate::char_traits::{
     is_alpha, is_blank, is_blank_or_breakz, is_break, is_breakz, is_digit, is_flow,
     is_yaml_non_break, is_z,
@@ -47,8 +48,11 @@ impl<'a> StrInput<'a> {
     #[inline]
     fn fetch(&mut self, count: usize, rest: &'a str, out: &mut String) -> Result<usize, AllocError>
         requires { chars rest.now ≡ drop count (chars self.old.rest.now) }
-        ensures ok { IfOk result (λ n. (n ≡ count) × spec.Transfers count (chars self.old.rest.now) (chars self.new.rest.now) (string_bytes out.old) (string_bytes out.new)) }
-        ensures err { OnErr result ((chars self.new.rest.now ≡ chars self.old.rest.now) × (string_bytes out.new ≡ string_bytes out.old)) }
+        ensures ok { IfOk result (λ n. (n ≡ count)
+            × spec.Transfers count (chars self.old.rest.now) (chars self.new.rest.now)
+            (string_bytes out.old) (string_bytes out.new)) }
+        ensures err { OnErr result ((chars self.new.rest.now ≡ chars self.old.rest.now)
+            × (string_bytes out.new ≡ string_bytes out.old)) }
         ensures loaded { self.new.loaded ≡ self.old.loaded }
     {
         // `rest` is the end of this text, so the front ends between two characters.
@@ -287,5 +291,24 @@ impl Input for StrInput<'_> {
         self.loaded = self.loaded.max(1);
         let (count, rest) = run::<NonSpace>(self.rest);
         self.fetch(count, rest, out)
+    }
+
+    fn fetch_while<C: CharSet>(&mut self, out: &mut String) -> Result<usize, AllocError> {
+        self.loaded = self.loaded.max(1);
+        let (count, rest) = run::<C>(self.rest);
+        self.fetch(count, rest, out)
+    }
+
+    fn fetch_words<C: SpacedSet>(&mut self, out: &mut String) -> Result<usize, AllocError> {
+        self.loaded = self.loaded.max(1);
+        let (count, rest) = words::<C>(self.rest);
+        self.fetch(count, rest, out)
+    }
+
+    #[inline(always)]
+    fn skip_spaces(&mut self, most: usize) -> usize {
+        let (count, rest) = spaces(self.rest, most);
+        self.rest = rest;
+        count
     }
 }

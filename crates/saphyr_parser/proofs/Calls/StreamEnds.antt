@@ -3,22 +3,22 @@ use Rattle.std.proofs.Common.{◌≡◌, ℕ, Bool, true, false, List, Option, S
 use Rattle.std.specs.Prelude.{if◌then◌else◌}
 use Rattle.saphyr_scalar.specs.declared.scalar.position.Span.{Span}
 use Rattle.saphyr_scalar.specs.declared.scalar.fault.Refusal.{Refusal}
-use Rattle.saphyr_scanner.specs.Tokens as tokens
-use Rattle.saphyr_scanner.specs.Tokens.{Kind}
-use Rattle.saphyr_scanner.specs.Seen.{Piece}
+use Rattle.saphyr_scanner.specs.Grammar.Tokens as tokens
+use Rattle.saphyr_scanner.specs.Grammar.Tokens.{Kind}
+use Rattle.saphyr_scanner.specs.Views.Tokens.{Piece}
 use Rattle.saphyr_parser.specs.declared.parser.context.Context.{Context}
 use Rattle.saphyr_parser.specs.declared.parser.context.Context.TheVariants.{Flow, Block, BlockMapping}
 use Rattle.saphyr_parser.specs.declared.parser.state.State.{State}
 use Rattle.saphyr_parser.specs.declared.parser.state.State.TheVariants as state
 use Rattle.saphyr_parser.specs.Events.{ResolvedTag}
-use Rattle.saphyr_parser.specs.Machine.{◌>>=◌, Machine, Told, meaning, take}
-use Rattle.saphyr_parser.specs.TagSteps.{resolved}
-use Rattle.saphyr_parser.specs.NodeSteps.{Properties, no_properties, has_property, without_content, content, content_at, next_content, alias, alias_of, register, behind_anchor, behind_anchor_at, behind_tag, behind_tag_at, node, node_at}
-use Rattle.saphyr_parser.specs.Contexts.{allows_block, allows_indentless}
-use Rattle.saphyr_parser.specs.BlockSteps as block
-use Rattle.saphyr_parser.specs.FlowSteps as flow
-use Rattle.saphyr_parser.specs.DocumentSteps as document
-use Rattle.saphyr_parser.specs.Steps.{block_node, step, step_at}
+use Rattle.saphyr_parser.specs.Steps.Machine.{◌>>=◌, Machine, Told, meaning, take}
+use Rattle.saphyr_parser.specs.Steps.Tags.{resolved}
+use Rattle.saphyr_parser.specs.Steps.Nodes.{Properties, no_properties, has_property, without_content, content, content_at, next_content, alias, alias_of, register, behind_anchor, behind_anchor_at, behind_tag, behind_tag_at, node, node_at}
+use Rattle.saphyr_parser.specs.Steps.Contexts.{allows_block, allows_indentless}
+use Rattle.saphyr_parser.specs.Steps.Block as block
+use Rattle.saphyr_parser.specs.Steps.Flow as flow
+use Rattle.saphyr_parser.specs.Steps.Documents as document
+use Rattle.saphyr_parser.specs.Steps.Expected.{block_node, step, step_at}
 use Rattle.saphyr_parser.specs.Calls.{LeavesEnd}
 
 -- where a step tells the end of the stream, it leaves the machine at its end
@@ -26,7 +26,8 @@ abbrev pub Closes : Result Told Refusal → Type 0
 Closes (Ok x) = LeavesEnd x.what x.machine.state
 Closes (Err e) = Unit {0}
 
-behind : {A : Type 0} (r : Result A Refusal) (go : A → Result Told Refusal) → ((x : A) → Closes (go x)) → Closes (r >>= go)
+behind : {A : Type 0} (r : Result A Refusal) (go : A → Result Told Refusal) → ((x : A) → Closes (go x))
+    → Closes (r >>= go)
 behind (Ok x) go h = h x
 behind (Err e) go h = tt
 
@@ -60,21 +61,26 @@ aliases : (o : Option ℕ) (s : Span) (m : Machine) → Closes (alias_of o s m)
 aliases None s m = tt
 aliases (Some id) s m = tt
 
-behind_anchors_at : (k : Kind) (id : ℕ) (s : Span) (c : Context) (t : Piece) (m : Machine) → Closes (behind_anchor_at k id s c t m)
-behind_anchors_at (tokens.Tag handle suffix) id s c t m = behind (resolved m.prefixes handle suffix s.start) _ (λ tag. next_contents _ c m)
+behind_anchors_at : (k : Kind) (id : ℕ) (s : Span) (c : Context) (t : Piece) (m : Machine)
+    → Closes (behind_anchor_at k id s c t m)
+behind_anchors_at (tokens.Tag handle suffix) id s c t m =
+    behind (resolved m.prefixes handle suffix s.start) _ (λ tag. next_contents _ c m)
 behind_anchors_at _ id s c t m = contents _ c t m
 
 behind_anchors : (name : List ℕ) (s : Span) (c : Context) (m : Machine) → Closes (behind_anchor name s c m)
 unfolding behind_anchor
 behind_anchors name s c m = behind (take (register name m)) _ (λ t. behind_anchors_at t.0.kind _ s c t.0 t.1)
 
-behind_tags_at : (k : Kind) (tag : ResolvedTag) (s : Span) (c : Context) (t : Piece) (m : Machine) → Closes (behind_tag_at k tag s c t m)
+behind_tags_at : (k : Kind) (tag : ResolvedTag) (s : Span) (c : Context) (t : Piece) (m : Machine)
+    → Closes (behind_tag_at k tag s c t m)
 behind_tags_at (tokens.Anchor name) tag s c t m = next_contents _ c (register name m)
 behind_tags_at _ tag s c t m = contents _ c t m
 
 behind_tags : (handle suffix : List ℕ) (s : Span) (c : Context) (m : Machine) → Closes (behind_tag handle suffix s c m)
 unfolding behind_tag
-behind_tags handle suffix s c m = behind (resolved m.prefixes handle suffix s.start) _ (λ tag. behind (take m) _ (λ t. behind_tags_at t.0.kind tag s c t.0 t.1))
+behind_tags handle suffix s c m =
+    behind (resolved m.prefixes handle suffix s.start) _
+    (λ tag. behind (take m) _ (λ t. behind_tags_at t.0.kind tag s c t.0 t.1))
 
 nodes_at : (k : Kind) (c : Context) (t : Piece) (m : Machine) → Closes (node_at k c t m)
 unfolding alias
@@ -245,10 +251,15 @@ ends _ t m = tt
 -- ## All steps
 
 closes_at : (s : State) (m : Machine) → Closes (step_at s m)
-unfolding block_node document.stream_start document.implicit_start document.explicit_start document.document_content document.document_end block.sequence_entry block.indentless_entry block.mapping_key block.mapping_value flow.other_entry flow.pair_key flow.pair_value flow.pair_end flow.first_pair flow.other_pair flow.mapping_value flow.empty_value
+unfolding block_node document.stream_start document.implicit_start document.explicit_start document.document_content
+    document.document_end block.sequence_entry block.indentless_entry block.mapping_key block.mapping_value
+    flow.other_entry flow.pair_key flow.pair_value flow.pair_end flow.first_pair flow.other_pair flow.mapping_value
+    flow.empty_value
 closes_at state.StreamStart m = behind (take m) _ (λ t. starts t.0.kind t.0 t.1)
-closes_at state.ImplicitDocumentStart m = behind (document.pass document.is_end_or_mark m) _ (λ t. implicit_at t.0.kind t.0 t.1)
-closes_at state.DocumentStart m = behind (document.pass document.is_end_or_mark m) _ (λ t. explicit_start_at t.0.kind t.0 t.1)
+closes_at state.ImplicitDocumentStart m =
+    behind (document.pass document.is_end_or_mark m) _ (λ t. implicit_at t.0.kind t.0 t.1)
+closes_at state.DocumentStart m =
+    behind (document.pass document.is_end_or_mark m) _ (λ t. explicit_start_at t.0.kind t.0 t.1)
 closes_at state.DocumentContent m = behind (take m) _ (λ t. content_starts t.0.kind t.0 t.1)
 closes_at state.DocumentEnd m = behind (document.behind_document m) _ (λ t. ends t.0.kind t.0 _)
 closes_at state.BlockNode m = behind (take m) _ (λ t. nodes Block t.0 t.1)

@@ -1,8 +1,8 @@
 -- The end of the stream is the last event of a forest, and so of an answer without a fault; with a fault it is none.
 use Rattle.std.proofs.Common.{◌≡◌, ◌≢◌, ℕ, Bool, List, [], ◌∷◌, ◌++◌, map, Option, Some, None, option_map, refl, sym, ap, ◌∙◌, subst, append_assoc}
 use Rattle.saphyr_scalar.specs.declared.scalar.position.Span.{Span}
-use Rattle.saphyr_scanner.specs.Forest.{Node, Nodes, NoNode, MoreNodes, Pairs, NoPair, MorePairs, Forest}
-use Rattle.saphyr_scanner.specs.Forest as forest
+use Rattle.saphyr_scanner.specs.Grammar.Forest.{Node, Nodes, NoNode, MoreNodes, Pairs, NoPair, MorePairs, Forest}
+use Rattle.saphyr_scanner.specs.Grammar.Forest as forest
 use Rattle.saphyr_parser.specs.Answer.{Answer, Ending}
 use Rattle.saphyr_parser.specs.Events as events
 use Rattle.saphyr_parser.specs.Events.{Happening}
@@ -10,7 +10,7 @@ use Rattle.saphyr_parser.specs.EventsTaken.{IsCut, AreTaken}
 use Rattle.saphyr_parser.specs.ForestEvents as telling
 use Rattle.saphyr_parser.specs.ForestEvents.{event_of, before_all, events_behind}
 use Rattle.saphyr_parser.specs.Preorder.{Part, OpenStream, CloseStream, OpenDocument, CloseDocument, Reference, Leaf, OpenSequence, CloseSequence, OpenMapping, CloseMapping, node_parts, entry_parts, pair_parts, document_parts}
-use Rattle.saphyr_parser.specs.WrongAnswers.{IsNoEnd, HasNoEnd, EndsSo, EndsWithStreamEnd}
+use Rattle.saphyr_parser.specs.Examples.WrongAnswers.{IsNoEnd, HasNoEnd, EndsSo, EndsWithStreamEnd}
 
 -- ## Parts
 
@@ -30,23 +30,35 @@ mutual
   node_inner : (n : Node) → AreInner (node_parts n)
   node_inner (forest.Alias name) = (tt, tt)
   node_inner (forest.Scalar p style value) = (tt, tt)
-  node_inner (forest.Seq p nodes) = (tt, inner_append (entry_parts nodes) (CloseSequence ∷ []) (entries_inner nodes) (tt, tt))
-  node_inner (forest.Map p pairs) = (tt, inner_append (pair_parts pairs) (CloseMapping ∷ []) (pairs_inner pairs) (tt, tt))
+  node_inner (forest.Seq p nodes) =
+      (tt, inner_append (entry_parts nodes) (CloseSequence ∷ []) (entries_inner nodes) (tt, tt))
+  node_inner (forest.Map p pairs) =
+      (tt, inner_append (pair_parts pairs) (CloseMapping ∷ []) (pairs_inner pairs) (tt, tt))
 
   entries_inner : (ns : Nodes) → AreInner (entry_parts ns)
   entries_inner NoNode = tt
-  entries_inner (MoreNodes node nodes) = inner_append (node_parts node) (entry_parts nodes) (node_inner node) (entries_inner nodes)
+  entries_inner (MoreNodes node nodes) =
+      inner_append (node_parts node) (entry_parts nodes) (node_inner node) (entries_inner nodes)
 
   pairs_inner : (qs : Pairs) → AreInner (pair_parts qs)
   pairs_inner NoPair = tt
-  pairs_inner (MorePairs key value pairs) = inner_append (node_parts key) (node_parts value ++ pair_parts pairs) (node_inner key) (inner_append (node_parts value) (pair_parts pairs) (node_inner value) (pairs_inner pairs))
+  pairs_inner (MorePairs key value pairs) =
+      inner_append (node_parts key) (node_parts value ++ pair_parts pairs) (node_inner key)
+      (inner_append (node_parts value) (pair_parts pairs) (node_inner value) (pairs_inner pairs))
 
 documents_inner : (f : Forest) → (ps : List Part) × AreInner ps × (document_parts f ≡ ps ++ CloseStream ∷ [])
 documents_inner [] = ([], tt, refl)
 documents_inner (d ∷ ds) =
     let r = documents_inner ds in
-    let own = node_parts d.node in
-    (OpenDocument d.explicit d.directives ∷ (own ++ CloseDocument ∷ r.0), (tt, inner_append own (CloseDocument ∷ r.0) (node_inner d.node) (tt, r.1)), ap (λ l. OpenDocument d.explicit d.directives ∷ (own ++ CloseDocument ∷ l)) r.2 ∙ ap (λ l. OpenDocument d.explicit d.directives ∷ l) (sym (append_assoc own (CloseDocument ∷ r.0) (CloseStream ∷ []))))
+    let own = node_parts d.node in (
+      OpenDocument d.explicit d.directives
+          ∷ (own ++ CloseDocument ∷ r.0),
+      (tt, inner_append own (CloseDocument ∷ r.0) (node_inner d.node) (tt, r.1)),
+      ap
+          (λ l. OpenDocument d.explicit d.directives ∷ (own ++ CloseDocument ∷ l)) r.2
+          ∙ ap (λ l. OpenDocument d.explicit d.directives ∷ l)
+          (sym (append_assoc own (CloseDocument ∷ r.0) (CloseStream ∷ []))),
+    )
 
 -- ## Events
 
@@ -54,14 +66,16 @@ abbrev NoEnds : List Happening → Type 0
 NoEnds [] = Unit {0}
 NoEnds (w ∷ ws) = IsNoEnd w × NoEnds ws
 
-mapped : {X : Type 0} (o : Option X) (make : X → Happening) (w : Happening) → ((x : X) → IsNoEnd (make x)) → option_map make o ≡ Some w → IsNoEnd w
+mapped : {X : Type 0} (o : Option X) (make : X → Happening) (w : Happening) → ((x : X) → IsNoEnd (make x))
+    → option_map make o ≡ Some w → IsNoEnd w
 mapped None make w h e = absurd (cc)
 mapped (Some x) make w h e = let same : make x ≡ w = cc in subst IsNoEnd same (h x)
 
 is_event : (v w : Happening) → IsNoEnd v → (let o : Option Happening = Some v in o ≡ Some w) → IsNoEnd w
 is_event v w h e = let same : v ≡ w = cc in subst IsNoEnd same h
 
-event_no_end : (keep : Bool) (front : List Part) (p : Part) (w : Happening) → IsInner p → event_of keep front p ≡ Some w → IsNoEnd w
+event_no_end : (keep : Bool) (front : List Part) (p : Part) (w : Happening) → IsInner p → event_of keep front p ≡ Some w
+    → IsNoEnd w
 event_no_end keep front OpenStream w i e = is_event events.StreamStart w tt e
 event_no_end keep front CloseStream w i e = absurd i
 event_no_end keep front (OpenDocument explicit directives) w i e = is_event (events.DocumentStart explicit) w tt e
@@ -79,22 +93,30 @@ record Closes (es : List Happening) : Type 0 where
   are : es ≡ front ++ events.StreamEnd ∷ []
   none : NoEnds front
 
-before_some : (o : Option Happening) (r : Option (List Happening)) (es : List Happening) → before_all o r ≡ Some es → (w : Happening) × (rs : List Happening) × (o ≡ Some w) × (r ≡ Some rs) × (es ≡ w ∷ rs)
+before_some : (o : Option Happening) (r : Option (List Happening)) (es : List Happening) → before_all o r ≡ Some es
+    → (w : Happening) × (rs : List Happening) × (o ≡ Some w) × (r ≡ Some rs) × (es ≡ w ∷ rs)
 before_some None r es e = absurd (cc)
 before_some (Some w) None es e = absurd (cc)
 before_some (Some w) (Some rs) es e = (w, rs, refl, refl, cc)
 
-parts_close : (keep : Bool) (front : List Part) (ps : List Part) (es : List Happening) → AreInner ps → events_behind keep front (ps ++ CloseStream ∷ []) ≡ Some es → Closes es
+parts_close : (keep : Bool) (front : List Part) (ps : List Part) (es : List Happening) → AreInner ps
+    → events_behind keep front (ps ++ CloseStream ∷ []) ≡ Some es → Closes es
 parts_close keep front [] es i e = record { front = []; are = cc; none = tt }
 parts_close keep front (p ∷ ps) es i e =
     let w = before_some (event_of keep front p) (events_behind keep (p ∷ front) (ps ++ CloseStream ∷ [])) es e in
     let c = parts_close keep (p ∷ front) ps w.1 i.1 w.3 in
-    record { front = w.0 ∷ c.front; are = w.4 ∙ ap (λ l. w.0 ∷ l) c.are; none = (event_no_end keep front p w.0 i.0 w.2, c.none) }
+    record {
+      front = w.0 ∷ c.front;
+      are =
+          w.4 ∙ ap (λ l. w.0 ∷ l) c.are;
+      none = (event_no_end keep front p w.0 i.0 w.2, c.none);
+    }
 
 forest_closes : (keep : Bool) (f : Forest) (es : List Happening) → telling.events f keep ≡ Some es → Closes es
 forest_closes keep f es e =
     let d = documents_inner f in
-    let same : events_behind keep [] (OpenStream ∷ (d.0 ++ CloseStream ∷ [])) ≡ Some es = ap (λ l. events_behind keep [] (OpenStream ∷ l)) (sym d.2) ∙ e in
+    let same : events_behind keep [] (OpenStream ∷ (d.0 ++ CloseStream ∷ [])) ≡ Some es =
+    ap (λ l. events_behind keep [] (OpenStream ∷ l)) (sym d.2) ∙ e in
     parts_close keep [] (OpenStream ∷ d.0) es (tt, d.1) same
 
 -- ## Answers
@@ -102,12 +124,14 @@ forest_closes keep f es e =
 abbrev happenings : List (Happening × Span) → List Happening
 happenings es = map (λ (e : Happening × Span). e.0) es
 
-whole_ends : (es : List (Happening × Span)) (front : List Happening) → happenings es ≡ front ++ events.StreamEnd ∷ [] → NoEnds front → EndsSo None es
+whole_ends : (es : List (Happening × Span)) (front : List Happening) → happenings es ≡ front ++ events.StreamEnd ∷ []
+    → NoEnds front → EndsSo None es
 whole_ends [] [] e n = absurd (cc)
 whole_ends [] (w ∷ front) e n = absurd (cc)
 whole_ends (x ∷ []) [] e n =
     let first : x.0 ≡ events.StreamEnd = cc in
-    let P : Happening → Type 0 = λ w. (front : List (Happening × Span)) × (span : Span) × ((w, x.1) ∷ [] ≡ front ++ (events.StreamEnd, span) ∷ []) × HasNoEnd front in
+    let P : Happening → Type 0 = λ w. (front : List (Happening × Span)) × (span : Span)
+    × ((w, x.1) ∷ [] ≡ front ++ (events.StreamEnd, span) ∷ []) × HasNoEnd front in
     subst P (sym first) ([], x.1, refl, tt)
 whole_ends (x ∷ y ∷ es) [] e n = absurd (cc)
 whole_ends (x ∷ es) (w ∷ front) e n =
@@ -116,7 +140,8 @@ whole_ends (x ∷ es) (w ∷ front) e n =
     let r = whole_ends es front more n.1 in
     (x ∷ r.0, r.1, ap (λ l. x ∷ l) r.2, (subst IsNoEnd (sym first) n.0, r.3))
 
-cut_ends : (es : List (Happening × Span)) (missing front : List Happening) → happenings es ++ missing ≡ front ++ events.StreamEnd ∷ [] → missing ≢ [] → NoEnds front → HasNoEnd es
+cut_ends : (es : List (Happening × Span)) (missing front : List Happening)
+    → happenings es ++ missing ≡ front ++ events.StreamEnd ∷ [] → missing ≢ [] → NoEnds front → HasNoEnd es
 cut_ends [] missing front e m n = tt
 cut_ends (x ∷ es) missing [] e m n = absurd (let over : happenings es ++ missing ≡ [] = cc in none es over)
   where
@@ -128,8 +153,10 @@ cut_ends (x ∷ es) missing (w ∷ front) e m n =
     let more : happenings es ++ missing ≡ front ++ events.StreamEnd ∷ [] = cc in
     (subst IsNoEnd (sym first) n.0, cut_ends es missing front more m n.1)
 
-ends_so : (fault : Option Ending) (es : List (Happening × Span)) (missing : List Happening) → Closes (happenings es ++ missing) → IsCut fault missing → EndsSo fault es
-ends_so None es missing c cut = whole_ends es c.front (sym (nothing_behind (happenings es)) ∙ ap (λ l. happenings es ++ l) (sym cut) ∙ c.are) c.none
+ends_so : (fault : Option Ending) (es : List (Happening × Span)) (missing : List Happening)
+    → Closes (happenings es ++ missing) → IsCut fault missing → EndsSo fault es
+ends_so None es missing c cut =
+    whole_ends es c.front (sym (nothing_behind (happenings es)) ∙ ap (λ l. happenings es ++ l) (sym cut) ∙ c.are) c.none
   where
     nothing_behind : (l : List Happening) → l ++ [] ≡ l
     nothing_behind [] = refl
@@ -137,4 +164,5 @@ ends_so None es missing c cut = whole_ends es c.front (sym (nothing_behind (happ
 ends_so (Some f) es missing c cut = cut_ends es missing c.front c.are cut c.none
 
 pub ends_with_stream_end : (keep : Bool) (text : List ℕ) (a : Answer) → AreTaken keep text a → EndsWithStreamEnd a
-ends_with_stream_end keep text a t = let r = t.1 in ends_so a.fault a.events r.missing (forest_closes keep t.0 _ r.are_events) r.all_given
+ends_with_stream_end keep text a t =
+    let r = t.1 in ends_so a.fault a.events r.missing (forest_closes keep t.0 _ r.are_events) r.all_given

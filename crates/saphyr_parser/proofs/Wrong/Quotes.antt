@@ -11,11 +11,11 @@ use Rattle.saphyr_scalar.specs.FlowReading.{mark}
 use Rattle.saphyr_scalar.specs.Quoted.{break_len}
 use Rattle.saphyr_scalar.specs.QuotedMarkers.{HasNoMarker}
 use Rattle.saphyr_scalar.specs.QuotedSpelling.{IsText, closed, itself, broken, two_quotes, escaped, numbered, escaped_break, stands_for_itself}
-use Rattle.saphyr_scanner.specs.TakenTexts.{at}
+use Rattle.saphyr_scanner.specs.Examples.TakenTexts.{at}
 use Rattle.saphyr_scanner.proofs.Beginnings.{heads, tails}
 use Rattle.saphyr_scanner.proofs.Wrong.Standing.{reached_behind, one_place}
 use Rattle.saphyr_parser.specs.EventsTaken.{AreTaken}
-use Rattle.saphyr_parser.specs.WrongAnswers as wrong
+use Rattle.saphyr_parser.specs.Examples.WrongAnswers as wrong
 use Rattle.saphyr_parser.proofs.Wrong.Owned.{OwnScalar, owned}
 
 mark_is : (q : Quote) (c : ℕ) → mark q ≡ c → (c ≡ 39) ⊎ (c ≡ 34)
@@ -33,52 +33,64 @@ no_mark q c e a b = by (mark_is q c e)
 no_text : (q : Quote) (t : List ℕ) (items : List Item) (x : List ℕ) → IsText q t items x → t ≡ [] → ⊥
 no_text _ _ _ _ (closed q x h) e = cc
 no_text _ _ _ _ (itself q c t items x h r) e = cc
-no_text _ _ _ _ (broken q t items x h r) e = let k : is_break 0 ≡ true = sym (ap (λ l. is_break (slice_index l 0)) e) ∙ h in cc
+no_text _ _ _ _ (broken q t items x h r) e =
+    let k : is_break 0 ≡ true = sym (ap (λ l. is_break (slice_index l 0)) e) ∙ h in cc
 no_text _ _ _ _ (two_quotes t items x r) e = cc
 no_text _ _ _ _ (escaped f c t items x h r) e = cc
 no_text _ _ _ _ (numbered f c ds t items x h r) e = cc
 no_text _ _ _ _ (escaped_break t items x h r) e = cc
 
 -- before a line that begins with a marker
-at_marker : (q : Quote) (t : List ℕ) (items : List Item) (x : List ℕ) (is : IsText q t items x) → HasNoMarker q t items x is → t ≡ codes "\n--- b\"" → ⊥
-at_marker _ _ _ _ (closed q x h) m e = no_mark q 10 (sym (heads (mark q) 10 x (codes "--- b\"") e)) (λ k. omega (arith, k)) (λ k. omega (arith, k))
+at_marker : (q : Quote) (t : List ℕ) (items : List Item) (x : List ℕ) (is : IsText q t items x)
+    → HasNoMarker q t items x is → t ≡ codes "\n--- b\"" → ⊥
+at_marker _ _ _ _ (closed q x h) m e =
+    no_mark q 10 (sym (heads (mark q) 10 x (codes "--- b\"") e)) (λ k. omega (arith, k)) (λ k. omega (arith, k))
 at_marker _ _ _ _ (itself q c t items x h r) m e =
     let same : 10 ≡ c = heads c 10 t (codes "--- b\"") e in
     let k : stands_for_itself q 10 ≡ true = ap (stands_for_itself q) same ∙ h in
     let none : stands_for_itself q 10 ≡ false = refl in
     cc
 at_marker _ _ _ _ (broken q t items x h r) m e =
-    let k : is_document_indicator (codes "--- b\"") ≡ false = sym (ap (λ l. is_document_indicator (drop (break_len l) l)) e) ∙ m.0 in
+    let k : is_document_indicator (codes "--- b\"") ≡ false = sym
+    (ap (λ l. is_document_indicator (drop (break_len l) l)) e) ∙ m.0 in
     cc
 at_marker _ _ _ _ (two_quotes t items x r) m e = let z : 10 ≡ 39 = heads 39 10 _ _ e in omega (arith, z)
 at_marker _ _ _ _ (escaped f c t items x h r) m e = let z : 10 ≡ 92 = heads 92 10 _ _ e in omega (arith, z)
 at_marker _ _ _ _ (numbered f c ds t items x h r) m e = let z : 10 ≡ 92 = heads 92 10 _ _ e in omega (arith, z)
 at_marker _ _ _ _ (escaped_break t items x h r) m e = let z : 10 ≡ 92 = heads 92 10 _ _ e in omega (arith, z)
 
-before_marker : (q : Quote) (t : List ℕ) (items : List Item) (x : List ℕ) (is : IsText q t items x) → HasNoMarker q t items x is → t ≡ codes "a\n--- b\"" → ⊥
-before_marker _ _ _ _ (closed q x h) m e = no_mark q 97 (sym (heads (mark q) 97 x (codes "\n--- b\"") e)) (λ k. omega (arith, k)) (λ k. omega (arith, k))
+before_marker : (q : Quote) (t : List ℕ) (items : List Item) (x : List ℕ) (is : IsText q t items x)
+    → HasNoMarker q t items x is → t ≡ codes "a\n--- b\"" → ⊥
+before_marker _ _ _ _ (closed q x h) m e =
+    no_mark q 97 (sym (heads (mark q) 97 x (codes "\n--- b\"") e)) (λ k. omega (arith, k)) (λ k. omega (arith, k))
 before_marker _ _ _ _ (itself q c t items x h r) m e = at_marker q t items x r m (tails c 97 t (codes "\n--- b\"") e)
-before_marker _ _ _ _ (broken q t items x h r) m e = let k : is_break 97 ≡ true = sym (ap (λ l. is_break (slice_index l 0)) e) ∙ h in cc
+before_marker _ _ _ _ (broken q t items x h r) m e =
+    let k : is_break 97 ≡ true = sym (ap (λ l. is_break (slice_index l 0)) e) ∙ h in cc
 before_marker _ _ _ _ (two_quotes t items x r) m e = let z : 97 ≡ 39 = heads 39 97 _ _ e in omega (arith, z)
 before_marker _ _ _ _ (escaped f c t items x h r) m e = let z : 97 ≡ 92 = heads 92 97 _ _ e in omega (arith, z)
 before_marker _ _ _ _ (numbered f c ds t items x h r) m e = let z : 97 ≡ 92 = heads 92 97 _ _ e in omega (arith, z)
 before_marker _ _ _ _ (escaped_break t items x h r) m e = let z : 97 ≡ 92 = heads 92 97 _ _ e in omega (arith, z)
 
 -- the scalar begins at one of the two quotes
-either_quote : (front inside : List ℕ) → codes "\"a\n--- b\"" ≡ front ++ 34 ∷ inside → (inside ≡ codes "a\n--- b\"") ⊎ (inside ≡ [])
+either_quote : (front inside : List ℕ) → codes "\"a\n--- b\"" ≡ front ++ 34 ∷ inside
+    → (inside ≡ codes "a\n--- b\"") ⊎ (inside ≡ [])
 either_quote [] inside e = inl (sym (tails 34 34 (codes "a\n--- b\"") inside e))
 either_quote (f ∷ front) inside e =
-    let more : codes "a\n--- b" ++ 34 ∷ [] ≡ front ++ 34 ∷ inside = tails 34 f (codes "a\n--- b\"") (front ++ 34 ∷ inside) e in
+    let more : codes "a\n--- b" ++ 34 ∷ [] ≡ front ++ 34 ∷ inside =
+    tails 34 f (codes "a\n--- b\"") (front ++ 34 ∷ inside) e in
     let last = one_place 34 (codes "a\n--- b") [] front (34 ∷ inside) more refl (λ z. omega arith) refl refl in
     inr (tails 34 34 inside [] last)
 
 pub marker_in_quotes : (keep : Bool) → AreTaken keep (codes "\"a\n--- b\"") wrong.marker_in_quotes → ⊥
 marker_in_quotes keep t = by (owned keep (codes "\"a\n--- b\"") wrong.marker_in_quotes t).1.1.0
   where
-    by : (codes "a --- b" ≡ []) ⊎ OwnScalar (codes "\"a\n--- b\"") (codes "a --- b") DoubleQuoted (record { start = at 0 1 0; end = at 9 2 6 }) → ⊥
+    by : (codes "a --- b" ≡ [])
+        ⊎ OwnScalar (codes "\"a\n--- b\"") (codes "a --- b") DoubleQuoted (record { start = at 0 1 0; end = at 9 2 6 })
+        → ⊥
     by (inl e) = cc
     by (inr o) =
-        let r = reached_behind (fresh (codes "\"a\n--- b\"")).mark (codes "\"a\n--- b\"") o.here.mark o.here.rest o.reached in
+        let r = reached_behind (fresh (codes "\"a\n--- b\"")).mark (codes "\"a\n--- b\"") o.here.mark o.here.rest
+        o.reached in
         let q = o.is.1 in
         at_quote (either_quote r.0 q.0 (r.1 ∙ ap (λ l. r.0 ++ l) q.1))
       where

@@ -8,7 +8,7 @@ use Rattle.saphyr_scalar.specs.declared.reading.block.BlockStyle.TheVariants as 
 use Rattle.saphyr_scalar.specs.BlockText.{AreInside}
 use Rattle.saphyr_input.specs.Classes.{is_break}
 use Rattle.saphyr_scalar.specs.Cursor.{fresh}
-use Rattle.saphyr_scanner.specs.TakenTexts.{at}
+use Rattle.saphyr_scanner.specs.Examples.TakenTexts.{at}
 use Rattle.saphyr_scanner.specs.TokensTaken as taken
 use Rattle.saphyr_scanner.specs.TokensTaken.{IsReached, IsPlaceOf}
 use Rattle.saphyr_scanner.proofs.Reached.{reached_counted}
@@ -18,8 +18,8 @@ use Rattle.saphyr_scanner.proofs.Wrong.Standing.{reached_behind, one_place, has}
 use Rattle.saphyr_parser.specs.Events as events
 use Rattle.saphyr_parser.specs.EventsTaken.{AreTaken}
 use Rattle.saphyr_parser.specs.SpansWithin.{HasSpansIn}
-use Rattle.saphyr_parser.specs.WrongAnswers as wrong
-use Rattle.saphyr_parser.specs.WrongAnswers.{EndsSo}
+use Rattle.saphyr_parser.specs.Examples.WrongAnswers as wrong
+use Rattle.saphyr_parser.specs.Examples.WrongAnswers.{EndsSo}
 use Rattle.saphyr_parser.proofs.Wrong.Ends.{ends_with_stream_end}
 use Rattle.saphyr_parser.proofs.Wrong.Owned.{OwnScalar, owned}
 
@@ -33,18 +33,22 @@ pub blank_first : (keep : Bool) → AreTaken keep (codes "- a") wrong.blank_firs
 blank_first keep t = white_refused (codes "- a") (codes "a") _ (owned keep (codes "- a") wrong.blank_first t).1.1.1.0
 
 pub break_first : (keep : Bool) → AreTaken keep (codes "a:\n b") wrong.break_first → ⊥
-break_first keep t = white_refused (codes "a:\n b") (codes "b") _ (owned keep (codes "a:\n b") wrong.break_first t).1.1.1.1.0
+break_first keep t = white_refused (codes "a:\n b") (codes "b") _
+    (owned keep (codes "a:\n b") wrong.break_first t).1.1.1.1.0
 
 -- ## Block scalars over a marker, or over a NUL
 
 -- all lines behind `|` are the scalar's
-literal_lines : (before body value : List ℕ) (span : Span) → OwnScalar (before ++ (124 ∷ 10 ∷ body)) value Literal span → has 124 before ≡ false → has 124 (10 ∷ body) ≡ false → span.end.index ≡ length (before ++ (124 ∷ 10 ∷ body)) → AreInside true body []
+literal_lines : (before body value : List ℕ) (span : Span) → OwnScalar (before ++ (124 ∷ 10 ∷ body)) value Literal span
+    → has 124 before ≡ false → has 124 (10 ∷ body) ≡ false → span.end.index ≡ length (before ++ (124 ∷ 10 ∷ body))
+    → AreInside true body []
 literal_lines before body value span o b a e =
     let text = before ++ (124 ∷ 10 ∷ body) in
     let r = reached_behind (fresh text).mark text o.here.mark o.here.rest o.reached in
     let count = reached_counted (fresh text).mark text o.here.mark o.here.rest o.reached in
     let rest = one_place 124 before (10 ∷ body) r.0 o.here.rest r.1 o.is.begins (λ z. omega arith) b a in
-    all_inside block_style.Literal o.indent value o.own o.here o.behind 124 body o.is rest (let k = ap (λ (m : Marker). m.index) o.end in omega (arith, count, e, k))
+    all_inside block_style.Literal o.indent value o.own o.here o.behind 124 body o.is rest
+    (let k = ap (λ (m : Marker). m.index) o.end in omega (arith, count, e, k))
 
 marker_refused : AreInside true (codes "a\n---\nb\n") [] → ⊥
 marker_refused h = let k : true ≡ false = h.2.2.1 refl in cc
@@ -55,16 +59,23 @@ nul_refused h = let k : false ≡ true = h.2.2.0 in cc
 pub marker_inside : (keep : Bool) → AreTaken keep (codes "--- |\na\n---\nb\n") wrong.marker_inside → ⊥
 marker_inside keep t = by (owned keep (codes "--- |\na\n---\nb\n") wrong.marker_inside t).1.1.0
   where
-    by : (codes "a\n---\nb\n" ≡ []) ⊎ OwnScalar (codes "--- |\na\n---\nb\n") (codes "a\n---\nb\n") Literal (record { start = at 6 2 0; end = at 14 5 0 }) → ⊥
+    by : (codes "a\n---\nb\n" ≡ [])
+        ⊎ OwnScalar (codes "--- |\na\n---\nb\n") (codes "a\n---\nb\n") Literal
+        (record { start = at 6 2 0; end = at 14 5 0 }) → ⊥
     by (inl e) = cc
-    by (inr o) = marker_refused (literal_lines (codes "--- ") (codes "a\n---\nb\n") (codes "a\n---\nb\n") (record { start = at 6 2 0; end = at 14 5 0 }) o refl refl refl)
+    by (inr o) = marker_refused
+        (literal_lines (codes "--- ") (codes "a\n---\nb\n") (codes "a\n---\nb\n")
+        (record { start = at 6 2 0; end = at 14 5 0 }) o refl refl refl)
 
 pub nul_inside : (keep : Bool) → AreTaken keep (codes "|\n a\0b\n") wrong.nul_inside → ⊥
 nul_inside keep t = by (owned keep (codes "|\n a\0b\n") wrong.nul_inside t).1.1.0
   where
-    by : (codes "a\0b\n" ≡ []) ⊎ OwnScalar (codes "|\n a\0b\n") (codes "a\0b\n") Literal (record { start = at 3 2 1; end = at 7 3 0 }) → ⊥
+    by : (codes "a\0b\n" ≡ [])
+        ⊎ OwnScalar (codes "|\n a\0b\n") (codes "a\0b\n") Literal (record { start = at 3 2 1; end = at 7 3 0 }) → ⊥
     by (inl e) = cc
-    by (inr o) = nul_refused (literal_lines [] (codes " a\0b\n") (codes "a\0b\n") (record { start = at 3 2 1; end = at 7 3 0 }) o refl refl refl)
+    by (inr o) = nul_refused
+        (literal_lines [] (codes " a\0b\n") (codes "a\0b\n") (record { start = at 3 2 1; end = at 7 3 0 }) o refl refl
+        refl)
 
 -- ## Faults behind the end, and no end
 
@@ -85,7 +96,8 @@ first_place : (m : Marker) (t : List ℕ) (n : Marker) (u : List ℕ) → IsReac
 first_place _ _ _ _ (taken.nothing m t) e = refl
 first_place _ _ n u (taken.character m c t _ _ f p) e = absurd (cc)
 first_place _ _ n u (taken.mark m t _ _ f p) e = absurd (cc)
-first_place _ t n u (taken.line_break m _ _ _ f p) e = absurd (let k : is_break 0 ≡ true = sym (ap (λ l. is_break (slice_index l 0)) e) ∙ f in cc)
+first_place _ t n u (taken.line_break m _ _ _ f p) e =
+    absurd (let k : is_break 0 ≡ true = sym (ap (λ l. is_break (slice_index l 0)) e) ∙ f in cc)
 
 no_place : IsPlaceOf [] (at 0 9 9) → ⊥
 no_place (s, reached, inl e, l) =

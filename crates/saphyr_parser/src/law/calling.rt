@@ -2,7 +2,7 @@
 ghost use Rattle.std.specs.Prelude.{◌≡◌, ◌↔◌, None, IfSome, IsTrue};
 ghost use Rattle.saphyr_scalar.specs.declared.scalar.position.Span.{Span as PlaceSpan};
 ghost use Rattle.saphyr_parser.specs.Calls.{Gives};
-ghost use Rattle.saphyr_parser.specs.EventSeen.{happening};
+ghost use Rattle.saphyr_parser.specs.Views.Events.{happening};
 ghost use Rattle.saphyr_parser.specs.Events.{StreamEnd};
 ghost use Rattle.saphyr_parser.specs.Loading.{SendsOne};
 
@@ -23,7 +23,8 @@ pub fn loads_the_end_again<'input, T: Input, R: SpannedEventReceiver<'input>>(
     recv: &mut R,
 ) -> Option<Result<(), Fault>>
     requires { parser.old.kept ≡ None }
-    ensures { IfSome result (λ answer. (span : PlaceSpan) × SendsOne R.receives answer (StreamEnd, span) recv.old recv.new) }
+    ensures { IfSome result (λ answer. (span : PlaceSpan)
+        × SendsOne R.receives answer (StreamEnd, span) recv.old recv.new) }
 {
     while let Some(Ok((event, _))) = parser.next_event() {
         let last = ends_the_stream(event);

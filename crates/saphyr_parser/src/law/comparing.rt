@@ -4,9 +4,9 @@ ghost use Rattle.std.specs.Cmp.Lexicographic.{slice_cmp};
 ghost use Rattle.std.specs.Ordering.{nat_cmp, ordering_then};
 ghost use Rattle.std.specs.declared.cmp.Ordering.TheVariants.{Equal};
 ghost use Rattle.saphyr_parser.specs.Cursor.{keeping_tags, to_come};
-ghost use Rattle.saphyr_parser.specs.EventSeen.{resolved_tag};
+ghost use Rattle.saphyr_parser.specs.Views.Events.{resolved_tag};
 ghost use Rattle.saphyr_parser.specs.declared.parser.tag.Tag.{Tag as DeclaredTag};
-ghost use Rattle.saphyr_scanner.specs.Forest.{Style};
+ghost use Rattle.saphyr_scanner.specs.Grammar.Forest.{Style};
 
 use crate::parser::{Parser, Tag};
 use saphyr_input::input::Input;
@@ -24,7 +24,8 @@ pub fn reads_inputs_alike<'a, 'b, T: Input, U: Input>(
 ) -> (Parser<'a, T>, Parser<'b, U>)
     requires { T.rest one ≡ U.rest other }
     ensures parsers { result.0 ≡ result.1 }
-    ensures events { (keep : Bool) → to_come (keeping_tags keep result.0) ≡ to_come (keeping_tags keep result.1) }
+    ensures events { (keep : Bool) → to_come (keeping_tags keep result.0)
+        ≡ to_come (keeping_tags keep result.1) }
 {
     (Parser::new(alloc, one), Parser::new(alloc, other))
 }
@@ -32,7 +33,9 @@ pub fn reads_inputs_alike<'a, 'b, T: Input, U: Input>(
 /// Tags are ordered by the bytes of their handles, and equal handles by those of the suffixes. Tags compare as
 /// equal exactly where they are equal.
 pub fn orders_tags(one: &Tag, other: &Tag) -> Ordering
-    ensures order { result ≡ ordering_then (slice_cmp nat_cmp (resolved_tag one.now).handle (resolved_tag other.now).handle) (slice_cmp nat_cmp (resolved_tag one.now).suffix (resolved_tag other.now).suffix) }
+    ensures order { result ≡ ordering_then (slice_cmp nat_cmp (resolved_tag one.now).handle
+        (resolved_tag other.now).handle)
+        (slice_cmp nat_cmp (resolved_tag one.now).suffix (resolved_tag other.now).suffix) }
     ensures equal { result ≡ Equal ↔ resolved_tag one.now ≡ resolved_tag other.now }
 {
     one.cmp(other)
@@ -47,8 +50,10 @@ pub fn orders_styles(one: ScalarStyle, other: ScalarStyle) -> Ordering
 
 /// Equal tags feed a hasher alike, and so do equal styles.
 pub fn hashes_alike()
-    ensures tags { (one other : DeclaredTag) → resolved_tag one ≡ resolved_tag other → ⟦<Tag as Hash>⟧.hash_input one ≡ ⟦<Tag as Hash>⟧.hash_input other }
-    ensures styles { (one other : Style) → one ≡ other → ⟦<ScalarStyle as Hash>⟧.hash_input one ≡ ⟦<ScalarStyle as Hash>⟧.hash_input other }
+    ensures tags { (one other : DeclaredTag) → resolved_tag one ≡ resolved_tag other
+        → ⟦<Tag as Hash>⟧.hash_input one ≡ ⟦<Tag as Hash>⟧.hash_input other }
+    ensures styles { (one other : Style) → one ≡ other
+        → ⟦<ScalarStyle as Hash>⟧.hash_input one ≡ ⟦<ScalarStyle as Hash>⟧.hash_input other }
 {}
 
 /// A default place has index, line and column 0, and a default span is the empty one there.

@@ -1,7 +1,7 @@
 //! The ids of anchors, and which of them an alias means (YAML 1.2.2, 3.2.2.2, 6.9.2 and 7.1).
 
 ghost use Rattle.std.specs.Prelude.{◌≡◌, ℕ, Ok, string_bytes};
-ghost use Rattle.saphyr_parser.specs.Machine as spec;
+ghost use Rattle.saphyr_parser.specs.Steps.Machine as spec;
 
 use saphyr_scalar::Stop;
 use std::alloc::{AllocError, Global};
@@ -18,7 +18,7 @@ pub struct Anchors {
 }
 
 impl Model for Anchors {
-    ghost use Rattle.saphyr_parser.specs.Machine.{Anchors as Seen};
+    ghost use Rattle.saphyr_parser.specs.Steps.Machine.{Anchors as Seen};
     ghost use Rattle.saphyr_parser.specs.Names.{ids_of};
 
     ghost Value = { Seen };
@@ -49,7 +49,8 @@ impl Anchors {
     #[tactic(auto, using(crate::proofs::Names::ids_given))]
     /// Gives the next id to the name, which may have one already.
     pub fn register(&mut self, name: String) -> Result<usize, Stop>
-        ensures { Moves {Y = ℕ × spec.Anchors} (λ id. (id, self.new)) result (Ok (spec.next_id self.old, spec.registered (string_bytes name) self.old)) }
+        ensures { Moves {Y = ℕ × spec.Anchors} (λ id. (id, self.new)) result
+            (Ok (spec.next_id self.old, spec.registered (string_bytes name) self.old)) }
     {
         let id = self.last.saturating_add(1);
         self.ids.insert(name, id)?;

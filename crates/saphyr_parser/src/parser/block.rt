@@ -1,6 +1,6 @@
 //! The states inside block collections (YAML 1.2.2, 8.2).
 
-ghost use Rattle.saphyr_parser.specs.BlockSteps as spec;
+ghost use Rattle.saphyr_parser.specs.Steps.Block as spec;
 
 use crate::parser::context::Context;
 use crate::parser::event::Event;
@@ -12,21 +12,23 @@ use saphyr_scanner::TokenType;
 
 impl<T: Input> Machine<T> {
     ghost use Rattle.saphyr_scalar.specs.Seen.{Moves};
-    ghost use Rattle.saphyr_parser.specs.Seen.{machine_of, told_of};
+    ghost use Rattle.saphyr_parser.specs.Views.Machines.{machine_of, told_of};
 
     // An entry of a block sequence, or its end.
-    #[tactic(auto, unfolding(crate::specs::BlockSteps::sequence_entry))]
+    #[tactic(auto, unfolding(crate::specs::Steps::Block::sequence_entry))]
     pub(super) fn block_sequence_entry<'input>(
         &mut self,
         next: &mut (Event<'input>, Span),
     ) -> Result<(), Stop>
-        ensures { Moves (λ _. told_of (machine_of self.new) next.new) result (spec.sequence_entry (machine_of self.old)) }
+        ensures { Moves (λ _. told_of (machine_of self.new) next.new) result
+            (spec.sequence_entry (machine_of self.old)) }
     {
         let token = self.take()?;
         match token.kind {
             TokenType::BlockEnd => {
                 self.pop();
-                *next = (Event::SequenceEnd, token.span);
+                next.0 = Event::SequenceEnd;
+                next.1 = token.span;
                 Ok(())
             }
             TokenType::BlockEntry => self.block_sequence_node(token.span, next),
@@ -36,13 +38,14 @@ impl<T: Input> Machine<T> {
 
     // The node behind a `-`.
     #[inline(always)]
-    #[tactic(auto, unfolding(crate::specs::BlockSteps::sequence_node))]
+    #[tactic(auto, unfolding(crate::specs::Steps::Block::sequence_node))]
     fn block_sequence_node<'input>(
         &mut self,
         dash: Span,
         next: &mut (Event<'input>, Span),
     ) -> Result<(), Stop>
-        ensures { Moves (λ _. told_of (machine_of self.new) next.new) result (spec.sequence_node dash (machine_of self.old)) }
+        ensures { Moves (λ _. told_of (machine_of self.new) next.new) result
+            (spec.sequence_node dash (machine_of self.old)) }
     {
         let token = self.take()?;
         match token.kind {
@@ -54,12 +57,13 @@ impl<T: Input> Machine<T> {
     }
 
     // An entry of a sequence at the column of the mapping around it, or its end.
-    #[tactic(auto, unfolding(crate::specs::BlockSteps::indentless_entry))]
+    #[tactic(auto, unfolding(crate::specs::Steps::Block::indentless_entry))]
     pub(super) fn indentless_sequence_entry<'input>(
         &mut self,
         next: &mut (Event<'input>, Span),
     ) -> Result<(), Stop>
-        ensures { Moves (λ _. told_of (machine_of self.new) next.new) result (spec.indentless_entry (machine_of self.old)) }
+        ensures { Moves (λ _. told_of (machine_of self.new) next.new) result
+            (spec.indentless_entry (machine_of self.old)) }
     {
         let token = self.take()?;
         match token.kind {
@@ -68,19 +72,21 @@ impl<T: Input> Machine<T> {
                 let span = token.span;
                 self.put_back(token);
                 self.pop();
-                *next = (Event::SequenceEnd, span);
+                next.0 = Event::SequenceEnd;
+                next.1 = span;
                 Ok(())
             }
         }
     }
 
-    #[tactic(auto, unfolding(crate::specs::BlockSteps::indentless_node))]
+    #[tactic(auto, unfolding(crate::specs::Steps::Block::indentless_node))]
     fn indentless_sequence_node<'input>(
         &mut self,
         dash: Span,
         next: &mut (Event<'input>, Span),
     ) -> Result<(), Stop>
-        ensures { Moves (λ _. told_of (machine_of self.new) next.new) result (spec.indentless_node dash (machine_of self.old)) }
+        ensures { Moves (λ _. told_of (machine_of self.new) next.new) result
+            (spec.indentless_node dash (machine_of self.old)) }
     {
         let token = self.take()?;
         match token.kind {
@@ -92,12 +98,13 @@ impl<T: Input> Machine<T> {
     }
 
     // A key of a block mapping, or its end.
-    #[tactic(auto, unfolding(crate::specs::BlockSteps::mapping_key))]
+    #[tactic(auto, unfolding(crate::specs::Steps::Block::mapping_key))]
     pub(super) fn block_mapping_key<'input>(
         &mut self,
         next: &mut (Event<'input>, Span),
     ) -> Result<(), Stop>
-        ensures { Moves (λ _. told_of (machine_of self.new) next.new) result (spec.mapping_key (machine_of self.old)) }
+        ensures { Moves (λ _. told_of (machine_of self.new) next.new) result
+            (spec.mapping_key (machine_of self.old)) }
     {
         let token = self.take()?;
         match token.kind {
@@ -108,7 +115,8 @@ impl<T: Input> Machine<T> {
             }
             TokenType::BlockEnd => {
                 self.pop();
-                *next = (Event::MappingEnd, token.span);
+                next.0 = Event::MappingEnd;
+                next.1 = token.span;
                 Ok(())
             }
             _ => Err(refuse(FaultText::BlockMappingKeyExpected, token.span.start)),
@@ -116,9 +124,10 @@ impl<T: Input> Machine<T> {
     }
 
     // The node behind a key's token.
-    #[tactic(auto, unfolding(crate::specs::BlockSteps::key_node))]
+    #[tactic(auto, unfolding(crate::specs::Steps::Block::key_node))]
     fn block_key_node<'input>(&mut self, next: &mut (Event<'input>, Span)) -> Result<(), Stop>
-        ensures { Moves (λ _. told_of (machine_of self.new) next.new) result (spec.key_node (machine_of self.old)) }
+        ensures { Moves (λ _. told_of (machine_of self.new) next.new) result
+            (spec.key_node (machine_of self.old)) }
     {
         let token = self.take()?;
         match token.kind {
@@ -131,12 +140,13 @@ impl<T: Input> Machine<T> {
     }
 
     // The value of a pair of a block mapping.
-    #[tactic(auto, unfolding(crate::specs::BlockSteps::mapping_value))]
+    #[tactic(auto, unfolding(crate::specs::Steps::Block::mapping_value))]
     pub(super) fn block_mapping_value<'input>(
         &mut self,
         next: &mut (Event<'input>, Span),
     ) -> Result<(), Stop>
-        ensures { Moves (λ _. told_of (machine_of self.new) next.new) result (spec.mapping_value (machine_of self.old)) }
+        ensures { Moves (λ _. told_of (machine_of self.new) next.new) result
+            (spec.mapping_value (machine_of self.old)) }
     {
         let token = self.take()?;
         let span = token.span;
@@ -147,13 +157,14 @@ impl<T: Input> Machine<T> {
     }
 
     // The node behind a value's token.
-    #[tactic(auto, unfolding(crate::specs::BlockSteps::value_node))]
+    #[tactic(auto, unfolding(crate::specs::Steps::Block::value_node))]
     fn block_value_node<'input>(
         &mut self,
         colon: Span,
         next: &mut (Event<'input>, Span),
     ) -> Result<(), Stop>
-        ensures { Moves (λ _. told_of (machine_of self.new) next.new) result (spec.value_node colon (machine_of self.old)) }
+        ensures { Moves (λ _. told_of (machine_of self.new) next.new) result
+            (spec.value_node colon (machine_of self.old)) }
     {
         let token = self.take()?;
         match token.kind {

@@ -1,9 +1,9 @@
 //! Copies of machines and of readers.
 
 ghost use Rattle.std.specs.Prelude.{◌≡◌, IfOk, option_map};
-ghost use Rattle.saphyr_scanner.specs.Seen.{piece};
+ghost use Rattle.saphyr_scanner.specs.Views.Tokens.{piece};
 ghost use Rattle.saphyr_parser.specs.Cursor.{event_of};
-ghost use Rattle.saphyr_parser.specs.KeptSeen.{kept_of};
+ghost use Rattle.saphyr_parser.specs.Views.Kept.{kept_of};
 
 use crate::parser::event::Event;
 use crate::parser::kept::Kept;
@@ -50,7 +50,7 @@ fn copy_kept(kept: &Option<Kept>) -> Result<Option<Kept>, AllocError>
 }
 
 impl<T: CloneInput> Machine<T> {
-    ghost use Rattle.saphyr_parser.specs.Seen.{machine_of};
+    ghost use Rattle.saphyr_parser.specs.Views.Machines.{machine_of};
 
     // A machine of its own that expects the same and reads the same tokens.
     fn try_clone(&self) -> Result<Self, AllocError>
@@ -70,7 +70,7 @@ impl<T: CloneInput> Machine<T> {
 }
 
 impl<'input, T: CloneInput> Reader<'input, T> {
-    ghost use Rattle.saphyr_parser.specs.ReaderSeen.{cursor};
+    ghost use Rattle.saphyr_parser.specs.Views.Readers.{cursor};
 
     // A reader of its own that stands at the same place.
     pub(super) fn try_clone(&self) -> Result<Self, AllocError>

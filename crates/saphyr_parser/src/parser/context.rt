@@ -14,7 +14,7 @@ pub enum Context {
 }
 
 impl Context {
-    ghost use Rattle.saphyr_parser.specs.Contexts as spec;
+    ghost use Rattle.saphyr_parser.specs.Steps.Contexts as spec;
 
     pub fn allows_block(self) -> bool
         ensures { result ≡ spec.allows_block self }

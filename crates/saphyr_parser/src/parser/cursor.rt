@@ -3,16 +3,16 @@
 ghost use Rattle.std.specs.Prelude.{◌≡◌, ◌≤◌, ℕ, Bool, List, length, take, IfOk};
 ghost use Rattle.std.specs.Str.{chars};
 ghost use Rattle.saphyr_input.specs.Listed.{Lists, Listed};
-ghost use Rattle.saphyr_scanner.specs.Remaining.{scan};
+ghost use Rattle.saphyr_scanner.specs.Steps.Remaining.{scan};
 ghost use Rattle.saphyr_parser.specs.Cursor as spec;
 ghost use Rattle.saphyr_parser.specs.Calls as calls;
-ghost use Rattle.saphyr_parser.specs.Complete.{ReadsJson};
 ghost use Rattle.saphyr_parser.specs.SpansWithin.{HasSpansIn};
-ghost use Rattle.saphyr_parser.specs.Promises.{ReadsClosedLayout, ReadsLayout, TakesEvents};
+ghost use Rattle.saphyr_parser.specs.Promises.{ReadsClosedLayout, ReadsJson, ReadsLayout, TakesEvents};
 
 use crate::law::{gives_json, takes_all_events};
 use crate::parser::event::Event;
 use crate::parser::fault::Fault;
+use crate::parser::progress::Progress;
 use crate::parser::reader::Reader;
 use crate::parser::receiver::SpannedEventReceiver;
 use saphyr_input::input::{CloneInput, Input};
@@ -48,7 +48,7 @@ impl<T: Input + Drop> Drop for Parser<'_, T> {
 impl<'input, T: Input> Model for Parser<'input, T> {
     ghost use Rattle.saphyr_parser.specs.Calls.{IsSound};
     ghost use Rattle.saphyr_parser.specs.Cursor.{Cursor};
-    ghost use Rattle.saphyr_parser.specs.ReaderSeen.{cursor};
+    ghost use Rattle.saphyr_parser.specs.Views.Readers.{cursor};
 
     ghost Value = { Cursor };
 
@@ -78,10 +78,11 @@ impl<'input, T: Input> Parser<'input, T> {
     #[must_use]
     pub fn new(alloc: Global, src: T) -> Self
         ensures decided { result ≡ spec.at_start (scan 4294967295 (T.rest src)) }
-        ensures complete { ReadsJson 4294967295 (T.rest src) result }
+        ensures json { ReadsJson 4294967295 (T.rest src) result }
         ensures layout { ReadsLayout 4294967295 (T.rest src) result }
         ensures closed { ReadsClosedLayout 4294967295 (T.rest src) result }
-        ensures spans { (keep : Bool) → HasSpansIn (T.rest src) (spec.to_come (spec.keeping_tags keep result)) }
+        ensures spans { (keep : Bool) → HasSpansIn (T.rest src)
+            (spec.to_come (spec.keeping_tags keep result)) }
         ensures taken { TakesEvents (T.rest src) result }
     {
         Parser::with_limit(alloc, src, MOST_CHARACTERS)
@@ -90,10 +91,11 @@ impl<'input, T: Input> Parser<'input, T> {
     // The same with another bound on the number of characters, for tests.
     pub(crate) fn with_limit(alloc: Global, src: T, limit: usize) -> Self
         ensures decided { result ≡ spec.at_start (scan limit (T.rest src)) }
-        ensures complete { ReadsJson limit (T.rest src) result }
+        ensures json { ReadsJson limit (T.rest src) result }
         ensures layout { limit ≤ 4294967295 → ReadsLayout limit (T.rest src) result }
         ensures closed { limit ≤ 4294967295 → ReadsClosedLayout limit (T.rest src) result }
-        ensures spans { (keep : Bool) → HasSpansIn (T.rest src) (spec.to_come (spec.keeping_tags keep result)) }
+        ensures spans { (keep : Bool) → HasSpansIn (T.rest src)
+            (spec.to_come (spec.keeping_tags keep result)) }
         ensures taken { limit ≤ 4294967295 → TakesEvents (T.rest src) result }
     {
         scans_each_json();
@@ -135,16 +137,17 @@ impl<'input, T: Input> Parser<'input, T> {
         self.reader.next_event()
     }
 
-    // Hands out the next event, which is written into its place.
+    // Hands out the next event or fault, which is written into its place.
     #[inline(always)]
-    pub(crate) fn next_into(
+    pub(crate) fn advance(
         &mut self,
         next: &mut (Event<'input>, Span),
-    ) -> Option<Result<(), Fault>>
-        ensures leaves { calls.Gives (spec.filled next.new result) self.old self.new }
+        fault: &mut Fault,
+    ) -> Progress
+        ensures leaves { calls.Gives (calls.placed next.new fault.new result) self.old self.new }
         ensures over { calls.EndsTheStream self.new }
     {
-        self.reader.next_into(next)
+        self.reader.advance(next, fault)
     }
 
     /// Shows what `next_event` hands out next, and doesn't pass it. What was shown is shown again, without new
@@ -170,10 +173,16 @@ impl<'input, T: Input> Parser<'input, T> {
         recv: &mut R,
         multi: bool,
     ) -> Result<(), Fault>
-        ensures ended { spec.IsKept self.old.kept → loading.Tells result self.old.kept × (recv.new ≡ recv.old) × (self.new ≡ self.old) }
-        ensures finished { self.old.kept ≡ None → (span : PlaceSpan) → self.old.finished ≡ Some span → loading.SendsOne R.receives result (StreamEnd, span) recv.old recv.new × (self.new ≡ self.old) }
-        ensures inside { self.old.kept ≡ None → self.old.finished ≡ None → self.old.inside ≡ true → (result ≡ Err InsideDocument) × (recv.new ≡ recv.old) × (self.new ≡ self.old) }
-        ensures between { self.old.kept ≡ None → self.old.finished ≡ None → self.old.inside ≡ false → loading.Loads R.receives result (loading.to_send multi self.old) self.old recv.old recv.new self.new }
+        ensures ended { spec.IsKept self.old.kept
+            → loading.Tells result self.old.kept × (recv.new ≡ recv.old) × (self.new ≡ self.old) }
+        ensures finished { self.old.kept ≡ None → (span : PlaceSpan) → self.old.finished ≡ Some span
+            → loading.SendsOne R.receives result (StreamEnd, span) recv.old recv.new
+            × (self.new ≡ self.old) }
+        ensures inside { self.old.kept ≡ None → self.old.finished ≡ None → self.old.inside ≡ true
+            → (result ≡ Err InsideDocument) × (recv.new ≡ recv.old) × (self.new ≡ self.old) }
+        ensures between { self.old.kept ≡ None → self.old.finished ≡ None → self.old.inside ≡ false
+            → loading.Loads R.receives result (loading.to_send multi self.old) self.old recv.old
+            recv.new self.new }
         ensures over { calls.EndsTheStream self.new }
     {
         self.reader.load(recv, multi)
@@ -201,10 +210,11 @@ impl<'input> Parser<'input, StrInput<'input>> {
     #[must_use]
     pub fn new_from_str(alloc: Global, value: &'input str) -> Self
         ensures decided { result ≡ spec.at_start (scan 4294967295 (chars value.now)) }
-        ensures complete { ReadsJson 4294967295 (chars value.now) result }
+        ensures json { ReadsJson 4294967295 (chars value.now) result }
         ensures layout { ReadsLayout 4294967295 (chars value.now) result }
         ensures closed { ReadsClosedLayout 4294967295 (chars value.now) result }
-        ensures spans { (keep : Bool) → HasSpansIn (chars value.now) (spec.to_come (spec.keeping_tags keep result)) }
+        ensures spans { (keep : Bool) → HasSpansIn (chars value.now)
+            (spec.to_come (spec.keeping_tags keep result)) }
         ensures taken { TakesEvents (chars value.now) result }
     {
         Parser::new(alloc, StrInput::new(value))
@@ -219,13 +229,20 @@ impl<'input, I: Iterator<Item = char>> Parser<'input, BufferedInput<I>> {
     /// An error says that there was no memory for a window on the characters.
     pub fn new_from_iter(alloc: Global, iter: I) -> Result<Self, AllocError>
         requires { Listed I.can_next I.next_gives iter }
-        ensures decided { (text : List ℕ) → Lists I.can_next I.next_gives iter text → IfOk result (λ parser. parser ≡ spec.at_start (scan 4294967295 (take 4294967296 text))) }
-        ensures complete { (text : List ℕ) → Lists I.can_next I.next_gives iter text → IfOk result (λ parser. ReadsJson 4294967295 text parser) }
-        ensures layout { (text : List ℕ) → Lists I.can_next I.next_gives iter text → IfOk result (λ parser. ReadsLayout 4294967295 text parser) }
+        ensures decided { (text : List ℕ) → Lists I.can_next I.next_gives iter text
+            → IfOk result (λ parser. parser
+            ≡ spec.at_start (scan 4294967295 (take 4294967296 text))) }
+        ensures json { (text : List ℕ) → Lists I.can_next I.next_gives iter text
+            → IfOk result (λ parser. ReadsJson 4294967295 text parser) }
+        ensures layout { (text : List ℕ) → Lists I.can_next I.next_gives iter text
+            → IfOk result (λ parser. ReadsLayout 4294967295 text parser) }
         ensures closed { (text : List ℕ) → Lists I.can_next I.next_gives iter text
             → IfOk result (λ parser. ReadsClosedLayout 4294967295 text parser) }
-        ensures spans { (text : List ℕ) → Lists I.can_next I.next_gives iter text → IfOk result (λ parser. (keep : Bool) → HasSpansIn (take 4294967296 text) (spec.to_come (spec.keeping_tags keep parser))) }
-        ensures taken { (text : List ℕ) → Lists I.can_next I.next_gives iter text → IfOk result (λ parser. TakesEvents (take 4294967296 text) parser) }
+        ensures spans { (text : List ℕ) → Lists I.can_next I.next_gives iter text
+            → IfOk result (λ parser. (keep : Bool)
+            → HasSpansIn (take 4294967296 text) (spec.to_come (spec.keeping_tags keep parser))) }
+        ensures taken { (text : List ℕ) → Lists I.can_next I.next_gives iter text
+            → IfOk result (λ parser. TakesEvents (take 4294967296 text) parser) }
     {
         Ok(Parser::new(alloc, BufferedInput::new(alloc, iter)?))
     }

@@ -2,8 +2,8 @@
 //! (YAML 1.2.2, 6.8 and chapter 9).
 
 ghost use Rattle.std.specs.Prelude.{◌≡◌, None, string_bytes};
-ghost use Rattle.saphyr_scanner.specs.Seen.{kind_of};
-ghost use Rattle.saphyr_parser.specs.DocumentSteps as spec;
+ghost use Rattle.saphyr_scanner.specs.Views.Tokens.{kind_of};
+ghost use Rattle.saphyr_parser.specs.Steps.Documents as spec;
 
 use crate::parser::context::Context;
 use crate::parser::event::Event;
@@ -47,7 +47,7 @@ pub struct Declared {
 
 impl Declared {
     ghost use Rattle.saphyr_scalar.specs.Seen.{Moves};
-    ghost use Rattle.saphyr_parser.specs.DocumentSeen.{declared};
+    ghost use Rattle.saphyr_parser.specs.Views.Documents.{declared};
 
     fn nothing(alloc: Global) -> Declared
         ensures { declared result ≡ spec.none_declared }
@@ -73,14 +73,15 @@ impl Declared {
 impl<T: Input> Machine<T> {
     ghost use Rattle.std.specs.Prelude.{IfOk};
     ghost use Rattle.saphyr_scalar.specs.Seen.{Moves};
-    ghost use Rattle.saphyr_scanner.specs.Seen.{piece};
-    ghost use Rattle.saphyr_parser.specs.Seen.{machine_of, told_of};
-    ghost use Rattle.saphyr_parser.specs.Machine as machine;
-    ghost use Rattle.saphyr_parser.specs.DocumentSeen.{declared as seen};
+    ghost use Rattle.saphyr_scanner.specs.Views.Tokens.{piece};
+    ghost use Rattle.saphyr_parser.specs.Views.Machines.{machine_of, told_of};
+    ghost use Rattle.saphyr_parser.specs.Steps.Machine as machine;
+    ghost use Rattle.saphyr_parser.specs.Views.Documents.{declared as seen};
 
     // Takes the first token behind ends of documents and byte order marks.
     fn pass_ends(&mut self) -> Result<Token, Stop>
-        ensures taken { Moves (λ t. (piece t, machine_of self.new)) result (spec.pass spec.is_end_or_mark (machine_of self.old)) }
+        ensures taken { Moves (λ t. (piece t, machine_of self.new)) result
+            (spec.pass spec.is_end_or_mark (machine_of self.old)) }
         ensures room { IfOk result (λ t. self.new.token ≡ None) }
     {
         loop {
@@ -93,7 +94,8 @@ impl<T: Input> Machine<T> {
 
     // Takes the first token behind byte order marks.
     fn pass_marks(&mut self) -> Result<Token, Stop>
-        ensures taken { Moves (λ t. (piece t, machine_of self.new)) result (spec.pass spec.is_mark (machine_of self.old)) }
+        ensures taken { Moves (λ t. (piece t, machine_of self.new)) result
+            (spec.pass spec.is_mark (machine_of self.old)) }
         ensures room { IfOk result (λ t. self.new.token ≡ None) }
     {
         loop {
@@ -112,7 +114,10 @@ impl<T: Input> Machine<T> {
         place: Marker,
         declared: &mut Declared,
     ) -> Result<(), Stop>
-        ensures { Moves {Y = spec.Declared × machine.Machine} (λ _. (seen declared.new, machine_of self.new)) result (spec.tag_directive (string_bytes handle) (string_bytes prefix) place (seen declared.old) (machine_of self.old)) }
+        ensures { Moves {Y = spec.Declared × machine.Machine}
+            (λ _. (seen declared.new, machine_of self.new)) result
+            (spec.tag_directive (string_bytes handle) (string_bytes prefix) place
+            (seen declared.old) (machine_of self.old)) }
     {
         if declared.handles.contains(handle.as_str()) {
             return Err(refuse(FaultText::DuplicateTagDirective, place));
@@ -123,7 +128,10 @@ impl<T: Input> Machine<T> {
 
     // What a directive declares. Reserved directives are ignored.
     fn directive(&mut self, token: Token, declared: &mut Declared) -> Result<(), Stop>
-        ensures { Moves {Y = spec.Declared × machine.Machine} (λ _. (seen declared.new, machine_of self.new)) result (spec.directive_at (piece token).kind (piece token) (seen declared.old) (machine_of self.old)) }
+        ensures { Moves {Y = spec.Declared × machine.Machine}
+            (λ _. (seen declared.new, machine_of self.new)) result
+            (spec.directive_at (piece token).kind (piece token) (seen declared.old)
+            (machine_of self.old)) }
     {
         let Token { span, kind } = token;
         match kind {
@@ -138,7 +146,8 @@ impl<T: Input> Machine<T> {
 
     // Takes the first token behind the directives.
     fn directives(&mut self) -> Result<Token, Stop>
-        ensures { Moves (λ t. (piece t, machine_of self.new)) result (spec.directives spec.none_declared (machine_of self.old)) }
+        ensures { Moves (λ t. (piece t, machine_of self.new)) result
+            (spec.directives spec.none_declared (machine_of self.old)) }
     {
         let mut declared = Declared::nothing(self.alloc);
         loop {
@@ -151,12 +160,13 @@ impl<T: Input> Machine<T> {
     }
 
     // The start of the stream.
-    #[tactic(auto, unfolding(crate::specs::DocumentSteps::stream_start))]
+    #[tactic(auto, unfolding(crate::specs::Steps::Documents::stream_start))]
     pub(super) fn stream_start<'input>(
         &mut self,
         next: &mut (Event<'input>, Span),
     ) -> Result<(), Stop>
-        ensures { Moves (λ _. told_of (machine_of self.new) next.new) result (spec.stream_start (machine_of self.old)) }
+        ensures { Moves (λ _. told_of (machine_of self.new) next.new) result
+            (spec.stream_start (machine_of self.old)) }
     {
         let token = self.take()?;
         match token.kind {
@@ -170,14 +180,15 @@ impl<T: Input> Machine<T> {
     }
 
     // A document with `---`, whose directives begin with the token.
-    #[tactic(auto, unfolding(crate::specs::DocumentSteps::explicit_document))]
+    #[tactic(auto, unfolding(crate::specs::Steps::Documents::explicit_document))]
     fn explicit_document<'input>(
         &mut self,
         token: Token,
         next: &mut (Event<'input>, Span),
     ) -> Result<(), Stop>
         requires { self.old.token ≡ None }
-        ensures { Moves (λ _. told_of (machine_of self.new) next.new) result (spec.explicit_document (piece token) (machine_of self.old)) }
+        ensures { Moves (λ _. told_of (machine_of self.new) next.new) result
+            (spec.explicit_document (piece token) (machine_of self.old)) }
     {
         self.put_back(token);
         let token = self.directives()?;
@@ -197,14 +208,15 @@ impl<T: Input> Machine<T> {
     }
 
     // A document without `---`, whose content begins with the token.
-    #[tactic(auto, unfolding(crate::specs::DocumentSteps::bare_document))]
+    #[tactic(auto, unfolding(crate::specs::Steps::Documents::bare_document))]
     fn bare_document<'input>(
         &mut self,
         token: Token,
         next: &mut (Event<'input>, Span),
     ) -> Result<(), Stop>
         requires { self.old.token ≡ None }
-        ensures { Moves (λ _. told_of (machine_of self.new) next.new) result (spec.bare_document (piece token) (machine_of self.old)) }
+        ensures { Moves (λ _. told_of (machine_of self.new) next.new) result
+            (spec.bare_document (piece token) (machine_of self.old)) }
     {
         let span = token.span;
         self.put_back(token);
@@ -216,12 +228,13 @@ impl<T: Input> Machine<T> {
     }
 
     // The start of a document that may begin without `---`, or the end of the stream.
-    #[tactic(auto, unfolding(crate::specs::DocumentSteps::implicit_start))]
+    #[tactic(auto, unfolding(crate::specs::Steps::Documents::implicit_start))]
     pub(super) fn implicit_document_start<'input>(
         &mut self,
         next: &mut (Event<'input>, Span),
     ) -> Result<(), Stop>
-        ensures { Moves (λ _. told_of (machine_of self.new) next.new) result (spec.implicit_start (machine_of self.old)) }
+        ensures { Moves (λ _. told_of (machine_of self.new) next.new) result
+            (spec.implicit_start (machine_of self.old)) }
     {
         let token = self.pass_ends()?;
         match token.kind {
@@ -239,12 +252,13 @@ impl<T: Input> Machine<T> {
     }
 
     // The start of a document that begins with `---`, or the end of the stream.
-    #[tactic(auto, unfolding(crate::specs::DocumentSteps::explicit_start))]
+    #[tactic(auto, unfolding(crate::specs::Steps::Documents::explicit_start))]
     pub(super) fn document_start<'input>(
         &mut self,
         next: &mut (Event<'input>, Span),
     ) -> Result<(), Stop>
-        ensures { Moves (λ _. told_of (machine_of self.new) next.new) result (spec.explicit_start (machine_of self.old)) }
+        ensures { Moves (λ _. told_of (machine_of self.new) next.new) result
+            (spec.explicit_start (machine_of self.old)) }
     {
         let token = self.pass_ends()?;
         match token.kind {
@@ -258,12 +272,13 @@ impl<T: Input> Machine<T> {
     }
 
     // What stands behind `---`.
-    #[tactic(auto, unfolding(crate::specs::DocumentSteps::document_content))]
+    #[tactic(auto, unfolding(crate::specs::Steps::Documents::document_content))]
     pub(super) fn document_content<'input>(
         &mut self,
         next: &mut (Event<'input>, Span),
     ) -> Result<(), Stop>
-        ensures { Moves (λ _. told_of (machine_of self.new) next.new) result (spec.document_content (machine_of self.old)) }
+        ensures { Moves (λ _. told_of (machine_of self.new) next.new) result
+            (spec.document_content (machine_of self.old)) }
     {
         let token = self.take()?;
         match token.kind {
@@ -286,9 +301,10 @@ impl<T: Input> Machine<T> {
 
     // Takes the token behind the byte order marks that end a document, of which the first has this
     // place. Only a marker or the end may stand there.
-    #[tactic(auto, unfolding(crate::specs::DocumentSteps::behind_marks))]
+    #[tactic(auto, unfolding(crate::specs::Steps::Documents::behind_marks))]
     fn behind_marks(&mut self, first: Marker) -> Result<Token, Stop>
-        ensures taken { Moves (λ t. (piece t, machine_of self.new)) result (spec.behind_marks first (machine_of self.old)) }
+        ensures taken { Moves (λ t. (piece t, machine_of self.new)) result
+            (spec.behind_marks first (machine_of self.old)) }
         ensures room { IfOk result (λ t. self.new.token ≡ None) }
     {
         let token = self.pass_marks()?;
@@ -299,9 +315,10 @@ impl<T: Input> Machine<T> {
     }
 
     // Takes the token behind a document and its byte order marks.
-    #[tactic(auto, unfolding(crate::specs::DocumentSteps::behind_document))]
+    #[tactic(auto, unfolding(crate::specs::Steps::Documents::behind_document))]
     fn behind_document(&mut self) -> Result<Token, Stop>
-        ensures taken { Moves (λ t. (piece t, machine_of self.new)) result (spec.behind_document (machine_of self.old)) }
+        ensures taken { Moves (λ t. (piece t, machine_of self.new)) result
+            (spec.behind_document (machine_of self.old)) }
         ensures room { IfOk result (λ t. self.new.token ≡ None) }
     {
         let token = self.take()?;
@@ -312,12 +329,13 @@ impl<T: Input> Machine<T> {
     }
 
     // The end of a document.
-    #[tactic(auto, unfolding(crate::specs::DocumentSteps::document_end))]
+    #[tactic(auto, unfolding(crate::specs::Steps::Documents::document_end))]
     pub(super) fn document_end<'input>(
         &mut self,
         next: &mut (Event<'input>, Span),
     ) -> Result<(), Stop>
-        ensures { Moves (λ _. told_of (machine_of self.new) next.new) result (spec.document_end (machine_of self.old)) }
+        ensures { Moves (λ _. told_of (machine_of self.new) next.new) result
+            (spec.document_end (machine_of self.old)) }
     {
         let token = self.behind_document()?;
         let span = token.span;

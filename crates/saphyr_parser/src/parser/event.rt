@@ -1,7 +1,7 @@
 //! Events: the serialization of a text's nodes, step by step (YAML 1.2.2, 3.2.2).
 
 ghost use Rattle.std.specs.Prelude.{◌≡◌, IfOk, option_map};
-ghost use Rattle.saphyr_parser.specs.EventSeen.{happening, resolved_tag};
+ghost use Rattle.saphyr_parser.specs.Views.Events.{happening, resolved_tag};
 
 use crate::parser::tag::Tag;
 use saphyr_scalar::ScalarStyle;

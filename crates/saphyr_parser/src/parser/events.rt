@@ -1,7 +1,7 @@
 //! A machine at its start, and its next event by the state that it is in.
 
 ghost use Rattle.std.specs.Prelude.{◌≡◌, ◌≢◌, ◌↔◌, IsTrue, false};
-ghost use Rattle.saphyr_parser.specs.Steps as spec;
+ghost use Rattle.saphyr_parser.specs.Steps.Expected as spec;
 
 use crate::parser::anchors::Anchors;
 use crate::parser::context::Context;
@@ -9,6 +9,7 @@ use crate::parser::event::Event;
 use crate::parser::fault::Fault;
 use crate::parser::machine::Machine;
 use crate::parser::prefixes::Prefixes;
+use crate::parser::progress::Progress;
 use crate::parser::state::State;
 use saphyr_input::input::Input;
 use saphyr_scalar::{Span, Stop};
@@ -17,11 +18,11 @@ use std::alloc::Global;
 
 impl<T: Input> Machine<T> {
     ghost use Rattle.saphyr_scalar.specs.Seen.{Moves};
-    ghost use Rattle.saphyr_parser.specs.Seen.{machine_of, told_of};
-    ghost use Rattle.saphyr_parser.specs.Machine.{fresh};
-    ghost use Rattle.saphyr_parser.specs.Calls.{Reads};
+    ghost use Rattle.saphyr_parser.specs.Views.Machines.{machine_of, told_of};
+    ghost use Rattle.saphyr_parser.specs.Steps.Machine.{fresh};
+    ghost use Rattle.saphyr_parser.specs.Calls.{Reads, placed};
     ghost use Rattle.saphyr_parser.specs.Cursor.{filled};
-    ghost use Rattle.saphyr_parser.specs.Faults.{is_foreign};
+    ghost use Rattle.saphyr_parser.specs.Faults.{IsFaultOf, is_foreign};
     ghost use Rattle.saphyr_parser.specs.declared.parser.state.State.TheVariants.{End};
 
     pub(super) fn new(alloc: Global, scanner: Scanner<T>) -> Self
@@ -40,9 +41,10 @@ impl<T: Input> Machine<T> {
     }
 
     #[inline(always)]
-    #[tactic(auto, unfolding(crate::specs::Steps::block_node))]
+    #[tactic(auto, unfolding(crate::specs::Steps::Expected::block_node))]
     fn block_node<'input>(&mut self, next: &mut (Event<'input>, Span)) -> Result<(), Stop>
-        ensures { Moves (λ _. told_of (machine_of self.new) next.new) result (spec.block_node (machine_of self.old)) }
+        ensures { Moves (λ _. told_of (machine_of self.new) next.new) result
+            (spec.block_node (machine_of self.old)) }
     {
         let token = self.take()?;
         self.node(Context::Block, token, next)
@@ -74,12 +76,45 @@ impl<T: Input> Machine<T> {
         }
     }
 
+    // The fault in place of an event.
+    #[inline(never)]
+    fn fail(&self, stop: Stop, fault: &mut Fault)
+        ensures { IsFaultOf stop fault.new }
+    {
+        *fault = Fault::new(self.alloc, stop);
+    }
+
+    // Reads the next event or fault into its place, if there is one.
+    #[inline(always)]
+    #[tactic(auto, using(crate::proofs::Turns::refused))]
+    pub(super) fn advance<'input>(
+        &mut self,
+        next: &mut (Event<'input>, Span),
+        fault: &mut Fault,
+    ) -> Progress
+        ensures reads { Reads (placed next.new fault.new result) (machine_of self.old)
+            (machine_of self.new) }
+        ensures own { is_foreign (placed next.new fault.new result) ≡ false }
+    {
+        if self.is_done() {
+            return Progress::Over;
+        }
+        match self.event(next) {
+            Ok(()) => Progress::Event,
+            Err(stop) => {
+                self.fail(stop, fault);
+                Progress::Fault
+            }
+        }
+    }
+
     // The next event, which is written into its place.
     #[inline(never)]
-    #[tactic(auto, unfolding(crate::specs::Steps::step))]
+    #[tactic(auto, unfolding(crate::specs::Steps::Expected::step))]
     pub(super) fn event<'input>(&mut self, next: &mut (Event<'input>, Span)) -> Result<(), Stop>
         requires { (machine_of self.old).state ≢ End }
-        ensures { Moves (λ _. told_of (machine_of self.new) next.new) result (spec.step (machine_of self.old)) }
+        ensures { Moves (λ _. told_of (machine_of self.new) next.new) result
+            (spec.step (machine_of self.old)) }
     {
         match self.state {
             State::StreamStart => self.stream_start(next),

@@ -1,7 +1,7 @@
 //! The states inside flow collections (YAML 1.2.2, 7.4).
 
 ghost use Rattle.std.specs.Prelude.{◌≡◌, None};
-ghost use Rattle.saphyr_parser.specs.FlowSteps as spec;
+ghost use Rattle.saphyr_parser.specs.Steps.Flow as spec;
 
 use crate::parser::context::Context;
 use crate::parser::event::Event;
@@ -13,28 +13,31 @@ use saphyr_scanner::{Token, TokenType};
 
 impl<T: Input> Machine<T> {
     ghost use Rattle.saphyr_scalar.specs.Seen.{Moves};
-    ghost use Rattle.saphyr_scanner.specs.Seen.{piece};
-    ghost use Rattle.saphyr_parser.specs.Seen.{machine_of, told_of};
+    ghost use Rattle.saphyr_scanner.specs.Views.Tokens.{piece};
+    ghost use Rattle.saphyr_parser.specs.Views.Machines.{machine_of, told_of};
 
     // The first entry of a flow sequence, or the one behind a comma, or the end of the sequence.
     #[inline(always)]
-    #[tactic(auto, unfolding(crate::specs::FlowSteps::first_entry))]
+    #[tactic(auto, unfolding(crate::specs::Steps::Flow::first_entry))]
     pub(super) fn flow_sequence_first_entry<'input>(
         &mut self,
         next: &mut (Event<'input>, Span),
     ) -> Result<(), Stop>
-        ensures { Moves (λ _. told_of (machine_of self.new) next.new) result (spec.first_entry (machine_of self.old)) }
+        ensures { Moves (λ _. told_of (machine_of self.new) next.new) result
+            (spec.first_entry (machine_of self.old)) }
     {
         let token = self.take()?;
         match token.kind {
             TokenType::FlowSequenceEnd => {
                 self.pop();
-                *next = (Event::SequenceEnd, token.span);
+                next.0 = Event::SequenceEnd;
+                next.1 = token.span;
                 Ok(())
             }
             TokenType::Key => {
                 self.state = State::FlowSequenceEntryMappingKey;
-                *next = (Event::MappingStart(0, None), token.span);
+                next.0 = Event::MappingStart(0, None);
+                next.1 = token.span;
                 Ok(())
             }
             _ => self.inside(State::FlowSequenceEntry, Context::Flow, token, next),
@@ -43,18 +46,20 @@ impl<T: Input> Machine<T> {
 
     // The comma before an entry of a flow sequence, with the entry, or the end of the sequence.
     #[inline(always)]
-    #[tactic(auto, unfolding(crate::specs::FlowSteps::other_entry))]
+    #[tactic(auto, unfolding(crate::specs::Steps::Flow::other_entry))]
     pub(super) fn flow_sequence_entry<'input>(
         &mut self,
         next: &mut (Event<'input>, Span),
     ) -> Result<(), Stop>
-        ensures { Moves (λ _. told_of (machine_of self.new) next.new) result (spec.other_entry (machine_of self.old)) }
+        ensures { Moves (λ _. told_of (machine_of self.new) next.new) result
+            (spec.other_entry (machine_of self.old)) }
     {
         let token = self.take()?;
         match token.kind {
             TokenType::FlowSequenceEnd => {
                 self.pop();
-                *next = (Event::SequenceEnd, token.span);
+                next.0 = Event::SequenceEnd;
+                next.1 = token.span;
                 Ok(())
             }
             TokenType::FlowEntry => self.flow_sequence_first_entry(next),
@@ -63,12 +68,13 @@ impl<T: Input> Machine<T> {
     }
 
     // The key of a pair of a flow sequence, behind its `?`. One that is left out leaves what follows it.
-    #[tactic(auto, unfolding(crate::specs::FlowSteps::pair_key))]
+    #[tactic(auto, unfolding(crate::specs::Steps::Flow::pair_key))]
     pub(super) fn flow_sequence_entry_mapping_key<'input>(
         &mut self,
         next: &mut (Event<'input>, Span),
     ) -> Result<(), Stop>
-        ensures { Moves (λ _. told_of (machine_of self.new) next.new) result (spec.pair_key (machine_of self.old)) }
+        ensures { Moves (λ _. told_of (machine_of self.new) next.new) result
+            (spec.pair_key (machine_of self.old)) }
     {
         let token = self.take()?;
         match token.kind {
@@ -86,12 +92,13 @@ impl<T: Input> Machine<T> {
     }
 
     // The value of a pair of a flow sequence.
-    #[tactic(auto, unfolding(crate::specs::FlowSteps::pair_value))]
+    #[tactic(auto, unfolding(crate::specs::Steps::Flow::pair_value))]
     pub(super) fn flow_sequence_entry_mapping_value<'input>(
         &mut self,
         next: &mut (Event<'input>, Span),
     ) -> Result<(), Stop>
-        ensures { Moves (λ _. told_of (machine_of self.new) next.new) result (spec.pair_value (machine_of self.old)) }
+        ensures { Moves (λ _. told_of (machine_of self.new) next.new) result
+            (spec.pair_value (machine_of self.old)) }
     {
         let token = self.take()?;
         match token.kind {
@@ -110,12 +117,13 @@ impl<T: Input> Machine<T> {
 
     // The node behind the colon of a pair of a flow sequence. The pair's end has its place behind the
     // node's first token.
-    #[tactic(auto, unfolding(crate::specs::FlowSteps::pair_value_node))]
+    #[tactic(auto, unfolding(crate::specs::Steps::Flow::pair_value_node))]
     fn flow_sequence_entry_mapping_node<'input>(
         &mut self,
         next: &mut (Event<'input>, Span),
     ) -> Result<(), Stop>
-        ensures { Moves (λ _. told_of (machine_of self.new) next.new) result (spec.pair_value_node (machine_of self.old)) }
+        ensures { Moves (λ _. told_of (machine_of self.new) next.new) result
+            (spec.pair_value_node (machine_of self.old)) }
     {
         let token = self.take()?;
         let span = token.span;
@@ -129,30 +137,33 @@ impl<T: Input> Machine<T> {
     }
 
     // The end of a pair of a flow sequence.
-    #[tactic(auto, unfolding(crate::specs::FlowSteps::pair_end))]
+    #[tactic(auto, unfolding(crate::specs::Steps::Flow::pair_end))]
     pub(super) fn flow_sequence_entry_mapping_end<'input>(
         &mut self,
         place: Marker,
         next: &mut (Event<'input>, Span),
     ) -> Result<(), Stop>
-        ensures { Moves (λ _. told_of (machine_of self.new) next.new) result (spec.pair_end place (machine_of self.old)) }
+        ensures { Moves (λ _. told_of (machine_of self.new) next.new) result
+            (spec.pair_end place (machine_of self.old)) }
     {
         self.state = State::FlowSequenceEntry;
         let span = Span {
             start: place,
             end: place,
         };
-        *next = (Event::MappingEnd, span);
+        next.0 = Event::MappingEnd;
+        next.1 = span;
         Ok(())
     }
 
     // The first pair of a flow mapping, or its end.
-    #[tactic(auto, unfolding(crate::specs::FlowSteps::first_pair))]
+    #[tactic(auto, unfolding(crate::specs::Steps::Flow::first_pair))]
     pub(super) fn flow_mapping_first_key<'input>(
         &mut self,
         next: &mut (Event<'input>, Span),
     ) -> Result<(), Stop>
-        ensures { Moves (λ _. told_of (machine_of self.new) next.new) result (spec.first_pair (machine_of self.old)) }
+        ensures { Moves (λ _. told_of (machine_of self.new) next.new) result
+            (spec.first_pair (machine_of self.old)) }
     {
         let token = self.take()?;
         let span = token.span;
@@ -161,18 +172,20 @@ impl<T: Input> Machine<T> {
 
     // The comma before a pair of a flow mapping, with its key, or the end of the mapping.
     #[inline(always)]
-    #[tactic(auto, unfolding(crate::specs::FlowSteps::other_pair))]
+    #[tactic(auto, unfolding(crate::specs::Steps::Flow::other_pair))]
     pub(super) fn flow_mapping_key<'input>(
         &mut self,
         next: &mut (Event<'input>, Span),
     ) -> Result<(), Stop>
-        ensures { Moves (λ _. told_of (machine_of self.new) next.new) result (spec.other_pair (machine_of self.old)) }
+        ensures { Moves (λ _. told_of (machine_of self.new) next.new) result
+            (spec.other_pair (machine_of self.old)) }
     {
         let token = self.take()?;
         match token.kind {
             TokenType::FlowMappingEnd => {
                 self.pop();
-                *next = (Event::MappingEnd, token.span);
+                next.0 = Event::MappingEnd;
+                next.1 = token.span;
                 Ok(())
             }
             TokenType::FlowEntry => self.flow_mapping_pair_behind_comma(token.span, next),
@@ -181,13 +194,14 @@ impl<T: Input> Machine<T> {
     }
 
     #[inline(always)]
-    #[tactic(auto, unfolding(crate::specs::FlowSteps::pair_behind_comma))]
+    #[tactic(auto, unfolding(crate::specs::Steps::Flow::pair_behind_comma))]
     fn flow_mapping_pair_behind_comma<'input>(
         &mut self,
         comma: Span,
         next: &mut (Event<'input>, Span),
     ) -> Result<(), Stop>
-        ensures { Moves (λ _. told_of (machine_of self.new) next.new) result (spec.pair_behind_comma comma (machine_of self.old)) }
+        ensures { Moves (λ _. told_of (machine_of self.new) next.new) result
+            (spec.pair_behind_comma comma (machine_of self.old)) }
     {
         let token = self.take()?;
         self.flow_mapping_pair(comma, token, next)
@@ -202,7 +216,8 @@ impl<T: Input> Machine<T> {
         next: &mut (Event<'input>, Span),
     ) -> Result<(), Stop>
         requires { self.old.token ≡ None }
-        ensures { Moves (λ _. told_of (machine_of self.new) next.new) result (spec.pair_at (piece token).kind end (piece token) (machine_of self.old)) }
+        ensures { Moves (λ _. told_of (machine_of self.new) next.new) result
+            (spec.pair_at (piece token).kind end (piece token) (machine_of self.old)) }
     {
         match token.kind {
             TokenType::Key => self.flow_key_node(next),
@@ -212,7 +227,8 @@ impl<T: Input> Machine<T> {
             }
             TokenType::FlowMappingEnd => {
                 self.pop();
-                *next = (Event::MappingEnd, end);
+                next.0 = Event::MappingEnd;
+                next.1 = end;
                 Ok(())
             }
             _ => self.inside(State::FlowMappingEmptyValue, Context::Flow, token, next),
@@ -221,9 +237,10 @@ impl<T: Input> Machine<T> {
 
     // The node behind a key's token.
     #[inline(always)]
-    #[tactic(auto, unfolding(crate::specs::FlowSteps::key_node))]
+    #[tactic(auto, unfolding(crate::specs::Steps::Flow::key_node))]
     fn flow_key_node<'input>(&mut self, next: &mut (Event<'input>, Span)) -> Result<(), Stop>
-        ensures { Moves (λ _. told_of (machine_of self.new) next.new) result (spec.key_node (machine_of self.old)) }
+        ensures { Moves (λ _. told_of (machine_of self.new) next.new) result
+            (spec.key_node (machine_of self.old)) }
     {
         let token = self.take()?;
         match token.kind {
@@ -237,12 +254,13 @@ impl<T: Input> Machine<T> {
 
     // The value of a pair of a flow mapping.
     #[inline(always)]
-    #[tactic(auto, unfolding(crate::specs::FlowSteps::mapping_value))]
+    #[tactic(auto, unfolding(crate::specs::Steps::Flow::mapping_value))]
     pub(super) fn flow_mapping_value<'input>(
         &mut self,
         next: &mut (Event<'input>, Span),
     ) -> Result<(), Stop>
-        ensures { Moves (λ _. told_of (machine_of self.new) next.new) result (spec.mapping_value (machine_of self.old)) }
+        ensures { Moves (λ _. told_of (machine_of self.new) next.new) result
+            (spec.mapping_value (machine_of self.old)) }
     {
         let token = self.take()?;
         let span = token.span;
@@ -254,13 +272,14 @@ impl<T: Input> Machine<T> {
 
     // The node behind a value's token.
     #[inline(always)]
-    #[tactic(auto, unfolding(crate::specs::FlowSteps::value_node))]
+    #[tactic(auto, unfolding(crate::specs::Steps::Flow::value_node))]
     fn flow_value_node<'input>(
         &mut self,
         colon: Span,
         next: &mut (Event<'input>, Span),
     ) -> Result<(), Stop>
-        ensures { Moves (λ _. told_of (machine_of self.new) next.new) result (spec.value_node colon (machine_of self.old)) }
+        ensures { Moves (λ _. told_of (machine_of self.new) next.new) result
+            (spec.value_node colon (machine_of self.old)) }
     {
         let token = self.take()?;
         match token.kind {
@@ -272,12 +291,13 @@ impl<T: Input> Machine<T> {
     }
 
     // The value of a pair that has a key alone.
-    #[tactic(auto, unfolding(crate::specs::FlowSteps::empty_value))]
+    #[tactic(auto, unfolding(crate::specs::Steps::Flow::empty_value))]
     pub(super) fn flow_mapping_empty_value<'input>(
         &mut self,
         next: &mut (Event<'input>, Span),
     ) -> Result<(), Stop>
-        ensures { Moves (λ _. told_of (machine_of self.new) next.new) result (spec.empty_value (machine_of self.old)) }
+        ensures { Moves (λ _. told_of (machine_of self.new) next.new) result
+            (spec.empty_value (machine_of self.old)) }
     {
         let token = self.take()?;
         let span = token.span;

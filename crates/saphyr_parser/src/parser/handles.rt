@@ -1,7 +1,7 @@
 //! The handles that a document's directives have declared, since none may be declared twice (YAML 1.2.2, 6.8.2).
 
 ghost use Rattle.std.specs.Prelude.{◌≡◌, Bool, ℕ, List, not, Ok, string_bytes};
-ghost use Rattle.saphyr_parser.specs.Machine as spec;
+ghost use Rattle.saphyr_parser.specs.Steps.Machine as spec;
 
 use saphyr_scalar::Stop;
 use std::alloc::Global;

@@ -2,7 +2,7 @@
 
 ghost use Rattle.std.specs.Prelude.{◌≡◌, None};
 ghost use Rattle.saphyr_parser.specs.Loading as spec;
-ghost use Rattle.saphyr_parser.specs.EventSeen.{happening};
+ghost use Rattle.saphyr_parser.specs.Views.Events.{happening};
 
 use crate::parser::event::Event;
 use crate::parser::fault::Fault;
@@ -33,7 +33,7 @@ fn send<'input, R: SpannedEventReceiver<'input>>(
 }
 
 impl<'input, T: Input> Reader<'input, T> {
-    ghost use Rattle.saphyr_parser.specs.ReaderSeen.{cursor};
+    ghost use Rattle.saphyr_parser.specs.Views.Readers.{cursor};
     ghost use Rattle.std.specs.Prelude.{Some, Err, true, false};
     ghost use Rattle.saphyr_scalar.specs.declared.scalar.position.Span.{Span as PlaceSpan};
     ghost use Rattle.saphyr_parser.specs.declared.parser.fault.Fault.TheVariants.{InsideDocument};
@@ -71,7 +71,8 @@ impl<'input, T: Input> Reader<'input, T> {
         multi: bool,
     ) -> Result<(), Fault>
         requires { (cursor self.old).kept ≡ None }
-        ensures { spec.Loads R.receives result (spec.to_send multi (cursor self.old)) (cursor self.old) recv.old recv.new (cursor self.new) }
+        ensures { spec.Loads R.receives result (spec.to_send multi (cursor self.old))
+            (cursor self.old) recv.old recv.new (cursor self.new) }
     {
         while let Some((event, span)) = self.pass() {
             let last = is_last(&event, multi);
@@ -89,10 +90,21 @@ impl<'input, T: Input> Reader<'input, T> {
         recv: &mut R,
         multi: bool,
     ) -> Result<(), Fault>
-        ensures ended { IsKept (cursor self.old).kept → spec.Tells result (cursor self.old).kept × (recv.new ≡ recv.old) × (cursor self.new ≡ cursor self.old) }
-        ensures finished { (cursor self.old).kept ≡ None → (span : PlaceSpan) → (cursor self.old).finished ≡ Some span → spec.SendsOne R.receives result (StreamEnd, span) recv.old recv.new × (cursor self.new ≡ cursor self.old) }
-        ensures inside { (cursor self.old).kept ≡ None → (cursor self.old).finished ≡ None → (cursor self.old).inside ≡ true → (result ≡ Err InsideDocument) × (recv.new ≡ recv.old) × (cursor self.new ≡ cursor self.old) }
-        ensures between { (cursor self.old).kept ≡ None → (cursor self.old).finished ≡ None → (cursor self.old).inside ≡ false → spec.Loads R.receives result (spec.to_send multi (cursor self.old)) (cursor self.old) recv.old recv.new (cursor self.new) }
+        ensures ended { IsKept (cursor self.old).kept
+            → spec.Tells result (cursor self.old).kept × (recv.new ≡ recv.old)
+            × (cursor self.new ≡ cursor self.old) }
+        ensures finished { (cursor self.old).kept ≡ None → (span : PlaceSpan)
+            → (cursor self.old).finished ≡ Some span
+            → spec.SendsOne R.receives result (StreamEnd, span) recv.old recv.new
+            × (cursor self.new ≡ cursor self.old) }
+        ensures inside { (cursor self.old).kept ≡ None → (cursor self.old).finished ≡ None
+            → (cursor self.old).inside ≡ true
+            → (result ≡ Err InsideDocument) × (recv.new ≡ recv.old)
+            × (cursor self.new ≡ cursor self.old) }
+        ensures between { (cursor self.old).kept ≡ None → (cursor self.old).finished ≡ None
+            → (cursor self.old).inside ≡ false
+            → spec.Loads R.receives result (spec.to_send multi (cursor self.old)) (cursor self.old)
+            recv.old recv.new (cursor self.new) }
     {
         self.told_fault()?;
         if let Some(span) = self.finished {

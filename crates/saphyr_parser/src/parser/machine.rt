@@ -2,7 +2,7 @@
 //! read in `document`, `block` and `flow`, and the nodes there in `node`.
 
 ghost use Rattle.std.specs.Prelude.{◌≡◌, None};
-ghost use Rattle.saphyr_parser.specs.Machine as spec;
+ghost use Rattle.saphyr_parser.specs.Steps.Machine as spec;
 
 use crate::parser::anchors::Anchors;
 use crate::parser::event::Event;
@@ -49,13 +49,14 @@ pub(super) fn refuse(text: FaultText, mark: Marker) -> Stop
 impl<T: Input> Machine<T> {
     ghost use Rattle.std.specs.Prelude.{IfOk, IfNone, IfSome, Ok};
     ghost use Rattle.saphyr_scalar.specs.Seen.{Moves};
-    ghost use Rattle.saphyr_scanner.specs.Seen.{piece};
-    ghost use Rattle.saphyr_parser.specs.Seen.{machine_of, happening, told_of};
+    ghost use Rattle.saphyr_scanner.specs.Views.Tokens.{piece};
+    ghost use Rattle.saphyr_parser.specs.Views.Machines.{machine_of, happening, told_of};
 
     // Takes the token that was put back, if one was.
     #[inline(always)]
     fn take_back(&mut self) -> Option<Token>
-        ensures taken { IfSome result (λ t. spec.take (machine_of self.old) ≡ Ok (piece t, machine_of self.new)) }
+        ensures taken { IfSome result (λ t. spec.take (machine_of self.old)
+            ≡ Ok (piece t, machine_of self.new)) }
         ensures room { self.new.token ≡ None }
         ensures same { IfNone result (self.new ≡ self.old) }
     {
@@ -69,7 +70,8 @@ impl<T: Input> Machine<T> {
     // Takes the next token, and writes it into `token`.
     #[inline(always)]
     fn take_into(&mut self, token: &mut Token) -> Result<(), Stop>
-        ensures taken { Moves (λ _. (piece token.new, machine_of self.new)) result (spec.take (machine_of self.old)) }
+        ensures taken { Moves (λ _. (piece token.new, machine_of self.new)) result
+            (spec.take (machine_of self.old)) }
         ensures room { IfOk result (λ _. self.new.token ≡ None) }
     {
         if let Some(next) = self.take_back() {
@@ -92,7 +94,8 @@ impl<T: Input> Machine<T> {
     // Takes the next token.
     #[inline(always)]
     pub(super) fn take(&mut self) -> Result<Token, Stop>
-        ensures taken { Moves (λ t. (piece t, machine_of self.new)) result (spec.take (machine_of self.old)) }
+        ensures taken { Moves (λ t. (piece t, machine_of self.new)) result
+            (spec.take (machine_of self.old)) }
         ensures room { IfOk result (λ t. self.new.token ≡ None) }
     {
         let mut token = Token::at_start();
@@ -126,10 +129,12 @@ impl<T: Input> Machine<T> {
     #[inline(always)]
     #[tactic(auto, using(crate::proofs::Stacks::top_on))]
     pub(super) fn push(&mut self, state: State) -> Result<(), Stop>
-        ensures moved { Moves (λ _. machine_of self.new) result (Ok (spec.push state (machine_of self.old))) }
+        ensures moved { Moves (λ _. machine_of self.new) result
+            (Ok (spec.push state (machine_of self.old))) }
         ensures room { self.new.token ≡ self.old.token }
     {
-        self.states.push(state)?;
+        self.states.reserve(1)?;
+        self.states.push_reserved(state);
         Ok(())
     }
 
@@ -156,11 +161,13 @@ impl<T: Input> Machine<T> {
         next: &mut (Event<'input>, Span),
     ) -> Result<(), Stop>
         requires { self.old.token ≡ None }
-        ensures { Moves (λ _. told_of (machine_of self.new) next.new) result (spec.left_out (piece token) state span (machine_of self.old)) }
+        ensures { Moves (λ _. told_of (machine_of self.new) next.new) result
+            (spec.left_out (piece token) state span (machine_of self.old)) }
     {
         self.put_back(token);
         self.state = state;
-        *next = (self.empty_scalar(), span);
+        next.0 = self.empty_scalar();
+        next.1 = span;
         Ok(())
     }
 }

@@ -2,7 +2,7 @@
 //! (YAML 1.2.2, 6.9, 7.1, 7.5 and 8.2.3).
 
 ghost use Rattle.std.specs.Prelude.{◌≡◌, None, string_bytes};
-ghost use Rattle.saphyr_parser.specs.NodeSteps as spec;
+ghost use Rattle.saphyr_parser.specs.Steps.Nodes as spec;
 
 use crate::parser::context::Context;
 use crate::parser::event::Event;
@@ -26,7 +26,7 @@ pub struct Properties {
 }
 
 impl Properties {
-    ghost use Rattle.saphyr_parser.specs.NodeSeen.{properties};
+    ghost use Rattle.saphyr_parser.specs.Views.Nodes.{properties};
 
     #[inline(always)]
     fn has_any(&self) -> bool
@@ -49,9 +49,9 @@ impl Properties {
 
 impl<T: Input> Machine<T> {
     ghost use Rattle.saphyr_scalar.specs.Seen.{Moves};
-    ghost use Rattle.saphyr_scanner.specs.Seen.{piece};
-    ghost use Rattle.saphyr_parser.specs.Seen.{machine_of, told_of};
-    ghost use Rattle.saphyr_parser.specs.NodeSeen.{properties as seen};
+    ghost use Rattle.saphyr_scanner.specs.Views.Tokens.{piece};
+    ghost use Rattle.saphyr_parser.specs.Views.Machines.{machine_of, told_of};
+    ghost use Rattle.saphyr_parser.specs.Views.Nodes.{properties as seen};
 
     // Properties alone stand for an empty scalar.
     fn without_content<'input>(
@@ -61,7 +61,8 @@ impl<T: Input> Machine<T> {
         next: &mut (Event<'input>, Span),
     ) -> Result<(), Stop>
         requires { self.old.token ≡ None }
-        ensures { Moves (λ _. told_of (machine_of self.new) next.new) result (spec.without_content (seen properties) (piece token) (machine_of self.old)) }
+        ensures { Moves (λ _. told_of (machine_of self.new) next.new) result
+            (spec.without_content (seen properties) (piece token) (machine_of self.old)) }
     {
         if !properties.has_any() {
             return Err(refuse(FaultText::NodeContentExpected, token.span.start));
@@ -83,7 +84,8 @@ impl<T: Input> Machine<T> {
         place: Marker,
         next: &mut (Event<'input>, Span),
     )
-        ensures { told_of (machine_of self.new) next.new ≡ spec.opened_sequence state (seen properties) place (machine_of self.old) }
+        ensures { told_of (machine_of self.new) next.new
+            ≡ spec.opened_sequence state (seen properties) place (machine_of self.old) }
     {
         self.state = state;
         let span = properties.up_to(place);
@@ -99,7 +101,8 @@ impl<T: Input> Machine<T> {
         place: Marker,
         next: &mut (Event<'input>, Span),
     )
-        ensures { told_of (machine_of self.new) next.new ≡ spec.opened_mapping state (seen properties) place (machine_of self.old) }
+        ensures { told_of (machine_of self.new) next.new
+            ≡ spec.opened_mapping state (seen properties) place (machine_of self.old) }
     {
         self.state = state;
         let span = properties.up_to(place);
@@ -109,7 +112,7 @@ impl<T: Input> Machine<T> {
 
     // The content of a node begins with the token.
     #[inline(always)]
-    #[tactic(auto, unfolding(crate::specs::NodeSteps::content))]
+    #[tactic(auto, unfolding(crate::specs::Steps::Nodes::content))]
     fn content<'input>(
         &mut self,
         properties: Properties,
@@ -118,7 +121,8 @@ impl<T: Input> Machine<T> {
         next: &mut (Event<'input>, Span),
     ) -> Result<(), Stop>
         requires { self.old.token ≡ None }
-        ensures { Moves (λ _. told_of (machine_of self.new) next.new) result (spec.content (seen properties) context (piece token) (machine_of self.old)) }
+        ensures { Moves (λ _. told_of (machine_of self.new) next.new) result
+            (spec.content (seen properties) context (piece token) (machine_of self.old)) }
     {
         let Token { span, kind } = token;
         match kind {
@@ -155,27 +159,29 @@ impl<T: Input> Machine<T> {
     }
 
     // The content of a node behind its properties.
-    #[tactic(auto, unfolding(crate::specs::NodeSteps::next_content))]
+    #[tactic(auto, unfolding(crate::specs::Steps::Nodes::next_content))]
     fn next_content<'input>(
         &mut self,
         properties: Properties,
         context: Context,
         next: &mut (Event<'input>, Span),
     ) -> Result<(), Stop>
-        ensures { Moves (λ _. told_of (machine_of self.new) next.new) result (spec.next_content (seen properties) context (machine_of self.old)) }
+        ensures { Moves (λ _. told_of (machine_of self.new) next.new) result
+            (spec.next_content (seen properties) context (machine_of self.old)) }
     {
         let token = self.take()?;
         self.content(properties, context, token, next)
     }
 
-    #[tactic(auto, unfolding(crate::specs::NodeSteps::alias))]
+    #[tactic(auto, unfolding(crate::specs::Steps::Nodes::alias))]
     fn alias<'input>(
         &mut self,
         name: &str,
         span: Span,
         next: &mut (Event<'input>, Span),
     ) -> Result<(), Stop>
-        ensures { Moves (λ _. told_of (machine_of self.new) next.new) result (spec.alias name.now span (machine_of self.old)) }
+        ensures { Moves (λ _. told_of (machine_of self.new) next.new) result
+            (spec.alias name.now span (machine_of self.old)) }
     {
         match self.anchors.id_of(name) {
             Some(id) => {
@@ -188,7 +194,7 @@ impl<T: Input> Machine<T> {
     }
 
     // A node that begins with an anchor.
-    #[tactic(auto, unfolding(crate::specs::NodeSteps::behind_anchor))]
+    #[tactic(auto, unfolding(crate::specs::Steps::Nodes::behind_anchor))]
     fn behind_anchor<'input>(
         &mut self,
         name: String,
@@ -196,7 +202,8 @@ impl<T: Input> Machine<T> {
         context: Context,
         next: &mut (Event<'input>, Span),
     ) -> Result<(), Stop>
-        ensures { Moves (λ _. told_of (machine_of self.new) next.new) result (spec.behind_anchor (string_bytes name) anchor context (machine_of self.old)) }
+        ensures { Moves (λ _. told_of (machine_of self.new) next.new) result
+            (spec.behind_anchor (string_bytes name) anchor context (machine_of self.old)) }
     {
         let id = self.anchors.register(name)?;
         let Token { span, kind } = self.take()?;
@@ -217,7 +224,7 @@ impl<T: Input> Machine<T> {
     }
 
     // A node that begins with a tag.
-    #[tactic(auto, unfolding(crate::specs::NodeSteps::behind_tag))]
+    #[tactic(auto, unfolding(crate::specs::Steps::Nodes::behind_tag))]
     fn behind_tag<'input>(
         &mut self,
         tag: TagParts,
@@ -225,7 +232,9 @@ impl<T: Input> Machine<T> {
         context: Context,
         next: &mut (Event<'input>, Span),
     ) -> Result<(), Stop>
-        ensures { Moves (λ _. told_of (machine_of self.new) next.new) result (spec.behind_tag (string_bytes tag.handle) (string_bytes tag.suffix) place context (machine_of self.old)) }
+        ensures { Moves (λ _. told_of (machine_of self.new) next.new) result
+            (spec.behind_tag (string_bytes tag.handle) (string_bytes tag.suffix) place context
+            (machine_of self.old)) }
     {
         let tag = self.resolve(tag, place.start)?;
         let Token { span, kind } = self.take()?;
@@ -247,7 +256,7 @@ impl<T: Input> Machine<T> {
 
     // A node begins with the token.
     #[inline(always)]
-    #[tactic(auto, unfolding(crate::specs::NodeSteps::node))]
+    #[tactic(auto, unfolding(crate::specs::Steps::Nodes::node))]
     pub(super) fn node<'input>(
         &mut self,
         context: Context,
@@ -255,7 +264,8 @@ impl<T: Input> Machine<T> {
         next: &mut (Event<'input>, Span),
     ) -> Result<(), Stop>
         requires { self.old.token ≡ None }
-        ensures { Moves (λ _. told_of (machine_of self.new) next.new) result (spec.node context (piece token) (machine_of self.old)) }
+        ensures { Moves (λ _. told_of (machine_of self.new) next.new) result
+            (spec.node context (piece token) (machine_of self.old)) }
     {
         let Token { span, kind } = token;
         match kind {
@@ -269,7 +279,7 @@ impl<T: Input> Machine<T> {
     // A node begins with the token, and has no properties. It is read as by `content`, but as most nodes are
     // such, no `Properties` are made for it.
     #[inline(always)]
-    #[tactic(auto, unfolding(crate::specs::NodeSteps::content))]
+    #[tactic(auto, unfolding(crate::specs::Steps::Nodes::content))]
     fn bare_content<'input>(
         &mut self,
         context: Context,
@@ -277,42 +287,52 @@ impl<T: Input> Machine<T> {
         next: &mut (Event<'input>, Span),
     ) -> Result<(), Stop>
         requires { self.old.token ≡ None }
-        ensures { Moves (λ _. told_of (machine_of self.new) next.new) result (spec.content (spec.no_properties (piece token).span.start) context (piece token) (machine_of self.old)) }
+        ensures { Moves (λ _. told_of (machine_of self.new) next.new) result
+            (spec.content (spec.no_properties (piece token).span.start) context (piece token)
+            (machine_of self.old)) }
     {
         let Token { span, kind } = token;
         match kind {
             TokenType::Scalar(style, text) => {
                 self.pop();
-                *next = (Event::Scalar(CowStr::Owned(text), style, 0, None), span);
+                next.0 = Event::Scalar(CowStr::Owned(text), style, 0, None);
+                next.1 = span;
             }
             TokenType::FlowSequenceStart => {
                 self.state = State::FlowSequenceFirstEntry;
-                *next = (Event::SequenceStart(0, None), span);
+                next.0 = Event::SequenceStart(0, None);
+                next.1 = span;
             }
             TokenType::FlowMappingStart => {
                 self.state = State::FlowMappingFirstKey;
-                *next = (Event::MappingStart(0, None), span);
+                next.0 = Event::MappingStart(0, None);
+                next.1 = span;
             }
             TokenType::BlockSequenceStart if context.allows_block() => {
                 self.state = State::BlockSequenceEntry;
-                *next = (Event::SequenceStart(0, None), span);
+                next.0 = Event::SequenceStart(0, None);
+                next.1 = span;
             }
             TokenType::BlockMappingStart if context.allows_block() => {
                 self.state = State::BlockMappingKey;
-                *next = (Event::MappingStart(0, None), span);
+                next.0 = Event::MappingStart(0, None);
+                next.1 = span;
             }
             TokenType::BlockEntry if context.allows_indentless() => {
                 self.put_back(Token { span, kind });
                 self.state = State::IndentlessSequenceEntry;
-                *next = (Event::SequenceStart(0, None), span);
+                next.0 = Event::SequenceStart(0, None);
+                next.1 = span;
             }
             _ => return Err(refuse(FaultText::NodeContentExpected, span.start)),
         }
         Ok(())
     }
 
-    // A node inside a collection, which goes on in the state behind it.
+    // A node inside a collection, which goes on in the state behind it. Behind a scalar without properties it
+    // does so at once: its state need not be kept for later.
     #[inline(always)]
+    #[tactic(auto, unfolding(crate::specs::Steps::Nodes::node, crate::specs::Steps::Nodes::content))]
     pub(super) fn inside<'input>(
         &mut self,
         state: State,
@@ -321,9 +341,21 @@ impl<T: Input> Machine<T> {
         next: &mut (Event<'input>, Span),
     ) -> Result<(), Stop>
         requires { self.old.token ≡ None }
-        ensures { Moves (λ _. told_of (machine_of self.new) next.new) result (spec.inside state context (piece token) (machine_of self.old)) }
+        ensures { Moves (λ _. told_of (machine_of self.new) next.new) result
+            (spec.inside state context (piece token) (machine_of self.old)) }
     {
-        self.push(state)?;
-        self.node(context, token, next)
+        let Token { span, kind } = token;
+        match kind {
+            TokenType::Scalar(style, text) => {
+                self.state = state;
+                next.0 = Event::Scalar(CowStr::Owned(text), style, 0, None);
+                next.1 = span;
+                Ok(())
+            }
+            kind => {
+                self.push(state)?;
+                self.node(context, Token { span, kind }, next)
+            }
+        }
     }
 }

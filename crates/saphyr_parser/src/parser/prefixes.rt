@@ -1,7 +1,7 @@
 //! What the handles of tags stand for, by `%TAG` directives (YAML 1.2.2, 6.8.2).
 
 ghost use Rattle.std.specs.Prelude.{◌≡◌, [], Ok, string_bytes, option_map};
-ghost use Rattle.saphyr_parser.specs.Machine as spec;
+ghost use Rattle.saphyr_parser.specs.Steps.Machine as spec;
 
 use saphyr_scalar::Stop;
 use std::alloc::{AllocError, Global};
@@ -16,7 +16,7 @@ pub struct Prefixes {
 
 impl Model for Prefixes {
     ghost use Rattle.std.specs.Prelude.{ℕ, List};
-    ghost use Rattle.saphyr_parser.specs.Machine.{Names};
+    ghost use Rattle.saphyr_parser.specs.Steps.Machine.{Names};
     ghost use Rattle.saphyr_parser.specs.Names.{texts_of};
 
     ghost Value = { Names (List ℕ) };
@@ -45,7 +45,8 @@ impl Prefixes {
     #[tactic(auto, using(crate::proofs::Names::texts_given))]
     /// Declares the prefix for the handle, in place of one that it may have.
     pub fn declare(&mut self, handle: String, prefix: String) -> Result<(), Stop>
-        ensures { Moves (λ _. self.new) result (Ok (spec.given (string_bytes handle) (string_bytes prefix) self.old)) }
+        ensures { Moves (λ _. self.new) result
+            (Ok (spec.given (string_bytes handle) (string_bytes prefix) self.old)) }
     {
         self.declared.insert(handle, prefix)?;
         Ok(())
@@ -54,7 +55,8 @@ impl Prefixes {
     #[tactic(auto, using(crate::proofs::Names::texts_meaning))]
     /// A copy of the prefix that is declared for the handle.
     pub fn prefix_of(&self, handle: &str) -> Result<Option<String>, AllocError>
-        ensures { IfOk result (λ prefix. option_map string_bytes prefix ≡ spec.meaning handle.now self.now) }
+        ensures { IfOk result (λ prefix. option_map string_bytes prefix
+            ≡ spec.meaning handle.now self.now) }
     {
         match self.declared.get(handle) {
             Some(prefix) => Ok(Some(prefix.clone()?)),

@@ -1,16 +1,19 @@
 //! A machine with at most one event read ahead, so that an event can be shown before it is handed out.
 
-ghost use Rattle.std.specs.Prelude.{◌≡◌, None, IfNone};
+ghost use Rattle.std.specs.Prelude.{◌≡◌, None, Some, true, false, IfNone};
+ghost use Rattle.saphyr_parser.specs.Faults.{is_own};
 ghost use Rattle.saphyr_parser.specs.Cursor.{filled};
 
 use crate::parser::event::Event;
 use crate::parser::fault::Fault;
 use crate::parser::kept::Kept;
 use crate::parser::machine::Machine;
+use crate::parser::progress::Progress;
 use saphyr_input::input::Input;
 use saphyr_scalar::{Marker, Span};
 use saphyr_scanner::Scanner;
 use std::alloc::Global;
+use std::mem::replace;
 
 // A place for an event.
 #[inline(always)]
@@ -53,10 +56,10 @@ fn fill<'input>(
 }
 
 impl<'input, T: Input> Reader<'input, T> {
-    ghost use Rattle.saphyr_parser.specs.Seen.{happening};
+    ghost use Rattle.saphyr_parser.specs.Views.Machines.{happening};
     ghost use Rattle.saphyr_parser.specs.Cursor as spec;
     ghost use Rattle.saphyr_parser.specs.Calls as calls;
-    ghost use Rattle.saphyr_parser.specs.ReaderSeen.{cursor};
+    ghost use Rattle.saphyr_parser.specs.Views.Readers.{cursor};
 
     pub(super) fn new(alloc: Global, scanner: Scanner<T>) -> Self
         ensures { cursor result ≡ spec.at_start scanner }
@@ -146,7 +149,8 @@ impl<'input, T: Input> Reader<'input, T> {
     // The same, where an event would be written into its place.
     #[inline(never)]
     fn give_fault_into(&mut self, next: &mut (Event<'input>, Span)) -> Option<Result<(), Fault>>
-        ensures { calls.GivesFault (cursor self.old).kept (filled next.new result) (cursor self.old) (cursor self.new) }
+        ensures { calls.GivesFault (cursor self.old).kept (filled next.new result) (cursor self.old)
+            (cursor self.new) }
     {
         fill(self.give_fault(), next)
     }
@@ -195,6 +199,72 @@ impl<'input, T: Input> Reader<'input, T> {
                 });
                 self.give_fault_into(next)
             }
+        }
+    }
+
+    // Hands out what was read ahead, where there is a place for an event and one for a fault.
+    #[inline(never)]
+    fn advance_ahead(&mut self, next: &mut (Event<'input>, Span), fault: &mut Fault) -> Progress
+        requires { IfNone self.old.current (spec.IsKept (cursor self.old).kept) }
+        ensures { calls.Gives (calls.placed next.new fault.new result) (cursor self.old)
+            (cursor self.new) }
+    {
+        match self.next_ahead_into(next) {
+            Some(Ok(())) => Progress::Event,
+            Some(Err(told)) => {
+                *fault = told;
+                Progress::Fault
+            }
+            None => Progress::Over,
+        }
+    }
+
+    // Keeps the fault that ended a reading, and gives it.
+    #[inline(never)]
+    fn end_with(&mut self, next: &mut (Event<'input>, Span), fault: &mut Fault) -> Progress
+        requires { is_own fault.old ≡ true }
+        ensures { calls.GivesFault (Some (record
+            { fault = spec.ending_of fault.old; given = false }))
+            (calls.placed next.new fault.new result)
+            (record (cursor self.old)
+            { kept = Some (record { fault = spec.ending_of fault.old; given = false }) })
+            (cursor self.new) }
+    {
+        self.kept = Some(Kept {
+            fault: replace(fault, Fault::OutOfMemory),
+            given: false,
+        });
+        match self.give_fault_into(next) {
+            Some(Ok(())) => Progress::Event,
+            Some(Err(told)) => {
+                *fault = told;
+                Progress::Fault
+            }
+            None => Progress::Over,
+        }
+    }
+
+    /// Hands out the next event or fault, which is written into its place. A loop over the events goes by this: what
+    /// is answered has no room for a fault, which would be cleared on each turn.
+    #[inline(always)]
+    pub(super) fn advance(
+        &mut self,
+        next: &mut (Event<'input>, Span),
+        fault: &mut Fault,
+    ) -> Progress
+        ensures { calls.Gives (calls.placed next.new fault.new result) (cursor self.old)
+            (cursor self.new) }
+    {
+        if self.current.is_some() || self.kept.is_some() {
+            return self.advance_ahead(next, fault);
+        }
+        match self.machine.advance(next, fault) {
+            Progress::Event => {
+                self.remember(&next.0, next.1);
+                Progress::Event
+            }
+            Progress::Fault => self.end_with(next, fault),
+            Progress::Over => Progress::Over,
         }
     }
 

@@ -1,6 +1,6 @@
 //! Receivers, to which `load` hands events, with their spans or without.
 
-ghost use Rattle.saphyr_parser.specs.EventSeen.{happening};
+ghost use Rattle.saphyr_parser.specs.Views.Events.{happening};
 
 use crate::parser::event::Event;
 use saphyr_scalar::Span;

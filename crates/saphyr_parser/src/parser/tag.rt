@@ -1,7 +1,7 @@
 //! The tags of events (YAML 1.2.2, 3.2.1.2).
 
 ghost use Rattle.std.specs.Prelude.{◌≡◌, ◌↔◌, IfOk, IsTrue, codes};
-ghost use Rattle.saphyr_parser.specs.EventSeen.{resolved_tag};
+ghost use Rattle.saphyr_parser.specs.Views.Events.{resolved_tag};
 
 use std::alloc::AllocError;
 use std::fmt;
@@ -38,7 +38,7 @@ impl Tag {
 
 impl fmt::Display for Tag {
     ghost use Rattle.std.specs.Prelude.{Some};
-    ghost use Rattle.saphyr_parser.specs.EventSeen.{tag_text};
+    ghost use Rattle.saphyr_parser.specs.Views.Events.{tag_text};
 
     ghost output = { λ tag. Some (tag_text (resolved_tag tag)) };
 

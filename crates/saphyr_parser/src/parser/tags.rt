@@ -1,7 +1,7 @@
 //! Tags with prefixes in place of their handles (YAML 1.2.2, 6.8.2 and 6.9.1).
 
 ghost use Rattle.std.specs.Prelude.{◌≡◌, string_bytes};
-ghost use Rattle.saphyr_parser.specs.TagSteps as spec;
+ghost use Rattle.saphyr_parser.specs.Steps.Tags as spec;
 
 use crate::parser::machine::{Machine, refuse};
 use crate::parser::tag::Tag;
@@ -19,12 +19,13 @@ fn is_named(handle: &str) -> bool
 
 impl<T: Input> Machine<T> {
     ghost use Rattle.saphyr_scalar.specs.Seen.{Moves};
-    ghost use Rattle.saphyr_parser.specs.Seen.{resolved_tag};
+    ghost use Rattle.saphyr_parser.specs.Views.Machines.{resolved_tag};
 
     // The prefix that stands for the handle of a tag at this place.
-    #[tactic(auto, unfolding(crate::specs::TagSteps::prefix_of))]
+    #[tactic(auto, unfolding(crate::specs::Steps::Tags::prefix_of))]
     fn prefix_of(&self, handle: String, place: Marker) -> Result<String, Stop>
-        ensures { Moves string_bytes result (spec.prefix_of self.now.prefixes (string_bytes handle) place) }
+        ensures { Moves string_bytes result
+            (spec.prefix_of self.now.prefixes (string_bytes handle) place) }
     {
         if handle.is_empty() {
             return Ok(handle);
@@ -42,9 +43,11 @@ impl<T: Input> Machine<T> {
     }
 
     // The tag with its prefix in place of the handle.
-    #[tactic(auto, unfolding(crate::specs::TagSteps::resolved))]
+    #[tactic(auto, unfolding(crate::specs::Steps::Tags::resolved))]
     pub(super) fn resolve(&self, tag: TagParts, place: Marker) -> Result<Tag, Stop>
-        ensures { Moves resolved_tag result (spec.resolved self.now.prefixes (string_bytes tag.handle) (string_bytes tag.suffix) place) }
+        ensures { Moves resolved_tag result
+            (spec.resolved self.now.prefixes (string_bytes tag.handle) (string_bytes tag.suffix)
+            place) }
     {
         let TagParts { handle, suffix } = tag;
         let handle = self.prefix_of(handle, place)?;

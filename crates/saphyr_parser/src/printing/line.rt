@@ -2,7 +2,7 @@
 
 ghost use Rattle.std.specs.Prelude.{◌≡◌, ◌++◌, codes, option_map};
 ghost use Rattle.std.specs.Fmt.{decimal};
-ghost use Rattle.saphyr_parser.specs.EventSeen.{happening, resolved_tag};
+ghost use Rattle.saphyr_parser.specs.Views.Events.{happening, resolved_tag};
 ghost use Rattle.saphyr_parser.specs.Written.{Takes};
 ghost use Rattle.saphyr_parser.specs.Printed as printed;
 
@@ -13,7 +13,8 @@ use std::io::Write;
 
 // Writes the line of an event.
 pub(super) fn write_line<W: Write>(out: &mut W, event: &Event<'_>) -> Result<(), Unwritten>
-    ensures { Takes result (W.contents out.old) (W.contents out.new) (printed.line (happening event.now)) }
+    ensures { Takes result (W.contents out.old) (W.contents out.new)
+        (printed.line (happening event.now)) }
 {
     match event {
         Event::Nothing => Ok(()),
@@ -33,16 +34,17 @@ pub(super) fn write_line<W: Write>(out: &mut W, event: &Event<'_>) -> Result<(),
     }
 }
 
-#[tactic(auto, using(crate::proofs::Written::takes_three, crate::proofs::Written::loses_first, crate::proofs::Written::loses_second))]
+#[tactic(auto, using(crate::proofs::Printed::Written::takes_three, crate::proofs::Printed::Written::loses_first, crate::proofs::Printed::Written::loses_second))]
 fn write_alias<W: Write>(out: &mut W, id: usize) -> Result<(), Unwritten>
-    ensures { Takes result (W.contents out.old) (W.contents out.new) (codes "=ALI *" ++ (decimal id ++ codes "\n")) }
+    ensures { Takes result (W.contents out.old) (W.contents out.new)
+        (codes "=ALI *" ++ (decimal id ++ codes "\n")) }
 {
     write_all(out, b"=ALI *")?;
     write_number(out, id as u128)?;
     write_all(out, b"\n")
 }
 
-#[tactic(auto, using(crate::proofs::Written::takes_four, crate::proofs::Written::loses_first, crate::proofs::Written::loses_second, crate::proofs::Written::loses_third))]
+#[tactic(auto, using(crate::proofs::Printed::Written::takes_four, crate::proofs::Printed::Written::loses_first, crate::proofs::Printed::Written::loses_second, crate::proofs::Printed::Written::loses_third))]
 fn write_scalar<W: Write>(
     out: &mut W,
     text: &str,
@@ -50,7 +52,9 @@ fn write_scalar<W: Write>(
     id: usize,
     tag: &Option<Tag>,
 ) -> Result<(), Unwritten>
-    ensures { Takes result (W.contents out.old) (W.contents out.new) (printed.node_text (codes "=VAL") id (option_map resolved_tag tag.now) ++ ((codes " " ++ printed.mark style) ++ (printed.escaped text.now ++ codes "\n"))) }
+    ensures { Takes result (W.contents out.old) (W.contents out.new)
+        (printed.node_text (codes "=VAL") id (option_map resolved_tag tag.now)
+        ++ ((codes " " ++ printed.mark style) ++ (printed.escaped text.now ++ codes "\n"))) }
 {
     write_node(out, b"=VAL", id, tag)?;
     write_all(out, mark(style))?;
@@ -60,15 +64,17 @@ fn write_scalar<W: Write>(
 
 // Writes the line of a scalar without properties.
 fn write_bare_scalar<W: Write>(out: &mut W, text: &str, style: ScalarStyle) -> Result<(), Unwritten>
-    ensures { Takes result (W.contents out.old) (W.contents out.new) (codes "=VAL " ++ printed.mark style ++ (printed.escaped text.now ++ codes "\n")) }
+    ensures { Takes result (W.contents out.old) (W.contents out.new)
+        (codes "=VAL " ++ printed.mark style ++ (printed.escaped text.now ++ codes "\n")) }
 {
     write_text(out, bare_mark(style), text)
 }
 
 // Writes a scalar's text behind what stands before it, and ends the line.
-#[tactic(auto, using(crate::proofs::Written::takes_three, crate::proofs::Written::loses_first, crate::proofs::Written::loses_second))]
+#[tactic(auto, using(crate::proofs::Printed::Written::takes_three, crate::proofs::Printed::Written::loses_first, crate::proofs::Printed::Written::loses_second))]
 fn write_text<W: Write>(out: &mut W, front: &[u8], text: &str) -> Result<(), Unwritten>
-    ensures { Takes result (W.contents out.old) (W.contents out.new) (front.now ++ (printed.escaped text.now ++ codes "\n")) }
+    ensures { Takes result (W.contents out.old) (W.contents out.new)
+        (front.now ++ (printed.escaped text.now ++ codes "\n")) }
 {
     write_all(out, front)?;
     write_escaped(out, text.as_bytes())?;
@@ -102,28 +108,30 @@ fn mark(style: ScalarStyle) -> &'static [u8]
 }
 
 // Writes the line of a collection's start.
-#[tactic(auto, using(crate::proofs::Written::takes_two, crate::proofs::Written::loses_first))]
+#[tactic(auto, using(crate::proofs::Printed::Written::takes_two, crate::proofs::Printed::Written::loses_first))]
 fn write_start<W: Write>(
     out: &mut W,
     name: &[u8],
     id: usize,
     tag: &Option<Tag>,
 ) -> Result<(), Unwritten>
-    ensures { Takes result (W.contents out.old) (W.contents out.new) (printed.node_text name.now id (option_map resolved_tag tag.now) ++ codes "\n") }
+    ensures { Takes result (W.contents out.old) (W.contents out.new)
+        (printed.node_text name.now id (option_map resolved_tag tag.now) ++ codes "\n") }
 {
     write_node(out, name, id, tag)?;
     write_all(out, b"\n")
 }
 
 // Writes the name of an event, and the properties of its node.
-#[tactic(auto, using(crate::proofs::Written::takes_three, crate::proofs::Written::loses_first, crate::proofs::Written::loses_second))]
+#[tactic(auto, using(crate::proofs::Printed::Written::takes_three, crate::proofs::Printed::Written::loses_first, crate::proofs::Printed::Written::loses_second))]
 fn write_node<W: Write>(
     out: &mut W,
     name: &[u8],
     id: usize,
     tag: &Option<Tag>,
 ) -> Result<(), Unwritten>
-    ensures { Takes result (W.contents out.old) (W.contents out.new) (printed.node_text name.now id (option_map resolved_tag tag.now)) }
+    ensures { Takes result (W.contents out.old) (W.contents out.new)
+        (printed.node_text name.now id (option_map resolved_tag tag.now)) }
 {
     write_all(out, name)?;
     write_anchor(out, id)?;
@@ -133,7 +141,7 @@ fn write_node<W: Write>(
     }
 }
 
-#[tactic(auto, using(crate::proofs::Written::takes_two, crate::proofs::Written::loses_first))]
+#[tactic(auto, using(crate::proofs::Printed::Written::takes_two, crate::proofs::Printed::Written::loses_first))]
 fn write_anchor<W: Write>(out: &mut W, id: usize) -> Result<(), Unwritten>
     ensures { Takes result (W.contents out.old) (W.contents out.new) (printed.anchor_text id) }
 {
@@ -144,9 +152,10 @@ fn write_anchor<W: Write>(out: &mut W, id: usize) -> Result<(), Unwritten>
     write_number(out, id as u128)
 }
 
-#[tactic(auto, using(crate::proofs::Written::takes_four, crate::proofs::Written::loses_first, crate::proofs::Written::loses_second, crate::proofs::Written::loses_third))]
+#[tactic(auto, using(crate::proofs::Printed::Written::takes_four, crate::proofs::Printed::Written::loses_first, crate::proofs::Printed::Written::loses_second, crate::proofs::Printed::Written::loses_third))]
 fn write_tag<W: Write>(out: &mut W, tag: &Tag) -> Result<(), Unwritten>
-    ensures { Takes result (W.contents out.old) (W.contents out.new) (printed.tag_text (Some (resolved_tag tag.now))) }
+    ensures { Takes result (W.contents out.old) (W.contents out.new)
+        (printed.tag_text (Some (resolved_tag tag.now))) }
 {
     write_all(out, b" <")?;
     write_all(out, tag.handle.as_bytes())?;

@@ -28,7 +28,7 @@ pub enum RunFault {
 ///
 /// Returns the program's status: 0 where all lines were written, and 1 otherwise. Then one line of
 /// `err` says why, where `name` stands for the source; whether it could be written is not asked.
-#[tactic(auto, using(crate::proofs::Running::says))]
+#[tactic(auto, using(crate::proofs::Printed::Running::says))]
 pub fn run_dump<R: Read, W: Write, E: Write>(
     alloc: Global,
     name: &str,
@@ -36,7 +36,8 @@ pub fn run_dump<R: Read, W: Write, E: Write>(
     out: &mut W,
     err: &mut E,
 ) -> u8
-    ensures { spec.Runs result name.now (R.remaining source.old) (R.remaining source.new) (W.contents out.old) (W.contents out.new) (E.contents err.old) (E.contents err.new) }
+    ensures { spec.Runs result name.now (R.remaining source.old) (R.remaining source.new)
+        (W.contents out.old) (W.contents out.new) (E.contents err.old) (E.contents err.new) }
 {
     match print_source(alloc, source, out) {
         Ok(()) => 0,
@@ -53,7 +54,8 @@ fn print_source<R: Read, W: Write>(
     source: &mut R,
     out: &mut W,
 ) -> Result<(), RunFault>
-    ensures { spec.PrintsSource result (R.remaining source.old) (R.remaining source.new) (W.contents out.old) (W.contents out.new) }
+    ensures { spec.PrintsSource result (R.remaining source.old) (R.remaining source.new)
+        (W.contents out.old) (W.contents out.new) }
 {
     let mut bytes = Vec::new(alloc);
     if source.read_to_end(&mut bytes).is_err() {
@@ -100,7 +102,8 @@ fn finish<W: Write>(dumped: Result<(), DumpFault>, out: &mut W) -> Result<(), Ru
 
 // Says why a run failed.
 fn complain<E: Write>(err: &mut E, name: &str, fault: &RunFault) -> Result<(), Unwritten>
-    ensures { Takes result (E.contents err.old) (E.contents err.new) (spec.message name.now fault.now) }
+    ensures { Takes result (E.contents err.old) (E.contents err.new)
+        (spec.message name.now fault.now) }
 {
     match fault {
         RunFault::CantRead => write_named(err, b"dump_events: can't read ", name, b"\n"),
@@ -111,14 +114,15 @@ fn complain<E: Write>(err: &mut E, name: &str, fault: &RunFault) -> Result<(), U
 }
 
 // Writes a name between two texts.
-#[tactic(auto, using(crate::proofs::Written::takes_three, crate::proofs::Written::loses_first, crate::proofs::Written::loses_second))]
+#[tactic(auto, using(crate::proofs::Printed::Written::takes_three, crate::proofs::Printed::Written::loses_first, crate::proofs::Printed::Written::loses_second))]
 fn write_named<E: Write>(
     err: &mut E,
     before: &[u8],
     name: &str,
     behind: &[u8],
 ) -> Result<(), Unwritten>
-    ensures { Takes result (E.contents err.old) (E.contents err.new) (before.now ++ (name.now ++ behind.now)) }
+    ensures { Takes result (E.contents err.old) (E.contents err.new)
+        (before.now ++ (name.now ++ behind.now)) }
 {
     write_all(err, before)?;
     write_all(err, name.as_bytes())?;
@@ -138,14 +142,15 @@ fn write_fault<E: Write>(err: &mut E, fault: &Fault) -> Result<(), Unwritten>
 }
 
 fn write_error<E: Write>(err: &mut E, error: &ScanError) -> Result<(), Unwritten>
-    ensures { Takes result (E.contents err.old) (E.contents err.new) (error_text error.now ++ codes "\n") }
+    ensures { Takes result (E.contents err.old) (E.contents err.new)
+        (error_text error.now ++ codes "\n") }
 {
     write_all(err, error.info.as_bytes())?;
     write_place(err, error.mark)?;
     write_all(err, b"\n")
 }
 
-#[tactic(auto, using(crate::proofs::Written::takes_three, crate::proofs::Written::loses_first, crate::proofs::Written::loses_second))]
+#[tactic(auto, using(crate::proofs::Printed::Written::takes_three, crate::proofs::Printed::Written::loses_first, crate::proofs::Printed::Written::loses_second))]
 fn write_place<E: Write>(err: &mut E, mark: Marker) -> Result<(), Unwritten>
     ensures { Takes result (E.contents err.old) (E.contents err.new) (spec.place_text mark) }
 {
@@ -154,7 +159,7 @@ fn write_place<E: Write>(err: &mut E, mark: Marker) -> Result<(), Unwritten>
     write_labelled(err, b" column ", mark.col as u128 + 1)
 }
 
-#[tactic(auto, using(crate::proofs::Written::takes_two, crate::proofs::Written::loses_first))]
+#[tactic(auto, using(crate::proofs::Printed::Written::takes_two, crate::proofs::Printed::Written::loses_first))]
 fn write_labelled<E: Write>(err: &mut E, label: &[u8], number: u128) -> Result<(), Unwritten>
     ensures { Takes result (E.contents err.old) (E.contents err.new) (label.now ++ decimal number) }
 {

@@ -12,7 +12,7 @@ use std::io::Write;
 pub struct Unwritten;
 
 // Writes all bytes, however few the writer takes at a time.
-#[tactic(auto, using(crate::proofs::Written::takes_first, crate::proofs::Written::takes_next, crate::proofs::Written::takes_all, crate::proofs::Written::takes_none))]
+#[tactic(auto, using(crate::proofs::Printed::Written::takes_first, crate::proofs::Printed::Written::takes_next, crate::proofs::Printed::Written::takes_all, crate::proofs::Printed::Written::takes_none))]
 pub(super) fn write_all<W: Write>(out: &mut W, bytes: &[u8]) -> Result<(), Unwritten>
     ensures { Takes result (W.contents out.old) (W.contents out.new) bytes.now }
 {
@@ -27,7 +27,7 @@ pub(super) fn write_all<W: Write>(out: &mut W, bytes: &[u8]) -> Result<(), Unwri
 }
 
 // Writes a number in decimal.
-#[tactic(auto, using(crate::proofs::PrintedNumbers::one_digit, crate::proofs::PrintedNumbers::last_digit, crate::proofs::PrintedNumbers::lost_digit))]
+#[tactic(auto, using(crate::proofs::Printed::Numbers::one_digit, crate::proofs::Printed::Numbers::last_digit, crate::proofs::Printed::Numbers::lost_digit))]
 pub(super) fn write_number<W: Write>(out: &mut W, number: u128) -> Result<(), Unwritten>
     ensures { Takes result (W.contents out.old) (W.contents out.new) (decimal number) }
 {
@@ -48,7 +48,7 @@ fn is_escaped(byte: u8) -> bool
 }
 
 // The bytes before the first that is escaped, and the others.
-#[tactic(auto, using(crate::proofs::Escapes::plain_more))]
+#[tactic(auto, using(crate::proofs::Printed::Escapes::plain_more))]
 fn split_plain(text: &[u8]) -> (&[u8], &[u8])
     ensures text { text.now ≡ result.0.now ++ result.1.now }
     ensures plain { escaped result.0.now ≡ result.0.now }
@@ -74,7 +74,7 @@ fn write_escape<W: Write>(out: &mut W, byte: u8) -> Result<(), Unwritten>
 }
 
 // Writes a scalar's text. What needs no escape is written in one piece.
-#[tactic(auto, using(crate::proofs::Escapes::plain_written, crate::proofs::Escapes::plain_lost))]
+#[tactic(auto, using(crate::proofs::Printed::Escapes::plain_written, crate::proofs::Printed::Escapes::plain_lost))]
 pub(super) fn write_escaped<W: Write>(out: &mut W, text: &[u8]) -> Result<(), Unwritten>
     ensures { Takes result (W.contents out.old) (W.contents out.new) (escaped text.now) }
 {

@@ -12,10 +12,12 @@ use Rattle.saphyr_scalar.specs.declared.scalar.block.lines.EmptyLines.{EmptyLine
 use Rattle.saphyr_scalar.specs.Cursor.{Cursor, along, next_line, pass_break}
 use Rattle.saphyr_scalar.specs.BlockScalar.{chomping, indicator, header_break, header_end, last_chomping, header_behind, header, is_indentation, inside_break, one_more, empty_lines, line_starts, break_before, LinesRead, with_text, between, line, is_unfinished, tail_alone, given_indentation, chomped, content, behind_leading, no_lines, behind_header, block_scalar}
 use Rattle.saphyr_scalar.specs.Alike.{AreMarksAlike, AreAlike, GiveAlike, AreSame, AreBlocksAlike}
-use Rattle.saphyr_scalar.proofs.Breaks.Sides.{Normal, nothing, character, feed, return, pair, no_return, no_feed, first_in, first_same, Places, over_pair, moved_along, moved_down, marks_alike, alike, normal_of, places_of}
+use Rattle.saphyr_scalar.proofs.Breaks.Sides.{Normal, nothing, character, feed, return, pair, no_feed, first_in, first_same, Places, over_pair, moved_along, moved_down, marks_alike, alike, normal_of, places_of}
 use Rattle.saphyr_scalar.proofs.Breaks.Results.{both_by, both_then}
 use Rattle.saphyr_scalar.proofs.Breaks.Separations.{by_first, indicator_alike, break_alike, separation_alike}
 use Rattle.saphyr_scalar.proofs.Breaks.Names.{NoBreak, no_break_in, one_passed}
+use Rattle.std.proofs.lemmas.Bool.{not-false}
+use Rattle.saphyr_input.proofs.Basics.Characters.{no_return}
 
 -- ## Headers
 
@@ -27,10 +29,6 @@ chomping_alike {text = text} {s = s} {t = t} e =
     (λ _. by_first (λ c. c == 45) refl e (AreSame text)
     (λ h. (refl, one_passed (no_break_in (λ c. c == 45) refl refl s.rest h) e)) (λ _. (refl, e)))
 
-is_one : (a : Bool) → not a ≡ false → a ≡ true
-is_one true h = refl
-is_one false h = absurd (cc)
-
 indicator_read : (text : List ℕ) (m n : Marker) (s t : Cursor) → AreAlike text s t
     → GiveAlike (AreSame text) (indicator m s) (indicator n t)
 unfolding indicator
@@ -38,7 +36,7 @@ indicator_read text m n s t e =
     by_first (λ c. not (is_digit c)) refl e (GiveAlike (AreSame text))
     (λ _. (refl, e))
     (λ h.
-    let digit = no_break_in is_digit refl refl s.rest (is_one _ h) in
+    let digit = no_break_in is_digit refl refl s.rest (not-false _ h) in
     by_first (λ c. c == 48) refl e (GiveAlike (AreSame text))
     (λ _. refl) (λ _. (ap (λ c. c - 48) (first_same digit (normal_of e)), one_passed digit e)))
 

@@ -13,11 +13,12 @@ use Rattle.saphyr_scalar.specs.Anchor.{anchor, name_of}
 use Rattle.saphyr_scalar.specs.Tag.{has, byte_value, shows_byte, escaped_byte, utf8_width, leading_bits, is_trailing, trailing_byte, trailing_bytes, is_encoded, encoded, behind_leading, escape, uri_character, decoded_at, verbatim_end, verbatim, handle_of, named_tag, named_tail, primary_tag, behind_word, shorthand, tag_end, tag}
 use Rattle.saphyr_scalar.specs.Alike.{AreAlike, GiveAlike, AreSame, AreTagsAlike}
 use Rattle.saphyr_scalar.proofs.NoBreaks.{class_no_break}
-use Rattle.saphyr_scalar.proofs.Choices.{and_left, and_right}
-use Rattle.saphyr_scalar.proofs.PercentEscapes.{one_more, ends_at, character_shorter, has_left}
-use Rattle.saphyr_scalar.proofs.Breaks.Sides.{Normal, first_in, first_same, past_first, behind_first, second_in, second_is, third_is, run, alike, normal_of, places_of}
+use Rattle.saphyr_scalar.proofs.Properties.PercentEscapes.{one_more, ends_at, character_shorter, has_left}
+use Rattle.saphyr_scalar.proofs.Breaks.Sides.{Normal, first_in, first_same, past_first, behind_first, second_in, run, alike, normal_of, places_of}
 use Rattle.saphyr_scalar.proofs.Breaks.Results.{both_by, both_then, both_are, by_ends}
 use Rattle.saphyr_scalar.proofs.Breaks.Separations.{by_first, Part, first_part, both_parts, part_of, passed}
+use Rattle.saphyr_input.proofs.Basics.Booleans.{and_true_left, and_true_right}
+use Rattle.saphyr_input.proofs.Basics.Lists.{second_is, third_is}
 
 -- the first character is no break
 abbrev pub NoBreak : List ℕ → Type 0
@@ -81,10 +82,10 @@ shows_alike {r = r} {q = q} n =
 byte_part : {r q : List ℕ} → Normal r q → shows_byte r ≡ true → (byte_value r ≡ byte_value q) × Part 3 3 r q
 byte_part {r = r} {q = q} n shows =
     let is = sym (shows_is r) ∙ shows in
-    let first = no_break_in (λ c. c == 37) refl refl r (and_left _ _ is) in
-    let others = and_right _ _ is in
-    let second = no_break_in is_hex refl refl (drop 1 r) (and_left _ _ others) in
-    let third = no_break_in is_hex refl refl (drop 1 (drop 1 r)) (and_right _ _ others) in
+    let first = no_break_in (λ c. c == 37) refl refl r (and_true_left _ _ is) in
+    let others = and_true_right _ _ is in
+    let second = no_break_in is_hex refl refl (drop 1 r) (and_true_left _ _ others) in
+    let third = no_break_in is_hex refl refl (drop 1 (drop 1 r)) (and_true_right _ _ others) in
     let n1 = past_first first n in
     let n2 = past_first second n1 in
     let high : slice_index r 1 ≡ slice_index q 1 = sym (second_is r) ∙ first_same second n1 ∙ second_is q in

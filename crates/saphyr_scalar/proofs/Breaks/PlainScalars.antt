@@ -8,12 +8,14 @@ use Rattle.saphyr_scalar.specs.Cursor.{Cursor, along, next_line}
 use Rattle.saphyr_scalar.specs.Quoted.{at}
 use Rattle.saphyr_scalar.specs.Plain.{in_word, word_starts, Gap, may_stand, reached, at_line, lines, next_lines, gap_from, gap, goes_on, comment_of, Reading, with_text, ended, word, plain}
 use Rattle.saphyr_scalar.specs.Alike.{AreMarksAlike, AreAlike, GiveAlike, AreSame, AreNoted, ArePlainAlike}
-use Rattle.saphyr_scalar.proofs.PlainGaps.{IsEnd, gap_end}
-use Rattle.saphyr_scalar.proofs.Plains.{goes_says, word_on, behind_gap, word_over}
-use Rattle.saphyr_scalar.proofs.Breaks.Sides.{Normal, nothing, character, feed, return, pair, no_return, no_feed, first_in, behind_first, second_is, Places, over_pair, moved_along, moved_down, marks_alike, alike, normal_of, places_of}
+use Rattle.saphyr_scalar.proofs.Plain.Gaps.{IsEnd, gap_end}
+use Rattle.saphyr_scalar.proofs.Plain.Pieces.{goes_says, word_on, behind_gap, word_over}
+use Rattle.saphyr_scalar.proofs.Breaks.Sides.{Normal, nothing, character, feed, return, pair, no_feed, first_in, behind_first, Places, over_pair, moved_along, moved_down, marks_alike, alike, normal_of, places_of}
 use Rattle.saphyr_scalar.proofs.Breaks.Results.{both_by, both_then, both_are, by_ends}
 use Rattle.saphyr_scalar.proofs.Breaks.Separations.{by_first, indicator_alike, break_alike}
 use Rattle.saphyr_scalar.proofs.Breaks.Names.{all_three, run_alike}
+use Rattle.saphyr_input.proofs.Basics.Lists.{second_is}
+use Rattle.saphyr_input.proofs.Basics.Characters.{no_return}
 
 -- ## Words
 

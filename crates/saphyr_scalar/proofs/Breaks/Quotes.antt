@@ -13,14 +13,16 @@ use Rattle.saphyr_scalar.specs.Cursor.{Cursor, ◌>>=◌, along, next_line, pass
 use Rattle.saphyr_scalar.specs.Quoted.{is_literal, simple_escape, digit_count, is_scalar, digits, numbered, escape_of, escape, TextRead, with_front, at, special, special_len, Gap, on_line, over_lines, no_gap, is_left, blank_in, break_in, folded_break, begin_word, end_gap, escaped_gap, break_len, if_some, inside, inside_at, quoted}
 use Rattle.saphyr_scalar.specs.Quoted as quotes
 use Rattle.saphyr_scalar.specs.Alike.{AreAlike, GiveAlike, AreSame}
-use Rattle.saphyr_scalar.proofs.Choices.{and_left, and_right}
-use Rattle.saphyr_scalar.proofs.Moving.{by_test}
-use Rattle.saphyr_scalar.proofs.Quoting.{passed_over, word_from, behind_gap}
-use Rattle.saphyr_scalar.proofs.Escapes.{escape_place}
-use Rattle.saphyr_scalar.proofs.Breaks.Sides.{Normal, nothing, character, feed, return, pair, no_return, first_in, first_same, past_first, behind_first, second_is, Places, moved_along, moved_down, alike, normal_of, places_of}
+use Rattle.saphyr_scalar.proofs.Quoted.Inside.{passed_over, word_from, behind_gap}
+use Rattle.saphyr_scalar.proofs.Quoted.Escapes.{escape_place}
+use Rattle.saphyr_scalar.proofs.Breaks.Sides.{Normal, nothing, character, feed, return, pair, first_in, first_same, past_first, behind_first, Places, moved_along, moved_down, alike, normal_of, places_of}
 use Rattle.saphyr_scalar.proofs.Breaks.Results.{both_by, both_then, both_are, by_ends}
 use Rattle.saphyr_scalar.proofs.Breaks.Separations.{by_first, Part, first_part, both_parts, passed, indicator_alike}
 use Rattle.saphyr_scalar.proofs.Breaks.Names.{NoBreak, no_break_in, one_passed, front_alike}
+use Rattle.saphyr_input.proofs.Basics.Booleans.{and_true_left, and_true_right, by_test}
+use Rattle.std.proofs.lemmas.Bool.{not-true}
+use Rattle.saphyr_input.proofs.Basics.Lists.{second_is}
+use Rattle.saphyr_input.proofs.Basics.Characters.{no_return}
 
 -- ## Escapes
 
@@ -85,10 +87,6 @@ slash_alike {r = r} {q = q} n =
     (λ r q n. first_in (λ c. not (is_break c)) refl n) n
     ∙ ap (λ c. (slice_index q 0 == 92) && not (is_break c)) (second_is q)
 
-not_one : (a : Bool) → not a ≡ true → a ≡ false
-not_one true h = absurd (cc)
-not_one false h = refl
-
 special_alike : (text : List ℕ) (quote : Quote) (a b : Marker) (s t : Cursor) → AreAlike text s t
     → GiveAlike (AreSame text) (special quote a s) (special quote b t)
 unfolding special
@@ -96,17 +94,17 @@ special_alike text Single a b s t e =
     both_by (next_2_are s.rest 39 39) (next_2_are t.rest 39 39) _ _ _ _ (GiveAlike (AreSame text))
     (two_quotes_alike (normal_of e))
     (λ h _.
-    let first = no_break_in (λ c. c == 39) refl refl s.rest (and_left _ _ h) in
+    let first = no_break_in (λ c. c == 39) refl refl s.rest (and_true_left _ _ h) in
     let second = no_break_in (λ c. c == 39) refl refl (drop 1 s.rest) (ap (λ c. c == 39) (second_is s.rest)
-    ∙ and_right (slice_index s.rest 0 == 39) _ h) in
+    ∙ and_true_right (slice_index s.rest 0 == 39) _ h) in
     (refl, passed 2 2 (two_part first second (normal_of e)) e))
     (λ _ _. (refl, e))
 special_alike text Double a b s t e =
     both_by ((slice_index s.rest 0 == 92) && not (is_break (slice_index s.rest 1))) ((slice_index t.rest 0 == 92) && not
     (is_break (slice_index t.rest 1))) _ _ _ _ (GiveAlike (AreSame text)) (slash_alike (normal_of e))
     (λ h _.
-    let first = no_break_in (λ c. c == 92) refl refl s.rest (and_left _ _ h) in
-    let second = ap is_break (second_is s.rest) ∙ not_one _ (and_right (slice_index s.rest 0 == 92) _ h) in
+    let first = no_break_in (λ c. c == 92) refl refl s.rest (and_true_left _ _ h) in
+    let second = ap is_break (second_is s.rest) ∙ not-true _ (and_true_right (slice_index s.rest 0 == 92) _ h) in
     both_then (AreSame text) (AreSame text) _ _ _ _ (escape_alike text a b s t first second e)
     (λ x y _ _ is. (ap (λ (c : ℕ). Some c) is.0, is.1)))
     (λ _ _. (refl, e))

@@ -9,6 +9,8 @@ use Rattle.saphyr_input.specs.Classes.{is_break}
 use Rattle.saphyr_scalar.specs.declared.scalar.position.Marker.{Marker}
 use Rattle.saphyr_scalar.specs.Cursor.{Cursor, along, next_line}
 use Rattle.saphyr_scalar.specs.Alike.{AreMarksAlike, AreAlike}
+use Rattle.saphyr_input.proofs.Basics.Lists.{second_is}
+use Rattle.saphyr_input.proofs.Basics.Characters.{no_return}
 
 -- ## Characters
 
@@ -19,9 +21,6 @@ pub data Normal : List ℕ → List ℕ → Type 0 where
   feed : {r q : List ℕ} → Normal r q → Normal (10 ∷ r) (10 ∷ q)
   return : {r q : List ℕ} → (slice_index r 0 == 10) ≡ false → Normal r q → Normal (13 ∷ r) (10 ∷ q)
   pair : {r q : List ℕ} → Normal r q → Normal (13 ∷ 10 ∷ r) (10 ∷ q)
-
-pub no_return : (c : ℕ) → is_break c ≡ false → (c == 13) ≡ false
-no_return c h = grind (arith, nat_tests)
 
 pub no_feed : (c : ℕ) → is_break c ≡ false → (c == 10) ≡ false
 no_feed c h = grind (arith, nat_tests)
@@ -89,10 +88,6 @@ past_first h (feed n) = absurd (cc)
 past_first h (return e n) = absurd (cc)
 past_first h (pair n) = absurd (cc)
 
-pub second_is : (r : List ℕ) → slice_index (drop 1 r) 0 ≡ slice_index r 1
-second_is [] = refl
-second_is (c ∷ cs) = refl
-
 pub second_in : (p : ℕ → Bool) → p 13 ≡ p 10 → {r q : List ℕ} → is_break (slice_index r 0) ≡ false → Normal r q
     → p (slice_index r 1) ≡ p (slice_index q 1)
 second_in p e {r = r} {q = q} h n = ap p (sym (second_is r)) ∙ first_in p e (past_first h n) ∙ ap p (second_is q)
@@ -106,17 +101,6 @@ behind_first p a b f alike (character c {r = r} {q = q} h n) = ap (λ x. p c && 
 behind_first p a b f alike (feed {r = r} {q = q} n) = ap (λ x. p 10 && x) (alike r q n)
 behind_first p a b f alike (return h n) = rw (a, b) refl
 behind_first p a b f alike (pair n) = rw (a, b) refl
-
-pub third_is : (r : List ℕ) → slice_index (drop 1 (drop 1 r)) 0 ≡ slice_index r 2
-third_is [] = refl
-third_is (c ∷ []) = refl
-third_is (c ∷ d ∷ cs) = refl
-
-pub fourth_is : (r : List ℕ) → slice_index (drop 1 (drop 1 (drop 1 r))) 0 ≡ slice_index r 3
-fourth_is [] = refl
-fourth_is (c ∷ []) = refl
-fourth_is (c ∷ d ∷ []) = refl
-fourth_is (c ∷ d ∷ e ∷ cs) = refl
 
 -- ## Runs
 

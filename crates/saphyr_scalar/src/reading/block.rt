@@ -109,7 +109,8 @@ fn push_break_between(
     empty_lines: usize,
     below: &[char],
 ) -> Result<(), AllocError>
-    ensures { OnOk result (value.new.items ≡ value.old.items ++ spec.break_between style above.now empty_lines below.now) }
+    ensures { OnOk result (value.new.items
+        ≡ value.old.items ++ spec.break_between style above.now empty_lines below.now) }
 {
     if style == BlockStyle::Folded && !is_more_indented(above) && !is_more_indented(below) {
         return push_raw_break(value, empty_lines);
@@ -127,7 +128,9 @@ fn push_contents_behind(
     first: &[char],
     lines: &[char],
 ) -> Result<(), AllocError>
-    ensures { OnOk result (value.new.items ≡ value.old.items ++ spec.contents_behind style first.now 0 (spec.lines_of indentation lines.now)) }
+    ensures { OnOk result (value.new.items
+        ≡ value.old.items ++ spec.contents_behind style first.now 0
+        (spec.lines_of indentation lines.now)) }
 {
     let mut above = first;
     let mut empty_lines = 0;
@@ -154,7 +157,8 @@ fn push_contents(
     indentation: usize,
     lines: &[char],
 ) -> Result<(), AllocError>
-    ensures { OnOk result (value.new.items ≡ value.old.items ++ spec.contents style (spec.lines_of indentation lines.now)) }
+    ensures { OnOk result (value.new.items
+        ≡ value.old.items ++ spec.contents style (spec.lines_of indentation lines.now)) }
 {
     let mut lines = lines;
     while let Some((line, others)) = split_line(lines) {
@@ -193,7 +197,8 @@ fn push_chomped(
     broken: bool,
     empty_lines: usize,
 ) -> Result<(), AllocError>
-    ensures { OnOk result (value.new.items ≡ value.old.items ++ spec.chomped chomping broken empty_lines) }
+    ensures { OnOk result (value.new.items
+        ≡ value.old.items ++ spec.chomped chomping broken empty_lines) }
 {
     if chomping == Chomping::Strip {
         return Ok(());
@@ -240,7 +245,8 @@ fn lines_value(
     indentation: usize,
     lines: &[char],
 ) -> Result<Vec<char>, AllocError>
-    ensures { IfOk result (λ value. value.items ≡ spec.lines_value style chomping broken (spec.lines_of indentation lines.now)) }
+    ensures { IfOk result (λ value. value.items
+        ≡ spec.lines_value style chomping broken (spec.lines_of indentation lines.now)) }
 {
     let mut value = Vec::new(alloc);
     if has_content(indentation, lines) {
@@ -259,7 +265,8 @@ fn lines_value(
 
 // Whether the last line counts, which no break ends.
 fn is_counted(indentation: usize, lines: &[char], last: &[char], ending: Ending) -> bool
-    ensures { result ≡ spec.is_counted indentation (spec.lines_of indentation lines.now) last.now ending }
+    ensures { result ≡ spec.is_counted indentation (spec.lines_of indentation lines.now) last.now
+        ending }
 {
     if !is_empty_line(indentation, last) {
         return true;
@@ -284,7 +291,8 @@ fn is_broken(indentation: usize, last: &[char], ending: Ending) -> bool
 // Ends the last line with a break where it counts.
 #[tactic(auto, using(crate::proofs::Lines::line_more))]
 fn end_last_line(text: &mut Vec<char>, indentation: usize, ending: Ending) -> Result<(), AllocError>
-    ensures { OnOk result (spec.lines_of indentation text.new.items ≡ spec.counted_lines indentation text.old.items ending) }
+    ensures { OnOk result (spec.lines_of indentation text.new.items
+        ≡ spec.counted_lines indentation text.old.items ending) }
 {
     if is_counted(indentation, text, last_line(text), ending) {
         text.push('\n')?;
@@ -304,7 +312,9 @@ pub fn block_value(
     text: &str,
     ending: Ending,
 ) -> Result<String, AllocError>
-    ensures { IfOk result (λ value. string_bytes value ≡ encode_utf8_all (spec.block_value style chomping indentation (normalized (chars text.now)) ending)) }
+    ensures { IfOk result (λ value. string_bytes value
+        ≡ encode_utf8_all (spec.block_value style chomping indentation (normalized (chars text.now))
+        ending)) }
 {
     let mut lines = normalized_characters_of(alloc, text)?;
     let broken = is_broken(indentation, last_line(&lines), ending);
@@ -316,5 +326,6 @@ pub fn block_value(
 /// In literal style with all breaks kept, a block scalar whose last line has a break is its lines without their
 /// indentation.
 pub fn literal_lines_are_kept()
-    ensures { (lines : List spec.Line) → spec.lines_value BlockStyle.Literal Chomping.Keep true lines ≡ spec.each_line lines }
+    ensures { (lines : List spec.Line)
+        → spec.lines_value BlockStyle.Literal Chomping.Keep true lines ≡ spec.each_line lines }
 {}

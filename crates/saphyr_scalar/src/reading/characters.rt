@@ -45,7 +45,8 @@ pub(crate) fn normalized_characters_of(alloc: Global, text: &str) -> Result<Vec<
 
 /// A text with its line breaks normalized: each CR LF and each other CR is one LF (YAML 1.2.2, 5.4).
 pub fn normalized(alloc: Global, text: &str) -> Result<String, AllocError>
-    ensures { IfOk result (λ normal. string_bytes normal ≡ encode_utf8_all (spec.normalized (chars text.now))) }
+    ensures { IfOk result (λ normal. string_bytes normal
+        ≡ encode_utf8_all (spec.normalized (chars text.now))) }
 {
     text_of(alloc, &normalized_characters_of(alloc, text)?)
 }

@@ -45,7 +45,7 @@ fn digit_count(name: char) -> Option<usize>
 }
 
 // The character whose number the hexadecimal digits spell.
-#[tactic(auto, using(crate::proofs::Escaped::too_large))]
+#[tactic(auto, using(crate::proofs::Quoted::LargeEscapes::too_large))]
 fn hex_character(digits: &[char]) -> Option<char>
     ensures { result ≡ spec.hex_character 0 digits.now }
 {

@@ -3,7 +3,7 @@
 ghost use Rattle.std.specs.Prelude.{◌≡◌, ℕ, ◌↔◌, List, ◌+◌, ◌<◌, ◌≤◌, IfOk, IfSome, Some, chars, map, option_map, length, string_bytes, encode_utf8_all};
 ghost use Rattle.saphyr_input.specs.Breaks.{normalized};
 ghost use Rattle.saphyr_scalar.specs.FlowReading as spec;
-ghost use Rattle.saphyr_scalar.specs.Spelling.{IsQuoted};
+ghost use Rattle.saphyr_scalar.specs.Spelling.{IsSpelledQuote};
 
 use crate::reading::characters::normalized_characters_of;
 use crate::reading::escapes::escape;
@@ -54,7 +54,8 @@ fn raw_items(alloc: Global, text: &[char]) -> Result<Vec<Item>, AllocError>
 
 /// The value of a plain scalar: its lines folded (YAML 1.2.2, 7.3.3).
 pub fn plain_value(alloc: Global, piece: &str) -> Result<String, AllocError>
-    ensures { IfOk result (λ text. string_bytes text ≡ encode_utf8_all (spec.plain_value (normalized (chars piece.now)))) }
+    ensures { IfOk result (λ text. string_bytes text
+        ≡ encode_utf8_all (spec.plain_value (normalized (chars piece.now)))) }
 {
     let characters = normalized_characters_of(alloc, piece)?;
     folded(alloc, &raw_items(alloc, &characters)?)
@@ -109,7 +110,8 @@ fn items_to_quote(
     quote: Quote,
     text: &[char],
 ) -> Result<Option<Vec<Item>>, AllocError>
-    ensures { IfOk result (λ items. option_map (λ items. items.items) items ≡ spec.items_to_quote quote 0 text.now) }
+    ensures { IfOk result (λ items. option_map (λ items. items.items) items
+        ≡ spec.items_to_quote quote 0 text.now) }
 {
     let mut text = text;
     let mut items = Vec::new(alloc);
@@ -128,7 +130,8 @@ fn items_to_quote(
 
 // The value of a quoted scalar.
 fn quoted_value(alloc: Global, quote: Quote, piece: &str) -> Result<Option<String>, AllocError>
-    ensures { IfOk result (λ text. option_map string_bytes text ≡ option_map encode_utf8_all (spec.quoted_value quote (normalized (chars piece.now)))) }
+    ensures { IfOk result (λ text. option_map string_bytes text
+        ≡ option_map encode_utf8_all (spec.quoted_value quote (normalized (chars piece.now)))) }
 {
     let characters = normalized_characters_of(alloc, piece)?;
     let Some((c, text)) = characters.split_first() else {
@@ -146,7 +149,9 @@ fn quoted_value(alloc: Global, quote: Quote, piece: &str) -> Result<Option<Strin
 /// The value of a single quoted scalar, quotes and all: `''` between them is a quote, and lines are folded (YAML 1.2.2,
 /// 7.3.2). None where the piece is no single quoted scalar.
 pub fn single_quoted_value(alloc: Global, piece: &str) -> Result<Option<String>, AllocError>
-    ensures { IfOk result (λ text. option_map string_bytes text ≡ option_map encode_utf8_all (spec.quoted_value Quote.Single (normalized (chars piece.now)))) }
+    ensures { IfOk result (λ text. option_map string_bytes text
+        ≡ option_map encode_utf8_all
+        (spec.quoted_value Quote.Single (normalized (chars piece.now)))) }
 {
     quoted_value(alloc, Quote::Single, piece)
 }
@@ -154,7 +159,9 @@ pub fn single_quoted_value(alloc: Global, piece: &str) -> Result<Option<String>,
 /// The value of a double quoted scalar, quotes and all: escapes are replaced, and lines are folded (YAML 1.2.2, 7.3.1).
 /// None where the piece is no double quoted scalar.
 pub fn double_quoted_value(alloc: Global, piece: &str) -> Result<Option<String>, AllocError>
-    ensures { IfOk result (λ text. option_map string_bytes text ≡ option_map encode_utf8_all (spec.quoted_value Quote.Double (normalized (chars piece.now)))) }
+    ensures { IfOk result (λ text. option_map string_bytes text
+        ≡ option_map encode_utf8_all
+        (spec.quoted_value Quote.Double (normalized (chars piece.now)))) }
 {
     quoted_value(alloc, Quote::Double, piece)
 }
@@ -162,5 +169,6 @@ pub fn double_quoted_value(alloc: Global, piece: &str) -> Result<Option<String>,
 /// The items that are read of a quoted scalar are those that its text spells, and a text that is none spells none. So no
 /// text spells two lists of items.
 pub fn quoted_items_are_spelled()
-    ensures { (quote : Quote) (items : List Item) (text : List ℕ) → IsQuoted quote items text ↔ (spec.quoted_items quote text ≡ Some items) }
+    ensures { (quote : Quote) (items : List Item) (text : List ℕ)
+        → IsSpelledQuote quote items text ↔ (spec.quoted_items quote text ≡ Some items) }
 {}

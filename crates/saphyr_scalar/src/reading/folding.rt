@@ -118,5 +118,6 @@ pub fn folded(alloc: Global, items: &[Item]) -> Result<String, AllocError>
 /// Line folding, told without a state: between characters a raw break is a space, or a line feed for each empty line behind
 /// it; an escaped break is nothing but these line feeds; and no blank beside a raw break, or behind an escaped one, stays.
 pub fn breaks_are_folded()
-    ensures { (n : ℕ) (breaks : List Item) (c : ℕ) (others : List Item) → spec.FoldsBreaks n breaks c others }
+    ensures { (n : ℕ) (breaks : List Item) (c : ℕ) (others : List Item)
+        → spec.FoldsBreaks n breaks c others }
 {}

@@ -1,31 +1,44 @@
 //! The names of anchors and aliases, taken off a text (YAML 1.2.2, 6.9.2 and 7.1).
 
-ghost use Rattle.std.specs.Prelude.{◌≡◌, ℕ, ◌<◌, List, length, string_bytes, Ok};
+ghost use Rattle.std.specs.Prelude.{◌≡◌, ℕ, ◌<◌, List, length, string_bytes, Ok, refl};
 ghost use Rattle.saphyr_input.specs.Classes as class;
 ghost use Rattle.saphyr_scalar.specs.Anchor as spec;
 ghost use Rattle.saphyr_scalar.specs.Quoted as run;
 
 use crate::scalar::fault::{FaultText, Refusal, Stop};
 use crate::scalar::reader::Reader;
+use saphyr_input::char_set::CharSet;
 use saphyr_input::char_traits::is_anchor_char;
 use saphyr_input::input::Input;
 use std::alloc::Global;
+
+// The characters of an anchor's name.
+pub(crate) struct AnchorSet;
+
+impl CharSet for AnchorSet {
+    ghost test = { class.is_anchor_char };
+
+    ghost without_nul = { refl };
+
+    fn has(c: char) -> bool {
+        is_anchor_char(c)
+    }
+
+    fn has_ascii(byte: u8) -> bool {
+        matches!(byte, b'a'..=b'z') || byte < 0x80 && is_anchor_char(byte as char)
+    }
+}
 
 impl<T: Input> Reader<T> {
     ghost use Rattle.saphyr_scalar.specs.Seen.{state, Moves};
 
     // Moves the characters of a name to the end of a text.
+    #[tactic(auto, using(crate::proofs::Lengths::run_within))]
     fn read_anchor_characters(&mut self, text: &mut String) -> Result<(), Stop>
-        ensures { Moves (λ _. (string_bytes text.new, state self.new)) result (Ok (run.with_run class.is_anchor_char (string_bytes text.old) (state self.old))) }
+        ensures { Moves (λ _. (string_bytes text.new, state self.new)) result
+            (Ok (run.with_run class.is_anchor_char (string_bytes text.old) (state self.old))) }
     {
-        let mut count = 0;
-        let mut c = self.input.look_ch();
-        while is_anchor_char(c) {
-            text.push(c)?;
-            self.input.skip();
-            count += 1;
-            c = self.input.look_ch();
-        }
+        let count = self.input.fetch_while::<AnchorSet>(text)?;
         self.mark = self.mark.along(count);
         self.blank_so_far = false;
         Ok(())
@@ -38,7 +51,8 @@ impl<T: Input> Reader<T> {
     #[tactic(auto, unfolding(crate::specs::Anchor::anchor, crate::specs::Anchor::name_of))]
     pub fn read_anchor(&mut self, alloc: Global) -> Result<String, Stop>
         requires { 0 < length (state self.old).rest }
-        ensures { Moves (λ name. (string_bytes name, state self.new)) result (spec.anchor (state self.old)) }
+        ensures { Moves (λ name. (string_bytes name, state self.new)) result
+            (spec.anchor (state self.old)) }
     {
         let start = self.mark;
         self.skip_non_blank();

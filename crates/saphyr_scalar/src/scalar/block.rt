@@ -52,7 +52,8 @@ impl<T: Input> Reader<T> {
         chomping: Chomping,
         empty_lines: usize,
     ) -> Result<String, AllocError>
-        ensures { IfOk result (λ text. string_bytes text ≡ encode_utf8_all (spec.tail_alone chomping empty_lines (state self.now))) }
+        ensures { IfOk result (λ text. string_bytes text
+            ≡ encode_utf8_all (spec.tail_alone chomping empty_lines (state self.now))) }
     {
         let mut text = String::new(alloc);
         if chomping == Chomping::Keep {
@@ -76,7 +77,9 @@ impl<T: Input> Reader<T> {
         leading: usize,
     ) -> Result<BlockScalar, Stop>
         requires { leading ≤ (state self.old).mark.index }
-        ensures { Moves (λ scalar. (string_bytes scalar.text, scalar.span, state self.new)) result (spec.chomped chomping indentation (state self.old).mark (spec.between_at style indentation None leading (state self.old))) }
+        ensures { Moves (λ scalar. (string_bytes scalar.text, scalar.span, state self.new)) result
+            (spec.chomped chomping indentation (state self.old).mark
+            (spec.between_at style indentation None leading (state self.old))) }
     {
         let start = self.mark;
         let mut text = String::new(alloc);
@@ -101,7 +104,8 @@ impl<T: Input> Reader<T> {
         leading: usize,
     ) -> Result<BlockScalar, Stop>
         requires { leading ≤ (state self.old).mark.index }
-        ensures { Moves (λ scalar. (string_bytes scalar.text, scalar.span, state self.new)) result (spec.content style chomping indent indentation leading (state self.old)) }
+        ensures { Moves (λ scalar. (string_bytes scalar.text, scalar.span, state self.new)) result
+            (spec.content style chomping indent indentation leading (state self.old)) }
     {
         if self.mark.col < indentation && self.mark.col >= indent {
             return Err(Stop::Refused(Refusal {
@@ -128,7 +132,8 @@ impl<T: Input> Reader<T> {
         indent: usize,
     ) -> Result<BlockScalar, Stop>
         requires { 0 < length (state self.old).rest }
-        ensures { Moves (λ scalar. (string_bytes scalar.text, scalar.span, state self.new)) result (spec.block_scalar style indent (state self.old)) }
+        ensures { Moves (λ scalar. (string_bytes scalar.text, scalar.span, state self.new)) result
+            (spec.block_scalar style indent (state self.old)) }
     {
         let start = self.mark;
         let header = self.read_block_header()?;

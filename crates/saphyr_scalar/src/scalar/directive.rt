@@ -45,7 +45,8 @@ impl<T: Input> Reader<T> {
     // Takes off the name of a directive.
     #[tactic(auto, using(crate::proofs::Lengths::run_within), unfolding(crate::specs::Directive::name, crate::specs::Directive::name_of))]
     fn read_directive_name(&mut self, alloc: Global) -> Result<String, Stop>
-        ensures { Moves (λ name. (string_bytes name, state self.new)) result (spec.name (state self.old)) }
+        ensures { Moves (λ name. (string_bytes name, state self.new)) result
+            (spec.name (state self.old)) }
     {
         let start = self.mark;
         let mut name = String::new(alloc);
@@ -100,7 +101,8 @@ impl<T: Input> Reader<T> {
     // Takes off the numbers of a version directive (YAML 1.2.2, 6.8.1).
     #[tactic(auto, unfolding(crate::specs::Directive::version_directive, crate::specs::Directive::behind_major))]
     fn read_version_directive(&mut self, start: Marker) -> Result<Directive, Refusal>
-        ensures { Gives (λ d. (spec.directive_of d, state self.new)) result (spec.version_directive start (state self.old)) }
+        ensures { Gives (λ d. (spec.directive_of d, state self.new)) result
+            (spec.version_directive start (state self.old)) }
     {
         self.skip_blanks();
         let major = self.read_version_number(start)?;
@@ -118,7 +120,8 @@ impl<T: Input> Reader<T> {
     // Takes off the handle of a tag directive: `!`, `!!` or `!word!`.
     #[tactic(auto, unfolding(crate::specs::Directive::handle, crate::specs::Directive::behind_word))]
     fn read_directive_handle(&mut self, alloc: Global, start: Marker) -> Result<String, Stop>
-        ensures { Moves (λ handle. (string_bytes handle, state self.new)) result (spec.handle start (state self.old)) }
+        ensures { Moves (λ handle. (string_bytes handle, state self.new)) result
+            (spec.handle start (state self.old)) }
     {
         if self.look() != '!' {
             return Err(Stop::Refused(Refusal {
@@ -143,9 +146,10 @@ impl<T: Input> Reader<T> {
     }
 
     // Takes off the prefix of a tag directive, with its escapes resolved.
-    #[tactic(auto, using(crate::proofs::Directives::prefix_left), unfolding(crate::specs::Directive::prefix))]
+    #[tactic(auto, using(crate::proofs::Directives::Numbers::prefix_left), unfolding(crate::specs::Directive::prefix))]
     fn read_tag_prefix(&mut self, alloc: Global, start: Marker) -> Result<String, Stop>
-        ensures { Moves (λ prefix. (string_bytes prefix, state self.new)) result (spec.prefix start (state self.old)) }
+        ensures { Moves (λ prefix. (string_bytes prefix, state self.new)) result
+            (spec.prefix start (state self.old)) }
     {
         let first = self.look();
         if first != '!' && !is_tag_char(first) {
@@ -164,7 +168,8 @@ impl<T: Input> Reader<T> {
     // Takes off the handle and the prefix of a tag directive (YAML 1.2.2, 6.8.2).
     #[tactic(auto, unfolding(crate::specs::Directive::tag_directive, crate::specs::Directive::behind_prefix))]
     fn read_tag_directive(&mut self, alloc: Global, start: Marker) -> Result<Directive, Stop>
-        ensures { Moves (λ d. (spec.directive_of d, state self.new)) result (spec.tag_directive start (state self.old)) }
+        ensures { Moves (λ d. (spec.directive_of d, state self.new)) result
+            (spec.tag_directive start (state self.old)) }
     {
         self.skip_blanks();
         let handle = self.read_directive_handle(alloc, start)?;
@@ -187,7 +192,8 @@ impl<T: Input> Reader<T> {
         name: String,
         start: Marker,
     ) -> Result<Directive, Stop>
-        ensures { Moves (λ d. (spec.directive_of d, state self.new)) result (spec.value start (string_bytes name, state self.old)) }
+        ensures { Moves (λ d. (spec.directive_of d, state self.new)) result
+            (spec.value start (string_bytes name, state self.old)) }
     {
         if name.as_str() == "YAML" {
             return Ok(self.read_version_directive(start)?);
@@ -227,7 +233,8 @@ impl<T: Input> Reader<T> {
     #[tactic(auto, unfolding(crate::specs::Directive::directive))]
     pub fn read_directive(&mut self, alloc: Global) -> Result<DirectiveLine, Stop>
         requires { slice_index (state self.old).rest 0 ≡ 37 }
-        ensures { Moves (λ line. (spec.directive_of line.directive, line.end, state self.new)) result (spec.directive (state self.old)) }
+        ensures { Moves (λ line. (spec.directive_of line.directive, line.end, state self.new))
+            result (spec.directive (state self.old)) }
     {
         let start = self.mark;
         self.skip_non_blank();

@@ -12,16 +12,35 @@ ghost use Rattle.saphyr_scalar.specs.declared.scalar.position.Marker.{Marker};
 /// Where a version directive or a tag directive is spelled, and behind it blanks, a comment and a
 /// break, NUL or the end, it is read, without a fault, to the end of its line.
 pub fn reads_each_directive()
-    ensures { (s : Cursor) (d : Directive) (t tail x : List ℕ) → s.rest ≡ t ++ (tail ++ x) → IsDirectiveText d t → IsLineTail tail → is_breakz (slice_index x 0) ≡ true → directive s ≡ Ok (d, along s.mark (length t), pass_break (at (along s.mark (length t + length tail)) x)) }
+    ensures { (s : Cursor) (d : Directive) (t tail x : List ℕ) → s.rest ≡ t ++ (tail ++ x)
+        → IsDirectiveText d t → IsLineTail tail → is_breakz (slice_index x 0) ≡ true
+        → directive s ≡ Ok (
+          d,
+          along s.mark (length t),
+          pass_break
+              (at (along s.mark (length t + length tail)) x),
+        ) }
 {}
 
 /// Where a reserved directive is spelled, and behind its parameters a break, NUL or the end, its
 /// name is read, without a fault, and its parameters are passed.
 pub fn reads_each_reserved_directive()
-    ensures { (s : Cursor) (name t x : List ℕ) → s.rest ≡ t ++ x → IsReservedDirective name t → is_breakz (slice_index x 0) ≡ true → directive s ≡ Ok (reserved (encode_utf8_all name), along s.mark (length t), pass_break (at (along s.mark (length t)) x)) }
+    ensures { (s : Cursor) (name t x : List ℕ) → s.rest ≡ t ++ x → IsReservedDirective name t
+        → is_breakz (slice_index x 0) ≡ true
+        → directive s ≡ Ok (
+          reserved (encode_utf8_all name),
+          along s.mark (length t),
+          pass_break
+              (at (along s.mark (length t)) x),
+        ) }
 {}
 
 /// What is read as a directive is spelled so, and what is left stands behind its line.
 pub fn spells_each_directive()
-    ensures { (s u : Cursor) (d : Directive) (end : Marker) → slice_index s.rest 0 ≡ 37 → directive s ≡ Ok (d, end, u) → (t : List ℕ) × (tail : List ℕ) × (x : List ℕ) × (s.rest ≡ t ++ (tail ++ x)) × IsReadDirective d t × IsLineTail tail × (is_breakz (slice_index x 0) ≡ true) × (end ≡ along s.mark (length t)) × (u ≡ pass_break (at (along s.mark (length t + length tail)) x)) }
+    ensures { (s u : Cursor) (d : Directive) (end : Marker) → slice_index s.rest 0 ≡ 37
+        → directive s ≡ Ok (d, end, u)
+        → (t : List ℕ) × (tail : List ℕ) × (x : List ℕ) × (s.rest ≡ t ++ (tail ++ x))
+        × IsReadDirective d t × IsLineTail tail × (is_breakz (slice_index x 0) ≡ true)
+        × (end ≡ along s.mark (length t))
+        × (u ≡ pass_break (at (along s.mark (length t + length tail)) x)) }
 {}

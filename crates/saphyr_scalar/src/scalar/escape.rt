@@ -52,10 +52,11 @@ impl<T: Input> Reader<T> {
     ghost use Rattle.saphyr_scalar.specs.Seen.{state, Gives};
 
     // Takes off so many hexadecimal digits, and gives what they stand for.
-    #[tactic(auto, using(crate::proofs::Escapes::digits_stop))]
+    #[tactic(auto, using(crate::proofs::Quoted::Escapes::digits_stop))]
     fn read_digits(&mut self, count: usize, start: Marker) -> Result<u32, Refusal>
         requires { count ≤ 8 }
-        ensures { Gives (λ v. (v, state self.new)) result (spec.digits start count 0 (state self.old)) }
+        ensures { Gives (λ v. (v, state self.new)) result
+            (spec.digits start count 0 (state self.old)) }
     {
         let mut value = 0;
         for _ in 0..count {
@@ -73,7 +74,7 @@ impl<T: Input> Reader<T> {
     }
 
     // Takes an escape off, from its backslash on, and gives the character that it stands for.
-    #[tactic(auto, using(crate::proofs::Escapes::letter_left, crate::proofs::Escapes::digits_left, crate::proofs::Escapes::count_small), unfolding(crate::specs::Quoted::escape, crate::specs::Quoted::escape_of, crate::specs::Quoted::numbered, crate::specs::Quoted::character))]
+    #[tactic(auto, using(crate::proofs::Quoted::Escapes::letter_left, crate::proofs::Quoted::Escapes::digits_left, crate::proofs::Quoted::Escapes::count_small), unfolding(crate::specs::Quoted::escape, crate::specs::Quoted::escape_of, crate::specs::Quoted::numbered, crate::specs::Quoted::character))]
     pub(crate) fn read_escape(&mut self, start: Marker) -> Result<char, Refusal>
         requires { slice_index (state self.old).rest 0 ≡ 92 }
         ensures { Gives (λ c. (c, state self.new)) result (spec.escape start (state self.old)) }

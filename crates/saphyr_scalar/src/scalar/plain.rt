@@ -1,9 +1,10 @@
 //! Plain scalars, taken off a text word by word, with their lines folded on the way (YAML 1.2.2, 7.3.3 and 6.5).
 
-ghost use Rattle.std.specs.Prelude.{◌≡◌, ℕ, ◌<◌, ◌≤◌, List, ◌++◌, length, slice_index, string_bytes, Ok, OnOk, false, true, if◌then◌else◌};
-ghost use Rattle.saphyr_input.specs.Places.{is_blank_or_break};
+ghost use Rattle.std.specs.Prelude.{◌≡◌, ℕ, ◌<◌, ◌≤◌, List, ◌++◌, length, slice_index, string_bytes, IfOk, OnOk, false, true, refl, if◌then◌else◌};
+ghost use Rattle.saphyr_input.specs.Places.{is_blank_or_break, TransfersWords};
 ghost use Rattle.saphyr_scalar.specs.Cursor as cursor;
 ghost use Rattle.saphyr_scalar.specs.Plain as spec;
+ghost use Rattle.saphyr_scalar.specs.Sets as sets;
 
 #[cfg(test)]
 mod tests;
@@ -11,9 +12,8 @@ mod tests;
 use crate::scalar::fault::{FaultText, Refusal, Stop};
 use crate::scalar::position::Marker;
 use crate::scalar::reader::{FIRST_ROOM, Reader};
-use saphyr_input::char_traits::{
-    is_alpha, is_blank, is_blank_or_breakz, is_bom, is_break, is_flow, is_z,
-};
+use saphyr_input::char_set::{CharSet, SpacedSet};
+use saphyr_input::char_traits::{is_blank, is_blank_or_breakz, is_bom, is_break, is_flow, is_z};
 use saphyr_input::input::Input;
 use std::alloc::{AllocError, Global};
 
@@ -36,11 +36,70 @@ fn is_white(c: char) -> bool
     is_blank(c) || is_break(c)
 }
 
+// The characters of a plain scalar outside flow, without a colon, with which a word goes on wherever they stand.
+pub(crate) struct PlainOutside;
+
+impl CharSet for PlainOutside {
+    ghost test = { sets.in_plain false };
+
+    ghost without_nul = { refl };
+
+    fn has(c: char) -> bool {
+        c != ':' && !is_blank_or_breakz(c) && !is_bom(c)
+    }
+
+    fn has_ascii(byte: u8) -> bool {
+        if byte > b':' {
+            byte < 0x80
+        } else {
+            byte != b':' && !is_blank_or_breakz(byte as char)
+        }
+    }
+}
+
+impl SpacedSet for PlainOutside {
+    ghost lead = { sets.leads_plain false };
+
+    fn leads(byte: u8) -> bool {
+        byte != b'#' && byte != b'-' && PlainOutside::has_ascii(byte)
+    }
+}
+
+// The same inside flow.
+pub(crate) struct PlainInFlow;
+
+impl CharSet for PlainInFlow {
+    ghost test = { sets.in_plain true };
+
+    ghost without_nul = { refl };
+
+    fn has(c: char) -> bool {
+        c != ':' && !is_blank_or_breakz(c) && !is_bom(c) && !is_flow(c)
+    }
+
+    fn has_ascii(byte: u8) -> bool {
+        matches!(byte, b'a'..=b'z')
+            || byte < 0x80
+                && byte != b':'
+                && !is_blank_or_breakz(byte as char)
+                && !is_flow(byte as char)
+    }
+}
+
+impl SpacedSet for PlainInFlow {
+    ghost lead = { sets.leads_plain true };
+
+    fn leads(byte: u8) -> bool {
+        byte != b'#' && byte != b'-' && PlainInFlow::has_ascii(byte)
+    }
+}
+
 // Moves what a gap between two words reads as to the end of a text: a break before no empty line
 // is a space.
 #[inline]
 fn push_gap(text: &mut String, over_lines: bool, gap: &str) -> Result<(), AllocError>
-    ensures { OnOk result (string_bytes text.new ≡ string_bytes text.old ++ spec.gap_text over_lines gap.now) }
+    ensures { OnOk result (string_bytes text.new
+        ≡ string_bytes text.old ++ spec.gap_text over_lines gap.now) }
 {
     if over_lines && gap.is_empty() {
         return text.push(' ');
@@ -55,7 +114,8 @@ impl<T: Input> Reader<T> {
     #[inline(always)]
     #[tactic(auto, unfolding(crate::specs::Plain::word_starts))]
     fn plain_word_starts(&mut self, in_flow: bool) -> Result<bool, Refusal>
-        ensures { Gives (λ starts. (starts, state self.new)) result (spec.word_starts in_flow (state self.old)) }
+        ensures { Gives (λ starts. (starts, state self.new)) result
+            (spec.word_starts in_flow (state self.old)) }
     {
         self.load(4);
         let c = self.input.peek();
@@ -89,14 +149,31 @@ impl<T: Input> Reader<T> {
         !is_blank_or_breakz(c) && !is_bom(c) && !(in_flow && is_flow(c))
     }
 
-    // Moves the rest of a word to the end of a text.
-    fn read_plain_word(&mut self, in_flow: bool, text: &mut String) -> Result<(), Stop>
-        ensures { Moves (λ _. (string_bytes text.new, state self.new)) result (Ok (spec.with_word in_flow (string_bytes text.old) (state self.old))) }
+    // Moves characters of words without colons, and single spaces between them, to the end of a
+    // text, and gives how many. The place stays.
+    #[inline(always)]
+    fn fetch_plain_words(&mut self, in_flow: bool, text: &mut String) -> Result<usize, AllocError>
+        ensures words { IfOk result (λ n. TransfersWords (sets.in_plain in_flow)
+            (sets.leads_plain in_flow) n (state self.old).rest (state self.new).rest
+            (string_bytes text.old) (string_bytes text.new)) }
+        ensures mark { (state self.new).mark ≡ (state self.old).mark }
+    {
+        if in_flow {
+            self.input.fetch_words::<PlainInFlow>(text)
+        } else {
+            self.input.fetch_words::<PlainOutside>(text)
+        }
+    }
+
+    // Moves the rest of a word to the end of a text, and words behind it before each of which a
+    // single space stands.
+    fn read_plain_words(&mut self, in_flow: bool, text: &mut String) -> Result<(), AllocError>
+        ensures { OnOk result (spec.WordsMoved in_flow (string_bytes text.old)
+            (string_bytes text.new) (state self.old) (state self.new)) }
     {
         let mut count = 0;
         loop {
-            // All characters of such a run are in a word.
-            count += self.input.fetch_while_is_alpha(text)?;
+            count += self.fetch_plain_words(in_flow, text)?;
             let c = self.look();
             if !self.is_in_plain_word(c, in_flow) {
                 break;
@@ -137,7 +214,7 @@ impl<T: Input> Reader<T> {
 
     // Takes off a blank or a break of the lines behind a word, with a line feed for the break at
     // the end of a text. Gives whether a tab stands in the indentation of the line that is reached.
-    #[tactic(auto, using(crate::proofs::PlainLines::some_blank), unfolding(crate::specs::Plain::pass_white))]
+    #[tactic(auto, using(crate::proofs::Plain::Lines::some_blank), unfolding(crate::specs::Plain::pass_white))]
     fn skip_plain_white(
         &mut self,
         indent: usize,
@@ -145,7 +222,8 @@ impl<T: Input> Reader<T> {
         feeds: &mut String,
     ) -> Result<bool, Stop>
         requires { is_blank_or_break (slice_index (state self.old).rest 0) ≡ true }
-        ensures { Moves (λ tabbed. (tabbed, string_bytes feeds.new, state self.new)) result (Ok (spec.pass_white indent tabbed (string_bytes feeds.old) (state self.old))) }
+        ensures { Moves (λ tabbed. (tabbed, string_bytes feeds.new, state self.new)) result
+            (Ok (spec.pass_white indent tabbed (string_bytes feeds.old) (state self.old))) }
     {
         let c = self.look();
         if is_break(c) {
@@ -168,33 +246,25 @@ impl<T: Input> Reader<T> {
         feeds: &mut String,
     ) -> Result<bool, Stop>
         requires { (state self.old).blank_so_far ≡ true }
-        ensures { Moves (λ tabbed. record { text = string_bytes feeds.new; tabbed = tabbed; behind = state self.new }) result (spec.lines indent start false (string_bytes feeds.old) (state self.old).mark (state self.old).rest) }
+        ensures { Moves (λ tabbed. record {
+          text =
+              string_bytes feeds.new;
+          tabbed = tabbed;
+          behind = state self.new;
+        }) result
+            (spec.lines indent start false (string_bytes feeds.old) (state self.old).mark
+            (state self.old).rest) }
     {
         let mut tabbed = false;
-        let mut c = self.look();
-        while is_white(c) {
+        loop {
+            self.skip_spaces(usize::MAX);
+            if !is_white(self.look()) {
+                break;
+            }
             tabbed = self.skip_plain_white(indent, tabbed, feeds)?;
-            c = self.look();
         }
         self.check_plain_tab(start, tabbed)?;
         Ok(tabbed)
-    }
-
-    // Takes off a single space, if one stands here before a character with which another word of
-    // the line begins.
-    #[inline]
-    #[tactic(auto, unfolding(crate::specs::Plain::is_single_space))]
-    fn skip_single_space(&mut self) -> bool
-        ensures value { result ≡ spec.is_single_space (state self.old).rest }
-        ensures state { state self.new ≡ (if result then cursor.pass_blanks 1 (state self.old) else state self.old) }
-    {
-        self.load(2);
-        let next = self.input.peek_nth(1);
-        let single = self.input.peek() == ' ' && is_alpha(next) && next != '-';
-        if single {
-            self.skip_blank();
-        }
-        single
     }
 
     // Takes off what stands behind a word, and puts it in place of a text: its blanks, or a line
@@ -208,7 +278,13 @@ impl<T: Input> Reader<T> {
         start: Marker,
         gap: &mut String,
     ) -> Result<bool, Stop>
-        ensures { Moves (λ tabbed. record { text = spec.gap_text (state self.new).blank_so_far (string_bytes gap.new); tabbed = tabbed; behind = state self.new }) result (spec.gap indent start (state self.old)) }
+        ensures { Moves (λ tabbed. record {
+          text =
+              spec.gap_text (state self.new).blank_so_far (string_bytes gap.new);
+          tabbed =
+              tabbed;
+          behind = state self.new;
+        }) result (spec.gap indent start (state self.old)) }
     {
         gap.clear();
         self.read_blanks(gap)?;
@@ -224,7 +300,8 @@ impl<T: Input> Reader<T> {
     #[inline(always)]
     #[tactic(auto, unfolding(crate::specs::Plain::goes_on))]
     fn plain_goes_on(&mut self, in_flow: bool, indent: usize) -> Result<bool, Refusal>
-        ensures { Gives (λ goes_on. (goes_on, state self.new)) result (spec.goes_on in_flow indent (state self.old)) }
+        ensures { Gives (λ goes_on. (goes_on, state self.new)) result
+            (spec.goes_on in_flow indent (state self.old)) }
     {
         if self.blank_so_far && !in_flow && self.mark.col < indent {
             return Ok(false);
@@ -280,7 +357,13 @@ impl<T: Input> Reader<T> {
         in_flow: bool,
         indent: usize,
     ) -> Result<PlainScalar, Stop>
-        ensures { Moves (λ scalar. (string_bytes scalar.text, scalar.end, scalar.comment, state self.new)) result (spec.plain in_flow indent (state self.old)) }
+        ensures { Moves (λ scalar. (
+          string_bytes scalar.text,
+          scalar.end,
+          scalar.comment,
+          state
+              self.new,
+        )) result (spec.plain in_flow indent (state self.old)) }
     {
         let start = self.mark;
         if !self.plain_word_starts(in_flow)? {
@@ -292,12 +375,8 @@ impl<T: Input> Reader<T> {
         let mut text = String::with_capacity(alloc, FIRST_ROOM)?;
         let mut gap = String::new(alloc);
         loop {
-            self.read_plain_word(in_flow, &mut text)?;
+            self.read_plain_words(in_flow, &mut text)?;
             let end = self.mark;
-            if self.skip_single_space() {
-                text.push(' ')?;
-                continue;
-            }
             let tabbed = self.read_plain_gap(indent, start, &mut gap)?;
             if !self.plain_goes_on(in_flow, indent)? {
                 let comment = self.plain_comment(in_flow, tabbed);

@@ -11,20 +11,37 @@ ghost use Rattle.saphyr_scalar.specs.TagSpelling.{IsAnchorName, IsTagText, EndsT
 
 /// Where an anchor or an alias is spelled behind its indicator, its name is read, without a fault.
 pub fn reads_each_anchor()
-    ensures { (s : Cursor) (indicator : ℕ) (name x : List ℕ) → s.rest ≡ indicator ∷ (name ++ x) → IsAnchorName name → is_anchor_char (slice_index x 0) ≡ false → anchor s ≡ Ok (encode_utf8_all name, at (along s.mark (1 + length name)) x) }
+    ensures { (s : Cursor) (indicator : ℕ) (name x : List ℕ) → s.rest ≡ indicator ∷ (name ++ x)
+        → IsAnchorName name → is_anchor_char (slice_index x 0) ≡ false
+        → anchor s ≡ Ok (encode_utf8_all name, at (along s.mark (1 + length name)) x) }
 {}
 
 /// What is read as an anchor or an alias is spelled so, and what is left stands behind its name.
 pub fn spells_each_anchor()
-    ensures { (s t : Cursor) (text : List ℕ) → 0 < length s.rest → anchor s ≡ Ok (text, t) → (indicator : ℕ) × (name : List ℕ) × (s.rest ≡ indicator ∷ (name ++ t.rest)) × IsAnchorName name × (is_anchor_char (slice_index t.rest 0) ≡ false) × (t ≡ at (along s.mark (1 + length name)) t.rest) × (encode_utf8_all name ≡ text) }
+    ensures { (s t : Cursor) (text : List ℕ) → 0 < length s.rest → anchor s ≡ Ok (text, t)
+        → (indicator : ℕ) × (name : List ℕ) × (s.rest ≡ indicator ∷ (name ++ t.rest))
+        × IsAnchorName name × (is_anchor_char (slice_index t.rest 0) ≡ false)
+        × (t ≡ at (along s.mark (1 + length name)) t.rest) × (encode_utf8_all name ≡ text) }
 {}
 
 /// Where a tag is spelled, and behind it what ends a tag, it is read, without a fault.
 pub fn reads_each_tag()
-    ensures { (in_flow : Bool) (s : Cursor) (t handle suffix x : List ℕ) → s.rest ≡ t ++ x → IsTagText t handle suffix → EndsTag in_flow x → tag in_flow s ≡ Ok (encode_utf8_all handle, encode_utf8_all suffix, at (along s.mark (length t)) x) }
+    ensures { (in_flow : Bool) (s : Cursor) (t handle suffix x : List ℕ) → s.rest ≡ t ++ x
+        → IsTagText t handle suffix → EndsTag in_flow x
+        → tag in_flow s ≡ Ok (
+          encode_utf8_all handle,
+          encode_utf8_all suffix,
+          at
+              (along s.mark (length t)) x,
+        ) }
 {}
 
 /// What is read as a tag is spelled so, and what is left stands behind it.
 pub fn spells_each_tag()
-    ensures { (in_flow : Bool) (s u : Cursor) (front back : List ℕ) → slice_index s.rest 0 ≡ 33 → tag in_flow s ≡ Ok (front, back, u) → (t : List ℕ) × (handle : List ℕ) × (suffix : List ℕ) × (s.rest ≡ t ++ u.rest) × IsTagText t handle suffix × EndsTag in_flow u.rest × (u ≡ at (along s.mark (length t)) u.rest) × (encode_utf8_all handle ≡ front) × (encode_utf8_all suffix ≡ back) }
+    ensures { (in_flow : Bool) (s u : Cursor) (front back : List ℕ) → slice_index s.rest 0 ≡ 33
+        → tag in_flow s ≡ Ok (front, back, u)
+        → (t : List ℕ) × (handle : List ℕ) × (suffix : List ℕ) × (s.rest ≡ t ++ u.rest)
+        × IsTagText t handle suffix × EndsTag in_flow u.rest
+        × (u ≡ at (along s.mark (length t)) u.rest) × (encode_utf8_all handle ≡ front)
+        × (encode_utf8_all suffix ≡ back) }
 {}

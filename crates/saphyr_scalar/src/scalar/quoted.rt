@@ -1,16 +1,19 @@
 //! Quoted scalars, taken off a text word by word, with their lines folded on the way
 //! (YAML 1.2.2, 7.3.1, 7.3.2 and 6.5).
 
-ghost use Rattle.std.specs.Prelude.{◌≡◌, ℕ, Bool, true, false, ◌==◌, ◌++◌, ◌<◌, ◌≤◌, length, slice_index, string_bytes, encode_utf8_all, Ok, OnOk, IsTrue, if◌then◌else◌};
+ghost use Rattle.std.specs.Prelude.{◌≡◌, ℕ, Bool, true, false, ◌==◌, ◌++◌, ◌<◌, ◌≤◌, length, slice_index, string_bytes, encode_utf8_all, Ok, IfOk, OnOk, IsTrue, if◌then◌else◌};
 ghost use Rattle.saphyr_input.specs.Classes as class;
+ghost use Rattle.saphyr_input.specs.Places.{TransfersWords};
 ghost use Rattle.saphyr_scalar.specs.Cursor as cursor;
 ghost use Rattle.saphyr_scalar.specs.Quoted as spec;
 ghost use Rattle.saphyr_scalar.specs.FlowReading as flow;
+ghost use Rattle.saphyr_scalar.specs.Sets as sets;
 
 use crate::reading::Quote;
 use crate::scalar::fault::{FaultText, Refusal, Stop};
 use crate::scalar::position::Marker;
 use crate::scalar::reader::{FIRST_ROOM, Reader};
+use saphyr_input::char_set::{CharSet, SpacedSet};
 use saphyr_input::char_traits::{is_blank, is_blank_or_breakz, is_break, is_z};
 use saphyr_input::input::Input;
 use std::alloc::{AllocError, Global};
@@ -28,9 +31,70 @@ fn is_literal(quote: Quote, c: char) -> bool
     !is_blank_or_breakz(c) && !special
 }
 
+// The characters that stand for themselves between single quotes and are no blank.
+pub(crate) struct InSingle;
+
+impl CharSet for InSingle {
+    ghost test = { sets.in_single };
+
+    ghost without_nul = { sets.no_nul_in_single };
+
+    fn has(c: char) -> bool {
+        is_literal(Quote::Single, c)
+    }
+
+    #[tactic(auto, unfolding(crate::specs::Quoted::is_literal))]
+    fn has_ascii(byte: u8) -> bool {
+        if byte > b'\'' {
+            byte < 0x80
+        } else {
+            is_literal(Quote::Single, byte as char)
+        }
+    }
+}
+
+impl SpacedSet for InSingle {
+    ghost lead = { sets.is_content };
+
+    fn leads(byte: u8) -> bool {
+        InDouble::leads(byte)
+    }
+}
+
+// The characters that stand for themselves between double quotes and are no blank.
+pub(crate) struct InDouble;
+
+impl CharSet for InDouble {
+    ghost test = { sets.in_double };
+
+    ghost without_nul = { sets.no_nul_in_double };
+
+    fn has(c: char) -> bool {
+        is_literal(Quote::Double, c)
+    }
+
+    #[tactic(auto, unfolding(crate::specs::Quoted::is_literal))]
+    fn has_ascii(byte: u8) -> bool {
+        if byte > b'\\' {
+            byte < 0x80
+        } else {
+            is_literal(Quote::Double, byte as char)
+        }
+    }
+}
+
+impl SpacedSet for InDouble {
+    ghost lead = { sets.is_content };
+
+    fn leads(byte: u8) -> bool {
+        !is_blank_or_breakz(byte as char)
+    }
+}
+
 // Moves what a line break and the empty lines behind it read as to the end of a text.
 fn push_folded_break(text: &mut String, escaped: bool, empty_lines: usize) -> Result<(), AllocError>
-    ensures { OnOk result (string_bytes text.new ≡ string_bytes text.old ++ encode_utf8_all (spec.folded_break escaped empty_lines)) }
+    ensures { OnOk result (string_bytes text.new
+        ≡ string_bytes text.old ++ encode_utf8_all (spec.folded_break escaped empty_lines)) }
 {
     if !escaped && empty_lines == 0 {
         return text.push(' ');
@@ -44,22 +108,29 @@ fn push_folded_break(text: &mut String, escaped: bool, empty_lines: usize) -> Re
 impl<T: Input> Reader<T> {
     ghost use Rattle.saphyr_scalar.specs.Seen.{state, Gives, Moves, ReadsOn};
 
-    // Moves the characters that stand for themselves to the end of a text.
-    fn read_literals(&mut self, quote: Quote, text: &mut String) -> Result<(), Stop>
-        ensures { Moves (λ _. (string_bytes text.new, state self.new)) result (Ok (spec.with_run (spec.is_literal quote) (string_bytes text.old) (state self.old))) }
+    // Moves words, and single spaces between them, to the end of a text, and gives how many
+    // characters. The place stays.
+    #[inline(always)]
+    fn fetch_literal_words(&mut self, quote: Quote, text: &mut String) -> Result<usize, AllocError>
+        ensures words { IfOk result (λ n. TransfersWords (spec.is_literal quote) sets.is_content n
+            (state self.old).rest (state self.new).rest (string_bytes text.old)
+            (string_bytes text.new)) }
+        ensures mark { (state self.new).mark ≡ (state self.old).mark }
     {
-        let mut count = 0;
-        loop {
-            // All characters of such a run stand for themselves.
-            count += self.input.fetch_while_is_alpha(text)?;
-            let c = self.input.look_ch();
-            if !is_literal(quote, c) {
-                break;
-            }
-            text.push(c)?;
-            self.input.skip();
-            count += 1;
+        match quote {
+            Quote::Single => self.input.fetch_words::<InSingle>(text),
+            Quote::Double => self.input.fetch_words::<InDouble>(text),
         }
+    }
+
+    // Moves words, and single spaces between them, to the end of a text: up to what does not stand
+    // for itself.
+    #[inline(always)]
+    fn read_literal_words(&mut self, quote: Quote, text: &mut String) -> Result<(), AllocError>
+        ensures { OnOk result (spec.WordsMoved quote (string_bytes text.old) (string_bytes text.new)
+            (state self.old) (state self.new)) }
+    {
+        let count = self.fetch_literal_words(quote, text)?;
         self.mark = self.mark.along(count);
         self.blank_so_far = false;
         Ok(())
@@ -68,7 +139,8 @@ impl<T: Input> Reader<T> {
     // Moves the blanks inside a text to its end.
     #[inline(always)]
     pub(crate) fn read_blanks(&mut self, text: &mut String) -> Result<(), Stop>
-        ensures { Moves (λ _. (string_bytes text.new, state self.new)) result (Ok (spec.with_run class.is_blank (string_bytes text.old) (state self.old))) }
+        ensures { Moves (λ _. (string_bytes text.new, state self.new)) result
+            (Ok (spec.with_run class.is_blank (string_bytes text.old) (state self.old))) }
     {
         let mut count = 0;
         let mut c = self.input.look_ch();
@@ -86,7 +158,8 @@ impl<T: Input> Reader<T> {
     // Takes off an escape, or a quote that two single ones stand for, if one is next.
     #[tactic(auto, unfolding(crate::specs::Quoted::special))]
     fn read_quoted_special(&mut self, quote: Quote, start: Marker) -> Result<Option<char>, Refusal>
-        ensures { Gives (λ c. (c, state self.new)) result (spec.special quote start (state self.old)) }
+        ensures { Gives (λ c. (c, state self.new)) result
+            (spec.special quote start (state self.old)) }
     {
         self.load(2);
         match quote {
@@ -106,21 +179,6 @@ impl<T: Input> Reader<T> {
         }
     }
 
-    // Takes off a single space, if one stands here before another word or the closing quote.
-    #[inline]
-    #[tactic(auto, unfolding(crate::specs::Quoted::is_single_space))]
-    fn skip_quoted_space(&mut self) -> bool
-        ensures value { result ≡ spec.is_single_space (state self.old).rest }
-        ensures state { state self.new ≡ (if result then cursor.pass_blanks 1 (state self.old) else state self.old) }
-    {
-        self.load(2);
-        let single = self.input.peek() == ' ' && !is_blank_or_breakz(self.input.peek_nth(1));
-        if single {
-            self.skip_blank();
-        }
-        single
-    }
-
     // Moves words, and the single spaces between them, to the end of a text, with their escapes
     // resolved: up to a blank, a break, escaped or not, the closing quote, NUL or the end.
     fn read_quoted_word(
@@ -129,16 +187,16 @@ impl<T: Input> Reader<T> {
         start: Marker,
         text: &mut String,
     ) -> Result<(), Stop>
-        ensures same { (indent : ℕ) → ReadsOn result (spec.with_front (string_bytes text.old) (spec.inside_at quote indent start spec.no_gap (state self.old))) (spec.with_front (string_bytes text.new) (spec.inside_at quote indent start spec.no_gap (state self.new))) }
+        ensures same { (indent : ℕ) → ReadsOn result
+            (spec.with_front (string_bytes text.old)
+            (spec.inside_at quote indent start spec.no_gap (state self.old)))
+            (spec.with_front (string_bytes text.new)
+            (spec.inside_at quote indent start spec.no_gap (state self.new))) }
         ensures ended { OnOk result (IsTrue (spec.ends_word quote (state self.new).rest)) }
         ensures shorter { OnOk result (length (state self.new).rest ≤ length (state self.old).rest) }
     {
         loop {
-            self.read_literals(quote, text)?;
-            if self.skip_quoted_space() {
-                text.push(' ')?;
-                continue;
-            }
+            self.read_literal_words(quote, text)?;
             let Some(c) = self.read_quoted_special(quote, start)? else {
                 return Ok(());
             };
@@ -149,13 +207,19 @@ impl<T: Input> Reader<T> {
     // Takes off the empty lines, and the blanks before what stands behind them, and counts those
     // lines.
     fn skip_quoted_lines(&mut self, indent: usize) -> Result<usize, Refusal>
-        ensures same { (quote : Quote) → (start : Marker) → (escaped : Bool) → spec.Leads result (λ n. spec.inside_at quote indent start (spec.over_lines escaped n) (state self.new)) (spec.inside_at quote indent start (spec.over_lines escaped 0) (state self.old)) }
-        ensures no_blank { OnOk result (class.is_blank (slice_index (state self.new).rest 0) ≡ false) }
-        ensures no_break { OnOk result (class.is_break (slice_index (state self.new).rest 0) ≡ false) }
+        ensures same { (quote : Quote) → (start : Marker) → (escaped : Bool)
+            → spec.Leads result (λ n. spec.inside_at quote indent start (spec.over_lines escaped n)
+            (state self.new)) (spec.inside_at quote indent start (spec.over_lines escaped 0)
+            (state self.old)) }
+        ensures no_blank { OnOk result (class.is_blank (slice_index (state self.new).rest 0)
+            ≡ false) }
+        ensures no_break { OnOk result (class.is_break (slice_index (state self.new).rest 0)
+            ≡ false) }
         ensures shorter { OnOk result (length (state self.new).rest ≤ length (state self.old).rest) }
     {
         let mut count = 0;
         loop {
+            self.skip_spaces(usize::MAX);
             let c = self.look();
             if is_break(c) {
                 self.skip_line_break();
@@ -201,7 +265,11 @@ impl<T: Input> Reader<T> {
         start: Marker,
         text: &mut String,
     ) -> Result<(), Stop>
-        ensures same { (quote : Quote) → ReadsOn result (spec.with_front (string_bytes text.old) (spec.inside_at quote indent start (spec.over_lines escaped 0) (state self.old))) (spec.with_front (string_bytes text.new) (spec.inside_at quote indent start spec.no_gap (state self.new))) }
+        ensures same { (quote : Quote) → ReadsOn result
+            (spec.with_front (string_bytes text.old)
+            (spec.inside_at quote indent start (spec.over_lines escaped 0) (state self.old)))
+            (spec.with_front (string_bytes text.new)
+            (spec.inside_at quote indent start spec.no_gap (state self.new))) }
         ensures shorter { OnOk result (length (state self.new).rest ≤ length (state self.old).rest) }
     {
         let empty_lines = self.skip_quoted_lines(indent)?;
@@ -220,7 +288,10 @@ impl<T: Input> Reader<T> {
         text: &mut String,
     ) -> Result<(), Stop>
         requires { IsTrue (spec.is_escaped_break quote (state self.old).rest) }
-        ensures same { ReadsOn result (spec.with_front (string_bytes text.old) (spec.inside_at quote indent start spec.no_gap (state self.old))) (spec.with_front (string_bytes text.new) (spec.inside_at quote indent start spec.no_gap (state self.new))) }
+        ensures same { ReadsOn result (spec.with_front (string_bytes text.old)
+            (spec.inside_at quote indent start spec.no_gap (state self.old)))
+            (spec.with_front (string_bytes text.new)
+            (spec.inside_at quote indent start spec.no_gap (state self.new))) }
         ensures shorter { OnOk result (length (state self.new).rest < length (state self.old).rest) }
     {
         self.skip_non_blank();
@@ -243,7 +314,10 @@ impl<T: Input> Reader<T> {
     ) -> Result<(), Stop>
         requires ended { IsTrue (spec.ends_word quote (state self.old).rest) }
         requires open { (slice_index (state self.old).rest 0 == flow.mark quote) ≡ false }
-        ensures same { ReadsOn result (spec.with_front (string_bytes text.old) (spec.inside_at quote indent start spec.no_gap (state self.old))) (spec.with_front (string_bytes text.new) (spec.inside_at quote indent start spec.no_gap (state self.new))) }
+        ensures same { ReadsOn result (spec.with_front (string_bytes text.old)
+            (spec.inside_at quote indent start spec.no_gap (state self.old)))
+            (spec.with_front (string_bytes text.new)
+            (spec.inside_at quote indent start spec.no_gap (state self.new))) }
         ensures shorter { OnOk result (length (state self.new).rest < length (state self.old).rest) }
     {
         if self.look() == '\\' {
@@ -269,7 +343,8 @@ impl<T: Input> Reader<T> {
     // Takes off a quoted scalar, from its opening quote to its closing one, and gives its text.
     fn read_quoted(&mut self, alloc: Global, quote: Quote, indent: usize) -> Result<String, Stop>
         requires { slice_index (state self.old).rest 0 ≡ flow.mark quote }
-        ensures { Moves (λ text. (string_bytes text, state self.new)) result (spec.quoted quote indent (state self.old)) }
+        ensures { Moves (λ text. (string_bytes text, state self.new)) result
+            (spec.quoted quote indent (state self.old)) }
     {
         let start = self.mark;
         self.skip_non_blank();
@@ -297,7 +372,8 @@ impl<T: Input> Reader<T> {
     /// stands.
     pub fn read_double_quoted(&mut self, alloc: Global, indent: usize) -> Result<String, Stop>
         requires { slice_index (state self.old).rest 0 ≡ 34 }
-        ensures { Moves (λ text. (string_bytes text, state self.new)) result (spec.double_quoted indent (state self.old)) }
+        ensures { Moves (λ text. (string_bytes text, state self.new)) result
+            (spec.double_quoted indent (state self.old)) }
     {
         self.read_quoted(alloc, Quote::Double, indent)
     }
@@ -308,7 +384,8 @@ impl<T: Input> Reader<T> {
     /// It is refused as a double quoted one is, but for the faults in escapes.
     pub fn read_single_quoted(&mut self, alloc: Global, indent: usize) -> Result<String, Stop>
         requires { slice_index (state self.old).rest 0 ≡ 39 }
-        ensures { Moves (λ text. (string_bytes text, state self.new)) result (spec.single_quoted indent (state self.old)) }
+        ensures { Moves (λ text. (string_bytes text, state self.new)) result
+            (spec.single_quoted indent (state self.old)) }
     {
         self.read_quoted(alloc, Quote::Single, indent)
     }

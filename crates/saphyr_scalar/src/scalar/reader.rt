@@ -126,6 +126,16 @@ impl<T: Input> Reader<T> {
         self.mark = self.mark.along(1);
     }
 
+    // Takes off spaces, but no more than `most`.
+    #[inline(always)]
+    #[tactic(auto, using(crate::proofs::SpaceRuns::spaces_fit))]
+    pub(crate) fn skip_spaces(&mut self, most: usize)
+        ensures { state self.new ≡ spec.pass_spaces most (state self.old) }
+    {
+        let count = self.input.skip_spaces(most);
+        self.mark = self.mark.along(count);
+    }
+
     /// Takes off the break that stands first, if one does: CR LF, CR or LF.
     #[inline]
     pub fn skip_line_break(&mut self)
@@ -179,7 +189,8 @@ impl<T: Input> Reader<T> {
     #[tactic(auto, using(crate::proofs::Lengths::separation_within), unfolding(crate::specs::Cursor::separation, crate::specs::Cursor::behind_separation))]
     pub fn skip_ws_to_eol(&mut self, skip_tabs: SkipTabs) -> Result<SkipTabs, Refusal>
         requires { separation.IsRequest skip_tabs }
-        ensures { Gives (λ found. (found, state self.new)) result (spec.separation skip_tabs (state self.old)) }
+        ensures { Gives (λ found. (found, state self.new)) result
+            (spec.separation skip_tabs (state self.old)) }
     {
         let (count, found) = self.input.skip_ws_to_eol(skip_tabs);
         self.mark = self.mark.along(count);

@@ -19,10 +19,18 @@ ghost use Rattle.saphyr_scalar.specs.Tag.{tag};
 /// What is refused has a place: where its reader began, or one on the way from there.
 pub fn refuses_inside()
     ensures anchor { (s : Cursor) (e : Refusal) → anchor s ≡ Err e → e.mark ≡ s.mark }
-    ensures tag { (in_flow : Bool) (s : Cursor) (e : Refusal) → tag in_flow s ≡ Err e → e.mark ≡ s.mark }
-    ensures separation { (tabs : SkipTabs) (s : Cursor) (e : Refusal) → separation tabs s ≡ Err e → IsRefusedInside s e }
-    ensures directive { (s : Cursor) (e : Refusal) → slice_index s.rest 0 ≡ 37 → directive s ≡ Err e → IsRefusedInside s e }
-    ensures quoted { (quote : Quote) (indent : ℕ) (s : Cursor) (e : Refusal) → slice_index s.rest 0 ≡ flow.mark quote → quoted quote indent s ≡ Err e → IsRefusedInside s e }
-    ensures plain { (in_flow : Bool) (indent : ℕ) (s : Cursor) (e : Refusal) → plain in_flow indent s ≡ Err e → IsRefusedInside s e }
-    ensures block_scalar { (style : BlockStyle) (indent : ℕ) (s : Cursor) (e : Refusal) → is_break (slice_index s.rest 0) ≡ false → 0 < length s.rest → block_scalar style indent s ≡ Err e → IsRefusedInside s e }
+    ensures tag { (in_flow : Bool) (s : Cursor) (e : Refusal) → tag in_flow s ≡ Err e
+        → e.mark ≡ s.mark }
+    ensures separation { (tabs : SkipTabs) (s : Cursor) (e : Refusal) → separation tabs s ≡ Err e
+        → IsRefusedInside s e }
+    ensures directive { (s : Cursor) (e : Refusal) → slice_index s.rest 0 ≡ 37 → directive s ≡ Err e
+        → IsRefusedInside s e }
+    ensures quoted { (quote : Quote) (indent : ℕ) (s : Cursor) (e : Refusal)
+        → slice_index s.rest 0 ≡ flow.mark quote → quoted quote indent s ≡ Err e
+        → IsRefusedInside s e }
+    ensures plain { (in_flow : Bool) (indent : ℕ) (s : Cursor) (e : Refusal)
+        → plain in_flow indent s ≡ Err e → IsRefusedInside s e }
+    ensures block_scalar { (style : BlockStyle) (indent : ℕ) (s : Cursor) (e : Refusal)
+        → is_break (slice_index s.rest 0) ≡ false → 0 < length s.rest
+        → block_scalar style indent s ≡ Err e → IsRefusedInside s e }
 {}

@@ -1,13 +1,16 @@
 //! Tags, taken off a text, with their percent escapes decoded (YAML 1.2.2, 6.9.1 and 5.6).
 
-ghost use Rattle.std.specs.Prelude.{◌≡◌, ℕ, ◌+◌, ◌*◌, ◌<◌, ◌≤◌, ◌^◌, List, [], length, slice_index, string_bytes, Ok, IfOk};
+ghost use Rattle.std.specs.Prelude.{◌≡◌, ℕ, ◌+◌, ◌*◌, ◌<◌, ◌≤◌, ◌^◌, List, [], length, slice_index, string_bytes, Ok, IfOk, refl};
 ghost use Rattle.saphyr_input.specs.Classes as class;
+ghost use Rattle.saphyr_input.specs.Places.{TransfersRun};
 ghost use Rattle.saphyr_scalar.specs.Quoted as run;
+ghost use Rattle.saphyr_scalar.specs.Sets as sets;
 ghost use Rattle.saphyr_scalar.specs.Tag as spec;
 
 use crate::scalar::fault::{FaultText, Refusal, Stop};
 use crate::scalar::position::Marker;
 use crate::scalar::reader::Reader;
+use saphyr_input::char_set::CharSet;
 use saphyr_input::char_traits::{
     as_hex, is_blank_or_breakz, is_flow, is_hex, is_tag_char, is_uri_char,
 };
@@ -41,6 +44,40 @@ impl UriSet {
             UriSet::Uri => is_uri_char(c),
             UriSet::Suffix => is_tag_char(c),
         }
+    }
+}
+
+// The characters of a uri but for `%`, which begins an escape.
+pub(crate) struct PlainUri;
+
+impl CharSet for PlainUri {
+    ghost test = { sets.is_bare_in_uri };
+
+    ghost without_nul = { refl };
+
+    fn has(c: char) -> bool {
+        c != '%' && is_uri_char(c)
+    }
+
+    fn has_ascii(byte: u8) -> bool {
+        matches!(byte, b'a'..=b'z') || byte < 0x80 && byte != b'%' && is_uri_char(byte as char)
+    }
+}
+
+// The characters of a tag's suffix but for `%`.
+pub(crate) struct PlainSuffix;
+
+impl CharSet for PlainSuffix {
+    ghost test = { sets.is_bare_in_suffix };
+
+    ghost without_nul = { refl };
+
+    fn has(c: char) -> bool {
+        c != '%' && is_tag_char(c)
+    }
+
+    fn has_ascii(byte: u8) -> bool {
+        matches!(byte, b'a'..=b'z') || byte < 0x80 && byte != b'%' && is_tag_char(byte as char)
     }
 }
 
@@ -87,7 +124,8 @@ impl<T: Input> Reader<T> {
     // Takes off the escape of one byte.
     #[tactic(auto, unfolding(crate::specs::Tag::escaped_byte))]
     fn read_escaped_byte(&mut self, start: Marker) -> Result<u32, Refusal>
-        ensures value { Gives (λ byte. (byte, state self.new)) result (spec.escaped_byte start (state self.old)) }
+        ensures value { Gives (λ byte. (byte, state self.new)) result
+            (spec.escaped_byte start (state self.old)) }
         ensures small { IfOk result (λ byte. byte < 256) }
     {
         self.load(3);
@@ -108,7 +146,8 @@ impl<T: Input> Reader<T> {
     #[tactic(auto, unfolding(crate::specs::Tag::trailing_byte))]
     fn read_trailing_byte(&mut self, value: u32, start: Marker) -> Result<u32, Refusal>
         requires { value < 2 ^ 24 }
-        ensures value { Gives (λ grown. (grown, state self.new)) result (spec.trailing_byte start value (state self.old)) }
+        ensures value { Gives (λ grown. (grown, state self.new)) result
+            (spec.trailing_byte start value (state self.old)) }
         ensures small { IfOk result (λ grown. grown < 64 * value + 64) }
     {
         let byte = self.read_escaped_byte(start)?;
@@ -131,7 +170,8 @@ impl<T: Input> Reader<T> {
     ) -> Result<u32, Refusal>
         requires few { count ≤ 3 }
         requires small { bits < 256 }
-        ensures { Gives (λ value. (value, state self.new)) result (spec.trailing_bytes start count bits (state self.old)) }
+        ensures { Gives (λ value. (value, state self.new)) result
+            (spec.trailing_bytes start count bits (state self.old)) }
     {
         let mut value = bits;
         for _ in 0..count {
@@ -167,7 +207,8 @@ impl<T: Input> Reader<T> {
     #[tactic(auto, unfolding(crate::specs::Tag::uri_character))]
     pub(crate) fn read_uri_character(&mut self, start: Marker) -> Result<char, Refusal>
         requires { 0 < length (state self.old).rest }
-        ensures { Gives (λ c. (c, state self.new)) result (spec.uri_character start (state self.old)) }
+        ensures { Gives (λ c. (c, state self.new)) result
+            (spec.uri_character start (state self.old)) }
     {
         let c = self.look();
         if c == '%' {
@@ -177,6 +218,19 @@ impl<T: Input> Reader<T> {
         Ok(c)
     }
 
+    // Moves characters of a set that begin no escape to the end of a text, and gives how many. The
+    // place stays.
+    fn fetch_bare_characters(&mut self, set: UriSet, text: &mut String) -> Result<usize, AllocError>
+        ensures run { IfOk result (λ n. TransfersRun (sets.is_bare set) n (state self.old).rest
+            (state self.new).rest (string_bytes text.old) (string_bytes text.new)) }
+        ensures mark { (state self.new).mark ≡ (state self.old).mark }
+    {
+        match set {
+            UriSet::Uri => self.input.fetch_while::<PlainUri>(text),
+            UriSet::Suffix => self.input.fetch_while::<PlainSuffix>(text),
+        }
+    }
+
     // Moves characters of a set, with their escapes resolved, to the end of a text.
     pub(crate) fn read_uri_characters(
         &mut self,
@@ -184,10 +238,16 @@ impl<T: Input> Reader<T> {
         start: Marker,
         text: &mut String,
     ) -> Result<(), Stop>
-        ensures { Moves (λ _. (string_bytes text.new, state self.new)) result (run.with_front (string_bytes text.old) (spec.decoded_at set start (state self.old))) }
+        ensures { Moves (λ _. (string_bytes text.new, state self.new)) result
+            (run.with_front (string_bytes text.old) (spec.decoded_at set start (state self.old))) }
     {
-        while set.has(self.look()) {
-            let c = self.read_uri_character(start)?;
+        loop {
+            let count = self.fetch_bare_characters(set, text)?;
+            self.mark = self.mark.along(count);
+            if self.look() != '%' {
+                break;
+            }
+            let c = self.read_percent_escape(start)?;
             text.push(c)?;
         }
         self.blank_so_far = false;
@@ -197,7 +257,8 @@ impl<T: Input> Reader<T> {
     // Moves the characters of a handle's word to the end of a text.
     #[tactic(auto, using(crate::proofs::Lengths::run_within))]
     pub(crate) fn read_tag_word(&mut self, text: &mut String) -> Result<(), Stop>
-        ensures { Moves (λ _. (string_bytes text.new, state self.new)) result (Ok (run.with_run class.is_alpha (string_bytes text.old) (state self.old))) }
+        ensures { Moves (λ _. (string_bytes text.new, state self.new)) result
+            (Ok (run.with_run class.is_alpha (string_bytes text.old) (state self.old))) }
     {
         let count = self.input.fetch_while_is_alpha(text)?;
         self.mark = self.mark.along(count);
@@ -209,7 +270,8 @@ impl<T: Input> Reader<T> {
     #[tactic(auto, unfolding(crate::specs::Tag::verbatim, crate::specs::Tag::verbatim_end))]
     fn read_verbatim_tag(&mut self, alloc: Global) -> Result<TagParts, Stop>
         requires { 2 ≤ length (state self.old).rest }
-        ensures { Moves (λ tag. (string_bytes tag.handle, string_bytes tag.suffix, state self.new)) result (spec.verbatim (state self.old)) }
+        ensures { Moves (λ tag. (string_bytes tag.handle, string_bytes tag.suffix, state self.new))
+            result (spec.verbatim (state self.old)) }
     {
         let start = self.mark;
         self.skip_n_non_blank(2);
@@ -236,7 +298,8 @@ impl<T: Input> Reader<T> {
         word: &str,
         start: Marker,
     ) -> Result<TagParts, Stop>
-        ensures { Moves (λ tag. (string_bytes tag.handle, string_bytes tag.suffix, state self.new)) result (spec.named_tail start word.now (state self.old)) }
+        ensures { Moves (λ tag. (string_bytes tag.handle, string_bytes tag.suffix, state self.new))
+            result (spec.named_tail start word.now (state self.old)) }
     {
         let mut suffix = String::new(alloc);
         self.read_uri_characters(UriSet::Suffix, start, &mut suffix)?;
@@ -254,7 +317,8 @@ impl<T: Input> Reader<T> {
     #[tactic(auto, unfolding(crate::specs::Tag::shorthand, crate::specs::Tag::behind_word, crate::specs::Tag::primary_tag))]
     fn read_shorthand_tag(&mut self, alloc: Global) -> Result<TagParts, Stop>
         requires { 0 < length (state self.old).rest }
-        ensures { Moves (λ tag. (string_bytes tag.handle, string_bytes tag.suffix, state self.new)) result (spec.shorthand (state self.old)) }
+        ensures { Moves (λ tag. (string_bytes tag.handle, string_bytes tag.suffix, state self.new))
+            result (spec.shorthand (state self.old)) }
     {
         let start = self.mark;
         self.skip_non_blank();
@@ -287,7 +351,8 @@ impl<T: Input> Reader<T> {
     #[tactic(auto, unfolding(crate::specs::Tag::tag, crate::specs::Tag::tag_end))]
     pub fn read_tag(&mut self, alloc: Global, in_flow: bool) -> Result<TagParts, Stop>
         requires { slice_index (state self.old).rest 0 ≡ 33 }
-        ensures { Moves (λ tag. (string_bytes tag.handle, string_bytes tag.suffix, state self.new)) result (spec.tag in_flow (state self.old)) }
+        ensures { Moves (λ tag. (string_bytes tag.handle, string_bytes tag.suffix, state self.new))
+            result (spec.tag in_flow (state self.old)) }
     {
         let start = self.mark;
         self.load(2);

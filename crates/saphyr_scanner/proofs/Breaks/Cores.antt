@@ -7,14 +7,15 @@ use Rattle.saphyr_input.specs.declared.input.SkipTabs.TheVariants as tabs
 use Rattle.saphyr_scalar.specs.declared.scalar.position.Marker.{Marker}
 use Rattle.saphyr_scalar.specs.declared.scalar.fault.Refusal.{Refusal}
 use Rattle.saphyr_scalar.specs.Cursor.{Cursor, ◌>>=◌, fresh, pass, separation}
-use Rattle.saphyr_scanner.specs.Core.{Candidate, Level, Core, in_block, is_too_far, save_key, remove_key, drop_far_key, roll, is_further}
-use Rattle.saphyr_scanner.specs.Passing.{separate, pass_on, with_cursor}
+use Rattle.saphyr_scanner.specs.Steps.Core.{Candidate, Level, Core, in_block, is_too_far, save_key, remove_key, drop_far_key, roll, is_further}
+use Rattle.saphyr_scanner.specs.Steps.Passing.{separate, pass_on, with_cursor}
 use Rattle.saphyr_scalar.specs.Alike.{AreAlike, AreSame, GiveAlike, ReadsAlike}
-use Rattle.saphyr_scalar.proofs.Breaks.Sides.{no_return}
 use Rattle.saphyr_scalar.proofs.Breaks.Results.{both_then}
 use Rattle.saphyr_scanner.proofs.Breaks.Forward.{Forward, Forwards, both_ahead, separation_forward}
 use Rattle.saphyr_scanner.proofs.Breaks.Places.{reindexed, near, Even, even_here, even_even, even_far, Ahead, ahead_ahead, Stand, stand_alike, alike_is, Low}
-use Rattle.saphyr_scanner.proofs.Breaks.Steps.{choose, both_choose, both_so, cursor_at, character_ahead}
+use Rattle.saphyr_scanner.proofs.Breaks.Steps.{choose, both_choose, both_so, character_ahead}
+use Rattle.saphyr_input.proofs.Basics.Characters.{no_return}
+use Rattle.saphyr_scalar.proofs.Given.{cursor_at}
 
 -- ## The other scanner
 

@@ -10,25 +10,25 @@ use Rattle.saphyr_scalar.specs.declared.scalar.position.Marker.{Marker}
 use Rattle.saphyr_scalar.specs.declared.scalar.fault.Refusal.{Refusal}
 use Rattle.saphyr_scalar.specs.Cursor.{Cursor, ◌>>=◌, along, pass, pass_byte_order_mark}
 use Rattle.saphyr_scalar.specs.Directive as directives
-use Rattle.saphyr_scanner.specs.Tokens as tokens
-use Rattle.saphyr_scanner.specs.Tokens.{Kind}
-use Rattle.saphyr_scanner.specs.Core.{Core, Put, in_block, remove_key, act}
-use Rattle.saphyr_scanner.specs.Document as document
-use Rattle.saphyr_scanner.specs.Passing.{separate, with_cursor}
-use Rattle.saphyr_scanner.specs.Queue.{Queue}
-use Rattle.saphyr_scanner.specs.State.{State, carried, separated}
-use Rattle.saphyr_scanner.specs.Unrolling.{unroll}
-use Rattle.saphyr_scanner.proofs.FetchSizes.{is_number}
-use Rattle.saphyr_scanner.proofs.Separated.{both_of}
+use Rattle.saphyr_scanner.specs.Grammar.Tokens as tokens
+use Rattle.saphyr_scanner.specs.Grammar.Tokens.{Kind}
+use Rattle.saphyr_scanner.specs.Steps.Core.{Core, Put, in_block, remove_key, act}
+use Rattle.saphyr_scanner.specs.Steps.Document as document
+use Rattle.saphyr_scanner.specs.Steps.Passing.{separate, with_cursor}
+use Rattle.saphyr_scanner.specs.Steps.Queue.{Queue}
+use Rattle.saphyr_scanner.specs.Steps.State.{State, carried, separated}
+use Rattle.saphyr_scanner.specs.Steps.Unrolling.{unroll}
 use Rattle.saphyr_scalar.specs.Alike.{AreDirectivesAlike, GiveAlike}
 use Rattle.saphyr_scalar.proofs.Breaks.Results.{both_then}
-use Rattle.saphyr_scalar.proofs.Breaks.Sides.{no_return}
 use Rattle.saphyr_scanner.proofs.Breaks.Cores.{Indexes, near_core, Cores, Twin, Laws, Still, Inked, of_cores, remove_still, Separated, separate_alike, still_inked, twin_reads, twin_stands, twin_moves, read_twin, going_to}
 use Rattle.saphyr_scanner.proofs.Breaks.Normal.{first_is, normal_none}
 use Rattle.saphyr_scanner.proofs.Breaks.Places.{reindexed, near, Ahead, ahead_ahead, ahead_stands, Stand, one_less}
 use Rattle.saphyr_scanner.proofs.Breaks.Scalars.{Begins, begins_still, begins_near, no_break_here}
 use Rattle.saphyr_scanner.proofs.Breaks.States.{SameQueues, same_act, States, Ended, SameSteps, holding, unroll_same, acted_same}
-use Rattle.saphyr_scanner.proofs.Breaks.Steps.{both_choose, cursor_at, character_ahead}
+use Rattle.saphyr_scanner.proofs.Breaks.Steps.{both_choose, character_ahead}
+use Rattle.saphyr_input.proofs.Basics.Characters.{no_return}
+use Rattle.saphyr_scalar.proofs.Given.{cursor_at}
+use Rattle.std.proofs.lemmas.Bool.{and_parts, eqb-true}
 
 -- ## The content of a document ends
 
@@ -104,15 +104,15 @@ three_of x k z [] e f g = absurd (cc)
 three_of x k z (a ∷ []) e f g = absurd (cc)
 three_of x k z (a ∷ b ∷ []) e f g = absurd (cc)
 three_of x k z (a ∷ b ∷ c ∷ t) e f g =
-    let none : (y : ℕ) → (y == x) ≡ true → (y == 13) ≡ false = λ y h. ap (λ n. n == 13) (is_number y x h) ∙ k in
+    let none : (y : ℕ) → (y == x) ≡ true → (y == 13) ≡ false = λ y h. ap (λ n. n == 13) (eqb-true y x h) ∙ k in
     (none a e, none b f, none c g)
 
 marked : (x : ℕ) → (x == 13) ≡ false → (0 == x) ≡ false → (t : List ℕ) (b : Bool)
     → ((slice_index t 0 == x) && (slice_index t 1 == x) && (slice_index t 2 == x) && b) ≡ true → Three t
 marked x k z t b e =
-    let p = both_of ((slice_index t 0 == x) && (slice_index t 1 == x) && (slice_index t 2 == x)) b e in
-    let q = both_of ((slice_index t 0 == x) && (slice_index t 1 == x)) (slice_index t 2 == x) p.0 in
-    let r = both_of (slice_index t 0 == x) (slice_index t 1 == x) q.0 in
+    let p = and_parts ((slice_index t 0 == x) && (slice_index t 1 == x) && (slice_index t 2 == x)) b e in
+    let q = and_parts ((slice_index t 0 == x) && (slice_index t 1 == x)) (slice_index t 2 == x) p.0 in
+    let r = and_parts (slice_index t 0 == x) (slice_index t 1 == x) q.0 in
     three_of x k z t r.0 r.1 q.1
 
 three_near : (i : ℕ) (t : List ℕ) (m : Marker) (b : Bool) → Three t

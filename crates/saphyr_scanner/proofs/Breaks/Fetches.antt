@@ -9,18 +9,15 @@ use Rattle.saphyr_scalar.specs.declared.reading.block.BlockStyle.TheVariants as 
 use Rattle.saphyr_scalar.specs.declared.scalar.fault.Refusal.{Refusal}
 use Rattle.saphyr_scalar.specs.Cursor.{Cursor, ◌>>=◌}
 use Rattle.saphyr_scanner.specs.declared.engine.level.Context.TheVariants as context
-use Rattle.saphyr_scanner.specs.Tokens as tokens
-use Rattle.saphyr_scanner.specs.Core.{Core, in_block, least_column, drop_far_key, at_mark}
-use Rattle.saphyr_scanner.specs.Fetch.{step, is_value_adjacent, content, fetch_here, arrive, fetch, within, fetch_within, settled}
-use Rattle.saphyr_scanner.specs.Passing.{pass_gap}
-use Rattle.saphyr_scanner.specs.Queue.{Queue, next}
-use Rattle.saphyr_scanner.specs.State.{State, carried, acted}
-use Rattle.saphyr_scanner.specs.Unrolling.{unroll}
-use Rattle.saphyr_scanner.proofs.FetchSizes.{is_number}
-use Rattle.saphyr_scanner.proofs.Separated.{both_of}
+use Rattle.saphyr_scanner.specs.Grammar.Tokens as tokens
+use Rattle.saphyr_scanner.specs.Steps.Core.{Core, in_block, least_column, drop_far_key, at_mark}
+use Rattle.saphyr_scanner.specs.Steps.Fetch.{step, is_value_adjacent, content, fetch_here, arrive, fetch, within, fetch_within, settled}
+use Rattle.saphyr_scanner.specs.Steps.Passing.{pass_gap}
+use Rattle.saphyr_scanner.specs.Steps.Queue.{Queue, next}
+use Rattle.saphyr_scanner.specs.Steps.State.{State, carried, acted}
+use Rattle.saphyr_scanner.specs.Steps.Unrolling.{unroll}
 use Rattle.saphyr_scalar.specs.Alike.{GiveAlike}
 use Rattle.saphyr_scalar.proofs.Breaks.Results.{both_then}
-use Rattle.saphyr_scalar.proofs.Breaks.Sides.{no_return}
 use Rattle.saphyr_scanner.proofs.Steps.Choice.{both_cases}
 use Rattle.saphyr_scanner.proofs.Breaks.Cores.{Indexes, near_core, Twin, Laws, Inked, of_cores, drop_twin}
 use Rattle.saphyr_scanner.proofs.Breaks.Documents.{stream_same, start_marker_same, end_marker_same, byte_order_mark_same, directive_same}
@@ -30,6 +27,8 @@ use Rattle.saphyr_scanner.proofs.Breaks.Passing.{Rested, gap_rests, dropped_rest
 use Rattle.saphyr_scanner.proofs.Breaks.Scalars.{double_same, single_same, plain_same, block_same, name_same, tag_same}
 use Rattle.saphyr_scanner.proofs.Breaks.States.{SameQueues, same_act, same_next, States, SameSteps, holding, unroll_same, acted_same, carried_same}
 use Rattle.saphyr_scanner.proofs.Breaks.Steps.{both_choose}
+use Rattle.saphyr_input.proofs.Basics.Characters.{no_return}
+use Rattle.std.proofs.lemmas.Bool.{and_parts, le-leb, eqb-true}
 
 -- ## What begins at a place
 
@@ -106,11 +105,11 @@ here_same text c x q r laws t e k =
     (λ _. byte_order_mark_same text c x q r t e ink)
     (λ _. both_choose R (at_start && (slice_index s 0 == 37)) (at_start && (slice_index n 0 == 37)) _ _ _ _
     (first_is (λ y. at_start && (y == 37)) refl s)
-    (λ h. directive_same text c x q r laws t e (is_number (slice_index s 0) 37 (both_of at_start _ h).1))
+    (λ h. directive_same text c x q r laws t e (eqb-true (slice_index s 0) 37 (and_parts at_start _ h).1))
     (λ _. both_choose R (at_start && is_document_start s) (at_start && is_document_start n) _ _ _ _
-    (ap (λ b. at_start && b) (start_so s)) (λ h. start_marker_same text c x q r t e (both_of at_start _ h).1)
+    (ap (λ b. at_start && b) (start_so s)) (λ h. start_marker_same text c x q r t e (and_parts at_start _ h).1)
     (λ _. both_choose R (at_start && is_document_end s) (at_start && is_document_end n) _ _ _ _
-    (ap (λ b. at_start && b) (end_so s)) (λ h. end_marker_same text c x q r laws t e (both_of at_start _ h).1)
+    (ap (λ b. at_start && b) (end_so s)) (λ h. end_marker_same text c x q r laws t e (and_parts at_start _ h).1)
     (λ _. both_choose R (nat_lt c.cursor.mark.col (least_column c))
     (nat_lt c.cursor.mark.col (least_column c)) _ _ _ _ refl (λ _. refl)
     (λ _. content_same text c x q r laws t e ink k))))))
@@ -161,17 +160,14 @@ fetch_same text c x q r laws t e =
           (at_mark (near_core x c).cursor.mark tokens.StreamStart) q r refl e,
     ))
 
-at_most : (n limit : ℕ) → n ≤ limit → nat_le n limit ≡ true
-at_most n limit h = grind (arith, nat_tests, h)
-
 within_same : (text : List ℕ) (limit : ℕ) (c : Core) (x : Indexes) (q r : Queue) → length text ≤ limit
     → Twin text c x → SameQueues q r
     → GiveAlike (States text) (within limit (holding c q)) (within limit (holding (near_core x c) r))
 within_same text limit c x q r short t e =
-    let a : nat_le c.cursor.mark.index limit ≡ true = at_most c.cursor.mark.index limit
+    let a : nat_le c.cursor.mark.index limit ≡ true = le-leb c.cursor.mark.index limit
     (omega (arith, t.ahead.counted, short)) in
     let l = normal_shorter text in
-    let b : nat_le x.at limit ≡ true = at_most x.at limit (omega (arith, t.ahead.counted_too, l, short)) in
+    let b : nat_le x.at limit ≡ true = le-leb x.at limit (omega (arith, t.ahead.counted_too, l, short)) in
     both_choose (States text) (nat_le c.cursor.mark.index limit) (nat_le x.at limit) _ _ _ _ (b ∙ sym a)
     (λ _. ((x, refl, t), e)) (λ _. refl)
 

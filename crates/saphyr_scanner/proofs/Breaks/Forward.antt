@@ -26,13 +26,13 @@ use Rattle.saphyr_scalar.specs.Quoted as quoted
 use Rattle.saphyr_scalar.specs.Quoted.{at, break_len}
 use Rattle.saphyr_scalar.specs.Tag as tags
 use Rattle.saphyr_scanner.specs.TokensTaken.{block_indicator}
-use Rattle.saphyr_scanner.proofs.FetchSizes.{is_number}
-use Rattle.saphyr_scanner.proofs.Later.{top, Later, LaterThan, later_later, along_later, apart_later, passed_later, piece_later, plain_later}
+use Rattle.saphyr_scanner.proofs.Taken.Later.{top, Later, LaterThan, later_later, along_later, apart_later, passed_later, piece_later, plain_later}
 use Rattle.saphyr_scanner.proofs.LineTails.{OnLine, separation_passes}
-use Rattle.saphyr_scanner.proofs.Separated.{both_of}
-use Rattle.saphyr_scanner.proofs.Sizes.{by_test, given_of}
 use Rattle.saphyr_scalar.specs.Alike.{AreAlike}
 use Rattle.saphyr_scanner.proofs.Breaks.Places.{near, Ahead, Low}
+use Rattle.saphyr_input.proofs.Basics.Booleans.{by_test}
+use Rattle.saphyr_scalar.proofs.Given.{given_of}
+use Rattle.std.proofs.lemmas.Bool.{and_parts, eqb-true}
 
 -- on one line the index grows as the column does
 abbrev pub OnOneLine : Marker → Marker → Type 0
@@ -102,7 +102,7 @@ forward_plain s t text end r = record {
 }
 
 return_breaks : (t : List ℕ) → next_2_are t 13 10 ≡ true → is_break (slice_index t 0) ≡ true
-return_breaks t e = ap is_break (is_number (slice_index t 0) 13 (both_of (slice_index t 0 == 13) _ e).0)
+return_breaks t e = ap is_break (eqb-true (slice_index t 0) 13 (and_parts (slice_index t 0 == 13) _ e).0)
 
 break_passed : (s : Cursor) → IsPassed s.mark s.rest (pass_break s).mark (pass_break s).rest
 break_passed s =

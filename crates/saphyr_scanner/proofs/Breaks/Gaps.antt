@@ -6,12 +6,14 @@ use Rattle.saphyr_input.specs.Classes.{is_blank, is_bom, is_break, is_yaml_non_b
 use Rattle.saphyr_scalar.specs.declared.scalar.position.Marker.{Marker}
 use Rattle.saphyr_scalar.specs.declared.scalar.fault.Refusal.{Refusal}
 use Rattle.saphyr_scalar.specs.Cursor.{Cursor, along, next_line}
-use Rattle.saphyr_scalar.proofs.Breaks.Sides.{Normal, normalized_is, no_return, nothing, character, feed, return, pair}
-use Rattle.saphyr_scanner.specs.Gap.{Passed, Spaced, stop, gap, comment, spaces, line_comment, is_tab_indentation}
+use Rattle.saphyr_scalar.proofs.Breaks.Sides.{Normal, normalized_is, nothing, character, feed, return, pair}
+use Rattle.saphyr_scanner.specs.Steps.Gap.{Passed, Spaced, stop, gap, comment, spaces, line_comment, is_tab_indentation}
 use Rattle.saphyr_scalar.specs.Alike.{GiveAlike}
 use Rattle.saphyr_scanner.proofs.Breaks.Normal.{beside}
 use Rattle.saphyr_scanner.proofs.Breaks.Places.{reindexed, near, Ahead, Stand, Low, ahead_ahead, ahead_stands, stand_here}
-use Rattle.saphyr_scanner.proofs.Breaks.Steps.{choose, both_choose, both_so, cursor_at, line_from, character_ahead, two_ahead, single_ahead}
+use Rattle.saphyr_scanner.proofs.Breaks.Steps.{choose, both_choose, both_so, line_from, character_ahead, two_ahead, single_ahead}
+use Rattle.saphyr_input.proofs.Basics.Characters.{no_return}
+use Rattle.saphyr_scalar.proofs.Given.{cursor_at}
 
 -- from s on the same is passed in both texts, up to no break
 abbrev pub Passes : List ℕ → Cursor → ℕ → Passed → Passed → Type 0

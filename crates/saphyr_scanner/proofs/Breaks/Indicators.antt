@@ -8,16 +8,15 @@ use Rattle.saphyr_input.specs.Separation.{found_tabs, has_valid_yaml_ws}
 use Rattle.saphyr_scalar.specs.declared.scalar.position.Marker.{Marker}
 use Rattle.saphyr_scalar.specs.Cursor.{Cursor, ◌>>=◌, pass}
 use Rattle.saphyr_scanner.specs.declared.engine.level.Context.{Context}
-use Rattle.saphyr_scanner.specs.Tokens as tokens
-use Rattle.saphyr_scanner.specs.Tokens.{Kind}
-use Rattle.saphyr_scanner.specs.Block as block
-use Rattle.saphyr_scanner.specs.Core.{Candidate, Level, Core, Put, in_block, save_key, remove_key, go_deeper, roll, is_further, forget_key, with_context}
-use Rattle.saphyr_scanner.specs.Fetch.{flow_value}
-use Rattle.saphyr_scanner.specs.Flow as flow
-use Rattle.saphyr_scanner.specs.Gap as gaps
-use Rattle.saphyr_scanner.specs.Passing.{pass_on, with_cursor}
-use Rattle.saphyr_scanner.specs.Value as value
-use Rattle.saphyr_scanner.proofs.FetchSizes.{is_number}
+use Rattle.saphyr_scanner.specs.Grammar.Tokens as tokens
+use Rattle.saphyr_scanner.specs.Grammar.Tokens.{Kind}
+use Rattle.saphyr_scanner.specs.Steps.Block as block
+use Rattle.saphyr_scanner.specs.Steps.Core.{Candidate, Level, Core, Put, in_block, save_key, remove_key, go_deeper, roll, is_further, forget_key, with_context}
+use Rattle.saphyr_scanner.specs.Steps.Fetch.{flow_value}
+use Rattle.saphyr_scanner.specs.Steps.Flow as flow
+use Rattle.saphyr_scanner.specs.Steps.Gap as gaps
+use Rattle.saphyr_scanner.specs.Steps.Passing.{pass_on, with_cursor}
+use Rattle.saphyr_scanner.specs.Steps.Value as value
 use Rattle.saphyr_scalar.specs.Alike.{GiveAlike}
 use Rattle.saphyr_scanner.proofs.Breaks.Cores.{Indexes, near_core, near_key, near_levels, first, others, LevelsEven, Cores, Twin, Laws, Still, Inked, of_cores, of_still, core_then, still_then, same_length, save_still, remove_still, roll_still, forgotten, separate_then, pass_then, still_pass_then, still_inked, pass_twin, pass_near, pass_ahead, twin_low, twin_stands, twin_moves, going_to, adjacent_here}
 use Rattle.saphyr_scanner.proofs.Breaks.Gaps.{spaces_alike}
@@ -25,6 +24,7 @@ use Rattle.saphyr_scanner.proofs.Breaks.Normal.{first_is, second_is}
 use Rattle.saphyr_scanner.proofs.Breaks.Places.{reindexed, near, even_index, ahead_ahead, ahead_stands, low_ahead}
 use Rattle.saphyr_scanner.proofs.Breaks.States.{SameActions, SameSteps}
 use Rattle.saphyr_scanner.proofs.Breaks.Steps.{choose, both_choose, both_so}
+use Rattle.std.proofs.lemmas.Bool.{eqb-true}
 
 -- ## Flow collections
 
@@ -202,7 +202,7 @@ dash_next c x = by c.cursor.rest (slice_index c.cursor.rest 0 == 45) refl
     by t true e =
         ap (λ b. b && is_blank_or_breakz (slice_index (normalized t) 1)) (first_is (λ y. y == 45) refl t)
         ∙ ap (λ b. (slice_index t 0 == 45) && b)
-        (second_is is_blank_or_breakz refl t (ap is_break (is_number (slice_index t 0) 45 e)))
+        (second_is is_blank_or_breakz refl t (ap is_break (eqb-true (slice_index t 0) 45 e)))
     by t false e =
         let f : (slice_index (normalized t) 0 == 45) ≡ false = first_is (λ y. y == 45) refl t ∙ e in rw (e, f) refl
 

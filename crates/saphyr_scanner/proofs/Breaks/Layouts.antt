@@ -4,11 +4,12 @@ use Rattle.std.specs.Prelude.{◌==◌, not, option_map}
 use Rattle.saphyr_input.specs.Classes.{carriage_return}
 use Rattle.saphyr_scalar.specs.TagSpelling.{AreIn}
 use Rattle.saphyr_scalar.specs.declared.scalar.fault.Refusal.{Refusal}
-use Rattle.saphyr_scalar.proofs.Breaks.Sides.{Normal, no_return, nothing, character, feed, return, pair}
-use Rattle.saphyr_scanner.specs.Remaining.{Scans}
+use Rattle.saphyr_scalar.proofs.Breaks.Sides.{Normal, nothing, character, feed, return, pair}
+use Rattle.saphyr_scanner.specs.Steps.Remaining.{Scans}
 use Rattle.saphyr_scanner.specs.SameKinds.{HaveSameKinds}
-use Rattle.saphyr_scanner.specs.Seen.{Remaining}
-use Rattle.saphyr_scanner.specs.Tokens.{Kind}
+use Rattle.saphyr_scanner.specs.Views.Tokens.{Remaining}
+use Rattle.saphyr_scanner.specs.Grammar.Tokens.{Kind}
+use Rattle.saphyr_input.proofs.Basics.Characters.{no_return}
 
 abbrev HasNoReturn : List ℕ → Type 0
 HasNoReturn t = AreIn (λ c. not (c == carriage_return)) t

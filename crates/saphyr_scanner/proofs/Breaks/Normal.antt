@@ -7,7 +7,7 @@ use Rattle.saphyr_input.specs.Classes.{is_blank_or_breakz, is_break, is_flow, by
 use Rattle.saphyr_input.specs.Places.{is_document_start, is_document_end, is_document_indicator, can_be_plain}
 use Rattle.saphyr_scalar.proofs.Breaks.Sides.{Normal, normal, first_in, second_in, nothing, character, feed, return, pair}
 use Rattle.saphyr_scalar.proofs.Breaks.Separations.{marker_alike, indicator_alike}
-use Rattle.saphyr_scanner.proofs.FetchSizes.{is_number}
+use Rattle.std.proofs.lemmas.Bool.{eqb-true}
 
 pub beside : (t : List ℕ) → Normal t (normalized t)
 beside t = normal t (normalized t) refl
@@ -60,7 +60,7 @@ pub plain_so : (in_flow : Bool) (t : List ℕ) → can_be_plain in_flow (normali
 plain_so f t =
     let n = normalized t in
     let inside : (slice_index t 0 == 58) ≡ true → is_break (slice_index t 0) ≡ false = λ e. ap is_break
-    (is_number (slice_index t 0) 58 e) in
+    (eqb-true (slice_index t 0) 58 e) in
     let p : ℕ → Bool = λ c. not (is_blank_or_breakz c || (f && is_flow c)) in
     let q : ℕ → Bool = λ c. not ((c == byte_order_mark) || (f && is_flow c)) in
     ap (λ d. cond d (p (slice_index n 1)) (q (slice_index n 0))) (first_is (λ c. c == 58) refl t)

@@ -6,9 +6,9 @@ use Rattle.saphyr_input.specs.Classes.{is_break, is_z}
 use Rattle.saphyr_input.specs.Places.{can_be_plain, is_document_indicator}
 use Rattle.saphyr_scalar.specs.declared.scalar.position.Marker.{Marker}
 use Rattle.saphyr_scalar.specs.Cursor.{Cursor}
-use Rattle.saphyr_scanner.specs.Gap as gaps
-use Rattle.saphyr_scanner.specs.Core.{Core, in_block, least_column, drop_far_key}
-use Rattle.saphyr_scanner.specs.Passing.{pass_gap, check_comment, goes_on_behind, behind_gap, intercepts}
+use Rattle.saphyr_scanner.specs.Steps.Gap as gaps
+use Rattle.saphyr_scanner.specs.Steps.Core.{Core, in_block, least_column, drop_far_key}
+use Rattle.saphyr_scanner.specs.Steps.Passing.{pass_gap, check_comment, goes_on_behind, behind_gap, intercepts}
 use Rattle.saphyr_scalar.specs.Alike.{GiveAlike}
 use Rattle.saphyr_scalar.proofs.Breaks.Results.{both_then}
 use Rattle.saphyr_scanner.proofs.Breaks.Cores.{Indexes, near_core, near_comment, Cores, Twin, Laws, twin_low, twin_stands, twin_moves, going_to, Still, drop_still}

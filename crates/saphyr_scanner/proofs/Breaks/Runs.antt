@@ -5,17 +5,17 @@ use Rattle.saphyr_input.specs.Breaks.{normalized}
 use Rattle.saphyr_scalar.specs.declared.scalar.fault.Refusal.{Refusal}
 use Rattle.saphyr_scanner.specs.declared.queue.Opening.{Opening}
 use Rattle.saphyr_scanner.specs.declared.queue.Opening.TheVariants as opening
-use Rattle.saphyr_scanner.specs.Tokens as tokens
-use Rattle.saphyr_scanner.specs.Tokens.{Kind}
-use Rattle.saphyr_scanner.specs.Seen.{Piece, Remaining}
-use Rattle.saphyr_scanner.specs.Queue.{Place, Queue, is_empty_list}
-use Rattle.saphyr_scanner.specs.Core.{Level, Core}
-use Rattle.saphyr_scanner.specs.State.{State, start}
-use Rattle.saphyr_scanner.specs.Fetch.{size, settled, needs_token, any_holds, is_place, holds}
-use Rattle.saphyr_scanner.specs.Remaining.{before_place, hand_out, delivered, run, remaining, scan}
+use Rattle.saphyr_scanner.specs.Grammar.Tokens as tokens
+use Rattle.saphyr_scanner.specs.Grammar.Tokens.{Kind}
+use Rattle.saphyr_scanner.specs.Views.Tokens.{Piece, Remaining}
+use Rattle.saphyr_scanner.specs.Steps.Queue.{Place, Queue, is_empty_list}
+use Rattle.saphyr_scanner.specs.Steps.Core.{Level, Core}
+use Rattle.saphyr_scanner.specs.Steps.State.{State, start}
+use Rattle.saphyr_scanner.specs.Steps.Fetch.{size, settled, needs_token, any_holds, is_place, holds}
+use Rattle.saphyr_scanner.specs.Steps.Remaining.{before_place, hand_out, delivered, run, remaining, scan}
 use Rattle.saphyr_scanner.specs.SameKinds.{HaveSameKinds}
 use Rattle.saphyr_scanner.proofs.Filling.{read, less_read}
-use Rattle.saphyr_scanner.proofs.TakingScalars.{Readers}
+use Rattle.saphyr_scanner.proofs.Sizes.Scalars.{Readers}
 use Rattle.saphyr_scalar.specs.Alike.{GiveAlike}
 use Rattle.saphyr_scanner.proofs.Breaks.Cores.{Indexes, near_core, near_key, near_levels, first, others, Cores, Twin, Laws, of_cores}
 use Rattle.saphyr_scanner.proofs.Breaks.Fetches.{read_same, settled_same}

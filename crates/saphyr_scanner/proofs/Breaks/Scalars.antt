@@ -17,21 +17,21 @@ use Rattle.saphyr_scalar.specs.FlowReading.{mark}
 use Rattle.saphyr_scalar.specs.Plain as words
 use Rattle.saphyr_scalar.specs.Quoted as quoted
 use Rattle.saphyr_scalar.specs.Tag as tags
-use Rattle.saphyr_scanner.specs.Tokens as tokens
-use Rattle.saphyr_scanner.specs.Core.{Core, in_block, least_column, save_key}
-use Rattle.saphyr_scanner.specs.Passing.{pass_gap, with_cursor}
-use Rattle.saphyr_scanner.specs.Property as property
-use Rattle.saphyr_scanner.specs.Scalar as scalar
+use Rattle.saphyr_scanner.specs.Grammar.Tokens as tokens
+use Rattle.saphyr_scanner.specs.Steps.Core.{Core, in_block, least_column, save_key}
+use Rattle.saphyr_scanner.specs.Steps.Passing.{pass_gap, with_cursor}
+use Rattle.saphyr_scanner.specs.Steps.Property as property
+use Rattle.saphyr_scanner.specs.Steps.Scalar as scalar
 use Rattle.saphyr_scanner.specs.TokensTaken.{block_indicator}
 use Rattle.saphyr_scalar.specs.Alike.{AreSame, AreMarksAlike, AreNoted, ArePlainAlike, AreBlocksAlike, AreTagsAlike, GiveAlike}
 use Rattle.saphyr_scalar.proofs.Breaks.Results.{both_then}
-use Rattle.saphyr_scalar.proofs.Breaks.Sides.{no_return}
 use Rattle.saphyr_scanner.proofs.Breaks.Cores.{Indexes, near_core, near_comment, Cores, Twin, Laws, Inked, adjacent_here, of_cores, of_still, save_still, separate_then, still_inked, twin_reads, read_twin, going_to}
 use Rattle.saphyr_scanner.proofs.Breaks.Normal.{first_is}
 use Rattle.saphyr_scanner.proofs.Breaks.Passing.{Rested, gap_rests}
 use Rattle.saphyr_scanner.proofs.Breaks.Places.{reindexed, near}
 use Rattle.saphyr_scanner.proofs.Breaks.States.{SameSteps}
 use Rattle.saphyr_scanner.proofs.Breaks.Steps.{both_choose}
+use Rattle.saphyr_input.proofs.Basics.Characters.{no_return}
 
 -- the first character of a text
 abbrev pub Begins : ℕ → Cursor → Type 0

@@ -5,11 +5,11 @@ use Rattle.saphyr_scalar.specs.declared.scalar.position.Marker.{Marker}
 use Rattle.saphyr_scalar.specs.declared.scalar.fault.Refusal.{Refusal}
 use Rattle.saphyr_scalar.specs.Cursor.{Cursor}
 use Rattle.saphyr_scanner.specs.declared.queue.Opening.{Opening}
-use Rattle.saphyr_scanner.specs.Seen.{Piece}
-use Rattle.saphyr_scanner.specs.Queue.{Place, Queue, closed, opened, next}
-use Rattle.saphyr_scanner.specs.Core.{Core, Action, Put, Open, Step, act, perform, in_block}
-use Rattle.saphyr_scanner.specs.State.{State, carried, acted}
-use Rattle.saphyr_scanner.specs.Unrolling.{unroll, end_blocks, end_block, is_right_of, outwards, less_deep}
+use Rattle.saphyr_scanner.specs.Views.Tokens.{Piece}
+use Rattle.saphyr_scanner.specs.Steps.Queue.{Place, Queue, closed, opened, next}
+use Rattle.saphyr_scanner.specs.Steps.Core.{Core, Action, Put, Open, Step, act, perform, in_block}
+use Rattle.saphyr_scanner.specs.Steps.State.{State, carried, acted}
+use Rattle.saphyr_scanner.specs.Steps.Unrolling.{unroll, end_blocks, end_block, is_right_of, outwards, less_deep}
 use Rattle.saphyr_scalar.specs.Alike.{GiveAlike}
 use Rattle.saphyr_scanner.proofs.Breaks.Cores.{Indexes, near_core, Cores, Twin}
 use Rattle.saphyr_scanner.proofs.Breaks.Steps.{choose}

@@ -8,6 +8,7 @@ use Rattle.saphyr_scalar.specs.Cursor.{Cursor, along}
 use Rattle.saphyr_scalar.specs.Alike.{GiveAlike}
 use Rattle.saphyr_scalar.proofs.Breaks.Results.{both_by}
 use Rattle.saphyr_scanner.proofs.Breaks.Places.{Ahead, Stand, one_less}
+use Rattle.saphyr_scalar.proofs.Given.{cursor_at}
 
 -- ## Two results
 
@@ -29,10 +30,6 @@ both_so R S (Err e) (Ok y) go h = absurd h
 both_so R S (Err e) (Err d) go h = h
 
 -- ## What is passed
-
--- a cursor at a place
-abbrev pub cursor_at : List ℕ → Marker → Bool → Cursor
-cursor_at t m blank = record { rest = t; mark = m; blank_so_far = blank }
 
 -- at the start of the next line
 abbrev pub line_from : Marker → ℕ → Marker

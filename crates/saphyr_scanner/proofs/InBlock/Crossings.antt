@@ -8,60 +8,65 @@ use Rattle.saphyr_scalar.specs.BlockRead.{spaces}
 use Rattle.saphyr_scalar.specs.Cursor.{Cursor, along, next_line}
 use Rattle.saphyr_scalar.specs.Plain.{ends_line}
 use Rattle.saphyr_scalar.specs.PlainSpelling.{past_white}
-use Rattle.saphyr_scalar.specs.Spaces.{AreEach, joined, IsSeparation, IsSeparationLine}
+use Rattle.saphyr_scalar.specs.Spaces.{AreEach, joined, IsSeparation, IsSeparationLine, IsLineRest}
 use Rattle.saphyr_scalar.specs.TagSpelling.{AreIn}
-use Rattle.saphyr_scanner.specs.BlockNodes.{IsContentRest}
 use Rattle.saphyr_scanner.specs.declared.engine.level.Context.{Context}
-use Rattle.saphyr_scanner.specs.Core.{is_block}
-use Rattle.saphyr_scanner.proofs.FlowStates.{crosses, IsFresh}
-use Rattle.saphyr_scanner.proofs.FlowGaps.{clash}
-use Rattle.saphyr_scanner.proofs.FlowFillers.{EndsLine, spaces_are_blank}
-use Rattle.saphyr_scanner.proofs.InBlock.Skips.{maybe, comment_crosses, last_crosses}
+use Rattle.saphyr_scanner.specs.Steps.Core.{is_block}
+use Rattle.saphyr_scanner.proofs.Flow.States.{crosses, IsFresh}
+use Rattle.saphyr_scanner.proofs.Flow.Fillers.{EndsLine, spaces_are_blank, behind_is}
+use Rattle.saphyr_scanner.proofs.InBlock.Skips.{blanks_cross, rest_crosses, last_crosses}
+use Rattle.saphyr_input.proofs.Basics.Booleans.{clash}
 
 -- inside flow nothing is asked
-pub fresh_in_flow : (x : Context) (o : List ℕ) (allowed : Bool) (there : Cursor) → is_block x ≡ false → IsFresh x o allowed there
+pub fresh_in_flow : (x : Context) (o : List ℕ) (allowed : Bool) (there : Cursor) → is_block x ≡ false
+    → IsFresh x o allowed there
 fresh_in_flow x o allowed there flow b e = absurd (clash (is_block x) b flow)
-
-pub blanks_cross : (w o : List ℕ) → AreIn is_blank w → crosses (w ++ o) ≡ crosses o
-blanks_cross [] o h = refl
-blanks_cross (c ∷ cs) o h = rw h.0 (blanks_cross cs o h.1)
 
 -- no break stands among spaces before a character that is passed in no gap
 pub spaces_uncrossed : (n : ℕ) (r : List ℕ) → crosses (spaces n ++ (58 ∷ r)) ≡ false
 spaces_uncrossed n r = blanks_cross (spaces n) (58 ∷ r) (spaces_are_blank n)
 
 -- a break behind separation is one behind what stands before it
-pub separation_crosses : (indent : ℕ) (w o : List ℕ) → IsSeparation indent w → crosses o ≡ true → crosses (w ++ o) ≡ true
+pub separation_crosses : (indent : ℕ) (w o : List ℕ) → IsSeparation indent w → crosses o ≡ true
+    → crosses (w ++ o) ≡ true
 separation_crosses indent w o (lines, blanks, (pieces, each, lines_are), are, e) h = by_lines pieces each lines_are
   where
     by_lines : (ps : List (List ℕ)) → AreEach (IsSeparationLine indent) ps → lines ≡ joined ps → crosses (w ++ o) ≡ true
     by_lines [] each lines_are =
-        ap (λ (t : List ℕ). crosses (t ++ o)) (e ∙ ap (λ (t : List ℕ). t ++ blanks) lines_are) ∙ blanks_cross blanks o are ∙ h
+        ap (λ (t : List ℕ). crosses (t ++ o)) (e ∙ ap (λ (t : List ℕ). t ++ blanks) lines_are)
+        ∙ blanks_cross blanks o are ∙ h
     by_lines (p ∷ ps) ((first, comment, filler, first_are, k, filler_is, line_is), others) lines_are =
         let more = (filler ++ spaces indent) ++ (joined ps ++ (blanks ++ o)) in
         let text : w ++ o ≡ first ++ (comment ++ (10 ∷ more)) =
-        ap (λ (t : List ℕ). t ++ o) (e ∙ ap (λ (t : List ℕ). t ++ blanks) lines_are ∙ ap (λ (t : List ℕ). (t ++ joined ps) ++ blanks) line_is) ∙ simp append_assoc in
-        ap crosses text ∙ blanks_cross first (comment ++ (10 ∷ more)) first_are ∙ comment_crosses comment more (maybe first comment k)
+        ap (λ (t : List ℕ). t ++ o)
+        (e ∙ ap (λ (t : List ℕ). t ++ blanks) lines_are ∙ ap (λ (t : List ℕ). (t ++ joined ps) ++ blanks) line_is)
+        ∙ simp append_assoc in
+        ap crosses text ∙ rest_crosses first comment more first_are (behind_is first comment k)
 
 feed_crosses : (t : List ℕ) → slice_index t 0 ≡ 10 → crosses t ≡ true
 feed_crosses [] e = absurd (cc)
 feed_crosses (c ∷ cs) e = rw e refl
 
 -- behind the rest of a line its break is still ahead
-pub line_rest_crosses : (rest more : List ℕ) → IsContentRest rest → EndsLine more → crosses (rest ++ more) ≡ true → crosses more ≡ true
+pub line_rest_crosses : (rest more : List ℕ) → IsLineRest rest → EndsLine more → crosses (rest ++ more) ≡ true
+    → crosses more ≡ true
 line_rest_crosses rest more h (inr feed) e = feed_crosses more feed
 line_rest_crosses rest more (blanks, comment, are, k, is) (inl none) e =
-    let text : rest ++ more ≡ blanks ++ (comment ++ []) = ap (λ (t : List ℕ). rest ++ t) none ∙ ap (λ (t : List ℕ). t ++ []) is ∙ append_assoc blanks comment [] in
-    absurd (clash (crosses (rest ++ more)) e (ap crosses text ∙ blanks_cross blanks (comment ++ []) are ∙ last_crosses 0 comment (maybe blanks comment k)))
+    let text : rest ++ more ≡ blanks ++ (comment ++ []) = ap (λ (t : List ℕ). rest ++ t) none
+    ∙ ap (λ (t : List ℕ). t ++ []) is ∙ append_assoc blanks comment [] in
+    absurd (clash (crosses (rest ++ more)) e
+    (ap crosses text ∙ last_crosses blanks comment are (behind_is blanks comment k)))
 
 -- a break stands at the end of a line
-pub content_crosses : (rest o : List ℕ) → IsContentRest rest → crosses (rest ++ (10 ∷ o)) ≡ true
+pub content_crosses : (rest o : List ℕ) → IsLineRest rest → crosses (rest ++ (10 ∷ o)) ≡ true
 content_crosses rest o (blanks, comment, are, k, is) =
-    ap crosses (ap (λ (t : List ℕ). t ++ (10 ∷ o)) is ∙ append_assoc blanks comment (10 ∷ o)) ∙ blanks_cross blanks (comment ++ (10 ∷ o)) are ∙ comment_crosses comment o (maybe blanks comment k)
+    ap crosses (ap (λ (t : List ℕ). t ++ (10 ∷ o)) is ∙ append_assoc blanks comment (10 ∷ o))
+    ∙ rest_crosses blanks comment o are (behind_is blanks comment k)
 
 -- ## Behind a plain scalar
 
-break_ahead : (b : Bool) (c : ℕ) (cs : List ℕ) (blank break : Bool) → is_blank c ≡ blank → is_break c ≡ break → (blank || break) ≡ true → (b || crosses (c ∷ cs)) ≡ true → ((b || break) || crosses cs) ≡ true
+break_ahead : (b : Bool) (c : ℕ) (cs : List ℕ) (blank break : Bool) → is_blank c ≡ blank → is_break c ≡ break
+    → (blank || break) ≡ true → (b || crosses (c ∷ cs)) ≡ true → ((b || break) || crosses cs) ≡ true
 break_ahead true c cs blank break e f white h = refl
 break_ahead false c cs blank true e f white h = refl
 break_ahead false c cs true false e f white h = sym (same) ∙ h
@@ -71,17 +76,21 @@ break_ahead false c cs true false e f white h = sym (same) ∙ h
 break_ahead false c cs false false e f white h = absurd (cc)
 
 -- its reader has met the break, or it is still ahead
-pub white_crosses : (m : Marker) (b : Bool) (o : List ℕ) → (b || crosses o) ≡ true → ((past_white m b o).blank_so_far || crosses (past_white m b o).rest) ≡ true
+pub white_crosses : (m : Marker) (b : Bool) (o : List ℕ) → (b || crosses o) ≡ true
+    → ((past_white m b o).blank_so_far || crosses (past_white m b o).rest) ≡ true
 white_crosses m b [] h = h
 white_crosses m b (c ∷ cs) h =
     by_white (is_blank_or_break c) refl
-    (λ e. white_crosses (if ends_line c cs then next_line m 1 else along m 1) (b || is_break c) cs (break_ahead b c cs (is_blank c) (is_break c) refl refl e h))
+    (λ e. white_crosses (if ends_line c cs then next_line m 1 else along m 1) (b || is_break c) cs
+    (break_ahead b c cs (is_blank c) (is_break c) refl refl e h))
   where
     on : Marker
     on = if ends_line c cs then next_line m 1 else along m 1
 
     by_white : (white : Bool) → is_blank_or_break c ≡ white
-        → (is_blank_or_break c ≡ true → ((past_white on (b || is_break c) cs).blank_so_far || crosses (past_white on (b || is_break c) cs).rest) ≡ true)
+        → (is_blank_or_break c ≡ true
+        → ((past_white on (b || is_break c) cs).blank_so_far || crosses (past_white on (b || is_break c) cs).rest)
+        ≡ true)
         → ((past_white m b (c ∷ cs)).blank_so_far || crosses (past_white m b (c ∷ cs)).rest) ≡ true
     by_white true e further = rw e (further e)
     by_white false e further = rw e h

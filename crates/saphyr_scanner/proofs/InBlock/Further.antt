@@ -10,10 +10,10 @@ use Rattle.saphyr_scalar.specs.Spaces.{IsEol}
 use Rattle.saphyr_scalar.specs.declared.reading.block.BlockStyle.{BlockStyle}
 use Rattle.saphyr_scalar.specs.declared.reading.block.BlockStyle.TheVariants as block
 use Rattle.saphyr_scalar.specs.declared.reading.block.Chomping.{Chomping}
-use Rattle.saphyr_scanner.specs.Forest.{Style, Literal, Folded, Plain, SingleQuoted, DoubleQuoted, Node, Alias, Scalar, Seq, Map, Nodes, NoNode, MoreNodes, Pairs, NoPair, MorePairs, Document}
-use Rattle.saphyr_scanner.specs.BlockNodes.{Place, BehindDash, BehindMark, BehindKey, BehindMarker, AtStart, indent_at, IsContentEnd, IsFlowInBlock, IsBehindScalar, IsBlockText, IsStyled, IsBlockPair, IsBlockNode, AreEntries, AreOtherEntries, ArePairs, AreOtherPairs}
-use Rattle.saphyr_scanner.specs.Layout as layout
-use Rattle.saphyr_scanner.specs.Layout.{most_open}
+use Rattle.saphyr_scanner.specs.Grammar.Forest.{Style, Literal, Folded, Plain, SingleQuoted, DoubleQuoted, Node, Alias, Scalar, Seq, Map, Nodes, NoNode, MoreNodes, Pairs, NoPair, MorePairs, Document}
+use Rattle.saphyr_scanner.specs.Grammar.BlockNodes.{Position, BehindDash, BehindMark, BehindKey, BehindMarker, AtStart, indent_at, IsFlowInBlock, IsBehindScalar, IsBlockScalarText, IsStyled, IsBlockPair, IsBlockNode, AreEntries, AreOtherEntries, ArePairs, AreOtherPairs}
+use Rattle.saphyr_scanner.specs.Grammar.Layout as layout
+use Rattle.saphyr_scanner.specs.Grammar.Layout.{most_open}
 use Rattle.saphyr_scanner.proofs.InBlock.MarkedLines.{fed_marker}
 
 -- ## Texts that end with a break
@@ -23,7 +23,11 @@ pub record EndsFed (o : List ℕ) : Type 0 where
   pub is : o ≡ front ++ (10 ∷ [])
 
 pub fed_front : (a b : List ℕ) → EndsFed b → EndsFed (a ++ b)
-fed_front a b h = record { front = a ++ h.front; is = ap (λ (x : List ℕ). a ++ x) h.is ∙ sym (append_assoc a h.front (10 ∷ [])) }
+fed_front a b h = record {
+  front =
+      a ++ h.front;
+  is = ap (λ (x : List ℕ). a ++ x) h.is ∙ sym (append_assoc a h.front (10 ∷ []));
+}
 
 none_fed : (o : List ℕ) → EndsFed o → o ≡ [] → ⊥
 none_fed o h e = some h.front (sym h.is ∙ e)
@@ -41,9 +45,11 @@ same_first o more h = subst (λ (x : List ℕ). slice_index (x ++ more) 0 ≡ sl
     by_front (c ∷ cs) = refl
 
 pub same_marker : (o more : List ℕ) → EndsFed o → is_document_indicator (o ++ more) ≡ is_document_indicator o
-same_marker o more h = subst (λ (x : List ℕ). is_document_indicator (x ++ more) ≡ is_document_indicator x) (sym h.is) (by_front h.front)
+same_marker o more h = subst (λ (x : List ℕ). is_document_indicator (x ++ more) ≡ is_document_indicator x) (sym h.is)
+    (by_front h.front)
   where
-    by_front : (front : List ℕ) → is_document_indicator ((front ++ (10 ∷ [])) ++ more) ≡ is_document_indicator (front ++ (10 ∷ []))
+    by_front : (front : List ℕ)
+        → is_document_indicator ((front ++ (10 ∷ [])) ++ more) ≡ is_document_indicator (front ++ (10 ∷ []))
     by_front [] = refl
     by_front (c ∷ cs) = fed_marker c cs more
 
@@ -72,54 +78,89 @@ indicator_further : (more : List ℕ) {d : ℕ} {a b : List ℕ} → IsIndicator
 indicator_further more (no_digit x) = no_digit (x ++ more)
 indicator_further more (digit d x low high) = digit d (x ++ more) low high
 
-chomping_further : (more : List ℕ) {c : Chomping} {a b : List ℕ} → IsChomping c a b → IsChomping c (a ++ more) (b ++ more)
+chomping_further : (more : List ℕ) {c : Chomping} {a b : List ℕ} → IsChomping c a b
+    → IsChomping c (a ++ more) (b ++ more)
 chomping_further more (strip x) = strip (x ++ more)
 chomping_further more (clip x) = clip (x ++ more)
 chomping_further more (keep x) = keep (x ++ more)
 
-line_end_further : (more : List ℕ) {t x : List ℕ} → spelling.IsLineEnd t x → spelling.IsLineEnd (t ++ more) (x ++ more)
-line_end_further more (no_comment blanks x are) = subst (λ (t : List ℕ). spelling.IsLineEnd t (x ++ more)) (sym (append_assoc blanks (10 ∷ x) more)) (no_comment blanks (x ++ more) are)
+line_end_further : (more : List ℕ) {t x : List ℕ} → spelling.IsHeaderEnd t x
+    → spelling.IsHeaderEnd (t ++ more) (x ++ more)
+line_end_further more (no_comment blanks x are) =
+    subst (λ (t : List ℕ). spelling.IsHeaderEnd t (x ++ more)) (sym (append_assoc blanks (10 ∷ x) more))
+    (no_comment blanks (x ++ more) are)
 line_end_further more (comment blank blanks text x are words) =
-    subst (λ (t : List ℕ). spelling.IsLineEnd t (x ++ more)) (sym (append_assoc (blank ∷ blanks) (35 ∷ (text ++ (10 ∷ x))) more ∙ ap (λ (t : List ℕ). (blank ∷ blanks) ++ (35 ∷ t)) (append_assoc text (10 ∷ x) more)))
+    subst (λ (t : List ℕ). spelling.IsHeaderEnd t (x ++ more))
+    (sym (append_assoc (blank ∷ blanks) (35 ∷ (text ++ (10 ∷ x))) more
+    ∙ ap (λ (t : List ℕ). (blank ∷ blanks) ++ (35 ∷ t)) (append_assoc text (10 ∷ x) more)))
     (comment blank blanks text (x ++ more) are words)
 
-header_further : (more : List ℕ) {n : ℕ} {c : Chomping} {x t : List ℕ} → IsHeader n c x t → IsHeader n c (x ++ more) (t ++ more)
-header_further more (digit_first mark a b d i c e) = digit_first mark (a ++ more) (b ++ more) (d ++ more) (indicator_further more i) (chomping_further more c) (line_end_further more e)
-header_further more (chomping_first mark a b d c i e) = chomping_first mark (a ++ more) (b ++ more) (d ++ more) (chomping_further more c) (indicator_further more i) (line_end_further more e)
+header_further : (more : List ℕ) {n : ℕ} {c : Chomping} {x t : List ℕ} → IsHeader n c x t
+    → IsHeader n c (x ++ more) (t ++ more)
+header_further more (digit_first mark a b d i c e) =
+    digit_first mark (a ++ more) (b ++ more) (d ++ more) (indicator_further more i) (chomping_further more c)
+    (line_end_further more e)
+header_further more (chomping_first mark a b d c i e) =
+    chomping_first mark (a ++ more) (b ++ more) (d ++ more) (chomping_further more c) (indicator_further more i)
+    (line_end_further more e)
 
-marker_before_feed : (c : ℕ) (cs t more : List ℕ) → is_document_indicator (c ∷ (cs ++ (10 ∷ (t ++ more)))) ≡ is_document_indicator (c ∷ (cs ++ (10 ∷ t)))
+marker_before_feed : (c : ℕ) (cs t more : List ℕ)
+    → is_document_indicator (c ∷ (cs ++ (10 ∷ (t ++ more)))) ≡ is_document_indicator (c ∷ (cs ++ (10 ∷ t)))
 marker_before_feed c cs t more =
-    ap (λ (x : List ℕ). is_document_indicator (c ∷ x)) (sym (append_assoc cs (10 ∷ []) (t ++ more))) ∙ fed_marker c cs (t ++ more) ∙ sym (fed_marker c cs t) ∙ ap (λ (x : List ℕ). is_document_indicator (c ∷ x)) (append_assoc cs (10 ∷ []) t)
+    ap (λ (x : List ℕ). is_document_indicator (c ∷ x)) (sym (append_assoc cs (10 ∷ []) (t ++ more)))
+    ∙ fed_marker c cs (t ++ more) ∙ sym (fed_marker c cs t)
+    ∙ ap (λ (x : List ℕ). is_document_indicator (c ∷ x)) (append_assoc cs (10 ∷ []) t)
 
-content_further : (more : List ℕ) (i c : ℕ) (cs t : List ℕ) → IsContent i c cs (10 ∷ t) → IsContent i c cs (10 ∷ (t ++ more))
-content_further more i c cs t h = record { all = h.all; no_marker = λ e. marker_before_feed c cs t more ∙ h.no_marker e }
+content_further : (more : List ℕ) (i c : ℕ) (cs t : List ℕ) → IsContent i c cs (10 ∷ t)
+    → IsContent i c cs (10 ∷ (t ++ more))
+content_further more i c cs t h =
+    record { all = h.all; no_marker = λ e. marker_before_feed c cs t more ∙ h.no_marker e }
 
-content_text : (i c : ℕ) (cs t more : List ℕ) → (spaces i ++ (c ∷ (cs ++ (10 ∷ t)))) ++ more ≡ spaces i ++ (c ∷ (cs ++ (10 ∷ (t ++ more))))
-content_text i c cs t more = append_assoc (spaces i) (c ∷ (cs ++ (10 ∷ t))) more ∙ ap (λ (x : List ℕ). spaces i ++ (c ∷ x)) (append_assoc cs (10 ∷ t) more)
+content_text : (i c : ℕ) (cs t more : List ℕ)
+    → (spaces i ++ (c ∷ (cs ++ (10 ∷ t)))) ++ more ≡ spaces i ++ (c ∷ (cs ++ (10 ∷ (t ++ more))))
+content_text i c cs t more =
+    append_assoc (spaces i) (c ∷ (cs ++ (10 ∷ t))) more
+    ∙ ap (λ (x : List ℕ). spaces i ++ (c ∷ x)) (append_assoc cs (10 ∷ t) more)
 
-lines_further : (more x : List ℕ) → EndsFed x → {i : ℕ} {ls : List Line} {t : List ℕ} → AreLines i x ls t → AreLines i (x ++ more) ls (t ++ more)
+lines_further : (more x : List ℕ) → EndsFed x → {i : ℕ} {ls : List Line} {t : List ℕ} → AreLines i x ls t
+    → AreLines i (x ++ more) ls (t ++ more)
 lines_further more x fed no_lines = no_lines
-lines_further more x fed {i} (empty j ls t low h) = subst (AreLines i (x ++ more) _) (sym (append_assoc (spaces j) (10 ∷ t) more)) (empty j ls (t ++ more) low (lines_further more x fed h))
-lines_further more x fed {i} (content c cs ls t k h) = subst (AreLines i (x ++ more) _) (sym (content_text i c cs t more)) (content c cs ls (t ++ more) (content_further more i c cs t k) (lines_further more x fed h))
+lines_further more x fed {i} (empty j ls t low h) =
+    subst (AreLines i (x ++ more) _) (sym (append_assoc (spaces j) (10 ∷ t) more))
+    (empty j ls (t ++ more) low (lines_further more x fed h))
+lines_further more x fed {i} (content c cs ls t k h) =
+    subst (AreLines i (x ++ more) _) (sym (content_text i c cs t more))
+    (content c cs ls (t ++ more) (content_further more i c cs t k) (lines_further more x fed h))
 lines_further more x fed (last c cs k e) = absurd (none_fed x fed e)
 
-body_further : (more x : List ℕ) → EndsFed x → {i : ℕ} {given : Bool} {ls : List Line} {t : List ℕ} → IsBody i given x ls t → IsBody i given (x ++ more) ls (t ++ more)
-body_further more x fed {i} {given} (leading j ls t low h) = subst (IsBody i given (x ++ more) _) (sym (append_assoc (spaces j) (10 ∷ t) more)) (leading j ls (t ++ more) low (body_further more x fed h))
-body_further more x fed {i} {given} (first c cs ls t some k h) = subst (IsBody i given (x ++ more) _) (sym (content_text i c cs t more)) (first c cs ls (t ++ more) some (content_further more i c cs t k) (lines_further more x fed h))
+body_further : (more x : List ℕ) → EndsFed x → {i : ℕ} {given : Bool} {ls : List Line} {t : List ℕ}
+    → IsBody i given x ls t → IsBody i given (x ++ more) ls (t ++ more)
+body_further more x fed {i} {given} (leading j ls t low h) =
+    subst (IsBody i given (x ++ more) _) (sym (append_assoc (spaces j) (10 ∷ t) more))
+    (leading j ls (t ++ more) low (body_further more x fed h))
+body_further more x fed {i} {given} (first c cs ls t some k h) =
+    subst (IsBody i given (x ++ more) _) (sym (content_text i c cs t more))
+    (first c cs ls (t ++ more) some (content_further more i c cs t k) (lines_further more x fed h))
 body_further more x fed (first_and_last c cs some k e) = absurd (none_fed x fed e)
 
 lines_fed : (x : List ℕ) → EndsFed x → {i : ℕ} {ls : List Line} {t : List ℕ} → AreLines i x ls t → EndsFed t
 lines_fed x fed no_lines = fed
 lines_fed x fed (empty j ls t low h) = fed_front (spaces j) (10 ∷ t) (fed_front (10 ∷ []) t (lines_fed x fed h))
-lines_fed x fed {i} (content c cs ls t k h) = fed_front (spaces i) (c ∷ (cs ++ (10 ∷ t))) (fed_front (c ∷ cs) (10 ∷ t) (fed_front (10 ∷ []) t (lines_fed x fed h)))
+lines_fed x fed {i} (content c cs ls t k h) =
+    fed_front (spaces i) (c ∷ (cs ++ (10 ∷ t)))
+    (fed_front (c ∷ cs) (10 ∷ t) (fed_front (10 ∷ []) t (lines_fed x fed h)))
 lines_fed x fed (last c cs k e) = absurd (none_fed x fed e)
 
-body_fed : (x : List ℕ) → EndsFed x → {i : ℕ} {given : Bool} {ls : List Line} {t : List ℕ} → IsBody i given x ls t → EndsFed t
+body_fed : (x : List ℕ) → EndsFed x → {i : ℕ} {given : Bool} {ls : List Line} {t : List ℕ} → IsBody i given x ls t
+    → EndsFed t
 body_fed x fed (leading j ls t low h) = fed_front (spaces j) (10 ∷ t) (fed_front (10 ∷ []) t (body_fed x fed h))
-body_fed x fed {i} (first c cs ls t some k h) = fed_front (spaces i) (c ∷ (cs ++ (10 ∷ t))) (fed_front (c ∷ cs) (10 ∷ t) (fed_front (10 ∷ []) t (lines_fed x fed h)))
+body_fed x fed {i} (first c cs ls t some k h) =
+    fed_front (spaces i) (c ∷ (cs ++ (10 ∷ t)))
+    (fed_front (c ∷ cs) (10 ∷ t) (fed_front (10 ∷ []) t (lines_fed x fed h)))
 body_fed x fed (first_and_last c cs some k e) = absurd (none_fed x fed e)
 
-behind_further : (more x : List ℕ) → EndsFed x → (i n : ℕ) (others : List ℕ) → IsBehind i n x others → IsBehind i n (x ++ more) (others ++ more)
+behind_further : (more x : List ℕ) → EndsFed x → (i n : ℕ) (others : List ℕ) → IsBehind i n x others
+    → IsBehind i n (x ++ more) (others ++ more)
 behind_further more x fed i n others h =
     let ends : EndsFed others = fed_back n others fed.front (sym h.is ∙ fed.is) in
     let same = same_first others more ends in
@@ -133,42 +174,70 @@ behind_further more x fed i n others h =
       no_content = λ e. by_content ends same (h.no_content e);
     }
   where
-    by_content : EndsFed others → slice_index (others ++ more) 0 ≡ slice_index others 0 → (is_yaml_non_break (slice_index others 0) ≡ false) ⊎ ((i ≡ 0) × (is_document_indicator others ≡ true))
-        → (is_yaml_non_break (slice_index (others ++ more) 0) ≡ false) ⊎ ((i ≡ 0) × (is_document_indicator (others ++ more) ≡ true))
+    by_content : EndsFed others → slice_index (others ++ more) 0 ≡ slice_index others 0
+        → (is_yaml_non_break (slice_index others 0) ≡ false) ⊎ ((i ≡ 0) × (is_document_indicator others ≡ true))
+        → (is_yaml_non_break (slice_index (others ++ more) 0) ≡ false)
+        ⊎ ((i ≡ 0) × (is_document_indicator (others ++ more) ≡ true))
     by_content ends same (inl k) = inl (ap is_yaml_non_break same ∙ k)
     by_content ends same (inr (none, k)) = inr (none, same_marker others more ends ∙ k)
 
-left_further : (more : List ℕ) (indent i : ℕ) (t : List ℕ) → EndsFed t → IsBehindScalar indent i t → IsBehindScalar indent i (t ++ more)
+left_further : (more : List ℕ) (indent i : ℕ) (t : List ℕ) → EndsFed t → IsBehindScalar indent i t
+    → IsBehindScalar indent i (t ++ more)
 left_further more indent i t fed (inl e) = absurd (none_fed t fed e)
 left_further more indent i t fed (inr (inl h)) = inr (inl (same_marker t more fed ∙ h))
 left_further more indent i t fed (inr (inr (n, c, others, no_space, no_break, left, e))) =
-    inr (inr (n, c, others ++ more, no_space, no_break, left, ap (λ (x : List ℕ). x ++ more) e ∙ append_assoc (spaces n) (c ∷ others) more))
+    inr (inr (
+      n,
+      c,
+      others ++ more,
+      no_space,
+      no_break,
+      left,
+      ap (λ (x : List ℕ). x ++ more) e
+          ∙ append_assoc (spaces n) (c ∷ others) more,
+    ))
 
-text_further : (more : List ℕ) (style : BlockStyle) (value : List ℕ) (indent : ℕ) (t o : List ℕ) → EndsFed o → IsBlockText style value indent t o → IsBlockText style value indent t (o ++ more)
+text_further : (more : List ℕ) (style : BlockStyle) (value : List ℕ) (indent : ℕ) (t o : List ℕ) → EndsFed o
+    → IsBlockScalarText style value indent t o → IsBlockScalarText style value indent t (o ++ more)
 text_further more style value indent t o fed (i, n, chomping, lines, body, others, scalar, same, left, said) =
     let behind_fed : EndsFed scalar.behind = subst EndsFed (sym same) fed in
     let longer : IsBlockScalar indent i n chomping lines (t ++ (o ++ more)) (body ++ more) (others ++ more) = record {
       digit = scalar.digit;
       is_given = scalar.is_given;
       behind = scalar.behind ++ more;
-      header = subst (IsHeader scalar.digit chomping (body ++ more)) (append_assoc t o more) (header_further more scalar.header);
+      header = subst (IsHeader scalar.digit chomping (body ++ more)) (append_assoc t o more)
+          (header_further more scalar.header);
       no_tab = λ e. scalar.no_tab (sym (same_first body more (body_fed scalar.behind behind_fed scalar.lines)) ∙ e);
       indentation = scalar.indentation;
       lines = body_further more scalar.behind behind_fed scalar.lines;
       ends = behind_further more scalar.behind behind_fed i n others scalar.ends;
-    } in
-    (i, n, chomping, lines, body ++ more, others ++ more, longer, ap (λ (x : List ℕ). x ++ more) same, left_further more indent i o fed left, said)
+    } in (
+      i,
+      n,
+      chomping,
+      lines,
+      body ++ more,
+      others
+          ++ more,
+      longer,
+      ap (λ (x : List ℕ). x ++ more) same,
+      left_further more indent i o fed left,
+      said,
+    )
 
-styled_further : (more : List ℕ) (style : Style) (value : List ℕ) (indent : ℕ) (t o : List ℕ) → EndsFed o → IsStyled style value indent t o → IsStyled style value indent t (o ++ more)
-styled_further more Literal value indent t o fed (others, h, e) = (others, text_further more block.Literal value indent t o fed h, e)
-styled_further more Folded value indent t o fed (others, h, e) = (others, text_further more block.Folded value indent t o fed h, e)
+styled_further : (more : List ℕ) (style : Style) (value : List ℕ) (indent : ℕ) (t o : List ℕ) → EndsFed o
+    → IsStyled style value indent t o → IsStyled style value indent t (o ++ more)
+styled_further more Literal value indent t o fed (others, h, e) =
+    (others, text_further more block.Literal value indent t o fed h, e)
+styled_further more Folded value indent t o fed (others, h, e) =
+    (others, text_further more block.Folded value indent t o fed h, e)
 styled_further more Plain value indent t o fed h = absurd h
 styled_further more SingleQuoted value indent t o fed h = absurd h
 styled_further more DoubleQuoted value indent t o fed h = absurd h
 
 -- ## Nodes
 
-pub end_further : (more t o : List ℕ) → EndsFed o → IsContentEnd t o → IsContentEnd t (o ++ more)
+pub end_further : (more t o : List ℕ) → EndsFed o → IsEol t o → IsEol t (o ++ more)
 end_further more t o fed (inl h) = inl h
 end_further more t o fed (inr (h, e)) = absurd (none_fed o fed e)
 
@@ -176,70 +245,144 @@ eol_further : (more t o : List ℕ) → EndsFed o → IsEol t o → IsEol t (o +
 eol_further more t o fed (inl h) = inl h
 eol_further more t o fed (inr (h, e)) = absurd (none_fed o fed e)
 
-flow_further : (more : List ℕ) (room : ℕ) (node : Node) (place : Place) (t o : List ℕ) → EndsFed o → IsFlowInBlock room node place t o → IsFlowInBlock room node place t (o ++ more)
-flow_further more room node place t o fed (gap, text, end, gap_is, is, end_is, e) = (gap, text, end, gap_is, is, end_further more end o fed end_is, e)
+flow_further : (more : List ℕ) (room : ℕ) (node : Node) (place : Position) (t o : List ℕ) → EndsFed o
+    → IsFlowInBlock room node place t o → IsFlowInBlock room node place t (o ++ more)
+flow_further more room node place t o fed (gap, text, end, gap_is, is, end_is, e) =
+    (gap, text, end, gap_is, is, end_further more end o fed end_is, e)
 
 -- how a node stands before what ends with a break
-abbrev GoesOn : List ℕ → (Place → List ℕ → List ℕ → Type 0) → Type 0
-GoesOn more Is = (place : Place) (t o : List ℕ) → EndsFed o → Is place t o → Is place t (o ++ more)
+abbrev GoesOn : List ℕ → (Position → List ℕ → List ℕ → Type 0) → Type 0
+GoesOn more Is = (place : Position) (t o : List ℕ) → EndsFed o → Is place t o → Is place t (o ++ more)
 
-pair_further : (more : List ℕ) (room : ℕ) (key value : Node) → GoesOn more (IsBlockNode room key) → GoesOn more (IsBlockNode room value)
-    → (m : ℕ) (t o : List ℕ) → EndsFed o → IsBlockPair room key value (IsBlockNode room key) (IsBlockNode room value) m t o → IsBlockPair room key value (IsBlockNode room key) (IsBlockNode room value) m t (o ++ more)
+pair_further : (more : List ℕ) (room : ℕ) (key value : Node) → GoesOn more (IsBlockNode room key)
+    → GoesOn more (IsBlockNode room value)
+    → (m : ℕ) (t o : List ℕ) → EndsFed o
+    → IsBlockPair room key value (IsBlockNode room key) (IsBlockNode room value) m t o
+    → IsBlockPair room key value (IsBlockNode room key) (IsBlockNode room value) m t (o ++ more)
 pair_further more room key value K V m t o fed (inl (node, between, v, node_is, line, spaced, before, short, h, e)) =
     inl (node, between, v, node_is, line, spaced, before, short, V (BehindKey m) v o fed h, e)
-pair_further more room key value K V m t o fed (inr (inl (node, out, some, h, e))) = inr (inl (node, out, some, K (BehindMark m) node o fed h, e))
+pair_further more room key value K V m t o fed (inr (inl (node, out, some, h, e))) =
+    inr (inl (node, out, some, K (BehindMark m) node o fed h, e))
 pair_further more room key value K V m t o fed (inr (inr (node, colon, v, some, h, mark, k, e))) =
-    let text : (colon ++ (v ++ o)) ++ more ≡ colon ++ (v ++ (o ++ more)) = append_assoc colon (v ++ o) more ∙ ap (λ (x : List ℕ). colon ++ x) (append_assoc v o more) in
-    inr (inr (node, colon, v, some, subst (IsBlockNode room key (BehindMark m) node) text (K (BehindMark m) node (colon ++ (v ++ o)) (fed_front colon (v ++ o) (fed_front v o fed)) h), mark, V (BehindMark m) v o fed k, e))
+    let text : (colon ++ (v ++ o)) ++ more ≡ colon ++ (v ++ (o ++ more)) =
+    append_assoc colon (v ++ o) more ∙ ap (λ (x : List ℕ). colon ++ x) (append_assoc v o more) in
+    inr (inr (
+      node,
+      colon,
+      v,
+      some,
+      subst (IsBlockNode room key (BehindMark m) node) text
+          (K (BehindMark m) node (colon ++ (v ++ o)) (fed_front colon (v ++ o) (fed_front v o fed)) h),
+      mark,
+      V
+          (BehindMark m) v o fed k,
+      e,
+    ))
 
 mutual
-  pub node_further : (more : List ℕ) (room : ℕ) (node : Node) (place : Place) (t o : List ℕ) → EndsFed o → IsBlockNode room node place t o → IsBlockNode room node place t (o ++ more)
+  pub node_further : (more : List ℕ) (room : ℕ) (node : Node) (place : Position) (t o : List ℕ) → EndsFed o
+      → IsBlockNode room node place t o → IsBlockNode room node place t (o ++ more)
   node_further more room (Alias name) place t o fed h = flow_further more room (Alias name) place t o fed h
-  node_further more room (Scalar p style value) place t o fed (inl (none, start, end)) = inl (none, start, eol_further more t o fed end)
-  node_further more room (Scalar p style value) place t o fed (inr (inl h)) = inr (inl (flow_further more room (Scalar p style value) place t o fed h))
-  node_further more room (Scalar p style value) place t o fed (inr (inr (gap, front, scalar, gap_is, front_is, h, e))) = inr (inr (gap, front, scalar, gap_is, front_is, styled_further more style value (indent_at place) scalar o fed h, e))
-  node_further more room (Seq p nodes) place t o fed (inl h) = inl (flow_further more room (Seq p nodes) place t o fed h)
-  node_further more room (Seq p nodes) place t o fed (inr (m, lead, entries, lead_is, h, e)) = inr (m, lead, entries, lead_is, entries_further more room nodes m entries o fed h, e)
-  node_further more room (Map p pairs) place t o fed (inl h) = inl (flow_further more room (Map p pairs) place t o fed h)
-  node_further more room (Map p pairs) place t o fed (inr (m, lead, entries, lead_is, h, e)) = inr (m, lead, entries, lead_is, pairs_further more room pairs m entries o fed h, e)
+  node_further more room (Scalar p style value) place t o fed (inl (none, start, end)) =
+      inl (none, start, eol_further more t o fed end)
+  node_further more room (Scalar p style value) place t o fed (inr (inl h)) =
+      inr (inl (flow_further more room (Scalar p style value) place t o fed h))
+  node_further more room (Scalar p style value) place t o fed (inr (inr (gap, front, scalar, gap_is, front_is, h, e))) =
+      inr (inr (
+        gap,
+        front,
+        scalar,
+        gap_is,
+        front_is,
+        styled_further more style value (indent_at place) scalar o fed h,
+        e,
+      ))
+  node_further more room (Seq p nodes) place t o fed (inl h) =
+      inl (flow_further more room (Seq p nodes) place t o fed h)
+  node_further more room (Seq p nodes) place t o fed (inr (m, lead, entries, lead_is, h, e)) =
+      inr (m, lead, entries, lead_is, entries_further more room nodes m entries o fed h, e)
+  node_further more room (Map p pairs) place t o fed (inl h) =
+      inl (flow_further more room (Map p pairs) place t o fed h)
+  node_further more room (Map p pairs) place t o fed (inr (m, lead, entries, lead_is, h, e)) =
+      inr (m, lead, entries, lead_is, pairs_further more room pairs m entries o fed h, e)
 
-  entries_further : (more : List ℕ) (room : ℕ) (nodes : Nodes) (m : ℕ) (t o : List ℕ) → EndsFed o → AreEntries room nodes m t o → AreEntries room nodes m t (o ++ more)
+  entries_further : (more : List ℕ) (room : ℕ) (nodes : Nodes) (m : ℕ) (t o : List ℕ) → EndsFed o
+      → AreEntries room nodes m t o → AreEntries room nodes m t (o ++ more)
   entries_further more room NoNode m t o fed h = absurd h
-  entries_further more room (MoreNodes node nodes) m t o fed (entry, others, h, k, e) =
-      (entry, others, subst (IsBlockNode room node (BehindDash m) entry) (append_assoc others o more) (node_further more room node (BehindDash m) entry (others ++ o) (fed_front others o fed) h), other_entries_further more room nodes m others o fed k, e)
+  entries_further more room (MoreNodes node nodes) m t o fed (entry, others, h, k, e) = (
+    entry,
+    others,
+    subst (IsBlockNode room node (BehindDash m) entry) (append_assoc others o more)
+        (node_further more room node (BehindDash m) entry (others ++ o) (fed_front others o fed) h),
+    other_entries_further more room nodes m others o fed k,
+    e,
+  )
 
-  other_entries_further : (more : List ℕ) (room : ℕ) (nodes : Nodes) (m : ℕ) (t o : List ℕ) → EndsFed o → AreOtherEntries room nodes m t o → AreOtherEntries room nodes m t (o ++ more)
+  other_entries_further : (more : List ℕ) (room : ℕ) (nodes : Nodes) (m : ℕ) (t o : List ℕ) → EndsFed o
+      → AreOtherEntries room nodes m t o → AreOtherEntries room nodes m t (o ++ more)
   other_entries_further more room NoNode m t o fed h = h
-  other_entries_further more room (MoreNodes node nodes) m t o fed (front, entry, others, front_is, h, k, e) =
-      (front, entry, others, front_is, subst (IsBlockNode room node (BehindDash m) entry) (append_assoc others o more) (node_further more room node (BehindDash m) entry (others ++ o) (fed_front others o fed) h), other_entries_further more room nodes m others o fed k, e)
+  other_entries_further more room (MoreNodes node nodes) m t o fed (front, entry, others, front_is, h, k, e) = (
+    front,
+    entry,
+    others,
+    front_is,
+    subst (IsBlockNode room node (BehindDash m) entry) (append_assoc others o more)
+        (node_further more room node (BehindDash m) entry (others ++ o) (fed_front others o fed) h),
+    other_entries_further more room nodes m others o fed k,
+    e,
+  )
 
-  pairs_further : (more : List ℕ) (room : ℕ) (pairs : Pairs) (m : ℕ) (t o : List ℕ) → EndsFed o → ArePairs room pairs m t o → ArePairs room pairs m t (o ++ more)
+  pairs_further : (more : List ℕ) (room : ℕ) (pairs : Pairs) (m : ℕ) (t o : List ℕ) → EndsFed o
+      → ArePairs room pairs m t o → ArePairs room pairs m t (o ++ more)
   pairs_further more room NoPair m t o fed h = absurd h
   pairs_further more room (MorePairs key value pairs) m t o fed (pair, others, h, k, e) = (
     pair,
     others,
-    subst (IsBlockPair room key value (IsBlockNode room key) (IsBlockNode room value) m pair) (append_assoc others o more)
-        (pair_further more room key value (λ place u z f k. node_further more room key place u z f k) (λ place u z f k. node_further more room value place u z f k) m pair (others ++ o) (fed_front others o fed) h),
+    subst (IsBlockPair room key value (IsBlockNode room key) (IsBlockNode room value) m pair)
+        (append_assoc others o more)
+        (pair_further more room key value (λ place u z f k. node_further more room key place u z f k)
+        (λ place u z f k. node_further more room value place u z f k) m pair (others ++ o) (fed_front others o fed)
+        h),
     other_pairs_further more room pairs m others o fed k,
     e,
   )
 
-  other_pairs_further : (more : List ℕ) (room : ℕ) (pairs : Pairs) (m : ℕ) (t o : List ℕ) → EndsFed o → AreOtherPairs room pairs m t o → AreOtherPairs room pairs m t (o ++ more)
+  other_pairs_further : (more : List ℕ) (room : ℕ) (pairs : Pairs) (m : ℕ) (t o : List ℕ) → EndsFed o
+      → AreOtherPairs room pairs m t o → AreOtherPairs room pairs m t (o ++ more)
   other_pairs_further more room NoPair m t o fed h = h
   other_pairs_further more room (MorePairs key value pairs) m t o fed (front, pair, others, front_is, h, k, e) = (
     front,
     pair,
     others,
     front_is,
-    subst (IsBlockPair room key value (IsBlockNode room key) (IsBlockNode room value) m pair) (append_assoc others o more)
-        (pair_further more room key value (λ place u z f k. node_further more room key place u z f k) (λ place u z f k. node_further more room value place u z f k) m pair (others ++ o) (fed_front others o fed) h),
+    subst (IsBlockPair room key value (IsBlockNode room key) (IsBlockNode room value) m pair)
+        (append_assoc others o more)
+        (pair_further more room key value (λ place u z f k. node_further more room key place u z f k)
+        (λ place u z f k. node_further more room value place u z f k) m pair (others ++ o) (fed_front others o fed)
+        h),
     other_pairs_further more room pairs m others o fed k,
     e,
   )
 
 -- ## Documents
 
-pub document_further : (more : List ℕ) (d : Document) (free : Bool) (t o : List ℕ) → EndsFed o → layout.IsDocument (IsBlockNode most_open) d free t o → layout.IsDocument (IsBlockNode most_open) d free t (o ++ more)
-document_further more d free t o fed (inl (is_free, (same, unmarked, is))) = inl (is_free, (same, unmarked, node_further more most_open d.node AtStart t o fed is))
+pub document_further : (more : List ℕ) (d : Document) (free : Bool) (t o : List ℕ) → EndsFed o
+    → layout.IsDocument (IsBlockNode most_open) d free t o
+    → layout.IsDocument (IsBlockNode most_open) d free t (o ++ more)
+document_further more d free t o fed (inl (is_free, (same, unmarked, is))) =
+    inl (is_free, (same, unmarked, node_further more most_open d.node AtStart t o fed is))
 document_further more d free t o fed (inr (may, (directives, node, explicit, compatible, are, unmarked, is, e))) =
-    inr (may, (directives, node, explicit, compatible, are, unmarked, node_further more most_open d.node BehindMarker node o fed is, e))
+    inr (
+      may,
+      (
+        directives,
+        node,
+        explicit,
+        compatible,
+        are,
+        unmarked,
+        node_further more most_open d.node BehindMarker
+            node o fed is,
+        e,
+      ),
+    )

@@ -5,26 +5,28 @@ use Rattle.std.specs.Prelude.{Option, None}
 use Rattle.saphyr_input.specs.Classes.{is_blank_or_breakz}
 use Rattle.saphyr_scalar.specs.declared.scalar.position.Marker.{Marker}
 use Rattle.saphyr_scalar.specs.Cursor.{Cursor, along}
-use Rattle.saphyr_scanner.specs.BlockNodes.{IsContentEnd}
+use Rattle.saphyr_scalar.specs.Spaces.{IsEol}
 use Rattle.saphyr_scanner.specs.declared.engine.level.Context.TheVariants as context
-use Rattle.saphyr_scanner.specs.Tokens as tokens
-use Rattle.saphyr_scanner.specs.Tokens.{Kind}
-use Rattle.saphyr_scanner.specs.Seen.{Piece}
-use Rattle.saphyr_scanner.specs.Queue.{Place, closed}
-use Rattle.saphyr_scanner.specs.Core.{Candidate}
-use Rattle.saphyr_scanner.specs.State.{State}
-use Rattle.saphyr_scanner.specs.Fetch.{fetch_here}
+use Rattle.saphyr_scanner.specs.Grammar.Tokens as tokens
+use Rattle.saphyr_scanner.specs.Grammar.Tokens.{Kind}
+use Rattle.saphyr_scanner.specs.Views.Tokens.{Piece}
+use Rattle.saphyr_scanner.specs.Steps.Queue.{Place, closed}
+use Rattle.saphyr_scanner.specs.Steps.Core.{Candidate}
+use Rattle.saphyr_scanner.specs.Steps.State.{State}
+use Rattle.saphyr_scanner.specs.Steps.Fetch.{fetch_here}
 use Rattle.saphyr_scanner.proofs.Leads.{Leads, stay, onward}
-use Rattle.saphyr_scanner.proofs.JsonStates.{cursor_at, state_at}
-use Rattle.saphyr_scanner.proofs.JsonMarks.{kinds, kinds_append, chain}
-use Rattle.saphyr_scanner.proofs.FlowStates.{EndsDocument, moved, past}
-use Rattle.saphyr_scanner.proofs.FlowArrivals.{within_index}
-use Rattle.saphyr_scanner.proofs.FlowSeparates.{separates_rest}
-use Rattle.saphyr_scanner.proofs.FlowLines.{eol, eol_first, break_ends}
-use Rattle.saphyr_scanner.proofs.FlowStands.{reads_here, Lined, Stands}
-use Rattle.saphyr_scanner.proofs.FlowMarkers.{piece_of, at_line, not_empty, start_here, start_ends, start_count, end_here, end_ends, end_count}
+use Rattle.saphyr_scanner.proofs.Json.States.{state_at}
+use Rattle.saphyr_scanner.proofs.Json.Marks.{kinds, kinds_append, chain}
+use Rattle.saphyr_scanner.proofs.Flow.States.{EndsDocument, moved, past}
+use Rattle.saphyr_scanner.proofs.Flow.Arrivals.{within_index}
+use Rattle.saphyr_scanner.proofs.Flow.Separates.{separates_rest}
+use Rattle.saphyr_scanner.proofs.Documents.Lines.{eol, eol_first, break_ends}
+use Rattle.saphyr_scanner.proofs.Documents.Stands.{reads_here, Lined, Stands}
+use Rattle.saphyr_scanner.proofs.Documents.Markers.{piece_of, at_line, start_here, start_ends, start_count, end_here, end_ends, end_count}
 use Rattle.saphyr_scanner.proofs.InBlock.States.{Follows}
 use Rattle.saphyr_scanner.proofs.InBlock.Follows.{first_step}
+use Rattle.saphyr_scalar.proofs.Given.{cursor_at}
+use Rattle.saphyr_input.proofs.Basics.Lists.{cons_not_empty}
 
 -- The scanner has read these tokens, and none of them may be a key.
 pub record Handed (limit : ℕ) (start : State) (ts : List Kind) : Type 0 where
@@ -35,23 +37,29 @@ pub record Handed (limit : ℕ) (start : State) (ts : List Kind) : Type 0 where
   pub are : kinds last.queue.places ≡ ts
 
 -- where a token was read, the scanner has come there
-comes_there : {limit : ℕ} {start s d : State} → Follows limit start s → s.core.ended ≡ false → Leads limit d s → ¬ (d ≡ s) → Leads limit d start
+comes_there : {limit : ℕ} {start s d : State} → Follows limit start s → s.core.ended ≡ false → Leads limit d s
+    → ¬ (d ≡ s) → Leads limit d start
 comes_there f running stay new = absurd (new refl)
 comes_there f running (onward s t u going is settles l) new = chain (first_step f running is settles) l
 
 longer : (ps : List Place) (p : Place) → ps ++ p ∷ [] ≡ ps → ⊥
 longer ps p e = let l = length-append ps (p ∷ []) in let same = ap length e in omega (arith, l, same)
 
-hands_token : {limit : ℕ} {start : State} {free : Bool} {P : Marker → Bool → Type 0} {y : List ℕ} {ts : List Kind} (v : Stands limit start free P y ts) → past 0 v.mark y ≡ (v.mark, y) → EndsDocument v.mark y → (t : Cursor) (piece : Piece)
+hands_token : {limit : ℕ} {start : State} {free : Bool} {P : Marker → Bool → Type 0} {y : List ℕ} {ts : List Kind}
+    (v : Stands limit start free P y ts) → past 0 v.mark y ≡ (v.mark, y) → EndsDocument v.mark y
+    → (t : Cursor) (piece : Piece)
     → ((blank : Bool) (key : Option Candidate) (allowed : Bool) (ad : ℕ) (ps : List Place)
-    → fetch_here (state_at false (cursor_at y v.mark blank) context.Block key [] allowed ad ps) ≡ Ok (state_at false t context.Block None [] false ad (ps ++ closed piece ∷ [])))
+    → fetch_here (state_at false (cursor_at y v.mark blank) context.Block key [] allowed ad ps)
+    ≡ Ok (state_at false t context.Block None [] false ad (ps ++ closed piece ∷ [])))
     → t.mark.index ≤ limit → Handed limit start (ts ++ piece.kind ∷ [])
 hands_token {limit = limit} {y = y} {ts = ts} v here ends t piece is low =
-    let r = reads_here limit v.comment v.there v.key v.allowed v.adjacent v.places v.mark y (v.fits ∙ here) (inr ends) false (λ _. t) (λ _. None) false (v.places ++ closed piece ∷ [])
+    let r = reads_here limit v.comment v.there v.key v.allowed v.adjacent v.places v.mark y (v.fits ∙ here) (inr ends)
+    false (λ _. t) (λ _. None) false (v.places ++ closed piece ∷ [])
     (λ blank key allowed. is blank key allowed v.adjacent v.places) (λ _. low) in
     record {
       last = state_at false t context.Block r.1 [] false v.adjacent (v.places ++ closed piece ∷ []);
-      leads = comes_there v.follows refl r.4 (λ e. longer v.places (closed piece) (ap (λ (s : State). s.queue.places) e));
+      leads = comes_there v.follows refl r.4
+          (λ e. longer v.places (closed piece) (ap (λ (s : State). s.queue.places) e));
       none = r.3 refl;
       outer = refl;
       are = kinds_append v.places (closed piece ∷ []) ∙ ap (λ (x : List Kind). x ++ piece.kind ∷ []) v.are;
@@ -60,22 +68,30 @@ hands_token {limit = limit} {y = y} {ts = ts} v here ends t piece is low =
 front_low : (i l limit : ℕ) → i + l ≤ limit → i ≤ limit
 front_low i l limit h = omega (arith, h)
 
-pub hands_start : {limit : ℕ} {start : State} {free opened : Bool} {ts : List Kind} (r : List ℕ) → Stands limit start free (Lined opened (45 ∷ 45 ∷ 45 ∷ r)) (45 ∷ 45 ∷ 45 ∷ r) ts → is_blank_or_breakz (slice_index r 0) ≡ true
+pub hands_start : {limit : ℕ} {start : State} {free opened : Bool} {ts : List Kind} (r : List ℕ)
+    → Stands limit start free (Lined opened (45 ∷ 45 ∷ 45 ∷ r)) (45 ∷ 45 ∷ 45 ∷ r) ts
+    → is_blank_or_breakz (slice_index r 0) ≡ true
     → Handed limit start (ts ++ tokens.DocumentStart ∷ [])
 hands_start {limit = limit} r v h =
-    let col = at_line (45 ∷ 45 ∷ 45 ∷ r) v.mark v.line.0 (not_empty 45 (45 ∷ 45 ∷ r)) in
-    hands_token v refl (inr (col, start_ends r h)) (cursor_at r (along v.mark 3) false) (piece_of v.mark (along v.mark 3) tokens.DocumentStart)
-    (λ blank key allowed ad ps. start_here v.mark blank r key allowed ad ps col h) (front_low (v.mark.index + 3) (length r) limit (start_count v.mark r limit v.count))
+    let col = at_line (45 ∷ 45 ∷ 45 ∷ r) v.mark v.line.0 (cons_not_empty 45 (45 ∷ 45 ∷ r)) in
+    hands_token v refl (inr (col, start_ends r h)) (cursor_at r (along v.mark 3) false)
+    (piece_of v.mark (along v.mark 3) tokens.DocumentStart)
+    (λ blank key allowed ad ps. start_here v.mark blank r key allowed ad ps col h)
+    (front_low (v.mark.index + 3) (length r) limit (start_count v.mark r limit v.count))
 
-pub hands_end : {limit : ℕ} {start : State} {free opened : Bool} {ts : List Kind} (end o : List ℕ) → Stands limit start free (Lined opened (46 ∷ 46 ∷ 46 ∷ (end ++ o))) (46 ∷ 46 ∷ 46 ∷ (end ++ o)) ts → IsContentEnd end o
+pub hands_end : {limit : ℕ} {start : State} {free opened : Bool} {ts : List Kind} (end o : List ℕ)
+    → Stands limit start free (Lined opened (46 ∷ 46 ∷ 46 ∷ (end ++ o))) (46 ∷ 46 ∷ 46 ∷ (end ++ o)) ts → IsEol end o
     → Handed limit start (ts ++ tokens.DocumentEnd ∷ [])
 hands_end {limit = limit} end o v h =
     let r = end ++ o in
-    let col = at_line (46 ∷ 46 ∷ 46 ∷ r) v.mark v.line.0 (not_empty 46 (46 ∷ 46 ∷ r)) in
+    let col = at_line (46 ∷ 46 ∷ 46 ∷ r) v.mark v.line.0 (cons_not_empty 46 (46 ∷ 46 ∷ r)) in
     let e = eol (along v.mark 3) end o h in
     let first = eol_first (along v.mark 3) r o e in
     let sep = separates_rest (cursor_at r (along v.mark 3) false) e.rest e.more e.is e.line e.break in
     let n = moved (along v.mark 3) e.rest in
-    hands_token v refl (inr (col, end_ends r first)) (cursor_at e.more n false) (piece_of v.mark (along v.mark 3) tokens.DocumentEnd)
-    (λ blank key allowed ad ps. end_here v.mark n blank r e.more sep.0 key allowed ad ps col first sep.1 (break_ends e.more e.break))
-    (within_index 0 limit (cursor_at e.more n false) e.mark o (e.behind 0) (end_count v.mark e.mark r o limit v.count e.count))
+    hands_token v refl (inr (col, end_ends r first)) (cursor_at e.more n false)
+    (piece_of v.mark (along v.mark 3) tokens.DocumentEnd)
+    (λ blank key allowed ad ps. end_here v.mark n blank r e.more sep.0 key allowed ad ps col first sep.1
+    (break_ends e.more e.break))
+    (within_index 0 limit (cursor_at e.more n false) e.mark o (e.behind 0)
+    (end_count v.mark e.mark r o limit v.count e.count))

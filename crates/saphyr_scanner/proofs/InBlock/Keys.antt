@@ -6,13 +6,13 @@ use Rattle.saphyr_scalar.specs.declared.scalar.position.Marker.{Marker}
 use Rattle.saphyr_scalar.specs.Cursor.{along}
 use Rattle.saphyr_scalar.specs.BlockRead.{spaces}
 use Rattle.saphyr_scalar.specs.TagSpelling.{AreIn}
-use Rattle.saphyr_scanner.specs.Core.{Candidate}
-use Rattle.saphyr_scanner.specs.Forest.{Node}
-use Rattle.saphyr_scanner.specs.FlowNodes.{IsOnLine}
-use Rattle.saphyr_scanner.proofs.FlowStates.{moved, past, IsInk, Reads}
-use Rattle.saphyr_scanner.proofs.FlowPlaces.{moved_append, moved_along}
-use Rattle.saphyr_scanner.proofs.FlowGaps.{right_tab as no_left_tab, no_return, past_ink}
-use Rattle.saphyr_scanner.proofs.FlowFillers.{right_tab, one_right, blanks_past}
+use Rattle.saphyr_scanner.specs.Steps.Core.{Candidate}
+use Rattle.saphyr_scanner.specs.Grammar.Forest.{Node}
+use Rattle.saphyr_scanner.specs.Grammar.FlowNodes.{IsOnLine}
+use Rattle.saphyr_scanner.proofs.Flow.States.{moved, past, IsInk, Reads}
+use Rattle.saphyr_scanner.proofs.Flow.Places.{moved_append, moved_along}
+use Rattle.saphyr_scanner.proofs.Flow.Gaps.{right_tab as no_left_tab, past_ink}
+use Rattle.saphyr_scanner.proofs.Flow.Fillers.{right_tab, blanks_past}
 use Rattle.saphyr_scanner.proofs.InFlow.States.{Around, least, least_low}
 use Rattle.saphyr_scanner.proofs.InFlow.KeyLines.{IsNear, not_far, deeper_at, is_required}
 use Rattle.saphyr_scanner.proofs.InFlow.KeyScalars.{colon_ink}
@@ -20,23 +20,30 @@ use Rattle.saphyr_scanner.proofs.InFlow.Keys.{key_read, spaces_on_line, both_on_
 use Rattle.saphyr_scanner.proofs.InBlock.States.{Frame, Moment, moment_at, state_of, tabbed, Follows}
 use Rattle.saphyr_scanner.proofs.InBlock.Follows.{goes_on}
 use Rattle.saphyr_scanner.proofs.InBlock.Statements.{ReadsKey}
+use Rattle.saphyr_input.proofs.Basics.Numbers.{le_next}
+use Rattle.saphyr_input.proofs.Basics.Characters.{no_return}
 
 -- a frame without what is required
 abbrev pub around_of : ℕ → Frame → Around
 around_of limit f = record { limit = limit; indent = f.indent; outers = f.outers; pending = false; required = false }
 
 -- no tab stands left of a column among blanks right of it
-blanks_untabbed : (low column : ℕ) → low ≤ column → (w : List ℕ) (c : ℕ) (cs : List ℕ) → AreIn is_blank w → IsInk c → (m : Marker) (blank : Bool) → column ≤ m.col → tabbed low m blank false (w ++ (c ∷ cs)) ≡ false
-blanks_untabbed low column under [] c cs are ink m blank right = rw (ink.blank, ink.break, ink.comment, no_return c ink.break) refl
+blanks_untabbed : (low column : ℕ) → low ≤ column → (w : List ℕ) (c : ℕ) (cs : List ℕ) → AreIn is_blank w → IsInk c
+    → (m : Marker) (blank : Bool) → column ≤ m.col → tabbed low m blank false (w ++ (c ∷ cs)) ≡ false
+blanks_untabbed low column under [] c cs are ink m blank right =
+    rw (ink.blank, ink.break, ink.comment, no_return c ink.break) refl
 blanks_untabbed low column under (x ∷ xs) c cs are ink m blank right =
     rw are.0
-    (ap (λ (t : Bool). tabbed low (along m 1) blank t (xs ++ (c ∷ cs))) (no_left_tab column low m blank x (right_tab column m x right) under)
-    ∙ blanks_untabbed low column under xs c cs are.1 ink (along m 1) blank (one_right column m.col right))
+    (ap (λ (t : Bool). tabbed low (along m 1) blank t (xs ++ (c ∷ cs)))
+    (no_left_tab column low m blank x (right_tab column m x right) under)
+    ∙ blanks_untabbed low column under xs c cs are.1 ink (along m 1) blank (le_next column m.col right))
 
 -- behind a text on a key's line
-line_near : (m : Marker) (place : ℕ) (t : List ℕ) → IsOnLine t → length t ≤ 1024 → IsNear (record { mark = m; place = place }) (moved m t)
+line_near : (m : Marker) (place : ℕ) (t : List ℕ) → IsOnLine t → length t ≤ 1024
+    → IsNear (record { mark = m; place = place }) (moved m t)
 line_near m place t line short =
-    subst (IsNear (record { mark = m; place = place })) (sym (moved_along m t line)) (record { line = refl; index = further m.index (length t) short })
+    subst (IsNear (record { mark = m; place = place })) (sym (moved_along m t line))
+    (record { line = refl; index = further m.index (length t) short })
   where
     further : (i l : ℕ) → l ≤ 1024 → i + l ≤ i + 1024
     further i l h = omega (arith, h)
@@ -46,11 +53,22 @@ reads_key reads limit node f m t o n far h line apart short white fits start ts 
     let around = around_of limit f in
     let y = t ++ (spaces n ++ (58 ∷ o)) in
     let k : Candidate = record { mark = m; place = length v.places } in
-    let r = key_read reads around refl node m t n o h line apart short white far fits.clear fits.below v.deeper v.blank v.key v.adjacent v.places v.low in
+    let r = key_read reads around refl node m t n o h line apart short white far fits.clear fits.below v.deeper v.blank
+    v.key v.adjacent v.places v.low in
     let a = r.along in
-    let moment : Moment = record { cursor = a.there; key = Some k; allowed = false; adjacent = a.adjacent; deeper = a.deeper; required = is_required around (deeper_at around v.deeper m) m; comment = None } in
+    let moment : Moment = record {
+      cursor = a.there;
+      key = Some k;
+      allowed = false;
+      adjacent = a.adjacent;
+      deeper =
+          a.deeper;
+      required = is_required around (deeper_at around v.deeper m) m;
+      comment = None;
+    } in
     let before : Follows limit start (state_of f (moment_at m y v.blank v.key true v.adjacent v.deeper) v.places) =
-    subst (λ (b : Bool). Follows limit start (state_of f (moment_at m y v.blank v.key b v.adjacent v.deeper) v.places)) allowed v.follows in
+    subst (λ (b : Bool). Follows limit start (state_of f (moment_at m y v.blank v.key b v.adjacent v.deeper) v.places))
+    allowed v.follows in
     let place : moved (moved m t) (spaces n) ≡ moved m (t ++ spaces n) = sym (moved_append m t (spaces n)) in
     let right = a.right in
     record {
@@ -65,11 +83,15 @@ reads_key reads limit node f m t o n far h line apart short white fits start ts 
       node_are = r.are;
       candidate = refl;
       quiet = refl;
-      lands = ap (past 0 a.there.mark) a.rest ∙ (blanks_past 0 a.white a.are_white a.there.mark (none_left a.there.mark.col)).is (58 ∷ o) ∙ past_ink 0 (moved a.there.mark a.white) 58 o colon_ink
+      lands = ap (past 0 a.there.mark) a.rest
+          ∙ (blanks_past 0 a.white a.are_white a.there.mark (none_left a.there.mark.col)).is (58 ∷ o)
+          ∙ past_ink 0 (moved a.there.mark a.white) 58 o colon_ink
           ∙ ap (λ (p : Marker). (p, 58 ∷ o)) (a.mark ∙ place);
       untabbed = ap (tabbed (least f.indent a.deeper) a.there.mark a.there.blank_so_far false) a.rest
-          ∙ blanks_untabbed (least f.indent a.deeper) f.indent (least_low f.indent a.deeper) a.white 58 o a.are_white colon_ink a.there.mark a.there.blank_so_far right;
-      near = not_far k (moved m (t ++ spaces n)) (line_near m (length v.places) (t ++ spaces n) (both_on_line t (spaces n) line (spaces_on_line n)) short);
+          ∙ blanks_untabbed (least f.indent a.deeper) f.indent (least_low f.indent a.deeper) a.white 58 o a.are_white
+          colon_ink a.there.mark a.there.blank_so_far right;
+      near = not_far k (moved m (t ++ spaces n))
+          (line_near m (length v.places) (t ++ spaces n) (both_on_line t (spaces n) line (spaces_on_line n)) short);
       low = subst (λ (p : Marker). a.adjacent ≤ p.index) place a.low;
     }
   where

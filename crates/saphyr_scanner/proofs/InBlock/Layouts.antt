@@ -1,18 +1,18 @@
 -- Each text of the layout grammar gives tokens of its forest.
-use Rattle.std.proofs.Common.{ℕ, ◌<◌, ◌^◌, ◌≤◌, List, length, ap, ◌∙◌, arith}
+use Rattle.std.proofs.Common.{false, ℕ, ◌<◌, ◌^◌, ◌≤◌, List, length, ap, ◌∙◌, arith}
 use Rattle.std.specs.Prelude.{map}
 use Rattle.saphyr_input.specs.Breaks.{normalized}
-use Rattle.saphyr_scanner.specs.Forest.{Forest}
-use Rattle.saphyr_scanner.specs.Layout.{most_open, IsLayoutText}
-use Rattle.saphyr_scanner.specs.Remaining.{Scans, scan}
+use Rattle.saphyr_scanner.specs.Grammar.Forest.{Forest}
+use Rattle.saphyr_scanner.specs.Grammar.Layout.{most_open, IsLayoutText}
+use Rattle.saphyr_scanner.specs.Steps.Remaining.{Scans, scan}
 use Rattle.saphyr_scanner.specs.SameKinds.{HaveSameKinds}
-use Rattle.saphyr_scanner.specs.Seen.{Piece, Remaining}
-use Rattle.saphyr_scanner.specs.TokenGrammar.{Yields}
-use Rattle.saphyr_scanner.specs.Tokens.{Kind}
+use Rattle.saphyr_scanner.specs.Views.Tokens.{Piece, Remaining}
+use Rattle.saphyr_scanner.specs.Grammar.TokenGrammar.{Yields}
+use Rattle.saphyr_scanner.specs.Grammar.Tokens.{Kind}
 use Rattle.saphyr_scanner.proofs.Breaks.Layouts.{no_return_left, scans_too}
 use Rattle.saphyr_scanner.proofs.Breaks.Normal.{beside, normal_shorter}
-use Rattle.saphyr_scanner.proofs.FlowInks.{node_ink}
-use Rattle.saphyr_scanner.proofs.FlowStates.{Reads}
+use Rattle.saphyr_scanner.proofs.Flow.Inks.{node_ink, plain_key_node_ink}
+use Rattle.saphyr_scanner.proofs.Flow.States.{Reads}
 use Rattle.saphyr_scanner.proofs.InBlock.FlowNodes.{reads_flow}
 use Rattle.saphyr_scanner.proofs.InBlock.Keys.{reads_key}
 use Rattle.saphyr_scanner.proofs.InBlock.Properties.{reads_head, reads_properties}
@@ -21,7 +21,7 @@ use Rattle.saphyr_scanner.proofs.InBlock.Scalars as scalars
 use Rattle.saphyr_scanner.proofs.InBlock.Statements.{Leaves}
 use Rattle.saphyr_scanner.proofs.InBlock.Streams.{layout_leads}
 use Rattle.saphyr_scanner.proofs.Lazy.{handed_out}
-use Rattle.saphyr_scanner.proofs.TakingScalars.{Readers}
+use Rattle.saphyr_scanner.proofs.Sizes.Scalars.{Readers}
 
 pub leaves : Reads → ReadsBlocks → (limit : ℕ) → limit < 2 ^ 63 → Leaves limit
 leaves reads blocks limit short = record {
@@ -29,6 +29,7 @@ leaves reads blocks limit short = record {
   block_scalar = scalars.block_scalar blocks short (reads_head reads limit);
   key = reads_key reads limit;
   properties = reads_properties reads limit short;
+  key_ink = λ node indent t. plain_key_node_ink false indent node t;
   flow_ink = λ node room indent in_flow t. node_ink indent room node in_flow t;
   block_ink = block_ink;
   scalar_ends = scalar_ends;
@@ -43,10 +44,14 @@ layout_scans readers reads blocks limit low forest text same layout short =
     let n = normalized text in
     let clean = no_return_left (beside text) in
     let l = normal_shorter text in
-    let run = layout_leads reads limit (leaves reads blocks limit low) forest n clean layout (omega (arith, l, short)) in
+    let run = layout_leads reads limit (leaves reads blocks limit low) forest n clean layout
+    (omega (arith, l, short)) in
     let all = handed_out readers limit n run.0 run.1 run.2 in (
       run.3.0,
       run.3.1,
-      scans_too run.3.0 (scan limit text) (scan limit n) same
-          (ap (λ (r : Remaining). r.refusal) all, ap (λ (r : Remaining). map (λ (t : Piece). t.kind) r.pieces) all ∙ run.3.2),
+      scans_too run.3.0 (scan limit text) (scan limit n) same (
+        ap (λ (r : Remaining). r.refusal) all,
+        ap (λ (r : Remaining). map (λ (t : Piece). t.kind) r.pieces) all
+            ∙ run.3.2,
+      ),
     )

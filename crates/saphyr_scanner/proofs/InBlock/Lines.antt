@@ -5,17 +5,18 @@ use Rattle.std.proofs.lemmas.List.{length-append}
 use Rattle.saphyr_input.specs.Classes.{line_feed}
 use Rattle.saphyr_scalar.specs.declared.scalar.position.Marker.{Marker}
 use Rattle.saphyr_scalar.specs.Cursor.{along, next_line}
-use Rattle.saphyr_scanner.proofs.Sizes.{by_test}
-use Rattle.saphyr_scanner.proofs.FlowStates.{moved, past, IsClear}
-use Rattle.saphyr_scanner.proofs.FlowGaps.{by_steps}
-use Rattle.saphyr_scanner.proofs.FlowPlaces.{behind_character, moved_append, moved_index, moved_count, clear_front, clear_back}
+use Rattle.saphyr_scanner.proofs.Flow.States.{moved, past, IsClear}
+use Rattle.saphyr_scanner.proofs.Flow.Gaps.{by_steps}
+use Rattle.saphyr_scanner.proofs.Flow.Places.{behind_character, moved_append, moved_index, moved_count, clear_front, clear_back}
+use Rattle.saphyr_input.proofs.Basics.Booleans.{by_test}
 
 -- A place has at most as many lines before it as characters.
 abbrev pub IsLined : Marker → Type 0
 IsLined m = m.line ≤ m.index + 1
 
 pub one_lined : (m : Marker) (c : ℕ) → IsLined m → IsLined (behind_character m c)
-one_lined m c h = by_test (c == line_feed) (next_line m 1) (along m 1) IsLined (λ _. broken m.line m.index h) (λ _. further m.line m.index h)
+one_lined m c h = by_test (c == line_feed) (next_line m 1) (along m 1) IsLined (λ _. broken m.line m.index h)
+    (λ _. further m.line m.index h)
   where
     broken : (l i : ℕ) → l ≤ i + 1 → min (l + 1) (2 ^ 64 - 1) ≤ i + 1 + 1
     broken l i h = omega (arith, h)
@@ -28,7 +29,8 @@ moved_lined m [] h = h
 moved_lined m (c ∷ cs) h = moved_lined (behind_character m c) cs (one_lined m c h)
 
 one_line : (m : Marker) (c : ℕ) → IsLined m → m.index < 2 ^ 63 → m.line ≤ (behind_character m c).line
-one_line m c h low = by_test (c == line_feed) (next_line m 1) (along m 1) (λ (n : Marker). m.line ≤ n.line) (λ _. broken m.line m.index h low) (λ _. omega arith)
+one_line m c h low = by_test (c == line_feed) (next_line m 1) (along m 1) (λ (n : Marker). m.line ≤ n.line)
+    (λ _. broken m.line m.index h low) (λ _. omega arith)
   where
     broken : (l i : ℕ) → l ≤ i + 1 → i < 2 ^ 63 → l ≤ min (l + 1) (2 ^ 64 - 1)
     broken l i h low = omega (arith, h, low)
@@ -38,7 +40,8 @@ moved_line m [] h low = omega arith
 moved_line m (c ∷ cs) h low =
     let one = moved_index m (c ∷ []) in
     let here = one_line m c h (front m.index (length cs) low) in
-    let more = moved_line (behind_character m c) cs (one_lined m c h) (back m.index (behind_character m c).index (length cs) one low) in
+    let more = moved_line (behind_character m c) cs (one_lined m c h)
+    (back m.index (behind_character m c).index (length cs) one low) in
     omega (arith, here, more)
   where
     front : (i l : ℕ) → i + suc l < 2 ^ 63 → i < 2 ^ 63
@@ -54,7 +57,8 @@ past_line m t =
     (record {
       stays = λ m t e h low. omega arith;
       onward = λ m c cs r p h low. p (further m.line m.index h) (shorter m.index (length cs) low);
-      line = λ m c cs r p h low. next m.line m.index (length cs) r.0.line h low (p (broken m.line m.index h) (shorter m.index (length cs) low));
+      line = λ m c cs r p h low. next m.line m.index (length cs) r.0.line h low
+          (p (broken m.line m.index h) (shorter m.index (length cs) low));
     }) m t
   where
     further : (l i : ℕ) → l ≤ i + 1 → l ≤ i + 1 + 1
@@ -70,7 +74,8 @@ past_line m t =
     next l i n r h low k = omega (arith, h, low, k)
 
 -- behind a break stands a later line
-pub later_line : (m : Marker) (a b : List ℕ) → IsLined m → m.index + length (a ++ (10 ∷ b)) < 2 ^ 63 → m.line < (moved m (a ++ (10 ∷ b))).line
+pub later_line : (m : Marker) (a b : List ℕ) → IsLined m → m.index + length (a ++ (10 ∷ b)) < 2 ^ 63
+    → m.line < (moved m (a ++ (10 ∷ b))).line
 later_line m a b h low =
     let p = moved m a in
     let count = moved_index m a in
@@ -79,7 +84,8 @@ later_line m a b h low =
     let first = moved_line m a h (omega (arith, low, size)) in
     let down : p.line < (next_line p 1).line = broken p.line p.index lined (omega (arith, low, size, count)) in
     let last = moved_line (next_line p 1) b (one_lined p 10 lined) (omega (arith, low, size, count)) in
-    let all : (moved m (a ++ (10 ∷ b))).line ≡ (moved (next_line p 1) b).line = ap (λ (n : Marker). n.line) (moved_append m a (10 ∷ b)) in
+    let all : (moved m (a ++ (10 ∷ b))).line ≡ (moved (next_line p 1) b).line =
+    ap (λ (n : Marker). n.line) (moved_append m a (10 ∷ b)) in
     omega (arith, first, down, last, all)
   where
     broken : (l i : ℕ) → l ≤ i + 1 → i < 2 ^ 63 → l < min (l + 1) (2 ^ 64 - 1)
@@ -94,11 +100,17 @@ pub record Fits (limit : ℕ) (m : Marker) (p o : List ℕ) : Type 0 where
 
 pub fits_front : {limit : ℕ} (m : Marker) (a b o : List ℕ) → Fits limit m (a ++ b) o → Fits limit m a (b ++ o)
 fits_front {limit} m a b o h =
-    record { clear = clear_front m a b o h.clear; below = subst (λ (t : List ℕ). m.index + length t ≤ limit) (append_assoc a b o) h.below; lined = h.lined }
+    record {
+      clear = clear_front m a b o h.clear;
+      below =
+          subst (λ (t : List ℕ). m.index + length t ≤ limit) (append_assoc a b o) h.below;
+      lined = h.lined;
+    }
 
 pub fits_back : {limit : ℕ} (m : Marker) (a b o : List ℕ) → Fits limit m (a ++ b) o → Fits limit (moved m a) b o
 fits_back {limit} m a b o h =
-    let whole : m.index + length (a ++ (b ++ o)) ≤ limit = subst (λ (t : List ℕ). m.index + length t ≤ limit) (append_assoc a b o) h.below in
+    let whole : m.index + length (a ++ (b ++ o)) ≤ limit = subst (λ (t : List ℕ). m.index + length t ≤ limit)
+    (append_assoc a b o) h.below in
     let count = moved_count m a (b ++ o) in
     record { clear = clear_back m a b o h.clear; below = omega (arith, whole, count); lined = moved_lined m a h.lined }
 

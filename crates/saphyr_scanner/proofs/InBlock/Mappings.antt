@@ -6,28 +6,33 @@ use Rattle.saphyr_input.specs.Places.{is_document_indicator}
 use Rattle.saphyr_scalar.specs.declared.scalar.position.Marker.{Marker}
 use Rattle.saphyr_scalar.specs.BlockRead.{spaces}
 use Rattle.saphyr_scalar.specs.Cursor.{along}
-use Rattle.saphyr_scanner.specs.Queue.{closed}
-use Rattle.saphyr_scanner.specs.State.{State}
-use Rattle.saphyr_scanner.specs.Tokens as tokens
-use Rattle.saphyr_scanner.specs.Tokens.{Kind}
-use Rattle.saphyr_scanner.specs.TokenGrammar as grammar
-use Rattle.saphyr_scanner.specs.Forest.{Node, Pairs, NoPair, MorePairs}
-use Rattle.saphyr_scanner.specs.FlowNodes.{IsOnLine, IsBeforeColon}
-use Rattle.saphyr_scanner.specs.BlockNodes.{BehindMark, BehindKey, IsIndentation, IsImplicitPair, IsKeyAlone, IsMarkedPair, IsBlockPair, IsBlockNode, ArePairs, AreOtherPairs}
-use Rattle.saphyr_scanner.proofs.FlowStates.{IsInk, IsClear, moved, past}
-use Rattle.saphyr_scanner.proofs.FlowPlaces.{moved_append, moved_along, clear_here}
+use Rattle.saphyr_scanner.specs.Steps.Queue.{closed}
+use Rattle.saphyr_scanner.specs.Steps.State.{State}
+use Rattle.saphyr_scanner.specs.Grammar.Tokens as tokens
+use Rattle.saphyr_scanner.specs.Grammar.Tokens.{Kind}
+use Rattle.saphyr_scanner.specs.Grammar.TokenGrammar as grammar
+use Rattle.saphyr_scanner.specs.Grammar.Forest.{Node, Pairs, NoPair, MorePairs}
+use Rattle.saphyr_scanner.specs.Grammar.FlowNodes.{IsOnLine, IsBeforeColon, IsKeyText, IsFlowNode}
+use Rattle.saphyr_scanner.specs.Grammar.BlockNodes.{BehindMark, BehindKey, IsEntryIndentation, IsImplicitPair, IsKeyAlone, IsMarkedPair, IsBlockPair, IsBlockNode, ArePairs, AreOtherPairs}
+use Rattle.saphyr_scanner.proofs.Flow.States.{IsInk, IsClear, moved, past}
+use Rattle.saphyr_scanner.proofs.Flow.Places.{moved_append, moved_along, clear_here}
 use Rattle.saphyr_scanner.proofs.InBlock.Lines.{Fits, fits_front, fits_back, fits_so}
 use Rattle.saphyr_scanner.proofs.InBlock.States.{Frame, EndsDocument, At, Before}
 use Rattle.saphyr_scanner.proofs.InBlock.Entries.{BeginsWhite, frame_behind}
 use Rattle.saphyr_scanner.proofs.InBlock.Marks.{key_kinds, reads_question, reads_value, reads_colon}
 use Rattle.saphyr_scanner.proofs.InBlock.Statements.{IsBehind, ArrivedAt, Arrived, EndsWithLine, as_optional, ReadsAt, Leaves, PairsRead}
 use Rattle.saphyr_scanner.proofs.InBlock.Texts.{node_ends, pair_ends, node_behind, pair_ink, further_ink, behind_indented, indentation_skipped, indentation_col, reaches, spaces_moved}
+use Rattle.saphyr_scanner.proofs.InBlock.TabsAhead.{question_clear}
 use Rattle.saphyr_scanner.proofs.InBlock.Sequences.{StartsLine, starts_behind, not_empty, frame_indent, suc_is, goes_on}
+use Rattle.saphyr_input.proofs.Basics.Numbers.{next_not_within}
 
 -- A pair was read, inside its mapping's frame.
-pub record PairRead (limit : ℕ) (start : State) (key value : Node) (g : Frame) (m : Marker) (o : List ℕ) (ts : List Kind) : Type 0 where
+pub record PairRead (limit : ℕ) (start : State) (key value : Node) (g : Frame) (m : Marker) (o : List ℕ)
+    (ts : List Kind) : Type 0 where
   pub tokens : List Kind
-  pub are : (others : List Kind) → (grammar.BeginsWithValue others → ⊥) → grammar.IsBlockPair key value (grammar.IsNode key grammar.InBlockMapping) (grammar.IsNode value grammar.InBlockMapping) others tokens
+  pub are : (others : List Kind) → (grammar.BeginsWithValue others → ⊥)
+      → grammar.YieldsBlockPair key value (grammar.YieldsNode key grammar.InBlockMapping)
+      (grammar.YieldsNode value grammar.InBlockMapping) others tokens
   pub begins : (others : List Kind) → grammar.BeginsWithValue (tokens ++ others) → ⊥
   pub arrived : Arrived limit start g m o (ts ++ tokens)
 
@@ -38,10 +43,13 @@ mapping_start further = if further then tokens.BlockMappingStart ∷ [] else []
 -- what is shown of a form of a pair
 abbrev pub ReadsPair : ℕ → Node → Node → (ℕ → List ℕ → List ℕ → Type 0) → Type 0
 ReadsPair limit key value Is =
-    (f : Frame) (n : Marker) (further : Bool) → nat_le f.indent n.col ≡ further → f.indent ≤ n.col + 1 → (t z : List ℕ) → Is n.col t z → Fits limit n t z → IsBehind (suc n.col) (moved n t) z
-    → (start : State) (ts : List Kind) (v : At limit start f n (t ++ z) ts) → v.allowed ≡ true → PairRead limit start key value (frame_behind further n.col f) (moved n t) z (ts ++ mapping_start further)
+    (f : Frame) (n : Marker) (further : Bool) → nat_le f.indent n.col ≡ further → f.indent ≤ n.col + 1 → (t z : List ℕ)
+    → Is n.col t z → Fits limit n t z → IsBehind (suc n.col) (moved n t) z
+    → (start : State) (ts : List Kind) (v : At limit start f n (t ++ z) ts) → v.allowed ≡ true
+    → PairRead limit start key value (frame_behind further n.col f) (moved n t) z (ts ++ mapping_start further)
 
-frame_same : (further : Bool) (f : Frame) (col : ℕ) → nat_le f.indent col ≡ further → f.indent ≤ col + 1 → (frame_behind further col f).indent ≡ suc col
+frame_same : (further : Bool) (f : Frame) (col : ℕ) → nat_le f.indent col ≡ further → f.indent ≤ col + 1
+    → (frame_behind further col f).indent ≡ suc col
 frame_same further f col e far = frame_indent further f col e far ∙ suc_is col
 
 -- ## A key on one line
@@ -50,35 +58,55 @@ key_text : (node v z : List ℕ) (k : ℕ) → (node ++ (spaces k ++ (58 ∷ v))
 key_text node v z k = simp append_assoc
 
 implicit_list : (further : Bool) (ts us vs : List Kind)
-    → (ts ++ (key_kinds further ++ (us ++ tokens.Value ∷ []))) ++ vs ≡ (ts ++ mapping_start further) ++ ((tokens.Key ∷ us) ++ (tokens.Value ∷ vs))
+    → (ts ++ (key_kinds further ++ (us ++ tokens.Value ∷ []))) ++ vs
+    ≡ (ts ++ mapping_start further) ++ ((tokens.Key ∷ us) ++ (tokens.Value ∷ vs))
 implicit_list true ts us vs = simp append_assoc
 implicit_list false ts us vs = simp (append_assoc, append-nil)
 
-reads_implicit : {limit : ℕ} → Leaves limit → (key value : Node) → ReadsAt limit value (IsBlockNode 255 value) → ReadsPair limit key value (IsImplicitPair 255 key (IsBlockNode 255 value))
-reads_implicit {limit} leaves key value V f n further e far t z (node, between, v, node_is, line, (k, least, spaced), before, short, h, is) fits behind start ts at_key allowed =
+reads_implicit : {limit : ℕ} → Leaves limit → (key value : Node) → ReadsAt limit value (IsBlockNode 255 value)
+    → ReadsPair limit key value (IsImplicitPair 255 key (IsBlockNode 255 value))
+reads_implicit {limit} leaves key value V f n further e far t z
+    (node, between, v, node_is, line, (k, least, spaced), before, short, h, is) fits behind start ts at_key allowed =
     let g = frame_behind further n.col f in
     let m = moved n (node ++ spaces k) in
-    let inside : t ≡ (node ++ spaces k) ++ (58 ∷ v) = is ∙ ap (λ (x : List ℕ). node ++ (x ++ (58 ∷ v))) spaced ∙ sym (append_assoc node (spaces k) (58 ∷ v)) in
-    let text : t ++ z ≡ node ++ (spaces k ++ (58 ∷ (v ++ z))) = ap (λ (x : List ℕ). x ++ z) (is ∙ ap (λ (x : List ℕ). node ++ (x ++ (58 ∷ v))) spaced) ∙ key_text node v z k in
+    let inside : t ≡ (node ++ spaces k) ++ (58 ∷ v) = is ∙ ap (λ (x : List ℕ). node ++ (x ++ (58 ∷ v))) spaced
+    ∙ sym (append_assoc node (spaces k) (58 ∷ v)) in
+    let text : t ++ z ≡ node ++ (spaces k ++ (58 ∷ (v ++ z))) = ap (λ (x : List ℕ). x ++ z)
+    (is ∙ ap (λ (x : List ℕ). node ++ (x ++ (58 ∷ v))) spaced) ∙ key_text node v z k in
     let whole = fits_so n t ((node ++ spaces k) ++ (58 ∷ v)) z inside fits in
     let fits_colon = fits_back n (node ++ spaces k) (58 ∷ v) z whole in
     let end = ap (moved n) inside ∙ moved_append n (node ++ spaces k) (58 ∷ v) in
     let behind_v = subst (λ (x : Marker). IsBehind (suc n.col) x z) end behind in
-    let ahead = node_behind leaves value (BehindKey n.col) v z refl h behind_v.clean behind_v.no_tab in
+    let ahead = node_behind leaves value (BehindKey n.col) v z refl h behind_v.clean in
     let p = subst (λ (y : List ℕ). (w : At limit start f n y ts) × (w.allowed ≡ true)) text (at_key, allowed) in
-    let r = leaves.key key f n node (v ++ z) k far node_is line (subst (IsBeforeColon key) spaced before) (subst (λ (x : List ℕ). length (node ++ x) ≤ 1024) spaced short) ahead.first
+    let r = leaves.key key f n node (v ++ z) k far
+    (subst (IsKeyText (IsFlowNode 255 key false (suc n.col)) key false (suc n.col) node) spaced node_is) line
+    (subst (IsBeforeColon key) spaced before) (subst (λ (x : List ℕ). length (node ++ x) ≤ 1024) spaced short)
+    ahead.first
     (fits_front n (node ++ spaces k) (58 ∷ v) z whole) start ts p.0 p.1 in
     let right : n.col ≤ m.col = further_right n node k line in
-    let b = reads_colon f r.moment r.places r.others (closed r.key ∷ r.others) r.key n m (v ++ z) ts r.tokens further e far r.follows refl r.first r.are r.candidate r.quiet r.lands r.untabbed r.near right ahead.first ahead.no_tab
-    ahead.clean_all fits_colon.below r.low in
-    let s = V (BehindKey n.col) g (frame_same further f n.col e far) (along m 1) v z h (fits_back m (58 ∷ []) v z fits_colon)
-    (subst (λ (i : ℕ). IsBehind i (moved (along m 1) v) z) (sym (frame_same further f n.col e far)) behind_v) start (ts ++ (key_kinds further ++ (r.tokens ++ tokens.Value ∷ []))) b in
+    let b = reads_colon f r.moment r.places r.others (closed r.key ∷ r.others) r.key n m (v ++ z) ts r.tokens further e
+    far r.follows refl r.first r.are r.candidate r.quiet r.lands r.untabbed r.near right ahead fits_colon.below
+    r.low in
+    let s = V (BehindKey n.col) g (frame_same further f n.col e far) (along m 1) v z h
+    (fits_back m (58 ∷ []) v z fits_colon)
+    (subst (λ (i : ℕ). IsBehind i (moved (along m 1) v) z) (sym (frame_same further f n.col e far)) behind_v) start
+    (ts ++ (key_kinds further ++ (r.tokens ++ tokens.Value ∷ []))) b in
     record {
       tokens = (tokens.Key ∷ r.tokens) ++ (tokens.Value ∷ s.tokens);
-      are = λ others none. inl (tokens.Key ∷ r.tokens, tokens.Value ∷ s.tokens, (r.tokens, inr r.node_are, refl), (s.tokens, as_optional value (BehindKey n.col) s.tokens s.are, refl), refl);
+      are = λ others none. inl (
+        tokens.Key ∷ r.tokens,
+        tokens.Value
+            ∷ s.tokens,
+        (r.tokens, inr r.node_are, refl),
+        (s.tokens, as_optional value (BehindKey n.col) s.tokens s.are, refl),
+        refl,
+      );
       begins = λ others no. no;
-      arrived = subst (λ (x : Marker). Arrived limit start g x z ((ts ++ mapping_start further) ++ ((tokens.Key ∷ r.tokens) ++ (tokens.Value ∷ s.tokens)))) (sym end)
-          (subst (Arrived limit start g (moved (along m 1) v) z) (implicit_list further ts r.tokens s.tokens) s.arrived);
+      arrived = subst (λ (x : Marker). Arrived limit start g x z
+          ((ts ++ mapping_start further) ++ ((tokens.Key ∷ r.tokens) ++ (tokens.Value ∷ s.tokens)))) (sym end)
+          (subst (Arrived limit start g (moved (along m 1) v) z) (implicit_list further ts r.tokens s.tokens)
+          s.arrived);
     }
   where
     more : (a b c : ℕ) → a ≤ a + b + c
@@ -86,7 +114,8 @@ reads_implicit {limit} leaves key value V f n further e far t z (node, between, 
 
     further_right : (n : Marker) (node : List ℕ) (k : ℕ) → IsOnLine node → n.col ≤ (moved n (node ++ spaces k)).col
     further_right n node k line =
-        let place = moved_append n node (spaces k) ∙ spaces_moved (moved n node) k ∙ ap (λ (x : Marker). along x k) (moved_along n node line) in
+        let place = moved_append n node (spaces k) ∙ spaces_moved (moved n node) k
+        ∙ ap (λ (x : Marker). along x k) (moved_along n node line) in
         subst (λ (x : Marker). n.col ≤ x.col) (sym place) (more n.col (length node) k)
 
 -- ## `?` alone
@@ -96,27 +125,35 @@ some_white [] z some h = absurd (some refl)
 some_white (c ∷ cs) z some (inl e) = absurd (cc)
 some_white (c ∷ cs) z some (inr h) = h
 
-alone_list : (further : Bool) (ts us : List Kind) → (ts ++ key_kinds further) ++ us ≡ (ts ++ mapping_start further) ++ (tokens.Key ∷ us)
+alone_list : (further : Bool) (ts us : List Kind)
+    → (ts ++ key_kinds further) ++ us ≡ (ts ++ mapping_start further) ++ (tokens.Key ∷ us)
 alone_list true ts us = simp append_assoc
 alone_list false ts us = simp (append_assoc, append-nil)
 
-reads_alone : {limit : ℕ} → Leaves limit → (key value : Node) → ReadsAt limit key (IsBlockNode 255 key) → ReadsPair limit key value (IsKeyAlone value (IsBlockNode 255 key))
-reads_alone {limit} leaves key value K f n further e far t z (node, out, some, h, is) fits behind start ts at_mark allowed =
+reads_alone : {limit : ℕ} → Leaves limit → (key value : Node) → ReadsAt limit key (IsBlockNode 255 key)
+    → ReadsPair limit key value (IsKeyAlone value (IsBlockNode 255 key))
+reads_alone {limit} leaves key value K f n further e far t z (node, out, some, h, is) fits behind start ts at_mark
+    allowed =
     let g = frame_behind further n.col f in
     let text : t ++ z ≡ 63 ∷ (node ++ z) = ap (λ (x : List ℕ). x ++ z) is in
     let whole = fits_so n t ((63 ∷ []) ++ node) z is fits in
     let end = ap (moved n) is in
     let behind_k = subst (λ (x : Marker). IsBehind (suc n.col) x z) end behind in
-    let ahead = node_behind leaves key (BehindMark n.col) node z refl h behind_k.clean behind_k.no_tab in
+    let ahead = node_behind leaves key (BehindMark n.col) node z refl h behind_k.clean in
     let p = subst (λ (y : List ℕ). (w : At limit start f n y ts) × (w.allowed ≡ true)) text (at_mark, allowed) in
-    let b = reads_question f n (node ++ z) further e far (some_white node z some ahead.white) ahead.no_tab whole.below p.0 p.1 in
-    let r = K (BehindMark n.col) g (frame_same further f n.col e far) (along n 1) node z h (fits_back n (63 ∷ []) node z whole)
-    (subst (λ (i : ℕ). IsBehind i (moved (along n 1) node) z) (sym (frame_same further f n.col e far)) behind_k) start (ts ++ key_kinds further) b in
+    let b = reads_question f n (node ++ z) further e far (some_white node z some.0 ahead.white)
+    (question_clear node z some (node_ends leaves key (BehindMark n.col) node z h) behind_k.no_tab) whole.below p.0
+    p.1 in
+    let r = K (BehindMark n.col) g (frame_same further f n.col e far) (along n 1) node z h
+    (fits_back n (63 ∷ []) node z whole)
+    (subst (λ (i : ℕ). IsBehind i (moved (along n 1) node) z) (sym (frame_same further f n.col e far)) behind_k) start
+    (ts ++ key_kinds further) b in
     record {
       tokens = tokens.Key ∷ r.tokens;
       are = λ others none. inr (inl (out, none, (r.tokens, as_optional key (BehindMark n.col) r.tokens r.are, refl)));
       begins = λ others no. no;
-      arrived = subst (λ (x : Marker). Arrived limit start g x z ((ts ++ mapping_start further) ++ (tokens.Key ∷ r.tokens))) (sym end)
+      arrived = subst (λ (x : Marker). Arrived limit start g x z
+          ((ts ++ mapping_start further) ++ (tokens.Key ∷ r.tokens))) (sym end)
           (subst (Arrived limit start g (moved (along n 1) node) z) (alone_list further ts r.tokens) r.arrived);
     }
 
@@ -134,75 +171,109 @@ some_first [] rest d = (d, rest, refl)
 some_first (c ∷ cs) rest d = (c, cs ++ (d ∷ rest), refl)
 
 marked_list : (further : Bool) (ts us vs : List Kind)
-    → (((ts ++ key_kinds further) ++ us) ++ tokens.Value ∷ []) ++ vs ≡ (ts ++ mapping_start further) ++ ((tokens.Key ∷ us) ++ (tokens.Value ∷ vs))
+    → (((ts ++ key_kinds further) ++ us) ++ tokens.Value ∷ []) ++ vs
+    ≡ (ts ++ mapping_start further) ++ ((tokens.Key ∷ us) ++ (tokens.Value ∷ vs))
 marked_list true ts us vs = simp append_assoc
 marked_list false ts us vs = simp (append_assoc, append-nil)
 
-reads_marked : {limit : ℕ} → Leaves limit → (key value : Node) → ReadsAt limit key (IsBlockNode 255 key) → ReadsAt limit value (IsBlockNode 255 value)
+reads_marked : {limit : ℕ} → Leaves limit → (key value : Node) → ReadsAt limit key (IsBlockNode 255 key)
+    → ReadsAt limit value (IsBlockNode 255 value)
     → ReadsPair limit key value (IsMarkedPair (IsBlockNode 255 key) (IsBlockNode 255 value))
-reads_marked {limit} leaves key value K V f n further e far t z (node, colon, v, some, h, (filler, filler_is, colon_is), j, is) fits behind start ts at_mark allowed =
+reads_marked {limit} leaves key value K V f n further e far t z
+    (node, colon, v, some, h, (filler, filler_is, colon_is), j, is) fits behind start ts at_mark allowed =
     let g = frame_behind further n.col f in
     let same = frame_same further f n.col e far in
     let y = colon ++ (v ++ z) in
     let w = filler ++ spaces n.col in
     let colon_parts : colon ≡ w ++ (58 ∷ []) = colon_is ∙ sym (append_assoc filler (spaces n.col) (58 ∷ [])) in
-    let y_is : y ≡ w ++ (58 ∷ (v ++ z)) = ap (λ (x : List ℕ). x ++ (v ++ z)) colon_parts ∙ append_assoc w (58 ∷ []) (v ++ z) in
-    let text : t ++ z ≡ 63 ∷ (node ++ y) = ap (λ (x : List ℕ). x ++ z) is ∙ ap (λ (x : List ℕ). 63 ∷ x) (append_assoc node (colon ++ v) z ∙ ap (λ (x : List ℕ). node ++ x) (append_assoc colon v z)) in
+    let y_is : y ≡ w ++ (58 ∷ (v ++ z)) = ap (λ (x : List ℕ). x ++ (v ++ z)) colon_parts
+    ∙ append_assoc w (58 ∷ []) (v ++ z) in
+    let text : t ++ z ≡ 63 ∷ (node ++ y) = ap (λ (x : List ℕ). x ++ z) is
+    ∙ ap (λ (x : List ℕ). 63 ∷ x)
+    (append_assoc node (colon ++ v) z ∙ ap (λ (x : List ℕ). node ++ x) (append_assoc colon v z)) in
     let whole = fits_so n t ((63 ∷ []) ++ (node ++ (colon ++ v))) z is fits in
     let fits_in = fits_back n (63 ∷ []) (node ++ (colon ++ v)) z whole in
     let k = moved (along n 1) node in
     let c = moved k w in
     let colon_v : colon ++ v ≡ w ++ (58 ∷ v) = ap (λ (x : List ℕ). x ++ v) colon_parts ∙ append_assoc w (58 ∷ []) v in
     let fits_node = fits_front (along n 1) node (colon ++ v) z fits_in in
-    let fits_key : Fits limit (along n 1) node y = subst (Fits limit (along n 1) node) (append_assoc colon v z) fits_node in
-    let fits_rest = fits_so k (colon ++ v) (w ++ (58 ∷ v)) z colon_v (fits_back (along n 1) node (colon ++ v) z fits_in) in
+    let fits_key : Fits limit (along n 1) node y = subst (Fits limit (along n 1) node) (append_assoc colon v z)
+    fits_node in
+    let fits_rest = fits_so k (colon ++ v) (w ++ (58 ∷ v)) z colon_v
+    (fits_back (along n 1) node (colon ++ v) z fits_in) in
     let fits_colon = fits_back k w (58 ∷ v) z fits_rest in
     let first = some_first w (v ++ z) 58 in
     let starts = starts_behind (along n 1) node y (node_ends leaves key (BehindMark n.col) node y h) in
     let line = not_empty k [] y first.0 first.1 starts (y_is ∙ first.2) in
-    let indented : IsIndentation n.col w = (filler, filler_is, refl) in
+    let indented : IsEntryIndentation n.col w = (filler, filler_is, refl) in
     let col : c.col ≡ n.col = indentation_col k n.col w indented line in
-    let behind_k = subst (IsBehind (suc n.col) k) (sym y_is) (behind_indented n.col k w 58 (v ++ z) indented colon_ink line) in
-    let ahead_k = node_behind leaves key (BehindMark n.col) node y refl h behind_k.clean behind_k.no_tab in
-    let end = ap (moved n) is ∙ moved_append (along n 1) node (colon ++ v) ∙ ap (moved k) colon_v ∙ moved_append k w (58 ∷ v) in
+    let behind_k = subst (IsBehind (suc n.col) k) (sym y_is)
+    (behind_indented n.col k w 58 (v ++ z) indented colon_ink line) in
+    let ahead_k = node_behind leaves key (BehindMark n.col) node y refl h behind_k.clean in
+    let end = ap (moved n) is ∙ moved_append (along n 1) node (colon ++ v) ∙ ap (moved k) colon_v
+    ∙ moved_append k w (58 ∷ v) in
     let behind_v = subst (λ (x : Marker). IsBehind (suc n.col) x z) end behind in
-    let ahead_v = node_behind leaves value (BehindMark n.col) v z refl j behind_v.clean behind_v.no_tab in
+    let ahead_v = node_behind leaves value (BehindMark n.col) v z refl j behind_v.clean in
     let p = subst (λ (x : List ℕ). (u : At limit start f n x ts) × (u.allowed ≡ true)) text (at_mark, allowed) in
-    let b = reads_question f n (node ++ y) further e far (some_white node y some ahead_k.white) ahead_k.no_tab (subst (λ (x : List ℕ). n.index + length x ≤ limit) text fits.below) p.0 p.1 in
-    let r = K (BehindMark n.col) g same (along n 1) node y h fits_key (subst (λ (i : ℕ). IsBehind i k y) (sym same) behind_k) start (ts ++ key_kinds further) b in
+    let b = reads_question f n (node ++ y) further e far (some_white node y some.0 ahead_k.white)
+    (question_clear node y some (node_ends leaves key (BehindMark n.col) node y h) behind_k.no_tab)
+    (subst (λ (x : List ℕ). n.index + length x ≤ limit) text fits.below) p.0 p.1 in
+    let r = K (BehindMark n.col) g same (along n 1) node y h fits_key
+    (subst (λ (i : ℕ). IsBehind i k y) (sym same) behind_k) start (ts ++ key_kinds further) b in
     let us = (ts ++ key_kinds further) ++ r.tokens in
-    let there : past 0 k y ≡ (c, 58 ∷ (v ++ z)) = ap (past 0 k) y_is ∙ reaches k w 58 (v ++ z) (indentation_skipped n.col w indented) colon_ink in
+    let there : past 0 k y ≡ (c, 58 ∷ (v ++ z)) = ap (past 0 k) y_is
+    ∙ reaches k w 58 (v ++ z) (indentation_skipped n.col w indented) colon_ink in
     let at_colon = subst (ArrivedAt limit start g us) there r.arrived in
     let ready = goes_on (no_colon_marker c (v ++ z)) at_colon in
-    let before_v = reads_value g c (v ++ z) (same ∙ sym (suc_is n.col) ∙ ap (λ (i : ℕ). i + 1) (sym col)) ahead_v.first ahead_v.no_tab ahead_v.clean_all fits_colon.below at_colon.at ready.0 ready.1 in
-    let s = V (BehindMark n.col) g same (along c 1) v z j (fits_back c (58 ∷ []) v z fits_colon) (subst (λ (i : ℕ). IsBehind i (moved (along c 1) v) z) (sym same) behind_v) start (us ++ tokens.Value ∷ [])
-    (subst (λ (i : ℕ). Before limit start (BehindMark i) g (along c 1) (v ++ z) (us ++ tokens.Value ∷ [])) col before_v) in
+    let before_v = reads_value g c (v ++ z) (same ∙ sym (suc_is n.col) ∙ ap (λ (i : ℕ). i + 1) (sym col)) ahead_v
+    fits_colon.below at_colon.at ready.0 ready.1 in
+    let s = V (BehindMark n.col) g same (along c 1) v z j (fits_back c (58 ∷ []) v z fits_colon)
+    (subst (λ (i : ℕ). IsBehind i (moved (along c 1) v) z) (sym same) behind_v) start (us ++ tokens.Value ∷ [])
+    (subst (λ (i : ℕ). Before limit start (BehindMark i) g (along c 1) (v ++ z) (us ++ tokens.Value ∷ [])) col
+    before_v) in
     record {
       tokens = (tokens.Key ∷ r.tokens) ++ (tokens.Value ∷ s.tokens);
-      are = λ others none. inl (tokens.Key ∷ r.tokens, tokens.Value ∷ s.tokens, (r.tokens, as_optional key (BehindMark n.col) r.tokens r.are, refl), (s.tokens, as_optional value (BehindMark n.col) s.tokens s.are, refl), refl);
+      are = λ others none. inl (
+        tokens.Key ∷ r.tokens,
+        tokens.Value
+            ∷ s.tokens,
+        (r.tokens, as_optional key (BehindMark n.col) r.tokens r.are, refl),
+        (s.tokens, as_optional value (BehindMark n.col) s.tokens s.are, refl),
+        refl,
+      );
       begins = λ others no. no;
-      arrived = subst (λ (x : Marker). Arrived limit start g x z ((ts ++ mapping_start further) ++ ((tokens.Key ∷ r.tokens) ++ (tokens.Value ∷ s.tokens)))) (sym end)
+      arrived = subst (λ (x : Marker). Arrived limit start g x z
+          ((ts ++ mapping_start further) ++ ((tokens.Key ∷ r.tokens) ++ (tokens.Value ∷ s.tokens)))) (sym end)
           (subst (Arrived limit start g (moved (along c 1) v) z) (marked_list further ts r.tokens s.tokens) s.arrived);
     }
 
-pub reads_pair : {limit : ℕ} → Leaves limit → (key value : Node) → ReadsAt limit key (IsBlockNode 255 key) → ReadsAt limit value (IsBlockNode 255 value)
+pub reads_pair : {limit : ℕ} → Leaves limit → (key value : Node) → ReadsAt limit key (IsBlockNode 255 key)
+    → ReadsAt limit value (IsBlockNode 255 value)
     → ReadsPair limit key value (IsBlockPair 255 key value (IsBlockNode 255 key) (IsBlockNode 255 value))
-reads_pair leaves key value K V f n further e far t z (inl h) fits behind start ts v allowed = reads_implicit leaves key value V f n further e far t z h fits behind start ts v allowed
-reads_pair leaves key value K V f n further e far t z (inr (inl h)) fits behind start ts v allowed = reads_alone leaves key value K f n further e far t z h fits behind start ts v allowed
-reads_pair leaves key value K V f n further e far t z (inr (inr h)) fits behind start ts v allowed = reads_marked leaves key value K V f n further e far t z h fits behind start ts v allowed
+reads_pair leaves key value K V f n further e far t z (inl h) fits behind start ts v allowed =
+    reads_implicit leaves key value V f n further e far t z h fits behind start ts v allowed
+reads_pair leaves key value K V f n further e far t z (inr (inl h)) fits behind start ts v allowed =
+    reads_alone leaves key value K f n further e far t z h fits behind start ts v allowed
+reads_pair leaves key value K V f n further e far t z (inr (inr h)) fits behind start ts v allowed =
+    reads_marked leaves key value K V f n further e far t z h fits behind start ts v allowed
 
 -- ## Pairs
 
 pair_text : (front pair others o : List ℕ) → (front ++ (pair ++ others)) ++ o ≡ front ++ (pair ++ (others ++ o))
 pair_text front pair others o = simp append_assoc
 
-pub other_pairs_behind : {limit : ℕ} → Leaves limit → (pairs : Pairs) (column : ℕ) (m : Marker) (t o : List ℕ) → AreOtherPairs 255 pairs column t o → StartsLine m (t ++ o) → IsBehind (suc column) (moved m t) o
+pub other_pairs_behind : {limit : ℕ} → Leaves limit → (pairs : Pairs) (column : ℕ) (m : Marker) (t o : List ℕ)
+    → AreOtherPairs 255 pairs column t o → StartsLine m (t ++ o) → IsBehind (suc column) (moved m t) o
     → IsBehind (suc column) m (t ++ o)
-other_pairs_behind leaves NoPair column m t o h starts behind = subst (λ (x : List ℕ). IsBehind (suc column) (moved m x) o → IsBehind (suc column) m (x ++ o)) (sym h) (λ k. k) behind
-other_pairs_behind leaves (MorePairs key value pairs) column m t o (front, pair, others, front_is, h, k, e) starts behind =
+other_pairs_behind leaves NoPair column m t o h starts behind =
+    subst (λ (x : List ℕ). IsBehind (suc column) (moved m x) o → IsBehind (suc column) m (x ++ o)) (sym h) (λ k. k)
+    behind
+other_pairs_behind leaves (MorePairs key value pairs) column m t o (front, pair, others, front_is, h, k, e) starts
+    behind =
     let z = others ++ o in
     let b = further_ink pair z (pair_ink leaves key value column pair z h) in
-    let text : t ++ o ≡ front ++ (b.first ∷ b.others) = ap (λ (x : List ℕ). x ++ o) e ∙ pair_text front pair others o ∙ ap (λ (x : List ℕ). front ++ x) b.is in
+    let text : t ++ o ≡ front ++ (b.first ∷ b.others) = ap (λ (x : List ℕ). x ++ o) e ∙ pair_text front pair others o
+    ∙ ap (λ (x : List ℕ). front ++ x) b.is in
     let first = some_first front b.others b.first in
     let col = not_empty m t o first.0 first.1 starts (text ∙ first.2) in
     subst (IsBehind (suc column) m) (sym text) (behind_indented column m front b.first b.others front_is b.ink col)
@@ -210,8 +281,10 @@ other_pairs_behind leaves (MorePairs key value pairs) column m t o (front, pair,
 -- what is shown of the pairs behind the first
 abbrev pub ReadsOtherPairs : ℕ → Pairs → Type 0
 ReadsOtherPairs limit pairs =
-    (g : Frame) (column : ℕ) → g.indent ≡ column + 1 → (m : Marker) (t o : List ℕ) → AreOtherPairs 255 pairs column t o → Fits limit m t o → IsBehind (suc column) (moved m t) o → StartsLine m (t ++ o)
-    → (start : State) (ts : List Kind) → Arrived limit start g m (t ++ o) ts → PairsRead limit start pairs g (moved m t) o ts
+    (g : Frame) (column : ℕ) → g.indent ≡ column + 1 → (m : Marker) (t o : List ℕ) → AreOtherPairs 255 pairs column t o
+    → Fits limit m t o → IsBehind (suc column) (moved m t) o → StartsLine m (t ++ o)
+    → (start : State) (ts : List Kind) → Arrived limit start g m (t ++ o) ts
+    → PairsRead limit start pairs g (moved m t) o ts
 
 pub no_other_pairs : {limit : ℕ} → ReadsOtherPairs limit NoPair
 no_other_pairs {limit} g column same m t o h fits behind starts start ts v =
@@ -219,19 +292,22 @@ no_other_pairs {limit} g column same m t o h fits behind starts start ts v =
       tokens = [];
       are = refl;
       begins = λ no. no;
-      arrived = subst (λ (us : List Kind). Arrived limit start g (moved m t) o us) (sym (append-nil ts)) (subst (λ (x : List ℕ). Arrived limit start g m (x ++ o) ts → Arrived limit start g (moved m x) o ts) (sym h) (λ k. k) v);
+      arrived = subst (λ (us : List Kind). Arrived limit start g (moved m t) o us) (sym (append-nil ts))
+          (subst (λ (x : List ℕ). Arrived limit start g m (x ++ o) ts → Arrived limit start g (moved m x) o ts) (sym h)
+          (λ k. k) v);
     }
 
 -- a token that is no document marker, where the text has none at its line's start
-not_marker : (m : Marker) (c : ℕ) (cs : List ℕ) → ((m.col == 0) && is_document_indicator (c ∷ cs)) ≡ false → EndsDocument m (c ∷ cs) → ⊥
+not_marker : (m : Marker) (c : ℕ) (cs : List ℕ) → ((m.col == 0) && is_document_indicator (c ∷ cs)) ≡ false
+    → EndsDocument m (c ∷ cs) → ⊥
 not_marker m c cs h (inl e) = cc
-not_marker m c cs h (inr k) = absurd (let start : (m.col == 0) ≡ true = zero_is m.col k.0 in let both : ((m.col == 0) && is_document_indicator (c ∷ cs)) ≡ true = rw (start, k.1) refl in let no : false ≡ true = sym h ∙ both in cc)
+not_marker m c cs h (inr k) =
+    absurd (let start : (m.col == 0) ≡ true =
+    zero_is m.col k.0 in let both : ((m.col == 0) && is_document_indicator (c ∷ cs)) ≡ true =
+    rw (start, k.1) refl in let no : false ≡ true = sym h ∙ both in cc)
   where
     zero_is : (n : ℕ) → n ≡ 0 → (n == 0) ≡ true
     zero_is n e = grind (arith, nat_tests)
-
-none_further : (i col : ℕ) → i ≡ col + 1 → nat_le i col ≡ false
-none_further i col e = grind (arith, nat_tests)
 
 least : (i col : ℕ) → i ≡ col + 1 → i ≤ col + 1
 least i col e = omega (arith, e)
@@ -239,9 +315,12 @@ least i col e = omega (arith, e)
 list_end : (ts us vs : List Kind) → ((ts ++ []) ++ us) ++ vs ≡ ts ++ (us ++ vs)
 list_end ts us vs = simp (append_assoc, append-nil)
 
-pub more_pairs : {limit : ℕ} → Leaves limit → (key value : Node) (pairs : Pairs) → ReadsAt limit key (IsBlockNode 255 key) → ReadsAt limit value (IsBlockNode 255 value) → ReadsOtherPairs limit pairs
+pub more_pairs : {limit : ℕ} → Leaves limit → (key value : Node) (pairs : Pairs)
+    → ReadsAt limit key (IsBlockNode 255 key) → ReadsAt limit value (IsBlockNode 255 value)
+    → ReadsOtherPairs limit pairs
     → ReadsOtherPairs limit (MorePairs key value pairs)
-more_pairs {limit} leaves key value pairs K V more g column same m t o (front, pair, others, front_is, h, k, e) fits behind starts start ts v =
+more_pairs {limit} leaves key value pairs K V more g column same m t o (front, pair, others, front_is, h, k, e) fits
+    behind starts start ts v =
     let z = others ++ o in
     let n = moved m front in
     let b = pair_ink leaves key value column pair z h in
@@ -251,9 +330,12 @@ more_pairs {limit} leaves key value pairs K V more g column same m t o (front, p
     let first = some_first front bz.others bz.first in
     let line = not_empty m t o first.0 first.1 starts (inked ∙ first.2) in
     let col : n.col ≡ column = indentation_col m column front front_is line in
-    let there : past 0 m (t ++ o) ≡ (n, pair ++ z) = ap (past 0 m) inked ∙ reaches m front bz.first bz.others (indentation_skipped column front front_is) bz.ink ∙ ap (λ (x : List ℕ). let q : Marker × List ℕ = (n, x) in q) (sym bz.is) in
+    let there : past 0 m (t ++ o) ≡ (n, pair ++ z) = ap (past 0 m) inked
+    ∙ reaches m front bz.first bz.others (indentation_skipped column front front_is) bz.ink
+    ∙ ap (λ (x : List ℕ). let q : Marker × List ℕ = (n, x) in q) (sym bz.is) in
     let at_pair = subst (ArrivedAt limit start g ts) there v in
-    let is_pair = subst (λ (c : ℕ). IsBlockPair 255 key value (IsBlockNode 255 key) (IsBlockNode 255 value) c pair z) (sym col) h in
+    let is_pair = subst (λ (c : ℕ). IsBlockPair 255 key value (IsBlockNode 255 key) (IsBlockNode 255 value) c pair z)
+    (sym col) h in
     let whole = fits_so m t (front ++ (pair ++ others)) o e fits in
     let fits_pairs = fits_back m front (pair ++ others) o whole in
     let fits_pair = fits_front n pair others o fits_pairs in
@@ -263,26 +345,41 @@ more_pairs {limit} leaves key value pairs K V more g column same m t o (front, p
     let starts_z = starts_behind n pair z (ends key value n.col pair z is_pair) in
     let behind_z = other_pairs_behind leaves pairs column last others o k starts_z behind_o in
     let clear = clear_here n b.first b.others z (subst (λ (x : List ℕ). IsClear n x z) b.is fits_pair.clear) in
-    let unmarked : EndsDocument n (pair ++ z) → ⊥ = λ d. not_marker n b.first (b.others ++ z) clear (subst (λ (x : List ℕ). EndsDocument n (x ++ z)) b.is d) in
+    let unmarked : EndsDocument n (pair ++ z) → ⊥ = λ d. not_marker n b.first (b.others ++ z) clear
+    (subst (λ (x : List ℕ). EndsDocument n (x ++ z)) b.is d) in
     let ready = goes_on unmarked at_pair in
     let width = same ∙ ap (λ (c : ℕ). c + 1) (sym col) in
-    let r = reads_pair leaves key value K V g n false (none_further g.indent n.col width) (least g.indent n.col width) pair z is_pair fits_pair (subst (λ (c : ℕ). IsBehind (suc c) last z) (sym col) behind_z) start ts at_pair.at ready.1 in
-    let s = more g column same last others o k (fits_back n pair others o fits_pairs) behind_o starts_z start ((ts ++ []) ++ r.tokens) r.arrived in
+    let r = reads_pair leaves key value K V g n false (next_not_within g.indent n.col width)
+    (least g.indent n.col width) pair z is_pair fits_pair
+    (subst (λ (c : ℕ). IsBehind (suc c) last z) (sym col) behind_z) start ts at_pair.at ready.1 in
+    let s = more g column same last others o k (fits_back n pair others o fits_pairs) behind_o starts_z start
+    ((ts ++ []) ++ r.tokens) r.arrived in
     record {
       tokens = r.tokens ++ s.tokens;
       are = (r.tokens, s.tokens, r.are s.tokens s.begins, s.are, refl);
       begins = r.begins s.tokens;
-      arrived = subst (λ (x : Marker). Arrived limit start g x o (ts ++ (r.tokens ++ s.tokens))) (sym end) (subst (Arrived limit start g (moved last others) o) (list_end ts r.tokens s.tokens) s.arrived);
+      arrived = subst (λ (x : Marker). Arrived limit start g x o (ts ++ (r.tokens ++ s.tokens))) (sym end)
+          (subst (Arrived limit start g (moved last others) o) (list_end ts r.tokens s.tokens) s.arrived);
     }
   where
-    ends : (key value : Node) (c : ℕ) (pair z : List ℕ) → IsBlockPair 255 key value (IsBlockNode 255 key) (IsBlockNode 255 value) c pair z → EndsWithLine pair z
-    ends key value c pair z h = pair_ends key value (λ place u y i. node_ends leaves key place u y i) (λ place u y i. node_ends leaves value place u y i) c pair z h
+    ends : (key value : Node) (c : ℕ) (pair z : List ℕ)
+        → IsBlockPair 255 key value (IsBlockNode 255 key) (IsBlockNode 255 value) c pair z → EndsWithLine pair z
+    ends key value c pair z h =
+        pair_ends key value (λ place u y i. node_ends leaves key place u y i)
+        (λ place u y i. node_ends leaves value place u y i) c pair z h
 
 -- from the first pair on
-pub reads_pairs : {limit : ℕ} → Leaves limit → (key value : Node) (pairs : Pairs) → ReadsAt limit key (IsBlockNode 255 key) → ReadsAt limit value (IsBlockNode 255 value) → ReadsOtherPairs limit pairs
-    → (f : Frame) (n : Marker) (further : Bool) → nat_le f.indent n.col ≡ further → f.indent ≤ n.col + 1 → (t o : List ℕ) → ArePairs 255 (MorePairs key value pairs) n.col t o → Fits limit n t o → IsBehind (suc n.col) (moved n t) o
-    → (start : State) (ts : List Kind) (v : At limit start f n (t ++ o) ts) → v.allowed ≡ true → PairsRead limit start (MorePairs key value pairs) (frame_behind further n.col f) (moved n t) o (ts ++ mapping_start further)
-reads_pairs {limit} leaves key value pairs K V more f n further e far t o (pair, others, h, k, is) fits behind start ts v allowed =
+pub reads_pairs : {limit : ℕ} → Leaves limit → (key value : Node) (pairs : Pairs)
+    → ReadsAt limit key (IsBlockNode 255 key) → ReadsAt limit value (IsBlockNode 255 value)
+    → ReadsOtherPairs limit pairs
+    → (f : Frame) (n : Marker) (further : Bool) → nat_le f.indent n.col ≡ further → f.indent ≤ n.col + 1
+    → (t o : List ℕ) → ArePairs 255 (MorePairs key value pairs) n.col t o → Fits limit n t o
+    → IsBehind (suc n.col) (moved n t) o
+    → (start : State) (ts : List Kind) (v : At limit start f n (t ++ o) ts) → v.allowed ≡ true
+    → PairsRead limit start (MorePairs key value pairs) (frame_behind further n.col f) (moved n t) o
+    (ts ++ mapping_start further)
+reads_pairs {limit} leaves key value pairs K V more f n further e far t o (pair, others, h, k, is) fits behind start ts
+    v allowed =
     let z = others ++ o in
     let g = frame_behind further n.col f in
     let text : t ++ o ≡ pair ++ z = ap (λ (x : List ℕ). x ++ o) is ∙ append_assoc pair others o in
@@ -290,15 +387,21 @@ reads_pairs {limit} leaves key value pairs K V more f n further e far t o (pair,
     let last = moved n pair in
     let end = ap (moved n) is ∙ moved_append n pair others in
     let behind_o = subst (λ (x : Marker). IsBehind (suc n.col) x o) end behind in
-    let starts_z = starts_behind n pair z (pair_ends key value (λ place u y i. node_ends leaves key place u y i) (λ place u y i. node_ends leaves value place u y i) n.col pair z h) in
+    let starts_z = starts_behind n pair z
+    (pair_ends key value (λ place u y i. node_ends leaves key place u y i)
+    (λ place u y i. node_ends leaves value place u y i) n.col pair z h) in
     let behind_z = other_pairs_behind leaves pairs n.col last others o k starts_z behind_o in
     let p = subst (λ (y : List ℕ). (w : At limit start f n y ts) × (w.allowed ≡ true)) text (v, allowed) in
-    let r = reads_pair leaves key value K V f n further e far pair z h (fits_front n pair others o whole) behind_z start ts p.0 p.1 in
-    let s = more g n.col (frame_indent further f n.col e far) last others o k (fits_back n pair others o whole) behind_o starts_z start ((ts ++ mapping_start further) ++ r.tokens) r.arrived in
+    let r = reads_pair leaves key value K V f n further e far pair z h (fits_front n pair others o whole) behind_z start
+    ts p.0 p.1 in
+    let s = more g n.col (frame_indent further f n.col e far) last others o k (fits_back n pair others o whole) behind_o
+    starts_z start ((ts ++ mapping_start further) ++ r.tokens) r.arrived in
     record {
       tokens = r.tokens ++ s.tokens;
       are = (r.tokens, s.tokens, r.are s.tokens s.begins, s.are, refl);
       begins = r.begins s.tokens;
-      arrived = subst (λ (x : Marker). Arrived limit start g x o ((ts ++ mapping_start further) ++ (r.tokens ++ s.tokens))) (sym end)
-          (subst (Arrived limit start g (moved last others) o) (append_assoc (ts ++ mapping_start further) r.tokens s.tokens) s.arrived);
+      arrived = subst (λ (x : Marker). Arrived limit start g x o
+          ((ts ++ mapping_start further) ++ (r.tokens ++ s.tokens))) (sym end)
+          (subst (Arrived limit start g (moved last others) o)
+          (append_assoc (ts ++ mapping_start further) r.tokens s.tokens) s.arrived);
     }

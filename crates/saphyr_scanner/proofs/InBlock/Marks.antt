@@ -1,60 +1,97 @@
 -- The `?` and the `:` of a block mapping are read (YAML 1.2.2, 8.2.2).
-use Rattle.std.proofs.Common.{◌≡◌, ℕ, suc, ◌+◌, ◌<◌, ◌≤◌, Bool, true, false, List, [], ◌∷◌, ◌++◌, length, slice_index, refl, sym, ap, ◌∙◌, arith, append_assoc, Ok, ◌⊎◌, inl, inr}
-use Rattle.std.specs.Prelude.{◌||◌, ◌==◌, nat_le, nat_lt, Option, Some, None, if◌then◌else◌}
+use Rattle.std.proofs.Common.{◌≡◌, ℕ, zero, suc, ◌+◌, ◌<◌, ◌≤◌, Bool, true, false, List, [], ◌∷◌, ◌++◌, length, slice_index, refl, sym, ap, ◌∙◌, arith, append_assoc, IsTrue, Ok, ◌⊎◌, inl, inr}
+use Rattle.std.specs.Prelude.{◌||◌, ◌&&◌, ◌==◌, not, nat_le, nat_lt, Option, Some, None, if◌then◌else◌}
 use Rattle.std.proofs.lemmas.Bool.Decides.{nat_tests}
-use Rattle.saphyr_input.specs.Classes.{is_blank, is_blank_or_breakz}
+use Rattle.std.proofs.lemmas.List.{length-append}
+use Rattle.saphyr_input.specs.Classes.{is_alpha, is_blank, is_blank_or_breakz}
 use Rattle.saphyr_input.specs.Places.{is_document_indicator}
 use Rattle.saphyr_scalar.specs.declared.scalar.position.Marker.{Marker}
-use Rattle.saphyr_scalar.specs.Cursor.{◌>>=◌, along}
+use Rattle.saphyr_input.specs.Separation.{found_blanks, has_valid_yaml_ws}
+use Rattle.saphyr_input.specs.declared.input.SkipTabs.{SkipTabs}
+use Rattle.saphyr_input.specs.declared.input.SkipTabs.TheVariants.{Yes}
+use Rattle.saphyr_scalar.specs.BlockRead.{spaces}
+use Rattle.saphyr_scalar.specs.Cursor.{Cursor, ◌>>=◌, along, separation}
 use Rattle.saphyr_scanner.specs.declared.engine.level.Context.TheVariants as context
 use Rattle.saphyr_scanner.specs.declared.queue.Opening.{Opening}
 use Rattle.saphyr_scanner.specs.declared.queue.Opening.TheVariants as opening
-use Rattle.saphyr_scanner.specs.Core.{least_column, Core, Candidate, Open, went, at_mark, from_to, up_to_here, perform, is_too_far, is_further, roll, remove_key, with_context, in_block}
-use Rattle.saphyr_scanner.specs.Block as block
-use Rattle.saphyr_scanner.specs.Block.{behind_start}
-use Rattle.saphyr_scanner.specs.Gap as gap
-use Rattle.saphyr_scanner.specs.Passing.{with_cursor}
-use Rattle.saphyr_scanner.specs.Queue.{next, Place, Queue, closed, empty_piece}
-use Rattle.saphyr_scanner.specs.Seen.{Piece}
-use Rattle.saphyr_scanner.specs.State.{State, acted}
-use Rattle.saphyr_scanner.specs.Tokens as tokens
-use Rattle.saphyr_scanner.specs.Tokens.{Kind}
-use Rattle.saphyr_scanner.specs.Value as value
-use Rattle.saphyr_scanner.specs.Fetch.{fetch, fetch_here, content, step}
-use Rattle.saphyr_scanner.specs.BlockNodes as layout
-use Rattle.saphyr_scanner.proofs.JsonStates.{queue_of, cursor_at, and_false}
-use Rattle.saphyr_scanner.proofs.JsonMarks.{kinds, kinds_append}
-use Rattle.saphyr_scanner.proofs.FlowColons.{pair_places, performs}
-use Rattle.saphyr_scanner.proofs.FlowGaps.{past_count, past_again}
-use Rattle.saphyr_scanner.proofs.FlowStates.{past}
-use Rattle.saphyr_scanner.proofs.InBlock.States.{Frame, Moment, moment_at, moment_with, core_of, state_of, IsUntabbed, IsStop, crosses, Follows, At, Before}
+use Rattle.saphyr_scanner.specs.Steps.Core.{least_column, Core, Candidate, Open, went, at_mark, from_to, up_to_here, perform, is_too_far, is_further, roll, remove_key, with_context, in_block}
+use Rattle.saphyr_scanner.specs.Steps.Block as block
+use Rattle.saphyr_scanner.specs.Steps.Block.{behind_start}
+use Rattle.saphyr_scanner.specs.Steps.Gap as gap
+use Rattle.saphyr_scanner.specs.Steps.Passing.{with_cursor}
+use Rattle.saphyr_scanner.specs.Steps.Queue.{next, Place, Queue, closed, empty_piece}
+use Rattle.saphyr_scanner.specs.Views.Tokens.{Piece}
+use Rattle.saphyr_scanner.specs.Steps.State.{State, acted}
+use Rattle.saphyr_scanner.specs.Grammar.Tokens as tokens
+use Rattle.saphyr_scanner.specs.Grammar.Tokens.{Kind}
+use Rattle.saphyr_scanner.specs.Steps.Value as value
+use Rattle.saphyr_scanner.specs.Steps.Fetch.{fetch, fetch_here, content, step}
+use Rattle.saphyr_scanner.specs.Grammar.BlockNodes as layout
+use Rattle.saphyr_scanner.proofs.Json.States.{queue_of}
+use Rattle.saphyr_scanner.proofs.Json.Marks.{kinds, kinds_append}
+use Rattle.saphyr_scanner.proofs.Flow.Colons.{pair_places, performs}
+use Rattle.saphyr_scanner.proofs.Flow.Fillers.{EndsLine}
+use Rattle.saphyr_scanner.proofs.Flow.Gaps.{past_count, past_again}
+use Rattle.saphyr_scanner.proofs.Flow.Separates.{blank_stops}
+use Rattle.saphyr_scanner.proofs.Flow.States.{past}
+use Rattle.saphyr_scanner.proofs.InBlock.States.{Frame, Moment, moment_at, moment_with, core_of, state_of, tabbed, IsUntabbed, IsStop, crosses, Follows, At, Before}
 use Rattle.saphyr_scanner.proofs.InBlock.Gaps.{past_stops, stop_tabbed}
-use Rattle.saphyr_scanner.proofs.InBlock.Skips.{IsClean, has_tab, spaces_reach}
+use Rattle.saphyr_scanner.proofs.InBlock.Skips.{has_tab, spaces_reach}
 use Rattle.saphyr_scanner.proofs.InBlock.Follows.{BeginsToken, steps_from, begins_here, deeper_at, lands_key}
-use Rattle.saphyr_scanner.proofs.InBlock.Entries.{BeginsWhite, frame_behind, steps_on, before_next}
+use Rattle.saphyr_scanner.proofs.InBlock.Entries.{BeginsWhite, IsBehindIndicator, front_end, separates, frame_behind, steps_on, before_next}
+use Rattle.saphyr_scalar.proofs.Given.{cursor_at}
+use Rattle.saphyr_input.proofs.Basics.Numbers.{le_next, zero_below_next, next_not_within}
+use Rattle.saphyr_input.proofs.Basics.Booleans.{and_false}
+use Rattle.std.proofs.Math.Bool.{or-true}
+use Rattle.std.proofs.lemmas.Bool.{or_parts}
 
 -- ## `?`
 
-white_apart : (c : ℕ) → (c ≡ 32) ⊎ (c ≡ 10) → is_blank_or_breakz c ≡ true
-white_apart c (inl e) = rw e refl
-white_apart c (inr e) = rw e refl
-
 white_first : (o : List ℕ) → BeginsWhite o → is_blank_or_breakz (slice_index o 0) ≡ true
 white_first [] h = absurd h
-white_first (c ∷ cs) h = white_apart c h
+white_first (c ∷ cs) (inl e) = blank_apart c e
+  where
+    blank_apart : (c : ℕ) → is_blank c ≡ true → is_blank_or_breakz c ≡ true
+    blank_apart c e = grind (arith, nat_tests)
+white_first (c ∷ cs) (inr e) = rw e refl
 
-reach : (m : Marker) (o : List ℕ) → BeginsWhite o → has_tab o ≡ false → (b : Bool) × (gap.spaces m false false o ≡ gap.spaced (past 0 m o).0 b true (past 0 m o).1)
+-- a space or a break
+no_tab_first : (c : ℕ) (cs : List ℕ) → IsTrue (is_blank c) ⊎ (c ≡ 10) → has_tab (c ∷ cs) ≡ false → (c ≡ 32) ⊎ (c ≡ 10)
+no_tab_first c cs (inl e) clean = inl (space c e (or_parts (c == 9) (has_tab cs) (sym whole ∙ clean)).0)
+  where
+    whole : has_tab (c ∷ cs) ≡ ((c == 9) || has_tab cs)
+    whole = rw e refl
+
+    space : (c : ℕ) → is_blank c ≡ true → (c == 9) ≡ false → c ≡ 32
+    space c e f = grind (arith, nat_tests)
+no_tab_first c cs (inr e) clean = inr e
+
+reach : (m : Marker) (o : List ℕ) → BeginsWhite o → has_tab o ≡ false
+    → (b : Bool) × (gap.spaces m false false o ≡ gap.spaced (past 0 m o).0 b true (past 0 m o).1)
 reach m [] h clean = absurd h
-reach m (c ∷ cs) h clean = spaces_reach m false c cs h clean
-
-no_marker : (c : ℕ) (o : List ℕ) → (c == 45) ≡ false → (c == 46) ≡ false → is_document_indicator (c ∷ o) ≡ false
-no_marker c o e f = rw (e, f) refl
+reach m (c ∷ cs) h clean = spaces_reach m false c cs (no_tab_first c cs h clean) clean
 
 mark_begins : (m : Marker) (o : List ℕ) → BeginsToken m (63 ∷ o)
-mark_begins m o = record { stop = (refl, refl, refl); nul = refl; byte_order_mark = refl; directive = and_false (m.col == 0); marker = and_false (m.col == 0) }
+mark_begins m o = record {
+  stop =
+      (refl, refl, refl);
+  nul =
+      refl;
+  byte_order_mark = refl;
+  directive = and_false (m.col == 0);
+  marker = and_false (m.col == 0);
+}
 
 colon_begins : (m : Marker) (o : List ℕ) → BeginsToken m (58 ∷ o)
-colon_begins m o = record { stop = (refl, refl, refl); nul = refl; byte_order_mark = refl; directive = and_false (m.col == 0); marker = and_false (m.col == 0) }
+colon_begins m o = record {
+  stop =
+      (refl, refl, refl);
+  nul =
+      refl;
+  byte_order_mark = refl;
+  directive = and_false (m.col == 0);
+  marker = and_false (m.col == 0);
+}
 
 no_tab_here : (y : List ℕ) → IsStop y → (slice_index y 0 == 9) ≡ false
 no_tab_here [] h = refl
@@ -63,8 +100,12 @@ no_tab_here (c ∷ cs) h = no_tab c h.0
     no_tab : (c : ℕ) → is_blank c ≡ false → (c == 9) ≡ false
     no_tab c h = grind (arith, nat_tests)
 
-enters : (f : Frame) (m : Marker) (y : List ℕ) (blank : Bool) (key : Option Candidate) (ad : ℕ) (deeper further : Bool) → nat_le f.indent m.col ≡ further
-    → (d : Bool) × (remove_key (with_context (block.behind_question context.Block) (roll m.col (core_of f (moment_at m y blank key true ad deeper)))) ≡ Ok (core_of (frame_behind further m.col f) (moment_at m y blank None true ad d)))
+enters : (f : Frame) (m : Marker) (y : List ℕ) (blank : Bool) (key : Option Candidate) (ad : ℕ) (deeper further : Bool)
+    → nat_le f.indent m.col ≡ further
+    → (d : Bool) × (remove_key
+    (with_context (block.behind_question context.Block)
+    (roll m.col (core_of f (moment_at m y blank key true ad deeper))))
+    ≡ Ok (core_of (frame_behind further m.col f) (moment_at m y blank None true ad d)))
 unfolding remove_key
 enters f m y blank key ad deeper true e = (false, rw e refl)
 enters f m y blank key ad deeper false e = (deeper, rw e refl)
@@ -73,20 +114,27 @@ enters f m y blank key ad deeper false e = (deeper, rw e refl)
 abbrev behind_question : Marker → List ℕ → Bool → ℕ → Bool → Moment
 behind_question n y blank ad deeper = moment_at n y blank None true ad deeper
 
-passes_mark : (g : Frame) (m : Marker) (o : List ℕ) (blank : Bool) (ad : ℕ) (deeper : Bool) → BeginsWhite o → has_tab o ≡ false
-    → (b : Bool) × (block.pass_mark (core_of g (moment_at m (63 ∷ o) blank None true ad deeper)) ≡ Ok (core_of g (behind_question (past 0 (along m 1) o).0 (past 0 (along m 1) o).1 b ad deeper)))
+passes_mark : (g : Frame) (m : Marker) (o : List ℕ) (blank : Bool) (ad : ℕ) (deeper : Bool) → BeginsWhite o
+    → has_tab o ≡ false
+    → (b : Bool) × (block.pass_mark (core_of g (moment_at m (63 ∷ o) blank None true ad deeper))
+    ≡ Ok (core_of g (behind_question (past 0 (along m 1) o).0 (past 0 (along m 1) o).1 b ad deeper)))
 unfolding block.behind_mark
 passes_mark g m o blank ad deeper h clean =
     let r = reach (along m 1) o h clean in
     let c = core_of g (moment_at m (63 ∷ o) blank None true ad deeper) in
     let none = no_tab_here (past 0 (along m 1) o).1 (past_stops (along m 1) o) in
-    let there : block.behind_mark true (core_of g (behind_question (past 0 (along m 1) o).0 (past 0 (along m 1) o).1 r.0 ad deeper)) ≡ Ok (core_of g (behind_question (past 0 (along m 1) o).0 (past 0 (along m 1) o).1 r.0 ad deeper)) =
+    let there : block.behind_mark true
+    (core_of g (behind_question (past 0 (along m 1) o).0 (past 0 (along m 1) o).1 r.0 ad deeper))
+    ≡ Ok (core_of g (behind_question (past 0 (along m 1) o).0 (past 0 (along m 1) o).1 r.0 ad deeper)) =
     rw none refl in
     (r.0, ap (λ (s : gap.Spaced). block.behind_mark s.space (with_cursor s.cursor c)) r.1 ∙ there)
 
-question_step : (f : Frame) (m : Marker) (o : List ℕ) (blank : Bool) (key : Option Candidate) (ad : ℕ) (deeper further : Bool) → nat_le f.indent m.col ≡ further → BeginsWhite o → has_tab o ≡ false → (i : ℕ)
+question_step : (f : Frame) (m : Marker) (o : List ℕ) (blank : Bool) (key : Option Candidate) (ad : ℕ)
+    (deeper further : Bool) → nat_le f.indent m.col ≡ further → BeginsWhite o → has_tab o ≡ false → (i : ℕ)
     → (b : Bool) × (d : Bool) × (step 63 (slice_index o 0) i (core_of f (moment_at m (63 ∷ o) blank key true ad deeper))
-    ≡ went (behind_start further m tokens.BlockMappingStart (from_to m (past 0 (along m 1) o).0 tokens.Key)) (core_of (frame_behind further m.col f) (behind_question (past 0 (along m 1) o).0 (past 0 (along m 1) o).1 b ad d)))
+    ≡ went (behind_start further m tokens.BlockMappingStart (from_to m (past 0 (along m 1) o).0 tokens.Key))
+    (core_of (frame_behind further m.col f)
+    (behind_question (past 0 (along m 1) o).0 (past 0 (along m 1) o).1 b ad d)))
 unfolding step block.key block.begin_key
 question_step f m o blank key ad deeper further e h clean i =
     let c = core_of f (moment_at m (63 ∷ o) blank key true ad deeper) in
@@ -98,16 +146,21 @@ question_step f m o blank key ad deeper further e h clean i =
     let begun = ap (λ q. q >>= λ (d : Core). block.pass_mark (record d { key_allowed = in_block d })) r.1 ∙ p.1 in (
       p.0,
       r.0,
-      rw first (ap (λ q. q >>= λ (d : Core). went (behind_start (is_further m.col c) m tokens.BlockMappingStart (up_to_here m tokens.Key d)) d) begun
+      rw first (ap (λ q. q >>= λ (d : Core). went
+          (behind_start (is_further m.col c) m tokens.BlockMappingStart (up_to_here m tokens.Key d)) d) begun
           ∙ ap (λ (b : Bool). went (behind_start b m tokens.BlockMappingStart (up_to_here m tokens.Key last)) last) e),
     )
 
 -- what is put into the queue
 mark_places : Bool → Marker → Marker → List Place → List Place
-mark_places true m n ps = (ps ++ closed (empty_piece m tokens.BlockMappingStart) ∷ []) ++ closed (record { span = record { start = m; end = n }; kind = tokens.Key }) ∷ []
+mark_places true m n ps =
+    (ps ++ closed (empty_piece m tokens.BlockMappingStart) ∷ [])
+    ++ closed (record { span = record { start = m; end = n }; kind = tokens.Key }) ∷ []
 mark_places false m n ps = ps ++ closed (record { span = record { start = m; end = n }; kind = tokens.Key }) ∷ []
 
-mark_performs : (further : Bool) (m n : Marker) (ps : List Place) → perform (behind_start further m tokens.BlockMappingStart (from_to m n tokens.Key)) (queue_of ps) ≡ queue_of (mark_places further m n ps)
+mark_performs : (further : Bool) (m n : Marker) (ps : List Place)
+    → perform (behind_start further m tokens.BlockMappingStart (from_to m n tokens.Key)) (queue_of ps)
+    ≡ queue_of (mark_places further m n ps)
 unfolding mark_places
 mark_performs true m n ps = refl
 mark_performs false m n ps = refl
@@ -116,12 +169,16 @@ mark_performs false m n ps = refl
 abbrev pub key_kinds : Bool → List Kind
 key_kinds further = if further then tokens.BlockMappingStart ∷ tokens.Key ∷ [] else tokens.Key ∷ []
 
-mark_are : (further : Bool) (m n : Marker) (ps : List Place) (ts : List Kind) → kinds ps ≡ ts → kinds (mark_places further m n ps) ≡ ts ++ key_kinds further
+mark_are : (further : Bool) (m n : Marker) (ps : List Place) (ts : List Kind) → kinds ps ≡ ts
+    → kinds (mark_places further m n ps) ≡ ts ++ key_kinds further
 unfolding mark_places
 mark_are true m n ps ts e =
-    let first = kinds_append ps (closed (empty_piece m tokens.BlockMappingStart) ∷ []) ∙ ap (λ (x : List Kind). x ++ tokens.BlockMappingStart ∷ []) e in
+    let first = kinds_append ps (closed (empty_piece m tokens.BlockMappingStart) ∷ [])
+    ∙ ap (λ (x : List Kind). x ++ tokens.BlockMappingStart ∷ []) e in
     let key : Place = closed (record { span = record { start = m; end = n }; kind = tokens.Key }) in
-    kinds_append (ps ++ closed (empty_piece m tokens.BlockMappingStart) ∷ []) (key ∷ []) ∙ ap (λ (x : List Kind). x ++ tokens.Key ∷ []) first ∙ append_assoc ts (tokens.BlockMappingStart ∷ []) (tokens.Key ∷ [])
+    kinds_append (ps ++ closed (empty_piece m tokens.BlockMappingStart) ∷ []) (key ∷ [])
+    ∙ ap (λ (x : List Kind). x ++ tokens.Key ∷ []) first
+    ∙ append_assoc ts (tokens.BlockMappingStart ∷ []) (tokens.Key ∷ [])
 mark_are false m n ps ts e =
     let key : Place = closed (record { span = record { start = m; end = n }; kind = tokens.Key }) in
     kinds_append ps (key ∷ []) ∙ ap (λ (x : List Kind). x ++ tokens.Key ∷ []) e
@@ -132,16 +189,12 @@ within_index i l j k limit e h = omega (arith, e, h)
 shifted : (i l limit : ℕ) → i + suc l ≤ limit → i + 1 + l ≤ limit
 shifted i l limit h = omega (arith, h)
 
-later : (a b : ℕ) → a ≤ b → a ≤ b + 1
-later a b h = omega (arith, h)
-
-true_or : (b : Bool) → (b || true) ≡ true
-true_or true = refl
-true_or false = refl
-
 -- `?` is read, which begins a mapping or goes on with one
-pub reads_question : {limit : ℕ} {start : State} {ts : List Kind} (f : Frame) (m : Marker) (o : List ℕ) (further : Bool) → nat_le f.indent m.col ≡ further → f.indent ≤ m.col + 1 → BeginsWhite o → has_tab o ≡ false
-    → m.index + length (63 ∷ o) ≤ limit → (v : At limit start f m (63 ∷ o) ts) → v.allowed ≡ true → Before limit start (layout.BehindMark m.col) (frame_behind further m.col f) (along m 1) o (ts ++ key_kinds further)
+pub reads_question : {limit : ℕ} {start : State} {ts : List Kind} (f : Frame) (m : Marker) (o : List ℕ) (further : Bool)
+    → nat_le f.indent m.col ≡ further → f.indent ≤ m.col + 1 → BeginsWhite o → has_tab o ≡ false
+    → m.index + length (63 ∷ o) ≤ limit → (v : At limit start f m (63 ∷ o) ts) → v.allowed ≡ true
+    → Before limit start (layout.BehindMark m.col) (frame_behind further m.col f) (along m 1) o
+    (ts ++ key_kinds further)
 unfolding content
 reads_question {limit} {start} {ts} f m o further e far h clean count v allowed =
     let i = next (queue_of v.places) in
@@ -152,67 +205,167 @@ reads_question {limit} {start} {ts} f m o further e far h clean count v allowed 
     let y = (past 0 (along m 1) o).1 in
     let t = behind_question n y s.0 v.adjacent s.1 in
     let qs = mark_places further m n v.places in
-    let made : content 63 (slice_index o 0) (state_of f (moment_at m (63 ∷ o) v.blank v.key true v.adjacent deeper) v.places) ≡ Ok (state_of g t qs) =
-    ap (λ r. acted r (queue_of v.places)) s.2 ∙ ap (λ (q : Queue). Ok (let r : State = record { core = core_of g t; queue = q } in r)) (mark_performs further m n v.places) in
-    let there : content 63 (slice_index o 0) (state_of f (moment_at m (63 ∷ o) v.blank v.key v.allowed v.adjacent deeper) v.places) ≡ Ok (state_of g t qs) =
-    ap (λ (b : Bool). content 63 (slice_index o 0) (state_of f (moment_at m (63 ∷ o) v.blank v.key b v.adjacent deeper) v.places)) allowed ∙ made in
+    let made : content 63 (slice_index o 0)
+    (state_of f (moment_at m (63 ∷ o) v.blank v.key true v.adjacent deeper) v.places) ≡ Ok (state_of g t qs) =
+    ap (λ r. acted r (queue_of v.places)) s.2
+    ∙ ap (λ (q : Queue). Ok (let r : State = record { core = core_of g t; queue = q } in r))
+    (mark_performs further m n v.places) in
+    let there : content 63 (slice_index o 0)
+    (state_of f (moment_at m (63 ∷ o) v.blank v.key v.allowed v.adjacent deeper) v.places) ≡ Ok (state_of g t qs) =
+    ap (λ (b : Bool). content 63 (slice_index o 0)
+    (state_of f (moment_at m (63 ∷ o) v.blank v.key b v.adjacent deeper) v.places)) allowed ∙ made in
     let counted = past_count 0 (along m 1) o in
     let stop = past_stops (along m 1) o in
     before_next (layout.BehindMark m.col) g t qs (along m 1) o
-    (steps_on f g m (63 ∷ o) v (mark_begins m o) far t qs there refl (within_index n.index (length y) (m.index + 1) (length o) limit counted (shifted m.index (length o) limit count)))
-    (mark_are further m n v.places ts v.are) refl refl refl (later v.adjacent m.index v.low) (past_again 0 (along m 1) o) (λ least. stop_tabbed least n s.0 false y stop) (true_or (crosses y)) refl
+    (steps_on f g m (63 ∷ o) v (mark_begins m o) far t qs there refl
+    (within_index n.index (length y) (m.index + 1) (length o) limit counted
+    (shifted m.index (length o) limit count)))
+    (mark_are further m n v.places ts v.are) refl refl refl (le_next v.adjacent m.index v.low)
+    (past_again 0 (along m 1) o) (λ least. stop_tabbed least n s.0 false y stop) (or-true (crosses y)) refl
+
+-- ## Behind a colon
+
+-- What stands behind a colon on its line is passed, where a tab stands first; else nothing is.
+record PassesColon (o : List ℕ) (h : IsBehindIndicator o) (m : Marker) : Type 0 where
+  mark : Marker
+  rest : List ℕ
+  passes : (f : Frame) (n : Moment) → n.cursor ≡ cursor_at o m false
+      → value.check_tab (core_of f n) ≡ Ok (core_of f (record n { cursor = cursor_at rest mark false }))
+  low : mark.index ≤ m.index + length o
+  lands : past 0 mark rest ≡ past 0 m o
+  crosses_same : crosses rest ≡ crosses o
+  clean : (least : ℕ) → tabbed least mark false false rest ≡ false
+
+-- where the line ends, no word stands
+no_word : (more : List ℕ) → EndsLine more → ((slice_index more 0 == 45) || is_alpha (slice_index more 0)) ≡ false
+no_word more (inl e) = ap (λ (t : List ℕ). (slice_index t 0 == 45) || is_alpha (slice_index t 0)) e
+no_word more (inr e) = ap (λ (c : ℕ). (c == 45) || is_alpha c) e
+
+no_space_first : (o : List ℕ) (n : ℕ) (xs : List ℕ) → o ≡ spaces n ++ xs → is_blank (slice_index xs 0) ≡ false
+    → (slice_index o 0 == 9) ≡ false
+no_space_first o zero xs e h = ap (λ (t : List ℕ). slice_index t 0 == 9) e ∙ no_tab xs h
+  where
+    none : (c : ℕ) → is_blank c ≡ false → (c == 9) ≡ false
+    none c h = grind (arith, nat_tests)
+
+    no_tab : (xs : List ℕ) → is_blank (slice_index xs 0) ≡ false → (slice_index xs 0 == 9) ≡ false
+    no_tab xs h = none (slice_index xs 0) h
+no_space_first o (suc n) xs e h = ap (λ (t : List ℕ). slice_index t 0 == 9) e
+
+passes_colon : (o : List ℕ) (h : IsBehindIndicator o) (m : Marker) → PassesColon o h m
+unfolding value.check_tab
+passes_colon o h m = by_tab (slice_index o 0 == 9) refl h.tabs
+  where
+    size : length o ≡ length (h.blanks ++ h.comment) + length h.more
+    size = ap length (h.is ∙ sym (append_assoc h.blanks h.comment h.more))
+        ∙ length-append (h.blanks ++ h.comment) h.more
+
+    ended : (slice_index o 0 == 9) ≡ true → EndsLine h.more → (f : Frame) (n : Moment) → n.cursor ≡ cursor_at o m false
+        → value.check_tab (core_of f n) ≡ Ok (core_of f (record n { cursor = cursor_at h.more (front_end h m) false }))
+    ended e ends f n at =
+        let there = cursor_at h.more (front_end h m) false in
+        let sep = ap (separation Yes) at ∙ separates o h m false in
+        let first : (slice_index n.cursor.rest 0 == 9) ≡ true = ap (λ (s : Cursor). slice_index s.rest 0 == 9) at ∙ e in
+        let word : value.refuse_tab (found_blanks Yes o, core_of f (record n { cursor = there }))
+        ≡ Ok (core_of f (record n { cursor = there })) =
+        rw (no_word h.more ends, and_false (not (has_valid_yaml_ws (found_blanks Yes o)))) refl in
+        rw first (ap (λ r. (r >>= λ (x : SkipTabs × Cursor). Ok (x.0, with_cursor x.1 (core_of f n)))
+        >>= value.refuse_tab) sep ∙ word)
+
+    stays : (slice_index o 0 == 9) ≡ false → PassesColon o h m
+    stays e = record {
+      mark = m;
+      rest = o;
+      passes = λ f n at. rw (ap (λ (s : Cursor). slice_index s.rest 0 == 9) at ∙ e)
+          (ap (λ (s : Cursor). Ok (core_of f (record n { cursor = s }))) at);
+      low = omega arith;
+      lands = refl;
+      crosses_same = refl;
+      clean = λ least. h.clean_all least m;
+    }
+
+    by_tab : (b : Bool) → (slice_index o 0 == 9) ≡ b → EndsLine h.more ⊎ ((n : ℕ) × (h.blanks ≡ spaces n))
+        → PassesColon o h m
+    by_tab false e tabs = stays e
+    by_tab true e (inl ends) = record {
+      mark = front_end h m;
+      rest = h.more;
+      passes = ended e ends;
+      low = omega (arith, size);
+      lands = h.lands m;
+      crosses_same = h.crosses_same;
+      clean = λ least. h.clean least (front_end h m) false;
+    }
+    by_tab true e (inr (n, spaced)) =
+        let text : o ≡ spaces n ++ (h.comment ++ h.more) = h.is ∙ ap (λ (x : List ℕ). x ++ (h.comment ++ h.more))
+        spaced in
+        stays (no_space_first o n (h.comment ++ h.more) text (blank_stops h.blanks h.comment h.more h.parts h.stops))
 
 -- ## `:` behind `?`
-
-white_tab : (o : List ℕ) → has_tab o ≡ false → (slice_index o 0 == 9) ≡ false
-white_tab [] h = refl
-white_tab (c ∷ cs) h = by_tab (c == 9) refl
-  where
-    blank_tab : (c : ℕ) → (c == 9) ≡ true → is_blank c ≡ true
-    blank_tab c e = grind (arith, nat_tests)
-
-    by_tab : (b : Bool) → (c == 9) ≡ b → (c == 9) ≡ false
-    by_tab true e = absurd (let tab : has_tab (c ∷ cs) ≡ true = rw (blank_tab c e, e) refl in let no = sym tab ∙ h in cc)
-    by_tab false e = e
-
-not_further : (i col : ℕ) → i ≡ col + 1 → nat_le i col ≡ false
-not_further i col e = grind (arith, nat_tests)
 
 some_indent : (i col : ℕ) → i ≡ col + 1 → nat_lt 0 i ≡ true
 some_indent i col e = grind (arith, nat_tests)
 
 -- behind a `:` of its own
 abbrev behind_value : Marker → List ℕ → ℕ → Moment
-behind_value n o ad = record { cursor = cursor_at o n false; key = None; allowed = true; adjacent = ad; deeper = true; required = false; comment = None }
+behind_value n o ad = record {
+  cursor =
+      cursor_at o n false;
+  key = None;
+  allowed = true;
+  adjacent = ad;
+  deeper = true;
+  required = false;
+  comment = None;
+}
 
-value_step : (f : Frame) (m : Marker) (o : List ℕ) (blank : Bool) (ad : ℕ) (deeper : Bool) → f.indent ≡ m.col + 1 → is_blank_or_breakz (slice_index o 0) ≡ true → has_tab o ≡ false → (i : ℕ)
-    → step 58 (slice_index o 0) i (core_of f (moment_at m (58 ∷ o) blank None true ad deeper)) ≡ went (at_mark m tokens.Value ∷ []) (core_of f (behind_value (along m 1) o ad))
-unfolding step value.fetch value.check_tab value.behind_key value.alone value.begin_alone
-value_step f m o blank ad deeper same first clean i = rw (first, white_tab o clean, not_further f.indent m.col same, some_indent f.indent m.col same) refl
+value_step : (f : Frame) (m : Marker) (o : List ℕ) (h : IsBehindIndicator o) (p : PassesColon o h (along m 1))
+    (blank : Bool) (ad : ℕ) (deeper : Bool) → f.indent ≡ m.col + 1 → (i : ℕ)
+    → step 58 (slice_index o 0) i (core_of f (moment_at m (58 ∷ o) blank None true ad deeper))
+    ≡ went (at_mark m tokens.Value ∷ []) (core_of f (behind_value p.mark p.rest ad))
+unfolding step value.fetch value.behind_key value.alone value.begin_alone
+value_step f m o h p blank ad deeper same i =
+    let n : Moment = record (moment_at m (58 ∷ o) blank None true ad deeper)
+    { cursor = cursor_at o (along m 1) false } in
+    let d : Moment = record n { cursor = cursor_at p.rest p.mark false } in
+    let there : value.behind_key None false m (core_of f d)
+    ≡ went (at_mark m tokens.Value ∷ []) (core_of f (behind_value p.mark p.rest ad)) =
+    rw (next_not_within f.indent m.col same, some_indent f.indent m.col same) refl in
+    rw h.first (ap (λ r. r >>= λ (c : Core). value.behind_key c.level.key false m c) (p.passes f n refl) ∙ there)
 
 -- the `:` of a value is read, in a mapping that is open
-pub reads_value : {limit : ℕ} {start : State} {ts : List Kind} (f : Frame) (m : Marker) (o : List ℕ) → f.indent ≡ m.col + 1 → is_blank_or_breakz (slice_index o 0) ≡ true → has_tab o ≡ false → IsClean o
-    → m.index + length (58 ∷ o) ≤ limit → (v : At limit start f m (58 ∷ o) ts) → v.key ≡ None → v.allowed ≡ true → Before limit start (layout.BehindMark m.col) f (along m 1) o (ts ++ tokens.Value ∷ [])
+pub reads_value : {limit : ℕ} {start : State} {ts : List Kind} (f : Frame) (m : Marker) (o : List ℕ)
+    → f.indent ≡ m.col + 1 → IsBehindIndicator o
+    → m.index + length (58 ∷ o) ≤ limit → (v : At limit start f m (58 ∷ o) ts) → v.key ≡ None → v.allowed ≡ true
+    → Before limit start (layout.BehindMark m.col) f (along m 1) o (ts ++ tokens.Value ∷ [])
 unfolding content
-reads_value {limit} {start} {ts} f m o same first no_tab clean count v none allowed =
+reads_value {limit} {start} {ts} f m o same h count v none allowed =
     let i = next (queue_of v.places) in
     let deeper = deeper_at f v.deeper m in
-    let t = behind_value (along m 1) o v.adjacent in
+    let p = passes_colon o h (along m 1) in
+    let t = behind_value p.mark p.rest v.adjacent in
     let qs = v.places ++ closed (empty_piece m tokens.Value) ∷ [] in
-    let made : content 58 (slice_index o 0) (state_of f (moment_at m (58 ∷ o) v.blank None true v.adjacent deeper) v.places) ≡ Ok (state_of f t qs) =
-    ap (λ r. acted r (queue_of v.places)) (value_step f m o v.blank v.adjacent deeper same first no_tab i) in
-    let there : content 58 (slice_index o 0) (state_of f (moment_at m (58 ∷ o) v.blank v.key v.allowed v.adjacent deeper) v.places) ≡ Ok (state_of f t qs) =
-    ap (λ (b : Bool). content 58 (slice_index o 0) (state_of f (moment_at m (58 ∷ o) v.blank v.key b v.adjacent deeper) v.places)) allowed
-    ∙ ap (λ (k : Option Candidate). content 58 (slice_index o 0) (state_of f (moment_at m (58 ∷ o) v.blank k true v.adjacent deeper) v.places)) none ∙ made in
-    let kept = kinds_append v.places (closed (empty_piece m tokens.Value) ∷ []) ∙ ap (λ (x : List Kind). x ++ tokens.Value ∷ []) v.are in
-    before_next (layout.BehindMark m.col) f t qs (along m 1) o (steps_on f f m (58 ∷ o) v (colon_begins m o) (least f.indent m.col same) t qs there refl (room m.index (length o) limit count))
-    kept refl refl refl (later v.adjacent m.index v.low) refl (λ least. clean least (along m 1) false) (true_or (crosses o)) refl
+    let made : content 58 (slice_index o 0)
+    (state_of f (moment_at m (58 ∷ o) v.blank None true v.adjacent deeper) v.places) ≡ Ok (state_of f t qs) =
+    ap (λ r. acted r (queue_of v.places)) (value_step f m o h p v.blank v.adjacent deeper same i) in
+    let there : content 58 (slice_index o 0)
+    (state_of f (moment_at m (58 ∷ o) v.blank v.key v.allowed v.adjacent deeper) v.places) ≡ Ok (state_of f t qs) =
+    ap (λ (b : Bool). content 58 (slice_index o 0)
+    (state_of f (moment_at m (58 ∷ o) v.blank v.key b v.adjacent deeper) v.places)) allowed
+    ∙ ap (λ (k : Option Candidate). content 58 (slice_index o 0)
+    (state_of f (moment_at m (58 ∷ o) v.blank k true v.adjacent deeper) v.places)) none ∙ made in
+    let kept = kinds_append v.places (closed (empty_piece m tokens.Value) ∷ [])
+    ∙ ap (λ (x : List Kind). x ++ tokens.Value ∷ []) v.are in
+    before_next (layout.BehindMark m.col) f t qs (along m 1) o
+    (steps_on f f m (58 ∷ o) v (colon_begins m o) (least f.indent m.col same) t qs there refl
+    (room m.index p.mark.index (length o) limit p.low count))
+    kept refl refl refl (le_next v.adjacent m.index v.low) p.lands p.clean (or-true (crosses p.rest)) refl
   where
     least : (i col : ℕ) → i ≡ col + 1 → i ≤ col + 1
     least i col e = omega (arith, e)
 
-    room : (i l limit : ℕ) → i + suc l ≤ limit → i + 1 ≤ limit
-    room i l limit h = omega (arith, h)
+    room : (i j l limit : ℕ) → j ≤ i + 1 + l → i + suc l ≤ limit → j ≤ limit
+    room i j l limit k h = omega (arith, k, h)
 
 -- ## `:` behind a key
 
@@ -222,53 +375,99 @@ block_opening further = if further then opening.BlockMappingAndKey else opening.
 
 -- behind the colon of a key
 abbrev behind_colon : Marker → List ℕ → ℕ → Moment
-behind_colon n o ad = record { cursor = cursor_at o n false; key = None; allowed = false; adjacent = ad; deeper = true; required = false; comment = None }
+behind_colon n o ad = record {
+  cursor =
+      cursor_at o n false;
+  key = None;
+  allowed = false;
+  adjacent = ad;
+  deeper = true;
+  required = false;
+  comment = None;
+}
 
-more_indent : (col : ℕ) → nat_lt 0 (col + 1) ≡ true
-more_indent col = grind (arith, nat_tests)
-
-colon_step : (f : Frame) (r : Bool) (k : Candidate) (m : Marker) (o : List ℕ) (blank a : Bool) (ad : ℕ) (deeper further : Bool) → nat_le f.indent k.mark.col ≡ further → f.indent ≤ k.mark.col + 1 → nat_lt 0 f.indent ≡ true ⊎ (further ≡ true)
-    → is_blank_or_breakz (slice_index o 0) ≡ true → has_tab o ≡ false → (i : ℕ)
+colon_step : (f : Frame) (r : Bool) (k : Candidate) (m : Marker) (o : List ℕ) (h : IsBehindIndicator o)
+    (p : PassesColon o h (along m 1)) (blank a : Bool) (ad : ℕ) (deeper further : Bool)
+    → nat_le f.indent k.mark.col ≡ further
+    → f.indent ≤ k.mark.col + 1 → nat_lt 0 f.indent ≡ true ⊎ (further ≡ true) → (i : ℕ)
     → step 58 (slice_index o 0) i (core_of f (moment_with r m (58 ∷ o) blank (Some k) a ad deeper))
-    ≡ went (Open k.place (block_opening further) ∷ at_mark m tokens.Value ∷ []) (core_of (frame_behind further k.mark.col f) (behind_colon (along m 1) o ad))
-unfolding step value.fetch value.check_tab value.behind_key value.of_key
-colon_step f r k m o blank a ad deeper true e far some first clean i = rw (first, white_tab o clean, e, more_indent k.mark.col) refl
-colon_step f r k m o blank a ad deeper false e far (inl some) first clean i = rw (first, white_tab o clean, e, some) refl
-colon_step f r k m o blank a ad deeper false e far (inr some) first clean i = absurd (cc)
+    ≡ went (Open k.place (block_opening further) ∷ at_mark m tokens.Value ∷ [])
+    (core_of (frame_behind further k.mark.col f) (behind_colon p.mark p.rest ad))
+unfolding step value.fetch value.behind_key value.of_key
+colon_step f r k m o h p blank a ad deeper further e far some i =
+    let n : Moment = record (moment_with r m (58 ∷ o) blank (Some k) a ad deeper)
+    { cursor = cursor_at o (along m 1) false } in
+    rw h.first (ap (λ q. q >>= λ (c : Core). value.behind_key c.level.key false m c) (p.passes f n refl)
+    ∙ opens further e some)
+  where
+    d : Moment
+    d = record (moment_with r m (58 ∷ o) blank (Some k) a ad deeper) { cursor = cursor_at p.rest p.mark false }
 
-key_are : (further : Bool) (ps others : List Place) (key : Piece) (m : Marker) (ts us : List Kind) → kinds ps ≡ ts → kinds (closed key ∷ others) ≡ us
-    → kinds (ps ++ pair_places (block_opening further) key others (empty_piece m tokens.Value)) ≡ ts ++ (key_kinds further ++ (us ++ tokens.Value ∷ []))
+    opens : (b : Bool) → nat_le f.indent k.mark.col ≡ b → nat_lt 0 f.indent ≡ true ⊎ (b ≡ true)
+        → value.behind_key (Some k) false m (core_of f d)
+        ≡ went (Open k.place (block_opening b) ∷ at_mark m tokens.Value ∷ [])
+        (core_of (frame_behind b k.mark.col f) (behind_colon p.mark p.rest ad))
+    opens true e s = rw (e, zero_below_next k.mark.col) refl
+    opens false e (inl s) = rw (e, s) refl
+    opens false e (inr s) = absurd (cc)
+
+key_are : (further : Bool) (ps others : List Place) (key : Piece) (m : Marker) (ts us : List Kind) → kinds ps ≡ ts
+    → kinds (closed key ∷ others) ≡ us
+    → kinds (ps ++ pair_places (block_opening further) key others (empty_piece m tokens.Value))
+    ≡ ts ++ (key_kinds further ++ (us ++ tokens.Value ∷ []))
 key_are further ps others key m ts us first are =
-    let back = kinds_append (closed key ∷ others) (closed (empty_piece m tokens.Value) ∷ []) ∙ ap (λ (x : List Kind). x ++ tokens.Value ∷ []) are in
-    kinds_append ps (pair_places (block_opening further) key others (empty_piece m tokens.Value)) ∙ ap (λ (x : List Kind). x ++ kinds (pair_places (block_opening further) key others (empty_piece m tokens.Value))) first
+    let back = kinds_append (closed key ∷ others) (closed (empty_piece m tokens.Value) ∷ [])
+    ∙ ap (λ (x : List Kind). x ++ tokens.Value ∷ []) are in
+    kinds_append ps (pair_places (block_opening further) key others (empty_piece m tokens.Value))
+    ∙ ap (λ (x : List Kind). x
+    ++ kinds (pair_places (block_opening further) key others (empty_piece m tokens.Value))) first
     ∙ ap (λ (x : List Kind). ts ++ x) (by_opening further back)
   where
-    by_opening : (further : Bool) → kinds (closed key ∷ (others ++ closed (empty_piece m tokens.Value) ∷ [])) ≡ us ++ tokens.Value ∷ []
-        → kinds (pair_places (block_opening further) key others (empty_piece m tokens.Value)) ≡ key_kinds further ++ (us ++ tokens.Value ∷ [])
+    by_opening : (further : Bool)
+        → kinds (closed key ∷ (others ++ closed (empty_piece m tokens.Value) ∷ [])) ≡ us ++ tokens.Value ∷ []
+        → kinds (pair_places (block_opening further) key others (empty_piece m tokens.Value))
+        ≡ key_kinds further ++ (us ++ tokens.Value ∷ [])
     by_opening true e = ap (λ (x : List Kind). tokens.BlockMappingStart ∷ tokens.Key ∷ x) e
     by_opening false e = ap (λ (x : List Kind). tokens.Key ∷ x) e
 
 -- the colon of a key is read, which begins a mapping or goes on with one
-pub reads_colon : {limit : ℕ} {start : State} (f : Frame) (n : Moment) (ps others new : List Place) (key : Piece) (k m : Marker) (o : List ℕ) (ts us : List Kind) (further : Bool) → nat_le f.indent k.col ≡ further
-    → f.indent ≤ k.col + 1 → Follows limit start (state_of f n (ps ++ new)) → new ≡ closed key ∷ others → kinds ps ≡ ts → kinds new ≡ us → n.key ≡ Some (record { mark = k; place = length ps }) → n.comment ≡ None
-    → past 0 n.cursor.mark n.cursor.rest ≡ (m, 58 ∷ o) → IsUntabbed (least_column (core_of f n)) n.cursor → is_too_far n.key m ≡ false → k.col ≤ m.col → is_blank_or_breakz (slice_index o 0) ≡ true → has_tab o ≡ false → IsClean o
-    → m.index + length (58 ∷ o) ≤ limit → n.adjacent ≤ m.index → Before limit start (layout.BehindKey k.col) (frame_behind further k.col f) (along m 1) o (ts ++ (key_kinds further ++ (us ++ tokens.Value ∷ [])))
+pub reads_colon : {limit : ℕ} {start : State} (f : Frame) (n : Moment) (ps others new : List Place) (key : Piece)
+    (k m : Marker) (o : List ℕ) (ts us : List Kind) (further : Bool) → nat_le f.indent k.col ≡ further
+    → f.indent ≤ k.col + 1 → Follows limit start (state_of f n (ps ++ new)) → new ≡ closed key ∷ others → kinds ps ≡ ts
+    → kinds new ≡ us → n.key ≡ Some (record { mark = k; place = length ps }) → n.comment ≡ None
+    → past 0 n.cursor.mark n.cursor.rest ≡ (m, 58 ∷ o) → IsUntabbed (least_column (core_of f n)) n.cursor
+    → is_too_far n.key m ≡ false → k.col ≤ m.col → IsBehindIndicator o
+    → m.index + length (58 ∷ o) ≤ limit → n.adjacent ≤ m.index
+    → Before limit start (layout.BehindKey k.col) (frame_behind further k.col f) (along m 1) o
+    (ts ++ (key_kinds further ++ (us ++ tokens.Value ∷ [])))
 unfolding fetch content
-reads_colon {limit} {start} f n ps others new key k m o ts us further e far v is first are candidate quiet here untabbed near right white no_tab clean count low =
-    let l = lands_key f n (ps ++ new) m (58 ∷ o) here untabbed quiet near (further_right f.indent k.col m.col far right) in
+reads_colon {limit} {start} f n ps others new key k m o ts us further e far v is first are candidate quiet here untabbed
+    near right h count low =
+    let l = lands_key f n (ps ++ new) m (58 ∷ o) here untabbed quiet near
+    (further_right f.indent k.col m.col far right) in
     let deeper = deeper_at f n.deeper m in
     let i = next (queue_of (ps ++ new)) in
     let g = frame_behind further k.col f in
-    let t = behind_colon (along m 1) o n.adjacent in
+    let p = passes_colon o h (along m 1) in
+    let t = behind_colon p.mark p.rest n.adjacent in
     let places = pair_places (block_opening further) key others (empty_piece m tokens.Value) in
     let allowed = crosses n.cursor.rest || n.allowed in
     let c = core_of f (moment_with n.required m (58 ∷ o) l.0 n.key allowed n.adjacent deeper) in
-    let stepped = ap (λ (q : Option Candidate). step 58 (slice_index o 0) i (core_of f (moment_with n.required m (58 ∷ o) l.0 q allowed n.adjacent deeper))) candidate
-    ∙ colon_step f n.required (record { mark = k; place = length ps }) m o l.0 allowed n.adjacent deeper further e far (some_further f.indent k.col further e) white no_tab i in
-    let made = ap (λ r. acted r (queue_of (ps ++ new))) stepped ∙ ap (λ (q : Queue). Ok (let r : State = record { core = core_of g t; queue = q } in r)) (performs ps others new (block_opening further) key (empty_piece m tokens.Value) is) in
-    let there = ap (λ r. r >>= fetch_here) l.1 ∙ begins_here f n.required m (58 ∷ o) l.0 n.key allowed n.adjacent n.deeper (ps ++ new) (colon_begins m o) (further_right f.indent k.col m.col far right) ∙ made in
-    before_next (layout.BehindKey k.col) g t (ps ++ places) (along m 1) o (steps_from g t (ps ++ places) v refl there refl (room m.index (length o) limit count))
-    (key_are further ps others key m ts us first (ap kinds (sym is) ∙ are)) refl refl refl (later n.adjacent m.index low) refl (λ least. clean least (along m 1) false) (or_none (crosses o)) (behind k.col m.col right)
+    let stepped = ap (λ (q : Option Candidate). step 58 (slice_index o 0) i
+    (core_of f (moment_with n.required m (58 ∷ o) l.0 q allowed n.adjacent deeper))) candidate
+    ∙ colon_step f n.required (record { mark = k; place = length ps }) m o h p l.0 allowed n.adjacent deeper further e
+    far (some_further f.indent k.col further e) i in
+    let made = ap (λ r. acted r (queue_of (ps ++ new))) stepped
+    ∙ ap (λ (q : Queue). Ok (let r : State = record { core = core_of g t; queue = q } in r))
+    (performs ps others new (block_opening further) key (empty_piece m tokens.Value) is) in
+    let there = ap (λ r. r >>= fetch_here) l.1
+    ∙ begins_here f n.required m (58 ∷ o) l.0 n.key allowed n.adjacent n.deeper (ps ++ new) (colon_begins m o)
+    (further_right f.indent k.col m.col far right) ∙ made in
+    before_next (layout.BehindKey k.col) g t (ps ++ places) (along m 1) o
+    (steps_from g t (ps ++ places) v refl there refl (room m.index p.mark.index (length o) limit p.low count))
+    (key_are further ps others key m ts us first (ap kinds (sym is) ∙ are)) refl refl refl
+    (le_next n.adjacent m.index low) p.lands p.clean (none_same (crosses p.rest) (crosses o) p.crosses_same)
+    (behind k.col m.col right)
   where
     further_right : (i k m : ℕ) → i ≤ k + 1 → k ≤ m → i ≤ m + 1
     further_right i k m h l = omega (arith, h, l)
@@ -280,12 +479,15 @@ reads_colon {limit} {start} f n ps others new key k m o ts us further e far v is
         positive : (i k : ℕ) → nat_le i k ≡ false → nat_lt 0 i ≡ true
         positive i k e = grind (arith, nat_tests)
 
-    or_none : (b : Bool) → (b || false) ≡ (false || b)
+    or_none : (b : Bool) → (b || false) ≡ b
     or_none true = refl
     or_none false = refl
 
-    room : (i l limit : ℕ) → i + suc l ≤ limit → i + 1 ≤ limit
-    room i l limit h = omega (arith, h)
+    none_same : (a b : Bool) → a ≡ b → (a || false) ≡ (false || b)
+    none_same a b e = or_none a ∙ e
+
+    room : (i j l limit : ℕ) → j ≤ i + 1 + l → i + suc l ≤ limit → j ≤ limit
+    room i j l limit k h = omega (arith, k, h)
 
     behind : (k m : ℕ) → k ≤ m → k < m + 1
     behind k m h = omega (arith, h)

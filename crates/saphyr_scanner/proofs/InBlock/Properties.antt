@@ -1,4 +1,5 @@
--- Properties at block level are read: before a block scalar on their line, and before a collection on the next lines (YAML
+-- Properties at block level are read: before a block scalar on their line, and before a collection on the next lines
+-- (YAML
 -- 1.2.2, 6.9 and 8.2.3).
 use Rattle.std.proofs.Common.{◌≡◌, ℕ, zero, suc, ◌+◌, ◌^◌, ◌<◌, ◌≤◌, Bool, true, false, List, [], ◌∷◌, ◌++◌, length, slice_index, refl, sym, ap, ◌∙◌, arith, subst, append_assoc, IsTrue, Ok, encode_utf8_all, ◌⊎◌, inl, inr}
 use Rattle.std.specs.Prelude.{◌||◌, ◌==◌, option_map, Option, Some, None, if◌then◌else◌}
@@ -8,43 +9,50 @@ use Rattle.saphyr_scalar.specs.declared.scalar.position.Marker.{Marker}
 use Rattle.saphyr_scalar.specs.BlockRead.{spaces}
 use Rattle.saphyr_scalar.specs.Cursor.{Cursor, ◌>>=◌, along}
 use Rattle.saphyr_scalar.specs.Quoted.{at}
-use Rattle.saphyr_scalar.specs.Spaces.{AreSpaces}
+use Rattle.saphyr_scalar.specs.Spaces.{AreSpaces, IsLineRest}
 use Rattle.saphyr_scalar.specs.TagSpelling.{IsAnchorName, IsTagText, EndsTag}
 use Rattle.saphyr_scalar.proofs.NoBreaks.{NoBreaks}
-use Rattle.saphyr_scanner.specs.Core.{Core, Candidate, went, from_to, is_too_far, least_column}
-use Rattle.saphyr_scanner.specs.Fetch.{fetch, fetch_here, fetch_within, within, content, step}
-use Rattle.saphyr_scanner.specs.Forest.{Tag}
-use Rattle.saphyr_scanner.specs.FlowNodes.{IsAnchor, AreProperties}
-use Rattle.saphyr_scanner.specs.BlockNodes.{Place as Position, IsGapAt, AreSpacesAt}
-use Rattle.saphyr_scanner.specs.Passing.{with_cursor}
-use Rattle.saphyr_scanner.specs.Property as property
-use Rattle.saphyr_scanner.specs.Queue.{next, Place, closed}
-use Rattle.saphyr_scanner.specs.Scalar.{disallow_key}
-use Rattle.saphyr_scanner.specs.Seen.{Piece}
-use Rattle.saphyr_scanner.specs.State.{State, acted, carried}
-use Rattle.saphyr_scanner.specs.TagSpelling.{IsTag}
-use Rattle.saphyr_scanner.specs.Tokens as kind
-use Rattle.saphyr_scanner.specs.Tokens.{Kind, anchor_token, tag_token}
-use Rattle.saphyr_scanner.specs.TokenGrammar as grammar
+use Rattle.saphyr_scanner.specs.Steps.Core.{Core, Candidate, went, from_to, is_too_far, least_column}
+use Rattle.saphyr_scanner.specs.Steps.Fetch.{fetch, fetch_here, fetch_within, within, content, step}
+use Rattle.saphyr_scanner.specs.Grammar.Forest.{Tag}
+use Rattle.saphyr_scanner.specs.Grammar.FlowNodes.{IsAnchor, AreProperties}
+use Rattle.saphyr_scanner.specs.Grammar.BlockNodes.{Position as Position, IsGapAt, AreSpacesAt}
+use Rattle.saphyr_scanner.specs.Steps.Passing.{with_cursor}
+use Rattle.saphyr_scanner.specs.Steps.Property as property
+use Rattle.saphyr_scanner.specs.Steps.Queue.{next, Place, closed}
+use Rattle.saphyr_scanner.specs.Steps.Scalar.{disallow_key}
+use Rattle.saphyr_scanner.specs.Views.Tokens.{Piece}
+use Rattle.saphyr_scanner.specs.Steps.State.{State, acted, carried}
+use Rattle.saphyr_scanner.specs.Grammar.TagSpelling.{IsTag}
+use Rattle.saphyr_scanner.specs.Grammar.Tokens as kind
+use Rattle.saphyr_scanner.specs.Grammar.Tokens.{Kind, anchor_token, tag_token}
+use Rattle.saphyr_scanner.specs.Grammar.TokenGrammar as grammar
 use Rattle.saphyr_scanner.proofs.Leads.{Leads}
-use Rattle.saphyr_scanner.proofs.JsonStates.{queue_of, cursor_at, and_false}
-use Rattle.saphyr_scanner.proofs.JsonMarks.{kinds_append, saved}
+use Rattle.saphyr_scanner.proofs.Json.States.{queue_of}
+use Rattle.saphyr_scanner.proofs.Json.Marks.{kinds_append, saved}
 use Rattle.saphyr_scanner.proofs.LineTexts.{name_no_break, tag_no_break}
-use Rattle.saphyr_scanner.proofs.FlowStates.{moved, past, Reads}
-use Rattle.saphyr_scanner.proofs.FlowEnds.{tag_ends_name, white_ends_tag}
-use Rattle.saphyr_scanner.proofs.FlowGaps.{past_low}
-use Rattle.saphyr_scanner.proofs.FlowInks.{BeginsInk, properties_ink}
-use Rattle.saphyr_scanner.proofs.FlowNames.{unbroken_along}
-use Rattle.saphyr_scanner.proofs.FlowPlaces.{moved_append, moved_count, moved_index}
-use Rattle.saphyr_scanner.proofs.FlowTags.{tag_read, tag_first}
+use Rattle.saphyr_scanner.proofs.Flow.States.{moved, past, Reads}
+use Rattle.saphyr_scanner.proofs.Flow.Ends.{tag_ends_name, white_ends_tag}
+use Rattle.saphyr_scanner.proofs.Flow.Gaps.{past_low}
+use Rattle.saphyr_scanner.proofs.Flow.Inks.{BeginsInk, properties_ink}
+use Rattle.saphyr_scanner.proofs.Flow.Names.{unbroken_along, begins_anchor, begins_tag}
+use Rattle.saphyr_scanner.proofs.Flow.Places.{moved_append, moved_count, moved_index}
+use Rattle.saphyr_scanner.proofs.Flow.Tags.{tag_read, tag_first}
 use Rattle.saphyr_scanner.proofs.InBlock.States.{Frame, Moment, moment_at, core_of, state_of, crosses, Follows, At}
 use Rattle.saphyr_scanner.proofs.InBlock.Gaps.{past_stops}
-use Rattle.saphyr_scanner.proofs.InBlock.Skips.{IsSkipped, IsClean, has_tab, skipped_clean, skipped_no_tab, skipped_append, spaces_skipped, line_end_skipped, line_end_crosses, filler_skipped, are_spaces_skipped}
+use Rattle.saphyr_scanner.proofs.InBlock.Skips.{IsSkipped, IsClean, skipped_clean, skipped_append, spaces_skipped, line_end_skipped, line_end_crosses, filler_skipped, are_spaces_skipped}
 use Rattle.saphyr_scanner.proofs.InBlock.Follows.{follows_itself, goes_alike, first_step, left_key, left_again, drops, lands, BeginsToken, begins_here, arrives_at, stays_open, deeper_at}
 use Rattle.saphyr_scanner.proofs.InBlock.Lines.{later_line, Fits, fits_front, fits_back, fits_before}
 use Rattle.saphyr_scanner.proofs.InBlock.Statements.{IsNextLineText, PropertiesRead, ReadsProperties}
-use Rattle.saphyr_scanner.proofs.InBlock.Texts.{further_ink, spaces_moved, ink_clean, ink_no_tab, reaches, line_end_behind}
-use Rattle.saphyr_scanner.proofs.InBlock.Scalars.{IsLate, HeadRead, ReadsHead, saves, older, gap_reaches, lands_behind, within_limit, unbroken_properties}
+use Rattle.saphyr_scanner.proofs.InBlock.Texts.{further_ink, spaces_moved, ink_clean, reaches}
+use Rattle.saphyr_scanner.proofs.Documents.Lines.{rest_first}
+use Rattle.saphyr_scanner.proofs.InBlock.Scalars.{IsLate, HeadRead, ReadsHead, saves, gap_reaches, lands_behind, unbroken_properties, none_late}
+use Rattle.saphyr_scalar.proofs.Given.{cursor_at}
+use Rattle.saphyr_input.proofs.Basics.Booleans.{and_false}
+use Rattle.std.proofs.Math.Bool.{or-false}
+use Rattle.std.proofs.lemmas.Bool.{le-leb}
+use Rattle.saphyr_scanner.proofs.Flow.Properties.{space_first}
+use Rattle.saphyr_scanner.proofs.Taken.States.{too_far}
 
 -- ## A token behind which no key may begin
 
@@ -69,20 +77,20 @@ late_same : (k : Option Candidate) (m n : Marker) → m.line ≡ n.line → IsLa
 late_same None m n e h = tt
 late_same (Some k) m n e h = omega (arith, e, h)
 
-or_none : (b : Bool) → (b || false) ≡ b
-or_none true = refl
-or_none false = refl
-
 -- From a state that goes on with this state the scanner comes to that, where a key that is too far is dropped.
-steps_keeping : {limit : ℕ} {start s : State} (g : Frame) (n : Moment) (qs : List Place) → Follows limit start s → s.core.ended ≡ false → fetch s ≡ Ok (state_of g n qs) → n.required ≡ false → n.cursor.mark.index ≤ limit
+steps_keeping : {limit : ℕ} {start s : State} (g : Frame) (n : Moment) (qs : List Place) → Follows limit start s
+    → s.core.ended ≡ false → fetch s ≡ Ok (state_of g n qs) → n.required ≡ false → n.cursor.mark.index ≤ limit
     → Leads limit (state_of g (record n { key = left_key n.key n.cursor.mark; required = false }) qs) start
 unfolding fetch_within
 steps_keeping {limit} g n qs f going is free low =
-    let fits : within limit (state_of g n qs) ≡ Ok (state_of g n qs) = rw (within_limit limit n.cursor.mark.index low) refl in
+    let fits : within limit (state_of g n qs) ≡ Ok (state_of g n qs) = rw (le-leb n.cursor.mark.index limit low) refl in
     first_step f going (ap (λ r. r >>= within limit) is ∙ fits) (ap (λ r. carried r (queue_of qs)) (drops g n free))
 
-token_read : {limit : ℕ} {start : State} {ts : List Kind} (f : Frame) (k : Kind) (m n : Marker) (y o : List ℕ) (v : At limit start f m y ts) → f.indent ≤ m.col → BeginsToken m y
-    → ((i : ℕ) (deeper : Bool) → step (slice_index y 0) (slice_index y 1) i (core_of f (moment_at m y v.blank v.key v.allowed v.adjacent deeper))
+token_read : {limit : ℕ} {start : State} {ts : List Kind} (f : Frame) (k : Kind) (m n : Marker) (y o : List ℕ)
+    (v : At limit start f m y ts) → f.indent ≤ m.col → BeginsToken m y
+    → ((i : ℕ) (deeper : Bool)
+    → step (slice_index y 0) (slice_index y 1) i
+    (core_of f (moment_at m y v.blank v.key v.allowed v.adjacent deeper))
     ≡ went (from_to m n k ∷ []) (core_of f (moment_at n o false (saved v.allowed i m v.key) false v.adjacent deeper)))
     → n.index ≤ limit → m.index ≤ n.index → IsClean o → IsLate v.key m → TokenRead limit start f m n o (ts ++ k ∷ [])
 unfolding fetch content
@@ -93,8 +101,11 @@ token_read {limit} {start} {ts} f k m n y o v low begins steps limited onward cl
     let qs = v.places ++ closed piece ∷ [] in
     let far = column_far f.indent m.col low in
     let here = moment_at n o false (saved v.allowed i m v.key) false v.adjacent deeper in
-    let made : content (slice_index y 0) (slice_index y 1) (state_of f (moment_at m y v.blank v.key v.allowed v.adjacent deeper) v.places) ≡ Ok (state_of f here qs) = ap (λ r. acted r (queue_of v.places)) (steps i deeper) in
-    let there : fetch (state_of f (moment_at m y v.blank v.key v.allowed v.adjacent v.deeper) v.places) ≡ Ok (state_of f here qs) =
+    let made : content (slice_index y 0) (slice_index y 1)
+    (state_of f (moment_at m y v.blank v.key v.allowed v.adjacent deeper) v.places) ≡ Ok (state_of f here qs) =
+    ap (λ r. acted r (queue_of v.places)) (steps i deeper) in
+    let there : fetch (state_of f (moment_at m y v.blank v.key v.allowed v.adjacent v.deeper) v.places)
+    ≡ Ok (state_of f here qs) =
     ap (λ r. r >>= fetch_here) (arrives_at f m y v.blank v.key v.allowed v.adjacent v.deeper v.places v.stop v.near)
     ∙ ap fetch_here (stays_open f false m y v.blank v.key v.allowed v.adjacent v.deeper v.places far)
     ∙ begins_here f false m y v.blank v.key v.allowed v.adjacent v.deeper v.places begins far ∙ made in
@@ -118,8 +129,9 @@ token_read {limit} {start} {ts} f k m n y o v low begins steps limited onward cl
         are = kinds_append v.places (closed piece ∷ []) ∙ ap (λ (x : List Kind). x ++ k ∷ []) v.are;
         low = omega (arith, lower, onward, on);
       };
-      late = late_left (left_key (saved v.allowed i m v.key) n) t.0 m (late_left (saved v.allowed i m v.key) n m (late_saved v.allowed i m v.key late));
-      allowed = or_none (crosses o);
+      late = late_left (left_key (saved v.allowed i m v.key) n) t.0 m
+          (late_left (saved v.allowed i m v.key) n m (late_saved v.allowed i m v.key late));
+      allowed = or-false (crosses o);
     }
   where
     column_far : (i col : ℕ) → i ≤ col → i ≤ col + 1
@@ -128,66 +140,93 @@ token_read {limit} {start} {ts} f k m n y o v low begins steps limited onward cl
 -- a token of this text is read, wherever it stands
 abbrev TokenReads : ℕ → State → Frame → Kind → List ℕ → Type 0
 TokenReads limit start f k t =
-    (m : Marker) (ts : List Kind) (o : List ℕ) → f.indent ≤ m.col → IsClean o → IsTrue (is_blank_or_breakz (slice_index o 0)) → Fits limit m t o → (v : At limit start f m (t ++ o) ts) → IsLate v.key m
+    (m : Marker) (ts : List Kind) (o : List ℕ) → f.indent ≤ m.col → IsClean o
+    → IsTrue (is_blank_or_breakz (slice_index o 0)) → Fits limit m t o → (v : At limit start f m (t ++ o) ts)
+    → IsLate v.key m
     → TokenRead limit start f m (moved m t) o (ts ++ k ∷ [])
 
-fits_index : {limit : ℕ} (m : Marker) (t o : List ℕ) → Fits limit m t o → ((moved m t).index ≤ limit) × (m.index ≤ (moved m t).index)
-fits_index m t o h = let below = h.below in let count = moved_count m t o in let at_end = moved_index m t in (omega (arith, below, count), omega (arith, at_end))
+fits_index : {limit : ℕ} (m : Marker) (t o : List ℕ) → Fits limit m t o
+    → ((moved m t).index ≤ limit) × (m.index ≤ (moved m t).index)
+fits_index m t o h = let below =
+    h.below in let count = moved_count m t o in let at_end =
+    moved_index m t in (omega (arith, below, count), omega (arith, at_end))
 
 -- ## Anchors
 
-anchor_step : Reads → (f : Frame) (m : Marker) (name o : List ℕ) (blank : Bool) (key : Option Candidate) (a : Bool) (ad : ℕ) (deeper : Bool) (i : ℕ) → f.indent ≤ m.col → IsAnchorName name → is_anchor_char (slice_index o 0) ≡ false
+anchor_step : Reads → (f : Frame) (m : Marker) (name o : List ℕ) (blank : Bool) (key : Option Candidate) (a : Bool)
+    (ad : ℕ) (deeper : Bool) (i : ℕ) → f.indent ≤ m.col → IsAnchorName name → is_anchor_char (slice_index o 0) ≡ false
     → property.name false i (core_of f (moment_at m (38 ∷ (name ++ o)) blank key a ad deeper))
-    ≡ went (from_to m (moved m (38 ∷ name)) (anchor_token name) ∷ []) (core_of f (moment_at (moved m (38 ∷ name)) o false (saved a i m key) false ad deeper))
+    ≡ went (from_to m (moved m (38 ∷ name)) (anchor_token name) ∷ [])
+    (core_of f (moment_at (moved m (38 ∷ name)) o false (saved a i m key) false ad deeper))
 unfolding property.name property.read_name
 anchor_step reads f m name o blank key a ad deeper i low h ends =
     let y = 38 ∷ (name ++ o) in
     let c = core_of f (moment_at m y blank (saved a i m key) false ad deeper) in
-    let token = λ (x : List ℕ × Cursor). went (from_to m x.1.mark (property.name_token false x.0) ∷ []) (with_cursor x.1 c) in
+    let token = λ (x : List ℕ × Cursor). went (from_to m x.1.mark (property.name_token false x.0) ∷ [])
+    (with_cursor x.1 c) in
     let one : 1 + length name ≡ length (38 ∷ name) = omega arith in
     ap (λ (d : Core). property.read_name false (disallow_key d)) (saves f m y blank key a ad deeper i low)
     ∙ ap (λ q. q >>= token) (reads.anchor (cursor_at y m blank) 38 name o refl h ends)
-    ∙ ap (λ (end : Marker). token (encode_utf8_all name, at end o)) (ap (along m) one ∙ sym (unbroken_along m (38 ∷ name) (refl, name_no_break name h)))
-
-begins_anchor : (second n : ℕ) (c : Core) → step 38 second n c ≡ property.name false n c
-unfolding step
-begins_anchor second n c = refl
+    ∙ ap (λ (end : Marker). token (encode_utf8_all name, at end o))
+    (ap (along m) one ∙ sym (unbroken_along m (38 ∷ name) (refl, name_no_break name h)))
 
 anchor_begins : (m : Marker) (o : List ℕ) → BeginsToken m (38 ∷ o)
-anchor_begins m o = record { stop = (refl, refl, refl); nul = refl; byte_order_mark = refl; directive = and_false (m.col == 0); marker = and_false (m.col == 0) }
+anchor_begins m o = record {
+  stop =
+      (refl, refl, refl);
+  nul =
+      refl;
+  byte_order_mark = refl;
+  directive = and_false (m.col == 0);
+  marker = and_false (m.col == 0);
+}
 
-anchor_reads : Reads → {limit : ℕ} {start : State} (f : Frame) (name t : List ℕ) → IsAnchor name t → TokenReads limit start f (anchor_token name) t
-anchor_reads reads {limit} {start} f name t (h, e) = subst (λ (x : List ℕ). TokenReads limit start f (anchor_token name) x) (sym e) by_name
+anchor_reads : Reads → {limit : ℕ} {start : State} (f : Frame) (name t : List ℕ) → IsAnchor name t
+    → TokenReads limit start f (anchor_token name) t
+anchor_reads reads {limit} {start} f name t (h, e) =
+    subst (λ (x : List ℕ). TokenReads limit start f (anchor_token name) x) (sym e) by_name
   where
     by_name : TokenReads limit start f (anchor_token name) (38 ∷ name)
     by_name m ts o low clean first fits v late =
         let bounds = fits_index m (38 ∷ name) o fits in
         let ends = tag_ends_name false o (white_ends_tag false o first) in
-        token_read f (anchor_token name) m (moved m (38 ∷ name)) (38 ∷ (name ++ o)) o v low (anchor_begins m (name ++ o))
-        (λ i deeper. begins_anchor (slice_index (name ++ o) 0) i (core_of f (moment_at m (38 ∷ (name ++ o)) v.blank v.key v.allowed v.adjacent deeper))
-        ∙ anchor_step reads f m name o v.blank v.key v.allowed v.adjacent deeper i low h ends) bounds.0 bounds.1 clean late
+        token_read f (anchor_token name) m (moved m (38 ∷ name)) (38 ∷ (name ++ o)) o v low
+        (anchor_begins m (name ++ o))
+        (λ i deeper. begins_anchor (slice_index (name ++ o) 0) i
+        (core_of f (moment_at m (38 ∷ (name ++ o)) v.blank v.key v.allowed v.adjacent deeper))
+        ∙ anchor_step reads f m name o v.blank v.key v.allowed v.adjacent deeper i low h ends) bounds.0 bounds.1 clean
+        late
 
 -- ## Tags
 
-tag_step : Reads → (f : Frame) (m : Marker) (t handle suffix o : List ℕ) (blank : Bool) (key : Option Candidate) (a : Bool) (ad : ℕ) (deeper : Bool) (i : ℕ) → f.indent ≤ m.col → IsTagText t handle suffix → EndsTag false o
+tag_step : Reads → (f : Frame) (m : Marker) (t handle suffix o : List ℕ) (blank : Bool) (key : Option Candidate)
+    (a : Bool) (ad : ℕ) (deeper : Bool) (i : ℕ) → f.indent ≤ m.col → IsTagText t handle suffix → EndsTag false o
     → property.tag i (core_of f (moment_at m (t ++ o) blank key a ad deeper))
-    ≡ went (from_to m (moved m t) (kind.Tag (encode_utf8_all handle) (encode_utf8_all suffix)) ∷ []) (core_of f (moment_at (moved m t) o false (saved a i m key) false ad deeper))
+    ≡ went (from_to m (moved m t) (kind.Tag (encode_utf8_all handle) (encode_utf8_all suffix)) ∷ [])
+    (core_of f (moment_at (moved m t) o false (saved a i m key) false ad deeper))
 unfolding property.tag property.read_tag
 tag_step reads f m t handle suffix o blank key a ad deeper i low h ends =
     let c = core_of f (moment_at m (t ++ o) blank (saved a i m key) false ad deeper) in
-    let token = λ (x : List ℕ × List ℕ × Cursor). went (from_to m x.2.mark (kind.Tag x.0 x.1) ∷ []) (with_cursor x.2 c) in
+    let token = λ (x : List ℕ × List ℕ × Cursor). went (from_to m x.2.mark (kind.Tag x.0 x.1) ∷ [])
+    (with_cursor x.2 c) in
     ap (λ (d : Core). property.read_tag (disallow_key d)) (saves f m (t ++ o) blank key a ad deeper i low)
     ∙ ap (λ q. q >>= token) (reads.tag false (cursor_at (t ++ o) m blank) t handle suffix o refl h ends)
-    ∙ ap (λ (end : Marker). token (encode_utf8_all handle, encode_utf8_all suffix, at end o)) (sym (unbroken_along m t (tag_no_break t handle suffix h)))
-
-begins_tag : (second n : ℕ) (c : Core) → step 33 second n c ≡ property.tag n c
-unfolding step
-begins_tag second n c = refl
+    ∙ ap (λ (end : Marker). token (encode_utf8_all handle, encode_utf8_all suffix, at end o))
+    (sym (unbroken_along m t (tag_no_break t handle suffix h)))
 
 tag_begins : (m : Marker) (o : List ℕ) → BeginsToken m (33 ∷ o)
-tag_begins m o = record { stop = (refl, refl, refl); nul = refl; byte_order_mark = refl; directive = and_false (m.col == 0); marker = and_false (m.col == 0) }
+tag_begins m o = record {
+  stop =
+      (refl, refl, refl);
+  nul =
+      refl;
+  byte_order_mark = refl;
+  directive = and_false (m.col == 0);
+  marker = and_false (m.col == 0);
+}
 
-tag_reads : Reads → {limit : ℕ} {start : State} (f : Frame) (tag : Tag) (t : List ℕ) → IsTag tag t → TokenReads limit start f (tag_token tag) t
+tag_reads : Reads → {limit : ℕ} {start : State} (f : Frame) (tag : Tag) (t : List ℕ) → IsTag tag t
+    → TokenReads limit start f (tag_token tag) t
 tag_reads reads {limit} {start} f tag t h m ts o low clean first fits v late =
     let r = tag_read tag t h in
     let b = tag_first t r.handle r.suffix r.is in
@@ -197,13 +236,16 @@ tag_reads reads {limit} {start} f tag t h m ts o low clean first fits v late =
     subst (λ (q : Kind). TokenRead limit start f m (moved m t) o (ts ++ q ∷ [])) r.token
     (token_read f k m (moved m t) (t ++ o) o v low (subst (BeginsToken m) (sym begin) (tag_begins m (b.0 ++ o)))
     (λ i deeper. let c = core_of f (moment_at m (t ++ o) v.blank v.key v.allowed v.adjacent deeper) in
-    ap (λ (x : List ℕ). step (slice_index x 0) (slice_index (t ++ o) 1) i c) begin ∙ begins_tag (slice_index (t ++ o) 1) i c
-    ∙ tag_step reads f m t r.handle r.suffix o v.blank v.key v.allowed v.adjacent deeper i low r.is (white_ends_tag false o first)) bounds.0 bounds.1 clean late)
+    ap (λ (x : List ℕ). step (slice_index x 0) (slice_index (t ++ o) 1) i c) begin
+    ∙ begins_tag (slice_index (t ++ o) 1) i c
+    ∙ tag_step reads f m t r.handle r.suffix o v.blank v.key v.allowed v.adjacent deeper i low r.is
+    (white_ends_tag false o first)) bounds.0 bounds.1 clean late)
 
 -- ## Two properties
 
 lands_on : (m : Marker) (b y : List ℕ) → IsSkipped b → BeginsInk y → past 0 m (b ++ y) ≡ (moved m b, y)
-lands_on m b y h ink = ap (λ (x : List ℕ). past 0 m (b ++ x)) ink.is ∙ reaches m b ink.first ink.others h ink.ink ∙ ap (λ (x : List ℕ). (moved m b, x)) (sym ink.is)
+lands_on m b y h ink = ap (λ (x : List ℕ). past 0 m (b ++ x)) ink.is ∙ reaches m b ink.first ink.others h ink.ink
+    ∙ ap (λ (x : List ℕ). (moved m b, x)) (sym ink.is)
 
 clean_ink : (y : List ℕ) → BeginsInk y → IsClean y
 clean_ink y ink = subst IsClean (sym ink.is) (ink_clean ink.first ink.others ink.ink)
@@ -212,11 +254,9 @@ white_spaces : (n : ℕ) (y : List ℕ) → 1 ≤ n → IsTrue (is_blank_or_brea
 white_spaces zero y h = absurd (omega (arith, h))
 white_spaces (suc n) y h = refl
 
-spaces_first : (b y : List ℕ) → AreSpaces 1 b → IsTrue (is_blank_or_breakz (slice_index (b ++ y) 0))
-spaces_first b y (n, some, e) = subst (λ (x : List ℕ). IsTrue (is_blank_or_breakz (slice_index (x ++ y) 0))) (sym e) (white_spaces n y some)
-
 -- a text on one line, and spaces
-unbroken_line : (m : Marker) (a b : List ℕ) → NoBreaks a → AreSpaces 1 b → (m.line ≡ (moved (moved m a) b).line) × (m.col ≤ (moved (moved m a) b).col)
+unbroken_line : (m : Marker) (a b : List ℕ) → NoBreaks a → AreSpaces 1 b
+    → (m.line ≡ (moved (moved m a) b).line) × (m.col ≤ (moved (moved m a) b).col)
 unbroken_line m a b h (n, some, e) =
     let k = moved m a in
     let first = unbroken_along m a h in
@@ -227,42 +267,64 @@ unbroken_line m a b h (n, some, e) =
     let col_second = ap (λ (j : Marker). j.col) second in
     (sym (line_second ∙ line_first), omega (arith, col_first, col_second))
 
-two_read : {limit : ℕ} {start : State} {ts : List Kind} (f : Frame) (j k : Kind) (a b w : List ℕ) → TokenReads limit start f j a → TokenReads limit start f k w → NoBreaks a → BeginsInk w → AreSpaces 1 b
-    → (m : Marker) (o : List ℕ) → f.indent ≤ m.col → IsClean o → IsTrue (is_blank_or_breakz (slice_index o 0)) → Fits limit m (a ++ (b ++ w)) o → (v : At limit start f m ((a ++ (b ++ w)) ++ o) ts) → IsLate v.key m
+two_read : {limit : ℕ} {start : State} {ts : List Kind} (f : Frame) (j k : Kind) (a b w : List ℕ)
+    → TokenReads limit start f j a → TokenReads limit start f k w → NoBreaks a → BeginsInk w → AreSpaces 1 b
+    → (m : Marker) (o : List ℕ) → f.indent ≤ m.col → IsClean o → IsTrue (is_blank_or_breakz (slice_index o 0))
+    → Fits limit m (a ++ (b ++ w)) o → (v : At limit start f m ((a ++ (b ++ w)) ++ o) ts) → IsLate v.key m
     → TokenRead limit start f m (moved m (a ++ (b ++ w))) o (ts ++ j ∷ k ∷ [])
 two_read {limit} {start} {ts} f j k a b w first second whole ink spaced m o low clean white fits v late =
-    let text : (a ++ (b ++ w)) ++ o ≡ a ++ (b ++ (w ++ o)) = append_assoc a (b ++ w) o ∙ ap (λ (x : List ℕ). a ++ x) (append_assoc b w o) in
+    let text : (a ++ (b ++ w)) ++ o ≡ a ++ (b ++ (w ++ o)) = append_assoc a (b ++ w) o
+    ∙ ap (λ (x : List ℕ). a ++ x) (append_assoc b w o) in
     let P : List ℕ → Type 0 = λ x. (u : At limit start f m x ts) × IsLate u.key m in
     let u = subst P text (v, late) in
     let behind = further_ink w o ink in
     let skipped = are_spaces_skipped 1 b spaced in
     let n = moved (moved m a) b in
-    let r = first m ts (b ++ (w ++ o)) low (skipped_clean b (w ++ o) skipped (clean_ink (w ++ o) behind)) (spaces_first b (w ++ o) spaced)
+    let r = first m ts (b ++ (w ++ o)) low (skipped_clean b (w ++ o) skipped (clean_ink (w ++ o) behind))
+    (space_first b (w ++ o) spaced)
     (fits_before m a ((b ++ w) ++ o) (b ++ (w ++ o)) (append_assoc b w o) (fits_front m a (b ++ w) o fits)) u.0 u.1 in
     let Q : Marker × List ℕ → Type 0 = λ q. (u : At limit start f q.0 q.1 (ts ++ j ∷ [])) × IsLate u.key m in
     let z = subst Q (lands_on (moved m a) b (w ++ o) skipped behind) (r.at, r.late) in
     let line = unbroken_line m a b whole spaced in
     let reach = line.1 in
-    let s = second n (ts ++ j ∷ []) o (omega (arith, low, reach)) clean white (fits_back (moved m a) b w o (fits_back m a (b ++ w) o fits)) z.0 (late_same z.0.key m n line.0 z.1) in
-    let here : TokenRead limit start f m (moved n w) o ((ts ++ j ∷ []) ++ k ∷ []) = record { at = s.at; late = late_same s.at.key n m (sym line.0) s.late; allowed = s.allowed } in
-    subst (λ (q : Marker). TokenRead limit start f m q o (ts ++ j ∷ k ∷ [])) (sym (moved_append m a (b ++ w) ∙ moved_append (moved m a) b w))
+    let s = second n (ts ++ j ∷ []) o (omega (arith, low, reach)) clean white
+    (fits_back (moved m a) b w o (fits_back m a (b ++ w) o fits)) z.0 (late_same z.0.key m n line.0 z.1) in
+    let here : TokenRead limit start f m (moved n w) o ((ts ++ j ∷ []) ++ k ∷ []) =
+    record { at = s.at; late = late_same s.at.key n m (sym line.0) s.late; allowed = s.allowed } in
+    subst (λ (q : Marker). TokenRead limit start f m q o (ts ++ j ∷ k ∷ []))
+    (sym (moved_append m a (b ++ w) ∙ moved_append (moved m a) b w))
     (subst (λ (x : List Kind). TokenRead limit start f m (moved n w) o x) (append_assoc ts (j ∷ []) (k ∷ [])) here)
 
 -- ## Properties
 
-record Passed (limit : ℕ) (start : State) (anchor : Option (List ℕ)) (tag : Option Tag) (f : Frame) (m : Marker) (t o : List ℕ) (ts : List Kind) : Type 0 where
+record Passed (limit : ℕ) (start : State) (anchor : Option (List ℕ)) (tag : Option Tag) (f : Frame) (m : Marker)
+    (t o : List ℕ) (ts : List Kind) : Type 0 where
   tokens : List Kind
   are : grammar.AreBoth (option_map anchor_token anchor) (option_map tag_token tag) tokens
   read : TokenRead limit start f m (moved m t) o (ts ++ tokens)
 
-passes : Reads → {limit : ℕ} {start : State} {ts : List Kind} (f : Frame) (anchor : Option (List ℕ)) (tag : Option Tag) (t : List ℕ) → AreProperties anchor tag t
-    → (m : Marker) (o : List ℕ) → f.indent ≤ m.col → IsClean o → IsTrue (is_blank_or_breakz (slice_index o 0)) → Fits limit m t o → (v : At limit start f m (t ++ o) ts) → IsLate v.key m → Passed limit start anchor tag f m t o ts
+passes : Reads → {limit : ℕ} {start : State} {ts : List Kind} (f : Frame) (anchor : Option (List ℕ)) (tag : Option Tag)
+    (t : List ℕ) → AreProperties anchor tag t
+    → (m : Marker) (o : List ℕ) → f.indent ≤ m.col → IsClean o → IsTrue (is_blank_or_breakz (slice_index o 0))
+    → Fits limit m t o → (v : At limit start f m (t ++ o) ts) → IsLate v.key m
+    → Passed limit start anchor tag f m t o ts
 passes reads f None None t h m o low clean white fits v late = absurd h
 passes reads {ts = ts} f (Some name) None t h m o low clean white fits v late =
-    record { tokens = anchor_token name ∷ []; are = refl; read = anchor_reads reads f name t h m ts o low clean white fits v late }
+    record {
+      tokens = anchor_token name ∷ [];
+      are =
+          refl;
+      read = anchor_reads reads f name t h m ts o low clean white fits v late;
+    }
 passes reads {ts = ts} f None (Some tag) t h m o low clean white fits v late =
-    record { tokens = tag_token tag ∷ []; are = refl; read = tag_reads reads f tag t h m ts o low clean white fits v late }
-passes reads {limit} {start} {ts} f (Some name) (Some tag) t (a, b, w, h, k, spaced, order) m o low clean white fits v late = by_order order
+    record {
+      tokens = tag_token tag ∷ [];
+      are =
+          refl;
+      read = tag_reads reads f tag t h m ts o low clean white fits v late;
+    }
+passes reads {limit} {start} {ts} f (Some name) (Some tag) t (a, b, w, h, k, spaced, order) m o low clean white fits v
+    late = by_order order
   where
     anchor_part : TokenReads limit start f (anchor_token name) a
     anchor_part = anchor_reads reads f name a h
@@ -272,20 +334,23 @@ passes reads {limit} {start} {ts} f (Some name) (Some tag) t (a, b, w, h, k, spa
 
     by_order : (t ≡ a ++ (b ++ w)) ⊎ (t ≡ w ++ (b ++ a)) → Passed limit start (Some name) (Some tag) f m t o ts
     by_order (inl e) =
-        let P : List ℕ → Type 0 = λ x. Fits limit m x o → (u : At limit start f m (x ++ o) ts) → IsLate u.key m → TokenRead limit start f m (moved m x) o (ts ++ anchor_token name ∷ tag_token tag ∷ []) in
-        let there = subst P (sym e) (two_read f (anchor_token name) (tag_token tag) a b w anchor_part tag_part (unbroken_properties (Some name) None a h)
+        let P : List ℕ → Type 0 = λ x. Fits limit m x o → (u : At limit start f m (x ++ o) ts) → IsLate u.key m
+        → TokenRead limit start f m (moved m x) o (ts ++ anchor_token name ∷ tag_token tag ∷ []) in
+        let there = subst P (sym e)
+        (two_read f (anchor_token name) (tag_token tag) a b w anchor_part tag_part
+        (unbroken_properties (Some name) None a h)
         (properties_ink (record { anchor = None; tag = Some tag }) w k) spaced m o low clean white) in
         record { tokens = anchor_token name ∷ tag_token tag ∷ []; are = inl refl; read = there fits v late }
     by_order (inr e) =
-        let P : List ℕ → Type 0 = λ x. Fits limit m x o → (u : At limit start f m (x ++ o) ts) → IsLate u.key m → TokenRead limit start f m (moved m x) o (ts ++ tag_token tag ∷ anchor_token name ∷ []) in
-        let there = subst P (sym e) (two_read f (tag_token tag) (anchor_token name) w b a tag_part anchor_part (unbroken_properties None (Some tag) w k)
+        let P : List ℕ → Type 0 = λ x. Fits limit m x o → (u : At limit start f m (x ++ o) ts) → IsLate u.key m
+        → TokenRead limit start f m (moved m x) o (ts ++ tag_token tag ∷ anchor_token name ∷ []) in
+        let there = subst P (sym e)
+        (two_read f (tag_token tag) (anchor_token name) w b a tag_part anchor_part
+        (unbroken_properties None (Some tag) w k)
         (properties_ink (record { anchor = Some name; tag = None }) a h) spaced m o low clean white) in
         record { tokens = tag_token tag ∷ anchor_token name ∷ []; are = inr refl; read = there fits v late }
 
 -- ## Before a header
-
-none_late : (k : Option Candidate) (m : Marker) → k ≡ None → IsLate k m
-none_late k m e = subst (λ (x : Option Candidate). IsLate x m) (sym e) tt
 
 pub reads_head : Reads → (limit : ℕ) → ReadsHead limit
 reads_head reads limit p place f same m gap t between y gap_is h spaced ink fits start ts before =
@@ -294,13 +359,17 @@ reads_head reads limit p place f same m gap t between y gap_is h spaced ink fits
     let low = subst (λ (i : ℕ). i ≤ n.col) (sym same) (gap_reaches place m gap gap_is before.placed) in
     let l = lands_behind f m gap (t ++ o) gap_is (further_ink t o (properties_ink p t h)) before in
     let skipped = are_spaces_skipped 1 between spaced in
-    let r = passes reads f p.anchor p.tag t h n o low (skipped_clean between y skipped (clean_ink y ink)) (spaces_first between y spaced) (fits_front n t between y (fits_back m gap (t ++ between) y fits)) l.0 (none_late l.0.key n l.1) in
+    let r = passes reads f p.anchor p.tag t h n o low (skipped_clean between y skipped (clean_ink y ink))
+    (space_first between y spaced) (fits_front n t between y (fits_back m gap (t ++ between) y fits)) l.0
+    (none_late l.0.key n l.1) in
     let line = unbroken_line n t between (unbroken_properties p.anchor p.tag t h) spaced in
     let q = moved (moved n t) between in
     let Q : Marker × List ℕ → Type 0 = λ x. (u : At limit start f x.0 x.1 (ts ++ r.tokens)) × IsLate u.key q in
-    let z = subst Q (lands_on (moved n t) between y skipped ink) (r.read.at, late_same r.read.at.key n q line.0 r.read.late) in
+    let z = subst Q (lands_on (moved n t) between y skipped ink)
+    (r.read.at, late_same r.read.at.key n q line.0 r.read.late) in
     let here : HeadRead limit start p f q y ts = record { tokens = r.tokens; are = r.are; at = z.0; late = z.1 } in
-    subst (λ (x : Marker). HeadRead limit start p f x y ts) (sym (moved_append m gap (t ++ between) ∙ moved_append n t between)) here
+    subst (λ (x : Marker). HeadRead limit start p f x y ts)
+    (sym (moved_append m gap (t ++ between) ∙ moved_append n t between)) here
 
 -- ## Before the next lines
 
@@ -311,7 +380,8 @@ gap_of place t (inr (first, (suc n, low, e))) = inl (inl (suc n, omega arith, e)
 
 none_left : (k : Option Candidate) (m n : Marker) → IsLate k m → m.line < n.line → is_too_far k n ≡ false → k ≡ None
 none_left None m n late h near = refl
-none_left (Some k) m n late h near = absurd (let e : true ≡ false = sym (older k n (omega (arith, late, h))) ∙ near in cc)
+none_left (Some k) m n late h near =
+    absurd (let e : true ≡ false = sym (too_far k n (omega (arith, late, h))) ∙ near in cc)
 
 -- the rest of the line behind properties, and what else stands before the next token
 record LinesBehind (w y : List ℕ) : Type 0 where
@@ -323,18 +393,25 @@ record LinesBehind (w y : List ℕ) : Type 0 where
   more : List ℕ
   is : w ≡ rest ++ (10 ∷ more)
 
+line_first : (end o rest : List ℕ) → IsLineRest rest → end ≡ rest ++ (10 ∷ [])
+    → IsTrue (is_blank_or_breakz (slice_index (end ++ o) 0))
+line_first end o rest h e =
+    ap (λ (x : List ℕ). is_blank_or_breakz (slice_index x 0))
+    (ap (λ (x : List ℕ). x ++ o) e ∙ append_assoc rest (10 ∷ []) o) ∙ rest_first rest (10 ∷ o) h (inr refl)
+
 lines_behind : (w y : List ℕ) → IsNextLineText w → BeginsInk y → LinesBehind w y
 lines_behind w y (end, filler, n, (rest, rest_is, end_is), filler_is, e) ink =
     let more = filler ++ spaces n in
     let skipped = skipped_append filler (spaces n) (filler_skipped filler filler_is) (spaces_skipped n) in
     let ends = line_end_skipped end (rest, rest_is, end_is) in
     let text : w ++ y ≡ end ++ (more ++ y) = ap (λ (x : List ℕ). x ++ y) e ∙ append_assoc end more y in
-    let b = line_end_behind end (more ++ y) (rest, rest_is, end_is) (skipped_clean more y skipped (clean_ink y ink)) (skipped_no_tab more y skipped ∙ ap has_tab ink.is ∙ ink_no_tab ink.first ink.others ink.ink) in
     let line : w ≡ rest ++ (10 ∷ more) = e ∙ ap (λ (x : List ℕ). x ++ more) end_is ∙ append_assoc rest (10 ∷ []) more in
     record {
       skipped = subst IsSkipped (sym e) (skipped_append end more ends skipped);
-      clean = subst IsClean (sym text) b.clean_all;
-      white = subst (λ (x : List ℕ). IsTrue (is_blank_or_breakz (slice_index x 0))) (sym text) b.first;
+      clean = subst IsClean (sym text)
+          (skipped_clean end (more ++ y) ends (skipped_clean more y skipped (clean_ink y ink)));
+      white = subst (λ (x : List ℕ). IsTrue (is_blank_or_breakz (slice_index x 0))) (sym text)
+          (line_first end (more ++ y) rest rest_is end_is);
       crossed = ap crosses text ∙ line_end_crosses end (more ++ y) (rest, rest_is, end_is);
       rest = rest;
       more = more;
@@ -350,7 +427,8 @@ reads_properties reads limit short p place f same m front t w y spaced h next_li
     let l = lands_behind f m front (t ++ o) gap_is (further_ink t o (properties_ink p t h)) before in
     let b = lines_behind w y next_line ink in
     let fits_t = fits_back m front (t ++ w) y fits in
-    let r = passes reads f p.anchor p.tag t h n o low b.clean b.white (fits_front n t w y fits_t) l.0 (none_late l.0.key n l.1) in
+    let r = passes reads f p.anchor p.tag t h n o low b.clean b.white (fits_front n t w y fits_t) l.0
+    (none_late l.0.key n l.1) in
     let k = moved n t in
     let q = moved k w in
     let line = ap (λ (j : Marker). j.line) (unbroken_along n t (unbroken_properties p.anchor p.tag t h)) in
@@ -361,7 +439,17 @@ reads_properties reads limit short p place f same m front t w y spaced h next_li
     let grown = later_line k b.rest b.more fits_w.lined (omega (arith, below, size, size_line, short)) in
     let at_line = ap (λ (x : List ℕ). (moved k x).line) b.is in
     let later : n.line < q.line = omega (arith, line, grown, at_line) in
-    let Q : Marker × List ℕ → Type 0 = λ x. (u : At limit start f x.0 x.1 (ts ++ r.tokens)) × IsLate u.key n × (u.allowed ≡ true) in
+    let Q : Marker × List ℕ → Type 0 = λ x. (u : At limit start f x.0 x.1 (ts ++ r.tokens)) × IsLate u.key n
+    × (u.allowed ≡ true) in
     let z = subst Q (lands_on k w y b.skipped ink) (r.read.at, r.read.late, r.read.allowed ∙ b.crossed) in
-    let here : PropertiesRead limit start p f q y ts = record { tokens = r.tokens; are = r.are; at = z.0; none = none_left z.0.key n q z.1 later z.0.near; allowed = z.2 } in
-    subst (λ (x : Marker). PropertiesRead limit start p f x y ts) (sym (moved_append m front (t ++ w) ∙ moved_append n t w)) here
+    let here : PropertiesRead limit start p f q y ts =
+    record {
+      tokens = r.tokens;
+      are =
+          r.are;
+      at = z.0;
+      none = none_left z.0.key n q z.1 later z.0.near;
+      allowed = z.2;
+    } in
+    subst (λ (x : Marker). PropertiesRead limit start p f x y ts)
+    (sym (moved_append m front (t ++ w) ∙ moved_append n t w)) here

@@ -5,30 +5,38 @@ use Rattle.saphyr_input.specs.Classes.{is_blank_or_breakz}
 use Rattle.saphyr_scalar.specs.declared.scalar.position.Marker.{Marker}
 use Rattle.saphyr_scalar.specs.BlockRead.{spaces}
 use Rattle.saphyr_scalar.specs.Spaces.{IsLineEnd, IsFiller}
-use Rattle.saphyr_scanner.specs.Core.{is_too_far, least_column}
-use Rattle.saphyr_scanner.specs.Queue as queue
-use Rattle.saphyr_scanner.specs.Queue.{closed}
-use Rattle.saphyr_scanner.specs.Seen.{Piece}
-use Rattle.saphyr_scanner.specs.State.{State}
-use Rattle.saphyr_scanner.specs.Tokens.{Kind}
-use Rattle.saphyr_scanner.specs.TokenGrammar as grammar
-use Rattle.saphyr_scanner.specs.Forest.{Style, Properties, Node, Scalar, Nodes, Pairs, left_out}
-use Rattle.saphyr_scanner.specs.FlowNodes.{IsFlowNode, IsOnLine, IsBeforeColon, IsProperties}
-use Rattle.saphyr_scanner.specs.BlockNodes.{Place, BehindMark, BehindKey, is_start, indent_at, AreSpacesAt, IsFlowInBlock, IsStyled, IsScalarFront, IsScalarInBlock}
-use Rattle.saphyr_scanner.proofs.JsonMarks.{kinds}
-use Rattle.saphyr_scanner.proofs.FlowStates.{moved, past}
-use Rattle.saphyr_scanner.proofs.FlowInks.{BeginsInk}
+use Rattle.saphyr_scanner.specs.Steps.Core.{is_too_far, least_column}
+use Rattle.saphyr_scanner.specs.Steps.Queue as queue
+use Rattle.saphyr_scanner.specs.Steps.Queue.{closed}
+use Rattle.saphyr_scanner.specs.Views.Tokens.{Piece}
+use Rattle.saphyr_scanner.specs.Steps.State.{State}
+use Rattle.saphyr_scanner.specs.Grammar.Tokens.{Kind}
+use Rattle.saphyr_scanner.specs.Grammar.TokenGrammar as grammar
+use Rattle.saphyr_scanner.specs.Grammar.Forest.{Style, Properties, Node, Scalar, Nodes, Pairs, left_out}
+use Rattle.saphyr_scanner.specs.Grammar.FlowNodes.{IsFlowNode, IsOnLine, IsPlainKeyNode, IsKeyText, IsBeforeColon, IsProperties}
+use Rattle.saphyr_scanner.specs.Grammar.BlockNodes.{Position, BehindMark, BehindKey, is_start, indent_at, AreSpacesAt, IsFlowInBlock, IsStyled, IsScalarFront, IsScalarInBlock, BehindDash, BehindMarker, AtStart}
+use Rattle.saphyr_scanner.proofs.Json.Marks.{kinds}
+use Rattle.saphyr_scanner.proofs.Flow.States.{moved, past}
+use Rattle.saphyr_scanner.proofs.Flow.Inks.{BeginsInk}
 use Rattle.saphyr_scanner.proofs.InBlock.Lines.{Fits}
 use Rattle.saphyr_scanner.proofs.InBlock.States.{Frame, Moment, core_of, state_of, IsUntabbed, EndsDocument, IsLeftOf, Follows, At, Before}
 use Rattle.saphyr_scanner.proofs.InBlock.Skips.{IsClean, has_tab}
 
 -- in which part of the token grammar a node at a place stands
-abbrev pub context_at : Place → grammar.Context
+abbrev pub context_at : Position → grammar.Context
 context_at (BehindMark m) = grammar.InBlockMapping
 context_at (BehindKey m) = grammar.InBlockMapping
 context_at _ = grammar.InBlock
 
--- What stands behind a node, from m on: the next token ends the document or stands left of a column, and no tab stands among
+pub allows_block : (place : Position) → grammar.AllowsBlock (context_at place)
+allows_block (BehindDash m) = tt
+allows_block (BehindMark m) = tt
+allows_block (BehindKey m) = tt
+allows_block BehindMarker = tt
+allows_block AtStart = tt
+
+-- What stands behind a node, from m on: the next token ends the document or stands left of a column, and no tab stands
+-- among
 -- the blanks before it.
 pub record IsBehind (column : ℕ) (m : Marker) (o : List ℕ) : Type 0 where
   pub left : IsLeftOf column (past 0 m o).0 (past 0 m o).1
@@ -48,28 +56,35 @@ abbrev pub EndsWithLine : List ℕ → List ℕ → Type 0
 EndsWithLine t o = ((m : Marker) → (moved m t).col ≡ 0) ⊎ (o ≡ [])
 
 -- A node at a place is left out, which it isn't at a document's start, or it has these tokens.
-abbrev pub AreRead : Node → Place → List Kind → Type 0
-AreRead node place ts = (IsFalse (is_start place) × (node ≡ left_out) × (ts ≡ [])) ⊎ grammar.IsNode node (context_at place) ts
+abbrev pub AreRead : Node → Position → List Kind → Type 0
+AreRead node place ts = (IsFalse (is_start place) × (node ≡ left_out) × (ts ≡ []))
+    ⊎ grammar.YieldsNode node (context_at place) ts
 
 -- the same, wherever it stands
-pub as_optional : (node : Node) (place : Place) (ts : List Kind) → AreRead node place ts → grammar.IsOptional node (grammar.IsNode node (context_at place)) ts
+pub as_optional : (node : Node) (place : Position) (ts : List Kind) → AreRead node place ts
+    → grammar.YieldsOptional node (grammar.YieldsNode node (context_at place)) ts
 as_optional node place ts (inl h) = inl (h.1, h.2)
 as_optional node place ts (inr h) = inr h
 
 -- A node at a place was read, which is left out or has these tokens.
-pub record NodeRead (limit : ℕ) (start : State) (node : Node) (place : Place) (f : Frame) (m : Marker) (o : List ℕ) (ts : List Kind) : Type 0 where
+pub record NodeRead (limit : ℕ) (start : State) (node : Node) (place : Position) (f : Frame) (m : Marker) (o : List ℕ)
+    (ts : List Kind) : Type 0 where
   pub tokens : List Kind
   pub are : AreRead node place tokens
   pub arrived : Arrived limit start f m o (ts ++ tokens)
 
 -- The text of a node at a place is read, where Is tells how it stands there.
-abbrev pub ReadsAt : ℕ → Node → (Place → List ℕ → List ℕ → Type 0) → Type 0
+abbrev pub ReadsAt : ℕ → Node → (Position → List ℕ → List ℕ → Type 0) → Type 0
 ReadsAt limit node Is =
-    (place : Place) (f : Frame) → f.indent ≡ indent_at place → (m : Marker) (t o : List ℕ) → Is place t o → Fits limit m t o → IsBehind f.indent (moved m t) o
-    → (start : State) (ts : List Kind) → Before limit start place f m (t ++ o) ts → NodeRead limit start node place f (moved m t) o ts
+    (place : Position) (f : Frame) → f.indent ≡ indent_at place → (m : Marker) (t o : List ℕ) → Is place t o
+    → Fits limit m t o → IsBehind f.indent (moved m t) o
+    → (start : State) (ts : List Kind) → Before limit start place f m (t ++ o) ts
+    → NodeRead limit start node place f (moved m t) o ts
 
--- A key on one line was read, up to its colon at m: its tokens are in the last places, of which the first may be opened.
-pub record KeyRead (limit : ℕ) (start : State) (node : Node) (f : Frame) (k m : Marker) (o : List ℕ) (ts : List Kind) : Type 0 where
+-- A key on one line was read, up to its colon at m: its tokens are in the last places, of which the first may be
+-- opened.
+pub record KeyRead (limit : ℕ) (start : State) (node : Node) (f : Frame) (k m : Marker) (o : List ℕ) (ts : List Kind) :
+    Type 0 where
   pub moment : Moment
   pub places : List queue.Place
   pub key : Piece
@@ -78,7 +93,7 @@ pub record KeyRead (limit : ℕ) (start : State) (node : Node) (f : Frame) (k m 
   pub first : kinds places ≡ ts
   pub tokens : List Kind
   pub are : kinds (closed key ∷ others) ≡ tokens
-  pub node_are : grammar.IsNode node grammar.InBlockMapping tokens
+  pub node_are : grammar.YieldsNode node grammar.InBlockMapping tokens
   pub candidate : moment.key ≡ Some (record { mark = k; place = length places })
   pub quiet : moment.comment ≡ None
   pub lands : past 0 moment.cursor.mark moment.cursor.rest ≡ (m, 58 ∷ o)
@@ -89,14 +104,18 @@ pub record KeyRead (limit : ℕ) (start : State) (node : Node) (f : Frame) (k m 
 -- the same of each key
 abbrev pub ReadsKey : ℕ → Node → Type 0
 ReadsKey limit node =
-    (f : Frame) (m : Marker) (t o : List ℕ) (n : ℕ) → f.indent ≤ m.col + 1 → IsFlowNode 255 node false (suc m.col) t → IsOnLine t → IsBeforeColon node (spaces n) → length (t ++ spaces n) ≤ 1024
+    (f : Frame) (m : Marker) (t o : List ℕ) (n : ℕ) → f.indent ≤ m.col + 1
+    → IsKeyText (IsFlowNode 255 node false (suc m.col)) node false (suc m.col) t (spaces n) → IsOnLine t
+    → IsBeforeColon node (spaces n) → length (t ++ spaces n) ≤ 1024
     → is_blank_or_breakz (slice_index o 0) ≡ true → Fits limit m (t ++ spaces n) (58 ∷ o)
-    → (start : State) (ts : List Kind) → (v : At limit start f m (t ++ (spaces n ++ (58 ∷ o))) ts) → v.allowed ≡ true → KeyRead limit start node f m (moved m (t ++ spaces n)) o ts
+    → (start : State) (ts : List Kind) → (v : At limit start f m (t ++ (spaces n ++ (58 ∷ o))) ts) → v.allowed ≡ true
+    → KeyRead limit start node f m (moved m (t ++ spaces n)) o ts
 
 -- Properties before a block collection on the next lines were read, up to its first token at m.
-pub record PropertiesRead (limit : ℕ) (start : State) (p : Properties) (f : Frame) (m : Marker) (y : List ℕ) (ts : List Kind) : Type 0 where
+pub record PropertiesRead (limit : ℕ) (start : State) (p : Properties) (f : Frame) (m : Marker) (y : List ℕ)
+    (ts : List Kind) : Type 0 where
   pub tokens : List Kind
-  pub are : grammar.AreProperties p tokens
+  pub are : grammar.YieldProperties p tokens
   pub at : At limit start f m y (ts ++ tokens)
   pub none : at.key ≡ None
   pub allowed : at.allowed ≡ true
@@ -108,30 +127,40 @@ IsNextLineText w = (end filler : List ℕ) × (n : ℕ) × IsLineEnd end × IsFi
 -- `t` is the properties with the spaces before them, and `w` the rest of their line, filler and indentation.
 abbrev pub ReadsProperties : ℕ → Type 0
 ReadsProperties limit =
-    (p : Properties) (place : Place) (f : Frame) → f.indent ≡ indent_at place → (m : Marker) (front t w y : List ℕ) → AreSpacesAt place front → IsProperties p t → IsNextLineText w → BeginsInk y
-    → Fits limit m (front ++ (t ++ w)) y → (start : State) (ts : List Kind) → Before limit start place f m (front ++ (t ++ (w ++ y))) ts → PropertiesRead limit start p f (moved m (front ++ (t ++ w))) y ts
+    (p : Properties) (place : Position) (f : Frame) → f.indent ≡ indent_at place → (m : Marker) (front t w y : List ℕ)
+    → AreSpacesAt place front → IsProperties p t → IsNextLineText w → BeginsInk y
+    → Fits limit m (front ++ (t ++ w)) y → (start : State) (ts : List Kind)
+    → Before limit start place f m (front ++ (t ++ (w ++ y))) ts
+    → PropertiesRead limit start p f (moved m (front ++ (t ++ w))) y ts
 
 -- What is shown of the leaves, from which collections follow.
 pub record Leaves (limit : ℕ) : Type 0 where
   pub flow : (node : Node) → ReadsAt limit node (IsFlowInBlock 255 node)
-  pub block_scalar : (p : Properties) (style : Style) (value : List ℕ) → ReadsAt limit (Scalar p style value) (IsScalarInBlock p style value)
+  pub block_scalar : (p : Properties) (style : Style) (value : List ℕ)
+      → ReadsAt limit (Scalar p style value) (IsScalarInBlock p style value)
   pub key : (node : Node) → ReadsKey limit node
   pub properties : ReadsProperties limit
-  pub flow_ink : (node : Node) (room indent : ℕ) (in_flow : Bool) (t : List ℕ) → IsFlowNode room node in_flow indent t → BeginsInk t
-  pub block_ink : (p : Properties) (style : Style) (value : List ℕ) (indent : ℕ) (front t o : List ℕ) → IsScalarFront p front → IsStyled style value indent t o → BeginsInk (front ++ t)
-  pub scalar_ends : (style : Style) (value : List ℕ) (indent : ℕ) (t o : List ℕ) → IsStyled style value indent t o → EndsWithLine t o
+  pub key_ink : (node : Node) (indent : ℕ) (t : List ℕ) → IsPlainKeyNode node false indent t → BeginsInk t
+  pub flow_ink : (node : Node) (room indent : ℕ) (in_flow : Bool) (t : List ℕ) → IsFlowNode room node in_flow indent t
+      → BeginsInk t
+  pub block_ink : (p : Properties) (style : Style) (value : List ℕ) (indent : ℕ) (front t o : List ℕ)
+      → IsScalarFront p front → IsStyled style value indent t o → BeginsInk (front ++ t)
+  pub scalar_ends : (style : Style) (value : List ℕ) (indent : ℕ) (t o : List ℕ) → IsStyled style value indent t o
+      → EndsWithLine t o
 
 -- ## Collections
 
 -- The entries of a sequence were read, inside its frame.
-pub record EntriesRead (limit : ℕ) (start : State) (nodes : Nodes) (g : Frame) (m : Marker) (o : List ℕ) (ts : List Kind) : Type 0 where
+pub record EntriesRead (limit : ℕ) (start : State) (nodes : Nodes) (g : Frame) (m : Marker) (o : List ℕ)
+    (ts : List Kind) : Type 0 where
   pub tokens : List Kind
-  pub are : grammar.AreBlockEntries nodes tokens
+  pub are : grammar.YieldBlockEntries nodes tokens
   pub arrived : Arrived limit start g m o (ts ++ tokens)
 
 -- The pairs of a mapping were read, inside its frame.
-pub record PairsRead (limit : ℕ) (start : State) (pairs : Pairs) (g : Frame) (m : Marker) (o : List ℕ) (ts : List Kind) : Type 0 where
+pub record PairsRead (limit : ℕ) (start : State) (pairs : Pairs) (g : Frame) (m : Marker) (o : List ℕ)
+    (ts : List Kind) : Type 0 where
   pub tokens : List Kind
-  pub are : grammar.AreBlockPairs pairs tokens
+  pub are : grammar.YieldBlockPairs pairs tokens
   pub begins : grammar.BeginsWithValue tokens → ⊥
   pub arrived : Arrived limit start g m o (ts ++ tokens)

@@ -1,27 +1,30 @@
--- What is said of a piece of a text at block level, and of the states before it and behind it. Block collections may be open.
+-- What is said of a piece of a text at block level, and of the states before it and behind it. Block collections may be
+-- open.
 use Rattle.std.proofs.Common.{◌≡◌, ℕ, ◌+◌, ◌<◌, ◌≤◌, Bool, true, false, List, [], ◌∷◌, slice_index, ◌⊎◌}
 use Rattle.std.specs.Prelude.{◌||◌, ◌&&◌, ◌==◌, Option, None, if◌then◌else◌}
 use Rattle.saphyr_input.specs.Classes.{is_blank, is_break, is_yaml_non_break}
 use Rattle.saphyr_scalar.specs.declared.scalar.position.Marker.{Marker}
 use Rattle.saphyr_scalar.specs.Cursor.{Cursor, along, next_line}
 use Rattle.saphyr_scanner.specs.declared.engine.level.Context.TheVariants as context
-use Rattle.saphyr_scanner.specs.Tokens.{Kind}
-use Rattle.saphyr_scanner.specs.Queue.{Place}
-use Rattle.saphyr_scanner.specs.Core.{Core, Candidate, is_too_far}
-use Rattle.saphyr_scanner.specs.State.{State}
-use Rattle.saphyr_scanner.specs.Gap.{is_tab_indentation}
-use Rattle.saphyr_scanner.specs.Fetch.{fetch}
-use Rattle.saphyr_scanner.specs.BlockNodes as layout
-use Rattle.saphyr_scanner.specs.BlockNodes.{Place as Position}
+use Rattle.saphyr_scanner.specs.Grammar.Tokens.{Kind}
+use Rattle.saphyr_scanner.specs.Steps.Queue.{Place}
+use Rattle.saphyr_scanner.specs.Steps.Core.{Core, Candidate, is_too_far}
+use Rattle.saphyr_scanner.specs.Steps.State.{State}
+use Rattle.saphyr_scanner.specs.Steps.Gap.{is_tab_indentation}
+use Rattle.saphyr_scanner.specs.Steps.Fetch.{fetch}
+use Rattle.saphyr_scanner.specs.Grammar.BlockNodes as layout
+use Rattle.saphyr_scanner.specs.Grammar.BlockNodes.{Position as Position}
 use Rattle.saphyr_scanner.proofs.Leads.{Leads}
-use Rattle.saphyr_scanner.proofs.JsonStates.{queue_of, cursor_at}
-use Rattle.saphyr_scanner.proofs.JsonMarks.{kinds}
-use Rattle.saphyr_scanner.proofs.FlowStates.{past}
-pub use Rattle.saphyr_scanner.proofs.FlowStates.{EndsDocument, crosses, crosses_comment}
+use Rattle.saphyr_scanner.proofs.Json.States.{queue_of}
+use Rattle.saphyr_scanner.proofs.Json.Marks.{kinds}
+use Rattle.saphyr_scanner.proofs.Flow.States.{past}
+pub use Rattle.saphyr_scanner.proofs.Flow.States.{EndsDocument, crosses, crosses_comment}
+use Rattle.saphyr_scalar.proofs.Given.{cursor_at}
 
 -- ## The block collections that are open
 
--- `indent` is the first column to the right of the innermost one, and 0 where there is none; `outers` are those of the others.
+-- `indent` is the first column to the right of the innermost one, and 0 where there is none; `outers` are those of the
+-- others.
 pub record Frame : Type 0 where
   pub indent : ℕ
   pub outers : List ℕ
@@ -48,7 +51,16 @@ pub record Moment : Type 0 where
 -- right at a token: no comment has ended a scalar
 abbrev pub moment_with : Bool → Marker → List ℕ → Bool → Option Candidate → Bool → ℕ → Bool → Moment
 moment_with required m y blank key allowed adjacent deeper =
-    record { cursor = cursor_at y m blank; key = key; allowed = allowed; adjacent = adjacent; deeper = deeper; required = required; comment = None }
+    record {
+      cursor = cursor_at y m blank;
+      key =
+          key;
+      allowed = allowed;
+      adjacent = adjacent;
+      deeper = deeper;
+      required = required;
+      comment = None;
+    }
 
 -- the same, where nothing is required
 abbrev pub moment_at : Marker → List ℕ → Bool → Option Candidate → Bool → ℕ → Bool → Moment
@@ -76,13 +88,15 @@ state_of f n ps = record { core = core_of f n; queue = queue_of ps }
 
 -- ## Tabs
 
--- Whether a tab stands left of a column, with blanks alone before it, on the line of the next token (of the text's end):
+-- Whether a tab stands left of a column, with blanks alone before it, on the line of the next token (of the text's
+-- end):
 -- what `gap` knows where it stops.
 abbrev mutual
   pub tabbed : ℕ → Marker → Bool → Bool → List ℕ → Bool
   tabbed least m blank tab [] = tab
   tabbed least m blank tab (c ∷ cs) =
-      if is_blank c || ((c == 13) && (slice_index cs 0 == 10)) then tabbed least (along m 1) blank (is_tab_indentation least m blank c || tab) cs
+      if is_blank c || ((c == 13) && (slice_index cs 0 == 10)) then tabbed least (along m 1) blank
+      (is_tab_indentation least m blank c || tab) cs
       else if is_break c then tabbed least (next_line m 1) true false cs
       else if c == 35 then tabbed_comment least (along m 1) blank tab cs
       else tab
@@ -119,7 +133,8 @@ pub record Follows (limit : ℕ) (start s : State) : Type 0 where
   pub same : fetch reached ≡ fetch s
   pub running : reached.core.ended ≡ s.core.ended
 
--- The scanner stands before the token at m, where the text is y, and has read these tokens. Nothing is required there, and
+-- The scanner stands before the token at m, where the text is y, and has read these tokens. Nothing is required there,
+-- and
 -- no comment has ended a scalar.
 pub record At (limit : ℕ) (start : State) (f : Frame) (m : Marker) (y : List ℕ) (ts : List Kind) : Type 0 where
   pub blank : Bool
@@ -152,7 +167,8 @@ IsPlaced layout.BehindMarker m = Unit {0}
 IsPlaced layout.AtStart m = m.col ≡ 0
 
 -- The scanner has read these tokens, and a node may come at a place, whose text and what is behind it stand at m.
-pub record Before (limit : ℕ) (start : State) (place : Position) (f : Frame) (m : Marker) (o : List ℕ) (ts : List Kind) : Type 0 where
+pub record Before (limit : ℕ) (start : State) (place : Position) (f : Frame) (m : Marker) (o : List ℕ)
+    (ts : List Kind) : Type 0 where
   pub at : At limit start f (past 0 m o).0 (past 0 m o).1 ts
   pub none : at.key ≡ None
   pub allows : (is_compact place || crosses o) ≡ true → at.allowed ≡ true

@@ -2,12 +2,11 @@
 use Rattle.std.proofs.Common.{◌≡◌, ℕ, Bool, true, false, List, [], ◌∷◌, ◌++◌, refl, sym, ap, ◌∙◌, arith, ◌⊎◌, inl, inr}
 use Rattle.saphyr_input.specs.Classes.{is_bom}
 use Rattle.saphyr_scalar.specs.declared.scalar.position.Marker.{Marker}
-use Rattle.saphyr_scalar.specs.Spaces.{IsLastFiller}
-use Rattle.saphyr_scanner.specs.BlockNodes.{IsContentEnd}
-use Rattle.saphyr_scanner.specs.Forest.{Forest}
-use Rattle.saphyr_scanner.proofs.FlowStates.{IsInk, moved, past}
-use Rattle.saphyr_scanner.proofs.FlowFillers.{last_filler_past, content_rest_past}
-use Rattle.saphyr_scanner.proofs.FlowLines.{eol}
+use Rattle.saphyr_scalar.specs.Spaces.{IsLastFiller, IsEol}
+use Rattle.saphyr_scanner.specs.Grammar.Forest.{Forest}
+use Rattle.saphyr_scanner.proofs.Flow.States.{IsInk, moved, past}
+use Rattle.saphyr_scanner.proofs.Flow.Fillers.{last_filler_past, rest_past}
+use Rattle.saphyr_scanner.proofs.Documents.Lines.{eol}
 use Rattle.saphyr_scanner.proofs.InBlock.States.{IsStop}
 use Rattle.saphyr_scanner.proofs.InBlock.Gaps.{ink_stop, stop_past}
 use Rattle.saphyr_scanner.proofs.InBlock.Skips.{IsSkipped, filler_skipped, skipped_past}
@@ -29,15 +28,19 @@ skipped_stops : (w s : List ℕ) → IsSkipped w → IsStop s → StopsAt (w ++ 
 skipped_stops w s h stop m = ap (λ (q : Marker × List ℕ). q.1) (skipped_past m w s h ∙ stop_past (moved m w) s stop)
 
 pub token_stops : (t : List ℕ) (h : HasToken t) → StopsAt t (h.first ∷ h.others)
-token_stops t h m = ap (λ (x : List ℕ). (past 0 m x).1) h.is ∙ skipped_stops h.white (h.first ∷ h.others) h.skipped (ink_stop h.first h.others h.ink) m
+token_stops t h m = ap (λ (x : List ℕ). (past 0 m x).1) h.is
+    ∙ skipped_stops h.white (h.first ∷ h.others) h.skipped (ink_stop h.first h.others h.ink) m
 
 pub marker_stops : (o : List ℕ) (k : OpensMarker o) → StopsAt o (k.first ∷ k.others)
-marker_stops o k m = ap (λ (x : List ℕ). (past 0 m x).1) k.is ∙ skipped_stops k.filler (k.first ∷ k.others) (filler_skipped k.filler k.filler_is) (ink_stop k.first k.others k.ink) m
+marker_stops o k m = ap (λ (x : List ℕ). (past 0 m x).1) k.is
+    ∙ skipped_stops k.filler (k.first ∷ k.others) (filler_skipped k.filler k.filler_is)
+    (ink_stop k.first k.others k.ink) m
 
-pub end_stops : (end o s : List ℕ) → IsContentEnd end o → StopsAt o s → StopsAt (end ++ o) s
+pub end_stops : (end o s : List ℕ) → IsEol end o → StopsAt o s → StopsAt (end ++ o) s
 end_stops end o s h k m =
     let e = eol m end o h in
-    ap (λ (q : Marker × List ℕ). q.1) (ap (past 0 m) e.is ∙ content_rest_past 0 m e.rest e.more e.line e.break (omega arith) ∙ e.behind 0) ∙ k e.mark
+    ap (λ (q : Marker × List ℕ). q.1)
+    (ap (past 0 m) e.is ∙ rest_past 0 m e.rest e.more e.line e.break (omega arith) ∙ e.behind 0) ∙ k e.mark
 
 last_stops : (o : List ℕ) → IsLastFiller o → StopsAt o []
 last_stops o h m = ap (λ (q : Marker × List ℕ). q.1) (last_filler_past 0 m o h)
@@ -57,9 +60,15 @@ pub record StopsUnmarked (t : List ℕ) : Type 0 where
   pub stops : StopsAt t at
   pub unmarked : (o : List ℕ) → at ≡ 65279 ∷ o → ⊥
 
-pub documents_stop : {limit : ℕ} → Leaves limit → (ds : Forest) (free : Bool) (t : List ℕ) → AreBlockDocuments ds free t → StopsUnmarked t
+pub documents_stop : {limit : ℕ} → Leaves limit → (ds : Forest) (free : Bool) (t : List ℕ) → AreBlockDocuments ds free t
+    → StopsUnmarked t
 documents_stop leaves ds free t h = by_token (documents_token leaves ds free t h)
   where
     by_token : ((ds ≡ []) × IsLastFiller t) ⊎ HasToken t → StopsUnmarked t
     by_token (inl k) = record { at = []; stops = last_stops t k.1; unmarked = λ o e. cc }
-    by_token (inr k) = record { at = k.first ∷ k.others; stops = token_stops t k; unmarked = λ o e. no_ink k.first k.ink (cc) }
+    by_token (inr k) = record {
+      at =
+          k.first ∷ k.others;
+      stops = token_stops t k;
+      unmarked = λ o e. no_ink k.first k.ink (cc);
+    }

@@ -4,27 +4,28 @@ use Rattle.std.specs.Prelude.{None, ◌==◌, ◌||◌, not}
 use Rattle.saphyr_input.specs.Classes.{carriage_return}
 use Rattle.saphyr_scalar.specs.Cursor.{fresh}
 use Rattle.saphyr_scalar.specs.TagSpelling.{AreIn}
-use Rattle.saphyr_scanner.specs.Forest.{Forest}
-use Rattle.saphyr_scanner.specs.Layout as layout
-use Rattle.saphyr_scanner.specs.Layout.{has_marker, AreDirectives, IsDocumentPrefix, IsDocumentSuffix, IsLayout, most_open}
-use Rattle.saphyr_scanner.specs.Tokens as tokens
-use Rattle.saphyr_scanner.specs.Tokens.{Kind, directive_token}
-use Rattle.saphyr_scanner.specs.TokenGrammar as grammar
-use Rattle.saphyr_scanner.specs.TokenGrammar.{AreEndsAndMarks, Yields}
-use Rattle.saphyr_scanner.specs.State.{State, start}
+use Rattle.saphyr_scanner.specs.Grammar.Forest.{Forest}
+use Rattle.saphyr_scanner.specs.Grammar.Layout as layout
+use Rattle.saphyr_scanner.specs.Grammar.Layout.{has_marker, AreDirectives, IsDocumentPrefix, IsDocumentSuffix, IsLayout, most_open}
+use Rattle.saphyr_scanner.specs.Grammar.Tokens as tokens
+use Rattle.saphyr_scanner.specs.Grammar.Tokens.{Kind, directive_token}
+use Rattle.saphyr_scanner.specs.Grammar.TokenGrammar as grammar
+use Rattle.saphyr_scanner.specs.Grammar.TokenGrammar.{AreEndsAndMarks, Yields}
+use Rattle.saphyr_scanner.specs.Steps.State.{State, start}
 use Rattle.saphyr_scanner.proofs.Leads.{Leads}
-use Rattle.saphyr_scanner.proofs.JsonMarks.{kinds}
-use Rattle.saphyr_scanner.proofs.JsonLeads.{begun, starts}
-use Rattle.saphyr_scanner.proofs.FlowStates.{moved, Reads}
-use Rattle.saphyr_scanner.proofs.FlowPlaces.{in_front, in_back}
-use Rattle.saphyr_scanner.proofs.FlowFillers.{last_filler_past}
-use Rattle.saphyr_scanner.proofs.FlowLines.{passes_filler}
-use Rattle.saphyr_scanner.proofs.FlowStands.{Lined, Stands}
-use Rattle.saphyr_scanner.proofs.FlowMarkers.{reads_mark, reads_end, Finishes, reads_stream_end}
+use Rattle.saphyr_scanner.proofs.Json.Marks.{kinds}
+use Rattle.saphyr_scanner.proofs.Json.Leads.{begun, starts}
+use Rattle.saphyr_scanner.proofs.Flow.States.{moved, Reads}
+use Rattle.saphyr_scanner.proofs.Flow.Fillers.{last_filler_past}
+use Rattle.saphyr_scanner.proofs.Documents.Lines.{passes_filler}
+use Rattle.saphyr_scanner.proofs.Documents.Stands.{Lined, Stands}
+use Rattle.saphyr_scanner.proofs.Documents.Markers.{reads_mark, reads_end, Finishes, reads_stream_end}
 use Rattle.saphyr_scanner.proofs.InBlock.States.{crosses}
 use Rattle.saphyr_scanner.proofs.InBlock.Follows.{follows_itself}
 use Rattle.saphyr_scanner.proofs.InBlock.Statements.{Leaves}
 use Rattle.saphyr_scanner.proofs.InBlock.Documents.{plain_behind, AreBlockDocuments, HasNoReturn, suffix_text, lands_behind, reads_document}
+use Rattle.std.proofs.Math.Bool.{or-true}
+use Rattle.saphyr_scanner.proofs.Beginnings.{front_in, back_in}
 
 -- ## Between documents
 
@@ -34,30 +35,55 @@ pub record PrefixStands (limit : ℕ) (start : State) (others : List ℕ) (ts : 
   pub are : AreEndsAndMarks marks
   pub stands : Stands limit start true (Lined true others) others (ts ++ marks)
 
-pub reads_prefix : {limit : ℕ} {start : State} (prefix others : List ℕ) (ts : List Kind) → IsDocumentPrefix prefix → Stands limit start true (Lined true (prefix ++ others)) (prefix ++ others) ts → PrefixStands limit start others ts
+pub reads_prefix : {limit : ℕ} {start : State} (prefix others : List ℕ) (ts : List Kind) → IsDocumentPrefix prefix
+    → Stands limit start true (Lined true (prefix ++ others)) (prefix ++ others) ts → PrefixStands limit start others ts
 reads_prefix {limit = limit} {start = start} prefix others ts (inl e) v =
     record {
       marks = [];
       are = tt;
-      stands = subst (Stands limit start true (Lined true others) others) (sym (append-nil ts)) (subst (λ (x : List ℕ). Stands limit start true (Lined true (x ++ others)) (x ++ others) ts) e v);
+      stands = subst (Stands limit start true (Lined true others) others) (sym (append-nil ts))
+          (subst (λ (x : List ℕ). Stands limit start true (Lined true (x ++ others)) (x ++ others) ts) e v);
     }
 reads_prefix {limit = limit} {start = start} prefix others ts (inr (filler, is, e)) v =
-    let text : prefix ++ others ≡ filler ++ (65279 ∷ others) = ap (λ (x : List ℕ). x ++ others) e ∙ append_assoc filler (65279 ∷ []) others in
+    let text : prefix ++ others ≡ filler ++ (65279 ∷ others) = ap (λ (x : List ℕ). x ++ others) e
+    ∙ append_assoc filler (65279 ∷ []) others in
     let first = subst (λ (x : List ℕ). Stands limit start true (Lined true x) x ts) text v in
-    record { marks = tokens.ByteOrderMark ∷ []; are = (inr refl, tt); stands = reads_mark others (passes_filler filler (65279 ∷ others) is first) }
+    record {
+      marks = tokens.ByteOrderMark ∷ [];
+      are =
+          (inr refl, tt);
+      stands = reads_mark others (passes_filler filler (65279 ∷ others) is first);
+    }
 
 -- what stands behind a document is read, where documents are
 reads_behind : {limit : ℕ} {start : State} (ds : Forest)
-    → ((free : Bool) (t : List ℕ) (ts : List Kind) → AreBlockDocuments ds free t → HasNoReturn t → Stands limit start free (Lined free t) t ts → Finishes limit start (grammar.AreDocuments ds free) ts)
-    → (o : List ℕ) (ts : List Kind) → layout.IsBehindDocument (AreBlockDocuments ds) o → HasNoReturn o → Stands limit start false (Lined false o) o ts → Finishes limit start (grammar.IsBehindDocument (grammar.AreDocuments ds)) ts
+    → ((free : Bool) (t : List ℕ) (ts : List Kind) → AreBlockDocuments ds free t → HasNoReturn t
+    → Stands limit start free (Lined free t) t ts → Finishes limit start (grammar.YieldDocuments ds free) ts)
+    → (o : List ℕ) (ts : List Kind) → layout.IsBehindDocument (AreBlockDocuments ds) o → HasNoReturn o
+    → Stands limit start false (Lined false o) o ts
+    → Finishes limit start (grammar.YieldsBehindDocument (grammar.YieldDocuments ds)) ts
 reads_behind ds go o ts (inl h) clean v =
     let f = go false o ts h clean v in
-    record { last = f.last; leads = f.leads; over = f.over; others = f.others; told = ([], [], f.others, tt, inl (refl, f.told), refl); are = f.are }
-reads_behind {limit = limit} {start = start} ds go o ts (inr (suffix, others, (filler, end, prefix, filler_is, end_is, prefix_is, e), h, is)) clean v =
-    let text : o ≡ filler ++ (46 ∷ 46 ∷ 46 ∷ (end ++ (prefix ++ others))) = is ∙ ap (λ (x : List ℕ). x ++ others) e ∙ suffix_text filler end prefix others in
-    let first = passes_filler filler (46 ∷ 46 ∷ 46 ∷ (end ++ (prefix ++ others))) filler_is (subst (λ (x : List ℕ). Stands limit start false (Lined false x) x ts) text v) in
-    let p = reads_prefix prefix others (ts ++ tokens.DocumentEnd ∷ []) prefix_is (reads_end end (prefix ++ others) first end_is) in
-    let f = go true others ((ts ++ tokens.DocumentEnd ∷ []) ++ p.marks) h (in_back _ suffix others (subst HasNoReturn is clean)) p.stands in
+    record {
+      last = f.last;
+      leads =
+          f.leads;
+      over = f.over;
+      others =
+          f.others;
+      told = ([], [], f.others, tt, inl (refl, f.told), refl);
+      are = f.are;
+    }
+reads_behind {limit = limit} {start = start} ds go o ts
+    (inr (suffix, others, (filler, end, prefix, filler_is, end_is, prefix_is, e), h, is)) clean v =
+    let text : o ≡ filler ++ (46 ∷ 46 ∷ 46 ∷ (end ++ (prefix ++ others))) =
+    is ∙ ap (λ (x : List ℕ). x ++ others) e ∙ suffix_text filler end prefix others in
+    let first = passes_filler filler (46 ∷ 46 ∷ 46 ∷ (end ++ (prefix ++ others))) filler_is
+    (subst (λ (x : List ℕ). Stands limit start false (Lined false x) x ts) text v) in
+    let p = reads_prefix prefix others (ts ++ tokens.DocumentEnd ∷ []) prefix_is
+    (reads_end end (prefix ++ others) first end_is) in
+    let f = go true others ((ts ++ tokens.DocumentEnd ∷ []) ++ p.marks) h
+    (back_in _ suffix others (subst HasNoReturn is clean)) p.stands in
     record {
       last = f.last;
       leads = f.leads;
@@ -72,23 +98,36 @@ reads_behind {limit = limit} {start = start} ds go o ts (inr (suffix, others, (f
 
 -- ## Documents
 
-reads_documents : {limit : ℕ} {start : State} → Reads → Leaves limit → (forest : Forest) (free : Bool) (t : List ℕ) (ts : List Kind) → AreBlockDocuments forest free t → HasNoReturn t → Stands limit start free (Lined free t) t ts
-    → Finishes limit start (grammar.AreDocuments forest free) ts
+reads_documents : {limit : ℕ} {start : State} → Reads → Leaves limit
+    → (forest : Forest) (free : Bool) (t : List ℕ) (ts : List Kind) → AreBlockDocuments forest free t → HasNoReturn t
+    → Stands limit start free (Lined free t) t ts
+    → Finishes limit start (grammar.YieldDocuments forest free) ts
 reads_documents readers leaves [] free t ts h clean v =
     let f = reads_stream_end v (moved v.mark t) (last_filler_past 0 v.mark t h) in
     record { last = f.last; leads = f.leads; over = f.over; others = f.others; told = f.told; are = f.are }
-reads_documents {limit = limit} {start = start} readers leaves (d ∷ ds) free t ts (filler, document, others, filler_is, is, behind, e) clean v =
-    let first = passes_filler filler (document ++ others) filler_is (subst (λ (x : List ℕ). Stands limit start free (Lined free x) x ts) e v) in
-    let left = in_back _ filler (document ++ others) (subst HasNoReturn e clean) in
-    let n = reads_document readers leaves d free document others ts is (lands_behind leaves ds others behind) (plain_behind ds others behind) (in_front _ document others left) first in
-    let f = reads_behind ds (reads_documents readers leaves ds) others (ts ++ n.tokens) behind (in_back _ document others left) n.stands in
-    record { last = f.last; leads = f.leads; over = f.over; others = n.tokens ++ f.others; told = (n.tokens, f.others, n.are, f.told, refl); are = f.are ∙ append_assoc ts n.tokens f.others }
+reads_documents {limit = limit} {start = start} readers leaves (d ∷ ds) free t ts
+    (filler, document, others, filler_is, is, behind, e) clean v =
+    let first = passes_filler filler (document ++ others) filler_is
+    (subst (λ (x : List ℕ). Stands limit start free (Lined free x) x ts) e v) in
+    let left = back_in _ filler (document ++ others) (subst HasNoReturn e clean) in
+    let n = reads_document readers leaves d free document others ts is (lands_behind leaves ds others behind)
+    (plain_behind ds others behind) (front_in _ document others left) first in
+    let f = reads_behind ds (reads_documents readers leaves ds) others (ts ++ n.tokens) behind
+    (back_in _ document others left) n.stands in
+    record {
+      last = f.last;
+      leads =
+          f.leads;
+      over = f.over;
+      others =
+          n.tokens ++ f.others;
+      told =
+          (n.tokens, f.others, n.are, f.told, refl);
+      are = f.are ∙ append_assoc ts n.tokens f.others;
+    }
 
-or_true : (b : Bool) → (b || true) ≡ true
-or_true true = refl
-or_true false = refl
-
-pub begins : (limit : ℕ) (text : List ℕ) → length text ≤ limit → Stands limit (start text) true (Lined true text) text (tokens.StreamStart ∷ [])
+pub begins : (limit : ℕ) (text : List ℕ) → length text ≤ limit
+    → Stands limit (start text) true (Lined true text) text (tokens.StreamStart ∷ [])
 begins limit text h =
     let first = starts limit text in
     record {
@@ -102,7 +141,7 @@ begins limit text h =
       follows = follows_itself first.leads;
       none = λ _. first.none refl;
       fits = refl;
-      line = (inl refl, λ _. inl (or_true (crosses text)));
+      line = (inl refl, λ _. inl (or-true (crosses text)));
       count = omega (arith, h);
       are = refl;
       quiet = λ _. refl;
@@ -111,14 +150,31 @@ begins limit text h =
     }
 
 -- From the start of a text of the layout grammar the scanner comes to its end, and holds tokens of its forest.
-pub layout_leads : Reads → (limit : ℕ) → Leaves limit → (forest : Forest) (text : List ℕ) → AreIn (λ c. not (c == carriage_return)) text → IsLayout most_open forest text → length text ≤ limit
-    → (d : State) × Leads limit d (start text) × (d.core.ended ≡ true) × ((tokens : List Kind) × Yields forest tokens × (kinds d.queue.places ≡ tokens))
+pub layout_leads : Reads → (limit : ℕ) → Leaves limit → (forest : Forest) (text : List ℕ)
+    → AreIn (λ c. not (c == carriage_return)) text → IsLayout most_open forest text → length text ≤ limit
+    → (d : State) × Leads limit d (start text) × (d.core.ended ≡ true)
+    × ((tokens : List Kind) × Yields forest tokens × (kinds d.queue.places ≡ tokens))
 layout_leads readers limit leaves forest text clean (mark, others, inl none, documents, e) short =
     let same : text ≡ others = e ∙ ap (λ (x : List ℕ). x ++ others) none in
-    let f = reads_documents readers leaves forest true others (tokens.StreamStart ∷ []) documents (subst HasNoReturn same clean) (subst (λ (x : List ℕ). Stands limit (start text) true (Lined true x) x (tokens.StreamStart ∷ [])) same (begins limit text short)) in
+    let f = reads_documents readers leaves forest true others (tokens.StreamStart ∷ []) documents
+    (subst HasNoReturn same clean)
+    (subst (λ (x : List ℕ). Stands limit (start text) true (Lined true x) x (tokens.StreamStart ∷ [])) same
+    (begins limit text short)) in
     (f.last, f.leads, f.over, (tokens.StreamStart ∷ f.others, ([], f.others, tt, f.told, refl), f.are))
 layout_leads readers limit leaves forest text clean (mark, others, inr one, documents, e) short =
     let same : text ≡ 65279 ∷ others = e ∙ ap (λ (x : List ℕ). x ++ others) one in
-    let first = reads_mark others (subst (λ (x : List ℕ). Stands limit (start text) true (Lined true x) x (tokens.StreamStart ∷ [])) same (begins limit text short)) in
-    let f = reads_documents readers leaves forest true others (tokens.StreamStart ∷ tokens.ByteOrderMark ∷ []) documents (subst HasNoReturn same clean).1 first in
-    (f.last, f.leads, f.over, (tokens.StreamStart ∷ tokens.ByteOrderMark ∷ f.others, (tokens.ByteOrderMark ∷ [], f.others, (inr refl, tt), f.told, refl), f.are))
+    let first = reads_mark others
+    (subst (λ (x : List ℕ). Stands limit (start text) true (Lined true x) x (tokens.StreamStart ∷ [])) same
+    (begins limit text short)) in
+    let f = reads_documents readers leaves forest true others (tokens.StreamStart ∷ tokens.ByteOrderMark ∷ []) documents
+    (subst HasNoReturn same clean).1 first in (
+      f.last,
+      f.leads,
+      f.over,
+      (
+        tokens.StreamStart ∷ tokens.ByteOrderMark
+            ∷ f.others,
+        (tokens.ByteOrderMark ∷ [], f.others, (inr refl, tt), f.told, refl),
+        f.are,
+      ),
+    )

@@ -3,21 +3,20 @@ use Rattle.std.proofs.Common.{◌≡◌, ℕ, Bool, true, false, List, [], ◌�
 use Rattle.std.specs.Prelude.{map, ◌==◌}
 use Rattle.saphyr_input.specs.Classes.{is_blank_or_breakz, line_feed}
 use Rattle.saphyr_input.specs.Places.{is_document_indicator}
-use Rattle.saphyr_scalar.specs.Spaces.{IsLastFiller}
-use Rattle.saphyr_scanner.specs.Forest.{Document, Forest, AreCompatible}
-use Rattle.saphyr_scanner.specs.BlockNodes.{BehindMarker, AtStart, IsContentEnd, IsBlockNode}
-use Rattle.saphyr_scanner.specs.ClosedTexts.{DocumentMarker, Starts, Ends, marker_text, marker_token}
-use Rattle.saphyr_scanner.specs.Layout as layout
-use Rattle.saphyr_scanner.specs.Layout.{most_open, IsDocumentPrefix}
-use Rattle.saphyr_scanner.specs.State.{State}
-use Rattle.saphyr_scanner.specs.Tokens as tokens
-use Rattle.saphyr_scanner.specs.Tokens.{Kind, directive_token}
-use Rattle.saphyr_scanner.specs.TokenGrammar as grammar
-use Rattle.saphyr_scanner.proofs.FlowStates.{marks_line, Reads}
-use Rattle.saphyr_scanner.proofs.FlowPlaces.{in_front, in_back}
-use Rattle.saphyr_scanner.proofs.FlowLines.{passes_filler}
-use Rattle.saphyr_scanner.proofs.FlowMarkers.{start_ends, end_ends, reads_end}
-use Rattle.saphyr_scanner.proofs.FlowStands.{Lined, Stands}
+use Rattle.saphyr_scalar.specs.Spaces.{IsLastFiller, IsEol}
+use Rattle.saphyr_scanner.specs.Grammar.Forest.{Document, Forest, AreCompatible}
+use Rattle.saphyr_scanner.specs.Grammar.BlockNodes.{BehindMarker, AtStart, IsBlockNode}
+use Rattle.saphyr_scanner.specs.Grammar.ClosedTexts.{DocumentMarker, Starts, Ends, marker_text, marker_token}
+use Rattle.saphyr_scanner.specs.Grammar.Layout as layout
+use Rattle.saphyr_scanner.specs.Grammar.Layout.{most_open, IsDocumentPrefix}
+use Rattle.saphyr_scanner.specs.Steps.State.{State}
+use Rattle.saphyr_scanner.specs.Grammar.Tokens as tokens
+use Rattle.saphyr_scanner.specs.Grammar.Tokens.{Kind, directive_token}
+use Rattle.saphyr_scanner.specs.Grammar.TokenGrammar as grammar
+use Rattle.saphyr_scanner.proofs.Flow.States.{marks_line, Reads}
+use Rattle.saphyr_scanner.proofs.Documents.Lines.{passes_filler}
+use Rattle.saphyr_scanner.proofs.Documents.Markers.{start_ends, end_ends, reads_end}
+use Rattle.saphyr_scanner.proofs.Documents.Stands.{Lined, Stands}
 use Rattle.saphyr_scanner.proofs.InBlock.Skips.{filler_skipped}
 use Rattle.saphyr_scanner.proofs.InBlock.LineStarts.{opens_line, HasLine, behind_piece, no_line, skipped_unmarked, last_unmarked, end_unmarked, prefix_unmarked}
 use Rattle.saphyr_scanner.proofs.InBlock.Further.{EndsFed, fed_front, fed_behind, same_marker, end_further, document_further}
@@ -27,24 +26,32 @@ use Rattle.saphyr_scanner.proofs.InBlock.Documents.{AreBlockDocuments, HasNoRetu
 use Rattle.saphyr_scanner.proofs.InBlock.DirectiveLines.{directives_unmarked}
 use Rattle.saphyr_scanner.proofs.InBlock.Streams.{reads_prefix}
 use Rattle.saphyr_scanner.proofs.InBlock.HandedMarkers.{Handed}
+use Rattle.saphyr_scanner.proofs.Beginnings.{front_in, back_in}
 
 -- ## Tokens up to a marker's
 
--- The scanner has handed out these tokens and others, up to and with a marker's own. Were the stream's end the next token,
+-- The scanner has handed out these tokens and others, up to and with a marker's own. Were the stream's end the next
+-- token,
 -- Told would hold of the others.
-pub record Closes (limit : ℕ) (start : State) (marker : DocumentMarker) (Told : List Kind → Type 0) (ts : List Kind) : Type 0 where
+pub record Closes (limit : ℕ) (start : State) (marker : DocumentMarker) (Told : List Kind → Type 0) (ts : List Kind) :
+    Type 0 where
   pub earlier : List Kind
   pub told : Told (earlier ++ marker_token marker ∷ tokens.StreamEnd ∷ [])
   pub handed : Handed limit start (ts ++ (earlier ++ marker_token marker ∷ []))
 
 -- with further tokens in front
-pub closes_on : {limit : ℕ} {start : State} {marker : DocumentMarker} {Told Whole : List Kind → Type 0} (ts us : List Kind) → ((others : List Kind) → Told others → Whole (us ++ others)) → Closes limit start marker Told (ts ++ us)
+pub closes_on : {limit : ℕ} {start : State} {marker : DocumentMarker} {Told Whole : List Kind → Type 0}
+    (ts us : List Kind) → ((others : List Kind) → Told others → Whole (us ++ others))
+    → Closes limit start marker Told (ts ++ us)
     → Closes limit start marker Whole ts
 closes_on {limit = limit} {start = start} {marker = marker} {Told = Told} {Whole = Whole} ts us each c =
     record {
       earlier = us ++ c.earlier;
-      told = subst Whole (sym (append_assoc us c.earlier (marker_token marker ∷ tokens.StreamEnd ∷ []))) (each (c.earlier ++ marker_token marker ∷ tokens.StreamEnd ∷ []) c.told);
-      handed = subst (Handed limit start) (append_assoc ts us (c.earlier ++ marker_token marker ∷ []) ∙ ap (λ (x : List Kind). ts ++ x) (sym (append_assoc us c.earlier (marker_token marker ∷ [])))) c.handed;
+      told = subst Whole (sym (append_assoc us c.earlier (marker_token marker ∷ tokens.StreamEnd ∷ [])))
+          (each (c.earlier ++ marker_token marker ∷ tokens.StreamEnd ∷ []) c.told);
+      handed = subst (Handed limit start)
+          (append_assoc ts us (c.earlier ++ marker_token marker ∷ [])
+          ∙ ap (λ (x : List Kind). ts ++ x) (sym (append_assoc us c.earlier (marker_token marker ∷ [])))) c.handed;
     }
 
 -- ## The marker
@@ -61,19 +68,24 @@ indicator Ends r h = end_ends r h.first
 dash_or_dot : (cs ds : List ℕ) → 45 ∷ cs ≡ 46 ∷ ds → ⊥
 dash_or_dot cs ds e = let k : true ≡ false = ap (λ (x : List ℕ). slice_index x 0 == 45) e in cc
 
--- What is to be shown where the marker is that of a document, or one behind a document. Its rest is r, and `more` follows.
+-- What is to be shown where the marker is that of a document, or one behind a document. Its rest is r, and `more`
+-- follows.
 abbrev pub StartsHere : ℕ → State → DocumentMarker → List ℕ → List ℕ → Type 0
 StartsHere limit start marker more r =
-    (d : Document) (ds : Forest) (free now opened : Bool) (node others : List ℕ) (ts : List Kind) → IsTrue free ⊎ (d.directives ≡ []) → d.explicit ≡ true → AreCompatible d.directives
-    → IsBlockNode most_open d.node BehindMarker node others → layout.IsBehindDocument (AreBlockDocuments ds) others → node ++ others ≡ r
-    → Stands limit start now (Lined opened (45 ∷ 45 ∷ 45 ∷ (r ++ more))) (45 ∷ 45 ∷ 45 ∷ (r ++ more)) (ts ++ map directive_token d.directives)
-    → Closes limit start marker (grammar.AreDocuments (d ∷ ds) free) ts
+    (d : Document) (ds : Forest) (free now opened : Bool) (node others : List ℕ) (ts : List Kind)
+    → IsTrue free ⊎ (d.directives ≡ []) → d.explicit ≡ true → AreCompatible d.directives
+    → IsBlockNode most_open d.node BehindMarker node others → layout.IsBehindDocument (AreBlockDocuments ds) others
+    → node ++ others ≡ r
+    → Stands limit start now (Lined opened (45 ∷ 45 ∷ 45 ∷ (r ++ more))) (45 ∷ 45 ∷ 45 ∷ (r ++ more))
+    (ts ++ map directive_token d.directives)
+    → Closes limit start marker (grammar.YieldDocuments (d ∷ ds) free) ts
 
 abbrev pub EndsHere : ℕ → State → DocumentMarker → List ℕ → List ℕ → Type 0
 EndsHere limit start marker more r =
-    (ds : Forest) (end prefix others : List ℕ) (ts : List Kind) → IsContentEnd end (prefix ++ others) → IsDocumentPrefix prefix → AreBlockDocuments ds true others → HasNoReturn others → end ++ (prefix ++ others) ≡ r
+    (ds : Forest) (end prefix others : List ℕ) (ts : List Kind) → IsEol end (prefix ++ others) → IsDocumentPrefix prefix
+    → AreBlockDocuments ds true others → HasNoReturn others → end ++ (prefix ++ others) ≡ r
     → Stands limit start false (Lined false (46 ∷ 46 ∷ 46 ∷ (r ++ more))) (46 ∷ 46 ∷ 46 ∷ (r ++ more)) ts
-    → Closes limit start marker (grammar.IsBehindDocument (grammar.AreDocuments ds)) ts
+    → Closes limit start marker (grammar.YieldsBehindDocument (grammar.YieldDocuments ds)) ts
 
 abbrev pub Found : ℕ → State → DocumentMarker → List ℕ → DocumentMarker → List ℕ → Type 0
 Found limit start marker more Starts r = StartsHere limit start marker more r
@@ -84,20 +96,29 @@ abbrev Marked : DocumentMarker → List ℕ → List ℕ → Type 0
 Marked w r t = HasLine t (marker_text w ++ r)
 
 marked_fed : (w : DocumentMarker) (r t : List ℕ) → IsMarkerRest r → Marked w r t → EndsFed t
-marked_fed w r t h l = subst EndsFed (sym l.is) (fed_front l.front (marker_text w ++ r) (fed_front (marker_text w) r h.fed))
+marked_fed w r t h l = subst EndsFed (sym l.is)
+    (fed_front l.front (marker_text w ++ r) (fed_front (marker_text w) r h.fed))
 
 -- ## A `...` line is passed
 
 -- Behind a `...` line and what may stand before a document, the scanner goes on with documents.
-pub passes_suffix : {limit : ℕ} {start : State} {marker : DocumentMarker} (ds : Forest) (end prefix others more : List ℕ) (ts : List Kind) → IsContentEnd end (prefix ++ others) → IsDocumentPrefix prefix → EndsFed (prefix ++ others)
-    → Stands limit start false (Lined false (46 ∷ 46 ∷ 46 ∷ (end ++ (prefix ++ (others ++ more))))) (46 ∷ 46 ∷ 46 ∷ (end ++ (prefix ++ (others ++ more)))) ts
-    → ((us : List Kind) → Stands limit start true (Lined true (others ++ more)) (others ++ more) us → Closes limit start marker (grammar.AreDocuments ds true) us)
-    → Closes limit start marker (grammar.IsBehindDocument (grammar.AreDocuments ds)) ts
+pub passes_suffix : {limit : ℕ} {start : State} {marker : DocumentMarker} (ds : Forest)
+    (end prefix others more : List ℕ) (ts : List Kind) → IsEol end (prefix ++ others) → IsDocumentPrefix prefix
+    → EndsFed (prefix ++ others)
+    → Stands limit start false (Lined false (46 ∷ 46 ∷ 46 ∷ (end ++ (prefix ++ (others ++ more)))))
+    (46 ∷ 46 ∷ 46 ∷ (end ++ (prefix ++ (others ++ more)))) ts
+    → ((us : List Kind) → Stands limit start true (Lined true (others ++ more)) (others ++ more) us
+    → Closes limit start marker (grammar.YieldDocuments ds true) us)
+    → Closes limit start marker (grammar.YieldsBehindDocument (grammar.YieldDocuments ds)) ts
 passes_suffix {limit = limit} {start = start} {marker = marker} ds end prefix others more ts end_is prefix_is fed v go =
-    let longer : IsContentEnd end (prefix ++ (others ++ more)) = subst (IsContentEnd end) (append_assoc prefix others more) (end_further more end (prefix ++ others) fed end_is) in
-    let p = reads_prefix prefix (others ++ more) (ts ++ tokens.DocumentEnd ∷ []) prefix_is (reads_end end (prefix ++ (others ++ more)) v longer) in
-    closes_on ts (tokens.DocumentEnd ∷ p.marks) (λ all told. ([], tokens.DocumentEnd ∷ p.marks, all, tt, inr (p.marks, p.are, refl, told), refl))
-    (subst (Closes limit start marker (grammar.AreDocuments ds true)) (append_assoc ts (tokens.DocumentEnd ∷ []) p.marks) (go ((ts ++ tokens.DocumentEnd ∷ []) ++ p.marks) p.stands))
+    let longer : IsEol end (prefix ++ (others ++ more)) = subst (IsEol end) (append_assoc prefix others more)
+    (end_further more end (prefix ++ others) fed end_is) in
+    let p = reads_prefix prefix (others ++ more) (ts ++ tokens.DocumentEnd ∷ []) prefix_is
+    (reads_end end (prefix ++ (others ++ more)) v longer) in
+    closes_on ts (tokens.DocumentEnd ∷ p.marks)
+    (λ all told. ([], tokens.DocumentEnd ∷ p.marks, all, tt, inr (p.marks, p.are, refl, told), refl))
+    (subst (Closes limit start marker (grammar.YieldDocuments ds true))
+    (append_assoc ts (tokens.DocumentEnd ∷ []) p.marks) (go ((ts ++ tokens.DocumentEnd ∷ []) ++ p.marks) p.stands))
 
 -- ## A document is passed
 
@@ -114,15 +135,22 @@ further o more fed k =
       is = ap (λ (x : List ℕ). x ++ more) k.is ∙ append_assoc k.filler (k.first ∷ k.others) more;
     }
 
-closes_beyond : {limit : ℕ} {start : State} {marker : DocumentMarker} → Reads → Leaves limit → (w : DocumentMarker) (r more : List ℕ) → IsMarkerRest r → (d : Document) (ds : Forest) (free : Bool) (document others : List ℕ) (ts : List Kind)
-    → layout.IsDocument (IsBlockNode most_open) d free document others → layout.IsBehindDocument (AreBlockDocuments ds) others → HasNoReturn document
-    → Stands limit start free (Lined free (document ++ (others ++ more))) (document ++ (others ++ more)) ts → Marked w r others
-    → ((us : List Kind) → Stands limit start false (Lined false (others ++ more)) (others ++ more) us → Closes limit start marker (grammar.IsBehindDocument (grammar.AreDocuments ds)) us)
-    → Closes limit start marker (grammar.AreDocuments (d ∷ ds) free) ts
+closes_beyond : {limit : ℕ} {start : State} {marker : DocumentMarker} → Reads → Leaves limit
+    → (w : DocumentMarker) (r more : List ℕ) → IsMarkerRest r
+    → (d : Document) (ds : Forest) (free : Bool) (document others : List ℕ) (ts : List Kind)
+    → layout.IsDocument (IsBlockNode most_open) d free document others
+    → layout.IsBehindDocument (AreBlockDocuments ds) others → HasNoReturn document
+    → Stands limit start free (Lined free (document ++ (others ++ more))) (document ++ (others ++ more)) ts
+    → Marked w r others
+    → ((us : List Kind) → Stands limit start false (Lined false (others ++ more)) (others ++ more) us
+    → Closes limit start marker (grammar.YieldsBehindDocument (grammar.YieldDocuments ds)) us)
+    → Closes limit start marker (grammar.YieldDocuments (d ∷ ds) free) ts
 closes_beyond readers leaves w r more rest d ds free document others ts is behind clean v line go =
     let fed = marked_fed w r others rest line in
     let k = further others more fed (opens (opens_marker leaves ds others behind)) in
-    let n = reads_document readers leaves d free document (others ++ more) ts (document_further more d free document others fed is) (lands_marked (others ++ more) k) (plain_marked k.filler k.first k.others (others ++ more) k.filler_is k.is k.ink) clean v in
+    let n = reads_document readers leaves d free document (others ++ more) ts
+    (document_further more d free document others fed is) (lands_marked (others ++ more) k)
+    (plain_marked k.filler k.first k.others (others ++ more) k.filler_is k.is k.ink) clean v in
     closes_on ts n.tokens (λ all told. (n.tokens, all, n.are, told, refl)) (go (ts ++ n.tokens) n.stands)
   where
     opens : ((ds ≡ []) × IsLastFiller others) ⊎ OpensMarker others → OpensMarker others
@@ -130,87 +158,151 @@ closes_beyond readers leaves w r more rest d ds free document others ts is behin
     opens (inr k) = k
 
 -- behind the first dash of a document's marker
-not_dashes : (node others : List ℕ) → marks_line false node others ≡ false → marks_line false (45 ∷ 45 ∷ node) others ≡ false
+not_dashes : (node others : List ℕ) → marks_line false node others ≡ false
+    → marks_line false (45 ∷ 45 ∷ node) others ≡ false
 not_dashes node others h = h
 
-closes_document : {limit : ℕ} {start : State} {marker : DocumentMarker} → Reads → Leaves limit → (w : DocumentMarker) (r more : List ℕ) → IsMarkerRest r → Found limit start marker more w r
-    → (d : Document) (ds : Forest) (free : Bool) (document others : List ℕ) (ts : List Kind) → layout.IsDocument (IsBlockNode most_open) d free document others → layout.IsBehindDocument (AreBlockDocuments ds) others → HasNoReturn document
-    → Stands limit start free (Lined free (document ++ (others ++ more))) (document ++ (others ++ more)) ts → Marked w r (document ++ others)
-    → (Marked w r others → (us : List Kind) → Stands limit start false (Lined false (others ++ more)) (others ++ more) us → Closes limit start marker (grammar.IsBehindDocument (grammar.AreDocuments ds)) us)
-    → Closes limit start marker (grammar.AreDocuments (d ∷ ds) free) ts
-closes_document readers leaves w r more rest found d ds free document others ts (inl (is_free, (same, unmarked, is))) behind clean v line go =
-    let l = behind_piece true document others line.front (marker_text w ++ r) line.is (node_marks true document others (node_ends leaves d.node AtStart document others is) ∙ unmarked) line.line (indicator w r rest) in
-    closes_beyond readers leaves w r more rest d ds free document others ts (inl (is_free, (same, unmarked, is))) behind clean v l (go l)
-closes_document {limit = limit} {start = start} {marker = marker} readers leaves w r more rest found d ds free document others ts (inr (may, (directives, node, explicit, compatible, are, unmarked, is, e))) behind clean v line go =
-    let text : document ++ others ≡ directives ++ (45 ∷ 45 ∷ 45 ∷ (node ++ others)) = ap (λ (x : List ℕ). x ++ others) e ∙ document_text directives node others in
-    let l = behind_piece true directives (45 ∷ 45 ∷ 45 ∷ (node ++ others)) line.front (marker_text w ++ r) (sym text ∙ line.is) (directives_unmarked d.directives directives are true (45 ∷ 45 ∷ 45 ∷ (node ++ others))) line.line (indicator w r rest) in
+closes_document : {limit : ℕ} {start : State} {marker : DocumentMarker} → Reads → Leaves limit
+    → (w : DocumentMarker) (r more : List ℕ) → IsMarkerRest r → Found limit start marker more w r
+    → (d : Document) (ds : Forest) (free : Bool) (document others : List ℕ) (ts : List Kind)
+    → layout.IsDocument (IsBlockNode most_open) d free document others
+    → layout.IsBehindDocument (AreBlockDocuments ds) others → HasNoReturn document
+    → Stands limit start free (Lined free (document ++ (others ++ more))) (document ++ (others ++ more)) ts
+    → Marked w r (document ++ others)
+    → (Marked w r others → (us : List Kind)
+    → Stands limit start false (Lined false (others ++ more)) (others ++ more) us
+    → Closes limit start marker (grammar.YieldsBehindDocument (grammar.YieldDocuments ds)) us)
+    → Closes limit start marker (grammar.YieldDocuments (d ∷ ds) free) ts
+closes_document readers leaves w r more rest found d ds free document others ts (inl (is_free, (same, unmarked, is)))
+    behind clean v line go =
+    let l = behind_piece true document others line.front (marker_text w ++ r) line.is
+    (node_marks true document others (node_ends leaves d.node AtStart document others is) ∙ unmarked) line.line
+    (indicator w r rest) in
+    closes_beyond readers leaves w r more rest d ds free document others ts (inl (is_free, (same, unmarked, is))) behind
+    clean v l (go l)
+closes_document {limit = limit} {start = start} {marker = marker} readers leaves w r more rest found d ds free document
+    others ts (inr (may, (directives, node, explicit, compatible, are, unmarked, is, e))) behind clean v line go =
+    let text : document ++ others ≡ directives ++ (45 ∷ 45 ∷ 45 ∷ (node ++ others)) =
+    ap (λ (x : List ℕ). x ++ others) e ∙ document_text directives node others in
+    let l = behind_piece true directives (45 ∷ 45 ∷ 45 ∷ (node ++ others)) line.front (marker_text w ++ r)
+    (sym text ∙ line.is) (directives_unmarked d.directives directives are true (45 ∷ 45 ∷ 45 ∷ (node ++ others)))
+    line.line (indicator w r rest) in
     by_front l.front l.is l.line
   where
-    at_marker : (w : DocumentMarker) → Found limit start marker more w r → 45 ∷ 45 ∷ 45 ∷ (node ++ others) ≡ marker_text w ++ r → Closes limit start marker (grammar.AreDocuments (d ∷ ds) free) ts
+    at_marker : (w : DocumentMarker) → Found limit start marker more w r
+        → 45 ∷ 45 ∷ 45 ∷ (node ++ others) ≡ marker_text w ++ r
+        → Closes limit start marker (grammar.YieldDocuments (d ∷ ds) free) ts
     at_marker Ends found same = absurd (dash_or_dot (45 ∷ 45 ∷ (node ++ others)) (46 ∷ 46 ∷ r) same)
     at_marker Starts found same =
         let left : node ++ others ≡ r = cc in
         let text : document ++ (others ++ more) ≡ directives ++ (45 ∷ 45 ∷ 45 ∷ (r ++ more)) =
-        ap (λ (x : List ℕ). x ++ (others ++ more)) e ∙ document_text directives node (others ++ more) ∙ ap (λ (x : List ℕ). directives ++ (45 ∷ 45 ∷ 45 ∷ x)) (sym (append_assoc node others more) ∙ ap (λ (x : List ℕ). x ++ more) left) in
-        let f = reads_front readers d free directives (r ++ more) ts may are (subst (λ (x : List ℕ). Stands limit start free (Lined free x) x ts) text v) in
+        ap (λ (x : List ℕ). x ++ (others ++ more)) e ∙ document_text directives node (others ++ more)
+        ∙ ap (λ (x : List ℕ). directives ++ (45 ∷ 45 ∷ 45 ∷ x))
+        (sym (append_assoc node others more) ∙ ap (λ (x : List ℕ). x ++ more) left) in
+        let f = reads_front readers d free directives (r ++ more) ts may are
+        (subst (λ (x : List ℕ). Stands limit start free (Lined free x) x ts) text v) in
         found d ds free f.free f.opened node others ts may explicit compatible is behind left f.stands
 
-    by_front : (front : List ℕ) → 45 ∷ 45 ∷ 45 ∷ (node ++ others) ≡ front ++ (marker_text w ++ r) → opens_line true front ≡ true → Closes limit start marker (grammar.AreDocuments (d ∷ ds) free) ts
+    by_front : (front : List ℕ) → 45 ∷ 45 ∷ 45 ∷ (node ++ others) ≡ front ++ (marker_text w ++ r)
+        → opens_line true front ≡ true → Closes limit start marker (grammar.YieldDocuments (d ∷ ds) free) ts
     by_front [] same opens = at_marker w found same
     by_front (c ∷ cs) same opens =
         let first : c ≡ 45 = cc in
         let left : 45 ∷ 45 ∷ (node ++ others) ≡ cs ++ (marker_text w ++ r) = cc in
-        let none = not_dashes node others (node_marks false node others (node_ends leaves d.node BehindMarker node others is) ∙ unmarked) in
-        let l = behind_piece false (45 ∷ 45 ∷ node) others cs (marker_text w ++ r) left none (subst (λ (x : ℕ). opens_line (x == line_feed) cs ≡ true) first opens) (indicator w r rest) in
-        closes_beyond readers leaves w r more rest d ds free document others ts (inr (may, (directives, node, explicit, compatible, are, unmarked, is, e))) behind clean v l (go l)
+        let none = not_dashes node others
+        (node_marks false node others (node_ends leaves d.node BehindMarker node others is) ∙ unmarked) in
+        let l = behind_piece false (45 ∷ 45 ∷ node) others cs (marker_text w ++ r) left none
+        (subst (λ (x : ℕ). opens_line (x == line_feed) cs ≡ true) first opens) (indicator w r rest) in
+        closes_beyond readers leaves w r more rest d ds free document others ts
+        (inr (may, (directives, node, explicit, compatible, are, unmarked, is, e))) behind clean v l (go l)
 
 -- ## Documents
 
-closes_behind : {limit : ℕ} {start : State} {marker : DocumentMarker} (w : DocumentMarker) (r more : List ℕ) → IsMarkerRest r → Found limit start marker more w r → (ds : Forest)
-    → ((free : Bool) (t : List ℕ) (ts : List Kind) → AreBlockDocuments ds free t → HasNoReturn t → Stands limit start free (Lined free (t ++ more)) (t ++ more) ts → Marked w r t → Closes limit start marker (grammar.AreDocuments ds free) ts)
-    → (o : List ℕ) (ts : List Kind) → layout.IsBehindDocument (AreBlockDocuments ds) o → HasNoReturn o → Stands limit start false (Lined false (o ++ more)) (o ++ more) ts → Marked w r o
-    → Closes limit start marker (grammar.IsBehindDocument (grammar.AreDocuments ds)) ts
+closes_behind : {limit : ℕ} {start : State} {marker : DocumentMarker} (w : DocumentMarker) (r more : List ℕ)
+    → IsMarkerRest r → Found limit start marker more w r → (ds : Forest)
+    → ((free : Bool) (t : List ℕ) (ts : List Kind) → AreBlockDocuments ds free t → HasNoReturn t
+    → Stands limit start free (Lined free (t ++ more)) (t ++ more) ts → Marked w r t
+    → Closes limit start marker (grammar.YieldDocuments ds free) ts)
+    → (o : List ℕ) (ts : List Kind) → layout.IsBehindDocument (AreBlockDocuments ds) o → HasNoReturn o
+    → Stands limit start false (Lined false (o ++ more)) (o ++ more) ts → Marked w r o
+    → Closes limit start marker (grammar.YieldsBehindDocument (grammar.YieldDocuments ds)) ts
 closes_behind w r more rest found ds go o ts (inl h) clean v line =
     let c = go false o ts h clean v line in
-    record { earlier = c.earlier; told = ([], [], c.earlier ++ marker_token _ ∷ tokens.StreamEnd ∷ [], tt, inl (refl, c.told), refl); handed = c.handed }
-closes_behind {limit = limit} {start = start} {marker = marker} w r more rest found ds go o ts (inr (suffix, others, (filler, end, prefix, filler_is, end_is, prefix_is, e), h, is)) clean v line =
-    let text : o ≡ filler ++ (46 ∷ 46 ∷ 46 ∷ (end ++ (prefix ++ others))) = is ∙ ap (λ (x : List ℕ). x ++ others) e ∙ suffix_text filler end prefix others in
-    let l = behind_piece true filler (46 ∷ 46 ∷ 46 ∷ (end ++ (prefix ++ others))) line.front (marker_text w ++ r) (sym text ∙ line.is) (skipped_unmarked filler (filler_skipped filler filler_is) true _) line.line (indicator w r rest) in
-    let whole : o ++ more ≡ filler ++ (46 ∷ 46 ∷ 46 ∷ ((end ++ (prefix ++ others)) ++ more)) = ap (λ (x : List ℕ). x ++ more) text ∙ append_assoc filler (46 ∷ 46 ∷ 46 ∷ (end ++ (prefix ++ others))) more in
-    let first = passes_filler filler (46 ∷ 46 ∷ 46 ∷ ((end ++ (prefix ++ others)) ++ more)) filler_is (subst (λ (x : List ℕ). Stands limit start false (Lined false x) x ts) whole v) in
-    by_front (in_back _ suffix others (subst HasNoReturn is clean)) first l.front l.is l.line
+    record {
+      earlier = c.earlier;
+      told =
+          ([], [], c.earlier ++ marker_token _ ∷ tokens.StreamEnd ∷ [], tt, inl (refl, c.told), refl);
+      handed = c.handed;
+    }
+closes_behind {limit = limit} {start = start} {marker = marker} w r more rest found ds go o ts
+    (inr (suffix, others, (filler, end, prefix, filler_is, end_is, prefix_is, e), h, is)) clean v line =
+    let text : o ≡ filler ++ (46 ∷ 46 ∷ 46 ∷ (end ++ (prefix ++ others))) =
+    is ∙ ap (λ (x : List ℕ). x ++ others) e ∙ suffix_text filler end prefix others in
+    let l = behind_piece true filler (46 ∷ 46 ∷ 46 ∷ (end ++ (prefix ++ others))) line.front (marker_text w ++ r)
+    (sym text ∙ line.is) (skipped_unmarked filler (filler_skipped filler filler_is) true _) line.line
+    (indicator w r rest) in
+    let whole : o ++ more ≡ filler ++ (46 ∷ 46 ∷ 46 ∷ ((end ++ (prefix ++ others)) ++ more)) =
+    ap (λ (x : List ℕ). x ++ more) text ∙ append_assoc filler (46 ∷ 46 ∷ 46 ∷ (end ++ (prefix ++ others))) more in
+    let first = passes_filler filler (46 ∷ 46 ∷ 46 ∷ ((end ++ (prefix ++ others)) ++ more)) filler_is
+    (subst (λ (x : List ℕ). Stands limit start false (Lined false x) x ts) whole v) in
+    by_front (back_in _ suffix others (subst HasNoReturn is clean)) first l.front l.is l.line
   where
     at_marker : HasNoReturn others → (w : DocumentMarker) → Found limit start marker more w r
-        → Stands limit start false (Lined false (46 ∷ 46 ∷ 46 ∷ ((end ++ (prefix ++ others)) ++ more))) (46 ∷ 46 ∷ 46 ∷ ((end ++ (prefix ++ others)) ++ more)) ts
-        → 46 ∷ 46 ∷ 46 ∷ (end ++ (prefix ++ others)) ≡ marker_text w ++ r → Closes limit start marker (grammar.IsBehindDocument (grammar.AreDocuments ds)) ts
-    at_marker left Starts found first same = absurd (dash_or_dot (45 ∷ 45 ∷ r) (46 ∷ 46 ∷ (end ++ (prefix ++ others))) (sym same))
+        → Stands limit start false (Lined false (46 ∷ 46 ∷ 46 ∷ ((end ++ (prefix ++ others)) ++ more)))
+        (46 ∷ 46 ∷ 46 ∷ ((end ++ (prefix ++ others)) ++ more)) ts
+        → 46 ∷ 46 ∷ 46 ∷ (end ++ (prefix ++ others)) ≡ marker_text w ++ r
+        → Closes limit start marker (grammar.YieldsBehindDocument (grammar.YieldDocuments ds)) ts
+    at_marker left Starts found first same =
+        absurd (dash_or_dot (45 ∷ 45 ∷ r) (46 ∷ 46 ∷ (end ++ (prefix ++ others))) (sym same))
     at_marker left Ends found first same =
         let text : end ++ (prefix ++ others) ≡ r = cc in
-        found ds end prefix others ts end_is prefix_is h left text (subst (λ (x : List ℕ). Stands limit start false (Lined false (46 ∷ 46 ∷ 46 ∷ (x ++ more))) (46 ∷ 46 ∷ 46 ∷ (x ++ more)) ts) text first)
+        found ds end prefix others ts end_is prefix_is h left text
+        (subst (λ (x : List ℕ). Stands limit start false (Lined false (46 ∷ 46 ∷ 46 ∷ (x ++ more)))
+        (46 ∷ 46 ∷ 46 ∷ (x ++ more)) ts) text first)
 
     by_front : HasNoReturn others
-        → Stands limit start false (Lined false (46 ∷ 46 ∷ 46 ∷ ((end ++ (prefix ++ others)) ++ more))) (46 ∷ 46 ∷ 46 ∷ ((end ++ (prefix ++ others)) ++ more)) ts
-        → (front : List ℕ) → 46 ∷ 46 ∷ 46 ∷ (end ++ (prefix ++ others)) ≡ front ++ (marker_text w ++ r) → opens_line true front ≡ true → Closes limit start marker (grammar.IsBehindDocument (grammar.AreDocuments ds)) ts
+        → Stands limit start false (Lined false (46 ∷ 46 ∷ 46 ∷ ((end ++ (prefix ++ others)) ++ more)))
+        (46 ∷ 46 ∷ 46 ∷ ((end ++ (prefix ++ others)) ++ more)) ts
+        → (front : List ℕ) → 46 ∷ 46 ∷ 46 ∷ (end ++ (prefix ++ others)) ≡ front ++ (marker_text w ++ r)
+        → opens_line true front ≡ true
+        → Closes limit start marker (grammar.YieldsBehindDocument (grammar.YieldDocuments ds)) ts
     by_front left first [] same opens = at_marker left w found first same
     by_front left first (c ∷ cs) same opens =
         let dot : c ≡ 46 = cc in
         let text : 46 ∷ 46 ∷ (end ++ (prefix ++ others)) ≡ cs ++ (marker_text w ++ r) = cc in
-        let k = behind_piece false (46 ∷ 46 ∷ end) (prefix ++ others) cs (marker_text w ++ r) text (end_unmarked end (prefix ++ others) end_is false (prefix ++ others)) (subst (λ (x : ℕ). opens_line (x == line_feed) cs ≡ true) dot opens) (indicator w r rest) in
-        let l = behind_piece true prefix others k.front (marker_text w ++ r) k.is (prefix_unmarked prefix prefix_is true others) k.line (indicator w r rest) in
-        let behind : (end ++ (prefix ++ others)) ++ more ≡ end ++ (prefix ++ (others ++ more)) = append_assoc end (prefix ++ others) more ∙ ap (λ (x : List ℕ). end ++ x) (append_assoc prefix others more) in
+        let k = behind_piece false (46 ∷ 46 ∷ end) (prefix ++ others) cs (marker_text w ++ r) text
+        (end_unmarked end (prefix ++ others) end_is false (prefix ++ others))
+        (subst (λ (x : ℕ). opens_line (x == line_feed) cs ≡ true) dot opens) (indicator w r rest) in
+        let l = behind_piece true prefix others k.front (marker_text w ++ r) k.is
+        (prefix_unmarked prefix prefix_is true others) k.line (indicator w r rest) in
+        let behind : (end ++ (prefix ++ others)) ++ more ≡ end ++ (prefix ++ (others ++ more)) =
+        append_assoc end (prefix ++ others) more
+        ∙ ap (λ (x : List ℕ). end ++ x) (append_assoc prefix others more) in
         passes_suffix ds end prefix others more ts end_is prefix_is (marked_fed w r (prefix ++ others) rest k)
-        (subst (λ (x : List ℕ). Stands limit start false (Lined false (46 ∷ 46 ∷ 46 ∷ x)) (46 ∷ 46 ∷ 46 ∷ x) ts) behind first)
+        (subst (λ (x : List ℕ). Stands limit start false (Lined false (46 ∷ 46 ∷ 46 ∷ x)) (46 ∷ 46 ∷ 46 ∷ x) ts) behind
+        first)
         (λ us s. go true others us h left s l)
 
 -- The marker stands at a line's start of the documents' text: up to it they are read, and there what is to be shown is.
-pub closes_documents : {limit : ℕ} {start : State} {marker : DocumentMarker} → Reads → Leaves limit → (w : DocumentMarker) (r more : List ℕ) → IsMarkerRest r → Found limit start marker more w r
-    → (forest : Forest) (free : Bool) (t : List ℕ) (ts : List Kind) → AreBlockDocuments forest free t → HasNoReturn t → Stands limit start free (Lined free (t ++ more)) (t ++ more) ts → HasLine t (marker_text w ++ r)
-    → Closes limit start marker (grammar.AreDocuments forest free) ts
-closes_documents readers leaves w r more rest found [] free t ts h clean v line = absurd (no_line t (marker_text w ++ r) (last_unmarked t h) line (indicator w r rest))
-closes_documents {limit = limit} {start = start} readers leaves w r more rest found (d ∷ ds) free t ts (filler, document, others, filler_is, is, behind, e) clean v line =
-    let l = behind_piece true filler (document ++ others) line.front (marker_text w ++ r) (sym e ∙ line.is) (skipped_unmarked filler (filler_skipped filler filler_is) true (document ++ others)) line.line (indicator w r rest) in
-    let text : t ++ more ≡ filler ++ (document ++ (others ++ more)) = ap (λ (x : List ℕ). x ++ more) e ∙ append_assoc filler (document ++ others) more ∙ ap (λ (x : List ℕ). filler ++ x) (append_assoc document others more) in
-    let first = passes_filler filler (document ++ (others ++ more)) filler_is (subst (λ (x : List ℕ). Stands limit start free (Lined free x) x ts) text v) in
-    let left = in_back _ filler (document ++ others) (subst HasNoReturn e clean) in
-    closes_document readers leaves w r more rest found d ds free document others ts is behind (in_front _ document others left) first l
-    (λ next us s. closes_behind w r more rest found ds (closes_documents readers leaves w r more rest found ds) others us behind (in_back _ document others left) s next)
+pub closes_documents : {limit : ℕ} {start : State} {marker : DocumentMarker} → Reads → Leaves limit
+    → (w : DocumentMarker) (r more : List ℕ) → IsMarkerRest r → Found limit start marker more w r
+    → (forest : Forest) (free : Bool) (t : List ℕ) (ts : List Kind) → AreBlockDocuments forest free t → HasNoReturn t
+    → Stands limit start free (Lined free (t ++ more)) (t ++ more) ts → HasLine t (marker_text w ++ r)
+    → Closes limit start marker (grammar.YieldDocuments forest free) ts
+closes_documents readers leaves w r more rest found [] free t ts h clean v line =
+    absurd (no_line t (marker_text w ++ r) (last_unmarked t h) line (indicator w r rest))
+closes_documents {limit = limit} {start = start} readers leaves w r more rest found (d ∷ ds) free t ts
+    (filler, document, others, filler_is, is, behind, e) clean v line =
+    let l = behind_piece true filler (document ++ others) line.front (marker_text w ++ r) (sym e ∙ line.is)
+    (skipped_unmarked filler (filler_skipped filler filler_is) true (document ++ others)) line.line
+    (indicator w r rest) in
+    let text : t ++ more ≡ filler ++ (document ++ (others ++ more)) =
+    ap (λ (x : List ℕ). x ++ more) e ∙ append_assoc filler (document ++ others) more
+    ∙ ap (λ (x : List ℕ). filler ++ x) (append_assoc document others more) in
+    let first = passes_filler filler (document ++ (others ++ more)) filler_is
+    (subst (λ (x : List ℕ). Stands limit start free (Lined free x) x ts) text v) in
+    let left = back_in _ filler (document ++ others) (subst HasNoReturn e clean) in
+    closes_document readers leaves w r more rest found d ds free document others ts is behind
+    (front_in _ document others left) first l
+    (λ next us s. closes_behind w r more rest found ds (closes_documents readers leaves w r more rest found ds) others
+    us behind (back_in _ document others left) s next)

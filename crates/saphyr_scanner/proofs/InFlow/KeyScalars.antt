@@ -10,33 +10,38 @@ use Rattle.saphyr_scalar.specs.Cursor.{Cursor, ◌>>=◌, along}
 use Rattle.saphyr_scalar.specs.FlowReading.{mark, plain_value}
 use Rattle.saphyr_scalar.specs.Quoted.{at}
 use Rattle.saphyr_scalar.specs.Plain.{in_word, comment_of}
-use Rattle.saphyr_scalar.specs.PlainSpelling.{past_white, EndsPlain}
+use Rattle.saphyr_scalar.specs.PlainSpelling.{past_white, EndsPlain, IsPlainText}
 use Rattle.saphyr_scalar.specs.BlockRead.{spaces}
 use Rattle.saphyr_scanner.specs.declared.engine.level.Context.TheVariants as context
-use Rattle.saphyr_scanner.specs.Tokens.{scalar_token}
-use Rattle.saphyr_scanner.specs.Gap.{Passed, gap}
-use Rattle.saphyr_scanner.specs.Queue.{Place}
-use Rattle.saphyr_scanner.specs.Core.{Candidate, Level, from_to, went}
-use Rattle.saphyr_scanner.specs.Passing.{pass_gap, check_comment, behind_gap}
-use Rattle.saphyr_scanner.specs.Scalar.{goes_on_behind_quotes}
-use Rattle.saphyr_scanner.specs.State.{State}
-use Rattle.saphyr_scanner.specs.Forest.{Style, Plain, SingleQuoted, DoubleQuoted, Literal, Folded}
-use Rattle.saphyr_scanner.specs.FlowScalars.{IsPlain, IsQuoted, IsFlowScalar}
-use Rattle.saphyr_scanner.proofs.JsonStates.{cursor_at}
+use Rattle.saphyr_scanner.specs.Grammar.Tokens.{scalar_token}
+use Rattle.saphyr_scanner.specs.Steps.Gap.{Passed, gap}
+use Rattle.saphyr_scanner.specs.Steps.Queue.{Place}
+use Rattle.saphyr_scanner.specs.Steps.Core.{Candidate, Level, from_to, went}
+use Rattle.saphyr_scanner.specs.Steps.Passing.{pass_gap, check_comment, behind_gap}
+use Rattle.saphyr_scanner.specs.Steps.Scalar.{goes_on_behind_quotes}
+use Rattle.saphyr_scanner.specs.Steps.State.{State}
+use Rattle.saphyr_scanner.specs.Grammar.Forest.{Style, Plain, SingleQuoted, DoubleQuoted, Literal, Folded}
+use Rattle.saphyr_scanner.specs.Grammar.FlowScalars.{IsPlain, IsPlainKey, IsQuoted, IsFlowScalar}
 use Rattle.saphyr_scanner.proofs.InFlow.States.{Around, core_at, least, behind_key}
 use Rattle.saphyr_scanner.proofs.InFlow.Tabs.{tabs_behind}
 use Rattle.saphyr_scanner.proofs.InFlow.OnLine.{separation_of_blanks}
 use Rattle.saphyr_scanner.proofs.InFlow.KeyLines.{Ready, token_led, ink_gap}
 use Rattle.saphyr_scanner.proofs.InFlow.KeyTokens.{InKey, in_near, in_back, in_right, in_limit, Along}
-use Rattle.saphyr_scanner.proofs.FlowStates.{moved, past, crosses, IsInk, Reads}
-use Rattle.saphyr_scanner.proofs.FlowPlaces.{moved_index, clear_front}
-use Rattle.saphyr_scanner.proofs.FlowGaps.{clash, past_ink}
+use Rattle.saphyr_scanner.proofs.Flow.States.{moved, past, crosses, IsInk, Reads}
+use Rattle.saphyr_scanner.proofs.Flow.Places.{moved_index, clear_front}
+use Rattle.saphyr_scanner.proofs.Flow.Gaps.{past_ink}
 use Rattle.saphyr_scanner.proofs.InBlock.Crossings.{spaces_uncrossed}
-use Rattle.saphyr_scanner.proofs.FlowFillers.{spaces_past, spaces_are_blank, blanks_past}
-use Rattle.saphyr_scanner.proofs.FlowArrivals.{PassesGap, stops_here}
-use Rattle.saphyr_scanner.proofs.FlowSeparates.{separates}
-use Rattle.saphyr_scanner.proofs.FlowQuotes.{EndsQuotes, style_of, behind_step, quoted_step}
-use Rattle.saphyr_scanner.proofs.FlowPlains.{word_begins, plain_step}
+use Rattle.saphyr_scanner.proofs.Flow.Fillers.{spaces_past, spaces_are_blank, blanks_past}
+use Rattle.saphyr_scanner.proofs.Flow.Arrivals.{PassesGap}
+use Rattle.saphyr_scanner.proofs.Flow.Separates.{separates}
+use Rattle.saphyr_scanner.proofs.Flow.Quotes.{EndsQuotes, style_of, quote_first, behind_step, quoted_step}
+use Rattle.saphyr_scanner.proofs.Flow.Plains.{BeginsWord, word_begins, key_begins, token_begins, plain_step}
+use Rattle.saphyr_scanner.proofs.Flow.Words.{plain_text, key_text}
+use Rattle.saphyr_scanner.proofs.Flow.Tokens.{Begins}
+use Rattle.saphyr_scalar.proofs.Given.{cursor_at}
+use Rattle.std.proofs.lemmas.Bool.{eq-eqb}
+use Rattle.saphyr_input.proofs.Basics.Booleans.{clash}
+use Rattle.saphyr_scanner.proofs.Json.States.{stop_here}
 
 pub colon_ink : IsInk 58
 colon_ink = record { blank = refl; break = refl; comment = refl; byte_order_mark = refl }
@@ -45,12 +50,14 @@ colon_ink = record { blank = refl; break = refl; comment = refl; byte_order_mark
 abbrev pub colon_text : ℕ → List ℕ → List ℕ
 colon_text n r = spaces n ++ (58 ∷ r)
 
-pub colon_lands : (column : ℕ) (m : Marker) (n : ℕ) (r : List ℕ) → past column m (colon_text n r) ≡ (moved m (spaces n), 58 ∷ r)
+pub colon_lands : (column : ℕ) (m : Marker) (n : ℕ) (r : List ℕ)
+    → past column m (colon_text n r) ≡ (moved m (spaces n), 58 ∷ r)
 colon_lands column m n r = spaces_past column n m (58 ∷ r) ∙ past_ink column (moved m (spaces n)) 58 r colon_ink
 
 -- ## Plain scalars
 
-white_spaces : (m : Marker) (n : ℕ) (r : List ℕ) → past_white m false (colon_text n r) ≡ cursor_at (58 ∷ r) (moved m (spaces n)) false
+white_spaces : (m : Marker) (n : ℕ) (r : List ℕ)
+    → past_white m false (colon_text n r) ≡ cursor_at (58 ∷ r) (moved m (spaces n)) false
 white_spaces m zero r = refl
 white_spaces m (suc n) r = white_spaces (along m 1) n r
 
@@ -66,12 +73,14 @@ spaces_apart : (n : ℕ) (r : List ℕ) → slice_index (colon_text n r) 0 ≢ 3
 spaces_apart zero r e = absurd (omega (arith, e))
 spaces_apart (suc n) r e = absurd (omega (arith, e))
 
-key_ends_plain : (column : ℕ) (m : Marker) (n : ℕ) (r : List ℕ) → is_blank_or_breakz (slice_index r 0) ≡ true → EndsPlain false column m (colon_text n r)
+key_ends_plain : (column : ℕ) (m : Marker) (n : ℕ) (r : List ℕ) → is_blank_or_breakz (slice_index r 0) ≡ true
+    → EndsPlain false column m (colon_text n r)
 key_ends_plain column m n r h =
     record {
       stops = inl (ap (λ (u : Cursor). in_word false u.rest) (white_spaces m n r) ∙ colon_stops r h);
       apart = spaces_apart n r;
-      tabs = inr (tabs_behind column m (colon_text n r) (ap (λ (z : Marker × List ℕ). is_blank (slice_index z.1 0)) (colon_lands column m n r)));
+      tabs = inr (tabs_behind column m (colon_text n r)
+          (ap (λ (z : Marker × List ℕ). is_blank (slice_index z.1 0)) (colon_lands column m n r)));
     }
 
 right_behind_key : (column : ℕ) (m : Marker) (n : ℕ) → column ≤ m.col → column ≤ (moved m (spaces n)).col
@@ -87,21 +96,32 @@ index_behind e t n ad low =
 abbrev pub behind : Marker → List ℕ → ℕ → Marker
 behind e t n = moved (moved e t) (spaces n)
 
-pub plain_along : Reads → (around : Around) (start : State) (k : Candidate) (qs : List Place) (c : ℕ) (cs : List ℕ) (n : ℕ) (r : List ℕ) (e : Marker) (ad : ℕ) → IsPlain false around.indent (c ∷ cs)
-    → is_blank_or_breakz (slice_index r 0) ≡ true → InKey around k e ((c ∷ cs) ++ spaces n) (58 ∷ r) → ad ≤ e.index → Ready around start k ((c ∷ cs) ++ colon_text n r) e ad qs
+-- a text that is read as a plain scalar
+text_along : Reads → (around : Around) (start : State) (k : Candidate) (qs : List Place) (c : ℕ) (cs : List ℕ) (n : ℕ)
+    (r : List ℕ) (e : Marker) (ad : ℕ) → BeginsWord false (c ∷ cs)
+    → IsPlainText false around.indent e (c ∷ cs) (colon_text n r) → InKey around k e ((c ∷ cs) ++ spaces n) (58 ∷ r)
+    → ad ≤ e.index → Ready around start k ((c ∷ cs) ++ colon_text n r) e ad qs
     → Along around start k qs (behind e (c ∷ cs) n) (58 ∷ r) (scalar_token Plain (plain_value (c ∷ cs)) ∷ [])
-plain_along reads around start k qs c cs n r e ad h white text low ready =
+text_along reads around start k qs c cs n r e ad begins plain text low ready =
     let t = c ∷ cs in
     let o = colon_text n r in
     let clear = clear_front e t (spaces n) (58 ∷ r) text.clear in
     let end = moved e t in
     let there = cursor_at (58 ∷ r) (behind e t n) false in
     let kind = scalar_token Plain (plain_value t) in
-    let last = in_back k end (spaces n) [] (58 ∷ r) (subst (λ (x : List ℕ). InKey around k end x (58 ∷ r)) (sym (append-nil (spaces n))) (in_back k e t (spaces n) (58 ∷ r) text)) in
-    let stepped = plain_step reads around ready.deeper (length qs) e ready.blank t o context.Block h clear (key_ends_plain around.indent end n r white) (Some k) [] false ad (inl refl) (behind_key refl refl)
-    ∙ ap (λ (u : Cursor). went (from_to e end kind ∷ []) (record (core_at around false u context.Block (Some k) [] u.blank_so_far ad) { comment = comment_of false false u })) (white_spaces end n r)
-    ∙ ap (λ (q : Option Marker). went (from_to e end kind ∷ []) (record (core_at around false there context.Block (Some k) [] false ad) { comment = q })) (no_comment (behind e t n) r) in
-    let led = token_led around start k (t ++ o) e ad qs ready end kind there ad (λ d. false) stepped (in_near k (behind e t n) [] (58 ∷ r) last) (in_limit k (behind e t n) [] (58 ∷ r) last) in
+    let last = in_back k end (spaces n) [] (58 ∷ r)
+    (subst (λ (x : List ℕ). InKey around k end x (58 ∷ r)) (sym (append-nil (spaces n)))
+    (in_back k e t (spaces n) (58 ∷ r) text)) in
+    let stepped = plain_step reads around ready.deeper (length qs) e ready.blank t o context.Block begins plain clear
+    (Some k) [] false ad (inl refl) (behind_key refl refl)
+    ∙ ap (λ (u : Cursor). went (from_to e end kind ∷ [])
+    (record (core_at around false u context.Block (Some k) [] u.blank_so_far ad)
+    { comment = comment_of false false u })) (white_spaces end n r)
+    ∙ ap (λ (q : Option Marker). went (from_to e end kind ∷ [])
+    (record (core_at around false there context.Block (Some k) [] false ad) { comment = q }))
+    (no_comment (behind e t n) r) in
+    let led = token_led around start k (t ++ o) e ad qs ready end kind there ad (λ d. false) stepped
+    (in_near k (behind e t n) [] (58 ∷ r) last) (in_limit k (behind e t n) [] (58 ∷ r) last) in
     record {
       deeper = false;
       there = there;
@@ -118,25 +138,51 @@ plain_along reads around start k qs c cs n r e ad h white text low ready =
       low = index_behind e t n ad low;
     }
 
+pub plain_along : Reads → (around : Around) (start : State) (k : Candidate) (qs : List Place) (c : ℕ) (cs : List ℕ)
+    (n : ℕ) (r : List ℕ) (e : Marker) (ad : ℕ) → IsPlain false around.indent (c ∷ cs)
+    → is_blank_or_breakz (slice_index r 0) ≡ true → InKey around k e ((c ∷ cs) ++ spaces n) (58 ∷ r) → ad ≤ e.index
+    → Ready around start k ((c ∷ cs) ++ colon_text n r) e ad qs
+    → Along around start k qs (behind e (c ∷ cs) n) (58 ∷ r) (scalar_token Plain (plain_value (c ∷ cs)) ∷ [])
+plain_along reads around start k qs c cs n r e ad h white text low ready =
+    let clear = clear_front e (c ∷ cs) (spaces n) (58 ∷ r) text.clear in
+    text_along reads around start k qs c cs n r e ad (word_begins false around.indent (c ∷ cs) h)
+    (plain_text false around.indent e (c ∷ cs) (colon_text n r) h clear
+    (key_ends_plain around.indent (moved e (c ∷ cs)) n r white)) text low ready
+
+-- a plain scalar whose last word may end with a colon, right before the key's colon
+pub plain_key_along : Reads
+    → (around : Around) (start : State) (k : Candidate) (qs : List Place) (c : ℕ) (cs r : List ℕ) (e : Marker) (ad : ℕ)
+    → IsPlainKey false around.indent (c ∷ cs)
+    → is_blank_or_breakz (slice_index r 0) ≡ true → InKey around k e ((c ∷ cs) ++ []) (58 ∷ r) → ad ≤ e.index
+    → Ready around start k ((c ∷ cs) ++ (58 ∷ r)) e ad qs
+    → Along around start k qs (moved e (c ∷ cs)) (58 ∷ r) (scalar_token Plain (plain_value (c ∷ cs)) ∷ [])
+plain_key_along reads around start k qs c cs r e ad h white text low ready =
+    let clear = clear_front e (c ∷ cs) [] (58 ∷ r) text.clear in
+    text_along reads around start k qs c cs 0 r e ad (key_begins false around.indent (c ∷ cs) h)
+    (key_text false around.indent e (c ∷ cs) r h clear (key_ends_plain around.indent (moved e (c ∷ cs)) 0 r white)) text
+    low ready
+
 -- ## Quoted scalars
 
-same_line : (a b : ℕ) → a ≡ b → (a == b) ≡ true
-same_line a b e = grind (arith, nat_tests)
-
-goes_before_colon : (around : Around) (d : Bool) (start : Marker) (s : Cursor) (r : List ℕ) (k : Option Candidate) (ls : List Level) (a : Bool) (ad : ℕ) → s.rest ≡ 58 ∷ r → start.line ≡ s.mark.line
+goes_before_colon : (around : Around) (d : Bool) (start : Marker) (s : Cursor) (r : List ℕ) (k : Option Candidate)
+    (ls : List Level) (a : Bool) (ad : ℕ) → s.rest ≡ 58 ∷ r → start.line ≡ s.mark.line
     → goes_on_behind_quotes start (core_at around d s context.Block k ls a ad) ≡ true
 unfolding goes_on_behind_quotes
-goes_before_colon around d start s r k ls a ad is e = rw (is, same_line start.line s.mark.line e) refl
+goes_before_colon around d start s r k ls a ad is e = rw (is, eq-eqb start.line s.mark.line e) refl
 
 -- the colon is reached
-gap_to_colon : (around : Around) (d : Bool) (s : Cursor) (k : Candidate) (ad : ℕ) (m : Marker) (r : List ℕ) → s.rest ≡ 58 ∷ r → s.mark ≡ m
-    → pass_gap (core_at around d s context.Block (Some k) [] false ad) ≡ Ok (core_at around d (cursor_at (58 ∷ r) m s.blank_so_far) context.Block (Some k) [] false ad)
+gap_to_colon : (around : Around) (d : Bool) (s : Cursor) (k : Candidate) (ad : ℕ) (m : Marker) (r : List ℕ)
+    → s.rest ≡ 58 ∷ r → s.mark ≡ m
+    → pass_gap (core_at around d s context.Block (Some k) [] false ad)
+    ≡ Ok (core_at around d (cursor_at (58 ∷ r) m s.blank_so_far) context.Block (Some k) [] false ad)
 unfolding pass_gap check_comment
 gap_to_colon around d s k ad m r is at_colon =
     let low = least around.indent d in
-    let gapped = ap (λ (t : List ℕ). gap low s.mark s.blank_so_far false false t) is ∙ ap (λ (n : Marker). gap low n s.blank_so_far false false (58 ∷ r)) at_colon
-    ∙ ink_gap low 58 r colon_ink m s.blank_so_far ∙ stops_here m s.blank_so_far false (58 ∷ r) in
-    ap (λ q. q >>= λ (p : Passed). check_comment (behind_gap (core_at around d s context.Block (Some k) [] false ad) p)) gapped
+    let gapped = ap (λ (t : List ℕ). gap low s.mark s.blank_so_far false false t) is
+    ∙ ap (λ (n : Marker). gap low n s.blank_so_far false false (58 ∷ r)) at_colon
+    ∙ ink_gap low 58 r colon_ink m s.blank_so_far ∙ stop_here m s.blank_so_far false (58 ∷ r) in
+    ap (λ q. q >>= λ (p : Passed). check_comment (behind_gap (core_at around d s context.Block (Some k) [] false ad) p))
+    gapped
 
 -- what stands behind the closing quote, and the colon
 record KeyQuotes (around : Around) (start : Marker) (m : Marker) (n : ℕ) (r : List ℕ) : Type 0 where
@@ -144,9 +190,11 @@ record KeyQuotes (around : Around) (start : Marker) (m : Marker) (n : ℕ) (r : 
   rest : ends.there.rest ≡ 58 ∷ r
   mark : ends.there.mark ≡ moved m (spaces n)
 
-key_quotes : (around : Around) (start m : Marker) (n : ℕ) (r : List ℕ) → around.indent ≤ m.col → start.line ≡ (moved m (spaces n)).line → KeyQuotes around start m n r
+key_quotes : (around : Around) (start m : Marker) (n : ℕ) (r : List ℕ) → around.indent ≤ m.col
+    → start.line ≡ (moved m (spaces n)).line → KeyQuotes around start m n r
 key_quotes around start m n r right line =
-    let p = separates around.indent (at m (colon_text n r)) (spaces n) 58 r refl (separation_of_blanks around.indent (spaces n) (spaces_are_blank n)) right colon_ink in
+    let p = separates around.indent (at m (colon_text n r)) (spaces n) 58 r refl
+    (separation_of_blanks around.indent (spaces n) (spaces_are_blank n)) right colon_ink in
     let near = p.near (spaces_are_blank n) in
     record {
       ends = record {
@@ -156,7 +204,8 @@ key_quotes around start m n r right line =
         lands = p.lands;
         inked = ap (λ (z : Marker × List ℕ). is_blank (slice_index z.1 0)) (colon_lands around.indent m n r);
         stays = λ _ e. absurd (clash (crosses (colon_text n r)) e (spaces_uncrossed n r));
-        goes = λ d k ls a ad. goes_before_colon around d start p.there r k ls a ad near.0 (line ∙ ap (λ (z : Marker). z.line) (sym near.1));
+        goes = λ d k ls a ad. goes_before_colon around d start p.there r k ls a ad near.0
+            (line ∙ ap (λ (z : Marker). z.line) (sym near.1));
       };
       rest = near.0;
       mark = near.1;
@@ -166,7 +215,9 @@ no_quote : (n : ℕ) (r : List ℕ) → (slice_index (colon_text n r) 0 == 39) �
 no_quote zero r = refl
 no_quote (suc n) r = refl
 
-pub quotes_along : Reads → (around : Around) (start : State) (k : Candidate) (qs : List Place) (quote : Quote) (value t : List ℕ) (n : ℕ) (r : List ℕ) (e : Marker) (ad : ℕ) → IsQuoted quote around.indent value t
+pub quotes_along : Reads
+    → (around : Around) (start : State) (k : Candidate) (qs : List Place) (quote : Quote) (value t : List ℕ) (n : ℕ)
+    (r : List ℕ) (e : Marker) (ad : ℕ) → IsQuoted quote around.indent value t
     → InKey around k e (t ++ spaces n) (58 ∷ r) → Ready around start k (t ++ colon_text n r) e ad qs
     → Along around start k qs (behind e t n) (58 ∷ r) (scalar_token (style_of quote) value ∷ [])
 quotes_along reads around start k qs quote value t n r e ad h text ready =
@@ -176,17 +227,30 @@ quotes_along reads around start k qs quote value t n r e ad h text ready =
     let m = behind e t n in
     let kind = scalar_token (style_of quote) value in
     let whole = in_back k e t (spaces n) (58 ∷ r) text in
-    let last = in_back k end (spaces n) [] (58 ∷ r) (subst (λ (x : List ℕ). InKey around k end x (58 ∷ r)) (sym (append-nil (spaces n))) whole) in
-    let right = subst (λ (x : List ℕ). InKey around k e (x ++ spaces n) (58 ∷ r) → around.indent ≤ (moved e x).col) (sym h.5) (λ i. in_right k e (mark quote) h.0 (spaces n) (58 ∷ r) i) text in
+    let last = in_back k end (spaces n) [] (58 ∷ r)
+    (subst (λ (x : List ℕ). InKey around k end x (58 ∷ r)) (sym (append-nil (spaces n))) whole) in
+    let right = subst (λ (x : List ℕ). InKey around k e (x ++ spaces n) (58 ∷ r) → around.indent ≤ (moved e x).col)
+    (sym h.5) (λ i. in_right k e (mark quote) h.0 (spaces n) (58 ∷ r) i) text in
     let ends = key_quotes around e end n r right (text.line ∙ sym last.line) in
     let shut = ends.ends.there in
     let g : PassesGap around shut context.Block (Some k) [] false ad m (58 ∷ r) =
-    record { blank = shut.blank_so_far; allowed = false; is = λ d. gap_to_colon around d shut k ad m r ends.rest ends.mark; same = λ _. refl; fresh = λ _ e. absurd (clash (crosses (58 ∷ r)) (ap crosses (sym ends.rest) ∙ e) refl) } in
+    record {
+      blank = shut.blank_so_far;
+      allowed =
+          false;
+      is = λ d. gap_to_colon around d shut k ad m r ends.rest ends.mark;
+      same =
+          λ _. refl;
+      fresh = λ _ e. absurd (clash (crosses (58 ∷ r)) (ap crosses (sym ends.rest) ∙ e) refl);
+    } in
     let first : slice_index (t ++ o) 0 ≡ mark quote = ap (λ (y : List ℕ). slice_index (y ++ o) 0) h.5 in
     let there = cursor_at (58 ∷ r) m shut.blank_so_far in
-    let stepped = quoted_step reads around ready.deeper quote (length qs) e ready.blank value t o h clear (no_quote n r) context.Block (Some k) [] false ad (slice_index (t ++ o) 0) first (behind_key refl refl)
-    ∙ behind_step around ready.deeper e (style_of quote) (encode_utf8_all value) (at end o) context.Block (Some k) [] ad m (58 ∷ r) ends.ends g in
-    let led = token_led around start k (t ++ o) e ad qs ready ends.ends.there.mark kind there m.index (λ d. d) stepped (in_near k m [] (58 ∷ r) last) (in_limit k m [] (58 ∷ r) last) in
+    let stepped = quoted_step reads around ready.deeper quote (length qs) e ready.blank value t o h clear (no_quote n r)
+    context.Block (Some k) [] false ad (slice_index (t ++ o) 0) first (behind_key refl refl)
+    ∙ behind_step around ready.deeper e (style_of quote) (encode_utf8_all value) (at end o) context.Block (Some k) [] ad
+    m (58 ∷ r) ends.ends g in
+    let led = token_led around start k (t ++ o) e ad qs ready ends.ends.there.mark kind there m.index (λ d. d) stepped
+    (in_near k m [] (58 ∷ r) last) (in_limit k m [] (58 ∷ r) last) in
     record {
       deeper = ready.deeper;
       there = there;
@@ -208,18 +272,76 @@ quotes_along reads around start k qs quote value t n r e ad h text ready =
 
 -- ## Both
 
-some_first : (in_flow : Bool) (indent : ℕ) (t : List ℕ) → IsPlain in_flow indent t → (c : ℕ) × (cs : List ℕ) × (t ≡ c ∷ cs)
+some_first : (in_flow : Bool) (indent : ℕ) (t : List ℕ) → IsPlain in_flow indent t
+    → (c : ℕ) × (cs : List ℕ) × (t ≡ c ∷ cs)
 some_first in_flow indent t h = let w = word_begins in_flow indent t h in (w.first, w.others, w.is)
 
-pub content_along : Reads → (around : Around) (start : State) (k : Candidate) (qs : List Place) (style : Style) (value t : List ℕ) (n : ℕ) (r : List ℕ) (e : Marker) (ad : ℕ) → IsFlowScalar style value false around.indent t
-    → is_blank_or_breakz (slice_index r 0) ≡ true → InKey around k e (t ++ spaces n) (58 ∷ r) → ad ≤ e.index → Ready around start k (t ++ colon_text n r) e ad qs
+pub content_along : Reads
+    → (around : Around) (start : State) (k : Candidate) (qs : List Place) (style : Style) (value t : List ℕ) (n : ℕ)
+    (r : List ℕ) (e : Marker) (ad : ℕ) → IsFlowScalar style value false around.indent t
+    → is_blank_or_breakz (slice_index r 0) ≡ true → InKey around k e (t ++ spaces n) (58 ∷ r) → ad ≤ e.index
+    → Ready around start k (t ++ colon_text n r) e ad qs
     → Along around start k qs (behind e t n) (58 ∷ r) (scalar_token style value ∷ [])
 content_along reads around start k qs Plain value t n r e ad h white text low ready =
     let f = some_first false around.indent t h.0 in
     subst (λ (v : List ℕ). Along around start k qs (behind e t n) (58 ∷ r) (scalar_token Plain v ∷ [])) (sym h.1)
-    (subst (λ (x : List ℕ). IsPlain false around.indent x → InKey around k e (x ++ spaces n) (58 ∷ r) → Ready around start k (x ++ colon_text n r) e ad qs → Along around start k qs (behind e x n) (58 ∷ r) (scalar_token Plain (plain_value x) ∷ []))
+    (subst (λ (x : List ℕ). IsPlain false around.indent x → InKey around k e (x ++ spaces n) (58 ∷ r)
+    → Ready around start k (x ++ colon_text n r) e ad qs
+    → Along around start k qs (behind e x n) (58 ∷ r) (scalar_token Plain (plain_value x) ∷ []))
     (sym f.2) (λ p i z. plain_along reads around start k qs f.0 f.1 n r e ad p white i low z) h.0 text ready)
-content_along reads around start k qs SingleQuoted value t n r e ad h white text low ready = quotes_along reads around start k qs Single value t n r e ad h text ready
-content_along reads around start k qs DoubleQuoted value t n r e ad h white text low ready = quotes_along reads around start k qs Double value t n r e ad h text ready
+content_along reads around start k qs SingleQuoted value t n r e ad h white text low ready =
+    quotes_along reads around start k qs Single value t n r e ad h text ready
+content_along reads around start k qs DoubleQuoted value t n r e ad h white text low ready =
+    quotes_along reads around start k qs Double value t n r e ad h text ready
 content_along reads around start k qs Literal value t n r e ad h white text low ready = absurd h
 content_along reads around start k qs Folded value t n r e ad h white text low ready = absurd h
+
+-- how the content of a key is read, before spaces and its colon
+pub record ContentReads (around : Around) (style : Style) (value content : List ℕ) (n : ℕ) (r : List ℕ) : Type 0 where
+  pub begins : Begins content
+  pub along : (start : State) (k : Candidate) (qs : List Place) (e : Marker) (ad : ℕ)
+      → InKey around k e (content ++ spaces n) (58 ∷ r) → ad ≤ e.index
+      → Ready around start k (content ++ colon_text n r) e ad qs
+      → Along around start k qs (behind e content n) (58 ∷ r) (scalar_token style value ∷ [])
+
+pub scalar_begins : (indent : ℕ) (style : Style) (value t : List ℕ) → IsFlowScalar style value false indent t → Begins t
+scalar_begins indent Plain value t h = token_begins false t (word_begins false indent t h.0)
+scalar_begins indent SingleQuoted value t h = subst Begins (sym h.5) (quote_first Single h.0)
+scalar_begins indent DoubleQuoted value t h = subst Begins (sym h.5) (quote_first Double h.0)
+scalar_begins indent Literal value t h = absurd h
+scalar_begins indent Folded value t h = absurd h
+
+pub scalar_reads : Reads → (around : Around) (style : Style) (value content : List ℕ) (n : ℕ) (r : List ℕ)
+    → IsFlowScalar style value false around.indent content → is_blank_or_breakz (slice_index r 0) ≡ true
+    → ContentReads around style value content n r
+scalar_reads reads around style value content n r h white =
+    record {
+      begins = scalar_begins around.indent style value content h;
+      along =
+          λ start k qs e ad text low ready. content_along reads around start k qs style value content n r e ad h white
+          text low ready;
+    }
+
+pub plain_key_reads : Reads → (around : Around) (style : Style) (value content r : List ℕ) → style ≡ Plain
+    → value ≡ plain_value content → IsPlainKey false around.indent content → is_blank_or_breakz (slice_index r 0) ≡ true
+    → ContentReads around style value content 0 r
+plain_key_reads reads around style value content r plain is h white =
+    subst (λ (q : Style). ContentReads around q value content 0 r) (sym plain)
+    (subst (λ (v : List ℕ). ContentReads around Plain v content 0 r) (sym is)
+    (record {
+      begins = token_begins false content (key_begins false around.indent content h);
+      along =
+          λ start k qs e ad text low ready. key_along start k qs content e ad h text low ready;
+    }))
+  where
+    key_along : (start : State) (k : Candidate) (qs : List Place) (t : List ℕ) (e : Marker) (ad : ℕ)
+        → IsPlainKey false around.indent t → InKey around k e (t ++ []) (58 ∷ r) → ad ≤ e.index
+        → Ready around start k (t ++ (58 ∷ r)) e ad qs
+        → Along around start k qs (moved e t) (58 ∷ r) (scalar_token Plain (plain_value t) ∷ [])
+    key_along start k qs [] e ad h text low ready =
+        absurd (let b = key_begins false around.indent [] h in none b.first b.others b.is)
+      where
+        none : (c : ℕ) (cs : List ℕ) → [] ≡ c ∷ cs → ⊥
+        none c cs e = cc
+    key_along start k qs (c ∷ cs) e ad h text low ready =
+        plain_key_along reads around start k qs c cs r e ad h white text low ready

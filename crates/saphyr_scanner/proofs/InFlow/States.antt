@@ -8,18 +8,20 @@ use Rattle.saphyr_scalar.specs.declared.scalar.position.Marker.{Marker}
 use Rattle.saphyr_scalar.specs.Cursor.{Cursor, ◌>>=◌, along, separation}
 use Rattle.saphyr_scanner.specs.declared.engine.level.Context.{Context}
 use Rattle.saphyr_scanner.specs.declared.engine.level.Context.TheVariants as context
-use Rattle.saphyr_scanner.specs.Tokens.{Kind}
-use Rattle.saphyr_scanner.specs.Queue.{Place}
-use Rattle.saphyr_scanner.specs.Core.{Candidate, Level, Core, is_block, is_too_far, drop_far_key, save_key, go_deeper, from_to, up_to_here, went}
-use Rattle.saphyr_scanner.specs.Passing.{with_cursor}
-use Rattle.saphyr_scanner.specs.Flow as flow
-use Rattle.saphyr_scanner.specs.Flow.{open_collection, close_collection, allow_adjacent, behind_pair}
-use Rattle.saphyr_scanner.specs.State.{State, carried}
-use Rattle.saphyr_scanner.specs.Unrolling.{end_blocks, unroll}
-use Rattle.saphyr_scanner.specs.Fetch.{fetch, within, fetch_within}
+use Rattle.saphyr_scanner.specs.Grammar.Tokens.{Kind}
+use Rattle.saphyr_scanner.specs.Steps.Queue.{Place}
+use Rattle.saphyr_scanner.specs.Steps.Core.{Candidate, Level, Core, is_block, is_too_far, drop_far_key, save_key, go_deeper, from_to, up_to_here, went}
+use Rattle.saphyr_scanner.specs.Steps.Passing.{with_cursor}
+use Rattle.saphyr_scanner.specs.Steps.Flow as flow
+use Rattle.saphyr_scanner.specs.Steps.Flow.{open_collection, close_collection, allow_adjacent, behind_pair}
+use Rattle.saphyr_scanner.specs.Steps.State.{State, carried}
+use Rattle.saphyr_scanner.specs.Steps.Unrolling.{end_blocks, unroll}
+use Rattle.saphyr_scanner.specs.Steps.Fetch.{fetch, within, fetch_within}
 use Rattle.saphyr_scanner.proofs.Leads.{Leads, stay, onward}
-use Rattle.saphyr_scanner.proofs.JsonStates.{cursor_at, queue_of, within_limit}
-use Rattle.saphyr_scanner.proofs.JsonMarks.{chain, saved, level_of, not_full}
+use Rattle.saphyr_scanner.proofs.Json.States.{queue_of}
+use Rattle.saphyr_scanner.proofs.Json.Marks.{chain, saved, level_of, not_full}
+use Rattle.saphyr_scalar.proofs.Given.{cursor_at}
+use Rattle.std.proofs.lemmas.Bool.{le-leb}
 
 -- ## What stays as it is
 
@@ -95,7 +97,13 @@ stays around s = record { run = λ d. record { deeper = d; flat = λ _ e. e; lea
 
 pub chains : {around : Around} {c b a : Bool → State} → Runs around b a → Runs around c b → Runs around c a
 chains f g = record {
-  run = λ d. let r = f.run d in let q = g.run r.deeper in record { deeper = q.deeper; flat = λ e h. q.flat e (r.flat e h); leads = chain r.leads q.leads };
+  run = λ d. let r = f.run d in let q =
+      g.run r.deeper in record {
+        deeper =
+            q.deeper;
+        flat = λ e h. q.flat e (r.flat e h);
+        leads = chain r.leads q.leads;
+      };
 }
 
 -- ## A key outside flow may be forgotten
@@ -104,12 +112,15 @@ chains f g = record {
 abbrev pub key_left : Context → Option Candidate → Marker → Option Candidate
 key_left x k m = if is_block x && is_too_far k m then None else k
 
-pub drops : (around : Around) (d : Bool) (s : Cursor) (x : Context) (k : Option Candidate) (ls : List Level) (a : Bool) (ad : ℕ) → around.pending ≡ false
+pub drops : (around : Around) (d : Bool) (s : Cursor) (x : Context) (k : Option Candidate) (ls : List Level) (a : Bool)
+    (ad : ℕ) → around.pending ≡ false
     → drop_far_key (core_at around d s x k ls a ad) ≡ Ok (core_at around d s x (key_left x k s.mark) ls a ad)
 unfolding drop_far_key
 drops around d s context.Block k ls a ad calm = by_distance (is_too_far k s.mark) refl
   where
-    by_distance : (far : Bool) → is_too_far k s.mark ≡ far → drop_far_key (core_at around d s context.Block k ls a ad) ≡ Ok (core_at around d s context.Block (key_left context.Block k s.mark) ls a ad)
+    by_distance : (far : Bool) → is_too_far k s.mark ≡ far
+        → drop_far_key (core_at around d s context.Block k ls a ad)
+        ≡ Ok (core_at around d s context.Block (key_left context.Block k s.mark) ls a ad)
     by_distance true h = rw (h, calm) refl
     by_distance false h = rw h refl
 drops around d s context.FlowSequence k ls a ad calm = refl
@@ -133,16 +144,19 @@ left_in_flow x k m e = rw e refl
 no_right : (indent col : ℕ) → indent ≤ col → nat_lt col (indent - 1) ≡ false
 no_right indent col h = not_left indent col false h
 
-pub no_ends : (col : ℕ) (m : Marker) (is : List ℕ) (s : State) → nat_lt col (s.core.indent - 1) ≡ false → end_blocks (Some col) m is s ≡ s
+pub no_ends : (col : ℕ) (m : Marker) (is : List ℕ) (s : State) → nat_lt col (s.core.indent - 1) ≡ false
+    → end_blocks (Some col) m is s ≡ s
 no_ends col m [] s h = rw h refl
 no_ends col m (i ∷ is) s h = rw h refl
 
-pub none_unrolls : (around : Around) (col : ℕ) (m : Marker) (s : Cursor) (x : Context) (k : Option Candidate) (ls : List Level) (a : Bool) (ad : ℕ) (ps : List Place) (d : Bool) → around.indent ≤ col
+pub none_unrolls : (around : Around) (col : ℕ) (m : Marker) (s : Cursor) (x : Context) (k : Option Candidate)
+    (ls : List Level) (a : Bool) (ad : ℕ) (ps : List Place) (d : Bool) → around.indent ≤ col
     → unroll (Some col) m (state_at around s x k ls a ad ps d) ≡ state_at around s x k ls a ad ps d
 unfolding unroll
 none_unrolls around col m s context.Block k ls a ad ps d h =
     let same : (d && nat_le around.indent col) ≡ d = still d (nat_le around.indent col) (reaches around.indent col h) in
-    rw same (no_ends col m around.outers (state_at around s context.Block k ls a ad ps d) (no_right around.indent col h))
+    rw same (no_ends col m around.outers (state_at around s context.Block k ls a ad ps d)
+    (no_right around.indent col h))
   where
     reaches : (a b : ℕ) → a ≤ b → nat_le a b ≡ true
     reaches a b h = grind (arith, nat_tests)
@@ -180,15 +194,19 @@ bracket_deepens around x = record { flat = λ e. rw e (none_further (is_block x)
     none_further false = refl
 
 -- from a state the scanner comes to another, but for the key outside flow
-pub record Comes (around : Around) (start : Bool → State) (s : Cursor) (x : Context) (k : Option Candidate) (ls : List Level) (a : Bool) (ad : ℕ) (ps : List Place) : Type 0 where
+pub record Comes (around : Around) (start : Bool → State) (s : Cursor) (x : Context) (k : Option Candidate)
+    (ls : List Level) (a : Bool) (ad : ℕ) (ps : List Place) : Type 0 where
   pub key : Option Candidate
   pub leads : Runs around (state_at around s x key ls a ad ps) start
   pub same : is_block x ≡ false → key ≡ k
   pub kept : (key ≡ None) ⊎ (key ≡ k)
 
 -- where a step gives this, it leads there
-pub comes : (around : Around) (start : Bool → State) (s : Cursor) (x : Context) (k : Option Candidate) (ls : List Level) (a : Bool) (ad : ℕ) (ps : List Place) (to : Bool → Bool) → Deepens around to
-    → ((d : Bool) → (start d).core.ended ≡ false) → ((d : Bool) → fetch (start d) ≡ Ok (state_at around s x k ls a ad ps (to d))) → s.mark.index ≤ around.limit → around.pending ≡ false → Comes around start s x k ls a ad ps
+pub comes : (around : Around) (start : Bool → State) (s : Cursor) (x : Context) (k : Option Candidate) (ls : List Level)
+    (a : Bool) (ad : ℕ) (ps : List Place) (to : Bool → Bool) → Deepens around to
+    → ((d : Bool) → (start d).core.ended ≡ false)
+    → ((d : Bool) → fetch (start d) ≡ Ok (state_at around s x k ls a ad ps (to d))) → s.mark.index ≤ around.limit
+    → around.pending ≡ false → Comes around start s x k ls a ad ps
 unfolding fetch_within
 comes around start s x k ls a ad ps to deepens going is low calm =
     let left = key_left x k s.mark in
@@ -206,11 +224,12 @@ comes around start s x k ls a ad ps to deepens going is low calm =
     one : (d : Bool) → Run around d (state_at around s x (key_left x k s.mark) ls a ad ps) (start d)
     one d =
         let st = state_at around s x k ls a ad ps (to d) in
-        let fits : within around.limit st ≡ Ok st = rw (within_limit around.limit s.mark.index low) refl in
+        let fits : within around.limit st ≡ Ok st = rw (le-leb s.mark.index around.limit low) refl in
         record {
           deeper = to d;
           flat = flatly d;
-          leads = onward (start d) st (state_at around s x (key_left x k s.mark) ls a ad ps (to d)) (going d) (ap (λ r. r >>= within around.limit) (is d) ∙ fits)
+          leads = onward (start d) st (state_at around s x (key_left x k s.mark) ls a ad ps (to d)) (going d)
+              (ap (λ r. r >>= within around.limit) (is d) ∙ fits)
               (ap (λ r. carried r (queue_of ps)) (drops around (to d) s x k ls a ad calm)) stay;
         }
 
@@ -227,10 +246,12 @@ pub data Placed (around : Around) (x : Context) (a : Bool) (m : Marker) : Type 0
   right : around.pending ≡ false → around.indent ≤ m.col → Placed around x a m
   behind_key : is_block x ≡ true → a ≡ false → Placed around x a m
 
-pub placed_right : {around : Around} {m : Marker} (x : Context) (a : Bool) → around.pending ≡ false → around.indent ≤ m.col → Placed around x a m
+pub placed_right : {around : Around} {m : Marker} (x : Context) (a : Bool) → around.pending ≡ false
+    → around.indent ≤ m.col → Placed around x a m
 placed_right x a calm h = right calm h
 
-saves_in_flow : (n : ℕ) (around : Around) (d : Bool) (s : Cursor) (x : Context) (k : Option Candidate) (ls : List Level) (a : Bool) (ad : ℕ) → is_block x ≡ false
+saves_in_flow : (n : ℕ) (around : Around) (d : Bool) (s : Cursor) (x : Context) (k : Option Candidate) (ls : List Level)
+    (a : Bool) (ad : ℕ) → is_block x ≡ false
     → save_key n (core_at around d s x k ls a ad) ≡ core_at around d s x (saved a n s.mark k) ls a ad
 saves_in_flow n around d s x k ls false ad e = refl
 saves_in_flow n around d s context.Block k ls true ad e = absurd (cc)
@@ -240,7 +261,8 @@ saves_in_flow n around d s context.FlowPair k ls true ad e = refl
 saves_in_flow n around d s context.ExplicitFlowPair k ls true ad e = refl
 saves_in_flow n around d s context.MarkedFlowPair k ls true ad e = refl
 
-saves_right : (n : ℕ) (around : Around) (d : Bool) (s : Cursor) (x : Context) (k : Option Candidate) (ls : List Level) (a : Bool) (ad : ℕ) → around.pending ≡ false → around.indent ≤ s.mark.col
+saves_right : (n : ℕ) (around : Around) (d : Bool) (s : Cursor) (x : Context) (k : Option Candidate) (ls : List Level)
+    (a : Bool) (ad : ℕ) → around.pending ≡ false → around.indent ≤ s.mark.col
     → save_key n (core_at around d s x k ls a ad) ≡ core_at around d s x (saved a n s.mark k) ls a ad
 saves_right n around d s x k ls false ad e h = refl
 saves_right n around d s context.Block k ls true ad e h = rw (off_column around.indent s.mark.col d h, e) refl
@@ -250,15 +272,18 @@ saves_right n around d s context.FlowPair k ls true ad e h = refl
 saves_right n around d s context.ExplicitFlowPair k ls true ad e h = refl
 saves_right n around d s context.MarkedFlowPair k ls true ad e h = refl
 
-pub saves_key : (n : ℕ) (around : Around) (d : Bool) (s : Cursor) (x : Context) (k : Option Candidate) (ls : List Level) (a : Bool) (ad : ℕ) → Placed around x a s.mark
+pub saves_key : (n : ℕ) (around : Around) (d : Bool) (s : Cursor) (x : Context) (k : Option Candidate) (ls : List Level)
+    (a : Bool) (ad : ℕ) → Placed around x a s.mark
     → save_key n (core_at around d s x k ls a ad) ≡ core_at around d s x (saved a n s.mark k) ls a ad
 saves_key n around d s x k ls a ad (inside e h) = saves_in_flow n around d s x k ls a ad e
 saves_key n around d s x k ls a ad (right e h) = saves_right n around d s x k ls a ad e h
 saves_key n around d s x k ls a ad (behind_key b e) =
-    subst (λ (q : Bool). save_key n (core_at around d s x k ls q ad) ≡ core_at around d s x (saved q n s.mark k) ls q ad) (sym e) refl
+    subst (λ (q : Bool). save_key n (core_at around d s x k ls q ad)
+    ≡ core_at around d s x (saved q n s.mark k) ls q ad) (sym e) refl
 
 -- a plain scalar inside flow is right of the block collections
-pub plain_placed : (around : Around) (x : Context) (a : Bool) (m : Marker) → Placed around x a m → (not (is_block x) && nat_lt m.col around.indent) ≡ false
+pub plain_placed : (around : Around) (x : Context) (a : Bool) (m : Marker) → Placed around x a m
+    → (not (is_block x) && nat_lt m.col around.indent) ≡ false
 plain_placed around x a m (inside e h) = further (not (is_block x)) (not_left around.indent m.col true h)
   where
     further : (p : Bool) → nat_lt m.col around.indent ≡ false → (p && nat_lt m.col around.indent) ≡ false
@@ -271,45 +296,64 @@ plain_placed around x a m (right e h) = further (not (is_block x)) (not_left aro
     further false e = refl
 plain_placed around x a m (behind_key b e) = rw b refl
 
-pub starts : (y : Context) (kind : Kind) (n : ℕ) (around : Around) (d : Bool) (s : Cursor) (x : Context) (k : Option Candidate) (ls : List Level) (a : Bool) (ad : ℕ) → Placed around x a s.mark
-    → flow.start y kind n (core_at around d s x k ls a ad) ≡ open_collection y kind (core_at around (deepened around x d) s x (saved a n s.mark k) ls a ad)
+pub starts : (y : Context) (kind : Kind) (n : ℕ) (around : Around) (d : Bool) (s : Cursor) (x : Context)
+    (k : Option Candidate) (ls : List Level) (a : Bool) (ad : ℕ) → Placed around x a s.mark
+    → flow.start y kind n (core_at around d s x k ls a ad)
+    ≡ open_collection y kind (core_at around (deepened around x d) s x (saved a n s.mark k) ls a ad)
 unfolding flow.start
-starts y kind n around d s x k ls a ad h = ap (λ (c : Core). open_collection y kind (go_deeper c)) (saves_key n around d s x k ls a ad h)
+starts y kind n around d s x k ls a ad h =
+    ap (λ (c : Core). open_collection y kind (go_deeper c)) (saves_key n around d s x k ls a ad h)
 
 -- what is required around a collection is so inside it
 abbrev pub Calm : Around → Context → Type 0
 Calm around x = is_block x ≡ true → around.pending ≡ around.required
 
-still_required : (around : Around) (x y : Context) → is_block y ≡ false → Calm around x → required_at around x ≡ required_at around y
+still_required : (around : Around) (x y : Context) → is_block y ≡ false → Calm around x
+    → required_at around x ≡ required_at around y
 still_required around x y e calm = by_context (is_block x) refl
   where
     by_context : (b : Bool) → is_block x ≡ b → required_at around x ≡ required_at around y
     by_context true h = rw (h, e) (calm h)
     by_context false h = rw (h, e) refl
 
-pub opens : (y : Context) (kind : Kind) (ch : ℕ) (r : List ℕ) (m : Marker) (b : Bool) (around : Around) (d : Bool) (x : Context) (k : Option Candidate) (ls : List Level) (a : Bool) (ad : ℕ) (found : SkipTabs) (there : Cursor)
-    → separation Yes (cursor_at r (along m 1) false) ≡ Ok (found, there) → length ls < 255 → is_block y ≡ false → Calm around x
-    → open_collection y kind (core_at around d (cursor_at (ch ∷ r) m b) x k ls a ad) ≡ went (from_to m there.mark kind ∷ []) (core_at around d there y None (level_of x k ∷ ls) true ad)
+pub opens : (y : Context) (kind : Kind) (ch : ℕ) (r : List ℕ) (m : Marker) (b : Bool) (around : Around) (d : Bool)
+    (x : Context) (k : Option Candidate) (ls : List Level) (a : Bool) (ad : ℕ) (found : SkipTabs) (there : Cursor)
+    → separation Yes (cursor_at r (along m 1) false) ≡ Ok (found, there) → length ls < 255 → is_block y ≡ false
+    → Calm around x
+    → open_collection y kind (core_at around d (cursor_at (ch ∷ r) m b) x k ls a ad)
+    ≡ went (from_to m there.mark kind ∷ []) (core_at around d there y None (level_of x k ∷ ls) true ad)
 unfolding open_collection
 opens y kind ch r m b around d x k ls a ad found there is low flows calm =
-    let c : Core = record (core_at around d (cursor_at r (along m 1) false) y None (level_of x k ∷ ls) true ad) { required = required_at around x } in
-    rw (not_full (length ls) low) (ap (λ q. (q >>= λ (e : SkipTabs × Cursor). Ok (e.0, with_cursor e.1 c)) >>= λ (e : SkipTabs × Core). went (up_to_here m kind e.1 ∷ []) e.1) is
-    ∙ ap (λ (q : Bool). went (from_to m there.mark kind ∷ []) (record (core_at around d there y None (level_of x k ∷ ls) true ad) { required = q })) (still_required around x y flows calm))
+    let c : Core = record (core_at around d (cursor_at r (along m 1) false) y None (level_of x k ∷ ls) true ad)
+    { required = required_at around x } in
+    rw (not_full (length ls) low)
+    (ap (λ q. (q >>= λ (e : SkipTabs × Cursor). Ok (e.0, with_cursor e.1 c)) >>= λ (e : SkipTabs × Core). went
+    (up_to_here m kind e.1 ∷ []) e.1) is
+    ∙ ap (λ (q : Bool). went (from_to m there.mark kind ∷ [])
+    (record (core_at around d there y None (level_of x k ∷ ls) true ad) { required = q }))
+    (still_required around x y flows calm))
 
-behind : (b : Bool) (around : Around) (d : Bool) (s : Cursor) (x : Context) (k : Option Candidate) (ls : List Level) (ad : ℕ)
-    → cond b (core_at around d s x k ls false ad) (core_at around d s x k ls false s.mark.index) ≡ core_at around d s x k ls false (cond b ad s.mark.index)
+behind : (b : Bool) (around : Around) (d : Bool) (s : Cursor) (x : Context) (k : Option Candidate) (ls : List Level)
+    (ad : ℕ)
+    → cond b (core_at around d s x k ls false ad) (core_at around d s x k ls false s.mark.index)
+    ≡ core_at around d s x k ls false (cond b ad s.mark.index)
 behind true around d s x k ls ad = refl
 behind false around d s x k ls ad = refl
 
-pub closes : (ends : Bool) (kind : Kind) (ch : ℕ) (r : List ℕ) (m : Marker) (b : Bool) (around : Around) (d : Bool) (y : Context) (k j : Option Candidate) (x : Context) (ls : List Level) (a : Bool) (ad : ℕ) (found : SkipTabs)
-    (there : Cursor) → separation Yes (cursor_at r (along m 1) false) ≡ Ok (found, there) → is_block y ≡ false → Calm around x
+pub closes : (ends : Bool) (kind : Kind) (ch : ℕ) (r : List ℕ) (m : Marker) (b : Bool) (around : Around) (d : Bool)
+    (y : Context) (k j : Option Candidate) (x : Context) (ls : List Level) (a : Bool) (ad : ℕ) (found : SkipTabs)
+    (there : Cursor) → separation Yes (cursor_at r (along m 1) false) ≡ Ok (found, there) → is_block y ≡ false
+    → Calm around x
     → close_collection ends kind (core_at around d (cursor_at (ch ∷ r) m b) y k (level_of x j ∷ ls) a ad)
-    ≡ went (behind_pair ends m (from_to m there.mark kind)) (core_at around d there x j ls false (cond (is_block x) ad there.mark.index))
+    ≡ went (behind_pair ends m (from_to m there.mark kind))
+    (core_at around d there x j ls false (cond (is_block x) ad there.mark.index))
 unfolding close_collection
 closes ends kind ch r m b around d y k j x ls a ad found there is flows calm =
     let was = required_at around y in
     let c : Core = record (core_at around d (cursor_at r (along m 1) false) x j ls false ad) { required = was } in
-    ap (λ q. (q >>= λ (e : SkipTabs × Cursor). Ok (e.0, with_cursor e.1 c)) >>= λ (e : SkipTabs × Core). went (behind_pair ends m (up_to_here m kind e.1)) (allow_adjacent e.1)) is
-    ∙ ap (λ (q : Bool). went (behind_pair ends m (from_to m there.mark kind)) (allow_adjacent (record (core_at around d there x j ls false ad) { required = q })))
+    ap (λ q. (q >>= λ (e : SkipTabs × Cursor). Ok (e.0, with_cursor e.1 c)) >>= λ (e : SkipTabs × Core). went
+    (behind_pair ends m (up_to_here m kind e.1)) (allow_adjacent e.1)) is
+    ∙ ap (λ (q : Bool). went (behind_pair ends m (from_to m there.mark kind))
+    (allow_adjacent (record (core_at around d there x j ls false ad) { required = q })))
     (sym (still_required around x y flows calm))
     ∙ ap (went (behind_pair ends m (from_to m there.mark kind))) (behind (is_block x) around d there x j ls ad)

@@ -7,17 +7,16 @@ use Rattle.saphyr_scalar.specs.declared.reading.block.BlockStyle.TheVariants as 
 use Rattle.saphyr_scalar.specs.declared.scalar.fault.FaultText.TheVariants as fault
 use Rattle.saphyr_scalar.specs.Cursor.{refuse}
 use Rattle.saphyr_scalar.proofs.Breaks.Results.{both_by}
-use Rattle.saphyr_scalar.proofs.TagsSpelled.{is_number}
 use Rattle.saphyr_scanner.specs.declared.engine.level.Context.TheVariants as context
-use Rattle.saphyr_scanner.specs.Tokens as tokens
-use Rattle.saphyr_scanner.specs.Block as block
-use Rattle.saphyr_scanner.specs.Core.{Core, Steps, in_block}
-use Rattle.saphyr_scanner.specs.Fetch.{step, is_value_adjacent, flow_value}
-use Rattle.saphyr_scanner.specs.Flow as flow
-use Rattle.saphyr_scanner.specs.Property as property
-use Rattle.saphyr_scanner.specs.Scalar as scalar
-use Rattle.saphyr_scanner.specs.Value as value
-use Rattle.saphyr_scanner.proofs.Separated.{both_of}
+use Rattle.saphyr_scanner.specs.Grammar.Tokens as tokens
+use Rattle.saphyr_scanner.specs.Steps.Block as block
+use Rattle.saphyr_scanner.specs.Steps.Core.{Core, Steps, in_block}
+use Rattle.saphyr_scanner.specs.Steps.Fetch.{step, is_value_adjacent, flow_value}
+use Rattle.saphyr_scanner.specs.Steps.Flow as flow
+use Rattle.saphyr_scanner.specs.Steps.Property as property
+use Rattle.saphyr_scanner.specs.Steps.Scalar as scalar
+use Rattle.saphyr_scanner.specs.Steps.Value as value
+use Rattle.std.proofs.lemmas.Bool.{eqb-true, and_parts}
 
 -- no indicator stands here
 pub record NoIndicator (first second : ℕ) (c : Core) : Type 0 where
@@ -73,8 +72,8 @@ pub both_cases : (P : Steps → Steps → Type 0) (first second other n : ℕ) (
     → in_block c ≡ in_block d → Cases P first second other n c d → P (step first second n c) (step first other n d)
 unfolding step
 both_cases P first second other n c d blank beside same h =
-    let is : (k : ℕ) → (first == k) ≡ true → first ≡ k = λ k e. is_number first k e in
-    let two : (k : ℕ) (b : Bool) → ((first == k) && b) ≡ true → (first ≡ k) × (b ≡ true) = λ k b e. let w = both_of
+    let is : (k : ℕ) → (first == k) ≡ true → first ≡ k = λ k e. eqb-true first k e in
+    let two : (k : ℕ) (b : Bool) → ((first == k) && b) ≡ true → (first ≡ k) × (b ≡ true) = λ k b e. let w = and_parts
     (first == k) b e in (is k w.0, w.1) in
     let and : (k : ℕ) (a b : Bool) → a ≡ b → ((first == k) && a) ≡ ((first == k) && b) = λ k a b e. ap
     (λ x. (first == k) && x) e in

@@ -7,15 +7,16 @@ use Rattle.saphyr_scalar.specs.declared.scalar.position.Span.{Span}
 use Rattle.saphyr_scalar.specs.Cursor.{Cursor}
 use Rattle.saphyr_scalar.specs.FlowReading.{plain_value}
 use Rattle.saphyr_scalar.specs.Folding.{folded}
-use Rattle.saphyr_scalar.proofs.DirectivesRead.{begins}
-use Rattle.saphyr_scalar.proofs.PlainRuns.{items, folded_word}
-use Rattle.saphyr_scanner.specs.TokensTaken.{IsPlainScalar}
+use Rattle.saphyr_scalar.proofs.Directives.Read.{begins}
+use Rattle.saphyr_scalar.proofs.Plain.Runs.{items, folded_word}
+use Rattle.saphyr_scanner.specs.TokensTaken.{IsPlainToken}
 
 white_is_low : (b : ℕ) → is_blank_or_break b ≡ true → b < 128
 white_is_low b h = grind (arith, nat_tests)
 
 -- bytes that begin with those of a character that is not white
-first_byte : (c : ℕ) (cs bytes : List ℕ) → is_blank_or_break c ≡ false → encode_utf8_all (c ∷ cs) ≡ bytes → is_blank_or_break (slice_index bytes 0) ≡ false
+first_byte : (c : ℕ) (cs bytes : List ℕ) → is_blank_or_break c ≡ false → encode_utf8_all (c ∷ cs) ≡ bytes
+    → is_blank_or_break (slice_index bytes 0) ≡ false
 first_byte c cs [] ink e = refl
 first_byte c cs (b ∷ bs) ink e = by (is_blank_or_break b) refl
   where
@@ -25,7 +26,9 @@ first_byte c cs (b ∷ bs) ink e = by (is_blank_or_break b) refl
         let same = begins c b (encode_utf8_all cs) bs e (white_is_low b h) in
         absurd (let k : is_blank_or_break c ≡ true = ap is_blank_or_break same.0 ∙ h in cc)
 
-value_begins : (piece front others : List ℕ) (last : ℕ) (rest value : List ℕ) → piece ≡ front ++ last ∷ [] → rest ≡ piece ++ others → is_blank_or_break (slice_index rest 0) ≡ false → encode_utf8_all (plain_value (normalized piece)) ≡ value
+value_begins : (piece front others : List ℕ) (last : ℕ) (rest value : List ℕ) → piece ≡ front ++ last ∷ []
+    → rest ≡ piece ++ others → is_blank_or_break (slice_index rest 0) ≡ false
+    → encode_utf8_all (plain_value (normalized piece)) ≡ value
     → is_blank_or_break (slice_index value 0) ≡ false
 value_begins [] [] others last rest value e is ink v = absurd (cc)
 value_begins [] (x ∷ xs) others last rest value e is ink v = absurd (cc)
@@ -34,7 +37,8 @@ value_begins (c ∷ cs) front others last rest value e is ink v =
     let told : folded (items (c ∷ cs)) ≡ c ∷ folded (items cs) = folded_word (c ∷ []) cs (first, tt) in
     first_byte c (folded (items cs)) value first (sym (ap encode_utf8_all told) ∙ v)
 
-pub plain_value_ink : (value : List ℕ) (span : Span) (s t : Cursor) → IsPlainScalar value span s t → is_blank_or_break (slice_index value 0) ≡ false
+pub plain_value_ink : (value : List ℕ) (span : Span) (s t : Cursor) → IsPlainToken value span s t
+    → is_blank_or_break (slice_index value 0) ≡ false
 plain_value_ink value span s t h =
     let r = h.reading in
     value_begins r.piece r.front (r.white ++ t.rest) r.last s.rest value r.closes r.is h.is_ink r.value

@@ -8,11 +8,12 @@ use Rattle.saphyr_scalar.specs.declared.scalar.position.Marker.{Marker}
 use Rattle.saphyr_scalar.specs.Cursor.{Cursor, fresh}
 use Rattle.saphyr_scalar.specs.Quoted.{break_len}
 use Rattle.saphyr_input.specs.Classes.{byte_order_mark}
-use Rattle.saphyr_scanner.specs.Seen.{Piece}
+use Rattle.saphyr_scanner.specs.Views.Tokens.{Piece}
 use Rattle.saphyr_scanner.specs.TokensTaken as taken
-use Rattle.saphyr_scanner.specs.TokensTaken.{IsReached, IsToken, AreTokens, open_behind, indentation}
+use Rattle.saphyr_scanner.specs.TokensTaken.{IsReached, IsToken, AreTokens, open_behind, least_column}
 use Rattle.saphyr_scanner.proofs.Reached.{reached_counted, apart_reached}
-use Rattle.saphyr_scanner.proofs.TokenPlaces.{Reaches, reaches_reaches, token_reached}
+use Rattle.saphyr_scanner.proofs.Taken.Places.{Reaches, reaches_reaches, token_reached}
+use Rattle.std.proofs.lemmas.Bool.{eq-eqb}
 
 -- the token stands at a place that is reached from the text's start
 pub record Stands (text : List ℕ) (p : Piece) : Type 0 where
@@ -26,13 +27,17 @@ abbrev pub AllStand : List ℕ → List Piece → Type 0
 AllStand text [] = Unit {0}
 AllStand text (p ∷ ps) = Stands text p × AllStand text ps
 
-tokens_stand_from : (text columns : List ℕ) (ps : List Piece) (s u : Cursor) → Reaches (fresh text) s → AreTokens columns ps s u → AllStand text ps
+tokens_stand_from : (text columns : List ℕ) (ps : List Piece) (s u : Cursor) → Reaches (fresh text) s
+    → AreTokens columns ps s u → AllStand text ps
 tokens_stand_from text columns [] s u r h = tt
 tokens_stand_from text columns (p ∷ ps) s u r h =
-    let i = indentation columns in
+    let i = least_column columns in
     let a = reaches_reaches (fresh text) s h.0 r (apart_reached s.mark s.rest h.0.mark h.0.rest h.2) in
-    let b = reaches_reaches (fresh text) h.0 h.1 a (token_reached i p.kind p.span h.0 h.1 h.3) in
-    (record { indent = i; here = h.0; behind = h.1; reached = a; is = h.3 }, tokens_stand_from text (open_behind p.kind p.span.start.col columns) ps h.1 u b h.4)
+    let b = reaches_reaches (fresh text) h.0 h.1 a (token_reached i p.kind p.span h.0 h.1 h.3) in (
+      record { indent = i; here = h.0; behind = h.1; reached = a; is = h.3 },
+      tokens_stand_from text
+          (open_behind p.kind p.span.start.col columns) ps h.1 u b h.4,
+    )
 
 pub tokens_stand : (text : List ℕ) (ps : List Piece) (u : Cursor) → AreTokens [] ps (fresh text) u → AllStand text ps
 tokens_stand text ps u h = tokens_stand_from text [] ps (fresh text) u (taken.nothing (fresh text).mark text) h
@@ -43,13 +48,19 @@ front_stands text (p ∷ ps) qs h = (h.0, front_stands text ps qs h.1)
 
 -- ## What stands at a place is an end of the text
 
-pub reached_behind : (m : Marker) (t : List ℕ) (n : Marker) (u : List ℕ) → IsReached m t n u → (front : List ℕ) × (t ≡ front ++ u)
+pub reached_behind : (m : Marker) (t : List ℕ) (n : Marker) (u : List ℕ) → IsReached m t n u
+    → (front : List ℕ) × (t ≡ front ++ u)
 reached_behind _ _ _ _ (taken.nothing m t) = ([], refl)
-reached_behind _ _ n u (taken.character m c t _ _ e p) = let r = reached_behind _ t n u p in (c ∷ r.0, ap (λ l. c ∷ l) r.1)
-reached_behind _ _ n u (taken.mark m t _ _ e p) = let r = reached_behind _ t n u p in (byte_order_mark ∷ r.0, ap (λ l. byte_order_mark ∷ l) r.1)
+reached_behind _ _ n u (taken.character m c t _ _ e p) =
+    let r = reached_behind _ t n u p in (c ∷ r.0, ap (λ l. c ∷ l) r.1)
+reached_behind _ _ n u (taken.mark m t _ _ e p) =
+    let r = reached_behind _ t n u p in (byte_order_mark ∷ r.0, ap (λ l. byte_order_mark ∷ l) r.1)
 reached_behind _ t n u (taken.line_break m _ _ _ e p) =
-    let r = reached_behind _ (drop (break_len t) t) n u p in
-    (take (break_len t) t ++ r.0, sym (take-append-drop (break_len t) t) ∙ ap (λ l. take (break_len t) t ++ l) r.1 ∙ sym (append_assoc (take (break_len t) t) r.0 u))
+    let r = reached_behind _ (drop (break_len t) t) n u p in (
+      take (break_len t) t ++ r.0,
+      sym (take-append-drop (break_len t) t) ∙ ap (λ l. take (break_len t) t ++ l) r.1
+          ∙ sym (append_assoc (take (break_len t) t) r.0 u),
+    )
 
 -- at the text's start all of it stands
 pub at_origin : (text : List ℕ) (u : Cursor) → Reaches (fresh text) u → u.mark.index ≡ 0 → u.rest ≡ text
@@ -67,19 +78,17 @@ at_origin text u r e =
 abbrev pub has : ℕ → List ℕ → Bool
 has c text = list_any (λ x. x == c) text
 
-same_number : (c : ℕ) → (c == c) ≡ true
-same_number c = grind (arith, nat_tests)
-
 stands_behind : (c : ℕ) (front rest : List ℕ) → slice_index rest 0 ≡ c → c ≢ 0 → has c (front ++ rest) ≡ true
 stands_behind c [] [] e n = absurd (n (sym e))
-stands_behind c [] (x ∷ xs) e n = let here : (x == c) ≡ true = ap (λ y. y == c) e ∙ same_number c in rw here refl
+stands_behind c [] (x ∷ xs) e n = let here : (x == c) ≡ true = ap (λ y. y == c) e ∙ eq-eqb c c refl in rw here refl
 stands_behind c (x ∷ front) rest e n = let more = stands_behind c front rest e n in rw more (either (x == c))
   where
     either : (b : Bool) → (b || true) ≡ true
     either true = refl
     either false = refl
 
-pub one_place : (c : ℕ) (before after front rest : List ℕ) → before ++ (c ∷ after) ≡ front ++ rest → slice_index rest 0 ≡ c → c ≢ 0 → has c before ≡ false → has c after ≡ false → rest ≡ c ∷ after
+pub one_place : (c : ℕ) (before after front rest : List ℕ) → before ++ (c ∷ after) ≡ front ++ rest
+    → slice_index rest 0 ≡ c → c ≢ 0 → has c before ≡ false → has c after ≡ false → rest ≡ c ∷ after
 one_place c [] after [] rest e s n b a = sym e
 one_place c [] after (f ∷ front) rest e s n b a =
     let more : after ≡ front ++ rest = cc in
@@ -87,7 +96,7 @@ one_place c [] after (f ∷ front) rest e s n b a =
     absurd (let k : has c after ≡ true = ap (has c) more ∙ there in cc)
 one_place c (x ∷ before) after [] rest e s n b a =
     let first : x ≡ c = ap (λ l. slice_index l 0) e ∙ s in
-    let here : (x == c) ≡ true = ap (λ y. y == c) first ∙ same_number c in
+    let here : (x == c) ≡ true = ap (λ y. y == c) first ∙ eq-eqb c c refl in
     absurd (let k : ((x == c) || has c before) ≡ true = rw here refl in cc)
 one_place c (x ∷ before) after (f ∷ front) rest e s n b a =
     let more : before ++ (c ∷ after) ≡ front ++ rest = cc in

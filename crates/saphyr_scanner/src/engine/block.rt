@@ -2,14 +2,14 @@
 //! (YAML 1.2.2, 8.2.1, 8.2.2 and 7.4.2).
 
 ghost use Rattle.std.specs.Prelude.{◌≡◌, Ok, ◌<◌, length};
-ghost use Rattle.saphyr_scanner.specs.Block as block;
-ghost use Rattle.saphyr_scanner.specs.State as spec_state;
+ghost use Rattle.saphyr_scanner.specs.Steps.Block as block;
+ghost use Rattle.saphyr_scanner.specs.Steps.State as spec_state;
 
 use crate::engine::{Context, Engine};
 use crate::gap::skip_spaces;
 use crate::token::TokenType;
 use saphyr_input::char_traits::{is_blank_or_breakz, is_break, is_flow};
-use saphyr_input::input::Input;
+use saphyr_input::input::{Input, SkipTabs};
 use saphyr_scalar::{FaultText, Stop};
 
 impl Context {
@@ -27,7 +27,7 @@ impl Context {
 
 impl<T: Input> Engine<T> {
     ghost use Rattle.saphyr_scalar.specs.Seen.{Moves};
-    ghost use Rattle.saphyr_scanner.specs.Engine.{state};
+    ghost use Rattle.saphyr_scanner.specs.Views.Engine.{state};
 
     // Whether a `-` stands here as an indicator.
     fn is_dash_next(&mut self) -> bool
@@ -38,13 +38,13 @@ impl<T: Input> Engine<T> {
         self.reader.input().peek() == '-' && is_blank_or_breakz(self.reader.input().peek_nth(1))
     }
 
-    // Passes what stands behind `-` on its line.
+    // A compact sequence has its `-` behind spaces alone.
     #[inline(always)]
-    #[tactic(auto, unfolding(crate::specs::Block::pass_dash))]
-    fn pass_dash(&mut self) -> Result<(), Stop>
-        ensures { Moves (λ _. state self.new) result (spec_state.carried (block.pass_dash (state self.old).core) (state self.old).queue) }
+    fn refuse_tab(&mut self, found: SkipTabs) -> Result<(), Stop>
+        ensures { Moves (λ _. state self.new) result
+            (spec_state.carried (block.refuse_tab (found, (state self.old).core))
+            (state self.old).queue) }
     {
-        let found = self.separate()?;
         let is_dash = self.is_dash_next();
         if found.found_tabs() && is_dash {
             return Err(self.refuse_here(FaultText::DashWithoutWhitespace));
@@ -53,9 +53,21 @@ impl<T: Input> Engine<T> {
         Ok(())
     }
 
+    // Passes what stands behind `-` on its line.
+    #[inline(always)]
+    #[tactic(auto, unfolding(crate::specs::Steps::Block::pass_dash))]
+    fn pass_dash(&mut self) -> Result<(), Stop>
+        ensures { Moves (λ _. state self.new) result
+            (spec_state.carried (block.pass_dash (state self.old).core) (state self.old).queue) }
+    {
+        let found = self.separate()?;
+        self.refuse_tab(found)
+    }
+
     // Content on a later line, and flow collections, have to stand right of the `-`.
     fn deepen(&mut self)
-        ensures { state self.new ≡ spec_state.changed (block.deepen (state self.old).core) (state self.old) }
+        ensures { state self.new ≡ spec_state.changed (block.deepen (state self.old).core)
+            (state self.old) }
     {
         let c = self.reader.look();
         if is_break(c) || is_flow(c) {
@@ -65,10 +77,11 @@ impl<T: Input> Engine<T> {
 
     // `-`.
     #[inline(always)]
-    #[tactic(auto, unfolding(crate::specs::Block::entry, crate::specs::Block::next_entry))]
+    #[tactic(auto, unfolding(crate::specs::Steps::Block::entry, crate::specs::Steps::Block::next_entry))]
     pub(super) fn fetch_block_entry(&mut self) -> Result<(), Stop>
         requires { 0 < length (state self.old).core.cursor.rest }
-        ensures { Moves (λ _. state self.new) result (spec_state.acted (block.entry (state self.old).core) (state self.old).queue) }
+        ensures { Moves (λ _. state self.new) result
+            (spec_state.acted (block.entry (state self.old).core) (state self.old).queue) }
     {
         if !self.in_block() {
             return Err(self.refuse_here(FaultText::DashInsideFlow));
@@ -91,10 +104,11 @@ impl<T: Input> Engine<T> {
     }
 
     // `?`.
-    #[tactic(auto, unfolding(crate::specs::Block::key, crate::specs::Block::begin_key, crate::specs::Block::behind_mark, crate::specs::Core::remove_key))]
+    #[tactic(auto, unfolding(crate::specs::Steps::Block::key, crate::specs::Steps::Block::begin_key, crate::specs::Steps::Block::behind_mark, crate::specs::Steps::Core::remove_key))]
     pub(super) fn fetch_key(&mut self) -> Result<(), Stop>
         requires { 0 < length (state self.old).core.cursor.rest }
-        ensures { Moves (λ _. state self.new) result (spec_state.acted (block.key (state self.old).core) (state self.old).queue) }
+        ensures { Moves (λ _. state self.new) result
+            (spec_state.acted (block.key (state self.old).core) (state self.old).queue) }
     {
         if self.in_block() && !self.key_allowed {
             return Err(self.refuse_here(FaultText::KeyNotAllowed));

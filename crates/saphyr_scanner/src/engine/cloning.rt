@@ -7,7 +7,7 @@ use saphyr_input::input::CloneInput;
 use std::alloc::AllocError;
 
 impl<T: CloneInput> Engine<T> {
-    ghost use Rattle.saphyr_scanner.specs.Engine.{state};
+    ghost use Rattle.saphyr_scanner.specs.Views.Engine.{state};
 
     // An engine of its own that stands at the same place and holds the same tokens.
     pub(crate) fn try_clone(&self) -> Result<Self, AllocError>

@@ -2,9 +2,9 @@
 //! the text (YAML 1.2.2, 6.8 and chapter 9).
 
 ghost use Rattle.std.specs.Prelude.{◌≡◌, ◌≤◌, ◌<◌, length, slice_index, None, IfOk};
-ghost use Rattle.saphyr_scanner.specs.Document as document;
-ghost use Rattle.saphyr_scanner.specs.State as spec_state;
-ghost use Rattle.saphyr_scanner.specs.Seen.{kind_of};
+ghost use Rattle.saphyr_scanner.specs.Steps.Document as document;
+ghost use Rattle.saphyr_scanner.specs.Steps.State as spec_state;
+ghost use Rattle.saphyr_scanner.specs.Views.Tokens.{kind_of};
 ghost use Rattle.saphyr_scalar.specs.Directive.{directive_of};
 
 use crate::engine::Engine;
@@ -16,10 +16,10 @@ use std::alloc::{AllocError, Global};
 
 impl<T: Input> Engine<T> {
     ghost use Rattle.saphyr_scalar.specs.Seen.{Moves};
-    ghost use Rattle.saphyr_scanner.specs.Engine.{state};
+    ghost use Rattle.saphyr_scanner.specs.Views.Engine.{state};
 
     // Ends all block collections, and what may be a key.
-    #[tactic(auto, unfolding(crate::specs::Document::end_content))]
+    #[tactic(auto, unfolding(crate::specs::Steps::Document::end_content))]
     fn end_content(&mut self) -> Result<(), Stop>
         ensures { Moves (λ _. state self.new) result (document.end_content (state self.old)) }
     {
@@ -29,7 +29,7 @@ impl<T: Input> Engine<T> {
     }
 
     // NUL, or the end of the text.
-    #[tactic(auto, unfolding(crate::specs::Document::end_stream, crate::specs::Document::end_at))]
+    #[tactic(auto, unfolding(crate::specs::Steps::Document::end_stream, crate::specs::Steps::Document::end_at))]
     pub(super) fn fetch_end(&mut self) -> Result<(), Stop>
         requires { slice_index (state self.old).core.cursor.rest 0 ≡ 0 }
         ensures { Moves (λ _. state self.new) result (document.end_stream (state self.old)) }
@@ -50,10 +50,11 @@ impl<T: Input> Engine<T> {
     }
 
     // `---` or `...`.
-    #[tactic(auto, using(crate::proofs::Blocks::unrolled_cursor), unfolding(crate::specs::Document::marker, crate::specs::Document::end_content, crate::specs::Core::remove_key))]
+    #[tactic(auto, using(crate::proofs::Blocks::unrolled_cursor), unfolding(crate::specs::Steps::Document::marker, crate::specs::Steps::Document::end_content, crate::specs::Steps::Core::remove_key))]
     pub(super) fn fetch_document_marker(&mut self, kind: TokenType) -> Result<(), Stop>
         requires { 3 ≤ length (state self.old).core.cursor.rest }
-        ensures { Moves (λ _. state self.new) result (document.marker (kind_of kind) (state self.old)) }
+        ensures { Moves (λ _. state self.new) result
+            (document.marker (kind_of kind) (state self.old)) }
     {
         self.end_content()?;
         self.key_allowed = false;
@@ -64,7 +65,7 @@ impl<T: Input> Engine<T> {
     }
 
     // `...` and what stands behind it on its line.
-    #[tactic(auto, unfolding(crate::specs::Document::end_marker, crate::specs::Document::end_line))]
+    #[tactic(auto, unfolding(crate::specs::Steps::Document::end_marker, crate::specs::Steps::Document::end_line))]
     pub(super) fn fetch_document_end(&mut self) -> Result<(), Stop>
         requires { 3 ≤ length (state self.old).core.cursor.rest }
         ensures { Moves (λ _. state self.new) result (document.end_marker (state self.old)) }
@@ -79,7 +80,7 @@ impl<T: Input> Engine<T> {
     }
 
     // `%` and the rest of a directive's line.
-    #[tactic(auto, using(crate::proofs::Blocks::unrolled_cursor), unfolding(crate::specs::Document::directive, crate::specs::Document::read_directive, crate::specs::Document::end_content, crate::specs::Core::remove_key))]
+    #[tactic(auto, using(crate::proofs::Blocks::unrolled_cursor), unfolding(crate::specs::Steps::Document::directive, crate::specs::Steps::Document::read_directive, crate::specs::Steps::Document::end_content, crate::specs::Steps::Core::remove_key))]
     pub(super) fn fetch_directive(&mut self) -> Result<(), Stop>
         requires { slice_index (state self.old).core.cursor.rest 0 ≡ 37 }
         ensures { Moves (λ _. state self.new) result (document.directive (state self.old)) }
@@ -94,7 +95,7 @@ impl<T: Input> Engine<T> {
     }
 
     // A byte order mark, which has a place at the start of a line outside flow alone.
-    #[tactic(auto, using(crate::proofs::Blocks::unrolled_cursor), unfolding(crate::specs::Document::byte_order_mark, crate::specs::Document::end_content, crate::specs::Core::remove_key))]
+    #[tactic(auto, using(crate::proofs::Blocks::unrolled_cursor), unfolding(crate::specs::Steps::Document::byte_order_mark, crate::specs::Steps::Document::end_content, crate::specs::Steps::Core::remove_key))]
     pub(super) fn fetch_byte_order_mark(&mut self) -> Result<(), Stop>
         requires { 0 < length (state self.old).core.cursor.rest }
         ensures { Moves (λ _. state self.new) result (document.byte_order_mark (state self.old)) }

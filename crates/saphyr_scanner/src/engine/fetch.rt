@@ -2,8 +2,8 @@
 //! first of them is handed out.
 
 ghost use Rattle.std.specs.Prelude.{◌≡◌, ◌<◌, Ok, length, slice_index, option_map};
-ghost use Rattle.saphyr_scanner.specs.Fetch as fetch;
-ghost use Rattle.saphyr_scanner.specs.State as spec_state;
+ghost use Rattle.saphyr_scanner.specs.Steps.Fetch as fetch;
+ghost use Rattle.saphyr_scanner.specs.Steps.State as spec_state;
 
 use crate::engine::{Context, Engine, Level};
 use crate::token::{Token, TokenType};
@@ -16,7 +16,7 @@ use saphyr_scalar::scalar::{
 use saphyr_scalar::{FaultText, Stop};
 
 impl Level {
-    ghost use Rattle.saphyr_scanner.specs.Engine.{level};
+    ghost use Rattle.saphyr_scanner.specs.Views.Engine.{level};
 
     // Whether the token at a place may be a key.
     fn holds(&self, place: usize) -> bool
@@ -31,11 +31,11 @@ impl Level {
 
 impl<T: Input> Engine<T> {
     ghost use Rattle.saphyr_scalar.specs.Seen.{Moves};
-    ghost use Rattle.saphyr_scanner.specs.Engine.{state};
-    ghost use Rattle.saphyr_scanner.specs.Seen.{piece, written};
+    ghost use Rattle.saphyr_scanner.specs.Views.Engine.{state};
+    ghost use Rattle.saphyr_scanner.specs.Views.Tokens.{piece, written};
 
     // Comes to where the next token begins.
-    #[tactic(auto, unfolding(crate::specs::Fetch::arrive))]
+    #[tactic(auto, unfolding(crate::specs::Steps::Fetch::arrive))]
     fn arrive(&mut self) -> Result<(), Stop>
         ensures { Moves (λ _. state self.new) result (fetch.arrive (state self.old)) }
     {
@@ -46,7 +46,7 @@ impl<T: Input> Engine<T> {
     }
 
     // Puts the next token into the queue.
-    #[tactic(auto, unfolding(crate::specs::Fetch::fetch))]
+    #[tactic(auto, unfolding(crate::specs::Steps::Fetch::fetch))]
     fn fetch(&mut self) -> Result<(), Stop>
         ensures { Moves (λ _. state self.new) result (fetch.fetch (state self.old)) }
     {
@@ -61,7 +61,7 @@ impl<T: Input> Engine<T> {
     }
 
     // Puts the token that stands here into the queue.
-    #[tactic(auto, using(crate::proofs::Lengths::some_left), unfolding(crate::specs::Fetch::fetch_here))]
+    #[tactic(auto, using(saphyr_input::proofs::Basics::Lists::some_left), unfolding(crate::specs::Steps::Fetch::fetch_here))]
     fn fetch_here(&mut self) -> Result<(), Stop>
         ensures { Moves (λ _. state self.new) result (fetch.fetch_here (state self.old)) }
     {
@@ -91,7 +91,7 @@ impl<T: Input> Engine<T> {
     }
 
     // Puts the token that the first character begins into the queue.
-    #[tactic(auto, unfolding(crate::specs::Fetch::content, crate::specs::Fetch::step))]
+    #[tactic(auto, unfolding(crate::specs::Steps::Fetch::content, crate::specs::Steps::Fetch::step))]
     fn fetch_content(&mut self, c: char, next: char) -> Result<(), Stop>
         requires some { 0 < length (state self.old).core.cursor.rest }
         requires first { c ≡ slice_index (state self.old).core.cursor.rest 0 }
@@ -128,10 +128,11 @@ impl<T: Input> Engine<T> {
     }
 
     // A colon inside flow that no blank follows.
-    #[tactic(auto, unfolding(crate::specs::Fetch::flow_value))]
+    #[tactic(auto, unfolding(crate::specs::Steps::Fetch::flow_value))]
     fn fetch_flow_value(&mut self, next: char) -> Result<(), Stop>
         requires { 0 < length (state self.old).core.cursor.rest }
-        ensures { Moves (λ _. state self.new) result (spec_state.acted (fetch.flow_value next (state self.old).core) (state self.old).queue) }
+        ensures { Moves (λ _. state self.new) result
+            (spec_state.acted (fetch.flow_value next (state self.old).core) (state self.old).queue) }
     {
         if self.reader.mark().index != self.adjacent && (next == '[' || next == '{') {
             return Err(self.refuse_here(FaultText::ColonBeforeFlow));
@@ -157,6 +158,7 @@ impl<T: Input> Engine<T> {
     }
 
     // Whether the next token has to be read.
+    #[inline(always)]
     fn needs_token(&self) -> bool
         ensures { result ≡ fetch.needs_token (state self.now) }
     {
@@ -164,7 +166,7 @@ impl<T: Input> Engine<T> {
     }
 
     // Puts the next token into the queue, where the text is not too long.
-    #[tactic(auto, unfolding(crate::specs::Fetch::fetch_within))]
+    #[tactic(auto, unfolding(crate::specs::Steps::Fetch::fetch_within))]
     fn fetch_within(&mut self, limit: usize) -> Result<(), Stop>
         ensures { Moves (λ _. state self.new) result (fetch.fetch_within limit (state self.old)) }
     {
@@ -185,7 +187,7 @@ impl<T: Input> Engine<T> {
 
     // Reads tokens until the head of the queue can be handed out, unless all were.
     #[inline(never)]
-    #[tactic(auto, unfolding(crate::specs::Fetch::fill))]
+    #[tactic(auto, unfolding(crate::specs::Steps::Fetch::fill))]
     fn read_on(&mut self, limit: usize) -> Result<(), Stop>
         ensures { Moves (λ _. state self.new) result (fetch.fill limit (state self.old)) }
     {
@@ -219,7 +221,8 @@ impl<T: Input> Engine<T> {
     /// Takes the first token off the queue, if there is one, and writes it into `token`.
     #[inline(always)]
     pub(crate) fn take_into(&mut self, token: &mut Token) -> Result<bool, Stop>
-        ensures { Moves (λ taken. (option_map piece (written taken token.new), state self.new)) result (Ok (fetch.take (state self.old))) }
+        ensures { Moves (λ taken. (option_map piece (written taken token.new), state self.new))
+            result (Ok (fetch.take (state self.old))) }
     {
         self.queue.take_into(token)
     }

@@ -1,9 +1,9 @@
 //! Flow collections: their brackets, and the commas between their entries (YAML 1.2.2, 7.4).
 
 ghost use Rattle.std.specs.Prelude.{◌≡◌, Ok, ◌<◌, length};
-ghost use Rattle.saphyr_scanner.specs.Core as spec;
-ghost use Rattle.saphyr_scanner.specs.Flow as flow;
-ghost use Rattle.saphyr_scanner.specs.State as spec_state;
+ghost use Rattle.saphyr_scanner.specs.Steps.Core as spec;
+ghost use Rattle.saphyr_scanner.specs.Steps.Flow as flow;
+ghost use Rattle.saphyr_scanner.specs.Steps.State as spec_state;
 
 use crate::engine::{Context, Engine, Level};
 use crate::token::TokenType;
@@ -44,17 +44,19 @@ impl Context {
 
 impl<T: Input> Engine<T> {
     ghost use Rattle.saphyr_scalar.specs.Seen.{Moves};
-    ghost use Rattle.saphyr_scanner.specs.Engine.{state};
-    ghost use Rattle.saphyr_scanner.specs.Queue.{next};
-    ghost use Rattle.saphyr_scanner.specs.Seen.{kind_of};
+    ghost use Rattle.saphyr_scanner.specs.Views.Engine.{state};
+    ghost use Rattle.saphyr_scanner.specs.Steps.Queue.{next};
+    ghost use Rattle.saphyr_scanner.specs.Views.Tokens.{kind_of};
 
     // A flow collection is open.
     #[inline(always)]
     #[tactic(auto, using(crate::proofs::Levels::top_on))]
     fn enter(&mut self, context: Context) -> Result<(), Stop>
-        ensures { Moves (λ _. state self.new) result (Ok (spec_state.changed (flow.enter context (state self.old).core) (state self.old))) }
+        ensures { Moves (λ _. state self.new) result
+            (Ok (spec_state.changed (flow.enter context (state self.old).core) (state self.old))) }
     {
-        self.outer.push(self.level)?;
+        self.outer.reserve(1)?;
+        self.outer.push_reserved(self.level);
         self.level = Level { context, key: None };
         self.key_allowed = true;
         Ok(())
@@ -64,7 +66,8 @@ impl<T: Input> Engine<T> {
     #[inline(always)]
     #[tactic(auto, using(crate::proofs::Levels::top_off))]
     fn leave(&mut self)
-        ensures { state self.new ≡ spec_state.changed (flow.leave (state self.old).core) (state self.old) }
+        ensures { state self.new ≡ spec_state.changed (flow.leave (state self.old).core)
+            (state self.old) }
     {
         self.level = match self.outer.pop() {
             Some(level) => level,
@@ -78,10 +81,12 @@ impl<T: Input> Engine<T> {
 
     // `[` or `{`.
     #[inline(always)]
-    #[tactic(auto, unfolding(crate::specs::Flow::start, crate::specs::Flow::open_collection))]
+    #[tactic(auto, unfolding(crate::specs::Steps::Flow::start, crate::specs::Steps::Flow::open_collection))]
     pub(super) fn fetch_flow_start(&mut self, context: Context, kind: TokenType) -> Result<(), Stop>
         requires { 0 < length (state self.old).core.cursor.rest }
-        ensures { Moves (λ _. state self.new) result (spec_state.acted (flow.start context (kind_of kind) (next (state self.old).queue) (state self.old).core) (state self.old).queue) }
+        ensures { Moves (λ _. state self.new) result
+            (spec_state.acted (flow.start context (kind_of kind) (next (state self.old).queue)
+            (state self.old).core) (state self.old).queue) }
     {
         self.save_key()?;
         self.go_deeper();
@@ -98,10 +103,12 @@ impl<T: Input> Engine<T> {
 
     // `]` or `}`.
     #[inline(always)]
-    #[tactic(auto, unfolding(crate::specs::Flow::end, crate::specs::Flow::close_collection))]
+    #[tactic(auto, unfolding(crate::specs::Steps::Flow::end, crate::specs::Steps::Flow::close_collection))]
     pub(super) fn fetch_flow_end(&mut self, is_sequence: bool, kind: TokenType) -> Result<(), Stop>
         requires { 0 < length (state self.old).core.cursor.rest }
-        ensures { Moves (λ _. state self.new) result (spec_state.acted (flow.end is_sequence (kind_of kind) (state self.old).core) (state self.old).queue) }
+        ensures { Moves (λ _. state self.new) result
+            (spec_state.acted (flow.end is_sequence (kind_of kind) (state self.old).core)
+            (state self.old).queue) }
     {
         if self.in_block() {
             return Err(self.refuse_here(FaultText::MisplacedBracket));
@@ -122,10 +129,11 @@ impl<T: Input> Engine<T> {
 
     // `,`.
     #[inline(always)]
-    #[tactic(auto, unfolding(crate::specs::Flow::entry, crate::specs::Flow::next_entry, crate::specs::Core::remove_key))]
+    #[tactic(auto, unfolding(crate::specs::Steps::Flow::entry, crate::specs::Steps::Flow::next_entry, crate::specs::Steps::Core::remove_key))]
     pub(super) fn fetch_flow_entry(&mut self) -> Result<(), Stop>
         requires { 0 < length (state self.old).core.cursor.rest }
-        ensures { Moves (λ _. state self.new) result (spec_state.acted (flow.entry (state self.old).core) (state self.old).queue) }
+        ensures { Moves (λ _. state self.new) result
+            (spec_state.acted (flow.entry (state self.old).core) (state self.old).queue) }
     {
         self.remove_key()?;
         self.key_allowed = true;

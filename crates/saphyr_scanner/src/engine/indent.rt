@@ -1,9 +1,9 @@
 //! Indentation: where block collections begin and end, for which no characters stand (YAML 1.2.2, 6.1 and 8.2).
 
 ghost use Rattle.std.specs.Prelude.{◌≡◌, Ok, ◌+◌, ◌<◌, ◌^◌};
-ghost use Rattle.saphyr_scanner.specs.Core as spec;
-ghost use Rattle.saphyr_scanner.specs.Unrolling as unrolling;
-ghost use Rattle.saphyr_scanner.specs.State as spec_state;
+ghost use Rattle.saphyr_scanner.specs.Steps.Core as spec;
+ghost use Rattle.saphyr_scanner.specs.Steps.Unrolling as unrolling;
+ghost use Rattle.saphyr_scanner.specs.Steps.State as spec_state;
 
 use crate::engine::Engine;
 use crate::token::TokenType;
@@ -12,7 +12,7 @@ use saphyr_scalar::{Marker, Stop};
 
 impl<T: Input> Engine<T> {
     ghost use Rattle.saphyr_scalar.specs.Seen.{Moves};
-    ghost use Rattle.saphyr_scanner.specs.Engine.{state};
+    ghost use Rattle.saphyr_scanner.specs.Views.Engine.{state};
 
     // The column left of which nothing belongs to what is open.
     pub(super) fn least_column(&self) -> usize
@@ -27,7 +27,8 @@ impl<T: Input> Engine<T> {
 
     // Content has to stand one column further right than the block collection.
     pub(super) fn go_deeper(&mut self)
-        ensures { state self.new ≡ spec_state.changed (spec.go_deeper (state self.old).core) (state self.old) }
+        ensures { state self.new ≡ spec_state.changed (spec.go_deeper (state self.old).core)
+            (state self.old) }
     {
         if self.in_block() && self.indent > 0 {
             self.deeper = true;
@@ -46,12 +47,14 @@ impl<T: Input> Engine<T> {
     #[tactic(auto, using(crate::proofs::Stacks::top_on))]
     pub(super) fn roll(&mut self, column: usize) -> Result<(), Stop>
         requires { column + 1 < 2 ^ 64 }
-        ensures { Moves (λ _. state self.new) result (Ok (spec_state.changed (spec.roll column (state self.old).core) (state self.old))) }
+        ensures { Moves (λ _. state self.new) result
+            (Ok (spec_state.changed (spec.roll column (state self.old).core) (state self.old))) }
     {
         if !self.is_further(column) {
             return Ok(());
         }
-        self.outer_indents.push(self.indent)?;
+        self.outer_indents.reserve(1)?;
+        self.outer_indents.push_reserved(self.indent);
         self.indent = column + 1;
         self.deeper = false;
         Ok(())
@@ -61,7 +64,8 @@ impl<T: Input> Engine<T> {
     #[inline(always)]
     #[tactic(auto, using(crate::proofs::Stacks::top_off))]
     fn end_block(&mut self, mark: Marker) -> Result<(), Stop>
-        ensures { Moves (λ _. state self.new) result (Ok (unrolling.end_block mark (state self.old))) }
+        ensures { Moves (λ _. state self.new) result
+            (Ok (unrolling.end_block mark (state self.old))) }
     {
         self.put_empty(mark, TokenType::BlockEnd)?;
         self.indent = match self.outer_indents.pop() {
@@ -84,7 +88,8 @@ impl<T: Input> Engine<T> {
     // At the column of the block collection its next entry stands, and left of it what is behind it: neither has
     // to stand right of it.
     fn go_less_deep(&mut self, column: Option<usize>)
-        ensures { state self.new ≡ spec_state.changed (unrolling.less_deep column (state self.old).core) (state self.old) }
+        ensures { state self.new ≡ spec_state.changed
+            (unrolling.less_deep column (state self.old).core) (state self.old) }
     {
         self.deeper = match column {
             None => false,
@@ -94,9 +99,10 @@ impl<T: Input> Engine<T> {
 
     // The block collections to the right of a column end at a place, and all of them for `None`.
     #[inline(always)]
-    #[tactic(auto, using(crate::proofs::Blocks::none_ends), unfolding(crate::specs::Unrolling::unroll))]
+    #[tactic(auto, using(crate::proofs::Blocks::none_ends), unfolding(crate::specs::Steps::Unrolling::unroll))]
     pub(super) fn unroll(&mut self, column: Option<usize>, mark: Marker) -> Result<(), Stop>
-        ensures { Moves (λ _. state self.new) result (Ok (unrolling.unroll column mark (state self.old))) }
+        ensures { Moves (λ _. state self.new) result
+            (Ok (unrolling.unroll column mark (state self.old))) }
     {
         if !self.in_block() {
             return Ok(());

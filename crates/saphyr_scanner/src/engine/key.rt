@@ -2,8 +2,8 @@
 //! (YAML 1.2.2, 7.4.2 and 8.2.2).
 
 ghost use Rattle.std.specs.Prelude.{◌≡◌, Ok, ◌<◌, length};
-ghost use Rattle.saphyr_scanner.specs.Core as spec;
-ghost use Rattle.saphyr_scanner.specs.State as spec_state;
+ghost use Rattle.saphyr_scanner.specs.Steps.Core as spec;
+ghost use Rattle.saphyr_scanner.specs.Steps.State as spec_state;
 
 use crate::engine::{Candidate, Engine};
 use saphyr_input::input::Input;
@@ -14,14 +14,16 @@ const LONGEST_KEY: usize = 1024;
 
 impl<T: Input> Engine<T> {
     ghost use Rattle.saphyr_scalar.specs.Seen.{Moves};
-    ghost use Rattle.saphyr_scanner.specs.Engine.{state};
-    ghost use Rattle.saphyr_scanner.specs.Queue.{next};
+    ghost use Rattle.saphyr_scanner.specs.Views.Engine.{state};
+    ghost use Rattle.saphyr_scanner.specs.Steps.Queue.{next};
 
     // The token that comes next may be a key, where one is allowed.
     #[inline(always)]
     pub(super) fn save_key(&mut self) -> Result<(), Stop>
         requires { 0 < length (state self.old).core.cursor.rest }
-        ensures { Moves (λ _. state self.new) result (Ok (spec_state.changed (spec.save_key (next (state self.old).queue) (state self.old).core) (state self.old))) }
+        ensures { Moves (λ _. state self.new) result
+            (Ok (spec_state.changed (spec.save_key (next (state self.old).queue)
+            (state self.old).core) (state self.old))) }
     {
         if !self.key_allowed {
             return Ok(());
@@ -38,7 +40,8 @@ impl<T: Input> Engine<T> {
     // No token of the level may be a key any more.
     #[inline(always)]
     pub(super) fn forget_key(&mut self)
-        ensures { state self.new ≡ spec_state.changed (spec.forget_key (state self.old).core) (state self.old) }
+        ensures { state self.new ≡ spec_state.changed (spec.forget_key (state self.old).core)
+            (state self.old) }
     {
         self.level.key = None;
         if self.in_block() {
@@ -48,9 +51,10 @@ impl<T: Input> Engine<T> {
 
     // The same, where a key that has to be one is refused.
     #[inline(always)]
-    #[tactic(auto, unfolding(crate::specs::Core::remove_key))]
+    #[tactic(auto, unfolding(crate::specs::Steps::Core::remove_key))]
     pub(super) fn remove_key(&mut self) -> Result<(), Stop>
-        ensures { Moves (λ _. state self.new) result (spec_state.carried (spec.remove_key (state self.old).core) (state self.old).queue) }
+        ensures { Moves (λ _. state self.new) result
+            (spec_state.carried (spec.remove_key (state self.old).core) (state self.old).queue) }
     {
         if self.in_block() && self.required {
             return Err(self.refuse_here(FaultText::KeyExpected));
@@ -61,7 +65,8 @@ impl<T: Input> Engine<T> {
 
     // Whether the candidate is on another line, or too far away.
     pub(super) fn is_key_too_far(&self) -> bool
-        ensures { result ≡ spec.is_too_far (state self.now).core.level.key (state self.now).core.cursor.mark }
+        ensures { result ≡ spec.is_too_far (state self.now).core.level.key
+            (state self.now).core.cursor.mark }
     {
         let mark = self.reader.mark();
         match self.level.key {
@@ -74,9 +79,10 @@ impl<T: Input> Engine<T> {
 
     // A candidate outside flow lapses on the next line, and where its colon would be too far.
     #[inline(always)]
-    #[tactic(auto, unfolding(crate::specs::Core::drop_far_key))]
+    #[tactic(auto, unfolding(crate::specs::Steps::Core::drop_far_key))]
     pub(super) fn drop_far_key(&mut self) -> Result<(), Stop>
-        ensures { Moves (λ _. state self.new) result (spec_state.carried (spec.drop_far_key (state self.old).core) (state self.old).queue) }
+        ensures { Moves (λ _. state self.new) result
+            (spec_state.carried (spec.drop_far_key (state self.old).core) (state self.old).queue) }
     {
         if !(self.in_block() && self.is_key_too_far()) {
             return Ok(());

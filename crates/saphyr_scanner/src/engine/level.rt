@@ -1,7 +1,7 @@
 //! What is open at a place of the text, and which token there may be a key.
 
 ghost use Rattle.std.specs.Prelude.{◌≡◌, ◌<◌, ◌+◌, ◌^◌};
-ghost use Rattle.saphyr_scanner.specs.Core as spec;
+ghost use Rattle.saphyr_scanner.specs.Steps.Core as spec;
 
 use saphyr_scalar::Marker;
 

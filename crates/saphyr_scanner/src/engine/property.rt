@@ -1,8 +1,8 @@
 //! Anchors, aliases and tags (YAML 1.2.2, 6.9 and 7.1).
 
 ghost use Rattle.std.specs.Prelude.{◌≡◌, ◌<◌, length, slice_index};
-ghost use Rattle.saphyr_scanner.specs.Property as property;
-ghost use Rattle.saphyr_scanner.specs.State as spec_state;
+ghost use Rattle.saphyr_scanner.specs.Steps.Property as property;
+ghost use Rattle.saphyr_scanner.specs.Steps.State as spec_state;
 
 use crate::engine::Engine;
 use crate::token::TokenType;
@@ -11,14 +11,16 @@ use saphyr_scalar::Stop;
 
 impl<T: Input> Engine<T> {
     ghost use Rattle.saphyr_scalar.specs.Seen.{Moves};
-    ghost use Rattle.saphyr_scanner.specs.Engine.{state};
-    ghost use Rattle.saphyr_scanner.specs.Queue.{next};
+    ghost use Rattle.saphyr_scanner.specs.Views.Engine.{state};
+    ghost use Rattle.saphyr_scanner.specs.Steps.Queue.{next};
 
     // `&` and an anchor's name, or `*` and an alias's.
-    #[tactic(auto, unfolding(crate::specs::Property::name, crate::specs::Property::read_name))]
+    #[tactic(auto, unfolding(crate::specs::Steps::Property::name, crate::specs::Steps::Property::read_name))]
     pub(super) fn fetch_name(&mut self, is_alias: bool) -> Result<(), Stop>
         requires { 0 < length (state self.old).core.cursor.rest }
-        ensures { Moves (λ _. state self.new) result (spec_state.acted (property.name is_alias (next (state self.old).queue) (state self.old).core) (state self.old).queue) }
+        ensures { Moves (λ _. state self.new) result
+            (spec_state.acted (property.name is_alias (next (state self.old).queue)
+            (state self.old).core) (state self.old).queue) }
     {
         self.save_key()?;
         self.key_allowed = false;
@@ -34,10 +36,12 @@ impl<T: Input> Engine<T> {
     }
 
     // `!` and the rest of a tag.
-    #[tactic(auto, unfolding(crate::specs::Property::tag, crate::specs::Property::read_tag))]
+    #[tactic(auto, unfolding(crate::specs::Steps::Property::tag, crate::specs::Steps::Property::read_tag))]
     pub(super) fn fetch_tag(&mut self) -> Result<(), Stop>
         requires { slice_index (state self.old).core.cursor.rest 0 ≡ 33 }
-        ensures { Moves (λ _. state self.new) result (spec_state.acted (property.tag (next (state self.old).queue) (state self.old).core) (state self.old).queue) }
+        ensures { Moves (λ _. state self.new) result
+            (spec_state.acted (property.tag (next (state self.old).queue) (state self.old).core)
+            (state self.old).queue) }
     {
         self.save_key()?;
         self.key_allowed = false;

@@ -1,8 +1,8 @@
 //! Scalars of all styles, and what may stand behind a quoted one (YAML 1.2.2, 7.3 and 8.1).
 
 ghost use Rattle.std.specs.Prelude.{◌≡◌, Ok, ◌<◌, length, slice_index, string_bytes};
-ghost use Rattle.saphyr_scanner.specs.Scalar as scalar;
-ghost use Rattle.saphyr_scanner.specs.State as spec_state;
+ghost use Rattle.saphyr_scanner.specs.Steps.Scalar as scalar;
+ghost use Rattle.saphyr_scanner.specs.Steps.State as spec_state;
 
 use crate::engine::Engine;
 use crate::token::TokenType;
@@ -13,11 +13,11 @@ use saphyr_scalar::{FaultText, Marker, ScalarStyle, Stop};
 
 impl<T: Input> Engine<T> {
     ghost use Rattle.saphyr_scalar.specs.Seen.{Moves};
-    ghost use Rattle.saphyr_scanner.specs.Engine.{state};
-    ghost use Rattle.saphyr_scanner.specs.Queue.{next};
+    ghost use Rattle.saphyr_scanner.specs.Views.Engine.{state};
+    ghost use Rattle.saphyr_scanner.specs.Steps.Queue.{next};
 
     // Whether the characters here may stand behind a quoted scalar that began at a place.
-    #[tactic(auto, unfolding(crate::specs::Scalar::goes_on_behind_quotes))]
+    #[tactic(auto, unfolding(crate::specs::Steps::Scalar::goes_on_behind_quotes))]
     fn goes_on_behind_quotes(&mut self, start: Marker) -> bool
         ensures value { result ≡ scalar.goes_on_behind_quotes start (state self.old).core }
         ensures same { state self.new ≡ state self.old }
@@ -32,14 +32,16 @@ impl<T: Input> Engine<T> {
 
     // What stands behind a quoted scalar.
     #[inline(always)]
-    #[tactic(auto, unfolding(crate::specs::Scalar::behind_quotes))]
+    #[tactic(auto, unfolding(crate::specs::Steps::Scalar::behind_quotes))]
     fn fetch_behind_quotes(
         &mut self,
         start: Marker,
         style: ScalarStyle,
         text: String,
     ) -> Result<(), Stop>
-        ensures { Moves (λ _. state self.new) result (spec_state.acted (scalar.behind_quotes start style (string_bytes text) (state self.old).core) (state self.old).queue) }
+        ensures { Moves (λ _. state self.new) result
+            (spec_state.acted (scalar.behind_quotes start style (string_bytes text)
+            (state self.old).core) (state self.old).queue) }
     {
         self.separate()?;
         if !self.goes_on_behind_quotes(start) {
@@ -54,10 +56,12 @@ impl<T: Input> Engine<T> {
 
     // A double quoted scalar.
     #[inline(always)]
-    #[tactic(auto, unfolding(crate::specs::Scalar::double_quoted, crate::specs::Scalar::read_double_quoted))]
+    #[tactic(auto, unfolding(crate::specs::Steps::Scalar::double_quoted, crate::specs::Steps::Scalar::read_double_quoted))]
     pub(super) fn fetch_double_quoted(&mut self) -> Result<(), Stop>
         requires { slice_index (state self.old).core.cursor.rest 0 ≡ 34 }
-        ensures { Moves (λ _. state self.new) result (spec_state.acted (scalar.double_quoted (next (state self.old).queue) (state self.old).core) (state self.old).queue) }
+        ensures { Moves (λ _. state self.new) result
+            (spec_state.acted (scalar.double_quoted (next (state self.old).queue)
+            (state self.old).core) (state self.old).queue) }
     {
         self.save_key()?;
         self.key_allowed = false;
@@ -68,10 +72,12 @@ impl<T: Input> Engine<T> {
     }
 
     // A single quoted scalar.
-    #[tactic(auto, unfolding(crate::specs::Scalar::single_quoted, crate::specs::Scalar::read_single_quoted))]
+    #[tactic(auto, unfolding(crate::specs::Steps::Scalar::single_quoted, crate::specs::Steps::Scalar::read_single_quoted))]
     pub(super) fn fetch_single_quoted(&mut self) -> Result<(), Stop>
         requires { slice_index (state self.old).core.cursor.rest 0 ≡ 39 }
-        ensures { Moves (λ _. state self.new) result (spec_state.acted (scalar.single_quoted (next (state self.old).queue) (state self.old).core) (state self.old).queue) }
+        ensures { Moves (λ _. state self.new) result
+            (spec_state.acted (scalar.single_quoted (next (state self.old).queue)
+            (state self.old).core) (state self.old).queue) }
     {
         self.save_key()?;
         self.key_allowed = false;
@@ -82,10 +88,12 @@ impl<T: Input> Engine<T> {
     }
 
     // A plain scalar.
-    #[tactic(auto, unfolding(crate::specs::Scalar::plain, crate::specs::Scalar::read_plain))]
+    #[tactic(auto, unfolding(crate::specs::Steps::Scalar::plain, crate::specs::Steps::Scalar::read_plain))]
     pub(super) fn fetch_plain(&mut self) -> Result<(), Stop>
         requires { 0 < length (state self.old).core.cursor.rest }
-        ensures { Moves (λ _. state self.new) result (spec_state.acted (scalar.plain (next (state self.old).queue) (state self.old).core) (state self.old).queue) }
+        ensures { Moves (λ _. state self.new) result
+            (spec_state.acted (scalar.plain (next (state self.old).queue) (state self.old).core)
+            (state self.old).queue) }
     {
         self.save_key()?;
         self.key_allowed = false;
@@ -104,10 +112,12 @@ impl<T: Input> Engine<T> {
     }
 
     // A block scalar.
-    #[tactic(auto, unfolding(crate::specs::Scalar::block, crate::specs::Scalar::read_block))]
+    #[tactic(auto, unfolding(crate::specs::Steps::Scalar::block, crate::specs::Steps::Scalar::read_block))]
     pub(super) fn fetch_block_scalar(&mut self, style: BlockStyle) -> Result<(), Stop>
         requires { 0 < length (state self.old).core.cursor.rest }
-        ensures { Moves (λ _. state self.new) result (spec_state.acted (scalar.block style (next (state self.old).queue) (state self.old).core) (state self.old).queue) }
+        ensures { Moves (λ _. state self.new) result
+            (spec_state.acted (scalar.block style (next (state self.old).queue)
+            (state self.old).core) (state self.old).queue) }
     {
         self.save_key()?;
         self.key_allowed = true;

@@ -2,9 +2,9 @@
 //! (YAML 1.2.2, 7.4.2 and 8.2.2).
 
 ghost use Rattle.std.specs.Prelude.{◌≡◌, Ok, ◌+◌, ◌<◌, ◌^◌, length};
-ghost use Rattle.saphyr_scanner.specs.Core as spec;
-ghost use Rattle.saphyr_scanner.specs.Value as value;
-ghost use Rattle.saphyr_scanner.specs.State as spec_state;
+ghost use Rattle.saphyr_scanner.specs.Steps.Core as spec;
+ghost use Rattle.saphyr_scanner.specs.Steps.Value as value;
+ghost use Rattle.saphyr_scanner.specs.Steps.State as spec_state;
 
 use crate::engine::{Candidate, Context, Engine};
 use crate::queue::Opening;
@@ -40,14 +40,15 @@ impl Context {
 
 impl<T: Input> Engine<T> {
     ghost use Rattle.saphyr_scalar.specs.Seen.{Moves};
-    ghost use Rattle.saphyr_scanner.specs.Engine.{state, candidate};
+    ghost use Rattle.saphyr_scanner.specs.Views.Engine.{state, candidate};
 
     // Passes what stands behind a colon, if that begins with a tab. Outside flow a space is wanted
     // before a word.
     #[inline(always)]
-    #[tactic(auto, unfolding(crate::specs::Value::check_tab))]
+    #[tactic(auto, unfolding(crate::specs::Steps::Value::check_tab))]
     fn check_tab(&mut self) -> Result<(), Stop>
-        ensures { Moves (λ _. state self.new) result (spec_state.carried (value.check_tab (state self.old).core) (state self.old).queue) }
+        ensures { Moves (λ _. state self.new) result
+            (spec_state.carried (value.check_tab (state self.old).core) (state self.old).queue) }
     {
         if self.reader.look() != '\t' {
             return Ok(());
@@ -62,10 +63,11 @@ impl<T: Input> Engine<T> {
 
     // `:`.
     #[inline(always)]
-    #[tactic(auto, unfolding(crate::specs::Value::fetch, crate::specs::Value::behind_key))]
+    #[tactic(auto, unfolding(crate::specs::Steps::Value::fetch, crate::specs::Steps::Value::behind_key))]
     pub(super) fn fetch_value(&mut self) -> Result<(), Stop>
         requires { 0 < length (state self.old).core.cursor.rest }
-        ensures { Moves (λ _. state self.new) result (spec_state.acted (value.fetch (state self.old).core) (state self.old).queue) }
+        ensures { Moves (λ _. state self.new) result
+            (spec_state.acted (value.fetch (state self.old).core) (state self.old).queue) }
     {
         let start = self.reader.mark();
         let begins_pair = self.level.context.begins_pair();
@@ -80,14 +82,16 @@ impl<T: Input> Engine<T> {
 
     // The candidate is the colon's key.
     #[inline(always)]
-    #[tactic(auto, unfolding(crate::specs::Value::of_key))]
+    #[tactic(auto, unfolding(crate::specs::Steps::Value::of_key))]
     fn fetch_value_of(
         &mut self,
         key: Candidate,
         begins_pair: bool,
         start: Marker,
     ) -> Result<(), Stop>
-        ensures { Moves (λ _. state self.new) result (spec_state.acted (value.of_key (candidate key) begins_pair start (state self.old).core) (state self.old).queue) }
+        ensures { Moves (λ _. state self.new) result
+            (spec_state.acted (value.of_key (candidate key) begins_pair start (state self.old).core)
+            (state self.old).queue) }
     {
         if begins_pair && key.mark.line < start.line {
             return Err(Self::refuse(FaultText::MisplacedColon, start));
@@ -109,10 +113,12 @@ impl<T: Input> Engine<T> {
     }
 
     // The colon has no key on its line, or a key that `?` began.
-    #[tactic(auto, unfolding(crate::specs::Value::alone, crate::specs::Value::begin_alone))]
+    #[tactic(auto, unfolding(crate::specs::Steps::Value::alone, crate::specs::Steps::Value::begin_alone))]
     fn fetch_value_alone(&mut self, begins_pair: bool, start: Marker) -> Result<(), Stop>
         requires { start.col + 1 < 2 ^ 64 }
-        ensures { Moves (λ _. state self.new) result (spec_state.acted (value.alone begins_pair start (state self.old).core) (state self.old).queue) }
+        ensures { Moves (λ _. state self.new) result
+            (spec_state.acted (value.alone begins_pair start (state self.old).core)
+            (state self.old).queue) }
     {
         if begins_pair {
             self.put_empty(start, TokenType::FlowMappingStart)?;

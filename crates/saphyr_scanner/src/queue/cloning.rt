@@ -1,7 +1,7 @@
 //! Copies of queues.
 
 ghost use Rattle.std.specs.Prelude.{◌≡◌, IfOk};
-ghost use Rattle.saphyr_scanner.specs.QueueSeen.{place, queue};
+ghost use Rattle.saphyr_scanner.specs.Views.Queue.{place, queue};
 
 use crate::queue::{Place, Queue};
 use std::alloc::AllocError;
@@ -25,6 +25,8 @@ impl Queue {
         ensures { IfOk result (λ copy. queue copy ≡ queue self.now) }
     {
         Ok(Queue {
+            first: self.first.try_clone()?,
+            second: self.second.try_clone()?,
             places: self.places.clone()?,
             handed: self.handed,
         })

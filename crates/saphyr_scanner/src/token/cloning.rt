@@ -1,7 +1,7 @@
 //! Copies of tokens.
 
 ghost use Rattle.std.specs.Prelude.{◌≡◌, IfOk};
-ghost use Rattle.saphyr_scanner.specs.Seen.{kind_of, piece};
+ghost use Rattle.saphyr_scanner.specs.Views.Tokens.{kind_of, piece};
 
 use crate::token::{Token, TokenType};
 use std::alloc::AllocError;

@@ -16,7 +16,8 @@ loop-line-preserved c =
       | in-Some+in_ok-push_str+in_ok-push w ↦
           let found : behind (codes "> ") (string_bytes c.line-item.result) ≡ Some w.in-Some.event.now =
           same
-          ∙ strips_front (codes "> ") c.deref.result.now c.strip_prefix.result c.strip_prefix.ensures.cases w.in-Some.is in
+          ∙ strips_front (codes "> ") c.deref.result.now c.strip_prefix.result c.strip_prefix.ensures.cases
+          w.in-Some.is in
           ap string_bytes w.text-is ∙ w.in_ok-push.ensures.bytes
           ∙ ap (λ l. string_bytes w.push_str.new.self ++ l) (w.in_ok-push.ensures.ascii (lit< tt))
           ∙ ap (λ l. l ++ codes "\n") (w.in_ok-push_str.ensures.bytes
@@ -26,7 +27,8 @@ loop-line-preserved c =
       | in_default w ↦
           let found : behind (codes "> ") (string_bytes c.line-item.result) ≡ None =
           same
-          ∙ strips_front (codes "> ") c.deref.result.now c.strip_prefix.result c.strip_prefix.ensures.cases w.in_default.is in
+          ∙ strips_front (codes "> ") c.deref.result.now c.strip_prefix.result c.strip_prefix.ensures.cases
+          w.in_default.is in
           ap string_bytes w.text-is ∙ c.loop-line.invariant ∙ sym (append-nil before)
           ∙ ap (λ o. before ++ dumped_event o) (sym found) ∙ more
     ]

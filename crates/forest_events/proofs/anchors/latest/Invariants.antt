@@ -6,4 +6,5 @@ use Rattle.forest_events.proofs.anchors.latest.Given as goal
 
 abbrev pub invariant-loop-part : goal.invariant-loop-part
 invariant-loop-part l =
-    (l.id ≡ anchors (behind (take l.part-index l.before))) × (l.id ≤ l.part-index) × (l.found ≡ latest (encode_utf8_all (chars l.name)) (behind (take l.part-index l.before)))
+    (l.id ≡ anchors (behind (take l.part-index l.before))) × (l.id ≤ l.part-index)
+    × (l.found ≡ latest (encode_utf8_all (chars l.name)) (behind (take l.part-index l.before)))

@@ -10,4 +10,5 @@ push_nodes-loop-node-preserved t c =
 pub push_pairs-loop-pair-preserved : goal.push_pairs-loop-pair-preserved
 push_pairs-loop-pair-preserved t c =
     let at = rw c.deref-pair-items.ensures.value at c.pair-item.is in
-    more_pairs _ _ c.pair-item.result _ _ _ _ (omega arith) at c.loop-pair.invariant c.in_ok-push_node.ensures c.in_ok-push_node-2.ensures
+    more_pairs _ _ c.pair-item.result _ _ _ _ (omega arith) at c.loop-pair.invariant c.in_ok-push_node.ensures
+    c.in_ok-push_node-2.ensures

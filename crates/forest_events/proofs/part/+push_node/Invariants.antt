@@ -4,7 +4,11 @@ use Rattle.forest_events.specs.TreeSeen.{nodes_view, pairs_view, part_view}
 use Rattle.forest_events.proofs.part.+push_node.Given as goal
 
 abbrev pub invariant-push_nodes-loop-node : goal.invariant-push_nodes-loop-node
-invariant-push_nodes-loop-node l = map part_view l.parts.items ≡ map part_view l.initial.parts.items ++ entry_parts (nodes_view (take l.node-index l.nodes.items))
+invariant-push_nodes-loop-node l =
+    map part_view l.parts.items
+    ≡ map part_view l.initial.parts.items ++ entry_parts (nodes_view (take l.node-index l.nodes.items))
 
 abbrev pub invariant-push_pairs-loop-pair : goal.invariant-push_pairs-loop-pair
-invariant-push_pairs-loop-pair l = map part_view l.parts.items ≡ map part_view l.initial.parts.items ++ pair_parts (pairs_view (take l.pair-index l.pairs.items))
+invariant-push_pairs-loop-pair l =
+    map part_view l.parts.items
+    ≡ map part_view l.initial.parts.items ++ pair_parts (pairs_view (take l.pair-index l.pairs.items))

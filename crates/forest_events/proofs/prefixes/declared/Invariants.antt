@@ -4,4 +4,5 @@ use Rattle.forest_events.specs.TreeSeen.{behind, handle_view}
 use Rattle.forest_events.proofs.prefixes.declared.Given as goal
 
 abbrev pub invariant-loop-part : goal.invariant-loop-part
-invariant-loop-part l = option_map string_bytes l.declared ≡ declared l.keep (handle_view l.handle) (behind (take l.part-index l.before))
+invariant-loop-part l = option_map string_bytes l.declared
+    ≡ declared l.keep (handle_view l.handle) (behind (take l.part-index l.before))

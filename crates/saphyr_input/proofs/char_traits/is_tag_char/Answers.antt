@@ -13,4 +13,5 @@ returns-after-is_flow-clause-set c =
           (λ f. let t = c.is_flow.ensures.set.1 f in let n = w.if-is_flow.false in absurd (cc))
           (let e = w.result-is in (λ t. grind (arith, nat_tests), λ h. grind (arith, nat_tests)))
     ] in
-    and_not c.if-is_flow.result (spec.IsUriChar c.args.c) (spec.IsFlow c.args.c ⊎ (c.args.c ≡ 33)) (c.is_uri_char.ensures.set.0 c.if-is_uri_char.true) flow
+    and_not c.if-is_flow.result (spec.IsUriChar c.args.c) (spec.IsFlow c.args.c ⊎ (c.args.c ≡ 33))
+    (c.is_uri_char.ensures.set.0 c.if-is_uri_char.true) flow

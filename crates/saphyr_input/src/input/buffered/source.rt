@@ -21,14 +21,16 @@ impl<I: Iterator<Item = char>> Source<I> {
     pub(super) fn new(iter: I, limit: u64) -> Self
         requires bounded { limit ≤ 4294967296 }
         requires listed { Listed I.can_next I.next_gives iter }
-        ensures { (xs : List ℕ) → Lists I.can_next I.next_gives iter xs → items result ≡ take limit xs }
+        ensures { (xs : List ℕ) → Lists I.can_next I.next_gives iter xs
+            → items result ≡ take limit xs }
     {
         Source { iter, left: limit }
     }
 
     /// The next item. After the first `None` the iterator is not called again.
     pub(super) fn next(&mut self) -> Option<char>
-        ensures { MatchOption result ((items self.old ≡ []) × (items self.new ≡ [])) (λ c. items self.old ≡ c ∷ items self.new) }
+        ensures { MatchOption result ((items self.old ≡ []) × (items self.new ≡ []))
+            (λ c. items self.old ≡ c ∷ items self.new) }
     {
         if self.left == 0 {
             return None;

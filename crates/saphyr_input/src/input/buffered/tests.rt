@@ -12,7 +12,8 @@ use std::str::Chars;
 use std::test::*;
 
 fn characters_of<'a>(alloc: Global, text: &'a str) -> Result<BufferedInput<Chars<'a>>, AllocError>
-    ensures rest { IfOk result (λ input. ⟦<BufferedInput<Chars<'a>> as Input>⟧.rest input ≡ take 4294967296 (chars text.now)) }
+    ensures rest { IfOk result (λ input. ⟦<BufferedInput<Chars<'a>> as Input>⟧.rest input
+        ≡ take 4294967296 (chars text.now)) }
     ensures loaded { IfOk result (λ input. ⟦<BufferedInput<Chars<'a>> as Input>⟧.loaded input ≡ 0) }
 {
     let iter = text.chars();

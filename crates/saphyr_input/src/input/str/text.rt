@@ -7,105 +7,9 @@ ghost use Rattle.saphyr_input.specs.Fronts as spec;
 ghost use Rattle.saphyr_input.specs.Places as places;
 ghost use Rattle.saphyr_input.specs.Separation as separation;
 
-use crate::char_traits::{
-    is_alpha, is_blank, is_blank_or_breakz, is_yaml_non_break, is_yaml_non_space,
-};
+use crate::char_set::{CharSet, SpacedSet};
+use crate::char_traits::is_blank_or_breakz;
 use crate::input::SkipTabs;
-
-// A set of characters, without NUL.
-pub(super) trait Class {
-    ghost test: { ℕ → Bool };
-
-    fn has(c: char) -> bool
-        ensures { result ≡ test c };
-
-    // Whether the byte is an ASCII character of the set.
-    fn has_ascii(byte: u8) -> bool
-        ensures { result ≡ spec.ascii_in test byte };
-
-    ghost without_nul: { test 0 ≡ false };
-}
-
-pub(super) struct Blank;
-
-impl Class for Blank {
-    ghost test = { class.is_blank };
-
-    ghost without_nul = { refl };
-
-    #[inline]
-    fn has(c: char) -> bool {
-        is_blank(c)
-    }
-
-    #[inline]
-    fn has_ascii(byte: u8) -> bool {
-        is_blank(byte as char)
-    }
-}
-
-pub(super) struct Alpha;
-
-impl Class for Alpha {
-    ghost test = { class.is_alpha };
-
-    ghost without_nul = { refl };
-
-    #[inline]
-    fn has(c: char) -> bool {
-        is_alpha(c)
-    }
-
-    #[inline]
-    fn has_ascii(byte: u8) -> bool {
-        // Most are small letters.
-        matches!(byte, b'a'..=b'z') || is_alpha(byte as char)
-    }
-}
-
-pub(super) struct NonBreak;
-
-impl Class for NonBreak {
-    ghost test = { class.is_yaml_non_break };
-
-    ghost without_nul = { refl };
-
-    #[inline]
-    fn has(c: char) -> bool {
-        is_yaml_non_break(c)
-    }
-
-    #[inline]
-    fn has_ascii(byte: u8) -> bool {
-        if byte > b'\r' {
-            byte < 0x80
-        } else {
-            is_yaml_non_break(byte as char)
-        }
-    }
-}
-
-pub(super) struct NonSpace;
-
-impl Class for NonSpace {
-    ghost test = { class.is_yaml_non_space };
-
-    ghost without_nul = { refl };
-
-    #[inline]
-    fn has(c: char) -> bool {
-        is_yaml_non_space(c)
-    }
-
-    #[inline]
-    fn has_ascii(byte: u8) -> bool {
-        if byte > b' ' {
-            byte < 0x80
-        } else {
-            is_yaml_non_space(byte as char)
-        }
-    }
-}
 
 // The first byte, and NUL at the end.
 #[inline]
@@ -192,7 +96,7 @@ pub(super) fn is_marker(text: &str, mark: u8) -> bool
 
 // How many of the first bytes are ASCII characters of the class.
 #[inline]
-fn ascii_len<C: Class>(bytes: &[u8]) -> usize
+fn ascii_len<C: CharSet>(bytes: &[u8]) -> usize
     ensures { result ≡ prefix_len (spec.ascii_in C.test) bytes.now }
 {
     let mut len = 0;
@@ -204,8 +108,9 @@ fn ascii_len<C: Class>(bytes: &[u8]) -> usize
 
 // The run of the class up to its first character that isn't ASCII: how long it is, and what stands behind it.
 #[inline]
-pub(super) fn ascii_run<C: Class>(text: &str) -> (usize, &str)
-    ensures part { result.0 + prefix_len C.test (chars result.1.now) ≡ prefix_len C.test (chars text.now) }
+pub(super) fn ascii_run<C: CharSet>(text: &str) -> (usize, &str)
+    ensures part { result.0 + prefix_len C.test (chars result.1.now)
+        ≡ prefix_len C.test (chars text.now) }
     ensures whole { spec.IsAsciiClass C.test → result.0 ≡ prefix_len C.test (chars text.now) }
     ensures rest { chars result.1.now ≡ drop result.0 (chars text.now) }
 {
@@ -215,9 +120,10 @@ pub(super) fn ascii_run<C: Class>(text: &str) -> (usize, &str)
 
 // What stands behind the first character, if this is of the class.
 #[inline]
-fn strip_char<C: Class>(text: &str) -> Option<&str>
+fn strip_char<C: CharSet>(text: &str) -> Option<&str>
     ensures none { IfNone result (prefix_len C.test (chars text.now) ≡ 0) }
-    ensures some { IfSome result (λ rest. prefix_len C.test (chars text.now) ≡ 1 + prefix_len C.test (chars rest.now)) }
+    ensures some { IfSome result (λ rest. prefix_len C.test (chars text.now)
+        ≡ 1 + prefix_len C.test (chars rest.now)) }
     ensures rest { IfSome result (λ rest. chars rest.now ≡ drop 1 (chars text.now)) }
 {
     let (first, rest) = split_first(text);
@@ -226,7 +132,7 @@ fn strip_char<C: Class>(text: &str) -> Option<&str>
 
 // The longest run of the class: how many characters it has, and what stands behind it.
 #[inline]
-pub(super) fn run<C: Class>(text: &str) -> (usize, &str)
+pub(super) fn run<C: CharSet>(text: &str) -> (usize, &str)
     ensures count { result.0 ≡ prefix_len C.test (chars text.now) }
     ensures rest { chars result.1.now ≡ drop result.0 (chars text.now) }
 {
@@ -239,6 +145,61 @@ pub(super) fn run<C: Class>(text: &str) -> (usize, &str)
         rest = behind;
     }
     (count, rest)
+}
+
+// What stands behind a space that comes first, if a character of the set for which a test is known stands there.
+#[inline]
+fn strip_space<C: SpacedSet>(text: &str) -> Option<&str>
+    ensures some { IfSome result (λ rest. places.words_len C.CharSet.test C.lead (chars text.now)
+        ≡ 1 + places.words_len C.CharSet.test C.lead (chars rest.now)) }
+    ensures rest { IfSome result (λ rest. chars rest.now ≡ drop 1 (chars text.now)) }
+{
+    let bytes = text.as_bytes();
+    if bytes.len() > 1 && bytes[0] == b' ' && C::leads(bytes[1]) {
+        Some(&text[1..])
+    } else {
+        None
+    }
+}
+
+// Words of a set, with single spaces between them: how many characters, and what stands behind them.
+#[inline]
+pub(super) fn words<C: SpacedSet>(text: &str) -> (usize, &str)
+    ensures count { result.0 ≤ places.words_len C.CharSet.test C.lead (chars text.now) }
+    ensures stops { C.CharSet.test (slice_index (chars result.1.now) 0) ≡ false }
+    ensures rest { chars result.1.now ≡ drop result.0 (chars text.now) }
+{
+    // The bytes are fewer than 2^64, and the characters no more.
+    let _ = text.as_bytes();
+    let (mut count, mut rest) = run::<C>(text);
+    while let Some(after) = strip_space::<C>(rest) {
+        let (word, behind) = run::<C>(after);
+        count += 1 + word;
+        rest = behind;
+    }
+    (count, rest)
+}
+
+// How many of the first bytes are spaces, but no more than `most`.
+#[inline]
+fn leading_spaces(bytes: &[u8], most: usize) -> usize
+    ensures { result ≡ places.spaces_within most bytes.now }
+{
+    let mut count = 0;
+    while count < most && count < bytes.len() && bytes[count] == b' ' {
+        count += 1;
+    }
+    count
+}
+
+// The spaces that come first, but no more than `most`: how many, and what stands behind them.
+#[inline]
+pub(super) fn spaces(text: &str, most: usize) -> (usize, &str)
+    ensures count { result.0 ≡ places.spaces_within most (chars text.now) }
+    ensures rest { chars result.1.now ≡ drop result.0 (chars text.now) }
+{
+    let count = leading_spaces(text.as_bytes(), most);
+    (count, &text[count..])
 }
 
 // The blanks that come first: how many, and which were met.
@@ -278,7 +239,8 @@ fn leading_blanks(bytes: &[u8], with_tabs: bool) -> Blanks
 #[inline]
 pub(super) fn split_blanks(text: &str, skip_tabs: SkipTabs) -> (Blanks, &str)
     ensures count { result.0.count ≡ separation.blank_len skip_tabs (chars text.now) }
-    ensures found { SkipTabs.Result result.0.tabs result.0.spaces ≡ separation.found_blanks skip_tabs (chars text.now) }
+    ensures found { SkipTabs.Result result.0.tabs result.0.spaces
+        ≡ separation.found_blanks skip_tabs (chars text.now) }
     ensures rest { chars result.1.now ≡ drop result.0.count (chars text.now) }
 {
     let blanks = leading_blanks(text.as_bytes(), matches!(skip_tabs, SkipTabs::Yes));

@@ -1,5 +1,5 @@
 use Rattle.saphyr_parser.specs.Cursor.{at_start, keeping_tags}
-use Rattle.saphyr_parser.proofs.CommonBeginnings.{same_step, begins_as}
+use Rattle.saphyr_parser.proofs.Promises.CommonBeginnings.{same_step, begins_as}
 use Rattle.saphyr_parser.proofs.law.begins_alike.Goals as goal
 
 pub returns-clause-step : goal.returns-clause-step
@@ -9,4 +9,5 @@ pub returns-clause-machine : goal.returns-clause-machine
 returns-clause-machine c = begins_as
 
 pub returns-clause-parser : goal.returns-clause-parser
-returns-clause-parser c = λ tokens more refusal keep. begins_as (keeping_tags keep (at_start tokens)).machine more refusal
+returns-clause-parser c =
+    λ tokens more refusal keep. begins_as (keeping_tags keep (at_start tokens)).machine more refusal

@@ -1,4 +1,4 @@
-use Rattle.saphyr_parser.proofs.TakenExamples.{closes_start, reads_start}
+use Rattle.saphyr_parser.proofs.Examples.Taken.{closes_start, reads_start}
 use Rattle.saphyr_parser.proofs.law.closes_at_markers.Goals as goal
 
 pub returns-clause-alone : goal.returns-clause-alone

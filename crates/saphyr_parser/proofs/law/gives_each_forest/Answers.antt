@@ -1,4 +1,4 @@
-use Rattle.saphyr_parser.proofs.Complete.{each_gives, each_parsed}
+use Rattle.saphyr_parser.proofs.Promises.Forests.{each_gives, each_parsed}
 use Rattle.saphyr_parser.proofs.law.gives_each_forest.Goals as goal
 
 pub returns-clause-machine : goal.returns-clause-machine

@@ -1,4 +1,4 @@
-use Rattle.saphyr_parser.proofs.EventExamples.{anchor_inside, latest_anchor, no_earlier_anchor}
+use Rattle.saphyr_parser.proofs.Examples.Events.{anchor_inside, latest_anchor, no_earlier_anchor}
 use Rattle.saphyr_parser.proofs.law.numbers_anchors.Goals as goal
 
 pub returns-clause-latest : goal.returns-clause-latest

@@ -1,4 +1,4 @@
-use Rattle.saphyr_parser.proofs.EventExamples.{kept_prefix, later_prefix, local_prefix, no_earlier_prefix}
+use Rattle.saphyr_parser.proofs.Examples.Events.{kept_prefix, later_prefix, local_prefix, no_earlier_prefix}
 use Rattle.saphyr_parser.proofs.law.resolves_tags.Goals as goal
 
 pub returns-clause-local : goal.returns-clause-local

@@ -10,4 +10,5 @@ pub returns-clause-event : goal.returns-clause-event
 returns-clause-event c = λ e old new keep other h. sets_behind e old new keep other h
 
 pub returns-clause-list : goal.returns-clause-list
-returns-clause-list c = λ e old new keep other h. advances e (keeping_tags keep old) (keeping_tags keep new) (sets_behind e old new keep other h)
+returns-clause-list c = λ e old new keep other h. advances e (keeping_tags keep old) (keeping_tags keep new)
+    (sets_behind e old new keep other h)

@@ -1,5 +1,5 @@
-use Rattle.saphyr_parser.proofs.TakenExamples.{takes_none}
-use Rattle.saphyr_parser.proofs.TakenEvents.{takes_block_alias_events}
+use Rattle.saphyr_parser.proofs.Examples.Taken.{takes_none}
+use Rattle.saphyr_parser.proofs.Examples.TakenEvents.{takes_block_alias_events}
 use Rattle.std.proofs.Common.{false}
 use Rattle.saphyr_parser.proofs.law.takes_events.Goals as goal
 

@@ -2,38 +2,37 @@ use Rattle.std.proofs.Common.{◌≡◌, Err, rules}
 use Rattle.saphyr_parser.specs.declared.printing.fault.DumpFault.TheVariants.{Write}
 use Rattle.saphyr_parser.specs.Cursor.{event_of}
 use Rattle.saphyr_parser.proofs.Calls.Handing.{advances_less}
-use Rattle.saphyr_parser.proofs.Dumping.{cuts_line, leaves_all, leaves_cut, prints_all, prints_more, prints_up_to_fault}
+use Rattle.saphyr_parser.proofs.Printed.Dumping.{cuts_line, leaves_all, leaves_cut, prints_all, prints_more, prints_up_to_fault}
 use Rattle.saphyr_parser.proofs.printing.dump_each.Goals as goal
 
-pub loop-read-preserved : goal.loop-read-preserved
-loop-read-preserved g c =
-    let advances = rw c.in-Ok.is at c.in-Some.ensures.leaves in
-    prints_more _ _ _ _ _ _ (event_of c.next_into.new.next) c.loop-read.invariant advances c.in_ok-write_line-in-Ok.ensures
+pub loop-out-preserved : goal.loop-out-preserved
+loop-out-preserved g c =
+    prints_more _ _ _ _ _ _ (event_of c.advance.new.next) c.loop-out.invariant c.in-Event.ensures.leaves
+    c.in_ok-write_line-in-Event.ensures
 
-pub loop-read-smaller : goal.loop-read-smaller
-loop-read-smaller g c =
-    let advances = rw c.in-Ok.is at c.in-Some.ensures.leaves in
-    advances_less (event_of c.next_into.new.next) _ _ advances
+pub loop-out-smaller : goal.loop-out-smaller
+loop-out-smaller g c = advances_less (event_of c.advance.new.next) _ _ c.in-Event.ensures.leaves
 
-pub returns-in_err-write_line-in-Ok-clause-dumps : goal.returns-in_err-write_line-in-Ok-clause-dumps
-returns-in_err-write_line-in-Ok-clause-dumps g c =
+pub returns-in_err-write_line-in-Event-clause-dumps : goal.returns-in_err-write_line-in-Event-clause-dumps
+returns-in_err-write_line-in-Event-clause-dumps g c =
     let told : c.from_residual.result ≡ Err Write = search rules in
-    let advances = rw c.in-Ok.is at c.in-Some.ensures.leaves in
-    rw told (cuts_line _ _ _ _ _ _ (event_of c.next_into.new.next) c.loop-read.invariant advances c.in_err-write_line-in-Ok.ensures)
+    rw told (cuts_line _ _ _ _ _ _ (event_of c.advance.new.next) c.loop-out.invariant c.in-Event.ensures.leaves
+    c.in_err-write_line-in-Event.ensures)
 
-pub returns-in_err-write_line-in-Ok-clause-leaves : goal.returns-in_err-write_line-in-Ok-clause-leaves
-returns-in_err-write_line-in-Ok-clause-leaves g c =
+pub returns-in_err-write_line-in-Event-clause-leaves : goal.returns-in_err-write_line-in-Event-clause-leaves
+returns-in_err-write_line-in-Event-clause-leaves g c =
     let told : c.from_residual.result ≡ Err Write = search rules in
-    let advances = rw c.in-Ok.is at c.in-Some.ensures.leaves in
-    rw told (leaves_cut _ _ _ _ _ _ (event_of c.next_into.new.next) c.loop-read.invariant advances c.in_err-write_line-in-Ok.ensures)
+    rw told (leaves_cut _ _ _ _ _ _ (event_of c.advance.new.next) c.loop-out.invariant c.in-Event.ensures.leaves
+    c.in_err-write_line-in-Event.ensures)
 
-pub returns-in-Err-clause-dumps : goal.returns-in-Err-clause-dumps
-returns-in-Err-clause-dumps g c =
-    let fails = rw c.in-Err.is at c.in-Some.ensures.leaves in
-    prints_up_to_fault c.in-Err.fault _ _ _ _ _ c.loop-read.invariant fails
+pub returns-in-Fault-clause-dumps : goal.returns-in-Fault-clause-dumps
+returns-in-Fault-clause-dumps g c =
+    prints_up_to_fault c.advance.new.fault _ _ _ _ _ c.loop-out.invariant c.in-Fault.ensures.leaves
 
-pub returns-clause-dumps : goal.returns-clause-dumps
-returns-clause-dumps g c = prints_all _ _ _ _ _ c.loop-read.invariant c.in_default.ensures.leaves
+pub returns-in-Over-clause-dumps : goal.returns-in-Over-clause-dumps
+returns-in-Over-clause-dumps g c = prints_all _ _ _ _ _ c.loop-out.invariant c.in-Over.ensures.leaves
 
-pub returns-clause-leaves : goal.returns-clause-leaves
-returns-clause-leaves g c = leaves_all _ _ _ (g.W.Write.contents c.args.out.now) (g.W.Write.contents c.loop-read.out) c.loop-read.invariant c.in_default.ensures.leaves
+pub returns-in-Over-clause-leaves : goal.returns-in-Over-clause-leaves
+returns-in-Over-clause-leaves g c =
+    leaves_all _ _ _ (g.W.Write.contents c.args.out.now) (g.W.Write.contents c.loop-out.out) c.loop-out.invariant
+    c.in-Over.ensures.leaves

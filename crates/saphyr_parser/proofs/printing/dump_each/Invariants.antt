@@ -2,8 +2,8 @@ use Rattle.saphyr_parser.specs.Cursor.{to_come, count}
 use Rattle.saphyr_parser.specs.Dumps.{PrintsUpTo}
 use Rattle.saphyr_parser.proofs.printing.dump_each.Given as goal
 
-abbrev pub invariant-loop-read : goal.invariant-loop-read
-invariant-loop-read g l = PrintsUpTo l.fn.parser l.parser (g.W.Write.contents l.fn.out) (g.W.Write.contents l.out)
+abbrev pub invariant-loop-out : goal.invariant-loop-out
+invariant-loop-out g l = PrintsUpTo l.fn.parser l.parser (g.W.Write.contents l.fn.out) (g.W.Write.contents l.out)
 
-abbrev pub decreases-loop-read : goal.decreases-loop-read
-decreases-loop-read g l = count (to_come l.parser)
+abbrev pub decreases-loop-out : goal.decreases-loop-out
+decreases-loop-out g l = count (to_come l.parser)

@@ -17,7 +17,8 @@ pub(crate) struct BlockEnd {
 
 // Appends so many line feeds.
 pub(crate) fn push_line_feeds(text: &mut String, count: usize) -> Result<(), AllocError>
-    ensures { OnOk result (string_bytes text.new ≡ string_bytes text.old ++ encode_utf8_all (line_feeds count)) }
+    ensures { OnOk result (string_bytes text.new
+        ≡ string_bytes text.old ++ encode_utf8_all (line_feeds count)) }
 {
     for _ in 0..count {
         text.push('\n')?;
@@ -27,7 +28,7 @@ pub(crate) fn push_line_feeds(text: &mut String, count: usize) -> Result<(), All
 
 // Appends the breaks before a content line, by whether it and the content line above, where there
 // is one, begin with a blank.
-#[tactic(auto, using(crate::proofs::BlockLines::feed_first))]
+#[tactic(auto, using(crate::proofs::Block::Lines::feed_first))]
 pub(crate) fn push_break_before(
     text: &mut String,
     style: BlockStyle,
@@ -35,7 +36,9 @@ pub(crate) fn push_break_before(
     empty_lines: usize,
     below: bool,
 ) -> Result<(), AllocError>
-    ensures { OnOk result (string_bytes text.new ≡ string_bytes text.old ++ encode_utf8_all (spec.break_before style above empty_lines below)) }
+    ensures { OnOk result (string_bytes text.new
+        ≡ string_bytes text.old ++ encode_utf8_all
+        (spec.break_before style above empty_lines below)) }
 {
     if let Some(above) = above {
         if style == BlockStyle::Literal || above || below {
@@ -54,7 +57,8 @@ pub(crate) fn push_tail(
     unfinished: bool,
     end: BlockEnd,
 ) -> Result<(), AllocError>
-    ensures { OnOk result (string_bytes text.new ≡ string_bytes text.old ++ encode_utf8_all (spec.tail chomping unfinished end)) }
+    ensures { OnOk result (string_bytes text.new
+        ≡ string_bytes text.old ++ encode_utf8_all (spec.tail chomping unfinished end)) }
 {
     match chomping {
         Chomping::Strip => Ok(()),

@@ -32,7 +32,7 @@ impl<T: Input> Reader<T> {
     ghost use Rattle.saphyr_scalar.specs.Seen.{state, Gives};
 
     // Takes off the chomping indicator that stands first, where one does.
-    #[tactic(auto, using(crate::proofs::BlockLines::read_left), unfolding(crate::specs::BlockScalar::chomping))]
+    #[tactic(auto, using(crate::proofs::Block::Lines::read_left), unfolding(crate::specs::BlockScalar::chomping))]
     fn read_chomping(&mut self) -> Option<Chomping>
         ensures { (result, state self.new) ≡ spec.chomping (state self.old) }
     {
@@ -46,7 +46,7 @@ impl<T: Input> Reader<T> {
     }
 
     // Takes off the indentation indicator that stands first, and gives 0 where none does.
-    #[tactic(auto, using(crate::proofs::BlockLines::read_left), unfolding(crate::specs::BlockScalar::indicator))]
+    #[tactic(auto, using(crate::proofs::Block::Lines::read_left), unfolding(crate::specs::BlockScalar::indicator))]
     fn read_indentation_indicator(&mut self, start: Marker) -> Result<usize, Refusal>
         ensures { Gives (λ n. (n, state self.new)) result (spec.indicator start (state self.old)) }
     {

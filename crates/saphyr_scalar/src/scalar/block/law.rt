@@ -15,17 +15,24 @@ use crate::scalar::position::Span;
 
 /// What is read as a block scalar is the value of the lines that are taken off behind its header.
 pub fn reads_values_of_lines()
-    ensures { (style : BlockStyle) (indent : ℕ) (s t : Cursor) (text : List ℕ) (span : Span) → block_scalar style indent s ≡ Ok (text, span, t) → IsRead style indent s text t }
+    ensures { (style : BlockStyle) (indent : ℕ) (s t : Cursor) (text : List ℕ) (span : Span)
+        → block_scalar style indent s ≡ Ok (text, span, t) → IsRead style indent s text t }
 {}
 
 /// What is read as a block scalar is one: a header's line and lines, of which its text is the value.
 /// No content stands before its span.
 pub fn reads_block_texts()
-    ensures { (style : BlockStyle) (indent : ℕ) (s t : Cursor) (text : List ℕ) (span : Span) → is_break (slice_index s.rest 0) ≡ false → 0 < length s.rest → block_scalar style indent s ≡ Ok (text, span, t) → IsBlockText style indent s text span.start t }
+    ensures { (style : BlockStyle) (indent : ℕ) (s t : Cursor) (text : List ℕ) (span : Span)
+        → is_break (slice_index s.rest 0) ≡ false → 0 < length s.rest
+        → block_scalar style indent s ≡ Ok (text, span, t)
+        → IsBlockText style indent s text span.start t }
 {}
 
 /// Where a block scalar is spelled with line feeds for its breaks, and behind it stands what ends
 /// it, it is read, without a fault, and is the value of its lines.
 pub fn reads_each_block_scalar()
-    ensures { (style : BlockStyle) (chomping : Chomping) (indent i n : ℕ) (lines : List Line) (s : Cursor) (body others : List ℕ) → IsBlockScalar indent i n chomping lines s.rest body others → IsTaken style indent i n chomping lines s body others }
+    ensures { (style : BlockStyle) (chomping : Chomping) (indent i n : ℕ) (lines : List Line)
+        (s : Cursor) (body others : List ℕ)
+        → IsBlockScalar indent i n chomping lines s.rest body others
+        → IsTaken style indent i n chomping lines s body others }
 {}

@@ -8,7 +8,8 @@ use crate::reading::BlockStyle;
 use crate::scalar::block::breaks::{BlockEnd, push_break_before};
 use crate::scalar::fault::Stop;
 use crate::scalar::reader::Reader;
-use saphyr_input::char_traits::{is_blank, is_break, is_yaml_non_break};
+use saphyr_input::char_set::NonBreak;
+use saphyr_input::char_traits::{is_break, is_yaml_non_break};
 use saphyr_input::input::Input;
 
 // Lines of spaces alone: how many breaks end them, and the column that the longest reaches.
@@ -18,14 +19,14 @@ pub(crate) struct EmptyLines {
     pub(crate) widest: usize,
 }
 
-// Whether a space at a column belongs to the indentation, which may have a limit.
+// How many spaces from a column on belong to the indentation, which may have a limit.
 #[inline]
-fn is_indentation(limit: Option<usize>, col: usize, c: char) -> bool
-    ensures { result ≡ spec.is_indentation limit col c }
+fn indentation_left(limit: Option<usize>, col: usize) -> usize
+    ensures { result ≡ spec.indentation_left limit col }
 {
     match limit {
-        Some(limit) => c == ' ' && col < limit,
-        None => c == ' ',
+        Some(limit) => limit.saturating_sub(col),
+        None => usize::MAX,
     }
 }
 
@@ -39,22 +40,20 @@ impl<T: Input> Reader<T> {
         before: EmptyLines,
     ) -> EmptyLines
         requires { before.count ≤ (state self.old).mark.index }
-        ensures taken { (result, state self.new) ≡ spec.empty_lines_at limit before (state self.old) }
+        ensures taken { (result, state self.new)
+            ≡ spec.empty_lines_at limit before (state self.old) }
         ensures few { result.count ≤ (state self.new).mark.index }
     {
         let mut lines = before;
         loop {
-            let c = self.look();
-            if is_break(c) {
-                lines.count += 1;
-                lines.widest = lines.widest.max(self.mark.col);
-                self.skip_line_break();
-                continue;
-            }
-            if !is_indentation(limit, self.mark.col, c) {
+            let left = indentation_left(limit, self.mark.col);
+            self.skip_spaces(left);
+            if !is_break(self.look()) {
                 break;
             }
-            self.skip_blank();
+            lines.count += 1;
+            lines.widest = lines.widest.max(self.mark.col);
+            self.skip_line_break();
         }
         lines.widest = lines.widest.max(self.mark.col);
         lines
@@ -63,7 +62,8 @@ impl<T: Input> Reader<T> {
     // Whether a content line begins here.
     #[tactic(auto, unfolding(crate::specs::BlockScalar::line_starts))]
     fn block_line_starts(&mut self, indentation: usize) -> bool
-        ensures value { result ≡ spec.line_starts indentation (state self.old).mark.col (state self.old).rest }
+        ensures value { result ≡ spec.line_starts indentation (state self.old).mark.col
+            (state self.old).rest }
         ensures same { state self.new ≡ state self.old }
         ensures loaded { 1 ≤ loaded self.new }
     {
@@ -74,21 +74,12 @@ impl<T: Input> Reader<T> {
     }
 
     // Moves the rest of a line to the end of a text.
-    #[tactic(auto, using(crate::proofs::BlockRuns::words_within))]
+    #[tactic(auto, using(crate::proofs::Lengths::run_within))]
     fn read_block_line(&mut self, text: &mut String) -> Result<(), Stop>
-        ensures { Moves (λ _. (string_bytes text.new, state self.new)) result (Ok (spec.with_line (string_bytes text.old) (state self.old))) }
+        ensures { Moves (λ _. (string_bytes text.new, state self.new)) result
+            (Ok (spec.with_line (string_bytes text.old) (state self.old))) }
     {
-        let mut count = 0;
-        loop {
-            count += self.input.fetch_while_is_yaml_non_space(text)?;
-            let c = self.input.peek();
-            if !is_blank(c) {
-                break;
-            }
-            text.push(c)?;
-            self.input.skip();
-            count += 1;
-        }
+        let count = self.input.fetch_while::<NonBreak>(text)?;
         self.mark = self.mark.along(count);
         Ok(())
     }
@@ -102,7 +93,9 @@ impl<T: Input> Reader<T> {
         text: &mut String,
     ) -> Result<BlockEnd, Stop>
         requires { leading ≤ (state self.old).mark.index }
-        ensures { Moves (λ end. (string_bytes text.new, end, state self.new)) result (Ok (spec.with_front (string_bytes text.old) (spec.between_at style indentation None leading (state self.old)))) }
+        ensures { Moves (λ end. (string_bytes text.new, end, state self.new)) result
+            (Ok (spec.with_front (string_bytes text.old)
+            (spec.between_at style indentation None leading (state self.old)))) }
     {
         let mut above = None;
         let mut lines = EmptyLines {

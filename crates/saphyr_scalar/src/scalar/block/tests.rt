@@ -20,7 +20,7 @@ fn marker(place: Place) -> Marker {
     Marker::new(place.0, place.1, place.2)
 }
 
-#[tactic(auto, using(crate::proofs::Lengths::some_left))]
+#[tactic(auto, using(saphyr_input::proofs::Basics::Lists::some_left))]
 fn read(
     alloc: Global,
     text: &str,

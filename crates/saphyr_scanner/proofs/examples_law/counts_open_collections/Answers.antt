@@ -1,5 +1,5 @@
-use Rattle.saphyr_scanner.proofs.LayoutExamples.{block_compact, flow_single_pair}
-use Rattle.saphyr_scanner.proofs.NearMisses.{no_room}
+use Rattle.saphyr_scanner.proofs.Examples.Layout.{block_compact, flow_single_pair}
+use Rattle.saphyr_scanner.proofs.Examples.NearMisses.{no_room}
 use Rattle.saphyr_scanner.proofs.examples_law.counts_open_collections.Goals as goal
 
 pub returns-clause-no_room : goal.returns-clause-no_room

@@ -1,5 +1,5 @@
-use Rattle.saphyr_scanner.specs.Layout.{most_open}
-use Rattle.saphyr_scanner.proofs.LayoutExamples.{block_sequence, block_tabs_at_ends, block_mapping, block_sequence_at_mapping, block_compact, block_explicit_key, block_properties, block_literal, block_folded, block_next_line, block_comment_left, block_indicator, block_explicit_collections}
+use Rattle.saphyr_scanner.specs.Grammar.Layout.{most_open}
+use Rattle.saphyr_scanner.proofs.Examples.Layout.{block_sequence, block_tabs_at_ends, block_tabs_behind, block_colons_in_keys, block_mapping, block_sequence_at_mapping, block_compact, block_explicit_key, block_properties, block_literal, block_folded, block_next_line, block_comment_left, block_indicator, block_explicit_collections}
 use Rattle.saphyr_scanner.proofs.examples_law.derives_block.Goals as goal
 
 pub returns-clause-sequence : goal.returns-clause-sequence
@@ -40,3 +40,9 @@ returns-clause-explicit_collections c = block_explicit_collections
 
 pub returns-clause-tabs_at_ends : goal.returns-clause-tabs_at_ends
 returns-clause-tabs_at_ends c = block_tabs_at_ends
+
+pub returns-clause-tabs_behind : goal.returns-clause-tabs_behind
+returns-clause-tabs_behind c = block_tabs_behind
+
+pub returns-clause-colons_in_keys : goal.returns-clause-colons_in_keys
+returns-clause-colons_in_keys c = block_colons_in_keys

@@ -1,4 +1,4 @@
-use Rattle.saphyr_scanner.proofs.LayoutExamples.{streams_nothing, streams_directives, streams_documents, streams_byte_order_marks, streams_carriage_return, streams_properties, streams_mark_behind_filler}
+use Rattle.saphyr_scanner.proofs.Examples.Layout.{streams_nothing, streams_directives, streams_documents, streams_byte_order_marks, streams_carriage_return, streams_properties, streams_mark_behind_filler}
 use Rattle.saphyr_scanner.proofs.examples_law.derives_streams.Goals as goal
 
 pub returns-clause-nothing : goal.returns-clause-nothing

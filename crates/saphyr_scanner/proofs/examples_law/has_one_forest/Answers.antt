@@ -1,4 +1,4 @@
-use Rattle.saphyr_scanner.proofs.OneForest.{stands_for_one, one_forest}
+use Rattle.saphyr_scanner.proofs.Examples.OneForest.{stands_for_one, one_forest}
 use Rattle.saphyr_scanner.proofs.examples_law.has_one_forest.Goals as goal
 
 pub returns-clause-stands : goal.returns-clause-stands

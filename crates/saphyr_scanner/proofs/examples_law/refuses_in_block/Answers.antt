@@ -1,8 +1,11 @@
-use Rattle.saphyr_scanner.proofs.NearMisses.{tab_in_indentation, entry_left, key_over_lines, sequence_behind_key}
+use Rattle.saphyr_scanner.proofs.Examples.NearMisses.{tab_in_indentation, tab_behind_question, entry_left, key_over_lines, sequence_behind_key}
 use Rattle.saphyr_scanner.proofs.examples_law.refuses_in_block.Goals as goal
 
 pub returns-clause-tab_in_indentation : goal.returns-clause-tab_in_indentation
 returns-clause-tab_in_indentation c = tab_in_indentation
+
+pub returns-clause-tab_behind_question : goal.returns-clause-tab_behind_question
+returns-clause-tab_behind_question c = tab_behind_question
 
 pub returns-clause-entry_left : goal.returns-clause-entry_left
 returns-clause-entry_left c = entry_left

@@ -1,4 +1,4 @@
-use Rattle.saphyr_scanner.proofs.LayoutRefused.{comma_alone, comma_first, alias_key, colon_at_end, marker_inside, two_versions}
+use Rattle.saphyr_scanner.proofs.Examples.LayoutRefused.{comma_alone, comma_first, alias_key, colon_at_end, marker_inside, two_versions}
 use Rattle.saphyr_scanner.proofs.examples_law.refuses_near_misses.Goals as goal
 
 pub returns-clause-comma_alone : goal.returns-clause-comma_alone

@@ -1,5 +1,5 @@
-use Rattle.saphyr_scanner.proofs.NearMisses.{dash_and_blank, indicator_first, two_digits, comment_without_blank}
-use Rattle.saphyr_scanner.proofs.AliasAlone.{alias_alone}
+use Rattle.saphyr_scanner.proofs.Examples.NearMisses.{dash_and_blank, indicator_first, lone_colon, two_digits, comment_without_blank}
+use Rattle.saphyr_scanner.proofs.Examples.AliasAlone.{alias_alone}
 use Rattle.saphyr_scanner.proofs.examples_law.refuses_scalars.Goals as goal
 
 pub returns-clause-dash_and_blank : goal.returns-clause-dash_and_blank
@@ -16,3 +16,6 @@ returns-clause-comment_without_blank c = comment_without_blank
 
 pub returns-clause-alias_with_anchor : goal.returns-clause-alias_with_anchor
 returns-clause-alias_with_anchor c = alias_alone
+
+pub returns-clause-lone_colon : goal.returns-clause-lone_colon
+returns-clause-lone_colon c = lone_colon

@@ -1,6 +1,6 @@
 use Rattle.std.proofs.Common.{◌≡◌, length, false}
 use Rattle.saphyr_scalar.specs.Seen.{state}
-use Rattle.saphyr_scanner.specs.Gap as spec
+use Rattle.saphyr_scanner.specs.Steps.Gap as spec
 use Rattle.saphyr_scanner.proofs.gap.skip_spaces.Given as goal
 
 abbrev pub invariant-loop-space : goal.invariant-loop-space

@@ -1,6 +1,6 @@
 use Rattle.saphyr_scanner.proofs.ReadersCounted.{reader_ends}
-use Rattle.saphyr_scanner.proofs.TakingScalars.{Readers, quoted_laws}
-use Rattle.saphyr_scanner.proofs.TokenBound.{scan_few}
+use Rattle.saphyr_scanner.proofs.Sizes.Scalars.{Readers, quoted_laws}
+use Rattle.saphyr_scanner.proofs.Added.Bound.{scan_few}
 use Rattle.saphyr_scanner.proofs.law.bounds_tokens.Goals as goal
 
 pub returns : goal.returns
@@ -14,4 +14,6 @@ returns c =
       tag = c.takes_tag.ensures;
       directive = c.takes_directive.ensures;
     } in
-    scan_few readers (reader_ends c.reads_plain_values.ensures c.spells_each_quoted.ensures c.counts_each_block_scalar.ensures c.spells_each_anchor.ensures c.spells_each_tag.ensures c.spells_each_directive.ensures)
+    scan_few readers (reader_ends c.reads_plain_values.ensures c.spells_each_quoted.ensures
+    c.counts_each_block_scalar.ensures c.spells_each_anchor.ensures c.spells_each_tag.ensures
+    c.spells_each_directive.ensures)

@@ -1,5 +1,5 @@
-use Rattle.saphyr_scanner.proofs.TakingScalars.{Readers, quoted_laws}
-use Rattle.saphyr_scanner.proofs.StreamEnds.{scan_ends}
+use Rattle.saphyr_scanner.proofs.Sizes.Scalars.{Readers, quoted_laws}
+use Rattle.saphyr_scanner.proofs.Added.StreamEnds.{scan_ends}
 use Rattle.saphyr_scanner.proofs.law.ends_with_the_stream.Goals as goal
 
 pub returns : goal.returns

@@ -1,6 +1,6 @@
 use Rattle.std.proofs.Common.{arith, ◌++◌}
-use Rattle.saphyr_scanner.proofs.TakingScalars.{Readers, quoted_laws}
-use Rattle.saphyr_scanner.proofs.FlowStates.{Reads}
+use Rattle.saphyr_scanner.proofs.Sizes.Scalars.{Readers, quoted_laws}
+use Rattle.saphyr_scanner.proofs.Flow.States.{Reads}
 use Rattle.saphyr_scanner.proofs.InBlock.ScalarTexts.{ReadsBlocks}
 use Rattle.saphyr_scanner.proofs.InBlock.Closed.{closed_scans}
 use Rattle.saphyr_scanner.proofs.law.hands_out_markers.Goals as goal
@@ -27,7 +27,8 @@ returns c limit marker forest text others layout ends apart short small =
     } in
     let blocks : ReadsBlocks = record {
       reads = c.reads_each_block_scalar.ensures;
-      passes = λ style indent s t text span e f g. (c.places_each_block_scalar.ensures style indent s t text span e f g).0;
+      passes = λ style indent s t text span e f g.
+          (c.places_each_block_scalar.ensures style indent s t text span e f g).0;
       place = c.passes_to_one_place.ensures;
     } in
     let same = c.scans_breaks_alike.ensures limit (text ++ others) (omega (arith, short, small)) short in

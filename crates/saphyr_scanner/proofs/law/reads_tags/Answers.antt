@@ -1,4 +1,4 @@
-use Rattle.saphyr_scanner.proofs.TagExamples.{escaped}
+use Rattle.saphyr_scanner.proofs.Examples.Tags.{escaped}
 use Rattle.saphyr_scanner.proofs.law.reads_tags.Goals as goal
 
 pub returns : goal.returns

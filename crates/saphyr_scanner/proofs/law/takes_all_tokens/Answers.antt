@@ -3,10 +3,10 @@ use Rattle.saphyr_input.specs.Classes.{is_break}
 use Rattle.saphyr_scalar.specs.declared.reading.block.BlockStyle.{BlockStyle}
 use Rattle.saphyr_scalar.specs.declared.reading.block.BlockStyle.TheVariants as block_style
 use Rattle.saphyr_scanner.specs.TokensTaken.{block_indicator}
-use Rattle.saphyr_scanner.proofs.TakingScalars.{Readers, quoted_laws}
-use Rattle.saphyr_scanner.proofs.HeldScalars.{TextLaws}
-use Rattle.saphyr_scanner.proofs.RunTaken.{scan_taken}
-use Rattle.saphyr_scanner.proofs.Told.{RefusalLaws}
+use Rattle.saphyr_scanner.proofs.Sizes.Scalars.{Readers, quoted_laws}
+use Rattle.saphyr_scanner.proofs.Taken.Scalars.{TextLaws}
+use Rattle.saphyr_scanner.proofs.Taken.Run.{scan_taken}
+use Rattle.saphyr_scanner.proofs.Told.Refusals.{RefusalLaws}
 use Rattle.saphyr_scanner.proofs.law.takes_all_tokens.Goals as goal
 
 indicator_begins : (style : BlockStyle) → is_break (block_indicator style) ≡ false
@@ -33,9 +33,11 @@ returns c =
       plain = c.reads_plain_values.ensures;
       quotes = c.keeps_markers_out_of_quotes.ensures;
       ink = c.begins_plain_scalars_with_ink.ensures;
-      block_text = λ style indent s t text span e r. c.reads_block_texts.ensures style indent s t text span (ap is_break e ∙ indicator_begins style) (some_indicator style s.rest e) r;
+      block_text = λ style indent s t text span e r. c.reads_block_texts.ensures style indent s t text span
+          (ap is_break e ∙ indicator_begins style) (some_indicator style s.rest e) r;
       block_place = λ style indent s t text span e r.
-          let p = c.places_each_block_scalar.ensures style indent s t text span (ap is_break e ∙ indicator_begins style) (some_indicator style s.rest e) r in
+          let p = c.places_each_block_scalar.ensures style indent s t text span (ap is_break e ∙ indicator_begins style)
+          (some_indicator style s.rest e) r in
           record { passes = p.0; end = p.1; line = p.3 };
       name = c.spells_each_anchor.ensures;
       tag = c.spells_each_tag.ensures;

@@ -1,4 +1,4 @@
-use Rattle.saphyr_scanner.proofs.TakenExamples.{takes_brackets}
+use Rattle.saphyr_scanner.proofs.Examples.Taken.{takes_brackets}
 use Rattle.saphyr_scanner.proofs.law.takes_tokens.Goals as goal
 
 pub returns : goal.returns

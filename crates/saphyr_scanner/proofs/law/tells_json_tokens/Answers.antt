@@ -1,4 +1,4 @@
-use Rattle.saphyr_scanner.proofs.JsonYields.{json_yields}
+use Rattle.saphyr_scanner.proofs.Json.Yields.{json_yields}
 use Rattle.saphyr_scanner.proofs.law.tells_json_tokens.Goals as goal
 
 pub returns : goal.returns

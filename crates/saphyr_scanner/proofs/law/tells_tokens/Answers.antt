@@ -1,4 +1,4 @@
-use Rattle.saphyr_scanner.proofs.TokenExamples.{block_yields, json_yields}
+use Rattle.saphyr_scanner.proofs.Examples.Tokens.{block_yields, json_yields}
 use Rattle.saphyr_scanner.proofs.law.tells_tokens.Goals as goal
 
 pub returns-clause-flow : goal.returns-clause-flow

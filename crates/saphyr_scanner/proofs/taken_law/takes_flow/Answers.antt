@@ -1,4 +1,4 @@
-use Rattle.saphyr_scanner.proofs.TakenTexts.{takes_flow_mapping, takes_alias}
+use Rattle.saphyr_scanner.proofs.Examples.TakenTexts.{takes_flow_mapping, takes_alias}
 use Rattle.saphyr_scanner.proofs.taken_law.takes_flow.Goals as goal
 
 pub returns-clause-mapping : goal.returns-clause-mapping

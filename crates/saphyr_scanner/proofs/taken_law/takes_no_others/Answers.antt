@@ -1,4 +1,4 @@
-use Rattle.saphyr_scanner.proofs.TakenRefused.{dropped_word, other_value, other_start, place_behind}
+use Rattle.saphyr_scanner.proofs.Examples.TakenRefused.{dropped_word, other_value, other_start, place_behind}
 use Rattle.saphyr_scanner.proofs.Wrong.Places.{other_indentation}
 use Rattle.saphyr_scanner.proofs.taken_law.takes_no_others.Goals as goal
 

@@ -1,6 +1,6 @@
 use Rattle.std.proofs.Common.{◌≡◌, ◌++◌, map, take}
 use Rattle.std.specs.List.{flat_map}
-use Rattle.saphyr_parser.specs.EventSeen.{happening}
+use Rattle.saphyr_parser.specs.Views.Events.{happening}
 use Rattle.yaml_tree.specs.Unloading.{node_events, pair_events}
 use Rattle.tree_events.proofs.unloading.+pushing.Given as goal
 

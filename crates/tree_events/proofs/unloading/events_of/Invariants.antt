@@ -1,7 +1,7 @@
 use Rattle.std.proofs.Common.{◌≡◌, ◌∷◌, map, take}
 use Rattle.std.specs.List.{flat_map}
 use Rattle.saphyr_parser.specs.Events.{StreamStart}
-use Rattle.saphyr_parser.specs.EventSeen.{happening}
+use Rattle.saphyr_parser.specs.Views.Events.{happening}
 use Rattle.yaml_tree.specs.Unloading.{document_events}
 use Rattle.tree_events.proofs.unloading.events_of.Given as goal
 

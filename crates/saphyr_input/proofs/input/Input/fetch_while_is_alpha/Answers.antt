@@ -8,6 +8,8 @@ loop-c-preserved g c =
     let passes : class.is_alpha c.loop-c.c ≡ true = sym c.is_alpha.ensures.test ∙ c.loop-c-test.true in
     let next = c.look_ch-c-in-loop-c.ensures in
     record {
-      runs = runs_more class.is_alpha _ _ _ _ _ _ _ _ refl passes c.loop-c.invariant.runs (next.rest ∙ c.skip.ensures.rest) (rw next.rest next.value) (omega arith);
-      text = runs_text class.is_alpha _ _ _ _ _ _ _ _ refl passes c.loop-c.invariant.runs c.loop-c.invariant.text c.in_ok-push.ensures.bytes;
+      runs = runs_more class.is_alpha _ _ _ _ _ _ _ _ refl passes c.loop-c.invariant.runs
+          (next.rest ∙ c.skip.ensures.rest) (rw next.rest next.value) (omega arith);
+      text = runs_text class.is_alpha _ _ _ _ _ _ _ _ refl passes c.loop-c.invariant.runs c.loop-c.invariant.text
+          c.in_ok-push.ensures.bytes;
     }

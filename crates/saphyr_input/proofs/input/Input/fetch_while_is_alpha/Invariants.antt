@@ -5,7 +5,8 @@ use Rattle.saphyr_input.proofs.input.Input.fetch_while_is_alpha.Given as goal
 
 abbrev pub invariant-loop-c : goal.invariant-loop-c
 invariant-loop-c g l = record {
-  runs : Runs class.is_alpha (g.Self.Input.rest l.fn.self) (g.Self.Input.rest l.self) l.count l.c (g.Self.Input.loaded l.self);
+  runs : Runs class.is_alpha (g.Self.Input.rest l.fn.self) (g.Self.Input.rest l.self) l.count l.c
+      (g.Self.Input.loaded l.self);
   text : string_bytes l.out ≡ string_bytes l.fn.out ++ encode_utf8_all (take l.count (g.Self.Input.rest l.fn.self));
 }
 

@@ -5,9 +5,12 @@ use Rattle.saphyr_input.proofs.input.Input.fetch_while_is_yaml_non_space.Goals a
 
 pub loop-c-preserved : goal.loop-c-preserved
 loop-c-preserved g c =
-    let passes : class.is_yaml_non_space c.loop-c.c ≡ true = sym c.is_yaml_non_space.ensures.test ∙ c.loop-c-test.true in
+    let passes : class.is_yaml_non_space c.loop-c.c ≡ true = sym c.is_yaml_non_space.ensures.test
+    ∙ c.loop-c-test.true in
     let next = c.look_ch-c-in-loop-c.ensures in
     record {
-      runs = runs_more class.is_yaml_non_space _ _ _ _ _ _ _ _ refl passes c.loop-c.invariant.runs (next.rest ∙ c.skip.ensures.rest) (rw next.rest next.value) (omega arith);
-      text = runs_text class.is_yaml_non_space _ _ _ _ _ _ _ _ refl passes c.loop-c.invariant.runs c.loop-c.invariant.text c.in_ok-push.ensures.bytes;
+      runs = runs_more class.is_yaml_non_space _ _ _ _ _ _ _ _ refl passes c.loop-c.invariant.runs
+          (next.rest ∙ c.skip.ensures.rest) (rw next.rest next.value) (omega arith);
+      text = runs_text class.is_yaml_non_space _ _ _ _ _ _ _ _ refl passes c.loop-c.invariant.runs
+          c.loop-c.invariant.text c.in_ok-push.ensures.bytes;
     }

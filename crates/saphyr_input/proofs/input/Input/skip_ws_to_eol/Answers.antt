@@ -17,7 +17,9 @@ returns-clause-count g c =
     let runs = c.loop-skip_tabs.invariant.runs in
     let stops = sym c.skips.ensures ∙ c.loop-skip_tabs-test.false in
     elim c.if-c-eq35.branch [
-      | then-c-eq35+else-count-eq0 w ↦ w.count-is ∙ with_comment _ _ _ _ _ _ runs stops _ w.if-count-eq0.false w.if-c-eq35.true w.skip_while_non_breakz-count.ensures.count
+      | then-c-eq35+else-count-eq0 w ↦ w.count-is
+          ∙ with_comment _ _ _ _ _ _ runs stops _ w.if-count-eq0.false w.if-c-eq35.true
+          w.skip_while_non_breakz-count.ensures.count
       | else-c-eq35 w ↦ w.count-is ∙ without_comment _ _ _ _ _ _ runs stops w.if-c-eq35.false
     ]
 

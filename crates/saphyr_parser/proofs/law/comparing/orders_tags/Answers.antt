@@ -8,7 +8,7 @@ use Rattle.std.specs.Ordering.{nat_cmp, ordering_then}
 use Rattle.std.specs.declared.cmp.Ordering.{Ordering}
 use Rattle.std.specs.declared.cmp.Ordering.TheVariants.{Equal, Greater, Less}
 use Rattle.saphyr_parser.specs.Events.{ResolvedTag}
-use Rattle.saphyr_parser.specs.EventSeen.{resolved_tag}
+use Rattle.saphyr_parser.specs.Views.Events.{resolved_tag}
 use Rattle.saphyr_parser.proofs.law.comparing.orders_tags.Goals as goal
 
 itself : (xs : List ℕ) → slice_cmp nat_cmp xs xs ≡ Equal
@@ -20,7 +20,8 @@ both Less b h = absurd (cc)
 both Greater b h = absurd (cc)
 
 abbrev by_parts : ResolvedTag → ResolvedTag → Ordering
-by_parts one other = ordering_then (slice_cmp nat_cmp one.handle other.handle) (slice_cmp nat_cmp one.suffix other.suffix)
+by_parts one other = ordering_then (slice_cmp nat_cmp one.handle other.handle)
+    (slice_cmp nat_cmp one.suffix other.suffix)
 
 same_tag : (one other : ResolvedTag) → by_parts one other ≡ Equal → one ≡ other
 same_tag one other h =
@@ -31,11 +32,14 @@ same_tag one other h =
     ∙ ap (λ (x : List ℕ). let t : ResolvedTag = record { handle = other.handle; suffix = x } in t) suffix
 
 tag_itself : (tag : ResolvedTag) → by_parts tag tag ≡ Equal
-tag_itself tag = ap (λ (x : Ordering). ordering_then x (slice_cmp nat_cmp tag.suffix tag.suffix)) (itself tag.handle) ∙ itself tag.suffix
+tag_itself tag = ap (λ (x : Ordering). ordering_then x (slice_cmp nat_cmp tag.suffix tag.suffix)) (itself tag.handle)
+    ∙ itself tag.suffix
 
 pub returns-clause-equal : goal.returns-clause-equal
 returns-clause-equal c =
-    let order : c.cmp.result ≡ by_parts (resolved_tag c.args.one.now) (resolved_tag c.args.other.now) = search rules in (
+    let order : c.cmp.result ≡ by_parts (resolved_tag c.args.one.now) (resolved_tag c.args.other.now) =
+    search rules in (
       (λ h. same_tag _ _ (sym order ∙ h)),
-      (λ same. order ∙ subst (λ (t : ResolvedTag). by_parts (resolved_tag c.args.one.now) t ≡ Equal) same (tag_itself (resolved_tag c.args.one.now))),
+      (λ same. order ∙ subst (λ (t : ResolvedTag). by_parts (resolved_tag c.args.one.now) t ≡ Equal) same
+          (tag_itself (resolved_tag c.args.one.now))),
     )

@@ -1,9 +1,11 @@
 use Rattle.std.proofs.Common.{refl}
-use Rattle.saphyr_parser.proofs.Written.{loses_first, loses_second}
+use Rattle.saphyr_parser.proofs.Printed.Written.{loses_first, loses_second}
 use Rattle.saphyr_parser.proofs.printing.line.write_alias.Goals as goal
 
 pub returns-in_err-write_all : goal.returns-in_err-write_all
 returns-in_err-write_all g c = loses_first _ _ _ _ _ _ c.from_residual.ensures.0 c.in_err-write_all.ensures refl
 
 pub returns-in_err-write_number : goal.returns-in_err-write_number
-returns-in_err-write_number g c = loses_second _ _ _ _ _ _ _ _ c.from_residual-in_err-write_number.ensures.0 c.in_ok-write_all.ensures c.in_err-write_number.ensures refl
+returns-in_err-write_number g c =
+    loses_second _ _ _ _ _ _ _ _ c.from_residual-in_err-write_number.ensures.0 c.in_ok-write_all.ensures
+    c.in_err-write_number.ensures refl

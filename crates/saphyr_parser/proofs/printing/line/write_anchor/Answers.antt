@@ -1,7 +1,7 @@
 use Rattle.std.proofs.Common.{◌≡◌, ◌++◌, codes, rules}
 use Rattle.std.specs.Fmt.{decimal}
 use Rattle.saphyr_parser.specs.Printed.{anchor_text}
-use Rattle.saphyr_parser.proofs.Written.{loses_first}
+use Rattle.saphyr_parser.proofs.Printed.Written.{loses_first}
 use Rattle.saphyr_parser.proofs.printing.line.write_anchor.Goals as goal
 
 pub returns-in_err-write_all : goal.returns-in_err-write_all

@@ -1,4 +1,4 @@
-use Rattle.saphyr_parser.proofs.Running.{finished}
+use Rattle.saphyr_parser.proofs.Printed.Running.{finished}
 use Rattle.saphyr_parser.proofs.printing.run.print_text.Goals as goal
 
 pub returns : goal.returns

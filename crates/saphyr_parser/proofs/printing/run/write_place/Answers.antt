@@ -1,9 +1,12 @@
 use Rattle.std.proofs.Common.{refl}
-use Rattle.saphyr_parser.proofs.Written.{loses_first, loses_second}
+use Rattle.saphyr_parser.proofs.Printed.Written.{loses_first, loses_second}
 use Rattle.saphyr_parser.proofs.printing.run.write_place.Goals as goal
 
 pub returns-in_err-write_labelled : goal.returns-in_err-write_labelled
-returns-in_err-write_labelled g c = loses_first _ _ _ _ _ _ c.from_residual.ensures.0 c.in_err-write_labelled.ensures refl
+returns-in_err-write_labelled g c =
+    loses_first _ _ _ _ _ _ c.from_residual.ensures.0 c.in_err-write_labelled.ensures refl
 
 pub returns-in_err-write_labelled-2 : goal.returns-in_err-write_labelled-2
-returns-in_err-write_labelled-2 g c = loses_second _ _ _ _ _ _ _ _ c.from_residual-in_err-write_labelled-2.ensures.0 c.in_ok-write_labelled.ensures c.in_err-write_labelled-2.ensures refl
+returns-in_err-write_labelled-2 g c =
+    loses_second _ _ _ _ _ _ _ _ c.from_residual-in_err-write_labelled-2.ensures.0 c.in_ok-write_labelled.ensures
+    c.in_err-write_labelled-2.ensures refl

@@ -3,7 +3,8 @@ use Rattle.saphyr_parser.specs.Printed.{escaped}
 use Rattle.saphyr_parser.proofs.printing.writing.split_plain.Given as goal
 
 abbrev pub invariant-loop-count : goal.invariant-loop-count
-invariant-loop-count l = record { within : l.count ≤ length l.text; plain : escaped (take l.count l.text) ≡ take l.count l.text }
+invariant-loop-count l =
+    record { within : l.count ≤ length l.text; plain : escaped (take l.count l.text) ≡ take l.count l.text }
 
 abbrev pub decreases-loop-count : goal.decreases-loop-count
 decreases-loop-count l = length l.text - l.count

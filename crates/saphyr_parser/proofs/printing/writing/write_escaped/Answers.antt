@@ -1,21 +1,42 @@
 use Rattle.std.proofs.Common.{rules}
 use Rattle.saphyr_parser.specs.Printed.{escaped}
 use Rattle.saphyr_parser.specs.Written.{TakesSome, TakesUpTo}
-use Rattle.saphyr_parser.proofs.Escapes.{plain_written, plain_lost, escape_written, escape_lost}
+use Rattle.saphyr_parser.proofs.Printed.Escapes.{plain_written, plain_lost, escape_written, escape_lost}
 use Rattle.saphyr_parser.proofs.printing.writing.write_escaped.Goals as goal
 
 pub returns-in_err-write_all : goal.returns-in_err-write_all
 returns-in_err-write_all g c =
-    let lost : TakesSome (g.W.Write.contents c.args.out.now) (g.W.Write.contents c.write_all.new.out) (escaped c.args.text.now) = plain_lost (g.W.Write.contents c.args.out.now) (g.W.Write.contents c.loop-rest.out) (g.W.Write.contents c.write_all.new.out) c.args.text.now c.loop-rest.rest.now c.split_plain.result.0.now c.split_plain.result.1.now c.split_plain.ensures.text c.split_plain.ensures.plain c.loop-rest.invariant c.in_err-write_all.ensures in
+    let lost : TakesSome (g.W.Write.contents c.args.out.now) (g.W.Write.contents c.write_all.new.out)
+    (escaped c.args.text.now) =
+    plain_lost (g.W.Write.contents c.args.out.now) (g.W.Write.contents c.loop-rest.out)
+    (g.W.Write.contents c.write_all.new.out) c.args.text.now c.loop-rest.rest.now c.split_plain.result.0.now
+    c.split_plain.result.1.now c.split_plain.ensures.text c.split_plain.ensures.plain c.loop-rest.invariant
+    c.in_err-write_all.ensures in
     search rules
 
 pub returns-in_err-write_escape : goal.returns-in_err-write_escape
 returns-in_err-write_escape g c =
-    let written : TakesUpTo (g.W.Write.contents c.args.out.now) (g.W.Write.contents c.write_all.new.out) (escaped c.args.text.now) (escaped c.split_plain.result.1.now) = plain_written (g.W.Write.contents c.args.out.now) (g.W.Write.contents c.loop-rest.out) (g.W.Write.contents c.write_all.new.out) c.args.text.now c.loop-rest.rest.now c.split_plain.result.0.now c.split_plain.result.1.now c.split_plain.ensures.text c.split_plain.ensures.plain c.loop-rest.invariant c.in_ok-write_all.ensures in
-    let lost : TakesSome (g.W.Write.contents c.args.out.now) (g.W.Write.contents c.write_escape.new.out) (escaped c.args.text.now) = escape_lost (g.W.Write.contents c.args.out.now) (g.W.Write.contents c.write_all.new.out) (g.W.Write.contents c.write_escape.new.out) c.args.text.now c.split_plain.result.1.now c.in-Some.behind.now c.in-Some.byte.now c.in-Some.ensures.cases.0 written c.in_err-write_escape.ensures in
+    let written : TakesUpTo (g.W.Write.contents c.args.out.now) (g.W.Write.contents c.write_all.new.out)
+    (escaped c.args.text.now) (escaped c.split_plain.result.1.now) =
+    plain_written (g.W.Write.contents c.args.out.now) (g.W.Write.contents c.loop-rest.out)
+    (g.W.Write.contents c.write_all.new.out) c.args.text.now c.loop-rest.rest.now c.split_plain.result.0.now
+    c.split_plain.result.1.now c.split_plain.ensures.text c.split_plain.ensures.plain c.loop-rest.invariant
+    c.in_ok-write_all.ensures in
+    let lost : TakesSome (g.W.Write.contents c.args.out.now) (g.W.Write.contents c.write_escape.new.out)
+    (escaped c.args.text.now) =
+    escape_lost (g.W.Write.contents c.args.out.now) (g.W.Write.contents c.write_all.new.out)
+    (g.W.Write.contents c.write_escape.new.out) c.args.text.now c.split_plain.result.1.now c.in-Some.behind.now
+    c.in-Some.byte.now c.in-Some.ensures.cases.0 written c.in_err-write_escape.ensures in
     search rules
 
 pub loop-rest-preserved : goal.loop-rest-preserved
 loop-rest-preserved g c =
-    let written : TakesUpTo (g.W.Write.contents c.args.out.now) (g.W.Write.contents c.write_all.new.out) (escaped c.args.text.now) (escaped c.split_plain.result.1.now) = plain_written (g.W.Write.contents c.args.out.now) (g.W.Write.contents c.loop-rest.out) (g.W.Write.contents c.write_all.new.out) c.args.text.now c.loop-rest.rest.now c.split_plain.result.0.now c.split_plain.result.1.now c.split_plain.ensures.text c.split_plain.ensures.plain c.loop-rest.invariant c.in_ok-write_all.ensures in
-    escape_written (g.W.Write.contents c.args.out.now) (g.W.Write.contents c.write_all.new.out) (g.W.Write.contents c.write_escape.new.out) c.args.text.now c.split_plain.result.1.now c.in-Some.behind.now c.in-Some.byte.now c.in-Some.ensures.cases.0 written c.in_ok-write_escape.ensures
+    let written : TakesUpTo (g.W.Write.contents c.args.out.now) (g.W.Write.contents c.write_all.new.out)
+    (escaped c.args.text.now) (escaped c.split_plain.result.1.now) =
+    plain_written (g.W.Write.contents c.args.out.now) (g.W.Write.contents c.loop-rest.out)
+    (g.W.Write.contents c.write_all.new.out) c.args.text.now c.loop-rest.rest.now c.split_plain.result.0.now
+    c.split_plain.result.1.now c.split_plain.ensures.text c.split_plain.ensures.plain c.loop-rest.invariant
+    c.in_ok-write_all.ensures in
+    escape_written (g.W.Write.contents c.args.out.now) (g.W.Write.contents c.write_all.new.out)
+    (g.W.Write.contents c.write_escape.new.out) c.args.text.now c.split_plain.result.1.now c.in-Some.behind.now
+    c.in-Some.byte.now c.in-Some.ensures.cases.0 written c.in_ok-write_escape.ensures

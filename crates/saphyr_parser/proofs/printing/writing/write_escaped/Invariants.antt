@@ -4,7 +4,8 @@ use Rattle.saphyr_parser.specs.Written.{TakesUpTo}
 use Rattle.saphyr_parser.proofs.printing.writing.write_escaped.Given as goal
 
 abbrev pub invariant-loop-rest : goal.invariant-loop-rest
-invariant-loop-rest g l = TakesUpTo (g.W.Write.contents l.fn.out) (g.W.Write.contents l.out) (escaped l.text) (escaped l.rest)
+invariant-loop-rest g l =
+    TakesUpTo (g.W.Write.contents l.fn.out) (g.W.Write.contents l.out) (escaped l.text) (escaped l.rest)
 
 abbrev pub decreases-loop-rest : goal.decreases-loop-rest
 decreases-loop-rest g l = length l.rest

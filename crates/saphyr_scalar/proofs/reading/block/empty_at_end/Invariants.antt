@@ -4,7 +4,8 @@ use Rattle.saphyr_scalar.proofs.reading.block.empty_at_end.Given as goal
 
 abbrev pub invariant-loop-line : goal.invariant-loop-line
 invariant-loop-line l = record {
-  told : spec.empty_at_end l.count (spec.lines_of l.indentation l.lines) ≡ spec.empty_at_end 0 (spec.lines_of l.fn.indentation l.fn.lines);
+  told : spec.empty_at_end l.count (spec.lines_of l.indentation l.lines)
+      ≡ spec.empty_at_end 0 (spec.lines_of l.fn.indentation l.fn.lines);
   within : l.count + length l.lines ≤ length l.fn.lines;
 }
 

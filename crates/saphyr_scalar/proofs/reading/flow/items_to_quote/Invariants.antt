@@ -4,7 +4,8 @@ use Rattle.saphyr_scalar.specs.FlowReading as spec
 use Rattle.saphyr_scalar.proofs.reading.flow.items_to_quote.Given as goal
 
 abbrev pub invariant-loop-c : goal.invariant-loop-c
-invariant-loop-c l = option_map (λ more. l.items.items ++ more) (spec.items_to_quote l.quote 0 l.text) ≡ spec.items_to_quote l.fn.quote 0 l.fn.text
+invariant-loop-c l = option_map (λ more. l.items.items ++ more) (spec.items_to_quote l.quote 0 l.text)
+    ≡ spec.items_to_quote l.fn.quote 0 l.fn.text
 
 abbrev pub decreases-loop-c : goal.decreases-loop-c
 decreases-loop-c l = length l.text

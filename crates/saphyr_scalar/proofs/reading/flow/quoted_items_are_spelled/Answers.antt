@@ -1,5 +1,5 @@
-use Rattle.saphyr_scalar.proofs.SpellingsRead.{quoted_read}
-use Rattle.saphyr_scalar.proofs.ReadSpellings.{quoted_taken}
+use Rattle.saphyr_scalar.proofs.Quoted.SpellingsRead.{quoted_read}
+use Rattle.saphyr_scalar.proofs.Quoted.ReadSpellings.{quoted_taken}
 use Rattle.saphyr_scalar.proofs.reading.flow.quoted_items_are_spelled.Goals as goal
 
 pub returns : goal.returns

@@ -1,4 +1,4 @@
-use Rattle.saphyr_scalar.proofs.DirectivesSpelled.{spells_directive}
+use Rattle.saphyr_scalar.proofs.Directives.Spelled.{spells_directive}
 use Rattle.saphyr_scalar.proofs.scalar.directive_law.spells_each_directive.Goals as goal
 
 pub returns : goal.returns

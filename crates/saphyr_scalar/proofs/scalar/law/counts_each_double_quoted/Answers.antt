@@ -1,5 +1,5 @@
 use Rattle.saphyr_scalar.specs.declared.reading.flow.Quote.TheVariants.{Double}
-use Rattle.saphyr_scalar.proofs.Counted.{quoted_counts}
+use Rattle.saphyr_scalar.proofs.Quoted.Counted.{quoted_counts}
 use Rattle.saphyr_scalar.proofs.scalar.law.counts_each_double_quoted.Goals as goal
 
 pub returns : goal.returns

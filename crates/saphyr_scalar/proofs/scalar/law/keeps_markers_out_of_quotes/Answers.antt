@@ -1,4 +1,4 @@
-use Rattle.saphyr_scalar.proofs.SpelledLines.{quoted_clean}
+use Rattle.saphyr_scalar.proofs.Quoted.SpelledLines.{quoted_clean}
 use Rattle.saphyr_scalar.proofs.scalar.law.keeps_markers_out_of_quotes.Goals as goal
 
 pub returns : goal.returns

@@ -1,4 +1,4 @@
-use Rattle.saphyr_scalar.proofs.PlainWhite.{past_rest, past_index}
+use Rattle.saphyr_scalar.proofs.Plain.White.{past_rest, past_index}
 use Rattle.saphyr_scalar.proofs.scalar.law.passes_blanks_and_breaks.Goals as goal
 
 pub returns-clause-rest : goal.returns-clause-rest

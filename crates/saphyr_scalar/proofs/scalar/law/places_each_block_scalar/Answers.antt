@@ -1,4 +1,4 @@
-use Rattle.saphyr_scalar.proofs.PlacedBlocks.{block_scalar_placed}
+use Rattle.saphyr_scalar.proofs.Block.Placed.{block_scalar_placed}
 use Rattle.saphyr_scalar.proofs.scalar.law.places_each_block_scalar.Goals as goal
 
 pub returns : goal.returns

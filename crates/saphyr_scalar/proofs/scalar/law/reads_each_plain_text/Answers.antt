@@ -1,4 +1,4 @@
-use Rattle.saphyr_scalar.proofs.PlainTexts.{plain_text_read}
+use Rattle.saphyr_scalar.proofs.Plain.Texts.{plain_text_read}
 use Rattle.saphyr_scalar.proofs.scalar.law.reads_each_plain_text.Goals as goal
 
 pub returns : goal.returns

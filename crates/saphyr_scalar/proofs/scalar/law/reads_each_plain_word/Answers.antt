@@ -1,4 +1,4 @@
-use Rattle.saphyr_scalar.proofs.PlainWords.{plain_word_read}
+use Rattle.saphyr_scalar.proofs.Plain.OneWord.{plain_word_read}
 use Rattle.saphyr_scalar.proofs.scalar.law.reads_each_plain_word.Goals as goal
 
 pub returns : goal.returns

@@ -1,4 +1,4 @@
-use Rattle.saphyr_scalar.proofs.QuotedReads.{quoted_read}
+use Rattle.saphyr_scalar.proofs.Quoted.Reads.{quoted_read}
 use Rattle.saphyr_scalar.proofs.scalar.law.reads_each_quoted.Goals as goal
 
 pub returns : goal.returns

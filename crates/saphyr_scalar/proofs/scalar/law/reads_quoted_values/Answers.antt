@@ -1,4 +1,4 @@
-use Rattle.saphyr_scalar.proofs.QuotedPieces.{quoted_reading}
+use Rattle.saphyr_scalar.proofs.Quoted.Pieces.{quoted_reading}
 use Rattle.saphyr_scalar.proofs.scalar.law.reads_quoted_values.Goals as goal
 
 pub returns : goal.returns

@@ -1,4 +1,4 @@
-use Rattle.saphyr_scalar.proofs.QuotedPieces.{same_escape, same_count, same_scalar}
+use Rattle.saphyr_scalar.proofs.Quoted.Pieces.{same_escape, same_count, same_scalar}
 use Rattle.saphyr_scalar.proofs.scalar.law.reads_the_table_of_escapes.Goals as goal
 
 pub returns-clause-names : goal.returns-clause-names

@@ -1,4 +1,4 @@
-use Rattle.saphyr_scalar.proofs.SpelledLines.{quoted_spelled}
+use Rattle.saphyr_scalar.proofs.Quoted.SpelledLines.{quoted_spelled}
 use Rattle.saphyr_scalar.proofs.scalar.law.spells_each_quoted.Goals as goal
 
 pub returns : goal.returns

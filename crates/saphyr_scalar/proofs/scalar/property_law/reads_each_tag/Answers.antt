@@ -1,4 +1,4 @@
-use Rattle.saphyr_scalar.proofs.TagsRead.{reads_tag}
+use Rattle.saphyr_scalar.proofs.Properties.TagsRead.{reads_tag}
 use Rattle.saphyr_scalar.proofs.scalar.property_law.reads_each_tag.Goals as goal
 
 pub returns : goal.returns

@@ -1,7 +1,7 @@
 use Rattle.std.proofs.Common.{◌++◌, sym, ap, ◌∙◌, append_assoc, string_bytes, encode_utf8_all}
 use Rattle.std.specs.Prelude.{encode_utf8}
 use Rattle.saphyr_scalar.specs.Folding.{line_feeds}
-use Rattle.saphyr_scalar.proofs.QuotedLines.{one_more_feed}
+use Rattle.saphyr_scalar.proofs.Quoted.Lines.{one_more_feed}
 use Rattle.saphyr_scalar.proofs.scalar.quoted.push_folded_break.Goals as goal
 
 pub loop-preserved : goal.loop-preserved

@@ -3,4 +3,7 @@ use Rattle.saphyr_scalar.specs.Folding.{line_feeds}
 use Rattle.saphyr_scalar.proofs.scalar.quoted.push_folded_break.Given as goal
 
 abbrev pub invariant-loop : goal.invariant-loop
-invariant-loop l = record { text : string_bytes l.text ≡ string_bytes l.fn.text ++ encode_utf8_all (line_feeds l.counter) }
+invariant-loop l = record {
+  text : string_bytes l.text
+      ≡ string_bytes l.fn.text ++ encode_utf8_all (line_feeds l.counter);
+}

@@ -1,10 +1,11 @@
 use Rattle.std.proofs.Common.{sym, subst}
-use Rattle.saphyr_scanner.specs.Remaining.{remaining}
-use Rattle.saphyr_scanner.specs.State.{State}
+use Rattle.saphyr_scanner.specs.Steps.Remaining.{remaining}
+use Rattle.saphyr_scanner.specs.Steps.State.{State}
 use Rattle.saphyr_scanner.specs.TokensTaken.{AreTakenFrom}
 use Rattle.saphyr_scanner.proofs.scanner.Scanner.new.Goals as goal
 
 pub returns-clause-taken : goal.returns-clause-taken
 returns-clause-taken g c =
     let P : State → Type 0 = λ s. AreTakenFrom (g.T.Input.rest c.args.input) (remaining c.args.limit s) in
-    subst P (sym c.new.ensures.start) (c.takes_all_tokens.ensures c.args.limit (g.T.Input.rest c.args.input) c.new.ensures.countable)
+    subst P (sym c.new.ensures.start)
+    (c.takes_all_tokens.ensures c.args.limit (g.T.Input.rest c.args.input) c.new.ensures.countable)

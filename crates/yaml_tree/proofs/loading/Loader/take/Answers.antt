@@ -1,5 +1,5 @@
 use Rattle.std.proofs.Common.{◌≡◌, Err, rules}
-use Rattle.saphyr_parser.specs.EventSeen.{happening}
+use Rattle.saphyr_parser.specs.Views.Events.{happening}
 use Rattle.yaml_tree.proofs.Taking.{takes, exceeds}
 use Rattle.yaml_tree.proofs.loading.Loader.take.Goals as goal
 

@@ -8,6 +8,8 @@ pub overflow_add-result : goal.overflow_add-result
 overflow_add-result c =
     omega (
       arith,
-      two_runs_fit (is_skipped c.args.skip_tabs) is_yaml_non_break c.args.self.now.rest.now c.split_blanks.result.1.now c.split_blanks.result.0.count c.run-comment_len.result.0
-          (subst IsUtf8 c.as_bytes.ensures.value c.as_bytes.ensures.utf8) c.split_blanks.ensures.count c.split_blanks.ensures.rest c.run-comment_len.ensures.count,
+      two_runs_fit (is_skipped c.args.skip_tabs) is_yaml_non_break c.args.self.now.rest.now c.split_blanks.result.1.now
+          c.split_blanks.result.0.count c.run-comment_len.result.0
+          (subst IsUtf8 c.as_bytes.ensures.value c.as_bytes.ensures.utf8) c.split_blanks.ensures.count
+          c.split_blanks.ensures.rest c.run-comment_len.ensures.count,
     )

@@ -6,7 +6,8 @@ use Rattle.saphyr_input.proofs.input.str.text.ascii_len.Given as goal
 abbrev pub invariant-loop-len : goal.invariant-loop-len
 invariant-loop-len g l = record {
   within : l.len ≤ length l.bytes;
-  run : l.len + prefix_len (spec.ascii_in g.C.Class.test) (drop l.len l.bytes) ≡ prefix_len (spec.ascii_in g.C.Class.test) l.bytes;
+  run : l.len + prefix_len (spec.ascii_in g.C.CharSet.test) (drop l.len l.bytes)
+      ≡ prefix_len (spec.ascii_in g.C.CharSet.test) l.bytes;
 }
 
 abbrev pub decreases-loop-len : goal.decreases-loop-len

@@ -7,4 +7,5 @@ use Rattle.saphyr_input.proofs.input.str.text.first_byte.Goals as goal
 pub returns : goal.returns
 returns c =
     let byte : c.unwrap_or.result ≡ get_or c.args.text.now 0 0 = search rules in
-    subst (λ (b : ℕ). spec.StandsFor b (get_or (chars c.args.text.now) 0 0)) (sym byte) (first_stands c.args.text.now c.utf8.text)
+    subst (λ (b : ℕ). spec.StandsFor b (get_or (chars c.args.text.now) 0 0)) (sym byte)
+    (first_stands c.args.text.now c.utf8.text)

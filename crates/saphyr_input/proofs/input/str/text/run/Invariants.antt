@@ -8,9 +8,9 @@ use Rattle.saphyr_input.proofs.input.str.text.run.Given as goal
 abbrev pub invariant-loop-after : goal.invariant-loop-after
 invariant-loop-after g l = record {
   text : shadow (Utf8 l.rest);
-  run : l.count + prefix_len g.C.Class.test (chars l.rest) ≡ prefix_len g.C.Class.test (chars l.fn.text);
+  run : l.count + prefix_len g.C.CharSet.test (chars l.rest) ≡ prefix_len g.C.CharSet.test (chars l.fn.text);
   behind : chars l.rest ≡ drop l.count (chars l.fn.text);
 }
 
 abbrev pub decreases-loop-after : goal.decreases-loop-after
-decreases-loop-after g l = prefix_len g.C.Class.test (chars l.rest)
+decreases-loop-after g l = prefix_len g.C.CharSet.test (chars l.rest)

@@ -1,7 +1,7 @@
 use Rattle.std.proofs.Common.{refl, subst}
 use Rattle.saphyr_parser.specs.Cursor.{Cursor}
 use Rattle.saphyr_parser.specs.Calls.{Peeks}
-use Rattle.saphyr_parser.specs.ReaderSeen.{cursor}
+use Rattle.saphyr_parser.specs.Views.Readers.{cursor}
 use Rattle.saphyr_parser.proofs.Calls.Soundness.{peeks, sound_looks}
 use Rattle.saphyr_parser.proofs.parser.cursor.Parser.peek.Goals as goal
 
@@ -10,5 +10,12 @@ invariant_of-self g c = sound_looks _ _ c.look.ensures c.self.invariant
 
 pub returns : goal.returns
 returns g c =
-    let peeked = peeks _ (cursor c.look.new.self) c.shown.result c.self.invariant c.look.ensures c.shown.ensures in
-    ((refl, (λ _. tt), subst (λ (old : Cursor). Peeks old c.shown.result (cursor c.look.new.self)) c.self.view_is peeked), tt)
+    let peeked = peeks _ (cursor c.look.new.self) c.shown.result c.self.invariant c.look.ensures c.shown.ensures in (
+      (
+        refl,
+        (λ _. tt),
+        subst (λ (old : Cursor). Peeks old c.shown.result (cursor c.look.new.self)) c.self.view_is
+            peeked,
+      ),
+      tt,
+    )

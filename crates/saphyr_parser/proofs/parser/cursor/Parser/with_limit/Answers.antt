@@ -1,27 +1,37 @@
 use Rattle.std.proofs.Common.{ap, ◌∙◌, arith}
 use Rattle.saphyr_parser.specs.Cursor.{at_start}
-use Rattle.saphyr_parser.proofs.ClosedBeginnings.{reads_closed_layout}
-use Rattle.saphyr_parser.proofs.Completed.{completed}
-use Rattle.saphyr_parser.proofs.EventsTakenOf.{parser_takes}
-use Rattle.saphyr_parser.proofs.EventSpans.{parser_spans_in}
-use Rattle.saphyr_parser.proofs.ReadsEachText.{reads_text}
-use Rattle.saphyr_scanner.specs.Layout.{IsLayoutText, most_open}
+use Rattle.saphyr_parser.proofs.Promises.ClosedBeginnings.{reads_closed_layout}
+use Rattle.saphyr_parser.proofs.Promises.Texts.{completed}
+use Rattle.saphyr_parser.proofs.Promises.EventsTakenOf.{parser_takes}
+use Rattle.saphyr_parser.proofs.Spans.Events.{parser_spans_in}
+use Rattle.saphyr_parser.proofs.Promises.ReadsEachText.{reads_text}
+use Rattle.saphyr_scanner.specs.Grammar.Layout.{IsLayoutText, most_open}
 use Rattle.saphyr_parser.proofs.parser.cursor.Parser.with_limit.Goals as goal
 
-pub returns-clause-complete : goal.returns-clause-complete
-returns-clause-complete g c = completed c.scans_each_json.ensures c.gives_json.ensures.parser _ _ _ (c.new-2.ensures ∙ ap at_start c.new.ensures.tokens)
+pub returns-clause-json : goal.returns-clause-json
+returns-clause-json g c =
+    completed c.scans_each_json.ensures c.gives_json.ensures.parser _ _ _
+    (c.new-2.ensures ∙ ap at_start c.new.ensures.tokens)
 
 pub returns-clause-spans : goal.returns-clause-spans
-returns-clause-spans g c = parser_spans_in _ c.new.result _ c.new-2.ensures c.new.ensures.spans (let t = c.new.ensures.taken in c.places_taken_tokens.ensures _ _ t.0 t.1)
+returns-clause-spans g c =
+    parser_spans_in _ c.new.result _ c.new-2.ensures c.new.ensures.spans
+    (let t = c.new.ensures.taken in c.places_taken_tokens.ensures _ _ t.0 t.1)
 
 pub returns-clause-taken : goal.returns-clause-taken
-returns-clause-taken g c = λ few. parser_takes c.takes_all_events.ensures _ _ c.new.result _ c.new-2.ensures c.new.ensures.tokens c.new.ensures.taken (c.ends_with_the_stream.ensures _ _) (c.bounds_tokens.ensures _ _) few
+returns-clause-taken g c =
+    λ few. parser_takes c.takes_all_events.ensures _ _ c.new.result _ c.new-2.ensures c.new.ensures.tokens
+    c.new.ensures.taken (c.ends_with_the_stream.ensures _ _) (c.bounds_tokens.ensures _ _) few
 
 pub returns-clause-layout : goal.returns-clause-layout
 returns-clause-layout g c = λ few.
-    reads_text (IsLayoutText most_open) _ _ few (c.bounds_tokens.ensures _ _) (λ forest layout short. c.scans_each_layout_text.ensures _ forest _ layout short (omega (arith, few))) _ (c.new-2.ensures ∙ ap at_start c.new.ensures.tokens)
+    reads_text (IsLayoutText most_open) _ _ few (c.bounds_tokens.ensures _ _)
+    (λ forest layout short. c.scans_each_layout_text.ensures _ forest _ layout short (omega (arith, few))) _
+    (c.new-2.ensures ∙ ap at_start c.new.ensures.tokens)
 
 pub returns-clause-closed : goal.returns-clause-closed
 returns-clause-closed g c = λ few.
-    reads_closed_layout _ few (λ text. c.bounds_tokens.ensures _ text) (λ marker forest text others layout ends apart short. c.hands_out_markers.ensures _ marker forest text others layout ends apart short (omega (arith, few))) _ _
+    reads_closed_layout _ few (λ text. c.bounds_tokens.ensures _ text)
+    (λ marker forest text others layout ends apart short. c.hands_out_markers.ensures _ marker forest text others
+    layout ends apart short (omega (arith, few))) _ _
     (c.new-2.ensures ∙ ap at_start c.new.ensures.tokens)

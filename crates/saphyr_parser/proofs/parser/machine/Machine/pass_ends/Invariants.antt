@@ -1,6 +1,6 @@
 use Rattle.std.proofs.Common.{◌≡◌, length}
-use Rattle.saphyr_parser.specs.DocumentSteps.{pass, is_end_or_mark}
-use Rattle.saphyr_parser.specs.Seen.{machine_of}
+use Rattle.saphyr_parser.specs.Steps.Documents.{pass, is_end_or_mark}
+use Rattle.saphyr_parser.specs.Views.Machines.{machine_of}
 use Rattle.saphyr_parser.proofs.parser.machine.Machine.pass_ends.Given as goal
 
 abbrev pub invariant-loop-token : goal.invariant-loop-token

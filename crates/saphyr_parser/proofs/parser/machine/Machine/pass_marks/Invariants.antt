@@ -1,6 +1,6 @@
 use Rattle.std.proofs.Common.{◌≡◌, length}
-use Rattle.saphyr_parser.specs.DocumentSteps.{pass, is_mark}
-use Rattle.saphyr_parser.specs.Seen.{machine_of}
+use Rattle.saphyr_parser.specs.Steps.Documents.{pass, is_mark}
+use Rattle.saphyr_parser.specs.Views.Machines.{machine_of}
 use Rattle.saphyr_parser.proofs.parser.machine.Machine.pass_marks.Given as goal
 
 abbrev pub invariant-loop-token : goal.invariant-loop-token

@@ -6,8 +6,10 @@ use Rattle.saphyr_parser.proofs.parser.machine.Machine.try_clone.Goals as goal
 
 pub returns : goal.returns
 returns g c =
-    let tokens = ahead_copied c.in_ok-copy_token.field-0 c.args.self.now.token c.in_ok-try_clone.field-0 c.args.self.now.scanner c.in_ok-copy_token.ensures c.in_ok-try_clone.ensures in
-    let states = ap (λ (states : List State). reverse states) (c.in_ok-from_slice.ensures.items ∙ c.deref.ensures.value) in
+    let tokens = ahead_copied c.in_ok-copy_token.field-0 c.args.self.now.token c.in_ok-try_clone.field-0
+    c.args.self.now.scanner c.in_ok-copy_token.ensures c.in_ok-try_clone.ensures in
+    let states = ap (λ (states : List State). reverse states)
+    (c.in_ok-from_slice.ensures.items ∙ c.deref.ensures.value) in
     λ i. record {
       tokens = tokens i;
       state = c.args.self.now.state;

@@ -1,6 +1,6 @@
 use Rattle.std.proofs.Common.{◌∙◌, ap, List, ℕ, Some}
 use Rattle.std.specs.Prelude.{option_map, string_bytes}
-use Rattle.saphyr_parser.specs.Machine.{Names, meaning}
+use Rattle.saphyr_parser.specs.Steps.Machine.{Names, meaning}
 use Rattle.saphyr_parser.proofs.Names.{texts_meaning}
 use Rattle.saphyr_parser.proofs.parser.prefixes.Prefixes.prefix_of.Goals as goal
 

@@ -1,4 +1,4 @@
-use Rattle.saphyr_scalar.proofs.BlockLaw.{values_of_lines}
+use Rattle.saphyr_scalar.proofs.Block.Law.{values_of_lines}
 use Rattle.saphyr_scalar.proofs.scalar.block.law.reads_values_of_lines.Goals as goal
 
 pub returns : goal.returns

@@ -2,29 +2,33 @@ use Rattle.std.proofs.Common.{◌≡◌, Bool, true, false, ◌++◌, string_byt
 use Rattle.saphyr_scalar.specs.Cursor.{Cursor}
 use Rattle.saphyr_scalar.specs.Plain as spec
 use Rattle.saphyr_scalar.specs.Seen.{state}
-use Rattle.saphyr_scalar.proofs.Plains.{GapMoved, gap_of, word_moved_of, gap_refused, turn_refused, no_turn, turn, turn_goes, turn_shorter, goes_says, moved_at, plain_starts, plain_refused, no_plain, first_goes, no_text, moves_refused, moves_failed}
-use Rattle.saphyr_scalar.proofs.SingleSpaces.{stays, space_gap, space_passed}
+use Rattle.saphyr_scalar.proofs.Plain.Pieces.{GapMoved, gap_of, gap_refused, turn_refused, no_turn, turn, turn_goes, turn_shorter, goes_says, plain_starts, plain_refused, no_plain, first_goes, no_text, moves_refused, moves_failed}
 use Rattle.saphyr_scalar.proofs.scalar.reader.Reader.read_plain.Goals as goal
 
 pub returns-in_err-plain_word_starts : goal.returns-in_err-plain_word_starts
 returns-in_err-plain_word_starts g c =
-    moves_refused _ _ _ _ c.from_residual.ensures.1 (plain_refused c.args.in_flow c.args.indent (state c.args.self.now) _ c.in_err-plain_word_starts.ensures)
+    moves_refused _ _ _ _ c.from_residual.ensures.1
+    (plain_refused c.args.in_flow c.args.indent (state c.args.self.now) _ c.in_err-plain_word_starts.ensures)
 
 pub returns-then-not-branch : goal.returns-then-not-branch
 returns-then-not-branch g c =
     let f = c.args.in_flow in
     let s = state c.args.self.now in
     let there = state c.plain_word_starts.new.self in
-    no_plain f c.args.indent s there (subst (λ (b : Bool). spec.word_starts f s ≡ Ok (b, there)) c.if-not-branch.true c.in_ok-plain_word_starts.ensures)
+    no_plain f c.args.indent s there
+    (subst (λ (b : Bool). spec.word_starts f s ≡ Ok (b, there)) c.if-not-branch.true
+    c.in_ok-plain_word_starts.ensures)
 
 pub loop-gap-init : goal.loop-gap-init
 loop-gap-init g c =
     let f = c.args.in_flow in
     let s = state c.args.self.now in
     let there = state c.plain_word_starts.new.self in
-    let starts : spec.word_starts f s ≡ Ok (true, there) = subst (λ (b : Bool). spec.word_starts f s ≡ Ok (b, there)) c.if-not-branch.false c.in_ok-plain_word_starts.ensures in
+    let starts : spec.word_starts f s ≡ Ok (true, there) = subst (λ (b : Bool). spec.word_starts f s ≡ Ok (b, there))
+    c.if-not-branch.false c.in_ok-plain_word_starts.ensures in
     record {
-      same = ap (λ b. spec.with_text b (spec.word f c.args.indent s.mark there.mark there.rest)) c.in_ok-text.ensures.bytes
+      same = ap (λ b. spec.with_text b (spec.word f c.args.indent s.mark there.mark there.rest))
+          c.in_ok-text.ensures.bytes
           ∙ no_text _ ∙ sym (plain_starts f c.args.indent s there starts);
       goes = first_goes f s there starts;
     }
@@ -35,12 +39,9 @@ returns-in_err-tabbed g c =
     let i = c.args.indent in
     let start = c.args.self.now.mark in
     let here = state c.loop-gap.self in
-    let end = state c.read_plain_word.new.self in
-    let space = state c.skip_single_space.new.self in
-    let same = stays end space c.skip_single_space.result c.skip_single_space.ensures.state c.if-skip_single_space.false in
-    let word = word_moved_of f (string_bytes c.loop-gap.text) (string_bytes c.read_plain_word.new.text) here end c.in_ok-read_plain_word.ensures in
-    moves_failed _ _ _ (spec.gap i start space) _ c.from_residual-in_err-tabbed.ensures.1 c.in_err-tabbed.ensures
-    (λ r h. sym c.loop-gap.invariant.same ∙ gap_refused f i start _ _ here end r word (ap (spec.gap i start) (sym same) ∙ h))
+    let end = state c.read_plain_words.new.self in
+    moves_failed _ _ _ (spec.gap i start end) _ c.from_residual-in_err-tabbed.ensures.1 c.in_err-tabbed.ensures
+    (λ r h. sym c.loop-gap.invariant.same ∙ gap_refused f i start _ _ here end r c.in_ok-read_plain_words.ensures h)
 
 pub returns-in_err-plain_goes_on : goal.returns-in_err-plain_goes_on
 returns-in_err-plain_goes_on g c =
@@ -48,13 +49,14 @@ returns-in_err-plain_goes_on g c =
     let i = c.args.indent in
     let start = c.args.self.now.mark in
     let here = state c.loop-gap.self in
-    let end = state c.read_plain_word.new.self in
-    let same = stays end (state c.skip_single_space.new.self) c.skip_single_space.result c.skip_single_space.ensures.state c.if-skip_single_space.false in
+    let end = state c.read_plain_words.new.self in
     let behind = state c.read_plain_gap.new.self in
-    let gap = gap_of (spec.gap_text behind.blank_so_far (string_bytes c.read_plain_gap.new.gap)) c.in_ok-tabbed.tabbed behind in
-    let moved : GapMoved f i start (string_bytes c.loop-gap.text) (string_bytes c.read_plain_word.new.text) here end gap = record {
-      moved = word_moved_of f _ _ here end c.in_ok-read_plain_word.ensures;
-      is = ap (spec.gap i start) (sym same) ∙ c.in_ok-tabbed.ensures;
+    let gap = gap_of (spec.gap_text behind.blank_so_far (string_bytes c.read_plain_gap.new.gap)) c.in_ok-tabbed.tabbed
+    behind in
+    let moved : GapMoved f i start (string_bytes c.loop-gap.text) (string_bytes c.read_plain_words.new.text) here end
+    gap = record {
+      moved = c.in_ok-read_plain_words.ensures;
+      is = c.in_ok-tabbed.ensures;
     } in
     moves_refused _ _ _ _ c.from_residual-in_err-plain_goes_on.ensures.1
     (sym c.loop-gap.invariant.same ∙ turn_refused f i start _ _ here end gap _ moved c.in_err-plain_goes_on.ensures)
@@ -65,17 +67,18 @@ returns-then-not-branch-2 g c =
     let i = c.args.indent in
     let start = c.args.self.now.mark in
     let here = state c.loop-gap.self in
-    let end = state c.read_plain_word.new.self in
-    let same = stays end (state c.skip_single_space.new.self) c.skip_single_space.result c.skip_single_space.ensures.state c.if-skip_single_space.false in
+    let end = state c.read_plain_words.new.self in
     let behind = state c.read_plain_gap.new.self in
     let there = state c.plain_goes_on.new.self in
-    let gap = gap_of (spec.gap_text behind.blank_so_far (string_bytes c.read_plain_gap.new.gap)) c.in_ok-tabbed.tabbed behind in
-    let grown = string_bytes c.read_plain_word.new.text in
+    let gap = gap_of (spec.gap_text behind.blank_so_far (string_bytes c.read_plain_gap.new.gap)) c.in_ok-tabbed.tabbed
+    behind in
+    let grown = string_bytes c.read_plain_words.new.text in
     let moved : GapMoved f i start (string_bytes c.loop-gap.text) grown here end gap = record {
-      moved = word_moved_of f _ _ here end c.in_ok-read_plain_word.ensures;
-      is = ap (spec.gap i start) (sym same) ∙ c.in_ok-tabbed.ensures;
+      moved = c.in_ok-read_plain_words.ensures;
+      is = c.in_ok-tabbed.ensures;
     } in
-    let over : spec.goes_on f i behind ≡ Ok (false, there) = subst (λ (b : Bool). spec.goes_on f i behind ≡ Ok (b, there)) c.if-not-branch-2.true c.in_ok-plain_goes_on.ensures in
+    let over : spec.goes_on f i behind ≡ Ok (false, there) = subst
+    (λ (b : Bool). spec.goes_on f i behind ≡ Ok (b, there)) c.if-not-branch-2.true c.in_ok-plain_goes_on.ensures in
     sym c.loop-gap.invariant.same ∙ no_turn f i start _ grown here end gap there moved over
     ∙ ap (λ x. Ok (grown, end.mark, x, there)) (sym c.plain_comment-comment.ensures.value)
     ∙ ap (λ x. Ok (grown, end.mark, c.plain_comment-comment.result, x)) (sym c.plain_comment-comment.ensures.same)
@@ -86,16 +89,18 @@ loop-gap-smaller g c =
     let i = c.args.indent in
     let start = c.args.self.now.mark in
     let here = state c.loop-gap.self in
-    let end = state c.read_plain_word.new.self in
-    let same = stays end (state c.skip_single_space.new.self) c.skip_single_space.result c.skip_single_space.ensures.state c.if-skip_single_space.false in
+    let end = state c.read_plain_words.new.self in
     let behind = state c.read_plain_gap.new.self in
     let there = state c.plain_goes_on.new.self in
-    let gap = gap_of (spec.gap_text behind.blank_so_far (string_bytes c.read_plain_gap.new.gap)) c.in_ok-tabbed.tabbed behind in
-    let moved : GapMoved f i start (string_bytes c.loop-gap.text) (string_bytes c.read_plain_word.new.text) here end gap = record {
-      moved = word_moved_of f _ _ here end c.in_ok-read_plain_word.ensures;
-      is = ap (spec.gap i start) (sym same) ∙ c.in_ok-tabbed.ensures;
+    let gap = gap_of (spec.gap_text behind.blank_so_far (string_bytes c.read_plain_gap.new.gap)) c.in_ok-tabbed.tabbed
+    behind in
+    let moved : GapMoved f i start (string_bytes c.loop-gap.text) (string_bytes c.read_plain_words.new.text) here end
+    gap = record {
+      moved = c.in_ok-read_plain_words.ensures;
+      is = c.in_ok-tabbed.ensures;
     } in
-    let goes : spec.goes_on f i behind ≡ Ok (true, there) = subst (λ (b : Bool). spec.goes_on f i behind ≡ Ok (b, there)) c.if-not-branch-2.false c.in_ok-plain_goes_on.ensures in
+    let goes : spec.goes_on f i behind ≡ Ok (true, there) = subst
+    (λ (b : Bool). spec.goes_on f i behind ≡ Ok (b, there)) c.if-not-branch-2.false c.in_ok-plain_goes_on.ensures in
     turn_shorter f i start _ _ here end gap there c.loop-gap.invariant.goes moved goes
 
 pub loop-gap-preserved : goal.loop-gap-preserved
@@ -104,47 +109,22 @@ loop-gap-preserved g c =
     let i = c.args.indent in
     let start = c.args.self.now.mark in
     let here = state c.loop-gap.self in
-    let end = state c.read_plain_word.new.self in
-    let same = stays end (state c.skip_single_space.new.self) c.skip_single_space.result c.skip_single_space.ensures.state c.if-skip_single_space.false in
+    let end = state c.read_plain_words.new.self in
     let behind = state c.read_plain_gap.new.self in
     let there = state c.plain_goes_on.new.self in
-    let gap = gap_of (spec.gap_text behind.blank_so_far (string_bytes c.read_plain_gap.new.gap)) c.in_ok-tabbed.tabbed behind in
-    let grown = string_bytes c.read_plain_word.new.text in
+    let gap = gap_of (spec.gap_text behind.blank_so_far (string_bytes c.read_plain_gap.new.gap)) c.in_ok-tabbed.tabbed
+    behind in
+    let grown = string_bytes c.read_plain_words.new.text in
     let moved : GapMoved f i start (string_bytes c.loop-gap.text) grown here end gap = record {
-      moved = word_moved_of f _ _ here end c.in_ok-read_plain_word.ensures;
-      is = ap (spec.gap i start) (sym same) ∙ c.in_ok-tabbed.ensures;
+      moved = c.in_ok-read_plain_words.ensures;
+      is = c.in_ok-tabbed.ensures;
     } in
-    let goes : spec.goes_on f i behind ≡ Ok (true, there) = subst (λ (b : Bool). spec.goes_on f i behind ≡ Ok (b, there)) c.if-not-branch-2.false c.in_ok-plain_goes_on.ensures in
+    let goes : spec.goes_on f i behind ≡ Ok (true, there) = subst
+    (λ (b : Bool). spec.goes_on f i behind ≡ Ok (b, there)) c.if-not-branch-2.false c.in_ok-plain_goes_on.ensures in
     let joined = c.in_ok-push_gap.ensures ∙ ap (λ b. grown ++ spec.gap_text there.blank_so_far b) c.as_str.ensures.value
-    ∙ ap (λ (x : Cursor). grown ++ spec.gap_text x.blank_so_far (string_bytes c.read_plain_gap.new.gap)) (goes_says f i true behind there goes).same in
+    ∙ ap (λ (x : Cursor). grown ++ spec.gap_text x.blank_so_far (string_bytes c.read_plain_gap.new.gap))
+    (goes_says f i true behind there goes).same in
     record {
       same = turn f i start _ grown _ here end gap there moved goes joined ∙ c.loop-gap.invariant.same;
       goes = turn_goes f i gap there goes;
-    }
-
-pub loop-gap-smaller-then-skip_single_space : goal.loop-gap-smaller-then-skip_single_space
-loop-gap-smaller-then-skip_single_space g c =
-    let f = c.args.in_flow in
-    let i = c.args.indent in
-    let start = c.args.self.now.mark in
-    let here = state c.loop-gap.self in
-    let end = state c.read_plain_word.new.self in
-    let there = state c.skip_single_space.new.self in
-    let word = word_moved_of f (string_bytes c.loop-gap.text) (string_bytes c.read_plain_word.new.text) here end c.in_ok-read_plain_word.ensures in
-    let passed = space_passed f i start _ _ here end there c.skip_single_space.result word (moved_at f _ _ here end word) c.skip_single_space.ensures.value c.skip_single_space.ensures.state c.if-skip_single_space.true in
-    turn_shorter f i start _ _ here end _ there c.loop-gap.invariant.goes passed.gap passed.goes
-
-pub loop-gap-preserved-then-skip_single_space : goal.loop-gap-preserved-then-skip_single_space
-loop-gap-preserved-then-skip_single_space g c =
-    let f = c.args.in_flow in
-    let i = c.args.indent in
-    let start = c.args.self.now.mark in
-    let here = state c.loop-gap.self in
-    let end = state c.read_plain_word.new.self in
-    let there = state c.skip_single_space.new.self in
-    let word = word_moved_of f (string_bytes c.loop-gap.text) (string_bytes c.read_plain_word.new.text) here end c.in_ok-read_plain_word.ensures in
-    let passed = space_passed f i start _ _ here end there c.skip_single_space.result word (moved_at f _ _ here end word) c.skip_single_space.ensures.value c.skip_single_space.ensures.state c.if-skip_single_space.true in
-    record {
-      same = turn f i start _ _ _ here end _ there passed.gap passed.goes c.in_ok-push.ensures.bytes ∙ c.loop-gap.invariant.same;
-      goes = turn_goes f i (space_gap end) there passed.goes;
     }

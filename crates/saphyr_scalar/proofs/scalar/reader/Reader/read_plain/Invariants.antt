@@ -5,7 +5,8 @@ use Rattle.saphyr_scalar.proofs.scalar.reader.Reader.read_plain.Given as goal
 
 abbrev pub invariant-loop-gap : goal.invariant-loop-gap
 invariant-loop-gap g l = record {
-  same : with_text (string_bytes l.text) (word l.in_flow l.indent l.start (state l.self).mark (state l.self).rest) ≡ plain l.in_flow l.indent (state l.fn.self);
+  same : with_text (string_bytes l.text) (word l.in_flow l.indent l.start (state l.self).mark (state l.self).rest)
+      ≡ plain l.in_flow l.indent (state l.fn.self);
   goes : in_word l.in_flow (state l.self).rest ≡ true;
 }
 

@@ -1,8 +1,8 @@
 use Rattle.std.proofs.Common.{◌≡◌, true, slice_index, string_bytes, refl, sym, ap, ◌∙◌}
 use Rattle.saphyr_input.specs.Classes.{is_break}
 use Rattle.saphyr_scalar.specs.Seen.{state}
-use Rattle.saphyr_scalar.proofs.PlainGaps.{gap_read}
-use Rattle.saphyr_scalar.proofs.QuotedGaps.{moved_on}
+use Rattle.saphyr_scalar.proofs.Plain.Gaps.{gap_read}
+use Rattle.saphyr_scalar.proofs.Quoted.Gaps.{moved_on}
 use Rattle.saphyr_scalar.proofs.scalar.reader.Reader.read_plain_gap.Goals as goal
 
 pub returns : goal.returns
@@ -11,7 +11,11 @@ returns g c =
     let here = state a.self.now in
     let behind = state c.read_blanks.new.self in
     let blanks = string_bytes c.read_blanks.new.text in
-    let moved = moved_on blanks here here behind (string_bytes c.clear.new.self) refl c.clear.ensures.bytes c.in_ok-read_blanks.ensures in
-    let breaks : is_break (slice_index behind.rest 0) ≡ true = ap is_break (sym c.look.ensures.value) ∙ sym c.is_break.ensures.test ∙ c.if-not-is_break.false in
-    gap_read a.indent a.start blanks (string_bytes c.clear-2.new.self) (string_bytes c.skip_empty_lines.new.feeds) here behind (state c.look.new.self) (state c.skip_line_break.new.self) (state c.skip_empty_lines.new.self)
-    c.skip_empty_lines.result moved c.look.ensures.same breaks c.skip_line_break.ensures c.clear-2.ensures.bytes c.skip_empty_lines.ensures
+    let moved = moved_on blanks here here behind (string_bytes c.clear.new.self) refl c.clear.ensures.bytes
+    c.in_ok-read_blanks.ensures in
+    let breaks : is_break (slice_index behind.rest 0) ≡ true = ap is_break (sym c.look.ensures.value)
+    ∙ sym c.is_break.ensures.test ∙ c.if-not-is_break.false in
+    gap_read a.indent a.start blanks (string_bytes c.clear-2.new.self) (string_bytes c.skip_empty_lines.new.feeds) here
+    behind (state c.look.new.self) (state c.skip_line_break.new.self) (state c.skip_empty_lines.new.self)
+    c.skip_empty_lines.result moved c.look.ensures.same breaks c.skip_line_break.ensures c.clear-2.ensures.bytes
+    c.skip_empty_lines.ensures

@@ -3,8 +3,8 @@ use Rattle.saphyr_scalar.specs.Cursor.{Cursor}
 use Rattle.saphyr_scalar.specs.FlowReading as flow
 use Rattle.saphyr_scalar.specs.Quoted as spec
 use Rattle.saphyr_scalar.specs.Seen.{state}
-use Rattle.saphyr_scalar.proofs.Quoting.{no_front}
-use Rattle.saphyr_scalar.proofs.QuotedGaps.{quote_closes}
+use Rattle.saphyr_scalar.proofs.Quoted.Inside.{no_front}
+use Rattle.saphyr_scalar.proofs.Quoted.Gaps.{quote_closes}
 use Rattle.saphyr_scalar.proofs.scalar.reader.Reader.read_quoted.Goals as goal
 
 pub loop-blanks-init : goal.loop-blanks-init
@@ -13,8 +13,10 @@ loop-blanks-init g c =
     let a = c.args in
     let start = a.self.now.mark in
     let there = state c.skip_non_blank.new.self in
-    ap (λ b. spec.with_front b (spec.inside_at a.quote a.indent start spec.no_gap (state c.look.new.self))) c.in_ok-text.ensures.bytes
-    ∙ no_front (spec.inside_at a.quote a.indent start spec.no_gap (state c.look.new.self)) ∙ ap (spec.inside_at a.quote a.indent start spec.no_gap) (c.look.ensures.same ∙ c.skip_non_blank.ensures)
+    ap (λ b. spec.with_front b (spec.inside_at a.quote a.indent start spec.no_gap (state c.look.new.self)))
+    c.in_ok-text.ensures.bytes
+    ∙ no_front (spec.inside_at a.quote a.indent start spec.no_gap (state c.look.new.self))
+    ∙ ap (spec.inside_at a.quote a.indent start spec.no_gap) (c.look.ensures.same ∙ c.skip_non_blank.ensures)
 
 pub returns : goal.returns
 returns g c =
@@ -24,8 +26,11 @@ returns g c =
     let here = state c.look-in-loop-blanks.new.self in
     let text = string_bytes c.read_quoted_word.new.text in
     let same : here ≡ word = c.look-in-loop-blanks.ensures.same in
-    let ended : IsTrue (spec.ends_word a.quote here.rest) = subst (λ (s : Cursor). IsTrue (spec.ends_word a.quote s.rest)) (sym same) c.in_ok-read_quoted_word.ensures.ended in
-    let quote : slice_index here.rest 0 ≡ flow.mark a.quote = ap (λ (s : Cursor). slice_index s.rest 0) same ∙ sym c.look-in-loop-blanks.ensures.value ∙ c.if-look-mark.true ∙ c.mark-in-loop-blanks.ensures in
-    sym (ap (λ x. spec.with_front text (spec.inside_at a.quote a.indent start spec.no_gap x)) same ∙ c.in_ok-read_quoted_word.ensures.same a.indent ∙ c.loop-blanks.invariant)
+    let ended : IsTrue (spec.ends_word a.quote here.rest) = subst
+    (λ (s : Cursor). IsTrue (spec.ends_word a.quote s.rest)) (sym same) c.in_ok-read_quoted_word.ensures.ended in
+    let quote : slice_index here.rest 0 ≡ flow.mark a.quote = ap (λ (s : Cursor). slice_index s.rest 0) same
+    ∙ sym c.look-in-loop-blanks.ensures.value ∙ c.if-look-mark.true ∙ c.mark-in-loop-blanks.ensures in
+    sym (ap (λ x. spec.with_front text (spec.inside_at a.quote a.indent start spec.no_gap x)) same
+    ∙ c.in_ok-read_quoted_word.ensures.same a.indent ∙ c.loop-blanks.invariant)
     ∙ quote_closes a.quote a.indent start text here ended quote
     ∙ ap (λ s. let r : spec.TextRead = Ok (text, s) in r) (sym c.skip_non_blank-2.ensures)

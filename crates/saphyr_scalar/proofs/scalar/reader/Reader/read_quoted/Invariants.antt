@@ -4,7 +4,9 @@ use Rattle.saphyr_scalar.specs.Seen.{state}
 use Rattle.saphyr_scalar.proofs.scalar.reader.Reader.read_quoted.Given as goal
 
 abbrev pub invariant-loop-blanks : goal.invariant-loop-blanks
-invariant-loop-blanks g l = with_front (string_bytes l.text) (inside_at l.fn.quote l.fn.indent l.start no_gap (state l.self)) ≡ quoted l.fn.quote l.fn.indent (state l.fn.self)
+invariant-loop-blanks g l =
+    with_front (string_bytes l.text) (inside_at l.fn.quote l.fn.indent l.start no_gap (state l.self))
+    ≡ quoted l.fn.quote l.fn.indent (state l.fn.self)
 
 abbrev pub decreases-loop-blanks : goal.decreases-loop-blanks
 decreases-loop-blanks g l = length (state l.self).rest

@@ -2,8 +2,9 @@ use Rattle.std.proofs.Common.{◌≡◌, true, false, ◌++◌, slice_index, str
 use Rattle.saphyr_input.specs.Classes as class
 use Rattle.saphyr_scalar.specs.Quoted as spec
 use Rattle.saphyr_scalar.specs.Seen.{state}
-use Rattle.saphyr_scalar.proofs.QuotedGaps.{moved_on, blanks_to_break, blanks_to_end, blanks_to_word, reads_from, nul_of}
+use Rattle.saphyr_scalar.proofs.Quoted.Gaps.{moved_on, blanks_to_break, blanks_to_end, blanks_to_word, reads_from}
 use Rattle.saphyr_scalar.proofs.scalar.reader.Reader.read_quoted_gap.Goals as goal
+use Rattle.saphyr_input.proofs.Basics.Characters.{z_is_nul}
 
 pub returns-then-is_break-clause-same : goal.returns-then-is_break-clause-same
 returns-then-is_break-clause-same g c =
@@ -12,9 +13,12 @@ returns-then-is_break-clause-same g c =
     let blanks = state c.read_blanks.new.self in
     let there = state c.look-c.new.self in
     let grown = string_bytes c.read_blanks.new.text in
-    let moved = moved_on grown here (state c.look.new.self) blanks (string_bytes c.clear.new.self) c.look.ensures.same c.clear.ensures.bytes c.in_ok-read_blanks.ensures in
-    let breaks : class.is_break (slice_index blanks.rest 0) ≡ true = ap class.is_break (sym c.look-c.ensures.value) ∙ sym c.is_break.ensures.test ∙ c.if-is_break.true in
-    let line = blanks_to_break a.quote a.indent a.start (string_bytes a.text.now) grown here blanks there (state c.skip_line_break.new.self) moved c.look-c.ensures.same breaks c.skip_line_break.ensures in
+    let moved = moved_on grown here (state c.look.new.self) blanks (string_bytes c.clear.new.self) c.look.ensures.same
+    c.clear.ensures.bytes c.in_ok-read_blanks.ensures in
+    let breaks : class.is_break (slice_index blanks.rest 0) ≡ true =
+    ap class.is_break (sym c.look-c.ensures.value) ∙ sym c.is_break.ensures.test ∙ c.if-is_break.true in
+    let line = blanks_to_break a.quote a.indent a.start (string_bytes a.text.now) grown here blanks there
+    (state c.skip_line_break.new.self) moved c.look-c.ensures.same breaks c.skip_line_break.ensures in
     reads_from c.read_quoted_lines.result _ _ _ line (c.read_quoted_lines.ensures.same a.quote)
 
 pub returns-then-is_z-clause-same : goal.returns-then-is_z-clause-same
@@ -24,9 +28,12 @@ returns-then-is_z-clause-same g c =
     let blanks = state c.read_blanks.new.self in
     let there = state c.look-c.new.self in
     let grown = string_bytes c.read_blanks.new.text in
-    let moved = moved_on grown here (state c.look.new.self) blanks (string_bytes c.clear.new.self) c.look.ensures.same c.clear.ensures.bytes c.in_ok-read_blanks.ensures in
-    let ends : class.is_z (slice_index blanks.rest 0) ≡ true = ap class.is_z (sym c.look-c.ensures.value) ∙ sym c.is_z.ensures.test ∙ c.if-is_z.true in
-    blanks_to_end a.quote a.indent a.start (string_bytes a.text.now) grown here blanks moved (nul_of (slice_index blanks.rest 0) ends)
+    let moved = moved_on grown here (state c.look.new.self) blanks (string_bytes c.clear.new.self) c.look.ensures.same
+    c.clear.ensures.bytes c.in_ok-read_blanks.ensures in
+    let ends : class.is_z (slice_index blanks.rest 0) ≡ true = ap class.is_z (sym c.look-c.ensures.value)
+    ∙ sym c.is_z.ensures.test ∙ c.if-is_z.true in
+    blanks_to_end a.quote a.indent a.start (string_bytes a.text.now) grown here blanks moved
+    (z_is_nul (slice_index blanks.rest 0) ends)
 
 pub returns-clause-same : goal.returns-clause-same
 returns-clause-same g c =
@@ -35,8 +42,13 @@ returns-clause-same g c =
     let blanks = state c.read_blanks.new.self in
     let there = state c.look-c.new.self in
     let grown = string_bytes c.read_blanks.new.text in
-    let moved = moved_on grown here (state c.look.new.self) blanks (string_bytes c.clear.new.self) c.look.ensures.same c.clear.ensures.bytes c.in_ok-read_blanks.ensures in
-    let goes : class.is_break (slice_index blanks.rest 0) ≡ false = ap class.is_break (sym c.look-c.ensures.value) ∙ sym c.is_break.ensures.test ∙ c.if-is_break.false in
-    let some : class.is_z (slice_index blanks.rest 0) ≡ false = ap class.is_z (sym c.look-c.ensures.value) ∙ sym c.is_z.ensures.test ∙ c.if-is_z.false in
-    ap (λ b. spec.with_front b (spec.inside_at a.quote a.indent a.start spec.no_gap there)) (c.in_ok-push_str.ensures.bytes ∙ ap (λ b. string_bytes a.text.now ++ b) c.as_str.ensures.value)
-    ∙ blanks_to_word a.quote a.indent a.start (string_bytes a.text.now) grown here blanks there moved c.look-c.ensures.same goes some
+    let moved = moved_on grown here (state c.look.new.self) blanks (string_bytes c.clear.new.self) c.look.ensures.same
+    c.clear.ensures.bytes c.in_ok-read_blanks.ensures in
+    let goes : class.is_break (slice_index blanks.rest 0) ≡ false =
+    ap class.is_break (sym c.look-c.ensures.value) ∙ sym c.is_break.ensures.test ∙ c.if-is_break.false in
+    let some : class.is_z (slice_index blanks.rest 0) ≡ false = ap class.is_z (sym c.look-c.ensures.value)
+    ∙ sym c.is_z.ensures.test ∙ c.if-is_z.false in
+    ap (λ b. spec.with_front b (spec.inside_at a.quote a.indent a.start spec.no_gap there))
+    (c.in_ok-push_str.ensures.bytes ∙ ap (λ b. string_bytes a.text.now ++ b) c.as_str.ensures.value)
+    ∙ blanks_to_word a.quote a.indent a.start (string_bytes a.text.now) grown here blanks there moved
+    c.look-c.ensures.same goes some

@@ -3,8 +3,8 @@ use Rattle.saphyr_scalar.specs.Cursor.{Cursor}
 use Rattle.saphyr_scalar.specs.Quoted as spec
 use Rattle.saphyr_scalar.specs.Seen.{state}
 use Rattle.saphyr_scalar.specs.declared.reading.flow.Quote.TheVariants.{Double}
-use Rattle.saphyr_scalar.proofs.Quoting.{reads_refused}
-use Rattle.saphyr_scalar.proofs.QuotedLines.{begins_word, begins_refused}
+use Rattle.saphyr_scalar.proofs.Quoted.Inside.{reads_refused}
+use Rattle.saphyr_scalar.proofs.Quoted.Lines.{begins_word, begins_refused}
 use Rattle.saphyr_scalar.proofs.scalar.reader.Reader.read_quoted_lines.Goals as goal
 
 pub returns-in_err-begin_quoted_word-clause-same : goal.returns-in_err-begin_quoted_word-clause-same
@@ -12,8 +12,11 @@ returns-in_err-begin_quoted_word-clause-same g c = λ quote.
     let a = c.args in
     let lines = c.in_ok-empty_lines in
     let refusal = c.in_err-begin_quoted_word.field-0.0 in
-    let refused = begins_refused quote a.indent a.start a.escaped lines.empty_lines (string_bytes a.text.now) (state c.skip_quoted_lines.new.self) refusal lines.ensures.no_blank lines.ensures.no_break c.in_err-begin_quoted_word.ensures in
-    reads_refused c.from_residual-in_err-begin_quoted_word.result _ _ refusal c.from_residual-in_err-begin_quoted_word.ensures.1
+    let refused = begins_refused quote a.indent a.start a.escaped lines.empty_lines (string_bytes a.text.now)
+    (state c.skip_quoted_lines.new.self) refusal lines.ensures.no_blank lines.ensures.no_break
+    c.in_err-begin_quoted_word.ensures in
+    reads_refused c.from_residual-in_err-begin_quoted_word.result _ _ refusal
+    c.from_residual-in_err-begin_quoted_word.ensures.1
     (sym (ap (spec.with_front (string_bytes a.text.now)) (lines.ensures.same quote a.start a.escaped)) ∙ refused)
 
 pub returns-clause-same : goal.returns-clause-same
@@ -21,13 +24,18 @@ returns-clause-same g c = λ quote.
     let a = c.args in
     let lines = c.in_ok-empty_lines in
     let there = state c.begin_quoted_word.new.self in
-    let word = begins_word quote a.indent a.start a.escaped lines.empty_lines (string_bytes a.text.now) (state c.skip_quoted_lines.new.self) there lines.ensures.no_blank lines.ensures.no_break c.in_ok-begin_quoted_word.ensures in
-    ap (λ b. spec.with_front b (spec.inside_at quote a.indent a.start spec.no_gap there)) c.in_ok-push_folded_break.ensures
+    let word = begins_word quote a.indent a.start a.escaped lines.empty_lines (string_bytes a.text.now)
+    (state c.skip_quoted_lines.new.self) there lines.ensures.no_blank lines.ensures.no_break
+    c.in_ok-begin_quoted_word.ensures in
+    ap (λ b. spec.with_front b (spec.inside_at quote a.indent a.start spec.no_gap there))
+    c.in_ok-push_folded_break.ensures
     ∙ word.1 ∙ ap (spec.with_front (string_bytes a.text.now)) (lines.ensures.same quote a.start a.escaped)
 
 pub returns-clause-shorter : goal.returns-clause-shorter
 returns-clause-shorter g c =
     let a = c.args in
     let lines = c.in_ok-empty_lines in
-    let word = begins_word Double a.indent a.start a.escaped lines.empty_lines (string_bytes a.text.now) (state c.skip_quoted_lines.new.self) (state c.begin_quoted_word.new.self) lines.ensures.no_blank lines.ensures.no_break c.in_ok-begin_quoted_word.ensures in
+    let word = begins_word Double a.indent a.start a.escaped lines.empty_lines (string_bytes a.text.now)
+    (state c.skip_quoted_lines.new.self) (state c.begin_quoted_word.new.self) lines.ensures.no_blank
+    lines.ensures.no_break c.in_ok-begin_quoted_word.ensures in
     omega (arith, ap (λ (s : Cursor). length s.rest) word.0, lines.ensures.shorter)

@@ -5,7 +5,8 @@ use Rattle.saphyr_scalar.proofs.scalar.reader.Reader.read_quoted_word.Given as g
 
 abbrev pub invariant-loop-self : goal.invariant-loop-self
 invariant-loop-self g l = record {
-  same : (indent : ℕ) → with_front (string_bytes l.text) (inside_at l.fn.quote indent l.fn.start no_gap (state l.self)) ≡ with_front (string_bytes l.fn.text) (inside_at l.fn.quote indent l.fn.start no_gap (state l.fn.self));
+  same : (indent : ℕ) → with_front (string_bytes l.text) (inside_at l.fn.quote indent l.fn.start no_gap (state l.self))
+      ≡ with_front (string_bytes l.fn.text) (inside_at l.fn.quote indent l.fn.start no_gap (state l.fn.self));
   shorter : length (state l.self).rest ≤ length (state l.fn.self).rest;
 }
 

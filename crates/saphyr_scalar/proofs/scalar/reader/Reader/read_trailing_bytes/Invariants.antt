@@ -5,6 +5,7 @@ use Rattle.saphyr_scalar.proofs.scalar.reader.Reader.read_trailing_bytes.Given a
 
 abbrev pub invariant-loop : goal.invariant-loop
 invariant-loop g l = record {
-  same : trailing_bytes l.fn.start (l.fn.count - l.counter) l.value (state l.self) ≡ trailing_bytes l.fn.start l.fn.count l.fn.bits (state l.fn.self);
+  same : trailing_bytes l.fn.start (l.fn.count - l.counter) l.value (state l.self)
+      ≡ trailing_bytes l.fn.start l.fn.count l.fn.bits (state l.fn.self);
   below : l.value < 256 * 64 ^ l.counter;
 }

@@ -1,49 +1,92 @@
-use Rattle.std.proofs.Common.{◌≡◌, true, false, length, slice_index, string_bytes, sym, ap, ◌∙◌, arith}
-use Rattle.saphyr_scalar.specs.Cursor.{Cursor}
+use Rattle.std.proofs.Common.{◌≡◌, ◌≤◌, false, length, length-drop, slice_index, string_bytes, sym, ap, ◌∙◌, arith}
+use Rattle.saphyr_scalar.specs.Cursor.{Cursor, along}
 use Rattle.saphyr_scalar.specs.Quoted.{with_front}
 use Rattle.saphyr_scalar.specs.Tag as spec
 use Rattle.saphyr_scalar.specs.Seen.{state}
-use Rattle.saphyr_scalar.proofs.Plains.{moves_refused}
-use Rattle.saphyr_scalar.proofs.PercentEscapes.{has_left, character_on, character_refused, character_shorter, characters_end}
+use Rattle.saphyr_scalar.proofs.Plain.Pieces.{moves_refused}
+use Rattle.saphyr_scalar.proofs.Properties.BareCharacters.{bare_moved, bare_stops, bare_shorter, escape_in_set, escape_is_character}
+use Rattle.saphyr_scalar.proofs.Properties.PercentEscapes.{has_left, character_on, character_refused, character_shorter, characters_end}
 use Rattle.saphyr_scalar.proofs.scalar.reader.Reader.read_uri_characters.Goals as goal
 
 pub returns-in_err-c : goal.returns-in_err-c
 returns-in_err-c g c =
+    let set = c.args.set in
+    let start = c.args.start in
     let here = state c.look.new.self in
-    let same : here ≡ state c.loop-set.self = c.look.ensures.same in
-    let in_set : spec.has c.args.set (slice_index here.rest 0) ≡ true =
-    ap (λ (s : Cursor). spec.has c.args.set (slice_index s.rest 0)) same ∙ ap (spec.has c.args.set) (sym c.look.ensures.value) ∙ sym c.has.ensures ∙ c.loop-set-test.true in
+    let same = c.look.ensures.same in
+    let grown = string_bytes c.fetch_bare_characters.new.text in
+    let moved = bare_moved set start _ _ c.in_ok-count.count (state c.loop-count.self)
+    (g.T.Input.rest c.fetch_bare_characters.new.self.input) c.along-self.result c.in_ok-count.ensures.run
+    (c.along-self.ensures ∙ ap (λ m. along m c.in_ok-count.count) c.fetch_bare_characters.ensures.mark) in
+    let reached = ap (λ (s : Cursor). with_front grown (spec.decoded_at set start s)) same ∙ moved
+    ∙ c.loop-count.invariant in
+    let escape : slice_index here.rest 0 ≡ 37 = ap (λ (s : Cursor). slice_index s.rest 0) same
+    ∙ sym c.look.ensures.value ∙ c.if-look-ne37.false in
+    let in_set = escape_in_set set (slice_index here.rest 0) escape in
     let refusal = c.in_err-c.field-0.0 in
-    moves_refused _ _ _ refusal c.from_residual.ensures.1
-    (sym c.loop-set.invariant ∙ sym (ap (λ s. with_front (string_bytes c.loop-set.text) (spec.decoded_at c.args.set c.args.start s)) same)
-    ∙ character_refused c.args.set c.args.start (string_bytes c.loop-set.text) here refusal in_set c.in_err-c.ensures)
+    moves_refused _ _ _ refusal c.from_residual-in_err-c.ensures.1
+    (sym reached ∙ character_refused set start grown here refusal in_set
+    (escape_is_character start here escape ∙ c.in_err-c.ensures))
 
-pub loop-set-smaller : goal.loop-set-smaller
-loop-set-smaller g c =
+pub loop-count-smaller : goal.loop-count-smaller
+loop-count-smaller g c =
+    let set = c.args.set in
+    let start = c.args.start in
     let here = state c.look.new.self in
-    let same : here ≡ state c.loop-set.self = c.look.ensures.same in
-    let in_set : spec.has c.args.set (slice_index here.rest 0) ≡ true =
-    ap (λ (s : Cursor). spec.has c.args.set (slice_index s.rest 0)) same ∙ ap (spec.has c.args.set) (sym c.look.ensures.value) ∙ sym c.has.ensures ∙ c.loop-set-test.true in
-    let less = character_shorter c.args.start here (state c.read_uri_character.new.self) c.in_ok-c.c (has_left c.args.set here.rest in_set) c.in_ok-c.ensures in
-    omega (arith, less, ap (λ (s : Cursor). length s.rest) same)
+    let same = c.look.ensures.same in
+    let grown = string_bytes c.fetch_bare_characters.new.text in
+    let moved = bare_moved set start _ _ c.in_ok-count.count (state c.loop-count.self)
+    (g.T.Input.rest c.fetch_bare_characters.new.self.input) c.along-self.result c.in_ok-count.ensures.run
+    (c.along-self.ensures ∙ ap (λ m. along m c.in_ok-count.count) c.fetch_bare_characters.ensures.mark) in
+    let reached = ap (λ (s : Cursor). with_front grown (spec.decoded_at set start s)) same ∙ moved
+    ∙ c.loop-count.invariant in
+    let escape : slice_index here.rest 0 ≡ 37 = ap (λ (s : Cursor). slice_index s.rest 0) same
+    ∙ sym c.look.ensures.value ∙ c.if-look-ne37.false in
+    let in_set = escape_in_set set (slice_index here.rest 0) escape in
+    let less = character_shorter start here (state c.read_percent_escape.new.self) c.in_ok-c.c
+    (has_left set here.rest in_set) (escape_is_character start here escape ∙ c.in_ok-c.ensures) in
+    omega (
+      arith,
+      less,
+      ap (λ (s : Cursor). length s.rest) same,
+      bare_shorter set _ _ c.in_ok-count.count _ _
+          c.in_ok-count.ensures.run,
+    )
 
-pub loop-set-preserved : goal.loop-set-preserved
-loop-set-preserved g c =
+pub loop-count-preserved : goal.loop-count-preserved
+loop-count-preserved g c =
+    let set = c.args.set in
+    let start = c.args.start in
     let here = state c.look.new.self in
-    let same : here ≡ state c.loop-set.self = c.look.ensures.same in
-    let in_set : spec.has c.args.set (slice_index here.rest 0) ≡ true =
-    ap (λ (s : Cursor). spec.has c.args.set (slice_index s.rest 0)) same ∙ ap (spec.has c.args.set) (sym c.look.ensures.value) ∙ sym c.has.ensures ∙ c.loop-set-test.true in
-    let there = state c.read_uri_character.new.self in
-    ap (λ b. with_front b (spec.decoded_at c.args.set c.args.start there)) c.in_ok-push.ensures.bytes
-    ∙ character_on c.args.set c.args.start (string_bytes c.loop-set.text) here there c.in_ok-c.c in_set c.in_ok-c.ensures
-    ∙ ap (λ s. with_front (string_bytes c.loop-set.text) (spec.decoded_at c.args.set c.args.start s)) same
-    ∙ c.loop-set.invariant
+    let same = c.look.ensures.same in
+    let grown = string_bytes c.fetch_bare_characters.new.text in
+    let moved = bare_moved set start _ _ c.in_ok-count.count (state c.loop-count.self)
+    (g.T.Input.rest c.fetch_bare_characters.new.self.input) c.along-self.result c.in_ok-count.ensures.run
+    (c.along-self.ensures ∙ ap (λ m. along m c.in_ok-count.count) c.fetch_bare_characters.ensures.mark) in
+    let reached = ap (λ (s : Cursor). with_front grown (spec.decoded_at set start s)) same ∙ moved
+    ∙ c.loop-count.invariant in
+    let escape : slice_index here.rest 0 ≡ 37 = ap (λ (s : Cursor). slice_index s.rest 0) same
+    ∙ sym c.look.ensures.value ∙ c.if-look-ne37.false in
+    let in_set = escape_in_set set (slice_index here.rest 0) escape in
+    let there = state c.read_percent_escape.new.self in
+    ap (λ b. with_front b (spec.decoded_at set start there)) c.in_ok-push.ensures.bytes
+    ∙ character_on set start grown here there c.in_ok-c.c in_set
+    (escape_is_character start here escape ∙ c.in_ok-c.ensures) ∙ reached
 
 pub returns : goal.returns
 returns g c =
+    let set = c.args.set in
+    let start = c.args.start in
     let here = state c.look.new.self in
-    let same : here ≡ state c.loop-set.self = c.look.ensures.same in
-    let ends : spec.has c.args.set (slice_index here.rest 0) ≡ false =
-    ap (λ (s : Cursor). spec.has c.args.set (slice_index s.rest 0)) same ∙ ap (spec.has c.args.set) (sym c.look.ensures.value) ∙ sym c.has.ensures ∙ c.loop-set-test.false in
-    sym c.loop-set.invariant ∙ sym (ap (λ s. with_front (string_bytes c.loop-set.text) (spec.decoded_at c.args.set c.args.start s)) same)
-    ∙ characters_end c.args.set c.args.start (string_bytes c.loop-set.text) here ends
+    let same = c.look.ensures.same in
+    let grown = string_bytes c.fetch_bare_characters.new.text in
+    let moved = bare_moved set start _ _ c.in_ok-count.count (state c.loop-count.self)
+    (g.T.Input.rest c.fetch_bare_characters.new.self.input) c.along-self.result c.in_ok-count.ensures.run
+    (c.along-self.ensures ∙ ap (λ m. along m c.in_ok-count.count) c.fetch_bare_characters.ensures.mark) in
+    let reached = ap (λ (s : Cursor). with_front grown (spec.decoded_at set start s)) same ∙ moved
+    ∙ c.loop-count.invariant in
+    let ends : spec.has set (slice_index here.rest 0) ≡ false =
+    ap (λ (s : Cursor). spec.has set (slice_index s.rest 0)) same
+    ∙ bare_stops set _ _ c.in_ok-count.count _ _ c.in_ok-count.ensures.run
+    (λ is. c.if-look-ne37.true (c.look.ensures.value ∙ is)) in
+    sym reached ∙ characters_end set start grown here ends

@@ -4,9 +4,10 @@ use Rattle.saphyr_scalar.specs.Tag.{decoded_at}
 use Rattle.saphyr_scalar.specs.Seen.{state}
 use Rattle.saphyr_scalar.proofs.scalar.reader.Reader.read_uri_characters.Given as goal
 
-abbrev pub invariant-loop-set : goal.invariant-loop-set
-invariant-loop-set g l =
-    with_front (string_bytes l.text) (decoded_at l.set l.start (state l.self)) ≡ with_front (string_bytes l.fn.text) (decoded_at l.set l.start (state l.fn.self))
+abbrev pub invariant-loop-count : goal.invariant-loop-count
+invariant-loop-count g l =
+    with_front (string_bytes l.text) (decoded_at l.set l.start (state l.self))
+    ≡ with_front (string_bytes l.fn.text) (decoded_at l.set l.start (state l.fn.self))
 
-abbrev pub decreases-loop-set : goal.decreases-loop-set
-decreases-loop-set g l = length (state l.self).rest
+abbrev pub decreases-loop-count : goal.decreases-loop-count
+decreases-loop-count g l = length (state l.self).rest

@@ -1,31 +1,45 @@
-use Rattle.std.proofs.Common.{sym, ap, ◌∙◌, arith}
-use Rattle.saphyr_scalar.specs.Cursor as cursor
+use Rattle.std.proofs.Common.{◌≡◌, false, sym, ap, ◌∙◌, arith}
+use Rattle.saphyr_scalar.specs.Cursor.{Cursor}
+use Rattle.saphyr_scalar.specs.BlockScalar.{is_indentation}
 use Rattle.saphyr_scalar.specs.Seen.{state}
-use Rattle.saphyr_scalar.proofs.BlockLines.{break_turn, space_turn, end_turn, break_index}
+use Rattle.saphyr_scalar.proofs.SpaceRuns.{empty_over, none_left}
+use Rattle.saphyr_scalar.proofs.Block.Lines.{break_turn, end_turn, break_index}
 use Rattle.saphyr_scalar.proofs.scalar.reader.Reader.skip_empty_block_lines.Goals as goal
 
-pub loop-c-preserved-then-is_break : goal.loop-c-preserved-then-is_break
-loop-c-preserved-then-is_break g c =
-    let s = state c.loop-c.self in
-    let here = state c.look-c.new.self in
-    let test = sym c.is_break.ensures.test ∙ c.if-is_break.true in
+pub loop-limit-preserved : goal.loop-limit-preserved
+loop-limit-preserved g c =
+    let limit = c.args.limit in
+    let lines = c.loop-limit.lines in
+    let s = state c.loop-limit.self in
+    let spaced = state c.skip_spaces.new.self in
+    let here = state c.look.new.self in
+    let t = state c.skip_line_break.new.self in
+    let test = sym c.is_break.ensures.test ∙ c.if-not-is_break.false in
+    let left = c.indentation_left-left.result in
     record {
-      same = break_turn c.args.limit c.loop-c.lines s here (state c.skip_line_break.new.self) c.look-c.result c.max.result c.look-c.ensures.same c.look-c.ensures.value test c.max.ensures c.skip_line_break.ensures ∙ c.loop-c.invariant.same;
-      few = break_index s here (state c.skip_line_break.new.self) c.look-c.result c.loop-c.lines.count c.look-c.ensures.same c.look-c.ensures.value test c.skip_line_break.ensures c.loop-c.invariant.few;
-    }
-
-pub loop-c-preserved : goal.loop-c-preserved
-loop-c-preserved g c =
-    let s = state c.loop-c.self in
-    let here = state c.look-c.new.self in
-    record {
-      same = space_turn c.args.limit c.loop-c.lines s here (state c.skip_blank.new.self) c.look-c.result c.look-c.ensures.same c.look-c.ensures.value (sym c.is_indentation.ensures ∙ c.if-not-is_indentation.false) c.skip_blank.ensures ∙ c.loop-c.invariant.same;
-      few = omega (arith, ap (λ (x : cursor.Cursor). x.mark.index) c.look-c.ensures.same, ap (λ (x : cursor.Cursor). x.mark.index) c.skip_blank.ensures, c.loop-c.invariant.few);
+      same = break_turn limit lines spaced here t c.look.result c.max.result c.look.ensures.same c.look.ensures.value
+          test c.max.ensures c.skip_line_break.ensures
+          ∙ empty_over limit lines left s spaced c.indentation_left-left.ensures c.skip_spaces.ensures
+          ∙ c.loop-limit.invariant.same;
+      few = break_index spaced here t c.look.result lines.count c.look.ensures.same c.look.ensures.value test
+          c.skip_line_break.ensures
+          (omega (arith, ap (λ (x : Cursor). x.mark.index) c.skip_spaces.ensures, c.loop-limit.invariant.few));
     }
 
 pub returns-clause-taken : goal.returns-clause-taken
 returns-clause-taken g c =
-    let s = state c.loop-c.self in
-    let here = state c.look-c.new.self in
-    end_turn c.args.limit c.loop-c.lines s here c.look-c.result c.max-2.result c.look-c.ensures.same c.look-c.ensures.value (sym c.is_break.ensures.test ∙ c.if-is_break.false) (sym c.is_indentation.ensures ∙ c.if-not-is_indentation.true) c.max-2.ensures
-    ∙ c.loop-c.invariant.same
+    let limit = c.args.limit in
+    let lines = c.loop-limit.lines in
+    let s = state c.loop-limit.self in
+    let spaced = state c.skip_spaces.new.self in
+    let here = state c.look.new.self in
+    let left = c.indentation_left-left.result in
+    let none : is_indentation limit here.mark.col c.look.result ≡ false =
+    ap (λ (x : Cursor). is_indentation limit x.mark.col c.look.result) c.look.ensures.same
+    ∙ ap (is_indentation limit spaced.mark.col) c.look.ensures.value
+    ∙ none_left limit left s spaced c.indentation_left-left.ensures c.skip_spaces.ensures
+    (omega (arith, c.loop-limit.self.fits)) in
+    end_turn limit lines spaced here c.look.result c.max-2.result c.look.ensures.same c.look.ensures.value
+    (sym c.is_break.ensures.test ∙ c.if-not-is_break.true) none c.max-2.ensures
+    ∙ empty_over limit lines left s spaced c.indentation_left-left.ensures c.skip_spaces.ensures
+    ∙ c.loop-limit.invariant.same

@@ -1,43 +1,82 @@
-use Rattle.std.proofs.Common.{◌≡◌, true, false, length, slice_index, string_bytes, sym, ap, ◌∙◌}
+use Rattle.std.proofs.Common.{◌≡◌, ◌^◌, true, false, length, length-drop, slice_index, string_bytes, sym, ap, ◌∙◌, arith}
 use Rattle.saphyr_input.specs.Places.{is_blank_or_break}
 use Rattle.saphyr_scalar.specs.Cursor.{Cursor}
 use Rattle.saphyr_scalar.specs.Plain as spec
 use Rattle.saphyr_scalar.specs.Seen.{state}
-use Rattle.saphyr_scalar.proofs.Plains.{moves_refused}
-use Rattle.saphyr_scalar.proofs.PlainLines.{past_of, white_on, white_blank, white_shorter, line_over, refused_by, taken_by}
+use Rattle.saphyr_scalar.proofs.SpaceRuns.{lines_over, spaces_shorter}
+use Rattle.saphyr_scalar.proofs.Plain.Pieces.{moves_refused}
+use Rattle.saphyr_scalar.proofs.Plain.Lines.{past_of, white_on, white_blank, white_shorter, line_over, refused_by, taken_by}
 use Rattle.saphyr_scalar.proofs.scalar.reader.Reader.skip_empty_lines.Goals as goal
 
 pub loop-self-smaller : goal.loop-self-smaller
 loop-self-smaller g c =
-    let here = state c.loop-self.self in
-    let goes : is_blank_or_break (slice_index here.rest 0) ≡ true = ap is_blank_or_break (sym c.loop-self.invariant.value) ∙ sym c.is_white.ensures ∙ c.loop-self-test.true in
-    let past = past_of c.args.indent c.loop-self.tabbed (string_bytes c.loop-self.feeds) here _ (string_bytes c.skip_plain_white.new.feeds) (state c.skip_plain_white.new.self) c.in_ok-tabbed.ensures in
-    rw (ap (λ (s : Cursor). length s.rest) c.look-c-in-loop-self.ensures.same) (white_shorter _ _ _ here _ _ _ goes past)
+    let here = state c.look.new.self in
+    let goes : is_blank_or_break (slice_index here.rest 0) ≡ true =
+    ap (λ (s : Cursor). is_blank_or_break (slice_index s.rest 0)) c.look.ensures.same
+    ∙ ap is_blank_or_break (sym c.look.ensures.value) ∙ sym c.is_white.ensures ∙ c.if-not-is_white.false in
+    let past = past_of c.args.indent c.loop-self.tabbed (string_bytes c.loop-self.feeds) here _
+    (string_bytes c.skip_plain_white.new.feeds) (state c.skip_plain_white.new.self) c.in_ok-tabbed.ensures in
+    omega (
+      arith,
+      white_shorter _ _ _ here _ _ _ goes past,
+      ap (λ (s : Cursor). length s.rest) c.look.ensures.same,
+      spaces_shorter _ (state c.loop-self.self) (state c.skip_spaces.new.self) c.skip_spaces.ensures,
+    )
 
 pub loop-self-preserved : goal.loop-self-preserved
 loop-self-preserved g c =
-    let here = state c.loop-self.self in
+    let first = state c.loop-self.self in
+    let spaced = state c.skip_spaces.new.self in
+    let here = state c.look.new.self in
     let next = state c.skip_plain_white.new.self in
-    let same = c.look-c-in-loop-self.ensures.same in
-    let goes : is_blank_or_break (slice_index here.rest 0) ≡ true = ap is_blank_or_break (sym c.loop-self.invariant.value) ∙ sym c.is_white.ensures ∙ c.loop-self-test.true in
-    let past = past_of c.args.indent c.loop-self.tabbed (string_bytes c.loop-self.feeds) here _ (string_bytes c.skip_plain_white.new.feeds) next c.in_ok-tabbed.ensures in
+    let same = c.look.ensures.same in
+    let goes : is_blank_or_break (slice_index here.rest 0) ≡ true =
+    ap (λ (s : Cursor). is_blank_or_break (slice_index s.rest 0)) same ∙ ap is_blank_or_break (sym c.look.ensures.value)
+    ∙ sym c.is_white.ensures ∙ c.if-not-is_white.false in
+    let past = past_of c.args.indent c.loop-self.tabbed (string_bytes c.loop-self.feeds) here _
+    (string_bytes c.skip_plain_white.new.feeds) next c.in_ok-tabbed.ensures in
+    let blank = ap (λ (s : Cursor). s.blank_so_far) same ∙ ap (λ (s : Cursor). s.blank_so_far) c.skip_spaces.ensures
+    ∙ c.loop-self.invariant.blank in
     record {
-      value = c.look-c-in-loop-self.ensures.value ∙ ap (λ (s : Cursor). slice_index s.rest 0) (sym same);
-      some = c.look-c-in-loop-self.ensures.loaded;
-      blank = ap (λ (s : Cursor). s.blank_so_far) same ∙ white_blank _ _ _ here _ _ next c.loop-self.invariant.blank past;
-      same = ap (λ (s : Cursor). spec.lines c.args.indent c.args.start c.in_ok-tabbed.tabbed (string_bytes c.skip_plain_white.new.feeds) s.mark s.rest) same
-          ∙ white_on _ c.args.start _ _ here _ _ next goes past ∙ c.loop-self.invariant.same;
+      blank = white_blank _ _ _ here _ _ next blank past;
+      same = white_on _ c.args.start _ _ here _ _ next goes past
+          ∙ ap (λ (s : Cursor). spec.lines c.args.indent c.args.start c.loop-self.tabbed
+          (string_bytes c.loop-self.feeds) s.mark s.rest) same
+          ∙ lines_over c.args.indent c.args.start c.loop-self.tabbed (string_bytes c.loop-self.feeds) _ first spaced
+          c.skip_spaces.ensures ∙ c.loop-self.invariant.same;
     }
 
 pub returns-in_err-check_plain_tab : goal.returns-in_err-check_plain_tab
 returns-in_err-check_plain_tab g c =
-    let here = state c.loop-self.self in
-    let over : is_blank_or_break (slice_index here.rest 0) ≡ false = ap is_blank_or_break (sym c.loop-self.invariant.value) ∙ sym c.is_white.ensures ∙ c.loop-self-test.false in
+    let first = state c.loop-self.self in
+    let spaced = state c.skip_spaces.new.self in
+    let here = state c.look.new.self in
+    let same = c.look.ensures.same in
+    let over : is_blank_or_break (slice_index here.rest 0) ≡ false =
+    ap (λ (s : Cursor). is_blank_or_break (slice_index s.rest 0)) same ∙ ap is_blank_or_break (sym c.look.ensures.value)
+    ∙ sym c.is_white.ensures ∙ c.if-not-is_white.true in
+    let blank = ap (λ (s : Cursor). s.blank_so_far) same ∙ ap (λ (s : Cursor). s.blank_so_far) c.skip_spaces.ensures
+    ∙ c.loop-self.invariant.blank in
+    let reached = ap (λ (s : Cursor). spec.lines c.args.indent c.args.start c.loop-self.tabbed
+    (string_bytes c.loop-self.feeds) s.mark s.rest) same
+    ∙ lines_over c.args.indent c.args.start c.loop-self.tabbed (string_bytes c.loop-self.feeds) _ first spaced
+    c.skip_spaces.ensures ∙ c.loop-self.invariant.same in
     moves_refused _ _ _ _ c.from_residual-in_err-check_plain_tab.ensures.1
-    (sym c.loop-self.invariant.same ∙ line_over _ _ _ _ here over c.loop-self.invariant.blank ∙ refused_by _ _ _ _ _ c.in_err-check_plain_tab.ensures)
+    (sym reached ∙ line_over _ _ _ _ here over blank ∙ refused_by _ _ _ _ _ c.in_err-check_plain_tab.ensures)
 
 pub returns : goal.returns
 returns g c =
-    let here = state c.loop-self.self in
-    let over : is_blank_or_break (slice_index here.rest 0) ≡ false = ap is_blank_or_break (sym c.loop-self.invariant.value) ∙ sym c.is_white.ensures ∙ c.loop-self-test.false in
-    sym c.loop-self.invariant.same ∙ line_over _ _ _ _ here over c.loop-self.invariant.blank ∙ taken_by _ _ _ _ _ c.in_ok-check_plain_tab.ensures
+    let first = state c.loop-self.self in
+    let spaced = state c.skip_spaces.new.self in
+    let here = state c.look.new.self in
+    let same = c.look.ensures.same in
+    let over : is_blank_or_break (slice_index here.rest 0) ≡ false =
+    ap (λ (s : Cursor). is_blank_or_break (slice_index s.rest 0)) same ∙ ap is_blank_or_break (sym c.look.ensures.value)
+    ∙ sym c.is_white.ensures ∙ c.if-not-is_white.true in
+    let blank = ap (λ (s : Cursor). s.blank_so_far) same ∙ ap (λ (s : Cursor). s.blank_so_far) c.skip_spaces.ensures
+    ∙ c.loop-self.invariant.blank in
+    let reached = ap (λ (s : Cursor). spec.lines c.args.indent c.args.start c.loop-self.tabbed
+    (string_bytes c.loop-self.feeds) s.mark s.rest) same
+    ∙ lines_over c.args.indent c.args.start c.loop-self.tabbed (string_bytes c.loop-self.feeds) _ first spaced
+    c.skip_spaces.ensures ∙ c.loop-self.invariant.same in
+    sym reached ∙ line_over _ _ _ _ here over blank ∙ taken_by _ _ _ _ _ c.in_ok-check_plain_tab.ensures

@@ -1,12 +1,10 @@
-use Rattle.std.proofs.Common.{◌≡◌, ◌≤◌, true, false, length, slice_index, string_bytes}
+use Rattle.std.proofs.Common.{◌≡◌, true, false, length, string_bytes}
 use Rattle.saphyr_scalar.specs.Plain.{lines}
-use Rattle.saphyr_scalar.specs.Seen.{state, loaded}
+use Rattle.saphyr_scalar.specs.Seen.{state}
 use Rattle.saphyr_scalar.proofs.scalar.reader.Reader.skip_empty_lines.Given as goal
 
 abbrev pub invariant-loop-self : goal.invariant-loop-self
 invariant-loop-self g l = record {
-  value : l.c ≡ slice_index (state l.self).rest 0;
-  some : 1 ≤ loaded l.self;
   blank : (state l.self).blank_so_far ≡ true;
   same : lines l.indent l.start l.tabbed (string_bytes l.feeds) (state l.self).mark (state l.self).rest
       ≡ lines l.indent l.start false (string_bytes l.fn.feeds) (state l.fn.self).mark (state l.fn.self).rest;

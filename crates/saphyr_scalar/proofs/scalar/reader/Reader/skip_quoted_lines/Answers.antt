@@ -2,42 +2,79 @@ use Rattle.std.proofs.Common.{◌≡◌, true, false, length, length-drop, slice
 use Rattle.std.specs.Prelude.{◌&&◌, ◌==◌}
 use Rattle.saphyr_input.specs.Classes as class
 use Rattle.saphyr_scalar.specs.Cursor.{Cursor}
-use Rattle.saphyr_scalar.specs.Quoted.{is_left}
+use Rattle.saphyr_scalar.specs.Quoted.{is_left, over_lines, inside_at}
 use Rattle.saphyr_scalar.specs.Seen.{state}
-use Rattle.saphyr_scalar.proofs.QuotedLines.{break_on, break_on_shorter, blank_on, tab_on, fits_right, fits_no_tab}
+use Rattle.saphyr_scalar.proofs.SpaceRuns.{inside_over, spaces_shorter}
+use Rattle.saphyr_scalar.proofs.Quoted.Lines.{break_on, break_on_shorter, blank_on, tab_on, fits_right, fits_no_tab}
 use Rattle.saphyr_scalar.proofs.scalar.reader.Reader.skip_quoted_lines.Goals.{else-c-eq9-via-then-c-eq9+else-self-indent, else-c-eq9-via-else-c-eq9}
 use Rattle.saphyr_scalar.proofs.scalar.reader.Reader.skip_quoted_lines.Goals as goal
 
 pub loop-c-preserved-then-is_break : goal.loop-c-preserved-then-is_break
 loop-c-preserved-then-is_break g c =
-    let here = state c.loop-c.self in
+    let first = state c.loop-c.self in
+    let here = state c.skip_spaces.new.self in
     let there = state c.look-c.new.self in
     let behind = state c.skip_line_break.new.self in
-    let breaks : class.is_break (slice_index here.rest 0) ≡ true = ap class.is_break (sym c.look-c.ensures.value) ∙ sym c.is_break.ensures.test ∙ c.if-is_break.true in
+    let breaks : class.is_break (slice_index here.rest 0) ≡ true =
+    ap class.is_break (sym c.look-c.ensures.value) ∙ sym c.is_break.ensures.test ∙ c.if-is_break.true in
     record {
-      same = λ q start escaped. break_on q c.args.indent start escaped c.loop-c.count here there behind breaks c.look-c.ensures.same c.skip_line_break.ensures ∙ c.loop-c.invariant.same q start escaped;
-      counted = omega (arith, break_on_shorter here there behind breaks c.look-c.ensures.same c.skip_line_break.ensures, c.loop-c.invariant.counted);
+      same = λ q start escaped. break_on q c.args.indent start escaped c.loop-c.count here there behind breaks
+          c.look-c.ensures.same c.skip_line_break.ensures
+          ∙ inside_over q c.args.indent start escaped c.loop-c.count _ first here c.skip_spaces.ensures
+          ∙ c.loop-c.invariant.same q start escaped;
+      counted = omega (
+        arith,
+        break_on_shorter here there behind breaks c.look-c.ensures.same c.skip_line_break.ensures,
+        spaces_shorter _ first here c.skip_spaces.ensures,
+        c.loop-c.invariant.counted,
+      );
     }
 
 pub returns-then-self-indent-clause-same : goal.returns-then-self-indent-clause-same
 returns-then-self-indent-clause-same g c = λ quote start escaped.
-    let here = state c.loop-c.self in
+    let first = state c.loop-c.self in
+    let here = state c.skip_spaces.new.self in
     let tab : slice_index here.rest 0 ≡ 9 = sym c.look-c.ensures.value ∙ c.if-c-eq9.true in
-    sym (c.loop-c.invariant.same quote start escaped) ∙ tab_on quote c.args.indent start escaped c.loop-c.count here (state c.look-c.new.self) tab c.look-c.ensures.same c.if-self-indent.true
+    sym (c.loop-c.invariant.same quote start escaped)
+    ∙ sym (inside_over quote c.args.indent start escaped c.loop-c.count _ first here c.skip_spaces.ensures)
+    ∙ tab_on quote c.args.indent start escaped c.loop-c.count here (state c.look-c.new.self) tab c.look-c.ensures.same
+    c.if-self-indent.true
 
 pub loop-c-preserved : goal.loop-c-preserved
 loop-c-preserved g c =
-    let here = state c.loop-c.self in
+    let first = state c.loop-c.self in
+    let here = state c.skip_spaces.new.self in
     let there = state c.look-c.new.self in
     let behind = state c.skip_blank.new.self in
-    let blank : class.is_blank (slice_index here.rest 0) ≡ true = ap class.is_blank (sym c.look-c.ensures.value) ∙ sym c.is_blank.ensures.test ∙ c.if-is_blank.true in
+    let blank : class.is_blank (slice_index here.rest 0) ≡ true =
+    ap class.is_blank (sym c.look-c.ensures.value) ∙ sym c.is_blank.ensures.test ∙ c.if-is_blank.true in
     let column = ap (λ (s : Cursor). s.mark.col) c.look-c.ensures.same in
     let fits : ((slice_index here.rest 0 == 9) && is_left c.args.indent here.mark) ≡ false =
     elim c.else-c-eq9.branch [
-      | else-c-eq9-via-then-c-eq9+else-self-indent w ↦ fits_right (slice_index here.rest 0) here.mark.col c.args.indent (omega (arith, column, w.if-self-indent.false))
-      | else-c-eq9-via-else-c-eq9 w ↦ fits_no_tab (slice_index here.rest 0) here.mark.col c.args.indent (λ is. w.if-c-eq9.false (c.look-c.ensures.value ∙ is))
+      | else-c-eq9-via-then-c-eq9+else-self-indent w ↦ fits_right (slice_index here.rest 0) here.mark.col c.args.indent
+          (omega (arith, column, w.if-self-indent.false))
+      | else-c-eq9-via-else-c-eq9 w ↦ fits_no_tab (slice_index here.rest 0) here.mark.col c.args.indent
+          (λ is. w.if-c-eq9.false (c.look-c.ensures.value ∙ is))
     ] in
     record {
-      same = λ q start escaped. blank_on q c.args.indent start escaped c.loop-c.count here there behind blank fits c.look-c.ensures.same c.skip_blank.ensures ∙ c.loop-c.invariant.same q start escaped;
-      counted = omega (arith, ap (λ (s : Cursor). length s.rest) c.skip_blank.ensures, length-drop 1 there.rest, ap (λ (s : Cursor). length s.rest) c.look-c.ensures.same, c.loop-c.invariant.counted);
+      same = λ q start escaped. blank_on q c.args.indent start escaped c.loop-c.count here there behind blank fits
+          c.look-c.ensures.same c.skip_blank.ensures
+          ∙ inside_over q c.args.indent start escaped c.loop-c.count _ first here c.skip_spaces.ensures
+          ∙ c.loop-c.invariant.same q start escaped;
+      counted = omega (
+        arith,
+        ap (λ (s : Cursor). length s.rest) c.skip_blank.ensures,
+        length-drop 1 there.rest,
+        ap
+            (λ (s : Cursor). length s.rest) c.look-c.ensures.same,
+        spaces_shorter _ first here c.skip_spaces.ensures,
+        c.loop-c.invariant.counted,
+      );
     }
+
+pub returns-else-is_blank-clause-same : goal.returns-else-is_blank-clause-same
+returns-else-is_blank-clause-same g c = λ quote start escaped.
+    let k = c.loop-c.count in
+    ap (inside_at quote c.args.indent start (over_lines escaped k)) c.look-c.ensures.same
+    ∙ inside_over quote c.args.indent start escaped k _ (state c.loop-c.self) (state c.skip_spaces.new.self)
+    c.skip_spaces.ensures ∙ c.loop-c.invariant.same quote start escaped

@@ -7,7 +7,9 @@ use Rattle.saphyr_scalar.proofs.scalar.reader.Reader.skip_quoted_lines.Given as 
 
 abbrev pub invariant-loop-c : goal.invariant-loop-c
 invariant-loop-c g l = record {
-  same : (q : Quote) (start : Marker) (escaped : Bool) → inside_at q l.fn.indent start (over_lines escaped l.count) (state l.self) ≡ inside_at q l.fn.indent start (over_lines escaped 0) (state l.fn.self);
+  same : (q : Quote) (start : Marker) (escaped : Bool)
+      → inside_at q l.fn.indent start (over_lines escaped l.count) (state l.self)
+      ≡ inside_at q l.fn.indent start (over_lines escaped 0) (state l.fn.self);
   counted : l.count + length (state l.self).rest ≤ length (state l.fn.self).rest;
 }
 

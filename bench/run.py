@@ -1,0 +1,139 @@
+#!/usr/bin/env python3
+"""Measures `dump_events` beside other programs that print the same lines.
+
+    bench/run.py [--size MEGABYTES] [--crate SOURCES] [--instructions] [KIND ..]
+
+A table of processor time, in the ratio to `dump_events`: above 1 the other takes so many times as long. The least of
+nine runs counts, which take turns. With --instructions it is the instructions for each byte, by callgrind, on smaller
+files, beyond those of an empty text. The peers are the faces for C and Rust of this repository, libyaml where its
+header is there, and with --crate the Rust crate `saphyr-parser`, whose sources are in that folder, and whose
+dependencies cargo fetches. A `-` says that the peer refuses the file.
+"""
+import argparse
+import os
+import re
+import shutil
+import subprocess
+import sys
+import tempfile
+
+from inputs import KINDS
+
+ROOT = os.path.dirname(os.path.dirname(os.path.abspath(__file__)))
+sys.path.insert(0, f"{ROOT}/tests")
+from faces import CRATE, cargo, libraries  # noqa: E402
+from refused_memory import program  # noqa: E402
+
+RUNS = 9
+MANIFEST = """
+[package]
+name = "peer"
+version = "0.1.0"
+edition = "2021"
+[dependencies]
+saphyr-parser = {{ path = {sources!r} }}
+[[bin]]
+name = "peer"
+path = "{root}/rust/examples/dump_events.rs"
+[workspace]
+"""
+
+
+def compiled(folder, name, words):
+    made = f"{folder}/{name}"
+    command = ["cc", "-std=c11", "-D_GNU_SOURCE", "-O2", *words, "-o", made]
+    return made if subprocess.run(command, capture_output=True).returncode == 0 else None
+
+
+def of_crate(folder, sources):
+    """The Rust example over the Rust crate, in place of this repository's."""
+    os.mkdir(f"{folder}/peer")
+    with open(f"{folder}/peer/Cargo.toml", "w", encoding="utf-8") as it:
+        it.write(MANIFEST.format(sources=os.path.abspath(sources), root=ROOT))
+    target = f"{folder}/peer/target"
+    env = {**os.environ, "CARGO_TARGET_DIR": target}
+    subprocess.run(["cargo", "build", "--release", "--quiet"], cwd=f"{folder}/peer", env=env, check=True)
+    return f"{target}/release/peer"
+
+
+def peers(folder, sources):
+    """The programs by their names, the repository's own first."""
+    made = {"dump_events": program("dump_events")}
+    made["C face"] = compiled(folder, "c_face", [f"-I{CRATE}", f"{ROOT}/tests/faces/dump_events.c", *libraries()])
+    cargo("build", "--example", "dump_events")
+    target = os.environ.get("CARGO_TARGET_DIR", f"{ROOT}/rust/target")
+    made["Rust face"] = f"{target}/release/examples/dump_events"
+    made["libyaml"] = compiled(folder, "libyaml", [f"{ROOT}/bench/libyaml_dump.c", "-lyaml"])
+    made["crate"] = of_crate(folder, sources) if sources else None
+    return {name: path for name, path in made.items() if path}
+
+
+def seconds(command):
+    """The processor time of a run, or None where it fails."""
+    child = subprocess.Popen(command, stdout=subprocess.DEVNULL, stderr=subprocess.DEVNULL)
+    _, status, used = os.wait4(child.pid, 0)
+    child.returncode = os.waitstatus_to_exitcode(status)
+    return used.ru_utime + used.ru_stime if child.returncode == 0 else None
+
+
+def instructions(command):
+    """How many instructions a run takes beyond those for an empty text, or None where it fails."""
+    found, started = (count_instructions([command[0], file]) for file in (command[1], os.devnull))
+    return found and found - started
+
+
+def count_instructions(command):
+    words = ["valgrind", "--tool=callgrind", "--callgrind-out-file=/dev/null", *command]
+    ran = subprocess.run(words, stdout=subprocess.DEVNULL, stderr=subprocess.PIPE)
+    found = re.search(rb"Collected : (\d+)", ran.stderr)
+    return int(found[1]) if found and ran.returncode == 0 else None
+
+
+def least(programs, file, measure, runs):
+    """The least of the runs of each program, which take turns."""
+    taken = {name: [] for name in programs}
+    for _ in range(runs):
+        for name, path in programs.items():
+            taken[name].append(measure([path, file]))
+    return {name: None if None in them else min(them) for name, them in taken.items()}
+
+
+def shown(number):
+    return f"{number:12.2f}" if number is not None else f"{'-':>12}"
+
+
+def report(programs, file, kind, by_instructions):
+    """The line of a file."""
+    size = os.path.getsize(file)
+    if by_instructions:
+        found = least(programs, file, instructions, 1)
+        numbers = [it and it / size for it in found.values()]
+    else:
+        found = least(programs, file, seconds, RUNS)
+        own, *others = found.values()
+        numbers = [own, *(it and own and it / own for it in others)]
+    print(f"{kind:14}{size / 1e6:8.2f} MB" + "".join(map(shown, numbers)), flush=True)
+
+
+def main():
+    words = argparse.ArgumentParser(description=__doc__, formatter_class=argparse.RawDescriptionHelpFormatter)
+    words.add_argument("--size", type=float, metavar="MEGABYTES")
+    words.add_argument("--crate", metavar="SOURCES")
+    words.add_argument("--instructions", action="store_true")
+    words.add_argument("kinds", nargs="*", metavar="KIND", choices=[[], *KINDS])
+    asked = words.parse_args()
+    if asked.instructions and not shutil.which("valgrind"):
+        sys.exit("there is no valgrind")
+    size = int(1e6 * (asked.size or (0.1 if asked.instructions else 4)))
+    with tempfile.TemporaryDirectory() as folder:
+        programs = peers(folder, asked.crate)
+        unit = "instructions for each byte" if asked.instructions else "seconds, and how many times as long"
+        print(f"{unit:25}" + "".join(f"{name:>12}" for name in programs))
+        for kind in asked.kinds or KINDS:
+            with open(f"{folder}/{kind}", "w", encoding="utf-8", newline="") as it:
+                it.write(KINDS[kind](size))
+            report(programs, f"{folder}/{kind}", kind, asked.instructions)
+
+
+if __name__ == "__main__":
+    main()

@@ -1,0 +1,69 @@
+-- Tests, and what `&&`, `||` and `not` tell of their parts. Std has the others, in `lemmas.Bool` and `Math.Bool`.
+use Rattle.std.proofs.Common.{◌≡◌, ℕ, Bool, true, false, not, nat_eq, refl, sym, ◌∙◌, arith, subst}
+use Rattle.std.specs.Prelude.{◌||◌, ◌&&◌}
+use Rattle.std.proofs.lemmas.Bool.{false≢true, false_from_ne_true}
+use Rattle.std.proofs.lemmas.Bool.Decides.{nat_tests}
+pub use Rattle.std.proofs.lemmas.Bool.{cond_both as by_test}
+
+-- a test does not both pass and fail
+pub clash : {X : Type 0} (b : Bool) → b ≡ true → b ≡ false → X
+clash true pass fail = absurd (cc)
+clash false pass fail = absurd (cc)
+
+pub and_true_left : (a b : Bool) → (a && b) ≡ true → a ≡ true
+and_true_left true b h = refl
+and_true_left false b h = h
+
+pub and_true_right : (a b : Bool) → (a && b) ≡ true → b ≡ true
+and_true_right true b h = h
+and_true_right false b h = absurd (cc)
+
+pub and_false : (b : Bool) → (b && false) ≡ false
+and_false true = refl
+and_false false = refl
+
+pub and_or_false : (a b c : Bool) → (a && (b || c)) ≡ false → ((a && b) ≡ false) × ((a && c) ≡ false)
+and_or_false false b c e = (refl, refl)
+and_or_false true true c e = absurd (cc)
+and_or_false true false c e = (refl, e)
+
+pub or_false_left : (a b : Bool) → (a || b) ≡ false → a ≡ false
+or_false_left true b h = absurd (cc)
+or_false_left false b h = refl
+
+pub or_false_right : (a b : Bool) → (a || b) ≡ false → b ≡ false
+or_false_right true b h = absurd (cc)
+or_false_right false b h = h
+
+pub or_assoc : (a b c : Bool) → ((a || b) || c) ≡ (a || (b || c))
+or_assoc true b c = refl
+or_assoc false b c = refl
+
+pub or_true_swap : (a b : Bool) → (a || b) ≡ true → (b || a) ≡ true
+or_true_swap true true h = refl
+or_true_swap true false h = refl
+or_true_swap false true h = refl
+or_true_swap false false h = h
+
+-- by the one that passes
+pub either : (a b : Bool) (P : Type 0) → (a || b) ≡ true → (a ≡ true → P) → (b ≡ true → P) → P
+either true b P h left right = left refl
+either false b P h left right = right h
+
+pub neither_parts : (a b : Bool) → (not a && not b) ≡ true → (a ≡ false) × (b ≡ false)
+neither_parts false false h = (refl, refl)
+neither_parts true b h = absurd (cc)
+neither_parts false true h = absurd (cc)
+
+pub none_of_three : (a b c : Bool) → (not a && not b && not c) ≡ true → (a ≡ false) × (b ≡ false) × (c ≡ false)
+none_of_three false false false h = (refl, refl, refl)
+none_of_three true b c h = absurd (cc)
+none_of_three false true c h = absurd (cc)
+none_of_three false false true h = absurd (cc)
+
+-- a test that fails at one number fails at a number that passes it
+pub other_than : (p : ℕ → Bool) (n c : ℕ) → p n ≡ false → p c ≡ true → nat_eq c n ≡ false
+other_than p n c fails passes =
+    false_from_ne_true (nat_eq c n)
+    (λ e. let is : c ≡ n = grind (arith, nat_tests) in
+    let k : false ≡ true = sym fails ∙ subst (λ x. p x ≡ true) is passes in absurd (false≢true k))

@@ -1,0 +1,16 @@
+use Rattle.std.proofs.Common.{◌≡◌, true, ◌∙◌, sym, arith}
+use Rattle.saphyr_input.proofs.Runs.{runs_more, runs_text}
+use Rattle.saphyr_input.proofs.input.Input.fetch_while.Goals as goal
+
+pub loop-c-preserved : goal.loop-c-preserved
+loop-c-preserved g c =
+    let p = g.C.CharSet.test in
+    let z = g.met.C.CharSet.without_nul in
+    let passes : p c.loop-c.c ≡ true = sym c.has.ensures ∙ c.loop-c-test.true in
+    let next = c.look_ch-c-in-loop-c.ensures in
+    record {
+      runs = runs_more p _ _ _ _ _ _ _ _ z passes c.loop-c.invariant.runs (next.rest ∙ c.skip.ensures.rest)
+          (rw next.rest next.value) (omega arith);
+      text = runs_text p _ _ _ _ _ _ _ _ z passes c.loop-c.invariant.runs c.loop-c.invariant.text
+          c.in_ok-push.ensures.bytes;
+    }

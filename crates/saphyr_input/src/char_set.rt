@@ -1,0 +1,118 @@
+//! Sets of characters, by which an input takes off runs in one piece.
+ghost use Rattle.std.specs.Prelude.{◌≡◌, ℕ, Bool, false, IsTrue, refl};
+ghost use Rattle.saphyr_input.specs.Classes as class;
+ghost use Rattle.saphyr_input.specs.Fronts as spec;
+
+use crate::char_traits::{is_alpha, is_blank, is_yaml_non_break, is_yaml_non_space};
+
+/// A set of characters, without NUL, by which an input takes off runs.
+pub trait CharSet {
+    /// Whether a character is one of the set.
+    ghost test: { ℕ → Bool };
+
+    /// Whether the character is one of the set.
+    fn has(c: char) -> bool
+        ensures { result ≡ test c };
+
+    /// Whether the byte is an ASCII character of the set.
+    fn has_ascii(byte: u8) -> bool
+        ensures { result ≡ spec.ascii_in test byte };
+
+    /// NUL, which every place past the end of an input shows, is none of the set.
+    ghost without_nul: { test 0 ≡ false };
+}
+
+/// A set of which some characters may stand behind a single space, for the run to go on there.
+pub trait SpacedSet: CharSet {
+    /// Whether a run goes on with the character behind a space.
+    ghost lead: { ℕ → Bool };
+
+    /// Whether each character whose UTF-8 begins with the byte is one with which a run goes on.
+    fn leads(byte: u8) -> bool
+        ensures { IsTrue result → (c : ℕ) → spec.StandsFor byte c → IsTrue (lead c) };
+}
+
+/// White space: spaces and tabs.
+pub struct Blank;
+
+impl CharSet for Blank {
+    ghost test = { class.is_blank };
+
+    ghost without_nul = { refl };
+
+    #[inline]
+    fn has(c: char) -> bool {
+        is_blank(c)
+    }
+
+    #[inline]
+    fn has_ascii(byte: u8) -> bool {
+        is_blank(byte as char)
+    }
+}
+
+/// Digits, ASCII letters, `_` and `-`.
+pub struct Alpha;
+
+impl CharSet for Alpha {
+    ghost test = { class.is_alpha };
+
+    ghost without_nul = { refl };
+
+    #[inline]
+    fn has(c: char) -> bool {
+        is_alpha(c)
+    }
+
+    #[inline]
+    fn has_ascii(byte: u8) -> bool {
+        // Most are small letters.
+        matches!(byte, b'a'..=b'z') || is_alpha(byte as char)
+    }
+}
+
+/// All but NUL, the line breaks and the byte order mark.
+pub struct NonBreak;
+
+impl CharSet for NonBreak {
+    ghost test = { class.is_yaml_non_break };
+
+    ghost without_nul = { refl };
+
+    #[inline]
+    fn has(c: char) -> bool {
+        is_yaml_non_break(c)
+    }
+
+    #[inline]
+    fn has_ascii(byte: u8) -> bool {
+        if byte > b'\r' {
+            byte < 0x80
+        } else {
+            is_yaml_non_break(byte as char)
+        }
+    }
+}
+
+/// All but NUL, white space, the line breaks and the byte order mark.
+pub struct NonSpace;
+
+impl CharSet for NonSpace {
+    ghost test = { class.is_yaml_non_space };
+
+    ghost without_nul = { refl };
+
+    #[inline]
+    fn has(c: char) -> bool {
+        is_yaml_non_space(c)
+    }
+
+    #[inline]
+    fn has_ascii(byte: u8) -> bool {
+        if byte > b' ' {
+            byte < 0x80
+        } else {
+            is_yaml_non_space(byte as char)
+        }
+    }
+}

@@ -1,0 +1,4 @@
+-- Events of small texts, by computing.
+pub mod Events
+pub mod Taken
+pub mod TakenEvents

@@ -1,0 +1,7 @@
+-- How events are printed.
+pub mod Written
+pub mod Numbers
+pub mod Escapes
+pub mod Dumping
+pub mod Complaints
+pub mod Running

@@ -1,0 +1,149 @@
+-- The line `---` is a text of the layout grammar with all premises, and so a closed beginning, behind a byte order mark
+-- too.
+use Rattle.std.specs.Prelude.{codes}
+use Rattle.std.proofs.Common.{◌≡◌, ℕ, Bool, true, false, List, [], ◌∷◌, Some, refl, inl, inr, arith}
+use Rattle.saphyr_scalar.specs.Spaces.{IsEol, IsFiller, IsLastFiller, IsLineRest}
+use Rattle.saphyr_scanner.specs.Grammar.Layout.{most_open, IsDocument, IsDocumentSuffix, AreDocuments, IsLayoutText}
+use Rattle.saphyr_scanner.specs.Grammar.Forest.{left_out}
+use Rattle.saphyr_scanner.specs.Grammar.BlockNodes.{IsBlockNode}
+use Rattle.saphyr_scanner.proofs.Examples.OneForest.{stands_for_one}
+use Rattle.saphyr_parser.specs.Events as events
+use Rattle.saphyr_parser.specs.Events.{Happening}
+use Rattle.saphyr_parser.specs.Steps.Machine.{empty_scalar}
+use Rattle.saphyr_parser.specs.ForestEvents.{events}
+use Rattle.saphyr_parser.specs.Examples.Forests as examples
+use Rattle.saphyr_parser.specs.Cursor.{Cursor, keeping_tags, to_come}
+use Rattle.saphyr_parser.specs.Exactly.{GivesExactly}
+use Rattle.saphyr_parser.specs.Premises.{IsClosed, IsPromised, Starts, GivesFirst}
+use Rattle.saphyr_parser.specs.Promises.{ReadsLayout, ReadsClosedLayout}
+
+has_events : (keep : Bool) → events examples.start_forest keep ≡ Some examples.start_told
+has_events true = refl
+has_events false = refl
+
+pub promised : (keep : Bool)
+    → IsPromised (IsLayoutText most_open) 100 keep examples.start_forest (codes "---\n") examples.start_told
+promised keep =
+    record {
+      stands_for = stands_for_one most_open;
+      within = omega arith;
+      has_events = has_events keep;
+    }
+
+-- nothing stands behind the marker
+no_tail : IsLineRest []
+no_tail = ([], [], tt, inl refl, refl)
+
+pub closed : (keep : Bool)
+    → IsClosed (IsLayoutText most_open) IsLineRest 100 keep (codes "---\n[") examples.start_events
+closed keep =
+    record {
+      front = codes "---\n";
+      others = codes "[";
+      begins = refl;
+      within = omega arith;
+      marker = Starts;
+      ends = ([], [], no_tail, inl (inl refl), refl);
+      forest = examples.start_forest;
+      told = examples.start_told;
+      promised = promised keep;
+      earlier = events.StreamStart ∷ [];
+      is_first = refl;
+      are_told = refl;
+    }
+
+-- ## The same line behind a byte order mark
+
+no_filler : IsFiller []
+no_filler = ([], tt, refl)
+
+no_last_filler : IsLastFiller []
+no_last_filler = ([], [], no_filler, ([], [], (0, omega arith, refl), inl refl, refl), refl)
+
+line_end : (behind : List ℕ) → IsEol (codes "\n") behind
+line_end behind = inl ([], no_tail, refl)
+
+-- a document of `---` alone
+starts : (free : Bool) (behind : List ℕ)
+    → IsDocument (IsBlockNode most_open) (examples.explicit [] left_out) free (codes "---\n") behind
+starts free behind = inr (inr refl, ([], codes "\n", refl, tt, refl, refl, inl (refl, refl, line_end behind), refl))
+
+last_start : AreDocuments (IsBlockNode most_open) examples.start_forest true (codes "---\n")
+last_start = ([], codes "---\n", [], no_filler, starts true [], inl no_last_filler, refl)
+
+marked_stands : IsLayoutText most_open examples.start_forest (codes "\u{feff}---\n")
+marked_stands = (codes "\u{feff}", codes "---\n", inr refl, last_start, refl)
+
+pub marked : (keep : Bool)
+    → IsClosed (IsLayoutText most_open) IsLineRest 100 keep (codes "\u{feff}---\n[") examples.start_events
+marked keep =
+    record {
+      front = codes "\u{feff}---\n";
+      others = codes "[";
+      begins = refl;
+      within = omega arith;
+      marker = Starts;
+      ends = (codes "\u{feff}", [], no_tail, inr (inl refl), refl);
+      forest = examples.start_forest;
+      told = examples.start_told;
+      promised = record { stands_for = marked_stands; within = omega arith; has_events = has_events keep };
+      earlier = events.StreamStart ∷ [];
+      is_first = refl;
+      are_told = refl;
+    }
+
+behind_stands : IsLayoutText most_open examples.two_starts (codes "---\n...\n\u{feff}---\n")
+behind_stands =
+    let suffix : IsDocumentSuffix (codes "...\n\u{feff}") (codes "---\n") =
+    ([], codes "\n", codes "\u{feff}", no_filler, inl ([], no_tail, refl), inr ([], no_filler, refl), refl) in (
+      [],
+      codes "---\n...\n\u{feff}---\n",
+      inl refl,
+      (
+        [],
+        codes "---\n",
+        codes "...\n\u{feff}---\n",
+        no_filler,
+        starts true (codes "...\n\u{feff}---\n"),
+        inr (codes "...\n\u{feff}", codes "---\n", suffix, last_start, refl),
+        refl,
+      ),
+      refl,
+    )
+
+behind_events : (keep : Bool) → events examples.two_starts keep ≡ Some examples.two_starts_told
+behind_events true = refl
+behind_events false = refl
+
+pub behind : (keep : Bool)
+    → IsClosed (IsLayoutText most_open) IsLineRest 100 keep (codes "---\n...\n\u{feff}---\n[")
+    examples.two_starts_events
+behind keep =
+    record {
+      front = codes "---\n...\n\u{feff}---\n";
+      others = codes "[";
+      begins = refl;
+      within = omega arith;
+      marker = Starts;
+      ends = (
+        codes "---\n...\n\u{feff}",
+        [],
+        no_tail,
+        inr (inr (codes "---\n", [], [], inr (codes "---", refl), no_tail, no_filler, refl)),
+        refl,
+      );
+      forest = examples.two_starts;
+      told = examples.two_starts_told;
+      promised = record { stands_for = behind_stands; within = omega arith; has_events = behind_events keep };
+      earlier = events.StreamStart ∷ events.DocumentStart true ∷ empty_scalar ∷ events.DocumentEnd ∷ [];
+      is_first = refl;
+      are_told = refl;
+    }
+
+pub gives_start : (parser : Cursor) (keep : Bool) → ReadsLayout 100 (codes "---\n") parser
+    → GivesExactly examples.start_told (to_come (keeping_tags keep parser))
+gives_start parser keep r = r examples.start_forest keep examples.start_told (promised keep)
+
+pub gives_first : (parser : Cursor) (keep : Bool) → ReadsClosedLayout 100 (codes "---\n[") parser
+    → GivesFirst examples.start_events (to_come (keeping_tags keep parser))
+gives_first parser keep r = r keep examples.start_events (closed keep)

@@ -1,0 +1,231 @@
+-- The entries of block collections are told.
+use Rattle.std.proofs.Common.{◌≡◌, List, ◌∷◌, ◌++◌, refl, subst, sym, inl, inr}
+use Rattle.saphyr_scanner.specs.Grammar.Forest.{Node}
+use Rattle.saphyr_scanner.specs.Grammar.Forest as forest
+use Rattle.saphyr_scanner.specs.Grammar.Tokens.{Kind, BlockEntry, BlockEnd, Key, Value}
+use Rattle.saphyr_scanner.specs.Grammar.TokenGrammar.{InBlock, InBlockMapping, YieldsOptional, YieldsMarkedKey, YieldsMarkedValue, YieldsBlockPair, BeginsWithValue, YieldsNode}
+use Rattle.saphyr_parser.specs.declared.parser.context.Context.TheVariants.{Block, BlockMapping}
+use Rattle.saphyr_parser.specs.declared.parser.state.State.{State}
+use Rattle.saphyr_parser.specs.declared.parser.state.State.TheVariants as state
+use Rattle.saphyr_parser.specs.Preorder.{Part, node_parts}
+use Rattle.saphyr_parser.specs.Steps.Machine.{told, empty_scalar}
+use Rattle.saphyr_parser.specs.Steps.Block.{sequence_entry, sequence_node, indentless_entry, indentless_node, mapping_key, key_node, mapping_value, value_node}
+use Rattle.saphyr_parser.specs.Steps.Expected.{step}
+use Rattle.saphyr_parser.proofs.Told.Telling.{Spans, Memory, at}
+use Rattle.saphyr_parser.proofs.Remembering.{after_node, Tells}
+use Rattle.saphyr_parser.proofs.Told.Nodes.{next_node}
+use Rattle.saphyr_parser.proofs.NodeStarts.{Starts, MayFollow, NodeSays, skipped, enters_or_skips, marked_tokens}
+
+-- ## Entries of sequences
+
+-- what stands behind an entry
+abbrev pub EndsBlockEntry : Kind → Type 0
+EndsBlockEntry BlockEntry = Unit {0}
+EndsBlockEntry BlockEnd = Unit {0}
+EndsBlockEntry _ = ⊥
+
+entry_end_follows : (k : Kind) → EndsBlockEntry k → MayFollow InBlock k
+entry_end_follows BlockEntry h = tt
+entry_end_follows BlockEnd h = tt
+entry_end_follows _ h = elim h [ ]
+
+entry_begins : (f : Spans) (j : Kind) (l : List Kind) (ss : List State) (e : Memory) → Starts InBlock j
+    → step (at f (BlockEntry ∷ j ∷ l) state.BlockSequenceEntry ss e)
+    ≡ next_node Block (at f (j ∷ l) state.BlockSequenceEntry (state.BlockSequenceEntry ∷ ss) e)
+unfolding step sequence_entry sequence_node
+entry_begins f BlockEntry l ss e h = elim h [ ]
+entry_begins f BlockEnd l ss e h = elim h [ ]
+entry_begins f _ l ss e h = refl
+
+entry_is_left_out : (f : Spans) (k : Kind) (ks : List Kind) (ss : List State) (e : Memory) → EndsBlockEntry k
+    → step (at f (BlockEntry ∷ k ∷ ks) state.BlockSequenceEntry ss e)
+    ≡ told empty_scalar (f (k ∷ ks)) (at f (k ∷ ks) state.BlockSequenceEntry ss e)
+unfolding step sequence_entry sequence_node
+entry_is_left_out f BlockEntry ks ss e h = refl
+entry_is_left_out f BlockEnd ks ss e h = refl
+entry_is_left_out f _ ks ss e h = elim h [ ]
+
+pub entry_says : (n : Node) (t : List Kind) → YieldsOptional n (YieldsNode n InBlock) t
+    → (YieldsNode n InBlock t → NodeSays n InBlock t)
+    → (f : Spans) (k : Kind) (ks : List Kind) (ss : List State) (e : Memory) (ps : List Part) → EndsBlockEntry k
+    → Tells f (k ∷ ks) state.BlockSequenceEntry ss (after_node n e) ps
+    → Tells f (BlockEntry ∷ (t ++ k ∷ ks)) state.BlockSequenceEntry ss e (node_parts n ++ ps)
+entry_says n t h g f k ks ss e ps z l =
+    enters_or_skips n InBlock t h g f k ks (λ l. at f (BlockEntry ∷ l) state.BlockSequenceEntry ss e)
+    state.BlockSequenceEntry (λ l. state.BlockSequenceEntry) ss e ps (entry_end_follows k z) (λ l q. cc)
+    (f (k ∷ ks)) (entry_is_left_out f k ks ss e z) (λ j l s. entry_begins f j l ss e s) l
+
+-- ## Entries of sequences at the column of their mapping
+
+abbrev pub EndsIndentless : Kind → Type 0
+EndsIndentless BlockEntry = Unit {0}
+EndsIndentless k = MayFollow InBlockMapping k
+
+indentless_end_follows : (k : Kind) → EndsIndentless k → MayFollow InBlock k
+indentless_end_follows BlockEntry h = tt
+indentless_end_follows Key h = tt
+indentless_end_follows Value h = tt
+indentless_end_follows BlockEnd h = tt
+indentless_end_follows _ h = elim h [ ]
+
+pub mapping_follow_ends : (k : Kind) → MayFollow InBlockMapping k → EndsIndentless k
+mapping_follow_ends BlockEntry h = tt
+mapping_follow_ends _ h = h
+
+indentless_begins : (f : Spans) (j : Kind) (l : List Kind) (ss : List State) (e : Memory) → Starts InBlock j
+    → step (at f (BlockEntry ∷ j ∷ l) state.IndentlessSequenceEntry ss e)
+    ≡ next_node Block (at f (j ∷ l) state.IndentlessSequenceEntry (state.IndentlessSequenceEntry ∷ ss) e)
+unfolding step indentless_entry indentless_node
+indentless_begins f BlockEntry l ss e h = elim h [ ]
+indentless_begins f Key l ss e h = elim h [ ]
+indentless_begins f Value l ss e h = elim h [ ]
+indentless_begins f BlockEnd l ss e h = elim h [ ]
+indentless_begins f _ l ss e h = refl
+
+indentless_is_left_out : (f : Spans) (k : Kind) (ks : List Kind) (ss : List State) (e : Memory) → EndsIndentless k
+    → step (at f (BlockEntry ∷ k ∷ ks) state.IndentlessSequenceEntry ss e)
+    ≡ told empty_scalar (f (k ∷ ks)) (at f (k ∷ ks) state.IndentlessSequenceEntry ss e)
+unfolding step indentless_entry indentless_node
+indentless_is_left_out f BlockEntry ks ss e h = refl
+indentless_is_left_out f Key ks ss e h = refl
+indentless_is_left_out f Value ks ss e h = refl
+indentless_is_left_out f BlockEnd ks ss e h = refl
+indentless_is_left_out f _ ks ss e h = elim h [ ]
+
+pub indentless_says : (n : Node) (t : List Kind) → YieldsOptional n (YieldsNode n InBlock) t
+    → (YieldsNode n InBlock t → NodeSays n InBlock t)
+    → (f : Spans) (k : Kind) (ks : List Kind) (ss : List State) (e : Memory) (ps : List Part) → EndsIndentless k
+    → Tells f (k ∷ ks) state.IndentlessSequenceEntry ss (after_node n e) ps
+    → Tells f (BlockEntry ∷ (t ++ k ∷ ks)) state.IndentlessSequenceEntry ss e (node_parts n ++ ps)
+indentless_says n t h g f k ks ss e ps z l =
+    enters_or_skips n InBlock t h g f k ks (λ l. at f (BlockEntry ∷ l) state.IndentlessSequenceEntry ss e)
+    state.IndentlessSequenceEntry (λ l. state.IndentlessSequenceEntry) ss e ps (indentless_end_follows k z)
+    (λ l q. cc) (f (k ∷ ks)) (indentless_is_left_out f k ks ss e z) (λ j l s. indentless_begins f j l ss e s) l
+
+-- ## Entries of mappings
+
+key_begins : (f : Spans) (j : Kind) (l : List Kind) (ss : List State) (e : Memory) → Starts InBlockMapping j
+    → step (at f (Key ∷ j ∷ l) state.BlockMappingKey ss e)
+    ≡ next_node BlockMapping (at f (j ∷ l) state.BlockMappingKey (state.BlockMappingValue ∷ ss) e)
+unfolding step mapping_key key_node
+key_begins f Key l ss e h = elim h [ ]
+key_begins f Value l ss e h = elim h [ ]
+key_begins f BlockEnd l ss e h = elim h [ ]
+key_begins f _ l ss e h = refl
+
+key_is_left_out : (f : Spans) (k : Kind) (ks : List Kind) (ss : List State) (e : Memory) → MayFollow InBlockMapping k
+    → step (at f (Key ∷ k ∷ ks) state.BlockMappingKey ss e)
+    ≡ told empty_scalar (f ks) (at f (k ∷ ks) state.BlockMappingValue ss e)
+unfolding step mapping_key key_node
+key_is_left_out f Key ks ss e h = refl
+key_is_left_out f Value ks ss e h = refl
+key_is_left_out f BlockEnd ks ss e h = refl
+key_is_left_out f _ ks ss e h = elim h [ ]
+
+value_begins : (f : Spans) (j : Kind) (l : List Kind) (ss : List State) (e : Memory) → Starts InBlockMapping j
+    → step (at f (Value ∷ j ∷ l) state.BlockMappingValue ss e)
+    ≡ next_node BlockMapping (at f (j ∷ l) state.BlockMappingValue (state.BlockMappingKey ∷ ss) e)
+unfolding step mapping_value value_node
+value_begins f Key l ss e h = elim h [ ]
+value_begins f Value l ss e h = elim h [ ]
+value_begins f BlockEnd l ss e h = elim h [ ]
+value_begins f _ l ss e h = refl
+
+value_is_left_out : (f : Spans) (k : Kind) (ks : List Kind) (ss : List State) (e : Memory) → MayFollow InBlockMapping k
+    → step (at f (Value ∷ k ∷ ks) state.BlockMappingValue ss e)
+    ≡ told empty_scalar (f (k ∷ ks)) (at f (k ∷ ks) state.BlockMappingKey ss e)
+unfolding step mapping_value value_node
+value_is_left_out f Key ks ss e h = refl
+value_is_left_out f Value ks ss e h = refl
+value_is_left_out f BlockEnd ks ss e h = refl
+value_is_left_out f _ ks ss e h = elim h [ ]
+
+value_is_missing : (f : Spans) (k : Kind) (ks : List Kind) (ss : List State) (e : Memory) → MayFollow InBlockMapping k
+    → ¬ (BeginsWithValue (k ∷ ks))
+    → step (at f (k ∷ ks) state.BlockMappingValue ss e)
+    ≡ told empty_scalar (f ks) (at f (k ∷ ks) state.BlockMappingKey ss e)
+unfolding step mapping_value
+value_is_missing f Key ks ss e h n = refl
+value_is_missing f BlockEnd ks ss e h n = refl
+value_is_missing f Value ks ss e h n = absurd (n tt)
+value_is_missing f _ ks ss e h n = elim h [ ]
+
+-- the key, from its mark on
+key_says : (key : Node) (t : List Kind) → YieldsOptional key (YieldsNode key InBlockMapping) t
+    → (YieldsNode key InBlockMapping t → NodeSays key InBlockMapping t)
+    → (f : Spans) (k : Kind) (ks : List Kind) (ss : List State) (e : Memory) (ps : List Part)
+    → MayFollow InBlockMapping k → Tells f (k ∷ ks) state.BlockMappingValue ss (after_node key e) ps
+    → Tells f (Key ∷ (t ++ k ∷ ks)) state.BlockMappingKey ss e (node_parts key ++ ps)
+key_says key t h g f k ks ss e ps z l =
+    enters_or_skips key InBlockMapping t h g f k ks (λ l. at f (Key ∷ l) state.BlockMappingKey ss e)
+    state.BlockMappingKey (λ l. state.BlockMappingValue) ss e ps z (λ l q. cc) (f ks)
+    (key_is_left_out f k ks ss e z) (λ j l s. key_begins f j l ss e s) l
+
+-- the value, from its mark on
+value_says : (value : Node) (t : List Kind) → YieldsOptional value (YieldsNode value InBlockMapping) t
+    → (YieldsNode value InBlockMapping t → NodeSays value InBlockMapping t)
+    → (f : Spans) (k : Kind) (ks : List Kind) (ss : List State) (e : Memory) (ps : List Part)
+    → MayFollow InBlockMapping k → Tells f (k ∷ ks) state.BlockMappingKey ss (after_node value e) ps
+    → Tells f (Value ∷ (t ++ k ∷ ks)) state.BlockMappingValue ss e (node_parts value ++ ps)
+value_says value t h g f k ks ss e ps z l =
+    enters_or_skips value InBlockMapping t h g f k ks (λ l. at f (Value ∷ l) state.BlockMappingValue ss e)
+    state.BlockMappingValue (λ l. state.BlockMappingKey) ss e ps z (λ l q. cc) (f (k ∷ ks))
+    (value_is_left_out f k ks ss e z) (λ j l s. value_begins f j l ss e s) l
+
+-- a pair whose value is left out
+alone_says : (key : Node) (t : List Kind) → YieldsMarkedKey key (YieldsNode key InBlockMapping) t
+    → ((u : List Kind) → YieldsNode key InBlockMapping u → NodeSays key InBlockMapping u)
+    → (f : Spans) (k : Kind) (ks : List Kind) (ss : List State) (e : Memory) (ps : List Part)
+    → MayFollow InBlockMapping k → ¬ (BeginsWithValue (k ∷ ks))
+    → Tells f (k ∷ ks) state.BlockMappingKey ss (after_node key e) ps
+    → Tells f (t ++ k ∷ ks) state.BlockMappingKey ss e (node_parts key ++ (node_parts forest.left_out ++ ps))
+alone_says key t h g f k ks ss e ps z n l =
+    let e' : Memory = after_node key e in
+    let second : Tells f (k ∷ ks) state.BlockMappingValue ss e' (node_parts forest.left_out ++ ps) =
+    skipped e' (at f (k ∷ ks) state.BlockMappingValue ss e') (at f (k ∷ ks) state.BlockMappingKey ss e') ps (f ks)
+    (λ q. cc) (value_is_missing f k ks ss e' z n) l in
+    subst (λ (u : List Kind). Tells f (u ++ k ∷ ks) state.BlockMappingKey ss e
+    (node_parts key ++ (node_parts forest.left_out ++ ps))) (sym h.2)
+    (key_says key h.0 h.1 (g h.0) f k ks ss e (node_parts forest.left_out ++ ps) z second)
+
+-- a pair whose key is left out
+keyless_says : (value : Node) (t : List Kind) → YieldsMarkedValue value (YieldsNode value InBlockMapping) t
+    → ((u : List Kind) → YieldsNode value InBlockMapping u → NodeSays value InBlockMapping u)
+    → (f : Spans) (k : Kind) (ks : List Kind) (ss : List State) (e : Memory) (ps : List Part)
+    → MayFollow InBlockMapping k → Tells f (k ∷ ks) state.BlockMappingKey ss (after_node value e) ps
+    → Tells f (t ++ k ∷ ks) state.BlockMappingKey ss e (node_parts forest.left_out ++ (node_parts value ++ ps))
+unfolding step mapping_key
+keyless_says value t h g f k ks ss e ps z l =
+    let rest : List Kind = h.0 ++ k ∷ ks in
+    let second : Tells f (Value ∷ rest) state.BlockMappingValue ss e (node_parts value ++ ps) =
+    value_says value h.0 h.1 (g h.0) f k ks ss e ps z l in
+    subst (λ (u : List Kind). Tells f (u ++ k ∷ ks) state.BlockMappingKey ss e
+    (node_parts forest.left_out ++ (node_parts value ++ ps))) (sym h.2)
+    (skipped e (at f (Value ∷ rest) state.BlockMappingKey ss e) (at f (Value ∷ rest) state.BlockMappingValue ss e)
+    (node_parts value ++ ps) (f rest) (λ q. cc) refl second)
+
+pub pair_says : (key value : Node) (others t : List Kind)
+    → YieldsBlockPair key value (YieldsNode key InBlockMapping) (YieldsNode value InBlockMapping) others t
+    → ((u : List Kind) → YieldsNode key InBlockMapping u → NodeSays key InBlockMapping u)
+    → ((u : List Kind) → YieldsNode value InBlockMapping u → NodeSays value InBlockMapping u)
+    → (f : Spans) (k : Kind) (ks : List Kind) (ss : List State) (e : Memory) (ps : List Part)
+    → MayFollow InBlockMapping k → (¬ (BeginsWithValue others) → ¬ (BeginsWithValue (k ∷ ks)))
+    → Tells f (k ∷ ks) state.BlockMappingKey ss (after_node value (after_node key e)) ps
+    → Tells f (t ++ k ∷ ks) state.BlockMappingKey ss e (node_parts key ++ (node_parts value ++ ps))
+pair_says key value others t (inl h) gk gv f k ks ss e ps z n l =
+    let kt : List Kind = h.2.0 in
+    let vt : List Kind = h.3.0 in
+    let same : t ++ k ∷ ks ≡ Key ∷ (kt ++ Value ∷ (vt ++ k ∷ ks)) =
+    marked_tokens t h.0 h.1 kt vt (k ∷ ks) h.2.2 h.3.2 h.4 in
+    let second : Tells f (Value ∷ (vt ++ k ∷ ks)) state.BlockMappingValue ss (after_node key e)
+    (node_parts value ++ ps) = value_says value vt h.3.1 (gv vt) f k ks ss (after_node key e) ps z l in
+    subst (λ (u : List Kind). Tells f u state.BlockMappingKey ss e (node_parts key ++ (node_parts value ++ ps)))
+    (sym same) (key_says key kt h.2.1 (gk kt) f Value (vt ++ k ∷ ks) ss e (node_parts value ++ ps) tt second)
+pair_says key value others t (inr (inl h)) gk gv f k ks ss e ps z n l =
+    subst (λ (v : Node). Tells f (k ∷ ks) state.BlockMappingKey ss (after_node v (after_node key e)) ps
+    → Tells f (t ++ k ∷ ks) state.BlockMappingKey ss e (node_parts key ++ (node_parts v ++ ps))) (sym h.0)
+    (alone_says key t h.2 gk f k ks ss e ps z (n h.1)) l
+pair_says key value others t (inr (inr h)) gk gv f k ks ss e ps z n l =
+    subst (λ (v : Node). Tells f (k ∷ ks) state.BlockMappingKey ss (after_node value (after_node v e)) ps
+    → Tells f (t ++ k ∷ ks) state.BlockMappingKey ss e (node_parts v ++ (node_parts value ++ ps))) (sym h.0)
+    (keyless_says value t h.1 gv f k ks ss e ps z) l

@@ -1,6 +1,0 @@
--- What contracts see of the directives of a document.
-use Rattle.saphyr_parser.specs.declared.parser.document.Declared as code
-use Rattle.saphyr_parser.specs.DocumentSteps.{Declared}
-
-abbrev pub declared : code.Declared → Declared
-declared d = record { version = d.version; handles = d.handles }

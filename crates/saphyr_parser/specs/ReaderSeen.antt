@@ -1,9 +1,0 @@
--- What contracts see of a reader.
-use Rattle.std.specs.Prelude.{option_map}
-use Rattle.saphyr_parser.specs.declared.parser.reader.Reader.{Reader}
-use Rattle.saphyr_parser.specs.Seen.{machine_of}
-use Rattle.saphyr_parser.specs.Cursor.{Cursor, event_of}
-use Rattle.saphyr_parser.specs.KeptSeen.{kept_of}
-
-abbrev pub cursor : {T : Type 0} → Reader T → Cursor
-cursor r = record { current = option_map event_of r.current; kept = option_map kept_of r.kept; machine = machine_of r.machine; inside = r.inside; finished = r.finished }

@@ -1,0 +1,34 @@
+-- What the handle of a tag stands for (YAML 1.2.2, 6.8.2 and 6.9.1).
+use Rattle.std.specs.Prelude.{ℕ, ◌-◌, length, Bool, nat_le, nat_eq, ◌&&◌, if◌then◌else◌, List, Option, Some, None, Result, Ok, Err, codes, slice_index}
+use Rattle.std.specs.Str.{bytes_eq}
+use Rattle.saphyr_scalar.specs.declared.scalar.position.Marker.{Marker}
+use Rattle.saphyr_scalar.specs.declared.scalar.fault.Refusal.{Refusal}
+use Rattle.saphyr_scalar.specs.declared.scalar.fault.FaultText.TheVariants as fault
+use Rattle.saphyr_parser.specs.Events.{ResolvedTag}
+use Rattle.saphyr_parser.specs.Steps.Machine.{◌>>=◌, Names, meaning}
+
+-- a handle `!word!`, which has to be declared
+abbrev pub is_named : List ℕ → Bool
+is_named handle = nat_le 2 (length handle)
+    && (nat_eq (slice_index handle 0) 33 && nat_eq (slice_index handle (length handle - 1)) 33)
+
+abbrev pub undeclared : List ℕ → Marker → Result (List ℕ) Refusal
+undeclared handle place =
+    if bytes_eq handle (codes "!!") then Ok (codes "tag:yaml.org,2002:")
+    else if is_named handle then Err (record { text = fault.UndeclaredHandle; mark = place })
+    else Ok handle
+
+abbrev pub declared_or : Option (List ℕ) → Result (List ℕ) Refusal → Result (List ℕ) Refusal
+declared_or (Some prefix) r = Ok prefix
+declared_or None r = r
+
+-- The prefix of a handle, at a place. `!` and `!<uri>` have no handle.
+unfoldable pub prefix_of : Names (List ℕ) → List ℕ → Marker → Result (List ℕ) Refusal
+prefix_of prefixes handle place =
+    if nat_eq (length handle) 0 then Ok handle else declared_or (meaning handle prefixes) (undeclared handle place)
+
+-- the tag at a place
+unfoldable pub resolved : Names (List ℕ) → List ℕ → List ℕ → Marker → Result ResolvedTag Refusal
+resolved prefixes handle suffix place = do
+  prefix ← prefix_of prefixes handle place
+  Ok (record { handle = prefix; suffix = suffix })

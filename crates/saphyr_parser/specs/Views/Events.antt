@@ -1,0 +1,31 @@
+-- What contracts see of events and tags.
+use Rattle.std.specs.Prelude.{ℕ, List, ◌++◌, option_map, codes, if◌then◌else◌}
+use Rattle.std.specs.Str.{bytes_eq}
+use Rattle.std.specs.String.{string_bytes}
+use Rattle.std.specs.Cow.{cow_str_bytes}
+use Rattle.saphyr_parser.specs.declared.parser.tag.Tag.{Tag}
+use Rattle.saphyr_parser.specs.declared.parser.event.Event.{Event}
+use Rattle.saphyr_parser.specs.declared.parser.event.Event.TheVariants as events
+use Rattle.saphyr_parser.specs.Events.{ResolvedTag, Happening, Nothing, StreamStart, StreamEnd, DocumentStart, DocumentEnd, Alias, Scalar, SequenceStart, SequenceEnd, MappingStart, MappingEnd}
+
+abbrev pub resolved_tag : Tag → ResolvedTag
+resolved_tag tag = record { handle = string_bytes tag.handle; suffix = string_bytes tag.suffix }
+
+-- how a tag is printed
+abbrev pub tag_text : ResolvedTag → List ℕ
+tag_text tag = if bytes_eq tag.handle (codes "!") then codes "!" ++ tag.suffix else tag.handle
+    ++ (codes "!" ++ tag.suffix)
+
+-- what an event tells
+abbrev pub happening : Event → Happening
+happening events.Nothing = Nothing
+happening events.StreamStart = StreamStart
+happening events.StreamEnd = StreamEnd
+happening (events.DocumentStart explicit) = DocumentStart explicit
+happening events.DocumentEnd = DocumentEnd
+happening (events.Alias id) = Alias id
+happening (events.Scalar text style id tag) = Scalar (cow_str_bytes text) style id (option_map resolved_tag tag)
+happening (events.SequenceStart id tag) = SequenceStart id (option_map resolved_tag tag)
+happening events.SequenceEnd = SequenceEnd
+happening (events.MappingStart id tag) = MappingStart id (option_map resolved_tag tag)
+happening events.MappingEnd = MappingEnd

@@ -1,0 +1,30 @@
+-- What contracts see of a machine and of events.
+use Rattle.std.specs.Prelude.{Option, Some, None, reverse}
+use Rattle.saphyr_scalar.specs.declared.scalar.position.Span.{Span}
+use Rattle.saphyr_scanner.specs.declared.token.Token.{Token}
+use Rattle.saphyr_scanner.specs.Views.Tokens.{Remaining, piece, before}
+use Rattle.saphyr_parser.specs.declared.parser.event.Event.{Event}
+use Rattle.saphyr_parser.specs.declared.parser.machine.Machine as declared
+pub use Rattle.saphyr_parser.specs.Views.Events.{happening, resolved_tag}
+use Rattle.saphyr_parser.specs.Steps.Machine.{Machine, Told}
+
+-- the tokens still to be read, of which one may be read already
+abbrev pub ahead : Option Token → Remaining → Remaining
+ahead None r = r
+ahead (Some t) r = before (piece t) r
+
+abbrev pub machine_of : {T : Type 0} → declared.Machine T → Machine
+machine_of m = record {
+  tokens =
+      ahead m.token m.scanner;
+  state =
+      m.state;
+  states = reverse m.states.items;
+  anchors = m.anchors;
+  prefixes = m.prefixes;
+  keep_tags = m.keep_tags;
+}
+
+-- an event with its span, and the machine that it leaves
+abbrev pub told_of : Machine → Event × Span → Told
+told_of m e = record { what = happening e.0; span = e.1; machine = m }

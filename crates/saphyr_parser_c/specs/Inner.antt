@@ -1,0 +1,54 @@
+-- What the calls on a parser with its event do.
+use Rattle.std.specs.Prelude.{◌≡◌, ℕ, Bool, List, Option, None, Result, IsUtf8}
+use Rattle.std.specs.Borrow.{Bor}
+use Rattle.std.specs.Str.{chars}
+use Rattle.saphyr_scalar.specs.declared.scalar.position.Span.{Span}
+use Rattle.saphyr_parser.specs.declared.parser.event.Event.{Event}
+use Rattle.saphyr_parser.specs.declared.parser.fault.Fault.{Fault}
+use Rattle.saphyr_scanner.specs.Steps.Remaining.{scan}
+use Rattle.saphyr_parser.specs.Calls.{EndsTheStream, Gives, Peeks}
+use Rattle.saphyr_parser.specs.Cursor.{Cursor, Hands, at_start, keeping_tags, to_come}
+use Rattle.saphyr_parser.specs.Promises.{ReadsClosedLayout, ReadsJson, ReadsLayout, TakesEvents}
+use Rattle.saphyr_parser.specs.SpansWithin.{HasSpansIn}
+use Rattle.saphyr_parser_c.specs.declared.inner.Inner.{Inner}
+use Rattle.saphyr_parser_c.specs.declared.shown.CEvent.{CEvent}
+use Rattle.saphyr_parser_c.specs.declared.status.Status.{Status}
+use Rattle.saphyr_parser_c.specs.declared.status.Status.TheVariants as status
+use Rattle.saphyr_parser_c.specs.Shown.{Tells, TellsLent}
+
+-- What a parser at the start of a text promises: those of `Parser::new_from_str`.
+pub record Promises (text : List ℕ) (parser : Cursor) : Type 0 where
+  pub decided : parser ≡ at_start (scan 4294967295 text)
+  pub json : ReadsJson 4294967295 text parser
+  pub layout : ReadsLayout 4294967295 text parser
+  pub closed : ReadsClosedLayout 4294967295 text parser
+  pub spans : (keep : Bool) → HasSpansIn text (to_come (keeping_tags keep parser))
+  pub taken : TakesEvents text parser
+
+-- a parser at the start of a text in UTF-8, which keeps the prefixes of tags or not, and no event yet
+pub record IsOver (text : List ℕ) (keep : Bool) (inner : Inner) : Type 0 where
+  pub utf8 : IsUtf8 text
+  pub fresh : Cursor
+  pub promises : Promises (chars text) fresh
+  pub parser : inner.parser ≡ keeping_tags keep fresh
+  pub event : inner.event ≡ None
+
+-- why there is none
+abbrev pub RefusesText : List ℕ → Status → Type 0
+RefusesText text status.NotUtf8 = IsUtf8 text → ⊥
+RefusesText text status.NoMemory = IsUtf8 text
+RefusesText text _ = ⊥
+
+-- What is handed out is the head of the events to come, and is told; it is kept until the next call.
+pub record Steps (old : Inner) (s : Status) (c : CEvent) (new : Inner) : Type 0 where
+  pub hands : Hands new.event (to_come old.parser) (to_come new.parser)
+  pub gives : Gives new.event old.parser new.parser
+  pub over : EndsTheStream new.parser
+  pub tells : Tells new.event s c
+
+-- What is told is what the parser shows.
+pub record Looks (old : Inner) (s : Status) (c : CEvent) (new : Inner) : Type 0 where
+  pub shown : Option (Result (Bor (Event × Span)) (Bor Fault))
+  pub peeks : Peeks old.parser shown new.parser
+  pub tells : TellsLent shown s c
+  pub event : new.event ≡ old.event

@@ -1,0 +1,6 @@
+pub mod Exports
+pub mod Held
+pub mod Inner
+pub mod Same
+pub mod Shown
+pub mod Status

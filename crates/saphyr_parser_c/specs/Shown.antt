@@ -1,0 +1,199 @@
+-- What the event structure of C holds.
+use Rattle.std.specs.Prelude.{◌≡◌, ℕ, ℤ, pos, Bool, true, false, List, length, Option, Some, None, Result, Ok, Err, string_bytes}
+use Rattle.std.specs.Borrow.{Bor}
+use Rattle.std.specs.Global.{Global}
+use Rattle.std.specs.Ptr.{as_ptr, null_ptr}
+use Rattle.std.specs.String.{string_vec}
+use Rattle.std.specs.Vec.{vec_ptr, vec_len}
+use Rattle.std.specs.declared.borrow.CowStr.{CowStr}
+use Rattle.std.specs.declared.borrow.CowStr.TheVariants as cow
+use Rattle.std.specs.declared.vec.Vec.{Vec}
+use Rattle.saphyr_scalar.specs.declared.scalar.position.Marker.{Marker}
+use Rattle.saphyr_scalar.specs.declared.scalar.position.Span.{Span}
+use Rattle.saphyr_scalar.specs.declared.scalar.style.ScalarStyle.{ScalarStyle}
+use Rattle.saphyr_scalar.specs.declared.scalar.style.ScalarStyle.TheVariants as styles
+use Rattle.saphyr_parser.specs.declared.parser.event.Event.{Event}
+use Rattle.saphyr_parser.specs.declared.parser.event.Event.TheVariants as events
+use Rattle.saphyr_parser.specs.declared.parser.tag.Tag.{Tag}
+use Rattle.saphyr_parser.specs.declared.parser.fault.Fault.{Fault}
+use Rattle.saphyr_parser.specs.declared.parser.fault.Fault.TheVariants as fault
+use Rattle.saphyr_parser.specs.Events.{ResolvedTag, Happening, Nothing, StreamStart, StreamEnd, DocumentStart, DocumentEnd, Alias, Scalar, SequenceStart, SequenceEnd, MappingStart, MappingEnd}
+use Rattle.saphyr_parser.specs.Views.Events.{happening}
+use Rattle.saphyr_parser_c.specs.declared.shown.CText.{CText}
+use Rattle.saphyr_parser_c.specs.declared.shown.CMarker.{CMarker}
+use Rattle.saphyr_parser_c.specs.declared.shown.CEvent.{CEvent}
+use Rattle.saphyr_parser_c.specs.declared.status.Status.{Status}
+use Rattle.saphyr_parser_c.specs.declared.status.Status.TheVariants as status
+
+-- ## What is told of an event
+
+-- its fields but for its places, with a text by its bytes
+pub record Told : Type 0 where
+  pub kind : ℤ
+  pub style : ℤ
+  pub explicit : ℤ
+  pub anchor : ℕ
+  pub value : Option (List ℕ)
+  pub tag : Option ResolvedTag
+
+abbrev pub bare : ℤ → Told
+bare kind = record { kind = kind; style = pos 0; explicit = pos 0; anchor = 0; value = None; tag = None }
+
+abbrev pub node : ℤ → ℕ → Option ResolvedTag → Told
+node kind anchor tag = record (bare kind) { anchor = anchor; tag = tag }
+
+-- of no event
+abbrev pub nothing : Told
+nothing = bare (pos 0)
+
+-- of a refusal, by its text
+abbrev pub refusal : List ℕ → Told
+refusal info = record nothing { value = Some info }
+
+abbrev pub style_code : ScalarStyle → ℤ
+style_code styles.Plain = pos 0
+style_code styles.SingleQuoted = pos 1
+style_code styles.DoubleQuoted = pos 2
+style_code styles.Literal = pos 3
+style_code styles.Folded = pos 4
+
+abbrev pub explicit_code : Bool → ℤ
+explicit_code true = pos 1
+explicit_code false = pos 0
+
+abbrev pub told : Happening → Told
+told Nothing = bare (pos 0)
+told StreamStart = bare (pos 1)
+told StreamEnd = bare (pos 2)
+told (DocumentStart explicit) = record (bare (pos 3)) { explicit = explicit_code explicit }
+told DocumentEnd = bare (pos 4)
+told (Alias id) = record (bare (pos 5)) { anchor = id }
+told (Scalar text style id tag) = record (node (pos 6) id tag) { style = style_code style; value = Some text }
+told (SequenceStart id tag) = node (pos 7) id tag
+told SequenceEnd = bare (pos 8)
+told (MappingStart id tag) = node (pos 9) id tag
+told MappingEnd = bare (pos 10)
+
+-- ## The numbers in C's structure
+
+abbrev pub nowhere : Marker
+nowhere = record { index = 0; line = 0; col = 0 }
+
+abbrev pub IsMarker : Marker → CMarker → Type 0
+IsMarker mark c = (c.index ≡ mark.index) × (c.line ≡ mark.line) × (c.col ≡ mark.col)
+
+abbrev pub tag_code : Option ResolvedTag → ℤ
+tag_code None = pos 0
+tag_code (Some tag) = pos 1
+
+-- all fields but the texts
+pub record HasNumbers (t : Told) (from to : Marker) (c : CEvent) : Type 0 where
+  pub kind : c.kind ≡ t.kind
+  pub style : c.style ≡ t.style
+  pub explicit : c.is_explicit ≡ t.explicit
+  pub has_tag : c.has_tag ≡ tag_code t.tag
+  pub anchor : c.anchor ≡ t.anchor
+  pub start : IsMarker from c.start
+  pub end : IsMarker to c.end
+
+-- only texts are written
+pub record HasSameNumbers (old new : CEvent) : Type 0 where
+  pub kind : new.kind ≡ old.kind
+  pub style : new.style ≡ old.style
+  pub explicit : new.is_explicit ≡ old.is_explicit
+  pub has_tag : new.has_tag ≡ old.has_tag
+  pub anchor : new.anchor ≡ old.anchor
+  pub start : new.start ≡ old.start
+  pub end : new.end ≡ old.end
+
+-- only the text of a scalar is written
+abbrev pub IsSameButValue : CEvent → CEvent → Type 0
+IsSameButValue old new =
+    HasSameNumbers old new × (new.tag_handle ≡ old.tag_handle) × (new.tag_suffix ≡ old.tag_suffix)
+
+-- only the texts of the tag are written
+abbrev pub IsSameButTag : CEvent → CEvent → Type 0
+IsSameButTag old new = HasSameNumbers old new × (new.value ≡ old.value)
+
+-- ## The texts in C's structure
+
+-- the address of a text that is lent, and the number of its bytes; null where there is no text
+abbrev pub HasText : Option (List ℕ) → CText → Type 0
+HasText None c = (c.at ≡ null_ptr) × (c.len ≡ 0)
+HasText (Some bytes) c =
+    (text : Bor (List ℕ)) × (text.now ≡ bytes) × (c.at ≡ as_ptr text) × (c.len ≡ length bytes)
+
+abbrev pub HasTagTexts : Option ResolvedTag → CEvent → Type 0
+HasTagTexts None c = HasText None c.tag_handle × HasText None c.tag_suffix
+HasTagTexts (Some tag) c = HasText (Some tag.handle) c.tag_handle × HasText (Some tag.suffix) c.tag_suffix
+
+abbrev pub HasTexts : Told → CEvent → Type 0
+HasTexts t c = HasText t.value c.value × HasTagTexts t.tag c
+
+-- each field of the structure
+abbrev pub Holds : Told → Marker → Marker → CEvent → Type 0
+Holds t start end c = HasNumbers t start end c × HasTexts t c
+
+-- ## Texts that are kept: C is given the very memory in which they stand
+
+abbrev pub StandsAt : Vec ℕ Global → CText → Type 0
+StandsAt bytes c = (c.at ≡ vec_ptr bytes) × (c.len ≡ vec_len bytes)
+
+abbrev pub TextStands : CowStr Global → CText → Type 0
+TextStands (cow.Borrowed text) c = HasText (Some text.now) c
+TextStands (cow.Owned text) c = StandsAt (string_vec text) c
+
+abbrev pub TagStands : Option Tag → CEvent → Type 0
+TagStands None c = HasTagTexts None c
+TagStands (Some tag) c = StandsAt (string_vec tag.handle) c.tag_handle × StandsAt (string_vec tag.suffix) c.tag_suffix
+
+abbrev pub value_of : Event → Option (CowStr Global)
+value_of (events.Scalar text style id tag) = Some text
+value_of _ = None
+
+abbrev pub tag_of : Event → Option Tag
+tag_of (events.Scalar text style id tag) = tag
+tag_of (events.SequenceStart id tag) = tag
+tag_of (events.MappingStart id tag) = tag
+tag_of _ = None
+
+abbrev pub AnyStands : Option (CowStr Global) → CText → Type 0
+AnyStands None c = HasText None c
+AnyStands (Some text) c = TextStands text c
+
+abbrev pub ValueStands : Event → CEvent → Type 0
+ValueStands e c = AnyStands (value_of e) c.value
+
+-- the texts of an event
+abbrev pub Stands : Event → CEvent → Type 0
+Stands e c = ValueStands e c × TagStands (tag_of e) c
+
+-- ## What a call answers
+
+abbrev pub TellsNumbers : Event × Span → CEvent → Type 0
+TellsNumbers e c = HasNumbers (told (happening e.0)) e.1.start e.1.end c
+
+-- of a fault that is kept; reading gives no other than the first two
+abbrev pub TellsFault : Fault → Status → CEvent → Type 0
+TellsFault (fault.Scan error) s c =
+    (s ≡ status.Refused) × HasNumbers nothing error.mark error.mark c × StandsAt (string_vec error.info) c.value
+    × HasTagTexts None c
+TellsFault _ s c = (s ≡ status.NoMemory) × Holds nothing nowhere nowhere c
+
+-- of what is kept
+abbrev pub Tells : Option (Result (Event × Span) Fault) → Status → CEvent → Type 0
+Tells None s c = (s ≡ status.End) × Holds nothing nowhere nowhere c
+Tells (Some (Ok e)) s c = (s ≡ status.Event) × TellsNumbers e c × Stands e.0 c
+Tells (Some (Err f)) s c = TellsFault f s c
+
+-- of a fault that is lent
+abbrev pub TellsLentFault : Fault → Status → CEvent → Type 0
+TellsLentFault (fault.Scan error) s c =
+    (s ≡ status.Refused) × Holds (refusal (string_bytes error.info)) error.mark error.mark c
+TellsLentFault _ s c = (s ≡ status.NoMemory) × Holds nothing nowhere nowhere c
+
+-- of what is lent
+abbrev pub TellsLent : Option (Result (Bor (Event × Span)) (Bor Fault)) → Status → CEvent → Type 0
+TellsLent None s c = (s ≡ status.End) × Holds nothing nowhere nowhere c
+TellsLent (Some (Ok e)) s c = (s ≡ status.Event) × TellsNumbers e.now c × HasTexts (told (happening e.now.0)) c
+TellsLent (Some (Err f)) s c = TellsLentFault f.now s c

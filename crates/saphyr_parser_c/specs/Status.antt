@@ -1,0 +1,14 @@
+-- The numbers of statuses in C.
+use Rattle.std.specs.Prelude.{ℤ, pos, negsuc}
+use Rattle.saphyr_parser_c.specs.declared.status.Status.{Status}
+use Rattle.saphyr_parser_c.specs.declared.status.Status.TheVariants.{Done, End, Event, Refused, NoMemory, NotUtf8, NoParser}
+
+-- `negsuc n` is -(n + 1)
+abbrev pub code_of : Status → ℤ
+code_of Done = pos 0
+code_of End = pos 0
+code_of Event = pos 1
+code_of Refused = negsuc 0
+code_of NoMemory = negsuc 1
+code_of NotUtf8 = negsuc 2
+code_of NoParser = negsuc 3

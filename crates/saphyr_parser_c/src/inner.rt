@@ -1,0 +1,88 @@
+//! A parser with the event that it gave last, whose texts C may read until the next call.
+
+ghost use Rattle.std.specs.Prelude.{◌≡◌, IfOk, MatchResult};
+
+use crate::answer::{tell, tell_lent};
+use crate::shown::CEvent;
+use crate::status::Status;
+use saphyr_parser::{Event, Fault, Parser, Span, StrInput};
+use std::alloc::{AllocError, Global};
+use std::mem;
+
+/// A parser, and what it handed out last.
+#[derive(Drop)]
+pub struct Inner {
+    pub(super) parser: Parser<'static, StrInput<'static>>,
+    pub(super) event: Option<Result<(Event<'static>, Span), Fault>>,
+}
+
+impl Inner {
+    ghost use Rattle.saphyr_parser.specs.Calls as calls;
+    ghost use Rattle.saphyr_parser.specs.Cursor as cursor;
+    ghost use Rattle.saphyr_parser_c.specs.Inner as spec;
+
+    /// A parser at the start of a text, on the heap.
+    pub fn over(
+        alloc: Global,
+        text: &'static [u8],
+        keep_tags: bool,
+    ) -> Result<Box<Inner, Global>, Status>
+        ensures { MatchResult result
+            (λ b. spec.IsOver text.now keep_tags b.value) (spec.RefusesText text.now) }
+    {
+        let Ok(text) = str::from_utf8(text) else {
+            return Err(Status::NotUtf8);
+        };
+        let parser = Parser::new_from_str(alloc, text).keep_tags(keep_tags);
+        match Box::new(
+            alloc,
+            Inner {
+                parser,
+                event: None,
+            },
+        ) {
+            Ok(inner) => Ok(inner),
+            Err(_) => Err(Status::NoMemory),
+        }
+    }
+
+    /// Hands out what comes next, which stays here until the next call.
+    pub fn step(&mut self, alloc: Global, out: &mut CEvent) -> Status
+        ensures { spec.Steps self.old result out.new self.new }
+    {
+        self.event = self.parser.next_event();
+        tell(alloc, &mut self.event, out)
+    }
+
+    /// Shows what comes next.
+    pub fn look(&mut self, out: &mut CEvent) -> Status
+        ensures { spec.Looks self.old result out.new self.new }
+    {
+        tell_lent(self.parser.peek(), out)
+    }
+
+    /// A parser of its own at the same place, on the heap.
+    pub fn copy(&self, alloc: Global) -> Result<Box<Inner, Global>, AllocError>
+        ensures { IfOk result (λ b. (b.value.parser ≡ self.now.parser) × (b.value.event ≡ None)) }
+    {
+        let parser = self.parser.try_clone()?;
+        match Box::new(
+            alloc,
+            Inner {
+                parser,
+                event: None,
+            },
+        ) {
+            Ok(inner) => Ok(inner),
+            Err(_) => Err(AllocError),
+        }
+    }
+
+    /// Sets whether the prefixes of tags hold for later documents too.
+    pub fn keep_tags(&mut self, alloc: Global, value: bool)
+        ensures { self.new ≡ record self.old { parser = cursor.keeping_tags value self.old.parser } }
+    {
+        let parser = mem::replace(&mut self.parser, Parser::new_from_str(alloc, ""));
+        self.parser = parser.keep_tags(value);
+    }
+}

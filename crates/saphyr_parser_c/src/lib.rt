@@ -1,0 +1,164 @@
+//! The parser for C: what `saphyr_parser.h` declares. C keeps a parser as a pointer, which is null where there is
+//! none; the parser and the event that it gave last stand on the heap behind it.
+#![tactic(auto)]
+
+ghost use Rattle.std.specs.Prelude.{◌≡◌, ◌↔◌, IsUtf8, negsuc, pos};
+ghost use mathlib.Core.Option.{Option, none, some};
+ghost use Rattle.saphyr_parser_c.specs.Exports as spec;
+
+mod answer;
+mod handle;
+mod inner;
+mod parts;
+mod shown;
+mod status;
+mod texts;
+
+use handle::Handle;
+use inner::Inner;
+use parts::Parts;
+use shown::{CEvent, blank};
+use status::Status;
+use std::alloc::Global;
+use std::mem;
+
+// Puts a parser, or none, in the place of what C holds, and frees that.
+fn put(place: &mut Handle, handle: Handle)
+    ensures { place.new.value ≡ handle.value }
+{
+    match mem::replace(place, handle).into_parts() {
+        Some(parts) => drop(parts.into_box()),
+        None => {}
+    }
+}
+
+// Takes what C holds, and leaves an empty handle.
+fn take(alloc: Global, place: &mut Handle) -> Option<Box<Inner, Global>>
+    ensures taken { spec.IsTaken result place.old.value }
+    ensures emptied { place.new.value ≡ none }
+{
+    match mem::replace(place, Handle::none(alloc)).into_parts() {
+        Some(parts) => Some(parts.into_box()),
+        None => None,
+    }
+}
+
+/// A parser of a text, which has to stay as it is until the parser is freed. What `out` held is freed.
+#[unsafe(no_mangle)]
+pub extern "C" fn saphyr_new(
+    alloc: Global,
+    text: &'static [u8],
+    keep_tags: bool,
+    out: &mut Handle,
+) -> i32
+    ensures made { result ≡ pos 0 → spec.IsMade text.now keep_tags out.new.value }
+    ensures empty { (result ≡ pos 0 → ⊥) → out.new.value ≡ none }
+    ensures not_utf8 { (result ≡ negsuc 2) ↔ (IsUtf8 text.now → ⊥) }
+    ensures others { spec.MakesOrNot result }
+{
+    match Inner::over(alloc, text, keep_tags) {
+        Ok(inner) => {
+            put(out, Handle::of_parts(Parts::of(inner)));
+            Status::Done.code()
+        }
+        Err(status) => {
+            put(out, Handle::none(alloc));
+            status.code()
+        }
+    }
+}
+
+/// Hands out the next event, and where a fault ends the events that fault, once.
+#[unsafe(no_mangle)]
+pub extern "C" fn saphyr_next(alloc: Global, parser: &mut Handle, event: &mut CEvent) -> i32
+    ensures { spec.Nexts parser.old.value result event.new parser.new.value }
+{
+    match take(alloc, parser) {
+        Some(mut inner) => {
+            let status = inner.step(alloc, event);
+            put(parser, Handle::of_parts(Parts::of(inner)));
+            status.code()
+        }
+        None => {
+            *event = blank();
+            Status::NoParser.code()
+        }
+    }
+}
+
+/// Shows what `saphyr_next` gives next, and does not pass it.
+#[unsafe(no_mangle)]
+pub extern "C" fn saphyr_peek(alloc: Global, parser: &mut Handle, event: &mut CEvent) -> i32
+    ensures { spec.PeeksAt parser.old.value result event.new parser.new.value }
+{
+    match take(alloc, parser) {
+        Some(mut inner) => {
+            let status = inner.look(event);
+            put(parser, Handle::of_parts(Parts::of(inner)));
+            status.code()
+        }
+        None => {
+            *event = blank();
+            Status::NoParser.code()
+        }
+    }
+}
+
+/// A parser of its own at the same place of the events. What `copy` held is freed.
+#[unsafe(no_mangle)]
+pub extern "C" fn saphyr_clone(alloc: Global, parser: &mut Handle, copy: &mut Handle) -> i32
+    ensures same { parser.new.value ≡ parser.old.value }
+    ensures copied { spec.Clones parser.old.value result copy.new.value }
+{
+    match take(alloc, parser) {
+        Some(inner) => {
+            let status = match inner.copy(alloc) {
+                Ok(other) => {
+                    put(copy, Handle::of_parts(Parts::of(other)));
+                    Status::Done
+                }
+                Err(_) => {
+                    put(copy, Handle::none(alloc));
+                    Status::NoMemory
+                }
+            };
+            put(parser, Handle::of_parts(Parts::of(inner)));
+            status.code()
+        }
+        None => {
+            put(copy, Handle::none(alloc));
+            Status::NoParser.code()
+        }
+    }
+}
+
+/// Says whether the prefixes of tags hold for later documents too.
+#[unsafe(no_mangle)]
+pub extern "C" fn saphyr_keep_tags(alloc: Global, parser: &mut Handle, keep_tags: bool) -> i32
+    ensures { spec.Keeps keep_tags parser.old.value result parser.new.value }
+{
+    match take(alloc, parser) {
+        Some(mut inner) => {
+            inner.keep_tags(alloc, keep_tags);
+            put(parser, Handle::of_parts(Parts::of(inner)));
+            Status::Done.code()
+        }
+        None => Status::NoParser.code(),
+    }
+}
+
+/// Frees the parser, if there is one. The handle is null then.
+#[unsafe(no_mangle)]
+pub extern "C" fn saphyr_free(alloc: Global, parser: &mut Handle)
+    ensures { parser.new.value ≡ none }
+{
+    put(parser, Handle::none(alloc));
+}
+
+/// The version of the library, as the header counts it.
+#[unsafe(no_mangle)]
+pub extern "C" fn saphyr_version() -> u32
+    ensures { result ≡ 1000 }
+{
+    1000
+}

@@ -1,0 +1,40 @@
+//! What a call answers, and its number in C.
+
+ghost use Rattle.std.specs.Prelude.{◌≡◌};
+ghost use Rattle.saphyr_parser_c.specs.Status.{code_of};
+
+/// What a call answers.
+#[derive(Clone, Copy, Debug, PartialEq, Eq)]
+pub enum Status {
+    /// The call made or changed what it was asked to.
+    Done,
+    /// No event is left.
+    End,
+    /// There is an event.
+    Event,
+    /// The text is refused.
+    Refused,
+    /// Memory ran out.
+    NoMemory,
+    /// The text is not UTF-8.
+    NotUtf8,
+    /// The handle has no parser.
+    NoParser,
+}
+
+impl Status {
+    /// Its number in C.
+    pub fn code(self) -> i32
+        ensures { result ≡ code_of self }
+    {
+        match self {
+            Status::Done => 0,
+            Status::End => 0,
+            Status::Event => 1,
+            Status::Refused => -1,
+            Status::NoMemory => -2,
+            Status::NotUtf8 => -3,
+            Status::NoParser => -4,
+        }
+    }
+}

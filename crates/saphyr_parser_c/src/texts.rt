@@ -1,0 +1,145 @@
+//! Where the texts of an event stand: those that the parser lends, and those that are kept for C.
+
+ghost use Rattle.std.specs.Prelude.{◌≡◌, Some, None, option_map};
+ghost use Rattle.std.specs.Cow.{cow_str_bytes};
+ghost use Rattle.std.specs.Ptr.{as_ptr};
+ghost use Rattle.std.specs.String.{string_vec};
+ghost use Rattle.saphyr_parser.specs.Views.Events.{happening, resolved_tag};
+ghost use Rattle.saphyr_parser_c.specs.Shown as spec;
+
+use crate::shown::{CEvent, CText};
+use saphyr_parser::{Event, Tag};
+use std::alloc::Global;
+use std::borrow::CowStr;
+use std::mem;
+
+// Where the first byte stands. The contract gives no right to read it.
+fn address(bytes: &[u8]) -> *const u8
+    ensures { result ≡ as_ptr bytes.entry }
+{
+    bytes.as_ptr()
+}
+
+/// Where a text stands, and how long it is.
+pub fn lent(text: &str) -> CText
+    ensures { spec.HasText (Some text.now) result }
+{
+    CText {
+        at: address(text.as_bytes()),
+        len: text.len(),
+    }
+}
+
+// Tells where the texts of a tag stand.
+fn lend_tag(tag: &Option<Tag>, out: &mut CEvent)
+    ensures same { spec.IsSameButTag out.old out.new }
+    ensures texts { spec.HasTagTexts None out.old
+        → spec.HasTagTexts (option_map resolved_tag tag.now) out.new }
+{
+    if let Some(tag) = tag {
+        out.tag_handle = lent(tag.handle.as_str());
+        out.tag_suffix = lent(tag.suffix.as_str());
+    }
+}
+
+/// Tells where the texts of an event stand.
+pub fn lend(event: &Event<'static>, out: &mut CEvent)
+    ensures numbers { spec.HasSameNumbers out.old out.new }
+    ensures texts { spec.HasTexts spec.nothing out.old
+        → spec.HasTexts (spec.told (happening event.now)) out.new }
+{
+    match event {
+        Event::Scalar(value, _, _, tag) => {
+            out.value = lent(value);
+            lend_tag(tag, out);
+        }
+        Event::SequenceStart(_, tag) | Event::MappingStart(_, tag) => lend_tag(tag, out),
+        Event::Nothing
+        | Event::StreamStart
+        | Event::StreamEnd
+        | Event::DocumentStart(_)
+        | Event::DocumentEnd
+        | Event::Alias(_)
+        | Event::SequenceEnd
+        | Event::MappingEnd => {}
+    }
+}
+
+/// Where the bytes of a text that is kept stand, and how many there are. They are taken out for that, and put back.
+pub fn kept(alloc: Global, text: &mut String) -> CText
+    ensures stands { spec.StandsAt (string_vec text.new) result }
+    ensures same { string_vec text.new ≡ string_vec text.old }
+{
+    let len = text.as_str().len();
+    let bytes = mem::replace(text, String::new(alloc)).into_bytes();
+    let at = bytes.as_ptr();
+    *text = unsafe { String::from_utf8_unchecked(bytes) };
+    CText { at, len }
+}
+
+// The same of a text that may be borrowed.
+fn kept_any(alloc: Global, text: &mut CowStr<'static>) -> CText
+    ensures stands { spec.TextStands text.new result }
+    ensures same { cow_str_bytes text.new ≡ cow_str_bytes text.old }
+{
+    match text {
+        CowStr::Borrowed(text) => lent(text),
+        CowStr::Owned(text) => kept(alloc, text),
+    }
+}
+
+// Tells where the texts of a tag stand.
+fn keep_tag(alloc: Global, tag: &mut Option<Tag>, out: &mut CEvent)
+    ensures same { spec.IsSameButTag out.old out.new }
+    ensures kept { option_map resolved_tag tag.new ≡ option_map resolved_tag tag.old }
+    ensures stands { spec.HasTagTexts None out.old → spec.TagStands tag.new out.new }
+{
+    if let Some(tag) = tag {
+        out.tag_handle = kept(alloc, &mut tag.handle);
+        out.tag_suffix = kept(alloc, &mut tag.suffix);
+    }
+}
+
+// Tells where the text of a scalar stands.
+fn keep_value(alloc: Global, event: &mut Event<'static>, out: &mut CEvent)
+    ensures same { spec.IsSameButValue out.old out.new }
+    ensures kept { happening event.new ≡ happening event.old }
+    ensures stands { spec.HasText None out.old.value → spec.ValueStands event.new out.new }
+{
+    if let Event::Scalar(value, _, _, _) = event {
+        out.value = kept_any(alloc, value);
+    }
+}
+
+// Tells where the texts of a node's tag stand.
+fn keep_tag_of(alloc: Global, event: &mut Event<'static>, out: &mut CEvent)
+    ensures same { spec.IsSameButTag out.old out.new }
+    ensures value { spec.value_of event.new ≡ spec.value_of event.old }
+    ensures kept { happening event.new ≡ happening event.old }
+    ensures stands { spec.HasTagTexts None out.old
+        → spec.TagStands (spec.tag_of event.new) out.new }
+{
+    match event {
+        Event::Scalar(_, _, _, tag) => keep_tag(alloc, tag, out),
+        Event::SequenceStart(_, tag) => keep_tag(alloc, tag, out),
+        Event::MappingStart(_, tag) => keep_tag(alloc, tag, out),
+        Event::Nothing
+        | Event::StreamStart
+        | Event::StreamEnd
+        | Event::DocumentStart(_)
+        | Event::DocumentEnd
+        | Event::Alias(_)
+        | Event::SequenceEnd
+        | Event::MappingEnd => {}
+    }
+}
+
+/// Tells where the texts of an event stand.
+pub fn keep(alloc: Global, event: &mut Event<'static>, out: &mut CEvent)
+    ensures numbers { spec.HasSameNumbers out.old out.new }
+    ensures kept { happening event.new ≡ happening event.old }
+    ensures stands { spec.HasTexts spec.nothing out.old → spec.Stands event.new out.new }
+{
+    keep_value(alloc, event, out);
+    keep_tag_of(alloc, event, out);
+}

@@ -1,0 +1,19 @@
+-- Block scalars: each spelled one is read, and what is read has the value of its lines.
+pub mod Complete
+pub mod Headers
+pub mod Indentations
+pub mod Law
+pub mod Lines
+pub mod Places
+pub mod Reads
+pub mod Runs
+pub mod Texts
+pub mod Turns
+pub mod Values
+pub mod Wholes
+pub mod Kept
+pub mod Counted
+pub mod PlacedHeaders
+pub mod Placed
+pub mod Refused
+pub mod Told

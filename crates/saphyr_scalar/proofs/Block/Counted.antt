@@ -1,0 +1,206 @@
+-- What is read as a block scalar is counted: the index moves on by as many characters as are taken. Its span stands
+-- within.
+use Rattle.std.proofs.Common.{◌≡◌, ℕ, ◌+◌, ◌≤◌, ◌<◌, Bool, true, false, List, [], ◌∷◌, length, drop, Ok, refl, arith}
+use Rattle.std.specs.Prelude.{◌&&◌, slice_index, not, ◌==◌, nat_lt, nat_le, max, Option, Some, None, unwrap_or}
+use Rattle.std.proofs.lemmas.List.{length-drop}
+use Rattle.saphyr_input.specs.Classes.{is_bom, is_blank, is_break, is_breakz, is_z, is_digit, is_yaml_non_break, tab}
+use Rattle.saphyr_input.specs.Places.{next_2_are}
+use Rattle.saphyr_input.specs.Separation.{separation_len, is_bare_comment}
+use Rattle.saphyr_input.specs.declared.input.SkipTabs.{SkipTabs}
+use Rattle.saphyr_input.specs.declared.input.SkipTabs.TheVariants.{Yes}
+use Rattle.saphyr_scalar.specs.declared.reading.block.BlockStyle.{BlockStyle}
+use Rattle.saphyr_scalar.specs.declared.reading.block.Chomping.{Chomping}
+use Rattle.saphyr_scalar.specs.declared.scalar.position.Marker.{Marker}
+use Rattle.saphyr_scalar.specs.declared.scalar.position.Span.{Span}
+use Rattle.saphyr_scalar.specs.declared.scalar.block.header.BlockHeader.{BlockHeader}
+use Rattle.saphyr_scalar.specs.declared.scalar.block.lines.EmptyLines.{EmptyLines}
+use Rattle.saphyr_scalar.specs.Cursor.{Cursor, along, next_line, pass, pass_blanks, pass_break, behind_separation, separation}
+use Rattle.saphyr_scalar.specs.BlockScalar.{chomping, indicator, header_break, header_end, last_chomping, header_behind, header, is_indentation, is_cr_lf, inside_break, one_more, empty_lines, line_starts, LinesRead, between, line, chomped, content, behind_leading, given_indentation, no_lines, behind_header, block_scalar}
+use Rattle.saphyr_scalar.proofs.Lengths.{two_shown, separation_within}
+use Rattle.saphyr_input.proofs.Basics.Booleans.{by_test}
+use Rattle.saphyr_input.proofs.Basics.Lists.{shown}
+use Rattle.saphyr_scalar.proofs.Given.{Given, given_bind, given_of}
+
+-- the index is no less than `low`, and with the length of what is left it is n
+abbrev Stands : ℕ → ℕ → Cursor → Type 0
+Stands low n t = (low ≤ t.mark.index) × (t.mark.index + length t.rest ≡ n)
+
+abbrev Behind : (A : Type 0) → ℕ → ℕ → A × Cursor → Type 0
+Behind A low n x = Stands low n x.1
+
+moved : (low n k i : ℕ) (xs : List ℕ) → low ≤ i → i + length xs ≡ n → k ≤ length xs
+    → (low ≤ i + k) × (i + k + length (drop k xs) ≡ n)
+moved low n k i xs a b c = let l = length-drop k xs in (omega arith, omega (arith, l))
+
+one_moved : (low n : ℕ) (s : Cursor) → Stands low n s → 1 ≤ length s.rest → Stands low n (pass 1 s)
+one_moved low n s h k = moved low n 1 s.mark.index s.rest h.0 h.1 k
+
+-- ## The header
+
+chomping_stands : (low n : ℕ) (s : Cursor) → Stands low n s → Stands low n (chomping s).1
+unfolding chomping
+chomping_stands low n s h =
+    by_test (slice_index s.rest 0 == 43) _ _ (Behind (Option Chomping) low n)
+    (λ e. one_moved low n s h (shown s.rest (λ c. c == 43) true e (λ k. absurd (cc))))
+    (λ _. by_test (slice_index s.rest 0 == 45) _ _ (Behind (Option Chomping) low n)
+    (λ e. one_moved low n s h (shown s.rest (λ c. c == 45) true e (λ k. absurd (cc)))) (λ _. h))
+
+indicator_stands : (low n : ℕ) (start : Marker) (s : Cursor) → Stands low n s
+    → Given (Behind ℕ low n) (indicator start s)
+unfolding indicator
+indicator_stands low n start s h =
+    by_test (not (is_digit (slice_index s.rest 0))) _ _ (Given (Behind ℕ low n)) (λ _. h)
+    (λ e. by_test (slice_index s.rest 0 == 48) _ _ (Given (Behind ℕ low n)) (λ _. tt)
+    (λ _. one_moved low n s h (shown s.rest (λ c. not (is_digit c)) false e (λ k. absurd (cc)))))
+
+break_stands : (low n : ℕ) (s : Cursor) → Stands low n s → Stands low n (pass_break s)
+break_stands low n s h =
+    by_test (next_2_are s.rest 13 10) _ _ (Stands low n)
+    (λ e. moved low n 2 s.mark.index s.rest h.0 h.1 (two_shown s.rest e))
+    (λ _. by_test (is_break (slice_index s.rest 0)) _ _ (Stands low n)
+    (λ e. moved low n 1 s.mark.index s.rest h.0 h.1 (shown s.rest is_break true e (λ k. absurd (cc)))) (λ _. h))
+
+header_break_stands : (low n : ℕ) (start : Marker) (s : Cursor) → Stands low n s
+    → Given (Stands low n) (header_break start s)
+unfolding header_break
+header_break_stands low n start s h =
+    by_test (not (is_breakz (slice_index s.rest 0))) _ _ (Given (Stands low n)) (λ _. tt)
+    (λ _. by_test (slice_index (pass_break s).rest 0 == tab) _ _ (Given (Stands low n)) (λ _. tt)
+    (λ _. break_stands low n s h))
+
+separation_stands : (low n : ℕ) (tabs : SkipTabs) (s : Cursor) → Stands low n s
+    → Given (Behind SkipTabs low n) (separation tabs s)
+unfolding separation behind_separation
+separation_stands low n tabs s h =
+    let t : Cursor = pass_blanks (separation_len tabs s.rest) s in
+    by_test (nat_lt 0 t.mark.col && is_bom (slice_index t.rest 0)) _ _ (Given (Behind SkipTabs low n)) (λ _. tt)
+    (λ _. by_test (is_bare_comment tabs s.rest) _ _ (Given (Behind SkipTabs low n)) (λ _. tt)
+    (λ _. moved low n (separation_len tabs s.rest) s.mark.index s.rest h.0 h.1 (separation_within tabs s.rest)))
+
+header_end_stands : (low n : ℕ) (start : Marker) (s : Cursor) → Stands low n s
+    → Given (Stands low n) (header_end start s)
+unfolding header_end
+header_end_stands low n start s h =
+    given_bind (Stands low n) (separation Yes s) _ (λ x e.
+    header_break_stands low n start x.1
+    (given_of (Behind SkipTabs low n) (separation Yes s) x (separation_stands low n Yes s h) e))
+
+last_stands : (low n : ℕ) (first : Option Chomping) (s : Cursor) → Stands low n s
+    → Stands low n (last_chomping first s).1
+unfolding last_chomping
+last_stands low n (Some first) s h = h
+last_stands low n None s h = chomping_stands low n s h
+
+header_behind_stands : (low n : ℕ) (start : Marker) (i : ℕ) (x : Chomping × Cursor) → Stands low n x.1
+    → Given (Behind BlockHeader low n) (header_behind start i x)
+unfolding header_behind
+header_behind_stands low n start i x h =
+    given_bind (Behind BlockHeader low n) (header_end start x.1) _
+    (λ s e. given_of (Stands low n) (header_end start x.1) s (header_end_stands low n start x.1 h) e)
+
+header_stands : (low n : ℕ) (s : Cursor) → Stands low n (pass 1 s) → Given (Behind BlockHeader low n) (header s)
+unfolding header
+header_stands low n s h =
+    let first = chomping (pass 1 s) in
+    let given = indicator_stands low n s.mark first.1 (chomping_stands low n (pass 1 s) h) in
+    given_bind (Behind BlockHeader low n) (indicator s.mark first.1) _ (λ x e.
+    header_behind_stands low n s.mark x.0 (last_chomping first.0 x.1)
+    (last_stands low n first.0 x.1 (given_of (Behind ℕ low n) (indicator s.mark first.1) x given e)))
+
+-- ## The lines
+
+empty_stands : (low n : ℕ) (limit : Option ℕ) (before : EmptyLines) (b : Bool) (m : Marker) (t : List ℕ) → low ≤ m.index
+    → m.index + length t ≡ n → Behind EmptyLines low n (empty_lines limit before b m t)
+unfolding empty_lines
+empty_stands low n limit before b m [] a h = (a, h)
+empty_stands low n limit before b m (c ∷ cs) a h =
+    let later : low ≤ m.index + 1 = omega arith in
+    let count : m.index + 1 + length cs ≡ n = omega arith in
+    let P : EmptyLines × Cursor → Type 0 = Behind EmptyLines low n in
+    by_test (is_indentation limit m.col c) _ _ P (λ _. empty_stands low n limit before b (along m 1) cs later count)
+    (λ _. by_test (is_cr_lf c cs) _ _ P (λ _. empty_stands low n limit before b (inside_break m) cs later count)
+    (λ _. by_test (is_break c) _ _ P
+    (λ _. empty_stands low n limit (one_more before m.col) true (next_line m 1) cs later count) (λ _. (a, h))))
+
+abbrev LinesStand : ℕ → ℕ → LinesRead → Type 0
+LinesStand low n x = Stands low n x.2
+
+mutual
+  unfolding between line
+
+  between_stands : (low n : ℕ) (style : BlockStyle) (i : ℕ) (above : Option Bool) (lines : ℕ) (b : Bool) (m : Marker)
+      (t : List ℕ) → low ≤ m.index → m.index + length t ≡ n → LinesStand low n (between style i above lines b m t)
+  between_stands low n style i above lines b m [] a h = (a, h)
+  between_stands low n style i above lines b m (c ∷ cs) a h =
+      let later : low ≤ m.index + 1 = omega arith in
+      let count : m.index + 1 + length cs ≡ n = omega arith in
+      let P : LinesRead → Type 0 = LinesStand low n in
+      by_test (is_indentation (Some i) m.col c) _ _ P
+      (λ _. between_stands low n style i above lines b (along m 1) cs later count)
+      (λ _. by_test (is_cr_lf c cs) _ _ P
+      (λ _. between_stands low n style i above lines b (inside_break m) cs later count)
+      (λ _. by_test (is_break c) _ _ P (λ _. between_stands low n style i above _ true (next_line m 1) cs later count)
+      (λ _. by_test (line_starts i m.col (c ∷ cs)) _ _ P
+      (λ _. line_stands low n style i (is_blank c) b (along m 1) cs later count) (λ _. (a, h)))))
+
+  line_stands : (low n : ℕ) (style : BlockStyle) (i : ℕ) (more b : Bool) (m : Marker) (t : List ℕ) → low ≤ m.index
+      → m.index + length t ≡ n → LinesStand low n (line style i more b m t)
+  line_stands low n style i more b m [] a h = (a, h)
+  line_stands low n style i more b m (c ∷ cs) a h =
+      let later : low ≤ m.index + 1 = omega arith in
+      let count : m.index + 1 + length cs ≡ n = omega arith in
+      let P : LinesRead → Type 0 = LinesStand low n in
+      by_test (is_yaml_non_break c) _ _ P (λ _. line_stands low n style i more b (along m 1) cs later count)
+      (λ _. by_test (is_cr_lf c cs) _ _ P (λ _. line_stands low n style i more b (inside_break m) cs later count)
+      (λ _. by_test (is_break c) _ _ P
+      (λ _. between_stands low n style i (Some more) 0 true (next_line m 1) cs later count) (λ _. (a, h))))
+
+-- ## The scalar
+
+-- the span stands between `low` and the place that is reached
+abbrev SpanStands : ℕ → ℕ → List ℕ × Span × Cursor → Type 0
+SpanStands low n x = (low ≤ x.1.start.index) × (x.1.start.index ≤ x.1.end.index) × (x.1.end ≡ x.2.mark)
+    × (x.2.mark.index + length x.2.rest ≡ n)
+
+content_stands : (low n : ℕ) (style : BlockStyle) (c : Chomping) (indent i lines : ℕ) (s : Cursor) → Stands low n s
+    → Given (SpanStands low n) (content style c indent i lines s)
+unfolding content chomped
+content_stands low n style c indent i lines s h =
+    let read = between_stands s.mark.index n style i None lines s.blank_so_far s.mark s.rest (omega arith) h.1 in
+    by_test (nat_lt s.mark.col i && nat_le indent s.mark.col) _ _ (Given (SpanStands low n)) (λ _. tt)
+    (λ _. (h.0, read.0, refl, read.1))
+
+leading_stands : (n : ℕ) (style : BlockStyle) (indent : ℕ) (start : Marker) (c : Chomping) (limit : Option ℕ)
+    (x : EmptyLines × Cursor) → Stands start.index n x.1
+    → Given (SpanStands start.index n) (behind_leading style indent start c limit x)
+unfolding behind_leading
+leading_stands n style indent start c limit x h =
+    by_test (is_z (slice_index x.1.rest 0)) _ _ (Given (SpanStands start.index n)) (λ _. (omega arith, h.0, refl, h.1))
+    (λ _. content_stands start.index n style c indent (unwrap_or limit (max x.0.widest indent)) x.0.count x.1 h)
+
+header_scalar_stands : (n : ℕ) (style : BlockStyle) (indent : ℕ) (start : Marker) (x : BlockHeader × Cursor)
+    → Stands start.index n x.1 → Given (SpanStands start.index n) (behind_header style indent start x)
+unfolding behind_header
+header_scalar_stands n style indent start x h =
+    let limit = given_indentation indent x.0.indicator in
+    leading_stands n style indent start x.0.chomping limit
+    (empty_lines limit no_lines x.1.blank_so_far x.1.mark x.1.rest)
+    (empty_stands start.index n limit no_lines x.1.blank_so_far x.1.mark x.1.rest h.0 h.1)
+
+scalar_stands : (n : ℕ) (style : BlockStyle) (indent : ℕ) (s : Cursor) → Stands s.mark.index n (pass 1 s)
+    → Given (SpanStands s.mark.index n) (block_scalar style indent s)
+unfolding block_scalar
+scalar_stands n style indent s h =
+    given_bind (SpanStands s.mark.index n) (header s) _ (λ x e.
+    header_scalar_stands n style indent s.mark x
+    (given_of (Behind BlockHeader s.mark.index n) (header s) x (header_stands s.mark.index n s h) e))
+
+pub block_scalar_counts : (style : BlockStyle) (indent : ℕ) (s t : Cursor) (text : List ℕ) (span : Span)
+    → 0 < length s.rest → block_scalar style indent s ≡ Ok (text, span, t)
+    → (s.mark.index ≤ span.start.index) × (span.start.index ≤ span.end.index) × (span.end ≡ t.mark)
+    × (t.mark.index + length t.rest ≡ s.mark.index + length s.rest)
+block_scalar_counts style indent s t text span some e =
+    let n = s.mark.index + length s.rest in
+    let first : Stands s.mark.index n (pass 1 s) = one_moved s.mark.index n s (omega arith, refl) (omega arith) in
+    given_of (SpanStands s.mark.index n) (block_scalar style indent s) (text, span, t)
+    (scalar_stands n style indent s first) e

@@ -1,0 +1,145 @@
+-- The lines of a block scalar, read a piece at a time.
+use Rattle.std.proofs.Common.{◌≡◌, ℕ, zero, suc, ◌+◌, ◌<◌, ◌≤◌, Bool, true, false, List, [], ◌∷◌, ◌++◌, length, drop, slice_index, max, refl, sym, ap, ◌∙◌, arith, subst, encode_utf8_all, append_assoc, add-one, nat_eq}
+use Rattle.std.specs.Prelude.{◌||◌, ◌==◌, encode_utf8, Option, Some, None}
+use Rattle.std.proofs.lemmas.Bool.Decides.{nat_tests}
+use Rattle.std.proofs.lemmas.List.{append-nil}
+use Rattle.saphyr_input.specs.Classes.{is_break}
+use Rattle.saphyr_scalar.specs.declared.scalar.position.Marker.{Marker}
+use Rattle.saphyr_scalar.specs.declared.scalar.block.lines.EmptyLines.{EmptyLines}
+use Rattle.saphyr_scalar.specs.Cursor.{Cursor, along, next_line, pass_blanks, pass_break}
+use Rattle.saphyr_scalar.specs.Folding.{line_feeds}
+use Rattle.saphyr_scalar.specs.BlockScalar.{there, is_indentation, inside_break, widened, one_more, empty_lines, empty_lines_at}
+use Rattle.saphyr_scalar.proofs.Quoted.Inside.{break_cases}
+use Rattle.saphyr_input.proofs.Basics.Booleans.{by_test}
+use Rattle.saphyr_scalar.proofs.PassedBreaks.{inside_same}
+use Rattle.saphyr_scalar.proofs.Block.Indentations.{nul_no_indentation}
+
+-- a place that shows no NUL is a character
+pub read_left : (xs : List ℕ) (c : ℕ) → slice_index xs 0 ≡ suc c → 0 < length xs
+read_left [] c e = absurd (cc)
+read_left (x ∷ xs) c e = omega arith
+
+-- line feeds and one more
+pub feed_first : (n : ℕ) → encode_utf8 10 ++ encode_utf8_all (line_feeds n) ≡ encode_utf8_all (line_feeds (n + 1))
+feed_first n = rw (add-one n) refl
+
+pub feed_last : (n : ℕ) → encode_utf8_all (line_feeds n) ++ encode_utf8 10 ≡ encode_utf8_all (line_feeds (n + 1))
+feed_last zero = sym (append-nil (encode_utf8 10)) ∙ feed_first zero
+feed_last (suc n) =
+    append_assoc (encode_utf8 10) (encode_utf8_all (line_feeds n)) (encode_utf8 10)
+    ∙ ap (λ t. encode_utf8 10 ++ t) (feed_last n ∙ sym (feed_first n))
+    ∙ feed_first (suc n)
+
+-- a space of the indentation
+pub space_on : (limit : Option ℕ) (lines : EmptyLines) (b : Bool) (m : Marker) (c : ℕ) (cs : List ℕ)
+    → is_indentation limit m.col c ≡ true
+    → empty_lines limit lines b m (c ∷ cs) ≡ empty_lines limit lines b (along m 1) cs
+unfolding empty_lines
+space_on None lines b m c cs h = rw h refl
+space_on (Some limit) lines b m c cs h = rw h refl
+
+pub no_break : (c : ℕ) → is_break c ≡ false → (nat_eq c 10 ≡ false) × (nat_eq c 13 ≡ false)
+no_break c h = parts (nat_eq c 10) (nat_eq c 13) h
+  where
+    parts : (a d : Bool) → (a || d) ≡ false → (a ≡ false) × (d ≡ false)
+    parts true d e = absurd (cc)
+    parts false d e = (refl, e)
+
+-- neither a space of the indentation nor a break
+stopped : (limit : Option ℕ) (lines : EmptyLines) (b : Bool) (m : Marker) (xs : List ℕ)
+    → is_indentation limit m.col (slice_index xs 0) ≡ false → is_break (slice_index xs 0) ≡ false
+    → empty_lines limit lines b m xs ≡ (widened lines m.col, there b m xs)
+unfolding empty_lines
+stopped limit lines b m [] h k = refl
+stopped None lines b m (c ∷ cs) h k = rw (h, (no_break c k).1, (no_break c k).0) refl
+stopped (Some limit) lines b m (c ∷ cs) h k = rw (h, (no_break c k).1, (no_break c k).0) refl
+
+pub stops : (limit : Option ℕ) (lines : EmptyLines) (s : Cursor)
+    → is_indentation limit s.mark.col (slice_index s.rest 0) ≡ false → is_break (slice_index s.rest 0) ≡ false
+    → empty_lines_at limit lines s ≡ (widened lines s.mark.col, s)
+stops limit lines s h k = stopped limit lines s.blank_so_far s.mark s.rest h k
+
+-- what stands behind a CR, which an LF may follow
+pub behind_cr : (m : Marker) (b : Bool) (cs : List ℕ) (P : Cursor → Type 0)
+    → ((ds : List ℕ) → cs ≡ 10 ∷ ds → P (there true (next_line m 2) ds))
+    → ((slice_index cs 0 == 10) ≡ false → P (there true (next_line m 1) cs)) → P (pass_break (there b m (13 ∷ cs)))
+behind_cr m b [] P two one = one refl
+behind_cr m b (d ∷ ds) P two one =
+    by_test (d == 10) (there true (next_line m 2) ds) (there true (next_line m 1) (d ∷ ds)) P
+    (λ h. let e : d ≡ 10 = grind (arith, nat_tests) in two ds (ap (λ (x : ℕ). x ∷ ds) e))
+    one
+
+abbrev Taken : Option ℕ → EmptyLines → Bool → Marker → List ℕ → Cursor → Type 0
+Taken limit lines b m xs s = empty_lines limit lines b m xs ≡ empty_lines_at limit (one_more lines m.col) s
+
+at_lf : (limit : Option ℕ) (lines : EmptyLines) (b : Bool) (m : Marker) (cs : List ℕ)
+    → Taken limit lines b m (10 ∷ cs) (there true (next_line m 1) cs)
+unfolding empty_lines
+at_lf None lines b m cs = refl
+at_lf (Some limit) lines b m cs = refl
+
+at_cr : (limit : Option ℕ) (lines : EmptyLines) (b : Bool) (m : Marker) (cs : List ℕ) → (slice_index cs 0 == 10) ≡ false
+    → Taken limit lines b m (13 ∷ cs) (there true (next_line m 1) cs)
+unfolding empty_lines
+at_cr None lines b m cs h = rw h refl
+at_cr (Some limit) lines b m cs h = rw h refl
+
+at_cr_lf : (limit : Option ℕ) (lines : EmptyLines) (b : Bool) (m : Marker) (ds : List ℕ)
+    → Taken limit lines b m (13 ∷ 10 ∷ ds) (there true (next_line m 2) ds)
+unfolding empty_lines
+at_cr_lf None lines b m ds = ap (λ x. empty_lines None (one_more lines m.col) true x ds) (inside_same m)
+at_cr_lf (Some limit) lines b m ds = ap (λ x. empty_lines (Some limit) (one_more lines m.col) true x ds) (inside_same m)
+
+-- a break at the end of an empty line
+at_break : (limit : Option ℕ) (lines : EmptyLines) (b : Bool) (m : Marker) (xs : List ℕ)
+    → is_break (slice_index xs 0) ≡ true → Taken limit lines b m xs (pass_break (there b m xs))
+at_break limit lines b m [] h = absurd (cc)
+at_break limit lines b m (c ∷ cs) h =
+    break_cases c h (λ x. Taken limit lines b m (x ∷ cs) (pass_break (there b m (x ∷ cs))))
+    (at_lf limit lines b m cs)
+    (behind_cr m b cs (Taken limit lines b m (13 ∷ cs))
+    (λ ds e. subst (λ ys. Taken limit lines b m (13 ∷ ys) (there true (next_line m 2) ds)) (sym e)
+    (at_cr_lf limit lines b m ds))
+    (at_cr limit lines b m cs))
+
+pub break_taken : (limit : Option ℕ) (lines : EmptyLines) (s : Cursor) → is_break (slice_index s.rest 0) ≡ true
+    → empty_lines_at limit lines s ≡ empty_lines_at limit (one_more lines s.mark.col) (pass_break s)
+break_taken limit lines s h = at_break limit lines s.blank_so_far s.mark s.rest h
+
+-- One turn of taking off empty lines: from s, which is looked at as `here`, to t. The first character is c.
+pub break_turn : (limit : Option ℕ) (lines : EmptyLines) (s here t : Cursor) (c w : ℕ) → here ≡ s
+    → c ≡ slice_index s.rest 0 → is_break c ≡ true → w ≡ max lines.widest here.mark.col → t ≡ pass_break here
+    → empty_lines_at limit (record { count = lines.count + 1; widest = w }) t ≡ empty_lines_at limit lines s
+break_turn limit lines s here t c w same read h e passed =
+    let first : is_break (slice_index here.rest 0) ≡ true = ap (λ (x : Cursor). is_break (slice_index x.rest 0)) same
+    ∙ sym (ap is_break read) ∙ h in
+    rw (e, passed) (sym (break_taken limit lines here first)) ∙ ap (empty_lines_at limit lines) same
+
+pub end_turn : (limit : Option ℕ) (lines : EmptyLines) (s here : Cursor) (c w : ℕ) → here ≡ s → c ≡ slice_index s.rest 0
+    → is_break c ≡ false → is_indentation limit here.mark.col c ≡ false
+    → w ≡ max lines.widest here.mark.col
+    → ◌≡◌ {A = EmptyLines × Cursor} (record { count = lines.count; widest = w }, here)
+    (empty_lines_at limit lines s)
+end_turn limit lines s here c w same read h k e =
+    let first : is_break (slice_index here.rest 0) ≡ false = ap (λ (x : Cursor). is_break (slice_index x.rest 0)) same
+    ∙ sym (ap is_break read) ∙ h in
+    let second : is_indentation limit here.mark.col (slice_index here.rest 0) ≡ false =
+    ap (λ (x : Cursor). is_indentation limit here.mark.col (slice_index x.rest 0)) same
+    ∙ sym (ap (is_indentation limit here.mark.col) read) ∙ k in
+    let stop = stops limit lines here second first in
+    rw e (sym stop ∙ ap (empty_lines_at limit lines) same)
+
+-- a break has a character or two
+index_on : (m : Marker) (b : Bool) (xs : List ℕ) → is_break (slice_index xs 0) ≡ true
+    → m.index + 1 ≤ (pass_break (there b m xs)).mark.index
+index_on m b [] h = absurd (cc)
+index_on m b (c ∷ cs) h =
+    break_cases c h (λ x. m.index + 1 ≤ (pass_break (there b m (x ∷ cs))).mark.index)
+    (omega arith)
+    (behind_cr m b cs (λ s. m.index + 1 ≤ s.mark.index) (λ ds e. omega arith) (λ _. omega arith))
+
+pub break_index : (s here t : Cursor) (c n : ℕ) → here ≡ s → c ≡ slice_index s.rest 0 → is_break c ≡ true
+    → t ≡ pass_break here → n ≤ s.mark.index → n + 1 ≤ t.mark.index
+break_index s here t c n same read h passed few =
+    let first : is_break (slice_index s.rest 0) ≡ true = sym (ap is_break read) ∙ h in
+    rw (passed, same) (omega (arith, index_on s.mark s.blank_so_far s.rest first))

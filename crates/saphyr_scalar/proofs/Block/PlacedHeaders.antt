@@ -1,0 +1,247 @@
+-- Where the header of a block scalar stands: its line is passed character by character, and its break, where one ends
+-- it.
+use Rattle.std.proofs.Common.{◌≡◌, ℕ, suc, ◌+◌, ◌≤◌, ◌⊎◌, Bool, true, false, List, [], ◌∷◌, length, drop, Result, Ok, Err, refl, sym, ap, ◌∙◌, arith, subst, inl, inr}
+use Rattle.std.specs.Prelude.{◌&&◌, ◌||◌, slice_index, not, ◌==◌, nat_lt, min, Option, Some, None}
+use Rattle.std.specs.List.{prefix_len}
+use Rattle.std.proofs.lemmas.Bool.Decides.{nat_tests}
+use Rattle.saphyr_input.specs.Classes.{is_bom, is_blank, is_break, is_breakz, is_z, is_digit, is_yaml_non_break, tab}
+use Rattle.saphyr_input.specs.Places.{next_2_are}
+use Rattle.saphyr_input.specs.Separation.{is_skipped, blank_len, separation_len, is_bare_comment}
+use Rattle.saphyr_input.specs.declared.input.SkipTabs.{SkipTabs}
+use Rattle.saphyr_input.specs.declared.input.SkipTabs.TheVariants.{Yes, No}
+use Rattle.saphyr_input.specs.declared.input.SkipTabs.TheVariants as found
+use Rattle.saphyr_scalar.specs.declared.reading.block.Chomping.{Chomping}
+use Rattle.saphyr_scalar.specs.declared.scalar.position.Marker.{Marker}
+use Rattle.saphyr_scalar.specs.declared.scalar.fault.Refusal.{Refusal}
+use Rattle.saphyr_scalar.specs.declared.scalar.block.header.BlockHeader.{BlockHeader}
+use Rattle.saphyr_scalar.specs.Cursor.{Cursor, along, next_line, pass, pass_blanks, pass_break, behind_separation, separation}
+use Rattle.saphyr_scalar.specs.Passing as passing
+use Rattle.saphyr_scalar.specs.Passing.{IsPassed}
+use Rattle.saphyr_scalar.specs.Quoted.{break_len}
+use Rattle.saphyr_scalar.specs.BlockScalar.{chomping, indicator, header_break, header_end, last_chomping, header_behind, header}
+use Rattle.saphyr_scalar.proofs.Moving.{along_none, along_more, drop_more}
+use Rattle.saphyr_input.proofs.Basics.Booleans.{and_true_left, by_test, either}
+use Rattle.std.proofs.lemmas.Bool.{not-false, eqb-true}
+use Rattle.saphyr_input.proofs.Basics.Characters.{blank_no_break, non_break_no_break}
+use Rattle.saphyr_scalar.proofs.Given.{Given, given_bind, given_of}
+
+abbrev pub top : ℕ
+top = 18446744073709551615
+
+pub passed_passed : (m : Marker) (t : List ℕ) (n : Marker) (u : List ℕ) (k : Marker) (v : List ℕ) → IsPassed m t n u
+    → IsPassed n u k v → IsPassed m t k v
+passed_passed _ _ _ _ k v (passing.nothing m t) q = q
+passed_passed _ _ _ _ k v (passing.character m c t n u e p) q =
+    passing.character m c t k v e (passed_passed (along m 1) t n u k v p q)
+passed_passed _ _ _ _ k v (passing.line_break m t n u e p) q =
+    passing.line_break m t k v e (passed_passed (next_line m (break_len t)) (drop (break_len t) t) n u k v p q)
+
+-- lines count up
+pub passed_lines : (m : Marker) (t : List ℕ) (n : Marker) (u : List ℕ) → IsPassed m t n u → m.line ≤ top
+    → m.line ≤ n.line
+passed_lines _ _ _ _ (passing.nothing m t) h = omega arith
+passed_lines _ _ _ _ (passing.character m c t n u e p) h = passed_lines (along m 1) t n u p h
+passed_lines _ _ _ _ (passing.line_break m t n u e p) h =
+    let q = passed_lines (next_line m (break_len t)) (drop (break_len t) t) n u p (omega arith) in omega (arith, q, h)
+
+-- ## On the header's line
+
+pub record Goes (s t : Cursor) : Type 0 where
+  pub passes : IsPassed s.mark s.rest t.mark t.rest
+  pub line : t.mark.line ≡ s.mark.line
+
+stays : (s : Cursor) → Goes s s
+stays s = record { passes = passing.nothing s.mark s.rest; line = refl }
+
+goes_goes : (s t u : Cursor) → Goes s t → Goes t u → Goes s u
+goes_goes s t u a b = record {
+  passes =
+      passed_passed s.mark s.rest t.mark t.rest u.mark u.rest a.passes b.passes;
+  line = b.line ∙ a.line;
+}
+
+pub one_passed : (s : Cursor) → is_break (slice_index s.rest 0) ≡ false → 1 ≤ length s.rest → Goes s (pass 1 s)
+one_passed s e h = record { passes = by s.mark s.rest e h; line = refl }
+  where
+    by : (m : Marker) (t : List ℕ) → is_break (slice_index t 0) ≡ false → 1 ≤ length t
+        → IsPassed m t (along m 1) (drop 1 t)
+    by m [] e h = absurd (omega (arith, h))
+    by m (c ∷ cs) e h = passing.character m c cs (along m 1) cs e (passing.nothing (along m 1) cs)
+
+number_passed : (s : Cursor) (x : ℕ) → (slice_index s.rest 0 == x) ≡ true → is_break x ≡ false → (0 == x) ≡ false
+    → Goes s (pass 1 s)
+number_passed s x e b z =
+    let same = eqb-true (slice_index s.rest 0) x e in one_passed s (ap is_break same ∙ b) (some s.rest e z)
+  where
+    some : (t : List ℕ) → (slice_index t 0 == x) ≡ true → (0 == x) ≡ false → 1 ≤ length t
+    some [] e z = absurd (cc)
+    some (c ∷ cs) e z = omega arith
+
+chomping_goes : (s : Cursor) → Goes s (chomping s).1
+unfolding chomping
+chomping_goes s =
+    let P : Option Chomping × Cursor → Type 0 = λ x. Goes s x.1 in
+    by_test (slice_index s.rest 0 == 43) _ _ P (λ e. number_passed s 43 e refl refl)
+    (λ _. by_test (slice_index s.rest 0 == 45) _ _ P (λ e. number_passed s 45 e refl refl) (λ _. stays s))
+
+digit_no_break : (c : ℕ) → not (is_digit c) ≡ false → is_break c ≡ false
+digit_no_break c e = grind (arith, nat_tests)
+
+indicator_goes : (start : Marker) (s : Cursor) → Given (λ (x : ℕ × Cursor). Goes s x.1) (indicator start s)
+unfolding indicator
+indicator_goes start s =
+    let P : ℕ × Cursor → Type 0 = λ x. Goes s x.1 in
+    by_test (not (is_digit (slice_index s.rest 0))) _ _ (Given P) (λ _. stays s)
+    (λ e. by_test (slice_index s.rest 0 == 48) _ _ (Given P) (λ _. tt)
+    (λ _. one_passed s (digit_no_break (slice_index s.rest 0) e) (some s.rest e)))
+  where
+    some : (t : List ℕ) → not (is_digit (slice_index t 0)) ≡ false → 1 ≤ length t
+    some [] e = absurd (cc)
+    some (c ∷ cs) e = omega arith
+
+pub run_passed : (p : ℕ → Bool) (m : Marker) (t : List ℕ) → ((c : ℕ) → p c ≡ true → is_break c ≡ false)
+    → IsPassed m t (along m (prefix_len p t)) (drop (prefix_len p t) t)
+run_passed p m [] h = subst (λ (k : Marker). IsPassed m [] k []) (sym (along_none m)) (passing.nothing m [])
+run_passed p m (c ∷ cs) h =
+    by_test (p c) (1 + prefix_len p cs) 0 (λ n. IsPassed m (c ∷ cs) (along m n) (drop n (c ∷ cs)))
+    (λ e.
+    let one : 1 + prefix_len p cs ≡ suc (prefix_len p cs) = omega arith in
+    let q = run_passed p (along m 1) cs h in
+    let k = along_more m 1 (prefix_len p cs) (1 + prefix_len p cs) refl in
+    let whole : IsPassed m (c ∷ cs) (along m (1 + prefix_len p cs)) (drop (prefix_len p cs) cs) =
+    passing.character m c cs _ _ (h c e)
+    (subst (λ (j : Marker). IsPassed (along m 1) cs j (drop (prefix_len p cs) cs)) k q) in
+    subst (λ n. IsPassed m (c ∷ cs) (along m (1 + prefix_len p cs)) (drop n (c ∷ cs))) (sym one) whole)
+    (λ _. subst (λ (k : Marker). IsPassed m (c ∷ cs) k (c ∷ cs)) (sym (along_none m)) (passing.nothing m (c ∷ cs)))
+
+skipped_no_break : (tabs : SkipTabs) (c : ℕ) → is_skipped tabs c ≡ true → is_break c ≡ false
+skipped_no_break Yes c e = blank_no_break c e
+skipped_no_break No c e = ap is_break (eqb-true c 32 e)
+skipped_no_break (found.Result _ _) c e = ap is_break (eqb-true c 32 e)
+
+pub line_passed : (tabs : SkipTabs) (s : Cursor) → Goes s (pass_blanks (separation_len tabs s.rest) s)
+line_passed tabs s =
+    by_test (blank_len tabs s.rest == 0) _ _ (λ n. Goes s (pass_blanks n s)) (λ _. none)
+    (λ _. let b = prefix_len (is_skipped tabs) s.rest in
+    let first = run_passed (is_skipped tabs) s.mark s.rest (skipped_no_break tabs) in
+    by_test (slice_index (drop b s.rest) 0 == 35) _ _ (λ n. Goes s (pass_blanks (b + n) s))
+    (λ _. let n = prefix_len is_yaml_non_break (drop b s.rest) in
+    let second = run_passed is_yaml_non_break (along s.mark b) (drop b s.rest) non_break_no_break in
+    let whole = passed_passed s.mark s.rest (along s.mark b) (drop b s.rest) _ _ first second in
+    record {
+      passes =
+          subst (λ (m : Marker). IsPassed s.mark s.rest m (drop (b + n) s.rest)) (along_more s.mark b n (b + n) refl)
+          (subst (λ u. IsPassed s.mark s.rest (along (along s.mark b) n) u) (drop_more n b (b + n) s.rest refl) whole);
+      line = refl;
+    })
+    (λ _. let e : b ≡ b + 0 =
+    omega arith in subst (λ n. Goes s (pass_blanks n s)) e (record { passes = first; line = refl })))
+  where
+    none : Goes s (pass_blanks 0 s)
+    none = record {
+      passes =
+          subst (λ (m : Marker). IsPassed s.mark s.rest m s.rest) (sym (along_none s.mark))
+          (passing.nothing s.mark s.rest);
+      line = refl;
+    }
+
+separation_goes : (s : Cursor) → Given (λ (x : SkipTabs × Cursor). Goes s x.1) (separation Yes s)
+unfolding separation behind_separation
+separation_goes s =
+    let P : SkipTabs × Cursor → Type 0 = λ x. Goes s x.1 in
+    let t : Cursor = pass_blanks (separation_len Yes s.rest) s in
+    by_test (nat_lt 0 t.mark.col && is_bom (slice_index t.rest 0)) _ _ (Given P) (λ _. tt)
+    (λ _. by_test (is_bare_comment Yes s.rest) _ _ (Given P) (λ _. tt) (λ _. line_passed Yes s))
+
+-- ## The end of the header
+
+pub record Ends (s t : Cursor) : Type 0 where
+  pub passes : IsPassed s.mark s.rest t.mark t.rest
+  pub line : (t.mark.line ≡ min (s.mark.line + 1) top) ⊎ (is_z (slice_index t.rest 0) ≡ true)
+
+goes_ends : (s t u : Cursor) → Goes s t → Ends t u → Ends s u
+goes_ends s t u a b = record {
+  passes =
+      passed_passed s.mark s.rest t.mark t.rest u.mark u.rest a.passes b.passes;
+  line = by b.line;
+}
+  where
+    by : (u.mark.line ≡ min (t.mark.line + 1) top) ⊎ (is_z (slice_index u.rest 0) ≡ true)
+        → (u.mark.line ≡ min (s.mark.line + 1) top) ⊎ (is_z (slice_index u.rest 0) ≡ true)
+    by (inl e) = inl (e ∙ ap (λ l. min (l + 1) top) a.line)
+    by (inr e) = inr e
+
+pub break_ends : (s : Cursor) → is_breakz (slice_index s.rest 0) ≡ true → Ends s (pass_break s)
+break_ends s e =
+    by_test (next_2_are s.rest 13 10) _ _ (Ends s)
+    (λ n. let two : break_len s.rest ≡ 2 = rw n refl in
+    let c = ap is_break (eqb-true (slice_index s.rest 0) 13
+    (and_true_left (slice_index s.rest 0 == 13) (slice_index s.rest 1 == 10) n)) in
+    record {
+      passes = passing.line_break s.mark s.rest _ _ c
+          (subst (λ k. IsPassed (next_line s.mark k) (drop k s.rest) (next_line s.mark 2) (drop 2 s.rest)) (sym two)
+          (passing.nothing _ _));
+      line = inl refl;
+    })
+    (λ n. let one : break_len s.rest ≡ 1 = rw n refl in
+    by_test (is_break (slice_index s.rest 0)) _ _ (Ends s)
+    (λ c. record {
+      passes = passing.line_break s.mark s.rest _ _ c
+          (subst (λ k. IsPassed (next_line s.mark k) (drop k s.rest) (next_line s.mark 1) (drop 1 s.rest)) (sym one)
+          (passing.nothing _ _));
+      line = inl refl;
+    })
+    (λ c. record {
+      passes = passing.nothing s.mark s.rest;
+      line =
+          inr (either (is_break (slice_index s.rest 0)) (is_z (slice_index s.rest 0)) (is_z (slice_index s.rest 0) ≡ true)
+          e (λ k. absurd (cc)) (λ k. k));
+    }))
+
+header_break_ends : (start : Marker) (s : Cursor) → Given (Ends s) (header_break start s)
+unfolding header_break
+header_break_ends start s =
+    by_test (not (is_breakz (slice_index s.rest 0))) _ _ (Given (Ends s)) (λ _. tt)
+    (λ e. by_test (slice_index (pass_break s).rest 0 == tab) _ _ (Given (Ends s)) (λ _. tt)
+    (λ _. break_ends s (not-false (is_breakz (slice_index s.rest 0)) e)))
+
+ends_from : (s t : Cursor) (r : Result Cursor Refusal) → Goes s t → Given (Ends t) r → Given (Ends s) r
+ends_from s t (Ok u) g h = goes_ends s t u g h
+ends_from s t (Err e) g h = tt
+
+header_end_ends : (start : Marker) (s t : Cursor) → Goes s t → Given (Ends s) (header_end start t)
+unfolding header_end
+header_end_ends start s t g =
+    given_bind (Ends s) (separation Yes t) _ (λ x e.
+    let h = given_of (λ (y : SkipTabs × Cursor). Goes t y.1) (separation Yes t) x (separation_goes t) e in
+    ends_from s x.1 (header_break start x.1) (goes_goes s t x.1 g h) (header_break_ends start x.1))
+
+last_goes : (first : Option Chomping) (s : Cursor) → Goes s (last_chomping first s).1
+unfolding last_chomping
+last_goes (Some first) s = stays s
+last_goes None s = chomping_goes s
+
+header_behind_ends : (start : Marker) (i : ℕ) (s : Cursor) (x : Chomping × Cursor) → Goes s x.1
+    → Given (λ (y : BlockHeader × Cursor). Ends s y.1) (header_behind start i x)
+unfolding header_behind
+header_behind_ends start i s x g =
+    given_bind (λ (y : BlockHeader × Cursor). Ends s y.1) (header_end start x.1) _
+    (λ t e. given_of (Ends s) (header_end start x.1) t (header_end_ends start s x.1 g) e)
+
+-- where the header's indicators end
+pub header_goes : (s : Cursor) (x : ℕ × Cursor) → Goes s (pass 1 s) → indicator s.mark (chomping (pass 1 s)).1 ≡ Ok x
+    → Goes s (last_chomping (chomping (pass 1 s)).0 x.1).1
+header_goes s x g e =
+    let first = chomping (pass 1 s) in
+    let h = goes_goes s (pass 1 s) first.1 g (chomping_goes (pass 1 s)) in
+    let k = goes_goes s first.1 x.1 h
+    (given_of (λ (y : ℕ × Cursor). Goes first.1 y.1) (indicator s.mark first.1) x (indicator_goes s.mark first.1)
+    e) in
+    goes_goes s x.1 (last_chomping first.0 x.1).1 k (last_goes first.0 x.1)
+
+pub header_ends : (s : Cursor) → Goes s (pass 1 s) → Given (λ (y : BlockHeader × Cursor). Ends s y.1) (header s)
+unfolding header
+header_ends s g =
+    let first = chomping (pass 1 s) in
+    given_bind (λ (y : BlockHeader × Cursor). Ends s y.1) (indicator s.mark first.1) _
+    (λ x e. header_behind_ends s.mark x.0 s (last_chomping first.0 x.1) (header_goes s x g e))

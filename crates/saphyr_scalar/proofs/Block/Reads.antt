@@ -1,0 +1,230 @@
+-- A block scalar that is read has the value of its lines.
+use Rattle.std.proofs.Common.{◌≡◌, ℕ, suc, ◌+◌, ◌-◌, ◌≤◌, Bool, true, false, List, [], ◌∷◌, ◌++◌, slice_index, Result, Ok, Err, refl, sym, ap, ◌∙◌, arith, subst, nat_eq, nat_lt, inl, inr}
+use Rattle.std.specs.Prelude.{◌&&◌, ◌==◌, not, Option, Some, None, ◌⊎◌}
+use Rattle.std.proofs.lemmas.Bool.Decides.{nat_tests}
+use Rattle.saphyr_input.specs.Breaks.{normalized}
+use Rattle.saphyr_input.specs.Classes.{is_break, is_breakz, is_bom, is_digit, is_z, tab}
+use Rattle.saphyr_scalar.specs.declared.reading.block.Chomping.{Chomping}
+use Rattle.saphyr_scalar.specs.declared.scalar.position.Marker.{Marker}
+use Rattle.saphyr_scalar.specs.declared.scalar.fault.Refusal.{Refusal}
+use Rattle.saphyr_scalar.specs.declared.scalar.block.header.BlockHeader.{BlockHeader}
+use Rattle.saphyr_scalar.specs.declared.scalar.block.lines.EmptyLines.{EmptyLines}
+use Rattle.saphyr_input.specs.Places.{next_2_are}
+use Rattle.saphyr_input.specs.Separation.{separation_len, is_bare_comment, found_blanks}
+use Rattle.saphyr_input.specs.declared.input.SkipTabs.{SkipTabs}
+use Rattle.saphyr_input.specs.declared.input.SkipTabs.TheVariants.{Yes}
+use Rattle.saphyr_scalar.specs.Cursor.{Cursor, ◌>>=◌, along, next_line, pass, pass_blanks, pass_break, separation, behind_separation}
+use Rattle.saphyr_scalar.specs.BlockReading.{Empty, lines_of}
+use Rattle.saphyr_scalar.specs.Lines.{last_line}
+use Rattle.saphyr_scalar.specs.BlockScalar.{there, is_indentation, is_cr_lf, inside_break, widened, one_more, empty_lines, header, header_break, header_end, header_behind, chomping, last_chomping, indicator}
+use Rattle.saphyr_scalar.proofs.Block.Texts.{spaces, spaces_more, plain_spaces, first_line, line_spaces, normal_half, normal_break, lines_break}
+use Rattle.saphyr_scalar.specs.BlockRead.{HasLines}
+use Rattle.saphyr_scalar.proofs.Block.Wholes.{empties}
+use Rattle.std.proofs.lemmas.Bool.{not-false, and_parts}
+use Rattle.saphyr_input.proofs.Basics.Booleans.{by_test}
+use Rattle.saphyr_input.proofs.Basics.Characters.{normalized_other}
+use Rattle.saphyr_scalar.proofs.Block.Indentations.{indentation_is_space}
+
+-- what was taken off as leading empty lines and indentation: `front` in normalized characters, d lines with j spaces
+-- before them on their line
+pub record Leading (j : ℕ) (before : EmptyLines) (xs : List ℕ) (r : EmptyLines × Cursor) : Type 0 where
+  pub front : List ℕ
+  pub d : ℕ
+  pub joins : (taken rest : List ℕ) → r.1.rest ≡ taken ++ rest → is_break (slice_index rest 0) ≡ false
+      → (all : List ℕ) × (xs ≡ all ++ rest) × (normalized all ≡ front ++ normalized taken)
+  pub lines : (i : ℕ) (text : List ℕ) → r.0.widest ≤ i
+      → lines_of i (spaces j ++ (front ++ text)) ≡ empties d ++ lines_of i (spaces r.1.mark.col ++ text)
+  pub last : (text : List ℕ) → last_line (spaces j ++ (front ++ text)) ≡ last_line (spaces r.1.mark.col ++ text)
+  pub shape : (i : ℕ) (text : List ℕ) → r.0.widest ≤ i → HasLines i (spaces r.1.mark.col ++ text)
+      → HasLines i (spaces j ++ (front ++ text))
+  pub count : r.0.count ≡ before.count + d
+  pub reached : r.1.mark.col ≤ r.0.widest
+  pub wider : before.widest ≤ r.0.widest
+
+lead_stop : (lines : EmptyLines) (b : Bool) (m : Marker) (xs : List ℕ)
+    → Leading m.col lines xs (widened lines m.col, there b m xs)
+lead_stop lines b m xs = record {
+  front = [];
+  d = 0;
+  joins = λ taken rest e k. (taken, e, refl);
+  lines = λ i text h. refl;
+  last = λ text. refl;
+  shape = λ i text w h. h;
+  count = omega arith;
+  reached = omega arith;
+  wider = omega arith;
+}
+
+lead_space : (j x : ℕ) (before : EmptyLines) (cs : List ℕ) (r : EmptyLines × Cursor) → x ≡ 32
+    → Leading (j + 1) before cs r → Leading j before (x ∷ cs) r
+lead_space j x before cs r e l = record {
+  front = 32 ∷ l.front;
+  d = l.d;
+  joins = λ taken rest s k.
+      let w = l.joins taken rest s k in (
+        x ∷ w.0,
+        ap (λ ys. x ∷ ys) w.1,
+        normalized_other x w.0 (ap (λ y. nat_eq y 13) e) ∙ ap (λ ys. x ∷ ys) w.2
+            ∙ ap (λ y. y ∷ (l.front ++ normalized taken)) e,
+      );
+  lines = λ i text h. ap (lines_of i) (sym (spaces_more j (l.front ++ text))) ∙ l.lines i text h;
+  last = λ text. ap last_line (sym (spaces_more j (l.front ++ text))) ∙ l.last text;
+  shape = λ i text w h. subst (HasLines i) (spaces_more j (l.front ++ text)) (l.shape i text w h);
+  count = l.count;
+  reached = l.reached;
+  wider = l.wider;
+}
+
+lead_half : (j x : ℕ) (before : EmptyLines) (cs : List ℕ) (r : EmptyLines × Cursor) → is_cr_lf x cs ≡ true
+    → Leading j before cs r → Leading j before (x ∷ cs) r
+lead_half j x before cs r e l = record {
+  front = l.front;
+  d = l.d;
+  joins = λ taken rest s k. let w =
+      l.joins taken rest s k in (x ∷ w.0, ap (λ ys. x ∷ ys) w.1, normal_half x cs w.0 rest e w.1 k ∙ w.2);
+  lines = l.lines;
+  last = l.last;
+  shape = l.shape;
+  count = l.count;
+  reached = l.reached;
+  wider = l.wider;
+}
+
+lead_break : (j x : ℕ) (before : EmptyLines) (cs : List ℕ) (r : EmptyLines × Cursor) → is_cr_lf x cs ≡ false
+    → is_break x ≡ true → Leading 0 (one_more before j) cs r → Leading j before (x ∷ cs) r
+lead_break j x before cs r half e l = record {
+  front = 10 ∷ l.front;
+  d = suc l.d;
+  joins = λ taken rest s k. let w =
+      l.joins taken rest s k in
+      (x ∷ w.0, ap (λ ys. x ∷ ys) w.1, normal_break x cs w.0 rest half e w.1 ∙ ap (λ ys. 10 ∷ ys) w.2);
+  lines = λ i text h.
+      let f = first_line (spaces j) (l.front ++ text) (plain_spaces j) in
+      let within : j ≤ i = omega (arith, l.wider) in
+      rw (f.ended, line_spaces i j within) (ap (λ ys. Empty ∷ ys) (l.lines i text h));
+  last = λ text. let f = first_line (spaces j) (l.front ++ text) (plain_spaces j) in f.last ∙ l.last text;
+  shape = λ i text w h. lines_break i j (l.front ++ text) (omega (arith, l.wider)) (l.shape i text w h);
+  count = omega (arith, l.count);
+  reached = l.reached;
+  wider = omega (arith, l.wider);
+}
+
+pub leading : (limit : Option ℕ) (before : EmptyLines) (b : Bool) (m : Marker) (xs : List ℕ)
+    → Leading m.col before xs (empty_lines limit before b m xs)
+unfolding empty_lines
+leading limit before b m [] = lead_stop before b m []
+leading limit before b m (x ∷ cs) =
+    by_test (is_indentation limit m.col x) _ _ (Leading m.col before (x ∷ cs))
+    (λ h. lead_space m.col x before cs _ (indentation_is_space limit m.col x h) (leading limit before b (along m 1) cs))
+    (λ h0. by_test (is_cr_lf x cs) _ _ (Leading m.col before (x ∷ cs))
+    (λ h. lead_half m.col x before cs _ h (leading limit before b (inside_break m) cs))
+    (λ h1. by_test (is_break x) _ _ (Leading m.col before (x ∷ cs))
+    (λ h. lead_break m.col x before cs _ h1 h (leading limit (one_more before m.col) true (next_line m 1) cs))
+    (λ h2. lead_stop before b m (x ∷ cs))))
+
+-- within a limit
+abbrev pub Within : ℕ → EmptyLines × Cursor → Type 0
+Within i r = r.0.widest ≤ i
+
+pub within_limit : (i : ℕ) (before : EmptyLines) (b : Bool) (m : Marker) (xs : List ℕ) → m.col ≤ i → before.widest ≤ i
+    → Within i (empty_lines (Some i) before b m xs)
+unfolding empty_lines
+within_limit i before b m [] h k = omega arith
+within_limit i before b m (x ∷ cs) h k =
+    by_test (is_indentation (Some i) m.col x) _ _ (Within i)
+    (λ t. let both = and_parts (nat_eq x 32) (nat_lt m.col i) t in let less : m.col + 1 ≤ i =
+    grind (arith, nat_tests) in within_limit i before b (along m 1) cs less k)
+    (λ _. by_test (is_cr_lf x cs) _ _ (Within i)
+    (λ _. within_limit i before b (inside_break m) cs h k)
+    (λ _. by_test (is_break x) _ _ (Within i)
+    (λ _. within_limit i (one_more before m.col) true (next_line m 1) cs (omega arith) (omega arith))
+    (λ _. omega arith)))
+
+-- a step that gave something came after one that did
+pub then_gave : {A B : Type 0} (r : Result A Refusal) (f : A → Result B Refusal) (y : B) → (r >>= f) ≡ Ok y
+    → (x : A) × (r ≡ Ok x) × (f x ≡ Ok y)
+then_gave (Ok x) f y e = (x, refl, e)
+then_gave (Err r) f y e = absurd (cc)
+
+abbrev pub gave : {A : Type 0} → A → Result A Refusal
+gave x = Ok x
+
+pub refused : {A X : Type 0} (r : Refusal) (y : A) → Err r ≡ gave y → X
+refused r y e = absurd (cc)
+
+pub same_gift : {A : Type 0} (x y : A) → gave x ≡ gave y → x ≡ y
+same_gift x y e = cc
+
+-- behind a header: a line begins, or the text ends there
+abbrev pub Place : Cursor → Type 0
+Place u = ((u.mark.col ≡ 0) × (u.blank_so_far ≡ true))
+    ⊎ ((is_z (slice_index u.rest 0) ≡ true) × (u.blank_so_far ≡ false))
+
+break_place : (s : Cursor) → s.blank_so_far ≡ false → is_breakz (slice_index s.rest 0) ≡ true → Place (pass_break s)
+break_place s blank h =
+    by_test (next_2_are s.rest 13 10) _ _ Place (λ _. inl (refl, refl))
+    (λ _. by_test (is_break (slice_index s.rest 0)) _ _ Place (λ _. inl (refl, refl))
+    (λ k. let z = rw k at h in inr (z, blank)))
+
+header_break_place : (start : Marker) (s u : Cursor) → s.blank_so_far ≡ false → header_break start s ≡ Ok u → Place u
+unfolding header_break
+header_break_place start s u blank =
+    by_test (not (is_breakz (slice_index s.rest 0))) _ _ (λ r. r ≡ gave u → Place u)
+    (λ _ e. refused _ u e)
+    (λ h. by_test (slice_index (pass_break s).rest 0 == tab) _ _ (λ r. r ≡ gave u → Place u)
+    (λ _ e. refused _ u e)
+    (λ _ e. subst Place (same_gift _ u e) (break_place s blank (not-false _ h))))
+
+separation_blank : (s : Cursor) (x : SkipTabs × Cursor) → s.blank_so_far ≡ false → separation Yes s ≡ Ok x
+    → x.1.blank_so_far ≡ false
+unfolding separation behind_separation
+separation_blank s x blank =
+    by_test (nat_lt 0 (along s.mark (separation_len Yes s.rest)).col && is_bom
+    (slice_index (pass_blanks (separation_len Yes s.rest) s).rest 0)) _ _
+    (λ r. r ≡ gave x → x.1.blank_so_far ≡ false)
+    (λ _ e. refused _ x e)
+    (λ _. by_test (is_bare_comment Yes s.rest) _ _ (λ r. r ≡ gave x → x.1.blank_so_far ≡ false)
+    (λ _ e. refused _ x e)
+    (λ _ e. let same = same_gift (found_blanks Yes s.rest, pass_blanks (separation_len Yes s.rest) s) x e in
+    sym (ap (λ (y : SkipTabs × Cursor). y.1.blank_so_far) same) ∙ blank))
+
+header_end_place : (start : Marker) (s u : Cursor) → s.blank_so_far ≡ false → header_end start s ≡ Ok u → Place u
+unfolding header_end
+header_end_place start s u blank e =
+    let w = then_gave (separation Yes s) (λ x. header_break start x.1) u e in
+    header_break_place start w.0.1 u (separation_blank s w.0 blank w.1) w.2
+
+chomping_blank : (s : Cursor) → s.blank_so_far ≡ false → (chomping s).1.blank_so_far ≡ false
+unfolding chomping
+chomping_blank s h =
+    by_test (slice_index s.rest 0 == 43) _ _ (λ (x : Option Chomping × Cursor). x.1.blank_so_far ≡ false) (λ _. refl)
+    (λ _. by_test (slice_index s.rest 0 == 45) _ _ (λ (x : Option Chomping × Cursor). x.1.blank_so_far ≡ false)
+    (λ _. refl) (λ _. h))
+
+last_blank : (first : Option Chomping) (s : Cursor) → s.blank_so_far ≡ false
+    → (last_chomping first s).1.blank_so_far ≡ false
+unfolding last_chomping
+last_blank (Some c) s h = h
+last_blank None s h = chomping_blank s h
+
+indicator_blank : (start : Marker) (s : Cursor) (x : ℕ × Cursor) → s.blank_so_far ≡ false → indicator start s ≡ Ok x
+    → x.1.blank_so_far ≡ false
+unfolding indicator
+indicator_blank start s x blank =
+    by_test (not (is_digit (slice_index s.rest 0))) _ _ (λ r. r ≡ gave x → x.1.blank_so_far ≡ false)
+    (λ _ e. sym (ap (λ (y : ℕ × Cursor). y.1.blank_so_far) (same_gift (0, s) x e)) ∙ blank)
+    (λ _. by_test (slice_index s.rest 0 == 48) _ _ (λ r. r ≡ gave x → x.1.blank_so_far ≡ false)
+    (λ _ e. refused _ x e)
+    (λ _ e. sym (ap (λ (y : ℕ × Cursor). y.1.blank_so_far) (same_gift (slice_index s.rest 0 - 48, pass 1 s) x e))))
+
+pub header_place : (s : Cursor) (x : BlockHeader × Cursor) → header s ≡ Ok x → Place x.1
+unfolding header header_behind
+header_place s x e =
+    let first = chomping (pass 1 s) in
+    let w = then_gave (indicator s.mark first.1) (λ y. header_behind s.mark y.0 (last_chomping first.0 y.1)) x e in
+    let blank = indicator_blank s.mark first.1 w.0 (chomping_blank (pass 1 s) refl) w.1 in
+    let last = last_chomping first.0 w.0.1 in
+    let header_of : Cursor → BlockHeader × Cursor = λ t. (record { chomping = last.0; indicator = w.0.0 }, t) in
+    let v = then_gave (header_end s.mark last.1) (λ t. gave (header_of t)) x w.2 in
+    let place = header_end_place s.mark last.1 v.0 (last_blank first.0 w.0.1 blank) v.1 in
+    subst (λ (y : BlockHeader × Cursor). Place y.1) (same_gift (header_of v.0) x v.2) place

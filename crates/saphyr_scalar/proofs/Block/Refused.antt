@@ -1,0 +1,81 @@
+-- A block scalar is refused where it begins, in its header, or at its first content line.
+use Rattle.std.proofs.Common.{◌≡◌, ℕ, ◌<◌, false, length, slice_index, refl, arith, nat_lt, nat_le, max}
+use Rattle.std.specs.Prelude.{◌&&◌, ◌==◌, not, Option, unwrap_or}
+use Rattle.saphyr_input.specs.Classes.{is_break, is_breakz, is_digit, is_z, tab}
+use Rattle.saphyr_input.specs.declared.input.SkipTabs.TheVariants.{Yes}
+use Rattle.saphyr_scalar.specs.declared.reading.block.BlockStyle.{BlockStyle}
+use Rattle.saphyr_scalar.specs.declared.reading.block.Chomping.{Chomping}
+use Rattle.saphyr_scalar.specs.declared.scalar.block.header.BlockHeader.{BlockHeader}
+use Rattle.saphyr_scalar.specs.declared.scalar.block.lines.EmptyLines.{EmptyLines}
+use Rattle.saphyr_scalar.specs.declared.scalar.position.Marker.{Marker}
+use Rattle.saphyr_scalar.specs.BlockScalar.{chomping, indicator, header_break, header_end, last_chomping, header_behind, header, empty_lines, chomped, content, behind_leading, given_indentation, no_lines, behind_header, block_scalar}
+use Rattle.saphyr_scalar.specs.Cursor.{Cursor, pass, pass_break, separation}
+use Rattle.saphyr_scalar.specs.Passing.{IsPassed}
+use Rattle.saphyr_scalar.specs.RefusedInside.{IsRefusedInside}
+use Rattle.saphyr_scalar.proofs.Block.Placed.{empty_passes}
+use Rattle.saphyr_scalar.proofs.Block.PlacedHeaders.{passed_passed, Goes, one_passed, header_goes, Ends, header_ends}
+use Rattle.saphyr_scalar.proofs.Directives.Refused.{separation_refused}
+use Rattle.saphyr_scalar.proofs.RefusedOnWay.{inside_from, inside_start}
+use Rattle.saphyr_scalar.proofs.Refusals.{Refused, RefusedAt, refused_bind, refused_more}
+use Rattle.saphyr_input.proofs.Basics.Booleans.{by_test}
+use Rattle.saphyr_scalar.proofs.Given.{given_of}
+
+indicator_refused : (start : Marker) (s : Cursor) → RefusedAt start (indicator start s)
+unfolding indicator
+indicator_refused start s =
+    by_test (not (is_digit (slice_index s.rest 0))) _ _ (RefusedAt start) (λ _. tt)
+    (λ _. by_test (slice_index s.rest 0 == 48) _ _ (RefusedAt start) (λ _. refl) (λ _. tt))
+
+break_refused : (start : Marker) (s : Cursor) → RefusedAt start (header_break start s)
+unfolding header_break
+break_refused start s =
+    by_test (not (is_breakz (slice_index s.rest 0))) _ _ (RefusedAt start) (λ _. refl)
+    (λ _. by_test (slice_index (pass_break s).rest 0 == tab) _ _ (RefusedAt start) (λ _. refl) (λ _. tt))
+
+end_refused : (s t : Cursor) → IsPassed s.mark s.rest t.mark t.rest → Refused (IsRefusedInside s) (header_end s.mark t)
+unfolding header_end
+end_refused s t p =
+    let P = IsRefusedInside s in
+    refused_bind P (separation Yes t) _
+    (refused_more (IsRefusedInside t) P (separation Yes t) (separation_refused Yes t)
+    (λ e h. inside_from s t e p h))
+    (λ x _. refused_more (λ e. e.mark ≡ s.mark) P (header_break s.mark x.1) (break_refused s.mark x.1) (inside_start s))
+
+header_refused : (s : Cursor) → Goes s (pass 1 s) → Refused (IsRefusedInside s) (header s)
+unfolding header header_behind
+header_refused s g =
+    let P = IsRefusedInside s in
+    let first = chomping (pass 1 s) in
+    refused_bind P (indicator s.mark first.1) _
+    (refused_more (λ e. e.mark ≡ s.mark) P (indicator s.mark first.1) (indicator_refused s.mark first.1)
+    (inside_start s)) (λ x e.
+    let t : Cursor = (last_chomping first.0 x.1).1 in
+    refused_bind P (header_end s.mark t) _ (end_refused s t (header_goes s x g e).passes) (λ y _. tt))
+
+content_refused : (style : BlockStyle) (c : Chomping) (indent i lines : ℕ) (s t : Cursor)
+    → IsPassed s.mark s.rest t.mark t.rest → Refused (IsRefusedInside s) (content style c indent i lines t)
+unfolding content chomped
+content_refused style c indent i lines s t p =
+    by_test (nat_lt t.mark.col i && nat_le indent t.mark.col) _ _ (Refused (IsRefusedInside s)) (λ _. (t.rest, p))
+    (λ _. tt)
+
+leading_refused : (style : BlockStyle) (indent : ℕ) (start : Marker) (c : Chomping) (limit : Option ℕ) (s : Cursor)
+    (x : EmptyLines × Cursor) → IsPassed s.mark s.rest x.1.mark x.1.rest
+    → Refused (IsRefusedInside s) (behind_leading style indent start c limit x)
+unfolding behind_leading
+leading_refused style indent start c limit s x p =
+    by_test (is_z (slice_index x.1.rest 0)) _ _ (Refused (IsRefusedInside s)) (λ _. tt)
+    (λ _. content_refused style c indent (unwrap_or limit (max x.0.widest indent)) x.0.count s x.1 p)
+
+pub block_scalar_refused : (style : BlockStyle) (indent : ℕ) (s : Cursor) → is_break (slice_index s.rest 0) ≡ false
+    → 0 < length s.rest → Refused (IsRefusedInside s) (block_scalar style indent s)
+unfolding block_scalar behind_header
+block_scalar_refused style indent s b some =
+    let g = one_passed s b (omega (arith, some)) in
+    refused_bind (IsRefusedInside s) (header s) _ (header_refused s g) (λ x e.
+    let h = given_of (λ (y : BlockHeader × Cursor). Ends s y.1) (header s) x (header_ends s g) e in
+    let limit = given_indentation indent x.0.indicator in
+    let lines = empty_lines limit no_lines x.1.blank_so_far x.1.mark x.1.rest in
+    leading_refused style indent s.mark x.0.chomping limit s lines
+    (passed_passed s.mark s.rest x.1.mark x.1.rest lines.1.mark lines.1.rest h.passes
+    (empty_passes limit no_lines x.1.blank_so_far x.1.mark x.1.rest).here))

@@ -1,0 +1,169 @@
+-- The text of a block scalar, told by its lines.
+use Rattle.std.proofs.Common.{inl, inr, append_assoc, subst}
+use Rattle.std.proofs.Common.{◌≡◌, ℕ, zero, suc, ◌+◌, ◌<◌, ◌≤◌, Bool, true, false, List, [], ◌∷◌, ◌++◌, length, length-append, drop, slice_index, refl, sym, ap, ◌∙◌, arith, add-one, nat_eq, nat_le, map}
+use Rattle.std.specs.Prelude.{◌||◌, ◌&&◌, ◌==◌, not, if◌then◌else◌}
+use Rattle.std.specs.List.{list_all}
+use Rattle.std.proofs.lemmas.Bool.Decides.{nat_tests}
+use Rattle.std.proofs.lemmas.List.{length-replicate}
+use Rattle.saphyr_input.specs.Breaks.{normalized}
+use Rattle.saphyr_input.specs.Classes.{is_break, space}
+use Rattle.saphyr_scalar.specs.declared.reading.block.BlockStyle.{BlockStyle}
+use Rattle.saphyr_scalar.specs.declared.reading.block.Chomping.{Chomping}
+use Rattle.saphyr_scalar.specs.declared.reading.block.Ending.{Ending}
+use Rattle.saphyr_scalar.specs.BlockReading.{Line, Empty, Content, is_empty_line, line_of, contents_behind, empty_at_end, chomped, is_at_end, is_broken}
+pub use Rattle.saphyr_scalar.specs.BlockRead.{spaces}
+use Rattle.saphyr_scalar.specs.BlockRead.{HasLines}
+use Rattle.saphyr_scalar.specs.Lines.{ended_lines, last_line, has_break}
+use Rattle.saphyr_scalar.specs.BlockScalar.{is_cr_lf}
+use Rattle.saphyr_scalar.proofs.Quoted.Inside.{break_cases}
+use Rattle.std.proofs.lemmas.Bool.{and_parts}
+
+pub spaces_more : (n : ℕ) (xs : List ℕ) → spaces (n + 1) ++ xs ≡ spaces n ++ (32 ∷ xs)
+spaces_more zero xs = refl
+spaces_more (suc n) xs = let e : suc n + 1 ≡ suc (n + 1) = omega arith in rw e (ap (λ ys. 32 ∷ ys) (spaces_more n xs))
+
+-- a text without breaks
+abbrev pub IsPlain : List ℕ → Type 0
+IsPlain text = has_break text ≡ false
+
+pub parts_plain : (c : ℕ) (cs : List ℕ) → IsPlain (c ∷ cs) → ((c == 10) ≡ false) × IsPlain cs
+parts_plain c cs h = parts (nat_eq c 10) (has_break cs) h
+  where
+    parts : (a b : Bool) → (a || b) ≡ false → (a ≡ false) × (b ≡ false)
+    parts true b e = absurd (cc)
+    parts false b e = (refl, e)
+
+pub plain_first : (c : ℕ) (cs : List ℕ) → (c == 10) ≡ false → IsPlain cs → IsPlain (c ∷ cs)
+plain_first c cs h k = rw (h, k) refl
+
+pub plain_both : (xs ys : List ℕ) → IsPlain xs → IsPlain ys → IsPlain (xs ++ ys)
+plain_both [] ys h k = k
+plain_both (c ∷ cs) ys h k = let p = parts_plain c cs h in plain_first c (cs ++ ys) p.0 (plain_both cs ys p.1 k)
+
+pub plain_spaces : (n : ℕ) → IsPlain (spaces n)
+plain_spaces zero = refl
+plain_spaces (suc n) = plain_spaces n
+
+-- the first line of a text and the lines behind its break
+pub record FirstLine (line others : List ℕ) : Type 0 where
+  pub ended : ended_lines (line ++ 10 ∷ others) ≡ line ∷ ended_lines others
+  pub last : last_line (line ++ 10 ∷ others) ≡ last_line others
+  pub more : has_break (line ++ 10 ∷ others) ≡ true
+
+pub first_line : (line others : List ℕ) → IsPlain line → FirstLine line others
+first_line [] others h = record { ended = refl; last = refl; more = refl }
+first_line (c ∷ cs) others h =
+    let p = parts_plain c cs h in
+    let r = first_line cs others p.1 in
+    record { ended = rw (p.0, r.ended) refl; last = rw (p.0, r.more, r.last) refl; more = rw (p.0, r.more) refl }
+
+-- the only line of a text without breaks
+pub only_line : (text : List ℕ) → IsPlain text → (ended_lines text ≡ []) × (last_line text ≡ text)
+only_line [] h = (refl, refl)
+only_line (c ∷ cs) h =
+    let p = parts_plain c cs h in
+    let r = only_line cs p.1 in
+    (rw (p.0, r.0) refl, rw (p.0, p.1, r.1) refl)
+
+all_spaces : (n : ℕ) → list_all (λ c. c == space) (spaces n) ≡ true
+all_spaces zero = refl
+all_spaces (suc n) = all_spaces n
+
+-- a line of spaces
+pub empty_spaces : (i j : ℕ) → j ≤ i → is_empty_line i (spaces j) ≡ true
+empty_spaces i j h = let le : nat_le j i ≡ true =
+    grind (arith, nat_tests) in rw (length-replicate, le, all_spaces j) refl
+
+pub line_spaces : (i j : ℕ) → j ≤ i → line_of i (spaces j) ≡ Empty
+line_spaces i j h = rw (empty_spaces i j h) refl
+
+-- a line of content
+pub full_content : (i : ℕ) (text : List ℕ) → 0 < length text → is_empty_line i (spaces i ++ text) ≡ false
+full_content i text h =
+    let le : nat_le (i + length text) i ≡ false = grind (arith, nat_tests) in
+    rw (length-append, length-replicate, le) refl
+
+pub content_of : (i : ℕ) (text : List ℕ) → drop i (spaces i ++ text) ≡ text
+content_of zero text = refl
+content_of (suc i) text = content_of i text
+
+pub line_content : (i : ℕ) (text : List ℕ) → 0 < length text → line_of i (spaces i ++ text) ≡ Content text
+line_content i text h = rw (full_content i text h, content_of i text) refl
+
+-- of two lists whose first characters are asked about, one goes on behind what is taken off the other
+pub normal_half : (c : ℕ) (cs taken rest : List ℕ) → is_cr_lf c cs ≡ true → cs ≡ taken ++ rest
+    → is_break (slice_index rest 0) ≡ false → normalized (c ∷ taken) ≡ normalized taken
+normal_half c cs [] rest h e clear =
+    let both = and_parts (nat_eq c 13) (nat_eq (slice_index cs 0) 10) h in
+    let first : slice_index cs 0 ≡ 10 = grind (arith, nat_tests) in
+    let there : is_break (slice_index rest 0) ≡ true = ap (λ (x : List ℕ). is_break (slice_index x 0)) (sym e)
+    ∙ ap is_break first in
+    absurd (cc)
+normal_half c cs (t ∷ ts) rest h e clear =
+    let both = and_parts (nat_eq c 13) (nat_eq (slice_index cs 0) 10) h in
+    let same : (t == 10) ≡ true = ap (λ (x : List ℕ). slice_index x 0 == 10) (sym e) ∙ both.1 in
+    rw (both.0, same) refl
+
+not_feed : (cs taken rest : List ℕ) → (slice_index cs 0 == 10) ≡ false → cs ≡ taken ++ rest
+    → (slice_index taken 0 == 10) ≡ false
+not_feed cs [] rest h e = refl
+not_feed cs (t ∷ ts) rest h e = ap (λ (x : List ℕ). slice_index x 0 == 10) (sym e) ∙ h
+
+pub normal_break : (c : ℕ) (cs taken rest : List ℕ) → is_cr_lf c cs ≡ false → is_break c ≡ true → cs ≡ taken ++ rest
+    → normalized (c ∷ taken) ≡ 10 ∷ normalized taken
+normal_break c cs taken rest half h e =
+    break_cases c h (λ x. is_cr_lf x cs ≡ false → normalized (x ∷ taken) ≡ 10 ∷ normalized taken)
+    (λ _. refl)
+    (λ k. rw (not_feed cs taken rest k e) refl)
+    half
+
+-- The last line, behind content: spaces count where they reach the indentation.
+abbrev pub is_counted_behind : ℕ → List ℕ → Ending → Bool
+is_counted_behind i last ending =
+    if is_empty_line i last then is_at_end ending && not (length last == 0) && (length last == i) else true
+
+-- the lines of a text behind content
+abbrev pub lines_behind : ℕ → List (List ℕ) → List ℕ → Ending → List Line
+lines_behind i lines last ending =
+    map (line_of i) lines ++ (if is_counted_behind i last ending then line_of i last ∷ [] else [])
+
+-- what a text reads as, behind the content line `above` and k empty lines
+abbrev pub value_of_lines : BlockStyle → Chomping → ℕ → List ℕ → ℕ → List (List ℕ) → List ℕ → Ending → List ℕ
+value_of_lines st c i above k lines last ending =
+    contents_behind st above k (lines_behind i lines last ending)
+    ++ chomped c (is_broken i last ending) (empty_at_end k (lines_behind i lines last ending))
+
+abbrev pub value_behind : BlockStyle → Chomping → ℕ → List ℕ → ℕ → List ℕ → Ending → List ℕ
+value_behind st c i above k text ending = value_of_lines st c i above k (ended_lines text) (last_line text) ending
+
+-- an empty line more
+pub value_empty : (st : BlockStyle) (c : Chomping) (i : ℕ) (above : List ℕ) (k j : ℕ) (text : List ℕ) (ending : Ending)
+    → j ≤ i
+    → value_behind st c i above k (spaces j ++ 10 ∷ text) ending ≡ value_behind st c i above (k + 1) text ending
+value_empty st c i above k j text ending h =
+    let f = first_line (spaces j) text (plain_spaces j) in
+    rw (f.ended, f.last, line_spaces i j h, add-one k) refl
+
+-- the lines of such texts
+pub lines_break : (i j : ℕ) (text : List ℕ) → j ≤ i → HasLines i text → HasLines i (spaces j ++ 10 ∷ text)
+lines_break i j text within h =
+    let f = first_line (spaces j) text (plain_spaces j) in
+    record { ended = rw f.ended (inl (empty_spaces i j within), h.ended); last = rw f.last h.last }
+
+pub lines_spaces : (i j : ℕ) → j ≤ i → HasLines i (spaces j)
+lines_spaces i j within =
+    let only = only_line (spaces j) (plain_spaces j) in
+    record { ended = rw only.0 tt; last = rw only.1 (inl (empty_spaces i j within)) }
+
+pub lines_cut : (i : ℕ) (content : List ℕ) → IsPlain content → HasLines i (spaces i ++ content)
+lines_cut i content plain =
+    let only = only_line (spaces i ++ content) (plain_both (spaces i) content (plain_spaces i) plain) in
+    record { ended = rw only.0 tt; last = rw only.1 (inr (content, refl)) }
+
+pub lines_broken : (i : ℕ) (content others : List ℕ) → IsPlain content → HasLines i others
+    → HasLines i (spaces i ++ (content ++ 10 ∷ others))
+lines_broken i content others plain h =
+    let f = first_line (spaces i ++ content) others (plain_both (spaces i) content (plain_spaces i) plain) in
+    let whole : (spaces i ++ content) ++ 10 ∷ others ≡ spaces i ++ (content ++ 10 ∷ others) =
+    append_assoc (spaces i) content (10 ∷ others) in
+    subst (HasLines i) whole (record { ended = rw f.ended (inr (content, refl), h.ended); last = rw f.last h.last })

@@ -1,0 +1,194 @@
+-- The line of a block scalar's header, as it is spelled.
+use Rattle.std.proofs.Common.{◌≡◌, ◌≢◌, ℕ, zero, suc, ◌+◌, ◌-◌, ◌≤◌, ◌<◌, Bool, true, false, List, [], ◌∷◌, ◌++◌, length, drop, slice_index, Ok, refl, sym, ap, ◌∙◌, arith, subst, inl, inr, append_assoc}
+use Rattle.std.specs.Prelude.{◌&&◌, ◌||◌, ◌==◌, not, nat_lt, Option, Some, None, unwrap_or, codes}
+use Rattle.std.proofs.lemmas.Bool.Decides.{nat_tests}
+use Rattle.saphyr_input.specs.Classes.{is_bom, is_break, is_breakz, is_digit, is_z, tab}
+use Rattle.saphyr_input.specs.Places.{next_2_are}
+use Rattle.saphyr_input.specs.Separation.{separation_len, is_bare_comment, found_blanks}
+use Rattle.saphyr_input.specs.declared.input.SkipTabs.{SkipTabs}
+use Rattle.saphyr_input.specs.declared.input.SkipTabs.TheVariants.{Yes}
+use Rattle.saphyr_scalar.specs.declared.reading.block.Chomping.{Chomping}
+use Rattle.saphyr_scalar.specs.declared.reading.block.Chomping.TheVariants.{Clip}
+use Rattle.saphyr_scalar.specs.declared.scalar.block.header.BlockHeader.{BlockHeader}
+use Rattle.saphyr_scalar.specs.declared.scalar.position.Marker.{Marker}
+use Rattle.saphyr_scalar.specs.BlockScalar.{chomping, indicator, header_break, header_end, last_chomping, header_behind, header}
+use Rattle.saphyr_scalar.specs.BlockText.{digit_of, chomping_of, AreIndicators, IsBreakBefore, EndsHeader, IsHeaderLine}
+use Rattle.saphyr_scalar.specs.Cursor.{Cursor, pass, pass_blanks, pass_break, separation, behind_separation}
+use Rattle.saphyr_scalar.specs.DirectiveSpelling.{IsLineTail}
+use Rattle.saphyr_scalar.proofs.Block.Reads.{then_gave, gave, refused, same_gift}
+use Rattle.saphyr_scalar.proofs.Directives.Spelled.{line_of}
+use Rattle.saphyr_scalar.proofs.Quoted.Inside.{break_cases}
+use Rattle.saphyr_scalar.proofs.Properties.TagsSpelled.{cut_at}
+use Rattle.saphyr_input.proofs.Basics.Booleans.{and_true_left, and_true_right, by_test}
+use Rattle.std.proofs.lemmas.Bool.{not-false, eqb-true}
+use Rattle.saphyr_input.proofs.Basics.Lists.{first_and_rest}
+
+-- ## The indicators
+
+abbrev mark_of : Option Chomping → List ℕ
+mark_of None = []
+mark_of (Some c) = chomping_of c
+
+chomping_told : (s : Cursor) → s.rest ≡ mark_of (chomping s).0 ++ (chomping s).1.rest
+unfolding chomping
+chomping_told s =
+    let P : Option Chomping × Cursor → Type 0 = λ x. s.rest ≡ mark_of x.0 ++ x.1.rest in
+    by_test (slice_index s.rest 0 == 43) _ _ P (λ e. cut_at 43 s.rest refl (eqb-true (slice_index s.rest 0) 43 e))
+    (λ _. by_test (slice_index s.rest 0 == 45) _ _ P (λ e. cut_at 45 s.rest refl (eqb-true (slice_index s.rest 0) 45 e))
+    (λ _. refl))
+
+record Digit (s : Cursor) (x : ℕ × Cursor) : Type 0 where
+  few : x.0 ≤ 9
+  is : s.rest ≡ digit_of x.0 ++ x.1.rest
+
+digit_here : (s : Cursor) (c k : ℕ) → slice_index s.rest 0 ≡ c → c ≡ 48 + k → 1 ≤ k
+    → s.rest ≡ digit_of k ++ drop 1 s.rest
+digit_here s c zero e f h = absurd (omega (arith, h))
+digit_here s c (suc n) e f h =
+    let some : (c == 0) ≡ false = grind (arith, nat_tests) in
+    let is : c ≡ 49 + n = omega (arith, f) in
+    cut_at c s.rest some e ∙ ap (λ d. d ∷ drop 1 s.rest) is
+
+digit_value : (c : ℕ) → not (is_digit c) ≡ false → (c == 48) ≡ false → (1 ≤ c - 48) × (c - 48 ≤ 9) × (c ≡ 48 + (c - 48))
+digit_value c h z = (grind (arith, nat_tests), grind (arith, nat_tests), grind (arith, nat_tests))
+
+indicator_told : (start : Marker) (s : Cursor) (x : ℕ × Cursor) → indicator start s ≡ Ok x → Digit s x
+unfolding indicator
+indicator_told start s x =
+    let c = slice_index s.rest 0 in
+    by_test (not (is_digit c)) _ _ (λ r. r ≡ gave x → Digit s x)
+    (λ _ e. subst (Digit s) (same_gift (0, s) x e) (record { few = omega arith; is = refl }))
+    (λ d. by_test (c == 48) _ _ (λ r. r ≡ gave x → Digit s x)
+    (λ _ e. refused _ x e)
+    (λ z e. let v = digit_value c d z in
+    subst (Digit s) (same_gift (c - 48, pass 1 s) x e)
+    (record { few = v.1; is = digit_here s c (c - 48) refl v.2 v.0 })))
+
+chosen : (o : Option Chomping) → mark_of o ≡ chomping_of (unwrap_or o Clip)
+chosen None = refl
+chosen (Some c) = refl
+
+-- the indicators, by whether a chomping indicator stood first
+both_told : (o : Option Chomping) (n : ℕ) (r a : List ℕ) (b : Cursor) → n ≤ 9 → r ≡ mark_of o ++ a
+    → a ≡ digit_of n ++ b.rest
+    → (t : List ℕ) × AreIndicators n (last_chomping o b).0 t × (r ≡ t ++ (last_chomping o b).1.rest)
+unfolding last_chomping
+both_told (Some c) n r a b few e f = (
+  chomping_of c ++ digit_of n,
+  (few, inr refl),
+  e ∙ ap (λ t. chomping_of c ++ t) f
+      ∙ sym (append_assoc (chomping_of c) (digit_of n) b.rest),
+)
+both_told None n r a b few e f =
+    let x = chomping b in
+    let last : b.rest ≡ chomping_of (unwrap_or x.0 Clip) ++ x.1.rest =
+    chomping_told b ∙ ap (λ t. t ++ x.1.rest) (chosen x.0) in (
+      digit_of n ++ chomping_of (unwrap_or x.0 Clip),
+      (few, inl refl),
+      e ∙ f ∙ ap (λ t. digit_of n ++ t) last
+          ∙ sym (append_assoc (digit_of n) (chomping_of (unwrap_or x.0 Clip)) x.1.rest),
+    )
+
+-- ## The end of the line
+
+abbrev Ended : List ℕ → List ℕ → Type 0
+Ended xs behind = (end : List ℕ) × EndsHeader behind end × (xs ≡ end ++ behind)
+
+two_broken : (xs : List ℕ) → next_2_are xs 13 10 ≡ true → xs ≡ codes "\r\n" ++ drop 2 xs
+two_broken [] h = absurd (cc)
+two_broken (c ∷ []) h = absurd (let k = and_true_right (c == 13) false h in cc)
+two_broken (c ∷ d ∷ ds) h =
+    let first : c ≡ 13 = eqb-true c 13 (and_true_left (c == 13) (d == 10) h) in
+    let second : d ≡ 10 = eqb-true d 10 (and_true_right (c == 13) (d == 10) h) in
+    ap (λ x. x ∷ d ∷ ds) first ∙ ap (λ x. 13 ∷ x ∷ ds) second
+
+no_feed : (x : ℕ) → (x == 10) ≡ false → x ≢ 10
+no_feed x e h = absurd (grind (arith, nat_tests))
+
+one_broken : (xs : List ℕ) → next_2_are xs 13 10 ≡ false → is_break (slice_index xs 0) ≡ true
+    → (end : List ℕ) × IsBreakBefore (drop 1 xs) end × (xs ≡ end ++ drop 1 xs)
+one_broken [] h b = absurd (cc)
+one_broken (c ∷ cs) h b =
+    break_cases c b (λ x. next_2_are (x ∷ cs) 13 10 ≡ false
+    → (end : List ℕ) × IsBreakBefore cs end × (x ∷ cs ≡ end ++ cs))
+    (λ _. (codes "\n", inl refl, refl))
+    (λ k. (codes "\r", inr (inr (refl, no_feed (slice_index cs 0) k)), refl))
+    h
+
+other_than_tab : (x : ℕ) → (x == tab) ≡ false → x ≢ tab
+other_than_tab x e h = absurd (grind (arith, nat_tests))
+
+second : (a b : Bool) → (a || b) ≡ true → a ≡ false → b ≡ true
+second true b h e = absurd (cc)
+second false b h e = h
+
+break_ended : (s : Cursor) → is_breakz (slice_index s.rest 0) ≡ true
+    → (slice_index (pass_break s).rest 0 == tab) ≡ false → Ended s.rest (pass_break s).rest
+break_ended s h =
+    let P : Cursor → Type 0 = λ u. (slice_index u.rest 0 == tab) ≡ false → Ended s.rest u.rest in
+    by_test (next_2_are s.rest 13 10) _ _ P
+    (λ e t. (codes "\r\n", inl (inr (inl refl), other_than_tab _ t), two_broken s.rest e))
+    (λ e. by_test (is_break (slice_index s.rest 0)) _ _ P
+    (λ f t. let w = one_broken s.rest e f in (w.0, inl (w.1, other_than_tab _ t), w.2))
+    (λ f t. ([], inr (refl, second (is_break (slice_index s.rest 0)) (is_z (slice_index s.rest 0)) h f), refl)))
+
+break_told : (start : Marker) (s u : Cursor) → header_break start s ≡ Ok u → Ended s.rest u.rest
+unfolding header_break
+break_told start s u =
+    by_test (not (is_breakz (slice_index s.rest 0))) _ _ (λ r. r ≡ gave u → Ended s.rest u.rest)
+    (λ _ e. refused _ u e)
+    (λ h. by_test (slice_index (pass_break s).rest 0 == tab) _ _ (λ r. r ≡ gave u → Ended s.rest u.rest)
+    (λ _ e. refused _ u e)
+    (λ t e. subst (λ (v : Cursor). Ended s.rest v.rest) (same_gift (pass_break s) u e)
+    (break_ended s (not-false _ h) t)))
+
+separation_left : (s : Cursor) (x : SkipTabs × Cursor) → separation Yes s ≡ Ok x
+    → pass_blanks (separation_len Yes s.rest) s ≡ x.1
+unfolding separation behind_separation
+separation_left s x =
+    let t = pass_blanks (separation_len Yes s.rest) s in
+    by_test (nat_lt 0 t.mark.col && is_bom (slice_index t.rest 0)) _ _ (λ r. r ≡ gave x → t ≡ x.1)
+    (λ _ e. refused _ x e)
+    (λ _. by_test (is_bare_comment Yes s.rest) _ _ (λ r. r ≡ gave x → t ≡ x.1)
+    (λ _ e. refused _ x e)
+    (λ _ e. ap (λ (y : SkipTabs × Cursor). y.1) (same_gift (found_blanks Yes s.rest, t) x e)))
+
+abbrev Line : List ℕ → List ℕ → Type 0
+Line xs behind = (tail : List ℕ) × (end : List ℕ) × IsLineTail tail × EndsHeader behind end
+    × (xs ≡ tail ++ (end ++ behind))
+
+end_told : (start : Marker) (s u : Cursor) → header_end start s ≡ Ok u → Line s.rest u.rest
+unfolding header_end
+end_told start s u e =
+    let w = then_gave (separation Yes s) (λ x. header_break start x.1) u e in
+    let l = line_of s.mark s.rest in
+    let b = break_told start w.0.1 u w.2 in
+    let left : drop (separation_len Yes s.rest) s.rest ≡ b.0 ++ u.rest =
+    ap (λ (t : Cursor). t.rest) (separation_left s w.0 w.1) ∙ b.2 in
+    (l.0, b.0, l.1.1, b.1, l.1.0 ∙ ap (λ t. l.0 ++ t) left)
+
+-- ## The line
+
+abbrev Headed : List ℕ → BlockHeader × Cursor → Type 0
+Headed xs x = (first : List ℕ) × (xs ≡ first ++ x.1.rest) × IsHeaderLine x.0.indicator x.0.chomping x.1.rest first
+
+joined : (c : ℕ) (xs a b d behind : List ℕ) → xs ≡ a ++ (b ++ (d ++ behind)) → c ∷ xs ≡ (c ∷ (a ++ (b ++ d))) ++ behind
+joined c xs a b d behind e =
+    ap (λ t. c ∷ t) (e ∙ ap (λ t. a ++ t) (sym (append_assoc b d behind)) ∙ sym (append_assoc a (b ++ d) behind))
+
+pub header_line : (s : Cursor) (x : BlockHeader × Cursor) → 0 < length s.rest → header s ≡ Ok x → Headed s.rest x
+unfolding header header_behind
+header_line s x some e =
+    let first = chomping (pass 1 s) in
+    let w = then_gave (indicator s.mark first.1) (λ y. header_behind s.mark y.0 (last_chomping first.0 y.1)) x e in
+    let last = last_chomping first.0 w.0.1 in
+    let header_of : Cursor → BlockHeader × Cursor = λ t. (record { chomping = last.0; indicator = w.0.0 }, t) in
+    let v = then_gave (header_end s.mark last.1) (λ t. gave (header_of t)) x w.2 in
+    let d = indicator_told s.mark first.1 w.0 w.1 in
+    let m = both_told first.0 w.0.0 (drop 1 s.rest) first.1.rest w.0.1 d.few (chomping_told (pass 1 s)) d.is in
+    let t = end_told s.mark last.1 v.0 v.1 in
+    let whole : s.rest ≡ (slice_index s.rest 0 ∷ (m.0 ++ (t.0 ++ t.1))) ++ v.0.rest =
+    first_and_rest s.rest some
+    ∙ joined (slice_index s.rest 0) (drop 1 s.rest) m.0 t.0 t.1 v.0.rest (m.2 ∙ ap (λ y. m.0 ++ y) t.4) in
+    subst (Headed s.rest) (same_gift (header_of v.0) x v.2)
+    (slice_index s.rest 0 ∷ (m.0 ++ (t.0 ++ t.1)), whole, (slice_index s.rest 0, m.0, t.0, t.1, m.1, t.2, t.3, refl))

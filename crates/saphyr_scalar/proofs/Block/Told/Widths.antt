@@ -1,0 +1,130 @@
+-- The indentation of a block scalar is that of its widest line of spaces, or what its indicator gives.
+use Rattle.std.proofs.Common.{◌≡◌, ℕ, zero, suc, ◌+◌, Bool, true, false, List, [], ◌∷◌, ◌++◌, slice_index, refl, sym, ap, ◌∙◌, arith, subst}
+use Rattle.std.specs.Prelude.{◌||◌, ◌&&◌, ◌==◌, max, None, unwrap_or, IsTrue}
+use Rattle.std.proofs.lemmas.Bool.Decides.{nat_tests}
+use Rattle.std.proofs.lemmas.List.{append-nil, length-replicate}
+use Rattle.saphyr_input.specs.Breaks.{normalized}
+use Rattle.saphyr_input.specs.Classes.{is_break, is_z}
+use Rattle.saphyr_scalar.specs.declared.scalar.block.lines.EmptyLines.{EmptyLines}
+use Rattle.saphyr_scalar.specs.declared.scalar.position.Marker.{Marker}
+use Rattle.saphyr_scalar.specs.BlockScalar.{there, is_cr_lf, inside_break, widened, one_more, empty_lines, empty_lines_at, no_lines, given_indentation}
+use Rattle.saphyr_scalar.specs.BlockText.{all_lines, widest, is_space_or_break, IsIndentationFrom}
+use Rattle.saphyr_scalar.specs.Cursor.{Cursor, along, next_line}
+use Rattle.saphyr_scalar.specs.TagSpelling.{AreIn}
+use Rattle.saphyr_scalar.proofs.Block.Texts.{spaces, spaces_more, plain_spaces, first_line, only_line, normal_half, normal_break}
+use Rattle.saphyr_input.proofs.Basics.Booleans.{or_false_right, by_test}
+use Rattle.std.proofs.lemmas.Bool.{eqb-true}
+
+lone : (j : ℕ) → widest (all_lines (spaces j ++ [])) ≡ j
+lone j =
+    let only = only_line (spaces j) (plain_spaces j) in
+    rw (append-nil (spaces j), only.0, only.1, length-replicate) (omega arith)
+
+one_line_more : (j : ℕ) (text : List ℕ) → widest (all_lines (spaces j ++ 10 ∷ text)) ≡ max j (widest (all_lines text))
+one_line_more j text =
+    let f = first_line (spaces j) text (plain_spaces j) in
+    rw (f.ended, f.last, length-replicate) refl
+
+-- What is taken off as leading lines, behind j spaces of the first: spaces and breaks, and how far their lines reach.
+record Width (j : ℕ) (before : EmptyLines) (xs : List ℕ) (r : EmptyLines × Cursor) : Type 0 where
+  leading : List ℕ
+  is : xs ≡ leading ++ r.1.rest
+  are : AreIn is_space_or_break leading
+  stops : is_space_or_break (slice_index r.1.rest 0) ≡ false
+  width : r.0.widest ≡ max before.widest (widest (all_lines (spaces j ++ normalized leading)))
+
+width_stop : (before : EmptyLines) (b : Bool) (m : Marker) (xs : List ℕ) → is_space_or_break (slice_index xs 0) ≡ false
+    → Width m.col before xs (widened before m.col, there b m xs)
+width_stop before b m xs h =
+    record { leading = []; is = refl; are = tt; stops = h; width = ap (max before.widest) (sym (lone m.col)) }
+
+width_space : (j x : ℕ) (before : EmptyLines) (cs : List ℕ) (r : EmptyLines × Cursor) → x ≡ 32
+    → Width (j + 1) before cs r → Width j before (x ∷ cs) r
+width_space j x before cs r e w = record {
+  leading = 32 ∷ w.leading;
+  is = ap (λ c. c ∷ cs) e ∙ ap (λ t. 32 ∷ t) w.is;
+  are = (refl, w.are);
+  stops = w.stops;
+  width = w.width ∙ ap (λ t. max before.widest (widest (all_lines t))) (spaces_more j (normalized w.leading));
+}
+
+width_half : (j x : ℕ) (before : EmptyLines) (cs : List ℕ) (r : EmptyLines × Cursor) → is_cr_lf x cs ≡ true
+    → is_break x ≡ true → Width j before cs r → Width j before (x ∷ cs) r
+width_half j x before cs r e b w = record {
+  leading = x ∷ w.leading;
+  is = ap (λ t. x ∷ t) w.is;
+  are = (broken, w.are);
+  stops = w.stops;
+  width = w.width ∙ ap (λ t. max before.widest (widest (all_lines (spaces j ++ t))))
+      (sym (normal_half x cs w.leading r.1.rest e w.is (or_false_right _ _ w.stops)));
+}
+  where
+    broken : IsTrue (is_space_or_break x)
+    broken = let P : Bool → Type 0 = λ k. ((x == 32) || k) ≡ true in subst P (sym b) (right (x == 32))
+      where
+        right : (a : Bool) → (a || true) ≡ true
+        right true = refl
+        right false = refl
+
+width_break : (j x : ℕ) (before : EmptyLines) (cs : List ℕ) (r : EmptyLines × Cursor) → is_cr_lf x cs ≡ false
+    → is_break x ≡ true → Width 0 (one_more before j) cs r → Width j before (x ∷ cs) r
+width_break j x before cs r e b w = record {
+  leading = x ∷ w.leading;
+  is = ap (λ t. x ∷ t) w.is;
+  are = (broken, w.are);
+  stops = w.stops;
+  width =
+      let others = widest (all_lines (normalized w.leading)) in
+      let told : widest (all_lines (spaces j ++ normalized (x ∷ w.leading))) ≡ max j others =
+      ap (λ t. widest (all_lines (spaces j ++ t))) (normal_break x cs w.leading r.1.rest e b w.is)
+      ∙ one_line_more j (normalized w.leading) in
+      let own : r.0.widest ≡ max (max before.widest j) others = w.width in
+      rw told (omega (arith, own));
+}
+  where
+    broken : IsTrue (is_space_or_break x)
+    broken = let P : Bool → Type 0 = λ k. ((x == 32) || k) ≡ true in subst P (sym b) (right (x == 32))
+      where
+        right : (a : Bool) → (a || true) ≡ true
+        right true = refl
+        right false = refl
+
+half_breaks : (x : ℕ) (cs : List ℕ) → is_cr_lf x cs ≡ true → is_break x ≡ true
+half_breaks x cs h = ap is_break (eqb-true x 13 (left (x == 13) (slice_index cs 0 == 10) h))
+  where
+    left : (a b : Bool) → (a && b) ≡ true → a ≡ true
+    left true b k = refl
+    left false b k = k
+
+widths : (before : EmptyLines) (b : Bool) (m : Marker) (xs : List ℕ)
+    → Width m.col before xs (empty_lines None before b m xs)
+unfolding empty_lines
+widths before b m [] = width_stop before b m [] refl
+widths before b m (x ∷ cs) =
+    by_test (x == 32) _ _ (Width m.col before (x ∷ cs))
+    (λ h. width_space m.col x before cs _ (eqb-true x 32 h) (widths before b (along m 1) cs))
+    (λ h0. by_test (is_cr_lf x cs) _ _ (Width m.col before (x ∷ cs))
+    (λ h. width_half m.col x before cs _ h (half_breaks x cs h) (widths before b (inside_break m) cs))
+    (λ h1. by_test (is_break x) _ _ (Width m.col before (x ∷ cs))
+    (λ h. width_break m.col x before cs _ h1 h (widths (one_more before m.col) true (next_line m 1) cs))
+    (λ h2. width_stop before b m (x ∷ cs) (rw (h0, h2) refl))))
+
+-- at the start of a line
+pub indentation_told : (indent n : ℕ) (u : Cursor) → u.mark.col ≡ 0
+    → IsIndentationFrom indent n u.rest
+    (unwrap_or (given_indentation indent n)
+    (max (empty_lines_at (given_indentation indent n) no_lines u).0.widest indent))
+unfolding given_indentation
+indentation_told indent zero u col =
+    let w = widths no_lines u.blank_so_far u.mark u.rest in
+    let reach : (empty_lines_at None no_lines u).0.widest ≡ widest (all_lines (normalized w.leading)) =
+    w.width ∙ ap (λ j. max 0 (widest (all_lines (spaces j ++ normalized w.leading)))) col ∙ omega arith in
+    (w.leading, (empty_lines_at None no_lines u).1.rest, w.is, w.are, w.stops, ap (λ k. max k indent) reach)
+indentation_told indent (suc n) u col = let some : (suc n == 0) ≡ false = grind (arith, nat_tests) in rw some refl
+
+-- before a NUL or the end
+pub indentation_at_end : (indent n : ℕ) (xs : List ℕ) → is_z (slice_index xs 0) ≡ true
+    → (i : ℕ) × IsIndentationFrom indent n xs i
+indentation_at_end indent zero xs z =
+    (indent, ([], xs, refl, tt, ap is_space_or_break (eqb-true (slice_index xs 0) 0 z), omega arith))
+indentation_at_end indent (suc n) xs z = (_, refl)

@@ -1,0 +1,383 @@
+-- The content lines of a block scalar, read a line at a time.
+use Rattle.std.proofs.Common.{◌≡◌, ℕ, suc, ◌+◌, ◌<◌, ◌≤◌, Bool, true, false, List, [], ◌∷◌, ◌++◌, length, take, drop, length-drop, slice_index, Result, Ok, refl, sym, ap, ◌∙◌, arith, subst, encode_utf8_all, append_assoc, nat_eq, nat_lt}
+use Rattle.std.specs.Prelude.{◌||◌, ◌&&◌, ◌==◌, not, Option, Some, None, is_some}
+use Rattle.std.specs.List.{prefix_len}
+use Rattle.std.proofs.lemmas.Bool.Decides.{nat_tests}
+use Rattle.std.proofs.lemmas.List.{append-nil}
+use Rattle.std.proofs.lemmas.List.Sums.{prefix_len-le-length}
+use Rattle.std.proofs.lemmas.Str.{encodes-append}
+use Rattle.saphyr_input.specs.Classes.{is_blank, is_break, is_yaml_non_break}
+use Rattle.saphyr_scalar.specs.declared.reading.block.BlockStyle.{BlockStyle}
+use Rattle.saphyr_scalar.specs.declared.reading.block.Chomping.{Chomping}
+use Rattle.saphyr_scalar.specs.declared.scalar.position.Marker.{Marker}
+use Rattle.saphyr_scalar.specs.declared.scalar.position.Span.{Span}
+use Rattle.saphyr_scalar.specs.declared.scalar.fault.Refusal.{Refusal}
+use Rattle.saphyr_scalar.specs.declared.scalar.block.lines.EmptyLines.{EmptyLines}
+use Rattle.saphyr_scalar.specs.declared.scalar.block.breaks.BlockEnd.{BlockEnd}
+use Rattle.saphyr_scalar.specs.Cursor.{Cursor, along, next_line, pass_break, pass_comment}
+use Rattle.saphyr_scalar.specs.BlockScalar.{there, is_indentation, is_cr_lf, inside_break, one_more, empty_lines, empty_lines_at, line_starts, break_before, LinesRead, with_text, ended, between, line, between_at, line_at, with_line, with_front, tail, is_unfinished, chomped}
+use Rattle.saphyr_scalar.proofs.Moving.{along_none, along_more}
+use Rattle.saphyr_scalar.proofs.Quoted.Inside.{break_cases}
+use Rattle.saphyr_scalar.proofs.Block.Lines.{no_break, behind_cr}
+use Rattle.saphyr_input.proofs.Basics.Lists.{run_ends}
+use Rattle.saphyr_input.proofs.Basics.Booleans.{by_test}
+use Rattle.saphyr_input.proofs.Basics.Characters.{non_break_no_break}
+use Rattle.saphyr_scalar.proofs.PassedBreaks.{inside_same}
+use Rattle.saphyr_scalar.proofs.Block.Indentations.{nul_no_indentation}
+
+text_twice : (a b : List ℕ) (read : LinesRead) → with_text a (with_text b read) ≡ with_text (a ++ b) read
+text_twice a b read = rw append_assoc refl
+
+no_text : (read : LinesRead) → with_text [] read ≡ read
+no_text read = refl
+
+front_text : (text a : List ℕ) (read : LinesRead)
+    → with_front text (with_text a read) ≡ with_front (text ++ encode_utf8_all a) read
+front_text text a read = rw (encodes-append, append_assoc) refl
+
+-- empty lines before a line, and its indentation
+b_space : (st : BlockStyle) (i : ℕ) (ab : Option Bool) (k : ℕ) (b : Bool) (m : Marker) (c : ℕ) (cs : List ℕ)
+    → is_indentation (Some i) m.col c ≡ true
+    → between st i ab k b m (c ∷ cs) ≡ between st i ab k b (along m 1) cs
+unfolding between
+b_space st i ab k b m c cs h = rw h refl
+
+b_half : (st : BlockStyle) (i : ℕ) (ab : Option Bool) (k : ℕ) (b : Bool) (m : Marker) (c : ℕ) (cs : List ℕ)
+    → is_indentation (Some i) m.col c ≡ false → is_cr_lf c cs ≡ true
+    → between st i ab k b m (c ∷ cs) ≡ between st i ab k b (inside_break m) cs
+unfolding between
+b_half st i ab k b m c cs h0 h = rw (h0, h) refl
+
+b_break : (st : BlockStyle) (i : ℕ) (ab : Option Bool) (k : ℕ) (b : Bool) (m : Marker) (c : ℕ) (cs : List ℕ)
+    → is_indentation (Some i) m.col c ≡ false → is_cr_lf c cs ≡ false → is_break c ≡ true
+    → between st i ab k b m (c ∷ cs) ≡ between st i ab (k + 1) true (next_line m 1) cs
+unfolding between
+b_break st i ab k b m c cs h0 h1 h = rw (h0, h1, h) refl
+
+abbrev Skips : BlockStyle → ℕ → Option Bool → ℕ → Bool → Marker → List ℕ → EmptyLines × Cursor → Type 0
+Skips st i ab k b m xs r = between st i ab k b m xs ≡ between_at st i ab r.0.count r.1
+
+between_skips : (st : BlockStyle) (i : ℕ) (ab : Option Bool) (lines : EmptyLines) (b : Bool) (m : Marker) (xs : List ℕ)
+    → Skips st i ab lines.count b m xs (empty_lines (Some i) lines b m xs)
+unfolding empty_lines
+between_skips st i ab lines b m [] = refl
+between_skips st i ab lines b m (c ∷ cs) =
+    by_test (is_indentation (Some i) m.col c) _ _ (Skips st i ab lines.count b m (c ∷ cs))
+    (λ h. b_space st i ab lines.count b m c cs h ∙ between_skips st i ab lines b (along m 1) cs)
+    (λ h0. by_test (is_cr_lf c cs) _ _ (Skips st i ab lines.count b m (c ∷ cs))
+    (λ h. b_half st i ab lines.count b m c cs h0 h ∙ between_skips st i ab lines b (inside_break m) cs)
+    (λ h1. by_test (is_break c) _ _ (Skips st i ab lines.count b m (c ∷ cs))
+    (λ h. b_break st i ab lines.count b m c cs h0 h1 h
+    ∙ between_skips st i ab (one_more lines m.col) true (next_line m 1) cs)
+    (λ _. refl)))
+
+-- behind the empty lines and the indentation
+abbrev pub Stopped : Option ℕ → EmptyLines × Cursor → Type 0
+Stopped limit r = (is_indentation limit r.1.mark.col (slice_index r.1.rest 0) ≡ false)
+    × (is_break (slice_index r.1.rest 0) ≡ false)
+
+pub stopped : (limit : Option ℕ) (lines : EmptyLines) (b : Bool) (m : Marker) (xs : List ℕ)
+    → Stopped limit (empty_lines limit lines b m xs)
+unfolding empty_lines
+stopped limit lines b m [] = (nul_no_indentation limit m.col, refl)
+stopped limit lines b m (c ∷ cs) =
+    by_test (is_indentation limit m.col c) _ _ (Stopped limit)
+    (λ h. stopped limit lines b (along m 1) cs)
+    (λ h0. by_test (is_cr_lf c cs) _ _ (Stopped limit)
+    (λ h. stopped limit lines b (inside_break m) cs)
+    (λ h1. by_test (is_break c) _ _ (Stopped limit)
+    (λ h. stopped limit (one_more lines m.col) true (next_line m 1) cs)
+    (λ h2. (h0, h2))))
+
+-- nothing is put before what is taken off
+abbrev Shorter : List ℕ → EmptyLines × Cursor → Type 0
+Shorter xs r = length r.1.rest ≤ length xs
+
+shorter : (limit : Option ℕ) (lines : EmptyLines) (b : Bool) (m : Marker) (xs : List ℕ)
+    → Shorter xs (empty_lines limit lines b m xs)
+unfolding empty_lines
+shorter limit lines b m [] = omega arith
+shorter limit lines b m (c ∷ cs) =
+    by_test (is_indentation limit m.col c) _ _ (Shorter (c ∷ cs))
+    (λ h. omega (arith, shorter limit lines b (along m 1) cs))
+    (λ h0. by_test (is_cr_lf c cs) _ _ (Shorter (c ∷ cs))
+    (λ h. omega (arith, shorter limit lines b (inside_break m) cs))
+    (λ h1. by_test (is_break c) _ _ (Shorter (c ∷ cs))
+    (λ h. omega (arith, shorter limit (one_more lines m.col) true (next_line m 1) cs))
+    (λ h2. omega arith)))
+
+-- what was left behind empty lines
+pub record Skipped (st : BlockStyle) (i : ℕ) (ab : Option Bool) (before after : EmptyLines) (s t : Cursor) : Type
+    0 where
+  pub same : between_at st i ab before.count s ≡ between_at st i ab after.count t
+  pub space : is_indentation (Some i) t.mark.col (slice_index t.rest 0) ≡ false
+  pub clear : is_break (slice_index t.rest 0) ≡ false
+  pub shorter : length t.rest ≤ length s.rest
+
+pub skipped : (st : BlockStyle) (i : ℕ) (ab : Option Bool) (before after : EmptyLines) (s t : Cursor)
+    → (after, t) ≡ empty_lines_at (Some i) before s → Skipped st i ab before after s t
+skipped st i ab before after s t e =
+    let P : EmptyLines × Cursor → Type 0 = λ r. Skipped st i ab before r.0 s r.1 in
+    subst P (sym e)
+    (record {
+      same = between_skips st i ab before s.blank_so_far s.mark s.rest;
+      space = (stopped (Some i) before s.blank_so_far s.mark s.rest).0;
+      clear = (stopped (Some i) before s.blank_so_far s.mark s.rest).1;
+      shorter = shorter (Some i) before s.blank_so_far s.mark s.rest;
+    })
+
+-- no content line begins
+pub no_line_at : (st : BlockStyle) (i : ℕ) (ab : Option Bool) (k : ℕ) (b : Bool) (m : Marker) (xs : List ℕ)
+    → is_indentation (Some i) m.col (slice_index xs 0) ≡ false → is_break (slice_index xs 0) ≡ false
+    → line_starts i m.col xs ≡ false → between st i ab k b m xs ≡ ended (is_some ab) k (there b m xs)
+unfolding between
+no_line_at st i ab k b m [] space clear h = refl
+no_line_at st i ab k b m (c ∷ cs) space clear h = rw (space, (no_break c clear).1, (no_break c clear).0, h) refl
+
+pub no_line : (st : BlockStyle) (i : ℕ) (ab : Option Bool) (before after : EmptyLines) (s t : Cursor)
+    → Skipped st i ab before after s t → line_starts i t.mark.col t.rest ≡ false
+    → between_at st i ab before.count s ≡ ended (is_some ab) after.count t
+no_line st i ab before after s t r h =
+    r.same ∙ no_line_at st i ab after.count t.blank_so_far t.mark t.rest r.space r.clear h
+
+-- a content line begins
+pub record Starts (i col : ℕ) (xs : List ℕ) : Type 0 where
+  pub column : col ≡ i
+  pub content : is_yaml_non_break (slice_index xs 0) ≡ true
+
+pub starts : (i col : ℕ) (xs : List ℕ) → line_starts i col xs ≡ true → Starts i col xs
+unfolding line_starts
+starts i col xs = parts (nat_eq col i) (is_yaml_non_break (slice_index xs 0)) _ refl refl
+  where
+    parts : (a d e : Bool) → nat_eq col i ≡ a → is_yaml_non_break (slice_index xs 0) ≡ d → (a && d && e) ≡ true
+        → Starts i col xs
+    parts true true e at content h = record { column = grind (arith, nat_tests); content = content }
+    parts true false e at content h = absurd (cc)
+    parts false d e at content h = absurd (cc)
+
+pub not_left : (i col c : ℕ) → col ≡ i → is_indentation (Some i) col c ≡ false
+not_left i col c e = let no : nat_lt col i ≡ false = grind (arith, nat_tests) in rw no (neither (nat_eq c 32))
+  where
+    neither : (a : Bool) → (a && false) ≡ false
+    neither true = refl
+    neither false = refl
+
+pub line_on : (st : BlockStyle) (i : ℕ) (more b : Bool) (m : Marker) (c : ℕ) (cs : List ℕ) → is_yaml_non_break c ≡ true
+    → line st i more b m (c ∷ cs) ≡ with_text (c ∷ []) (line st i more b (along m 1) cs)
+unfolding line
+line_on st i more b m c cs h = rw h refl
+
+begun : (st : BlockStyle) (i : ℕ) (ab : Option Bool) (k : ℕ) (b : Bool) (m : Marker) (c : ℕ) (cs : List ℕ)
+    → is_indentation (Some i) m.col c ≡ false → is_cr_lf c cs ≡ false → is_break c ≡ false
+    → line_starts i m.col (c ∷ cs) ≡ true
+    → between st i ab k b m (c ∷ cs)
+    ≡ with_text (break_before st ab k (is_blank c) ++ c ∷ []) (line st i (is_blank c) b (along m 1) cs)
+unfolding between
+begun st i ab k b m c cs h0 h1 h2 h = rw (h0, h1, h2, h) refl
+
+pub line_begins : (st : BlockStyle) (i : ℕ) (ab : Option Bool) (k : ℕ) (b : Bool) (m : Marker) (xs : List ℕ)
+    → line_starts i m.col xs ≡ true
+    → between st i ab k b m xs
+    ≡ with_text (break_before st ab k (is_blank (slice_index xs 0)))
+    (line st i (is_blank (slice_index xs 0)) b m xs)
+line_begins st i ab k b m [] h = let no = (starts i m.col [] h).content in absurd (cc)
+line_begins st i ab k b m (c ∷ cs) h =
+    let s = starts i m.col (c ∷ cs) h in
+    let clear = non_break_no_break c s.content in
+    let half : is_cr_lf c cs ≡ false = rw (no_break c clear).1 refl in
+    begun st i ab k b m c cs (not_left i m.col c s.column) half clear h
+    ∙ sym (text_twice (break_before st ab k (is_blank c)) (c ∷ []) (line st i (is_blank c) b (along m 1) cs))
+    ∙ ap (with_text (break_before st ab k (is_blank c))) (sym (line_on st i (is_blank c) b m c cs s.content))
+
+-- the rest of a line
+abbrev Runs : BlockStyle → ℕ → Bool → Bool → Marker → List ℕ → ℕ → Type 0
+Runs st i more b m xs n = line st i more b m xs ≡ with_text (take n xs) (line st i more b (along m n) (drop n xs))
+
+no_run : (st : BlockStyle) (i : ℕ) (more b : Bool) (m : Marker) (xs : List ℕ) → Runs st i more b m xs 0
+no_run st i more b m xs = ap (λ x. with_text [] (line st i more b x xs)) (sym (along_none m))
+
+line_run : (st : BlockStyle) (i : ℕ) (more b : Bool) (m : Marker) (xs : List ℕ)
+    → Runs st i more b m xs (prefix_len is_yaml_non_break xs)
+line_run st i more b m [] = no_run st i more b m []
+line_run st i more b m (c ∷ cs) =
+    let n = prefix_len is_yaml_non_break cs in
+    let one : 1 + n ≡ suc n = omega arith in
+    by_test (is_yaml_non_break c) (1 + n) 0 (Runs st i more b m (c ∷ cs))
+    (λ h. rw one
+    (line_on st i more b m c cs h ∙ ap (with_text (c ∷ [])) (line_run st i more b (along m 1) cs)
+    ∙ text_twice (c ∷ []) (take n cs) _
+    ∙ ap (λ x. with_text (c ∷ take n cs) (line st i more b x (drop n cs))) (along_more m 1 n (suc n) (omega arith))))
+    (λ h. no_run st i more b m (c ∷ cs))
+
+-- the break at a line's end
+abbrev Breaks : BlockStyle → ℕ → Bool → Bool → Marker → List ℕ → Cursor → Type 0
+Breaks st i more b m xs t = line st i more b m xs ≡ between_at st i (Some more) 0 t
+
+line_lf : (st : BlockStyle) (i : ℕ) (more b : Bool) (m : Marker) (cs : List ℕ)
+    → Breaks st i more b m (10 ∷ cs) (there true (next_line m 1) cs)
+unfolding line
+line_lf st i more b m cs = refl
+
+line_cr : (st : BlockStyle) (i : ℕ) (more b : Bool) (m : Marker) (cs : List ℕ) → (slice_index cs 0 == 10) ≡ false
+    → Breaks st i more b m (13 ∷ cs) (there true (next_line m 1) cs)
+unfolding line
+line_cr st i more b m cs h = rw h refl
+
+line_cr_lf : (st : BlockStyle) (i : ℕ) (more b : Bool) (m : Marker) (ds : List ℕ)
+    → Breaks st i more b m (13 ∷ 10 ∷ ds) (there true (next_line m 2) ds)
+unfolding line
+line_cr_lf st i more b m ds = ap (λ x. between st i (Some more) 0 true x ds) (inside_same m)
+
+line_breaks : (st : BlockStyle) (i : ℕ) (more b : Bool) (m : Marker) (xs : List ℕ) → is_break (slice_index xs 0) ≡ true
+    → Breaks st i more b m xs (pass_break (there b m xs))
+line_breaks st i more b m [] h = absurd (cc)
+line_breaks st i more b m (c ∷ cs) h =
+    break_cases c h (λ x. Breaks st i more b m (x ∷ cs) (pass_break (there b m (x ∷ cs))))
+    (line_lf st i more b m cs)
+    (behind_cr m b cs (Breaks st i more b m (13 ∷ cs))
+    (λ ds e. subst (λ ys. Breaks st i more b m (13 ∷ ys) (there true (next_line m 2) ds)) (sym e)
+    (line_cr_lf st i more b m ds))
+    (line_cr st i more b m cs))
+
+-- a line that no break ends
+line_cut : (st : BlockStyle) (i : ℕ) (more b : Bool) (m : Marker) (xs : List ℕ)
+    → is_yaml_non_break (slice_index xs 0) ≡ false → is_break (slice_index xs 0) ≡ false
+    → line st i more b m xs ≡ ended false 0 (there b m xs)
+unfolding line
+line_cut st i more b m [] h k = refl
+line_cut st i more b m (c ∷ cs) h k = rw (h, (no_break c k).1, (no_break c k).0) refl
+
+-- The line of a turn was read: from `here`, where it begins, to `end`, where its content ends; the text grew to
+-- `grown`.
+pub record LineRead (st : BlockStyle) (i : ℕ) (ab : Option Bool) (k : ℕ) (text grown : List ℕ) (here end : Cursor)
+    (below : Bool) : Type 0 where
+  pub same : with_front text (between_at st i ab k here) ≡ with_front grown (line_at st i below end)
+  pub ends : is_yaml_non_break (slice_index end.rest 0) ≡ false
+  pub shorter : length end.rest < length here.rest
+
+abbrev SameLine : List ℕ → Cursor → List ℕ → Cursor → Type 0
+SameLine text s grown t = let r : Result (List ℕ × Cursor) Refusal = Ok (with_line text s) in r ≡ Ok (grown, t)
+
+read_to : (text grown : List ℕ) (s t : Cursor) → SameLine text s grown t
+    → ◌≡◌ {A = List ℕ × Cursor} (with_line text s) (grown, t)
+read_to text grown s t e = cc
+
+some_content : (xs : List ℕ) → is_yaml_non_break (slice_index xs 0) ≡ true → 0 < prefix_len is_yaml_non_break xs
+some_content [] h = absurd (cc)
+some_content (c ∷ cs) h = rw h (omega arith)
+
+pub line_read : (st : BlockStyle) (i : ℕ) (ab : Option Bool) (k : ℕ) (text more grown : List ℕ) (here end : Cursor)
+    (below : Bool) → line_starts i here.mark.col here.rest ≡ true → below ≡ is_blank (slice_index here.rest 0)
+    → more ≡ text ++ encode_utf8_all (break_before st ab k below) → SameLine more here grown end
+    → LineRead st i ab k text grown here end below
+line_read st i ab k text more grown here end below h e pushed read =
+    let n = prefix_len is_yaml_non_break here.rest in
+    let s = starts i here.mark.col here.rest h in
+    let P : List ℕ × Cursor → Type 0 = λ x. LineRead st i ab k text x.0 here x.1 below in
+    let start = line_begins st i ab k here.blank_so_far here.mark here.rest h in
+    let run = line_run st i below here.blank_so_far here.mark here.rest in
+    subst P (read_to more grown here end read)
+    (record {
+      same = ap (with_front text) (rw (← e) at start)
+          ∙ front_text text (break_before st ab k below) (line_at st i below here)
+          ∙ ap (λ b. with_front b (line_at st i below here)) (sym pushed)
+          ∙ ap (with_front more) run ∙ front_text more (take n here.rest) (line_at st i below (pass_comment here));
+      ends = run_ends is_yaml_non_break here.rest refl;
+      shorter = rw (length-drop)
+          (omega (arith, some_content here.rest s.content, prefix_len-le-length is_yaml_non_break here.rest));
+    })
+
+-- a turn of the lines, up to the content's end
+pub turn : (st : BlockStyle) (i : ℕ) (ab : Option Bool) (before after : EmptyLines) (text more grown : List ℕ)
+    (s t here end : Cursor) (below : Bool) → Skipped st i ab before after s t → here ≡ t
+    → line_starts i t.mark.col t.rest ≡ true → below ≡ is_blank (slice_index here.rest 0)
+    → more ≡ text ++ encode_utf8_all (break_before st ab after.count below) → SameLine more here grown end
+    → (with_front text (between_at st i ab before.count s) ≡ with_front grown (line_at st i below end))
+    × (is_yaml_non_break (slice_index end.rest 0) ≡ false) × (length end.rest < length s.rest)
+turn st i ab before after text more grown s t here end below skip same h e pushed read =
+    let begins : line_starts i here.mark.col here.rest ≡ true = ap (λ (x : Cursor). line_starts i x.mark.col x.rest)
+    same ∙ h in
+    let r = line_read st i ab after.count text more grown here end below begins e pushed read in
+    let less : length here.rest ≤ length s.rest = rw same skip.shorter in (
+      ap (with_front text) (skip.same ∙ ap (between_at st i ab after.count) (sym same))
+          ∙ r.same,
+      r.ends,
+      omega (arith, r.shorter, less),
+    )
+
+break_shorter : (b : Bool) (m : Marker) (xs : List ℕ) → length (pass_break (there b m xs)).rest ≤ length xs
+break_shorter b m xs =
+    by_test ((slice_index xs 0 == 13) && (slice_index xs 1 == 10)) _ _ (λ (s : Cursor). length s.rest ≤ length xs)
+    (λ _. rw length-drop (omega arith))
+    (λ _. by_test (is_break (slice_index xs 0)) _ _ (λ (s : Cursor). length s.rest ≤ length xs)
+    (λ _. rw length-drop (omega arith)) (λ _. omega arith))
+
+-- the break behind a line
+pub broken : (st : BlockStyle) (i : ℕ) (more : Bool) (text : List ℕ) (end look t : Cursor) (c : ℕ) → look ≡ end
+    → c ≡ slice_index end.rest 0 → is_break c ≡ true → t ≡ pass_break look
+    → (with_front text (between_at st i (Some more) 0 t) ≡ with_front text (line_at st i more end))
+    × (length t.rest ≤ length end.rest)
+broken st i more text end look t c same read h passed =
+    let first : is_break (slice_index end.rest 0) ≡ true = sym (ap is_break read) ∙ h in
+    let place : t ≡ pass_break end = passed ∙ ap pass_break same in (
+      ap (with_front text) (ap (between_at st i (Some more) 0) place
+          ∙ sym (line_breaks st i more end.blank_so_far end.mark end.rest first)),
+      rw place (break_shorter end.blank_so_far end.mark end.rest),
+    )
+
+-- a line that no break ends
+pub cut : (st : BlockStyle) (i : ℕ) (more : Bool) (text : List ℕ) (end look : Cursor) (c : ℕ) → look ≡ end
+    → c ≡ slice_index end.rest 0 → is_break c ≡ false → is_yaml_non_break (slice_index end.rest 0) ≡ false
+    → with_front text (line_at st i more end) ≡ (text, record { broken = false; empty_lines = 0 }, look)
+cut st i more text end look c same read h ends =
+    let first : is_break (slice_index end.rest 0) ≡ false = sym (ap is_break read) ∙ h in
+    ap (with_front text) (line_cut st i more end.blank_so_far end.mark end.rest ends first
+    ∙ ap (ended false 0) (sym same)) ∙ rw append-nil refl
+
+-- no line begins
+pub last : (st : BlockStyle) (i : ℕ) (ab : Option Bool) (before after : EmptyLines) (text : List ℕ) (s t here : Cursor)
+    (b : Bool) → Skipped st i ab before after s t → here ≡ t → line_starts i t.mark.col t.rest ≡ false → b ≡ is_some ab
+    → with_front text (between_at st i ab before.count s)
+    ≡ (text, record { broken = b; empty_lines = after.count }, here)
+last st i ab before after text s t here b skip same h e =
+    ap (with_front text) (no_line st i ab before after s t skip h ∙ ap (ended (is_some ab) after.count) (sym same))
+    ∙ rw (e, append-nil) refl
+
+abbrev SameLines : List ℕ → LinesRead → List ℕ → BlockEnd → Cursor → Type 0
+SameLines text read grown end t =
+    let r : Result (List ℕ × BlockEnd × Cursor) Refusal = Ok (with_front text read) in r ≡ Ok (grown, end, t)
+
+lines_to : (text grown : List ℕ) (read : LinesRead) (end : BlockEnd) (t : Cursor) → SameLines text read grown end t
+    → ◌≡◌ {A = List ℕ × BlockEnd × Cursor} (with_front text read) (grown, end, t)
+lines_to text grown read end t e = cc
+
+-- the text is put together
+pub text_done : (c : Chomping) (i : ℕ) (start : Marker) (read : LinesRead) (text grown pushed : List ℕ) (end : BlockEnd)
+    (t u : Cursor) (b : Bool) (span : Span)
+    → SameLines text read grown end t → text ≡ [] → b ≡ is_unfinished i t → u ≡ t
+    → pushed ≡ grown ++ encode_utf8_all (tail c b end) → span.start ≡ start → span.end ≡ u.mark
+    → chomped c i start read ≡ Ok (pushed, span, u)
+unfolding chomped
+text_done c i start read text grown pushed end t u b span e none unfinished same push first last =
+    let whole = lines_to text grown read end t e in
+    let bytes : text ++ encode_utf8_all read.0 ≡ grown = ap (λ (x : List ℕ × BlockEnd × Cursor). x.0) whole in
+    let breaks : read.1 ≡ end = ap (λ (x : List ℕ × BlockEnd × Cursor). x.1) whole in
+    let place : read.2 ≡ t = ap (λ (x : List ℕ × BlockEnd × Cursor). x.2) whole in
+    let front : encode_utf8_all read.0 ≡ grown = sym (ap (λ y. y ++ encode_utf8_all read.0) none) ∙ bytes in
+    let all : encode_utf8_all (read.0 ++ tail c (is_unfinished i read.2) read.1) ≡ pushed =
+    rw (encodes-append, front, breaks, place, ← unfinished) (sym push) in
+    let P : Marker → Marker → Type 0 = λ a z. ◌≡◌ {A = Result (List ℕ × Span × Cursor) Refusal}
+    (Ok (encode_utf8_all (read.0 ++ tail c (is_unfinished i read.2) read.1), record { start = a; end = z }, read.2))
+    (Ok (pushed, span, u)) in
+    let here : P span.start span.end = rw (all, place, same) refl in
+    let ends : span.end ≡ read.2.mark = last ∙ ap (λ (s : Cursor). s.mark) (same ∙ sym place) in
+    subst (λ z. P start z) ends (subst (λ a. P a span.end) first here)
+
+-- no content line begins with what is no content
+pub no_start : (i col : ℕ) (xs : List ℕ) → is_yaml_non_break (slice_index xs 0) ≡ false → line_starts i col xs ≡ false
+unfolding line_starts
+no_start i col xs h = rw h (both (nat_eq col i) _)
+  where
+    both : (a b : Bool) → (a && false && b) ≡ false
+    both true b = refl
+    both false b = refl

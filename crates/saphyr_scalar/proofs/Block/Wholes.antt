@@ -1,0 +1,263 @@
+-- The value of a block scalar's lines, from the first on.
+use Rattle.std.proofs.Common.{◌≡◌, ℕ, zero, suc, ◌+◌, ◌<◌, ◌≤◌, Bool, true, false, List, [], ◌∷◌, ◌++◌, length, slice_index, refl, sym, ap, ◌∙◌, arith, subst, append_assoc, nat_eq, nat_lt, map}
+use Rattle.std.specs.Prelude.{◌&&◌, ◌==◌, not, replicate, if◌then◌else◌, Some, None}
+use Rattle.std.proofs.Common.{inl, inr}
+use Rattle.std.proofs.lemmas.Bool.Decides.{nat_tests}
+use Rattle.std.proofs.lemmas.List.{append-nil, length-replicate}
+use Rattle.saphyr_input.specs.Breaks.{normalized}
+use Rattle.saphyr_input.specs.Classes.{is_break, is_blank, is_z, is_yaml_non_break}
+use Rattle.saphyr_scalar.specs.declared.reading.block.BlockStyle.{BlockStyle}
+use Rattle.saphyr_scalar.specs.declared.reading.block.Chomping.{Chomping}
+use Rattle.saphyr_scalar.specs.declared.reading.block.Chomping.TheVariants.{Strip, Clip, Keep}
+use Rattle.saphyr_scalar.specs.declared.reading.block.Ending.{Ending}
+use Rattle.saphyr_scalar.specs.declared.reading.block.Ending.TheVariants.{AtEnd, AtMark}
+use Rattle.saphyr_scalar.specs.declared.scalar.position.Marker.{Marker}
+use Rattle.saphyr_scalar.specs.Cursor.{Cursor, along}
+use Rattle.saphyr_scalar.specs.Folding.{line_feeds}
+use Rattle.saphyr_scalar.specs.BlockReading as reading
+use Rattle.saphyr_scalar.specs.BlockReading.{Line, Empty, Content, is_empty_line, line_of, lines_of, contents, contents_behind, has_content, empty_at_end, is_at_end, is_counted, is_broken, lines_value, block_value}
+use Rattle.saphyr_scalar.specs.Lines.{last_line}
+use Rattle.saphyr_scalar.specs.BlockRead.{ending, HasLines, EndsLines}
+use Rattle.saphyr_scalar.specs.BlockScalar.{there, is_indentation, line_starts, LinesRead, with_text, ended, between, line, tail, tail_alone, is_unfinished}
+use Rattle.saphyr_scalar.proofs.Block.Turns.{starts, line_begins, line_on, no_line_at}
+use Rattle.saphyr_scalar.proofs.Block.Texts.{spaces, IsPlain, plain_first, plain_both, plain_spaces, first_line, only_line, empty_spaces, full_content, line_content, content_of, is_counted_behind, value_behind, lines_spaces, lines_cut, lines_broken}
+use Rattle.saphyr_scalar.proofs.Block.Values.{LineRead, line_read, not_feed, extra}
+use Rattle.saphyr_input.proofs.Basics.Booleans.{and_false}
+use Rattle.saphyr_input.proofs.Basics.Characters.{non_break_no_break, normalized_other}
+
+abbrev pub empties : ℕ → List Line
+empties n = replicate n Empty
+
+-- the value of lines that breaks end, and of the last line
+abbrev pub whole : BlockStyle → Chomping → ℕ → List Line → List ℕ → Ending → List ℕ
+whole st c i lines last e =
+    lines_value st c (is_broken i last e) (lines ++ (if is_counted i lines last e then line_of i last ∷ [] else []))
+
+content_after : (k : ℕ) (x : List ℕ) (lines : List Line) → has_content (empties k ++ (Content x ∷ lines)) ≡ true
+content_after zero x lines = refl
+content_after (suc k) x lines = content_after k x lines
+
+contents_after : (st : BlockStyle) (k : ℕ) (x : List ℕ) (lines : List Line)
+    → contents st (empties k ++ (Content x ∷ lines)) ≡ line_feeds k ++ (x ++ contents_behind st x 0 lines)
+contents_after st zero x lines = refl
+contents_after st (suc k) x lines = ap (λ ys. 10 ∷ ys) (contents_after st k x lines)
+
+ends_after : (n k : ℕ) (x : List ℕ) (lines : List Line)
+    → empty_at_end n (empties k ++ (Content x ∷ lines)) ≡ empty_at_end 0 lines
+ends_after n zero x lines = refl
+ends_after n (suc k) x lines = ends_after (suc n) k x lines
+
+none_in : (k : ℕ) → has_content (empties k) ≡ false
+none_in zero = refl
+none_in (suc k) = none_in k
+
+-- the first content line is the last line
+whole_cut : (st : BlockStyle) (c : Chomping) (i k : ℕ) (x : List ℕ) (e : Ending) → 0 < length x
+    → whole st c i (empties k) (spaces i ++ x) e ≡ line_feeds k ++ (x ++ reading.chomped c (is_at_end e) 0)
+whole_cut st c i k x e some =
+    rw (
+      full_content i x some,
+      content_of i x,
+      content_after k x [],
+      contents_after st k x [],
+      ends_after 0 k x [],
+      append-nil x,
+      append_assoc,
+    ) refl
+
+-- lines stand behind the first content line
+whole_broken : (st : BlockStyle) (c : Chomping) (i k : ℕ) (x text : List ℕ) (e : Ending)
+    → whole st c i (empties k ++ (Content x ∷ lines_of i text)) (last_line text) e
+    ≡ line_feeds k ++ (x ++ value_behind st c i x 0 text e)
+whole_broken st c i k x text e =
+    let lines = lines_of i text in
+    let more = (if is_counted_behind i (last_line text) e then line_of i (last_line text) ∷ [] else []) in
+    let joined : (empties k ++ (Content x ∷ lines)) ++ more ≡ empties k ++ (Content x ∷ (lines ++ more)) =
+    append_assoc (empties k) (Content x ∷ lines) more in
+    let counted : whole st c i (empties k ++ (Content x ∷ lines)) (last_line text) e
+    ≡ lines_value st c (is_broken i (last_line text) e) ((empties k ++ (Content x ∷ lines)) ++ more) =
+    rw (content_after k x lines) refl in
+    let value : lines_value st c (is_broken i (last_line text) e) (empties k ++ (Content x ∷ (lines ++ more)))
+    ≡ line_feeds k ++ (x ++ value_behind st c i x 0 text e) =
+    rw (
+      content_after k x (lines ++ more),
+      contents_after st k x (lines ++ more),
+      ends_after 0 k x (lines ++ more),
+      append_assoc,
+      append_assoc,
+    ) refl in
+    counted ∙ ap (lines_value st c (is_broken i (last_line text) e)) joined ∙ value
+
+alone_tail : (c : Chomping) (k : ℕ)
+    → reading.chomped_alone c k ≡ tail c false (record { broken = false; empty_lines = k })
+alone_tail Strip k = refl
+alone_tail Clip k = refl
+alone_tail Keep k = refl
+
+-- no content
+whole_empty : (st : BlockStyle) (c : Chomping) (i k j : ℕ) → j ≤ i
+    → whole st c i (empties k) (spaces j) AtMark ≡ tail c false (record { broken = false; empty_lines = k })
+whole_empty st c i k j within =
+    rw (empty_spaces i j within, append-nil (empties k), none_in k, length-replicate) (alone_tail c k)
+
+none_more : (k : ℕ) (w : Bool) → has_content (empties k ++ extra w) ≡ false
+none_more zero true = refl
+none_more zero false = refl
+none_more (suc k) w = none_more k w
+
+alone_feeds : (k j : ℕ) → line_feeds (length (empties k ++ extra (not (nat_eq j 0) && nat_eq k 0)))
+    ≡ (if (k == 0) && true && nat_lt 0 j then line_feeds 1 else line_feeds k)
+alone_feeds zero zero = refl
+alone_feeds zero (suc j) =
+    let some : nat_eq (suc j) 0 ≡ false = grind (arith, nat_tests) in
+    let more : nat_lt 0 (suc j) ≡ true = grind (arith, nat_tests) in
+    rw (some, more) refl
+alone_feeds (suc k) j =
+    let some : nat_eq (suc k) 0 ≡ false = grind (arith, nat_tests) in
+    rw (some, and_false (not (nat_eq j 0)), append-nil (empties k), length-replicate k Empty) refl
+
+alone_value : (c : Chomping) (k j : ℕ) (s : Cursor) → s.mark.col ≡ j → s.blank_so_far ≡ true
+    → reading.chomped_alone c (length (empties k ++ extra (not (nat_eq j 0) && nat_eq k 0))) ≡ tail_alone c k s
+unfolding tail_alone
+alone_value Strip k j s e f = refl
+alone_value Clip k j s e f = refl
+alone_value Keep k j s e f = alone_feeds k j ∙ rw (e, f) refl
+
+-- no content, at the end
+pub whole_alone : (st : BlockStyle) (c : Chomping) (i k j : ℕ) (s : Cursor) → j ≤ i → s.mark.col ≡ j
+    → s.blank_so_far ≡ true → whole st c i (empties k) (spaces j) AtEnd ≡ tail_alone c k s
+whole_alone st c i k j s within e f =
+    rw (
+      empty_spaces i j within,
+      length-replicate,
+      none_in k,
+      length-replicate,
+      none_more k
+          (not (nat_eq j 0) && nat_eq k 0),
+    ) (alone_value c k j s e f)
+
+pub value_of : (st : BlockStyle) (c : Chomping) (i : ℕ) (text last : List ℕ) (lines : List Line) (e : Ending)
+    → lines_of i text ≡ lines → last_line text ≡ last → block_value st c i text e ≡ whole st c i lines last e
+value_of st c i text last lines e p q =
+    ap (λ ls. whole st c i ls (last_line text) e) p ∙ ap (λ l. whole st c i lines l e) q
+
+-- what was read of the lines from the first content line on, where k empty lines and j spaces stand before xs
+pub record FirstRead (st : BlockStyle) (c : Chomping) (i k j : ℕ) (xs : List ℕ) (r : LinesRead) : Type 0 where
+  pub taken : List ℕ
+  pub split : xs ≡ taken ++ r.2.rest
+  pub ends : EndsLines i r.2
+  pub lines : HasLines i (spaces j ++ normalized taken)
+  pub value : (text : List ℕ) → lines_of i text ≡ empties k ++ lines_of i (spaces j ++ normalized taken)
+      → last_line text ≡ last_line (spaces j ++ normalized taken)
+      → r.0 ++ tail c (is_unfinished i r.2) r.1 ≡ block_value st c i text (ending r.2)
+
+cut_lines : (i : ℕ) (x : List ℕ) → IsPlain x
+    → (lines_of i (spaces i ++ x) ≡ []) × (last_line (spaces i ++ x) ≡ spaces i ++ x)
+cut_lines i x plain =
+    let only = only_line (spaces i ++ x) (plain_both (spaces i) x (plain_spaces i) plain) in
+    (ap (map (line_of i)) only.0, only.1)
+
+broken_lines : (i : ℕ) (x others : List ℕ) → IsPlain x → 0 < length x
+    → (lines_of i (spaces i ++ (x ++ 10 ∷ others)) ≡ Content x ∷ lines_of i others)
+    × (last_line (spaces i ++ (x ++ 10 ∷ others)) ≡ last_line others)
+broken_lines i x others plain some =
+    let f = first_line (spaces i ++ x) others (plain_both (spaces i) x (plain_spaces i) plain) in
+    let whole : spaces i ++ (x ++ 10 ∷ others) ≡ (spaces i ++ x) ++ 10 ∷ others =
+    sym (append_assoc (spaces i) x (10 ∷ others)) in (
+      ap (lines_of i) whole ∙ ap (map (line_of i)) f.ended
+          ∙ ap (λ l. l ∷ lines_of i others) (line_content i x some),
+      ap last_line whole ∙ f.last,
+    )
+
+begin_first : (st : BlockStyle) (c : Chomping) (i k x : ℕ) (cs : List ℕ) (r : LinesRead) → is_yaml_non_break x ≡ true
+    → LineRead st c i (is_blank x) cs r
+    → FirstRead st c i k i (x ∷ cs) (with_text (line_feeds k) (with_text (x ∷ []) r))
+begin_first st c i k x cs r e l =
+    let clear = not_feed x (non_break_no_break x e) in
+    let here = x ∷ l.content in
+    let end = tail c (is_unfinished i r.2) r.1 in
+    let same : normalized (x ∷ l.taken) ≡ x ∷ normalized l.taken = normalized_other x l.taken clear.1 in
+    let some : 0 < length here = omega arith in
+    let plain = plain_first x l.content clear.0 l.plain in
+    let joined : (line_feeds k ++ (x ∷ r.0)) ++ end ≡ line_feeds k ++ (x ∷ (r.0 ++ end)) =
+    append_assoc (line_feeds k) (x ∷ r.0) end in
+    record {
+      taken = x ∷ l.taken;
+      split = ap (λ ys. x ∷ ys) l.split;
+      ends = l.ends;
+      lines = elim l.value [
+        | inl w ↦ subst (λ text. HasLines i (spaces i ++ text)) (sym (same ∙ ap (λ ys. x ∷ ys) w.0))
+            (lines_cut i here plain)
+        | inr w ↦ subst (λ text. HasLines i (spaces i ++ text)) (sym (same ∙ ap (λ ys. x ∷ ys) w.1))
+            (lines_broken i here w.0 plain w.2)
+      ];
+      value = λ text lines last.
+          joined
+          ∙ (elim l.value [
+            | inl w ↦
+                let told : normalized (x ∷ l.taken) ≡ here = same ∙ ap (λ ys. x ∷ ys) w.0 in
+                let cut = cut_lines i here plain in
+                ap (λ ys. line_feeds k ++ (x ∷ ys)) w.1 ∙ sym (whole_cut st c i k here (ending r.2) some)
+                ∙ sym (value_of st c i text (spaces i ++ here) (empties k) (ending r.2)
+                (lines ∙ ap (λ ys. empties k ++ lines_of i (spaces i ++ ys)) told ∙ ap (λ ls. empties k ++ ls) cut.0
+                ∙ append-nil (empties k))
+                (last ∙ ap (λ ys. last_line (spaces i ++ ys)) told ∙ cut.1))
+            | inr w ↦
+                let told : normalized (x ∷ l.taken) ≡ here ++ 10 ∷ w.0 = same ∙ ap (λ ys. x ∷ ys) w.1 in
+                let broken = broken_lines i here w.0 plain some in
+                ap (λ ys. line_feeds k ++ (x ∷ ys)) (w.3 here refl) ∙ sym (whole_broken st c i k here w.0 (ending r.2))
+                ∙ sym (value_of st c i text (last_line w.0) (empties k ++ (Content here ∷ lines_of i w.0)) (ending r.2)
+                (lines ∙ ap (λ ys. empties k ++ lines_of i (spaces i ++ ys)) told ∙ ap (λ ls. empties k ++ ls) broken.0)
+                (last ∙ ap (λ ys. last_line (spaces i ++ ys)) told ∙ broken.1))
+          ]);
+    }
+
+no_content : (st : BlockStyle) (c : Chomping) (i k : ℕ) (b : Bool) (m : Marker) (xs : List ℕ) → m.col ≤ i
+    → EndsLines i (there b m xs) → is_z (slice_index xs 0) ≡ false
+    → FirstRead st c i k m.col xs (ended false k (there b m xs))
+unfolding is_unfinished
+no_content st c i k b m xs within ends some =
+    let s = there b m xs in
+    let cut = only_line (spaces m.col) (plain_spaces m.col) in
+    let nothing : spaces m.col ++ [] ≡ spaces m.col = append-nil (spaces m.col) in
+    let mark : ending s ≡ AtMark = rw some refl in
+    record {
+      taken = [];
+      split = refl;
+      ends = ends;
+      lines = rw nothing (lines_spaces i m.col within);
+      value = λ text lines last.
+          rw some (sym (whole_empty st c i k m.col within))
+          ∙ ap (whole st c i (empties k) (spaces m.col)) (sym mark)
+          ∙ sym (value_of st c i text (spaces m.col) (empties k) (ending s)
+          (lines ∙ ap (λ ys. empties k ++ lines_of i ys) nothing ∙ ap (λ ls. empties k ++ map (line_of i) ls) cut.0
+          ∙ append-nil (empties k))
+          (last ∙ ap last_line nothing ∙ cut.1));
+    }
+
+by_bool : (b : Bool) (P : Type 0) → (b ≡ true → P) → (b ≡ false → P) → P
+by_bool true P here other = here refl
+by_bool false P here other = other refl
+
+-- from behind the leading empty lines on
+pub first_read : (st : BlockStyle) (c : Chomping) (i k : ℕ) (b : Bool) (m : Marker) (xs : List ℕ) → m.col ≤ i
+    → is_indentation (Some i) m.col (slice_index xs 0) ≡ false → is_break (slice_index xs 0) ≡ false
+    → is_z (slice_index xs 0) ≡ false
+    → FirstRead st c i k m.col xs (between st i None k b m xs)
+first_read st c i k b m [] within space clear some = absurd (cc)
+first_read st c i k b m (x ∷ cs) within space clear some =
+    by_bool (line_starts i m.col (x ∷ cs)) _
+    (λ h.
+    let s = starts i m.col (x ∷ cs) h in
+    let right : i < m.col + 1 = omega (arith, s.column) in
+    let begins : between st i None k b m (x ∷ cs)
+    ≡ with_text (line_feeds k) (with_text (x ∷ []) (line st i (is_blank x) b (along m 1) cs)) =
+    line_begins st i None k b m (x ∷ cs) h
+    ∙ ap (with_text (line_feeds k)) (line_on st i (is_blank x) b m x cs s.content) in
+    let P : ℕ → LinesRead → Type 0 = λ j r. FirstRead st c i k j (x ∷ cs) r in
+    subst (P m.col) (sym begins)
+    (subst (λ j. P j (with_text (line_feeds k) (with_text (x ∷ []) (line st i (is_blank x) b (along m 1) cs))))
+    (sym s.column)
+    (begin_first st c i k x cs _ s.content (line_read st c i (is_blank x) b (along m 1) cs right))))
+    (λ h. subst (λ r. FirstRead st c i k m.col (x ∷ cs) r) (sym (no_line_at st i None k b m (x ∷ cs) space clear h))
+    (no_content st c i k b m (x ∷ cs) within (record { no_space = space; no_break = clear; no_content = h }) some))

@@ -1,0 +1,46 @@
+-- Version numbers, read a digit at a time, and where a prefix begins.
+use Rattle.std.proofs.Common.{◌≡◌, ℕ, suc, ◌+◌, ◌-◌, ◌*◌, ◌^◌, ◌<◌, ◌≤◌, true, List, [], ◌∷◌, length, drop, slice_index, refl, sym, arith}
+use Rattle.std.specs.Prelude.{◌||◌, ◌==◌, nat_lt}
+use Rattle.std.proofs.Math.Nat.{pow-le-pow_right}
+use Rattle.std.proofs.lemmas.Grind.{pow_more}
+use Rattle.std.proofs.lemmas.Bool.Decides.{nat_tests}
+use Rattle.saphyr_input.specs.Classes.{is_digit, is_tag_char}
+use Rattle.saphyr_scalar.specs.declared.scalar.position.Marker.{Marker}
+use Rattle.saphyr_scalar.specs.Cursor.{Cursor, along, pass}
+use Rattle.saphyr_scalar.specs.Directive.{number_from}
+
+-- a decimal digit stands for less than ten
+pub digit_small : (c : ℕ) → is_digit c ≡ true → c - 48 < 10
+digit_small c h = grind (arith, nat_tests)
+
+-- one digit more
+pub digits_below : (n v c : ℕ) → v < 10 ^ n → is_digit c ≡ true → v * 10 + (c - 48) < 10 ^ (n + 1)
+digits_below n v c lt h = omega (arith, digit_small c h, pow_more 10 n)
+
+-- nine digits are a number of 32 bits
+pub digits_fit : (n v c : ℕ) → v < 10 ^ n → is_digit c ≡ true → n < 9 → v * 10 + (c - 48) < 2 ^ 32
+digits_fit n v c lt h few =
+    let more : n + 1 ≤ 9 = omega arith in
+    let some : 0 < 10 = omega arith in
+    let le : 10 ^ (n + 1) ≤ 10 ^ 9 = pow-le-pow_right some more in
+    omega (arith, digits_below n v c lt h, le)
+
+digit_first : (start : Marker) (n v : ℕ) (m : Marker) (xs : List ℕ) → is_digit (slice_index xs 0) ≡ true → n < 9
+    → number_from start n v m xs ≡ number_from start (suc n) (v * 10 + (slice_index xs 0 - 48)) (along m 1) (drop 1 xs)
+unfolding number_from
+digit_first start n v m [] h few = absurd (cc)
+digit_first start n v m (c ∷ cs) h few = let small : nat_lt n 9 ≡ true = grind (arith, nat_tests) in rw (h, small) refl
+
+-- a digit that was taken off
+pub digit_on : (start : Marker) (n v c : ℕ) (s t u : Cursor) → c ≡ slice_index s.rest 0 → is_digit c ≡ true → n < 9
+    → t ≡ pass 1 s → u ≡ t
+    → number_from start (n + 1) (v * 10 + (c - 48)) u.mark u.rest ≡ number_from start n v s.mark s.rest
+digit_on start n v c s t u read h few passed same =
+    let one : n + 1 ≡ suc n = omega arith in
+    let digit : is_digit (slice_index s.rest 0) ≡ true = rw (← read) h in
+    rw (one, read, same, passed) (sym (digit_first start n v s.mark s.rest digit few))
+
+-- a place that shows a character that a prefix may begin with is a character
+pub prefix_left : (xs : List ℕ) → ((slice_index xs 0 == 33) || is_tag_char (slice_index xs 0)) ≡ true → 0 < length xs
+prefix_left [] h = absurd (cc)
+prefix_left (c ∷ cs) h = omega arith

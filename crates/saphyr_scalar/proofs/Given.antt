@@ -1,0 +1,43 @@
+-- What a step gives, if it is not refused: its value, and where it stands.
+use Rattle.std.proofs.Common.{◌≡◌, ℕ, Bool, List, Result, Ok, Err, refl, subst}
+use Rattle.saphyr_scalar.specs.declared.scalar.position.Marker.{Marker}
+use Rattle.saphyr_scalar.specs.declared.scalar.fault.Refusal.{Refusal}
+use Rattle.saphyr_scalar.specs.Cursor.{Cursor, ◌>>=◌}
+use Rattle.saphyr_scalar.specs.Quoted.{TextRead, at}
+
+-- what is given, if something is, has this property
+abbrev pub Given : {X : Type 0} → (X → Type 0) → Result X Refusal → Type 0
+Given P (Ok x) = P x
+Given P (Err e) = Unit {0}
+
+pub given_bind : {X Y : Type 0} → (P : Y → Type 0) (r : Result X Refusal) (f : X → Result Y Refusal)
+    → ((x : X) → r ≡ Ok x → Given P (f x)) → Given P (r >>= f)
+given_bind P (Ok x) f h = h x refl
+given_bind P (Err e) f h = tt
+
+pub given_of : {X : Type 0} → (P : X → Type 0) (r : Result X Refusal) (x : X) → Given P r → r ≡ Ok x → P x
+given_of P (Ok y) x h e = let same : y ≡ x = cc in subst P same h
+given_of P (Err f) x h e = absurd (cc)
+
+-- what two steps give, the first gave something for
+pub bind_ok : {X Y : Type 0} → (r : Result X Refusal) (f : X → Result Y Refusal) (y : Y) → (r >>= f) ≡ Ok y
+    → (x : X) × (r ≡ Ok x) × (f x ≡ Ok y)
+bind_ok (Ok x) f y e = (x, refl, e)
+bind_ok (Err d) f y e = absurd (cc)
+
+-- a text and where it is left
+abbrev pub together : List ℕ → Cursor → List ℕ × Cursor
+together text s = (text, s)
+
+abbrev pub text_given : List ℕ → Cursor → Result (List ℕ × Cursor) Refusal
+text_given text s = Ok (text, s)
+
+abbrev pub text_at : List ℕ → Marker → List ℕ → TextRead
+text_at text m xs = Ok (text, at m xs)
+
+abbrev pub number_given : ℕ → Cursor → Result (ℕ × Cursor) Refusal
+number_given n s = Ok (n, s)
+
+-- the place in a text, where only blanks stand before it on its line or others do
+abbrev pub cursor_at : List ℕ → Marker → Bool → Cursor
+cursor_at xs m blank = record { rest = xs; mark = m; blank_so_far = blank }

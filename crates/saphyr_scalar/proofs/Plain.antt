@@ -1,0 +1,13 @@
+-- Plain scalars: each spelled one is read, and what is read is the reading of its text.
+pub mod Refused
+pub mod Gaps
+pub mod Lines
+pub mod Runs
+pub mod White
+pub mod OneWord
+pub mod Pieces
+pub mod SingleSpaces
+pub mod Words
+pub mod Spelled
+pub mod Texts
+pub mod Sound

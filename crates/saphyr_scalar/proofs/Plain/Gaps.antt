@@ -1,0 +1,162 @@
+-- What stands behind a plain scalar's word, and how much of the text it takes.
+use Rattle.std.proofs.Common.{◌≡◌, ℕ, suc, ◌+◌, ◌≤◌, Bool, true, false, List, [], ◌∷◌, ◌++◌, length, drop, length-drop, slice_index, Result, Ok, Err, refl, sym, ap, subst, ◌∙◌, arith}
+use Rattle.std.specs.Prelude.{◌||◌, ◌&&◌, ◌==◌, not, nat_lt, if◌then◌else◌}
+use Rattle.std.specs.List.{prefix_len}
+use Rattle.std.proofs.lemmas.List.{drop-drop}
+use Rattle.saphyr_input.specs.Classes.{is_blank, is_break, is_bom, is_z, tab, line_feed}
+use Rattle.saphyr_input.specs.Places.{is_blank_or_break, next_2_are}
+use Rattle.saphyr_scalar.specs.declared.scalar.position.Marker.{Marker}
+use Rattle.saphyr_scalar.specs.declared.scalar.fault.Refusal.{Refusal}
+use Rattle.saphyr_scalar.specs.Cursor.{Cursor, ◌>>=◌, along, next_line, pass, pass_break}
+use Rattle.saphyr_scalar.specs.declared.scalar.fault.Stop.{Stop}
+use Rattle.saphyr_scalar.specs.declared.scalar.fault.Stop.TheVariants as stop
+use Rattle.saphyr_scalar.specs.Seen.{Moves}
+use Rattle.saphyr_scalar.specs.Plain.{Gap, may_stand, reached, at_line, ends_line, lines, folded, gap_text, next_lines, gap_from, gap}
+use Rattle.saphyr_scalar.proofs.Quoted.Inside.{Moved}
+use Rattle.saphyr_input.proofs.Basics.Booleans.{by_test}
+use Rattle.std.proofs.lemmas.List.Sums.{prefix_len-le-length}
+
+-- ys is the end of xs
+pub record IsEnd (xs ys : List ℕ) : Type 0 where
+  pub taken : ℕ
+  pub is : ys ≡ drop taken xs
+  pub count : taken + length ys ≡ length xs
+
+whole : (xs : List ℕ) → IsEnd xs xs
+whole xs = record { taken = 0; is = refl; count = omega arith }
+
+one_more : (c : ℕ) (xs ys : List ℕ) → IsEnd xs ys → IsEnd (c ∷ xs) ys
+one_more c xs ys e = record { taken = suc e.taken; is = e.is; count = omega (arith, e.count) }
+
+end_of_end : (xs ys zs : List ℕ) → IsEnd xs ys → IsEnd ys zs → IsEnd xs zs
+end_of_end xs ys zs e f = record {
+  taken = e.taken + f.taken;
+  is = f.is ∙ ap (drop f.taken) e.is ∙ drop-drop f.taken e.taken xs;
+  count = omega (arith, e.count, f.count);
+}
+
+dropped : (n : ℕ) (xs : List ℕ) → n ≤ length xs → IsEnd xs (drop n xs)
+dropped n xs h = record { taken = n; is = refl; count = rw length-drop (omega arith) }
+
+-- what a call that gave something says
+pub no_refusal : {X : Type 0} (r : Refusal) (x : X) → Err r ≡ Ok x → ⊥
+no_refusal r x e = absurd (cc)
+
+pub same_gap : (g h : Gap) → (let r : Result Gap Refusal = Ok g in r ≡ Ok h) → h ≡ g
+same_gap g h e = cc
+
+abbrev pub gap_of : Bool → List ℕ → Cursor → Gap
+gap_of tabbed text s = record { text = text; tabbed = tabbed; behind = s }
+
+pub may_stand_same : (a : Marker) (t : Bool) (f : List ℕ) (s : Cursor) (g : Gap) → reached a t f s ≡ Ok g
+    → g ≡ gap_of t f s
+unfolding may_stand
+may_stand_same a t f s g =
+    by_test (t && is_bom (slice_index s.rest 0)) _ _
+    (λ (r : Result Cursor Refusal). (r >>= λ u. Ok (gap_of t f u)) ≡ Ok g → g ≡ gap_of t f s)
+    (λ _ e. absurd (no_refusal _ g e))
+    (λ _. by_test (t && not ((slice_index s.rest 0 == 35) || is_z (slice_index s.rest 0))) _ _
+    (λ (r : Result Cursor Refusal). (r >>= λ u. Ok (gap_of t f u)) ≡ Ok g → g ≡ gap_of t f s)
+    (λ _ e. absurd (no_refusal _ g e))
+    (λ _ e. same_gap (gap_of t f s) g e))
+
+reached_end : (a : Marker) (t : Bool) (f : List ℕ) (m : Marker) (xs : List ℕ) (g : Gap)
+    → reached a t f (at_line m xs) ≡ Ok g → IsEnd xs g.behind.rest
+reached_end a t f m xs g e = let is = may_stand_same a t f (at_line m xs) g e in rw is (whole xs)
+
+lines_end : (i : ℕ) (a : Marker) (t : Bool) (f : List ℕ) (m : Marker) (xs : List ℕ) (g : Gap)
+    → lines i a t f m xs ≡ Ok g → IsEnd xs g.behind.rest
+unfolding lines
+lines_end i a t f m [] g = reached_end a t f m [] g
+lines_end i a t f m (c ∷ cs) g =
+    by_test (is_blank_or_break c) _ _ (λ (r : Result Gap Refusal). r ≡ Ok g → IsEnd (c ∷ cs) g.behind.rest)
+    (λ _ e. one_more c cs _ (lines_end i a (is_blank c && (t || ((c == tab) && nat_lt m.col i)))
+    (if ends_line c cs then f ++ line_feed ∷ [] else f) (if ends_line c cs then next_line m 1 else along m 1) cs g
+    e))
+    (λ _ e. reached_end a t f m (c ∷ cs) g e)
+
+not_two : (b : Bool) → (b && false) ≡ true → ⊥
+not_two true h = absurd (cc)
+not_two false h = absurd (cc)
+
+break_end : (s : Cursor) → IsEnd s.rest (pass_break s).rest
+break_end s = at_first s.rest
+  where
+    from : List ℕ → Cursor
+    from xs = record { rest = xs; mark = s.mark; blank_so_far = s.blank_so_far }
+
+    Goal : List ℕ → Type 0
+    Goal xs = IsEnd xs (pass_break (from xs)).rest
+
+    at_first : (xs : List ℕ) → Goal xs
+    at_first [] = whole []
+    at_first (c ∷ []) = by_test (next_2_are (c ∷ []) 13 10) _ _ (λ (p : Cursor). IsEnd (c ∷ []) p.rest)
+        (λ h. absurd (not_two (c == 13) h))
+        (λ _. by_test (is_break c) _ _ (λ (p : Cursor). IsEnd (c ∷ []) p.rest) (λ _. one_more c [] _ (whole _))
+        (λ _. whole _))
+    at_first (c ∷ d ∷ cs) = by_test (next_2_are (c ∷ d ∷ cs) 13 10) _ _ (λ (p : Cursor). IsEnd (c ∷ d ∷ cs) p.rest)
+        (λ _. one_more c _ _ (one_more d _ _ (whole _)))
+        (λ _. by_test (is_break c) _ _ (λ (p : Cursor). IsEnd (c ∷ d ∷ cs) p.rest) (λ _. one_more c _ _ (whole _))
+        (λ _. whole _))
+
+next_lines_end : (i : ℕ) (a : Marker) (s : Cursor) (g : Gap) → next_lines i a s ≡ Ok g → IsEnd s.rest g.behind.rest
+next_lines_end i a s g = by_result (lines i a false [] s.mark s.rest) (lines_end i a false [] s.mark s.rest)
+  where
+    by_result : (r : Result Gap Refusal) → ((h : Gap) → r ≡ Ok h → IsEnd s.rest h.behind.rest)
+        → (r >>= λ h. Ok (folded h)) ≡ Ok g → IsEnd s.rest g.behind.rest
+    by_result (Ok h) ends e = let is = same_gap (folded h) g e in rw is (ends h refl)
+    by_result (Err r) ends e = absurd (no_refusal r g e)
+
+pub gap_end : (i : ℕ) (a : Marker) (s : Cursor) (g : Gap) → gap i a s ≡ Ok g → IsEnd s.rest g.behind.rest
+unfolding gap gap_from
+gap_end i a s g =
+    let n = prefix_len is_blank s.rest in
+    let t = pass n s in
+    let start = dropped n s.rest (prefix_len-le-length is_blank s.rest) in
+    by_test (is_break (slice_index t.rest 0)) _ _ (λ (r : Result Gap Refusal). r ≡ Ok g → IsEnd s.rest g.behind.rest)
+    (λ _ e. end_of_end _ _ _ start (end_of_end _ _ _ (break_end t) (next_lines_end i a (pass_break t) g e)))
+    (λ _ e. let is = same_gap _ g e in rw is start)
+
+-- What the call that reads a gap leaves.
+
+-- only blanks stand before the place that is reached over lines
+lines_blank : (i : ℕ) (a : Marker) (t : Bool) (f : List ℕ) (m : Marker) (xs : List ℕ) (g : Gap)
+    → lines i a t f m xs ≡ Ok g → g.behind.blank_so_far ≡ true
+unfolding lines
+lines_blank i a t f m [] g e = ap (λ (x : Gap). x.behind.blank_so_far) (may_stand_same a t f (at_line m []) g e)
+lines_blank i a t f m (c ∷ cs) g e =
+    by_test (is_blank_or_break c) _ _ (λ (r : Result Gap Refusal). r ≡ Ok g → g.behind.blank_so_far ≡ true)
+    (λ _ e. lines_blank i a (is_blank c && (t || ((c == tab) && nat_lt m.col i)))
+    (if ends_line c cs then f ++ line_feed ∷ [] else f) (if ends_line c cs then next_line m 1 else along m 1) cs g
+    e)
+    (λ _ e. ap (λ (x : Gap). x.behind.blank_so_far) (may_stand_same a t f (at_line m (c ∷ cs)) g e)) e
+
+lines_read : (i : ℕ) (a m : Marker) (xs feeds : List ℕ) (w : Cursor) (r : Result Bool Stop)
+    → Moves (λ t. gap_of t feeds w) r (lines i a false [] m xs)
+    → Moves (λ t. gap_of t (gap_text w.blank_so_far feeds) w) r (lines i a false [] m xs >>= λ g. Ok (folded g))
+lines_read i a m xs feeds w (Ok t) e =
+    ap (λ (x : Result Gap Refusal). x >>= λ g. Ok (folded g)) e
+    ∙ ap (λ b. let r : Result Gap Refusal = Ok (gap_of t (gap_text b feeds) w) in r)
+    (sym (lines_blank i a false [] m xs (gap_of t feeds w) e))
+lines_read i a m xs feeds w (Err stop.OutOfMemory) e = tt
+lines_read i a m xs feeds w (Err (stop.Refused r)) e = ap (λ (x : Result Gap Refusal). x >>= λ g. Ok (folded g)) e
+
+gap_over_break : (i : ℕ) (a : Marker) (grown : List ℕ) (s t : Cursor) → Moved is_blank [] grown s t
+    → is_break (slice_index t.rest 0) ≡ true → gap i a s ≡ next_lines i a (pass_break t)
+unfolding gap gap_from
+gap_over_break i a grown s t m h =
+    ap (λ (x : List ℕ × Cursor). gap_from i a x.0 x.1) m.is
+    ∙ by_test (is_break (slice_index t.rest 0)) _ _ (λ (r : Result Gap Refusal). r ≡ next_lines i a (pass_break t))
+    (λ _. refl) (λ is. absurd (cc))
+
+-- a gap over lines
+pub gap_read : (i : ℕ) (a : Marker) (grown cleared feeds : List ℕ) (s t u v w : Cursor) (r : Result Bool Stop)
+    → Moved is_blank [] grown s t → u ≡ t → is_break (slice_index t.rest 0) ≡ true → v ≡ pass_break u → cleared ≡ []
+    → Moves (λ t. gap_of t feeds w) r (lines i a false cleared v.mark v.rest)
+    → Moves (λ t. gap_of t (gap_text w.blank_so_far feeds) w) r (gap i a s)
+gap_read i a grown cleared feeds s t u v w r m same breaks on empty h =
+    let there : v ≡ pass_break t = on ∙ ap pass_break same in
+    let from : gap i a s ≡ next_lines i a v = gap_over_break i a grown s t m breaks ∙ ap (next_lines i a) (sym there) in
+    subst (λ (x : Result Gap Refusal). Moves (λ t. gap_of t (gap_text w.blank_so_far feeds) w) r x) (sym from)
+    (lines_read i a v.mark v.rest feeds w r
+    (subst (λ (x : List ℕ). Moves (λ t. gap_of t feeds w) r (lines i a false x v.mark v.rest)) empty h))

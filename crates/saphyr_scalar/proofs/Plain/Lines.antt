@@ -1,0 +1,179 @@
+-- The blanks and breaks behind a plain scalar's word, read a piece at a time.
+use Rattle.std.proofs.Common.{◌≡◌, ℕ, ◌+◌, ◌<◌, Bool, true, false, List, [], ◌∷◌, ◌++◌, length, drop, length-drop, slice_index, Result, Ok, Err, refl, sym, ap, ◌∙◌, arith, subst, nat_eq}
+use Rattle.std.specs.Prelude.{◌||◌, ◌&&◌, ◌==◌, nat_lt}
+use Rattle.std.proofs.lemmas.Bool.Decides.{nat_tests}
+use Rattle.saphyr_input.specs.Classes.{is_blank, is_break, tab}
+use Rattle.saphyr_input.specs.Places.{is_blank_or_break, next_2_are}
+use Rattle.saphyr_scalar.specs.declared.scalar.position.Marker.{Marker}
+use Rattle.saphyr_scalar.specs.declared.scalar.fault.Refusal.{Refusal}
+use Rattle.saphyr_scalar.specs.Cursor.{Cursor, ◌>>=◌, along, next_line, pass_break}
+use Rattle.saphyr_scalar.specs.Plain.{lines, reached, at_line, pass_white, may_stand}
+use Rattle.saphyr_scalar.proofs.Quoted.Inside.{break_cases}
+use Rattle.saphyr_input.proofs.Basics.Booleans.{by_test, either}
+use Rattle.saphyr_input.proofs.Basics.Characters.{blank_cases}
+use Rattle.saphyr_scalar.proofs.PassedBreaks.{break_shorter}
+
+pub some_blank : (xs : List ℕ) → is_blank (slice_index xs 0) ≡ true → 0 < length xs
+some_blank [] h = absurd (cc)
+some_blank (c ∷ cs) h = omega arith
+
+pub some_break : (xs : List ℕ) → is_break (slice_index xs 0) ≡ true → 0 < length xs
+some_break [] h = absurd (cc)
+some_break (c ∷ cs) h = omega arith
+
+-- whether a tab stands in the indentation, once a character of the line more is read
+abbrev pub tabbed_by : ℕ → Bool → Marker → ℕ → Bool
+tabbed_by indent tabbed m c = tabbed || ((c == tab) && nat_lt m.col indent)
+
+pub lines_blank : (i : ℕ) (a : Marker) (t : Bool) (f : List ℕ) (m : Marker) (c : ℕ) (cs : List ℕ) → is_blank c ≡ true
+    → lines i a t f m (c ∷ cs) ≡ lines i a (tabbed_by i t m c) f (along m 1) cs
+unfolding lines
+lines_blank i a t f m c cs h =
+    blank_cases c h (λ x. lines i a t f m (x ∷ cs) ≡ lines i a (tabbed_by i t m x) f (along m 1) cs) refl refl
+
+lines_feed : (i : ℕ) (a : Marker) (t : Bool) (f : List ℕ) (m : Marker) (cs : List ℕ)
+    → lines i a t f m (10 ∷ cs) ≡ lines i a false (f ++ 10 ∷ []) (next_line m 1) cs
+unfolding lines
+lines_feed i a t f m cs = refl
+
+lines_return : (i : ℕ) (a : Marker) (t : Bool) (f : List ℕ) (m : Marker) (cs : List ℕ)
+    → (slice_index cs 0 == 10) ≡ false
+    → lines i a t f m (13 ∷ cs) ≡ lines i a false (f ++ 10 ∷ []) (next_line m 1) cs
+unfolding lines
+lines_return i a t f m cs h = rw h refl
+
+lines_first_of_two : (i : ℕ) (a : Marker) (t : Bool) (f : List ℕ) (m : Marker) (cs : List ℕ)
+    → lines i a t f m (13 ∷ 10 ∷ cs) ≡ lines i a false f (along m 1) (10 ∷ cs)
+unfolding lines
+lines_first_of_two i a t f m cs = refl
+
+lines_two : (i : ℕ) (a : Marker) (t : Bool) (f : List ℕ) (m : Marker) (cs : List ℕ)
+    → lines i a t f m (13 ∷ 10 ∷ cs) ≡ lines i a false (f ++ 10 ∷ []) (next_line m 2) cs
+lines_two i a t f m cs =
+    let two : m.index + 1 + 1 ≡ m.index + 2 = omega arith in
+    lines_first_of_two i a t f m cs ∙ lines_feed i a false f (along m 1) cs
+    ∙ ap (λ n. lines i a false (f ++ 10 ∷ []) (record (next_line m 2) { index = n }) cs) two
+
+-- behind a break
+abbrev Behind : ℕ → Marker → Bool → List ℕ → Cursor → Type 0
+Behind i a t f s = lines i a t f s.mark s.rest ≡ lines i a false (f ++ 10 ∷ []) (pass_break s).mark (pass_break s).rest
+
+return_on : (i : ℕ) (a : Marker) (t : Bool) (f : List ℕ) (m : Marker) (cs : List ℕ) (b : Bool)
+    → Behind i a t f (record { rest = 13 ∷ cs; mark = m; blank_so_far = b })
+return_on i a t f m [] b = lines_return i a t f m [] refl
+return_on i a t f m (d ∷ ds) b = test (d == 10) refl
+  where
+    Goal : ℕ → Type 0
+    Goal x = Behind i a t f (record { rest = 13 ∷ x ∷ ds; mark = m; blank_so_far = b })
+
+    test : (e : Bool) → (d == 10) ≡ e → Goal d
+    test true h = let is : 10 ≡ d = grind (arith, nat_tests) in subst Goal is (lines_two i a t f m ds)
+    test false h = rw h (lines_return i a t f m (d ∷ ds) h)
+
+pub lines_break : (i : ℕ) (a : Marker) (t : Bool) (f : List ℕ) (s : Cursor) → is_break (slice_index s.rest 0) ≡ true
+    → Behind i a t f s
+lines_break i a t f s h = at_first s.rest h
+  where
+    at_first : (xs : List ℕ) → is_break (slice_index xs 0) ≡ true
+        → Behind i a t f (record { rest = xs; mark = s.mark; blank_so_far = s.blank_so_far })
+    at_first [] e = absurd (cc)
+    at_first (c ∷ cs) e = break_cases c e
+        (λ x. Behind i a t f (record { rest = x ∷ cs; mark = s.mark; blank_so_far = s.blank_so_far }))
+        (lines_feed i a t f s.mark cs) (return_on i a t f s.mark cs s.blank_so_far)
+
+pub lines_on : (i : ℕ) (a : Marker) (t : Bool) (f : List ℕ) (s : Cursor) → is_blank (slice_index s.rest 0) ≡ true
+    → lines i a t f s.mark s.rest
+    ≡ lines i a (tabbed_by i t s.mark (slice_index s.rest 0)) f (along s.mark 1) (drop 1 s.rest)
+lines_on i a t f s h = at_first s.rest h
+  where
+    at_first : (xs : List ℕ) → is_blank (slice_index xs 0) ≡ true
+        → lines i a t f s.mark xs ≡ lines i a (tabbed_by i t s.mark (slice_index xs 0)) f (along s.mark 1) (drop 1 xs)
+    at_first [] e = absurd (cc)
+    at_first (c ∷ cs) e = lines_blank i a t f s.mark c cs e
+
+pub lines_over : (i : ℕ) (a : Marker) (t : Bool) (f : List ℕ) (m : Marker) (xs : List ℕ)
+    → is_blank_or_break (slice_index xs 0) ≡ false → lines i a t f m xs ≡ reached a t f (at_line m xs)
+unfolding lines
+lines_over i a t f m [] h = refl
+lines_over i a t f m (c ∷ cs) h = rw h refl
+
+blank_of : (a b : Bool) → (a || b) ≡ true → b ≡ false → a ≡ true
+blank_of true b x y = refl
+blank_of false true x y = absurd (cc)
+blank_of false false x y = absurd (cc)
+
+-- a blank or a break is passed
+pub past_shorter : (i : ℕ) (t : Bool) (f : List ℕ) (s : Cursor) → is_blank_or_break (slice_index s.rest 0) ≡ true
+    → length (pass_white i t f s).2.rest < length s.rest
+unfolding pass_white
+past_shorter i t f s h =
+    by_test (is_break (slice_index s.rest 0)) _ _ (λ (p : Bool × List ℕ × Cursor). length p.2.rest < length s.rest)
+    (λ e. break_shorter s e)
+    (λ e. let some = some_blank s.rest (blank_of (is_blank (slice_index s.rest 0)) _ h e) in
+    rw length-drop (omega arith))
+
+pub past_blank : (i : ℕ) (t : Bool) (f : List ℕ) (s : Cursor) → s.blank_so_far ≡ true
+    → (pass_white i t f s).2.blank_so_far ≡ true
+unfolding pass_white
+past_blank i t f s h =
+    by_test (is_break (slice_index s.rest 0)) _ _ (λ (p : Bool × List ℕ × Cursor). p.2.blank_so_far ≡ true)
+    (λ e. by_test (next_2_are s.rest 13 10) _ _ (λ (p : Cursor). p.blank_so_far ≡ true) (λ _. refl)
+    (λ _. by_test (is_break (slice_index s.rest 0)) _ _ (λ (p : Cursor). p.blank_so_far ≡ true) (λ _. refl)
+    (λ _. h)))
+    (λ _. h)
+
+pub past_on : (i : ℕ) (a : Marker) (t : Bool) (f : List ℕ) (s : Cursor)
+    → is_blank_or_break (slice_index s.rest 0) ≡ true
+    → let p = pass_white i t f s in lines i a p.0 p.1 p.2.mark p.2.rest ≡ lines i a t f s.mark s.rest
+unfolding pass_white
+past_on i a t f s h =
+    by_test (is_break (slice_index s.rest 0)) _ _
+    (λ (p : Bool × List ℕ × Cursor). lines i a p.0 p.1 p.2.mark p.2.rest ≡ lines i a t f s.mark s.rest)
+    (λ e. sym (lines_break i a t f s e))
+    (λ e. sym (lines_on i a t f s (blank_of (is_blank (slice_index s.rest 0)) _ h e)))
+
+-- what a call that passed one says
+
+pub record PastWhite (i : ℕ) (t : Bool) (f : List ℕ) (s : Cursor) (t2 : Bool) (f2 : List ℕ) (s2 : Cursor) : Type 0 where
+  pub is : pass_white i t f s ≡ (t2, f2, s2)
+
+abbrev pub SameWhite : ℕ → Bool → List ℕ → Cursor → Bool → List ℕ → Cursor → Type 0
+SameWhite i t f s t2 f2 s2 =
+    let r : Result (Bool × List ℕ × Cursor) Refusal = Ok (pass_white i t f s) in r ≡ Ok (t2, f2, s2)
+
+pub past_of : (i : ℕ) (t : Bool) (f : List ℕ) (s : Cursor) (t2 : Bool) (f2 : List ℕ) (s2 : Cursor)
+    → SameWhite i t f s t2 f2 s2 → PastWhite i t f s t2 f2 s2
+past_of i t f s t2 f2 s2 e = record { is = cc }
+
+pub white_on : (i : ℕ) (a : Marker) (t : Bool) (f : List ℕ) (s : Cursor) (t2 : Bool) (f2 : List ℕ) (s2 : Cursor)
+    → is_blank_or_break (slice_index s.rest 0) ≡ true → PastWhite i t f s t2 f2 s2
+    → lines i a t2 f2 s2.mark s2.rest ≡ lines i a t f s.mark s.rest
+white_on i a t f s t2 f2 s2 h p =
+    subst (λ (p : Bool × List ℕ × Cursor). lines i a p.0 p.1 p.2.mark p.2.rest ≡ lines i a t f s.mark s.rest) p.is
+    (past_on i a t f s h)
+
+pub white_blank : (i : ℕ) (t : Bool) (f : List ℕ) (s : Cursor) (t2 : Bool) (f2 : List ℕ) (s2 : Cursor)
+    → s.blank_so_far ≡ true → PastWhite i t f s t2 f2 s2 → s2.blank_so_far ≡ true
+white_blank i t f s t2 f2 s2 h p =
+    subst (λ (p : Bool × List ℕ × Cursor). p.2.blank_so_far ≡ true) p.is (past_blank i t f s h)
+
+pub white_shorter : (i : ℕ) (t : Bool) (f : List ℕ) (s : Cursor) (t2 : Bool) (f2 : List ℕ) (s2 : Cursor)
+    → is_blank_or_break (slice_index s.rest 0) ≡ true → PastWhite i t f s t2 f2 s2 → length s2.rest < length s.rest
+white_shorter i t f s t2 f2 s2 h p =
+    subst (λ (p : Bool × List ℕ × Cursor). length p.2.rest < length s.rest) p.is (past_shorter i t f s h)
+
+-- a line that is reached
+pub line_over : (i : ℕ) (a : Marker) (t : Bool) (f : List ℕ) (s : Cursor)
+    → is_blank_or_break (slice_index s.rest 0) ≡ false → s.blank_so_far ≡ true
+    → lines i a t f s.mark s.rest ≡ reached a t f s
+line_over i a t f s h b =
+    lines_over i a t f s.mark s.rest h
+    ∙ ap (λ x. reached a t f (record { rest = s.rest; mark = s.mark; blank_so_far = x })) (sym b)
+
+pub refused_by : (a : Marker) (t : Bool) (f : List ℕ) (s : Cursor) (r : Refusal) → may_stand a t s ≡ Err r
+    → reached a t f s ≡ Err r
+refused_by a t f s r h = ap (λ x. x >>= λ u. Ok (record { text = f; tabbed = t; behind = u })) h
+
+pub taken_by : (a : Marker) (t : Bool) (f : List ℕ) (s u : Cursor) → may_stand a t s ≡ Ok u
+    → reached a t f s ≡ Ok (record { text = f; tabbed = t; behind = u })
+taken_by a t f s u h = ap (λ x. x >>= λ u. Ok (record { text = f; tabbed = t; behind = u })) h

@@ -1,0 +1,266 @@
+-- How the pieces that plain scalars are read from are spelled.
+use Rattle.std.proofs.Common.{◌≡◌, ◌≢◌, ℕ, suc, ◌+◌, ◌<◌, Bool, true, false, List, [], ◌∷◌, ◌++◌, take, drop, slice_index, Result, Ok, Err, refl, sym, ap, ◌∙◌, arith, subst, IsTrue, append_assoc}
+use Rattle.std.specs.Prelude.{◌||◌, ◌&&◌, ◌==◌, not, nat_lt, if◌then◌else◌, IsFalse}
+use Rattle.std.proofs.lemmas.Bool.Decides.{nat_tests}
+use Rattle.std.proofs.lemmas.List.{take-append-drop}
+use Rattle.saphyr_input.specs.Classes.{is_blank, is_break, is_z, is_bom, is_flow, is_blank_or_breakz}
+use Rattle.saphyr_input.specs.Places.{is_blank_or_break, is_document_indicator, can_be_plain}
+use Rattle.saphyr_scalar.specs.declared.scalar.position.Marker.{Marker}
+use Rattle.saphyr_scalar.specs.declared.scalar.fault.Refusal.{Refusal}
+use Rattle.saphyr_scalar.specs.Cursor.{Cursor, along, next_line}
+use Rattle.saphyr_scalar.specs.Plain.{in_word, word_len, word_starts, goes_on, ends_line}
+use Rattle.saphyr_scalar.specs.PlainReading.{AreWhite, passed, IsSpelledPlain, ends_piece}
+use Rattle.saphyr_scalar.proofs.Moving.{along_none, along_more}
+use Rattle.saphyr_scalar.proofs.Quoted.Inside.{break_cases}
+use Rattle.saphyr_scalar.proofs.Plain.Words.{word_left}
+use Rattle.saphyr_scalar.proofs.Plain.Runs.{Ink, AreInk, NoFeed, same_ends}
+use Rattle.std.proofs.lemmas.Bool.{false≢true}
+use Rattle.saphyr_input.proofs.Basics.Booleans.{by_test}
+use Rattle.saphyr_input.proofs.Basics.Characters.{blank_cases}
+
+-- a word's characters
+
+record WordCharacter (f : Bool) (c : ℕ) (cs : List ℕ) : Type 0 where
+  no_nul : c ≢ 0
+  no_mark : c ≢ 65279
+  colon : c ≡ 58 → IsFalse (is_blank_or_breakz (slice_index cs 0))
+  ink : Ink c
+
+word_character : (f : Bool) (c : ℕ) (cs : List ℕ) → in_word f (c ∷ cs) ≡ true → WordCharacter f c cs
+unfolding in_word
+word_character f c cs h = record {
+  no_nul = λ e. no (subst (λ x. (not (is_blank_or_breakz x) && can_be_plain f (x ∷ cs)) ≡ true) e h);
+  no_mark = λ e. no_bom (subst (λ x. (not (is_blank_or_breakz x) && can_be_plain f (x ∷ cs)) ≡ true) e h);
+  colon = λ e. colon_next f (slice_index cs 0)
+      (subst (λ x. (not (is_blank_or_breakz x) && can_be_plain f (x ∷ cs)) ≡ true) e h);
+  ink = by_parts (is_blank c) (is_break c) (is_z c) (can_be_plain f (c ∷ cs)) h;
+}
+  where
+    no : false ≡ true → ⊥
+    no e = absurd (cc)
+
+    no_bom : false ≡ true → ⊥
+    no_bom e = absurd (cc)
+
+    colon_next : (f : Bool) (d : ℕ) → (true && not (is_blank_or_breakz d || (f && is_flow d))) ≡ true
+        → is_blank_or_breakz d ≡ false
+    colon_next f d e = first_of (is_blank_or_breakz d) (f && is_flow d) e
+      where
+        first_of : (a b : Bool) → (true && not (a || b)) ≡ true → a ≡ false
+        first_of false b x = refl
+        first_of true b x = absurd (cc)
+
+    by_parts : (a b z e : Bool) → (not (a || (b || z)) && e) ≡ true → (a || b) ≡ false
+    by_parts false false z e x = refl
+    by_parts true b z e x = absurd (cc)
+    by_parts false true z e x = absurd (cc)
+
+ink_line : (c : ℕ) (cs : List ℕ) → Ink c → ends_line c cs ≡ false
+ink_line c cs h = let no : is_break c ≡ false = second_of (is_blank c) (is_break c) h in rw no refl
+  where
+    second_of : (a b : Bool) → (a || b) ≡ false → b ≡ false
+    second_of false b x = x
+    second_of true b x = absurd (cc)
+
+-- one character more of a word
+one_spelled : (f : Bool) (m : Marker) (apart : Bool) (c : ℕ) (cs behind all : List ℕ) → cs ++ behind ≡ all
+    → WordCharacter f c all → (IsTrue apart → c ≢ 35) → (m.col ≡ 0 → IsFalse (is_document_indicator (c ∷ all)))
+    → IsSpelledPlain (along m 1) false cs behind → IsSpelledPlain m apart (c ∷ cs) behind
+one_spelled f m apart c cs behind all is w comment marker more = (
+  w.no_nul,
+  w.no_mark,
+  comment,
+  λ e. subst (λ (l : List ℕ). IsFalse (is_blank_or_breakz (slice_index l 0))) (sym is) (w.colon e),
+  λ e. subst (λ (l : List ℕ). IsFalse (is_document_indicator (c ∷ l))) (sym is) (marker e),
+  subst (λ (b : Bool). IsSpelledPlain (if b then next_line m 1 else along m 1) (is_blank_or_break c) cs behind)
+      (sym (ink_line c (cs ++ behind) w.ink))
+      (subst (λ (b : Bool). IsSpelledPlain (along m 1) b cs behind) (sym w.ink) more),
+)
+
+joined : (xs y behind : List ℕ) (n : ℕ) → drop n xs ≡ y ++ behind → (take n xs ++ y) ++ behind ≡ xs
+joined xs y behind n e = append_assoc (take n xs) y behind ∙ ap (λ l. take n xs ++ l) (sym e) ∙ take-append-drop n xs
+
+word_tail : (f : Bool) (m : Marker) (xs y behind : List ℕ) → 0 < m.col → drop (word_len f xs) xs ≡ y ++ behind
+    → IsSpelledPlain (along m (word_len f xs)) false y behind
+    → IsSpelledPlain m false (take (word_len f xs) xs ++ y) behind
+word_tail f m [] y behind some = λ e h. subst (λ x. IsSpelledPlain x false y behind) (along_none m) h
+word_tail f m (c ∷ cs) y behind some =
+    by_test (in_word f (c ∷ cs)) (1 + word_len f cs) 0
+    (λ n. drop n (c ∷ cs) ≡ y ++ behind → IsSpelledPlain (along m n) false y behind
+    → IsSpelledPlain m false (take n (c ∷ cs) ++ y) behind)
+    (λ goes.
+    let n = word_len f cs in
+    let one : 1 + n ≡ suc n = omega arith in
+    let Goal : ℕ → Type 0 = λ k. drop k (c ∷ cs) ≡ y ++ behind → IsSpelledPlain (along m k) false y behind
+    → IsSpelledPlain m false (take k (c ∷ cs) ++ y) behind in
+    let next : Goal (suc n) = λ e h.
+    one_spelled f m false c (take n cs ++ y) behind cs (joined cs y behind n e) (word_character f c cs goes)
+    (λ t. absurd (false≢true t)) (λ t. absurd (omega arith))
+    (word_tail f (along m 1) cs y behind (omega arith) e
+    (subst (λ x. IsSpelledPlain x false y behind) (sym (along_more m 1 n (suc n) (omega arith))) h)) in
+    subst Goal (sym one) next)
+    (λ _ e h. subst (λ x. IsSpelledPlain x false y behind) (along_none m) h)
+
+-- where a word may begin
+pub record Begins (m : Marker) (xs : List ℕ) : Type 0 where
+  pub comment : slice_index xs 0 ≢ 35
+  pub marker : m.col ≡ 0 → IsFalse (is_document_indicator xs)
+
+pub word_spelled : (f : Bool) (m : Marker) (xs y behind : List ℕ) → in_word f xs ≡ true → Begins m xs
+    → drop (word_len f xs) xs ≡ y ++ behind → IsSpelledPlain (along m (word_len f xs)) false y behind
+    → IsSpelledPlain m true (take (word_len f xs) xs ++ y) behind
+word_spelled f m [] y behind goes b = let none = word_left f [] goes in absurd (omega arith)
+word_spelled f m (c ∷ cs) y behind goes b =
+    let n = word_len f cs in
+    let here : word_len f (c ∷ cs) ≡ suc n = rw goes (omega arith) in
+    let Goal : ℕ → Type 0 = λ k. drop k (c ∷ cs) ≡ y ++ behind → IsSpelledPlain (along m k) false y behind
+    → IsSpelledPlain m true (take k (c ∷ cs) ++ y) behind in
+    let next : Goal (suc n) = λ e h.
+    one_spelled f m true c (take n cs ++ y) behind cs (joined cs y behind n e) (word_character f c cs goes)
+    (λ _. b.comment) b.marker
+    (word_tail f (along m 1) cs y behind (omega arith) e
+    (subst (λ x. IsSpelledPlain x false y behind) (sym (along_more m 1 n (suc n) (omega arith))) h)) in
+    subst Goal (sym here) next
+
+-- blanks and breaks between words
+
+record WhiteCharacter (c : ℕ) (cs : List ℕ) : Type 0 where
+  no_nul : c ≢ 0
+  no_mark : c ≢ 65279
+  no_comment : c ≢ 35
+  no_colon : c ≢ 58
+  no_marker : IsFalse (is_document_indicator (c ∷ cs))
+
+white_character : (c : ℕ) (cs : List ℕ) → IsTrue (is_blank_or_break c) → WhiteCharacter c cs
+white_character c cs h = by_blank (is_blank c) refl
+  where
+    Goal : ℕ → Type 0
+    Goal x = WhiteCharacter x cs
+
+    other : (a b : Bool) → a ≡ false → (a || b) ≡ true → b ≡ true
+    other false b e x = x
+    other true b e x = absurd (cc)
+
+    by_blank : (b : Bool) → is_blank c ≡ b → Goal c
+    by_blank true e = blank_cases c e Goal
+        (record {
+          no_nul = λ e. omega arith;
+          no_mark =
+              λ e. omega arith;
+          no_comment = λ e. omega arith;
+          no_colon = λ e. omega arith;
+          no_marker = refl;
+        })
+        (record {
+          no_nul = λ e. omega arith;
+          no_mark =
+              λ e. omega arith;
+          no_comment = λ e. omega arith;
+          no_colon = λ e. omega arith;
+          no_marker = refl;
+        })
+    by_blank false e = break_cases c (other (is_blank c) (is_break c) e h) Goal
+        (record {
+          no_nul = λ e. omega arith;
+          no_mark =
+              λ e. omega arith;
+          no_comment = λ e. omega arith;
+          no_colon = λ e. omega arith;
+          no_marker = refl;
+        })
+        (record {
+          no_nul = λ e. omega arith;
+          no_mark =
+              λ e. omega arith;
+          no_comment = λ e. omega arith;
+          no_colon = λ e. omega arith;
+          no_marker = refl;
+        })
+
+weaker : (m : Marker) (apart : Bool) (cs behind : List ℕ) → IsSpelledPlain m true cs behind
+    → IsSpelledPlain m apart cs behind
+weaker m apart [] behind h = tt
+weaker m apart (c ∷ cs) behind h = (h.0, h.1, λ _. h.2 refl, h.3, h.4, h.5)
+
+pub white_spelled : (m : Marker) (apart : Bool) (v next behind : List ℕ) → AreWhite v → NoFeed (next ++ behind)
+    → IsSpelledPlain (passed m v) true next behind → IsSpelledPlain m apart (v ++ next) behind
+white_spelled m apart [] next behind are none h = weaker m apart next behind h
+white_spelled m apart (c ∷ v) next behind are none h =
+    let w = white_character c ((v ++ next) ++ behind) are.0 in
+    let line : ends_line c ((v ++ next) ++ behind) ≡ ends_line c v =
+    ap (ends_line c) (append_assoc v next behind) ∙ same_ends c v (next ++ behind) none in (
+      w.no_nul,
+      w.no_mark,
+      λ _. w.no_comment,
+      λ e. absurd (w.no_colon e),
+      λ _. w.no_marker,
+      subst (λ (b : Bool). IsSpelledPlain (if b then next_line m 1 else along m 1) (is_blank_or_break c) (v ++ next)
+          behind) (sym line)
+          (white_spelled (if ends_line c v then next_line m 1 else along m 1) (is_blank_or_break c) v next behind are.1
+          none h),
+    )
+
+-- what stands behind a word
+pub word_follows : (f : Bool) (xs : List ℕ) → in_word f xs ≡ false → IsTrue (ends_piece (slice_index xs 0))
+unfolding in_word
+word_follows f xs h =
+    let c = slice_index xs 0 in
+    by_colon (c == 58) (is_blank_or_breakz c) (is_bom c) f (is_flow c)
+    (is_blank_or_breakz (slice_index xs 1) || (f && is_flow (slice_index xs 1))) h
+  where
+    by_colon : (e w b f l n : Bool) → (not w && (if e then not n else not (b || (f && l)))) ≡ false
+        → (w || b || e || l) ≡ true
+    by_colon e true b f l n x = refl
+    by_colon e false true f l n x = refl
+    by_colon true false false f l n x = refl
+    by_colon false false false f true n x = refl
+    by_colon false false false true false n x = absurd (cc)
+    by_colon false false false false false n x = absurd (cc)
+
+-- the last character of a word
+pub record Closes (text : List ℕ) : Type 0 where
+  pub front : List ℕ
+  pub last : ℕ
+  pub is : text ≡ front ++ last ∷ []
+  pub ink : Ink last
+
+pub word_closes : (c : ℕ) (cs : List ℕ) → AreInk (c ∷ cs) → Closes (c ∷ cs)
+word_closes c [] h = record { front = []; last = c; is = refl; ink = h.0 }
+word_closes c (d ∷ ds) h =
+    let more = word_closes d ds h.1 in
+    record { front = c ∷ more.front; last = more.last; is = ap (λ l. c ∷ l) more.is; ink = more.ink }
+
+-- where a word begins
+other_answer : (s t : Cursor) → (let x : Result (Bool × Cursor) Refusal = Ok (false, s) in x ≡ Ok (true, t)) → ⊥
+other_answer s t e = let pair : ◌≡◌ {A = Bool × Cursor} (false, s) (true, t) =
+    cc in absurd (false≢true (ap (λ (x : Bool × Cursor). x.0) pair))
+
+begins_here : (s : Cursor)
+    → ((slice_index s.rest 0 == 35) || ((s.mark.col == 0) && is_document_indicator s.rest)) ≡ false
+    → Begins s.mark s.rest
+begins_here s h = record {
+  comment = λ e. let is : (slice_index s.rest 0 == 35) ≡ true = grind (arith, nat_tests) in first_not _ _ h is;
+  marker = λ e. let is : (s.mark.col == 0) ≡ true = grind (arith, nat_tests) in second_not _ _ _ h is;
+}
+  where
+    first_not : (a b : Bool) → (a || b) ≡ false → a ≡ true → ⊥
+    first_not false b x y = absurd (cc)
+    first_not true b x y = absurd (cc)
+
+    second_not : (a b d : Bool) → (a || (b && d)) ≡ false → b ≡ true → d ≡ false
+    second_not false true d x y = x
+    second_not false false d x y = absurd (cc)
+    second_not true b d x y = absurd (cc)
+
+pub starts_begins : (f : Bool) (s t : Cursor) → word_starts f s ≡ Ok (true, t) → Begins s.mark s.rest
+unfolding word_starts
+starts_begins f s t =
+    by_test ((slice_index s.rest 0 == 35) || ((s.mark.col == 0) && is_document_indicator s.rest)) _ _
+    (λ (r : Result (Bool × Cursor) Refusal). r ≡ Ok (true, t) → Begins s.mark s.rest)
+    (λ _ e. absurd (other_answer s t e)) (λ h _. begins_here s h)
+
+pub goes_begins : (f : Bool) (i : ℕ) (s t : Cursor) → goes_on f i s ≡ Ok (true, t) → Begins s.mark s.rest
+unfolding goes_on
+goes_begins f i s t = by_test (s.blank_so_far && not f && nat_lt s.mark.col i) _ _
+    (λ (r : Result (Bool × Cursor) Refusal). r ≡ Ok (true, t) → Begins s.mark s.rest)
+    (λ _ e. absurd (other_answer s t e)) (λ _ e. starts_begins f s t e)

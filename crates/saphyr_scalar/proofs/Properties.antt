@@ -1,0 +1,9 @@
+-- Anchors, tags and percent escapes: each spelled one is read, and what is read is spelled so.
+pub mod AnchorsRead
+pub mod EscapedBytes
+pub mod EscapesRead
+pub mod EscapesSpelled
+pub mod PercentEscapes
+pub mod TagsRead
+pub mod TagsSpelled
+pub mod BareCharacters

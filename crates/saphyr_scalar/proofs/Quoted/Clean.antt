@@ -1,0 +1,49 @@
+-- Spellings of quoted scalars in which no line begins with a document marker.
+use Rattle.std.proofs.Common.{◌≡◌, ℕ, List, [], ◌∷◌, ◌++◌, drop, slice_index, Some, IsTrue, IsFalse}
+use Rattle.saphyr_input.specs.Classes.{is_break}
+use Rattle.saphyr_input.specs.Places.{is_document_indicator}
+use Rattle.saphyr_scalar.specs.FlowReading.{mark, raw_item, apostrophe, backslash}
+use Rattle.saphyr_scalar.specs.LineSpelling.{IsNumber}
+use Rattle.saphyr_scalar.specs.Quoted.{simple_escape, break_len, is_closing}
+use Rattle.saphyr_scalar.specs.QuotedMarkers.{HasNoMarker}
+use Rattle.saphyr_scalar.specs.QuotedSpelling as quotes
+pub use Rattle.saphyr_scalar.specs.QuotedSpelling.{stands_for_itself, IsQuotedText}
+use Rattle.saphyr_scalar.specs.declared.reading.folding.Item.{Item}
+use Rattle.saphyr_scalar.specs.declared.reading.folding.Item.TheVariants.{Raw, Escaped, Break, EscapedBreak}
+use Rattle.saphyr_scalar.specs.declared.reading.flow.Quote.{Quote}
+use Rattle.saphyr_scalar.specs.declared.reading.flow.Quote.TheVariants.{Single, Double}
+
+abbrev pub IsText : Quote → List ℕ → List Item → List ℕ → Type 0
+IsText q t items x = (is : quotes.IsText q t items x) × HasNoMarker q t items x is
+
+-- a line begins with no document marker
+abbrev pub IsClear : List ℕ → Type 0
+IsClear t = IsFalse (is_document_indicator t)
+
+pub closed : (q : Quote) (x : List ℕ) → IsTrue (is_closing q (mark q ∷ x)) → IsText q (mark q ∷ x) [] x
+closed q x h = (quotes.closed q x h, tt)
+
+pub itself : (q : Quote) (c : ℕ) (t : List ℕ) (items : List Item) (x : List ℕ) → IsTrue (stands_for_itself q c)
+    → IsText q t items x → IsText q (c ∷ t) (raw_item c ∷ items) x
+itself q c t items x h r = (quotes.itself q c t items x h r.0, r.1)
+
+pub broken : (q : Quote) (t : List ℕ) (items : List Item) (x : List ℕ) → IsTrue (is_break (slice_index t 0))
+    → IsClear (drop (break_len t) t) → IsText q (drop (break_len t) t) items x → IsText q t (Break ∷ items) x
+broken q t items x h k r = (quotes.broken q t items x h r.0, (k, r.1))
+
+pub two_quotes : (t : List ℕ) (items : List Item) (x : List ℕ) → IsText Single t items x
+    → IsText Single (apostrophe ∷ apostrophe ∷ t) (Raw apostrophe ∷ items) x
+two_quotes t items x r = (quotes.two_quotes t items x r.0, r.1)
+
+pub escaped : (e c : ℕ) (t : List ℕ) (items : List Item) (x : List ℕ) → simple_escape e ≡ Some c
+    → IsText Double t items x → IsText Double (backslash ∷ e ∷ t) (Escaped c ∷ items) x
+escaped e c t items x h r = (quotes.escaped e c t items x h r.0, r.1)
+
+pub numbered : (e c : ℕ) (ds t : List ℕ) (items : List Item) (x : List ℕ) → IsNumber e c ds → IsText Double t items x
+    → IsText Double (backslash ∷ e ∷ (ds ++ t)) (Escaped c ∷ items) x
+numbered e c ds t items x h r = (quotes.numbered e c ds t items x h r.0, r.1)
+
+pub escaped_break : (t : List ℕ) (items : List Item) (x : List ℕ) → IsTrue (is_break (slice_index t 0))
+    → IsClear (drop (break_len t) t) → IsText Double (drop (break_len t) t) items x
+    → IsText Double (backslash ∷ t) (EscapedBreak ∷ items) x
+escaped_break t items x h k r = (quotes.escaped_break t items x h r.0, (k, r.1))

@@ -1,0 +1,138 @@
+-- Escapes of double quoted scalars, a step at a time.
+use Rattle.std.proofs.Common.{◌≡◌, ℕ, zero, suc, ◌+◌, ◌-◌, ◌*◌, ◌^◌, ◌<◌, ◌≤◌, true, false, List, [], ◌∷◌, length, drop, slice_index, Result, Ok, Err, refl, sym, ap, ◌∙◌, arith, subst, nat_eq}
+use Rattle.std.proofs.lemmas.Bool.Decides.{nat_tests}
+use Rattle.std.specs.Prelude.{Option, Some, None}
+use Rattle.std.proofs.Math.Nat.{pow-le-pow_right}
+use Rattle.std.proofs.lemmas.Grind.{pow_more}
+use Rattle.saphyr_input.specs.Classes.{is_hex, hex_value}
+use Rattle.saphyr_scalar.specs.declared.scalar.position.Marker.{Marker}
+use Rattle.saphyr_scalar.specs.declared.scalar.fault.FaultText.TheVariants as fault
+use Rattle.saphyr_scalar.specs.declared.scalar.fault.Refusal.{Refusal}
+use Rattle.saphyr_scalar.specs.Cursor.{Cursor, ◌>>=◌, refuse, along, pass}
+use Rattle.saphyr_scalar.proofs.Moving.{along_none, along_more, drop_more}
+use Rattle.saphyr_scalar.specs.Quoted.{at, digits, simple_escape, digit_count, is_scalar, character, numbered, escape_of, escape}
+use Rattle.saphyr_input.proofs.Basics.Booleans.{by_test}
+use Rattle.saphyr_scalar.proofs.EscapeEnds.{Ends, refused, read, then_ends}
+
+-- no digit is left
+pub digits_none : (start : Marker) (n i v : ℕ) (s : Cursor) → n ≤ i → digits start (n - i) v s ≡ Ok (v, s)
+unfolding digits
+digits_none start n i v s le = let e : n - i ≡ zero = omega arith in rw e refl
+
+-- a place that is no digit
+pub digits_stop : (start : Marker) (n i v : ℕ) (s : Cursor) → is_hex (slice_index s.rest 0) ≡ false → i < n
+    → digits start (n - i) v s ≡ refuse fault.HexadecimalDigitExpected start
+unfolding digits
+digits_stop start n i v s h lt = let e : n - i ≡ suc (n - (i + 1)) = omega arith in rw (e, h) refl
+
+-- a place that is a digit
+pub digits_more : (start : Marker) (n i v : ℕ) (s : Cursor) → is_hex (slice_index s.rest 0) ≡ true → i < n
+    → digits start (n - i) v s ≡ digits start (n - (i + 1)) (v * 16 + hex_value (slice_index s.rest 0)) (pass 1 s)
+unfolding digits
+digits_more start n i v s h lt = let e : n - i ≡ suc (n - (i + 1)) = omega arith in rw (e, h) refl
+
+-- a digit that was read and taken off
+pub digits_on : (start : Marker) (n i v c d : ℕ) (s t u : Cursor) → i < n → c ≡ slice_index s.rest 0 → is_hex c ≡ true
+    → d ≡ hex_value c → t ≡ s → u ≡ pass 1 t
+    → digits start (n - (i + 1)) (v * 16 + d) u ≡ digits start (n - i) v s
+digits_on start n i v c d s t u lt read hex value same on =
+    let h : is_hex (slice_index s.rest 0) ≡ true = rw (← read) hex in
+    rw (on, same, value, read) (sym (digits_more start n i v s h lt))
+
+-- one digit more
+pub digits_below : (i v d : ℕ) → v < 16 ^ i → d < 16 → v * 16 + d < 16 ^ (i + 1)
+digits_below i v d lt small = omega (arith, pow_more 16 i)
+
+-- eight digits are a number of 32 bits
+pub digits_fit : (i v d : ℕ) → v < 16 ^ i → d < 16 → i < 8 → v * 16 + d < 2 ^ 32
+digits_fit i v d lt small few =
+    let more : i + 1 ≤ 8 = omega arith in
+    let some : 0 < 16 = omega arith in
+    let le : 16 ^ (i + 1) ≤ 16 ^ 8 = pow-le-pow_right some more in
+    omega (arith, digits_below i v d lt small, le)
+
+two_left : (xs : List ℕ) → (slice_index xs 0 ≡ 0 → ⊥) → (slice_index xs 1 ≡ 0 → ⊥) → 2 ≤ length xs
+two_left [] a b = absurd (a refl)
+two_left (x ∷ []) a b = absurd (b refl)
+two_left (x ∷ y ∷ xs) a b = omega arith
+
+no_nul_escape : (c : ℕ) → simple_escape 0 ≡ Some c → ⊥
+unfolding simple_escape
+no_nul_escape c e = absurd (cc)
+
+-- an escape of one letter has its letter
+pub letter_left : (xs : List ℕ) (c : ℕ) → slice_index xs 0 ≡ 92 → simple_escape (slice_index xs 1) ≡ Some c
+    → 2 ≤ length xs
+letter_left xs c slash e = two_left xs (λ z. absurd (omega arith)) (λ z. no_nul_escape c (rw z at e))
+
+-- an escape of digits has its letter
+pub digits_left : (xs : List ℕ) → slice_index xs 0 ≡ 92 → (digit_count (slice_index xs 1) ≡ 0 → ⊥) → 2 ≤ length xs
+digits_left xs slash e = two_left xs (λ z. absurd (omega arith)) (λ z. e (rw z refl))
+
+pub count_small : (c : ℕ) → digit_count c ≤ 8
+count_small c = grind arith
+
+-- Where an escape ends.
+
+digits_place : (start : Marker) (n v : ℕ) (m : Marker) (xs : List ℕ) → Ends m xs n (digits start n v (at m xs))
+unfolding digits
+digits_place start zero v m xs = subst (λ x. Ends m xs 0 (Ok (v, at x xs))) (along_none m) (read m xs 0 v)
+digits_place start (suc n) v m xs =
+    by_test (is_hex (slice_index xs 0)) _ _ (Ends m xs (suc n))
+    (λ _ e is. digits_place start n _ (along m 1) (drop 1 xs) e is
+    ∙ ap (λ x. at x (drop n (drop 1 xs))) (along_more m 1 n (suc n) (omega arith))
+    ∙ ap (at (along m (suc n))) (drop_more n 1 (suc n) xs (omega arith)))
+    (λ _. refused m xs (suc n) _)
+
+character_place : (start : Marker) (m : Marker) (xs : List ℕ) (n v : ℕ)
+    → Ends m xs n (character start v (at (along m n) (drop n xs)))
+unfolding character
+character_place start m xs n v = by_test (is_scalar v) _ _ (Ends m xs n) (λ _. read m xs n v) (λ _. refused m xs n _)
+
+numbered_place : (start m : Marker) (xs : List ℕ) (n : ℕ) → Ends m xs (2 + n) (numbered start n (at m xs))
+unfolding numbered
+numbered_place start m xs n =
+    by_test (nat_eq n 0) _ _ (Ends m xs (2 + n)) (λ _. refused m xs (2 + n) _)
+    (λ _. then_ends m xs (2 + n) (digits start n 0 (at (along m 2) (drop 2 xs))) _ (λ x is.
+    let place : x.1 ≡ at (along m (2 + n)) (drop (2 + n) xs) =
+    digits_place start n 0 (along m 2) (drop 2 xs) x is
+    ∙ ap (λ y. at y (drop n (drop 2 xs))) (along_more m 2 n (2 + n) refl)
+    ∙ ap (at (along m (2 + n))) (drop_more n 2 (2 + n) xs refl) in
+    subst (λ y. Ends m xs (2 + n) (character start x.0 y)) (sym place) (character_place start m xs (2 + n) x.0)))
+
+no_x : (v : ℕ) → simple_escape 120 ≡ Some v → ⊥
+unfolding simple_escape
+no_x v e = absurd (cc)
+
+no_u : (v : ℕ) → simple_escape 117 ≡ Some v → ⊥
+unfolding simple_escape
+no_u v e = absurd (cc)
+
+no_U : (v : ℕ) → simple_escape 85 ≡ Some v → ⊥
+unfolding simple_escape
+no_U v e = absurd (cc)
+
+-- an escape of one letter has no digits
+pub simple_no_digits : (c v : ℕ) → simple_escape c ≡ Some v → 0 ≡ digit_count c
+simple_no_digits c v h =
+    by_test (nat_eq c 120) _ _ (λ n. 0 ≡ n)
+    (λ is. let e : c ≡ 120 =
+    grind (arith, nat_tests) in absurd (no_x v (subst (λ x. simple_escape x ≡ Some v) e h)))
+    (λ _. by_test (nat_eq c 117) _ _ (λ n. 0 ≡ n)
+    (λ is. let e : c ≡ 117 =
+    grind (arith, nat_tests) in absurd (no_u v (subst (λ x. simple_escape x ≡ Some v) e h)))
+    (λ _. by_test (nat_eq c 85) _ _ (λ n. 0 ≡ n)
+    (λ is. let e : c ≡ 85 = grind (arith, nat_tests) in absurd (no_U v (subst (λ x. simple_escape x ≡ Some v) e h)))
+    (λ _. refl)))
+
+of_place : (start m : Marker) (xs : List ℕ) (letter : ℕ) (o : Option ℕ) → simple_escape letter ≡ o
+    → Ends m xs (2 + digit_count letter) (escape_of start o letter (at m xs))
+unfolding escape_of
+of_place start m xs letter (Some c) h =
+    subst (λ n. Ends m xs (2 + n) (Ok (c, at (along m 2) (drop 2 xs)))) (simple_no_digits letter c h) (read m xs 2 c)
+of_place start m xs letter None h = numbered_place start m xs (digit_count letter)
+
+pub escape_place : (start m : Marker) (xs : List ℕ)
+    → Ends m xs (2 + digit_count (slice_index xs 1)) (escape start (at m xs))
+unfolding escape
+escape_place start m xs = of_place start m xs (slice_index xs 1) (simple_escape (slice_index xs 1)) refl

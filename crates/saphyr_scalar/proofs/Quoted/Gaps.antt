@@ -1,0 +1,199 @@
+-- What stands between the words of a quoted scalar, and its closing quote.
+use Rattle.std.proofs.Common.{◌≡◌, ℕ, Bool, true, false, List, [], ◌∷◌, ◌++◌, drop, slice_index, Result, Ok, refl, sym, ap, ◌∙◌, arith, subst, nat_eq, IsTrue, cond}
+use Rattle.std.specs.Prelude.{◌||◌, ◌&&◌, ◌==◌, not}
+use Rattle.std.proofs.lemmas.Bool.Decides.{nat_tests}
+use Rattle.std.proofs.lemmas.List.{append-nil}
+use Rattle.saphyr_input.specs.Classes.{is_z, is_blank, is_break, is_blank_or_breakz}
+use Rattle.saphyr_input.specs.Places.{next_2_are}
+use Rattle.saphyr_scalar.specs.declared.scalar.position.Marker.{Marker}
+use Rattle.saphyr_scalar.specs.declared.scalar.fault.Refusal.{Refusal}
+use Rattle.saphyr_scalar.specs.declared.scalar.fault.FaultText.TheVariants as fault
+use Rattle.saphyr_scalar.specs.declared.scalar.fault.Stop.{Stop}
+use Rattle.saphyr_scalar.specs.declared.reading.flow.Quote.{Quote}
+use Rattle.saphyr_scalar.specs.declared.reading.flow.Quote.TheVariants.{Single, Double}
+use Rattle.saphyr_scalar.specs.Seen.{ReadsOn}
+use Rattle.saphyr_scalar.specs.Cursor.{Cursor, refuse, along, pass, pass_break, pass_line, next_line}
+use Rattle.saphyr_scalar.specs.FlowReading as flow
+use Rattle.saphyr_scalar.proofs.Quoted.Inside.{front_twice, passed_over, behind_no_gap, IsContent, at_break, at_end, flushed, Moved, moved_stops, SameRun, moved_of}
+use Rattle.saphyr_scalar.proofs.Quoted.Parts.{blanks_moved}
+use Rattle.saphyr_scalar.specs.Quoted.{is_literal, is_escaped_break, is_closing, ends_word, with_front, at, special, on_line, over_lines, no_gap, escaped_gap, break_len, inside, inside_at}
+
+pub by_break_len : (s : Cursor) → is_break (slice_index s.rest 0) ≡ true → pass_break s ≡ pass_line (break_len s.rest) s
+by_break_len s h = by_tests (next_2_are s.rest 13 10) (is_break (slice_index s.rest 0)) h
+  where
+    by_tests : (two one : Bool) → one ≡ true
+        → cond two (pass_line 2 s) (cond one (pass_line 1 s) s) ≡ pass_line (cond two 2 1) s
+    by_tests true one h = refl
+    by_tests false true h = refl
+    by_tests false false h = absurd (cc)
+
+-- a backslash before a break
+pub at_escaped_break : (indent : ℕ) (start m : Marker) (cs : List ℕ) → is_break (slice_index cs 0) ≡ true
+    → inside Double indent start no_gap 0 m (92 ∷ cs)
+    ≡ inside Double indent start (escaped_gap Double (slice_index (drop (break_len cs) cs) 0)) 0
+    (next_line (along m 1) (break_len cs)) (drop (break_len cs) cs)
+unfolding is_literal special
+at_escaped_break indent start m cs h =
+    behind_no_gap Double indent start m 92 cs refl refl refl ∙ rw h refl
+    ∙ passed_over Double indent start (escaped_gap Double (slice_index (drop (break_len cs) cs) 0)) (break_len cs)
+    (next_line (along m 1) (break_len cs)) cs
+
+-- an escaped break, and what it begins
+abbrev pub behind_escaped : Cursor → Cursor
+behind_escaped s = pass_break (pass 1 s)
+
+escaped_break_at : (indent : ℕ) (start : Marker) (s : Cursor) (cs : List ℕ) → s.rest ≡ 92 ∷ cs
+    → is_break (slice_index cs 0) ≡ true
+    → inside_at Double indent start no_gap s
+    ≡ inside_at Double indent start (escaped_gap Double (slice_index (behind_escaped s).rest 0)) (behind_escaped s)
+escaped_break_at indent start s cs cut h =
+    let behind : (pass 1 s).rest ≡ cs = ap (drop 1) cut in
+    let breaks : is_break (slice_index (pass 1 s).rest 0) ≡ true =
+    ap (λ (xs : List ℕ). is_break (slice_index xs 0)) behind ∙ h in
+    let place : behind_escaped s ≡ pass_line (break_len (pass 1 s).rest) (pass 1 s) = by_break_len (pass 1 s) breaks in
+    ap (inside Double indent start no_gap 0 s.mark) cut ∙ at_escaped_break indent start s.mark cs h
+    ∙ sym (ap (λ (x : Cursor). inside_at Double indent start (escaped_gap Double (slice_index x.rest 0)) x) place
+    ∙ ap (λ (xs : List ℕ). inside Double indent start (escaped_gap Double (slice_index (drop (break_len xs) xs) 0)) 0
+    (next_line (along s.mark 1) (break_len xs)) (drop (break_len xs) xs)) behind)
+
+record Escaped (xs : List ℕ) : Type 0 where
+  cs : List ℕ
+  cut : xs ≡ 92 ∷ cs
+  breaks : is_break (slice_index cs 0) ≡ true
+
+escaped_of : (xs : List ℕ) → IsTrue (is_escaped_break Double xs) → Escaped xs
+escaped_of [] h = absurd (cc)
+escaped_of (c ∷ cs) h =
+    let two = both (c == 92) (is_break (slice_index cs 0)) h in
+    record { cs = cs; cut = ap (λ x. x ∷ cs) (number c two.0); breaks = two.1 }
+  where
+    both : (a b : Bool) → IsTrue (a && b) → (a ≡ true) × (b ≡ true)
+    both true true h = (refl, refl)
+    both true false h = absurd (cc)
+    both false b h = absurd (cc)
+
+    number : (c : ℕ) → nat_eq c 92 ≡ true → c ≡ 92
+    number c h = grind (arith, nat_tests)
+
+escaped_break_on : (q : Quote) (indent : ℕ) (start : Marker) (s : Cursor) → IsTrue (is_escaped_break q s.rest)
+    → inside_at q indent start no_gap s
+    ≡ inside_at q indent start (escaped_gap q (slice_index (behind_escaped s).rest 0)) (behind_escaped s)
+escaped_break_on Single indent start s h = absurd (cc)
+escaped_break_on Double indent start s h =
+    let e = escaped_of s.rest h in escaped_break_at indent start s e.cs e.cut e.breaks
+
+gap_at_quote : (q : Quote) (c : ℕ) → c ≡ flow.mark q → escaped_gap q c ≡ no_gap
+gap_at_quote q c e = let is : (c == flow.mark q) ≡ true = grind (arith, nat_tests) in rw is refl
+
+gap_elsewhere : (q : Quote) (c : ℕ) → (c ≡ flow.mark q → ⊥) → escaped_gap q c ≡ over_lines true 0
+gap_elsewhere q c e = let is : (c == flow.mark q) ≡ false = grind (arith, nat_tests) in rw is refl
+
+-- an escaped break right before the closing quote, and elsewhere
+pub escaped_to_quote : (q : Quote) (indent : ℕ) (start : Marker) (text : List ℕ) (s t : Cursor)
+    → IsTrue (is_escaped_break q s.rest) → t ≡ behind_escaped s → slice_index t.rest 0 ≡ flow.mark q
+    → with_front text (inside_at q indent start no_gap t) ≡ with_front text (inside_at q indent start no_gap s)
+escaped_to_quote q indent start text s t h on quote =
+    ap (λ x. with_front text (inside_at q indent start no_gap x)) on
+    ∙ sym (ap (with_front text) (escaped_break_on q indent start s h
+    ∙ ap (λ g. inside_at q indent start g (behind_escaped s))
+    (gap_at_quote q _ (ap (λ (x : Cursor). slice_index x.rest 0) (sym on) ∙ quote))))
+
+pub escaped_to_line : (q : Quote) (indent : ℕ) (start : Marker) (text : List ℕ) (s t : Cursor)
+    → IsTrue (is_escaped_break q s.rest) → t ≡ behind_escaped s → (slice_index t.rest 0 ≡ flow.mark q → ⊥)
+    → with_front text (inside_at q indent start (over_lines true 0) t)
+    ≡ with_front text (inside_at q indent start no_gap s)
+escaped_to_line q indent start text s t h on quote =
+    ap (λ x. with_front text (inside_at q indent start (over_lines true 0) x)) on
+    ∙ sym (ap (with_front text) (escaped_break_on q indent start s h
+    ∙ ap (λ g. inside_at q indent start g (behind_escaped s))
+    (gap_elsewhere q _ (λ e. quote (ap (λ (x : Cursor). slice_index x.rest 0) on ∙ e)))))
+
+-- a part of what was to be read before is told again
+pub reads_from : {X Y : Type 0} (r : Result X Stop) (before begun now : Result Y Refusal) → begun ≡ before
+    → ReadsOn r begun now → ReadsOn r before now
+reads_from r before begun now e h = subst (λ (b : Result _ Refusal). ReadsOn r b now) e h
+
+pub moved_on : (grown : List ℕ) (s u t : Cursor) (cleared : List ℕ) → u ≡ s → cleared ≡ []
+    → SameRun is_blank cleared grown u t → Moved is_blank [] grown s t
+moved_on grown s u t cleared same empty e =
+    let m = moved_of is_blank cleared grown u t e in
+    subst (λ (x : Cursor). Moved is_blank [] grown x t) same
+    (subst (λ (b : List ℕ). Moved is_blank b grown u t) empty m)
+
+-- blanks, and what stands behind them
+pub blanks_to_break : (q : Quote) (indent : ℕ) (start : Marker) (text grown : List ℕ) (s t u v : Cursor)
+    → Moved is_blank [] grown s t → u ≡ t → is_break (slice_index t.rest 0) ≡ true → v ≡ pass_break u
+    → with_front text (inside_at q indent start (over_lines false 0) v)
+    ≡ with_front text (inside_at q indent start no_gap s)
+blanks_to_break q indent start text grown s t u v m same h on =
+    ap (with_front text)
+    (ap (inside_at q indent start (over_lines false 0)) (on ∙ ap pass_break same)
+    ∙ sym (at_break q indent start (on_line grown) t h) ∙ blanks_moved q indent start [] grown s t m)
+
+pub blanks_to_end : (q : Quote) (indent : ℕ) (start : Marker) (text grown : List ℕ) (s t : Cursor)
+    → Moved is_blank [] grown s t → slice_index t.rest 0 ≡ 0
+    → with_front text (inside_at q indent start no_gap s) ≡ refuse fault.EndInsideQuotes start
+blanks_to_end q indent start text grown s t m h =
+    ap (with_front text) (sym (blanks_moved q indent start [] grown s t m)
+    ∙ at_end q indent start grown t.mark t.rest h)
+
+content_left : (xs : List ℕ) → is_z (slice_index xs 0) ≡ false → (c : ℕ) × (cs : List ℕ) × (xs ≡ c ∷ cs)
+content_left [] h = absurd (cc)
+content_left (c ∷ cs) h = (c, cs, refl)
+
+pub blanks_to_word : (q : Quote) (indent : ℕ) (start : Marker) (text grown : List ℕ) (s t u : Cursor)
+    → Moved is_blank [] grown s t → u ≡ t → is_break (slice_index t.rest 0) ≡ false
+    → is_z (slice_index t.rest 0) ≡ false
+    → with_front (text ++ grown) (inside_at q indent start no_gap u)
+    ≡ with_front text (inside_at q indent start no_gap s)
+blanks_to_word q indent start text grown s t u m same break z =
+    let left = content_left t.rest z in
+    let is : IsContent left.0 = record {
+      blank = ap (λ (xs : List ℕ). is_blank (slice_index xs 0)) (sym left.2) ∙ moved_stops is_blank [] grown s t refl m;
+      break = ap (λ (xs : List ℕ). is_break (slice_index xs 0)) (sym left.2) ∙ break;
+      nul = ap (λ (xs : List ℕ). is_z (slice_index xs 0)) (sym left.2) ∙ z;
+    } in
+    let word : inside_at q indent start (on_line grown) t ≡ with_front grown (inside_at q indent start no_gap t) =
+    ap (inside q indent start (on_line grown) 0 t.mark) left.2 ∙ flushed q indent start grown t.mark left.0 left.1 is
+    ∙ ap (λ xs. with_front grown (inside q indent start no_gap 0 t.mark xs)) (sym left.2) in
+    ap (λ x. with_front (text ++ grown) (inside_at q indent start no_gap x)) same
+    ∙ sym (front_twice text grown _) ∙ ap (with_front text) (sym word ∙ blanks_moved q indent start [] grown s t m)
+
+-- the closing quote
+closing_quote : (q : Quote) (xs : List ℕ) → IsTrue (ends_word q xs) → slice_index xs 0 ≡ flow.mark q
+    → IsTrue (is_closing q xs)
+closing_quote Double xs h e = rw e refl
+closing_quote Single xs h e = by_rest (slice_index xs 0) (slice_index xs 1 == 39) h e
+  where
+    by_rest : (c : ℕ) (d : Bool) → IsTrue (is_blank_or_breakz c || ((c == 39) && not d) || false) → c ≡ 39
+        → IsTrue ((c == 39) && not d)
+    by_rest c true h e = let h = rw e at h in absurd (cc)
+    by_rest c false h e = rw e refl
+
+pub at_closing : (q : Quote) (indent : ℕ) (start m : Marker) (cs : List ℕ) → IsTrue (is_closing q (flow.mark q ∷ cs))
+    → inside q indent start no_gap 0 m (flow.mark q ∷ cs) ≡ Ok ([], at (along m 1) cs)
+unfolding is_literal special
+at_closing Double indent start m cs h = behind_no_gap Double indent start m 34 cs refl refl refl
+at_closing Single indent start m cs h =
+    behind_no_gap Single indent start m 39 cs refl refl refl ∙ rw (not_second (slice_index cs 0 == 39) h) refl
+  where
+    not_second : (d : Bool) → IsTrue (not d) → d ≡ false
+    not_second true h = absurd (cc)
+    not_second false h = refl
+
+pub quote_closes : (q : Quote) (indent : ℕ) (start : Marker) (text : List ℕ) (s : Cursor) → IsTrue (ends_word q s.rest)
+    → slice_index s.rest 0 ≡ flow.mark q
+    → with_front text (inside_at q indent start no_gap s) ≡ Ok (text, pass 1 s)
+quote_closes q indent start text s h e =
+    ap (with_front text) (closes s.mark s.rest (closing_quote q s.rest h e) e) ∙ rw (append-nil text) refl
+  where
+    mark_left : (q : Quote) → 0 ≡ flow.mark q → ⊥
+    mark_left Single h = absurd (omega arith)
+    mark_left Double h = absurd (omega arith)
+
+    closes : (m : Marker) (xs : List ℕ) → IsTrue (is_closing q xs) → slice_index xs 0 ≡ flow.mark q
+        → inside q indent start no_gap 0 m xs ≡ Ok ([], at (along m 1) (drop 1 xs))
+    closes m [] h e = absurd (mark_left q e)
+    closes m (c ∷ cs) h e =
+        ap (λ x. inside q indent start no_gap 0 m (x ∷ cs)) e
+        ∙ at_closing q indent start m cs (subst (λ (x : ℕ). IsTrue (is_closing q (x ∷ cs))) e h)

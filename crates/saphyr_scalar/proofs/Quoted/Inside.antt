@@ -1,0 +1,233 @@
+-- The inside of a quoted scalar, read a piece at a time.
+use Rattle.std.proofs.Common.{◌≡◌, ℕ, zero, suc, ◌+◌, ◌<◌, ◌≤◌, Bool, true, false, List, [], ◌∷◌, ◌++◌, length, take, drop, length-drop, slice_index, Result, Ok, Err, refl, sym, ap, ◌∙◌, arith, subst, encode_utf8_all, append_assoc, nat_eq, cond, pred}
+use Rattle.std.specs.Prelude.{◌||◌, ◌&&◌, ◌==◌, not, encode_utf8}
+use Rattle.std.specs.List.{prefix_len}
+use Rattle.std.proofs.lemmas.Bool.Decides.{nat_tests}
+use Rattle.std.proofs.lemmas.List.{append-nil}
+use Rattle.saphyr_input.specs.Classes.{is_z, is_blank, is_break, is_blank_or_breakz}
+use Rattle.saphyr_scalar.specs.declared.scalar.position.Marker.{Marker}
+use Rattle.saphyr_scalar.specs.declared.scalar.fault.Refusal.{Refusal}
+use Rattle.saphyr_scalar.specs.declared.scalar.fault.FaultText.TheVariants as fault
+use Rattle.std.specs.Result.{IsErrAnd}
+use Rattle.saphyr_scalar.specs.declared.scalar.fault.Stop.{Stop}
+use Rattle.saphyr_scalar.specs.declared.scalar.fault.Stop.TheVariants as stop
+use Rattle.saphyr_scalar.specs.declared.reading.flow.Quote.{Quote}
+use Rattle.saphyr_scalar.specs.Seen.{ReadsOn, Fails}
+use Rattle.saphyr_scalar.specs.Cursor.{Cursor, ◌>>=◌, refuse, along, pass_break, next_line}
+use Rattle.saphyr_scalar.specs.FlowReading as flow
+use Rattle.saphyr_scalar.proofs.Moving.{along_none, along_more}
+use Rattle.saphyr_scalar.specs.Quoted.{TextRead, is_literal, with_front, at, special, special_len, Gap, on_line, no_gap, blank_in, break_in, end_gap, escaped_gap, break_len, if_some, inside, inside_at, with_run}
+use Rattle.saphyr_input.proofs.Basics.Lists.{run_ends}
+use Rattle.saphyr_input.proofs.Basics.Booleans.{neither_parts, by_test, either}
+use Rattle.std.proofs.lemmas.Bool.{or_parts}
+
+-- a place that shows a literal is a character
+pub literal_left : (q : Quote) (xs : List ℕ) (c : ℕ) → c ≡ slice_index xs 0 → is_literal q c ≡ true → 0 < length xs
+unfolding is_literal
+literal_left q [] c e h = absurd (cc)
+literal_left q (x ∷ xs) c e h = omega arith
+
+pub front_twice : (a b : List ℕ) (read : TextRead) → with_front a (with_front b read) ≡ with_front (a ++ b) read
+front_twice a b (Ok x) = rw append_assoc refl
+front_twice a b (Err e) = refl
+
+pub no_front : (read : TextRead) → with_front [] read ≡ read
+no_front (Ok x) = refl
+no_front (Err e) = refl
+
+-- what is taken off already is passed over
+pub passed_over : (q : Quote) (indent : ℕ) (start : Marker) (gap : Gap) (k : ℕ) (m : Marker) (xs : List ℕ)
+    → inside q indent start gap k m xs ≡ inside q indent start gap 0 m (drop k xs)
+unfolding inside
+passed_over q indent start gap zero m xs = refl
+passed_over q indent start gap (suc k) m [] = refl
+passed_over q indent start gap (suc k) m (c ∷ cs) = passed_over q indent start gap k m cs
+
+-- a word or the closing quote, from its first character on
+abbrev pub word_from : Quote → ℕ → Marker → Marker → ℕ → List ℕ → TextRead
+word_from q indent start m c cs =
+    cond (is_literal q c) (with_front (encode_utf8 c) (inside q indent start no_gap 0 (along m 1) cs))
+    (special q start (at m (c ∷ cs)) >>= λ x. if_some x.0
+    (λ d. with_front (encode_utf8 d) (inside q indent start no_gap (special_len q (slice_index cs 0)) x.1.mark cs))
+    (cond (c == flow.mark q) (Ok ([], at (along m 1) cs))
+    (inside q indent start (escaped_gap q (slice_index (drop (break_len cs) cs) 0)) (break_len cs)
+    (next_line (along m 1) (break_len cs)) cs)))
+
+pub behind_gap : (q : Quote) (indent : ℕ) (start : Marker) (gap : Gap) (m : Marker) (c : ℕ) (cs : List ℕ)
+    → is_blank c ≡ false → is_break c ≡ false
+    → inside q indent start gap 0 m (c ∷ cs)
+    ≡ (end_gap indent start gap (at m (c ∷ cs)) >>= λ text. with_front text (word_from q indent start m c cs))
+unfolding inside
+behind_gap q indent start gap m c cs blank break = rw (blank, break) refl
+
+pub behind_no_gap : (q : Quote) (indent : ℕ) (start m : Marker) (c : ℕ) (cs : List ℕ) → is_blank c ≡ false
+    → is_break c ≡ false → is_z c ≡ false
+    → inside q indent start no_gap 0 m (c ∷ cs) ≡ word_from q indent start m c cs
+unfolding end_gap
+behind_no_gap q indent start m c cs blank break z =
+    behind_gap q indent start no_gap m c cs blank break ∙ rw z (no_front (word_from q indent start m c cs))
+
+-- a character that is no blank, break or NUL
+pub record IsContent (c : ℕ) : Type 0 where
+  pub blank : is_blank c ≡ false
+  pub break : is_break c ≡ false
+  pub nul : is_z c ≡ false
+
+pub content_of : (c : ℕ) → is_blank_or_breakz c ≡ false → IsContent c
+content_of c h =
+    let one = or_parts (is_blank c) (is_break c || is_z c) h in
+    let two = or_parts (is_break c) (is_z c) one.1 in
+    record { blank = one.0; break = two.0; nul = two.1 }
+
+literal_content : (q : Quote) (c : ℕ) → is_literal q c ≡ true → IsContent c
+unfolding is_literal
+literal_content q c h = content_of c (neither_parts (is_blank_or_breakz c) (flow.is_special q c) h).0
+
+-- what stands for itself is read
+pub stands : (q : Quote) (indent : ℕ) (start m : Marker) (c : ℕ) (cs : List ℕ) → is_literal q c ≡ true
+    → inside q indent start no_gap 0 m (c ∷ cs)
+    ≡ with_front (encode_utf8 c) (inside q indent start no_gap 0 (along m 1) cs)
+stands q indent start m c cs h =
+    let is = literal_content q c h in
+    behind_no_gap q indent start m c cs is.blank is.break is.nul ∙ rw h refl
+
+-- what was read of a word, and what is read behind it
+abbrev pub Piece : Quote → ℕ → Marker → Marker → List ℕ → ℕ → Type 0
+Piece q indent start m xs n =
+    inside q indent start no_gap 0 m xs
+    ≡ with_front (encode_utf8_all (take n xs)) (inside q indent start no_gap 0 (along m n) (drop n xs))
+
+pub no_piece : (q : Quote) (indent : ℕ) (start m : Marker) (xs : List ℕ) → Piece q indent start m xs 0
+no_piece q indent start m xs =
+    sym (no_front _) ∙ ap (λ x. with_front [] (inside q indent start no_gap 0 x xs)) (sym (along_none m))
+
+more_piece : (q : Quote) (indent : ℕ) (start m : Marker) (c : ℕ) (cs : List ℕ) (n : ℕ) → is_literal q c ≡ true
+    → Piece q indent start (along m 1) cs n → Piece q indent start m (c ∷ cs) (suc n)
+more_piece q indent start m c cs n h r =
+    stands q indent start m c cs h ∙ ap (with_front (encode_utf8 c)) r
+    ∙ front_twice (encode_utf8 c) (encode_utf8_all (take n cs)) _
+    ∙ ap (λ x. with_front (encode_utf8 c ++ encode_utf8_all (take n cs)) (inside q indent start no_gap 0 x (drop n cs)))
+    (along_more m 1 n (suc n) (omega arith))
+
+pub run_stands : (q : Quote) (indent : ℕ) (start m : Marker) (xs : List ℕ)
+    → Piece q indent start m xs (prefix_len (is_literal q) xs)
+run_stands q indent start m [] = no_piece q indent start m []
+run_stands q indent start m (c ∷ cs) =
+    let one : 1 + prefix_len (is_literal q) cs ≡ suc (prefix_len (is_literal q) cs) = omega arith in
+    by_test (is_literal q c) (1 + prefix_len (is_literal q) cs) 0 (Piece q indent start m (c ∷ cs))
+    (λ h. rw one (more_piece q indent start m c cs (prefix_len (is_literal q) cs) h
+    (run_stands q indent start (along m 1) cs)))
+    (λ h. no_piece q indent start m (c ∷ cs))
+
+-- blanks on a line
+abbrev pub Blanks : Quote → ℕ → Marker → List ℕ → Marker → List ℕ → ℕ → Type 0
+Blanks q indent start bytes m xs n =
+    inside q indent start (on_line bytes) 0 m xs
+    ≡ inside q indent start (on_line (bytes ++ encode_utf8_all (take n xs))) 0 (along m n) (drop n xs)
+
+pub one_blank : (q : Quote) (indent : ℕ) (start : Marker) (bytes : List ℕ) (m : Marker) (c : ℕ) (cs : List ℕ)
+    → is_blank c ≡ true
+    → inside q indent start (on_line bytes) 0 m (c ∷ cs)
+    ≡ inside q indent start (on_line (bytes ++ encode_utf8 c)) 0 (along m 1) cs
+unfolding inside blank_in
+one_blank q indent start bytes m c cs h = rw h refl
+
+no_blanks : (q : Quote) (indent : ℕ) (start : Marker) (bytes : List ℕ) (m : Marker) (xs : List ℕ)
+    → Blanks q indent start bytes m xs 0
+no_blanks q indent start bytes m xs =
+    ap (λ b. inside q indent start (on_line b) 0 m xs) (sym (append-nil bytes))
+    ∙ ap (λ x. inside q indent start (on_line (bytes ++ [])) 0 x xs) (sym (along_none m))
+
+pub run_blanks : (q : Quote) (indent : ℕ) (start : Marker) (bytes : List ℕ) (m : Marker) (xs : List ℕ)
+    → Blanks q indent start bytes m xs (prefix_len is_blank xs)
+run_blanks q indent start bytes m [] = no_blanks q indent start bytes m []
+run_blanks q indent start bytes m (c ∷ cs) =
+    let n = prefix_len is_blank cs in
+    let one : 1 + n ≡ suc n = omega arith in
+    by_test (is_blank c) (1 + n) 0 (Blanks q indent start bytes m (c ∷ cs))
+    (λ h. rw one
+    (one_blank q indent start bytes m c cs h ∙ run_blanks q indent start (bytes ++ encode_utf8 c) (along m 1) cs
+    ∙ ap (λ b. inside q indent start (on_line b) 0 (along (along m 1) n) (drop n cs))
+    (append_assoc bytes (encode_utf8 c) (encode_utf8_all (take n cs)))
+    ∙ ap (λ x. inside q indent start (on_line (bytes ++ (encode_utf8 c ++ encode_utf8_all (take n cs)))) 0 x
+    (drop n cs)) (along_more m 1 n (suc n) (omega arith))))
+    (λ h. no_blanks q indent start bytes m (c ∷ cs))
+
+-- NUL, or the end
+pub at_end : (q : Quote) (indent : ℕ) (start : Marker) (bytes : List ℕ) (m : Marker) (xs : List ℕ)
+    → slice_index xs 0 ≡ 0 → inside q indent start (on_line bytes) 0 m xs ≡ refuse fault.EndInsideQuotes start
+unfolding inside end_gap
+at_end q indent start bytes m [] h = refl
+at_end q indent start bytes m (c ∷ cs) h = rw h refl
+
+-- a word behind blanks
+pub flushed : (q : Quote) (indent : ℕ) (start : Marker) (bytes : List ℕ) (m : Marker) (c : ℕ) (cs : List ℕ)
+    → IsContent c
+    → inside q indent start (on_line bytes) 0 m (c ∷ cs) ≡ with_front bytes (inside q indent start no_gap 0 m (c ∷ cs))
+unfolding end_gap
+flushed q indent start bytes m c cs is =
+    behind_gap q indent start (on_line bytes) m c cs is.blank is.break ∙ rw is.nul refl
+    ∙ ap (with_front bytes) (sym (behind_no_gap q indent start m c cs is.blank is.break is.nul))
+
+pub break_cases : (c : ℕ) → is_break c ≡ true → (P : ℕ → Type 0) → P 10 → P 13 → P c
+break_cases c h P lf cr = either (nat_eq c 10) (nat_eq c 13) (P c) h
+    (λ is. let e : 10 ≡ c = grind (arith, nat_tests) in subst P e lf)
+    (λ is. let e : 13 ≡ c = grind (arith, nat_tests) in subst P e cr)
+
+-- a line break
+pub at_break : (q : Quote) (indent : ℕ) (start : Marker) (gap : Gap) (s : Cursor)
+    → is_break (slice_index s.rest 0) ≡ true
+    → inside_at q indent start gap s ≡ inside_at q indent start (break_in gap) (pass_break s)
+unfolding inside
+at_break q indent start gap s h = passes s.mark s.rest h
+  where
+    by_len : (b : Bool) (m : Marker) (c : ℕ) (cs : List ℕ)
+        → inside q indent start (break_in gap) (pred (cond b 2 1)) (next_line m (cond b 2 1)) cs
+        ≡ inside q indent start (break_in gap) 0 (next_line m (cond b 2 1)) (drop (cond b 2 1) (c ∷ cs))
+    by_len true m c cs = passed_over q indent start (break_in gap) 1 (next_line m 2) cs
+    by_len false m c cs = refl
+
+    of_len : (b : Bool) (m : Marker) (c : ℕ) (cs : List ℕ) (u : Bool)
+        → inside q indent start (break_in gap) 0 (next_line m (cond b 2 1)) (drop (cond b 2 1) (c ∷ cs))
+        ≡ inside_at q indent start (break_in gap)
+        (cond b (record { rest = drop 2 (c ∷ cs); mark = next_line m 2; blank_so_far = true })
+        (record { rest = drop 1 (c ∷ cs); mark = next_line m 1; blank_so_far = true }))
+    of_len true m c cs u = refl
+    of_len false m c cs u = refl
+
+    passes : (m : Marker) (xs : List ℕ) → is_break (slice_index xs 0) ≡ true
+        → inside q indent start gap 0 m xs
+        ≡ inside_at q indent start (break_in gap)
+        (pass_break (record { rest = xs; mark = m; blank_so_far = s.blank_so_far }))
+    passes m [] h = absurd (cc)
+    passes m (c ∷ cs) h = break_cases c h
+        (λ x. inside q indent start gap 0 m (x ∷ cs)
+        ≡ inside_at q indent start (break_in gap)
+        (pass_break (record { rest = x ∷ cs; mark = m; blank_so_far = s.blank_so_far }))) refl
+        (by_len (slice_index cs 0 == 10) m 13 cs ∙ of_len (slice_index cs 0 == 10) m 13 cs true)
+
+-- What the calls that read a part leave.
+
+pub slash_left : (xs : List ℕ) → slice_index xs 0 ≡ 92 → 0 < length xs
+slash_left [] h = absurd (cc)
+slash_left (c ∷ cs) h = omega arith
+
+-- a run that was put behind a text
+pub record Moved (p : ℕ → Bool) (text grown : List ℕ) (s t : Cursor) : Type 0 where
+  pub is : with_run p text s ≡ (grown, t)
+
+pub moved_stops : (p : ℕ → Bool) (text grown : List ℕ) (s t : Cursor) → p 0 ≡ false → Moved p text grown s t
+    → p (slice_index t.rest 0) ≡ false
+moved_stops p text grown s t none m = rw (← ap (λ (x : List ℕ × Cursor). x.1) m.is) (run_ends p s.rest none)
+
+abbrev pub SameRun : (ℕ → Bool) → List ℕ → List ℕ → Cursor → Cursor → Type 0
+SameRun p text grown s t = let r : Result (List ℕ × Cursor) Refusal = Ok (with_run p text s) in r ≡ Ok (grown, t)
+
+pub moved_of : (p : ℕ → Bool) (text grown : List ℕ) (s t : Cursor) → SameRun p text grown s t → Moved p text grown s t
+moved_of p text grown s t e = record { is = cc }
+
+-- a refusal that `?` hands on
+pub reads_refused : {X Y : Type 0} (r : Result X Stop) (before now : Result Y Refusal) (refusal : Refusal)
+    → IsErrAnd r (λ e. e ≡ stop.Refused refusal) → before ≡ Err refusal → ReadsOn r before now
+reads_refused (Ok x) before now refusal h e = absurd h
+reads_refused (Err s) before now refusal h e = subst (λ (x : Stop). Fails x before) (sym h) e

@@ -1,0 +1,191 @@
+-- The breaks inside a quoted scalar, and the lines behind them.
+use Rattle.std.proofs.Common.{◌≡◌, ℕ, zero, suc, ◌+◌, ◌<◌, ◌≤◌, Bool, true, false, List, [], ◌∷◌, ◌++◌, length, drop, length-drop, slice_index, Result, Ok, Err, refl, sym, ap, ◌∙◌, arith, subst, encode_utf8_all, nat_lt, cond, add-one, append_assoc}
+use Rattle.std.specs.Prelude.{◌&&◌, ◌==◌, encode_utf8}
+use Rattle.std.proofs.lemmas.Bool.Decides.{nat_tests}
+use Rattle.std.proofs.lemmas.List.{append-nil}
+use Rattle.saphyr_input.specs.Classes.{is_z, is_blank, is_break}
+use Rattle.saphyr_input.specs.Places.{is_document_indicator}
+use Rattle.saphyr_scalar.specs.declared.scalar.position.Marker.{Marker}
+use Rattle.saphyr_scalar.specs.declared.scalar.fault.Refusal.{Refusal}
+use Rattle.saphyr_scalar.specs.declared.scalar.fault.FaultText.TheVariants as fault
+use Rattle.saphyr_scalar.specs.declared.reading.flow.Quote.{Quote}
+use Rattle.saphyr_scalar.specs.Cursor.{Cursor, ◌>>=◌, refuse, along, pass_blanks, pass_break, next_line}
+use Rattle.saphyr_scalar.specs.Folding.{line_feeds}
+use Rattle.saphyr_scalar.proofs.Quoted.Inside.{front_twice, behind_gap, behind_no_gap, word_from, break_cases, at_break}
+use Rattle.saphyr_scalar.specs.Quoted.{TextRead, with_front, at, over_lines, no_gap, is_left, blank_in, folded_break, begin_word, end_gap, inside, inside_at}
+use Rattle.saphyr_input.proofs.Basics.Booleans.{by_test}
+use Rattle.std.proofs.lemmas.Bool.{lt-ltb}
+use Rattle.saphyr_scalar.proofs.PassedBreaks.{break_shorter}
+
+-- one line feed more
+pub one_more_feed : (n : ℕ) → encode_utf8_all (line_feeds (n + 1)) ≡ encode_utf8_all (line_feeds n) ++ encode_utf8 10
+one_more_feed n = ap (λ k. encode_utf8_all (line_feeds k)) (add-one n) ∙ again n
+  where
+    again : (n : ℕ) → encode_utf8_all (line_feeds (suc n)) ≡ encode_utf8_all (line_feeds n) ++ encode_utf8 10
+    again zero = append-nil (encode_utf8 10)
+    again (suc n) = ap (λ b. encode_utf8 10 ++ b) (again n)
+        ∙ sym (append_assoc (encode_utf8 10) (encode_utf8_all (line_feeds n)) (encode_utf8 10))
+
+-- a blank at the start of a line
+pub line_blank : (q : Quote) (indent : ℕ) (start : Marker) (escaped : Bool) (n : ℕ) (s : Cursor)
+    → is_blank (slice_index s.rest 0) ≡ true
+    → ((slice_index s.rest 0 == 9) && is_left indent s.mark) ≡ false
+    → inside_at q indent start (over_lines escaped n) (pass_blanks 1 s)
+    ≡ inside_at q indent start (over_lines escaped n) s
+unfolding inside blank_in
+line_blank q indent start escaped n s h fits = passes s.mark s.rest h fits
+  where
+    passes : (m : Marker) (xs : List ℕ) → is_blank (slice_index xs 0) ≡ true
+        → ((slice_index xs 0 == 9) && is_left indent m) ≡ false
+        → inside q indent start (over_lines escaped n) 0 (along m 1) (drop 1 xs)
+        ≡ inside q indent start (over_lines escaped n) 0 m xs
+    passes m [] h fits = absurd (cc)
+    passes m (c ∷ cs) h fits = rw (h, fits) refl
+
+-- a tab left of the indentation
+line_tab : (q : Quote) (indent : ℕ) (start : Marker) (escaped : Bool) (n : ℕ) (s : Cursor) → slice_index s.rest 0 ≡ 9
+    → is_left indent s.mark ≡ true
+    → inside_at q indent start (over_lines escaped n) s ≡ refuse fault.TabAsIndentation s.mark
+unfolding inside blank_in
+line_tab q indent start escaped n s h left = refuses s.mark s.rest h left
+  where
+    refuses : (m : Marker) (xs : List ℕ) → slice_index xs 0 ≡ 9 → is_left indent m ≡ true
+        → inside q indent start (over_lines escaped n) 0 m xs ≡ refuse fault.TabAsIndentation m
+    refuses m [] h left = absurd (cc)
+    refuses m (c ∷ cs) h left = rw (h, left) refl
+
+-- a break behind another
+pub line_break : (q : Quote) (indent : ℕ) (start : Marker) (escaped : Bool) (n : ℕ) (s : Cursor)
+    → is_break (slice_index s.rest 0) ≡ true
+    → inside_at q indent start (over_lines escaped (n + 1)) (pass_break s)
+    ≡ inside_at q indent start (over_lines escaped n) s
+line_break q indent start escaped n s h =
+    ap (λ k. inside_at q indent start (over_lines escaped k) (pass_break s)) (add-one n)
+    ∙ sym (at_break q indent start (over_lines escaped n) s h)
+
+pub fits_right : (x col indent : ℕ) → indent ≤ col → ((x == 9) && nat_lt col indent) ≡ false
+fits_right x col indent h =
+    let right : nat_lt col indent ≡ false = grind (arith, nat_tests) in rw right (never (x == 9))
+  where
+    never : (b : Bool) → (b && false) ≡ false
+    never true = refl
+    never false = refl
+
+pub fits_no_tab : (x col indent : ℕ) → (x ≡ 9 → ⊥) → ((x == 9) && nat_lt col indent) ≡ false
+fits_no_tab x col indent h = let other : (x == 9) ≡ false = grind (arith, nat_tests) in rw other refl
+
+-- the same steps, where the place is told again
+pub break_on : (q : Quote) (indent : ℕ) (start : Marker) (escaped : Bool) (n : ℕ) (s u t : Cursor)
+    → is_break (slice_index s.rest 0) ≡ true → u ≡ s → t ≡ pass_break u
+    → inside_at q indent start (over_lines escaped (n + 1)) t ≡ inside_at q indent start (over_lines escaped n) s
+break_on q indent start escaped n s u t h same on =
+    ap (inside_at q indent start (over_lines escaped (n + 1))) (on ∙ ap pass_break same)
+    ∙ line_break q indent start escaped n s h
+
+pub break_on_shorter : (s u t : Cursor) → is_break (slice_index s.rest 0) ≡ true → u ≡ s → t ≡ pass_break u
+    → length t.rest < length s.rest
+break_on_shorter s u t h same on =
+    subst (λ (x : Cursor). length x.rest < length s.rest) (sym (on ∙ ap pass_break same)) (break_shorter s h)
+
+pub blank_on : (q : Quote) (indent : ℕ) (start : Marker) (escaped : Bool) (n : ℕ) (s u t : Cursor)
+    → is_blank (slice_index s.rest 0) ≡ true
+    → ((slice_index s.rest 0 == 9) && is_left indent s.mark) ≡ false → u ≡ s → t ≡ pass_blanks 1 u
+    → inside_at q indent start (over_lines escaped n) t ≡ inside_at q indent start (over_lines escaped n) s
+blank_on q indent start escaped n s u t h fits same on =
+    ap (inside_at q indent start (over_lines escaped n)) (on ∙ ap (pass_blanks 1) same)
+    ∙ line_blank q indent start escaped n s h fits
+
+pub tab_on : (q : Quote) (indent : ℕ) (start : Marker) (escaped : Bool) (n : ℕ) (s u : Cursor)
+    → slice_index s.rest 0 ≡ 9 → u ≡ s → u.mark.col < indent
+    → inside_at q indent start (over_lines escaped n) s ≡ refuse fault.TabAsIndentation u.mark
+tab_on q indent start escaped n s u tab same left =
+    subst (λ (x : Cursor). inside_at q indent start (over_lines escaped n) s ≡ refuse fault.TabAsIndentation x.mark)
+    (sym same)
+    (line_tab q indent start escaped n s tab
+    (lt-ltb s.mark.col indent (subst (λ (x : Cursor). x.mark.col < indent) same left)))
+
+-- What begins a word on a later line.
+
+-- what is read where `begin_word` gives this
+abbrev Begins : Quote → ℕ → Marker → Bool → ℕ → Cursor → Result Cursor Refusal → Type 0
+Begins q indent start escaped n s (Ok t) =
+    (t ≡ s) × (with_front (encode_utf8_all (folded_break escaped n)) (inside_at q indent start no_gap s)
+    ≡ inside_at q indent start (over_lines escaped n) s)
+Begins q indent start escaped n s (Err r) = inside_at q indent start (over_lines escaped n) s ≡ Err r
+
+-- the tests of `begin_word`, in their order
+abbrev tests : Marker → Bool → Bool → Bool → Cursor → Result Cursor Refusal
+tests start marker nul left s =
+    cond marker (refuse fault.DocumentIndicatorInsideQuotes start)
+    (cond nul (refuse fault.EndInsideQuotes start) (cond left (refuse fault.QuotedIndentation start) (Ok s)))
+
+begins_by : (q : Quote) (indent : ℕ) (start : Marker) (escaped : Bool) (n : ℕ) (s t : Cursor) (word : TextRead)
+    (marker nul left : Bool)
+    → inside_at q indent start (over_lines escaped n) s
+    ≡ ((tests start marker nul left t >>= λ u. Ok (encode_utf8_all (folded_break escaped n))) >>= λ text. with_front
+    text word)
+    → (nul ≡ false → inside_at q indent start no_gap s ≡ word)
+    → Begins q indent start escaped n s (tests start marker nul left s)
+begins_by q indent start escaped n s t word true nul left h w = h
+begins_by q indent start escaped n s t word false true left h w = h
+begins_by q indent start escaped n s t word false false true h w = h
+begins_by q indent start escaped n s t word false false false h w =
+    (refl, ap (with_front (encode_utf8_all (folded_break escaped n))) (w refl) ∙ sym h)
+
+begins_end : (q : Quote) (indent : ℕ) (start m : Marker) (escaped : Bool) (n : ℕ) (b first left : Bool)
+    → Begins q indent start escaped n (record { rest = []; mark = m; blank_so_far = b })
+    (tests start (first && false) true left (record { rest = []; mark = m; blank_so_far = b }))
+unfolding inside
+begins_end q indent start m escaped n b true left = refl
+begins_end q indent start m escaped n b false left = refl
+
+behind_lines : (q : Quote) (indent : ℕ) (start m : Marker) (escaped : Bool) (n c : ℕ) (cs : List ℕ) → is_blank c ≡ false
+    → is_break c ≡ false
+    → inside q indent start (over_lines escaped n) 0 m (c ∷ cs)
+    ≡ ((tests start ((m.col == 0) && is_document_indicator (c ∷ cs)) (is_z c) (is_left indent m) (at m (c ∷ cs))
+    >>= λ u. Ok (encode_utf8_all (folded_break escaped n))) >>= λ text. with_front text
+    (word_from q indent start m c cs))
+unfolding end_gap begin_word
+behind_lines q indent start m escaped n c cs blank break =
+    behind_gap q indent start (over_lines escaped n) m c cs blank break
+
+begins_at : (q : Quote) (indent : ℕ) (start m : Marker) (escaped : Bool) (n : ℕ) (b : Bool) (xs : List ℕ)
+    → is_blank (slice_index xs 0) ≡ false → is_break (slice_index xs 0) ≡ false
+    → Begins q indent start escaped n (record { rest = xs; mark = m; blank_so_far = b })
+    (begin_word indent start (record { rest = xs; mark = m; blank_so_far = b }))
+unfolding begin_word
+begins_at q indent start m escaped n b [] blank break =
+    begins_end q indent start m escaped n b (m.col == 0) (is_left indent m)
+begins_at q indent start m escaped n b (c ∷ cs) blank break =
+    begins_by q indent start escaped n (record { rest = c ∷ cs; mark = m; blank_so_far = b }) (at m (c ∷ cs))
+    (word_from q indent start m c cs)
+    ((m.col == 0) && is_document_indicator (c ∷ cs)) (is_z c) (is_left indent m)
+    (behind_lines q indent start m escaped n c cs blank break)
+    (λ nul. behind_no_gap q indent start m c cs blank break nul)
+
+begins : (q : Quote) (indent : ℕ) (start : Marker) (escaped : Bool) (n : ℕ) (s : Cursor)
+    → is_blank (slice_index s.rest 0) ≡ false → is_break (slice_index s.rest 0) ≡ false
+    → Begins q indent start escaped n s (begin_word indent start s)
+begins q indent start escaped n s blank break =
+    begins_at q indent start s.mark escaped n s.blank_so_far s.rest blank break
+
+-- a word that may stand on a later line
+pub begins_word : (q : Quote) (indent : ℕ) (start : Marker) (escaped : Bool) (n : ℕ) (text : List ℕ) (s t : Cursor)
+    → is_blank (slice_index s.rest 0) ≡ false → is_break (slice_index s.rest 0) ≡ false
+    → begin_word indent start s ≡ Ok t
+    → (t ≡ s) × (with_front (text ++ encode_utf8_all (folded_break escaped n)) (inside_at q indent start no_gap t)
+    ≡ with_front text (inside_at q indent start (over_lines escaped n) s))
+begins_word q indent start escaped n text s t blank break e =
+    let r = subst (Begins q indent start escaped n s) e (begins q indent start escaped n s blank break) in (
+      r.0,
+      ap (λ u. with_front (text ++ encode_utf8_all (folded_break escaped n)) (inside_at q indent start no_gap u)) r.0
+          ∙ sym (front_twice text _ _) ∙ ap (with_front text) r.1,
+    )
+
+-- one that may not
+pub begins_refused : (q : Quote) (indent : ℕ) (start : Marker) (escaped : Bool) (n : ℕ) (text : List ℕ) (s : Cursor)
+    (refusal : Refusal) → is_blank (slice_index s.rest 0) ≡ false → is_break (slice_index s.rest 0) ≡ false
+    → begin_word indent start s ≡ Err refusal
+    → with_front text (inside_at q indent start (over_lines escaped n) s) ≡ Err refusal
+begins_refused q indent start escaped n text s refusal blank break e =
+    ap (with_front text) (subst (Begins q indent start escaped n s) e (begins q indent start escaped n s blank break))

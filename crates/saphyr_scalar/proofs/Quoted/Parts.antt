@@ -1,0 +1,237 @@
+-- What the calls that read a part of a quoted scalar leave.
+use Rattle.std.proofs.Common.{◌≡◌, ℕ, suc, ◌+◌, ◌<◌, Bool, true, false, List, [], ◌∷◌, ◌++◌, length, drop, length-drop, slice_index, Result, Ok, Err, refl, sym, ap, ◌∙◌, arith, subst, nat_eq, IsTrue}
+use Rattle.std.specs.Prelude.{◌||◌, ◌&&◌, ◌==◌, not, encode_utf8, Option, Some, None}
+use Rattle.std.proofs.lemmas.Bool.Decides.{nat_tests}
+use Rattle.saphyr_input.specs.Classes.{is_blank, is_break, is_blank_or_breakz}
+use Rattle.saphyr_input.specs.Places.{next_2_are}
+use Rattle.saphyr_scalar.specs.declared.scalar.position.Marker.{Marker}
+use Rattle.saphyr_scalar.specs.declared.scalar.fault.Refusal.{Refusal}
+use Rattle.saphyr_scalar.specs.declared.reading.flow.Quote.{Quote}
+use Rattle.saphyr_scalar.specs.declared.reading.flow.Quote.TheVariants.{Single, Double}
+use Rattle.saphyr_scalar.specs.Cursor.{Cursor, ◌>>=◌, along, pass}
+use Rattle.saphyr_scalar.proofs.Moving.{bind_same}
+use Rattle.saphyr_scalar.proofs.Quoted.Escapes.{escape_place}
+use Rattle.saphyr_scalar.proofs.Quoted.Inside.{front_twice, passed_over, behind_no_gap, run_stands, run_blanks, Moved, slash_left}
+use Rattle.saphyr_scalar.specs.Quoted.{is_literal, ends_word, simple_escape, digit_count, numbered, escape_of, escape, with_front, at, special, on_line, no_gap, inside, inside_at}
+use Rattle.std.proofs.lemmas.Bool.{eqb-true}
+use Rattle.saphyr_input.proofs.Basics.Booleans.{by_test}
+
+-- A run that was put behind a text.
+
+pub blanks_moved : (q : Quote) (indent : ℕ) (start : Marker) (bytes grown : List ℕ) (s t : Cursor)
+    → Moved is_blank bytes grown s t
+    → inside_at q indent start (on_line grown) t ≡ inside_at q indent start (on_line bytes) s
+blanks_moved q indent start bytes grown s t m =
+    subst (λ (x : List ℕ × Cursor). inside_at q indent start (on_line x.0) x.1
+    ≡ inside_at q indent start (on_line bytes) s) m.is
+    (sym (run_blanks q indent start bytes s.mark s.rest))
+
+-- Escapes, and two single quotes.
+
+bind_twice : {A B C E : Type 0} (r : Result A E) (f : A → B) (g : B → Result C E)
+    → ((r >>= λ x. Ok (f x)) >>= g) ≡ (r >>= λ x. g (f x))
+bind_twice (Ok x) f g = refl
+bind_twice (Err e) f g = refl
+
+-- an escape and what is read behind it
+pub at_escape : (indent : ℕ) (start m : Marker) (cs : List ℕ) → is_break (slice_index cs 0) ≡ false
+    → inside Double indent start no_gap 0 m (92 ∷ cs)
+    ≡ (escape start (at m (92 ∷ cs)) >>= λ e. with_front (encode_utf8 e.0)
+    (inside_at Double indent start no_gap e.1))
+unfolding is_literal special
+at_escape indent start m cs h =
+    let k = digit_count (slice_index cs 0) in
+    behind_no_gap Double indent start m 92 cs refl refl refl
+    ∙ rw h (bind_twice (escape start (at m (92 ∷ cs))) (λ e. (Some e.0, e.1)) _)
+    ∙ bind_same (escape start (at m (92 ∷ cs))) _ _ (λ e is.
+    let place : e.1 ≡ at (along m (2 + k)) (drop (2 + k) (92 ∷ cs)) = escape_place start m (92 ∷ cs) e is in
+    ap (with_front (encode_utf8 e.0))
+    (passed_over Double indent start no_gap (suc k) e.1.mark cs
+    ∙ ap (λ n. inside Double indent start no_gap 0 e.1.mark (drop n (92 ∷ cs))) (two_more k)
+    ∙ ap (λ xs. inside Double indent start no_gap 0 e.1.mark xs) (sym (ap (λ (x : Cursor). x.rest) place))))
+  where
+    two_more : (n : ℕ) → suc (suc n) ≡ 2 + n
+    two_more n = omega arith
+
+pub at_two_quotes : (indent : ℕ) (start m : Marker) (cs : List ℕ)
+    → inside Single indent start no_gap 0 m (39 ∷ 39 ∷ cs)
+    ≡ with_front (encode_utf8 39) (inside Single indent start no_gap 0 (along m 2) cs)
+unfolding is_literal special inside
+at_two_quotes indent start m cs = behind_no_gap Single indent start m 39 (39 ∷ cs) refl refl refl
+
+-- where an escape stands, and what follows it is no break
+pub record IsEscape (xs : List ℕ) : Type 0 where
+  pub cs : List ℕ
+  pub cut : xs ≡ 92 ∷ cs
+  pub goes : is_break (slice_index cs 0) ≡ false
+
+record AreTwoQuotes (xs : List ℕ) : Type 0 where
+  pub cs : List ℕ
+  pub cut : xs ≡ 39 ∷ 39 ∷ cs
+
+escape_of_test : (xs : List ℕ) → ((slice_index xs 0 == 92) && not (is_break (slice_index xs 1))) ≡ true → IsEscape xs
+escape_of_test [] h = absurd (cc)
+escape_of_test (c ∷ cs) h =
+    let two = both (c == 92) (is_break (slice_index cs 0)) h in
+    record { cs = cs; cut = ap (λ x. x ∷ cs) (sym (sym (eqb-true c 92 two.0))); goes = two.1 }
+  where
+    both : (a b : Bool) → (a && not b) ≡ true → (a ≡ true) × (b ≡ false)
+    both true false h = (refl, refl)
+    both true true h = absurd (cc)
+    both false b h = absurd (cc)
+
+two_of_test : (xs : List ℕ) → next_2_are xs 39 39 ≡ true → AreTwoQuotes xs
+two_of_test [] h = absurd (cc)
+two_of_test (c ∷ []) h = absurd (second (c == 39) h)
+  where
+    second : (a : Bool) → (a && false) ≡ true → ⊥
+    second true h = absurd (cc)
+    second false h = absurd (cc)
+two_of_test (c ∷ d ∷ cs) h =
+    let two = both (c == 39) (d == 39) h in
+    record {
+      cs = cs;
+      cut = ap (λ x. x ∷ d ∷ cs) (sym (sym (eqb-true c 39 two.0)))
+          ∙ ap (λ x. 39 ∷ x ∷ cs) (sym (sym (eqb-true d 39 two.1)));
+    }
+  where
+    both : (a b : Bool) → (a && b) ≡ true → (a ≡ true) × (b ≡ true)
+    both true true h = (refl, refl)
+    both true false h = absurd (cc)
+    both false b h = absurd (cc)
+
+of_same : (start : Marker) (letter : ℕ) (o : Option ℕ) (s : Cursor)
+    → escape_of start o letter (at s.mark s.rest) ≡ escape_of start o letter s
+unfolding escape_of numbered
+of_same start letter (Some c) s = refl
+of_same start letter None s = refl
+
+escape_same : (start : Marker) (s : Cursor) → escape start (at s.mark s.rest) ≡ escape start s
+unfolding escape
+escape_same start s = of_same start (slice_index s.rest 1) (simple_escape (slice_index s.rest 1)) s
+
+-- what is read where `special` gives this
+abbrev Reads : Quote → ℕ → Marker → Cursor → Result (Option ℕ × Cursor) Refusal → Type 0
+Reads q indent start s (Ok (Some d, t)) =
+    (inside_at q indent start no_gap s ≡ with_front (encode_utf8 d) (inside_at q indent start no_gap t))
+    × (length t.rest < length s.rest)
+Reads q indent start s (Ok (None, t)) = t ≡ s
+Reads q indent start s (Err r) = inside_at q indent start no_gap s ≡ Err r
+
+escape_on : (indent : ℕ) (start : Marker) (s : Cursor) → IsEscape s.rest
+    → inside_at Double indent start no_gap s
+    ≡ (escape start s >>= λ e. with_front (encode_utf8 e.0) (inside_at Double indent start no_gap e.1))
+escape_on indent start s is =
+    ap (inside Double indent start no_gap 0 s.mark) is.cut ∙ at_escape indent start s.mark is.cs is.goes
+    ∙ ap (λ r. r >>= λ e. with_front (encode_utf8 e.0) (inside_at Double indent start no_gap e.1))
+    (ap (λ xs. escape start (at s.mark xs)) (sym is.cut) ∙ escape_same start s)
+
+escape_shorter : (start : Marker) (s t : Cursor) (c : ℕ) → IsEscape s.rest → escape start s ≡ Ok (c, t)
+    → length t.rest < length s.rest
+escape_shorter start s t c is e =
+    let place : t ≡ at (along s.mark (2 + digit_count (slice_index s.rest 1)))
+    (drop (2 + digit_count (slice_index s.rest 1)) s.rest) =
+    escape_place start s.mark s.rest (c, t) (escape_same start s ∙ e) in
+    rw (place, length-drop) (omega (arith, slash_left s.rest (ap (λ xs. slice_index xs 0) is.cut)))
+
+escape_reads : (indent : ℕ) (start : Marker) (s : Cursor) (r : Result (ℕ × Cursor) Refusal) → IsEscape s.rest
+    → escape start s ≡ r → Reads Double indent start s (r >>= λ e. Ok (Some e.0, e.1))
+escape_reads indent start s (Ok e) is h = (
+  escape_on indent start s is
+      ∙ ap (λ r. r >>= λ e. with_front (encode_utf8 e.0) (inside_at Double indent start no_gap e.1)) h,
+  escape_shorter
+      start s e.1 e.0 is h,
+)
+escape_reads indent start s (Err r) is h =
+    escape_on indent start s is
+    ∙ ap (λ r. r >>= λ e. with_front (encode_utf8 e.0) (inside_at Double indent start no_gap e.1)) h
+
+two_quotes_read : (indent : ℕ) (start : Marker) (s : Cursor) → AreTwoQuotes s.rest
+    → Reads Single indent start s (Ok (Some 39, pass 2 s))
+two_quotes_read indent start s is = cut s.rest is.cut
+  where
+    cut : (xs : List ℕ) → xs ≡ 39 ∷ 39 ∷ is.cs
+        → (inside Single indent start no_gap 0 s.mark xs
+        ≡ with_front (encode_utf8 39) (inside Single indent start no_gap 0 (along s.mark 2) (drop 2 xs)))
+        × (length (drop 2 xs) < length xs)
+    cut xs e = rw e (at_two_quotes indent start s.mark is.cs, omega arith)
+
+special_reads : (q : Quote) (indent : ℕ) (start : Marker) (s : Cursor) → Reads q indent start s (special q start s)
+unfolding special
+special_reads Single indent start s =
+    by_test (next_2_are s.rest 39 39) _ _ (Reads Single indent start s)
+    (λ h. two_quotes_read indent start s (two_of_test s.rest h)) (λ h. refl)
+special_reads Double indent start s =
+    by_test ((slice_index s.rest 0 == 92) && not (is_break (slice_index s.rest 1))) _ _ (Reads Double indent start s)
+    (λ h. escape_reads indent start s (escape start s) (escape_of_test s.rest h) refl) (λ h. refl)
+
+pub special_moved : (q : Quote) (indent : ℕ) (start : Marker) (text : List ℕ) (s t : Cursor) (d : ℕ)
+    → special q start s ≡ Ok (Some d, t)
+    → with_front (text ++ encode_utf8 d) (inside_at q indent start no_gap t)
+    ≡ with_front text (inside_at q indent start no_gap s)
+special_moved q indent start text s t d e =
+    let r = subst (Reads q indent start s) e (special_reads q indent start s) in
+    sym (ap (with_front text) r.0 ∙ front_twice text (encode_utf8 d) _)
+
+pub special_shorter : (q : Quote) (start : Marker) (s t : Cursor) (d : ℕ) → special q start s ≡ Ok (Some d, t)
+    → length t.rest < length s.rest
+special_shorter q start s t d e = let r = subst (Reads q 0 start s) e (special_reads q 0 start s) in r.1
+
+pub special_refused : (q : Quote) (indent : ℕ) (start : Marker) (text : List ℕ) (s : Cursor) (refusal : Refusal)
+    → special q start s ≡ Err refusal
+    → with_front text (inside_at q indent start no_gap s) ≡ Err refusal
+special_refused q indent start text s refusal e =
+    ap (with_front text) (subst (Reads q indent start s) e (special_reads q indent start s))
+
+pub special_none : (q : Quote) (start : Marker) (s t : Cursor) → special q start s ≡ Ok (None, t) → t ≡ s
+special_none q start s t e = subst (Reads q 0 start s) e (special_reads q 0 start s)
+
+-- what is neither a literal nor begins such a spelling ends a word
+word_ends_single : (a b d : Bool) → (not a && not b) ≡ false → (b && d) ≡ false → IsTrue (a || (b && not d) || false)
+word_ends_single true b d h e = refl
+word_ends_single false true false h e = refl
+word_ends_single false true true h e = absurd (cc)
+word_ends_single false false d h e = absurd (cc)
+
+word_ends_double : (a b d e : Bool) → (not a && not (b || d)) ≡ false → (d && not e) ≡ false
+    → IsTrue (a || b || (d && e))
+word_ends_double true b d e h f = refl
+word_ends_double false true d e h f = refl
+word_ends_double false false true true h f = refl
+word_ends_double false false true false h f = absurd (cc)
+word_ends_double false false false e h f = absurd (cc)
+
+some_none : (d : ℕ) (s t : Cursor) → ◌≡◌ {A = Result (Option ℕ × Cursor) Refusal} (Ok (Some d, s)) (Ok (None, t)) → ⊥
+some_none d s t e =
+    let pair : ◌≡◌ {A = Option ℕ × Cursor} (Some d, s) (None, t) = cc in
+    let first : Some d ≡ None = ap (λ (x : Option ℕ × Cursor). x.0) pair in
+    absurd (cc)
+
+pub word_ends : (q : Quote) (start : Marker) (s t : Cursor) → special q start s ≡ Ok (None, t)
+    → is_literal q (slice_index s.rest 0) ≡ false → IsTrue (ends_word q s.rest)
+unfolding special is_literal
+word_ends Single start s t =
+    by_test (next_2_are s.rest 39 39) _ _
+    (λ (r : Result (Option ℕ × Cursor) Refusal). r ≡ Ok (None, t) → is_literal Single (slice_index s.rest 0) ≡ false
+    → IsTrue (ends_word Single s.rest))
+    (λ h e l. absurd (some_none 39 (pass 2 s) t e))
+    (λ h e l. word_ends_single (is_blank_or_breakz (slice_index s.rest 0)) (slice_index s.rest 0 == 39)
+    (slice_index s.rest 1 == 39) l h)
+word_ends Double start s t =
+    by_test ((slice_index s.rest 0 == 92) && not (is_break (slice_index s.rest 1))) _ _
+    (λ (r : Result (Option ℕ × Cursor) Refusal). r ≡ Ok (None, t) → is_literal Double (slice_index s.rest 0) ≡ false
+    → IsTrue (ends_word Double s.rest))
+    (λ h e l. absurd (never (escape start s) e))
+    (λ h e l. word_ends_double (is_blank_or_breakz (slice_index s.rest 0)) (slice_index s.rest 0 == 34)
+    (slice_index s.rest 0 == 92) (is_break (slice_index s.rest 1)) l h)
+  where
+    never : (r : Result (ℕ × Cursor) Refusal)
+        → ◌≡◌ {A = Result (Option ℕ × Cursor) Refusal} (◌>>=◌ {B = Option ℕ × Cursor} r (λ e. Ok (Some e.0, e.1)))
+        (Ok (None, t)) → ⊥
+    never (Ok x) e = some_none x.0 x.1 t e
+    never (Err r) e = absurd (cc)
+
+-- the same, where the character is told again
+pub gives : (r : Result (Option ℕ × Cursor) Refusal) (a b : Option ℕ) (t : Cursor) → r ≡ Ok (a, t) → a ≡ b
+    → r ≡ Ok (b, t)
+gives r a b t e is = subst (λ (x : Option ℕ). r ≡ Ok (x, t)) is e

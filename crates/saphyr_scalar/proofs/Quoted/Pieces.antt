@@ -1,0 +1,302 @@
+-- The piece of a text that is read as a quoted scalar, and what the standard reads of it.
+use Rattle.std.proofs.Common.{◌≡◌, ℕ, ◌+◌, ◌*◌, ◌<◌, Bool, true, false, List, [], ◌∷◌, ◌++◌, length, drop, slice_index, Some, None, refl, sym, ap, ◌∙◌, arith, subst, encode_utf8_all, nat_eq, nat_lt, nat_le, IsTrue, cond, append_assoc, inl, inr}
+use Rattle.std.specs.Prelude.{◌||◌, ◌&&◌, ◌==◌, not, option_map, IsFalse}
+use Rattle.std.proofs.lemmas.Bool.Decides.{nat_tests}
+use Rattle.saphyr_input.specs.Classes.{is_break, is_hex, hex_value}
+use Rattle.saphyr_input.specs.Breaks.{normalized}
+use Rattle.saphyr_scalar.specs.declared.reading.folding.Item.{Item}
+use Rattle.saphyr_scalar.specs.declared.reading.folding.Item.TheVariants.{Raw, Escaped, Break, EscapedBreak}
+use Rattle.saphyr_scalar.specs.declared.reading.flow.Quote.{Quote}
+use Rattle.saphyr_scalar.specs.declared.reading.flow.Quote.TheVariants.{Single, Double}
+use Rattle.saphyr_scalar.specs.Cursor.{Cursor}
+use Rattle.saphyr_scalar.specs.Escapes as escapes
+use Rattle.saphyr_scalar.specs.FlowReading as flow
+use Rattle.saphyr_scalar.specs.Folding.{folded}
+use Rattle.saphyr_scalar.specs.LineSpelling as line
+use Rattle.saphyr_scalar.specs.Quoted.{simple_escape, digit_count, is_scalar, break_len, quoted}
+use Rattle.saphyr_scalar.specs.QuotedSpelling as quotes
+use Rattle.saphyr_scalar.specs.Spelling.{IsSpelling, Spells, IsSpelledQuote}
+use Rattle.saphyr_scalar.proofs.Quoted.Inside.{break_cases}
+use Rattle.saphyr_scalar.proofs.Quoted.SpelledLines.{quoted_spelled}
+use Rattle.saphyr_scalar.proofs.Quoted.SpelledEscapes.{GaveText}
+use Rattle.saphyr_scalar.proofs.Quoted.SpellingsRead.{quoted_read}
+use Rattle.std.proofs.lemmas.Bool.{cond-false}
+use Rattle.saphyr_input.proofs.Basics.Characters.{normalized_other}
+
+-- The two tables of escapes agree.
+
+or_cond : {X : Type 0} (a b : Bool) (x y : X) → cond (a || b) x y ≡ cond a x (cond b x y)
+or_cond true b x y = refl
+or_cond false b x y = refl
+
+pub same_escape : (e : ℕ) → simple_escape e ≡ escapes.short_escape e
+unfolding simple_escape
+same_escape e = ap (λ r. cond (e == 48) (Some 0x00) (cond (e == 97) (Some 0x07) (cond (e == 98) (Some 0x08) r)))
+    (or_cond (e == 116) (e == 9) (Some 0x09) _)
+
+pub same_count : (e n : ℕ) → n ≡ digit_count e → 0 < n → escapes.digit_count e ≡ Some n
+same_count e n is some = by_tests (e == 120) (e == 117) (e == 85) is
+  where
+    by_tests : (a b c : Bool) → n ≡ cond a 2 (cond b 4 (cond c 8 0))
+        → cond a (Some 2) (cond b (Some 4) (cond c (Some 8) None)) ≡ Some n
+    by_tests true b c h = ap Some (sym h)
+    by_tests false true c h = ap Some (sym h)
+    by_tests false false true h = ap Some (sym h)
+    by_tests false false false h = absurd (omega arith)
+
+pub same_scalar : (n : ℕ) → IsTrue (is_scalar n) → escapes.is_scalar_value n ≡ true
+same_scalar n h = ap (λ b. nat_lt n 0xD800 || (nat_le 0xE000 n && b)) (at_most n) ∙ h
+  where
+    at_most : (n : ℕ) → nat_le n 0x10FFFF ≡ nat_lt n 0x11_0000
+    at_most n = by_bool (nat_le n 0x10FFFF) (nat_lt n 0x11_0000) refl refl
+      where
+        by_bool : (a b : Bool) → nat_le n 0x10FFFF ≡ a → nat_lt n 0x11_0000 ≡ b → a ≡ b
+        by_bool true true h k = refl
+        by_bool false false h k = refl
+        by_bool true false h k = absurd (grind (arith, nat_tests))
+        by_bool false true h k = absurd (grind (arith, nat_tests))
+
+digits_number : (v : ℕ) (ds : List ℕ) → line.AreHex ds → IsTrue (is_scalar (line.number_from v ds))
+    → escapes.hex_character v ds ≡ Some (line.number_from v ds)
+digits_number v [] hex h = rw (same_scalar v h) refl
+digits_number v (d ∷ ds) hex h = rw hex.0 (digits_number (v * 16 + hex_value d) ds hex.1 h)
+
+number_spells : (e c : ℕ) (ds : List ℕ) → line.IsNumber e c ds → escapes.hex_character 0 ds ≡ Some c
+number_spells e c ds h =
+    digits_number 0 ds h.hex (subst (λ (n : ℕ). IsTrue (is_scalar n)) (sym h.value) h.scalar) ∙ ap Some h.value
+
+-- Normalized breaks.
+
+-- a text that begins as another does
+record Begins (p xs x : List ℕ) : Type 0 where
+  first : ℕ
+  others : List ℕ
+  some : p ≡ first ∷ others
+  cut : xs ≡ p ++ x
+
+begin_same : (p xs x : List ℕ) → Begins p xs x → slice_index p 0 ≡ slice_index xs 0
+begin_same p xs x b = ap (λ (t : List ℕ). slice_index t 0) b.some
+    ∙ sym (ap (λ (t : List ℕ). slice_index t 0) (b.cut ∙ ap (λ (t : List ℕ). t ++ x) b.some))
+
+-- a break before a piece
+record BreakPiece (t p x : List ℕ) : Type 0 where
+  piece : List ℕ
+  begins : Begins piece t x
+  norm : normalized piece ≡ 10 ∷ normalized p
+
+feed_piece : (cs p x : List ℕ) → Begins p cs x → BreakPiece (10 ∷ cs) p x
+feed_piece cs p x b = record {
+  piece = 10 ∷ p;
+  begins = record { first = 10; others = p; some = refl; cut = ap (λ (t : List ℕ). 10 ∷ t) b.cut };
+  norm = refl;
+}
+
+return_piece : (cs p x : List ℕ) → (slice_index cs 0 == 10) ≡ false → Begins p cs x → BreakPiece (13 ∷ cs) p x
+return_piece cs p x h b =
+    let other : (slice_index p 0 == 10) ≡ false = ap (λ c. c == 10) (begin_same p cs x b) ∙ h in
+    record {
+      piece = 13 ∷ p;
+      begins = record { first = 13; others = p; some = refl; cut = ap (λ (t : List ℕ). 13 ∷ t) b.cut };
+      norm = rw other refl;
+    }
+
+both_piece : (cs p x : List ℕ) → Begins p (drop 1 cs) x → (slice_index cs 0 == 10) ≡ true → BreakPiece (13 ∷ cs) p x
+both_piece [] p x b h = absurd (cc)
+both_piece (d ∷ cs) p x b h =
+    let is : d ≡ 10 = number d h in
+    record {
+      piece = 13 ∷ 10 ∷ p;
+      begins = record {
+        first =
+            13;
+        others = 10 ∷ p;
+        some =
+            refl;
+        cut = ap (λ (n : ℕ). 13 ∷ n ∷ cs) is ∙ ap (λ (t : List ℕ). 13 ∷ 10 ∷ t) b.cut;
+      };
+      norm = refl;
+    }
+  where
+    number : (d : ℕ) → nat_eq d 10 ≡ true → d ≡ 10
+    number d h = grind (arith, nat_tests)
+
+break_piece : (t p x : List ℕ) → is_break (slice_index t 0) ≡ true → Begins p (drop (break_len t) t) x
+    → BreakPiece t p x
+break_piece [] p x h = absurd (cc)
+break_piece (c ∷ cs) p x h =
+    break_cases c h (λ k. Begins p (drop (break_len (k ∷ cs)) (k ∷ cs)) x → BreakPiece (k ∷ cs) p x)
+    (λ b. feed_piece cs p x b) (λ b. returns (slice_index cs 0 == 10) refl b)
+  where
+    returns : (two : Bool) → (slice_index cs 0 == 10) ≡ two → Begins p (drop (cond two 2 1) (13 ∷ cs)) x
+        → BreakPiece (13 ∷ cs) p x
+    returns true is b = both_piece cs p x b is
+    returns false is b = return_piece cs p x is b
+
+-- the piece of what stands behind the opening quote
+record TextPiece (q : Quote) (xs : List ℕ) (items : List Item) (x : List ℕ) : Type 0 where
+  piece : List ℕ
+  begins : Begins piece xs x
+  inside : List ℕ
+  spells : Spells q items inside
+  norm : normalized piece ≡ inside ++ flow.mark q ∷ []
+
+raw_spelling : (q : Quote) (item : Item) (c : ℕ) → IsFalse (flow.is_special q c) → item ≡ flow.raw_item c
+    → IsSpelling q item (c ∷ [])
+raw_spelling Single item c h e = inl (c, h, e, refl)
+raw_spelling Double item c h e = inl (c, h, e, refl)
+
+-- one character or more before a piece
+longer : (q : Quote) (item : Item) (xs t : List ℕ) (items : List Item) (x front piece : List ℕ)
+    (p : TextPiece q t items x) → IsSpelling q item front → Begins piece xs x
+    → normalized piece ≡ front ++ normalized p.piece → TextPiece q xs (item ∷ items) x
+longer q item xs t items x front piece p spelled begins norm = record {
+  piece = piece;
+  begins = begins;
+  inside = front ++ p.inside;
+  spells = (front, p.inside, spelled, p.spells, refl);
+  norm = norm ∙ ap (λ (r : List ℕ). front ++ r) p.norm ∙ sym (append_assoc front p.inside (flow.mark q ∷ []));
+}
+
+begin_more : (c : ℕ) (p t x : List ℕ) → t ≡ p ++ x → Begins (c ∷ p) (c ∷ t) x
+begin_more c p t x e = record { first = c; others = p; some = refl; cut = ap (λ (r : List ℕ). c ∷ r) e }
+
+mark_piece : (q : Quote) (x : List ℕ) → TextPiece q (flow.mark q ∷ x) [] x
+mark_piece Single x = record {
+  piece =
+      39 ∷ [];
+  begins = begin_more 39 [] x x refl;
+  inside = [];
+  spells = refl;
+  norm = refl;
+}
+mark_piece Double x = record {
+  piece =
+      34 ∷ [];
+  begins = begin_more 34 [] x x refl;
+  inside = [];
+  spells = refl;
+  norm = refl;
+}
+
+record Itself (q : Quote) (c : ℕ) : Type 0 where
+  no_return : (c == 13) ≡ false
+  plain : IsFalse (flow.is_special q c)
+
+itself_of : (q : Quote) (c : ℕ) → IsTrue (quotes.stands_for_itself q c) → Itself q c
+itself_of q c h = by_tests (c == 10) (c == 13) (c == 0) (flow.is_special q c) refl refl h
+  where
+    by_tests : (a b z d : Bool) → (c == 13) ≡ b → flow.is_special q c ≡ d → (not ((a || b) || z) && not d) ≡ true
+        → Itself q c
+    by_tests false false false false r s h = record { no_return = r; plain = s }
+    by_tests true b z d r s h = absurd (cc)
+    by_tests false true z d r s h = absurd (cc)
+    by_tests false false true d r s h = absurd (cc)
+    by_tests false false false true r s h = absurd (cc)
+
+no_return_simple : (e c : ℕ) → simple_escape e ≡ Some c → (e == 13) ≡ false
+unfolding simple_escape
+no_return_simple e c h = by_test (e == 13) refl
+  where
+    number : (e : ℕ) → nat_eq e 13 ≡ true → e ≡ 13
+    number e h = grind (arith, nat_tests)
+
+    none : (e : ℕ) → e ≡ 13 → simple_escape e ≡ None
+    none e is = rw is refl
+
+    by_test : (b : Bool) → (e == 13) ≡ b → b ≡ false
+    by_test true is = let n = none e (number e is) in absurd (cc)
+    by_test false is = refl
+
+no_return_count : (e n : ℕ) → n ≡ digit_count e → 0 < n → (e == 13) ≡ false
+no_return_count e n is some = by_test (e == 13) refl
+  where
+    number : (e : ℕ) → nat_eq e 13 ≡ true → e ≡ 13
+    number e h = grind (arith, nat_tests)
+
+    by_test : (b : Bool) → (e == 13) ≡ b → b ≡ false
+    by_test true h = let none : digit_count e ≡ 0 = ap digit_count (number e h) in absurd (omega arith)
+    by_test false h = refl
+
+no_return_hex : (d : ℕ) → IsTrue (is_hex d) → (d == 13) ≡ false
+no_return_hex d h = by_test (d == 13) refl
+  where
+    number : (e : ℕ) → nat_eq e 13 ≡ true → e ≡ 13
+    number e h = grind (arith, nat_tests)
+
+    by_test : (b : Bool) → (d == 13) ≡ b → b ≡ false
+    by_test true is = let no : is_hex d ≡ false = ap is_hex (number d is) in absurd (cc)
+    by_test false is = refl
+
+digits_same : (ds p : List ℕ) → line.AreHex ds → normalized (ds ++ p) ≡ ds ++ normalized p
+digits_same [] p h = refl
+digits_same (d ∷ ds) p h =
+    normalized_other d (ds ++ p) (no_return_hex d h.0) ∙ ap (λ (r : List ℕ). d ∷ r) (digits_same ds p h.1)
+
+text_piece : (q : Quote) (xs : List ℕ) (items : List Item) (x : List ℕ) → quotes.IsText q xs items x
+    → TextPiece q xs items x
+text_piece _ _ _ _ (quotes.closed q x h) = mark_piece q x
+text_piece _ _ _ _ (quotes.itself q c t items x h r) =
+    let p = text_piece q t items x r in
+    let is = itself_of q c h in
+    longer q (flow.raw_item c) (c ∷ t) t items x (c ∷ []) (c ∷ p.piece) p
+    (raw_spelling q (flow.raw_item c) c is.plain refl) (begin_more c p.piece t x p.begins.cut)
+    (normalized_other c p.piece is.no_return)
+text_piece _ _ _ _ (quotes.broken q t items x h r) =
+    let p = text_piece q (drop (break_len t) t) items x r in
+    let b = break_piece t p.piece x h p.begins in
+    longer q Break t (drop (break_len t) t) items x (10 ∷ []) b.piece p (raw_spelling q Break 10 (plain q) refl)
+    b.begins b.norm
+  where
+    plain : (q : Quote) → IsFalse (flow.is_special q 10)
+    plain Single = refl
+    plain Double = refl
+text_piece _ _ _ _ (quotes.two_quotes t items x r) =
+    let p = text_piece Single t items x r in
+    longer Single (Raw 39) (39 ∷ 39 ∷ t) t items x (39 ∷ 39 ∷ []) (39 ∷ 39 ∷ p.piece) p (inr (refl, refl))
+    (begin_more 39 (39 ∷ p.piece) (39 ∷ t) x (ap (λ (l : List ℕ). 39 ∷ l) p.begins.cut)) refl
+text_piece _ _ _ _ (quotes.escaped e c t items x h r) =
+    let p = text_piece Double t items x r in
+    longer Double (Escaped c) (92 ∷ e ∷ t) t items x (92 ∷ e ∷ []) (92 ∷ e ∷ p.piece) p
+    (inr (e ∷ [], inl (e, sym (same_escape e) ∙ h, refl), refl))
+    (begin_more 92 (e ∷ p.piece) (e ∷ t) x (ap (λ (l : List ℕ). e ∷ l) p.begins.cut))
+    (ap (λ (l : List ℕ). 92 ∷ l) (normalized_other e p.piece (no_return_simple e c h)))
+text_piece _ _ _ _ (quotes.numbered e c ds t items x h r) =
+    let p = text_piece Double t items x r in
+    longer Double (Escaped c) (92 ∷ e ∷ (ds ++ t)) t items x (92 ∷ e ∷ ds) (92 ∷ e ∷ (ds ++ p.piece)) p
+    (inr (e ∷ ds, inr (e, ds, same_count e (length ds) h.count h.some, number_spells e c ds h, refl), refl))
+    (begin_more 92 (e ∷ (ds ++ p.piece)) (e ∷ (ds ++ t)) x
+    (ap (λ (l : List ℕ). e ∷ (ds ++ l)) p.begins.cut
+    ∙ ap (λ (l : List ℕ). e ∷ l) (sym (append_assoc ds p.piece x))))
+    (ap (λ (l : List ℕ). 92 ∷ l)
+    (normalized_other e (ds ++ p.piece) (no_return_count e (length ds) h.count h.some)
+    ∙ ap (λ (l : List ℕ). e ∷ l) (digits_same ds p.piece h.hex)))
+text_piece _ _ _ _ (quotes.escaped_break t items x h r) =
+    let p = text_piece Double (drop (break_len t) t) items x r in
+    let b = break_piece t p.piece x h p.begins in
+    longer Double EscapedBreak (92 ∷ t) (drop (break_len t) t) items x (92 ∷ 10 ∷ []) (92 ∷ b.piece) p
+    (inr (10 ∷ [], refl, refl))
+    (begin_more 92 b.piece t x b.begins.cut) (ap (λ (l : List ℕ). 92 ∷ l) b.norm)
+
+normal_mark : (q : Quote) (p : List ℕ) → normalized (flow.mark q ∷ p) ≡ flow.mark q ∷ normalized p
+normal_mark Single p = refl
+normal_mark Double p = refl
+
+-- What is read as a quoted scalar is the value of the piece that it takes.
+pub quoted_reading : (q : Quote) (indent : ℕ) (t : Cursor) (b : List ℕ) (s : Cursor)
+    → slice_index t.rest 0 ≡ flow.mark q → GaveText (quoted q indent t) b s
+    → (piece : List ℕ) × (v : List ℕ) × (t.rest ≡ piece ++ s.rest) × (flow.quoted_value q (normalized piece) ≡ Some v)
+    × (encode_utf8_all v ≡ b)
+quoted_reading q indent t b s quote g =
+    let (items, is, bytes, passed) = quoted_spelled q indent t b s quote g in
+    let (rest, cut, text) = is in
+    let p = text_piece q rest items s.rest text in
+    let spelled : IsSpelledQuote q items (normalized (flow.mark q ∷ p.piece)) =
+    (p.inside, p.spells, normal_mark q p.piece ∙ ap (λ (l : List ℕ). flow.mark q ∷ l) p.norm) in (
+      flow.mark q ∷ p.piece,
+      folded items,
+      cut
+          ∙ ap (λ (l : List ℕ). flow.mark q ∷ l) p.begins.cut,
+      ap (option_map folded)
+          (quoted_read q items (normalized (flow.mark q ∷ p.piece)) spelled),
+      bytes,
+    )

@@ -1,0 +1,223 @@
+-- A quoted scalar is refused where it begins, or at a tab in the indentation of a line.
+use Rattle.std.proofs.Common.{◌≡◌, ℕ, zero, suc, ◌+◌, Bool, true, false, List, [], ◌∷◌, drop, slice_index, Result, Ok, Err, refl, sym, ap, ◌∙◌, arith, subst, encode_utf8}
+use Rattle.std.specs.Prelude.{◌&&◌, ◌||◌, ◌==◌, not, pred, Option, Some, None}
+use Rattle.saphyr_input.specs.Classes.{is_blank, is_break, is_hex, is_z}
+use Rattle.saphyr_input.specs.Places.{next_2_are, is_document_indicator}
+use Rattle.saphyr_scalar.specs.declared.reading.flow.Quote.{Quote}
+use Rattle.saphyr_scalar.specs.declared.reading.flow.Quote.TheVariants.{Single, Double}
+use Rattle.saphyr_scalar.specs.declared.scalar.fault.Refusal.{Refusal}
+use Rattle.saphyr_scalar.specs.declared.scalar.position.Marker.{Marker}
+use Rattle.saphyr_scalar.specs.Cursor.{Cursor, ◌>>=◌, along, next_line, pass}
+use Rattle.saphyr_scalar.specs.FlowReading as flow
+use Rattle.saphyr_scalar.specs.Passing.{IsPassed, nothing, character, line_break}
+use Rattle.saphyr_scalar.specs.Quoted.{is_literal, simple_escape, digit_count, is_scalar, digits, numbered, escape_of, escape, TextRead, with_front, at, special, special_len, Gap, on_line, over_lines, no_gap, is_left, blank_in, break_in, begin_word, end_gap, escaped_gap, break_len, if_some, inside, quoted}
+use Rattle.saphyr_scalar.specs.Quoted as reading
+use Rattle.saphyr_scalar.specs.RefusedInside.{IsRefusedInside}
+use Rattle.saphyr_scalar.proofs.Quoted.Escapes.{escape_place}
+use Rattle.saphyr_scalar.proofs.Moving.{along_more}
+use Rattle.saphyr_scalar.proofs.Block.PlacedHeaders.{passed_passed}
+use Rattle.saphyr_scalar.proofs.Quoted.Inside.{IsContent}
+use Rattle.saphyr_scalar.proofs.RefusedOnWay.{inside_at, inside_start, one_more_passed}
+use Rattle.saphyr_scalar.proofs.Refusals.{Refused, RefusedAt, refused_bind, refused_more, front_refused}
+use Rattle.saphyr_scalar.proofs.Quoted.SpelledEscapes.{escape_spelled, no_escape}
+use Rattle.saphyr_scalar.proofs.Quoted.SpelledLines.{gap_ended, special_of}
+use Rattle.saphyr_input.proofs.Basics.Booleans.{and_true_left, and_true_right, by_test}
+use Rattle.std.proofs.lemmas.Bool.{eqb-true}
+use Rattle.saphyr_input.proofs.Basics.Characters.{blank_no_break}
+use Rattle.saphyr_scalar.proofs.NoBreaks.{mark_no_break}
+
+-- ## Escapes and gaps, which are refused where the scalar begins
+
+digits_refused : (start : Marker) (n v : ℕ) (s : Cursor) → RefusedAt start (digits start n v s)
+unfolding digits
+digits_refused start zero v s = tt
+digits_refused start (suc n) v s =
+    by_test (is_hex (slice_index s.rest 0)) _ _ (RefusedAt start) (λ _. digits_refused start n _ (pass 1 s)) (λ _. refl)
+
+numbered_refused : (start : Marker) (n : ℕ) (s : Cursor) → RefusedAt start (numbered start n s)
+unfolding numbered reading.character
+numbered_refused start n s =
+    by_test (n == 0) _ _ (RefusedAt start) (λ _. refl)
+    (λ _. refused_bind (λ e. e.mark ≡ start) (digits start n 0 (pass 2 s)) _ (digits_refused start n 0 (pass 2 s))
+    (λ x _. by_test (is_scalar x.0) _ _ (RefusedAt start) (λ _. tt) (λ _. refl)))
+
+escape_refused : (start : Marker) (s : Cursor) → RefusedAt start (escape start s)
+unfolding escape escape_of
+escape_refused start s = of (simple_escape (slice_index s.rest 1)) (slice_index s.rest 1)
+  where
+    of : (o : Option ℕ) (letter : ℕ) → RefusedAt start (escape_of start o letter s)
+    of (Some c) letter = tt
+    of None letter = numbered_refused start (digit_count letter) s
+
+word_refused : (indent : ℕ) (start : Marker) (s : Cursor) → RefusedAt start (begin_word indent start s)
+unfolding begin_word
+word_refused indent start s =
+    by_test ((s.mark.col == 0) && is_document_indicator s.rest) _ _ (RefusedAt start) (λ _. refl)
+    (λ _. by_test (is_z (slice_index s.rest 0)) _ _ (RefusedAt start) (λ _. refl)
+    (λ _. by_test (is_left indent s.mark) _ _ (RefusedAt start) (λ _. refl) (λ _. tt)))
+
+gap_refused : (indent : ℕ) (start : Marker) (gap : Gap) (s : Cursor) → RefusedAt start (end_gap indent start gap s)
+unfolding end_gap
+gap_refused indent start (on_line bytes) s =
+    by_test (is_z (slice_index s.rest 0)) _ _ (RefusedAt start) (λ _. refl) (λ _. tt)
+gap_refused indent start (over_lines escaped n) s =
+    refused_bind (λ e. e.mark ≡ start) (begin_word indent start s) _ (word_refused indent start s) (λ _ _. tt)
+
+-- a tab is refused where it stands
+blank_refused : (indent : ℕ) (gap : Gap) (m : Marker) (c : ℕ) → RefusedAt m (blank_in indent gap m c)
+unfolding blank_in
+blank_refused indent (on_line bytes) m c = tt
+blank_refused indent (over_lines escaped n) m c =
+    by_test ((c == 9) && is_left indent m) _ _ (RefusedAt m) (λ _. refl) (λ _. tt)
+
+-- ## A character of several characters
+
+-- its characters are passed; where none stands, a break does behind a backslash, or the closing quote
+abbrev SpecialTold : Quote → Marker → Marker → ℕ → List ℕ → Result (Option ℕ × Cursor) Refusal → Type 0
+SpecialTold q start m c cs (Ok (Some d, t)) = IsPassed m (c ∷ cs) t.mark (drop (special_len q (slice_index cs 0)) cs)
+SpecialTold q start m c cs (Ok (None, t)) =
+    (c == flow.mark q) ≡ false → (is_break c ≡ false) × (is_break (slice_index cs 0) ≡ true)
+SpecialTold q start m c cs (Err e) = e.mark ≡ start
+
+two_passed : (m : Marker) (c : ℕ) (cs : List ℕ) → is_break c ≡ false → (slice_index cs 0 == 39) ≡ true
+    → IsPassed m (c ∷ cs) (along m 2) (drop 1 cs)
+two_passed m c [] e f = absurd (cc)
+two_passed m c (d ∷ ds) e f =
+    let quote : is_break d ≡ false = ap is_break (eqb-true d 39 f) in
+    subst (λ (k : Marker). IsPassed m (c ∷ d ∷ ds) k ds) (along_more m 1 1 2 refl)
+    (character m c (d ∷ ds) _ ds e (character (along m 1) d ds _ ds quote (nothing _ ds)))
+
+escape_passed : (start m : Marker) (cs : List ℕ) (x : ℕ × Cursor) → escape start (at m (92 ∷ cs)) ≡ Ok x
+    → IsPassed m (92 ∷ cs) x.1.mark (drop (suc (digit_count (slice_index cs 0))) cs)
+escape_passed start m [] x e = absurd (no_escape start m x.0 x.1 e)
+escape_passed start m (d ∷ ds) x e =
+    let k = digit_count d in
+    let two : 2 + k ≡ suc (suc k) = omega arith in
+    let rest : x.1.rest ≡ drop (suc k) (d ∷ ds) = ap (λ (u : Cursor). u.rest) (escape_place start m (92 ∷ d ∷ ds) x e)
+    ∙ ap (λ n. drop n (92 ∷ d ∷ ds)) two in
+    subst (λ u. IsPassed m (92 ∷ d ∷ ds) x.1.mark u) rest
+    ((escape_spelled start m d ds x.0 x.1 e).passes x.1.mark x.1.rest (nothing x.1.mark x.1.rest))
+
+special_told : (q : Quote) (start m : Marker) (c : ℕ) (cs : List ℕ) → IsContent c → is_literal q c ≡ false
+    → SpecialTold q start m c cs (special q start (at m (c ∷ cs)))
+unfolding special
+special_told Single start m c cs is plain =
+    by_test (next_2_are (c ∷ cs) 39 39) _ _ (SpecialTold Single start m c cs)
+    (λ e. two_passed m c cs is.break (and_true_right (c == 39) (slice_index cs 0 == 39) e))
+    (λ _ other. absurd (let quote : (c == 39) ≡ true = special_of Single c is plain in cc))
+special_told Double start m c cs is plain =
+    by_test ((c == 92) && not (is_break (slice_index cs 0))) _ _ (SpecialTold Double start m c cs)
+    (λ e. backslash (eqb-true c 92 (and_true_left (c == 92) (not (is_break (slice_index cs 0))) e)))
+    (λ e other. (
+      is.break,
+      breaks (c == 34) (c == 92) (is_break (slice_index cs 0)) other (special_of Double c is plain)
+          e,
+    ))
+  where
+    breaks : (a b d : Bool) → a ≡ false → (a || b) ≡ true → (b && not d) ≡ false → d ≡ true
+    breaks a b true h k e = refl
+    breaks true b false h k e = absurd (cc)
+    breaks false true false h k e = absurd (cc)
+    breaks false false false h k e = absurd (cc)
+
+    behind : List ℕ
+    behind = drop (suc (digit_count (slice_index cs 0))) cs
+
+    by : (r : Result (ℕ × Cursor) Refusal) → RefusedAt start r
+        → ((x : ℕ × Cursor) → r ≡ Ok x → IsPassed m (c ∷ cs) x.1.mark behind)
+        → SpecialTold Double start m c cs (r >>= λ e. Ok (Some e.0, e.1))
+    by (Ok x) h k = k x refl
+    by (Err e) h k = h
+
+    backslash : c ≡ 92 → SpecialTold Double start m c cs (escape start (at m (c ∷ cs)) >>= λ e. Ok (Some e.0, e.1))
+    backslash same = by (escape start (at m (c ∷ cs))) (escape_refused start (at m (c ∷ cs)))
+        (λ x e. subst (λ d. IsPassed m (d ∷ cs) x.1.mark behind) (sym same)
+        (escape_passed start m cs x (ap (λ d. escape start (at m (d ∷ cs))) (sym same) ∙ e)))
+
+-- ## The scalar
+
+one_break : (s : Cursor) (m : Marker) (t : List ℕ) → IsPassed s.mark s.rest m t → is_break (slice_index t 0) ≡ true
+    → IsPassed s.mark s.rest (next_line m (break_len t)) (drop (break_len t) t)
+one_break s m t p e =
+    let k : Marker = next_line m (break_len t) in
+    let u = drop (break_len t) t in
+    passed_passed s.mark s.rest m t k u p (line_break m t k u e (nothing k u))
+
+behind_break : (c : ℕ) (cs : List ℕ) → drop (break_len (c ∷ cs)) (c ∷ cs) ≡ drop (pred (break_len (c ∷ cs))) cs
+behind_break c cs = by_test (next_2_are (c ∷ cs) 13 10) 2 1 (λ n. drop n (c ∷ cs) ≡ drop (pred n) cs) (λ _. refl)
+    (λ _. refl)
+
+inside_refused : (q : Quote) (indent : ℕ) (s : Cursor) (gap : Gap) (k : ℕ) (m : Marker) (t : List ℕ)
+    → IsPassed s.mark s.rest m (drop k t)
+    → Refused (IsRefusedInside s) (inside q indent s.mark gap k m t)
+unfolding inside
+inside_refused q indent s gap k m [] p = (s.rest, nothing s.mark s.rest)
+inside_refused q indent s gap zero m (c ∷ cs) p =
+    let P = IsRefusedInside s in
+    let start = s.mark in
+    let here : Cursor = at m (c ∷ cs) in
+    let special_end = drop (special_len q (slice_index cs 0)) cs in
+    let others = λ (g : Gap) (h : is_break c ≡ false). inside_refused q indent s g 0 (along m 1) cs
+    (one_more_passed s m c cs p h) in
+    by_test (is_blank c) _ _ (Refused P)
+    (λ blank. refused_bind P (blank_in indent gap m c) _
+    (refused_more (λ e. e.mark ≡ m) P (blank_in indent gap m c) (blank_refused indent gap m c) (inside_at s here p))
+    (λ g _. others g (blank_no_break c blank)))
+    (λ no_blank. by_test (is_break c) _ _ (Refused P)
+    (λ breaks. let n = break_len (c ∷ cs) in
+    inside_refused q indent s (break_in gap) (pred n) (next_line m n) cs
+    (subst (λ u. IsPassed s.mark s.rest (next_line m n) u) (behind_break c cs) (one_break s m (c ∷ cs) p breaks)))
+    (λ no_break. refused_bind P (end_gap indent start gap here) _
+    (refused_more (λ e. e.mark ≡ start) P (end_gap indent start gap here) (gap_refused indent start gap here)
+    (inside_start s)) (λ text ended.
+    let is : IsContent c = record {
+      blank = no_blank;
+      break = no_break;
+      nul =
+          (gap_ended indent start gap here text ended).nul;
+    } in
+    front_refused P text _
+    (by_test (is_literal q c) _ _ (Refused P) (λ _. front_refused P (encode_utf8 c) _ (others no_gap no_break))
+    (λ no_literal. refused_bind P (special q start (at m (c ∷ cs))) _
+    (refused_of_told (special q start (at m (c ∷ cs))) (special_told q start m c cs is no_literal)) (λ x e.
+    let told = subst (SpecialTold q start m c cs) e (special_told q start m c cs is no_literal) in
+    let escaped = λ (d : ℕ) (passed : IsPassed m (c ∷ cs) x.1.mark special_end).
+    front_refused P (encode_utf8 d) _
+    (inside_refused q indent s no_gap (special_len q (slice_index cs 0)) x.1.mark cs
+    (passed_passed s.mark s.rest m (c ∷ cs) x.1.mark special_end p passed)) in
+    let n = break_len cs in
+    let broken = λ (h : is_break (slice_index cs 0) ≡ true).
+    inside_refused q indent s (escaped_gap q (slice_index (drop n cs) 0)) n (next_line (along m 1) n) cs
+    (one_break s (along m 1) cs (one_more_passed s m c cs p no_break) h) in
+    behind x.0 x.1 told _ _ escaped
+    (λ h. by_test (c == flow.mark q) _ _ (Refused P) (λ _. tt) (λ other. broken (h other).1))))))))
+  where
+    refused_of_told : (r : Result (Option ℕ × Cursor) Refusal) → SpecialTold q s.mark m c cs r
+        → Refused (IsRefusedInside s) r
+    refused_of_told (Ok x) h = tt
+    refused_of_told (Err e) h = inside_start s e h
+
+    behind : (o : Option ℕ) (u : Cursor) → SpecialTold q s.mark m c cs (Ok (o, u)) → (f : ℕ → TextRead) (r : TextRead)
+        → ((d : ℕ) → IsPassed m (c ∷ cs) u.mark (drop (special_len q (slice_index cs 0)) cs)
+        → Refused (IsRefusedInside s) (f d))
+        → (((c == flow.mark q) ≡ false → (is_break c ≡ false) × (is_break (slice_index cs 0) ≡ true))
+        → Refused (IsRefusedInside s) r)
+        → Refused (IsRefusedInside s) (if_some o f r)
+    behind (Some d) u told f r some none = some d told
+    behind None u told f r some none = none told
+inside_refused q indent s gap (suc k) m (c ∷ cs) p = inside_refused q indent s gap k m cs p
+
+pub quoted_refused : (q : Quote) (indent : ℕ) (s : Cursor) → slice_index s.rest 0 ≡ flow.mark q
+    → Refused (IsRefusedInside s) (quoted q indent s)
+unfolding quoted
+quoted_refused q indent s begins =
+    inside_refused q indent s no_gap 0 (along s.mark 1) (drop 1 s.rest) (first s.rest begins)
+  where
+    first : (t : List ℕ) → slice_index t 0 ≡ flow.mark q → IsPassed s.mark t (along s.mark 1) (drop 1 t)
+    first [] e = absurd (no_mark q e)
+      where
+        no_mark : (q : Quote) → 0 ≡ flow.mark q → ⊥
+        no_mark Single e = omega arith
+        no_mark Double e = omega arith
+    first (c ∷ cs) e = character s.mark c cs (along s.mark 1) cs (ap is_break e ∙ mark_no_break q)
+        (nothing (along s.mark 1) cs)

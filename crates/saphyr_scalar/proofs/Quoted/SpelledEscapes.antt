@@ -1,0 +1,176 @@
+-- What is read as an escape is spelled so.
+use Rattle.std.proofs.Common.{◌≡◌, ℕ, zero, suc, ◌+◌, ◌*◌, ◌<◌, ◌≤◌, true, false, List, [], ◌∷◌, ◌++◌, length, length-append, drop, slice_index, Result, Ok, Err, refl, sym, ap, ◌∙◌, arith, subst, nat_eq, IsTrue}
+use Rattle.std.specs.Prelude.{Option, Some, None}
+use Rattle.std.proofs.lemmas.Bool.Decides.{nat_tests}
+use Rattle.saphyr_input.specs.Classes.{is_hex, hex_value}
+use Rattle.saphyr_scalar.specs.declared.scalar.position.Marker.{Marker}
+use Rattle.saphyr_scalar.specs.declared.scalar.fault.Refusal.{Refusal}
+use Rattle.saphyr_scalar.specs.declared.reading.folding.Item.{Item}
+use Rattle.saphyr_scalar.specs.declared.reading.folding.Item.TheVariants.{Escaped}
+use Rattle.saphyr_scalar.specs.declared.reading.flow.Quote.TheVariants.{Double}
+use Rattle.saphyr_scalar.specs.Cursor.{Cursor, ◌>>=◌, along, pass}
+use Rattle.saphyr_scalar.specs.Quoted.{simple_escape, digit_count, is_scalar, digits, character, numbered, escape_of, escape, with_front, at}
+use Rattle.saphyr_scalar.specs.LineSpelling as spelling
+use Rattle.saphyr_scalar.proofs.Quoted.Clean as quotes
+use Rattle.saphyr_scalar.specs.Passing.{IsPassed}
+use Rattle.saphyr_scalar.specs.Passing as passing
+use Rattle.saphyr_scalar.proofs.Passings.{letter_passed, hex_no_break}
+use Rattle.saphyr_scalar.proofs.Quoted.Spellings.{no_break_simple, no_break_digits}
+use Rattle.saphyr_input.proofs.Basics.Booleans.{by_test}
+
+-- a reading that gave something
+abbrev pub Gave : Result (ℕ × Cursor) Refusal → ℕ → Cursor → Type 0
+Gave r c s = r ≡ Ok (c, s)
+
+abbrev pub GaveText : Result (List ℕ × Cursor) Refusal → List ℕ → Cursor → Type 0
+GaveText r b s = r ≡ Ok (b, s)
+
+pub nothing : {X : Type 0} (r : Refusal) (c : ℕ) (s : Cursor) → Gave (Err r) c s → X
+nothing r c s e = absurd (cc)
+
+pub nothing_text : {X : Type 0} (r : Refusal) (b : List ℕ) (s : Cursor) → GaveText (Err r) b s → X
+nothing_text r b s e = absurd (cc)
+
+gave_first : (a c : ℕ) (s t : Cursor) → Gave (Ok (a, s)) c t → a ≡ c
+gave_first a c s t e =
+    let pair : ◌≡◌ {A = ℕ × Cursor} (a, s) (c, t) = cc in
+    ap (λ (x : ℕ × Cursor). x.0) pair
+
+gave_second : (a c : ℕ) (s t : Cursor) → Gave (Ok (a, s)) c t → s ≡ t
+gave_second a c s t e =
+    let pair : ◌≡◌ {A = ℕ × Cursor} (a, s) (c, t) = cc in
+    ap (λ (x : ℕ × Cursor). x.1) pair
+
+pub text_first : (a b : List ℕ) (s t : Cursor) → GaveText (Ok (a, s)) b t → a ≡ b
+text_first a b s t e =
+    let pair : ◌≡◌ {A = List ℕ × Cursor} (a, s) (b, t) = cc in
+    ap (λ (x : List ℕ × Cursor). x.0) pair
+
+pub text_second : (a b : List ℕ) (s t : Cursor) → GaveText (Ok (a, s)) b t → s ≡ t
+text_second a b s t e =
+    let pair : ◌≡◌ {A = List ℕ × Cursor} (a, s) (b, t) = cc in
+    ap (λ (x : List ℕ × Cursor). x.1) pair
+
+-- digits that were read
+record Digits (v n : ℕ) (m : Marker) (xs : List ℕ) (w : ℕ) (s : Cursor) : Type 0 where
+  ds : List ℕ
+  split : xs ≡ ds ++ s.rest
+  count : length ds ≡ n
+  hex : spelling.AreHex ds
+  value : spelling.number_from v ds ≡ w
+  passes : (n : Marker) (u : List ℕ) → IsPassed s.mark s.rest n u → IsPassed m xs n u
+
+digits_spelled : (start : Marker) (n v : ℕ) (t : Cursor) (w : ℕ) (s : Cursor) → Gave (digits start n v t) w s
+    → Digits v n t.mark t.rest w s
+unfolding digits
+digits_spelled start zero v t w s e = record {
+  ds = [];
+  split = ap (λ (x : Cursor). x.rest) (gave_second v w t s e);
+  count = refl;
+  hex = tt;
+  value = gave_first v w t s e;
+  passes = λ n u p. subst (λ (x : Cursor). IsPassed x.mark x.rest n u) (sym (gave_second v w t s e)) p;
+}
+digits_spelled start (suc n) v t w s e =
+    by_test (is_hex (slice_index t.rest 0)) _ _ (λ r. Gave r w s → Digits v (suc n) t.mark t.rest w s)
+    (λ hex g. more t.rest hex (digits_spelled start n _ (pass 1 t) w s g))
+    (λ _ g. nothing _ w s g)
+    e
+  where
+    more : (xs : List ℕ) → is_hex (slice_index xs 0) ≡ true
+        → Digits (v * 16 + hex_value (slice_index xs 0)) n (along t.mark 1) (drop 1 xs) w s
+        → Digits v (suc n) t.mark xs w s
+    more [] hex d = absurd (cc)
+    more (c ∷ cs) hex d = record {
+      ds = c ∷ d.ds;
+      split = ap (λ y. c ∷ y) d.split;
+      count = ap suc d.count;
+      hex = (hex, d.hex);
+      value = d.value;
+      passes = λ n u p. passing.character t.mark c cs n u (hex_no_break c hex) (d.passes n u p);
+    }
+
+-- an escape that was read, behind its backslash
+pub record Escape (m : Marker) (e : ℕ) (xs : List ℕ) (c : ℕ) (s : Cursor) : Type 0 where
+  pub grows : (items : List Item) (x : List ℕ) → quotes.IsText Double s.rest items x
+      → quotes.IsText Double (92 ∷ e ∷ xs) (Escaped c ∷ items) x
+  pub shorter : length s.rest ≤ length xs
+  pub passes : (n : Marker) (u : List ℕ) → IsPassed s.mark s.rest n u → IsPassed m (92 ∷ e ∷ xs) n u
+
+pub then_gave : (r : Result (ℕ × Cursor) Refusal) (f : ℕ × Cursor → Result (ℕ × Cursor) Refusal) (c : ℕ) (s : Cursor)
+    → Gave (r >>= f) c s → (w : ℕ) × (u : Cursor) × Gave r w u × Gave (f (w, u)) c s
+then_gave (Ok x) f c s e = (x.0, x.1, refl, e)
+then_gave (Err r) f c s e = nothing r c s e
+
+pub then_text : (r : Result (ℕ × Cursor) Refusal) (f : ℕ × Cursor → Result (List ℕ × Cursor) Refusal) (b : List ℕ)
+    (s : Cursor) → GaveText (r >>= f) b s → (w : ℕ) × (u : Cursor) × Gave r w u × GaveText (f (w, u)) b s
+then_text (Ok x) f b s e = (x.0, x.1, refl, e)
+then_text (Err r) f b s e = nothing_text r b s e
+
+pub front_gave : (a : List ℕ) (r : Result (List ℕ × Cursor) Refusal) (b : List ℕ) (s : Cursor)
+    → GaveText (with_front a r) b s → (y : List ℕ) × GaveText r y s × (a ++ y ≡ b)
+front_gave a (Ok x) b s e =
+    (x.0, ap (λ u. Ok (x.0, u)) (text_second (a ++ x.0) b x.1 s e), text_first (a ++ x.0) b x.1 s e)
+front_gave a (Err r) b s e = nothing_text r b s e
+
+scalar_gave : (start : Marker) (w c : ℕ) (u s : Cursor) → Gave (character start w u) c s
+    → IsTrue (is_scalar w) × (w ≡ c) × (u ≡ s)
+unfolding character
+scalar_gave start w c u s =
+    by_test (is_scalar w) _ _ (λ r. Gave r c s → IsTrue (is_scalar w) × (w ≡ c) × (u ≡ s))
+    (λ h g. (h, gave_first w c u s g, gave_second w c u s g)) (λ _ g. nothing _ c s g)
+
+number_spelled : (start m : Marker) (e : ℕ) (xs : List ℕ) (c : ℕ) (s : Cursor)
+    → Gave (numbered start (digit_count e) (at m (92 ∷ e ∷ xs))) c s → Escape m e xs c s
+unfolding numbered
+number_spelled start m e xs c s =
+    by_test (nat_eq (digit_count e) 0) _ _ (λ r. Gave r c s → Escape m e xs c s) (λ _ g. nothing _ c s g)
+    (λ many g.
+    let t = then_gave (digits start (digit_count e) 0 (pass 2 (at m (92 ∷ e ∷ xs)))) _ c s g in
+    let d : Digits 0 (digit_count e) (along m 2) xs t.0 t.1 = digits_spelled start (digit_count e) 0
+    (pass 2 (at m (92 ∷ e ∷ xs))) t.0 t.1 t.2 in
+    let k = scalar_gave start t.0 c t.1 s t.3 in
+    let split : xs ≡ d.ds ++ s.rest = d.split ∙ ap (λ (u : Cursor). d.ds ++ u.rest) k.2 in
+    let is : spelling.IsNumber e c d.ds = record {
+      count = d.count;
+      some = omega (arith, some_of (digit_count e) many, d.count);
+      hex = d.hex;
+      value = d.value ∙ k.1;
+      scalar = subst (λ (n : ℕ). IsTrue (is_scalar n)) k.1 k.0;
+    } in
+    record {
+      grows = λ items x r. subst (λ (y : List ℕ). quotes.IsText Double (92 ∷ e ∷ y) (Escaped c ∷ items) x) (sym split)
+          (quotes.numbered e c d.ds s.rest items x is r);
+      shorter = rw (split, length-append) (omega arith);
+      passes = λ n u p. letter_passed m e xs n u
+          (no_break_digits e (λ z. absurd (omega (arith, some_of (digit_count e) many))))
+          (d.passes n u (subst (λ (x : Cursor). IsPassed x.mark x.rest n u) (sym k.2) p));
+    })
+  where
+    some_of : (n : ℕ) → nat_eq n 0 ≡ false → 0 < n
+    some_of n h = grind (arith, nat_tests)
+
+of_spelled : (start m : Marker) (e : ℕ) (xs : List ℕ) (c : ℕ) (s : Cursor) (o : Option ℕ) → simple_escape e ≡ o
+    → Gave (escape_of start o e (at m (92 ∷ e ∷ xs))) c s → Escape m e xs c s
+unfolding escape_of
+of_spelled start m e xs c s (Some k) is g =
+    let same : k ≡ c = gave_first k c (pass 2 (at m (92 ∷ e ∷ xs))) s g in
+    let left : xs ≡ s.rest = ap (λ (u : Cursor). u.rest) (gave_second k c (pass 2 (at m (92 ∷ e ∷ xs))) s g) in
+    record {
+      grows = λ items x r. subst (λ (y : List ℕ). quotes.IsText Double (92 ∷ e ∷ y) (Escaped c ∷ items) x) (sym left)
+          (quotes.escaped e c s.rest items x (is ∙ ap Some same) r);
+      shorter = rw left (omega arith);
+      passes = λ n u p. letter_passed m e xs n u (no_break_simple e k is)
+          (subst (λ (x : Cursor). IsPassed x.mark x.rest n u) (sym (gave_second k c (pass 2 (at m (92 ∷ e ∷ xs))) s g))
+          p);
+    }
+of_spelled start m e xs c s None is g = number_spelled start m e xs c s g
+
+pub escape_spelled : (start m : Marker) (e : ℕ) (xs : List ℕ) (c : ℕ) (s : Cursor)
+    → Gave (escape start (at m (92 ∷ e ∷ xs))) c s → Escape m e xs c s
+unfolding escape
+escape_spelled start m e xs c s g = of_spelled start m e xs c s (simple_escape e) refl g
+
+pub no_escape : (start m : Marker) (c : ℕ) (s : Cursor) → Gave (escape start (at m (92 ∷ []))) c s → ⊥
+unfolding escape escape_of numbered simple_escape
+no_escape start m c s g = absurd (nothing _ c s g)

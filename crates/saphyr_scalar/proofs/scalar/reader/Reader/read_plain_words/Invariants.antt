@@ -1,0 +1,11 @@
+use Rattle.std.proofs.Common.{length, string_bytes}
+use Rattle.saphyr_scalar.specs.Seen.{state}
+use Rattle.saphyr_scalar.proofs.Plain.SingleSpaces.{WordsRan}
+use Rattle.saphyr_scalar.proofs.scalar.reader.Reader.read_plain_words.Given as goal
+
+abbrev pub invariant-loop-count : goal.invariant-loop-count
+invariant-loop-count g l =
+    WordsRan l.in_flow (string_bytes l.fn.text) (string_bytes l.text) (state l.fn.self) (state l.self) l.count
+
+abbrev pub decreases-loop-count : goal.decreases-loop-count
+decreases-loop-count g l = length (state l.self).rest

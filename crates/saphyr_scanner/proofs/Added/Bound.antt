@@ -1,0 +1,138 @@
+-- There are few tokens: each that is fetched passes a character, and no more are passed than the limit allows.
+use Rattle.std.proofs.Common.{◌≡◌, ℕ, zero, suc, ◌+◌, ◌*◌, ◌≤◌, ◌<◌, List, [], ◌∷◌, length, Result, Ok, Err, refl, arith}
+use Rattle.std.specs.Prelude.{nat_le, not, ◌&&◌}
+use Rattle.std.proofs.lemmas.Bool.Decides.{nat_tests}
+use Rattle.saphyr_scalar.specs.declared.scalar.fault.Refusal.{Refusal}
+use Rattle.saphyr_scalar.specs.Cursor.{◌>>=◌}
+use Rattle.saphyr_scanner.specs.declared.queue.Opening.{Opening}
+use Rattle.saphyr_scanner.specs.declared.queue.Opening.TheVariants as opening
+use Rattle.saphyr_scanner.specs.Views.Tokens.{Piece, Remaining}
+use Rattle.saphyr_scanner.specs.Steps.Queue.{Place}
+use Rattle.saphyr_scanner.specs.Steps.Core.{Core, drop_far_key, in_block, is_too_far}
+use Rattle.saphyr_scanner.specs.Steps.State.{State, start, carried}
+use Rattle.saphyr_scanner.specs.Steps.Fetch.{size, settled, needs_token, fetch, within, fetch_within}
+use Rattle.saphyr_scanner.specs.Steps.Remaining.{before_place, hand_out, delivered, run, remaining, scan}
+use Rattle.saphyr_scanner.proofs.Sizes.Scalars.{Readers}
+use Rattle.saphyr_scanner.proofs.Sizes.Fetch.{read_smaller}
+use Rattle.saphyr_scanner.proofs.Unroll.{behind}
+use Rattle.saphyr_scanner.proofs.Ordered.Queue.{Grows}
+use Rattle.saphyr_scanner.proofs.Ordered.Scalars.{ReaderEnds}
+use Rattle.saphyr_scanner.proofs.Ordered.Fetch.{read_grows}
+use Rattle.saphyr_scanner.proofs.Added.Steps.{tokens_at, tokens_in, open_blocks, due}
+use Rattle.saphyr_scanner.proofs.Added.Fetch.{Fetches, read_fetches}
+use Rattle.saphyr_input.proofs.Basics.Booleans.{by_test}
+use Rattle.saphyr_scalar.proofs.Given.{Given, given_bind, given_of}
+use Rattle.saphyr_scanner.proofs.Queues.{holding}
+
+-- ## What is handed out
+
+place_counted : (o : Opening) (t : Piece) (r : Remaining)
+    → length (before_place o t r).pieces ≡ tokens_at o + length r.pieces
+place_counted opening.Nothing t r = omega arith
+place_counted opening.Key t r = omega arith
+place_counted opening.BlockMappingAndKey t r = omega arith
+place_counted opening.FlowMappingAndKey t r = omega arith
+
+-- the tokens of the places, and those behind them
+handed_counted : (m n : ℕ) (go : State → Remaining) (c : Core)
+    → ((k : ℕ) (ps : List Place) → length (go (holding c ps k)).pieces + m ≤ tokens_in ps + n)
+    → (k : ℕ) (ps : List Place) → length (hand_out ps go (holding c ps k)).pieces + m ≤ tokens_in ps + n
+handed_counted m n go c others k [] = others k []
+handed_counted m n go c others k (p ∷ ps) =
+    let next = handed_counted m n go c others (k + 1) ps in
+    by_test (needs_token (holding c (p ∷ ps) k)) _ _ (λ (r : Remaining). length r.pieces + m ≤ tokens_in (p ∷ ps) + n)
+    (λ _. others k (p ∷ ps))
+    (λ _. let x = place_counted p.opening p.piece (hand_out ps go (holding c ps (k + 1))) in omega (arith, x, next))
+
+-- ## What is read stays within the limit
+
+abbrev IsWithin : ℕ → State → Type 0
+IsWithin limit s = s.core.cursor.mark.index ≤ limit
+
+drop_stays : (limit : ℕ) (s : State) → IsWithin limit s → Given (IsWithin limit) (settled s)
+unfolding drop_far_key
+drop_stays limit s h =
+    let P : Result Core Refusal → Type 0 = λ r. Given (IsWithin limit) (carried r s.queue) in
+    by_test (not (in_block s.core && is_too_far s.core.level.key s.core.cursor.mark)) _ _ P (λ _. h)
+    (λ _. by_test s.core.required _ _ P (λ _. tt) (λ _. h))
+
+within_stays : (limit : ℕ) (s : State) → Given (IsWithin limit) (fetch_within limit s)
+unfolding fetch_within
+within_stays limit s =
+    given_bind (IsWithin limit) (fetch s) (within limit) (λ t e.
+    by_test (nat_le t.core.cursor.mark.index limit) _ _ (Given (IsWithin limit))
+    (λ i. let j : t.core.cursor.mark.index ≤ limit = grind (arith, nat_tests) in j) (λ _. tt))
+
+read_stays : (limit : ℕ) (s : State) → Given (IsWithin limit) (fetch_within limit s >>= settled)
+read_stays limit s =
+    given_bind (IsWithin limit) (fetch_within limit s) settled
+    (λ t e. drop_stays limit t (given_of (IsWithin limit) (fetch_within limit s) t (within_stays limit s) e))
+
+-- ## What comes
+
+-- The index and what is left are n together, and the index is within the limit.
+record Counts (n limit : ℕ) (s : State) : Type 0 where
+  counted : s.core.cursor.mark.index + length s.core.cursor.rest ≡ n
+  limited : IsWithin limit s
+
+-- what comes, where so much is due and so much is to be read
+abbrev IsFew : ℕ → ℕ → State → Remaining → Type 0
+IsFew n limit s r = length r.pieces + 5 * n ≤ due s + 5 * limit + 5 * size s.core
+
+none_few : (n limit : ℕ) (s : State) → Counts n limit s → 0 + 5 * n ≤ due s + 5 * limit + 5 * size s.core
+none_few n limit s h = let a = h.counted in let b = h.limited in omega (arith, a, b)
+
+-- of what is read
+read_few : (n limit : ℕ) (s t : State) (r : Remaining) → due t ≤ due s + 5 → size t.core < size s.core
+    → IsFew n limit t r → IsFew n limit s r
+read_few n limit s t r a b h = omega (arith, a, b, h)
+
+counts_on : (n limit : ℕ) (s t : State) → Grows s t → IsWithin limit t → Counts n limit s → Counts n limit t
+counts_on n limit s t g w h =
+    record { counted = let a = h.counted in let b = g.ahead.counted in omega (arith, a, b); limited = w }
+
+delivers : (n limit : ℕ) (s : State) (r : Result State Refusal) (go : State → Remaining) → Counts n limit s
+    → ((t : State) → r ≡ Ok t → IsFew n limit s (go t)) → IsFew n limit s (delivered r go)
+delivers n limit s (Ok t) go h others = others t refl
+delivers n limit s (Err e) go h others = none_few n limit s h
+
+run_few : Readers → ReaderEnds → (n limit fuel : ℕ) (s : State) → Counts n limit s → IsFew n limit s (run fuel limit s)
+run_few readers laws n limit zero s h = none_few n limit s h
+run_few readers laws n limit (suc fuel) s h = handed (λ t. run_few readers laws n limit fuel t)
+  where
+    here : ((t : State) → Counts n limit t → IsFew n limit t (run fuel limit t)) → (k : ℕ) (ps : List Place)
+        → IsFew n limit (holding s.core ps k) (behind fuel limit (holding s.core ps k))
+    here others k ps =
+        let t : State = holding s.core ps k in
+        let r = fetch_within limit t >>= settled in
+        let w : Counts n limit t = record { counted = h.counted; limited = h.limited } in
+        by_test t.core.ended _ _ (IsFew n limit t) (λ _. none_few n limit t w)
+        (λ i. delivers n limit t r (run fuel limit) w (λ u q.
+        read_few n limit t u (run fuel limit u) (given_of (Fetches t) r u (read_fetches limit t) q).1
+        (given_of _ r u (read_smaller readers limit t i) q)
+        (others u (counts_on n limit t u (given_of (Grows t) r u (read_grows laws limit t) q)
+        (given_of (IsWithin limit) r u (read_stays limit t) q) w))))
+
+    part : (ps : List Place) (r : Remaining) (k : ℕ) → IsFew n limit (holding s.core ps k) r
+        → length r.pieces + 5 * n ≤ tokens_in ps + (open_blocks s.core + 5 * limit + 5 * size s.core)
+    part ps r k x = omega (arith, x)
+
+    whole : (r : Remaining) → length r.pieces + 5 * n
+        ≤ tokens_in s.queue.places + (open_blocks s.core + 5 * limit + 5 * size s.core) → IsFew n limit s r
+    whole r x = omega (arith, x)
+
+    handed : ((t : State) → Counts n limit t → IsFew n limit t (run fuel limit t))
+        → IsFew n limit s (run (suc fuel) limit s)
+    handed others =
+        whole (run (suc fuel) limit s)
+        (handed_counted (5 * n) (open_blocks s.core + 5 * limit + 5 * size s.core) (behind fuel limit) s.core
+        (λ k ps. part ps (behind fuel limit (holding s.core ps k)) k (here others k ps)) s.queue.handed s.queue.places)
+
+pub scan_few : Readers → ReaderEnds → (limit : ℕ) (text : List ℕ) → length (scan limit text).pieces ≤ 5 * limit + 10
+unfolding remaining drop_far_key
+scan_few readers laws limit text =
+    all (scan limit text) (run_few readers laws (length text) limit (suc (size (start text).core)) (start text)
+    (record { counted = omega arith; limited = omega arith }))
+  where
+    all : (r : Remaining) → IsFew (length text) limit (start text) r → length r.pieces ≤ 5 * limit + 10
+    all r h = omega (arith, h)

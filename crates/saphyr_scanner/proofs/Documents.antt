@@ -1,0 +1,5 @@
+-- Directives, markers and the places between documents are passed.
+pub mod Stands
+pub mod Lines
+pub mod Markers
+pub mod Directives

@@ -1,0 +1,47 @@
+-- A text of JSON has its forest.
+use Rattle.std.proofs.Common.{[], refl, inl, inr, arith, codes}
+use Rattle.saphyr_scanner.specs.Grammar.Json.{IsUnescaped, IsJsonNumber, IsString, IsValue, IsJson}
+use Rattle.saphyr_scanner.specs.Examples.Forests.{json_text, json_forest, json_array, json_object}
+
+-- the letter a stands for itself
+unescaped : IsUnescaped 97
+unescaped = (inl (omega arith), omega arith, (λ e. omega arith), (λ e. omega arith))
+
+name : IsString (codes "a") (codes "\"a\"")
+name = (codes "a", (codes "a", [], inl (unescaped, refl), refl, refl), refl)
+
+number : IsJsonNumber (codes "1")
+number = ([], codes "1", [], [], inl refl, inr (49, [], (omega arith, omega arith), tt, refl), inl refl, inl refl, refl)
+
+array : IsValue json_array (codes "[1,true]")
+array = (
+  codes "[",
+  codes "1,true",
+  codes "]",
+  refl,
+  ([], [], tt, tt, refl),
+  (
+    codes "1",
+    codes ",true",
+    (refl, inr (inr (inr number)), refl),
+    (codes ",", codes "true", [], ([], [], tt, tt, refl), (refl, inl refl, refl), refl, refl),
+    refl,
+  ),
+  ([], [], tt, tt, refl),
+  refl,
+)
+
+object : IsValue json_object json_text
+object = (
+  codes "{",
+  codes "\"a\":[1,true]",
+  codes "}",
+  refl,
+  ([], [], tt, tt, refl),
+  (codes "\"a\"", codes ":", codes "[1,true]", [], (refl, name), ([], [], tt, tt, refl), array, refl, refl),
+  ([], [], tt, tt, refl),
+  refl,
+)
+
+pub json_example : IsJson json_forest json_text
+json_example = (refl, ([], json_text, [], tt, object, tt, refl))

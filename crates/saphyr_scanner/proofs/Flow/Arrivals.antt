@@ -1,0 +1,152 @@
+-- The next token of a text in flow style is reached, and read by a step.
+use Rattle.std.proofs.Common.{◌≡◌, ◌⊎◌, ℕ, ◌+◌, ◌≤◌, Bool, true, false, List, length, slice_index, Ok, refl, ap, ◌∙◌, arith}
+use Rattle.std.specs.Prelude.{◌||◌, ◌&&◌, ◌==◌, Option, Some, None}
+use Rattle.saphyr_input.specs.Classes.{is_blank, is_bom, is_z}
+use Rattle.saphyr_input.specs.Places.{is_document_indicator, is_document_start, is_document_end}
+use Rattle.saphyr_scalar.specs.declared.scalar.position.Marker.{Marker}
+use Rattle.saphyr_scalar.specs.Cursor.{Cursor, ◌>>=◌}
+use Rattle.saphyr_scanner.specs.declared.engine.level.Context.{Context}
+use Rattle.saphyr_scanner.specs.Steps.Gap.{Passed, stop}
+use Rattle.saphyr_scanner.specs.Steps.Queue.{Place, Queue}
+use Rattle.saphyr_scanner.specs.Steps.Core.{Candidate, Level, Action, perform, went, is_block, drop_far_key}
+use Rattle.saphyr_scanner.specs.Steps.Passing.{pass_gap, check_comment, behind_gap}
+use Rattle.saphyr_scanner.specs.Steps.State.{State, carried, acted}
+use Rattle.saphyr_scanner.specs.Steps.Unrolling.{unroll}
+use Rattle.saphyr_scanner.specs.Steps.Fetch.{step, content, fetch_here, arrive, fetch}
+use Rattle.saphyr_scanner.proofs.Json.States.{queue_of, none_before, stop_here}
+use Rattle.saphyr_scanner.proofs.InFlow.States.{Around, core_at, state_at, least, least_low, not_left, drops, key_left, left_in_flow, left_or_none, none_unrolls, Deepens, Comes, comes}
+use Rattle.saphyr_scanner.proofs.Flow.States.{crosses, past}
+use Rattle.saphyr_scanner.proofs.Flow.Gaps.{gap_past, past_count}
+use Rattle.saphyr_scanner.proofs.InBlock.Gaps.{gap_broke}
+use Rattle.saphyr_scalar.proofs.Given.{cursor_at}
+use Rattle.saphyr_input.proofs.Basics.Booleans.{and_false, and_or_false}
+
+-- What stands between two tokens is passed, up to the place m, where y stands.
+pub record PassesGap (around : Around) (s : Cursor) (x : Context) (k : Option Candidate) (ls : List Level) (a : Bool)
+    (ad : ℕ) (m : Marker) (y : List ℕ) : Type 0 where
+  pub blank : Bool
+  pub allowed : Bool
+  pub is : (d : Bool) → pass_gap (core_at around d s x k ls a ad)
+      ≡ Ok (core_at around d (cursor_at y m blank) x k ls allowed ad)
+  pub same : is_block x ≡ false → allowed ≡ a
+  pub fresh : is_block x ≡ true → crosses s.rest ≡ true → allowed ≡ true
+
+pub passes_gap : (around : Around) (s : Cursor) (x : Context) (k : Option Candidate) (ls : List Level) (a : Bool)
+    (ad : ℕ) (m : Marker) (y : List ℕ) → past around.indent s.mark s.rest ≡ (m, y)
+    → is_blank (slice_index y 0) ≡ false → PassesGap around s x k ls a ad m y
+unfolding pass_gap check_comment
+passes_gap around s x k ls a ad m y here inked =
+    let g = gap_past around.indent s.mark s.blank_so_far false s.rest in
+    let stands = ap (λ (p : Marker × List ℕ). is_blank (slice_index p.1 0)) here ∙ inked in
+    record {
+      blank = g.still_blank;
+      allowed = (g.now_broke && is_block x) || a;
+      is = λ d. let there = g.is stands (least around.indent d) (least_low around.indent d)
+          ∙ ap (λ (p : Marker × List ℕ). stop p.0 g.still_blank g.now_broke false p.1) here
+          ∙ stop_here m g.still_blank g.now_broke y in
+          ap (λ r. r >>= λ (p : Passed). check_comment (behind_gap (core_at around d s x k ls a ad) p)) there;
+      same = λ e. rw e (ap (λ (b : Bool). b || a) (and_false g.now_broke));
+      fresh = λ e h. let passed =
+          g.is stands 0 (none_less around.indent)
+          ∙ stop_here (past around.indent s.mark s.rest).0 g.still_blank g.now_broke
+          (past around.indent s.mark s.rest).1 in
+          rw (gap_broke 0 s.mark s.blank_so_far s.rest _ passed ∙ h, e) refl;
+    }
+  where
+    none_less : (n : ℕ) → 0 ≤ n
+    none_less n = omega arith
+
+-- the text y begins with the next token, which stands at m
+pub record Arrives (around : Around) (s : Cursor) (x : Context) (k : Option Candidate) (ls : List Level) (a : Bool)
+    (ad : ℕ) (ps : List Place) (m : Marker) (y : List ℕ) : Type 0 where
+  pub blank : Bool
+  pub key : Option Candidate
+  pub allowed : Bool
+  pub is : (d : Bool) → arrive (state_at around s x k ls a ad ps d)
+      ≡ Ok (state_at around (cursor_at y m blank) x key ls allowed ad ps d)
+  pub right : around.indent ≤ m.col
+  pub calm : around.pending ≡ false
+  pub same : is_block x ≡ false → (key ≡ k) × (allowed ≡ a)
+  pub kept : (key ≡ None) ⊎ (key ≡ k)
+
+pub arrives : (around : Around) (s : Cursor) (x : Context) (k : Option Candidate) (ls : List Level) (a : Bool) (ad : ℕ)
+    (ps : List Place) (m : Marker) (y : List ℕ) → past around.indent s.mark s.rest ≡ (m, y)
+    → is_blank (slice_index y 0) ≡ false → around.indent ≤ m.col → around.pending ≡ false
+    → Arrives around s x k ls a ad ps m y
+unfolding arrive
+arrives around s x k ls a ad ps m y text inked right calm =
+    let g = passes_gap around s x k ls a ad m y text inked in
+    let there = cursor_at y m g.blank in
+    let left = key_left x k m in
+    record {
+      blank = g.blank;
+      key = left;
+      allowed = g.allowed;
+      is = λ d. let reached = ap (λ r. r >>= drop_far_key) (g.is d) ∙ drops around d there x k ls g.allowed ad calm in
+          ap (λ r. carried r (queue_of ps) >>= λ (t : State). Ok
+          (unroll (Some t.core.cursor.mark.col) t.core.cursor.mark t)) reached
+          ∙ ap Ok (none_unrolls around m.col m there x left ls g.allowed ad ps d right);
+      right = right;
+      calm = calm;
+      same = λ e. (left_in_flow x k m e, g.same e);
+      kept = left_or_none x k m;
+    }
+
+-- neither the end nor something else that stands at the start of a line alone
+pub record BeginsToken (m : Marker) (t : List ℕ) : Type 0 where
+  pub nul : is_z (slice_index t 0) ≡ false
+  pub byte_order_mark : is_bom (slice_index t 0) ≡ false
+  pub directive : (slice_index t 0 == 37) ≡ false
+  pub marker : ((m.col == 0) && is_document_indicator t) ≡ false
+
+pub begins_here : (around : Around) (d : Bool) (s : Cursor) (x : Context) (k : Option Candidate) (ls : List Level)
+    (a : Bool) (ad : ℕ) (ps : List Place) → BeginsToken s.mark s.rest → around.indent ≤ s.mark.col
+    → fetch_here (state_at around s x k ls a ad ps d)
+    ≡ content (slice_index s.rest 0) (slice_index s.rest 1) (state_at around s x k ls a ad ps d)
+unfolding fetch_here
+begins_here around d s x k ls a ad ps h right =
+    let n = and_or_false (s.mark.col == 0) (is_document_start s.rest) (is_document_end s.rest) h.marker in
+    rw (
+      h.nul,
+      h.byte_order_mark,
+      h.directive,
+      and_false (s.mark.col == 0),
+      n.0,
+      n.1,
+      not_left around.indent s.mark.col
+          d right,
+    ) refl
+
+-- what the step at the next token's first characters gives
+pub one : (around : Around) (s : Cursor) (x : Context) (k : Option Candidate) (ls : List Level) (a : Bool) (ad : ℕ)
+    (ps : List Place) (m : Marker) (y : List ℕ) (v : Arrives around s x k ls a ad ps m y) → BeginsToken m y
+    → (t : Cursor) (z : Context) (j : Option Candidate) (ms : List Level) (b : Bool) (be : ℕ) (qs : List Place)
+    (actions : List Action) (to : Bool → Bool) → Deepens around to
+    → ((d : Bool) → step (slice_index y 0) (slice_index y 1) (length ps)
+    (core_at around d (cursor_at y m v.blank) x v.key ls v.allowed ad)
+    ≡ went actions (core_at around (to d) t z j ms b be))
+    → perform actions (queue_of ps) ≡ queue_of qs → t.mark.index ≤ around.limit
+    → Comes around (state_at around s x k ls a ad ps) t z j ms b be qs
+unfolding fetch content
+one around s x k ls a ad ps m y v h t z j ms b be qs actions to deepens is done low =
+    let seen = cursor_at y m v.blank in
+    comes around (state_at around s x k ls a ad ps) t z j ms b be qs to deepens (λ d. refl)
+    (λ d. let c = core_at around d seen x v.key ls v.allowed ad in
+    let there = ap (λ r. r >>= fetch_here) (v.is d) ∙ begins_here around d seen x v.key ls v.allowed ad ps h v.right in
+    let at_place = ap (λ (n : ℕ). acted (step (slice_index y 0) (slice_index y 1) n c) (queue_of ps))
+    (none_before (length ps)) in
+    let made = ap (λ r. acted r (queue_of ps)) (is d)
+    ∙ ap (λ (q : Queue). Ok (let r : State = record { core = core_at around (to d) t z j ms b be; queue = q } in r))
+    done in
+    there ∙ at_place ∙ made) low v.calm
+
+-- a place before the same token is within the limit
+pub within_index : (column limit : ℕ) (t : Cursor) (m : Marker) (o : List ℕ)
+    → past column t.mark t.rest ≡ past column m o → m.index + length o ≤ limit → t.mark.index ≤ limit
+within_index column limit t m o e h =
+    let here = past_count column t.mark t.rest in
+    let there = past_count column m o in
+    let same : (past column t.mark t.rest).0.index + length (past column t.mark t.rest).1
+    ≡ (past column m o).0.index + length (past column m o).1 =
+    ap (λ (p : Marker × List ℕ). p.0.index + length p.1) e in
+    omega (arith, here, there, same, h)

@@ -1,0 +1,105 @@
+-- The commas of a text in flow style are read.
+use Rattle.std.proofs.Common.{◌≡◌, ℕ, ◌≤◌, Bool, true, false, List, [], ◌∷◌, ◌++◌, length, slice_index, Ok, refl, sym, ap, ◌∙◌, arith}
+use Rattle.std.specs.Prelude.{if◌then◌else◌, Option, None}
+use Rattle.saphyr_input.specs.declared.input.SkipTabs.{SkipTabs}
+use Rattle.saphyr_input.specs.declared.input.SkipTabs.TheVariants.{Yes}
+use Rattle.saphyr_scalar.specs.declared.scalar.position.Marker.{Marker}
+use Rattle.saphyr_scalar.specs.Cursor.{Cursor, ◌>>=◌, along, separation}
+use Rattle.saphyr_scanner.specs.declared.engine.level.Context.{Context}
+use Rattle.saphyr_scanner.specs.declared.engine.level.Context.TheVariants as context
+use Rattle.saphyr_scanner.specs.Grammar.Tokens as tokens
+use Rattle.saphyr_scanner.specs.Steps.Queue.{Place}
+use Rattle.saphyr_scanner.specs.Steps.Core.{Candidate, Level, Core, is_block, from_to, up_to_here, went, remove_key}
+use Rattle.saphyr_scanner.specs.Steps.Passing.{with_cursor}
+use Rattle.saphyr_scanner.specs.Steps.Flow as flow
+use Rattle.saphyr_scanner.specs.Steps.Flow.{next_entry, behind_entry, behind_pair, ends_pair}
+use Rattle.saphyr_scanner.specs.Steps.Fetch.{step}
+use Rattle.saphyr_scanner.proofs.InFlow.States.{Around, required_at, core_at, state_at, as_before}
+use Rattle.saphyr_scanner.proofs.Flow.Places.{right_one}
+use Rattle.saphyr_scanner.proofs.Flow.States.{moved, past, IsParted, fresh_key, Passes, Fits}
+use Rattle.saphyr_scanner.proofs.Flow.Gaps.{past_ink}
+use Rattle.saphyr_scanner.proofs.Flow.Arrivals.{arrives, one, within_index}
+use Rattle.saphyr_scanner.proofs.Flow.Separates.{separates}
+use Rattle.saphyr_scanner.proofs.Flow.Joins.{once}
+use Rattle.saphyr_scanner.proofs.InBlock.Crossings.{fresh_in_flow}
+use Rattle.saphyr_scanner.proofs.Flow.Brackets.{IsMark, mark_begins, mark_moved, one_on, pending, mark_places, mark_puts, mark_kinds}
+use Rattle.saphyr_scalar.proofs.Given.{cursor_at}
+use Rattle.saphyr_input.proofs.Basics.Numbers.{le_next}
+use Rattle.std.proofs.lemmas.Bool.{true≢false}
+use Rattle.saphyr_scanner.proofs.Json.Brackets.{comma_begins}
+
+in_flow : (y : Context) → is_block y ≡ false → is_block (behind_entry y) ≡ false
+in_flow context.Block e = absurd (true≢false e)
+in_flow context.FlowSequence e = refl
+in_flow context.FlowMapping e = refl
+in_flow context.FlowPair e = refl
+in_flow context.ExplicitFlowPair e = refl
+in_flow context.MarkedFlowPair e = refl
+
+parts : (around : Around) (d : Bool) (o : List ℕ) (m : Marker) (b : Bool) (y : Context) (k : Option Candidate)
+    (ls : List Level) (a : Bool) (ad : ℕ) → is_block y ≡ false → (found : SkipTabs) (there : Cursor)
+    → separation Yes (cursor_at o (along m 1) false) ≡ Ok (found, there)
+    → next_entry (core_at around d (cursor_at (44 ∷ o) m b) y k ls a ad)
+    ≡ went (behind_pair (ends_pair y) m (from_to m there.mark tokens.FlowEntry))
+    (core_at around d there (behind_entry y) k ls true ad)
+unfolding next_entry
+parts around d o m b y k ls a ad flows found there is =
+    let c : Core = record (core_at around d (cursor_at o (along m 1) false) (behind_entry y) k ls true ad)
+    { required = required_at around y } in
+    let same : required_at around y ≡ required_at around (behind_entry y) =
+    ap (λ (q : Bool). if q then around.pending else around.required) (flows ∙ sym (in_flow y flows)) in
+    ap (λ q. (q >>= λ (e : SkipTabs × Cursor). Ok (e.0, with_cursor e.1 c)) >>= λ (e : SkipTabs × Core). went
+    (behind_pair (ends_pair y) m (up_to_here m tokens.FlowEntry e.1)) e.1) is
+    ∙ ap (λ (q : Bool). went (behind_pair (ends_pair y) m (from_to m there.mark tokens.FlowEntry))
+    (record (core_at around d there (behind_entry y) k ls true ad) { required = q })) same
+
+removes : (around : Around) (d : Bool) (o : List ℕ) (m : Marker) (b : Bool) (y : Context) (k : Option Candidate)
+    (ls : List Level) (a : Bool) (ad : ℕ) → is_block y ≡ false
+    → flow.entry (core_at around d (cursor_at (44 ∷ o) m b) y k ls a ad)
+    ≡ next_entry (core_at around d (cursor_at (44 ∷ o) m b) y None ls a ad)
+unfolding flow.entry remove_key
+removes around d o m b context.Block k ls a ad e = absurd (true≢false e)
+removes around d o m b context.FlowSequence k ls a ad e = refl
+removes around d o m b context.FlowMapping k ls a ad e = refl
+removes around d o m b context.FlowPair k ls a ad e = refl
+removes around d o m b context.ExplicitFlowPair k ls a ad e = refl
+removes around d o m b context.MarkedFlowPair k ls a ad e = refl
+
+comma : IsMark 44
+comma = record {
+  ink = record { blank = refl; break = refl; comment = refl; byte_order_mark = refl };
+  nul =
+      refl;
+  directive = refl;
+  feed = refl;
+}
+
+-- A comma ends a pair that has no bracket of its own, and behind it a key may begin.
+pub comma_passes : (around : Around) (y : Context) → is_block y ≡ false → (m : Marker) (o : List ℕ)
+    → Fits around m (44 ∷ []) o → IsParted around.indent o
+    → (s : Cursor) (k : Option Candidate) (ls : List Level) (a : Bool) (ad : ℕ) (ps : List Place) → ad ≤ m.index
+    → past around.indent s.mark s.rest ≡ past around.indent m (44 ∷ o)
+    → Passes around (state_at around s y k ls a ad ps) (fresh_key (moved m (44 ∷ []))) (behind_entry y) ls ps
+    (moved m (44 ∷ [])) o (pending (ends_pair y) ++ tokens.FlowEntry ∷ [])
+comma_passes around y flows m o fits parted s k ls a ad ps before text =
+    let v = arrives around s y k ls a ad ps m (44 ∷ o) (text ∙ past_ink around.indent m 44 o comma.ink) refl fits.right
+    fits.calm in
+    let p = separates around.indent (cursor_at o (along m 1) false) parted.separation parted.first parted.others
+    parted.is parted.parts (le_next around.indent m.col fits.right) parted.ink in
+    let stepped = λ (d : Bool). comma_begins (slice_index o 0) (length ps)
+    (core_at around d (cursor_at (44 ∷ o) m v.blank) y v.key ls v.allowed ad)
+    ∙ removes around d o m v.blank y v.key ls v.allowed ad flows
+    ∙ parts around d o m v.blank y None ls v.allowed ad flows p.found p.there p.is in
+    let below = fits.below in
+    let new = mark_places (ends_pair y) m p.there.mark tokens.FlowEntry in
+    let came = one around s y k ls a ad ps m (44 ∷ o) v (mark_begins m 44 o comma fits.clear) p.there (behind_entry y)
+    None ls true ad (ps ++ new) (behind_pair (ends_pair y) m (from_to m p.there.mark tokens.FlowEntry)) (λ d. d)
+    (as_before around) stepped
+    (mark_puts (ends_pair y) ps m p.there.mark tokens.FlowEntry)
+    (within_index around.indent around.limit p.there (along m 1) o p.lands (omega (arith, below))) in
+    once true ad p.there ps new (moved m (44 ∷ [])) o (pending (ends_pair y) ++ tokens.FlowEntry ∷ [])
+    (fresh_key (moved m (44 ∷ []))) came (right_one around.indent m 44 refl fits.right)
+    (p.lands ∙ ap (λ (q : Marker). past around.indent q o) (mark_moved m 44 comma))
+    (fresh_in_flow (behind_entry y) o true p.there (in_flow y flows))
+    (mark_kinds (ends_pair y) m p.there.mark tokens.FlowEntry)
+    (came.same (in_flow y flows), refl, one_on m 44 ad before)

@@ -1,0 +1,224 @@
+-- The anchors, aliases and tags of a text in flow style are passed.
+use Rattle.std.proofs.Common.{◌≡◌, ℕ, ◌+◌, ◌≤◌, Bool, true, false, List, [], ◌∷◌, ◌++◌, length, slice_index, refl, sym, ap, ◌∙◌, arith, subst, IsTrue, encode_utf8_all}
+use Rattle.std.specs.Prelude.{◌==◌, not, Option}
+use Rattle.std.proofs.lemmas.Bool.Decides.{nat_tests}
+use Rattle.saphyr_input.specs.Classes.{is_break, is_anchor_char, line_feed}
+use Rattle.saphyr_scalar.specs.declared.scalar.position.Marker.{Marker}
+use Rattle.saphyr_scalar.specs.Cursor.{Cursor, ◌>>=◌, along}
+use Rattle.saphyr_scalar.specs.Quoted.{at}
+use Rattle.saphyr_scalar.specs.TagSpelling.{AreIn, IsAnchorName, IsTagText, EndsTag}
+use Rattle.saphyr_scalar.proofs.NoBreaks.{NoBreaks}
+use Rattle.saphyr_scanner.specs.declared.engine.level.Context.{Context}
+use Rattle.saphyr_scanner.specs.Grammar.Tokens as tokens
+use Rattle.saphyr_scanner.specs.Grammar.Tokens.{Kind, alias_token, anchor_token, tag_token}
+use Rattle.saphyr_scanner.specs.Grammar.Forest.{Tag}
+use Rattle.saphyr_scanner.specs.Steps.Queue.{Place}
+use Rattle.saphyr_scanner.specs.Steps.Core.{Candidate, Level, Core, is_block, from_to, went}
+use Rattle.saphyr_scanner.specs.Steps.Passing.{with_cursor}
+use Rattle.saphyr_scanner.specs.Steps.Property as property
+use Rattle.saphyr_scanner.specs.Steps.Property.{name_token, read_name, read_tag}
+use Rattle.saphyr_scanner.specs.Steps.Scalar.{disallow_key}
+use Rattle.saphyr_scanner.specs.Steps.Fetch.{step}
+use Rattle.saphyr_scanner.specs.Grammar.TagSpelling.{IsTag}
+use Rattle.saphyr_scanner.specs.Grammar.FlowNodes.{IsAnchor, IsAlias}
+use Rattle.saphyr_scanner.proofs.LineTexts.{name_no_break, tag_no_break}
+use Rattle.saphyr_scanner.proofs.InFlow.States.{Around, core_at, state_at, Placed, placed_right, saves_key, as_before}
+use Rattle.saphyr_scanner.proofs.Json.Marks.{saved}
+use Rattle.saphyr_scanner.proofs.Flow.States.{keeping, moved, past, Reads, Passes, Fits}
+use Rattle.saphyr_scanner.proofs.Flow.Places.{moved_along, right_along}
+use Rattle.saphyr_scanner.proofs.Flow.Tokens.{Begins, after_token, token_passes}
+use Rattle.saphyr_scanner.proofs.Flow.Tags.{tag_read, tag_first}
+use Rattle.saphyr_scalar.proofs.Given.{cursor_at}
+use Rattle.saphyr_input.proofs.Basics.Characters.{no_break_no_feed}
+
+-- on its line what has no break has no line feed
+pub on_line : (t : List ℕ) → NoBreaks t → AreIn (λ c. not (c == line_feed)) t
+on_line [] h = tt
+on_line (c ∷ cs) h = (no_break_no_feed c h.0, on_line cs h.1)
+
+pub unbroken_along : (m : Marker) (t : List ℕ) → NoBreaks t → moved m t ≡ along m (length t)
+unbroken_along m t h = moved_along m t (on_line t h)
+
+pub unbroken_right : (column : ℕ) (m : Marker) (t : List ℕ) → NoBreaks t → column ≤ m.col → column ≤ (moved m t).col
+unbroken_right column m t h low = right_along column m t (on_line t h) low
+
+-- no key may begin behind the token, and the place where a colon may stand at once is still the same
+abbrev pub closes_key : ℕ → Bool → ℕ → Type 0
+closes_key ad allowed adjacent = (allowed ≡ false) × (adjacent ≡ ad)
+
+-- ## Names
+
+named_along : (m : Marker) (indicator : ℕ) (name : List ℕ) → is_break indicator ≡ false → IsAnchorName name
+    → along m (1 + length name) ≡ moved m (indicator ∷ name)
+named_along m indicator name e h =
+    let one : 1 + length name ≡ length (indicator ∷ name) = omega arith in
+    ap (along m) one ∙ sym (unbroken_along m (indicator ∷ name) (e, name_no_break name h))
+
+pub name_step : Reads → (around : Around) (d : Bool) (is_alias : Bool) (n : ℕ) (m : Marker) (b : Bool) (indicator : ℕ)
+    (name o : List ℕ) → is_break indicator ≡ false → IsAnchorName name → is_anchor_char (slice_index o 0) ≡ false
+    → (x : Context) (k : Option Candidate) (ls : List Level) (a : Bool) (ad : ℕ) → Placed around x a m
+    → property.name is_alias n (core_at around d (cursor_at (indicator ∷ (name ++ o)) m b) x k ls a ad)
+    ≡ went (from_to m (moved m (indicator ∷ name)) (name_token is_alias (encode_utf8_all name)) ∷ [])
+    (core_at around d (at (moved m (indicator ∷ name)) o) x (saved a n m k) ls false ad)
+unfolding property.name read_name
+name_step reads around d is_alias n m b indicator name o e h ends x k ls a ad placed =
+    let s = cursor_at (indicator ∷ (name ++ o)) m b in
+    let c = core_at around d s x (saved a n m k) ls false ad in
+    let token = λ (y : List ℕ × Cursor). went (from_to m y.1.mark (name_token is_alias y.0) ∷ []) (with_cursor y.1 c) in
+    ap (λ (q : Core). read_name is_alias (disallow_key q)) (saves_key n around d s x k ls a ad placed)
+    ∙ ap (λ q. q >>= token) (reads.anchor s indicator name o refl h ends)
+    ∙ ap (λ (end : Marker). token (encode_utf8_all name, at end o)) (named_along m indicator name e h)
+
+name_passes : Reads → (around : Around) (is_alias : Bool) (indicator : ℕ) (name o : List ℕ) (m : Marker)
+    → ((second n : ℕ) (c : Core) → step indicator second n c ≡ property.name is_alias n c)
+    → Begins (indicator ∷ name) → is_break indicator ≡ false → IsAnchorName name
+    → is_anchor_char (slice_index o 0) ≡ false → Fits around m (indicator ∷ name) o
+    → (s : Cursor) (x : Context) (k : Option Candidate) (ls : List Level) (a : Bool) (ad : ℕ) (ps : List Place)
+    → past around.indent s.mark s.rest ≡ past around.indent m ((indicator ∷ name) ++ o)
+    → Passes around (state_at around s x k ls a ad ps)
+    (after_token (closes_key ad) x (keeping a (length ps) m k (indicator ∷ name))) x ls ps
+    (moved m (indicator ∷ name)) o (name_token is_alias (encode_utf8_all name) ∷ [])
+name_passes reads around is_alias indicator name o m begins first break h ends fits s x k ls a ad ps text =
+    let kind = name_token is_alias (encode_utf8_all name) in
+    let end = moved m (indicator ∷ name) in
+    token_passes around (closes_key ad) kind (indicator ∷ name) o m first fits
+    (unbroken_right around.indent m (indicator ∷ name) (break, name_no_break name h) fits.right) s x k ls a ad ps
+    text
+    (λ b j e. record {
+      there = at end o;
+      end = end;
+      allowed = false;
+      adjacent = ad;
+      to = λ d. d;
+      deepens = as_before around;
+      is = λ d. begins (slice_index (name ++ o) 0) (length ps)
+          (core_at around d (cursor_at (indicator ∷ (name ++ o)) m b) x j ls e ad)
+          ∙ name_step reads around d is_alias (length ps) m b indicator name o break h ends x j ls e ad
+          (placed_right x e fits.calm fits.right);
+      fits = refl;
+      fresh = λ _ e. e;
+      tells = (refl, refl);
+    })
+
+pub begins_anchor : (second n : ℕ) (c : Core) → step 38 second n c ≡ property.name false n c
+unfolding step
+begins_anchor second n c = refl
+
+pub begins_alias : (second n : ℕ) (c : Core) → step 42 second n c ≡ property.name true n c
+unfolding step
+begins_alias second n c = refl
+
+pub anchor_first : (name : List ℕ) → Begins (38 ∷ name)
+anchor_first name = record {
+  first =
+      38;
+  others = name;
+  is = refl;
+  ink =
+      record { blank = refl; break = refl; comment = refl; byte_order_mark = refl };
+  nul = refl;
+  directive = refl;
+}
+
+pub alias_first : (name : List ℕ) → Begins (42 ∷ name)
+alias_first name = record {
+  first =
+      42;
+  others = name;
+  is = refl;
+  ink =
+      record { blank = refl; break = refl; comment = refl; byte_order_mark = refl };
+  nul = refl;
+  directive = refl;
+}
+
+pub anchor_passes : Reads → (around : Around) (name t o : List ℕ) (m : Marker) → IsAnchor name t
+    → is_anchor_char (slice_index o 0) ≡ false → Fits around m t o
+    → (s : Cursor) (x : Context) (k : Option Candidate) (ls : List Level) (a : Bool) (ad : ℕ) (ps : List Place)
+    → past around.indent s.mark s.rest ≡ past around.indent m (t ++ o)
+    → Passes around (state_at around s x k ls a ad ps) (after_token (closes_key ad) x (keeping a (length ps) m k t)) x
+    ls ps (moved m t) o (anchor_token name ∷ [])
+anchor_passes reads around name t o m h ends fits s x k ls a ad ps text =
+    subst (λ (p : List ℕ). Fits around m p o → past around.indent s.mark s.rest ≡ past around.indent m (p ++ o)
+    → Passes around (state_at around s x k ls a ad ps) (after_token (closes_key ad) x (keeping a (length ps) m k p)) x
+    ls ps (moved m p) o (anchor_token name ∷ []))
+    (sym h.1) (λ f e. name_passes reads around false 38 name o m begins_anchor (anchor_first name) refl h.0 ends f s x k
+    ls a ad ps e) fits text
+
+pub alias_token_passes : Reads → (around : Around) (name t o : List ℕ) (m : Marker) → IsAlias name t
+    → is_anchor_char (slice_index o 0) ≡ false → Fits around m t o
+    → (s : Cursor) (x : Context) (k : Option Candidate) (ls : List Level) (a : Bool) (ad : ℕ) (ps : List Place)
+    → past around.indent s.mark s.rest ≡ past around.indent m (t ++ o)
+    → Passes around (state_at around s x k ls a ad ps) (after_token (closes_key ad) x (keeping a (length ps) m k t)) x
+    ls ps (moved m t) o (alias_token name ∷ [])
+alias_token_passes reads around name t o m h ends fits s x k ls a ad ps text =
+    subst (λ (p : List ℕ). Fits around m p o → past around.indent s.mark s.rest ≡ past around.indent m (p ++ o)
+    → Passes around (state_at around s x k ls a ad ps) (after_token (closes_key ad) x (keeping a (length ps) m k p)) x
+    ls ps (moved m p) o (alias_token name ∷ []))
+    (sym h.1) (λ f e. name_passes reads around true 42 name o m begins_alias (alias_first name) refl h.0 ends f s x k ls
+    a ad ps e) fits text
+
+-- ## Tags
+
+pub tag_step : Reads → (around : Around) (d : Bool) (n : ℕ) (m : Marker) (b : Bool) (t handle suffix o : List ℕ)
+    → IsTagText t handle suffix → (x : Context) (k : Option Candidate) (ls : List Level) (a : Bool) (ad : ℕ)
+    → EndsTag (not (is_block x)) o → Placed around x a m
+    → property.tag n (core_at around d (cursor_at (t ++ o) m b) x k ls a ad)
+    ≡ went (from_to m (moved m t) (tokens.Tag (encode_utf8_all handle) (encode_utf8_all suffix)) ∷ [])
+    (core_at around d (at (moved m t) o) x (saved a n m k) ls false ad)
+unfolding property.tag read_tag
+tag_step reads around d n m b t handle suffix o h x k ls a ad ends placed =
+    let s = cursor_at (t ++ o) m b in
+    let c = core_at around d s x (saved a n m k) ls false ad in
+    let token = λ (y : List ℕ × List ℕ × Cursor). went (from_to m y.2.mark (tokens.Tag y.0 y.1) ∷ [])
+    (with_cursor y.2 c) in
+    ap (λ (q : Core). read_tag (disallow_key q)) (saves_key n around d s x k ls a ad placed)
+    ∙ ap (λ q. q >>= token) (reads.tag (not (is_block x)) s t handle suffix o refl h ends)
+    ∙ ap (λ (end : Marker). token (encode_utf8_all handle, encode_utf8_all suffix, at end o))
+    (sym (unbroken_along m t (tag_no_break t handle suffix h)))
+
+pub begins_tag : (second n : ℕ) (c : Core) → step 33 second n c ≡ property.tag n c
+unfolding step
+begins_tag second n c = refl
+
+pub tag_passes : Reads → (around : Around) (tag : Tag) (t o : List ℕ) (m : Marker) → IsTag tag t → Fits around m t o
+    → (s : Cursor) (x : Context) (k : Option Candidate) (ls : List Level) (a : Bool) (ad : ℕ) (ps : List Place)
+    → EndsTag (not (is_block x)) o → past around.indent s.mark s.rest ≡ past around.indent m (t ++ o)
+    → Passes around (state_at around s x k ls a ad ps) (after_token (closes_key ad) x (keeping a (length ps) m k t)) x
+    ls ps (moved m t) o (tag_token tag ∷ [])
+tag_passes reads around tag t o m h fits s x k ls a ad ps ends text =
+    let r = tag_read tag t h in
+    let f = tag_first t r.handle r.suffix r.is in
+    let first : Begins t = record {
+      first = 33;
+      others = f.0;
+      is = f.1;
+      ink =
+          record { blank = refl; break = refl; comment = refl; byte_order_mark = refl };
+      nul = refl;
+      directive = refl;
+    } in
+    let at_first : slice_index (t ++ o) 0 ≡ 33 = ap (λ (p : List ℕ). slice_index (p ++ o) 0) f.1 in
+    let second = slice_index (t ++ o) 1 in
+    let end = moved m t in
+    let n = length ps in
+    let kind = tokens.Tag (encode_utf8_all r.handle) (encode_utf8_all r.suffix) in
+    subst (λ (q : Kind). Passes around (state_at around s x k ls a ad ps)
+    (after_token (closes_key ad) x (keeping a (length ps) m k t)) x ls ps (moved m t) o (q ∷ [])) r.token
+    (token_passes around (closes_key ad) kind t o m first fits
+    (unbroken_right around.indent m t (tag_no_break t r.handle r.suffix r.is) fits.right) s x k ls a ad ps text
+    (λ b j e. record {
+      there = at end o;
+      end = end;
+      allowed = false;
+      adjacent = ad;
+      to = λ d. d;
+      deepens = as_before around;
+      is = λ d. let c = core_at around d (cursor_at (t ++ o) m b) x j ls e ad in
+          ap (λ (i : ℕ). step i second n c) at_first ∙ begins_tag second n c
+          ∙ tag_step reads around d n m b t r.handle r.suffix o r.is x j ls e ad ends
+          (placed_right x e fits.calm fits.right);
+      fits = refl;
+      fresh = λ _ e. e;
+      tells = (refl, refl);
+    }))

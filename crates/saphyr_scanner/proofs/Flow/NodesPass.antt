@@ -1,0 +1,427 @@
+-- The scanner takes a node in flow style and makes its tokens.
+use Rattle.std.proofs.Common.{◌≡◌, ℕ, ◌+◌, ◌<◌, ◌≤◌, Bool, true, false, List, [], ◌∷◌, ◌++◌, length, refl, sym, ap, ◌∙◌, arith, subst, append_assoc, append-nil, inl, inr}
+use Rattle.std.specs.Prelude.{Option}
+use Rattle.saphyr_scalar.specs.declared.scalar.position.Marker.{Marker}
+use Rattle.saphyr_scalar.specs.Cursor.{Cursor}
+use Rattle.saphyr_scalar.specs.Spaces.{IsSeparation}
+use Rattle.saphyr_scanner.specs.declared.engine.level.Context.{Context}
+use Rattle.saphyr_scanner.specs.declared.engine.level.Context.TheVariants as context
+use Rattle.saphyr_scanner.specs.Grammar.Tokens as tokens
+use Rattle.saphyr_scanner.specs.Grammar.TokenGrammar as grammar
+use Rattle.saphyr_scanner.specs.Steps.Queue.{Place}
+use Rattle.saphyr_scanner.specs.Steps.Core.{Candidate, Level, is_block}
+use Rattle.saphyr_scanner.specs.Steps.Flow as flow
+use Rattle.saphyr_scanner.specs.Steps.Flow.{close_collection, ends_pair}
+use Rattle.saphyr_scanner.specs.Steps.Fetch.{step}
+use Rattle.saphyr_scanner.specs.Grammar.Forest.{Style, Properties, Node, Alias, Scalar, Seq, Map, Nodes, NoNode, MoreNodes, Pairs, NoPair, MorePairs}
+use Rattle.saphyr_scanner.specs.Grammar.FlowNodes.{IsFlowNode}
+use Rattle.saphyr_scanner.proofs.InFlow.States.{Around, core_at, state_at, Calm}
+use Rattle.saphyr_scanner.proofs.Json.Marks.{saved, level_of}
+use Rattle.saphyr_scanner.proofs.Json.Nodes.{begins_sequence, begins_mapping}
+use Rattle.saphyr_scanner.proofs.Flow.States.{keeping, moved, past, Fits, IsParted, IsBehindNode, Reads, after_node, NodePasses, PassesNode, ClosesNode, ClosesNodes}
+use Rattle.saphyr_scanner.proofs.Flow.Places.{moved_append}
+use Rattle.saphyr_scanner.proofs.Flow.Gaps.{past_ink}
+use Rattle.saphyr_scanner.proofs.Flow.Joins.{knowing, root}
+use Rattle.saphyr_scanner.proofs.Flow.Inks.{BeginsInk, node_ink}
+use Rattle.saphyr_scanner.proofs.Flow.Pieces.{fits_front, fits_back, fits_so}
+use Rattle.saphyr_scanner.proofs.Flow.Quotes as quotes
+use Rattle.saphyr_scanner.proofs.Flow.Collections.{EndsAt, ends_inside, ends_root, Brackets, AreBrackets, bracket_text, RunsInside}
+use Rattle.saphyr_scanner.proofs.Flow.Fronts.{CollectionPasses, collection_passes}
+use Rattle.saphyr_scanner.proofs.Flow.Items.{PassesPairItem, PassesOtherItems, PassesItems, items_ink, pair_item_passes, no_others_pass, others_pass, no_items_pass, items_pass}
+use Rattle.saphyr_scanner.proofs.Flow.Braces.{PassesOtherPairs, PassesPairs, pairs_ink, no_other_pairs_pass, other_pairs_pass, no_pairs_pass, pairs_pass}
+use Rattle.saphyr_scanner.proofs.Flow.Properties.{alias_passes, alias_closes}
+use Rattle.saphyr_scanner.proofs.Flow.ScalarNodes.{scalar_passes, scalar_closes, key_node_passes}
+use Rattle.std.proofs.lemmas.Bool.{true≢false}
+
+-- ## Brackets and braces
+
+abbrev pub square : Brackets
+square = record {
+  context =
+      context.FlowSequence;
+  opening =
+      91;
+  closing = 93;
+  opens = tokens.FlowSequenceStart;
+  closes = tokens.FlowSequenceEnd;
+}
+
+abbrev pub curly : Brackets
+curly = record {
+  context =
+      context.FlowMapping;
+  opening = 123;
+  closing = 125;
+  opens = tokens.FlowMappingStart;
+  closes = tokens.FlowMappingEnd;
+}
+
+pub are_square : AreBrackets square
+are_square = record {
+  flows = refl;
+  opening_mark = record {
+    ink =
+        record { blank = refl; break = refl; comment = refl; byte_order_mark = refl };
+    nul =
+        refl;
+    directive = refl;
+    feed = refl;
+  };
+  closing_mark = record {
+    ink =
+        record { blank = refl; break = refl; comment = refl; byte_order_mark = refl };
+    nul =
+        refl;
+    directive = refl;
+    feed = refl;
+  };
+  begins = begins_sequence;
+}
+
+pub are_curly : AreBrackets curly
+are_curly = record {
+  flows = refl;
+  opening_mark = record {
+    ink =
+        record { blank = refl; break = refl; comment = refl; byte_order_mark = refl };
+    nul =
+        refl;
+    directive = refl;
+    feed = refl;
+  };
+  closing_mark = record {
+    ink =
+        record { blank = refl; break = refl; comment = refl; byte_order_mark = refl };
+    nul =
+        refl;
+    directive = refl;
+    feed = refl;
+  };
+  begins = begins_mapping;
+}
+
+pub ends_square : (around : Around) (z : Context) → is_block z ≡ false
+    → (second i : ℕ) (d : Bool) (s : Cursor) (k : Option Candidate) (ms : List Level) (a : Bool) (ad : ℕ)
+    → step 93 second i (core_at around d s z k ms a ad)
+    ≡ close_collection (ends_pair z) tokens.FlowSequenceEnd (core_at around d s z k ms a ad)
+unfolding step flow.end
+ends_square around context.Block e second i d s k ms a ad = absurd (true≢false e)
+ends_square around context.FlowSequence e second i d s k ms a ad = refl
+ends_square around context.FlowMapping e second i d s k ms a ad = refl
+ends_square around context.FlowPair e second i d s k ms a ad = refl
+ends_square around context.ExplicitFlowPair e second i d s k ms a ad = refl
+ends_square around context.MarkedFlowPair e second i d s k ms a ad = refl
+
+pub ends_curly : (around : Around) (second i : ℕ) (d : Bool) (s : Cursor) (k : Option Candidate) (ms : List Level)
+    (a : Bool) (ad : ℕ)
+    → step 125 second i (core_at around d s context.FlowMapping k ms a ad)
+    ≡ close_collection false tokens.FlowMappingEnd (core_at around d s context.FlowMapping k ms a ad)
+unfolding step flow.end
+ends_curly around second i d s k ms a ad = refl
+
+-- ## A collection, given the run over its entries
+
+pub whole_text : (t opening front w inside : List ℕ) (c e : ℕ) → t ≡ opening ++ (inside ++ (e ∷ []))
+    → opening ≡ front ++ (c ∷ w) → t ≡ front ++ ((c ∷ w) ++ (inside ++ (e ∷ [])))
+whole_text t opening front w inside c e is open_is =
+    is ∙ ap (λ (x : List ℕ). x ++ (inside ++ (e ∷ []))) open_is ∙ append_assoc front (c ∷ w) (inside ++ (e ∷ []))
+
+pub parted_by : (indent : ℕ) (w t : List ℕ) → IsSeparation indent w → BeginsInk t → IsParted indent (w ++ t)
+parted_by indent w t parts b =
+    record {
+      separation = w;
+      first =
+          b.first;
+      others = b.others;
+      is = ap (λ (x : List ℕ). w ++ x) b.is;
+      parts = parts;
+      ink = b.ink;
+    }
+
+-- the piece inside brackets, behind their front
+inner_fits : {around : Around} (m : Marker) (front opening inside closing o : List ℕ)
+    → around.indent ≤ (moved (moved m front) opening).col → Fits around m (front ++ (opening ++ (inside ++ closing))) o
+    → Fits around (moved (moved m front) opening) inside (closing ++ o)
+inner_fits {around} m front opening inside closing o right fits =
+    fits_front (moved (moved m front) opening) inside closing o
+    (subst (λ (k : Marker). Fits around k (inside ++ closing) o) (moved_append m front opening)
+    (fits_back m (front ++ opening) (inside ++ closing) o
+    (subst (λ (k : Marker). around.indent ≤ k.col) (sym (moved_append m front opening)) right)
+    (fits_so m (front ++ (opening ++ (inside ++ closing))) ((front ++ opening) ++ (inside ++ closing)) o
+    (sym (append_assoc front opening (inside ++ closing))) fits)))
+
+-- in brackets
+sequence_run : {around : Around} → Reads → (room : ℕ) (p : Properties) (nodes : Nodes) (in_flow : Bool)
+    → ((left : ℕ) → PassesItems around left nodes) → (m : Marker) (t o : List ℕ)
+    → IsFlowNode room (Seq p nodes) in_flow around.indent t → Fits around m t o
+    → (s : Cursor) (x : Context) (k : Option Candidate) (ls : List Level) (a : Bool) (ad : ℕ) (ps : List Place)
+    → ((e : Marker) → around.indent ≤ e.col → EndsAt around.indent x e o) → room + length ls ≤ 255 → Calm around x
+    → ad ≤ m.index
+    → past around.indent s.mark s.rest ≡ past around.indent m (t ++ o)
+    → CollectionPasses around (state_at around s x k ls a ad ps) (grammar.YieldFlowEntries nodes) square p
+    (keeping a (length ps) m k t) x ls ps (moved m t) o
+sequence_run {around} reads room p nodes in_flow items m t o (left, opening, inside, r, (front, w, f, parts, e), h, is)
+    fits s x k ls a ad ps ends low calm before text =
+    let text_is = whole_text t opening front w inside 91 93 is e in
+    let whole = fits_so m t (front ++ bracket_text square w inside) o text_is fits in
+    let here = moved (moved m front) (91 ∷ w) in
+    let run : RunsInside around (grammar.YieldFlowEntries nodes) square x ls here inside o =
+    λ u c j b be qs no_candidate fresh on right at.
+    let inside_fits = inner_fits m front (91 ∷ w) inside (93 ∷ []) o right whole in
+    let i = items left here inside o h inside_fits u c (level_of x j ∷ ls) b be qs no_candidate fresh
+    (omega (arith, r, low)) on at in
+    record {
+      inside = i.inside;
+      flows =
+          i.flows;
+      closes = ends_square around i.inside i.flows;
+      tokens = i.tokens;
+      are = i.are;
+      passes = i.passes;
+    } in
+    let c = collection_passes around p reads (grammar.YieldFlowEntries nodes) square are_square m front w inside o whole
+    f parts (parted_by around.indent w (inside ++ (93 ∷ o)) parts (items_ink around.indent left nodes inside o h))
+    s x k ls a ad ps (omega (arith, r, low)) calm before
+    (text ∙ ap (λ (z : List ℕ). past around.indent m (z ++ o)) text_is) (ends (moved here inside), run) in
+    subst (λ (z : List ℕ). CollectionPasses around (state_at around s x k ls a ad ps) (grammar.YieldFlowEntries nodes)
+    square p (keeping a (length ps) m k z) x ls ps (moved m z) o) (sym text_is) c
+
+-- in braces
+mapping_run : {around : Around} → Reads → (room : ℕ) (p : Properties) (pairs : Pairs) (in_flow : Bool)
+    → ((left : ℕ) → PassesPairs around left pairs) → (m : Marker) (t o : List ℕ)
+    → IsFlowNode room (Map p pairs) in_flow around.indent t → Fits around m t o
+    → (s : Cursor) (x : Context) (k : Option Candidate) (ls : List Level) (a : Bool) (ad : ℕ) (ps : List Place)
+    → ((e : Marker) → around.indent ≤ e.col → EndsAt around.indent x e o) → room + length ls ≤ 255 → Calm around x
+    → ad ≤ m.index
+    → past around.indent s.mark s.rest ≡ past around.indent m (t ++ o)
+    → CollectionPasses around (state_at around s x k ls a ad ps) (grammar.YieldFlowPairs pairs) curly p
+    (keeping a (length ps) m k t) x ls ps (moved m t) o
+mapping_run {around} reads room p pairs in_flow members m t o (left, opening, inside, r, (front, w, f, parts, e), h, is)
+    fits s x k ls a ad ps ends low calm before text =
+    let text_is = whole_text t opening front w inside 123 125 is e in
+    let whole = fits_so m t (front ++ bracket_text curly w inside) o text_is fits in
+    let here = moved (moved m front) (123 ∷ w) in
+    let run : RunsInside around (grammar.YieldFlowPairs pairs) curly x ls here inside o =
+    λ u c j b be qs no_candidate fresh on right at.
+    let inside_fits = inner_fits m front (123 ∷ w) inside (125 ∷ []) o right whole in
+    let i = members left here inside o h inside_fits u c (level_of x j ∷ ls) b be qs no_candidate fresh
+    (omega (arith, r, low)) on at in
+    record {
+      inside = context.FlowMapping;
+      flows =
+          refl;
+      closes = ends_curly around;
+      tokens =
+          i.tokens;
+      are = subst (grammar.YieldFlowPairs pairs) (sym (append-nil i.tokens)) i.are;
+      passes = i.passes;
+    } in
+    let c = collection_passes around p reads (grammar.YieldFlowPairs pairs) curly are_curly m front w inside o whole f
+    parts (parted_by around.indent w (inside ++ (125 ∷ o)) parts (pairs_ink around.indent left pairs inside o h))
+    s x k ls a ad ps (omega (arith, r, low)) calm before
+    (text ∙ ap (λ (z : List ℕ). past around.indent m (z ++ o)) text_is) (ends (moved here inside), run) in
+    subst (λ (z : List ℕ). CollectionPasses around (state_at around s x k ls a ad ps) (grammar.YieldFlowPairs pairs)
+    curly p (keeping a (length ps) m k z) x ls ps (moved m z) o) (sym text_is) c
+
+calm_in_flow : (around : Around) (x : Context) → is_block x ≡ false → Calm around x
+calm_in_flow around x e h = absurd (clash (is_block x) e h)
+  where
+    clash : (b : Bool) → b ≡ false → b ≡ true → ⊥
+    clash true e h = cc
+    clash false e h = cc
+
+calm_at_root : (around : Around) → around.pending ≡ false → around.required ≡ false → Calm around context.Block
+calm_at_root around p e h = p ∙ sym e
+
+-- ## Collections as nodes
+
+behind_parted : (indent : ℕ) (node : Node) (o : List ℕ) → IsBehindNode indent node o → IsParted indent o
+behind_parted indent node o h =
+    record {
+      separation = h.separation;
+      first =
+          h.first;
+      others = h.others;
+      is =
+          h.is;
+      parts = h.parts;
+      ink = (quotes.node_ink node h.separation h.others h.first h.ends).0;
+    }
+
+weaker : (a b : ℕ) → a < b → a ≤ b
+weaker a b h = omega (arith, h)
+
+-- a whole node inside flow is passed
+abbrev PassesWhole : Around → ℕ → Node → Type 0
+PassesWhole around room node =
+    (m : Marker) (p o : List ℕ) → IsFlowNode room node true around.indent p → Fits around m p o
+    → IsBehindNode around.indent node o
+    → (s : Cursor) (x : Context) (k : Option Candidate) (ls : List Level) (a : Bool) (ad : ℕ) (ps : List Place)
+    → ad < m.index → is_block x ≡ false → room + length ls ≤ 255
+    → past around.indent s.mark s.rest ≡ past around.indent m (p ++ o)
+    → NodePasses around (state_at around s x k ls a ad ps) node (saved a (length ps) m k) x ls ps (moved m p) o
+
+sequence_passes : {around : Around} → Reads → (room : ℕ) (p : Properties) (nodes : Nodes)
+    → ((left : ℕ) → PassesItems around left nodes) → PassesWhole around room (Seq p nodes)
+sequence_passes {around} reads room p nodes items m t o h fits behind s x k ls a ad ps before flow low text =
+    let c = sequence_run reads room p nodes true items m t o h fits s x k ls a ad ps
+    (λ e right. ends_inside around.indent x e o flow (behind_parted around.indent (Seq p nodes) o behind) right) low
+    (calm_in_flow around x flow)
+    (weaker ad m.index before) text in
+    let n = c.passes.knows in
+    record {
+      tokens = c.properties ++ (tokens.FlowSequenceStart ∷ (c.inside ++ tokens.FlowSequenceEnd ∷ []));
+      are = (
+        c.properties,
+        tokens.FlowSequenceStart
+            ∷ (c.inside ++ tokens.FlowSequenceEnd ∷ []),
+        c.are_properties,
+        inl (c.inside, c.are, refl),
+        refl,
+      );
+      passes = knowing c.passes (after_node around.indent x (saved a (length ps) m k) (Seq p nodes) (moved m t) o)
+          (record { piece = n.piece; others = n.others; is = n.is; keeps = n.keeps; near = n.near; low = λ e. n.low });
+    }
+
+mapping_passes : {around : Around} → Reads → (room : ℕ) (p : Properties) (pairs : Pairs)
+    → ((left : ℕ) → PassesPairs around left pairs) → PassesWhole around room (Map p pairs)
+mapping_passes {around} reads room p pairs members m t o h fits behind s x k ls a ad ps before flow low text =
+    let c = mapping_run reads room p pairs true members m t o h fits s x k ls a ad ps
+    (λ e right. ends_inside around.indent x e o flow (behind_parted around.indent (Map p pairs) o behind) right) low
+    (calm_in_flow around x flow)
+    (weaker ad m.index before) text in
+    let n = c.passes.knows in
+    record {
+      tokens = c.properties ++ (tokens.FlowMappingStart ∷ (c.inside ++ tokens.FlowMappingEnd ∷ []));
+      are = (
+        c.properties,
+        tokens.FlowMappingStart
+            ∷ (c.inside ++ tokens.FlowMappingEnd ∷ []),
+        c.are_properties,
+        inl (c.inside, c.are, refl),
+        refl,
+      );
+      passes = knowing c.passes (after_node around.indent x (saved a (length ps) m k) (Map p pairs) (moved m t) o)
+          (record { piece = n.piece; others = n.others; is = n.is; keeps = n.keeps; near = n.near; low = λ e. n.low });
+    }
+
+at_ink : (indent : ℕ) (m : Marker) (t o : List ℕ) (ad : ℕ) → BeginsInk t → ad ≤ (past indent m (t ++ o)).0.index
+    → ad ≤ m.index
+at_ink indent m t o ad b h =
+    subst (λ (q : Marker × List ℕ). ad ≤ q.0.index)
+    (ap (λ (x : List ℕ). past indent m (x ++ o)) b.is ∙ past_ink indent m b.first (b.others ++ o) b.ink) h
+
+all_room : 255 + 0 ≤ 255
+all_room = omega arith
+
+sequence_closes : {around : Around} → Reads → (p : Properties) (nodes : Nodes)
+    → ((left : ℕ) → PassesItems around left nodes) → around.required ≡ false → ClosesNode around (Seq p nodes)
+sequence_closes {around} reads p nodes items none_required m t o h fits behind s k a ad ps before text =
+    let low = at_ink around.indent m t o ad (node_ink around.indent 255 (Seq p nodes) false t h) before in
+    let c = sequence_run reads 255 p nodes false items m t o h fits s context.Block k [] a ad ps
+    (λ e right. ends_root around.indent e (moved m t) o behind right) all_room
+    (calm_at_root around fits.calm none_required) low text in
+    record {
+      tokens = c.properties ++ (tokens.FlowSequenceStart ∷ (c.inside ++ tokens.FlowSequenceEnd ∷ []));
+      are = (
+        c.properties,
+        tokens.FlowSequenceStart
+            ∷ (c.inside ++ tokens.FlowSequenceEnd ∷ []),
+        c.are_properties,
+        inl (c.inside, c.are, refl),
+        refl,
+      );
+      closes = root c.passes c.passes.knows.low c.passes.knows.since;
+    }
+
+mapping_closes : {around : Around} → Reads → (p : Properties) (pairs : Pairs)
+    → ((left : ℕ) → PassesPairs around left pairs) → around.required ≡ false → ClosesNode around (Map p pairs)
+mapping_closes {around} reads p pairs members none_required m t o h fits behind s k a ad ps before text =
+    let low = at_ink around.indent m t o ad (node_ink around.indent 255 (Map p pairs) false t h) before in
+    let c = mapping_run reads 255 p pairs false members m t o h fits s context.Block k [] a ad ps
+    (λ e right. ends_root around.indent e (moved m t) o behind right) all_room
+    (calm_at_root around fits.calm none_required) low text in
+    record {
+      tokens = c.properties ++ (tokens.FlowMappingStart ∷ (c.inside ++ tokens.FlowMappingEnd ∷ []));
+      are = (
+        c.properties,
+        tokens.FlowMappingStart
+            ∷ (c.inside ++ tokens.FlowMappingEnd ∷ []),
+        c.are_properties,
+        inl (c.inside, c.are, refl),
+        refl,
+      );
+      closes = root c.passes c.passes.knows.low c.passes.knows.since;
+    }
+
+-- what is shown of a key before its colon
+abbrev KeyPasses : Around → ℕ → Properties → Style → List ℕ → Marker → List ℕ → List ℕ → Type 0
+KeyPasses around room p style value m t o =
+    Fits around m t o → IsBehindNode around.indent (Scalar p style value) o
+    → (s : Cursor) (x : Context) (k : Option Candidate) (ls : List Level) (a : Bool) (ad : ℕ) (ps : List Place)
+    → ad < m.index → is_block x ≡ false → room + length ls ≤ 255
+    → past around.indent s.mark s.rest ≡ past around.indent m (t ++ o)
+    → NodePasses around (state_at around s x k ls a ad ps) (Scalar p style value) (saved a (length ps) m k) x ls ps
+    (moved m t) o
+
+-- ## All nodes
+
+mutual
+  pub nodes_pass : Reads → (around : Around) (room : ℕ) (node : Node) → PassesNode around room node
+  nodes_pass reads around room (Alias name) m t o (inl h) = alias_passes reads around room name m t o h
+  nodes_pass reads around room (Alias name) m t o (inr h) = absurd h.0
+  nodes_pass reads around room (Scalar p style value) m t o (inl h) =
+      scalar_passes reads around room p style value m t o h
+  nodes_pass reads around room (Scalar p style value) m t o (inr (h, (r, e))) =
+      subst (λ (y : List ℕ). KeyPasses around room p style value m t y) (sym e)
+      (λ fits behind s x k ls a ad ps low flow small text. key_node_passes reads around p style value t r m h fits
+      behind s x k ls a ad ps low flow text)
+  nodes_pass reads around room (Seq p nodes) m t o (inl h) =
+      sequence_passes reads room p nodes (λ left. all_items_pass reads around left nodes) m t o h
+  nodes_pass reads around room (Seq p nodes) m t o (inr h) = absurd h.0
+  nodes_pass reads around room (Map p pairs) m t o (inl h) =
+      mapping_passes reads room p pairs (λ left. all_pairs_pass reads around left pairs) m t o h
+  nodes_pass reads around room (Map p pairs) m t o (inr h) = absurd h.0
+
+  pub all_items_pass : Reads → (around : Around) (room : ℕ) (nodes : Nodes) → PassesItems around room nodes
+  all_items_pass reads around room NoNode = no_items_pass room
+  all_items_pass reads around room (MoreNodes node nodes) =
+      items_pass room node nodes (nodes_pass reads around room node) (all_pair_items_pass reads around room node)
+      (all_others_pass reads around room nodes)
+
+  all_others_pass : Reads → (around : Around) (room : ℕ) (nodes : Nodes) → PassesOtherItems around room nodes
+  all_others_pass reads around room NoNode = no_others_pass room
+  all_others_pass reads around room (MoreNodes node nodes) =
+      others_pass room node nodes (nodes_pass reads around room node) (all_pair_items_pass reads around room node)
+      (all_others_pass reads around room nodes)
+
+  all_pair_items_pass : Reads → (around : Around) (room : ℕ) (node : Node) → PassesPairItem around room node
+  all_pair_items_pass reads around room (Map p (MorePairs key value NoPair)) =
+      pair_item_passes room p key value (nodes_pass reads around room key) (nodes_pass reads around room value)
+  all_pair_items_pass reads around room (Map p (MorePairs key value (MorePairs other another pairs))) =
+      λ m t c cs fits ends h. absurd h
+  all_pair_items_pass reads around room (Map p NoPair) = λ m t c cs fits ends h. absurd h
+  all_pair_items_pass reads around room (Alias name) = λ m t c cs fits ends h. absurd h
+  all_pair_items_pass reads around room (Scalar p style value) = λ m t c cs fits ends h. absurd h
+  all_pair_items_pass reads around room (Seq p nodes) = λ m t c cs fits ends h. absurd h
+
+  pub all_pairs_pass : Reads → (around : Around) (room : ℕ) (pairs : Pairs) → PassesPairs around room pairs
+  all_pairs_pass reads around room NoPair = no_pairs_pass room
+  all_pairs_pass reads around room (MorePairs key value pairs) =
+      pairs_pass room key value pairs (nodes_pass reads around room key) (nodes_pass reads around room value)
+      (all_other_pairs_pass reads around room pairs)
+
+  all_other_pairs_pass : Reads → (around : Around) (room : ℕ) (pairs : Pairs) → PassesOtherPairs around room pairs
+  all_other_pairs_pass reads around room NoPair = no_other_pairs_pass room
+  all_other_pairs_pass reads around room (MorePairs key value pairs) =
+      other_pairs_pass room key value pairs (nodes_pass reads around room key) (nodes_pass reads around room value)
+      (all_other_pairs_pass reads around room pairs)
+
+-- at block level, where no key is required
+pub nodes_close : Reads → (around : Around) → ClosesNodes around
+nodes_close reads around none_required (Alias name) = alias_closes reads around name
+nodes_close reads around none_required (Scalar p style value) = scalar_closes reads around p style value
+nodes_close reads around none_required (Seq p nodes) =
+    sequence_closes reads p nodes (λ left. all_items_pass reads around left nodes) none_required
+nodes_close reads around none_required (Map p pairs) =
+    mapping_closes reads p pairs (λ left. all_pairs_pass reads around left pairs) none_required

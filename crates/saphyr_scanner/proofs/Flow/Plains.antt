@@ -1,0 +1,396 @@
+-- The plain scalars of a text in flow style are passed.
+use Rattle.std.proofs.Common.{◌≡◌, ◌≢◌, ℕ, ◌<◌, ◌≤◌, Bool, true, false, List, [], ◌∷◌, ◌++◌, length, slice_index, Ok, refl, sym, ap, ◌∙◌, arith, subst, IsTrue, ◌⊎◌, inl, inr, encode_utf8_all}
+use Rattle.std.specs.Prelude.{◌||◌, ◌&&◌, ◌==◌, not, nat_lt, Option, None}
+use Rattle.std.proofs.lemmas.Bool.Decides.{nat_tests}
+use Rattle.saphyr_input.specs.Breaks.{normalized}
+use Rattle.saphyr_input.specs.Classes.{is_blank, is_blank_or_breakz, is_flow, is_z}
+use Rattle.saphyr_scalar.specs.declared.scalar.position.Marker.{Marker}
+use Rattle.saphyr_scalar.specs.Cursor.{Cursor, ◌>>=◌}
+use Rattle.saphyr_scalar.specs.FlowReading.{plain_value}
+use Rattle.saphyr_scalar.specs.Plain.{Reading, comment_of}
+use Rattle.saphyr_scalar.specs.PlainSpelling.{past_white, EndsPlain, is_word_ink, AreWordInk, IsPlainText}
+use Rattle.saphyr_scanner.specs.declared.engine.level.Context.{Context}
+use Rattle.saphyr_scanner.specs.declared.engine.level.Context.TheVariants as context
+use Rattle.saphyr_scanner.specs.Grammar.Tokens as tokens
+use Rattle.saphyr_scanner.specs.Grammar.Tokens.{Kind, scalar_token}
+use Rattle.saphyr_scanner.specs.Grammar.Forest.{Plain}
+use Rattle.saphyr_scanner.specs.Steps.Queue.{Place}
+use Rattle.saphyr_scanner.specs.Steps.Core.{Candidate, Level, Core, is_block, from_to, went}
+use Rattle.saphyr_scanner.specs.Steps.Scalar as scalar
+use Rattle.saphyr_scanner.specs.Steps.Scalar.{read_plain, disallow_key, behind_plain}
+use Rattle.saphyr_scanner.specs.Steps.Fetch.{step, is_value_adjacent}
+use Rattle.saphyr_scanner.specs.Grammar.FlowScalars.{begins_plain, IsPlain, IsPlainKey}
+use Rattle.saphyr_scalar.specs.TagSpelling.{AreIn}
+use Rattle.saphyr_scanner.proofs.InFlow.States.{Around, core_at, state_at, Placed, placed_right, plain_placed, saves_key, none_deeper}
+use Rattle.saphyr_scanner.proofs.Json.Marks.{saved}
+use Rattle.saphyr_scanner.proofs.Json.Brackets.{place_of}
+use Rattle.saphyr_scanner.proofs.Flow.States.{keeping, moved, past, IsClear, IsInk, Reads, Passes, Closes, Fits}
+use Rattle.saphyr_scanner.proofs.Flow.Places.{moved_count}
+use Rattle.saphyr_scanner.proofs.Flow.Fillers.{white_past}
+use Rattle.saphyr_scanner.proofs.Flow.Gaps.{past_ink}
+use Rattle.saphyr_scanner.proofs.Flow.Arrivals.{arrives, within_index}
+use Rattle.saphyr_scanner.proofs.Flow.Low.{behind_low}
+use Rattle.saphyr_scanner.proofs.Flow.Tokens.{Begins, saved_since, begins_past, begins_inked, begins_token, after_token, token_passes}
+use Rattle.saphyr_scanner.proofs.Flow.Words.{passed_moved, normalized_same, ink_other, no_break, plain_text, key_text, plain_right, key_right}
+use Rattle.saphyr_scanner.proofs.Flow.Noted.{noted_one}
+use Rattle.saphyr_scanner.proofs.InBlock.Crossings.{white_crosses}
+use Rattle.saphyr_input.proofs.Basics.Booleans.{other_than, and_false}
+use Rattle.saphyr_scalar.proofs.Given.{cursor_at}
+use Rattle.std.proofs.lemmas.Bool.{ne_eqb, eqb-true}
+
+-- ## The first two characters
+
+-- the first word of a plain scalar begins a text
+pub record BeginsWord (f : Bool) (t : List ℕ) : Type 0 where
+  pub first : ℕ
+  pub others : List ℕ
+  pub is : t ≡ first ∷ others
+  pub begins : IsTrue (begins_plain first)
+  pub ink : IsTrue (is_word_ink f first)
+  pub no_comment : first ≢ 35
+  pub further : (first ≡ 45) ⊎ ((first ≡ 63) ⊎ (first ≡ 58))
+      → (second : ℕ) × (more : List ℕ) × (others ≡ second ∷ more) × IsTrue (is_word_ink f second)
+
+pub word_begins : (f : Bool) (indent : ℕ) (t : List ℕ) → IsPlain f indent t → BeginsWord f t
+word_begins f indent t (word, others, (is_word, begins, no_dash, no_mark, no_colon), many, is) =
+    by_word word is_word.some is_word.ink is_word.no_comment begins no_dash no_mark no_colon is
+  where
+    lone : (c d : ℕ) → c ≡ d → (c ∷ []) ≢ (d ∷ []) → ⊥
+    lone c d e other = other (ap (λ (z : ℕ). z ∷ []) e)
+
+    by_word : (w : List ℕ) → w ≢ [] → AreWordInk f w → slice_index w 0 ≢ 35 → IsTrue (begins_plain (slice_index w 0))
+        → w ≢ 45 ∷ [] → w ≢ 63 ∷ [] → w ≢ 58 ∷ [] → t ≡ w ++ others → BeginsWord f t
+    by_word [] some ink sign b dash mark colon e = absurd (some refl)
+    by_word (c ∷ []) some ink sign b dash mark colon e =
+        record { first = c; others = others; is = e; begins = b; ink = ink.0; no_comment = sign; further = alone }
+      where
+        alone : (c ≡ 45) ⊎ ((c ≡ 63) ⊎ (c ≡ 58))
+            → (second : ℕ) × (more : List ℕ) × (others ≡ second ∷ more) × IsTrue (is_word_ink f second)
+        alone (inl k) = absurd (lone c 45 k dash)
+        alone (inr (inl k)) = absurd (lone c 63 k mark)
+        alone (inr (inr k)) = absurd (lone c 58 k colon)
+    by_word (c ∷ d ∷ ds) some ink sign b dash mark colon e =
+        record {
+          first = c;
+          others =
+              d ∷ (ds ++ others);
+          is =
+              e;
+          begins = b;
+          ink = ink.0;
+          no_comment = sign;
+          further = λ _. (d, ds ++ others, refl, ink.2.0);
+        }
+
+-- the first word of a key
+pub key_begins : (f : Bool) (indent : ℕ) (t : List ℕ) → IsPlainKey f indent t → BeginsWord f t
+key_begins f indent t (inl ((some, ink, sign), begins, dash, mark, colon)) =
+    by_word t some ink sign begins dash mark colon
+  where
+    lone : (c d : ℕ) → c ≡ d → (c ∷ []) ≢ (d ∷ []) → ⊥
+    lone c d e other = other (ap (λ (z : ℕ). z ∷ []) e)
+
+    by_word : (w : List ℕ) → w ≢ [] → AreIn (is_word_ink f) w → slice_index w 0 ≢ 35
+        → IsTrue (begins_plain (slice_index w 0)) → w ≢ 45 ∷ [] → w ≢ 63 ∷ [] → w ≢ 58 ∷ [] → BeginsWord f w
+    by_word [] some ink sign b dash mark colon = absurd (some refl)
+    by_word (c ∷ []) some ink sign b dash mark colon =
+        record { first = c; others = []; is = refl; begins = b; ink = ink.0; no_comment = sign; further = alone }
+      where
+        alone : (c ≡ 45) ⊎ ((c ≡ 63) ⊎ (c ≡ 58))
+            → (second : ℕ) × (more : List ℕ) × ([] ≡ second ∷ more) × IsTrue (is_word_ink f second)
+        alone (inl k) = absurd (lone c 45 k dash)
+        alone (inr (inl k)) = absurd (lone c 63 k mark)
+        alone (inr (inr k)) = absurd (lone c 58 k colon)
+    by_word (c ∷ d ∷ ds) some ink sign b dash mark colon =
+        record {
+          first = c;
+          others =
+              d ∷ ds;
+          is = refl;
+          begins = b;
+          ink = ink.0;
+          no_comment = sign;
+          further = λ _. (d, ds, refl, ink.1.0);
+        }
+key_begins f indent t (inr (plain, gap, word, h, gapped, last, e)) =
+    let b = word_begins f indent plain h in
+    record {
+      first = b.first;
+      others = b.others ++ (gap ++ word);
+      is = e ∙ ap (λ (y : List ℕ). y ++ (gap ++ word)) b.is;
+      begins = b.begins;
+      ink = b.ink;
+      no_comment = b.no_comment;
+      further = λ k. let r = b.further k in
+          (r.0, r.1 ++ (gap ++ word), ap (λ (y : List ℕ). y ++ (gap ++ word)) r.2, r.3);
+    }
+
+no_blank : (c : ℕ) → is_blank_or_breakz c ≡ false → is_blank c ≡ false
+no_blank c h = grind (arith, nat_tests)
+
+no_nul : (c : ℕ) → is_blank_or_breakz c ≡ false → is_z c ≡ false
+no_nul c h = grind (arith, nat_tests)
+
+pub token_begins : (f : Bool) (t : List ℕ) → BeginsWord f t → Begins t
+token_begins f t b =
+    let o = ink_other f b.first b.ink in
+    record {
+      first = b.first;
+      others = b.others;
+      is = b.is;
+      ink = record {
+        blank = no_blank b.first o.blank_or_breakz;
+        break =
+            no_break b.first o.blank_or_breakz;
+        comment =
+            ne_eqb b.first 35 b.no_comment;
+        byte_order_mark = o.byte_order_mark;
+      };
+      nul = no_nul b.first o.blank_or_breakz;
+      directive = other_than begins_plain 37 b.first refl b.begins;
+    }
+
+-- a character before a word's second one
+lone_test : (f : Bool) (first d second : ℕ) → (first ≡ d → IsTrue (is_word_ink f second))
+    → ((first == d) && is_blank_or_breakz second) ≡ false
+lone_test f first d second h = by_first (first == d) refl
+  where
+    by_first : (b : Bool) → (first == d) ≡ b → ((first == d) && is_blank_or_breakz second) ≡ false
+    by_first true e = rw e ((ink_other f second (h (eqb-true first d e))).blank_or_breakz)
+    by_first false e = rw e refl
+
+-- no value stands where a colon is part of a word
+value_test : (block : Bool) (first second i ad : ℕ) → (first ≡ 58 → IsTrue (is_word_ink (not block) second))
+    → (block ≡ true) ⊎ (ad < i)
+    → ((first == 58) && (not block && (is_flow second || (i == ad)))) ≡ false
+value_test true first second i ad h low = and_false (first == 58)
+value_test false first second i ad h (inl e) = absurd (cc)
+value_test false first second i ad h (inr low) = by_first (first == 58) refl
+  where
+    further : (i ad : ℕ) → ad < i → (i == ad) ≡ false
+    further i ad h = grind (arith, nat_tests)
+
+    by_first : (b : Bool) → (first == 58) ≡ b → ((first == 58) && (true && (is_flow second || (i == ad)))) ≡ false
+    by_first true e = rw (e, (ink_other true second (h (eqb-true first 58 e))).flow, further i ad low) refl
+    by_first false e = rw e refl
+
+pub plain_begins : (first second n : ℕ) (c : Core) → IsTrue (begins_plain first)
+    → ((first == 45) && is_blank_or_breakz second) ≡ false → ((first == 63) && is_blank_or_breakz second) ≡ false
+    → ((first == 58) && is_blank_or_breakz second) ≡ false
+    → ((first == 58) && is_value_adjacent second c) ≡ false → step first second n c ≡ scalar.plain n c
+unfolding step
+plain_begins first second n c h dash mark colon value =
+    let other : (d : ℕ) → begins_plain d ≡ false → (first == d) ≡ false = λ d e. other_than begins_plain d first e h in
+    rw (
+      other 91 refl,
+      other 123 refl,
+      other 93 refl,
+      other 125 refl,
+      other 44 refl,
+      dash,
+      mark,
+      colon,
+      value,
+      other 34 refl,
+      other 39 refl,
+      other 42 refl,
+      other 38 refl,
+      other 33 refl,
+      other 124 refl,
+      other 62 refl,
+      other 37 refl,
+      other 64 refl,
+      other 96 refl,
+    ) refl
+
+-- ## The scalar is read
+
+-- the value of a plain scalar as a token
+abbrev plain_token : List ℕ → Kind
+plain_token t = scalar_token Plain (plain_value t)
+
+-- what is read of a text that ends at a place
+abbrev found : Bool → List ℕ → Marker → List ℕ → Reading
+found f o end v = Ok (
+  encode_utf8_all (plain_value v),
+  end,
+  comment_of f false (past_white end false o),
+  past_white end
+      false o,
+)
+
+plain_read : Reads → (around : Around) (d : Bool) (n : ℕ) (m : Marker) (b : Bool) (t o : List ℕ) (x : Context)
+    → IsPlainText (not (is_block x)) around.indent m t o → IsClear m t o
+    → (k : Option Candidate) (ls : List Level) (a : Bool) (ad : ℕ) → Placed around x a m
+    → let u = past_white (moved m t) false o in scalar.plain n (core_at around d (cursor_at (t ++ o) m b) x k ls a ad)
+    ≡ went (from_to m (moved m t) (plain_token t) ∷ [])
+    (record (core_at around false u x (saved a n m k) ls u.blank_so_far ad)
+    { comment = comment_of (not (is_block x)) false u })
+unfolding scalar.plain read_plain
+plain_read reads around d n m b t o x h clear k ls a ad placed =
+    let s = cursor_at (t ++ o) m b in
+    let f = not (is_block x) in
+    let c = core_at around false s x (saved a n m k) ls false ad in
+    let token = λ (z : List ℕ × Marker × Option Marker × Cursor). went (from_to m z.1 (tokens.Scalar Plain z.0) ∷ [])
+    (behind_plain z.2 z.3 c) in
+    let refused : (f && nat_lt m.col around.indent) ≡ false = plain_placed around x a m placed in
+    let got = reads.plain f around.indent s t o refl h
+    ∙ ap (λ (end : Marker). found f o end (normalized t)) (passed_moved m t clear.no_return)
+    ∙ ap (found f o (moved m t)) (normalized_same t clear.no_return) in
+    ap (λ (q : Core). read_plain (record (disallow_key q) { deeper = false }))
+    (saves_key n around d s x k ls a ad placed) ∙ rw refused (ap (λ q. q >>= token) got)
+
+-- ## The step
+
+-- no other token begins where a plain scalar does
+pub plain_dispatches : (around : Around) (d : Bool) (s : Cursor) (n : ℕ) (t o : List ℕ) (x : Context)
+    → BeginsWord (not (is_block x)) t → (k : Option Candidate) (ls : List Level) (a : Bool) (ad : ℕ)
+    → (is_block x ≡ true) ⊎ (ad < s.mark.index)
+    → step (slice_index (t ++ o) 0) (slice_index (t ++ o) 1) n (core_at around d s x k ls a ad)
+    ≡ scalar.plain n (core_at around d s x k ls a ad)
+plain_dispatches around d s n t o x w k ls a ad low =
+    let f = not (is_block x) in
+    let first = slice_index (t ++ o) 0 in
+    let second = slice_index (t ++ o) 1 in
+    let at_first : first ≡ w.first = ap (λ (y : List ℕ). slice_index (y ++ o) 0) w.is in
+    let at_second : (first ≡ 45) ⊎ ((first ≡ 63) ⊎ (first ≡ 58)) → IsTrue (is_word_ink f second) =
+    λ e. second_ink f t o w (subst (λ (i : ℕ). (i ≡ 45) ⊎ ((i ≡ 63) ⊎ (i ≡ 58))) at_first e) in
+    plain_begins first second n (core_at around d s x k ls a ad)
+    (subst (λ (i : ℕ). IsTrue (begins_plain i)) (sym at_first) w.begins)
+    (lone_test f first 45 second (λ e. at_second (inl e))) (lone_test f first 63 second (λ e. at_second (inr (inl e))))
+    (lone_test f first 58 second (λ e. at_second (inr (inr e))))
+    (value_test (is_block x) first second s.mark.index ad (λ e. at_second (inr (inr e))) low)
+  where
+    second_ink : (f : Bool) (t o : List ℕ) (w : BeginsWord f t) → (w.first ≡ 45) ⊎ ((w.first ≡ 63) ⊎ (w.first ≡ 58))
+        → IsTrue (is_word_ink f (slice_index (t ++ o) 1))
+    second_ink f t o w e =
+        let r = w.further e in
+        let text : t ≡ w.first ∷ r.0 ∷ r.1 = w.is ∙ ap (λ (y : List ℕ). w.first ∷ y) r.2 in
+        subst (λ (y : List ℕ). IsTrue (is_word_ink f (slice_index (y ++ o) 1))) (sym text) r.3
+
+-- The premises of a step over a plain scalar: outside flow, or where no colon may stand at once.
+pub plain_step : Reads → (around : Around) (d : Bool) (n : ℕ) (m : Marker) (b : Bool) (t o : List ℕ) (x : Context)
+    → BeginsWord (not (is_block x)) t → IsPlainText (not (is_block x)) around.indent m t o → IsClear m t o
+    → (k : Option Candidate) (ls : List Level) (a : Bool) (ad : ℕ) → (is_block x ≡ true) ⊎ (ad < m.index)
+    → Placed around x a m
+    → let u = past_white (moved m t) false o in
+    step (slice_index (t ++ o) 0) (slice_index (t ++ o) 1) n (core_at around d (cursor_at (t ++ o) m b) x k ls a ad)
+    ≡ went (from_to m (moved m t) (plain_token t) ∷ [])
+    (record (core_at around false u x (saved a n m k) ls u.blank_so_far ad)
+    { comment = comment_of (not (is_block x)) false u })
+plain_step reads around d n m b t o x begins text clear k ls a ad low placed =
+    plain_dispatches around d (cursor_at (t ++ o) m b) n t o x begins k ls a ad low
+    ∙ plain_read reads around d n m b t o x text clear k ls a ad placed
+
+-- ## Inside flow
+
+-- the place where a colon may stand at once is still the same
+abbrev pub still_adjacent : ℕ → Bool → ℕ → Type 0
+still_adjacent ad allowed adjacent = adjacent ≡ ad
+
+no_comment : (f : Bool) (u : Cursor) → f ≡ true → comment_of f false u ≡ None
+unfolding comment_of
+no_comment f u e = rw e refl
+
+-- a text that is read as a plain scalar is passed
+pub text_passes : Reads → (around : Around) (t o : List ℕ) (m : Marker) → BeginsWord true t
+    → IsPlainText true around.indent m t o → Fits around m t o → around.indent ≤ (moved m t).col
+    → is_blank (slice_index (past around.indent (moved m t) o).1 0) ≡ false
+    → (s : Cursor) (x : Context) (k : Option Candidate) (ls : List Level) (a : Bool) (ad : ℕ) (ps : List Place)
+    → is_block x ≡ false → ad < m.index → past around.indent s.mark s.rest ≡ past around.indent m (t ++ o)
+    → Passes around (state_at around s x k ls a ad ps) (after_token (still_adjacent ad) x (keeping a (length ps) m k t))
+    x ls ps (moved m t) o (scalar_token Plain (plain_value t) ∷ [])
+text_passes reads around t o m begins plain fits right inked s x k ls a ad ps flow low text =
+    let inside : not (is_block x) ≡ true = ap not flow in
+    let u = past_white (moved m t) false o in
+    let word : BeginsWord (not (is_block x)) t = subst (λ (f : Bool). BeginsWord f t) (sym inside) begins in
+    let is_text : IsPlainText (not (is_block x)) around.indent m t o =
+    subst (λ (f : Bool). IsPlainText f around.indent m t o) (sym inside) plain in
+    token_passes around (still_adjacent ad) (plain_token t) t o m (token_begins true t begins) fits right s x k ls a ad
+    ps text
+    (λ b j e. record {
+      there = u;
+      end = moved m t;
+      allowed = u.blank_so_far;
+      adjacent = ad;
+      to = λ d. false;
+      deepens = none_deeper around;
+      is = λ d. plain_step reads around d (length ps) m b t o x word is_text fits.clear j ls e ad (inr low)
+          (placed_right x e fits.calm fits.right)
+          ∙ ap (λ (q : Option Marker). went (from_to m (moved m t) (plain_token t) ∷ [])
+          (record (core_at around false u x (saved e (length ps) m j) ls u.blank_so_far ad) { comment = q }))
+          (no_comment (not (is_block x)) u inside);
+      fits = white_past around.indent (moved m t) false o inked;
+      fresh = λ _ e. white_crosses (moved m t) false o e;
+      tells = refl;
+    })
+
+pub plain_passes : Reads → (around : Around) (t o : List ℕ) (m : Marker) → IsPlain true around.indent t
+    → Fits around m t o → EndsPlain true around.indent (moved m t) o
+    → is_blank (slice_index (past around.indent (moved m t) o).1 0) ≡ false
+    → (s : Cursor) (x : Context) (k : Option Candidate) (ls : List Level) (a : Bool) (ad : ℕ) (ps : List Place)
+    → is_block x ≡ false → ad < m.index → past around.indent s.mark s.rest ≡ past around.indent m (t ++ o)
+    → Passes around (state_at around s x k ls a ad ps) (after_token (still_adjacent ad) x (keeping a (length ps) m k t))
+    x ls ps (moved m t) o (scalar_token Plain (plain_value t) ∷ [])
+plain_passes reads around t o m h fits ends inked =
+    text_passes reads around t o m (word_begins true around.indent t h)
+    (plain_text true around.indent m t o h fits.clear ends) fits
+    (plain_right true around.indent m t o h fits.clear fits.right) inked
+
+-- a key is passed, up to its colon
+pub plain_key_passes : Reads → (around : Around) (t r : List ℕ) (m : Marker) → IsPlainKey true around.indent t
+    → Fits around m t (58 ∷ r) → EndsPlain true around.indent (moved m t) (58 ∷ r)
+    → (s : Cursor) (x : Context) (k : Option Candidate) (ls : List Level) (a : Bool) (ad : ℕ) (ps : List Place)
+    → is_block x ≡ false → ad < m.index → past around.indent s.mark s.rest ≡ past around.indent m (t ++ (58 ∷ r))
+    → Passes around (state_at around s x k ls a ad ps) (after_token (still_adjacent ad) x (keeping a (length ps) m k t))
+    x ls ps (moved m t) (58 ∷ r) (scalar_token Plain (plain_value t) ∷ [])
+plain_key_passes reads around t r m h fits ends =
+    text_passes reads around t (58 ∷ r) m (key_begins true around.indent t h)
+    (key_text true around.indent m t r h fits.clear ends) fits
+    (key_right true around.indent m t r h fits.clear fits.right)
+    (ap (λ (z : Marker × List ℕ). is_blank (slice_index z.1 0)) (past_ink around.indent (moved m t) 58 r colon_ink))
+  where
+    colon_ink : IsInk 58
+    colon_ink = record { blank = refl; break = refl; comment = refl; byte_order_mark = refl }
+
+-- ## A document's node
+
+pub plain_closes : Reads → (around : Around) (t o : List ℕ) (m : Marker) → IsPlain false around.indent t
+    → Fits around m t o → EndsPlain false around.indent (moved m t) o
+    → is_blank (slice_index (past around.indent (moved m t) o).1 0) ≡ false
+    → (s : Cursor) (k : Option Candidate) (a : Bool) (ad : ℕ) (ps : List Place) → ad ≤ m.index
+    → past around.indent s.mark s.rest ≡ past around.indent m (t ++ o)
+    → Closes around (state_at around s context.Block k [] a ad ps) k m t ps (moved m t) o
+    (scalar_token Plain (plain_value t) ∷ [])
+plain_closes reads around t o m h fits ends inked s k a ad ps before text =
+    let w = word_begins false around.indent t h in
+    let f = token_begins false t w in
+    let v = arrives around s context.Block k [] a ad ps m (t ++ o) (text ∙ begins_past around.indent m t o f)
+    (begins_inked t o f) fits.right fits.calm in
+    let u = past_white (moved m t) false o in
+    let lands = white_past around.indent (moved m t) false o inked in
+    let count = moved_count m t o in
+    let below = fits.below in
+    let low = within_index around.indent around.limit u (moved m t) o lands (omega (arith, count, below)) in
+    let new = place_of m (moved m t) (plain_token t) ∷ [] in
+    let stepped = λ (d : Bool). plain_step reads around d (length ps) m v.blank t o context.Block w
+    (plain_text false around.indent m t o h fits.clear ends) fits.clear v.key [] v.allowed ad (inl refl)
+    (placed_right context.Block v.allowed fits.calm fits.right) in
+    let came = noted_one around s k [] a ad ps m (t ++ o) v (begins_token m t o f fits.clear) (comment_of false false u)
+    u (saved v.allowed (length ps) m v.key) [] u.blank_so_far ad (ps ++ new)
+    (from_to m (moved m t) (plain_token t) ∷ []) (λ d. false) (none_deeper around) stepped refl low in
+    record {
+      there = u;
+      key = came.key;
+      allowed = u.blank_so_far;
+      adjacent = ad;
+      comment = comment_of false false u;
+      new = new;
+      leads = came.leads;
+      right = plain_right false around.indent m t o h fits.clear fits.right;
+      fits = lands;
+      are = refl;
+      low = behind_low around.indent ad m t o before;
+      late = saved_since v.allowed (length ps) m k v.key t came.key v.kept came.kept;
+      fresh = λ _ e. white_crosses (moved m t) false o e;
+    }

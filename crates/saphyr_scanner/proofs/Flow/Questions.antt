@@ -1,0 +1,144 @@
+-- The `?` of a text in flow style is read.
+use Rattle.std.proofs.Common.{◌≡◌, ◌≢◌, ℕ, ◌≤◌, Bool, true, false, List, [], ◌∷◌, ◌++◌, length, slice_index, Ok, refl, sym, ap, ◌∙◌, arith, ◌⊎◌, inl, inr}
+use Rattle.std.specs.Prelude.{◌==◌, Option, None}
+use Rattle.std.proofs.lemmas.Bool.Decides.{nat_tests}
+use Rattle.saphyr_input.specs.Classes.{is_blank, is_blank_or_breakz}
+use Rattle.saphyr_scalar.specs.declared.scalar.position.Marker.{Marker}
+use Rattle.saphyr_scalar.specs.Cursor.{Cursor, ◌>>=◌, along}
+use Rattle.saphyr_scalar.specs.Spaces.{IsSeparation}
+use Rattle.saphyr_scanner.specs.declared.engine.level.Context.{Context}
+use Rattle.saphyr_scanner.specs.declared.engine.level.Context.TheVariants as context
+use Rattle.saphyr_scanner.specs.Grammar.FlowNodes.{has_tab_outside}
+use Rattle.saphyr_scanner.specs.Steps.Gap.{Spaced, spaced, spaces}
+use Rattle.saphyr_scanner.specs.Grammar.Tokens as tokens
+use Rattle.saphyr_scanner.specs.Steps.Queue.{Place}
+use Rattle.saphyr_scanner.specs.Steps.Core.{Candidate, Level, Core, is_block, from_to, up_to_here, went, remove_key}
+use Rattle.saphyr_scanner.specs.Steps.Block as block
+use Rattle.saphyr_scanner.specs.Steps.Block.{behind_question, behind_mark, pass_mark, begin_key}
+use Rattle.saphyr_scanner.specs.Steps.Passing.{with_cursor}
+use Rattle.saphyr_scanner.specs.Steps.Fetch.{step}
+use Rattle.saphyr_scanner.proofs.InFlow.States.{Around, core_at, state_at, as_before}
+use Rattle.saphyr_scanner.proofs.Flow.Places.{right_one}
+use Rattle.saphyr_scanner.proofs.Json.Brackets.{place_of}
+use Rattle.saphyr_scanner.proofs.Flow.States.{moved, past, IsInk, IsParted, no_key, Passes, Fits}
+use Rattle.saphyr_scanner.proofs.Flow.Gaps.{past_ink}
+use Rattle.saphyr_scanner.proofs.Flow.Fillers.{separation_past}
+use Rattle.saphyr_scanner.proofs.Flow.Arrivals.{arrives, one, within_index}
+use Rattle.saphyr_scanner.proofs.Flow.Joins.{once}
+use Rattle.saphyr_scanner.proofs.InBlock.Crossings.{fresh_in_flow}
+use Rattle.saphyr_scanner.proofs.Flow.Brackets.{IsMark, mark_begins, mark_moved, one_on}
+use Rattle.saphyr_scanner.proofs.Flow.Spaces.{separation_begins, spaces_passed}
+use Rattle.saphyr_scalar.proofs.Given.{cursor_at}
+use Rattle.saphyr_input.proofs.Basics.Numbers.{le_next}
+use Rattle.saphyr_input.proofs.Basics.Characters.{ink_no_tab}
+use Rattle.std.proofs.lemmas.Bool.{true≢false}
+
+question : IsMark 63
+question = record {
+  ink =
+      record { blank = refl; break = refl; comment = refl; byte_order_mark = refl };
+  nul =
+      refl;
+  directive = refl;
+  feed = refl;
+}
+
+white_first : (indent : ℕ) (w y : List ℕ) → IsSeparation indent w → w ≢ []
+    → is_blank_or_breakz (slice_index (w ++ y) 0) ≡ true
+white_first indent w y parts some =
+    let b = separation_begins indent w parts some in
+    ap (λ (t : List ℕ). is_blank_or_breakz (slice_index (t ++ y) 0)) b.is ∙ by_first b.first b.white
+  where
+    blank : (c : ℕ) → is_blank c ≡ true → is_blank_or_breakz c ≡ true
+    blank c h = grind (arith, nat_tests)
+
+    by_first : (c : ℕ) → (is_blank c ≡ true) ⊎ (c ≡ 10) → is_blank_or_breakz c ≡ true
+    by_first c (inl h) = blank c h
+    by_first c (inr e) = ap is_blank_or_breakz e
+
+begins : (second i : ℕ) (c : Core) → is_blank_or_breakz second ≡ true → step 63 second i c ≡ block.key c
+unfolding step
+begins second i c h = rw h refl
+
+begins_key : (around : Around) (d : Bool) (s : Cursor) (y : Context) (k : Option Candidate) (ls : List Level) (a : Bool)
+    (ad : ℕ) → is_block y ≡ false
+    → begin_key (core_at around d s y k ls a ad) ≡ pass_mark (core_at around d s (behind_question y) None ls false ad)
+unfolding begin_key remove_key
+begins_key around d s context.Block k ls a ad e = absurd (true≢false e)
+begins_key around d s context.FlowSequence k ls a ad e = refl
+begins_key around d s context.FlowMapping k ls a ad e = refl
+begins_key around d s context.FlowPair k ls a ad e = refl
+begins_key around d s context.ExplicitFlowPair k ls a ad e = refl
+begins_key around d s context.MarkedFlowPair k ls a ad e = refl
+
+passes_mark : (around : Around) (d : Bool) (o : List ℕ) (m : Marker) (b : Bool) (y : Context) (ls : List Level) (ad : ℕ)
+    (n : Marker) (blank : Bool) (c : ℕ) (cs : List ℕ) → IsInk c
+    → spaces (along m 1) false false o ≡ spaced n blank true (c ∷ cs)
+    → pass_mark (core_at around d (cursor_at (63 ∷ o) m b) y None ls false ad)
+    ≡ Ok (core_at around d (cursor_at (c ∷ cs) n blank) y None ls false ad)
+unfolding behind_mark
+passes_mark around d o m b y ls ad n blank c cs ink is =
+    let here = core_at around d (cursor_at (63 ∷ o) m b) y None ls false ad in
+    ap (λ (z : Spaced). behind_mark z.space (with_cursor z.cursor here)) is ∙ rw (ink_no_tab c ink.blank) refl
+
+question_flows : (y : Context) → is_block y ≡ false → is_block (behind_question y) ≡ false
+question_flows context.Block e = absurd (true≢false e)
+question_flows context.FlowSequence e = refl
+question_flows context.FlowMapping e = refl
+question_flows context.FlowPair e = refl
+question_flows context.ExplicitFlowPair e = refl
+question_flows context.MarkedFlowPair e = refl
+
+key_of : (around : Around) (d : Bool) (s : Cursor) (y : Context) (k : Option Candidate) (ls : List Level) (a : Bool)
+    (ad : ℕ) → is_block y ≡ false
+    → block.key (core_at around d s y k ls a ad)
+    ≡ (begin_key (core_at around d s y k ls a ad) >>= λ e. went (up_to_here s.mark tokens.Key e ∷ []) e)
+unfolding block.key
+key_of around d s context.Block k ls a ad e = absurd (true≢false e)
+key_of around d s context.FlowSequence k ls a ad e = refl
+key_of around d s context.FlowMapping k ls a ad e = refl
+key_of around d s context.FlowPair k ls a ad e = refl
+key_of around d s context.ExplicitFlowPair k ls a ad e = refl
+key_of around d s context.MarkedFlowPair k ls a ad e = refl
+
+-- A `?` before separation without a tab: the key behind it is not kept.
+pub mark_passes : (around : Around) (y : Context) → is_block y ≡ false → (m : Marker) (o : List ℕ)
+    → Fits around m (63 ∷ []) o
+    → (parted : IsParted around.indent o) → parted.separation ≢ [] → has_tab_outside false parted.separation ≡ false
+    → (s : Cursor) (k : Option Candidate) (ls : List Level) (a : Bool) (ad : ℕ) (ps : List Place) → ad ≤ m.index
+    → past around.indent s.mark s.rest ≡ past around.indent m (63 ∷ o)
+    → Passes around (state_at around s y k ls a ad ps) (no_key (moved m (63 ∷ []))) (behind_question y) ls ps
+    (moved m (63 ∷ [])) o (tokens.Key ∷ [])
+mark_passes around y flows m o fits parted some tabs s k ls a ad ps before text =
+    let v = arrives around s y k ls a ad ps m (63 ∷ o) (text ∙ past_ink around.indent m 63 o question.ink) refl
+    fits.right fits.calm in
+    let on = le_next around.indent m.col fits.right in
+    let w = parted.separation in
+    let c = parted.first in
+    let cs = parted.others in
+    let seen = cursor_at (63 ∷ o) m v.blank in
+    let p = spaces_passed around.indent (along m 1) false w c cs parted.parts on some tabs parted.ink in
+    let n = moved (along m 1) w in
+    let there = cursor_at (c ∷ cs) n p.still_blank in
+    let white : is_blank_or_breakz (slice_index o 0) ≡ true = ap (λ (t : List ℕ). is_blank_or_breakz (slice_index t 0))
+    parted.is ∙ white_first around.indent w (c ∷ cs) parted.parts some in
+    let stepped = λ (d : Bool). begins (slice_index o 0) (length ps) (core_at around d seen y v.key ls v.allowed ad)
+    white ∙ key_of around d seen y v.key ls v.allowed ad flows
+    ∙ ap (λ q. q >>= λ (e : Core). went (up_to_here m tokens.Key e ∷ []) e)
+    (begins_key around d seen y v.key ls v.allowed ad flows
+    ∙ passes_mark around d o m v.blank (behind_question y) ls ad n p.still_blank c cs parted.ink
+    (ap (spaces (along m 1) false false) parted.is ∙ p.is)) in
+    let lands : past around.indent there.mark there.rest ≡ past around.indent (along m 1) o =
+    sym (ap (past around.indent (along m 1)) parted.is
+    ∙ separation_past around.indent (along m 1) w (c ∷ cs) parted.parts on) in
+    let below = fits.below in
+    let new = place_of m n tokens.Key ∷ [] in
+    let came = one around s y k ls a ad ps m (63 ∷ o) v (mark_begins m 63 o question fits.clear) there
+    (behind_question y) None ls false ad (ps ++ new) (from_to m n tokens.Key ∷ []) (λ d. d) (as_before around)
+    stepped refl
+    (within_index around.indent around.limit there (along m 1) o lands (omega (arith, below))) in
+    once false ad there ps new (moved m (63 ∷ [])) o (tokens.Key ∷ []) (no_key (moved m (63 ∷ []))) came
+    (right_one around.indent m 63 refl fits.right)
+    (lands ∙ ap (λ (q : Marker). past around.indent q o) (mark_moved m 63 question))
+    (fresh_in_flow (behind_question y) o false there (question_flows y flows)) refl
+    (came.same (question_flows y flows), refl, one_on m 63 ad before)

@@ -1,0 +1,505 @@
+-- The plain scalars of a text in flow style are plain scalars as they are read.
+use Rattle.std.proofs.Common.{◌≡◌, ◌≢◌, ℕ, zero, suc, ◌+◌, ◌≤◌, Bool, true, false, List, [], ◌∷◌, ◌++◌, length, drop, slice_index, refl, sym, ap, ◌∙◌, arith, subst, append_assoc, append-nil, IsTrue, IsFalse, ◌⊎◌, inl, inr}
+use Rattle.std.specs.Prelude.{◌||◌, ◌&&◌, ◌==◌, not, nat_lt, if◌then◌else◌}
+use Rattle.std.specs.List.{prefix_len}
+use Rattle.std.proofs.lemmas.Bool.Decides.{nat_tests}
+use Rattle.saphyr_input.specs.Breaks.{normalized}
+use Rattle.saphyr_input.specs.Classes.{is_blank, is_break, is_blank_or_breakz, is_bom, is_flow, line_feed, carriage_return, tab}
+use Rattle.saphyr_input.specs.Places.{is_document_indicator}
+use Rattle.saphyr_scalar.specs.declared.scalar.position.Marker.{Marker}
+use Rattle.saphyr_scalar.specs.Cursor.{along, next_line}
+use Rattle.saphyr_scalar.specs.BlockRead.{spaces}
+use Rattle.saphyr_scalar.specs.Plain.{ends_line}
+use Rattle.saphyr_scalar.specs.PlainReading.{AreWhite, passed}
+use Rattle.saphyr_scalar.specs.PlainSpelling.{behind_blanks, tabs_fit, has_line_end, EndsPlain, is_word_ink, AreWordInk, IsWordIn, AreInkBefore, IsWordBefore, IsPlainGap, words_text, IsNoMarker, AreFurtherWords, IsPlainText}
+use Rattle.saphyr_scalar.specs.TagSpelling.{AreIn}
+use Rattle.saphyr_scalar.specs.Spaces.{joined, AreEach, AreSpaces}
+use Rattle.saphyr_scalar.proofs.NoBreaks.{NoBreaks}
+use Rattle.saphyr_scanner.specs.Grammar.FlowScalars.{IsLinePrefix, IsEmptyLine, IsFoldedGap, IsWordGap, IsFurtherWord, IsPlain, IsLastWord, IsPlainKey}
+use Rattle.saphyr_scanner.proofs.Flow.States.{moved, IsClear}
+use Rattle.saphyr_scanner.proofs.Flow.Places.{moved_append, right_along, clear_front, clear_back, clear_here}
+use Rattle.saphyr_scanner.proofs.Flow.Fillers.{spaces_are_blank, blanks_past, spaces_column}
+use Rattle.saphyr_scanner.proofs.Flow.Names.{unbroken_along, on_line}
+use Rattle.saphyr_scanner.proofs.Flow.Ends.{blank_white}
+use Rattle.saphyr_input.proofs.Basics.Booleans.{none_of_three, and_false}
+
+-- ## Texts without CR
+
+abbrev NoReturn : List ℕ → Type 0
+NoReturn t = AreIn (λ c. not (c == carriage_return)) t
+
+no_return : (c : ℕ) → IsTrue (not (c == carriage_return)) → (c == carriage_return) ≡ false
+no_return c h = grind (arith, nat_tests)
+
+feed_alone : (c : ℕ) (cs : List ℕ) → (c == carriage_return) ≡ false → ends_line c cs ≡ (c == line_feed)
+feed_alone c cs h = rw h (by_feed (c == line_feed))
+  where
+    by_feed : (b : Bool) → ((b || false) && not (false && (slice_index cs 0 == line_feed))) ≡ b
+    by_feed true = refl
+    by_feed false = refl
+
+pub passed_moved : (m : Marker) (t : List ℕ) → NoReturn t → passed m t ≡ moved m t
+passed_moved m [] h = refl
+passed_moved m (c ∷ cs) h =
+    ap (λ (b : Bool). passed (if b then next_line m 1 else along m 1) cs) (feed_alone c cs (no_return c h.0))
+    ∙ passed_moved (if c == line_feed then next_line m 1 else along m 1) cs h.1
+
+pub normalized_same : (t : List ℕ) → NoReturn t → normalized t ≡ t
+normalized_same [] h = refl
+normalized_same (c ∷ cs) h = rw (no_return c h.0) (ap (λ (t : List ℕ). c ∷ t) (normalized_same cs h.1))
+
+-- ## Words
+
+-- what ink is not
+pub record IsOther (f : Bool) (c : ℕ) : Type 0 where
+  pub blank_or_breakz : is_blank_or_breakz c ≡ false
+  pub byte_order_mark : is_bom c ≡ false
+  pub flow : (f && is_flow c) ≡ false
+
+pub ink_other : (f : Bool) (c : ℕ) → IsTrue (is_word_ink f c) → IsOther f c
+ink_other f c h = let p =
+    none_of_three (is_blank_or_breakz c) (is_bom c) (f && is_flow c) h in
+    record { blank_or_breakz = p.0; byte_order_mark = p.1; flow = p.2 }
+
+pub no_break : (c : ℕ) → is_blank_or_breakz c ≡ false → is_break c ≡ false
+no_break c h = grind (arith, nat_tests)
+
+word_unbroken : (f : Bool) (w y : List ℕ) → AreInkBefore f w y → NoBreaks w
+word_unbroken f [] y h = tt
+word_unbroken f (c ∷ cs) y h = (no_break c (ink_other f c h.0).blank_or_breakz, word_unbroken f cs y h.2)
+
+-- ## Words before what follows them
+
+ink_before : (f : Bool) (w y : List ℕ) → AreWordInk f w → AreInkBefore f w y
+ink_before f [] y h = tt
+ink_before f (c ∷ cs) y h = (h.0, λ e. next cs (h.1 e) h.2, ink_before f cs y h.2)
+  where
+    next : (cs : List ℕ) → cs ≢ [] → AreWordInk f cs → IsTrue (is_word_ink f (slice_index (cs ++ y) 0))
+    next [] some k = absurd (some refl)
+    next (d ∷ ds) some k = k.0
+
+lone_dash : (c : ℕ) (f second : Bool) → (f ≡ true → second ≡ false) → (f && (c == 45) && second) ≡ false
+lone_dash c f second h = by_flow f h
+  where
+    by_flow : (g : Bool) → (g ≡ true → second ≡ false) → (g && (c == 45) && second) ≡ false
+    by_flow false h = refl
+    by_flow true h = rw (h refl) (and_false (c == 45))
+
+-- a word stands before anything
+pub word_before : (f : Bool) (w y : List ℕ) → IsWordIn f w → IsWordBefore f w y
+word_before f w y h = record {
+  some =
+      h.some;
+  ink = ink_before f w y h.ink;
+  no_comment =
+      h.no_comment;
+  no_lone_dash = by_word w h.some h.ink h.no_lone_dash;
+}
+  where
+    dash : (c : ℕ) → (c == 45) ≡ true → c ≡ 45
+    dash c e = grind (arith, nat_tests)
+
+    by_first : (c : ℕ) (b : Bool) → (f ≡ true → (c ∷ []) ≢ 45 ∷ []) → (f && (c == 45) && b) ≡ false
+    by_first c b other = by_test f (c == 45) refl other
+      where
+        by_test : (g : Bool) (q : Bool) → (c == 45) ≡ q → (g ≡ true → (c ∷ []) ≢ 45 ∷ []) → (g && q && b) ≡ false
+        by_test false q e k = refl
+        by_test true false e k = refl
+        by_test true true e k = absurd (k refl (ap (λ (z : ℕ). z ∷ []) (dash c e)))
+
+    by_word : (w : List ℕ) → w ≢ [] → AreWordInk f w → (f ≡ true → w ≢ 45 ∷ [])
+        → (f && (slice_index (w ++ y) 0 == 45) && is_flow (slice_index (w ++ y) 1)) ≡ false
+    by_word [] some ink other = absurd (some refl)
+    by_word (c ∷ []) some ink other = by_first c (is_flow (slice_index y 0)) other
+    by_word (c ∷ d ∷ ds) some ink other =
+        lone_dash c f (is_flow d) (λ e. subst (λ (g : Bool). (g && is_flow d) ≡ false) e (ink_other f d ink.2.0).flow)
+
+-- a key's last word stands before the key's colon
+pub last_before : (f : Bool) (w r : List ℕ) → IsLastWord f w → IsWordBefore f w (58 ∷ r)
+last_before f w r (some, ink, no_comment) =
+    record { some = some; ink = inks w ink; no_comment = no_comment; no_lone_dash = by_word w some ink }
+  where
+    colon_ink : (g : Bool) → IsTrue (is_word_ink g 58)
+    colon_ink true = refl
+    colon_ink false = refl
+
+    next : (cs : List ℕ) → AreIn (is_word_ink f) cs → IsTrue (is_word_ink f (slice_index (cs ++ (58 ∷ r)) 0))
+    next [] k = colon_ink f
+    next (d ∷ ds) k = k.0
+
+    inks : (cs : List ℕ) → AreIn (is_word_ink f) cs → AreInkBefore f cs (58 ∷ r)
+    inks [] k = tt
+    inks (c ∷ cs) k = (k.0, λ _. next cs k.1, inks cs k.1)
+
+    by_word : (w : List ℕ) → w ≢ [] → AreIn (is_word_ink f) w
+        → (f && (slice_index (w ++ (58 ∷ r)) 0 == 45) && is_flow (slice_index (w ++ (58 ∷ r)) 1)) ≡ false
+    by_word [] some ink = absurd (some refl)
+    by_word (c ∷ []) some ink = lone_dash c f false (λ _. refl)
+    by_word (c ∷ d ∷ ds) some ink =
+        lone_dash c f (is_flow d) (λ e. subst (λ (g : Bool). (g && is_flow d) ≡ false) e (ink_other f d ink.1.0).flow)
+
+-- ## Gaps
+
+blanks_white : (t : List ℕ) → AreIn is_blank t → AreWhite t
+blanks_white [] h = tt
+blanks_white (c ∷ cs) h = (blank_white c h.0, blanks_white cs h.1)
+
+both_white : (a b : List ℕ) → AreWhite a → AreWhite b → AreWhite (a ++ b)
+both_white [] b h k = k
+both_white (c ∷ cs) b h k = (h.0, both_white cs b h.1 k)
+
+spaces_white : (least : ℕ) (t : List ℕ) → AreSpaces least t → AreWhite t
+spaces_white least t h = subst AreWhite (sym h.2) (blanks_white (spaces h.0) (spaces_are_blank h.0))
+
+prefix_white : (indent : ℕ) (t : List ℕ) → IsLinePrefix indent t → AreWhite t
+prefix_white indent t (front, blanks, spaced, are, is) =
+    subst AreWhite (sym is) (both_white front blanks (spaces_white indent front spaced) (blanks_white blanks are))
+
+line_white : (indent : ℕ) (t : List ℕ) → IsEmptyLine indent t → AreWhite t
+line_white indent t (front, inl h, is) =
+    subst AreWhite (sym is) (both_white front (10 ∷ []) (spaces_white 0 front h) (refl, tt))
+line_white indent t (front, inr h, is) =
+    subst AreWhite (sym is) (both_white front (10 ∷ []) (prefix_white indent front h) (refl, tt))
+
+lines_white : (indent : ℕ) (ts : List (List ℕ)) → AreEach (IsEmptyLine indent) ts → AreWhite (joined ts)
+lines_white indent [] h = tt
+lines_white indent (t ∷ ts) h = both_white t (joined ts) (line_white indent t h.0) (lines_white indent ts h.1)
+
+not_nothing : (a : List ℕ) (c : ℕ) (b : List ℕ) → a ++ (c ∷ b) ≢ []
+not_nothing [] c b e = absurd (cc)
+not_nothing (d ∷ a) c b e = absurd (cc)
+
+blanks_alone : (t : List ℕ) → AreIn is_blank t → behind_blanks t ≡ []
+blanks_alone [] h = refl
+blanks_alone (c ∷ cs) h =
+    rw h.0 (let one : 1 + prefix_len is_blank cs ≡ suc (prefix_len is_blank cs) =
+    omega arith in ap (λ (n : ℕ). drop n (c ∷ cs)) one ∙ blanks_alone cs h.1)
+
+blanks_before : (t : List ℕ) (c : ℕ) (cs : List ℕ) → AreIn is_blank t → is_blank c ≡ false
+    → behind_blanks (t ++ (c ∷ cs)) ≡ c ∷ cs
+blanks_before [] c cs h e = rw e refl
+blanks_before (d ∷ ds) c cs h e =
+    rw h.0 (let one : 1 + prefix_len is_blank (ds ++ (c ∷ cs)) ≡ suc (prefix_len is_blank (ds ++ (c ∷ cs))) =
+    omega arith in ap (λ (n : ℕ). drop n (d ∷ (ds ++ (c ∷ cs)))) one ∙ blanks_before ds c cs h.1 e)
+
+no_line_end : (t : List ℕ) → AreIn is_blank t → has_line_end t ≡ false
+no_line_end [] h = refl
+no_line_end (c ∷ cs) h = rw (blank_no_break c h.0) (no_line_end cs h.1)
+  where
+    blank_no_break : (c : ℕ) → IsTrue (is_blank c) → is_break c ≡ false
+    blank_no_break c h = grind (arith, nat_tests)
+
+-- spaces fit wherever they stand
+spaces_fit : (indent n k : ℕ) (y : List ℕ) → IsTrue (tabs_fit indent (n + k) y)
+    → IsTrue (tabs_fit indent n (spaces k ++ y))
+spaces_fit indent n zero y h = subst (λ (i : ℕ). IsTrue (tabs_fit indent i y)) (none n) h
+  where
+    none : (n : ℕ) → n + 0 ≡ n
+    none n = omega arith
+spaces_fit indent n (suc k) y h =
+    spaces_fit indent (n + 1) k y (subst (λ (i : ℕ). IsTrue (tabs_fit indent i y)) (one n k) h)
+  where
+    one : (n k : ℕ) → n + suc k ≡ n + 1 + k
+    one n k = omega arith
+
+-- and blanks right of the indentation do
+blanks_fit : (indent n : ℕ) (w y : List ℕ) → AreIn is_blank w → indent ≤ n → ((i : ℕ) → IsTrue (tabs_fit indent i y))
+    → IsTrue (tabs_fit indent n (w ++ y))
+blanks_fit indent n [] y h right fits = fits n
+blanks_fit indent n (c ∷ cs) y h right fits =
+    rw (blank_white c h.0, no_line c h.0, not_left n indent right, and_true (c == tab))
+    (blanks_fit indent (n + 1) cs y h.1 (omega (arith, right)) fits)
+  where
+    no_line : (c : ℕ) → IsTrue (is_blank c) → is_break c ≡ false
+    no_line c h = grind (arith, nat_tests)
+
+    not_left : (a b : ℕ) → b ≤ a → nat_lt a b ≡ false
+    not_left a b h = grind (arith, nat_tests)
+
+    and_true : (b : Bool) → (b && false) ≡ false
+    and_true true = refl
+    and_true false = refl
+
+prefix_fits : (indent : ℕ) (t y : List ℕ) → IsLinePrefix indent t → ((i : ℕ) → IsTrue (tabs_fit indent i y))
+    → IsTrue (tabs_fit indent 0 (t ++ y))
+prefix_fits indent t y (front, blanks, (n, low, spaced), are, is) fits =
+    let text : t ++ y ≡ spaces n ++ (blanks ++ y) = ap (λ (x : List ℕ). x ++ y)
+    (is ∙ ap (λ (x : List ℕ). x ++ blanks) spaced) ∙ append_assoc (spaces n) blanks y in
+    subst (λ (x : List ℕ). IsTrue (tabs_fit indent 0 x)) (sym text)
+    (spaces_fit indent 0 n (blanks ++ y) (at_column 0 n refl (blanks_fit indent n blanks y are low fits)))
+  where
+    none : (n : ℕ) → 0 + n ≡ n
+    none n = omega arith
+
+    at_column : (z n : ℕ) → z ≡ 0 → IsTrue (tabs_fit indent n (blanks ++ y))
+        → IsTrue (tabs_fit indent (z + n) (blanks ++ y))
+    at_column z n e h = subst (λ (i : ℕ). IsTrue (tabs_fit indent i (blanks ++ y)))
+        (sym (ap (λ (i : ℕ). i + n) e ∙ none n)) h
+
+feed_fits : (indent n : ℕ) (y : List ℕ) → IsTrue (tabs_fit indent 0 y) → IsTrue (tabs_fit indent n (10 ∷ y))
+feed_fits indent n y h = h
+
+line_fits : (indent : ℕ) (t y : List ℕ) → IsEmptyLine indent t → IsTrue (tabs_fit indent 0 y)
+    → IsTrue (tabs_fit indent 0 (t ++ y))
+line_fits indent t y (front, inl (n, low, spaced), is) h =
+    let text : t ++ y ≡ spaces n ++ (10 ∷ y) = ap (λ (x : List ℕ). x ++ y)
+    (is ∙ ap (λ (x : List ℕ). x ++ (10 ∷ [])) spaced) ∙ append_assoc (spaces n) (10 ∷ []) y in
+    subst (λ (x : List ℕ). IsTrue (tabs_fit indent 0 x)) (sym text)
+    (spaces_fit indent 0 n (10 ∷ y) (feed_fits indent n y h))
+line_fits indent t y (front, inr p, is) h =
+    let text : t ++ y ≡ front ++ (10 ∷ y) = ap (λ (x : List ℕ). x ++ y) is ∙ append_assoc front (10 ∷ []) y in
+    subst (λ (x : List ℕ). IsTrue (tabs_fit indent 0 x)) (sym text)
+    (prefix_fits indent front (10 ∷ y) p (λ i. feed_fits indent i y h))
+
+lines_fit : (indent : ℕ) (ts : List (List ℕ)) (y : List ℕ) → AreEach (IsEmptyLine indent) ts
+    → IsTrue (tabs_fit indent 0 y) → IsTrue (tabs_fit indent 0 (joined ts ++ y))
+lines_fit indent [] y h fits = fits
+lines_fit indent (t ∷ ts) y h fits =
+    subst (λ (x : List ℕ). IsTrue (tabs_fit indent 0 x)) (sym (append_assoc t (joined ts) y))
+    (line_fits indent t (joined ts ++ y) h.0 (lines_fit indent ts y h.1 fits))
+
+-- what stands between two words
+record Gapped (indent : ℕ) (m : Marker) (t : List ℕ) : Type 0 where
+  some : t ≢ []
+  white : AreWhite t
+  tabs : IsTrue (tabs_fit indent 0 (behind_blanks t))
+  indented : (has_line_end t ≡ false) ⊎ (indent ≤ (moved m t).col)
+  right : indent ≤ m.col → indent ≤ (moved m t).col
+
+-- a line's prefix reaches the indentation
+prefix_reaches : (indent : ℕ) (m : Marker) (t : List ℕ) → IsLinePrefix indent t → indent ≤ (moved m t).col
+prefix_reaches indent m t (front, blanks, (n, low, spaced), are, is) =
+    let k = moved m front in
+    let there = ap (λ (f : List ℕ). (moved m f).col) spaced ∙ spaces_column m n in
+    subst (λ (i : Marker). indent ≤ i.col) (sym (ap (moved m) is ∙ moved_append m front blanks))
+    (blanks_past indent blanks are k (omega (arith, low, there))).right
+
+folded_gap : (indent : ℕ) (m : Marker) (t : List ℕ) → IsFoldedGap indent t → Gapped indent m t
+folded_gap indent m t (blanks, lines, front, are, (pieces, each, joins), prefix, is) =
+    let many : AreWhite lines = subst AreWhite (sym joins) (lines_white indent pieces each) in
+    let all : AreWhite (blanks ++ (10 ∷ (lines ++ front))) = both_white blanks (10 ∷ (lines ++ front))
+    (blanks_white blanks are) (refl, both_white lines front many (prefix_white indent front prefix)) in
+    let last : IsTrue (tabs_fit indent 0 front) = subst (λ (x : List ℕ). IsTrue (tabs_fit indent 0 x))
+    (append-nil front) (prefix_fits indent front [] prefix (λ i. refl)) in
+    let fit : IsTrue (tabs_fit indent 0 (lines ++ front)) = subst
+    (λ (x : List ℕ). IsTrue (tabs_fit indent 0 (x ++ front))) (sym joins)
+    (lines_fit indent pieces front each last) in
+    let whole : t ≡ (blanks ++ (10 ∷ lines)) ++ front = is ∙ sym (append_assoc blanks (10 ∷ lines) front) in
+    let right : indent ≤ (moved m t).col = subst (λ (k : Marker). indent ≤ k.col)
+    (sym (ap (moved m) whole ∙ moved_append m (blanks ++ (10 ∷ lines)) front))
+    (prefix_reaches indent (moved m (blanks ++ (10 ∷ lines))) front prefix) in
+    record {
+      some = λ e. not_nothing blanks 10 (lines ++ front) (sym is ∙ e);
+      white = subst AreWhite (sym is) all;
+      tabs = subst (λ (y : List ℕ). IsTrue (tabs_fit indent 0 (behind_blanks y))) (sym is)
+          (subst (λ (y : List ℕ). IsTrue (tabs_fit indent 0 y))
+          (sym (blanks_before blanks 10 (lines ++ front) are refl)) (feed_fits indent 0 (lines ++ front) fit));
+      indented = inr right;
+      right = λ _. right;
+    }
+
+word_gap : (indent : ℕ) (m : Marker) (t : List ℕ) → IsWordGap indent t → Gapped indent m t
+word_gap indent m t (inl h) =
+    record {
+      some = h.0;
+      white = blanks_white t h.1;
+      tabs = subst (λ (y : List ℕ). IsTrue (tabs_fit indent 0 y)) (sym (blanks_alone t h.1)) refl;
+      indented = inl (no_line_end t h.1);
+      right = λ low. (blanks_past indent t h.1 m low).right;
+    }
+word_gap indent m t (inr h) = folded_gap indent m t h
+
+plain_gap : (f : Bool) (indent : ℕ) (m : Marker) (t : List ℕ) → IsWordGap indent t → passed m t ≡ moved m t
+    → IsPlainGap f indent m t
+plain_gap f indent m t h e =
+    let g = word_gap indent m t h in
+    record {
+      some = g.some;
+      white =
+          g.white;
+      tabs = inr g.tabs;
+      indented =
+          inr (subst (λ (k : Marker). (has_line_end t ≡ false) ⊎ (indent ≤ k.col)) (sym e) g.indented);
+    }
+
+-- ## No marker begins a line
+
+marked : (n : ℕ) (b : Bool) → ((n == 0) && b) ≡ false → n ≡ 0 → IsFalse b
+marked n b h e = subst (λ (k : ℕ). ((k == 0) && b) ≡ false) e h
+
+no_marker : (m : Marker) (w o : List ℕ) → w ≢ [] → IsClear m w o → IsNoMarker m (w ++ o)
+no_marker m [] o some clear = absurd (some refl)
+no_marker m (c ∷ cs) o some clear = marked m.col (is_document_indicator (c ∷ (cs ++ o))) (clear_here m c cs o clear)
+
+-- ## The words behind the first
+
+record IsFurther (f : Bool) (indent : ℕ) (m : Marker) (t o : List ℕ) : Type 0 where
+  words : List (List ℕ × List ℕ)
+  is : t ≡ words_text words
+  further : AreFurtherWords f indent m words o
+  right : indent ≤ m.col → indent ≤ (moved m t).col
+
+-- behind a word
+behind_word : (m : Marker) (word more o : List ℕ) → NoBreaks word → IsClear m (word ++ more) o
+    → IsClear (along m (length word)) more o
+behind_word m word more o unbroken clear =
+    subst (λ (n : Marker). IsClear n more o) (unbroken_along m word unbroken) (clear_back m word more o clear)
+
+-- at a word
+at_word : (m : Marker) (gap word more o : List ℕ) → IsClear m (gap ++ (word ++ more)) o
+    → IsClear (passed m gap) (word ++ more) o
+at_word m gap word more o clear =
+    subst (λ (n : Marker). IsClear n (word ++ more) o)
+    (sym (passed_moved m gap (clear_front m gap (word ++ more) o clear).no_return))
+    (clear_back m gap (word ++ more) o clear)
+
+-- a gap and a word before others
+one_further : (f : Bool) (indent : ℕ) (m : Marker) (gap word more o : List ℕ) → IsWordGap indent gap
+    → IsWordBefore f word (more ++ o) → IsClear m (gap ++ (word ++ more)) o
+    → IsFurther f indent (along (passed m gap) (length word)) more o → IsFurther f indent m (gap ++ (word ++ more)) o
+one_further f indent m gap word more o gapped is_word clear rest =
+    let there : passed m gap ≡ moved m gap = passed_moved m gap (clear_front m gap (word ++ more) o clear).no_return in
+    let unbroken = word_unbroken f word (more ++ o) is_word.ink in
+    let line : moved (passed m gap) word ≡ along (passed m gap) (length word) =
+    unbroken_along (passed m gap) word unbroken in
+    let unmarked : IsNoMarker (passed m gap) (word ++ (words_text rest.words ++ o)) =
+    subst (λ (t : List ℕ). IsNoMarker (passed m gap) (word ++ (t ++ o))) rest.is
+    (no_marker (passed m gap) word (more ++ o) is_word.some
+    (clear_front (passed m gap) word more o (at_word m gap word more o clear))) in
+    record {
+      words = (gap, word) ∷ rest.words;
+      is = ap (λ (t : List ℕ). gap ++ (word ++ t)) rest.is;
+      further = (
+        plain_gap f indent m gap gapped there,
+        subst (λ (t : List ℕ). IsWordBefore f word (t ++ o)) rest.is
+            is_word,
+        unmarked,
+        rest.further,
+      );
+      right = λ low. subst (λ (k : Marker). indent ≤ k.col)
+          (sym (moved_append m gap (word ++ more) ∙ moved_append (moved m gap) word more
+          ∙ ap (λ (k : Marker). moved (moved k word) more) (sym there) ∙ ap (λ (k : Marker). moved k more) line))
+          (rest.right (subst (λ (k : Marker). indent ≤ k.col) line
+          (right_along indent (passed m gap) word (on_line word unbroken)
+          (subst (λ (k : Marker). indent ≤ k.col) (sym there) ((word_gap indent m gap gapped).right low)))));
+    }
+
+-- words, and what stands behind them
+further_words : (f : Bool) (indent : ℕ) (pieces : List (List ℕ)) → AreEach (IsFurtherWord f indent) pieces
+    → (last o : List ℕ) → ((m : Marker) → IsClear m last o → IsFurther f indent m last o)
+    → (m : Marker) → IsClear m (joined pieces ++ last) o → IsFurther f indent m (joined pieces ++ last) o
+further_words f indent [] h last o ends m clear = ends m clear
+further_words f indent (p ∷ ps) ((gap, word, gapped, is_word, is), others) last o ends m clear =
+    let more = joined ps ++ last in
+    let text : (p ++ joined ps) ++ last ≡ gap ++ (word ++ more) =
+    append_assoc p (joined ps) last ∙ ap (λ (t : List ℕ). t ++ more) is ∙ append_assoc gap word more in
+    let all : IsClear m (gap ++ (word ++ more)) o = subst (λ (t : List ℕ). IsClear m t o) text clear in
+    let before = word_before f word (more ++ o) is_word in
+    let behind = behind_word (passed m gap) word more o (word_unbroken f word (more ++ o) before.ink)
+    (at_word m gap word more o all) in
+    subst (λ (t : List ℕ). IsFurther f indent m t o) (sym text)
+    (one_further f indent m gap word more o gapped before all
+    (further_words f indent ps others last o ends (along (passed m gap) (length word)) behind))
+
+nothing_further : (f : Bool) (indent : ℕ) (m : Marker) (o : List ℕ) → IsFurther f indent m [] o
+nothing_further f indent m o = record { words = []; is = refl; further = tt; right = λ low. low }
+
+-- a gap and a key's last word
+last_further : (f : Bool) (indent : ℕ) (gap word r : List ℕ) → IsWordGap indent gap → IsLastWord f word → (m : Marker)
+    → IsClear m (gap ++ word) (58 ∷ r) → IsFurther f indent m (gap ++ word) (58 ∷ r)
+last_further f indent gap word r gapped is_word m clear =
+    let text : gap ++ word ≡ gap ++ (word ++ []) = ap (λ (t : List ℕ). gap ++ t) (sym (append-nil word)) in
+    subst (λ (t : List ℕ). IsFurther f indent m t (58 ∷ r)) (sym text)
+    (one_further f indent m gap word [] (58 ∷ r) gapped (last_before f word r is_word)
+    (subst (λ (t : List ℕ). IsClear m t (58 ∷ r)) text clear)
+    (nothing_further f indent (along (passed m gap) (length word)) (58 ∷ r)))
+
+-- ## The whole scalar
+
+both_some : (a b : List ℕ) → a ≢ [] → a ++ b ≢ []
+both_some [] b some e = absurd (some refl)
+both_some (c ∷ a) b some e = absurd (cc)
+
+-- the words of a plain scalar
+record HasWords (f : Bool) (indent : ℕ) (m : Marker) (t o : List ℕ) : Type 0 where
+  first : List ℕ
+  behind : List ℕ
+  is : t ≡ first ++ behind
+  word : IsWordBefore f first (behind ++ o)
+  others : IsFurther f indent (along m (length first)) behind o
+
+has_words : (f : Bool) (indent : ℕ) (m : Marker) (t o first behind : List ℕ) → t ≡ first ++ behind
+    → IsWordBefore f first (behind ++ o) → IsClear m t o
+    → ((n : Marker) → IsClear n behind o → IsFurther f indent n behind o) → HasWords f indent m t o
+has_words f indent m t o first behind is word clear further = record {
+  first = first;
+  behind = behind;
+  is = is;
+  word = word;
+  others = further (along m (length first))
+      (behind_word m first behind o (word_unbroken f first (behind ++ o) word.ink)
+      (subst (λ (y : List ℕ). IsClear m y o) is clear));
+}
+
+plain_words : (f : Bool) (indent : ℕ) (m : Marker) (t o : List ℕ) → IsPlain f indent t → IsClear m t o
+    → HasWords f indent m t o
+plain_words f indent m t o (first, others, is_first, (pieces, each, joins), is) clear =
+    let text : t ≡ first ++ (joined pieces ++ []) = is ∙ ap (λ (y : List ℕ). first ++ y)
+    (joins ∙ sym (append-nil (joined pieces))) in
+    has_words f indent m t o first (joined pieces ++ []) text
+    (word_before f first ((joined pieces ++ []) ++ o) is_first.0) clear
+    (further_words f indent pieces each [] o (λ n _. nothing_further f indent n o))
+
+-- those of a key before its colon
+key_words : (f : Bool) (indent : ℕ) (m : Marker) (t r : List ℕ) → IsPlainKey f indent t → IsClear m t (58 ∷ r)
+    → HasWords f indent m t (58 ∷ r)
+key_words f indent m t r (inl (word, begins, dash, mark, colon)) clear =
+    has_words f indent m t (58 ∷ r) t [] (sym (append-nil t)) (last_before f t r word) clear
+    (λ n _. nothing_further f indent n (58 ∷ r))
+key_words f indent m t r (inr (plain, gap, word, (first, others, is_first, (pieces, each, joins), is), gapped, last, e))
+    clear =
+    let behind = joined pieces ++ (gap ++ word) in
+    let text : t ≡ first ++ behind = e ∙ ap (λ (y : List ℕ). y ++ (gap ++ word))
+    (is ∙ ap (λ (y : List ℕ). first ++ y) joins) ∙ append_assoc first (joined pieces) (gap ++ word) in
+    has_words f indent m t (58 ∷ r) first behind text (word_before f first (behind ++ (58 ∷ r)) is_first.0) clear
+    (further_words f indent pieces each (gap ++ word) (58 ∷ r) (last_further f indent gap word r gapped last))
+
+text_of : (f : Bool) (indent : ℕ) (m : Marker) (t o : List ℕ) → HasWords f indent m t o → IsClear m t o
+    → EndsPlain f indent (moved m t) o → IsPlainText f indent m t o
+text_of f indent m t o h clear ends = record {
+  first = h.first;
+  others = h.others.words;
+  is = h.is ∙ ap (λ (y : List ℕ). h.first ++ y) h.others.is;
+  word = subst (λ (y : List ℕ). IsWordBefore f h.first (y ++ o)) h.others.is h.word;
+  marker = no_marker m t o (λ e. both_some h.first h.behind h.word.some (sym h.is ∙ e)) clear;
+  further = h.others.further;
+  ends = subst (λ (n : Marker). EndsPlain f indent n o) (sym (passed_moved m t clear.no_return)) ends;
+}
+
+pub plain_text : (f : Bool) (indent : ℕ) (m : Marker) (t o : List ℕ) → IsPlain f indent t → IsClear m t o
+    → EndsPlain f indent (moved m t) o → IsPlainText f indent m t o
+plain_text f indent m t o h clear ends = text_of f indent m t o (plain_words f indent m t o h clear) clear ends
+
+pub key_text : (f : Bool) (indent : ℕ) (m : Marker) (t r : List ℕ) → IsPlainKey f indent t → IsClear m t (58 ∷ r)
+    → EndsPlain f indent (moved m t) (58 ∷ r) → IsPlainText f indent m t (58 ∷ r)
+key_text f indent m t r h clear ends = text_of f indent m t (58 ∷ r) (key_words f indent m t r h clear) clear ends
+
+right_of : (f : Bool) (indent : ℕ) (m : Marker) (t o : List ℕ) → HasWords f indent m t o → indent ≤ m.col
+    → indent ≤ (moved m t).col
+right_of f indent m t o h low =
+    let unbroken = word_unbroken f h.first (h.behind ++ o) h.word.ink in
+    let line : moved m h.first ≡ along m (length h.first) = unbroken_along m h.first unbroken in
+    let here = subst (λ (k : Marker). indent ≤ k.col) line
+    (right_along indent m h.first (on_line h.first unbroken) low) in
+    subst (λ (k : Marker). indent ≤ k.col)
+    (sym (ap (moved m) h.is ∙ moved_append m h.first h.behind ∙ ap (λ (k : Marker). moved k h.behind) line))
+    (h.others.right here)
+
+-- a plain scalar ends right of a column that its lines reach
+pub plain_right : (f : Bool) (indent : ℕ) (m : Marker) (t o : List ℕ) → IsPlain f indent t → IsClear m t o
+    → indent ≤ m.col → indent ≤ (moved m t).col
+plain_right f indent m t o h clear low = right_of f indent m t o (plain_words f indent m t o h clear) low
+
+pub key_right : (f : Bool) (indent : ℕ) (m : Marker) (t r : List ℕ) → IsPlainKey f indent t → IsClear m t (58 ∷ r)
+    → indent ≤ m.col → indent ≤ (moved m t).col
+key_right f indent m t r h clear low = right_of f indent m t (58 ∷ r) (key_words f indent m t r h clear) low

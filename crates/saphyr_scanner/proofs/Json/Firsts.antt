@@ -1,0 +1,416 @@
+-- The characters with which a value of JSON begins.
+use Rattle.std.proofs.Common.{◌≡◌, ℕ, ◌<◌, Bool, true, false, List, [], ◌∷◌, ◌++◌, slice_index, refl, sym, ap, ◌∙◌, arith, subst, append_assoc, ◌⊎◌, inl, inr}
+use Rattle.std.specs.Prelude.{◌==◌}
+use Rattle.std.proofs.lemmas.Bool.Decides.{nat_tests}
+use Rattle.saphyr_input.specs.Classes.{IsDigit, is_z, is_blank, is_break, is_blank_or_breakz, is_flow, is_bom}
+use Rattle.saphyr_input.specs.Places.{is_document_indicator}
+use Rattle.saphyr_scanner.specs.Grammar.Forest.{Node, Alias, Scalar, Seq, Map, Plain, SingleQuoted, DoubleQuoted, Literal, Folded}
+use Rattle.saphyr_scanner.specs.Grammar.Json.{IsWhiteSpace, IsStructural, IsWord, IsString, IsValue}
+use Rattle.saphyr_scanner.proofs.Json.Words.{BeginsWithDigit, BeginsWord, word_begins}
+use Rattle.saphyr_input.proofs.Basics.Characters.{no_marker_at}
+
+-- `"`, `[`, `{`, `-`, a digit, or the first letter of `true`, `false` or `null`
+abbrev pub IsFirst : ℕ → Type 0
+IsFirst c = (c ≡ 34) ⊎ (c ≡ 91) ⊎ (c ≡ 123) ⊎ (c ≡ 45) ⊎ IsDigit c ⊎ (c ≡ 116) ⊎ (c ≡ 102) ⊎ (c ≡ 110)
+
+-- a character that is none of those with which something else begins
+pub record BeginsNothingElse (c : ℕ) : Type 0 where
+  pub blank : is_blank c ≡ false
+  pub break : is_break c ≡ false
+  pub nul : is_z c ≡ false
+  pub byte_order_mark : is_bom c ≡ false
+  pub comment : (c == 35) ≡ false
+  pub directive : (c == 37) ≡ false
+  pub anchor : (c == 38) ≡ false
+  pub alias : (c == 42) ≡ false
+  pub tag : (c == 33) ≡ false
+  pub literal : (c == 124) ≡ false
+  pub folded : (c == 62) ≡ false
+  pub single_quote : (c == 39) ≡ false
+  pub key : (c == 63) ≡ false
+  pub value : (c == 58) ≡ false
+  pub dot : (c == 46) ≡ false
+  pub comma : (c == 44) ≡ false
+  pub sequence_end : (c == 93) ≡ false
+  pub mapping_end : (c == 125) ≡ false
+  pub at_sign : (c == 64) ≡ false
+  pub backquote : (c == 96) ≡ false
+
+pub other_than_digit : (c n : ℕ) → IsDigit c → (n < 48) ⊎ (57 < n) → (c == n) ≡ false
+other_than_digit c n h k = grind (arith, nat_tests)
+
+digit_begins : (c : ℕ) → IsDigit c → BeginsNothingElse c
+digit_begins c h =
+    record {
+      blank = no_blank c h;
+      break = no_break c h;
+      nul = other_than_digit c 0 h (inl (omega arith));
+      byte_order_mark = other_than_digit c 65279 h (inr (omega arith));
+      comment = other_than_digit c 35 h (inl (omega arith));
+      directive = other_than_digit c 37 h (inl (omega arith));
+      anchor = other_than_digit c 38 h (inl (omega arith));
+      alias = other_than_digit c 42 h (inl (omega arith));
+      tag = other_than_digit c 33 h (inl (omega arith));
+      literal = other_than_digit c 124 h (inr (omega arith));
+      folded = other_than_digit c 62 h (inr (omega arith));
+      single_quote = other_than_digit c 39 h (inl (omega arith));
+      key = other_than_digit c 63 h (inr (omega arith));
+      value = other_than_digit c 58 h (inr (omega arith));
+      dot = other_than_digit c 46 h (inl (omega arith));
+      comma = other_than_digit c 44 h (inl (omega arith));
+      sequence_end = other_than_digit c 93 h (inr (omega arith));
+      mapping_end = other_than_digit c 125 h (inr (omega arith));
+      at_sign = other_than_digit c 64 h (inr (omega arith));
+      backquote = other_than_digit c 96 h (inr (omega arith));
+    }
+  where
+    no_blank : (c : ℕ) → IsDigit c → is_blank c ≡ false
+    no_blank c h = grind (arith, nat_tests)
+
+    no_break : (c : ℕ) → IsDigit c → is_break c ≡ false
+    no_break c h = grind (arith, nat_tests)
+
+-- the tests of a value's first character
+pub first_begins : (c : ℕ) → IsFirst c → BeginsNothingElse c
+first_begins c (inl e) =
+    subst BeginsNothingElse (sym e)
+    (record {
+      blank = refl;
+      break =
+          refl;
+      nul = refl;
+      byte_order_mark =
+          refl;
+      comment = refl;
+      directive =
+          refl;
+      anchor = refl;
+      alias =
+          refl;
+      tag = refl;
+      literal =
+          refl;
+      folded = refl;
+      single_quote =
+          refl;
+      key = refl;
+      value =
+          refl;
+      dot = refl;
+      comma = refl;
+      sequence_end = refl;
+      mapping_end = refl;
+      at_sign = refl;
+      backquote = refl;
+    })
+first_begins c (inr (inl e)) =
+    subst BeginsNothingElse (sym e)
+    (record {
+      blank = refl;
+      break =
+          refl;
+      nul = refl;
+      byte_order_mark =
+          refl;
+      comment = refl;
+      directive =
+          refl;
+      anchor = refl;
+      alias =
+          refl;
+      tag = refl;
+      literal =
+          refl;
+      folded = refl;
+      single_quote =
+          refl;
+      key = refl;
+      value =
+          refl;
+      dot = refl;
+      comma = refl;
+      sequence_end = refl;
+      mapping_end = refl;
+      at_sign = refl;
+      backquote = refl;
+    })
+first_begins c (inr (inr (inl e))) =
+    subst BeginsNothingElse (sym e)
+    (record {
+      blank = refl;
+      break =
+          refl;
+      nul = refl;
+      byte_order_mark =
+          refl;
+      comment = refl;
+      directive =
+          refl;
+      anchor = refl;
+      alias =
+          refl;
+      tag = refl;
+      literal =
+          refl;
+      folded = refl;
+      single_quote =
+          refl;
+      key = refl;
+      value =
+          refl;
+      dot = refl;
+      comma = refl;
+      sequence_end = refl;
+      mapping_end = refl;
+      at_sign = refl;
+      backquote = refl;
+    })
+first_begins c (inr (inr (inr (inl e)))) =
+    subst BeginsNothingElse (sym e)
+    (record {
+      blank = refl;
+      break =
+          refl;
+      nul = refl;
+      byte_order_mark =
+          refl;
+      comment = refl;
+      directive =
+          refl;
+      anchor = refl;
+      alias =
+          refl;
+      tag = refl;
+      literal =
+          refl;
+      folded = refl;
+      single_quote =
+          refl;
+      key = refl;
+      value =
+          refl;
+      dot = refl;
+      comma = refl;
+      sequence_end = refl;
+      mapping_end = refl;
+      at_sign = refl;
+      backquote = refl;
+    })
+first_begins c (inr (inr (inr (inr (inl h))))) = digit_begins c h
+first_begins c (inr (inr (inr (inr (inr (inl e)))))) =
+    subst BeginsNothingElse (sym e)
+    (record {
+      blank = refl;
+      break =
+          refl;
+      nul = refl;
+      byte_order_mark =
+          refl;
+      comment = refl;
+      directive =
+          refl;
+      anchor = refl;
+      alias =
+          refl;
+      tag = refl;
+      literal =
+          refl;
+      folded = refl;
+      single_quote =
+          refl;
+      key = refl;
+      value =
+          refl;
+      dot = refl;
+      comma = refl;
+      sequence_end = refl;
+      mapping_end = refl;
+      at_sign = refl;
+      backquote = refl;
+    })
+first_begins c (inr (inr (inr (inr (inr (inr (inl e))))))) =
+    subst BeginsNothingElse (sym e)
+    (record {
+      blank = refl;
+      break =
+          refl;
+      nul = refl;
+      byte_order_mark =
+          refl;
+      comment = refl;
+      directive =
+          refl;
+      anchor = refl;
+      alias =
+          refl;
+      tag = refl;
+      literal =
+          refl;
+      folded = refl;
+      single_quote =
+          refl;
+      key = refl;
+      value =
+          refl;
+      dot = refl;
+      comma = refl;
+      sequence_end = refl;
+      mapping_end = refl;
+      at_sign = refl;
+      backquote = refl;
+    })
+first_begins c (inr (inr (inr (inr (inr (inr (inr e))))))) =
+    subst BeginsNothingElse (sym e)
+    (record {
+      blank = refl;
+      break =
+          refl;
+      nul = refl;
+      byte_order_mark =
+          refl;
+      comment = refl;
+      directive =
+          refl;
+      anchor = refl;
+      alias =
+          refl;
+      tag = refl;
+      literal =
+          refl;
+      folded = refl;
+      single_quote =
+          refl;
+      key = refl;
+      value =
+          refl;
+      dot = refl;
+      comma = refl;
+      sequence_end = refl;
+      mapping_end = refl;
+      at_sign = refl;
+      backquote = refl;
+    })
+
+-- ## Values
+
+-- how a value begins, behind the white space of its first bracket: with a dash only before a digit
+pub record BeginsValue (t : List ℕ) : Type 0 where
+  pub first : ℕ
+  pub others : List ℕ
+  pub is : t ≡ first ∷ others
+  pub is_first : IsFirst first
+  pub dash : first ≡ 45 → BeginsWithDigit others
+
+pub kind_is_first : (c : ℕ) → (c ≡ 45) ⊎ IsDigit c ⊎ (c ≡ 116) ⊎ (c ≡ 102) ⊎ (c ≡ 110) → IsFirst c
+kind_is_first c (inl e) = inr (inr (inr (inl e)))
+kind_is_first c (inr (inl h)) = inr (inr (inr (inr (inl h))))
+kind_is_first c (inr (inr (inl e))) = inr (inr (inr (inr (inr (inl e)))))
+kind_is_first c (inr (inr (inr (inl e)))) = inr (inr (inr (inr (inr (inr (inl e))))))
+kind_is_first c (inr (inr (inr (inr e)))) = inr (inr (inr (inr (inr (inr (inr e))))))
+
+abbrev pub word_value : (t : List ℕ) → BeginsWord t → BeginsValue t
+word_value t b = record {
+  first =
+      b.first;
+  others = b.others;
+  is = b.is;
+  is_first = kind_is_first b.first b.kind;
+  dash = b.dash;
+}
+
+pub word_begins_value : (t : List ℕ) → IsWord t → BeginsValue t
+word_begins_value t h = word_value t (word_begins t h)
+
+pub string_begins_value : (value t : List ℕ) → IsString value t → BeginsValue t
+string_begins_value value t h =
+    record { first = 34; others = h.0 ++ 34 ∷ []; is = h.2; is_first = inl refl; dash = λ e. absurd (omega arith) }
+
+pub sequence_begins_value : (others : List ℕ) → BeginsValue (91 ∷ others)
+sequence_begins_value others =
+    record { first = 91; others = others; is = refl; is_first = inr (inl refl); dash = λ e. absurd (omega arith) }
+
+pub mapping_begins_value : (others : List ℕ) → BeginsValue (123 ∷ others)
+mapping_begins_value others =
+    record {
+      first = 123;
+      others =
+          others;
+      is = refl;
+      is_first = inr (inr (inl refl));
+      dash = λ e. absurd (omega arith);
+    }
+
+-- a value is white space and what begins as above
+abbrev pub BeginsBehindWhite : List ℕ → Type 0
+BeginsBehindWhite t = (before core : List ℕ) × IsWhiteSpace before × BeginsValue core × (t ≡ before ++ core)
+
+bracket_begins : (c : ℕ) (opening others t : List ℕ) → ((rest : List ℕ) → BeginsValue (c ∷ rest))
+    → IsStructural (c ∷ []) opening → t ≡ opening ++ others → BeginsBehindWhite t
+bracket_begins c opening others t begins h is = (
+  h.0,
+  c ∷ (h.1 ++ others),
+  h.2,
+  begins (h.1 ++ others),
+  is ∙ ap (λ (x : List ℕ). x ++ others) h.4
+      ∙ append_assoc h.0 (c ∷ h.1) others,
+)
+
+pub value_begins : (node : Node) (t : List ℕ) → IsValue node t → BeginsBehindWhite t
+value_begins (Scalar p Plain value) t h = ([], t, tt, subst BeginsValue (sym h.2) (word_begins_value value h.1), refl)
+value_begins (Scalar p DoubleQuoted value) t h = ([], t, tt, string_begins_value value t h.1, refl)
+value_begins (Scalar p SingleQuoted value) t h = absurd h
+value_begins (Scalar p Literal value) t h = absurd h
+value_begins (Scalar p Folded value) t h = absurd h
+value_begins (Alias name) t h = absurd h
+value_begins (Seq p nodes) t h = bracket_begins 91 h.0 (h.1 ++ h.2) t sequence_begins_value h.4 h.7
+value_begins (Map p pairs) t h = bracket_begins 123 h.0 (h.1 ++ h.2) t mapping_begins_value h.4 h.7
+
+-- ## Document markers
+
+-- the tests of the digit behind a dash
+pub record IsDigitBehind (c : ℕ) : Type 0 where
+  pub blank_or_breakz : is_blank_or_breakz c ≡ false
+  pub flow : is_flow c ≡ false
+  pub dash : (c == 45) ≡ false
+
+pub digit_behind : (c : ℕ) → IsDigit c → IsDigitBehind c
+digit_behind c h = record {
+  blank_or_breakz =
+      no_end c h;
+  flow = no_flow c h;
+  dash = other_than_digit c 45 h (inl (omega arith));
+}
+  where
+    no_end : (c : ℕ) → IsDigit c → is_blank_or_breakz c ≡ false
+    no_end c h = grind (arith, nat_tests)
+
+    no_flow : (c : ℕ) → IsDigit c → is_flow c ≡ false
+    no_flow c h = grind (arith, nat_tests)
+
+-- behind a dash with which a value begins stands a digit
+pub digit_second : (t follow : List ℕ) (h : BeginsValue t) → h.first ≡ 45 → IsDigitBehind (slice_index (t ++ follow) 1)
+digit_second t follow h e =
+    let d = h.dash e in
+    subst (λ (x : List ℕ). IsDigitBehind (slice_index (x ++ follow) 1))
+    (sym (h.is ∙ ap (λ (x : List ℕ). h.first ∷ x) d.2)) (digit_behind d.0 d.3)
+
+-- Where a value begins, no document marker does.
+pub no_marker : (t follow : List ℕ) → BeginsValue t → is_document_indicator (t ++ follow) ≡ false
+no_marker t follow h =
+    let b = first_begins h.first h.is_first in
+    subst (λ (x : List ℕ). is_document_indicator (x ++ follow) ≡ false) (sym h.is) (by_dash (h.first == 45) refl)
+  where
+    is_dash : (c : ℕ) → (c == 45) ≡ true → c ≡ 45
+    is_dash c e = grind (arith, nat_tests)
+
+    dashed : (d : ℕ) (cs : List ℕ) → (d == 45) ≡ false → is_document_indicator (45 ∷ d ∷ cs) ≡ false
+    dashed d cs e = rw e refl
+
+    by_dash : (is : Bool) → (h.first == 45) ≡ is → is_document_indicator (h.first ∷ (h.others ++ follow)) ≡ false
+    by_dash true e =
+        let first = is_dash h.first e in
+        let d = h.dash first in
+        ap (λ (x : ℕ). is_document_indicator (x ∷ (h.others ++ follow))) first
+        ∙ ap (λ (x : List ℕ). is_document_indicator (45 ∷ (x ++ follow))) d.2
+        ∙ dashed d.0 (d.1 ++ follow) (digit_behind d.0 d.3).dash
+    by_dash false e = no_marker_at h.first (h.others ++ follow) e (first_begins h.first h.is_first).dot

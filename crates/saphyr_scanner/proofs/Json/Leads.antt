@@ -1,0 +1,109 @@
+-- The scanner takes a text of JSON and makes the tokens of its forest.
+use Rattle.std.proofs.Common.{◌≡◌, ℕ, ◌+◌, ◌≤◌, Bool, true, false, List, [], ◌∷◌, ◌++◌, length, Ok, refl, sym, ap, ◌∙◌, append-nil, arith}
+use Rattle.std.specs.Prelude.{map, Option, None}
+use Rattle.saphyr_scalar.specs.declared.scalar.position.Marker.{Marker}
+use Rattle.saphyr_scalar.specs.Cursor.{Cursor, ◌>>=◌, fresh}
+use Rattle.saphyr_scalar.specs.Plain as words
+use Rattle.saphyr_scanner.specs.declared.engine.level.Context.TheVariants as context
+use Rattle.saphyr_scanner.specs.Grammar.Forest.{Forest, open_in_forest}
+use Rattle.saphyr_scanner.specs.Grammar.Json.{IsJson}
+use Rattle.saphyr_scanner.specs.Grammar.JsonTokens.{json_tokens, node_tokens}
+use Rattle.saphyr_scanner.specs.Grammar.Tokens as tokens
+use Rattle.saphyr_scanner.specs.Grammar.Tokens.{Kind}
+use Rattle.saphyr_scanner.specs.Views.Tokens.{Piece}
+use Rattle.saphyr_scanner.specs.Steps.Queue.{Place, closed, empty_piece}
+use Rattle.saphyr_scanner.specs.Steps.Core.{Candidate}
+use Rattle.saphyr_scanner.specs.Steps.State.{State, start}
+use Rattle.saphyr_scanner.specs.Steps.Unrolling.{unroll}
+use Rattle.saphyr_scanner.specs.Steps.Document.{end_stream, end_at, end_mark}
+use Rattle.saphyr_scanner.specs.Steps.Fetch.{fetch, fetch_here}
+use Rattle.saphyr_scanner.proofs.Leads.{Leads, flat}
+use Rattle.saphyr_scanner.proofs.Json.Strings.{ReadsDoubleQuoted, CountsDoubleQuoted}
+use Rattle.saphyr_scanner.proofs.Json.ReadWords.{ReadsPlainWords}
+use Rattle.saphyr_scanner.proofs.Json.States.{skip, skip_white, total, state_at, arrives, Comes, comes}
+use Rattle.saphyr_scanner.proofs.Json.Marks.{chain, kinds, kinds_append}
+use Rattle.saphyr_scanner.proofs.Json.Quotes.{reader}
+use Rattle.saphyr_scanner.proofs.Json.Nodes.{Premises, node_passes}
+use Rattle.saphyr_scalar.proofs.Given.{cursor_at}
+
+-- the token of the stream's start
+abbrev pub begun : Place
+begun = closed (empty_piece (record { index = 0; line = 1; col = 0 }) tokens.StreamStart)
+
+pub starts : (limit : ℕ) (text : List ℕ)
+    → Comes limit (start text) false (fresh text) context.Block None [] true 0 (begun ∷ [])
+unfolding fetch
+starts limit text = comes limit (start text) false (fresh text) context.Block None [] true 0 (begun ∷ []) refl refl
+    (omega arith)
+
+-- the token of the stream's end
+abbrev pub finished : Marker → Place
+finished m = closed (empty_piece (end_mark m) tokens.StreamEnd)
+
+pub here : (m : Marker) (b : Bool) (k : Option Candidate) (a : Bool) (ad : ℕ) (ps : List Place)
+    → fetch_here (state_at false (cursor_at [] m b) context.Block k [] a ad ps)
+    ≡ Ok (state_at true (cursor_at [] m b) context.Block k [] false ad (ps ++ finished m ∷ []))
+unfolding fetch_here end_stream end_at unroll
+here m b k a ad ps = refl
+
+-- at the text's end
+record Ends (limit : ℕ) (before : State) (ps : List Place) : Type 0 where
+  after : State
+  mark : Marker
+  leads : Leads limit after before
+  over : after.core.ended ≡ true
+  handed : after.queue.handed ≡ 0
+  places : after.queue.places ≡ ps ++ finished mark ∷ []
+
+ends : (limit n : ℕ) → n ≤ limit → (s : Cursor) (k : Option Candidate) (a : Bool) (ad : ℕ) (ps : List Place)
+    → total s ≡ n → skip s.rest ≡ [] → Ends limit (state_at false s context.Block k [] a ad ps) ps
+unfolding fetch
+ends limit n below s k a ad ps count text =
+    let v = arrives s context.Block k [] a ad ps [] text tt in
+    let low : v.mark.index ≤ limit = omega (arith, v.count, count, below) in
+    let there = cursor_at [] v.mark v.blank in
+    let came = comes limit (state_at false s context.Block k [] a ad ps) true there context.Block v.key [] false ad
+    (ps ++ finished v.mark ∷ []) refl (ap (λ r. r >>= fetch_here) v.is ∙ here v.mark v.blank v.key v.allowed ad ps)
+    low in
+    record {
+      after = state_at true there context.Block came.key [] false ad (ps ++ finished v.mark ∷ []);
+      mark =
+          v.mark;
+      leads = came.leads;
+      over = refl;
+      handed = refl;
+      places = refl;
+    }
+
+told : (new : List Place) (m : Marker) (ts : List Kind) → kinds new ≡ ts
+    → kinds ((begun ∷ new) ++ finished m ∷ []) ≡ tokens.StreamStart ∷ (ts ++ tokens.StreamEnd ∷ [])
+told new m ts e = ap (λ (x : List Kind). tokens.StreamStart ∷ x)
+    (kinds_append new (finished m ∷ []) ∙ ap (λ (x : List Kind). x ++ tokens.StreamEnd ∷ []) e)
+
+-- Each text of JSON is taken up to its end, where the queue holds the tokens of its forest.
+pub json_leads : ReadsPlainWords words.plain → ReadsDoubleQuoted reader → CountsDoubleQuoted reader
+    → (limit : ℕ) (forest : Forest) (text : List ℕ) → IsJson forest text → open_in_forest forest ≤ 255
+    → length text ≤ limit
+    → (d : State) × Leads limit d (start text) × (d.core.ended ≡ true) × (d.queue.handed ≡ 0)
+    × (map (λ (t : Piece). t.kind) (flat d.queue.places) ≡ json_tokens forest)
+json_leads words_read quoted_read counts limit [] text h deep short = absurd h
+json_leads words_read quoted_read counts limit (document ∷ other ∷ others) text h deep short = absurd h
+json_leads words_read quoted_read counts limit (document ∷ []) text h deep short =
+    let t = h.1 in
+    let n = 0 + length text in
+    let below : n ≤ limit = omega arith in
+    let premises : Premises limit n =
+    record { reads_words = words_read; reads_quoted = quoted_read; counts = counts; below = below } in
+    let first = starts limit text in
+    let piece : skip text ≡ skip (t.1 ++ t.2) = rw t.6 (skip_white t.0 (t.1 ++ t.2) t.3) in
+    let behind : skip t.2 ≡ [] = ap skip (sym (append-nil t.2)) ∙ skip_white t.2 [] t.5 in
+    let node = node_passes premises document.node t.1 t.2 t.4 (fresh text) context.Block first.key [] true 0
+    (begun ∷ []) refl piece (rw behind tt) (omega arith) in
+    let last = ends limit n below node.there node.key node.allowed node.adjacent ((begun ∷ []) ++ node.new) node.count
+    (node.fits ∙ behind) in (
+      last.after,
+      chain first.leads (chain node.leads last.leads),
+      last.over,
+      last.handed,
+      ap kinds last.places ∙ told node.new last.mark (node_tokens document.node) node.are,
+    )

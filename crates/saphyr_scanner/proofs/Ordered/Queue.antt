@@ -1,0 +1,106 @@
+-- The places of the queue stand in order, and what a step does to it keeps them so.
+use Rattle.std.proofs.Common.{◌≡◌, ℕ, zero, suc, ◌-◌, ◌≤◌, List, [], ◌∷◌, ◌++◌, refl, sym, arith, subst}
+use Rattle.saphyr_scanner.specs.declared.queue.Opening.{Opening}
+use Rattle.saphyr_scanner.specs.Views.Tokens.{Piece}
+use Rattle.saphyr_scanner.specs.Steps.Queue.{Place, Queue, closed, opened}
+use Rattle.saphyr_scalar.specs.declared.scalar.fault.Refusal.{Refusal}
+use Rattle.std.specs.Prelude.{Result, Ok, Err}
+use Rattle.saphyr_scalar.specs.Cursor.{Cursor}
+use Rattle.saphyr_scanner.specs.Steps.Core.{Core, Action, Put, Open, Step, Steps, act, perform}
+use Rattle.saphyr_scanner.specs.Steps.State.{State, carried, acted}
+use Rattle.saphyr_scanner.proofs.Counted.{Ahead, ahead_ahead}
+use Rattle.saphyr_scalar.proofs.Given.{Given}
+
+-- the tokens of the places, from `low` on to n
+abbrev pub PlacesInOrder : ℕ → ℕ → List Place → Type 0
+PlacesInOrder n low [] = low ≤ n
+PlacesInOrder n low (p ∷ ps) =
+    (low ≤ p.piece.span.start.index) × (p.piece.span.start.index ≤ p.piece.span.end.index)
+    × PlacesInOrder n p.piece.span.end.index ps
+
+-- the tokens that are put into the queue, from `low` on to n
+abbrev pub PutsInOrder : ℕ → ℕ → List Action → Type 0
+PutsInOrder n low [] = low ≤ n
+PutsInOrder n low (Put t ∷ others) =
+    (low ≤ t.span.start.index) × (t.span.start.index ≤ t.span.end.index) × PutsInOrder n t.span.end.index others
+PutsInOrder n low (Open k o ∷ others) = PutsInOrder n low others
+
+pub places_within : (n low : ℕ) (ps : List Place) → PlacesInOrder n low ps → low ≤ n
+places_within n low [] h = h
+places_within n low (p ∷ ps) h = omega (arith, h.0, h.1, places_within n p.piece.span.end.index ps h.2)
+
+pub places_further : (n m low : ℕ) (ps : List Place) → n ≤ m → PlacesInOrder n low ps → PlacesInOrder m low ps
+places_further n m low [] k h = omega (arith, h, k)
+places_further n m low (p ∷ ps) k h = (h.0, h.1, places_further n m p.piece.span.end.index ps k h.2)
+
+place_put : (n m low : ℕ) (ps : List Place) (t : Piece) → PlacesInOrder n low ps → n ≤ t.span.start.index
+    → t.span.start.index ≤ t.span.end.index → t.span.end.index ≤ m → PlacesInOrder m low (ps ++ closed t ∷ [])
+place_put n m low [] t h a b c = (omega (arith, h, a), b, c)
+place_put n m low (p ∷ ps) t h a b c = (h.0, h.1, place_put n m p.piece.span.end.index ps t h.2 a b c)
+
+-- What stands in front of a token has its place.
+place_opened : (n low k : ℕ) (o : Opening) (ps : List Place) → PlacesInOrder n low ps
+    → PlacesInOrder n low (opened k o ps)
+place_opened n low k o [] h = h
+place_opened n low zero o (p ∷ ps) h = h
+place_opened n low (suc k) o (p ∷ ps) h = (h.0, h.1, place_opened n p.piece.span.end.index k o ps h.2)
+
+performed : (n m low : ℕ) (actions : List Action) (q : Queue) → PlacesInOrder n low q.places → PutsInOrder m n actions
+    → PlacesInOrder m low (perform actions q).places
+performed n m low [] q h k = places_further n m low q.places k h
+performed n m low (Put t ∷ others) q h k =
+    performed t.span.end.index m low others (act (Put t) q)
+    (place_put n t.span.end.index low q.places t h k.0 k.1 (omega arith)) k.2
+performed n m low (Open i o ∷ others) q h k =
+    performed n m low others (act (Open i o) q) (place_opened n low (i - q.handed) o q.places h) k
+
+-- ## Steps and states
+
+-- a step from the place of s on: what it puts stands between that place and the one that is reached
+pub record Ordered (s : Cursor) (x : Step) : Type 0 where
+  pub ahead : Ahead s x.core.cursor
+  pub puts : PutsInOrder x.core.cursor.mark.index s.mark.index x.actions
+
+abbrev pub InOrder : ℕ → State → Type 0
+InOrder low s = PlacesInOrder s.core.cursor.mark.index low s.queue.places
+
+-- from s to t: the text is passed on, and the tokens of the queue stay in order
+pub record Grows (s t : State) : Type 0 where
+  pub ahead : Ahead s.core.cursor t.core.cursor
+  pub ordered : (low : ℕ) → InOrder low s → InOrder low t
+
+pub grows_grows : (s t u : State) → Grows s t → Grows t u → Grows s u
+grows_grows s t u a b = record {
+  ahead =
+      ahead_ahead s.core.cursor t.core.cursor u.core.cursor a.ahead b.ahead;
+  ordered =
+      λ low h. b.ordered low (a.ordered low h);
+}
+
+-- the queue stays as it is
+pub core_grows : (s t : State) → Ahead s.core.cursor t.core.cursor → t.queue ≡ s.queue → Grows s t
+core_grows s t a e = record {
+  ahead = a;
+  ordered = λ low h.
+      let P : Queue → Type 0 = λ q. PlacesInOrder t.core.cursor.mark.index low q.places in
+      subst P (sym e) (places_further s.core.cursor.mark.index t.core.cursor.mark.index low s.queue.places a.later h);
+}
+
+pub carried_grows : (s : State) (r : Result Core Refusal) → Given (λ (d : Core). Ahead s.core.cursor d.cursor) r
+    → Given (Grows s) (carried r s.queue)
+carried_grows s (Ok d) a = core_grows s _ a refl
+carried_grows s (Err e) a = tt
+
+pub acted_grows : (s : State) (r : Steps) → Given (Ordered s.core.cursor) r → Given (Grows s) (acted r s.queue)
+acted_grows s (Ok x) h =
+    record {
+      ahead = h.ahead;
+      ordered =
+          λ low k. performed s.core.cursor.mark.index x.core.cursor.mark.index low x.actions s.queue k h.puts;
+    }
+acted_grows s (Err e) h = tt
+
+-- the same, from another state
+pub onward : (s t : State) (r : Result State Refusal) → Grows s t → Given (Grows t) r → Given (Grows s) r
+onward s t (Ok u) a b = grows_grows s t u a b
+onward s t (Err e) a b = tt

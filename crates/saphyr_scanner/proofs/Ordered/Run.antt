@@ -1,0 +1,76 @@
+-- The tokens of a text stand in order.
+use Rattle.std.proofs.Common.{◌≡◌, ℕ, zero, suc, ◌+◌, ◌≤◌, List, [], ◌∷◌, length, Result, Ok, Err, arith}
+use Rattle.saphyr_scalar.specs.declared.scalar.fault.Refusal.{Refusal}
+use Rattle.saphyr_scalar.specs.Cursor.{◌>>=◌}
+use Rattle.saphyr_scanner.specs.declared.queue.Opening.{Opening}
+use Rattle.saphyr_scanner.specs.declared.queue.Opening.TheVariants as opening
+use Rattle.saphyr_scanner.specs.Views.Tokens.{Piece, Remaining}
+use Rattle.saphyr_scanner.specs.Steps.Queue.{Place}
+use Rattle.saphyr_scanner.specs.Steps.Core.{Core}
+use Rattle.saphyr_scanner.specs.Steps.State.{State, start}
+use Rattle.saphyr_scanner.specs.Steps.Fetch.{size, settled, needs_token, fetch_within}
+use Rattle.saphyr_scanner.specs.Steps.Remaining.{before_place, hand_out, delivered, run, remaining, scan}
+use Rattle.saphyr_scanner.specs.SpansInOrder.{AreInOrder}
+use Rattle.saphyr_scanner.proofs.Ordered.Queue.{places_within, InOrder, Grows}
+use Rattle.saphyr_scanner.proofs.Ordered.Scalars.{ReaderEnds}
+use Rattle.saphyr_scanner.proofs.Ordered.Fetch.{read_grows, settled_grows}
+use Rattle.saphyr_input.proofs.Basics.Booleans.{by_test}
+use Rattle.saphyr_scalar.proofs.Given.{Given}
+use Rattle.saphyr_scanner.proofs.Queues.{holding}
+
+-- what comes is in order from `low` on
+abbrev Follows : ℕ → ℕ → Remaining → Type 0
+Follows n low r = AreInOrder n low r.pieces
+
+-- what stands in front of a token, and the token
+place_first : (n low : ℕ) (o : Opening) (t : Piece) (r : Remaining) → low ≤ t.span.start.index
+    → t.span.start.index ≤ t.span.end.index → Follows n t.span.end.index r → Follows n low (before_place o t r)
+place_first n low opening.Nothing t r a b h = (a, b, h)
+place_first n low opening.Key t r a b h = (a, omega arith, (omega arith, b, h))
+place_first n low opening.BlockMappingAndKey t r a b h =
+    (a, omega arith, (omega arith, omega arith, (omega arith, b, h)))
+place_first n low opening.FlowMappingAndKey t r a b h =
+    (a, omega arith, (omega arith, omega arith, (omega arith, b, h)))
+
+handed_in_order : (n : ℕ) (go : State → Remaining) (c : Core)
+    → ((low k : ℕ) (ps : List Place) → InOrder low (holding c ps k) → Follows n low (go (holding c ps k)))
+    → (low k : ℕ) (ps : List Place) → InOrder low (holding c ps k) → Follows n low (hand_out ps go (holding c ps k))
+handed_in_order n go c others low k [] h = others low k [] h
+handed_in_order n go c others low k (p ∷ ps) h =
+    let next = handed_in_order n go c others p.piece.span.end.index (k + 1) ps h.2 in
+    by_test (needs_token (holding c (p ∷ ps) k)) _ _ (Follows n low) (λ _. others low k (p ∷ ps) h)
+    (λ _. place_first n low p.opening p.piece _ h.0 h.1 next)
+
+-- the index and what is left are n together
+abbrev IsCounted : ℕ → State → Type 0
+IsCounted n s = s.core.cursor.mark.index + length s.core.cursor.rest ≡ n
+
+within : (n low : ℕ) (s : State) → IsCounted n s → InOrder low s → low ≤ n
+within n low s w h = omega (arith, w, places_within s.core.cursor.mark.index low s.queue.places h)
+
+delivers : (n low : ℕ) (s : State) (r : Result State Refusal) (go : State → Remaining) → IsCounted n s → InOrder low s
+    → Given (Grows s) r → ((t : State) → IsCounted n t → InOrder low t → Follows n low (go t))
+    → Follows n low (delivered r go)
+delivers n low s (Ok t) go w h g others = others t (omega (arith, w, g.ahead.counted)) (g.ordered low h)
+delivers n low s (Err e) go w h g others = within n low s w h
+
+run_in_order : ReaderEnds → (n limit fuel low : ℕ) (s : State) → IsCounted n s → InOrder low s
+    → Follows n low (run fuel limit s)
+run_in_order laws n limit zero low s w h = within n low s w h
+run_in_order laws n limit (suc fuel) low s w h =
+    let others : (l : ℕ) (t : State) → IsCounted n t → InOrder l t → Follows n l (run fuel limit t) =
+    λ l t. run_in_order laws n limit fuel l t in
+    handed_in_order n _ s.core
+    (λ l k ps i. let t : State = holding s.core ps k in
+    by_test t.core.ended _ _ (Follows n l) (λ _. within n l t w i)
+    (λ _. delivers n l t (fetch_within limit t >>= settled) (run fuel limit) w i (read_grows laws limit t)
+    (others l)))
+    low s.queue.handed s.queue.places h
+
+pub scan_in_order : ReaderEnds → (limit : ℕ) (text : List ℕ) → AreInOrder (length text) 0 (scan limit text).pieces
+unfolding remaining
+scan_in_order laws limit text =
+    let s : State = start text in
+    delivers (length text) 0 s (settled s) (λ t. run (suc (size t.core)) limit t) (omega arith) (omega arith)
+    (settled_grows s)
+    (λ t w h. run_in_order laws (length text) limit (suc (size t.core)) 0 t w h)

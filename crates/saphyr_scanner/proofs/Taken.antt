@@ -1,0 +1,16 @@
+-- Each token is taken from the text.
+pub mod Candidates
+pub mod Separated
+pub mod Parts
+pub mod Later
+pub mod Held
+pub mod Cores
+pub mod Flow
+pub mod Values
+pub mod Blocks
+pub mod Scalars
+pub mod States
+pub mod Documents
+pub mod Fetch
+pub mod Run
+pub mod Places

@@ -1,0 +1,265 @@
+-- What is held stays so where the core of a scanner changes, and where a token comes.
+use Rattle.std.proofs.Common.{◌≡◌, ℕ, ◌+◌, ◌≤◌, ◌⊎◌, Bool, true, false, List, [], ◌∷◌, Option, Some, None, Result, Ok, Err, refl, sym, ◌∙◌, arith, subst, inl, inr, length-append}
+use Rattle.std.specs.Prelude.{◌&&◌, ◌==◌, slice_index}
+use Rattle.saphyr_input.specs.declared.input.SkipTabs.{SkipTabs}
+use Rattle.saphyr_input.specs.declared.input.SkipTabs.TheVariants as tabs
+use Rattle.saphyr_scalar.specs.declared.scalar.position.Marker.{Marker}
+use Rattle.saphyr_scalar.specs.declared.scalar.fault.Refusal.{Refusal}
+use Rattle.saphyr_scalar.specs.Cursor.{Cursor, ◌>>=◌, pass, separation}
+use Rattle.saphyr_scalar.proofs.Properties.TagsSpelled.{cut_at}
+use Rattle.saphyr_scanner.specs.Views.Tokens.{Piece}
+use Rattle.saphyr_scanner.specs.Steps.Gap as gaps
+use Rattle.saphyr_scanner.specs.Steps.Queue.{Queue, closed, put, next}
+use Rattle.saphyr_scanner.specs.Steps.Core.{Candidate, Level, Core, Step, perform, is_block, in_block, save_key, forget_key, remove_key, least_column}
+use Rattle.saphyr_scanner.specs.Steps.Passing.{separate, with_cursor, pass_gap, check_comment, goes_on_behind, behind_gap, intercepts}
+use Rattle.saphyr_scanner.specs.TokensTaken as taken
+use Rattle.saphyr_scanner.specs.TokensTaken.{AreApart, IsToken, TakesCharacter, open_behind}
+use Rattle.saphyr_scanner.proofs.Taken.Separated.{gap_apart}
+use Rattle.saphyr_scanner.proofs.LineTails.{OnLine, separation_passes}
+use Rattle.saphyr_scanner.proofs.Taken.Parts.{is_quiet, quiet_open, Begins}
+use Rattle.saphyr_scanner.proofs.Taken.Held.{Stack, Taken, taken_further, Opens, taken_put, Key, KeyOf, lower, Keys, keys_weaken, keys_put, below_key}
+use Rattle.saphyr_input.proofs.Basics.Booleans.{by_test}
+use Rattle.saphyr_scalar.proofs.Given.{Given}
+
+pub record Holds (columns : List ℕ) (from : Cursor) (c : Core) (q : Queue) : Type 0 where
+  pub taken : Taken columns from c q
+  pub keys : Keys (next q) q c.indent (c.level ∷ c.outer)
+
+abbrev pub HoldsStep : List ℕ → Cursor → Queue → Step → Type 0
+HoldsStep columns from q x = Holds columns from x.core (perform x.actions q)
+
+-- a truth value, by its cases
+pub by_bool : (b : Bool) (P : Bool → Type 0) → (b ≡ true → P true) → (b ≡ false → P false) → P b
+by_bool true P x y = x refl
+by_bool false P x y = y refl
+
+-- ## Changes of the core
+
+-- the same block collections and levels
+pub record Alike (c d : Core) : Type 0 where
+  pub level : d.level ≡ c.level
+  pub outer : d.outer ≡ c.outer
+  pub indent : d.indent ≡ c.indent
+  pub outer_indents : d.outer_indents ≡ c.outer_indents
+
+pub alike : (c : Core) → Alike c c
+alike c = record { level = refl; outer = refl; indent = refl; outer_indents = refl }
+
+pub keys_of : (b : ℕ) (q : Queue) (i j : ℕ) (l m : Level) (ls ms : List Level) → j ≡ i → m ≡ l → ms ≡ ls
+    → Keys b q i (l ∷ ls) → Keys b q j (m ∷ ms)
+keys_of b q i j l m ls ms e f g h =
+    let P : ℕ → Type 0 = λ x. Keys b q x (m ∷ ms) in
+    let Q : Level → Type 0 = λ x. Keys b q i (x ∷ ms) in
+    let R : List Level → Type 0 = λ x. Keys b q i (l ∷ x) in
+    subst P (sym e) (subst Q (sym f) (subst R (sym g) h))
+
+pub holds_further : (columns : List ℕ) (from : Cursor) (c d : Core) (q : Queue) → Alike c d → AreApart c.cursor d.cursor
+    → Holds columns from c q → Holds columns from d q
+holds_further columns from c d q a p h = record {
+  taken = taken_further columns from c d q p a.indent a.outer_indents h.taken;
+  keys = keys_of (next q) q c.indent d.indent c.level d.level c.outer d.outer a.indent a.level a.outer h.keys;
+}
+
+-- the key of the level may be forgotten
+pub record Lesser (l m : Level) : Type 0 where
+  pub block : is_block m.context ≡ is_block l.context
+  pub key : (m.key ≡ l.key) ⊎ (m.key ≡ None)
+
+pub keys_lesser : (b : ℕ) (q : Queue) (i : ℕ) (l m : Level) (ls : List Level) → Lesser l m → Keys b q i (l ∷ ls)
+    → Keys b q i (m ∷ ls)
+keys_lesser b q i l m ls e h = by e.key
+  where
+    none : (k : Option Candidate) → k ≡ None → KeyOf b q (is_block m.context) i k × Keys (lower b k) q i ls
+    none k f =
+        let P : Option Candidate → Type 0 = λ x. KeyOf b q (is_block m.context) i x × Keys (lower b x) q i ls in
+        subst P (sym f) (tt, keys_weaken (lower b l.key) b q i ls (below_key b q (is_block l.context) i l.key h.1) h.2)
+
+    same : (k : Option Candidate) → k ≡ l.key → KeyOf b q (is_block m.context) i k × Keys (lower b k) q i ls
+    same k f =
+        let P : Option Candidate → Type 0 = λ x. KeyOf b q (is_block m.context) i x × Keys (lower b x) q i ls in
+        let Q : Bool → Type 0 = λ x. KeyOf b q x i l.key in
+        subst P (sym f) (subst Q (sym e.block) h.1, h.2)
+
+    by : (m.key ≡ l.key) ⊎ (m.key ≡ None) → Keys b q i (m ∷ ls)
+    by (inl f) = let x = same m.key f in ((λ g. h.0 (sym e.block ∙ g)), x.0, x.1)
+    by (inr f) = let x = none m.key f in ((λ g. h.0 (sym e.block ∙ g)), x.0, x.1)
+
+pub holds_lesser : (columns : List ℕ) (from : Cursor) (c d : Core) (q : Queue) → Lesser c.level d.level
+    → d.outer ≡ c.outer → d.indent ≡ c.indent → d.outer_indents ≡ c.outer_indents → AreApart c.cursor d.cursor
+    → Holds columns from c q → Holds columns from d q
+holds_lesser columns from c d q l o i s p h = record {
+  taken = taken_further columns from c d q p i s h.taken;
+  keys = keys_of (next q) q c.indent d.indent d.level d.level c.outer d.outer i refl o
+      (keys_lesser (next q) q c.indent c.level d.level c.outer l h.keys);
+}
+
+pub holds_forgotten : (columns : List ℕ) (from : Cursor) (c : Core) (q : Queue) → Holds columns from c q
+    → Holds columns from (forget_key c) q
+holds_forgotten columns from c q h =
+    holds_lesser columns from c (forget_key c) q (record { block = refl; key = inr refl }) refl refl refl
+    (taken.nothing _ _) h
+
+-- outside flow nothing encloses the level
+pub outermost : (columns : List ℕ) (from : Cursor) (c : Core) (q : Queue) → Holds columns from c q → in_block c ≡ true
+    → c.outer ≡ []
+outermost columns from c q h e = h.keys.0 e
+
+-- where no key is a candidate at all
+pub no_keys : (b : ℕ) (q : Queue) (i : ℕ) (l : Level) (ls : List Level) → l.key ≡ None → ls ≡ [] → Keys b q i (l ∷ ls)
+no_keys b q i l ls k o =
+    let P : List Level → Type 0 = λ x. Keys b q i (l ∷ x) in
+    let Q : Option Candidate → Type 0 = λ x. KeyOf b q (is_block l.context) i x in
+    subst P (sym o) ((λ e. refl), subst Q (sym k) tt, tt)
+
+-- ## A token comes
+
+abbrev pub Same : Core → Core → Type 0
+Same c d = (d.indent ≡ c.indent) × (d.outer_indents ≡ c.outer_indents)
+
+pub quiet_opens : (t : Piece) (c d : Core) → is_quiet t.kind ≡ true → d.indent ≡ c.indent
+    → d.outer_indents ≡ c.outer_indents → Opens t c d
+quiet_opens t c d e i o columns h =
+    let P : ℕ → Type 0 = λ x. Stack columns x d.outer_indents in
+    let Q : List ℕ → Type 0 = λ x. Stack columns c.indent x in
+    subst (λ l. Stack l d.indent d.outer_indents) (sym (quiet_open t.kind t.span.start.col columns e))
+    (subst P (sym i) (subst Q (sym o) h))
+
+pub next_put : (t : Piece) (q : Queue) → next (put t q) ≡ next q + 1
+next_put t q = let l = length-append q.places (closed t ∷ []) in omega (arith, l)
+
+-- a quiet token from here to behind, and separation to the place that is reached
+pub quiet_put : (columns : List ℕ) (from : Cursor) (c d : Core) (q : Queue) (t : Piece) (here behind : Cursor)
+    → is_quiet t.kind ≡ true → AreApart c.cursor here → IsToken c.indent t.kind t.span here behind
+    → AreApart behind d.cursor
+    → Alike c d → Holds columns from c q → Holds columns from d (put t q)
+quiet_put columns from c d q t here behind e a is b l h = record {
+  taken = taken_put columns from c d q t here behind a is b (quiet_opens t c d e l.indent l.outer_indents) h.taken;
+  keys =
+      let k = keys_put (next q) q c.indent (c.level ∷ c.outer) t e h.keys in
+      let n = next_put t q in
+      keys_of (next (put t q)) (put t q) c.indent d.indent c.level d.level c.outer d.outer l.indent l.level l.outer
+      (keys_weaken (next q) (next (put t q)) (put t q) c.indent (c.level ∷ c.outer) (omega (arith, n)) k);
+}
+
+-- any token, behind which no key is a candidate
+pub loud_put : (columns : List ℕ) (from : Cursor) (c d : Core) (q : Queue) (t : Piece) (here behind : Cursor)
+    → AreApart c.cursor here → IsToken c.indent t.kind t.span here behind → AreApart behind d.cursor → Opens t c d
+    → d.level.key ≡ None → d.outer ≡ [] → Holds columns from c q → Holds columns from d (put t q)
+loud_put columns from c d q t here behind a is b o k n h = record {
+  taken = taken_put columns from c d q t here behind a is b o h.taken;
+  keys = no_keys (next (put t q)) (put t q) d.indent d.level d.outer k n;
+}
+
+-- ## A key is saved
+
+pub record Saved (n : ℕ) (c d : Core) : Type 0 where
+  pub level : (d.level ≡ c.level)
+      ⊎ (d.level ≡ record { context = c.level.context; key = Some (record { mark = c.cursor.mark; place = n }) })
+  pub cursor : d.cursor ≡ c.cursor
+  pub outer : d.outer ≡ c.outer
+  pub indent : d.indent ≡ c.indent
+  pub outer_indents : d.outer_indents ≡ c.outer_indents
+
+pub saved : (n : ℕ) (c : Core) → Saved n c (save_key n c)
+saved n c =
+    by_test c.key_allowed _ _ (Saved n c)
+    (λ _. record { level = inr refl; cursor = refl; outer = refl; indent = refl; outer_indents = refl })
+    (λ _. record { level = inl refl; cursor = refl; outer = refl; indent = refl; outer_indents = refl })
+
+pub saved_alike : (n : ℕ) (c d e : Core) → Saved n c d → Alike d e → e.cursor ≡ d.cursor → Saved n c e
+saved_alike n c d e s a p =
+    record {
+      level = by s.level;
+      cursor =
+          p ∙ s.cursor;
+      outer = a.outer ∙ s.outer;
+      indent =
+          a.indent ∙ s.indent;
+      outer_indents = a.outer_indents ∙ s.outer_indents;
+    }
+  where
+    by : (d.level ≡ c.level)
+        ⊎ (d.level ≡ record { context = c.level.context; key = Some (record { mark = c.cursor.mark; place = n }) })
+        → (e.level ≡ c.level) ⊎ (e.level
+        ≡ record { context = c.level.context; key = Some (record { mark = c.cursor.mark; place = n }) })
+    by (inl f) = inl (a.level ∙ f)
+    by (inr f) = inr (a.level ∙ f)
+
+-- the token that may be a key
+pub saved_keys : (c : Core) (q : Queue) (t : Piece) (d : Core) → is_quiet t.kind ≡ true → Begins t
+    → t.span.start ≡ c.cursor.mark → (in_block c ≡ true → c.indent ≤ c.cursor.mark.col + 1) → Saved (next q) c d
+    → Keys (next q) q c.indent (c.level ∷ c.outer) → Keys (next (put t q)) (put t q) d.indent (d.level ∷ d.outer)
+saved_keys c q t d e b m deep s h = by s.level
+  where
+    more : next (put t q) ≡ next q + 1
+    more = next_put t q
+
+    new : Level
+    new = record { context = c.level.context; key = Some (record { mark = c.cursor.mark; place = next q }) }
+
+    by : (d.level ≡ c.level)
+        ⊎ (d.level ≡ record { context = c.level.context; key = Some (record { mark = c.cursor.mark; place = next q }) })
+        → Keys (next (put t q)) (put t q) d.indent (d.level ∷ d.outer)
+    by (inl f) =
+        keys_of (next (put t q)) (put t q) c.indent d.indent c.level d.level c.outer d.outer s.indent f s.outer
+        (keys_weaken (next q) (next (put t q)) (put t q) c.indent (c.level ∷ c.outer) (omega (arith, more))
+        (keys_put (next q) q c.indent (c.level ∷ c.outer) t e h))
+    by (inr f) =
+        let outers = keys_weaken (lower (next q) c.level.key) (next q) q c.indent c.outer
+        (below_key (next q) q (is_block c.level.context) c.indent c.level.key h.1) h.2 in
+        let own : Key (next (put t q)) (put t q) (is_block c.level.context) c.indent
+        (record { mark = c.cursor.mark; place = next q }) = record {
+          front = q.places;
+          back = [];
+          token = t;
+          places = refl;
+          at = refl;
+          below = omega (arith, more);
+          marked = m;
+          begins = b;
+          quiet = λ _. (e, tt);
+          deep = deep;
+        } in
+        keys_of (next (put t q)) (put t q) c.indent d.indent
+        (record { context = c.level.context; key = Some (record { mark = c.cursor.mark; place = next q }) }) d.level
+        c.outer d.outer s.indent f s.outer (h.0, own, keys_put (next q) q c.indent c.outer t e outers)
+
+-- ## What is passed
+
+pub behind_blanks : {X : Type 0} → (P : X → Type 0) (c : Core) (f : SkipTabs × Core → Result X Refusal)
+    → ((found : SkipTabs) (t : Cursor) → OnLine c.cursor t → Given P (f (found, with_cursor t c)))
+    → Given P (separate c >>= f)
+behind_blanks P c f go = by (separation tabs.Yes c.cursor) (separation_passes c.cursor)
+  where
+    by : (r : Result (SkipTabs × Cursor) Refusal) → Given (λ (x : SkipTabs × Cursor). OnLine c.cursor x.1) r
+        → Given P ((r >>= λ x. Ok (x.0, with_cursor x.1 c)) >>= f)
+    by (Ok x) h = go x.0 x.1 h
+    by (Err e) h = tt
+
+pub behind_gap_of : {X : Type 0} → (P : X → Type 0) (c : Core) (f : Core → Result X Refusal)
+    → ((d : Core) → Alike c d → AreApart c.cursor d.cursor → Given P (f d)) → Given P (pass_gap c >>= f)
+unfolding pass_gap check_comment
+behind_gap_of P c f go = by (gaps.pass_gap (least_column c) c.cursor) (gap_apart (least_column c) false false c.cursor)
+  where
+    checked : (m : Option Marker) (d : Core) → Alike c d → AreApart c.cursor d.cursor → Given P (intercepts m d >>= f)
+    checked None d a p = go d a p
+    checked (Some m) d a p =
+        let e : Core = record d { comment = None } in
+        by_test (goes_on_behind m e) _ _ (λ r. Given P (r >>= f)) (λ _. tt)
+        (λ _. go e (record { level = a.level; outer = a.outer; indent = a.indent; outer_indents = a.outer_indents })
+        p)
+
+    by : (r : Result gaps.Passed Refusal) → Given (λ (p : gaps.Passed). AreApart c.cursor p.cursor) r
+        → Given P ((r >>= λ g. intercepts (behind_gap c g).comment (behind_gap c g)) >>= f)
+    by (Ok g) h = checked c.comment (behind_gap c g)
+        (record { level = refl; outer = refl; indent = refl; outer_indents = refl }) h
+    by (Err e) h = tt
+
+pub behind_forgotten : {X : Type 0} → (P : X → Type 0) (c : Core) (f : Core → Result X Refusal)
+    → Given P (f (forget_key c)) → Given P (remove_key c >>= f)
+unfolding remove_key
+behind_forgotten P c f h = by_test (in_block c && c.required) _ _ (λ r. Given P (r >>= f)) (λ _. tt) (λ _. h)
+
+-- an indicator is passed
+pub indicator : (x : ℕ) (s : Cursor) → (x == 0) ≡ false → slice_index s.rest 0 ≡ x → TakesCharacter x s (pass 1 s)
+indicator x s z e = (cut_at x s.rest z e, refl)

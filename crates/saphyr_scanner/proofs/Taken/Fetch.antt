@@ -1,0 +1,427 @@
+-- Each token that is fetched is taken from the text.
+use Rattle.std.proofs.Common.{◌≡◌, ◌≢◌, ℕ, ◌+◌, ◌-◌, ◌^◌, ◌≤◌, ◌<◌, Bool, true, false, List, [], ◌∷◌, length, Option, Some, None, Result, Ok, Err, refl, sym, ap, ◌∙◌, arith, subst, inl, inr, cond}
+use Rattle.std.specs.Prelude.{◌&&◌, ◌||◌, ◌==◌, slice_index, not, nat_lt, nat_le, codes}
+use Rattle.saphyr_input.specs.Classes.{is_z, is_bom, is_blank, is_break, is_blank_or_breakz, is_one_of}
+use Rattle.saphyr_input.specs.Places.{is_document_start, is_document_end}
+use Rattle.saphyr_scalar.specs.declared.reading.block.BlockStyle.TheVariants as block_style
+use Rattle.saphyr_scalar.specs.declared.scalar.position.Marker.{Marker}
+use Rattle.saphyr_scalar.specs.declared.scalar.fault.Refusal.{Refusal}
+use Rattle.saphyr_scalar.specs.Cursor.{Cursor, fresh, ◌>>=◌}
+use Rattle.saphyr_scanner.specs.declared.engine.level.Context.TheVariants as context
+use Rattle.saphyr_scanner.specs.Grammar.Tokens as tokens
+use Rattle.saphyr_scanner.specs.Grammar.Tokens.{Kind}
+use Rattle.saphyr_scanner.specs.Views.Tokens.{Piece}
+use Rattle.saphyr_scanner.specs.Steps.Queue.{Queue, closed, put, next, empty_piece}
+use Rattle.saphyr_scanner.specs.Steps.Core.{Candidate, Level, Core, Steps, perform, is_block, in_block, is_too_far, forget_key, drop_far_key, least_column}
+use Rattle.saphyr_scanner.specs.Steps.Passing.{pass_gap}
+use Rattle.saphyr_scanner.specs.Steps.State.{State, carried, changed, acted}
+use Rattle.saphyr_scanner.specs.Steps.Unrolling.{unroll, end_blocks, is_right_of, less_deep}
+use Rattle.saphyr_scanner.specs.Steps.Document as document
+use Rattle.saphyr_scanner.specs.Steps.Fetch.{step, content, fetch_here, arrive, fetch, begin, within, fetch_within, settled, is_value_adjacent}
+use Rattle.saphyr_scanner.specs.TokensTaken as taken
+use Rattle.saphyr_scanner.specs.TokensTaken.{AreApart, IsPassedOver, AreTokens, may_begin_plain}
+use Rattle.saphyr_scanner.proofs.Blocks.{none_ends, unrolled_cursor}
+use Rattle.saphyr_scanner.proofs.Leads.{flat}
+use Rattle.saphyr_scanner.proofs.Sizes.Steps.{Took}
+use Rattle.saphyr_scanner.proofs.Sizes.Scalars.{Readers}
+use Rattle.saphyr_scanner.proofs.Sizes.Fetch.{left, marker_takes, end_marker_takes, mark_takes, directive_takes, stepped, step_takes, arrived_kept}
+use Rattle.saphyr_scanner.proofs.Taken.Separated.{given_map}
+use Rattle.saphyr_scanner.proofs.Taken.Later.{top, LaterThan, later_later}
+use Rattle.saphyr_scanner.proofs.Taken.Parts.{tokens_part}
+use Rattle.saphyr_scanner.proofs.Taken.Held.{Taken, taken_further, taken_put, Keys}
+use Rattle.saphyr_scanner.proofs.Taken.Cores.{Holds, HoldsStep, Alike, keys_of, keys_lesser, no_keys, quiet_put, behind_gap_of}
+use Rattle.saphyr_scanner.proofs.Taken.Flow.{open_sequence, open_mapping, close_sequence, close_mapping, sequence_starts, mapping_starts, start_holds, end_holds, entry_holds}
+use Rattle.saphyr_scanner.proofs.Taken.Values.{key_known, value_holds, flow_value_holds}
+use Rattle.saphyr_scanner.proofs.Taken.Blocks.{block_entry_holds, key_holds}
+use Rattle.saphyr_scanner.proofs.Taken.Scalars.{TextLaws, PlainStart, double_holds, single_holds, plain_holds, an_alias, an_anchor, name_holds, tag_holds}
+use Rattle.saphyr_scanner.proofs.Taken.States.{line_small, taken_later, key_stands, Live, Fetched, holds_fetched, FetchedStep, block_holds, TakenState, unroll_taken, blocks_levels}
+use Rattle.saphyr_scanner.proofs.Taken.Documents.{HoldsState, start_marking, marker_holds, end_marker_holds, mark_holds, directive_holds, end_fetched}
+use Rattle.saphyr_input.proofs.Basics.Booleans.{by_test, and_false}
+use Rattle.saphyr_scalar.proofs.Given.{Given, given_bind, given_of}
+use Rattle.std.proofs.lemmas.Bool.{or_parts, and_parts, not-true, le-ltb, ltb-false, ne_eqb, eqb-true}
+use Rattle.saphyr_scanner.proofs.Queues.{flat_append}
+
+-- ## To where the next token begins
+
+-- at NUL and at the end nothing is passed
+z_stays : (m : Marker) (t : List ℕ) (n : Marker) (u : List ℕ) → IsPassedOver m t n u → is_z (slice_index t 0) ≡ true
+    → u ≡ t
+z_stays _ _ _ _ (taken.nothing m t) z = refl
+z_stays _ _ _ _ (taken.blank m c t n u e p) z = absurd (let f : is_blank c ≡ false = ap is_blank (eqb-true c 0 z) in cc)
+z_stays _ _ _ _ (taken.line_break m t n u e p) z =
+    absurd (let f : is_break (slice_index t 0) ≡ false = ap is_break (eqb-true (slice_index t 0) 0 z) in cc)
+z_stays _ _ _ _ (taken.comment m words t n u a e p) z = absurd (cc)
+
+further_live : (c d : Core) (q : Queue) → Alike c d → AreApart c.cursor d.cursor → Live c q → Live d q
+further_live c d q a p h nz = by (is_z (slice_index c.cursor.rest 0)) refl
+  where
+    by : (b : Bool) → is_z (slice_index c.cursor.rest 0) ≡ b → Keys (next q) q d.indent (d.level ∷ d.outer)
+    by true z = absurd (let e =
+        z_stays c.cursor.mark c.cursor.rest d.cursor.mark d.cursor.rest p z in
+        let f : is_z (slice_index d.cursor.rest 0) ≡ true = ap (λ l. is_z (slice_index l 0)) e ∙ z in cc)
+    by false z = keys_of (next q) q c.indent d.indent c.level d.level c.outer d.outer a.indent a.level a.outer (h z)
+
+abbrev IsNear : Core → Type 0
+IsNear c = (in_block c && is_too_far c.level.key c.cursor.mark) ≡ false
+
+record Near (columns : List ℕ) (from : Cursor) (q : Queue) (c : Core) : Type 0 where
+  taken : Taken columns from c q
+  live : Live c q
+  near : IsNear c
+
+forgotten_live : (c : Core) (q : Queue) → Live c q → Live (forget_key c) q
+forgotten_live c q h nz =
+    keys_lesser (next q) q c.indent c.level (forget_key c).level c.outer (record { block = refl; key = inr refl })
+    (h nz)
+
+forgotten_taken : (columns : List ℕ) (from : Cursor) (c : Core) (q : Queue) → Taken columns from c q
+    → Taken columns from (forget_key c) q
+forgotten_taken columns from c q h = taken_further columns from c (forget_key c) q (taken.nothing _ _) refl refl h
+
+dropped_near : (columns : List ℕ) (from : Cursor) (q : Queue) (c : Core) → Taken columns from c q → Live c q
+    → Given (Near columns from q) (drop_far_key c)
+unfolding drop_far_key
+dropped_near columns from q c h l =
+    by_test (not (in_block c && is_too_far c.level.key c.cursor.mark)) _ _ (Given (Near columns from q))
+    (λ e. record { taken = h; live = l; near = not-true (in_block c && is_too_far c.level.key c.cursor.mark) e })
+    (λ _. by_test c.required _ _ (Given (Near columns from q)) (λ _. tt)
+    (λ _. record {
+      taken = forgotten_taken columns from c q h;
+      live =
+          forgotten_live c q l;
+      near = and_false (in_block c);
+    }))
+
+gapped : (columns : List ℕ) (from : Cursor) (q : Queue) (c : Core) → Taken columns from c q → Live c q
+    → Given (Near columns from q) (pass_gap c >>= drop_far_key)
+gapped columns from q c h l =
+    behind_gap_of (Near columns from q) c drop_far_key
+    (λ d a p. dropped_near columns from q d (taken_further columns from c d q p a.indent a.outer_indents h)
+    (further_live c d q a p l))
+
+line_near : (k : Candidate) (m : Marker) → is_too_far (Some k) m ≡ false → m.line ≤ k.mark.line
+line_near k m e = ltb-false k.mark.line m.line (first (nat_lt k.mark.line m.line) _ e)
+  where
+    first : (b x : Bool) → cond b true x ≡ false → b ≡ false
+    first false x f = refl
+    first true x f = absurd (cc)
+
+-- where a key is a candidate no block collection ends
+unrolled_keys : (text : List ℕ) → length text < 2 ^ 63 → (columns : List ℕ) (from : Cursor) (q : Queue) (c : Core)
+    → LaterThan (fresh text) from → Near columns from q c → let t =
+    unroll (Some c.cursor.mark.col) c.cursor.mark (record { core = c; queue = q }) in Live t.core t.queue
+unfolding unroll
+unrolled_keys text small columns from q c l h nz =
+    let m = c.cursor.mark in
+    let s : State = record { core = c; queue = q } in
+    let P : State → Type 0 = λ t. Keys (next t.queue) t.queue t.core.indent (t.core.level ∷ t.core.outer) in
+    let z : is_z (slice_index c.cursor.rest 0) ≡ false = ap (λ (u : Cursor). is_z (slice_index u.rest 0))
+    (sym (unrolled_cursor (Some m.col) m s)) ∙ nz in
+    let keys = h.live z in
+    by_test (in_block c) (end_blocks (Some m.col) m c.outer_indents (changed (less_deep (Some m.col) c) s)) s P
+    (λ e. by c.level.key refl e keys) (λ _. keys)
+  where
+    by : (o : Option Candidate) → c.level.key ≡ o → in_block c ≡ true → Keys (next q) q c.indent (c.level ∷ c.outer)
+        → let t = end_blocks (Some c.cursor.mark.col) c.cursor.mark c.outer_indents
+        (changed (less_deep (Some c.cursor.mark.col) c) (record { core = c; queue = q })) in
+        Keys (next t.queue) t.queue t.core.indent (t.core.level ∷ t.core.outer)
+    by None i e keys =
+        let t : State = end_blocks (Some c.cursor.mark.col) c.cursor.mark c.outer_indents
+        (changed (less_deep (Some c.cursor.mark.col) c) (record { core = c; queue = q })) in
+        let v = blocks_levels (Some c.cursor.mark.col) c.cursor.mark c.outer_indents
+        (changed (less_deep (Some c.cursor.mark.col) c) (record { core = c; queue = q })) in
+        no_keys (next t.queue) t.queue t.core.indent t.core.level t.core.outer (ap (λ (y : Level). y.key) v.level ∙ i)
+        (v.outer ∙ keys.0 e)
+    by (Some k) i e keys =
+        let m = c.cursor.mark in
+        let s : State = changed (less_deep (Some m.col) c) (record { core = c; queue = q }) in
+        let known = key_known (next q) q (is_block c.level.context) c.indent c.level.key k c.outer i keys.1 keys.2 in
+        let from_small : from.mark.line ≤ top = (l.lines (omega arith)).1 in
+        let stands = key_stands columns from c q (next q) (is_block c.level.context) c.indent k from_small h.taken
+        known.0 in
+        let here = later_later (fresh text).mark text from.mark from.rest c.cursor.mark c.cursor.rest l
+        (taken_later columns from c q h.taken) in
+        let far : is_too_far (Some k) m ≡ false = ap (λ o. is_too_far o m) (sym i)
+        ∙ sym (ap (λ b. b && is_too_far c.level.key m) e) ∙ h.near in
+        let column : k.mark.col ≤ m.col = stands.later.columns stands.small (line_small text c.cursor small here)
+        (line_near k m far) in
+        let deep : c.indent ≤ k.mark.col + 1 = known.0.deep e in
+        let not_right : is_right_of (Some m.col) c.indent ≡ false = le-ltb m.col (c.indent - 1)
+        (omega (arith, column, deep)) in
+        let Q : State → Type 0 = λ t. Keys (next t.queue) t.queue t.core.indent (t.core.level ∷ t.core.outer) in
+        subst Q (sym (none_ends (Some m.col) m c.outer_indents s not_right)) keys
+
+pub record Arrived (columns : List ℕ) (from : Cursor) (t : State) : Type 0 where
+  pub taken : TakenState columns from t
+  pub live : Live t.core t.queue
+
+arrived : (text : List ℕ) → length text < 2 ^ 63 → (columns : List ℕ) (from : Cursor) (s : State)
+    → LaterThan (fresh text) from → TakenState columns from s → Live s.core s.queue
+    → Given (Arrived columns from) (arrive s)
+unfolding arrive
+arrived text small columns from s l h k = by (pass_gap s.core >>= drop_far_key) (gapped columns from s.queue s.core h k)
+  where
+    by : (r : Result Core Refusal) → Given (Near columns from s.queue) r
+        → Given (Arrived columns from)
+        (carried r s.queue >>= λ t. Ok (unroll (Some t.core.cursor.mark.col) t.core.cursor.mark t))
+    by (Ok d) n =
+        record {
+          taken = unroll_taken columns from (Some d.cursor.mark.col) d.cursor.mark
+              (record { core = d; queue = s.queue }) (inl refl) n.taken;
+          live =
+              unrolled_keys text small columns from s.queue d l n;
+        }
+    by (Err e) n = tt
+
+-- ## What begins there
+
+begins : (x : ℕ) → (x == 44) ≡ false → (x == 91) ≡ false → (x == 93) ≡ false → (x == 123) ≡ false → (x == 125) ≡ false
+    → (x == 35) ≡ false → (x == 38) ≡ false → (x == 42) ≡ false → (x == 33) ≡ false → (x == 39) ≡ false
+    → (x == 34) ≡ false → (x == 37) ≡ false → (x == 64) ≡ false → (x == 96) ≡ false
+    → may_begin_plain x ≡ true
+begins x a b c d e f g h i j k l m n = rw (a, b, c, d, e, f, g, h, i, j, k, l, m, n) refl
+
+no_second : (b x y z : Bool) → (x && b) ≡ false → (y && b) ≡ false → (z && b) ≡ false
+    → (x || (y || (z || false))) ≡ true → b ≡ false
+no_second false x y z e f g h = refl
+no_second true true y z e f g h = absurd (cc)
+no_second true false true z e f g h = absurd (cc)
+no_second true false false true e f g h = absurd (cc)
+no_second true false false false e f g h = absurd (cc)
+
+step_fetched : TextLaws → (text : List ℕ) → length text < 2 ^ 63
+    → (columns : List ℕ) (from : Cursor) (q : Queue) (first second : ℕ) (c : Core) → LaterThan (fresh text) from
+    → Holds columns from c q → 0 < length c.cursor.rest
+    → slice_index c.cursor.rest 0 ≡ first → slice_index c.cursor.rest 1 ≡ second
+    → (in_block c ≡ true → c.indent ≤ c.cursor.mark.col + 1)
+    → Given (FetchedStep columns from q) (step first second (next q) c)
+unfolding step
+step_fetched laws text small columns from q first second c l h some f g deep =
+    let P = Given (FetchedStep columns from q) in
+    let all : (r : Steps) → Given (HoldsStep columns from q) r → P r =
+    λ r k. given_map _ _ r (λ x w. holds_fetched columns from x.core (perform x.actions q) w) k in
+    let is : (n : ℕ) → (first == n) ≡ true → slice_index c.cursor.rest 0 ≡ n = λ n e. f ∙ eqb-true first n e in
+    let with_second : (n : ℕ) → ((first == n) && is_blank_or_breakz second) ≡ true
+    → is_blank_or_breakz (slice_index c.cursor.rest 1) ≡ true =
+    λ n e. ap is_blank_or_breakz g ∙ (and_parts (first == n) (is_blank_or_breakz second) e).1 in
+    let alone : (n : ℕ) (b : Bool) → ((first == n) && b) ≡ true → slice_index c.cursor.rest 0 ≡ n =
+    λ n b e. is n (and_parts (first == n) b e).0 in
+    by_test (first == 91) _ _ P
+    (λ e. all _ (start_holds columns from q 91 tokens.FlowSequenceStart context.FlowSequence open_sequence
+    sequence_starts refl c h (is 91 e) deep))
+    (λ e1. by_test (first == 123) _ _ P
+    (λ e. all _ (start_holds columns from q 123 tokens.FlowMappingStart context.FlowMapping open_mapping
+    mapping_starts refl c h (is 123 e) deep))
+    (λ e2. by_test (first == 93) _ _ P
+    (λ e. all _ (end_holds columns from q 93 tokens.FlowSequenceEnd close_sequence true c h (is 93 e)))
+    (λ e3. by_test (first == 125) _ _ P
+    (λ e. all _ (end_holds columns from q 125 tokens.FlowMappingEnd close_mapping false c h (is 125 e)))
+    (λ e4. by_test (first == 44) _ _ P (λ e. all _ (entry_holds columns from q c h (is 44 e)))
+    (λ e5. by_test ((first == 45) && is_blank_or_breakz second) _ _ P
+    (λ e. all _ (block_entry_holds columns from q c h (alone 45 _ e) (with_second 45 e)))
+    (λ e6. by_test ((first == 63) && is_blank_or_breakz second) _ _ P
+    (λ e. all _ (key_holds columns from q c h (alone 63 _ e) (with_second 63 e)))
+    (λ e7. by_test ((first == 58) && is_blank_or_breakz second) _ _ P
+    (λ e. all _ (value_holds columns from q c h (alone 58 _ e)))
+    (λ e8. by_test ((first == 58) && is_value_adjacent second c) _ _ P
+    (λ e. all _ (flow_value_holds columns from q second c h (alone 58 _ e)))
+    (λ _. by_test (first == 34) _ _ P (λ e. all _ (double_holds laws columns from q c h (is 34 e) deep))
+    (λ e10. by_test (first == 39) _ _ P (λ e. all _ (single_holds laws columns from q c h (is 39 e) deep))
+    (λ e11. by_test (first == 42) _ _ P
+    (λ e. all _ (name_holds laws columns from q true 42 an_alias c h some (is 42 e) deep))
+    (λ e12. by_test (first == 38) _ _ P
+    (λ e. all _ (name_holds laws columns from q false 38 an_anchor c h some (is 38 e) deep))
+    (λ e13. by_test (first == 33) _ _ P (λ e. all _ (tag_holds laws columns from q c h (is 33 e) deep))
+    (λ e14. by_test ((first == 124) && in_block c) _ _ P
+    (λ e. block_holds laws text small columns from q block_style.Literal c l h
+    (and_parts (first == 124) (in_block c) e).1 (alone 124 _ e))
+    (λ _. by_test ((first == 62) && in_block c) _ _ P
+    (λ e. block_holds laws text small columns from q block_style.Folded c l h
+    (and_parts (first == 62) (in_block c) e).1 (alone 62 _ e))
+    (λ _. by_test ((first == 37) || (first == 64) || (first == 96)) _ _ P (λ _. tt)
+    (λ e17.
+    let w = or_parts ((first == 37) || (first == 64)) (first == 96) e17 in
+    let v = or_parts (first == 37) (first == 64) w.0 in
+    let start : PlainStart c.cursor = record {
+      other = λ no_sign. ap may_begin_plain f
+          ∙ begins first e5 e1 e3 e2 e4 (ne_eqb first 35 (λ s. no_sign (f ∙ s))) e13 e12 e14 e11 e10 v.0 v.1 w.1;
+      no_indicator = λ s. ap is_blank_or_breakz g
+          ∙ no_second (is_blank_or_breakz second) (first == 45) (first == 63) (first == 58) e6 e7 e8
+          (ap (λ x. is_one_of (codes "-?:") x) (sym f) ∙ s);
+    } in
+    all _ (plain_holds laws columns from q c h start deep))))))))))))))))))
+
+-- ## The end of the stream is the last token
+
+abbrev pub OverAt : List ℕ → Cursor → Queue → Type 0
+OverAt columns from q = (u : Cursor) → AreTokens columns (flat q.places) from u → u.rest ≡ []
+
+over_put : (columns : List ℕ) (from : Cursor) (m : Marker) (q : Queue)
+    → OverAt columns from (put (empty_piece m tokens.StreamEnd) q)
+over_put columns from m q u h =
+    let P : List Piece → Type 0 = λ l. AreTokens columns l from u in
+    let r = tokens_part columns (flat q.places) (empty_piece m tokens.StreamEnd ∷ []) from u
+    (subst P (flat_append q.places (closed (empty_piece m tokens.StreamEnd) ∷ [])) h) in
+    ap (λ (c : Cursor). c.rest) (r.back.4 ∙ r.back.3.1.2) ∙ r.back.3.0
+
+end_over : (columns : List ℕ) (from : Cursor) (s : State)
+    → Given (λ (t : State). OverAt columns from t.queue) (document.end_stream s)
+unfolding document.end_stream document.end_at
+end_over columns from s =
+    let P : State → Type 0 = λ t. OverAt columns from t.queue in
+    let m : Marker = document.end_mark s.core.cursor.mark in
+    by_test (length s.core.cursor.rest == 0) _ _ (Given P)
+    (λ _. by_test s.core.required _ _ (Given P) (λ _. tt) (λ _. over_put columns from m (unroll None m s).queue))
+    (λ _. tt)
+
+-- ## A token is fetched
+
+pub record Read (columns : List ℕ) (from : Cursor) (t : State) : Type 0 where
+  pub fetched : Fetched columns from t.core t.queue
+  pub over : t.core.ended ≡ true → OverAt columns from t.queue
+
+both_given : (columns : List ℕ) (from : Cursor) (s : State) (r : Result State Refusal) → s.core.ended ≡ false
+    → Given (λ (t : State). Fetched columns from t.core t.queue) r → Given (λ (t : State). Took s.core t.core) r
+    → Given (Read columns from) r
+both_given columns from s (Ok t) going a b =
+    record { fetched = a; over = λ e. absurd (let f : t.core.ended ≡ false = b.ended ∙ going in cc) }
+both_given columns from s (Err e) going a b = tt
+
+end_given : (columns : List ℕ) (from : Cursor) (r : Result State Refusal)
+    → Given (λ (t : State). Fetched columns from t.core t.queue) r
+    → Given (λ (t : State). OverAt columns from t.queue) r → Given (Read columns from) r
+end_given columns from (Ok t) a b = record { fetched = a; over = λ _. b }
+end_given columns from (Err e) a b = tt
+
+held : (columns : List ℕ) (from : Cursor) (r : Result State Refusal) → Given (HoldsState columns from) r
+    → Given (λ (t : State). Fetched columns from t.core t.queue) r
+held columns from (Ok t) h = holds_fetched columns from t.core t.queue h
+held columns from (Err e) h = tt
+
+acted_fetched : (columns : List ℕ) (from : Cursor) (q : Queue) (r : Steps) → Given (FetchedStep columns from q) r
+    → Given (λ (t : State). Fetched columns from t.core t.queue) (acted r q)
+acted_fetched columns from q (Ok x) h = h
+acted_fetched columns from q (Err e) h = tt
+
+deep_of : (deeper : Bool) (i col : ℕ) → nat_lt col (cond deeper i (i - 1)) ≡ false → i ≤ col + 1
+deep_of true i col e = let h = ltb-false col i e in omega (arith, h)
+deep_of false i col e = let h = ltb-false col (i - 1) e in omega (arith, h)
+
+here_read : TextLaws → Readers → (text : List ℕ) → length text < 2 ^ 63 → (columns : List ℕ) (from : Cursor) (s : State)
+    → LaterThan (fresh text) from → s.core.ended ≡ false → Arrived columns from s
+    → Given (Read columns from) (fetch_here s)
+unfolding fetch_here content
+here_read laws readers text small columns from s l going a =
+    let t = s.core.cursor.rest in
+    let P = Given (Read columns from) in
+    by_test (is_z (slice_index t 0)) _ _ P
+    (λ _. end_given columns from (document.end_stream s) (end_fetched columns from s a.taken)
+    (end_over columns from s))
+    (λ z. let some : 0 < length t = left t z in
+    let h : HoldsState columns from s = record { taken = a.taken; keys = a.live z } in
+    by_test (is_bom (slice_index t 0)) _ _ P
+    (λ e. both_given columns from s (document.byte_order_mark s) going
+    (held columns from _ (mark_holds columns from s h e)) (mark_takes s some))
+    (λ _. by_test ((s.core.cursor.mark.col == 0) && (slice_index t 0 == 37)) _ _ P
+    (λ e. let w = and_parts (s.core.cursor.mark.col == 0) (slice_index t 0 == 37) e in
+    let first = eqb-true (slice_index t 0) 37 w.1 in
+    both_given columns from s (document.directive s) going
+    (held columns from _ (directive_holds laws columns from s h (eqb-true s.core.cursor.mark.col 0 w.0) first))
+    (directive_takes readers s first))
+    (λ _. by_test ((s.core.cursor.mark.col == 0) && is_document_start t) _ _ P
+    (λ e. let w = and_parts (s.core.cursor.mark.col == 0) (is_document_start t) e in
+    both_given columns from s (document.marker tokens.DocumentStart s) going
+    (held columns from _ (marker_holds columns from is_document_start (codes "---") tokens.DocumentStart
+    start_marking s h (eqb-true s.core.cursor.mark.col 0 w.0) w.1)) (marker_takes tokens.DocumentStart s some))
+    (λ _. by_test ((s.core.cursor.mark.col == 0) && is_document_end t) _ _ P
+    (λ e. let w = and_parts (s.core.cursor.mark.col == 0) (is_document_end t) e in
+    both_given columns from s (document.end_marker s) going
+    (held columns from _ (end_marker_holds columns from s h (eqb-true s.core.cursor.mark.col 0 w.0) w.1))
+    (end_marker_takes s some))
+    (λ _. by_test (nat_lt s.core.cursor.mark.col (least_column s.core)) _ _ P (λ _. tt)
+    (λ e. let r = step (slice_index t 0) (slice_index t 1) (next s.queue) s.core in
+    both_given columns from s (acted r s.queue) going
+    (acted_fetched columns from s.queue r
+    (step_fetched laws text small columns from s.queue (slice_index t 0) (slice_index t 1) s.core l h some refl refl
+    (λ _. deep_of s.core.deeper s.core.indent s.core.cursor.mark.col e)))
+    (stepped s r (step_takes readers (slice_index t 0) (slice_index t 1) (next s.queue) s.core some refl))))))))
+
+begin_live : (columns : List ℕ) (from : Cursor) (s : State) → TakenState columns from s → Live s.core s.queue
+    → Live (record s.core { started = true }) (put (empty_piece s.core.cursor.mark tokens.StreamStart) s.queue)
+begin_live columns from s h l nz =
+    (quiet_put columns from s.core (record s.core { started = true }) s.queue
+    (empty_piece s.core.cursor.mark tokens.StreamStart) s.core.cursor s.core.cursor refl (taken.nothing _ _)
+    (refl, inl refl, refl) (taken.nothing _ _)
+    (record { level = refl; outer = refl; indent = refl; outer_indents = refl })
+    (record { taken = h; keys = l nz })).keys
+
+begin_read : (columns : List ℕ) (from : Cursor) (s : State) → s.core.ended ≡ false → TakenState columns from s
+    → Live s.core s.queue → Read columns from (begin s)
+begin_read columns from s going h l = record {
+  fetched = record {
+    taken = taken_put columns from s.core (record s.core { started = true }) s.queue
+        (empty_piece s.core.cursor.mark tokens.StreamStart) s.core.cursor s.core.cursor (taken.nothing _ _)
+        (refl, inl refl, refl) (taken.nothing _ _) (λ cs k. k) h;
+    live = λ _. inl (begin_live columns from s h l);
+  };
+  over = λ e. absurd (let f : s.core.ended ≡ true = e in cc);
+}
+
+pub fetch_read : TextLaws → Readers → (text : List ℕ) → length text < 2 ^ 63
+    → (columns : List ℕ) (from : Cursor) (s : State) → LaterThan (fresh text) from → s.core.ended ≡ false
+    → TakenState columns from s → Live s.core s.queue → Given (Read columns from) (fetch s)
+unfolding fetch
+fetch_read laws readers text small columns from s l going h k =
+    by_test s.core.started _ _ (Given (Read columns from))
+    (λ _. given_bind (Read columns from) (arrive s) fetch_here (λ t e.
+    let a = given_of (Arrived columns from) (arrive s) t (arrived text small columns from s l h k) e in
+    let kept = given_of _ (arrive s) t (arrived_kept s) e in
+    here_read laws readers text small columns from t l (kept.ended ∙ going) a))
+    (λ _. begin_read columns from s going h k)
+
+-- ## Where a candidate that is too far is dropped
+
+pub record Ready (columns : List ℕ) (from : Cursor) (t : State) : Type 0 where
+  pub taken : TakenState columns from t
+  pub live : t.core.ended ≡ false → Live t.core t.queue
+  pub over : t.core.ended ≡ true → OverAt columns from t.queue
+
+pub settled_ready : (columns : List ℕ) (from : Cursor) (s : State) → Read columns from s
+    → Given (Ready columns from) (settled s)
+unfolding drop_far_key
+settled_ready columns from s h =
+    let c = s.core in
+    by_test (not (in_block c && is_too_far c.level.key c.cursor.mark)) _ _
+    (λ r. Given (Ready columns from) (carried r s.queue))
+    (λ e. record {
+      taken = h.fetched.taken;
+      live = λ g. elim (h.fetched.live g) [
+        | inl k ↦ k
+        | inr w ↦ absurd
+            (let n = not-true (in_block c && is_too_far c.level.key c.cursor.mark) e in let y = w.0 in cc)
+      ];
+      over = h.over;
+    })
+    (λ _. by_test c.required _ _ (λ r. Given (Ready columns from) (carried r s.queue)) (λ _. tt)
+    (λ _. record {
+      taken = forgotten_taken columns from c s.queue h.fetched.taken;
+      live = λ g. elim (h.fetched.live g) [
+        | inl k ↦ forgotten_live c s.queue k
+        | inr w ↦
+            (λ nz. no_keys (next s.queue) s.queue c.indent (forget_key c).level c.outer refl w.1)
+      ];
+      over = h.over;
+    }))
+
+pub read_ready : TextLaws → Readers → (text : List ℕ) → length text < 2 ^ 63
+    → (limit : ℕ) (columns : List ℕ) (from : Cursor) (s : State) → LaterThan (fresh text) from → s.core.ended ≡ false
+    → Ready columns from s → Given (Ready columns from) (fetch_within limit s >>= settled)
+unfolding fetch_within
+read_ready laws readers text small limit columns from s l going h =
+    by (fetch s) (fetch_read laws readers text small columns from s l going h.taken (h.live going))
+  where
+    by : (r : Result State Refusal) → Given (Read columns from) r
+        → Given (Ready columns from) ((r >>= within limit) >>= settled)
+    by (Ok t) k = by_test (nat_le t.core.cursor.mark.index limit) _ _ (λ r. Given (Ready columns from) (r >>= settled))
+        (λ _. settled_ready columns from t k) (λ _. tt)
+    by (Err e) k = tt

@@ -1,0 +1,221 @@
+-- The tokens of a text are taken from it, and a refusal that ends them stands at a place of it.
+use Rattle.std.proofs.Common.{◌≡◌, ℕ, zero, suc, ◌+◌, ◌^◌, ◌<◌, Bool, true, false, List, [], ◌∷◌, ◌++◌, length, drop, Option, Some, None, Result, Ok, Err, refl, sym, ap, ◌∙◌, arith, subst, inl}
+use Rattle.std.specs.Prelude.{◌&&◌, ◌||◌, ◌==◌, not}
+use Rattle.std.proofs.lemmas.Bool.Decides.{nat_tests}
+use Rattle.saphyr_scalar.specs.declared.scalar.fault.Refusal.{Refusal}
+use Rattle.saphyr_scalar.specs.Cursor.{Cursor, fresh, ◌>>=◌}
+use Rattle.saphyr_scanner.specs.declared.queue.Opening.{Opening}
+use Rattle.saphyr_scanner.specs.declared.queue.Opening.TheVariants as opening
+use Rattle.saphyr_scanner.specs.Views.Tokens.{Piece, Remaining}
+use Rattle.saphyr_scanner.specs.Steps.Queue.{Place, closed}
+use Rattle.saphyr_scanner.specs.Steps.Core.{Candidate, Level, Core, is_block}
+use Rattle.saphyr_scanner.specs.Steps.State.{State, start}
+use Rattle.saphyr_scanner.specs.Steps.Fetch.{size, settled, needs_token, fetch_within, is_place, holds, any_holds}
+use Rattle.saphyr_scanner.specs.Steps.Remaining.{before_place, hand_out, delivered, run, remaining, scan}
+use Rattle.saphyr_scanner.specs.TokensTaken as taken
+use Rattle.saphyr_scanner.specs.TokensTaken.{IsPlaceOf, AreTokens, IsEndOf, AreTakenFrom}
+use Rattle.saphyr_scanner.proofs.Sizes.Fetch.{read_smaller}
+use Rattle.saphyr_scanner.proofs.Filling.{going}
+use Rattle.saphyr_scanner.proofs.Leads.{flat, place_pieces}
+use Rattle.saphyr_scanner.proofs.Sizes.Scalars.{Readers}
+use Rattle.saphyr_scanner.proofs.Taken.Later.{LaterThan, later_here, later_later, tokens_later}
+use Rattle.saphyr_scanner.proofs.Taken.Parts.{open_all, open_append, tokens_append, tokens_part}
+use Rattle.saphyr_scanner.proofs.Taken.Held.{Stack, Key, KeyOf, lower, Keys, keys_weaken}
+use Rattle.saphyr_scanner.proofs.Taken.Scalars.{TextLaws}
+use Rattle.saphyr_scanner.proofs.Taken.Fetch.{Read, Ready, settled_ready, read_ready}
+use Rattle.saphyr_scanner.proofs.Taken.Places.{Reaches, reaches_reaches, place_of, tokens_reached}
+use Rattle.saphyr_scanner.proofs.Told.Refusals.{RefusalLaws}
+use Rattle.saphyr_scanner.proofs.Told.Documents.{NotedState}
+use Rattle.saphyr_scanner.proofs.Told.Reads.{told_ok, told_err, settled_told, read_told}
+use Rattle.saphyr_input.proofs.Basics.Booleans.{by_test}
+use Rattle.saphyr_scalar.proofs.Given.{given_of}
+use Rattle.std.proofs.lemmas.Bool.{or_parts, eq-eqb}
+use Rattle.saphyr_scanner.proofs.Queues.{holding}
+
+-- ## A place is handed out
+
+key_handed : (b n : ℕ) (p : Place) (ps : List Place) (block : Bool) (i : ℕ) (k : Option Candidate)
+    → is_place n k ≡ false → KeyOf b (record { places = p ∷ ps; handed = n }) block i k
+    → KeyOf b (record { places = ps; handed = n + 1 }) block i k
+key_handed b n p ps block i None e x = tt
+key_handed b n p ps block i (Some k) e x = by x.front x.places x.at
+  where
+    by : (front : List Place) → p ∷ ps ≡ front ++ closed x.token ∷ x.back → k.place ≡ n + length front
+        → Key b (record { places = ps; handed = n + 1 }) block i k
+    by [] f at =
+        let same : k.place ≡ n = omega (arith, at) in
+        absurd (let g : (k.place == n) ≡ true = ap (λ m. m == n) same ∙ eq-eqb n n refl in cc)
+    by (w ∷ ws) f at = record {
+      front = ws;
+      back = x.back;
+      token = x.token;
+      places = ap (drop 1) f;
+      at = omega (arith, at);
+      below = x.below;
+      marked = x.marked;
+      begins = x.begins;
+      quiet = x.quiet;
+      deep = x.deep;
+    }
+
+keys_handed : (b n : ℕ) (p : Place) (ps : List Place) (i : ℕ) (ls : List Level) → any_holds n ls ≡ false
+    → Keys b (record { places = p ∷ ps; handed = n }) i ls
+    → Keys b (record { places = ps; handed = n + 1 }) i ls
+keys_handed b n p ps i [] e x = tt
+keys_handed b n p ps i (l ∷ ls) e x =
+    let f = or_parts (holds n l) (any_holds n ls) e in
+    (x.0, key_handed b n p ps (is_block l.context) i l.key f.0 x.1, keys_handed (lower b l.key) n p ps i ls f.1 x.2)
+
+not_held : (ended held : Bool) → ended ≡ false → (not ended && held) ≡ false → held ≡ false
+not_held false h e f = f
+not_held true h e f = absurd (cc)
+
+abbrev From : List ℕ → Cursor → Type 0
+From text u = LaterThan (fresh text) u × Reaches (fresh text) u
+
+-- what is left where a place was handed out
+record Left (text : List ℕ) (columns : List ℕ) (from : Cursor) (c : Core) (p : Place) (ps : List Place) (n : ℕ) : Type
+    0 where
+  between : Cursor
+  tokens : AreTokens columns (place_pieces p.opening p.piece) from between
+  later : From text between
+  ready : Ready (open_all (place_pieces p.opening p.piece) columns) between (holding c ps (n + 1))
+
+one_left : (text : List ℕ) (columns : List ℕ) (from : Cursor) (c : Core) (p : Place) (ps : List Place) (n : ℕ)
+    → From text from → Ready columns from (holding c (p ∷ ps) n)
+    → needs_token (holding c (p ∷ ps) n) ≡ false → Left text columns from c p ps n
+one_left text columns from c p ps n l h e =
+    let ts = place_pieces p.opening p.piece in
+    let r = tokens_part columns ts (flat ps) from h.taken.last h.taken.tokens in
+    let count : n + length (p ∷ ps) ≡ n + 1 + length ps = omega arith in
+    let further = tokens_later columns ts from r.between r.front in
+    let reached = tokens_reached columns ts from r.between r.front in
+    record {
+      between = r.between;
+      tokens = r.front;
+      later = (
+        later_later (fresh text).mark text from.mark from.rest r.between.mark r.between.rest l.0 further,
+        reaches_reaches (fresh text) from r.between l.1 reached,
+      );
+      ready = record {
+        taken = record {
+          last = h.taken.last;
+          tokens =
+              r.back;
+          apart = h.taken.apart;
+          stack =
+              subst (λ cs. Stack cs c.indent c.outer_indents) (open_append ts (flat ps) columns) h.taken.stack;
+        };
+        live = λ f nz.
+            let free = not_held c.ended _ f e in
+            let k = keys_handed (n + length (p ∷ ps)) n p ps c.indent (c.level ∷ c.outer) free (h.live f nz) in
+            keys_weaken (n + length (p ∷ ps)) (n + 1 + length ps) (record { places = ps; handed = n + 1 }) c.indent
+            (c.level ∷ c.outer) (omega arith) k;
+        over = λ f u w. h.over f u (tokens_append columns ts (flat ps) from r.between u r.front w);
+      };
+    }
+
+-- ## What comes
+
+abbrev Follows : List ℕ → List ℕ → Cursor → Remaining → Type 0
+Follows text columns from r =
+    (end : Cursor) × AreTokens columns r.pieces from end × (r.refusal ≡ None → end.rest ≡ [])
+    × ((e : Refusal) → r.refusal ≡ Some e → IsPlaceOf text e.mark)
+
+place_follows : (text columns : List ℕ) (from between : Cursor) (o : Opening) (t : Piece) (r : Remaining)
+    → AreTokens columns (place_pieces o t) from between
+    → Follows text (open_all (place_pieces o t) columns) between r → Follows text columns from (before_place o t r)
+place_follows text columns from between o t r h k =
+    by o (tokens_append columns (place_pieces o t) r.pieces from between k.0 h k.1)
+  where
+    by : (w : Opening) → AreTokens columns (place_pieces w t ++ r.pieces) from k.0
+        → Follows text columns from (before_place w t r)
+    by opening.Nothing x = (k.0, x, k.2, k.3)
+    by opening.Key x = (k.0, x, k.2, k.3)
+    by opening.BlockMappingAndKey x = (k.0, x, k.2, k.3)
+    by opening.FlowMappingAndKey x = (k.0, x, k.2, k.3)
+
+handed_follow : (text : List ℕ) (go : State → Remaining) (c : Core)
+    → ((columns : List ℕ) (from : Cursor) (n : ℕ) (ps : List Place) → From text from → (c.ended ≡ true → ps ≡ [])
+    → Ready columns from (holding c ps n) → Follows text columns from (go (holding c ps n)))
+    → (columns : List ℕ) (from : Cursor) (n : ℕ) (ps : List Place) → From text from
+    → Ready columns from (holding c ps n) → Follows text columns from (hand_out ps go (holding c ps n))
+handed_follow text go c others columns from n [] l h = others columns from n [] l (λ _. refl) h
+handed_follow text go c others columns from n (p ∷ ps) l h =
+    by_test (needs_token (holding c (p ∷ ps) n)) _ _ (Follows text columns from)
+    (λ e. others columns from n (p ∷ ps) l (λ f. absurd (let g = going c.ended _ e in cc)) h)
+    (λ e.
+    let w = one_left text columns from c p ps n l h e in
+    place_follows text columns from w.between p.opening p.piece _ w.tokens
+    (handed_follow text go c others (open_all (place_pieces p.opening p.piece) columns) w.between (n + 1) ps w.later
+    w.ready))
+
+delivers : (text columns : List ℕ) (from : Cursor) (r : Result State Refusal) (go : State → Remaining)
+    → ((t : State) → r ≡ Ok t → Follows text columns from (go t))
+    → ((e : Refusal) → r ≡ Err e → IsPlaceOf text e.mark) → Follows text columns from (delivered r go)
+delivers text columns from (Ok t) go h k = h t refl
+delivers text columns from (Err e) go h k =
+    (from, refl, (λ i. absurd (cc)), (λ f i. k f (let same : e ≡ f = cc in ap (λ (x : Refusal). Err x) same)))
+
+-- the laws of the readers
+pub record AllLaws : Type 0 where
+  pub texts : TextLaws
+  pub readers : Readers
+  pub refusals : RefusalLaws
+
+run_follows : AllLaws → (text : List ℕ) → length text < 2 ^ 63
+    → (limit fuel : ℕ) (columns : List ℕ) (from : Cursor) (s : State) → From text from → size s.core < fuel
+    → Ready columns from s
+    → NotedState s → Follows text columns from (run fuel limit s)
+run_follows laws text small limit zero columns from s l f h m = absurd (omega (arith, f))
+run_follows laws text small limit (suc fuel) columns from s l f h m =
+    handed_follow text _ s.core
+    (λ cs u n ps k over w.
+    let t : State = holding s.core ps n in
+    let r = fetch_within limit t >>= settled in
+    by_test t.core.ended _ _ (Follows text cs u)
+    (λ e. let P : List Place → Type 0 =
+    λ qs. AreTokens cs (flat qs) u u in
+    (u, refl, (λ _. w.over e u (subst P (sym (over e)) refl)), (λ f i. absurd (cc))))
+    (λ e. let told = read_told laws.texts laws.readers laws.refusals text small limit cs u t k.0 k.1 e w m in
+    delivers text cs u r (run fuel limit)
+    (λ v q. let less = given_of _ r v (read_smaller laws.readers limit t e) q in
+    run_follows laws text small limit fuel cs u v k (omega (arith, less, f))
+    (given_of (Ready cs u) r v (read_ready laws.texts laws.readers text small limit cs u t k.0 e w) q)
+    (told_ok NotedState (fresh text) r v told q))
+    (λ g q. place_of text g.mark (told_err NotedState (fresh text) r g told q))))
+    columns from s.queue.handed s.queue.places l h
+
+start_read : (text : List ℕ) → Read [] (fresh text) (start text)
+start_read text = record {
+  fetched = record {
+    taken =
+        record { last = fresh text; tokens = refl; apart = taken.nothing _ _; stack = (refl, refl) };
+    live =
+        λ _. inl (λ nz. ((λ _. refl), tt, tt));
+  };
+  over = λ e. absurd (cc);
+}
+
+scan_follows : AllLaws → (limit : ℕ) (text : List ℕ) → length text < 2 ^ 63
+    → Follows text [] (fresh text) (scan limit text)
+unfolding remaining
+scan_follows laws limit text small =
+    let s : State = start text in
+    let here : Reaches (fresh text) (fresh text) = taken.nothing _ _ in
+    let told = settled_told text s here (inl refl) in
+    delivers text [] (fresh text) (settled s) (λ t. run (suc (size t.core)) limit t)
+    (λ t e. run_follows laws text small limit (suc (size t.core)) [] (fresh text) t
+    (later_here (fresh text).mark text, here) (omega arith)
+    (given_of (Ready [] (fresh text)) (settled s) t (settled_ready [] (fresh text) s (start_read text)) e)
+    (told_ok NotedState (fresh text) (settled s) t told e))
+    (λ g q. place_of text g.mark (told_err NotedState (fresh text) (settled s) g told q))
+
+pub scan_taken : AllLaws → (limit : ℕ) (text : List ℕ) → length text < 2 ^ 63 → AreTakenFrom text (scan limit text)
+scan_taken laws limit text small =
+    let h = scan_follows laws limit text small in (h.0, h.1, by (scan limit text).refusal h.0 h.2 h.3)
+  where
+    by : (o : Option Refusal) (end : Cursor) → (o ≡ None → end.rest ≡ [])
+        → ((e : Refusal) → o ≡ Some e → IsPlaceOf text e.mark) → IsEndOf text o end
+    by None end a b = a refl
+    by (Some e) end a b = b e refl

@@ -1,0 +1,278 @@
+-- What is known between tokens: behind a block scalar a candidate is too far in front to be a key.
+use Rattle.std.proofs.Common.{◌≡◌, ℕ, ◌^◌, ◌≤◌, ◌<◌, ◌⊎◌, Bool, true, false, List, [], ◌∷◌, length, Option, Some, None, refl, sym, ap, ◌∙◌, arith, subst, inl, inr}
+use Rattle.std.specs.Prelude.{◌&&◌, slice_index, nat_lt}
+use Rattle.std.proofs.lemmas.Bool.Decides.{nat_tests}
+use Rattle.saphyr_input.specs.Classes.{is_z}
+use Rattle.saphyr_scalar.specs.declared.reading.block.BlockStyle.{BlockStyle}
+use Rattle.saphyr_scalar.specs.declared.reading.block.BlockStyle.TheVariants as block_style
+use Rattle.saphyr_scalar.specs.declared.scalar.position.Marker.{Marker}
+use Rattle.saphyr_scalar.specs.declared.scalar.position.Span.{Span}
+use Rattle.saphyr_scalar.specs.BlockScalar as blocks
+use Rattle.saphyr_scalar.specs.Cursor.{Cursor, fresh}
+use Rattle.saphyr_scanner.specs.Grammar.Tokens as tokens
+use Rattle.saphyr_scanner.specs.Grammar.Tokens.{Kind}
+use Rattle.saphyr_scanner.specs.Views.Tokens.{Piece}
+use Rattle.saphyr_scanner.specs.Steps.Queue.{Place, Queue, closed, put, next, empty_piece}
+use Rattle.saphyr_scanner.specs.Steps.Core.{Candidate, Level, Core, Step, perform, in_block, is_block, is_too_far, save_key}
+use Rattle.saphyr_scanner.specs.Steps.Passing.{with_cursor}
+use Rattle.saphyr_scanner.specs.Steps.Scalar as scalar
+use Rattle.saphyr_scanner.specs.Steps.State.{State, changed}
+use Rattle.saphyr_scanner.specs.Steps.Unrolling.{unroll, end_blocks, end_block, is_right_of, outwards, less_deep}
+use Rattle.saphyr_scanner.specs.TokensTaken as taken
+use Rattle.saphyr_scanner.specs.TokensTaken.{AreTokens, IsToken, IsBlockScalarToken, IsPlaceOrEnd}
+use Rattle.saphyr_scanner.proofs.Blocks.{block_cursor, less_deep_cursor}
+use Rattle.saphyr_scanner.proofs.Leads.{flat}
+use Rattle.saphyr_scanner.proofs.Taken.Later.{top, Later, LaterThan, later_later, apart_later, token_later, tokens_later}
+use Rattle.saphyr_scanner.proofs.Taken.Parts.{tokens_part}
+use Rattle.saphyr_scanner.proofs.Taken.Held.{Stack, Taken, taken_further, taken_put, Key, Keys}
+use Rattle.saphyr_scanner.proofs.Taken.Cores.{Holds, Saved, saved, saved_alike, no_keys}
+use Rattle.saphyr_scanner.proofs.Taken.Flow.{saved_taken, first_at, apart_same}
+use Rattle.saphyr_scanner.proofs.Taken.Values.{key_known}
+use Rattle.saphyr_scanner.proofs.Taken.Scalars.{TextLaws}
+use Rattle.saphyr_input.proofs.Basics.Booleans.{by_test}
+use Rattle.saphyr_scalar.proofs.Given.{Given, given_bind}
+use Rattle.std.proofs.lemmas.Bool.{lt-ltb}
+use Rattle.saphyr_scanner.proofs.Queues.{flat_append}
+
+-- ## Lines
+
+-- no text has as many lines as can't be counted
+pub line_small : (text : List ℕ) (s : Cursor) → length text < 2 ^ 63 → LaterThan (fresh text) s → s.mark.line < top
+line_small text s h l = omega (arith, l.slow, l.counted)
+
+-- where a candidate stands
+pub record Stands (k : Candidate) (c : Core) : Type 0 where
+  pub text : List ℕ
+  pub small : k.mark.line ≤ top
+  pub later : Later k.mark text c.cursor.mark c.cursor.rest
+
+pub taken_later : (columns : List ℕ) (from : Cursor) (c : Core) (q : Queue) → Taken columns from c q
+    → LaterThan from c.cursor
+taken_later columns from c q h =
+    later_later from.mark from.rest h.last.mark h.last.rest c.cursor.mark c.cursor.rest
+    (tokens_later columns (flat q.places) from h.last h.tokens)
+    (apart_later h.last.mark h.last.rest c.cursor.mark c.cursor.rest h.apart)
+
+pub key_stands : (columns : List ℕ) (from : Cursor) (c : Core) (q : Queue) (b : ℕ) (block : Bool) (i : ℕ)
+    (k : Candidate) → from.mark.line ≤ top → Taken columns from c q → Key b q block i k → Stands k c
+key_stands columns from c q b block i k l h x =
+    let P : List Place → Type 0 = λ ps. AreTokens columns (flat ps) from h.last in
+    let Q : List Piece → Type 0 = λ ps. AreTokens columns ps from h.last in
+    let r = tokens_part columns (flat x.front) (x.token ∷ flat x.back) from h.last
+    (subst Q (flat_append x.front (closed x.token ∷ x.back)) (subst P x.places h.tokens)) in
+    let here = r.back.0 in
+    let behind = r.back.1 in
+    let same : here.mark ≡ k.mark = sym (x.begins _ here behind r.back.3).0 ∙ x.marked in
+    let first = later_later from.mark from.rest r.between.mark r.between.rest here.mark here.rest
+    (tokens_later columns (flat x.front) from r.between r.front)
+    (apart_later r.between.mark r.between.rest here.mark here.rest r.back.2) in
+    let one = token_later _ x.token.kind x.token.span here behind r.back.3 in
+    let others = tokens_later _ (flat x.back) behind h.last r.back.4 in
+    let last = apart_later h.last.mark h.last.rest c.cursor.mark c.cursor.rest h.apart in
+    let all = later_later here.mark here.rest behind.mark behind.rest c.cursor.mark c.cursor.rest one
+    (later_later behind.mark behind.rest h.last.mark h.last.rest c.cursor.mark c.cursor.rest others last) in
+    let M : Marker → Type 0 = λ m. m.line ≤ top in
+    let N : Marker → Type 0 = λ m. Later m here.rest c.cursor.mark c.cursor.rest in
+    record { text = here.rest; small = subst M same (first.lines l).1; later = subst N same all }
+
+-- ## What is known behind a token
+
+-- at NUL and the end of the text no candidate counts
+abbrev pub Live : Core → Queue → Type 0
+Live c q = is_z (slice_index c.cursor.rest 0) ≡ false → Keys (next q) q c.indent (c.level ∷ c.outer)
+
+abbrev pub IsFar : Core → Type 0
+IsFar c = ((in_block c && is_too_far c.level.key c.cursor.mark) ≡ true) × (c.outer ≡ [])
+
+pub record Fetched (columns : List ℕ) (from : Cursor) (c : Core) (q : Queue) : Type 0 where
+  pub taken : Taken columns from c q
+  pub live : c.ended ≡ false → Live c q ⊎ IsFar c
+
+pub holds_fetched : (columns : List ℕ) (from : Cursor) (c : Core) (q : Queue) → Holds columns from c q
+    → Fetched columns from c q
+holds_fetched columns from c q h = record { taken = h.taken; live = λ e. inl (λ f. h.keys) }
+
+abbrev pub FetchedStep : List ℕ → Cursor → Queue → Step → Type 0
+FetchedStep columns from q x = Fetched columns from x.core (perform x.actions q)
+
+-- ## Block scalars
+
+block_token : (style : BlockStyle) (i : ℕ) (value : List ℕ) (span : Span) (s t : Cursor)
+    → IsBlockScalarToken style i value span s t → IsToken i (tokens.Scalar (scalar.style_of style) value) span s t
+block_token block_style.Literal i value span s t h = h
+block_token block_style.Folded i value span s t h = h
+
+pub too_far : (k : Candidate) (m : Marker) → k.mark.line < m.line → is_too_far (Some k) m ≡ true
+too_far k m h = let e = lt-ltb k.mark.line m.line h in rw e refl
+
+far_of : (c : Core) (o : Option Candidate) → c.level.key ≡ o → in_block c ≡ true → (k : Candidate) → o ≡ Some k
+    → k.mark.line < c.cursor.mark.line → (in_block c && is_too_far c.level.key c.cursor.mark) ≡ true
+far_of c o e b k f l = rw b (ap (λ x. is_too_far x c.cursor.mark) (e ∙ f) ∙ too_far k c.cursor.mark l)
+
+-- a saved key stands here or before
+key_line : (columns : List ℕ) (from : Cursor) (q : Queue) (c d : Core) → from.mark.line ≤ top → Saved (next q) c d
+    → Holds columns from c q → (k : Candidate) → d.level.key ≡ Some k → k.mark.line ≤ d.cursor.mark.line
+key_line columns from q c d l s h k i = by s.level
+  where
+    same : d.cursor.mark.line ≡ c.cursor.mark.line
+    same = ap (λ (y : Cursor). y.mark.line) s.cursor
+
+    old : (o : Option Candidate) → c.level.key ≡ o → o ≡ Some k → k.mark.line ≤ d.cursor.mark.line
+    old o e f =
+        let known = key_known (next q) q (is_block c.level.context) c.indent c.level.key k c.outer (e ∙ f) h.keys.1
+        h.keys.2 in
+        let stands = key_stands columns from c q (next q) (is_block c.level.context) c.indent k l h.taken known.0 in
+        let lines = stands.later.lines stands.small in
+        let u = same in
+        omega (arith, lines.0, u)
+
+    by : (d.level ≡ c.level)
+        ⊎ (d.level ≡ record { context = c.level.context; key = Some (record { mark = c.cursor.mark; place = next q }) })
+        → k.mark.line ≤ d.cursor.mark.line
+    by (inl g) = old d.level.key (ap (λ (y : Level). y.key) (sym g)) i
+    by (inr g) =
+        let m : Some (record { mark = c.cursor.mark; place = next q }) ≡ Some k =
+        sym (ap (λ (y : Level). y.key) g) ∙ i in
+        let line : Option Candidate → ℕ = λ o. elim o [ None ↦ 0 | Some y ↦ y.mark.line ] in
+        let n : c.cursor.mark.line ≡ k.mark.line = ap line m in
+        let u = same in
+        omega (arith, n, u)
+
+block_at : TextLaws → (text : List ℕ) → length text < 2 ^ 63
+    → (columns : List ℕ) (from : Cursor) (q : Queue) (style : BlockStyle) (c d : Core) → LaterThan (fresh text) from
+    → Saved (next q) c d → Holds columns from c q → in_block c ≡ true → in_block d ≡ true
+    → slice_index c.cursor.rest 0 ≡ taken.block_indicator style
+    → Given (FetchedStep columns from q) (scalar.read_block style d)
+unfolding scalar.read_block
+block_at laws text small columns from q style c d l s h b bd f =
+    given_bind (FetchedStep columns from q) (blocks.block_scalar style d.indent d.cursor) _ (λ x e.
+    let first : slice_index d.cursor.rest 0 ≡ taken.block_indicator style =
+    first_at (taken.block_indicator style) c.cursor d.cursor s.cursor f in
+    let p = laws.block_place style d.indent d.cursor x.2 x.0 x.1 first e in
+    let piece : Piece = record {
+      span = record { start = x.1.start; end = x.1.end };
+      kind = tokens.Scalar
+          (scalar.style_of style) x.0;
+    } in
+    let is : IsBlockScalarToken style d.indent x.0 x.1 d.cursor x.2 =
+    record {
+      begins = first;
+      reading =
+          laws.block_text style d.indent d.cursor x.2 x.0 x.1 first e;
+      passes = p.passes;
+      end = p.end;
+    } in
+    let held = saved_taken columns from (next q) c d q s h.taken in
+    let e2 : Core = with_cursor x.2 d in
+    let from_small : from.mark.line ≤ top = (l.lines (omega arith)).1 in
+    let l2 : from.mark.line ≤ top = from_small in
+    let r = later_later (fresh text).mark text from.mark from.rest d.cursor.mark d.cursor.rest l
+    (taken_later columns from d q held) in
+    let none : c.outer ≡ [] = h.keys.0 b in
+    let by : (o : Option Candidate) → d.level.key ≡ o → d.cursor.mark.line < x.2.mark.line
+    → (Live e2 (put piece q)) ⊎ (IsFar e2) =
+    λ o g less. elim o as (λ y. d.level.key ≡ y → (Live e2 (put piece q)) ⊎ (IsFar e2)) [
+      | None ↦ λ i. inl (λ nz. no_keys (next (put piece q)) (put piece q) d.indent d.level d.outer i (s.outer ∙ none))
+      | Some k ↦ λ i. inr (
+        far_of e2 (Some k) i bd k refl
+            (let w = key_line columns from q c d l2 s h k i in omega (arith, w, less)),
+        s.outer ∙ none,
+      )
+    ] g in
+    record {
+      taken = taken_put columns from d e2 q piece d.cursor x.2 (taken.nothing _ _)
+          (block_token style d.indent x.0 x.1 d.cursor x.2 is) (taken.nothing _ _) (λ cs k. k) held;
+      live = λ _. elim (p.line (line_small text d.cursor small r))
+          [ inl less ↦ by d.level.key refl less | inr z ↦ inl (λ nz. absurd (cc)) ];
+    })
+
+pub block_holds : TextLaws → (text : List ℕ) → length text < 2 ^ 63
+    → (columns : List ℕ) (from : Cursor) (q : Queue) (style : BlockStyle) (c : Core) → LaterThan (fresh text) from
+    → Holds columns from c q → in_block c ≡ true → slice_index c.cursor.rest 0 ≡ taken.block_indicator style
+    → Given (FetchedStep columns from q) (scalar.block style (next q) c)
+unfolding scalar.block
+block_holds laws text small columns from q style c l h b f =
+    let d : Core = record (save_key (next q) c) { key_allowed = true; deeper = false } in
+    let s : Saved (next q) c d = saved_alike (next q) c (save_key (next q) c) d (saved (next q) c)
+    (record { level = refl; outer = refl; indent = refl; outer_indents = refl }) refl in
+    block_at laws text small columns from q style c d l s h b (still c d s.level b) f
+  where
+    still : (c d : Core) → (d.level ≡ c.level)
+        ⊎ (d.level ≡ record { context = c.level.context; key = Some (record { mark = c.cursor.mark; place = next q }) })
+        → in_block c ≡ true → in_block d ≡ true
+    still c d (inl g) e = ap (λ (y : Level). is_block y.context) g ∙ e
+    still c d (inr g) e = ap (λ (y : Level). is_block y.context) g ∙ e
+
+-- ## Block collections end
+
+outwards_stack : (is columns : List ℕ) (c : Core) → Stack columns c.indent is
+    → Stack (taken.without_innermost columns) (outwards is c).indent (outwards is c).outer_indents
+outwards_stack [] [] c h = (refl, refl)
+outwards_stack [] (column ∷ columns) c h = absurd h
+outwards_stack (j ∷ is) [] c h = absurd (let e = h.1 in cc)
+outwards_stack (j ∷ is) (column ∷ columns) c h = h.1
+
+abbrev pub TakenState : List ℕ → Cursor → State → Type 0
+TakenState columns from s = Taken columns from s.core s.queue
+
+place_same : (s t : Cursor) (m : Marker) → t ≡ s → IsPlaceOrEnd s m → IsPlaceOrEnd t m
+place_same s t m e p = let P : Cursor → Type 0 = λ u. IsPlaceOrEnd u m in subst P (sym e) p
+
+block_taken : (columns : List ℕ) (from : Cursor) (m : Marker) (s : State) → IsPlaceOrEnd s.core.cursor m
+    → TakenState columns from s → TakenState columns from (end_block m s)
+block_taken columns from m s p h =
+    taken_put columns from s.core (end_block m s).core s.queue (empty_piece m tokens.BlockEnd) s.core.cursor
+    s.core.cursor (taken.nothing _ _) (refl, p, refl)
+    (apart_same s.core.cursor (end_block m s).core.cursor (block_cursor m s))
+    (λ cs k. outwards_stack s.core.outer_indents cs s.core k) h
+
+blocks_taken : (columns : List ℕ) (from : Cursor) (column : Option ℕ) (m : Marker) (is : List ℕ) (s : State)
+    → IsPlaceOrEnd s.core.cursor m → TakenState columns from s → TakenState columns from (end_blocks column m is s)
+blocks_taken columns from column m [] s p h =
+    by_test (is_right_of column s.core.indent) _ _ (TakenState columns from) (λ _. block_taken columns from m s p h)
+    (λ _. h)
+blocks_taken columns from column m (i ∷ is) s p h =
+    by_test (is_right_of column s.core.indent) _ _ (TakenState columns from)
+    (λ _. blocks_taken columns from column m is (end_block m s)
+    (place_same s.core.cursor (end_block m s).core.cursor m (block_cursor m s) p)
+    (block_taken columns from m s p h)) (λ _. h)
+
+less_deep_taken : (columns : List ℕ) (from : Cursor) (column : Option ℕ) (s : State) → TakenState columns from s
+    → TakenState columns from (changed (less_deep column s.core) s)
+less_deep_taken columns from None s h =
+    taken_further columns from s.core (less_deep None s.core) s.queue (taken.nothing _ _) refl refl h
+less_deep_taken columns from (Some column) s h =
+    taken_further columns from s.core (less_deep (Some column) s.core) s.queue (taken.nothing _ _) refl refl h
+
+pub unroll_taken : (columns : List ℕ) (from : Cursor) (column : Option ℕ) (m : Marker) (s : State)
+    → IsPlaceOrEnd s.core.cursor m → TakenState columns from s → TakenState columns from (unroll column m s)
+unfolding unroll
+unroll_taken columns from column m s p h =
+    let t : State = changed (less_deep column s.core) s in
+    by_test (in_block s.core) _ _ (TakenState columns from)
+    (λ _. blocks_taken columns from column m s.core.outer_indents t
+    (place_same s.core.cursor t.core.cursor m (less_deep_cursor column s.core) p)
+    (less_deep_taken columns from column s h)) (λ _. h)
+
+-- the levels stay
+pub record Levels (c d : Core) : Type 0 where
+  pub level : d.level ≡ c.level
+  pub outer : d.outer ≡ c.outer
+
+outwards_levels : (is : List ℕ) (c : Core) → Levels c (outwards is c)
+outwards_levels [] c = record { level = refl; outer = refl }
+outwards_levels (i ∷ is) c = record { level = refl; outer = refl }
+
+levels_levels : (c d e : Core) → Levels c d → Levels d e → Levels c e
+levels_levels c d e a b = record { level = b.level ∙ a.level; outer = b.outer ∙ a.outer }
+
+pub blocks_levels : (column : Option ℕ) (m : Marker) (is : List ℕ) (s : State)
+    → Levels s.core (end_blocks column m is s).core
+blocks_levels column m [] s =
+    by_test (is_right_of column s.core.indent) _ _ (λ (t : State). Levels s.core t.core)
+    (λ _. outwards_levels s.core.outer_indents s.core) (λ _. record { level = refl; outer = refl })
+blocks_levels column m (i ∷ is) s =
+    by_test (is_right_of column s.core.indent) _ _ (λ (t : State). Levels s.core t.core)
+    (λ _. levels_levels s.core (end_block m s).core (end_blocks column m is (end_block m s)).core
+    (outwards_levels s.core.outer_indents s.core) (blocks_levels column m is (end_block m s)))
+    (λ _. record { level = refl; outer = refl })

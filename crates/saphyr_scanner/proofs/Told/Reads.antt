@@ -1,0 +1,75 @@
+-- Where the reading of the next token refuses.
+use Rattle.std.proofs.Common.{◌≡◌, ℕ, ◌^◌, ◌<◌, false, List, length, Option, Result, Ok, Err, sym, subst}
+use Rattle.std.specs.Prelude.{nat_le}
+use Rattle.saphyr_scalar.specs.declared.scalar.position.Marker.{Marker}
+use Rattle.saphyr_scalar.specs.declared.scalar.fault.Refusal.{Refusal}
+use Rattle.saphyr_scalar.specs.Cursor.{Cursor, fresh, ◌>>=◌}
+use Rattle.saphyr_scanner.specs.Steps.Core.{Core, drop_far_key}
+use Rattle.saphyr_scanner.specs.Steps.Fetch.{fetch, fetch_within, within, settled}
+use Rattle.saphyr_scanner.specs.Steps.Queue.{Queue}
+use Rattle.saphyr_scanner.specs.Steps.State.{State}
+use Rattle.saphyr_scanner.proofs.Taken.Fetch.{Read, Ready, fetch_read}
+use Rattle.saphyr_scanner.proofs.Taken.Scalars.{TextLaws}
+use Rattle.saphyr_scanner.proofs.Taken.Held.{Taken}
+use Rattle.saphyr_scanner.proofs.Taken.Later.{LaterThan}
+use Rattle.saphyr_scanner.proofs.Leads.{flat}
+use Rattle.saphyr_scanner.proofs.PlainBehind.{IsNoted}
+use Rattle.saphyr_scanner.proofs.Reached.{apart_reached}
+use Rattle.saphyr_scanner.proofs.Sizes.Scalars.{Readers}
+use Rattle.saphyr_scanner.proofs.Taken.Places.{Reaches, reaches_reaches, At, at_here, at_further, tokens_reached}
+use Rattle.saphyr_scanner.proofs.Told.Refusals.{RefusalLaws, Told, told_further, Noted, Still, drop_still}
+use Rattle.saphyr_scanner.proofs.Told.Documents.{NotedState, carried_told, fetch_told}
+use Rattle.saphyr_input.proofs.Basics.Booleans.{by_test}
+use Rattle.saphyr_scalar.proofs.Given.{Given}
+
+pub told_ok : {X : Type 0} → (P : X → Type 0) (s : Cursor) (r : Result X Refusal) (x : X) → Told P s r → r ≡ Ok x → P x
+told_ok P s (Ok y) x h e = let same : y ≡ x = cc in subst P same h
+told_ok P s (Err f) x h e = absurd (cc)
+
+pub told_err : {X : Type 0} → (P : X → Type 0) (s : Cursor) (r : Result X Refusal) (e : Refusal) → Told P s r
+    → r ≡ Err e → At s e.mark
+told_err P s (Ok y) e h q = absurd (cc)
+told_err P s (Err f) e h q = let same : f ≡ e = cc in let Q : Refusal → Type 0 = λ x. At s x.mark in subst Q same h
+
+-- the tokens that are held lead to where the text goes on
+pub taken_reached : (columns : List ℕ) (from : Cursor) (c : Core) (q : Queue) → Taken columns from c q
+    → Reaches from c.cursor
+taken_reached columns from c q h =
+    reaches_reaches from h.last c.cursor (tokens_reached columns (flat q.places) from h.last h.tokens)
+    (apart_reached h.last.mark h.last.rest c.cursor.mark c.cursor.rest h.apart)
+
+noted_still : (c d : Core) → Still c d → Noted c → Noted d
+noted_still c d s n =
+    let P : Option Marker → Type 0 = λ o. IsNoted o d.cursor in
+    let Q : Cursor → Type 0 = λ u. IsNoted c.comment u in
+    subst P (sym s.1) (subst Q (sym s.0) n)
+
+pub settled_told : (text : List ℕ) (t : State) → Reaches (fresh text) t.core.cursor → NotedState t
+    → Told NotedState (fresh text) (settled t)
+settled_told text t a n =
+    carried_told Noted (fresh text) (drop_far_key t.core) t.queue (by (drop_far_key t.core) (drop_still t.core))
+  where
+    by : (r : Result Core Refusal) → Told (Still t.core) t.core.cursor r → Told Noted (fresh text) r
+    by (Ok d) h = noted_still t.core d h n
+    by (Err e) h = at_further (fresh text) t.core.cursor e.mark a h
+
+pub read_told : TextLaws → Readers → RefusalLaws → (text : List ℕ) → length text < 2 ^ 63
+    → (limit : ℕ) (columns : List ℕ) (from : Cursor) (s : State) → LaterThan (fresh text) from
+    → Reaches (fresh text) from → s.core.ended ≡ false → Ready columns from s → NotedState s
+    → Told NotedState (fresh text) (fetch_within limit s >>= settled)
+unfolding fetch_within
+read_told laws readers refusals text small limit columns from s l a going h n =
+    by (fetch s) (fetch_read laws readers text small columns from s l going h.taken (h.live going))
+    (told_further NotedState (fresh text) s.core.cursor (fetch s)
+    (reaches_reaches (fresh text) from s.core.cursor a (taken_reached columns from s.core s.queue h.taken))
+    (fetch_told laws refusals s n))
+  where
+    by : (r : Result State Refusal) → Given (Read columns from) r → Told NotedState (fresh text) r
+        → Told NotedState (fresh text) ((r >>= within limit) >>= settled)
+    by (Ok t) k m =
+        let there = reaches_reaches (fresh text) from t.core.cursor a
+        (taken_reached columns from t.core t.queue k.fetched.taken) in
+        by_test (nat_le t.core.cursor.mark.index limit) _ _ (λ r. Told NotedState (fresh text) (r >>= settled))
+        (λ _. settled_told text t there m)
+        (λ _. at_further (fresh text) t.core.cursor t.core.cursor.mark there (at_here t.core.cursor))
+    by (Err e) k m = m

@@ -1,0 +1,80 @@
+-- The indicators of block collections (YAML 1.2.2, 8.2).
+use Rattle.std.specs.Prelude.{Bool, true, false, ◌||◌, ◌&&◌, ◌==◌, not, List, [], ◌∷◌, Result, Ok, slice_index, if◌then◌else◌}
+use Rattle.saphyr_input.specs.Classes.{is_break, is_flow, is_blank_or_breakz}
+use Rattle.saphyr_input.specs.Separation.{found_tabs}
+use Rattle.saphyr_input.specs.declared.input.SkipTabs.{SkipTabs}
+use Rattle.saphyr_scalar.specs.declared.scalar.position.Marker.{Marker}
+use Rattle.saphyr_scalar.specs.declared.scalar.fault.Refusal.{Refusal}
+use Rattle.saphyr_scalar.specs.declared.scalar.fault.FaultText.TheVariants as fault
+use Rattle.saphyr_scalar.specs.Cursor.{◌>>=◌, refuse}
+use Rattle.saphyr_scanner.specs.declared.engine.level.Context.{Context}
+use Rattle.saphyr_scanner.specs.declared.engine.level.Context.TheVariants as context
+use Rattle.saphyr_scanner.specs.Steps.Gap.{spaces_at}
+use Rattle.saphyr_scanner.specs.Grammar.Tokens as tokens
+use Rattle.saphyr_scanner.specs.Grammar.Tokens.{Kind}
+use Rattle.saphyr_scanner.specs.Steps.Core.{Core, Action, Steps, went, at_mark, up_to_here, in_block, remove_key, with_context, go_deeper, is_further, roll}
+use Rattle.saphyr_scanner.specs.Steps.Passing.{separate, pass_on, with_cursor}
+
+-- a `-` stands here as an indicator
+abbrev pub is_dash_next : Core → Bool
+is_dash_next c = (slice_index c.cursor.rest 0 == 45) && is_blank_or_breakz (slice_index c.cursor.rest 1)
+
+-- Content on a later line, and flow collections, have to stand right of the `-`.
+abbrev pub deepen : Core → Core
+deepen c = if is_break (slice_index c.cursor.rest 0) || is_flow (slice_index c.cursor.rest 0) then go_deeper c else c
+
+-- a compact sequence has its `-` behind spaces alone
+abbrev pub refuse_tab : SkipTabs × Core → Result Core Refusal
+refuse_tab x = if found_tabs x.0 && is_dash_next x.1 then refuse fault.DashWithoutWhitespace x.1.cursor.mark else Ok
+    (deepen x.1)
+
+-- what stands behind `-` on its line
+unfoldable pub pass_dash : Core → Result Core Refusal
+pass_dash c = separate c >>= refuse_tab
+
+-- the start of a collection comes before the token that begins it
+abbrev pub behind_start : Bool → Marker → Kind → Action → List Action
+behind_start begins m kind a = if begins then at_mark m kind ∷ a ∷ [] else a ∷ []
+
+unfoldable pub next_entry : Core → Steps
+next_entry c =
+    pass_dash (roll c.cursor.mark.col (pass_on 1 c)) >>= remove_key >>= λ d. went
+    (behind_start (is_further c.cursor.mark.col c) c.cursor.mark tokens.BlockSequenceStart
+    (at_mark d.cursor.mark tokens.BlockEntry))
+    (record d { key_allowed = true })
+
+-- `-`
+unfoldable pub entry : Core → Steps
+entry c =
+    if not (in_block c) then refuse fault.DashInsideFlow c.cursor.mark
+    else if not c.key_allowed then refuse fault.SequenceEntryNotAllowed c.cursor.mark
+    else next_entry c
+
+-- what is open behind `?`
+abbrev pub behind_question : Context → Context
+behind_question context.FlowSequence = context.ExplicitFlowPair
+behind_question context.FlowPair = context.MarkedFlowPair
+behind_question x = x
+
+-- Something has to stand behind `?`, and no tab before its content.
+unfoldable pub behind_mark : Bool → Core → Result Core Refusal
+behind_mark space c =
+    if not space then refuse fault.WhitespaceExpected c.cursor.mark
+    else if slice_index c.cursor.rest 0 == 9 then refuse fault.TabNotAllowed c.cursor.mark
+    else Ok c
+
+abbrev pub pass_mark : Core → Result Core Refusal
+pass_mark c = let s = spaces_at false (pass_on 1 c).cursor in behind_mark s.space (with_cursor s.cursor c)
+
+unfoldable pub begin_key : Core → Result Core Refusal
+begin_key c =
+    remove_key (with_context (behind_question c.level.context) (roll c.cursor.mark.col c)) >>= λ d. pass_mark
+    (record d { key_allowed = in_block d })
+
+-- `?`
+unfoldable pub key : Core → Steps
+key c =
+    if in_block c && not c.key_allowed then refuse fault.KeyNotAllowed c.cursor.mark
+    else (begin_key c >>= λ d. went
+    (behind_start (is_further c.cursor.mark.col c) c.cursor.mark tokens.BlockMappingStart
+    (up_to_here c.cursor.mark tokens.Key d)) d)

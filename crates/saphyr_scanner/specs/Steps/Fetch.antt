@@ -1,0 +1,141 @@
+-- The next token of a text.
+use Rattle.std.specs.Prelude.{ℕ, zero, suc, ◌+◌, Bool, true, false, ◌||◌, ◌&&◌, ◌==◌, not, nat_lt, nat_le, List, [], ◌∷◌, length, slice_index, Option, Some, None, Result, Ok, if◌then◌else◌}
+use Rattle.saphyr_input.specs.Classes.{is_z, is_bom, is_flow, is_blank_or_breakz}
+use Rattle.saphyr_input.specs.Places.{is_document_start, is_document_end}
+use Rattle.saphyr_scalar.specs.declared.scalar.fault.Refusal.{Refusal}
+use Rattle.saphyr_scalar.specs.declared.scalar.fault.FaultText.TheVariants as fault
+use Rattle.saphyr_scalar.specs.Cursor.{◌>>=◌, refuse}
+use Rattle.saphyr_scanner.specs.declared.engine.level.Context.TheVariants as context
+use Rattle.saphyr_scanner.specs.Grammar.Tokens as tokens
+use Rattle.saphyr_scanner.specs.Views.Tokens.{Piece}
+use Rattle.saphyr_scanner.specs.Steps.Queue as queue
+use Rattle.saphyr_scanner.specs.Steps.Queue.{Queue, next}
+use Rattle.saphyr_scanner.specs.Steps.Core.{Candidate, Level, Core, Steps, at_mark, in_block, is_too_far, least_column, drop_far_key}
+use Rattle.saphyr_scanner.specs.Steps.Passing.{pass_gap}
+use Rattle.saphyr_scanner.specs.Steps.State.{State, changed, acting, carried, acted}
+use Rattle.saphyr_scanner.specs.Steps.Unrolling.{unroll}
+use Rattle.saphyr_scanner.specs.Steps.Document as document
+use Rattle.saphyr_scanner.specs.Steps.Flow as flow
+use Rattle.saphyr_scanner.specs.Steps.Block as block
+use Rattle.saphyr_scanner.specs.Steps.Value as value
+use Rattle.saphyr_scanner.specs.Steps.Scalar as scalar
+use Rattle.saphyr_scanner.specs.Steps.Property as property
+use Rattle.saphyr_scalar.specs.declared.reading.block.BlockStyle.TheVariants as block_style
+
+-- ## What begins here
+
+-- a colon that no blank follows stands between a key and its value, inside flow
+abbrev pub is_value_adjacent : ℕ → Core → Bool
+is_value_adjacent second c = not (in_block c) && (is_flow second || (c.cursor.mark.index == c.adjacent))
+
+-- a colon inside flow that no blank follows
+unfoldable pub flow_value : ℕ → Core → Steps
+flow_value second c =
+    if not (c.cursor.mark.index == c.adjacent) && ((second == 91) || (second == 123)) then refuse fault.ColonBeforeFlow
+    c.cursor.mark
+    else value.fetch c
+
+-- what the first character begins, with the second at hand, and the number of the place of its token
+unfoldable pub step : ℕ → ℕ → ℕ → Core → Steps
+step first second n c =
+    if first == 91 then flow.start context.FlowSequence tokens.FlowSequenceStart n c
+    else if first == 123 then flow.start context.FlowMapping tokens.FlowMappingStart n c
+    else if first == 93 then flow.end true tokens.FlowSequenceEnd c
+    else if first == 125 then flow.end false tokens.FlowMappingEnd c
+    else if first == 44 then flow.entry c
+    else if (first == 45) && is_blank_or_breakz second then block.entry c
+    else if (first == 63) && is_blank_or_breakz second then block.key c
+    else if (first == 58) && is_blank_or_breakz second then value.fetch c
+    else if (first == 58) && is_value_adjacent second c then flow_value second c
+    else if first == 34 then scalar.double_quoted n c
+    else if first == 39 then scalar.single_quoted n c
+    else if first == 42 then property.name true n c
+    else if first == 38 then property.name false n c
+    else if first == 33 then property.tag n c
+    else if (first == 124) && in_block c then scalar.block block_style.Literal n c
+    else if (first == 62) && in_block c then scalar.block block_style.Folded n c
+    else if (first == 37) || (first == 64) || (first == 96) then refuse (fault.UnexpectedCharacter first) c.cursor.mark
+    else scalar.plain n c
+
+unfoldable pub content : ℕ → ℕ → State → Result State Refusal
+content first second s = acted (step first second (next s.queue) s.core) s.queue
+
+-- what begins at the start of a line alone, or anywhere
+unfoldable pub fetch_here : State → Result State Refusal
+fetch_here s =
+    let c = s.core in let t = c.cursor.rest in let at_start = c.cursor.mark.col == 0 in
+    if is_z (slice_index t 0) then document.end_stream s
+    else if is_bom (slice_index t 0) then document.byte_order_mark s
+    else if at_start && (slice_index t 0 == 37) then document.directive s
+    else if at_start && is_document_start t then document.marker tokens.DocumentStart s
+    else if at_start && is_document_end t then document.end_marker s
+    else if nat_lt c.cursor.mark.col (least_column c) then refuse fault.InvalidIndentation c.cursor.mark
+    else content (slice_index t 0) (slice_index t 1) s
+
+-- to where the next token begins
+unfoldable pub arrive : State → Result State Refusal
+arrive s = carried (pass_gap s.core >>= drop_far_key) s.queue >>= λ t. Ok
+    (unroll (Some t.core.cursor.mark.col) t.core.cursor.mark t)
+
+abbrev pub begin : State → State
+begin s = acting (at_mark s.core.cursor.mark tokens.StreamStart) (changed (record s.core { started = true }) s)
+
+-- the next token is put into the queue
+unfoldable pub fetch : State → Result State Refusal
+fetch s = if s.core.started then (arrive s >>= fetch_here) else Ok (begin s)
+
+-- a text that is longer than the limit is refused once a token has passed it
+abbrev pub within : ℕ → State → Result State Refusal
+within limit s = if nat_le s.core.cursor.mark.index limit then Ok s else refuse fault.TextTooLong s.core.cursor.mark
+
+unfoldable pub fetch_within : ℕ → State → Result State Refusal
+fetch_within limit s = fetch s >>= within limit
+
+-- ## A token at the head of the queue
+
+abbrev pub is_place : ℕ → Option Candidate → Bool
+is_place place None = false
+is_place place (Some k) = k.place == place
+
+-- the token at a place may be a key of the level
+abbrev pub holds : ℕ → Level → Bool
+holds place l = is_place place l.key
+
+abbrev pub any_holds : ℕ → List Level → Bool
+any_holds place [] = false
+any_holds place (l ∷ ls) = holds place l || any_holds place ls
+
+-- the first token of the queue may yet turn out to be a key
+abbrev pub is_held : State → Bool
+is_held s = holds s.queue.handed s.core.level || any_holds s.queue.handed s.core.outer
+
+-- the next token has to be read
+abbrev pub needs_token : State → Bool
+needs_token s = not s.core.ended && (queue.is_empty s.queue || is_held s)
+
+-- the head of the queue can be handed out as things are, unless all were
+abbrev pub is_ready : State → Bool
+is_ready s = not (in_block s.core && is_too_far s.core.level.key s.core.cursor.mark) && not (needs_token s)
+
+abbrev pub settled : State → Result State Refusal
+settled s = carried (drop_far_key s.core) s.queue
+
+abbrev pub fill_by : (State → Result State Refusal) → State → Result State Refusal
+fill_by go s = if needs_token s then go s else Ok s
+
+-- tokens are read, n at most, until the first can be handed out
+abbrev pub fill_in : ℕ → ℕ → State → Result State Refusal
+fill_in zero limit s = Ok s
+fill_in (suc n) limit s = fill_by (λ t. fetch_within limit t >>= settled >>= fill_in n limit) s
+
+-- how many tokens come at most: each has a character, but the stream's start and its end
+abbrev pub size : Core → ℕ
+size c = length c.cursor.rest + (if c.started then 0 else 1) + (if c.ended then 0 else 1)
+
+-- the queue has a token at its head that can be handed out, unless all were
+unfoldable pub fill : ℕ → State → Result State Refusal
+fill limit s = settled s >>= λ t. fill_in (suc (size t.core)) limit t
+
+-- the first token is taken off
+abbrev pub take : State → Option Piece × State
+take s = let x = queue.take s.queue in (x.0, record { core = s.core; queue = x.1 })

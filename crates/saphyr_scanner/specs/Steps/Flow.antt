@@ -1,0 +1,74 @@
+-- The indicators of flow collections (YAML 1.2.2, 7.4).
+use Rattle.std.specs.Prelude.{ℕ, Bool, true, false, ◌&&◌, nat_le, List, [], ◌∷◌, length, None, if◌then◌else◌}
+use Rattle.saphyr_scalar.specs.declared.scalar.position.Marker.{Marker}
+use Rattle.saphyr_scalar.specs.declared.scalar.fault.FaultText.TheVariants as fault
+use Rattle.saphyr_scalar.specs.Cursor.{◌>>=◌, refuse}
+use Rattle.saphyr_scanner.specs.declared.engine.level.Context.{Context}
+use Rattle.saphyr_scanner.specs.declared.engine.level.Context.TheVariants as context
+use Rattle.saphyr_scanner.specs.Grammar.Tokens as tokens
+use Rattle.saphyr_scanner.specs.Grammar.Tokens.{Kind}
+use Rattle.saphyr_scanner.specs.Steps.Core.{Level, Core, Action, Steps, went, at_root, at_mark, up_to_here, in_block, save_key, remove_key, with_context, go_deeper}
+use Rattle.saphyr_scanner.specs.Steps.Passing.{separate, pass_on}
+
+-- whether a pair is open that ends with its entry
+abbrev pub ends_pair : Context → Bool
+ends_pair context.FlowPair = true
+ends_pair context.MarkedFlowPair = true
+ends_pair _ = false
+
+-- what is open behind a comma
+abbrev pub behind_entry : Context → Context
+behind_entry context.Block = context.Block
+behind_entry context.FlowMapping = context.FlowMapping
+behind_entry _ = context.FlowSequence
+
+-- a flow collection is open
+abbrev pub enter : Context → Core → Core
+enter x c = record c { level = record { context = x; key = None }; outer = c.level ∷ c.outer; key_allowed = true }
+
+abbrev pub leave_to : List Level → Core → Core
+leave_to [] c = record c { level = at_root; outer = []; key_allowed = false }
+leave_to (l ∷ ls) c = record c { level = l; outer = ls; key_allowed = false }
+
+-- the innermost flow collection is left
+abbrev pub leave : Core → Core
+leave c = leave_to c.outer c
+
+-- At most 255 flow collections are open at once.
+unfoldable pub open_collection : Context → Kind → Core → Steps
+open_collection x kind c =
+    if nat_le 255 (length c.outer) then refuse fault.RecursionLimit c.cursor.mark
+    else (separate (pass_on 1 (enter x c)) >>= λ d. went (up_to_here c.cursor.mark kind d.1 ∷ []) d.1)
+
+-- `[` or `{`, which may begin a key
+unfoldable pub start : Context → Kind → ℕ → Core → Steps
+start x kind n c = open_collection x kind (go_deeper (save_key n c))
+
+-- behind a collection inside flow, which may be a key, its colon may stand at once
+abbrev pub allow_adjacent : Core → Core
+allow_adjacent c = if in_block c then c else record c { adjacent = c.cursor.mark.index }
+
+-- the end of a pair comes before the token that ends it
+abbrev pub behind_pair : Bool → Marker → Action → List Action
+behind_pair ends m a = if ends then at_mark m tokens.FlowMappingEnd ∷ a ∷ [] else a ∷ []
+
+unfoldable pub close_collection : Bool → Kind → Core → Steps
+close_collection ends kind c =
+    separate (pass_on 1 (leave c)) >>= λ d. went (behind_pair ends c.cursor.mark (up_to_here c.cursor.mark kind d.1))
+    (allow_adjacent d.1)
+
+-- `]` or `}`
+unfoldable pub end : Bool → Kind → Core → Steps
+end is_sequence kind c =
+    if in_block c then refuse fault.MisplacedBracket c.cursor.mark
+    else close_collection (is_sequence && ends_pair c.level.context) kind c
+
+unfoldable pub next_entry : Core → Steps
+next_entry c =
+    separate (pass_on 1 (with_context (behind_entry c.level.context) (record c { key_allowed = true })))
+    >>= λ d. went (behind_pair (ends_pair c.level.context) c.cursor.mark
+    (up_to_here c.cursor.mark tokens.FlowEntry d.1)) d.1
+
+-- `,`
+unfoldable pub entry : Core → Steps
+entry c = remove_key c >>= next_entry

@@ -1,0 +1,79 @@
+-- What stands between two tokens: blanks, breaks and comments (YAML 1.2.2, 6.7).
+use Rattle.std.specs.Prelude.{ℕ, Bool, true, false, ◌||◌, ◌&&◌, ◌==◌, not, nat_lt, List, [], ◌∷◌, slice_index, Result, Ok, if◌then◌else◌}
+use Rattle.saphyr_input.specs.Classes.{is_blank, is_break, is_bom, is_z, is_yaml_non_break}
+use Rattle.saphyr_scalar.specs.declared.scalar.position.Marker.{Marker}
+use Rattle.saphyr_scalar.specs.declared.scalar.fault.Refusal.{Refusal}
+use Rattle.saphyr_scalar.specs.declared.scalar.fault.FaultText.TheVariants as fault
+use Rattle.saphyr_scalar.specs.Cursor.{Cursor, along, next_line, refuse}
+
+-- where the text goes on, and whether a break was met
+pub record Passed : Type 0 where
+  pub cursor : Cursor
+  pub broke : Bool
+
+-- `tabbed` tells that a tab stood on the line where indentation does, so that nothing else may stand there.
+unfoldable pub stop : Marker → Bool → Bool → Bool → List ℕ → Result Passed Refusal
+stop m blank broke tabbed text =
+    if tabbed && is_bom (slice_index text 0) then refuse fault.MisplacedByteOrderMark m
+    else if tabbed && not (is_z (slice_index text 0)) then refuse fault.TabInBlockIndentation m
+    else Ok (record { cursor = record { rest = text; mark = m; blank_so_far = blank }; broke = broke })
+
+-- a tab left of the column that content has to reach
+abbrev pub is_tab_indentation : ℕ → Marker → Bool → ℕ → Bool
+is_tab_indentation least m blank c = (c == 9) && blank && nat_lt m.col least
+
+-- Told character by character. CR before LF counts as a character of its line, and the LF ends the line.
+abbrev mutual
+  pub gap : ℕ → Marker → Bool → Bool → Bool → List ℕ → Result Passed Refusal
+  gap least m blank broke tabbed [] = stop m blank broke tabbed []
+  gap least m blank broke tabbed (c ∷ cs) =
+      if is_blank c || ((c == 13) && (slice_index cs 0 == 10)) then gap least (along m 1) blank broke
+      (is_tab_indentation least m blank c || tabbed) cs
+      else if is_break c then gap least (next_line m 1) true true false cs
+      else if c == 35 then comment least (along m 1) blank broke tabbed cs
+      else stop m blank broke tabbed (c ∷ cs)
+
+  -- behind the `#` of a comment
+  pub comment : ℕ → Marker → Bool → Bool → Bool → List ℕ → Result Passed Refusal
+  comment least m blank broke tabbed [] = stop m blank broke tabbed []
+  comment least m blank broke tabbed (c ∷ cs) =
+      if is_yaml_non_break c then comment least (along m 1) blank broke tabbed cs
+      else if (c == 13) && (slice_index cs 0 == 10) then gap least (along m 1) blank broke tabbed cs
+      else if is_break c then gap least (next_line m 1) true true false cs
+      else stop m blank broke tabbed (c ∷ cs)
+
+abbrev pub gap_at : ℕ → Bool → Bool → Cursor → Result Passed Refusal
+gap_at least broke tabbed s = gap least s.mark s.blank_so_far broke tabbed s.rest
+
+-- what stands between two tokens is passed, where content has to reach a column
+abbrev pub pass_gap : ℕ → Cursor → Result Passed Refusal
+pass_gap least s = gap_at least false false s
+
+-- ## Behind `?`: spaces, breaks and comments (8.2.2), of which something has to stand there
+
+pub record Spaced : Type 0 where
+  pub cursor : Cursor
+  pub space : Bool
+
+abbrev pub spaced : Marker → Bool → Bool → List ℕ → Spaced
+spaced m blank space text = record { cursor = record { rest = text; mark = m; blank_so_far = blank }; space = space }
+
+abbrev mutual
+  pub spaces : Marker → Bool → Bool → List ℕ → Spaced
+  spaces m blank space [] = spaced m blank space []
+  spaces m blank space (c ∷ cs) =
+      if (c == 32) || ((c == 13) && (slice_index cs 0 == 10)) then spaces (along m 1) blank true cs
+      else if is_break c then spaces (next_line m 1) true true cs
+      else if c == 35 then line_comment (along m 1) blank space cs
+      else spaced m blank space (c ∷ cs)
+
+  pub line_comment : Marker → Bool → Bool → List ℕ → Spaced
+  line_comment m blank space [] = spaced m blank space []
+  line_comment m blank space (c ∷ cs) =
+      if is_yaml_non_break c then line_comment (along m 1) blank space cs
+      else if (c == 13) && (slice_index cs 0 == 10) then spaces (along m 1) blank true cs
+      else if is_break c then spaces (next_line m 1) true true cs
+      else spaced m blank space (c ∷ cs)
+
+abbrev pub spaces_at : Bool → Cursor → Spaced
+spaces_at space s = spaces s.mark s.blank_so_far space s.rest

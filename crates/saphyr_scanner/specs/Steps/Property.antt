@@ -1,0 +1,30 @@
+-- Anchors, aliases and tags (YAML 1.2.2, 6.9 and 7.1).
+use Rattle.std.specs.Prelude.{ℕ, Bool, not, List, [], ◌∷◌, if◌then◌else◌}
+use Rattle.saphyr_scalar.specs.Cursor.{◌>>=◌}
+use Rattle.saphyr_scalar.specs.Anchor as anchors
+use Rattle.saphyr_scalar.specs.Tag as tags
+use Rattle.saphyr_scanner.specs.Grammar.Tokens as tokens
+use Rattle.saphyr_scanner.specs.Grammar.Tokens.{Kind}
+use Rattle.saphyr_scanner.specs.Steps.Core.{Core, Steps, went, from_to, in_block, save_key}
+use Rattle.saphyr_scanner.specs.Steps.Passing.{with_cursor}
+use Rattle.saphyr_scanner.specs.Steps.Scalar.{disallow_key}
+
+-- what a name stands behind
+abbrev pub name_token : Bool → List ℕ → Kind
+name_token is_alias name = if is_alias then tokens.Alias name else tokens.Anchor name
+
+unfoldable pub read_name : Bool → Core → Steps
+read_name is_alias c = anchors.anchor c.cursor >>= λ x. went
+    (from_to c.cursor.mark x.1.mark (name_token is_alias x.0) ∷ []) (with_cursor x.1 c)
+
+-- an anchor or an alias
+unfoldable pub name : Bool → ℕ → Core → Steps
+name is_alias n c = read_name is_alias (disallow_key (save_key n c))
+
+unfoldable pub read_tag : Core → Steps
+read_tag c = tags.tag (not (in_block c)) c.cursor >>= λ x. went
+    (from_to c.cursor.mark x.2.mark (tokens.Tag x.0 x.1) ∷ []) (with_cursor x.2 c)
+
+-- a tag
+unfoldable pub tag : ℕ → Core → Steps
+tag n c = read_tag (disallow_key (save_key n c))

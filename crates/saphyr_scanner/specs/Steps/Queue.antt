@@ -1,0 +1,82 @@
+-- The tokens that were read and not handed out.
+use Rattle.std.specs.Prelude.{ℕ, zero, suc, ◌+◌, ◌-◌, Bool, true, false, List, [], ◌∷◌, ◌++◌, length, Option, Some, None}
+use Rattle.saphyr_scalar.specs.declared.scalar.position.Marker.{Marker}
+use Rattle.saphyr_scanner.specs.declared.queue.Opening.{Opening}
+use Rattle.saphyr_scanner.specs.declared.queue.Opening.TheVariants as opening
+use Rattle.saphyr_scanner.specs.Grammar.Tokens as tokens
+use Rattle.saphyr_scanner.specs.Grammar.Tokens.{Kind}
+use Rattle.saphyr_scanner.specs.Views.Tokens.{Piece}
+
+-- a token, and what stands in front of it
+pub record Place : Type 0 where
+  pub opening : Opening
+  pub piece : Piece
+
+-- the places of the tokens, and how many places were handed out before them
+pub record Queue : Type 0 where
+  pub places : List Place
+  pub handed : ℕ
+
+abbrev pub empty : Queue
+empty = record { places = []; handed = 0 }
+
+abbrev pub is_empty_list : {X : Type 0} → List X → Bool
+is_empty_list [] = true
+is_empty_list (x ∷ xs) = false
+
+abbrev pub is_empty : Queue → Bool
+is_empty q = is_empty_list q.places
+
+-- the number of the place that comes next
+abbrev pub next : Queue → ℕ
+next q = q.handed + length q.places
+
+abbrev pub closed : Piece → Place
+closed t = record { opening = opening.Nothing; piece = t }
+
+abbrev pub put : Piece → Queue → Queue
+put t q = record q { places = q.places ++ closed t ∷ [] }
+
+-- at the nth of the places stands this in front of the token
+abbrev pub opened : ℕ → Opening → List Place → List Place
+opened n o [] = []
+opened zero o (p ∷ ps) = record { opening = o; piece = p.piece } ∷ ps
+opened (suc n) o (p ∷ ps) = p ∷ opened n o ps
+
+abbrev pub with_opening : ℕ → Opening → Queue → Queue
+with_opening n o q = record q { places = opened (n - q.handed) o q.places }
+
+-- a token without characters
+abbrev pub empty_piece : Marker → Kind → Piece
+empty_piece m kind = record { span = record { start = m; end = m }; kind = kind }
+
+-- ## Taking the first token off
+
+abbrev pub take_first : List Place → Queue → Option Piece × Queue
+take_first [] q = (None, q)
+take_first (p ∷ ps) q = (Some p.piece, record { places = ps; handed = q.handed + 1 })
+
+abbrev pub take_place : Queue → Option Piece × Queue
+take_place q = take_first q.places q
+
+-- a token in front of the first place's own, and what is left there
+abbrev pub take_front : Kind → Opening → Place → List Place → Queue → Option Piece × Queue
+take_front kind left p ps q =
+    (Some (empty_piece p.piece.span.start kind), record q { places = record { opening = left; piece = p.piece } ∷ ps })
+
+abbrev pub take_of : Opening → Place → List Place → Queue → Option Piece × Queue
+take_of opening.Nothing p ps q = take_first (p ∷ ps) q
+take_of opening.Key p ps q = take_front tokens.Key opening.Nothing p ps q
+take_of opening.BlockMappingAndKey p ps q = take_front tokens.BlockMappingStart opening.Key p ps q
+take_of opening.FlowMappingAndKey p ps q = take_front tokens.FlowMappingStart opening.Key p ps q
+
+-- the same of a first place, those behind it, and how many were handed out before them
+abbrev pub take_first_of : Place → List Place → ℕ → Option Piece × Queue
+take_first_of p ps n = take_of p.opening p ps (record { places = p ∷ ps; handed = n })
+
+abbrev pub take_from : List Place → Queue → Option Piece × Queue
+take_from [] q = (None, q)
+take_from (p ∷ ps) q = take_of p.opening p ps q
+
+abbrev pub take : Queue → Option Piece × Queue
+take q = take_from q.places q

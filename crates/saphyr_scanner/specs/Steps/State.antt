@@ -1,0 +1,36 @@
+-- The scanner as functions on what it knows and the tokens that it holds.
+use Rattle.std.specs.Prelude.{ℕ, List, Result, Ok, Err}
+use Rattle.saphyr_scalar.specs.declared.scalar.fault.Refusal.{Refusal}
+use Rattle.saphyr_scanner.specs.Steps.Queue as queue
+use Rattle.saphyr_scanner.specs.Steps.Queue.{Queue}
+use Rattle.saphyr_scanner.specs.Steps.Core as core
+use Rattle.saphyr_scanner.specs.Steps.Core.{Core, Action, Steps, act, perform}
+
+pub record State : Type 0 where
+  pub core : Core
+  pub queue : Queue
+
+-- at the start of a text
+abbrev pub start : List ℕ → State
+start text = record { core = core.start text; queue = queue.empty }
+
+abbrev pub changed : Core → State → State
+changed c s = record { core = c; queue = s.queue }
+
+abbrev pub acting : Action → State → State
+acting a s = record { core = s.core; queue = act a s.queue }
+
+-- what a change of the core gives, with the queue as it was
+abbrev pub carried : Result Core Refusal → Queue → Result State Refusal
+carried (Ok c) q = Ok (record { core = c; queue = q })
+carried (Err e) q = Err e
+
+-- the same, of a change that tells something
+abbrev pub separated : {X : Type 0} → Result (X × Core) Refusal → State → Result (X × State) Refusal
+separated (Ok x) s = Ok (x.0, changed x.1 s)
+separated (Err e) s = Err e
+
+-- what a step gives, with what it does to the queue
+abbrev pub acted : Steps → Queue → Result State Refusal
+acted (Ok x) q = Ok (record { core = x.core; queue = perform x.actions q })
+acted (Err e) q = Err e

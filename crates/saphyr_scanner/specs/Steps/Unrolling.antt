@@ -1,0 +1,35 @@
+-- Block collections end (YAML 1.2.2, 8.2).
+use Rattle.std.specs.Prelude.{ℕ, ◌-◌, Bool, false, ◌&&◌, nat_lt, nat_le, List, [], ◌∷◌, Option, Some, None, if◌then◌else◌}
+use Rattle.saphyr_scalar.specs.declared.scalar.position.Marker.{Marker}
+use Rattle.saphyr_scanner.specs.Grammar.Tokens.{BlockEnd}
+use Rattle.saphyr_scanner.specs.Steps.Core.{Core, in_block, at_mark}
+use Rattle.saphyr_scanner.specs.Steps.State.{State, changed, acting}
+
+-- a block collection with this indentation stands to the right of a column, and each does where there is none
+abbrev pub is_right_of : Option ℕ → ℕ → Bool
+is_right_of None indent = nat_lt 0 indent
+is_right_of (Some column) indent = nat_lt column (indent - 1)
+
+-- the indentation of the block collection around the innermost one
+abbrev pub outwards : List ℕ → Core → Core
+outwards [] c = record c { indent = 0; outer_indents = [] }
+outwards (i ∷ is) c = record c { indent = i; outer_indents = is }
+
+-- the innermost block collection ends
+abbrev pub end_block : Marker → State → State
+end_block m s = changed (outwards s.core.outer_indents s.core) (acting (at_mark m BlockEnd) s)
+
+-- Block collections end, as long as they stand to the right of a column. There are as many as a list is long, and one.
+abbrev pub end_blocks : Option ℕ → Marker → List ℕ → State → State
+end_blocks column m [] s = if is_right_of column s.core.indent then end_block m s else s
+end_blocks column m (i ∷ is) s = if is_right_of column s.core.indent then end_blocks column m is (end_block m s) else s
+
+-- content may stand at a column, though not right of its block collection
+abbrev pub less_deep : Option ℕ → Core → Core
+less_deep None c = record c { deeper = false }
+less_deep (Some column) c = record c { deeper = c.deeper && nat_le c.indent column }
+
+-- the block collections to the right of a column end
+unfoldable pub unroll : Option ℕ → Marker → State → State
+unroll column m s = if in_block s.core then end_blocks column m s.core.outer_indents
+    (changed (less_deep column s.core) s) else s

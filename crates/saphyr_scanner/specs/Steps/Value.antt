@@ -1,0 +1,75 @@
+-- The colon between a key and its value (YAML 1.2.2, 7.4.2 and 8.2.2).
+use Rattle.std.specs.Prelude.{ℕ, Bool, true, false, ◌||◌, ◌&&◌, ◌==◌, not, nat_lt, List, [], ◌∷◌, ◌++◌, Option, Some, None, Result, Ok, slice_index, if◌then◌else◌}
+use Rattle.saphyr_input.specs.Classes.{is_alpha}
+use Rattle.saphyr_input.specs.declared.input.SkipTabs.{SkipTabs}
+use Rattle.saphyr_input.specs.Separation.{has_valid_yaml_ws}
+use Rattle.saphyr_scalar.specs.declared.scalar.position.Marker.{Marker}
+use Rattle.saphyr_scalar.specs.declared.scalar.fault.Refusal.{Refusal}
+use Rattle.saphyr_scalar.specs.declared.scalar.fault.FaultText.TheVariants as fault
+use Rattle.saphyr_scalar.specs.Cursor.{◌>>=◌, refuse}
+use Rattle.saphyr_scanner.specs.declared.engine.level.Context.{Context}
+use Rattle.saphyr_scanner.specs.declared.engine.level.Context.TheVariants as context
+use Rattle.saphyr_scanner.specs.declared.queue.Opening.{Opening}
+use Rattle.saphyr_scanner.specs.declared.queue.Opening.TheVariants as opening
+use Rattle.saphyr_scanner.specs.Grammar.Tokens as tokens
+use Rattle.saphyr_scanner.specs.Steps.Core.{Candidate, Core, Action, Open, Steps, went, at_mark, in_block, forget_key, with_context, go_deeper, is_further, roll}
+use Rattle.saphyr_scanner.specs.Steps.Passing.{separate, pass_on}
+
+-- whether a colon begins a pair that has no bracket of its own
+abbrev pub begins_pair : Context → Bool
+begins_pair context.FlowSequence = true
+begins_pair context.FlowPair = true
+begins_pair _ = false
+
+-- what is open behind a colon
+abbrev pub behind_colon : Context → Context
+behind_colon context.FlowSequence = context.FlowPair
+behind_colon x = x
+
+-- Outside flow a tab alone does not part a colon from a word.
+abbrev pub refuse_tab : SkipTabs × Core → Result Core Refusal
+refuse_tab x =
+    if in_block x.1 && not (has_valid_yaml_ws x.0)
+    && ((slice_index x.1.cursor.rest 0 == 45) || is_alpha (slice_index x.1.cursor.rest 0))
+    then refuse fault.ColonWithoutWhitespace x.1.cursor.mark
+    else Ok x.1
+
+unfoldable pub check_tab : Core → Result Core Refusal
+check_tab c = if slice_index c.cursor.rest 0 == 9 then (separate c >>= refuse_tab) else Ok c
+
+-- what stands in front of the key
+abbrev pub opening_of : Bool → ℕ → Core → Opening
+opening_of begins column c =
+    if begins then opening.FlowMappingAndKey
+    else if is_further column c then opening.BlockMappingAndKey
+    else opening.Key
+
+-- the value of a key that stands before the colon
+unfoldable pub of_key : Candidate → Bool → Marker → Core → Steps
+of_key k begins start c =
+    if begins && nat_lt k.mark.line start.line then refuse fault.MisplacedColon start
+    else went (Open k.place (opening_of begins k.mark.col c) ∷ at_mark start tokens.Value ∷ [])
+    (record (forget_key (go_deeper (roll k.mark.col c))) { key_allowed = false })
+
+-- what a colon without a key begins
+unfoldable pub begin_alone : Bool → Marker → Core → List Action
+begin_alone begins start c =
+    (if begins then at_mark start tokens.FlowMappingStart ∷ [] else [])
+    ++ ((if is_further start.col c then at_mark start tokens.BlockMappingStart ∷ [] else [])
+    ++ at_mark start tokens.Value ∷ [])
+
+-- the value of a key that is left out, or that `?` began
+unfoldable pub alone : Bool → Marker → Core → Steps
+alone begins start c =
+    if in_block c && not c.key_allowed then refuse fault.ValueNotAllowed start
+    else went (begin_alone begins start c) (record (go_deeper (roll start.col c)) { key_allowed = in_block c })
+
+unfoldable pub behind_key : Option Candidate → Bool → Marker → Core → Steps
+behind_key (Some k) begins start c = of_key k begins start c
+behind_key None begins start c = alone begins start c
+
+-- `:`
+unfoldable pub fetch : Core → Steps
+fetch c =
+    check_tab (pass_on 1 (with_context (behind_colon c.level.context) c))
+    >>= λ d. behind_key d.level.key (begins_pair c.level.context) c.cursor.mark d

@@ -1,0 +1,4 @@
+-- What contracts see of tokens, of the queue and of the engine.
+pub mod Tokens
+pub mod Queue
+pub mod Engine

@@ -1,0 +1,75 @@
+-- What contracts see of tokens, and the tokens that a scanner still has to give.
+use Rattle.std.specs.Prelude.{◌≡◌, Bool, true, false, List, [], ◌∷◌, Option, Some, None, Result, Ok, Err, string_bytes}
+use Rattle.saphyr_scalar.specs.declared.scalar.position.Span.{Span}
+use Rattle.saphyr_scalar.specs.declared.scalar.fault.Refusal.{Refusal}
+use Rattle.saphyr_scalar.specs.declared.scalar.fault.Stop.{Stop}
+use Rattle.saphyr_scalar.specs.declared.scalar.fault.Stop.TheVariants as stop
+use Rattle.saphyr_scanner.specs.declared.token.Token.{Token}
+use Rattle.saphyr_scanner.specs.declared.token.TokenType.{TokenType}
+use Rattle.saphyr_scanner.specs.declared.token.TokenType.TheVariants as code
+use Rattle.saphyr_scanner.specs.Grammar.Tokens as tokens
+use Rattle.saphyr_scanner.specs.Grammar.Tokens.{Kind}
+
+abbrev pub kind_of : TokenType → Kind
+kind_of code.StreamStart = tokens.StreamStart
+kind_of code.StreamEnd = tokens.StreamEnd
+kind_of (code.VersionDirective major minor) = tokens.VersionDirective major minor
+kind_of (code.TagDirective tag) = tokens.TagDirective (string_bytes tag.value.handle) (string_bytes tag.value.prefix)
+kind_of (code.ReservedDirective name) = tokens.ReservedDirective (string_bytes name)
+kind_of code.DocumentStart = tokens.DocumentStart
+kind_of code.DocumentEnd = tokens.DocumentEnd
+kind_of code.ByteOrderMark = tokens.ByteOrderMark
+kind_of code.BlockSequenceStart = tokens.BlockSequenceStart
+kind_of code.BlockMappingStart = tokens.BlockMappingStart
+kind_of code.BlockEnd = tokens.BlockEnd
+kind_of code.FlowSequenceStart = tokens.FlowSequenceStart
+kind_of code.FlowSequenceEnd = tokens.FlowSequenceEnd
+kind_of code.FlowMappingStart = tokens.FlowMappingStart
+kind_of code.FlowMappingEnd = tokens.FlowMappingEnd
+kind_of code.BlockEntry = tokens.BlockEntry
+kind_of code.FlowEntry = tokens.FlowEntry
+kind_of code.Key = tokens.Key
+kind_of code.Value = tokens.Value
+kind_of (code.Alias name) = tokens.Alias (string_bytes name)
+kind_of (code.Anchor name) = tokens.Anchor (string_bytes name)
+kind_of (code.Tag tag) = tokens.Tag (string_bytes tag.value.handle) (string_bytes tag.value.suffix)
+kind_of (code.Scalar style value) = tokens.Scalar style (string_bytes value)
+
+-- a token with its span
+pub record Piece : Type 0 where
+  pub span : Span
+  pub kind : Kind
+
+abbrev pub piece : Token → Piece
+piece t = record { span = t.span; kind = kind_of t.kind }
+
+-- the tokens still to come, and the refusal behind them, if one ends them
+pub record Remaining : Type 0 where
+  pub pieces : List Piece
+  pub refusal : Option Refusal
+
+abbrev pub none : Remaining
+none = record { pieces = []; refusal = None }
+
+abbrev pub refused : Refusal → Remaining
+refused e = record { pieces = []; refusal = Some e }
+
+abbrev pub before : Piece → Remaining → Remaining
+before t r = record { pieces = t ∷ r.pieces; refusal = r.refusal }
+
+-- the token in a place, if one was written there
+abbrev pub written : Bool → Token → Option Token
+written false t = None
+written true t = Some t
+
+-- the same of a call
+abbrev pub handed : Token → Result Bool Stop → Result (Option Token) Stop
+handed t (Ok is_written) = Ok (written is_written t)
+handed t (Err e) = Err e
+
+-- what a call for the next token hands out, and what remains; behind a refusal nothing is known
+abbrev pub Hands : Result (Option Token) Stop → Remaining → Remaining → Type 0
+Hands (Ok (Some t)) old new = old ≡ before (piece t) new
+Hands (Ok None) old new = (old ≡ none) × (new ≡ none)
+Hands (Err stop.OutOfMemory) old new = Unit {0}
+Hands (Err (stop.Refused e)) old new = old ≡ refused e

@@ -1,0 +1,293 @@
+//! The static library's calls, each behind a safe one.
+//!
+//! This is the crate's only file with `unsafe` in it. What the library asks of its callers stands in `saphyr_parser.h`,
+//! beside its sources: a parser and an event are zeroed at first, a pointer that is passed is not null, one call at a
+//! time uses a parser, and the text stays unchanged where it is until the parser over it is freed. What it gives is
+//! that the texts of an event are UTF-8, and may be read until the next call with the same parser. Here they are copied
+//! right behind the call that wrote them, so that none is left when the next one comes.
+
+use crate::event::{Event, Tag};
+use crate::scanner::{Marker, ScalarStyle, ScanError, Span};
+use std::alloc::{handle_alloc_error, Layout};
+use std::borrow::Cow;
+use std::cell::Cell;
+use std::ptr::{null, null_mut};
+use std::sync::Arc;
+use std::{slice, str};
+
+/// The version of the header that the declarations below follow.
+const VERSION: u32 = 1000;
+
+// The statuses. Those that no call of a live parser gives have no name here.
+const OK: i32 = 0;
+const END: i32 = 0;
+const EVENT: i32 = 1;
+const REFUSED: i32 = -1;
+const NO_MEMORY: i32 = -2;
+
+/// `saphyr_parser`: null, or a parser on the heap.
+#[repr(C)]
+struct Handle {
+    at: *mut u8,
+}
+
+const EMPTY: Handle = Handle { at: null_mut() };
+
+/// `saphyr_text`: bytes that need not end in NUL, or null.
+#[repr(C)]
+struct Bytes {
+    at: *const u8,
+    len: usize,
+}
+
+const NO_BYTES: Bytes = Bytes { at: null(), len: 0 };
+
+/// `saphyr_marker`.
+#[repr(C)]
+#[derive(Default)]
+struct Place {
+    index: usize,
+    line: usize,
+    col: usize,
+}
+
+/// `saphyr_event`.
+#[repr(C)]
+struct Record {
+    kind: i32,
+    style: i32,
+    is_explicit: i32,
+    has_tag: i32,
+    anchor: usize,
+    start: Place,
+    end: Place,
+    value: Bytes,
+    tag_handle: Bytes,
+    tag_suffix: Bytes,
+}
+
+extern "C" {
+    fn saphyr_new(text: *const u8, len: usize, keep_tags: bool, parser: *mut Handle) -> i32;
+    fn saphyr_next(parser: *mut Handle, event: *mut Record) -> i32;
+    fn saphyr_peek(parser: *mut Handle, event: *mut Record) -> i32;
+    fn saphyr_keep_tags(parser: *mut Handle, keep_tags: bool) -> i32;
+    fn saphyr_clone(parser: *mut Handle, copy: *mut Handle) -> i32;
+    fn saphyr_free(parser: *mut Handle);
+    fn saphyr_version() -> u32;
+}
+
+/// A text that stays where it is, whoever is moved: borrowed, or shared by a parser and its clones.
+#[derive(Clone)]
+pub enum Text<'input> {
+    Borrowed(&'input str),
+    Shared(Arc<String>),
+}
+
+impl Text<'_> {
+    fn as_bytes(&self) -> &[u8] {
+        match self {
+            Text::Borrowed(text) => text.as_bytes(),
+            Text::Shared(text) => text.as_bytes(),
+        }
+    }
+}
+
+/// What a parser gives: an event, the fault that ends the events, or `None` behind them.
+pub type Item = Option<Result<(Event<'static>, Span), ScanError>>;
+
+/// A parser of the library, and the text that it reads.
+pub struct Face<'input> {
+    /// Has a parser, always, but for the call that clones it, which empties it and puts the parser back.
+    handle: Cell<Handle>,
+    /// Dropped when the parser was freed.
+    text: Text<'input>,
+}
+
+// SAFETY: the library keeps nothing outside of the handle, and asks for one call at a time, on whichever thread. So it
+// is, since a `Face` is no `Sync`: its handle is in a `Cell`.
+unsafe impl Send for Face<'_> {}
+
+impl<'input> Face<'input> {
+    /// A parser of a text.
+    pub fn new(text: Text<'input>, keep_tags: bool) -> Self {
+        // SAFETY: the call asks for nothing.
+        let version = unsafe { saphyr_version() };
+        assert_eq!(
+            version, VERSION,
+            "the library is of another version than this crate"
+        );
+        let (mut handle, bytes) = (EMPTY, text.as_bytes());
+        // SAFETY: the bytes may be read for their length. They stay where they are, unchanged, until `drop` frees the
+        // parser, since the text is borrowed or shared, and dropped after that. The handle is zeroed.
+        let status = unsafe { saphyr_new(bytes.as_ptr(), bytes.len(), keep_tags, &mut handle) };
+        expect(status, OK);
+        Face {
+            handle: Cell::new(handle),
+            text,
+        }
+    }
+
+    /// Hands out the next item.
+    pub fn next(&mut self) -> Item {
+        let mut record = Record::zeroed();
+        // SAFETY: the handle has a parser, which no other call uses, and the record is zeroed.
+        let status = unsafe { saphyr_next(self.handle.get_mut(), &mut record) };
+        // SAFETY: the call was the last one with the parser, and wrote the record.
+        unsafe { item_of(status, &record) }
+    }
+
+    /// Passes the next item.
+    pub fn pass(&mut self) {
+        let mut record = Record::zeroed();
+        // SAFETY: the handle has a parser, which no other call uses, and the record is zeroed.
+        let status = unsafe { saphyr_next(self.handle.get_mut(), &mut record) };
+        expect(status, EVENT);
+    }
+
+    /// Shows the item that `next` will hand out.
+    pub fn peek(&mut self) -> Item {
+        let mut record = Record::zeroed();
+        // SAFETY: the handle has a parser, which no other call uses, and the record is zeroed.
+        let status = unsafe { saphyr_peek(self.handle.get_mut(), &mut record) };
+        // SAFETY: the call was the last one with the parser, and wrote the record.
+        unsafe { item_of(status, &record) }
+    }
+
+    /// Says whether prefixes of tags hold for later documents too.
+    pub fn keep_tags(&mut self, value: bool) {
+        // SAFETY: the handle has a parser, which no other call uses.
+        let status = unsafe { saphyr_keep_tags(self.handle.get_mut(), value) };
+        expect(status, OK);
+    }
+}
+
+impl Clone for Face<'_> {
+    fn clone(&self) -> Self {
+        let mut handle = EMPTY;
+        // SAFETY: the first handle has a parser, which no other call uses, since a `Face` is no `Sync`. The second is
+        // zeroed, and its parser reads the same text, which is kept in the clone too.
+        let status = unsafe { saphyr_clone(self.handle.as_ptr(), &mut handle) };
+        expect(status, OK);
+        Face {
+            handle: Cell::new(handle),
+            text: self.text.clone(),
+        }
+    }
+}
+
+impl Drop for Face<'_> {
+    fn drop(&mut self) {
+        // SAFETY: the handle has a parser, which no other call uses, and none comes after this one.
+        unsafe { saphyr_free(self.handle.get_mut()) }
+    }
+}
+
+impl Record {
+    fn zeroed() -> Self {
+        Record {
+            kind: 0,
+            style: 0,
+            is_explicit: 0,
+            has_tag: 0,
+            anchor: 0,
+            start: Place::default(),
+            end: Place::default(),
+            value: NO_BYTES,
+            tag_handle: NO_BYTES,
+            tag_suffix: NO_BYTES,
+        }
+    }
+}
+
+/// What a call answered that hands out or shows the next item.
+///
+/// # Safety
+/// The call wrote the record, and no other came since with the same parser.
+unsafe fn item_of(status: i32, record: &Record) -> Item {
+    let span = Span::new(marker(&record.start), marker(&record.end));
+    match status {
+        // SAFETY: as of this function.
+        EVENT => Some(Ok((unsafe { event_of(record) }, span))),
+        // SAFETY: as of this function.
+        REFUSED => Some(Err(ScanError::new(span.start, unsafe {
+            text_of(&record.value)
+        }))),
+        _ => {
+            expect(status, END);
+            None
+        }
+    }
+}
+
+/// The event that a call wrote.
+///
+/// # Safety
+/// The same as of `item_of`.
+unsafe fn event_of(record: &Record) -> Event<'static> {
+    let anchor = record.anchor;
+    // SAFETY: as of this function.
+    let (value, tag) = unsafe { (text_of(&record.value), tag_of(record)) };
+    match record.kind {
+        1 => Event::StreamStart,
+        2 => Event::StreamEnd,
+        3 => Event::DocumentStart(record.is_explicit != 0),
+        4 => Event::DocumentEnd,
+        5 => Event::Alias(anchor),
+        6 => Event::Scalar(Cow::Owned(value), style(record.style), anchor, tag),
+        7 => Event::SequenceStart(anchor, tag),
+        8 => Event::SequenceEnd,
+        9 => Event::MappingStart(anchor, tag),
+        10 => Event::MappingEnd,
+        _ => Event::Nothing,
+    }
+}
+
+/// The tag of the event that a call wrote.
+///
+/// # Safety
+/// The same as of `item_of`.
+unsafe fn tag_of(record: &Record) -> Option<Cow<'static, Tag>> {
+    if record.has_tag == 0 {
+        return None;
+    }
+    // SAFETY: as of this function.
+    let (handle, suffix) = unsafe { (text_of(&record.tag_handle), text_of(&record.tag_suffix)) };
+    Some(Cow::Owned(Tag { handle, suffix }))
+}
+
+/// A copy of a text that a call wrote, or of none.
+///
+/// # Safety
+/// The same as of `item_of`, of the record that has it.
+unsafe fn text_of(bytes: &Bytes) -> String {
+    if bytes.len == 0 {
+        return String::new();
+    }
+    // SAFETY: the library gives texts in UTF-8, which may be read until the next call with the parser.
+    unsafe { str::from_utf8_unchecked(slice::from_raw_parts(bytes.at, bytes.len)) }.to_owned()
+}
+
+fn style(number: i32) -> ScalarStyle {
+    match number {
+        0 => ScalarStyle::Plain,
+        1 => ScalarStyle::SingleQuoted,
+        2 => ScalarStyle::DoubleQuoted,
+        3 => ScalarStyle::Literal,
+        _ => ScalarStyle::Folded,
+    }
+}
+
+fn marker(place: &Place) -> Marker {
+    Marker::new(place.index, place.line, place.col)
+}
+
+/// Goes on where the status is this one. Where memory ran out the process ends, as it does where a `Vec` can't grow.
+fn expect(status: i32, expected: i32) {
+    if status == NO_MEMORY {
+        handle_alloc_error(Layout::new::<Record>());
+    }
+    assert_eq!(
+        status, expected,
+        "the library answered what no such call of a live parser does"
+    );
+}

@@ -1,0 +1,41 @@
+//! A parser of YAML 1.2 into events, proved, with the names of the crate `saphyr-parser` 0.3.3.
+//!
+//! The events come from a static library that was proved to give them, which is written in Rattle. This crate hands
+//! them on under the names that users of `saphyr-parser` know: a crate that depends on that one changes a line of its
+//! manifest.
+//!
+//! ```
+//! use saphyr_parser::{Event, Parser, ScanError};
+//!
+//! fn scalars(text: &str) -> Result<Vec<String>, ScanError> {
+//!     let mut found = Vec::new();
+//!     for item in Parser::new_from_str(text) {
+//!         if let (Event::Scalar(value, ..), _span) = item? {
+//!             found.push(value.into_owned());
+//!         }
+//!     }
+//!     Ok(found)
+//! }
+//!
+//! assert_eq!(scalars("a: [b, 'c']").unwrap(), ["a", "b", "c"]);
+//! let refused = scalars("a: [b").unwrap_err();
+//! assert_eq!(refused.to_string(), "while parsing a flow sequence, expected ',' or ']' at byte 5 line 2 column 1");
+//! ```
+//!
+//! Where memory runs out the process ends, as it does where a `Vec` can't grow.
+
+#![warn(missing_docs)]
+#![deny(unsafe_code)]
+
+mod char_traits;
+mod event;
+#[allow(unsafe_code)]
+mod face;
+pub mod input;
+mod parser;
+mod scanner;
+
+pub use crate::event::{Event, EventReceiver, SpannedEventReceiver, Tag};
+pub use crate::input::{str::StrInput, BufferedInput, Input};
+pub use crate::parser::Parser;
+pub use crate::scanner::{Marker, ScalarStyle, ScanError, Span};

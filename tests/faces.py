@@ -1,0 +1,181 @@
+#!/usr/bin/env python3
+"""Tests the faces for C and for Rust of the library of crates/saphyr_parser_c, which `rt lib` left in its out/, or makes it.
+
+    tests/faces.py
+
+Builds the C programs of tests/faces and the crate of rust/, and runs each case of crates/event_cases/data through
+both: their events and places are to be the case's, and its lines those that `dump_events` prints. The C face is
+misused, each request for memory over the worked texts is refused in turn, and where valgrind is there, it looks for
+leaks. Where there is no compiler of C or no cargo, it says so, and tests nothing. SAPHYR_PARSER_LIB may name another
+folder with the library, as an absolute path.
+"""
+import concurrent.futures
+import os
+import re
+import resource
+import shutil
+import subprocess
+import sys
+import tempfile
+
+from refused_memory import DATA, ROOT, cases_of, judge_lines, program, refuser, sweep, unescaped
+
+CRATE = f"{ROOT}/crates/saphyr_parser_c"
+PROGRAMS = ("cases", "dump_events", "misuse")
+HOW = ["-std=c11", "-D_GNU_SOURCE", "-O2", "-Wall", "-Wextra", f"-I{CRATE}"]
+VALGRIND = ["valgrind", "-q", "--error-exitcode=99", "--leak-check=full", "--errors-for-leak-kinds=definite,indirect"]
+FAILED = []
+
+
+def fail(said):
+    """Says what is wrong, of the first twenty."""
+    FAILED.append(said)
+    if len(FAILED) <= 20:
+        print(said)
+
+
+def libraries():
+    """The proved library, and the kit's for memory."""
+    folder = os.environ.get("SAPHYR_PARSER_LIB") or f"{CRATE}/out"
+    kit = os.path.dirname(os.path.dirname(os.path.realpath(shutil.which("rt") or "")))
+    if folder == f"{CRATE}/out" and not os.path.isfile(f"{folder}/libsaphyr_parser_c.a"):
+        make_library(kit)
+    of_kit = [f"{it}/liblibc_c.a" for it in (folder, f"{kit}/c")]
+    return [f"{folder}/libsaphyr_parser_c.a", next(filter(os.path.isfile, of_kit), of_kit[0])]
+
+
+def make_library(kit):
+    """Compiles the library over those that `rt ci` left, in a minute or two, which `rt lib` would prove again."""
+    sys.path.insert(0, f"{kit}/bin")
+    import rtlib  # the module of the kit's command `rt`
+
+    crate = rtlib.Crate(CRATE, ROOT, {})
+    os.makedirs(f"{CRATE}/out", exist_ok=True)
+    with open(os.devnull, "w", encoding="utf-8") as crate.out:
+        proved = all(os.path.isdir(below.rlib) for below in crate.below())
+        if proved and not crate.compile(["--jobs", "2"], "out/libsaphyr_parser_c.a"):
+            return
+    call(["rt", "lib"], CRATE)
+
+
+def built(folder, compiler):
+    """The C programs and the Rust example, by their names."""
+    call([compiler, "-std=c99", "-pedantic-errors", "-fsyntax-only", f"{CRATE}/saphyr_parser.h"], ROOT)
+    made, to_link = {}, libraries()
+    for name in PROGRAMS:
+        made[name] = f"{folder}/{name}"
+        call([compiler, *HOW, f"{ROOT}/tests/faces/{name}.c", *to_link, "-o", made[name]], ROOT)
+    cargo("build", "--example", "dump_events")
+    made["rust"] = os.environ.get("CARGO_TARGET_DIR", f"{ROOT}/rust/target") + "/release/examples/dump_events"
+    return made
+
+
+def call(words, folder):
+    """Runs a command, and ends with what it says where it fails."""
+    ran = subprocess.run(words, cwd=folder, capture_output=True)
+    if ran.returncode:
+        sys.exit(f"{' '.join(words)} in {folder} fails:\n{ran.stdout.decode()}{ran.stderr.decode()}")
+
+
+def cargo(*words):
+    call(["cargo", *words, "--release", "--offline", "--quiet"], f"{ROOT}/rust")
+
+
+def listed(case):
+    """The lines of a case, as `cases` is to print them."""
+    lines = case.block.rstrip("\n").split("\n")[2:]
+    return "".join(f"{unescaped(line)}\n" for line in lines).encode()
+
+
+def framed(case):
+    text = case.text.encode()
+    return b"%d %d\n" % (case.keeps_tags, len(text)) + text
+
+
+def check_lists(made, cases):
+    """Each case through C in one process, with its places."""
+    ran = subprocess.run([made["cases"]], input=b"".join(map(framed, cases)), capture_output=True)
+    answers = ran.stdout.split(b"\xff")[:-1]
+    if ran.returncode or len(answers) != len(cases):
+        fail(f"C stopped with status {ran.returncode} behind {len(answers)} of {len(cases)} cases")
+    for case, answer in zip(cases, answers):
+        if answer != listed(case):
+            fail(f"{case.name}, in C: {answer.decode()!r}")
+
+
+def check_lines(case):
+    """What the program `dump_events` prints of a case are its lines."""
+    ran = subprocess.run([program("dump_events")], input=case.text.encode(), capture_output=True, close_fds=False)
+    lines = "".join(f"{event}\n" for event in case.events).encode()
+    fault = f"{case.fault}\n".encode() if case.fault else b""
+    if not case.keeps_tags and (ran.stdout, ran.stderr) != (lines, fault):
+        fail(f"{case.name}, by dump_events: {ran.stdout!r} {ran.stderr!r}")
+
+
+def judge_c(case, run):
+    """What is wrong with a run of the C program that prints events."""
+    return judge_lines(case, "-", run)
+
+
+def judge_rust(case, run):
+    """What is wrong with a run of the Rust example, which ends as Rust programs do where memory runs out."""
+    wrong = judge_c(case, run)
+    lines = "".join(f"{event}\n" for event in case.events)
+    if wrong and run.was_refused and run.status in (-6, 1) and lines.startswith(run.out):
+        return None if re.search("memory allocation of|out of memory|can't write", run.err) else wrong
+    return wrong
+
+
+def refuse_each(made, library, case):
+    """Refuses each request for memory of a case in turn. How many there were."""
+    refused = 0
+    for name, judge in (("dump_events", judge_c), ("rust", judge_rust)):
+        count, wrong = sweep(library, [made[name]], case.text, lambda run: judge(case, run))
+        refused += count
+        if wrong:
+            fail(f"{case.name}, {name}, {wrong}")
+    return refused
+
+
+def look_for_leaks(made, cases):
+    """Runs the programs under valgrind."""
+    texts = [case for case in cases if case.name in ("worked 001", "worked 004", "worked 043")]
+    runs = [("misuse", b""), ("cases", b"".join(map(framed, cases)))]
+    runs += [(name, case.text.encode()) for name in ("dump_events", "rust") for case in texts]
+    for name, text in runs:
+        ran = subprocess.run([*VALGRIND, made[name]], input=text, capture_output=True)
+        if ran.returncode not in (0, 1):
+            fail(f"{name} under valgrind: {ran.stderr.decode()}")
+
+
+def main():
+    compiler = shutil.which("cc") or shutil.which("clang")
+    lacking = [name for name, found in (("compiler of C", compiler), ("cargo", shutil.which("cargo"))) if not found]
+    if lacking:
+        print(f"faces: not tested, since there is no {' and no '.join(lacking)}")
+        return 0
+    resource.setrlimit(resource.RLIMIT_CORE, (0, 0))
+    os.environ["RUST_BACKTRACE"] = "0"
+    cases = [case for file in sorted(os.listdir(DATA)) for case in cases_of(file)]
+    worked = cases_of("worked.txt")
+    with tempfile.TemporaryDirectory() as folder, concurrent.futures.ThreadPoolExecutor(os.cpu_count()) as pool:
+        made = built(folder, compiler)
+        check_lists(made, cases)
+        list(pool.map(check_lines, (case for case in cases if not case.name.startswith("cut "))))
+        cargo("test")
+        said = subprocess.run([made["misuse"]], capture_output=True).stdout.decode()
+        if said:
+            fail(said)
+        library = refuser(folder)
+        swept = [case for case in worked if not case.keeps_tags]
+        refused = sum(pool.map(lambda case: refuse_each(made, library, case), swept))
+        leaks = "no valgrind"
+        if shutil.which("valgrind"):
+            look_for_leaks(made, worked)
+            leaks = "no leak"
+    print(f"faces: {len(cases)} texts, {refused} requests refused, {leaks}; {len(FAILED)} answered otherwise")
+    return 1 if FAILED else 0
+
+
+if __name__ == "__main__":
+    sys.exit(main())

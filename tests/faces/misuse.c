@@ -1,0 +1,181 @@
+/*
+ * Calls of the C face with empty handles, texts that are not UTF-8, handles in use, and events with old fields. Prints
+ * what isn't answered as the header says. Run under valgrind, it also shows what isn't freed.
+ */
+#include "saphyr_parser.h"
+
+#include <stdio.h>
+#include <stdlib.h>
+#include <string.h>
+
+static int failed = 0;
+
+static void expect(int32_t found, int32_t wanted, const char *what) {
+    if (found != wanted) {
+        printf("%s: %d, and not %d\n", what, (int)found, (int)wanted);
+        failed = 1;
+    }
+}
+
+static int32_t make(const char *text, saphyr_parser *parser) {
+    return saphyr_new((const uint8_t *)text, strlen(text), false, parser);
+}
+
+/* Each call of an empty handle says that there is no parser, and empties the event. */
+static void expect_empty(saphyr_parser *parser, const char *what) {
+    saphyr_event event = {0};
+    event.kind = SAPHYR_SCALAR;
+    event.anchor = 7;
+    saphyr_parser copy = {0};
+    expect(parser->at == NULL, true, what);
+    expect(saphyr_next(parser, &event), SAPHYR_NO_PARSER, what);
+    expect(event.kind, SAPHYR_NOTHING, what);
+    expect((int32_t)event.anchor, 0, what);
+    expect(saphyr_peek(parser, &event), SAPHYR_NO_PARSER, what);
+    expect(saphyr_keep_tags(parser, true), SAPHYR_NO_PARSER, what);
+    expect(saphyr_clone(parser, &copy), SAPHYR_NO_PARSER, what);
+    expect(copy.at == NULL, true, what);
+}
+
+static void frees_twice(void) {
+    saphyr_parser parser = {0};
+    expect_empty(&parser, "a zeroed handle");
+    saphyr_free(&parser);
+    expect_empty(&parser, "a zeroed handle that was freed");
+    expect(make("a", &parser), SAPHYR_OK, "a text");
+    saphyr_free(&parser);
+    saphyr_free(&parser);
+    expect_empty(&parser, "a handle that was freed twice");
+}
+
+static void refuses_bytes(void) {
+    const char *texts[] = {"\xff",         "a\x80",        "\xc3",         "\xc0\x80",     "\xe0\x80\x80",
+                           "\xed\xa0\x80", "\xf0\x9f\x98", "\xf4\x90\x80\x80", "\xf8\x88\x80\x80\x80", "a: \xe2\x82"};
+    for (size_t at = 0; at < sizeof texts / sizeof *texts; at++) {
+        saphyr_parser parser = {0};
+        expect(make(texts[at], &parser), SAPHYR_NOT_UTF8, "bytes that are not UTF-8");
+        expect_empty(&parser, "a handle for bytes that are not UTF-8");
+        expect(make("[a]", &parser), SAPHYR_OK, "a text");
+        expect(make(texts[at], &parser), SAPHYR_NOT_UTF8, "bytes over a live parser");
+        expect_empty(&parser, "a handle that had a parser before such bytes");
+    }
+}
+
+/* A parser over a live one, at each place of that. */
+static void replaces(void) {
+    for (int taken = 0; taken < 9; taken++) {
+        saphyr_parser parser = {0}, copy = {0};
+        saphyr_event event = {0};
+        expect(make("&a !t [b, 'c', *a]", &parser), SAPHYR_OK, "a text");
+        for (int at = 0; at < taken; at++) {
+            expect(saphyr_next(&parser, &event), at < 9 ? SAPHYR_EVENT : SAPHYR_END, "an event");
+        }
+        expect(saphyr_peek(&parser, &event), SAPHYR_EVENT, "a peeked event");
+        expect(make("x: y", &copy), SAPHYR_OK, "a text");
+        expect(saphyr_clone(&parser, &copy), SAPHYR_OK, "a clone over a live parser");
+        expect(make("b: c", &parser), SAPHYR_OK, "a text over a live parser");
+        int events = 0;
+        while (saphyr_next(&parser, &event) == SAPHYR_EVENT) {
+            events++;
+        }
+        expect(events, 8, "events of the second text");
+        expect(saphyr_next(&parser, &event), SAPHYR_END, "behind the end");
+        expect(event.kind, SAPHYR_NOTHING, "behind the end");
+        for (events = 0; saphyr_next(&copy, &event) == SAPHYR_EVENT; events++) {
+        }
+        expect(events, 9 - taken, "events of the clone, whose parser is gone");
+        saphyr_free(&parser);
+        saphyr_free(&copy);
+    }
+}
+
+/* Whether all fields are 0 and NULL but the kind and the places. */
+static bool is_bare(const saphyr_event *event) {
+    return !event->style && !event->is_explicit && !event->has_tag && !event->anchor && !event->value.at &&
+           !event->value.len && !event->tag_handle.at && !event->tag_handle.len && !event->tag_suffix.at &&
+           !event->tag_suffix.len;
+}
+
+static void writes_each_field(void) {
+    saphyr_parser parser = {0};
+    saphyr_event event = {0};
+    expect(make("--- &a !!str >\n b\n", &parser), SAPHYR_OK, "a text");
+    while (saphyr_next(&parser, &event) == SAPHYR_EVENT) {
+        bool is_scalar = event.kind == SAPHYR_SCALAR, is_start = event.kind == SAPHYR_DOCUMENT_START;
+        expect(is_bare(&event), !is_scalar && !is_start, "an event without old fields");
+        expect(event.style, is_scalar ? SAPHYR_FOLDED : SAPHYR_PLAIN, "the style");
+        expect(event.is_explicit, is_start, "whether a document is explicit");
+        expect((int32_t)event.anchor, is_scalar, "the anchor");
+        expect(event.has_tag, is_scalar, "whether there is a tag");
+        expect(event.start.line >= 1 && event.end.line >= event.start.line, true, "the places");
+    }
+    expect(event.kind == SAPHYR_NOTHING && is_bare(&event), true, "no event without old fields");
+    expect(event.start.line == 0 && event.end.line == 0, true, "no event without old places");
+    saphyr_free(&parser);
+}
+
+static void refuses_once(void) {
+    static const char said[] = "while parsing a flow sequence, expected ',' or ']'";
+    saphyr_parser parser = {0};
+    saphyr_event event = {0};
+    expect(make("&x [a", &parser), SAPHYR_OK, "a text");
+    while (saphyr_next(&parser, &event) == SAPHYR_EVENT && event.kind != SAPHYR_SCALAR) {
+    }
+    for (int call = 0; call < 3; call++) {
+        int32_t status = call < 2 ? saphyr_peek(&parser, &event) : saphyr_next(&parser, &event);
+        expect(status, SAPHYR_REFUSED, "a fault");
+        expect(event.kind, SAPHYR_NOTHING, "the kind of a fault");
+        expect(event.value.len == strlen(said) && !memcmp(event.value.at, said, event.value.len), true, "its text");
+        expect(event.start.index == 5 && event.start.line == 2 && event.start.col == 0, true, "its place");
+        expect(memcmp(&event.start, &event.end, sizeof event.start), 0, "both places of a fault");
+    }
+    expect(saphyr_peek(&parser, &event), SAPHYR_END, "a peek behind a fault");
+    expect(saphyr_next(&parser, &event), SAPHYR_END, "behind a fault");
+    expect(event.kind == SAPHYR_NOTHING && is_bare(&event), true, "nothing behind a fault");
+    saphyr_free(&parser);
+}
+
+/* The text of a live parser is read where it is, and may be freed once the parser is. */
+static void reads_in_place(void) {
+    char *text = strdup("[a, b]");
+    saphyr_parser parser = {0};
+    saphyr_event event = {0};
+    expect(make(text, &parser), SAPHYR_OK, "a text");
+    expect(saphyr_next(&parser, &event), SAPHYR_EVENT, "an event");
+    saphyr_free(&parser);
+    free(text);
+    expect_empty(&parser, "a handle whose text is gone");
+}
+
+/* The prefixes of tags hold for the second document where they are kept from the end of the first on. */
+static void keeps_tags(void) {
+    static const char text[] = "%TAG !e! tag:e,2000:\n--- !e!a b\n--- !e!c d\n";
+    for (int kept = 0; kept < 3; kept++) {
+        saphyr_parser parser = {0};
+        saphyr_event event = {0};
+        int32_t status = saphyr_new((const uint8_t *)text, strlen(text), kept == 1, &parser);
+        expect(status, SAPHYR_OK, "a text with a directive");
+        int scalars = 0;
+        while ((status = saphyr_next(&parser, &event)) == SAPHYR_EVENT) {
+            scalars += event.kind == SAPHYR_SCALAR;
+            if (event.kind == SAPHYR_SCALAR && kept == 2) {
+                expect(saphyr_keep_tags(&parser, true), SAPHYR_OK, "keeping tags");
+            }
+        }
+        expect(status, kept ? SAPHYR_END : SAPHYR_REFUSED, "a handle in the second document");
+        expect(scalars, kept ? 2 : 1, "scalars with that handle");
+        saphyr_free(&parser);
+    }
+}
+
+int main(void) {
+    expect((int32_t)saphyr_version(), (int32_t)SAPHYR_VERSION, "the version");
+    frees_twice();
+    refuses_bytes();
+    replaces();
+    writes_each_field();
+    refuses_once();
+    reads_in_place();
+    keeps_tags();
+    return failed;
+}
