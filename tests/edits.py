@@ -13,6 +13,7 @@ older than its source, is proved first.
 """
 import concurrent.futures
 import dataclasses
+import difflib
 import glob
 import os
 import re
@@ -28,6 +29,11 @@ import rtlib  # the module of the kit's command `rt`
 
 # What the prover says of a function that it could not judge by itself.
 WAITS = re.compile(r"it calls |it passes |it waits |which (is|are) not proved|has not tried|could not tell")
+# What it says of a proof file that names what is not there.
+LACKS_A_NAME = re.compile(r"has no field|is not in scope|has no `|was not admitted")
+
+# What may stand in the prover's name of a type behind the type's own.
+ANY = r"[\w+]*"
 
 
 @dataclasses.dataclass
@@ -82,7 +88,7 @@ def owner_of(header):
     argument = re.search(rf"\b{last(of_trait)}<(\w+)>", named[2]) if of_trait else None
     is_any = re.match(rf" ?<(?:[^<>]*, )?{last(of_type)}\b", named[2])
     of_type = "Any" if is_any and of_trait else last(of_type)
-    return of_type + r"[\w+]*" + last(of_trait) + (argument[1] if argument else "")
+    return of_type + ANY + last(of_trait) + (argument[1] if argument else "")
 
 
 def function_at(crate, path, code, at):
@@ -104,25 +110,32 @@ def function_at(crate, path, code, at):
     return (crate.name, *inside, *modules, owner, heads[-1][1])
 
 
+def functions_of(crate, path, text, code):
+    """The functions of a file that differ in another text of it; `code` is the file without comments and strings."""
+    with open(f"{crate.folder}/{path}", encoding="utf-8") as file:
+        was, now = file.read().split("\n"), text.split("\n")
+    lines, found = code.split("\n"), set()
+    for tag, i, _, j, _ in difflib.SequenceMatcher(None, was, now, autojunk=False).get_opcodes():
+        if tag != "equal":
+            same = os.path.commonprefix(["".join(was[i : i + 1]), "".join(now[j : j + 1])])
+            found.add(function_at(crate, path, code, len("\n".join([*lines[:i], same]))))
+    return found
+
+
 def edits_of(crate, names):
     """The edits of a crate, and a line for each that cannot be applied."""
     edits, wrong = [], []
     codes = rtlib.blanked(crate.folder)
     for file in sorted(glob.glob(f"{crate.folder}/edits/*.edit")):
-        name = os.path.basename(file).removesuffix(".edit")
-        if names and name not in names:
+        edit = Edit(os.path.basename(file).removesuffix(".edit"), read_edit(file), set())
+        if names and edit.name not in names:
             continue
-        edit, texts = Edit(name, read_edit(file), set()), {}
-        for path, old, new in edit.changes:
-            why = apply([(path, old, new)], texts, crate.folder)
-            if why:
-                wrong.append(f"{crate.name}/{name}: {why}")
-                break
-            with open(f"{crate.folder}/{path}", encoding="utf-8") as plain:
-                at = plain.read().find(old)
-            if at >= 0:
-                at += len(os.path.commonprefix([old, new]))
-                edit.functions.add(function_at(crate, path, codes[f"{crate.folder}/{path}"], at))
+        texts = {}
+        why = apply(edit.changes, texts, crate.folder)
+        for path, text in texts.items():
+            edit.functions |= functions_of(crate, path, text, codes[f"{crate.folder}/{path}"])
+        if why:
+            wrong.append(f"{crate.name}/{edit.name}: {why}")
         else:
             edits.append(edit)
     return edits, wrong
@@ -140,8 +153,10 @@ def batch_of(edits, folder):
     return batch, texts
 
 
-def check(crate, texts, kept):
-    """What the prover says of a crate with these texts in place of its own."""
+def check(crate, texts, functions, kept):
+    """What the prover says of these functions, and of what they call, with these texts in place of the crate's own; of
+    all functions where none are given."""
+    only = [word for it in sorted(functions) for word in ("--only", named(it))]
     with tempfile.TemporaryDirectory(prefix="edits-") as room:
         for part in ("src", "specs", "proofs"):
             if os.path.isdir(f"{crate.folder}/{part}"):
@@ -149,9 +164,15 @@ def check(crate, texts, kept):
         for path, text in texts.items():
             with open(f"{room}/{path}", "w", encoding="utf-8") as file:
                 file.write(text)
-        words = [*rtlib.guarded(), rtlib.RATTLE, "check", *crate.words(["--jobs", "1"]), "--incremental", kept]
+        words = [*rtlib.guarded(), rtlib.RATTLE, "check", *crate.words(["--jobs", "1", *only]), "--incremental", kept]
         ran = subprocess.run(words, cwd=room, stdin=subprocess.DEVNULL, stdout=subprocess.PIPE, stderr=subprocess.STDOUT)
         return ran.stdout.decode(errors="replace")
+
+
+def named(function):
+    """The end of the prover's name of a function."""
+    owner = function[-2].replace(ANY, "")
+    return f"{owner}::{function[-1]}" if owner else function[-1]
 
 
 def verdict_of(function, said):
@@ -168,6 +189,13 @@ def verdict_of(function, said):
 def is_refused(verdict):
     """Whether the prover refused a function for what its own body does."""
     return bool(verdict) and verdict != "proved" and not WAITS.search(verdict)
+
+
+def is_for_a_name(function, said):
+    """Whether a function lacks its proof only because a proof file names what the edit took away. That says little."""
+    owner = f"{function[-2]}/" if function[-2] else ""
+    own = re.findall(rf"(?m)^(?:\./)?proofs/(?:[\w+]+/)*{owner}{function[-1]}/\S+ error: (.*)$", said)
+    return verdict_of(function, said) == "not proved" and bool(own) and all(map(LACKS_A_NAME.search, own))
 
 
 def judge_batch(edits, said):
@@ -193,11 +221,14 @@ def judge(crate, names):
         while left or alone:
             begun = time.time()
             batch, texts = batch_of(left or alone[:1], crate.folder)
-            said = check(crate, texts, kept)
-            if not re.search(r"(?m)^logic=(not-)?proved", said):
+            said = check(crate, texts, set().union(*(it.functions for it in batch)) - {()}, kept)
+            if not re.search(r"(?m)^(logic=(not-)?proved|only=)", said):
                 wrong.append(f"{crate.name}: no verdict on {', '.join(it.name for it in batch)}: {said[:1500]}")
                 break
             refused, proved = judge_batch(batch, said)
+            for edit in refused:
+                if edit.functions and all(it and is_for_a_name(it, said) for it in edit.functions):
+                    print(f"{crate.name}/{edit.name}: refused only because a proof file names what it took away")
             wrong += [f"{crate.name}/{it.name}: NOT REFUSED" for it in proved]
             if not refused and not proved:
                 wrong.append(f"{crate.name}/{batch[0].name}: not judged: {sorted(batch[0].functions)}")

@@ -6,8 +6,6 @@
  */
 #include "printing.h"
 
-#include <string.h>
-
 /* What a call answered, and its line: none where there was nothing to give. */
 struct answer {
     int32_t status;
@@ -19,7 +17,10 @@ static void print_answer(FILE *out, int32_t status, const saphyr_event *event) {
     const saphyr_marker *start = &event->start, *end = &event->end;
     if (status == SAPHYR_EVENT) {
         fputs("> ", out);
-        print_event(out, event);
+        static struct printer line;
+        line.file = out;
+        print_event(&line, event);
+        flush(&line);
         fputs(event->is_explicit ? " ---" : "", out);
         fprintf(out, " @ %zu,%zu,%zu", start->index, start->line, start->col);
         fprintf(out, " %zu,%zu,%zu\n", end->index, end->line, end->col);

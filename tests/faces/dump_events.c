@@ -7,7 +7,8 @@
  */
 #include "printing.h"
 
-static char written[1 << 16], read_ahead[1 << 16];
+static char read_ahead[1 << 16];
+static struct printer out;
 
 static int dump(const uint8_t *text, size_t len) {
     saphyr_parser parser = {0};
@@ -15,10 +16,11 @@ static int dump(const uint8_t *text, size_t len) {
     int32_t status = saphyr_new(text, len, false, &parser);
     if (status == SAPHYR_OK) {
         while ((status = saphyr_next(&parser, &event)) == SAPHYR_EVENT) {
-            print_event(stdout, &event);
-            putchar_unlocked('\n');
+            print_event(&out, &event);
+            print_byte(&out, '\n');
         }
     }
+    flush(&out);
     fflush(stdout);
     switch (status) {
     case SAPHYR_REFUSED:
@@ -39,7 +41,7 @@ int main(int count, char **words) {
         return 1;
     }
     setvbuf(file, read_ahead, _IOFBF, sizeof read_ahead);
-    setvbuf(stdout, written, _IOFBF, sizeof written);
+    out.file = stdout;
     size_t len;
     uint8_t *text = read_all(file, &len);
     if (!text) {

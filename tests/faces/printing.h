@@ -1,5 +1,4 @@
-/* The line of an event, as `dump_events` prints it, and what reads a whole file. One thread writes, so that no file is
-   locked for each piece. */
+/* The line of an event, as `dump_events` prints it, and what reads a whole file. */
 #ifndef PRINTING_H
 #define PRINTING_H
 
@@ -7,71 +6,142 @@
 
 #include <stdio.h>
 #include <stdlib.h>
+#include <string.h>
 
-static inline void print_text(FILE *out, saphyr_text text) {
-    if (text.len > 0) {
-        fwrite_unlocked(text.at, 1, text.len, out);
+/* Lines on their way to a file: what is used of the bytes is not written yet. */
+struct printer {
+    FILE *file;
+    size_t used;
+    char bytes[1 << 16];
+};
+
+/* The longest piece that is put into a printer's bytes at once. */
+enum { PIECE = 1 << 14 };
+
+static inline void flush(struct printer *out) {
+    fwrite(out->bytes, 1, out->used, out->file);
+    out->used = 0;
+}
+
+static inline void make_room(struct printer *out, size_t len) {
+    if (sizeof out->bytes - out->used < len) {
+        flush(out);
     }
 }
 
-/* What stands for a byte of a scalar's text, or NULL where it stands for itself. */
-static inline const char *escape_of(uint8_t byte) {
+static inline void print_bytes(struct printer *out, const void *bytes, size_t len) {
+    const char *at = bytes;
+    while (len > 0) {
+        size_t piece = len < PIECE ? len : PIECE;
+        make_room(out, piece);
+        memcpy(out->bytes + out->used, at, piece);
+        out->used += piece;
+        at += piece;
+        len -= piece;
+    }
+}
+
+static inline void print_text(struct printer *out, saphyr_text text) {
+    print_bytes(out, text.at, text.len);
+}
+
+static inline void print_name(struct printer *out, const char name[5]) {
+    make_room(out, 4);
+    memcpy(out->bytes + out->used, name, 4);
+    out->used += 4;
+}
+
+static inline void print_byte(struct printer *out, char byte) {
+    make_room(out, 1);
+    out->bytes[out->used++] = byte;
+}
+
+static inline void print_number(struct printer *out, const char *before, size_t number) {
+    make_room(out, 64);
+    out->used += (size_t)sprintf(out->bytes + out->used, "%s%zu", before, number);
+}
+
+/* The letter that stands behind a backslash for a byte of a scalar's text, or 0 where it stands for itself. */
+static inline char escape_of(uint8_t byte) {
     switch (byte) {
-    case '\\': return "\\\\";
-    case '\n': return "\\n";
-    case '\r': return "\\r";
-    case '\t': return "\\t";
-    case '\b': return "\\b";
-    default: return NULL;
+    case '\\': return '\\';
+    case '\n': return 'n';
+    case '\r': return 'r';
+    case '\t': return 't';
+    case '\b': return 'b';
+    default: return 0;
     }
 }
 
-static inline void print_escaped(FILE *out, saphyr_text text) {
-    size_t printed = 0;
-    for (size_t at = 0; at < text.len; at++) {
-        bool may_be_escaped = text.at[at] < ' ' || text.at[at] == '\\';
-        const char *escape = may_be_escaped ? escape_of(text.at[at]) : NULL;
-        if (escape) {
-            fwrite_unlocked(text.at + printed, 1, at - printed, out);
-            fputs_unlocked(escape, out);
-            printed = at + 1;
+/* Whether one of eight bytes may need an escape: it is less than a space, or a backslash. */
+static inline bool may_need_escapes(uint64_t word) {
+    const uint64_t each = UINT64_C(0x0101010101010101);
+    uint64_t slashes = word ^ (each * '\\');
+    uint64_t less = (word - each * ' ') & ~word, equal = (slashes - each) & ~slashes;
+    return ((less | equal) & (each * 0x80)) != 0;
+}
+
+/* Spells a piece of a scalar's text, of which a byte takes two at most, and says where that ends. */
+static inline char *spell(char *to, const uint8_t *at, const uint8_t *end) {
+    while (at < end) {
+        uint64_t word;
+        if (end - at >= 8 && (memcpy(&word, at, 8), !may_need_escapes(word))) {
+            memcpy(to, &word, 8);
+            at += 8;
+            to += 8;
+            continue;
         }
+        char escape = *at < ' ' || *at == '\\' ? escape_of(*at) : 0;
+        if (escape) {
+            *to++ = '\\';
+        }
+        *to++ = escape ? escape : (char)*at;
+        at++;
     }
-    if (printed < text.len) {
-        fwrite_unlocked(text.at + printed, 1, text.len - printed, out);
+    return to;
+}
+
+static inline void print_escaped(struct printer *out, saphyr_text text) {
+    const uint8_t *at = text.at;
+    for (size_t left = text.len; left > 0;) {
+        size_t piece = left < PIECE ? left : PIECE;
+        make_room(out, 2 * piece);
+        out->used = (size_t)(spell(out->bytes + out->used, at, at + piece) - out->bytes);
+        at += piece;
+        left -= piece;
     }
 }
 
 /* The name of an event, and the properties of its node. */
-static inline void print_node(FILE *out, const char *name, const saphyr_event *event) {
-    fputs_unlocked(name, out);
+static inline void print_node(struct printer *out, const char name[5], const saphyr_event *event) {
+    print_name(out, name);
     if (event->anchor != 0) {
-        fprintf(out, " &%zu", event->anchor);
+        print_number(out, " &", event->anchor);
     }
     if (event->has_tag) {
-        fputs_unlocked(" <", out);
+        print_bytes(out, " <", 2);
         print_text(out, event->tag_handle);
         print_text(out, event->tag_suffix);
-        putc_unlocked('>', out);
+        print_byte(out, '>');
     }
 }
 
 /* The line of an event without its break. */
-static inline void print_event(FILE *out, const saphyr_event *event) {
+static inline void print_event(struct printer *out, const saphyr_event *event) {
     switch (event->kind) {
-    case SAPHYR_STREAM_START: fputs_unlocked("+STR", out); break;
-    case SAPHYR_STREAM_END: fputs_unlocked("-STR", out); break;
-    case SAPHYR_DOCUMENT_START: fputs_unlocked("+DOC", out); break;
-    case SAPHYR_DOCUMENT_END: fputs_unlocked("-DOC", out); break;
-    case SAPHYR_ALIAS: fprintf(out, "=ALI *%zu", event->anchor); break;
+    case SAPHYR_STREAM_START: print_name(out, "+STR"); break;
+    case SAPHYR_STREAM_END: print_name(out, "-STR"); break;
+    case SAPHYR_DOCUMENT_START: print_name(out, "+DOC"); break;
+    case SAPHYR_DOCUMENT_END: print_name(out, "-DOC"); break;
+    case SAPHYR_ALIAS: print_number(out, "=ALI *", event->anchor); break;
     case SAPHYR_SEQUENCE_START: print_node(out, "+SEQ", event); break;
-    case SAPHYR_SEQUENCE_END: fputs_unlocked("-SEQ", out); break;
+    case SAPHYR_SEQUENCE_END: print_name(out, "-SEQ"); break;
     case SAPHYR_MAPPING_START: print_node(out, "+MAP", event); break;
-    case SAPHYR_MAPPING_END: fputs_unlocked("-MAP", out); break;
+    case SAPHYR_MAPPING_END: print_name(out, "-MAP"); break;
     case SAPHYR_SCALAR:
         print_node(out, "=VAL", event);
-        putc_unlocked(' ', out);
-        putc_unlocked(":'\"|>"[event->style], out);
+        print_byte(out, ' ');
+        print_byte(out, ":'\"|>"[event->style]);
         print_escaped(out, event->value);
         break;
     }
@@ -80,7 +150,7 @@ static inline void print_event(FILE *out, const saphyr_event *event) {
 /* The line of a fault without its break. */
 static inline void print_fault(FILE *out, const saphyr_event *fault) {
     const saphyr_marker *at = &fault->start;
-    print_text(out, fault->value);
+    fwrite(fault->value.at, 1, fault->value.len, out);
     fprintf(out, " at byte %zu line %zu column %zu", at->index, at->line, at->col + 1);
 }
 
