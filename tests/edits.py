@@ -111,15 +111,19 @@ def function_at(crate, path, code, at):
 
 
 def functions_of(crate, path, text, code):
-    """The functions of a file that differ in another text of it; `code` is the file without comments and strings."""
+    """The functions of a file that differ in another text of it, and those that name a constant that differs; `code` is
+    the file without comments and strings."""
     with open(f"{crate.folder}/{path}", encoding="utf-8") as file:
         was, now = file.read().split("\n"), text.split("\n")
-    lines, found = code.split("\n"), set()
+    lines, places = code.split("\n"), []
     for tag, i, _, j, _ in difflib.SequenceMatcher(None, was, now, autojunk=False).get_opcodes():
-        if tag != "equal":
+        constant = re.match(r"const (\w+)", was[i]) if tag != "equal" else None
+        if constant:
+            places += [it.start() for it in re.finditer(rf"\b{constant[1]}\b", code)][1:]
+        elif tag != "equal":
             same = os.path.commonprefix(["".join(was[i : i + 1]), "".join(now[j : j + 1])])
-            found.add(function_at(crate, path, code, len("\n".join([*lines[:i], same]))))
-    return found
+            places.append(len("\n".join([*lines[:i], same])))
+    return {function_at(crate, path, code, at) for at in places}
 
 
 def edits_of(crate, names):
@@ -134,8 +138,8 @@ def edits_of(crate, names):
         why = apply(edit.changes, texts, crate.folder)
         for path, text in texts.items():
             edit.functions |= functions_of(crate, path, text, codes[f"{crate.folder}/{path}"])
-        if why:
-            wrong.append(f"{crate.name}/{edit.name}: {why}")
+        if why or not edit.functions or () in edit.functions:
+            wrong.append(f"{crate.name}/{edit.name}: {why or 'it changes no function'}")
         else:
             edits.append(edit)
     return edits, wrong
@@ -202,7 +206,7 @@ def judge_batch(edits, said):
     """Which of the edits were refused, and which were proved; what is in neither has to be tried again."""
     refused, proved = [], []
     for edit in edits:
-        verdicts = [verdict_of(it, said) for it in edit.functions if it] or re.findall(r"(?m)^fn \S+: (.*)$", said)
+        verdicts = [verdict_of(it, said) for it in edit.functions]
         if any(map(is_refused, verdicts)):
             refused.append(edit)
         elif all(it == "proved" for it in verdicts):
@@ -212,32 +216,25 @@ def judge_batch(edits, said):
 
 def judge(crate, names):
     """Tries the edits of a crate. Gives how many were refused, and a line for each that was not."""
-    edits, wrong = edits_of(crate, names)
-    # what stands outside of functions, as a constant, is tried alone
-    left = [it for it in edits if () not in it.functions]
-    alone = [it for it in edits if () in it.functions]
+    left, wrong = edits_of(crate, names)
     number = 0
     with tempfile.TemporaryDirectory(prefix="edits-kept-") as kept:
-        while left or alone:
+        while left:
             begun = time.time()
-            batch, texts = batch_of(left or alone[:1], crate.folder)
-            said = check(crate, texts, set().union(*(it.functions for it in batch)) - {()}, kept)
-            if not re.search(r"(?m)^(logic=(not-)?proved|only=)", said):
-                wrong.append(f"{crate.name}: no verdict on {', '.join(it.name for it in batch)}: {said[:1500]}")
-                break
+            batch, texts = batch_of(left, crate.folder)
+            said = check(crate, texts, set().union(*(it.functions for it in batch)), kept)
             refused, proved = judge_batch(batch, said)
-            for edit in refused:
-                if edit.functions and all(it and is_for_a_name(it, said) for it in edit.functions):
-                    print(f"{crate.name}/{edit.name}: refused only because a proof file names what it took away")
             wrong += [f"{crate.name}/{it.name}: NOT REFUSED" for it in proved]
             if not refused and not proved:
-                wrong.append(f"{crate.name}/{batch[0].name}: not judged: {sorted(batch[0].functions)}")
-                proved = batch[:1]
+                wrong.append(f"{crate.name}: no verdict on {', '.join(it.name for it in left)}: {said[-1500:]}")
+                break
+            for edit in refused:
+                if all(is_for_a_name(it, said) for it in edit.functions):
+                    print(f"{crate.name}/{edit.name}: refused only because a proof file names what it took away")
             number += len(refused)
             left = [it for it in left if it not in refused + proved]
-            alone = [it for it in alone if it not in refused + proved]
             seconds = time.time() - begun
-            print(f"{crate.name}: {len(refused)} of {len(batch)} refused, {len(left + alone)} left, {seconds:.0f} s", flush=True)
+            print(f"{crate.name}: {len(refused)} of {len(batch)} refused, {len(left)} left, {seconds:.0f} s", flush=True)
     return number, wrong
 
 
