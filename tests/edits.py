@@ -32,8 +32,9 @@ WAITS = re.compile(r"it calls |it passes |it waits |which (is|are) not proved|ha
 # What it says of a proof file that names what is not there.
 LACKS_A_NAME = re.compile(r"has no field|is not in scope|has no `|was not admitted")
 
-# What may stand in the prover's name of a type behind the type's own.
+# What stands in the prover's name of a method behind its type: maybe a trait, or a type that is the type's argument.
 ANY = r"[\w+]*"
+OF_ARGUMENT = r"\+[\w+]*"
 
 
 @dataclasses.dataclass
@@ -87,6 +88,8 @@ def owner_of(header):
     last = lambda path: path.split("::")[-1].strip()
     argument = re.search(rf"\b{last(of_trait)}<(\w+)>", named[2]) if of_trait else None
     is_any = re.match(rf" ?<(?:[^<>]*, )?{last(of_type)}\b", named[2])
+    if not of_trait and re.search(rf"\b{last(of_type)}<[^<>]*<", named[2]):
+        return last(of_type) + OF_ARGUMENT
     of_type = "Any" if is_any and of_trait else last(of_type)
     return of_type + ANY + last(of_trait) + (argument[1] if argument else "")
 
@@ -175,8 +178,8 @@ def check(crate, texts, functions, kept):
 
 def named(function):
     """The end of the prover's name of a function."""
-    owner = function[-2].replace(ANY, "")
-    return f"{owner}::{function[-1]}" if owner else function[-1]
+    owner, name = function[-2:]
+    return name if not owner or owner.endswith(OF_ARGUMENT) else f"{owner.replace(ANY, '')}::{name}"
 
 
 def verdict_of(function, said):
