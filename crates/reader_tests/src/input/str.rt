@@ -2,7 +2,8 @@
 
 ghost use Rattle.std.specs.Prelude.{◌≡◌};
 
-use super::*;
+use saphyr_input::StrInput;
+use saphyr_input::input::{Input, SkipTabs};
 use std::process::Abort;
 use std::test::Fail;
 

@@ -1,6 +1,6 @@
 //! Quoted scalars, their ends and their faults.
-use crate::{FaultText, Marker, Reader, Refusal, Stop};
 use saphyr_input::StrInput;
+use saphyr_scalar::{FaultText, Marker, Reader, Refusal, Stop};
 use std::alloc::Global;
 use std::process::Abort;
 use std::test::Fail;

@@ -2,8 +2,8 @@ use Rattle.std.proofs.Common.{◌≡◌, ℕ, ◌+◌, ◌<◌, [], ◌∷◌, O
 use Rattle.std.specs.Prelude.{⊤, ◌==◌, if◌then◌else◌}
 use Rattle.std.proofs.Props.{props}
 use Rattle.saphyr_input.specs.Listed.{Lists, IsCallable}
-use Rattle.saphyr_input.specs.declared.input.buffered.tests.Stutter.{Stutter}
-use Rattle.saphyr_input.proofs.input.buffered.tests.stuttering.Goals as goal
+use Rattle.reader_tests.specs.declared.input.buffered.Stutter.{Stutter}
+use Rattle.reader_tests.proofs.input.buffered.stuttering.Goals as goal
 
 abbrev gives : Stutter → Option ℕ → Stutter → Type 0
 gives s r t = (r ≡ (if s.place == 0 then Some 97 else (if s.place == 2 then Some 98 else None)))

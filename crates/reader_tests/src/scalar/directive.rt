@@ -1,8 +1,8 @@
 //! Directives, the places behind them, and their faults.
 
-use crate::{Directive, DirectiveLine, FaultText, Marker, Reader, Refusal, Stop};
 use saphyr_input::StrInput;
 use saphyr_input::input::SkipTabs;
+use saphyr_scalar::{Directive, DirectiveLine, FaultText, Marker, Reader, Refusal, Stop};
 use std::alloc::Global;
 use std::test::Fail;
 

@@ -2,8 +2,8 @@ use Rattle.std.proofs.Common.{◌≡◌, ℕ, ◌+◌, ◌<◌, [], ◌∷◌, O
 use Rattle.std.specs.Prelude.{⊤, ◌==◌, if◌then◌else◌}
 use Rattle.std.proofs.Props.{props}
 use Rattle.saphyr_input.specs.Listed.{Lists, IsCallable}
-use Rattle.saphyr_parser.specs.declared.parser.loading.tests.Stutter.{Stutter}
-use Rattle.saphyr_parser.proofs.parser.loading.tests.cut_short.Goals as goal
+use Rattle.parser_tests.specs.declared.loading.Stutter.{Stutter}
+use Rattle.parser_tests.proofs.loading.cut_short.Goals as goal
 
 abbrev gives : Stutter → Option ℕ → Stutter → Type 0
 gives s r t = (r ≡ (if s.place == 0 then Some 97 else

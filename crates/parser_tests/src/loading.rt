@@ -1,6 +1,6 @@
 //! What `load` hands over and where it stops: at a document's end, at a fault, and where the receiver refuses.
 
-use crate::{
+use saphyr_parser::{
     BufferedInput, Event, EventReceiver, Fault, Marker, Parser, Refused, Span, SpannedEventReceiver,
 };
 use std::alloc::{AllocError, Global};

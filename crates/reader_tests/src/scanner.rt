@@ -1,8 +1,8 @@
 //! Small texts: where the stream ends, which faults there are and where, and what stands in front of a key.
 
-use crate::{Scanner, Token, TokenType};
 use saphyr_input::StrInput;
 use saphyr_scalar::{FaultText, Marker, Refusal, Span, Stop};
+use saphyr_scanner::{Scanner, Token, TokenType};
 use std::alloc::Global;
 use std::test::Fail;
 

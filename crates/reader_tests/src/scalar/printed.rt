@@ -1,5 +1,5 @@
 //! What no clause says: the printed texts, against the lists that they were taken from.
-use crate::{FaultText, Marker, Refusal, ScalarStyle, ScanError, Span};
+use saphyr_scalar::{FaultText, Marker, Refusal, ScalarStyle, ScanError, Span};
 use std::alloc::Global;
 use std::process::Abort;
 use std::test::Fail;

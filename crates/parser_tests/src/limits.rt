@@ -1,6 +1,6 @@
 //! Texts with each limit on their characters.
-use crate::tests::{Item, items_left};
-use crate::{Fault, Parser, StrInput};
+use crate::events::{Item, items_left};
+use saphyr_parser::{Fault, Parser, StrInput};
 use std::alloc::{AllocError, Global};
 use std::test::Fail;
 

@@ -1,9 +1,7 @@
 //! What no clause says: the lines against the table that they were taken from, the texts of faults, and
 //! that calls succeed.
-use crate::printing::line::write_line;
-use crate::{DumpFault, Event, Fault, Marker, Parser, ScalarStyle, ScanError, Tag, dump, run_dump};
-use std::alloc::{AllocError, Global};
-use std::borrow::CowStr;
+use saphyr_parser::{DumpFault, Fault, Marker, Parser, ScanError, dump, run_dump};
+use std::alloc::Global;
 use std::io;
 use std::io::{ErrorKind, Read, Write};
 use std::process::Abort;
@@ -78,80 +76,85 @@ impl Read for Broken<'_> {
     }
 }
 
-fn tag(alloc: Global, handle: &str, suffix: &str) -> Result<Option<Tag>, AllocError> {
-    Ok(Some(Tag {
-        handle: String::from_str(alloc, handle)?,
-        suffix: String::from_str(alloc, suffix)?,
-    }))
-}
-
-fn expect_line(rt: &impl Abort, alloc: Global, event: &Event<'_>, line: &str) -> Result<(), Fail> {
+// The lines of the nodes of a text's only document.
+fn expect_lines(rt: &impl Abort, alloc: Global, text: &str, lines: &str) -> Result<(), Fail> {
     let mut out = Vec::new(alloc);
-    assert!(rt; write_line(&mut out, event).is_ok(), "{line:?}");
-    assert!(rt; out.as_slice() == line.as_bytes(), "{line:?}");
+    let mut parser = Parser::new_from_str(alloc, text);
+    assert!(rt; dump(&mut parser, &mut out) == Ok(()), "{text:?}");
+    let expected = format!(in alloc; "+STR\n+DOC\n{lines}-DOC\n-STR\n")?;
+    assert!(rt; out.as_slice() == expected.as_bytes(), "{text:?}");
     Ok(())
 }
 
+// The lines of a node in a sequence, behind so many anchors.
+fn expect_behind_anchors(
+    rt: &impl Abort,
+    alloc: Global,
+    count: usize,
+    node: &str,
+    line: &str,
+) -> Result<(), Fail> {
+    let mut text = String::new(alloc);
+    let mut lines = String::from_str(alloc, "+SEQ\n")?;
+    for place in 0..count {
+        text.push_str("- &a x\n")?;
+        lines.push_str("=VAL &")?;
+        lines.push_str(place.saturating_add(1).to_string(alloc)?.as_str())?;
+        lines.push_str(" :x\n")?;
+    }
+    text.push_str("- ")?;
+    text.push_str(node)?;
+    lines.push_str(line)?;
+    lines.push_str("-SEQ\n")?;
+    expect_lines(rt, alloc, text.as_str(), lines.as_str())
+}
+
+// No text has `Nothing` among its events, and none has so many anchors as numbers: the lines of `Nothing` and of the
+// alias with the largest number are computed in `proofs/PrintedLines.antt`.
 #[test]
 fn prints_a_line_for_each_event(rt: HostRuntime) -> Result<(), Fail> {
     let alloc = rt.alloc();
-    expect_line(&rt, alloc, &Event::Nothing, "")?;
-    expect_line(&rt, alloc, &Event::StreamStart, "+STR\n")?;
-    expect_line(&rt, alloc, &Event::StreamEnd, "-STR\n")?;
-    expect_line(&rt, alloc, &Event::DocumentStart(false), "+DOC\n")?;
-    expect_line(&rt, alloc, &Event::DocumentStart(true), "+DOC\n")?;
-    expect_line(&rt, alloc, &Event::DocumentEnd, "-DOC\n")?;
-    expect_line(&rt, alloc, &Event::SequenceStart(0, None), "+SEQ\n")?;
-    expect_line(&rt, alloc, &Event::SequenceStart(1, None), "+SEQ &1\n")?;
-    expect_line(&rt, alloc, &Event::SequenceEnd, "-SEQ\n")?;
-    expect_line(&rt, alloc, &Event::MappingStart(0, None), "+MAP\n")?;
-    expect_line(&rt, alloc, &Event::MappingEnd, "-MAP\n")?;
-    expect_line(&rt, alloc, &Event::Alias(1), "=ALI *1\n")?;
-    expect_line(&rt, alloc, &Event::Alias(120), "=ALI *120\n")?;
-    expect_line(
-        &rt,
-        alloc,
-        &Event::Alias(usize::MAX),
-        "=ALI *18446744073709551615\n",
-    )?;
-    let local = tag(alloc, "", "!é")?;
-    expect_line(&rt, alloc, &Event::SequenceStart(0, local), "+SEQ <!é>\n")?;
-    let yaml = tag(alloc, "tag:yaml.org,2002:", "map")?;
-    let line = "+MAP &23 <tag:yaml.org,2002:map>\n";
-    expect_line(&rt, alloc, &Event::MappingStart(23, yaml), line)
+    for (text, lines) in [
+        ("a", "=VAL :a\n"),
+        ("--- a", "=VAL :a\n"),
+        ("[]", "+SEQ\n-SEQ\n"),
+        ("&a []", "+SEQ &1\n-SEQ\n"),
+        ("{}", "+MAP\n-MAP\n"),
+        ("!<!%C3%A9> []", "+SEQ <!é>\n-SEQ\n"),
+    ] {
+        expect_lines(&rt, alloc, text, lines)?;
+    }
+    let yaml = "+MAP &23 <tag:yaml.org,2002:map>\n-MAP\n";
+    expect_behind_anchors(&rt, alloc, 22, "&a !!map {}", yaml)?;
+    expect_behind_anchors(&rt, alloc, 1, "*a", "=ALI *1\n")?;
+    expect_behind_anchors(&rt, alloc, 120, "*a", "=ALI *120\n")
 }
 
 #[test]
 fn prints_scalars(rt: HostRuntime) -> Result<(), Fail> {
     let alloc = rt.alloc();
-    let styles = [
-        (ScalarStyle::Plain, "=VAL :é b\n"),
-        (ScalarStyle::SingleQuoted, "=VAL 'é b\n"),
-        (ScalarStyle::DoubleQuoted, "=VAL \"é b\n"),
-        (ScalarStyle::Literal, "=VAL |é b\n"),
-        (ScalarStyle::Folded, "=VAL >é b\n"),
-    ];
-    for (style, line) in styles {
-        let event = Event::Scalar(CowStr::Borrowed("é b"), style, 0, None);
-        expect_line(&rt, alloc, &event, line)?;
+    for (text, line) in [
+        ("é b", "=VAL :é b\n"),
+        ("'é b'", "=VAL 'é b\n"),
+        ("\"é b\"", "=VAL \"é b\n"),
+        ("|-\n é b", "=VAL |é b\n"),
+        (">-\n é b", "=VAL >é b\n"),
+    ] {
+        expect_lines(&rt, alloc, text, line)?;
     }
-    let texts = [
-        ("", "=VAL :\n"),
+    for (text, line) in [
+        ("---", "=VAL :\n"),
         ("\\", "=VAL :\\\\\n"),
-        ("a\nb\n", "=VAL :a\\nb\\n\n"),
-        ("\r\u{8}\t", "=VAL :\\r\\b\\t\n"),
+        ("\"a\\nb\\n\"", "=VAL \"a\\nb\\n\n"),
+        ("\"\\r\\b\\t\"", "=VAL \"\\r\\b\\t\n"),
         (
-            "\0\u{7}\u{b}\u{c}\u{1b}\u{7f}\u{85}\u{feff}\"'",
-            "=VAL :\0\u{7}\u{b}\u{c}\u{1b}\u{7f}\u{85}\u{feff}\"'\n",
+            "\"\\0\\a\\v\\f\\e\\x7f\\N\\ufeff\\\"'\"",
+            "=VAL \"\0\u{7}\u{b}\u{c}\u{1b}\u{7f}\u{85}\u{feff}\"'\n",
         ),
-    ];
-    for (text, line) in texts {
-        let event = Event::Scalar(CowStr::Borrowed(text), ScalarStyle::Plain, 0, None);
-        expect_line(&rt, alloc, &event, line)?;
+    ] {
+        expect_lines(&rt, alloc, text, line)?;
     }
-    let string = tag(alloc, "!", "s")?;
-    let event = Event::Scalar(CowStr::Borrowed("x"), ScalarStyle::Folded, 4, string);
-    expect_line(&rt, alloc, &event, "=VAL &4 <!s> >x\n")
+    expect_behind_anchors(&rt, alloc, 3, "&a !s >-\n  x", "=VAL &4 <!s> >x\n")
 }
 
 #[test]

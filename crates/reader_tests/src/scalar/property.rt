@@ -1,8 +1,8 @@
 //! Tags, anchors and aliases, their ends and their faults.
 
-use crate::{FaultText, Marker, Reader, Refusal, Stop, TagParts};
 use saphyr_input::StrInput;
 use saphyr_input::input::SkipTabs;
+use saphyr_scalar::{FaultText, Marker, Reader, Refusal, Stop, TagParts};
 use std::alloc::Global;
 use std::test::Fail;
 

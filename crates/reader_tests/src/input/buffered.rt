@@ -3,9 +3,9 @@
 ghost use Rattle.std.specs.Prelude.{◌≡◌, ◌+◌, ◌<◌, ◌≤◌, ◌==◌, None, Some, [], ◌∷◌, take, if◌then◌else◌, IfOk};
 ghost use Rattle.std.specs.Str.{chars};
 
-use super::BufferedInput;
-use crate::input::Input;
-use crate::law::lists_characters;
+use saphyr_input::BufferedInput;
+use saphyr_input::input::Input;
+use saphyr_input::law::lists_characters;
 use std::alloc::{AllocError, Global};
 use std::cell::Cell;
 use std::str::Chars;

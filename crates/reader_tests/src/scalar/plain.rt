@@ -1,8 +1,7 @@
 //! Plain scalars of one line and of several, the comments that end them, and their faults.
 
-use super::PlainScalar;
-use crate::{FaultText, Marker, Reader, Refusal, Stop};
 use saphyr_input::StrInput;
+use saphyr_scalar::{FaultText, Marker, PlainScalar, Reader, Refusal, Stop};
 use std::alloc::Global;
 use std::process::Abort;
 use std::test::Fail;

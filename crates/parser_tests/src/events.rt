@@ -1,7 +1,5 @@
-//! What no clause says: that calls succeed, which fault a text gets, and what the private limit does.
-mod limits;
-
-use crate::{
+//! What no clause says: that calls succeed, which fault a text gets, and what the limit does.
+use saphyr_parser::{
     CloneInput, Event, EventReceiver, Fault, Input, Marker, Parser, Refused, ScalarStyle,
     ScanError, Span, StrInput, Tag, lists_characters,
 };
