@@ -1,7 +1,7 @@
 //! Small forests and their events; tags and copies of events by themselves.
 
-use crate::tree::{Directive, Document, Handle, Node, Properties, WrittenTag};
-use crate::walk::forest_events;
+use forest_events::forest_events;
+use forest_events::tree::{Directive, Document, Handle, Node, Properties, WrittenTag};
 use saphyr_parser::{Event, Tag};
 use saphyr_scalar::ScalarStyle;
 use std::alloc::{AllocError, Global};

@@ -1,6 +1,6 @@
 //! The printed texts of faults, which no clause says: each is that of its line.
 
-use crate::printing::push_item;
+use case_files::push_item;
 use saphyr_parser::{Fault, Marker, ScanError};
 use std::alloc::Global;
 use std::process::Abort;

@@ -1,12 +1,12 @@
 //! What no clause says: that calls succeed while there is memory, which fault a text gets, the printed texts,
 //! that a deep tree is dropped on a small stack, and how much memory a node takes.
 
-use crate::{Document, Limits, Node, TreeFault, load_documents};
 use saphyr_parser::{Parser, ScalarStyle};
 use std::alloc::{AllocError, Global};
 use std::mem::size_of;
 use std::process::Abort;
 use std::test::Fail;
+use yaml_tree::{Document, Limits, Node, TreeFault, load_documents};
 
 fn load(alloc: Global, text: &str, limits: Limits) -> Result<Vec<Document>, TreeFault> {
     let mut parser = Parser::new_from_str(alloc, text);
