@@ -1,4 +1,8 @@
 //! What is left where a receiver refuses an event.
+ghost use Rattle.std.specs.Prelude.{◌≡◌, OnOk, drop};
+ghost use Rattle.saphyr_parser.specs.Cursor.{to_come};
+ghost use Rattle.event_cases.specs.Handed.{ListAllButOne, StandsBetween};
+
 use crate::ways::is_left;
 use case_files::{Case, ComparingReceiver, Difference};
 use saphyr_parser::{CloneInput, Fault, Parser};
@@ -27,18 +31,26 @@ fn refuse_between<T: CloneInput>(
     mut parser: Parser<'_, T>,
     before: &[String],
     behind: &[String],
-) -> Result<(), Difference> {
+) -> Result<(), Difference>
+    ensures { StandsBetween parser.entry → OnOk result
+        (ListAllButOne before.now (drop 1 behind.now) (to_come parser.entry)) }
+{
     let mut receiver = ComparingReceiver::refusing(alloc, before, before.len());
-    let answer = parser.load(&mut receiver, true);
-    receiver.check_end()?;
-    if answer != Err(Fault::Receiver) {
-        return Err(Difference::new(alloc, "`load` doesn't answer the refusal"));
+    match parser.load(&mut receiver, true) {
+        Err(Fault::Receiver) => receiver.check_end()?,
+        _ => return Err(Difference::new(alloc, "`load` doesn't answer the refusal")),
     }
-    is_left(alloc, parser.try_clone()?, behind.get(1..).unwrap_or(&[]))?;
+    is_left(alloc, parser.try_clone()?, without_first(behind))?;
     if behind.len() == 1 {
         return ends_again(alloc, parser, behind);
     }
     Ok(())
+}
+
+fn without_first(lines: &[String]) -> &[String]
+    ensures { result.now ≡ drop 1 lines.now }
+{
+    lines.get(1..).unwrap_or(&[])
 }
 
 // `load` hands over the end of the stream, which was refused before, and nothing else.
