@@ -101,7 +101,8 @@ led limit indent u col blank =
     let P : EmptyLines × Cursor → Type 0 = λ x. Led (unwrap_or limit (max x.0.widest indent)) u x.1 x.0.count in
     subst P (ap (λ b. empty_lines limit no_lines b m xs) (sym blank)) here
 
-abbrev Read : Type 0
+-- what is read of a block scalar: its text, its span, and what stands behind it
+abbrev pub Read : Type 0
 Read = List ℕ × Span × Cursor
 
 -- without content

@@ -20,7 +20,8 @@ use Rattle.saphyr_scalar.proofs.Quoted.Inside.{IsContent}
 use Rattle.saphyr_scalar.proofs.RefusedOnWay.{inside_at, inside_start, one_more_passed}
 use Rattle.saphyr_scalar.proofs.Refusals.{Refused, RefusedAt, refused_bind, refused_more, front_refused}
 use Rattle.saphyr_scalar.proofs.Quoted.SpelledEscapes.{escape_spelled, no_escape}
-use Rattle.saphyr_scalar.proofs.Quoted.SpelledLines.{gap_ended, special_of}
+use Rattle.saphyr_scalar.proofs.Quoted.SpelledWords.{special_of}
+use Rattle.saphyr_scalar.proofs.Quoted.SpelledLines.{gap_ended}
 use Rattle.saphyr_input.proofs.Basics.Booleans.{and_true_left, and_true_right, by_test}
 use Rattle.std.proofs.lemmas.Bool.{eqb-true}
 use Rattle.saphyr_input.proofs.Basics.Characters.{blank_no_break}

@@ -90,7 +90,7 @@ abbrev pub Reads : ℕ → Marker → List ℕ → Marker → List ℕ → List 
 Reads indent start b m t v x n =
     inside Double indent start (on_line b) 0 m t ≡ Ok (b ++ encode_utf8_all v, at (along m n) x)
 
-escape_content : IsContent 92
+pub escape_content : IsContent 92
 escape_content = record { blank = refl; break = refl; nul = refl }
 
 quote_content : IsContent 34
