@@ -13,7 +13,7 @@ use Rattle.saphyr_scalar.specs.Cursor.{Cursor, ◌>>=◌, refuse, along, pass_bl
 use Rattle.saphyr_scalar.specs.Folding.{line_feeds}
 use Rattle.saphyr_scalar.proofs.Quoted.Inside.{front_twice, behind_gap, behind_no_gap, word_from, break_cases, at_break}
 use Rattle.saphyr_scalar.specs.Quoted.{TextRead, with_front, at, over_lines, no_gap, is_left, blank_in, folded_break, begin_word, end_gap, inside, inside_at}
-use Rattle.saphyr_input.proofs.Basics.Booleans.{by_test}
+use Rattle.saphyr_input.proofs.Basics.Booleans.{and_false, by_test}
 use Rattle.std.proofs.lemmas.Bool.{lt-ltb}
 use Rattle.saphyr_scalar.proofs.PassedBreaks.{break_shorter}
 
@@ -65,11 +65,7 @@ line_break q indent start escaped n s h =
 
 pub fits_right : (x col indent : ℕ) → indent ≤ col → ((x == 9) && nat_lt col indent) ≡ false
 fits_right x col indent h =
-    let right : nat_lt col indent ≡ false = grind (arith, nat_tests) in rw right (never (x == 9))
-  where
-    never : (b : Bool) → (b && false) ≡ false
-    never true = refl
-    never false = refl
+    let right : nat_lt col indent ≡ false = grind (arith, nat_tests) in rw right (and_false (x == 9))
 
 pub fits_no_tab : (x col indent : ℕ) → (x ≡ 9 → ⊥) → ((x == 9) && nat_lt col indent) ≡ false
 fits_no_tab x col indent h = let other : (x == 9) ≡ false = grind (arith, nat_tests) in rw other refl

@@ -19,7 +19,7 @@ use Rattle.saphyr_scalar.specs.Passing.{IsPassed, character}
 use Rattle.saphyr_scalar.proofs.Quoted.Inside.{behind_gap, behind_no_gap, word_from}
 use Rattle.saphyr_scalar.proofs.Quoted.SpelledEscapes.{GaveText, nothing_text, front_gave}
 use Rattle.saphyr_input.proofs.Basics.Booleans.{by_test}
-use Rattle.saphyr_scalar.proofs.NoBreaks.{mark_no_break}
+use Rattle.saphyr_scalar.proofs.NoBreaks.{mark_no_break, mark_no_nul}
 use Rattle.saphyr_scalar.proofs.Quoted.GapBytes.{gap_front, no_gap_bytes}
 use Rattle.saphyr_scalar.proofs.Quoted.SpelledGaps.{IsOver, Spelled, Known, blank_step, break_step}
 use Rattle.saphyr_scalar.proofs.Quoted.SpelledWords.{cases, word_spelled}
@@ -122,12 +122,8 @@ quoted_clean q indent t b s quote g =
       inner.is.1,
     )
   where
-    none : (q : Quote) → 0 ≡ flow.mark q → ⊥
-    none Single h = absurd (omega arith)
-    none Double h = absurd (omega arith)
-
     opened : (q : Quote) (xs : List ℕ) → slice_index xs 0 ≡ flow.mark q → xs ≡ flow.mark q ∷ drop 1 xs
-    opened q [] h = absurd (none q h)
+    opened q [] h = absurd (mark_no_nul q h)
     opened q (c ∷ cs) h = ap (λ x. x ∷ cs) h
 
 pub quoted_spelled : (q : Quote) (indent : ℕ) (t : Cursor) (b : List ℕ) (s : Cursor)
