@@ -8,7 +8,7 @@ use Rattle.saphyr_scalar.specs.declared.reading.block.BlockStyle.{BlockStyle}
 use Rattle.saphyr_scalar.specs.declared.scalar.position.Marker.{Marker}
 use Rattle.saphyr_scalar.specs.Cursor.{Cursor, along, next_line}
 use Rattle.saphyr_scalar.specs.BlockSpelling.{IsContent, AreLines, no_lines, empty, content, last, IsBehind}
-use Rattle.saphyr_scalar.specs.BlockScalar.{there, empty_lines, break_before, LinesRead, with_text, between}
+use Rattle.saphyr_scalar.specs.BlockScalar.{there, break_before, LinesRead, with_text, between}
 use Rattle.saphyr_scalar.proofs.Block.Values.{cut_tail, same_break}
 use Rattle.saphyr_scalar.specs.declared.reading.block.Chomping.{Chomping}
 use Rattle.saphyr_scalar.specs.declared.reading.block.Chomping.TheVariants.{Strip, Clip, Keep}

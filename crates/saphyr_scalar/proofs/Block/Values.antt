@@ -1,6 +1,6 @@
 -- The value of a block scalar's lines, as they are read.
 use Rattle.std.proofs.Common.{◌≡◌, ℕ, ◌+◌, ◌<◌, ◌≤◌, Bool, true, false, List, [], ◌∷◌, ◌++◌, length, slice_index, refl, sym, ap, ◌∙◌, arith, subst, append_assoc, nat_eq, nat_le, nat_lt}
-use Rattle.std.specs.Prelude.{◌||◌, ◌&&◌, ◌==◌, not, max, if◌then◌else◌, Some, ◌⊎◌}
+use Rattle.std.specs.Prelude.{◌&&◌, not, max, if◌then◌else◌, Some, ◌⊎◌}
 use Rattle.std.proofs.Common.{inl, inr}
 use Rattle.std.proofs.lemmas.Bool.Decides.{nat_tests}
 use Rattle.std.proofs.lemmas.List.{append-nil, length-replicate}

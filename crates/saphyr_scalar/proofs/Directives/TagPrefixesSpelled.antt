@@ -10,7 +10,7 @@ use Rattle.saphyr_scalar.specs.declared.scalar.fault.FaultText.TheVariants as fa
 use Rattle.saphyr_scalar.specs.declared.scalar.fault.Refusal.{Refusal}
 use Rattle.saphyr_scalar.specs.declared.scalar.tag.UriSet.TheVariants.{Uri}
 use Rattle.saphyr_scalar.specs.Cursor.{Cursor, ◌>>=◌, along}
-use Rattle.saphyr_scalar.specs.Directive.{Directive, tag_prefix, behind_blanks, behind_word, handle, prefix, behind_prefix, tag_directive, value}
+use Rattle.saphyr_scalar.specs.Directive.{Directive, tag_prefix, behind_blanks, behind_word, handle, prefix, behind_prefix, tag_directive}
 use Rattle.saphyr_scalar.specs.DirectiveSpelling.{AreBlanks}
 use Rattle.saphyr_scalar.specs.Quoted.{with_front, with_run, at}
 use Rattle.saphyr_scalar.specs.Tag.{uri_character, decoded, decoded_at, handle_of}

@@ -9,7 +9,7 @@ use Rattle.saphyr_scalar.specs.declared.scalar.position.Marker.{Marker}
 use Rattle.saphyr_scalar.specs.declared.scalar.fault.FaultText.TheVariants as fault
 use Rattle.saphyr_scalar.specs.declared.scalar.fault.Refusal.{Refusal}
 use Rattle.saphyr_scalar.specs.Cursor.{Cursor, ◌>>=◌, along, pass}
-use Rattle.saphyr_scalar.specs.Directive.{Directive, version, behind_blanks, number_end, number_from, number, behind_major, version_directive, value}
+use Rattle.saphyr_scalar.specs.Directive.{Directive, version, behind_blanks, number_end, number_from, number, behind_major, version_directive}
 use Rattle.saphyr_scalar.specs.DirectiveSpelling.{AreBlanks, decimal_from, IsVersionNumber}
 use Rattle.saphyr_scalar.specs.Quoted.{at}
 use Rattle.saphyr_scalar.specs.TagSpelling.{AreIn}

@@ -8,7 +8,7 @@ use Rattle.saphyr_scalar.specs.declared.scalar.position.Marker.{Marker}
 use Rattle.saphyr_scalar.specs.declared.scalar.fault.FaultText.TheVariants as fault
 use Rattle.saphyr_scalar.specs.Cursor.{Cursor, along}
 use Rattle.saphyr_scalar.specs.Quoted.{at}
-use Rattle.saphyr_scalar.specs.Tag.{byte_value, shows_byte, escaped_byte, is_trailing, trailing_byte, trailing_bytes, escape}
+use Rattle.saphyr_scalar.specs.Tag.{byte_value, shows_byte, escaped_byte, is_trailing, trailing_byte, trailing_bytes}
 use Rattle.saphyr_scalar.specs.TagSpelling.{IsByteEscape, AreByteEscapes}
 use Rattle.saphyr_scalar.proofs.Moving.{along_none, along_more}
 use Rattle.saphyr_scalar.proofs.Properties.EscapedBytes.{AreTrailing, joined}

@@ -1,7 +1,6 @@
 -- What the calls that read a part of a quoted scalar leave.
-use Rattle.std.proofs.Common.{◌≡◌, ℕ, suc, ◌+◌, ◌<◌, Bool, true, false, List, [], ◌∷◌, ◌++◌, length, drop, length-drop, slice_index, Result, Ok, Err, refl, sym, ap, ◌∙◌, arith, subst, nat_eq, IsTrue}
+use Rattle.std.proofs.Common.{◌≡◌, ℕ, suc, ◌+◌, ◌<◌, Bool, true, false, List, [], ◌∷◌, ◌++◌, length, drop, length-drop, slice_index, Result, Ok, Err, refl, sym, ap, ◌∙◌, arith, subst, IsTrue}
 use Rattle.std.specs.Prelude.{◌||◌, ◌&&◌, ◌==◌, not, encode_utf8, Option, Some, None}
-use Rattle.std.proofs.lemmas.Bool.Decides.{nat_tests}
 use Rattle.saphyr_input.specs.Classes.{is_blank, is_break, is_blank_or_breakz}
 use Rattle.saphyr_input.specs.Places.{next_2_are}
 use Rattle.saphyr_scalar.specs.declared.scalar.position.Marker.{Marker}
@@ -11,7 +10,7 @@ use Rattle.saphyr_scalar.specs.declared.reading.flow.Quote.TheVariants.{Single, 
 use Rattle.saphyr_scalar.specs.Cursor.{Cursor, ◌>>=◌, along, pass}
 use Rattle.saphyr_scalar.proofs.Moving.{bind_same}
 use Rattle.saphyr_scalar.proofs.Quoted.Escapes.{escape_place}
-use Rattle.saphyr_scalar.proofs.Quoted.Inside.{front_twice, passed_over, behind_no_gap, run_stands, run_blanks, Moved, slash_left}
+use Rattle.saphyr_scalar.proofs.Quoted.Inside.{front_twice, passed_over, behind_no_gap, run_blanks, Moved, slash_left}
 use Rattle.saphyr_scalar.specs.Quoted.{is_literal, ends_word, simple_escape, digit_count, numbered, escape_of, escape, with_front, at, special, on_line, no_gap, inside, inside_at}
 use Rattle.std.proofs.lemmas.Bool.{eqb-true}
 use Rattle.saphyr_input.proofs.Basics.Booleans.{clash, and_true_left, and_true_right, and_false, by_test}

@@ -6,7 +6,7 @@ use Rattle.saphyr_input.specs.Classes.{is_blank, is_break, is_breakz}
 use Rattle.saphyr_scalar.specs.declared.scalar.position.Marker.{Marker}
 use Rattle.saphyr_scalar.specs.declared.reading.flow.Quote.TheVariants.{Double}
 use Rattle.saphyr_scalar.specs.Cursor.{Cursor, ◌>>=◌, along}
-use Rattle.saphyr_scalar.specs.Quoted.{TextRead, is_literal, simple_escape, digit_count, digits, character, numbered, escape_of, escape, with_front, at, on_line, no_gap, inside, inside_at, quoted, double_quoted}
+use Rattle.saphyr_scalar.specs.Quoted.{is_literal, simple_escape, digit_count, digits, character, numbered, escape_of, escape, with_front, at, on_line, no_gap, inside, inside_at, quoted, double_quoted}
 use Rattle.saphyr_scalar.specs.LineSpelling as spelling
 use Rattle.saphyr_scalar.proofs.Moving.{along_none, along_more}
 use Rattle.saphyr_scalar.proofs.Quoted.Escapes.{simple_no_digits}

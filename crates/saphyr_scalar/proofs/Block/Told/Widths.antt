@@ -1,6 +1,6 @@
 -- The indentation of a block scalar is that of its widest line of spaces, or what its indicator gives.
-use Rattle.std.proofs.Common.{◌≡◌, ℕ, zero, suc, ◌+◌, Bool, true, false, List, [], ◌∷◌, ◌++◌, slice_index, refl, sym, ap, ◌∙◌, arith, subst}
-use Rattle.std.specs.Prelude.{◌||◌, ◌&&◌, ◌==◌, max, None, unwrap_or, IsTrue}
+use Rattle.std.proofs.Common.{◌≡◌, ℕ, zero, suc, ◌+◌, Bool, true, false, List, [], ◌∷◌, ◌++◌, slice_index, refl, sym, ap, ◌∙◌, arith}
+use Rattle.std.specs.Prelude.{◌==◌, max, None, unwrap_or, IsTrue}
 use Rattle.std.proofs.lemmas.Bool.Decides.{nat_tests}
 use Rattle.std.proofs.lemmas.List.{append-nil, length-replicate}
 use Rattle.saphyr_input.specs.Breaks.{normalized}
