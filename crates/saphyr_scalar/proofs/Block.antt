@@ -3,6 +3,7 @@ pub mod Complete
 pub mod Headers
 pub mod Indentations
 pub mod Law
+pub mod LeadingLines
 pub mod Lines
 pub mod Places
 pub mod Reads
@@ -15,5 +16,6 @@ pub mod Kept
 pub mod Counted
 pub mod PlacedHeaders
 pub mod Placed
+pub mod PlacedValues
 pub mod Refused
 pub mod Told

@@ -134,3 +134,7 @@ directive_no_break (reserved name) t (n, (more, _, _, _, all, others, _, text), 
 pub mark_no_break : (q : Quote) → is_break (flow.mark q) ≡ false
 mark_no_break Single = refl
 mark_no_break Double = refl
+
+pub mark_no_nul : (q : Quote) → 0 ≡ flow.mark q → ⊥
+mark_no_nul Single h = absurd (omega arith)
+mark_no_nul Double h = absurd (omega arith)

@@ -5,6 +5,9 @@ pub mod Foldings
 pub mod Counted
 pub mod Refused
 pub mod Gaps
+pub mod GapBytes
+pub mod GapsRead
+pub mod IndentedLines
 pub mod Items
 pub mod Lines
 pub mod OnLine
@@ -14,8 +17,11 @@ pub mod Reads
 pub mod Inside
 pub mod ReadSpellings
 pub mod SpelledEscapes
+pub mod SpelledGaps
 pub mod SpelledLines
+pub mod SpelledWords
 pub mod Spellings
 pub mod SpellingsRead
 pub mod Clean
 pub mod Words
+pub mod WordsRead

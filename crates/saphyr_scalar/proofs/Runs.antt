@@ -1,11 +1,11 @@
 -- A run that was put behind a text.
-use Rattle.std.proofs.Common.{◌≡◌, ℕ, suc, ◌+◌, Bool, false, List, [], ◌∷◌, ◌++◌, length, take, slice_index, refl, ap, ◌∙◌, subst, arith, encode_utf8_all}
+use Rattle.std.proofs.Common.{◌≡◌, ℕ, suc, ◌+◌, Bool, false, List, [], ◌∷◌, ◌++◌, length, take, slice_index, refl, ap, ◌∙◌, arith, encode_utf8_all}
 use Rattle.std.specs.List.{prefix_len}
 use Rattle.std.proofs.Math.Seq.{take-append_seam, drop-append_seam}
-use Rattle.saphyr_input.proofs.Runs.{Ran, ran_all, run_stops}
+use Rattle.saphyr_input.proofs.Runs.{run_stops}
 use Rattle.saphyr_scalar.specs.TagSpelling.{AreIn}
 use Rattle.saphyr_scalar.specs.declared.scalar.position.Marker.{Marker}
-use Rattle.saphyr_scalar.specs.Cursor.{Cursor, along, pass}
+use Rattle.saphyr_scalar.specs.Cursor.{along, pass}
 use Rattle.saphyr_scalar.specs.Quoted.{at, with_run}
 use Rattle.saphyr_input.proofs.Basics.Booleans.{by_test}
 use Rattle.saphyr_scalar.proofs.Given.{together}

@@ -17,7 +17,9 @@ use Rattle.saphyr_scalar.specs.BlockReading.{Line, lines_value}
 use Rattle.saphyr_scalar.specs.Folding.{line_feeds}
 use Rattle.saphyr_scalar.proofs.Block.Reads.{same_gift}
 use Rattle.saphyr_scalar.proofs.Block.Law.{values_of_lines}
-use Rattle.saphyr_scalar.proofs.Block.Places.{Value, Left, IsLimit, Led, led_on}
+use Rattle.saphyr_scalar.proofs.Block.Places.{Left}
+use Rattle.saphyr_scalar.proofs.Block.PlacedValues.{Value}
+use Rattle.saphyr_scalar.proofs.Block.LeadingLines.{IsLimit, Led, led_on}
 use Rattle.saphyr_scalar.proofs.Block.Headers.{header_read}
 use Rattle.saphyr_input.proofs.Basics.Booleans.{clash, by_test}
 

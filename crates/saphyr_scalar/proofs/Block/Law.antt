@@ -2,7 +2,6 @@
 use Rattle.std.proofs.Common.{◌≡◌, ℕ, ◌≤◌, true, false, List, [], ◌∷◌, ◌++◌, slice_index, Ok, refl, sym, ap, ◌∙◌, arith, subst, nat_lt, nat_le, map, encode_utf8_all}
 use Rattle.std.specs.Prelude.{◌&&◌, max, Option, Some, None, unwrap_or}
 use Rattle.std.proofs.Common.{inl, inr}
-use Rattle.std.proofs.lemmas.Bool.Decides.{nat_tests}
 use Rattle.std.proofs.lemmas.List.{append-nil}
 use Rattle.saphyr_input.specs.Breaks.{normalized}
 use Rattle.saphyr_input.specs.Classes.{is_break, is_z, is_yaml_non_break}
@@ -101,7 +100,8 @@ led limit indent u col blank =
     let P : EmptyLines × Cursor → Type 0 = λ x. Led (unwrap_or limit (max x.0.widest indent)) u x.1 x.0.count in
     subst P (ap (λ b. empty_lines limit no_lines b m xs) (sym blank)) here
 
-abbrev Read : Type 0
+-- what is read of a block scalar: its text, its span, and what stands behind it
+abbrev pub Read : Type 0
 Read = List ℕ × Span × Cursor
 
 -- without content

@@ -1,18 +1,17 @@
 -- The lines of a block scalar, read a piece at a time.
-use Rattle.std.proofs.Common.{◌≡◌, ℕ, zero, suc, ◌+◌, ◌<◌, ◌≤◌, Bool, true, false, List, [], ◌∷◌, ◌++◌, length, drop, slice_index, max, refl, sym, ap, ◌∙◌, arith, subst, encode_utf8_all, append_assoc, add-one, nat_eq}
-use Rattle.std.specs.Prelude.{◌||◌, ◌==◌, encode_utf8, Option, Some, None}
+use Rattle.std.proofs.Common.{◌≡◌, ℕ, zero, suc, ◌+◌, ◌<◌, ◌≤◌, Bool, true, false, List, [], ◌∷◌, ◌++◌, length, slice_index, max, refl, sym, ap, ◌∙◌, arith, subst, encode_utf8_all, append_assoc, add-one, nat_eq}
+use Rattle.std.specs.Prelude.{◌==◌, encode_utf8, Option, Some, None}
 use Rattle.std.proofs.lemmas.Bool.Decides.{nat_tests}
 use Rattle.std.proofs.lemmas.List.{append-nil}
 use Rattle.saphyr_input.specs.Classes.{is_break}
 use Rattle.saphyr_scalar.specs.declared.scalar.position.Marker.{Marker}
 use Rattle.saphyr_scalar.specs.declared.scalar.block.lines.EmptyLines.{EmptyLines}
-use Rattle.saphyr_scalar.specs.Cursor.{Cursor, along, next_line, pass_blanks, pass_break}
+use Rattle.saphyr_scalar.specs.Cursor.{Cursor, along, next_line, pass_break}
 use Rattle.saphyr_scalar.specs.Folding.{line_feeds}
-use Rattle.saphyr_scalar.specs.BlockScalar.{there, is_indentation, inside_break, widened, one_more, empty_lines, empty_lines_at}
+use Rattle.saphyr_scalar.specs.BlockScalar.{there, is_indentation, widened, one_more, empty_lines, empty_lines_at}
 use Rattle.saphyr_scalar.proofs.Quoted.Inside.{break_cases}
-use Rattle.saphyr_input.proofs.Basics.Booleans.{by_test}
+use Rattle.saphyr_input.proofs.Basics.Booleans.{or_false_left, or_false_right, by_test}
 use Rattle.saphyr_scalar.proofs.PassedBreaks.{inside_same}
-use Rattle.saphyr_scalar.proofs.Block.Indentations.{nul_no_indentation}
 
 -- a place that shows no NUL is a character
 pub read_left : (xs : List ℕ) (c : ℕ) → slice_index xs 0 ≡ suc c → 0 < length xs
@@ -39,11 +38,7 @@ space_on None lines b m c cs h = rw h refl
 space_on (Some limit) lines b m c cs h = rw h refl
 
 pub no_break : (c : ℕ) → is_break c ≡ false → (nat_eq c 10 ≡ false) × (nat_eq c 13 ≡ false)
-no_break c h = parts (nat_eq c 10) (nat_eq c 13) h
-  where
-    parts : (a d : Bool) → (a || d) ≡ false → (a ≡ false) × (d ≡ false)
-    parts true d e = absurd (cc)
-    parts false d e = (refl, e)
+no_break c h = (or_false_left (nat_eq c 10) (nat_eq c 13) h, or_false_right (nat_eq c 10) (nat_eq c 13) h)
 
 -- neither a space of the indentation nor a break
 stopped : (limit : Option ℕ) (lines : EmptyLines) (b : Bool) (m : Marker) (xs : List ℕ)

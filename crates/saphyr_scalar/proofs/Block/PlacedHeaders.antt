@@ -1,10 +1,10 @@
 -- Where the header of a block scalar stands: its line is passed character by character, and its break, where one ends
 -- it.
 use Rattle.std.proofs.Common.{◌≡◌, ℕ, suc, ◌+◌, ◌≤◌, ◌⊎◌, Bool, true, false, List, [], ◌∷◌, length, drop, Result, Ok, Err, refl, sym, ap, ◌∙◌, arith, subst, inl, inr}
-use Rattle.std.specs.Prelude.{◌&&◌, ◌||◌, slice_index, not, ◌==◌, nat_lt, min, Option, Some, None}
+use Rattle.std.specs.Prelude.{◌&&◌, slice_index, not, ◌==◌, nat_lt, min, Option, Some, None}
 use Rattle.std.specs.List.{prefix_len}
 use Rattle.std.proofs.lemmas.Bool.Decides.{nat_tests}
-use Rattle.saphyr_input.specs.Classes.{is_bom, is_blank, is_break, is_breakz, is_z, is_digit, is_yaml_non_break, tab}
+use Rattle.saphyr_input.specs.Classes.{is_bom, is_break, is_breakz, is_z, is_digit, is_yaml_non_break, tab}
 use Rattle.saphyr_input.specs.Places.{next_2_are}
 use Rattle.saphyr_input.specs.Separation.{is_skipped, blank_len, separation_len, is_bare_comment}
 use Rattle.saphyr_input.specs.declared.input.SkipTabs.{SkipTabs}

@@ -1,19 +1,17 @@
 -- The longest run from the front, taken off in pieces.
-use Rattle.std.proofs.Common.{◌≡◌, ℕ, zero, suc, ◌+◌, ◌≤◌, Bool, true, false, List, [], ◌∷◌, ◌++◌, take, drop, length-drop, get_or, refl, sym, ap, ◌∙◌, arith, subst, encode_utf8_all, append_assoc, nat_eq}
-use Rattle.std.specs.Prelude.{◌&&◌, not, encode_utf8}
+use Rattle.std.proofs.Common.{◌≡◌, ℕ, zero, suc, ◌+◌, ◌≤◌, Bool, true, false, List, [], ◌∷◌, ◌++◌, take, drop, length-drop, get_or, refl, sym, ap, ◌∙◌, arith, subst, encode_utf8_all, append_assoc}
+use Rattle.std.specs.Prelude.{◌&&◌, not}
 use Rattle.std.specs.List.{prefix_len}
-use Rattle.std.proofs.lemmas.Bool.Decides.{nat_tests}
 use Rattle.std.proofs.lemmas.List.{drop-drop}
 use Rattle.std.proofs.lemmas.List.Sums.{prefix_len-le-length}
 use Rattle.std.proofs.lemmas.Str.{encodes-append}
 use Rattle.saphyr_input.specs.Classes.{is_blank, is_yaml_non_break, is_yaml_non_space}
-use Rattle.saphyr_input.proofs.Runs.{Ran, ran_more, ran_all, text_more}
+use Rattle.saphyr_input.proofs.Runs.{Ran, ran_all}
 use Rattle.saphyr_scalar.specs.declared.scalar.position.Marker.{Marker}
 use Rattle.saphyr_scalar.specs.Cursor.{Cursor, along}
 use Rattle.saphyr_scalar.specs.BlockScalar.{there, with_line}
 use Rattle.saphyr_input.proofs.Basics.Lists.{run_ends}
-use Rattle.saphyr_input.proofs.Basics.Booleans.{by_test, either}
-use Rattle.saphyr_input.proofs.Basics.Characters.{blank_non_break}
+use Rattle.saphyr_input.proofs.Basics.Booleans.{by_test}
 use Rattle.saphyr_scalar.proofs.Given.{together}
 
 -- a run of fewer characters is no longer

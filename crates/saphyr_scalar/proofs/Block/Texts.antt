@@ -1,7 +1,7 @@
 -- The text of a block scalar, told by its lines.
 use Rattle.std.proofs.Common.{inl, inr, append_assoc, subst}
 use Rattle.std.proofs.Common.{◌≡◌, ℕ, zero, suc, ◌+◌, ◌<◌, ◌≤◌, Bool, true, false, List, [], ◌∷◌, ◌++◌, length, length-append, drop, slice_index, refl, sym, ap, ◌∙◌, arith, add-one, nat_eq, nat_le, map}
-use Rattle.std.specs.Prelude.{◌||◌, ◌&&◌, ◌==◌, not, if◌then◌else◌}
+use Rattle.std.specs.Prelude.{◌&&◌, ◌==◌, not, if◌then◌else◌}
 use Rattle.std.specs.List.{list_all}
 use Rattle.std.proofs.lemmas.Bool.Decides.{nat_tests}
 use Rattle.std.proofs.lemmas.List.{length-replicate}
@@ -15,6 +15,7 @@ pub use Rattle.saphyr_scalar.specs.BlockRead.{spaces}
 use Rattle.saphyr_scalar.specs.BlockRead.{HasLines}
 use Rattle.saphyr_scalar.specs.Lines.{ended_lines, last_line, has_break}
 use Rattle.saphyr_scalar.specs.BlockScalar.{is_cr_lf}
+use Rattle.saphyr_input.proofs.Basics.Booleans.{or_false_left, or_false_right}
 use Rattle.saphyr_scalar.proofs.Quoted.Inside.{break_cases}
 use Rattle.std.proofs.lemmas.Bool.{and_parts}
 
@@ -27,11 +28,8 @@ abbrev pub IsPlain : List ℕ → Type 0
 IsPlain text = has_break text ≡ false
 
 pub parts_plain : (c : ℕ) (cs : List ℕ) → IsPlain (c ∷ cs) → ((c == 10) ≡ false) × IsPlain cs
-parts_plain c cs h = parts (nat_eq c 10) (has_break cs) h
-  where
-    parts : (a b : Bool) → (a || b) ≡ false → (a ≡ false) × (b ≡ false)
-    parts true b e = absurd (cc)
-    parts false b e = (refl, e)
+parts_plain c cs h =
+    (or_false_left (nat_eq c 10) (has_break cs) h, or_false_right (nat_eq c 10) (has_break cs) h)
 
 pub plain_first : (c : ℕ) (cs : List ℕ) → (c == 10) ≡ false → IsPlain cs → IsPlain (c ∷ cs)
 plain_first c cs h k = rw (h, k) refl

@@ -1,6 +1,6 @@
 -- The content lines of a block scalar, read a line at a time.
 use Rattle.std.proofs.Common.{◌≡◌, ℕ, suc, ◌+◌, ◌<◌, ◌≤◌, Bool, true, false, List, [], ◌∷◌, ◌++◌, length, take, drop, length-drop, slice_index, Result, Ok, refl, sym, ap, ◌∙◌, arith, subst, encode_utf8_all, append_assoc, nat_eq, nat_lt}
-use Rattle.std.specs.Prelude.{◌||◌, ◌&&◌, ◌==◌, not, Option, Some, None, is_some}
+use Rattle.std.specs.Prelude.{◌&&◌, ◌==◌, Option, Some, is_some}
 use Rattle.std.specs.List.{prefix_len}
 use Rattle.std.proofs.lemmas.Bool.Decides.{nat_tests}
 use Rattle.std.proofs.lemmas.List.{append-nil}
@@ -20,7 +20,7 @@ use Rattle.saphyr_scalar.proofs.Moving.{along_none, along_more}
 use Rattle.saphyr_scalar.proofs.Quoted.Inside.{break_cases}
 use Rattle.saphyr_scalar.proofs.Block.Lines.{no_break, behind_cr}
 use Rattle.saphyr_input.proofs.Basics.Lists.{run_ends}
-use Rattle.saphyr_input.proofs.Basics.Booleans.{by_test}
+use Rattle.saphyr_input.proofs.Basics.Booleans.{and_false, by_test}
 use Rattle.saphyr_input.proofs.Basics.Characters.{non_break_no_break}
 use Rattle.saphyr_scalar.proofs.PassedBreaks.{inside_same}
 use Rattle.saphyr_scalar.proofs.Block.Indentations.{nul_no_indentation}
@@ -156,11 +156,7 @@ starts i col xs = parts (nat_eq col i) (is_yaml_non_break (slice_index xs 0)) _ 
     parts false d e at content h = absurd (cc)
 
 pub not_left : (i col c : ℕ) → col ≡ i → is_indentation (Some i) col c ≡ false
-not_left i col c e = let no : nat_lt col i ≡ false = grind (arith, nat_tests) in rw no (neither (nat_eq c 32))
-  where
-    neither : (a : Bool) → (a && false) ≡ false
-    neither true = refl
-    neither false = refl
+not_left i col c e = let no : nat_lt col i ≡ false = grind (arith, nat_tests) in rw no (and_false (nat_eq c 32))
 
 pub line_on : (st : BlockStyle) (i : ℕ) (more b : Bool) (m : Marker) (c : ℕ) (cs : List ℕ) → is_yaml_non_break c ≡ true
     → line st i more b m (c ∷ cs) ≡ with_text (c ∷ []) (line st i more b (along m 1) cs)

@@ -1,6 +1,6 @@
 -- The value of a block scalar's lines, as they are read.
 use Rattle.std.proofs.Common.{◌≡◌, ℕ, ◌+◌, ◌<◌, ◌≤◌, Bool, true, false, List, [], ◌∷◌, ◌++◌, length, slice_index, refl, sym, ap, ◌∙◌, arith, subst, append_assoc, nat_eq, nat_le, nat_lt}
-use Rattle.std.specs.Prelude.{◌||◌, ◌&&◌, ◌==◌, not, max, if◌then◌else◌, Some, ◌⊎◌}
+use Rattle.std.specs.Prelude.{◌&&◌, not, max, if◌then◌else◌, Some, ◌⊎◌}
 use Rattle.std.proofs.Common.{inl, inr}
 use Rattle.std.proofs.lemmas.Bool.Decides.{nat_tests}
 use Rattle.std.proofs.lemmas.List.{append-nil, length-replicate}
@@ -18,11 +18,12 @@ use Rattle.saphyr_scalar.specs.BlockReading as reading
 use Rattle.saphyr_scalar.specs.BlockReading.{Line, Empty, Content, is_empty_line, line_of, is_more_indented, break_between, contents_behind, empty_at_end, is_at_end}
 use Rattle.saphyr_scalar.specs.BlockRead.{ending, HasLines, EndsLines}
 use Rattle.saphyr_scalar.specs.BlockScalar.{there, is_indentation, is_cr_lf, inside_break, line_starts, break_before, LinesRead, with_text, ended, between, line, tail, is_unfinished}
+use Rattle.saphyr_scalar.proofs.Block.Lines.{no_break}
 use Rattle.saphyr_scalar.proofs.Block.Turns.{Starts, starts, no_start}
 use Rattle.saphyr_scalar.proofs.Block.Texts.{spaces, spaces_more, IsPlain, plain_first, plain_both, plain_spaces, first_line, only_line, empty_spaces, line_spaces, full_content, line_content, content_of, normal_half, normal_break, is_counted_behind, value_behind, value_empty, lines_break, lines_spaces, lines_cut, lines_broken}
 use Rattle.std.proofs.lemmas.Bool.{and_parts}
 use Rattle.std.proofs.Math.Bool.{and-true}
-use Rattle.saphyr_input.proofs.Basics.Booleans.{by_test}
+use Rattle.saphyr_input.proofs.Basics.Booleans.{and_false, by_test}
 use Rattle.saphyr_input.proofs.Basics.Characters.{non_break_no_break, normalized_other}
 
 -- the last line, where it is of spaces
@@ -114,11 +115,7 @@ stop_spaces st c i more k b m xs within ends =
     }
 
 past : (i col x : ℕ) → i < col → is_indentation (Some i) col x ≡ false
-past i col x h = let right : nat_lt col i ≡ false = grind (arith, nat_tests) in rw right (neither (nat_eq x 32))
-  where
-    neither : (a : Bool) → (a && false) ≡ false
-    neither true = refl
-    neither false = refl
+past i col x h = let right : nat_lt col i ≡ false = grind (arith, nat_tests) in rw right (and_false (nat_eq x 32))
 
 far : (i col : ℕ) → i < col → nat_le (max i 1) col ≡ true
 far i col h = grind (arith, nat_tests)
@@ -227,17 +224,10 @@ break_line st c i more x cs r half e b = record {
 }
 
 -- a character that is content
-pub not_feed : (x : ℕ) → is_break x ≡ false → ((x == 10) ≡ false) × ((x == 13) ≡ false)
-not_feed x h = parts (nat_eq x 10) (nat_eq x 13) h
-  where
-    parts : (a d : Bool) → (a || d) ≡ false → (a ≡ false) × (d ≡ false)
-    parts true d e = absurd (cc)
-    parts false d e = (refl, e)
-
 content_line : (st : BlockStyle) (c : Chomping) (i : ℕ) (more : Bool) (x : ℕ) (cs : List ℕ) (r : LinesRead)
     → is_yaml_non_break x ≡ true → LineRead st c i more cs r → LineRead st c i more (x ∷ cs) (with_text (x ∷ []) r)
 content_line st c i more x cs r e l =
-    let clear = not_feed x (non_break_no_break x e) in
+    let clear = no_break x (non_break_no_break x e) in
     let same : normalized (x ∷ l.taken) ≡ x ∷ normalized l.taken = normalized_other x l.taken clear.1 in
     record {
       taken = x ∷ l.taken;
@@ -280,7 +270,7 @@ begin_line : (st : BlockStyle) (c : Chomping) (i : ℕ) (more : Bool) (k x : ℕ
     → is_yaml_non_break x ≡ true → LineRead st c i (is_blank x) cs r
     → BetweenRead st c i more k i (x ∷ cs) (with_text (break_before st (Some more) k (is_blank x) ++ x ∷ []) r)
 begin_line st c i more k x cs r e l =
-    let clear = not_feed x (non_break_no_break x e) in
+    let clear = no_break x (non_break_no_break x e) in
     let here = x ∷ l.content in
     let breaks = break_before st (Some more) k (is_blank x) in
     let end = tail c (is_unfinished i r.2) r.1 in

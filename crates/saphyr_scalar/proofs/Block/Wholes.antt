@@ -21,7 +21,8 @@ use Rattle.saphyr_scalar.specs.BlockRead.{ending, HasLines, EndsLines}
 use Rattle.saphyr_scalar.specs.BlockScalar.{there, is_indentation, line_starts, LinesRead, with_text, ended, between, line, tail, tail_alone, is_unfinished}
 use Rattle.saphyr_scalar.proofs.Block.Turns.{starts, line_begins, line_on, no_line_at}
 use Rattle.saphyr_scalar.proofs.Block.Texts.{spaces, IsPlain, plain_first, plain_both, plain_spaces, first_line, only_line, empty_spaces, full_content, line_content, content_of, is_counted_behind, value_behind, lines_spaces, lines_cut, lines_broken}
-use Rattle.saphyr_scalar.proofs.Block.Values.{LineRead, line_read, not_feed, extra}
+use Rattle.saphyr_scalar.proofs.Block.Lines.{no_break}
+use Rattle.saphyr_scalar.proofs.Block.Values.{LineRead, line_read, extra}
 use Rattle.saphyr_input.proofs.Basics.Booleans.{and_false}
 use Rattle.saphyr_input.proofs.Basics.Characters.{non_break_no_break, normalized_other}
 
@@ -173,7 +174,7 @@ begin_first : (st : BlockStyle) (c : Chomping) (i k x : ℕ) (cs : List ℕ) (r 
     → LineRead st c i (is_blank x) cs r
     → FirstRead st c i k i (x ∷ cs) (with_text (line_feeds k) (with_text (x ∷ []) r))
 begin_first st c i k x cs r e l =
-    let clear = not_feed x (non_break_no_break x e) in
+    let clear = no_break x (non_break_no_break x e) in
     let here = x ∷ l.content in
     let end = tail c (is_unfinished i r.2) r.1 in
     let same : normalized (x ∷ l.taken) ≡ x ∷ normalized l.taken = normalized_other x l.taken clear.1 in

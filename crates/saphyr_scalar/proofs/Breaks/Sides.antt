@@ -8,6 +8,7 @@ use Rattle.saphyr_input.specs.Breaks.{normalized}
 use Rattle.saphyr_input.specs.Classes.{is_break}
 use Rattle.saphyr_scalar.specs.declared.scalar.position.Marker.{Marker}
 use Rattle.saphyr_scalar.specs.Cursor.{Cursor, along, next_line}
+use Rattle.saphyr_scalar.specs.BlockScalar.{there}
 use Rattle.saphyr_scalar.specs.Alike.{AreMarksAlike, AreAlike}
 use Rattle.saphyr_input.proofs.Basics.Lists.{second_is}
 use Rattle.saphyr_input.proofs.Basics.Characters.{no_return}
@@ -172,9 +173,6 @@ over_pair m n k at_feed on_line p =
 
 pub marks_alike : {text : List ℕ} {s t : Cursor} → AreAlike text s t → AreMarksAlike text s.mark t.mark
 marks_alike a = record { line = a.line; col = a.col; rest = rw (a.here, a.there) a.rest }
-
-abbrev pub there : Bool → Marker → List ℕ → Cursor
-there b m r = record { rest = r; mark = m; blank_so_far = b }
 
 pub alike : {text r q : List ℕ} {m n : Marker} (a b : Bool) → a ≡ b → Normal r q → Places text r q m n
     → AreAlike text (there a m r) (there b n q)

@@ -15,7 +15,8 @@ use Rattle.saphyr_scalar.specs.Passing.{IsPassed, nothing, character}
 use Rattle.saphyr_scalar.specs.Quoted.{with_run, at}
 use Rattle.saphyr_scalar.specs.RefusedInside.{IsRefusedInside}
 use Rattle.saphyr_scalar.specs.Tag.{uri_character, decoded_at}
-use Rattle.saphyr_scalar.proofs.Directives.Spelled.{name_spelled, value_spelled}
+use Rattle.saphyr_scalar.proofs.Directives.NamesSpelled.{name_spelled}
+use Rattle.saphyr_scalar.proofs.Directives.ValuesSpelled.{value_spelled}
 use Rattle.saphyr_scalar.proofs.NoBreaks.{no_breaks_passed, directive_no_break}
 use Rattle.saphyr_scalar.proofs.Block.PlacedHeaders.{line_passed}
 use Rattle.saphyr_scalar.proofs.Places.{along_three}

@@ -1,5 +1,5 @@
 -- The characters of a URI that begin no escape, taken off in one piece.
-use Rattle.std.proofs.Common.{◌≡◌, ℕ, zero, suc, ◌+◌, ◌≤◌, Bool, true, false, List, [], ◌∷◌, ◌++◌, length, length-drop, take, drop, slice_index, refl, sym, ap, ◌∙◌, arith, encode_utf8_all}
+use Rattle.std.proofs.Common.{◌≡◌, ℕ, suc, ◌+◌, ◌≤◌, Bool, true, false, List, [], ◌∷◌, ◌++◌, length, length-drop, take, drop, slice_index, refl, sym, ap, ◌∙◌, arith, encode_utf8_all}
 use Rattle.std.specs.Prelude.{◌&&◌, ◌==◌, not, encode_utf8}
 use Rattle.std.specs.List.{prefix_len}
 use Rattle.std.proofs.lemmas.Bool.Decides.{nat_tests}
@@ -9,7 +9,7 @@ use Rattle.saphyr_scalar.specs.declared.scalar.position.Marker.{Marker}
 use Rattle.saphyr_scalar.specs.declared.scalar.tag.UriSet.{UriSet}
 use Rattle.saphyr_scalar.specs.declared.scalar.tag.UriSet.TheVariants.{Uri, Suffix}
 use Rattle.saphyr_scalar.specs.Cursor.{Cursor, along}
-use Rattle.saphyr_scalar.specs.Quoted.{with_front, at}
+use Rattle.saphyr_scalar.specs.Quoted.{with_front}
 use Rattle.saphyr_scalar.specs.Sets.{is_bare}
 use Rattle.saphyr_scalar.specs.Tag.{has, escape, uri_character, decoded, decoded_at}
 use Rattle.saphyr_scalar.proofs.Moving.{along_none, along_more}

@@ -10,7 +10,7 @@ use Rattle.saphyr_scalar.specs.declared.scalar.tag.UriSet.{UriSet}
 use Rattle.saphyr_scalar.specs.declared.scalar.tag.UriSet.TheVariants.{Uri, Suffix}
 use Rattle.saphyr_scalar.specs.Cursor.{Cursor, ◌>>=◌, along}
 use Rattle.saphyr_scalar.specs.Quoted.{with_front, at}
-use Rattle.saphyr_scalar.specs.Tag.{has, escaped_byte, utf8_width, leading_bits, is_trailing, is_encoded, trailing_byte, trailing_bytes, encoded, behind_leading, escape, uri_character, decoded, decoded_at}
+use Rattle.saphyr_scalar.specs.Tag.{has, escaped_byte, utf8_width, leading_bits, is_trailing, is_encoded, trailing_byte, trailing_bytes, encoded, behind_leading, escape, uri_character, decoded}
 use Rattle.saphyr_scalar.specs.TagSpelling.{IsScalarValue, IsByteEscape, AreByteEscapes, IsCharacter, IsDecoded}
 use Rattle.saphyr_scalar.proofs.Moving.{along_none, along_more}
 use Rattle.saphyr_scalar.proofs.Properties.PercentEscapes.{one_more, ends_at, reads_on}

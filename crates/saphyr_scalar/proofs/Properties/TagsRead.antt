@@ -1,12 +1,12 @@
 -- Each spelled tag is read.
 use Rattle.std.proofs.Common.{◌≡◌, ◌≢◌, ℕ, suc, ◌+◌, ◌≤◌, Bool, true, false, List, [], ◌∷◌, ◌++◌, length, length-append, append_assoc, take, drop, slice_index, nat_eq, Result, Ok, refl, sym, ap, ◌∙◌, arith, subst, encode_utf8_all, inl, inr}
-use Rattle.std.specs.Prelude.{◌&&◌, ◌==◌, codes, encode_utf8}
-use Rattle.std.specs.List.{prefix_len, list_any}
+use Rattle.std.specs.Prelude.{◌&&◌, codes, encode_utf8}
+use Rattle.std.specs.List.{prefix_len}
 use Rattle.std.proofs.Math.Utf8.{encode}
 use Rattle.std.proofs.lemmas.Bool.Decides.{nat_tests}
 use Rattle.std.proofs.lemmas.Bool.{false≢true, false_from_ne_true}
 use Rattle.std.proofs.lemmas.Str.{encodes-append, length-le-encodes}
-use Rattle.saphyr_input.specs.Classes.{is_alpha, is_tag_char, is_uri_char, is_blank, is_break, is_z, is_breakz, is_blank_or_breakz, is_flow}
+use Rattle.saphyr_input.specs.Classes.{is_alpha, is_tag_char, is_uri_char, is_blank, is_break, is_z, is_breakz, is_blank_or_breakz, is_flow, is_one_of}
 use Rattle.saphyr_input.proofs.Runs.{run_stops}
 use Rattle.saphyr_scalar.specs.declared.scalar.position.Marker.{Marker}
 use Rattle.saphyr_scalar.specs.declared.scalar.fault.Refusal.{Refusal}
@@ -35,9 +35,6 @@ pub record Stops (c : ℕ) : Type 0 where
 same_as : (c n : ℕ) → nat_eq c n ≡ true → Stops n → Stops c
 same_as c n h is = let e : n ≡ c = grind (arith, nat_tests) in subst Stops e is
 
-abbrev one_of : List ℕ → ℕ → Bool
-one_of set c = list_any (λ x. c == x) set
-
 pub stops_blank : (c : ℕ) → is_blank c ≡ true → Stops c
 stops_blank c h = either (nat_eq c 32) (nat_eq c 9) (Stops c) h
     (λ e. same_as c 32 e (record { no_alpha = refl; no_suffix = refl; no_mark = refl; no_uri = refl }))
@@ -52,15 +49,15 @@ stops_breakz c h = either (is_break c) (is_z c) (Stops c) h
 
 stops_flow : (c : ℕ) → is_flow c ≡ true → Stops c
 stops_flow c h =
-    either (nat_eq c 44) (one_of (91 ∷ 93 ∷ 123 ∷ 125 ∷ []) c) (Stops c) h
+    either (nat_eq c 44) (is_one_of (91 ∷ 93 ∷ 123 ∷ 125 ∷ []) c) (Stops c) h
     (λ e. same_as c 44 e (record { no_alpha = refl; no_suffix = refl; no_mark = refl; no_uri = refl }))
-    (λ h. either (nat_eq c 91) (one_of (93 ∷ 123 ∷ 125 ∷ []) c) (Stops c) h
+    (λ h. either (nat_eq c 91) (is_one_of (93 ∷ 123 ∷ 125 ∷ []) c) (Stops c) h
     (λ e. same_as c 91 e (record { no_alpha = refl; no_suffix = refl; no_mark = refl; no_uri = refl }))
-    (λ h. either (nat_eq c 93) (one_of (123 ∷ 125 ∷ []) c) (Stops c) h
+    (λ h. either (nat_eq c 93) (is_one_of (123 ∷ 125 ∷ []) c) (Stops c) h
     (λ e. same_as c 93 e (record { no_alpha = refl; no_suffix = refl; no_mark = refl; no_uri = refl }))
-    (λ h. either (nat_eq c 123) (one_of (125 ∷ []) c) (Stops c) h
+    (λ h. either (nat_eq c 123) (is_one_of (125 ∷ []) c) (Stops c) h
     (λ e. same_as c 123 e (record { no_alpha = refl; no_suffix = refl; no_mark = refl; no_uri = refl }))
-    (λ h. either (nat_eq c 125) (one_of [] c) (Stops c) h
+    (λ h. either (nat_eq c 125) (is_one_of [] c) (Stops c) h
     (λ e. same_as c 125 e (record { no_alpha = refl; no_suffix = refl; no_mark = refl; no_uri = refl }))
     (λ h. absurd (cc))))))
 

@@ -1,5 +1,5 @@
 -- Escapes of double quoted scalars, a step at a time.
-use Rattle.std.proofs.Common.{◌≡◌, ℕ, zero, suc, ◌+◌, ◌-◌, ◌*◌, ◌^◌, ◌<◌, ◌≤◌, true, false, List, [], ◌∷◌, length, drop, slice_index, Result, Ok, Err, refl, sym, ap, ◌∙◌, arith, subst, nat_eq}
+use Rattle.std.proofs.Common.{◌≡◌, ℕ, zero, suc, ◌+◌, ◌-◌, ◌*◌, ◌^◌, ◌<◌, ◌≤◌, true, false, List, [], ◌∷◌, length, drop, slice_index, Ok, refl, sym, ap, ◌∙◌, arith, subst, nat_eq}
 use Rattle.std.proofs.lemmas.Bool.Decides.{nat_tests}
 use Rattle.std.specs.Prelude.{Option, Some, None}
 use Rattle.std.proofs.Math.Nat.{pow-le-pow_right}
@@ -7,8 +7,7 @@ use Rattle.std.proofs.lemmas.Grind.{pow_more}
 use Rattle.saphyr_input.specs.Classes.{is_hex, hex_value}
 use Rattle.saphyr_scalar.specs.declared.scalar.position.Marker.{Marker}
 use Rattle.saphyr_scalar.specs.declared.scalar.fault.FaultText.TheVariants as fault
-use Rattle.saphyr_scalar.specs.declared.scalar.fault.Refusal.{Refusal}
-use Rattle.saphyr_scalar.specs.Cursor.{Cursor, ◌>>=◌, refuse, along, pass}
+use Rattle.saphyr_scalar.specs.Cursor.{Cursor, refuse, along, pass}
 use Rattle.saphyr_scalar.proofs.Moving.{along_none, along_more, drop_more}
 use Rattle.saphyr_scalar.specs.Quoted.{at, digits, simple_escape, digit_count, is_scalar, character, numbered, escape_of, escape}
 use Rattle.saphyr_input.proofs.Basics.Booleans.{by_test}

@@ -14,6 +14,7 @@ use Rattle.saphyr_scalar.specs.declared.reading.flow.Quote.TheVariants.{Single, 
 use Rattle.saphyr_scalar.specs.Seen.{ReadsOn}
 use Rattle.saphyr_scalar.specs.Cursor.{Cursor, refuse, along, pass, pass_break, pass_line, next_line}
 use Rattle.saphyr_scalar.specs.FlowReading as flow
+use Rattle.saphyr_scalar.proofs.NoBreaks.{mark_no_nul}
 use Rattle.saphyr_scalar.proofs.Quoted.Inside.{front_twice, passed_over, behind_no_gap, IsContent, at_break, at_end, flushed, Moved, moved_stops, SameRun, moved_of}
 use Rattle.saphyr_scalar.proofs.Quoted.Parts.{blanks_moved}
 use Rattle.saphyr_scalar.specs.Quoted.{is_literal, is_escaped_break, is_closing, ends_word, with_front, at, special, on_line, over_lines, no_gap, escaped_gap, break_len, inside, inside_at}
@@ -187,13 +188,9 @@ pub quote_closes : (q : Quote) (indent : ℕ) (start : Marker) (text : List ℕ)
 quote_closes q indent start text s h e =
     ap (with_front text) (closes s.mark s.rest (closing_quote q s.rest h e) e) ∙ rw (append-nil text) refl
   where
-    mark_left : (q : Quote) → 0 ≡ flow.mark q → ⊥
-    mark_left Single h = absurd (omega arith)
-    mark_left Double h = absurd (omega arith)
-
     closes : (m : Marker) (xs : List ℕ) → IsTrue (is_closing q xs) → slice_index xs 0 ≡ flow.mark q
         → inside q indent start no_gap 0 m xs ≡ Ok ([], at (along m 1) (drop 1 xs))
-    closes m [] h e = absurd (mark_left q e)
+    closes m [] h e = absurd (mark_no_nul q e)
     closes m (c ∷ cs) h e =
         ap (λ x. inside q indent start no_gap 0 m (x ∷ cs)) e
         ∙ at_closing q indent start m cs (subst (λ (x : ℕ). IsTrue (is_closing q (x ∷ cs))) e h)

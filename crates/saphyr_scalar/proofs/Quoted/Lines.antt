@@ -1,5 +1,5 @@
 -- The breaks inside a quoted scalar, and the lines behind them.
-use Rattle.std.proofs.Common.{◌≡◌, ℕ, zero, suc, ◌+◌, ◌<◌, ◌≤◌, Bool, true, false, List, [], ◌∷◌, ◌++◌, length, drop, length-drop, slice_index, Result, Ok, Err, refl, sym, ap, ◌∙◌, arith, subst, encode_utf8_all, nat_lt, cond, add-one, append_assoc}
+use Rattle.std.proofs.Common.{◌≡◌, ℕ, zero, suc, ◌+◌, ◌<◌, ◌≤◌, Bool, true, false, List, [], ◌∷◌, ◌++◌, length, drop, slice_index, Result, Ok, Err, refl, sym, ap, ◌∙◌, arith, subst, encode_utf8_all, nat_lt, cond, add-one, append_assoc}
 use Rattle.std.specs.Prelude.{◌&&◌, ◌==◌, encode_utf8}
 use Rattle.std.proofs.lemmas.Bool.Decides.{nat_tests}
 use Rattle.std.proofs.lemmas.List.{append-nil}
@@ -9,11 +9,11 @@ use Rattle.saphyr_scalar.specs.declared.scalar.position.Marker.{Marker}
 use Rattle.saphyr_scalar.specs.declared.scalar.fault.Refusal.{Refusal}
 use Rattle.saphyr_scalar.specs.declared.scalar.fault.FaultText.TheVariants as fault
 use Rattle.saphyr_scalar.specs.declared.reading.flow.Quote.{Quote}
-use Rattle.saphyr_scalar.specs.Cursor.{Cursor, ◌>>=◌, refuse, along, pass_blanks, pass_break, next_line}
+use Rattle.saphyr_scalar.specs.Cursor.{Cursor, ◌>>=◌, refuse, along, pass_blanks, pass_break}
 use Rattle.saphyr_scalar.specs.Folding.{line_feeds}
-use Rattle.saphyr_scalar.proofs.Quoted.Inside.{front_twice, behind_gap, behind_no_gap, word_from, break_cases, at_break}
+use Rattle.saphyr_scalar.proofs.Quoted.Inside.{front_twice, behind_gap, behind_no_gap, word_from, at_break}
 use Rattle.saphyr_scalar.specs.Quoted.{TextRead, with_front, at, over_lines, no_gap, is_left, blank_in, folded_break, begin_word, end_gap, inside, inside_at}
-use Rattle.saphyr_input.proofs.Basics.Booleans.{by_test}
+use Rattle.saphyr_input.proofs.Basics.Booleans.{and_false}
 use Rattle.std.proofs.lemmas.Bool.{lt-ltb}
 use Rattle.saphyr_scalar.proofs.PassedBreaks.{break_shorter}
 
@@ -65,11 +65,7 @@ line_break q indent start escaped n s h =
 
 pub fits_right : (x col indent : ℕ) → indent ≤ col → ((x == 9) && nat_lt col indent) ≡ false
 fits_right x col indent h =
-    let right : nat_lt col indent ≡ false = grind (arith, nat_tests) in rw right (never (x == 9))
-  where
-    never : (b : Bool) → (b && false) ≡ false
-    never true = refl
-    never false = refl
+    let right : nat_lt col indent ≡ false = grind (arith, nat_tests) in rw right (and_false (x == 9))
 
 pub fits_no_tab : (x col indent : ℕ) → (x ≡ 9 → ⊥) → ((x == 9) && nat_lt col indent) ≡ false
 fits_no_tab x col indent h = let other : (x == 9) ≡ false = grind (arith, nat_tests) in rw other refl

@@ -10,7 +10,7 @@ use Rattle.saphyr_scalar.specs.Cursor.{Cursor, along}
 use Rattle.saphyr_scalar.specs.FlowReading as flow
 use Rattle.saphyr_scalar.specs.Folding.{folded}
 use Rattle.saphyr_scalar.specs.Passing.{IsPassed, nothing, character}
-use Rattle.saphyr_scalar.specs.Quoted.{TextRead, digit_count, at, quoted}
+use Rattle.saphyr_scalar.specs.Quoted.{digit_count, at, quoted}
 use Rattle.saphyr_scalar.specs.QuotedLines.{AreOnLine}
 use Rattle.saphyr_scalar.specs.QuotedSpelling as quotes
 use Rattle.saphyr_scalar.proofs.Moving.{along_more}

@@ -1,7 +1,6 @@
 -- What the calls that read a part of a quoted scalar leave.
-use Rattle.std.proofs.Common.{◌≡◌, ℕ, suc, ◌+◌, ◌<◌, Bool, true, false, List, [], ◌∷◌, ◌++◌, length, drop, length-drop, slice_index, Result, Ok, Err, refl, sym, ap, ◌∙◌, arith, subst, nat_eq, IsTrue}
+use Rattle.std.proofs.Common.{◌≡◌, ℕ, suc, ◌+◌, ◌<◌, Bool, true, false, List, [], ◌∷◌, ◌++◌, length, drop, length-drop, slice_index, Result, Ok, Err, refl, sym, ap, ◌∙◌, arith, subst, IsTrue}
 use Rattle.std.specs.Prelude.{◌||◌, ◌&&◌, ◌==◌, not, encode_utf8, Option, Some, None}
-use Rattle.std.proofs.lemmas.Bool.Decides.{nat_tests}
 use Rattle.saphyr_input.specs.Classes.{is_blank, is_break, is_blank_or_breakz}
 use Rattle.saphyr_input.specs.Places.{next_2_are}
 use Rattle.saphyr_scalar.specs.declared.scalar.position.Marker.{Marker}
@@ -11,10 +10,10 @@ use Rattle.saphyr_scalar.specs.declared.reading.flow.Quote.TheVariants.{Single, 
 use Rattle.saphyr_scalar.specs.Cursor.{Cursor, ◌>>=◌, along, pass}
 use Rattle.saphyr_scalar.proofs.Moving.{bind_same}
 use Rattle.saphyr_scalar.proofs.Quoted.Escapes.{escape_place}
-use Rattle.saphyr_scalar.proofs.Quoted.Inside.{front_twice, passed_over, behind_no_gap, run_stands, run_blanks, Moved, slash_left}
+use Rattle.saphyr_scalar.proofs.Quoted.Inside.{front_twice, passed_over, behind_no_gap, run_blanks, Moved, slash_left}
 use Rattle.saphyr_scalar.specs.Quoted.{is_literal, ends_word, simple_escape, digit_count, numbered, escape_of, escape, with_front, at, special, on_line, no_gap, inside, inside_at}
 use Rattle.std.proofs.lemmas.Bool.{eqb-true}
-use Rattle.saphyr_input.proofs.Basics.Booleans.{by_test}
+use Rattle.saphyr_input.proofs.Basics.Booleans.{clash, and_true_left, and_true_right, and_false, by_test}
 
 -- A run that was put behind a text.
 
@@ -82,23 +81,13 @@ escape_of_test (c ∷ cs) h =
 
 two_of_test : (xs : List ℕ) → next_2_are xs 39 39 ≡ true → AreTwoQuotes xs
 two_of_test [] h = absurd (cc)
-two_of_test (c ∷ []) h = absurd (second (c == 39) h)
-  where
-    second : (a : Bool) → (a && false) ≡ true → ⊥
-    second true h = absurd (cc)
-    second false h = absurd (cc)
+two_of_test (c ∷ []) h = clash ((c == 39) && false) h (and_false (c == 39))
 two_of_test (c ∷ d ∷ cs) h =
-    let two = both (c == 39) (d == 39) h in
     record {
       cs = cs;
-      cut = ap (λ x. x ∷ d ∷ cs) (sym (sym (eqb-true c 39 two.0)))
-          ∙ ap (λ x. 39 ∷ x ∷ cs) (sym (sym (eqb-true d 39 two.1)));
+      cut = ap (λ x. x ∷ d ∷ cs) (sym (sym (eqb-true c 39 (and_true_left (c == 39) (d == 39) h))))
+          ∙ ap (λ x. 39 ∷ x ∷ cs) (sym (sym (eqb-true d 39 (and_true_right (c == 39) (d == 39) h))));
     }
-  where
-    both : (a b : Bool) → (a && b) ≡ true → (a ≡ true) × (b ≡ true)
-    both true true h = (refl, refl)
-    both true false h = absurd (cc)
-    both false b h = absurd (cc)
 
 of_same : (start : Marker) (letter : ℕ) (o : Option ℕ) (s : Cursor)
     → escape_of start o letter (at s.mark s.rest) ≡ escape_of start o letter s

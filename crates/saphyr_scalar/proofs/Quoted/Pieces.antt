@@ -20,7 +20,6 @@ use Rattle.saphyr_scalar.proofs.Quoted.Inside.{break_cases}
 use Rattle.saphyr_scalar.proofs.Quoted.SpelledLines.{quoted_spelled}
 use Rattle.saphyr_scalar.proofs.Quoted.SpelledEscapes.{GaveText}
 use Rattle.saphyr_scalar.proofs.Quoted.SpellingsRead.{quoted_read}
-use Rattle.std.proofs.lemmas.Bool.{cond-false}
 use Rattle.saphyr_input.proofs.Basics.Characters.{normalized_other}
 
 -- The two tables of escapes agree.

@@ -20,11 +20,12 @@ use Rattle.saphyr_scalar.proofs.Quoted.Inside.{IsContent}
 use Rattle.saphyr_scalar.proofs.RefusedOnWay.{inside_at, inside_start, one_more_passed}
 use Rattle.saphyr_scalar.proofs.Refusals.{Refused, RefusedAt, refused_bind, refused_more, front_refused}
 use Rattle.saphyr_scalar.proofs.Quoted.SpelledEscapes.{escape_spelled, no_escape}
-use Rattle.saphyr_scalar.proofs.Quoted.SpelledLines.{gap_ended, special_of}
+use Rattle.saphyr_scalar.proofs.Quoted.SpelledWords.{special_of}
+use Rattle.saphyr_scalar.proofs.Quoted.SpelledLines.{gap_ended}
 use Rattle.saphyr_input.proofs.Basics.Booleans.{and_true_left, and_true_right, by_test}
 use Rattle.std.proofs.lemmas.Bool.{eqb-true}
 use Rattle.saphyr_input.proofs.Basics.Characters.{blank_no_break}
-use Rattle.saphyr_scalar.proofs.NoBreaks.{mark_no_break}
+use Rattle.saphyr_scalar.proofs.NoBreaks.{mark_no_break, mark_no_nul}
 
 -- ## Escapes and gaps, which are refused where the scalar begins
 
@@ -214,10 +215,6 @@ quoted_refused q indent s begins =
     inside_refused q indent s no_gap 0 (along s.mark 1) (drop 1 s.rest) (first s.rest begins)
   where
     first : (t : List ℕ) → slice_index t 0 ≡ flow.mark q → IsPassed s.mark t (along s.mark 1) (drop 1 t)
-    first [] e = absurd (no_mark q e)
-      where
-        no_mark : (q : Quote) → 0 ≡ flow.mark q → ⊥
-        no_mark Single e = omega arith
-        no_mark Double e = omega arith
+    first [] e = absurd (mark_no_nul q e)
     first (c ∷ cs) e = character s.mark c cs (along s.mark 1) cs (ap is_break e ∙ mark_no_break q)
         (nothing (along s.mark 1) cs)

@@ -6,7 +6,7 @@ use Rattle.saphyr_input.specs.Classes.{is_blank, is_break, is_breakz}
 use Rattle.saphyr_scalar.specs.declared.scalar.position.Marker.{Marker}
 use Rattle.saphyr_scalar.specs.declared.reading.flow.Quote.TheVariants.{Double}
 use Rattle.saphyr_scalar.specs.Cursor.{Cursor, ◌>>=◌, along}
-use Rattle.saphyr_scalar.specs.Quoted.{TextRead, is_literal, simple_escape, digit_count, digits, character, numbered, escape_of, escape, with_front, at, on_line, no_gap, inside, inside_at, quoted, double_quoted}
+use Rattle.saphyr_scalar.specs.Quoted.{is_literal, simple_escape, digit_count, digits, character, numbered, escape_of, escape, with_front, at, on_line, no_gap, inside, inside_at, quoted, double_quoted}
 use Rattle.saphyr_scalar.specs.LineSpelling as spelling
 use Rattle.saphyr_scalar.proofs.Moving.{along_none, along_more}
 use Rattle.saphyr_scalar.proofs.Quoted.Escapes.{simple_no_digits}
@@ -90,7 +90,7 @@ abbrev pub Reads : ℕ → Marker → List ℕ → Marker → List ℕ → List 
 Reads indent start b m t v x n =
     inside Double indent start (on_line b) 0 m t ≡ Ok (b ++ encode_utf8_all v, at (along m n) x)
 
-escape_content : IsContent 92
+pub escape_content : IsContent 92
 escape_content = record { blank = refl; break = refl; nul = refl }
 
 quote_content : IsContent 34

@@ -7,7 +7,7 @@ use Rattle.saphyr_scalar.specs.declared.scalar.position.Span.{Span}
 use Rattle.saphyr_scalar.specs.Cursor.{Cursor}
 use Rattle.saphyr_scalar.specs.FlowReading.{plain_value}
 use Rattle.saphyr_scalar.specs.Folding.{folded}
-use Rattle.saphyr_scalar.proofs.Directives.Read.{begins}
+use Rattle.saphyr_scalar.proofs.Directives.LowBytes.{begins}
 use Rattle.saphyr_scalar.proofs.Plain.Runs.{items, folded_word}
 use Rattle.saphyr_scanner.specs.TokensTaken.{IsPlainToken}
 

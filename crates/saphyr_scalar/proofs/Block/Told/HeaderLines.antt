@@ -16,7 +16,7 @@ use Rattle.saphyr_scalar.specs.BlockText.{digit_of, chomping_of, AreIndicators, 
 use Rattle.saphyr_scalar.specs.Cursor.{Cursor, pass, pass_blanks, pass_break, separation, behind_separation}
 use Rattle.saphyr_scalar.specs.DirectiveSpelling.{IsLineTail}
 use Rattle.saphyr_scalar.proofs.Block.Reads.{then_gave, gave, refused, same_gift}
-use Rattle.saphyr_scalar.proofs.Directives.Spelled.{line_of}
+use Rattle.saphyr_scalar.proofs.Directives.TailsSpelled.{line_of}
 use Rattle.saphyr_scalar.proofs.Quoted.Inside.{break_cases}
 use Rattle.saphyr_scalar.proofs.Properties.TagsSpelled.{cut_at}
 use Rattle.saphyr_input.proofs.Basics.Booleans.{and_true_left, and_true_right, by_test}

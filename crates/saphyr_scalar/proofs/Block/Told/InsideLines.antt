@@ -1,6 +1,6 @@
 -- Inside the lines of a block scalar stands no NUL and no byte order mark, and at the start of none a document marker.
 use Rattle.std.proofs.Common.{◌≡◌, ◌⊎◌, ℕ, ◌+◌, Bool, true, false, List, [], ◌∷◌, ◌++◌, slice_index, refl, sym, ap, arith, subst, inl, inr}
-use Rattle.std.specs.Prelude.{◌||◌, ◌&&◌, ◌==◌, not, Option, Some, None, IsTrue, IsFalse, nat_lt}
+use Rattle.std.specs.Prelude.{◌||◌, ◌&&◌, ◌==◌, not, Option, Some, IsTrue, IsFalse}
 use Rattle.std.proofs.lemmas.Bool.Decides.{nat_tests}
 use Rattle.saphyr_input.specs.Classes.{is_blank, is_break, is_yaml_non_break}
 use Rattle.saphyr_input.specs.Places.{is_document_indicator}
@@ -11,7 +11,7 @@ use Rattle.saphyr_scalar.specs.BlockScalar.{is_indentation, is_cr_lf, inside_bre
 use Rattle.saphyr_scalar.specs.BlockText.{AreInside}
 use Rattle.saphyr_scalar.specs.Cursor.{Cursor, along, next_line}
 use Rattle.saphyr_scalar.proofs.Quoted.Inside.{break_cases}
-use Rattle.saphyr_input.proofs.Basics.Booleans.{and_true_left, by_test}
+use Rattle.saphyr_input.proofs.Basics.Booleans.{and_true_left, and_true_right, by_test}
 use Rattle.std.proofs.lemmas.Bool.{eqb-true}
 use Rattle.saphyr_input.proofs.Basics.Characters.{non_break_no_break}
 use Rattle.saphyr_scalar.proofs.Block.Indentations.{indentation_is_space}
@@ -65,11 +65,7 @@ a_return A B c cs rest e w =
     let is : c ≡ 13 = eqb-true c 13 (and_true_left (c == 13) (slice_index cs 0 == 10) e) in
     let b : is_break c ≡ true = ap is_break is in
     within_more A B c cs rest (break_stands c b) (λ _. no_marker_break c cs b)
-    (λ _. inr (eqb-true (slice_index cs 0) 10 (right (c == 13) (slice_index cs 0 == 10) e))) w
-  where
-    right : (a b : Bool) → (a && b) ≡ true → b ≡ true
-    right true b h = h
-    right false b h = absurd (cc)
+    (λ _. inr (eqb-true (slice_index cs 0) 10 (and_true_right (c == 13) (slice_index cs 0 == 10) e))) w
 
 a_break : (A B : Type 0) (c : ℕ) (cs rest : List ℕ) → is_break c ≡ true → B → Within B cs rest → Within A (c ∷ cs) rest
 a_break A B c cs rest b starts w =

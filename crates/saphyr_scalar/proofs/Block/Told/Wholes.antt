@@ -21,7 +21,7 @@ use Rattle.saphyr_scalar.specs.Cursor.{Cursor}
 use Rattle.saphyr_scalar.specs.Lines.{ended_lines, last_line}
 use Rattle.saphyr_scalar.specs.Passing as passing
 use Rattle.saphyr_scalar.specs.Passing.{IsPassed}
-use Rattle.saphyr_scalar.proofs.Block.Law.{Behind, Led, led, nothing_led, behind_begun, behind_cut}
+use Rattle.saphyr_scalar.proofs.Block.Law.{Behind, Led, Read, led, nothing_led, behind_begun, behind_cut}
 use Rattle.saphyr_scalar.proofs.Block.Reads.{header_place, then_gave, gave, refused, same_gift}
 use Rattle.saphyr_scalar.proofs.Block.Texts.{spaces, plain_spaces, only_line, line_spaces}
 use Rattle.saphyr_scalar.proofs.Block.Told.HeaderLines.{header_line}
@@ -63,9 +63,6 @@ ends_told i t e = record {
     reaches c s h = grind (arith, nat_tests)
 
 -- ## Where the lines end, and where the span begins
-
-abbrev Read : Type 0
-Read = List ℕ × Span × Cursor
 
 record Told (start : Marker) (x : EmptyLines × Cursor) (y : Read) : Type 0 where
   inside : Within (x.1.mark.col ≡ 0) x.1.rest y.2.rest

@@ -1,6 +1,6 @@
 -- The indentation of a block scalar is that of its widest line of spaces, or what its indicator gives.
-use Rattle.std.proofs.Common.{◌≡◌, ℕ, zero, suc, ◌+◌, Bool, true, false, List, [], ◌∷◌, ◌++◌, slice_index, refl, sym, ap, ◌∙◌, arith, subst}
-use Rattle.std.specs.Prelude.{◌||◌, ◌&&◌, ◌==◌, max, None, unwrap_or, IsTrue}
+use Rattle.std.proofs.Common.{◌≡◌, ℕ, zero, suc, ◌+◌, Bool, true, false, List, [], ◌∷◌, ◌++◌, slice_index, refl, sym, ap, ◌∙◌, arith}
+use Rattle.std.specs.Prelude.{◌==◌, max, None, unwrap_or, IsTrue}
 use Rattle.std.proofs.lemmas.Bool.Decides.{nat_tests}
 use Rattle.std.proofs.lemmas.List.{append-nil, length-replicate}
 use Rattle.saphyr_input.specs.Breaks.{normalized}
@@ -12,8 +12,8 @@ use Rattle.saphyr_scalar.specs.BlockText.{all_lines, widest, is_space_or_break, 
 use Rattle.saphyr_scalar.specs.Cursor.{Cursor, along, next_line}
 use Rattle.saphyr_scalar.specs.TagSpelling.{AreIn}
 use Rattle.saphyr_scalar.proofs.Block.Texts.{spaces, spaces_more, plain_spaces, first_line, only_line, normal_half, normal_break}
-use Rattle.saphyr_input.proofs.Basics.Booleans.{or_false_right, by_test}
-use Rattle.std.proofs.lemmas.Bool.{eqb-true}
+use Rattle.saphyr_input.proofs.Basics.Booleans.{and_true_left, or_false_right, by_test}
+use Rattle.std.proofs.lemmas.Bool.{eqb-true, or_right}
 
 lone : (j : ℕ) → widest (all_lines (spaces j ++ [])) ≡ j
 lone j =
@@ -60,11 +60,7 @@ width_half j x before cs r e b w = record {
 }
   where
     broken : IsTrue (is_space_or_break x)
-    broken = let P : Bool → Type 0 = λ k. ((x == 32) || k) ≡ true in subst P (sym b) (right (x == 32))
-      where
-        right : (a : Bool) → (a || true) ≡ true
-        right true = refl
-        right false = refl
+    broken = or_right (x == 32) (is_break x) b
 
 width_break : (j x : ℕ) (before : EmptyLines) (cs : List ℕ) (r : EmptyLines × Cursor) → is_cr_lf x cs ≡ false
     → is_break x ≡ true → Width 0 (one_more before j) cs r → Width j before (x ∷ cs) r
@@ -83,18 +79,10 @@ width_break j x before cs r e b w = record {
 }
   where
     broken : IsTrue (is_space_or_break x)
-    broken = let P : Bool → Type 0 = λ k. ((x == 32) || k) ≡ true in subst P (sym b) (right (x == 32))
-      where
-        right : (a : Bool) → (a || true) ≡ true
-        right true = refl
-        right false = refl
+    broken = or_right (x == 32) (is_break x) b
 
 half_breaks : (x : ℕ) (cs : List ℕ) → is_cr_lf x cs ≡ true → is_break x ≡ true
-half_breaks x cs h = ap is_break (eqb-true x 13 (left (x == 13) (slice_index cs 0 == 10) h))
-  where
-    left : (a b : Bool) → (a && b) ≡ true → a ≡ true
-    left true b k = refl
-    left false b k = k
+half_breaks x cs h = ap is_break (eqb-true x 13 (and_true_left (x == 13) (slice_index cs 0 == 10) h))
 
 widths : (before : EmptyLines) (b : Bool) (m : Marker) (xs : List ℕ)
     → Width m.col before xs (empty_lines None before b m xs)

@@ -1,4 +1,4 @@
-use Rattle.std.proofs.Common.{◌≡◌, ◌≤◌, false, length, length-drop, slice_index, string_bytes, sym, ap, ◌∙◌, arith}
+use Rattle.std.proofs.Common.{◌≡◌, false, length, slice_index, string_bytes, sym, ap, ◌∙◌, arith}
 use Rattle.saphyr_scalar.specs.Cursor.{Cursor, along}
 use Rattle.saphyr_scalar.specs.Quoted.{with_front}
 use Rattle.saphyr_scalar.specs.Tag as spec

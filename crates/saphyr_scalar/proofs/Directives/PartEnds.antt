@@ -1,0 +1,51 @@
+-- What ends a part of a directive, and the blanks before a part.
+use Rattle.std.proofs.Common.{◌≡◌, ◌≢◌, ℕ, Bool, true, false, List, [], ◌∷◌, ◌++◌, length, slice_index, nat_eq, Result, Ok, refl, ap, ◌∙◌, arith, subst}
+use Rattle.std.proofs.Math.Seq.{drop-append_seam}
+use Rattle.std.proofs.lemmas.Bool.Decides.{nat_tests}
+use Rattle.saphyr_input.specs.Classes.{is_digit, is_uri_char, is_blank, is_break, is_z, is_breakz, is_blank_or_breakz, is_yaml_non_space}
+use Rattle.saphyr_scalar.specs.declared.scalar.position.Marker.{Marker}
+use Rattle.saphyr_scalar.specs.declared.scalar.fault.Refusal.{Refusal}
+use Rattle.saphyr_scalar.specs.Cursor.{Cursor, along, pass_blanks}
+use Rattle.saphyr_scalar.specs.Directive.{Directive, behind_blanks}
+use Rattle.saphyr_scalar.specs.Quoted.{at}
+use Rattle.saphyr_scalar.specs.TagSpelling.{AreIn}
+use Rattle.saphyr_scalar.proofs.Runs.{run_len}
+use Rattle.saphyr_input.proofs.Basics.Booleans.{either}
+
+pub record Ends (c : ℕ) : Type 0 where
+  pub no_uri : is_uri_char c ≡ false
+  pub no_digit : is_digit c ≡ false
+  pub no_name : is_yaml_non_space c ≡ false
+
+same_as : (c n : ℕ) → nat_eq c n ≡ true → Ends n → Ends c
+same_as c n h is = let e : n ≡ c = grind (arith, nat_tests) in subst Ends e is
+
+ends_blank : (c : ℕ) → is_blank c ≡ true → Ends c
+ends_blank c h = either (nat_eq c 32) (nat_eq c 9) (Ends c) h
+    (λ e. same_as c 32 e (record { no_uri = refl; no_digit = refl; no_name = refl }))
+    (λ e. same_as c 9 e (record { no_uri = refl; no_digit = refl; no_name = refl }))
+
+ends_breakz : (c : ℕ) → is_breakz c ≡ true → Ends c
+ends_breakz c h = either (is_break c) (is_z c) (Ends c) h
+    (λ b. either (nat_eq c 10) (nat_eq c 13) (Ends c) b
+    (λ e. same_as c 10 e (record { no_uri = refl; no_digit = refl; no_name = refl }))
+    (λ e. same_as c 13 e (record { no_uri = refl; no_digit = refl; no_name = refl })))
+    (λ e. same_as c 0 e (record { no_uri = refl; no_digit = refl; no_name = refl }))
+
+pub ends_at : (c : ℕ) → is_blank_or_breakz c ≡ true → Ends c
+ends_at c h = either (is_blank c) (is_breakz c) (Ends c) h (ends_blank c) (ends_breakz c)
+
+pub first_of : (p : ℕ → Bool) (w y : List ℕ) → w ≢ [] → AreIn p w → p (slice_index (w ++ y) 0) ≡ true
+first_of p [] y some are = absurd (some refl)
+first_of p (c ∷ w) y some (is, are) = is
+
+abbrev pub blanks_passed : ℕ → Marker → List ℕ → Cursor
+blanks_passed n m xs = pass_blanks n (at m xs)
+
+pub blanks_read : (m : Marker) (gap y : List ℕ) → AreIn is_blank gap → is_blank (slice_index y 0) ≡ false
+    → behind_blanks (at m (gap ++ y)) ≡ at (along m (length gap)) y
+blanks_read m gap y are ends =
+    ap (λ n. blanks_passed n m (gap ++ y)) (run_len is_blank gap y are ends) ∙ rw (drop-append_seam gap y) refl
+
+abbrev pub said : Directive → Cursor → Result (Directive × Cursor) Refusal
+said d s = Ok (d, s)

@@ -1,0 +1,73 @@
+-- Each spelled reserved directive is read.
+use Rattle.std.proofs.Common.{◌≡◌, ◌≢◌, ℕ, ◌+◌, true, List, [], ◌∷◌, ◌++◌, length, length-append, append_assoc, slice_index, Ok, refl, ap, ◌∙◌, arith, encode_utf8_all, IsTrue, inl, inr, lit<}
+use Rattle.std.specs.Prelude.{◌⊎◌, codes}
+use Rattle.std.proofs.Math.Seq.{drop-append_seam}
+use Rattle.std.proofs.lemmas.Bool.{or_left, or_right}
+use Rattle.saphyr_input.specs.Classes.{is_blank, is_breakz, is_blank_or_breakz, is_yaml_non_break}
+use Rattle.saphyr_scalar.specs.declared.scalar.position.Marker.{Marker}
+use Rattle.saphyr_scalar.specs.Cursor.{Cursor, along, pass_break, pass_comment}
+use Rattle.saphyr_scalar.specs.Directive.{reserved, name, value, directive}
+use Rattle.saphyr_scalar.specs.DirectiveSpelling.{IsReservedDirective}
+use Rattle.saphyr_scalar.specs.Quoted.{at}
+use Rattle.saphyr_scalar.specs.TagSpelling.{AreIn}
+use Rattle.saphyr_scalar.proofs.Runs.{run_len}
+use Rattle.saphyr_scalar.proofs.Places.{along_three}
+use Rattle.saphyr_input.proofs.Basics.Characters.{breakz_no_non_break}
+use Rattle.saphyr_scalar.proofs.Directives.PartEnds.{blanks_passed, said}
+use Rattle.saphyr_scalar.proofs.Directives.TailsRead.{line_read, no_tail}
+use Rattle.saphyr_scalar.proofs.Directives.Read.{name_read, whole_line, tail_given, line_place, directive_same}
+use Rattle.saphyr_scalar.proofs.Directives.LowBytes.{not_text}
+
+reserved_value : (start : Marker) (name : List ℕ) (s : Cursor) → name ≢ codes "YAML" → name ≢ codes "TAG"
+    → value start (encode_utf8_all name, s) ≡ Ok (reserved (encode_utf8_all name), pass_comment s)
+unfolding value
+reserved_value start name s no_yaml no_tag =
+    rw (
+      not_text name (codes "YAML") (lit< tt, (lit< tt, (lit< tt, (lit< tt, tt)))) no_yaml,
+      not_text name (codes "TAG")
+          (lit< tt, (lit< tt, (lit< tt, tt))) no_tag,
+    ) refl
+
+more_begins : (more x : List ℕ) → (more ≡ []) ⊎ IsTrue (is_blank (slice_index more 0))
+    → is_breakz (slice_index x 0) ≡ true → is_blank_or_breakz (slice_index (more ++ x) 0) ≡ true
+more_begins [] x is ends = or_right (is_blank (slice_index x 0)) (is_breakz (slice_index x 0)) ends
+more_begins (c ∷ more) x (inl none) ends = absurd (cc)
+more_begins (c ∷ more) x (inr blank) ends = or_left (is_blank c) (is_breakz c) blank
+
+comment_passed : (k : Marker) (more x : List ℕ) → AreIn is_yaml_non_break more → is_breakz (slice_index x 0) ≡ true
+    → pass_comment (at k (more ++ x)) ≡ at (along k (length more)) x
+comment_passed k more x are ends =
+    ap (λ n. blanks_passed n k (more ++ x))
+    (run_len is_yaml_non_break more x are (breakz_no_non_break (slice_index x 0) ends))
+    ∙ rw (drop-append_seam more x) refl
+
+reserved_line : (m : Marker) (name t x : List ℕ) → IsReservedDirective name t → is_breakz (slice_index x 0) ≡ true
+    → directive (at m (t ++ x))
+    ≡ tail_given (reserved (encode_utf8_all name)) (along m (length t)) (along m (length t)) x
+reserved_line m name t x (more, some, no_yaml, no_tag, are, in_line, begins, e) ends =
+    let d = reserved (encode_utf8_all name) in
+    let parts = more ++ x in
+    let whole : t ++ x ≡ 37 ∷ (name ++ parts) = ap (λ u. u ++ x) e ∙ ap (λ u. 37 ∷ u) (append_assoc name more x) in
+    let len : length t ≡ 1 + length name + length more = rw e (omega (arith, length-append name more)) in
+    let a = along (along m 1) (length name) in
+    let b = along a (length more) in
+    let none : length t + 0 ≡ length t = omega arith in
+    ap (λ u. directive (at m u)) whole
+    ∙ whole_line (at m (37 ∷ (name ++ parts))) (pass_break (at (along b 0) x)) d (encode_utf8_all name) (at a parts)
+    (at b x)
+    (name_read (along m 1) name parts some are (more_begins more x begins ends))
+    (reserved_value m name (at a parts) no_yaml no_tag ∙ ap (λ s. said d s) (comment_passed a more x in_line ends))
+    (line_read m b [] x no_tail ends)
+    ∙ line_place d m b (length t) [] x (along_three m 1 (length name) (length more) (length t) len)
+    ∙ ap (λ n. tail_given d (along m (length t)) (along m n) x) none
+
+pub reads_reserved : (s : Cursor) (name t x : List ℕ) → s.rest ≡ t ++ x → IsReservedDirective name t
+    → is_breakz (slice_index x 0) ≡ true
+    → directive s ≡ Ok (
+      reserved (encode_utf8_all name),
+      along s.mark (length t),
+      pass_break
+          (at (along s.mark (length t)) x),
+    )
+reads_reserved s name t x e is ends =
+    directive_same s ∙ ap (λ u. directive (at s.mark u)) e ∙ reserved_line s.mark name t x is ends

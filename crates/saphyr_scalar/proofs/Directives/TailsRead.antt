@@ -1,0 +1,102 @@
+-- What stands behind a directive on its line is passed: blanks, and behind some a comment.
+use Rattle.std.proofs.Common.{◌≡◌, ℕ, suc, ◌+◌, true, false, List, [], ◌∷◌, ◌++◌, length, length-append, append_assoc, drop, slice_index, nat_eq, nat_lt, cond, Ok, refl, sym, ap, ◌∙◌, arith, inl, inr}
+use Rattle.std.specs.Prelude.{◌⊎◌}
+use Rattle.std.proofs.Math.Seq.{drop-append_seam}
+use Rattle.std.proofs.lemmas.Bool.{or_left, or_right, and_right}
+use Rattle.std.proofs.lemmas.Bool.Decides.{nat_tests}
+use Rattle.saphyr_input.specs.Classes.{is_blank, is_breakz, is_blank_or_breakz, is_bom, is_yaml_non_break}
+use Rattle.saphyr_input.specs.Separation.{separation_len, blank_len, comment_len, is_bare_comment, found_blanks}
+use Rattle.saphyr_input.specs.declared.input.SkipTabs.TheVariants.{Yes}
+use Rattle.saphyr_input.proofs.Runs.{run_stops}
+use Rattle.saphyr_scalar.specs.declared.scalar.position.Marker.{Marker}
+use Rattle.saphyr_scalar.specs.Cursor.{Cursor, along, pass_break, separation, behind_separation}
+use Rattle.saphyr_scalar.specs.Directive.{line_end}
+use Rattle.saphyr_scalar.specs.DirectiveSpelling.{IsTailComment, IsLineTail}
+use Rattle.saphyr_scalar.specs.Quoted.{at}
+use Rattle.saphyr_scalar.specs.TagSpelling.{AreIn}
+use Rattle.saphyr_scalar.proofs.Runs.{run_len}
+use Rattle.saphyr_input.proofs.Basics.Booleans.{other_than}
+use Rattle.saphyr_input.proofs.Basics.Characters.{breakz_no_non_break}
+use Rattle.saphyr_scalar.proofs.Directives.PartEnds.{blanks_passed}
+
+no_bom : (c : ℕ) → is_breakz c ≡ true → is_bom c ≡ false
+no_bom c h = other_than is_breakz 65279 c refl h
+
+no_blank : (c : ℕ) → is_breakz c ≡ true → is_blank c ≡ false
+no_blank c h = rw (other_than is_breakz 32 c refl h, other_than is_breakz 9 c refl h) refl
+
+abbrev pub Tail : List ℕ → List ℕ → Type 0
+Tail blanks comment = (comment ≡ []) ⊎ IsTailComment blanks comment
+
+tail_begins : (blanks comment x : List ℕ) → AreIn is_blank blanks → Tail blanks comment
+    → is_breakz (slice_index x 0) ≡ true → is_blank_or_breakz (slice_index (blanks ++ (comment ++ x)) 0) ≡ true
+tail_begins (b ∷ bs) comment x (is, are) tail ends = or_left (is_blank b) (is_breakz b) is
+tail_begins [] comment x are (inl none) ends =
+    rw none (or_right (is_blank (slice_index x 0)) (is_breakz (slice_index x 0)) ends)
+tail_begins [] comment x are (inr (words, some, in_line, is)) ends = absurd (some refl)
+
+comment_begins : (blanks comment x : List ℕ) → Tail blanks comment → is_breakz (slice_index x 0) ≡ true
+    → is_blank (slice_index (comment ++ x) 0) ≡ false
+comment_begins blanks comment x (inl none) ends = rw none (no_blank (slice_index x 0) ends)
+comment_begins blanks comment x (inr (words, some, in_line, is)) ends = rw is refl
+
+comment_is : (blanks comment x : List ℕ) → Tail blanks comment → is_breakz (slice_index x 0) ≡ true
+    → comment_len (comment ++ x) ≡ length comment
+comment_is blanks comment x (inl none) ends = rw (none, other_than is_breakz 35 (slice_index x 0) refl ends) refl
+comment_is blanks comment x (inr (words, some, in_line, is)) ends =
+    rw is (run_len is_yaml_non_break (35 ∷ words) x (refl, in_line) (breakz_no_non_break (slice_index x 0) ends))
+
+abbrev separated : ℕ → List ℕ → ℕ
+separated n xs = cond (nat_eq n 0) 0 (n + comment_len (drop n xs))
+
+separated_some : (n : ℕ) (xs : List ℕ) → separated (suc n) xs ≡ suc n + comment_len (drop (suc n) xs)
+separated_some n xs = let some : nat_eq (suc n) 0 ≡ false = grind (arith, nat_tests) in rw some refl
+
+separation_is : (blanks comment x : List ℕ) → AreIn is_blank blanks → Tail blanks comment
+    → is_breakz (slice_index x 0) ≡ true
+    → separation_len Yes (blanks ++ (comment ++ x)) ≡ length blanks + length comment
+separation_is [] comment x are (inl none) ends =
+    rw none (ap (λ n. separated n x) (run_stops is_blank x (no_blank (slice_index x 0) ends)))
+separation_is [] comment x are (inr (words, some, in_line, is)) ends = absurd (some refl)
+separation_is (b ∷ bs) comment x are tail ends =
+    let xs = b ∷ (bs ++ (comment ++ x)) in
+    ap (λ n. separated n xs)
+    (run_len is_blank (b ∷ bs) (comment ++ x) are (comment_begins (b ∷ bs) comment x tail ends))
+    ∙ separated_some (length bs) xs
+    ∙ ap (λ u. suc (length bs) + comment_len u) (drop-append_seam (b ∷ bs) (comment ++ x))
+    ∙ ap (λ n. suc (length bs) + n) (comment_is (b ∷ bs) comment x tail ends)
+
+nothing_refused : (text : List ℕ) (s : Cursor) → is_bom (slice_index s.rest 0) ≡ false
+    → is_bare_comment Yes text ≡ false → behind_separation Yes text s ≡ Ok (found_blanks Yes text, s)
+unfolding behind_separation
+nothing_refused text s bom bare = rw (and_right (nat_lt 0 s.mark.col) (is_bom (slice_index s.rest 0)) bom, bare) refl
+
+pub tail_first : (tail x : List ℕ) → IsLineTail tail → is_breakz (slice_index x 0) ≡ true
+    → is_blank_or_breakz (slice_index (tail ++ x) 0) ≡ true
+tail_first tail x (blanks, comment, are, end, e) ends =
+    rw (e, append_assoc blanks comment x) (tail_begins blanks comment x are end ends)
+
+tail_len : (tail x : List ℕ) → IsLineTail tail → is_breakz (slice_index x 0) ≡ true
+    → separation_len Yes (tail ++ x) ≡ length tail
+tail_len tail x (blanks, comment, are, end, e) ends =
+    rw (e, append_assoc blanks comment x)
+    (separation_is blanks comment x are end ends ∙ sym (length-append blanks comment))
+
+separation_read : (m : Marker) (tail x : List ℕ) → IsLineTail tail → is_breakz (slice_index x 0) ≡ true
+    → separation Yes (at m (tail ++ x)) ≡ Ok (found_blanks Yes (tail ++ x), at (along m (length tail)) x)
+unfolding separation
+separation_read m tail x is ends =
+    let bare : is_bare_comment Yes (tail ++ x) ≡ false =
+    and_right (nat_eq (blank_len Yes (tail ++ x)) 0) (nat_eq (slice_index (tail ++ x) 0) 35)
+    (other_than is_blank_or_breakz 35 (slice_index (tail ++ x) 0) refl (tail_first tail x is ends)) in
+    ap (λ n. behind_separation Yes (tail ++ x) (blanks_passed n m (tail ++ x))) (tail_len tail x is ends)
+    ∙ ap (λ u. behind_separation Yes (tail ++ x) (at (along m (length tail)) u)) (drop-append_seam tail x)
+    ∙ nothing_refused (tail ++ x) (at (along m (length tail)) x) (no_bom (slice_index x 0) ends) bare
+
+pub line_read : (start m : Marker) (tail x : List ℕ) → IsLineTail tail → is_breakz (slice_index x 0) ≡ true
+    → line_end start (at m (tail ++ x)) ≡ Ok (pass_break (at (along m (length tail)) x))
+unfolding line_end
+line_read start m tail x is ends = rw (separation_read m tail x is ends, ends) refl
+
+pub no_tail : IsLineTail []
+no_tail = ([], [], tt, inl refl, refl)

@@ -1,0 +1,119 @@
+-- What is passed behind a directive on its line is spelled so: blanks, and behind some a comment.
+use Rattle.std.proofs.Common.{◌≡◌, ◌≢◌, ℕ, suc, ◌+◌, true, false, List, [], ◌∷◌, ◌++◌, length, length-append, append_assoc, take, drop, slice_index, nat_eq, nat_lt, cond, Ok, Err, refl, sym, ap, ◌∙◌, arith, subst, inl, inr}
+use Rattle.std.specs.Prelude.{◌&&◌}
+use Rattle.std.specs.List.{prefix_len}
+use Rattle.std.proofs.lemmas.Bool.{eqb-true}
+use Rattle.std.proofs.lemmas.Bool.Decides.{nat_tests}
+use Rattle.std.proofs.lemmas.List.{take-append-drop}
+use Rattle.saphyr_input.specs.Classes.{is_blank, is_breakz, is_bom, is_yaml_non_break}
+use Rattle.saphyr_input.specs.Separation.{separation_len, blank_len, comment_len, is_bare_comment, found_blanks}
+use Rattle.saphyr_input.specs.declared.input.SkipTabs.{SkipTabs}
+use Rattle.saphyr_input.specs.declared.input.SkipTabs.TheVariants.{Yes}
+use Rattle.saphyr_scalar.specs.declared.scalar.position.Marker.{Marker}
+use Rattle.saphyr_scalar.specs.declared.scalar.fault.FaultText.TheVariants as fault
+use Rattle.saphyr_scalar.specs.Cursor.{Cursor, along, pass_break, separation, behind_separation}
+use Rattle.saphyr_scalar.specs.Directive.{line_end}
+use Rattle.saphyr_scalar.specs.DirectiveSpelling.{IsLineTail}
+use Rattle.saphyr_scalar.specs.Quoted.{at}
+use Rattle.saphyr_scalar.proofs.Moving.{drop_more}
+use Rattle.saphyr_scalar.proofs.Runs.{run_is_in}
+use Rattle.saphyr_scalar.proofs.Properties.TagsSpelled.{cut_at}
+use Rattle.saphyr_scalar.proofs.Directives.TailsRead.{no_tail, Tail}
+use Rattle.saphyr_scalar.proofs.Steps.{bind_ok, ok_same, cond_ok, cond_not}
+use Rattle.saphyr_input.proofs.Basics.Booleans.{by_test}
+use Rattle.saphyr_scalar.proofs.Directives.NamesSpelled.{run_count}
+use Rattle.saphyr_scalar.proofs.Directives.VersionsSpelled.{some_of_length}
+
+pub record TailOf (m : Marker) (xs : List ℕ) (u : Cursor) : Type 0 where
+  pub tail : List ℕ
+  pub behind : List ℕ
+  pub text : xs ≡ tail ++ behind
+  pub is : IsLineTail tail
+  pub ends : is_breakz (slice_index behind 0) ≡ true
+  pub place : u ≡ pass_break (at (along m (length tail)) behind)
+
+comment_at : (blanks ws : List ℕ) → blanks ≢ [] → Tail blanks (take (1 + prefix_len is_yaml_non_break ws) (35 ∷ ws))
+comment_at blanks ws some =
+    let q = prefix_len is_yaml_non_break ws in
+    let one : 1 + q ≡ suc q = omega arith in
+    rw one (inr (take q ws, some, run_is_in is_yaml_non_break ws, refl))
+
+comment_of : (blanks zs : List ℕ) → blanks ≢ [] → Tail blanks (take (comment_len zs) zs)
+comment_of blanks zs some =
+    by_test (nat_eq (slice_index zs 0) 35) (prefix_len is_yaml_non_break zs) 0 (λ n. Tail blanks (take n zs))
+    (λ e.
+    let more : zs ≡ 35 ∷ drop 1 zs = cut_at 35 zs refl (eqb-true (slice_index zs 0) 35 e) in
+    subst (λ u. Tail blanks (take (prefix_len is_yaml_non_break u) u)) (sym more) (comment_at blanks (drop 1 zs) some))
+    (λ _. inl refl)
+
+comment_count : (zs : List ℕ) → length (take (comment_len zs) zs) ≡ comment_len zs
+comment_count zs =
+    by_test (nat_eq (slice_index zs 0) 35) (prefix_len is_yaml_non_break zs) 0 (λ n. length (take n zs) ≡ n)
+    (λ _. run_count is_yaml_non_break zs) (λ _. refl)
+
+separation_spelled : (m : Marker) (xs : List ℕ) (x : SkipTabs × Cursor) → separation Yes (at m xs) ≡ Ok x
+    → at (along m (separation_len Yes xs)) (drop (separation_len Yes xs) xs) ≡ x.1
+unfolding separation behind_separation
+separation_spelled m xs x h =
+    let n = separation_len Yes xs in
+    let there = at (along m n) (drop n xs) in
+    let one = cond_not {A = SkipTabs × Cursor} (nat_lt 0 (m.col + n) && is_bom (slice_index (drop n xs) 0))
+    (cond (is_bare_comment Yes xs) (Err (record { text = fault.CommentWithoutWhitespace; mark = along m n }))
+    (Ok (found_blanks Yes xs, there))) x (record { text = fault.MisplacedByteOrderMark; mark = along m n }) h in
+    let two = cond_not {A = SkipTabs × Cursor} (is_bare_comment Yes xs) (Ok (found_blanks Yes xs, there)) x
+    (record { text = fault.CommentWithoutWhitespace; mark = along m n }) one.same in
+    ap (λ (y : SkipTabs × Cursor). y.1) (ok_same {A = SkipTabs × Cursor} (found_blanks Yes xs, there) x two.same)
+
+abbrev Line : Marker → List ℕ → List ℕ → ℕ → Type 0
+Line m xs tail n = (xs ≡ tail ++ drop n xs) × IsLineTail tail × (length tail ≡ n)
+
+no_blanks : (m : Marker) (xs : List ℕ) → nat_eq (blank_len Yes xs) 0 ≡ true
+    → (tail : List ℕ) × Line m xs tail (separation_len Yes xs)
+no_blanks m xs e =
+    let none : 0 ≡ separation_len Yes xs = rw e refl in
+    subst (λ n. (tail : List ℕ) × Line m xs tail n) none ([], (refl, no_tail, refl))
+
+some_blanks : (m : Marker) (xs : List ℕ) → nat_eq (blank_len Yes xs) 0 ≡ false
+    → (tail : List ℕ) × Line m xs tail (separation_len Yes xs)
+some_blanks m xs e =
+    let b = prefix_len is_blank xs in
+    let blanks = take b xs in
+    let zs = drop b xs in
+    let c = comment_len zs in
+    let comment = take c zs in
+    let some : b + c ≡ separation_len Yes xs = rw e refl in
+    let test : nat_eq b 0 ≡ false = e in
+    let blank : blanks ≢ [] = some_of_length blanks (let k = run_count is_blank xs in grind (arith, nat_tests)) in
+    let text : xs ≡ (blanks ++ comment) ++ drop (b + c) xs =
+    sym (take-append-drop b xs)
+    ∙ ap (λ r. blanks ++ r) (sym (take-append-drop c zs) ∙ ap (λ r. comment ++ r) (drop_more c b (b + c) xs refl))
+    ∙ sym (append_assoc blanks comment (drop (b + c) xs)) in
+    let len : length (blanks ++ comment) ≡ b + c = rw (length-append blanks comment)
+    (omega (arith, run_count is_blank xs, comment_count zs)) in
+    subst (λ n. (tail : List ℕ) × Line m xs tail n) some
+    (blanks ++ comment, (text, (blanks, comment, run_is_in is_blank xs, comment_of blanks zs blank, refl), len))
+
+pub line_of : (m : Marker) (xs : List ℕ) → (tail : List ℕ) × Line m xs tail (separation_len Yes xs)
+line_of m xs = by_test {A = Unit {0}} (nat_eq (blank_len Yes xs) 0) tt tt
+    (λ _. (tail : List ℕ) × Line m xs tail (separation_len Yes xs)) (no_blanks m xs) (some_blanks m xs)
+
+pub line_spelled : (start m : Marker) (xs : List ℕ) (u : Cursor) → line_end start (at m xs) ≡ Ok u → TailOf m xs u
+unfolding line_end
+line_spelled start m xs u h =
+    let n = separation_len Yes xs in
+    let one = bind_ok (separation Yes (at m xs))
+    (λ (x : SkipTabs × Cursor). cond (is_breakz (slice_index x.1.rest 0)) (Ok (pass_break x.1))
+    (Err (record { text = fault.DirectiveEndExpected; mark = start }))) u h in
+    let there : at (along m n) (drop n xs) ≡ one.given.1 = separation_spelled m xs one.given one.first in
+    let is = cond_ok {A = Cursor} (is_breakz (slice_index one.given.1.rest 0)) (pass_break one.given.1) u
+    (record { text = fault.DirectiveEndExpected; mark = start }) one.next in
+    let line = line_of m xs in
+    record {
+      tail = line.0;
+      behind = drop n xs;
+      text = line.1.0;
+      is = line.1.1;
+      ends = subst (λ (y : Cursor). is_breakz (slice_index y.rest 0) ≡ true) (sym there) is.test;
+      place = sym is.same ∙ ap pass_break (sym there)
+          ∙ ap (λ k. pass_break (at (along m k) (drop n xs))) (sym line.1.2);
+    }

@@ -1,0 +1,133 @@
+-- Blanks and breaks of a quoted scalar that is read are spelled so, and so is what is read behind them.
+use Rattle.std.proofs.Common.{◌≡◌, ℕ, ◌≤◌, Bool, true, List, ◌∷◌, ◌++◌, length, length-drop, drop, Result, refl, sym, ap, ◌∙◌, arith, subst, IsTrue}
+use Rattle.std.specs.Prelude.{◌&&◌, ◌==◌, encode_utf8}
+use Rattle.saphyr_input.specs.Classes.{is_blank, is_break}
+use Rattle.saphyr_input.specs.Places.{next_2_are}
+use Rattle.saphyr_scalar.specs.declared.scalar.position.Marker.{Marker}
+use Rattle.saphyr_scalar.specs.declared.scalar.fault.Refusal.{Refusal}
+use Rattle.saphyr_scalar.specs.declared.reading.folding.Item.{Item}
+use Rattle.saphyr_scalar.specs.declared.reading.folding.Item.TheVariants.{Blank, Break}
+use Rattle.saphyr_scalar.specs.declared.reading.flow.Quote.{Quote}
+use Rattle.saphyr_scalar.specs.declared.reading.flow.Quote.TheVariants.{Single, Double}
+use Rattle.saphyr_scalar.specs.Cursor.{Cursor, ◌>>=◌, along, pass_line}
+use Rattle.saphyr_scalar.specs.FlowReading as flow
+use Rattle.saphyr_scalar.specs.Quoted.{at, Gap, on_line, over_lines, is_left, blank_in, break_in, break_len, inside, inside_at}
+use Rattle.saphyr_scalar.proofs.Quoted.Clean as quotes
+use Rattle.saphyr_scalar.proofs.Quoted.Clean.{IsClear}
+use Rattle.saphyr_scalar.specs.Passing.{IsPassed, character, line_break}
+use Rattle.saphyr_scalar.proofs.Quoted.Inside.{break_cases, one_blank, at_break}
+use Rattle.saphyr_scalar.proofs.Quoted.Gaps.{by_break_len}
+use Rattle.saphyr_scalar.proofs.Quoted.SpelledEscapes.{GaveText, nothing_text}
+use Rattle.saphyr_input.proofs.Basics.Booleans.{by_test}
+use Rattle.saphyr_input.proofs.Basics.Characters.{blank_cases, blank_no_break}
+use Rattle.saphyr_scalar.proofs.Quoted.GapBytes.{gap_bytes, blank_bytes, break_bytes}
+
+-- a line began
+abbrev pub IsOver : Gap → Type 0
+IsOver (on_line bytes) = ⊥
+IsOver (over_lines escaped n) = Unit {0}
+
+break_over : (gap : Gap) → IsOver (break_in gap)
+break_over (on_line bytes) = tt
+break_over (over_lines escaped n) = tt
+
+-- the text that was read is spelled so, and no line of it begins with a document marker
+pub record Spelled (q : Quote) (gap : Gap) (m : Marker) (xs b : List ℕ) (s : Cursor) : Type 0 where
+  pub items : List Item
+  pub is : quotes.IsText q xs items s.rest
+  pub bytes : gap_bytes gap items ≡ b
+  pub passed : IsPassed m xs s.mark s.rest
+  pub clear : IsOver gap → m.col ≡ 0 → IsClear xs
+
+-- what is known of shorter texts
+abbrev pub Known : ℕ → Quote → ℕ → Marker → Type 0
+Known n q indent start =
+    (gap : Gap) (m : Marker) (xs b : List ℕ) (s : Cursor) → length xs ≤ n
+    → GaveText (inside q indent start gap 0 m xs) b s → Spelled q gap m xs b s
+
+blank_itself : (q : Quote) (c : ℕ) → is_blank c ≡ true → IsTrue (quotes.stands_for_itself q c)
+blank_itself Single c h = blank_cases c h (λ x. IsTrue (quotes.stands_for_itself Single x)) refl refl
+blank_itself Double c h = blank_cases c h (λ x. IsTrue (quotes.stands_for_itself Double x)) refl refl
+
+blank_item : (c : ℕ) → is_blank c ≡ true → flow.raw_item c ≡ Blank c
+blank_item c h = blank_cases c h (λ x. flow.raw_item x ≡ Blank x) refl refl
+
+blank_spelled : (q : Quote) (c : ℕ) (cs : List ℕ) (items : List Item) (x : List ℕ) → is_blank c ≡ true
+    → quotes.IsText q cs items x → quotes.IsText q (c ∷ cs) (Blank c ∷ items) x
+blank_spelled q c cs items x h r =
+    subst (λ (i : Item). quotes.IsText q (c ∷ cs) (i ∷ items) x) (blank_item c h)
+    (quotes.itself q c cs items x (blank_itself q c h) r)
+
+line_blank : (q : Quote) (indent : ℕ) (start : Marker) (escaped : Bool) (k : ℕ) (m : Marker) (c : ℕ) (cs : List ℕ)
+    → is_blank c ≡ true
+    → inside q indent start (over_lines escaped k) 0 m (c ∷ cs)
+    ≡ (blank_in indent (over_lines escaped k) m c >>= λ g. inside q indent start g 0 (along m 1) cs)
+unfolding inside
+line_blank q indent start escaped k m c cs h = rw h refl
+
+blank_clear : (c : ℕ) (cs : List ℕ) → is_blank c ≡ true → IsClear (c ∷ cs)
+blank_clear c cs h = blank_cases c h (λ x. IsClear (x ∷ cs)) refl refl
+
+break_clear : (c : ℕ) (cs : List ℕ) → is_break c ≡ true → IsClear (c ∷ cs)
+break_clear c cs h = break_cases c h (λ x. IsClear (x ∷ cs)) refl refl
+
+pub blank_step : (n : ℕ) (q : Quote) (indent : ℕ) (start : Marker) (gap : Gap) (m : Marker) (c : ℕ) (cs b : List ℕ)
+    (s : Cursor) → is_blank c ≡ true → length cs ≤ n → Known n q indent start
+    → GaveText (inside q indent start gap 0 m (c ∷ cs)) b s → Spelled q gap m (c ∷ cs) b s
+unfolding blank_in
+blank_step n q indent start (on_line bytes) m c cs b s h le known g =
+    let r = known (on_line (bytes ++ encode_utf8 c)) (along m 1) cs b s le
+    (sym (one_blank q indent start bytes m c cs h) ∙ g) in
+    record {
+      items = Blank c ∷ r.items;
+      is =
+          blank_spelled q c cs r.items s.rest h r.is;
+      bytes =
+          sym (blank_bytes bytes c r.items) ∙ r.bytes;
+      passed =
+          character m c cs s.mark s.rest (blank_no_break c h) r.passed;
+      clear = λ o _. blank_clear c cs h;
+    }
+blank_step n q indent start (over_lines escaped k) m c cs b s h le known g =
+    by_test ((c == 9) && is_left indent m) _ _
+    (λ (r : Result Gap Refusal). GaveText (r >>= λ g. inside q indent start g 0 (along m 1) cs) b s
+    → Spelled q (over_lines escaped k) m (c ∷ cs) b s)
+    (λ _ e. nothing_text _ b s e)
+    (λ _ e.
+    let r = known (over_lines escaped k) (along m 1) cs b s le e in
+    record {
+      items = Blank c ∷ r.items;
+      is =
+          blank_spelled q c cs r.items s.rest h r.is;
+      bytes =
+          r.bytes;
+      passed = character m c cs s.mark s.rest (blank_no_break c h) r.passed;
+      clear =
+          λ _ _. blank_clear c cs h;
+    })
+    (sym (line_blank q indent start escaped k m c cs h) ∙ g)
+
+behind_break_shorter : (c : ℕ) (cs : List ℕ) → length (drop (break_len (c ∷ cs)) (c ∷ cs)) ≤ length cs
+behind_break_shorter c cs =
+    by_test (next_2_are (c ∷ cs) 13 10) 2 1 (λ n. length (drop n (c ∷ cs)) ≤ length cs)
+    (λ _. omega (arith, length-drop {A = ℕ} 1 cs)) (λ _. omega arith)
+
+pub break_step : (n : ℕ) (q : Quote) (indent : ℕ) (start : Marker) (gap : Gap) (m : Marker) (c : ℕ) (cs b : List ℕ)
+    (s : Cursor) → is_break c ≡ true → length cs ≤ n → Known n q indent start
+    → GaveText (inside q indent start gap 0 m (c ∷ cs)) b s → Spelled q gap m (c ∷ cs) b s
+break_step n q indent start gap m c cs b s h le known g =
+    let here = at m (c ∷ cs) in
+    let there = pass_line (break_len (c ∷ cs)) here in
+    let on : inside q indent start gap 0 m (c ∷ cs) ≡ inside_at q indent start (break_in gap) there =
+    at_break q indent start gap here h ∙ ap (inside_at q indent start (break_in gap)) (by_break_len here h) in
+    let r = known (break_in gap) there.mark there.rest b s (omega (arith, behind_break_shorter c cs)) (sym on ∙ g) in
+    record {
+      items = Break ∷ r.items;
+      is =
+          quotes.broken q (c ∷ cs) r.items s.rest h (r.clear (break_over gap) refl) r.is;
+      bytes =
+          sym (break_bytes gap r.items) ∙ r.bytes;
+      passed =
+          line_break m (c ∷ cs) s.mark s.rest h r.passed;
+      clear = λ _ _. break_clear c cs h;
+    }
