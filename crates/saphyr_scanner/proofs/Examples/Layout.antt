@@ -174,3 +174,28 @@ streams_mark_behind_filler =
 pub flow_single_pair : IsLayoutText 1 (bare (Seq no_properties (MoreNodes (Map no_properties (MorePairs (Scalar no_properties Plain (codes "a")) (Scalar no_properties Plain (codes "b")) NoPair)) NoNode)) ∷ []) (codes "[a: b]")
 flow_single_pair =
     ([], codes "[a: b]", (inl refl), ([], codes "[a: b]", [], ([], tt, refl), (inl (refl, (refl, refl, (inl ([], codes "[a: b]", [], (inr (refl, refl)), (0, codes "[", codes "a: b", refl, ([], [], (inl (refl, refl)), ([], [], ([], tt, refl), tt, refl), refl), (codes "a: b", [], (inr (refl, (inr (codes "a: b", [], (inl (codes "a", [], codes ": b", (inl (inr ([], codes "a", (inl (refl, refl)), ((codes "a", [], (record { some = (λ e. cc); ink = (refl, (λ e f. omega arith), tt); no_comment = (λ e. omega arith); no_lone_dash = (λ e f. false≢true (ap (λ x. same x (codes "-")) f)) }, refl, (λ e. false≢true (ap (λ x. same x (codes "-")) e)), (λ e. false≢true (ap (λ x. same x (codes "?")) e)), (λ e. false≢true (ap (λ x. same x (codes ":")) e))), ([], tt, refl), refl), refl), refl))), (refl, tt), tt, (inr refl), (inr (codes " ", codes "b", ([], codes " ", ([], tt, refl), (refl, tt), refl), (inl (λ e. cc)), (inr ([], codes "b", (inl (refl, refl)), ((codes "b", [], (record { some = (λ e. cc); ink = (refl, (λ e f. omega arith), tt); no_comment = (λ e. omega arith); no_lone_dash = (λ e f. false≢true (ap (λ x. same x (codes "-")) f)) }, refl, (λ e. false≢true (ap (λ x. same x (codes "-")) e)), (λ e. false≢true (ap (λ x. same x (codes "?")) e)), (λ e. false≢true (ap (λ x. same x (codes ":")) e))), ([], tt, refl), refl), refl), refl)), refl)), refl)), ([], [], ([], tt, refl), tt, refl), refl)))), (inl refl), refl), refl), (inr (([], [], tt, (inl refl), refl), refl)), refl))))), (inl ([], [], ([], tt, refl), ([], [], tt, (inl refl), refl), refl)), refl), refl)
+
+-- a tab before a comment on a line of its own
+pub block_tabs_in_filler : IsLayoutText most_open (bare (Map no_properties (MorePairs (Scalar no_properties Plain (codes "a")) (Scalar no_properties Plain (codes "b")) NoPair)) ∷ []) (codes "a: b\n\t# c\n")
+block_tabs_in_filler =
+    ([], codes "a: b\n\t# c\n", (inl refl), ([], codes "a: b\n", codes "\t# c\n", ([], tt, refl), (inl (refl, (refl, refl, (inr (0, [], codes "a: b\n", (inr (refl, refl)), (codes "a: b\n", [], (inl (codes "a", [], codes " b\n", (inl (inr ([], codes "a", (inl (refl, refl)), ((codes "a", [], (record { some = (λ e. cc); ink = (refl, (λ e f. omega arith), tt); no_comment = (λ e. omega arith); no_lone_dash = (λ e f. false≢true e) }, refl, (λ e. false≢true (ap (λ x. same x (codes "-")) e)), (λ e. false≢true (ap (λ x. same x (codes "?")) e)), (λ e. false≢true (ap (λ x. same x (codes ":")) e))), ([], tt, refl), refl), refl), refl))), (refl, tt), (0, omega arith, refl), (inr refl), omega arith, (inr (inl (codes " ", codes "b", codes "\n", (inl (inl (1, omega arith, refl))), (inr ([], codes "b", (inl (refl, refl)), ((codes "b", [], (record { some = (λ e. cc); ink = (refl, (λ e f. omega arith), tt); no_comment = (λ e. omega arith); no_lone_dash = (λ e f. false≢true e) }, refl, (λ e. false≢true (ap (λ x. same x (codes "-")) e)), (λ e. false≢true (ap (λ x. same x (codes "?")) e)), (λ e. false≢true (ap (λ x. same x (codes ":")) e))), ([], tt, refl), refl), refl), refl)), (inl ([], ([], [], tt, (inl refl), refl), refl)), refl))), refl)), refl, refl), refl))))), (inl (codes "\t# c\n", [], ((codes "\t# c\n" ∷ []), ((codes "\t# c", (codes "\t", codes "# c", (refl, tt), (inr (codes " c", (refl, (refl, tt)), refl)), refl), refl), tt), refl), ([], [], tt, (inl refl), refl), refl)), refl), refl)
+
+-- a line of blanks between entries
+pub block_tabs_between : IsLayoutText most_open (bare (Seq no_properties (MoreNodes (Scalar no_properties Plain (codes "a")) (MoreNodes (Scalar no_properties Plain (codes "b")) NoNode))) ∷ []) (codes "- a\n \t\n- b")
+block_tabs_between =
+    ([], codes "- a\n \t\n- b", (inl refl), ([], codes "- a\n \t\n- b", [], ([], tt, refl), (inl (refl, (refl, refl, (inr (0, [], codes "- a\n \t\n- b", (inr (refl, refl)), (codes " a\n", codes " \t\n- b", (inr (inl (codes " ", codes "a", codes "\n", (inl (inl (1, omega arith, refl))), (inr ([], codes "a", (inl (refl, refl)), ((codes "a", [], (record { some = (λ e. cc); ink = (refl, (λ e f. omega arith), tt); no_comment = (λ e. omega arith); no_lone_dash = (λ e f. false≢true e) }, refl, (λ e. false≢true (ap (λ x. same x (codes "-")) e)), (λ e. false≢true (ap (λ x. same x (codes "?")) e)), (λ e. false≢true (ap (λ x. same x (codes ":")) e))), ([], tt, refl), refl), refl), refl)), (inl ([], ([], [], tt, (inl refl), refl), refl)), refl))), (codes " \t\n", codes " b", [], (codes " \t\n", ((codes " \t\n" ∷ []), ((codes " \t", (codes " \t", [], (refl, (refl, tt)), (inl refl), refl), refl), tt), refl), refl), (inr (inl (codes " ", codes "b", [], (inl (inl (1, omega arith, refl))), (inr ([], codes "b", (inl (refl, refl)), ((codes "b", [], (record { some = (λ e. cc); ink = (refl, (λ e f. omega arith), tt); no_comment = (λ e. omega arith); no_lone_dash = (λ e f. false≢true e) }, refl, (λ e. false≢true (ap (λ x. same x (codes "-")) e)), (λ e. false≢true (ap (λ x. same x (codes "?")) e)), (λ e. false≢true (ap (λ x. same x (codes ":")) e))), ([], tt, refl), refl), refl), refl)), (inr (([], [], tt, (inl refl), refl), refl)), refl))), refl, refl), refl), refl))))), (inl ([], [], ([], tt, refl), ([], [], tt, (inl refl), refl), refl)), refl), refl)
+
+-- one before a block collection
+pub block_tabs_before : IsLayoutText most_open (bare (Map no_properties (MorePairs (Scalar no_properties Plain (codes "k")) (Seq no_properties (MoreNodes (Scalar no_properties Plain (codes "a")) NoNode)) NoPair)) ∷ []) (codes "k:\n\t\n  - a")
+block_tabs_before =
+    ([], codes "k:\n\t\n  - a", (inl refl), ([], codes "k:\n\t\n  - a", [], ([], tt, refl), (inl (refl, (refl, refl, (inr (0, [], codes "k:\n\t\n  - a", (inr (refl, refl)), (codes "k:\n\t\n  - a", [], (inl (codes "k", [], codes "\n\t\n  - a", (inl (inr ([], codes "k", (inl (refl, refl)), ((codes "k", [], (record { some = (λ e. cc); ink = (refl, (λ e f. omega arith), tt); no_comment = (λ e. omega arith); no_lone_dash = (λ e f. false≢true e) }, refl, (λ e. false≢true (ap (λ x. same x (codes "-")) e)), (λ e. false≢true (ap (λ x. same x (codes "?")) e)), (λ e. false≢true (ap (λ x. same x (codes ":")) e))), ([], tt, refl), refl), refl), refl))), (refl, tt), (0, omega arith, refl), (inr refl), omega arith, (inr (2, codes "\n\t\n  ", codes "- a", (inl ([], codes "\n", codes "\t\n", omega arith, (inl (refl, refl)), ([], ([], [], tt, (inl refl), refl), refl), ((codes "\t\n" ∷ []), ((codes "\t", (codes "\t", [], (refl, tt), (inl refl), refl), refl), tt), refl), refl)), (codes " a", [], (inr (inl (codes " ", codes "a", [], (inl (inl (1, omega arith, refl))), (inr ([], codes "a", (inl (refl, refl)), ((codes "a", [], (record { some = (λ e. cc); ink = (refl, (λ e f. omega arith), tt); no_comment = (λ e. omega arith); no_lone_dash = (λ e f. false≢true e) }, refl, (λ e. false≢true (ap (λ x. same x (codes "-")) e)), (λ e. false≢true (ap (λ x. same x (codes "?")) e)), (λ e. false≢true (ap (λ x. same x (codes ":")) e))), ([], tt, refl), refl), refl), refl)), (inr (([], [], tt, (inl refl), refl), refl)), refl))), refl, refl), refl)), refl)), refl, refl), refl))))), (inl ([], [], ([], tt, refl), ([], [], tt, (inl refl), refl), refl)), refl), refl)
+
+-- one inside brackets
+pub block_tabs_in_flow : IsLayoutText most_open (bare (Seq no_properties (MoreNodes (Seq no_properties (MoreNodes (Scalar no_properties Plain (codes "a")) (MoreNodes (Scalar no_properties Plain (codes "b")) NoNode))) NoNode)) ∷ []) (codes "- [a,\n\t# c\n  b]")
+block_tabs_in_flow =
+    ([], codes "- [a,\n\t# c\n  b]", (inl refl), ([], codes "- [a,\n\t# c\n  b]", [], ([], tt, refl), (inl (refl, (refl, refl, (inr (0, [], codes "- [a,\n\t# c\n  b]", (inr (refl, refl)), (codes " [a,\n\t# c\n  b]", [], (inl (codes " ", codes "[a,\n\t# c\n  b]", [], (inl (inl (1, omega arith, refl))), (254, codes "[", codes "a,\n\t# c\n  b", refl, ([], [], (inl (refl, refl)), ([], [], ([], tt, refl), tt, refl), refl), (codes "a", codes ",\n\t# c\n  b", (inl (codes "a", [], (inr ([], codes "a", (inl (refl, refl)), ((codes "a", [], (record { some = (λ e. cc); ink = (refl, (λ e f. omega arith), tt); no_comment = (λ e. omega arith); no_lone_dash = (λ e f. false≢true (ap (λ x. same x (codes "-")) f)) }, refl, (λ e. false≢true (ap (λ x. same x (codes "-")) e)), (λ e. false≢true (ap (λ x. same x (codes "?")) e)), (λ e. false≢true (ap (λ x. same x (codes ":")) e))), ([], tt, refl), refl), refl), refl)), ([], [], ([], tt, refl), tt, refl), refl)), (codes ",\n\t# c\n  ", codes "b", [], (codes "\n\t# c\n  ", (codes "\n\t# c\n ", codes " ", ((codes "\n\t# c\n " ∷ []), (([], [], codes "\t# c\n", tt, (inl refl), ((codes "\t# c\n" ∷ []), ((codes "\t# c", (codes "\t", codes "# c", (refl, tt), (inr (codes " c", (refl, (refl, tt)), refl)), refl), refl), tt), refl), refl), tt), refl), (refl, tt), refl), refl), (inl (codes "b", [], (inr ([], codes "b", (inl (refl, refl)), ((codes "b", [], (record { some = (λ e. cc); ink = (refl, (λ e f. omega arith), tt); no_comment = (λ e. omega arith); no_lone_dash = (λ e f. false≢true (ap (λ x. same x (codes "-")) f)) }, refl, (λ e. false≢true (ap (λ x. same x (codes "-")) e)), (λ e. false≢true (ap (λ x. same x (codes "?")) e)), (λ e. false≢true (ap (λ x. same x (codes ":")) e))), ([], tt, refl), refl), refl), refl)), ([], [], ([], tt, refl), tt, refl), refl)), (inl refl), refl), refl), refl), (inr (([], [], tt, (inl refl), refl), refl)), refl)), refl, refl), refl))))), (inl ([], [], ([], tt, refl), ([], [], tt, (inl refl), refl), refl)), refl), refl)
+
+-- tabs before and behind the line of a marker
+pub streams_tabs : IsLayoutText most_open ((record { explicit = true; directives = []; node = (Scalar no_properties Plain (codes "a")) }) ∷ []) (codes "--- a\n\t\n...\n\t# c")
+streams_tabs =
+    ([], codes "--- a\n\t\n...\n\t# c", (inl refl), ([], codes "--- a\n", codes "\t\n...\n\t# c", ([], tt, refl), (inr ((inl refl), ([], codes " a\n", refl, tt, refl, refl, (inr (inl (codes " ", codes "a", codes "\n", (inl (inl (1, omega arith, refl))), (inr ([], codes "a", (inl (refl, refl)), ((codes "a", [], (record { some = (λ e. cc); ink = (refl, (λ e f. omega arith), tt); no_comment = (λ e. omega arith); no_lone_dash = (λ e f. false≢true e) }, refl, (λ e. false≢true (ap (λ x. same x (codes "-")) e)), (λ e. false≢true (ap (λ x. same x (codes "?")) e)), (λ e. false≢true (ap (λ x. same x (codes ":")) e))), ([], tt, refl), refl), refl), refl)), (inl ([], ([], [], tt, (inl refl), refl), refl)), refl))), refl))), (inr (codes "\t\n...\n", codes "\t# c", (codes "\t\n", codes "\n", [], ((codes "\t\n" ∷ []), ((codes "\t", (codes "\t", [], (refl, tt), (inl refl), refl), refl), tt), refl), (inl ([], ([], [], tt, (inl refl), refl), refl)), (inl refl), refl), ([], codes "\t# c", ([], tt, refl), (codes "\t", codes "# c", (refl, tt), (inr (codes " c", (refl, (refl, tt)), refl)), refl), refl), refl)), refl), refl)

@@ -12,7 +12,7 @@ use Rattle.saphyr_scanner.specs.Grammar.Forest.{Properties, Node, Seq, Nodes, No
 use Rattle.saphyr_scanner.specs.Grammar.FlowScalars.{begins_plain, IsFirstWord, IsPlain, IsPlainKey}
 use Rattle.saphyr_scanner.specs.Grammar.FlowNodes.{IsOnLine, IsFlowNode}
 use Rattle.saphyr_scanner.proofs.Beginnings.{no_feed_no_filler, heads, tails, Begins, behind_in, before_in, lacks, IsFirst, no_first, behind_filler}
-use Rattle.saphyr_scanner.specs.Grammar.BlockNodes.{BehindKey, IsLead, IsEntryIndentation, has_tab_ahead, IsImplicitPair, IsKeyAlone, IsBlockNode, AreOtherEntries}
+use Rattle.saphyr_scanner.specs.Grammar.BlockNodes.{BehindKey, IsBehindScalar, IsLead, IsEntryIndentation, has_tab_ahead, IsImplicitPair, IsKeyAlone, IsBlockNode, AreOtherEntries}
 
 -- ## Plain scalars
 
@@ -160,6 +160,21 @@ tab_behind_question room key value m behind (node, out, (some, clear), k, e) =
     let f : codes "\t\n" ≡ node = tails 63 63 (codes "\t\n") node e in
     let g : has_tab_ahead false (codes "\t\n" ++ behind) ≡ false =
     ap (λ (x : List ℕ). has_tab_ahead false (x ++ behind)) f ∙ clear in cc
+
+pub tab_behind_left_out : (room : ℕ) (key value : Node) (m : ℕ) (others : List ℕ)
+    → IsKeyAlone value (IsBlockNode room key) m (codes "?\n") (codes "\t\n" ++ others) → ⊥
+tab_behind_left_out room key value m others (node, out, (some, clear), k, e) =
+    let f : codes "\n" ≡ node = tails 63 63 (codes "\n") node e in
+    let g : has_tab_ahead false (codes "\n\t\n" ++ others) ≡ false =
+    ap (λ (x : List ℕ). has_tab_ahead false (x ++ (codes "\t\n" ++ others))) f ∙ clear in cc
+
+pub tab_behind_block_scalar : (indent i : ℕ) (others : List ℕ) → IsBehindScalar indent i (codes "\t\n" ++ others) → ⊥
+tab_behind_block_scalar indent i others (inl e) = cc
+tab_behind_block_scalar indent i others (inr (inl h)) = absurd (let e : false ≡ true = h in cc)
+tab_behind_block_scalar indent i others (inr (inr (zero, c, more, ink, feed, left, e))) =
+    let f : is_blank c ≡ true = ap is_blank (heads 9 c (codes "\n" ++ others) more e) in cc
+tab_behind_block_scalar indent i others (inr (inr (suc n, c, more, ink, feed, left, e))) =
+    let f : 32 ≡ 9 = heads 9 32 (codes "\n" ++ others) (spaces n ++ (c ∷ more)) e in omega (arith, f)
 
 no_left : (m : ℕ) (front others : List ℕ) → (front ≡ spaces (suc m)) ⊎ Begins IsFirst front
     → codes "- b" ≡ front ++ others → ⊥
