@@ -5,7 +5,7 @@ use std::alloc::{AllocError, Global};
 use std::test::Fail;
 
 // Texts that show one thing each.
-const TEXTS: [&str; 94] = [
+const TEXTS: &[&str] = &[
     "",
     "{\"a\":[1,true]}",
     "a: b\r\nc: d",
