@@ -4,4 +4,3 @@ pub mod Looking
 pub mod StreamEnds
 pub mod Soundness
 pub mod Loaded
-pub mod Settings

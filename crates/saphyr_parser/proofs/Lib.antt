@@ -18,6 +18,7 @@ pub mod Happenings
 pub mod Latest
 pub mod Printed
 pub mod Calls
+pub mod Settings
 pub mod Loading
 pub mod Copies
 pub mod Turned

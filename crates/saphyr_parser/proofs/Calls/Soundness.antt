@@ -2,7 +2,6 @@
 use Rattle.std.proofs.Common.{◌≡◌, Bool, List, [], ◌∷◌, Option, Some, None, Result, Ok, Err, refl, sym, ap, subst, arith}
 use Rattle.std.specs.Borrow.{Bor}
 use Rattle.saphyr_scalar.specs.declared.scalar.position.Span.{Span}
-use Rattle.saphyr_scanner.specs.Views.Tokens.{Remaining}
 use Rattle.saphyr_parser.specs.declared.parser.event.Event.{Event}
 use Rattle.saphyr_parser.specs.declared.parser.fault.Fault.{Fault}
 use Rattle.saphyr_parser.specs.declared.parser.fault.Fault.TheVariants as fault
@@ -12,7 +11,7 @@ use Rattle.saphyr_parser.specs.Events.{Happening, StreamEnd}
 use Rattle.saphyr_parser.specs.Steps.Machine.{Machine}
 use Rattle.saphyr_parser.specs.Answer as answer
 use Rattle.saphyr_parser.specs.Answer.{Answer, Ending, none, failed, remaining}
-use Rattle.saphyr_parser.specs.Cursor.{Cursor, Kept, Refuses, at_start, event_of, finished_behind, keeping_tags}
+use Rattle.saphyr_parser.specs.Cursor.{Cursor, Kept, Refuses, event_of, finished_behind}
 use Rattle.saphyr_parser.specs.Calls.{Advances, AdvancesOver, EndsTheStream, Ends, Fails, Gives, HasFinished, IsShown, IsSound, LeavesEnd, Looks, Peeks, ReadsAhead, as_given}
 use Rattle.saphyr_parser.proofs.Unroll.{over}
 use Rattle.saphyr_parser.proofs.Calls.Handing.{goes_on}

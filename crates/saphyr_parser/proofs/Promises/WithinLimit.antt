@@ -1,5 +1,5 @@
 -- A text within the limit is read as a whole, though no more items than a bound are taken.
-use Rattle.std.proofs.Common.{◌≡◌, ℕ, ◌≤◌, List, take, sym, subst, arith}
+use Rattle.std.proofs.Common.{◌≡◌, ℕ, ◌≤◌, List, take, subst, arith}
 use Rattle.std.proofs.lemmas.List.{take_all}
 use Rattle.saphyr_parser.specs.Cursor.{Cursor}
 use Rattle.saphyr_parser.specs.Premises.{Grammar, ReadsEach}

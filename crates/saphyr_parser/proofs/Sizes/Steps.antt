@@ -6,7 +6,7 @@ use Rattle.saphyr_scalar.specs.declared.scalar.fault.Refusal.{Refusal}
 use Rattle.saphyr_scanner.specs.Views.Tokens.{Piece}
 use Rattle.saphyr_parser.specs.declared.parser.state.State.{State}
 use Rattle.saphyr_parser.specs.declared.parser.state.State.TheVariants as state
-use Rattle.saphyr_parser.specs.Steps.Machine.{◌>>=◌, Machine, Told, take, take_from, with_pieces, put_back, pop, popped, enter, push, left_out}
+use Rattle.saphyr_parser.specs.Steps.Machine.{◌>>=◌, Machine, Told, take, take_from, with_pieces, put_back, pop, popped, enter, left_out}
 use Rattle.saphyr_parser.specs.Answer.{weight, weight_before, begins_with_value, total_weight, open_size, size}
 
 -- ## What a result may leave

@@ -84,7 +84,7 @@ secondary_default : (place : Marker) (prefix : List ℕ) → undeclared (handle_
 unfolding encode
 secondary_default place prefix h = cc
 
-secondary_bytes : handle_bytes Secondary ≡ codes "!!"
+pub secondary_bytes : handle_bytes Secondary ≡ codes "!!"
 unfolding encode
 secondary_bytes = refl
 

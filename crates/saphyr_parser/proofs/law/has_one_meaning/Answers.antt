@@ -1,4 +1,4 @@
-use Rattle.std.proofs.Common.{ℕ, refl, arith}
+use Rattle.std.proofs.Common.{refl, arith}
 use Rattle.saphyr_scanner.specs.Grammar.Layout.{IsLayoutText, most_open}
 use Rattle.saphyr_scanner.specs.Steps.Remaining.{scan}
 use Rattle.saphyr_parser.specs.Promises.{IsShallowJson}
