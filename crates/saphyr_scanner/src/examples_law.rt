@@ -100,6 +100,9 @@ pub fn derives_block()
         (Seq no_properties (MoreNodes (Seq no_properties
         (MoreNodes (plain (codes "a")) (MoreNodes (plain (codes "b")) NoNode))) NoNode)) ∷ [])
         (codes "- [a,\n\t# c\n  b]") }
+    ensures tab_behind_scalar { IsLayoutText most_open (bare
+        (Seq no_properties (MoreNodes (Scalar no_properties Literal (codes "a\n")) NoNode)) ∷ [])
+        (codes "- |\n  a\n\t# c") }
     ensures colons_in_keys { IsLayoutText most_open
         (bare (Map no_properties (MorePairs (plain (codes "a:")) (plain (codes "b"))
         (MorePairs (plain (codes "c :")) (plain (codes "d")) NoPair))) ∷ []) (codes "a:: b\nc :: d") }

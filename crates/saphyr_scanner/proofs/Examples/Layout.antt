@@ -199,3 +199,8 @@ block_tabs_in_flow =
 pub streams_tabs : IsLayoutText most_open ((record { explicit = true; directives = []; node = (Scalar no_properties Plain (codes "a")) }) ∷ []) (codes "--- a\n\t\n...\n\t# c")
 streams_tabs =
     ([], codes "--- a\n\t\n...\n\t# c", (inl refl), ([], codes "--- a\n", codes "\t\n...\n\t# c", ([], tt, refl), (inr ((inl refl), ([], codes " a\n", refl, tt, refl, refl, (inr (inl (codes " ", codes "a", codes "\n", (inl (inl (1, omega arith, refl))), (inr ([], codes "a", (inl (refl, refl)), ((codes "a", [], (record { some = (λ e. cc); ink = (refl, (λ e f. omega arith), tt); no_comment = (λ e. omega arith); no_lone_dash = (λ e f. false≢true e) }, refl, (λ e. false≢true (ap (λ x. same x (codes "-")) e)), (λ e. false≢true (ap (λ x. same x (codes "?")) e)), (λ e. false≢true (ap (λ x. same x (codes ":")) e))), ([], tt, refl), refl), refl), refl)), (inl ([], ([], [], tt, (inl refl), refl), refl)), refl))), refl))), (inr (codes "\t\n...\n", codes "\t# c", (codes "\t\n", codes "\n", [], ((codes "\t\n" ∷ []), ((codes "\t", (codes "\t", [], (refl, tt), (inl refl), refl), refl), tt), refl), (inl ([], ([], [], tt, (inl refl), refl), refl)), (inl refl), refl), ([], codes "\t# c", ([], tt, refl), (codes "\t", codes "# c", (refl, tt), (inr (codes " c", (refl, (refl, tt)), refl)), refl), refl), refl)), refl), refl)
+
+-- a tab behind a block scalar at the text's end
+pub block_tab_behind_scalar : IsLayoutText most_open (bare (Seq no_properties (MoreNodes (Scalar no_properties Literal (codes "a\n")) NoNode)) ∷ []) (codes "- |\n  a\n\t# c")
+block_tab_behind_scalar =
+    ([], codes "- |\n  a\n\t# c", (inl refl), ([], codes "- |\n  a\n", codes "\t# c", ([], tt, refl), (inl (refl, (refl, refl, (inr (0, [], codes "- |\n  a\n", (inr (refl, refl)), (codes " |\n  a\n", [], (inr (inr (codes " ", [], codes "|\n  a\n", (inl (inl (1, omega arith, refl))), (inl (refl, refl)), (codes "\n  a\n", (2, 0, Clip, (Content (codes "a") ∷ []), codes "  a\n\t# c", codes "\t# c", record { digit = 0; is_given = false; behind = codes "\t# c"; header = (digit_first 124 (codes "\n  a\n\t# c") (codes "\n  a\n\t# c") (codes "\n  a\n\t# c") (no_digit (codes "\n  a\n\t# c")) (clip (codes "\n  a\n\t# c")) (no_comment ([]) (codes "  a\n\t# c") tt)); no_tab = (λ e. omega arith); indentation = (found (omega arith)); lines = (first 97 ([]) ([]) (codes "\t# c") (λ e f. omega arith) (record { all = (refl, tt); no_marker = (λ e. refl) }) no_lines); ends = record { is = refl; within = omega arith; finished = (λ e. absurd (false≢true e)); no_space = (λ e f. omega arith); no_break = (λ e. omega arith); no_return = (λ e. omega arith); no_content = (λ e. absurd (let z : ⊥ = omega arith in z)) } }, refl, (inr (inr (inr (0, codes "# c", omega arith, refl, (inl ([], codes "\t# c", ([], tt, refl), (codes "\t", codes "# c", (refl, tt), (inr (codes " c", (refl, (refl, tt)), refl)), refl), refl)))))), refl), refl), refl))), refl, refl), refl))))), (inl ([], codes "\t# c", ([], tt, refl), (codes "\t", codes "# c", (refl, tt), (inr (codes " c", (refl, (refl, tt)), refl)), refl), refl)), refl), refl)

@@ -1,6 +1,6 @@
 -- A node at block level stands where more text follows as well, if what stands behind it ends with a break and has a
 -- token.
-use Rattle.std.proofs.Common.{◌≡◌, ℕ, zero, suc, Bool, true, false, List, [], ◌∷◌, ◌++◌, slice_index, refl, sym, ap, ◌∙◌, subst, append_assoc, ◌⊎◌, inl, inr}
+use Rattle.std.proofs.Common.{◌≡◌, ℕ, zero, suc, Bool, true, false, List, [], ◌∷◌, ◌++◌, slice_index, refl, sym, ap, ◌∙◌, subst, append_assoc, ◌⊎◌, inl, inr, IsTrue}
 use Rattle.saphyr_input.specs.Classes.{is_z, is_yaml_non_break}
 use Rattle.saphyr_input.specs.Places.{is_document_indicator}
 use Rattle.saphyr_scalar.specs.BlockRead.{spaces}
@@ -22,7 +22,6 @@ use Rattle.saphyr_scanner.proofs.InBlock.Statements.{EndsWithLine, Leaves}
 use Rattle.saphyr_scanner.proofs.InBlock.Texts.{ends_back, node_ends, other_entries_end, other_pairs_end}
 use Rattle.saphyr_scanner.proofs.InBlock.TabsAhead.{TellsTabs, tells_behind, has_token, token_behind, last_none}
 use Rattle.saphyr_input.proofs.Basics.Booleans.{clash}
-use Rattle.std.proofs.Common.{IsTrue}
 
 -- ## Texts that end with a break
 
@@ -228,7 +227,8 @@ left_further more indent i t fed token
     marker_further filler (c ∷ cs) f h = same_marker (c ∷ cs) more (fed_behind filler c cs f) ∙ h
 
 text_further : (more : List ℕ) (style : BlockStyle) (value : List ℕ) (indent : ℕ) (t o : List ℕ) → EndsFed o
-    → has_token false o ≡ true → IsBlockScalarText style value indent t o → IsBlockScalarText style value indent t (o ++ more)
+    → has_token false o ≡ true → IsBlockScalarText style value indent t o
+    → IsBlockScalarText style value indent t (o ++ more)
 text_further more style value indent t o fed token (i, n, chomping, lines, body, others, scalar, same, left, said) =
     let behind_fed : EndsFed scalar.behind = subst EndsFed (sym same) fed in
     let longer : IsBlockScalar indent i n chomping lines (t ++ (o ++ more)) (body ++ more) (others ++ more) = record {

@@ -1,7 +1,7 @@
 -- Where no tab stands ahead, none stands among the blanks before the next token. And what follows a token tells nothing
 -- of what stands before it.
-use Rattle.std.proofs.Common.{◌≡◌, ℕ, ◌+◌, ◌≤◌, Bool, true, false, List, [], ◌∷◌, ◌++◌, slice_index, refl, sym, ap, ◌∙◌, arith, append_assoc}
-use Rattle.std.specs.Prelude.{◌||◌, ◌&&◌, ◌==◌, not}
+use Rattle.std.proofs.Common.{◌≡◌, ℕ, ◌+◌, ◌≤◌, Bool, true, false, List, [], ◌∷◌, ◌++◌, slice_index, refl, sym, ap, ◌∙◌, arith, append_assoc, IsTrue, ◌⊎◌, inl, inr}
+use Rattle.std.specs.Prelude.{◌||◌, ◌&&◌, ◌==◌, not, if◌then◌else◌}
 use Rattle.std.proofs.lemmas.Bool.Decides.{nat_tests}
 use Rattle.saphyr_input.specs.Classes.{is_blank, is_break, is_yaml_non_break, line_feed}
 use Rattle.saphyr_scalar.specs.declared.scalar.position.Marker.{Marker}
@@ -11,13 +11,10 @@ use Rattle.saphyr_scanner.proofs.Flow.Places.{behind_character}
 use Rattle.saphyr_scanner.proofs.InBlock.Skips.{has_tab, comment_has_tab}
 use Rattle.std.proofs.lemmas.Bool.{or_parts}
 use Rattle.saphyr_scanner.proofs.Flow.Spaces.{white_no_sign, break_no_sign}
-use Rattle.saphyr_scalar.specs.Spaces.{IsFiller}
+use Rattle.saphyr_scalar.specs.Spaces.{IsFiller, AreEach, joined, IsComment, IsFillerLine, IsLastFiller}
 use Rattle.saphyr_scanner.proofs.Documents.Lines.{filler_line}
-use Rattle.saphyr_scalar.specs.Spaces.{AreEach, joined, IsComment, IsFillerLine, IsLastFiller}
 use Rattle.saphyr_scalar.specs.TagSpelling.{AreIn}
 use Rattle.saphyr_input.proofs.Basics.Booleans.{by_test}
-use Rattle.std.proofs.Common.{IsTrue, ◌⊎◌, inl, inr}
-use Rattle.std.specs.Prelude.{if◌then◌else◌}
 
 -- whether a character leads on to the next token
 abbrev leads_on : ℕ → Bool
