@@ -54,7 +54,10 @@ def block_value(folds, chomping, lines):
 def may_follow(indent, column, behind):
     """What may stand behind a block scalar whose content begins at a column (IsBehind, IsBehindScalar)."""
     at, c = len(behind) - len(behind.lstrip(" ")), behind.lstrip(" ")[:1]
-    return not behind or is_marker(behind) or c not in ("", "\n", "\t") and at < column and (at < indent or c == "#")
+    if c == "\t":
+        last = re.sub("^([ \t]*(#.*)?\n)*", "", behind)
+        return at < column and (is_marker(last) or bool(re.fullmatch("[ \t]*(#[^\n]*)?", last)))
+    return not behind or is_marker(behind) or c not in ("", "\n") and at < column and (at < indent or c == "#")
 
 
 def has_tab_ahead(text):
@@ -308,7 +311,8 @@ class Derivation:
         body = "\n".join(" " * (self.random.randint(0, column) if it is None else column) + (it or "") for it in lines)
         body += "\n" * bool(behind or lines[-1] is None or self.rarely(2))
         told = {"its indentation is given": digit, "at column 0": not column, "its last line is empty": not lines[-1],
-                "its last break lacks": body[-1] != "\n", "a comment left of it": behind.lstrip(" ")[:1] == "#"}
+                "its last break lacks": body[-1] != "\n", "a comment left of it": behind.lstrip(" ")[:1] == "#",
+                "a tab left of it": behind.lstrip(" ")[:1] == "\t"}
         self.hits += [f"block scalar: {it}" for it in told if told[it]]
         style, chomping = self.one_of("|>"), self.pick("chomping", clip=1, strip=1, keep=1)
         header = "".join([str(digit or ""), {"clip": "", "strip": "-", "keep": "+"}[chomping]][::self.one_of((1, -1))])

@@ -100,6 +100,9 @@ pub fn derives_block()
         (Seq no_properties (MoreNodes (Seq no_properties
         (MoreNodes (plain (codes "a")) (MoreNodes (plain (codes "b")) NoNode))) NoNode)) ∷ [])
         (codes "- [a,\n\t# c\n  b]") }
+    ensures tab_behind_scalar { IsLayoutText most_open (bare
+        (Seq no_properties (MoreNodes (Scalar no_properties Literal (codes "a\n")) NoNode)) ∷ [])
+        (codes "- |\n  a\n\t# c") }
     ensures colons_in_keys { IsLayoutText most_open
         (bare (Map no_properties (MorePairs (plain (codes "a:")) (plain (codes "b"))
         (MorePairs (plain (codes "c :")) (plain (codes "d")) NoPair))) ∷ []) (codes "a:: b\nc :: d") }
@@ -243,7 +246,7 @@ pub fn refuses_scalars()
 {}
 
 /// In block style no tab stands before a further entry, nor behind a `?` before what comes next, also where its
-/// key is left out, nor on the line behind a block scalar's. No entry of a sequence stands left of the others,
+/// key is left out, nor on the line behind a block scalar's before a further entry. No entry of a sequence stands left of the others,
 /// no key goes on over lines, and no sequence begins on the line of its key.
 pub fn refuses_in_block()
     ensures tab_in_indentation { (room : ℕ) (nodes : Nodes) (m : ℕ) (behind : List ℕ)
@@ -252,8 +255,7 @@ pub fn refuses_in_block()
         → ¬ IsKeyAlone value (IsBlockNode room key) m (codes "?\t\n") behind }
     ensures tab_behind_left_out { (room : ℕ) (key value : Node) (m : ℕ) (others : List ℕ)
         → ¬ IsKeyAlone value (IsBlockNode room key) m (codes "?\n") (codes "\t\n" ++ others) }
-    ensures tab_behind_block_scalar { (indent i : ℕ) (others : List ℕ)
-        → ¬ IsBehindScalar indent i (codes "\t\n" ++ others) }
+    ensures tab_behind_block_scalar { (indent i : ℕ) → ¬ IsBehindScalar indent i (codes "\t\n- b") }
     ensures entry_left { (room : ℕ) (nodes : Nodes) (m : ℕ) (behind : List ℕ)
         → ¬ AreOtherEntries room nodes (suc m) (codes "- b") behind }
     ensures key_over_lines { (room : ℕ) (key value : Node) (m : ℕ) (behind : List ℕ)

@@ -120,7 +120,7 @@ block_literal =
 
 pub block_folded : IsLayoutText most_open (bare (Seq no_properties (MoreNodes (Scalar (record { anchor = Some (codes "x"); tag = None }) Folded (codes "a b\n\n  c")) (MoreNodes (Scalar no_properties Plain (codes "d")) NoNode))) ∷ []) (codes "- &x >-1 # x\n a\n b\n\n   c\n\n- d\n")
 block_folded =
-    ([], codes "- &x >-1 # x\n a\n b\n\n   c\n\n- d\n", (inl refl), ([], codes "- &x >-1 # x\n a\n b\n\n   c\n\n- d\n", [], ([], tt, refl), (inl (refl, (refl, refl, (inr (0, [], codes "- &x >-1 # x\n a\n b\n\n   c\n\n- d\n", (inr (refl, refl)), (codes " &x >-1 # x\n a\n b\n\n   c\n\n", codes "- d\n", (inr (inr (codes " ", codes "&x ", codes ">-1 # x\n a\n b\n\n   c\n\n", (inl (inl (1, omega arith, refl))), (inr (codes "&x", codes " ", (((λ e. cc), (refl, tt)), refl), (1, omega arith, refl), refl)), (codes "-1 # x\n a\n b\n\n   c\n\n", (1, 0, Strip, (Content (codes "a") ∷ Content (codes "b") ∷ Empty ∷ Content (codes "  c") ∷ Empty ∷ []), codes " a\n b\n\n   c\n\n- d\n", codes "- d\n", record { digit = 1; is_given = true; behind = codes "- d\n"; header = (chomping_first 62 (codes "-1 # x\n a\n b\n\n   c\n\n- d\n") (codes "1 # x\n a\n b\n\n   c\n\n- d\n") (codes " # x\n a\n b\n\n   c\n\n- d\n") (strip (codes "1 # x\n a\n b\n\n   c\n\n- d\n")) (digit 1 (codes " # x\n a\n b\n\n   c\n\n- d\n") (omega arith) (omega arith)) (comment 32 ([]) (codes " x") (codes " a\n b\n\n   c\n\n- d\n") (refl, tt) (refl, (refl, tt)))); no_tab = (λ e. omega arith); indentation = (given 1 (omega arith) refl (omega arith)); lines = (first 97 ([]) ((Content (codes "b") ∷ Empty ∷ Content (codes "  c") ∷ Empty ∷ [])) (codes " b\n\n   c\n\n- d\n") (λ e f. false≢true (ap not e)) (record { all = (refl, tt); no_marker = (λ e. refl) }) (content 98 ([]) ((Empty ∷ Content (codes "  c") ∷ Empty ∷ [])) (codes "\n   c\n\n- d\n") (record { all = (refl, tt); no_marker = (λ e. refl) }) (empty 0 ((Content (codes "  c") ∷ Empty ∷ [])) (codes "   c\n\n- d\n") (omega arith) (content 32 (codes " c") ((Empty ∷ [])) (codes "\n- d\n") (record { all = (refl, (refl, (refl, tt))); no_marker = (λ e. refl) }) (empty 0 ([]) (codes "- d\n") (omega arith) no_lines))))); ends = record { is = refl; within = omega arith; finished = (λ e. refl); no_space = (λ e f. omega arith); no_break = (λ e. omega arith); no_return = (λ e. omega arith); no_content = (λ e. absurd (let z : ⊥ = omega arith in z)) } }, refl, (inr (inr (0, 45, codes " d\n", refl, (λ e. omega arith), (inl (omega arith)), refl))), refl), refl), refl))), ([], codes " d\n", [], ([], ([], tt, refl), refl), (inr (inl (codes " ", codes "d", codes "\n", (inl (inl (1, omega arith, refl))), (inr ([], codes "d", (inl (refl, refl)), ((codes "d", [], (record { some = (λ e. cc); ink = (refl, (λ e f. omega arith), tt); no_comment = (λ e. omega arith); no_lone_dash = (λ e f. false≢true e) }, refl, (λ e. false≢true (ap (λ x. same x (codes "-")) e)), (λ e. false≢true (ap (λ x. same x (codes "?")) e)), (λ e. false≢true (ap (λ x. same x (codes ":")) e))), ([], tt, refl), refl), refl), refl)), (inl ([], ([], [], tt, (inl refl), refl), refl)), refl))), refl, refl), refl), refl))))), (inl ([], [], ([], tt, refl), ([], [], tt, (inl refl), refl), refl)), refl), refl)
+    ([], codes "- &x >-1 # x\n a\n b\n\n   c\n\n- d\n", (inl refl), ([], codes "- &x >-1 # x\n a\n b\n\n   c\n\n- d\n", [], ([], tt, refl), (inl (refl, (refl, refl, (inr (0, [], codes "- &x >-1 # x\n a\n b\n\n   c\n\n- d\n", (inr (refl, refl)), (codes " &x >-1 # x\n a\n b\n\n   c\n\n", codes "- d\n", (inr (inr (codes " ", codes "&x ", codes ">-1 # x\n a\n b\n\n   c\n\n", (inl (inl (1, omega arith, refl))), (inr (codes "&x", codes " ", (((λ e. cc), (refl, tt)), refl), (1, omega arith, refl), refl)), (codes "-1 # x\n a\n b\n\n   c\n\n", (1, 0, Strip, (Content (codes "a") ∷ Content (codes "b") ∷ Empty ∷ Content (codes "  c") ∷ Empty ∷ []), codes " a\n b\n\n   c\n\n- d\n", codes "- d\n", record { digit = 1; is_given = true; behind = codes "- d\n"; header = (chomping_first 62 (codes "-1 # x\n a\n b\n\n   c\n\n- d\n") (codes "1 # x\n a\n b\n\n   c\n\n- d\n") (codes " # x\n a\n b\n\n   c\n\n- d\n") (strip (codes "1 # x\n a\n b\n\n   c\n\n- d\n")) (digit 1 (codes " # x\n a\n b\n\n   c\n\n- d\n") (omega arith) (omega arith)) (comment 32 ([]) (codes " x") (codes " a\n b\n\n   c\n\n- d\n") (refl, tt) (refl, (refl, tt)))); no_tab = (λ e. omega arith); indentation = (given 1 (omega arith) refl (omega arith)); lines = (first 97 ([]) ((Content (codes "b") ∷ Empty ∷ Content (codes "  c") ∷ Empty ∷ [])) (codes " b\n\n   c\n\n- d\n") (λ e f. false≢true (ap not e)) (record { all = (refl, tt); no_marker = (λ e. refl) }) (content 98 ([]) ((Empty ∷ Content (codes "  c") ∷ Empty ∷ [])) (codes "\n   c\n\n- d\n") (record { all = (refl, tt); no_marker = (λ e. refl) }) (empty 0 ((Content (codes "  c") ∷ Empty ∷ [])) (codes "   c\n\n- d\n") (omega arith) (content 32 (codes " c") ((Empty ∷ [])) (codes "\n- d\n") (record { all = (refl, (refl, (refl, tt))); no_marker = (λ e. refl) }) (empty 0 ([]) (codes "- d\n") (omega arith) no_lines))))); ends = record { is = refl; within = omega arith; finished = (λ e. refl); no_space = (λ e f. omega arith); no_break = (λ e. omega arith); no_return = (λ e. omega arith); no_content = (λ e. absurd (let z : ⊥ = omega arith in z)) } }, refl, (inr (inr (inl (0, 45, codes " d\n", refl, (λ e. omega arith), (inl (omega arith)), refl)))), refl), refl), refl))), ([], codes " d\n", [], ([], ([], tt, refl), refl), (inr (inl (codes " ", codes "d", codes "\n", (inl (inl (1, omega arith, refl))), (inr ([], codes "d", (inl (refl, refl)), ((codes "d", [], (record { some = (λ e. cc); ink = (refl, (λ e f. omega arith), tt); no_comment = (λ e. omega arith); no_lone_dash = (λ e f. false≢true e) }, refl, (λ e. false≢true (ap (λ x. same x (codes "-")) e)), (λ e. false≢true (ap (λ x. same x (codes "?")) e)), (λ e. false≢true (ap (λ x. same x (codes ":")) e))), ([], tt, refl), refl), refl), refl)), (inl ([], ([], [], tt, (inl refl), refl), refl)), refl))), refl, refl), refl), refl))))), (inl ([], [], ([], tt, refl), ([], [], tt, (inl refl), refl), refl)), refl), refl)
 
 pub block_next_line : IsLayoutText most_open (bare (Map no_properties (MorePairs (Scalar no_properties Plain (codes "a")) (Scalar no_properties Plain (codes "b")) NoPair)) ∷ []) (codes "a:\n\n b\n")
 block_next_line =
@@ -152,7 +152,7 @@ flow_comment_before_colon =
 
 pub block_comment_left : IsLayoutText most_open (bare (Seq no_properties (MoreNodes (Scalar no_properties Literal (codes "a\n")) (MoreNodes (Scalar no_properties Plain (codes "b")) NoNode))) ∷ []) (codes "- |\n  a\n # x\n- b")
 block_comment_left =
-    ([], codes "- |\n  a\n # x\n- b", (inl refl), ([], codes "- |\n  a\n # x\n- b", [], ([], tt, refl), (inl (refl, (refl, refl, (inr (0, [], codes "- |\n  a\n # x\n- b", (inr (refl, refl)), (codes " |\n  a\n", codes " # x\n- b", (inr (inr (codes " ", [], codes "|\n  a\n", (inl (inl (1, omega arith, refl))), (inl (refl, refl)), (codes "\n  a\n", (2, 1, Clip, (Content (codes "a") ∷ []), codes "  a\n # x\n- b", codes "# x\n- b", record { digit = 0; is_given = false; behind = codes " # x\n- b"; header = (digit_first 124 (codes "\n  a\n # x\n- b") (codes "\n  a\n # x\n- b") (codes "\n  a\n # x\n- b") (no_digit (codes "\n  a\n # x\n- b")) (clip (codes "\n  a\n # x\n- b")) (no_comment ([]) (codes "  a\n # x\n- b") tt)); no_tab = (λ e. omega arith); indentation = (found (omega arith)); lines = (first 97 ([]) ([]) (codes " # x\n- b") (λ e f. omega arith) (record { all = (refl, tt); no_marker = (λ e. refl) }) no_lines); ends = record { is = refl; within = omega arith; finished = (λ e. absurd (false≢true e)); no_space = (λ e f. omega arith); no_break = (λ e. omega arith); no_return = (λ e. omega arith); no_content = (λ e. absurd (let z : ⊥ = omega arith in z)) } }, refl, (inr (inr (1, 35, codes " x\n- b", refl, (λ e. omega arith), (inr (refl, omega arith)), refl))), refl), refl), refl))), (codes " # x\n", codes " b", [], (codes " # x\n", ((codes " # x\n" ∷ []), ((codes " # x", (codes " ", codes "# x", (refl, tt), (inr (codes " x", (refl, (refl, tt)), refl)), refl), refl), tt), refl), refl), (inr (inl (codes " ", codes "b", [], (inl (inl (1, omega arith, refl))), (inr ([], codes "b", (inl (refl, refl)), ((codes "b", [], (record { some = (λ e. cc); ink = (refl, (λ e f. omega arith), tt); no_comment = (λ e. omega arith); no_lone_dash = (λ e f. false≢true e) }, refl, (λ e. false≢true (ap (λ x. same x (codes "-")) e)), (λ e. false≢true (ap (λ x. same x (codes "?")) e)), (λ e. false≢true (ap (λ x. same x (codes ":")) e))), ([], tt, refl), refl), refl), refl)), (inr (([], [], tt, (inl refl), refl), refl)), refl))), refl, refl), refl), refl))))), (inl ([], [], ([], tt, refl), ([], [], tt, (inl refl), refl), refl)), refl), refl)
+    ([], codes "- |\n  a\n # x\n- b", (inl refl), ([], codes "- |\n  a\n # x\n- b", [], ([], tt, refl), (inl (refl, (refl, refl, (inr (0, [], codes "- |\n  a\n # x\n- b", (inr (refl, refl)), (codes " |\n  a\n", codes " # x\n- b", (inr (inr (codes " ", [], codes "|\n  a\n", (inl (inl (1, omega arith, refl))), (inl (refl, refl)), (codes "\n  a\n", (2, 1, Clip, (Content (codes "a") ∷ []), codes "  a\n # x\n- b", codes "# x\n- b", record { digit = 0; is_given = false; behind = codes " # x\n- b"; header = (digit_first 124 (codes "\n  a\n # x\n- b") (codes "\n  a\n # x\n- b") (codes "\n  a\n # x\n- b") (no_digit (codes "\n  a\n # x\n- b")) (clip (codes "\n  a\n # x\n- b")) (no_comment ([]) (codes "  a\n # x\n- b") tt)); no_tab = (λ e. omega arith); indentation = (found (omega arith)); lines = (first 97 ([]) ([]) (codes " # x\n- b") (λ e f. omega arith) (record { all = (refl, tt); no_marker = (λ e. refl) }) no_lines); ends = record { is = refl; within = omega arith; finished = (λ e. absurd (false≢true e)); no_space = (λ e f. omega arith); no_break = (λ e. omega arith); no_return = (λ e. omega arith); no_content = (λ e. absurd (let z : ⊥ = omega arith in z)) } }, refl, (inr (inr (inl (1, 35, codes " x\n- b", refl, (λ e. omega arith), (inr (refl, omega arith)), refl)))), refl), refl), refl))), (codes " # x\n", codes " b", [], (codes " # x\n", ((codes " # x\n" ∷ []), ((codes " # x", (codes " ", codes "# x", (refl, tt), (inr (codes " x", (refl, (refl, tt)), refl)), refl), refl), tt), refl), refl), (inr (inl (codes " ", codes "b", [], (inl (inl (1, omega arith, refl))), (inr ([], codes "b", (inl (refl, refl)), ((codes "b", [], (record { some = (λ e. cc); ink = (refl, (λ e f. omega arith), tt); no_comment = (λ e. omega arith); no_lone_dash = (λ e f. false≢true e) }, refl, (λ e. false≢true (ap (λ x. same x (codes "-")) e)), (λ e. false≢true (ap (λ x. same x (codes "?")) e)), (λ e. false≢true (ap (λ x. same x (codes ":")) e))), ([], tt, refl), refl), refl), refl)), (inr (([], [], tt, (inl refl), refl), refl)), refl))), refl, refl), refl), refl))))), (inl ([], [], ([], tt, refl), ([], [], tt, (inl refl), refl), refl)), refl), refl)
 
 pub block_indicator : IsLayoutText most_open (bare (Map no_properties (MorePairs (Scalar no_properties Plain (codes "a")) (Scalar no_properties Literal (codes " b")) NoPair)) ∷ []) (codes "a: |1-\n  b\n")
 block_indicator =
@@ -199,3 +199,8 @@ block_tabs_in_flow =
 pub streams_tabs : IsLayoutText most_open ((record { explicit = true; directives = []; node = (Scalar no_properties Plain (codes "a")) }) ∷ []) (codes "--- a\n\t\n...\n\t# c")
 streams_tabs =
     ([], codes "--- a\n\t\n...\n\t# c", (inl refl), ([], codes "--- a\n", codes "\t\n...\n\t# c", ([], tt, refl), (inr ((inl refl), ([], codes " a\n", refl, tt, refl, refl, (inr (inl (codes " ", codes "a", codes "\n", (inl (inl (1, omega arith, refl))), (inr ([], codes "a", (inl (refl, refl)), ((codes "a", [], (record { some = (λ e. cc); ink = (refl, (λ e f. omega arith), tt); no_comment = (λ e. omega arith); no_lone_dash = (λ e f. false≢true e) }, refl, (λ e. false≢true (ap (λ x. same x (codes "-")) e)), (λ e. false≢true (ap (λ x. same x (codes "?")) e)), (λ e. false≢true (ap (λ x. same x (codes ":")) e))), ([], tt, refl), refl), refl), refl)), (inl ([], ([], [], tt, (inl refl), refl), refl)), refl))), refl))), (inr (codes "\t\n...\n", codes "\t# c", (codes "\t\n", codes "\n", [], ((codes "\t\n" ∷ []), ((codes "\t", (codes "\t", [], (refl, tt), (inl refl), refl), refl), tt), refl), (inl ([], ([], [], tt, (inl refl), refl), refl)), (inl refl), refl), ([], codes "\t# c", ([], tt, refl), (codes "\t", codes "# c", (refl, tt), (inr (codes " c", (refl, (refl, tt)), refl)), refl), refl), refl)), refl), refl)
+
+-- a tab behind a block scalar at the text's end
+pub block_tab_behind_scalar : IsLayoutText most_open (bare (Seq no_properties (MoreNodes (Scalar no_properties Literal (codes "a\n")) NoNode)) ∷ []) (codes "- |\n  a\n\t# c")
+block_tab_behind_scalar =
+    ([], codes "- |\n  a\n\t# c", (inl refl), ([], codes "- |\n  a\n", codes "\t# c", ([], tt, refl), (inl (refl, (refl, refl, (inr (0, [], codes "- |\n  a\n", (inr (refl, refl)), (codes " |\n  a\n", [], (inr (inr (codes " ", [], codes "|\n  a\n", (inl (inl (1, omega arith, refl))), (inl (refl, refl)), (codes "\n  a\n", (2, 0, Clip, (Content (codes "a") ∷ []), codes "  a\n\t# c", codes "\t# c", record { digit = 0; is_given = false; behind = codes "\t# c"; header = (digit_first 124 (codes "\n  a\n\t# c") (codes "\n  a\n\t# c") (codes "\n  a\n\t# c") (no_digit (codes "\n  a\n\t# c")) (clip (codes "\n  a\n\t# c")) (no_comment ([]) (codes "  a\n\t# c") tt)); no_tab = (λ e. omega arith); indentation = (found (omega arith)); lines = (first 97 ([]) ([]) (codes "\t# c") (λ e f. omega arith) (record { all = (refl, tt); no_marker = (λ e. refl) }) no_lines); ends = record { is = refl; within = omega arith; finished = (λ e. absurd (false≢true e)); no_space = (λ e f. omega arith); no_break = (λ e. omega arith); no_return = (λ e. omega arith); no_content = (λ e. absurd (let z : ⊥ = omega arith in z)) } }, refl, (inr (inr (inr (0, codes "# c", omega arith, refl, (inl ([], codes "\t# c", ([], tt, refl), (codes "\t", codes "# c", (refl, tt), (inr (codes " c", (refl, (refl, tt)), refl)), refl), refl)))))), refl), refl), refl))), refl, refl), refl))))), (inl ([], codes "\t# c", ([], tt, refl), (codes "\t", codes "# c", (refl, tt), (inr (codes " c", (refl, (refl, tt)), refl)), refl), refl)), refl), refl)

@@ -13,6 +13,10 @@ use Rattle.saphyr_scanner.specs.Grammar.FlowScalars.{begins_plain, IsFirstWord, 
 use Rattle.saphyr_scanner.specs.Grammar.FlowNodes.{IsOnLine, IsFlowNode}
 use Rattle.saphyr_scanner.proofs.Beginnings.{no_feed_no_filler, heads, tails, Begins, behind_in, before_in, lacks, IsFirst, no_first, behind_filler}
 use Rattle.saphyr_scanner.specs.Grammar.BlockNodes.{BehindKey, IsBehindScalar, IsLead, IsEntryIndentation, has_tab_ahead, IsImplicitPair, IsKeyAlone, IsBlockNode, AreOtherEntries}
+use Rattle.saphyr_input.specs.Places.{is_document_indicator}
+use Rattle.std.proofs.Math.Bool.{or-true}
+use Rattle.std.specs.Prelude.{◌||◌}
+use Rattle.saphyr_scanner.proofs.InBlock.TabsAhead.{last_none}
 
 -- ## Plain scalars
 
@@ -168,13 +172,27 @@ tab_behind_left_out room key value m others (node, out, (some, clear), k, e) =
     let g : has_tab_ahead false (codes "\n\t\n" ++ others) ≡ false =
     ap (λ (x : List ℕ). has_tab_ahead false (x ++ (codes "\t\n" ++ others))) f ∙ clear in cc
 
-pub tab_behind_block_scalar : (indent i : ℕ) (others : List ℕ) → IsBehindScalar indent i (codes "\t\n" ++ others) → ⊥
-tab_behind_block_scalar indent i others (inl e) = cc
-tab_behind_block_scalar indent i others (inr (inl h)) = absurd (let e : false ≡ true = h in cc)
-tab_behind_block_scalar indent i others (inr (inr (zero, c, more, ink, feed, left, e))) =
-    let f : is_blank c ≡ true = ap is_blank (heads 9 c (codes "\n" ++ others) more e) in cc
-tab_behind_block_scalar indent i others (inr (inr (suc n, c, more, ink, feed, left, e))) =
-    let f : 32 ≡ 9 = heads 9 32 (codes "\n" ++ others) (spaces n ++ (c ∷ more)) e in omega (arith, f)
+-- whether a document marker stands anywhere
+abbrev any_marker : List ℕ → Bool
+any_marker [] = is_document_indicator []
+any_marker (c ∷ cs) = is_document_indicator (c ∷ cs) || any_marker cs
+
+marker_in : (a b : List ℕ) → is_document_indicator b ≡ true → any_marker (a ++ b) ≡ true
+marker_in [] [] h = h
+marker_in [] (c ∷ cs) h = rw h refl
+marker_in (c ∷ cs) b h = rw (marker_in cs b h) (or-true (is_document_indicator (c ∷ (cs ++ b))))
+
+pub tab_behind_block_scalar : (indent i : ℕ) → IsBehindScalar indent i (codes "\t\n- b") → ⊥
+tab_behind_block_scalar indent i (inl e) = cc
+tab_behind_block_scalar indent i (inr (inl h)) = absurd (let e : false ≡ true = h in cc)
+tab_behind_block_scalar indent i (inr (inr (inl (zero, c, more, ink, feed, left, e)))) =
+    let f : is_blank c ≡ true = ap is_blank (heads 9 c (codes "\n- b") more e) in cc
+tab_behind_block_scalar indent i (inr (inr (inl (suc n, c, more, ink, feed, left, e)))) =
+    let f : 32 ≡ 9 = heads 9 32 (codes "\n- b") (spaces n ++ (c ∷ more)) e in omega (arith, f)
+tab_behind_block_scalar indent i (inr (inr (inr (n, others, left, e, inl last)))) =
+    let f : true ≡ false = last_none (codes "\t\n- b") last in cc
+tab_behind_block_scalar indent i (inr (inr (inr (n, others, left, e, inr (filling, marked, h, marker, is))))) =
+    let f : false ≡ true = ap any_marker is ∙ marker_in filling marked marker in cc
 
 no_left : (m : ℕ) (front others : List ℕ) → (front ≡ spaces (suc m)) ⊎ Begins IsFirst front
     → codes "- b" ≡ front ++ others → ⊥

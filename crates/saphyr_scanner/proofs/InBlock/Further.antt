@@ -1,6 +1,6 @@
 -- A node at block level stands where more text follows as well, if what stands behind it ends with a break and has a
 -- token.
-use Rattle.std.proofs.Common.{◌≡◌, ℕ, zero, suc, Bool, true, false, List, [], ◌∷◌, ◌++◌, slice_index, refl, sym, ap, ◌∙◌, subst, append_assoc, ◌⊎◌, inl, inr}
+use Rattle.std.proofs.Common.{◌≡◌, ℕ, zero, suc, Bool, true, false, List, [], ◌∷◌, ◌++◌, slice_index, refl, sym, ap, ◌∙◌, subst, append_assoc, ◌⊎◌, inl, inr, IsTrue}
 use Rattle.saphyr_input.specs.Classes.{is_z, is_yaml_non_break}
 use Rattle.saphyr_input.specs.Places.{is_document_indicator}
 use Rattle.saphyr_scalar.specs.BlockRead.{spaces}
@@ -20,7 +20,8 @@ use Rattle.saphyr_scalar.specs.declared.scalar.position.Marker.{Marker}
 use Rattle.saphyr_scanner.proofs.Flow.States.{moved}
 use Rattle.saphyr_scanner.proofs.InBlock.Statements.{EndsWithLine, Leaves}
 use Rattle.saphyr_scanner.proofs.InBlock.Texts.{ends_back, node_ends, other_entries_end, other_pairs_end}
-use Rattle.saphyr_scanner.proofs.InBlock.TabsAhead.{TellsTabs, tells_behind}
+use Rattle.saphyr_scanner.proofs.InBlock.TabsAhead.{TellsTabs, tells_behind, has_token, token_behind, last_none}
+use Rattle.saphyr_input.proofs.Basics.Booleans.{clash}
 
 -- ## Texts that end with a break
 
@@ -187,12 +188,12 @@ behind_further more x fed i n others h =
     by_content ends same (inl k) = inl (ap is_yaml_non_break same ∙ k)
     by_content ends same (inr (none, k)) = inr (none, same_marker others more ends ∙ k)
 
-left_further : (more : List ℕ) (indent i : ℕ) (t : List ℕ) → EndsFed t → IsBehindScalar indent i t
-    → IsBehindScalar indent i (t ++ more)
-left_further more indent i t fed (inl e) = absurd (none_fed t fed e)
-left_further more indent i t fed (inr (inl h)) = inr (inl (same_marker t more fed ∙ h))
-left_further more indent i t fed (inr (inr (n, c, others, no_space, no_break, left, e))) =
-    inr (inr (
+left_further : (more : List ℕ) (indent i : ℕ) (t : List ℕ) → EndsFed t → has_token false t ≡ true
+    → IsBehindScalar indent i t → IsBehindScalar indent i (t ++ more)
+left_further more indent i t fed token (inl e) = absurd (none_fed t fed e)
+left_further more indent i t fed token (inr (inl h)) = inr (inl (same_marker t more fed ∙ h))
+left_further more indent i t fed token (inr (inr (inl (n, c, others, no_space, no_break, left, e)))) =
+    inr (inr (inl (
       n,
       c,
       others ++ more,
@@ -201,11 +202,34 @@ left_further more indent i t fed (inr (inr (n, c, others, no_space, no_break, le
       left,
       ap (λ (x : List ℕ). x ++ more) e
           ∙ append_assoc (spaces n) (c ∷ others) more,
-    ))
+    )))
+left_further more indent i t fed token (inr (inr (inr (n, others, left, e, inl to_end)))) =
+    absurd (clash (has_token false t) token (last_none t to_end))
+left_further more indent i t fed token
+    (inr (inr (inr (n, others, left, e, inr (filler, marked, filler_is, marker, is))))) =
+    inr (inr (inr (
+      n,
+      others ++ more,
+      left,
+      ap (λ (x : List ℕ). x ++ more) e ∙ append_assoc (spaces n) (9 ∷ others) more,
+      inr (
+        filler,
+        marked ++ more,
+        filler_is,
+        marker_further filler marked (subst EndsFed is fed) marker,
+        ap (λ (x : List ℕ). x ++ more) is ∙ append_assoc filler marked more,
+      ),
+    )))
+  where
+    marker_further : (filler marked : List ℕ) → EndsFed (filler ++ marked) → IsTrue (is_document_indicator marked)
+        → IsTrue (is_document_indicator (marked ++ more))
+    marker_further filler [] f h = absurd (let k : false ≡ true = h in cc)
+    marker_further filler (c ∷ cs) f h = same_marker (c ∷ cs) more (fed_behind filler c cs f) ∙ h
 
 text_further : (more : List ℕ) (style : BlockStyle) (value : List ℕ) (indent : ℕ) (t o : List ℕ) → EndsFed o
-    → IsBlockScalarText style value indent t o → IsBlockScalarText style value indent t (o ++ more)
-text_further more style value indent t o fed (i, n, chomping, lines, body, others, scalar, same, left, said) =
+    → has_token false o ≡ true → IsBlockScalarText style value indent t o
+    → IsBlockScalarText style value indent t (o ++ more)
+text_further more style value indent t o fed token (i, n, chomping, lines, body, others, scalar, same, left, said) =
     let behind_fed : EndsFed scalar.behind = subst EndsFed (sym same) fed in
     let longer : IsBlockScalar indent i n chomping lines (t ++ (o ++ more)) (body ++ more) (others ++ more) = record {
       digit = scalar.digit;
@@ -227,19 +251,19 @@ text_further more style value indent t o fed (i, n, chomping, lines, body, other
           ++ more,
       longer,
       ap (λ (x : List ℕ). x ++ more) same,
-      left_further more indent i o fed left,
+      left_further more indent i o fed token left,
       said,
     )
 
 styled_further : (more : List ℕ) (style : Style) (value : List ℕ) (indent : ℕ) (t o : List ℕ) → EndsFed o
-    → IsStyled style value indent t o → IsStyled style value indent t (o ++ more)
-styled_further more Literal value indent t o fed (others, h, e) =
-    (others, text_further more block.Literal value indent t o fed h, e)
-styled_further more Folded value indent t o fed (others, h, e) =
-    (others, text_further more block.Folded value indent t o fed h, e)
-styled_further more Plain value indent t o fed h = absurd h
-styled_further more SingleQuoted value indent t o fed h = absurd h
-styled_further more DoubleQuoted value indent t o fed h = absurd h
+    → has_token false o ≡ true → IsStyled style value indent t o → IsStyled style value indent t (o ++ more)
+styled_further more Literal value indent t o fed token (others, h, e) =
+    (others, text_further more block.Literal value indent t o fed token h, e)
+styled_further more Folded value indent t o fed token (others, h, e) =
+    (others, text_further more block.Folded value indent t o fed token h, e)
+styled_further more Plain value indent t o fed token h = absurd h
+styled_further more SingleQuoted value indent t o fed token h = absurd h
+styled_further more DoubleQuoted value indent t o fed token h = absurd h
 
 -- ## Nodes
 
@@ -256,9 +280,10 @@ flow_further : (more : List ℕ) (room : ℕ) (node : Node) (place : Position) (
 flow_further more room node place t o fed (gap, text, end, gap_is, is, end_is, e) =
     (gap, text, end, gap_is, is, end_further more end o fed end_is, e)
 
--- What stands behind ends with a break, and before it is told whether a tab stands ahead.
+-- What stands behind ends with a break and has a token, and before it is told whether a tab stands ahead.
 pub record IsAhead (more o : List ℕ) : Type 0 where
   pub fed : EndsFed o
+  pub token : has_token false o ≡ true
   pub tells : TellsTabs more o
 
 -- in front of it stands what ends a line
@@ -269,7 +294,12 @@ ends_fed t o fed (inr e) = absurd (none_fed o fed e)
 ahead_front : (more t o : List ℕ) → (t ≡ []) ⊎ EndsWithLine t o → IsAhead more o → IsAhead more (t ++ o)
 ahead_front more t o (inl e) h = subst (λ (x : List ℕ). IsAhead more (x ++ o)) (sym e) h
 ahead_front more t o (inr e) h =
-    record { fed = fed_front t o h.fed; tells = tells_behind t o more (ends_fed t o h.fed e) h.tells }
+    let ends = ends_fed t o h.fed e in
+    record {
+      fed = fed_front t o h.fed;
+      token = token_behind t o ends h.token;
+      tells = tells_behind t o more ends h.tells;
+    }
 
 question_further : (more node o : List ℕ) → EndsWithLine node o → IsAhead more o → IsBehindQuestion node o
     → IsBehindQuestion node (o ++ more)
@@ -335,7 +365,7 @@ mutual
         scalar,
         gap_is,
         front_is,
-        styled_further more style value (indent_at place) scalar o ahead.fed h,
+        styled_further more style value (indent_at place) scalar o ahead.fed ahead.token h,
         e,
       ))
   node_further more leaves (Seq p nodes) place t o ahead (inl h) =

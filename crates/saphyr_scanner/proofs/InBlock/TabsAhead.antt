@@ -1,7 +1,7 @@
 -- Where no tab stands ahead, none stands among the blanks before the next token. And what follows a token tells nothing
 -- of what stands before it.
-use Rattle.std.proofs.Common.{◌≡◌, ℕ, ◌+◌, ◌≤◌, Bool, true, false, List, [], ◌∷◌, ◌++◌, slice_index, refl, sym, ap, ◌∙◌, arith, append_assoc}
-use Rattle.std.specs.Prelude.{◌||◌, ◌&&◌, ◌==◌, not}
+use Rattle.std.proofs.Common.{◌≡◌, ℕ, ◌+◌, ◌≤◌, Bool, true, false, List, [], ◌∷◌, ◌++◌, slice_index, refl, sym, ap, ◌∙◌, arith, append_assoc, IsTrue, ◌⊎◌, inl, inr}
+use Rattle.std.specs.Prelude.{◌||◌, ◌&&◌, ◌==◌, not, if◌then◌else◌}
 use Rattle.std.proofs.lemmas.Bool.Decides.{nat_tests}
 use Rattle.saphyr_input.specs.Classes.{is_blank, is_break, is_yaml_non_break, line_feed}
 use Rattle.saphyr_scalar.specs.declared.scalar.position.Marker.{Marker}
@@ -11,8 +11,10 @@ use Rattle.saphyr_scanner.proofs.Flow.Places.{behind_character}
 use Rattle.saphyr_scanner.proofs.InBlock.Skips.{has_tab, comment_has_tab}
 use Rattle.std.proofs.lemmas.Bool.{or_parts}
 use Rattle.saphyr_scanner.proofs.Flow.Spaces.{white_no_sign, break_no_sign}
-use Rattle.saphyr_scalar.specs.Spaces.{IsFiller}
+use Rattle.saphyr_scalar.specs.Spaces.{IsFiller, AreEach, joined, IsComment, IsFillerLine, IsLastFiller}
 use Rattle.saphyr_scanner.proofs.Documents.Lines.{filler_line}
+use Rattle.saphyr_scalar.specs.TagSpelling.{AreIn}
+use Rattle.saphyr_input.proofs.Basics.Booleans.{by_test}
 
 -- whether a character leads on to the next token
 abbrev leads_on : ℕ → Bool
@@ -149,3 +151,94 @@ tells_token c cs more ink = rw (no_tab c ink.blank, no_space c ink.blank, ink.br
 
     no_space : (c : ℕ) → is_blank c ≡ false → (c == 32) ≡ false
     no_space c h = grind (arith, nat_tests)
+
+-- ## Whether a token stands ahead
+
+-- behind blanks, breaks and comments; the first argument tells that a comment goes on
+abbrev pub has_token : Bool → List ℕ → Bool
+has_token in_comment [] = false
+has_token true (c ∷ cs) = has_token (not (is_break c)) cs
+has_token false (c ∷ cs) = if (c == 9) || leads_on c then has_token (c == 35) cs else true
+
+-- in front of one stands what ends a line
+token_front : (in_comment : Bool) (m : Marker) (t o : List ℕ) → (in_comment ≡ true → 1 ≤ m.col) → (moved m t).col ≡ 0
+    → has_token false o ≡ true → has_token in_comment (t ++ o) ≡ true
+token_front true m [] o some e h = let k = some refl in absurd (omega (arith, k, e))
+token_front false m [] o some e h = h
+token_front true m (c ∷ cs) o some e h =
+    token_front (not (is_break c)) (behind_character m c) cs o (λ k. further m c (unbroken_no_feed c k)) e h
+token_front false m (c ∷ cs) o some e h =
+    by_test ((c == 9) || leads_on c) (has_token (c == 35) (cs ++ o)) true (λ (b : Bool). b ≡ true)
+    (λ _. token_front (c == 35) (behind_character m c) cs o (λ k. further m c (sign_no_feed c k)) e h) (λ _. refl)
+
+pub token_behind : (t o : List ℕ) → ((m : Marker) → (moved m t).col ≡ 0) → has_token false o ≡ true
+    → has_token false (t ++ o) ≡ true
+token_behind t o h k = token_front false text_start t o (λ e. absurd (cc)) (h text_start) k
+
+pub token_filler : (t o : List ℕ) → IsFiller t → has_token false o ≡ true → has_token false (t ++ o) ≡ true
+token_filler t o h k =
+    token_front false text_start t o (λ e. absurd (cc)) (filler_line text_start t h refl) k
+
+pub token_here : (c : ℕ) (cs : List ℕ) → IsInk c → has_token false (c ∷ cs) ≡ true
+token_here c cs ink = rw (no_tab c ink.blank, no_space c ink.blank, ink.break, ink.comment) refl
+  where
+    no_tab : (c : ℕ) → is_blank c ≡ false → (c == 9) ≡ false
+    no_tab c h = grind (arith, nat_tests)
+
+    no_space : (c : ℕ) → is_blank c ≡ false → (c == 32) ≡ false
+    no_space c h = grind (arith, nat_tests)
+
+-- none stands in filler
+words_none : (words o : List ℕ) → AreIn is_yaml_non_break words → has_token false o ≡ false
+    → has_token true (words ++ (10 ∷ o)) ≡ false
+words_none [] o h k = k
+words_none (c ∷ cs) o h k =
+    ap (λ (b : Bool). has_token (not b) (cs ++ (10 ∷ o))) (no_break c h.0) ∙ words_none cs o h.1 k
+  where
+    no_break : (c : ℕ) → IsTrue (is_yaml_non_break c) → is_break c ≡ false
+    no_break c h = grind (arith, nat_tests)
+
+last_words_none : (words : List ℕ) → AreIn is_yaml_non_break words → has_token true words ≡ false
+last_words_none [] h = refl
+last_words_none (c ∷ cs) h = rw (no_break c h.0) (last_words_none cs h.1)
+  where
+    no_break : (c : ℕ) → IsTrue (is_yaml_non_break c) → is_break c ≡ false
+    no_break c h = grind (arith, nat_tests)
+
+blanks_none : (w o : List ℕ) → AreIn is_blank w → has_token false o ≡ false → has_token false (w ++ o) ≡ false
+blanks_none [] o h k = k
+blanks_none (c ∷ cs) o h k = rw (leads c h.0, no_sign c h.0) (blanks_none cs o h.1 k)
+  where
+    leads : (c : ℕ) → IsTrue (is_blank c) → ((c == 9) || leads_on c) ≡ true
+    leads c h = grind (arith, nat_tests)
+
+    no_sign : (c : ℕ) → IsTrue (is_blank c) → (c == 35) ≡ false
+    no_sign c h = grind (arith, nat_tests)
+
+line_none : (t o : List ℕ) → IsFillerLine t → has_token false o ≡ false → has_token false (t ++ o) ≡ false
+line_none t o (text, (front, comment, are, k, is_text), is) h =
+    let whole : t ++ o ≡ front ++ (comment ++ (10 ∷ o)) =
+    ap (λ (x : List ℕ). x ++ o) (is ∙ ap (λ (x : List ℕ). x ++ (10 ∷ [])) is_text) ∙ simp append_assoc in
+    ap (has_token false) whole ∙ blanks_none front (comment ++ (10 ∷ o)) are (by_comment k)
+  where
+    by_comment : (comment ≡ []) ⊎ IsComment comment → has_token false (comment ++ (10 ∷ o)) ≡ false
+    by_comment (inl e) = ap (λ (x : List ℕ). has_token false (x ++ (10 ∷ o))) e ∙ h
+    by_comment (inr (words, are_words, e)) =
+        ap (λ (x : List ℕ). has_token false (x ++ (10 ∷ o))) e ∙ words_none words o are_words h
+
+filler_none : (ws : List (List ℕ)) (o : List ℕ) → AreEach IsFillerLine ws → has_token false o ≡ false
+    → has_token false (joined ws ++ o) ≡ false
+filler_none [] o h k = k
+filler_none (v ∷ vs) o h k =
+    ap (has_token false) (append_assoc v (joined vs) o) ∙ line_none v (joined vs ++ o) h.0 (filler_none vs o h.1 k)
+
+pub last_none : (t : List ℕ) → IsLastFiller t → has_token false t ≡ false
+last_none t (filler, text, (pieces, each, joins), (front, comment, are, k, is_text), is) =
+    let whole : t ≡ joined pieces ++ (front ++ comment) =
+    is ∙ ap (λ (x : List ℕ). x ++ text) joins ∙ ap (λ (x : List ℕ). joined pieces ++ x) is_text in
+    ap (has_token false) whole
+    ∙ filler_none pieces (front ++ comment) each (blanks_none front comment are (by_comment k))
+  where
+    by_comment : (comment ≡ []) ⊎ IsComment comment → has_token false comment ≡ false
+    by_comment (inl e) = ap (has_token false) e
+    by_comment (inr (words, are_words, e)) = ap (has_token false) e ∙ last_words_none words are_words

@@ -20,7 +20,7 @@ use Rattle.saphyr_scanner.proofs.Documents.Stands.{Lined, Stands}
 use Rattle.saphyr_scanner.proofs.InBlock.Skips.{filler_skipped}
 use Rattle.saphyr_scanner.proofs.InBlock.LineStarts.{opens_line, HasLine, behind_piece, no_line, skipped_unmarked, last_unmarked, end_unmarked, prefix_unmarked}
 use Rattle.saphyr_scanner.proofs.InBlock.Further.{EndsFed, fed_front, fed_behind, same_marker, end_further, IsAhead, document_further}
-use Rattle.saphyr_scanner.proofs.InBlock.TabsAhead.{TellsTabs, tells_filler, tells_token}
+use Rattle.saphyr_scanner.proofs.InBlock.TabsAhead.{TellsTabs, tells_filler, tells_token, has_token, token_filler, token_here}
 use Rattle.saphyr_scanner.proofs.InBlock.Statements.{Leaves}
 use Rattle.saphyr_scanner.proofs.InBlock.Texts.{node_ends}
 use Rattle.saphyr_scanner.proofs.InBlock.Documents.{AreBlockDocuments, HasNoReturn, OpensMarker, opens_marker, lands_marked, plain_marked, suffix_text, document_text, node_marks, reads_front, reads_document}
@@ -142,6 +142,11 @@ tells_marked o more k =
     subst (TellsTabs more) (sym k.is)
     (tells_filler k.filler (k.first ∷ k.others) more k.filler_is (tells_token k.first k.others more k.ink))
 
+token_marked : (o : List ℕ) → OpensMarker o → has_token false o ≡ true
+token_marked o k =
+    subst (λ (x : List ℕ). has_token false x ≡ true) (sym k.is)
+    (token_filler k.filler (k.first ∷ k.others) k.filler_is (token_here k.first k.others k.ink))
+
 closes_beyond : {limit : ℕ} {start : State} {marker : DocumentMarker} → Reads → Leaves limit
     → (w : DocumentMarker) (r more : List ℕ) → IsMarkerRest r
     → (d : Document) (ds : Forest) (free : Bool) (document others : List ℕ) (ts : List Kind)
@@ -156,7 +161,11 @@ closes_beyond readers leaves w r more rest d ds free document others ts is behin
     let fed = marked_fed w r others rest line in
     let here = opens (opens_marker leaves ds others behind) in
     let k = further others more fed here in
-    let ahead : IsAhead more others = record { fed = fed; tells = tells_marked others more here } in
+    let ahead : IsAhead more others = record {
+      fed = fed;
+      token = token_marked others here;
+      tells = tells_marked others more here;
+    } in
     let n = reads_document readers leaves d free document (others ++ more) ts
     (document_further more leaves d free document others ahead is) (lands_marked (others ++ more) k)
     (plain_marked k.filler k.first k.others (others ++ more) k.filler_is k.is k.ink) clean v in

@@ -10,7 +10,7 @@ use Rattle.saphyr_scalar.specs.declared.reading.block.Chomping.{Chomping}
 use Rattle.saphyr_scalar.specs.BlockReading.{Line, lines_value}
 use Rattle.saphyr_scalar.specs.BlockRead.{spaces}
 use Rattle.saphyr_scalar.specs.BlockSpelling.{IsBlockScalar}
-use Rattle.saphyr_scalar.specs.Spaces.{AreSpaces, IsLineEnd, IsEol, IsFiller, IsGap}
+use Rattle.saphyr_scalar.specs.Spaces.{AreSpaces, IsLineEnd, IsEol, IsFiller, IsLastFiller, IsGap}
 use Rattle.saphyr_scanner.specs.Grammar.Forest.{Style, Literal, Folded, Properties, no_properties, Node, Alias, Scalar, Seq, Map, Nodes, NoNode, MoreNodes, Pairs, NoPair, MorePairs, left_out}
 use Rattle.saphyr_scanner.specs.Grammar.FlowNodes.{IsProperties, IsOnLine, IsKeyText, IsBeforeColon, IsFlowNode}
 
@@ -91,15 +91,25 @@ IsFlowInBlock room node place t behind =
     × (t ≡ gap ++ (text ++ end))
 
 -- What may follow the lines of a block scalar whose content begins at column i: nothing, a document marker, a line that
--- begins at or left of the enclosing collection's column, or a comment left of the content. That line's content stands
--- behind spaces alone.
+-- begins at or left of the enclosing collection's column, or a comment left of the content, behind spaces alone; or
+-- filler up to the document's end whose first line has a tab left of the content.
 abbrev pub IsLineLeft : ℕ → ℕ → List ℕ → Type 0
 IsLineLeft indent i t =
     (n c : ℕ) × (others : List ℕ) × IsFalse (is_blank c) × (c ≢ 10) × ((n < indent) ⊎ ((c ≡ 35) × (n < i)))
     × (t ≡ spaces n ++ (c ∷ others))
 
+-- filler, and behind it the text's end or a document marker
+abbrev pub IsFillerAtEnd : List ℕ → Type 0
+IsFillerAtEnd t =
+    IsLastFiller t
+    ⊎ ((filler others : List ℕ) × IsFiller filler × IsTrue (is_document_indicator others) × (t ≡ filler ++ others))
+
+abbrev pub IsTabLeft : ℕ → List ℕ → Type 0
+IsTabLeft i t = (n : ℕ) × (others : List ℕ) × (n < i) × (t ≡ spaces n ++ (tab ∷ others)) × IsFillerAtEnd t
+
 abbrev pub IsBehindScalar : ℕ → ℕ → List ℕ → Type 0
-IsBehindScalar indent i t = (t ≡ []) ⊎ (IsTrue (is_document_indicator t) ⊎ IsLineLeft indent i t)
+IsBehindScalar indent i t =
+    (t ≡ []) ⊎ (IsTrue (is_document_indicator t) ⊎ (IsLineLeft indent i t ⊎ IsTabLeft i t))
 
 -- 8.1: a block scalar from its header on, with all of its lines
 abbrev pub IsBlockScalarText : BlockStyle → List ℕ → ℕ → List ℕ → List ℕ → Type 0
