@@ -54,7 +54,12 @@ def block_value(folds, chomping, lines):
 def may_follow(indent, column, behind):
     """What may stand behind a block scalar whose content begins at a column (IsBehind, IsBehindScalar)."""
     at, c = len(behind) - len(behind.lstrip(" ")), behind.lstrip(" ")[:1]
-    return not behind or is_marker(behind) or c not in ("", "\n") and at < column and (at < indent or c == "#")
+    return not behind or is_marker(behind) or c not in ("", "\n", "\t") and at < column and (at < indent or c == "#")
+
+
+def has_tab_ahead(text):
+    """Whether a tab stands before the first token of a text, outside comments (BlockNodes.antt)."""
+    return "\t" in re.sub("#[^\n]*", "", re.match("([ \t\n]|#[^\n]*)*", text)[0])
 
 
 class Derivation:
@@ -92,8 +97,10 @@ class Derivation:
     def eol(self, behind, blanks=TABS):
         return self.line_end(blanks)[:-1 if not behind and self.pick("last line", ended=1, cut=1) == "cut" else None]
 
-    def filler(self, last=0):
-        lines = [self.characters(" ") + (self.comment() if self.rarely(2) else "") for _ in range(self.few() + last)]
+    def filler(self, last=0, blanks=TABS):
+        fronts = [self.characters(blanks) for _ in range(self.few() + last)]
+        self.hits += ["filler: a tab"] * any("\t" in front for front in fronts)
+        lines = [front + (self.comment() if self.rarely(2) else "") for front in fronts]
         return "\n".join(lines + [""] * (bool(lines) and not last))
 
     def blanks(self, place):
@@ -103,13 +110,14 @@ class Derivation:
     def gap(self, place):
         kind = self.pick(f"gap behind a {place[0]}", spaces=3, next_line=1, nothing=6 * (place[0] == "start"))
         if kind == "next_line":
-            return self.line_end(self.blanks(place)) + self.filler() + self.characters(" ", place[1] + 1)
+            blanks = self.blanks(place)
+            return self.line_end(blanks) + self.filler(blanks=blanks) + self.characters(" ", place[1] + 1)
         return self.characters(" ", 1) if kind == "spaces" else ""
 
     def separation(self, indent, least=0, blanks="   \t"):
         if indent is None or self.pick("separation", blanks=4, lines=1) == "blanks":
             return self.characters(blanks, least)
-        lines = [self.line_end(blanks) + self.filler() + " " * indent for _ in range(1 + self.few())]
+        lines = [self.line_end(blanks) + self.filler(blanks=blanks) + " " * indent for _ in range(1 + self.few())]
         return "".join(lines) + self.characters(blanks)
 
     # ## TagSpelling.antt and DirectiveSpelling.antt
@@ -275,7 +283,8 @@ class Derivation:
         grows, indent = 3 * (self.fuel > 0), place[1] + 1
         starts = [(max(indent, 1) - 1 + digit, digit) for digit in range(1, 10)] + [(indent + it, 0) for it in range(9)]
         starts = [it for it in starts if may_follow(indent, it[0], behind)]
-        kind = self.pick("block node", flow=6, left_out=int(place[0] != "start"), scalar=3 * bool(starts),
+        may_lack = place[0] != "start" and (place[0] != "question" or not has_tab_ahead(behind))
+        kind = self.pick("block node", flow=6, left_out=int(may_lack), scalar=3 * bool(starts),
                          sequence=grows, mapping=grows)
         self.fuel -= 1
         if kind == "left_out":
@@ -316,7 +325,8 @@ class Derivation:
             return spaces + text, self.collection(kind, NO_PROPERTIES, parts)
         self.hits += ["block sequence: at its mapping's column"] * (at == column)
         front, properties = self.before("a block collection", "")
-        front = (front and spaces + front) + self.line_end(TABS if front else self.blanks(place)) + self.filler()
+        blanks = TABS if front else self.blanks(place)
+        front = (front and spaces + front) + self.line_end(blanks) + self.filler(blanks=blanks)
         return front + " " * at + text, self.collection(kind, properties, parts)
 
     def entries(self, column, behind, kind):

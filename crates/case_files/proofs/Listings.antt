@@ -11,7 +11,7 @@ use Rattle.case_files.specs.Lines.{Comes, IsNext, event_line, line_of_fault, lin
 use Rattle.case_files.specs.Listings.{AreLinesOf, EndsInWant, IsBefore, ListAll, lines_of, lines_of_events}
 
 -- one line more in front, of an event
-lists_before : (e : Happening × Span) (new : Answer) (lines : List (List ℕ)) → AreLinesOf lines new
+pub lists_before : (e : Happening × Span) (new : Answer) (lines : List (List ℕ)) → AreLinesOf lines new
     → AreLinesOf (event_line e.0 e.1 ∷ lines) (before e new)
 lists_before e new lines (inl same) = inl (ap (λ l. event_line e.0 e.1 ∷ l) same)
 lists_before e new lines (inr w) = inr (record {

@@ -3,7 +3,7 @@ use Rattle.std.proofs.Common.{◌≡◌, ℕ, zero, suc, ◌<◌, ◌≤◌, Lis
 use Rattle.std.specs.Prelude.{option_map, unwrap_or, is_some, not, ◌&&◌}
 use Rattle.std.specs.Str.Pattern.{RFindsText, LacksTextAt, SplitsAroundMatch}
 use Rattle.std.proofs.lemmas.Bool.{and_right}
-use Rattle.case_files.specs.Files.{behind, place_mark, has_place, before_place}
+use Rattle.case_files.specs.Files.{behind, place_mark, has_place, text_before_place}
 use Rattle.case_files.proofs.Fronts.{behind_front, behind_other}
 
 begins : (line rest : List ℕ) → line ≡ place_mark ++ rest → is_some (behind place_mark line) ≡ true
@@ -27,7 +27,8 @@ has_none (c ∷ line) lacks =
     rw (behind_other place_mark (c ∷ line) (lacks 0 (omega arith)))
     (has_none line (λ i fits. lacks (suc i) (omega arith)))
 
-all_before : (line : List ℕ) → ((i : ℕ) → i ≤ length line → LacksTextAt place_mark line i) → before_place line ≡ line
+all_before : (line : List ℕ) → ((i : ℕ) → i ≤ length line → LacksTextAt place_mark line i)
+    → text_before_place line ≡ line
 all_before [] lacks = refl
 all_before (c ∷ line) lacks =
     rw (behind_other place_mark (c ∷ line) (lacks 0 (omega arith)))
@@ -35,7 +36,7 @@ all_before (c ∷ line) lacks =
 
 cut_at : (line : List ℕ) (i : ℕ) (rest : List ℕ)
     → ((k : ℕ) → i < k → k ≤ length line → LacksTextAt place_mark line k)
-    → drop i line ≡ place_mark ++ rest → before_place line ≡ take i line
+    → drop i line ≡ place_mark ++ rest → text_before_place line ≡ take i line
 cut_at [] zero rest lacks is = refl
 cut_at [] (suc i) rest lacks is = refl
 cut_at (c ∷ line) zero rest lacks is =
@@ -50,7 +51,7 @@ cut_at (c ∷ line) (suc i) rest lacks is =
 pub splits_place : (line : List ℕ) (r : Option (Bor (List ℕ) × Bor (List ℕ)))
     → MatchOption r (RFindsText place_mark line None)
     (λ x. SplitsAroundMatch (RFindsText place_mark) line x.0.now x.1.now)
-    → before_place line ≡ unwrap_or (option_map (λ x. x.0.now) r) line
+    → text_before_place line ≡ unwrap_or (option_map (λ x. x.0.now) r) line
 splits_place line None lacks = all_before line lacks
 splits_place line (Some x) (i, j, found, front, _, _, _, _) =
     cut_at line i (drop j line) found.0 found.1.split ∙ sym front

@@ -7,7 +7,7 @@ use Rattle.case_files.specs.declared.escape.Escape.{Escape}
 use Rattle.case_files.specs.declared.escape.Escape.TheVariants as at
 use Rattle.std.specs.List.{flat_map}
 use Rattle.std.proofs.lemmas.Bool.{cases_eq, ne_eqb}
-use Rattle.case_files.specs.Escapes.{text_of, read_behind, Reads, escaped}
+use Rattle.case_files.specs.Escapes.{text_of, read_behind, EscapeStep, escaped}
 
 -- The characters `cs` gave a text and left an escape of which so much has been read.
 abbrev pub HasRead : List ℕ → List ℕ → Escape → Type 0
@@ -15,7 +15,7 @@ HasRead cs text escape =
     (rest : List ℕ) → encode_utf8_all (text_of (cs ++ rest)) ≡ text ++ encode_utf8_all (read_behind escape rest)
 
 pub reads_on : (cs text : List ℕ) (escape next : Escape) (c : ℕ) (given : Option ℕ) → HasRead cs text escape
-    → Reads escape c given next
+    → EscapeStep escape c given next
     → HasRead (cs ++ c ∷ []) (text ++ encode_utf8_all (option_to_list given)) next
 reads_on cs text escape next c given before step rest =
     ap (λ l. encode_utf8_all (text_of l)) (append_assoc cs (c ∷ []) rest) ∙ before (c ∷ rest)

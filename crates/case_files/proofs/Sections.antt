@@ -6,7 +6,7 @@ use Rattle.std.specs.Prelude.{unwrap_or, option_map, not, filter}
 use Rattle.std.proofs.lemmas.List.{map-append, append-nil}
 use Rattle.std.proofs.lemmas.List.Elements.{filter-append}
 use Rattle.case_files.specs.Escapes.{unescaped}
-use Rattle.case_files.specs.Files.{TakesLine, title_of, Section, up_to_title, with_section, sections, Listed, listed, case_of, text_line, last_text, other_lines}
+use Rattle.case_files.specs.Files.{TakesLine, title_of, Section, up_to_title, with_section, sections, CaseFields, fields_of, case_of, text_line, last_text, other_lines}
 
 -- the last section takes a line
 abbrev pub with_line : List Section → List ℕ → List Section
@@ -105,35 +105,36 @@ other_lines_more lines line =
     ]
 
 -- A line `< TEXT` gives a case its text.
-pub takes_text : (old : Listed) (title : List ℕ) (body : List (List ℕ)) (line text : List ℕ)
+pub takes_text : (old : CaseFields) (title : List ℕ) (body : List (List ℕ)) (line text : List ℕ)
     → old ≡ case_of (title, body) → text_line line ≡ Some text
     → record old { text = unescaped text } ≡ case_of (title, body ++ line ∷ [])
 takes_text old title body line text same found =
     let texts : unescaped text ≡ last_text [] (body ++ line ∷ []) =
     sym (last_text_more [] body line ∙ ap (λ o. unwrap_or (option_map unescaped o) (last_text [] body)) found) in
     let lines : old.lines ≡ other_lines (body ++ line ∷ []) =
-    ap (λ (c : Listed). c.lines) same ∙ sym (append-nil (other_lines body))
+    ap (λ (c : CaseFields). c.lines) same ∙ sym (append-nil (other_lines body))
     ∙ sym (other_lines_more body line ∙ ap (λ o. other_lines body ++ one_line (is_some o) line) found) in
     λ i. record { name = (same i).name; keeps_tags = (same i).keeps_tags; text = texts i; lines = lines i }
 
 -- Each other line is one more of its lines.
-pub takes_line : (old : Listed) (title : List ℕ) (body : List (List ℕ)) (line : List ℕ) → old ≡ case_of (title, body)
+pub takes_line : (old : CaseFields) (title : List ℕ) (body : List (List ℕ)) (line : List ℕ)
+    → old ≡ case_of (title, body)
     → text_line line ≡ None
     → record old { lines = old.lines ++ unescaped line ∷ [] } ≡ case_of (title, body ++ line ∷ [])
 takes_line old title body line same found =
     let texts : old.text ≡ last_text [] (body ++ line ∷ []) =
-    ap (λ (c : Listed). c.text) same
+    ap (λ (c : CaseFields). c.text) same
     ∙ sym (last_text_more [] body line ∙ ap (λ o. unwrap_or (option_map unescaped o) (last_text [] body)) found) in
     let lines : old.lines ++ unescaped line ∷ [] ≡ other_lines (body ++ line ∷ []) =
-    ap (λ (c : Listed). c.lines ++ unescaped line ∷ []) same
+    ap (λ (c : CaseFields). c.lines ++ unescaped line ∷ []) same
     ∙ sym (other_lines_more body line ∙ ap (λ o. other_lines body ++ one_line (is_some o) line) found) in
     λ i. record { name = (same i).name; keeps_tags = (same i).keeps_tags; text = texts i; lines = lines i }
 
 -- What the last case in memory takes, the last section takes.
 pub last_takes : (cases : List Case) (found : List Section) (i : ℕ) (line : List ℕ) (last new : Case)
-    → map listed cases ≡ map case_of found → length cases ≡ suc i → last ≡ slice_index_or cases i last
-    → TakesLine line (listed last) (listed new)
-    → map listed (slice_set cases i new) ≡ map case_of (with_line found line)
+    → map fields_of cases ≡ map case_of found → length cases ≡ suc i → last ≡ slice_index_or cases i last
+    → TakesLine line (fields_of last) (fields_of new)
+    → map fields_of (slice_set cases i new) ≡ map case_of (with_line found line)
 last_takes [] found i line last new same is_last at takes = absurd (cc)
 last_takes (c ∷ cases) [] i line last new same is_last at takes = absurd (cc)
 last_takes (c ∷ []) (s ∷ t ∷ more) i line last new same is_last at takes =
@@ -142,11 +143,11 @@ last_takes (c ∷ d ∷ cases) (s ∷ []) i line last new same is_last at takes 
     let lengths = ap length same in absurd (omega arith)
 last_takes (c ∷ []) (s ∷ []) (suc i) line last new same is_last at takes = absurd (omega arith)
 last_takes (c ∷ []) (s ∷ []) zero line last new same is_last at takes =
-    let new_is = takes s.0 s.1 (ap listed at ∙ ap (λ l. slice_index_or l 0 (listed c)) same) in
+    let new_is = takes s.0 s.1 (ap fields_of at ∙ ap (λ l. slice_index_or l 0 (fields_of c)) same) in
     ap (λ x. x ∷ []) new_is
 last_takes (c ∷ d ∷ cases) (s ∷ t ∷ more) zero line last new same is_last at takes = absurd (omega arith)
 last_takes (c ∷ d ∷ cases) (s ∷ t ∷ more) (suc i) line last new same is_last at takes =
-    let first = ap (λ l. slice_index_or l 0 (listed c)) same in
+    let first = ap (λ l. slice_index_or l 0 (fields_of c)) same in
     let rest = last_takes (d ∷ cases) (t ∷ more) i line last new (ap (λ l. drop 1 l) same) (omega arith) at takes in
     λ j. first j ∷ rest j
 

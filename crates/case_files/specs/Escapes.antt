@@ -39,8 +39,8 @@ read_behind escape.Begun cs = behind_backslash cs
 read_behind (escape.Number n) cs = behind_digits n cs
 
 -- A character is read: another one may then stand there, and so much of an escape has been read.
-abbrev pub Reads : Escape → ℕ → Option ℕ → Escape → Type 0
-Reads escape c given next =
+abbrev pub EscapeStep : Escape → ℕ → Option ℕ → Escape → Type 0
+EscapeStep escape c given next =
     (cs : List ℕ) → read_behind escape (c ∷ cs) ≡ option_to_list given ++ read_behind next cs
 
 -- what a line stands for, in UTF-8

@@ -52,13 +52,13 @@ abbrev pub other_lines : List (List ℕ) → List (List ℕ)
 other_lines lines = map unescaped (filter (λ line. not (is_some (text_line line))) lines)
 
 -- A case: its name, whether its title has ` keep_tags` at the end, its text and its other lines.
-pub record Listed : Type 0 where
+pub record CaseFields : Type 0 where
   pub name : List ℕ
   pub keeps_tags : Bool
   pub text : List ℕ
   pub lines : List (List ℕ)
 
-abbrev pub case_of : Section → Listed
+abbrev pub case_of : Section → CaseFields
 case_of s = record {
   name = unwrap_or (before (codes " keep_tags") s.0) s.0;
   keeps_tags = is_some (before (codes " keep_tags") s.0);
@@ -67,16 +67,16 @@ case_of s = record {
 }
 
 -- A line comes behind the lines of a case.
-abbrev pub TakesLine : List ℕ → Listed → Listed → Type 0
+abbrev pub TakesLine : List ℕ → CaseFields → CaseFields → Type 0
 TakesLine line old new =
     (title : List ℕ) (body : List (List ℕ)) → old ≡ case_of (title, body) → new ≡ case_of (title, body ++ line ∷ [])
 
-abbrev pub cases_of : List (List ℕ) → List Listed
+abbrev pub cases_of : List (List ℕ) → List CaseFields
 cases_of lines = map case_of (sections lines)
 
 -- what is seen of a case in memory
-abbrev pub listed : Case → Listed
-listed c = record {
+abbrev pub fields_of : Case → CaseFields
+fields_of c = record {
   name = string_bytes c.name;
   keeps_tags = c.keeps_tags;
   text = string_bytes c.text;
@@ -91,14 +91,14 @@ abbrev pub has_place : List ℕ → Bool
 has_place [] = false
 has_place (c ∷ line) = if is_some (behind place_mark (c ∷ line)) then true else has_place line
 
-abbrev pub before_place : List ℕ → List ℕ
-before_place [] = []
-before_place (c ∷ line) =
-    if is_some (behind place_mark (c ∷ line)) && not (has_place line) then [] else c ∷ before_place line
+abbrev pub text_before_place : List ℕ → List ℕ
+text_before_place [] = []
+text_before_place (c ∷ line) =
+    if is_some (behind place_mark (c ∷ line)) && not (has_place line) then [] else c ∷ text_before_place line
 
 -- an event without its place and without what begins a document
 abbrev pub shown : List ℕ → List ℕ
-shown event = if bytes_eq (before_place event) (codes "+DOC ---") then codes "+DOC" else before_place event
+shown event = if bytes_eq (text_before_place event) (codes "+DOC ---") then codes "+DOC" else text_before_place event
 
 -- the line that `dump` writes for an event
 abbrev pub dumped_event : Option (List ℕ) → List ℕ

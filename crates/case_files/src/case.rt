@@ -1,7 +1,7 @@
 //! The cases of a file.
 ghost use Rattle.std.specs.Prelude.{◌≡◌, [], IfOk, OnOk, map, option_map};
 ghost use Rattle.std.specs.Str.Lines.{lines};
-ghost use Rattle.case_files.specs.Files.{TakesLine, case_of, cases_of, listed};
+ghost use Rattle.case_files.specs.Files.{TakesLine, case_of, cases_of, fields_of};
 ghost use Rattle.case_files.specs.Listings.{fault_line_of, is_fault_line};
 
 use crate::escape::unescaped;
@@ -18,7 +18,7 @@ pub struct Case {
 
 /// The cases of a file.
 pub fn parse_cases(alloc: Global, text: &str) -> Result<Vec<Case>, AllocError>
-    ensures { IfOk result (λ cases. map listed cases.items ≡ cases_of (lines text.now)) }
+    ensures { IfOk result (λ cases. map fields_of cases.items ≡ cases_of (lines text.now)) }
 {
     let mut cases = Vec::new(alloc);
     for line in text.lines() {
@@ -49,7 +49,7 @@ impl Case {
 
     // The case that a line `= TITLE` begins.
     fn new(alloc: Global, title: &str) -> Result<Case, AllocError>
-        ensures { IfOk result (λ case. listed case ≡ case_of (title.now, [])) }
+        ensures { IfOk result (λ case. fields_of case ≡ case_of (title.now, [])) }
     {
         let name = title.strip_suffix(" keep_tags");
         Ok(Case {
@@ -62,7 +62,7 @@ impl Case {
 
     // Takes the next line of the case.
     fn take_line(&mut self, alloc: Global, line: &str) -> Result<(), AllocError>
-        ensures { OnOk result (TakesLine line.now (listed self.old) (listed self.new)) }
+        ensures { OnOk result (TakesLine line.now (fields_of self.old) (fields_of self.new)) }
     {
         match line.strip_prefix("< ") {
             Some(text) => self.text = unescaped(alloc, text)?,

@@ -1,7 +1,7 @@
 //! The escapes in a line of a case.
 ghost use Rattle.std.specs.Prelude.{◌≡◌, IfOk, string_bytes};
 ghost use Rattle.case_files.specs.Escapes as escapes;
-ghost use Rattle.case_files.specs.Escapes.{Reads, ReadsBack};
+ghost use Rattle.case_files.specs.Escapes.{EscapeStep, ReadsBack};
 
 use std::alloc::{AllocError, Global};
 
@@ -33,7 +33,7 @@ pub enum Escape {
 impl Escape {
     // The character that stands there once the next one is read, and how much has then been read.
     fn read(self, c: char) -> (Option<char>, Escape)
-        ensures { Reads self c result.0 result.1 }
+        ensures { EscapeStep self c result.0 result.1 }
     {
         match self {
             Escape::None if c == '\\' => (None, Escape::Begun),

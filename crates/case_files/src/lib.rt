@@ -13,8 +13,6 @@ mod escape;
 mod expected;
 mod printing;
 mod receiving;
-#[cfg(test)]
-mod tests;
 mod writing;
 
 pub use case::{Case, is_fault, parse_cases};

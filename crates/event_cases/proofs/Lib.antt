@@ -1,1 +1,2 @@
 mod Dumped
+mod Loading

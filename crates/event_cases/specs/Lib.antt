@@ -1,2 +1,3 @@
 pub mod Agreement
 pub mod Dumped
+pub mod Handed

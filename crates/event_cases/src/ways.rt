@@ -3,10 +3,11 @@
 ghost use Rattle.std.specs.Prelude.{OnOk};
 ghost use Rattle.saphyr_parser.specs.Cursor.{keeping_tags, to_come};
 ghost use Rattle.case_files.specs.Listings.{Agrees, ListAll};
+ghost use Rattle.event_cases.specs.Handed.{StandsBetween};
 
 use crate::inputs::{Comparison, compare_inputs};
 use case_files::{Case, ComparingReceiver, Difference, Expected};
-use saphyr_parser::{CloneInput, Input, Parser};
+use saphyr_parser::{CloneInput, Fault, Input, Parser};
 use std::alloc::Global;
 
 /// How many lines a case may have whose parser is cloned at each place.
@@ -58,18 +59,29 @@ pub fn is_left<T: Input + Drop>(
     expected.is_next(None)
 }
 
-// `load` hands over the events, a document at a time, and answers the fault.
-fn by_load<T: Input + Drop>(
+// `load` hands over the events, a document at a time, and answers the fault. It is not called where nothing
+// is left, nor behind a fault: it would hand over the end of the stream again, or answer that fault.
+fn by_load<T: CloneInput>(
     alloc: Global,
     mut parser: Parser<'_, T>,
     lines: &[String],
-) -> Result<(), Difference> {
+) -> Result<(), Difference>
+    ensures { StandsBetween parser.entry
+        → OnOk result (ListAll lines.now (to_come parser.entry)) }
+{
     let mut receiver = ComparingReceiver::new(alloc, lines);
-    for _ in lines {
+    while parser.try_clone()?.next_event().is_some() {
         let answer = parser.load(&mut receiver, false);
-        receiver.check_answer(answer)?;
-        if receiver.left().is_empty() {
-            return Ok(());
+        receiver.check()?;
+        if answer == Err(Fault::Receiver) {
+            return Err(Difference::new(alloc, "an event is refused"));
+        }
+        match answer {
+            Ok(()) => {}
+            Err(fault) => {
+                receiver.check_answer(Err(fault))?;
+                return receiver.check_end();
+            }
         }
     }
     receiver.check_end()

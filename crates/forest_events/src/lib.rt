@@ -4,8 +4,6 @@
 mod anchors;
 mod part;
 mod prefixes;
-#[cfg(test)]
-mod tests;
 mod text;
 pub mod tree;
 mod walk;

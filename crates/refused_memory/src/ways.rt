@@ -4,6 +4,7 @@ ghost use Rattle.saphyr_parser.specs.Answer as answer;
 ghost use Rattle.saphyr_parser.specs.Answer.{failed, none};
 ghost use Rattle.saphyr_parser.specs.Cursor.{Stays, count, to_come};
 ghost use Rattle.case_files.specs.Listings.{ListAll};
+ghost use Rattle.refused_memory.specs.Want.{IsInWant};
 ghost use Rattle.refused_memory.specs.declared.outcome.Outcome.TheVariants.{Whole};
 
 use crate::ended::{is_ended, is_ended_by_memory, is_fault};
@@ -87,12 +88,14 @@ pub fn by_peek<T: Input>(
 fn shows_want<T: Input>(parser: &mut Parser<'_, T>) -> bool
     ensures stays { Stays (to_come parser.old) (to_come parser.new) }
     ensures want { result ≡ true → to_come parser.new ≡ failed answer.OutOfMemory }
+    ensures shown { result ≡ true → IsInWant parser.old }
 {
     matches!(parser.peek(), Some(Err(Fault::OutOfMemory)))
 }
 
 /// Want of memory is shown until it is given, and then nothing is left.
 pub fn give_want<T: Input>(alloc: Global, parser: &mut Parser<'_, T>) -> Result<(), Difference>
+    ensures shown { OnOk result (IsInWant parser.old) }
     ensures lost { OnOk result (0 < count (to_come parser.old)) }
     ensures ended { OnOk result (to_come parser.new ≡ none) }
 {

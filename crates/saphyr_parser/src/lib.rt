@@ -5,8 +5,6 @@ pub mod law;
 mod parser;
 mod printing;
 pub mod taken_law;
-#[cfg(test)]
-mod tests;
 
 pub use parser::{Event, EventReceiver, Fault, Parser, Refused, SpannedEventReceiver, Tag};
 pub use printing::{DumpFault, dump, run_dump};

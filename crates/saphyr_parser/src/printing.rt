@@ -6,8 +6,6 @@ ghost use Rattle.saphyr_parser.specs.Dumps.{Dumps, Leaves};
 mod fault;
 mod line;
 mod run;
-#[cfg(test)]
-mod tests;
 mod writing;
 
 use crate::parser::{Event, Fault, Parser, Progress, no_event};

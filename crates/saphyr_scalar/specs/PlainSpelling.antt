@@ -1,7 +1,7 @@
 -- How plain scalars are spelled (YAML 1.2.2, 7.3.3), and what may stand behind them.
 use Rattle.std.specs.Prelude.{◌≡◌, ◌≢◌, ℕ, ◌+◌, ◌<◌, ◌≤◌, Bool, true, false, ◌||◌, ◌&&◌, ◌==◌, not, nat_lt, List, [], ◌∷◌, ◌++◌, length, drop, slice_index, IsTrue, IsFalse, ◌⊎◌, if◌then◌else◌}
 use Rattle.std.specs.List.{prefix_len}
-use Rattle.saphyr_input.specs.Classes.{is_blank, is_break, is_blank_or_breakz, is_flow, is_bom, tab}
+use Rattle.saphyr_input.specs.Classes.{is_blank, is_break, is_blank_or_breakz, is_flow, is_bom, is_z, tab}
 use Rattle.saphyr_input.specs.Places.{is_blank_or_break, is_document_indicator}
 use Rattle.saphyr_scalar.specs.declared.scalar.position.Marker.{Marker}
 use Rattle.saphyr_scalar.specs.Cursor.{Cursor, along, next_line}
@@ -39,12 +39,22 @@ past_white m blank_so_far (c ∷ cs) =
     (blank_so_far || is_break c) cs
     else record { rest = c ∷ cs; mark = m; blank_so_far = blank_so_far }
 
--- Among the blanks and breaks at the front, from the column on, no tab stands left of the indentation.
-abbrev pub tabs_fit : ℕ → ℕ → List ℕ → Bool
-tabs_fit indent col [] = true
-tabs_fit indent col (c ∷ cs) =
-    if is_blank_or_break c then not ((c == tab) && nat_lt col indent) && tabs_fit indent
-    (if ends_line c cs then 0 else col + 1) cs else true
+-- Whether a tab stands left of the indentation on the line that is reached behind the blanks and breaks at the front,
+-- from the column on. `tabbed` tells that one stands before them on their line.
+abbrev pub reaches_tabbed : ℕ → ℕ → Bool → List ℕ → Bool
+reaches_tabbed indent col tabbed [] = tabbed
+reaches_tabbed indent col tabbed (c ∷ cs) =
+    if is_blank_or_break c then reaches_tabbed indent (if ends_line c cs then 0 else col + 1)
+    (is_blank c && (tabbed || ((c == tab) && nat_lt col indent))) cs
+    else tabbed
+
+-- the same behind a word, of the lines behind its own
+abbrev pub is_tabbed : ℕ → List ℕ → Bool
+is_tabbed indent xs = reaches_tabbed indent 0 false (behind_blanks xs)
+
+-- Behind a tab in the indentation a comment may stand, or the text's end.
+abbrev pub stands_behind_tab : List ℕ → Bool
+stands_behind_tab xs = (slice_index xs 0 == 35) || is_z (slice_index xs 0)
 
 -- no word goes on, a comment or a document marker stands, or outside flow content left of the scalar's indentation
 abbrev pub StopsPlain : Bool → ℕ → Cursor → Type 0
@@ -55,12 +65,11 @@ StopsPlain in_flow indent s =
     ⊎ ((in_flow ≡ false) × IsTrue s.blank_so_far × (s.mark.col < indent))))
 
 -- What may stand behind the last word of a scalar, which ends at `end`: blanks and breaks, and then what ends the
--- scalar.
--- No tab stands in the indentation of the lines behind its own.
+-- scalar. Where a tab stands in the indentation of the line of that, it is a comment or the text's end.
 pub record EndsPlain (in_flow : Bool) (indent : ℕ) (end : Marker) (xs : List ℕ) : Type 0 where
   pub stops : StopsPlain in_flow indent (past_white end false xs)
   pub apart : slice_index xs 0 ≢ 35
-  pub tabs : (indent ≡ 0) ⊎ IsTrue (tabs_fit indent 0 (behind_blanks xs))
+  pub tabs : IsFalse (is_tabbed indent xs) ⊎ IsTrue (stands_behind_tab (past_white end false xs).rest)
 
 -- Plain scalars of several words and lines.
 
@@ -101,11 +110,11 @@ has_line_end [] = false
 has_line_end (c ∷ cs) = is_break c || has_line_end cs
 
 -- Blanks and breaks between two words, from m on. Where a line ends in them outside flow, the next word stands right of
--- the scalar's indentation, and no tab stands in the indentation of the lines behind the first.
+-- the scalar's indentation, and no tab stands in the indentation of its line.
 pub record IsPlainGap (in_flow : Bool) (indent : ℕ) (m : Marker) (gap : List ℕ) : Type 0 where
   pub some : gap ≢ []
   pub white : AreWhite gap
-  pub tabs : (indent ≡ 0) ⊎ IsTrue (tabs_fit indent 0 (behind_blanks gap))
+  pub tabs : IsFalse (is_tabbed indent gap)
   pub indented : (in_flow ≡ true) ⊎ ((has_line_end gap ≡ false) ⊎ (indent ≤ (passed m gap).col))
 
 -- gaps and the words behind them

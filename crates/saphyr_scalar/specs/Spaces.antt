@@ -49,9 +49,9 @@ IsLineEnd t = (rest : List ℕ) × IsLineRest rest × (t ≡ rest ++ codes "\n")
 abbrev pub IsEol : List ℕ → List ℕ → Type 0
 IsEol t behind = IsLineEnd t ⊎ (IsLineRest t × (behind ≡ []))
 
--- 6.6, 6.4: a line of spaces, or of spaces and a comment, without its break
+-- 6.6, 6.4: a line of blanks, or of blanks and a comment, without its break
 abbrev pub IsFillerText : List ℕ → Type 0
-IsFillerText t = (front comment : List ℕ) × AreSpaces 0 front × ((comment ≡ []) ⊎ IsComment comment)
+IsFillerText t = (front comment : List ℕ) × AreIn is_blank front × ((comment ≡ []) ⊎ IsComment comment)
     × (t ≡ front ++ comment)
 
 abbrev pub IsFillerLine : List ℕ → Type 0

@@ -4,8 +4,6 @@
 
 pub mod reading;
 pub mod scalar;
-#[cfg(test)]
-mod tests;
 
 pub use scalar::{
     BlockScalar, Directive, DirectiveLine, FaultText, Marker, PlainScalar, Reader, Refusal,

@@ -15,6 +15,3 @@ pub use flow::{
     Quote, double_quoted_value, plain_value, quoted_items_are_spelled, single_quoted_value,
 };
 pub use folding::{Item, breaks_are_folded, folded};
-
-#[cfg(test)]
-mod tests;

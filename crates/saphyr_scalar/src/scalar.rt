@@ -4,19 +4,13 @@ mod block;
 mod break_law;
 mod directive;
 mod directive_law;
-#[cfg(test)]
-mod directive_tests;
 mod escape;
 mod fault;
 mod law;
 mod plain;
 mod position;
 mod property_law;
-#[cfg(test)]
-mod property_tests;
 mod quoted;
-#[cfg(test)]
-mod quoted_tests;
 mod reader;
 mod refusal_law;
 mod style;

@@ -1,6 +1,8 @@
 -- How texts begin, and sets that all characters of a text are in.
-use Rattle.std.proofs.Common.{◌≡◌, ◌≢◌, ℕ, zero, suc, ◌⊎◌, Bool, true, false, List, [], ◌∷◌, ◌++◌, inl, inr, refl, sym, ◌∙◌, codes, ap, subst, slice_index}
-use Rattle.saphyr_scalar.specs.BlockRead.{spaces}
+use Rattle.std.proofs.Common.{◌≡◌, ◌≢◌, ℕ, ◌⊎◌, Bool, true, false, List, [], ◌∷◌, ◌++◌, inl, inr, refl, sym, ◌∙◌, codes, ap, subst, slice_index, IsTrue, append_assoc}
+use Rattle.std.specs.Prelude.{◌==◌, not}
+use Rattle.saphyr_input.specs.Classes.{is_blank}
+use Rattle.saphyr_input.proofs.Basics.Booleans.{clash}
 use Rattle.saphyr_scalar.specs.TagSpelling.{AreIn}
 use Rattle.saphyr_scalar.specs.Spaces.{joined, AreEach, IsFillerText, IsFillerLine, IsFiller}
 
@@ -45,20 +47,21 @@ before_in set t a b e h = front_in set a b (subst (λ (u : List ℕ). AreIn set 
 pub lacks : (set : ℕ → Bool) (c : ℕ) (t a b : List ℕ) → set c ≡ false → t ≡ a ++ (c ∷ b) → AreIn set t → ⊥
 lacks set c t a b n e h = let f : set c ≡ true = (behind_in set t a (c ∷ b) e h).0 in cc
 
--- ## Filler: a line of it begins with a space, a `#` or a line feed
+-- ## Filler: a line of it begins with a blank, a `#` or a line feed
 
 abbrev pub IsFirst : ℕ → Type 0
-IsFirst c = (c ≡ 32) ⊎ ((c ≡ 35) ⊎ (c ≡ 10))
+IsFirst c = IsTrue (is_blank c) ⊎ ((c ≡ 35) ⊎ (c ≡ 10))
 
-pub no_first : (d c : ℕ) (rest cs : List ℕ) → d ≢ 32 → d ≢ 35 → d ≢ 10 → IsFirst c → d ∷ rest ≡ c ∷ cs → ⊥
-no_first d c rest cs x y z (inl e) f = x (sym (heads d c rest cs f) ∙ e)
+pub no_first : (d c : ℕ) (rest cs : List ℕ) → is_blank d ≡ false → d ≢ 35 → d ≢ 10 → IsFirst c → d ∷ rest ≡ c ∷ cs
+    → ⊥
+no_first d c rest cs x y z (inl e) f = absurd (clash (is_blank d) (ap is_blank (sym (heads d c rest cs f)) ∙ e) x)
 no_first d c rest cs x y z (inr (inl e)) f = y (sym (heads d c rest cs f) ∙ e)
 no_first d c rest cs x y z (inr (inr e)) f = z (sym (heads d c rest cs f) ∙ e)
 
 pub filler_text : (t : List ℕ) → IsFillerText t → (t ≡ []) ⊎ Begins IsFirst t
-filler_text t (front, words, (zero, l, f), inl g, e) = inl (rw (e, f, g) refl)
-filler_text t (front, words, (zero, l, f), inr (w, h, g), e) = inr (35, w, inr (inl refl), rw (e, f, g) refl)
-filler_text t (front, words, (suc n, l, f), h, e) = inr (32, spaces n ++ words, inl refl, rw (e, f) refl)
+filler_text t ([], words, are, inl g, e) = inl (rw (e, g) refl)
+filler_text t ([], words, are, inr (w, h, g), e) = inr (35, w, inr (inl refl), rw (e, g) refl)
+filler_text t (b ∷ bs, words, are, h, e) = inr (b, bs ++ words, inl are.0, rw e refl)
 
 filler_line : (t : List ℕ) → IsFillerLine t → Begins IsFirst t
 filler_line t (text, h, e) = with_break text t e (filler_text text h)
@@ -85,3 +88,10 @@ behind_filler t a b h d = split t a b d (filler a h)
     split : (t a b : List ℕ) → t ≡ a ++ b → (a ≡ []) ⊎ Begins IsFirst a → (t ≡ b) ⊎ Begins IsFirst t
     split t a b d (inl e) = inl (rw (d, e) refl)
     split t a b d (inr h) = inr (front_of IsFirst a b t h d)
+
+-- filler without a line feed is nothing
+pub no_feed_no_filler : (t : List ℕ) → AreIn (λ c. not (c == 10)) t → IsFiller t → t ≡ []
+no_feed_no_filler t h ([], each, e) = e
+no_feed_no_filler t h (piece ∷ pieces, (line, each), e) =
+    absurd (lacks (λ c. not (c == 10)) 10 t line.0 (joined pieces) refl
+    (e ∙ ap (λ (x : List ℕ). x ++ joined pieces) line.2 ∙ append_assoc line.0 (10 ∷ []) (joined pieces)) h)

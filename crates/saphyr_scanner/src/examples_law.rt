@@ -6,7 +6,7 @@ ghost use Rattle.saphyr_scalar.specs.BlockSpelling.{IsBlockScalar};
 ghost use Rattle.saphyr_scalar.specs.Spaces.{IsEol};
 ghost use Rattle.saphyr_scanner.specs.Examples.Forests.{plain, double_quoted};
 ghost use Rattle.saphyr_scanner.specs.Grammar.Forest.{Plain, SingleQuoted, DoubleQuoted, Literal, Folded, Primary, Secondary, Named, Verbatim, Shorthand, NonSpecific, no_properties, Alias, Scalar, Seq, Map, NoNode, MoreNodes, NoPair, MorePairs, left_out, Version, TagPrefix, Reserved, bare, Document, Forest, Node, Nodes, Properties, AreCompatible};
-ghost use Rattle.saphyr_scanner.specs.Grammar.BlockNodes.{AreOtherEntries, BehindKey, IsBlockNode, IsImplicitPair, IsKeyAlone, IsLead};
+ghost use Rattle.saphyr_scanner.specs.Grammar.BlockNodes.{AreOtherEntries, BehindKey, IsBehindScalar, IsBlockNode, IsImplicitPair, IsKeyAlone, IsLead};
 ghost use Rattle.saphyr_scanner.specs.Grammar.FlowNodes.{AreItems, IsBeforeColon, IsFlowNode};
 ghost use Rattle.saphyr_scanner.specs.Grammar.FlowScalars.{IsFirstWord, IsPlain, IsPlainKey};
 ghost use Rattle.saphyr_scanner.specs.Grammar.Layout.{IsBareDocument, IsLayoutText, most_open};
@@ -86,6 +86,20 @@ pub fn derives_block()
         (bare (Map no_properties (MorePairs (plain (codes "k"))
         (Seq no_properties (MoreNodes (plain (codes "a")) (MoreNodes left_out NoNode))) NoPair)) ∷ [])
         (codes "k:\t# c\n  - a\n  -\t") }
+    ensures tabs_in_filler { IsLayoutText most_open (bare
+        (Map no_properties (MorePairs (plain (codes "a")) (plain (codes "b")) NoPair)) ∷ [])
+        (codes "a: b\n\t# c\n") }
+    ensures tabs_between { IsLayoutText most_open (bare
+        (Seq no_properties (MoreNodes (plain (codes "a")) (MoreNodes (plain (codes "b")) NoNode)))
+        ∷ []) (codes "- a\n \t\n- b") }
+    ensures tabs_before { IsLayoutText most_open
+        (bare (Map no_properties (MorePairs (plain (codes "k"))
+        (Seq no_properties (MoreNodes (plain (codes "a")) NoNode)) NoPair)) ∷ [])
+        (codes "k:\n\t\n  - a") }
+    ensures tabs_in_flow { IsLayoutText most_open (bare
+        (Seq no_properties (MoreNodes (Seq no_properties
+        (MoreNodes (plain (codes "a")) (MoreNodes (plain (codes "b")) NoNode))) NoNode)) ∷ [])
+        (codes "- [a,\n\t# c\n  b]") }
     ensures colons_in_keys { IsLayoutText most_open
         (bare (Map no_properties (MorePairs (plain (codes "a:")) (plain (codes "b"))
         (MorePairs (plain (codes "c :")) (plain (codes "d")) NoPair))) ∷ []) (codes "a:: b\nc :: d") }
@@ -165,6 +179,9 @@ pub fn derives_streams()
           (MoreNodes (Alias (codes "x")) NoNode));
     }) ∷ [])
         (codes "%TAG ! !t\n%TAG !! u\n--- &x\n- *x") }
+    ensures tabs { IsLayoutText most_open ((record
+        { explicit = true; directives = []; node = (plain (codes "a")) }) ∷ [])
+        (codes "--- a\n\t\n...\n\t# c") }
     ensures mark_behind_filler { IsLayoutText most_open (bare
         (Scalar (record { anchor = None; tag = Some (NonSpecific) }) Plain ([])) ∷ [])
         (codes "!\n...\n# c\n\u{feff}\n") }
@@ -225,14 +242,18 @@ pub fn refuses_scalars()
         → ¬ IsFlowNode room node in_flow indent (codes "&a *b") }
 {}
 
-/// In block style no tab stands before a further entry, nor behind a `?` before what comes next, no entry of
-/// a sequence stands left of the others, no key goes on over lines, and no sequence begins on the line of its
-/// key.
+/// In block style no tab stands before a further entry, nor behind a `?` before what comes next, also where its
+/// key is left out, nor on the line behind a block scalar's. No entry of a sequence stands left of the others,
+/// no key goes on over lines, and no sequence begins on the line of its key.
 pub fn refuses_in_block()
     ensures tab_in_indentation { (room : ℕ) (nodes : Nodes) (m : ℕ) (behind : List ℕ)
         → ¬ AreOtherEntries room nodes m (codes "\t- b") behind }
     ensures tab_behind_question { (room : ℕ) (key value : Node) (m : ℕ) (behind : List ℕ)
         → ¬ IsKeyAlone value (IsBlockNode room key) m (codes "?\t\n") behind }
+    ensures tab_behind_left_out { (room : ℕ) (key value : Node) (m : ℕ) (others : List ℕ)
+        → ¬ IsKeyAlone value (IsBlockNode room key) m (codes "?\n") (codes "\t\n" ++ others) }
+    ensures tab_behind_block_scalar { (indent i : ℕ) (others : List ℕ)
+        → ¬ IsBehindScalar indent i (codes "\t\n" ++ others) }
     ensures entry_left { (room : ℕ) (nodes : Nodes) (m : ℕ) (behind : List ℕ)
         → ¬ AreOtherEntries room nodes (suc m) (codes "- b") behind }
     ensures key_over_lines { (room : ℕ) (key value : Node) (m : ℕ) (behind : List ℕ)

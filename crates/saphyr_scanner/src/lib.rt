@@ -9,8 +9,6 @@ pub mod law;
 mod queue;
 mod scanner;
 pub mod taken_law;
-#[cfg(test)]
-mod tests;
 mod token;
 
 pub use scanner::Scanner;

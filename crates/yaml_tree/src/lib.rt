@@ -10,8 +10,6 @@ mod loading;
 mod node;
 mod open;
 mod tally;
-#[cfg(test)]
-mod tests;
 
 pub use document::Document;
 pub use fault::TreeFault;

@@ -71,8 +71,9 @@ impl<I: Iterator<Item = char>> BufferedInput<I> {
         BufferedInput::with_limit(alloc, iter, MOST_ITEMS)
     }
 
-    // The same with another bound on the number of items.
-    fn with_limit(alloc: Global, iter: I, limit: u64) -> Result<Self, AllocError>
+    /// The same with a limit of one's own, which is at most 4,294,967,296: so many items are taken from the
+    /// iterator at most, and the text ends behind them, as it does at a `None`.
+    pub fn with_limit(alloc: Global, iter: I, limit: u64) -> Result<Self, AllocError>
         requires bounded { limit ≤ 4294967296 }
         requires listed { Listed I.can_next I.next_gives iter }
         ensures rest { (xs : List ℕ) → Lists I.can_next I.next_gives iter xs
@@ -191,6 +192,3 @@ fn clone_ring(ring: &HeapCircularBuffer<char>) -> Result<HeapCircularBuffer<char
     }
     Ok(copy)
 }
-
-#[cfg(test)]
-mod tests;

@@ -3,8 +3,6 @@ ghost use Rattle.std.specs.Prelude.{◌≡◌, ◌≤◌, length, drop, take, st
 ghost use Rattle.std.specs.Str.{chars};
 ghost use Rattle.saphyr_input.specs.Places as spec;
 
-#[cfg(test)]
-mod tests;
 mod text;
 
 use self::text::{

@@ -58,7 +58,7 @@ no_filler : IsFiller []
 no_filler = ([], tt, refl)
 
 no_last_filler : IsLastFiller []
-no_last_filler = ([], [], no_filler, ([], [], (0, omega arith, refl), inl refl, refl), refl)
+no_last_filler = ([], [], no_filler, ([], [], tt, inl refl, refl), refl)
 
 line_end : (behind : List ℕ) → IsEol (codes "\n") behind
 line_end behind = inl ([], no_tail, refl)

@@ -88,8 +88,14 @@ impl<'input, T: Input> Parser<'input, T> {
         Parser::with_limit(alloc, src, MOST_CHARACTERS)
     }
 
-    // The same with another bound on the number of characters, for tests.
-    pub(crate) fn with_limit(alloc: Global, src: T, limit: usize) -> Self
+    /// The same with a limit of one's own, for texts from strangers: one with more than `limit` characters is
+    /// refused. The events up to there come first, and then the fault that it is too long, unless another
+    /// comes before. That fault names 4,294,967,295 characters, whatever the limit.
+    ///
+    /// The limit is looked at behind each token, which is read whole. Where a token may be too long for the
+    /// memory, bound the input too: `BufferedInput::with_limit`, with one item more than the limit here.
+    #[must_use]
+    pub fn with_limit(alloc: Global, src: T, limit: usize) -> Self
         ensures decided { result ≡ spec.at_start (scan limit (T.rest src)) }
         ensures json { ReadsJson limit (T.rest src) result }
         ensures layout { limit ≤ 4294967295 → ReadsLayout limit (T.rest src) result }

@@ -116,6 +116,3 @@ impl<'input, T: Input> Reader<'input, T> {
         self.load_part(recv, multi)
     }
 }
-
-#[cfg(test)]
-mod tests;

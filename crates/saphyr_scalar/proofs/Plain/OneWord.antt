@@ -10,9 +10,9 @@ use Rattle.saphyr_scalar.specs.declared.scalar.position.Marker.{Marker}
 use Rattle.saphyr_scalar.specs.Cursor.{Cursor, ◌>>=◌, along}
 use Rattle.saphyr_scalar.specs.Quoted.{at}
 use Rattle.saphyr_scalar.specs.Plain.{in_word, word_starts, goes_on, comment_of, with_text, ended, word, plain}
-use Rattle.saphyr_scalar.specs.PlainSpelling.{is_plain_safe, AreSafe, IsPlainWord, past_white, StopsPlain, EndsPlain}
+use Rattle.saphyr_scalar.specs.PlainSpelling.{is_plain_safe, AreSafe, IsPlainWord, past_white, is_tabbed, StopsPlain, EndsPlain}
 use Rattle.saphyr_scalar.proofs.Moving.{along_none, along_more}
-use Rattle.saphyr_scalar.proofs.Plain.White.{past_stop, past_rest, gap_past}
+use Rattle.saphyr_scalar.proofs.Plain.White.{past_stop, past_rest, gap_past, untabbed_root}
 use Rattle.saphyr_scalar.proofs.Plain.Pieces.{no_text, text_twice, word_on, word_over, behind_gap, goes_not, plain_starts}
 use Rattle.std.proofs.lemmas.Bool.{ne_eqb, false≢true}
 use Rattle.saphyr_input.proofs.Basics.Booleans.{and_false, by_test}
@@ -165,20 +165,20 @@ word_stops f i e x some h = test (is_blank_or_break (slice_index x 0)) refl
 
 -- the end of the last word, behind which blanks and breaks and what ends the scalar stand
 pub word_ends : (f : Bool) (i : ℕ) (a e : Marker) (x : List ℕ) → 0 < e.col → EndsPlain f i e x
-    → let behind = past_white e false x in word f i a e x ≡ Ok ([], e, comment_of f false behind, behind)
+    → let behind = past_white e false x in word f i a e x ≡ Ok ([], e, comment_of f (is_tabbed i x) behind, behind)
 word_ends f i a e x some ends =
     let behind = past_white e false x in
     let gap_is = gap_past i a e x ends.tabs in
     word_over f i a e x (word_stops f i e x some ends)
     ∙ ap (λ r. r >>= behind_gap f i a e) gap_is.is
     ∙ ap (λ r. r >>= λ b. if b.0 then with_text gap_is.text (word f i a b.1.mark b.1.rest) else ended f e
-    (record { text = gap_is.text; tabbed = false; behind = behind })) (stops_plain f i behind ends.stops)
+    (record { text = gap_is.text; tabbed = is_tabbed i x; behind = behind })) (stops_plain f i behind ends.stops)
 
 -- A plain scalar of one word, where blanks and breaks and what ends it stand behind it, is read.
 pub plain_word_read : (f : Bool) (i : ℕ) (s : Cursor) (w x : List ℕ) → s.rest ≡ w ++ x → IsPlainWord w
     → EndsPlain f i (along s.mark (length w)) x
     → let behind = past_white (along s.mark (length w)) false x in plain f i s
-    ≡ Ok (encode_utf8_all w, along s.mark (length w), comment_of f false behind, behind)
+    ≡ Ok (encode_utf8_all w, along s.mark (length w), comment_of f (is_tabbed i x) behind, behind)
 plain_word_read f i s w x is h ends =
     let m = s.mark in
     let e = along m (length w) in
@@ -195,10 +195,14 @@ plain_word_read f i s w x is h ends =
     ∙ ap (word f i m m) is
     ∙ word_read f i m m w x h.safe
     ∙ ap (with_text (encode_utf8_all w)) (word_ends f i m e x (omega (arith, some)) ends)
-    ∙ ap (λ y. Ok (y, e, comment_of f false behind, behind)) (append-nil (encode_utf8_all w))
+    ∙ ap (λ y. Ok (y, e, comment_of f (is_tabbed i x) behind, behind)) (append-nil (encode_utf8_all w))
 
 -- what a scalar that nothing encloses may end before
 pub ends_at_root : (f : Bool) (end : Marker) (xs : List ℕ) → slice_index xs 0 ≢ 35
     → in_word f (drop (prefix_len is_blank_or_break xs) xs) ≡ false → EndsPlain f 0 end xs
 ends_at_root f end xs apart stops =
-    record { stops = inl (ap (in_word f) (past_rest end false xs) ∙ stops); apart = apart; tabs = inl refl }
+    record {
+      stops = inl (ap (in_word f) (past_rest end false xs) ∙ stops);
+      apart = apart;
+      tabs = inl (untabbed_root xs);
+    }

@@ -1,21 +1,21 @@
 -- A plain scalar of several words and lines is read, without a fault.
-use Rattle.std.proofs.Common.{◌≡◌, ◌≢◌, ℕ, suc, ◌+◌, ◌<◌, ◌≤◌, Bool, true, false, List, [], ◌∷◌, ◌++◌, length, drop, take, slice_index, Ok, refl, sym, ap, ◌∙◌, arith, subst, encode_utf8_all, append_assoc, IsTrue, ⊎_elim, inl, inr, cond}
+use Rattle.std.proofs.Common.{◌≡◌, ◌≢◌, ℕ, suc, ◌+◌, ◌<◌, ◌≤◌, Bool, true, false, List, [], ◌∷◌, ◌++◌, length, drop, take, slice_index, Ok, refl, sym, ap, ◌∙◌, arith, subst, encode_utf8_all, append_assoc, IsTrue, ⊎_elim, inl, cond}
 use Rattle.std.specs.Prelude.{◌||◌, ◌&&◌, ◌==◌, not, nat_lt, encode_utf8, if◌then◌else◌}
 use Rattle.std.specs.List.{prefix_len}
 use Rattle.std.proofs.lemmas.Bool.Decides.{nat_tests}
 use Rattle.std.proofs.Math.Seq.{take-append_seam}
 use Rattle.saphyr_input.specs.Breaks.{normalized}
-use Rattle.saphyr_input.specs.Classes.{is_blank, is_break, is_blank_or_breakz, is_flow, is_bom, tab}
+use Rattle.saphyr_input.specs.Classes.{is_blank, is_break, is_blank_or_breakz, is_flow, is_bom}
 use Rattle.saphyr_input.specs.Places.{is_blank_or_break, is_document_indicator}
 use Rattle.saphyr_scalar.specs.declared.scalar.position.Marker.{Marker}
 use Rattle.saphyr_scalar.specs.Cursor.{Cursor, ◌>>=◌, along, next_line}
 use Rattle.saphyr_scalar.specs.FlowReading.{plain_value}
 use Rattle.saphyr_scalar.specs.Plain.{in_word, word_starts, goes_on, comment_of, ends_line, with_text, Reading, ended, word, plain}
 use Rattle.saphyr_scalar.specs.PlainReading.{AreWhite, passed}
-use Rattle.saphyr_scalar.specs.PlainSpelling.{behind_blanks, past_white, tabs_fit, EndsPlain, is_word_ink, AreInkBefore, IsWordBefore, has_line_end, IsPlainGap, words_text, IsNoMarker, AreFurtherWords, IsPlainText}
+use Rattle.saphyr_scalar.specs.PlainSpelling.{behind_blanks, past_white, reaches_tabbed, is_tabbed, EndsPlain, is_word_ink, AreInkBefore, IsWordBefore, has_line_end, IsPlainGap, words_text, IsNoMarker, AreFurtherWords, IsPlainText}
 use Rattle.saphyr_scalar.proofs.Moving.{along_none, along_more}
 use Rattle.saphyr_scalar.proofs.Plain.Runs.{AreInk, NoFeed, same_ends, passed_append, passed_word}
-use Rattle.saphyr_scalar.proofs.Plain.White.{clean_of, past_on, past_stop, gap_past}
+use Rattle.saphyr_scalar.proofs.Plain.White.{flag_on, tabbed_on, tabbed_stop, past_on, past_stop, gap_past}
 use Rattle.saphyr_scalar.proofs.Plain.OneWord.{word_ends, white_stops}
 use Rattle.saphyr_scalar.proofs.Plain.Pieces.{no_text, text_twice, word_on, word_over, behind_gap, plain_starts}
 use Rattle.saphyr_scalar.proofs.Plain.Sound.{plain_reads}
@@ -152,19 +152,15 @@ past_gap m b (c ∷ v) y are dark =
     ∙ past_gap (if ends_line c v then next_line m 1 else along m 1) (b || is_break c) v y are.1 dark
     ∙ ap (cursor_at y (passed m (c ∷ v))) (or_assoc b (is_break c) (has_line_end v))
 
-no_tabs_more : (i k : ℕ) (v y : List ℕ) → Dark y → IsTrue (tabs_fit i k v) → AreWhite v → IsTrue (tabs_fit i k (v ++ y))
-no_tabs_more i k [] [] dark h are = refl
-no_tabs_more i k [] (c ∷ cs) dark h are = rw dark refl
-no_tabs_more i k (c ∷ v) y dark h are =
-    let white : is_blank_or_break c ≡ true = are.0 in
-    let both = clean_of i k c v white h in
-    subst (λ b. IsTrue (cond b
-    (not ((c == tab) && nat_lt k i) && tabs_fit i (if ends_line c (v ++ y) then 0 else k + 1) (v ++ y)) true))
-    (sym white)
-    (subst (λ b. IsTrue (not b && tabs_fit i (if ends_line c (v ++ y) then 0 else k + 1) (v ++ y))) (sym both.0)
-    (subst (λ (e : Bool). IsTrue (tabs_fit i (if e then 0 else k + 1) (v ++ y)))
-    (sym (same_ends c v y (dark_no_feed y dark)))
-    (no_tabs_more i (if ends_line c v then 0 else k + 1) v y dark both.1 are.1)))
+tabbed_more : (i k : ℕ) (t : Bool) (v y : List ℕ) → Dark y → AreWhite v
+    → reaches_tabbed i k t (v ++ y) ≡ reaches_tabbed i k t v
+tabbed_more i k t [] y dark are = tabbed_stop i k t y dark
+tabbed_more i k t (c ∷ v) y dark are =
+    tabbed_on i k t c (v ++ y) are.0
+    ∙ ap (λ (e : Bool). reaches_tabbed i (if e then 0 else k + 1) (flag_on i k t c) (v ++ y))
+    (same_ends c v y (dark_no_feed y dark))
+    ∙ tabbed_more i (if ends_line c v then 0 else k + 1) (flag_on i k t c) v y dark are.1
+    ∙ sym (tabbed_on i k t c v are.0)
 
 pub blanks_on : (c : ℕ) (cs : List ℕ) → is_blank c ≡ true → behind_blanks (c ∷ cs) ≡ behind_blanks cs
 blanks_on c cs h =
@@ -177,21 +173,19 @@ blanks_stop (c ∷ cs) h =
     let none : prefix_len is_blank (c ∷ cs) ≡ 0 = rw h refl in
     ap (λ n. drop n (c ∷ cs)) none
 
-clean_more : (i : ℕ) (v y : List ℕ) → Dark y → AreWhite v → IsTrue (tabs_fit i 0 (behind_blanks v))
-    → IsTrue (tabs_fit i 0 (behind_blanks (v ++ y)))
-clean_more i [] y dark are h =
-    subst (λ l. IsTrue (tabs_fit i 0 l)) (sym (blanks_stop y (dark_no_blank y dark)))
-    (no_tabs_more i 0 [] y dark refl tt)
-clean_more i (c ∷ v) y dark are h = test (is_blank c) refl (clean_more i v y dark are.1)
+is_tabbed_more : (i : ℕ) (v y : List ℕ) → Dark y → AreWhite v → is_tabbed i (v ++ y) ≡ is_tabbed i v
+is_tabbed_more i [] y dark are =
+    ap (reaches_tabbed i 0 false) (blanks_stop y (dark_no_blank y dark)) ∙ tabbed_stop i 0 false y dark
+is_tabbed_more i (c ∷ v) y dark are = test (is_blank c) refl (is_tabbed_more i v y dark are.1)
   where
-    test : (b : Bool) → is_blank c ≡ b
-        → (IsTrue (tabs_fit i 0 (behind_blanks v)) → IsTrue (tabs_fit i 0 (behind_blanks (v ++ y))))
-        → IsTrue (tabs_fit i 0 (behind_blanks (c ∷ (v ++ y))))
-    test true e more = subst (λ l. IsTrue (tabs_fit i 0 l)) (sym (blanks_on c (v ++ y) e))
-        (more (subst (λ l. IsTrue (tabs_fit i 0 l)) (blanks_on c v e) h))
+    test : (b : Bool) → is_blank c ≡ b → is_tabbed i (v ++ y) ≡ is_tabbed i v
+        → is_tabbed i (c ∷ (v ++ y)) ≡ is_tabbed i (c ∷ v)
+    test true e more =
+        ap (reaches_tabbed i 0 false) (blanks_on c (v ++ y) e) ∙ more
+        ∙ sym (ap (reaches_tabbed i 0 false) (blanks_on c v e))
     test false e more =
-        subst (λ l. IsTrue (tabs_fit i 0 l)) (sym (blanks_stop (c ∷ (v ++ y)) e))
-        (no_tabs_more i 0 (c ∷ v) y dark (subst (λ l. IsTrue (tabs_fit i 0 l)) (blanks_stop (c ∷ v) e) h) are)
+        ap (reaches_tabbed i 0 false) (blanks_stop (c ∷ (v ++ y)) e) ∙ tabbed_more i 0 false (c ∷ v) y dark are
+        ∙ sym (ap (reaches_tabbed i 0 false) (blanks_stop (c ∷ v) e))
 
 gap_first : (v y : List ℕ) → v ≢ [] → AreWhite v → is_blank_or_break (slice_index (v ++ y) 0) ≡ true
 gap_first [] y some are = absurd (some refl)
@@ -240,8 +234,8 @@ gap_passes f i a m v w z h hw marker =
     let y = w ++ z in
     let dark = word_dark f w z z hw in
     let there = cursor_at y (passed m v) (has_line_end v) in
-    let tabs = ⊎_elim (λ root. inl root) (λ clean. inr (clean_more i v y dark h.white clean)) h.tabs in
-    let gap_is = gap_past i a m (v ++ y) tabs in
+    let clean : is_tabbed i (v ++ y) ≡ false = is_tabbed_more i v y dark h.white ∙ h.tabs in
+    let gap_is = gap_past i a m (v ++ y) (inl clean) in
     let behind : past_white m false (v ++ y) ≡ there = past_gap m false v y h.white dark in
     let goes : goes_on f i there ≡ Ok (true, there) = goes_here f i there (not_left f i m v h)
     (word_begins f (passed m v) (has_line_end v) w z hw marker) in
@@ -249,6 +243,11 @@ gap_passes f i a m v w z h hw marker =
       text = gap_is.text;
       is = word_over f i a m (v ++ y) (white_stops f (v ++ y) (gap_first v y h.some h.white))
           ∙ ap (λ r. r >>= behind_gap f i a m) gap_is.is
+          ∙ ap (λ (t : Bool). behind_gap f i a m (record {
+            text = gap_is.text;
+            tabbed = t;
+            behind = past_white m false (v ++ y);
+          })) clean
           ∙ ap (λ (s : Cursor). behind_gap f i a m (record { text = gap_is.text; tabbed = false; behind = s })) behind
           ∙ ap (λ r. r >>= λ b. if b.0 then with_text gap_is.text (word f i a b.1.mark b.1.rest) else ended f m
           (record { text = gap_is.text; tabbed = false; behind = there })) goes;
@@ -261,17 +260,17 @@ end_of m [] = m
 end_of m (p ∷ ps) = end_of (along (passed m p.0) (length p.1)) ps
 
 -- what is read ends there
-record EndsAt (f : Bool) (r : Reading) (end : Marker) (behind : Cursor) : Type 0 where
+record EndsAt (f t : Bool) (r : Reading) (end : Marker) (behind : Cursor) : Type 0 where
   text : List ℕ
-  is : r ≡ Ok (text, end, comment_of f false behind, behind)
+  is : r ≡ Ok (text, end, comment_of f t behind, behind)
 
-more_text : (f : Bool) (front : List ℕ) (q r : Reading) (end : Marker) (behind : Cursor) → q ≡ with_text front r
-    → EndsAt f r end behind → EndsAt f q end behind
-more_text f front q r end behind is e = record { text = front ++ e.text; is = is ∙ ap (with_text front) e.is }
+more_text : (f t : Bool) (front : List ℕ) (q r : Reading) (end : Marker) (behind : Cursor) → q ≡ with_text front r
+    → EndsAt f t r end behind → EndsAt f t q end behind
+more_text f t front q r end behind is e = record { text = front ++ e.text; is = is ∙ ap (with_text front) e.is }
 
 words_read : (f : Bool) (i : ℕ) (a : Marker) (ps : List (List ℕ × List ℕ)) (m : Marker) (x : List ℕ) → 0 < m.col
     → AreFurtherWords f i m ps x → EndsPlain f i (end_of m ps) x
-    → EndsAt f (word f i a m (words_text ps ++ x)) (end_of m ps) (past_white (end_of m ps) false x)
+    → EndsAt f (is_tabbed i x) (word f i a m (words_text ps ++ x)) (end_of m ps) (past_white (end_of m ps) false x)
 words_read f i a [] m x some h ends = record { text = []; is = word_ends f i a m x some ends }
 words_read f i a (p ∷ ps) m x some h ends =
     let v = p.0 in
@@ -283,8 +282,8 @@ words_read f i a (p ∷ ps) m x some h ends =
     append_assoc v (w ++ words_text ps) x ∙ ap (λ (l : List ℕ). v ++ l) (append_assoc w (words_text ps) x) in
     let long = some_length w h.1.some in
     let first : 0 < (along there (length w)).col = omega (arith, long) in
-    more_text f passes.text _ _ _ _ (ap (word f i a m) same ∙ passes.is)
-    (more_text f (encode_utf8_all w) _ _ _ _ (read_word f i a there w z h.1.ink)
+    more_text f (is_tabbed i x) passes.text _ _ _ _ (ap (word f i a m) same ∙ passes.is)
+    (more_text f (is_tabbed i x) (encode_utf8_all w) _ _ _ _ (read_word f i a there w z h.1.ink)
     (words_read f i a ps (along there (length w)) x first h.3 ends))
 
 -- places
@@ -313,7 +312,7 @@ same_piece xs ys us vs e n =
     sym (take-append_seam xs us) ∙ ap (take (length xs)) e ∙ ap (λ k. take k (ys ++ vs)) n ∙ take-append_seam ys vs
 
 text_ends : (f : Bool) (i : ℕ) (s : Cursor) (text x : List ℕ) → s.rest ≡ text ++ x → IsPlainText f i s.mark text x
-    → EndsAt f (plain f i s) (passed s.mark text) (past_white (passed s.mark text) false x)
+    → EndsAt f (is_tabbed i x) (plain f i s) (passed s.mark text) (past_white (passed s.mark text) false x)
 text_ends f i s text x is h =
     let m = s.mark in
     let w = h.first in
@@ -330,24 +329,24 @@ text_ends f i s text x is h =
     let long = some_length w h.word.some in
     let ends = subst (λ (e : Marker). EndsPlain f i e x) place h.ends in
     let read = words_read f i m h.others there x (omega (arith, long)) h.further ends in
-    subst (λ (e : Marker). EndsAt f (plain f i s) e (past_white e false x)) (sym place)
-    (more_text f (encode_utf8_all w) _ _ _ _
+    subst (λ (e : Marker). EndsAt f (is_tabbed i x) (plain f i s) e (past_white e false x)) (sym place)
+    (more_text f (is_tabbed i x) (encode_utf8_all w) _ _ _ _
     (plain_starts f i s s starts ∙ ap (word f i m m) here ∙ read_word f i m m w z h.word.ink) read)
 
 pub plain_text_read : (f : Bool) (i : ℕ) (s : Cursor) (text x : List ℕ) → s.rest ≡ text ++ x
     → IsPlainText f i s.mark text x
     → let end = passed s.mark text in let behind =
     past_white end false x in plain f i s
-    ≡ Ok (encode_utf8_all (plain_value (normalized text)), end, comment_of f false behind, behind)
+    ≡ Ok (encode_utf8_all (plain_value (normalized text)), end, comment_of f (is_tabbed i x) behind, behind)
 plain_text_read f i s text x is h =
     let m = s.mark in
     let end = passed m text in
     let behind = past_white end false x in
     let read = text_ends f i s text x is h in
-    let reading = plain_reads f i s behind read.text end (comment_of f false behind) read.is in
+    let reading = plain_reads f i s behind read.text end (comment_of f (is_tabbed i x) behind) read.is in
     let index : m.index + length reading.piece ≡ m.index + length text =
     sym (passed_index m reading.piece) ∙ ap (λ (p : Marker). p.index) reading.ends ∙ passed_index m text in
     let same : reading.piece ≡ text = same_piece reading.piece text (reading.white ++ behind.rest) x
     (sym reading.is ∙ is) (omega (arith, index)) in
-    read.is ∙ ap (λ t. Ok (t, end, comment_of f false behind, behind))
+    read.is ∙ ap (λ t. Ok (t, end, comment_of f (is_tabbed i x) behind, behind))
     (sym reading.value ∙ ap (λ (l : List ℕ). encode_utf8_all (plain_value (normalized l))) same)

@@ -1,16 +1,16 @@
 -- The blanks and breaks behind a plain scalar's last word.
-use Rattle.std.proofs.Common.{◌≡◌, ℕ, suc, ◌+◌, Bool, true, false, List, [], ◌∷◌, ◌++◌, drop, slice_index, Result, Ok, refl, sym, ap, ◌∙◌, arith, subst, IsTrue, ◌⊎◌, ⊎_elim, inl, inr, cond}
-use Rattle.std.specs.Prelude.{◌||◌, ◌&&◌, ◌==◌, not, nat_lt, if◌then◌else◌}
+use Rattle.std.proofs.Common.{◌≡◌, ℕ, suc, ◌+◌, Bool, true, false, List, [], ◌∷◌, ◌++◌, drop, slice_index, Result, Ok, refl, sym, ap, ◌∙◌, arith, subst, ◌⊎◌, inl, inr, cond}
+use Rattle.std.specs.Prelude.{◌||◌, ◌&&◌, ◌==◌, nat_lt, if◌then◌else◌}
 use Rattle.std.specs.List.{prefix_len}
 use Rattle.std.proofs.lemmas.Bool.Decides.{nat_tests}
-use Rattle.saphyr_input.specs.Classes.{is_blank, is_break, tab, line_feed}
+use Rattle.saphyr_input.specs.Classes.{is_blank, is_break, is_bom, is_z, tab, line_feed}
 use Rattle.saphyr_input.specs.Places.{is_blank_or_break}
 use Rattle.saphyr_scalar.specs.declared.scalar.position.Marker.{Marker}
 use Rattle.saphyr_scalar.specs.declared.scalar.fault.Refusal.{Refusal}
 use Rattle.saphyr_scalar.specs.Cursor.{Cursor, ◌>>=◌, along, next_line, pass_break}
 use Rattle.saphyr_scalar.specs.Quoted.{at}
 use Rattle.saphyr_scalar.specs.Plain.{Gap, ends_line, may_stand, reached, at_line, lines, folded, gap_from, gap}
-use Rattle.saphyr_scalar.specs.PlainSpelling.{behind_blanks, past_white, tabs_fit}
+use Rattle.saphyr_scalar.specs.PlainSpelling.{behind_blanks, past_white, reaches_tabbed, is_tabbed, stands_behind_tab}
 use Rattle.saphyr_scalar.proofs.Moving.{along_none, along_more}
 use Rattle.saphyr_scalar.proofs.Quoted.Inside.{break_cases}
 use Rattle.std.proofs.Math.Bool.{or-true}
@@ -21,77 +21,88 @@ use Rattle.saphyr_input.proofs.Basics.Booleans.{by_test}
 use Rattle.saphyr_input.proofs.Basics.Characters.{blank_no_break}
 use Rattle.saphyr_scalar.proofs.Given.{cursor_at}
 
--- a gap that holds, without a tab in its indentation
-abbrev clear : List ℕ → Cursor → Gap
-clear text s = record { text = text; tabbed = false; behind = s }
+-- a gap that holds, and whether a tab stands in its indentation
+abbrev gap_with : Bool → List ℕ → Cursor → Gap
+gap_with t text s = record { text = text; tabbed = t; behind = s }
 
 -- what a gap leaves
-pub record Leaves (r : Result Gap Refusal) (s : Cursor) : Type 0 where
+pub record Leaves (r : Result Gap Refusal) (t : Bool) (s : Cursor) : Type 0 where
   pub text : List ℕ
-  pub is : r ≡ Ok (clear text s)
+  pub is : r ≡ Ok (gap_with t text s)
 
-abbrev pub NoTabs : ℕ → ℕ → List ℕ → Type 0
-NoTabs i k xs = (i ≡ 0) ⊎ IsTrue (tabs_fit i k xs)
+-- what may be reached, where a tab stands in its indentation or none
+abbrev pub MayStand : Bool → List ℕ → Type 0
+MayStand t xs = (t ≡ false) ⊎ (stands_behind_tab xs ≡ true)
 
-reached_clear : (a : Marker) (f : List ℕ) (s : Cursor) → reached a false f s ≡ Ok (clear f s)
+no_mark : (c : ℕ) → ((c == 35) || is_z c) ≡ true → is_bom c ≡ false
+no_mark c h = grind (arith, nat_tests)
+
+is_reached : (a : Marker) (t : Bool) (f : List ℕ) (s : Cursor) → MayStand t s.rest
+    → reached a t f s ≡ Ok (gap_with t f s)
 unfolding may_stand
-reached_clear a f s = refl
+is_reached a false f s h = refl
+is_reached a true f s (inl e) = absurd (cc)
+is_reached a true f s (inr e) = rw (no_mark (slice_index s.rest 0) e, e) refl
 
-two_of : (a b : Bool) → IsTrue (not a && b) → (a ≡ false) × IsTrue b
-two_of false b h = (refl, h)
-two_of true b h = absurd (cc)
+-- the flag behind a blank or a break
+abbrev pub flag_on : ℕ → ℕ → Bool → ℕ → Bool
+flag_on i k t c = is_blank c && (t || ((c == tab) && nat_lt k i))
 
+pub tabbed_on : (i k : ℕ) (t : Bool) (c : ℕ) (cs : List ℕ) → is_blank_or_break c ≡ true
+    → reaches_tabbed i k t (c ∷ cs) ≡ reaches_tabbed i (if ends_line c cs then 0 else k + 1) (flag_on i k t c) cs
+tabbed_on i k t c cs white = rw white refl
+
+pub tabbed_stop : (i k : ℕ) (t : Bool) (xs : List ℕ) → is_blank_or_break (slice_index xs 0) ≡ false
+    → reaches_tabbed i k t xs ≡ t
+tabbed_stop i k t [] h = refl
+tabbed_stop i k t (c ∷ cs) h = rw h refl
+
+-- nothing stands left of the first column
 off : (a b : Bool) → (a && (false || (b && false))) ≡ false
 off true true = refl
 off true false = refl
 off false b = refl
 
--- no tab stands left of the indentation
-pub clean_of : (i k c : ℕ) (cs : List ℕ) → is_blank_or_break c ≡ true → IsTrue (tabs_fit i k (c ∷ cs))
-    → (((c == tab) && nat_lt k i) ≡ false) × IsTrue (tabs_fit i (if ends_line c cs then 0 else k + 1) cs)
-clean_of i k c cs white h =
-    two_of ((c == tab) && nat_lt k i) (tabs_fit i (if ends_line c cs then 0 else k + 1) cs)
-    (subst (λ b. IsTrue (cond b (not ((c == tab) && nat_lt k i) && tabs_fit i (if ends_line c cs then 0 else k + 1) cs)
-    true)) white h)
+root_kind : (k c : ℕ) (cs : List ℕ) (white : Bool) → is_blank_or_break c ≡ white
+    → ((n : ℕ) → reaches_tabbed 0 n false cs ≡ false) → reaches_tabbed 0 k false (c ∷ cs) ≡ false
+root_kind k c cs true e on =
+    tabbed_on 0 k false c cs e
+    ∙ ap (λ (b : Bool). reaches_tabbed 0 (if ends_line c cs then 0 else k + 1)
+    (is_blank c && (false || ((c == tab) && b))) cs) (none_below_zero k)
+    ∙ ap (λ (b : Bool). reaches_tabbed 0 (if ends_line c cs then 0 else k + 1) b cs) (off (is_blank c) (c == tab))
+    ∙ on (if ends_line c cs then 0 else k + 1)
+root_kind k c cs false e on = tabbed_stop 0 k false (c ∷ cs) e
 
-no_tab : (i : ℕ) (m : Marker) (c : ℕ) (cs : List ℕ) → is_blank_or_break c ≡ true → NoTabs i m.col (c ∷ cs)
-    → (is_blank c && (false || ((c == tab) && nat_lt m.col i))) ≡ false
-no_tab i m c cs white h = ⊎_elim
-    (λ root. subst (λ n. (is_blank c && (false || ((c == tab) && nat_lt m.col n))) ≡ false) (sym root)
-    (subst (λ b. (is_blank c && (false || ((c == tab) && b))) ≡ false) (sym (none_below_zero m.col))
-    (off (is_blank c) (c == tab))))
-    (λ clean. subst (λ b. (is_blank c && (false || b)) ≡ false) (sym (clean_of i m.col c cs white clean).0)
-    (off_too (is_blank c)))
-    h
-  where
-    off_too : (a : Bool) → (a && (false || false)) ≡ false
-    off_too true = refl
-    off_too false = refl
+root_untabbed : (k : ℕ) (xs : List ℕ) → reaches_tabbed 0 k false xs ≡ false
+root_untabbed k [] = refl
+root_untabbed k (c ∷ cs) = root_kind k c cs (is_blank_or_break c) refl (λ n. root_untabbed n cs)
 
-fewer : (i k c : ℕ) (cs : List ℕ) → is_blank_or_break c ≡ true → NoTabs i k (c ∷ cs)
-    → NoTabs i (if ends_line c cs then 0 else k + 1) cs
-fewer i k c cs white h = ⊎_elim (λ root. inl root) (λ clean. inr (clean_of i k c cs white clean).1) h
+-- where nothing encloses a scalar no tab stands in its indentation
+pub untabbed_root : (xs : List ℕ) → is_tabbed 0 xs ≡ false
+untabbed_root xs = root_untabbed 0 (behind_blanks xs)
 
 step_col : (b : Bool) (m : Marker) → (cond b 0 (m.col + 1)) ≡ (cond b (next_line m 1) (along m 1)).col
 step_col true m = refl
 step_col false m = refl
 
-line_past : (i : ℕ) (a : Marker) (f : List ℕ) (m : Marker) (c : ℕ) (cs : List ℕ) → is_blank_or_break c ≡ true
-    → NoTabs i m.col (c ∷ cs)
-    → lines i a false f m (c ∷ cs)
-    ≡ lines i a false (if ends_line c cs then f ++ line_feed ∷ [] else f)
+line_past : (i : ℕ) (a : Marker) (t : Bool) (f : List ℕ) (m : Marker) (c : ℕ) (cs : List ℕ)
+    → is_blank_or_break c ≡ true
+    → lines i a t f m (c ∷ cs)
+    ≡ lines i a (flag_on i m.col t c) (if ends_line c cs then f ++ line_feed ∷ [] else f)
     (if ends_line c cs then next_line m 1 else along m 1) cs
 unfolding lines
-line_past i a f m c cs white h = rw (white, no_tab i m c cs white h) refl
+line_past i a t f m c cs white = rw white refl
 
-line_end : (i : ℕ) (a : Marker) (f : List ℕ) (m : Marker) (c : ℕ) (cs : List ℕ) → is_blank_or_break c ≡ false
-    → lines i a false f m (c ∷ cs) ≡ Ok (clear f (at_line m (c ∷ cs)))
+line_end : (i : ℕ) (a : Marker) (t : Bool) (f : List ℕ) (m : Marker) (c : ℕ) (cs : List ℕ)
+    → is_blank_or_break c ≡ false → MayStand t (c ∷ cs)
+    → lines i a t f m (c ∷ cs) ≡ Ok (gap_with t f (at_line m (c ∷ cs)))
 unfolding lines
-line_end i a f m c cs other = rw other (reached_clear a f (at_line m (c ∷ cs)))
+line_end i a t f m c cs other h = rw other (is_reached a t f (at_line m (c ∷ cs)) h)
 
-text_end : (i : ℕ) (a : Marker) (f : List ℕ) (m : Marker) → lines i a false f m [] ≡ Ok (clear f (at_line m []))
+text_end : (i : ℕ) (a : Marker) (t : Bool) (f : List ℕ) (m : Marker)
+    → lines i a t f m [] ≡ Ok (gap_with t f (at_line m []))
 unfolding lines
-text_end i a f m = reached_clear a f (at_line m [])
+text_end i a t f m = is_reached a t f (at_line m []) (inr refl)
 
 pub past_on : (m : Marker) (b : Bool) (c : ℕ) (cs : List ℕ) → is_blank_or_break c ≡ true
     → past_white m b (c ∷ cs) ≡ past_white (if ends_line c cs then next_line m 1 else along m 1) (b || is_break c) cs
@@ -102,34 +113,49 @@ pub past_stop : (m : Marker) (b : Bool) (xs : List ℕ) → is_blank_or_break (s
 past_stop m b [] h = refl
 past_stop m b (c ∷ cs) h = rw h refl
 
-leaves_on : (r q : Result Gap Refusal) (s t : Cursor) → r ≡ q → s ≡ t → Leaves q t → Leaves r s
-leaves_on r q s t e place l = record { text = l.text; is = e ∙ l.is ∙ ap (λ x. Ok (clear l.text x)) (sym place) }
+leaves_on : (r q : Result Gap Refusal) (p t : Bool) (s u : Cursor) → r ≡ q → p ≡ t → s ≡ u → Leaves q t u → Leaves r p s
+leaves_on r q p t s u e same place l =
+    record {
+      text = l.text;
+      is = e ∙ l.is ∙ ap (λ x. Ok (gap_with t l.text x)) (sym place) ∙ ap (λ x. Ok (gap_with x l.text s)) (sym same);
+    }
 
-pub lines_past : (i : ℕ) (a : Marker) (f : List ℕ) (m : Marker) (xs : List ℕ) → NoTabs i m.col xs
-    → Leaves (lines i a false f m xs) (past_white m true xs)
-lines_past i a f m [] h = record { text = f; is = text_end i a f m }
-lines_past i a f m (c ∷ cs) h = by_case (is_blank_or_break c) refl
-    (λ white. lines_past i a (if ends_line c cs then f ++ line_feed ∷ [] else f)
-    (if ends_line c cs then next_line m 1 else along m 1) cs
-    (subst (λ k. NoTabs i k cs) (step_col (ends_line c cs) m) (fewer i m.col c cs white h)))
+pub lines_past : (i : ℕ) (a : Marker) (t : Bool) (f : List ℕ) (m : Marker) (xs : List ℕ)
+    → MayStand (reaches_tabbed i m.col t xs) (past_white m true xs).rest
+    → Leaves (lines i a t f m xs) (reaches_tabbed i m.col t xs) (past_white m true xs)
+lines_past i a t f m [] h = record { text = f; is = text_end i a t f m }
+lines_past i a t f m (c ∷ cs) h = by_case (is_blank_or_break c) refl
+    (λ k. lines_past i a (flag_on i m.col t c) (if ends_line c cs then f ++ line_feed ∷ [] else f) on cs k)
   where
+    on : Marker
+    on = if ends_line c cs then next_line m 1 else along m 1
+
     Goal : Type 0
-    Goal = Leaves (lines i a false f m (c ∷ cs)) (past_white m true (c ∷ cs))
+    Goal = Leaves (lines i a t f m (c ∷ cs)) (reaches_tabbed i m.col t (c ∷ cs)) (past_white m true (c ∷ cs))
 
     Rest : Type 0
-    Rest = Leaves (lines i a false (if ends_line c cs then f ++ line_feed ∷ [] else f)
-        (if ends_line c cs then next_line m 1 else along m 1) cs)
-        (past_white (if ends_line c cs then next_line m 1 else along m 1) true cs)
+    Rest = MayStand (reaches_tabbed i on.col (flag_on i m.col t c) cs) (past_white on true cs).rest
+        → Leaves (lines i a (flag_on i m.col t c) (if ends_line c cs then f ++ line_feed ∷ [] else f) on cs)
+        (reaches_tabbed i on.col (flag_on i m.col t c) cs) (past_white on true cs)
 
-    by_case : (b : Bool) → is_blank_or_break c ≡ b → (is_blank_or_break c ≡ true → Rest) → Goal
+    by_case : (b : Bool) → is_blank_or_break c ≡ b → Rest → Goal
     by_case true white rest =
-        leaves_on _ _ _ _ (line_past i a f m c cs white h) (past_on m true c cs white) (rest white)
+        let flag : reaches_tabbed i m.col t (c ∷ cs) ≡ reaches_tabbed i on.col (flag_on i m.col t c) cs =
+        tabbed_on i m.col t c cs white
+        ∙ ap (λ (k : ℕ). reaches_tabbed i k (flag_on i m.col t c) cs) (step_col (ends_line c cs) m) in
+        let place = past_on m true c cs white in
+        leaves_on _ _ _ _ _ _ (line_past i a t f m c cs white) flag place
+        (rest (subst (λ (b : Bool). MayStand b (past_white on true cs).rest) flag
+        (subst (λ (s : Cursor). MayStand (reaches_tabbed i m.col t (c ∷ cs)) s.rest) place h)))
     by_case false other rest =
-        record {
+        let flag = tabbed_stop i m.col t (c ∷ cs) other in
+        let place = past_stop m true (c ∷ cs) other in
+        leaves_on _ _ _ _ _ _ refl flag place (record {
           text = f;
-          is = line_end i a f m c cs other
-              ∙ ap (λ x. Ok (clear f x)) (sym (past_stop m true (c ∷ cs) other));
-        }
+          is = line_end i a t f m c cs other
+              (subst (λ (b : Bool). MayStand b (c ∷ cs)) flag
+              (subst (λ (s : Cursor). MayStand (reaches_tabbed i m.col t (c ∷ cs)) s.rest) place h));
+        })
 
 -- blanks are passed
 pub past_blanks : (m : Marker) (b : Bool) (xs : List ℕ)
@@ -167,20 +193,21 @@ past_blanks m b (c ∷ cs) = by_case (is_blank c) refl (past_blanks (along m 1) 
 abbrev AtBreak : List ℕ → Marker → Bool → Type 0
 AtBreak xs m b =
     let t = pass_break (cursor_at xs m b) in
-    (past_white m b xs ≡ past_white t.mark true t.rest) × ((i k : ℕ) → NoTabs i k xs → NoTabs i t.mark.col t.rest)
+    (past_white m b xs ≡ past_white t.mark true t.rest)
+    × ((i k : ℕ) → reaches_tabbed i k false xs ≡ reaches_tabbed i t.mark.col false t.rest)
 
 feed_at : (cs : List ℕ) (m : Marker) (b : Bool) → AtBreak (10 ∷ cs) m b
-feed_at cs m b = (ap (λ x. past_white (next_line m 1) x cs) (or-true b), λ i k h. fewer i k 10 cs refl h)
+feed_at cs m b = (ap (λ x. past_white (next_line m 1) x cs) (or-true b), λ i k. refl)
 
 return_at : (cs : List ℕ) (m : Marker) (b : Bool) → (slice_index cs 0 == 10) ≡ false → AtBreak (13 ∷ cs) m b
-return_at cs m b h = rw h (ap (λ x. past_white (next_line m 1) x cs) (or-true b), λ i k x. x)
+return_at cs m b h = rw h (ap (λ x. past_white (next_line m 1) x cs) (or-true b), λ i k. refl)
 
 two_at : (cs : List ℕ) (m : Marker) (b : Bool) → AtBreak (13 ∷ 10 ∷ cs) m b
 two_at cs m b =
     let two : m.index + 1 + 1 ≡ m.index + 2 = omega arith in (
       ap (λ x. past_white (next_line (along m 1) 1) (x || true) cs) (or-true b)
           ∙ ap (λ n. past_white (record (next_line m 2) { index = n }) true cs) two,
-      λ i k h. fewer i (k + 1) 10 cs refl (fewer i k 13 (10 ∷ cs) refl h),
+      λ i k. refl,
     )
 
 return_or_two : (cs : List ℕ) (m : Marker) (b : Bool) → AtBreak (13 ∷ cs) m b
@@ -197,31 +224,36 @@ at_break [] m b h = absurd (cc)
 at_break (c ∷ cs) m b h = break_cases c h (λ x. AtBreak (x ∷ cs) m b) (feed_at cs m b) (return_or_two cs m b)
 
 -- what a gap leaves
-same_fold : (r : Result Gap Refusal) (s : Cursor) → Leaves r s → Leaves (r >>= λ g. Ok (folded g)) s
-same_fold r s l = record { text = (folded (clear l.text s)).text; is = ap (λ x. x >>= λ g. Ok (folded g)) l.is }
+same_fold : (r : Result Gap Refusal) (t : Bool) (s : Cursor) → Leaves r t s → Leaves (r >>= λ g. Ok (folded g)) t s
+same_fold r t s l =
+    record { text = (folded (gap_with t l.text s)).text; is = ap (λ x. x >>= λ g. Ok (folded g)) l.is }
 
 from_past : (i : ℕ) (a : Marker) (blanks : List ℕ) (m : Marker) (xs : List ℕ) → is_blank (slice_index xs 0) ≡ false
-    → NoTabs i 0 xs → Leaves (gap_from i a blanks (at m xs)) (past_white m false xs)
+    → MayStand (reaches_tabbed i 0 false xs) (past_white m false xs).rest
+    → Leaves (gap_from i a blanks (at m xs)) (reaches_tabbed i 0 false xs) (past_white m false xs)
 unfolding gap_from
 from_past i a blanks m xs clean h =
-    by_test (is_break (slice_index xs 0)) _ _ (λ (r : Result Gap Refusal). Leaves r (past_white m false xs))
+    by_test (is_break (slice_index xs 0)) _ _
+    (λ (r : Result Gap Refusal). Leaves r (reaches_tabbed i 0 false xs) (past_white m false xs))
     (λ e.
     let t = pass_break (at m xs) in
     let here = at_break xs m false e in
-    leaves_on _ _ _ _ refl here.0 (same_fold _ _ (lines_past i a [] t.mark t.rest (here.1 i 0 h))))
-    (λ e. record {
-      text = blanks;
-      is =
-          ap (λ x. Ok (clear blanks x))
-          (sym (past_stop m false xs (or_from (is_blank (slice_index xs 0)) (is_break (slice_index xs 0)) clean e)));
-    })
+    leaves_on _ _ _ _ _ _ refl (here.1 i 0) here.0 (same_fold _ _ _ (lines_past i a false [] t.mark t.rest
+    (subst (λ (b : Bool). MayStand b (past_white t.mark true t.rest).rest) (here.1 i 0)
+    (subst (λ (s : Cursor). MayStand (reaches_tabbed i 0 false xs) s.rest) here.0 h)))))
+    (λ e.
+    let other = or_from (is_blank (slice_index xs 0)) (is_break (slice_index xs 0)) clean e in
+    leaves_on _ _ _ _ _ _ refl (tabbed_stop i 0 false xs other) (past_stop m false xs other)
+    (record { text = blanks; is = refl }))
 
-pub gap_past : (i : ℕ) (a : Marker) (m : Marker) (xs : List ℕ) → NoTabs i 0 (behind_blanks xs)
-    → Leaves (gap i a (at m xs)) (past_white m false xs)
+pub gap_past : (i : ℕ) (a : Marker) (m : Marker) (xs : List ℕ)
+    → MayStand (is_tabbed i xs) (past_white m false xs).rest
+    → Leaves (gap i a (at m xs)) (is_tabbed i xs) (past_white m false xs)
 unfolding gap
 gap_past i a m xs h =
-    leaves_on _ _ _ _ refl (past_blanks m false xs)
-    (from_past i a _ (along m (prefix_len is_blank xs)) (behind_blanks xs) (run_ends is_blank xs refl) h)
+    leaves_on _ _ _ _ _ _ refl refl (past_blanks m false xs)
+    (from_past i a _ (along m (prefix_len is_blank xs)) (behind_blanks xs) (run_ends is_blank xs refl)
+    (subst (λ (s : Cursor). MayStand (is_tabbed i xs) s.rest) (past_blanks m false xs) h))
 
 -- how much is passed
 pub past_rest : (m : Marker) (b : Bool) (xs : List ℕ)

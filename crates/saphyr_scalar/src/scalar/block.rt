@@ -4,8 +4,6 @@ mod breaks;
 mod header;
 mod law;
 mod lines;
-#[cfg(test)]
-mod tests;
 
 ghost use Rattle.std.specs.Prelude.{◌≡◌, ◌<◌, ◌≤◌, length, string_bytes, IfOk, None, encode_utf8_all};
 ghost use Rattle.saphyr_scalar.specs.BlockScalar as spec;

@@ -27,7 +27,7 @@ ghost use Rattle.saphyr_scalar.specs.Folding.{folded};
 ghost use Rattle.saphyr_scalar.specs.LineSpelling.{IsDoubleQuoted};
 ghost use Rattle.saphyr_scalar.specs.Plain.{in_word, plain, comment_of};
 ghost use Rattle.saphyr_scalar.specs.PlainReading.{IsPlainReading, passed};
-ghost use Rattle.saphyr_scalar.specs.PlainSpelling.{IsPlainWord, EndsPlain, IsPlainText, past_white};
+ghost use Rattle.saphyr_scalar.specs.PlainSpelling.{IsPlainWord, EndsPlain, IsPlainText, is_tabbed, past_white};
 
 use crate::reading::{Item, Quote};
 use crate::scalar::position::Marker;
@@ -108,7 +108,7 @@ pub fn reads_each_plain_word()
         → IsPlainWord w → EndsPlain in_flow indent (along s.mark (length w)) x → let end =
         along s.mark (length w) in let behind =
         past_white end false x in plain in_flow indent s
-        ≡ Ok (encode_utf8_all w, end, comment_of in_flow false behind, behind) }
+        ≡ Ok (encode_utf8_all w, end, comment_of in_flow (is_tabbed indent x) behind, behind) }
 {}
 
 /// Where a plain scalar of words and lines stands, and behind it blanks and breaks and what ends
@@ -121,7 +121,7 @@ pub fn reads_each_plain_text()
         ≡ Ok (
           encode_utf8_all (plain_value (normalized text)),
           end,
-          comment_of in_flow false behind,
+          comment_of in_flow (is_tabbed indent x) behind,
           behind,
         ) }
 {}

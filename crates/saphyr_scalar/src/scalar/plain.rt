@@ -6,9 +6,6 @@ ghost use Rattle.saphyr_scalar.specs.Cursor as cursor;
 ghost use Rattle.saphyr_scalar.specs.Plain as spec;
 ghost use Rattle.saphyr_scalar.specs.Sets as sets;
 
-#[cfg(test)]
-mod tests;
-
 use crate::scalar::fault::{FaultText, Refusal, Stop};
 use crate::scalar::position::Marker;
 use crate::scalar::reader::{FIRST_ROOM, Reader};

@@ -1,7 +1,6 @@
 -- The places between the documents of a text, and a step from one to the next.
 use Rattle.std.proofs.Common.{◌≡◌, ℕ, ◌+◌, ◌≤◌, Bool, true, false, List, [], ◌∷◌, ◌++◌, length, slice_index, Ok, ◌⊎◌, inl, inr, refl, sym, ap, ◌∙◌, arith, subst}
 use Rattle.std.specs.Prelude.{◌-◌, ◌||◌, ◌&&◌, ◌==◌, not, nat_lt, nat_le, Option, Some, None, if◌then◌else◌}
-use Rattle.std.proofs.lemmas.Bool.Decides.{nat_tests}
 use Rattle.saphyr_input.specs.Classes.{is_blank, is_z}
 use Rattle.saphyr_input.specs.Places.{is_document_indicator, can_be_plain}
 use Rattle.saphyr_scalar.specs.declared.scalar.position.Marker.{Marker}
@@ -23,8 +22,8 @@ use Rattle.saphyr_scanner.proofs.InFlow.States.{alone}
 use Rattle.saphyr_scanner.proofs.InBlock.States.{crosses, Follows}
 use Rattle.saphyr_scanner.proofs.InBlock.Follows.{goes_on}
 use Rattle.saphyr_scanner.proofs.InBlock.Lines.{IsLined}
-use Rattle.saphyr_scanner.proofs.Flow.States.{past, EndsDocument, noted}
-use Rattle.saphyr_scanner.proofs.Flow.Gaps.{gap_past, past_low, past_inked}
+use Rattle.saphyr_scanner.proofs.Flow.States.{past, EndsDocument, noted, is_filler_rest}
+use Rattle.saphyr_scanner.proofs.Flow.Gaps.{gap_past, past_low, past_inked, no_tab_before}
 use Rattle.saphyr_scanner.proofs.Flow.Arrivals.{passes_gap, within_index}
 use Rattle.saphyr_scalar.proofs.Given.{cursor_at}
 use Rattle.std.proofs.lemmas.Bool.{eq-eqb}
@@ -78,7 +77,7 @@ passes_noted (Some comment) s k a ad m y here (inl e) = absurd (cc)
 passes_noted (Some comment) s k a ad m y here (inr h) =
     let g = gap_past 0 s.mark s.blank_so_far false s.rest in
     let c : Core = record (core_at false s context.Block k [] a ad) { comment = Some comment } in
-    let there = g.is (past_inked s.mark s.rest) 0 none_less
+    let there = g.is (past_inked s.mark s.rest) 0 none_less false (no_tab_before (is_filler_rest s.rest))
     ∙ ap (λ (p : Marker × List ℕ). stop p.0 g.still_blank g.now_broke false p.1) here in
     let b = (g.now_broke && true) || a in
     let goes : check_comment

@@ -11,8 +11,8 @@ use Rattle.saphyr_scalar.specs.Spaces.{AreSpaces, IsLineRest, IsEol}
 use Rattle.saphyr_scanner.specs.Grammar.Forest.{Properties, Node, Seq, Nodes, NoNode, MoreNodes}
 use Rattle.saphyr_scanner.specs.Grammar.FlowScalars.{begins_plain, IsFirstWord, IsPlain, IsPlainKey}
 use Rattle.saphyr_scanner.specs.Grammar.FlowNodes.{IsOnLine, IsFlowNode}
-use Rattle.saphyr_scanner.proofs.Beginnings.{heads, tails, Begins, behind_in, before_in, lacks, IsFirst, no_first, behind_filler}
-use Rattle.saphyr_scanner.specs.Grammar.BlockNodes.{BehindKey, IsLead, IsEntryIndentation, has_tab_ahead, IsImplicitPair, IsKeyAlone, IsBlockNode, AreOtherEntries}
+use Rattle.saphyr_scanner.proofs.Beginnings.{no_feed_no_filler, heads, tails, Begins, behind_in, before_in, lacks, IsFirst, no_first, behind_filler}
+use Rattle.saphyr_scanner.specs.Grammar.BlockNodes.{BehindKey, IsBehindScalar, IsLead, IsEntryIndentation, has_tab_ahead, IsImplicitPair, IsKeyAlone, IsBlockNode, AreOtherEntries}
 
 -- ## Plain scalars
 
@@ -129,29 +129,52 @@ indentation m t (front, h, e) = behind_filler t front (spaces m) h e
 
 -- ## Block collections
 
-no_tab : (m : ℕ) (front others : List ℕ) → (front ≡ spaces m) ⊎ Begins IsFirst front
-    → codes "\t- b" ≡ front ++ (45 ∷ others) → ⊥
-no_tab zero front others (inl e) d =
+abbrev stays : ℕ → Bool
+stays c = not (c == line_feed)
+
+no_tab : (m : ℕ) (front others : List ℕ) → front ≡ spaces m → codes "\t- b" ≡ front ++ (45 ∷ others) → ⊥
+no_tab zero front others e d =
     let f : codes "\t- b" ≡ 45 ∷ others = rw e at d in let g : 45 ≡ 9 = heads 9 45 (codes "- b") others f in omega
     (arith, g)
-no_tab (suc m) front others (inl e) d =
+no_tab (suc m) front others e d =
     let f : codes "\t- b" ≡ 32 ∷ (spaces m ++ (45 ∷ others)) = rw e at d in
     let g : 32 ≡ 9 = heads 9 32 (codes "- b") (spaces m ++ (45 ∷ others)) f in omega (arith, g)
-no_tab m front others (inr (c, cs, h, e)) d =
-    let f : codes "\t- b" ≡ c ∷ (cs ++ (45 ∷ others)) = rw e at d in
-    no_first 9 c (codes "- b") (cs ++ (45 ∷ others)) (λ y. omega arith) (λ y. omega arith) (λ y. omega arith) h f
+
+-- on one line no filler stands
+on_one_line : (m : ℕ) (front others : List ℕ) → IsEntryIndentation m front → codes "\t- b" ≡ front ++ (45 ∷ others)
+    → front ≡ spaces m
+on_one_line m front others (filling, h, e) d =
+    let clean = before_in stays (codes "\t- b") front (45 ∷ others) d (refl, (refl, (refl, (refl, tt)))) in
+    let none = no_feed_no_filler filling (before_in stays front filling (spaces m) e clean) h in
+    e ∙ ap (λ (x : List ℕ). x ++ spaces m) none
 
 pub tab_in_indentation : (room : ℕ) (nodes : Nodes) (m : ℕ) (behind : List ℕ)
     → AreOtherEntries room nodes m (codes "\t- b") behind → ⊥
 tab_in_indentation room NoNode m behind e = cc
 tab_in_indentation room (MoreNodes node nodes) m behind (front, entry, others, i, h, g, e) =
-    no_tab m front (entry ++ others) (indentation m front i) e
+    no_tab m front (entry ++ others) (on_one_line m front (entry ++ others) i e) e
 
 pub tab_behind_question : (room : ℕ) (key value : Node) (m : ℕ) (behind : List ℕ)
     → IsKeyAlone value (IsBlockNode room key) m (codes "?\t\n") behind → ⊥
 tab_behind_question room key value m behind (node, out, (some, clear), k, e) =
     let f : codes "\t\n" ≡ node = tails 63 63 (codes "\t\n") node e in
-    let g : has_tab_ahead false (codes "\t\n") ≡ false = ap (has_tab_ahead false) f ∙ clear in cc
+    let g : has_tab_ahead false (codes "\t\n" ++ behind) ≡ false =
+    ap (λ (x : List ℕ). has_tab_ahead false (x ++ behind)) f ∙ clear in cc
+
+pub tab_behind_left_out : (room : ℕ) (key value : Node) (m : ℕ) (others : List ℕ)
+    → IsKeyAlone value (IsBlockNode room key) m (codes "?\n") (codes "\t\n" ++ others) → ⊥
+tab_behind_left_out room key value m others (node, out, (some, clear), k, e) =
+    let f : codes "\n" ≡ node = tails 63 63 (codes "\n") node e in
+    let g : has_tab_ahead false (codes "\n\t\n" ++ others) ≡ false =
+    ap (λ (x : List ℕ). has_tab_ahead false (x ++ (codes "\t\n" ++ others))) f ∙ clear in cc
+
+pub tab_behind_block_scalar : (indent i : ℕ) (others : List ℕ) → IsBehindScalar indent i (codes "\t\n" ++ others) → ⊥
+tab_behind_block_scalar indent i others (inl e) = cc
+tab_behind_block_scalar indent i others (inr (inl h)) = absurd (let e : false ≡ true = h in cc)
+tab_behind_block_scalar indent i others (inr (inr (zero, c, more, ink, feed, left, e))) =
+    let f : is_blank c ≡ true = ap is_blank (heads 9 c (codes "\n" ++ others) more e) in cc
+tab_behind_block_scalar indent i others (inr (inr (suc n, c, more, ink, feed, left, e))) =
+    let f : 32 ≡ 9 = heads 9 32 (codes "\n" ++ others) (spaces n ++ (c ∷ more)) e in omega (arith, f)
 
 no_left : (m : ℕ) (front others : List ℕ) → (front ≡ spaces (suc m)) ⊎ Begins IsFirst front
     → codes "- b" ≡ front ++ others → ⊥
@@ -159,7 +182,7 @@ no_left m front others (inl e) d =
     let f : codes "- b" ≡ 32 ∷ (spaces m ++ others) = rw e at d in
     let g : 32 ≡ 45 = heads 45 32 (codes " b") (spaces m ++ others) f in omega (arith, g)
 no_left m front others (inr (c, cs, h, e)) d =
-    let f : codes "- b" ≡ c ∷ (cs ++ others) = rw e at d in no_first 45 c (codes " b") (cs ++ others) (λ y. omega arith)
+    let f : codes "- b" ≡ c ∷ (cs ++ others) = rw e at d in no_first 45 c (codes " b") (cs ++ others) refl
     (λ y. omega arith) (λ y. omega arith) h f
 
 pub entry_left : (room : ℕ) (nodes : Nodes) (m : ℕ) (behind : List ℕ)
@@ -192,9 +215,6 @@ on_line (c ∷ d ∷ ds) between value (l, (k, ls)) s e =
 pub key_over_lines : (room : ℕ) (key value : Node) (m : ℕ) (behind : List ℕ)
     → IsImplicitPair room key (IsBlockNode room value) m (codes "a\nb: c") behind → ⊥
 key_over_lines room key value m behind (node, between, text, k, l, s, b, n, v, e) = on_line node between text l s e
-
-abbrev stays : ℕ → Bool
-stays c = not (c == line_feed)
 
 pub sequence_behind_key : (p : Properties) (column least m : ℕ) → IsLead p (BehindKey column) least m (codes " ") → ⊥
 sequence_behind_key p column least m (inl (front, end, filling, l, c, (rest, r, f), h, e)) =

@@ -306,7 +306,7 @@ document room [] t (filling, text, f, x, e) d = absurd (no_filler t filling text
     no_text : (t : List ℕ) → codes "---\n" ≡ t → (t ≡ []) ⊎ Begins IsFirst t → ⊥
     no_text t d (inl e) = let f : codes "---\n" ≡ [] = d ∙ e in cc
     no_text t d (inr (c, cs, h, e)) =
-        no_first 45 c (codes "--\n") cs (λ y. omega arith) (λ y. omega arith) (λ y. omega arith) h (d ∙ e)
+        no_first 45 c (codes "--\n") cs refl (λ y. omega arith) (λ y. omega arith) h (d ∙ e)
 
     no_filler : (t filling text : List ℕ) → IsFiller filling → IsFillerText text → t ≡ filling ++ text
         → codes "---\n" ≡ t → ⊥
@@ -327,7 +327,7 @@ document room (d ∷ ds) t (filling, text, others, f, doc, b, e) g =
         → d ∷ ds ≡ only ∷ []
     by_filler h (inl i) = by_document h (g ∙ i)
     by_filler h (inr (c, cs, n, i)) =
-        absurd (no_first 45 c (codes "--\n") cs (λ y. omega arith) (λ y. omega arith) (λ y. omega arith) n (g ∙ i))
+        absurd (no_first 45 c (codes "--\n") cs refl (λ y. omega arith) (λ y. omega arith) n (g ∙ i))
 
 pub one_forest : (room : ℕ) (forest : Forest) → IsLayoutText room forest (codes "---\n") → forest ≡ only ∷ []
 one_forest room forest (mark, others, inl m, h, e) =
@@ -340,7 +340,7 @@ one_forest room forest (mark, others, inr m, h, e) =
 pub stands_for_one : (room : ℕ) → IsLayoutText room (only ∷ []) (codes "---\n")
 stands_for_one room =
     let none : IsFiller [] = ([], tt, refl) in let last : IsFillerText [] =
-    ([], [], (0, omega arith, refl), inl refl, refl) in (
+    ([], [], tt, inl refl, refl) in (
       [],
       codes "---\n",
       inl refl,

@@ -15,8 +15,8 @@ use Rattle.saphyr_scanner.specs.Steps.Unrolling.{unroll}
 use Rattle.saphyr_scanner.specs.Steps.Fetch.{step, content, fetch_here, arrive, fetch}
 use Rattle.saphyr_scanner.proofs.Json.States.{queue_of, none_before, stop_here}
 use Rattle.saphyr_scanner.proofs.InFlow.States.{Around, core_at, state_at, least, least_low, not_left, drops, key_left, left_in_flow, left_or_none, none_unrolls, Deepens, Comes, comes}
-use Rattle.saphyr_scanner.proofs.Flow.States.{crosses, past}
-use Rattle.saphyr_scanner.proofs.Flow.Gaps.{gap_past, past_count}
+use Rattle.saphyr_scanner.proofs.Flow.States.{crosses, past, is_filler_rest}
+use Rattle.saphyr_scanner.proofs.Flow.Gaps.{gap_past, past_count, no_tab_before}
 use Rattle.saphyr_scanner.proofs.InBlock.Gaps.{gap_broke}
 use Rattle.saphyr_scalar.proofs.Given.{cursor_at}
 use Rattle.saphyr_input.proofs.Basics.Booleans.{and_false, and_or_false}
@@ -41,13 +41,14 @@ passes_gap around s x k ls a ad m y here inked =
     record {
       blank = g.still_blank;
       allowed = (g.now_broke && is_block x) || a;
-      is = λ d. let there = g.is stands (least around.indent d) (least_low around.indent d)
+      is = λ d. let there = g.is stands (least around.indent d) (least_low around.indent d) false
+          (no_tab_before (is_filler_rest s.rest))
           ∙ ap (λ (p : Marker × List ℕ). stop p.0 g.still_blank g.now_broke false p.1) here
           ∙ stop_here m g.still_blank g.now_broke y in
           ap (λ r. r >>= λ (p : Passed). check_comment (behind_gap (core_at around d s x k ls a ad) p)) there;
       same = λ e. rw e (ap (λ (b : Bool). b || a) (and_false g.now_broke));
       fresh = λ e h. let passed =
-          g.is stands 0 (none_less around.indent)
+          g.is stands 0 (none_less around.indent) false (no_tab_before (is_filler_rest s.rest))
           ∙ stop_here (past around.indent s.mark s.rest).0 g.still_blank g.now_broke
           (past around.indent s.mark s.rest).1 in
           rw (gap_broke 0 s.mark s.blank_so_far s.rest _ passed ∙ h, e) refl;

@@ -9,14 +9,14 @@ use Rattle.saphyr_scalar.specs.PlainSpelling.{past_white}
 use Rattle.saphyr_scalar.specs.TagSpelling.{AreIn}
 use Rattle.saphyr_scalar.specs.BlockRead.{spaces}
 use Rattle.saphyr_scalar.specs.Spaces.{joined, AreEach, AreMany, AreSpaces, IsComment, IsCommentBehind, IsLineRest, IsFillerText, IsFillerLine, IsFiller, IsLastFiller, IsSeparationLine, IsSeparation}
-use Rattle.saphyr_scanner.proofs.Flow.States.{moved, is_left_tab, past, past_comment}
+use Rattle.saphyr_scanner.proofs.Flow.States.{moved, is_left_tab, is_filler_rest, is_comment_rest, past, past_comment}
 use Rattle.saphyr_scanner.proofs.Flow.Places.{moved_append}
-use Rattle.saphyr_scanner.proofs.Flow.Gaps.{tab_blank}
+use Rattle.saphyr_scanner.proofs.Flow.Gaps.{stops_tab, stop_blank}
 use Rattle.saphyr_input.proofs.Basics.Numbers.{le_next}
 use Rattle.saphyr_input.proofs.Basics.Characters.{blank_no_break, non_break_feed_fails, return_breaks}
-use Rattle.saphyr_input.proofs.Basics.Booleans.{clash}
+use Rattle.saphyr_input.proofs.Basics.Booleans.{and_false, clash}
 
--- what is passed wherever it stands and whatever stands behind it: no tab is in it
+-- what is passed wherever it stands and whatever stands behind it: a tab in it stands on a line without a token
 abbrev pub IsPast : ℕ → List ℕ → Type 0
 IsPast column w = (m : Marker) (y : List ℕ) → past column m (w ++ y) ≡ past column (moved m w) y
 
@@ -154,10 +154,49 @@ rest_past column m rest more h ends right =
     front_past column m rest h.0 h.1 more (λ y. (blanks_past column h.0 h.2 m right).is y) (behind_is h.0 h.1 h.3) h.4
     ends
 
+-- wherever it stands, a line without a token is passed
+words_rest : (words more : List ℕ) → AreIn is_yaml_non_break words → EndsLine more
+    → is_comment_rest (words ++ more) ≡ true
+words_rest [] [] h ends = refl
+words_rest [] (c ∷ cs) h (inl e) = absurd (cc)
+words_rest [] (c ∷ cs) h (inr e) = subst (λ (z : ℕ). is_comment_rest (z ∷ cs) ≡ true) (sym e) refl
+words_rest (c ∷ cs) more h ends = rw h.0 (words_rest cs more h.1 ends)
+
+ends_rest : (more : List ℕ) → EndsLine more → is_filler_rest more ≡ true
+ends_rest [] ends = refl
+ends_rest (c ∷ cs) (inl e) = absurd (cc)
+ends_rest (c ∷ cs) (inr e) = subst (λ (z : ℕ). is_filler_rest (z ∷ cs) ≡ true) (sym e) refl
+
+comment_rest : (comment more : List ℕ) → ((comment ≡ []) ⊎ IsComment comment) → EndsLine more
+    → is_filler_rest (comment ++ more) ≡ true
+comment_rest comment more (inl e) ends =
+    ap (λ (x : List ℕ). is_filler_rest (x ++ more)) e ∙ ends_rest more ends
+comment_rest comment more (inr (words, are, is)) ends =
+    ap (λ (x : List ℕ). is_filler_rest (x ++ more)) is ∙ words_rest words more are ends
+
+blanks_rest : (w z : List ℕ) → AreIn is_blank w → is_filler_rest z ≡ true → is_filler_rest (w ++ z) ≡ true
+blanks_rest [] z h k = k
+blanks_rest (c ∷ cs) z h k = rw h.0 (blanks_rest cs z h.1 k)
+
+none_stops : (column : ℕ) (m : Marker) (c : ℕ) (cs : List ℕ) → is_filler_rest cs ≡ true
+    → stops_tab column m c cs ≡ false
+none_stops column m c cs h = rw h (and_false (is_left_tab column m c))
+
+bare_past : (column : ℕ) (m : Marker) (w z : List ℕ) → AreIn is_blank w → is_filler_rest z ≡ true
+    → past column m (w ++ z) ≡ past column (moved m w) z
+bare_past column m [] z h k = refl
+bare_past column m (c ∷ cs) z h k =
+    rw (none_stops column m c (cs ++ z) (blanks_rest cs z h.1 k), h.0, no_feed c h.0)
+    (bare_past column (along m 1) cs z h.1 k)
+
 pub filler_text_past : (column : ℕ) (m : Marker) (t more : List ℕ) → IsFillerText t → EndsLine more
     → past column m (t ++ more) ≡ past column (moved m t) more
-filler_text_past column m t more h ends =
-    front_past column m t h.0 h.1 more (are_spaces_past column 0 h.0 h.2 m) h.3 h.4 ends
+filler_text_past column m t more (front, comment, are, k, is) ends =
+    subst (λ (w : List ℕ). past column m (w ++ more) ≡ past column (moved m w) more) (sym is)
+    (ap (past column m) (append_assoc front comment more)
+    ∙ bare_past column m front (comment ++ more) are (comment_rest comment more k ends)
+    ∙ maybe_comment_past column (moved m front) comment more k ends
+    ∙ ap (λ (n : Marker). past column n more) (sym (moved_append m front comment)))
 
 -- ## Whole lines
 
@@ -241,12 +280,12 @@ WhitePast column m b t =
     → past column (past_white m b t).mark (past_white m b t).rest ≡ past column m t
 
 white_kind : (column : ℕ) (m : Marker) (b : Bool) (c : ℕ) (cs : List ℕ) (tab blank return break : Bool)
-    → is_left_tab column m c ≡ tab → is_blank c ≡ blank → ((c == 13) && (slice_index cs 0 == 10)) ≡ return
+    → stops_tab column m c cs ≡ tab → is_blank c ≡ blank → ((c == 13) && (slice_index cs 0 == 10)) ≡ return
     → is_break c ≡ break → WhitePast column (along m 1) (b || break) cs
     → WhitePast column (next_line m 1) (b || break) cs → WhitePast column m b (c ∷ cs)
 white_kind column m b c cs true q r break t e f g on line h =
     let still : past column m (c ∷ cs) ≡ (m, c ∷ cs) = rw t refl in
-    absurd (clash (is_blank c) (tab_blank column m c t)
+    absurd (clash (is_blank c) (stop_blank column m c cs t)
     (ap (λ (z : Marker × List ℕ). is_blank (slice_index z.1 0)) (sym still) ∙ h))
 white_kind column m b c cs false true r true t e f g on line h = absurd (clash (is_break c) g (blank_no_break c e))
 white_kind column m b c cs false true r false t e f g on line h =
@@ -270,6 +309,6 @@ pub white_past : (column : ℕ) (m : Marker) (b : Bool) (t : List ℕ)
     → past column (past_white m b t).mark (past_white m b t).rest ≡ past column m t
 white_past column m b [] h = refl
 white_past column m b (c ∷ cs) h =
-    white_kind column m b c cs (is_left_tab column m c) (is_blank c) ((c == 13) && (slice_index cs 0 == 10))
+    white_kind column m b c cs (stops_tab column m c cs) (is_blank c) ((c == 13) && (slice_index cs 0 == 10))
     (is_break c) refl refl refl refl
     (white_past column (along m 1) (b || is_break c) cs) (white_past column (next_line m 1) (b || is_break c) cs) h

@@ -129,7 +129,7 @@ ends_in_flow column node m o apart h right =
       stops = stops (reaches column m o inked);
       apart =
           no_sign node (slice_index o 0) (node_first column node o h);
-      tabs = inr (tabs_behind column m o inked);
+      tabs = tabs_behind column m m false o inked;
     }
   where
     ink : IsInk h.first
@@ -158,7 +158,7 @@ ends_at_root column m o h right =
       stops = stops (reaches column m o inked) (h.lands right);
       apart =
           other (slice_index o 0) (root_first column m o h);
-      tabs = inr (tabs_behind column m o inked);
+      tabs = tabs_behind column m m false o inked;
     }
   where
     inked : is_blank (slice_index (past column m o).1 0) ≡ false

@@ -8,7 +8,7 @@ use Rattle.saphyr_scalar.specs.declared.scalar.position.Marker.{Marker}
 use Rattle.saphyr_scalar.specs.Cursor.{Cursor, ◌>>=◌}
 use Rattle.saphyr_scalar.specs.FlowReading.{plain_value}
 use Rattle.saphyr_scalar.specs.Plain.{Reading, comment_of}
-use Rattle.saphyr_scalar.specs.PlainSpelling.{past_white, EndsPlain, is_word_ink, AreWordInk, IsPlainText}
+use Rattle.saphyr_scalar.specs.PlainSpelling.{is_tabbed, past_white, EndsPlain, is_word_ink, AreWordInk, IsPlainText}
 use Rattle.saphyr_scanner.specs.declared.engine.level.Context.{Context}
 use Rattle.saphyr_scanner.specs.declared.engine.level.Context.TheVariants as context
 use Rattle.saphyr_scanner.specs.Grammar.Tokens as tokens
@@ -210,11 +210,11 @@ abbrev plain_token : List ℕ → Kind
 plain_token t = scalar_token Plain (plain_value t)
 
 -- what is read of a text that ends at a place
-abbrev found : Bool → List ℕ → Marker → List ℕ → Reading
-found f o end v = Ok (
+abbrev found : ℕ → Bool → List ℕ → Marker → List ℕ → Reading
+found indent f o end v = Ok (
   encode_utf8_all (plain_value v),
   end,
-  comment_of f false (past_white end false o),
+  comment_of f (is_tabbed indent o) (past_white end false o),
   past_white end
       false o,
 )
@@ -225,7 +225,7 @@ plain_read : Reads → (around : Around) (d : Bool) (n : ℕ) (m : Marker) (b : 
     → let u = past_white (moved m t) false o in scalar.plain n (core_at around d (cursor_at (t ++ o) m b) x k ls a ad)
     ≡ went (from_to m (moved m t) (plain_token t) ∷ [])
     (record (core_at around false u x (saved a n m k) ls u.blank_so_far ad)
-    { comment = comment_of (not (is_block x)) false u })
+    { comment = comment_of (not (is_block x)) (is_tabbed around.indent o) u })
 unfolding scalar.plain read_plain
 plain_read reads around d n m b t o x h clear k ls a ad placed =
     let s = cursor_at (t ++ o) m b in
@@ -235,8 +235,8 @@ plain_read reads around d n m b t o x h clear k ls a ad placed =
     (behind_plain z.2 z.3 c) in
     let refused : (f && nat_lt m.col around.indent) ≡ false = plain_placed around x a m placed in
     let got = reads.plain f around.indent s t o refl h
-    ∙ ap (λ (end : Marker). found f o end (normalized t)) (passed_moved m t clear.no_return)
-    ∙ ap (found f o (moved m t)) (normalized_same t clear.no_return) in
+    ∙ ap (λ (end : Marker). found around.indent f o end (normalized t)) (passed_moved m t clear.no_return)
+    ∙ ap (found around.indent f o (moved m t)) (normalized_same t clear.no_return) in
     ap (λ (q : Core). read_plain (record (disallow_key q) { deeper = false }))
     (saves_key n around d s x k ls a ad placed) ∙ rw refused (ap (λ q. q >>= token) got)
 
@@ -277,7 +277,7 @@ pub plain_step : Reads → (around : Around) (d : Bool) (n : ℕ) (m : Marker) (
     step (slice_index (t ++ o) 0) (slice_index (t ++ o) 1) n (core_at around d (cursor_at (t ++ o) m b) x k ls a ad)
     ≡ went (from_to m (moved m t) (plain_token t) ∷ [])
     (record (core_at around false u x (saved a n m k) ls u.blank_so_far ad)
-    { comment = comment_of (not (is_block x)) false u })
+    { comment = comment_of (not (is_block x)) (is_tabbed around.indent o) u })
 plain_step reads around d n m b t o x begins text clear k ls a ad low placed =
     plain_dispatches around d (cursor_at (t ++ o) m b) n t o x begins k ls a ad low
     ∙ plain_read reads around d n m b t o x text clear k ls a ad placed
@@ -288,9 +288,9 @@ plain_step reads around d n m b t o x begins text clear k ls a ad low placed =
 abbrev pub still_adjacent : ℕ → Bool → ℕ → Type 0
 still_adjacent ad allowed adjacent = adjacent ≡ ad
 
-no_comment : (f : Bool) (u : Cursor) → f ≡ true → comment_of f false u ≡ None
+no_comment : (f t : Bool) (u : Cursor) → f ≡ true → comment_of f t u ≡ None
 unfolding comment_of
-no_comment f u e = rw e refl
+no_comment f t u e = rw e refl
 
 -- a text that is read as a plain scalar is passed
 pub text_passes : Reads → (around : Around) (t o : List ℕ) (m : Marker) → BeginsWord true t
@@ -319,7 +319,7 @@ text_passes reads around t o m begins plain fits right inked s x k ls a ad ps fl
           (placed_right x e fits.calm fits.right)
           ∙ ap (λ (q : Option Marker). went (from_to m (moved m t) (plain_token t) ∷ [])
           (record (core_at around false u x (saved e (length ps) m j) ls u.blank_so_far ad) { comment = q }))
-          (no_comment (not (is_block x)) u inside);
+          (no_comment (not (is_block x)) (is_tabbed around.indent o) u inside);
       fits = white_past around.indent (moved m t) false o inked;
       fresh = λ _ e. white_crosses (moved m t) false o e;
       tells = refl;
@@ -376,15 +376,15 @@ plain_closes reads around t o m h fits ends inked s k a ad ps before text =
     let stepped = λ (d : Bool). plain_step reads around d (length ps) m v.blank t o context.Block w
     (plain_text false around.indent m t o h fits.clear ends) fits.clear v.key [] v.allowed ad (inl refl)
     (placed_right context.Block v.allowed fits.calm fits.right) in
-    let came = noted_one around s k [] a ad ps m (t ++ o) v (begins_token m t o f fits.clear) (comment_of false false u)
-    u (saved v.allowed (length ps) m v.key) [] u.blank_so_far ad (ps ++ new)
-    (from_to m (moved m t) (plain_token t) ∷ []) (λ d. false) (none_deeper around) stepped refl low in
+    let came = noted_one around s k [] a ad ps m (t ++ o) v (begins_token m t o f fits.clear)
+    (comment_of false (is_tabbed around.indent o) u) u (saved v.allowed (length ps) m v.key) [] u.blank_so_far ad
+    (ps ++ new) (from_to m (moved m t) (plain_token t) ∷ []) (λ d. false) (none_deeper around) stepped refl low in
     record {
       there = u;
       key = came.key;
       allowed = u.blank_so_far;
       adjacent = ad;
-      comment = comment_of false false u;
+      comment = comment_of false (is_tabbed around.indent o) u;
       new = new;
       leads = came.leads;
       right = plain_right false around.indent m t o h fits.clear fits.right;

@@ -12,7 +12,7 @@ use Rattle.saphyr_scalar.specs.Tag as tags
 use Rattle.saphyr_scalar.specs.Plain as words
 use Rattle.saphyr_scalar.specs.Plain.{comment_of}
 use Rattle.saphyr_scalar.specs.PlainReading.{passed}
-use Rattle.saphyr_scalar.specs.PlainSpelling.{IsPlainText, past_white}
+use Rattle.saphyr_scalar.specs.PlainSpelling.{IsPlainText, is_tabbed, past_white}
 use Rattle.saphyr_scalar.specs.Quoted as quotes
 use Rattle.saphyr_scalar.specs.Quoted.{at}
 use Rattle.saphyr_scalar.specs.QuotedLines.{LinesFit}
@@ -51,13 +51,24 @@ moved m (c ∷ cs) = moved (if c == line_feed then next_line m 1 else along m 1)
 abbrev pub is_left_tab : ℕ → Marker → ℕ → Bool
 is_left_tab column m c = (c == 9) && nat_lt m.col column
 
--- The place and the text behind the blanks, breaks and comments at a place, up to a tab left of a column, which may not
--- stand in indentation. Two places before the same token have the same.
+-- Whether no token stands on the rest of a line: blanks, a comment or none, and a break or the text's end.
+abbrev mutual
+  pub is_filler_rest : List ℕ → Bool
+  is_filler_rest [] = true
+  is_filler_rest (c ∷ cs) = if is_blank c then is_filler_rest cs else is_break c || ((c == 35) && is_comment_rest cs)
+
+  -- behind the `#` of a comment
+  pub is_comment_rest : List ℕ → Bool
+  is_comment_rest [] = true
+  is_comment_rest (c ∷ cs) = if is_yaml_non_break c then is_comment_rest cs else is_break c
+
+-- The place and the text behind the blanks, breaks and comments at a place, up to a tab left of a column on the line of
+-- a token, which may not stand in indentation. Two places before the same token have the same.
 abbrev mutual
   pub past : ℕ → Marker → List ℕ → Marker × List ℕ
   past column m [] = (m, [])
   past column m (c ∷ cs) =
-      if is_left_tab column m c then (m, c ∷ cs)
+      if is_left_tab column m c && not (is_filler_rest cs) then (m, c ∷ cs)
       else if is_blank c || ((c == 13) && (slice_index cs 0 == 10)) then past column (along m 1) cs
       else if is_break c then past column (next_line m 1) cs
       else if c == 35 then past_comment column (along m 1) cs
@@ -178,7 +189,12 @@ pub record Reads : Type 0 where
       → IsPlainText in_flow indent s.mark text x
       → let end = passed s.mark text in let behind =
       past_white end false x in words.plain in_flow indent s
-      ≡ Ok (encode_utf8_all (plain_value (normalized text)), end, comment_of in_flow false behind, behind)
+      ≡ Ok (
+        encode_utf8_all (plain_value (normalized text)),
+        end,
+        comment_of in_flow (is_tabbed indent x) behind,
+        behind,
+      )
   pub quoted : (quote : Quote) (indent : ℕ) (s : Cursor) (items : List Item) (x : List ℕ)
       (is : IsQuotedText quote s.rest items x) → LinesFit indent quote is.0 items x is.2
       → (m : Marker) × IsPassed s.mark s.rest m x

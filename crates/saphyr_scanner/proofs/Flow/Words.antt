@@ -11,7 +11,7 @@ use Rattle.saphyr_scalar.specs.Cursor.{along, next_line}
 use Rattle.saphyr_scalar.specs.BlockRead.{spaces}
 use Rattle.saphyr_scalar.specs.Plain.{ends_line}
 use Rattle.saphyr_scalar.specs.PlainReading.{AreWhite, passed}
-use Rattle.saphyr_scalar.specs.PlainSpelling.{behind_blanks, tabs_fit, has_line_end, EndsPlain, is_word_ink, AreWordInk, IsWordIn, AreInkBefore, IsWordBefore, IsPlainGap, words_text, IsNoMarker, AreFurtherWords, IsPlainText}
+use Rattle.saphyr_scalar.specs.PlainSpelling.{behind_blanks, reaches_tabbed, has_line_end, EndsPlain, is_word_ink, AreWordInk, IsWordIn, AreInkBefore, IsWordBefore, IsPlainGap, words_text, IsNoMarker, AreFurtherWords, IsPlainText}
 use Rattle.saphyr_scalar.specs.TagSpelling.{AreIn}
 use Rattle.saphyr_scalar.specs.Spaces.{joined, AreEach, AreSpaces}
 use Rattle.saphyr_scalar.proofs.NoBreaks.{NoBreaks}
@@ -190,24 +190,25 @@ no_line_end (c ∷ cs) h = rw (blank_no_break c h.0) (no_line_end cs h.1)
     blank_no_break c h = grind (arith, nat_tests)
 
 -- spaces fit wherever they stand
-spaces_fit : (indent n k : ℕ) (y : List ℕ) → IsTrue (tabs_fit indent (n + k) y)
-    → IsTrue (tabs_fit indent n (spaces k ++ y))
-spaces_fit indent n zero y h = subst (λ (i : ℕ). IsTrue (tabs_fit indent i y)) (none n) h
+spaces_fit : (indent n k : ℕ) (y : List ℕ) → IsFalse (reaches_tabbed indent (n + k) false y)
+    → IsFalse (reaches_tabbed indent n false (spaces k ++ y))
+spaces_fit indent n zero y h = subst (λ (i : ℕ). IsFalse (reaches_tabbed indent i false y)) (none n) h
   where
     none : (n : ℕ) → n + 0 ≡ n
     none n = omega arith
 spaces_fit indent n (suc k) y h =
-    spaces_fit indent (n + 1) k y (subst (λ (i : ℕ). IsTrue (tabs_fit indent i y)) (one n k) h)
+    spaces_fit indent (n + 1) k y (subst (λ (i : ℕ). IsFalse (reaches_tabbed indent i false y)) (one n k) h)
   where
     one : (n k : ℕ) → n + suc k ≡ n + 1 + k
     one n k = omega arith
 
 -- and blanks right of the indentation do
-blanks_fit : (indent n : ℕ) (w y : List ℕ) → AreIn is_blank w → indent ≤ n → ((i : ℕ) → IsTrue (tabs_fit indent i y))
-    → IsTrue (tabs_fit indent n (w ++ y))
+blanks_fit : (indent n : ℕ) (w y : List ℕ) → AreIn is_blank w → indent ≤ n
+    → ((i : ℕ) → IsFalse (reaches_tabbed indent i false y))
+    → IsFalse (reaches_tabbed indent n false (w ++ y))
 blanks_fit indent n [] y h right fits = fits n
 blanks_fit indent n (c ∷ cs) y h right fits =
-    rw (blank_white c h.0, no_line c h.0, not_left n indent right, and_true (c == tab))
+    rw (h.0, no_line c h.0, not_left n indent right, and_true (c == tab))
     (blanks_fit indent (n + 1) cs y h.1 (omega (arith, right)) fits)
   where
     no_line : (c : ℕ) → IsTrue (is_blank c) → is_break c ≡ false
@@ -220,49 +221,51 @@ blanks_fit indent n (c ∷ cs) y h right fits =
     and_true true = refl
     and_true false = refl
 
-prefix_fits : (indent : ℕ) (t y : List ℕ) → IsLinePrefix indent t → ((i : ℕ) → IsTrue (tabs_fit indent i y))
-    → IsTrue (tabs_fit indent 0 (t ++ y))
+prefix_fits : (indent : ℕ) (t y : List ℕ) → IsLinePrefix indent t
+    → ((i : ℕ) → IsFalse (reaches_tabbed indent i false y))
+    → IsFalse (reaches_tabbed indent 0 false (t ++ y))
 prefix_fits indent t y (front, blanks, (n, low, spaced), are, is) fits =
     let text : t ++ y ≡ spaces n ++ (blanks ++ y) = ap (λ (x : List ℕ). x ++ y)
     (is ∙ ap (λ (x : List ℕ). x ++ blanks) spaced) ∙ append_assoc (spaces n) blanks y in
-    subst (λ (x : List ℕ). IsTrue (tabs_fit indent 0 x)) (sym text)
+    subst (λ (x : List ℕ). IsFalse (reaches_tabbed indent 0 false x)) (sym text)
     (spaces_fit indent 0 n (blanks ++ y) (at_column 0 n refl (blanks_fit indent n blanks y are low fits)))
   where
     none : (n : ℕ) → 0 + n ≡ n
     none n = omega arith
 
-    at_column : (z n : ℕ) → z ≡ 0 → IsTrue (tabs_fit indent n (blanks ++ y))
-        → IsTrue (tabs_fit indent (z + n) (blanks ++ y))
-    at_column z n e h = subst (λ (i : ℕ). IsTrue (tabs_fit indent i (blanks ++ y)))
+    at_column : (z n : ℕ) → z ≡ 0 → IsFalse (reaches_tabbed indent n false (blanks ++ y))
+        → IsFalse (reaches_tabbed indent (z + n) false (blanks ++ y))
+    at_column z n e h = subst (λ (i : ℕ). IsFalse (reaches_tabbed indent i false (blanks ++ y)))
         (sym (ap (λ (i : ℕ). i + n) e ∙ none n)) h
 
-feed_fits : (indent n : ℕ) (y : List ℕ) → IsTrue (tabs_fit indent 0 y) → IsTrue (tabs_fit indent n (10 ∷ y))
+feed_fits : (indent n : ℕ) (y : List ℕ) → IsFalse (reaches_tabbed indent 0 false y)
+    → IsFalse (reaches_tabbed indent n false (10 ∷ y))
 feed_fits indent n y h = h
 
-line_fits : (indent : ℕ) (t y : List ℕ) → IsEmptyLine indent t → IsTrue (tabs_fit indent 0 y)
-    → IsTrue (tabs_fit indent 0 (t ++ y))
+line_fits : (indent : ℕ) (t y : List ℕ) → IsEmptyLine indent t → IsFalse (reaches_tabbed indent 0 false y)
+    → IsFalse (reaches_tabbed indent 0 false (t ++ y))
 line_fits indent t y (front, inl (n, low, spaced), is) h =
     let text : t ++ y ≡ spaces n ++ (10 ∷ y) = ap (λ (x : List ℕ). x ++ y)
     (is ∙ ap (λ (x : List ℕ). x ++ (10 ∷ [])) spaced) ∙ append_assoc (spaces n) (10 ∷ []) y in
-    subst (λ (x : List ℕ). IsTrue (tabs_fit indent 0 x)) (sym text)
+    subst (λ (x : List ℕ). IsFalse (reaches_tabbed indent 0 false x)) (sym text)
     (spaces_fit indent 0 n (10 ∷ y) (feed_fits indent n y h))
 line_fits indent t y (front, inr p, is) h =
     let text : t ++ y ≡ front ++ (10 ∷ y) = ap (λ (x : List ℕ). x ++ y) is ∙ append_assoc front (10 ∷ []) y in
-    subst (λ (x : List ℕ). IsTrue (tabs_fit indent 0 x)) (sym text)
+    subst (λ (x : List ℕ). IsFalse (reaches_tabbed indent 0 false x)) (sym text)
     (prefix_fits indent front (10 ∷ y) p (λ i. feed_fits indent i y h))
 
 lines_fit : (indent : ℕ) (ts : List (List ℕ)) (y : List ℕ) → AreEach (IsEmptyLine indent) ts
-    → IsTrue (tabs_fit indent 0 y) → IsTrue (tabs_fit indent 0 (joined ts ++ y))
+    → IsFalse (reaches_tabbed indent 0 false y) → IsFalse (reaches_tabbed indent 0 false (joined ts ++ y))
 lines_fit indent [] y h fits = fits
 lines_fit indent (t ∷ ts) y h fits =
-    subst (λ (x : List ℕ). IsTrue (tabs_fit indent 0 x)) (sym (append_assoc t (joined ts) y))
+    subst (λ (x : List ℕ). IsFalse (reaches_tabbed indent 0 false x)) (sym (append_assoc t (joined ts) y))
     (line_fits indent t (joined ts ++ y) h.0 (lines_fit indent ts y h.1 fits))
 
 -- what stands between two words
 record Gapped (indent : ℕ) (m : Marker) (t : List ℕ) : Type 0 where
   some : t ≢ []
   white : AreWhite t
-  tabs : IsTrue (tabs_fit indent 0 (behind_blanks t))
+  tabs : IsFalse (reaches_tabbed indent 0 false (behind_blanks t))
   indented : (has_line_end t ≡ false) ⊎ (indent ≤ (moved m t).col)
   right : indent ≤ m.col → indent ≤ (moved m t).col
 
@@ -279,10 +282,11 @@ folded_gap indent m t (blanks, lines, front, are, (pieces, each, joins), prefix,
     let many : AreWhite lines = subst AreWhite (sym joins) (lines_white indent pieces each) in
     let all : AreWhite (blanks ++ (10 ∷ (lines ++ front))) = both_white blanks (10 ∷ (lines ++ front))
     (blanks_white blanks are) (refl, both_white lines front many (prefix_white indent front prefix)) in
-    let last : IsTrue (tabs_fit indent 0 front) = subst (λ (x : List ℕ). IsTrue (tabs_fit indent 0 x))
+    let last : IsFalse (reaches_tabbed indent 0 false front) = subst
+    (λ (x : List ℕ). IsFalse (reaches_tabbed indent 0 false x))
     (append-nil front) (prefix_fits indent front [] prefix (λ i. refl)) in
-    let fit : IsTrue (tabs_fit indent 0 (lines ++ front)) = subst
-    (λ (x : List ℕ). IsTrue (tabs_fit indent 0 (x ++ front))) (sym joins)
+    let fit : IsFalse (reaches_tabbed indent 0 false (lines ++ front)) = subst
+    (λ (x : List ℕ). IsFalse (reaches_tabbed indent 0 false (x ++ front))) (sym joins)
     (lines_fit indent pieces front each last) in
     let whole : t ≡ (blanks ++ (10 ∷ lines)) ++ front = is ∙ sym (append_assoc blanks (10 ∷ lines) front) in
     let right : indent ≤ (moved m t).col = subst (λ (k : Marker). indent ≤ k.col)
@@ -291,8 +295,8 @@ folded_gap indent m t (blanks, lines, front, are, (pieces, each, joins), prefix,
     record {
       some = λ e. not_nothing blanks 10 (lines ++ front) (sym is ∙ e);
       white = subst AreWhite (sym is) all;
-      tabs = subst (λ (y : List ℕ). IsTrue (tabs_fit indent 0 (behind_blanks y))) (sym is)
-          (subst (λ (y : List ℕ). IsTrue (tabs_fit indent 0 y))
+      tabs = subst (λ (y : List ℕ). IsFalse (reaches_tabbed indent 0 false (behind_blanks y))) (sym is)
+          (subst (λ (y : List ℕ). IsFalse (reaches_tabbed indent 0 false y))
           (sym (blanks_before blanks 10 (lines ++ front) are refl)) (feed_fits indent 0 (lines ++ front) fit));
       indented = inr right;
       right = λ _. right;
@@ -303,7 +307,7 @@ word_gap indent m t (inl h) =
     record {
       some = h.0;
       white = blanks_white t h.1;
-      tabs = subst (λ (y : List ℕ). IsTrue (tabs_fit indent 0 y)) (sym (blanks_alone t h.1)) refl;
+      tabs = subst (λ (y : List ℕ). IsFalse (reaches_tabbed indent 0 false y)) (sym (blanks_alone t h.1)) refl;
       indented = inl (no_line_end t h.1);
       right = λ low. (blanks_past indent t h.1 m low).right;
     }
@@ -317,7 +321,7 @@ plain_gap f indent m t h e =
       some = g.some;
       white =
           g.white;
-      tabs = inr g.tabs;
+      tabs = g.tabs;
       indented =
           inr (subst (λ (k : Marker). (has_line_end t ≡ false) ⊎ (indent ≤ k.col)) (sym e) g.indented);
     }

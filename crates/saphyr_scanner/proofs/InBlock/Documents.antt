@@ -1,16 +1,14 @@
 -- What stands behind a document, and a document and what parts it from the next are read (YAML 1.2.2, chapter 9).
 use Rattle.std.proofs.Common.{◌≡◌, ℕ, ◌+◌, ◌≤◌, Bool, true, false, List, [], ◌∷◌, ◌++◌, length, slice_index, refl, sym, ap, ◌∙◌, arith, subst, append_assoc, append-nil, ◌⊎◌, inl, inr, IsTrue}
-use Rattle.std.specs.Prelude.{map, ◌||◌, ◌&&◌, ◌==◌, not, nat_lt, nat_le, Option, None}
+use Rattle.std.specs.Prelude.{map, ◌||◌, ◌&&◌, ◌==◌, not, nat_le, Option, None}
 use Rattle.std.proofs.lemmas.Bool.Decides.{nat_tests}
 use Rattle.saphyr_input.specs.Classes.{is_blank, is_break, is_blank_or_breakz, is_yaml_non_break, carriage_return, line_feed}
 use Rattle.saphyr_input.specs.Places.{is_document_start, is_document_indicator}
 use Rattle.saphyr_scalar.specs.declared.scalar.position.Marker.{Marker}
-use Rattle.saphyr_scalar.specs.BlockRead.{spaces}
 use Rattle.saphyr_scalar.specs.Cursor.{◌>>=◌, along, next_line}
-use Rattle.saphyr_scalar.specs.Spaces.{IsComment, IsFiller, IsLastFiller}
+use Rattle.saphyr_scalar.specs.Spaces.{IsFiller, IsLastFiller}
 use Rattle.saphyr_scalar.specs.TagSpelling.{AreIn}
 use Rattle.saphyr_scanner.specs.Steps.Core.{Candidate, is_too_far}
-use Rattle.saphyr_scanner.specs.Steps.Gap.{is_tab_indentation}
 use Rattle.saphyr_scanner.specs.Steps.Queue.{Place}
 use Rattle.saphyr_scanner.specs.Steps.State.{State}
 use Rattle.saphyr_scanner.specs.Steps.Fetch.{fetch, fetch_here}
@@ -36,10 +34,10 @@ use Rattle.saphyr_scanner.proofs.InBlock.States.{Moment, root, moment_at, state_
 use Rattle.saphyr_scanner.proofs.InBlock.Gaps.{past_stops}
 use Rattle.saphyr_scanner.proofs.InBlock.Follows.{goes_alike, left_key, left_again, lands as land, arrives_at, stays_open}
 use Rattle.saphyr_scanner.proofs.InBlock.Closing.{marker_here, marked_alike, stream_ends}
-use Rattle.saphyr_scanner.proofs.InBlock.Skips.{IsClean, has_tab, skipped_append, skipped_clean, filler_skipped, spaces_skipped, comment_ends_clean, comment_ends_no_tab, both_add_no_tab, spaces_add_no_tab, filler_adds_no_tab}
+use Rattle.saphyr_scanner.proofs.InBlock.Skips.{IsClean, skipped_clean, filler_skipped, rest_ends_clean}
 use Rattle.saphyr_scanner.proofs.InBlock.Lines.{Fits, moved_lined}
 use Rattle.saphyr_scanner.proofs.InBlock.Statements.{IsBehind, EndsWithLine, AreRead, as_optional, Leaves}
-use Rattle.saphyr_scanner.proofs.InBlock.Texts.{ink_clean, ink_no_tab, reaches, node_ends, node_behind, entries_ink, pairs_ink}
+use Rattle.saphyr_scanner.proofs.InBlock.Texts.{ink_clean, reaches, node_ends, node_behind, entries_ink, pairs_ink}
 use Rattle.saphyr_scanner.proofs.InBlock.Sequences.{StartsLine, starts_behind}
 use Rattle.saphyr_scanner.proofs.InBlock.Nodes.{reads_node}
 use Rattle.saphyr_scalar.proofs.Given.{cursor_at}
@@ -59,10 +57,9 @@ HasNoReturn t = AreIn (λ c. not (c == carriage_return)) t
 abbrev pub Lands : Marker → List ℕ → Type 0
 Lands m o = EndsDocument (past 0 m o).0 (past 0 m o).1
 
--- behind a document no tab stands among the blanks before the next token
+-- behind a document no tab stands before the next token on its line
 pub record IsPlainBehind (o : List ℕ) : Type 0 where
   pub clean : IsClean o
-  pub no_tab : has_tab o ≡ false
 
 -- ## What stands behind a document ends it
 
@@ -76,34 +73,17 @@ some_left c cs m (inr e) = absurd (cc)
 pub plain_marked : (filler : List ℕ) (c : ℕ) (cs o : List ℕ) → IsFiller filler → o ≡ filler ++ (c ∷ cs) → IsInk c
     → IsPlainBehind o
 plain_marked filler c cs o filler_is e ink =
-    let k = filler_skipped filler filler_is in
     subst IsPlainBehind (sym e)
-    (record {
-      clean = skipped_clean filler (c ∷ cs) k (ink_clean c cs ink);
-      no_tab =
-          filler_adds_no_tab filler filler_is (c ∷ cs) ∙ ink_no_tab c cs ink;
-    })
+    (record { clean = skipped_clean filler (c ∷ cs) (filler_skipped filler filler_is) (ink_clean c cs ink) })
 
 last_plain : (o : List ℕ) → IsLastFiller o → IsPlainBehind o
-last_plain o (filler, text, filler_is, (front, comment, (n, low, spaced), k, text_is), is) =
-    let s = skipped_append filler (spaces n) (filler_skipped filler filler_is) (spaces_skipped n) in
-    let whole : o ≡ (filler ++ spaces n) ++ comment = is ∙ ap (λ (x : List ℕ). filler ++ x)
-    (text_is ∙ ap (λ (x : List ℕ). x ++ comment) spaced) ∙ sym (append_assoc filler (spaces n) comment) in
+last_plain o (filler, text, filler_is, (front, comment, are, k, text_is), is) =
+    let whole : o ≡ filler ++ (front ++ comment) = is ∙ ap (λ (x : List ℕ). filler ++ x) text_is in
     subst IsPlainBehind (sym whole)
     (record {
-      clean = skipped_clean (filler ++ spaces n) comment s (by_clean k);
-      no_tab =
-          both_add_no_tab filler (spaces n) (filler_adds_no_tab filler filler_is) (spaces_add_no_tab n) comment
-          ∙ by_tab k;
+      clean = skipped_clean filler (front ++ comment) (filler_skipped filler filler_is)
+          (λ least m blank. rest_ends_clean front comment are k least m blank false);
     })
-  where
-    by_clean : (comment ≡ []) ⊎ IsComment comment → IsClean comment
-    by_clean (inl e) = subst IsClean (sym e) (λ least m blank. refl)
-    by_clean (inr h) = comment_ends_clean comment h
-
-    by_tab : (comment ≡ []) ⊎ IsComment comment → has_tab comment ≡ false
-    by_tab (inl e) = ap has_tab e
-    by_tab (inr h) = comment_ends_no_tab comment h
 
 dash_ink : IsInk 45
 dash_ink = record { blank = refl; break = refl; comment = refl; byte_order_mark = refl }
@@ -393,7 +373,7 @@ reads_root {limit} {start} leaves place flat_place node t others ts h lands plai
     let m = moved v.mark t in
     let line = lined m others (starts_behind v.mark t others ends) in
     let behind : IsBehind 0 m others =
-    record { left = inl (lands m line); clean = plain.clean; no_tab = plain.no_tab } in
+    record { left = inl (lands m line); clean = plain.clean } in
     let r = reads_node leaves node place root (sym flat_place) v.mark t others h fits behind start ts before in
     let u = r.arrived.at in
     let p = past 0 m others in

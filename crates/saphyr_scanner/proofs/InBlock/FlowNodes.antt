@@ -9,8 +9,7 @@ use Rattle.saphyr_scalar.specs.declared.scalar.position.Marker.{Marker}
 use Rattle.saphyr_scalar.specs.Spaces.{IsEol}
 use Rattle.saphyr_scanner.specs.Steps.Core.{Candidate, least_column}
 use Rattle.saphyr_scanner.specs.Grammar.Forest.{Node, Alias, Scalar, Seq, Map}
-use Rattle.saphyr_scanner.specs.Grammar.BlockNodes as layout
-use Rattle.saphyr_scanner.specs.Grammar.BlockNodes.{Position, indent_at, IsFlowInBlock}
+use Rattle.saphyr_scanner.specs.Grammar.BlockNodes.{Position, IsFlowInBlock}
 use Rattle.saphyr_scanner.specs.Grammar.FlowNodes.{IsFlowNode}
 use Rattle.saphyr_scanner.specs.Steps.Passing.{goes_on_behind}
 use Rattle.saphyr_scanner.specs.Grammar.TokenGrammar as grammar
@@ -34,7 +33,7 @@ use Rattle.saphyr_scanner.proofs.InBlock.Scalars.{gap_reaches, lands_behind}
 use Rattle.saphyr_scanner.proofs.InBlock.Crossings.{content_crosses}
 use Rattle.saphyr_scanner.proofs.InBlock.Statements.{context_at, ReadsAt, allows_block}
 use Rattle.saphyr_scanner.proofs.InBlock.Texts.{further_ink}
-use Rattle.saphyr_scanner.proofs.InBlock.Untabbed.{untabbed_past, settles}
+use Rattle.saphyr_scanner.proofs.InBlock.Untabbed.{clean_past, settles}
 use Rattle.saphyr_input.proofs.Basics.Booleans.{or_true_swap}
 use Rattle.saphyr_scalar.proofs.Given.{cursor_at}
 use Rattle.saphyr_scanner.proofs.Taken.States.{too_far}
@@ -215,7 +214,7 @@ reads_flow reads limit short node place f same m t o (gap, text, end, gap_is, no
     let q = past 0 (moved m t) o in
     let lands_at : f.indent ≤ n.col → past f.indent n rest ≡ q =
     λ right. eol_moved f.indent n end o end_is right ∙ ap (λ (k : Marker). past f.indent k o) (sym place_is)
-    ∙ untabbed_past f.indent (moved m t) o behind.no_tab in
+    ∙ clean_past f.indent (moved m t) o behind.clean in
     let root = behind_root f n end o end_is q lands_at (past_stops (moved m t) o) behind.left in
     let start_low = v.low in
     let on = past_low f.indent at (text ++ rest) in

@@ -1,4 +1,5 @@
--- A node at block level stands where more text follows as well, if what stands behind it ends with a break.
+-- A node at block level stands where more text follows as well, if what stands behind it ends with a break and has a
+-- token.
 use Rattle.std.proofs.Common.{◌≡◌, ℕ, zero, suc, Bool, true, false, List, [], ◌∷◌, ◌++◌, slice_index, refl, sym, ap, ◌∙◌, subst, append_assoc, ◌⊎◌, inl, inr}
 use Rattle.saphyr_input.specs.Classes.{is_z, is_yaml_non_break}
 use Rattle.saphyr_input.specs.Places.{is_document_indicator}
@@ -11,10 +12,15 @@ use Rattle.saphyr_scalar.specs.declared.reading.block.BlockStyle.{BlockStyle}
 use Rattle.saphyr_scalar.specs.declared.reading.block.BlockStyle.TheVariants as block
 use Rattle.saphyr_scalar.specs.declared.reading.block.Chomping.{Chomping}
 use Rattle.saphyr_scanner.specs.Grammar.Forest.{Style, Literal, Folded, Plain, SingleQuoted, DoubleQuoted, Node, Alias, Scalar, Seq, Map, Nodes, NoNode, MoreNodes, Pairs, NoPair, MorePairs, Document}
-use Rattle.saphyr_scanner.specs.Grammar.BlockNodes.{Position, BehindDash, BehindMark, BehindKey, BehindMarker, AtStart, indent_at, IsFlowInBlock, IsBehindScalar, IsBlockScalarText, IsStyled, IsBlockPair, IsBlockNode, AreEntries, AreOtherEntries, ArePairs, AreOtherPairs}
+use Rattle.saphyr_scanner.specs.Grammar.BlockNodes.{Position, BehindDash, BehindMark, BehindKey, BehindMarker, AtStart, indent_at, IsFlowInBlock, IsBehindQuestion, has_tab_ahead, IsBehindScalar, IsBlockScalarText, IsStyled, IsBlockPair, IsBlockNode, AreEntries, AreOtherEntries, ArePairs, AreOtherPairs}
 use Rattle.saphyr_scanner.specs.Grammar.Layout as layout
 use Rattle.saphyr_scanner.specs.Grammar.Layout.{most_open}
 use Rattle.saphyr_scanner.proofs.InBlock.MarkedLines.{fed_marker}
+use Rattle.saphyr_scalar.specs.declared.scalar.position.Marker.{Marker}
+use Rattle.saphyr_scanner.proofs.Flow.States.{moved}
+use Rattle.saphyr_scanner.proofs.InBlock.Statements.{EndsWithLine, Leaves}
+use Rattle.saphyr_scanner.proofs.InBlock.Texts.{ends_back, node_ends, other_entries_end, other_pairs_end}
+use Rattle.saphyr_scanner.proofs.InBlock.TabsAhead.{TellsTabs, tells_behind}
 
 -- ## Texts that end with a break
 
@@ -250,128 +256,169 @@ flow_further : (more : List ℕ) (room : ℕ) (node : Node) (place : Position) (
 flow_further more room node place t o fed (gap, text, end, gap_is, is, end_is, e) =
     (gap, text, end, gap_is, is, end_further more end o fed end_is, e)
 
--- how a node stands before what ends with a break
-abbrev GoesOn : List ℕ → (Position → List ℕ → List ℕ → Type 0) → Type 0
-GoesOn more Is = (place : Position) (t o : List ℕ) → EndsFed o → Is place t o → Is place t (o ++ more)
+-- What stands behind ends with a break, and before it is told whether a tab stands ahead.
+pub record IsAhead (more o : List ℕ) : Type 0 where
+  pub fed : EndsFed o
+  pub tells : TellsTabs more o
 
-pair_further : (more : List ℕ) (room : ℕ) (key value : Node) → GoesOn more (IsBlockNode room key)
-    → GoesOn more (IsBlockNode room value)
-    → (m : ℕ) (t o : List ℕ) → EndsFed o
-    → IsBlockPair room key value (IsBlockNode room key) (IsBlockNode room value) m t o
-    → IsBlockPair room key value (IsBlockNode room key) (IsBlockNode room value) m t (o ++ more)
-pair_further more room key value K V m t o fed (inl (node, between, v, node_is, line, spaced, before, short, h, e)) =
-    inl (node, between, v, node_is, line, spaced, before, short, V (BehindKey m) v o fed h, e)
-pair_further more room key value K V m t o fed (inr (inl (node, out, some, h, e))) =
-    inr (inl (node, out, some, K (BehindMark m) node o fed h, e))
-pair_further more room key value K V m t o fed (inr (inr (node, colon, v, some, h, mark, k, e))) =
-    let text : (colon ++ (v ++ o)) ++ more ≡ colon ++ (v ++ (o ++ more)) =
+-- in front of it stands what ends a line
+ends_fed : (t o : List ℕ) → EndsFed o → EndsWithLine t o → (m : Marker) → (moved m t).col ≡ 0
+ends_fed t o fed (inl h) = h
+ends_fed t o fed (inr e) = absurd (none_fed o fed e)
+
+ahead_front : (more t o : List ℕ) → (t ≡ []) ⊎ EndsWithLine t o → IsAhead more o → IsAhead more (t ++ o)
+ahead_front more t o (inl e) h = subst (λ (x : List ℕ). IsAhead more (x ++ o)) (sym e) h
+ahead_front more t o (inr e) h =
+    record { fed = fed_front t o h.fed; tells = tells_behind t o more (ends_fed t o h.fed e) h.tells }
+
+question_further : (more node o : List ℕ) → EndsWithLine node o → IsAhead more o → IsBehindQuestion node o
+    → IsBehindQuestion node (o ++ more)
+question_further more node o ends h (some, clear) = (
+  some,
+  ap (has_tab_ahead false) (sym (append_assoc node o more))
+      ∙ tells_behind node o more (ends_fed node o h.fed ends) h.tells ∙ clear,
+)
+
+-- how a node stands before that
+abbrev GoesOn : List ℕ → (Position → List ℕ → List ℕ → Type 0) → Type 0
+GoesOn more Is = (place : Position) (t o : List ℕ) → IsAhead more o → Is place t o → Is place t (o ++ more)
+
+pair_further : (more : List ℕ) {limit : ℕ} → Leaves limit → (key value : Node) → GoesOn more (IsBlockNode 255 key)
+    → GoesOn more (IsBlockNode 255 value)
+    → (m : ℕ) (t o : List ℕ) → IsAhead more o
+    → IsBlockPair 255 key value (IsBlockNode 255 key) (IsBlockNode 255 value) m t o
+    → IsBlockPair 255 key value (IsBlockNode 255 key) (IsBlockNode 255 value) m t (o ++ more)
+pair_further more leaves key value K V m t o ahead
+    (inl (node, between, v, node_is, line, spaced, before, short, h, e)) =
+    inl (node, between, v, node_is, line, spaced, before, short, V (BehindKey m) v o ahead h, e)
+pair_further more leaves key value K V m t o ahead (inr (inl (node, out, some, h, e))) =
+    inr (inl (
+      node,
+      out,
+      question_further more node o (node_ends leaves key (BehindMark m) node o h) ahead some,
+      K (BehindMark m) node o ahead h,
+      e,
+    ))
+pair_further more leaves key value K V m t o ahead (inr (inr (node, colon, v, some, h, mark, k, e))) =
+    let y = colon ++ (v ++ o) in
+    let text : y ++ more ≡ colon ++ (v ++ (o ++ more)) =
     append_assoc colon (v ++ o) more ∙ ap (λ (x : List ℕ). colon ++ x) (append_assoc v o more) in
+    let ends = ends_back colon v o (node_ends leaves value (BehindMark m) v o k) in
+    let ahead_y : IsAhead more y = subst (IsAhead more) (append_assoc colon v o)
+    (ahead_front more (colon ++ v) o (inr ends) ahead) in
     inr (inr (
       node,
       colon,
       v,
-      some,
-      subst (IsBlockNode room key (BehindMark m) node) text
-          (K (BehindMark m) node (colon ++ (v ++ o)) (fed_front colon (v ++ o) (fed_front v o fed)) h),
+      subst (IsBehindQuestion node) text
+          (question_further more node y (node_ends leaves key (BehindMark m) node y h) ahead_y some),
+      subst (IsBlockNode 255 key (BehindMark m) node) text (K (BehindMark m) node y ahead_y h),
       mark,
       V
-          (BehindMark m) v o fed k,
+          (BehindMark m) v o ahead k,
       e,
     ))
 
 mutual
-  pub node_further : (more : List ℕ) (room : ℕ) (node : Node) (place : Position) (t o : List ℕ) → EndsFed o
-      → IsBlockNode room node place t o → IsBlockNode room node place t (o ++ more)
-  node_further more room (Alias name) place t o fed h = flow_further more room (Alias name) place t o fed h
-  node_further more room (Scalar p style value) place t o fed (inl (none, start, end)) =
-      inl (none, start, eol_further more t o fed end)
-  node_further more room (Scalar p style value) place t o fed (inr (inl h)) =
-      inr (inl (flow_further more room (Scalar p style value) place t o fed h))
-  node_further more room (Scalar p style value) place t o fed (inr (inr (gap, front, scalar, gap_is, front_is, h, e))) =
+  pub node_further : (more : List ℕ) {limit : ℕ} → Leaves limit → (node : Node) (place : Position) (t o : List ℕ)
+      → IsAhead more o → IsBlockNode 255 node place t o → IsBlockNode 255 node place t (o ++ more)
+  node_further more leaves (Alias name) place t o ahead h = flow_further more 255 (Alias name) place t o ahead.fed h
+  node_further more leaves (Scalar p style value) place t o ahead (inl (none, start, end)) =
+      inl (none, start, eol_further more t o ahead.fed end)
+  node_further more leaves (Scalar p style value) place t o ahead (inr (inl h)) =
+      inr (inl (flow_further more 255 (Scalar p style value) place t o ahead.fed h))
+  node_further more leaves (Scalar p style value) place t o ahead
+      (inr (inr (gap, front, scalar, gap_is, front_is, h, e))) =
       inr (inr (
         gap,
         front,
         scalar,
         gap_is,
         front_is,
-        styled_further more style value (indent_at place) scalar o fed h,
+        styled_further more style value (indent_at place) scalar o ahead.fed h,
         e,
       ))
-  node_further more room (Seq p nodes) place t o fed (inl h) =
-      inl (flow_further more room (Seq p nodes) place t o fed h)
-  node_further more room (Seq p nodes) place t o fed (inr (m, lead, entries, lead_is, h, e)) =
-      inr (m, lead, entries, lead_is, entries_further more room nodes m entries o fed h, e)
-  node_further more room (Map p pairs) place t o fed (inl h) =
-      inl (flow_further more room (Map p pairs) place t o fed h)
-  node_further more room (Map p pairs) place t o fed (inr (m, lead, entries, lead_is, h, e)) =
-      inr (m, lead, entries, lead_is, pairs_further more room pairs m entries o fed h, e)
+  node_further more leaves (Seq p nodes) place t o ahead (inl h) =
+      inl (flow_further more 255 (Seq p nodes) place t o ahead.fed h)
+  node_further more leaves (Seq p nodes) place t o ahead (inr (m, lead, entries, lead_is, h, e)) =
+      inr (m, lead, entries, lead_is, entries_further more leaves nodes m entries o ahead h, e)
+  node_further more leaves (Map p pairs) place t o ahead (inl h) =
+      inl (flow_further more 255 (Map p pairs) place t o ahead.fed h)
+  node_further more leaves (Map p pairs) place t o ahead (inr (m, lead, entries, lead_is, h, e)) =
+      inr (m, lead, entries, lead_is, pairs_further more leaves pairs m entries o ahead h, e)
 
-  entries_further : (more : List ℕ) (room : ℕ) (nodes : Nodes) (m : ℕ) (t o : List ℕ) → EndsFed o
-      → AreEntries room nodes m t o → AreEntries room nodes m t (o ++ more)
-  entries_further more room NoNode m t o fed h = absurd h
-  entries_further more room (MoreNodes node nodes) m t o fed (entry, others, h, k, e) = (
+  entries_further : (more : List ℕ) {limit : ℕ} → Leaves limit → (nodes : Nodes) (m : ℕ) (t o : List ℕ)
+      → IsAhead more o → AreEntries 255 nodes m t o → AreEntries 255 nodes m t (o ++ more)
+  entries_further more leaves NoNode m t o ahead h = absurd h
+  entries_further more leaves (MoreNodes node nodes) m t o ahead (entry, others, h, k, e) = (
     entry,
     others,
-    subst (IsBlockNode room node (BehindDash m) entry) (append_assoc others o more)
-        (node_further more room node (BehindDash m) entry (others ++ o) (fed_front others o fed) h),
-    other_entries_further more room nodes m others o fed k,
+    subst (IsBlockNode 255 node (BehindDash m) entry) (append_assoc others o more)
+        (node_further more leaves node (BehindDash m) entry (others ++ o)
+        (ahead_front more others o (other_entries_end leaves nodes m others o k) ahead) h),
+    other_entries_further more leaves nodes m others o ahead k,
     e,
   )
 
-  other_entries_further : (more : List ℕ) (room : ℕ) (nodes : Nodes) (m : ℕ) (t o : List ℕ) → EndsFed o
-      → AreOtherEntries room nodes m t o → AreOtherEntries room nodes m t (o ++ more)
-  other_entries_further more room NoNode m t o fed h = h
-  other_entries_further more room (MoreNodes node nodes) m t o fed (front, entry, others, front_is, h, k, e) = (
+  other_entries_further : (more : List ℕ) {limit : ℕ} → Leaves limit → (nodes : Nodes) (m : ℕ) (t o : List ℕ)
+      → IsAhead more o → AreOtherEntries 255 nodes m t o → AreOtherEntries 255 nodes m t (o ++ more)
+  other_entries_further more leaves NoNode m t o ahead h = h
+  other_entries_further more leaves (MoreNodes node nodes) m t o ahead (front, entry, others, front_is, h, k, e) = (
     front,
     entry,
     others,
     front_is,
-    subst (IsBlockNode room node (BehindDash m) entry) (append_assoc others o more)
-        (node_further more room node (BehindDash m) entry (others ++ o) (fed_front others o fed) h),
-    other_entries_further more room nodes m others o fed k,
+    subst (IsBlockNode 255 node (BehindDash m) entry) (append_assoc others o more)
+        (node_further more leaves node (BehindDash m) entry (others ++ o)
+        (ahead_front more others o (other_entries_end leaves nodes m others o k) ahead) h),
+    other_entries_further more leaves nodes m others o ahead k,
     e,
   )
 
-  pairs_further : (more : List ℕ) (room : ℕ) (pairs : Pairs) (m : ℕ) (t o : List ℕ) → EndsFed o
-      → ArePairs room pairs m t o → ArePairs room pairs m t (o ++ more)
-  pairs_further more room NoPair m t o fed h = absurd h
-  pairs_further more room (MorePairs key value pairs) m t o fed (pair, others, h, k, e) = (
+  pairs_further : (more : List ℕ) {limit : ℕ} → Leaves limit → (pairs : Pairs) (m : ℕ) (t o : List ℕ)
+      → IsAhead more o → ArePairs 255 pairs m t o → ArePairs 255 pairs m t (o ++ more)
+  pairs_further more leaves NoPair m t o ahead h = absurd h
+  pairs_further more leaves (MorePairs key value pairs) m t o ahead (pair, others, h, k, e) = (
     pair,
     others,
-    subst (IsBlockPair room key value (IsBlockNode room key) (IsBlockNode room value) m pair)
+    subst (IsBlockPair 255 key value (IsBlockNode 255 key) (IsBlockNode 255 value) m pair)
         (append_assoc others o more)
-        (pair_further more room key value (λ place u z f k. node_further more room key place u z f k)
-        (λ place u z f k. node_further more room value place u z f k) m pair (others ++ o) (fed_front others o fed)
+        (pair_further more leaves key value (λ place u z f l. node_further more leaves key place u z f l)
+        (λ place u z f l. node_further more leaves value place u z f l) m pair (others ++ o)
+        (ahead_front more others o (other_pairs_end leaves pairs m others o k) ahead)
         h),
-    other_pairs_further more room pairs m others o fed k,
+    other_pairs_further more leaves pairs m others o ahead k,
     e,
   )
 
-  other_pairs_further : (more : List ℕ) (room : ℕ) (pairs : Pairs) (m : ℕ) (t o : List ℕ) → EndsFed o
-      → AreOtherPairs room pairs m t o → AreOtherPairs room pairs m t (o ++ more)
-  other_pairs_further more room NoPair m t o fed h = h
-  other_pairs_further more room (MorePairs key value pairs) m t o fed (front, pair, others, front_is, h, k, e) = (
+  other_pairs_further : (more : List ℕ) {limit : ℕ} → Leaves limit → (pairs : Pairs) (m : ℕ) (t o : List ℕ)
+      → IsAhead more o → AreOtherPairs 255 pairs m t o → AreOtherPairs 255 pairs m t (o ++ more)
+  other_pairs_further more leaves NoPair m t o ahead h = h
+  other_pairs_further more leaves (MorePairs key value pairs) m t o ahead (front, pair, others, front_is, h, k, e) = (
     front,
     pair,
     others,
     front_is,
-    subst (IsBlockPair room key value (IsBlockNode room key) (IsBlockNode room value) m pair)
+    subst (IsBlockPair 255 key value (IsBlockNode 255 key) (IsBlockNode 255 value) m pair)
         (append_assoc others o more)
-        (pair_further more room key value (λ place u z f k. node_further more room key place u z f k)
-        (λ place u z f k. node_further more room value place u z f k) m pair (others ++ o) (fed_front others o fed)
+        (pair_further more leaves key value (λ place u z f l. node_further more leaves key place u z f l)
+        (λ place u z f l. node_further more leaves value place u z f l) m pair (others ++ o)
+        (ahead_front more others o (other_pairs_end leaves pairs m others o k) ahead)
         h),
-    other_pairs_further more room pairs m others o fed k,
+    other_pairs_further more leaves pairs m others o ahead k,
     e,
   )
 
 -- ## Documents
 
-pub document_further : (more : List ℕ) (d : Document) (free : Bool) (t o : List ℕ) → EndsFed o
+pub document_further : (more : List ℕ) {limit : ℕ} → Leaves limit → (d : Document) (free : Bool) (t o : List ℕ)
+    → IsAhead more o
     → layout.IsDocument (IsBlockNode most_open) d free t o
     → layout.IsDocument (IsBlockNode most_open) d free t (o ++ more)
-document_further more d free t o fed (inl (is_free, (same, unmarked, is))) =
-    inl (is_free, (same, unmarked, node_further more most_open d.node AtStart t o fed is))
-document_further more d free t o fed (inr (may, (directives, node, explicit, compatible, are, unmarked, is, e))) =
+document_further more leaves d free t o ahead (inl (is_free, (same, unmarked, is))) =
+    inl (is_free, (same, unmarked, node_further more leaves d.node AtStart t o ahead is))
+document_further more leaves d free t o ahead
+    (inr (may, (directives, node, explicit, compatible, are, unmarked, is, e))) =
     inr (
       may,
       (
@@ -381,8 +428,8 @@ document_further more d free t o fed (inr (may, (directives, node, explicit, com
         compatible,
         are,
         unmarked,
-        node_further more most_open d.node BehindMarker
-            node o fed is,
+        node_further more leaves d.node BehindMarker
+            node o ahead is,
         e,
       ),
     )

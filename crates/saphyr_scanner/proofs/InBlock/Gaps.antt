@@ -14,6 +14,7 @@ use Rattle.saphyr_scanner.proofs.InBlock.States.{IsStop, tabbed, tabbed_comment,
 use Rattle.saphyr_input.proofs.Basics.Characters.{no_return_and}
 use Rattle.saphyr_input.proofs.Basics.Booleans.{or_false_left}
 use Rattle.std.proofs.Math.Bool.{or-false, or-true}
+use Rattle.saphyr_scanner.proofs.Flow.Gaps.{stop_ends}
 
 -- ## Where `gap` stops
 
@@ -98,7 +99,8 @@ comment_kind least m blank broke tab c cs false false false e f g word on line =
 
 mutual
   gap_stops : (least : ℕ) (m : Marker) (blank broke tab : Bool) (t : List ℕ) → Stops least m blank broke tab t
-  gap_stops least m blank broke tab [] = record { still_blank = blank; is = rw (or-false broke) refl; stop = tt }
+  gap_stops least m blank broke tab [] =
+      record { still_blank = blank; is = stop_ends m blank broke tab ∙ rw (or-false broke) refl; stop = tt }
   gap_stops least m blank broke tab (c ∷ cs) =
       gap_kind least m blank broke tab c cs (is_blank c || ((c == 13) && (slice_index cs 0 == 10))) (is_break c)
       (c == 35) refl refl refl
@@ -108,7 +110,8 @@ mutual
 
   comment_stops : (least : ℕ) (m : Marker) (blank broke tab : Bool) (t : List ℕ)
       → StopsComment least m blank broke tab t
-  comment_stops least m blank broke tab [] = record { still_blank = blank; is = rw (or-false broke) refl; stop = tt }
+  comment_stops least m blank broke tab [] =
+      record { still_blank = blank; is = stop_ends m blank broke tab ∙ rw (or-false broke) refl; stop = tt }
   comment_stops least m blank broke tab (c ∷ cs) =
       comment_kind least m blank broke tab c cs (is_yaml_non_break c) ((c == 13) && (slice_index cs 0 == 10))
       (is_break c) refl refl refl
@@ -175,9 +178,10 @@ pub stop_crosses : (y : List ℕ) → IsStop y → crosses y ≡ false
 stop_crosses [] h = refl
 stop_crosses (c ∷ cs) h = rw (h.0, no_return_and c (slice_index cs 0 == 10) h.1, h.1, h.2) refl
 
-pub stop_tabbed : (least : ℕ) (m : Marker) (blank tab : Bool) (y : List ℕ) → IsStop y → tabbed least m blank tab y ≡ tab
-stop_tabbed least m blank tab [] h = refl
-stop_tabbed least m blank tab (c ∷ cs) h = rw (h.0, no_return_and c (slice_index cs 0 == 10) h.1, h.1, h.2) refl
+pub stop_tabbed : (least : ℕ) (m : Marker) (blank : Bool) (y : List ℕ) → IsStop y
+    → tabbed least m blank false y ≡ false
+stop_tabbed least m blank [] h = refl
+stop_tabbed least m blank (c ∷ cs) h = rw (h.0, no_return_and c (slice_index cs 0 == 10) h.1, h.1, h.2) refl
 
 pub stop_past : (m : Marker) (y : List ℕ) → IsStop y → past 0 m y ≡ (m, y)
 stop_past m [] h = refl

@@ -1,16 +1,15 @@
 -- Where lines begin in a text, and pieces of which no document marker begins a line.
 use Rattle.std.proofs.Common.{◌≡◌, ℕ, Bool, true, false, List, [], ◌∷◌, ◌++◌, IsTrue, refl, sym, ap, ◌∙◌, arith, subst, append_assoc, append-nil, ◌⊎◌, inl, inr}
 use Rattle.std.proofs.lemmas.Bool.Decides.{nat_tests}
-use Rattle.std.specs.Prelude.{◌||◌, ◌&&◌, ◌==◌, not}
+use Rattle.std.specs.Prelude.{◌&&◌, ◌==◌, not}
 use Rattle.saphyr_input.specs.Classes.{line_feed, is_blank, is_yaml_non_break}
 use Rattle.saphyr_input.specs.Places.{is_document_indicator}
-use Rattle.saphyr_scalar.specs.BlockRead.{spaces}
 use Rattle.saphyr_scalar.specs.Spaces.{IsComment, IsLastFiller, IsLineRest, IsEol}
 use Rattle.saphyr_scalar.specs.TagSpelling.{AreIn}
 use Rattle.saphyr_scanner.specs.Grammar.Layout.{IsDocumentPrefix}
 use Rattle.saphyr_scanner.proofs.Flow.States.{marks_line}
 use Rattle.saphyr_scanner.proofs.Flow.Fillers.{behind_is}
-use Rattle.saphyr_scanner.proofs.InBlock.Skips.{IsSkipped, nothing, one_space, one_break, one_rest, spaces_skipped, filler_skipped}
+use Rattle.saphyr_scanner.proofs.InBlock.Skips.{IsSkipped, nothing, one_space, one_break, one_rest, filler_skipped}
 use Rattle.std.proofs.lemmas.Bool.{or_parts, or_from, and_right}
 use Rattle.saphyr_input.proofs.Basics.Characters.{non_break_no_feed, no_marker_at}
 
@@ -103,9 +102,8 @@ skipped_unmarked _ (one_rest blanks comment w are k h) at_start o =
     (λ s p. first_unmarked 10 w p refl refl (skipped_unmarked w h true p) s)) at_start o
 
 pub last_unmarked : (t : List ℕ) → IsLastFiller t → IsUnmarked t
-last_unmarked t (filler, text, filler_is, (front, comment, (n, low, spaced), k, text_is), e) =
-    let last = both_unmarked front comment
-    (subst IsUnmarked (sym spaced) (skipped_unmarked (spaces n) (spaces_skipped n))) (comment_unmarked comment k) in
+last_unmarked t (filler, text, filler_is, (front, comment, are, k, text_is), e) =
+    let last = both_unmarked front comment (blanks_unmarked front are) (comment_unmarked comment k) in
     subst IsUnmarked (sym e)
     (both_unmarked filler text (skipped_unmarked filler (filler_skipped filler filler_is))
     (subst IsUnmarked (sym text_is) last))

@@ -22,7 +22,7 @@ use Rattle.saphyr_scanner.proofs.InBlock.Entries.{BeginsWhite, frame_behind}
 use Rattle.saphyr_scanner.proofs.InBlock.Marks.{key_kinds, reads_question, reads_value, reads_colon}
 use Rattle.saphyr_scanner.proofs.InBlock.Statements.{IsBehind, ArrivedAt, Arrived, EndsWithLine, as_optional, ReadsAt, Leaves, PairsRead}
 use Rattle.saphyr_scanner.proofs.InBlock.Texts.{node_ends, pair_ends, node_behind, pair_ink, further_ink, behind_indented, indentation_skipped, indentation_col, reaches, spaces_moved}
-use Rattle.saphyr_scanner.proofs.InBlock.TabsAhead.{question_clear}
+use Rattle.saphyr_scanner.proofs.InBlock.TabsAhead.{no_tab_ahead}
 use Rattle.saphyr_scanner.proofs.InBlock.Sequences.{StartsLine, starts_behind, not_empty, frame_indent, suc_is, goes_on}
 use Rattle.saphyr_input.proofs.Basics.Numbers.{next_not_within}
 
@@ -142,8 +142,7 @@ reads_alone {limit} leaves key value K f n further e far t z (node, out, some, h
     let ahead = node_behind leaves key (BehindMark n.col) node z refl h behind_k.clean in
     let p = subst (λ (y : List ℕ). (w : At limit start f n y ts) × (w.allowed ≡ true)) text (at_mark, allowed) in
     let b = reads_question f n (node ++ z) further e far (some_white node z some.0 ahead.white)
-    (question_clear node z some (node_ends leaves key (BehindMark n.col) node z h) behind_k.no_tab) whole.below p.0
-    p.1 in
+    (no_tab_ahead (node ++ z) some.1) whole.below p.0 p.1 in
     let r = K (BehindMark n.col) g (frame_same further f n.col e far) (along n 1) node z h
     (fits_back n (63 ∷ []) node z whole)
     (subst (λ (i : ℕ). IsBehind i (moved (along n 1) node) z) (sym (frame_same further f n.col e far)) behind_k) start
@@ -216,7 +215,7 @@ reads_marked {limit} leaves key value K V f n further e far t z
     let ahead_v = node_behind leaves value (BehindMark n.col) v z refl j behind_v.clean in
     let p = subst (λ (x : List ℕ). (u : At limit start f n x ts) × (u.allowed ≡ true)) text (at_mark, allowed) in
     let b = reads_question f n (node ++ y) further e far (some_white node y some.0 ahead_k.white)
-    (question_clear node y some (node_ends leaves key (BehindMark n.col) node y h) behind_k.no_tab)
+    (no_tab_ahead (node ++ y) some.1)
     (subst (λ (x : List ℕ). n.index + length x ≤ limit) text fits.below) p.0 p.1 in
     let r = K (BehindMark n.col) g same (along n 1) node y h fits_key
     (subst (λ (i : ℕ). IsBehind i k y) (sym same) behind_k) start (ts ++ key_kinds further) b in

@@ -1,10 +1,9 @@
 -- The `?` and the `:` of a block mapping are read (YAML 1.2.2, 8.2.2).
 use Rattle.std.proofs.Common.{◌≡◌, ℕ, zero, suc, ◌+◌, ◌<◌, ◌≤◌, Bool, true, false, List, [], ◌∷◌, ◌++◌, length, slice_index, refl, sym, ap, ◌∙◌, arith, append_assoc, IsTrue, Ok, ◌⊎◌, inl, inr}
-use Rattle.std.specs.Prelude.{◌||◌, ◌&&◌, ◌==◌, not, nat_le, nat_lt, Option, Some, None, if◌then◌else◌}
+use Rattle.std.specs.Prelude.{◌||◌, ◌==◌, not, nat_le, nat_lt, Option, Some, None, if◌then◌else◌}
 use Rattle.std.proofs.lemmas.Bool.Decides.{nat_tests}
 use Rattle.std.proofs.lemmas.List.{length-append}
 use Rattle.saphyr_input.specs.Classes.{is_alpha, is_blank, is_blank_or_breakz}
-use Rattle.saphyr_input.specs.Places.{is_document_indicator}
 use Rattle.saphyr_scalar.specs.declared.scalar.position.Marker.{Marker}
 use Rattle.saphyr_input.specs.Separation.{found_blanks, has_valid_yaml_ws}
 use Rattle.saphyr_input.specs.declared.input.SkipTabs.{SkipTabs}
@@ -221,7 +220,7 @@ reads_question {limit} {start} {ts} f m o further e far h clean count v allowed 
     (within_index n.index (length y) (m.index + 1) (length o) limit counted
     (shifted m.index (length o) limit count)))
     (mark_are further m n v.places ts v.are) refl refl refl (le_next v.adjacent m.index v.low)
-    (past_again 0 (along m 1) o) (λ least. stop_tabbed least n s.0 false y stop) (or-true (crosses y)) refl
+    (past_again 0 (along m 1) o) (λ least. stop_tabbed least n s.0 y stop) (or-true (crosses y)) refl
 
 -- ## Behind a colon
 

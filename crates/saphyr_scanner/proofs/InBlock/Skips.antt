@@ -7,17 +7,16 @@ use Rattle.saphyr_scalar.specs.declared.scalar.position.Marker.{Marker}
 use Rattle.saphyr_scalar.specs.BlockRead.{spaces}
 use Rattle.saphyr_scalar.specs.Cursor.{along, next_line}
 use Rattle.saphyr_scalar.specs.TagSpelling.{AreIn}
-use Rattle.saphyr_scalar.specs.Spaces.{AreEach, AreSpaces, joined, IsComment, IsCommentBehind, IsLineRest, IsLineEnd, IsFillerLine, IsFiller}
+use Rattle.saphyr_scalar.specs.Spaces.{AreEach, AreSpaces, joined, IsComment, IsLineRest, IsLineEnd, IsFillerLine, IsFiller}
 use Rattle.saphyr_scanner.specs.Steps.Gap as gap
 use Rattle.saphyr_scanner.specs.Steps.Gap.{is_tab_indentation}
 use Rattle.saphyr_scanner.proofs.Flow.States.{moved, past, past_comment}
 use Rattle.saphyr_scanner.proofs.Flow.Places.{moved_append}
-use Rattle.saphyr_scanner.proofs.Flow.Fillers.{spaces_are_blank, blanks_past, front_past}
+use Rattle.saphyr_scanner.proofs.Flow.Fillers.{blanks_past, front_past, behind_is}
 use Rattle.saphyr_scanner.proofs.InBlock.Gaps.{no_left}
 use Rattle.saphyr_scanner.proofs.InBlock.States.{tabbed, tabbed_comment, crosses, crosses_comment}
 use Rattle.std.proofs.lemmas.Bool.{or_parts}
-use Rattle.saphyr_input.proofs.Basics.Characters.{ink_no_tab, non_break_feed_fails}
-use Rattle.saphyr_scanner.proofs.Flow.Fillers.{behind_is}
+use Rattle.saphyr_input.proofs.Basics.Characters.{ink_no_tab}
 
 -- ## The text between two tokens
 
@@ -55,10 +54,10 @@ pub line_end_skipped : (t : List ℕ) → IsLineEnd t → IsSkipped t
 line_end_skipped t (rest, h, is) = subst IsSkipped (sym is) (rest_skipped rest [] h nothing)
 
 filler_line_skipped : (t : List ℕ) → IsFillerLine t → IsSkipped t
-filler_line_skipped t (text, (front, c, (n, low, spaced), k, is_text), is) =
-    let whole : t ≡ spaces n ++ (c ++ (10 ∷ [])) = is ∙ ap (λ (x : List ℕ). x ++ (10 ∷ []))
-    (is_text ∙ ap (λ (x : List ℕ). x ++ c) spaced) ∙ append_assoc (spaces n) c (10 ∷ []) in
-    subst IsSkipped (sym whole) (one_rest (spaces n) c [] (spaces_are_blank n) k nothing)
+filler_line_skipped t (text, (front, c, are, k, is_text), is) =
+    let whole : t ≡ front ++ (c ++ (10 ∷ [])) = is ∙ ap (λ (x : List ℕ). x ++ (10 ∷ [])) is_text
+    ∙ append_assoc front c (10 ∷ []) in
+    subst IsSkipped (sym whole) (one_rest front c [] are k nothing)
 
 pub filler_skipped : (t : List ℕ) → IsFiller t → IsSkipped t
 filler_skipped t (pieces, each, is) = subst IsSkipped (sym is) (lines pieces each)
@@ -201,58 +200,24 @@ abbrev mutual
       else if is_break c then has_tab cs
       else false
 
-words_no_tab : (words y : List ℕ) → AreIn is_yaml_non_break words → comment_has_tab (words ++ (10 ∷ y)) ≡ has_tab y
-words_no_tab [] y h = refl
-words_no_tab (c ∷ cs) y h = rw h.0 (words_no_tab cs y h.1)
+-- ## A line without a token at the text's end
 
--- A text that adds no tab: what stands behind it tells whether there is one.
-abbrev pub AddsNoTab : List ℕ → Type 0
-AddsNoTab w = (y : List ℕ) → has_tab (w ++ y) ≡ has_tab y
-
-pub both_add_no_tab : (a b : List ℕ) → AddsNoTab a → AddsNoTab b → AddsNoTab (a ++ b)
-both_add_no_tab a b h k y = ap has_tab (append_assoc a b y) ∙ h (b ++ y) ∙ k y
-
-pub spaces_add_no_tab : (n : ℕ) → AddsNoTab (spaces n)
-spaces_add_no_tab zero y = refl
-spaces_add_no_tab (suc n) y = spaces_add_no_tab n y
-
-comment_adds_no_tab : (c : List ℕ) → (c ≡ []) ⊎ IsComment c → AddsNoTab (c ++ (10 ∷ []))
-comment_adds_no_tab c (inl e) y = ap (λ (x : List ℕ). has_tab ((x ++ (10 ∷ [])) ++ y)) e
-comment_adds_no_tab c (inr (words, are, is)) y =
-    ap (λ (x : List ℕ). has_tab ((x ++ (10 ∷ [])) ++ y)) is ∙ ap comment_has_tab (append_assoc words (10 ∷ []) y)
-    ∙ words_no_tab words y are
-
-filler_line_adds_no_tab : (t : List ℕ) → IsFillerLine t → AddsNoTab t
-filler_line_adds_no_tab t (text, (front, c, (n, low, spaced), k, is_text), is) =
-    let whole : t ≡ spaces n ++ (c ++ (10 ∷ [])) = is ∙ ap (λ (x : List ℕ). x ++ (10 ∷ []))
-    (is_text ∙ ap (λ (x : List ℕ). x ++ c) spaced) ∙ append_assoc (spaces n) c (10 ∷ []) in
-    subst AddsNoTab (sym whole)
-    (both_add_no_tab (spaces n) (c ++ (10 ∷ [])) (spaces_add_no_tab n) (comment_adds_no_tab c k))
-
-pub filler_adds_no_tab : (t : List ℕ) → IsFiller t → AddsNoTab t
-filler_adds_no_tab t (pieces, each, is) = subst AddsNoTab (sym is) (lines pieces each)
-  where
-    lines : (ws : List (List ℕ)) → AreEach IsFillerLine ws → AddsNoTab (joined ws)
-    lines [] h = λ y. refl
-    lines (v ∷ vs) h = both_add_no_tab v (joined vs) (filler_line_adds_no_tab v h.0) (lines vs h.1)
-
--- ## A comment at the text's end
-
-pub comment_ends_clean : (t : List ℕ) → IsComment t → IsClean t
-comment_ends_clean t (words, are, is) least m blank =
-    subst (λ (x : List ℕ). tabbed least m blank false x ≡ false) (sym is) (by_words (along m 1) words are)
+pub comment_ends_clean : (t : List ℕ) → IsComment t → (least : ℕ) (m : Marker) (blank tab : Bool)
+    → tabbed least m blank tab t ≡ false
+comment_ends_clean t (words, are, is) least m blank tab =
+    subst (λ (x : List ℕ). tabbed least m blank tab x ≡ false) (sym is) (by_words (along m 1) words are)
   where
     by_words : (m : Marker) (words : List ℕ) → AreIn is_yaml_non_break words
-        → tabbed_comment least m blank false words ≡ false
+        → tabbed_comment least m blank tab words ≡ false
     by_words m [] h = refl
     by_words m (c ∷ cs) h = rw h.0 (by_words (along m 1) cs h.1)
 
-pub comment_ends_no_tab : (t : List ℕ) → IsComment t → has_tab t ≡ false
-comment_ends_no_tab t (words, are, is) = ap has_tab is ∙ by_words words are
-  where
-    by_words : (words : List ℕ) → AreIn is_yaml_non_break words → comment_has_tab words ≡ false
-    by_words [] h = refl
-    by_words (c ∷ cs) h = rw h.0 (by_words cs h.1)
+pub rest_ends_clean : (blanks comment : List ℕ) → AreIn is_blank blanks → (comment ≡ []) ⊎ IsComment comment
+    → (least : ℕ) (m : Marker) (blank tab : Bool) → tabbed least m blank tab (blanks ++ comment) ≡ false
+rest_ends_clean [] comment are (inl e) least m blank tab = ap (λ (x : List ℕ). tabbed least m blank tab x) e
+rest_ends_clean [] comment are (inr h) least m blank tab = comment_ends_clean comment h least m blank tab
+rest_ends_clean (b ∷ bs) comment are k least m blank tab =
+    rw are.0 (rest_ends_clean bs comment are.1 k least (along m 1) blank (is_tab_indentation least m blank b || tab))
 
 -- ## Behind `?`
 

@@ -20,7 +20,7 @@ use Rattle.saphyr_scanner.proofs.Flow.States.{moved, past}
 use Rattle.saphyr_scanner.proofs.Flow.Inks.{BeginsInk}
 use Rattle.saphyr_scanner.proofs.InBlock.Lines.{Fits}
 use Rattle.saphyr_scanner.proofs.InBlock.States.{Frame, Moment, core_of, state_of, IsUntabbed, EndsDocument, IsLeftOf, Follows, At, Before}
-use Rattle.saphyr_scanner.proofs.InBlock.Skips.{IsClean, has_tab}
+use Rattle.saphyr_scanner.proofs.InBlock.Skips.{IsClean}
 
 -- in which part of the token grammar a node at a place stands
 abbrev pub context_at : Position → grammar.Context
@@ -36,12 +36,10 @@ allows_block BehindMarker = tt
 allows_block AtStart = tt
 
 -- What stands behind a node, from m on: the next token ends the document or stands left of a column, and no tab stands
--- among
--- the blanks before it.
+-- before it on its line.
 pub record IsBehind (column : ℕ) (m : Marker) (o : List ℕ) : Type 0 where
   pub left : IsLeftOf column (past 0 m o).0 (past 0 m o).1
   pub clean : IsClean o
-  pub no_tab : has_tab o ≡ false
 
 -- The scanner stands before what is behind a piece, in a frame, where a key may begin, or the document ends.
 pub record ArrivedAt (limit : ℕ) (start : State) (f : Frame) (ts : List Kind) (q : Marker × List ℕ) : Type 0 where

@@ -88,12 +88,11 @@ state_of f n ps = record { core = core_of f n; queue = queue_of ps }
 
 -- ## Tabs
 
--- Whether a tab stands left of a column, with blanks alone before it, on the line of the next token (of the text's
--- end):
--- what `gap` knows where it stops.
+-- Whether a tab stands left of a column, with blanks alone before it, on the line of the next token: what `gap` knows
+-- where it stops. At the text's end it is no matter.
 abbrev mutual
   pub tabbed : ℕ → Marker → Bool → Bool → List ℕ → Bool
-  tabbed least m blank tab [] = tab
+  tabbed least m blank tab [] = false
   tabbed least m blank tab (c ∷ cs) =
       if is_blank c || ((c == 13) && (slice_index cs 0 == 10)) then tabbed least (along m 1) blank
       (is_tab_indentation least m blank c || tab) cs
@@ -102,7 +101,7 @@ abbrev mutual
       else tab
 
   pub tabbed_comment : ℕ → Marker → Bool → Bool → List ℕ → Bool
-  tabbed_comment least m blank tab [] = tab
+  tabbed_comment least m blank tab [] = false
   tabbed_comment least m blank tab (c ∷ cs) =
       if is_yaml_non_break c then tabbed_comment least (along m 1) blank tab cs
       else if (c == 13) && (slice_index cs 0 == 10) then tabbed least (along m 1) blank tab cs

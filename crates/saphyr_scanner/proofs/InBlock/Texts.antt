@@ -1,8 +1,7 @@
 -- The texts of nodes at block level: where they end, and what stands behind their parts.
-use Rattle.std.proofs.Common.{◌≡◌, ℕ, zero, suc, ◌+◌, ◌<◌, ◌≤◌, Bool, true, false, List, [], ◌∷◌, ◌++◌, length, slice_index, refl, sym, ap, ◌∙◌, arith, subst, append_assoc, append-nil, ◌⊎◌, inl, inr, IsTrue, IsFalse}
+use Rattle.std.proofs.Common.{◌≡◌, ℕ, zero, suc, ◌+◌, ◌<◌, ◌≤◌, Bool, true, false, List, [], ◌∷◌, ◌++◌, length, slice_index, refl, sym, ap, ◌∙◌, arith, subst, append_assoc, append-nil, ◌⊎◌, inl, inr, IsFalse}
 use Rattle.std.specs.Prelude.{◌||◌, ◌&&◌, ◌==◌, not, nat_lt}
-use Rattle.std.proofs.lemmas.Bool.Decides.{nat_tests}
-use Rattle.saphyr_input.specs.Classes.{line_feed, is_blank, is_break, is_blank_or_breakz}
+use Rattle.saphyr_input.specs.Classes.{line_feed, is_blank, is_blank_or_breakz}
 use Rattle.saphyr_scalar.specs.declared.scalar.position.Marker.{Marker}
 use Rattle.saphyr_scalar.specs.BlockRead.{spaces}
 use Rattle.saphyr_scalar.specs.Cursor.{along, next_line}
@@ -20,14 +19,14 @@ use Rattle.saphyr_scanner.proofs.Flow.Separates.{line_stops, ink_stops, front_mo
 use Rattle.saphyr_scanner.proofs.Flow.Inks.{BeginsInk, properties_ink}
 use Rattle.saphyr_scanner.proofs.InBlock.States.{tabbed, crosses, EndsDocument}
 use Rattle.saphyr_scanner.proofs.InBlock.Gaps.{ink_stop, stop_tabbed, stop_past}
-use Rattle.saphyr_scanner.proofs.InBlock.Skips.{IsSkipped, spaces_no_line, rest_crosses, last_crosses, IsClean, has_tab, skipped_past, skipped_crosses, skipped_clean, skipped_append, spaces_skipped, line_end_skipped, filler_skipped, comment_ends_clean, AddsNoTab, both_add_no_tab, spaces_add_no_tab, filler_adds_no_tab}
+use Rattle.saphyr_scanner.proofs.InBlock.Skips.{IsSkipped, spaces_no_line, rest_crosses, last_crosses, IsClean, skipped_past, skipped_crosses, skipped_clean, skipped_append, spaces_skipped, line_end_skipped, filler_skipped, rest_ends_clean}
 use Rattle.saphyr_scanner.proofs.InBlock.Entries.{BeginsWhite, IsBehindIndicator}
 use Rattle.saphyr_scanner.proofs.InBlock.Statements.{EndsWithLine, IsBehind, Leaves}
 use Rattle.saphyr_input.proofs.Basics.Booleans.{clash}
 
 -- ## Where a node ends
 
-ends_back : (a t o : List ℕ) → EndsWithLine t o → EndsWithLine (a ++ t) o
+pub ends_back : (a t o : List ℕ) → EndsWithLine t o → EndsWithLine (a ++ t) o
 ends_back a t o (inl h) = inl (λ m. ap (λ (n : Marker). n.col) (moved_append m a t) ∙ h (moved m a))
 ends_back a t o (inr h) = inr h
 
@@ -148,24 +147,10 @@ pub indentation_skipped : (column : ℕ) (w : List ℕ) → IsEntryIndentation c
 indentation_skipped column w (filler, h, is) =
     subst IsSkipped (sym is) (skipped_append filler (spaces column) (filler_skipped filler h) (spaces_skipped column))
 
-pub indentation_adds_no_tab : (column : ℕ) (w : List ℕ) → IsEntryIndentation column w → AddsNoTab w
-indentation_adds_no_tab column w (filler, h, is) =
-    subst AddsNoTab (sym is)
-    (both_add_no_tab filler (spaces column) (filler_adds_no_tab filler h) (spaces_add_no_tab column))
-
 -- ## Before a token
 
 pub ink_clean : (c : ℕ) (cs : List ℕ) → IsInk c → IsClean (c ∷ cs)
-ink_clean c cs h least m blank = stop_tabbed least m blank false (c ∷ cs) (ink_stop c cs h)
-
-pub ink_no_tab : (c : ℕ) (cs : List ℕ) → IsInk c → has_tab (c ∷ cs) ≡ false
-ink_no_tab c cs h = rw (h.blank, not_return c (slice_index cs 0 == 10) h.break, h.break, h.comment) refl
-  where
-    not_return : (c : ℕ) (b : Bool) → is_break c ≡ false → ((c == 13) && b) ≡ false
-    not_return c b h = ap (λ (p : Bool). p && b) (no_return c h)
-      where
-        no_return : (c : ℕ) → is_break c ≡ false → (c == 13) ≡ false
-        no_return c h = grind (arith, nat_tests)
+ink_clean c cs h least m blank = stop_tabbed least m blank (c ∷ cs) (ink_stop c cs h)
 
 -- where what is skipped leads to a token
 pub reaches : (m : Marker) (w : List ℕ) (c : ℕ) (cs : List ℕ) → IsSkipped w → IsInk c
@@ -182,7 +167,6 @@ behind_indented column m w c cs h ink e =
       left = inr (subst (λ (q : Marker × List ℕ). q.0.col < suc column) (sym there)
           (less (moved m w).col column (indentation_col m column w h e)));
       clean = skipped_clean w (c ∷ cs) k (ink_clean c cs ink);
-      no_tab = indentation_adds_no_tab column w h (c ∷ cs) ∙ ink_no_tab c cs ink;
     }
   where
     less : (a b : ℕ) → a ≡ b → a < suc b
@@ -190,7 +174,7 @@ behind_indented column m w c cs h ink e =
 
 -- further to the right, what is left of a column is left of it too
 pub behind_wider : (i j : ℕ) (m : Marker) (o : List ℕ) → i ≤ j → IsBehind i m o → IsBehind j m o
-behind_wider i j m o low h = record { left = by_left h.left; clean = h.clean; no_tab = h.no_tab }
+behind_wider i j m o low h = record { left = by_left h.left; clean = h.clean }
   where
     further : (a i j : ℕ) → i ≤ j → a < i → a < j
     further a i j l k = omega (arith, l, k)
@@ -241,12 +225,9 @@ indents_none least m c = none (c == 9) (nat_lt m.col least)
 
 last_clean : (least : ℕ) (blanks comment : List ℕ) → AreIn is_blank blanks → (comment ≡ []) ⊎ IsComment comment
     → (m : Marker) → tabbed least m false false (blanks ++ (comment ++ [])) ≡ false
-last_clean least [] comment are (inl e) m = ap (λ (x : List ℕ). tabbed least m false false (x ++ [])) e
-last_clean least [] comment are (inr h) m =
-    ap (tabbed least m false false) (append-nil comment) ∙ comment_ends_clean comment h least m false
-last_clean least (b ∷ bs) comment are k m =
-    rw are.0 (ap (λ (t : Bool). tabbed least (along m 1) false t (bs ++ (comment ++ []))) (indents_none least m b)
-    ∙ last_clean least bs comment are.1 k (along m 1))
+last_clean least blanks comment are k m =
+    ap (λ (x : List ℕ). tabbed least m false false (blanks ++ x)) (append-nil comment)
+    ∙ rest_ends_clean blanks comment are k least m false false
 
 -- spaces and a token
 pub token_behind : (n : ℕ) (c : ℕ) (cs : List ℕ) → 1 ≤ n → IsInk c → IsBehindIndicator (spaces n ++ (c ∷ cs))

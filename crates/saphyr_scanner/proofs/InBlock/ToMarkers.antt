@@ -19,7 +19,8 @@ use Rattle.saphyr_scanner.proofs.Documents.Markers.{start_ends, end_ends, reads_
 use Rattle.saphyr_scanner.proofs.Documents.Stands.{Lined, Stands}
 use Rattle.saphyr_scanner.proofs.InBlock.Skips.{filler_skipped}
 use Rattle.saphyr_scanner.proofs.InBlock.LineStarts.{opens_line, HasLine, behind_piece, no_line, skipped_unmarked, last_unmarked, end_unmarked, prefix_unmarked}
-use Rattle.saphyr_scanner.proofs.InBlock.Further.{EndsFed, fed_front, fed_behind, same_marker, end_further, document_further}
+use Rattle.saphyr_scanner.proofs.InBlock.Further.{EndsFed, fed_front, fed_behind, same_marker, end_further, IsAhead, document_further}
+use Rattle.saphyr_scanner.proofs.InBlock.TabsAhead.{TellsTabs, tells_filler, tells_token}
 use Rattle.saphyr_scanner.proofs.InBlock.Statements.{Leaves}
 use Rattle.saphyr_scanner.proofs.InBlock.Texts.{node_ends}
 use Rattle.saphyr_scanner.proofs.InBlock.Documents.{AreBlockDocuments, HasNoReturn, OpensMarker, opens_marker, lands_marked, plain_marked, suffix_text, document_text, node_marks, reads_front, reads_document}
@@ -135,6 +136,12 @@ further o more fed k =
       is = ap (λ (x : List ℕ). x ++ more) k.is ∙ append_assoc k.filler (k.first ∷ k.others) more;
     }
 
+-- a tab ahead stands before the marker
+tells_marked : (o more : List ℕ) → OpensMarker o → TellsTabs more o
+tells_marked o more k =
+    subst (TellsTabs more) (sym k.is)
+    (tells_filler k.filler (k.first ∷ k.others) more k.filler_is (tells_token k.first k.others more k.ink))
+
 closes_beyond : {limit : ℕ} {start : State} {marker : DocumentMarker} → Reads → Leaves limit
     → (w : DocumentMarker) (r more : List ℕ) → IsMarkerRest r
     → (d : Document) (ds : Forest) (free : Bool) (document others : List ℕ) (ts : List Kind)
@@ -147,9 +154,11 @@ closes_beyond : {limit : ℕ} {start : State} {marker : DocumentMarker} → Read
     → Closes limit start marker (grammar.YieldDocuments (d ∷ ds) free) ts
 closes_beyond readers leaves w r more rest d ds free document others ts is behind clean v line go =
     let fed = marked_fed w r others rest line in
-    let k = further others more fed (opens (opens_marker leaves ds others behind)) in
+    let here = opens (opens_marker leaves ds others behind) in
+    let k = further others more fed here in
+    let ahead : IsAhead more others = record { fed = fed; tells = tells_marked others more here } in
     let n = reads_document readers leaves d free document (others ++ more) ts
-    (document_further more d free document others fed is) (lands_marked (others ++ more) k)
+    (document_further more leaves d free document others ahead is) (lands_marked (others ++ more) k)
     (plain_marked k.filler k.first k.others (others ++ more) k.filler_is k.is k.ink) clean v in
     closes_on ts n.tokens (λ all told. (n.tokens, all, n.are, told, refl)) (go (ts ++ n.tokens) n.stands)
   where

@@ -1,7 +1,6 @@
 -- The content of a key on one line at block level: plain and quoted scalars.
-use Rattle.std.proofs.Common.{◌≡◌, ◌≢◌, ℕ, zero, suc, ◌≤◌, Bool, true, false, List, [], ◌∷◌, ◌++◌, length, slice_index, Ok, refl, sym, ap, ◌∙◌, arith, subst, append-nil, inl, inr, encode_utf8_all}
+use Rattle.std.proofs.Common.{◌≡◌, ◌≢◌, ℕ, zero, suc, ◌≤◌, Bool, true, false, List, [], ◌∷◌, ◌++◌, length, slice_index, Ok, refl, sym, ap, ◌∙◌, arith, subst, append-nil, inl, encode_utf8_all}
 use Rattle.std.specs.Prelude.{◌==◌, Option, Some, None}
-use Rattle.std.proofs.lemmas.Bool.Decides.{nat_tests}
 use Rattle.saphyr_input.specs.Classes.{is_blank, is_blank_or_breakz}
 use Rattle.saphyr_scalar.specs.declared.scalar.position.Marker.{Marker}
 use Rattle.saphyr_scalar.specs.declared.reading.flow.Quote.{Quote}
@@ -10,7 +9,7 @@ use Rattle.saphyr_scalar.specs.Cursor.{Cursor, ◌>>=◌, along}
 use Rattle.saphyr_scalar.specs.FlowReading.{mark, plain_value}
 use Rattle.saphyr_scalar.specs.Quoted.{at}
 use Rattle.saphyr_scalar.specs.Plain.{in_word, comment_of}
-use Rattle.saphyr_scalar.specs.PlainSpelling.{past_white, EndsPlain, IsPlainText}
+use Rattle.saphyr_scalar.specs.PlainSpelling.{is_tabbed, past_white, EndsPlain, IsPlainText}
 use Rattle.saphyr_scalar.specs.BlockRead.{spaces}
 use Rattle.saphyr_scanner.specs.declared.engine.level.Context.TheVariants as context
 use Rattle.saphyr_scanner.specs.Grammar.Tokens.{scalar_token}
@@ -65,9 +64,9 @@ colon_stops : (r : List ℕ) → is_blank_or_breakz (slice_index r 0) ≡ true �
 unfolding in_word
 colon_stops r h = rw h refl
 
-no_comment : (m : Marker) (r : List ℕ) → comment_of false false (cursor_at (58 ∷ r) m false) ≡ None
+no_comment : (t : Bool) (m : Marker) (r : List ℕ) → comment_of false t (cursor_at (58 ∷ r) m false) ≡ None
 unfolding comment_of
-no_comment m r = refl
+no_comment t m r = refl
 
 spaces_apart : (n : ℕ) (r : List ℕ) → slice_index (colon_text n r) 0 ≢ 35
 spaces_apart zero r e = absurd (omega (arith, e))
@@ -79,8 +78,8 @@ key_ends_plain column m n r h =
     record {
       stops = inl (ap (λ (u : Cursor). in_word false u.rest) (white_spaces m n r) ∙ colon_stops r h);
       apart = spaces_apart n r;
-      tabs = inr (tabs_behind column m (colon_text n r)
-          (ap (λ (z : Marker × List ℕ). is_blank (slice_index z.1 0)) (colon_lands column m n r)));
+      tabs = tabs_behind column m m false (colon_text n r)
+          (ap (λ (z : Marker × List ℕ). is_blank (slice_index z.1 0)) (colon_lands column m n r));
     }
 
 right_behind_key : (column : ℕ) (m : Marker) (n : ℕ) → column ≤ m.col → column ≤ (moved m (spaces n)).col
@@ -116,10 +115,10 @@ text_along reads around start k qs c cs n r e ad begins plain text low ready =
     (Some k) [] false ad (inl refl) (behind_key refl refl)
     ∙ ap (λ (u : Cursor). went (from_to e end kind ∷ [])
     (record (core_at around false u context.Block (Some k) [] u.blank_so_far ad)
-    { comment = comment_of false false u })) (white_spaces end n r)
+    { comment = comment_of false (is_tabbed around.indent o) u })) (white_spaces end n r)
     ∙ ap (λ (q : Option Marker). went (from_to e end kind ∷ [])
     (record (core_at around false there context.Block (Some k) [] false ad) { comment = q }))
-    (no_comment (behind e t n) r) in
+    (no_comment (is_tabbed around.indent o) (behind e t n) r) in
     let led = token_led around start k (t ++ o) e ad qs ready end kind there ad (λ d. false) stepped
     (in_near k (behind e t n) [] (58 ∷ r) last) (in_limit k (behind e t n) [] (58 ∷ r) last) in
     record {

@@ -1,17 +1,19 @@
 -- The tabs and breaks that a plain scalar's reader passes behind a scalar, where a token or the text's end is reached.
-use Rattle.std.proofs.Common.{◌≡◌, ℕ, suc, ◌+◌, ◌≤◌, Bool, true, false, List, [], ◌∷◌, drop, slice_index, refl, sym, ap, ◌∙◌, arith, subst, IsTrue, ◌⊎◌, inl, inr}
-use Rattle.std.specs.Prelude.{◌||◌, ◌&&◌, ◌==◌, nat_lt, if◌then◌else◌}
+use Rattle.std.proofs.Common.{◌≡◌, ℕ, ◌+◌, ◌≤◌, Bool, true, false, List, [], ◌∷◌, drop, slice_index, refl, sym, ap, ◌∙◌, arith, subst, IsTrue, ◌⊎◌, inl, inr}
+use Rattle.std.specs.Prelude.{◌||◌, ◌&&◌, ◌==◌, not, nat_lt, if◌then◌else◌}
 use Rattle.std.specs.List.{prefix_len}
 use Rattle.std.proofs.lemmas.Bool.Decides.{nat_tests}
-use Rattle.saphyr_input.specs.Classes.{is_blank, is_break, tab}
+use Rattle.saphyr_input.specs.Classes.{is_blank, is_break}
 use Rattle.saphyr_input.specs.Places.{is_blank_or_break, is_document_indicator}
 use Rattle.saphyr_scalar.specs.declared.scalar.position.Marker.{Marker}
-use Rattle.saphyr_scalar.specs.Cursor.{along, next_line}
+use Rattle.saphyr_scalar.specs.Cursor.{Cursor, along, next_line}
 use Rattle.saphyr_scalar.specs.Plain.{ends_line}
-use Rattle.saphyr_scalar.specs.PlainSpelling.{behind_blanks, past_white, tabs_fit}
-use Rattle.saphyr_scanner.proofs.Flow.States.{is_left_tab, past, EndsDocument, IsLeft}
-use Rattle.saphyr_scanner.proofs.Flow.Gaps.{tab_blank}
+use Rattle.saphyr_scalar.specs.PlainSpelling.{reaches_tabbed, is_tabbed, stands_behind_tab, past_white}
+use Rattle.saphyr_scanner.proofs.Flow.States.{is_filler_rest, past, EndsDocument, IsLeft}
+use Rattle.saphyr_scanner.proofs.Flow.Gaps.{stops_tab, stop_blank, tab_rest, no_rest, no_tab_before}
 use Rattle.saphyr_scalar.proofs.Plain.Texts.{blanks_on}
+use Rattle.saphyr_scalar.proofs.Plain.White.{flag_on, tabbed_on, tabbed_stop, past_on, past_stop}
+use Rattle.saphyr_scalar.proofs.Given.{cursor_at}
 use Rattle.saphyr_input.proofs.Basics.Characters.{blank_no_break, return_breaks}
 use Rattle.saphyr_input.proofs.Basics.Booleans.{and_true_right, clash}
 
@@ -41,11 +43,14 @@ lands_on_ink column m y (inl (inl e)) = ap (λ (t : List ℕ). is_blank (slice_i
 lands_on_ink column m y (inl (inr h)) = starts_marker y h.1
 lands_on_ink column m y (inr h) = ap (λ (t : List ℕ). is_blank (slice_index t 0)) h.is ∙ h.blank
 
--- ## No tab stands in indentation
+-- ## Where a tab stands in the indentation before a token, a comment or the text's end does
 
--- from a place on
-abbrev TabsFit : ℕ → Marker → List ℕ → Type 0
-TabsFit column m t = is_blank (slice_index (past column m t).1 0) ≡ false → tabs_fit column m.col t ≡ true
+-- from a place on, where a tab stands before it only if no token stands on the rest of the line
+abbrev Tabs : ℕ → Marker → Bool → List ℕ → Type 0
+Tabs column m tab t =
+    is_blank (slice_index (past column m t).1 0) ≡ false → (tab ≡ true → is_filler_rest t ≡ true)
+    → (n : Marker) (b : Bool)
+    → (reaches_tabbed column m.col tab t ≡ false) ⊎ (stands_behind_tab (past_white n b t).rest ≡ true)
 
 -- a blank, and CR before LF, is passed and ends no line
 record White (c : ℕ) (cs : List ℕ) : Type 0 where
@@ -81,89 +86,178 @@ other_white c cs h e = by_blank (is_blank c) refl h
     by_blank true f k = absurd (cc)
     by_blank false f k = rw (f, e) refl
 
-tab_kind : (column : ℕ) (m : Marker) (c : ℕ) (cs : List ℕ) (is_tab is_white is_line : Bool)
-    → is_left_tab column m c ≡ is_tab → (is_blank c || ((c == 13) && (slice_index cs 0 == 10))) ≡ is_white
-    → is_break c ≡ is_line → TabsFit column (along m 1) cs → TabsFit column (next_line m 1) cs
-    → TabsFit column m (c ∷ cs)
-tab_kind column m c cs true q r t e f on line h =
+-- the flag behind a blank or a break stands for a tab that ends nothing
+flag_rest : (column : ℕ) (m : Marker) (c : ℕ) (cs : List ℕ) (tab : Bool) → stops_tab column m c cs ≡ false
+    → (is_blank c || ((c == 13) && (slice_index cs 0 == 10))) ≡ true → (tab ≡ true → is_filler_rest (c ∷ cs) ≡ true)
+    → flag_on column m.col tab c ≡ true → is_filler_rest cs ≡ true
+flag_rest column m c cs tab t e h k =
+    tab_rest column column m true c cs tab t (omega arith) e h
+    (either (c == 9) (nat_lt m.col column) tab
+    (and_true_right (is_blank c) (tab || ((c == 9) && nat_lt m.col column)) k))
+  where
+    either : (a b d : Bool) → (d || (a && b)) ≡ true → (((a && true) && b) || d) ≡ true
+    either true true d k = refl
+    either true false true k = refl
+    either true false false k = absurd (cc)
+    either false b true k = refl
+    either false b false k = absurd (cc)
+
+-- behind a break no tab stands
+no_flag : (column : ℕ) (m : Marker) (c : ℕ) (tab : Bool) → is_break c ≡ true → flag_on column m.col tab c ≡ false
+no_flag column m c tab e = rw (no_blank c e) refl
+  where
+    no_blank : (c : ℕ) → is_break c ≡ true → is_blank c ≡ false
+    no_blank c e = grind (arith, nat_tests)
+
+tab_kind : (column : ℕ) (m : Marker) (tab : Bool) (c : ℕ) (cs : List ℕ) (is_tab is_white is_line is_sign : Bool)
+    → stops_tab column m c cs ≡ is_tab → (is_blank c || ((c == 13) && (slice_index cs 0 == 10))) ≡ is_white
+    → is_break c ≡ is_line → (c == 35) ≡ is_sign → Tabs column (along m 1) (flag_on column m.col tab c) cs
+    → Tabs column (next_line m 1) false cs → Tabs column m tab (c ∷ cs)
+tab_kind column m tab c cs true q r s t e f g on line h bare n b =
     let still : past column m (c ∷ cs) ≡ (m, c ∷ cs) = rw t refl in
-    absurd (clash (is_blank c) (tab_blank column m c t)
+    absurd (clash (is_blank c) (stop_blank column m c cs t)
     (ap (λ (z : Marker × List ℕ). is_blank (slice_index z.1 0)) (sym still) ∙ h))
-tab_kind column m c cs false true r t e f on line h =
+tab_kind column m tab c cs false true r s t e f g on line h bare n b =
     let there : past column m (c ∷ cs) ≡ past column (along m 1) cs = rw (t, e) refl in
     let w = white_passes c cs e in
-    rw (w.white, t, w.line) (on (ap (λ (z : Marker × List ℕ). is_blank (slice_index z.1 0)) (sym there) ∙ h))
-tab_kind column m c cs false false true t e f on line h =
+    let step : reaches_tabbed column m.col tab (c ∷ cs)
+    ≡ reaches_tabbed column (m.col + 1) (flag_on column m.col tab c) cs =
+    tabbed_on column m.col tab c cs w.white
+    ∙ ap (λ (p : Bool). reaches_tabbed column (if p then 0 else m.col + 1) (flag_on column m.col tab c) cs) w.line in
+    let over = past_on n b c cs w.white in
+    behind (m.col + 1) (flag_on column m.col tab c) _ _ step over
+    (on (ap (λ (z : Marker × List ℕ). is_blank (slice_index z.1 0)) (sym there) ∙ h)
+    (flag_rest column m c cs tab t e bare) (if ends_line c cs then next_line n 1 else along n 1) (b || is_break c))
+  where
+    behind : (k : ℕ) (p : Bool) (u v : Cursor) → reaches_tabbed column m.col tab (c ∷ cs) ≡ reaches_tabbed column k p cs
+        → u ≡ v → (reaches_tabbed column k p cs ≡ false) ⊎ (stands_behind_tab v.rest ≡ true)
+        → (reaches_tabbed column m.col tab (c ∷ cs) ≡ false) ⊎ (stands_behind_tab u.rest ≡ true)
+    behind k p u v step over (inl x) = inl (step ∙ x)
+    behind k p u v step over (inr x) = inr (ap (λ (u : Cursor). stands_behind_tab u.rest) over ∙ x)
+tab_kind column m tab c cs false false true s t e f g on line h bare n b =
     let there : past column m (c ∷ cs) ≡ past column (next_line m 1) cs = rw (t, e, f) refl in
     let w = line_white c cs e f in
-    rw (w.0, t, w.1) (line (ap (λ (z : Marker × List ℕ). is_blank (slice_index z.1 0)) (sym there) ∙ h))
-tab_kind column m c cs false false false t e f on line h = rw (other_white c cs e f) refl
+    let step : reaches_tabbed column m.col tab (c ∷ cs) ≡ reaches_tabbed column 0 false cs =
+    tabbed_on column m.col tab c cs w.0
+    ∙ ap (λ (p : Bool). reaches_tabbed column (if p then 0 else m.col + 1) (flag_on column m.col tab c) cs) w.1
+    ∙ ap (λ (p : Bool). reaches_tabbed column 0 p cs) (no_flag column m c tab f) in
+    let over = past_on n b c cs w.0 in
+    behind _ _ step over (line (ap (λ (z : Marker × List ℕ). is_blank (slice_index z.1 0)) (sym there) ∙ h)
+    (no_tab_before (is_filler_rest cs)) (if ends_line c cs then next_line n 1 else along n 1) (b || is_break c))
+  where
+    behind : (u v : Cursor) → reaches_tabbed column m.col tab (c ∷ cs) ≡ reaches_tabbed column 0 false cs
+        → u ≡ v → (reaches_tabbed column 0 false cs ≡ false) ⊎ (stands_behind_tab v.rest ≡ true)
+        → (reaches_tabbed column m.col tab (c ∷ cs) ≡ false) ⊎ (stands_behind_tab u.rest ≡ true)
+    behind u v step over (inl x) = inl (step ∙ x)
+    behind u v step over (inr x) = inr (ap (λ (u : Cursor). stands_behind_tab u.rest) over ∙ x)
+tab_kind column m tab c cs false false false true t e f g on line h bare n b =
+    let still : past_white n b (c ∷ cs) ≡ cursor_at (c ∷ cs) n b = past_stop n b (c ∷ cs) (other_white c cs e f) in
+    inr (ap (λ (u : Cursor). stands_behind_tab u.rest) still ∙ rw g refl)
+tab_kind column m false c cs false false false false t e f g on line h bare n b =
+    inl (tabbed_stop column m.col false (c ∷ cs) (other_white c cs e f))
+tab_kind column m true c cs false false false false t e f g on line h bare n b =
+    absurd (clash (is_filler_rest (c ∷ cs)) (bare refl) (no_rest c cs e f g))
 
-tabs_right : (column : ℕ) (m : Marker) (t : List ℕ) → TabsFit column m t
-tabs_right column m [] h = refl
-tabs_right column m (c ∷ cs) h =
-    tab_kind column m c cs (is_left_tab column m c) (is_blank c || ((c == 13) && (slice_index cs 0 == 10))) (is_break c)
-    refl refl refl
-    (tabs_right column (along m 1) cs) (tabs_right column (next_line m 1) cs) h
+tabs_right : (column : ℕ) (m : Marker) (tab : Bool) (t : List ℕ) → Tabs column m tab t
+tabs_right column m tab [] h bare n b = inr refl
+tabs_right column m tab (c ∷ cs) h bare n b =
+    tab_kind column m tab c cs (stops_tab column m c cs) (is_blank c || ((c == 13) && (slice_index cs 0 == 10)))
+    (is_break c) (c == 35) refl refl refl refl
+    (tabs_right column (along m 1) (flag_on column m.col tab c) cs) (tabs_right column (next_line m 1) false cs) h bare
+    n b
 
 -- ## Behind the blanks of a line
 
--- before a line feed the column does not matter
-any_column : (column a b : ℕ) (cs : List ℕ) → (slice_index cs 0 == 10) ≡ true → tabs_fit column a cs ≡ true
-    → tabs_fit column b cs ≡ true
-any_column column a b [] e h = refl
-any_column column a b (c ∷ cs) e h =
-    subst (λ (z : ℕ). tabs_fit column b (z ∷ cs) ≡ true) (sym (feed c e))
-    (subst (λ (z : ℕ). tabs_fit column a (z ∷ cs) ≡ true) (feed c e) h)
+-- before a character that is no blank the column does not matter
+any_column : (column a b : ℕ) (t : List ℕ) → is_blank (slice_index t 0) ≡ false
+    → reaches_tabbed column a false t ≡ reaches_tabbed column b false t
+any_column column a b [] h = refl
+any_column column a b (c ∷ cs) h = by_white (is_blank_or_break c) refl
   where
     feed : (c : ℕ) → (c == 10) ≡ true → c ≡ 10
     feed c e = grind (arith, nat_tests)
 
-no_tab : (c : ℕ) (b : Bool) → is_blank c ≡ false → ((c == tab) && b) ≡ false
-no_tab c b h = ap (λ (q : Bool). q && b) (none c h)
-  where
-    none : (c : ℕ) → is_blank c ≡ false → (c == tab) ≡ false
-    none c h = grind (arith, nat_tests)
+    at_feed : (x y : ℕ) (cs : List ℕ) → (slice_index cs 0 == 10) ≡ true
+        → reaches_tabbed column x false cs ≡ reaches_tabbed column y false cs
+    at_feed x y [] e = refl
+    at_feed x y (d ∷ ds) e =
+        subst (λ (z : ℕ). reaches_tabbed column x false (z ∷ ds) ≡ reaches_tabbed column y false (z ∷ ds))
+        (sym (feed d e)) refl
 
-blanks_stop : (c : ℕ) (cs : List ℕ) → is_blank c ≡ false → behind_blanks (c ∷ cs) ≡ c ∷ cs
-blanks_stop c cs e = rw e refl
+    by_line : (p : Bool) → ends_line c cs ≡ p → is_break c ≡ true
+        → reaches_tabbed column (if p then 0 else a + 1) false cs
+        ≡ reaches_tabbed column (if p then 0 else b + 1) false cs
+    by_line true e f = refl
+    by_line false e f = at_feed (a + 1) (b + 1) cs (and_true_right (c == 13) (slice_index cs 0 == 10)
+        (cut (is_break c) ((c == 13) && (slice_index cs 0 == 10)) f e))
+      where
+        cut : (x y : Bool) → x ≡ true → (x && not y) ≡ false → y ≡ true
+        cut true true f e = refl
+        cut true false f e = absurd (cc)
+        cut false y f e = absurd (cc)
 
-behind_kind : (column : ℕ) (m : Marker) (c : ℕ) (cs : List ℕ) (is_tab blank return is_line : Bool)
-    → is_left_tab column m c ≡ is_tab → is_blank c ≡ blank → ((c == 13) && (slice_index cs 0 == 10)) ≡ return
-    → is_break c ≡ is_line → is_blank (slice_index (past column m (c ∷ cs)).1 0) ≡ false
-    → (is_blank (slice_index (past column (along m 1) cs).1 0) ≡ false → tabs_fit column 0 (behind_blanks cs) ≡ true)
-    → tabs_fit column 0 (behind_blanks (c ∷ cs)) ≡ true
-behind_kind column m c cs true p q r t e g f h on =
+    no_flag_at : (k : ℕ) → flag_on column k false c ≡ false
+    no_flag_at k = rw h refl
+
+    by_white : (w : Bool) → is_blank_or_break c ≡ w
+        → reaches_tabbed column a false (c ∷ cs) ≡ reaches_tabbed column b false (c ∷ cs)
+    by_white true e =
+        tabbed_on column a false c cs e
+        ∙ ap (λ (p : Bool). reaches_tabbed column (if ends_line c cs then 0 else a + 1) p cs) (no_flag_at a)
+        ∙ by_line (ends_line c cs) refl (or_false_first (is_blank c) (is_break c) h e)
+        ∙ sym (tabbed_on column b false c cs e
+        ∙ ap (λ (p : Bool). reaches_tabbed column (if ends_line c cs then 0 else b + 1) p cs) (no_flag_at b))
+      where
+        or_false_first : (x y : Bool) → x ≡ false → (x || y) ≡ true → y ≡ true
+        or_false_first false y e f = f
+        or_false_first true y e f = absurd (cc)
+    by_white false e = tabbed_stop column a false (c ∷ cs) e ∙ sym (tabbed_stop column b false (c ∷ cs) e)
+
+behind_kind : (column : ℕ) (m : Marker) (c : ℕ) (cs : List ℕ) (is_tab blank : Bool) → stops_tab column m c cs ≡ is_tab
+    → is_blank c ≡ blank → is_blank (slice_index (past column m (c ∷ cs)).1 0) ≡ false → (n : Marker) (b : Bool)
+    → (is_blank (slice_index (past column (along m 1) cs).1 0) ≡ false
+    → (is_tabbed column cs ≡ false)
+    ⊎ (stands_behind_tab (past_white (if ends_line c cs then next_line n 1 else along n 1) (b || is_break c) cs).rest
+    ≡ true))
+    → (is_tabbed column (c ∷ cs) ≡ false) ⊎ (stands_behind_tab (past_white n b (c ∷ cs)).rest ≡ true)
+behind_kind column m c cs true p t e h n b on =
     let still : past column m (c ∷ cs) ≡ (m, c ∷ cs) = rw t refl in
-    absurd (clash (is_blank c) (tab_blank column m c t)
+    absurd (clash (is_blank c) (stop_blank column m c cs t)
     (ap (λ (z : Marker × List ℕ). is_blank (slice_index z.1 0)) (sym still) ∙ h))
-behind_kind column m c cs false true q r t e g f h on =
+behind_kind column m c cs false true t e h n b on =
     let there : past column m (c ∷ cs) ≡ past column (along m 1) cs = rw (t, e) refl in
-    ap (tabs_fit column 0) (blanks_on c cs e)
-    ∙ on (ap (λ (z : Marker × List ℕ). is_blank (slice_index z.1 0)) (sym there) ∙ h)
-behind_kind column m c cs false false true r t e g f h on =
-    let there : past column m (c ∷ cs) ≡ past column (along m 1) cs = rw (t, e, g) refl in
-    let w = white_passes c cs (rw (e, g) refl) in
-    let more = any_column column (m.col + 1) (0 + 1) cs (and_true_right (c == 13) (slice_index cs 0 == 10) g)
-    (tabs_right column (along m 1) cs
-    (ap (λ (z : Marker × List ℕ). is_blank (slice_index z.1 0)) (sym there) ∙ h)) in
-    ap (tabs_fit column 0) (blanks_stop c cs e) ∙ rw (w.white, no_tab c (nat_lt 0 column) e, w.line) more
-behind_kind column m c cs false false false true t e g f h on =
-    let there : past column m (c ∷ cs) ≡ past column (next_line m 1) cs = rw (t, e, g, f) refl in
-    let w = line_white c cs (rw (e, g) refl) f in
-    let more = tabs_right column (next_line m 1) cs
-    (ap (λ (z : Marker × List ℕ). is_blank (slice_index z.1 0)) (sym there) ∙ h) in
-    ap (tabs_fit column 0) (blanks_stop c cs e) ∙ rw (w.0, no_tab c (nat_lt 0 column) e, w.1) more
-behind_kind column m c cs false false false false t e g f h on =
-    ap (tabs_fit column 0) (blanks_stop c cs e) ∙ rw (other_white c cs (rw (e, g) refl) f) refl
+    by_rest (on (ap (λ (z : Marker × List ℕ). is_blank (slice_index z.1 0)) (sym there) ∙ h))
+  where
+    white : is_blank_or_break c ≡ true
+    white = rw e refl
+
+    by_rest : (is_tabbed column cs ≡ false)
+        ⊎ (stands_behind_tab
+        (past_white (if ends_line c cs then next_line n 1 else along n 1) (b || is_break c) cs).rest ≡ true)
+        → (is_tabbed column (c ∷ cs) ≡ false) ⊎ (stands_behind_tab (past_white n b (c ∷ cs)).rest ≡ true)
+    by_rest (inl x) = inl (ap (reaches_tabbed column 0 false) (blanks_on c cs e) ∙ x)
+    by_rest (inr x) = inr (ap (λ (u : Cursor). stands_behind_tab u.rest) (past_on n b c cs white) ∙ x)
+behind_kind column m c cs false false t e h n b on =
+    by_rest (tabs_right column m false (c ∷ cs) h (no_tab_before (is_filler_rest (c ∷ cs))) n b)
+  where
+    none : prefix_len is_blank (c ∷ cs) ≡ 0
+    none = rw e refl
+
+    by_rest : (reaches_tabbed column m.col false (c ∷ cs) ≡ false)
+        ⊎ (stands_behind_tab (past_white n b (c ∷ cs)).rest ≡ true)
+        → (is_tabbed column (c ∷ cs) ≡ false) ⊎ (stands_behind_tab (past_white n b (c ∷ cs)).rest ≡ true)
+    by_rest (inl x) = inl (ap (λ (k : ℕ). reaches_tabbed column 0 false (drop k (c ∷ cs))) none
+        ∙ any_column column 0 m.col (c ∷ cs) e ∙ x)
+    by_rest (inr x) = inr x
 
 -- where a token or the text's end is reached
-pub tabs_behind : (column : ℕ) (m : Marker) (t : List ℕ) → is_blank (slice_index (past column m t).1 0) ≡ false
-    → IsTrue (tabs_fit column 0 (behind_blanks t))
-tabs_behind column m [] h = refl
-tabs_behind column m (c ∷ cs) h =
-    behind_kind column m c cs (is_left_tab column m c) (is_blank c) ((c == 13) && (slice_index cs 0 == 10)) (is_break c)
-    refl refl refl refl h (tabs_behind column (along m 1) cs)
+pub tabs_behind : (column : ℕ) (m n : Marker) (b : Bool) (t : List ℕ)
+    → is_blank (slice_index (past column m t).1 0) ≡ false
+    → (is_tabbed column t ≡ false) ⊎ (stands_behind_tab (past_white n b t).rest ≡ true)
+tabs_behind column m n b [] h = inr refl
+tabs_behind column m n b (c ∷ cs) h =
+    behind_kind column m c cs (stops_tab column m c cs) (is_blank c) refl refl h n b
+    (tabs_behind column (along m 1) (if ends_line c cs then next_line n 1 else along n 1) (b || is_break c) cs)
 
 -- ## A break was passed, or the place is not left of the first
 

@@ -7,13 +7,14 @@ use Rattle.saphyr_input.specs.Places.{is_blank_or_break}
 use Rattle.saphyr_scalar.specs.declared.scalar.position.Marker.{Marker}
 use Rattle.saphyr_scalar.specs.Cursor.{Cursor, along, next_line}
 use Rattle.saphyr_scalar.specs.Plain.{in_word, Reading, comment_of}
-use Rattle.saphyr_scalar.specs.PlainSpelling.{past_white, IsPlainWord, EndsPlain}
+use Rattle.saphyr_scalar.specs.PlainSpelling.{is_tabbed, past_white, IsPlainWord, EndsPlain}
 use Rattle.saphyr_scanner.specs.Grammar.Json.{IsWhite, IsWhiteSpace, IsWord}
 use Rattle.saphyr_scanner.proofs.Json.Words.{IsBehindValue, behind_value_stops, word_is_plain}
 use Rattle.saphyr_scanner.proofs.Json.Gaps.{StopsGap, has_break, along_more}
 use Rattle.saphyr_scalar.proofs.Moving.{along_none}
 use Rattle.saphyr_input.proofs.Basics.Booleans.{or_assoc}
 use Rattle.std.proofs.Math.Bool.{or-false}
+use Rattle.saphyr_scalar.proofs.Plain.White.{untabbed_root}
 
 -- what stands behind a value ends the white space before it
 behind_stops_gap : (in_flow : Bool) (y : List ℕ) → IsBehindValue in_flow y → StopsGap y
@@ -131,18 +132,18 @@ ends_plain in_flow end w y white h =
     record {
       stops = inl (ap (λ (s : Cursor). in_word in_flow s.rest) p.is ∙ behind_value_stops in_flow y h);
       apart = first_no_comment w y white stops;
-      tabs = inl refl;
+      tabs = inl (untabbed_root (w ++ y));
     }
 
-no_comment_of : (in_flow : Bool) (s : Cursor) → StopsGap s.rest → comment_of in_flow false s ≡ None
+no_comment_of : (in_flow t : Bool) (s : Cursor) → StopsGap s.rest → comment_of in_flow t s ≡ None
 unfolding comment_of
-no_comment_of in_flow s h = rw (no_sign s.rest h) (none (not in_flow) s.blank_so_far)
+no_comment_of in_flow t s h = rw (no_sign s.rest h) (none (not in_flow) (t || not s.blank_so_far))
   where
     no_sign : (y : List ℕ) → StopsGap y → (slice_index y 0 == 35) ≡ false
     no_sign [] h = refl
     no_sign (c ∷ cs) h = h.2
 
-    none : (a b : Bool) → cond (a && false && (false || not b)) (Some s.mark) None ≡ None
+    none : (a b : Bool) → cond (a && false && b) (Some s.mark) None ≡ None
     none true b = refl
     none false b = refl
 
@@ -153,7 +154,7 @@ ReadsPlainWords read =
     → EndsPlain in_flow indent (along s.mark (length w)) x
     → let end = along s.mark (length w) in let behind =
     past_white end false x in read in_flow indent s
-    ≡ Ok (encode_utf8_all w, end, comment_of in_flow false behind, behind)
+    ≡ Ok (encode_utf8_all w, end, comment_of in_flow (is_tabbed indent x) behind, behind)
 
 -- A word of JSON is read as a plain scalar, and the white space behind it is passed.
 pub word_read : (read : Bool → ℕ → Cursor → Reading) → ReadsPlainWords read
@@ -173,6 +174,7 @@ word_read read reads in_flow s t w y is h white ends =
     let there : Cursor = record { rest = y; mark = p.mark; blank_so_far = has_break w } in (
       p,
       reads in_flow 0 s t (w ++ y) is (word_is_plain t h) (ends_plain in_flow end w y white ends)
-          ∙ ap (λ (x : Cursor). Ok (encode_utf8_all t, end, comment_of in_flow false x, x)) p.is
-          ∙ ap (λ (o : Option Marker). Ok (encode_utf8_all t, end, o, there)) (no_comment_of in_flow there stops),
+          ∙ ap (λ (x : Cursor). Ok (encode_utf8_all t, end, comment_of in_flow (is_tabbed 0 (w ++ y)) x, x)) p.is
+          ∙ ap (λ (o : Option Marker). Ok (encode_utf8_all t, end, o, there))
+          (no_comment_of in_flow (is_tabbed 0 (w ++ y)) there stops),
     )

@@ -2,7 +2,7 @@
 -- `behind` is what stands behind a piece, up to the text's end; `room` is how many flow collections may be open at
 -- once.
 use Rattle.std.specs.Prelude.{◌≡◌, ◌≢◌, ℕ, suc, ◌+◌, ◌<◌, ◌≤◌, ◌⊎◌, Bool, true, false, not, ◌==◌, ◌&&◌, ◌||◌, List, [], ◌∷◌, ◌++◌, length, IsTrue, IsFalse, codes}
-use Rattle.saphyr_input.specs.Classes.{is_break, tab, space}
+use Rattle.saphyr_input.specs.Classes.{is_blank, is_break, tab, space}
 use Rattle.saphyr_input.specs.Places.{is_document_indicator}
 use Rattle.saphyr_scalar.specs.declared.reading.block.BlockStyle.{BlockStyle}
 use Rattle.saphyr_scalar.specs.declared.reading.block.BlockStyle.TheVariants as block
@@ -91,10 +91,11 @@ IsFlowInBlock room node place t behind =
     × (t ≡ gap ++ (text ++ end))
 
 -- What may follow the lines of a block scalar whose content begins at column i: nothing, a document marker, a line that
--- begins at or left of the enclosing collection's column, or a comment left of the content.
+-- begins at or left of the enclosing collection's column, or a comment left of the content. That line's content stands
+-- behind spaces alone.
 abbrev pub IsLineLeft : ℕ → ℕ → List ℕ → Type 0
 IsLineLeft indent i t =
-    (n c : ℕ) × (others : List ℕ) × (c ≢ 32) × (c ≢ 10) × ((n < indent) ⊎ ((c ≡ 35) × (n < i)))
+    (n c : ℕ) × (others : List ℕ) × IsFalse (is_blank c) × (c ≢ 10) × ((n < indent) ⊎ ((c ≡ 35) × (n < i)))
     × (t ≡ spaces n ++ (c ∷ others))
 
 abbrev pub IsBehindScalar : ℕ → ℕ → List ℕ → Type 0
@@ -143,14 +144,15 @@ has_tab_ahead in_comment [] = false
 has_tab_ahead true (c ∷ cs) = has_tab_ahead (not (is_break c)) cs
 has_tab_ahead false (c ∷ cs) = (c == tab) || (((c == space) || is_break c || (c == 35)) && has_tab_ahead (c == 35) cs)
 
--- Behind a `?` stands something, and no tab before the key's first token.
-abbrev pub IsBehindQuestion : List ℕ → Type 0
-IsBehindQuestion node = (node ≢ []) × IsFalse (has_tab_ahead false node)
+-- Behind a `?` stands something, and no tab before the next token: that of the key or, where the key is left out, that
+-- of what stands behind it.
+abbrev pub IsBehindQuestion : List ℕ → List ℕ → Type 0
+IsBehindQuestion node behind = (node ≢ []) × IsFalse (has_tab_ahead false (node ++ behind))
 
 -- 8.2.2: a `?` and a key, with no value
 abbrev pub IsKeyAlone : Node → (Position → List ℕ → List ℕ → Type 0) → ℕ → List ℕ → List ℕ → Type 0
 IsKeyAlone value K m t behind =
-    (node : List ℕ) × (value ≡ left_out) × IsBehindQuestion node × K (BehindMark m) node behind
+    (node : List ℕ) × (value ≡ left_out) × IsBehindQuestion node behind × K (BehindMark m) node behind
     × (t ≡ codes "?" ++ node)
 
 -- the `:` of a value at column m, behind filler
@@ -161,8 +163,9 @@ IsValueMark m t = (filler : List ℕ) × IsFiller filler × (t ≡ filler ++ (sp
 abbrev pub IsMarkedPair : (Position → List ℕ → List ℕ → Type 0) → (Position → List ℕ → List ℕ → Type 0) → ℕ → List ℕ
     → List ℕ → Type 0
 IsMarkedPair K V m t behind =
-    (node colon value : List ℕ) × IsBehindQuestion node × K (BehindMark m) node (colon ++ (value ++ behind))
-    × IsValueMark m colon × V (BehindMark m) value behind × (t ≡ codes "?" ++ (node ++ (colon ++ value)))
+    (node colon value : List ℕ) × IsBehindQuestion node (colon ++ (value ++ behind))
+    × K (BehindMark m) node (colon ++ (value ++ behind)) × IsValueMark m colon × V (BehindMark m) value behind
+    × (t ≡ codes "?" ++ (node ++ (colon ++ value)))
 
 abbrev pub IsBlockPair : ℕ → Node → Node → (Position → List ℕ → List ℕ → Type 0) → (Position → List ℕ → List ℕ → Type 0)
     → ℕ → List ℕ → List ℕ → Type 0

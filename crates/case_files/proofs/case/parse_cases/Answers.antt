@@ -4,7 +4,7 @@ use Rattle.std.specs.Prelude.{vec_len}
 use Rattle.std.proofs.lemmas.Iterator.Splits.{YieldsList-from_lines}
 use Rattle.std.proofs.lemmas.Iterator.Consumers.{YieldsList-end}
 use Rattle.std.proofs.lemmas.List.{map_push, nil_from_length}
-use Rattle.case_files.specs.Files.{listed, case_of, title_of, sections}
+use Rattle.case_files.specs.Files.{fields_of, case_of, title_of, sections}
 use Rattle.case_files.proofs.Fronts.{strips_front}
 use Rattle.case_files.proofs.Sections.{sections_more, sections_titled, last_takes, none_takes}
 use Rattle.case_files.proofs.case.parse_cases.Goals as goal
@@ -15,7 +15,8 @@ loop-line-preserved-in_ok-push c =
     let found : title_of c.in-Some.line.now ≡ Some c.in-Some-strip_prefix.title.now =
     strips_front (codes "= ") c.in-Some.line.now c.strip_prefix.result c.strip_prefix.ensures.cases
     c.in-Some-strip_prefix.is in
-    ap (λ l. map listed l) c.in_ok-push.ensures.items ∙ map_push listed c.loop-line.cases.items c.in_ok-new.field-0
+    ap (λ l. map fields_of l) c.in_ok-push.ensures.items
+    ∙ map_push fields_of c.loop-line.cases.items c.in_ok-new.field-0
     ∙ (λ i. c.loop-line.invariant i ++ c.in_ok-new.ensures i ∷ [])
     ∙ sym (map_push case_of (sections before) (c.in-Some-strip_prefix.title.now, []))
     ∙ sym (ap (λ ls. map case_of (sections ls)) (map_push (λ line. line.now) c.loop-line.yielded c.in-Some.line)
@@ -43,8 +44,8 @@ loop-line-preserved c =
       | inl some ↦ absurd (false≢true (c.in_default-last_mut.ensures.variant.1 some))
       | inr none ↦ omega (arith, none, c.loop-line.cases.ok.0)
     ]) in
-    ap (λ l. map listed l) empty
-    ∙ none_takes (sections before) c.in-Some.line.now (sym (ap (λ l. map listed l) empty) ∙ c.loop-line.invariant)
+    ap (λ l. map fields_of l) empty
+    ∙ none_takes (sections before) c.in-Some.line.now (sym (ap (λ l. map fields_of l) empty) ∙ c.loop-line.invariant)
     ∙ sym (ap (λ ls. map case_of (sections ls)) (map_push (λ line. line.now) c.loop-line.yielded c.in-Some.line)
     ∙ ap (λ ss. map case_of ss) (sections_more before c.in-Some.line.now found))
 

@@ -1,4 +1,4 @@
-use Rattle.saphyr_scanner.proofs.Examples.Layout.{streams_nothing, streams_directives, streams_documents, streams_byte_order_marks, streams_carriage_return, streams_properties, streams_mark_behind_filler}
+use Rattle.saphyr_scanner.proofs.Examples.Layout.{streams_nothing, streams_directives, streams_documents, streams_byte_order_marks, streams_carriage_return, streams_properties, streams_tabs, streams_mark_behind_filler}
 use Rattle.saphyr_scanner.proofs.examples_law.derives_streams.Goals as goal
 
 pub returns-clause-nothing : goal.returns-clause-nothing
@@ -21,3 +21,6 @@ returns-clause-properties c = streams_properties
 
 pub returns-clause-mark_behind_filler : goal.returns-clause-mark_behind_filler
 returns-clause-mark_behind_filler c = streams_mark_behind_filler
+
+pub returns-clause-tabs : goal.returns-clause-tabs
+returns-clause-tabs c = streams_tabs

@@ -1,4 +1,4 @@
-use Rattle.saphyr_scanner.proofs.Examples.NearMisses.{tab_in_indentation, tab_behind_question, entry_left, key_over_lines, sequence_behind_key}
+use Rattle.saphyr_scanner.proofs.Examples.NearMisses.{tab_in_indentation, tab_behind_question, tab_behind_left_out, tab_behind_block_scalar, entry_left, key_over_lines, sequence_behind_key}
 use Rattle.saphyr_scanner.proofs.examples_law.refuses_in_block.Goals as goal
 
 pub returns-clause-tab_in_indentation : goal.returns-clause-tab_in_indentation
@@ -15,3 +15,9 @@ returns-clause-key_over_lines c = key_over_lines
 
 pub returns-clause-sequence_behind_key : goal.returns-clause-sequence_behind_key
 returns-clause-sequence_behind_key c = sequence_behind_key
+
+pub returns-clause-tab_behind_left_out : goal.returns-clause-tab_behind_left_out
+returns-clause-tab_behind_left_out c = tab_behind_left_out
+
+pub returns-clause-tab_behind_block_scalar : goal.returns-clause-tab_behind_block_scalar
+returns-clause-tab_behind_block_scalar c = tab_behind_block_scalar

@@ -1,0 +1,4 @@
+//! The tests of inputs.
+
+mod buffered;
+mod str;

@@ -1,0 +1,161 @@
+//! Iterators as inputs: up to the first `None`, up to the limit, and cloned in mid-text.
+
+ghost use Rattle.std.specs.Prelude.{◌≡◌, ◌+◌, ◌<◌, ◌≤◌, ◌==◌, None, Some, [], ◌∷◌, take, if◌then◌else◌, IfOk};
+ghost use Rattle.std.specs.Str.{chars};
+
+use saphyr_input::BufferedInput;
+use saphyr_input::input::Input;
+use saphyr_input::law::lists_characters;
+use std::alloc::{AllocError, Global};
+use std::cell::Cell;
+use std::str::Chars;
+use std::test::*;
+
+fn characters_of<'a>(alloc: Global, text: &'a str) -> Result<BufferedInput<Chars<'a>>, AllocError>
+    ensures rest { IfOk result (λ input. ⟦<BufferedInput<Chars<'a>> as Input>⟧.rest input
+        ≡ take 4294967296 (chars text.now)) }
+    ensures loaded { IfOk result (λ input. ⟦<BufferedInput<Chars<'a>> as Input>⟧.loaded input ≡ 0) }
+{
+    let iter = text.chars();
+    lists_characters(&iter);
+    BufferedInput::new(alloc, iter)
+}
+
+fn first_characters_of<'a>(
+    alloc: Global,
+    text: &'a str,
+    limit: u64,
+) -> Result<BufferedInput<Chars<'a>>, AllocError>
+    requires { limit ≤ 4294967296 }
+{
+    let iter = text.chars();
+    lists_characters(&iter);
+    BufferedInput::with_limit(alloc, iter, limit)
+}
+
+// Gives `a`, then `None`, then `b`, and counts the calls.
+#[derive(Drop)]
+struct Stutter<'a> {
+    place: u8,
+    calls: &'a Cell<u8>,
+}
+
+impl Iterator for Stutter<'_> {
+    type Item = char;
+
+    ghost next_gives = { λ s r t. (r ≡ (if s.place == 0 then Some 97 else (if s.place == 2 then Some 98 else None))) × (s.place < 3 → t.place ≡ s.place + 1) };
+
+    fn next(&mut self) -> Option<char> {
+        self.calls.set(self.calls.get().saturating_add(1));
+        let place = self.place;
+        if place < 3 {
+            self.place += 1;
+        }
+        match place {
+            0 => Some('a'),
+            2 => Some('b'),
+            _ => None,
+        }
+    }
+}
+
+fn stuttering<'a>(
+    alloc: Global,
+    calls: &'a Cell<u8>,
+) -> Result<BufferedInput<Stutter<'a>>, AllocError>
+    ensures { IfOk result (λ input. ⟦<BufferedInput<Stutter<'a>> as Input>⟧.rest input ≡ 97 ∷ []) }
+{
+    BufferedInput::new(alloc, Stutter { place: 0, calls })
+}
+
+#[test]
+fn reads_a_long_text(rt: HostRuntime) -> Result<(), Fail> {
+    let text = "né: a text of more than sixteen characters\n- and 日本\0!";
+    let mut input = characters_of(rt.alloc(), text)?;
+    for expected in text.chars() {
+        assert_eq!(rt; input.look_ch(), expected);
+        assert_eq!(rt; input.peek_opt(), Some(expected));
+        input.skip();
+    }
+    assert_eq!(rt; input.look_ch(), '\0');
+    assert_eq!(rt; input.peek_opt(), None);
+    Ok(())
+}
+
+#[test]
+fn looks_ahead_and_past_the_end(rt: HostRuntime) -> Result<(), Fail> {
+    let mut input = characters_of(rt.alloc(), "abé\ncd")?;
+    assert_eq!(rt; input.raw_read_ch(), 'a');
+    assert_eq!(rt; input.raw_read_ch(), 'b');
+    assert_eq!(rt; input.raw_read_non_breakz_ch(), Some('é'));
+    input.lookahead(5);
+    assert_eq!(rt; input.buflen(), 5);
+    assert_eq!(rt; input.peek(), '\n');
+    assert_eq!(rt; input.peek_nth(2), 'd');
+    assert_eq!(rt; input.peek_nth(3), '\0');
+    input.skip_n(2);
+    assert_eq!(rt; input.peek_opt(), Some('d'));
+    input.skip_n(3);
+    assert_eq!(rt; input.look_ch(), '\0');
+    Ok(())
+}
+
+#[test]
+fn keeps_a_break(rt: HostRuntime) -> Result<(), Fail> {
+    for (text, kept) in [
+        ("\n-", Some('\n')),
+        ("\0-", Some('\0')),
+        ("\u{FEFF}-", Some('\u{FEFF}')),
+        ("", None),
+    ] {
+        let mut input = characters_of(rt.alloc(), text)?;
+        assert_eq!(rt; input.raw_read_non_breakz_ch(), None);
+        input.lookahead(1);
+        assert_eq!(rt; input.peek_opt(), kept);
+    }
+    Ok(())
+}
+
+#[test]
+fn stops_at_the_first_none(rt: HostRuntime) -> Result<(), Fail> {
+    let calls = Cell::new(0);
+    let mut input = stuttering(rt.alloc(), &calls)?;
+    assert_eq!(rt; input.look_ch(), 'a');
+    assert_eq!(rt; calls.get(), 1);
+    input.skip();
+    for _ in 0..3 {
+        assert_eq!(rt; input.look_ch(), '\0');
+        input.skip();
+    }
+    assert_eq!(rt; calls.get(), 2, "no call after the first None");
+    Ok(())
+}
+
+#[test]
+fn clones_in_mid_text(rt: HostRuntime) -> Result<(), Fail> {
+    let mut input = characters_of(rt.alloc(), "one two three four five")?;
+    input.lookahead(6);
+    input.skip_n(4);
+    let mut copy = input.clone()?;
+    assert_eq!(rt; copy.buflen(), input.buflen());
+    for expected in "two three four five".chars() {
+        assert_eq!(rt; copy.look_ch(), expected);
+        copy.skip();
+    }
+    assert_eq!(rt; copy.look_ch(), '\0');
+    for expected in "two three four five".chars() {
+        assert_eq!(rt; input.look_ch(), expected);
+        input.skip();
+    }
+    assert_eq!(rt; input.look_ch(), '\0');
+    Ok(())
+}
+
+#[test]
+fn stops_at_the_limit(rt: HostRuntime) -> Result<(), Fail> {
+    let mut input = first_characters_of(rt.alloc(), "abcdef", 3)?;
+    input.lookahead(4);
+    assert_eq!(rt; input.peek_nth(2), 'c');
+    assert_eq!(rt; input.peek_nth(3), '\0');
+    Ok(())
+}

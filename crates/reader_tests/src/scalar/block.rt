@@ -1,0 +1,404 @@
+//! What is read of a block scalar, and where, against lists that were made elsewhere.
+use saphyr_input::StrInput;
+use saphyr_scalar::reading::BlockStyle;
+use saphyr_scalar::{BlockScalar, FaultText, Marker, Reader, Refusal, Span, Stop};
+use std::alloc::{AllocError, Global};
+use std::process::Abort;
+use std::test::Fail;
+
+// An index, a line and a column.
+type Place = (usize, usize, usize);
+
+// A text, how many characters stand before the scalar, and the first column right of the enclosing
+// collection; what it reads as, and where it begins and ends.
+type Read<'a> = (&'a str, usize, usize, &'a str, Place, Place);
+
+// The same of a scalar that is refused, and the fault and its place.
+type Refused<'a> = (&'a str, usize, usize, FaultText, Place);
+
+fn marker(place: Place) -> Marker {
+    Marker::new(place.0, place.1, place.2)
+}
+
+#[tactic(auto, using(saphyr_input::proofs::Basics::Lists::some_left))]
+fn read(
+    alloc: Global,
+    text: &str,
+    before: usize,
+    indent: usize,
+) -> Result<Result<BlockScalar, Refusal>, AllocError> {
+    let mut reader = Reader::new(StrInput::new(text));
+    for _ in 0..before {
+        if reader.look() != '\0' {
+            reader.skip_non_blank();
+        }
+    }
+    let style = if reader.look() == '|' {
+        BlockStyle::Literal
+    } else {
+        BlockStyle::Folded
+    };
+    if reader.look() == '\0' {
+        return Err(AllocError);
+    }
+    match reader.read_block_scalar(alloc, style, indent) {
+        Ok(scalar) => Ok(Ok(scalar)),
+        Err(Stop::Refused(refusal)) => Ok(Err(refusal)),
+        Err(Stop::OutOfMemory) => Err(AllocError),
+    }
+}
+
+fn expect_read(rt: &impl Abort, alloc: Global, rows: &[Read]) -> Result<(), Fail> {
+    for (text, before, indent, value, start, end) in rows {
+        let expected = BlockScalar {
+            text: String::from_str(alloc, value)?,
+            span: Span::new(marker(*start), marker(*end)),
+        };
+        let found = read(alloc, text, *before, *indent)?;
+        assert!(rt; found == Ok(expected), "{text:?}");
+    }
+    Ok(())
+}
+
+fn expect_refused(rt: &impl Abort, alloc: Global, rows: &[Refused]) -> Result<(), Fail> {
+    for (text, before, indent, fault, place) in rows {
+        let expected = Refusal {
+            text: *fault,
+            mark: marker(*place),
+        };
+        let found = read(alloc, text, *before, *indent)?;
+        assert!(rt; found == Err(expected), "{text:?}");
+    }
+    Ok(())
+}
+
+#[test]
+fn reads_scalars(rt: HostRuntime) -> Result<(), Fail> {
+    let rows = [
+        ("|-\n a\n\n", 0, 0, "a", (4, 2, 1), (7, 4, 0)),
+        ("|+\n a\n\n", 0, 0, "a\n\n", (4, 2, 1), (7, 4, 0)),
+        ("|2\n   a\n", 0, 0, " a\n", (5, 2, 2), (8, 3, 0)),
+        ("k: |2\n   a", 3, 1, " a\n", (8, 2, 2), (10, 2, 4)),
+        (
+            ">\n a\n  b\n c\n",
+            0,
+            0,
+            "a\n b\nc\n",
+            (3, 2, 1),
+            (12, 5, 0),
+        ),
+        ("|+\n", 0, 0, "", (0, 1, 0), (3, 2, 0)),
+        ("|+\n\n", 0, 0, "\n", (0, 1, 0), (4, 3, 0)),
+        ("|+\n ", 0, 0, "\n", (0, 1, 0), (4, 2, 1)),
+        (
+            "a: |-\n                  a\n                      b\n",
+            3,
+            1,
+            "a\n    b",
+            (24, 2, 18),
+            (50, 4, 0),
+        ),
+        (
+            ">\n a\n b\n\n  c\n d\n",
+            0,
+            0,
+            "a b\n\n c\nd\n",
+            (3, 2, 1),
+            (16, 7, 0),
+        ),
+        ("|\n a\n ", 0, 0, "a\n", (3, 2, 1), (6, 3, 1)),
+        ("|+\n a\n ", 0, 0, "a\n\n", (4, 2, 1), (7, 3, 1)),
+        ("--- |\na\n---\nb\n", 4, 0, "a\n", (6, 2, 0), (8, 3, 0)),
+        ("foo: |\n  bar", 5, 1, "bar\n", (9, 2, 2), (12, 2, 5)),
+    ];
+    expect_read(&rt, rt.alloc(), &rows)
+}
+
+#[test]
+fn reads_headers_breaks_and_ends(rt: HostRuntime) -> Result<(), Fail> {
+    let rows = [
+        ("|2-  # c\n   a\n\n", 0, 0, " a", (11, 2, 2), (15, 4, 0)),
+        (">+2\t\n  a\n", 0, 0, "a\n", (7, 2, 2), (9, 3, 0)),
+        ("|+", 0, 0, "", (0, 1, 0), (2, 1, 2)),
+        ("|+ \0a", 0, 0, "", (0, 1, 0), (3, 1, 3)),
+        ("|\r\n a\r\n\r b\r", 0, 0, "a\n\nb\n", (4, 2, 1), (11, 5, 0)),
+        (">\r a\r b\r\n", 0, 0, "a b\n", (3, 2, 1), (9, 4, 0)),
+        ("|\n a\0b", 0, 0, "a\n", (3, 2, 1), (4, 2, 2)),
+        ("|+\n a\u{FEFF}b", 0, 0, "a", (4, 2, 1), (5, 2, 2)),
+        ("|\n\u{FEFF}", 0, 0, "", (2, 2, 0), (2, 2, 0)),
+        ("- |\n  a\n b", 2, 1, "a\n", (6, 2, 2), (9, 3, 1)),
+        ("- - |+\n\n- b", 4, 3, "\n", (8, 3, 0), (8, 3, 0)),
+        ("|\na\n...\n", 0, 0, "a\n", (2, 2, 0), (4, 3, 0)),
+        ("|\n---\n", 0, 0, "", (2, 2, 0), (2, 2, 0)),
+        ("|\n --- b\n", 0, 0, "--- b\n", (3, 2, 1), (9, 3, 0)),
+        ("|\n----\n", 0, 0, "----\n", (2, 2, 0), (7, 3, 0)),
+        (
+            ">\n a\n \tb\n c\n",
+            0,
+            0,
+            "a\n\tb\nc\n",
+            (3, 2, 1),
+            (12, 5, 0),
+        ),
+        ("|\n a \t\n  \n", 0, 0, "a \t\n \n", (3, 2, 1), (10, 4, 0)),
+        ("|+\n  a\n   ", 0, 0, "a\n \n", (5, 2, 2), (10, 3, 3)),
+        ("|+\n  a\n ", 0, 0, "a\n", (5, 2, 2), (8, 3, 1)),
+        ("|\n a\n\n ", 0, 0, "a\n", (3, 2, 1), (7, 4, 1)),
+        ("|+\n a\n\n ", 0, 0, "a\n\n\n", (4, 2, 1), (8, 4, 1)),
+        (">+\n\n  \n  a\n", 0, 0, "\n\na\n", (9, 4, 2), (11, 5, 0)),
+    ];
+    expect_read(&rt, rt.alloc(), &rows)
+}
+
+#[test]
+fn refuses(rt: HostRuntime) -> Result<(), Fail> {
+    let rows = [
+        (
+            "|\n   \n a",
+            0,
+            0,
+            FaultText::BlockScalarLineIndentation,
+            (7, 3, 1),
+        ),
+        ("|0", 0, 0, FaultText::BlockScalarIndicatorZero, (0, 1, 0)),
+        ("|-0", 0, 0, FaultText::BlockScalarIndicatorZero, (0, 1, 0)),
+        ("|\n\ta", 0, 0, FaultText::BlockScalarTabFirst, (0, 1, 0)),
+        (
+            "- |2+-\n   a",
+            2,
+            1,
+            FaultText::BlockScalarHeaderEndExpected,
+            (2, 1, 2),
+        ),
+        (
+            ">12\n a",
+            0,
+            0,
+            FaultText::BlockScalarHeaderEndExpected,
+            (0, 1, 0),
+        ),
+        (
+            "k: |2\n a",
+            3,
+            1,
+            FaultText::BlockScalarLineIndentation,
+            (7, 2, 1),
+        ),
+        (
+            "|#c\n a",
+            0,
+            0,
+            FaultText::CommentWithoutWhitespace,
+            (1, 1, 1),
+        ),
+        (
+            "| \u{FEFF}\n a",
+            0,
+            0,
+            FaultText::MisplacedByteOrderMark,
+            (2, 1, 2),
+        ),
+    ];
+    expect_refused(&rt, rt.alloc(), &rows)
+}
+
+#[test]
+fn reads_found_texts(rt: HostRuntime) -> Result<(), Fail> {
+    let rows = [
+        ("|\n   ", 0, 0, "", (0, 1, 0), (5, 2, 3)),
+        ("|-\n! ", 0, 0, "! ", (3, 2, 0), (5, 2, 2)),
+        (">-\n   \u{E9}\n", 0, 0, "\u{E9}", (6, 2, 3), (8, 3, 0)),
+        (">+\n+\t,\r\n?\n", 0, 0, "+\t, ?\n", (3, 2, 0), (10, 4, 0)),
+        (
+            "|+\n1\u{85}\n...\n",
+            0,
+            0,
+            "1\u{85}\n",
+            (3, 2, 0),
+            (6, 3, 0),
+        ),
+        ("|+\n---\n'\n\n'", 0, 0, "", (3, 2, 0), (3, 2, 0)),
+        (">\r\n  1x\r...\n", 0, 0, "1x\n", (5, 2, 2), (8, 3, 0)),
+        (
+            "|+\n'z[a\n\t>\n\n",
+            0,
+            0,
+            "'z[a\n\t>\n\n",
+            (3, 2, 0),
+            (12, 5, 0),
+        ),
+        (
+            ">\n Sammy Sosa",
+            0,
+            0,
+            "Sammy Sosa\n",
+            (3, 2, 1),
+            (13, 2, 11),
+        ),
+        ("|-\n  ab.a#b.\n", 0, 0, "ab.a#b.", (5, 2, 2), (13, 3, 0)),
+        ("|1\n }z  \n...\n", 0, 0, "}z  \n", (4, 2, 1), (9, 3, 0)),
+        ("> #: !%zz *b  ", 0, 0, "", (0, 1, 0), (14, 1, 14)),
+        (
+            ">\n a  fold text",
+            0,
+            0,
+            "a  fold text\n",
+            (3, 2, 1),
+            (15, 2, 13),
+        ),
+        (
+            ">3\n   y=b\u{2028}\n   \n",
+            0,
+            0,
+            "y=b\u{2028}\n",
+            (6, 2, 3),
+            (15, 4, 0),
+        ),
+        ("|-\n ab\n \n.&b  \n", 0, 0, "ab", (4, 2, 1), (9, 4, 0)),
+        (
+            ">\n a\n ]\n\n  c\n d\n",
+            0,
+            0,
+            "a ]\n\n c\nd\n",
+            (3, 2, 1),
+            (16, 7, 0),
+        ),
+        (
+            "|-\n\": :\t{:,\n--- [",
+            0,
+            0,
+            "\": :\t{:,",
+            (3, 2, 0),
+            (12, 3, 0),
+        ),
+        ("|\n c\n# c\n{*a*a- \n  ", 0, 0, "c\n", (3, 2, 1), (5, 3, 0)),
+        (
+            "|+\n  \ty1ac\t\n   \n...\n",
+            0,
+            0,
+            "\ty1ac\t\n \n",
+            (5, 2, 2),
+            (16, 4, 0),
+        ),
+        (
+            "|+2 #\n  \n \n  11\n...\n",
+            0,
+            0,
+            "\n\n11\n",
+            (13, 4, 2),
+            (16, 5, 0),
+        ),
+        (
+            ">\n ab\n cd\n \n ef\n\n \n gh\n",
+            0,
+            0,
+            "ab cd\nef\n\ngh\n",
+            (3, 2, 1),
+            (23, 9, 0),
+        ),
+        (
+            "|3+\r   }\tx\r   z\t\u{7F}<z\u{7F}\r \r",
+            0,
+            0,
+            "}\tx\nz\t\u{7F}<z\u{7F}\n\n",
+            (7, 2, 3),
+            (23, 5, 0),
+        ),
+        (
+            ">3\r\n\r\n   #\r\n   _\r\n   \t\r\n",
+            0,
+            0,
+            "\n# _\n\t\n",
+            (9, 3, 3),
+            (24, 6, 0),
+        ),
+        (
+            "|\n  b0]:$\n\n  _\n  c\t\t\u{7F}' \n \n",
+            0,
+            0,
+            "b0]:$\n\n_\nc\t\t\u{7F}' \n",
+            (4, 2, 2),
+            (26, 7, 0),
+        ),
+        (
+            ">\n  foo!!\n \n  \t bar\n\n  baz\n",
+            0,
+            0,
+            "foo!!\n\n\t bar\n\nbaz\n",
+            (4, 2, 2),
+            (27, 7, 0),
+        ),
+        (
+            ">+\nbb|0\nb=]b|1\n\nab]: \n# c\n+",
+            0,
+            0,
+            "bb|0 b=]b|1\nab]:  # c +\n",
+            (3, 2, 0),
+            (27, 7, 1),
+        ),
+    ];
+    expect_read(&rt, rt.alloc(), &rows)
+}
+
+#[test]
+fn refuses_found_texts(rt: HostRuntime) -> Result<(), Fail> {
+    let rows = [
+        (
+            "|@",
+            0,
+            0,
+            FaultText::BlockScalarHeaderEndExpected,
+            (0, 1, 0),
+        ),
+        (
+            "|\n  \n a",
+            0,
+            0,
+            FaultText::BlockScalarLineIndentation,
+            (6, 3, 1),
+        ),
+        (
+            "| 2b\n   a\n",
+            0,
+            0,
+            FaultText::BlockScalarHeaderEndExpected,
+            (0, 1, 0),
+        ),
+        (
+            "|'+\n'\\\n# c\n",
+            0,
+            0,
+            FaultText::BlockScalarHeaderEndExpected,
+            (0, 1, 0),
+        ),
+        (
+            "|key: avalue\n",
+            0,
+            0,
+            FaultText::BlockScalarHeaderEndExpected,
+            (0, 1, 0),
+        ),
+        (
+            "|0\n\n \n \"a\" ...",
+            0,
+            0,
+            FaultText::BlockScalarIndicatorZero,
+            (0, 1, 0),
+        ),
+        (
+            "|&:\n*a \n\t0*1 \u{1F600},",
+            0,
+            0,
+            FaultText::BlockScalarHeaderEndExpected,
+            (0, 1, 0),
+        ),
+        (
+            ">2\n  \n  \n\n \t\r*b ! ",
+            0,
+            0,
+            FaultText::BlockScalarLineIndentation,
+            (11, 5, 1),
+        ),
+    ];
+    expect_refused(&rt, rt.alloc(), &rows)
+}

@@ -1,0 +1,184 @@
+//! Line breaks, folding, and the values of scalars in each style.
+
+use saphyr_scalar::reading::{
+    BlockStyle, Chomping, Ending, Item, block_value, double_quoted_value, folded, normalized,
+    plain_value, single_quoted_value,
+};
+use std::alloc::AllocError;
+
+#[test]
+fn breaks_are_normalized(rt: HostRuntime) -> Result<(), AllocError> {
+    for (text, want) in [
+        ("a\r\nb\rc\n\r", "a\nb\nc\n\n"),
+        ("\r\r\n", "\n\n"),
+        ("é", "é"),
+    ] {
+        assert_eq!(rt; normalized(rt.alloc(), text)?.as_str(), want, "{text:?}");
+    }
+    Ok(())
+}
+
+#[test]
+fn items_are_folded(rt: HostRuntime) -> Result<(), AllocError> {
+    let items = [
+        Item::Blank(' '),
+        Item::Raw('a'),
+        Item::Blank('\t'),
+        Item::Break,
+        Item::Blank(' '),
+        Item::Escaped(' '),
+        Item::Blank(' '),
+        Item::EscapedBreak,
+        Item::Blank(' '),
+        Item::Break,
+        Item::Raw('b'),
+        Item::Break,
+        Item::EscapedBreak,
+    ];
+    assert_eq!(rt; folded(rt.alloc(), &items)?.as_str(), " a   \nb ");
+    Ok(())
+}
+
+#[test]
+fn plain_scalars(rt: HostRuntime) -> Result<(), AllocError> {
+    for (piece, want) in [
+        ("a\n\nb", "a\nb"),
+        ("1 2", "1 2"),
+        ("scalar\nkey", "scalar key"),
+        ("a \t\r\n  b", "a b"),
+        ("a\n\n \n\nb\\n", "a\n\n\nb\\n"),
+    ] {
+        assert_eq!(rt; plain_value(rt.alloc(), piece)?.as_str(), want, "{piece:?}");
+    }
+    Ok(())
+}
+
+#[test]
+fn single_quoted_scalars(rt: HostRuntime) -> Result<(), AllocError> {
+    for (piece, want) in [
+        ("'it''s'", Some("it's")),
+        ("''", Some("")),
+        ("''''", Some("'")),
+        ("' a \n\n b\\n '", Some(" a\nb\\n ")),
+        ("'it's'", None),
+        ("'''", None),
+        ("'", None),
+        ("a'", None),
+        ("\"a\"", None),
+        ("", None),
+    ] {
+        let value = single_quoted_value(rt.alloc(), piece)?;
+        assert_eq!(rt; value.as_deref(), want, "{piece:?}");
+    }
+    Ok(())
+}
+
+#[test]
+fn double_quoted_scalars(rt: HostRuntime) -> Result<(), AllocError> {
+    for (piece, want) in [
+        ("\"a \\\n  b\n\n c\"", Some("a b\nc")),
+        ("\"a\\\n\n\n b\\ \n\"", Some("a\n\nb  ")),
+        (
+            "\"\\0\\a\\b\\t\\\t\\n\\v\\f\\r\\e\"",
+            Some("\0\x07\x08\t\t\n\x0B\x0C\r\x1B"),
+        ),
+        (
+            "\"\\ \\\"\\/\\\\\\N\\_\\L\\P\"",
+            Some(" \"/\\\u{85}\u{A0}\u{2028}\u{2029}"),
+        ),
+        ("\"\\x41\\u20aC\\U0001F600\"", Some("A€😀")),
+        ("\"\\U0010FFFF\"", Some("\u{10FFFF}")),
+        ("\"\\ud83d\\ude00\"", None),
+        ("\"\\U00110000\"", None),
+        ("\"\\UFFFFFFFF\"", None),
+        ("\"\\x4\"", None),
+        ("\"\\u004g\"", None),
+        ("\"\\q\"", None),
+        ("\"a\"b\"", None),
+        ("\"a\\\"", None),
+        ("\"a", None),
+        ("\"", None),
+    ] {
+        let value = double_quoted_value(rt.alloc(), piece)?;
+        assert_eq!(rt; value.as_deref(), want, "{piece:?}");
+    }
+    Ok(())
+}
+
+#[test]
+fn folded_block_scalars(rt: HostRuntime) -> Result<(), AllocError> {
+    for (text, want) in [
+        (" a\n b\n\n  c\n d\n", "a b\n\n c\nd\n"),
+        (" a\n  b\n c\n", "a\n b\nc\n"),
+        ("\n a\n\n\n b", "\na\n\nb\n"),
+        (" a\n\n \tb\n\n c\n", "a\n\n\tb\n\nc\n"),
+    ] {
+        let value = block_value(
+            rt.alloc(),
+            BlockStyle::Folded,
+            Chomping::Clip,
+            1,
+            text,
+            Ending::AtEnd,
+        )?;
+        assert_eq!(rt; value.as_str(), want, "{text:?}");
+    }
+    Ok(())
+}
+
+#[test]
+fn literal_block_scalars(rt: HostRuntime) -> Result<(), AllocError> {
+    for (indentation, text, stripped, clipped, kept) in [
+        (1, " a\n ", "a", "a\n", "a\n\n"),
+        (1, " a\n\n", "a", "a\n", "a\n\n"),
+        (1, "\n a\r\n\r b\r", "\na\n\nb", "\na\n\nb\n", "\na\n\nb\n"),
+        (2, "   a\n", " a", " a\n", " a\n"),
+        (2, "   a", " a", " a\n", " a\n"),
+        (2, "  a\n ", "a", "a\n", "a\n"),
+        (2, "  a\n  ", "a", "a\n", "a\n\n"),
+        (2, "  a\n   ", "a\n ", "a\n \n", "a\n \n"),
+        (0, "", "", "", ""),
+        (0, "\n", "", "", "\n"),
+        (1, " ", "", "", "\n"),
+        (1, "\n ", "", "", "\n"),
+    ] {
+        for (chomping, want) in [
+            (Chomping::Strip, stripped),
+            (Chomping::Clip, clipped),
+            (Chomping::Keep, kept),
+        ] {
+            let value = block_value(
+                rt.alloc(),
+                BlockStyle::Literal,
+                chomping,
+                indentation,
+                text,
+                Ending::AtEnd,
+            )?;
+            assert_eq!(rt; value.as_str(), want, "{chomping:?} {text:?}");
+        }
+    }
+    Ok(())
+}
+
+#[test]
+fn block_scalars_cut_by_a_mark(rt: HostRuntime) -> Result<(), AllocError> {
+    for (chomping, text, want) in [
+        (Chomping::Strip, " a", "a"),
+        (Chomping::Clip, " a", "a"),
+        (Chomping::Keep, " a", "a"),
+        (Chomping::Keep, " a\n ", "a\n"),
+        (Chomping::Keep, " ", ""),
+    ] {
+        let value = block_value(
+            rt.alloc(),
+            BlockStyle::Literal,
+            chomping,
+            1,
+            text,
+            Ending::AtMark,
+        )?;
+        assert_eq!(rt; value.as_str(), want, "{chomping:?} {text:?}");
+    }
+    Ok(())
+}
