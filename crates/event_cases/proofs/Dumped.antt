@@ -12,6 +12,7 @@ use Rattle.saphyr_parser.specs.Answer.{Answer, Ending, Refused}
 use Rattle.saphyr_parser.specs.Cursor.{count}
 use Rattle.saphyr_parser.specs.Printed.{line, lines}
 use Rattle.saphyr_parser.specs.Dumps.{Cuts, Dumps}
+use Rattle.saphyr_parser.proofs.Printed.Dumping.{lines-append}
 use Rattle.case_files.specs.Lines.{line_of_fault}
 use Rattle.case_files.specs.Listings.{IsBefore}
 use Rattle.event_cases.specs.Dumped.{BeginsDump, IsDump, IsDumpUpTo, IsWritten}
@@ -71,11 +72,6 @@ pub dumps_up_to : (r : Result Bool Difference) (f : Fault) (shown : Option (List
 dumps_up_to r f shown all left text old taken rest empty split none same dumps =
     written_to r f shown text all same (up_to f all left text taken rest split none
     (subst (λ o. Dumps (Err (dump.Parse f)) all left (Some o) (Some taken)) empty dumps))
-
-lines-append : (xs ys : List (Happening × Span)) → lines (xs ++ ys) ≡ lines xs ++ lines ys
-lines-append [] ys = refl
-lines-append (e ∷ xs) ys =
-    ap (λ l. line e.0 ++ l) (lines-append xs ys) ∙ sym (append_assoc (line e.0) (lines xs) (lines ys))
 
 more : (xs ys : List ℕ) → 0 < length xs → 0 < length (xs ++ ys)
 more xs ys some = omega (arith, length-append xs ys)

@@ -2,15 +2,11 @@
 use Rattle.std.proofs.Common.{◌≡◌, ℕ, List, ◌++◌, refl, ap, codes}
 use lib.Utf8.{encode, encodes}
 use Rattle.std.proofs.lemmas.Str.{encodes-append}
-use Rattle.saphyr_scanner.specs.Grammar.Forest.{Primary, Secondary, Named, handle_bytes}
+use Rattle.saphyr_scanner.specs.Grammar.Forest.{Primary, Named, handle_bytes}
 
 pub primary : handle_bytes Primary ≡ codes "!"
 unfolding encode
 primary = refl
-
-pub secondary : handle_bytes Secondary ≡ codes "!!"
-unfolding encode
-secondary = refl
 
 pub named : (word : List ℕ) → handle_bytes (Named word) ≡ codes "!" ++ (encodes word ++ codes "!")
 unfolding encode

@@ -12,12 +12,13 @@ use saphyr_parser::Tag;
 use std::alloc::{AllocError, Global};
 
 /// A handle as it is written.
-#[tactic(auto, using(crate::proofs::Handles::primary, crate::proofs::Handles::secondary, crate::proofs::Handles::named))]
+#[tactic(auto, using(crate::proofs::Handles::primary, crate::proofs::Handles::named))]
 fn handle_text(alloc: Global, handle: &Handle) -> Result<String, AllocError>
     ensures { IfOk result (λ text. string_bytes text ≡ handle_bytes (handle_view handle.now)) }
 {
     match handle {
         Handle::Primary => String::from_str(alloc, "!"),
+        #[tactic(auto, using(saphyr_parser::proofs::Turned::Tags::secondary_bytes))]
         Handle::Secondary => String::from_str(alloc, "!!"),
         Handle::Named(word) => {
             let word = owned(alloc, word.as_str())?;

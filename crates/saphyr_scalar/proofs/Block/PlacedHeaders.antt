@@ -194,8 +194,8 @@ break_ends s e =
     (λ c. record {
       passes = passing.nothing s.mark s.rest;
       line =
-          inr (either (is_break (slice_index s.rest 0)) (is_z (slice_index s.rest 0)) (is_z (slice_index s.rest 0) ≡ true)
-          e (λ k. absurd (cc)) (λ k. k));
+          inr (either (is_break (slice_index s.rest 0)) (is_z (slice_index s.rest 0))
+          (is_z (slice_index s.rest 0) ≡ true) e (λ k. absurd (cc)) (λ k. k));
     }))
 
 header_break_ends : (start : Marker) (s : Cursor) → Given (Ends s) (header_break start s)

@@ -99,7 +99,8 @@ none_starts i n xs h = by_column (nat_eq n i) refl
 no_break_at : (x : ℕ) → x ≢ 10 → x ≢ 13 → is_break x ≡ false
 no_break_at x a d = rw (ne_eqb x 10 a, ne_eqb x 13 d) refl
 
-pub behind_same : (st : BlockStyle) (i : ℕ) (ab : Option Bool) (k : ℕ) (b : Bool) (m : Marker) (n : ℕ) (x others : List ℕ)
+pub behind_same : (st : BlockStyle) (i : ℕ) (ab : Option Bool) (k : ℕ) (b : Bool) (m : Marker) (n : ℕ)
+    (x others : List ℕ)
     → m.col ≡ 0 → IsBehind i n x others → between st i ab k b m x ≡ ended (is_some ab) k (there b (along m n) others)
 behind_same st i ab k b m n x others col h =
     let at : m.col + n ≡ n = omega arith in
@@ -142,7 +143,8 @@ content_left st i n ab k b m c cs t others col h after =
     (line_feed_on st i (is_blank c) b p t) in
     subst (Left n others) (sym same) (after (is_blank c) (next_line p 1) refl)
 
-pub last_left : (st : BlockStyle) (i n : ℕ) (ab : Option Bool) (k : ℕ) (b : Bool) (m : Marker) (c : ℕ) (cs others : List ℕ)
+pub last_left : (st : BlockStyle) (i n : ℕ) (ab : Option Bool) (k : ℕ) (b : Bool) (m : Marker) (c : ℕ)
+    (cs others : List ℕ)
     → m.col ≡ i → IsContent i c cs [] → others ≡ []
     → Left n others (between st i ab k b m (c ∷ cs))
 last_left st i n ab k b m c cs others col h none =

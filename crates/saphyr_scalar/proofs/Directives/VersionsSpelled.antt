@@ -141,7 +141,8 @@ version_spelled start m xs d u begins h =
       says = ap (λ (x : Directive × Cursor). x.0) same;
       blanks = (
         gap_some is_digit xs gap (drop n xs) (λ c e. (ends_at c e).no_digit) begins
-            (sym (take-append-drop n xs)) (rw point (first_of is_digit high (46 ∷ (b.digits ++ u.rest)) first.0 first.2)),
+            (sym (take-append-drop n xs))
+            (rw point (first_of is_digit high (46 ∷ (b.digits ++ u.rest)) first.0 first.2)),
         run_is_in is_blank xs,
       );
       first = first;

@@ -190,7 +190,8 @@ special_of q c is h = by_cases (is_blank c) (is_break c) (is_z c) (flow.is_speci
     by_cases false false true false x y w h = absurd (cc)
     by_cases false false false false x y w h = absurd (cc)
 
-pub word_spelled : (n : ℕ) (q : Quote) (indent : ℕ) (start m : Marker) (c : ℕ) (cs y : List ℕ) (s : Cursor) → IsContent c
+pub word_spelled : (n : ℕ) (q : Quote) (indent : ℕ) (start m : Marker) (c : ℕ) (cs y : List ℕ) (s : Cursor)
+    → IsContent c
     → length cs ≤ n → Known n q indent start
     → GaveText (inside q indent start no_gap 0 m (c ∷ cs)) y s → Word q m (c ∷ cs) y s
 word_spelled n q indent start m c cs y s is le known g = cases (is_literal q c)
