@@ -1,3 +1,4 @@
 pub mod Agreement
 pub mod Dumped
 pub mod Handed
+pub mod Long

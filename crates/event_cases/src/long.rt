@@ -1,4 +1,7 @@
 //! Texts that are long or deep.
+ghost use Rattle.std.specs.Prelude.{◌≡◌, ◌++◌, OnOk, string_bytes};
+ghost use Rattle.event_cases.specs.Long.{DeepBlockAgrees, DeepFlowAgrees, LongKeyAgrees, times};
+
 use crate::inputs::{Comparison, compare_inputs};
 use crate::writing::{WHOLE, is_dumped};
 use case_files::Difference;
@@ -6,14 +9,21 @@ use saphyr_parser::{CloneInput, Parser};
 use std::alloc::{AllocError, Global};
 
 /// Compares what `dump` writes of each text.
-pub fn compare(alloc: Global) -> Result<(), Difference> {
+pub fn compare(alloc: Global) -> Result<(), Difference>
+    ensures flow { OnOk result DeepFlowAgrees }
+    ensures block { OnOk result DeepBlockAgrees }
+    ensures key { OnOk result LongKeyAgrees }
+{
     nest_flow(alloc).map_err(|it| it.within(alloc, "deep flow mappings"))?;
     nest_block(alloc).map_err(|it| it.within(alloc, "deep block sequences"))?;
-    take_key(alloc).map_err(|it| it.within(alloc, "a long key"))
+    take_key(alloc).map_err(|it| it.within(alloc, "a long key"))?;
+    Ok(())
 }
 
 // A colon may not stand before a brace, at the first of 10,000.
-fn nest_flow(alloc: Global) -> Result<(), Difference> {
+fn nest_flow(alloc: Global) -> Result<(), Difference>
+    ensures { OnOk result DeepFlowAgrees }
+{
     let mut text = String::new(alloc);
     push_many(&mut text, "{a:", 10_000)?;
     push_many(&mut text, "}", 10_000)?;
@@ -27,10 +37,12 @@ fn nest_flow(alloc: Global) -> Result<(), Difference> {
 }
 
 // Block collections may be nested as deep as one likes.
-fn nest_block(alloc: Global) -> Result<(), Difference> {
+fn nest_block(alloc: Global) -> Result<(), Difference>
+    ensures { OnOk result DeepBlockAgrees }
+{
     let mut text = String::new(alloc);
     push_many(&mut text, "- ", 10_000)?;
-    text.push('a')?;
+    text.push_str("a")?;
     let mut lines = String::from_str(alloc, "+STR\n+DOC\n")?;
     push_many(&mut lines, "+SEQ\n", 10_000)?;
     lines.push_str("=VAL :a\n")?;
@@ -45,7 +57,9 @@ fn nest_block(alloc: Global) -> Result<(), Difference> {
 }
 
 // A key inside a flow collection may be as long as one likes.
-fn take_key(alloc: Global) -> Result<(), Difference> {
+fn take_key(alloc: Global) -> Result<(), Difference>
+    ensures { OnOk result LongKeyAgrees }
+{
     let mut text = String::from_str(alloc, "[")?;
     push_many(&mut text, "a", 100_000)?;
     text.push_str(": b]")?;
@@ -60,7 +74,10 @@ fn take_key(alloc: Global) -> Result<(), Difference> {
     compare_inputs(alloc, text.as_str(), &dumped)
 }
 
-fn push_many(text: &mut String, piece: &str, count: usize) -> Result<(), AllocError> {
+fn push_many(text: &mut String, piece: &str, count: usize) -> Result<(), AllocError>
+    ensures { OnOk result
+        (string_bytes text.new ≡ string_bytes text.old ++ times count piece.now) }
+{
     for _ in 0..count {
         text.push_str(piece)?;
     }
