@@ -41,7 +41,7 @@ OF_ARGUMENT = r"\+[\w+]*"
 class Edit:
     name: str
     changes: list  # of (path, old, new)
-    functions: set  # the paths of the functions that it changes
+    functions: set  # what it changes, each as `function_at` gives it
 
 
 def read_edit(file):
@@ -161,8 +161,7 @@ def batch_of(edits, folder):
 
 
 def check(crate, texts, functions, kept):
-    """What the prover says of these functions, and of what they call, with these texts in place of the crate's own; of
-    all functions where none are given."""
+    """What the prover says of these functions, and of what they call, with these texts in place of the crate's own."""
     only = [word for it in sorted(functions) for word in ("--only", named(it))]
     with tempfile.TemporaryDirectory(prefix="edits-") as room:
         for part in ("src", "specs", "proofs"):
@@ -172,8 +171,8 @@ def check(crate, texts, functions, kept):
             with open(f"{room}/{path}", "w", encoding="utf-8") as file:
                 file.write(text)
         words = [*rtlib.guarded(), rtlib.RATTLE, "check", *crate.words(["--jobs", "1", *only]), "--incremental", kept]
-        ran = subprocess.run(words, cwd=room, stdin=subprocess.DEVNULL, stdout=subprocess.PIPE, stderr=subprocess.STDOUT)
-        return ran.stdout.decode(errors="replace")
+        how = {"stdin": subprocess.DEVNULL, "stdout": subprocess.PIPE, "stderr": subprocess.STDOUT}
+        return subprocess.run(words, cwd=room, **how).stdout.decode(errors="replace")
 
 
 def named(function):
@@ -185,7 +184,6 @@ def named(function):
 def verdict_of(function, said):
     """What the prover says of a function, if it names it. It names a method by the module of its type."""
     crate, *inside, owner, name = function
-    # the name of the block `From<AllocError> for Fault` has the trait's argument too
     owners = rf"{owner}::" if owner else ""
     found = dict(re.findall(rf"(?m)^fn ({crate}::(?:\w+::)*{owners}{name}): (.*)$", said))
     here = [it for it in found if "::".join([crate, *inside]).startswith(it.rsplit("::", 2 if owner else 1)[0])]
@@ -236,8 +234,8 @@ def judge(crate, names):
                     print(f"{crate.name}/{edit.name}: refused only because a proof file names what it took away")
             number += len(refused)
             left = [it for it in left if it not in refused + proved]
-            seconds = time.time() - begun
-            print(f"{crate.name}: {len(refused)} of {len(batch)} refused, {len(left)} left, {seconds:.0f} s", flush=True)
+            tried = f"{len(refused)} of {len(batch)} refused, {len(left)} left"
+            print(f"{crate.name}: {tried}, {time.time() - begun:.0f} s", flush=True)
     return number, wrong
 
 
