@@ -242,7 +242,8 @@ def judge(crate, names):
 def has_library(crate):
     """Whether a crate's library stands in its out/, made after the last change of its source."""
     parts = [f"{crate.folder}/{part}/**" for part in ("src", "specs", "proofs")]
-    changed = max(os.path.getmtime(file) for part in parts for file in glob.glob(part, recursive=True))
+    files = [file for part in parts for file in glob.glob(part, recursive=True)]
+    changed = max(os.path.getmtime(file) for file in files if os.path.isfile(file))
     return os.path.isdir(crate.rlib) and (crate.is_built() or changed < os.path.getmtime(crate.rlib))
 
 
