@@ -69,8 +69,8 @@ pub fn derives_flow()
         (bare (Seq no_properties (MoreNodes (Map no_properties (MorePairs (plain (codes "a:")) left_out NoPair))
         NoNode)) ∷ []) (codes "[a::]") }
     ensures lone_key { IsLayoutText most_open
-        (bare (Seq no_properties (MoreNodes (Map no_properties (MorePairs (plain (codes "?")) left_out NoPair))
-        NoNode)) ∷ []) (codes "[?:]") }
+        (bare (Seq no_properties (MoreNodes (Map no_properties
+        (MorePairs (plain (codes "?")) left_out NoPair)) NoNode)) ∷ []) (codes "[?:]") }
     ensures comment_before_colon { IsLayoutText most_open (bare
         (Map no_properties (MorePairs (double_quoted (codes "a")) (plain (codes "b")) NoPair)) ∷ [])
         (codes "{\"a\" # c\n :b}") }
@@ -235,9 +235,9 @@ pub fn refuses_near_misses()
         (Version 1 2 ∷ Version major minor ∷ []) }
 {}
 
-/// No plain scalar is `- a` or `@a`, and none but a key is a colon alone; a lone `-` with a blank before its colon is no
-/// key; no header of a block scalar has two digits, `#x` without a blank before it ends no line, and no alias has an
-/// anchor.
+/// No plain scalar is `- a` or `@a`, and none but a key is a colon alone; a lone `-` with a blank before its colon is
+/// no key; no header of a block scalar has two digits, `#x` without a blank before it ends no line, and no alias has
+/// an anchor.
 pub fn refuses_scalars()
     ensures dash_and_blank { (in_flow : Bool) (indent : ℕ)
         → ¬ IsPlain in_flow indent (codes "- a") }
@@ -245,7 +245,8 @@ pub fn refuses_scalars()
         → ¬ IsPlain in_flow indent (codes "@a") }
     ensures lone_colon { (in_flow : Bool) (indent : ℕ) → ¬ IsPlain in_flow indent (codes ":") }
     ensures dash_apart { (room : ℕ) (key : Node) (in_flow : Bool) (indent : ℕ)
-        → ¬ IsKeyText (IsFlowNode room key in_flow indent) key in_flow indent (codes "-") (codes " ") }
+        → ¬ IsKeyText (IsFlowNode room key in_flow indent) key in_flow indent
+        (codes "-") (codes " ") }
     ensures two_digits { (indent i n : ℕ) (chomping : Chomping) (lines : List Line)
         (t body others : List ℕ)
         → ¬ IsBlockScalar indent i n chomping lines (codes "|12" ++ t) body others }
