@@ -199,10 +199,11 @@ class Derivation:
         """A plain scalar that is a key, right before its colon, and its node: any ink may stand in its last word."""
         front = self.plain(in_flow, indent)[0] + self.characters("   \t", 1) if self.rarely(2) else ""
         word = self.characters(OPEN_INK if in_flow else INK, self.few()) + self.characters("::::-?", 1)
-        is_refused = not front and (word[0] in FLOW + "&*!|>'\"%@`" or word in "-?:")
+        is_refused = not front and word[0] in FLOW + "&*!|>'\"%@`"
         text = front + ("a" + word if is_refused or word[0] == "#" else word)
         before, properties = self.before("a plain key", self.separation(indent, 1))
         self.hits.append("key: its last word is free")
+        self.hits += [f"key: {text} alone"] * (text in ("-", "?", ":"))
         return before + text, [("=VAL", properties, ":" + folded(text))]
 
     def quoted(self, quote, indent):

@@ -6,6 +6,7 @@ pub mod Layout
 pub mod LayoutRefused
 pub mod NearMisses
 pub mod AliasAlone
+pub mod DashApart
 pub mod OneForest
 pub mod Taken
 pub mod TakenTexts

@@ -7,8 +7,8 @@ ghost use Rattle.saphyr_scalar.specs.Spaces.{IsEol};
 ghost use Rattle.saphyr_scanner.specs.Examples.Forests.{plain, double_quoted};
 ghost use Rattle.saphyr_scanner.specs.Grammar.Forest.{Plain, SingleQuoted, DoubleQuoted, Literal, Folded, Primary, Secondary, Named, Verbatim, Shorthand, NonSpecific, no_properties, Alias, Scalar, Seq, Map, NoNode, MoreNodes, NoPair, MorePairs, left_out, Version, TagPrefix, Reserved, bare, Document, Forest, Node, Nodes, Properties, AreCompatible};
 ghost use Rattle.saphyr_scanner.specs.Grammar.BlockNodes.{AreOtherEntries, BehindKey, IsBehindScalar, IsBlockNode, IsImplicitPair, IsKeyAlone, IsLead};
-ghost use Rattle.saphyr_scanner.specs.Grammar.FlowNodes.{AreItems, IsBeforeColon, IsFlowNode};
-ghost use Rattle.saphyr_scanner.specs.Grammar.FlowScalars.{IsFirstWord, IsPlain, IsPlainKey};
+ghost use Rattle.saphyr_scanner.specs.Grammar.FlowNodes.{AreItems, IsBeforeColon, IsFlowNode, IsKeyText};
+ghost use Rattle.saphyr_scanner.specs.Grammar.FlowScalars.{IsFirstWord, IsPlain};
 ghost use Rattle.saphyr_scanner.specs.Grammar.Layout.{IsBareDocument, IsLayoutText, most_open};
 
 /// Texts in flow style, each with the forest that it stands for: collections, pairs, properties, and
@@ -68,6 +68,9 @@ pub fn derives_flow()
     ensures colon_in_key { IsLayoutText most_open
         (bare (Seq no_properties (MoreNodes (Map no_properties (MorePairs (plain (codes "a:")) left_out NoPair))
         NoNode)) ∷ []) (codes "[a::]") }
+    ensures lone_key { IsLayoutText most_open
+        (bare (Seq no_properties (MoreNodes (Map no_properties
+        (MorePairs (plain (codes "?")) left_out NoPair)) NoNode)) ∷ []) (codes "[?:]") }
     ensures comment_before_colon { IsLayoutText most_open (bare
         (Map no_properties (MorePairs (double_quoted (codes "a")) (plain (codes "b")) NoPair)) ∷ [])
         (codes "{\"a\" # c\n :b}") }
@@ -106,6 +109,9 @@ pub fn derives_block()
     ensures colons_in_keys { IsLayoutText most_open
         (bare (Map no_properties (MorePairs (plain (codes "a:")) (plain (codes "b"))
         (MorePairs (plain (codes "c :")) (plain (codes "d")) NoPair))) ∷ []) (codes "a:: b\nc :: d") }
+    ensures lone_keys { IsLayoutText most_open
+        (bare (Map no_properties (MorePairs (plain (codes "-")) (plain (codes "a"))
+        (MorePairs (plain (codes ":")) (plain (codes "b")) NoPair))) ∷ []) (codes "-: a\n:: b") }
     ensures mapping { IsLayoutText most_open (bare
         (Map no_properties (MorePairs (plain (codes "a")) (plain (codes "b"))
         (MorePairs (plain (codes "c")) (Seq no_properties (MoreNodes (plain (codes "d")) NoNode))
@@ -229,14 +235,18 @@ pub fn refuses_near_misses()
         (Version 1 2 ∷ Version major minor ∷ []) }
 {}
 
-/// No plain scalar is `- a` or `@a`, no key is a colon alone, no header of a block scalar has two digits, `#x` without a blank
-/// before it ends no line, and no alias has an anchor.
+/// No plain scalar is `- a` or `@a`, and none but a key is a colon alone; a lone `-` with a blank before its colon is
+/// no key; no header of a block scalar has two digits, `#x` without a blank before it ends no line, and no alias has
+/// an anchor.
 pub fn refuses_scalars()
     ensures dash_and_blank { (in_flow : Bool) (indent : ℕ)
         → ¬ IsPlain in_flow indent (codes "- a") }
     ensures indicator_first { (in_flow : Bool) (indent : ℕ)
         → ¬ IsPlain in_flow indent (codes "@a") }
-    ensures lone_colon { (in_flow : Bool) (indent : ℕ) → ¬ IsPlainKey in_flow indent (codes ":") }
+    ensures lone_colon { (in_flow : Bool) (indent : ℕ) → ¬ IsPlain in_flow indent (codes ":") }
+    ensures dash_apart { (room : ℕ) (key : Node) (in_flow : Bool) (indent : ℕ)
+        → ¬ IsKeyText (IsFlowNode room key in_flow indent) key in_flow indent
+        (codes "-") (codes " ") }
     ensures two_digits { (indent i n : ℕ) (chomping : Chomping) (lines : List Line)
         (t body others : List ℕ)
         → ¬ IsBlockScalar indent i n chomping lines (codes "|12" ++ t) body others }

@@ -73,7 +73,11 @@ flow_quoted_lines =
 -- a key that ends with a colon
 pub flow_colon_in_key : IsLayoutText most_open (bare (Seq no_properties (MoreNodes (Map no_properties (MorePairs (Scalar no_properties Plain (codes "a:")) left_out NoPair)) NoNode)) ∷ []) (codes "[a::]")
 flow_colon_in_key =
-    ([], codes "[a::]", (inl refl), ([], codes "[a::]", [], ([], tt, refl), (inl (refl, (refl, refl, (inl ([], codes "[a::]", [], (inr (refl, refl)), (254, codes "[", codes "a::", refl, ([], [], (inl (refl, refl)), ([], [], ([], tt, refl), tt, refl), refl), (codes "a::", [], (inr (refl, (inr (codes "a::", [], (inl (codes "a:", [], codes ":", (inr (([], codes "a:", refl, (inl (refl, refl)), (inl (((λ e. cc), (refl, (refl, tt)), (λ e. omega arith)), refl, (λ e. false≢true (ap (λ x. same x (codes "-")) e)), (λ e. false≢true (ap (λ x. same x (codes "?")) e)), (λ e. false≢true (ap (λ x. same x (codes ":")) e)))), refl, refl), refl)), (refl, (refl, tt)), tt, (inr refl), (inl (refl, refl)), refl)), ([], [], ([], tt, refl), tt, refl), refl)))), (inl refl), refl), refl), (inr (([], [], tt, (inl refl), refl), refl)), refl))))), (inl ([], [], ([], tt, refl), ([], [], tt, (inl refl), refl), refl)), refl), refl)
+    ([], codes "[a::]", (inl refl), ([], codes "[a::]", [], ([], tt, refl), (inl (refl, (refl, refl, (inl ([], codes "[a::]", [], (inr (refl, refl)), (254, codes "[", codes "a::", refl, ([], [], (inl (refl, refl)), ([], [], ([], tt, refl), tt, refl), refl), (codes "a::", [], (inr (refl, (inr (codes "a::", [], (inl (codes "a:", [], codes ":", (inr (([], codes "a:", refl, (inl (refl, refl)), (inl (((λ e. cc), (refl, (refl, tt)), (λ e. omega arith)), refl)), refl, refl), refl)), (refl, (refl, tt)), tt, (inr refl), (inl (refl, refl)), refl)), ([], [], ([], tt, refl), tt, refl), refl)))), (inl refl), refl), refl), (inr (([], [], tt, (inl refl), refl), refl)), refl))))), (inl ([], [], ([], tt, refl), ([], [], tt, (inl refl), refl), refl)), refl), refl)
+
+pub flow_lone_key : IsLayoutText most_open (bare (Seq no_properties (MoreNodes (Map no_properties (MorePairs (Scalar no_properties Plain (codes "?")) left_out NoPair)) NoNode)) ∷ []) (codes "[?:]")
+flow_lone_key =
+    ([], codes "[?:]", (inl refl), ([], codes "[?:]", [], ([], tt, refl), (inl (refl, (refl, refl, (inl ([], codes "[?:]", [], (inr (refl, refl)), (254, codes "[", codes "?:", refl, ([], [], (inl (refl, refl)), ([], [], ([], tt, refl), tt, refl), refl), (codes "?:", [], (inr (refl, (inr (codes "?:", [], (inl (codes "?", [], codes ":", (inr (([], codes "?", refl, (inl (refl, refl)), (inl (((λ e. cc), (refl, tt), (λ e. omega arith)), refl)), refl, refl), refl)), (refl, tt), tt, (inr refl), (inl (refl, refl)), refl)), ([], [], ([], tt, refl), tt, refl), refl)))), (inl refl), refl), refl), (inr (([], [], tt, (inl refl), refl), refl)), refl))))), (inl ([], [], ([], tt, refl), ([], [], tt, (inl refl), refl), refl)), refl), refl)
 
 pub block_sequence : IsLayoutText most_open (bare (Seq no_properties (MoreNodes (Scalar no_properties Plain (codes "a")) (MoreNodes (Scalar no_properties Plain (codes "b")) NoNode))) ∷ []) (codes "- a\n- b")
 block_sequence =
@@ -92,7 +96,11 @@ block_tabs_behind =
 -- keys that end with a colon
 pub block_colons_in_keys : IsLayoutText most_open (bare (Map no_properties (MorePairs (Scalar no_properties Plain (codes "a:")) (Scalar no_properties Plain (codes "b")) (MorePairs (Scalar no_properties Plain (codes "c :")) (Scalar no_properties Plain (codes "d")) NoPair))) ∷ []) (codes "a:: b\nc :: d")
 block_colons_in_keys =
-    ([], codes "a:: b\nc :: d", (inl refl), ([], codes "a:: b\nc :: d", [], ([], tt, refl), (inl (refl, (refl, refl, (inr (0, [], codes "a:: b\nc :: d", (inr (refl, refl)), (codes "a:: b\n", codes "c :: d", (inl (codes "a:", [], codes " b\n", (inr (([], codes "a:", refl, (inl (refl, refl)), (inl (((λ e. cc), (refl, (refl, tt)), (λ e. omega arith)), refl, (λ e. false≢true (ap (λ x. same x (codes "-")) e)), (λ e. false≢true (ap (λ x. same x (codes "?")) e)), (λ e. false≢true (ap (λ x. same x (codes ":")) e)))), refl, refl), refl)), (refl, (refl, tt)), (0, omega arith, refl), (inr refl), omega arith, (inr (inl (codes " ", codes "b", codes "\n", (inl (inl (1, omega arith, refl))), (inr ([], codes "b", (inl (refl, refl)), ((codes "b", [], (record { some = (λ e. cc); ink = (refl, (λ e f. omega arith), tt); no_comment = (λ e. omega arith); no_lone_dash = (λ e f. false≢true e) }, refl, (λ e. false≢true (ap (λ x. same x (codes "-")) e)), (λ e. false≢true (ap (λ x. same x (codes "?")) e)), (λ e. false≢true (ap (λ x. same x (codes ":")) e))), ([], tt, refl), refl), refl), refl)), (inl ([], ([], [], tt, (inl refl), refl), refl)), refl))), refl)), ([], codes "c :: d", [], ([], ([], tt, refl), refl), (inl (codes "c :", [], codes " d", (inr (([], codes "c :", refl, (inl (refl, refl)), (inr (codes "c", codes " ", codes ":", (codes "c", [], (record { some = (λ e. cc); ink = (refl, (λ e f. omega arith), tt); no_comment = (λ e. omega arith); no_lone_dash = (λ e f. false≢true e) }, refl, (λ e. false≢true (ap (λ x. same x (codes "-")) e)), (λ e. false≢true (ap (λ x. same x (codes "?")) e)), (λ e. false≢true (ap (λ x. same x (codes ":")) e))), ([], tt, refl), refl), (inl ((λ e. cc), (refl, tt))), ((λ e. cc), (refl, tt), (λ e. omega arith)), refl)), refl, refl), refl)), (refl, (refl, (refl, tt))), (0, omega arith, refl), (inr refl), omega arith, (inr (inl (codes " ", codes "d", [], (inl (inl (1, omega arith, refl))), (inr ([], codes "d", (inl (refl, refl)), ((codes "d", [], (record { some = (λ e. cc); ink = (refl, (λ e f. omega arith), tt); no_comment = (λ e. omega arith); no_lone_dash = (λ e f. false≢true e) }, refl, (λ e. false≢true (ap (λ x. same x (codes "-")) e)), (λ e. false≢true (ap (λ x. same x (codes "?")) e)), (λ e. false≢true (ap (λ x. same x (codes ":")) e))), ([], tt, refl), refl), refl), refl)), (inr (([], [], tt, (inl refl), refl), refl)), refl))), refl)), refl, refl), refl), refl))))), (inl ([], [], ([], tt, refl), ([], [], tt, (inl refl), refl), refl)), refl), refl)
+    ([], codes "a:: b\nc :: d", (inl refl), ([], codes "a:: b\nc :: d", [], ([], tt, refl), (inl (refl, (refl, refl, (inr (0, [], codes "a:: b\nc :: d", (inr (refl, refl)), (codes "a:: b\n", codes "c :: d", (inl (codes "a:", [], codes " b\n", (inr (([], codes "a:", refl, (inl (refl, refl)), (inl (((λ e. cc), (refl, (refl, tt)), (λ e. omega arith)), refl)), refl, refl), refl)), (refl, (refl, tt)), (0, omega arith, refl), (inr refl), omega arith, (inr (inl (codes " ", codes "b", codes "\n", (inl (inl (1, omega arith, refl))), (inr ([], codes "b", (inl (refl, refl)), ((codes "b", [], (record { some = (λ e. cc); ink = (refl, (λ e f. omega arith), tt); no_comment = (λ e. omega arith); no_lone_dash = (λ e f. false≢true e) }, refl, (λ e. false≢true (ap (λ x. same x (codes "-")) e)), (λ e. false≢true (ap (λ x. same x (codes "?")) e)), (λ e. false≢true (ap (λ x. same x (codes ":")) e))), ([], tt, refl), refl), refl), refl)), (inl ([], ([], [], tt, (inl refl), refl), refl)), refl))), refl)), ([], codes "c :: d", [], ([], ([], tt, refl), refl), (inl (codes "c :", [], codes " d", (inr (([], codes "c :", refl, (inl (refl, refl)), (inr (codes "c", codes " ", codes ":", (codes "c", [], (record { some = (λ e. cc); ink = (refl, (λ e f. omega arith), tt); no_comment = (λ e. omega arith); no_lone_dash = (λ e f. false≢true e) }, refl, (λ e. false≢true (ap (λ x. same x (codes "-")) e)), (λ e. false≢true (ap (λ x. same x (codes "?")) e)), (λ e. false≢true (ap (λ x. same x (codes ":")) e))), ([], tt, refl), refl), (inl ((λ e. cc), (refl, tt))), ((λ e. cc), (refl, tt), (λ e. omega arith)), refl)), refl, refl), refl)), (refl, (refl, (refl, tt))), (0, omega arith, refl), (inr refl), omega arith, (inr (inl (codes " ", codes "d", [], (inl (inl (1, omega arith, refl))), (inr ([], codes "d", (inl (refl, refl)), ((codes "d", [], (record { some = (λ e. cc); ink = (refl, (λ e f. omega arith), tt); no_comment = (λ e. omega arith); no_lone_dash = (λ e f. false≢true e) }, refl, (λ e. false≢true (ap (λ x. same x (codes "-")) e)), (λ e. false≢true (ap (λ x. same x (codes "?")) e)), (λ e. false≢true (ap (λ x. same x (codes ":")) e))), ([], tt, refl), refl), refl), refl)), (inr (([], [], tt, (inl refl), refl), refl)), refl))), refl)), refl, refl), refl), refl))))), (inl ([], [], ([], tt, refl), ([], [], tt, (inl refl), refl), refl)), refl), refl)
+
+pub block_lone_keys : IsLayoutText most_open (bare (Map no_properties (MorePairs (Scalar no_properties Plain (codes "-")) (Scalar no_properties Plain (codes "a")) (MorePairs (Scalar no_properties Plain (codes ":")) (Scalar no_properties Plain (codes "b")) NoPair))) ∷ []) (codes "-: a\n:: b")
+block_lone_keys =
+    ([], codes "-: a\n:: b", (inl refl), ([], codes "-: a\n:: b", [], ([], tt, refl), (inl (refl, (refl, refl, (inr (0, [], codes "-: a\n:: b", (inr (refl, refl)), (codes "-: a\n", codes ":: b", (inl (codes "-", [], codes " a\n", (inr (([], codes "-", refl, (inl (refl, refl)), (inl (((λ e. cc), (refl, tt), (λ e. omega arith)), refl)), refl, refl), refl)), (refl, tt), (0, omega arith, refl), (inr refl), omega arith, (inr (inl (codes " ", codes "a", codes "\n", (inl (inl (1, omega arith, refl))), (inr ([], codes "a", (inl (refl, refl)), ((codes "a", [], (record { some = (λ e. cc); ink = (refl, (λ e f. omega arith), tt); no_comment = (λ e. omega arith); no_lone_dash = (λ e f. false≢true e) }, refl, (λ e. false≢true (ap (λ x. same x (codes "-")) e)), (λ e. false≢true (ap (λ x. same x (codes "?")) e)), (λ e. false≢true (ap (λ x. same x (codes ":")) e))), ([], tt, refl), refl), refl), refl)), (inl ([], ([], [], tt, (inl refl), refl), refl)), refl))), refl)), ([], codes ":: b", [], ([], ([], tt, refl), refl), (inl (codes ":", [], codes " b", (inr (([], codes ":", refl, (inl (refl, refl)), (inl (((λ e. cc), (refl, tt), (λ e. omega arith)), refl)), refl, refl), refl)), (refl, tt), (0, omega arith, refl), (inr refl), omega arith, (inr (inl (codes " ", codes "b", [], (inl (inl (1, omega arith, refl))), (inr ([], codes "b", (inl (refl, refl)), ((codes "b", [], (record { some = (λ e. cc); ink = (refl, (λ e f. omega arith), tt); no_comment = (λ e. omega arith); no_lone_dash = (λ e f. false≢true e) }, refl, (λ e. false≢true (ap (λ x. same x (codes "-")) e)), (λ e. false≢true (ap (λ x. same x (codes "?")) e)), (λ e. false≢true (ap (λ x. same x (codes ":")) e))), ([], tt, refl), refl), refl), refl)), (inr (([], [], tt, (inl refl), refl), refl)), refl))), refl)), refl, refl), refl), refl))))), (inl ([], [], ([], tt, refl), ([], [], tt, (inl refl), refl), refl)), refl), refl)
 
 pub block_mapping : IsLayoutText most_open (bare (Map no_properties (MorePairs (Scalar no_properties Plain (codes "a")) (Scalar no_properties Plain (codes "b")) (MorePairs (Scalar no_properties Plain (codes "c")) (Seq no_properties (MoreNodes (Scalar no_properties Plain (codes "d")) NoNode)) NoPair))) ∷ []) (codes "a: b\nc:\n  - d")
 block_mapping =

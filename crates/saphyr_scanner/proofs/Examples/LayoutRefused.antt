@@ -59,7 +59,7 @@ marked : (t : List ℕ) → Begins IsMark t → NoComma t
 marked t (c, cs, h, e) = (c, cs, no_mark c h, e)
 
 -- before content stands nothing, or properties first
-before : (p : Properties) (indent : ℕ) (t : List ℕ) → IsBeforeContent p indent t → (t ≡ []) ⊎ Begins IsMark t
+pub before : (p : Properties) (indent : ℕ) (t : List ℕ) → IsBeforeContent p indent t → (t ≡ []) ⊎ Begins IsMark t
 before p indent t (inl (e, f)) = inl f
 before p indent t (inr (front, separation, h, n, s, e)) =
     inr (front_of IsMark front separation t (properties p.anchor p.tag front h) e)
@@ -95,8 +95,8 @@ scalar p style v in_flow indent t (inr (front, content, b, h, e)) =
     behind front content t (weaker front (before p indent front b)) (flow_scalar style v in_flow indent content h) e
 
 plain_key_word : (in_flow : Bool) (indent : ℕ) (t : List ℕ) → IsPlainKey in_flow indent t → NoComma t
-plain_key_word in_flow indent [] (inl ((some, ink, sign), b, x, y, z)) = absurd (some refl)
-plain_key_word in_flow indent (c ∷ cs) (inl (word, b, x, y, z)) = (c, cs, (λ e. comma_is_no_plain c e b), refl)
+plain_key_word in_flow indent [] (inl ((some, ink, sign), b)) = absurd (some refl)
+plain_key_word in_flow indent (c ∷ cs) (inl (word, b)) = (c, cs, (λ e. comma_is_no_plain c e b), refl)
 plain_key_word in_flow indent t (inr (first, gap, word, h, g, last, e)) =
     front_of (λ c. c ≢ 44) first (gap ++ word) t (plain in_flow indent first h) e
 

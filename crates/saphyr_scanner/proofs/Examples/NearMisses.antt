@@ -9,7 +9,7 @@ use Rattle.saphyr_scalar.specs.BlockSpelling as block
 use Rattle.saphyr_scalar.specs.PlainSpelling.{is_word_ink}
 use Rattle.saphyr_scalar.specs.Spaces.{AreSpaces, IsLineRest, IsEol}
 use Rattle.saphyr_scanner.specs.Grammar.Forest.{Properties, Node, Seq, Nodes, NoNode, MoreNodes}
-use Rattle.saphyr_scanner.specs.Grammar.FlowScalars.{begins_plain, IsFirstWord, IsPlain, IsPlainKey}
+use Rattle.saphyr_scanner.specs.Grammar.FlowScalars.{begins_plain, IsFirstWord, IsPlain}
 use Rattle.saphyr_scanner.specs.Grammar.FlowNodes.{IsOnLine, IsFlowNode}
 use Rattle.saphyr_scanner.proofs.Beginnings.{no_feed_no_filler, heads, tails, Begins, behind_in, before_in, lacks, IsFirst, no_first, behind_filler}
 use Rattle.saphyr_scanner.specs.Grammar.BlockNodes.{BehindKey, IsBehindScalar, IsLead, IsEntryIndentation, has_tab_ahead, IsImplicitPair, IsKeyAlone, IsBlockNode, AreOtherEntries}
@@ -32,22 +32,18 @@ no_dash in_flow (c ∷ d ∷ cs) others (h, b, x, y, z) e =
 pub dash_and_blank : (in_flow : Bool) (indent : ℕ) → IsPlain in_flow indent (codes "- a") → ⊥
 dash_and_blank in_flow indent (first, others, h, m, e) = no_dash in_flow first others h e
 
--- a key of one colon
-pub lone_colon : (in_flow : Bool) (indent : ℕ) → IsPlainKey in_flow indent (codes ":") → ⊥
-lone_colon in_flow indent (inl (word, b, x, y, z)) = z refl
-lone_colon in_flow indent (inr (plain, gap, word, (first, others, h, m, f), g, (some, ink, sign), e)) =
-    by_first first others h.0.some f e
-  where
-    none_left : (a b : List ℕ) → [] ≡ a ++ b → b ≡ []
-    none_left [] b e = sym e
-    none_left (c ∷ cs) b e = absurd (cc)
+-- a scalar of one character has no other first word
+no_lone : (d : ℕ) (first others : List ℕ) → first ≢ [] → first ≢ d ∷ [] → d ∷ [] ≡ first ++ others → ⊥
+no_lone d [] others some other e = some refl
+no_lone d (c ∷ []) others some other e = other (ap (λ v. v ∷ []) (heads d c [] others e))
+no_lone d (c ∷ b ∷ cs) others some other e =
+    let f : [] ≡ b ∷ (cs ++ others) = tails d c [] (b ∷ (cs ++ others)) e in cc
 
-    by_first : (w others : List ℕ) → w ≢ [] → plain ≡ w ++ others → codes ":" ≡ plain ++ (gap ++ word) → ⊥
-    by_first [] others k f e = k refl
-    by_first (c ∷ cs) others k f e =
-        let d : codes ":" ≡ c ∷ ((cs ++ others) ++ (gap ++ word)) = rw f at e in
-        some (none_left gap word
-        (sym (none_left (cs ++ others) (gap ++ word) (tails 58 c [] ((cs ++ others) ++ (gap ++ word)) d))))
+pub lone_colon : (in_flow : Bool) (indent : ℕ) → IsPlain in_flow indent (codes ":") → ⊥
+lone_colon in_flow indent (first, others, (h, b, x, y, z), m, e) = no_lone 58 first others h.some z e
+
+pub lone_dash : (in_flow : Bool) (indent : ℕ) → IsPlain in_flow indent (codes "-") → ⊥
+lone_dash in_flow indent (first, others, (h, b, x, y, z), m, e) = no_lone 45 first others h.some x e
 
 no_indicator : (in_flow : Bool) (first others : List ℕ) → IsFirstWord in_flow first → codes "@a" ≡ first ++ others → ⊥
 no_indicator in_flow [] others (h, b, x, y, z) e = h.some refl

@@ -116,7 +116,7 @@ scalar_ink indent Literal value in_flow t h = absurd h
 scalar_ink indent Folded value in_flow t h = absurd h
 
 pub plain_key_ink : (in_flow : Bool) (indent : ℕ) (t : List ℕ) → IsPlainKey in_flow indent t → BeginsInk t
-plain_key_ink in_flow indent t (inl ((some, ink, no_comment), begins, dash, mark, colon)) =
+plain_key_ink in_flow indent t (inl ((some, ink, no_comment), begins)) =
     by_word t some ink no_comment
   where
     by_word : (w : List ℕ) → w ≢ [] → AreIn (is_word_ink in_flow) w → slice_index w 0 ≢ 35 → BeginsInk w

@@ -1,5 +1,5 @@
 -- The plain scalars of a text in flow style are passed.
-use Rattle.std.proofs.Common.{◌≡◌, ◌≢◌, ℕ, ◌<◌, ◌≤◌, Bool, true, false, List, [], ◌∷◌, ◌++◌, length, slice_index, Ok, refl, sym, ap, ◌∙◌, arith, subst, IsTrue, ◌⊎◌, inl, inr, encode_utf8_all}
+use Rattle.std.proofs.Common.{◌≡◌, ◌≢◌, ℕ, ◌<◌, ◌≤◌, Bool, true, false, List, [], ◌∷◌, ◌++◌, length, slice_index, Ok, refl, sym, ap, ◌∙◌, arith, subst, append_assoc, IsTrue, ◌⊎◌, inl, inr, encode_utf8_all}
 use Rattle.std.specs.Prelude.{◌||◌, ◌&&◌, ◌==◌, not, nat_lt, Option, None}
 use Rattle.std.proofs.lemmas.Bool.Decides.{nat_tests}
 use Rattle.saphyr_input.specs.Breaks.{normalized}
@@ -31,7 +31,7 @@ use Rattle.saphyr_scanner.proofs.Flow.Gaps.{past_ink}
 use Rattle.saphyr_scanner.proofs.Flow.Arrivals.{arrives, within_index}
 use Rattle.saphyr_scanner.proofs.Flow.Low.{behind_low}
 use Rattle.saphyr_scanner.proofs.Flow.Tokens.{Begins, saved_since, begins_past, begins_inked, begins_token, after_token, token_passes}
-use Rattle.saphyr_scanner.proofs.Flow.Words.{passed_moved, normalized_same, ink_other, no_break, plain_text, key_text, plain_right, key_right}
+use Rattle.saphyr_scanner.proofs.Flow.Words.{passed_moved, normalized_same, ink_other, no_break, colon_is_ink, plain_text, key_text, plain_right, key_right}
 use Rattle.saphyr_scanner.proofs.Flow.Noted.{noted_one}
 use Rattle.saphyr_scanner.proofs.InBlock.Crossings.{white_crosses}
 use Rattle.saphyr_input.proofs.Basics.Booleans.{other_than, and_false}
@@ -40,8 +40,8 @@ use Rattle.std.proofs.lemmas.Bool.{ne_eqb, eqb-true}
 
 -- ## The first two characters
 
--- the first word of a plain scalar begins a text
-pub record BeginsWord (f : Bool) (t : List ℕ) : Type 0 where
+-- the first word of a plain scalar begins a text, before what stands behind it
+pub record BeginsWord (f : Bool) (t o : List ℕ) : Type 0 where
   pub first : ℕ
   pub others : List ℕ
   pub is : t ≡ first ∷ others
@@ -49,23 +49,22 @@ pub record BeginsWord (f : Bool) (t : List ℕ) : Type 0 where
   pub ink : IsTrue (is_word_ink f first)
   pub no_comment : first ≢ 35
   pub further : (first ≡ 45) ⊎ ((first ≡ 63) ⊎ (first ≡ 58))
-      → (second : ℕ) × (more : List ℕ) × (others ≡ second ∷ more) × IsTrue (is_word_ink f second)
+      → IsTrue (is_word_ink f (slice_index (others ++ o) 0))
 
-pub word_begins : (f : Bool) (indent : ℕ) (t : List ℕ) → IsPlain f indent t → BeginsWord f t
-word_begins f indent t (word, others, (is_word, begins, no_dash, no_mark, no_colon), many, is) =
+pub word_begins : (f : Bool) (indent : ℕ) (t o : List ℕ) → IsPlain f indent t → BeginsWord f t o
+word_begins f indent t o (word, others, (is_word, begins, no_dash, no_mark, no_colon), many, is) =
     by_word word is_word.some is_word.ink is_word.no_comment begins no_dash no_mark no_colon is
   where
     lone : (c d : ℕ) → c ≡ d → (c ∷ []) ≢ (d ∷ []) → ⊥
     lone c d e other = other (ap (λ (z : ℕ). z ∷ []) e)
 
     by_word : (w : List ℕ) → w ≢ [] → AreWordInk f w → slice_index w 0 ≢ 35 → IsTrue (begins_plain (slice_index w 0))
-        → w ≢ 45 ∷ [] → w ≢ 63 ∷ [] → w ≢ 58 ∷ [] → t ≡ w ++ others → BeginsWord f t
+        → w ≢ 45 ∷ [] → w ≢ 63 ∷ [] → w ≢ 58 ∷ [] → t ≡ w ++ others → BeginsWord f t o
     by_word [] some ink sign b dash mark colon e = absurd (some refl)
     by_word (c ∷ []) some ink sign b dash mark colon e =
         record { first = c; others = others; is = e; begins = b; ink = ink.0; no_comment = sign; further = alone }
       where
-        alone : (c ≡ 45) ⊎ ((c ≡ 63) ⊎ (c ≡ 58))
-            → (second : ℕ) × (more : List ℕ) × (others ≡ second ∷ more) × IsTrue (is_word_ink f second)
+        alone : (c ≡ 45) ⊎ ((c ≡ 63) ⊎ (c ≡ 58)) → IsTrue (is_word_ink f (slice_index (others ++ o) 0))
         alone (inl k) = absurd (lone c 45 k dash)
         alone (inr (inl k)) = absurd (lone c 63 k mark)
         alone (inr (inr k)) = absurd (lone c 58 k colon)
@@ -79,41 +78,36 @@ word_begins f indent t (word, others, (is_word, begins, no_dash, no_mark, no_col
           begins = b;
           ink = ink.0;
           no_comment = sign;
-          further = λ _. (d, ds ++ others, refl, ink.2.0);
+          further = λ _. ink.2.0;
         }
 
--- the first word of a key
-pub key_begins : (f : Bool) (indent : ℕ) (t : List ℕ) → IsPlainKey f indent t → BeginsWord f t
-key_begins f indent t (inl ((some, ink, sign), begins, dash, mark, colon)) =
-    by_word t some ink sign begins dash mark colon
+-- the first word of a key, which stands before the key's colon
+pub key_begins : (f : Bool) (indent : ℕ) (t r : List ℕ) → IsPlainKey f indent t → BeginsWord f t (58 ∷ r)
+key_begins f indent t r (inl ((some, ink, sign), begins)) = by_word t some ink sign begins
   where
-    lone : (c d : ℕ) → c ≡ d → (c ∷ []) ≢ (d ∷ []) → ⊥
-    lone c d e other = other (ap (λ (z : ℕ). z ∷ []) e)
-
     by_word : (w : List ℕ) → w ≢ [] → AreIn (is_word_ink f) w → slice_index w 0 ≢ 35
-        → IsTrue (begins_plain (slice_index w 0)) → w ≢ 45 ∷ [] → w ≢ 63 ∷ [] → w ≢ 58 ∷ [] → BeginsWord f w
-    by_word [] some ink sign b dash mark colon = absurd (some refl)
-    by_word (c ∷ []) some ink sign b dash mark colon =
-        record { first = c; others = []; is = refl; begins = b; ink = ink.0; no_comment = sign; further = alone }
-      where
-        alone : (c ≡ 45) ⊎ ((c ≡ 63) ⊎ (c ≡ 58))
-            → (second : ℕ) × (more : List ℕ) × ([] ≡ second ∷ more) × IsTrue (is_word_ink f second)
-        alone (inl k) = absurd (lone c 45 k dash)
-        alone (inr (inl k)) = absurd (lone c 63 k mark)
-        alone (inr (inr k)) = absurd (lone c 58 k colon)
-    by_word (c ∷ d ∷ ds) some ink sign b dash mark colon =
-        record {
-          first = c;
-          others =
-              d ∷ ds;
-          is = refl;
-          begins = b;
-          ink = ink.0;
-          no_comment = sign;
-          further = λ _. (d, ds, refl, ink.1.0);
-        }
-key_begins f indent t (inr (plain, gap, word, h, gapped, last, e)) =
-    let b = word_begins f indent plain h in
+        → IsTrue (begins_plain (slice_index w 0)) → BeginsWord f w (58 ∷ r)
+    by_word [] some ink sign b = absurd (some refl)
+    by_word (c ∷ []) some ink sign b = record {
+      first = c;
+      others = [];
+      is = refl;
+      begins = b;
+      ink = ink.0;
+      no_comment = sign;
+      further = λ _. colon_is_ink f;
+    }
+    by_word (c ∷ d ∷ ds) some ink sign b = record {
+      first = c;
+      others = d ∷ ds;
+      is = refl;
+      begins = b;
+      ink = ink.0;
+      no_comment = sign;
+      further = λ _. ink.1.0;
+    }
+key_begins f indent t r (inr (plain, gap, word, h, gapped, last, e)) =
+    let b = word_begins f indent plain (gap ++ (word ++ (58 ∷ r))) h in
     record {
       first = b.first;
       others = b.others ++ (gap ++ word);
@@ -121,8 +115,9 @@ key_begins f indent t (inr (plain, gap, word, h, gapped, last, e)) =
       begins = b.begins;
       ink = b.ink;
       no_comment = b.no_comment;
-      further = λ k. let r = b.further k in
-          (r.0, r.1 ++ (gap ++ word), ap (λ (y : List ℕ). y ++ (gap ++ word)) r.2, r.3);
+      further = λ k. subst (λ (y : List ℕ). IsTrue (is_word_ink f (slice_index y 0)))
+          (sym (append_assoc b.others (gap ++ word) (58 ∷ r)
+          ∙ ap (λ (y : List ℕ). b.others ++ y) (append_assoc gap word (58 ∷ r)))) (b.further k);
     }
 
 no_blank : (c : ℕ) → is_blank_or_breakz c ≡ false → is_blank c ≡ false
@@ -131,22 +126,22 @@ no_blank c h = grind (arith, nat_tests)
 no_nul : (c : ℕ) → is_blank_or_breakz c ≡ false → is_z c ≡ false
 no_nul c h = grind (arith, nat_tests)
 
-pub token_begins : (f : Bool) (t : List ℕ) → BeginsWord f t → Begins t
-token_begins f t b =
-    let o = ink_other f b.first b.ink in
+pub token_begins : (f : Bool) (t o : List ℕ) → BeginsWord f t o → Begins t
+token_begins f t o b =
+    let ink = ink_other f b.first b.ink in
     record {
       first = b.first;
       others = b.others;
       is = b.is;
       ink = record {
-        blank = no_blank b.first o.blank_or_breakz;
+        blank = no_blank b.first ink.blank_or_breakz;
         break =
-            no_break b.first o.blank_or_breakz;
+            no_break b.first ink.blank_or_breakz;
         comment =
             ne_eqb b.first 35 b.no_comment;
-        byte_order_mark = o.byte_order_mark;
+        byte_order_mark = ink.byte_order_mark;
       };
-      nul = no_nul b.first o.blank_or_breakz;
+      nul = no_nul b.first ink.blank_or_breakz;
       directive = other_than begins_plain 37 b.first refl b.begins;
     }
 
@@ -244,7 +239,7 @@ plain_read reads around d n m b t o x h clear k ls a ad placed =
 
 -- no other token begins where a plain scalar does
 pub plain_dispatches : (around : Around) (d : Bool) (s : Cursor) (n : ℕ) (t o : List ℕ) (x : Context)
-    → BeginsWord (not (is_block x)) t → (k : Option Candidate) (ls : List Level) (a : Bool) (ad : ℕ)
+    → BeginsWord (not (is_block x)) t o → (k : Option Candidate) (ls : List Level) (a : Bool) (ad : ℕ)
     → (is_block x ≡ true) ⊎ (ad < s.mark.index)
     → step (slice_index (t ++ o) 0) (slice_index (t ++ o) 1) n (core_at around d s x k ls a ad)
     ≡ scalar.plain n (core_at around d s x k ls a ad)
@@ -261,16 +256,14 @@ plain_dispatches around d s n t o x w k ls a ad low =
     (lone_test f first 58 second (λ e. at_second (inr (inr e))))
     (value_test (is_block x) first second s.mark.index ad (λ e. at_second (inr (inr e))) low)
   where
-    second_ink : (f : Bool) (t o : List ℕ) (w : BeginsWord f t) → (w.first ≡ 45) ⊎ ((w.first ≡ 63) ⊎ (w.first ≡ 58))
+    second_ink : (f : Bool) (t o : List ℕ) (w : BeginsWord f t o) → (w.first ≡ 45) ⊎ ((w.first ≡ 63) ⊎ (w.first ≡ 58))
         → IsTrue (is_word_ink f (slice_index (t ++ o) 1))
     second_ink f t o w e =
-        let r = w.further e in
-        let text : t ≡ w.first ∷ r.0 ∷ r.1 = w.is ∙ ap (λ (y : List ℕ). w.first ∷ y) r.2 in
-        subst (λ (y : List ℕ). IsTrue (is_word_ink f (slice_index (y ++ o) 1))) (sym text) r.3
+        subst (λ (y : List ℕ). IsTrue (is_word_ink f (slice_index (y ++ o) 1))) (sym w.is) (w.further e)
 
 -- The premises of a step over a plain scalar: outside flow, or where no colon may stand at once.
 pub plain_step : Reads → (around : Around) (d : Bool) (n : ℕ) (m : Marker) (b : Bool) (t o : List ℕ) (x : Context)
-    → BeginsWord (not (is_block x)) t → IsPlainText (not (is_block x)) around.indent m t o → IsClear m t o
+    → BeginsWord (not (is_block x)) t o → IsPlainText (not (is_block x)) around.indent m t o → IsClear m t o
     → (k : Option Candidate) (ls : List Level) (a : Bool) (ad : ℕ) → (is_block x ≡ true) ⊎ (ad < m.index)
     → Placed around x a m
     → let u = past_white (moved m t) false o in
@@ -293,7 +286,7 @@ unfolding comment_of
 no_comment f t u e = rw e refl
 
 -- a text that is read as a plain scalar is passed
-pub text_passes : Reads → (around : Around) (t o : List ℕ) (m : Marker) → BeginsWord true t
+pub text_passes : Reads → (around : Around) (t o : List ℕ) (m : Marker) → BeginsWord true t o
     → IsPlainText true around.indent m t o → Fits around m t o → around.indent ≤ (moved m t).col
     → is_blank (slice_index (past around.indent (moved m t) o).1 0) ≡ false
     → (s : Cursor) (x : Context) (k : Option Candidate) (ls : List Level) (a : Bool) (ad : ℕ) (ps : List Place)
@@ -303,11 +296,11 @@ pub text_passes : Reads → (around : Around) (t o : List ℕ) (m : Marker) → 
 text_passes reads around t o m begins plain fits right inked s x k ls a ad ps flow low text =
     let inside : not (is_block x) ≡ true = ap not flow in
     let u = past_white (moved m t) false o in
-    let word : BeginsWord (not (is_block x)) t = subst (λ (f : Bool). BeginsWord f t) (sym inside) begins in
+    let word : BeginsWord (not (is_block x)) t o = subst (λ (f : Bool). BeginsWord f t o) (sym inside) begins in
     let is_text : IsPlainText (not (is_block x)) around.indent m t o =
     subst (λ (f : Bool). IsPlainText f around.indent m t o) (sym inside) plain in
-    token_passes around (still_adjacent ad) (plain_token t) t o m (token_begins true t begins) fits right s x k ls a ad
-    ps text
+    token_passes around (still_adjacent ad) (plain_token t) t o m (token_begins true t o begins) fits right s x k ls a
+    ad ps text
     (λ b j e. record {
       there = u;
       end = moved m t;
@@ -333,7 +326,7 @@ pub plain_passes : Reads → (around : Around) (t o : List ℕ) (m : Marker) →
     → Passes around (state_at around s x k ls a ad ps) (after_token (still_adjacent ad) x (keeping a (length ps) m k t))
     x ls ps (moved m t) o (scalar_token Plain (plain_value t) ∷ [])
 plain_passes reads around t o m h fits ends inked =
-    text_passes reads around t o m (word_begins true around.indent t h)
+    text_passes reads around t o m (word_begins true around.indent t o h)
     (plain_text true around.indent m t o h fits.clear ends) fits
     (plain_right true around.indent m t o h fits.clear fits.right) inked
 
@@ -345,7 +338,7 @@ pub plain_key_passes : Reads → (around : Around) (t r : List ℕ) (m : Marker)
     → Passes around (state_at around s x k ls a ad ps) (after_token (still_adjacent ad) x (keeping a (length ps) m k t))
     x ls ps (moved m t) (58 ∷ r) (scalar_token Plain (plain_value t) ∷ [])
 plain_key_passes reads around t r m h fits ends =
-    text_passes reads around t (58 ∷ r) m (key_begins true around.indent t h)
+    text_passes reads around t (58 ∷ r) m (key_begins true around.indent t r h)
     (key_text true around.indent m t r h fits.clear ends) fits
     (key_right true around.indent m t r h fits.clear fits.right)
     (ap (λ (z : Marker × List ℕ). is_blank (slice_index z.1 0)) (past_ink around.indent (moved m t) 58 r colon_ink))
@@ -363,8 +356,8 @@ pub plain_closes : Reads → (around : Around) (t o : List ℕ) (m : Marker) →
     → Closes around (state_at around s context.Block k [] a ad ps) k m t ps (moved m t) o
     (scalar_token Plain (plain_value t) ∷ [])
 plain_closes reads around t o m h fits ends inked s k a ad ps before text =
-    let w = word_begins false around.indent t h in
-    let f = token_begins false t w in
+    let w = word_begins false around.indent t o h in
+    let f = token_begins false t o w in
     let v = arrives around s context.Block k [] a ad ps m (t ++ o) (text ∙ begins_past around.indent m t o f)
     (begins_inked t o f) fits.right fits.calm in
     let u = past_white (moved m t) false o in

@@ -114,17 +114,18 @@ word_before f w y h = record {
     by_word (c ∷ d ∷ ds) some ink other =
         lone_dash c f (is_flow d) (λ e. subst (λ (g : Bool). (g && is_flow d) ≡ false) e (ink_other f d ink.2.0).flow)
 
+-- a colon is a character of a word
+pub colon_is_ink : (f : Bool) → IsTrue (is_word_ink f 58)
+colon_is_ink true = refl
+colon_is_ink false = refl
+
 -- a key's last word stands before the key's colon
 pub last_before : (f : Bool) (w r : List ℕ) → IsLastWord f w → IsWordBefore f w (58 ∷ r)
 last_before f w r (some, ink, no_comment) =
     record { some = some; ink = inks w ink; no_comment = no_comment; no_lone_dash = by_word w some ink }
   where
-    colon_ink : (g : Bool) → IsTrue (is_word_ink g 58)
-    colon_ink true = refl
-    colon_ink false = refl
-
     next : (cs : List ℕ) → AreIn (is_word_ink f) cs → IsTrue (is_word_ink f (slice_index (cs ++ (58 ∷ r)) 0))
-    next [] k = colon_ink f
+    next [] k = colon_is_ink f
     next (d ∷ ds) k = k.0
 
     inks : (cs : List ℕ) → AreIn (is_word_ink f) cs → AreInkBefore f cs (58 ∷ r)
@@ -457,7 +458,7 @@ plain_words f indent m t o (first, others, is_first, (pieces, each, joins), is) 
 -- those of a key before its colon
 key_words : (f : Bool) (indent : ℕ) (m : Marker) (t r : List ℕ) → IsPlainKey f indent t → IsClear m t (58 ∷ r)
     → HasWords f indent m t (58 ∷ r)
-key_words f indent m t r (inl (word, begins, dash, mark, colon)) clear =
+key_words f indent m t r (inl (word, begins)) clear =
     has_words f indent m t (58 ∷ r) t [] (sym (append-nil t)) (last_before f t r word) clear
     (λ n _. nothing_further f indent n (58 ∷ r))
 key_words f indent m t r (inr (plain, gap, word, (first, others, is_first, (pieces, each, joins), is), gapped, last, e))

@@ -97,7 +97,7 @@ behind e t n = moved (moved e t) (spaces n)
 
 -- a text that is read as a plain scalar
 text_along : Reads → (around : Around) (start : State) (k : Candidate) (qs : List Place) (c : ℕ) (cs : List ℕ) (n : ℕ)
-    (r : List ℕ) (e : Marker) (ad : ℕ) → BeginsWord false (c ∷ cs)
+    (r : List ℕ) (e : Marker) (ad : ℕ) → BeginsWord false (c ∷ cs) (colon_text n r)
     → IsPlainText false around.indent e (c ∷ cs) (colon_text n r) → InKey around k e ((c ∷ cs) ++ spaces n) (58 ∷ r)
     → ad ≤ e.index → Ready around start k ((c ∷ cs) ++ colon_text n r) e ad qs
     → Along around start k qs (behind e (c ∷ cs) n) (58 ∷ r) (scalar_token Plain (plain_value (c ∷ cs)) ∷ [])
@@ -144,7 +144,7 @@ pub plain_along : Reads → (around : Around) (start : State) (k : Candidate) (q
     → Along around start k qs (behind e (c ∷ cs) n) (58 ∷ r) (scalar_token Plain (plain_value (c ∷ cs)) ∷ [])
 plain_along reads around start k qs c cs n r e ad h white text low ready =
     let clear = clear_front e (c ∷ cs) (spaces n) (58 ∷ r) text.clear in
-    text_along reads around start k qs c cs n r e ad (word_begins false around.indent (c ∷ cs) h)
+    text_along reads around start k qs c cs n r e ad (word_begins false around.indent (c ∷ cs) (colon_text n r) h)
     (plain_text false around.indent e (c ∷ cs) (colon_text n r) h clear
     (key_ends_plain around.indent (moved e (c ∷ cs)) n r white)) text low ready
 
@@ -157,7 +157,7 @@ pub plain_key_along : Reads
     → Along around start k qs (moved e (c ∷ cs)) (58 ∷ r) (scalar_token Plain (plain_value (c ∷ cs)) ∷ [])
 plain_key_along reads around start k qs c cs r e ad h white text low ready =
     let clear = clear_front e (c ∷ cs) [] (58 ∷ r) text.clear in
-    text_along reads around start k qs c cs 0 r e ad (key_begins false around.indent (c ∷ cs) h)
+    text_along reads around start k qs c cs 0 r e ad (key_begins false around.indent (c ∷ cs) r h)
     (key_text false around.indent e (c ∷ cs) r h clear (key_ends_plain around.indent (moved e (c ∷ cs)) 0 r white)) text
     low ready
 
@@ -273,7 +273,7 @@ quotes_along reads around start k qs quote value t n r e ad h text ready =
 
 some_first : (in_flow : Bool) (indent : ℕ) (t : List ℕ) → IsPlain in_flow indent t
     → (c : ℕ) × (cs : List ℕ) × (t ≡ c ∷ cs)
-some_first in_flow indent t h = let w = word_begins in_flow indent t h in (w.first, w.others, w.is)
+some_first in_flow indent t h = let w = word_begins in_flow indent t [] h in (w.first, w.others, w.is)
 
 pub content_along : Reads
     → (around : Around) (start : State) (k : Candidate) (qs : List Place) (style : Style) (value t : List ℕ) (n : ℕ)
@@ -304,7 +304,7 @@ pub record ContentReads (around : Around) (style : Style) (value content : List 
       → Along around start k qs (behind e content n) (58 ∷ r) (scalar_token style value ∷ [])
 
 pub scalar_begins : (indent : ℕ) (style : Style) (value t : List ℕ) → IsFlowScalar style value false indent t → Begins t
-scalar_begins indent Plain value t h = token_begins false t (word_begins false indent t h.0)
+scalar_begins indent Plain value t h = token_begins false t [] (word_begins false indent t [] h.0)
 scalar_begins indent SingleQuoted value t h = subst Begins (sym h.5) (quote_first Single h.0)
 scalar_begins indent DoubleQuoted value t h = subst Begins (sym h.5) (quote_first Double h.0)
 scalar_begins indent Literal value t h = absurd h
@@ -328,7 +328,7 @@ plain_key_reads reads around style value content r plain is h white =
     subst (λ (q : Style). ContentReads around q value content 0 r) (sym plain)
     (subst (λ (v : List ℕ). ContentReads around Plain v content 0 r) (sym is)
     (record {
-      begins = token_begins false content (key_begins false around.indent content h);
+      begins = token_begins false content (58 ∷ r) (key_begins false around.indent content r h);
       along =
           λ start k qs e ad text low ready. key_along start k qs content e ad h text low ready;
     }))
@@ -338,7 +338,7 @@ plain_key_reads reads around style value content r plain is h white =
         → Ready around start k (t ++ (58 ∷ r)) e ad qs
         → Along around start k qs (moved e t) (58 ∷ r) (scalar_token Plain (plain_value t) ∷ [])
     key_along start k qs [] e ad h text low ready =
-        absurd (let b = key_begins false around.indent [] h in none b.first b.others b.is)
+        absurd (let b = key_begins false around.indent [] r h in none b.first b.others b.is)
       where
         none : (c : ℕ) (cs : List ℕ) → [] ≡ c ∷ cs → ⊥
         none c cs e = cc

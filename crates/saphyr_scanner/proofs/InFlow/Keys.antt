@@ -123,7 +123,7 @@ fresh_properties around (Some name) (Some tag) t o (c, s, a, h, g, spaced, inr i
     fresh_so around (t ++ o) (a ++ ((s ++ c) ++ o)) (ap (λ (x : List ℕ). x ++ o) is ∙ append_assoc a (s ++ c) o)
     (fresh_tag around tag a ((s ++ c) ++ o) g)
 
-fresh_word : (around : Around) (t o : List ℕ) → BeginsWord false t → Fresh around (t ++ o)
+fresh_word : (around : Around) (t o : List ℕ) → BeginsWord false t o → Fresh around (t ++ o)
 fresh_word around t o w =
     λ d s k ad n. plain_dispatches around d s n t o context.Block w k [] true ad (inl refl)
     ∙ plain_fresh around d s k ad n
@@ -132,7 +132,7 @@ fresh_word around t o w =
 
 fresh_content : (around : Around) (style : Style) (value t o : List ℕ) → IsFlowScalar style value false around.indent t
     → Fresh around (t ++ o)
-fresh_content around Plain value t o h = fresh_word around t o (word_begins false around.indent t h.0)
+fresh_content around Plain value t o h = fresh_word around t o (word_begins false around.indent t o h.0)
 fresh_content around SingleQuoted value t o h =
     fresh_so around (t ++ o) (39 ∷ (h.0 ++ o)) (ap (λ (x : List ℕ). x ++ o) h.5)
     (λ d s k ad n. single_fresh around d s k ad n _)
@@ -202,61 +202,62 @@ front_begins indent p front t (inr (written, separation, g, some, parts, is)) h 
     (ap (λ (x : List ℕ). x ++ t) is ∙ append_assoc written separation t)
     (begins_front written (separation ++ t) (properties_begin p.anchor p.tag written g))
 
--- a key's text begins a token, and keeps the key's place
-record FirstOf (around : Around) (p : List ℕ) : Type 0 where
+-- a key's text begins a token, and keeps the key's place, before what stands behind it
+record FirstOf (around : Around) (p o : List ℕ) : Type 0 where
   begins : Begins p
-  fresh : (o : List ℕ) → Fresh around (p ++ o)
+  fresh : Fresh around (p ++ o)
 
-fresh_behind : (around : Around) (p t : List ℕ) → p ≡ t → FirstOf around t → FirstOf around p
-fresh_behind around p t e h = subst (FirstOf around) (sym e) h
+fresh_behind : (around : Around) (p t o : List ℕ) → p ≡ t → FirstOf around t o → FirstOf around p o
+fresh_behind around p t o e h = subst (λ (x : List ℕ). FirstOf around x o) (sym e) h
 
-scalar_first : (around : Around) (p : Properties) (style : Style) (value t : List ℕ)
-    → IsScalarNode p style value false around.indent t → FirstOf around t
-scalar_first around p style value t (inl (plain, empty, h)) =
-    record { begins = properties_begin p.anchor p.tag t h; fresh = λ o. fresh_properties around p.anchor p.tag t o h }
-scalar_first around p style value t (inr (front, content, before, g, e)) =
-    fresh_behind around t (front ++ content) e
+scalar_first : (around : Around) (p : Properties) (style : Style) (value t o : List ℕ)
+    → IsScalarNode p style value false around.indent t → FirstOf around t o
+scalar_first around p style value t o (inl (plain, empty, h)) =
+    record { begins = properties_begin p.anchor p.tag t h; fresh = fresh_properties around p.anchor p.tag t o h }
+scalar_first around p style value t o (inr (front, content, before, g, e)) =
+    fresh_behind around t (front ++ content) o e
     (record {
       begins = front_begins around.indent p front content before (scalar_begins around.indent style value content g);
-      fresh = λ o. fresh_so around ((front ++ content) ++ o) (front ++ (content ++ o)) (append_assoc front content o)
+      fresh = fresh_so around ((front ++ content) ++ o) (front ++ (content ++ o)) (append_assoc front content o)
           (fresh_front around p front (content ++ o) before (fresh_content around style value content o g));
     })
 
-plain_key_first : (around : Around) (node : Node) (t : List ℕ) → IsPlainKeyNode node false around.indent t
-    → FirstOf around t
-plain_key_first around (Alias name) t h = absurd h
-plain_key_first around (Seq p nodes) t h = absurd h
-plain_key_first around (Map p pairs) t h = absurd h
-plain_key_first around (Scalar p style value) t (front, content, plain, before, g, is, e) =
-    let w = key_begins false around.indent content g in
-    fresh_behind around t (front ++ content) e
+plain_key_first : (around : Around) (node : Node) (t r : List ℕ) → IsPlainKeyNode node false around.indent t
+    → FirstOf around t (58 ∷ r)
+plain_key_first around (Alias name) t r h = absurd h
+plain_key_first around (Seq p nodes) t r h = absurd h
+plain_key_first around (Map p pairs) t r h = absurd h
+plain_key_first around (Scalar p style value) t r (front, content, plain, before, g, is, e) =
+    let o = 58 ∷ r in
+    let w = key_begins false around.indent content r g in
+    fresh_behind around t (front ++ content) o e
     (record {
-      begins = front_begins around.indent p front content before (token_begins false content w);
-      fresh = λ o. fresh_so around ((front ++ content) ++ o) (front ++ (content ++ o)) (append_assoc front content o)
+      begins = front_begins around.indent p front content before (token_begins false content o w);
+      fresh = fresh_so around ((front ++ content) ++ o) (front ++ (content ++ o)) (append_assoc front content o)
           (fresh_front around p front (content ++ o) before (fresh_word around content o w));
     })
 
-brackets_first : (around : Around) (p : Properties) (b : Brackets) → AreBrackets b → (t front rest : List ℕ)
-    → t ≡ front ++ (b.opening ∷ rest) → IsBeforeContent p around.indent front → FirstOf around t
-brackets_first around p b are t front rest e before =
-    fresh_behind around t (front ++ (b.opening ∷ rest)) e
+brackets_first : (around : Around) (p : Properties) (b : Brackets) → AreBrackets b → (t o front rest : List ℕ)
+    → t ≡ front ++ (b.opening ∷ rest) → IsBeforeContent p around.indent front → FirstOf around t o
+brackets_first around p b are t o front rest e before =
+    fresh_behind around t (front ++ (b.opening ∷ rest)) o e
     (record {
       begins = front_begins around.indent p front (b.opening ∷ rest) before (bracket_begins b are rest);
-      fresh = λ o. fresh_so around ((front ++ (b.opening ∷ rest)) ++ o) (front ++ (b.opening ∷ (rest ++ o)))
+      fresh = fresh_so around ((front ++ (b.opening ∷ rest)) ++ o) (front ++ (b.opening ∷ (rest ++ o)))
           (append_assoc front (b.opening ∷ rest) o)
           (fresh_front around p front (b.opening ∷ (rest ++ o)) before (fresh_bracket around b are (rest ++ o)));
     })
 
-node_first : (around : Around) (room : ℕ) (node : Node) (t : List ℕ) → IsFlowNode room node false around.indent t
-    → FirstOf around t
-node_first around room (Alias name) t h =
-    record { begins = subst Begins (sym h.1) (alias_first name); fresh = λ o. fresh_alias around name t o h }
-node_first around room (Scalar p style value) t h = scalar_first around p style value t h
-node_first around room (Seq p nodes) t (left, opening, inside, r, (front, w, f, parts, e), h, is) =
-    brackets_first around p square are_square t front (w ++ (inside ++ (93 ∷ [])))
+node_first : (around : Around) (room : ℕ) (node : Node) (t o : List ℕ) → IsFlowNode room node false around.indent t
+    → FirstOf around t o
+node_first around room (Alias name) t o h =
+    record { begins = subst Begins (sym h.1) (alias_first name); fresh = fresh_alias around name t o h }
+node_first around room (Scalar p style value) t o h = scalar_first around p style value t o h
+node_first around room (Seq p nodes) t o (left, opening, inside, r, (front, w, f, parts, e), h, is) =
+    brackets_first around p square are_square t o front (w ++ (inside ++ (93 ∷ [])))
     (whole_text t opening front w inside 91 93 is e) f
-node_first around room (Map p pairs) t (left, opening, inside, r, (front, w, f, parts, e), h, is) =
-    brackets_first around p curly are_curly t front (w ++ (inside ++ (125 ∷ [])))
+node_first around room (Map p pairs) t o (left, opening, inside, r, (front, w, f, parts, e), h, is) =
+    brackets_first around p curly are_curly t o front (w ++ (inside ++ (125 ∷ [])))
     (whole_text t opening front w inside 123 125 is e) f
 
 -- ## Keys
@@ -611,10 +612,12 @@ text_along reads around same start node k qs t n r e ad (inr (h, none)) apart wh
     → KeyAlong around start node k qs (behind e t i) (58 ∷ r)) (sym (no_spaces n none))
     (λ i z. plain_key reads around start node k qs t r e ad h white i low z) text ready
 
-text_first : (around : Around) (node : Node) (t : List ℕ) (s : List ℕ)
-    → IsKeyText (IsFlowNode 255 node false around.indent) node false around.indent t s → FirstOf around t
-text_first around node t s (inl h) = node_first around 255 node t h
-text_first around node t s (inr (h, none)) = plain_key_first around node t h
+text_first : (around : Around) (node : Node) (t s r : List ℕ)
+    → IsKeyText (IsFlowNode 255 node false around.indent) node false around.indent t s
+    → FirstOf around t (s ++ (58 ∷ r))
+text_first around node t s r (inl h) = node_first around 255 node t (s ++ (58 ∷ r)) h
+text_first around node t s r (inr (h, none)) =
+    subst (λ (x : List ℕ). FirstOf around t (x ++ (58 ∷ r))) (sym none) (plain_key_first around node t r h)
 
 pub spaces_on_line : (n : ℕ) → IsOnLine (spaces n)
 spaces_on_line zero = tt
@@ -641,7 +644,7 @@ key_read reads around calm node m p n r h line apart short white right clear bel
     let inner = keyed around (deeper_at around d m) m in
     let here : Candidate = record { mark = m; place = length ps } in
     let lowered = key_text_lowers (suc m.col) around.indent (lower m.col right) 255 node p (spaces n) line h in
-    let f = text_first around node p (spaces n) lowered in
+    let f = text_first around node p (spaces n) r lowered in
     let o = colon_text n r in
     let front : p ++ o ≡ f.begins.first ∷ (f.begins.others ++ o) = ap (λ (t : List ℕ). t ++ o) f.begins.is in
     let token = begins_token m p o f.begins (clear_front m p (spaces n) (58 ∷ r) clear) in
@@ -660,7 +663,7 @@ key_read reads around calm node m p n r h line apart short white right clear bel
     let ready : Ready inner (start (p ++ o)) here (p ++ o) m ad ps =
     subst (λ (t : List ℕ). Ready inner (start t) here t m ad ps) (sym front)
     (first_ready around calm d blank k ad ps m f.begins.first (f.begins.others ++ o) f.begins.ink right
-    (subst (BeginsToken m) front token) (subst (Fresh around) front (f.fresh o))) in
+    (subst (BeginsToken m) front token) (subst (Fresh around) front f.fresh)) in
     text_along reads inner refl (start (p ++ o)) node here ps p n r m ad lowered apart white text low ready
   where
     lower : (n : ℕ) → around.indent ≤ n + 1 → around.indent ≤ suc n

@@ -56,11 +56,11 @@ IsPlain in_flow indent t =
 abbrev pub IsLastWord : Bool → List ℕ → Type 0
 IsLastWord in_flow word = (word ≢ []) × AreIn (is_word_ink in_flow) word × (slice_index word 0 ≢ 35)
 
--- a plain scalar that is a key, with the key's colon right behind it: one word, or words and a last one
+-- A plain scalar that is a key, with the key's colon right behind it: words and a last one, or one word, which may be a
+-- lone `-`, `?` or `:` too.
 abbrev pub IsPlainKey : Bool → ℕ → List ℕ → Type 0
 IsPlainKey in_flow indent t =
-    (IsLastWord in_flow t × IsTrue (begins_plain (slice_index t 0)) × (t ≢ codes "-") × (t ≢ codes "?")
-    × (t ≢ codes ":"))
+    (IsLastWord in_flow t × IsTrue (begins_plain (slice_index t 0)))
     ⊎ ((plain gap word : List ℕ) × IsPlain in_flow indent plain × IsWordGap indent gap × IsLastWord in_flow word
     × (t ≡ plain ++ (gap ++ word)))
 

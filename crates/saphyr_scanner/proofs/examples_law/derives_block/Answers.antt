@@ -1,5 +1,5 @@
 use Rattle.saphyr_scanner.specs.Grammar.Layout.{most_open}
-use Rattle.saphyr_scanner.proofs.Examples.Layout.{block_sequence, block_tabs_at_ends, block_tabs_behind, block_tabs_in_filler, block_tabs_between, block_tabs_before, block_tabs_in_flow, block_tab_behind_scalar, block_colons_in_keys, block_mapping, block_sequence_at_mapping, block_compact, block_explicit_key, block_properties, block_literal, block_folded, block_next_line, block_comment_left, block_indicator, block_explicit_collections}
+use Rattle.saphyr_scanner.proofs.Examples.Layout.{block_sequence, block_tabs_at_ends, block_tabs_behind, block_tabs_in_filler, block_tabs_between, block_tabs_before, block_tabs_in_flow, block_tab_behind_scalar, block_colons_in_keys, block_lone_keys, block_mapping, block_sequence_at_mapping, block_compact, block_explicit_key, block_properties, block_literal, block_folded, block_next_line, block_comment_left, block_indicator, block_explicit_collections}
 use Rattle.saphyr_scanner.proofs.examples_law.derives_block.Goals as goal
 
 pub returns-clause-sequence : goal.returns-clause-sequence
@@ -46,6 +46,9 @@ returns-clause-tabs_behind c = block_tabs_behind
 
 pub returns-clause-colons_in_keys : goal.returns-clause-colons_in_keys
 returns-clause-colons_in_keys c = block_colons_in_keys
+
+pub returns-clause-lone_keys : goal.returns-clause-lone_keys
+returns-clause-lone_keys c = block_lone_keys
 
 pub returns-clause-tabs_in_filler : goal.returns-clause-tabs_in_filler
 returns-clause-tabs_in_filler c = block_tabs_in_filler

@@ -1,4 +1,4 @@
-use Rattle.saphyr_scanner.proofs.Examples.Layout.{flow_sequence, flow_mapping, flow_empty_collections, flow_single_pairs, flow_explicit_pairs, flow_entries, flow_lines, flow_properties, flow_properties_alone, flow_collection_key, flow_plain_lines, flow_plain_tabs, flow_quoted_lines, flow_comment_before_colon, flow_colon_in_key}
+use Rattle.saphyr_scanner.proofs.Examples.Layout.{flow_sequence, flow_mapping, flow_empty_collections, flow_single_pairs, flow_explicit_pairs, flow_entries, flow_lines, flow_properties, flow_properties_alone, flow_collection_key, flow_plain_lines, flow_plain_tabs, flow_quoted_lines, flow_comment_before_colon, flow_colon_in_key, flow_lone_key}
 use Rattle.saphyr_scanner.proofs.examples_law.derives_flow.Goals as goal
 
 pub returns-clause-sequence : goal.returns-clause-sequence
@@ -45,3 +45,6 @@ returns-clause-plain_tabs c = flow_plain_tabs
 
 pub returns-clause-colon_in_key : goal.returns-clause-colon_in_key
 returns-clause-colon_in_key c = flow_colon_in_key
+
+pub returns-clause-lone_key : goal.returns-clause-lone_key
+returns-clause-lone_key c = flow_lone_key

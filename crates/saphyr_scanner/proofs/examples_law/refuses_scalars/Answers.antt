@@ -1,5 +1,6 @@
 use Rattle.saphyr_scanner.proofs.Examples.NearMisses.{dash_and_blank, indicator_first, lone_colon, two_digits, comment_without_blank}
 use Rattle.saphyr_scanner.proofs.Examples.AliasAlone.{alias_alone}
+use Rattle.saphyr_scanner.proofs.Examples.DashApart.{dash_apart}
 use Rattle.saphyr_scanner.proofs.examples_law.refuses_scalars.Goals as goal
 
 pub returns-clause-dash_and_blank : goal.returns-clause-dash_and_blank
@@ -19,3 +20,6 @@ returns-clause-alias_with_anchor c = alias_alone
 
 pub returns-clause-lone_colon : goal.returns-clause-lone_colon
 returns-clause-lone_colon c = lone_colon
+
+pub returns-clause-dash_apart : goal.returns-clause-dash_apart
+returns-clause-dash_apart c = dash_apart
