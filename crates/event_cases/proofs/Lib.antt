@@ -1,2 +1,3 @@
 mod Dumped
 mod Loading
+mod TreesTold

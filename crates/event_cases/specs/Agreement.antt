@@ -9,6 +9,7 @@ use Rattle.event_cases.specs.declared.findings.Subject.{Subject}
 use Rattle.event_cases.specs.declared.findings.Subject.TheVariants as subject
 use Rattle.event_cases.specs.Dumped.{IsDump}
 use Rattle.event_cases.specs.Handed.{ListAllButOne}
+use Rattle.event_cases.specs.Trees.{HasTrees}
 
 -- The events among the lines are what `dump` writes, and the last line is that of a fault where one ends them.
 abbrev pub DumpAgrees : Case → Type 0
@@ -28,9 +29,13 @@ RefusalAgrees c place = (line : String Global) → slice_get c.lines.items place
 abbrev pub RefusalsAgree : Case → Type 0
 RefusalsAgree c = (place : ℕ) → place < length c.lines.items → RefusalAgrees c place
 
--- Of trees nothing is said.
+-- The lines list all that the text gives, and its events are those of trees, unless a fault of the text ends them.
+abbrev pub TreesAgree : Case → Type 0
+TreesAgree c = Agrees c × HasTrees (told_by c)
+
+-- What is compared of a case agrees.
 abbrev pub AgreesOn : Subject → Case → Type 0
 AgreesOn subject.Events c = Agrees c
 AgreesOn subject.RefusedEvents c = RefusalsAgree c
 AgreesOn subject.FailedWrites c = DumpAgrees c
-AgreesOn subject.Trees c = Unit {0}
+AgreesOn subject.Trees c = TreesAgree c

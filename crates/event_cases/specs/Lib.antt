@@ -2,3 +2,4 @@ pub mod Agreement
 pub mod Dumped
 pub mod Handed
 pub mod Long
+pub mod Trees

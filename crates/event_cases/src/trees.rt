@@ -1,4 +1,10 @@
 //! The documents of a text as trees, within limits.
+ghost use Rattle.std.specs.Prelude.{OnOk};
+ghost use Rattle.saphyr_parser.specs.Cursor.{to_come};
+ghost use Rattle.case_files.specs.Listings.{ListAll};
+ghost use Rattle.event_cases.specs.Agreement.{TreesAgree};
+ghost use Rattle.event_cases.specs.Trees.{HasTrees, IsTold};
+
 use crate::ways::is_left;
 use case_files::{Case, Difference};
 use saphyr_parser::{CloneInput, Event, Fault, Input, Parser, Span};
@@ -14,7 +20,9 @@ const WIDE: Limits = Limits {
 
 /// Compares the trees of a text with the events that its parser gives: within limits as wide as the text
 /// needs, within limits of one less and of nothing, and on a parser that is not new.
-pub fn compare(alloc: Global, case: &Case) -> Result<(), Difference> {
+pub fn compare(alloc: Global, case: &Case) -> Result<(), Difference>
+    ensures { OnOk result (TreesAgree case.now) }
+{
     let parser = Parser::new_from_str(alloc, case.text.as_str()).keep_tags(case.keeps_tags);
     compare_trees(alloc, parser, case.lines.as_slice())
 }
@@ -23,10 +31,14 @@ fn compare_trees<T: CloneInput>(
     alloc: Global,
     parser: Parser<'_, T>,
     lines: &[String],
-) -> Result<(), Difference> {
+) -> Result<(), Difference>
+    ensures { OnOk result
+        (ListAll lines.now (to_come parser.entry) × HasTrees (to_come parser.entry)) }
+{
+    is_left(alloc, parser.try_clone()?, lines)?;
     let given = Given::new(alloc, parser.try_clone()?)?;
     let needed = given.needed();
-    load_within(alloc, parser.try_clone()?, lines, &given, WIDE)?;
+    load_all(alloc, parser.try_clone()?, &given, WIDE)?;
     for nodes in [0, needed.nodes.saturating_sub(1), needed.nodes] {
         for depth in [0, needed.depth.saturating_sub(1), needed.depth] {
             let limits = Limits { nodes, depth };
@@ -49,17 +61,29 @@ fn load_within<T: CloneInput>(
     given: &Given<'_>,
     limits: Limits,
 ) -> Result<(), Difference> {
-    let answer = load_documents(alloc, &mut parser, limits);
     match given.first_beyond(limits) {
         Some((place, wanted)) => {
+            let answer = load_documents(alloc, &mut parser, limits);
             is_refused(alloc, &answer, &wanted)?;
             is_left(alloc, parser, lines.get(place..).unwrap_or(&[]))
         }
-        None => {
-            given.is_loaded(alloc, answer)?;
-            is_left(alloc, parser, &[])
-        }
+        None => load_all(alloc, parser, given, limits),
     }
+}
+
+// All documents, or the fault of the text, and nothing is left.
+#[tactic(auto, using(crate::proofs::TreesTold::has_trees))]
+fn load_all<T: CloneInput>(
+    alloc: Global,
+    mut parser: Parser<'_, T>,
+    given: &Given<'_>,
+    limits: Limits,
+) -> Result<(), Difference>
+    ensures { OnOk result (HasTrees (to_come parser.entry)) }
+{
+    let answer = load_documents(alloc, &mut parser, limits);
+    given.is_loaded(alloc, answer)?;
+    is_left(alloc, parser, &[])
 }
 
 // A parser that has ended is not new.
@@ -160,12 +184,15 @@ impl<'a> Given<'a> {
         &self,
         alloc: Global,
         answer: Result<Vec<Document>, TreeFault>,
-    ) -> Result<(), Difference> {
+    ) -> Result<(), Difference>
+        ensures { OnOk result (IsTold answer) }
+    {
         match (answer, &self.fault) {
             (Ok(documents), None) => self.are_all(alloc, documents.as_slice()),
-            (Err(TreeFault::Parse(fault)), Some(wanted)) if fault == *wanted => Ok(()),
-            (Err(fault), _) => Err(Difference::Found(format!(in alloc; "{fault}")?)),
             (Ok(_), Some(_)) => Err(Difference::new(alloc, "documents in place of a fault")),
+            (Err(TreeFault::Parse(Fault::Scan(error))), Some(Fault::Scan(wanted)))
+                if error == *wanted => { Ok(()) }
+            (Err(fault), _) => Err(Difference::Found(format!(in alloc; "{fault}")?)),
         }
     }
 
