@@ -176,9 +176,11 @@ def check(crate, texts, functions, kept):
 
 
 def named(function):
-    """The end of the prover's name of a function."""
-    owner, name = function[-2:]
-    return name if not owner or owner.endswith(OF_ARGUMENT) else f"{owner.replace(ANY, '')}::{name}"
+    """The prover's name of a function, or the end of it, which names a method alone."""
+    *inside, owner, name = function
+    if owner.endswith(OF_ARGUMENT):
+        return name
+    return f"{owner.replace(ANY, '')}::{name}" if owner else "::".join([*inside, name])
 
 
 def verdict_of(function, said):
