@@ -215,14 +215,6 @@ white_last (b ∷ bs) comment are k = inr (inl are.0)
 white_last [] comment are (inr k) = absurd (k.0 refl)
 white_last [] comment are (inl e) = inl (ap (λ (x : List ℕ). x ++ []) e)
 
--- on a line where something stands, a tab indents nothing
-indents_none : (least : ℕ) (m : Marker) (c : ℕ) → (is_tab_indentation least m false c || false) ≡ false
-indents_none least m c = none (c == 9) (nat_lt m.col least)
-  where
-    none : (a b : Bool) → (((a && false) && b) || false) ≡ false
-    none true b = refl
-    none false b = refl
-
 last_clean : (least : ℕ) (blanks comment : List ℕ) → AreIn is_blank blanks → (comment ≡ []) ⊎ IsComment comment
     → (m : Marker) → tabbed least m false false (blanks ++ (comment ++ [])) ≡ false
 last_clean least blanks comment are k m =
