@@ -206,11 +206,13 @@ def is_for_a_name(function, said):
 
 
 def judge_batch(edits, said):
-    """Which of the edits were refused, and which were proved; what is in neither has to be tried again."""
+    """Which of the edits were refused, and which were proved; what is in neither has to be tried again. What a proof
+    file lacks may be missing for another edit, so such a refusal counts of an edit alone."""
     refused, proved = [], []
     for edit in edits:
         verdicts = [verdict_of(it, said) for it in edit.functions]
-        if any(map(is_refused, verdicts)):
+        for_a_name = all(is_for_a_name(it, said) for it in edit.functions)
+        if any(map(is_refused, verdicts)) and (len(edits) == 1 or not for_a_name):
             refused.append(edit)
         elif all(it == "proved" for it in verdicts):
             proved.append(edit)
@@ -220,14 +222,17 @@ def judge_batch(edits, said):
 def judge(crate, names):
     """Tries the edits of a crate. Gives how many were refused, and a line for each that was not."""
     left, wrong = edits_of(crate, names)
-    number = 0
+    number, alone = 0, False
     with tempfile.TemporaryDirectory(prefix="edits-kept-") as kept:
         while left:
             begun = time.time()
-            batch, texts = batch_of(left, crate.folder)
+            batch, texts = batch_of(left[:1] if alone else left, crate.folder)
             said = check(crate, texts, set().union(*(it.functions for it in batch)), kept)
             refused, proved = judge_batch(batch, said)
             wrong += [f"{crate.name}/{it.name}: NOT REFUSED" for it in proved]
+            if not refused and not proved and len(batch) > 1:
+                alone = True
+                continue
             if not refused and not proved:
                 wrong.append(f"{crate.name}: no verdict on {', '.join(it.name for it in left)}: {said[-1500:]}")
                 break
