@@ -80,7 +80,8 @@ impl Inner {
 
     /// Sets whether the prefixes of tags hold for later documents too.
     pub fn keep_tags(&mut self, alloc: Global, value: bool)
-        ensures { self.new ≡ record self.old { parser = cursor.keeping_tags value self.old.parser } }
+        ensures { self.new
+            ≡ record self.old { parser = cursor.keeping_tags value self.old.parser } }
     {
         let parser = mem::replace(&mut self.parser, Parser::new_from_str(alloc, ""));
         self.parser = parser.keep_tags(value);

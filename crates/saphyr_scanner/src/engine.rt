@@ -14,7 +14,7 @@ mod property;
 mod scalar;
 mod value;
 
-ghost use Rattle.std.specs.Prelude.{◌≡◌, ℕ, ◌<◌, ◌≤◌, ◌^◌, length, Ok, OnOk};
+ghost use Rattle.std.specs.Prelude.{◌≡◌, ◌<◌, ◌≤◌, ◌^◌, length, Ok, OnOk};
 ghost use Rattle.saphyr_scanner.specs.Steps.Core as spec;
 ghost use Rattle.saphyr_scanner.specs.Steps.Passing as passing;
 ghost use Rattle.saphyr_scanner.specs.Steps.State as spec_state;
@@ -72,10 +72,9 @@ pub(crate) struct Engine<T: Input> {
 
 impl<T: Input> Engine<T> {
     ghost use Rattle.std.specs.Prelude.{Err, false};
-    ghost use Rattle.saphyr_scalar.specs.Seen.{Gives, Moves};
-    ghost use Rattle.saphyr_scanner.specs.Views.Engine.{state};
-    ghost use Rattle.saphyr_scanner.specs.Views.Tokens.{kind_of, piece};
-    ghost use Rattle.saphyr_input.specs.Separation as separation;
+    ghost use Rattle.saphyr_scalar.specs.Seen.{Moves};
+    ghost use Rattle.saphyr_scanner.specs.Views.Engine.{state, CarriesBy};
+    ghost use Rattle.saphyr_scanner.specs.Views.Tokens.{kind_of};
     ghost use Rattle.saphyr_scalar.specs.declared.scalar.fault.Stop.TheVariants.{Refused};
 
     pub(crate) fn new(alloc: Global, input: T) -> Self
@@ -168,8 +167,7 @@ impl<T: Input> Engine<T> {
     #[inline(always)]
     #[tactic(auto, unfolding(crate::specs::Steps::Passing::pass_gap))]
     fn pass_gap(&mut self) -> Result<(), Stop>
-        ensures { Moves (λ _. state self.new) result
-            (spec_state.carried (passing.pass_gap (state self.old).core) (state self.old).queue) }
+        ensures { CarriesBy passing.pass_gap self.old result self.new }
     {
         let least = self.least_column();
         if skip_gap(&mut self.reader, least)? && self.in_block() {
@@ -182,9 +180,7 @@ impl<T: Input> Engine<T> {
     #[inline(always)]
     #[tactic(auto, unfolding(crate::specs::Steps::Passing::check_comment))]
     fn check_comment(&mut self) -> Result<(), Stop>
-        ensures { Moves (λ _. state self.new) result
-            (spec_state.carried (passing.check_comment (state self.old).core)
-            (state self.old).queue) }
+        ensures { CarriesBy passing.check_comment self.old result self.new }
     {
         let Some(comment) = self.comment else {
             return Ok(());

@@ -109,7 +109,8 @@ fn turned_pairs(mut pairs: Vec<(Node, Node)>, outer: Node) -> Option<(Node, Node
 }
 
 fn next_node(mut nodes: Vec<Node>) -> Option<(Node, Node)>
-    ensures { IfSome result (λ next. weight next.0 + weight next.1 ≤ weight (Node.Seq 0 None nodes)) }
+    ensures { IfSome result
+        (λ next. weight next.0 + weight next.1 ≤ weight (Node.Seq 0 None nodes)) }
 {
     match nodes.pop() {
         Some(outer) if nodes.is_empty() => {
@@ -126,7 +127,8 @@ fn next_node(mut nodes: Vec<Node>) -> Option<(Node, Node)>
 
 // A value with nodes inside leaves a leaf in its place.
 fn next_of_pairs(mut pairs: Vec<(Node, Node)>) -> Option<(Node, Node)>
-    ensures { IfSome result (λ next. weight next.0 + weight next.1 ≤ weight (Node.Map 0 None pairs)) }
+    ensures { IfSome result
+        (λ next. weight next.0 + weight next.1 ≤ weight (Node.Map 0 None pairs)) }
 {
     if pairs.is_empty() {
         pairs.destroy_empty();

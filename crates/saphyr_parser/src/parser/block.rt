@@ -11,8 +11,7 @@ use saphyr_scalar::{FaultText, Span, Stop};
 use saphyr_scanner::TokenType;
 
 impl<T: Input> Machine<T> {
-    ghost use Rattle.saphyr_scalar.specs.Seen.{Moves};
-    ghost use Rattle.saphyr_parser.specs.Views.Machines.{machine_of, told_of};
+    ghost use Rattle.saphyr_parser.specs.Views.Machines.{TellsBy};
 
     // An entry of a block sequence, or its end.
     #[tactic(auto, unfolding(crate::specs::Steps::Block::sequence_entry))]
@@ -20,8 +19,7 @@ impl<T: Input> Machine<T> {
         &mut self,
         next: &mut (Event<'input>, Span),
     ) -> Result<(), Stop>
-        ensures { Moves (λ _. told_of (machine_of self.new) next.new) result
-            (spec.sequence_entry (machine_of self.old)) }
+        ensures { TellsBy spec.sequence_entry self.old result next.new self.new }
     {
         let token = self.take()?;
         match token.kind {
@@ -44,8 +42,7 @@ impl<T: Input> Machine<T> {
         dash: Span,
         next: &mut (Event<'input>, Span),
     ) -> Result<(), Stop>
-        ensures { Moves (λ _. told_of (machine_of self.new) next.new) result
-            (spec.sequence_node dash (machine_of self.old)) }
+        ensures { TellsBy (spec.sequence_node dash) self.old result next.new self.new }
     {
         let token = self.take()?;
         match token.kind {
@@ -62,8 +59,7 @@ impl<T: Input> Machine<T> {
         &mut self,
         next: &mut (Event<'input>, Span),
     ) -> Result<(), Stop>
-        ensures { Moves (λ _. told_of (machine_of self.new) next.new) result
-            (spec.indentless_entry (machine_of self.old)) }
+        ensures { TellsBy spec.indentless_entry self.old result next.new self.new }
     {
         let token = self.take()?;
         match token.kind {
@@ -85,8 +81,7 @@ impl<T: Input> Machine<T> {
         dash: Span,
         next: &mut (Event<'input>, Span),
     ) -> Result<(), Stop>
-        ensures { Moves (λ _. told_of (machine_of self.new) next.new) result
-            (spec.indentless_node dash (machine_of self.old)) }
+        ensures { TellsBy (spec.indentless_node dash) self.old result next.new self.new }
     {
         let token = self.take()?;
         match token.kind {
@@ -103,8 +98,7 @@ impl<T: Input> Machine<T> {
         &mut self,
         next: &mut (Event<'input>, Span),
     ) -> Result<(), Stop>
-        ensures { Moves (λ _. told_of (machine_of self.new) next.new) result
-            (spec.mapping_key (machine_of self.old)) }
+        ensures { TellsBy spec.mapping_key self.old result next.new self.new }
     {
         let token = self.take()?;
         match token.kind {
@@ -126,8 +120,7 @@ impl<T: Input> Machine<T> {
     // The node behind a key's token.
     #[tactic(auto, unfolding(crate::specs::Steps::Block::key_node))]
     fn block_key_node<'input>(&mut self, next: &mut (Event<'input>, Span)) -> Result<(), Stop>
-        ensures { Moves (λ _. told_of (machine_of self.new) next.new) result
-            (spec.key_node (machine_of self.old)) }
+        ensures { TellsBy spec.key_node self.old result next.new self.new }
     {
         let token = self.take()?;
         match token.kind {
@@ -145,8 +138,7 @@ impl<T: Input> Machine<T> {
         &mut self,
         next: &mut (Event<'input>, Span),
     ) -> Result<(), Stop>
-        ensures { Moves (λ _. told_of (machine_of self.new) next.new) result
-            (spec.mapping_value (machine_of self.old)) }
+        ensures { TellsBy spec.mapping_value self.old result next.new self.new }
     {
         let token = self.take()?;
         let span = token.span;
@@ -163,8 +155,7 @@ impl<T: Input> Machine<T> {
         colon: Span,
         next: &mut (Event<'input>, Span),
     ) -> Result<(), Stop>
-        ensures { Moves (λ _. told_of (machine_of self.new) next.new) result
-            (spec.value_node colon (machine_of self.old)) }
+        ensures { TellsBy (spec.value_node colon) self.old result next.new self.new }
     {
         let token = self.take()?;
         match token.kind {

@@ -60,7 +60,8 @@ impl Declared {
 
     // A version may be declared once.
     fn add_version(&mut self, place: Marker) -> Result<(), Stop>
-        ensures { Moves (λ _. declared self.new) result (spec.add_version place (declared self.old)) }
+        ensures { Moves (λ _. declared self.new) result
+            (spec.add_version place (declared self.old)) }
     {
         if self.version {
             return Err(refuse(FaultText::DuplicateVersionDirective, place));
@@ -74,14 +75,13 @@ impl<T: Input> Machine<T> {
     ghost use Rattle.std.specs.Prelude.{IfOk};
     ghost use Rattle.saphyr_scalar.specs.Seen.{Moves};
     ghost use Rattle.saphyr_scanner.specs.Views.Tokens.{piece};
-    ghost use Rattle.saphyr_parser.specs.Views.Machines.{machine_of, told_of};
+    ghost use Rattle.saphyr_parser.specs.Views.Machines.{machine_of, TellsBy, TakesBy};
     ghost use Rattle.saphyr_parser.specs.Steps.Machine as machine;
     ghost use Rattle.saphyr_parser.specs.Views.Documents.{declared as seen};
 
     // Takes the first token behind ends of documents and byte order marks.
     fn pass_ends(&mut self) -> Result<Token, Stop>
-        ensures taken { Moves (λ t. (piece t, machine_of self.new)) result
-            (spec.pass spec.is_end_or_mark (machine_of self.old)) }
+        ensures taken { TakesBy (spec.pass spec.is_end_or_mark) self.old result self.new }
         ensures room { IfOk result (λ t. self.new.token ≡ None) }
     {
         loop {
@@ -94,8 +94,7 @@ impl<T: Input> Machine<T> {
 
     // Takes the first token behind byte order marks.
     fn pass_marks(&mut self) -> Result<Token, Stop>
-        ensures taken { Moves (λ t. (piece t, machine_of self.new)) result
-            (spec.pass spec.is_mark (machine_of self.old)) }
+        ensures taken { TakesBy (spec.pass spec.is_mark) self.old result self.new }
         ensures room { IfOk result (λ t. self.new.token ≡ None) }
     {
         loop {
@@ -146,8 +145,7 @@ impl<T: Input> Machine<T> {
 
     // Takes the first token behind the directives.
     fn directives(&mut self) -> Result<Token, Stop>
-        ensures { Moves (λ t. (piece t, machine_of self.new)) result
-            (spec.directives spec.none_declared (machine_of self.old)) }
+        ensures { TakesBy (spec.directives spec.none_declared) self.old result self.new }
     {
         let mut declared = Declared::nothing(self.alloc);
         loop {
@@ -165,8 +163,7 @@ impl<T: Input> Machine<T> {
         &mut self,
         next: &mut (Event<'input>, Span),
     ) -> Result<(), Stop>
-        ensures { Moves (λ _. told_of (machine_of self.new) next.new) result
-            (spec.stream_start (machine_of self.old)) }
+        ensures { TellsBy spec.stream_start self.old result next.new self.new }
     {
         let token = self.take()?;
         match token.kind {
@@ -187,8 +184,7 @@ impl<T: Input> Machine<T> {
         next: &mut (Event<'input>, Span),
     ) -> Result<(), Stop>
         requires { self.old.token ≡ None }
-        ensures { Moves (λ _. told_of (machine_of self.new) next.new) result
-            (spec.explicit_document (piece token) (machine_of self.old)) }
+        ensures { TellsBy (spec.explicit_document (piece token)) self.old result next.new self.new }
     {
         self.put_back(token);
         let token = self.directives()?;
@@ -215,8 +211,7 @@ impl<T: Input> Machine<T> {
         next: &mut (Event<'input>, Span),
     ) -> Result<(), Stop>
         requires { self.old.token ≡ None }
-        ensures { Moves (λ _. told_of (machine_of self.new) next.new) result
-            (spec.bare_document (piece token) (machine_of self.old)) }
+        ensures { TellsBy (spec.bare_document (piece token)) self.old result next.new self.new }
     {
         let span = token.span;
         self.put_back(token);
@@ -233,8 +228,7 @@ impl<T: Input> Machine<T> {
         &mut self,
         next: &mut (Event<'input>, Span),
     ) -> Result<(), Stop>
-        ensures { Moves (λ _. told_of (machine_of self.new) next.new) result
-            (spec.implicit_start (machine_of self.old)) }
+        ensures { TellsBy spec.implicit_start self.old result next.new self.new }
     {
         let token = self.pass_ends()?;
         match token.kind {
@@ -257,8 +251,7 @@ impl<T: Input> Machine<T> {
         &mut self,
         next: &mut (Event<'input>, Span),
     ) -> Result<(), Stop>
-        ensures { Moves (λ _. told_of (machine_of self.new) next.new) result
-            (spec.explicit_start (machine_of self.old)) }
+        ensures { TellsBy spec.explicit_start self.old result next.new self.new }
     {
         let token = self.pass_ends()?;
         match token.kind {
@@ -277,8 +270,7 @@ impl<T: Input> Machine<T> {
         &mut self,
         next: &mut (Event<'input>, Span),
     ) -> Result<(), Stop>
-        ensures { Moves (λ _. told_of (machine_of self.new) next.new) result
-            (spec.document_content (machine_of self.old)) }
+        ensures { TellsBy spec.document_content self.old result next.new self.new }
     {
         let token = self.take()?;
         match token.kind {
@@ -303,8 +295,7 @@ impl<T: Input> Machine<T> {
     // place. Only a marker or the end may stand there.
     #[tactic(auto, unfolding(crate::specs::Steps::Documents::behind_marks))]
     fn behind_marks(&mut self, first: Marker) -> Result<Token, Stop>
-        ensures taken { Moves (λ t. (piece t, machine_of self.new)) result
-            (spec.behind_marks first (machine_of self.old)) }
+        ensures taken { TakesBy (spec.behind_marks first) self.old result self.new }
         ensures room { IfOk result (λ t. self.new.token ≡ None) }
     {
         let token = self.pass_marks()?;
@@ -317,8 +308,7 @@ impl<T: Input> Machine<T> {
     // Takes the token behind a document and its byte order marks.
     #[tactic(auto, unfolding(crate::specs::Steps::Documents::behind_document))]
     fn behind_document(&mut self) -> Result<Token, Stop>
-        ensures taken { Moves (λ t. (piece t, machine_of self.new)) result
-            (spec.behind_document (machine_of self.old)) }
+        ensures taken { TakesBy spec.behind_document self.old result self.new }
         ensures room { IfOk result (λ t. self.new.token ≡ None) }
     {
         let token = self.take()?;
@@ -334,8 +324,7 @@ impl<T: Input> Machine<T> {
         &mut self,
         next: &mut (Event<'input>, Span),
     ) -> Result<(), Stop>
-        ensures { Moves (λ _. told_of (machine_of self.new) next.new) result
-            (spec.document_end (machine_of self.old)) }
+        ensures { TellsBy spec.document_end self.old result next.new self.new }
     {
         let token = self.behind_document()?;
         let span = token.span;

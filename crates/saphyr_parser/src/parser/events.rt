@@ -17,8 +17,7 @@ use saphyr_scanner::Scanner;
 use std::alloc::Global;
 
 impl<T: Input> Machine<T> {
-    ghost use Rattle.saphyr_scalar.specs.Seen.{Moves};
-    ghost use Rattle.saphyr_parser.specs.Views.Machines.{machine_of, told_of};
+    ghost use Rattle.saphyr_parser.specs.Views.Machines.{machine_of, TellsBy};
     ghost use Rattle.saphyr_parser.specs.Steps.Machine.{fresh};
     ghost use Rattle.saphyr_parser.specs.Calls.{Reads, placed};
     ghost use Rattle.saphyr_parser.specs.Cursor.{filled};
@@ -43,8 +42,7 @@ impl<T: Input> Machine<T> {
     #[inline(always)]
     #[tactic(auto, unfolding(crate::specs::Steps::Expected::block_node))]
     fn block_node<'input>(&mut self, next: &mut (Event<'input>, Span)) -> Result<(), Stop>
-        ensures { Moves (λ _. told_of (machine_of self.new) next.new) result
-            (spec.block_node (machine_of self.old)) }
+        ensures { TellsBy spec.block_node self.old result next.new self.new }
     {
         let token = self.take()?;
         self.node(Context::Block, token, next)
@@ -113,8 +111,7 @@ impl<T: Input> Machine<T> {
     #[tactic(auto, unfolding(crate::specs::Steps::Expected::step))]
     pub(super) fn event<'input>(&mut self, next: &mut (Event<'input>, Span)) -> Result<(), Stop>
         requires { (machine_of self.old).state ≢ End }
-        ensures { Moves (λ _. told_of (machine_of self.new) next.new) result
-            (spec.step (machine_of self.old)) }
+        ensures { TellsBy spec.step self.old result next.new self.new }
     {
         match self.state {
             State::StreamStart => self.stream_start(next),

@@ -12,9 +12,8 @@ use saphyr_scalar::{FaultText, Marker, Span, Stop};
 use saphyr_scanner::{Token, TokenType};
 
 impl<T: Input> Machine<T> {
-    ghost use Rattle.saphyr_scalar.specs.Seen.{Moves};
     ghost use Rattle.saphyr_scanner.specs.Views.Tokens.{piece};
-    ghost use Rattle.saphyr_parser.specs.Views.Machines.{machine_of, told_of};
+    ghost use Rattle.saphyr_parser.specs.Views.Machines.{TellsBy};
 
     // The first entry of a flow sequence, or the one behind a comma, or the end of the sequence.
     #[inline(always)]
@@ -23,8 +22,7 @@ impl<T: Input> Machine<T> {
         &mut self,
         next: &mut (Event<'input>, Span),
     ) -> Result<(), Stop>
-        ensures { Moves (λ _. told_of (machine_of self.new) next.new) result
-            (spec.first_entry (machine_of self.old)) }
+        ensures { TellsBy spec.first_entry self.old result next.new self.new }
     {
         let token = self.take()?;
         match token.kind {
@@ -51,8 +49,7 @@ impl<T: Input> Machine<T> {
         &mut self,
         next: &mut (Event<'input>, Span),
     ) -> Result<(), Stop>
-        ensures { Moves (λ _. told_of (machine_of self.new) next.new) result
-            (spec.other_entry (machine_of self.old)) }
+        ensures { TellsBy spec.other_entry self.old result next.new self.new }
     {
         let token = self.take()?;
         match token.kind {
@@ -73,8 +70,7 @@ impl<T: Input> Machine<T> {
         &mut self,
         next: &mut (Event<'input>, Span),
     ) -> Result<(), Stop>
-        ensures { Moves (λ _. told_of (machine_of self.new) next.new) result
-            (spec.pair_key (machine_of self.old)) }
+        ensures { TellsBy spec.pair_key self.old result next.new self.new }
     {
         let token = self.take()?;
         match token.kind {
@@ -97,8 +93,7 @@ impl<T: Input> Machine<T> {
         &mut self,
         next: &mut (Event<'input>, Span),
     ) -> Result<(), Stop>
-        ensures { Moves (λ _. told_of (machine_of self.new) next.new) result
-            (spec.pair_value (machine_of self.old)) }
+        ensures { TellsBy spec.pair_value self.old result next.new self.new }
     {
         let token = self.take()?;
         match token.kind {
@@ -122,8 +117,7 @@ impl<T: Input> Machine<T> {
         &mut self,
         next: &mut (Event<'input>, Span),
     ) -> Result<(), Stop>
-        ensures { Moves (λ _. told_of (machine_of self.new) next.new) result
-            (spec.pair_value_node (machine_of self.old)) }
+        ensures { TellsBy spec.pair_value_node self.old result next.new self.new }
     {
         let token = self.take()?;
         let span = token.span;
@@ -143,8 +137,7 @@ impl<T: Input> Machine<T> {
         place: Marker,
         next: &mut (Event<'input>, Span),
     ) -> Result<(), Stop>
-        ensures { Moves (λ _. told_of (machine_of self.new) next.new) result
-            (spec.pair_end place (machine_of self.old)) }
+        ensures { TellsBy (spec.pair_end place) self.old result next.new self.new }
     {
         self.state = State::FlowSequenceEntry;
         let span = Span {
@@ -162,8 +155,7 @@ impl<T: Input> Machine<T> {
         &mut self,
         next: &mut (Event<'input>, Span),
     ) -> Result<(), Stop>
-        ensures { Moves (λ _. told_of (machine_of self.new) next.new) result
-            (spec.first_pair (machine_of self.old)) }
+        ensures { TellsBy spec.first_pair self.old result next.new self.new }
     {
         let token = self.take()?;
         let span = token.span;
@@ -177,8 +169,7 @@ impl<T: Input> Machine<T> {
         &mut self,
         next: &mut (Event<'input>, Span),
     ) -> Result<(), Stop>
-        ensures { Moves (λ _. told_of (machine_of self.new) next.new) result
-            (spec.other_pair (machine_of self.old)) }
+        ensures { TellsBy spec.other_pair self.old result next.new self.new }
     {
         let token = self.take()?;
         match token.kind {
@@ -200,8 +191,7 @@ impl<T: Input> Machine<T> {
         comma: Span,
         next: &mut (Event<'input>, Span),
     ) -> Result<(), Stop>
-        ensures { Moves (λ _. told_of (machine_of self.new) next.new) result
-            (spec.pair_behind_comma comma (machine_of self.old)) }
+        ensures { TellsBy (spec.pair_behind_comma comma) self.old result next.new self.new }
     {
         let token = self.take()?;
         self.flow_mapping_pair(comma, token, next)
@@ -216,8 +206,8 @@ impl<T: Input> Machine<T> {
         next: &mut (Event<'input>, Span),
     ) -> Result<(), Stop>
         requires { self.old.token ≡ None }
-        ensures { Moves (λ _. told_of (machine_of self.new) next.new) result
-            (spec.pair_at (piece token).kind end (piece token) (machine_of self.old)) }
+        ensures { TellsBy (spec.pair_at (piece token).kind end (piece token))
+            self.old result next.new self.new }
     {
         match token.kind {
             TokenType::Key => self.flow_key_node(next),
@@ -239,8 +229,7 @@ impl<T: Input> Machine<T> {
     #[inline(always)]
     #[tactic(auto, unfolding(crate::specs::Steps::Flow::key_node))]
     fn flow_key_node<'input>(&mut self, next: &mut (Event<'input>, Span)) -> Result<(), Stop>
-        ensures { Moves (λ _. told_of (machine_of self.new) next.new) result
-            (spec.key_node (machine_of self.old)) }
+        ensures { TellsBy spec.key_node self.old result next.new self.new }
     {
         let token = self.take()?;
         match token.kind {
@@ -259,8 +248,7 @@ impl<T: Input> Machine<T> {
         &mut self,
         next: &mut (Event<'input>, Span),
     ) -> Result<(), Stop>
-        ensures { Moves (λ _. told_of (machine_of self.new) next.new) result
-            (spec.mapping_value (machine_of self.old)) }
+        ensures { TellsBy spec.mapping_value self.old result next.new self.new }
     {
         let token = self.take()?;
         let span = token.span;
@@ -278,8 +266,7 @@ impl<T: Input> Machine<T> {
         colon: Span,
         next: &mut (Event<'input>, Span),
     ) -> Result<(), Stop>
-        ensures { Moves (λ _. told_of (machine_of self.new) next.new) result
-            (spec.value_node colon (machine_of self.old)) }
+        ensures { TellsBy (spec.value_node colon) self.old result next.new self.new }
     {
         let token = self.take()?;
         match token.kind {
@@ -296,8 +283,7 @@ impl<T: Input> Machine<T> {
         &mut self,
         next: &mut (Event<'input>, Span),
     ) -> Result<(), Stop>
-        ensures { Moves (λ _. told_of (machine_of self.new) next.new) result
-            (spec.empty_value (machine_of self.old)) }
+        ensures { TellsBy spec.empty_value self.old result next.new self.new }
     {
         let token = self.take()?;
         let span = token.span;

@@ -50,7 +50,7 @@ impl<T: Input> Machine<T> {
     ghost use Rattle.std.specs.Prelude.{IfOk, IfNone, IfSome, Ok};
     ghost use Rattle.saphyr_scalar.specs.Seen.{Moves};
     ghost use Rattle.saphyr_scanner.specs.Views.Tokens.{piece};
-    ghost use Rattle.saphyr_parser.specs.Views.Machines.{machine_of, happening, told_of};
+    ghost use Rattle.saphyr_parser.specs.Views.Machines.{machine_of, happening, TellsBy, TakesBy};
 
     // Takes the token that was put back, if one was.
     #[inline(always)]
@@ -94,8 +94,7 @@ impl<T: Input> Machine<T> {
     // Takes the next token.
     #[inline(always)]
     pub(super) fn take(&mut self) -> Result<Token, Stop>
-        ensures taken { Moves (λ t. (piece t, machine_of self.new)) result
-            (spec.take (machine_of self.old)) }
+        ensures taken { TakesBy spec.take self.old result self.new }
         ensures room { IfOk result (λ t. self.new.token ≡ None) }
     {
         let mut token = Token::at_start();
@@ -161,8 +160,8 @@ impl<T: Input> Machine<T> {
         next: &mut (Event<'input>, Span),
     ) -> Result<(), Stop>
         requires { self.old.token ≡ None }
-        ensures { Moves (λ _. told_of (machine_of self.new) next.new) result
-            (spec.left_out (piece token) state span (machine_of self.old)) }
+        ensures { TellsBy (spec.left_out (piece token) state span)
+            self.old result next.new self.new }
     {
         self.put_back(token);
         self.state = state;

@@ -48,9 +48,8 @@ impl Properties {
 }
 
 impl<T: Input> Machine<T> {
-    ghost use Rattle.saphyr_scalar.specs.Seen.{Moves};
     ghost use Rattle.saphyr_scanner.specs.Views.Tokens.{piece};
-    ghost use Rattle.saphyr_parser.specs.Views.Machines.{machine_of, told_of};
+    ghost use Rattle.saphyr_parser.specs.Views.Machines.{machine_of, told_of, TellsBy};
     ghost use Rattle.saphyr_parser.specs.Views.Nodes.{properties as seen};
 
     // Properties alone stand for an empty scalar.
@@ -61,8 +60,8 @@ impl<T: Input> Machine<T> {
         next: &mut (Event<'input>, Span),
     ) -> Result<(), Stop>
         requires { self.old.token ≡ None }
-        ensures { Moves (λ _. told_of (machine_of self.new) next.new) result
-            (spec.without_content (seen properties) (piece token) (machine_of self.old)) }
+        ensures { TellsBy (spec.without_content (seen properties) (piece token))
+            self.old result next.new self.new }
     {
         if !properties.has_any() {
             return Err(refuse(FaultText::NodeContentExpected, token.span.start));
@@ -121,8 +120,8 @@ impl<T: Input> Machine<T> {
         next: &mut (Event<'input>, Span),
     ) -> Result<(), Stop>
         requires { self.old.token ≡ None }
-        ensures { Moves (λ _. told_of (machine_of self.new) next.new) result
-            (spec.content (seen properties) context (piece token) (machine_of self.old)) }
+        ensures { TellsBy (spec.content (seen properties) context (piece token))
+            self.old result next.new self.new }
     {
         let Token { span, kind } = token;
         match kind {
@@ -166,8 +165,8 @@ impl<T: Input> Machine<T> {
         context: Context,
         next: &mut (Event<'input>, Span),
     ) -> Result<(), Stop>
-        ensures { Moves (λ _. told_of (machine_of self.new) next.new) result
-            (spec.next_content (seen properties) context (machine_of self.old)) }
+        ensures { TellsBy (spec.next_content (seen properties) context)
+            self.old result next.new self.new }
     {
         let token = self.take()?;
         self.content(properties, context, token, next)
@@ -180,8 +179,7 @@ impl<T: Input> Machine<T> {
         span: Span,
         next: &mut (Event<'input>, Span),
     ) -> Result<(), Stop>
-        ensures { Moves (λ _. told_of (machine_of self.new) next.new) result
-            (spec.alias name.now span (machine_of self.old)) }
+        ensures { TellsBy (spec.alias name.now span) self.old result next.new self.new }
     {
         match self.anchors.id_of(name) {
             Some(id) => {
@@ -202,8 +200,8 @@ impl<T: Input> Machine<T> {
         context: Context,
         next: &mut (Event<'input>, Span),
     ) -> Result<(), Stop>
-        ensures { Moves (λ _. told_of (machine_of self.new) next.new) result
-            (spec.behind_anchor (string_bytes name) anchor context (machine_of self.old)) }
+        ensures { TellsBy (spec.behind_anchor (string_bytes name) anchor context)
+            self.old result next.new self.new }
     {
         let id = self.anchors.register(name)?;
         let Token { span, kind } = self.take()?;
@@ -232,9 +230,9 @@ impl<T: Input> Machine<T> {
         context: Context,
         next: &mut (Event<'input>, Span),
     ) -> Result<(), Stop>
-        ensures { Moves (λ _. told_of (machine_of self.new) next.new) result
-            (spec.behind_tag (string_bytes tag.handle) (string_bytes tag.suffix) place context
-            (machine_of self.old)) }
+        ensures { TellsBy
+            (spec.behind_tag (string_bytes tag.handle) (string_bytes tag.suffix) place context)
+            self.old result next.new self.new }
     {
         let tag = self.resolve(tag, place.start)?;
         let Token { span, kind } = self.take()?;
@@ -264,8 +262,7 @@ impl<T: Input> Machine<T> {
         next: &mut (Event<'input>, Span),
     ) -> Result<(), Stop>
         requires { self.old.token ≡ None }
-        ensures { Moves (λ _. told_of (machine_of self.new) next.new) result
-            (spec.node context (piece token) (machine_of self.old)) }
+        ensures { TellsBy (spec.node context (piece token)) self.old result next.new self.new }
     {
         let Token { span, kind } = token;
         match kind {
@@ -287,9 +284,9 @@ impl<T: Input> Machine<T> {
         next: &mut (Event<'input>, Span),
     ) -> Result<(), Stop>
         requires { self.old.token ≡ None }
-        ensures { Moves (λ _. told_of (machine_of self.new) next.new) result
-            (spec.content (spec.no_properties (piece token).span.start) context (piece token)
-            (machine_of self.old)) }
+        ensures { TellsBy
+            (spec.content (spec.no_properties (piece token).span.start) context (piece token))
+            self.old result next.new self.new }
     {
         let Token { span, kind } = token;
         match kind {
@@ -341,8 +338,8 @@ impl<T: Input> Machine<T> {
         next: &mut (Event<'input>, Span),
     ) -> Result<(), Stop>
         requires { self.old.token ≡ None }
-        ensures { Moves (λ _. told_of (machine_of self.new) next.new) result
-            (spec.inside state context (piece token) (machine_of self.old)) }
+        ensures { TellsBy (spec.inside state context (piece token))
+            self.old result next.new self.new }
     {
         let Token { span, kind } = token;
         match kind {

@@ -123,7 +123,8 @@ impl<'input, T: Input> Reader<'input, T> {
     // Gives the fault that ended the events, unless it was given before. Where it can't be copied, it is
     // lost for the want of memory.
     fn give_fault(&mut self) -> Option<Result<(Event<'input>, Span), Fault>>
-        ensures { calls.GivesFault (cursor self.old).kept result (cursor self.old) (cursor self.new) }
+        ensures { calls.GivesFault (cursor self.old).kept result (cursor self.old)
+            (cursor self.new) }
     {
         let Some(kept) = self.kept.take() else {
             return None;

@@ -1,13 +1,15 @@
 -- What contracts see of the engine.
-use Rattle.std.specs.Prelude.{map, reverse, option_map}
+use Rattle.std.specs.Prelude.{map, reverse, option_map, Result}
 use Rattle.saphyr_input.specs.declared.input.Input.{Ghosts}
+use Rattle.saphyr_scalar.specs.declared.scalar.fault.Refusal.{Refusal}
+use Rattle.saphyr_scalar.specs.declared.scalar.fault.Stop.{Stop}
 use Rattle.saphyr_scalar.specs.Seen as reader
 use Rattle.saphyr_scanner.specs.declared.engine.Engine.{Engine}
 use Rattle.saphyr_scanner.specs.declared.engine.level.Candidate as declared_candidate
 use Rattle.saphyr_scanner.specs.declared.engine.level.Level as declared_level
 use Rattle.saphyr_scanner.specs.Views.Queue.{queue}
-use Rattle.saphyr_scanner.specs.Steps.Core.{Candidate, Level, Core}
-use Rattle.saphyr_scanner.specs.Steps.State.{State}
+use Rattle.saphyr_scanner.specs.Steps.Core.{Candidate, Level, Core, Steps}
+use Rattle.saphyr_scanner.specs.Steps.State.{State, acted, carried}
 
 abbrev pub candidate : declared_candidate.Candidate → Candidate
 candidate k = record { mark = k.mark; place = k.place }
@@ -34,3 +36,21 @@ core {T} {g} e =
 
 abbrev pub state : {T : Type 0} {g : Ghosts T} → Engine T g → State
 state {T} {g} e = record { core = core e; queue = queue e.queue }
+
+-- What a call returned, and the engine that it left, are what the function gives, unless memory ran out.
+abbrev pub MovesBy
+    : {T : Type 0} {g : Ghosts T}
+    → (State → Result State Refusal) → Engine T g → Result Unit Stop → Engine T g → Type 0
+MovesBy f old result new = reader.Moves (λ _. state new) result (f (state old))
+
+-- the same of a function that changes nothing but the core
+abbrev pub CarriesBy
+    : {T : Type 0} {g : Ghosts T}
+    → (Core → Result Core Refusal) → Engine T g → Result Unit Stop → Engine T g → Type 0
+CarriesBy f = MovesBy (λ s. carried (f s.core) s.queue)
+
+-- the same of a function on the core that tells what it does to the queue
+abbrev pub ActsBy
+    : {T : Type 0} {g : Ghosts T}
+    → (Core → Steps) → Engine T g → Result Unit Stop → Engine T g → Type 0
+ActsBy f = MovesBy (λ s. acted (f s.core) s.queue)

@@ -26,8 +26,7 @@ impl Context {
 }
 
 impl<T: Input> Engine<T> {
-    ghost use Rattle.saphyr_scalar.specs.Seen.{Moves};
-    ghost use Rattle.saphyr_scanner.specs.Views.Engine.{state};
+    ghost use Rattle.saphyr_scanner.specs.Views.Engine.{state, ActsBy, CarriesBy};
 
     // Whether a `-` stands here as an indicator.
     fn is_dash_next(&mut self) -> bool
@@ -41,9 +40,7 @@ impl<T: Input> Engine<T> {
     // A compact sequence has its `-` behind spaces alone.
     #[inline(always)]
     fn refuse_tab(&mut self, found: SkipTabs) -> Result<(), Stop>
-        ensures { Moves (λ _. state self.new) result
-            (spec_state.carried (block.refuse_tab (found, (state self.old).core))
-            (state self.old).queue) }
+        ensures { CarriesBy (λ c. block.refuse_tab (found, c)) self.old result self.new }
     {
         let is_dash = self.is_dash_next();
         if found.found_tabs() && is_dash {
@@ -57,8 +54,7 @@ impl<T: Input> Engine<T> {
     #[inline(always)]
     #[tactic(auto, unfolding(crate::specs::Steps::Block::pass_dash))]
     fn pass_dash(&mut self) -> Result<(), Stop>
-        ensures { Moves (λ _. state self.new) result
-            (spec_state.carried (block.pass_dash (state self.old).core) (state self.old).queue) }
+        ensures { CarriesBy block.pass_dash self.old result self.new }
     {
         let found = self.separate()?;
         self.refuse_tab(found)
@@ -80,8 +76,7 @@ impl<T: Input> Engine<T> {
     #[tactic(auto, unfolding(crate::specs::Steps::Block::entry, crate::specs::Steps::Block::next_entry))]
     pub(super) fn fetch_block_entry(&mut self) -> Result<(), Stop>
         requires { 0 < length (state self.old).core.cursor.rest }
-        ensures { Moves (λ _. state self.new) result
-            (spec_state.acted (block.entry (state self.old).core) (state self.old).queue) }
+        ensures { ActsBy block.entry self.old result self.new }
     {
         if !self.in_block() {
             return Err(self.refuse_here(FaultText::DashInsideFlow));
@@ -107,8 +102,7 @@ impl<T: Input> Engine<T> {
     #[tactic(auto, unfolding(crate::specs::Steps::Block::key, crate::specs::Steps::Block::begin_key, crate::specs::Steps::Block::behind_mark, crate::specs::Steps::Core::remove_key))]
     pub(super) fn fetch_key(&mut self) -> Result<(), Stop>
         requires { 0 < length (state self.old).core.cursor.rest }
-        ensures { Moves (λ _. state self.new) result
-            (spec_state.acted (block.key (state self.old).core) (state self.old).queue) }
+        ensures { ActsBy block.key self.old result self.new }
     {
         if self.in_block() && !self.key_allowed {
             return Err(self.refuse_here(FaultText::KeyNotAllowed));

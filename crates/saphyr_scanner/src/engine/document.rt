@@ -3,7 +3,6 @@
 
 ghost use Rattle.std.specs.Prelude.{◌≡◌, ◌≤◌, ◌<◌, length, slice_index, None, IfOk};
 ghost use Rattle.saphyr_scanner.specs.Steps.Document as document;
-ghost use Rattle.saphyr_scanner.specs.Steps.State as spec_state;
 ghost use Rattle.saphyr_scanner.specs.Views.Tokens.{kind_of};
 ghost use Rattle.saphyr_scalar.specs.Directive.{directive_of};
 
@@ -15,13 +14,12 @@ use saphyr_scalar::{Directive, FaultText, Marker, Stop};
 use std::alloc::{AllocError, Global};
 
 impl<T: Input> Engine<T> {
-    ghost use Rattle.saphyr_scalar.specs.Seen.{Moves};
-    ghost use Rattle.saphyr_scanner.specs.Views.Engine.{state};
+    ghost use Rattle.saphyr_scanner.specs.Views.Engine.{state, MovesBy};
 
     // Ends all block collections, and what may be a key.
     #[tactic(auto, unfolding(crate::specs::Steps::Document::end_content))]
     fn end_content(&mut self) -> Result<(), Stop>
-        ensures { Moves (λ _. state self.new) result (document.end_content (state self.old)) }
+        ensures { MovesBy document.end_content self.old result self.new }
     {
         let mark = self.reader.mark();
         self.unroll(None, mark)?;
@@ -32,7 +30,7 @@ impl<T: Input> Engine<T> {
     #[tactic(auto, unfolding(crate::specs::Steps::Document::end_stream, crate::specs::Steps::Document::end_at))]
     pub(super) fn fetch_end(&mut self) -> Result<(), Stop>
         requires { slice_index (state self.old).core.cursor.rest 0 ≡ 0 }
-        ensures { Moves (λ _. state self.new) result (document.end_stream (state self.old)) }
+        ensures { MovesBy document.end_stream self.old result self.new }
     {
         self.reader.load(1);
         if self.reader.input().peek_opt().is_some() {
@@ -53,8 +51,7 @@ impl<T: Input> Engine<T> {
     #[tactic(auto, using(crate::proofs::Blocks::unrolled_cursor), unfolding(crate::specs::Steps::Document::marker, crate::specs::Steps::Document::end_content, crate::specs::Steps::Core::remove_key))]
     pub(super) fn fetch_document_marker(&mut self, kind: TokenType) -> Result<(), Stop>
         requires { 3 ≤ length (state self.old).core.cursor.rest }
-        ensures { Moves (λ _. state self.new) result
-            (document.marker (kind_of kind) (state self.old)) }
+        ensures { MovesBy (document.marker (kind_of kind)) self.old result self.new }
     {
         self.end_content()?;
         self.key_allowed = false;
@@ -68,7 +65,7 @@ impl<T: Input> Engine<T> {
     #[tactic(auto, unfolding(crate::specs::Steps::Document::end_marker, crate::specs::Steps::Document::end_line))]
     pub(super) fn fetch_document_end(&mut self) -> Result<(), Stop>
         requires { 3 ≤ length (state self.old).core.cursor.rest }
-        ensures { Moves (λ _. state self.new) result (document.end_marker (state self.old)) }
+        ensures { MovesBy document.end_marker self.old result self.new }
     {
         self.fetch_document_marker(TokenType::DocumentEnd)?;
         self.separate()?;
@@ -83,7 +80,7 @@ impl<T: Input> Engine<T> {
     #[tactic(auto, using(crate::proofs::Blocks::unrolled_cursor), unfolding(crate::specs::Steps::Document::directive, crate::specs::Steps::Document::read_directive, crate::specs::Steps::Document::end_content, crate::specs::Steps::Core::remove_key))]
     pub(super) fn fetch_directive(&mut self) -> Result<(), Stop>
         requires { slice_index (state self.old).core.cursor.rest 0 ≡ 37 }
-        ensures { Moves (λ _. state self.new) result (document.directive (state self.old)) }
+        ensures { MovesBy document.directive self.old result self.new }
     {
         self.end_content()?;
         self.key_allowed = false;
@@ -98,7 +95,7 @@ impl<T: Input> Engine<T> {
     #[tactic(auto, using(crate::proofs::Blocks::unrolled_cursor), unfolding(crate::specs::Steps::Document::byte_order_mark, crate::specs::Steps::Document::end_content, crate::specs::Steps::Core::remove_key))]
     pub(super) fn fetch_byte_order_mark(&mut self) -> Result<(), Stop>
         requires { 0 < length (state self.old).core.cursor.rest }
-        ensures { Moves (λ _. state self.new) result (document.byte_order_mark (state self.old)) }
+        ensures { MovesBy document.byte_order_mark self.old result self.new }
     {
         let start = self.reader.mark();
         if start.col > 0 || !self.in_block() {
@@ -124,7 +121,8 @@ fn end_mark(mark: Marker) -> Marker
 
 // The token of a directive.
 fn kind_of_directive(alloc: Global, directive: Directive) -> Result<TokenType, AllocError>
-    ensures { IfOk result (λ kind. kind_of kind ≡ document.directive_kind (directive_of directive)) }
+    ensures { IfOk result
+        (λ kind. kind_of kind ≡ document.directive_kind (directive_of directive)) }
 {
     Ok(match directive {
         Directive::Version(major, minor) => TokenType::VersionDirective(major, minor),

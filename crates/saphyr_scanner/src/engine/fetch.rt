@@ -3,7 +3,6 @@
 
 ghost use Rattle.std.specs.Prelude.{◌≡◌, ◌<◌, Ok, length, slice_index, option_map};
 ghost use Rattle.saphyr_scanner.specs.Steps.Fetch as fetch;
-ghost use Rattle.saphyr_scanner.specs.Steps.State as spec_state;
 
 use crate::engine::{Context, Engine, Level};
 use crate::token::{Token, TokenType};
@@ -31,13 +30,13 @@ impl Level {
 
 impl<T: Input> Engine<T> {
     ghost use Rattle.saphyr_scalar.specs.Seen.{Moves};
-    ghost use Rattle.saphyr_scanner.specs.Views.Engine.{state};
+    ghost use Rattle.saphyr_scanner.specs.Views.Engine.{state, MovesBy, ActsBy};
     ghost use Rattle.saphyr_scanner.specs.Views.Tokens.{piece, written};
 
     // Comes to where the next token begins.
     #[tactic(auto, unfolding(crate::specs::Steps::Fetch::arrive))]
     fn arrive(&mut self) -> Result<(), Stop>
-        ensures { Moves (λ _. state self.new) result (fetch.arrive (state self.old)) }
+        ensures { MovesBy fetch.arrive self.old result self.new }
     {
         self.pass_gap()?;
         self.drop_far_key()?;
@@ -48,7 +47,7 @@ impl<T: Input> Engine<T> {
     // Puts the next token into the queue.
     #[tactic(auto, unfolding(crate::specs::Steps::Fetch::fetch))]
     fn fetch(&mut self) -> Result<(), Stop>
-        ensures { Moves (λ _. state self.new) result (fetch.fetch (state self.old)) }
+        ensures { MovesBy fetch.fetch self.old result self.new }
     {
         if !self.started {
             self.started = true;
@@ -63,7 +62,7 @@ impl<T: Input> Engine<T> {
     // Puts the token that stands here into the queue.
     #[tactic(auto, using(saphyr_input::proofs::Basics::Lists::some_left), unfolding(crate::specs::Steps::Fetch::fetch_here))]
     fn fetch_here(&mut self) -> Result<(), Stop>
-        ensures { Moves (λ _. state self.new) result (fetch.fetch_here (state self.old)) }
+        ensures { MovesBy fetch.fetch_here self.old result self.new }
     {
         self.reader.load(4);
         let c = self.reader.input().peek();
@@ -96,7 +95,7 @@ impl<T: Input> Engine<T> {
         requires some { 0 < length (state self.old).core.cursor.rest }
         requires first { c ≡ slice_index (state self.old).core.cursor.rest 0 }
         requires second { next ≡ slice_index (state self.old).core.cursor.rest 1 }
-        ensures { Moves (λ _. state self.new) result (fetch.content c next (state self.old)) }
+        ensures { MovesBy (fetch.content c next) self.old result self.new }
     {
         match c {
             '[' => self.fetch_flow_start(Context::FlowSequence, TokenType::FlowSequenceStart),
@@ -131,8 +130,7 @@ impl<T: Input> Engine<T> {
     #[tactic(auto, unfolding(crate::specs::Steps::Fetch::flow_value))]
     fn fetch_flow_value(&mut self, next: char) -> Result<(), Stop>
         requires { 0 < length (state self.old).core.cursor.rest }
-        ensures { Moves (λ _. state self.new) result
-            (spec_state.acted (fetch.flow_value next (state self.old).core) (state self.old).queue) }
+        ensures { ActsBy (fetch.flow_value next) self.old result self.new }
     {
         if self.reader.mark().index != self.adjacent && (next == '[' || next == '{') {
             return Err(self.refuse_here(FaultText::ColonBeforeFlow));
@@ -168,7 +166,7 @@ impl<T: Input> Engine<T> {
     // Puts the next token into the queue, where the text is not too long.
     #[tactic(auto, unfolding(crate::specs::Steps::Fetch::fetch_within))]
     fn fetch_within(&mut self, limit: usize) -> Result<(), Stop>
-        ensures { Moves (λ _. state self.new) result (fetch.fetch_within limit (state self.old)) }
+        ensures { MovesBy (fetch.fetch_within limit) self.old result self.new }
     {
         self.fetch()?;
         if self.reader.mark().index > limit {
@@ -189,7 +187,7 @@ impl<T: Input> Engine<T> {
     #[inline(never)]
     #[tactic(auto, unfolding(crate::specs::Steps::Fetch::fill))]
     fn read_on(&mut self, limit: usize) -> Result<(), Stop>
-        ensures { Moves (λ _. state self.new) result (fetch.fill limit (state self.old)) }
+        ensures { MovesBy (fetch.fill limit) self.old result self.new }
     {
         // Laws, which do nothing when they run: each says that its reader takes characters off.
         takes_plain();
@@ -210,7 +208,7 @@ impl<T: Input> Engine<T> {
     #[inline(always)]
     #[tactic(auto, using(crate::proofs::Filling::ready_as_is))]
     pub(crate) fn fill(&mut self, limit: usize) -> Result<(), Stop>
-        ensures { Moves (λ _. state self.new) result (fetch.fill limit (state self.old)) }
+        ensures { MovesBy (fetch.fill limit) self.old result self.new }
     {
         if self.is_ready() {
             return Ok(());

@@ -1,7 +1,6 @@
 //! Flow collections: their brackets, and the commas between their entries (YAML 1.2.2, 7.4).
 
 ghost use Rattle.std.specs.Prelude.{◌≡◌, Ok, ◌<◌, length};
-ghost use Rattle.saphyr_scanner.specs.Steps.Core as spec;
 ghost use Rattle.saphyr_scanner.specs.Steps.Flow as flow;
 ghost use Rattle.saphyr_scanner.specs.Steps.State as spec_state;
 
@@ -43,8 +42,7 @@ impl Context {
 }
 
 impl<T: Input> Engine<T> {
-    ghost use Rattle.saphyr_scalar.specs.Seen.{Moves};
-    ghost use Rattle.saphyr_scanner.specs.Views.Engine.{state};
+    ghost use Rattle.saphyr_scanner.specs.Views.Engine.{state, ActsBy, CarriesBy};
     ghost use Rattle.saphyr_scanner.specs.Steps.Queue.{next};
     ghost use Rattle.saphyr_scanner.specs.Views.Tokens.{kind_of};
 
@@ -52,8 +50,7 @@ impl<T: Input> Engine<T> {
     #[inline(always)]
     #[tactic(auto, using(crate::proofs::Levels::top_on))]
     fn enter(&mut self, context: Context) -> Result<(), Stop>
-        ensures { Moves (λ _. state self.new) result
-            (Ok (spec_state.changed (flow.enter context (state self.old).core) (state self.old))) }
+        ensures { CarriesBy (λ c. Ok (flow.enter context c)) self.old result self.new }
     {
         self.outer.reserve(1)?;
         self.outer.push_reserved(self.level);
@@ -84,9 +81,8 @@ impl<T: Input> Engine<T> {
     #[tactic(auto, unfolding(crate::specs::Steps::Flow::start, crate::specs::Steps::Flow::open_collection))]
     pub(super) fn fetch_flow_start(&mut self, context: Context, kind: TokenType) -> Result<(), Stop>
         requires { 0 < length (state self.old).core.cursor.rest }
-        ensures { Moves (λ _. state self.new) result
-            (spec_state.acted (flow.start context (kind_of kind) (next (state self.old).queue)
-            (state self.old).core) (state self.old).queue) }
+        ensures { ActsBy (flow.start context (kind_of kind) (next (state self.old).queue))
+            self.old result self.new }
     {
         self.save_key()?;
         self.go_deeper();
@@ -106,9 +102,7 @@ impl<T: Input> Engine<T> {
     #[tactic(auto, unfolding(crate::specs::Steps::Flow::end, crate::specs::Steps::Flow::close_collection))]
     pub(super) fn fetch_flow_end(&mut self, is_sequence: bool, kind: TokenType) -> Result<(), Stop>
         requires { 0 < length (state self.old).core.cursor.rest }
-        ensures { Moves (λ _. state self.new) result
-            (spec_state.acted (flow.end is_sequence (kind_of kind) (state self.old).core)
-            (state self.old).queue) }
+        ensures { ActsBy (flow.end is_sequence (kind_of kind)) self.old result self.new }
     {
         if self.in_block() {
             return Err(self.refuse_here(FaultText::MisplacedBracket));
@@ -132,8 +126,7 @@ impl<T: Input> Engine<T> {
     #[tactic(auto, unfolding(crate::specs::Steps::Flow::entry, crate::specs::Steps::Flow::next_entry, crate::specs::Steps::Core::remove_key))]
     pub(super) fn fetch_flow_entry(&mut self) -> Result<(), Stop>
         requires { 0 < length (state self.old).core.cursor.rest }
-        ensures { Moves (λ _. state self.new) result
-            (spec_state.acted (flow.entry (state self.old).core) (state self.old).queue) }
+        ensures { ActsBy flow.entry self.old result self.new }
     {
         self.remove_key()?;
         self.key_allowed = true;

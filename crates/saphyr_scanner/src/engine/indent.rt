@@ -11,8 +11,7 @@ use saphyr_input::input::Input;
 use saphyr_scalar::{Marker, Stop};
 
 impl<T: Input> Engine<T> {
-    ghost use Rattle.saphyr_scalar.specs.Seen.{Moves};
-    ghost use Rattle.saphyr_scanner.specs.Views.Engine.{state};
+    ghost use Rattle.saphyr_scanner.specs.Views.Engine.{state, MovesBy, CarriesBy};
 
     // The column left of which nothing belongs to what is open.
     pub(super) fn least_column(&self) -> usize
@@ -47,8 +46,7 @@ impl<T: Input> Engine<T> {
     #[tactic(auto, using(crate::proofs::Stacks::top_on))]
     pub(super) fn roll(&mut self, column: usize) -> Result<(), Stop>
         requires { column + 1 < 2 ^ 64 }
-        ensures { Moves (λ _. state self.new) result
-            (Ok (spec_state.changed (spec.roll column (state self.old).core) (state self.old))) }
+        ensures { CarriesBy (λ c. Ok (spec.roll column c)) self.old result self.new }
     {
         if !self.is_further(column) {
             return Ok(());
@@ -64,8 +62,7 @@ impl<T: Input> Engine<T> {
     #[inline(always)]
     #[tactic(auto, using(crate::proofs::Stacks::top_off))]
     fn end_block(&mut self, mark: Marker) -> Result<(), Stop>
-        ensures { Moves (λ _. state self.new) result
-            (Ok (unrolling.end_block mark (state self.old))) }
+        ensures { MovesBy (λ s. Ok (unrolling.end_block mark s)) self.old result self.new }
     {
         self.put_empty(mark, TokenType::BlockEnd)?;
         self.indent = match self.outer_indents.pop() {
@@ -101,8 +98,7 @@ impl<T: Input> Engine<T> {
     #[inline(always)]
     #[tactic(auto, using(crate::proofs::Blocks::none_ends), unfolding(crate::specs::Steps::Unrolling::unroll))]
     pub(super) fn unroll(&mut self, column: Option<usize>, mark: Marker) -> Result<(), Stop>
-        ensures { Moves (λ _. state self.new) result
-            (Ok (unrolling.unroll column mark (state self.old))) }
+        ensures { MovesBy (λ s. Ok (unrolling.unroll column mark s)) self.old result self.new }
     {
         if !self.in_block() {
             return Ok(());

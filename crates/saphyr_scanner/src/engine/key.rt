@@ -13,17 +13,15 @@ use saphyr_scalar::{FaultText, Stop};
 const LONGEST_KEY: usize = 1024;
 
 impl<T: Input> Engine<T> {
-    ghost use Rattle.saphyr_scalar.specs.Seen.{Moves};
-    ghost use Rattle.saphyr_scanner.specs.Views.Engine.{state};
+    ghost use Rattle.saphyr_scanner.specs.Views.Engine.{state, CarriesBy};
     ghost use Rattle.saphyr_scanner.specs.Steps.Queue.{next};
 
     // The token that comes next may be a key, where one is allowed.
     #[inline(always)]
     pub(super) fn save_key(&mut self) -> Result<(), Stop>
         requires { 0 < length (state self.old).core.cursor.rest }
-        ensures { Moves (λ _. state self.new) result
-            (Ok (spec_state.changed (spec.save_key (next (state self.old).queue)
-            (state self.old).core) (state self.old))) }
+        ensures { CarriesBy (λ c. Ok (spec.save_key (next (state self.old).queue) c))
+            self.old result self.new }
     {
         if !self.key_allowed {
             return Ok(());
@@ -53,8 +51,7 @@ impl<T: Input> Engine<T> {
     #[inline(always)]
     #[tactic(auto, unfolding(crate::specs::Steps::Core::remove_key))]
     pub(super) fn remove_key(&mut self) -> Result<(), Stop>
-        ensures { Moves (λ _. state self.new) result
-            (spec_state.carried (spec.remove_key (state self.old).core) (state self.old).queue) }
+        ensures { CarriesBy spec.remove_key self.old result self.new }
     {
         if self.in_block() && self.required {
             return Err(self.refuse_here(FaultText::KeyExpected));
@@ -81,8 +78,7 @@ impl<T: Input> Engine<T> {
     #[inline(always)]
     #[tactic(auto, unfolding(crate::specs::Steps::Core::drop_far_key))]
     pub(super) fn drop_far_key(&mut self) -> Result<(), Stop>
-        ensures { Moves (λ _. state self.new) result
-            (spec_state.carried (spec.drop_far_key (state self.old).core) (state self.old).queue) }
+        ensures { CarriesBy spec.drop_far_key self.old result self.new }
     {
         if !(self.in_block() && self.is_key_too_far()) {
             return Ok(());

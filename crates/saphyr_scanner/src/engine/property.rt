@@ -2,7 +2,6 @@
 
 ghost use Rattle.std.specs.Prelude.{◌≡◌, ◌<◌, length, slice_index};
 ghost use Rattle.saphyr_scanner.specs.Steps.Property as property;
-ghost use Rattle.saphyr_scanner.specs.Steps.State as spec_state;
 
 use crate::engine::Engine;
 use crate::token::TokenType;
@@ -10,17 +9,15 @@ use saphyr_input::input::Input;
 use saphyr_scalar::Stop;
 
 impl<T: Input> Engine<T> {
-    ghost use Rattle.saphyr_scalar.specs.Seen.{Moves};
-    ghost use Rattle.saphyr_scanner.specs.Views.Engine.{state};
+    ghost use Rattle.saphyr_scanner.specs.Views.Engine.{state, ActsBy};
     ghost use Rattle.saphyr_scanner.specs.Steps.Queue.{next};
 
     // `&` and an anchor's name, or `*` and an alias's.
     #[tactic(auto, unfolding(crate::specs::Steps::Property::name, crate::specs::Steps::Property::read_name))]
     pub(super) fn fetch_name(&mut self, is_alias: bool) -> Result<(), Stop>
         requires { 0 < length (state self.old).core.cursor.rest }
-        ensures { Moves (λ _. state self.new) result
-            (spec_state.acted (property.name is_alias (next (state self.old).queue)
-            (state self.old).core) (state self.old).queue) }
+        ensures { ActsBy (property.name is_alias (next (state self.old).queue))
+            self.old result self.new }
     {
         self.save_key()?;
         self.key_allowed = false;
@@ -39,9 +36,7 @@ impl<T: Input> Engine<T> {
     #[tactic(auto, unfolding(crate::specs::Steps::Property::tag, crate::specs::Steps::Property::read_tag))]
     pub(super) fn fetch_tag(&mut self) -> Result<(), Stop>
         requires { slice_index (state self.old).core.cursor.rest 0 ≡ 33 }
-        ensures { Moves (λ _. state self.new) result
-            (spec_state.acted (property.tag (next (state self.old).queue) (state self.old).core)
-            (state self.old).queue) }
+        ensures { ActsBy (property.tag (next (state self.old).queue)) self.old result self.new }
     {
         self.save_key()?;
         self.key_allowed = false;

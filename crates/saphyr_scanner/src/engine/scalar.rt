@@ -2,7 +2,6 @@
 
 ghost use Rattle.std.specs.Prelude.{◌≡◌, Ok, ◌<◌, length, slice_index, string_bytes};
 ghost use Rattle.saphyr_scanner.specs.Steps.Scalar as scalar;
-ghost use Rattle.saphyr_scanner.specs.Steps.State as spec_state;
 
 use crate::engine::Engine;
 use crate::token::TokenType;
@@ -12,8 +11,7 @@ use saphyr_scalar::reading::BlockStyle;
 use saphyr_scalar::{FaultText, Marker, ScalarStyle, Stop};
 
 impl<T: Input> Engine<T> {
-    ghost use Rattle.saphyr_scalar.specs.Seen.{Moves};
-    ghost use Rattle.saphyr_scanner.specs.Views.Engine.{state};
+    ghost use Rattle.saphyr_scanner.specs.Views.Engine.{state, ActsBy};
     ghost use Rattle.saphyr_scanner.specs.Steps.Queue.{next};
 
     // Whether the characters here may stand behind a quoted scalar that began at a place.
@@ -39,9 +37,8 @@ impl<T: Input> Engine<T> {
         style: ScalarStyle,
         text: String,
     ) -> Result<(), Stop>
-        ensures { Moves (λ _. state self.new) result
-            (spec_state.acted (scalar.behind_quotes start style (string_bytes text)
-            (state self.old).core) (state self.old).queue) }
+        ensures { ActsBy (scalar.behind_quotes start style (string_bytes text))
+            self.old result self.new }
     {
         self.separate()?;
         if !self.goes_on_behind_quotes(start) {
@@ -59,9 +56,8 @@ impl<T: Input> Engine<T> {
     #[tactic(auto, unfolding(crate::specs::Steps::Scalar::double_quoted, crate::specs::Steps::Scalar::read_double_quoted))]
     pub(super) fn fetch_double_quoted(&mut self) -> Result<(), Stop>
         requires { slice_index (state self.old).core.cursor.rest 0 ≡ 34 }
-        ensures { Moves (λ _. state self.new) result
-            (spec_state.acted (scalar.double_quoted (next (state self.old).queue)
-            (state self.old).core) (state self.old).queue) }
+        ensures { ActsBy (scalar.double_quoted (next (state self.old).queue))
+            self.old result self.new }
     {
         self.save_key()?;
         self.key_allowed = false;
@@ -75,9 +71,8 @@ impl<T: Input> Engine<T> {
     #[tactic(auto, unfolding(crate::specs::Steps::Scalar::single_quoted, crate::specs::Steps::Scalar::read_single_quoted))]
     pub(super) fn fetch_single_quoted(&mut self) -> Result<(), Stop>
         requires { slice_index (state self.old).core.cursor.rest 0 ≡ 39 }
-        ensures { Moves (λ _. state self.new) result
-            (spec_state.acted (scalar.single_quoted (next (state self.old).queue)
-            (state self.old).core) (state self.old).queue) }
+        ensures { ActsBy (scalar.single_quoted (next (state self.old).queue))
+            self.old result self.new }
     {
         self.save_key()?;
         self.key_allowed = false;
@@ -91,9 +86,7 @@ impl<T: Input> Engine<T> {
     #[tactic(auto, unfolding(crate::specs::Steps::Scalar::plain, crate::specs::Steps::Scalar::read_plain))]
     pub(super) fn fetch_plain(&mut self) -> Result<(), Stop>
         requires { 0 < length (state self.old).core.cursor.rest }
-        ensures { Moves (λ _. state self.new) result
-            (spec_state.acted (scalar.plain (next (state self.old).queue) (state self.old).core)
-            (state self.old).queue) }
+        ensures { ActsBy (scalar.plain (next (state self.old).queue)) self.old result self.new }
     {
         self.save_key()?;
         self.key_allowed = false;
@@ -115,9 +108,8 @@ impl<T: Input> Engine<T> {
     #[tactic(auto, unfolding(crate::specs::Steps::Scalar::block, crate::specs::Steps::Scalar::read_block))]
     pub(super) fn fetch_block_scalar(&mut self, style: BlockStyle) -> Result<(), Stop>
         requires { 0 < length (state self.old).core.cursor.rest }
-        ensures { Moves (λ _. state self.new) result
-            (spec_state.acted (scalar.block style (next (state self.old).queue)
-            (state self.old).core) (state self.old).queue) }
+        ensures { ActsBy (scalar.block style (next (state self.old).queue))
+            self.old result self.new }
     {
         self.save_key()?;
         self.key_allowed = true;

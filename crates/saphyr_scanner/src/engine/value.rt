@@ -2,9 +2,7 @@
 //! (YAML 1.2.2, 7.4.2 and 8.2.2).
 
 ghost use Rattle.std.specs.Prelude.{◌≡◌, Ok, ◌+◌, ◌<◌, ◌^◌, length};
-ghost use Rattle.saphyr_scanner.specs.Steps.Core as spec;
 ghost use Rattle.saphyr_scanner.specs.Steps.Value as value;
-ghost use Rattle.saphyr_scanner.specs.Steps.State as spec_state;
 
 use crate::engine::{Candidate, Context, Engine};
 use crate::queue::Opening;
@@ -39,16 +37,14 @@ impl Context {
 }
 
 impl<T: Input> Engine<T> {
-    ghost use Rattle.saphyr_scalar.specs.Seen.{Moves};
-    ghost use Rattle.saphyr_scanner.specs.Views.Engine.{state, candidate};
+    ghost use Rattle.saphyr_scanner.specs.Views.Engine.{state, candidate, ActsBy, CarriesBy};
 
     // Passes what stands behind a colon, if that begins with a tab. Outside flow a space is wanted
     // before a word.
     #[inline(always)]
     #[tactic(auto, unfolding(crate::specs::Steps::Value::check_tab))]
     fn check_tab(&mut self) -> Result<(), Stop>
-        ensures { Moves (λ _. state self.new) result
-            (spec_state.carried (value.check_tab (state self.old).core) (state self.old).queue) }
+        ensures { CarriesBy value.check_tab self.old result self.new }
     {
         if self.reader.look() != '\t' {
             return Ok(());
@@ -66,8 +62,7 @@ impl<T: Input> Engine<T> {
     #[tactic(auto, unfolding(crate::specs::Steps::Value::fetch, crate::specs::Steps::Value::behind_key))]
     pub(super) fn fetch_value(&mut self) -> Result<(), Stop>
         requires { 0 < length (state self.old).core.cursor.rest }
-        ensures { Moves (λ _. state self.new) result
-            (spec_state.acted (value.fetch (state self.old).core) (state self.old).queue) }
+        ensures { ActsBy value.fetch self.old result self.new }
     {
         let start = self.reader.mark();
         let begins_pair = self.level.context.begins_pair();
@@ -89,9 +84,7 @@ impl<T: Input> Engine<T> {
         begins_pair: bool,
         start: Marker,
     ) -> Result<(), Stop>
-        ensures { Moves (λ _. state self.new) result
-            (spec_state.acted (value.of_key (candidate key) begins_pair start (state self.old).core)
-            (state self.old).queue) }
+        ensures { ActsBy (value.of_key (candidate key) begins_pair start) self.old result self.new }
     {
         if begins_pair && key.mark.line < start.line {
             return Err(Self::refuse(FaultText::MisplacedColon, start));
@@ -116,9 +109,7 @@ impl<T: Input> Engine<T> {
     #[tactic(auto, unfolding(crate::specs::Steps::Value::alone, crate::specs::Steps::Value::begin_alone))]
     fn fetch_value_alone(&mut self, begins_pair: bool, start: Marker) -> Result<(), Stop>
         requires { start.col + 1 < 2 ^ 64 }
-        ensures { Moves (λ _. state self.new) result
-            (spec_state.acted (value.alone begins_pair start (state self.old).core)
-            (state self.old).queue) }
+        ensures { ActsBy (value.alone begins_pair start) self.old result self.new }
     {
         if begins_pair {
             self.put_empty(start, TokenType::FlowMappingStart)?;
