@@ -9,27 +9,27 @@ use Rattle.saphyr_parser_c.specs.declared.inner.Inner.{Inner}
 use Rattle.saphyr_parser_c.specs.declared.shown.CEvent.{CEvent}
 use Rattle.saphyr_parser_c.specs.declared.status.Status.{Status}
 use Rattle.saphyr_parser_c.specs.declared.status.Status.TheVariants as status
-use Rattle.saphyr_parser_c.specs.Inner.{IsOver, Looks, Steps}
-use Rattle.saphyr_parser_c.specs.Shown.{Holds, nothing, nowhere}
+use Rattle.saphyr_parser_c.specs.Inner.{IsOverText, ShowsToC, HandsToC}
+use Rattle.saphyr_parser_c.specs.Shown.{Holds, no_fields, nowhere}
 use Rattle.saphyr_parser_c.specs.Status.{code_of}
 
 -- what was taken out of a handle
-abbrev pub IsTaken : std.Option (Box Inner Global) → Option Inner → Type 0
-IsTaken None held = held ≡ none
-IsTaken (Some b) held = held ≡ some b.value
+abbrev pub IsTakenOut : std.Option (Box Inner Global) → Option Inner → Type 0
+IsTakenOut None held = held ≡ none
+IsTakenOut (Some b) held = held ≡ some b.value
 
 -- ## An empty handle
 
 -- it stays empty, and no event is told
 abbrev pub TellsNone : ℤ → CEvent → Option Inner → Type 0
-TellsNone code c new = (code ≡ code_of status.NoParser) × Holds nothing nowhere nowhere c × (new ≡ none)
+TellsNone code c new = (code ≡ code_of status.NoParser) × Holds no_fields nowhere nowhere c × (new ≡ none)
 
 -- ## Each call
 
 -- a parser at the start of the text was made
 abbrev pub IsMade : List ℕ → Bool → Option Inner → Type 0
 IsMade text keep none = ⊥
-IsMade text keep (some inner) = IsOver text keep inner
+IsMade text keep (some inner) = IsOverText text keep inner
 
 abbrev pub MakesOrNot : ℤ → Type 0
 MakesOrNot code = (code ≡ pos 0) ⊎ ((code ≡ code_of status.NotUtf8) ⊎ (code ≡ code_of status.NoMemory))
@@ -37,12 +37,12 @@ MakesOrNot code = (code ≡ pos 0) ⊎ ((code ≡ code_of status.NotUtf8) ⊎ (c
 abbrev pub Nexts : Option Inner → ℤ → CEvent → Option Inner → Type 0
 Nexts none code c new = TellsNone code c new
 Nexts (some old) code c new =
-    (inner : Inner) × (s : Status) × (new ≡ some inner) × (code ≡ code_of s) × Steps old s c inner
+    (inner : Inner) × (s : Status) × (new ≡ some inner) × (code ≡ code_of s) × HandsToC old s c inner
 
 abbrev pub PeeksAt : Option Inner → ℤ → CEvent → Option Inner → Type 0
 PeeksAt none code c new = TellsNone code c new
 PeeksAt (some old) code c new =
-    (inner : Inner) × (s : Status) × (new ≡ some inner) × (code ≡ code_of s) × Looks old s c inner
+    (inner : Inner) × (s : Status) × (new ≡ some inner) × (code ≡ code_of s) × ShowsToC old s c inner
 
 -- where a copy is made, it stands where the parser stands
 abbrev pub Copies : Inner → ℤ → Option Inner → Type 0
@@ -53,7 +53,7 @@ abbrev pub Clones : Option Inner → ℤ → Option Inner → Type 0
 Clones none code copy = (code ≡ code_of status.NoParser) × (copy ≡ none)
 Clones (some old) code copy = Copies old code copy
 
-abbrev pub Keeps : Bool → Option Inner → ℤ → Option Inner → Type 0
-Keeps keep none code new = (code ≡ code_of status.NoParser) × (new ≡ none)
-Keeps keep (some old) code new =
+abbrev pub KeepsTags : Bool → Option Inner → ℤ → Option Inner → Type 0
+KeepsTags keep none code new = (code ≡ code_of status.NoParser) × (new ≡ none)
+KeepsTags keep (some old) code new =
     (code ≡ pos 0) × (new ≡ some (record old { parser = keeping_tags keep old.parser }))

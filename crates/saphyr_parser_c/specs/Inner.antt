@@ -14,7 +14,7 @@ use Rattle.saphyr_parser_c.specs.declared.inner.Inner.{Inner}
 use Rattle.saphyr_parser_c.specs.declared.shown.CEvent.{CEvent}
 use Rattle.saphyr_parser_c.specs.declared.status.Status.{Status}
 use Rattle.saphyr_parser_c.specs.declared.status.Status.TheVariants as status
-use Rattle.saphyr_parser_c.specs.Shown.{Tells, TellsLent}
+use Rattle.saphyr_parser_c.specs.Shown.{TellsC, TellsLent}
 
 -- What a parser at the start of a text promises: those of `Parser::new_from_str`.
 pub record Promises (text : List ℕ) (parser : Cursor) : Type 0 where
@@ -26,7 +26,7 @@ pub record Promises (text : List ℕ) (parser : Cursor) : Type 0 where
   pub taken : TakesEvents text parser
 
 -- a parser at the start of a text in UTF-8, which keeps the prefixes of tags or not, and no event yet
-pub record IsOver (text : List ℕ) (keep : Bool) (inner : Inner) : Type 0 where
+pub record IsOverText (text : List ℕ) (keep : Bool) (inner : Inner) : Type 0 where
   pub utf8 : IsUtf8 text
   pub fresh : Cursor
   pub promises : Promises (chars text) fresh
@@ -40,14 +40,14 @@ RefusesText text status.NoMemory = IsUtf8 text
 RefusesText text _ = ⊥
 
 -- What is handed out is the head of the events to come, and is told; it is kept until the next call.
-pub record Steps (old : Inner) (s : Status) (c : CEvent) (new : Inner) : Type 0 where
+pub record HandsToC (old : Inner) (s : Status) (c : CEvent) (new : Inner) : Type 0 where
   pub hands : Hands new.event (to_come old.parser) (to_come new.parser)
   pub gives : Gives new.event old.parser new.parser
   pub over : EndsTheStream new.parser
-  pub tells : Tells new.event s c
+  pub tells : TellsC new.event s c
 
 -- What is told is what the parser shows.
-pub record Looks (old : Inner) (s : Status) (c : CEvent) (new : Inner) : Type 0 where
+pub record ShowsToC (old : Inner) (s : Status) (c : CEvent) (new : Inner) : Type 0 where
   pub shown : Option (Result (Bor (Event × Span)) (Bor Fault))
   pub peeks : Peeks old.parser shown new.parser
   pub tells : TellsLent shown s c

@@ -28,7 +28,7 @@ use Rattle.saphyr_parser_c.specs.declared.status.Status.TheVariants as status
 -- ## What is told of an event
 
 -- its fields but for its places, with a text by its bytes
-pub record Told : Type 0 where
+pub record ToldFields : Type 0 where
   pub kind : ℤ
   pub style : ℤ
   pub explicit : ℤ
@@ -36,19 +36,19 @@ pub record Told : Type 0 where
   pub value : Option (List ℕ)
   pub tag : Option ResolvedTag
 
-abbrev pub bare : ℤ → Told
-bare kind = record { kind = kind; style = pos 0; explicit = pos 0; anchor = 0; value = None; tag = None }
+abbrev pub fields_of_kind : ℤ → ToldFields
+fields_of_kind kind = record { kind = kind; style = pos 0; explicit = pos 0; anchor = 0; value = None; tag = None }
 
-abbrev pub node : ℤ → ℕ → Option ResolvedTag → Told
-node kind anchor tag = record (bare kind) { anchor = anchor; tag = tag }
+abbrev pub fields_of_node : ℤ → ℕ → Option ResolvedTag → ToldFields
+fields_of_node kind anchor tag = record (fields_of_kind kind) { anchor = anchor; tag = tag }
 
 -- of no event
-abbrev pub nothing : Told
-nothing = bare (pos 0)
+abbrev pub no_fields : ToldFields
+no_fields = fields_of_kind (pos 0)
 
 -- of a refusal, by its text
-abbrev pub refusal : List ℕ → Told
-refusal info = record nothing { value = Some info }
+abbrev pub fields_of_refusal : List ℕ → ToldFields
+fields_of_refusal info = record no_fields { value = Some info }
 
 abbrev pub style_code : ScalarStyle → ℤ
 style_code styles.Plain = pos 0
@@ -61,40 +61,41 @@ abbrev pub explicit_code : Bool → ℤ
 explicit_code true = pos 1
 explicit_code false = pos 0
 
-abbrev pub told : Happening → Told
-told Nothing = bare (pos 0)
-told StreamStart = bare (pos 1)
-told StreamEnd = bare (pos 2)
-told (DocumentStart explicit) = record (bare (pos 3)) { explicit = explicit_code explicit }
-told DocumentEnd = bare (pos 4)
-told (Alias id) = record (bare (pos 5)) { anchor = id }
-told (Scalar text style id tag) = record (node (pos 6) id tag) { style = style_code style; value = Some text }
-told (SequenceStart id tag) = node (pos 7) id tag
-told SequenceEnd = bare (pos 8)
-told (MappingStart id tag) = node (pos 9) id tag
-told MappingEnd = bare (pos 10)
+abbrev pub told_fields : Happening → ToldFields
+told_fields Nothing = fields_of_kind (pos 0)
+told_fields StreamStart = fields_of_kind (pos 1)
+told_fields StreamEnd = fields_of_kind (pos 2)
+told_fields (DocumentStart explicit) = record (fields_of_kind (pos 3)) { explicit = explicit_code explicit }
+told_fields DocumentEnd = fields_of_kind (pos 4)
+told_fields (Alias id) = record (fields_of_kind (pos 5)) { anchor = id }
+told_fields (Scalar text style id tag) =
+    record (fields_of_node (pos 6) id tag) { style = style_code style; value = Some text }
+told_fields (SequenceStart id tag) = fields_of_node (pos 7) id tag
+told_fields SequenceEnd = fields_of_kind (pos 8)
+told_fields (MappingStart id tag) = fields_of_node (pos 9) id tag
+told_fields MappingEnd = fields_of_kind (pos 10)
 
 -- ## The numbers in C's structure
 
 abbrev pub nowhere : Marker
 nowhere = record { index = 0; line = 0; col = 0 }
 
-abbrev pub IsMarker : Marker → CMarker → Type 0
-IsMarker mark c = (c.index ≡ mark.index) × (c.line ≡ mark.line) × (c.col ≡ mark.col)
+abbrev pub IsMarkerOfC : Marker → CMarker → Type 0
+IsMarkerOfC mark c = (c.index ≡ mark.index) × (c.line ≡ mark.line) × (c.col ≡ mark.col)
 
 abbrev pub tag_code : Option ResolvedTag → ℤ
 tag_code None = pos 0
 tag_code (Some tag) = pos 1
 
 -- all fields but the texts
-pub record HasNumbers (t : Told) (from to : Marker) (c : CEvent) : Type 0 where
+pub record HasNumbers (t : ToldFields) (from to : Marker) (c : CEvent) : Type 0 where
   pub kind : c.kind ≡ t.kind
   pub style : c.style ≡ t.style
   pub explicit : c.is_explicit ≡ t.explicit
   pub has_tag : c.has_tag ≡ tag_code t.tag
   pub anchor : c.anchor ≡ t.anchor
-  pub start : IsMarker from c.start
-  pub end : IsMarker to c.end
+  pub start : IsMarkerOfC from c.start
+  pub end : IsMarkerOfC to c.end
 
 -- only texts are written
 pub record HasSameNumbers (old new : CEvent) : Type 0 where
@@ -127,11 +128,11 @@ abbrev pub HasTagTexts : Option ResolvedTag → CEvent → Type 0
 HasTagTexts None c = HasText None c.tag_handle × HasText None c.tag_suffix
 HasTagTexts (Some tag) c = HasText (Some tag.handle) c.tag_handle × HasText (Some tag.suffix) c.tag_suffix
 
-abbrev pub HasTexts : Told → CEvent → Type 0
+abbrev pub HasTexts : ToldFields → CEvent → Type 0
 HasTexts t c = HasText t.value c.value × HasTagTexts t.tag c
 
 -- each field of the structure
-abbrev pub Holds : Told → Marker → Marker → CEvent → Type 0
+abbrev pub Holds : ToldFields → Marker → Marker → CEvent → Type 0
 Holds t start end c = HasNumbers t start end c × HasTexts t c
 
 -- ## Texts that are kept: C is given the very memory in which they stand
@@ -151,11 +152,11 @@ abbrev pub value_of : Event → Option (CowStr Global)
 value_of (events.Scalar text style id tag) = Some text
 value_of _ = None
 
-abbrev pub tag_of : Event → Option Tag
-tag_of (events.Scalar text style id tag) = tag
-tag_of (events.SequenceStart id tag) = tag
-tag_of (events.MappingStart id tag) = tag
-tag_of _ = None
+abbrev pub tag_in : Event → Option Tag
+tag_in (events.Scalar text style id tag) = tag
+tag_in (events.SequenceStart id tag) = tag
+tag_in (events.MappingStart id tag) = tag
+tag_in _ = None
 
 abbrev pub AnyStands : Option (CowStr Global) → CText → Type 0
 AnyStands None c = HasText None c
@@ -166,34 +167,34 @@ ValueStands e c = AnyStands (value_of e) c.value
 
 -- the texts of an event
 abbrev pub Stands : Event → CEvent → Type 0
-Stands e c = ValueStands e c × TagStands (tag_of e) c
+Stands e c = ValueStands e c × TagStands (tag_in e) c
 
 -- ## What a call answers
 
 abbrev pub TellsNumbers : Event × Span → CEvent → Type 0
-TellsNumbers e c = HasNumbers (told (happening e.0)) e.1.start e.1.end c
+TellsNumbers e c = HasNumbers (told_fields (happening e.0)) e.1.start e.1.end c
 
 -- of a fault that is kept; reading gives no other than the first two
 abbrev pub TellsFault : Fault → Status → CEvent → Type 0
 TellsFault (fault.Scan error) s c =
-    (s ≡ status.Refused) × HasNumbers nothing error.mark error.mark c × StandsAt (string_vec error.info) c.value
+    (s ≡ status.Refused) × HasNumbers no_fields error.mark error.mark c × StandsAt (string_vec error.info) c.value
     × HasTagTexts None c
-TellsFault _ s c = (s ≡ status.NoMemory) × Holds nothing nowhere nowhere c
+TellsFault _ s c = (s ≡ status.NoMemory) × Holds no_fields nowhere nowhere c
 
 -- of what is kept
-abbrev pub Tells : Option (Result (Event × Span) Fault) → Status → CEvent → Type 0
-Tells None s c = (s ≡ status.End) × Holds nothing nowhere nowhere c
-Tells (Some (Ok e)) s c = (s ≡ status.Event) × TellsNumbers e c × Stands e.0 c
-Tells (Some (Err f)) s c = TellsFault f s c
+abbrev pub TellsC : Option (Result (Event × Span) Fault) → Status → CEvent → Type 0
+TellsC None s c = (s ≡ status.End) × Holds no_fields nowhere nowhere c
+TellsC (Some (Ok e)) s c = (s ≡ status.Event) × TellsNumbers e c × Stands e.0 c
+TellsC (Some (Err f)) s c = TellsFault f s c
 
 -- of a fault that is lent
 abbrev pub TellsLentFault : Fault → Status → CEvent → Type 0
 TellsLentFault (fault.Scan error) s c =
-    (s ≡ status.Refused) × Holds (refusal (string_bytes error.info)) error.mark error.mark c
-TellsLentFault _ s c = (s ≡ status.NoMemory) × Holds nothing nowhere nowhere c
+    (s ≡ status.Refused) × Holds (fields_of_refusal (string_bytes error.info)) error.mark error.mark c
+TellsLentFault _ s c = (s ≡ status.NoMemory) × Holds no_fields nowhere nowhere c
 
 -- of what is lent
 abbrev pub TellsLent : Option (Result (Bor (Event × Span)) (Bor Fault)) → Status → CEvent → Type 0
-TellsLent None s c = (s ≡ status.End) × Holds nothing nowhere nowhere c
-TellsLent (Some (Ok e)) s c = (s ≡ status.Event) × TellsNumbers e.now c × HasTexts (told (happening e.now.0)) c
+TellsLent None s c = (s ≡ status.End) × Holds no_fields nowhere nowhere c
+TellsLent (Some (Ok e)) s c = (s ≡ status.Event) × TellsNumbers e.now c × HasTexts (told_fields (happening e.now.0)) c
 TellsLent (Some (Err f)) s c = TellsLentFault f.now s c

@@ -3,8 +3,8 @@
 ghost use Rattle.std.specs.Prelude.{◌≡◌};
 ghost use Rattle.saphyr_parser.specs.Cursor.{event_of};
 ghost use Rattle.saphyr_parser_c.specs.Same.{IsSame, IsSameFault};
-ghost use Rattle.saphyr_parser_c.specs.Shown.{HasNumbers, HasTexts, Stands, nothing};
-ghost use Rattle.saphyr_parser_c.specs.Shown.{Tells, TellsFault, TellsLent, TellsLentFault, TellsNumbers};
+ghost use Rattle.saphyr_parser_c.specs.Shown.{HasNumbers, HasTexts, Stands, no_fields};
+ghost use Rattle.saphyr_parser_c.specs.Shown.{TellsC, TellsFault, TellsLent, TellsLentFault, TellsNumbers};
 
 use crate::shown::{CEvent, bare, blank, show};
 use crate::status::Status;
@@ -14,8 +14,8 @@ use std::alloc::Global;
 
 // A refusal with its place, without its text.
 fn refused(error: &ScanError) -> CEvent
-    ensures numbers { HasNumbers nothing error.now.mark error.now.mark result }
-    ensures texts { HasTexts nothing result }
+    ensures numbers { HasNumbers no_fields error.now.mark error.now.mark result }
+    ensures texts { HasTexts no_fields result }
 {
     bare(0, error.mark, error.mark)
 }
@@ -55,7 +55,7 @@ pub fn tell(
     out: &mut CEvent,
 ) -> Status
     ensures same { IsSame given.old given.new }
-    ensures tells { Tells given.new result out.new }
+    ensures tells { TellsC given.new result out.new }
 {
     match given {
         Some(Ok(event)) => {

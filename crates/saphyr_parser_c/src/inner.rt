@@ -28,7 +28,7 @@ impl Inner {
         keep_tags: bool,
     ) -> Result<Box<Inner, Global>, Status>
         ensures { MatchResult result
-            (λ b. spec.IsOver text.now keep_tags b.value) (spec.RefusesText text.now) }
+            (λ b. spec.IsOverText text.now keep_tags b.value) (spec.RefusesText text.now) }
     {
         let Ok(text) = str::from_utf8(text) else {
             return Err(Status::NotUtf8);
@@ -48,7 +48,7 @@ impl Inner {
 
     /// Hands out what comes next, which stays here until the next call.
     pub fn step(&mut self, alloc: Global, out: &mut CEvent) -> Status
-        ensures { spec.Steps self.old result out.new self.new }
+        ensures { spec.HandsToC self.old result out.new self.new }
     {
         self.event = self.parser.next_event();
         tell(alloc, &mut self.event, out)
@@ -56,7 +56,7 @@ impl Inner {
 
     /// Shows what comes next.
     pub fn look(&mut self, out: &mut CEvent) -> Status
-        ensures { spec.Looks self.old result out.new self.new }
+        ensures { spec.ShowsToC self.old result out.new self.new }
     {
         tell_lent(self.parser.peek(), out)
     }

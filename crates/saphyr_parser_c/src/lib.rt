@@ -34,7 +34,7 @@ fn put(place: &mut Handle, handle: Handle)
 
 // Takes what C holds, and leaves an empty handle.
 fn take(alloc: Global, place: &mut Handle) -> Option<Box<Inner, Global>>
-    ensures taken { spec.IsTaken result place.old.value }
+    ensures taken { spec.IsTakenOut result place.old.value }
     ensures emptied { place.new.value ≡ none }
 {
     match mem::replace(place, Handle::none(alloc)).into_parts() {
@@ -135,7 +135,7 @@ pub extern "C" fn saphyr_clone(alloc: Global, parser: &mut Handle, copy: &mut Ha
 /// Says whether the prefixes of tags hold for later documents too.
 #[unsafe(no_mangle)]
 pub extern "C" fn saphyr_keep_tags(alloc: Global, parser: &mut Handle, keep_tags: bool) -> i32
-    ensures { spec.Keeps keep_tags parser.old.value result parser.new.value }
+    ensures { spec.KeepsTags keep_tags parser.old.value result parser.new.value }
 {
     match take(alloc, parser) {
         Some(mut inner) => {

@@ -43,7 +43,7 @@ pub struct CEvent {
 
 // A place of the text.
 fn marker_of(mark: Marker) -> CMarker
-    ensures { spec.IsMarker mark result }
+    ensures { spec.IsMarkerOfC mark result }
 {
     CMarker {
         index: mark.index,
@@ -84,8 +84,8 @@ fn no_text() -> CText
 
 /// An event of this kind between these places, of which nothing else is told.
 pub fn bare(kind: i32, start: Marker, end: Marker) -> CEvent
-    ensures numbers { spec.HasNumbers (spec.bare kind) start end result }
-    ensures texts { spec.HasTexts (spec.bare kind) result }
+    ensures numbers { spec.HasNumbers (spec.fields_of_kind kind) start end result }
+    ensures texts { spec.HasTexts (spec.fields_of_kind kind) result }
 {
     CEvent {
         kind,
@@ -103,7 +103,7 @@ pub fn bare(kind: i32, start: Marker, end: Marker) -> CEvent
 
 /// No event.
 pub fn blank() -> CEvent
-    ensures { spec.Holds spec.nothing spec.nowhere spec.nowhere result }
+    ensures { spec.Holds spec.no_fields spec.nowhere spec.nowhere result }
 {
     let start = Marker {
         index: 0,
@@ -115,9 +115,10 @@ pub fn blank() -> CEvent
 
 // A node of this kind with its anchor, without the texts of its tag.
 fn node(kind: i32, span: Span, anchor: usize, tag: &Option<Tag>) -> CEvent
-    ensures numbers { spec.HasNumbers (spec.node kind anchor (option_map resolved_tag tag.now))
+    ensures numbers { spec.HasNumbers
+        (spec.fields_of_node kind anchor (option_map resolved_tag tag.now))
         span.start span.end result }
-    ensures texts { spec.HasTexts spec.nothing result }
+    ensures texts { spec.HasTexts spec.no_fields result }
 {
     let mut shown = bare(kind, span.start, span.end);
     shown.anchor = anchor;
@@ -129,9 +130,9 @@ fn node(kind: i32, span: Span, anchor: usize, tag: &Option<Tag>) -> CEvent
 
 /// An event with its place, without its texts.
 pub fn show(event: &Event<'static>, span: Span) -> CEvent
-    ensures numbers { spec.HasNumbers (spec.told (happening event.now))
+    ensures numbers { spec.HasNumbers (spec.told_fields (happening event.now))
         span.start span.end result }
-    ensures texts { spec.HasTexts spec.nothing result }
+    ensures texts { spec.HasTexts spec.no_fields result }
 {
     match event {
         Event::Nothing => bare(0, span.start, span.end),

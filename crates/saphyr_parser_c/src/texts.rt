@@ -45,8 +45,8 @@ fn lend_tag(tag: &Option<Tag>, out: &mut CEvent)
 /// Tells where the texts of an event stand.
 pub fn lend(event: &Event<'static>, out: &mut CEvent)
     ensures numbers { spec.HasSameNumbers out.old out.new }
-    ensures texts { spec.HasTexts spec.nothing out.old
-        → spec.HasTexts (spec.told (happening event.now)) out.new }
+    ensures texts { spec.HasTexts spec.no_fields out.old
+        → spec.HasTexts (spec.told_fields (happening event.now)) out.new }
 {
     match event {
         Event::Scalar(value, _, _, tag) => {
@@ -117,7 +117,7 @@ fn keep_tag_of(alloc: Global, event: &mut Event<'static>, out: &mut CEvent)
     ensures value { spec.value_of event.new ≡ spec.value_of event.old }
     ensures kept { happening event.new ≡ happening event.old }
     ensures stands { spec.HasTagTexts None out.old
-        → spec.TagStands (spec.tag_of event.new) out.new }
+        → spec.TagStands (spec.tag_in event.new) out.new }
 {
     match event {
         Event::Scalar(_, _, _, tag) => keep_tag(alloc, tag, out),
@@ -138,7 +138,7 @@ fn keep_tag_of(alloc: Global, event: &mut Event<'static>, out: &mut CEvent)
 pub fn keep(alloc: Global, event: &mut Event<'static>, out: &mut CEvent)
     ensures numbers { spec.HasSameNumbers out.old out.new }
     ensures kept { happening event.new ≡ happening event.old }
-    ensures stands { spec.HasTexts spec.nothing out.old → spec.Stands event.new out.new }
+    ensures stands { spec.HasTexts spec.no_fields out.old → spec.Stands event.new out.new }
 {
     keep_value(alloc, event, out);
     keep_tag_of(alloc, event, out);

@@ -12,7 +12,7 @@ use Rattle.saphyr_parser.specs.Answer.{Ending, Answer}
 use Rattle.saphyr_parser.specs.EventsTaken.{IsAllUnless}
 use Rattle.yaml_tree.specs.declared.fault.TreeFault.TheVariants as fault
 use Rattle.yaml_tree.specs.declared.tally.Limits.{Limits}
-use Rattle.yaml_tree.specs.Nesting.{Place, InStream, BeforeRoot, BehindRoot, InSequence, BeforeKey, BeforeValue, Nest, outside, complete, behind_node, moved, entered, behind, behind_all}
+use Rattle.yaml_tree.specs.Nesting.{NestPlace, InStream, BeforeRoot, BehindRoot, InSequence, BeforeKey, BeforeValue, Nest, outside, complete, behind_node, moved, entered, behind_event, behind_all}
 use Rattle.yaml_tree.specs.Loading.{told, IsWhole, IsNested, IsStreamStart, BeginsStream, IsAtStart, Loads}
 use Rattle.yaml_tree.specs.Forests.{IsOfForest}
 use Rattle.yaml_tree.proofs.Taking.{behind_all-append}
@@ -42,7 +42,7 @@ record Passes (keep : Bool) (rest : List Part) (es : List Happening) (n m : Nest
 
 one_part : (keep : Bool) (front : List Part) (part : Part) (rest : List Part) (es : List Happening) (n m : Nest)
     → events_behind keep front (part ∷ rest) ≡ Some es
-    → ((h : Happening) → event_of keep front part ≡ Some h → behind h n ≡ Some m)
+    → ((h : Happening) → event_of keep front part ≡ Some h → behind_event h n ≡ Some m)
     → Passes keep rest es n m
 one_part keep front part rest es n m p step =
     let b = begins (event_of keep front part) (events_behind keep (part ∷ front) rest) es p in
@@ -66,25 +66,26 @@ no_part : (keep : Bool) (front rest : List Part) (es : List Happening) (n : Nest
 no_part keep front rest es n p = record { front = front; more = es; are = p; same = refl }
 
 mapped : {A : Type 0} (f : A → Happening) (o : Option A) (h : Happening) (n : Nest) (m : Option Nest)
-    → ((x : A) → behind (f x) n ≡ m) → option_map f o ≡ Some h → behind h n ≡ m
+    → ((x : A) → behind_event (f x) n ≡ m) → option_map f o ≡ Some h → behind_event h n ≡ m
 mapped f None h n m each p = absurd (cc)
-mapped f (Some x) h n m each p = let same : f x ≡ h = cc in ap (λ (g : Happening). behind g n) (sym same) ∙ each x
+mapped f (Some x) h n m each p = let same : f x ≡ h = cc in ap (λ (g : Happening). behind_event g n) (sym same) ∙ each x
 
-given : (e h : Happening) (n : Nest) (m : Option Nest) → behind e n ≡ m → Some e ≡ Some h → behind h n ≡ m
-given e h n m each p = let same : e ≡ h = cc in ap (λ (g : Happening). behind g n) (sym same) ∙ each
+given : (e h : Happening) (n : Nest) (m : Option Nest) → behind_event e n ≡ m → Some e ≡ Some h → behind_event h n ≡ m
+given e h n m each p = let same : e ≡ h = cc in ap (λ (g : Happening). behind_event g n) (sym same) ∙ each
 
 -- the nest behind a node
-abbrev at : Nest → Place → Nest
+abbrev at : Nest → NestPlace → Nest
 at n place = record { innermost = place; outer = n.outer }
 
-behind_moved : (n : Nest) (place : Place) → behind_node n.innermost ≡ Some place
+behind_moved : (n : Nest) (place : NestPlace) → behind_node n.innermost ≡ Some place
     → moved behind_node n ≡ Some (at n place)
-behind_moved n place h = ap (option_map (λ (p : Place). record n { innermost = p })) h
+behind_moved n place h = ap (option_map (λ (p : NestPlace). record n { innermost = p })) h
 
 -- ## Nodes
 
 mutual
-  node_passes : (keep : Bool) (node : Node) (front rest : List Part) (es : List Happening) (n : Nest) (place : Place)
+  node_passes : (keep : Bool) (node : Node) (front rest : List Part) (es : List Happening) (n : Nest)
+      (place : NestPlace)
       → behind_node n.innermost ≡ Some place
       → events_behind keep front (node_parts node ++ rest) ≡ Some es → Passes keep rest es n (at n place)
   node_passes keep (Alias name) front rest es n place h p =
@@ -112,7 +113,7 @@ mutual
       (λ f hs q. one_part keep f parts.CloseMapping rest hs _ _ q
       (λ e r. given events.MappingEnd e (entered BeforeKey n) _ (behind_moved n place h) r))
 
-  entries_pass : (keep : Bool) (nodes : Nodes) (front rest : List Part) (es : List Happening) (outer : List Place)
+  entries_pass : (keep : Bool) (nodes : Nodes) (front rest : List Part) (es : List Happening) (outer : List NestPlace)
       → events_behind keep front (entry_parts nodes ++ rest) ≡ Some es
       → Passes keep rest es (record { innermost = InSequence; outer = outer })
       (record { innermost = InSequence; outer = outer })
@@ -122,7 +123,7 @@ mutual
       (record { innermost = InSequence; outer = outer }) InSequence refl (rw append_assoc at p) in
       and_then keep _ rest es _ _ _ first (λ f hs q. entries_pass keep nodes f rest hs outer q)
 
-  pairs_pass : (keep : Bool) (pairs : Pairs) (front rest : List Part) (es : List Happening) (outer : List Place)
+  pairs_pass : (keep : Bool) (pairs : Pairs) (front rest : List Part) (es : List Happening) (outer : List NestPlace)
       → events_behind keep front (pair_parts pairs ++ rest) ≡ Some es
       → Passes keep rest es (record { innermost = BeforeKey; outer = outer })
       (record { innermost = BeforeKey; outer = outer })

@@ -14,10 +14,10 @@ use Rattle.yaml_tree.specs.declared.tally.Limits.{Limits}
 use Rattle.yaml_tree.specs.declared.document.Document.{Document}
 use Rattle.yaml_tree.specs.declared.loading.Loader.{Loader}
 use Rattle.yaml_tree.specs.Nesting.{Nest, outside, complete, behind_all}
-use Rattle.yaml_tree.specs.Counting.{nothing, StayWithin}
+use Rattle.yaml_tree.specs.Counting.{no_nodes, StayWithin}
 use Rattle.yaml_tree.specs.BuilderSeen.{Finishes}
 use Rattle.yaml_tree.specs.LoaderSeen.{HasTaken, Forbids}
-use Rattle.yaml_tree.specs.Loading.{told, IsWhole, IsNested, Stops, Fails, Loads, HasRead, TakesAll}
+use Rattle.yaml_tree.specs.Loading.{told, IsWhole, IsNested, Stops, FailsToLoad, Loads, HasRead, TakesAll}
 use Rattle.yaml_tree.proofs.Taking.{behind_all-append}
 
 -- ## Event after event
@@ -73,7 +73,7 @@ unnested all es more s n w = no_nest all.fault _
 
 pub fails : (f : TreeFault) (limits : Limits) (all a b : Answer) (e : Happening × Span) (old : Loader)
     (r : HasRead limits all a old) → a ≡ before e b → Forbids f limits (told r.taken ++ e.0 ∷ []) e.1.start
-    → Fails limits f all b
+    → FailsToLoad limits f all b
 fails (fault.Parse f) limits all a b e old r h w = absurd w
 fails fault.NotFresh limits all a b e old r h w = unnested all (told r.taken ++ e.0 ∷ []) (told b.events)
     (told_split all a b r.taken e r.split h) w
@@ -90,11 +90,11 @@ all_taken : (limits : Limits) (all a : Answer) (l : Loader) (r : HasRead limits 
 all_taken limits all a l r e = ap told (sym (r.split ∙ ap (λ es. r.taken ++ es) e ∙ append-nil r.taken))
 
 pub refuses : (f : Fault) (limits : Limits) (all a b : Answer) (l : Loader) → HasRead limits all a l → Refuses f a
-    → b ≡ none → Fails limits (fault.Parse f) all b
+    → b ≡ none → FailsToLoad limits (fault.Parse f) all b
 refuses (parse.Scan e) limits all a b l r h k =
     let events = ap (λ (x : Answer). x.events) h in (
       r.fault ∙ ap (λ (x : Answer). x.fault) h,
-      subst (λ (es : List Happening). StayWithin limits es nothing)
+      subst (λ (es : List Happening). StayWithin limits es no_nodes)
           (all_taken limits all a l r events) r.loader.within,
       k,
     )
@@ -127,7 +127,7 @@ loads_all limits all left l (Err (fault.Parse g)) t f = absurd f
 loads_all limits all left l (Err (fault.TooManyNodes at most)) t f = absurd f
 loads_all limits all left l (Err (fault.TooDeep at most)) t f = absurd f
 
-pub loads_none : (limits : Limits) (all left : Answer) (f : TreeFault) → Fails limits f all left
+pub loads_none : (limits : Limits) (all left : Answer) (f : TreeFault) → FailsToLoad limits f all left
     → Loads limits (Err f) all left
 loads_none limits all left fault.NotFresh h = inr h
 loads_none limits all left fault.OutOfMemory h = h

@@ -7,11 +7,11 @@ use Rattle.yaml_tree.specs.declared.fault.TreeFault.TheVariants as fault
 use Rattle.yaml_tree.specs.declared.tally.Limits.{Limits}
 use Rattle.yaml_tree.specs.declared.tally.Tally.{Tally}
 use Rattle.yaml_tree.specs.declared.loading.Loader.{Loader}
-use Rattle.yaml_tree.specs.Nesting.{Nest, behind, behind_all, outside}
-use Rattle.yaml_tree.specs.Counting.{Counts, counted, counted_all, nothing, StayWithin, Fits}
-use Rattle.yaml_tree.specs.TallySeen.{counts_of, Exceeds, Tells}
+use Rattle.yaml_tree.specs.Nesting.{Nest, behind_event, behind_all, outside}
+use Rattle.yaml_tree.specs.Counting.{Counts, counted, counted_all, no_nodes, StayWithin, Fits}
+use Rattle.yaml_tree.specs.TallySeen.{counts_of, Exceeds, Tallies}
 use Rattle.yaml_tree.specs.BuilderSeen.{nest_of, Grows}
-use Rattle.yaml_tree.specs.LoaderSeen.{HasTaken, Forbids, Takes}
+use Rattle.yaml_tree.specs.LoaderSeen.{HasTaken, Forbids, TakesLast}
 
 -- ## Longer lists
 
@@ -28,8 +28,8 @@ and_then_along f g (Some x) h = h x
 pub behind_all-append : (xs ys : List Happening) (n : Nest)
     → behind_all (xs ++ ys) n ≡ option_and_then (behind_all ys) (behind_all xs n)
 behind_all-append [] ys n = refl
-behind_all-append (x ∷ xs) ys n = and_then_along _ _ (behind x n) (λ m. behind_all-append xs ys m)
-    ∙ option_and_then-twice (behind_all ys) (behind_all xs) (behind x n)
+behind_all-append (x ∷ xs) ys n = and_then_along _ _ (behind_event x n) (λ m. behind_all-append xs ys m)
+    ∙ option_and_then-twice (behind_all ys) (behind_all xs) (behind_event x n)
 
 pub counted_all-append : (xs ys : List Happening) (c : Counts)
     → counted_all (xs ++ ys) c ≡ counted_all ys (counted_all xs c)
@@ -47,18 +47,18 @@ some_again : (o : Option Nest) → option_and_then (λ n. Some n) o ≡ o
 some_again None = refl
 some_again (Some n) = refl
 
-one : (h : Happening) (n : Nest) → behind_all (h ∷ []) n ≡ behind h n
-one h n = some_again (behind h n)
+one : (h : Happening) (n : Nest) → behind_all (h ∷ []) n ≡ behind_event h n
+one h n = some_again (behind_event h n)
 
 pub nested_more : (events : List Happening) (h : Happening) (n : Nest) (o : Option Nest)
-    → behind_all events outside ≡ Some n → behind h n ≡ o → behind_all (events ++ h ∷ []) outside ≡ o
+    → behind_all events outside ≡ Some n → behind_event h n ≡ o → behind_all (events ++ h ∷ []) outside ≡ o
 nested_more events h n o e f = behind_all-append events (h ∷ []) outside
     ∙ ap (option_and_then (behind_all (h ∷ []))) e ∙ one h n ∙ f
 
 pub counted_more : (events : List Happening) (h : Happening) (t : Tally) (d : Counts)
-    → counts_of t ≡ counted_all events nothing → d ≡ counted h (counts_of t)
-    → d ≡ counted_all (events ++ h ∷ []) nothing
-counted_more events h t d e f = f ∙ ap (counted h) e ∙ sym (counted_all-append events (h ∷ []) nothing)
+    → counts_of t ≡ counted_all events no_nodes → d ≡ counted h (counts_of t)
+    → d ≡ counted_all (events ++ h ∷ []) no_nodes
+counted_more events h t d e f = f ∙ ap (counted h) e ∙ sym (counted_all-append events (h ∷ []) no_nodes)
 
 fits_more : (l m : Limits) (a b : Counts) (h : Happening) → l ≡ m → a ≡ b → Fits l (counted h a) → Fits m (counted h b)
 fits_more l m a b h e f x = subst (λ (k : Limits). Fits k (counted h b)) e
@@ -74,15 +74,15 @@ exceeds_more f l m a b place e g x = subst (λ (k : Limits). Exceeds f k b place
 
 pub takes : (limits : Limits) (events : List Happening) (h : Happening) (place : Marker) (old new : Loader)
     (r : Result (Unit {0}) TreeFault) → HasTaken limits events old
-    → Tells (Ok tt) (counted h (counts_of old.tally)) place old.tally new.tally
-    → Grows r (h ∷ []) (behind h (nest_of old.builder)) old.builder new.builder
-    → Takes r limits (events ++ h ∷ []) place new
+    → Tallies (Ok tt) (counted h (counts_of old.tally)) place old.tally new.tally
+    → Grows r (h ∷ []) (behind_event h (nest_of old.builder)) old.builder new.builder
+    → TakesLast r limits (events ++ h ∷ []) place new
 takes limits events h place old new (Ok u) t c g = record {
   same_limits = c.0 ∙ t.same_limits;
   written = g.0 ∙ ap (λ (es : List Happening). es ++ h ∷ []) t.written;
   nested = nested_more events h _ _ t.nested g.1;
   counted = counted_more events h old.tally _ t.counted c.1;
-  within = stays_within limits events h nothing t.within (fits_more _ limits _ _ h t.same_limits t.counted c.2);
+  within = stays_within limits events h no_nodes t.within (fits_more _ limits _ _ h t.same_limits t.counted c.2);
 }
 takes limits events h place old new (Err fault.NotFresh) t c g = nested_more events h _ _ t.nested g
 takes limits events h place old new (Err fault.OutOfMemory) t c g = fits_along _ limits _ _ t.same_limits

@@ -7,7 +7,7 @@ use Rattle.saphyr_parser.specs.Events.{Happening, SequenceStart, SequenceEnd, Ma
 use Rattle.saphyr_parser.specs.Views.Events.{resolved_tag}
 use Rattle.yaml_tree.specs.declared.node.Node.{Node, Seq, Map, the_lemmas}
 use Rattle.yaml_tree.specs.declared.open.Open.TheVariants.{Mapping}
-use Rattle.yaml_tree.specs.OpenSeen.{opened}
+use Rattle.yaml_tree.specs.OpenSeen.{open_events}
 use Rattle.yaml_tree.specs.Unloading.{both_events, node_events, pair_events}
 
 sequence : (id : ℕ) (tag : Option Tag) → List Happening → List Happening
@@ -39,6 +39,6 @@ node_events-Map id tag v =
 
 -- a mapping without a key that waits for its value may end
 pub ends_mapping : (id : ℕ) (tag : Option Tag) (v : Vec (Node × Node) Global)
-    → node_events (Map id tag v) ≡ opened (Mapping id tag v None) ++ MappingEnd ∷ []
+    → node_events (Map id tag v) ≡ open_events (Mapping id tag v None) ++ MappingEnd ∷ []
 unfolding mapping
 ends_mapping id tag v = node_events-Map id tag v ∙ ap (mapping id tag) (sym (append-nil (flat_map pair_events v.items)))

@@ -9,12 +9,12 @@ use Rattle.yaml_tree.specs.declared.open.Open.{Open}
 use Rattle.yaml_tree.specs.declared.builder.Builder.{Builder}
 use Rattle.yaml_tree.specs.declared.document.Document.{Document}
 use Rattle.yaml_tree.specs.Unloading.{unload}
-use Rattle.yaml_tree.specs.OpenSeen.{opened, place_of}
-use Rattle.yaml_tree.specs.Nesting.{Nest, left, complete, behind}
+use Rattle.yaml_tree.specs.OpenSeen.{open_events, place_of}
+use Rattle.yaml_tree.specs.Nesting.{Nest, left, complete, behind_event}
 
 -- the events so far
 abbrev pub written : Builder → List Happening
-written b = flat_map opened b.outer.items ++ opened b.innermost
+written b = flat_map open_events b.outer.items ++ open_events b.innermost
 
 abbrev pub nest_of : Builder → Nest
 nest_of b = record { innermost = place_of b.innermost; outer = reverse (map place_of b.outer.items) }
@@ -28,15 +28,15 @@ Grows (Err _) more nest old new = ⊥
 
 -- one event more
 abbrev pub Follows : Result (Unit {0}) TreeFault → Happening → Builder → Builder → Type 0
-Follows result event old new = Grows result (event ∷ []) (behind event (nest_of old)) old new
+Follows result event old new = Grows result (event ∷ []) (behind_event event (nest_of old)) old new
 
 -- what has begun last is handed out, and what stands around it is left
-abbrev pub HandsOut : Result Open TreeFault → Builder → Builder → Type 0
-HandsOut (Ok inner) old new =
-    (written old ≡ written new ++ opened inner) × (left (nest_of old) ≡ Some (nest_of new))
+abbrev pub HandsOutInnermost : Result Open TreeFault → Builder → Builder → Type 0
+HandsOutInnermost (Ok inner) old new =
+    (written old ≡ written new ++ open_events inner) × (left (nest_of old) ≡ Some (nest_of new))
     × (place_of inner ≡ place_of old.innermost)
-HandsOut (Err fault.NotFresh) old new = left (nest_of old) ≡ None
-HandsOut (Err _) old new = ⊥
+HandsOutInnermost (Err fault.NotFresh) old new = left (nest_of old) ≡ None
+HandsOutInnermost (Err _) old new = ⊥
 
 -- The documents' events are all events so far. They are refused where these are not complete.
 abbrev pub Finishes : Result (Vec Document Global) TreeFault → Builder → Type 0

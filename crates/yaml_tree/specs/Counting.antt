@@ -8,8 +8,8 @@ pub record Counts : Type 0 where
   pub nodes : ℕ
   pub depth : ℕ
 
-abbrev pub nothing : Counts
-nothing = record { nodes = 0; depth = 0 }
+abbrev pub no_nodes : Counts
+no_nodes = record { nodes = 0; depth = 0 }
 
 abbrev pub with_node : Counts → Counts
 with_node c = record { nodes = c.nodes + 1; depth = c.depth }

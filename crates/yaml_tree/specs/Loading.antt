@@ -13,7 +13,7 @@ use Rattle.yaml_tree.specs.declared.document.Document.{Document}
 use Rattle.yaml_tree.specs.declared.loading.Loader.{Loader}
 use Rattle.yaml_tree.specs.Unloading.{unload}
 use Rattle.yaml_tree.specs.Nesting.{Nest, outside, complete, behind_all}
-use Rattle.yaml_tree.specs.Counting.{nothing, StayWithin}
+use Rattle.yaml_tree.specs.Counting.{no_nodes, StayWithin}
 use Rattle.yaml_tree.specs.LoaderSeen.{HasTaken, Forbids}
 
 -- events without their spans
@@ -52,7 +52,7 @@ pub record Stops (f : TreeFault) (limits : Limits) (all left : Answer) : Type 0 
   pub event : Happening × Span
   pub split : all.events ≡ taken ++ (event ∷ left.events)
   pub fault : all.fault ≡ left.fault
-  pub within : StayWithin limits (told taken) nothing
+  pub within : StayWithin limits (told taken) no_nodes
   pub why : Forbids f limits (told taken ++ event.0 ∷ []) event.1.start
 
 -- the parser's memory ran out behind these events, before anything that was still to come
@@ -62,19 +62,19 @@ pub record RunsOut (limits : Limits) (all : Answer) : Type 0 where
   pub split : all.events ≡ taken ++ lost.events
   pub fault : all.fault ≡ lost.fault
   pub some_lost : 0 < count lost
-  pub within : StayWithin limits (told taken) nothing
+  pub within : StayWithin limits (told taken) no_nodes
 
 -- A fault, and what it leaves of all that was still to come. No text's events fail to nest.
-abbrev pub Fails : Limits → TreeFault → Answer → Answer → Type 0
-Fails limits (fault.Parse (parse.Scan e)) all left = (all.fault ≡ Some (Refused e.mark (string_bytes e.info)))
-    × StayWithin limits (told all.events) nothing × (left ≡ none)
-Fails limits (fault.Parse parse.OutOfMemory) all left = RunsOut limits all × (left ≡ none)
-Fails limits (fault.Parse parse.Receiver) all left = ⊥
-Fails limits (fault.Parse parse.InsideDocument) all left = ⊥
-Fails limits (fault.TooManyNodes at most) all left = Stops (fault.TooManyNodes at most) limits all left
-Fails limits (fault.TooDeep at most) all left = Stops (fault.TooDeep at most) limits all left
-Fails limits fault.OutOfMemory all left = Stops fault.OutOfMemory limits all left
-Fails limits fault.NotFresh all left = IsNested all → ⊥
+abbrev pub FailsToLoad : Limits → TreeFault → Answer → Answer → Type 0
+FailsToLoad limits (fault.Parse (parse.Scan e)) all left = (all.fault ≡ Some (Refused e.mark (string_bytes e.info)))
+    × StayWithin limits (told all.events) no_nodes × (left ≡ none)
+FailsToLoad limits (fault.Parse parse.OutOfMemory) all left = RunsOut limits all × (left ≡ none)
+FailsToLoad limits (fault.Parse parse.Receiver) all left = ⊥
+FailsToLoad limits (fault.Parse parse.InsideDocument) all left = ⊥
+FailsToLoad limits (fault.TooManyNodes at most) all left = Stops (fault.TooManyNodes at most) limits all left
+FailsToLoad limits (fault.TooDeep at most) all left = Stops (fault.TooDeep at most) limits all left
+FailsToLoad limits fault.OutOfMemory all left = Stops fault.OutOfMemory limits all left
+FailsToLoad limits fault.NotFresh all left = IsNested all → ⊥
 
 -- events were handed out before, and nothing is passed
 abbrev pub IsLate : Answer → Answer → Type 0
@@ -83,9 +83,9 @@ IsLate all left = (IsAtStart all → ⊥) × (left ≡ all)
 -- What a call answers, and what it leaves of all that was still to come.
 abbrev pub Loads : Limits → Result (Vec Document Global) TreeFault → Answer → Answer → Type 0
 Loads limits (Ok documents) all left = (unload documents.items ≡ told all.events) × (all.fault ≡ None)
-    × StayWithin limits (told all.events) nothing × (left ≡ none)
-Loads limits (Err fault.NotFresh) all left = IsLate all left ⊎ Fails limits fault.NotFresh all left
-Loads limits (Err f) all left = Fails limits f all left
+    × StayWithin limits (told all.events) no_nodes × (left ≡ none)
+Loads limits (Err fault.NotFresh) all left = IsLate all left ⊎ FailsToLoad limits fault.NotFresh all left
+Loads limits (Err f) all left = FailsToLoad limits f all left
 
 -- ## Steps of a call
 
@@ -104,4 +104,4 @@ pub record HasRead (limits : Limits) (all left : Answer) (l : Loader) : Type 0 w
 -- a loader takes all events, or fails
 abbrev pub TakesAll : Limits → Result (Unit {0}) TreeFault → Answer → Answer → Loader → Type 0
 TakesAll limits (Ok u) all left l = HasTaken limits (told all.events) l × (all.fault ≡ None) × (left ≡ none)
-TakesAll limits (Err f) all left l = Fails limits f all left
+TakesAll limits (Err f) all left l = FailsToLoad limits f all left

@@ -4,20 +4,20 @@ use Rattle.std.specs.Prelude.{List, [], ◌∷◌, Option, Some, None, option_ma
 use Rattle.saphyr_parser.specs.Events.{Happening, Nothing, StreamStart, StreamEnd, DocumentStart, DocumentEnd, Alias, Scalar, SequenceStart, SequenceEnd, MappingStart, MappingEnd}
 
 -- what stands around a place
-pub data Place : Type 0 where
-  BeforeStream : Place
-  InStream : Place
-  BehindStream : Place
-  BeforeRoot : Place
-  BehindRoot : Place
-  InSequence : Place
-  BeforeKey : Place
-  BeforeValue : Place
+pub data NestPlace : Type 0 where
+  BeforeStream : NestPlace
+  InStream : NestPlace
+  BehindStream : NestPlace
+  BeforeRoot : NestPlace
+  BehindRoot : NestPlace
+  InSequence : NestPlace
+  BeforeKey : NestPlace
+  BeforeValue : NestPlace
 
 -- what stands around a place, the innermost first
 pub record Nest : Type 0 where
-  pub innermost : Place
-  pub outer : List Place
+  pub innermost : NestPlace
+  pub outer : List NestPlace
 
 -- before the first event
 abbrev pub outside : Nest
@@ -28,67 +28,67 @@ abbrev pub complete : Nest
 complete = record { innermost = BehindStream; outer = [] }
 
 -- the place behind a node
-abbrev pub behind_node : Place → Option Place
+abbrev pub behind_node : NestPlace → Option NestPlace
 behind_node BeforeRoot = Some BehindRoot
 behind_node InSequence = Some InSequence
 behind_node BeforeKey = Some BeforeValue
 behind_node BeforeValue = Some BeforeKey
 behind_node _ = None
 
-abbrev pub behind_document : Place → Option Place
+abbrev pub behind_document : NestPlace → Option NestPlace
 behind_document InStream = Some InStream
 behind_document _ = None
 
-abbrev pub behind_stream_start : Place → Option Place
+abbrev pub behind_stream_start : NestPlace → Option NestPlace
 behind_stream_start BeforeStream = Some InStream
 behind_stream_start _ = None
 
-abbrev pub behind_stream_end : Place → Option Place
+abbrev pub behind_stream_end : NestPlace → Option NestPlace
 behind_stream_end InStream = Some BehindStream
 behind_stream_end _ = None
 
 -- the same with another innermost place
-abbrev pub moved : (Place → Option Place) → Nest → Option Nest
+abbrev pub moved : (NestPlace → Option NestPlace) → Nest → Option Nest
 moved behind n = option_map (λ place. record n { innermost = place }) (behind n.innermost)
 
-abbrev pub entered : Place → Nest → Nest
+abbrev pub entered : NestPlace → Nest → Nest
 entered place n = record { innermost = place; outer = n.innermost ∷ n.outer }
 
 -- what stands around, where there is something
-abbrev pub left_list : List Place → Option Nest
+abbrev pub left_list : List NestPlace → Option Nest
 left_list [] = None
 left_list (place ∷ places) = Some (record { innermost = place; outer = places })
 
 abbrev pub left : Nest → Option Nest
 left n = left_list n.outer
 
-abbrev pub end_document : Nest → Place → Option Nest
+abbrev pub end_document : Nest → NestPlace → Option Nest
 end_document n BehindRoot = option_and_then (moved behind_document) (left n)
 end_document n _ = None
 
-abbrev pub end_sequence : Nest → Place → Option Nest
+abbrev pub end_sequence : Nest → NestPlace → Option Nest
 end_sequence n InSequence = option_and_then (moved behind_node) (left n)
 end_sequence n _ = None
 
-abbrev pub end_mapping : Nest → Place → Option Nest
+abbrev pub end_mapping : Nest → NestPlace → Option Nest
 end_mapping n BeforeKey = option_and_then (moved behind_node) (left n)
 end_mapping n _ = None
 
 -- behind an event, if it may come
-abbrev pub behind : Happening → Nest → Option Nest
-behind Nothing n = None
-behind StreamStart n = moved behind_stream_start n
-behind StreamEnd n = moved behind_stream_end n
-behind (DocumentStart explicit) n = Some (entered BeforeRoot n)
-behind DocumentEnd n = end_document n n.innermost
-behind (Alias id) n = moved behind_node n
-behind (Scalar text style id tag) n = moved behind_node n
-behind (SequenceStart id tag) n = Some (entered InSequence n)
-behind SequenceEnd n = end_sequence n n.innermost
-behind (MappingStart id tag) n = Some (entered BeforeKey n)
-behind MappingEnd n = end_mapping n n.innermost
+abbrev pub behind_event : Happening → Nest → Option Nest
+behind_event Nothing n = None
+behind_event StreamStart n = moved behind_stream_start n
+behind_event StreamEnd n = moved behind_stream_end n
+behind_event (DocumentStart explicit) n = Some (entered BeforeRoot n)
+behind_event DocumentEnd n = end_document n n.innermost
+behind_event (Alias id) n = moved behind_node n
+behind_event (Scalar text style id tag) n = moved behind_node n
+behind_event (SequenceStart id tag) n = Some (entered InSequence n)
+behind_event SequenceEnd n = end_sequence n n.innermost
+behind_event (MappingStart id tag) n = Some (entered BeforeKey n)
+behind_event MappingEnd n = end_mapping n n.innermost
 
 -- behind events, if they may come in this order
 abbrev pub behind_all : List Happening → Nest → Option Nest
 behind_all [] n = Some n
-behind_all (h ∷ hs) n = option_and_then (behind_all hs) (behind h n)
+behind_all (h ∷ hs) n = option_and_then (behind_all hs) (behind_event h n)

@@ -18,6 +18,6 @@ Exceeds (fault.TooDeep at most) limits c place = (at ≡ place) × (most ≡ lim
 Exceeds _ limits c place = ⊥
 
 -- These counts are the tally's where they are within the limits.
-abbrev pub Tells : Result (Unit {0}) TreeFault → Counts → Marker → Tally → Tally → Type 0
-Tells (Ok u) c place old new = (new.limits ≡ old.limits) × (counts_of new ≡ c) × Fits old.limits c
-Tells (Err f) c place old new = Exceeds f old.limits c place
+abbrev pub Tallies : Result (Unit {0}) TreeFault → Counts → Marker → Tally → Tally → Type 0
+Tallies (Ok u) c place old new = (new.limits ≡ old.limits) × (counts_of new ≡ c) × Fits old.limits c
+Tallies (Err f) c place old new = Exceeds f old.limits c place

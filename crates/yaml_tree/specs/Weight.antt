@@ -13,14 +13,14 @@ weight_step (Node-F.Scalar text style id tag) = 1
 weight_step (Node-F.Seq id tag nodes) = 2 + sum_by (λ weight. weight) nodes.items
 weight_step (Node-F.Map id tag pairs) = 2 + sum_by pair_weight pairs.items
 
-unfoldable pub weight : Node → ℕ
-weight = fold-Node ℕ weight_step
+unfoldable pub node_weight : Node → ℕ
+node_weight = fold-Node ℕ weight_step
 
 -- no node stands inside
 abbrev pub IsBare : Node → Type 0
-IsBare node = weight node ≤ 2
+IsBare node = node_weight node ≤ 2
 
 -- What each step of a drop makes smaller: the weight of what is left or, where that stays, the weight of the part in
 -- hand.
 abbrev pub turns : Node → Node → ℕ
-turns outer part = let all = weight outer + weight part in all * (all + 1) + weight part
+turns outer part = let all = node_weight outer + node_weight part in all * (all + 1) + node_weight part

@@ -3,7 +3,7 @@ ghost use Rattle.std.specs.Prelude.{◌≡◌, [], Some};
 ghost use Rattle.saphyr_parser.specs.Events as events;
 ghost use Rattle.saphyr_parser.specs.Views.Events.{happening};
 ghost use Rattle.yaml_tree.specs.Unloading.{node_events};
-ghost use Rattle.yaml_tree.specs.OpenSeen.{opened, place_of};
+ghost use Rattle.yaml_tree.specs.OpenSeen.{open_events, place_of};
 ghost use Rattle.yaml_tree.specs.Nesting.{outside, behind_node, moved, entered};
 
 use crate::document::Document;
@@ -23,7 +23,7 @@ pub(crate) struct Builder {
 }
 
 impl Builder {
-    ghost use Rattle.yaml_tree.specs.BuilderSeen.{written, nest_of, Grows, Follows, HandsOut, Finishes};
+    ghost use Rattle.yaml_tree.specs.BuilderSeen.{written, nest_of, Grows, Follows, HandsOutInnermost, Finishes};
 
     pub(crate) fn new(alloc: Global) -> Builder
         ensures written { written result ≡ [] }
@@ -124,7 +124,7 @@ impl Builder {
     // Begins a document or a collection.
     fn begin(&mut self, inner: Open) -> Result<(), TreeFault>
         ensures { let nest = entered (place_of inner) (nest_of self.old) in
-            Grows result (opened inner) (Some nest) self.old self.new }
+            Grows result (open_events inner) (Some nest) self.old self.new }
     {
         let around = mem::replace(&mut self.innermost, inner);
         match self.outer.push(around) {
@@ -135,7 +135,7 @@ impl Builder {
 
     // Hands out the document or collection that has begun last.
     fn end(&mut self) -> Result<Open, TreeFault>
-        ensures { HandsOut result self.old self.new }
+        ensures { HandsOutInnermost result self.old self.new }
     {
         match self.outer.pop() {
             Some(around) => Ok(mem::replace(&mut self.innermost, around)),

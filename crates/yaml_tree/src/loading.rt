@@ -51,7 +51,7 @@ struct Loader {
 }
 
 impl Loader {
-    ghost use Rattle.yaml_tree.specs.LoaderSeen.{HasTaken, Takes};
+    ghost use Rattle.yaml_tree.specs.LoaderSeen.{HasTaken, TakesLast};
 
     fn new(alloc: Global, limits: Limits) -> Loader
         ensures { HasTaken limits [] result }
@@ -82,7 +82,7 @@ impl Loader {
     // Takes an event whose span starts here. The limits are judged first.
     fn take(&mut self, event: Event, place: Marker) -> Result<(), TreeFault>
         ensures { (limits : Limits) (events : List Happening) → HasTaken limits events self.old
-            → Takes result limits (events ++ happening event.entry ∷ []) place self.new }
+            → TakesLast result limits (events ++ happening event.entry ∷ []) place self.new }
     {
         self.tally.count(&event, place)?;
         self.builder.take(event)

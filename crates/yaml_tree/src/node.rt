@@ -1,6 +1,6 @@
 //! Nodes (YAML 1.2.2, 3.2.1.1), and their drop.
 ghost use Rattle.std.specs.Prelude.{◌+◌, ◌<◌, ◌≤◌, ◌↔◌, None, IfSome, IsTrue};
-ghost use Rattle.yaml_tree.specs.Weight.{weight, IsBare, turns};
+ghost use Rattle.yaml_tree.specs.Weight.{node_weight, IsBare, turns};
 
 use saphyr_parser::{ScalarStyle, Tag};
 use std::mem;
@@ -52,7 +52,8 @@ impl Node {
 
     // What is outer then, and a part to drop next. Where only what is outer is left, that is all.
     fn next_part(self) -> Option<(Node, Node)>
-        ensures { IfSome result (λ next. weight next.0 + weight next.1 ≤ weight self) }
+        ensures { IfSome result
+            (λ next. node_weight next.0 + node_weight next.1 ≤ node_weight self) }
     {
         match self {
             Node::Alias(_) => None,
@@ -110,7 +111,7 @@ fn turned_pairs(mut pairs: Vec<(Node, Node)>, outer: Node) -> Option<(Node, Node
 
 fn next_node(mut nodes: Vec<Node>) -> Option<(Node, Node)>
     ensures { IfSome result
-        (λ next. weight next.0 + weight next.1 ≤ weight (Node.Seq 0 None nodes)) }
+        (λ next. node_weight next.0 + node_weight next.1 ≤ node_weight (Node.Seq 0 None nodes)) }
 {
     match nodes.pop() {
         Some(outer) if nodes.is_empty() => {
@@ -128,7 +129,7 @@ fn next_node(mut nodes: Vec<Node>) -> Option<(Node, Node)>
 // A value with nodes inside leaves a leaf in its place.
 fn next_of_pairs(mut pairs: Vec<(Node, Node)>) -> Option<(Node, Node)>
     ensures { IfSome result
-        (λ next. weight next.0 + weight next.1 ≤ weight (Node.Map 0 None pairs)) }
+        (λ next. node_weight next.0 + node_weight next.1 ≤ node_weight (Node.Map 0 None pairs)) }
 {
     if pairs.is_empty() {
         pairs.destroy_empty();

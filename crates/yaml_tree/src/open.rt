@@ -26,11 +26,11 @@ pub(crate) enum Open {
 }
 
 impl Open {
-    ghost use Rattle.yaml_tree.specs.OpenSeen.{place_of, Becomes, Ends, Completes};
+    ghost use Rattle.yaml_tree.specs.OpenSeen.{place_of, GrowsBy, EndsWhole, Completes};
 
     // The stream that begins.
     pub(crate) fn begun(self, alloc: Global) -> Result<Open, TreeFault>
-        ensures { Becomes result (StreamStart ∷ []) (nesting.behind_stream_start (place_of self))
+        ensures { GrowsBy result (StreamStart ∷ []) (nesting.behind_stream_start (place_of self))
             self }
     {
         match self {
@@ -41,7 +41,7 @@ impl Open {
 
     // The stream that ends.
     pub(crate) fn ended(self) -> Result<Open, TreeFault>
-        ensures { Becomes result (StreamEnd ∷ []) (nesting.behind_stream_end (place_of self)) self }
+        ensures { GrowsBy result (StreamEnd ∷ []) (nesting.behind_stream_end (place_of self)) self }
     {
         match self {
             Open::Stream(documents) => Ok(Open::Ended(documents)),
@@ -51,7 +51,7 @@ impl Open {
 
     // The same with one more document.
     pub(crate) fn with_document(self, document: Document) -> Result<Open, TreeFault>
-        ensures { Becomes result (document_events document)
+        ensures { GrowsBy result (document_events document)
             (nesting.behind_document (place_of self)) self }
     {
         match self {
@@ -65,7 +65,7 @@ impl Open {
 
     // The same with one more node.
     pub(crate) fn with_node(self, node: Node) -> Result<Open, TreeFault>
-        ensures { Becomes result (node_events node) (nesting.behind_node (place_of self)) self }
+        ensures { GrowsBy result (node_events node) (nesting.behind_node (place_of self)) self }
     {
         match self {
             Open::Document(explicit, root) => match root {
@@ -89,7 +89,7 @@ impl Open {
 
     // The document that ends.
     pub(crate) fn into_document(self) -> Result<Document, TreeFault>
-        ensures { Ends document_events result DocumentEnd nesting.BehindRoot self }
+        ensures { EndsWhole document_events result DocumentEnd nesting.BehindRoot self }
     {
         match self {
             Open::Document(explicit, Some(root)) => Ok(Document { explicit, root }),
@@ -99,7 +99,7 @@ impl Open {
 
     // The sequence that ends.
     pub(crate) fn into_sequence(self) -> Result<Node, TreeFault>
-        ensures { Ends node_events result SequenceEnd nesting.InSequence self }
+        ensures { EndsWhole node_events result SequenceEnd nesting.InSequence self }
     {
         match self {
             Open::Sequence(id, tag, nodes) => Ok(Node::Seq(id, tag, nodes)),
@@ -109,7 +109,7 @@ impl Open {
 
     // The mapping that ends.
     pub(crate) fn into_mapping(self) -> Result<Node, TreeFault>
-        ensures { Ends node_events result MappingEnd nesting.BeforeKey self }
+        ensures { EndsWhole node_events result MappingEnd nesting.BeforeKey self }
     {
         match self {
             Open::Mapping(id, tag, pairs, None) => Ok(Node::Map(id, tag, pairs)),

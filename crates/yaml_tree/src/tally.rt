@@ -24,12 +24,12 @@ pub(crate) struct Tally {
 }
 
 impl Tally {
-    ghost use Rattle.yaml_tree.specs.Counting.{nothing, counted, with_node, with_collection};
-    ghost use Rattle.yaml_tree.specs.TallySeen.{counts_of, Tells};
+    ghost use Rattle.yaml_tree.specs.Counting.{no_nodes, counted, with_node, with_collection};
+    ghost use Rattle.yaml_tree.specs.TallySeen.{counts_of, Tallies};
 
     pub(crate) fn new(limits: Limits) -> Tally
         ensures limits { result.limits ≡ limits }
-        ensures counts { counts_of result ≡ nothing }
+        ensures counts { counts_of result ≡ no_nodes }
     {
         Tally {
             limits,
@@ -40,7 +40,7 @@ impl Tally {
 
     // Counts an event, whose span starts here, unless a limit forbids it.
     pub(crate) fn count(&mut self, event: &Event, place: Marker) -> Result<(), TreeFault>
-        ensures { Tells result (counted (happening event.now) (counts_of self.old)) place self.old
+        ensures { Tallies result (counted (happening event.now) (counts_of self.old)) place self.old
             self.new }
     {
         match event {
@@ -61,7 +61,7 @@ impl Tally {
     }
 
     fn count_node(&mut self, place: Marker) -> Result<(), TreeFault>
-        ensures { Tells result (with_node (counts_of self.old)) place self.old self.new }
+        ensures { Tallies result (with_node (counts_of self.old)) place self.old self.new }
     {
         if self.nodes >= self.limits.nodes {
             return Err(TreeFault::TooManyNodes(place, self.limits.nodes));
@@ -71,7 +71,7 @@ impl Tally {
     }
 
     fn count_collection(&mut self, place: Marker) -> Result<(), TreeFault>
-        ensures { Tells result (with_collection (counts_of self.old)) place self.old self.new }
+        ensures { Tallies result (with_collection (counts_of self.old)) place self.old self.new }
     {
         self.count_node(place)?;
         if self.depth >= self.limits.depth {
