@@ -130,6 +130,11 @@ impl<T: Input> Reader<T> {
         ensures { OnOk result (spec.WordsMoved quote (string_bytes text.old) (string_bytes text.new)
             (state self.old) (state self.new)) }
     {
+        // Behind an escape mostly stands another, or the closing quote: to look is cheaper than to
+        // move nothing.
+        if !is_literal(quote, self.look()) {
+            return Ok(());
+        }
         let count = self.fetch_literal_words(quote, text)?;
         self.mark = self.mark.along(count);
         self.blank_so_far = false;

@@ -1,8 +1,8 @@
-use Rattle.std.proofs.Common.{ap, ◌∙◌, arith}
+use Rattle.std.proofs.Common.{ap, ◌∙◌, arith, subst, string_bytes}
 use Rattle.saphyr_input.proofs.WordRuns.{words_within}
 use Rattle.saphyr_scalar.specs.declared.scalar.position.Marker.{Marker}
-use Rattle.saphyr_scalar.specs.Cursor.{along}
-use Rattle.saphyr_scalar.specs.Quoted.{is_literal}
+use Rattle.saphyr_scalar.specs.Cursor.{Cursor, along}
+use Rattle.saphyr_scalar.specs.Quoted.{is_literal, at, WordsMoved}
 use Rattle.saphyr_scalar.specs.Sets.{is_content}
 use Rattle.saphyr_scalar.specs.Seen.{state}
 use Rattle.saphyr_scalar.proofs.Quoted.Words.{words_moved}
@@ -14,14 +14,17 @@ along-self-requires-clause-index g c =
       arith,
       c.in_ok-count.ensures.words.within,
       words_within (is_literal c.args.quote) is_content
-          (state c.args.self.now).rest,
-      c.args.self.now.fits,
+          (state c.look.new.self).rest,
+      c.look.new.self.fits,
       ap (λ (m : Marker). m.index)
           c.fetch_literal_words.ensures.mark,
     )
 
 pub returns : goal.returns
 returns g c =
-    words_moved c.args.quote _ _ c.in_ok-count.count (state c.args.self.now) _ c.along-self.result
+    let there = at c.along-self.result (state c.fetch_literal_words.new.self).rest in
+    subst (λ (s : Cursor). WordsMoved c.args.quote (string_bytes c.args.text.now)
+    (string_bytes c.fetch_literal_words.new.text) s there) c.look.ensures.same
+    (words_moved c.args.quote _ _ c.in_ok-count.count (state c.look.new.self) _ c.along-self.result
     c.in_ok-count.ensures.words
-    (c.along-self.ensures ∙ ap (λ m. along m c.in_ok-count.count) c.fetch_literal_words.ensures.mark)
+    (c.along-self.ensures ∙ ap (λ m. along m c.in_ok-count.count) c.fetch_literal_words.ensures.mark))
