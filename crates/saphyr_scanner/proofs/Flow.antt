@@ -2,6 +2,7 @@
 pub mod States
 pub mod Places
 pub mod Gaps
+pub mod GapSteps
 pub mod Fillers
 pub mod Arrivals
 pub mod Separates
@@ -30,6 +31,7 @@ pub mod Ends
 pub mod Properties
 pub mod Quoted
 pub mod Quotes
+pub mod WordGaps
 pub mod Words
 pub mod PlainEnds
 pub mod Noted

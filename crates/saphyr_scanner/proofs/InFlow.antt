@@ -1,9 +1,13 @@
 pub mod States
 pub mod Tabs
 pub mod Quotes
+pub mod ScalarsOnLine
 pub mod OnLine
 pub mod KeyLines
 pub mod KeyTokens
 pub mod KeyScalars
 pub mod KeyCollections
+pub mod KeyFirsts
+pub mod KeyNodes
+pub mod KeyBrackets
 pub mod Keys

@@ -1,5 +1,6 @@
 -- Each text of JSON gives the tokens of its forest.
 pub mod Yields
+pub mod FirstTests
 pub mod Firsts
 pub mod Strings
 pub mod Words

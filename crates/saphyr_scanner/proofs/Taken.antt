@@ -11,6 +11,7 @@ pub mod Blocks
 pub mod Scalars
 pub mod States
 pub mod Documents
+pub mod Arrivals
 pub mod Fetch
 pub mod Run
 pub mod Places

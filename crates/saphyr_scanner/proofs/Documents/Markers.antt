@@ -27,7 +27,7 @@ use Rattle.saphyr_scanner.proofs.Json.States.{core_at, state_at}
 use Rattle.saphyr_scanner.proofs.Json.Leads.{here, finished}
 use Rattle.saphyr_scanner.proofs.Json.Marks.{kinds, kinds_append}
 use Rattle.saphyr_scanner.proofs.Flow.States.{moved, past}
-use Rattle.saphyr_scanner.proofs.Flow.Gaps.{past_count}
+use Rattle.saphyr_scanner.proofs.Flow.GapSteps.{past_count}
 use Rattle.saphyr_scanner.proofs.Flow.Separates.{separates_rest}
 use Rattle.saphyr_scanner.proofs.Documents.Lines.{eol, eol_first, break_ends}
 use Rattle.saphyr_scanner.proofs.Documents.Stands.{reads_here, AtLine, Lined, BehindStart, Stands, reads_token}

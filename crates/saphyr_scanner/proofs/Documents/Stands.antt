@@ -23,7 +23,8 @@ use Rattle.saphyr_scanner.proofs.InBlock.States.{crosses, Follows}
 use Rattle.saphyr_scanner.proofs.InBlock.Follows.{goes_on}
 use Rattle.saphyr_scanner.proofs.InBlock.Lines.{IsLined}
 use Rattle.saphyr_scanner.proofs.Flow.States.{past, EndsDocument, noted, is_filler_rest}
-use Rattle.saphyr_scanner.proofs.Flow.Gaps.{gap_past, past_low, past_inked, no_tab_before}
+use Rattle.saphyr_scanner.proofs.Flow.Gaps.{gap_past, no_tab_before}
+use Rattle.saphyr_scanner.proofs.Flow.GapSteps.{past_low, past_inked}
 use Rattle.saphyr_scanner.proofs.Flow.Arrivals.{passes_gap, within_index}
 use Rattle.saphyr_scalar.proofs.Given.{cursor_at}
 use Rattle.std.proofs.lemmas.Bool.{eq-eqb}

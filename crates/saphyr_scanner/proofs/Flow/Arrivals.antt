@@ -16,7 +16,8 @@ use Rattle.saphyr_scanner.specs.Steps.Fetch.{step, content, fetch_here, arrive, 
 use Rattle.saphyr_scanner.proofs.Json.States.{queue_of, none_before, stop_here}
 use Rattle.saphyr_scanner.proofs.InFlow.States.{Around, core_at, state_at, least, least_low, not_left, drops, key_left, left_in_flow, left_or_none, none_unrolls, Deepens, Comes, comes}
 use Rattle.saphyr_scanner.proofs.Flow.States.{crosses, past, is_filler_rest}
-use Rattle.saphyr_scanner.proofs.Flow.Gaps.{gap_past, past_count, no_tab_before}
+use Rattle.saphyr_scanner.proofs.Flow.Gaps.{gap_past, no_tab_before}
+use Rattle.saphyr_scanner.proofs.Flow.GapSteps.{past_count}
 use Rattle.saphyr_scanner.proofs.InBlock.Gaps.{gap_broke}
 use Rattle.saphyr_scalar.proofs.Given.{cursor_at}
 use Rattle.saphyr_input.proofs.Basics.Booleans.{and_false, and_or_false}

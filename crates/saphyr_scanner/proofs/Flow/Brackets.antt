@@ -25,7 +25,7 @@ use Rattle.saphyr_scanner.proofs.Json.Marks.{kinds, saved, level_of}
 use Rattle.saphyr_scanner.proofs.Json.Brackets.{place_of}
 use Rattle.saphyr_scanner.proofs.Flow.States.{IsFresh, Since, moved, past, IsClear, IsInk, IsParted, Known, fresh_key, Passes, Fits}
 use Rattle.saphyr_scanner.proofs.Flow.Places.{moved_index, right_one, clear_here}
-use Rattle.saphyr_scanner.proofs.Flow.Gaps.{past_ink, past_low}
+use Rattle.saphyr_scanner.proofs.Flow.GapSteps.{past_ink, past_low}
 use Rattle.saphyr_scanner.proofs.Flow.Arrivals.{BeginsToken, arrives, one, within_index}
 use Rattle.saphyr_scanner.proofs.Flow.Tokens.{saved_since}
 use Rattle.saphyr_scanner.proofs.Flow.Separates.{separates}

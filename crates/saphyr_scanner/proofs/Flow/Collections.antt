@@ -1,4 +1,5 @@
 -- Collections in brackets and braces, given the run over what is inside them.
+pub mod Runs
 use Rattle.std.proofs.Common.{◌≡◌, ℕ, ◌<◌, ◌≤◌, Bool, true, false, List, [], ◌∷◌, ◌++◌, length, Ok, sym, ap, ◌∙◌, subst, append_assoc, IsTrue}
 use Rattle.std.specs.Prelude.{Option, None}
 use Rattle.std.specs.List.{list_all}
@@ -22,7 +23,7 @@ use Rattle.saphyr_scanner.proofs.InFlow.States.{Around, core_at, state_at, Calm}
 use Rattle.saphyr_scanner.proofs.Json.Marks.{level_of}
 use Rattle.saphyr_scanner.proofs.Flow.States.{crosses, IsFresh, Since, Kept, keeping, moved, past, IsParted, IsBehindRoot, Known, Passes, Fits, ended}
 use Rattle.saphyr_scanner.proofs.Flow.Places.{moved_append}
-use Rattle.saphyr_scanner.proofs.Flow.Gaps.{past_ink, less_on}
+use Rattle.saphyr_scanner.proofs.Flow.GapSteps.{past_ink, less_on}
 use Rattle.saphyr_scanner.proofs.Flow.Fillers.{rest_past}
 use Rattle.saphyr_scanner.proofs.Flow.Separates.{separates, separates_rest}
 use Rattle.saphyr_scanner.proofs.Flow.Joins.{join, behind}

@@ -13,11 +13,10 @@ use Rattle.saphyr_scanner.specs.Steps.Core.{Candidate, Level, Core, is_block, fr
 use Rattle.saphyr_scanner.specs.Steps.Passing.{with_cursor}
 use Rattle.saphyr_scanner.specs.Steps.Flow as flow
 use Rattle.saphyr_scanner.specs.Steps.Flow.{next_entry, behind_entry, behind_pair, ends_pair}
-use Rattle.saphyr_scanner.specs.Steps.Fetch.{step}
 use Rattle.saphyr_scanner.proofs.InFlow.States.{Around, required_at, core_at, state_at, as_before}
 use Rattle.saphyr_scanner.proofs.Flow.Places.{right_one}
 use Rattle.saphyr_scanner.proofs.Flow.States.{moved, past, IsParted, fresh_key, Passes, Fits}
-use Rattle.saphyr_scanner.proofs.Flow.Gaps.{past_ink}
+use Rattle.saphyr_scanner.proofs.Flow.GapSteps.{past_ink}
 use Rattle.saphyr_scanner.proofs.Flow.Arrivals.{arrives, one, within_index}
 use Rattle.saphyr_scanner.proofs.Flow.Separates.{separates}
 use Rattle.saphyr_scanner.proofs.Flow.Joins.{once}

@@ -23,7 +23,7 @@ use Rattle.saphyr_scanner.proofs.InFlow.States.{Around, state_at}
 use Rattle.saphyr_scanner.proofs.InFlow.Tabs.{lands_on_ink}
 use Rattle.saphyr_scanner.proofs.Json.Marks.{saved}
 use Rattle.saphyr_scanner.proofs.Flow.States.{moved, past, IsBehindNode, IsBehindRoot, Reads, Known, Passes, Closes, Fits}
-use Rattle.saphyr_scanner.proofs.Flow.Gaps.{past_ink, less_behind}
+use Rattle.saphyr_scanner.proofs.Flow.GapSteps.{past_ink, less_behind}
 use Rattle.saphyr_scanner.proofs.Flow.Fillers.{separation_past}
 use Rattle.saphyr_scanner.proofs.Flow.Joins.{root, knowing}
 use Rattle.saphyr_scanner.proofs.Flow.Ends.{EndsHere, node_first, root_first}

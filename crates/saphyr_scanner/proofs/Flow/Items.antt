@@ -17,7 +17,7 @@ use Rattle.saphyr_scanner.specs.Grammar.FlowNodes.{IsBeforeSeparation, IsSingleP
 use Rattle.saphyr_scanner.proofs.InFlow.States.{Around, state_at}
 use Rattle.saphyr_scanner.proofs.Flow.States.{Fits, moved, past, IsParted, Passes, fresh_key, ended, PassesNode}
 use Rattle.saphyr_scanner.proofs.Flow.Places.{moved_append}
-use Rattle.saphyr_scanner.proofs.Flow.Gaps.{past_ink, less_on, less_behind}
+use Rattle.saphyr_scanner.proofs.Flow.GapSteps.{past_ink, less_on, less_behind}
 use Rattle.saphyr_scanner.proofs.InBlock.Crossings.{fresh_in_flow}
 use Rattle.saphyr_scanner.proofs.Flow.Joins.{join, behind, knowing, none}
 use Rattle.saphyr_scanner.proofs.Flow.Brackets.{pending}

@@ -3,7 +3,7 @@ use Rattle.std.proofs.Common.{◌≡◌, ℕ, ◌≤◌, List, ◌∷◌, ◌++�
 use Rattle.saphyr_scalar.specs.declared.scalar.position.Marker.{Marker}
 use Rattle.saphyr_scanner.proofs.Flow.States.{moved, past}
 use Rattle.saphyr_scanner.proofs.Flow.Places.{moved_index}
-use Rattle.saphyr_scanner.proofs.Flow.Gaps.{past_ink, past_low}
+use Rattle.saphyr_scanner.proofs.Flow.GapSteps.{past_ink, past_low}
 use Rattle.saphyr_scanner.proofs.Flow.Inks.{BeginsInk}
 
 pub start_low : (column ad : ℕ) (m : Marker) (p o : List ℕ) → BeginsInk p → ad ≤ (past column m (p ++ o)).0.index

@@ -16,7 +16,7 @@ use Rattle.saphyr_scanner.specs.Grammar.FlowNodes.{IsColonAndValue, IsKeyAndValu
 use Rattle.saphyr_scanner.proofs.InFlow.States.{Around, state_at}
 use Rattle.saphyr_scanner.proofs.Flow.States.{Fits, moved, past, IsInk, IsParted, Passes, no_key, ended, PassesNode}
 use Rattle.saphyr_scanner.proofs.Flow.Places.{moved_append}
-use Rattle.saphyr_scanner.proofs.Flow.Gaps.{past_low, less_on}
+use Rattle.saphyr_scanner.proofs.Flow.GapSteps.{past_low, less_on}
 use Rattle.saphyr_scanner.proofs.Flow.Joins.{join, behind, knowing}
 use Rattle.saphyr_scanner.proofs.Flow.Values.{alone_kinds}
 use Rattle.saphyr_scanner.proofs.Flow.Questions.{mark_passes}

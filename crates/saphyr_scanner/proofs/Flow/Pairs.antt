@@ -18,7 +18,7 @@ use Rattle.saphyr_scanner.proofs.InFlow.States.{Around, state_at}
 use Rattle.saphyr_scanner.proofs.Json.Marks.{saved}
 use Rattle.saphyr_scanner.proofs.Flow.States.{moved, past, Fits, IsInk, IsParted, ends_colon, IsBehindNode, Known, Passes, no_key, ended, after_node, IsAfterNode, IsNodeOrKey, PassesNode}
 use Rattle.saphyr_scanner.proofs.Flow.Places.{moved_append, right_one}
-use Rattle.saphyr_scanner.proofs.Flow.Gaps.{past_ink, less_on, less_behind}
+use Rattle.saphyr_scanner.proofs.Flow.GapSteps.{past_ink, less_on, less_behind}
 use Rattle.saphyr_scanner.proofs.Flow.Fillers.{separation_past, right_behind}
 use Rattle.saphyr_scanner.proofs.Flow.Joins.{join, behind, knowing}
 use Rattle.saphyr_scanner.proofs.Flow.Colons.{key_kinds, colon_flows}

@@ -12,7 +12,7 @@ use Rattle.saphyr_scalar.specs.PlainSpelling.{past_white, StopsPlain, EndsPlain}
 use Rattle.saphyr_scanner.specs.Grammar.Forest.{Node}
 use Rattle.saphyr_scanner.specs.Grammar.FlowNodes.{allows_adjacent}
 use Rattle.saphyr_scanner.proofs.Flow.States.{past, moved, IsInk, EndsDocument, IsLeft, ends_colon, EndsNode, IsBehindNode, IsBehindRoot}
-use Rattle.saphyr_scanner.proofs.Flow.Gaps.{past_ink, no_left}
+use Rattle.saphyr_scanner.proofs.Flow.GapSteps.{past_ink, no_left}
 use Rattle.saphyr_scanner.proofs.InFlow.Tabs.{lands_on_ink, tabs_behind, broke_or_right}
 use Rattle.saphyr_scanner.proofs.Flow.Fillers.{white_past, separation_past}
 use Rattle.saphyr_scanner.proofs.Flow.Ends.{EndsHere, node_first, root_first}

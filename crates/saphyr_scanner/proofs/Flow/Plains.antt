@@ -27,11 +27,12 @@ use Rattle.saphyr_scanner.proofs.Json.Brackets.{place_of}
 use Rattle.saphyr_scanner.proofs.Flow.States.{keeping, moved, past, IsClear, IsInk, Reads, Passes, Closes, Fits}
 use Rattle.saphyr_scanner.proofs.Flow.Places.{moved_count}
 use Rattle.saphyr_scanner.proofs.Flow.Fillers.{white_past}
-use Rattle.saphyr_scanner.proofs.Flow.Gaps.{past_ink}
+use Rattle.saphyr_scanner.proofs.Flow.GapSteps.{past_ink}
 use Rattle.saphyr_scanner.proofs.Flow.Arrivals.{arrives, within_index}
 use Rattle.saphyr_scanner.proofs.Flow.Low.{behind_low}
 use Rattle.saphyr_scanner.proofs.Flow.Tokens.{Begins, saved_since, begins_past, begins_inked, begins_token, after_token, token_passes}
-use Rattle.saphyr_scanner.proofs.Flow.Words.{passed_moved, normalized_same, ink_other, no_break, colon_is_ink, plain_text, key_text, plain_right, key_right}
+use Rattle.saphyr_scanner.proofs.Flow.WordGaps.{passed_moved, normalized_same}
+use Rattle.saphyr_scanner.proofs.Flow.Words.{ink_other, no_break, colon_is_ink, plain_text, key_text, plain_right, key_right}
 use Rattle.saphyr_scanner.proofs.Flow.Noted.{noted_one}
 use Rattle.saphyr_scanner.proofs.InBlock.Crossings.{white_crosses}
 use Rattle.saphyr_input.proofs.Basics.Booleans.{other_than, and_false}

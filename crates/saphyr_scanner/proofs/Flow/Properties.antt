@@ -22,7 +22,7 @@ use Rattle.saphyr_scanner.proofs.InFlow.States.{Around, state_at}
 use Rattle.saphyr_scanner.proofs.Json.Marks.{saved}
 use Rattle.saphyr_scanner.proofs.Flow.States.{Since, Kept, keeping, moved, past, IsBehindNode, IsBehindRoot, Reads, Known, Passes, Fits, IsAfterNode, IsAfterProperties, NodePasses, RootCloses}
 use Rattle.saphyr_scanner.proofs.Flow.Places.{moved_append}
-use Rattle.saphyr_scanner.proofs.Flow.Gaps.{less_behind}
+use Rattle.saphyr_scanner.proofs.Flow.GapSteps.{less_behind}
 use Rattle.saphyr_scanner.proofs.Flow.Fillers.{blanks_past, spaces_are_blank, are_spaces_past}
 use Rattle.saphyr_scanner.proofs.Flow.Pieces.{fits_front, fits_back}
 use Rattle.saphyr_scanner.proofs.Flow.Joins.{since_join, join, root, knowing}

@@ -1,6 +1,6 @@
 -- The `?` of a text in flow style is read.
 use Rattle.std.proofs.Common.{◌≡◌, ◌≢◌, ℕ, ◌≤◌, Bool, true, false, List, [], ◌∷◌, ◌++◌, length, slice_index, Ok, refl, sym, ap, ◌∙◌, arith, ◌⊎◌, inl, inr}
-use Rattle.std.specs.Prelude.{◌==◌, Option, None}
+use Rattle.std.specs.Prelude.{Option, None}
 use Rattle.std.proofs.lemmas.Bool.Decides.{nat_tests}
 use Rattle.saphyr_input.specs.Classes.{is_blank, is_blank_or_breakz}
 use Rattle.saphyr_scalar.specs.declared.scalar.position.Marker.{Marker}
@@ -21,7 +21,7 @@ use Rattle.saphyr_scanner.proofs.InFlow.States.{Around, core_at, state_at, as_be
 use Rattle.saphyr_scanner.proofs.Flow.Places.{right_one}
 use Rattle.saphyr_scanner.proofs.Json.Brackets.{place_of}
 use Rattle.saphyr_scanner.proofs.Flow.States.{moved, past, IsInk, IsParted, no_key, Passes, Fits}
-use Rattle.saphyr_scanner.proofs.Flow.Gaps.{past_ink}
+use Rattle.saphyr_scanner.proofs.Flow.GapSteps.{past_ink}
 use Rattle.saphyr_scanner.proofs.Flow.Fillers.{separation_past}
 use Rattle.saphyr_scanner.proofs.Flow.Arrivals.{arrives, one, within_index}
 use Rattle.saphyr_scanner.proofs.Flow.Joins.{once}

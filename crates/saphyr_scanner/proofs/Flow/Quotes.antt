@@ -26,7 +26,7 @@ use Rattle.saphyr_scanner.proofs.InFlow.States.{Around, core_at, state_at, least
 use Rattle.saphyr_scanner.proofs.InFlow.Tabs.{lands_on_ink}
 use Rattle.saphyr_scanner.proofs.Json.Marks.{saved}
 use Rattle.saphyr_scanner.proofs.Flow.States.{keeping, moved, past, crosses, IsClear, IsInk, EndsNode, IsBehindNode, IsBehindRoot, Reads, Passes, Fits}
-use Rattle.saphyr_scanner.proofs.Flow.Gaps.{past_again, past_ink}
+use Rattle.saphyr_scanner.proofs.Flow.GapSteps.{past_again, past_ink}
 use Rattle.saphyr_scanner.proofs.Flow.Fillers.{EndsLine, rest_past, separation_past}
 use Rattle.saphyr_scanner.proofs.Flow.Arrivals.{PassesGap, passes_gap}
 use Rattle.saphyr_scanner.proofs.Flow.Separates.{separates, separates_rest}

@@ -20,7 +20,7 @@ use Rattle.saphyr_scanner.proofs.InFlow.States.{Around, state_at}
 use Rattle.saphyr_scanner.proofs.Json.Marks.{saved}
 use Rattle.saphyr_scanner.proofs.Flow.States.{moved, past, IsBehindNode, IsBehindRoot, Reads, Passes, Fits, Closes, after_node, NodePasses, RootCloses}
 use Rattle.saphyr_scanner.proofs.Flow.Places.{moved_append, moved_index}
-use Rattle.saphyr_scanner.proofs.Flow.Gaps.{less_behind}
+use Rattle.saphyr_scanner.proofs.Flow.GapSteps.{less_behind}
 use Rattle.saphyr_scanner.proofs.Flow.Fillers.{separation_past, right_behind}
 use Rattle.saphyr_scanner.proofs.Flow.Pieces.{fits_front, fits_back}
 use Rattle.saphyr_scanner.proofs.Flow.Joins.{since_join, join, join_root, root, knowing}

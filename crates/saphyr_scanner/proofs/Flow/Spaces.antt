@@ -12,7 +12,7 @@ use Rattle.saphyr_scalar.specs.Spaces.{joined, AreEach, IsCommentBehind, IsSepar
 use Rattle.saphyr_scanner.specs.Grammar.FlowNodes.{has_tab_outside}
 use Rattle.saphyr_scanner.specs.Steps.Gap.{spaced, spaces, line_comment}
 use Rattle.saphyr_scanner.proofs.Flow.States.{moved, is_left_tab, past, past_comment, IsInk}
-use Rattle.saphyr_scanner.proofs.Flow.Gaps.{past_ink, comment_shorter}
+use Rattle.saphyr_scanner.proofs.Flow.GapSteps.{past_ink, comment_shorter}
 use Rattle.saphyr_scanner.proofs.Flow.Fillers.{separation_past}
 use Rattle.std.proofs.lemmas.Bool.{or_parts}
 use Rattle.saphyr_input.proofs.Basics.Characters.{ink_no_space, non_break_no_break, no_return_and, return_breaks}

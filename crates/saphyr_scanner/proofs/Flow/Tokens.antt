@@ -15,7 +15,7 @@ use Rattle.saphyr_scanner.proofs.Json.Marks.{saved}
 use Rattle.saphyr_scanner.proofs.Json.Brackets.{place_of}
 use Rattle.saphyr_scanner.proofs.Flow.States.{moved, past, IsClear, IsInk, IsFresh, Since, Kept, keeping, Known, Passes, Fits}
 use Rattle.saphyr_scanner.proofs.Flow.Places.{moved_count, clear_here}
-use Rattle.saphyr_scanner.proofs.Flow.Gaps.{past_ink}
+use Rattle.saphyr_scanner.proofs.Flow.GapSteps.{past_ink}
 use Rattle.saphyr_scanner.proofs.Flow.Arrivals.{BeginsToken, arrives, one, within_index}
 use Rattle.saphyr_scalar.proofs.Given.{cursor_at}
 

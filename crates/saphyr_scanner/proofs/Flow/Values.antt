@@ -20,7 +20,7 @@ use Rattle.saphyr_scanner.proofs.Json.States.{queue_of}
 use Rattle.saphyr_scanner.proofs.Json.Marks.{kinds}
 use Rattle.saphyr_scanner.proofs.Flow.States.{moved, past, IsParted, ends_colon, no_key, after_node, Passes, Fits}
 use Rattle.saphyr_scanner.proofs.Flow.Places.{right_one}
-use Rattle.saphyr_scanner.proofs.Flow.Gaps.{past_ink}
+use Rattle.saphyr_scanner.proofs.Flow.GapSteps.{past_ink}
 use Rattle.saphyr_scanner.proofs.Flow.Fillers.{separation_past}
 use Rattle.saphyr_scanner.proofs.Flow.Arrivals.{arrives, one, within_index}
 use Rattle.saphyr_scanner.proofs.Flow.Joins.{once}

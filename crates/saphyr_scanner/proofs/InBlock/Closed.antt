@@ -24,9 +24,9 @@ use Rattle.saphyr_scanner.proofs.Documents.Markers.{reads_mark}
 use Rattle.saphyr_scanner.proofs.Documents.Stands.{Lined, Stands}
 use Rattle.saphyr_scanner.proofs.InBlock.Skips.{nothing, filler_skipped}
 use Rattle.saphyr_scanner.proofs.InBlock.LineStarts.{opens_line, feed_opens, opens_too, HasLine}
-use Rattle.saphyr_scanner.proofs.InBlock.Further.{EndsFed, fed_front}
+use Rattle.saphyr_scanner.proofs.InBlock.FurtherScalars.{EndsFed, fed_front}
 use Rattle.saphyr_scanner.proofs.InBlock.Statements.{Leaves}
-use Rattle.saphyr_scanner.proofs.InBlock.Documents.{AreBlockDocuments, HasNoReturn, OpensMarker, opens_marker}
+use Rattle.saphyr_scanner.proofs.InBlock.Documents.Ends.{AreBlockDocuments, HasNoReturn, OpensMarker, opens_marker}
 use Rattle.saphyr_scanner.proofs.InBlock.Firsts.{HasToken, token_front, node_token, documents_token}
 use Rattle.saphyr_scanner.proofs.InBlock.HandedMarkers.{Handed, hands_start, hands_end}
 use Rattle.saphyr_scanner.proofs.InBlock.Stops.{StopsAt, one_stop, token_stops, marker_stops, end_stops, mark_stops, documents_stop}

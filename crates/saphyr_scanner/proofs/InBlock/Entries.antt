@@ -26,7 +26,7 @@ use Rattle.saphyr_scanner.proofs.Leads.{Leads}
 use Rattle.saphyr_scanner.proofs.Json.States.{queue_of}
 use Rattle.saphyr_scanner.proofs.Json.Marks.{kinds, kinds_append}
 use Rattle.saphyr_scanner.proofs.Flow.States.{past}
-use Rattle.saphyr_scanner.proofs.Flow.Gaps.{past_low}
+use Rattle.saphyr_scanner.proofs.Flow.GapSteps.{past_low}
 use Rattle.saphyr_scanner.specs.Grammar.BlockNodes as layout
 use Rattle.saphyr_scanner.specs.Grammar.BlockNodes.{Position as Position}
 use Rattle.saphyr_scanner.proofs.Flow.Fillers.{EndsLine}

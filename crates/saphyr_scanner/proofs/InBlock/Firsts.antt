@@ -10,8 +10,8 @@ use Rattle.saphyr_scanner.proofs.Flow.States.{IsInk}
 use Rattle.saphyr_scanner.proofs.Flow.Inks.{BeginsInk, properties_ink}
 use Rattle.saphyr_scanner.proofs.InBlock.Skips.{IsSkipped, nothing, skipped_append, filler_skipped, spaces_skipped, are_spaces_skipped, line_end_skipped}
 use Rattle.saphyr_scanner.proofs.InBlock.Statements.{Leaves}
-use Rattle.saphyr_scanner.proofs.InBlock.Texts.{dash_ink, further_ink, entries_ink, pairs_ink}
-use Rattle.saphyr_scanner.proofs.InBlock.Documents.{AreBlockDocuments}
+use Rattle.saphyr_scanner.proofs.InBlock.BehindIndicators.{dash_ink, further_ink, entries_ink, pairs_ink}
+use Rattle.saphyr_scanner.proofs.InBlock.Documents.Ends.{AreBlockDocuments}
 use Rattle.saphyr_scanner.proofs.InBlock.DirectiveLines.{directive_line}
 
 -- ## A token behind what is skipped

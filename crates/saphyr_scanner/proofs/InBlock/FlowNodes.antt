@@ -19,7 +19,7 @@ use Rattle.saphyr_scanner.proofs.Json.Marks.{kinds, kinds_append}
 use Rattle.saphyr_scanner.proofs.Flow.States as flow
 use Rattle.saphyr_scanner.proofs.Flow.States.{moved, past, crosses, EndsDocument, IsLeft, IsBehindRoot, Since, Reads, Closes, RootCloses}
 use Rattle.saphyr_scanner.proofs.Flow.Places.{moved_append, moved_count}
-use Rattle.saphyr_scanner.proofs.Flow.Gaps.{past_low}
+use Rattle.saphyr_scanner.proofs.Flow.GapSteps.{past_low}
 use Rattle.saphyr_scanner.proofs.Flow.Fillers.{rest_past}
 use Rattle.saphyr_scanner.proofs.Flow.Inks.{node_ink}
 use Rattle.saphyr_scanner.proofs.Documents.Lines.{eol}
@@ -32,7 +32,7 @@ use Rattle.saphyr_scanner.proofs.InBlock.Lines.{IsLined, Fits, fits_front, fits_
 use Rattle.saphyr_scanner.proofs.InBlock.Scalars.{gap_reaches, lands_behind}
 use Rattle.saphyr_scanner.proofs.InBlock.Crossings.{content_crosses}
 use Rattle.saphyr_scanner.proofs.InBlock.Statements.{context_at, ReadsAt, allows_block}
-use Rattle.saphyr_scanner.proofs.InBlock.Texts.{further_ink}
+use Rattle.saphyr_scanner.proofs.InBlock.BehindIndicators.{further_ink}
 use Rattle.saphyr_scanner.proofs.InBlock.Untabbed.{clean_past, settles}
 use Rattle.saphyr_input.proofs.Basics.Booleans.{or_true_swap}
 use Rattle.saphyr_scalar.proofs.Given.{cursor_at}

@@ -11,7 +11,8 @@ use Rattle.saphyr_scanner.specs.Grammar.Forest.{Node}
 use Rattle.saphyr_scanner.specs.Grammar.FlowNodes.{IsOnLine}
 use Rattle.saphyr_scanner.proofs.Flow.States.{moved, past, IsInk, Reads}
 use Rattle.saphyr_scanner.proofs.Flow.Places.{moved_append, moved_along}
-use Rattle.saphyr_scanner.proofs.Flow.Gaps.{right_tab as no_left_tab, past_ink}
+use Rattle.saphyr_scanner.proofs.Flow.Gaps.{right_tab as no_left_tab}
+use Rattle.saphyr_scanner.proofs.Flow.GapSteps.{past_ink}
 use Rattle.saphyr_scanner.proofs.Flow.Fillers.{right_tab, blanks_past}
 use Rattle.saphyr_scanner.proofs.InFlow.States.{Around, least, least_low}
 use Rattle.saphyr_scanner.proofs.InFlow.KeyLines.{IsNear, not_far, deeper_at, is_required}

@@ -19,7 +19,8 @@ use Rattle.saphyr_scanner.proofs.InBlock.Closing.{closes_block}
 use Rattle.saphyr_scanner.proofs.InBlock.Skips.{line_end_skipped, line_end_crosses, skipped_past}
 use Rattle.saphyr_scanner.proofs.InBlock.Entries.{frame_behind}
 use Rattle.saphyr_scanner.proofs.InBlock.Statements.{context_at, IsBehind, ArrivedAt, Arrived, NodeRead, ReadsAt, Leaves, allows_block}
-use Rattle.saphyr_scanner.proofs.InBlock.Texts.{behind_wider, entries_ink, pairs_ink, further_ink}
+use Rattle.saphyr_scanner.proofs.InBlock.Texts.{behind_wider}
+use Rattle.saphyr_scanner.proofs.InBlock.BehindIndicators.{entries_ink, pairs_ink, further_ink}
 use Rattle.saphyr_scanner.proofs.InBlock.Leads.{reads_lead, lead_col, mapping_least, sequence_least}
 use Rattle.saphyr_scanner.proofs.InBlock.Sequences.{ReadsOthers, no_others, more_others, reads_entries}
 use Rattle.saphyr_scanner.proofs.InBlock.Mappings.{ReadsOtherPairs, no_other_pairs, more_pairs, reads_pairs}

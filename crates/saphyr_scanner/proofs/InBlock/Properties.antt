@@ -1,245 +1,36 @@
 -- Properties at block level are read: before a block scalar on their line, and before a collection on the next lines
--- (YAML
--- 1.2.2, 6.9 and 8.2.3).
-use Rattle.std.proofs.Common.{◌≡◌, ℕ, zero, suc, ◌+◌, ◌^◌, ◌<◌, ◌≤◌, Bool, true, false, List, [], ◌∷◌, ◌++◌, length, slice_index, refl, sym, ap, ◌∙◌, arith, subst, append_assoc, IsTrue, Ok, encode_utf8_all, ◌⊎◌, inl, inr}
-use Rattle.std.specs.Prelude.{◌||◌, ◌==◌, option_map, Option, Some, None, if◌then◌else◌}
+-- (YAML 1.2.2, 6.9 and 8.2.3).
+use Rattle.std.proofs.Common.{◌≡◌, ℕ, zero, suc, ◌^◌, ◌<◌, ◌≤◌, true, false, List, [], ◌∷◌, ◌++◌, length, slice_index, refl, sym, ap, ◌∙◌, arith, subst, append_assoc, IsTrue, ◌⊎◌, inl, inr}
+use Rattle.std.specs.Prelude.{option_map, Option, Some, None}
 use Rattle.std.proofs.lemmas.List.{length-append}
-use Rattle.saphyr_input.specs.Classes.{is_blank_or_breakz, is_anchor_char}
+use Rattle.saphyr_input.specs.Classes.{is_blank_or_breakz}
 use Rattle.saphyr_scalar.specs.declared.scalar.position.Marker.{Marker}
 use Rattle.saphyr_scalar.specs.BlockRead.{spaces}
-use Rattle.saphyr_scalar.specs.Cursor.{Cursor, ◌>>=◌, along}
-use Rattle.saphyr_scalar.specs.Quoted.{at}
 use Rattle.saphyr_scalar.specs.Spaces.{AreSpaces, IsLineRest}
-use Rattle.saphyr_scalar.specs.TagSpelling.{IsAnchorName, IsTagText, EndsTag}
 use Rattle.saphyr_scalar.proofs.NoBreaks.{NoBreaks}
-use Rattle.saphyr_scanner.specs.Steps.Core.{Core, Candidate, went, from_to, is_too_far, least_column}
-use Rattle.saphyr_scanner.specs.Steps.Fetch.{fetch, fetch_here, fetch_within, within, content, step}
+use Rattle.saphyr_scanner.specs.Steps.Core.{Candidate, is_too_far}
 use Rattle.saphyr_scanner.specs.Grammar.Forest.{Tag}
-use Rattle.saphyr_scanner.specs.Grammar.FlowNodes.{IsAnchor, AreProperties}
+use Rattle.saphyr_scanner.specs.Grammar.FlowNodes.{AreProperties}
 use Rattle.saphyr_scanner.specs.Grammar.BlockNodes.{Position as Position, IsGapAt, AreSpacesAt}
-use Rattle.saphyr_scanner.specs.Steps.Passing.{with_cursor}
-use Rattle.saphyr_scanner.specs.Steps.Property as property
-use Rattle.saphyr_scanner.specs.Steps.Queue.{next, Place, closed}
-use Rattle.saphyr_scanner.specs.Steps.Scalar.{disallow_key}
-use Rattle.saphyr_scanner.specs.Views.Tokens.{Piece}
-use Rattle.saphyr_scanner.specs.Steps.State.{State, acted, carried}
-use Rattle.saphyr_scanner.specs.Grammar.TagSpelling.{IsTag}
-use Rattle.saphyr_scanner.specs.Grammar.Tokens as kind
+use Rattle.saphyr_scanner.specs.Steps.State.{State}
 use Rattle.saphyr_scanner.specs.Grammar.Tokens.{Kind, anchor_token, tag_token}
 use Rattle.saphyr_scanner.specs.Grammar.TokenGrammar as grammar
-use Rattle.saphyr_scanner.proofs.Leads.{Leads}
-use Rattle.saphyr_scanner.proofs.Json.States.{queue_of}
-use Rattle.saphyr_scanner.proofs.Json.Marks.{kinds_append, saved}
-use Rattle.saphyr_scanner.proofs.LineTexts.{name_no_break, tag_no_break}
 use Rattle.saphyr_scanner.proofs.Flow.States.{moved, past, Reads}
-use Rattle.saphyr_scanner.proofs.Flow.Ends.{tag_ends_name, white_ends_tag}
-use Rattle.saphyr_scanner.proofs.Flow.Gaps.{past_low}
 use Rattle.saphyr_scanner.proofs.Flow.Inks.{BeginsInk, properties_ink}
-use Rattle.saphyr_scanner.proofs.Flow.Names.{unbroken_along, begins_anchor, begins_tag}
-use Rattle.saphyr_scanner.proofs.Flow.Places.{moved_append, moved_count, moved_index}
-use Rattle.saphyr_scanner.proofs.Flow.Tags.{tag_read, tag_first}
-use Rattle.saphyr_scanner.proofs.InBlock.States.{Frame, Moment, moment_at, core_of, state_of, crosses, Follows, At}
-use Rattle.saphyr_scanner.proofs.InBlock.Gaps.{past_stops}
+use Rattle.saphyr_scanner.proofs.Flow.Names.{unbroken_along}
+use Rattle.saphyr_scanner.proofs.Flow.Places.{moved_append}
+use Rattle.saphyr_scanner.proofs.InBlock.States.{Frame, crosses, At}
 use Rattle.saphyr_scanner.proofs.InBlock.Skips.{IsSkipped, IsClean, skipped_clean, skipped_append, spaces_skipped, line_end_skipped, line_end_crosses, filler_skipped, are_spaces_skipped}
-use Rattle.saphyr_scanner.proofs.InBlock.Follows.{follows_itself, goes_alike, first_step, left_key, left_again, drops, lands, BeginsToken, begins_here, arrives_at, stays_open, deeper_at}
 use Rattle.saphyr_scanner.proofs.InBlock.Lines.{later_line, Fits, fits_front, fits_back, fits_before}
 use Rattle.saphyr_scanner.proofs.InBlock.Statements.{IsNextLineText, PropertiesRead, ReadsProperties}
-use Rattle.saphyr_scanner.proofs.InBlock.Texts.{further_ink, spaces_moved, ink_clean, reaches}
+use Rattle.saphyr_scanner.proofs.InBlock.Texts.{spaces_moved, ink_clean, reaches}
+use Rattle.saphyr_scanner.proofs.InBlock.BehindIndicators.{further_ink}
 use Rattle.saphyr_scanner.proofs.Documents.Lines.{rest_first}
-use Rattle.saphyr_scanner.proofs.InBlock.Scalars.{IsLate, HeadRead, ReadsHead, saves, gap_reaches, lands_behind, unbroken_properties, none_late}
-use Rattle.saphyr_scalar.proofs.Given.{cursor_at}
-use Rattle.saphyr_input.proofs.Basics.Booleans.{and_false}
-use Rattle.std.proofs.Math.Bool.{or-false}
-use Rattle.std.proofs.lemmas.Bool.{le-leb}
+use Rattle.saphyr_scanner.proofs.InBlock.HeaderScalars.{IsLate}
+use Rattle.saphyr_scanner.proofs.InBlock.Scalars.{HeadRead, ReadsHead, gap_reaches, lands_behind, unbroken_properties, none_late}
 use Rattle.saphyr_scanner.proofs.Flow.Properties.{space_first}
 use Rattle.saphyr_scanner.proofs.Taken.States.{too_far}
-
--- ## A token behind which no key may begin
-
--- A token at m was read, up to n, and the scanner stands before what is behind it.
-record TokenRead (limit : ℕ) (start : State) (f : Frame) (m n : Marker) (o : List ℕ) (ts : List Kind) : Type 0 where
-  at : At limit start f (past 0 n o).0 (past 0 n o).1 ts
-  late : IsLate at.key m
-  allowed : at.allowed ≡ crosses o
-
-late_left : (k : Option Candidate) (n m : Marker) → IsLate k m → IsLate (left_key k n) m
-late_left k n m h = by_far (is_too_far k n)
-  where
-    by_far : (b : Bool) → IsLate (if b then None else k) m
-    by_far true = tt
-    by_far false = h
-
-late_saved : (a : Bool) (i : ℕ) (m : Marker) (key : Option Candidate) → IsLate key m → IsLate (saved a i m key) m
-late_saved true i m key h = omega arith
-late_saved false i m key h = h
-
-late_same : (k : Option Candidate) (m n : Marker) → m.line ≡ n.line → IsLate k m → IsLate k n
-late_same None m n e h = tt
-late_same (Some k) m n e h = omega (arith, e, h)
-
--- From a state that goes on with this state the scanner comes to that, where a key that is too far is dropped.
-steps_keeping : {limit : ℕ} {start s : State} (g : Frame) (n : Moment) (qs : List Place) → Follows limit start s
-    → s.core.ended ≡ false → fetch s ≡ Ok (state_of g n qs) → n.required ≡ false → n.cursor.mark.index ≤ limit
-    → Leads limit (state_of g (record n { key = left_key n.key n.cursor.mark; required = false }) qs) start
-unfolding fetch_within
-steps_keeping {limit} g n qs f going is free low =
-    let fits : within limit (state_of g n qs) ≡ Ok (state_of g n qs) = rw (le-leb n.cursor.mark.index limit low) refl in
-    first_step f going (ap (λ r. r >>= within limit) is ∙ fits) (ap (λ r. carried r (queue_of qs)) (drops g n free))
-
-token_read : {limit : ℕ} {start : State} {ts : List Kind} (f : Frame) (k : Kind) (m n : Marker) (y o : List ℕ)
-    (v : At limit start f m y ts) → f.indent ≤ m.col → BeginsToken m y
-    → ((i : ℕ) (deeper : Bool)
-    → step (slice_index y 0) (slice_index y 1) i
-    (core_of f (moment_at m y v.blank v.key v.allowed v.adjacent deeper))
-    ≡ went (from_to m n k ∷ []) (core_of f (moment_at n o false (saved v.allowed i m v.key) false v.adjacent deeper)))
-    → n.index ≤ limit → m.index ≤ n.index → IsClean o → IsLate v.key m → TokenRead limit start f m n o (ts ++ k ∷ [])
-unfolding fetch content
-token_read {limit} {start} {ts} f k m n y o v low begins steps limited onward clean late =
-    let i = next (queue_of v.places) in
-    let deeper = deeper_at f v.deeper m in
-    let piece : Piece = record { span = record { start = m; end = n }; kind = k } in
-    let qs = v.places ++ closed piece ∷ [] in
-    let far = column_far f.indent m.col low in
-    let here = moment_at n o false (saved v.allowed i m v.key) false v.adjacent deeper in
-    let made : content (slice_index y 0) (slice_index y 1)
-    (state_of f (moment_at m y v.blank v.key v.allowed v.adjacent deeper) v.places) ≡ Ok (state_of f here qs) =
-    ap (λ r. acted r (queue_of v.places)) (steps i deeper) in
-    let there : fetch (state_of f (moment_at m y v.blank v.key v.allowed v.adjacent v.deeper) v.places)
-    ≡ Ok (state_of f here qs) =
-    ap (λ r. r >>= fetch_here) (arrives_at f m y v.blank v.key v.allowed v.adjacent v.deeper v.places v.stop v.near)
-    ∙ ap fetch_here (stays_open f false m y v.blank v.key v.allowed v.adjacent v.deeper v.places far)
-    ∙ begins_here f false m y v.blank v.key v.allowed v.adjacent v.deeper v.places begins far ∙ made in
-    let leads = steps_keeping f here qs v.follows refl there refl limited in
-    let left : Moment = moment_at n o false (left_key (saved v.allowed i m v.key) n) false v.adjacent deeper in
-    let t = past 0 n o in
-    let l = lands f left qs t.0 t.1 refl refl (clean (least_column (core_of f left)) n false) (inl refl) in
-    let on = past_low 0 n o in
-    let lower = v.low in
-    record {
-      at = record {
-        blank = l.0;
-        key = left_key (left_key (saved v.allowed i m v.key) n) t.0;
-        allowed = crosses o || false;
-        adjacent = v.adjacent;
-        deeper = deeper;
-        places = qs;
-        follows = goes_alike (follows_itself leads) l.1 refl;
-        stop = past_stops n o;
-        near = left_again (left_key (saved v.allowed i m v.key) n) t.0;
-        are = kinds_append v.places (closed piece ∷ []) ∙ ap (λ (x : List Kind). x ++ k ∷ []) v.are;
-        low = omega (arith, lower, onward, on);
-      };
-      late = late_left (left_key (saved v.allowed i m v.key) n) t.0 m
-          (late_left (saved v.allowed i m v.key) n m (late_saved v.allowed i m v.key late));
-      allowed = or-false (crosses o);
-    }
-  where
-    column_far : (i col : ℕ) → i ≤ col → i ≤ col + 1
-    column_far i col h = omega (arith, h)
-
--- a token of this text is read, wherever it stands
-abbrev TokenReads : ℕ → State → Frame → Kind → List ℕ → Type 0
-TokenReads limit start f k t =
-    (m : Marker) (ts : List Kind) (o : List ℕ) → f.indent ≤ m.col → IsClean o
-    → IsTrue (is_blank_or_breakz (slice_index o 0)) → Fits limit m t o → (v : At limit start f m (t ++ o) ts)
-    → IsLate v.key m
-    → TokenRead limit start f m (moved m t) o (ts ++ k ∷ [])
-
-fits_index : {limit : ℕ} (m : Marker) (t o : List ℕ) → Fits limit m t o
-    → ((moved m t).index ≤ limit) × (m.index ≤ (moved m t).index)
-fits_index m t o h = let below =
-    h.below in let count = moved_count m t o in let at_end =
-    moved_index m t in (omega (arith, below, count), omega (arith, at_end))
-
--- ## Anchors
-
-anchor_step : Reads → (f : Frame) (m : Marker) (name o : List ℕ) (blank : Bool) (key : Option Candidate) (a : Bool)
-    (ad : ℕ) (deeper : Bool) (i : ℕ) → f.indent ≤ m.col → IsAnchorName name → is_anchor_char (slice_index o 0) ≡ false
-    → property.name false i (core_of f (moment_at m (38 ∷ (name ++ o)) blank key a ad deeper))
-    ≡ went (from_to m (moved m (38 ∷ name)) (anchor_token name) ∷ [])
-    (core_of f (moment_at (moved m (38 ∷ name)) o false (saved a i m key) false ad deeper))
-unfolding property.name property.read_name
-anchor_step reads f m name o blank key a ad deeper i low h ends =
-    let y = 38 ∷ (name ++ o) in
-    let c = core_of f (moment_at m y blank (saved a i m key) false ad deeper) in
-    let token = λ (x : List ℕ × Cursor). went (from_to m x.1.mark (property.name_token false x.0) ∷ [])
-    (with_cursor x.1 c) in
-    let one : 1 + length name ≡ length (38 ∷ name) = omega arith in
-    ap (λ (d : Core). property.read_name false (disallow_key d)) (saves f m y blank key a ad deeper i low)
-    ∙ ap (λ q. q >>= token) (reads.anchor (cursor_at y m blank) 38 name o refl h ends)
-    ∙ ap (λ (end : Marker). token (encode_utf8_all name, at end o))
-    (ap (along m) one ∙ sym (unbroken_along m (38 ∷ name) (refl, name_no_break name h)))
-
-anchor_begins : (m : Marker) (o : List ℕ) → BeginsToken m (38 ∷ o)
-anchor_begins m o = record {
-  stop =
-      (refl, refl, refl);
-  nul =
-      refl;
-  byte_order_mark = refl;
-  directive = and_false (m.col == 0);
-  marker = and_false (m.col == 0);
-}
-
-anchor_reads : Reads → {limit : ℕ} {start : State} (f : Frame) (name t : List ℕ) → IsAnchor name t
-    → TokenReads limit start f (anchor_token name) t
-anchor_reads reads {limit} {start} f name t (h, e) =
-    subst (λ (x : List ℕ). TokenReads limit start f (anchor_token name) x) (sym e) by_name
-  where
-    by_name : TokenReads limit start f (anchor_token name) (38 ∷ name)
-    by_name m ts o low clean first fits v late =
-        let bounds = fits_index m (38 ∷ name) o fits in
-        let ends = tag_ends_name false o (white_ends_tag false o first) in
-        token_read f (anchor_token name) m (moved m (38 ∷ name)) (38 ∷ (name ++ o)) o v low
-        (anchor_begins m (name ++ o))
-        (λ i deeper. begins_anchor (slice_index (name ++ o) 0) i
-        (core_of f (moment_at m (38 ∷ (name ++ o)) v.blank v.key v.allowed v.adjacent deeper))
-        ∙ anchor_step reads f m name o v.blank v.key v.allowed v.adjacent deeper i low h ends) bounds.0 bounds.1 clean
-        late
-
--- ## Tags
-
-tag_step : Reads → (f : Frame) (m : Marker) (t handle suffix o : List ℕ) (blank : Bool) (key : Option Candidate)
-    (a : Bool) (ad : ℕ) (deeper : Bool) (i : ℕ) → f.indent ≤ m.col → IsTagText t handle suffix → EndsTag false o
-    → property.tag i (core_of f (moment_at m (t ++ o) blank key a ad deeper))
-    ≡ went (from_to m (moved m t) (kind.Tag (encode_utf8_all handle) (encode_utf8_all suffix)) ∷ [])
-    (core_of f (moment_at (moved m t) o false (saved a i m key) false ad deeper))
-unfolding property.tag property.read_tag
-tag_step reads f m t handle suffix o blank key a ad deeper i low h ends =
-    let c = core_of f (moment_at m (t ++ o) blank (saved a i m key) false ad deeper) in
-    let token = λ (x : List ℕ × List ℕ × Cursor). went (from_to m x.2.mark (kind.Tag x.0 x.1) ∷ [])
-    (with_cursor x.2 c) in
-    ap (λ (d : Core). property.read_tag (disallow_key d)) (saves f m (t ++ o) blank key a ad deeper i low)
-    ∙ ap (λ q. q >>= token) (reads.tag false (cursor_at (t ++ o) m blank) t handle suffix o refl h ends)
-    ∙ ap (λ (end : Marker). token (encode_utf8_all handle, encode_utf8_all suffix, at end o))
-    (sym (unbroken_along m t (tag_no_break t handle suffix h)))
-
-tag_begins : (m : Marker) (o : List ℕ) → BeginsToken m (33 ∷ o)
-tag_begins m o = record {
-  stop =
-      (refl, refl, refl);
-  nul =
-      refl;
-  byte_order_mark = refl;
-  directive = and_false (m.col == 0);
-  marker = and_false (m.col == 0);
-}
-
-tag_reads : Reads → {limit : ℕ} {start : State} (f : Frame) (tag : Tag) (t : List ℕ) → IsTag tag t
-    → TokenReads limit start f (tag_token tag) t
-tag_reads reads {limit} {start} f tag t h m ts o low clean first fits v late =
-    let r = tag_read tag t h in
-    let b = tag_first t r.handle r.suffix r.is in
-    let begin : t ++ o ≡ 33 ∷ (b.0 ++ o) = ap (λ (x : List ℕ). x ++ o) b.1 in
-    let bounds = fits_index m t o fits in
-    let k = kind.Tag (encode_utf8_all r.handle) (encode_utf8_all r.suffix) in
-    subst (λ (q : Kind). TokenRead limit start f m (moved m t) o (ts ++ q ∷ [])) r.token
-    (token_read f k m (moved m t) (t ++ o) o v low (subst (BeginsToken m) (sym begin) (tag_begins m (b.0 ++ o)))
-    (λ i deeper. let c = core_of f (moment_at m (t ++ o) v.blank v.key v.allowed v.adjacent deeper) in
-    ap (λ (x : List ℕ). step (slice_index x 0) (slice_index (t ++ o) 1) i c) begin
-    ∙ begins_tag (slice_index (t ++ o) 1) i c
-    ∙ tag_step reads f m t r.handle r.suffix o v.blank v.key v.allowed v.adjacent deeper i low r.is
-    (white_ends_tag false o first)) bounds.0 bounds.1 clean late)
+use Rattle.saphyr_scanner.proofs.InBlock.PropertyTokens.{TokenRead, late_same, TokenReads, anchor_reads, tag_reads}
 
 -- ## Two properties
 

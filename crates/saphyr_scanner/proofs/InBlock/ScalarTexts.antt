@@ -24,7 +24,7 @@ use Rattle.saphyr_scanner.proofs.Flow.Quoted.{moved_passes}
 use Rattle.saphyr_scanner.proofs.Flow.Inks.{BeginsInk, properties_ink}
 use Rattle.saphyr_scanner.proofs.InBlock.Lines.{IsLined, later_line}
 use Rattle.saphyr_scanner.proofs.InBlock.Statements.{EndsWithLine}
-use Rattle.saphyr_scanner.proofs.InBlock.Texts.{further_ink}
+use Rattle.saphyr_scanner.proofs.InBlock.BehindIndicators.{further_ink}
 use Rattle.saphyr_scanner.proofs.Beginnings.{both_in}
 
 -- ## What the readers of block scalars promise

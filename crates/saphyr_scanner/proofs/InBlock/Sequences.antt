@@ -17,7 +17,8 @@ use Rattle.saphyr_scanner.proofs.InBlock.Lines.{Fits, fits_front, fits_back, fit
 use Rattle.saphyr_scanner.proofs.InBlock.States.{Frame, EndsDocument, At}
 use Rattle.saphyr_scanner.proofs.InBlock.Entries.{frame_behind, dash_kinds, reads_dash}
 use Rattle.saphyr_scanner.proofs.InBlock.Statements.{IsBehind, ArrivedAt, Arrived, EndsWithLine, as_optional, NodeRead, ReadsAt, Leaves, EntriesRead}
-use Rattle.saphyr_scanner.proofs.InBlock.Texts.{dash_ink, node_ends, node_behind, behind_indented, indentation_skipped, indentation_col, reaches}
+use Rattle.saphyr_scanner.proofs.InBlock.Texts.{node_ends, behind_indented, indentation_skipped, indentation_col, reaches}
+use Rattle.saphyr_scanner.proofs.InBlock.BehindIndicators.{dash_ink, node_behind}
 use Rattle.saphyr_input.proofs.Basics.Numbers.{next_not_within}
 
 -- ## What stands behind an entry

@@ -11,7 +11,7 @@ use Rattle.saphyr_scanner.proofs.InBlock.States.{IsStop}
 use Rattle.saphyr_scanner.proofs.InBlock.Gaps.{ink_stop, stop_past}
 use Rattle.saphyr_scanner.proofs.InBlock.Skips.{IsSkipped, filler_skipped, skipped_past}
 use Rattle.saphyr_scanner.proofs.InBlock.Statements.{Leaves}
-use Rattle.saphyr_scanner.proofs.InBlock.Documents.{AreBlockDocuments, OpensMarker}
+use Rattle.saphyr_scanner.proofs.InBlock.Documents.Ends.{AreBlockDocuments, OpensMarker}
 use Rattle.saphyr_scanner.proofs.InBlock.Firsts.{HasToken, documents_token}
 
 -- behind blanks, breaks and comments the text has this at its front

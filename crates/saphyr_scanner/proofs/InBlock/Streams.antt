@@ -1,6 +1,6 @@
 -- The scanner takes a text of the layout grammar and makes tokens of its forest.
 use Rattle.std.proofs.Common.{◌≡◌, ℕ, ◌≤◌, Bool, true, false, List, [], ◌∷◌, ◌++◌, length, inl, inr, refl, sym, ap, ◌∙◌, arith, subst, append_assoc, append-nil}
-use Rattle.std.specs.Prelude.{None, ◌==◌, ◌||◌, not}
+use Rattle.std.specs.Prelude.{None, ◌==◌, not}
 use Rattle.saphyr_input.specs.Classes.{carriage_return}
 use Rattle.saphyr_scalar.specs.Cursor.{fresh}
 use Rattle.saphyr_scalar.specs.TagSpelling.{AreIn}
@@ -23,7 +23,8 @@ use Rattle.saphyr_scanner.proofs.Documents.Markers.{reads_mark, reads_end, Finis
 use Rattle.saphyr_scanner.proofs.InBlock.States.{crosses}
 use Rattle.saphyr_scanner.proofs.InBlock.Follows.{follows_itself}
 use Rattle.saphyr_scanner.proofs.InBlock.Statements.{Leaves}
-use Rattle.saphyr_scanner.proofs.InBlock.Documents.{plain_behind, AreBlockDocuments, HasNoReturn, suffix_text, lands_behind, reads_document}
+use Rattle.saphyr_scanner.proofs.InBlock.Documents.Ends.{plain_behind, AreBlockDocuments, HasNoReturn, suffix_text, lands_behind}
+use Rattle.saphyr_scanner.proofs.InBlock.Documents.{reads_document}
 use Rattle.std.proofs.Math.Bool.{or-true}
 use Rattle.saphyr_scanner.proofs.Beginnings.{front_in, back_in}
 

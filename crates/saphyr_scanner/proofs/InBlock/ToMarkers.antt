@@ -19,11 +19,14 @@ use Rattle.saphyr_scanner.proofs.Documents.Markers.{start_ends, end_ends, reads_
 use Rattle.saphyr_scanner.proofs.Documents.Stands.{Lined, Stands}
 use Rattle.saphyr_scanner.proofs.InBlock.Skips.{filler_skipped}
 use Rattle.saphyr_scanner.proofs.InBlock.LineStarts.{opens_line, HasLine, behind_piece, no_line, skipped_unmarked, last_unmarked, end_unmarked, prefix_unmarked}
-use Rattle.saphyr_scanner.proofs.InBlock.Further.{EndsFed, fed_front, fed_behind, same_marker, end_further, IsAhead, document_further}
+use Rattle.saphyr_scanner.proofs.InBlock.FurtherScalars.{EndsFed, fed_front, fed_behind, same_marker}
+use Rattle.saphyr_scanner.proofs.InBlock.Further.{end_further, IsAhead, document_further}
 use Rattle.saphyr_scanner.proofs.InBlock.TabsAhead.{TellsTabs, tells_filler, tells_token, has_token, token_filler, token_here}
 use Rattle.saphyr_scanner.proofs.InBlock.Statements.{Leaves}
 use Rattle.saphyr_scanner.proofs.InBlock.Texts.{node_ends}
-use Rattle.saphyr_scanner.proofs.InBlock.Documents.{AreBlockDocuments, HasNoReturn, OpensMarker, opens_marker, lands_marked, plain_marked, suffix_text, document_text, node_marks, reads_front, reads_document}
+use Rattle.saphyr_scanner.proofs.InBlock.Documents.Ends.{AreBlockDocuments, HasNoReturn, OpensMarker, opens_marker, lands_marked, plain_marked, suffix_text}
+use Rattle.saphyr_scanner.proofs.InBlock.Documents.Nodes.{node_marks}
+use Rattle.saphyr_scanner.proofs.InBlock.Documents.{document_text, reads_front, reads_document}
 use Rattle.saphyr_scanner.proofs.InBlock.DirectiveLines.{directives_unmarked}
 use Rattle.saphyr_scanner.proofs.InBlock.Streams.{reads_prefix}
 use Rattle.saphyr_scanner.proofs.InBlock.HandedMarkers.{Handed}

@@ -18,13 +18,13 @@ use Rattle.saphyr_scanner.proofs.Json.States.{queue_of, none_before}
 use Rattle.saphyr_scanner.proofs.Json.Marks.{chain, kinds, kinds_append, level_of}
 use Rattle.saphyr_scanner.proofs.Json.Brackets.{place_of}
 use Rattle.saphyr_scanner.proofs.InFlow.States.{Around, core_at, state_at, drops, left_in_flow, behind_key, starts, opens, closes, deepened}
-use Rattle.saphyr_scanner.proofs.InFlow.OnLine.{separation_of_blanks}
+use Rattle.saphyr_scanner.proofs.InFlow.ScalarsOnLine.{separation_of_blanks}
 use Rattle.saphyr_scanner.proofs.InFlow.KeyLines.{Ready, keeps}
 use Rattle.saphyr_scanner.proofs.InFlow.KeyTokens.{InKey, in_near, in_back, in_right, in_limit, in_so, Along}
 use Rattle.saphyr_scanner.proofs.InFlow.KeyScalars.{colon_ink, colon_text, behind}
 use Rattle.saphyr_scanner.proofs.Flow.States.{moved, past, IsParted}
 use Rattle.saphyr_scanner.proofs.Flow.Places.{moved_append, moved_index, clear_front}
-use Rattle.saphyr_scanner.proofs.Flow.Gaps.{past_ink}
+use Rattle.saphyr_scanner.proofs.Flow.GapSteps.{past_ink}
 use Rattle.saphyr_scanner.proofs.Flow.Fillers.{spaces_are_blank, separation_past, right_behind}
 use Rattle.saphyr_scanner.proofs.Flow.Arrivals.{arrives, begins_here, within_index}
 use Rattle.saphyr_scanner.proofs.Flow.Separates.{separates}

@@ -23,12 +23,12 @@ use Rattle.saphyr_scanner.specs.Grammar.Forest.{Style, Plain, SingleQuoted, Doub
 use Rattle.saphyr_scanner.specs.Grammar.FlowScalars.{IsPlain, IsPlainKey, IsQuoted, IsFlowScalar}
 use Rattle.saphyr_scanner.proofs.InFlow.States.{Around, core_at, least, behind_key}
 use Rattle.saphyr_scanner.proofs.InFlow.Tabs.{tabs_behind}
-use Rattle.saphyr_scanner.proofs.InFlow.OnLine.{separation_of_blanks}
+use Rattle.saphyr_scanner.proofs.InFlow.ScalarsOnLine.{separation_of_blanks}
 use Rattle.saphyr_scanner.proofs.InFlow.KeyLines.{Ready, token_led, ink_gap}
 use Rattle.saphyr_scanner.proofs.InFlow.KeyTokens.{InKey, in_near, in_back, in_right, in_limit, Along}
 use Rattle.saphyr_scanner.proofs.Flow.States.{moved, past, crosses, IsInk, Reads}
 use Rattle.saphyr_scanner.proofs.Flow.Places.{moved_index, clear_front}
-use Rattle.saphyr_scanner.proofs.Flow.Gaps.{past_ink}
+use Rattle.saphyr_scanner.proofs.Flow.GapSteps.{past_ink}
 use Rattle.saphyr_scanner.proofs.InBlock.Crossings.{spaces_uncrossed}
 use Rattle.saphyr_scanner.proofs.Flow.Fillers.{spaces_past, spaces_are_blank, blanks_past}
 use Rattle.saphyr_scanner.proofs.Flow.Arrivals.{PassesGap}

@@ -27,7 +27,7 @@ use Rattle.saphyr_scanner.proofs.Leads.{Leads}
 use Rattle.saphyr_scanner.proofs.Json.Marks.{chain, kinds, kinds_append}
 use Rattle.saphyr_scanner.proofs.Json.Brackets.{place_of}
 use Rattle.saphyr_scanner.proofs.InFlow.States.{Around, core_at, state_at, behind_key}
-use Rattle.saphyr_scanner.proofs.InFlow.OnLine.{front_on_line, back_on_line}
+use Rattle.saphyr_scanner.proofs.InFlow.ScalarsOnLine.{front_on_line, back_on_line}
 use Rattle.saphyr_scanner.proofs.InFlow.KeyLines.{IsNear, Ready, later_ready, token_led}
 use Rattle.saphyr_scanner.proofs.Flow.States.{moved, IsClear, Reads}
 use Rattle.saphyr_scanner.proofs.Flow.Places.{moved_append, moved_index, moved_along, clear_front, clear_back}

@@ -5,7 +5,8 @@ use Rattle.saphyr_input.specs.Classes.{is_blank, is_break}
 use Rattle.saphyr_scanner.specs.Grammar.Forest.{Node, Alias, Scalar, Seq, Map, Plain, SingleQuoted, DoubleQuoted, Literal, Folded, Nodes, NoNode, MoreNodes, Pairs, NoPair, MorePairs}
 use Rattle.saphyr_scanner.specs.Grammar.Json.{IsStructural, IsString, IsMemberName, IsValue, AreElements, AreOtherElements, AreMembers, AreOtherMembers}
 use Rattle.saphyr_scanner.proofs.Json.Words.{IsBehindValue}
-use Rattle.saphyr_scanner.proofs.Json.Firsts.{first_begins, value_begins}
+use Rattle.saphyr_scanner.proofs.Json.FirstTests.{first_begins}
+use Rattle.saphyr_scanner.proofs.Json.Firsts.{value_begins}
 use Rattle.saphyr_scanner.proofs.Json.States.{skip, skip_white, skip_none, IsClean}
 use Rattle.saphyr_scanner.proofs.Json.Quotes.{IsBehindQuotes}
 

@@ -1,6 +1,6 @@
 -- The numbers and literals of JSON are read.
 use Rattle.std.proofs.Common.{◌≡◌, ℕ, ◌+◌, ◌<◌, ◌≤◌, Bool, true, false, List, [], ◌∷◌, ◌++◌, length, slice_index, refl, sym, ap, ◌∙◌, arith, subst, encode_utf8_all, ◌⊎◌, inl, inr}
-use Rattle.std.specs.Prelude.{◌||◌, ◌&&◌, ◌==◌, not, nat_lt, Option}
+use Rattle.std.specs.Prelude.{◌&&◌, ◌==◌, not, nat_lt, Option}
 use Rattle.std.proofs.lemmas.Bool.Decides.{nat_tests}
 use Rattle.std.proofs.lemmas.List.{length-append}
 use Rattle.saphyr_input.specs.Classes.{IsDigit, is_blank_or_breakz}
@@ -19,7 +19,8 @@ use Rattle.saphyr_scanner.specs.Steps.Scalar.{read_plain, disallow_key, behind_p
 use Rattle.saphyr_scanner.specs.Steps.Fetch.{step}
 use Rattle.saphyr_scanner.specs.Grammar.Json.{IsWord, IsWhiteSpace}
 use Rattle.saphyr_scanner.proofs.Json.Words.{IsBehindValue, BeginsWord, word_begins}
-use Rattle.saphyr_scanner.proofs.Json.Firsts.{other_than_digit, BeginsNothingElse, first_begins, kind_is_first, word_value, digit_second, no_marker}
+use Rattle.saphyr_scanner.proofs.Json.FirstTests.{other_than_digit, BeginsNothingElse, first_begins}
+use Rattle.saphyr_scanner.proofs.Json.Firsts.{kind_is_first, word_value, digit_second, no_marker}
 use Rattle.saphyr_scanner.proofs.Json.ReadWords.{ReadsPlainWords, word_read}
 use Rattle.saphyr_scanner.proofs.Json.Gaps.{has_break}
 use Rattle.saphyr_scanner.proofs.Json.States.{skip, split, skip_none, skip_skip, IsClean, total, core_at, state_at, arrives, IsContent, one}

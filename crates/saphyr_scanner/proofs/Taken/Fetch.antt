@@ -1,7 +1,7 @@
 -- Each token that is fetched is taken from the text.
-use Rattle.std.proofs.Common.{◌≡◌, ◌≢◌, ℕ, ◌+◌, ◌-◌, ◌^◌, ◌≤◌, ◌<◌, Bool, true, false, List, [], ◌∷◌, length, Option, Some, None, Result, Ok, Err, refl, sym, ap, ◌∙◌, arith, subst, inl, inr, cond}
+use Rattle.std.proofs.Common.{◌≡◌, ℕ, ◌+◌, ◌-◌, ◌^◌, ◌≤◌, ◌<◌, Bool, true, false, List, [], ◌∷◌, length, None, Result, Ok, Err, refl, sym, ap, ◌∙◌, arith, subst, inl, inr, cond}
 use Rattle.std.specs.Prelude.{◌&&◌, ◌||◌, ◌==◌, slice_index, not, nat_lt, nat_le, codes}
-use Rattle.saphyr_input.specs.Classes.{is_z, is_bom, is_blank, is_break, is_blank_or_breakz, is_one_of}
+use Rattle.saphyr_input.specs.Classes.{is_z, is_bom, is_blank_or_breakz, is_one_of}
 use Rattle.saphyr_input.specs.Places.{is_document_start, is_document_end}
 use Rattle.saphyr_scalar.specs.declared.reading.block.BlockStyle.TheVariants as block_style
 use Rattle.saphyr_scalar.specs.declared.scalar.position.Marker.{Marker}
@@ -9,169 +9,35 @@ use Rattle.saphyr_scalar.specs.declared.scalar.fault.Refusal.{Refusal}
 use Rattle.saphyr_scalar.specs.Cursor.{Cursor, fresh, ◌>>=◌}
 use Rattle.saphyr_scanner.specs.declared.engine.level.Context.TheVariants as context
 use Rattle.saphyr_scanner.specs.Grammar.Tokens as tokens
-use Rattle.saphyr_scanner.specs.Grammar.Tokens.{Kind}
 use Rattle.saphyr_scanner.specs.Views.Tokens.{Piece}
 use Rattle.saphyr_scanner.specs.Steps.Queue.{Queue, closed, put, next, empty_piece}
-use Rattle.saphyr_scanner.specs.Steps.Core.{Candidate, Level, Core, Steps, perform, is_block, in_block, is_too_far, forget_key, drop_far_key, least_column}
-use Rattle.saphyr_scanner.specs.Steps.Passing.{pass_gap}
-use Rattle.saphyr_scanner.specs.Steps.State.{State, carried, changed, acted}
-use Rattle.saphyr_scanner.specs.Steps.Unrolling.{unroll, end_blocks, is_right_of, less_deep}
+use Rattle.saphyr_scanner.specs.Steps.Core.{Core, Steps, perform, in_block, is_too_far, forget_key, drop_far_key, least_column}
+use Rattle.saphyr_scanner.specs.Steps.State.{State, carried, acted}
+use Rattle.saphyr_scanner.specs.Steps.Unrolling.{unroll}
 use Rattle.saphyr_scanner.specs.Steps.Document as document
 use Rattle.saphyr_scanner.specs.Steps.Fetch.{step, content, fetch_here, arrive, fetch, begin, within, fetch_within, settled, is_value_adjacent}
 use Rattle.saphyr_scanner.specs.TokensTaken as taken
-use Rattle.saphyr_scanner.specs.TokensTaken.{AreApart, IsPassedOver, AreTokens, may_begin_plain}
-use Rattle.saphyr_scanner.proofs.Blocks.{none_ends, unrolled_cursor}
+use Rattle.saphyr_scanner.specs.TokensTaken.{AreTokens, may_begin_plain}
 use Rattle.saphyr_scanner.proofs.Leads.{flat}
 use Rattle.saphyr_scanner.proofs.Sizes.Steps.{Took}
 use Rattle.saphyr_scanner.proofs.Sizes.Scalars.{Readers}
 use Rattle.saphyr_scanner.proofs.Sizes.Fetch.{left, marker_takes, end_marker_takes, mark_takes, directive_takes, stepped, step_takes, arrived_kept}
 use Rattle.saphyr_scanner.proofs.Taken.Separated.{given_map}
-use Rattle.saphyr_scanner.proofs.Taken.Later.{top, LaterThan, later_later}
+use Rattle.saphyr_scanner.proofs.Taken.Later.{LaterThan}
 use Rattle.saphyr_scanner.proofs.Taken.Parts.{tokens_part}
-use Rattle.saphyr_scanner.proofs.Taken.Held.{Taken, taken_further, taken_put, Keys}
-use Rattle.saphyr_scanner.proofs.Taken.Cores.{Holds, HoldsStep, Alike, keys_of, keys_lesser, no_keys, quiet_put, behind_gap_of}
+use Rattle.saphyr_scanner.proofs.Taken.Held.{taken_put}
+use Rattle.saphyr_scanner.proofs.Taken.Cores.{Holds, HoldsStep, no_keys, quiet_put}
 use Rattle.saphyr_scanner.proofs.Taken.Flow.{open_sequence, open_mapping, close_sequence, close_mapping, sequence_starts, mapping_starts, start_holds, end_holds, entry_holds}
-use Rattle.saphyr_scanner.proofs.Taken.Values.{key_known, value_holds, flow_value_holds}
+use Rattle.saphyr_scanner.proofs.Taken.Values.{value_holds, flow_value_holds}
 use Rattle.saphyr_scanner.proofs.Taken.Blocks.{block_entry_holds, key_holds}
 use Rattle.saphyr_scanner.proofs.Taken.Scalars.{TextLaws, PlainStart, double_holds, single_holds, plain_holds, an_alias, an_anchor, name_holds, tag_holds}
-use Rattle.saphyr_scanner.proofs.Taken.States.{line_small, taken_later, key_stands, Live, Fetched, holds_fetched, FetchedStep, block_holds, TakenState, unroll_taken, blocks_levels}
+use Rattle.saphyr_scanner.proofs.Taken.States.{Live, Fetched, holds_fetched, FetchedStep, block_holds, TakenState}
 use Rattle.saphyr_scanner.proofs.Taken.Documents.{HoldsState, start_marking, marker_holds, end_marker_holds, mark_holds, directive_holds, end_fetched}
-use Rattle.saphyr_input.proofs.Basics.Booleans.{by_test, and_false}
+use Rattle.saphyr_input.proofs.Basics.Booleans.{by_test}
 use Rattle.saphyr_scalar.proofs.Given.{Given, given_bind, given_of}
-use Rattle.std.proofs.lemmas.Bool.{or_parts, and_parts, not-true, le-ltb, ltb-false, ne_eqb, eqb-true}
+use Rattle.std.proofs.lemmas.Bool.{or_parts, and_parts, not-true, ltb-false, ne_eqb, eqb-true}
 use Rattle.saphyr_scanner.proofs.Queues.{flat_append}
-
--- ## To where the next token begins
-
--- at NUL and at the end nothing is passed
-z_stays : (m : Marker) (t : List ℕ) (n : Marker) (u : List ℕ) → IsPassedOver m t n u → is_z (slice_index t 0) ≡ true
-    → u ≡ t
-z_stays _ _ _ _ (taken.nothing m t) z = refl
-z_stays _ _ _ _ (taken.blank m c t n u e p) z = absurd (let f : is_blank c ≡ false = ap is_blank (eqb-true c 0 z) in cc)
-z_stays _ _ _ _ (taken.line_break m t n u e p) z =
-    absurd (let f : is_break (slice_index t 0) ≡ false = ap is_break (eqb-true (slice_index t 0) 0 z) in cc)
-z_stays _ _ _ _ (taken.comment m words t n u a e p) z = absurd (cc)
-
-further_live : (c d : Core) (q : Queue) → Alike c d → AreApart c.cursor d.cursor → Live c q → Live d q
-further_live c d q a p h nz = by (is_z (slice_index c.cursor.rest 0)) refl
-  where
-    by : (b : Bool) → is_z (slice_index c.cursor.rest 0) ≡ b → Keys (next q) q d.indent (d.level ∷ d.outer)
-    by true z = absurd (let e =
-        z_stays c.cursor.mark c.cursor.rest d.cursor.mark d.cursor.rest p z in
-        let f : is_z (slice_index d.cursor.rest 0) ≡ true = ap (λ l. is_z (slice_index l 0)) e ∙ z in cc)
-    by false z = keys_of (next q) q c.indent d.indent c.level d.level c.outer d.outer a.indent a.level a.outer (h z)
-
-abbrev IsNear : Core → Type 0
-IsNear c = (in_block c && is_too_far c.level.key c.cursor.mark) ≡ false
-
-record Near (columns : List ℕ) (from : Cursor) (q : Queue) (c : Core) : Type 0 where
-  taken : Taken columns from c q
-  live : Live c q
-  near : IsNear c
-
-forgotten_live : (c : Core) (q : Queue) → Live c q → Live (forget_key c) q
-forgotten_live c q h nz =
-    keys_lesser (next q) q c.indent c.level (forget_key c).level c.outer (record { block = refl; key = inr refl })
-    (h nz)
-
-forgotten_taken : (columns : List ℕ) (from : Cursor) (c : Core) (q : Queue) → Taken columns from c q
-    → Taken columns from (forget_key c) q
-forgotten_taken columns from c q h = taken_further columns from c (forget_key c) q (taken.nothing _ _) refl refl h
-
-dropped_near : (columns : List ℕ) (from : Cursor) (q : Queue) (c : Core) → Taken columns from c q → Live c q
-    → Given (Near columns from q) (drop_far_key c)
-unfolding drop_far_key
-dropped_near columns from q c h l =
-    by_test (not (in_block c && is_too_far c.level.key c.cursor.mark)) _ _ (Given (Near columns from q))
-    (λ e. record { taken = h; live = l; near = not-true (in_block c && is_too_far c.level.key c.cursor.mark) e })
-    (λ _. by_test c.required _ _ (Given (Near columns from q)) (λ _. tt)
-    (λ _. record {
-      taken = forgotten_taken columns from c q h;
-      live =
-          forgotten_live c q l;
-      near = and_false (in_block c);
-    }))
-
-gapped : (columns : List ℕ) (from : Cursor) (q : Queue) (c : Core) → Taken columns from c q → Live c q
-    → Given (Near columns from q) (pass_gap c >>= drop_far_key)
-gapped columns from q c h l =
-    behind_gap_of (Near columns from q) c drop_far_key
-    (λ d a p. dropped_near columns from q d (taken_further columns from c d q p a.indent a.outer_indents h)
-    (further_live c d q a p l))
-
-line_near : (k : Candidate) (m : Marker) → is_too_far (Some k) m ≡ false → m.line ≤ k.mark.line
-line_near k m e = ltb-false k.mark.line m.line (first (nat_lt k.mark.line m.line) _ e)
-  where
-    first : (b x : Bool) → cond b true x ≡ false → b ≡ false
-    first false x f = refl
-    first true x f = absurd (cc)
-
--- where a key is a candidate no block collection ends
-unrolled_keys : (text : List ℕ) → length text < 2 ^ 63 → (columns : List ℕ) (from : Cursor) (q : Queue) (c : Core)
-    → LaterThan (fresh text) from → Near columns from q c → let t =
-    unroll (Some c.cursor.mark.col) c.cursor.mark (record { core = c; queue = q }) in Live t.core t.queue
-unfolding unroll
-unrolled_keys text small columns from q c l h nz =
-    let m = c.cursor.mark in
-    let s : State = record { core = c; queue = q } in
-    let P : State → Type 0 = λ t. Keys (next t.queue) t.queue t.core.indent (t.core.level ∷ t.core.outer) in
-    let z : is_z (slice_index c.cursor.rest 0) ≡ false = ap (λ (u : Cursor). is_z (slice_index u.rest 0))
-    (sym (unrolled_cursor (Some m.col) m s)) ∙ nz in
-    let keys = h.live z in
-    by_test (in_block c) (end_blocks (Some m.col) m c.outer_indents (changed (less_deep (Some m.col) c) s)) s P
-    (λ e. by c.level.key refl e keys) (λ _. keys)
-  where
-    by : (o : Option Candidate) → c.level.key ≡ o → in_block c ≡ true → Keys (next q) q c.indent (c.level ∷ c.outer)
-        → let t = end_blocks (Some c.cursor.mark.col) c.cursor.mark c.outer_indents
-        (changed (less_deep (Some c.cursor.mark.col) c) (record { core = c; queue = q })) in
-        Keys (next t.queue) t.queue t.core.indent (t.core.level ∷ t.core.outer)
-    by None i e keys =
-        let t : State = end_blocks (Some c.cursor.mark.col) c.cursor.mark c.outer_indents
-        (changed (less_deep (Some c.cursor.mark.col) c) (record { core = c; queue = q })) in
-        let v = blocks_levels (Some c.cursor.mark.col) c.cursor.mark c.outer_indents
-        (changed (less_deep (Some c.cursor.mark.col) c) (record { core = c; queue = q })) in
-        no_keys (next t.queue) t.queue t.core.indent t.core.level t.core.outer (ap (λ (y : Level). y.key) v.level ∙ i)
-        (v.outer ∙ keys.0 e)
-    by (Some k) i e keys =
-        let m = c.cursor.mark in
-        let s : State = changed (less_deep (Some m.col) c) (record { core = c; queue = q }) in
-        let known = key_known (next q) q (is_block c.level.context) c.indent c.level.key k c.outer i keys.1 keys.2 in
-        let from_small : from.mark.line ≤ top = (l.lines (omega arith)).1 in
-        let stands = key_stands columns from c q (next q) (is_block c.level.context) c.indent k from_small h.taken
-        known.0 in
-        let here = later_later (fresh text).mark text from.mark from.rest c.cursor.mark c.cursor.rest l
-        (taken_later columns from c q h.taken) in
-        let far : is_too_far (Some k) m ≡ false = ap (λ o. is_too_far o m) (sym i)
-        ∙ sym (ap (λ b. b && is_too_far c.level.key m) e) ∙ h.near in
-        let column : k.mark.col ≤ m.col = stands.later.columns stands.small (line_small text c.cursor small here)
-        (line_near k m far) in
-        let deep : c.indent ≤ k.mark.col + 1 = known.0.deep e in
-        let not_right : is_right_of (Some m.col) c.indent ≡ false = le-ltb m.col (c.indent - 1)
-        (omega (arith, column, deep)) in
-        let Q : State → Type 0 = λ t. Keys (next t.queue) t.queue t.core.indent (t.core.level ∷ t.core.outer) in
-        subst Q (sym (none_ends (Some m.col) m c.outer_indents s not_right)) keys
-
-pub record Arrived (columns : List ℕ) (from : Cursor) (t : State) : Type 0 where
-  pub taken : TakenState columns from t
-  pub live : Live t.core t.queue
-
-arrived : (text : List ℕ) → length text < 2 ^ 63 → (columns : List ℕ) (from : Cursor) (s : State)
-    → LaterThan (fresh text) from → TakenState columns from s → Live s.core s.queue
-    → Given (Arrived columns from) (arrive s)
-unfolding arrive
-arrived text small columns from s l h k = by (pass_gap s.core >>= drop_far_key) (gapped columns from s.queue s.core h k)
-  where
-    by : (r : Result Core Refusal) → Given (Near columns from s.queue) r
-        → Given (Arrived columns from)
-        (carried r s.queue >>= λ t. Ok (unroll (Some t.core.cursor.mark.col) t.core.cursor.mark t))
-    by (Ok d) n =
-        record {
-          taken = unroll_taken columns from (Some d.cursor.mark.col) d.cursor.mark
-              (record { core = d; queue = s.queue }) (inl refl) n.taken;
-          live =
-              unrolled_keys text small columns from s.queue d l n;
-        }
-    by (Err e) n = tt
+use Rattle.saphyr_scanner.proofs.Taken.Arrivals.{forgotten_live, forgotten_taken, Arrived, arrived}
 
 -- ## What begins there
 
