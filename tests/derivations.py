@@ -34,14 +34,14 @@ def is_marker(text):
 
 
 def folded(text):
-    """What a flow scalar reads as (Folding.antt): U+E003 is an escaped break's backslash, ESCAPED an escaped blank."""
+    """A folded flow scalar (Reading/Folding.antt): U+E003 is an escaped break's backslash, ESCAPED an escaped blank."""
     text = re.sub("\ue003[ \t\n]*", lambda it: ESCAPED[2] * (it[0].count("\n") - 1), text)
     text = re.sub("[ \t]*\n[ \t\n]*", lambda it: "\n" * (it[0].count("\n") - 1) or " ", text)
     return text.translate(str.maketrans(ESCAPED, " \t\n"))
 
 
 def block_value(folds, chomping, lines):
-    """The value of a block scalar's lines, of which the empty ones are None (BlockReading.antt)."""
+    """The value of a block scalar's lines, of which the empty ones are None (Reading/Block.antt)."""
     read, above, breaks = "", None, 0
     for line in lines:
         if line is not None:
@@ -88,7 +88,7 @@ class Derivation:
     def characters(self, among, least=0):
         return "".join(self.one_of(among) for _ in range(least + self.few()))
 
-    # ## Spaces.antt. `indent` is None where no line may end.
+    # ## Spelling/Spaces.antt. `indent` is None where no line may end.
     def comment(self):
         self.hits.append("comment")
         return "#" + self.characters(INK + " \t", self.few())
@@ -123,7 +123,7 @@ class Derivation:
         lines = [self.line_end(blanks) + self.filler(blanks=blanks) + " " * indent for _ in range(1 + self.few())]
         return "".join(lines) + self.characters(blanks)
 
-    # ## TagSpelling.antt and DirectiveSpelling.antt
+    # ## TagSpelling.antt, Spelling/Tag.antt and Spelling/Directive.antt
     def anchor_name(self, known="abc"):
         return self.characters(OPEN_INK, 1) if self.rarely(4) else self.one_of(known)
 
@@ -175,7 +175,7 @@ class Derivation:
             }.get(handle, "TAG" + blanks + handle + more + first + others + end) + self.filler()
         return text, prefixes
 
-    # ## FlowScalars.antt, PlainSpelling.antt, QuotedSpelling.antt and QuotedLines.antt
+    # ## FlowScalars.antt, Spelling/Plain.antt, Spelling/Quoted.antt and Spelling/QuotedLines.antt
     def word(self, in_flow, is_first):
         word = self.characters(OPEN_INK if in_flow else INK, 1).rstrip(":") or "a"
         word *= self.random.randrange(1, 1100) if self.rarely(500) else 1
@@ -282,7 +282,7 @@ class Derivation:
             text = node + (self.separation(line, needs_separation) if kind == "both" and not is_plain else "") + text
         return mark + text + self.separation(indent), key + value
 
-    # ## BlockNodes.antt and BlockSpelling.antt. A place is a kind and a column, which is -1 at the root.
+    # ## BlockNodes.antt and Spelling/Block.antt. A place is a kind and a column, which is -1 at the root.
     def block_node(self, place, behind):
         grows, indent = 3 * (self.fuel > 0), place[1] + 1
         starts = [(max(indent, 1) - 1 + digit, digit) for digit in range(1, 10)] + [(indent + it, 0) for it in range(9)]

@@ -6,7 +6,7 @@ use Rattle.saphyr_scalar.specs.declared.scalar.fault.FaultText.TheVariants as fa
 use Rattle.std.specs.Prelude.{if◌then◌else◌}
 use Rattle.saphyr_scalar.specs.declared.scalar.fault.Stop.{Stop}
 use Rattle.saphyr_scalar.specs.declared.scalar.fault.Stop.TheVariants as stop
-use Rattle.saphyr_scalar.specs.Seen.{Fails}
+use Rattle.saphyr_scalar.specs.Views.Reader.{Fails}
 use Rattle.saphyr_scanner.specs.Grammar.Tokens as tokens
 use Rattle.saphyr_scanner.specs.Grammar.Tokens.{Kind}
 use Rattle.saphyr_scanner.specs.Views.Tokens.{Piece, Remaining}

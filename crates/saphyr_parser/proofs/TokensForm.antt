@@ -6,8 +6,8 @@ use Rattle.saphyr_scalar.specs.declared.scalar.position.Span.{Span}
 use Rattle.saphyr_scalar.specs.declared.scalar.fault.Refusal.{Refusal}
 use Rattle.saphyr_scalar.specs.declared.scalar.style.ScalarStyle.{ScalarStyle}
 use Rattle.saphyr_scalar.specs.declared.scalar.style.ScalarStyle.TheVariants as style
-use Rattle.saphyr_scalar.specs.Cursor.{Cursor}
-use Rattle.saphyr_scalar.specs.TagSpelling.{IsHandleText, IsTagText}
+use Rattle.saphyr_scalar.specs.Views.Cursor.{Cursor}
+use Rattle.saphyr_scalar.specs.Spelling.Tag.{IsHandleText, IsTagText}
 use Rattle.saphyr_scanner.specs.Grammar.Forest.{Handle, Primary, Named, handle_text, handle_bytes, Tag, NonSpecific, Verbatim, Shorthand}
 use Rattle.saphyr_scanner.specs.Grammar.Tokens as tokens
 use Rattle.saphyr_scanner.specs.Grammar.Tokens.{Kind, tag_token}

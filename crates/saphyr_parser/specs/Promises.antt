@@ -1,7 +1,7 @@
 -- The promises on texts of JSON and of the layout grammar, and on all texts. Each is of a text and of a parser at its
 -- start.
 use Rattle.std.specs.Prelude.{◌≤◌, ℕ, Bool, List}
-use Rattle.saphyr_scalar.specs.Spaces.{IsLineRest}
+use Rattle.saphyr_scalar.specs.Spelling.Spaces.{IsLineRest}
 use Rattle.saphyr_scanner.specs.Grammar.Forest.{Forest, open_in_forest}
 use Rattle.saphyr_scanner.specs.Grammar.Json.{IsJson}
 use Rattle.saphyr_scanner.specs.Grammar.Layout.{most_open, IsLayoutText}

@@ -25,7 +25,7 @@ ghost use Rattle.saphyr_parser.specs.EventsTaken.{AreTaken, HasPlaceIn, IsOf};
 ghost use Rattle.saphyr_parser.specs.Premises.{DocumentMarker, GivesFirst, HasOneMeaning, IsClosed, MeanTheSame, ReadsClosed, ReadsEach, behind_marker};
 ghost use Rattle.saphyr_parser.specs.Promises.{IsShallowJson, ReadsClosedLayout, ReadsLayout, TakesEvents};
 ghost use Rattle.saphyr_scalar.specs.declared.scalar.position.Span.{Span};
-ghost use Rattle.saphyr_scalar.specs.Spaces.{IsLineRest};
+ghost use Rattle.saphyr_scalar.specs.Spelling.Spaces.{IsLineRest};
 ghost use Rattle.saphyr_scanner.specs.Grammar.Layout.{IsLayoutText, most_open};
 ghost use Rattle.saphyr_parser.specs.SpansWithin.{HasSpansIn};
 ghost use Rattle.saphyr_parser.specs.Begins.{BeginsSomeForest};

@@ -2,8 +2,8 @@
 use Rattle.std.proofs.Common.{◌≡◌, ℕ, List, drop, Result, Ok, Err, refl, sym, ap}
 use Rattle.saphyr_scalar.specs.declared.scalar.position.Marker.{Marker}
 use Rattle.saphyr_scalar.specs.declared.scalar.fault.Refusal.{Refusal}
-use Rattle.saphyr_scalar.specs.Cursor.{Cursor, ◌>>=◌, along}
-use Rattle.saphyr_scalar.specs.Quoted.{at}
+use Rattle.saphyr_scalar.specs.Views.Cursor.{Cursor, ◌>>=◌, along}
+use Rattle.saphyr_scalar.specs.Steps.Quoted.{at}
 
 abbrev pub Ends : Marker → List ℕ → ℕ → Result (ℕ × Cursor) Refusal → Type 0
 Ends m xs n r = (e : ℕ × Cursor) → r ≡ Ok e → e.1 ≡ at (along m n) (drop n xs)

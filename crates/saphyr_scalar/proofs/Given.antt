@@ -2,8 +2,8 @@
 use Rattle.std.proofs.Common.{◌≡◌, ℕ, Bool, List, Result, Ok, Err, refl, subst}
 use Rattle.saphyr_scalar.specs.declared.scalar.position.Marker.{Marker}
 use Rattle.saphyr_scalar.specs.declared.scalar.fault.Refusal.{Refusal}
-use Rattle.saphyr_scalar.specs.Cursor.{Cursor, ◌>>=◌}
-use Rattle.saphyr_scalar.specs.Quoted.{TextRead, at}
+use Rattle.saphyr_scalar.specs.Views.Cursor.{Cursor, ◌>>=◌}
+use Rattle.saphyr_scalar.specs.Steps.Quoted.{TextRead, at}
 
 -- what is given, if something is, has this property
 abbrev pub Given : {X : Type 0} → (X → Type 0) → Result X Refusal → Type 0

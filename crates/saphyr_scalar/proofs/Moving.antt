@@ -2,7 +2,7 @@
 use Rattle.std.proofs.Common.{◌≡◌, ℕ, ◌+◌, List, drop, Result, Ok, Err, refl, sym, ap, ◌∙◌, arith, add-zero}
 use Rattle.std.proofs.lemmas.List.{drop-drop}
 use Rattle.saphyr_scalar.specs.declared.scalar.position.Marker.{Marker}
-use Rattle.saphyr_scalar.specs.Cursor.{◌>>=◌, along}
+use Rattle.saphyr_scalar.specs.Views.Cursor.{◌>>=◌, along}
 
 pub along_none : (m : Marker) → along m 0 ≡ m
 along_none m = rw (add-zero m.index, add-zero m.col) refl

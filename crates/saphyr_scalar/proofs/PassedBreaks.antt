@@ -7,12 +7,12 @@ use Rattle.std.proofs.lemmas.List.{length-drop}
 use Rattle.saphyr_input.proofs.Basics.Lists.{shown}
 use Rattle.saphyr_input.specs.Classes.{is_break}
 use Rattle.saphyr_scalar.specs.declared.scalar.position.Marker.{Marker}
-use Rattle.saphyr_scalar.specs.LineBreaks.{ends_line}
-use Rattle.saphyr_scalar.specs.BlockScalar.{is_cr_lf, inside_break}
-use Rattle.saphyr_scalar.specs.Cursor.{Cursor, along, next_line, pass_break}
+use Rattle.saphyr_scalar.specs.Spelling.LineBreaks.{ends_line}
+use Rattle.saphyr_scalar.specs.Steps.Block.{is_cr_lf, inside_break}
+use Rattle.saphyr_scalar.specs.Views.Cursor.{Cursor, along, next_line, pass_break}
 use Rattle.saphyr_scalar.specs.Passing as passing
 use Rattle.saphyr_scalar.specs.Passing.{IsPassed}
-use Rattle.saphyr_scalar.specs.Quoted.{break_len}
+use Rattle.saphyr_scalar.specs.Steps.Quoted.{break_len}
 use Rattle.saphyr_input.proofs.Basics.Booleans.{and_true_left, and_true_right}
 
 -- what is passed from here on, and from a CR on that stands before, where an LF stands first

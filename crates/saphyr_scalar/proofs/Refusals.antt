@@ -6,11 +6,11 @@ use Rattle.saphyr_scalar.specs.declared.scalar.position.Marker.{Marker}
 use Rattle.saphyr_scalar.specs.declared.scalar.fault.Refusal.{Refusal}
 use Rattle.saphyr_scalar.specs.declared.scalar.tag.UriSet.{UriSet}
 use Rattle.saphyr_scalar.specs.declared.scalar.tag.UriSet.TheVariants.{Uri, Suffix}
-use Rattle.saphyr_scalar.specs.Cursor.{Cursor, ◌>>=◌, along, pass}
-use Rattle.saphyr_scalar.specs.Quoted.{with_front, with_run, at}
-use Rattle.saphyr_scalar.specs.Anchor as names
-use Rattle.saphyr_scalar.specs.Anchor.{anchor}
-use Rattle.saphyr_scalar.specs.Tag.{has, shows_byte, escaped_byte, utf8_width, leading_bits, is_trailing, is_encoded, trailing_byte, trailing_bytes, encoded, behind_leading, escape, uri_character, uri_tail, decoded, decoded_at, Parts, verbatim_end, verbatim, named_tag, named_tail, behind_word, shorthand, tag_end, tag}
+use Rattle.saphyr_scalar.specs.Views.Cursor.{Cursor, ◌>>=◌, along, pass}
+use Rattle.saphyr_scalar.specs.Steps.Quoted.{with_front, with_run, at}
+use Rattle.saphyr_scalar.specs.Steps.Anchor as names
+use Rattle.saphyr_scalar.specs.Steps.Anchor.{anchor}
+use Rattle.saphyr_scalar.specs.Steps.Tag.{has, shows_byte, escaped_byte, utf8_width, leading_bits, is_trailing, is_encoded, trailing_byte, trailing_bytes, encoded, behind_leading_byte, percent_escape, uri_character, uri_tail, decoded, decoded_at, Parts, verbatim_end, verbatim, named_tag, named_tail, behind_word, shorthand, tag_end, tag}
 use Rattle.saphyr_input.proofs.Basics.Booleans.{by_test}
 
 -- what is refused, if anything is, has this property
@@ -40,7 +40,7 @@ RefusedAt start r = Refused (λ e. e.mark ≡ start) r
 -- ## Anchors
 
 pub anchor_refused : (s : Cursor) → RefusedAt s.mark (anchor s)
-unfolding anchor names.name_of
+unfolding anchor names.anchor_name_of
 anchor_refused s = by_test (length (with_run is_anchor_char [] (pass 1 s)).0 == 0) _ _ (RefusedAt s.mark) (λ _. refl)
     (λ _. tt)
 
@@ -63,8 +63,8 @@ bytes_refused start (suc n) v s =
     refused_bind (λ e. e.mark ≡ start) (trailing_byte start v s) _ (trailing_refused start v s)
     (λ x e. bytes_refused start n x.0 x.1)
 
-leading_refused : (start : Marker) (b : ℕ) (s : Cursor) → RefusedAt start (behind_leading start b s)
-unfolding behind_leading encoded
+leading_refused : (start : Marker) (b : ℕ) (s : Cursor) → RefusedAt start (behind_leading_byte start b s)
+unfolding behind_leading_byte encoded
 leading_refused start b s =
     by_test (utf8_width b == 0) _ _ (RefusedAt start) (λ _. refl)
     (λ _. refused_bind (λ e. e.mark ≡ start) (trailing_bytes start (utf8_width b - 1) (leading_bits b) s) _
@@ -72,7 +72,7 @@ leading_refused start b s =
     (λ x e. by_test (is_encoded (utf8_width b) x.0) _ _ (RefusedAt start) (λ _. tt) (λ _. refl)))
 
 pub character_refused : (start : Marker) (s : Cursor) → RefusedAt start (uri_character start s)
-unfolding uri_character escape
+unfolding uri_character percent_escape
 character_refused start s =
     by_test (slice_index s.rest 0 == 37) _ _ (RefusedAt start)
     (λ _. refused_bind (λ e. e.mark ≡ start) (escaped_byte start s) _ (byte_refused start s)

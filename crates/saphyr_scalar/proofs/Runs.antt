@@ -3,10 +3,10 @@ use Rattle.std.proofs.Common.{◌≡◌, ℕ, suc, ◌+◌, Bool, false, List, [
 use Rattle.std.specs.List.{prefix_len}
 use Rattle.std.proofs.Math.Seq.{take-append_seam, drop-append_seam}
 use Rattle.saphyr_input.proofs.Runs.{run_stops}
-use Rattle.saphyr_scalar.specs.TagSpelling.{AreIn}
+use Rattle.saphyr_scalar.specs.Spelling.Tag.{AreIn}
 use Rattle.saphyr_scalar.specs.declared.scalar.position.Marker.{Marker}
-use Rattle.saphyr_scalar.specs.Cursor.{along, pass}
-use Rattle.saphyr_scalar.specs.Quoted.{at, with_run}
+use Rattle.saphyr_scalar.specs.Views.Cursor.{along, pass}
+use Rattle.saphyr_scalar.specs.Steps.Quoted.{at, with_run}
 use Rattle.saphyr_input.proofs.Basics.Booleans.{by_test}
 use Rattle.saphyr_scalar.proofs.Given.{together}
 

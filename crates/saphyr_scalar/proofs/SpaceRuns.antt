@@ -10,10 +10,10 @@ use Rattle.saphyr_input.proofs.WordRuns.{run_ends}
 use Rattle.saphyr_scalar.specs.declared.scalar.position.Marker.{Marker}
 use Rattle.saphyr_scalar.specs.declared.scalar.block.lines.EmptyLines.{EmptyLines}
 use Rattle.saphyr_scalar.specs.declared.reading.flow.Quote.{Quote}
-use Rattle.saphyr_scalar.specs.Cursor.{Cursor, along, pass_spaces}
-use Rattle.saphyr_scalar.specs.Plain.{lines}
-use Rattle.saphyr_scalar.specs.Quoted.{at, over_lines, inside, inside_at}
-use Rattle.saphyr_scalar.specs.BlockScalar.{is_indentation, indentation_left, empty_lines, empty_lines_at}
+use Rattle.saphyr_scalar.specs.Views.Cursor.{Cursor, along, pass_spaces}
+use Rattle.saphyr_scalar.specs.Steps.Plain.{lines}
+use Rattle.saphyr_scalar.specs.Steps.Quoted.{at, over_lines, inside, inside_at}
+use Rattle.saphyr_scalar.specs.Steps.Block.{is_indentation, indentation_left, pass_empty_lines, pass_empty_lines_at}
 use Rattle.saphyr_scalar.proofs.Moving.{along_none, along_more}
 use Rattle.saphyr_scalar.proofs.Plain.Lines.{lines_blank}
 use Rattle.saphyr_scalar.proofs.Quoted.Lines.{line_blank}
@@ -101,10 +101,10 @@ fits_left (Some limit) m xs = omega arith
 
 pub empty_over : (limit : Option ℕ) (lines : EmptyLines) (left : ℕ) (s u : Cursor)
     → left ≡ indentation_left limit s.mark.col → u ≡ pass_spaces left s
-    → empty_lines_at limit lines u ≡ empty_lines_at limit lines s
+    → pass_empty_lines_at limit lines u ≡ pass_empty_lines_at limit lines s
 empty_over limit lines left s u room e =
-    ap (empty_lines_at limit lines) (e ∙ ap (λ n. pass_spaces n s) room)
-    ∙ over_run (empty_lines limit lines s.blank_so_far) (Fits limit) (fits_next limit)
+    ap (pass_empty_lines_at limit lines) (e ∙ ap (λ n. pass_spaces n s) room)
+    ∙ over_run (pass_empty_lines limit lines s.blank_so_far) (Fits limit) (fits_next limit)
     (λ m n cs f. sym (space_on limit lines s.blank_so_far m 32 cs (indented limit m n f)))
     s.mark (spaces_within (indentation_left limit s.mark.col) s.rest) s.rest (fits_left limit s.mark s.rest)
     (few (indentation_left limit s.mark.col) s.rest)

@@ -6,15 +6,15 @@ use Rattle.std.proofs.lemmas.List.{length-append}
 use Rattle.saphyr_input.specs.Classes.{is_bom, is_blank, is_break, is_z, is_flow}
 use Rattle.saphyr_input.specs.Places.{next_2_are, is_document_indicator, is_blank_or_break}
 use Rattle.saphyr_scalar.specs.declared.scalar.position.Marker.{Marker}
-use Rattle.saphyr_scalar.specs.Cursor.{Cursor, refuse, pass, pass_break, along}
+use Rattle.saphyr_scalar.specs.Views.Cursor.{Cursor, refuse, pass, pass_break, along}
 use Rattle.saphyr_scalar.specs.declared.scalar.fault.FaultText.TheVariants as fault
 use Rattle.saphyr_input.specs.Breaks.{normalized}
 use Rattle.saphyr_scalar.specs.declared.reading.flow.Quote.{Quote}
 use Rattle.saphyr_scalar.specs.declared.reading.flow.Quote.TheVariants.{Single, Double}
-use Rattle.saphyr_scalar.specs.FlowReading as flow
-use Rattle.saphyr_scalar.specs.Quoted.{at, quoted}
+use Rattle.saphyr_scalar.specs.Reading.Flow as flow
+use Rattle.saphyr_scalar.specs.Steps.Quoted.{at, quoted}
 use Rattle.saphyr_scalar.proofs.Quoted.Pieces.{quoted_reading}
-use Rattle.saphyr_scalar.specs.Plain.{Gap, lines, reached, may_stand, at_line, next_lines, gap_from, gap, goes_on, word_starts, in_word, between, word, plain, gap_len}
+use Rattle.saphyr_scalar.specs.Steps.Plain.{PlainGap, lines, reached, may_stand, at_line, next_lines, gap_from, gap, goes_on, word_starts, in_word, between, word, plain, gap_len}
 use Rattle.saphyr_input.proofs.Basics.Booleans.{by_test}
 use Rattle.saphyr_input.proofs.Basics.Lists.{drop_shorter}
 use Rattle.saphyr_scalar.proofs.Given.{Given, given_bind, given_of, bind_ok}
@@ -27,7 +27,7 @@ break_shorter s =
 
 -- ## Plain scalars
 
-abbrev GapWithin : ℕ → Gap → Type 0
+abbrev GapWithin : ℕ → PlainGap → Type 0
 GapWithin n g = length g.behind.rest ≤ n
 
 reached_within : (n : ℕ) (start : Marker) (tabbed : Bool) (feeds : List ℕ) (s : Cursor) → length s.rest ≤ n
@@ -73,7 +73,7 @@ Within n x = length x.3.rest ≤ n
 mutual
   unfolding between word
 
-  between_within : (n : ℕ) (in_flow : Bool) (indent : ℕ) (start end : Marker) (g : Gap) (left : ℕ) (t : List ℕ)
+  between_within : (n : ℕ) (in_flow : Bool) (indent : ℕ) (start end : Marker) (g : PlainGap) (left : ℕ) (t : List ℕ)
       → length g.behind.rest ≤ n → length t ≤ n → Given (Within n) (between in_flow indent start end g left t)
   between_within n in_flow indent start end g left [] h k = h
   between_within n in_flow indent start end g zero (c ∷ cs) h k =
@@ -92,7 +92,8 @@ mutual
   word_within n in_flow indent start m (c ∷ cs) h =
       let k : length cs ≤ n = omega (arith, h) in
       let others = word_within n in_flow indent start (along m 1) cs k in
-      let behind = λ (g : Gap) (left : ℕ) (q : length g.behind.rest ≤ n). between_within n in_flow indent start m g left
+      let behind = λ (g : PlainGap) (left : ℕ)
+          (q : length g.behind.rest ≤ n). between_within n in_flow indent start m g left
       cs q k in
       by_test (in_word in_flow (c ∷ cs)) _ _ (Given (Within n))
       (λ _. given_bind (Within n) (word in_flow indent start (along m 1) cs) _

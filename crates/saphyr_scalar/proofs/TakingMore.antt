@@ -12,14 +12,14 @@ use Rattle.saphyr_scalar.specs.declared.scalar.position.Marker.{Marker}
 use Rattle.saphyr_scalar.specs.declared.scalar.position.Span.{Span}
 use Rattle.saphyr_scalar.specs.declared.scalar.block.header.BlockHeader.{BlockHeader}
 use Rattle.saphyr_scalar.specs.declared.scalar.block.lines.EmptyLines.{EmptyLines}
-use Rattle.saphyr_scalar.specs.Cursor.{Cursor, along, next_line, pass, pass_blanks, pass_break, behind_separation, separation}
-use Rattle.saphyr_scalar.specs.Quoted.{at}
-use Rattle.saphyr_scalar.specs.BlockScalar.{chomping, indicator, header_break, header_end, last_chomping, header_behind, header, is_indentation, is_cr_lf, empty_lines, line_starts, LinesRead, between, line, chomped, content, behind_leading, given_indentation, no_lines, behind_header, block_scalar}
-use Rattle.saphyr_scalar.specs.Anchor.{anchor}
-use Rattle.saphyr_scalar.specs.Tag.{tag}
-use Rattle.saphyr_scalar.specs.TagSpelling.{IsHandleText, IsTagText}
-use Rattle.saphyr_scalar.specs.Directive.{Directive, version, tag_prefix, reserved, directive}
-use Rattle.saphyr_scalar.specs.DirectiveSpelling.{IsReadDirective}
+use Rattle.saphyr_scalar.specs.Views.Cursor.{Cursor, along, next_line, pass, pass_blanks, pass_break, behind_separation, separation}
+use Rattle.saphyr_scalar.specs.Steps.Quoted.{at}
+use Rattle.saphyr_scalar.specs.Steps.Block.{chomping, indicator, header_break, header_end, last_chomping, header_behind, header, is_indentation, is_cr_lf, pass_empty_lines, line_starts, LinesRead, between, line, chomped_lines, content, behind_leading_lines, given_indentation, no_lines, behind_header, block_scalar}
+use Rattle.saphyr_scalar.specs.Steps.Anchor.{anchor}
+use Rattle.saphyr_scalar.specs.Steps.Tag.{tag}
+use Rattle.saphyr_scalar.specs.Spelling.Tag.{IsHandleText, IsTagText}
+use Rattle.saphyr_scalar.specs.Steps.Directive.{Directive, version, tag_prefix, reserved, directive}
+use Rattle.saphyr_scalar.specs.Spelling.Directive.{IsReadDirective}
 use Rattle.saphyr_scalar.proofs.Properties.AnchorsRead.{spells_anchor}
 use Rattle.saphyr_scalar.proofs.Properties.TagsSpelled.{spells_tag}
 use Rattle.saphyr_scalar.proofs.Directives.Spelled.{spells_directive}
@@ -99,8 +99,8 @@ header_within n s h =
     (last_within n first.0 x.1 (given_of (Behind ℕ n) (indicator s.mark first.1) x given e)))
 
 empty_within : (n : ℕ) (limit : Option ℕ) (before : EmptyLines) (b : Bool) (m : Marker) (t : List ℕ) → length t ≤ n
-    → length (empty_lines limit before b m t).1.rest ≤ n
-unfolding empty_lines
+    → length (pass_empty_lines limit before b m t).1.rest ≤ n
+unfolding pass_empty_lines
 empty_within n limit before b m [] h = h
 empty_within n limit before b m (c ∷ cs) h =
     let k : length cs ≤ n = omega (arith, h) in
@@ -143,15 +143,15 @@ ScalarWithin n x = length x.2.rest ≤ n
 
 content_within : (n : ℕ) (style : BlockStyle) (c : Chomping) (indent i lines : ℕ) (s : Cursor) → length s.rest ≤ n
     → Given (ScalarWithin n) (content style c indent i lines s)
-unfolding content chomped
+unfolding content chomped_lines
 content_within n style c indent i lines s h =
     let read = between_within n style i None lines s.blank_so_far s.mark s.rest h in
     by_test (nat_lt s.mark.col i && nat_le indent s.mark.col) _ _ (Given (ScalarWithin n)) (λ _. tt) (λ _. read)
 
 leading_within : (n : ℕ) (style : BlockStyle) (indent : ℕ) (start : Marker) (c : Chomping) (limit : Option ℕ)
     (x : EmptyLines × Cursor) → length x.1.rest ≤ n
-    → Given (ScalarWithin n) (behind_leading style indent start c limit x)
-unfolding behind_leading
+    → Given (ScalarWithin n) (behind_leading_lines style indent start c limit x)
+unfolding behind_leading_lines
 leading_within n style indent start c limit x h =
     by_test (is_z (slice_index x.1.rest 0)) _ _ (Given (ScalarWithin n)) (λ _. h)
     (λ _. content_within n style c indent (unwrap_or limit (max x.0.widest indent)) x.0.count x.1 h)
@@ -162,7 +162,7 @@ unfolding behind_header
 scalar_within n style indent start x h =
     let limit = given_indentation indent x.0.indicator in
     leading_within n style indent start x.0.chomping limit
-    (empty_lines limit no_lines x.1.blank_so_far x.1.mark x.1.rest)
+    (pass_empty_lines limit no_lines x.1.blank_so_far x.1.mark x.1.rest)
     (empty_within n limit no_lines x.1.blank_so_far x.1.mark x.1.rest h)
 
 block_within : (n : ℕ) (style : BlockStyle) (indent : ℕ) (s : Cursor) → length (drop 1 s.rest) ≤ n

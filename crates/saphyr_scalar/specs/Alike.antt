@@ -9,13 +9,13 @@ use Rattle.saphyr_scalar.specs.declared.scalar.position.Span.{Span}
 use Rattle.saphyr_scalar.specs.declared.scalar.fault.Refusal.{Refusal}
 use Rattle.saphyr_scalar.specs.declared.reading.flow.Quote.{Quote}
 use Rattle.saphyr_scalar.specs.declared.reading.block.BlockStyle.{BlockStyle}
-use Rattle.saphyr_scalar.specs.Cursor.{Cursor, separation, pass_break, pass_comment, pass_byte_order_mark}
-use Rattle.saphyr_scalar.specs.Quoted.{quoted}
-use Rattle.saphyr_scalar.specs.Plain.{plain}
-use Rattle.saphyr_scalar.specs.BlockScalar.{block_scalar}
-use Rattle.saphyr_scalar.specs.Tag.{tag}
-use Rattle.saphyr_scalar.specs.Anchor.{anchor}
-use Rattle.saphyr_scalar.specs.Directive.{Directive, directive}
+use Rattle.saphyr_scalar.specs.Views.Cursor.{Cursor, separation, pass_break, pass_comment, pass_byte_order_mark}
+use Rattle.saphyr_scalar.specs.Steps.Quoted.{quoted}
+use Rattle.saphyr_scalar.specs.Steps.Plain.{plain}
+use Rattle.saphyr_scalar.specs.Steps.Block.{block_scalar}
+use Rattle.saphyr_scalar.specs.Steps.Tag.{tag}
+use Rattle.saphyr_scalar.specs.Steps.Anchor.{anchor}
+use Rattle.saphyr_scalar.specs.Steps.Directive.{Directive, directive}
 
 -- A place of the text and one of the normalized text: on the same line, in the same column, and what stands behind the
 -- first is, normalized, what stands behind the second.

@@ -1,8 +1,8 @@
 -- Passing over a text: the place behind each character, and behind each line break (YAML 1.2.2, 5.4).
 use Rattle.std.specs.Prelude.{ℕ, List, ◌∷◌, drop, slice_index, IsTrue, IsFalse}
 use Rattle.saphyr_input.specs.Classes.{is_break}
-use Rattle.saphyr_scalar.specs.Cursor.{along, next_line}
-use Rattle.saphyr_scalar.specs.LineBreaks.{break_len}
+use Rattle.saphyr_scalar.specs.Views.Cursor.{along, next_line}
+use Rattle.saphyr_scalar.specs.Spelling.LineBreaks.{break_len}
 use Rattle.saphyr_scalar.specs.declared.scalar.position.Marker.{Marker}
 
 -- from a place and what stands there to a later place and what stands behind

@@ -3,8 +3,8 @@ use Rattle.std.proofs.Common.{◌≡◌, ◌≢◌, ℕ, ◌⊎◌, Bool, true, 
 use Rattle.std.specs.Prelude.{◌==◌, not}
 use Rattle.saphyr_input.specs.Classes.{is_blank}
 use Rattle.saphyr_input.proofs.Basics.Booleans.{clash}
-use Rattle.saphyr_scalar.specs.TagSpelling.{AreIn}
-use Rattle.saphyr_scalar.specs.Spaces.{joined, AreEach, IsFillerText, IsFillerLine, IsFiller}
+use Rattle.saphyr_scalar.specs.Spelling.Tag.{AreIn}
+use Rattle.saphyr_scalar.specs.Spelling.Spaces.{joined, AreEach, IsFillerText, IsFillerLine, IsFiller}
 
 abbrev pub behind_first : List ℕ → List ℕ
 behind_first [] = []

@@ -8,9 +8,9 @@ use Rattle.saphyr_input.specs.declared.input.SkipTabs.{SkipTabs}
 use Rattle.saphyr_input.specs.Separation.{separation_len, is_bare_comment}
 use Rattle.saphyr_scalar.specs.declared.scalar.position.Marker.{Marker}
 use Rattle.saphyr_scalar.specs.declared.scalar.fault.Refusal.{Refusal}
-use Rattle.saphyr_scalar.specs.Cursor.{Cursor, along, next_line, pass_blanks, pass_line, pass_break, separation, behind_separation}
+use Rattle.saphyr_scalar.specs.Views.Cursor.{Cursor, along, next_line, pass_blanks, pass_line, pass_break, separation, behind_separation}
 use Rattle.saphyr_scalar.specs.Passing.{IsPassed, nothing, character, line_break}
-use Rattle.saphyr_scalar.specs.Quoted.{break_len}
+use Rattle.saphyr_scalar.specs.Steps.Quoted.{break_len}
 use Rattle.saphyr_scalar.proofs.Lengths.{two_shown, separation_within}
 use Rattle.saphyr_scanner.specs.Steps.Gap.{gap, comment, stop, Passed, is_tab_indentation, Spaced, spaces, line_comment}
 use Rattle.saphyr_input.proofs.Basics.Lists.{shown}

@@ -2,7 +2,7 @@
 use Rattle.std.proofs.Common.{◌≡◌, ℕ, zero, suc, ◌<◌, Bool, true, false, Result, Ok, Err, refl, sym, ◌∙◌, arith, subst}
 use Rattle.std.specs.Prelude.{◌&&◌, not}
 use Rattle.saphyr_scalar.specs.declared.scalar.fault.Refusal.{Refusal}
-use Rattle.saphyr_scalar.specs.Cursor.{◌>>=◌}
+use Rattle.saphyr_scalar.specs.Views.Cursor.{◌>>=◌}
 use Rattle.saphyr_scanner.specs.Steps.Core.{Core, in_block, is_too_far, drop_far_key, forget_key}
 use Rattle.saphyr_scanner.specs.Steps.State.{State, carried}
 use Rattle.saphyr_scanner.specs.Steps.Fetch.{size, fetch_within, settled, needs_token, is_ready, fill_in, fill}

@@ -5,7 +5,7 @@ use Rattle.std.specs.List.{prefix_len}
 use Rattle.std.proofs.lemmas.Bool.Decides.{nat_tests}
 use Rattle.saphyr_input.specs.Classes.{is_blank, is_break, is_yaml_non_break}
 use Rattle.saphyr_scalar.specs.declared.scalar.position.Marker.{Marker}
-use Rattle.saphyr_scalar.specs.Cursor.{Cursor, along, pass_comment}
+use Rattle.saphyr_scalar.specs.Views.Cursor.{Cursor, along, pass_comment}
 use Rattle.saphyr_scalar.specs.declared.scalar.fault.Refusal.{Refusal}
 use Rattle.saphyr_scanner.specs.Steps.Gap.{Passed, stop, gap, comment, gap_at, pass_gap, Spaced, spaces, line_comment, spaces_at}
 use Rattle.saphyr_scalar.proofs.Moving.{along_none}

@@ -9,9 +9,9 @@ use Rattle.saphyr_input.specs.declared.input.SkipTabs.{SkipTabs}
 use Rattle.saphyr_input.specs.declared.input.SkipTabs.TheVariants.{Yes}
 use Rattle.saphyr_input.specs.Separation.{blank_len, comment_len, separation_len, is_bare_comment}
 use Rattle.saphyr_scalar.specs.declared.scalar.position.Marker.{Marker}
-use Rattle.saphyr_scalar.specs.Cursor.{Cursor, along, pass_blanks, separation, behind_separation}
-use Rattle.saphyr_scalar.specs.DirectiveSpelling.{IsTailComment, IsLineTail}
-use Rattle.saphyr_scalar.specs.TagSpelling.{AreIn}
+use Rattle.saphyr_scalar.specs.Views.Cursor.{Cursor, along, pass_blanks, separation, behind_separation}
+use Rattle.saphyr_scalar.specs.Spelling.Directive.{IsTailComment, IsLineTail}
+use Rattle.saphyr_scalar.specs.Spelling.Tag.{AreIn}
 use Rattle.saphyr_scalar.proofs.Moving.{along_none, along_more, drop_more}
 use Rattle.saphyr_scalar.proofs.Runs.{run_is_in}
 use Rattle.saphyr_scalar.proofs.Properties.TagsSpelled.{cut_at}

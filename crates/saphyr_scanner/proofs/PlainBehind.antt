@@ -5,16 +5,16 @@ use Rattle.saphyr_input.specs.Classes.{is_break, is_blank, is_bom, is_z, tab}
 use Rattle.saphyr_input.specs.Places.{is_blank_or_break}
 use Rattle.saphyr_scalar.specs.declared.scalar.position.Marker.{Marker}
 use Rattle.saphyr_scalar.specs.declared.scalar.fault.Refusal.{Refusal}
-use Rattle.saphyr_scalar.specs.Cursor.{Cursor, ◌>>=◌, along, next_line, pass_break}
-use Rattle.saphyr_scalar.specs.Plain.{Gap, Reading, plain, word_starts, word, between, goes_on, gap, gap_from, gap_len, in_word, lines, reached, may_stand, ends_line, ended, comment_of, with_text, at_line}
-use Rattle.saphyr_scalar.specs.Quoted.{at}
+use Rattle.saphyr_scalar.specs.Views.Cursor.{Cursor, ◌>>=◌, along, next_line, pass_break}
+use Rattle.saphyr_scalar.specs.Steps.Plain.{PlainGap, PlainScalarRead, plain, word_starts, word, between, goes_on, gap, gap_from, gap_len, in_word, lines, reached, may_stand, ends_line, scalar_ended, comment_of, with_text, at_line}
+use Rattle.saphyr_scalar.specs.Steps.Quoted.{at}
 use Rattle.saphyr_input.proofs.Basics.Booleans.{by_test, or_false_right}
 use Rattle.saphyr_scalar.proofs.Given.{Given}
 
 abbrev pub Stops : Cursor → Type 0
 Stops s = is_break (slice_index s.rest 0) ≡ false
 
-abbrev StopsGap : Gap → Type 0
+abbrev StopsGap : PlainGap → Type 0
 StopsGap g = Stops g.behind
 
 abbrev pub IsNoted : Option Marker → Cursor → Type 0
@@ -59,7 +59,7 @@ gap_stops indent start blanks s =
     (lines_stop indent start false [] t.mark t.rest) (λ g h. h))
     (λ e. e)
 
-ended_ends : (in_flow : Bool) (end : Marker) (g : Gap) → StopsGap g → Given Ends (ended in_flow end g)
+ended_ends : (in_flow : Bool) (end : Marker) (g : PlainGap) → StopsGap g → Given Ends (scalar_ended in_flow end g)
 unfolding comment_of
 ended_ends in_flow end g h = (
   by_test (not in_flow && (slice_index g.behind.rest 0 == 35) && (g.tabbed || not g.behind.blank_so_far))
@@ -67,7 +67,7 @@ ended_ends in_flow end g h = (
   h,
 )
 
-text_ends : (text : List ℕ) (r : Reading) → Given Ends r → Given Ends (with_text text r)
+text_ends : (text : List ℕ) (r : PlainScalarRead) → Given Ends r → Given Ends (with_text text r)
 text_ends text (Ok x) h = h
 text_ends text (Err e) h = tt
 
@@ -78,7 +78,7 @@ any (Err e) = tt
 mutual
   unfolding between word gap
 
-  between_ends : (in_flow : Bool) (indent : ℕ) (start end : Marker) (g : Gap) (left : ℕ) (xs : List ℕ) → StopsGap g
+  between_ends : (in_flow : Bool) (indent : ℕ) (start end : Marker) (g : PlainGap) (left : ℕ) (xs : List ℕ) → StopsGap g
       → Given Ends (between in_flow indent start end g left xs)
   between_ends in_flow indent start end g left [] h = ended_ends in_flow end g h
   between_ends in_flow indent start end g zero (c ∷ cs) h =

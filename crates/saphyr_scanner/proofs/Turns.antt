@@ -3,7 +3,7 @@ use Rattle.std.proofs.Common.{◌≡◌, ℕ, suc, ◌+◌, Bool, true, false, L
 use Rattle.std.specs.Prelude.{◌&&◌, not, Option, Some, None, option_map}
 use Rattle.saphyr_scalar.specs.declared.scalar.fault.Stop.{Stop}
 use Rattle.saphyr_scalar.specs.declared.scalar.fault.Stop.TheVariants as stops
-use Rattle.saphyr_scalar.specs.Seen.{Fails, Moves}
+use Rattle.saphyr_scalar.specs.Views.Reader.{Fails, Moves}
 use Rattle.saphyr_scanner.specs.declared.token.Token.{Token}
 use Rattle.saphyr_scanner.specs.declared.queue.Opening.{Opening}
 use Rattle.saphyr_scanner.specs.declared.queue.Opening.TheVariants as opening

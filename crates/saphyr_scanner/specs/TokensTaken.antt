@@ -14,17 +14,17 @@ use Rattle.saphyr_scalar.specs.declared.reading.flow.Quote.{Quote}
 use Rattle.saphyr_scalar.specs.declared.reading.flow.Quote.TheVariants.{Single, Double}
 use Rattle.saphyr_scalar.specs.declared.reading.block.BlockStyle.{BlockStyle}
 use Rattle.saphyr_scalar.specs.declared.reading.block.BlockStyle.TheVariants as block_style
-use Rattle.saphyr_scalar.specs.Cursor.{Cursor, fresh, along, next_line}
+use Rattle.saphyr_scalar.specs.Views.Cursor.{Cursor, fresh, along, next_line}
 use Rattle.saphyr_scalar.specs.Passing.{IsPassed}
-use Rattle.saphyr_scalar.specs.LineBreaks.{break_len}
-use Rattle.saphyr_scalar.specs.Folding.{folded}
-use Rattle.saphyr_scalar.specs.QuotedMarkers.{HasNoMarker}
-use Rattle.saphyr_scalar.specs.QuotedSpelling.{IsQuotedText}
-use Rattle.saphyr_scalar.specs.PlainReading.{IsPlainReading}
-use Rattle.saphyr_scalar.specs.BlockText.{IsBlockText}
-use Rattle.saphyr_scalar.specs.TagSpelling.{AreIn, IsAnchorName, IsTagText}
-use Rattle.saphyr_scalar.specs.Directive.{Directive, version, tag_prefix, reserved}
-use Rattle.saphyr_scalar.specs.DirectiveSpelling.{IsReadDirective, IsLineTail}
+use Rattle.saphyr_scalar.specs.Spelling.LineBreaks.{break_len}
+use Rattle.saphyr_scalar.specs.Reading.Folding.{folded}
+use Rattle.saphyr_scalar.specs.Spelling.QuotedMarkers.{HasNoMarker}
+use Rattle.saphyr_scalar.specs.Spelling.Quoted.{IsQuotedText}
+use Rattle.saphyr_scalar.specs.Reading.Plain.{IsPlainReading}
+use Rattle.saphyr_scalar.specs.Reading.BlockText.{IsBlockText}
+use Rattle.saphyr_scalar.specs.Spelling.Tag.{AreIn, IsAnchorName, IsTagText}
+use Rattle.saphyr_scalar.specs.Steps.Directive.{Directive, version, tag_prefix, reserved}
+use Rattle.saphyr_scalar.specs.Spelling.Directive.{IsReadDirective, IsLineTail}
 use Rattle.saphyr_scanner.specs.Grammar.Tokens as tokens
 use Rattle.saphyr_scanner.specs.Grammar.Tokens.{Kind}
 use Rattle.saphyr_scanner.specs.Views.Tokens.{Piece, Remaining}

@@ -1,9 +1,9 @@
 //! Small texts of the layout grammar.
 ghost use Rattle.std.specs.Prelude.{codes, ◌≡◌, ◌∷◌, ◌++◌, [], ℕ, suc, Bool, true, false, List, Some, None};
 ghost use Rattle.saphyr_scalar.specs.declared.reading.block.Chomping.{Chomping};
-ghost use Rattle.saphyr_scalar.specs.BlockReading.{Line};
-ghost use Rattle.saphyr_scalar.specs.BlockSpelling.{IsBlockScalar};
-ghost use Rattle.saphyr_scalar.specs.Spaces.{IsEol};
+ghost use Rattle.saphyr_scalar.specs.Reading.Block.{Line};
+ghost use Rattle.saphyr_scalar.specs.Spelling.Block.{IsBlockScalar};
+ghost use Rattle.saphyr_scalar.specs.Spelling.Spaces.{IsEol};
 ghost use Rattle.saphyr_scanner.specs.Examples.Forests.{plain, double_quoted};
 ghost use Rattle.saphyr_scanner.specs.Grammar.Forest.{Plain, SingleQuoted, DoubleQuoted, Literal, Folded, Primary, Secondary, Named, Verbatim, Shorthand, NonSpecific, no_properties, Alias, Scalar, Seq, Map, NoNode, MoreNodes, NoPair, MorePairs, left_out, Version, TagPrefix, Reserved, bare, Document, Forest, Node, Nodes, Properties, AreCompatible};
 ghost use Rattle.saphyr_scanner.specs.Grammar.BlockNodes.{AreOtherEntries, BehindKey, IsBehindScalar, IsBlockNode, IsImplicitPair, IsKeyAlone, IsLead};

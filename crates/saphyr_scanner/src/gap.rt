@@ -1,7 +1,7 @@
 //! What stands between two tokens: blanks, breaks and comments (YAML 1.2.2, 6.7).
 
 ghost use Rattle.std.specs.Prelude.{◌≡◌, ◌||◌, false, slice_index};
-ghost use Rattle.saphyr_scalar.specs.Seen.{state, Gives};
+ghost use Rattle.saphyr_scalar.specs.Views.Reader.{state, Gives};
 ghost use Rattle.saphyr_scanner.specs.Steps.Gap as spec;
 
 use saphyr_input::char_traits::{is_blank, is_bom, is_break, is_z};

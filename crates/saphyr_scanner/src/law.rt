@@ -1,6 +1,6 @@
 //! Laws of the definitions.
 ghost use Rattle.std.specs.Prelude.{◌≡◌, ◌≤◌, List, codes, ◌∷◌, ◌++◌, [], ℕ, length};
-ghost use Rattle.saphyr_scalar.specs.Spaces.{IsLineRest};
+ghost use Rattle.saphyr_scalar.specs.Spelling.Spaces.{IsLineRest};
 ghost use Rattle.saphyr_scanner.specs.Examples.Forests.{block_forest, block_tokens, brackets_tokens, json_forest, json_text, json_tokens};
 ghost use Rattle.saphyr_scanner.specs.Grammar.Forest.{Forest, Primary, Shorthand, open_in_forest};
 ghost use Rattle.saphyr_scanner.specs.Grammar.TagSpelling.{IsTag};
@@ -18,7 +18,7 @@ ghost use Rattle.saphyr_scanner.specs.Ends.{EndsWithStream};
 ghost use Rattle.saphyr_scanner.specs.Steps.Gap as gaps;
 ghost use Rattle.saphyr_scanner.specs.TokensTaken.{AreApart, AreTakenFrom, AreTokens, LiesOnLine, IsPlaceOf};
 ghost use Rattle.saphyr_input.specs.Breaks.{normalized};
-ghost use Rattle.saphyr_scalar.specs.Cursor.{Cursor, fresh, separation};
+ghost use Rattle.saphyr_scalar.specs.Views.Cursor.{Cursor, fresh, separation};
 ghost use Rattle.saphyr_scanner.specs.Views.Tokens.{Piece};
 ghost use Rattle.saphyr_input.specs.declared.input.SkipTabs.{SkipTabs};
 ghost use Rattle.saphyr_input.specs.declared.input.SkipTabs.TheVariants.{Yes};

@@ -52,7 +52,7 @@ pub(crate) struct Queue {
 }
 
 impl Queue {
-    ghost use Rattle.saphyr_scalar.specs.Seen.{Moves};
+    ghost use Rattle.saphyr_scalar.specs.Views.Reader.{Moves};
     ghost use Rattle.saphyr_scanner.specs.Views.Tokens.{kind_of, piece, written};
     ghost use Rattle.saphyr_scanner.specs.Views.Queue.{queue};
     ghost use Rattle.std.specs.Prelude.{option_map, ◌<◌};

@@ -1,7 +1,7 @@
 //! Small texts and the tokens that are taken from them.
 ghost use Rattle.std.specs.Prelude.{◌≡◌, ℕ, List, codes, false, slice_index};
 ghost use Rattle.saphyr_input.specs.Places.{is_blank_or_break};
-ghost use Rattle.saphyr_scalar.specs.Cursor.{Cursor};
+ghost use Rattle.saphyr_scalar.specs.Views.Cursor.{Cursor};
 ghost use Rattle.saphyr_scalar.specs.declared.scalar.position.Span.{Span};
 ghost use Rattle.saphyr_scanner.specs.TokensTaken.{AreTakenFrom, IsPlaceOf, IsPlainToken};
 ghost use Rattle.saphyr_scanner.specs.Examples.TakenTexts as texts;

@@ -1,7 +1,7 @@
 -- Examples of events that are taken from a text, and of a closed beginning.
 use Rattle.std.specs.Prelude.{codes}
 use Rattle.std.proofs.Common.{◌≡◌, ℕ, true, false, List, [], ◌∷◌, Some, None, refl, sym, inl, ◌∙◌, arith}
-use Rattle.saphyr_scalar.specs.Cursor as text
+use Rattle.saphyr_scalar.specs.Views.Cursor as text
 use Rattle.saphyr_scanner.specs.Grammar.Tokens as tokens
 use Rattle.saphyr_scanner.specs.Views.Tokens.{Piece}
 use Rattle.saphyr_scanner.specs.TokensTaken as taken

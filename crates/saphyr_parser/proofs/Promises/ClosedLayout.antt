@@ -2,7 +2,7 @@
 -- too.
 use Rattle.std.specs.Prelude.{codes}
 use Rattle.std.proofs.Common.{◌≡◌, ℕ, Bool, true, false, List, [], ◌∷◌, Some, refl, inl, inr, arith}
-use Rattle.saphyr_scalar.specs.Spaces.{IsEol, IsFiller, IsLastFiller, IsLineRest}
+use Rattle.saphyr_scalar.specs.Spelling.Spaces.{IsEol, IsFiller, IsLastFiller, IsLineRest}
 use Rattle.saphyr_scanner.specs.Grammar.Layout.{most_open, IsDocument, IsDocumentSuffix, AreDocuments, IsLayoutText}
 use Rattle.saphyr_scanner.specs.Grammar.Forest.{left_out}
 use Rattle.saphyr_scanner.specs.Grammar.BlockNodes.{IsBlockNode}

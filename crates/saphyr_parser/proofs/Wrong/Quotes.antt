@@ -6,11 +6,11 @@ use Rattle.saphyr_scalar.specs.declared.reading.folding.Item.{Item}
 use Rattle.saphyr_scalar.specs.declared.reading.flow.Quote.{Quote}
 use Rattle.saphyr_scalar.specs.declared.reading.flow.Quote.TheVariants.{Single, Double}
 use Rattle.saphyr_scalar.specs.declared.scalar.style.ScalarStyle.TheVariants.{DoubleQuoted}
-use Rattle.saphyr_scalar.specs.Cursor.{fresh}
-use Rattle.saphyr_scalar.specs.FlowReading.{mark}
-use Rattle.saphyr_scalar.specs.Quoted.{break_len}
-use Rattle.saphyr_scalar.specs.QuotedMarkers.{HasNoMarker}
-use Rattle.saphyr_scalar.specs.QuotedSpelling.{IsText, closed, itself, broken, two_quotes, escaped, numbered, escaped_break, stands_for_itself}
+use Rattle.saphyr_scalar.specs.Views.Cursor.{fresh}
+use Rattle.saphyr_scalar.specs.Reading.Flow.{mark}
+use Rattle.saphyr_scalar.specs.Steps.Quoted.{break_len}
+use Rattle.saphyr_scalar.specs.Spelling.QuotedMarkers.{HasNoMarker}
+use Rattle.saphyr_scalar.specs.Spelling.Quoted.{IsText, closed, itself, broken, two_quotes, escaped, numbered, escaped_break, stands_for_itself}
 use Rattle.saphyr_scanner.specs.Examples.TakenTexts.{at}
 use Rattle.saphyr_scanner.proofs.Beginnings.{heads, tails}
 use Rattle.saphyr_scanner.proofs.Wrong.Standing.{reached_behind, one_place}

@@ -5,9 +5,9 @@ use Rattle.saphyr_scalar.specs.declared.scalar.position.Marker.{Marker}
 use Rattle.saphyr_scalar.specs.declared.scalar.position.Span.{Span}
 use Rattle.saphyr_scalar.specs.declared.scalar.style.ScalarStyle.TheVariants.{Plain, Literal}
 use Rattle.saphyr_scalar.specs.declared.reading.block.BlockStyle.TheVariants as block_style
-use Rattle.saphyr_scalar.specs.BlockText.{AreInside}
+use Rattle.saphyr_scalar.specs.Reading.BlockText.{AreInside}
 use Rattle.saphyr_input.specs.Classes.{is_break}
-use Rattle.saphyr_scalar.specs.Cursor.{fresh}
+use Rattle.saphyr_scalar.specs.Views.Cursor.{fresh}
 use Rattle.saphyr_scanner.specs.Examples.TakenTexts.{at}
 use Rattle.saphyr_scanner.specs.TokensTaken as taken
 use Rattle.saphyr_scanner.specs.TokensTaken.{IsReached, IsPlaceOf}

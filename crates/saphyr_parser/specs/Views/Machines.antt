@@ -3,7 +3,7 @@ use Rattle.std.specs.Prelude.{Option, Some, None, reverse, Result}
 use Rattle.saphyr_scalar.specs.declared.scalar.fault.Refusal.{Refusal}
 use Rattle.saphyr_scalar.specs.declared.scalar.fault.Stop.{Stop}
 use Rattle.saphyr_scalar.specs.declared.scalar.position.Span.{Span}
-use Rattle.saphyr_scalar.specs.Seen.{Moves}
+use Rattle.saphyr_scalar.specs.Views.Reader.{Moves}
 use Rattle.saphyr_scanner.specs.declared.token.Token.{Token}
 use Rattle.saphyr_scanner.specs.Views.Tokens.{Remaining, Piece, piece, before}
 use Rattle.saphyr_parser.specs.declared.parser.event.Event.{Event}

@@ -28,7 +28,7 @@ impl Model for Anchors {
 
 impl Anchors {
     ghost use Rattle.std.specs.Prelude.{IfOk};
-    ghost use Rattle.saphyr_scalar.specs.Seen.{Moves};
+    ghost use Rattle.saphyr_scalar.specs.Views.Reader.{Moves};
 
     pub fn new(alloc: Global) -> Anchors
         ensures { result ≡ spec.no_anchors }

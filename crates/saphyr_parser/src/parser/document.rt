@@ -46,7 +46,7 @@ pub struct Declared {
 }
 
 impl Declared {
-    ghost use Rattle.saphyr_scalar.specs.Seen.{Moves};
+    ghost use Rattle.saphyr_scalar.specs.Views.Reader.{Moves};
     ghost use Rattle.saphyr_parser.specs.Views.Documents.{declared};
 
     fn nothing(alloc: Global) -> Declared
@@ -73,7 +73,7 @@ impl Declared {
 
 impl<T: Input> Machine<T> {
     ghost use Rattle.std.specs.Prelude.{IfOk};
-    ghost use Rattle.saphyr_scalar.specs.Seen.{Moves};
+    ghost use Rattle.saphyr_scalar.specs.Views.Reader.{Moves};
     ghost use Rattle.saphyr_scanner.specs.Views.Tokens.{piece};
     ghost use Rattle.saphyr_parser.specs.Views.Machines.{machine_of, TellsBy, TakesBy};
     ghost use Rattle.saphyr_parser.specs.Steps.Machine as machine;

@@ -25,7 +25,7 @@ impl Model for Handles {
 
 impl Handles {
     ghost use Rattle.std.specs.Prelude.{[]};
-    ghost use Rattle.saphyr_scalar.specs.Seen.{Moves};
+    ghost use Rattle.saphyr_scalar.specs.Views.Reader.{Moves};
 
     pub fn new(alloc: Global) -> Handles
         ensures { result ≡ [] }

@@ -48,7 +48,7 @@ pub(super) fn refuse(text: FaultText, mark: Marker) -> Stop
 
 impl<T: Input> Machine<T> {
     ghost use Rattle.std.specs.Prelude.{IfOk, IfNone, IfSome, Ok};
-    ghost use Rattle.saphyr_scalar.specs.Seen.{Moves};
+    ghost use Rattle.saphyr_scalar.specs.Views.Reader.{Moves};
     ghost use Rattle.saphyr_scanner.specs.Views.Tokens.{piece};
     ghost use Rattle.saphyr_parser.specs.Views.Machines.{machine_of, happening, TellsBy, TakesBy};
 

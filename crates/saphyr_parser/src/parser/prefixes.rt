@@ -26,7 +26,7 @@ impl Model for Prefixes {
 
 impl Prefixes {
     ghost use Rattle.std.specs.Prelude.{IfOk};
-    ghost use Rattle.saphyr_scalar.specs.Seen.{Moves};
+    ghost use Rattle.saphyr_scalar.specs.Views.Reader.{Moves};
 
     pub fn new(alloc: Global) -> Prefixes
         ensures { result ≡ [] }

@@ -18,7 +18,7 @@ fn is_named(handle: &str) -> bool
 }
 
 impl<T: Input> Machine<T> {
-    ghost use Rattle.saphyr_scalar.specs.Seen.{Moves};
+    ghost use Rattle.saphyr_scalar.specs.Views.Reader.{Moves};
     ghost use Rattle.saphyr_parser.specs.Views.Machines.{resolved_tag};
 
     // The prefix that stands for the handle of a tag at this place.

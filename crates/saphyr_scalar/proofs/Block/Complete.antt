@@ -10,11 +10,11 @@ use Rattle.saphyr_scalar.specs.declared.scalar.position.Span.{Span}
 use Rattle.saphyr_scalar.specs.declared.scalar.fault.Refusal.{Refusal}
 use Rattle.saphyr_scalar.specs.declared.scalar.block.header.BlockHeader.{BlockHeader}
 use Rattle.saphyr_scalar.specs.declared.scalar.block.lines.EmptyLines.{EmptyLines}
-use Rattle.saphyr_scalar.specs.Cursor.{Cursor, ◌>>=◌}
-use Rattle.saphyr_scalar.specs.BlockSpelling.{IsIndentation, found, given, IsBlockScalar, IsTaken}
-use Rattle.saphyr_scalar.specs.BlockScalar.{empty_lines, empty_lines_at, between_at, tail, is_unfinished, chomped, content, behind_leading, behind_header, block_scalar, header, no_lines, given_indentation, Reading}
-use Rattle.saphyr_scalar.specs.BlockReading.{Line, lines_value}
-use Rattle.saphyr_scalar.specs.Folding.{line_feeds}
+use Rattle.saphyr_scalar.specs.Views.Cursor.{Cursor, ◌>>=◌}
+use Rattle.saphyr_scalar.specs.Spelling.Block.{IsIndentation, found, given, IsBlockScalar, IsTaken}
+use Rattle.saphyr_scalar.specs.Steps.Block.{pass_empty_lines, pass_empty_lines_at, between_at, tail, is_unfinished, chomped_lines, content, behind_leading_lines, behind_header, block_scalar, header, no_lines, given_indentation, BlockScalarRead}
+use Rattle.saphyr_scalar.specs.Reading.Block.{Line, lines_value}
+use Rattle.saphyr_scalar.specs.Reading.Folding.{line_feeds}
 use Rattle.saphyr_scalar.proofs.Block.Reads.{same_gift}
 use Rattle.saphyr_scalar.proofs.Block.Law.{values_of_lines}
 use Rattle.saphyr_scalar.proofs.Block.Places.{Left}
@@ -55,10 +55,11 @@ no_z x h = parts (nat_eq x 10) (nat_eq x 13) (nat_eq x 0) _ h
 pub content_read : (st : BlockStyle) (c : Chomping) (indent i n : ℕ) (others : List ℕ) (start : Marker)
     (limit : Option ℕ) (ls : List Line) (r : EmptyLines × Cursor) → Led st c i n others no_lines ls r
     → unwrap_or limit (max r.0.widest indent) ≡ i
-    → (text : List ℕ) × (span : Span) × (t : Cursor) × (behind_leading st indent start c limit r ≡ Ok (text, span, t))
+    → (text : List ℕ) × (span : Span) × (t : Cursor)
+    × (behind_leading_lines st indent start c limit r ≡ Ok (text, span, t))
     × (t.rest ≡ others) × ((t.mark.col ≡ n) ⊎ (others ≡ [])) × (span.start.col ≡ i) × (span.end ≡ t.mark)
     × (text ≡ encode_utf8_all (lines_value st c true ls))
-unfolding behind_leading content chomped
+unfolding behind_leading_lines content chomped_lines
 content_read st c indent i n others start limit ls r l same =
     let j = unwrap_or limit (max r.0.widest indent) in
     let z = between_at st j None r.0.count r.1 in
@@ -75,7 +76,7 @@ content_read st c indent i n others start limit ls r l same =
     (arith, nat_tests) in
     let no : (nat_lt r.1.mark.col j && nat_le indent r.1.mark.col) ≡ false =
     ap (λ b. b && nat_le indent r.1.mark.col) within in
-    let Goal : Reading → Type 0 = λ x. x ≡ Ok (text, span, z.2) in
+    let Goal : BlockScalarRead → Type 0 = λ x. x ≡ Ok (text, span, z.2) in
     let told =
     by_test (is_z (slice_index r.1.rest 0)) _ _ Goal (λ h. clash _ h (no_z (slice_index r.1.rest 0) l.starts))
     (λ _. by_test (nat_lt r.1.mark.col j && nat_le indent r.1.mark.col) _ _ Goal (λ h. clash _ h no) (λ _. refl)) in
@@ -89,8 +90,8 @@ header_then st indent s x y e f =
 
 behind_as : (st : BlockStyle) (indent : ℕ) (start : Marker) (h : BlockHeader) (u : Cursor)
     → behind_header st indent start (h, u)
-    ≡ behind_leading st indent start h.chomping (given_indentation indent h.indicator)
-    (empty_lines_at (given_indentation indent h.indicator) no_lines u)
+    ≡ behind_leading_lines st indent start h.chomping (given_indentation indent h.indicator)
+    (pass_empty_lines_at (given_indentation indent h.indicator) no_lines u)
 unfolding behind_header
 behind_as st indent start h u = refl
 
@@ -101,9 +102,9 @@ each_read st c indent i n ls s body others is =
     let mark : BlockHeader = record { chomping = c; indicator = is.digit } in
     let u = h.behind in
     let limit = given_indentation indent is.digit in
-    let r = empty_lines_at limit no_lines u in
+    let r = pass_empty_lines_at limit no_lines u in
     let P : List ℕ → Type 0 = λ xs. Led st c i n others no_lines ls
-    (empty_lines limit no_lines u.blank_so_far u.mark xs) in
+    (pass_empty_lines limit no_lines u.blank_so_far u.mark xs) in
     let l : Led st c i n others no_lines ls r =
     subst P (sym h.left) (led_on st c i n is.is_given limit is.behind others no_lines u.blank_so_far u.mark ls body
     (limit_of indent i is.digit is.is_given is.indentation) h.at_start (omega arith) is.ends is.lines) in

@@ -14,8 +14,8 @@ use Rattle.saphyr_scalar.specs.declared.scalar.position.Marker.{Marker}
 use Rattle.saphyr_scalar.specs.declared.scalar.position.Span.{Span}
 use Rattle.saphyr_scalar.specs.declared.scalar.block.header.BlockHeader.{BlockHeader}
 use Rattle.saphyr_scalar.specs.declared.scalar.block.lines.EmptyLines.{EmptyLines}
-use Rattle.saphyr_scalar.specs.Cursor.{Cursor, along, next_line, pass, pass_blanks, pass_break, behind_separation, separation}
-use Rattle.saphyr_scalar.specs.BlockScalar.{chomping, indicator, header_break, header_end, last_chomping, header_behind, header, is_indentation, is_cr_lf, inside_break, one_more, empty_lines, line_starts, LinesRead, between, line, chomped, content, behind_leading, given_indentation, no_lines, behind_header, block_scalar}
+use Rattle.saphyr_scalar.specs.Views.Cursor.{Cursor, along, next_line, pass, pass_blanks, pass_break, behind_separation, separation}
+use Rattle.saphyr_scalar.specs.Steps.Block.{chomping, indicator, header_break, header_end, last_chomping, header_behind, header, is_indentation, is_cr_lf, inside_break, one_more, pass_empty_lines, line_starts, LinesRead, between, line, chomped_lines, content, behind_leading_lines, given_indentation, no_lines, behind_header, block_scalar}
 use Rattle.saphyr_scalar.proofs.Lengths.{two_shown, separation_within}
 use Rattle.saphyr_input.proofs.Basics.Booleans.{by_test}
 use Rattle.saphyr_input.proofs.Basics.Lists.{shown}
@@ -110,8 +110,8 @@ header_stands low n s h =
 -- ## The lines
 
 empty_stands : (low n : ℕ) (limit : Option ℕ) (before : EmptyLines) (b : Bool) (m : Marker) (t : List ℕ) → low ≤ m.index
-    → m.index + length t ≡ n → Behind EmptyLines low n (empty_lines limit before b m t)
-unfolding empty_lines
+    → m.index + length t ≡ n → Behind EmptyLines low n (pass_empty_lines limit before b m t)
+unfolding pass_empty_lines
 empty_stands low n limit before b m [] a h = (a, h)
 empty_stands low n limit before b m (c ∷ cs) a h =
     let later : low ≤ m.index + 1 = omega arith in
@@ -164,7 +164,7 @@ SpanStands low n x = (low ≤ x.1.start.index) × (x.1.start.index ≤ x.1.end.i
 
 content_stands : (low n : ℕ) (style : BlockStyle) (c : Chomping) (indent i lines : ℕ) (s : Cursor) → Stands low n s
     → Given (SpanStands low n) (content style c indent i lines s)
-unfolding content chomped
+unfolding content chomped_lines
 content_stands low n style c indent i lines s h =
     let read = between_stands s.mark.index n style i None lines s.blank_so_far s.mark s.rest (omega arith) h.1 in
     by_test (nat_lt s.mark.col i && nat_le indent s.mark.col) _ _ (Given (SpanStands low n)) (λ _. tt)
@@ -172,8 +172,8 @@ content_stands low n style c indent i lines s h =
 
 leading_stands : (n : ℕ) (style : BlockStyle) (indent : ℕ) (start : Marker) (c : Chomping) (limit : Option ℕ)
     (x : EmptyLines × Cursor) → Stands start.index n x.1
-    → Given (SpanStands start.index n) (behind_leading style indent start c limit x)
-unfolding behind_leading
+    → Given (SpanStands start.index n) (behind_leading_lines style indent start c limit x)
+unfolding behind_leading_lines
 leading_stands n style indent start c limit x h =
     by_test (is_z (slice_index x.1.rest 0)) _ _ (Given (SpanStands start.index n)) (λ _. (omega arith, h.0, refl, h.1))
     (λ _. content_stands start.index n style c indent (unwrap_or limit (max x.0.widest indent)) x.0.count x.1 h)
@@ -184,7 +184,7 @@ unfolding behind_header
 header_scalar_stands n style indent start x h =
     let limit = given_indentation indent x.0.indicator in
     leading_stands n style indent start x.0.chomping limit
-    (empty_lines limit no_lines x.1.blank_so_far x.1.mark x.1.rest)
+    (pass_empty_lines limit no_lines x.1.blank_so_far x.1.mark x.1.rest)
     (empty_stands start.index n limit no_lines x.1.blank_so_far x.1.mark x.1.rest h.0 h.1)
 
 scalar_stands : (n : ℕ) (style : BlockStyle) (indent : ℕ) (s : Cursor) → Stands s.mark.index n (pass 1 s)

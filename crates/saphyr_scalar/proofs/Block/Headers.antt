@@ -13,9 +13,9 @@ use Rattle.saphyr_scalar.specs.declared.reading.block.Chomping.{Chomping}
 use Rattle.saphyr_scalar.specs.declared.reading.block.Chomping.TheVariants.{Strip, Clip, Keep}
 use Rattle.saphyr_scalar.specs.declared.scalar.position.Marker.{Marker}
 use Rattle.saphyr_scalar.specs.declared.scalar.fault.Refusal.{Refusal}
-use Rattle.saphyr_scalar.specs.Cursor.{Cursor, ◌>>=◌, pass, pass_blanks, pass_line, pass_break, separation, behind_separation}
-use Rattle.saphyr_scalar.specs.BlockSpelling.{AreBlanks, AreContent, IsIndicator, no_digit, digit, IsChomping, strip, clip, keep, IsHeaderEnd, no_comment, comment, IsHeader, digit_first, chomping_first}
-use Rattle.saphyr_scalar.specs.BlockScalar.{chomping, indicator, header_break, header_end, last_chomping, header_behind, header}
+use Rattle.saphyr_scalar.specs.Views.Cursor.{Cursor, ◌>>=◌, pass, pass_blanks, pass_line, pass_break, separation, behind_separation}
+use Rattle.saphyr_scalar.specs.Spelling.Block.{AreBlanks, AreContent, IsIndicator, no_digit, digit, IsChomping, strip, clip, keep, IsHeaderEnd, no_comment, comment, IsHeader, digit_first, chomping_first}
+use Rattle.saphyr_scalar.specs.Steps.Block.{chomping, indicator, header_break, header_end, last_chomping, header_behind, header}
 use Rattle.saphyr_input.proofs.Basics.Booleans.{and_false, clash, by_test, either}
 use Rattle.saphyr_input.proofs.Basics.Numbers.{one_and}
 

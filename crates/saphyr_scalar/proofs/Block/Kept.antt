@@ -2,8 +2,8 @@
 use Rattle.std.proofs.Common.{◌≡◌, ℕ, zero, suc, ◌+◌, Bool, true, false, List, [], ◌∷◌, ◌++◌, length, refl, sym, ◌∙◌, ap, cond, append_assoc, add-one}
 use Rattle.std.proofs.lemmas.List.{append-nil}
 use Rattle.saphyr_input.specs.Classes.{line_feed}
-use Rattle.saphyr_scalar.specs.Folding.{line_feeds}
-use Rattle.saphyr_scalar.specs.BlockReading.{Line, Empty, Content, has_content, contents_behind, contents, empty_at_end, lines_value, each_line}
+use Rattle.saphyr_scalar.specs.Reading.Folding.{line_feeds}
+use Rattle.saphyr_scalar.specs.Reading.Block.{Line, Empty, Content, has_content, contents_behind, contents, empty_at_end, lines_value, each_line}
 use Rattle.saphyr_scalar.specs.declared.reading.block.BlockStyle.TheVariants.{Literal}
 use Rattle.saphyr_scalar.specs.declared.reading.block.Chomping.TheVariants.{Keep}
 

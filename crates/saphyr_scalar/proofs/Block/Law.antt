@@ -13,11 +13,11 @@ use Rattle.saphyr_scalar.specs.declared.scalar.position.Marker.{Marker}
 use Rattle.saphyr_scalar.specs.declared.scalar.position.Span.{Span}
 use Rattle.saphyr_scalar.specs.declared.scalar.block.header.BlockHeader.{BlockHeader}
 use Rattle.saphyr_scalar.specs.declared.scalar.block.lines.EmptyLines.{EmptyLines}
-use Rattle.saphyr_scalar.specs.Cursor.{Cursor, along, next_line}
-use Rattle.saphyr_scalar.specs.BlockReading.{lines_of, line_of, block_value}
-use Rattle.saphyr_scalar.specs.Lines.{last_line}
-use Rattle.saphyr_scalar.specs.BlockRead.{ending, indentation_of, IsRead, HasLines, EndsLines}
-use Rattle.saphyr_scalar.specs.BlockScalar.{is_indentation, is_cr_lf, inside_break, one_more, widened, empty_lines, empty_lines_at, between_at, tail, tail_alone, is_unfinished, chomped, content, behind_leading, behind_header, block_scalar, header, no_lines, given_indentation}
+use Rattle.saphyr_scalar.specs.Views.Cursor.{Cursor, along, next_line}
+use Rattle.saphyr_scalar.specs.Reading.Block.{lines_of, line_of, block_value}
+use Rattle.saphyr_scalar.specs.Reading.Lines.{last_line}
+use Rattle.saphyr_scalar.specs.Steps.BlockRead.{ending, indentation_of, IsRead, HasLines, EndsLines}
+use Rattle.saphyr_scalar.specs.Steps.Block.{is_indentation, is_cr_lf, inside_break, one_more, widened, pass_empty_lines, pass_empty_lines_at, between_at, tail, tail_alone, is_unfinished, chomped_lines, content, behind_leading_lines, behind_header, block_scalar, header, no_lines, given_indentation}
 use Rattle.saphyr_scalar.proofs.Block.Lines.{stops}
 use Rattle.saphyr_scalar.proofs.Block.Turns.{stopped, no_start}
 use Rattle.saphyr_scalar.proofs.Block.Texts.{spaces, plain_spaces, only_line, empty_spaces, lines_spaces}
@@ -31,8 +31,9 @@ use Rattle.saphyr_scalar.proofs.Block.Indentations.{nul_no_indentation}
 abbrev Begun : EmptyLines × Cursor → Type 0
 Begun r = r.1.blank_so_far ≡ true
 
-begun : (limit : Option ℕ) (before : EmptyLines) (m : Marker) (xs : List ℕ) → Begun (empty_lines limit before true m xs)
-unfolding empty_lines
+begun : (limit : Option ℕ) (before : EmptyLines) (m : Marker) (xs : List ℕ)
+    → Begun (pass_empty_lines limit before true m xs)
+unfolding pass_empty_lines
 begun limit before m [] = refl
 begun limit before m (x ∷ cs) =
     by_test (is_indentation limit m.col x) _ _ Begun (λ _. begun limit before (along m 1) cs)
@@ -69,18 +70,18 @@ no_space None indent col w x h = rw h refl
 no_space (Some i) indent col w x h = h
 
 wide : (limit : Option ℕ) (indent : ℕ) (m : Marker) (xs : List ℕ) → m.col ≡ 0
-    → (empty_lines limit no_lines true m xs).0.widest
-    ≤ unwrap_or limit (max (empty_lines limit no_lines true m xs).0.widest indent)
+    → (pass_empty_lines limit no_lines true m xs).0.widest
+    ≤ unwrap_or limit (max (pass_empty_lines limit no_lines true m xs).0.widest indent)
 wide None indent m xs e = omega arith
 wide (Some i) indent m xs e = within_limit i no_lines true m xs (omega arith) (omega arith)
 
 pub led : (limit : Option ℕ) (indent : ℕ) (u : Cursor) → u.mark.col ≡ 0 → u.blank_so_far ≡ true
-    → Led (unwrap_or limit (max (empty_lines_at limit no_lines u).0.widest indent)) u
-    (empty_lines_at limit no_lines u).1 (empty_lines_at limit no_lines u).0.count
+    → Led (unwrap_or limit (max (pass_empty_lines_at limit no_lines u).0.widest indent)) u
+    (pass_empty_lines_at limit no_lines u).1 (pass_empty_lines_at limit no_lines u).0.count
 led limit indent u col blank =
     let m = u.mark in
     let xs = u.rest in
-    let r = empty_lines limit no_lines true m xs in
+    let r = pass_empty_lines limit no_lines true m xs in
     let i = unwrap_or limit (max r.0.widest indent) in
     let l : Leading 0 no_lines xs r = subst (λ j. Leading j no_lines xs r) col (leading limit no_lines true m xs) in
     let stop = stopped limit no_lines true m xs in
@@ -98,7 +99,7 @@ led limit indent u col blank =
       begun = begun limit no_lines m xs;
     } in
     let P : EmptyLines × Cursor → Type 0 = λ x. Led (unwrap_or limit (max x.0.widest indent)) u x.1 x.0.count in
-    subst P (ap (λ b. empty_lines limit no_lines b m xs) (sym blank)) here
+    subst P (ap (λ b. pass_empty_lines limit no_lines b m xs) (sym blank)) here
 
 -- what is read of a block scalar: its text, its span, and what stands behind it
 abbrev pub Read : Type 0
@@ -183,7 +184,7 @@ cut_header st c i u z blank =
     }
 
 pub nothing_led : (limit : Option ℕ) (u : Cursor) → is_z (slice_index u.rest 0) ≡ true
-    → empty_lines_at limit no_lines u ≡ (widened no_lines u.mark.col, u)
+    → pass_empty_lines_at limit no_lines u ≡ (widened no_lines u.mark.col, u)
 nothing_led limit u z =
     let first = z_is_nul (slice_index u.rest 0) z in
     stops limit no_lines u (ap (is_indentation limit u.mark.col) first ∙ nul_no_indentation limit u.mark.col)
@@ -196,8 +197,8 @@ told st c i u x y e b = subst (λ (r : Read). Behind st c i u r.0 r.2) (same_gif
 pub behind_begun : (st : BlockStyle) (indent : ℕ) (start : Marker) (c : Chomping) (i k : ℕ) (limit : Option ℕ)
     (u : Cursor) (x : EmptyLines × Cursor) (y : Read) → Led i u x.1 x.0.count
     → unwrap_or limit (max x.0.widest indent) ≡ i
-    → behind_leading st indent start c limit x ≡ Ok y → Behind st c i u y.0 y.2
-unfolding behind_leading content chomped
+    → behind_leading_lines st indent start c limit x ≡ Ok y → Behind st c i u y.0 y.2
+unfolding behind_leading_lines content chomped_lines
 behind_begun st indent start c i k limit u x y l same =
     by_test (is_z (slice_index x.1.rest 0)) _ _ (λ r. r ≡ gave y → Behind st c i u y.0 y.2)
     (λ h e. told st c i u (encode_utf8_all (tail_alone c x.0.count x.1), record { start = start; end = x.1.mark }, x.1)
@@ -219,10 +220,10 @@ behind_begun st indent start c i k limit u x y l same =
 
 pub behind_cut : (st : BlockStyle) (indent : ℕ) (start : Marker) (c : Chomping) (i : ℕ) (limit : Option ℕ) (u : Cursor)
     (y : Read) → is_z (slice_index u.rest 0) ≡ true → u.blank_so_far ≡ false
-    → behind_leading st indent start c limit (widened no_lines u.mark.col, u) ≡ Ok y → Behind st c i u y.0 y.2
-unfolding behind_leading
+    → behind_leading_lines st indent start c limit (widened no_lines u.mark.col, u) ≡ Ok y → Behind st c i u y.0 y.2
+unfolding behind_leading_lines
 behind_cut st indent start c i limit u y z blank e =
-    let here : behind_leading st indent start c limit (widened no_lines u.mark.col, u)
+    let here : behind_leading_lines st indent start c limit (widened no_lines u.mark.col, u)
     ≡ gave (encode_utf8_all (tail_alone c 0 u), record { start = start; end = u.mark }, u) = rw z refl in
     told st c i u (encode_utf8_all (tail_alone c 0 u), record { start = start; end = u.mark }, u) y (sym here ∙ e)
     (cut_header st c i u z blank)
@@ -232,12 +233,13 @@ behind_place : (st : BlockStyle) (indent : ℕ) (start : Marker) (h : BlockHeade
 unfolding behind_header
 behind_place st indent start h u y (inl p) e =
     let limit = given_indentation indent h.indicator in
-    behind_begun st indent start h.chomping (indentation_of indent h u) 0 limit u (empty_lines_at limit no_lines u) y
+    behind_begun st indent start h.chomping (indentation_of indent h u) 0 limit u
+        (pass_empty_lines_at limit no_lines u) y
     (led limit indent u p.0 p.1) refl e
 behind_place st indent start h u y (inr p) e =
     let limit = given_indentation indent h.indicator in
     behind_cut st indent start h.chomping (indentation_of indent h u) limit u y p.0 p.1
-    (ap (behind_leading st indent start h.chomping limit) (sym (nothing_led limit u p.0)) ∙ e)
+    (ap (behind_leading_lines st indent start h.chomping limit) (sym (nothing_led limit u p.0)) ∙ e)
 
 pub values_of_lines : (st : BlockStyle) (indent : ℕ) (s t : Cursor) (text : List ℕ) (span : Span)
     → block_scalar st indent s ≡ Ok (text, span, t) → IsRead st indent s text t

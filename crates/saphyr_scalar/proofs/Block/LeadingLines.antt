@@ -7,16 +7,16 @@ use Rattle.saphyr_input.specs.Classes.{is_blank, is_yaml_non_break}
 use Rattle.saphyr_scalar.specs.declared.reading.block.BlockStyle.{BlockStyle}
 use Rattle.saphyr_scalar.specs.declared.scalar.position.Marker.{Marker}
 use Rattle.saphyr_scalar.specs.declared.scalar.block.lines.EmptyLines.{EmptyLines}
-use Rattle.saphyr_scalar.specs.Cursor.{Cursor, along, next_line}
-use Rattle.saphyr_scalar.specs.BlockRead.{spaces}
-use Rattle.saphyr_scalar.specs.BlockSpelling.{IsBehind, IsBody, leading, first, first_and_last}
-use Rattle.saphyr_scalar.specs.BlockScalar.{there, is_indentation, widened, one_more, empty_lines, between}
+use Rattle.saphyr_scalar.specs.Views.Cursor.{Cursor, along, next_line}
+use Rattle.saphyr_scalar.specs.Steps.BlockRead.{spaces}
+use Rattle.saphyr_scalar.specs.Spelling.Block.{IsBehind, IsBody, leading, first, first_and_last}
+use Rattle.saphyr_scalar.specs.Steps.Block.{there, is_indentation, widened, one_more, pass_empty_lines, between}
 use Rattle.saphyr_scalar.proofs.Moving.{along_none, along_more}
 use Rattle.saphyr_scalar.proofs.Block.Lines.{stops}
 use Rattle.saphyr_scalar.specs.declared.reading.block.Chomping.{Chomping}
-use Rattle.saphyr_scalar.specs.BlockReading as reading
-use Rattle.saphyr_scalar.specs.BlockReading.{Line, Empty, Content, contents, contents_behind, empty_at_end, has_content}
-use Rattle.saphyr_scalar.specs.Folding.{line_feeds}
+use Rattle.saphyr_scalar.specs.Reading.Block as reading
+use Rattle.saphyr_scalar.specs.Reading.Block.{Line, Empty, Content, contents, contents_behind, empty_at_end, has_content}
+use Rattle.saphyr_scalar.specs.Reading.Folding.{line_feeds}
 use Rattle.std.proofs.Common.{append_assoc}
 use Rattle.saphyr_input.proofs.Basics.Booleans.{and_false}
 use Rattle.std.proofs.lemmas.Bool.{ne_eqb}
@@ -31,8 +31,8 @@ IsLimit i given (Some limit) = limit ≡ i
 
 e_space : (limit : Option ℕ) (lines : EmptyLines) (b : Bool) (m : Marker) (t : List ℕ)
     → is_indentation limit m.col 32 ≡ true
-    → empty_lines limit lines b m (32 ∷ t) ≡ empty_lines limit lines b (along m 1) t
-unfolding empty_lines
+    → pass_empty_lines limit lines b m (32 ∷ t) ≡ pass_empty_lines limit lines b (along m 1) t
+unfolding pass_empty_lines
 e_space None lines b m t h = refl
 e_space (Some limit) lines b m t h = rw h refl
 
@@ -43,16 +43,16 @@ limit_space i given (Some limit) col h less = space_left limit col (omega arith)
 
 e_spaces : (i : ℕ) (given : Bool) (limit : Option ℕ) (lines : EmptyLines) (b : Bool) (j : ℕ) (m : Marker) (t : List ℕ)
     → IsLimit i given limit → m.col + j ≤ i
-    → empty_lines limit lines b m (spaces j ++ t) ≡ empty_lines limit lines b (along m j) t
-e_spaces i given limit lines b zero m t l h = ap (λ x. empty_lines limit lines b x t) (sym (along_none m))
+    → pass_empty_lines limit lines b m (spaces j ++ t) ≡ pass_empty_lines limit lines b (along m j) t
+e_spaces i given limit lines b zero m t l h = ap (λ x. pass_empty_lines limit lines b x t) (sym (along_none m))
 e_spaces i given limit lines b (suc j) m t l h =
     e_space limit lines b m (spaces j ++ t) (limit_space i given limit m.col l (omega arith))
     ∙ e_spaces i given limit lines b j (along m 1) t l (omega arith)
-    ∙ ap (λ x. empty_lines limit lines b x t) (along_more m 1 j (suc j) (omega arith))
+    ∙ ap (λ x. pass_empty_lines limit lines b x t) (along_more m 1 j (suc j) (omega arith))
 
 e_feed : (limit : Option ℕ) (lines : EmptyLines) (b : Bool) (m : Marker) (t : List ℕ)
-    → empty_lines limit lines b m (10 ∷ t) ≡ empty_lines limit (one_more lines m.col) true (next_line m 1) t
-unfolding empty_lines
+    → pass_empty_lines limit lines b m (10 ∷ t) ≡ pass_empty_lines limit (one_more lines m.col) true (next_line m 1) t
+unfolding pass_empty_lines
 e_feed None lines b m t = refl
 e_feed (Some limit) lines b m t = refl
 
@@ -85,9 +85,9 @@ led_at : (st : BlockStyle) (c : Chomping) (i n : ℕ) (given : Bool) (limit : Op
     → m.col ≡ i → before.widest ≤ i
     → is_yaml_non_break x ≡ true → ((k : ℕ) → Left n others (between st i None k b m (x ∷ t)))
     → ((k : ℕ) → Value c i (between st i None k b m (x ∷ t)) ≡ line_feeds k ++ FirstValue st c (x ∷ cs) ls)
-    → Led st c i n others before (Content (x ∷ cs) ∷ ls) (empty_lines limit before b m (x ∷ t))
+    → Led st c i n others before (Content (x ∷ cs) ∷ ls) (pass_empty_lines limit before b m (x ∷ t))
 led_at st c i n given limit before b m x cs t others ls l h col wide solid left value =
-    let stop : empty_lines limit before b m (x ∷ t) ≡ (widened before m.col, there b m (x ∷ t)) =
+    let stop : pass_empty_lines limit before b m (x ∷ t) ≡ (widened before m.col, there b m (x ∷ t)) =
     stops limit before (there b m (x ∷ t)) (limit_stops i given limit m.col x l h col) (non_break_no_break x solid) in
     subst (Led st c i n others before (Content (x ∷ cs) ∷ ls)) (sym stop)
     (record {
@@ -122,7 +122,7 @@ led_more st c i n others before w ls r l = record {
 pub led_on : (st : BlockStyle) (c : Chomping) (i n : ℕ) (given : Bool) (limit : Option ℕ) (x others : List ℕ)
     (before : EmptyLines) (b : Bool) (m : Marker) (ls : List Line) (t : List ℕ) → IsLimit i given limit → m.col ≡ 0
     → before.widest ≤ i → IsBehind i n x others
-    → IsBody i given x ls t → Led st c i n others before ls (empty_lines limit before b m t)
+    → IsBody i given x ls t → Led st c i n others before ls (pass_empty_lines limit before b m t)
 led_on st c i n given limit x others before b m _ _ l col wide h (leading j ls t within body) =
     let at : m.col + j ≤ i = omega arith in
     let more : max before.widest (m.col + j) ≤ i = omega arith in

@@ -6,9 +6,9 @@ use Rattle.std.proofs.lemmas.List.{append-nil}
 use Rattle.saphyr_input.specs.Classes.{is_break}
 use Rattle.saphyr_scalar.specs.declared.scalar.position.Marker.{Marker}
 use Rattle.saphyr_scalar.specs.declared.scalar.block.lines.EmptyLines.{EmptyLines}
-use Rattle.saphyr_scalar.specs.Cursor.{Cursor, along, next_line, pass_break}
-use Rattle.saphyr_scalar.specs.Folding.{line_feeds}
-use Rattle.saphyr_scalar.specs.BlockScalar.{there, is_indentation, widened, one_more, empty_lines, empty_lines_at}
+use Rattle.saphyr_scalar.specs.Views.Cursor.{Cursor, along, next_line, pass_break}
+use Rattle.saphyr_scalar.specs.Reading.Folding.{line_feeds}
+use Rattle.saphyr_scalar.specs.Steps.Block.{there, is_indentation, widened, one_more, pass_empty_lines, pass_empty_lines_at}
 use Rattle.saphyr_scalar.proofs.Quoted.Inside.{break_cases}
 use Rattle.saphyr_input.proofs.Basics.Booleans.{or_false_left, or_false_right, by_test}
 use Rattle.saphyr_scalar.proofs.PassedBreaks.{inside_same}
@@ -32,8 +32,8 @@ feed_last (suc n) =
 -- a space of the indentation
 pub space_on : (limit : Option ℕ) (lines : EmptyLines) (b : Bool) (m : Marker) (c : ℕ) (cs : List ℕ)
     → is_indentation limit m.col c ≡ true
-    → empty_lines limit lines b m (c ∷ cs) ≡ empty_lines limit lines b (along m 1) cs
-unfolding empty_lines
+    → pass_empty_lines limit lines b m (c ∷ cs) ≡ pass_empty_lines limit lines b (along m 1) cs
+unfolding pass_empty_lines
 space_on None lines b m c cs h = rw h refl
 space_on (Some limit) lines b m c cs h = rw h refl
 
@@ -43,15 +43,15 @@ no_break c h = (or_false_left (nat_eq c 10) (nat_eq c 13) h, or_false_right (nat
 -- neither a space of the indentation nor a break
 stopped : (limit : Option ℕ) (lines : EmptyLines) (b : Bool) (m : Marker) (xs : List ℕ)
     → is_indentation limit m.col (slice_index xs 0) ≡ false → is_break (slice_index xs 0) ≡ false
-    → empty_lines limit lines b m xs ≡ (widened lines m.col, there b m xs)
-unfolding empty_lines
+    → pass_empty_lines limit lines b m xs ≡ (widened lines m.col, there b m xs)
+unfolding pass_empty_lines
 stopped limit lines b m [] h k = refl
 stopped None lines b m (c ∷ cs) h k = rw (h, (no_break c k).1, (no_break c k).0) refl
 stopped (Some limit) lines b m (c ∷ cs) h k = rw (h, (no_break c k).1, (no_break c k).0) refl
 
 pub stops : (limit : Option ℕ) (lines : EmptyLines) (s : Cursor)
     → is_indentation limit s.mark.col (slice_index s.rest 0) ≡ false → is_break (slice_index s.rest 0) ≡ false
-    → empty_lines_at limit lines s ≡ (widened lines s.mark.col, s)
+    → pass_empty_lines_at limit lines s ≡ (widened lines s.mark.col, s)
 stops limit lines s h k = stopped limit lines s.blank_so_far s.mark s.rest h k
 
 -- what stands behind a CR, which an LF may follow
@@ -65,25 +65,26 @@ behind_cr m b (d ∷ ds) P two one =
     one
 
 abbrev Taken : Option ℕ → EmptyLines → Bool → Marker → List ℕ → Cursor → Type 0
-Taken limit lines b m xs s = empty_lines limit lines b m xs ≡ empty_lines_at limit (one_more lines m.col) s
+Taken limit lines b m xs s = pass_empty_lines limit lines b m xs ≡ pass_empty_lines_at limit (one_more lines m.col) s
 
 at_lf : (limit : Option ℕ) (lines : EmptyLines) (b : Bool) (m : Marker) (cs : List ℕ)
     → Taken limit lines b m (10 ∷ cs) (there true (next_line m 1) cs)
-unfolding empty_lines
+unfolding pass_empty_lines
 at_lf None lines b m cs = refl
 at_lf (Some limit) lines b m cs = refl
 
 at_cr : (limit : Option ℕ) (lines : EmptyLines) (b : Bool) (m : Marker) (cs : List ℕ) → (slice_index cs 0 == 10) ≡ false
     → Taken limit lines b m (13 ∷ cs) (there true (next_line m 1) cs)
-unfolding empty_lines
+unfolding pass_empty_lines
 at_cr None lines b m cs h = rw h refl
 at_cr (Some limit) lines b m cs h = rw h refl
 
 at_cr_lf : (limit : Option ℕ) (lines : EmptyLines) (b : Bool) (m : Marker) (ds : List ℕ)
     → Taken limit lines b m (13 ∷ 10 ∷ ds) (there true (next_line m 2) ds)
-unfolding empty_lines
-at_cr_lf None lines b m ds = ap (λ x. empty_lines None (one_more lines m.col) true x ds) (inside_same m)
-at_cr_lf (Some limit) lines b m ds = ap (λ x. empty_lines (Some limit) (one_more lines m.col) true x ds) (inside_same m)
+unfolding pass_empty_lines
+at_cr_lf None lines b m ds = ap (λ x. pass_empty_lines None (one_more lines m.col) true x ds) (inside_same m)
+at_cr_lf (Some limit) lines b m ds = ap (λ x. pass_empty_lines (Some limit) (one_more lines m.col) true x ds)
+    (inside_same m)
 
 -- a break at the end of an empty line
 at_break : (limit : Option ℕ) (lines : EmptyLines) (b : Bool) (m : Marker) (xs : List ℕ)
@@ -98,23 +99,23 @@ at_break limit lines b m (c ∷ cs) h =
     (at_cr limit lines b m cs))
 
 pub break_taken : (limit : Option ℕ) (lines : EmptyLines) (s : Cursor) → is_break (slice_index s.rest 0) ≡ true
-    → empty_lines_at limit lines s ≡ empty_lines_at limit (one_more lines s.mark.col) (pass_break s)
+    → pass_empty_lines_at limit lines s ≡ pass_empty_lines_at limit (one_more lines s.mark.col) (pass_break s)
 break_taken limit lines s h = at_break limit lines s.blank_so_far s.mark s.rest h
 
 -- One turn of taking off empty lines: from s, which is looked at as `here`, to t. The first character is c.
 pub break_turn : (limit : Option ℕ) (lines : EmptyLines) (s here t : Cursor) (c w : ℕ) → here ≡ s
     → c ≡ slice_index s.rest 0 → is_break c ≡ true → w ≡ max lines.widest here.mark.col → t ≡ pass_break here
-    → empty_lines_at limit (record { count = lines.count + 1; widest = w }) t ≡ empty_lines_at limit lines s
+    → pass_empty_lines_at limit (record { count = lines.count + 1; widest = w }) t ≡ pass_empty_lines_at limit lines s
 break_turn limit lines s here t c w same read h e passed =
     let first : is_break (slice_index here.rest 0) ≡ true = ap (λ (x : Cursor). is_break (slice_index x.rest 0)) same
     ∙ sym (ap is_break read) ∙ h in
-    rw (e, passed) (sym (break_taken limit lines here first)) ∙ ap (empty_lines_at limit lines) same
+    rw (e, passed) (sym (break_taken limit lines here first)) ∙ ap (pass_empty_lines_at limit lines) same
 
 pub end_turn : (limit : Option ℕ) (lines : EmptyLines) (s here : Cursor) (c w : ℕ) → here ≡ s → c ≡ slice_index s.rest 0
     → is_break c ≡ false → is_indentation limit here.mark.col c ≡ false
     → w ≡ max lines.widest here.mark.col
     → ◌≡◌ {A = EmptyLines × Cursor} (record { count = lines.count; widest = w }, here)
-    (empty_lines_at limit lines s)
+    (pass_empty_lines_at limit lines s)
 end_turn limit lines s here c w same read h k e =
     let first : is_break (slice_index here.rest 0) ≡ false = ap (λ (x : Cursor). is_break (slice_index x.rest 0)) same
     ∙ sym (ap is_break read) ∙ h in
@@ -122,7 +123,7 @@ end_turn limit lines s here c w same read h k e =
     ap (λ (x : Cursor). is_indentation limit here.mark.col (slice_index x.rest 0)) same
     ∙ sym (ap (is_indentation limit here.mark.col) read) ∙ k in
     let stop = stops limit lines here second first in
-    rw e (sym stop ∙ ap (empty_lines_at limit lines) same)
+    rw e (sym stop ∙ ap (pass_empty_lines_at limit lines) same)
 
 -- a break has a character or two
 index_on : (m : Marker) (b : Bool) (xs : List ℕ) → is_break (slice_index xs 0) ≡ true

@@ -9,10 +9,10 @@ use Rattle.saphyr_scalar.specs.declared.scalar.position.Marker.{Marker}
 use Rattle.saphyr_scalar.specs.declared.scalar.position.Span.{Span}
 use Rattle.saphyr_scalar.specs.declared.scalar.block.header.BlockHeader.{BlockHeader}
 use Rattle.saphyr_scalar.specs.declared.scalar.block.lines.EmptyLines.{EmptyLines}
-use Rattle.saphyr_scalar.specs.Cursor.{Cursor, along, next_line, pass}
+use Rattle.saphyr_scalar.specs.Views.Cursor.{Cursor, along, next_line, pass}
 use Rattle.saphyr_scalar.specs.Passing as passing
 use Rattle.saphyr_scalar.specs.Passing.{IsPassed}
-use Rattle.saphyr_scalar.specs.BlockScalar.{header, is_indentation, is_cr_lf, inside_break, one_more, empty_lines, line_starts, LinesRead, between, line, chomped, content, behind_leading, given_indentation, no_lines, behind_header, block_scalar}
+use Rattle.saphyr_scalar.specs.Steps.Block.{header, is_indentation, is_cr_lf, inside_break, one_more, pass_empty_lines, line_starts, LinesRead, between, line, chomped_lines, content, behind_leading_lines, given_indentation, no_lines, behind_header, block_scalar}
 use Rattle.saphyr_scalar.proofs.PassedBreaks.{Passes, inside_same, one_here, return_here, feed_here, stop_here, end_here}
 use Rattle.saphyr_scalar.proofs.Block.PlacedHeaders.{top, passed_passed, passed_lines, Goes, one_passed, Ends, header_ends}
 use Rattle.saphyr_input.proofs.Basics.Booleans.{and_true_left, by_test}
@@ -24,8 +24,8 @@ use Rattle.saphyr_scalar.proofs.Given.{Given, given_bind, given_of}
 -- ## The lines
 
 pub empty_passes : (limit : Option ℕ) (before : EmptyLines) (b : Bool) (m : Marker) (t : List ℕ)
-    → Passes m t (empty_lines limit before b m t).1
-unfolding empty_lines
+    → Passes m t (pass_empty_lines limit before b m t).1
+unfolding pass_empty_lines
 empty_passes limit before b m [] = end_here m b
 empty_passes limit before b m (c ∷ cs) =
     let P : EmptyLines × Cursor → Type 0 = λ x. Passes m (c ∷ cs) x.1 in
@@ -96,8 +96,8 @@ PlacedAt s x = Placed s x.1 x.2
 
 -- nothing is passed at the end
 empty_at_end : (limit : Option ℕ) (before : EmptyLines) (b : Bool) (m : Marker) (t : List ℕ)
-    → is_z (slice_index t 0) ≡ true → is_z (slice_index (empty_lines limit before b m t).1.rest 0) ≡ true
-unfolding empty_lines
+    → is_z (slice_index t 0) ≡ true → is_z (slice_index (pass_empty_lines limit before b m t).1.rest 0) ≡ true
+unfolding pass_empty_lines
 empty_at_end limit before b m [] e = refl
 empty_at_end limit before b m (c ∷ cs) e =
     let P : EmptyLines × Cursor → Type 0 = λ x. is_z (slice_index x.1.rest 0) ≡ true in
@@ -122,7 +122,7 @@ content_placed : (style : BlockStyle) (c : Chomping) (indent i lines : ℕ) (s h
     → IsPassed h.mark h.rest x.mark x.rest → is_z (slice_index x.rest 0) ≡ false
     → (is_z (slice_index h.rest 0) ≡ true → is_z (slice_index x.rest 0) ≡ true)
     → Given (PlacedAt s) (content style c indent i lines x)
-unfolding content chomped
+unfolding content chomped_lines
 content_placed style c indent i lines s h x e p none z =
     let t : Cursor = (between style i None lines x.blank_so_far x.mark x.rest).2 in
     let q = (between_passes style i None lines x.blank_so_far x.mark x.rest).here in
@@ -141,8 +141,8 @@ content_placed style c indent i lines s h x e p none z =
 leading_placed : (style : BlockStyle) (indent : ℕ) (c : Chomping) (limit : Option ℕ) (s h : Cursor)
     (x : EmptyLines × Cursor) → Ends s h → IsPassed h.mark h.rest x.1.mark x.1.rest
     → (is_z (slice_index h.rest 0) ≡ true → is_z (slice_index x.1.rest 0) ≡ true)
-    → Given (PlacedAt s) (behind_leading style indent s.mark c limit x)
-unfolding behind_leading
+    → Given (PlacedAt s) (behind_leading_lines style indent s.mark c limit x)
+unfolding behind_leading_lines
 leading_placed style indent c limit s h x e p z =
     let whole = passed_passed s.mark s.rest h.mark h.rest x.1.mark x.1.rest e.passes p in
     by_test (is_z (slice_index x.1.rest 0)) _ _ (Given (PlacedAt s))
@@ -164,7 +164,8 @@ scalar_placed style indent s g =
     given_bind (PlacedAt s) (header s) _ (λ x e.
     let h = given_of (λ (y : BlockHeader × Cursor). Ends s y.1) (header s) x (header_ends s g) e in
     let limit = given_indentation indent x.0.indicator in
-    leading_placed style indent x.0.chomping limit s x.1 (empty_lines limit no_lines x.1.blank_so_far x.1.mark x.1.rest)
+    leading_placed style indent x.0.chomping limit s x.1
+        (pass_empty_lines limit no_lines x.1.blank_so_far x.1.mark x.1.rest)
     h
     (empty_passes limit no_lines x.1.blank_so_far x.1.mark x.1.rest).here
     (empty_at_end limit no_lines x.1.blank_so_far x.1.mark x.1.rest))

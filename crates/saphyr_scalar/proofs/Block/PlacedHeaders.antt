@@ -14,11 +14,11 @@ use Rattle.saphyr_scalar.specs.declared.reading.block.Chomping.{Chomping}
 use Rattle.saphyr_scalar.specs.declared.scalar.position.Marker.{Marker}
 use Rattle.saphyr_scalar.specs.declared.scalar.fault.Refusal.{Refusal}
 use Rattle.saphyr_scalar.specs.declared.scalar.block.header.BlockHeader.{BlockHeader}
-use Rattle.saphyr_scalar.specs.Cursor.{Cursor, along, next_line, pass, pass_blanks, pass_break, behind_separation, separation}
+use Rattle.saphyr_scalar.specs.Views.Cursor.{Cursor, along, next_line, pass, pass_blanks, pass_break, behind_separation, separation}
 use Rattle.saphyr_scalar.specs.Passing as passing
 use Rattle.saphyr_scalar.specs.Passing.{IsPassed}
-use Rattle.saphyr_scalar.specs.Quoted.{break_len}
-use Rattle.saphyr_scalar.specs.BlockScalar.{chomping, indicator, header_break, header_end, last_chomping, header_behind, header}
+use Rattle.saphyr_scalar.specs.Steps.Quoted.{break_len}
+use Rattle.saphyr_scalar.specs.Steps.Block.{chomping, indicator, header_break, header_end, last_chomping, header_behind, header}
 use Rattle.saphyr_scalar.proofs.Moving.{along_none, along_more, drop_more}
 use Rattle.saphyr_input.proofs.Basics.Booleans.{and_true_left, by_test, either}
 use Rattle.std.proofs.lemmas.Bool.{not-false, eqb-true}

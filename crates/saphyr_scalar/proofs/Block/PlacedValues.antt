@@ -6,15 +6,15 @@ use Rattle.std.proofs.lemmas.List.{append-nil}
 use Rattle.saphyr_input.specs.Classes.{is_blank}
 use Rattle.saphyr_scalar.specs.declared.reading.block.BlockStyle.{BlockStyle}
 use Rattle.saphyr_scalar.specs.declared.scalar.position.Marker.{Marker}
-use Rattle.saphyr_scalar.specs.Cursor.{Cursor, along, next_line}
-use Rattle.saphyr_scalar.specs.BlockSpelling.{IsContent, AreLines, no_lines, empty, content, last, IsBehind}
-use Rattle.saphyr_scalar.specs.BlockScalar.{there, break_before, LinesRead, with_text, between}
+use Rattle.saphyr_scalar.specs.Views.Cursor.{Cursor, along, next_line}
+use Rattle.saphyr_scalar.specs.Spelling.Block.{IsContent, AreLines, no_lines, empty, content, last, IsBehind}
+use Rattle.saphyr_scalar.specs.Steps.Block.{there, break_before, LinesRead, lines_behind_text, between}
 use Rattle.saphyr_scalar.proofs.Block.Values.{cut_tail, same_break}
 use Rattle.saphyr_scalar.specs.declared.reading.block.Chomping.{Chomping}
 use Rattle.saphyr_scalar.specs.declared.reading.block.Chomping.TheVariants.{Strip, Clip, Keep}
-use Rattle.saphyr_scalar.specs.BlockReading as reading
-use Rattle.saphyr_scalar.specs.BlockReading.{Line, is_more_indented, contents_behind, empty_at_end}
-use Rattle.saphyr_scalar.specs.BlockScalar.{tail, is_unfinished}
+use Rattle.saphyr_scalar.specs.Reading.Block as reading
+use Rattle.saphyr_scalar.specs.Reading.Block.{Line, is_more_indented, contents_behind, empty_at_end}
+use Rattle.saphyr_scalar.specs.Steps.Block.{tail, is_unfinished}
 use Rattle.saphyr_input.specs.Classes.{is_z}
 use Rattle.std.proofs.Common.{nat_le, append_assoc, add-one}
 use Rattle.saphyr_scalar.proofs.Block.Places.{spaces_on, feed_on, line_feed_on, line_end_on, behind_same, begun_on}
@@ -64,7 +64,7 @@ content_value st c i ab k b m x cs t later col h after =
     let bb = break_before st ab k (is_blank x) in
     let r = between st i (Some (is_blank x)) 0 true (next_line p 1) t in
     let same = begun_on st i ab k b m x cs (10 ∷ t) col h
-    ∙ ap (λ y. with_text bb (with_text (x ∷ cs) y)) (line_feed_on st i (is_blank x) b p t) in
+    ∙ ap (λ y. lines_behind_text bb (lines_behind_text (x ∷ cs) y)) (line_feed_on st i (is_blank x) b p t) in
     ap (Value c i) same
     ∙ append_assoc bb ((x ∷ cs) ++ r.0) (tail c (is_unfinished i r.2) r.1)
     ∙ ap (λ y. bb ++ y) (append_assoc (x ∷ cs) r.0 (tail c (is_unfinished i r.2) r.1))
@@ -79,7 +79,7 @@ last_value st c i ab k b m x cs col h =
     let bb = break_before st ab k (is_blank x) in
     let whole : cs ++ [] ≡ cs = append-nil cs in
     let same = ap (λ ys. between st i ab k b m (x ∷ ys)) (sym whole) ∙ begun_on st i ab k b m x cs [] col h
-    ∙ ap (λ r. with_text bb (with_text (x ∷ cs) r)) (line_end_on st i (is_blank x) b p) in
+    ∙ ap (λ r. lines_behind_text bb (lines_behind_text (x ∷ cs) r)) (line_end_on st i (is_blank x) b p) in
     let far : i < p.col = omega arith in
     ap (Value c i) same
     ∙ append_assoc bb ((x ∷ cs) ++ []) _ ∙ ap (λ y. bb ++ y) (append_assoc (x ∷ cs) [] _)

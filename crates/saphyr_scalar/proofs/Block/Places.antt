@@ -7,12 +7,12 @@ use Rattle.saphyr_input.specs.Classes.{is_blank, is_break, is_yaml_non_break}
 use Rattle.saphyr_input.specs.Places.{is_document_indicator}
 use Rattle.saphyr_scalar.specs.declared.reading.block.BlockStyle.{BlockStyle}
 use Rattle.saphyr_scalar.specs.declared.scalar.position.Marker.{Marker}
-use Rattle.saphyr_scalar.specs.Cursor.{along, next_line}
-use Rattle.saphyr_scalar.specs.BlockRead.{spaces}
-use Rattle.saphyr_scalar.specs.BlockSpelling.{AreContent, IsContent, AreLines, no_lines, empty, content, last, IsBehind}
-use Rattle.saphyr_scalar.specs.BlockScalar.{there, is_indentation, line_starts, break_before, LinesRead, with_text, ended, between, line}
+use Rattle.saphyr_scalar.specs.Views.Cursor.{along, next_line}
+use Rattle.saphyr_scalar.specs.Steps.BlockRead.{spaces}
+use Rattle.saphyr_scalar.specs.Spelling.Block.{AreContent, IsContent, AreLines, no_lines, empty, content, last, IsBehind}
+use Rattle.saphyr_scalar.specs.Steps.Block.{there, is_indentation, line_starts, break_before, LinesRead, lines_behind_text, lines_ended, between, line}
 use Rattle.saphyr_scalar.proofs.Moving.{along_none, along_more}
-use Rattle.saphyr_scalar.specs.BlockReading.{Line}
+use Rattle.saphyr_scalar.specs.Reading.Block.{Line}
 use Rattle.saphyr_scalar.proofs.Block.Turns.{line_begins, line_on, no_line_at}
 use Rattle.saphyr_input.proofs.Basics.Booleans.{and_false}
 use Rattle.std.proofs.lemmas.Bool.{ne_eqb}
@@ -40,11 +40,13 @@ feed_on st i ab k b m t = refl
 
 -- a line's content
 content_on : (st : BlockStyle) (i : ℕ) (more b : Bool) (m : Marker) (cs t : List ℕ) → AreContent cs
-    → line st i more b m (cs ++ t) ≡ with_text cs (line st i more b (along m (length cs)) t)
+    → line st i more b m (cs ++ t) ≡ lines_behind_text cs (line st i more b (along m (length cs)) t)
 content_on st i more b m [] t h = ap (λ x. line st i more b x t) (sym (along_none m))
 content_on st i more b m (c ∷ cs) t h =
-    line_on st i more b m c (cs ++ t) h.0 ∙ ap (with_text (c ∷ [])) (content_on st i more b (along m 1) cs t h.1)
-    ∙ ap (λ x. with_text (c ∷ cs) (line st i more b x t)) (along_more m 1 (length cs) (length (c ∷ cs)) (omega arith))
+    line_on st i more b m c (cs ++ t) h.0
+        ∙ ap (lines_behind_text (c ∷ [])) (content_on st i more b (along m 1) cs t h.1)
+    ∙ ap (λ x. lines_behind_text (c ∷ cs) (line st i more b x t))
+    (along_more m 1 (length cs) (length (c ∷ cs)) (omega arith))
 
 pub line_feed_on : (st : BlockStyle) (i : ℕ) (more b : Bool) (m : Marker) (t : List ℕ)
     → line st i more b m (10 ∷ t) ≡ between st i (Some more) 0 true (next_line m 1) t
@@ -52,7 +54,7 @@ unfolding line
 line_feed_on st i more b m t = refl
 
 pub line_end_on : (st : BlockStyle) (i : ℕ) (more b : Bool) (m : Marker)
-    → line st i more b m [] ≡ ended false 0 (there b m [])
+    → line st i more b m [] ≡ lines_ended false 0 (there b m [])
 unfolding line
 line_end_on st i more b m = refl
 
@@ -101,7 +103,8 @@ no_break_at x a d = rw (ne_eqb x 10 a, ne_eqb x 13 d) refl
 
 pub behind_same : (st : BlockStyle) (i : ℕ) (ab : Option Bool) (k : ℕ) (b : Bool) (m : Marker) (n : ℕ)
     (x others : List ℕ)
-    → m.col ≡ 0 → IsBehind i n x others → between st i ab k b m x ≡ ended (is_some ab) k (there b (along m n) others)
+    → m.col ≡ 0 → IsBehind i n x others → between st i ab k b m x
+    ≡ lines_ended (is_some ab) k (there b (along m n) others)
 behind_same st i ab k b m n x others col h =
     let at : m.col + n ≡ n = omega arith in
     let within : m.col + n ≤ i = omega (arith, h.within) in
@@ -126,11 +129,11 @@ nothing_behind i (suc n) x others e h = let no : 32 ∷ (spaces n ++ others) ≡
 pub begun_on : (st : BlockStyle) (i : ℕ) (ab : Option Bool) (k : ℕ) (b : Bool) (m : Marker) (c : ℕ) (cs t : List ℕ)
     → m.col ≡ i → IsContent i c cs t
     → between st i ab k b m (c ∷ (cs ++ t))
-    ≡ with_text (break_before st ab k (is_blank c))
-    (with_text (c ∷ cs) (line st i (is_blank c) b (along m (length (c ∷ cs))) t))
+    ≡ lines_behind_text (break_before st ab k (is_blank c))
+    (lines_behind_text (c ∷ cs) (line st i (is_blank c) b (along m (length (c ∷ cs))) t))
 begun_on st i ab k b m c cs t col h =
     line_begins st i ab k b m (c ∷ (cs ++ t)) (starts_here i m.col c (cs ++ t) col h.all.0 h.no_marker)
-    ∙ ap (with_text (break_before st ab k (is_blank c))) (content_on st i (is_blank c) b m (c ∷ cs) t h.all)
+    ∙ ap (lines_behind_text (break_before st ab k (is_blank c))) (content_on st i (is_blank c) b m (c ∷ cs) t h.all)
 
 pub content_left : (st : BlockStyle) (i n : ℕ) (ab : Option Bool) (k : ℕ) (b : Bool) (m : Marker) (c : ℕ)
     (cs t others : List ℕ) → m.col ≡ i → IsContent i c cs (10 ∷ t)
@@ -139,7 +142,7 @@ pub content_left : (st : BlockStyle) (i n : ℕ) (ab : Option Bool) (k : ℕ) (b
 content_left st i n ab k b m c cs t others col h after =
     let p = along m (length (c ∷ cs)) in
     let same = begun_on st i ab k b m c cs (10 ∷ t) col h
-    ∙ ap (λ r. with_text (break_before st ab k (is_blank c)) (with_text (c ∷ cs) r))
+    ∙ ap (λ r. lines_behind_text (break_before st ab k (is_blank c)) (lines_behind_text (c ∷ cs) r))
     (line_feed_on st i (is_blank c) b p t) in
     subst (Left n others) (sym same) (after (is_blank c) (next_line p 1) refl)
 
@@ -151,7 +154,7 @@ last_left st i n ab k b m c cs others col h none =
     let p = along m (length (c ∷ cs)) in
     let whole : cs ++ [] ≡ cs = append-nil cs in
     let same = ap (λ ys. between st i ab k b m (c ∷ ys)) (sym whole) ∙ begun_on st i ab k b m c cs [] col h
-    ∙ ap (λ r. with_text (break_before st ab k (is_blank c)) (with_text (c ∷ cs) r))
+    ∙ ap (λ r. lines_behind_text (break_before st ab k (is_blank c)) (lines_behind_text (c ∷ cs) r))
     (line_end_on st i (is_blank c) b p) in
     subst (Left n others) (sym same) (sym none, inr none)
 

@@ -13,12 +13,12 @@ use Rattle.saphyr_input.specs.Places.{next_2_are}
 use Rattle.saphyr_input.specs.Separation.{separation_len, is_bare_comment, found_blanks}
 use Rattle.saphyr_input.specs.declared.input.SkipTabs.{SkipTabs}
 use Rattle.saphyr_input.specs.declared.input.SkipTabs.TheVariants.{Yes}
-use Rattle.saphyr_scalar.specs.Cursor.{Cursor, ◌>>=◌, along, next_line, pass, pass_blanks, pass_break, separation, behind_separation}
-use Rattle.saphyr_scalar.specs.BlockReading.{Empty, lines_of}
-use Rattle.saphyr_scalar.specs.Lines.{last_line}
-use Rattle.saphyr_scalar.specs.BlockScalar.{there, is_indentation, is_cr_lf, inside_break, widened, one_more, empty_lines, header, header_break, header_end, header_behind, chomping, last_chomping, indicator}
+use Rattle.saphyr_scalar.specs.Views.Cursor.{Cursor, ◌>>=◌, along, next_line, pass, pass_blanks, pass_break, separation, behind_separation}
+use Rattle.saphyr_scalar.specs.Reading.Block.{Empty, lines_of}
+use Rattle.saphyr_scalar.specs.Reading.Lines.{last_line}
+use Rattle.saphyr_scalar.specs.Steps.Block.{there, is_indentation, is_cr_lf, inside_break, widened, one_more, pass_empty_lines, header, header_break, header_end, header_behind, chomping, last_chomping, indicator}
 use Rattle.saphyr_scalar.proofs.Block.Texts.{spaces, spaces_more, plain_spaces, first_line, line_spaces, normal_half, normal_break, lines_break}
-use Rattle.saphyr_scalar.specs.BlockRead.{HasLines}
+use Rattle.saphyr_scalar.specs.Steps.BlockRead.{HasLines}
 use Rattle.saphyr_scalar.proofs.Block.Wholes.{empties}
 use Rattle.std.proofs.lemmas.Bool.{not-false, and_parts}
 use Rattle.saphyr_input.proofs.Basics.Booleans.{by_test}
@@ -110,8 +110,8 @@ lead_break j x before cs r half e l = record {
 }
 
 pub leading : (limit : Option ℕ) (before : EmptyLines) (b : Bool) (m : Marker) (xs : List ℕ)
-    → Leading m.col before xs (empty_lines limit before b m xs)
-unfolding empty_lines
+    → Leading m.col before xs (pass_empty_lines limit before b m xs)
+unfolding pass_empty_lines
 leading limit before b m [] = lead_stop before b m []
 leading limit before b m (x ∷ cs) =
     by_test (is_indentation limit m.col x) _ _ (Leading m.col before (x ∷ cs))
@@ -127,8 +127,8 @@ abbrev pub Within : ℕ → EmptyLines × Cursor → Type 0
 Within i r = r.0.widest ≤ i
 
 pub within_limit : (i : ℕ) (before : EmptyLines) (b : Bool) (m : Marker) (xs : List ℕ) → m.col ≤ i → before.widest ≤ i
-    → Within i (empty_lines (Some i) before b m xs)
-unfolding empty_lines
+    → Within i (pass_empty_lines (Some i) before b m xs)
+unfolding pass_empty_lines
 within_limit i before b m [] h k = omega arith
 within_limit i before b m (x ∷ cs) h k =
     by_test (is_indentation (Some i) m.col x) _ _ (Within i)

@@ -8,8 +8,8 @@ use Rattle.saphyr_scalar.specs.declared.reading.block.Chomping.{Chomping}
 use Rattle.saphyr_scalar.specs.declared.scalar.block.header.BlockHeader.{BlockHeader}
 use Rattle.saphyr_scalar.specs.declared.scalar.block.lines.EmptyLines.{EmptyLines}
 use Rattle.saphyr_scalar.specs.declared.scalar.position.Marker.{Marker}
-use Rattle.saphyr_scalar.specs.BlockScalar.{chomping, indicator, header_break, header_end, last_chomping, header_behind, header, empty_lines, chomped, content, behind_leading, given_indentation, no_lines, behind_header, block_scalar}
-use Rattle.saphyr_scalar.specs.Cursor.{Cursor, pass, pass_break, separation}
+use Rattle.saphyr_scalar.specs.Steps.Block.{chomping, indicator, header_break, header_end, last_chomping, header_behind, header, pass_empty_lines, chomped_lines, content, behind_leading_lines, given_indentation, no_lines, behind_header, block_scalar}
+use Rattle.saphyr_scalar.specs.Views.Cursor.{Cursor, pass, pass_break, separation}
 use Rattle.saphyr_scalar.specs.Passing.{IsPassed}
 use Rattle.saphyr_scalar.specs.RefusedInside.{IsRefusedInside}
 use Rattle.saphyr_scalar.proofs.Block.Placed.{empty_passes}
@@ -54,15 +54,15 @@ header_refused s g =
 
 content_refused : (style : BlockStyle) (c : Chomping) (indent i lines : ℕ) (s t : Cursor)
     → IsPassed s.mark s.rest t.mark t.rest → Refused (IsRefusedInside s) (content style c indent i lines t)
-unfolding content chomped
+unfolding content chomped_lines
 content_refused style c indent i lines s t p =
     by_test (nat_lt t.mark.col i && nat_le indent t.mark.col) _ _ (Refused (IsRefusedInside s)) (λ _. (t.rest, p))
     (λ _. tt)
 
 leading_refused : (style : BlockStyle) (indent : ℕ) (start : Marker) (c : Chomping) (limit : Option ℕ) (s : Cursor)
     (x : EmptyLines × Cursor) → IsPassed s.mark s.rest x.1.mark x.1.rest
-    → Refused (IsRefusedInside s) (behind_leading style indent start c limit x)
-unfolding behind_leading
+    → Refused (IsRefusedInside s) (behind_leading_lines style indent start c limit x)
+unfolding behind_leading_lines
 leading_refused style indent start c limit s x p =
     by_test (is_z (slice_index x.1.rest 0)) _ _ (Refused (IsRefusedInside s)) (λ _. tt)
     (λ _. content_refused style c indent (unwrap_or limit (max x.0.widest indent)) x.0.count s x.1 p)
@@ -75,7 +75,7 @@ block_scalar_refused style indent s b some =
     refused_bind (IsRefusedInside s) (header s) _ (header_refused s g) (λ x e.
     let h = given_of (λ (y : BlockHeader × Cursor). Ends s y.1) (header s) x (header_ends s g) e in
     let limit = given_indentation indent x.0.indicator in
-    let lines = empty_lines limit no_lines x.1.blank_so_far x.1.mark x.1.rest in
+    let lines = pass_empty_lines limit no_lines x.1.blank_so_far x.1.mark x.1.rest in
     leading_refused style indent s.mark x.0.chomping limit s lines
     (passed_passed s.mark s.rest x.1.mark x.1.rest lines.1.mark lines.1.rest h.passes
     (empty_passes limit no_lines x.1.blank_so_far x.1.mark x.1.rest).here))

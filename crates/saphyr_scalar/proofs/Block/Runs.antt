@@ -8,8 +8,8 @@ use Rattle.std.proofs.lemmas.Str.{encodes-append}
 use Rattle.saphyr_input.specs.Classes.{is_blank, is_yaml_non_break, is_yaml_non_space}
 use Rattle.saphyr_input.proofs.Runs.{Ran, ran_all}
 use Rattle.saphyr_scalar.specs.declared.scalar.position.Marker.{Marker}
-use Rattle.saphyr_scalar.specs.Cursor.{Cursor, along}
-use Rattle.saphyr_scalar.specs.BlockScalar.{there, with_line}
+use Rattle.saphyr_scalar.specs.Views.Cursor.{Cursor, along}
+use Rattle.saphyr_scalar.specs.Steps.Block.{there, with_line}
 use Rattle.saphyr_input.proofs.Basics.Lists.{run_ends}
 use Rattle.saphyr_input.proofs.Basics.Booleans.{by_test}
 use Rattle.saphyr_scalar.proofs.Given.{together}

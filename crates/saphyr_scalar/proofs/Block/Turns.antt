@@ -14,8 +14,8 @@ use Rattle.saphyr_scalar.specs.declared.scalar.position.Span.{Span}
 use Rattle.saphyr_scalar.specs.declared.scalar.fault.Refusal.{Refusal}
 use Rattle.saphyr_scalar.specs.declared.scalar.block.lines.EmptyLines.{EmptyLines}
 use Rattle.saphyr_scalar.specs.declared.scalar.block.breaks.BlockEnd.{BlockEnd}
-use Rattle.saphyr_scalar.specs.Cursor.{Cursor, along, next_line, pass_break, pass_comment}
-use Rattle.saphyr_scalar.specs.BlockScalar.{there, is_indentation, is_cr_lf, inside_break, one_more, empty_lines, empty_lines_at, line_starts, break_before, LinesRead, with_text, ended, between, line, between_at, line_at, with_line, with_front, tail, is_unfinished, chomped}
+use Rattle.saphyr_scalar.specs.Views.Cursor.{Cursor, along, next_line, pass_break, pass_comment}
+use Rattle.saphyr_scalar.specs.Steps.Block.{there, is_indentation, is_cr_lf, inside_break, one_more, pass_empty_lines, pass_empty_lines_at, line_starts, break_before, LinesRead, lines_behind_text, lines_ended, between, line, between_at, line_at, with_line, with_lines, tail, is_unfinished, chomped_lines}
 use Rattle.saphyr_scalar.proofs.Moving.{along_none, along_more}
 use Rattle.saphyr_scalar.proofs.Quoted.Inside.{break_cases}
 use Rattle.saphyr_scalar.proofs.Block.Lines.{no_break, behind_cr}
@@ -25,14 +25,15 @@ use Rattle.saphyr_input.proofs.Basics.Characters.{non_break_no_break}
 use Rattle.saphyr_scalar.proofs.PassedBreaks.{inside_same}
 use Rattle.saphyr_scalar.proofs.Block.Indentations.{nul_no_indentation}
 
-text_twice : (a b : List ℕ) (read : LinesRead) → with_text a (with_text b read) ≡ with_text (a ++ b) read
+text_twice : (a b : List ℕ) (read : LinesRead) → lines_behind_text a (lines_behind_text b read)
+    ≡ lines_behind_text (a ++ b) read
 text_twice a b read = rw append_assoc refl
 
-no_text : (read : LinesRead) → with_text [] read ≡ read
+no_text : (read : LinesRead) → lines_behind_text [] read ≡ read
 no_text read = refl
 
 front_text : (text a : List ℕ) (read : LinesRead)
-    → with_front text (with_text a read) ≡ with_front (text ++ encode_utf8_all a) read
+    → with_lines text (lines_behind_text a read) ≡ with_lines (text ++ encode_utf8_all a) read
 front_text text a read = rw (encodes-append, append_assoc) refl
 
 -- empty lines before a line, and its indentation
@@ -58,8 +59,8 @@ abbrev Skips : BlockStyle → ℕ → Option Bool → ℕ → Bool → Marker �
 Skips st i ab k b m xs r = between st i ab k b m xs ≡ between_at st i ab r.0.count r.1
 
 between_skips : (st : BlockStyle) (i : ℕ) (ab : Option Bool) (lines : EmptyLines) (b : Bool) (m : Marker) (xs : List ℕ)
-    → Skips st i ab lines.count b m xs (empty_lines (Some i) lines b m xs)
-unfolding empty_lines
+    → Skips st i ab lines.count b m xs (pass_empty_lines (Some i) lines b m xs)
+unfolding pass_empty_lines
 between_skips st i ab lines b m [] = refl
 between_skips st i ab lines b m (c ∷ cs) =
     by_test (is_indentation (Some i) m.col c) _ _ (Skips st i ab lines.count b m (c ∷ cs))
@@ -77,8 +78,8 @@ Stopped limit r = (is_indentation limit r.1.mark.col (slice_index r.1.rest 0) �
     × (is_break (slice_index r.1.rest 0) ≡ false)
 
 pub stopped : (limit : Option ℕ) (lines : EmptyLines) (b : Bool) (m : Marker) (xs : List ℕ)
-    → Stopped limit (empty_lines limit lines b m xs)
-unfolding empty_lines
+    → Stopped limit (pass_empty_lines limit lines b m xs)
+unfolding pass_empty_lines
 stopped limit lines b m [] = (nul_no_indentation limit m.col, refl)
 stopped limit lines b m (c ∷ cs) =
     by_test (is_indentation limit m.col c) _ _ (Stopped limit)
@@ -94,8 +95,8 @@ abbrev Shorter : List ℕ → EmptyLines × Cursor → Type 0
 Shorter xs r = length r.1.rest ≤ length xs
 
 shorter : (limit : Option ℕ) (lines : EmptyLines) (b : Bool) (m : Marker) (xs : List ℕ)
-    → Shorter xs (empty_lines limit lines b m xs)
-unfolding empty_lines
+    → Shorter xs (pass_empty_lines limit lines b m xs)
+unfolding pass_empty_lines
 shorter limit lines b m [] = omega arith
 shorter limit lines b m (c ∷ cs) =
     by_test (is_indentation limit m.col c) _ _ (Shorter (c ∷ cs))
@@ -115,7 +116,7 @@ pub record Skipped (st : BlockStyle) (i : ℕ) (ab : Option Bool) (before after 
   pub shorter : length t.rest ≤ length s.rest
 
 pub skipped : (st : BlockStyle) (i : ℕ) (ab : Option Bool) (before after : EmptyLines) (s t : Cursor)
-    → (after, t) ≡ empty_lines_at (Some i) before s → Skipped st i ab before after s t
+    → (after, t) ≡ pass_empty_lines_at (Some i) before s → Skipped st i ab before after s t
 skipped st i ab before after s t e =
     let P : EmptyLines × Cursor → Type 0 = λ r. Skipped st i ab before r.0 s r.1 in
     subst P (sym e)
@@ -129,14 +130,14 @@ skipped st i ab before after s t e =
 -- no content line begins
 pub no_line_at : (st : BlockStyle) (i : ℕ) (ab : Option Bool) (k : ℕ) (b : Bool) (m : Marker) (xs : List ℕ)
     → is_indentation (Some i) m.col (slice_index xs 0) ≡ false → is_break (slice_index xs 0) ≡ false
-    → line_starts i m.col xs ≡ false → between st i ab k b m xs ≡ ended (is_some ab) k (there b m xs)
+    → line_starts i m.col xs ≡ false → between st i ab k b m xs ≡ lines_ended (is_some ab) k (there b m xs)
 unfolding between
 no_line_at st i ab k b m [] space clear h = refl
 no_line_at st i ab k b m (c ∷ cs) space clear h = rw (space, (no_break c clear).1, (no_break c clear).0, h) refl
 
 pub no_line : (st : BlockStyle) (i : ℕ) (ab : Option Bool) (before after : EmptyLines) (s t : Cursor)
     → Skipped st i ab before after s t → line_starts i t.mark.col t.rest ≡ false
-    → between_at st i ab before.count s ≡ ended (is_some ab) after.count t
+    → between_at st i ab before.count s ≡ lines_ended (is_some ab) after.count t
 no_line st i ab before after s t r h =
     r.same ∙ no_line_at st i ab after.count t.blank_so_far t.mark t.rest r.space r.clear h
 
@@ -159,7 +160,7 @@ pub not_left : (i col c : ℕ) → col ≡ i → is_indentation (Some i) col c �
 not_left i col c e = let no : nat_lt col i ≡ false = grind (arith, nat_tests) in rw no (and_false (nat_eq c 32))
 
 pub line_on : (st : BlockStyle) (i : ℕ) (more b : Bool) (m : Marker) (c : ℕ) (cs : List ℕ) → is_yaml_non_break c ≡ true
-    → line st i more b m (c ∷ cs) ≡ with_text (c ∷ []) (line st i more b (along m 1) cs)
+    → line st i more b m (c ∷ cs) ≡ lines_behind_text (c ∷ []) (line st i more b (along m 1) cs)
 unfolding line
 line_on st i more b m c cs h = rw h refl
 
@@ -167,14 +168,14 @@ begun : (st : BlockStyle) (i : ℕ) (ab : Option Bool) (k : ℕ) (b : Bool) (m :
     → is_indentation (Some i) m.col c ≡ false → is_cr_lf c cs ≡ false → is_break c ≡ false
     → line_starts i m.col (c ∷ cs) ≡ true
     → between st i ab k b m (c ∷ cs)
-    ≡ with_text (break_before st ab k (is_blank c) ++ c ∷ []) (line st i (is_blank c) b (along m 1) cs)
+    ≡ lines_behind_text (break_before st ab k (is_blank c) ++ c ∷ []) (line st i (is_blank c) b (along m 1) cs)
 unfolding between
 begun st i ab k b m c cs h0 h1 h2 h = rw (h0, h1, h2, h) refl
 
 pub line_begins : (st : BlockStyle) (i : ℕ) (ab : Option Bool) (k : ℕ) (b : Bool) (m : Marker) (xs : List ℕ)
     → line_starts i m.col xs ≡ true
     → between st i ab k b m xs
-    ≡ with_text (break_before st ab k (is_blank (slice_index xs 0)))
+    ≡ lines_behind_text (break_before st ab k (is_blank (slice_index xs 0)))
     (line st i (is_blank (slice_index xs 0)) b m xs)
 line_begins st i ab k b m [] h = let no = (starts i m.col [] h).content in absurd (cc)
 line_begins st i ab k b m (c ∷ cs) h =
@@ -183,14 +184,15 @@ line_begins st i ab k b m (c ∷ cs) h =
     let half : is_cr_lf c cs ≡ false = rw (no_break c clear).1 refl in
     begun st i ab k b m c cs (not_left i m.col c s.column) half clear h
     ∙ sym (text_twice (break_before st ab k (is_blank c)) (c ∷ []) (line st i (is_blank c) b (along m 1) cs))
-    ∙ ap (with_text (break_before st ab k (is_blank c))) (sym (line_on st i (is_blank c) b m c cs s.content))
+    ∙ ap (lines_behind_text (break_before st ab k (is_blank c))) (sym (line_on st i (is_blank c) b m c cs s.content))
 
 -- the rest of a line
 abbrev Runs : BlockStyle → ℕ → Bool → Bool → Marker → List ℕ → ℕ → Type 0
-Runs st i more b m xs n = line st i more b m xs ≡ with_text (take n xs) (line st i more b (along m n) (drop n xs))
+Runs st i more b m xs n = line st i more b m xs
+    ≡ lines_behind_text (take n xs) (line st i more b (along m n) (drop n xs))
 
 no_run : (st : BlockStyle) (i : ℕ) (more b : Bool) (m : Marker) (xs : List ℕ) → Runs st i more b m xs 0
-no_run st i more b m xs = ap (λ x. with_text [] (line st i more b x xs)) (sym (along_none m))
+no_run st i more b m xs = ap (λ x. lines_behind_text [] (line st i more b x xs)) (sym (along_none m))
 
 line_run : (st : BlockStyle) (i : ℕ) (more b : Bool) (m : Marker) (xs : List ℕ)
     → Runs st i more b m xs (prefix_len is_yaml_non_break xs)
@@ -200,9 +202,10 @@ line_run st i more b m (c ∷ cs) =
     let one : 1 + n ≡ suc n = omega arith in
     by_test (is_yaml_non_break c) (1 + n) 0 (Runs st i more b m (c ∷ cs))
     (λ h. rw one
-    (line_on st i more b m c cs h ∙ ap (with_text (c ∷ [])) (line_run st i more b (along m 1) cs)
+    (line_on st i more b m c cs h ∙ ap (lines_behind_text (c ∷ [])) (line_run st i more b (along m 1) cs)
     ∙ text_twice (c ∷ []) (take n cs) _
-    ∙ ap (λ x. with_text (c ∷ take n cs) (line st i more b x (drop n cs))) (along_more m 1 n (suc n) (omega arith))))
+    ∙ ap (λ x. lines_behind_text (c ∷ take n cs) (line st i more b x (drop n cs)))
+    (along_more m 1 n (suc n) (omega arith))))
     (λ h. no_run st i more b m (c ∷ cs))
 
 -- the break at a line's end
@@ -238,7 +241,7 @@ line_breaks st i more b m (c ∷ cs) h =
 -- a line that no break ends
 line_cut : (st : BlockStyle) (i : ℕ) (more b : Bool) (m : Marker) (xs : List ℕ)
     → is_yaml_non_break (slice_index xs 0) ≡ false → is_break (slice_index xs 0) ≡ false
-    → line st i more b m xs ≡ ended false 0 (there b m xs)
+    → line st i more b m xs ≡ lines_ended false 0 (there b m xs)
 unfolding line
 line_cut st i more b m [] h k = refl
 line_cut st i more b m (c ∷ cs) h k = rw (h, (no_break c k).1, (no_break c k).0) refl
@@ -247,7 +250,7 @@ line_cut st i more b m (c ∷ cs) h k = rw (h, (no_break c k).1, (no_break c k).
 -- `grown`.
 pub record LineRead (st : BlockStyle) (i : ℕ) (ab : Option Bool) (k : ℕ) (text grown : List ℕ) (here end : Cursor)
     (below : Bool) : Type 0 where
-  pub same : with_front text (between_at st i ab k here) ≡ with_front grown (line_at st i below end)
+  pub same : with_lines text (between_at st i ab k here) ≡ with_lines grown (line_at st i below end)
   pub ends : is_yaml_non_break (slice_index end.rest 0) ≡ false
   pub shorter : length end.rest < length here.rest
 
@@ -274,10 +277,10 @@ line_read st i ab k text more grown here end below h e pushed read =
     let run = line_run st i below here.blank_so_far here.mark here.rest in
     subst P (read_to more grown here end read)
     (record {
-      same = ap (with_front text) (rw (← e) at start)
+      same = ap (with_lines text) (rw (← e) at start)
           ∙ front_text text (break_before st ab k below) (line_at st i below here)
-          ∙ ap (λ b. with_front b (line_at st i below here)) (sym pushed)
-          ∙ ap (with_front more) run ∙ front_text more (take n here.rest) (line_at st i below (pass_comment here));
+          ∙ ap (λ b. with_lines b (line_at st i below here)) (sym pushed)
+          ∙ ap (with_lines more) run ∙ front_text more (take n here.rest) (line_at st i below (pass_comment here));
       ends = run_ends is_yaml_non_break here.rest refl;
       shorter = rw (length-drop)
           (omega (arith, some_content here.rest s.content, prefix_len-le-length is_yaml_non_break here.rest));
@@ -288,14 +291,14 @@ pub turn : (st : BlockStyle) (i : ℕ) (ab : Option Bool) (before after : EmptyL
     (s t here end : Cursor) (below : Bool) → Skipped st i ab before after s t → here ≡ t
     → line_starts i t.mark.col t.rest ≡ true → below ≡ is_blank (slice_index here.rest 0)
     → more ≡ text ++ encode_utf8_all (break_before st ab after.count below) → SameLine more here grown end
-    → (with_front text (between_at st i ab before.count s) ≡ with_front grown (line_at st i below end))
+    → (with_lines text (between_at st i ab before.count s) ≡ with_lines grown (line_at st i below end))
     × (is_yaml_non_break (slice_index end.rest 0) ≡ false) × (length end.rest < length s.rest)
 turn st i ab before after text more grown s t here end below skip same h e pushed read =
     let begins : line_starts i here.mark.col here.rest ≡ true = ap (λ (x : Cursor). line_starts i x.mark.col x.rest)
     same ∙ h in
     let r = line_read st i ab after.count text more grown here end below begins e pushed read in
     let less : length here.rest ≤ length s.rest = rw same skip.shorter in (
-      ap (with_front text) (skip.same ∙ ap (between_at st i ab after.count) (sym same))
+      ap (with_lines text) (skip.same ∙ ap (between_at st i ab after.count) (sym same))
           ∙ r.same,
       r.ends,
       omega (arith, r.shorter, less),
@@ -311,12 +314,12 @@ break_shorter b m xs =
 -- the break behind a line
 pub broken : (st : BlockStyle) (i : ℕ) (more : Bool) (text : List ℕ) (end look t : Cursor) (c : ℕ) → look ≡ end
     → c ≡ slice_index end.rest 0 → is_break c ≡ true → t ≡ pass_break look
-    → (with_front text (between_at st i (Some more) 0 t) ≡ with_front text (line_at st i more end))
+    → (with_lines text (between_at st i (Some more) 0 t) ≡ with_lines text (line_at st i more end))
     × (length t.rest ≤ length end.rest)
 broken st i more text end look t c same read h passed =
     let first : is_break (slice_index end.rest 0) ≡ true = sym (ap is_break read) ∙ h in
     let place : t ≡ pass_break end = passed ∙ ap pass_break same in (
-      ap (with_front text) (ap (between_at st i (Some more) 0) place
+      ap (with_lines text) (ap (between_at st i (Some more) 0) place
           ∙ sym (line_breaks st i more end.blank_so_far end.mark end.rest first)),
       rw place (break_shorter end.blank_so_far end.mark end.rest),
     )
@@ -324,27 +327,28 @@ broken st i more text end look t c same read h passed =
 -- a line that no break ends
 pub cut : (st : BlockStyle) (i : ℕ) (more : Bool) (text : List ℕ) (end look : Cursor) (c : ℕ) → look ≡ end
     → c ≡ slice_index end.rest 0 → is_break c ≡ false → is_yaml_non_break (slice_index end.rest 0) ≡ false
-    → with_front text (line_at st i more end) ≡ (text, record { broken = false; empty_lines = 0 }, look)
+    → with_lines text (line_at st i more end) ≡ (text, record { broken = false; empty_lines = 0 }, look)
 cut st i more text end look c same read h ends =
     let first : is_break (slice_index end.rest 0) ≡ false = sym (ap is_break read) ∙ h in
-    ap (with_front text) (line_cut st i more end.blank_so_far end.mark end.rest ends first
-    ∙ ap (ended false 0) (sym same)) ∙ rw append-nil refl
+    ap (with_lines text) (line_cut st i more end.blank_so_far end.mark end.rest ends first
+    ∙ ap (lines_ended false 0) (sym same)) ∙ rw append-nil refl
 
 -- no line begins
 pub last : (st : BlockStyle) (i : ℕ) (ab : Option Bool) (before after : EmptyLines) (text : List ℕ) (s t here : Cursor)
     (b : Bool) → Skipped st i ab before after s t → here ≡ t → line_starts i t.mark.col t.rest ≡ false → b ≡ is_some ab
-    → with_front text (between_at st i ab before.count s)
+    → with_lines text (between_at st i ab before.count s)
     ≡ (text, record { broken = b; empty_lines = after.count }, here)
 last st i ab before after text s t here b skip same h e =
-    ap (with_front text) (no_line st i ab before after s t skip h ∙ ap (ended (is_some ab) after.count) (sym same))
+    ap (with_lines text)
+        (no_line st i ab before after s t skip h ∙ ap (lines_ended (is_some ab) after.count) (sym same))
     ∙ rw (e, append-nil) refl
 
 abbrev SameLines : List ℕ → LinesRead → List ℕ → BlockEnd → Cursor → Type 0
 SameLines text read grown end t =
-    let r : Result (List ℕ × BlockEnd × Cursor) Refusal = Ok (with_front text read) in r ≡ Ok (grown, end, t)
+    let r : Result (List ℕ × BlockEnd × Cursor) Refusal = Ok (with_lines text read) in r ≡ Ok (grown, end, t)
 
 lines_to : (text grown : List ℕ) (read : LinesRead) (end : BlockEnd) (t : Cursor) → SameLines text read grown end t
-    → ◌≡◌ {A = List ℕ × BlockEnd × Cursor} (with_front text read) (grown, end, t)
+    → ◌≡◌ {A = List ℕ × BlockEnd × Cursor} (with_lines text read) (grown, end, t)
 lines_to text grown read end t e = cc
 
 -- the text is put together
@@ -352,8 +356,8 @@ pub text_done : (c : Chomping) (i : ℕ) (start : Marker) (read : LinesRead) (te
     (t u : Cursor) (b : Bool) (span : Span)
     → SameLines text read grown end t → text ≡ [] → b ≡ is_unfinished i t → u ≡ t
     → pushed ≡ grown ++ encode_utf8_all (tail c b end) → span.start ≡ start → span.end ≡ u.mark
-    → chomped c i start read ≡ Ok (pushed, span, u)
-unfolding chomped
+    → chomped_lines c i start read ≡ Ok (pushed, span, u)
+unfolding chomped_lines
 text_done c i start read text grown pushed end t u b span e none unfinished same push first last =
     let whole = lines_to text grown read end t e in
     let bytes : text ++ encode_utf8_all read.0 ≡ grown = ap (λ (x : List ℕ × BlockEnd × Cursor). x.0) whole in

@@ -13,11 +13,11 @@ use Rattle.saphyr_scalar.specs.declared.reading.block.Chomping.TheVariants.{Stri
 use Rattle.saphyr_scalar.specs.declared.reading.block.Ending.{Ending}
 use Rattle.saphyr_scalar.specs.declared.reading.block.Ending.TheVariants.{AtEnd, AtMark}
 use Rattle.saphyr_scalar.specs.declared.scalar.position.Marker.{Marker}
-use Rattle.saphyr_scalar.specs.Cursor.{Cursor, along, next_line}
-use Rattle.saphyr_scalar.specs.BlockReading as reading
-use Rattle.saphyr_scalar.specs.BlockReading.{Line, Empty, Content, is_empty_line, line_of, is_more_indented, break_between, contents_behind, empty_at_end, is_at_end}
-use Rattle.saphyr_scalar.specs.BlockRead.{ending, HasLines, EndsLines}
-use Rattle.saphyr_scalar.specs.BlockScalar.{there, is_indentation, is_cr_lf, inside_break, line_starts, break_before, LinesRead, with_text, ended, between, line, tail, is_unfinished}
+use Rattle.saphyr_scalar.specs.Views.Cursor.{Cursor, along, next_line}
+use Rattle.saphyr_scalar.specs.Reading.Block as reading
+use Rattle.saphyr_scalar.specs.Reading.Block.{Line, Empty, Content, is_empty_line, line_of, is_more_indented, break_between, contents_behind, empty_at_end, is_at_end}
+use Rattle.saphyr_scalar.specs.Steps.BlockRead.{ending, HasLines, EndsLines}
+use Rattle.saphyr_scalar.specs.Steps.Block.{there, is_indentation, is_cr_lf, inside_break, line_starts, break_before, LinesRead, lines_behind_text, lines_ended, between, line, tail, is_unfinished}
 use Rattle.saphyr_scalar.proofs.Block.Lines.{no_break}
 use Rattle.saphyr_scalar.proofs.Block.Turns.{Starts, starts, no_start}
 use Rattle.saphyr_scalar.proofs.Block.Texts.{spaces, spaces_more, IsPlain, plain_first, plain_both, plain_spaces, first_line, only_line, empty_spaces, line_spaces, full_content, line_content, content_of, normal_half, normal_break, is_counted_behind, value_behind, value_empty, lines_break, lines_spaces, lines_cut, lines_broken}
@@ -98,7 +98,7 @@ pub record LineRead (st : BlockStyle) (c : Chomping) (i : ℕ) (more : Bool) (xs
 -- the lines end here, in spaces
 stop_spaces : (st : BlockStyle) (c : Chomping) (i : ℕ) (more : Bool) (k : ℕ) (b : Bool) (m : Marker) (xs : List ℕ)
     → m.col ≤ i → EndsLines i (there b m xs)
-    → BetweenRead st c i more k m.col xs (ended true k (there b m xs))
+    → BetweenRead st c i more k m.col xs (lines_ended true k (there b m xs))
 stop_spaces st c i more k b m xs within ends =
     let s = there b m xs in
     let only = only_line (spaces m.col) (plain_spaces m.col) in
@@ -128,7 +128,7 @@ unfinished_content i s h =
 -- the lines end here, in content
 stop_content : (st : BlockStyle) (c : Chomping) (i : ℕ) (more b : Bool) (m : Marker) (xs : List ℕ) → i < m.col
     → is_yaml_non_break (slice_index xs 0) ≡ false → is_break (slice_index xs 0) ≡ false
-    → LineRead st c i more xs (ended false 0 (there b m xs))
+    → LineRead st c i more xs (lines_ended false 0 (there b m xs))
 stop_content st c i more b m xs within cut clear =
     let s = there b m xs in
     record {
@@ -225,7 +225,8 @@ break_line st c i more x cs r half e b = record {
 
 -- a character that is content
 content_line : (st : BlockStyle) (c : Chomping) (i : ℕ) (more : Bool) (x : ℕ) (cs : List ℕ) (r : LinesRead)
-    → is_yaml_non_break x ≡ true → LineRead st c i more cs r → LineRead st c i more (x ∷ cs) (with_text (x ∷ []) r)
+    → is_yaml_non_break x ≡ true → LineRead st c i more cs r
+    → LineRead st c i more (x ∷ cs) (lines_behind_text (x ∷ []) r)
 content_line st c i more x cs r e l =
     let clear = no_break x (non_break_no_break x e) in
     let same : normalized (x ∷ l.taken) ≡ x ∷ normalized l.taken = normalized_other x l.taken clear.1 in
@@ -268,7 +269,7 @@ value_broken st c i above k content others e plain some =
 
 begin_line : (st : BlockStyle) (c : Chomping) (i : ℕ) (more : Bool) (k x : ℕ) (cs : List ℕ) (r : LinesRead)
     → is_yaml_non_break x ≡ true → LineRead st c i (is_blank x) cs r
-    → BetweenRead st c i more k i (x ∷ cs) (with_text (break_before st (Some more) k (is_blank x) ++ x ∷ []) r)
+    → BetweenRead st c i more k i (x ∷ cs) (lines_behind_text (break_before st (Some more) k (is_blank x) ++ x ∷ []) r)
 begin_line st c i more k x cs r e l =
     let clear = no_break x (non_break_no_break x e) in
     let here = x ∷ l.content in
@@ -312,10 +313,11 @@ begun_right i col e = omega arith
 
 begun_line : (st : BlockStyle) (c : Chomping) (i : ℕ) (more : Bool) (k col x : ℕ) (cs : List ℕ) (r : LinesRead)
     → Starts i col (x ∷ cs) → LineRead st c i (is_blank x) cs r
-    → BetweenRead st c i more k col (x ∷ cs) (with_text (break_before st (Some more) k (is_blank x) ++ x ∷ []) r)
+    → BetweenRead st c i more k col (x ∷ cs)
+    (lines_behind_text (break_before st (Some more) k (is_blank x) ++ x ∷ []) r)
 begun_line st c i more k col x cs r s l =
     let P : ℕ → Type 0 = λ j. BetweenRead st c i more k j (x ∷ cs)
-    (with_text (break_before st (Some more) k (is_blank x) ++ x ∷ []) r) in
+    (lines_behind_text (break_before st (Some more) k (is_blank x) ++ x ∷ []) r) in
     subst P (sym s.column) (begin_line st c i more k x cs r s.content l)
 
 no_space_at : (i col : ℕ) → is_indentation (Some i) col 0 ≡ false

@@ -12,13 +12,13 @@ use Rattle.saphyr_scalar.specs.declared.reading.block.Chomping.TheVariants.{Stri
 use Rattle.saphyr_scalar.specs.declared.reading.block.Ending.{Ending}
 use Rattle.saphyr_scalar.specs.declared.reading.block.Ending.TheVariants.{AtEnd, AtMark}
 use Rattle.saphyr_scalar.specs.declared.scalar.position.Marker.{Marker}
-use Rattle.saphyr_scalar.specs.Cursor.{Cursor, along}
-use Rattle.saphyr_scalar.specs.Folding.{line_feeds}
-use Rattle.saphyr_scalar.specs.BlockReading as reading
-use Rattle.saphyr_scalar.specs.BlockReading.{Line, Empty, Content, is_empty_line, line_of, lines_of, contents, contents_behind, has_content, empty_at_end, is_at_end, is_counted, is_broken, lines_value, block_value}
-use Rattle.saphyr_scalar.specs.Lines.{last_line}
-use Rattle.saphyr_scalar.specs.BlockRead.{ending, HasLines, EndsLines}
-use Rattle.saphyr_scalar.specs.BlockScalar.{there, is_indentation, line_starts, LinesRead, with_text, ended, between, line, tail, tail_alone, is_unfinished}
+use Rattle.saphyr_scalar.specs.Views.Cursor.{Cursor, along}
+use Rattle.saphyr_scalar.specs.Reading.Folding.{line_feeds}
+use Rattle.saphyr_scalar.specs.Reading.Block as reading
+use Rattle.saphyr_scalar.specs.Reading.Block.{Line, Empty, Content, is_empty_line, line_of, lines_of, contents, contents_behind, has_content, empty_at_end, is_at_end, is_counted, is_broken, lines_value, block_value}
+use Rattle.saphyr_scalar.specs.Reading.Lines.{last_line}
+use Rattle.saphyr_scalar.specs.Steps.BlockRead.{ending, HasLines, EndsLines}
+use Rattle.saphyr_scalar.specs.Steps.Block.{there, is_indentation, line_starts, LinesRead, lines_behind_text, lines_ended, between, line, tail, tail_alone, is_unfinished}
 use Rattle.saphyr_scalar.proofs.Block.Turns.{starts, line_begins, line_on, no_line_at}
 use Rattle.saphyr_scalar.proofs.Block.Texts.{spaces, IsPlain, plain_first, plain_both, plain_spaces, first_line, only_line, empty_spaces, full_content, line_content, content_of, is_counted_behind, value_behind, lines_spaces, lines_cut, lines_broken}
 use Rattle.saphyr_scalar.proofs.Block.Lines.{no_break}
@@ -172,7 +172,7 @@ broken_lines i x others plain some =
 
 begin_first : (st : BlockStyle) (c : Chomping) (i k x : ℕ) (cs : List ℕ) (r : LinesRead) → is_yaml_non_break x ≡ true
     → LineRead st c i (is_blank x) cs r
-    → FirstRead st c i k i (x ∷ cs) (with_text (line_feeds k) (with_text (x ∷ []) r))
+    → FirstRead st c i k i (x ∷ cs) (lines_behind_text (line_feeds k) (lines_behind_text (x ∷ []) r))
 begin_first st c i k x cs r e l =
     let clear = no_break x (non_break_no_break x e) in
     let here = x ∷ l.content in
@@ -215,7 +215,7 @@ begin_first st c i k x cs r e l =
 
 no_content : (st : BlockStyle) (c : Chomping) (i k : ℕ) (b : Bool) (m : Marker) (xs : List ℕ) → m.col ≤ i
     → EndsLines i (there b m xs) → is_z (slice_index xs 0) ≡ false
-    → FirstRead st c i k m.col xs (ended false k (there b m xs))
+    → FirstRead st c i k m.col xs (lines_ended false k (there b m xs))
 unfolding is_unfinished
 no_content st c i k b m xs within ends some =
     let s = there b m xs in
@@ -252,12 +252,13 @@ first_read st c i k b m (x ∷ cs) within space clear some =
     let s = starts i m.col (x ∷ cs) h in
     let right : i < m.col + 1 = omega (arith, s.column) in
     let begins : between st i None k b m (x ∷ cs)
-    ≡ with_text (line_feeds k) (with_text (x ∷ []) (line st i (is_blank x) b (along m 1) cs)) =
+    ≡ lines_behind_text (line_feeds k) (lines_behind_text (x ∷ []) (line st i (is_blank x) b (along m 1) cs)) =
     line_begins st i None k b m (x ∷ cs) h
-    ∙ ap (with_text (line_feeds k)) (line_on st i (is_blank x) b m x cs s.content) in
+    ∙ ap (lines_behind_text (line_feeds k)) (line_on st i (is_blank x) b m x cs s.content) in
     let P : ℕ → LinesRead → Type 0 = λ j r. FirstRead st c i k j (x ∷ cs) r in
     subst (P m.col) (sym begins)
-    (subst (λ j. P j (with_text (line_feeds k) (with_text (x ∷ []) (line st i (is_blank x) b (along m 1) cs))))
+    (subst (λ j. P j (lines_behind_text (line_feeds k)
+    (lines_behind_text (x ∷ []) (line st i (is_blank x) b (along m 1) cs))))
     (sym s.column)
     (begin_first st c i k x cs _ s.content (line_read st c i (is_blank x) b (along m 1) cs right))))
     (λ h. subst (λ r. FirstRead st c i k m.col (x ∷ cs) r) (sym (no_line_at st i None k b m (x ∷ cs) space clear h))

@@ -9,8 +9,8 @@ use Rattle.saphyr_scalar.specs.declared.reading.block.Chomping.TheVariants.{Stri
 use Rattle.saphyr_scalar.specs.declared.scalar.position.Marker.{Marker}
 use Rattle.saphyr_scalar.specs.declared.scalar.block.header.BlockHeader.{BlockHeader}
 use Rattle.saphyr_scalar.specs.declared.scalar.block.lines.EmptyLines.{EmptyLines}
-use Rattle.saphyr_scalar.specs.Cursor.{Cursor, along, next_line, pass_break}
-use Rattle.saphyr_scalar.specs.BlockScalar.{chomping, indicator, header_break, header_end, last_chomping, header_behind, header, is_indentation, inside_break, one_more, empty_lines, line_starts, break_before, LinesRead, with_text, between, line, is_unfinished, tail_alone, given_indentation, chomped, content, behind_leading, no_lines, behind_header, block_scalar}
+use Rattle.saphyr_scalar.specs.Views.Cursor.{Cursor, along, next_line, pass_break}
+use Rattle.saphyr_scalar.specs.Steps.Block.{chomping, indicator, header_break, header_end, last_chomping, header_behind, header, is_indentation, inside_break, one_more, pass_empty_lines, line_starts, break_before, LinesRead, lines_behind_text, between, line, is_unfinished, tail_alone, given_indentation, chomped_lines, content, behind_leading_lines, no_lines, behind_header, block_scalar}
 use Rattle.saphyr_scalar.specs.Alike.{AreMarksAlike, AreAlike, GiveAlike, AreSame, AreBlocksAlike}
 use Rattle.saphyr_scalar.proofs.Breaks.Sides.{Normal, nothing, character, feed, return, pair, no_feed, first_in, first_same, Places, over_pair, moved_along, moved_down, marks_alike, alike, normal_of, places_of}
 use Rattle.saphyr_scalar.proofs.Breaks.Results.{both_by, both_then}
@@ -88,8 +88,8 @@ no_indentation (Some l) col c h = rw h refl
 
 empty_alike : (text : List ℕ) (limit : Option ℕ) (l k : EmptyLines) (a b : Bool) (m n : Marker) {r q : List ℕ} → l ≡ k
     → a ≡ b → Normal r q → Places text r q m n
-    → AreSame text (empty_lines limit l a m r) (empty_lines limit k b n q)
-unfolding empty_lines
+    → AreSame text (pass_empty_lines limit l a m r) (pass_empty_lines limit k b n q)
+unfolding pass_empty_lines
 empty_alike text limit l k a b m n same e nothing p = (rw (same, p.col) refl, alike a b e nothing p)
 empty_alike text limit l k a b m n same e (character c h x) p =
     both_by (is_indentation limit m.col c) (is_indentation limit n.col c) _ _ _ _ (AreSame text)
@@ -121,7 +121,8 @@ starts_alike i j k same n =
     let marker = indicator_alike n in
     rw (same, first, marker) refl
 
-front_alike : (text a : List ℕ) (x y : LinesRead) → AreRead text x y → AreRead text (with_text a x) (with_text a y)
+front_alike : (text a : List ℕ) (x y : LinesRead) → AreRead text x y
+    → AreRead text (lines_behind_text a x) (lines_behind_text a y)
 front_alike text a x y e = (ap (λ b. a ++ b) e.0, e.1, e.2)
 
 mutual
@@ -181,8 +182,8 @@ tail_alike Clip k e = refl
 tail_alike Keep k e = rw (e.blank, e.col) refl
 
 chomped_alike : (text : List ℕ) (c : Chomping) (i : ℕ) (m n : Marker) (x y : LinesRead) → AreMarksAlike text m n
-    → AreRead text x y → GiveAlike (AreBlocksAlike text) (chomped c i m x) (chomped c i n y)
-unfolding chomped
+    → AreRead text x y → GiveAlike (AreBlocksAlike text) (chomped_lines c i m x) (chomped_lines c i n y)
+unfolding chomped_lines
 chomped_alike text c i m n x y marks e = (rw (e.0, e.1, unfinished_alike i e.2) refl, marks, marks_alike e.2, e.2)
 
 content_alike : (text : List ℕ) (style : BlockStyle) (c : Chomping) (indent i k : ℕ) (s t : Cursor) → AreAlike text s t
@@ -197,9 +198,9 @@ content_alike text style c indent i k s t e =
 
 leading_alike : (text : List ℕ) (style : BlockStyle) (indent : ℕ) (m n : Marker) (c : Chomping) (limit : Option ℕ)
     (x y : EmptyLines × Cursor) → AreMarksAlike text m n → AreSame text x y
-    → GiveAlike (AreBlocksAlike text) (behind_leading style indent m c limit x)
-    (behind_leading style indent n c limit y)
-unfolding behind_leading
+    → GiveAlike (AreBlocksAlike text) (behind_leading_lines style indent m c limit x)
+    (behind_leading_lines style indent n c limit y)
+unfolding behind_leading_lines
 leading_alike text style indent m n c limit x y marks e =
     by_first is_z refl e.1 (GiveAlike (AreBlocksAlike text))
     (λ _. (rw (e.0, tail_alike c y.0.count e.1) refl, marks, marks_alike e.1, e.1))

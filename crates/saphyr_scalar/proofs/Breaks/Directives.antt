@@ -6,24 +6,25 @@ use Rattle.saphyr_input.specs.Classes.{is_blank, is_breakz, is_blank_or_breakz, 
 use Rattle.saphyr_input.specs.declared.input.SkipTabs.TheVariants as skip
 use Rattle.saphyr_scalar.specs.declared.scalar.position.Marker.{Marker}
 use Rattle.saphyr_scalar.specs.declared.scalar.tag.UriSet.TheVariants.{Uri}
-use Rattle.saphyr_scalar.specs.Cursor.{Cursor, along, pass}
-use Rattle.saphyr_scalar.specs.Quoted.{at}
-use Rattle.saphyr_scalar.specs.Tag.{handle_of}
-use Rattle.saphyr_scalar.specs.Directive.{reserved, behind_blanks, name_of, name, number_end, number_from, number, behind_major, version_directive, behind_word, handle, prefix, behind_prefix, tag_directive, value, line_end, directive}
+use Rattle.saphyr_scalar.specs.Views.Cursor.{Cursor, along, pass}
+use Rattle.saphyr_scalar.specs.Steps.Quoted.{at}
+use Rattle.saphyr_scalar.specs.Steps.Tag.{handle_of}
+use Rattle.saphyr_scalar.specs.Steps.Directive.{reserved, pass_all_blanks, directive_name_of, name, number_end, number_from, number, behind_major, version_directive, handle_behind_word, handle, prefix, behind_prefix, tag_directive, value, line_end, directive}
 use Rattle.saphyr_scalar.specs.Alike.{AreAlike, GiveAlike, AreSame, AreDirectivesAlike}
 use Rattle.saphyr_scalar.proofs.Breaks.Sides.{Normal, nothing, character, feed, return, pair, run, Places, moved_along, marks_alike, alike, normal_of, places_of}
 use Rattle.saphyr_scalar.proofs.Breaks.Results.{both_by, both_then}
 use Rattle.saphyr_scalar.proofs.Breaks.Separations.{by_first, part_of, passed_blanks, break_alike, comment_alike, separation_alike}
 use Rattle.saphyr_scalar.proofs.Breaks.Names.{NoBreak, no_break_in, one_passed, run_alike, character_alike, front_alike, decoded_alike}
 
-blanks_alike : {text : List ℕ} {s t : Cursor} → AreAlike text s t → AreAlike text (behind_blanks s) (behind_blanks t)
+blanks_alike : {text : List ℕ} {s t : Cursor} → AreAlike text s t
+    → AreAlike text (pass_all_blanks s) (pass_all_blanks t)
 blanks_alike {s = s} {t = t} e =
     passed_blanks (prefix_len is_blank s.rest) (prefix_len is_blank t.rest)
     (part_of (run is_blank refl refl (normal_of e))) e
 
 name_of_alike : (text : List ℕ) (m n : Marker) (x y : List ℕ × Cursor) → AreSame text x y
-    → GiveAlike (AreSame text) (name_of m x) (name_of n y)
-unfolding name_of
+    → GiveAlike (AreSame text) (directive_name_of m x) (directive_name_of n y)
+unfolding directive_name_of
 name_of_alike text m n x y e =
     both_by (length x.0 == 0) (length y.0 == 0) _ _ _ _ (GiveAlike (AreSame text)) (ap (λ r. length r == 0) e.0)
     (λ _ _. refl)
@@ -76,14 +77,14 @@ version_alike : (text : List ℕ) (m n : Marker) (s t : Cursor) → AreAlike tex
     → GiveAlike (AreSame text) (version_directive m s) (version_directive n t)
 unfolding version_directive
 version_alike text m n s t e =
-    both_then (AreSame text) (AreSame text) _ _ _ _ (number_alike text m n (behind_blanks s) (behind_blanks t)
+    both_then (AreSame text) (AreSame text) _ _ _ _ (number_alike text m n (pass_all_blanks s) (pass_all_blanks t)
     (blanks_alike e)) (λ x y _ _ is. major_alike text m n x y is)
 
 -- ## Handles and prefixes
 
 word_alike : (text : List ℕ) (m n : Marker) (x y : List ℕ × Cursor) → AreSame text x y
-    → GiveAlike (AreSame text) (behind_word m x) (behind_word n y)
-unfolding behind_word
+    → GiveAlike (AreSame text) (handle_behind_word m x) (handle_behind_word n y)
+unfolding handle_behind_word
 word_alike text m n x y e =
     by_first (λ c. c == 33) refl e.1 (GiveAlike (AreSame text))
     (λ h. (ap handle_of e.0, one_passed (no_break_in (λ c. c == 33) refl refl x.1.rest h) e.1))

@@ -7,10 +7,10 @@ use Rattle.saphyr_scalar.specs.declared.scalar.position.Marker.{Marker}
 use Rattle.saphyr_scalar.specs.declared.scalar.fault.Refusal.{Refusal}
 use Rattle.saphyr_scalar.specs.declared.scalar.tag.UriSet.{UriSet}
 use Rattle.saphyr_scalar.specs.declared.scalar.tag.UriSet.TheVariants.{Uri, Suffix}
-use Rattle.saphyr_scalar.specs.Cursor.{Cursor, pass}
-use Rattle.saphyr_scalar.specs.Quoted.{at, with_run, with_front}
-use Rattle.saphyr_scalar.specs.Anchor.{anchor, name_of}
-use Rattle.saphyr_scalar.specs.Tag.{has, byte_value, shows_byte, escaped_byte, utf8_width, leading_bits, is_trailing, trailing_byte, trailing_bytes, is_encoded, encoded, behind_leading, escape, uri_character, decoded_at, verbatim_end, verbatim, handle_of, named_tag, named_tail, primary_tag, behind_word, shorthand, tag_end, tag}
+use Rattle.saphyr_scalar.specs.Views.Cursor.{Cursor, pass}
+use Rattle.saphyr_scalar.specs.Steps.Quoted.{at, with_run, with_front}
+use Rattle.saphyr_scalar.specs.Steps.Anchor.{anchor, anchor_name_of}
+use Rattle.saphyr_scalar.specs.Steps.Tag.{has, byte_value, shows_byte, escaped_byte, utf8_width, leading_bits, is_trailing, trailing_byte, trailing_bytes, is_encoded, encoded, behind_leading_byte, percent_escape, uri_character, decoded_at, verbatim_end, verbatim, handle_of, named_tag, named_tail, primary_tag, behind_word, shorthand, tag_end, tag}
 use Rattle.saphyr_scalar.specs.Alike.{AreAlike, GiveAlike, AreSame, AreTagsAlike}
 use Rattle.saphyr_scalar.proofs.NoBreaks.{class_no_break}
 use Rattle.saphyr_scalar.proofs.Properties.PercentEscapes.{one_more, ends_at, character_shorter, has_left}
@@ -41,8 +41,8 @@ run_alike p a b front {s = s} {t = t} e =
     (ap (λ r. front ++ encode_utf8_all r) x.text, passed (prefix_len p s.rest) (prefix_len p t.rest) (part_of x) e)
 
 name_alike : (text : List ℕ) (m n : Marker) (x y : List ℕ × Cursor) → AreSame text x y
-    → GiveAlike (AreSame text) (name_of m x) (name_of n y)
-unfolding name_of
+    → GiveAlike (AreSame text) (anchor_name_of m x) (anchor_name_of n y)
+unfolding anchor_name_of
 name_alike text m n x y e =
     both_by (length x.0 == 0) (length y.0 == 0) _ _ _ _ (GiveAlike (AreSame text)) (ap (λ r. length r == 0) e.0)
     (λ _ _. refl) (λ _ _. e)
@@ -127,8 +127,8 @@ encoded_alike text m n k v w s t same e =
     (λ _ _. (same, e)) (λ _ _. refl)
 
 leading_alike : (text : List ℕ) (m n : Marker) (b : ℕ) (s t : Cursor) → AreAlike text s t
-    → GiveAlike (AreSame text) (behind_leading m b s) (behind_leading n b t)
-unfolding behind_leading
+    → GiveAlike (AreSame text) (behind_leading_byte m b s) (behind_leading_byte n b t)
+unfolding behind_leading_byte
 leading_alike text m n b s t e =
     both_by (utf8_width b == 0) (utf8_width b == 0) _ _ _ _ (GiveAlike (AreSame text)) refl (λ _ _. refl)
     (λ _ _. both_then (AreSame text) (AreSame text) _ _ _ _ (bytes_alike text m n (utf8_width b - 1) (leading_bits b)
@@ -136,11 +136,12 @@ leading_alike text m n b s t e =
     (λ x y _ _ is. encoded_alike text m n (utf8_width b) x.0 y.0 x.1 y.1 is.0 is.1))
 
 escape_alike : (text : List ℕ) (m n : Marker) (s t : Cursor) → AreAlike text s t
-    → GiveAlike (AreSame text) (escape m s) (escape n t)
-unfolding escape
+    → GiveAlike (AreSame text) (percent_escape m s) (percent_escape n t)
+unfolding percent_escape
 escape_alike text m n s t e =
     both_then (AreSame text) (AreSame text) (escaped_byte m s) (escaped_byte n t) _ _ (byte_alike text m n s t e)
-    (λ x y _ _ is. subst (λ b. GiveAlike (AreSame text) (behind_leading m x.0 x.1) (behind_leading n b y.1)) is.0
+    (λ x y _ _ is. subst
+    (λ b. GiveAlike (AreSame text) (behind_leading_byte m x.0 x.1) (behind_leading_byte n b y.1)) is.0
     (leading_alike text m n x.0 x.1 y.1 is.1))
 
 -- a character that is no break, or an escape

@@ -4,9 +4,9 @@ use Rattle.std.specs.Prelude.{◌&&◌, ◌||◌, ◌==◌, not, nat_lt}
 use Rattle.saphyr_input.specs.Classes.{is_break, is_blank, is_blank_or_breakz, is_z, is_bom, is_flow, tab}
 use Rattle.saphyr_input.specs.Places.{is_document_indicator, is_blank_or_break}
 use Rattle.saphyr_scalar.specs.declared.scalar.position.Marker.{Marker}
-use Rattle.saphyr_scalar.specs.Cursor.{Cursor, along, next_line}
-use Rattle.saphyr_scalar.specs.Quoted.{at}
-use Rattle.saphyr_scalar.specs.Plain.{in_word, word_starts, Gap, may_stand, reached, at_line, lines, next_lines, gap_from, gap, goes_on, comment_of, Reading, with_text, ended, word, plain}
+use Rattle.saphyr_scalar.specs.Views.Cursor.{Cursor, along, next_line}
+use Rattle.saphyr_scalar.specs.Steps.Quoted.{at}
+use Rattle.saphyr_scalar.specs.Steps.Plain.{in_word, word_starts, PlainGap, may_stand, reached, at_line, lines, next_lines, gap_from, gap, goes_on, comment_of, PlainScalarRead, with_text, scalar_ended, word, plain}
 use Rattle.saphyr_scalar.specs.Alike.{AreMarksAlike, AreAlike, GiveAlike, AreSame, AreNoted, ArePlainAlike}
 use Rattle.saphyr_scalar.proofs.Plain.Gaps.{IsEnd, gap_end}
 use Rattle.saphyr_scalar.proofs.Plain.Pieces.{goes_says, word_on, behind_gap, word_over}
@@ -65,7 +65,7 @@ goes_alike text f i s t e =
 
 -- ## Gaps
 
-record AreGapsAlike (text : List ℕ) (g k : Gap) : Type 0 where
+record AreGapsAlike (text : List ℕ) (g k : PlainGap) : Type 0 where
   pub same : g.text ≡ k.text
   pub tabbed : g.tabbed ≡ k.tabbed
   pub behind : AreAlike text g.behind k.behind
@@ -137,12 +137,13 @@ noted_alike text f a b s t same e =
     (rw (first, same, e.blank) refl)
     (λ _ _. marks_alike e) (λ _ _. tt)
 
-ended_alike : (text : List ℕ) (f : Bool) (m n : Marker) (g k : Gap) → AreMarksAlike text m n → AreGapsAlike text g k
-    → GiveAlike (ArePlainAlike text) (ended f m g) (ended f n k)
+ended_alike : (text : List ℕ) (f : Bool) (m n : Marker) (g k : PlainGap) → AreMarksAlike text m n
+    → AreGapsAlike text g k
+    → GiveAlike (ArePlainAlike text) (scalar_ended f m g) (scalar_ended f n k)
 ended_alike text f m n g k marks is =
     (refl, marks, noted_alike text f g.tabbed k.tabbed g.behind k.behind is.tabbed is.behind, is.behind)
 
-front_alike : (text u v : List ℕ) (r q : Reading) → u ≡ v → GiveAlike (ArePlainAlike text) r q
+front_alike : (text u v : List ℕ) (r q : PlainScalarRead) → u ≡ v → GiveAlike (ArePlainAlike text) r q
     → GiveAlike (ArePlainAlike text) (with_text u r) (with_text v q)
 front_alike text u v r q same e =
     both_then (ArePlainAlike text) (ArePlainAlike text) r q _ _ e
@@ -168,7 +169,7 @@ module _ (text : List ℕ) (f : Bool) (i : ℕ) (a b : Marker) where
   abbrev Others : ℕ → Type 0
   Others k = (x y : Cursor) → length x.rest < k → SameWord text f i a b x y
 
-  behind_alike : (m n : Marker) (g k : Gap) (len : ℕ) → AreMarksAlike text m n → AreGapsAlike text g k
+  behind_alike : (m n : Marker) (g k : PlainGap) (len : ℕ) → AreMarksAlike text m n → AreGapsAlike text g k
       → (in_word f g.behind.rest ≡ true → length g.behind.rest < len) → Others len
       → GiveAlike (ArePlainAlike text) (behind_gap f i a m g) (behind_gap f i b n k)
   behind_alike m n g k len marks is shorter others =

@@ -8,10 +8,10 @@ use Rattle.saphyr_scalar.specs.declared.reading.flow.Quote.{Quote}
 use Rattle.saphyr_scalar.specs.declared.reading.flow.Quote.TheVariants.{Single, Double}
 use Rattle.saphyr_scalar.specs.declared.scalar.position.Marker.{Marker}
 use Rattle.saphyr_scalar.specs.declared.scalar.fault.Refusal.{Refusal}
-use Rattle.saphyr_scalar.specs.FlowReading as flow
-use Rattle.saphyr_scalar.specs.Cursor.{Cursor, ◌>>=◌, along, next_line, pass}
-use Rattle.saphyr_scalar.specs.Quoted.{is_literal, simple_escape, digit_count, is_scalar, digits, numbered, escape_of, escape, TextRead, with_front, at, special, special_len, Gap, on_line, over_lines, no_gap, is_left, blank_in, break_in, folded_break, begin_word, end_gap, escaped_gap, break_len, if_some, inside, inside_at, quoted}
-use Rattle.saphyr_scalar.specs.Quoted as quotes
+use Rattle.saphyr_scalar.specs.Reading.Flow as flow
+use Rattle.saphyr_scalar.specs.Views.Cursor.{Cursor, ◌>>=◌, along, next_line, pass}
+use Rattle.saphyr_scalar.specs.Steps.Quoted.{is_literal, simple_escape, hex_digit_count, is_scalar, digits, numbered, escape_of, escaped_character, TextRead, with_front, at, special, special_len, QuotedGap, on_line, over_lines, no_gap, is_left, blank_in, break_in, folded_break, begin_word, end_gap, escaped_gap, break_len, if_some, inside, inside_at, quoted}
+use Rattle.saphyr_scalar.specs.Steps.Quoted as quotes
 use Rattle.saphyr_scalar.specs.Alike.{AreAlike, GiveAlike, AreSame}
 use Rattle.saphyr_scalar.proofs.Quoted.Inside.{passed_over, word_from, behind_gap}
 use Rattle.saphyr_scalar.proofs.Quoted.Escapes.{escape_place}
@@ -57,14 +57,16 @@ letter_alike : (text : List ℕ) (a b : Marker) (o : Option ℕ) (letter : ℕ) 
 unfolding escape_of numbered
 letter_alike text a b (Some c) letter s t first second e = (refl, passed 2 2 (two_part first second (normal_of e)) e)
 letter_alike text a b None letter s t first second e =
-    both_by (digit_count letter == 0) (digit_count letter == 0) _ _ _ _ (GiveAlike (AreSame text)) refl (λ _ _. refl)
-    (λ _ _. both_then (AreSame text) (AreSame text) _ _ _ _ (digits_alike text a b (digit_count letter) 0 0 (pass 2 s)
+    both_by (hex_digit_count letter == 0) (hex_digit_count letter == 0) _ _ _ _ (GiveAlike (AreSame text)) refl
+        (λ _ _. refl)
+    (λ _ _. both_then (AreSame text) (AreSame text) _ _ _ _
+    (digits_alike text a b (hex_digit_count letter) 0 0 (pass 2 s)
     (pass 2 t) refl (passed 2 2 (two_part first second (normal_of e)) e))
     (λ x y _ _ is. character_alike text a b x.0 y.0 x.1 y.1 is.0 is.1))
 
 escape_alike : (text : List ℕ) (a b : Marker) (s t : Cursor) → NoBreak s.rest → NoBreak (drop 1 s.rest)
-    → AreAlike text s t → GiveAlike (AreSame text) (escape a s) (escape b t)
-unfolding escape
+    → AreAlike text s t → GiveAlike (AreSame text) (escaped_character a s) (escaped_character b t)
+unfolding escaped_character
 escape_alike text a b s t first second e =
     let letter : slice_index s.rest 1 ≡ slice_index t.rest 1 = sym (second_is s.rest) ∙ first_same second
     (past_first first (normal_of e)) ∙ second_is t.rest in
@@ -124,8 +126,9 @@ some_left r d s e x other read some = subst (λ (k : Result (Option ℕ × Curso
     Left (Ok y) = y.1.rest ≡ r
     Left (Err y) = ⊥
 
-escape_left : (a m : Marker) (c : ℕ) (cs : List ℕ) (r : Result (ℕ × Cursor) Refusal) → escape a (at m (c ∷ cs)) ≡ r
-    → Leaves (drop (2 + digit_count (slice_index cs 0)) (c ∷ cs)) (r >>= λ e. Ok (Some e.0, e.1))
+escape_left : (a m : Marker) (c : ℕ) (cs : List ℕ) (r : Result (ℕ × Cursor) Refusal)
+    → escaped_character a (at m (c ∷ cs)) ≡ r
+    → Leaves (drop (2 + hex_digit_count (slice_index cs 0)) (c ∷ cs)) (r >>= λ e. Ok (Some e.0, e.1))
 escape_left a m c cs (Ok e) is = some_left _ e.0 e.1 (ap (λ (t : Cursor). t.rest) (escape_place a m (c ∷ cs) e is))
 escape_left a m c cs (Err e) is = λ x d read some. absurd (cc)
 
@@ -136,11 +139,11 @@ special_left Single a m c cs =
     by_test (next_2_are (c ∷ cs) 39 39) _ _ (Leaves (drop 1 cs)) (λ _. some_left _ 39 (pass 2 (at m (c ∷ cs))) refl)
     (λ _. none_left _ _)
 special_left Double a m c cs =
-    let k = digit_count (slice_index cs 0) in
+    let k = hex_digit_count (slice_index cs 0) in
     let two : 2 + k ≡ suc (suc k) = omega arith in
     by_test ((c == 92) && not (is_break (slice_index cs 0))) _ _ (Leaves (drop (suc k) cs))
-    (λ _. subst (λ n. Leaves (drop n (c ∷ cs)) (escape a (at m (c ∷ cs)) >>= λ e. Ok (Some e.0, e.1))) two
-    (escape_left a m c cs (escape a (at m (c ∷ cs))) refl))
+    (λ _. subst (λ n. Leaves (drop n (c ∷ cs)) (escaped_character a (at m (c ∷ cs)) >>= λ e. Ok (Some e.0, e.1))) two
+    (escape_left a m c cs (escaped_character a (at m (c ∷ cs))) refl))
     (λ _. none_left _ _)
 
 -- ## Gaps
@@ -159,10 +162,10 @@ word_alike text i a b s t e =
 abbrev AreTexts : List ℕ → List ℕ → Type 0
 AreTexts x y = x ≡ y
 
-abbrev AreGaps : Gap → Gap → Type 0
+abbrev AreGaps : QuotedGap → QuotedGap → Type 0
 AreGaps x y = x ≡ y
 
-gap_alike : (text : List ℕ) (i : ℕ) (a b : Marker) (gap : Gap) (s t : Cursor) → AreAlike text s t
+gap_alike : (text : List ℕ) (i : ℕ) (a b : Marker) (gap : QuotedGap) (s t : Cursor) → AreAlike text s t
     → GiveAlike AreTexts (end_gap i a gap s) (end_gap i b gap t)
 unfolding end_gap
 gap_alike text i a b (on_line bytes) s t e =
@@ -170,7 +173,7 @@ gap_alike text i a b (on_line bytes) s t e =
 gap_alike text i a b (over_lines escaped n) s t e =
     both_then (AreAlike text) AreTexts _ _ _ _ (word_alike text i a b s t e) (λ x y _ _ is. refl)
 
-blank_alike : (i : ℕ) (gap : Gap) (m n : Marker) (c : ℕ) → m.col ≡ n.col
+blank_alike : (i : ℕ) (gap : QuotedGap) (m n : Marker) (c : ℕ) → m.col ≡ n.col
     → GiveAlike AreGaps (blank_in i gap m c) (blank_in i gap n c)
 unfolding blank_in
 blank_alike i (on_line bytes) m n c e = refl
@@ -203,7 +206,8 @@ if_alike R None (Some d) f g u v e some none = absurd (cc)
 
 abbrev SameInside : List ℕ → Quote → ℕ → Marker → Marker → Cursor → Cursor → Type 0
 SameInside text quote i a b s t =
-    (gap : Gap) → AreAlike text s t → GiveAlike (AreSame text) (inside_at quote i a gap s) (inside_at quote i b gap t)
+    (gap : QuotedGap) → AreAlike text s t
+    → GiveAlike (AreSame text) (inside_at quote i a gap s) (inside_at quote i b gap t)
 
 module _ (text : List ℕ) (quote : Quote) (i : ℕ) (a b : Marker) where
   -- what is read of any shorter text
@@ -267,7 +271,7 @@ module _ (text : List ℕ) (quote : Quote) (i : ℕ) (a b : Marker) where
       (λ _ _. (refl, alike false false refl x one))
       (λ _ _. behind_escaped (along m 1) (along n 1) x one others))))
 
-  inside_by : (m n : Marker) (gap : Gap) {r q : List ℕ} → Normal r q → Places text r q m n → Others (length r)
+  inside_by : (m n : Marker) (gap : QuotedGap) {r q : List ℕ} → Normal r q → Places text r q m n → Others (length r)
       → GiveAlike (AreSame text) (inside quote i a gap 0 m r) (inside quote i b gap 0 n q)
   unfolding inside
   inside_by m n gap nothing p others = refl

@@ -1,7 +1,7 @@
 -- All that is read of a text is read of its normalized text.
 use Rattle.std.proofs.Common.{ℕ, List, refl}
 use Rattle.saphyr_input.specs.Breaks.{normalized}
-use Rattle.saphyr_scalar.specs.Cursor.{Cursor, fresh}
+use Rattle.saphyr_scalar.specs.Views.Cursor.{Cursor, fresh}
 use Rattle.saphyr_scalar.specs.Alike.{AreAlike, ReadsAlike}
 use Rattle.saphyr_scalar.proofs.Breaks.Separations.{separation_alike, break_alike, comment_alike, mark_alike}
 use Rattle.saphyr_scalar.proofs.Breaks.Names.{anchor_alike, tag_alike}

@@ -1,7 +1,7 @@
 -- What two readers give alike: choices, refusals, and steps one behind another.
 use Rattle.std.proofs.Common.{◌≡◌, ℕ, zero, suc, ◌<◌, ◌≤◌, Bool, true, false, length, refl, sym, subst, arith, cond, Result, Ok, Err}
 use Rattle.saphyr_scalar.specs.declared.scalar.fault.Refusal.{Refusal}
-use Rattle.saphyr_scalar.specs.Cursor.{Cursor, ◌>>=◌}
+use Rattle.saphyr_scalar.specs.Views.Cursor.{Cursor, ◌>>=◌}
 use Rattle.saphyr_scalar.specs.Alike.{GiveAlike}
 
 -- a choice by a test that comes out alike on both sides

@@ -8,9 +8,9 @@ use Rattle.saphyr_input.specs.Places.{next_3_are, is_document_indicator}
 use Rattle.saphyr_input.specs.Separation.{is_skipped, blank_len, comment_len, is_bare_comment, separation_len, found_blanks}
 use Rattle.saphyr_input.specs.declared.input.SkipTabs.{SkipTabs}
 use Rattle.saphyr_input.specs.declared.input.SkipTabs.TheVariants as skip
-use Rattle.saphyr_scalar.specs.BlockScalar.{there}
+use Rattle.saphyr_scalar.specs.Steps.Block.{there}
 use Rattle.saphyr_scalar.specs.declared.scalar.position.Marker.{Marker}
-use Rattle.saphyr_scalar.specs.Cursor.{Cursor, pass, pass_blanks, pass_break, pass_comment, pass_byte_order_mark, separation, behind_separation}
+use Rattle.saphyr_scalar.specs.Views.Cursor.{Cursor, pass, pass_blanks, pass_break, pass_comment, pass_byte_order_mark, separation, behind_separation}
 use Rattle.saphyr_scalar.specs.Alike.{AreAlike, GiveAlike, AreSame}
 use Rattle.saphyr_scalar.proofs.Breaks.Sides.{Normal, nothing, character, feed, return, pair, no_feed, first_in, past_first, behind_first, Run, run, Places, moved, moved_along, moved_down, alike, normal_of, places_of}
 use Rattle.saphyr_scalar.proofs.Breaks.Results.{both_by}

@@ -7,8 +7,8 @@ use Rattle.std.proofs.lemmas.Bool.Decides.{nat_tests}
 use Rattle.saphyr_input.specs.Breaks.{normalized}
 use Rattle.saphyr_input.specs.Classes.{is_break}
 use Rattle.saphyr_scalar.specs.declared.scalar.position.Marker.{Marker}
-use Rattle.saphyr_scalar.specs.Cursor.{Cursor, along, next_line}
-use Rattle.saphyr_scalar.specs.BlockScalar.{there}
+use Rattle.saphyr_scalar.specs.Views.Cursor.{Cursor, along, next_line}
+use Rattle.saphyr_scalar.specs.Steps.Block.{there}
 use Rattle.saphyr_scalar.specs.Alike.{AreMarksAlike, AreAlike}
 use Rattle.saphyr_input.proofs.Basics.Lists.{second_is}
 use Rattle.saphyr_input.proofs.Basics.Characters.{no_return}

@@ -6,7 +6,7 @@ use Rattle.std.proofs.lemmas.Bool.{false≢true, false_from_ne_true, le-ltb}
 use Rattle.std.proofs.lemmas.Bool.Decides.{nat_tests}
 use Rattle.std.proofs.lemmas.Str.{encode_ascii}
 use Rattle.std.proofs.lemmas.Slice.Eq.{bytes_eq-Decides}
-use Rattle.saphyr_scalar.specs.Directive.{name}
+use Rattle.saphyr_scalar.specs.Steps.Directive.{name}
 use Rattle.saphyr_scalar.proofs.Properties.TagsRead.{some_bytes}
 use Rattle.saphyr_input.proofs.Basics.Booleans.{by_test}
 

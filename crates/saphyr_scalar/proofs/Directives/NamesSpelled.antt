@@ -6,10 +6,10 @@ use Rattle.std.proofs.lemmas.List.Sums.{prefix_len-le-length}
 use Rattle.saphyr_input.specs.Classes.{is_blank_or_breakz, is_yaml_non_space}
 use Rattle.saphyr_scalar.specs.declared.scalar.position.Marker.{Marker}
 use Rattle.saphyr_scalar.specs.declared.scalar.fault.FaultText.TheVariants as fault
-use Rattle.saphyr_scalar.specs.Cursor.{Cursor, along}
-use Rattle.saphyr_scalar.specs.Directive.{name_of, name}
-use Rattle.saphyr_scalar.specs.Quoted.{at}
-use Rattle.saphyr_scalar.specs.TagSpelling.{AreIn}
+use Rattle.saphyr_scalar.specs.Views.Cursor.{Cursor, along}
+use Rattle.saphyr_scalar.specs.Steps.Directive.{directive_name_of, name}
+use Rattle.saphyr_scalar.specs.Steps.Quoted.{at}
+use Rattle.saphyr_scalar.specs.Spelling.Tag.{AreIn}
 use Rattle.saphyr_scalar.proofs.Runs.{run_is_in}
 use Rattle.saphyr_scalar.proofs.Properties.TagsSpelled.{some_value}
 use Rattle.saphyr_scalar.proofs.Steps.{cond_ok, cond_not}
@@ -27,7 +27,7 @@ pub record NameOf (m : Marker) (xs text : List ℕ) (u : Cursor) : Type 0 where
   pub place : u ≡ at (along m (length word)) u.rest
 
 pub name_spelled : (m : Marker) (xs text : List ℕ) (u : Cursor) → name (at m xs) ≡ Ok (text, u) → NameOf m xs text u
-unfolding name name_of
+unfolding name directive_name_of
 name_spelled m xs text u h =
     let n = prefix_len is_yaml_non_space xs in
     let w = take n xs in

@@ -6,8 +6,8 @@ use Rattle.std.proofs.lemmas.Grind.{pow_more}
 use Rattle.std.proofs.lemmas.Bool.Decides.{nat_tests}
 use Rattle.saphyr_input.specs.Classes.{is_digit, is_tag_char}
 use Rattle.saphyr_scalar.specs.declared.scalar.position.Marker.{Marker}
-use Rattle.saphyr_scalar.specs.Cursor.{Cursor, along, pass}
-use Rattle.saphyr_scalar.specs.Directive.{number_from}
+use Rattle.saphyr_scalar.specs.Views.Cursor.{Cursor, along, pass}
+use Rattle.saphyr_scalar.specs.Steps.Directive.{number_from}
 
 -- a decimal digit stands for less than ten
 pub digit_small : (c : ℕ) → is_digit c ≡ true → c - 48 < 10

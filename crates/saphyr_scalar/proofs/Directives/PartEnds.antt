@@ -5,10 +5,10 @@ use Rattle.std.proofs.lemmas.Bool.Decides.{nat_tests}
 use Rattle.saphyr_input.specs.Classes.{is_digit, is_uri_char, is_blank, is_break, is_z, is_breakz, is_blank_or_breakz, is_yaml_non_space}
 use Rattle.saphyr_scalar.specs.declared.scalar.position.Marker.{Marker}
 use Rattle.saphyr_scalar.specs.declared.scalar.fault.Refusal.{Refusal}
-use Rattle.saphyr_scalar.specs.Cursor.{Cursor, along, pass_blanks}
-use Rattle.saphyr_scalar.specs.Directive.{Directive, behind_blanks}
-use Rattle.saphyr_scalar.specs.Quoted.{at}
-use Rattle.saphyr_scalar.specs.TagSpelling.{AreIn}
+use Rattle.saphyr_scalar.specs.Views.Cursor.{Cursor, along, pass_blanks}
+use Rattle.saphyr_scalar.specs.Steps.Directive.{Directive, pass_all_blanks}
+use Rattle.saphyr_scalar.specs.Steps.Quoted.{at}
+use Rattle.saphyr_scalar.specs.Spelling.Tag.{AreIn}
 use Rattle.saphyr_scalar.proofs.Runs.{run_len}
 use Rattle.saphyr_input.proofs.Basics.Booleans.{either}
 
@@ -43,7 +43,7 @@ abbrev pub blanks_passed : ℕ → Marker → List ℕ → Cursor
 blanks_passed n m xs = pass_blanks n (at m xs)
 
 pub blanks_read : (m : Marker) (gap y : List ℕ) → AreIn is_blank gap → is_blank (slice_index y 0) ≡ false
-    → behind_blanks (at m (gap ++ y)) ≡ at (along m (length gap)) y
+    → pass_all_blanks (at m (gap ++ y)) ≡ at (along m (length gap)) y
 blanks_read m gap y are ends =
     ap (λ n. blanks_passed n m (gap ++ y)) (run_len is_blank gap y are ends) ∙ rw (drop-append_seam gap y) refl
 

@@ -6,11 +6,11 @@ use Rattle.std.proofs.lemmas.Bool.{or_left}
 use Rattle.saphyr_input.specs.Classes.{is_blank, is_breakz, is_blank_or_breakz, is_yaml_non_space}
 use Rattle.saphyr_scalar.specs.declared.scalar.position.Marker.{Marker}
 use Rattle.saphyr_scalar.specs.declared.scalar.fault.Refusal.{Refusal}
-use Rattle.saphyr_scalar.specs.Cursor.{Cursor, along, pass, pass_break}
-use Rattle.saphyr_scalar.specs.Directive.{Directive, version, tag_prefix, reserved, name_of, name, version_directive, handle, prefix, tag_directive, value, line_end, directive}
-use Rattle.saphyr_scalar.specs.DirectiveSpelling.{IsVersionDirective, IsTagDirective, IsDirectiveText, IsLineTail}
-use Rattle.saphyr_scalar.specs.Quoted.{at}
-use Rattle.saphyr_scalar.specs.TagSpelling.{AreIn}
+use Rattle.saphyr_scalar.specs.Views.Cursor.{Cursor, along, pass, pass_break}
+use Rattle.saphyr_scalar.specs.Steps.Directive.{Directive, version, tag_prefix, reserved, directive_name_of, name, version_directive, handle, prefix, tag_directive, value, line_end, directive}
+use Rattle.saphyr_scalar.specs.Spelling.Directive.{IsVersionDirective, IsTagDirective, IsDirectiveText, IsLineTail}
+use Rattle.saphyr_scalar.specs.Steps.Quoted.{at}
+use Rattle.saphyr_scalar.specs.Spelling.Tag.{AreIn}
 use Rattle.saphyr_scalar.proofs.Moving.{along_more}
 use Rattle.saphyr_scalar.proofs.Runs.{run_read}
 use Rattle.saphyr_scalar.proofs.Properties.TagsRead.{some_bytes}
@@ -23,9 +23,9 @@ use Rattle.saphyr_scalar.proofs.Directives.TailsRead.{tail_first, line_read}
 pub name_read : (m : Marker) (w y : List ℕ) → w ≢ [] → AreIn is_yaml_non_space w
     → is_blank_or_breakz (slice_index y 0) ≡ true
     → name (at m (w ++ y)) ≡ Ok (encode_utf8_all w, at (along m (length w)) y)
-unfolding name name_of
+unfolding name directive_name_of
 name_read m w y some are ends =
-    ap (name_of m) (run_read is_yaml_non_space m w y are (ends_at (slice_index y 0) ends).no_name)
+    ap (directive_name_of m) (run_read is_yaml_non_space m w y are (ends_at (slice_index y 0) ends).no_name)
     ∙ rw (some_bytes w some, ends) refl
 
 pub whole_line : (s t : Cursor) (d : Directive) (text : List ℕ) (a b : Cursor) → name (pass 1 s) ≡ Ok (text, a)

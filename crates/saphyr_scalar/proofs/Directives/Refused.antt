@@ -9,12 +9,12 @@ use Rattle.saphyr_input.specs.declared.input.SkipTabs.TheVariants.{Yes}
 use Rattle.saphyr_scalar.specs.declared.scalar.position.Marker.{Marker}
 use Rattle.saphyr_scalar.specs.declared.scalar.fault.Refusal.{Refusal}
 use Rattle.saphyr_scalar.specs.declared.scalar.tag.UriSet.TheVariants.{Uri}
-use Rattle.saphyr_scalar.specs.Cursor.{Cursor, along, pass, pass_blanks, separation, behind_separation}
-use Rattle.saphyr_scalar.specs.Directive.{Directive, behind_blanks, name_of, name, number_end, number_from, number, behind_major, version_directive, behind_word, handle, prefix, behind_prefix, tag_directive, value, line_end, directive}
+use Rattle.saphyr_scalar.specs.Views.Cursor.{Cursor, along, pass, pass_blanks, separation, behind_separation}
+use Rattle.saphyr_scalar.specs.Steps.Directive.{Directive, pass_all_blanks, directive_name_of, name, number_end, number_from, number, behind_major, version_directive, handle_behind_word, handle, prefix, behind_prefix, tag_directive, value, line_end, directive}
 use Rattle.saphyr_scalar.specs.Passing.{IsPassed, nothing, character}
-use Rattle.saphyr_scalar.specs.Quoted.{with_run, at}
+use Rattle.saphyr_scalar.specs.Steps.Quoted.{with_run, at}
 use Rattle.saphyr_scalar.specs.RefusedInside.{IsRefusedInside}
-use Rattle.saphyr_scalar.specs.Tag.{uri_character, decoded_at}
+use Rattle.saphyr_scalar.specs.Steps.Tag.{uri_character, decoded_at}
 use Rattle.saphyr_scalar.proofs.Directives.NamesSpelled.{name_spelled}
 use Rattle.saphyr_scalar.proofs.Directives.ValuesSpelled.{value_spelled}
 use Rattle.saphyr_scalar.proofs.NoBreaks.{no_breaks_passed, directive_no_break}
@@ -37,7 +37,7 @@ separation_refused tabs s =
 -- ## Directives
 
 name_refused : (s : Cursor) → RefusedAt s.mark (name s)
-unfolding name name_of
+unfolding name directive_name_of
 name_refused s =
     let x = with_run is_yaml_non_space [] s in
     by_test (length x.0 == 0) _ _ (RefusedAt s.mark) (λ _. refl)
@@ -60,14 +60,14 @@ version_refused : (start : Marker) (s : Cursor) → RefusedAt start (version_dir
 unfolding version_directive behind_major
 version_refused start s =
     let P : Refusal → Type 0 = λ e. e.mark ≡ start in
-    let t : Cursor = behind_blanks s in
+    let t : Cursor = pass_all_blanks s in
     refused_bind P (number start t) _ (number_refused start 0 0 t.mark t.rest) (λ x e.
     let u : Cursor = pass 1 x.1 in
     by_test (slice_index x.1.rest 0 == 46) _ _ (RefusedAt start)
     (λ _. refused_bind P (number start u) _ (number_refused start 0 0 u.mark u.rest) (λ y e. tt)) (λ _. refl))
 
 handle_refused : (start : Marker) (s : Cursor) → RefusedAt start (handle start s)
-unfolding handle behind_word
+unfolding handle handle_behind_word
 handle_refused start s =
     let w = with_run is_alpha [] (pass 1 s) in
     by_test (slice_index s.rest 0 == 33) _ _ (RefusedAt start)
@@ -87,8 +87,8 @@ tag_refused : (start : Marker) (s : Cursor) → RefusedAt start (tag_directive s
 unfolding tag_directive behind_prefix
 tag_refused start s =
     let P : Refusal → Type 0 = λ e. e.mark ≡ start in
-    refused_bind P (handle start (behind_blanks s)) _ (handle_refused start (behind_blanks s)) (λ h e.
-    refused_bind P (prefix start (behind_blanks h.1)) _ (prefix_refused start (behind_blanks h.1)) (λ x f.
+    refused_bind P (handle start (pass_all_blanks s)) _ (handle_refused start (pass_all_blanks s)) (λ h e.
+    refused_bind P (prefix start (pass_all_blanks h.1)) _ (prefix_refused start (pass_all_blanks h.1)) (λ x f.
     by_test (is_blank_or_breakz (slice_index x.1.rest 0)) _ _ (RefusedAt start) (λ _. tt) (λ _. refl)))
 
 value_refused : (start : Marker) (x : List ℕ × Cursor) → RefusedAt start (value start x)

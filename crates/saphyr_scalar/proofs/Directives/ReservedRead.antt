@@ -5,11 +5,11 @@ use Rattle.std.proofs.Math.Seq.{drop-append_seam}
 use Rattle.std.proofs.lemmas.Bool.{or_left, or_right}
 use Rattle.saphyr_input.specs.Classes.{is_blank, is_breakz, is_blank_or_breakz, is_yaml_non_break}
 use Rattle.saphyr_scalar.specs.declared.scalar.position.Marker.{Marker}
-use Rattle.saphyr_scalar.specs.Cursor.{Cursor, along, pass_break, pass_comment}
-use Rattle.saphyr_scalar.specs.Directive.{reserved, name, value, directive}
-use Rattle.saphyr_scalar.specs.DirectiveSpelling.{IsReservedDirective}
-use Rattle.saphyr_scalar.specs.Quoted.{at}
-use Rattle.saphyr_scalar.specs.TagSpelling.{AreIn}
+use Rattle.saphyr_scalar.specs.Views.Cursor.{Cursor, along, pass_break, pass_comment}
+use Rattle.saphyr_scalar.specs.Steps.Directive.{reserved, name, value, directive}
+use Rattle.saphyr_scalar.specs.Spelling.Directive.{IsReservedDirective}
+use Rattle.saphyr_scalar.specs.Steps.Quoted.{at}
+use Rattle.saphyr_scalar.specs.Spelling.Tag.{AreIn}
 use Rattle.saphyr_scalar.proofs.Runs.{run_len}
 use Rattle.saphyr_scalar.proofs.Places.{along_three}
 use Rattle.saphyr_input.proofs.Basics.Characters.{breakz_no_non_break}

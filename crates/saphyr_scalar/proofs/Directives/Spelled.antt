@@ -2,10 +2,10 @@
 use Rattle.std.proofs.Common.{◌≡◌, ℕ, ◌+◌, true, List, ◌∷◌, ◌++◌, length, length-append, append_assoc, drop, slice_index, Ok, refl, sym, ap, ◌∙◌, arith, subst, encode_utf8_all}
 use Rattle.saphyr_input.specs.Classes.{is_breakz}
 use Rattle.saphyr_scalar.specs.declared.scalar.position.Marker.{Marker}
-use Rattle.saphyr_scalar.specs.Cursor.{Cursor, ◌>>=◌, along, pass_break}
-use Rattle.saphyr_scalar.specs.Directive.{Directive, name, value, line_end, directive}
-use Rattle.saphyr_scalar.specs.DirectiveSpelling.{IsReadDirective, IsLineTail}
-use Rattle.saphyr_scalar.specs.Quoted.{at}
+use Rattle.saphyr_scalar.specs.Views.Cursor.{Cursor, ◌>>=◌, along, pass_break}
+use Rattle.saphyr_scalar.specs.Steps.Directive.{Directive, name, value, line_end, directive}
+use Rattle.saphyr_scalar.specs.Spelling.Directive.{IsReadDirective, IsLineTail}
+use Rattle.saphyr_scalar.specs.Steps.Quoted.{at}
 use Rattle.saphyr_scalar.proofs.Moving.{along_more}
 use Rattle.saphyr_scalar.proofs.Properties.TagsSpelled.{cut_at}
 use Rattle.saphyr_scalar.proofs.Directives.Read.{directive_same}

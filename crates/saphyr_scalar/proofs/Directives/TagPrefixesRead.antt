@@ -5,12 +5,12 @@ use Rattle.saphyr_input.specs.Classes.{is_alpha, is_tag_char, is_uri_char, is_bl
 use Rattle.saphyr_scalar.specs.declared.scalar.position.Marker.{Marker}
 use Rattle.saphyr_scalar.specs.declared.scalar.fault.Refusal.{Refusal}
 use Rattle.saphyr_scalar.specs.declared.scalar.tag.UriSet.TheVariants.{Uri}
-use Rattle.saphyr_scalar.specs.Cursor.{Cursor, ◌>>=◌, along}
-use Rattle.saphyr_scalar.specs.Directive.{Directive, tag_prefix, behind_blanks, behind_word, handle, prefix, behind_prefix, tag_directive}
-use Rattle.saphyr_scalar.specs.DirectiveSpelling.{AreBlanks}
-use Rattle.saphyr_scalar.specs.Quoted.{with_front, at}
-use Rattle.saphyr_scalar.specs.Tag.{uri_character, decoded_at, handle_of}
-use Rattle.saphyr_scalar.specs.TagSpelling.{IsCharacter, IsHandleText, IsPrefix}
+use Rattle.saphyr_scalar.specs.Views.Cursor.{Cursor, ◌>>=◌, along}
+use Rattle.saphyr_scalar.specs.Steps.Directive.{Directive, tag_prefix, pass_all_blanks, handle_behind_word, handle, prefix, behind_prefix, tag_directive}
+use Rattle.saphyr_scalar.specs.Spelling.Directive.{AreSomeBlanks}
+use Rattle.saphyr_scalar.specs.Steps.Quoted.{with_front, at}
+use Rattle.saphyr_scalar.specs.Steps.Tag.{uri_character, decoded_at, handle_of}
+use Rattle.saphyr_scalar.specs.Spelling.Tag.{IsCharacter, IsHandleText, IsPrefix}
 use Rattle.saphyr_scalar.proofs.Moving.{along_none, along_more}
 use Rattle.saphyr_scalar.proofs.Properties.EscapesRead.{character_read, escape_first, decoded_read}
 use Rattle.saphyr_scalar.proofs.Runs.{run_read}
@@ -22,18 +22,18 @@ use Rattle.saphyr_scalar.proofs.Directives.PartEnds.{ends_at, first_of, blanks_r
 
 handle_read : (start m : Marker) (h y : List ℕ) → IsHandleText h → is_blank (slice_index y 0) ≡ true
     → handle start (at m (h ++ y)) ≡ Ok (encode_utf8_all h, at (along m (length h)) y)
-unfolding handle behind_word
+unfolding handle handle_behind_word
 handle_read start m h y (inl primary) ends =
     let stop = stops_blank (slice_index y 0) ends in
     rw primary
-    (ap (behind_word start) (run_read is_alpha (along m 1) [] y tt stop.no_alpha)
+    (ap (handle_behind_word start) (run_read is_alpha (along m 1) [] y tt stop.no_alpha)
     ∙ rw (stop.no_mark, along_none (along m 1)) (ap (λ v. text_given v (at (along m 1) y)) (sym mark_bytes)))
 handle_read start m h y (inr (w, are, named)) ends =
     let whole : h ++ y ≡ 33 ∷ (w ++ (33 ∷ y)) = ap (λ u. u ++ y) named
     ∙ ap (λ u. 33 ∷ u) (append_assoc w (codes "!") y) in
     let len : 1 + length w + 1 ≡ length h = rw named (omega (arith, length-append w (codes "!"))) in
     ap (λ u. handle start (at m u)) whole
-    ∙ ap (behind_word start) (run_read is_alpha (along m 1) w (33 ∷ y) are refl)
+    ∙ ap (handle_behind_word start) (run_read is_alpha (along m 1) w (33 ∷ y) are refl)
     ∙ ap (λ k. text_given (handle_of (encode_utf8_all w)) (at k y)) (along_three m 1 (length w) 1 (length h) (sym len))
     ∙ ap (λ v. text_given v (at (along m (length h)) y)) (handle_bytes w ∙ ap encode_utf8_all (sym named))
 
@@ -82,7 +82,7 @@ unfolding behind_prefix
 prefix_ends start h p s ends = rw ends refl
 
 abbrev then_handle : Marker → Result (List ℕ × Cursor) Refusal → Result (Directive × Cursor) Refusal
-then_handle start r = r >>= λ h. prefix start (behind_blanks h.1) >>= λ x. behind_prefix start h.0 x
+then_handle start r = r >>= λ h. prefix start (pass_all_blanks h.1) >>= λ x. behind_prefix start h.0 x
 
 abbrev then_prefix : Marker → List ℕ → Result (List ℕ × Cursor) Refusal → Result (Directive × Cursor) Refusal
 then_prefix start h r = r >>= λ x. behind_prefix start h x
@@ -91,7 +91,8 @@ handle_first : (h y : List ℕ) → IsHandleText h → is_blank (slice_index (h 
 handle_first h y (inl primary) = rw primary refl
 handle_first h y (inr (w, are, named)) = rw named refl
 
-pub tag_read : (start m : Marker) (first h second p t y : List ℕ) → AreBlanks first → IsHandleText h → AreBlanks second
+pub tag_read : (start m : Marker) (first h second p t y : List ℕ) → AreSomeBlanks first → IsHandleText h
+    → AreSomeBlanks second
     → IsPrefix p t → is_blank_or_breakz (slice_index y 0) ≡ true
     → tag_directive start (at m (first ++ (h ++ (second ++ (t ++ y)))))
     ≡ Ok (

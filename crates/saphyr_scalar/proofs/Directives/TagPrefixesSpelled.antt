@@ -9,12 +9,12 @@ use Rattle.saphyr_scalar.specs.declared.scalar.position.Marker.{Marker}
 use Rattle.saphyr_scalar.specs.declared.scalar.fault.FaultText.TheVariants as fault
 use Rattle.saphyr_scalar.specs.declared.scalar.fault.Refusal.{Refusal}
 use Rattle.saphyr_scalar.specs.declared.scalar.tag.UriSet.TheVariants.{Uri}
-use Rattle.saphyr_scalar.specs.Cursor.{Cursor, ◌>>=◌, along}
-use Rattle.saphyr_scalar.specs.Directive.{Directive, tag_prefix, behind_blanks, behind_word, handle, prefix, behind_prefix, tag_directive}
-use Rattle.saphyr_scalar.specs.DirectiveSpelling.{AreBlanks}
-use Rattle.saphyr_scalar.specs.Quoted.{with_front, with_run, at}
-use Rattle.saphyr_scalar.specs.Tag.{uri_character, decoded, decoded_at, handle_of}
-use Rattle.saphyr_scalar.specs.TagSpelling.{AreIn, IsHandleText, IsPrefix}
+use Rattle.saphyr_scalar.specs.Views.Cursor.{Cursor, ◌>>=◌, along}
+use Rattle.saphyr_scalar.specs.Steps.Directive.{Directive, tag_prefix, pass_all_blanks, handle_behind_word, handle, prefix, behind_prefix, tag_directive}
+use Rattle.saphyr_scalar.specs.Spelling.Directive.{AreSomeBlanks}
+use Rattle.saphyr_scalar.specs.Steps.Quoted.{with_front, with_run, at}
+use Rattle.saphyr_scalar.specs.Steps.Tag.{uri_character, decoded, decoded_at, handle_of}
+use Rattle.saphyr_scalar.specs.Spelling.Tag.{AreIn, IsHandleText, IsPrefix}
 use Rattle.saphyr_scalar.proofs.Moving.{along_more}
 use Rattle.saphyr_scalar.proofs.Runs.{run_is_in}
 use Rattle.saphyr_scalar.proofs.Properties.TagsRead.{handle_bytes, mark_bytes}
@@ -39,8 +39,8 @@ abbrev OfHandle : Marker → List ℕ → List ℕ × Cursor → Type 0
 OfHandle m xs x = HandleOf m xs x.0 x.1
 
 word_spelled : (start m : Marker) (ys text : List ℕ) (u : Cursor)
-    → behind_word start (with_run is_alpha [] (at (along m 1) ys)) ≡ Ok (text, u) → HandleOf m (33 ∷ ys) text u
-unfolding behind_word
+    → handle_behind_word start (with_run is_alpha [] (at (along m 1) ys)) ≡ Ok (text, u) → HandleOf m (33 ∷ ys) text u
+unfolding handle_behind_word
 word_spelled start m ys text u =
     let n = prefix_len is_alpha ys in
     let w = take n ys in
@@ -84,7 +84,7 @@ handle_spelled : (start m : Marker) (xs text : List ℕ) (u : Cursor) → handle
 unfolding handle
 handle_spelled start m xs text u h =
     let is = cond_then (nat_eq (slice_index xs 0) 33)
-    (behind_word start (with_run is_alpha [] (at (along m 1) (drop 1 xs)))) (text, u)
+    (handle_behind_word start (with_run is_alpha [] (at (along m 1) (drop 1 xs)))) (text, u)
     (record { text = fault.TagHandleStartExpected; mark = start }) h in
     let more : xs ≡ 33 ∷ drop 1 xs = cut_at 33 xs refl (eqb-true (slice_index xs 0) 33 is.test) in
     subst (λ r. HandleOf m r text u) (sym more) (word_spelled start m (drop 1 xs) text u is.same)
@@ -138,7 +138,7 @@ pub record TagOf (d : Directive) (m : Marker) (xs : List ℕ) (u : Cursor) : Typ
   pub value : List ℕ
   pub written : List ℕ
   pub says : tag_prefix (encode_utf8_all handle) (encode_utf8_all value) ≡ d
-  pub before : AreBlanks first
+  pub before : AreSomeBlanks first
   pub is_handle : IsHandleText handle
   pub between : AreIn is_blank second
   pub is_prefix : IsPrefix value written
@@ -162,19 +162,19 @@ unfolding tag_directive
 tag_spelled start m xs d u begins h =
     let n = prefix_len is_blank xs in
     let first = take n xs in
-    let one = bind_ok (handle start (behind_blanks (at m xs)))
-    (λ (h : List ℕ × Cursor). prefix start (behind_blanks h.1) >>= λ (x : List ℕ × Cursor). behind_prefix start h.0
+    let one = bind_ok (handle start (pass_all_blanks (at m xs)))
+    (λ (h : List ℕ × Cursor). prefix start (pass_all_blanks h.1) >>= λ (x : List ℕ × Cursor). behind_prefix start h.0
     x) (d, u) h in
     let a = handle_spelled start (along m n) (drop n xs) one.given.0 one.given.1 one.first in
     let ys = one.given.1.rest in
     let o = prefix_len is_blank ys in
     let second = take o ys in
-    let two = bind_ok (prefix start (behind_blanks one.given.1))
+    let two = bind_ok (prefix start (pass_all_blanks one.given.1))
     (λ (x : List ℕ × Cursor). behind_prefix start one.given.0 x) (d, u) one.next in
     let ended = prefix_ended start one.given.0 two.given.0 d two.given.1 u two.next in
     let left : two.given.1 ≡ u = ap (λ (x : Directive × Cursor). x.1) ended.same in
     let there = along (along m n) (length a.handle) in
-    let read = subst (λ (y : Cursor). prefix start (behind_blanks y) ≡ Ok two.given) a.place two.first in
+    let read = subst (λ (y : Cursor). prefix start (pass_all_blanks y) ≡ Ok two.given) a.place two.first in
     let b = subst (λ (y : Cursor). PrefixOf (along there o) (drop o ys) two.given.0 y) left
     (prefix_spelled start (along there o) (drop o ys) two.given.0 two.given.1 read) in
     let says : tag_prefix one.given.0 two.given.0 ≡ d = ap (λ (x : Directive × Cursor). x.0) ended.same in

@@ -9,11 +9,11 @@ use Rattle.saphyr_input.specs.Separation.{separation_len, blank_len, comment_len
 use Rattle.saphyr_input.specs.declared.input.SkipTabs.TheVariants.{Yes}
 use Rattle.saphyr_input.proofs.Runs.{run_stops}
 use Rattle.saphyr_scalar.specs.declared.scalar.position.Marker.{Marker}
-use Rattle.saphyr_scalar.specs.Cursor.{Cursor, along, pass_break, separation, behind_separation}
-use Rattle.saphyr_scalar.specs.Directive.{line_end}
-use Rattle.saphyr_scalar.specs.DirectiveSpelling.{IsTailComment, IsLineTail}
-use Rattle.saphyr_scalar.specs.Quoted.{at}
-use Rattle.saphyr_scalar.specs.TagSpelling.{AreIn}
+use Rattle.saphyr_scalar.specs.Views.Cursor.{Cursor, along, pass_break, separation, behind_separation}
+use Rattle.saphyr_scalar.specs.Steps.Directive.{line_end}
+use Rattle.saphyr_scalar.specs.Spelling.Directive.{IsTailComment, IsLineTail}
+use Rattle.saphyr_scalar.specs.Steps.Quoted.{at}
+use Rattle.saphyr_scalar.specs.Spelling.Tag.{AreIn}
 use Rattle.saphyr_scalar.proofs.Runs.{run_len}
 use Rattle.saphyr_input.proofs.Basics.Booleans.{other_than}
 use Rattle.saphyr_input.proofs.Basics.Characters.{breakz_no_non_break}

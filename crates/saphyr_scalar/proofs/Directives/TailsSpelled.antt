@@ -11,10 +11,10 @@ use Rattle.saphyr_input.specs.declared.input.SkipTabs.{SkipTabs}
 use Rattle.saphyr_input.specs.declared.input.SkipTabs.TheVariants.{Yes}
 use Rattle.saphyr_scalar.specs.declared.scalar.position.Marker.{Marker}
 use Rattle.saphyr_scalar.specs.declared.scalar.fault.FaultText.TheVariants as fault
-use Rattle.saphyr_scalar.specs.Cursor.{Cursor, along, pass_break, separation, behind_separation}
-use Rattle.saphyr_scalar.specs.Directive.{line_end}
-use Rattle.saphyr_scalar.specs.DirectiveSpelling.{IsLineTail}
-use Rattle.saphyr_scalar.specs.Quoted.{at}
+use Rattle.saphyr_scalar.specs.Views.Cursor.{Cursor, along, pass_break, separation, behind_separation}
+use Rattle.saphyr_scalar.specs.Steps.Directive.{line_end}
+use Rattle.saphyr_scalar.specs.Spelling.Directive.{IsLineTail}
+use Rattle.saphyr_scalar.specs.Steps.Quoted.{at}
 use Rattle.saphyr_scalar.proofs.Moving.{drop_more}
 use Rattle.saphyr_scalar.proofs.Runs.{run_is_in}
 use Rattle.saphyr_scalar.proofs.Properties.TagsSpelled.{cut_at}

@@ -10,11 +10,11 @@ use Rattle.saphyr_input.specs.Classes.{is_blank, is_breakz, is_blank_or_breakz, 
 use Rattle.saphyr_input.proofs.Runs.{run_stops}
 use Rattle.saphyr_scalar.specs.declared.scalar.position.Marker.{Marker}
 use Rattle.saphyr_scalar.specs.declared.scalar.fault.Refusal.{Refusal}
-use Rattle.saphyr_scalar.specs.Cursor.{Cursor, along, pass_comment}
-use Rattle.saphyr_scalar.specs.Directive.{Directive, version, tag_prefix, reserved, version_directive, tag_directive, value}
-use Rattle.saphyr_scalar.specs.DirectiveSpelling.{IsReadDirective}
-use Rattle.saphyr_scalar.specs.Quoted.{at}
-use Rattle.saphyr_scalar.specs.TagSpelling.{AreIn}
+use Rattle.saphyr_scalar.specs.Views.Cursor.{Cursor, along, pass_comment}
+use Rattle.saphyr_scalar.specs.Steps.Directive.{Directive, version, tag_prefix, reserved, version_directive, tag_directive, value}
+use Rattle.saphyr_scalar.specs.Spelling.Directive.{IsReadDirective}
+use Rattle.saphyr_scalar.specs.Steps.Quoted.{at}
+use Rattle.saphyr_scalar.specs.Spelling.Tag.{AreIn}
 use Rattle.saphyr_scalar.proofs.Runs.{run_is_in}
 use Rattle.saphyr_scalar.proofs.Directives.LowBytes.{low_unique, AreLow}
 use Rattle.saphyr_scalar.proofs.Steps.{ok_same}

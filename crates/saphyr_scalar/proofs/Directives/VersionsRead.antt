@@ -5,11 +5,11 @@ use Rattle.std.proofs.lemmas.Bool.Decides.{nat_tests}
 use Rattle.saphyr_input.specs.Classes.{is_digit, is_blank}
 use Rattle.saphyr_scalar.specs.declared.scalar.position.Marker.{Marker}
 use Rattle.saphyr_scalar.specs.declared.scalar.fault.Refusal.{Refusal}
-use Rattle.saphyr_scalar.specs.Cursor.{Cursor, ◌>>=◌, along}
-use Rattle.saphyr_scalar.specs.Directive.{Directive, version, number_end, number_from, number, behind_major, version_directive}
-use Rattle.saphyr_scalar.specs.DirectiveSpelling.{AreBlanks, decimal_from, IsVersionNumber}
-use Rattle.saphyr_scalar.specs.Quoted.{at}
-use Rattle.saphyr_scalar.specs.TagSpelling.{AreIn}
+use Rattle.saphyr_scalar.specs.Views.Cursor.{Cursor, ◌>>=◌, along}
+use Rattle.saphyr_scalar.specs.Steps.Directive.{Directive, version, number_end, number_from, number, behind_major, version_directive}
+use Rattle.saphyr_scalar.specs.Spelling.Directive.{AreSomeBlanks, decimal_from, IsVersionNumber}
+use Rattle.saphyr_scalar.specs.Steps.Quoted.{at}
+use Rattle.saphyr_scalar.specs.Spelling.Tag.{AreIn}
 use Rattle.saphyr_scalar.proofs.Moving.{along_none, along_more}
 use Rattle.saphyr_scalar.proofs.Places.{along_four}
 use Rattle.saphyr_input.proofs.Basics.Booleans.{other_than}
@@ -54,7 +54,7 @@ then_major start r = r >>= λ x. behind_major start x
 abbrev then_minor : ℕ → Result (ℕ × Cursor) Refusal → Result (Directive × Cursor) Refusal
 then_minor major r = r >>= λ y. Ok (version major y.0, y.1)
 
-pub version_read : (start m : Marker) (major minor : ℕ) (gap high low y : List ℕ) → AreBlanks gap
+pub version_read : (start m : Marker) (major minor : ℕ) (gap high low y : List ℕ) → AreSomeBlanks gap
     → IsVersionNumber major high → IsVersionNumber minor low → is_digit (slice_index y 0) ≡ false
     → version_directive start (at m (gap ++ (high ++ (46 ∷ (low ++ y)))))
     ≡ Ok (version major minor, at (along m (length gap + length high + 1 + length low)) y)

@@ -8,11 +8,11 @@ use Rattle.saphyr_input.specs.Classes.{is_digit, is_blank, is_blank_or_breakz}
 use Rattle.saphyr_scalar.specs.declared.scalar.position.Marker.{Marker}
 use Rattle.saphyr_scalar.specs.declared.scalar.fault.FaultText.TheVariants as fault
 use Rattle.saphyr_scalar.specs.declared.scalar.fault.Refusal.{Refusal}
-use Rattle.saphyr_scalar.specs.Cursor.{Cursor, ◌>>=◌, along, pass}
-use Rattle.saphyr_scalar.specs.Directive.{Directive, version, behind_blanks, number_end, number_from, number, behind_major, version_directive}
-use Rattle.saphyr_scalar.specs.DirectiveSpelling.{AreBlanks, decimal_from, IsVersionNumber}
-use Rattle.saphyr_scalar.specs.Quoted.{at}
-use Rattle.saphyr_scalar.specs.TagSpelling.{AreIn}
+use Rattle.saphyr_scalar.specs.Views.Cursor.{Cursor, ◌>>=◌, along, pass}
+use Rattle.saphyr_scalar.specs.Steps.Directive.{Directive, version, pass_all_blanks, number_end, number_from, number, behind_major, version_directive}
+use Rattle.saphyr_scalar.specs.Spelling.Directive.{AreSomeBlanks, decimal_from, IsVersionNumber}
+use Rattle.saphyr_scalar.specs.Steps.Quoted.{at}
+use Rattle.saphyr_scalar.specs.Spelling.Tag.{AreIn}
 use Rattle.saphyr_scalar.proofs.Moving.{along_none, along_more}
 use Rattle.saphyr_scalar.proofs.Runs.{run_is_in}
 use Rattle.saphyr_scalar.proofs.Properties.TagsSpelled.{cut_at}
@@ -100,7 +100,7 @@ pub record VersionOf (d : Directive) (m : Marker) (xs : List ℕ) (u : Cursor) :
   pub high : List ℕ
   pub low : List ℕ
   pub says : version major minor ≡ d
-  pub blanks : AreBlanks gap
+  pub blanks : AreSomeBlanks gap
   pub first : IsVersionNumber major high
   pub second : IsVersionNumber minor low
   pub text : xs ≡ gap ++ (high ++ (46 ∷ (low ++ u.rest)))
@@ -112,7 +112,7 @@ unfolding version_directive behind_major
 version_spelled start m xs d u begins h =
     let n = prefix_len is_blank xs in
     let gap = take n xs in
-    let one = bind_ok (number start (behind_blanks (at m xs))) (λ (x : ℕ × Cursor). behind_major start x) (d, u) h in
+    let one = bind_ok (number start (pass_all_blanks (at m xs))) (λ (x : ℕ × Cursor). behind_major start x) (d, u) h in
     let a = digits_spelled start 0 0 (along m n) (drop n xs) one.given.0 one.given.1 (omega arith) one.first in
     let high = a.digits in
     let mid = one.given.1 in

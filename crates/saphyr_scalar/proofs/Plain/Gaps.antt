@@ -7,11 +7,11 @@ use Rattle.saphyr_input.specs.Classes.{is_blank, is_break, is_bom, is_z, tab, li
 use Rattle.saphyr_input.specs.Places.{is_blank_or_break, next_2_are}
 use Rattle.saphyr_scalar.specs.declared.scalar.position.Marker.{Marker}
 use Rattle.saphyr_scalar.specs.declared.scalar.fault.Refusal.{Refusal}
-use Rattle.saphyr_scalar.specs.Cursor.{Cursor, ◌>>=◌, along, next_line, pass, pass_break}
+use Rattle.saphyr_scalar.specs.Views.Cursor.{Cursor, ◌>>=◌, along, next_line, pass, pass_break}
 use Rattle.saphyr_scalar.specs.declared.scalar.fault.Stop.{Stop}
 use Rattle.saphyr_scalar.specs.declared.scalar.fault.Stop.TheVariants as stop
-use Rattle.saphyr_scalar.specs.Seen.{Moves}
-use Rattle.saphyr_scalar.specs.Plain.{Gap, may_stand, reached, at_line, ends_line, lines, folded, gap_text, next_lines, gap_from, gap}
+use Rattle.saphyr_scalar.specs.Views.Reader.{Moves}
+use Rattle.saphyr_scalar.specs.Steps.Plain.{PlainGap, may_stand, reached, at_line, ends_line, lines, folded_gap, gap_text, next_lines, gap_from, gap}
 use Rattle.saphyr_scalar.proofs.Quoted.Inside.{Moved}
 use Rattle.saphyr_input.proofs.Basics.Booleans.{by_test}
 use Rattle.std.proofs.lemmas.List.Sums.{prefix_len-le-length}
@@ -42,13 +42,13 @@ dropped n xs h = record { taken = n; is = refl; count = rw length-drop (omega ar
 pub no_refusal : {X : Type 0} (r : Refusal) (x : X) → Err r ≡ Ok x → ⊥
 no_refusal r x e = absurd (cc)
 
-pub same_gap : (g h : Gap) → (let r : Result Gap Refusal = Ok g in r ≡ Ok h) → h ≡ g
+pub same_gap : (g h : PlainGap) → (let r : Result PlainGap Refusal = Ok g in r ≡ Ok h) → h ≡ g
 same_gap g h e = cc
 
-abbrev pub gap_of : Bool → List ℕ → Cursor → Gap
+abbrev pub gap_of : Bool → List ℕ → Cursor → PlainGap
 gap_of tabbed text s = record { text = text; tabbed = tabbed; behind = s }
 
-pub may_stand_same : (a : Marker) (t : Bool) (f : List ℕ) (s : Cursor) (g : Gap) → reached a t f s ≡ Ok g
+pub may_stand_same : (a : Marker) (t : Bool) (f : List ℕ) (s : Cursor) (g : PlainGap) → reached a t f s ≡ Ok g
     → g ≡ gap_of t f s
 unfolding may_stand
 may_stand_same a t f s g =
@@ -60,16 +60,16 @@ may_stand_same a t f s g =
     (λ _ e. absurd (no_refusal _ g e))
     (λ _ e. same_gap (gap_of t f s) g e))
 
-reached_end : (a : Marker) (t : Bool) (f : List ℕ) (m : Marker) (xs : List ℕ) (g : Gap)
+reached_end : (a : Marker) (t : Bool) (f : List ℕ) (m : Marker) (xs : List ℕ) (g : PlainGap)
     → reached a t f (at_line m xs) ≡ Ok g → IsEnd xs g.behind.rest
 reached_end a t f m xs g e = let is = may_stand_same a t f (at_line m xs) g e in rw is (whole xs)
 
-lines_end : (i : ℕ) (a : Marker) (t : Bool) (f : List ℕ) (m : Marker) (xs : List ℕ) (g : Gap)
+lines_end : (i : ℕ) (a : Marker) (t : Bool) (f : List ℕ) (m : Marker) (xs : List ℕ) (g : PlainGap)
     → lines i a t f m xs ≡ Ok g → IsEnd xs g.behind.rest
 unfolding lines
 lines_end i a t f m [] g = reached_end a t f m [] g
 lines_end i a t f m (c ∷ cs) g =
-    by_test (is_blank_or_break c) _ _ (λ (r : Result Gap Refusal). r ≡ Ok g → IsEnd (c ∷ cs) g.behind.rest)
+    by_test (is_blank_or_break c) _ _ (λ (r : Result PlainGap Refusal). r ≡ Ok g → IsEnd (c ∷ cs) g.behind.rest)
     (λ _ e. one_more c cs _ (lines_end i a (is_blank c && (t || ((c == tab) && nat_lt m.col i)))
     (if ends_line c cs then f ++ line_feed ∷ [] else f) (if ends_line c cs then next_line m 1 else along m 1) cs g
     e))
@@ -99,54 +99,56 @@ break_end s = at_first s.rest
         (λ _. by_test (is_break c) _ _ (λ (p : Cursor). IsEnd (c ∷ d ∷ cs) p.rest) (λ _. one_more c _ _ (whole _))
         (λ _. whole _))
 
-next_lines_end : (i : ℕ) (a : Marker) (s : Cursor) (g : Gap) → next_lines i a s ≡ Ok g → IsEnd s.rest g.behind.rest
+next_lines_end : (i : ℕ) (a : Marker) (s : Cursor) (g : PlainGap) → next_lines i a s ≡ Ok g → IsEnd s.rest g.behind.rest
 next_lines_end i a s g = by_result (lines i a false [] s.mark s.rest) (lines_end i a false [] s.mark s.rest)
   where
-    by_result : (r : Result Gap Refusal) → ((h : Gap) → r ≡ Ok h → IsEnd s.rest h.behind.rest)
-        → (r >>= λ h. Ok (folded h)) ≡ Ok g → IsEnd s.rest g.behind.rest
-    by_result (Ok h) ends e = let is = same_gap (folded h) g e in rw is (ends h refl)
+    by_result : (r : Result PlainGap Refusal) → ((h : PlainGap) → r ≡ Ok h → IsEnd s.rest h.behind.rest)
+        → (r >>= λ h. Ok (folded_gap h)) ≡ Ok g → IsEnd s.rest g.behind.rest
+    by_result (Ok h) ends e = let is = same_gap (folded_gap h) g e in rw is (ends h refl)
     by_result (Err r) ends e = absurd (no_refusal r g e)
 
-pub gap_end : (i : ℕ) (a : Marker) (s : Cursor) (g : Gap) → gap i a s ≡ Ok g → IsEnd s.rest g.behind.rest
+pub gap_end : (i : ℕ) (a : Marker) (s : Cursor) (g : PlainGap) → gap i a s ≡ Ok g → IsEnd s.rest g.behind.rest
 unfolding gap gap_from
 gap_end i a s g =
     let n = prefix_len is_blank s.rest in
     let t = pass n s in
     let start = dropped n s.rest (prefix_len-le-length is_blank s.rest) in
-    by_test (is_break (slice_index t.rest 0)) _ _ (λ (r : Result Gap Refusal). r ≡ Ok g → IsEnd s.rest g.behind.rest)
+    by_test (is_break (slice_index t.rest 0)) _ _
+        (λ (r : Result PlainGap Refusal). r ≡ Ok g → IsEnd s.rest g.behind.rest)
     (λ _ e. end_of_end _ _ _ start (end_of_end _ _ _ (break_end t) (next_lines_end i a (pass_break t) g e)))
     (λ _ e. let is = same_gap _ g e in rw is start)
 
 -- What the call that reads a gap leaves.
 
 -- only blanks stand before the place that is reached over lines
-lines_blank : (i : ℕ) (a : Marker) (t : Bool) (f : List ℕ) (m : Marker) (xs : List ℕ) (g : Gap)
+lines_blank : (i : ℕ) (a : Marker) (t : Bool) (f : List ℕ) (m : Marker) (xs : List ℕ) (g : PlainGap)
     → lines i a t f m xs ≡ Ok g → g.behind.blank_so_far ≡ true
 unfolding lines
-lines_blank i a t f m [] g e = ap (λ (x : Gap). x.behind.blank_so_far) (may_stand_same a t f (at_line m []) g e)
+lines_blank i a t f m [] g e = ap (λ (x : PlainGap). x.behind.blank_so_far) (may_stand_same a t f (at_line m []) g e)
 lines_blank i a t f m (c ∷ cs) g e =
-    by_test (is_blank_or_break c) _ _ (λ (r : Result Gap Refusal). r ≡ Ok g → g.behind.blank_so_far ≡ true)
+    by_test (is_blank_or_break c) _ _ (λ (r : Result PlainGap Refusal). r ≡ Ok g → g.behind.blank_so_far ≡ true)
     (λ _ e. lines_blank i a (is_blank c && (t || ((c == tab) && nat_lt m.col i)))
     (if ends_line c cs then f ++ line_feed ∷ [] else f) (if ends_line c cs then next_line m 1 else along m 1) cs g
     e)
-    (λ _ e. ap (λ (x : Gap). x.behind.blank_so_far) (may_stand_same a t f (at_line m (c ∷ cs)) g e)) e
+    (λ _ e. ap (λ (x : PlainGap). x.behind.blank_so_far) (may_stand_same a t f (at_line m (c ∷ cs)) g e)) e
 
 lines_read : (i : ℕ) (a m : Marker) (xs feeds : List ℕ) (w : Cursor) (r : Result Bool Stop)
     → Moves (λ t. gap_of t feeds w) r (lines i a false [] m xs)
-    → Moves (λ t. gap_of t (gap_text w.blank_so_far feeds) w) r (lines i a false [] m xs >>= λ g. Ok (folded g))
+    → Moves (λ t. gap_of t (gap_text w.blank_so_far feeds) w) r (lines i a false [] m xs >>= λ g. Ok (folded_gap g))
 lines_read i a m xs feeds w (Ok t) e =
-    ap (λ (x : Result Gap Refusal). x >>= λ g. Ok (folded g)) e
-    ∙ ap (λ b. let r : Result Gap Refusal = Ok (gap_of t (gap_text b feeds) w) in r)
+    ap (λ (x : Result PlainGap Refusal). x >>= λ g. Ok (folded_gap g)) e
+    ∙ ap (λ b. let r : Result PlainGap Refusal = Ok (gap_of t (gap_text b feeds) w) in r)
     (sym (lines_blank i a false [] m xs (gap_of t feeds w) e))
 lines_read i a m xs feeds w (Err stop.OutOfMemory) e = tt
-lines_read i a m xs feeds w (Err (stop.Refused r)) e = ap (λ (x : Result Gap Refusal). x >>= λ g. Ok (folded g)) e
+lines_read i a m xs feeds w (Err (stop.Refused r)) e = ap
+    (λ (x : Result PlainGap Refusal). x >>= λ g. Ok (folded_gap g)) e
 
 gap_over_break : (i : ℕ) (a : Marker) (grown : List ℕ) (s t : Cursor) → Moved is_blank [] grown s t
     → is_break (slice_index t.rest 0) ≡ true → gap i a s ≡ next_lines i a (pass_break t)
 unfolding gap gap_from
 gap_over_break i a grown s t m h =
     ap (λ (x : List ℕ × Cursor). gap_from i a x.0 x.1) m.is
-    ∙ by_test (is_break (slice_index t.rest 0)) _ _ (λ (r : Result Gap Refusal). r ≡ next_lines i a (pass_break t))
+    ∙ by_test (is_break (slice_index t.rest 0)) _ _ (λ (r : Result PlainGap Refusal). r ≡ next_lines i a (pass_break t))
     (λ _. refl) (λ is. absurd (cc))
 
 -- a gap over lines
@@ -157,6 +159,6 @@ pub gap_read : (i : ℕ) (a : Marker) (grown cleared feeds : List ℕ) (s t u v 
 gap_read i a grown cleared feeds s t u v w r m same breaks on empty h =
     let there : v ≡ pass_break t = on ∙ ap pass_break same in
     let from : gap i a s ≡ next_lines i a v = gap_over_break i a grown s t m breaks ∙ ap (next_lines i a) (sym there) in
-    subst (λ (x : Result Gap Refusal). Moves (λ t. gap_of t (gap_text w.blank_so_far feeds) w) r x) (sym from)
+    subst (λ (x : Result PlainGap Refusal). Moves (λ t. gap_of t (gap_text w.blank_so_far feeds) w) r x) (sym from)
     (lines_read i a v.mark v.rest feeds w r
     (subst (λ (x : List ℕ). Moves (λ t. gap_of t feeds w) r (lines i a false x v.mark v.rest)) empty h))

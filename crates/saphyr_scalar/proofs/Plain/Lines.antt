@@ -6,8 +6,8 @@ use Rattle.saphyr_input.specs.Classes.{is_blank, is_break, tab}
 use Rattle.saphyr_input.specs.Places.{is_blank_or_break, next_2_are}
 use Rattle.saphyr_scalar.specs.declared.scalar.position.Marker.{Marker}
 use Rattle.saphyr_scalar.specs.declared.scalar.fault.Refusal.{Refusal}
-use Rattle.saphyr_scalar.specs.Cursor.{Cursor, ◌>>=◌, along, next_line, pass_break}
-use Rattle.saphyr_scalar.specs.Plain.{lines, reached, at_line, pass_white, may_stand}
+use Rattle.saphyr_scalar.specs.Views.Cursor.{Cursor, ◌>>=◌, along, next_line, pass_break}
+use Rattle.saphyr_scalar.specs.Steps.Plain.{lines, reached, at_line, pass_white, may_stand}
 use Rattle.saphyr_scalar.proofs.Quoted.Inside.{break_cases}
 use Rattle.saphyr_input.proofs.Basics.Booleans.{by_test, either}
 use Rattle.saphyr_input.proofs.Basics.Characters.{blank_cases}

@@ -7,10 +7,10 @@ use Rattle.std.proofs.lemmas.List.{append-nil}
 use Rattle.saphyr_input.specs.Classes.{is_blank, is_break, is_blank_or_breakz, is_flow, is_bom}
 use Rattle.saphyr_input.specs.Places.{is_blank_or_break, is_document_indicator, can_be_plain}
 use Rattle.saphyr_scalar.specs.declared.scalar.position.Marker.{Marker}
-use Rattle.saphyr_scalar.specs.Cursor.{Cursor, ◌>>=◌, along}
-use Rattle.saphyr_scalar.specs.Quoted.{at}
-use Rattle.saphyr_scalar.specs.Plain.{in_word, word_starts, goes_on, comment_of, with_text, ended, word, plain}
-use Rattle.saphyr_scalar.specs.PlainSpelling.{is_plain_safe, AreSafe, IsPlainWord, past_white, is_tabbed, StopsPlain, EndsPlain}
+use Rattle.saphyr_scalar.specs.Views.Cursor.{Cursor, ◌>>=◌, along}
+use Rattle.saphyr_scalar.specs.Steps.Quoted.{at}
+use Rattle.saphyr_scalar.specs.Steps.Plain.{in_word, word_starts, goes_on, comment_of, with_text, scalar_ended, word, plain}
+use Rattle.saphyr_scalar.specs.Spelling.Plain.{is_plain_safe, AreSafe, IsPlainWord, past_white, is_tabbed, StopsPlain, EndsPlain}
 use Rattle.saphyr_scalar.proofs.Moving.{along_none, along_more}
 use Rattle.saphyr_scalar.proofs.Plain.White.{past_stop, past_rest, gap_past, untabbed_root}
 use Rattle.saphyr_scalar.proofs.Plain.Pieces.{no_text, text_twice, word_on, word_over, behind_gap, goes_not, plain_starts}
@@ -171,7 +171,7 @@ word_ends f i a e x some ends =
     let gap_is = gap_past i a e x ends.tabs in
     word_over f i a e x (word_stops f i e x some ends)
     ∙ ap (λ r. r >>= behind_gap f i a e) gap_is.is
-    ∙ ap (λ r. r >>= λ b. if b.0 then with_text gap_is.text (word f i a b.1.mark b.1.rest) else ended f e
+    ∙ ap (λ r. r >>= λ b. if b.0 then with_text gap_is.text (word f i a b.1.mark b.1.rest) else scalar_ended f e
     (record { text = gap_is.text; tabbed = is_tabbed i x; behind = behind })) (stops_plain f i behind ends.stops)
 
 -- A plain scalar of one word, where blanks and breaks and what ends it stand behind it, is read.

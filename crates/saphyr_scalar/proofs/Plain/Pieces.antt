@@ -11,19 +11,19 @@ use Rattle.saphyr_scalar.specs.declared.scalar.fault.Refusal.{Refusal}
 use Rattle.saphyr_scalar.specs.declared.scalar.fault.FaultText.TheVariants as fault
 use Rattle.saphyr_scalar.specs.declared.scalar.fault.Stop.{Stop}
 use Rattle.saphyr_scalar.specs.declared.scalar.fault.Stop.TheVariants as stop
-use Rattle.saphyr_scalar.specs.Seen.{Moves, Fails}
-use Rattle.saphyr_scalar.specs.Cursor.{Cursor, ◌>>=◌, refuse, along}
-use Rattle.saphyr_scalar.specs.Quoted.{at}
-use Rattle.saphyr_scalar.specs.Plain.{in_word, word_len, WordsMoved, word_starts, Gap, gap_from, gap, goes_on, comment_of, Reading, with_text, ended, gap_len, between, word, plain}
+use Rattle.saphyr_scalar.specs.Views.Reader.{Moves, Fails}
+use Rattle.saphyr_scalar.specs.Views.Cursor.{Cursor, ◌>>=◌, refuse, along}
+use Rattle.saphyr_scalar.specs.Steps.Quoted.{at}
+use Rattle.saphyr_scalar.specs.Steps.Plain.{in_word, word_len, PlainWordsMoved, word_starts, PlainGap, gap_from, gap, goes_on, comment_of, PlainScalarRead, with_text, scalar_ended, gap_len, between, word, plain}
 use Rattle.saphyr_scalar.proofs.Moving.{along_none, along_more, bind_same}
 use Rattle.saphyr_scalar.proofs.Plain.Gaps.{IsEnd, gap_end}
 use Rattle.saphyr_input.proofs.Basics.Booleans.{by_test}
 
-pub text_twice : (a b : List ℕ) (read : Reading) → with_text a (with_text b read) ≡ with_text (a ++ b) read
+pub text_twice : (a b : List ℕ) (read : PlainScalarRead) → with_text a (with_text b read) ≡ with_text (a ++ b) read
 text_twice a b (Ok x) = rw append_assoc refl
 text_twice a b (Err e) = refl
 
-pub no_text : (read : Reading) → with_text [] read ≡ read
+pub no_text : (read : PlainScalarRead) → with_text [] read ≡ read
 no_text (Ok x) = refl
 no_text (Err e) = refl
 
@@ -143,39 +143,40 @@ word_stops f (c ∷ cs) =
     (λ _. rw one (word_stops f cs)) (λ h. h)
 
 -- behind a gap
-abbrev pub behind_gap : Bool → ℕ → Marker → Marker → Gap → Reading
+abbrev pub behind_gap : Bool → ℕ → Marker → Marker → PlainGap → PlainScalarRead
 behind_gap f i a end g =
-    goes_on f i g.behind >>= λ b. if b.0 then with_text g.text (word f i a b.1.mark b.1.rest) else ended f end g
+    goes_on f i g.behind >>= λ b. if b.0 then with_text g.text (word f i a b.1.mark b.1.rest) else scalar_ended f end g
 
-gap_over : (f : Bool) (i : ℕ) (a end : Marker) (g : Gap) → in_word f g.behind.rest ≡ false
-    → behind_gap f i a end g ≡ ended f end g
+gap_over : (f : Bool) (i : ℕ) (a end : Marker) (g : PlainGap) → in_word f g.behind.rest ≡ false
+    → behind_gap f i a end g ≡ scalar_ended f end g
 gap_over f i a end g h =
-    ap (λ r. r >>= λ b. if b.0 then with_text g.text (word f i a b.1.mark b.1.rest) else ended f end g)
+    ap (λ r. r >>= λ b. if b.0 then with_text g.text (word f i a b.1.mark b.1.rest) else scalar_ended f end g)
     (goes_not f i g.behind h)
 
-between_none : (f : Bool) (i : ℕ) (a end : Marker) (g : Gap) (k : ℕ) → between f i a end g k [] ≡ ended f end g
+between_none : (f : Bool) (i : ℕ) (a end : Marker) (g : PlainGap) (k : ℕ) → between f i a end g k []
+    ≡ scalar_ended f end g
 unfolding between
 between_none f i a end g zero = refl
 between_none f i a end g (suc k) = refl
 
-between_step : (f : Bool) (i : ℕ) (a end : Marker) (g : Gap) (c : ℕ) (cs : List ℕ)
+between_step : (f : Bool) (i : ℕ) (a end : Marker) (g : PlainGap) (c : ℕ) (cs : List ℕ)
     → between f i a end g zero (c ∷ cs)
     ≡ (goes_on f i g.behind >>= λ b. if b.0 then with_text (g.text ++ encode_utf8 c)
-    (word f i a (along g.behind.mark 1) cs) else ended f end g)
+    (word f i a (along g.behind.mark 1) cs) else scalar_ended f end g)
 unfolding between
 between_step f i a end g c cs = refl
 
-between_more : (f : Bool) (i : ℕ) (a end : Marker) (g : Gap) (k c : ℕ) (cs : List ℕ)
+between_more : (f : Bool) (i : ℕ) (a end : Marker) (g : PlainGap) (k c : ℕ) (cs : List ℕ)
     → between f i a end g (suc k) (c ∷ cs) ≡ between f i a end g k cs
 unfolding between
 between_more f i a end g k c cs = refl
 
-choice : (b : Bool) (x y z : Reading) → (b ≡ true → x ≡ y) → (if b then x else z) ≡ (if b then y else z)
+choice : (b : Bool) (x y z : PlainScalarRead) → (b ≡ true → x ≡ y) → (if b then x else z) ≡ (if b then y else z)
 choice true x y z h = h refl
 choice false x y z h = refl
 
 -- the next word's first character
-word_first : (f : Bool) (i : ℕ) (a : Marker) (g : Gap) (c : ℕ) (cs : List ℕ) (t : Cursor) → c ∷ cs ≡ g.behind.rest
+word_first : (f : Bool) (i : ℕ) (a : Marker) (g : PlainGap) (c : ℕ) (cs : List ℕ) (t : Cursor) → c ∷ cs ≡ g.behind.rest
     → t ≡ g.behind → in_word f g.behind.rest ≡ true
     → with_text (g.text ++ encode_utf8 c) (word f i a (along g.behind.mark 1) cs)
     ≡ with_text g.text (word f i a t.mark t.rest)
@@ -185,7 +186,7 @@ word_first f i a g c cs t is same goes =
     ∙ ap (with_text g.text) (sym (word_on f i a g.behind.mark c cs here) ∙ ap (word f i a g.behind.mark) is)
     ∙ ap (λ (x : Cursor). with_text g.text (word f i a x.mark x.rest)) (sym same)
 
-between_there : (f : Bool) (i : ℕ) (a end : Marker) (g : Gap) (xs : List ℕ) → xs ≡ g.behind.rest
+between_there : (f : Bool) (i : ℕ) (a end : Marker) (g : PlainGap) (xs : List ℕ) → xs ≡ g.behind.rest
     → between f i a end g zero xs ≡ behind_gap f i a end g
 between_there f i a end g [] is =
     between_none f i a end g zero ∙ sym (gap_over f i a end g (ap (in_word f) (sym is) ∙ not_in_word f))
@@ -193,9 +194,9 @@ between_there f i a end g (c ∷ cs) is =
     between_step f i a end g c cs
     ∙ bind_same (goes_on f i g.behind) _ _ (λ b h.
     let says = goes_says f i b.0 g.behind b.1 h in
-    choice b.0 _ _ (ended f end g) (λ goes. word_first f i a g c cs b.1 is says.same (says.goes goes)))
+    choice b.0 _ _ (scalar_ended f end g) (λ goes. word_first f i a g c cs b.1 is says.same (says.goes goes)))
 
-between_all : (f : Bool) (i : ℕ) (a end : Marker) (g : Gap) (k : ℕ) (xs : List ℕ) → drop k xs ≡ g.behind.rest
+between_all : (f : Bool) (i : ℕ) (a end : Marker) (g : PlainGap) (k : ℕ) (xs : List ℕ) → drop k xs ≡ g.behind.rest
     → between f i a end g k xs ≡ behind_gap f i a end g
 between_all f i a end g zero xs is = between_there f i a end g xs is
 between_all f i a end g (suc k) [] is =
@@ -203,12 +204,13 @@ between_all f i a end g (suc k) [] is =
 between_all f i a end g (suc k) (c ∷ cs) is = between_more f i a end g k c cs ∙ between_all f i a end g k cs is
 
 word_end : (f : Bool) (i : ℕ) (a m : Marker)
-    → word f i a m [] ≡ ended f m (record { text = []; tabbed = false; behind = at m [] })
+    → word f i a m [] ≡ scalar_ended f m (record { text = []; tabbed = false; behind = at m [] })
 unfolding word
 word_end f i a m = refl
 
 word_gap : (f : Bool) (i : ℕ) (a m : Marker) (c : ℕ) (cs : List ℕ) → in_word f (c ∷ cs) ≡ false
-    → word f i a m (c ∷ cs) ≡ (gap i a (at m (c ∷ cs)) >>= λ g. if gap_len (c ∷ cs) g == 0 then ended f m g else between
+    → word f i a m (c ∷ cs)
+    ≡ (gap i a (at m (c ∷ cs)) >>= λ g. if gap_len (c ∷ cs) g == 0 then scalar_ended f m g else between
     f i a m g (pred (gap_len (c ∷ cs) g)) cs)
 unfolding word
 word_gap f i a m c cs h = rw h refl
@@ -222,7 +224,8 @@ some_count zero e = absurd (cc)
 some_count (suc n) e = refl
 
 -- what an end of a text is, by the count of what stands before it
-pub end_at : (xs : List ℕ) (g : Gap) → IsEnd xs g.behind.rest → (n : ℕ) → gap_len xs g ≡ n → drop n xs ≡ g.behind.rest
+pub end_at : (xs : List ℕ) (g : PlainGap) → IsEnd xs g.behind.rest → (n : ℕ) → gap_len xs g ≡ n → drop n xs
+    ≡ g.behind.rest
 end_at xs g e n h = let same : e.taken ≡ n = omega (arith, e.count, h) in ap (λ k. drop k xs) (sym same) ∙ sym e.is
 
 pub word_over : (f : Bool) (i : ℕ) (a m : Marker) (xs : List ℕ) → in_word f xs ≡ false
@@ -234,7 +237,7 @@ word_over f i a m (c ∷ cs) h =
     word_gap f i a m c cs h
     ∙ bind_same (gap i a (at m (c ∷ cs))) _ _ (λ g is.
     let end = gap_end i a (at m (c ∷ cs)) g is in
-    by_test (gap_len (c ∷ cs) g == 0) _ _ (λ (r : Reading). r ≡ behind_gap f i a m g)
+    by_test (gap_len (c ∷ cs) g == 0) _ _ (λ (r : PlainScalarRead). r ≡ behind_gap f i a m g)
     (λ none.
     let no : gap_len (c ∷ cs) g ≡ 0 = grind (arith, nat_tests) in
     sym (gap_over f i a m g (ap (in_word f) (sym (end_at (c ∷ cs) g end 0 no)) ∙ h)))
@@ -246,13 +249,14 @@ word_over f i a m (c ∷ cs) h =
 -- What the calls that read a part leave.
 
 -- words that were put behind a text end on their line
-moved_at : (f : Bool) (text grown : List ℕ) (s t : Cursor) → WordsMoved f text grown s t → at t.mark t.rest ≡ t
+moved_at : (f : Bool) (text grown : List ℕ) (s t : Cursor) → PlainWordsMoved f text grown s t → at t.mark t.rest ≡ t
 moved_at f text grown s t m =
     let there : Bool → Cursor = λ b. record { rest = t.rest; mark = t.mark; blank_so_far = b } in ap there
     (sym m.on_line)
 
 -- behind a word that was read
-pub behind_word : (f : Bool) (i : ℕ) (a : Marker) (text grown : List ℕ) (s t : Cursor) → WordsMoved f text grown s t
+pub behind_word : (f : Bool) (i : ℕ) (a : Marker) (text grown : List ℕ) (s t : Cursor)
+    → PlainWordsMoved f text grown s t
     → with_text text (word f i a s.mark s.rest) ≡ with_text grown (gap i a t >>= behind_gap f i a t.mark)
 behind_word f i a text grown s t m =
     sym (m.same i a)
@@ -260,60 +264,60 @@ behind_word f i a text grown s t m =
     ∙ ap (λ x. gap i a x >>= behind_gap f i a t.mark) (moved_at f text grown s t m))
 
 pub gap_refused : (f : Bool) (i : ℕ) (a : Marker) (text grown : List ℕ) (s t : Cursor) (r : Refusal)
-    → WordsMoved f text grown s t → gap i a t ≡ Err r → with_text text (word f i a s.mark s.rest) ≡ Err r
+    → PlainWordsMoved f text grown s t → gap i a t ≡ Err r → with_text text (word f i a s.mark s.rest) ≡ Err r
 gap_refused f i a text grown s t r m h =
     behind_word f i a text grown s t m ∙ ap (λ x. with_text grown (x >>= behind_gap f i a t.mark)) h
 
-abbrev pub gap_of : List ℕ → Bool → Cursor → Gap
+abbrev pub gap_of : List ℕ → Bool → Cursor → PlainGap
 gap_of text tabbed s = record { text = text; tabbed = tabbed; behind = s }
 
 -- a gap behind a word
-pub record GapMoved (f : Bool) (i : ℕ) (a : Marker) (text grown : List ℕ) (s t : Cursor) (g : Gap) : Type 0 where
-  pub moved : WordsMoved f text grown s t
+pub record GapMoved (f : Bool) (i : ℕ) (a : Marker) (text grown : List ℕ) (s t : Cursor) (g : PlainGap) : Type 0 where
+  pub moved : PlainWordsMoved f text grown s t
   pub is : gap i a t ≡ Ok g
 
-pub behind_both : (f : Bool) (i : ℕ) (a : Marker) (text grown : List ℕ) (s t : Cursor) (g : Gap)
+pub behind_both : (f : Bool) (i : ℕ) (a : Marker) (text grown : List ℕ) (s t : Cursor) (g : PlainGap)
     → GapMoved f i a text grown s t g
     → with_text text (word f i a s.mark s.rest) ≡ with_text grown (behind_gap f i a t.mark g)
 behind_both f i a text grown s t g m =
     behind_word f i a text grown s t m.moved ∙ ap (λ x. with_text grown (x >>= behind_gap f i a t.mark)) m.is
 
-pub turn_refused : (f : Bool) (i : ℕ) (a : Marker) (text grown : List ℕ) (s t : Cursor) (g : Gap) (r : Refusal)
+pub turn_refused : (f : Bool) (i : ℕ) (a : Marker) (text grown : List ℕ) (s t : Cursor) (g : PlainGap) (r : Refusal)
     → GapMoved f i a text grown s t g → goes_on f i g.behind ≡ Err r
     → with_text text (word f i a s.mark s.rest) ≡ Err r
 turn_refused f i a text grown s t g r m h =
     behind_both f i a text grown s t g m
     ∙ ap (λ x. with_text grown
-    (x >>= λ b. if b.0 then with_text g.text (word f i a b.1.mark b.1.rest) else ended f t.mark g)) h
+    (x >>= λ b. if b.0 then with_text g.text (word f i a b.1.mark b.1.rest) else scalar_ended f t.mark g)) h
 
 -- no word behind the gap
-pub no_turn : (f : Bool) (i : ℕ) (a : Marker) (text grown : List ℕ) (s t : Cursor) (g : Gap) (u : Cursor)
+pub no_turn : (f : Bool) (i : ℕ) (a : Marker) (text grown : List ℕ) (s t : Cursor) (g : PlainGap) (u : Cursor)
     → GapMoved f i a text grown s t g → goes_on f i g.behind ≡ Ok (false, u)
     → with_text text (word f i a s.mark s.rest) ≡ Ok (grown, t.mark, comment_of f g.tabbed u, u)
 no_turn f i a text grown s t g u m h =
     behind_both f i a text grown s t g m
     ∙ ap (λ x. with_text grown
-    (x >>= λ b. if b.0 then with_text g.text (word f i a b.1.mark b.1.rest) else ended f t.mark g)) h
+    (x >>= λ b. if b.0 then with_text g.text (word f i a b.1.mark b.1.rest) else scalar_ended f t.mark g)) h
     ∙ ap (λ x. Ok (x, t.mark, comment_of f g.tabbed g.behind, g.behind)) (append-nil grown)
     ∙ ap (λ x. Ok (grown, t.mark, comment_of f g.tabbed x, x)) (sym (goes_says f i false g.behind u h).same)
 
 -- another word behind the gap
-pub turn : (f : Bool) (i : ℕ) (a : Marker) (text grown joined : List ℕ) (s t : Cursor) (g : Gap) (u : Cursor)
+pub turn : (f : Bool) (i : ℕ) (a : Marker) (text grown joined : List ℕ) (s t : Cursor) (g : PlainGap) (u : Cursor)
     → GapMoved f i a text grown s t g → goes_on f i g.behind ≡ Ok (true, u)
     → joined ≡ grown ++ g.text → with_text joined (word f i a u.mark u.rest) ≡ with_text text (word f i a s.mark s.rest)
 turn f i a text grown joined s t g u m h j =
     ap (λ x. with_text x (word f i a u.mark u.rest)) j
     ∙ sym (behind_both f i a text grown s t g m
     ∙ ap (λ x. with_text grown
-    (x >>= λ b. if b.0 then with_text g.text (word f i a b.1.mark b.1.rest) else ended f t.mark g)) h
+    (x >>= λ b. if b.0 then with_text g.text (word f i a b.1.mark b.1.rest) else scalar_ended f t.mark g)) h
     ∙ text_twice grown g.text _)
 
-pub turn_goes : (f : Bool) (i : ℕ) (g : Gap) (u : Cursor) → goes_on f i g.behind ≡ Ok (true, u)
+pub turn_goes : (f : Bool) (i : ℕ) (g : PlainGap) (u : Cursor) → goes_on f i g.behind ≡ Ok (true, u)
     → in_word f u.rest ≡ true
 turn_goes f i g u h = let says =
     goes_says f i true g.behind u h in ap (λ (x : Cursor). in_word f x.rest) says.same ∙ says.goes refl
 
-pub turn_shorter : (f : Bool) (i : ℕ) (a : Marker) (text grown : List ℕ) (s t : Cursor) (g : Gap) (u : Cursor)
+pub turn_shorter : (f : Bool) (i : ℕ) (a : Marker) (text grown : List ℕ) (s t : Cursor) (g : PlainGap) (u : Cursor)
     → in_word f s.rest ≡ true → GapMoved f i a text grown s t g → goes_on f i g.behind ≡ Ok (true, u)
     → length u.rest < length s.rest
 turn_shorter f i a text grown s t g u goes m h =

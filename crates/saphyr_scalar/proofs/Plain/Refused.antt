@@ -6,11 +6,11 @@ use Rattle.saphyr_input.specs.Classes.{is_blank, is_bom, is_break, is_flow, is_z
 use Rattle.saphyr_input.specs.Places.{can_be_plain, is_blank_or_break, is_document_indicator}
 use Rattle.saphyr_scalar.specs.declared.scalar.position.Marker.{Marker}
 use Rattle.saphyr_scalar.specs.declared.scalar.fault.Refusal.{Refusal}
-use Rattle.saphyr_scalar.specs.BlockScalar.{is_cr_lf}
-use Rattle.saphyr_scalar.specs.Cursor.{Cursor, ◌>>=◌, along, next_line, pass, pass_break}
+use Rattle.saphyr_scalar.specs.Steps.Block.{is_cr_lf}
+use Rattle.saphyr_scalar.specs.Views.Cursor.{Cursor, ◌>>=◌, along, next_line, pass, pass_break}
 use Rattle.saphyr_scalar.specs.Passing.{IsPassed, nothing}
-use Rattle.saphyr_scalar.specs.Plain.{Gap, folded, ends_line, in_word, word_starts, may_stand, reached, at_line, lines, next_lines, gap_from, gap, goes_on, Reading, with_text, gap_len, between, word, plain}
-use Rattle.saphyr_scalar.specs.Quoted.{at}
+use Rattle.saphyr_scalar.specs.Steps.Plain.{PlainGap, folded_gap, ends_line, in_word, word_starts, may_stand, reached, at_line, lines, next_lines, gap_from, gap, goes_on, PlainScalarRead, with_text, gap_len, between, word, plain}
+use Rattle.saphyr_scalar.specs.Steps.Quoted.{at}
 use Rattle.saphyr_scalar.specs.RefusedInside.{IsRefusedInside}
 use Rattle.saphyr_scalar.proofs.PassedBreaks.{Passes, along_same, one_here, return_here, feed_here, stop_here, end_here, behind_one}
 use Rattle.saphyr_scalar.proofs.Block.PlacedHeaders.{passed_passed, run_passed, break_ends}
@@ -25,11 +25,12 @@ use Rattle.saphyr_input.proofs.Basics.Characters.{blank_no_break}
 -- ## The lines behind a word's line
 
 -- passed up to where the gap ends, or refused at the scalar's start or up to where it is refused
-abbrev Told : Marker → Marker → List ℕ → Result Gap Refusal → Type 0
+abbrev Told : Marker → Marker → List ℕ → Result PlainGap Refusal → Type 0
 Told start m t (Ok g) = Passes m t g.behind
 Told start m t (Err e) = (e.mark ≡ start) ⊎ ((behind : List ℕ) × Passes m t (at e.mark behind))
 
-told_more : (start m k : Marker) (t u : List ℕ) (r : Result Gap Refusal) → ((s : Cursor) → Passes k u s → Passes m t s)
+told_more : (start m k : Marker) (t u : List ℕ) (r : Result PlainGap Refusal)
+    → ((s : Cursor) → Passes k u s → Passes m t s)
     → Told start k u r → Told start m t r
 told_more start m k t u (Ok g) more h = more g.behind h
 told_more start m k t u (Err e) more (inl is) = inl is
@@ -47,7 +48,7 @@ reached_told start tabbed feeds m t here =
     (λ _. here true))
 
 -- a character, of a break or none, before what is told from the place behind it on
-one_told : (start m : Marker) (c : ℕ) (cs : List ℕ) (f : Marker → Result Gap Refusal)
+one_told : (start m : Marker) (c : ℕ) (cs : List ℕ) (f : Marker → Result PlainGap Refusal)
     → ((k : Marker) → Told start k cs (f k)) → Told start m (c ∷ cs) (f (behind_one m c cs))
 one_told start m c cs f others = on (is_cr_lf c cs) refl (is_break c) refl
   where
@@ -89,7 +90,7 @@ lines_told indent start tabbed feeds m (c ∷ cs) =
 
 -- ## Gaps
 
-abbrev GapTold : Marker → Cursor → Result Gap Refusal → Type 0
+abbrev GapTold : Marker → Cursor → Result PlainGap Refusal → Type 0
 GapTold start s (Ok g) = IsPassed s.mark s.rest g.behind.mark g.behind.rest
 GapTold start s (Err e) = (e.mark ≡ start) ⊎ IsRefusedInside s e
 
@@ -98,7 +99,7 @@ next_told : (indent : ℕ) (start : Marker) (s t : Cursor) → IsPassed s.mark s
 next_told indent start s t p =
     by (lines indent start false [] t.mark t.rest) (lines_told indent start false [] t.mark t.rest)
   where
-    by : (r : Result Gap Refusal) → Told start t.mark t.rest r → GapTold start s (r >>= λ g. Ok (folded g))
+    by : (r : Result PlainGap Refusal) → Told start t.mark t.rest r → GapTold start s (r >>= λ g. Ok (folded_gap g))
     by (Ok g) h = passed_passed s.mark s.rest t.mark t.rest g.behind.mark g.behind.rest p h.here
     by (Err e) (inl is) = inl is
     by (Err e) (inr h) = inr (inside_from s t e p (h.0, h.1.here))
@@ -119,12 +120,12 @@ gap_refused : (indent : ℕ) (s t : Cursor) → IsPassed s.mark s.rest t.mark t.
     → Refused (IsRefusedInside s) (gap indent s.mark t)
 gap_refused indent s t p = by (gap indent s.mark t) (gap_told indent s.mark t)
   where
-    by : (r : Result Gap Refusal) → GapTold s.mark t r → Refused (IsRefusedInside s) r
+    by : (r : Result PlainGap Refusal) → GapTold s.mark t r → Refused (IsRefusedInside s) r
     by (Ok g) h = tt
     by (Err e) (inl is) = inside_start s e is
     by (Err e) (inr h) = inside_from s t e p h
 
-gap_passed : (indent : ℕ) (start : Marker) (s : Cursor) (g : Gap) → gap indent start s ≡ Ok g
+gap_passed : (indent : ℕ) (start : Marker) (s : Cursor) (g : PlainGap) → gap indent start s ≡ Ok g
     → IsPassed s.mark s.rest g.behind.mark g.behind.rest
 gap_passed indent start s g e = subst (GapTold start s) e (gap_told indent start s)
 
@@ -154,13 +155,13 @@ word_no_break in_flow t e =
     by true true z p h = absurd (cc)
     by false true z p h = absurd (cc)
 
-text_refused : (P : Refusal → Type 0) (text : List ℕ) (r : Reading) → Refused P r → Refused P (with_text text r)
+text_refused : (P : Refusal → Type 0) (text : List ℕ) (r : PlainScalarRead) → Refused P r → Refused P (with_text text r)
 text_refused P text r h = refused_bind P r _ h (λ x _. tt)
 
 mutual
   unfolding between word
 
-  between_refused : (s : Cursor) (in_flow : Bool) (indent : ℕ) (end : Marker) (g : Gap) (left : ℕ) (t : List ℕ)
+  between_refused : (s : Cursor) (in_flow : Bool) (indent : ℕ) (end : Marker) (g : PlainGap) (left : ℕ) (t : List ℕ)
       → IsPassed s.mark s.rest g.behind.mark g.behind.rest → drop left t ≡ g.behind.rest
       → Refused (IsRefusedInside s) (between in_flow indent s.mark end g left t)
   between_refused s in_flow indent end g left [] p is = tt

@@ -9,10 +9,10 @@ use Rattle.saphyr_input.specs.Places.{is_document_indicator, words_len, Transfer
 use Rattle.saphyr_input.proofs.WordRuns.{words_within}
 use Rattle.saphyr_scalar.specs.declared.scalar.position.Marker.{Marker}
 use Rattle.saphyr_scalar.specs.declared.scalar.fault.Refusal.{Refusal}
-use Rattle.saphyr_scalar.specs.Cursor.{Cursor, ◌>>=◌, along, pass}
-use Rattle.saphyr_scalar.specs.Plain.{in_word, word_starts, goes_on, gap_from, gap, Gap, with_text, ended, word, WordsMoved}
-use Rattle.saphyr_scalar.specs.Quoted.{at}
-use Rattle.saphyr_scalar.specs.Sets.{in_plain, leads_plain}
+use Rattle.saphyr_scalar.specs.Views.Cursor.{Cursor, ◌>>=◌, along, pass}
+use Rattle.saphyr_scalar.specs.Steps.Plain.{in_word, word_starts, goes_on, gap_from, gap, PlainGap, with_text, scalar_ended, word, PlainWordsMoved}
+use Rattle.saphyr_scalar.specs.Steps.Quoted.{at}
+use Rattle.saphyr_scalar.specs.Steps.Sets.{in_plain, leads_plain}
 use Rattle.saphyr_scalar.proofs.Moving.{along_none, along_more}
 use Rattle.saphyr_scalar.proofs.Plain.Pieces.{gap_of, behind_gap, word_over, word_on, text_twice, Part, no_part}
 use Rattle.saphyr_scalar.proofs.Plain.Words.{word_left}
@@ -68,11 +68,11 @@ space_moved m cs h = record {
       ∙ ap (λ b. together b (at (along m 1) cs)) (append-nil (encode_utf8 32));
 }
 
-abbrev space_gap : Marker → List ℕ → Gap
+abbrev space_gap : Marker → List ℕ → PlainGap
 space_gap m cs = gap_of (encode_utf8 32) false (at (along m 1) cs)
 
 abbrev Found : Type 0
-Found = Result Gap Refusal
+Found = Result PlainGap Refusal
 
 gap_is_space : (f : Bool) (i : ℕ) (a m : Marker) (cs : List ℕ) → Leads f cs
     → gap i a (at m (32 ∷ cs)) ≡ Ok (space_gap m cs)
@@ -120,7 +120,7 @@ space_passed : (f : Bool) (i : ℕ) (a m : Marker) (cs : List ℕ) → Leads f c
 space_passed f i a m cs s =
     word_over f i a m (32 ∷ cs) (space_ends f cs) ∙ ap (λ r. r >>= behind_gap f i a m) (gap_is_space f i a m cs s)
     ∙ ap (λ r. r >>= λ b. cond b.0 (with_text (encode_utf8 32) (word f i a b.1.mark b.1.rest))
-    (ended f m (space_gap m cs))) (space_goes f i m cs s)
+    (scalar_ended f m (space_gap m cs))) (space_goes f i m cs s)
 
 word_passed : (f : Bool) (i : ℕ) (a m : Marker) (c : ℕ) (cs : List ℕ)
     → (in_plain f c || ((c == 32) && leads_plain f (slice_index cs 0))) ≡ true → Passed f i a m c cs
@@ -208,7 +208,7 @@ colon_ran f text grown pushed s t u n c r goes read e behind place =
 
 -- the words end
 pub words_done : (f : Bool) (text grown : List ℕ) (s t : Cursor) (n : ℕ) (m : Marker) → WordsRan f text grown s t n
-    → in_word f t.rest ≡ false → m ≡ along s.mark n → WordsMoved f text grown s (at m t.rest)
+    → in_word f t.rest ≡ false → m ≡ along s.mark n → PlainWordsMoved f text grown s (at m t.rest)
 words_done f text grown s t n m r stops place = record {
   same = λ i a. ap (λ x. with_text grown (word f i a x t.rest)) place ∙ r.same i a;
   on_line = refl;

@@ -10,12 +10,12 @@ use Rattle.saphyr_input.specs.Places.{is_blank_or_break, can_be_plain}
 use Rattle.saphyr_scalar.specs.declared.scalar.position.Marker.{Marker}
 use Rattle.saphyr_scalar.specs.declared.scalar.fault.Refusal.{Refusal}
 use Rattle.saphyr_scalar.specs.declared.scalar.fault.FaultText.TheVariants as fault
-use Rattle.saphyr_scalar.specs.Cursor.{Cursor, ◌>>=◌, refuse, along, next_line, pass, pass_break}
-use Rattle.saphyr_scalar.specs.Quoted.{at}
-use Rattle.saphyr_scalar.specs.Folding.{folded, line_feeds, raw_break}
-use Rattle.saphyr_scalar.specs.Plain as spec
-use Rattle.saphyr_scalar.specs.Plain.{in_word, word_len, word_starts, goes_on, comment_of, Gap, ends_line, may_stand, reached, at_line, lines, next_lines, gap_from, gap, Reading, with_text, ended, word, plain}
-use Rattle.saphyr_scalar.specs.PlainReading.{AreWhite, passed, IsSpelledPlain, ends_piece, IsPlainReading}
+use Rattle.saphyr_scalar.specs.Views.Cursor.{Cursor, ◌>>=◌, refuse, along, next_line, pass, pass_break}
+use Rattle.saphyr_scalar.specs.Steps.Quoted.{at}
+use Rattle.saphyr_scalar.specs.Reading.Folding.{folded, line_feeds, raw_break}
+use Rattle.saphyr_scalar.specs.Steps.Plain as spec
+use Rattle.saphyr_scalar.specs.Steps.Plain.{in_word, word_len, word_starts, goes_on, comment_of, PlainGap, ends_line, may_stand, reached, at_line, lines, next_lines, gap_from, gap, PlainScalarRead, with_text, scalar_ended, word, plain}
+use Rattle.saphyr_scalar.specs.Reading.Plain.{AreWhite, passed, IsSpelledPlain, ends_piece, IsPlainReading}
 use Rattle.saphyr_scalar.proofs.Moving.{along_none, along_more}
 use Rattle.saphyr_scalar.proofs.Quoted.Inside.{break_cases}
 use Rattle.saphyr_scalar.proofs.Plain.Words.{word_left, word_len_more}
@@ -58,16 +58,16 @@ other_no_feed = ink_no_feed
 
 -- the lines behind a word's line
 
-record LinesRun (xs : List ℕ) (m : Marker) (f : List ℕ) (g : Gap) : Type 0 where
+record LinesRun (xs : List ℕ) (m : Marker) (f : List ℕ) (g : PlainGap) : Type 0 where
   breaks : ℕ
   stop : NoFeed g.behind.rest
   run : Run xs g.behind.rest m g.behind.mark breaks
   text : g.text ≡ f ++ line_feeds breaks
 
-reached_run : (a : Marker) (t : Bool) (f : List ℕ) (m : Marker) (xs : List ℕ) (g : Gap) → NoFeed xs
+reached_run : (a : Marker) (t : Bool) (f : List ℕ) (m : Marker) (xs : List ℕ) (g : PlainGap) → NoFeed xs
     → reached a t f (at_line m xs) ≡ Ok g → LinesRun xs m f g
 reached_run a t f m xs g stop e =
-    subst (λ (h : Gap). LinesRun xs m f h) (sym (may_stand_same a t f (at_line m xs) g e))
+    subst (λ (h : PlainGap). LinesRun xs m f h) (sym (may_stand_same a t f (at_line m xs) g e))
     (record { breaks = 0; stop = stop; run = no_run xs m; text = sym (append-nil f) })
 
 more_text : (b : Bool) (k : ℕ) (f text : List ℕ) → text ≡ (if b then f ++ 10 ∷ [] else f) ++ line_feeds k
@@ -75,7 +75,7 @@ more_text : (b : Bool) (k : ℕ) (f text : List ℕ) → text ≡ (if b then f +
 more_text true k f text e = e ∙ append_assoc f (10 ∷ []) (line_feeds k)
 more_text false k f text e = e
 
-lines_more : (i : ℕ) (a : Marker) (t : Bool) (f : List ℕ) (m : Marker) (c : ℕ) (cs : List ℕ) (g : Gap)
+lines_more : (i : ℕ) (a : Marker) (t : Bool) (f : List ℕ) (m : Marker) (c : ℕ) (cs : List ℕ) (g : PlainGap)
     → is_blank_or_break c ≡ true
     → LinesRun cs (behind_one m c cs) (if ends_line c cs then f ++ line_feed ∷ [] else f) g → LinesRun (c ∷ cs) m f g
 lines_more i a t f m c cs g white r = record {
@@ -85,12 +85,12 @@ lines_more i a t f m c cs g white r = record {
   text = more_text (ends_line c cs) r.breaks f g.text r.text;
 }
 
-lines_run : (i : ℕ) (a : Marker) (t : Bool) (f : List ℕ) (m : Marker) (xs : List ℕ) (g : Gap)
+lines_run : (i : ℕ) (a : Marker) (t : Bool) (f : List ℕ) (m : Marker) (xs : List ℕ) (g : PlainGap)
     → lines i a t f m xs ≡ Ok g → LinesRun xs m f g
 unfolding lines
 lines_run i a t f m [] g = reached_run a t f m [] g refl
 lines_run i a t f m (c ∷ cs) g =
-    by_test (is_blank_or_break c) _ _ (λ (r : Result Gap Refusal). r ≡ Ok g → LinesRun (c ∷ cs) m f g)
+    by_test (is_blank_or_break c) _ _ (λ (r : Result PlainGap Refusal). r ≡ Ok g → LinesRun (c ∷ cs) m f g)
     (λ white e. lines_more i a t f m c cs g white
     (lines_run i a (is_blank c && (t || ((c == tab) && nat_lt m.col i)))
     (if ends_line c cs then f ++ line_feed ∷ [] else f) (if ends_line c cs then next_line m 1 else along m 1) cs g
@@ -172,7 +172,7 @@ blanks_run (c ∷ cs) rest m end k none =
 
 -- what a gap is read as
 
-pub record GapReads (xs : List ℕ) (m : Marker) (g : Gap) : Type 0 where
+pub record GapReads (xs : List ℕ) (m : Marker) (g : PlainGap) : Type 0 where
   pub white : List ℕ
   pub are : AreWhite white
   pub is : xs ≡ white ++ g.behind.rest
@@ -234,7 +234,7 @@ feeds_encode zero = refl
 feeds_encode (suc k) = ap (λ (l : List ℕ). l ++ encode_utf8_all (line_feeds k)) (encode_ascii 10 (omega arith))
     ∙ ap (λ l. 10 ∷ l) (feeds_encode k)
 
-folded_text : (k : ℕ) (g : Gap) → g.text ≡ line_feeds k → encode_utf8_all (raw_break k) ≡ (spec.folded g).text
+folded_text : (k : ℕ) (g : PlainGap) → g.text ≡ line_feeds k → encode_utf8_all (raw_break k) ≡ (spec.folded_gap g).text
 folded_text zero g e = ap (λ (l : List ℕ). l ++ []) (encode_ascii 32 (omega arith)) ∙ sym (rw e refl)
 folded_text (suc k) g e =
     let some : (length (line_feeds (suc k)) == 0) ≡ false = some_length (length (line_feeds k)) in
@@ -243,9 +243,9 @@ folded_text (suc k) g e =
     some_length : (n : ℕ) → (suc n == 0) ≡ false
     some_length n = grind (arith, nat_tests)
 
-lines_read : (xs : List ℕ) (m : Marker) (g : Gap) (t : Cursor) → along m (prefix_len is_blank xs) ≡ t.mark
+lines_read : (xs : List ℕ) (m : Marker) (g : PlainGap) (t : Cursor) → along m (prefix_len is_blank xs) ≡ t.mark
     → drop (prefix_len is_blank xs) xs ≡ t.rest → is_break (slice_index t.rest 0) ≡ true
-    → LinesRun (pass_break t).rest (pass_break t).mark [] g → GapReads xs m (spec.folded g)
+    → LinesRun (pass_break t).rest (pass_break t).mark [] g → GapReads xs m (spec.folded_gap g)
 lines_read xs m g t mark rest breaks r =
     let behind = break_run t g.behind.rest g.behind.mark r.breaks breaks r.stop r.run in
     let moved : Run (drop (prefix_len is_blank xs) xs) g.behind.rest (along m (prefix_len is_blank xs)) g.behind.mark
@@ -264,7 +264,7 @@ lines_read xs m g t mark rest breaks r =
       reads = λ c cs ink. folded_breaks r.breaks all.white c cs all.are all.count ink;
     }
 
-next_lines_read : (i : ℕ) (a : Marker) (xs : List ℕ) (m : Marker) (g : Gap) (t : Cursor)
+next_lines_read : (i : ℕ) (a : Marker) (xs : List ℕ) (m : Marker) (g : PlainGap) (t : Cursor)
     → along m (prefix_len is_blank xs) ≡ t.mark → drop (prefix_len is_blank xs) xs ≡ t.rest
     → is_break (slice_index t.rest 0) ≡ true
     → next_lines i a (pass_break t) ≡ Ok g → GapReads xs m g
@@ -272,22 +272,23 @@ next_lines_read i a xs m g t mark rest breaks =
     by_result (lines i a false [] (pass_break t).mark (pass_break t).rest)
     (lines_run i a false [] (pass_break t).mark (pass_break t).rest)
   where
-    by_result : (r : Result Gap Refusal)
-        → ((h : Gap) → r ≡ Ok h → LinesRun (pass_break t).rest (pass_break t).mark [] h)
-        → (r >>= λ h. Ok (spec.folded h)) ≡ Ok g → GapReads xs m g
+    by_result : (r : Result PlainGap Refusal)
+        → ((h : PlainGap) → r ≡ Ok h → LinesRun (pass_break t).rest (pass_break t).mark [] h)
+        → (r >>= λ h. Ok (spec.folded_gap h)) ≡ Ok g → GapReads xs m g
     by_result (Ok h) runs e =
-        subst (λ (x : Gap). GapReads xs m x) (sym (same_gap (spec.folded h) g e))
+        subst (λ (x : PlainGap). GapReads xs m x) (sym (same_gap (spec.folded_gap h) g e))
         (lines_read xs m h t mark rest breaks (runs h refl))
     by_result (Err r) runs e = absurd (no_refusal r g e)
 
-pub gap_reads : (i : ℕ) (a : Marker) (xs : List ℕ) (m : Marker) (g : Gap) → gap i a (at m xs) ≡ Ok g → GapReads xs m g
+pub gap_reads : (i : ℕ) (a : Marker) (xs : List ℕ) (m : Marker) (g : PlainGap) → gap i a (at m xs) ≡ Ok g
+    → GapReads xs m g
 unfolding gap gap_from
 gap_reads i a xs m g =
     let n = prefix_len is_blank xs in
     let t = pass n (at m xs) in
-    by_test (is_break (slice_index t.rest 0)) _ _ (λ (r : Result Gap Refusal). r ≡ Ok g → GapReads xs m g)
+    by_test (is_break (slice_index t.rest 0)) _ _ (λ (r : Result PlainGap Refusal). r ≡ Ok g → GapReads xs m g)
     (λ breaks e. next_lines_read i a xs m g t refl refl breaks e)
-    (λ other e. subst (λ (x : Gap). GapReads xs m x) (sym (same_gap _ g e)) (blanks_read xs m other))
+    (λ other e. subst (λ (x : PlainGap). GapReads xs m x) (sym (same_gap _ g e)) (blanks_read xs m other))
 
 -- Words and gaps.
 
@@ -352,7 +353,7 @@ front_of f (c ∷ cs) h =
     }
 
 -- the last word
-last_word : (f : Bool) (m : Marker) (xs : List ℕ) (g : Gap) → in_word f xs ≡ true → Begins m xs → Front f xs
+last_word : (f : Bool) (m : Marker) (xs : List ℕ) (g : PlainGap) → in_word f xs ≡ true → Begins m xs → Front f xs
     → (let n = word_len f xs in GapReads (drop n xs) (along m n) g)
     → WordReads m xs (
       encode_utf8_all (take (word_len f xs) xs)
@@ -387,7 +388,8 @@ last_word f m xs g goes begins w r =
     }
 
 -- a word, a gap and what is read behind it
-word_more : (f : Bool) (m : Marker) (xs : List ℕ) (g : Gap) (x : Read) → in_word f xs ≡ true → Begins m xs → Front f xs
+word_more : (f : Bool) (m : Marker) (xs : List ℕ) (g : PlainGap) (x : Read) → in_word f xs ≡ true → Begins m xs
+    → Front f xs
     → (let n = word_len f xs in GapReads (drop n xs) (along m n) g) → WordReads g.behind.mark g.behind.rest x
     → WordReads m xs (encode_utf8_all (take (word_len f xs) xs) ++ (g.text ++ x.0), x.1, x.2, x.3)
 word_more f m xs g x goes begins w r b =
@@ -443,7 +445,7 @@ word_more f m xs g x goes begins w r b =
 no_reading : (r : Refusal) (x : Read) → Err r ≡ Ok x → ⊥
 no_reading r x e = absurd (cc)
 
-same_reading : (x y : Read) → (let r : Reading = Ok x in r ≡ Ok y) → x ≡ y
+same_reading : (x y : Read) → (let r : PlainScalarRead = Ok x in r ≡ Ok y) → x ≡ y
 same_reading x y e = cc
 
 abbrev Hypothesis : ℕ → Bool → ℕ → Marker → Type 0
@@ -471,8 +473,8 @@ word_turn n f i a m xs hyp short goes begins x is =
     Goal : Type 0
     Goal = WordReads m xs x
 
-    by_rest : (g : Gap) → GapReads left end g → length g.behind.rest ≤ n → in_word f g.behind.rest ≡ true
-        → Begins g.behind.mark g.behind.rest → (r : Reading) → word f i a g.behind.mark g.behind.rest ≡ r
+    by_rest : (g : PlainGap) → GapReads left end g → length g.behind.rest ≤ n → in_word f g.behind.rest ≡ true
+        → Begins g.behind.mark g.behind.rest → (r : PlainScalarRead) → word f i a g.behind.mark g.behind.rest ≡ r
         → with_text text (with_text g.text r) ≡ Ok x → Goal
     by_rest g reads less on starts (Ok y) eq e =
         subst (WordReads m xs) (same_reading _ x e)
@@ -480,8 +482,8 @@ word_turn n f i a m xs hyp short goes begins x is =
         (hyp g.behind.mark g.behind.rest less on starts y eq))
     by_rest g reads less on starts (Err r) eq e = absurd (no_reading r x e)
 
-    by_goes : (g : Gap) → gap i a (at end left) ≡ Ok g → (b : Bool) (u : Cursor) → goes_on f i g.behind ≡ Ok (b, u)
-        → with_text text (if b then with_text g.text (word f i a u.mark u.rest) else ended f end g) ≡ Ok x → Goal
+    by_goes : (g : PlainGap) → gap i a (at end left) ≡ Ok g → (b : Bool) (u : Cursor) → goes_on f i g.behind ≡ Ok (b, u)
+        → with_text text (if b then with_text g.text (word f i a u.mark u.rest) else scalar_ended f end g) ≡ Ok x → Goal
     by_goes g eq false u q e =
         subst (WordReads m xs) (same_reading _ x e)
         (last_word f m xs g goes begins (front_of f xs goes) (gap_reads i a left end g eq))
@@ -497,14 +499,16 @@ word_turn n f i a m xs hyp short goes begins x is =
         shorter : (d r t : ℕ) → d ≡ length xs - k → t + r ≡ d → r ≤ n
         shorter d r t cut count = let some = word_left f xs goes in omega (arith, word_len_more f xs goes, short)
 
-    by_answer : (g : Gap) → gap i a (at end left) ≡ Ok g → (r : Result (Bool × Cursor) Refusal)
+    by_answer : (g : PlainGap) → gap i a (at end left) ≡ Ok g → (r : Result (Bool × Cursor) Refusal)
         → goes_on f i g.behind ≡ r
-        → with_text text (r >>= λ b. if b.0 then with_text g.text (word f i a b.1.mark b.1.rest) else ended f end g)
+        → with_text text (r >>= λ b. if b.0 then with_text g.text (word f i a b.1.mark b.1.rest)
+        else scalar_ended f end g)
         ≡ Ok x → Goal
     by_answer g eq (Ok b) q e = by_goes g eq b.0 b.1 q e
     by_answer g eq (Err r) q e = absurd (no_reading r x e)
 
-    by_gap : (r : Result Gap Refusal) → gap i a (at end left) ≡ r → with_text text (r >>= behind_gap f i a end) ≡ Ok x
+    by_gap : (r : Result PlainGap Refusal) → gap i a (at end left) ≡ r → with_text text (r >>= behind_gap f i a end)
+        ≡ Ok x
         → Goal
     by_gap (Ok g) eq e = by_answer g eq (goes_on f i g.behind) refl e
     by_gap (Err r) eq e = absurd (no_reading r x e)

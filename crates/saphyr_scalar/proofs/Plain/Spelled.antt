@@ -7,9 +7,9 @@ use Rattle.saphyr_input.specs.Classes.{is_blank, is_break, is_z, is_bom, is_flow
 use Rattle.saphyr_input.specs.Places.{is_blank_or_break, is_document_indicator, can_be_plain}
 use Rattle.saphyr_scalar.specs.declared.scalar.position.Marker.{Marker}
 use Rattle.saphyr_scalar.specs.declared.scalar.fault.Refusal.{Refusal}
-use Rattle.saphyr_scalar.specs.Cursor.{Cursor, along, next_line}
-use Rattle.saphyr_scalar.specs.Plain.{in_word, word_len, word_starts, goes_on, ends_line}
-use Rattle.saphyr_scalar.specs.PlainReading.{AreWhite, passed, IsSpelledPlain, ends_piece}
+use Rattle.saphyr_scalar.specs.Views.Cursor.{Cursor, along, next_line}
+use Rattle.saphyr_scalar.specs.Steps.Plain.{in_word, word_len, word_starts, goes_on, ends_line}
+use Rattle.saphyr_scalar.specs.Reading.Plain.{AreWhite, passed, IsSpelledPlain, ends_piece}
 use Rattle.saphyr_scalar.proofs.Moving.{along_none, along_more}
 use Rattle.saphyr_scalar.proofs.Quoted.Inside.{break_cases}
 use Rattle.saphyr_scalar.proofs.Plain.Words.{word_left}

@@ -8,11 +8,11 @@ use Rattle.saphyr_input.specs.Breaks.{normalized}
 use Rattle.saphyr_input.specs.Classes.{is_blank, is_break, is_blank_or_breakz, is_flow, is_bom}
 use Rattle.saphyr_input.specs.Places.{is_blank_or_break, is_document_indicator}
 use Rattle.saphyr_scalar.specs.declared.scalar.position.Marker.{Marker}
-use Rattle.saphyr_scalar.specs.Cursor.{Cursor, ◌>>=◌, along, next_line}
-use Rattle.saphyr_scalar.specs.FlowReading.{plain_value}
-use Rattle.saphyr_scalar.specs.Plain.{in_word, word_starts, goes_on, comment_of, ends_line, with_text, Reading, ended, word, plain}
-use Rattle.saphyr_scalar.specs.PlainReading.{AreWhite, passed}
-use Rattle.saphyr_scalar.specs.PlainSpelling.{behind_blanks, past_white, reaches_tabbed, is_tabbed, EndsPlain, is_word_ink, AreInkBefore, IsWordBefore, has_line_end, IsPlainGap, words_text, IsNoMarker, AreFurtherWords, IsPlainText}
+use Rattle.saphyr_scalar.specs.Views.Cursor.{Cursor, ◌>>=◌, along, next_line}
+use Rattle.saphyr_scalar.specs.Reading.Flow.{plain_value}
+use Rattle.saphyr_scalar.specs.Steps.Plain.{in_word, word_starts, goes_on, comment_of, ends_line, with_text, PlainScalarRead, scalar_ended, word, plain}
+use Rattle.saphyr_scalar.specs.Reading.Plain.{AreWhite, passed}
+use Rattle.saphyr_scalar.specs.Spelling.Plain.{behind_blanks, past_white, reaches_tabbed, is_tabbed, EndsPlain, is_word_ink, AreInkBefore, IsWordBefore, has_line_end, IsPlainGap, words_text, IsNoMarker, AreFurtherWords, IsPlainText}
 use Rattle.saphyr_scalar.proofs.Moving.{along_none, along_more}
 use Rattle.saphyr_scalar.proofs.Plain.Runs.{AreInk, NoFeed, same_ends, passed_append, passed_word}
 use Rattle.saphyr_scalar.proofs.Plain.White.{flag_on, tabbed_on, tabbed_stop, past_on, past_stop, gap_past}
@@ -249,7 +249,7 @@ gap_passes f i a m v w z h hw marker =
             behind = past_white m false (v ++ y);
           })) clean
           ∙ ap (λ (s : Cursor). behind_gap f i a m (record { text = gap_is.text; tabbed = false; behind = s })) behind
-          ∙ ap (λ r. r >>= λ b. if b.0 then with_text gap_is.text (word f i a b.1.mark b.1.rest) else ended f m
+          ∙ ap (λ r. r >>= λ b. if b.0 then with_text gap_is.text (word f i a b.1.mark b.1.rest) else scalar_ended f m
           (record { text = gap_is.text; tabbed = false; behind = there })) goes;
     }
 
@@ -260,11 +260,12 @@ end_of m [] = m
 end_of m (p ∷ ps) = end_of (along (passed m p.0) (length p.1)) ps
 
 -- what is read ends there
-record EndsAt (f t : Bool) (r : Reading) (end : Marker) (behind : Cursor) : Type 0 where
+record EndsAt (f t : Bool) (r : PlainScalarRead) (end : Marker) (behind : Cursor) : Type 0 where
   text : List ℕ
   is : r ≡ Ok (text, end, comment_of f t behind, behind)
 
-more_text : (f t : Bool) (front : List ℕ) (q r : Reading) (end : Marker) (behind : Cursor) → q ≡ with_text front r
+more_text : (f t : Bool) (front : List ℕ) (q r : PlainScalarRead) (end : Marker) (behind : Cursor) → q
+    ≡ with_text front r
     → EndsAt f t r end behind → EndsAt f t q end behind
 more_text f t front q r end behind is e = record { text = front ++ e.text; is = is ∙ ap (with_text front) e.is }
 

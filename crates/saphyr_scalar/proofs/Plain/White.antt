@@ -7,10 +7,10 @@ use Rattle.saphyr_input.specs.Classes.{is_blank, is_break, is_bom, is_z, tab, li
 use Rattle.saphyr_input.specs.Places.{is_blank_or_break}
 use Rattle.saphyr_scalar.specs.declared.scalar.position.Marker.{Marker}
 use Rattle.saphyr_scalar.specs.declared.scalar.fault.Refusal.{Refusal}
-use Rattle.saphyr_scalar.specs.Cursor.{Cursor, ◌>>=◌, along, next_line, pass_break}
-use Rattle.saphyr_scalar.specs.Quoted.{at}
-use Rattle.saphyr_scalar.specs.Plain.{Gap, ends_line, may_stand, reached, at_line, lines, folded, gap_from, gap}
-use Rattle.saphyr_scalar.specs.PlainSpelling.{behind_blanks, past_white, reaches_tabbed, is_tabbed, stands_behind_tab}
+use Rattle.saphyr_scalar.specs.Views.Cursor.{Cursor, ◌>>=◌, along, next_line, pass_break}
+use Rattle.saphyr_scalar.specs.Steps.Quoted.{at}
+use Rattle.saphyr_scalar.specs.Steps.Plain.{PlainGap, ends_line, may_stand, reached, at_line, lines, folded_gap, gap_from, gap}
+use Rattle.saphyr_scalar.specs.Spelling.Plain.{behind_blanks, past_white, reaches_tabbed, is_tabbed, stands_behind_tab}
 use Rattle.saphyr_scalar.proofs.Moving.{along_none, along_more}
 use Rattle.saphyr_scalar.proofs.Quoted.Inside.{break_cases}
 use Rattle.std.proofs.Math.Bool.{or-true}
@@ -22,11 +22,11 @@ use Rattle.saphyr_input.proofs.Basics.Characters.{blank_no_break}
 use Rattle.saphyr_scalar.proofs.Given.{cursor_at}
 
 -- a gap that holds, and whether a tab stands in its indentation
-abbrev gap_with : Bool → List ℕ → Cursor → Gap
+abbrev gap_with : Bool → List ℕ → Cursor → PlainGap
 gap_with t text s = record { text = text; tabbed = t; behind = s }
 
 -- what a gap leaves
-pub record Leaves (r : Result Gap Refusal) (t : Bool) (s : Cursor) : Type 0 where
+pub record Leaves (r : Result PlainGap Refusal) (t : Bool) (s : Cursor) : Type 0 where
   pub text : List ℕ
   pub is : r ≡ Ok (gap_with t text s)
 
@@ -113,7 +113,8 @@ pub past_stop : (m : Marker) (b : Bool) (xs : List ℕ) → is_blank_or_break (s
 past_stop m b [] h = refl
 past_stop m b (c ∷ cs) h = rw h refl
 
-leaves_on : (r q : Result Gap Refusal) (p t : Bool) (s u : Cursor) → r ≡ q → p ≡ t → s ≡ u → Leaves q t u → Leaves r p s
+leaves_on : (r q : Result PlainGap Refusal) (p t : Bool) (s u : Cursor) → r ≡ q → p ≡ t → s ≡ u → Leaves q t u
+    → Leaves r p s
 leaves_on r q p t s u e same place l =
     record {
       text = l.text;
@@ -224,9 +225,10 @@ at_break [] m b h = absurd (cc)
 at_break (c ∷ cs) m b h = break_cases c h (λ x. AtBreak (x ∷ cs) m b) (feed_at cs m b) (return_or_two cs m b)
 
 -- what a gap leaves
-same_fold : (r : Result Gap Refusal) (t : Bool) (s : Cursor) → Leaves r t s → Leaves (r >>= λ g. Ok (folded g)) t s
+same_fold : (r : Result PlainGap Refusal) (t : Bool) (s : Cursor) → Leaves r t s
+    → Leaves (r >>= λ g. Ok (folded_gap g)) t s
 same_fold r t s l =
-    record { text = (folded (gap_with t l.text s)).text; is = ap (λ x. x >>= λ g. Ok (folded g)) l.is }
+    record { text = (folded_gap (gap_with t l.text s)).text; is = ap (λ x. x >>= λ g. Ok (folded_gap g)) l.is }
 
 from_past : (i : ℕ) (a : Marker) (blanks : List ℕ) (m : Marker) (xs : List ℕ) → is_blank (slice_index xs 0) ≡ false
     → MayStand (reaches_tabbed i 0 false xs) (past_white m false xs).rest
@@ -234,7 +236,7 @@ from_past : (i : ℕ) (a : Marker) (blanks : List ℕ) (m : Marker) (xs : List �
 unfolding gap_from
 from_past i a blanks m xs clean h =
     by_test (is_break (slice_index xs 0)) _ _
-    (λ (r : Result Gap Refusal). Leaves r (reaches_tabbed i 0 false xs) (past_white m false xs))
+    (λ (r : Result PlainGap Refusal). Leaves r (reaches_tabbed i 0 false xs) (past_white m false xs))
     (λ e.
     let t = pass_break (at m xs) in
     let here = at_break xs m false e in

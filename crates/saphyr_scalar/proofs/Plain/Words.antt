@@ -1,6 +1,6 @@
 -- The words of a plain scalar.
 use Rattle.std.proofs.Common.{◌≡◌, ℕ, ◌+◌, ◌<◌, Bool, true, false, List, [], ◌∷◌, length, drop, refl, arith}
-use Rattle.saphyr_scalar.specs.Plain.{in_word, word_len}
+use Rattle.saphyr_scalar.specs.Steps.Plain.{in_word, word_len}
 
 pub word_left : (f : Bool) (xs : List ℕ) → in_word f xs ≡ true → 0 < length xs
 unfolding in_word

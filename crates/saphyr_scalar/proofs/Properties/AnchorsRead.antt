@@ -8,10 +8,10 @@ use Rattle.saphyr_input.specs.Classes.{is_anchor_char}
 use Rattle.saphyr_scalar.specs.declared.scalar.position.Marker.{Marker}
 use Rattle.saphyr_scalar.specs.declared.scalar.fault.FaultText.TheVariants as fault
 use Rattle.saphyr_scalar.specs.declared.scalar.fault.Refusal.{Refusal}
-use Rattle.saphyr_scalar.specs.Cursor.{Cursor, along, pass}
-use Rattle.saphyr_scalar.specs.Quoted.{at}
-use Rattle.saphyr_scalar.specs.Anchor.{anchor, name_of}
-use Rattle.saphyr_scalar.specs.TagSpelling.{IsAnchorName}
+use Rattle.saphyr_scalar.specs.Views.Cursor.{Cursor, along, pass}
+use Rattle.saphyr_scalar.specs.Steps.Quoted.{at}
+use Rattle.saphyr_scalar.specs.Steps.Anchor.{anchor, anchor_name_of}
+use Rattle.saphyr_scalar.specs.Spelling.Tag.{IsAnchorName}
 use Rattle.saphyr_scalar.proofs.Moving.{along_more}
 use Rattle.saphyr_scalar.proofs.Runs.{run_read, run_is_in}
 use Rattle.saphyr_scalar.proofs.Properties.TagsRead.{some_bytes}
@@ -25,15 +25,15 @@ unfolding anchor
 anchor_same s = refl
 
 name_read : (start : Marker) (name : List ℕ) (s : Cursor) → name ≢ []
-    → name_of start (encode_utf8_all name, s) ≡ Ok (encode_utf8_all name, s)
-unfolding name_of
+    → anchor_name_of start (encode_utf8_all name, s) ≡ Ok (encode_utf8_all name, s)
+unfolding anchor_name_of
 name_read start name s some = rw (some_bytes name some) refl
 
 at_name : (m : Marker) (indicator : ℕ) (name x : List ℕ) → IsAnchorName name → is_anchor_char (slice_index x 0) ≡ false
     → anchor (at m (indicator ∷ (name ++ x))) ≡ Ok (encode_utf8_all name, at (along m (1 + length name)) x)
 unfolding anchor
 at_name m indicator name x (some, are) ends =
-    ap (name_of m) (run_read is_anchor_char (along m 1) name x are ends)
+    ap (anchor_name_of m) (run_read is_anchor_char (along m 1) name x are ends)
     ∙ name_read m name (at (along (along m 1) (length name)) x) some
     ∙ ap (λ k. text_given (encode_utf8_all name) (at k x)) (along_more m 1 (length name) (1 + length name) refl)
 
@@ -56,7 +56,7 @@ pub spells_anchor : (s t : Cursor) (text : List ℕ) → 0 < length s.rest → a
     → (indicator : ℕ) × (name : List ℕ) × (s.rest ≡ indicator ∷ (name ++ t.rest)) × IsAnchorName name
     × (is_anchor_char (slice_index t.rest 0) ≡ false) × (t ≡ at (along s.mark (1 + length name)) t.rest)
     × (encode_utf8_all name ≡ text)
-unfolding anchor name_of
+unfolding anchor anchor_name_of
 spells_anchor s t text some =
     let xs = drop 1 s.rest in
     let n = prefix_len is_anchor_char xs in

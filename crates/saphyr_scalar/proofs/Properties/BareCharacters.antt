@@ -8,10 +8,10 @@ use Rattle.saphyr_input.proofs.WordRuns.{run_ends}
 use Rattle.saphyr_scalar.specs.declared.scalar.position.Marker.{Marker}
 use Rattle.saphyr_scalar.specs.declared.scalar.tag.UriSet.{UriSet}
 use Rattle.saphyr_scalar.specs.declared.scalar.tag.UriSet.TheVariants.{Uri, Suffix}
-use Rattle.saphyr_scalar.specs.Cursor.{Cursor, along}
-use Rattle.saphyr_scalar.specs.Quoted.{with_front}
-use Rattle.saphyr_scalar.specs.Sets.{is_bare}
-use Rattle.saphyr_scalar.specs.Tag.{has, escape, uri_character, decoded, decoded_at}
+use Rattle.saphyr_scalar.specs.Views.Cursor.{Cursor, along}
+use Rattle.saphyr_scalar.specs.Steps.Quoted.{with_front}
+use Rattle.saphyr_scalar.specs.Steps.Sets.{is_bare}
+use Rattle.saphyr_scalar.specs.Steps.Tag.{has, percent_escape, uri_character, decoded, decoded_at}
 use Rattle.saphyr_scalar.proofs.Moving.{along_none, along_more}
 use Rattle.saphyr_scalar.proofs.Quoted.Inside.{front_twice, no_front}
 use Rattle.saphyr_scalar.proofs.Quoted.Words.{not_true, both_true}
@@ -84,6 +84,6 @@ escape_in_set Uri c e = rw e refl
 escape_in_set Suffix c e = rw e refl
 
 pub escape_is_character : (start : Marker) (s : Cursor) → slice_index s.rest 0 ≡ 37
-    → uri_character start s ≡ escape start s
+    → uri_character start s ≡ percent_escape start s
 unfolding uri_character
 escape_is_character start s h = rw h refl

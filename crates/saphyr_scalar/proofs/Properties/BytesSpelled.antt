@@ -6,10 +6,10 @@ use Rattle.std.proofs.lemmas.Bool.Decides.{nat_tests}
 use Rattle.saphyr_input.specs.Classes.{is_hex, IsHex, is_digit, is_from, hex_value}
 use Rattle.saphyr_scalar.specs.declared.scalar.position.Marker.{Marker}
 use Rattle.saphyr_scalar.specs.declared.scalar.fault.FaultText.TheVariants as fault
-use Rattle.saphyr_scalar.specs.Cursor.{Cursor, along}
-use Rattle.saphyr_scalar.specs.Quoted.{at}
-use Rattle.saphyr_scalar.specs.Tag.{byte_value, shows_byte, escaped_byte, is_trailing, trailing_byte, trailing_bytes}
-use Rattle.saphyr_scalar.specs.TagSpelling.{IsByteEscape, AreByteEscapes}
+use Rattle.saphyr_scalar.specs.Views.Cursor.{Cursor, along}
+use Rattle.saphyr_scalar.specs.Steps.Quoted.{at}
+use Rattle.saphyr_scalar.specs.Steps.Tag.{byte_value, shows_byte, escaped_byte, is_trailing, trailing_byte, trailing_bytes}
+use Rattle.saphyr_scalar.specs.Spelling.Tag.{IsByteEscape, AreByteEscapes}
 use Rattle.saphyr_scalar.proofs.Moving.{along_none, along_more}
 use Rattle.saphyr_scalar.proofs.Properties.EscapedBytes.{AreTrailing, joined}
 use Rattle.saphyr_scalar.proofs.Steps.{bind_ok, ok_same, cond_ok}

@@ -8,10 +8,10 @@ use Rattle.saphyr_scalar.specs.declared.scalar.position.Marker.{Marker}
 use Rattle.saphyr_scalar.specs.declared.scalar.fault.Refusal.{Refusal}
 use Rattle.saphyr_scalar.specs.declared.scalar.tag.UriSet.{UriSet}
 use Rattle.saphyr_scalar.specs.declared.scalar.tag.UriSet.TheVariants.{Uri, Suffix}
-use Rattle.saphyr_scalar.specs.Cursor.{Cursor, ◌>>=◌, along}
-use Rattle.saphyr_scalar.specs.Quoted.{with_front, at}
-use Rattle.saphyr_scalar.specs.Tag.{has, escaped_byte, utf8_width, leading_bits, is_trailing, is_encoded, trailing_byte, trailing_bytes, encoded, behind_leading, escape, uri_character, decoded}
-use Rattle.saphyr_scalar.specs.TagSpelling.{IsScalarValue, IsByteEscape, AreByteEscapes, IsCharacter, IsDecoded}
+use Rattle.saphyr_scalar.specs.Views.Cursor.{Cursor, ◌>>=◌, along}
+use Rattle.saphyr_scalar.specs.Steps.Quoted.{with_front, at}
+use Rattle.saphyr_scalar.specs.Steps.Tag.{has, escaped_byte, utf8_width, leading_bits, is_trailing, is_encoded, trailing_byte, trailing_bytes, encoded, behind_leading_byte, percent_escape, uri_character, decoded}
+use Rattle.saphyr_scalar.specs.Spelling.Tag.{IsScalarValue, IsByteEscape, AreByteEscapes, IsCharacter, IsDecoded}
 use Rattle.saphyr_scalar.proofs.Moving.{along_none, along_more}
 use Rattle.saphyr_scalar.proofs.Properties.PercentEscapes.{one_more, ends_at, reads_on}
 use Rattle.saphyr_scalar.proofs.Properties.EscapedBytes.{AreTrailing, joined, Bytes, bytes_of}
@@ -43,19 +43,19 @@ trailing_read : (start m : Marker) (bs : List ℕ) (v : ℕ) (t y : List ℕ) �
     → trailing_bytes start (length bs) v (at m (t ++ y)) ≡ Ok (joined v bs, at (along m (length t)) y)
 unfolding trailing_bytes
 trailing_read start m [] v t y tails e = rw (e, along_none m) refl
-trailing_read start m (b ∷ bs) v t y (tail, tails) (escape, more, is_byte, are_more, e) =
-    let whole : t ++ y ≡ escape ++ (more ++ y) = ap (λ u. u ++ y) e ∙ append_assoc escape more y in
-    let len : length t ≡ 3 + length more = rw (e, length-append) (omega (arith, byte_len b escape is_byte)) in
+trailing_read start m (b ∷ bs) v t y (tail, tails) (percent_escape, more, is_byte, are_more, e) =
+    let whole : t ++ y ≡ percent_escape ++ (more ++ y) = ap (λ u. u ++ y) e ∙ append_assoc percent_escape more y in
+    let len : length t ≡ 3 + length more = rw (e, length-append) (omega (arith, byte_len b percent_escape is_byte)) in
     ap (λ u. goes_on start (length bs) (trailing_byte start v (at m u))) whole
-    ∙ ap (goes_on start (length bs)) (trailing_byte_read start m b v escape (more ++ y) tail is_byte)
+    ∙ ap (goes_on start (length bs)) (trailing_byte_read start m b v percent_escape (more ++ y) tail is_byte)
     ∙ trailing_read start (along m 3) bs (v * 64 + (b - 0x80)) more y tails are_more
     ∙ ap (λ k. number_given (joined (v * 64 + (b - 0x80)) bs) (at k y)) (along_more m 3 (length more) (length t) len)
 
 -- the bytes behind the first one are read, and the character that they all stand for
 leading_read : (start : Marker) (b n c : ℕ) (s t : Cursor) → utf8_width b ≡ suc n
     → trailing_bytes start n (leading_bits b) s ≡ Ok (c, t) → is_encoded (suc n) c ≡ true
-    → behind_leading start b s ≡ Ok (c, t)
-unfolding behind_leading encoded
+    → behind_leading_byte start b s ≡ Ok (c, t)
+unfolding behind_leading_byte encoded
 leading_read start b n c s t width read shortest =
     let some : nat_eq (suc n) 0 ≡ false = grind (arith, nat_tests) in
     let less : suc n - 1 ≡ n = omega arith in
@@ -66,14 +66,15 @@ escape_parts : (c : ℕ) (b : Bytes c) (t : List ℕ) → AreByteEscapes (encode
 escape_parts c b t h = subst (λ bs. AreByteEscapes bs t) b.is h
 
 read_behind : Marker → Result (ℕ × Cursor) Refusal → Result (ℕ × Cursor) Refusal
-read_behind start r = r >>= λ b. behind_leading start b.0 b.1
+read_behind start r = r >>= λ b. behind_leading_byte start b.0 b.1
 
 escape_bytes_read : (start m : Marker) (c : ℕ) (b : Bytes c) (t y : List ℕ) → AreByteEscapes (b.first ∷ b.others) t
-    → escape start (at m (t ++ y)) ≡ Ok (c, at (along m (length t)) y)
-unfolding escape read_behind
-escape_bytes_read start m c b t y (escape, more, is_byte, are_more, e) =
-    let whole : t ++ y ≡ escape ++ (more ++ y) = ap (λ u. u ++ y) e ∙ append_assoc escape more y in
-    let len : length t ≡ 3 + length more = rw (e, length-append) (omega (arith, byte_len b.first escape is_byte)) in
+    → percent_escape start (at m (t ++ y)) ≡ Ok (c, at (along m (length t)) y)
+unfolding percent_escape read_behind
+escape_bytes_read start m c b t y (percent_escape, more, is_byte, are_more, e) =
+    let whole : t ++ y ≡ percent_escape ++ (more ++ y) = ap (λ u. u ++ y) e ∙ append_assoc percent_escape more y in
+    let len : length t ≡ 3 + length more = rw (e, length-append)
+        (omega (arith, byte_len b.first percent_escape is_byte)) in
     let others : trailing_bytes start (length b.others) (leading_bits b.first) (at (along m 3) (more ++ y))
     ≡ Ok (c, at (along m (length t)) y) =
     trailing_read start (along m 3) b.others (leading_bits b.first) more y b.trailing are_more
@@ -81,19 +82,19 @@ escape_bytes_read start m c b t y (escape, more, is_byte, are_more, e) =
     (along_more m 3 (length more) (length t) len)
     ∙ ap (λ v. number_given v (at (along m (length t)) y)) b.says in
     ap (λ u. read_behind start (escaped_byte start (at m u))) whole
-    ∙ ap (read_behind start) (byte_read start m b.first escape (more ++ y) is_byte)
+    ∙ ap (read_behind start) (byte_read start m b.first percent_escape (more ++ y) is_byte)
     ∙ leading_read start b.first (length b.others) c (at (along m 3) (more ++ y)) (at (along m (length t)) y) b.width
     others b.shortest
 
 -- a character that is escaped is read
 escape_read : (start m : Marker) (c : ℕ) (t y : List ℕ) → IsScalarValue c → AreByteEscapes (encode_utf8 c) t
-    → escape start (at m (t ++ y)) ≡ Ok (c, at (along m (length t)) y)
+    → percent_escape start (at m (t ++ y)) ≡ Ok (c, at (along m (length t)) y)
 escape_read start m c t y scalar h =
     escape_bytes_read start m c (bytes_of c scalar) t y (escape_parts c (bytes_of c scalar) t h)
 
 escape_begins : (c : ℕ) (b : Bytes c) (t y : List ℕ) → AreByteEscapes (b.first ∷ b.others) t
     → slice_index (t ++ y) 0 ≡ 37
-escape_begins c b t y (escape, more, (high, low, is_high, is_low, value, text), are_more, e) = rw (e, text) refl
+escape_begins c b t y (percent_escape, more, (high, low, is_high, is_low, value, text), are_more, e) = rw (e, text) refl
 
 pub escape_first : (c : ℕ) (t y : List ℕ) → IsScalarValue c → AreByteEscapes (encode_utf8 c) t
     → slice_index (t ++ y) 0 ≡ 37

@@ -9,10 +9,10 @@ use Rattle.saphyr_scalar.specs.declared.scalar.fault.FaultText.TheVariants as fa
 use Rattle.saphyr_scalar.specs.declared.scalar.fault.Refusal.{Refusal}
 use Rattle.saphyr_scalar.specs.declared.scalar.tag.UriSet.{UriSet}
 use Rattle.saphyr_scalar.specs.declared.scalar.tag.UriSet.TheVariants.{Uri, Suffix}
-use Rattle.saphyr_scalar.specs.Cursor.{Cursor, ◌>>=◌, along}
-use Rattle.saphyr_scalar.specs.Quoted.{is_scalar, with_front, at}
-use Rattle.saphyr_scalar.specs.Tag.{has, escaped_byte, utf8_width, leading_bits, is_encoded, trailing_bytes, encoded, behind_leading, escape, uri_character, decoded, decoded_at}
-use Rattle.saphyr_scalar.specs.TagSpelling.{IsScalarValue, AreByteEscapes, IsCharacter, IsDecoded}
+use Rattle.saphyr_scalar.specs.Views.Cursor.{Cursor, ◌>>=◌, along}
+use Rattle.saphyr_scalar.specs.Steps.Quoted.{is_scalar, with_front, at}
+use Rattle.saphyr_scalar.specs.Steps.Tag.{has, escaped_byte, utf8_width, leading_bits, is_encoded, trailing_bytes, encoded, behind_leading_byte, percent_escape, uri_character, decoded, decoded_at}
+use Rattle.saphyr_scalar.specs.Spelling.Tag.{IsScalarValue, AreByteEscapes, IsCharacter, IsDecoded}
 use Rattle.saphyr_scalar.proofs.Moving.{along_none, along_more}
 use Rattle.saphyr_scalar.proofs.Properties.PercentEscapes.{one_more, ends_at, has_left, character_shorter}
 use Rattle.saphyr_scalar.proofs.Steps.{bind_ok, Chosen, ok_same, cond_ok, cond_not}
@@ -31,9 +31,9 @@ unfolding encoded
 encoded_spelled start w v c s u h =
     cond_ok (is_encoded w v) (v, s) (c, u) (record { text = fault.TagEscapeCodePoint; mark = start }) h
 
-leading_spelled : (start : Marker) (b c : ℕ) (s u : Cursor) → behind_leading start b s ≡ Ok (c, u)
+leading_spelled : (start : Marker) (b c : ℕ) (s u : Cursor) → behind_leading_byte start b s ≡ Ok (c, u)
     → LeadingOf start b c s u
-unfolding behind_leading
+unfolding behind_leading_byte
 leading_spelled start b c s u h =
     let w = utf8_width b in
     let read : Result (ℕ × Cursor) Refusal = trailing_bytes start (w - 1) (leading_bits b) s in
@@ -54,11 +54,11 @@ pub record EscapeOf (c : ℕ) (m : Marker) (xs : List ℕ) (u : Cursor) : Type 0
   pub text : xs ≡ piece ++ u.rest
   pub place : u ≡ at (along m (length piece)) u.rest
 
-pub escape_spelled : (start m : Marker) (xs : List ℕ) (c : ℕ) (u : Cursor) → escape start (at m xs) ≡ Ok (c, u)
+pub escape_spelled : (start m : Marker) (xs : List ℕ) (c : ℕ) (u : Cursor) → percent_escape start (at m xs) ≡ Ok (c, u)
     → EscapeOf c m xs u
-unfolding escape
+unfolding percent_escape
 escape_spelled start m xs c u h =
-    let one = bind_ok (escaped_byte start (at m xs)) (λ (b : ℕ × Cursor). behind_leading start b.0 b.1) (c, u) h in
+    let one = bind_ok (escaped_byte start (at m xs)) (λ (b : ℕ × Cursor). behind_leading_byte start b.0 b.1) (c, u) h in
     let b = one.given.0 in
     let here = one.given.1 in
     let byte = byte_spelled start m xs b here one.first in
@@ -73,17 +73,17 @@ escape_spelled start m xs c u h =
     let shortest : is_encoded (suc (length others.bytes)) c ≡ true = rw (← width) behind.shortest in
     let utf8 : encode_utf8 c ≡ b ∷ others.bytes = bytes_unique b c others.bytes width others.trailing others.says
     shortest in
-    let escape = 37 ∷ byte.high ∷ byte.low ∷ [] in
-    let are : AreByteEscapes (b ∷ others.bytes) (escape ++ others.piece) =
-    (escape, others.piece, escape_of_byte b m xs here byte, others.escaped, refl) in
+    let percent_escape = 37 ∷ byte.high ∷ byte.low ∷ [] in
+    let are : AreByteEscapes (b ∷ others.bytes) (percent_escape ++ others.piece) =
+    (percent_escape, others.piece, escape_of_byte b m xs here byte, others.escaped, refl) in
     record {
-      piece = escape ++ others.piece;
+      piece = percent_escape ++ others.piece;
       scalar = scalar_is c (and_true_left (is_scalar c) (nat_eq (len_utf8 c) w) behind.shortest);
-      escaped = subst (λ (bs : List ℕ). AreByteEscapes bs (escape ++ others.piece)) (sym utf8) are;
+      escaped = subst (λ (bs : List ℕ). AreByteEscapes bs (percent_escape ++ others.piece)) (sym utf8) are;
       text = byte.text ∙ ap (λ r. 37 ∷ byte.high ∷ byte.low ∷ r) others.text;
       place = others.place ∙ ap (λ k. at k u.rest)
-          (along_more m 3 (length others.piece) (length (escape ++ others.piece))
-          (omega (arith, length-append escape others.piece)));
+          (along_more m 3 (length others.piece) (length (percent_escape ++ others.piece))
+          (omega (arith, length-append percent_escape others.piece)));
     }
 
 pub record CharacterOf (set : ℕ → Bool) (c : ℕ) (m : Marker) (xs : List ℕ) (u : Cursor) : Type 0 where

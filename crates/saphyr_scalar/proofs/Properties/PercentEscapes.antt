@@ -11,10 +11,10 @@ use Rattle.saphyr_scalar.specs.declared.scalar.fault.Refusal.{Refusal}
 use Rattle.saphyr_scalar.specs.declared.scalar.fault.FaultText.TheVariants as fault
 use Rattle.saphyr_scalar.specs.declared.scalar.tag.UriSet.{UriSet}
 use Rattle.saphyr_scalar.specs.declared.scalar.tag.UriSet.TheVariants.{Uri, Suffix}
-use Rattle.saphyr_scalar.specs.Cursor.{Cursor, ◌>>=◌, along, pass}
-use Rattle.saphyr_scalar.specs.Quoted.{with_front, at}
-use Rattle.saphyr_scalar.specs.Seen.{Gives}
-use Rattle.saphyr_scalar.specs.Tag.{has, byte_value, shows_byte, is_encoded, escaped_byte, utf8_width, leading_bits, is_trailing, trailing_byte, trailing_bytes, encoded, behind_leading, escape, uri_character, uri_tail, decoded, decoded_at}
+use Rattle.saphyr_scalar.specs.Views.Cursor.{Cursor, ◌>>=◌, along, pass}
+use Rattle.saphyr_scalar.specs.Steps.Quoted.{with_front, at}
+use Rattle.saphyr_scalar.specs.Views.Reader.{Gives}
+use Rattle.saphyr_scalar.specs.Steps.Tag.{has, byte_value, shows_byte, is_encoded, escaped_byte, utf8_width, leading_bits, is_trailing, trailing_byte, trailing_bytes, encoded, behind_leading_byte, percent_escape, uri_character, uri_tail, decoded, decoded_at}
 use Rattle.saphyr_scalar.proofs.Moving.{along_none, along_more, drop_more, bind_same}
 use Rattle.saphyr_scalar.proofs.Quoted.Inside.{front_twice}
 use Rattle.saphyr_scalar.proofs.Steps.{no_result}
@@ -97,8 +97,8 @@ encoded_place start m width v n xs =
     (λ _. refused m xs n (record { text = fault.TagEscapeCodePoint; mark = start }))
 
 leading_place : (start m : Marker) (b : ℕ) (xs : List ℕ)
-    → Ends m xs (3 * utf8_width b) (behind_leading start b (at (along m 3) (drop 3 xs)))
-unfolding behind_leading
+    → Ends m xs (3 * utf8_width b) (behind_leading_byte start b (at (along m 3) (drop 3 xs)))
+unfolding behind_leading_byte
 leading_place start m b xs =
     let w = utf8_width b in
     by_test (nat_eq w 0) _ _ (Ends m xs (3 * w))
@@ -110,36 +110,37 @@ leading_place start m b xs =
     (drop 3 xs) x is ∙ further m xs 3 (3 * (w - 1)) (3 * w) n in
     subst (λ y. Ends m xs (3 * w) (encoded start w x.0 y)) (sym place) (encoded_place start m w x.0 (3 * w) xs)))
 
-escape_place : (start m : Marker) (xs : List ℕ) → Ends m xs (3 * utf8_width (byte_value xs)) (escape start (at m xs))
-unfolding escape escaped_byte
+escape_place : (start m : Marker) (xs : List ℕ)
+    → Ends m xs (3 * utf8_width (byte_value xs)) (percent_escape start (at m xs))
+unfolding percent_escape escaped_byte
 escape_place start m xs =
     by_test (shows_byte xs) _ _
     (λ (r : Result (ℕ × Cursor) Refusal). Ends m xs (3 * utf8_width (byte_value xs))
-    (r >>= λ (b : ℕ × Cursor). behind_leading start b.0 b.1))
+    (r >>= λ (b : ℕ × Cursor). behind_leading_byte start b.0 b.1))
     (λ _. leading_place start m (byte_value xs) xs)
     (λ _. refused m xs (3 * utf8_width (byte_value xs)) (record { text = fault.TagEscape; mark = start }))
 
 -- Characters of a set, read one at a time.
 
 from_here : (start : Marker) (s : Cursor) → uri_character start s ≡ uri_character start (at s.mark s.rest)
-unfolding uri_character escape escaped_byte
+unfolding uri_character percent_escape escaped_byte
 from_here start s = refl
 
-leading_some : (start : Marker) (b : ℕ) (s : Cursor) (x : ℕ × Cursor) → behind_leading start b s ≡ Ok x
+leading_some : (start : Marker) (b : ℕ) (s : Cursor) (x : ℕ × Cursor) → behind_leading_byte start b s ≡ Ok x
     → 0 < utf8_width b
-unfolding behind_leading
+unfolding behind_leading_byte
 leading_some start b s x =
     by_test (nat_eq (utf8_width b) 0) _ _ (λ (r : Result (ℕ × Cursor) Refusal). r ≡ Ok x → 0 < utf8_width b)
     (λ _. no_result (record { text = fault.TagEscapeLeadingByte; mark = start }) x (0 < utf8_width b))
     (λ some e. grind (arith, nat_tests))
 
 -- an escape has a byte, where one is read
-escape_some : (start : Marker) (s : Cursor) (x : ℕ × Cursor) → escape start s ≡ Ok x
+escape_some : (start : Marker) (s : Cursor) (x : ℕ × Cursor) → percent_escape start s ≡ Ok x
     → 0 < utf8_width (byte_value s.rest)
-unfolding escape escaped_byte
+unfolding percent_escape escaped_byte
 escape_some start s x =
     by_test (shows_byte s.rest) _ _
-    (λ (r : Result (ℕ × Cursor) Refusal). (r >>= λ (b : ℕ × Cursor). behind_leading start b.0 b.1) ≡ Ok x
+    (λ (r : Result (ℕ × Cursor) Refusal). (r >>= λ (b : ℕ × Cursor). behind_leading_byte start b.0 b.1) ≡ Ok x
     → 0 < utf8_width (byte_value s.rest))
     (λ _. leading_some start (byte_value s.rest) (pass 3 s) x)
     (λ _. no_result (record { text = fault.TagEscape; mark = start }) x (0 < utf8_width (byte_value s.rest)))

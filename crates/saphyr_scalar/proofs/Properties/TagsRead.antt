@@ -11,10 +11,10 @@ use Rattle.saphyr_input.proofs.Runs.{run_stops}
 use Rattle.saphyr_scalar.specs.declared.scalar.position.Marker.{Marker}
 use Rattle.saphyr_scalar.specs.declared.scalar.fault.Refusal.{Refusal}
 use Rattle.saphyr_scalar.specs.declared.scalar.tag.UriSet.TheVariants.{Uri, Suffix}
-use Rattle.saphyr_scalar.specs.Cursor.{Cursor, ◌>>=◌, along}
-use Rattle.saphyr_scalar.specs.Quoted.{with_front, at}
-use Rattle.saphyr_scalar.specs.Tag.{uri_character, decoded, decoded_at, Parts, verbatim, verbatim_end, handle_of, named_tag, named_tail, primary_tag, behind_word, shorthand, tag, tag_end}
-use Rattle.saphyr_scalar.specs.TagSpelling.{AreIn, IsDecoded, IsTagText, EndsTag}
+use Rattle.saphyr_scalar.specs.Views.Cursor.{Cursor, ◌>>=◌, along}
+use Rattle.saphyr_scalar.specs.Steps.Quoted.{with_front, at}
+use Rattle.saphyr_scalar.specs.Steps.Tag.{uri_character, decoded, decoded_at, Parts, verbatim, verbatim_end, handle_of, named_tag, named_tail, primary_tag, behind_word, shorthand, tag, tag_end}
+use Rattle.saphyr_scalar.specs.Spelling.Tag.{AreIn, IsDecoded, IsTagText, EndsTag}
 use Rattle.saphyr_scalar.proofs.Moving.{along_none, along_more}
 use Rattle.saphyr_scalar.proofs.Quoted.Inside.{front_twice, no_front}
 use Rattle.saphyr_scalar.proofs.Properties.PercentEscapes.{one_more}

@@ -10,10 +10,10 @@ use Rattle.saphyr_scalar.specs.declared.scalar.position.Marker.{Marker}
 use Rattle.saphyr_scalar.specs.declared.scalar.fault.FaultText.TheVariants as fault
 use Rattle.saphyr_scalar.specs.declared.scalar.fault.Refusal.{Refusal}
 use Rattle.saphyr_scalar.specs.declared.scalar.tag.UriSet.TheVariants.{Uri, Suffix}
-use Rattle.saphyr_scalar.specs.Cursor.{Cursor, along, pass}
-use Rattle.saphyr_scalar.specs.Quoted.{at}
-use Rattle.saphyr_scalar.specs.Tag.{has, decoded, Parts, verbatim, verbatim_end, handle_of, named_tag, named_tail, primary_tag, behind_word, shorthand, tag, tag_end}
-use Rattle.saphyr_scalar.specs.TagSpelling.{AreIn, IsDecoded, IsTagText, EndsTag}
+use Rattle.saphyr_scalar.specs.Views.Cursor.{Cursor, along, pass}
+use Rattle.saphyr_scalar.specs.Steps.Quoted.{at}
+use Rattle.saphyr_scalar.specs.Steps.Tag.{has, decoded, Parts, verbatim, verbatim_end, handle_of, named_tag, named_tail, primary_tag, behind_word, shorthand, tag, tag_end}
+use Rattle.saphyr_scalar.specs.Spelling.Tag.{AreIn, IsDecoded, IsTagText, EndsTag}
 use Rattle.saphyr_scalar.proofs.Moving.{along_more}
 use Rattle.saphyr_scalar.proofs.Runs.{run_is_in}
 use Rattle.saphyr_scalar.proofs.Properties.TagsRead.{some_bytes, alpha_on, handle_bytes, mark_bytes, then_primary, tag_same}

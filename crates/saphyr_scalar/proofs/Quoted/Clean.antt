@@ -2,12 +2,12 @@
 use Rattle.std.proofs.Common.{◌≡◌, ℕ, List, [], ◌∷◌, ◌++◌, drop, slice_index, Some, IsTrue, IsFalse}
 use Rattle.saphyr_input.specs.Classes.{is_break}
 use Rattle.saphyr_input.specs.Places.{is_document_indicator}
-use Rattle.saphyr_scalar.specs.FlowReading.{mark, raw_item, apostrophe, backslash}
-use Rattle.saphyr_scalar.specs.LineSpelling.{IsNumber}
-use Rattle.saphyr_scalar.specs.Quoted.{simple_escape, break_len, is_closing}
-use Rattle.saphyr_scalar.specs.QuotedMarkers.{HasNoMarker}
-use Rattle.saphyr_scalar.specs.QuotedSpelling as quotes
-pub use Rattle.saphyr_scalar.specs.QuotedSpelling.{stands_for_itself, IsQuotedText}
+use Rattle.saphyr_scalar.specs.Reading.Flow.{mark, raw_item, apostrophe, backslash}
+use Rattle.saphyr_scalar.specs.Spelling.OneLine.{IsNumber}
+use Rattle.saphyr_scalar.specs.Steps.Quoted.{simple_escape, break_len, is_closing}
+use Rattle.saphyr_scalar.specs.Spelling.QuotedMarkers.{HasNoMarker}
+use Rattle.saphyr_scalar.specs.Spelling.Quoted as quotes
+pub use Rattle.saphyr_scalar.specs.Spelling.Quoted.{stands_for_itself, IsQuotedText}
 use Rattle.saphyr_scalar.specs.declared.reading.folding.Item.{Item}
 use Rattle.saphyr_scalar.specs.declared.reading.folding.Item.TheVariants.{Raw, Escaped, Break, EscapedBreak}
 use Rattle.saphyr_scalar.specs.declared.reading.flow.Quote.{Quote}

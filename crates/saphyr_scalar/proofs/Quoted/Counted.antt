@@ -7,9 +7,9 @@ use Rattle.saphyr_scalar.specs.declared.scalar.position.Marker.{Marker}
 use Rattle.saphyr_scalar.specs.declared.scalar.fault.Refusal.{Refusal}
 use Rattle.saphyr_scalar.specs.declared.reading.flow.Quote.{Quote}
 use Rattle.saphyr_scalar.specs.declared.reading.flow.Quote.TheVariants.{Single, Double}
-use Rattle.saphyr_scalar.specs.FlowReading as flow
-use Rattle.saphyr_scalar.specs.Cursor.{Cursor, ◌>>=◌, along, next_line, pass}
-use Rattle.saphyr_scalar.specs.Quoted.{TextRead, Gap, no_gap, is_literal, digit_count, escape, special, special_len, blank_in, break_in, end_gap, break_len, if_some, with_front, at, inside, quoted}
+use Rattle.saphyr_scalar.specs.Reading.Flow as flow
+use Rattle.saphyr_scalar.specs.Views.Cursor.{Cursor, ◌>>=◌, along, next_line, pass}
+use Rattle.saphyr_scalar.specs.Steps.Quoted.{TextRead, QuotedGap, no_gap, is_literal, hex_digit_count, escaped_character, special, special_len, blank_in, break_in, end_gap, break_len, if_some, with_front, at, inside, quoted}
 use Rattle.saphyr_scalar.proofs.Quoted.Escapes.{escape_place}
 use Rattle.saphyr_input.proofs.Basics.Booleans.{by_test}
 
@@ -47,8 +47,8 @@ some_behind n d s e x d2 read some = subst (λ (r : Result (Option ℕ × Cursor
     Place (Err y) = ⊥
 
 escape_behind : (start m : Marker) (c : ℕ) (cs : List ℕ) (r : Result (ℕ × Cursor) Refusal)
-    → escape start (at m (c ∷ cs)) ≡ r
-    → IsBehind (m.index + (2 + digit_count (slice_index cs 0))) (r >>= λ e. Ok (Some e.0, e.1))
+    → escaped_character start (at m (c ∷ cs)) ≡ r
+    → IsBehind (m.index + (2 + hex_digit_count (slice_index cs 0))) (r >>= λ e. Ok (Some e.0, e.1))
 escape_behind start m c cs (Ok e) is =
     some_behind _ e.0 e.1 (ap (λ (t : Cursor). t.mark.index) (escape_place start m (c ∷ cs) e is))
 escape_behind start m c cs (Err e) is = λ x d read some. absurd (cc)
@@ -61,9 +61,10 @@ special_behind Single start m c cs =
     (λ _. some_behind _ 39 (pass 2 (at m (c ∷ cs))) refl) (λ _. none_behind _ _)
 special_behind Double start m c cs =
     by_test ((c == 92) && not (is_break (slice_index cs 0))) _ _
-    (IsBehind (m.index + suc (suc (digit_count (slice_index cs 0)))))
-    (λ _. subst (λ n. IsBehind (m.index + n) (escape start (at m (c ∷ cs)) >>= λ e. Ok (Some e.0, e.1)))
-    (two_more (digit_count (slice_index cs 0))) (escape_behind start m c cs (escape start (at m (c ∷ cs))) refl))
+    (IsBehind (m.index + suc (suc (hex_digit_count (slice_index cs 0)))))
+    (λ _. subst (λ n. IsBehind (m.index + n) (escaped_character start (at m (c ∷ cs)) >>= λ e. Ok (Some e.0, e.1)))
+    (two_more (hex_digit_count (slice_index cs 0)))
+    (escape_behind start m c cs (escaped_character start (at m (c ∷ cs))) refl))
     (λ _. none_behind _ _)
   where
     two_more : (n : ℕ) → 2 + n ≡ suc (suc n)
@@ -72,7 +73,8 @@ special_behind Double start m c cs =
 some_break : (xs : List ℕ) → pred (break_len xs) + 1 ≡ break_len xs
 some_break xs = by_test (next_2_are xs 13 10) 2 1 (λ n. pred n + 1 ≡ n) (λ _. refl) (λ _. refl)
 
-inside_counts : (quote : Quote) (indent : ℕ) (start : Marker) (gap : Gap) (k : ℕ) (m : Marker) (cs : List ℕ) (n : ℕ)
+inside_counts : (quote : Quote) (indent : ℕ) (start : Marker) (gap : QuotedGap) (k : ℕ) (m : Marker) (cs : List ℕ)
+    (n : ℕ)
     → n + k ≡ m.index + length cs → Counts n (inside quote indent start gap k m cs)
 unfolding inside
 inside_counts quote indent start gap k m [] n e = by_count k

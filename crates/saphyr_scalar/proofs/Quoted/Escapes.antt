@@ -7,9 +7,9 @@ use Rattle.std.proofs.lemmas.Grind.{pow_more}
 use Rattle.saphyr_input.specs.Classes.{is_hex, hex_value}
 use Rattle.saphyr_scalar.specs.declared.scalar.position.Marker.{Marker}
 use Rattle.saphyr_scalar.specs.declared.scalar.fault.FaultText.TheVariants as fault
-use Rattle.saphyr_scalar.specs.Cursor.{Cursor, refuse, along, pass}
+use Rattle.saphyr_scalar.specs.Views.Cursor.{Cursor, refuse, along, pass}
 use Rattle.saphyr_scalar.proofs.Moving.{along_none, along_more, drop_more}
-use Rattle.saphyr_scalar.specs.Quoted.{at, digits, simple_escape, digit_count, is_scalar, character, numbered, escape_of, escape}
+use Rattle.saphyr_scalar.specs.Steps.Quoted.{at, digits, simple_escape, hex_digit_count, is_scalar, character, numbered, escape_of, escaped_character}
 use Rattle.saphyr_input.proofs.Basics.Booleans.{by_test}
 use Rattle.saphyr_scalar.proofs.EscapeEnds.{Ends, refused, read, then_ends}
 
@@ -65,10 +65,10 @@ pub letter_left : (xs : List ℕ) (c : ℕ) → slice_index xs 0 ≡ 92 → simp
 letter_left xs c slash e = two_left xs (λ z. absurd (omega arith)) (λ z. no_nul_escape c (rw z at e))
 
 -- an escape of digits has its letter
-pub digits_left : (xs : List ℕ) → slice_index xs 0 ≡ 92 → (digit_count (slice_index xs 1) ≡ 0 → ⊥) → 2 ≤ length xs
+pub digits_left : (xs : List ℕ) → slice_index xs 0 ≡ 92 → (hex_digit_count (slice_index xs 1) ≡ 0 → ⊥) → 2 ≤ length xs
 digits_left xs slash e = two_left xs (λ z. absurd (omega arith)) (λ z. e (rw z refl))
 
-pub count_small : (c : ℕ) → digit_count c ≤ 8
+pub count_small : (c : ℕ) → hex_digit_count c ≤ 8
 count_small c = grind arith
 
 -- Where an escape ends.
@@ -112,7 +112,7 @@ unfolding simple_escape
 no_U v e = absurd (cc)
 
 -- an escape of one letter has no digits
-pub simple_no_digits : (c v : ℕ) → simple_escape c ≡ Some v → 0 ≡ digit_count c
+pub simple_no_digits : (c v : ℕ) → simple_escape c ≡ Some v → 0 ≡ hex_digit_count c
 simple_no_digits c v h =
     by_test (nat_eq c 120) _ _ (λ n. 0 ≡ n)
     (λ is. let e : c ≡ 120 =
@@ -125,13 +125,13 @@ simple_no_digits c v h =
     (λ _. refl)))
 
 of_place : (start m : Marker) (xs : List ℕ) (letter : ℕ) (o : Option ℕ) → simple_escape letter ≡ o
-    → Ends m xs (2 + digit_count letter) (escape_of start o letter (at m xs))
+    → Ends m xs (2 + hex_digit_count letter) (escape_of start o letter (at m xs))
 unfolding escape_of
 of_place start m xs letter (Some c) h =
     subst (λ n. Ends m xs (2 + n) (Ok (c, at (along m 2) (drop 2 xs)))) (simple_no_digits letter c h) (read m xs 2 c)
-of_place start m xs letter None h = numbered_place start m xs (digit_count letter)
+of_place start m xs letter None h = numbered_place start m xs (hex_digit_count letter)
 
 pub escape_place : (start m : Marker) (xs : List ℕ)
-    → Ends m xs (2 + digit_count (slice_index xs 1)) (escape start (at m xs))
-unfolding escape
+    → Ends m xs (2 + hex_digit_count (slice_index xs 1)) (escaped_character start (at m xs))
+unfolding escaped_character
 escape_place start m xs = of_place start m xs (slice_index xs 1) (simple_escape (slice_index xs 1)) refl

@@ -2,10 +2,10 @@
 use Rattle.std.proofs.Common.{◌≡◌, ℕ, zero, suc, Bool, true, false, List, [], ◌∷◌, ◌++◌, refl, ◌∙◌, ap, cond, append_assoc}
 use Rattle.saphyr_scalar.specs.declared.reading.folding.Item.{Item}
 use Rattle.saphyr_scalar.specs.declared.reading.folding.Item.TheVariants.{Blank, Raw, Escaped, Break, EscapedBreak}
-use Rattle.saphyr_scalar.specs.Folding.{is_before_break, empty_lines, line_feeds, raw_break, folded_from, folded, AreBlanks, AreBreaks, FoldsBreaks}
+use Rattle.saphyr_scalar.specs.Reading.Folding.{is_before_break, empty_lines, line_feeds, raw_break, folded_from, folded, AreBlankItems, AreBreaks, FoldsBreaks}
 
 -- blanks at a line's start
-blanks_at_start : (blanks items : List Item) → AreBlanks blanks
+blanks_at_start : (blanks items : List Item) → AreBlankItems blanks
     → (folded_from true (blanks ++ items) ≡ folded_from true items)
     × (empty_lines (blanks ++ items) ≡ empty_lines items)
 blanks_at_start [] items h = (refl, refl)
@@ -15,7 +15,7 @@ blanks_at_start (Escaped c ∷ blanks) items h = absurd h
 blanks_at_start (Break ∷ blanks) items h = absurd h
 blanks_at_start (EscapedBreak ∷ blanks) items h = absurd h
 
-before_break : (blanks items : List Item) → AreBlanks blanks → is_before_break (blanks ++ (Break ∷ items)) ≡ true
+before_break : (blanks items : List Item) → AreBlankItems blanks → is_before_break (blanks ++ (Break ∷ items)) ≡ true
 before_break [] items h = refl
 before_break (Blank c ∷ blanks) items h = before_break blanks items h
 before_break (Raw c ∷ blanks) items h = absurd h
@@ -24,7 +24,7 @@ before_break (Break ∷ blanks) items h = absurd h
 before_break (EscapedBreak ∷ blanks) items h = absurd h
 
 -- blanks before a break
-blanks_before_break : (blanks items : List Item) → AreBlanks blanks
+blanks_before_break : (blanks items : List Item) → AreBlankItems blanks
     → folded_from false (blanks ++ (Break ∷ items)) ≡ folded_from false (Break ∷ items)
 blanks_before_break [] items h = refl
 blanks_before_break (Blank c ∷ blanks) items h =

@@ -4,17 +4,17 @@ use Rattle.std.specs.Prelude.{encode_utf8}
 use Rattle.std.proofs.lemmas.Str.{encodes-append}
 use Rattle.saphyr_scalar.specs.declared.reading.folding.Item.{Item}
 use Rattle.saphyr_scalar.specs.declared.reading.folding.Item.TheVariants.{Blank, Raw, Escaped, Break, EscapedBreak}
-use Rattle.saphyr_scalar.specs.Folding.{is_before_break, empty_lines, line_feeds, raw_break, folded_from}
-use Rattle.saphyr_scalar.specs.Quoted.{Gap, on_line, over_lines, no_gap, break_in, folded_break}
+use Rattle.saphyr_scalar.specs.Reading.Folding.{is_before_break, empty_lines, line_feeds, raw_break, folded_from}
+use Rattle.saphyr_scalar.specs.Steps.Quoted.{QuotedGap, on_line, over_lines, no_gap, break_in, folded_break}
 
 -- the bytes of items behind a gap
-abbrev pub gap_bytes : Gap → List Item → List ℕ
+abbrev pub gap_bytes : QuotedGap → List Item → List ℕ
 gap_bytes (on_line bytes) items = cond (is_before_break items) [] bytes ++ encode_utf8_all (folded_from false items)
 gap_bytes (over_lines escaped n) items =
     encode_utf8_all (folded_break escaped (n + empty_lines items)) ++ encode_utf8_all (folded_from true items)
 
 -- the bytes of a gap before a word
-abbrev pub gap_front : Gap → List ℕ
+abbrev pub gap_front : QuotedGap → List ℕ
 gap_front (on_line bytes) = bytes
 gap_front (over_lines escaped n) = encode_utf8_all (folded_break escaped n)
 
@@ -27,7 +27,7 @@ blank_bytes bytes c items = by_break (is_before_break items)
     by_break true = refl
     by_break false = append_assoc bytes (encode_utf8 c) (encode_utf8_all (folded_from false items))
 
-pub break_bytes : (gap : Gap) (items : List Item) → gap_bytes (break_in gap) items ≡ gap_bytes gap (Break ∷ items)
+pub break_bytes : (gap : QuotedGap) (items : List Item) → gap_bytes (break_in gap) items ≡ gap_bytes gap (Break ∷ items)
 break_bytes (on_line bytes) items =
     ap (λ n. encode_utf8_all (raw_break n) ++ encode_utf8_all (folded_from true items)) (zero-add (empty_lines items))
     ∙ sym (encodes-append (raw_break (empty_lines items)) (folded_from true items))
@@ -48,18 +48,18 @@ none_left : (escaped : Bool) (n : ℕ) (b : List ℕ)
     → encode_utf8_all (folded_break escaped n) ++ b ≡ encode_utf8_all (folded_break escaped (n + 0)) ++ b
 none_left escaped n b = ap (λ k. encode_utf8_all (folded_break escaped k) ++ b) (sym (add-zero n))
 
-pub closed_bytes : (gap : Gap) → gap_front gap ++ [] ≡ gap_bytes gap []
+pub closed_bytes : (gap : QuotedGap) → gap_front gap ++ [] ≡ gap_bytes gap []
 closed_bytes (on_line bytes) = refl
 closed_bytes (over_lines escaped n) = none_left escaped n []
 
-pub raw_bytes : (gap : Gap) (c : ℕ) (items : List Item)
+pub raw_bytes : (gap : QuotedGap) (c : ℕ) (items : List Item)
     → gap_front gap ++ (encode_utf8 c ++ gap_bytes no_gap items) ≡ gap_bytes gap (Raw c ∷ items)
 raw_bytes (on_line bytes) c items = ap (λ b. bytes ++ (encode_utf8 c ++ b)) (no_gap_bytes items)
 raw_bytes (over_lines escaped n) c items =
     ap (λ b. encode_utf8_all (folded_break escaped n) ++ (encode_utf8 c ++ b)) (no_gap_bytes items)
     ∙ none_left escaped n _
 
-pub escaped_bytes : (gap : Gap) (c : ℕ) (items : List Item)
+pub escaped_bytes : (gap : QuotedGap) (c : ℕ) (items : List Item)
     → gap_front gap ++ (encode_utf8 c ++ gap_bytes no_gap items) ≡ gap_bytes gap (Escaped c ∷ items)
 escaped_bytes (on_line bytes) c items = ap (λ b. bytes ++ (encode_utf8 c ++ b)) (no_gap_bytes items)
 escaped_bytes (over_lines escaped n) c items =
@@ -73,7 +73,7 @@ escaped_break_line items =
     ap (λ n. encode_utf8_all (line_feeds n) ++ encode_utf8_all (folded_from true items)) (zero-add (empty_lines items))
     ∙ sym (encodes-append (line_feeds (empty_lines items)) (folded_from true items))
 
-pub escaped_break_bytes : (gap : Gap) (items : List Item)
+pub escaped_break_bytes : (gap : QuotedGap) (items : List Item)
     → gap_front gap ++ gap_bytes (over_lines true 0) items ≡ gap_bytes gap (EscapedBreak ∷ items)
 escaped_break_bytes (on_line bytes) items = ap (λ b. bytes ++ b) (escaped_break_line items)
 escaped_break_bytes (over_lines escaped n) items =

@@ -11,13 +11,13 @@ use Rattle.saphyr_scalar.specs.declared.scalar.fault.FaultText.TheVariants as fa
 use Rattle.saphyr_scalar.specs.declared.scalar.fault.Stop.{Stop}
 use Rattle.saphyr_scalar.specs.declared.reading.flow.Quote.{Quote}
 use Rattle.saphyr_scalar.specs.declared.reading.flow.Quote.TheVariants.{Single, Double}
-use Rattle.saphyr_scalar.specs.Seen.{ReadsOn}
-use Rattle.saphyr_scalar.specs.Cursor.{Cursor, refuse, along, pass, pass_break, pass_line, next_line}
-use Rattle.saphyr_scalar.specs.FlowReading as flow
+use Rattle.saphyr_scalar.specs.Views.Reader.{ReadsOn}
+use Rattle.saphyr_scalar.specs.Views.Cursor.{Cursor, refuse, along, pass, pass_break, pass_line, next_line}
+use Rattle.saphyr_scalar.specs.Reading.Flow as flow
 use Rattle.saphyr_scalar.proofs.NoBreaks.{mark_no_nul}
 use Rattle.saphyr_scalar.proofs.Quoted.Inside.{front_twice, passed_over, behind_no_gap, IsContent, at_break, at_end, flushed, Moved, moved_stops, SameRun, moved_of}
 use Rattle.saphyr_scalar.proofs.Quoted.Parts.{blanks_moved}
-use Rattle.saphyr_scalar.specs.Quoted.{is_literal, is_escaped_break, is_closing, ends_word, with_front, at, special, on_line, over_lines, no_gap, escaped_gap, break_len, inside, inside_at}
+use Rattle.saphyr_scalar.specs.Steps.Quoted.{is_literal, is_escaped_break, is_closing, ends_word, with_front, at, special, on_line, over_lines, no_gap, escaped_gap, break_len, inside, inside_at}
 
 pub by_break_len : (s : Cursor) → is_break (slice_index s.rest 0) ≡ true → pass_break s ≡ pass_line (break_len s.rest) s
 by_break_len s h = by_tests (next_2_are s.rest 13 10) (is_break (slice_index s.rest 0)) h

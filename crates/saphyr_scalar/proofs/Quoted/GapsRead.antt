@@ -6,12 +6,12 @@ use Rattle.saphyr_scalar.specs.declared.scalar.position.Marker.{Marker}
 use Rattle.saphyr_scalar.specs.declared.reading.folding.Item.{Item}
 use Rattle.saphyr_scalar.specs.declared.reading.folding.Item.TheVariants.{Blank, Raw, Break}
 use Rattle.saphyr_scalar.specs.declared.reading.flow.Quote.{Quote}
-use Rattle.saphyr_scalar.specs.Cursor.{along, next_line}
-use Rattle.saphyr_scalar.specs.FlowReading as flow
+use Rattle.saphyr_scalar.specs.Views.Cursor.{along, next_line}
+use Rattle.saphyr_scalar.specs.Reading.Flow as flow
 use Rattle.saphyr_scalar.specs.Passing.{character, line_break}
-use Rattle.saphyr_scalar.specs.Quoted.{at, Gap, on_line, over_lines, no_gap, is_left, blank_in, break_in, break_len, inside, inside_at}
-use Rattle.saphyr_scalar.specs.QuotedLines.{IsLine}
-use Rattle.saphyr_scalar.specs.QuotedSpelling as quotes
+use Rattle.saphyr_scalar.specs.Steps.Quoted.{at, QuotedGap, on_line, over_lines, no_gap, is_left, blank_in, break_in, break_len, inside, inside_at}
+use Rattle.saphyr_scalar.specs.Spelling.QuotedLines.{IsLine}
+use Rattle.saphyr_scalar.specs.Spelling.Quoted as quotes
 use Rattle.saphyr_scalar.proofs.Quoted.Inside.{one_blank, at_break}
 use Rattle.saphyr_scalar.proofs.Quoted.Gaps.{by_break_len}
 use Rattle.saphyr_scalar.proofs.Quoted.Lines.{fits_right}
@@ -43,9 +43,10 @@ blank_fits indent m c t h = blank_cases c h (λ x. Indented indent m (x ∷ t) �
 
 -- what is read behind a blank, whatever the gap
 abbrev pub ReadsOn : Quote → ℕ → Marker → Marker → List ℕ → List Item → List ℕ → Type 0
-ReadsOn q indent start m t items x = (gap : Gap) → GapFits indent gap m t → Read q indent start gap m t items x
+ReadsOn q indent start m t items x = (gap : QuotedGap) → GapFits indent gap m t → Read q indent start gap m t items x
 
-blank_read : (q : Quote) (indent : ℕ) (start : Marker) (gap : Gap) (m : Marker) (c : ℕ) (t : List ℕ) (items : List Item)
+blank_read : (q : Quote) (indent : ℕ) (start : Marker) (gap : QuotedGap) (m : Marker) (c : ℕ) (t : List ℕ)
+    (items : List Item)
     (x : List ℕ) → is_blank c ≡ true → GapFits indent gap m (c ∷ t) → ReadsOn q indent start (along m 1) t items x
     → Read q indent start gap m (c ∷ t) (Blank c ∷ items) x
 blank_read q indent start (on_line bytes) m c t items x h fits r =
@@ -64,7 +65,7 @@ blank_read q indent start (over_lines escaped n) m c t items x h fits r =
       is = line_blank q indent start escaped n m c t h f.test ∙ b.is;
     }
 
-pub itself_read : (q : Quote) (indent : ℕ) (start : Marker) (gap : Gap) (m : Marker) (c : ℕ) (t : List ℕ)
+pub itself_read : (q : Quote) (indent : ℕ) (start : Marker) (gap : QuotedGap) (m : Marker) (c : ℕ) (t : List ℕ)
     (items : List Item) (x : List ℕ) → IsTrue (quotes.stands_for_itself q c) → GapFits indent gap m (c ∷ t)
     → ReadsOn q indent start (along m 1) t items x → Read q indent start gap m (c ∷ t) (flow.raw_item c ∷ items) x
 itself_read q indent start gap m c t items x h fits r = by_blank (is_blank c) refl
@@ -81,7 +82,8 @@ itself_read q indent start gap m c t items x h fits r = by_blank (is_blank c) re
         (with_gap q indent start gap m (c ∷ t) (Raw c ∷ items) x fits
         (literal_read q indent start m c t items x (is.content b) (is.literal b) (r no_gap tt)))
 
-pub broken_read : (q : Quote) (indent : ℕ) (start : Marker) (gap : Gap) (m : Marker) (t : List ℕ) (items : List Item)
+pub broken_read : (q : Quote) (indent : ℕ) (start : Marker) (gap : QuotedGap) (m : Marker) (t : List ℕ)
+    (items : List Item)
     (x : List ℕ) → is_break (slice_index t 0) ≡ true
     → IsLine indent (drop (break_len t) t)
     → ReadsOn q indent start (next_line m (break_len t)) (drop (break_len t) t) items x
@@ -98,6 +100,6 @@ broken_read q indent start gap m t items x h line r =
       is = on ∙ b.is ∙ ap (λ y. text_at y b.mark x) (break_bytes gap items);
     }
   where
-    fits_line : (gap : Gap) → GapFits indent (break_in gap) (next_line m (break_len t)) (drop (break_len t) t)
+    fits_line : (gap : QuotedGap) → GapFits indent (break_in gap) (next_line m (break_len t)) (drop (break_len t) t)
     fits_line (on_line bytes) = at_line indent (next_line m (break_len t)) (drop (break_len t) t) refl line
     fits_line (over_lines escaped n) = at_line indent (next_line m (break_len t)) (drop (break_len t) t) refl line

@@ -4,16 +4,16 @@ use Rattle.std.specs.Prelude.{◌==◌}
 use Rattle.saphyr_input.specs.Classes.{is_break}
 use Rattle.saphyr_input.specs.Places.{is_document_indicator}
 use Rattle.saphyr_scalar.specs.declared.scalar.position.Marker.{Marker}
-use Rattle.saphyr_scalar.specs.Cursor.{along}
-use Rattle.saphyr_scalar.specs.Quoted.{Gap, on_line, over_lines}
-use Rattle.saphyr_scalar.specs.QuotedLines.{space_count, IsLine}
+use Rattle.saphyr_scalar.specs.Views.Cursor.{along}
+use Rattle.saphyr_scalar.specs.Steps.Quoted.{QuotedGap, on_line, over_lines}
+use Rattle.saphyr_scalar.specs.Spelling.QuotedLines.{space_count, IsLine}
 use Rattle.saphyr_input.proofs.Basics.Numbers.{one_and}
 
 pub record Indented (indent : ℕ) (m : Marker) (t : List ℕ) : Type 0 where
   pub marker : m.col ≡ 0 → is_document_indicator t ≡ false
   pub far : (indent ≤ m.col + space_count t) ⊎ (is_break (slice_index (drop (space_count t) t) 0) ≡ true)
 
-abbrev pub GapFits : ℕ → Gap → Marker → List ℕ → Type 0
+abbrev pub GapFits : ℕ → QuotedGap → Marker → List ℕ → Type 0
 GapFits indent (on_line bytes) m t = Unit {0}
 GapFits indent (over_lines escaped n) m t = Indented indent m t
 

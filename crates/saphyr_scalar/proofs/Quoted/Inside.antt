@@ -12,11 +12,11 @@ use Rattle.std.specs.Result.{IsErrAnd}
 use Rattle.saphyr_scalar.specs.declared.scalar.fault.Stop.{Stop}
 use Rattle.saphyr_scalar.specs.declared.scalar.fault.Stop.TheVariants as stop
 use Rattle.saphyr_scalar.specs.declared.reading.flow.Quote.{Quote}
-use Rattle.saphyr_scalar.specs.Seen.{ReadsOn, Fails}
-use Rattle.saphyr_scalar.specs.Cursor.{Cursor, ◌>>=◌, refuse, along, pass_break, next_line}
-use Rattle.saphyr_scalar.specs.FlowReading as flow
+use Rattle.saphyr_scalar.specs.Views.Reader.{ReadsOn, Fails}
+use Rattle.saphyr_scalar.specs.Views.Cursor.{Cursor, ◌>>=◌, refuse, along, pass_break, next_line}
+use Rattle.saphyr_scalar.specs.Reading.Flow as flow
 use Rattle.saphyr_scalar.proofs.Moving.{along_none, along_more}
-use Rattle.saphyr_scalar.specs.Quoted.{TextRead, is_literal, with_front, at, special, special_len, Gap, on_line, no_gap, blank_in, break_in, end_gap, escaped_gap, break_len, if_some, inside, inside_at, with_run}
+use Rattle.saphyr_scalar.specs.Steps.Quoted.{TextRead, is_literal, with_front, at, special, special_len, QuotedGap, on_line, no_gap, blank_in, break_in, end_gap, escaped_gap, break_len, if_some, inside, inside_at, with_run}
 use Rattle.saphyr_input.proofs.Basics.Lists.{run_ends}
 use Rattle.saphyr_input.proofs.Basics.Booleans.{neither_parts, by_test, either}
 use Rattle.std.proofs.lemmas.Bool.{or_parts}
@@ -36,7 +36,7 @@ no_front (Ok x) = refl
 no_front (Err e) = refl
 
 -- what is taken off already is passed over
-pub passed_over : (q : Quote) (indent : ℕ) (start : Marker) (gap : Gap) (k : ℕ) (m : Marker) (xs : List ℕ)
+pub passed_over : (q : Quote) (indent : ℕ) (start : Marker) (gap : QuotedGap) (k : ℕ) (m : Marker) (xs : List ℕ)
     → inside q indent start gap k m xs ≡ inside q indent start gap 0 m (drop k xs)
 unfolding inside
 passed_over q indent start gap zero m xs = refl
@@ -53,7 +53,7 @@ word_from q indent start m c cs =
     (inside q indent start (escaped_gap q (slice_index (drop (break_len cs) cs) 0)) (break_len cs)
     (next_line (along m 1) (break_len cs)) cs)))
 
-pub behind_gap : (q : Quote) (indent : ℕ) (start : Marker) (gap : Gap) (m : Marker) (c : ℕ) (cs : List ℕ)
+pub behind_gap : (q : Quote) (indent : ℕ) (start : Marker) (gap : QuotedGap) (m : Marker) (c : ℕ) (cs : List ℕ)
     → is_blank c ≡ false → is_break c ≡ false
     → inside q indent start gap 0 m (c ∷ cs)
     ≡ (end_gap indent start gap (at m (c ∷ cs)) >>= λ text. with_front text (word_from q indent start m c cs))
@@ -175,7 +175,7 @@ break_cases c h P lf cr = either (nat_eq c 10) (nat_eq c 13) (P c) h
     (λ is. let e : 13 ≡ c = grind (arith, nat_tests) in subst P e cr)
 
 -- a line break
-pub at_break : (q : Quote) (indent : ℕ) (start : Marker) (gap : Gap) (s : Cursor)
+pub at_break : (q : Quote) (indent : ℕ) (start : Marker) (gap : QuotedGap) (s : Cursor)
     → is_break (slice_index s.rest 0) ≡ true
     → inside_at q indent start gap s ≡ inside_at q indent start (break_in gap) (pass_break s)
 unfolding inside

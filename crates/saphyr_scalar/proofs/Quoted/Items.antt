@@ -3,7 +3,7 @@ use Rattle.std.proofs.Common.{◌≡◌, ℕ, zero, suc, ◌<◌, false, List, [
 use Rattle.std.specs.Prelude.{option_map, option_and_then}
 use Rattle.saphyr_scalar.specs.declared.reading.folding.Item.{Item}
 use Rattle.saphyr_scalar.specs.declared.reading.flow.Quote.{Quote}
-use Rattle.saphyr_scalar.specs.FlowReading.{is_closing, first_item, items_to_quote}
+use Rattle.saphyr_scalar.specs.Reading.Flow.{is_closing_at_end, first_item, items_to_quote}
 use Rattle.std.proofs.lemmas.Bool.{cond-false}
 
 -- what belongs to an item that was read is passed over
@@ -27,18 +27,19 @@ items_from quote others first =
 
 -- an item that stands first, before the closing quote
 pub one_item : (quote : Quote) (c : ℕ) (others : List ℕ) (item : Item) (len : ℕ)
-    → is_closing quote c others ≡ false → first_item quote (c ∷ others) ≡ Some (item, len) → 0 < len
+    → is_closing_at_end quote c others ≡ false → first_item quote (c ∷ others) ≡ Some (item, len) → 0 < len
     → items_to_quote quote zero (c ∷ others)
     ≡ option_map (λ items. item ∷ items) (items_to_quote quote zero (drop len (c ∷ others)))
 one_item quote c others item zero unclosed first some = absurd (omega arith)
 one_item quote c others item (suc n) unclosed first some =
-    cond-false (is_closing quote c others) (Some []) (items_from quote others (first_item quote (c ∷ others))) unclosed
+    cond-false (is_closing_at_end quote c others) (Some [])
+        (items_from quote others (first_item quote (c ∷ others))) unclosed
     ∙ ap (items_from quote others) first ∙ ap (option_map (λ items. item ∷ items)) (passed_over quote n others)
 
 -- the same behind the items before it
 pub next_item : (quote : Quote) (text : List ℕ) (c : ℕ) (others behind : List ℕ) (front : List Item) (item : Item)
     (len : ℕ)
-    → text ≡ c ∷ others → is_closing quote c others ≡ false → first_item quote text ≡ Some (item, len) → 0 < len
+    → text ≡ c ∷ others → is_closing_at_end quote c others ≡ false → first_item quote text ≡ Some (item, len) → 0 < len
     → behind ≡ drop len text
     → option_map (λ more. (front ++ item ∷ []) ++ more) (items_to_quote quote zero behind)
     ≡ option_map (λ more. front ++ more) (items_to_quote quote zero text)

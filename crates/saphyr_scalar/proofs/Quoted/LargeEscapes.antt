@@ -2,7 +2,7 @@
 use Rattle.std.proofs.Common.{◌≡◌, ℕ, ◌+◌, ◌*◌, ◌<◌, Bool, true, false, List, [], ◌∷◌, Option, None, refl, arith, cond}
 use Rattle.std.proofs.lemmas.Bool.Decides.{nat_tests}
 use Rattle.saphyr_input.specs.Classes.{is_hex, hex_value}
-use Rattle.saphyr_scalar.specs.Escapes.{is_scalar_value, hex_character}
+use Rattle.saphyr_scalar.specs.Reading.Escapes.{is_scalar_value, hex_character}
 
 none_else_none : (b : Bool) (x : Option ℕ) → x ≡ None → cond b x None ≡ None
 none_else_none true x e = e

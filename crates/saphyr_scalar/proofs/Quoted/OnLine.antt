@@ -6,13 +6,13 @@ use Rattle.saphyr_scalar.specs.declared.scalar.position.Marker.{Marker}
 use Rattle.saphyr_scalar.specs.declared.reading.folding.Item.{Item}
 use Rattle.saphyr_scalar.specs.declared.reading.flow.Quote.{Quote}
 use Rattle.saphyr_scalar.specs.declared.reading.flow.Quote.TheVariants.{Single, Double}
-use Rattle.saphyr_scalar.specs.Cursor.{Cursor, along}
-use Rattle.saphyr_scalar.specs.FlowReading as flow
-use Rattle.saphyr_scalar.specs.Folding.{folded}
+use Rattle.saphyr_scalar.specs.Views.Cursor.{Cursor, along}
+use Rattle.saphyr_scalar.specs.Reading.Flow as flow
+use Rattle.saphyr_scalar.specs.Reading.Folding.{folded}
 use Rattle.saphyr_scalar.specs.Passing.{IsPassed, nothing, character}
-use Rattle.saphyr_scalar.specs.Quoted.{digit_count, at, quoted}
-use Rattle.saphyr_scalar.specs.QuotedLines.{AreOnLine}
-use Rattle.saphyr_scalar.specs.QuotedSpelling as quotes
+use Rattle.saphyr_scalar.specs.Steps.Quoted.{hex_digit_count, at, quoted}
+use Rattle.saphyr_scalar.specs.Spelling.QuotedLines.{AreOnLine}
+use Rattle.saphyr_scalar.specs.Spelling.Quoted as quotes
 use Rattle.saphyr_scalar.proofs.Moving.{along_more}
 use Rattle.saphyr_scalar.proofs.Passings.{digits_passed, one_place}
 use Rattle.saphyr_scalar.proofs.Quoted.Reads.{quoted_read, line_fits, on_line_behind}
@@ -58,7 +58,7 @@ on_line _ _ _ _ (quotes.escaped e c t items x h r) on =
     one_more 92 (e ∷ t) x refl (one_more e t x (no_break_simple e c h) (on_line Double t items x r on))
 on_line _ _ _ _ (quotes.numbered e c ds t items x h r) on =
     let b = on_line Double t items x r on in
-    let some : digit_count e ≡ 0 → ⊥ = λ z. absurd (omega (arith, h.count, h.some)) in
+    let some : hex_digit_count e ≡ 0 → ⊥ = λ z. absurd (omega (arith, h.count, h.some)) in
     one_more 92 (e ∷ (ds ++ t)) x refl (one_more e (ds ++ t) x (no_break_digits e some)
     (record {
       count = length ds + b.count;

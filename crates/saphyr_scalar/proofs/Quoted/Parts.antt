@@ -7,11 +7,11 @@ use Rattle.saphyr_scalar.specs.declared.scalar.position.Marker.{Marker}
 use Rattle.saphyr_scalar.specs.declared.scalar.fault.Refusal.{Refusal}
 use Rattle.saphyr_scalar.specs.declared.reading.flow.Quote.{Quote}
 use Rattle.saphyr_scalar.specs.declared.reading.flow.Quote.TheVariants.{Single, Double}
-use Rattle.saphyr_scalar.specs.Cursor.{Cursor, ◌>>=◌, along, pass}
+use Rattle.saphyr_scalar.specs.Views.Cursor.{Cursor, ◌>>=◌, along, pass}
 use Rattle.saphyr_scalar.proofs.Moving.{bind_same}
 use Rattle.saphyr_scalar.proofs.Quoted.Escapes.{escape_place}
 use Rattle.saphyr_scalar.proofs.Quoted.Inside.{front_twice, passed_over, behind_no_gap, run_blanks, Moved, slash_left}
-use Rattle.saphyr_scalar.specs.Quoted.{is_literal, ends_word, simple_escape, digit_count, numbered, escape_of, escape, with_front, at, special, on_line, no_gap, inside, inside_at}
+use Rattle.saphyr_scalar.specs.Steps.Quoted.{is_literal, ends_word, simple_escape, hex_digit_count, numbered, escape_of, escaped_character, with_front, at, special, on_line, no_gap, inside, inside_at}
 use Rattle.std.proofs.lemmas.Bool.{eqb-true}
 use Rattle.saphyr_input.proofs.Basics.Booleans.{clash, and_true_left, and_true_right, and_false, by_test}
 
@@ -35,14 +35,14 @@ bind_twice (Err e) f g = refl
 -- an escape and what is read behind it
 pub at_escape : (indent : ℕ) (start m : Marker) (cs : List ℕ) → is_break (slice_index cs 0) ≡ false
     → inside Double indent start no_gap 0 m (92 ∷ cs)
-    ≡ (escape start (at m (92 ∷ cs)) >>= λ e. with_front (encode_utf8 e.0)
+    ≡ (escaped_character start (at m (92 ∷ cs)) >>= λ e. with_front (encode_utf8 e.0)
     (inside_at Double indent start no_gap e.1))
 unfolding is_literal special
 at_escape indent start m cs h =
-    let k = digit_count (slice_index cs 0) in
+    let k = hex_digit_count (slice_index cs 0) in
     behind_no_gap Double indent start m 92 cs refl refl refl
-    ∙ rw h (bind_twice (escape start (at m (92 ∷ cs))) (λ e. (Some e.0, e.1)) _)
-    ∙ bind_same (escape start (at m (92 ∷ cs))) _ _ (λ e is.
+    ∙ rw h (bind_twice (escaped_character start (at m (92 ∷ cs))) (λ e. (Some e.0, e.1)) _)
+    ∙ bind_same (escaped_character start (at m (92 ∷ cs))) _ _ (λ e is.
     let place : e.1 ≡ at (along m (2 + k)) (drop (2 + k) (92 ∷ cs)) = escape_place start m (92 ∷ cs) e is in
     ap (with_front (encode_utf8 e.0))
     (passed_over Double indent start no_gap (suc k) e.1.mark cs
@@ -95,8 +95,8 @@ unfolding escape_of numbered
 of_same start letter (Some c) s = refl
 of_same start letter None s = refl
 
-escape_same : (start : Marker) (s : Cursor) → escape start (at s.mark s.rest) ≡ escape start s
-unfolding escape
+escape_same : (start : Marker) (s : Cursor) → escaped_character start (at s.mark s.rest) ≡ escaped_character start s
+unfolding escaped_character
 escape_same start s = of_same start (slice_index s.rest 1) (simple_escape (slice_index s.rest 1)) s
 
 -- what is read where `special` gives this
@@ -109,22 +109,22 @@ Reads q indent start s (Err r) = inside_at q indent start no_gap s ≡ Err r
 
 escape_on : (indent : ℕ) (start : Marker) (s : Cursor) → IsEscape s.rest
     → inside_at Double indent start no_gap s
-    ≡ (escape start s >>= λ e. with_front (encode_utf8 e.0) (inside_at Double indent start no_gap e.1))
+    ≡ (escaped_character start s >>= λ e. with_front (encode_utf8 e.0) (inside_at Double indent start no_gap e.1))
 escape_on indent start s is =
     ap (inside Double indent start no_gap 0 s.mark) is.cut ∙ at_escape indent start s.mark is.cs is.goes
     ∙ ap (λ r. r >>= λ e. with_front (encode_utf8 e.0) (inside_at Double indent start no_gap e.1))
-    (ap (λ xs. escape start (at s.mark xs)) (sym is.cut) ∙ escape_same start s)
+    (ap (λ xs. escaped_character start (at s.mark xs)) (sym is.cut) ∙ escape_same start s)
 
-escape_shorter : (start : Marker) (s t : Cursor) (c : ℕ) → IsEscape s.rest → escape start s ≡ Ok (c, t)
+escape_shorter : (start : Marker) (s t : Cursor) (c : ℕ) → IsEscape s.rest → escaped_character start s ≡ Ok (c, t)
     → length t.rest < length s.rest
 escape_shorter start s t c is e =
-    let place : t ≡ at (along s.mark (2 + digit_count (slice_index s.rest 1)))
-    (drop (2 + digit_count (slice_index s.rest 1)) s.rest) =
+    let place : t ≡ at (along s.mark (2 + hex_digit_count (slice_index s.rest 1)))
+    (drop (2 + hex_digit_count (slice_index s.rest 1)) s.rest) =
     escape_place start s.mark s.rest (c, t) (escape_same start s ∙ e) in
     rw (place, length-drop) (omega (arith, slash_left s.rest (ap (λ xs. slice_index xs 0) is.cut)))
 
 escape_reads : (indent : ℕ) (start : Marker) (s : Cursor) (r : Result (ℕ × Cursor) Refusal) → IsEscape s.rest
-    → escape start s ≡ r → Reads Double indent start s (r >>= λ e. Ok (Some e.0, e.1))
+    → escaped_character start s ≡ r → Reads Double indent start s (r >>= λ e. Ok (Some e.0, e.1))
 escape_reads indent start s (Ok e) is h = (
   escape_on indent start s is
       ∙ ap (λ r. r >>= λ e. with_front (encode_utf8 e.0) (inside_at Double indent start no_gap e.1)) h,
@@ -152,7 +152,7 @@ special_reads Single indent start s =
     (λ h. two_quotes_read indent start s (two_of_test s.rest h)) (λ h. refl)
 special_reads Double indent start s =
     by_test ((slice_index s.rest 0 == 92) && not (is_break (slice_index s.rest 1))) _ _ (Reads Double indent start s)
-    (λ h. escape_reads indent start s (escape start s) (escape_of_test s.rest h) refl) (λ h. refl)
+    (λ h. escape_reads indent start s (escaped_character start s) (escape_of_test s.rest h) refl) (λ h. refl)
 
 pub special_moved : (q : Quote) (indent : ℕ) (start : Marker) (text : List ℕ) (s t : Cursor) (d : ℕ)
     → special q start s ≡ Ok (Some d, t)
@@ -210,7 +210,7 @@ word_ends Double start s t =
     by_test ((slice_index s.rest 0 == 92) && not (is_break (slice_index s.rest 1))) _ _
     (λ (r : Result (Option ℕ × Cursor) Refusal). r ≡ Ok (None, t) → is_literal Double (slice_index s.rest 0) ≡ false
     → IsTrue (ends_word Double s.rest))
-    (λ h e l. absurd (never (escape start s) e))
+    (λ h e l. absurd (never (escaped_character start s) e))
     (λ h e l. word_ends_double (is_blank_or_breakz (slice_index s.rest 0)) (slice_index s.rest 0 == 34)
     (slice_index s.rest 0 == 92) (is_break (slice_index s.rest 1)) l h)
   where

@@ -8,14 +8,14 @@ use Rattle.saphyr_scalar.specs.declared.reading.folding.Item.{Item}
 use Rattle.saphyr_scalar.specs.declared.reading.folding.Item.TheVariants.{Raw, Escaped, Break, EscapedBreak}
 use Rattle.saphyr_scalar.specs.declared.reading.flow.Quote.{Quote}
 use Rattle.saphyr_scalar.specs.declared.reading.flow.Quote.TheVariants.{Single, Double}
-use Rattle.saphyr_scalar.specs.Cursor.{Cursor}
-use Rattle.saphyr_scalar.specs.Escapes as escapes
-use Rattle.saphyr_scalar.specs.FlowReading as flow
-use Rattle.saphyr_scalar.specs.Folding.{folded}
-use Rattle.saphyr_scalar.specs.LineSpelling as line
-use Rattle.saphyr_scalar.specs.Quoted.{simple_escape, digit_count, is_scalar, break_len, quoted}
-use Rattle.saphyr_scalar.specs.QuotedSpelling as quotes
-use Rattle.saphyr_scalar.specs.Spelling.{IsSpelling, Spells, IsSpelledQuote}
+use Rattle.saphyr_scalar.specs.Views.Cursor.{Cursor}
+use Rattle.saphyr_scalar.specs.Reading.Escapes as escapes
+use Rattle.saphyr_scalar.specs.Reading.Flow as flow
+use Rattle.saphyr_scalar.specs.Reading.Folding.{folded}
+use Rattle.saphyr_scalar.specs.Spelling.OneLine as line
+use Rattle.saphyr_scalar.specs.Steps.Quoted.{simple_escape, hex_digit_count, is_scalar, break_len, quoted}
+use Rattle.saphyr_scalar.specs.Spelling.Quoted as quotes
+use Rattle.saphyr_scalar.specs.Spelling.Items.{IsSpelling, Spells, IsSpelledQuote}
 use Rattle.saphyr_scalar.proofs.Quoted.Inside.{break_cases}
 use Rattle.saphyr_scalar.proofs.Quoted.SpelledLines.{quoted_spelled}
 use Rattle.saphyr_scalar.proofs.Quoted.SpelledEscapes.{GaveText}
@@ -33,7 +33,7 @@ unfolding simple_escape
 same_escape e = ap (λ r. cond (e == 48) (Some 0x00) (cond (e == 97) (Some 0x07) (cond (e == 98) (Some 0x08) r)))
     (or_cond (e == 116) (e == 9) (Some 0x09) _)
 
-pub same_count : (e n : ℕ) → n ≡ digit_count e → 0 < n → escapes.digit_count e ≡ Some n
+pub same_count : (e n : ℕ) → n ≡ hex_digit_count e → 0 < n → escapes.digit_count e ≡ Some n
 same_count e n is some = by_tests (e == 120) (e == 117) (e == 85) is
   where
     by_tests : (a b c : Bool) → n ≡ cond a 2 (cond b 4 (cond c 8 0))
@@ -55,8 +55,8 @@ same_scalar n h = ap (λ b. nat_lt n 0xD800 || (nat_le 0xE000 n && b)) (at_most 
         by_bool true false h k = absurd (grind (arith, nat_tests))
         by_bool false true h k = absurd (grind (arith, nat_tests))
 
-digits_number : (v : ℕ) (ds : List ℕ) → line.AreHex ds → IsTrue (is_scalar (line.number_from v ds))
-    → escapes.hex_character v ds ≡ Some (line.number_from v ds)
+digits_number : (v : ℕ) (ds : List ℕ) → line.AreHex ds → IsTrue (is_scalar (line.hexadecimal_from v ds))
+    → escapes.hex_character v ds ≡ Some (line.hexadecimal_from v ds)
 digits_number v [] hex h = rw (same_scalar v h) refl
 digits_number v (d ∷ ds) hex h = rw hex.0 (digits_number (v * 16 + hex_value d) ds hex.1 h)
 
@@ -206,14 +206,14 @@ no_return_simple e c h = by_test (e == 13) refl
     by_test true is = let n = none e (number e is) in absurd (cc)
     by_test false is = refl
 
-no_return_count : (e n : ℕ) → n ≡ digit_count e → 0 < n → (e == 13) ≡ false
+no_return_count : (e n : ℕ) → n ≡ hex_digit_count e → 0 < n → (e == 13) ≡ false
 no_return_count e n is some = by_test (e == 13) refl
   where
     number : (e : ℕ) → nat_eq e 13 ≡ true → e ≡ 13
     number e h = grind (arith, nat_tests)
 
     by_test : (b : Bool) → (e == 13) ≡ b → b ≡ false
-    by_test true h = let none : digit_count e ≡ 0 = ap digit_count (number e h) in absurd (omega arith)
+    by_test true h = let none : hex_digit_count e ≡ 0 = ap hex_digit_count (number e h) in absurd (omega arith)
     by_test false h = refl
 
 no_return_hex : (d : ℕ) → IsTrue (is_hex d) → (d == 13) ≡ false

@@ -4,9 +4,9 @@ use Rattle.std.specs.Prelude.{option_map, option_and_then, ◌==◌}
 use Rattle.std.proofs.lemmas.List.{take-append-drop, length-take}
 use Rattle.std.proofs.lemmas.Bool.Decides.{nat_tests}
 use Rattle.saphyr_input.specs.Classes.{line_feed}
-use Rattle.saphyr_scalar.specs.Escapes.{short_escape, digit_count, hex_character, long_escape, escape_named, escape}
-use Rattle.saphyr_scalar.specs.FlowReading.{raw_item, apostrophe, backslash, mark, is_special, special_item, first_item, is_closing, items_to_quote, quoted_items}
-use Rattle.saphyr_scalar.specs.Spelling.{IsItself, IsEscape, IsSpelling, Spells, IsSpelledQuote}
+use Rattle.saphyr_scalar.specs.Reading.Escapes.{short_escape, digit_count, hex_character, long_escape, escape_named, escape}
+use Rattle.saphyr_scalar.specs.Reading.Flow.{raw_item, apostrophe, backslash, mark, is_special, special_item, first_item, is_closing_at_end, items_to_quote, quoted_items}
+use Rattle.saphyr_scalar.specs.Spelling.Items.{IsItself, IsEscape, IsSpelling, Spells, IsSpelledQuote}
 use Rattle.saphyr_scalar.specs.declared.reading.folding.Item.{Item}
 use Rattle.saphyr_scalar.specs.declared.reading.folding.Item.TheVariants.{Raw, Escaped, EscapedBreak}
 use Rattle.saphyr_scalar.specs.declared.reading.flow.Quote.{Quote}
@@ -152,7 +152,8 @@ spelling_taken quote (c ∷ text) item n e = special_or_itself quote c text item
 abbrev pub IsTakenToQuote : Quote → List Item → List ℕ → Type 0
 IsTakenToQuote quote items text = (inside : List ℕ) × Spells quote items inside × (text ≡ inside ++ mark quote ∷ [])
 
-closed : (quote : Quote) (c : ℕ) (text : List ℕ) (items : List Item) → is_closing quote c text ≡ true → [] ≡ items
+closed : (quote : Quote) (c : ℕ) (text : List ℕ) (items : List Item) → is_closing_at_end quote c text ≡ true → []
+    ≡ items
     → IsTakenToQuote quote items (c ∷ text)
 closed quote c [] items closing e =
     subst (λ (is : List Item). IsTakenToQuote quote is (c ∷ [])) e
@@ -171,7 +172,8 @@ one_taken quote c text item (suc n) items first (inside, spelled, e) =
           ∙ sym (append_assoc front inside (mark quote ∷ [])),
     )
 
-closed_or_one : (quote : Quote) (c : ℕ) (text : List ℕ) (items : List Item) (b : Bool) → is_closing quote c text ≡ b
+closed_or_one : (quote : Quote) (c : ℕ) (text : List ℕ) (items : List Item) (b : Bool) → is_closing_at_end quote c text
+    ≡ b
     → ((n : ℕ) (more : List Item) → items_to_quote quote n text ≡ Some more → IsTakenToQuote quote more (drop n text))
     → cond b (Some []) (option_and_then
     (λ first. option_map (λ items. first.0 ∷ items) (items_to_quote quote (pred first.1) text))
@@ -192,7 +194,8 @@ items_taken : (quote : Quote) (text : List ℕ) (taken : ℕ) (items : List Item
     → items_to_quote quote taken text ≡ Some items → IsTakenToQuote quote items (drop taken text)
 items_taken quote [] taken items e = absurd (cc)
 items_taken quote (c ∷ text) zero items e =
-    closed_or_one quote c text items (is_closing quote c text) refl (λ n more h. items_taken quote text n more h) e
+    closed_or_one quote c text items (is_closing_at_end quote c text) refl
+        (λ n more h. items_taken quote text n more h) e
 items_taken quote (c ∷ text) (suc taken) items e = items_taken quote text taken items e
 
 pub quoted_taken : (quote : Quote) (items : List Item) (text : List ℕ) → quoted_items quote text ≡ Some items

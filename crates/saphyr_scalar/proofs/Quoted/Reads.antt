@@ -6,13 +6,13 @@ use Rattle.saphyr_scalar.specs.declared.reading.folding.Item.{Item}
 use Rattle.saphyr_scalar.specs.declared.reading.folding.Item.TheVariants.{Blank, Raw, Escaped, Break, EscapedBreak}
 use Rattle.saphyr_scalar.specs.declared.reading.flow.Quote.{Quote}
 use Rattle.saphyr_scalar.specs.declared.reading.flow.Quote.TheVariants.{Single, Double}
-use Rattle.saphyr_scalar.specs.Cursor.{Cursor, along, next_line}
-use Rattle.saphyr_scalar.specs.FlowReading as flow
-use Rattle.saphyr_scalar.specs.Folding.{folded}
+use Rattle.saphyr_scalar.specs.Views.Cursor.{Cursor, along, next_line}
+use Rattle.saphyr_scalar.specs.Reading.Flow as flow
+use Rattle.saphyr_scalar.specs.Reading.Folding.{folded}
 use Rattle.saphyr_scalar.specs.Passing.{IsPassed, character}
-use Rattle.saphyr_scalar.specs.Quoted.{digit_count, at, over_lines, no_gap, break_len, escape, inside, quoted}
-use Rattle.saphyr_scalar.specs.QuotedLines.{AreOnLine, LinesFit}
-use Rattle.saphyr_scalar.specs.QuotedSpelling as quotes
+use Rattle.saphyr_scalar.specs.Steps.Quoted.{hex_digit_count, at, over_lines, no_gap, break_len, escaped_character, inside, quoted}
+use Rattle.saphyr_scalar.specs.Spelling.QuotedLines.{AreOnLine, LinesFit}
+use Rattle.saphyr_scalar.specs.Spelling.Quoted as quotes
 use Rattle.saphyr_scalar.proofs.Moving.{along_more}
 use Rattle.saphyr_scalar.proofs.Passings.{letter_passed, digits_passed}
 use Rattle.saphyr_scalar.proofs.Quoted.Spellings.{letter_read, number_read, no_break_simple, no_break_digits}
@@ -44,8 +44,8 @@ inside_read indent start _ _ _ _ (quotes.escaped e c t items x h r) fit m = λ g
 inside_read indent start _ _ _ _ (quotes.numbered e c ds t items x h r) fit m = λ gap fits.
     let k = 2 + length ds in
     let b = inside_read indent start Double t items x r fit (along m k) no_gap tt in
-    let some : digit_count e ≡ 0 → ⊥ = λ z. absurd (omega (arith, h.count, h.some)) in
-    let place : escape start (at m (92 ∷ e ∷ (ds ++ t))) ≡ Ok (c, at (along m k) t) =
+    let some : hex_digit_count e ≡ 0 → ⊥ = λ z. absurd (omega (arith, h.count, h.some)) in
+    let place : escaped_character start (at m (92 ∷ e ∷ (ds ++ t))) ≡ Ok (c, at (along m k) t) =
     number_read start m e c ds t h ∙ ap (λ y. Ok (c, at y t)) (along_more m 2 (length ds) k refl) in
     let passed : IsPassed m (92 ∷ e ∷ (ds ++ t)) b.mark x =
     letter_passed m e (ds ++ t) b.mark x (no_break_digits e some)

@@ -7,11 +7,11 @@ use Rattle.saphyr_scalar.specs.declared.reading.flow.Quote.{Quote}
 use Rattle.saphyr_scalar.specs.declared.reading.flow.Quote.TheVariants.{Single, Double}
 use Rattle.saphyr_scalar.specs.declared.scalar.fault.Refusal.{Refusal}
 use Rattle.saphyr_scalar.specs.declared.scalar.position.Marker.{Marker}
-use Rattle.saphyr_scalar.specs.Cursor.{Cursor, ◌>>=◌, along, next_line, pass}
-use Rattle.saphyr_scalar.specs.FlowReading as flow
+use Rattle.saphyr_scalar.specs.Views.Cursor.{Cursor, ◌>>=◌, along, next_line, pass}
+use Rattle.saphyr_scalar.specs.Reading.Flow as flow
 use Rattle.saphyr_scalar.specs.Passing.{IsPassed, nothing, character, line_break}
-use Rattle.saphyr_scalar.specs.Quoted.{is_literal, simple_escape, digit_count, is_scalar, digits, numbered, escape_of, escape, TextRead, with_front, at, special, special_len, Gap, on_line, over_lines, no_gap, is_left, blank_in, break_in, begin_word, end_gap, escaped_gap, break_len, if_some, inside, quoted}
-use Rattle.saphyr_scalar.specs.Quoted as reading
+use Rattle.saphyr_scalar.specs.Steps.Quoted.{is_literal, simple_escape, hex_digit_count, is_scalar, digits, numbered, escape_of, escaped_character, TextRead, with_front, at, special, special_len, QuotedGap, on_line, over_lines, no_gap, is_left, blank_in, break_in, begin_word, end_gap, escaped_gap, break_len, if_some, inside, quoted}
+use Rattle.saphyr_scalar.specs.Steps.Quoted as reading
 use Rattle.saphyr_scalar.specs.RefusedInside.{IsRefusedInside}
 use Rattle.saphyr_scalar.proofs.Quoted.Escapes.{escape_place}
 use Rattle.saphyr_scalar.proofs.Moving.{along_more}
@@ -42,13 +42,13 @@ numbered_refused start n s =
     (λ _. refused_bind (λ e. e.mark ≡ start) (digits start n 0 (pass 2 s)) _ (digits_refused start n 0 (pass 2 s))
     (λ x _. by_test (is_scalar x.0) _ _ (RefusedAt start) (λ _. tt) (λ _. refl)))
 
-escape_refused : (start : Marker) (s : Cursor) → RefusedAt start (escape start s)
-unfolding escape escape_of
+escape_refused : (start : Marker) (s : Cursor) → RefusedAt start (escaped_character start s)
+unfolding escaped_character escape_of
 escape_refused start s = of (simple_escape (slice_index s.rest 1)) (slice_index s.rest 1)
   where
     of : (o : Option ℕ) (letter : ℕ) → RefusedAt start (escape_of start o letter s)
     of (Some c) letter = tt
-    of None letter = numbered_refused start (digit_count letter) s
+    of None letter = numbered_refused start (hex_digit_count letter) s
 
 word_refused : (indent : ℕ) (start : Marker) (s : Cursor) → RefusedAt start (begin_word indent start s)
 unfolding begin_word
@@ -57,7 +57,8 @@ word_refused indent start s =
     (λ _. by_test (is_z (slice_index s.rest 0)) _ _ (RefusedAt start) (λ _. refl)
     (λ _. by_test (is_left indent s.mark) _ _ (RefusedAt start) (λ _. refl) (λ _. tt)))
 
-gap_refused : (indent : ℕ) (start : Marker) (gap : Gap) (s : Cursor) → RefusedAt start (end_gap indent start gap s)
+gap_refused : (indent : ℕ) (start : Marker) (gap : QuotedGap) (s : Cursor)
+    → RefusedAt start (end_gap indent start gap s)
 unfolding end_gap
 gap_refused indent start (on_line bytes) s =
     by_test (is_z (slice_index s.rest 0)) _ _ (RefusedAt start) (λ _. refl) (λ _. tt)
@@ -65,7 +66,7 @@ gap_refused indent start (over_lines escaped n) s =
     refused_bind (λ e. e.mark ≡ start) (begin_word indent start s) _ (word_refused indent start s) (λ _ _. tt)
 
 -- a tab is refused where it stands
-blank_refused : (indent : ℕ) (gap : Gap) (m : Marker) (c : ℕ) → RefusedAt m (blank_in indent gap m c)
+blank_refused : (indent : ℕ) (gap : QuotedGap) (m : Marker) (c : ℕ) → RefusedAt m (blank_in indent gap m c)
 unfolding blank_in
 blank_refused indent (on_line bytes) m c = tt
 blank_refused indent (over_lines escaped n) m c =
@@ -88,11 +89,11 @@ two_passed m c (d ∷ ds) e f =
     subst (λ (k : Marker). IsPassed m (c ∷ d ∷ ds) k ds) (along_more m 1 1 2 refl)
     (character m c (d ∷ ds) _ ds e (character (along m 1) d ds _ ds quote (nothing _ ds)))
 
-escape_passed : (start m : Marker) (cs : List ℕ) (x : ℕ × Cursor) → escape start (at m (92 ∷ cs)) ≡ Ok x
-    → IsPassed m (92 ∷ cs) x.1.mark (drop (suc (digit_count (slice_index cs 0))) cs)
+escape_passed : (start m : Marker) (cs : List ℕ) (x : ℕ × Cursor) → escaped_character start (at m (92 ∷ cs)) ≡ Ok x
+    → IsPassed m (92 ∷ cs) x.1.mark (drop (suc (hex_digit_count (slice_index cs 0))) cs)
 escape_passed start m [] x e = absurd (no_escape start m x.0 x.1 e)
 escape_passed start m (d ∷ ds) x e =
-    let k = digit_count d in
+    let k = hex_digit_count d in
     let two : 2 + k ≡ suc (suc k) = omega arith in
     let rest : x.1.rest ≡ drop (suc k) (d ∷ ds) = ap (λ (u : Cursor). u.rest) (escape_place start m (92 ∷ d ∷ ds) x e)
     ∙ ap (λ n. drop n (92 ∷ d ∷ ds)) two in
@@ -122,7 +123,7 @@ special_told Double start m c cs is plain =
     breaks false false false h k e = absurd (cc)
 
     behind : List ℕ
-    behind = drop (suc (digit_count (slice_index cs 0))) cs
+    behind = drop (suc (hex_digit_count (slice_index cs 0))) cs
 
     by : (r : Result (ℕ × Cursor) Refusal) → RefusedAt start r
         → ((x : ℕ × Cursor) → r ≡ Ok x → IsPassed m (c ∷ cs) x.1.mark behind)
@@ -130,10 +131,11 @@ special_told Double start m c cs is plain =
     by (Ok x) h k = k x refl
     by (Err e) h k = h
 
-    backslash : c ≡ 92 → SpecialTold Double start m c cs (escape start (at m (c ∷ cs)) >>= λ e. Ok (Some e.0, e.1))
-    backslash same = by (escape start (at m (c ∷ cs))) (escape_refused start (at m (c ∷ cs)))
+    backslash : c ≡ 92 → SpecialTold Double start m c cs
+        (escaped_character start (at m (c ∷ cs)) >>= λ e. Ok (Some e.0, e.1))
+    backslash same = by (escaped_character start (at m (c ∷ cs))) (escape_refused start (at m (c ∷ cs)))
         (λ x e. subst (λ d. IsPassed m (d ∷ cs) x.1.mark behind) (sym same)
-        (escape_passed start m cs x (ap (λ d. escape start (at m (d ∷ cs))) (sym same) ∙ e)))
+        (escape_passed start m cs x (ap (λ d. escaped_character start (at m (d ∷ cs))) (sym same) ∙ e)))
 
 -- ## The scalar
 
@@ -148,7 +150,7 @@ behind_break : (c : ℕ) (cs : List ℕ) → drop (break_len (c ∷ cs)) (c ∷ 
 behind_break c cs = by_test (next_2_are (c ∷ cs) 13 10) 2 1 (λ n. drop n (c ∷ cs) ≡ drop (pred n) cs) (λ _. refl)
     (λ _. refl)
 
-inside_refused : (q : Quote) (indent : ℕ) (s : Cursor) (gap : Gap) (k : ℕ) (m : Marker) (t : List ℕ)
+inside_refused : (q : Quote) (indent : ℕ) (s : Cursor) (gap : QuotedGap) (k : ℕ) (m : Marker) (t : List ℕ)
     → IsPassed s.mark s.rest m (drop k t)
     → Refused (IsRefusedInside s) (inside q indent s.mark gap k m t)
 unfolding inside
@@ -158,7 +160,7 @@ inside_refused q indent s gap zero m (c ∷ cs) p =
     let start = s.mark in
     let here : Cursor = at m (c ∷ cs) in
     let special_end = drop (special_len q (slice_index cs 0)) cs in
-    let others = λ (g : Gap) (h : is_break c ≡ false). inside_refused q indent s g 0 (along m 1) cs
+    let others = λ (g : QuotedGap) (h : is_break c ≡ false). inside_refused q indent s g 0 (along m 1) cs
     (one_more_passed s m c cs p h) in
     by_test (is_blank c) _ _ (Refused P)
     (λ blank. refused_bind P (blank_in indent gap m c) _

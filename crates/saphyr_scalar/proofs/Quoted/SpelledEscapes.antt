@@ -8,9 +8,9 @@ use Rattle.saphyr_scalar.specs.declared.scalar.fault.Refusal.{Refusal}
 use Rattle.saphyr_scalar.specs.declared.reading.folding.Item.{Item}
 use Rattle.saphyr_scalar.specs.declared.reading.folding.Item.TheVariants.{Escaped}
 use Rattle.saphyr_scalar.specs.declared.reading.flow.Quote.TheVariants.{Double}
-use Rattle.saphyr_scalar.specs.Cursor.{Cursor, ◌>>=◌, along, pass}
-use Rattle.saphyr_scalar.specs.Quoted.{simple_escape, digit_count, is_scalar, digits, character, numbered, escape_of, escape, with_front, at}
-use Rattle.saphyr_scalar.specs.LineSpelling as spelling
+use Rattle.saphyr_scalar.specs.Views.Cursor.{Cursor, ◌>>=◌, along, pass}
+use Rattle.saphyr_scalar.specs.Steps.Quoted.{simple_escape, hex_digit_count, is_scalar, digits, character, numbered, escape_of, escaped_character, with_front, at}
+use Rattle.saphyr_scalar.specs.Spelling.OneLine as spelling
 use Rattle.saphyr_scalar.proofs.Quoted.Clean as quotes
 use Rattle.saphyr_scalar.specs.Passing.{IsPassed}
 use Rattle.saphyr_scalar.specs.Passing as passing
@@ -57,7 +57,7 @@ record Digits (v n : ℕ) (m : Marker) (xs : List ℕ) (w : ℕ) (s : Cursor) : 
   split : xs ≡ ds ++ s.rest
   count : length ds ≡ n
   hex : spelling.AreHex ds
-  value : spelling.number_from v ds ≡ w
+  value : spelling.hexadecimal_from v ds ≡ w
   passes : (n : Marker) (u : List ℕ) → IsPassed s.mark s.rest n u → IsPassed m xs n u
 
 digits_spelled : (start : Marker) (n v : ℕ) (t : Cursor) (w : ℕ) (s : Cursor) → Gave (digits start n v t) w s
@@ -121,19 +121,19 @@ scalar_gave start w c u s =
     (λ h g. (h, gave_first w c u s g, gave_second w c u s g)) (λ _ g. nothing _ c s g)
 
 number_spelled : (start m : Marker) (e : ℕ) (xs : List ℕ) (c : ℕ) (s : Cursor)
-    → Gave (numbered start (digit_count e) (at m (92 ∷ e ∷ xs))) c s → Escape m e xs c s
+    → Gave (numbered start (hex_digit_count e) (at m (92 ∷ e ∷ xs))) c s → Escape m e xs c s
 unfolding numbered
 number_spelled start m e xs c s =
-    by_test (nat_eq (digit_count e) 0) _ _ (λ r. Gave r c s → Escape m e xs c s) (λ _ g. nothing _ c s g)
+    by_test (nat_eq (hex_digit_count e) 0) _ _ (λ r. Gave r c s → Escape m e xs c s) (λ _ g. nothing _ c s g)
     (λ many g.
-    let t = then_gave (digits start (digit_count e) 0 (pass 2 (at m (92 ∷ e ∷ xs)))) _ c s g in
-    let d : Digits 0 (digit_count e) (along m 2) xs t.0 t.1 = digits_spelled start (digit_count e) 0
+    let t = then_gave (digits start (hex_digit_count e) 0 (pass 2 (at m (92 ∷ e ∷ xs)))) _ c s g in
+    let d : Digits 0 (hex_digit_count e) (along m 2) xs t.0 t.1 = digits_spelled start (hex_digit_count e) 0
     (pass 2 (at m (92 ∷ e ∷ xs))) t.0 t.1 t.2 in
     let k = scalar_gave start t.0 c t.1 s t.3 in
     let split : xs ≡ d.ds ++ s.rest = d.split ∙ ap (λ (u : Cursor). d.ds ++ u.rest) k.2 in
     let is : spelling.IsNumber e c d.ds = record {
       count = d.count;
-      some = omega (arith, some_of (digit_count e) many, d.count);
+      some = omega (arith, some_of (hex_digit_count e) many, d.count);
       hex = d.hex;
       value = d.value ∙ k.1;
       scalar = subst (λ (n : ℕ). IsTrue (is_scalar n)) k.1 k.0;
@@ -143,7 +143,7 @@ number_spelled start m e xs c s =
           (quotes.numbered e c d.ds s.rest items x is r);
       shorter = rw (split, length-append) (omega arith);
       passes = λ n u p. letter_passed m e xs n u
-          (no_break_digits e (λ z. absurd (omega (arith, some_of (digit_count e) many))))
+          (no_break_digits e (λ z. absurd (omega (arith, some_of (hex_digit_count e) many))))
           (d.passes n u (subst (λ (x : Cursor). IsPassed x.mark x.rest n u) (sym k.2) p));
     })
   where
@@ -167,10 +167,10 @@ of_spelled start m e xs c s (Some k) is g =
 of_spelled start m e xs c s None is g = number_spelled start m e xs c s g
 
 pub escape_spelled : (start m : Marker) (e : ℕ) (xs : List ℕ) (c : ℕ) (s : Cursor)
-    → Gave (escape start (at m (92 ∷ e ∷ xs))) c s → Escape m e xs c s
-unfolding escape
+    → Gave (escaped_character start (at m (92 ∷ e ∷ xs))) c s → Escape m e xs c s
+unfolding escaped_character
 escape_spelled start m e xs c s g = of_spelled start m e xs c s (simple_escape e) refl g
 
-pub no_escape : (start m : Marker) (c : ℕ) (s : Cursor) → Gave (escape start (at m (92 ∷ []))) c s → ⊥
-unfolding escape escape_of numbered simple_escape
+pub no_escape : (start m : Marker) (c : ℕ) (s : Cursor) → Gave (escaped_character start (at m (92 ∷ []))) c s → ⊥
+unfolding escaped_character escape_of numbered simple_escape
 no_escape start m c s g = absurd (nothing _ c s g)

@@ -9,9 +9,9 @@ use Rattle.saphyr_scalar.specs.declared.reading.folding.Item.{Item}
 use Rattle.saphyr_scalar.specs.declared.reading.folding.Item.TheVariants.{Blank, Break}
 use Rattle.saphyr_scalar.specs.declared.reading.flow.Quote.{Quote}
 use Rattle.saphyr_scalar.specs.declared.reading.flow.Quote.TheVariants.{Single, Double}
-use Rattle.saphyr_scalar.specs.Cursor.{Cursor, ◌>>=◌, along, pass_line}
-use Rattle.saphyr_scalar.specs.FlowReading as flow
-use Rattle.saphyr_scalar.specs.Quoted.{at, Gap, on_line, over_lines, is_left, blank_in, break_in, break_len, inside, inside_at}
+use Rattle.saphyr_scalar.specs.Views.Cursor.{Cursor, ◌>>=◌, along, pass_line}
+use Rattle.saphyr_scalar.specs.Reading.Flow as flow
+use Rattle.saphyr_scalar.specs.Steps.Quoted.{at, QuotedGap, on_line, over_lines, is_left, blank_in, break_in, break_len, inside, inside_at}
 use Rattle.saphyr_scalar.proofs.Quoted.Clean as quotes
 use Rattle.saphyr_scalar.proofs.Quoted.Clean.{IsClear}
 use Rattle.saphyr_scalar.specs.Passing.{IsPassed, character, line_break}
@@ -23,16 +23,16 @@ use Rattle.saphyr_input.proofs.Basics.Characters.{blank_cases, blank_no_break}
 use Rattle.saphyr_scalar.proofs.Quoted.GapBytes.{gap_bytes, blank_bytes, break_bytes}
 
 -- a line began
-abbrev pub IsOver : Gap → Type 0
+abbrev pub IsOver : QuotedGap → Type 0
 IsOver (on_line bytes) = ⊥
 IsOver (over_lines escaped n) = Unit {0}
 
-break_over : (gap : Gap) → IsOver (break_in gap)
+break_over : (gap : QuotedGap) → IsOver (break_in gap)
 break_over (on_line bytes) = tt
 break_over (over_lines escaped n) = tt
 
 -- the text that was read is spelled so, and no line of it begins with a document marker
-pub record Spelled (q : Quote) (gap : Gap) (m : Marker) (xs b : List ℕ) (s : Cursor) : Type 0 where
+pub record Spelled (q : Quote) (gap : QuotedGap) (m : Marker) (xs b : List ℕ) (s : Cursor) : Type 0 where
   pub items : List Item
   pub is : quotes.IsText q xs items s.rest
   pub bytes : gap_bytes gap items ≡ b
@@ -42,7 +42,7 @@ pub record Spelled (q : Quote) (gap : Gap) (m : Marker) (xs b : List ℕ) (s : C
 -- what is known of shorter texts
 abbrev pub Known : ℕ → Quote → ℕ → Marker → Type 0
 Known n q indent start =
-    (gap : Gap) (m : Marker) (xs b : List ℕ) (s : Cursor) → length xs ≤ n
+    (gap : QuotedGap) (m : Marker) (xs b : List ℕ) (s : Cursor) → length xs ≤ n
     → GaveText (inside q indent start gap 0 m xs) b s → Spelled q gap m xs b s
 
 blank_itself : (q : Quote) (c : ℕ) → is_blank c ≡ true → IsTrue (quotes.stands_for_itself q c)
@@ -71,7 +71,8 @@ blank_clear c cs h = blank_cases c h (λ x. IsClear (x ∷ cs)) refl refl
 break_clear : (c : ℕ) (cs : List ℕ) → is_break c ≡ true → IsClear (c ∷ cs)
 break_clear c cs h = break_cases c h (λ x. IsClear (x ∷ cs)) refl refl
 
-pub blank_step : (n : ℕ) (q : Quote) (indent : ℕ) (start : Marker) (gap : Gap) (m : Marker) (c : ℕ) (cs b : List ℕ)
+pub blank_step : (n : ℕ) (q : Quote) (indent : ℕ) (start : Marker) (gap : QuotedGap) (m : Marker) (c : ℕ)
+    (cs b : List ℕ)
     (s : Cursor) → is_blank c ≡ true → length cs ≤ n → Known n q indent start
     → GaveText (inside q indent start gap 0 m (c ∷ cs)) b s → Spelled q gap m (c ∷ cs) b s
 unfolding blank_in
@@ -90,7 +91,7 @@ blank_step n q indent start (on_line bytes) m c cs b s h le known g =
     }
 blank_step n q indent start (over_lines escaped k) m c cs b s h le known g =
     by_test ((c == 9) && is_left indent m) _ _
-    (λ (r : Result Gap Refusal). GaveText (r >>= λ g. inside q indent start g 0 (along m 1) cs) b s
+    (λ (r : Result QuotedGap Refusal). GaveText (r >>= λ g. inside q indent start g 0 (along m 1) cs) b s
     → Spelled q (over_lines escaped k) m (c ∷ cs) b s)
     (λ _ e. nothing_text _ b s e)
     (λ _ e.
@@ -112,7 +113,8 @@ behind_break_shorter c cs =
     by_test (next_2_are (c ∷ cs) 13 10) 2 1 (λ n. length (drop n (c ∷ cs)) ≤ length cs)
     (λ _. omega (arith, length-drop {A = ℕ} 1 cs)) (λ _. omega arith)
 
-pub break_step : (n : ℕ) (q : Quote) (indent : ℕ) (start : Marker) (gap : Gap) (m : Marker) (c : ℕ) (cs b : List ℕ)
+pub break_step : (n : ℕ) (q : Quote) (indent : ℕ) (start : Marker) (gap : QuotedGap) (m : Marker) (c : ℕ)
+    (cs b : List ℕ)
     (s : Cursor) → is_break c ≡ true → length cs ≤ n → Known n q indent start
     → GaveText (inside q indent start gap 0 m (c ∷ cs)) b s → Spelled q gap m (c ∷ cs) b s
 break_step n q indent start gap m c cs b s h le known g =

@@ -7,11 +7,11 @@ use Rattle.saphyr_scalar.specs.declared.scalar.position.Marker.{Marker}
 use Rattle.saphyr_scalar.specs.declared.scalar.fault.Refusal.{Refusal}
 use Rattle.saphyr_scalar.specs.declared.reading.folding.Item.{Item}
 use Rattle.saphyr_scalar.specs.declared.reading.flow.Quote.{Quote}
-use Rattle.saphyr_scalar.specs.Cursor.{Cursor, ◌>>=◌, along}
-use Rattle.saphyr_scalar.specs.FlowReading as flow
-use Rattle.saphyr_scalar.specs.Folding.{folded}
-use Rattle.saphyr_scalar.specs.Quoted.{TextRead, at, Gap, on_line, over_lines, no_gap, is_left, folded_break, begin_word, end_gap, inside, quoted}
-use Rattle.saphyr_scalar.specs.QuotedMarkers.{HasNoMarker}
+use Rattle.saphyr_scalar.specs.Views.Cursor.{Cursor, ◌>>=◌, along}
+use Rattle.saphyr_scalar.specs.Reading.Flow as flow
+use Rattle.saphyr_scalar.specs.Reading.Folding.{folded}
+use Rattle.saphyr_scalar.specs.Steps.Quoted.{TextRead, at, QuotedGap, on_line, over_lines, no_gap, is_left, folded_break, begin_word, end_gap, inside, quoted}
+use Rattle.saphyr_scalar.specs.Spelling.QuotedMarkers.{HasNoMarker}
 use Rattle.saphyr_scalar.proofs.Quoted.Clean as quotes
 use Rattle.saphyr_scalar.proofs.Quoted.Clean.{IsClear}
 use Rattle.saphyr_scalar.specs.Passing.{IsPassed, character}
@@ -24,7 +24,7 @@ use Rattle.saphyr_scalar.proofs.Quoted.SpelledGaps.{IsOver, Spelled, Known, blan
 use Rattle.saphyr_scalar.proofs.Quoted.SpelledWords.{cases, word_spelled}
 
 -- what ends a gap
-pub record Ended (gap : Gap) (col : ℕ) (xs text : List ℕ) : Type 0 where
+pub record Ended (gap : QuotedGap) (col : ℕ) (xs text : List ℕ) : Type 0 where
   pub bytes : text ≡ gap_front gap
   pub clear : IsOver gap → col ≡ 0 → IsClear xs
   pub nul : is_z (slice_index xs 0) ≡ false
@@ -40,7 +40,7 @@ LinesEnded escaped n s text r =
     (r >>= λ t. Ok (encode_utf8_all (folded_break escaped n))) ≡ Ok text
     → Ended (over_lines escaped n) s.mark.col s.rest text
 
-pub gap_ended : (indent : ℕ) (start : Marker) (gap : Gap) (s : Cursor) (text : List ℕ)
+pub gap_ended : (indent : ℕ) (start : Marker) (gap : QuotedGap) (s : Cursor) (text : List ℕ)
     → end_gap indent start gap s ≡ Ok text → Ended gap s.mark.col s.rest text
 unfolding end_gap begin_word
 gap_ended indent start (on_line bytes) s text =
@@ -65,7 +65,7 @@ then_front : (r : Result (List ℕ) Refusal) (f : List ℕ → TextRead) (b : Li
 then_front (Ok x) f b s e = (x, refl, e)
 then_front (Err r) f b s e = nothing_text r b s e
 
-content_step : (n : ℕ) (q : Quote) (indent : ℕ) (start : Marker) (gap : Gap) (m : Marker) (c : ℕ) (cs b : List ℕ)
+content_step : (n : ℕ) (q : Quote) (indent : ℕ) (start : Marker) (gap : QuotedGap) (m : Marker) (c : ℕ) (cs b : List ℕ)
     (s : Cursor) → is_blank c ≡ false → is_break c ≡ false → length cs ≤ n → Known n q indent start
     → GaveText (inside q indent start gap 0 m (c ∷ cs)) b s → Spelled q gap m (c ∷ cs) b s
 content_step n q indent start gap m c cs b s blank break le known g =
@@ -85,12 +85,13 @@ content_step n q indent start gap m c cs b s blank break le known g =
       clear = ended.clear;
     }
 
-at_text_end : (q : Quote) (indent : ℕ) (start : Marker) (gap : Gap) (m : Marker) (b : List ℕ) (s : Cursor)
+at_text_end : (q : Quote) (indent : ℕ) (start : Marker) (gap : QuotedGap) (m : Marker) (b : List ℕ) (s : Cursor)
     → GaveText (inside q indent start gap 0 m []) b s → Spelled q gap m [] b s
 unfolding inside
 at_text_end q indent start gap m b s g = nothing_text _ b s g
 
-inside_spelled : (n : ℕ) (q : Quote) (indent : ℕ) (start : Marker) (gap : Gap) (m : Marker) (xs b : List ℕ) (s : Cursor)
+inside_spelled : (n : ℕ) (q : Quote) (indent : ℕ) (start : Marker) (gap : QuotedGap) (m : Marker) (xs b : List ℕ)
+    (s : Cursor)
     → length xs ≤ n → GaveText (inside q indent start gap 0 m xs) b s → Spelled q gap m xs b s
 inside_spelled n q indent start gap m [] b s le g = at_text_end q indent start gap m b s g
 inside_spelled zero q indent start gap m (c ∷ cs) b s le g = absurd (omega arith)

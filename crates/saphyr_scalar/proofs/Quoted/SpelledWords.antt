@@ -7,9 +7,9 @@ use Rattle.saphyr_scalar.specs.declared.reading.folding.Item.{Item}
 use Rattle.saphyr_scalar.specs.declared.reading.folding.Item.TheVariants.{Raw, Escaped, EscapedBreak}
 use Rattle.saphyr_scalar.specs.declared.reading.flow.Quote.{Quote}
 use Rattle.saphyr_scalar.specs.declared.reading.flow.Quote.TheVariants.{Single, Double}
-use Rattle.saphyr_scalar.specs.Cursor.{Cursor, along, next_line}
-use Rattle.saphyr_scalar.specs.FlowReading as flow
-use Rattle.saphyr_scalar.specs.Quoted.{is_literal, at, Gap, over_lines, no_gap, escaped_gap, break_len, is_closing, escape, inside, inside_at}
+use Rattle.saphyr_scalar.specs.Views.Cursor.{Cursor, along, next_line}
+use Rattle.saphyr_scalar.specs.Reading.Flow as flow
+use Rattle.saphyr_scalar.specs.Steps.Quoted.{is_literal, at, QuotedGap, over_lines, no_gap, escaped_gap, break_len, is_closing, escaped_character, inside, inside_at}
 use Rattle.saphyr_scalar.proofs.Quoted.Clean as quotes
 use Rattle.saphyr_scalar.specs.Passing.{IsPassed, nothing, character, line_break}
 use Rattle.saphyr_scalar.proofs.Moving.{along_more}
@@ -28,7 +28,7 @@ use Rattle.saphyr_scalar.proofs.Quoted.SpelledGaps.{Spelled, Known}
 pub record Word (q : Quote) (m : Marker) (xs y : List ℕ) (s : Cursor) : Type 0 where
   pub items : List Item
   pub is : quotes.IsText q xs items s.rest
-  pub bytes : (gap : Gap) → gap_front gap ++ y ≡ gap_bytes gap items
+  pub bytes : (gap : QuotedGap) → gap_front gap ++ y ≡ gap_bytes gap items
   pub passed : IsPassed m xs s.mark s.rest
 
 closed_word : (q : Quote) (indent : ℕ) (start m : Marker) (cs y : List ℕ) (s : Cursor)
@@ -153,7 +153,7 @@ backslash_word : (n : ℕ) (indent : ℕ) (start m : Marker) (cs y : List ℕ) (
     → Known n Double indent start
     → GaveText (inside Double indent start no_gap 0 m (92 ∷ cs)) y s → Word Double m (92 ∷ cs) y s
 backslash_word n indent start m [] y s le known g =
-    let t = then_text (escape start (at m (92 ∷ []))) _ y s (sym (at_escape indent start m [] refl) ∙ g) in
+    let t = then_text (escaped_character start (at m (92 ∷ []))) _ y s (sym (at_escape indent start m [] refl) ∙ g) in
     absurd (no_escape start m t.0 t.1 t.2)
 backslash_word n indent start m (e ∷ xs) y s le known g = cases (is_break e)
     (λ h.
@@ -167,7 +167,8 @@ backslash_word n indent start m (e ∷ xs) y s le known g = cases (is_break e)
       passed = character m 92 (e ∷ xs) s.mark s.rest refl (line_break (along m 1) (e ∷ xs) s.mark s.rest h r.passed);
     })
     (λ h.
-    let t = then_text (escape start (at m (92 ∷ e ∷ xs))) _ y s (sym (at_escape indent start m (e ∷ xs) h) ∙ g) in
+    let t = then_text (escaped_character start (at m (92 ∷ e ∷ xs))) _ y s
+        (sym (at_escape indent start m (e ∷ xs) h) ∙ g) in
     let esc = escape_spelled start m e xs t.0 t.1 t.2 in
     let f = front_gave (encode_utf8 t.0) (inside_at Double indent start no_gap t.1) y s t.3 in
     let r = known no_gap t.1.mark t.1.rest f.0 s (omega (arith, esc.shorter, le)) f.1 in

@@ -5,9 +5,9 @@ use Rattle.std.proofs.lemmas.Bool.Decides.{nat_tests}
 use Rattle.saphyr_input.specs.Classes.{is_blank, is_break, is_breakz}
 use Rattle.saphyr_scalar.specs.declared.scalar.position.Marker.{Marker}
 use Rattle.saphyr_scalar.specs.declared.reading.flow.Quote.TheVariants.{Double}
-use Rattle.saphyr_scalar.specs.Cursor.{Cursor, ◌>>=◌, along}
-use Rattle.saphyr_scalar.specs.Quoted.{is_literal, simple_escape, digit_count, digits, character, numbered, escape_of, escape, with_front, at, on_line, no_gap, inside, inside_at, quoted, double_quoted}
-use Rattle.saphyr_scalar.specs.LineSpelling as spelling
+use Rattle.saphyr_scalar.specs.Views.Cursor.{Cursor, ◌>>=◌, along}
+use Rattle.saphyr_scalar.specs.Steps.Quoted.{is_literal, simple_escape, hex_digit_count, digits, character, numbered, escape_of, escaped_character, with_front, at, on_line, no_gap, inside, inside_at, quoted, double_quoted}
+use Rattle.saphyr_scalar.specs.Spelling.OneLine as spelling
 use Rattle.saphyr_scalar.proofs.Moving.{along_none, along_more}
 use Rattle.saphyr_scalar.proofs.Quoted.Escapes.{simple_no_digits}
 use Rattle.saphyr_scalar.proofs.Quoted.Inside.{IsContent, content_of, stands, one_blank, flushed, break_cases}
@@ -17,16 +17,16 @@ use Rattle.saphyr_scalar.proofs.Given.{text_at}
 
 -- where digits stand, they are read
 digits_read : (start m : Marker) (v : ℕ) (ds t : List ℕ) → spelling.AreHex ds
-    → digits start (length ds) v (at m (ds ++ t)) ≡ Ok (spelling.number_from v ds, at (along m (length ds)) t)
+    → digits start (length ds) v (at m (ds ++ t)) ≡ Ok (spelling.hexadecimal_from v ds, at (along m (length ds)) t)
 unfolding digits
 digits_read start m v [] t h = ap (λ x. Ok (v, at x t)) (sym (along_none m))
 digits_read start m v (d ∷ ds) t h =
     rw h.0 (digits_read start (along m 1) _ ds t h.1
-    ∙ ap (λ x. Ok (spelling.number_from v (d ∷ ds), at x t))
+    ∙ ap (λ x. Ok (spelling.hexadecimal_from v (d ∷ ds), at x t))
     (along_more m 1 (length ds) (suc (length ds)) (omega arith)))
 
 -- what stands for itself and is no blank is a literal
-itself_literal : (c : ℕ) → IsTrue (spelling.stands_for_itself c) → is_blank c ≡ false → is_literal Double c ≡ true
+itself_literal : (c : ℕ) → IsTrue (spelling.stands_in_double_quotes c) → is_blank c ≡ false → is_literal Double c ≡ true
 unfolding is_literal
 itself_literal c h other = by_cases (is_blank c) (is_breakz c) (c == 34) (c == 92) h other
   where
@@ -37,7 +37,7 @@ itself_literal c h other = by_cases (is_blank c) (is_breakz c) (c == 34) (c == 9
     by_cases false false true s h other = absurd (cc)
     by_cases false false false true h other = absurd (cc)
 
-itself_content : (c : ℕ) → IsTrue (spelling.stands_for_itself c) → is_blank c ≡ false → IsContent c
+itself_content : (c : ℕ) → IsTrue (spelling.stands_in_double_quotes c) → is_blank c ≡ false → IsContent c
 itself_content c h other = content_of c (by_cases (is_blank c) (is_breakz c) (c == 34) (c == 92) h other)
   where
     by_cases : (a b q s : Bool) → (not b && not q && not s) ≡ true → a ≡ false → (a || b) ≡ false
@@ -56,28 +56,29 @@ no_break_simple e c h = by_test_eq (is_break e)
     by_test_eq true yes_case no_case = yes_case refl
     by_test_eq false yes_case no_case = refl
 
-pub no_break_digits : (e : ℕ) → (digit_count e ≡ 0 → ⊥) → is_break e ≡ false
-no_break_digits e h = by_test_eq (is_break e) (λ is. absurd (h (break_cases e is (λ x. digit_count x ≡ 0) refl refl)))
+pub no_break_digits : (e : ℕ) → (hex_digit_count e ≡ 0 → ⊥) → is_break e ≡ false
+no_break_digits e h = by_test_eq (is_break e)
+    (λ is. absurd (h (break_cases e is (λ x. hex_digit_count x ≡ 0) refl refl)))
     (λ no_break. no_break)
   where
     by_test_eq : (b : Bool) → (b ≡ true → b ≡ false) → (b ≡ false → b ≡ false) → b ≡ false
     by_test_eq true yes_case no_case = yes_case refl
     by_test_eq false yes_case no_case = refl
 
-no_letter : (e : ℕ) (o : Option ℕ) → simple_escape e ≡ o → (digit_count e ≡ 0 → ⊥) → o ≡ None
+no_letter : (e : ℕ) (o : Option ℕ) → simple_escape e ≡ o → (hex_digit_count e ≡ 0 → ⊥) → o ≡ None
 no_letter e (Some c) is h = absurd (h (sym (simple_no_digits e c is)))
 no_letter e None is h = refl
 
 pub letter_read : (start m : Marker) (e c : ℕ) (t : List ℕ) → simple_escape e ≡ Some c
-    → escape start (at m (92 ∷ e ∷ t)) ≡ Ok (c, at (along m 2) t)
-unfolding escape escape_of
+    → escaped_character start (at m (92 ∷ e ∷ t)) ≡ Ok (c, at (along m 2) t)
+unfolding escaped_character escape_of
 letter_read start m e c t h = rw h refl
 
 pub number_read : (start m : Marker) (e c : ℕ) (ds t : List ℕ) → spelling.IsNumber e c ds
-    → escape start (at m (92 ∷ e ∷ (ds ++ t))) ≡ Ok (c, at (along (along m 2) (length ds)) t)
-unfolding escape escape_of numbered character
+    → escaped_character start (at m (92 ∷ e ∷ (ds ++ t))) ≡ Ok (c, at (along (along m 2) (length ds)) t)
+unfolding escaped_character escape_of numbered character
 number_read start m e c ds t h =
-    let some : digit_count e ≡ 0 → ⊥ = λ z. absurd (omega (arith, h.count, h.some)) in
+    let some : hex_digit_count e ≡ 0 → ⊥ = λ z. absurd (omega (arith, h.count, h.some)) in
     let none : simple_escape e ≡ None = no_letter e (simple_escape e) refl some in
     let many : (length ds == 0) ≡ false = more_than_none (length ds) h.some in
     rw (none, ← h.count, many, digits_read start (along m 2) 0 ds t h.hex, h.value, h.scalar) refl
@@ -103,7 +104,7 @@ closed_reads indent start b m x =
 
 -- an escape, and what is read behind it
 escape_reads : (indent : ℕ) (start : Marker) (b : List ℕ) (m : Marker) (e c : ℕ) (t v x rest : List ℕ) (k n : ℕ)
-    → is_break e ≡ false → escape start (at m (92 ∷ e ∷ t)) ≡ Ok (c, at (along m k) rest)
+    → is_break e ≡ false → escaped_character start (at m (92 ∷ e ∷ t)) ≡ Ok (c, at (along m k) rest)
     → Reads indent start [] (along m k) rest v x n → Reads indent start b m (92 ∷ e ∷ t) (c ∷ v) x (k + n)
 escape_reads indent start b m e c t v x rest k n no_break h r =
     flushed Double indent start b m 92 (e ∷ t) escape_content
@@ -114,7 +115,7 @@ escape_reads indent start b m e c t v x rest k n no_break h r =
     ∙ ap (λ y. Ok (b ++ encode_utf8_all (c ∷ v), at y x)) (along_more m k n (k + n) refl)
 
 itself_reads : (indent : ℕ) (start : Marker) (b : List ℕ) (m : Marker) (c : ℕ) (t v x : List ℕ) (n : ℕ)
-    → IsTrue (spelling.stands_for_itself c)
+    → IsTrue (spelling.stands_in_double_quotes c)
     → ((b : List ℕ) → Reads indent start b (along m 1) t v x n) → Reads indent start b m (c ∷ t) (c ∷ v) x (1 + n)
 itself_reads indent start b m c t v x n h r = by_blank (is_blank c) refl
   where
@@ -149,8 +150,8 @@ inside_read indent start b m _ _ _ (spelling.escaped e c t v x h r) =
     (letter_read start m e c t h) (inside_read indent start [] (along m 2) t v x r)
 inside_read indent start b m _ _ _ (spelling.numbered e c ds t v x h r) =
     let k = 2 + length ds in
-    let some : digit_count e ≡ 0 → ⊥ = λ z. absurd (omega (arith, h.count, h.some)) in
-    let place : escape start (at m (92 ∷ e ∷ (ds ++ t))) ≡ Ok (c, at (along m k) t) =
+    let some : hex_digit_count e ≡ 0 → ⊥ = λ z. absurd (omega (arith, h.count, h.some)) in
+    let place : escaped_character start (at m (92 ∷ e ∷ (ds ++ t))) ≡ Ok (c, at (along m k) t) =
     number_read start m e c ds t h ∙ ap (λ y. Ok (c, at y t)) (along_more m 2 (length ds) k refl) in
     escape_reads indent start b m e c (ds ++ t) v x t k (spelled_len t v x r) (no_break_digits e some) place
     (inside_read indent start [] (along m k) t v x r)

@@ -5,9 +5,9 @@ use Rattle.std.proofs.Math.Seq.{take-append_seam, drop-append_seam}
 use Rattle.std.proofs.lemmas.List.{length-append}
 use Rattle.std.proofs.lemmas.Bool.Decides.{nat_tests}
 use Rattle.saphyr_input.specs.Classes.{line_feed}
-use Rattle.saphyr_scalar.specs.Escapes.{short_escape, digit_count, hex_character, long_escape, escape_named, escape}
-use Rattle.saphyr_scalar.specs.FlowReading.{raw_item, apostrophe, backslash, mark, is_special, special_item, first_item, is_closing, items_to_quote, quoted_items}
-use Rattle.saphyr_scalar.specs.Spelling.{IsItself, IsEscape, IsSpelling, Spells, IsSpelledQuote}
+use Rattle.saphyr_scalar.specs.Reading.Escapes.{short_escape, digit_count, hex_character, long_escape, escape_named, escape}
+use Rattle.saphyr_scalar.specs.Reading.Flow.{raw_item, apostrophe, backslash, mark, is_special, special_item, first_item, is_closing_at_end, items_to_quote, quoted_items}
+use Rattle.saphyr_scalar.specs.Spelling.Items.{IsItself, IsEscape, IsSpelling, Spells, IsSpelledQuote}
 use Rattle.saphyr_scalar.specs.declared.reading.folding.Item.{Item}
 use Rattle.saphyr_scalar.specs.declared.reading.folding.Item.TheVariants.{Blank, Raw, Escaped, Break, EscapedBreak}
 use Rattle.saphyr_scalar.specs.declared.reading.flow.Quote.{Quote}
@@ -106,7 +106,7 @@ closing_read : (quote : Quote) → items_to_quote quote zero (mark quote ∷ [])
 closing_read Single = refl
 closing_read Double = refl
 
-unclosed : (quote : Quote) (c : ℕ) (text : List ℕ) (d : ℕ) → is_closing quote c (text ++ d ∷ []) ≡ false
+unclosed : (quote : Quote) (c : ℕ) (text : List ℕ) (d : ℕ) → is_closing_at_end quote c (text ++ d ∷ []) ≡ false
 unclosed quote c [] d = refl
 unclosed quote c (x ∷ text) d = refl
 
@@ -117,8 +117,9 @@ cons_read : (quote : Quote) (item : Item) (c : ℕ) (others back : List ℕ) (it
     → items_to_quote quote zero (((c ∷ others) ++ back) ++ mark quote ∷ []) ≡ Some (item ∷ items)
 cons_read quote item c others back items first rest =
     let end = mark quote ∷ [] in
-    let open_here : is_closing quote c (others ++ (back ++ end)) ≡ false =
-    ap (is_closing quote c) (sym (append_assoc others back end)) ∙ unclosed quote c (others ++ back) (mark quote) in
+    let open_here : is_closing_at_end quote c (others ++ (back ++ end)) ≡ false =
+    ap (is_closing_at_end quote c) (sym (append_assoc others back end))
+        ∙ unclosed quote c (others ++ back) (mark quote) in
     ap (items_to_quote quote zero) (append_assoc (c ∷ others) back end)
     ∙ one_item quote c (others ++ (back ++ end)) item (length (c ∷ others)) open_here first (omega arith)
     ∙ ap (λ (t : List ℕ). option_map (λ items. item ∷ items) (items_to_quote quote zero t))

@@ -6,9 +6,9 @@ use Rattle.saphyr_input.specs.Classes.{is_blank_or_breakz}
 use Rattle.saphyr_input.specs.Places.{words_len, TransfersWords}
 use Rattle.saphyr_scalar.specs.declared.scalar.position.Marker.{Marker}
 use Rattle.saphyr_scalar.specs.declared.reading.flow.Quote.{Quote}
-use Rattle.saphyr_scalar.specs.Cursor.{Cursor, along}
-use Rattle.saphyr_scalar.specs.Quoted.{is_literal, with_front, at, no_gap, inside, WordsMoved}
-use Rattle.saphyr_scalar.specs.Sets.{is_content}
+use Rattle.saphyr_scalar.specs.Views.Cursor.{Cursor, along}
+use Rattle.saphyr_scalar.specs.Steps.Quoted.{is_literal, with_front, at, no_gap, inside, QuotedWordsMoved}
+use Rattle.saphyr_scalar.specs.Steps.Sets.{is_content}
 use Rattle.saphyr_scalar.proofs.Moving.{along_more}
 use Rattle.saphyr_scalar.proofs.Quoted.Inside.{front_twice, content_of, stands, Piece, no_piece, one_blank, flushed}
 use Rattle.saphyr_input.proofs.Basics.Booleans.{by_test, either}
@@ -65,7 +65,7 @@ words_piece q indent start m (suc n) (c ∷ cs) l =
 
 pub words_moved : (q : Quote) (text grown : List ℕ) (n : ℕ) (s : Cursor) (left : List ℕ) (m : Marker)
     → TransfersWords (is_literal q) is_content n s.rest left text grown → m ≡ along s.mark n
-    → WordsMoved q text grown s (at m left)
+    → QuotedWordsMoved q text grown s (at m left)
 words_moved q text grown n s left m t place =
     let all = λ (indent : ℕ) (start : Marker). sym
     (ap (with_front text) (words_piece q indent start s.mark n s.rest t.within)

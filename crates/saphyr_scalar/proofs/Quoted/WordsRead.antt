@@ -9,11 +9,11 @@ use Rattle.saphyr_scalar.specs.declared.reading.folding.Item.{Item}
 use Rattle.saphyr_scalar.specs.declared.reading.folding.Item.TheVariants.{Raw, Escaped, EscapedBreak}
 use Rattle.saphyr_scalar.specs.declared.reading.flow.Quote.{Quote}
 use Rattle.saphyr_scalar.specs.declared.reading.flow.Quote.TheVariants.{Single, Double}
-use Rattle.saphyr_scalar.specs.Cursor.{◌>>=◌, along, next_line}
-use Rattle.saphyr_scalar.specs.FlowReading as flow
+use Rattle.saphyr_scalar.specs.Views.Cursor.{◌>>=◌, along, next_line}
+use Rattle.saphyr_scalar.specs.Reading.Flow as flow
 use Rattle.saphyr_scalar.specs.Passing.{IsPassed, nothing, character, line_break}
-use Rattle.saphyr_scalar.specs.Quoted.{is_literal, with_front, at, Gap, on_line, over_lines, no_gap, is_left, begin_word, end_gap, escaped_gap, break_len, is_closing, escape, inside, inside_at}
-use Rattle.saphyr_scalar.specs.QuotedSpelling as quotes
+use Rattle.saphyr_scalar.specs.Steps.Quoted.{is_literal, with_front, at, QuotedGap, on_line, over_lines, no_gap, is_left, begin_word, end_gap, escaped_gap, break_len, is_closing, escaped_character, inside, inside_at}
+use Rattle.saphyr_scalar.specs.Spelling.Quoted as quotes
 use Rattle.saphyr_scalar.proofs.Moving.{along_more}
 use Rattle.saphyr_scalar.proofs.Quoted.Inside.{behind_gap, behind_no_gap, word_from, IsContent, content_of, stands}
 use Rattle.saphyr_scalar.proofs.Quoted.Parts.{at_escape, at_two_quotes}
@@ -25,7 +25,8 @@ use Rattle.saphyr_scalar.proofs.Given.{text_at}
 use Rattle.saphyr_scalar.proofs.Quoted.IndentedLines.{Indented, GapFits, right_of}
 
 -- What was read of a spelled text.
-pub record Read (q : Quote) (indent : ℕ) (start : Marker) (gap : Gap) (m : Marker) (t : List ℕ) (items : List Item)
+pub record Read (q : Quote) (indent : ℕ) (start : Marker) (gap : QuotedGap) (m : Marker) (t : List ℕ)
+    (items : List Item)
     (x : List ℕ) : Type 0 where
   pub mark : Marker
   pub passed : IsPassed m t mark x
@@ -42,9 +43,9 @@ pub record WordRead (q : Quote) (indent : ℕ) (start m : Marker) (t : List ℕ)
   pub mark : Marker
   pub passed : IsPassed m t mark x
   pub is : inside q indent start no_gap 0 m t ≡ Ok (text, at mark x)
-  pub bytes : (gap : Gap) → gap_front gap ++ text ≡ gap_bytes gap items
+  pub bytes : (gap : QuotedGap) → gap_front gap ++ text ≡ gap_bytes gap items
 
-ends_gap : (indent : ℕ) (start : Marker) (gap : Gap) (m : Marker) (c : ℕ) (cs : List ℕ) → IsContent c
+ends_gap : (indent : ℕ) (start : Marker) (gap : QuotedGap) (m : Marker) (c : ℕ) (cs : List ℕ) → IsContent c
     → GapFits indent gap m (c ∷ cs) → end_gap indent start gap (at m (c ∷ cs)) ≡ Ok (gap_front gap)
 unfolding end_gap begin_word
 ends_gap indent start (on_line bytes) m c cs is fits = rw is.nul refl
@@ -64,7 +65,7 @@ ends_gap indent start (over_lines escaped n) m c cs is fits =
     no_marker true h = fits.marker (zero_is m.col h)
     no_marker false h = refl
 
-pub with_gap : (q : Quote) (indent : ℕ) (start : Marker) (gap : Gap) (m : Marker) (t : List ℕ) (items : List Item)
+pub with_gap : (q : Quote) (indent : ℕ) (start : Marker) (gap : QuotedGap) (m : Marker) (t : List ℕ) (items : List Item)
     (x : List ℕ) → GapFits indent gap m t → WordRead q indent start m t items x → Read q indent start gap m t items x
 with_gap q indent start gap m t items x fits w =
     let c = w.first in
@@ -154,7 +155,7 @@ two_quotes_read indent start m t items x r = record {
 
 -- an escape, and what is read behind it
 pub escape_read : (indent : ℕ) (start m : Marker) (e c : ℕ) (t : List ℕ) (items : List Item) (x rest : List ℕ) (k : ℕ)
-    → is_break e ≡ false → escape start (at m (92 ∷ e ∷ t)) ≡ Ok (c, at (along m k) rest)
+    → is_break e ≡ false → escaped_character start (at m (92 ∷ e ∷ t)) ≡ Ok (c, at (along m k) rest)
     → (r : Read Double indent start no_gap (along m k) rest items x) → IsPassed m (92 ∷ e ∷ t) r.mark x
     → WordRead Double indent start m (92 ∷ e ∷ t) (Escaped c ∷ items) x
 escape_read indent start m e c t items x rest k no_break h r passed = record {

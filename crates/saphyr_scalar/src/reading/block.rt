@@ -4,8 +4,8 @@ ghost use Rattle.std.specs.Prelude.{List, true, ◌≡◌, ◌++◌, ◌==◌, I
 ghost use Rattle.std.specs.List.{list_all};
 ghost use Rattle.saphyr_input.specs.Breaks.{normalized};
 ghost use Rattle.saphyr_input.specs.Classes.{line_feed, space};
-ghost use Rattle.saphyr_scalar.specs.BlockReading as spec;
-ghost use Rattle.saphyr_scalar.specs.Lines.{HasNoBreak, IsFirstLine};
+ghost use Rattle.saphyr_scalar.specs.Reading.Block as spec;
+ghost use Rattle.saphyr_scalar.specs.Reading.Lines.{HasNoBreak, IsFirstLine};
 
 use crate::reading::characters::{normalized_characters_of, text_of};
 use crate::reading::folding::{push_line_feeds, push_raw_break};

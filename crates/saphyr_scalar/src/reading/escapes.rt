@@ -1,7 +1,7 @@
 //! The escapes of double quoted scalars (YAML 1.2.2, 5.7).
 
 ghost use Rattle.std.specs.Prelude.{◌≡◌, ◌≤◌, IfSome, length};
-ghost use Rattle.saphyr_scalar.specs.Escapes as spec;
+ghost use Rattle.saphyr_scalar.specs.Reading.Escapes as spec;
 
 use crate::reading::folding::Item;
 use saphyr_input::char_traits::{as_hex, is_hex};

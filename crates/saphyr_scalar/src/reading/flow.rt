@@ -2,8 +2,8 @@
 
 ghost use Rattle.std.specs.Prelude.{◌≡◌, ℕ, ◌↔◌, List, ◌+◌, ◌<◌, ◌≤◌, IfOk, IfSome, Some, chars, map, option_map, length, string_bytes, encode_utf8_all};
 ghost use Rattle.saphyr_input.specs.Breaks.{normalized};
-ghost use Rattle.saphyr_scalar.specs.FlowReading as spec;
-ghost use Rattle.saphyr_scalar.specs.Spelling.{IsSpelledQuote};
+ghost use Rattle.saphyr_scalar.specs.Reading.Flow as spec;
+ghost use Rattle.saphyr_scalar.specs.Spelling.Items.{IsSpelledQuote};
 
 use crate::reading::characters::normalized_characters_of;
 use crate::reading::escapes::escape;
@@ -99,7 +99,7 @@ fn first_item(quote: Quote, text: &[char]) -> Option<(Item, usize)>
 
 // Whether the character is the closing quote, at the text's end.
 fn is_closing(quote: Quote, c: char, others: &[char]) -> bool
-    ensures { result ≡ spec.is_closing quote c others.now }
+    ensures { result ≡ spec.is_closing_at_end quote c others.now }
 {
     others.is_empty() && c == quote.mark()
 }

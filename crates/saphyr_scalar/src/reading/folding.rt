@@ -1,7 +1,7 @@
 //! Line folding in flow scalars (YAML 1.2.2, 6.5).
 
 ghost use Rattle.std.specs.Prelude.{◌≡◌, ℕ, List, ◌++◌, IfOk, OnOk, string_bytes, encode_utf8_all};
-ghost use Rattle.saphyr_scalar.specs.Folding as spec;
+ghost use Rattle.saphyr_scalar.specs.Reading.Folding as spec;
 
 use crate::reading::characters::text_of;
 use std::alloc::{AllocError, Global};

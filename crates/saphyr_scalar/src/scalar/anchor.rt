@@ -2,8 +2,8 @@
 
 ghost use Rattle.std.specs.Prelude.{◌≡◌, ℕ, ◌<◌, List, length, string_bytes, Ok, refl};
 ghost use Rattle.saphyr_input.specs.Classes as class;
-ghost use Rattle.saphyr_scalar.specs.Anchor as spec;
-ghost use Rattle.saphyr_scalar.specs.Quoted as run;
+ghost use Rattle.saphyr_scalar.specs.Steps.Anchor as spec;
+ghost use Rattle.saphyr_scalar.specs.Steps.Quoted as run;
 
 use crate::scalar::fault::{FaultText, Refusal, Stop};
 use crate::scalar::reader::Reader;
@@ -30,7 +30,7 @@ impl CharSet for AnchorSet {
 }
 
 impl<T: Input> Reader<T> {
-    ghost use Rattle.saphyr_scalar.specs.Seen.{state, Moves};
+    ghost use Rattle.saphyr_scalar.specs.Views.Reader.{state, Moves};
 
     // Moves the characters of a name to the end of a text.
     #[tactic(auto, using(crate::proofs::Lengths::run_within))]
@@ -48,7 +48,7 @@ impl<T: Input> Reader<T> {
     /// gives its name.
     ///
     /// A name without characters is refused at the indicator.
-    #[tactic(auto, unfolding(crate::specs::Anchor::anchor, crate::specs::Anchor::name_of))]
+    #[tactic(auto, unfolding(crate::specs::Steps::Anchor::anchor, crate::specs::Steps::Anchor::anchor_name_of))]
     pub fn read_anchor(&mut self, alloc: Global) -> Result<String, Stop>
         requires { 0 < length (state self.old).rest }
         ensures { Moves (λ name. (string_bytes name, state self.new)) result

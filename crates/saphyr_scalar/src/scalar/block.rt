@@ -6,7 +6,7 @@ mod law;
 mod lines;
 
 ghost use Rattle.std.specs.Prelude.{◌≡◌, ◌<◌, ◌≤◌, length, string_bytes, IfOk, None, encode_utf8_all};
-ghost use Rattle.saphyr_scalar.specs.BlockScalar as spec;
+ghost use Rattle.saphyr_scalar.specs.Steps.Block as spec;
 
 use crate::reading::{BlockStyle, Chomping};
 use crate::scalar::block::breaks::{push_line_feeds, push_tail};
@@ -31,10 +31,10 @@ pub struct BlockScalar {
 }
 
 impl<T: Input> Reader<T> {
-    ghost use Rattle.saphyr_scalar.specs.Seen.{state, Moves};
+    ghost use Rattle.saphyr_scalar.specs.Views.Reader.{state, Moves};
 
     // Whether the text's end or a NUL cuts the last line behind its indentation.
-    #[tactic(auto, unfolding(crate::specs::BlockScalar::is_unfinished))]
+    #[tactic(auto, unfolding(crate::specs::Steps::Block::is_unfinished))]
     fn is_unfinished(&mut self, indentation: usize) -> bool
         ensures value { result ≡ spec.is_unfinished indentation (state self.old) }
         ensures same { state self.new ≡ state self.old }
@@ -43,7 +43,7 @@ impl<T: Input> Reader<T> {
     }
 
     // The text of a scalar without content that the text's end or a NUL ends.
-    #[tactic(auto, unfolding(crate::specs::BlockScalar::tail_alone))]
+    #[tactic(auto, unfolding(crate::specs::Steps::Block::tail_alone))]
     fn text_without_content(
         &self,
         alloc: Global,
@@ -76,7 +76,7 @@ impl<T: Input> Reader<T> {
     ) -> Result<BlockScalar, Stop>
         requires { leading ≤ (state self.old).mark.index }
         ensures { Moves (λ scalar. (string_bytes scalar.text, scalar.span, state self.new)) result
-            (spec.chomped chomping indentation (state self.old).mark
+            (spec.chomped_lines chomping indentation (state self.old).mark
             (spec.between_at style indentation None leading (state self.old))) }
     {
         let start = self.mark;
@@ -91,7 +91,7 @@ impl<T: Input> Reader<T> {
     }
 
     // Takes off what stands behind the leading empty lines.
-    #[tactic(auto, unfolding(crate::specs::BlockScalar::content))]
+    #[tactic(auto, unfolding(crate::specs::Steps::Block::content))]
     fn read_block_content(
         &mut self,
         alloc: Global,
@@ -122,7 +122,7 @@ impl<T: Input> Reader<T> {
     /// and a tab right behind it, each at the header's start; a comment without white space before
     /// it, a byte order mark in the header's line, and a first content line right of the enclosing
     /// collection and left of the indentation, each where it stands.
-    #[tactic(auto, unfolding(crate::specs::BlockScalar::block_scalar, crate::specs::BlockScalar::behind_header, crate::specs::BlockScalar::behind_leading))]
+    #[tactic(auto, unfolding(crate::specs::Steps::Block::block_scalar, crate::specs::Steps::Block::behind_header, crate::specs::Steps::Block::behind_leading_lines))]
     pub fn read_block_scalar(
         &mut self,
         alloc: Global,

@@ -4,7 +4,7 @@
 ghost use Rattle.std.specs.Prelude.{List, ℕ};
 ghost use Rattle.saphyr_input.specs.Breaks.{normalized};
 ghost use Rattle.saphyr_scalar.specs.Alike.{AreAlike, ReadsAlike};
-ghost use Rattle.saphyr_scalar.specs.Cursor.{Cursor, fresh};
+ghost use Rattle.saphyr_scalar.specs.Views.Cursor.{Cursor, fresh};
 
 /// Line breaks of all three kinds are read alike: a text and its normalized text begin at places
 /// that stand for one another, and at such places each reader gives the same of both, or refuses

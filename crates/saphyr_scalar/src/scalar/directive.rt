@@ -1,8 +1,8 @@
 //! Directives, taken off a text to the ends of their lines (YAML 1.2.2, 6.8).
 
 ghost use Rattle.std.specs.Prelude.{◌≡◌, ℕ, ◌<◌, List, [], length, slice_index, string_bytes, Ok};
-ghost use Rattle.saphyr_scalar.specs.Directive as spec;
-ghost use Rattle.saphyr_scalar.specs.Quoted as run;
+ghost use Rattle.saphyr_scalar.specs.Steps.Directive as spec;
+ghost use Rattle.saphyr_scalar.specs.Steps.Quoted as run;
 
 use crate::scalar::fault::{FaultText, Refusal, Stop};
 use crate::scalar::position::Marker;
@@ -31,19 +31,19 @@ pub struct DirectiveLine {
 }
 
 impl<T: Input> Reader<T> {
-    ghost use Rattle.saphyr_scalar.specs.Seen.{state, Gives, Moves};
+    ghost use Rattle.saphyr_scalar.specs.Views.Reader.{state, Gives, Moves};
 
     // Takes blanks off.
     #[tactic(auto, using(crate::proofs::Lengths::run_within))]
     fn skip_blanks(&mut self)
-        ensures { state self.new ≡ spec.behind_blanks (state self.old) }
+        ensures { state self.new ≡ spec.pass_all_blanks (state self.old) }
     {
         let count = self.input.skip_while_blank();
         self.mark = self.mark.along(count);
     }
 
     // Takes off the name of a directive.
-    #[tactic(auto, using(crate::proofs::Lengths::run_within), unfolding(crate::specs::Directive::name, crate::specs::Directive::name_of))]
+    #[tactic(auto, using(crate::proofs::Lengths::run_within), unfolding(crate::specs::Steps::Directive::name, crate::specs::Steps::Directive::directive_name_of))]
     fn read_directive_name(&mut self, alloc: Global) -> Result<String, Stop>
         ensures { Moves (λ name. (string_bytes name, state self.new)) result
             (spec.name (state self.old)) }
@@ -69,7 +69,7 @@ impl<T: Input> Reader<T> {
     }
 
     // Takes off a number of one to nine digits.
-    #[tactic(auto, unfolding(crate::specs::Directive::number_from, crate::specs::Directive::number_end))]
+    #[tactic(auto, unfolding(crate::specs::Steps::Directive::number_from, crate::specs::Steps::Directive::number_end))]
     fn read_version_number(&mut self, start: Marker) -> Result<u32, Refusal>
         ensures { Gives (λ v. (v, state self.new)) result (spec.number start (state self.old)) }
     {
@@ -99,7 +99,7 @@ impl<T: Input> Reader<T> {
     }
 
     // Takes off the numbers of a version directive (YAML 1.2.2, 6.8.1).
-    #[tactic(auto, unfolding(crate::specs::Directive::version_directive, crate::specs::Directive::behind_major))]
+    #[tactic(auto, unfolding(crate::specs::Steps::Directive::version_directive, crate::specs::Steps::Directive::behind_major))]
     fn read_version_directive(&mut self, start: Marker) -> Result<Directive, Refusal>
         ensures { Gives (λ d. (spec.directive_of d, state self.new)) result
             (spec.version_directive start (state self.old)) }
@@ -118,7 +118,7 @@ impl<T: Input> Reader<T> {
     }
 
     // Takes off the handle of a tag directive: `!`, `!!` or `!word!`.
-    #[tactic(auto, unfolding(crate::specs::Directive::handle, crate::specs::Directive::behind_word))]
+    #[tactic(auto, unfolding(crate::specs::Steps::Directive::handle, crate::specs::Steps::Directive::handle_behind_word))]
     fn read_directive_handle(&mut self, alloc: Global, start: Marker) -> Result<String, Stop>
         ensures { Moves (λ handle. (string_bytes handle, state self.new)) result
             (spec.handle start (state self.old)) }
@@ -146,7 +146,7 @@ impl<T: Input> Reader<T> {
     }
 
     // Takes off the prefix of a tag directive, with its escapes resolved.
-    #[tactic(auto, using(crate::proofs::Directives::Numbers::prefix_left), unfolding(crate::specs::Directive::prefix))]
+    #[tactic(auto, using(crate::proofs::Directives::Numbers::prefix_left), unfolding(crate::specs::Steps::Directive::prefix))]
     fn read_tag_prefix(&mut self, alloc: Global, start: Marker) -> Result<String, Stop>
         ensures { Moves (λ prefix. (string_bytes prefix, state self.new)) result
             (spec.prefix start (state self.old)) }
@@ -166,7 +166,7 @@ impl<T: Input> Reader<T> {
     }
 
     // Takes off the handle and the prefix of a tag directive (YAML 1.2.2, 6.8.2).
-    #[tactic(auto, unfolding(crate::specs::Directive::tag_directive, crate::specs::Directive::behind_prefix))]
+    #[tactic(auto, unfolding(crate::specs::Steps::Directive::tag_directive, crate::specs::Steps::Directive::behind_prefix))]
     fn read_tag_directive(&mut self, alloc: Global, start: Marker) -> Result<Directive, Stop>
         ensures { Moves (λ d. (spec.directive_of d, state self.new)) result
             (spec.tag_directive start (state self.old)) }
@@ -185,7 +185,7 @@ impl<T: Input> Reader<T> {
     }
 
     // Takes off what follows the name of a directive. The parameters of a reserved directive are passed.
-    #[tactic(auto, unfolding(crate::specs::Directive::value))]
+    #[tactic(auto, unfolding(crate::specs::Steps::Directive::value))]
     fn read_directive_value(
         &mut self,
         alloc: Global,
@@ -206,7 +206,7 @@ impl<T: Input> Reader<T> {
     }
 
     // Takes off the blanks, the comment and the break behind a directive.
-    #[tactic(auto, unfolding(crate::specs::Directive::line_end))]
+    #[tactic(auto, unfolding(crate::specs::Steps::Directive::line_end))]
     fn end_directive_line(&mut self, start: Marker) -> Result<(), Refusal>
         ensures { Gives (λ _. state self.new) result (spec.line_end start (state self.old)) }
     {
@@ -230,7 +230,7 @@ impl<T: Input> Reader<T> {
     /// without digits or with more than nine, no dot between the two, a handle without its last
     /// `!`, a prefix that begins with no character of tags, a percent escape that is no UTF-8, and
     /// content behind the directive. The parameters of a reserved directive are passed over.
-    #[tactic(auto, unfolding(crate::specs::Directive::directive))]
+    #[tactic(auto, unfolding(crate::specs::Steps::Directive::directive))]
     pub fn read_directive(&mut self, alloc: Global) -> Result<DirectiveLine, Stop>
         requires { slice_index (state self.old).rest 0 ≡ 37 }
         ensures { Moves (λ line. (spec.directive_of line.directive, line.end, state self.new))

@@ -3,10 +3,10 @@
 
 ghost use Rattle.std.specs.Prelude.{◌≡◌, ℕ, ◌+◌, true, List, ◌++◌, length, Ok, encode_utf8_all, slice_index};
 ghost use Rattle.saphyr_input.specs.Classes.{is_breakz};
-ghost use Rattle.saphyr_scalar.specs.Cursor.{Cursor, along, pass_break};
-ghost use Rattle.saphyr_scalar.specs.Directive.{Directive, reserved, directive};
-ghost use Rattle.saphyr_scalar.specs.DirectiveSpelling.{IsDirectiveText, IsReservedDirective, IsReadDirective, IsLineTail};
-ghost use Rattle.saphyr_scalar.specs.Quoted.{at};
+ghost use Rattle.saphyr_scalar.specs.Views.Cursor.{Cursor, along, pass_break};
+ghost use Rattle.saphyr_scalar.specs.Steps.Directive.{Directive, reserved, directive};
+ghost use Rattle.saphyr_scalar.specs.Spelling.Directive.{IsDirectiveText, IsReservedDirective, IsReadDirective, IsLineTail};
+ghost use Rattle.saphyr_scalar.specs.Steps.Quoted.{at};
 ghost use Rattle.saphyr_scalar.specs.declared.scalar.position.Marker.{Marker};
 
 /// Where a version directive or a tag directive is spelled, and behind it blanks, a comment and a

@@ -1,7 +1,7 @@
 //! The escapes of double quoted scalars, taken off a text (YAML 1.2.2, 5.7).
 
 ghost use Rattle.std.specs.Prelude.{◌≡◌, ◌≤◌, slice_index};
-ghost use Rattle.saphyr_scalar.specs.Quoted as spec;
+ghost use Rattle.saphyr_scalar.specs.Steps.Quoted as spec;
 
 use crate::scalar::fault::{FaultText, Refusal};
 use crate::scalar::position::Marker;
@@ -10,7 +10,7 @@ use saphyr_input::char_traits::{as_hex, is_hex};
 use saphyr_input::input::Input;
 
 // What an escape of one letter stands for.
-#[tactic(auto, unfolding(crate::specs::Quoted::simple_escape))]
+#[tactic(auto, unfolding(crate::specs::Steps::Quoted::simple_escape))]
 fn simple_escape(letter: char) -> Option<char>
     ensures { result ≡ spec.simple_escape letter }
 {
@@ -38,7 +38,7 @@ fn simple_escape(letter: char) -> Option<char>
 
 // How many hexadecimal digits follow the letter of an escape.
 fn digit_count(letter: char) -> usize
-    ensures { result ≡ spec.digit_count letter }
+    ensures { result ≡ spec.hex_digit_count letter }
 {
     match letter {
         'x' => 2,
@@ -49,7 +49,7 @@ fn digit_count(letter: char) -> usize
 }
 
 impl<T: Input> Reader<T> {
-    ghost use Rattle.saphyr_scalar.specs.Seen.{state, Gives};
+    ghost use Rattle.saphyr_scalar.specs.Views.Reader.{state, Gives};
 
     // Takes off so many hexadecimal digits, and gives what they stand for.
     #[tactic(auto, using(crate::proofs::Quoted::Escapes::digits_stop))]
@@ -74,10 +74,11 @@ impl<T: Input> Reader<T> {
     }
 
     // Takes an escape off, from its backslash on, and gives the character that it stands for.
-    #[tactic(auto, using(crate::proofs::Quoted::Escapes::letter_left, crate::proofs::Quoted::Escapes::digits_left, crate::proofs::Quoted::Escapes::count_small), unfolding(crate::specs::Quoted::escape, crate::specs::Quoted::escape_of, crate::specs::Quoted::numbered, crate::specs::Quoted::character))]
+    #[tactic(auto, using(crate::proofs::Quoted::Escapes::letter_left, crate::proofs::Quoted::Escapes::digits_left, crate::proofs::Quoted::Escapes::count_small), unfolding(crate::specs::Steps::Quoted::escaped_character, crate::specs::Steps::Quoted::escape_of, crate::specs::Steps::Quoted::numbered, crate::specs::Steps::Quoted::character))]
     pub(crate) fn read_escape(&mut self, start: Marker) -> Result<char, Refusal>
         requires { slice_index (state self.old).rest 0 ≡ 92 }
-        ensures { Gives (λ c. (c, state self.new)) result (spec.escape start (state self.old)) }
+        ensures { Gives (λ c. (c, state self.new)) result
+            (spec.escaped_character start (state self.old)) }
     {
         self.load(2);
         let letter = self.input.peek_nth(1);

@@ -9,25 +9,25 @@ ghost use Rattle.saphyr_input.specs.Places.{is_blank_or_break};
 ghost use Rattle.saphyr_scalar.specs.declared.scalar.position.Marker.{Marker};
 ghost use Rattle.saphyr_scalar.specs.declared.reading.block.BlockStyle.{BlockStyle};
 ghost use Rattle.saphyr_scalar.specs.declared.scalar.position.Span.{Span};
-ghost use Rattle.saphyr_scalar.specs.Anchor.{anchor};
-ghost use Rattle.saphyr_scalar.specs.BlockScalar.{block_scalar};
-ghost use Rattle.saphyr_scalar.specs.Directive.{Directive, directive};
-ghost use Rattle.saphyr_scalar.specs.Tag.{tag};
-ghost use Rattle.saphyr_scalar.specs.Cursor.{Cursor, along};
-ghost use Rattle.saphyr_scalar.specs.Escapes as escapes;
-ghost use Rattle.saphyr_scalar.specs.Quoted.{double_quoted, quoted, at, simple_escape, digit_count, is_scalar};
-ghost use Rattle.saphyr_scalar.specs.QuotedSpelling.{IsQuotedText};
-ghost use Rattle.saphyr_scalar.specs.FlowReading as flow;
-ghost use Rattle.saphyr_scalar.specs.FlowReading.{plain_value};
-ghost use Rattle.saphyr_scalar.specs.QuotedLines.{AreOnLine, LinesFit};
-ghost use Rattle.saphyr_scalar.specs.QuotedMarkers.{HasNoMarker};
+ghost use Rattle.saphyr_scalar.specs.Steps.Anchor.{anchor};
+ghost use Rattle.saphyr_scalar.specs.Steps.Block.{block_scalar};
+ghost use Rattle.saphyr_scalar.specs.Steps.Directive.{Directive, directive};
+ghost use Rattle.saphyr_scalar.specs.Steps.Tag.{tag};
+ghost use Rattle.saphyr_scalar.specs.Views.Cursor.{Cursor, along};
+ghost use Rattle.saphyr_scalar.specs.Reading.Escapes as escapes;
+ghost use Rattle.saphyr_scalar.specs.Steps.Quoted.{double_quoted, quoted, at, simple_escape, hex_digit_count, is_scalar};
+ghost use Rattle.saphyr_scalar.specs.Spelling.Quoted.{IsQuotedText};
+ghost use Rattle.saphyr_scalar.specs.Reading.Flow as flow;
+ghost use Rattle.saphyr_scalar.specs.Reading.Flow.{plain_value};
+ghost use Rattle.saphyr_scalar.specs.Spelling.QuotedLines.{AreOnLine, LinesFit};
+ghost use Rattle.saphyr_scalar.specs.Spelling.QuotedMarkers.{HasNoMarker};
 ghost use Rattle.saphyr_scalar.specs.Passing.{IsPassed};
 ghost use Rattle.saphyr_input.specs.Breaks.{normalized};
-ghost use Rattle.saphyr_scalar.specs.Folding.{folded};
-ghost use Rattle.saphyr_scalar.specs.LineSpelling.{IsDoubleQuoted};
-ghost use Rattle.saphyr_scalar.specs.Plain.{in_word, plain, comment_of};
-ghost use Rattle.saphyr_scalar.specs.PlainReading.{IsPlainReading, passed};
-ghost use Rattle.saphyr_scalar.specs.PlainSpelling.{IsPlainWord, EndsPlain, IsPlainText, is_tabbed, past_white};
+ghost use Rattle.saphyr_scalar.specs.Reading.Folding.{folded};
+ghost use Rattle.saphyr_scalar.specs.Spelling.OneLine.{IsDoubleQuoted};
+ghost use Rattle.saphyr_scalar.specs.Steps.Plain.{in_word, plain, comment_of};
+ghost use Rattle.saphyr_scalar.specs.Reading.Plain.{IsPlainReading, passed};
+ghost use Rattle.saphyr_scalar.specs.Spelling.Plain.{IsPlainWord, EndsPlain, IsPlainText, is_tabbed, past_white};
 
 use crate::reading::{Item, Quote};
 use crate::scalar::position::Marker;
@@ -76,7 +76,7 @@ pub fn spells_each_quoted()
 /// follow one, and which numbers are characters.
 pub fn reads_the_table_of_escapes()
     ensures names { (name : ℕ) → simple_escape name ≡ escapes.short_escape name }
-    ensures digits { (name count : ℕ) → count ≡ digit_count name → 0 < count
+    ensures digits { (name count : ℕ) → count ≡ hex_digit_count name → 0 < count
         → escapes.digit_count name ≡ Some count }
     ensures characters { (number : ℕ) → is_scalar number ≡ true
         → escapes.is_scalar_value number ≡ true }

@@ -2,9 +2,9 @@
 
 ghost use Rattle.std.specs.Prelude.{◌≡◌, ℕ, ◌<◌, ◌≤◌, List, ◌++◌, length, slice_index, string_bytes, IfOk, OnOk, false, true, refl, if◌then◌else◌};
 ghost use Rattle.saphyr_input.specs.Places.{is_blank_or_break, TransfersWords};
-ghost use Rattle.saphyr_scalar.specs.Cursor as cursor;
-ghost use Rattle.saphyr_scalar.specs.Plain as spec;
-ghost use Rattle.saphyr_scalar.specs.Sets as sets;
+ghost use Rattle.saphyr_scalar.specs.Views.Cursor as cursor;
+ghost use Rattle.saphyr_scalar.specs.Steps.Plain as spec;
+ghost use Rattle.saphyr_scalar.specs.Steps.Sets as sets;
 
 use crate::scalar::fault::{FaultText, Refusal, Stop};
 use crate::scalar::position::Marker;
@@ -105,11 +105,11 @@ fn push_gap(text: &mut String, over_lines: bool, gap: &str) -> Result<(), AllocE
 }
 
 impl<T: Input> Reader<T> {
-    ghost use Rattle.saphyr_scalar.specs.Seen.{state, loaded, Gives, Moves};
+    ghost use Rattle.saphyr_scalar.specs.Views.Reader.{state, loaded, Gives, Moves};
 
     // Whether a word of a plain scalar begins here.
     #[inline(always)]
-    #[tactic(auto, unfolding(crate::specs::Plain::word_starts))]
+    #[tactic(auto, unfolding(crate::specs::Steps::Plain::word_starts))]
     fn plain_word_starts(&mut self, in_flow: bool) -> Result<bool, Refusal>
         ensures { Gives (λ starts. (starts, state self.new)) result
             (spec.word_starts in_flow (state self.old)) }
@@ -130,7 +130,7 @@ impl<T: Input> Reader<T> {
 
     // Whether a word goes on with c, the first character.
     #[inline(always)]
-    #[tactic(auto, unfolding(crate::specs::Plain::in_word))]
+    #[tactic(auto, unfolding(crate::specs::Steps::Plain::in_word))]
     fn is_in_plain_word(&mut self, c: char, in_flow: bool) -> bool
         requires first { c ≡ slice_index (state self.old).rest 0 }
         requires loaded { 1 ≤ loaded self.old }
@@ -165,7 +165,7 @@ impl<T: Input> Reader<T> {
     // Moves the rest of a word to the end of a text, and words behind it before each of which a
     // single space stands.
     fn read_plain_words(&mut self, in_flow: bool, text: &mut String) -> Result<(), AllocError>
-        ensures { OnOk result (spec.WordsMoved in_flow (string_bytes text.old)
+        ensures { OnOk result (spec.PlainWordsMoved in_flow (string_bytes text.old)
             (string_bytes text.new) (state self.old) (state self.new)) }
     {
         let mut count = 0;
@@ -186,7 +186,7 @@ impl<T: Input> Reader<T> {
 
     // Whether the content of a line, behind its blanks, may stand there: where a tab stands in the
     // indentation, only a comment may.
-    #[tactic(auto, unfolding(crate::specs::Plain::may_stand))]
+    #[tactic(auto, unfolding(crate::specs::Steps::Plain::may_stand))]
     fn check_plain_tab(&mut self, start: Marker, tabbed: bool) -> Result<(), Refusal>
         ensures { Gives (λ _. state self.new) result (spec.may_stand start tabbed (state self.old)) }
     {
@@ -211,7 +211,7 @@ impl<T: Input> Reader<T> {
 
     // Takes off a blank or a break of the lines behind a word, with a line feed for the break at
     // the end of a text. Gives whether a tab stands in the indentation of the line that is reached.
-    #[tactic(auto, using(crate::proofs::Plain::Lines::some_blank), unfolding(crate::specs::Plain::pass_white))]
+    #[tactic(auto, using(crate::proofs::Plain::Lines::some_blank), unfolding(crate::specs::Steps::Plain::pass_white))]
     fn skip_plain_white(
         &mut self,
         indent: usize,
@@ -268,7 +268,7 @@ impl<T: Input> Reader<T> {
     // feed for each empty line. Gives whether a tab stands in the indentation of the line that is
     // reached.
     #[inline]
-    #[tactic(auto, unfolding(crate::specs::Plain::gap, crate::specs::Plain::gap_from))]
+    #[tactic(auto, unfolding(crate::specs::Steps::Plain::gap, crate::specs::Steps::Plain::gap_from))]
     fn read_plain_gap(
         &mut self,
         indent: usize,
@@ -295,7 +295,7 @@ impl<T: Input> Reader<T> {
 
     // Whether another word of a plain scalar begins behind a gap.
     #[inline(always)]
-    #[tactic(auto, unfolding(crate::specs::Plain::goes_on))]
+    #[tactic(auto, unfolding(crate::specs::Steps::Plain::goes_on))]
     fn plain_goes_on(&mut self, in_flow: bool, indent: usize) -> Result<bool, Refusal>
         ensures { Gives (λ goes_on. (goes_on, state self.new)) result
             (spec.goes_on in_flow indent (state self.old)) }
@@ -308,7 +308,7 @@ impl<T: Input> Reader<T> {
 
     // The comment behind a scalar that keeps it from going on in the next line.
     #[inline(always)]
-    #[tactic(auto, unfolding(crate::specs::Plain::comment_of))]
+    #[tactic(auto, unfolding(crate::specs::Steps::Plain::comment_of))]
     fn plain_comment(&mut self, in_flow: bool, tabbed: bool) -> Option<Marker>
         ensures value { result ≡ spec.comment_of in_flow tabbed (state self.old) }
         ensures same { state self.new ≡ state self.old }
@@ -323,7 +323,7 @@ impl<T: Input> Reader<T> {
     /// Refuses content inside flow that begins left of `indent`, the first column to the right of
     /// the enclosing block collection (YAML 1.2.2, 7.4): what the caller asks before
     /// [`read_plain`](Reader::read_plain).
-    #[tactic(auto, unfolding(crate::specs::Plain::flow_indented))]
+    #[tactic(auto, unfolding(crate::specs::Steps::Plain::flow_indented))]
     pub fn check_flow_indentation(&self, indent: usize) -> Result<(), Refusal>
         ensures { Gives (λ _. state self.now) result (spec.flow_indented indent (state self.now)) }
     {

@@ -1,7 +1,7 @@
 //! Places of a text, by which tokens, events and faults say where they stand.
 
 ghost use Rattle.std.specs.Prelude.{◌≡◌, ◌+◌, ◌-◌, ◌<◌, ◌≤◌, ◌^◌, ◌==◌};
-ghost use Rattle.saphyr_scalar.specs.Cursor as spec;
+ghost use Rattle.saphyr_scalar.specs.Views.Cursor as spec;
 
 /// A place in a text.
 ///

@@ -3,11 +3,11 @@
 
 ghost use Rattle.std.specs.Prelude.{◌≡◌, ℕ, ◌+◌, ◌<◌, Bool, false, List, ◌∷◌, ◌++◌, length, Ok, encode_utf8_all, slice_index};
 ghost use Rattle.saphyr_input.specs.Classes.{is_anchor_char};
-ghost use Rattle.saphyr_scalar.specs.Cursor.{Cursor, along};
-ghost use Rattle.saphyr_scalar.specs.Quoted.{at};
-ghost use Rattle.saphyr_scalar.specs.Anchor.{anchor};
-ghost use Rattle.saphyr_scalar.specs.Tag.{tag};
-ghost use Rattle.saphyr_scalar.specs.TagSpelling.{IsAnchorName, IsTagText, EndsTag};
+ghost use Rattle.saphyr_scalar.specs.Views.Cursor.{Cursor, along};
+ghost use Rattle.saphyr_scalar.specs.Steps.Quoted.{at};
+ghost use Rattle.saphyr_scalar.specs.Steps.Anchor.{anchor};
+ghost use Rattle.saphyr_scalar.specs.Steps.Tag.{tag};
+ghost use Rattle.saphyr_scalar.specs.Spelling.Tag.{IsAnchorName, IsTagText, EndsTag};
 
 /// Where an anchor or an alias is spelled behind its indicator, its name is read, without a fault.
 pub fn reads_each_anchor()

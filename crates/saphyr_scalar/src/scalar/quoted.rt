@@ -4,10 +4,10 @@
 ghost use Rattle.std.specs.Prelude.{◌≡◌, ℕ, Bool, true, false, ◌==◌, ◌++◌, ◌<◌, ◌≤◌, length, slice_index, string_bytes, encode_utf8_all, Ok, IfOk, OnOk, IsTrue, if◌then◌else◌};
 ghost use Rattle.saphyr_input.specs.Classes as class;
 ghost use Rattle.saphyr_input.specs.Places.{TransfersWords};
-ghost use Rattle.saphyr_scalar.specs.Cursor as cursor;
-ghost use Rattle.saphyr_scalar.specs.Quoted as spec;
-ghost use Rattle.saphyr_scalar.specs.FlowReading as flow;
-ghost use Rattle.saphyr_scalar.specs.Sets as sets;
+ghost use Rattle.saphyr_scalar.specs.Views.Cursor as cursor;
+ghost use Rattle.saphyr_scalar.specs.Steps.Quoted as spec;
+ghost use Rattle.saphyr_scalar.specs.Reading.Flow as flow;
+ghost use Rattle.saphyr_scalar.specs.Steps.Sets as sets;
 
 use crate::reading::Quote;
 use crate::scalar::fault::{FaultText, Refusal, Stop};
@@ -20,7 +20,7 @@ use std::alloc::{AllocError, Global};
 
 // Whether a character between the quotes stands for itself and is no blank.
 #[inline]
-#[tactic(auto, unfolding(crate::specs::Quoted::is_literal))]
+#[tactic(auto, unfolding(crate::specs::Steps::Quoted::is_literal))]
 fn is_literal(quote: Quote, c: char) -> bool
     ensures { result ≡ spec.is_literal quote c }
 {
@@ -43,7 +43,7 @@ impl CharSet for InSingle {
         is_literal(Quote::Single, c)
     }
 
-    #[tactic(auto, unfolding(crate::specs::Quoted::is_literal))]
+    #[tactic(auto, unfolding(crate::specs::Steps::Quoted::is_literal))]
     fn has_ascii(byte: u8) -> bool {
         if byte > b'\'' {
             byte < 0x80
@@ -73,7 +73,7 @@ impl CharSet for InDouble {
         is_literal(Quote::Double, c)
     }
 
-    #[tactic(auto, unfolding(crate::specs::Quoted::is_literal))]
+    #[tactic(auto, unfolding(crate::specs::Steps::Quoted::is_literal))]
     fn has_ascii(byte: u8) -> bool {
         if byte > b'\\' {
             byte < 0x80
@@ -106,7 +106,7 @@ fn push_folded_break(text: &mut String, escaped: bool, empty_lines: usize) -> Re
 }
 
 impl<T: Input> Reader<T> {
-    ghost use Rattle.saphyr_scalar.specs.Seen.{state, Gives, Moves, ReadsOn};
+    ghost use Rattle.saphyr_scalar.specs.Views.Reader.{state, Gives, Moves, ReadsOn};
 
     // Moves words, and single spaces between them, to the end of a text, and gives how many
     // characters. The place stays.
@@ -127,7 +127,8 @@ impl<T: Input> Reader<T> {
     // for itself.
     #[inline(always)]
     fn read_literal_words(&mut self, quote: Quote, text: &mut String) -> Result<(), AllocError>
-        ensures { OnOk result (spec.WordsMoved quote (string_bytes text.old) (string_bytes text.new)
+        ensures { OnOk result
+            (spec.QuotedWordsMoved quote (string_bytes text.old) (string_bytes text.new)
             (state self.old) (state self.new)) }
     {
         // Behind an escape mostly stands another, or the closing quote: to look is cheaper than to
@@ -161,7 +162,7 @@ impl<T: Input> Reader<T> {
     }
 
     // Takes off an escape, or a quote that two single ones stand for, if one is next.
-    #[tactic(auto, unfolding(crate::specs::Quoted::special))]
+    #[tactic(auto, unfolding(crate::specs::Steps::Quoted::special))]
     fn read_quoted_special(&mut self, quote: Quote, start: Marker) -> Result<Option<char>, Refusal>
         ensures { Gives (λ c. (c, state self.new)) result
             (spec.special quote start (state self.old)) }
@@ -244,7 +245,7 @@ impl<T: Input> Reader<T> {
     }
 
     // Whether a word, or the closing quote, may stand here on a later line.
-    #[tactic(auto, unfolding(crate::specs::Quoted::begin_word))]
+    #[tactic(auto, unfolding(crate::specs::Steps::Quoted::begin_word))]
     fn begin_quoted_word(&mut self, indent: usize, start: Marker) -> Result<(), Refusal>
         ensures { Gives (λ _. state self.new) result (spec.begin_word indent start (state self.old)) }
     {

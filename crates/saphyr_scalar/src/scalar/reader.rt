@@ -2,7 +2,7 @@
 //! (YAML 1.2.2, 5.4, 6.2 and 6.6).
 
 ghost use Rattle.std.specs.Prelude.{◌≡◌, ℕ, ◌+◌, ◌<◌, ◌≤◌, ◌^◌, length, slice_index};
-ghost use Rattle.saphyr_scalar.specs.Cursor as spec;
+ghost use Rattle.saphyr_scalar.specs.Views.Cursor as spec;
 
 use crate::scalar::fault::{FaultText, Refusal};
 use crate::scalar::position::Marker;
@@ -28,7 +28,7 @@ pub struct Reader<T: Input> {
 }
 
 impl<T: Input> Reader<T> {
-    ghost use Rattle.saphyr_scalar.specs.Seen.{state, loaded, Gives};
+    ghost use Rattle.saphyr_scalar.specs.Views.Reader.{state, loaded, Gives};
     ghost use Rattle.saphyr_input.specs.Separation as separation;
 
     /// A reader at the start of a text.
@@ -186,7 +186,7 @@ impl<T: Input> Reader<T> {
     /// A `#` before which no blank was taken begins no comment, and a byte order mark that does
     /// not begin the line has no place here: both are refused where they stand.
     #[inline(always)]
-    #[tactic(auto, using(crate::proofs::Lengths::separation_within), unfolding(crate::specs::Cursor::separation, crate::specs::Cursor::behind_separation))]
+    #[tactic(auto, using(crate::proofs::Lengths::separation_within), unfolding(crate::specs::Views::Cursor::separation, crate::specs::Views::Cursor::behind_separation))]
     pub fn skip_ws_to_eol(&mut self, skip_tabs: SkipTabs) -> Result<SkipTabs, Refusal>
         requires { separation.IsRequest skip_tabs }
         ensures { Gives (λ found. (found, state self.new)) result
@@ -218,7 +218,7 @@ impl<T: Input> Reader<T> {
 
 impl<T: CloneInput> Reader<T> {
     ghost use Rattle.std.specs.Prelude.{IfOk};
-    ghost use Rattle.saphyr_scalar.specs.Seen.{state, loaded};
+    ghost use Rattle.saphyr_scalar.specs.Views.Reader.{state, loaded};
 
     /// A reader of its own at the same place of the same text, unless memory runs out.
     pub fn try_clone(&self) -> Result<Self, AllocError>

@@ -4,17 +4,17 @@ ghost use Rattle.std.specs.Prelude.{◌≡◌, ℕ, ◌<◌, Bool, false, length
 ghost use Rattle.saphyr_input.specs.Classes.{is_break};
 ghost use Rattle.saphyr_input.specs.declared.input.SkipTabs.{SkipTabs};
 ghost use Rattle.saphyr_scalar.specs.declared.scalar.fault.Refusal.{Refusal};
-ghost use Rattle.saphyr_scalar.specs.Anchor.{anchor};
-ghost use Rattle.saphyr_scalar.specs.BlockScalar.{block_scalar};
+ghost use Rattle.saphyr_scalar.specs.Steps.Anchor.{anchor};
+ghost use Rattle.saphyr_scalar.specs.Steps.Block.{block_scalar};
 ghost use Rattle.saphyr_scalar.specs.declared.reading.block.BlockStyle.{BlockStyle};
-ghost use Rattle.saphyr_scalar.specs.Cursor.{Cursor, separation};
-ghost use Rattle.saphyr_scalar.specs.Directive.{directive};
-ghost use Rattle.saphyr_scalar.specs.Plain.{plain};
-ghost use Rattle.saphyr_scalar.specs.Quoted.{quoted};
-ghost use Rattle.saphyr_scalar.specs.FlowReading as flow;
+ghost use Rattle.saphyr_scalar.specs.Views.Cursor.{Cursor, separation};
+ghost use Rattle.saphyr_scalar.specs.Steps.Directive.{directive};
+ghost use Rattle.saphyr_scalar.specs.Steps.Plain.{plain};
+ghost use Rattle.saphyr_scalar.specs.Steps.Quoted.{quoted};
+ghost use Rattle.saphyr_scalar.specs.Reading.Flow as flow;
 ghost use Rattle.saphyr_scalar.specs.declared.reading.flow.Quote.{Quote};
 ghost use Rattle.saphyr_scalar.specs.RefusedInside.{IsRefusedInside};
-ghost use Rattle.saphyr_scalar.specs.Tag.{tag};
+ghost use Rattle.saphyr_scalar.specs.Steps.Tag.{tag};
 
 /// What is refused has a place: where its reader began, or one on the way from there.
 pub fn refuses_inside()

@@ -3,9 +3,9 @@
 ghost use Rattle.std.specs.Prelude.{◌≡◌, ℕ, ◌+◌, ◌*◌, ◌<◌, ◌≤◌, ◌^◌, List, [], length, slice_index, string_bytes, Ok, IfOk, refl};
 ghost use Rattle.saphyr_input.specs.Classes as class;
 ghost use Rattle.saphyr_input.specs.Places.{TransfersRun};
-ghost use Rattle.saphyr_scalar.specs.Quoted as run;
-ghost use Rattle.saphyr_scalar.specs.Sets as sets;
-ghost use Rattle.saphyr_scalar.specs.Tag as spec;
+ghost use Rattle.saphyr_scalar.specs.Steps.Quoted as run;
+ghost use Rattle.saphyr_scalar.specs.Steps.Sets as sets;
+ghost use Rattle.saphyr_scalar.specs.Steps.Tag as spec;
 
 use crate::scalar::fault::{FaultText, Refusal, Stop};
 use crate::scalar::position::Marker;
@@ -82,7 +82,7 @@ impl CharSet for PlainSuffix {
 }
 
 // How many bytes a character has in UTF-8 whose first byte is this one, 0 where none has.
-#[tactic(auto, unfolding(crate::specs::Tag::utf8_width))]
+#[tactic(auto, unfolding(crate::specs::Steps::Tag::utf8_width))]
 fn utf8_width(byte: u32) -> usize
     ensures value { result ≡ spec.utf8_width byte }
     ensures small { result ≤ 4 }
@@ -97,7 +97,7 @@ fn utf8_width(byte: u32) -> usize
 }
 
 // What the first byte of a character's UTF-8 says of the character.
-#[tactic(auto, unfolding(crate::specs::Tag::leading_bits))]
+#[tactic(auto, unfolding(crate::specs::Steps::Tag::leading_bits))]
 fn leading_bits(byte: u32) -> u32
     requires { byte < 256 }
     ensures value { result ≡ spec.leading_bits byte }
@@ -119,10 +119,10 @@ pub(crate) fn named_handle(alloc: Global, word: &str) -> Result<String, AllocErr
 }
 
 impl<T: Input> Reader<T> {
-    ghost use Rattle.saphyr_scalar.specs.Seen.{state, Gives, Moves};
+    ghost use Rattle.saphyr_scalar.specs.Views.Reader.{state, Gives, Moves};
 
     // Takes off the escape of one byte.
-    #[tactic(auto, unfolding(crate::specs::Tag::escaped_byte))]
+    #[tactic(auto, unfolding(crate::specs::Steps::Tag::escaped_byte))]
     fn read_escaped_byte(&mut self, start: Marker) -> Result<u32, Refusal>
         ensures value { Gives (λ byte. (byte, state self.new)) result
             (spec.escaped_byte start (state self.old)) }
@@ -143,7 +143,7 @@ impl<T: Input> Reader<T> {
 
     // Takes off the escape of a byte that is not the first of its character, and gives what it and
     // the bytes before it say.
-    #[tactic(auto, unfolding(crate::specs::Tag::trailing_byte))]
+    #[tactic(auto, unfolding(crate::specs::Steps::Tag::trailing_byte))]
     fn read_trailing_byte(&mut self, value: u32, start: Marker) -> Result<u32, Refusal>
         requires { value < 2 ^ 24 }
         ensures value { Gives (λ grown. (grown, state self.new)) result
@@ -161,7 +161,7 @@ impl<T: Input> Reader<T> {
     }
 
     // Takes off the escapes of so many bytes behind the first one of a character.
-    #[tactic(auto, unfolding(crate::specs::Tag::trailing_bytes))]
+    #[tactic(auto, unfolding(crate::specs::Steps::Tag::trailing_bytes))]
     fn read_trailing_bytes(
         &mut self,
         count: usize,
@@ -181,9 +181,10 @@ impl<T: Input> Reader<T> {
     }
 
     // Takes off a percent escape, and gives the character that it stands for (YAML 1.2.2, 5.6).
-    #[tactic(auto, unfolding(crate::specs::Tag::escape, crate::specs::Tag::behind_leading, crate::specs::Tag::encoded))]
+    #[tactic(auto, unfolding(crate::specs::Steps::Tag::percent_escape, crate::specs::Steps::Tag::behind_leading_byte, crate::specs::Steps::Tag::encoded))]
     fn read_percent_escape(&mut self, start: Marker) -> Result<char, Refusal>
-        ensures { Gives (λ c. (c, state self.new)) result (spec.escape start (state self.old)) }
+        ensures { Gives (λ c. (c, state self.new)) result
+            (spec.percent_escape start (state self.old)) }
     {
         let first = self.read_escaped_byte(start)?;
         let width = utf8_width(first);
@@ -204,7 +205,7 @@ impl<T: Input> Reader<T> {
     }
 
     // Takes off a character of a uri, or the escape of one.
-    #[tactic(auto, unfolding(crate::specs::Tag::uri_character))]
+    #[tactic(auto, unfolding(crate::specs::Steps::Tag::uri_character))]
     pub(crate) fn read_uri_character(&mut self, start: Marker) -> Result<char, Refusal>
         requires { 0 < length (state self.old).rest }
         ensures { Gives (λ c. (c, state self.new)) result
@@ -267,7 +268,7 @@ impl<T: Input> Reader<T> {
     }
 
     // Takes off `!<uri>`.
-    #[tactic(auto, unfolding(crate::specs::Tag::verbatim, crate::specs::Tag::verbatim_end))]
+    #[tactic(auto, unfolding(crate::specs::Steps::Tag::verbatim, crate::specs::Steps::Tag::verbatim_end))]
     fn read_verbatim_tag(&mut self, alloc: Global) -> Result<TagParts, Stop>
         requires { 2 ≤ length (state self.old).rest }
         ensures { Moves (λ tag. (string_bytes tag.handle, string_bytes tag.suffix, state self.new))
@@ -291,7 +292,7 @@ impl<T: Input> Reader<T> {
     }
 
     // Takes off the suffix of a tag behind `!!` or `!word!`.
-    #[tactic(auto, unfolding(crate::specs::Tag::named_tail, crate::specs::Tag::named_tag))]
+    #[tactic(auto, unfolding(crate::specs::Steps::Tag::named_tail, crate::specs::Steps::Tag::named_tag))]
     fn read_named_suffix(
         &mut self,
         alloc: Global,
@@ -314,7 +315,7 @@ impl<T: Input> Reader<T> {
     }
 
     // Takes off a tag of a handle and a suffix.
-    #[tactic(auto, unfolding(crate::specs::Tag::shorthand, crate::specs::Tag::behind_word, crate::specs::Tag::primary_tag))]
+    #[tactic(auto, unfolding(crate::specs::Steps::Tag::shorthand, crate::specs::Steps::Tag::behind_word, crate::specs::Steps::Tag::primary_tag))]
     fn read_shorthand_tag(&mut self, alloc: Global) -> Result<TagParts, Stop>
         requires { 0 < length (state self.old).rest }
         ensures { Moves (λ tag. (string_bytes tag.handle, string_bytes tag.suffix, state self.new))
@@ -348,7 +349,7 @@ impl<T: Input> Reader<T> {
     /// All faults are refused at the `!`: a verbatim tag without its `>`, a handle `!!` or
     /// `!word!` without a suffix, a percent escape that is no UTF-8, and a tag with anything but a
     /// blank, a break or the end behind it, or in flow a flow indicator.
-    #[tactic(auto, unfolding(crate::specs::Tag::tag, crate::specs::Tag::tag_end))]
+    #[tactic(auto, unfolding(crate::specs::Steps::Tag::tag, crate::specs::Steps::Tag::tag_end))]
     pub fn read_tag(&mut self, alloc: Global, in_flow: bool) -> Result<TagParts, Stop>
         requires { slice_index (state self.old).rest 0 ≡ 33 }
         ensures { Moves (λ tag. (string_bytes tag.handle, string_bytes tag.suffix, state self.new))

@@ -1,7 +1,7 @@
 -- The end of the stream is the last token of a text, unless a refusal ends the tokens before it.
 use Rattle.std.proofs.Common.{◌≡◌, ℕ, zero, suc, ◌+◌, ◌<◌, Bool, true, false, List, [], ◌∷◌, ◌++◌, Result, Ok, Err, refl, sym, ap, arith, inl, inr, subst}
 use Rattle.saphyr_scalar.specs.declared.scalar.fault.Refusal.{Refusal}
-use Rattle.saphyr_scalar.specs.Cursor.{◌>>=◌}
+use Rattle.saphyr_scalar.specs.Views.Cursor.{◌>>=◌}
 use Rattle.saphyr_scanner.specs.declared.queue.Opening.{Opening}
 use Rattle.saphyr_scanner.specs.declared.queue.Opening.TheVariants as opening
 use Rattle.saphyr_scanner.specs.Grammar.Tokens as tokens

@@ -5,7 +5,7 @@ use Rattle.saphyr_input.specs.Breaks.{normalized}
 use Rattle.saphyr_input.specs.Classes.{is_blank, is_bom, is_break, is_yaml_non_break, is_z}
 use Rattle.saphyr_scalar.specs.declared.scalar.position.Marker.{Marker}
 use Rattle.saphyr_scalar.specs.declared.scalar.fault.Refusal.{Refusal}
-use Rattle.saphyr_scalar.specs.Cursor.{Cursor, along, next_line}
+use Rattle.saphyr_scalar.specs.Views.Cursor.{Cursor, along, next_line}
 use Rattle.saphyr_scalar.proofs.Breaks.Sides.{Normal, normalized_is, nothing, character, feed, return, pair}
 use Rattle.saphyr_scanner.specs.Steps.Gap.{Passed, Spaced, stop, gap, comment, spaces, line_comment, is_tab_indentation}
 use Rattle.saphyr_scalar.specs.Alike.{GiveAlike}

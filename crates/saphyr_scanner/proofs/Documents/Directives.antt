@@ -3,9 +3,9 @@ use Rattle.std.proofs.Common.{◌≡◌, ℕ, ◌+◌, ◌≤◌, Bool, true, fa
 use Rattle.std.specs.Prelude.{map, Option, None}
 use Rattle.std.proofs.lemmas.List.{length-append}
 use Rattle.saphyr_scalar.specs.declared.scalar.position.Marker.{Marker}
-use Rattle.saphyr_scalar.specs.Cursor.{Cursor, along, next_line}
-use Rattle.saphyr_scalar.specs.Directive as directives
-use Rattle.saphyr_scalar.specs.DirectiveSpelling.{IsDirectiveText, IsLineTail}
+use Rattle.saphyr_scalar.specs.Views.Cursor.{Cursor, along, next_line}
+use Rattle.saphyr_scalar.specs.Steps.Directive as directives
+use Rattle.saphyr_scalar.specs.Spelling.Directive.{IsDirectiveText, IsLineTail}
 use Rattle.saphyr_scanner.specs.declared.engine.level.Context.TheVariants as context
 use Rattle.saphyr_scanner.specs.Grammar.Forest as forest
 use Rattle.saphyr_scanner.specs.Grammar.Forest.{Version, TagPrefix, Reserved}

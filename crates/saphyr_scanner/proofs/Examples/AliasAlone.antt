@@ -1,9 +1,9 @@
 -- An alias has no properties: `&a *b` stands for no node.
 use Rattle.std.proofs.Common.{◌≡◌, ◌≢◌, ℕ, Bool, false, List, [], ◌∷◌, ◌++◌, Option, Some, None, inl, inr, refl, sym, ◌∙◌, arith, codes, ap, subst, append_assoc, append-nil}
 use Rattle.saphyr_input.specs.Classes.{is_one_of, is_blank, is_anchor_char}
-use Rattle.saphyr_scalar.specs.BlockRead.{spaces}
-use Rattle.saphyr_scalar.specs.TagSpelling.{AreIn}
-use Rattle.saphyr_scalar.specs.Spaces.{joined, AreEach, IsSeparationLine, IsSeparation}
+use Rattle.saphyr_scalar.specs.Steps.BlockRead.{spaces}
+use Rattle.saphyr_scalar.specs.Spelling.Tag.{AreIn}
+use Rattle.saphyr_scalar.specs.Spelling.Spaces.{joined, AreEach, IsSeparationLine, IsSeparation}
 use Rattle.saphyr_scanner.specs.Grammar.Forest.{Style, Plain, SingleQuoted, DoubleQuoted, Literal, Folded, Properties, Node, Alias, Scalar, Seq, Map, Tag, NonSpecific, Verbatim, Shorthand, Handle, Primary, Secondary, Named}
 use Rattle.saphyr_scanner.specs.Grammar.TagSpelling.{IsHandle, IsTag}
 use Rattle.saphyr_scanner.specs.Grammar.FlowScalars.{begins_plain, IsFirstWord, IsFlowScalar}

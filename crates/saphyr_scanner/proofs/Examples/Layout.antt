@@ -5,9 +5,9 @@ use Rattle.saphyr_input.specs.Classes.{byte_order_mark}
 use Rattle.saphyr_scalar.specs.declared.reading.folding.Item.TheVariants.{Blank, Raw, Break}
 use Rattle.saphyr_scalar.specs.declared.reading.flow.Quote.TheVariants.{Single, Double}
 use Rattle.saphyr_scalar.specs.declared.reading.block.Chomping.TheVariants.{Strip, Clip, Keep}
-use Rattle.saphyr_scalar.specs.QuotedSpelling.{closed, itself, broken, two_quotes}
-use Rattle.saphyr_scalar.specs.BlockReading.{Empty, Content}
-use Rattle.saphyr_scalar.specs.BlockSpelling.{no_digit, digit, strip, clip, keep, no_comment, comment, no_lines, empty, content, first, digit_first, chomping_first, found, given}
+use Rattle.saphyr_scalar.specs.Spelling.Quoted.{closed, itself, broken, two_quotes}
+use Rattle.saphyr_scalar.specs.Reading.Block.{Empty, Content}
+use Rattle.saphyr_scalar.specs.Spelling.Block.{no_digit, digit, strip, clip, keep, no_comment, comment, no_lines, empty, content, first, digit_first, chomping_first, found, given}
 use Rattle.saphyr_scanner.specs.Grammar.Forest.{Plain, SingleQuoted, DoubleQuoted, Literal, Folded, Primary, Secondary, Named, NonSpecific, Verbatim, Shorthand, no_properties, Alias, Scalar, Seq, Map, NoNode, MoreNodes, NoPair, MorePairs, left_out, Version, TagPrefix, Reserved, bare}
 use Rattle.saphyr_scanner.specs.Grammar.Layout.{IsLayoutText, most_open}
 use Rattle.std.proofs.lemmas.Bool.{false≢true}

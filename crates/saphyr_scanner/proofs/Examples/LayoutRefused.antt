@@ -2,9 +2,9 @@
 -- sequence.
 use Rattle.std.proofs.Common.{◌≡◌, ◌≢◌, ℕ, ◌⊎◌, Bool, true, false, List, [], ◌∷◌, ◌++◌, Option, Some, None, inl, inr, refl, arith, codes, ap, IsTrue}
 use Rattle.saphyr_input.specs.Classes.{is_blank}
-use Rattle.saphyr_scalar.specs.BlockRead.{spaces}
-use Rattle.saphyr_scalar.specs.TagSpelling.{AreIn}
-use Rattle.saphyr_scalar.specs.Spaces.{AreEach, joined, IsSeparationLine, IsSeparation}
+use Rattle.saphyr_scalar.specs.Steps.BlockRead.{spaces}
+use Rattle.saphyr_scalar.specs.Spelling.Tag.{AreIn}
+use Rattle.saphyr_scalar.specs.Spelling.Spaces.{AreEach, joined, IsSeparationLine, IsSeparation}
 use Rattle.saphyr_scanner.specs.Grammar.Forest.{Style, Plain, SingleQuoted, DoubleQuoted, Literal, Folded, Handle, Primary, Secondary, Named, Tag, NonSpecific, Verbatim, Shorthand, Properties, Node, Alias, Scalar, Seq, Map, Nodes, NoNode, MoreNodes, NoPair, MorePairs, Document, Version, AreCompatible}
 use Rattle.saphyr_scanner.specs.Grammar.TagSpelling.{IsHandle, IsTag}
 use Rattle.saphyr_scanner.specs.Grammar.FlowScalars.{begins_plain, IsFirstWord, IsPlain, IsPlainKey, IsFlowScalar}

@@ -2,12 +2,12 @@
 use Rattle.std.proofs.Common.{◌≡◌, ◌≢◌, ℕ, zero, suc, ◌⊎◌, Bool, true, false, ◌==◌, not, List, [], ◌∷◌, ◌++◌, IsTrue, inl, inr, refl, sym, ◌∙◌, arith, codes, ap}
 use Rattle.saphyr_input.specs.Classes.{is_blank, line_feed}
 use Rattle.saphyr_scalar.specs.declared.reading.block.Chomping.{Chomping}
-use Rattle.saphyr_scalar.specs.BlockRead.{spaces}
-use Rattle.saphyr_scalar.specs.BlockReading.{Line}
-use Rattle.saphyr_scalar.specs.BlockSpelling.{IsIndicator, no_digit, digit, IsChomping, strip, clip, keep, no_comment, comment, IsHeader, digit_first, chomping_first, IsBlockScalar}
-use Rattle.saphyr_scalar.specs.BlockSpelling as block
-use Rattle.saphyr_scalar.specs.PlainSpelling.{is_word_ink}
-use Rattle.saphyr_scalar.specs.Spaces.{AreSpaces, IsLineRest, IsEol}
+use Rattle.saphyr_scalar.specs.Steps.BlockRead.{spaces}
+use Rattle.saphyr_scalar.specs.Reading.Block.{Line}
+use Rattle.saphyr_scalar.specs.Spelling.Block.{IsIndicator, no_digit, digit, IsChomping, strip, clip, keep, no_comment, comment, IsHeader, digit_first, chomping_first, IsBlockScalar}
+use Rattle.saphyr_scalar.specs.Spelling.Block as block
+use Rattle.saphyr_scalar.specs.Spelling.Plain.{is_word_ink}
+use Rattle.saphyr_scalar.specs.Spelling.Spaces.{AreSpaces, IsLineRest, IsEol}
 use Rattle.saphyr_scanner.specs.Grammar.Forest.{Properties, Node, Seq, Nodes, NoNode, MoreNodes}
 use Rattle.saphyr_scanner.specs.Grammar.FlowScalars.{begins_plain, IsFirstWord, IsPlain}
 use Rattle.saphyr_scanner.specs.Grammar.FlowNodes.{IsOnLine, IsFlowNode}

@@ -1,10 +1,10 @@
 -- The line `---` stands for one document whose node is left out, and for nothing else.
 use Rattle.std.proofs.Common.{◌≡◌, ◌≢◌, ℕ, zero, suc, ◌⊎◌, Bool, true, false, ◌==◌, List, [], ◌∷◌, ◌++◌, inl, inr, refl, ◌∙◌, arith, codes, ap, subst, IsFalse}
 use Rattle.saphyr_input.specs.Classes.{byte_order_mark}
-use Rattle.saphyr_scalar.specs.BlockRead.{spaces}
-use Rattle.saphyr_scalar.specs.PlainSpelling.{is_word_ink}
-use Rattle.saphyr_scalar.specs.TagSpelling.{AreIn}
-use Rattle.saphyr_scalar.specs.Spaces.{IsFiller, IsFillerText, IsEol}
+use Rattle.saphyr_scalar.specs.Steps.BlockRead.{spaces}
+use Rattle.saphyr_scalar.specs.Spelling.Plain.{is_word_ink}
+use Rattle.saphyr_scalar.specs.Spelling.Tag.{AreIn}
+use Rattle.saphyr_scalar.specs.Spelling.Spaces.{IsFiller, IsFillerText, IsEol}
 use Rattle.saphyr_scanner.specs.Grammar.Forest.{Style, Plain, SingleQuoted, DoubleQuoted, Literal, Folded, Properties, Node, Alias, Scalar, Seq, Map, Nodes, NoNode, MoreNodes, Pairs, NoPair, MorePairs, left_out, Directive, Version, TagPrefix, Reserved, Document, Forest}
 use Rattle.saphyr_scanner.specs.Grammar.FlowScalars.{IsFirstWord, IsFlowScalar}
 use Rattle.saphyr_scanner.specs.Grammar.FlowNodes.{IsScalarNode, IsOpening, IsFlowNode}

@@ -2,7 +2,7 @@
 use Rattle.std.proofs.Common.{ℕ, ◌≤◌, [], ◌∷◌, refl, inl, inr, arith, codes}
 use lib.Utf8.{encode}
 use Rattle.saphyr_input.specs.Classes.{IsHex}
-use Rattle.saphyr_scalar.specs.TagSpelling.{IsByteEscape}
+use Rattle.saphyr_scalar.specs.Spelling.Tag.{IsByteEscape}
 use Rattle.saphyr_scanner.specs.Grammar.Forest.{Primary, Shorthand}
 use Rattle.saphyr_scanner.specs.Grammar.TagSpelling.{IsTag}
 

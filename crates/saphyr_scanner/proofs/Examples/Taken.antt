@@ -1,8 +1,8 @@
 -- The tokens of `[]` are taken from it.
 use Rattle.std.specs.Prelude.{codes}
 use Rattle.std.proofs.Common.{ℕ, true, List, [], refl, inl, inr}
-use Rattle.saphyr_scalar.specs.Cursor.{Cursor}
-use Rattle.saphyr_scalar.specs.DirectiveSpelling.{IsLineTail}
+use Rattle.saphyr_scalar.specs.Views.Cursor.{Cursor}
+use Rattle.saphyr_scalar.specs.Spelling.Directive.{IsLineTail}
 use Rattle.saphyr_scanner.specs.Examples.Forests.{at_column, brackets_tokens}
 use Rattle.saphyr_scanner.specs.TokensTaken as taken
 use Rattle.saphyr_scanner.specs.TokensTaken.{AreTakenFrom, AreApart}

@@ -5,7 +5,7 @@ use lib.Utf8.{encode}
 use Rattle.saphyr_input.specs.Classes.{is_blank, is_break}
 use Rattle.saphyr_input.specs.Breaks.{normalized}
 use Rattle.saphyr_scalar.specs.declared.scalar.position.Marker.{Marker}
-use Rattle.saphyr_scalar.specs.FlowReading.{plain_value}
+use Rattle.saphyr_scalar.specs.Reading.Flow.{plain_value}
 use Rattle.saphyr_scanner.specs.TokensTaken.{IsPassedOver, nothing, blank, line_break, comment, AreTakenFrom, IsPlaceOf}
 use Rattle.saphyr_scanner.proofs.Beginnings.{heads, tails}
 use Rattle.saphyr_scanner.specs.Examples.TakenTexts as texts

@@ -4,9 +4,9 @@ use Rattle.std.proofs.Common.{◌≡◌, ℕ, true, false, List, [], ◌∷◌, 
 use lib.Utf8.{encode}
 use Rattle.saphyr_scalar.specs.declared.scalar.position.Marker.{Marker}
 use Rattle.saphyr_scalar.specs.declared.reading.folding.Item.TheVariants.{Raw}
-use Rattle.saphyr_scalar.specs.Cursor.{Cursor}
+use Rattle.saphyr_scalar.specs.Views.Cursor.{Cursor}
 use Rattle.saphyr_scalar.specs.Passing as passing
-use Rattle.saphyr_scalar.specs.QuotedSpelling.{closed, itself}
+use Rattle.saphyr_scalar.specs.Spelling.Quoted.{closed, itself}
 use Rattle.saphyr_scanner.specs.TokensTaken as taken
 use Rattle.saphyr_scanner.specs.TokensTaken.{AreTakenFrom}
 use Rattle.saphyr_scanner.specs.Examples.TakenTexts as texts

@@ -4,7 +4,7 @@ use Rattle.std.specs.Prelude.{◌||◌, ◌&&◌, ◌==◌, not, nat_lt}
 use Rattle.std.proofs.lemmas.Bool.Decides.{nat_tests}
 use Rattle.saphyr_input.specs.Classes.{is_blank, is_break, is_yaml_non_break}
 use Rattle.saphyr_scalar.specs.declared.scalar.position.Marker.{Marker}
-use Rattle.saphyr_scalar.specs.Cursor.{along, next_line}
+use Rattle.saphyr_scalar.specs.Views.Cursor.{along, next_line}
 use Rattle.saphyr_scanner.specs.Steps.Gap.{stop, is_tab_indentation, gap, comment}
 use Rattle.saphyr_scanner.proofs.Flow.States.{is_left_tab, past, past_comment, is_filler_rest, is_comment_rest}
 use Rattle.saphyr_input.proofs.Basics.Booleans.{clash, and_true_left, and_true_right}

@@ -5,9 +5,9 @@ use Rattle.std.proofs.lemmas.Bool.Decides.{nat_tests}
 use Rattle.saphyr_input.specs.Classes.{is_blank, is_break, is_bom}
 use Rattle.saphyr_scalar.specs.declared.reading.flow.Quote.{Quote}
 use Rattle.saphyr_scalar.specs.declared.reading.flow.Quote.TheVariants.{Single, Double}
-use Rattle.saphyr_scalar.specs.FlowReading.{mark}
-use Rattle.saphyr_scalar.specs.PlainSpelling.{is_word_ink, IsWordIn}
-use Rattle.saphyr_scalar.specs.TagSpelling.{AreIn}
+use Rattle.saphyr_scalar.specs.Reading.Flow.{mark}
+use Rattle.saphyr_scalar.specs.Spelling.Plain.{is_word_ink, IsWordIn}
+use Rattle.saphyr_scalar.specs.Spelling.Tag.{AreIn}
 use Rattle.saphyr_scanner.specs.Grammar.Forest.{Style, Plain, SingleQuoted, DoubleQuoted, Literal, Folded, Handle, Primary, Secondary, Named, Tag, NonSpecific, Verbatim, Shorthand, Properties, Node, Alias, Scalar, Seq, Map}
 use Rattle.saphyr_scanner.specs.Grammar.TagSpelling.{IsHandle, IsTag}
 use Rattle.saphyr_scanner.specs.Grammar.FlowScalars.{IsPlainKey, IsFlowScalar}

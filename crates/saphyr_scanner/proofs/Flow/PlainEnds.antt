@@ -6,9 +6,9 @@ use Rattle.std.proofs.lemmas.Bool.Decides.{nat_tests}
 use Rattle.saphyr_input.specs.Classes.{is_blank, is_break, is_blank_or_breakz, is_flow}
 use Rattle.saphyr_input.specs.Places.{is_blank_or_break, is_document_indicator}
 use Rattle.saphyr_scalar.specs.declared.scalar.position.Marker.{Marker}
-use Rattle.saphyr_scalar.specs.Cursor.{Cursor, along, next_line}
-use Rattle.saphyr_scalar.specs.Plain.{in_word, ends_line}
-use Rattle.saphyr_scalar.specs.PlainSpelling.{past_white, StopsPlain, EndsPlain}
+use Rattle.saphyr_scalar.specs.Views.Cursor.{Cursor, along, next_line}
+use Rattle.saphyr_scalar.specs.Steps.Plain.{in_word, ends_line}
+use Rattle.saphyr_scalar.specs.Spelling.Plain.{past_white, StopsPlain, EndsPlain}
 use Rattle.saphyr_scanner.specs.Grammar.Forest.{Node}
 use Rattle.saphyr_scanner.specs.Grammar.FlowNodes.{allows_adjacent}
 use Rattle.saphyr_scanner.proofs.Flow.States.{past, moved, IsInk, EndsDocument, IsLeft, ends_colon, EndsNode, IsBehindNode, IsBehindRoot}

@@ -5,10 +5,10 @@ use Rattle.std.proofs.lemmas.Bool.Decides.{nat_tests}
 use Rattle.saphyr_input.specs.Breaks.{normalized}
 use Rattle.saphyr_input.specs.Classes.{is_blank, is_blank_or_breakz, is_flow, is_z}
 use Rattle.saphyr_scalar.specs.declared.scalar.position.Marker.{Marker}
-use Rattle.saphyr_scalar.specs.Cursor.{Cursor, ◌>>=◌}
-use Rattle.saphyr_scalar.specs.FlowReading.{plain_value}
-use Rattle.saphyr_scalar.specs.Plain.{Reading, comment_of}
-use Rattle.saphyr_scalar.specs.PlainSpelling.{is_tabbed, past_white, EndsPlain, is_word_ink, AreWordInk, IsPlainText}
+use Rattle.saphyr_scalar.specs.Views.Cursor.{Cursor, ◌>>=◌}
+use Rattle.saphyr_scalar.specs.Reading.Flow.{plain_value}
+use Rattle.saphyr_scalar.specs.Steps.Plain.{PlainScalarRead, comment_of}
+use Rattle.saphyr_scalar.specs.Spelling.Plain.{is_tabbed, past_white, EndsPlain, is_word_ink, AreWordInk, IsPlainText}
 use Rattle.saphyr_scanner.specs.declared.engine.level.Context.{Context}
 use Rattle.saphyr_scanner.specs.declared.engine.level.Context.TheVariants as context
 use Rattle.saphyr_scanner.specs.Grammar.Tokens as tokens
@@ -20,7 +20,7 @@ use Rattle.saphyr_scanner.specs.Steps.Scalar as scalar
 use Rattle.saphyr_scanner.specs.Steps.Scalar.{read_plain, disallow_key, behind_plain}
 use Rattle.saphyr_scanner.specs.Steps.Fetch.{step, is_value_adjacent}
 use Rattle.saphyr_scanner.specs.Grammar.FlowScalars.{begins_plain, IsPlain, IsPlainKey}
-use Rattle.saphyr_scalar.specs.TagSpelling.{AreIn}
+use Rattle.saphyr_scalar.specs.Spelling.Tag.{AreIn}
 use Rattle.saphyr_scanner.proofs.InFlow.States.{Around, core_at, state_at, Placed, placed_right, plain_placed, saves_key, none_deeper}
 use Rattle.saphyr_scanner.proofs.Json.Marks.{saved}
 use Rattle.saphyr_scanner.proofs.Json.Brackets.{place_of}
@@ -206,7 +206,7 @@ abbrev plain_token : List ℕ → Kind
 plain_token t = scalar_token Plain (plain_value t)
 
 -- what is read of a text that ends at a place
-abbrev found : ℕ → Bool → List ℕ → Marker → List ℕ → Reading
+abbrev found : ℕ → Bool → List ℕ → Marker → List ℕ → PlainScalarRead
 found indent f o end v = Ok (
   encode_utf8_all (plain_value v),
   end,

@@ -4,9 +4,9 @@ use Rattle.std.specs.Prelude.{not, option_map, Option, Some, None}
 use Rattle.saphyr_input.specs.Classes.{is_blank, is_blank_or_breakz}
 use Rattle.std.proofs.lemmas.Bool.{false≢true}
 use Rattle.saphyr_scalar.specs.declared.scalar.position.Marker.{Marker}
-use Rattle.saphyr_scalar.specs.Cursor.{Cursor}
-use Rattle.saphyr_scalar.specs.TagSpelling.{AreIn, EndsTag}
-use Rattle.saphyr_scalar.specs.Spaces.{AreSpaces}
+use Rattle.saphyr_scalar.specs.Views.Cursor.{Cursor}
+use Rattle.saphyr_scalar.specs.Spelling.Tag.{AreIn, EndsTag}
+use Rattle.saphyr_scalar.specs.Spelling.Spaces.{AreSpaces}
 use Rattle.saphyr_scanner.specs.declared.engine.level.Context.{Context}
 use Rattle.saphyr_scanner.specs.declared.engine.level.Context.TheVariants as context
 use Rattle.saphyr_scanner.specs.Grammar.Tokens.{Kind, alias_token, anchor_token, tag_token}

@@ -10,15 +10,15 @@ use Rattle.saphyr_scalar.specs.declared.reading.folding.Item.{Item}
 use Rattle.saphyr_scalar.specs.declared.reading.folding.Item.TheVariants.{Escaped}
 use Rattle.saphyr_scalar.specs.declared.reading.flow.Quote.{Quote}
 use Rattle.saphyr_scalar.specs.declared.reading.flow.Quote.TheVariants.{Single, Double}
-use Rattle.saphyr_scalar.specs.Cursor.{Cursor, along, next_line}
-use Rattle.saphyr_scalar.specs.FlowReading.{mark, backslash, apostrophe}
-use Rattle.saphyr_scalar.specs.Folding.{folded}
+use Rattle.saphyr_scalar.specs.Views.Cursor.{Cursor, along, next_line}
+use Rattle.saphyr_scalar.specs.Reading.Flow.{mark, backslash, apostrophe}
+use Rattle.saphyr_scalar.specs.Reading.Folding.{folded}
 use Rattle.saphyr_scalar.specs.Passing.{IsPassed, nothing, character, line_break}
-use Rattle.saphyr_scalar.specs.Quoted as quotes
-use Rattle.saphyr_scalar.specs.Quoted.{at, break_len, is_closing}
-use Rattle.saphyr_scalar.specs.QuotedSpelling.{IsText, closed, itself, broken, two_quotes, escaped, numbered, escaped_break}
-use Rattle.saphyr_scalar.specs.QuotedLines.{space_count, IsLine, LinesFit}
-use Rattle.saphyr_scalar.specs.TagSpelling.{AreIn}
+use Rattle.saphyr_scalar.specs.Steps.Quoted as quotes
+use Rattle.saphyr_scalar.specs.Steps.Quoted.{at, break_len, is_closing}
+use Rattle.saphyr_scalar.specs.Spelling.Quoted.{IsText, closed, itself, broken, two_quotes, escaped, numbered, escaped_break}
+use Rattle.saphyr_scalar.specs.Spelling.QuotedLines.{space_count, IsLine, LinesFit}
+use Rattle.saphyr_scalar.specs.Spelling.Tag.{AreIn}
 use Rattle.saphyr_scanner.specs.Grammar.FlowScalars.{IsQuoted}
 use Rattle.saphyr_scanner.proofs.Flow.States.{moved, IsClear, Reads}
 use Rattle.saphyr_scanner.proofs.Flow.Places.{right_one, clear_back, clear_here}

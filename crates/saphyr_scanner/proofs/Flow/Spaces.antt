@@ -5,10 +5,10 @@ use Rattle.std.proofs.lemmas.Bool.Decides.{nat_tests}
 use Rattle.std.proofs.lemmas.List.{length-append}
 use Rattle.saphyr_input.specs.Classes.{is_blank, is_break, is_yaml_non_break, tab}
 use Rattle.saphyr_scalar.specs.declared.scalar.position.Marker.{Marker}
-use Rattle.saphyr_scalar.specs.Cursor.{along, next_line}
-use Rattle.saphyr_scalar.specs.BlockRead.{spaces as spaces_of}
-use Rattle.saphyr_scalar.specs.TagSpelling.{AreIn}
-use Rattle.saphyr_scalar.specs.Spaces.{joined, AreEach, IsCommentBehind, IsSeparationLine, IsSeparation}
+use Rattle.saphyr_scalar.specs.Views.Cursor.{along, next_line}
+use Rattle.saphyr_scalar.specs.Steps.BlockRead.{spaces as spaces_of}
+use Rattle.saphyr_scalar.specs.Spelling.Tag.{AreIn}
+use Rattle.saphyr_scalar.specs.Spelling.Spaces.{joined, AreEach, IsCommentBehind, IsSeparationLine, IsSeparation}
 use Rattle.saphyr_scanner.specs.Grammar.FlowNodes.{has_tab_outside}
 use Rattle.saphyr_scanner.specs.Steps.Gap.{spaced, spaces, line_comment}
 use Rattle.saphyr_scanner.proofs.Flow.States.{moved, is_left_tab, past, past_comment, IsInk}

@@ -6,27 +6,27 @@ use Rattle.saphyr_input.specs.Breaks.{normalized}
 use Rattle.saphyr_input.specs.Classes.{is_blank, is_break, is_breakz, is_blank_or_breakz, is_yaml_non_break, is_anchor_char, is_bom, line_feed, carriage_return}
 use Rattle.saphyr_input.specs.Places.{is_document_indicator}
 use Rattle.saphyr_scalar.specs.declared.scalar.position.Marker.{Marker}
-use Rattle.saphyr_scalar.specs.Cursor.{Cursor, along, next_line, pass_break}
-use Rattle.saphyr_scalar.specs.Anchor as anchors
-use Rattle.saphyr_scalar.specs.Tag as tags
-use Rattle.saphyr_scalar.specs.Plain as words
-use Rattle.saphyr_scalar.specs.Plain.{comment_of}
-use Rattle.saphyr_scalar.specs.PlainReading.{passed}
-use Rattle.saphyr_scalar.specs.PlainSpelling.{IsPlainText, is_tabbed, past_white}
-use Rattle.saphyr_scalar.specs.Quoted as quotes
-use Rattle.saphyr_scalar.specs.Quoted.{at}
-use Rattle.saphyr_scalar.specs.QuotedLines.{LinesFit}
-use Rattle.saphyr_scalar.specs.QuotedSpelling.{IsQuotedText}
-use Rattle.saphyr_scalar.specs.FlowReading.{plain_value}
-use Rattle.saphyr_scalar.specs.Folding.{folded}
+use Rattle.saphyr_scalar.specs.Views.Cursor.{Cursor, along, next_line, pass_break}
+use Rattle.saphyr_scalar.specs.Steps.Anchor as anchors
+use Rattle.saphyr_scalar.specs.Steps.Tag as tags
+use Rattle.saphyr_scalar.specs.Steps.Plain as words
+use Rattle.saphyr_scalar.specs.Steps.Plain.{comment_of}
+use Rattle.saphyr_scalar.specs.Reading.Plain.{passed}
+use Rattle.saphyr_scalar.specs.Spelling.Plain.{IsPlainText, is_tabbed, past_white}
+use Rattle.saphyr_scalar.specs.Steps.Quoted as quotes
+use Rattle.saphyr_scalar.specs.Steps.Quoted.{at}
+use Rattle.saphyr_scalar.specs.Spelling.QuotedLines.{LinesFit}
+use Rattle.saphyr_scalar.specs.Spelling.Quoted.{IsQuotedText}
+use Rattle.saphyr_scalar.specs.Reading.Flow.{plain_value}
+use Rattle.saphyr_scalar.specs.Reading.Folding.{folded}
 use Rattle.saphyr_scalar.specs.Passing.{IsPassed}
-use Rattle.saphyr_scalar.specs.Directive as directives
-use Rattle.saphyr_scalar.specs.Directive.{Directive}
-use Rattle.saphyr_scalar.specs.DirectiveSpelling.{IsDirectiveText, IsReservedDirective, IsLineTail}
+use Rattle.saphyr_scalar.specs.Steps.Directive as directives
+use Rattle.saphyr_scalar.specs.Steps.Directive.{Directive}
+use Rattle.saphyr_scalar.specs.Spelling.Directive.{IsDirectiveText, IsReservedDirective, IsLineTail}
 use Rattle.saphyr_scalar.specs.declared.reading.folding.Item.{Item}
 use Rattle.saphyr_scalar.specs.declared.reading.flow.Quote.{Quote}
-use Rattle.saphyr_scalar.specs.TagSpelling.{AreIn, IsAnchorName, IsTagText, EndsTag}
-use Rattle.saphyr_scalar.specs.Spaces.{IsSeparation, IsLineRest}
+use Rattle.saphyr_scalar.specs.Spelling.Tag.{AreIn, IsAnchorName, IsTagText, EndsTag}
+use Rattle.saphyr_scalar.specs.Spelling.Spaces.{IsSeparation, IsLineRest}
 use Rattle.saphyr_scanner.specs.declared.engine.level.Context.{Context}
 use Rattle.saphyr_scanner.specs.declared.engine.level.Context.TheVariants as context
 use Rattle.saphyr_scanner.specs.Grammar.Tokens.{Kind}

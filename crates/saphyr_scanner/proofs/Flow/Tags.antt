@@ -2,7 +2,7 @@
 use Rattle.std.proofs.Common.{◌≡◌, ℕ, Bool, List, [], ◌∷◌, ◌++◌, refl, ap, ◌∙◌, IsTrue, inl, inr, encode_utf8_all}
 use lib.Utf8.{encode}
 use Rattle.saphyr_input.specs.Classes.{is_alpha}
-use Rattle.saphyr_scalar.specs.TagSpelling.{AreIn, IsHandleText, IsTagText}
+use Rattle.saphyr_scalar.specs.Spelling.Tag.{AreIn, IsHandleText, IsTagText}
 use Rattle.saphyr_scanner.specs.Grammar.Characters.{AreAll}
 use Rattle.saphyr_scanner.specs.Grammar.Forest.{Handle, Primary, Secondary, Named, handle_text, Tag, NonSpecific, Verbatim, Shorthand}
 use Rattle.saphyr_scanner.specs.Grammar.Tokens as tokens

@@ -6,13 +6,13 @@ use Rattle.std.proofs.lemmas.Bool.Decides.{nat_tests}
 use Rattle.saphyr_input.specs.Breaks.{normalized}
 use Rattle.saphyr_input.specs.Classes.{is_blank, is_break, line_feed, carriage_return, tab}
 use Rattle.saphyr_scalar.specs.declared.scalar.position.Marker.{Marker}
-use Rattle.saphyr_scalar.specs.Cursor.{along, next_line}
-use Rattle.saphyr_scalar.specs.BlockRead.{spaces}
-use Rattle.saphyr_scalar.specs.Plain.{ends_line}
-use Rattle.saphyr_scalar.specs.PlainReading.{AreWhite, passed}
-use Rattle.saphyr_scalar.specs.PlainSpelling.{behind_blanks, reaches_tabbed, has_line_end, IsPlainGap}
-use Rattle.saphyr_scalar.specs.TagSpelling.{AreIn}
-use Rattle.saphyr_scalar.specs.Spaces.{joined, AreEach, AreSpaces}
+use Rattle.saphyr_scalar.specs.Views.Cursor.{along, next_line}
+use Rattle.saphyr_scalar.specs.Steps.BlockRead.{spaces}
+use Rattle.saphyr_scalar.specs.Steps.Plain.{ends_line}
+use Rattle.saphyr_scalar.specs.Reading.Plain.{AreWhite, passed}
+use Rattle.saphyr_scalar.specs.Spelling.Plain.{behind_blanks, reaches_tabbed, has_line_end, IsPlainGap}
+use Rattle.saphyr_scalar.specs.Spelling.Tag.{AreIn}
+use Rattle.saphyr_scalar.specs.Spelling.Spaces.{joined, AreEach, AreSpaces}
 use Rattle.saphyr_scanner.specs.Grammar.FlowScalars.{IsLinePrefix, IsEmptyLine, IsFoldedGap, IsWordGap}
 use Rattle.saphyr_scanner.proofs.Flow.States.{moved}
 use Rattle.saphyr_scanner.proofs.Flow.Places.{moved_append}

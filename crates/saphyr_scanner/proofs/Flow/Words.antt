@@ -5,11 +5,11 @@ use Rattle.std.proofs.lemmas.Bool.Decides.{nat_tests}
 use Rattle.saphyr_input.specs.Classes.{is_break, is_blank_or_breakz, is_bom, is_flow}
 use Rattle.saphyr_input.specs.Places.{is_document_indicator}
 use Rattle.saphyr_scalar.specs.declared.scalar.position.Marker.{Marker}
-use Rattle.saphyr_scalar.specs.Cursor.{along}
-use Rattle.saphyr_scalar.specs.PlainReading.{passed}
-use Rattle.saphyr_scalar.specs.PlainSpelling.{EndsPlain, is_word_ink, AreWordInk, IsWordIn, AreInkBefore, IsWordBefore, words_text, IsNoMarker, AreFurtherWords, IsPlainText}
-use Rattle.saphyr_scalar.specs.TagSpelling.{AreIn}
-use Rattle.saphyr_scalar.specs.Spaces.{joined, AreEach}
+use Rattle.saphyr_scalar.specs.Views.Cursor.{along}
+use Rattle.saphyr_scalar.specs.Reading.Plain.{passed}
+use Rattle.saphyr_scalar.specs.Spelling.Plain.{EndsPlain, is_word_ink, AreWordInk, IsWordIn, AreInkBefore, IsWordBefore, words_text, IsNoMarker, AreFurtherWords, IsPlainText}
+use Rattle.saphyr_scalar.specs.Spelling.Tag.{AreIn}
+use Rattle.saphyr_scalar.specs.Spelling.Spaces.{joined, AreEach}
 use Rattle.saphyr_scalar.proofs.NoBreaks.{NoBreaks}
 use Rattle.saphyr_scanner.specs.Grammar.FlowScalars.{IsWordGap, IsFurtherWord, IsPlain, IsLastWord, IsPlainKey}
 use Rattle.saphyr_scanner.proofs.Flow.States.{moved, IsClear}

@@ -4,7 +4,7 @@ use Rattle.std.proofs.Common.{◌≡◌, ℕ, ◌≤◌, ◌<◌, ◌^◌, true,
 use Rattle.std.specs.Prelude.{map, ◌==◌}
 use Rattle.saphyr_input.specs.Breaks.{normalized}
 use Rattle.saphyr_input.specs.Classes.{is_blank_or_breakz, line_feed}
-use Rattle.saphyr_scalar.specs.Spaces.{IsEol, IsFiller, IsLastFiller, IsLineRest}
+use Rattle.saphyr_scalar.specs.Spelling.Spaces.{IsEol, IsFiller, IsLastFiller, IsLineRest}
 use Rattle.saphyr_scanner.specs.Grammar.Forest.{Node, Forest, left_out}
 use Rattle.saphyr_scanner.specs.Grammar.BlockNodes.{BehindMarker, IsLeftOut, IsBlockNode}
 use Rattle.saphyr_scanner.specs.Grammar.ClosedTexts.{DocumentMarker, Starts, Ends, marker_text, marker_token, IsBeforeLine, IsBeforeMarker, EndsWithMarker, HandsOut}

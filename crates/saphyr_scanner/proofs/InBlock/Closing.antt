@@ -6,7 +6,7 @@ use Rattle.saphyr_input.specs.Classes.{is_z, is_bom, is_blank_or_breakz}
 use Rattle.saphyr_input.specs.Places.{is_document_start, is_document_end, is_document_indicator}
 use Rattle.saphyr_scalar.specs.declared.scalar.position.Marker.{Marker}
 use Rattle.saphyr_scalar.specs.declared.scalar.fault.Refusal.{Refusal}
-use Rattle.saphyr_scalar.specs.Cursor.{◌>>=◌}
+use Rattle.saphyr_scalar.specs.Views.Cursor.{◌>>=◌}
 use Rattle.saphyr_scanner.specs.Steps.Passing.{separate}
 use Rattle.saphyr_scanner.specs.Steps.Core.{Candidate}
 use Rattle.saphyr_scanner.specs.Steps.Document as document

@@ -4,12 +4,12 @@ use Rattle.std.specs.Prelude.{◌||◌, if◌then◌else◌}
 use Rattle.saphyr_input.specs.Classes.{is_blank, is_break}
 use Rattle.saphyr_input.specs.Places.{is_blank_or_break}
 use Rattle.saphyr_scalar.specs.declared.scalar.position.Marker.{Marker}
-use Rattle.saphyr_scalar.specs.BlockRead.{spaces}
-use Rattle.saphyr_scalar.specs.Cursor.{Cursor, along, next_line}
-use Rattle.saphyr_scalar.specs.Plain.{ends_line}
-use Rattle.saphyr_scalar.specs.PlainSpelling.{past_white}
-use Rattle.saphyr_scalar.specs.Spaces.{AreEach, joined, IsSeparation, IsSeparationLine, IsLineRest}
-use Rattle.saphyr_scalar.specs.TagSpelling.{AreIn}
+use Rattle.saphyr_scalar.specs.Steps.BlockRead.{spaces}
+use Rattle.saphyr_scalar.specs.Views.Cursor.{Cursor, along, next_line}
+use Rattle.saphyr_scalar.specs.Steps.Plain.{ends_line}
+use Rattle.saphyr_scalar.specs.Spelling.Plain.{past_white}
+use Rattle.saphyr_scalar.specs.Spelling.Spaces.{AreEach, joined, IsSeparation, IsSeparationLine, IsLineRest}
+use Rattle.saphyr_scalar.specs.Spelling.Tag.{AreIn}
 use Rattle.saphyr_scanner.specs.declared.engine.level.Context.{Context}
 use Rattle.saphyr_scanner.specs.Steps.Core.{is_block}
 use Rattle.saphyr_scanner.proofs.Flow.States.{crosses, IsFresh}

@@ -4,8 +4,8 @@ use Rattle.std.proofs.lemmas.Bool.Decides.{nat_tests}
 use Rattle.std.specs.Prelude.{◌||◌, ◌==◌, not}
 use Rattle.std.specs.Char.{encode_utf8}
 use Rattle.saphyr_input.specs.Classes.{line_feed, is_blank, is_digit, is_alpha, is_tag_char, is_uri_char, is_yaml_non_break, is_yaml_non_space, IsHex}
-use Rattle.saphyr_scalar.specs.DirectiveSpelling.{IsVersionDirective, IsTagDirective, IsReservedDirective, IsLineTail}
-use Rattle.saphyr_scalar.specs.TagSpelling.{AreIn, IsHandleText, IsPrefix, AreByteEscapes, IsCharacter, IsDecoded}
+use Rattle.saphyr_scalar.specs.Spelling.Directive.{IsVersionDirective, IsTagDirective, IsReservedDirective, IsLineTail}
+use Rattle.saphyr_scalar.specs.Spelling.Tag.{AreIn, IsHandleText, IsPrefix, AreByteEscapes, IsCharacter, IsDecoded}
 use Rattle.saphyr_scanner.specs.Grammar.Forest.{Directive, Version, TagPrefix, Reserved}
 use Rattle.saphyr_scanner.specs.Grammar.Layout.{IsDirective, AreDirectives}
 use Rattle.saphyr_scanner.proofs.InBlock.Skips.{nothing, one_break, filler_skipped}

@@ -10,10 +10,10 @@ use Rattle.saphyr_input.specs.Separation.{found_blanks, found_tabs}
 use Rattle.saphyr_input.specs.declared.input.SkipTabs.{SkipTabs}
 use Rattle.saphyr_input.specs.declared.input.SkipTabs.TheVariants.{Yes}
 use Rattle.saphyr_scalar.specs.declared.scalar.position.Marker.{Marker}
-use Rattle.saphyr_scalar.specs.BlockRead.{spaces}
-use Rattle.saphyr_scalar.specs.Cursor.{Cursor, ◌>>=◌, along, separation}
-use Rattle.saphyr_scalar.specs.Spaces.{IsCommentBehind}
-use Rattle.saphyr_scalar.specs.TagSpelling.{AreIn}
+use Rattle.saphyr_scalar.specs.Steps.BlockRead.{spaces}
+use Rattle.saphyr_scalar.specs.Views.Cursor.{Cursor, ◌>>=◌, along, separation}
+use Rattle.saphyr_scalar.specs.Spelling.Spaces.{IsCommentBehind}
+use Rattle.saphyr_scalar.specs.Spelling.Tag.{AreIn}
 use Rattle.saphyr_scanner.specs.Steps.Core.{least_column, Core, Candidate, went, at_mark, perform, is_further, roll, remove_key}
 use Rattle.saphyr_scanner.specs.Steps.Block.{entry, next_entry, pass_dash, deepen, refuse_tab, behind_start}
 use Rattle.saphyr_scanner.specs.Steps.Passing.{pass_on, with_cursor}

@@ -1,7 +1,7 @@
 -- The first tokens of nodes and of documents.
 use Rattle.std.proofs.Common.{◌≡◌, ℕ, Bool, true, false, List, [], ◌∷◌, ◌++◌, refl, sym, ap, ◌∙◌, subst, append_assoc, ◌⊎◌, inl, inr}
-use Rattle.saphyr_scalar.specs.BlockRead.{spaces}
-use Rattle.saphyr_scalar.specs.Spaces.{IsLastFiller}
+use Rattle.saphyr_scalar.specs.Steps.BlockRead.{spaces}
+use Rattle.saphyr_scalar.specs.Spelling.Spaces.{IsLastFiller}
 use Rattle.saphyr_scanner.specs.Grammar.Forest.{Properties, Directive, Node, Alias, Scalar, Seq, Map, Document, Forest}
 use Rattle.saphyr_scanner.specs.Grammar.BlockNodes.{Position, BehindDash, BehindMark, BehindKey, BehindMarker, AtStart, indent_at, sequence_indent_at, IsGapAt, AreSpacesAt, IsLead, IsLeftOut, IsFlowInBlock, IsBlockNode}
 use Rattle.saphyr_scanner.specs.Grammar.Layout as layout

@@ -6,7 +6,7 @@ use Rattle.std.proofs.lemmas.List.{length-append}
 use Rattle.saphyr_input.specs.Classes.{is_z}
 use Rattle.saphyr_input.specs.Places.{can_be_plain, is_document_indicator}
 use Rattle.saphyr_scalar.specs.declared.scalar.position.Marker.{Marker}
-use Rattle.saphyr_scalar.specs.Spaces.{IsEol}
+use Rattle.saphyr_scalar.specs.Spelling.Spaces.{IsEol}
 use Rattle.saphyr_scanner.specs.Steps.Core.{Candidate, least_column}
 use Rattle.saphyr_scanner.specs.Grammar.Forest.{Node, Alias, Scalar, Seq, Map}
 use Rattle.saphyr_scanner.specs.Grammar.BlockNodes.{Position, IsFlowInBlock}

@@ -1,7 +1,7 @@
 -- A node at block level stands where more text follows as well, if what stands behind it ends with a break and has a
 -- token.
 use Rattle.std.proofs.Common.{◌≡◌, ℕ, Bool, true, false, List, [], ◌++◌, sym, ap, ◌∙◌, subst, append_assoc, ◌⊎◌, inl, inr}
-use Rattle.saphyr_scalar.specs.Spaces.{IsEol}
+use Rattle.saphyr_scalar.specs.Spelling.Spaces.{IsEol}
 use Rattle.saphyr_scanner.specs.Grammar.Forest.{Node, Alias, Scalar, Seq, Map, Nodes, NoNode, MoreNodes, Pairs, NoPair, MorePairs, Document}
 use Rattle.saphyr_scanner.specs.Grammar.BlockNodes.{Position, BehindDash, BehindMark, BehindKey, BehindMarker, AtStart, indent_at, IsFlowInBlock, IsBehindQuestion, has_tab_ahead, IsBlockPair, IsBlockNode, AreEntries, AreOtherEntries, ArePairs, AreOtherPairs}
 use Rattle.saphyr_scanner.specs.Grammar.Layout as layout

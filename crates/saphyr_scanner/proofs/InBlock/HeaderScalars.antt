@@ -8,9 +8,9 @@ use Rattle.saphyr_scalar.specs.declared.reading.block.BlockStyle.{BlockStyle}
 use Rattle.saphyr_scalar.specs.declared.reading.block.BlockStyle.TheVariants as block_style
 use Rattle.saphyr_scalar.specs.declared.scalar.position.Marker.{Marker}
 use Rattle.saphyr_scalar.specs.declared.scalar.position.Span.{Span}
-use Rattle.saphyr_scalar.specs.BlockRead.{spaces}
-use Rattle.saphyr_scalar.specs.BlockScalar as blocks
-use Rattle.saphyr_scalar.specs.Cursor.{Cursor, ◌>>=◌}
+use Rattle.saphyr_scalar.specs.Steps.BlockRead.{spaces}
+use Rattle.saphyr_scalar.specs.Steps.Block as blocks
+use Rattle.saphyr_scalar.specs.Views.Cursor.{Cursor, ◌>>=◌}
 use Rattle.saphyr_scanner.specs.Steps.Core.{Core, Candidate, went, from_to, is_too_far, drop_far_key, least_column, save_key}
 use Rattle.saphyr_scanner.specs.Steps.Fetch.{fetch, fetch_here, fetch_within, within, content, step}
 use Rattle.saphyr_scanner.specs.Grammar.Forest.{Style, Plain, SingleQuoted, DoubleQuoted, Literal, Folded}

@@ -4,8 +4,8 @@ use Rattle.std.proofs.lemmas.Bool.Decides.{nat_tests}
 use Rattle.std.specs.Prelude.{◌&&◌, ◌==◌, not}
 use Rattle.saphyr_input.specs.Classes.{line_feed, is_blank, is_yaml_non_break}
 use Rattle.saphyr_input.specs.Places.{is_document_indicator}
-use Rattle.saphyr_scalar.specs.Spaces.{IsComment, IsLastFiller, IsLineRest, IsEol}
-use Rattle.saphyr_scalar.specs.TagSpelling.{AreIn}
+use Rattle.saphyr_scalar.specs.Spelling.Spaces.{IsComment, IsLastFiller, IsLineRest, IsEol}
+use Rattle.saphyr_scalar.specs.Spelling.Tag.{AreIn}
 use Rattle.saphyr_scanner.specs.Grammar.Layout.{IsDocumentPrefix}
 use Rattle.saphyr_scanner.proofs.Flow.States.{marks_line}
 use Rattle.saphyr_scanner.proofs.Flow.Fillers.{behind_is}

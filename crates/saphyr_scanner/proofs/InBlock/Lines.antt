@@ -4,7 +4,7 @@ use Rattle.std.specs.Prelude.{◌-◌, ◌==◌}
 use Rattle.std.proofs.lemmas.List.{length-append}
 use Rattle.saphyr_input.specs.Classes.{line_feed}
 use Rattle.saphyr_scalar.specs.declared.scalar.position.Marker.{Marker}
-use Rattle.saphyr_scalar.specs.Cursor.{along, next_line}
+use Rattle.saphyr_scalar.specs.Views.Cursor.{along, next_line}
 use Rattle.saphyr_scanner.proofs.Flow.States.{moved, past, IsClear}
 use Rattle.saphyr_scanner.proofs.Flow.GapSteps.{by_steps}
 use Rattle.saphyr_scanner.proofs.Flow.Places.{behind_character, moved_append, moved_index, moved_count, clear_front, clear_back}

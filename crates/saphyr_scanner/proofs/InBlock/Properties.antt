@@ -5,8 +5,8 @@ use Rattle.std.specs.Prelude.{option_map, Option, Some, None}
 use Rattle.std.proofs.lemmas.List.{length-append}
 use Rattle.saphyr_input.specs.Classes.{is_blank_or_breakz}
 use Rattle.saphyr_scalar.specs.declared.scalar.position.Marker.{Marker}
-use Rattle.saphyr_scalar.specs.BlockRead.{spaces}
-use Rattle.saphyr_scalar.specs.Spaces.{AreSpaces, IsLineRest}
+use Rattle.saphyr_scalar.specs.Steps.BlockRead.{spaces}
+use Rattle.saphyr_scalar.specs.Spelling.Spaces.{AreSpaces, IsLineRest}
 use Rattle.saphyr_scalar.proofs.NoBreaks.{NoBreaks}
 use Rattle.saphyr_scanner.specs.Steps.Core.{Candidate, is_too_far}
 use Rattle.saphyr_scanner.specs.Grammar.Forest.{Tag}

@@ -3,9 +3,9 @@ use Rattle.std.proofs.Common.{◌≡◌, ℕ, ◌+◌, ◌≤◌, Bool, true, fa
 use Rattle.std.specs.Prelude.{◌||◌, ◌==◌, Option, Some, None, if◌then◌else◌}
 use Rattle.saphyr_input.specs.Classes.{is_blank_or_breakz, is_anchor_char}
 use Rattle.saphyr_scalar.specs.declared.scalar.position.Marker.{Marker}
-use Rattle.saphyr_scalar.specs.Cursor.{Cursor, ◌>>=◌, along}
-use Rattle.saphyr_scalar.specs.Quoted.{at}
-use Rattle.saphyr_scalar.specs.TagSpelling.{IsAnchorName, IsTagText, EndsTag}
+use Rattle.saphyr_scalar.specs.Views.Cursor.{Cursor, ◌>>=◌, along}
+use Rattle.saphyr_scalar.specs.Steps.Quoted.{at}
+use Rattle.saphyr_scalar.specs.Spelling.Tag.{IsAnchorName, IsTagText, EndsTag}
 use Rattle.saphyr_scanner.specs.Steps.Core.{Core, Candidate, went, from_to, is_too_far, least_column}
 use Rattle.saphyr_scanner.specs.Steps.Fetch.{fetch, fetch_here, fetch_within, within, content, step}
 use Rattle.saphyr_scanner.specs.Grammar.Forest.{Tag}

@@ -8,14 +8,14 @@ use Rattle.saphyr_scalar.specs.declared.reading.block.BlockStyle.TheVariants as 
 use Rattle.saphyr_scalar.specs.declared.reading.block.Chomping.{Chomping}
 use Rattle.saphyr_scalar.specs.declared.scalar.position.Marker.{Marker}
 use Rattle.saphyr_scalar.specs.declared.scalar.position.Span.{Span}
-use Rattle.saphyr_scalar.specs.BlockRead.{spaces}
-use Rattle.saphyr_scalar.specs.BlockReading.{Line}
-use Rattle.saphyr_scalar.specs.BlockScalar.{block_scalar}
-use Rattle.saphyr_scalar.specs.BlockSpelling as spelling
-use Rattle.saphyr_scalar.specs.BlockSpelling.{IsIndicator, IsChomping, IsHeader, IsBlockScalar, IsTaken}
-use Rattle.saphyr_scalar.specs.Cursor.{Cursor, next_line}
+use Rattle.saphyr_scalar.specs.Steps.BlockRead.{spaces}
+use Rattle.saphyr_scalar.specs.Reading.Block.{Line}
+use Rattle.saphyr_scalar.specs.Steps.Block.{block_scalar}
+use Rattle.saphyr_scalar.specs.Spelling.Block as spelling
+use Rattle.saphyr_scalar.specs.Spelling.Block.{IsIndicator, IsChomping, IsHeader, IsBlockScalar, IsTaken}
+use Rattle.saphyr_scalar.specs.Views.Cursor.{Cursor, next_line}
 use Rattle.saphyr_scalar.specs.Passing.{IsPassed}
-use Rattle.saphyr_scalar.specs.TagSpelling.{AreIn}
+use Rattle.saphyr_scalar.specs.Spelling.Tag.{AreIn}
 use Rattle.saphyr_scanner.specs.Grammar.Forest.{Style, Plain, SingleQuoted, DoubleQuoted, Literal, Folded, Properties}
 use Rattle.saphyr_scanner.specs.Grammar.BlockNodes.{IsBlockScalarText, IsStyled, IsScalarFront}
 use Rattle.saphyr_scanner.proofs.Flow.States.{moved}

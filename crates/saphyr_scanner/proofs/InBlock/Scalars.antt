@@ -2,8 +2,8 @@
 use Rattle.std.proofs.Common.{◌≡◌, ℕ, zero, suc, ◌+◌, ◌^◌, ◌<◌, ◌≤◌, true, false, List, [], ◌∷◌, ◌++◌, refl, sym, ap, ◌∙◌, arith, subst, append_assoc, append-nil, IsTrue, ◌⊎◌, inl, inr}
 use Rattle.std.specs.Prelude.{Option, Some, None}
 use Rattle.saphyr_scalar.specs.declared.scalar.position.Marker.{Marker}
-use Rattle.saphyr_scalar.specs.BlockRead.{spaces}
-use Rattle.saphyr_scalar.specs.Spaces.{AreSpaces}
+use Rattle.saphyr_scalar.specs.Steps.BlockRead.{spaces}
+use Rattle.saphyr_scalar.specs.Spelling.Spaces.{AreSpaces}
 use Rattle.saphyr_scalar.proofs.NoBreaks.{NoBreaks, no_breaks_both}
 use Rattle.saphyr_scanner.specs.Steps.Core.{Candidate}
 use Rattle.saphyr_scanner.specs.Grammar.Forest.{Style, Tag, Properties, Scalar}

@@ -4,10 +4,10 @@ use Rattle.std.specs.Prelude.{◌||◌, ◌&&◌, ◌==◌, if◌then◌else◌}
 use Rattle.std.proofs.lemmas.Bool.Decides.{nat_tests}
 use Rattle.saphyr_input.specs.Classes.{is_blank, is_break, is_yaml_non_break}
 use Rattle.saphyr_scalar.specs.declared.scalar.position.Marker.{Marker}
-use Rattle.saphyr_scalar.specs.BlockRead.{spaces}
-use Rattle.saphyr_scalar.specs.Cursor.{along, next_line}
-use Rattle.saphyr_scalar.specs.TagSpelling.{AreIn}
-use Rattle.saphyr_scalar.specs.Spaces.{AreEach, AreSpaces, joined, IsComment, IsLineRest, IsLineEnd, IsFillerLine, IsFiller}
+use Rattle.saphyr_scalar.specs.Steps.BlockRead.{spaces}
+use Rattle.saphyr_scalar.specs.Views.Cursor.{along, next_line}
+use Rattle.saphyr_scalar.specs.Spelling.Tag.{AreIn}
+use Rattle.saphyr_scalar.specs.Spelling.Spaces.{AreEach, AreSpaces, joined, IsComment, IsLineRest, IsLineEnd, IsFillerLine, IsFiller}
 use Rattle.saphyr_scanner.specs.Steps.Gap as gap
 use Rattle.saphyr_scanner.specs.Steps.Gap.{is_tab_indentation}
 use Rattle.saphyr_scanner.proofs.Flow.States.{moved, past, past_comment}

@@ -4,7 +4,7 @@ use Rattle.std.proofs.Common.{◌≡◌, ℕ, ◌+◌, ◌<◌, ◌≤◌, Bool,
 use Rattle.std.specs.Prelude.{◌||◌, ◌&&◌, ◌==◌, Option, None, if◌then◌else◌}
 use Rattle.saphyr_input.specs.Classes.{is_blank, is_break, is_yaml_non_break}
 use Rattle.saphyr_scalar.specs.declared.scalar.position.Marker.{Marker}
-use Rattle.saphyr_scalar.specs.Cursor.{Cursor, along, next_line}
+use Rattle.saphyr_scalar.specs.Views.Cursor.{Cursor, along, next_line}
 use Rattle.saphyr_scanner.specs.declared.engine.level.Context.TheVariants as context
 use Rattle.saphyr_scanner.specs.Grammar.Tokens.{Kind}
 use Rattle.saphyr_scanner.specs.Steps.Queue.{Place}

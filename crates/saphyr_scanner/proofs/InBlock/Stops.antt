@@ -2,7 +2,7 @@
 use Rattle.std.proofs.Common.{◌≡◌, ℕ, Bool, true, false, List, [], ◌∷◌, ◌++◌, refl, sym, ap, ◌∙◌, arith, ◌⊎◌, inl, inr}
 use Rattle.saphyr_input.specs.Classes.{is_bom}
 use Rattle.saphyr_scalar.specs.declared.scalar.position.Marker.{Marker}
-use Rattle.saphyr_scalar.specs.Spaces.{IsLastFiller, IsEol}
+use Rattle.saphyr_scalar.specs.Spelling.Spaces.{IsLastFiller, IsEol}
 use Rattle.saphyr_scanner.specs.Grammar.Forest.{Forest}
 use Rattle.saphyr_scanner.proofs.Flow.States.{IsInk, moved, past}
 use Rattle.saphyr_scanner.proofs.Flow.Fillers.{last_filler_past, rest_past}

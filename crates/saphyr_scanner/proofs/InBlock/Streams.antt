@@ -2,8 +2,8 @@
 use Rattle.std.proofs.Common.{◌≡◌, ℕ, ◌≤◌, Bool, true, false, List, [], ◌∷◌, ◌++◌, length, inl, inr, refl, sym, ap, ◌∙◌, arith, subst, append_assoc, append-nil}
 use Rattle.std.specs.Prelude.{None, ◌==◌, not}
 use Rattle.saphyr_input.specs.Classes.{carriage_return}
-use Rattle.saphyr_scalar.specs.Cursor.{fresh}
-use Rattle.saphyr_scalar.specs.TagSpelling.{AreIn}
+use Rattle.saphyr_scalar.specs.Views.Cursor.{fresh}
+use Rattle.saphyr_scalar.specs.Spelling.Tag.{AreIn}
 use Rattle.saphyr_scanner.specs.Grammar.Forest.{Forest}
 use Rattle.saphyr_scanner.specs.Grammar.Layout as layout
 use Rattle.saphyr_scanner.specs.Grammar.Layout.{has_marker, AreDirectives, IsDocumentPrefix, IsDocumentSuffix, IsLayout, most_open}

@@ -11,9 +11,9 @@ use Rattle.saphyr_scanner.proofs.Flow.Places.{behind_character}
 use Rattle.saphyr_scanner.proofs.InBlock.Skips.{has_tab, comment_has_tab}
 use Rattle.std.proofs.lemmas.Bool.{or_parts}
 use Rattle.saphyr_scanner.proofs.Flow.Spaces.{white_no_sign, break_no_sign}
-use Rattle.saphyr_scalar.specs.Spaces.{IsFiller, AreEach, joined, IsComment, IsFillerLine, IsLastFiller}
+use Rattle.saphyr_scalar.specs.Spelling.Spaces.{IsFiller, AreEach, joined, IsComment, IsFillerLine, IsLastFiller}
 use Rattle.saphyr_scanner.proofs.Documents.Lines.{filler_line}
-use Rattle.saphyr_scalar.specs.TagSpelling.{AreIn}
+use Rattle.saphyr_scalar.specs.Spelling.Tag.{AreIn}
 use Rattle.saphyr_input.proofs.Basics.Booleans.{by_test}
 
 -- whether a character leads on to the next token

@@ -3,7 +3,7 @@ use Rattle.std.proofs.Common.{◌≡◌, ℕ, Bool, true, false, List, [], ◌�
 use Rattle.std.specs.Prelude.{map, ◌==◌}
 use Rattle.saphyr_input.specs.Classes.{is_blank_or_breakz, line_feed}
 use Rattle.saphyr_input.specs.Places.{is_document_indicator}
-use Rattle.saphyr_scalar.specs.Spaces.{IsLastFiller, IsEol}
+use Rattle.saphyr_scalar.specs.Spelling.Spaces.{IsLastFiller, IsEol}
 use Rattle.saphyr_scanner.specs.Grammar.Forest.{Document, Forest, AreCompatible}
 use Rattle.saphyr_scanner.specs.Grammar.BlockNodes.{BehindMarker, AtStart, IsBlockNode}
 use Rattle.saphyr_scanner.specs.Grammar.ClosedTexts.{DocumentMarker, Starts, Ends, marker_text, marker_token}

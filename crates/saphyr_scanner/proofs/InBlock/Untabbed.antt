@@ -4,7 +4,7 @@ use Rattle.std.proofs.Common.{◌≡◌, ℕ, ◌≤◌, Bool, true, false, List
 use Rattle.std.specs.Prelude.{◌||◌, ◌&&◌, ◌==◌, not, nat_lt}
 use Rattle.saphyr_input.specs.Classes.{is_blank, is_break, is_yaml_non_break}
 use Rattle.saphyr_scalar.specs.declared.scalar.position.Marker.{Marker}
-use Rattle.saphyr_scalar.specs.Cursor.{along, next_line}
+use Rattle.saphyr_scalar.specs.Views.Cursor.{along, next_line}
 use Rattle.saphyr_scanner.proofs.Flow.States.{is_left_tab, is_filler_rest, is_comment_rest, past, past_comment}
 use Rattle.saphyr_scanner.proofs.Flow.Gaps.{stops_tab, stop_blank, tab_blank, tab_rest, rest_sign, no_rest, word_rest, return_rest, no_comment_rest, no_tab_before}
 use Rattle.saphyr_scanner.proofs.InBlock.Gaps.{no_left}

@@ -5,12 +5,12 @@ use Rattle.saphyr_input.specs.Classes.{is_blank, is_blank_or_breakz}
 use Rattle.saphyr_scalar.specs.declared.scalar.position.Marker.{Marker}
 use Rattle.saphyr_scalar.specs.declared.reading.flow.Quote.{Quote}
 use Rattle.saphyr_scalar.specs.declared.reading.flow.Quote.TheVariants.{Single, Double}
-use Rattle.saphyr_scalar.specs.Cursor.{Cursor, ◌>>=◌, along}
-use Rattle.saphyr_scalar.specs.FlowReading.{mark, plain_value}
-use Rattle.saphyr_scalar.specs.Quoted.{at}
-use Rattle.saphyr_scalar.specs.Plain.{in_word, comment_of}
-use Rattle.saphyr_scalar.specs.PlainSpelling.{is_tabbed, past_white, EndsPlain, IsPlainText}
-use Rattle.saphyr_scalar.specs.BlockRead.{spaces}
+use Rattle.saphyr_scalar.specs.Views.Cursor.{Cursor, ◌>>=◌, along}
+use Rattle.saphyr_scalar.specs.Reading.Flow.{mark, plain_value}
+use Rattle.saphyr_scalar.specs.Steps.Quoted.{at}
+use Rattle.saphyr_scalar.specs.Steps.Plain.{in_word, comment_of}
+use Rattle.saphyr_scalar.specs.Spelling.Plain.{is_tabbed, past_white, EndsPlain, IsPlainText}
+use Rattle.saphyr_scalar.specs.Steps.BlockRead.{spaces}
 use Rattle.saphyr_scanner.specs.declared.engine.level.Context.TheVariants as context
 use Rattle.saphyr_scanner.specs.Grammar.Tokens.{scalar_token}
 use Rattle.saphyr_scanner.specs.Steps.Gap.{Passed, gap}

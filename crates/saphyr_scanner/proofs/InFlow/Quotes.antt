@@ -8,13 +8,13 @@ use Rattle.saphyr_scalar.specs.declared.scalar.position.Marker.{Marker}
 use Rattle.saphyr_scalar.specs.declared.reading.folding.Item.{Item}
 use Rattle.saphyr_scalar.specs.declared.reading.flow.Quote.{Quote}
 use Rattle.saphyr_scalar.specs.declared.reading.flow.Quote.TheVariants.{Single, Double}
-use Rattle.saphyr_scalar.specs.Cursor.{along, next_line}
-use Rattle.saphyr_scalar.specs.FlowReading.{mark, is_special, backslash, apostrophe}
-use Rattle.saphyr_scalar.specs.LineSpelling.{AreHex, IsNumber}
-use Rattle.saphyr_scalar.specs.Quoted.{simple_escape, digit_count, break_len}
-use Rattle.saphyr_scalar.specs.QuotedSpelling.{stands_for_itself, IsText, closed, itself, broken, two_quotes, escaped, numbered, escaped_break}
-use Rattle.saphyr_scalar.specs.QuotedLines.{space_count, IsLine, LinesFit}
-use Rattle.saphyr_scalar.specs.TagSpelling.{AreIn}
+use Rattle.saphyr_scalar.specs.Views.Cursor.{along, next_line}
+use Rattle.saphyr_scalar.specs.Reading.Flow.{mark, is_special, backslash, apostrophe}
+use Rattle.saphyr_scalar.specs.Spelling.OneLine.{AreHex, IsNumber}
+use Rattle.saphyr_scalar.specs.Steps.Quoted.{simple_escape, hex_digit_count, break_len}
+use Rattle.saphyr_scalar.specs.Spelling.Quoted.{stands_for_itself, IsText, closed, itself, broken, two_quotes, escaped, numbered, escaped_break}
+use Rattle.saphyr_scalar.specs.Spelling.QuotedLines.{space_count, IsLine, LinesFit}
+use Rattle.saphyr_scalar.specs.Spelling.Tag.{AreIn}
 use Rattle.saphyr_scanner.proofs.Flow.States.{moved}
 use Rattle.saphyr_scanner.proofs.Flow.Places.{moved_append, right_along}
 use Rattle.saphyr_input.proofs.Basics.Numbers.{le_next}
@@ -94,7 +94,7 @@ no_feed_letter e ds c h = by_test (e == line_feed) refl
 
     by_test : (b : Bool) → (e == line_feed) ≡ b → (e == line_feed) ≡ false
     by_test true k = let count : length ds ≡ 0 =
-        h.count ∙ ap digit_count (feed e k) in let some = h.some in absurd (omega (arith, count, some))
+        h.count ∙ ap hex_digit_count (feed e k) in let some = h.some in absurd (omega (arith, count, some))
     by_test false k = k
 
 hex_line : (ds : List ℕ) → AreHex ds → AreIn (λ c. not (c == line_feed)) ds

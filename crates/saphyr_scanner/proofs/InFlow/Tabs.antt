@@ -6,9 +6,9 @@ use Rattle.std.proofs.lemmas.Bool.Decides.{nat_tests}
 use Rattle.saphyr_input.specs.Classes.{is_blank, is_break}
 use Rattle.saphyr_input.specs.Places.{is_blank_or_break, is_document_indicator}
 use Rattle.saphyr_scalar.specs.declared.scalar.position.Marker.{Marker}
-use Rattle.saphyr_scalar.specs.Cursor.{Cursor, along, next_line}
-use Rattle.saphyr_scalar.specs.Plain.{ends_line}
-use Rattle.saphyr_scalar.specs.PlainSpelling.{reaches_tabbed, is_tabbed, stands_behind_tab, past_white}
+use Rattle.saphyr_scalar.specs.Views.Cursor.{Cursor, along, next_line}
+use Rattle.saphyr_scalar.specs.Steps.Plain.{ends_line}
+use Rattle.saphyr_scalar.specs.Spelling.Plain.{reaches_tabbed, is_tabbed, stands_behind_tab, past_white}
 use Rattle.saphyr_scanner.proofs.Flow.States.{is_filler_rest, past, EndsDocument, IsLeft}
 use Rattle.saphyr_scanner.proofs.Flow.Gaps.{stops_tab, stop_blank, tab_rest, no_rest, no_tab_before}
 use Rattle.saphyr_scalar.proofs.Plain.Texts.{blanks_on}

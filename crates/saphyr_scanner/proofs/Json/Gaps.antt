@@ -8,7 +8,7 @@ use Rattle.saphyr_input.specs.Classes.{IsBlank, is_blank, is_break, is_bom}
 use Rattle.saphyr_input.specs.Separation.{blank_len, separation_len, comment_len, found_blanks}
 use Rattle.saphyr_input.specs.declared.input.SkipTabs.TheVariants.{Yes}
 use Rattle.saphyr_scalar.specs.declared.scalar.position.Marker.{Marker}
-use Rattle.saphyr_scalar.specs.Cursor.{Cursor, along, next_line, pass_blanks, behind_separation, separation}
+use Rattle.saphyr_scalar.specs.Views.Cursor.{Cursor, along, next_line, pass_blanks, behind_separation, separation}
 use Rattle.saphyr_scanner.specs.Grammar.Characters.{AreAll}
 use Rattle.saphyr_scanner.specs.Steps.Gap.{stop, gap, gap_at, is_tab_indentation}
 use Rattle.saphyr_scanner.specs.Grammar.Json.{IsWhite, IsWhiteSpace}

@@ -2,8 +2,8 @@
 use Rattle.std.proofs.Common.{◌≡◌, ℕ, ◌+◌, ◌≤◌, Bool, true, false, List, [], ◌∷◌, ◌++◌, length, Ok, refl, sym, ap, ◌∙◌, append-nil, arith}
 use Rattle.std.specs.Prelude.{map, Option, None}
 use Rattle.saphyr_scalar.specs.declared.scalar.position.Marker.{Marker}
-use Rattle.saphyr_scalar.specs.Cursor.{Cursor, ◌>>=◌, fresh}
-use Rattle.saphyr_scalar.specs.Plain as words
+use Rattle.saphyr_scalar.specs.Views.Cursor.{Cursor, ◌>>=◌, fresh}
+use Rattle.saphyr_scalar.specs.Steps.Plain as words
 use Rattle.saphyr_scanner.specs.declared.engine.level.Context.TheVariants as context
 use Rattle.saphyr_scanner.specs.Grammar.Forest.{Forest, open_in_forest}
 use Rattle.saphyr_scanner.specs.Grammar.Json.{IsJson}

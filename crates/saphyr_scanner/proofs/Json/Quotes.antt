@@ -6,9 +6,9 @@ use Rattle.saphyr_input.specs.Classes.{is_break, is_breakz}
 use Rattle.saphyr_input.specs.declared.input.SkipTabs.{SkipTabs}
 use Rattle.saphyr_scalar.specs.declared.scalar.position.Marker.{Marker}
 use Rattle.saphyr_scalar.specs.declared.scalar.fault.Refusal.{Refusal}
-use Rattle.saphyr_scalar.specs.Cursor.{Cursor, ◌>>=◌, along}
-use Rattle.saphyr_scalar.specs.Quoted as quoted
-use Rattle.saphyr_scalar.specs.Quoted.{at}
+use Rattle.saphyr_scalar.specs.Views.Cursor.{Cursor, ◌>>=◌, along}
+use Rattle.saphyr_scalar.specs.Steps.Quoted as quoted
+use Rattle.saphyr_scalar.specs.Steps.Quoted.{at}
 use Rattle.saphyr_scanner.specs.declared.engine.level.Context.{Context}
 use Rattle.saphyr_scanner.specs.Grammar.Tokens as tokens
 use Rattle.saphyr_scanner.specs.Grammar.Forest.{DoubleQuoted}

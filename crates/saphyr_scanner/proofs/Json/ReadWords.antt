@@ -5,9 +5,9 @@ use Rattle.std.proofs.lemmas.Bool.Decides.{nat_tests}
 use Rattle.saphyr_input.specs.Classes.{is_break}
 use Rattle.saphyr_input.specs.Places.{is_blank_or_break}
 use Rattle.saphyr_scalar.specs.declared.scalar.position.Marker.{Marker}
-use Rattle.saphyr_scalar.specs.Cursor.{Cursor, along, next_line}
-use Rattle.saphyr_scalar.specs.Plain.{in_word, Reading, comment_of}
-use Rattle.saphyr_scalar.specs.PlainSpelling.{is_tabbed, past_white, IsPlainWord, EndsPlain}
+use Rattle.saphyr_scalar.specs.Views.Cursor.{Cursor, along, next_line}
+use Rattle.saphyr_scalar.specs.Steps.Plain.{in_word, PlainScalarRead, comment_of}
+use Rattle.saphyr_scalar.specs.Spelling.Plain.{is_tabbed, past_white, IsPlainWord, EndsPlain}
 use Rattle.saphyr_scanner.specs.Grammar.Json.{IsWhite, IsWhiteSpace, IsWord}
 use Rattle.saphyr_scanner.proofs.Json.Words.{IsBehindValue, behind_value_stops, word_is_plain}
 use Rattle.saphyr_scanner.proofs.Json.Gaps.{StopsGap, has_break, along_more}
@@ -148,7 +148,7 @@ no_comment_of in_flow t s h = rw (no_sign s.rest h) (none (not in_flow) (t || no
     none false b = refl
 
 -- what the reader of scalars promises of plain words
-abbrev pub ReadsPlainWords : (Bool → ℕ → Cursor → Reading) → Type 0
+abbrev pub ReadsPlainWords : (Bool → ℕ → Cursor → PlainScalarRead) → Type 0
 ReadsPlainWords read =
     (in_flow : Bool) (indent : ℕ) (s : Cursor) (w x : List ℕ) → s.rest ≡ w ++ x → IsPlainWord w
     → EndsPlain in_flow indent (along s.mark (length w)) x
@@ -157,7 +157,7 @@ ReadsPlainWords read =
     ≡ Ok (encode_utf8_all w, end, comment_of in_flow (is_tabbed indent x) behind, behind)
 
 -- A word of JSON is read as a plain scalar, and the white space behind it is passed.
-pub word_read : (read : Bool → ℕ → Cursor → Reading) → ReadsPlainWords read
+pub word_read : (read : Bool → ℕ → Cursor → PlainScalarRead) → ReadsPlainWords read
     → (in_flow : Bool) (s : Cursor) (t w y : List ℕ) → s.rest ≡ t ++ (w ++ y) → IsWord t → IsWhiteSpace w
     → IsBehindValue in_flow y
     → (p : PassesLines (along s.mark (length t)) false w y)

@@ -5,14 +5,14 @@ use Rattle.std.proofs.lemmas.Bool.Decides.{nat_tests}
 use Rattle.std.proofs.lemmas.List.{length-append}
 use Rattle.saphyr_input.specs.Classes.{IsHex, is_hex, hex_value}
 use Rattle.saphyr_scalar.specs.declared.scalar.fault.Refusal.{Refusal}
-use Rattle.saphyr_scalar.specs.Cursor.{Cursor, along}
-use Rattle.saphyr_scalar.specs.Quoted.{simple_escape, is_scalar, at}
-use Rattle.saphyr_scalar.specs.LineSpelling as spelling
-use Rattle.saphyr_scalar.specs.LineSpelling.{stands_for_itself, AreHex, number_from, IsInside, closed, itself, escaped, numbered, IsDoubleQuoted}
+use Rattle.saphyr_scalar.specs.Views.Cursor.{Cursor, along}
+use Rattle.saphyr_scalar.specs.Steps.Quoted.{simple_escape, is_scalar, at}
+use Rattle.saphyr_scalar.specs.Spelling.OneLine as spelling
+use Rattle.saphyr_scalar.specs.Spelling.OneLine.{stands_in_double_quotes, AreHex, hexadecimal_from, IsInside, closed, itself, escaped, numbered, IsDoubleQuoted}
 use Rattle.saphyr_scanner.specs.Grammar.Characters.{IsSurrogate}
 use Rattle.saphyr_scanner.specs.Grammar.Json.{IsUnescaped, IsJsonEscape, IsCode, IsJsonSpelling, AreSpellings, IsString}
 
-unescaped_fits : (c : ℕ) → IsUnescaped c → IsTrue (stands_for_itself c)
+unescaped_fits : (c : ℕ) → IsUnescaped c → IsTrue (stands_in_double_quotes c)
 unescaped_fits c h = grind (arith, nat_tests)
 
 short_fits : (letter c : ℕ) → IsJsonEscape letter c → simple_escape letter ≡ Some c

@@ -3,8 +3,8 @@ use Rattle.std.proofs.Common.{◌≡◌, ◌≢◌, ℕ, Bool, true, false, List
 use Rattle.std.specs.Prelude.{◌||◌, ◌&&◌, ◌==◌, not}
 use Rattle.std.proofs.lemmas.Bool.Decides.{nat_tests}
 use Rattle.saphyr_input.specs.Classes.{IsDigit, is_blank, is_break, is_blank_or_breakz, is_flow}
-use Rattle.saphyr_scalar.specs.Plain.{in_word}
-use Rattle.saphyr_scalar.specs.PlainSpelling.{is_plain_safe, AreSafe, IsPlainWord}
+use Rattle.saphyr_scalar.specs.Steps.Plain.{in_word}
+use Rattle.saphyr_scalar.specs.Spelling.Plain.{is_plain_safe, AreSafe, IsPlainWord}
 use Rattle.saphyr_scanner.specs.Grammar.Characters.{AreAll}
 use Rattle.saphyr_scanner.specs.Grammar.Json.{IsInteger, IsFraction, IsExponent, IsJsonNumber, IsWord}
 

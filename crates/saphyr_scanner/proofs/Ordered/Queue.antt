@@ -5,7 +5,7 @@ use Rattle.saphyr_scanner.specs.Views.Tokens.{Piece}
 use Rattle.saphyr_scanner.specs.Steps.Queue.{Place, Queue, closed, opened}
 use Rattle.saphyr_scalar.specs.declared.scalar.fault.Refusal.{Refusal}
 use Rattle.std.specs.Prelude.{Result, Ok, Err}
-use Rattle.saphyr_scalar.specs.Cursor.{Cursor}
+use Rattle.saphyr_scalar.specs.Views.Cursor.{Cursor}
 use Rattle.saphyr_scanner.specs.Steps.Core.{Core, Action, Put, Open, Step, Steps, act, perform}
 use Rattle.saphyr_scanner.specs.Steps.State.{State, carried, acted}
 use Rattle.saphyr_scanner.proofs.Counted.{Ahead, ahead_ahead}

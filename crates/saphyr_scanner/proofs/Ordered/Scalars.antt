@@ -8,14 +8,14 @@ use Rattle.saphyr_scalar.specs.declared.scalar.position.Marker.{Marker}
 use Rattle.saphyr_scalar.specs.declared.scalar.position.Span.{Span}
 use Rattle.saphyr_scalar.specs.declared.scalar.style.ScalarStyle.{ScalarStyle}
 use Rattle.saphyr_scalar.specs.declared.scalar.style.ScalarStyle.TheVariants.{SingleQuoted, DoubleQuoted}
-use Rattle.saphyr_scalar.specs.Anchor as anchors
-use Rattle.saphyr_scalar.specs.BlockScalar as blocks
-use Rattle.saphyr_scalar.specs.Cursor.{Cursor, ◌>>=◌}
-use Rattle.saphyr_scalar.specs.Directive as directives
-use Rattle.saphyr_scalar.specs.Directive.{Directive}
-use Rattle.saphyr_scalar.specs.Plain as words
-use Rattle.saphyr_scalar.specs.Quoted as quoted
-use Rattle.saphyr_scalar.specs.Tag as tags
+use Rattle.saphyr_scalar.specs.Steps.Anchor as anchors
+use Rattle.saphyr_scalar.specs.Steps.Block as blocks
+use Rattle.saphyr_scalar.specs.Views.Cursor.{Cursor, ◌>>=◌}
+use Rattle.saphyr_scalar.specs.Steps.Directive as directives
+use Rattle.saphyr_scalar.specs.Steps.Directive.{Directive}
+use Rattle.saphyr_scalar.specs.Steps.Plain as words
+use Rattle.saphyr_scalar.specs.Steps.Quoted as quoted
+use Rattle.saphyr_scalar.specs.Steps.Tag as tags
 use Rattle.saphyr_scanner.specs.Grammar.Tokens.{Kind}
 use Rattle.saphyr_scanner.specs.Steps.Core.{Core, from_to, in_block, least_column, save_key, remove_key, is_further, roll, with_context}
 use Rattle.saphyr_scanner.specs.Steps.Gap.{spaces_at}

@@ -4,7 +4,7 @@ use Rattle.std.specs.Prelude.{◌&&◌, ◌||◌, slice_index, not, ◌==◌, na
 use Rattle.saphyr_input.specs.Classes.{is_break, is_flow, is_yaml_non_break}
 use Rattle.saphyr_input.specs.Separation.{found_tabs}
 use Rattle.saphyr_scalar.specs.declared.scalar.position.Marker.{Marker}
-use Rattle.saphyr_scalar.specs.Cursor.{◌>>=◌, along, next_line}
+use Rattle.saphyr_scalar.specs.Views.Cursor.{◌>>=◌, along, next_line}
 use Rattle.saphyr_scanner.specs.Steps.Gap.{Spaced, spaces, line_comment, spaces_at}
 use Rattle.saphyr_scanner.specs.Steps.Core.{Core, in_block, remove_key, roll, with_context}
 use Rattle.saphyr_scanner.specs.Steps.Passing.{pass_on, with_cursor}

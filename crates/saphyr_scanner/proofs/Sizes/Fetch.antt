@@ -7,7 +7,7 @@ use Rattle.saphyr_input.specs.Places.{is_document_start, is_document_end}
 use Rattle.saphyr_input.specs.declared.input.SkipTabs.{SkipTabs}
 use Rattle.saphyr_scalar.specs.declared.scalar.position.Marker.{Marker}
 use Rattle.saphyr_scalar.specs.declared.scalar.fault.Refusal.{Refusal}
-use Rattle.saphyr_scalar.specs.Cursor.{Cursor, ◌>>=◌}
+use Rattle.saphyr_scalar.specs.Views.Cursor.{Cursor, ◌>>=◌}
 use Rattle.saphyr_scanner.specs.declared.engine.level.Context.TheVariants as context
 use Rattle.saphyr_scanner.specs.Grammar.Tokens as tokens
 use Rattle.saphyr_scanner.specs.Grammar.Tokens.{Kind}
@@ -19,7 +19,7 @@ use Rattle.saphyr_scanner.specs.Steps.Unrolling.{unroll, end_blocks, end_block, 
 use Rattle.saphyr_scanner.specs.Steps.Document as document
 use Rattle.saphyr_scanner.specs.Steps.Fetch.{size, step, content, fetch_here, arrive, fetch, within, fetch_within, settled}
 use Rattle.std.proofs.lemmas.Bool.Decides.{nat_tests}
-use Rattle.saphyr_scalar.specs.Directive as directives
+use Rattle.saphyr_scalar.specs.Steps.Directive as directives
 use Rattle.saphyr_scalar.specs.declared.reading.block.BlockStyle.TheVariants as block_style
 use Rattle.saphyr_scanner.proofs.Steps.Choice.{cases}
 use Rattle.saphyr_scanner.proofs.Blocks.{unrolled_cursor}

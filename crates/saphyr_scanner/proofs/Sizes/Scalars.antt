@@ -4,19 +4,19 @@ use Rattle.std.specs.Prelude.{◌&&◌, slice_index, not, nat_lt, Option}
 use Rattle.saphyr_scalar.specs.declared.reading.block.BlockStyle.{BlockStyle}
 use Rattle.saphyr_scalar.specs.declared.reading.flow.Quote.{Quote}
 use Rattle.saphyr_scalar.specs.declared.reading.flow.Quote.TheVariants.{Single, Double}
-use Rattle.saphyr_scalar.specs.FlowReading.{mark}
+use Rattle.saphyr_scalar.specs.Reading.Flow.{mark}
 use Rattle.saphyr_scalar.specs.declared.scalar.position.Marker.{Marker}
 use Rattle.saphyr_scalar.specs.declared.scalar.position.Span.{Span}
 use Rattle.saphyr_scalar.specs.declared.scalar.style.ScalarStyle.{ScalarStyle}
 use Rattle.saphyr_scalar.specs.declared.scalar.style.ScalarStyle.TheVariants.{SingleQuoted, DoubleQuoted}
-use Rattle.saphyr_scalar.specs.Anchor as anchors
-use Rattle.saphyr_scalar.specs.BlockScalar as blocks
-use Rattle.saphyr_scalar.specs.Cursor.{Cursor}
-use Rattle.saphyr_scalar.specs.Directive as directives
-use Rattle.saphyr_scalar.specs.Directive.{Directive}
-use Rattle.saphyr_scalar.specs.Plain as words
-use Rattle.saphyr_scalar.specs.Quoted as quoted
-use Rattle.saphyr_scalar.specs.Tag as tags
+use Rattle.saphyr_scalar.specs.Steps.Anchor as anchors
+use Rattle.saphyr_scalar.specs.Steps.Block as blocks
+use Rattle.saphyr_scalar.specs.Views.Cursor.{Cursor}
+use Rattle.saphyr_scalar.specs.Steps.Directive as directives
+use Rattle.saphyr_scalar.specs.Steps.Directive.{Directive}
+use Rattle.saphyr_scalar.specs.Steps.Plain as words
+use Rattle.saphyr_scalar.specs.Steps.Quoted as quoted
+use Rattle.saphyr_scalar.specs.Steps.Tag as tags
 use Rattle.saphyr_scanner.specs.Steps.Core.{Core, in_block, least_column, save_key}
 use Rattle.saphyr_scanner.specs.Steps.Passing.{with_cursor, pass_gap}
 use Rattle.saphyr_scanner.specs.Steps.Property as property

@@ -7,12 +7,12 @@ use Rattle.saphyr_input.specs.Places.{next_2_are}
 use Rattle.saphyr_scalar.specs.declared.scalar.position.Marker.{Marker}
 use Rattle.saphyr_scalar.specs.declared.scalar.position.Span.{Span}
 use Rattle.saphyr_scalar.specs.declared.scalar.style.ScalarStyle.TheVariants as style
-use Rattle.saphyr_scalar.specs.Cursor.{Cursor, along, next_line}
+use Rattle.saphyr_scalar.specs.Views.Cursor.{Cursor, along, next_line}
 use Rattle.saphyr_scalar.specs.Passing as passing
 use Rattle.saphyr_scalar.specs.Passing.{IsPassed}
-use Rattle.saphyr_scalar.specs.Plain.{ends_line}
-use Rattle.saphyr_scalar.specs.PlainReading.{passed, IsPlainReading}
-use Rattle.saphyr_scalar.specs.Quoted.{break_len}
+use Rattle.saphyr_scalar.specs.Steps.Plain.{ends_line}
+use Rattle.saphyr_scalar.specs.Reading.Plain.{passed, IsPlainReading}
+use Rattle.saphyr_scalar.specs.Steps.Quoted.{break_len}
 use Rattle.saphyr_scalar.proofs.Lengths.{two_shown}
 use Rattle.saphyr_scanner.specs.Grammar.Tokens as tokens
 use Rattle.saphyr_scanner.specs.Grammar.Tokens.{Kind}

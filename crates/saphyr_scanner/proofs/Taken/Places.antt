@@ -5,9 +5,9 @@ use Rattle.saphyr_input.specs.Classes.{is_break, is_blank}
 use Rattle.saphyr_scalar.specs.declared.scalar.position.Marker.{Marker}
 use Rattle.saphyr_scalar.specs.declared.scalar.position.Span.{Span}
 use Rattle.saphyr_scalar.specs.declared.scalar.style.ScalarStyle.TheVariants as style
-use Rattle.saphyr_scalar.specs.Cursor.{Cursor, fresh, along}
-use Rattle.saphyr_scalar.specs.Directive.{version, tag_prefix, reserved}
-use Rattle.saphyr_scalar.specs.PlainReading.{passed, IsPlainReading}
+use Rattle.saphyr_scalar.specs.Views.Cursor.{Cursor, fresh, along}
+use Rattle.saphyr_scalar.specs.Steps.Directive.{version, tag_prefix, reserved}
+use Rattle.saphyr_scalar.specs.Reading.Plain.{passed, IsPlainReading}
 use Rattle.saphyr_scalar.proofs.NoBreaks.{NoBreaks, directive_no_break}
 use Rattle.saphyr_scanner.specs.Grammar.Tokens as tokens
 use Rattle.saphyr_scanner.specs.Grammar.Tokens.{Kind}

@@ -11,24 +11,24 @@ use Rattle.saphyr_scalar.specs.declared.scalar.position.Marker.{Marker}
 use Rattle.saphyr_scalar.specs.declared.scalar.position.Span.{Span}
 use Rattle.saphyr_scalar.specs.declared.scalar.style.ScalarStyle.{ScalarStyle}
 use Rattle.saphyr_scalar.specs.declared.scalar.style.ScalarStyle.TheVariants.{Plain, SingleQuoted, DoubleQuoted}
-use Rattle.saphyr_scalar.specs.Anchor as anchors
-use Rattle.saphyr_scalar.specs.BlockText.{IsBlockText}
-use Rattle.saphyr_scalar.specs.BlockScalar as blocks
-use Rattle.saphyr_scalar.specs.Cursor.{Cursor, ◌>>=◌, along, pass_break}
-use Rattle.saphyr_scalar.specs.Directive as directives
-use Rattle.saphyr_scalar.specs.Directive.{Directive}
-use Rattle.saphyr_scalar.specs.DirectiveSpelling.{IsReadDirective, IsLineTail}
-use Rattle.saphyr_scalar.specs.FlowReading.{mark}
-use Rattle.saphyr_scalar.specs.Folding.{folded}
+use Rattle.saphyr_scalar.specs.Steps.Anchor as anchors
+use Rattle.saphyr_scalar.specs.Reading.BlockText.{IsBlockText}
+use Rattle.saphyr_scalar.specs.Steps.Block as blocks
+use Rattle.saphyr_scalar.specs.Views.Cursor.{Cursor, ◌>>=◌, along, pass_break}
+use Rattle.saphyr_scalar.specs.Steps.Directive as directives
+use Rattle.saphyr_scalar.specs.Steps.Directive.{Directive}
+use Rattle.saphyr_scalar.specs.Spelling.Directive.{IsReadDirective, IsLineTail}
+use Rattle.saphyr_scalar.specs.Reading.Flow.{mark}
+use Rattle.saphyr_scalar.specs.Reading.Folding.{folded}
 use Rattle.saphyr_scalar.specs.Passing.{IsPassed}
-use Rattle.saphyr_scalar.specs.Plain as words
-use Rattle.saphyr_scalar.specs.PlainReading.{IsSpelledPlain, IsPlainReading}
-use Rattle.saphyr_scalar.specs.Quoted as quoted
-use Rattle.saphyr_scalar.specs.Quoted.{at}
-use Rattle.saphyr_scalar.specs.QuotedMarkers.{HasNoMarker}
-use Rattle.saphyr_scalar.specs.QuotedSpelling.{IsQuotedText}
-use Rattle.saphyr_scalar.specs.Tag as tags
-use Rattle.saphyr_scalar.specs.TagSpelling.{IsAnchorName, IsHandleText, IsTagText, EndsTag}
+use Rattle.saphyr_scalar.specs.Steps.Plain as words
+use Rattle.saphyr_scalar.specs.Reading.Plain.{IsSpelledPlain, IsPlainReading}
+use Rattle.saphyr_scalar.specs.Steps.Quoted as quoted
+use Rattle.saphyr_scalar.specs.Steps.Quoted.{at}
+use Rattle.saphyr_scalar.specs.Spelling.QuotedMarkers.{HasNoMarker}
+use Rattle.saphyr_scalar.specs.Spelling.Quoted.{IsQuotedText}
+use Rattle.saphyr_scalar.specs.Steps.Tag as tags
+use Rattle.saphyr_scalar.specs.Spelling.Tag.{IsAnchorName, IsHandleText, IsTagText, EndsTag}
 use Rattle.saphyr_scanner.specs.Grammar.Tokens as tokens
 use Rattle.saphyr_scanner.specs.Grammar.Tokens.{Kind}
 use Rattle.saphyr_scanner.specs.Views.Tokens.{Piece}

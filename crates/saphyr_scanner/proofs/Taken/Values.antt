@@ -6,7 +6,7 @@ use Rattle.saphyr_input.specs.Separation.{has_valid_yaml_ws}
 use Rattle.saphyr_input.specs.declared.input.SkipTabs.{SkipTabs}
 use Rattle.saphyr_input.specs.declared.input.SkipTabs.TheVariants as tabs
 use Rattle.saphyr_scalar.specs.declared.scalar.fault.Refusal.{Refusal}
-use Rattle.saphyr_scalar.specs.Cursor.{Cursor, ◌>>=◌, pass, separation}
+use Rattle.saphyr_scalar.specs.Views.Cursor.{Cursor, ◌>>=◌, pass, separation}
 use Rattle.saphyr_scanner.specs.declared.engine.level.Context.{Context}
 use Rattle.saphyr_scanner.specs.declared.engine.level.Context.TheVariants as context
 use Rattle.saphyr_scanner.specs.declared.queue.Opening.{Opening}

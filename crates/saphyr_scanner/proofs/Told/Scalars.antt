@@ -12,13 +12,13 @@ use Rattle.saphyr_scalar.specs.declared.scalar.position.Span.{Span}
 use Rattle.saphyr_scalar.specs.declared.scalar.fault.Refusal.{Refusal}
 use Rattle.saphyr_scalar.specs.declared.scalar.style.ScalarStyle.{ScalarStyle}
 use Rattle.saphyr_scalar.specs.declared.scalar.style.ScalarStyle.TheVariants.{SingleQuoted, DoubleQuoted}
-use Rattle.saphyr_scalar.specs.Anchor as anchors
-use Rattle.saphyr_scalar.specs.BlockScalar as blocks
-use Rattle.saphyr_scalar.specs.Cursor.{Cursor, ◌>>=◌}
-use Rattle.saphyr_scalar.specs.FlowReading.{mark}
-use Rattle.saphyr_scalar.specs.Plain as words
-use Rattle.saphyr_scalar.specs.Quoted as quoted
-use Rattle.saphyr_scalar.specs.Tag as tags
+use Rattle.saphyr_scalar.specs.Steps.Anchor as anchors
+use Rattle.saphyr_scalar.specs.Steps.Block as blocks
+use Rattle.saphyr_scalar.specs.Views.Cursor.{Cursor, ◌>>=◌}
+use Rattle.saphyr_scalar.specs.Reading.Flow.{mark}
+use Rattle.saphyr_scalar.specs.Steps.Plain as words
+use Rattle.saphyr_scalar.specs.Steps.Quoted as quoted
+use Rattle.saphyr_scalar.specs.Steps.Tag as tags
 use Rattle.saphyr_scanner.specs.Steps.Core.{Core, in_block, least_column}
 use Rattle.saphyr_scanner.specs.Steps.Passing.{separate, pass_gap, with_cursor}
 use Rattle.saphyr_scanner.specs.Steps.Property as property

@@ -5,7 +5,7 @@ use Rattle.saphyr_input.specs.Classes.{is_break, is_flow, is_alpha}
 use Rattle.saphyr_input.specs.declared.input.SkipTabs.{SkipTabs}
 use Rattle.saphyr_input.specs.Separation.{found_tabs, has_valid_yaml_ws}
 use Rattle.saphyr_scalar.specs.declared.scalar.fault.Refusal.{Refusal}
-use Rattle.saphyr_scalar.specs.Cursor.{Cursor, ◌>>=◌, pass}
+use Rattle.saphyr_scalar.specs.Views.Cursor.{Cursor, ◌>>=◌, pass}
 use Rattle.saphyr_scanner.specs.declared.engine.level.Context.{Context}
 use Rattle.saphyr_scanner.specs.Grammar.Tokens.{Kind}
 use Rattle.saphyr_scanner.specs.Steps.Block as block

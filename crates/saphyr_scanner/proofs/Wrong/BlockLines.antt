@@ -7,10 +7,10 @@ use Rattle.saphyr_scalar.specs.declared.reading.block.BlockStyle.{BlockStyle}
 use Rattle.saphyr_scalar.specs.declared.reading.block.Chomping.{Chomping}
 use Rattle.saphyr_scalar.specs.declared.reading.block.Chomping.TheVariants.{Strip, Clip, Keep}
 use Rattle.saphyr_scalar.specs.declared.scalar.position.Span.{Span}
-use Rattle.saphyr_scalar.specs.BlockText.{AreInside, AreIndicators, digit_of, chomping_of, EndsHeader, IsHeaderLine}
-use Rattle.saphyr_scalar.specs.Cursor.{Cursor}
-use Rattle.saphyr_scalar.specs.DirectiveSpelling.{IsTailComment, IsLineTail}
-use Rattle.saphyr_scalar.specs.TagSpelling.{AreIn}
+use Rattle.saphyr_scalar.specs.Reading.BlockText.{AreInside, AreIndicators, digit_of, chomping_of, EndsHeader, IsHeaderLine}
+use Rattle.saphyr_scalar.specs.Views.Cursor.{Cursor}
+use Rattle.saphyr_scalar.specs.Spelling.Directive.{IsTailComment, IsLineTail}
+use Rattle.saphyr_scalar.specs.Spelling.Tag.{AreIn}
 use Rattle.saphyr_scanner.specs.TokensTaken.{IsBlockScalarToken}
 use Rattle.saphyr_scanner.proofs.Beginnings.{heads, tails}
 use Rattle.saphyr_scanner.proofs.Reached.{passed_reached, reached_counted}

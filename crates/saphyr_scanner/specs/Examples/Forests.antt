@@ -1,7 +1,7 @@
 -- Small texts with their forests and tokens.
 use Rattle.std.specs.Prelude.{ℕ, List, [], ◌∷◌, None, codes}
 use Rattle.saphyr_scalar.specs.declared.scalar.position.Marker.{Marker}
-use Rattle.saphyr_scalar.specs.Cursor.{next_line}
+use Rattle.saphyr_scalar.specs.Views.Cursor.{next_line}
 use Rattle.saphyr_scanner.specs.Grammar.Forest.{Plain, DoubleQuoted, no_properties, Node, Scalar, Seq, Map, NoNode, MoreNodes, NoPair, MorePairs, bare, Forest}
 use Rattle.saphyr_scanner.specs.Grammar.Tokens as tokens
 use Rattle.saphyr_scanner.specs.Grammar.Tokens.{Kind}

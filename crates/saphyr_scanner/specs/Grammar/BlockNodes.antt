@@ -7,10 +7,10 @@ use Rattle.saphyr_input.specs.Places.{is_document_indicator}
 use Rattle.saphyr_scalar.specs.declared.reading.block.BlockStyle.{BlockStyle}
 use Rattle.saphyr_scalar.specs.declared.reading.block.BlockStyle.TheVariants as block
 use Rattle.saphyr_scalar.specs.declared.reading.block.Chomping.{Chomping}
-use Rattle.saphyr_scalar.specs.BlockReading.{Line, lines_value}
-use Rattle.saphyr_scalar.specs.BlockRead.{spaces}
-use Rattle.saphyr_scalar.specs.BlockSpelling.{IsBlockScalar}
-use Rattle.saphyr_scalar.specs.Spaces.{AreSpaces, IsLineEnd, IsEol, IsFiller, IsLastFiller, IsGap}
+use Rattle.saphyr_scalar.specs.Reading.Block.{Line, lines_value}
+use Rattle.saphyr_scalar.specs.Steps.BlockRead.{spaces}
+use Rattle.saphyr_scalar.specs.Spelling.Block.{IsBlockScalar}
+use Rattle.saphyr_scalar.specs.Spelling.Spaces.{AreSpaces, IsLineEnd, IsEol, IsFiller, IsLastFiller, IsGap}
 use Rattle.saphyr_scanner.specs.Grammar.Forest.{Style, Literal, Folded, Properties, no_properties, Node, Alias, Scalar, Seq, Map, Nodes, NoNode, MoreNodes, Pairs, NoPair, MorePairs, left_out}
 use Rattle.saphyr_scanner.specs.Grammar.FlowNodes.{IsProperties, IsOnLine, IsKeyText, IsBeforeColon, IsFlowNode}
 

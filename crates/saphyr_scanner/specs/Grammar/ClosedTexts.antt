@@ -1,7 +1,7 @@
 -- Texts that end with the line of a document marker (YAML 1.2.2, 9.1.2, 9.1.4), in texts whose breaks are line feeds.
 use Rattle.std.specs.Prelude.{◌≡◌, ◌⊎◌, ℕ, List, [], ◌∷◌, ◌++◌, map, codes}
 use Rattle.saphyr_input.specs.Classes.{line_feed, byte_order_mark}
-use Rattle.saphyr_scalar.specs.Spaces.{IsFiller, IsLineRest}
+use Rattle.saphyr_scalar.specs.Spelling.Spaces.{IsFiller, IsLineRest}
 use Rattle.saphyr_scanner.specs.Grammar.Tokens as tokens
 use Rattle.saphyr_scanner.specs.Grammar.Tokens.{Kind}
 use Rattle.saphyr_scanner.specs.Grammar.Forest.{Forest}

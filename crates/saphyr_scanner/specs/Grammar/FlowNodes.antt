@@ -4,11 +4,11 @@
 use Rattle.std.specs.Prelude.{◌≡◌, ◌≢◌, ℕ, suc, ◌⊎◌, Bool, true, false, not, ◌==◌, ◌||◌, List, [], ◌∷◌, ◌++◌, IsTrue, IsFalse, Option, Some, None, codes}
 use Rattle.std.specs.List.{list_all}
 use Rattle.saphyr_input.specs.Classes.{is_blank, is_break, tab, line_feed}
-use Rattle.saphyr_scalar.specs.TagSpelling.{AreIn, IsAnchorName}
-use Rattle.saphyr_scalar.specs.Spaces.{AreSpaces, IsSeparation}
+use Rattle.saphyr_scalar.specs.Spelling.Tag.{AreIn, IsAnchorName}
+use Rattle.saphyr_scalar.specs.Spelling.Spaces.{AreSpaces, IsSeparation}
 use Rattle.saphyr_scanner.specs.Grammar.Forest.{Style, Plain, SingleQuoted, DoubleQuoted, Tag, Properties, no_properties, Node, Alias, Scalar, Seq, Map, Nodes, NoNode, MoreNodes, Pairs, NoPair, MorePairs, left_out}
 use Rattle.saphyr_scanner.specs.Grammar.TagSpelling.{IsTag}
-use Rattle.saphyr_scalar.specs.FlowReading.{plain_value}
+use Rattle.saphyr_scalar.specs.Reading.Flow.{plain_value}
 use Rattle.saphyr_scanner.specs.Grammar.FlowScalars.{IsPlainKey, IsFlowScalar}
 
 -- ## Properties and aliases

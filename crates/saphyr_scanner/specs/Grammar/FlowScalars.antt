@@ -5,13 +5,13 @@ use Rattle.saphyr_input.specs.Classes.{is_one_of, is_blank}
 use Rattle.saphyr_scalar.specs.declared.reading.folding.Item.{Item}
 use Rattle.saphyr_scalar.specs.declared.reading.flow.Quote.{Quote}
 use Rattle.saphyr_scalar.specs.declared.reading.flow.Quote.TheVariants.{Single, Double}
-use Rattle.saphyr_scalar.specs.Folding.{folded}
-use Rattle.saphyr_scalar.specs.FlowReading.{mark, plain_value}
-use Rattle.saphyr_scalar.specs.PlainSpelling.{is_word_ink, IsWordIn}
-use Rattle.saphyr_scalar.specs.QuotedSpelling.{IsText}
-use Rattle.saphyr_scalar.specs.QuotedLines.{LinesFit}
-use Rattle.saphyr_scalar.specs.TagSpelling.{AreIn}
-use Rattle.saphyr_scalar.specs.Spaces.{AreMany, AreSpaces}
+use Rattle.saphyr_scalar.specs.Reading.Folding.{folded}
+use Rattle.saphyr_scalar.specs.Reading.Flow.{mark, plain_value}
+use Rattle.saphyr_scalar.specs.Spelling.Plain.{is_word_ink, IsWordIn}
+use Rattle.saphyr_scalar.specs.Spelling.Quoted.{IsText}
+use Rattle.saphyr_scalar.specs.Spelling.QuotedLines.{LinesFit}
+use Rattle.saphyr_scalar.specs.Spelling.Tag.{AreIn}
+use Rattle.saphyr_scalar.specs.Spelling.Spaces.{AreMany, AreSpaces}
 use Rattle.saphyr_scanner.specs.Grammar.Forest.{Style, Plain, SingleQuoted, DoubleQuoted}
 
 -- ## 7.3.3: plain scalars

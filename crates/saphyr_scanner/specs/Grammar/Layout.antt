@@ -3,8 +3,8 @@ use Rattle.std.specs.Prelude.{◌≡◌, ℕ, ◌==◌, ◌&&◌, ◌||◌, ◌�
 use Rattle.saphyr_input.specs.Breaks.{normalized}
 use Rattle.saphyr_input.specs.Classes.{byte_order_mark, line_feed}
 use Rattle.saphyr_input.specs.Places.{is_document_indicator}
-use Rattle.saphyr_scalar.specs.DirectiveSpelling.{IsVersionDirective, IsTagDirective, IsReservedDirective, IsLineTail}
-use Rattle.saphyr_scalar.specs.Spaces.{IsFiller, IsLastFiller, IsEol}
+use Rattle.saphyr_scalar.specs.Spelling.Directive.{IsVersionDirective, IsTagDirective, IsReservedDirective, IsLineTail}
+use Rattle.saphyr_scalar.specs.Spelling.Spaces.{IsFiller, IsLastFiller, IsEol}
 use Rattle.saphyr_scanner.specs.Grammar.Forest.{Directive, Version, TagPrefix, Reserved, AreCompatible, bare, Node, Document, Forest}
 use Rattle.saphyr_scanner.specs.Grammar.TagSpelling.{IsHandle}
 use Rattle.saphyr_scanner.specs.Grammar.BlockNodes.{Position, AtStart, BehindMarker, IsBlockNode}

@@ -2,7 +2,7 @@
 -- those of the reader's definitions.
 use Rattle.std.specs.Prelude.{◌≡◌, ◌≢◌, ℕ, List, [], ◌++◌, IsTrue, codes}
 use Rattle.saphyr_input.specs.Classes.{is_alpha, is_tag_char, is_uri_char}
-use Rattle.saphyr_scalar.specs.TagSpelling.{IsDecoded}
+use Rattle.saphyr_scalar.specs.Spelling.Tag.{IsDecoded}
 use Rattle.saphyr_scanner.specs.Grammar.Characters.{AreAll}
 use Rattle.saphyr_scanner.specs.Grammar.Forest.{Handle, Named, handle_text, Tag, NonSpecific, Verbatim, Shorthand}
 

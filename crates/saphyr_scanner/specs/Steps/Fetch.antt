@@ -4,7 +4,7 @@ use Rattle.saphyr_input.specs.Classes.{is_z, is_bom, is_flow, is_blank_or_breakz
 use Rattle.saphyr_input.specs.Places.{is_document_start, is_document_end}
 use Rattle.saphyr_scalar.specs.declared.scalar.fault.Refusal.{Refusal}
 use Rattle.saphyr_scalar.specs.declared.scalar.fault.FaultText.TheVariants as fault
-use Rattle.saphyr_scalar.specs.Cursor.{◌>>=◌, refuse}
+use Rattle.saphyr_scalar.specs.Views.Cursor.{◌>>=◌, refuse}
 use Rattle.saphyr_scanner.specs.declared.engine.level.Context.TheVariants as context
 use Rattle.saphyr_scanner.specs.Grammar.Tokens as tokens
 use Rattle.saphyr_scanner.specs.Views.Tokens.{Piece}

@@ -4,7 +4,7 @@ use Rattle.saphyr_input.specs.Classes.{is_blank, is_break, is_bom, is_z, is_yaml
 use Rattle.saphyr_scalar.specs.declared.scalar.position.Marker.{Marker}
 use Rattle.saphyr_scalar.specs.declared.scalar.fault.Refusal.{Refusal}
 use Rattle.saphyr_scalar.specs.declared.scalar.fault.FaultText.TheVariants as fault
-use Rattle.saphyr_scalar.specs.Cursor.{Cursor, along, next_line, refuse}
+use Rattle.saphyr_scalar.specs.Views.Cursor.{Cursor, along, next_line, refuse}
 
 -- where the text goes on, and whether a break was met
 pub record Passed : Type 0 where

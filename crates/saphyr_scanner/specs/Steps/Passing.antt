@@ -7,7 +7,7 @@ use Rattle.saphyr_input.specs.declared.input.SkipTabs.TheVariants as tabs
 use Rattle.saphyr_scalar.specs.declared.scalar.position.Marker.{Marker}
 use Rattle.saphyr_scalar.specs.declared.scalar.fault.Refusal.{Refusal}
 use Rattle.saphyr_scalar.specs.declared.scalar.fault.FaultText.TheVariants as fault
-use Rattle.saphyr_scalar.specs.Cursor.{Cursor, ◌>>=◌, refuse, separation, pass}
+use Rattle.saphyr_scalar.specs.Views.Cursor.{Cursor, ◌>>=◌, refuse, separation, pass}
 use Rattle.saphyr_scanner.specs.Steps.Gap as gap
 use Rattle.saphyr_scanner.specs.Steps.Gap.{Passed}
 use Rattle.saphyr_scanner.specs.Steps.Core.{Core, in_block, least_column}

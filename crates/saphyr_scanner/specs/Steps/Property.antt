@@ -1,8 +1,8 @@
 -- Anchors, aliases and tags (YAML 1.2.2, 6.9 and 7.1).
 use Rattle.std.specs.Prelude.{ℕ, Bool, not, List, [], ◌∷◌, if◌then◌else◌}
-use Rattle.saphyr_scalar.specs.Cursor.{◌>>=◌}
-use Rattle.saphyr_scalar.specs.Anchor as anchors
-use Rattle.saphyr_scalar.specs.Tag as tags
+use Rattle.saphyr_scalar.specs.Views.Cursor.{◌>>=◌}
+use Rattle.saphyr_scalar.specs.Steps.Anchor as anchors
+use Rattle.saphyr_scalar.specs.Steps.Tag as tags
 use Rattle.saphyr_scanner.specs.Grammar.Tokens as tokens
 use Rattle.saphyr_scanner.specs.Grammar.Tokens.{Kind}
 use Rattle.saphyr_scanner.specs.Steps.Core.{Core, Steps, went, from_to, in_block, save_key}

@@ -1,7 +1,7 @@
 -- The tokens that a scanner still has to give.
 use Rattle.std.specs.Prelude.{◌≡◌, map, ℕ, zero, suc, ◌+◌, List, [], ◌∷◌, None, Result, Ok, Err, if◌then◌else◌}
 use Rattle.saphyr_scalar.specs.declared.scalar.fault.Refusal.{Refusal}
-use Rattle.saphyr_scalar.specs.Cursor.{◌>>=◌}
+use Rattle.saphyr_scalar.specs.Views.Cursor.{◌>>=◌}
 use Rattle.saphyr_scanner.specs.declared.queue.Opening.{Opening}
 use Rattle.saphyr_scanner.specs.declared.queue.Opening.TheVariants as opening
 use Rattle.saphyr_scanner.specs.Grammar.Tokens as tokens

@@ -3,7 +3,7 @@ use Rattle.std.specs.Prelude.{map, reverse, option_map, Result}
 use Rattle.saphyr_input.specs.declared.input.Input.{Ghosts}
 use Rattle.saphyr_scalar.specs.declared.scalar.fault.Refusal.{Refusal}
 use Rattle.saphyr_scalar.specs.declared.scalar.fault.Stop.{Stop}
-use Rattle.saphyr_scalar.specs.Seen as reader
+use Rattle.saphyr_scalar.specs.Views.Reader as reader
 use Rattle.saphyr_scanner.specs.declared.engine.Engine.{Engine}
 use Rattle.saphyr_scanner.specs.declared.engine.level.Candidate as declared_candidate
 use Rattle.saphyr_scanner.specs.declared.engine.level.Level as declared_level

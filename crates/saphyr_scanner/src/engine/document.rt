@@ -4,7 +4,7 @@
 ghost use Rattle.std.specs.Prelude.{◌≡◌, ◌≤◌, ◌<◌, length, slice_index, None, IfOk};
 ghost use Rattle.saphyr_scanner.specs.Steps.Document as document;
 ghost use Rattle.saphyr_scanner.specs.Views.Tokens.{kind_of};
-ghost use Rattle.saphyr_scalar.specs.Directive.{directive_of};
+ghost use Rattle.saphyr_scalar.specs.Steps.Directive.{directive_of};
 
 use crate::engine::Engine;
 use crate::token::{TagPrefix, TokenType};

@@ -29,7 +29,7 @@ impl Level {
 }
 
 impl<T: Input> Engine<T> {
-    ghost use Rattle.saphyr_scalar.specs.Seen.{Moves};
+    ghost use Rattle.saphyr_scalar.specs.Views.Reader.{Moves};
     ghost use Rattle.saphyr_scanner.specs.Views.Engine.{state, MovesBy, ActsBy};
     ghost use Rattle.saphyr_scanner.specs.Views.Tokens.{piece, written};
 

@@ -11,10 +11,10 @@ use Rattle.saphyr_scalar.specs.declared.reading.block.Chomping.{Chomping}
 use Rattle.saphyr_scalar.specs.declared.reading.block.Chomping.TheVariants.{Clip}
 use Rattle.saphyr_scalar.specs.declared.scalar.block.header.BlockHeader.{BlockHeader}
 use Rattle.saphyr_scalar.specs.declared.scalar.position.Marker.{Marker}
-use Rattle.saphyr_scalar.specs.BlockScalar.{chomping, indicator, header_break, header_end, last_chomping, header_behind, header}
-use Rattle.saphyr_scalar.specs.BlockText.{digit_of, chomping_of, AreIndicators, IsBreakBefore, EndsHeader, IsHeaderLine}
-use Rattle.saphyr_scalar.specs.Cursor.{Cursor, pass, pass_blanks, pass_break, separation, behind_separation}
-use Rattle.saphyr_scalar.specs.DirectiveSpelling.{IsLineTail}
+use Rattle.saphyr_scalar.specs.Steps.Block.{chomping, indicator, header_break, header_end, last_chomping, header_behind, header}
+use Rattle.saphyr_scalar.specs.Reading.BlockText.{digit_of, chomping_of, AreIndicators, IsBreakBefore, EndsHeader, IsHeaderLine}
+use Rattle.saphyr_scalar.specs.Views.Cursor.{Cursor, pass, pass_blanks, pass_break, separation, behind_separation}
+use Rattle.saphyr_scalar.specs.Spelling.Directive.{IsLineTail}
 use Rattle.saphyr_scalar.proofs.Block.Reads.{then_gave, gave, refused, same_gift}
 use Rattle.saphyr_scalar.proofs.Directives.TailsSpelled.{line_of}
 use Rattle.saphyr_scalar.proofs.Quoted.Inside.{break_cases}

@@ -7,9 +7,9 @@ use Rattle.saphyr_input.specs.Places.{is_document_indicator}
 use Rattle.saphyr_scalar.specs.declared.reading.block.BlockStyle.{BlockStyle}
 use Rattle.saphyr_scalar.specs.declared.scalar.block.lines.EmptyLines.{EmptyLines}
 use Rattle.saphyr_scalar.specs.declared.scalar.position.Marker.{Marker}
-use Rattle.saphyr_scalar.specs.BlockScalar.{is_indentation, is_cr_lf, inside_break, one_more, empty_lines, line_starts, LinesRead, between, line}
-use Rattle.saphyr_scalar.specs.BlockText.{AreInside}
-use Rattle.saphyr_scalar.specs.Cursor.{Cursor, along, next_line}
+use Rattle.saphyr_scalar.specs.Steps.Block.{is_indentation, is_cr_lf, inside_break, one_more, pass_empty_lines, line_starts, LinesRead, between, line}
+use Rattle.saphyr_scalar.specs.Reading.BlockText.{AreInside}
+use Rattle.saphyr_scalar.specs.Views.Cursor.{Cursor, along, next_line}
 use Rattle.saphyr_scalar.proofs.Quoted.Inside.{break_cases}
 use Rattle.saphyr_input.proofs.Basics.Booleans.{and_true_left, and_true_right, by_test}
 use Rattle.std.proofs.lemmas.Bool.{eqb-true}
@@ -111,8 +111,8 @@ begins m i c cs rest g w = let s = starts_clear i m.col (c ∷ cs) g in content_
 
 -- the lines before the first content
 pub empty_inside : (limit : Option ℕ) (before : EmptyLines) (b : Bool) (m : Marker) (xs rest : List ℕ)
-    → (let t = (empty_lines limit before b m xs).1 in Within (At t.mark) t.rest rest) → Within (At m) xs rest
-unfolding empty_lines
+    → (let t = (pass_empty_lines limit before b m xs).1 in Within (At t.mark) t.rest rest) → Within (At m) xs rest
+unfolding pass_empty_lines
 empty_inside limit before b m [] rest = λ w. w
 empty_inside limit before b m (c ∷ cs) rest =
     let P : EmptyLines × Cursor → Type 0 = λ x. Within (At x.1.mark) x.1.rest rest → Within (At m) (c ∷ cs) rest in

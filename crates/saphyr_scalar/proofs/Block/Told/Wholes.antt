@@ -12,13 +12,13 @@ use Rattle.saphyr_scalar.specs.declared.scalar.block.header.BlockHeader.{BlockHe
 use Rattle.saphyr_scalar.specs.declared.scalar.block.lines.EmptyLines.{EmptyLines}
 use Rattle.saphyr_scalar.specs.declared.scalar.position.Marker.{Marker}
 use Rattle.saphyr_scalar.specs.declared.scalar.position.Span.{Span}
-use Rattle.saphyr_scalar.specs.BlockRead as step
-use Rattle.saphyr_scalar.specs.BlockRead.{indentation_of}
-use Rattle.saphyr_scalar.specs.BlockReading.{Line, Empty, has_content, line_of, lines_of}
-use Rattle.saphyr_scalar.specs.BlockScalar.{line_starts, empty_lines_at, no_lines, given_indentation, widened, chomped, content, behind_leading, behind_header, block_scalar, header}
-use Rattle.saphyr_scalar.specs.BlockText.{AreInside, HasNoContent, IsIndentationFrom, IsBehindLines, IsBlockText, IsHeaderLine}
-use Rattle.saphyr_scalar.specs.Cursor.{Cursor}
-use Rattle.saphyr_scalar.specs.Lines.{ended_lines, last_line}
+use Rattle.saphyr_scalar.specs.Steps.BlockRead as step
+use Rattle.saphyr_scalar.specs.Steps.BlockRead.{indentation_of}
+use Rattle.saphyr_scalar.specs.Reading.Block.{Line, Empty, has_content, line_of, lines_of}
+use Rattle.saphyr_scalar.specs.Steps.Block.{line_starts, pass_empty_lines_at, no_lines, given_indentation, widened, chomped_lines, content, behind_leading_lines, behind_header, block_scalar, header}
+use Rattle.saphyr_scalar.specs.Reading.BlockText.{AreInside, HasNoContent, IsIndentationFrom, IsBehindLines, IsBlockText, IsHeaderLine}
+use Rattle.saphyr_scalar.specs.Views.Cursor.{Cursor}
+use Rattle.saphyr_scalar.specs.Reading.Lines.{ended_lines, last_line}
 use Rattle.saphyr_scalar.specs.Passing as passing
 use Rattle.saphyr_scalar.specs.Passing.{IsPassed}
 use Rattle.saphyr_scalar.proofs.Block.Law.{Behind, Led, Read, led, nothing_led, behind_begun, behind_cut}
@@ -70,8 +70,8 @@ record Told (start : Marker) (x : EmptyLines × Cursor) (y : Read) : Type 0 wher
   begins : (y.1.start ≡ start) ⊎ ((y.1.start ≡ x.1.mark) × (is_z (slice_index x.1.rest 0) ≡ false))
 
 leading_told : (style : BlockStyle) (indent : ℕ) (start : Marker) (c : Chomping) (limit : Option ℕ)
-    (x : EmptyLines × Cursor) (y : Read) → behind_leading style indent start c limit x ≡ Ok y → Told start x y
-unfolding behind_leading content chomped
+    (x : EmptyLines × Cursor) (y : Read) → behind_leading_lines style indent start c limit x ≡ Ok y → Told start x y
+unfolding behind_leading_lines content chomped_lines
 leading_told style indent start c limit x y =
     let i = unwrap_or limit (max x.0.widest indent) in
     by_test (is_z (slice_index x.1.rest 0)) _ _ (λ r. r ≡ gave y → Told start x y)
@@ -172,7 +172,7 @@ at_line : (style : BlockStyle) (indent : ℕ) (s : Cursor) (h : BlockHeader) (fi
 unfolding behind_header
 at_line style indent s h first u y e p col blank is =
     let limit = given_indentation indent h.indicator in
-    let x = empty_lines_at limit no_lines u in
+    let x = pass_empty_lines_at limit no_lines u in
     let i = indentation_of indent h u in
     let l : Led i u x.1 x.0.count = led limit indent u col blank in
     let own = behind_begun style indent s.mark h.chomping i 0 limit u x y l refl is in
@@ -234,10 +234,10 @@ at_end : (style : BlockStyle) (indent : ℕ) (s : Cursor) (h : BlockHeader) (fir
 unfolding behind_header
 at_end style indent s h first u y e p z blank is =
     let limit = given_indentation indent h.indicator in
-    let x = empty_lines_at limit no_lines u in
+    let x = pass_empty_lines_at limit no_lines u in
     let found = indentation_at_end indent h.indicator u.rest z in
-    let cut : behind_leading style indent s.mark h.chomping limit (widened no_lines u.mark.col, u) ≡ Ok y =
-    ap (behind_leading style indent s.mark h.chomping limit) (sym (nothing_led limit u z)) ∙ is in
+    let cut : behind_leading_lines style indent s.mark h.chomping limit (widened no_lines u.mark.col, u) ≡ Ok y =
+    ap (behind_leading_lines style indent s.mark h.chomping limit) (sym (nothing_led limit u z)) ∙ is in
     let own = behind_cut style indent s.mark h.chomping found.0 limit u y z blank cut in
     let told = leading_told style indent s.mark h.chomping limit x y is in
     let within = empty_inside limit no_lines u.blank_so_far u.mark u.rest y.2.rest told.inside in

@@ -7,10 +7,10 @@ use Rattle.saphyr_input.specs.Breaks.{normalized}
 use Rattle.saphyr_input.specs.Classes.{is_break, is_z}
 use Rattle.saphyr_scalar.specs.declared.scalar.block.lines.EmptyLines.{EmptyLines}
 use Rattle.saphyr_scalar.specs.declared.scalar.position.Marker.{Marker}
-use Rattle.saphyr_scalar.specs.BlockScalar.{there, is_cr_lf, inside_break, widened, one_more, empty_lines, empty_lines_at, no_lines, given_indentation}
-use Rattle.saphyr_scalar.specs.BlockText.{all_lines, widest, is_space_or_break, IsIndentationFrom}
-use Rattle.saphyr_scalar.specs.Cursor.{Cursor, along, next_line}
-use Rattle.saphyr_scalar.specs.TagSpelling.{AreIn}
+use Rattle.saphyr_scalar.specs.Steps.Block.{there, is_cr_lf, inside_break, widened, one_more, pass_empty_lines, pass_empty_lines_at, no_lines, given_indentation}
+use Rattle.saphyr_scalar.specs.Reading.BlockText.{all_lines, widest, is_space_or_break, IsIndentationFrom}
+use Rattle.saphyr_scalar.specs.Views.Cursor.{Cursor, along, next_line}
+use Rattle.saphyr_scalar.specs.Spelling.Tag.{AreIn}
 use Rattle.saphyr_scalar.proofs.Block.Texts.{spaces, spaces_more, plain_spaces, first_line, only_line, normal_half, normal_break}
 use Rattle.saphyr_input.proofs.Basics.Booleans.{and_true_left, or_false_right, by_test}
 use Rattle.std.proofs.lemmas.Bool.{eqb-true, or_right}
@@ -85,8 +85,8 @@ half_breaks : (x : ℕ) (cs : List ℕ) → is_cr_lf x cs ≡ true → is_break 
 half_breaks x cs h = ap is_break (eqb-true x 13 (and_true_left (x == 13) (slice_index cs 0 == 10) h))
 
 widths : (before : EmptyLines) (b : Bool) (m : Marker) (xs : List ℕ)
-    → Width m.col before xs (empty_lines None before b m xs)
-unfolding empty_lines
+    → Width m.col before xs (pass_empty_lines None before b m xs)
+unfolding pass_empty_lines
 widths before b m [] = width_stop before b m [] refl
 widths before b m (x ∷ cs) =
     by_test (x == 32) _ _ (Width m.col before (x ∷ cs))
@@ -101,13 +101,13 @@ widths before b m (x ∷ cs) =
 pub indentation_told : (indent n : ℕ) (u : Cursor) → u.mark.col ≡ 0
     → IsIndentationFrom indent n u.rest
     (unwrap_or (given_indentation indent n)
-    (max (empty_lines_at (given_indentation indent n) no_lines u).0.widest indent))
+    (max (pass_empty_lines_at (given_indentation indent n) no_lines u).0.widest indent))
 unfolding given_indentation
 indentation_told indent zero u col =
     let w = widths no_lines u.blank_so_far u.mark u.rest in
-    let reach : (empty_lines_at None no_lines u).0.widest ≡ widest (all_lines (normalized w.leading)) =
+    let reach : (pass_empty_lines_at None no_lines u).0.widest ≡ widest (all_lines (normalized w.leading)) =
     w.width ∙ ap (λ j. max 0 (widest (all_lines (spaces j ++ normalized w.leading)))) col ∙ omega arith in
-    (w.leading, (empty_lines_at None no_lines u).1.rest, w.is, w.are, w.stops, ap (λ k. max k indent) reach)
+    (w.leading, (pass_empty_lines_at None no_lines u).1.rest, w.is, w.are, w.stops, ap (λ k. max k indent) reach)
 indentation_told indent (suc n) u col = let some : (suc n == 0) ≡ false = grind (arith, nat_tests) in rw some refl
 
 -- before a NUL or the end

@@ -2,8 +2,8 @@
 //! (YAML 1.2.2, 8.1.1.2 and 8.1.3).
 
 ghost use Rattle.std.specs.Prelude.{◌≡◌, ◌+◌, ◌++◌, string_bytes, OnOk, encode_utf8_all};
-ghost use Rattle.saphyr_scalar.specs.BlockScalar as spec;
-ghost use Rattle.saphyr_scalar.specs.Folding.{line_feeds};
+ghost use Rattle.saphyr_scalar.specs.Steps.Block as spec;
+ghost use Rattle.saphyr_scalar.specs.Reading.Folding.{line_feeds};
 
 use crate::reading::{BlockStyle, Chomping};
 use std::alloc::AllocError;

@@ -1,7 +1,7 @@
 //! The headers of block scalars: their indicators, and the rest of their lines (YAML 1.2.2, 8.1.1).
 
 ghost use Rattle.std.specs.Prelude.{◌≡◌, ◌+◌, ◌-◌, ◌<◌, length};
-ghost use Rattle.saphyr_scalar.specs.BlockScalar as spec;
+ghost use Rattle.saphyr_scalar.specs.Steps.Block as spec;
 
 use crate::reading::Chomping;
 use crate::scalar::fault::{FaultText, Refusal};
@@ -18,7 +18,7 @@ pub(crate) struct BlockHeader {
 }
 
 // The indentation that an indicator gives: it counts from that of the enclosing collection.
-#[tactic(auto, unfolding(crate::specs::BlockScalar::given_indentation))]
+#[tactic(auto, unfolding(crate::specs::Steps::Block::given_indentation))]
 pub(crate) fn given_indentation(indent: usize, indicator: usize) -> Option<usize>
     ensures { result ≡ spec.given_indentation indent indicator }
 {
@@ -29,10 +29,10 @@ pub(crate) fn given_indentation(indent: usize, indicator: usize) -> Option<usize
 }
 
 impl<T: Input> Reader<T> {
-    ghost use Rattle.saphyr_scalar.specs.Seen.{state, Gives};
+    ghost use Rattle.saphyr_scalar.specs.Views.Reader.{state, Gives};
 
     // Takes off the chomping indicator that stands first, where one does.
-    #[tactic(auto, using(crate::proofs::Block::Lines::read_left), unfolding(crate::specs::BlockScalar::chomping))]
+    #[tactic(auto, using(crate::proofs::Block::Lines::read_left), unfolding(crate::specs::Steps::Block::chomping))]
     fn read_chomping(&mut self) -> Option<Chomping>
         ensures { (result, state self.new) ≡ spec.chomping (state self.old) }
     {
@@ -46,7 +46,7 @@ impl<T: Input> Reader<T> {
     }
 
     // Takes off the indentation indicator that stands first, and gives 0 where none does.
-    #[tactic(auto, using(crate::proofs::Block::Lines::read_left), unfolding(crate::specs::BlockScalar::indicator))]
+    #[tactic(auto, using(crate::proofs::Block::Lines::read_left), unfolding(crate::specs::Steps::Block::indicator))]
     fn read_indentation_indicator(&mut self, start: Marker) -> Result<usize, Refusal>
         ensures { Gives (λ n. (n, state self.new)) result (spec.indicator start (state self.old)) }
     {
@@ -65,7 +65,7 @@ impl<T: Input> Reader<T> {
     }
 
     // Takes off the end of a header's line.
-    #[tactic(auto, unfolding(crate::specs::BlockScalar::header_end, crate::specs::BlockScalar::header_break))]
+    #[tactic(auto, unfolding(crate::specs::Steps::Block::header_end, crate::specs::Steps::Block::header_break))]
     fn end_block_header(&mut self, start: Marker) -> Result<(), Refusal>
         ensures { Gives (λ _. state self.new) result (spec.header_end start (state self.old)) }
     {
@@ -87,7 +87,7 @@ impl<T: Input> Reader<T> {
     }
 
     // The chomping, whose indicator may stand behind that of the indentation.
-    #[tactic(auto, unfolding(crate::specs::BlockScalar::last_chomping))]
+    #[tactic(auto, unfolding(crate::specs::Steps::Block::last_chomping))]
     fn read_last_chomping(&mut self, first: Option<Chomping>) -> Chomping
         ensures { (result, state self.new) ≡ spec.last_chomping first (state self.old) }
     {
@@ -98,7 +98,7 @@ impl<T: Input> Reader<T> {
     }
 
     // Takes off a header, from its `|` or `>` on, with its line.
-    #[tactic(auto, unfolding(crate::specs::BlockScalar::header, crate::specs::BlockScalar::header_behind))]
+    #[tactic(auto, unfolding(crate::specs::Steps::Block::header, crate::specs::Steps::Block::header_behind))]
     pub(crate) fn read_block_header(&mut self) -> Result<BlockHeader, Refusal>
         requires { 0 < length (state self.old).rest }
         ensures { Gives (λ header. (header, state self.new)) result (spec.header (state self.old)) }

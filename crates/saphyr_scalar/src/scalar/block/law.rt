@@ -3,12 +3,12 @@
 
 ghost use Rattle.std.specs.Prelude.{◌≡◌, ℕ, ◌<◌, List, Ok, false, length, slice_index};
 ghost use Rattle.saphyr_input.specs.Classes.{is_break};
-ghost use Rattle.saphyr_scalar.specs.Cursor.{Cursor};
-ghost use Rattle.saphyr_scalar.specs.BlockScalar.{block_scalar};
-ghost use Rattle.saphyr_scalar.specs.BlockRead.{IsRead};
-ghost use Rattle.saphyr_scalar.specs.BlockReading.{Line};
-ghost use Rattle.saphyr_scalar.specs.BlockText.{IsBlockText};
-ghost use Rattle.saphyr_scalar.specs.BlockSpelling.{IsBlockScalar, IsTaken};
+ghost use Rattle.saphyr_scalar.specs.Views.Cursor.{Cursor};
+ghost use Rattle.saphyr_scalar.specs.Steps.Block.{block_scalar};
+ghost use Rattle.saphyr_scalar.specs.Steps.BlockRead.{IsRead};
+ghost use Rattle.saphyr_scalar.specs.Reading.Block.{Line};
+ghost use Rattle.saphyr_scalar.specs.Reading.BlockText.{IsBlockText};
+ghost use Rattle.saphyr_scalar.specs.Spelling.Block.{IsBlockScalar, IsTaken};
 
 use crate::reading::{BlockStyle, Chomping};
 use crate::scalar::position::Span;

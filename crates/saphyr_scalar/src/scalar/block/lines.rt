@@ -2,7 +2,7 @@
 //! (YAML 1.2.2, 8.1.2 and 8.1.3).
 
 ghost use Rattle.std.specs.Prelude.{◌≡◌, ◌+◌, ◌≤◌, string_bytes, Ok, None};
-ghost use Rattle.saphyr_scalar.specs.BlockScalar as spec;
+ghost use Rattle.saphyr_scalar.specs.Steps.Block as spec;
 
 use crate::reading::BlockStyle;
 use crate::scalar::block::breaks::{BlockEnd, push_break_before};
@@ -31,7 +31,7 @@ fn indentation_left(limit: Option<usize>, col: usize) -> usize
 }
 
 impl<T: Input> Reader<T> {
-    ghost use Rattle.saphyr_scalar.specs.Seen.{state, loaded, Moves};
+    ghost use Rattle.saphyr_scalar.specs.Views.Reader.{state, loaded, Moves};
 
     // Takes off empty lines and the indentation behind them, which may have a limit.
     pub(crate) fn skip_empty_block_lines(
@@ -41,7 +41,7 @@ impl<T: Input> Reader<T> {
     ) -> EmptyLines
         requires { before.count ≤ (state self.old).mark.index }
         ensures taken { (result, state self.new)
-            ≡ spec.empty_lines_at limit before (state self.old) }
+            ≡ spec.pass_empty_lines_at limit before (state self.old) }
         ensures few { result.count ≤ (state self.new).mark.index }
     {
         let mut lines = before;
@@ -60,7 +60,7 @@ impl<T: Input> Reader<T> {
     }
 
     // Whether a content line begins here.
-    #[tactic(auto, unfolding(crate::specs::BlockScalar::line_starts))]
+    #[tactic(auto, unfolding(crate::specs::Steps::Block::line_starts))]
     fn block_line_starts(&mut self, indentation: usize) -> bool
         ensures value { result ≡ spec.line_starts indentation (state self.old).mark.col
             (state self.old).rest }
@@ -94,7 +94,7 @@ impl<T: Input> Reader<T> {
     ) -> Result<BlockEnd, Stop>
         requires { leading ≤ (state self.old).mark.index }
         ensures { Moves (λ end. (string_bytes text.new, end, state self.new)) result
-            (Ok (spec.with_front (string_bytes text.old)
+            (Ok (spec.with_lines (string_bytes text.old)
             (spec.between_at style indentation None leading (state self.old)))) }
     {
         let mut above = None;

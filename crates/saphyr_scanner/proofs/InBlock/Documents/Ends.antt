@@ -4,8 +4,8 @@ use Rattle.std.specs.Prelude.{◌==◌, not}
 use Rattle.saphyr_input.specs.Classes.{is_blank_or_breakz, carriage_return}
 use Rattle.saphyr_input.specs.Places.{is_document_indicator}
 use Rattle.saphyr_scalar.specs.declared.scalar.position.Marker.{Marker}
-use Rattle.saphyr_scalar.specs.Spaces.{IsFiller, IsLastFiller}
-use Rattle.saphyr_scalar.specs.TagSpelling.{AreIn}
+use Rattle.saphyr_scalar.specs.Spelling.Spaces.{IsFiller, IsLastFiller}
+use Rattle.saphyr_scalar.specs.Spelling.Tag.{AreIn}
 use Rattle.saphyr_scanner.specs.Grammar.Forest.{Node, Document, Forest}
 use Rattle.saphyr_scanner.specs.Grammar.BlockNodes.{BehindMarker, IsBlockNode}
 use Rattle.saphyr_scanner.specs.Grammar.Layout as layout

@@ -1,5 +1,5 @@
 use Rattle.std.proofs.Common.{◌≡◌, length, false}
-use Rattle.saphyr_scalar.specs.Seen.{state}
+use Rattle.saphyr_scalar.specs.Views.Reader.{state}
 use Rattle.saphyr_scanner.specs.Steps.Gap as spec
 use Rattle.saphyr_scanner.proofs.gap.skip_spaces.Given as goal
 

@@ -1,5 +1,5 @@
 use Rattle.std.specs.Prelude.{[]}
-use Rattle.saphyr_scalar.specs.Cursor.{fresh}
+use Rattle.saphyr_scalar.specs.Views.Cursor.{fresh}
 use Rattle.saphyr_scanner.specs.Steps.Remaining.{scan}
 use Rattle.saphyr_scanner.specs.TokensTaken.{IsReached}
 use Rattle.saphyr_scanner.specs.TokensTaken as taken

@@ -2,7 +2,7 @@ use Rattle.std.specs.Prelude.{false}
 use Rattle.saphyr_scanner.specs.Steps.Gap as gaps
 use Rattle.saphyr_scanner.proofs.Taken.Separated.{gap_apart, spaces_apart}
 use Rattle.saphyr_input.specs.declared.input.SkipTabs.TheVariants.{Yes}
-use Rattle.saphyr_scalar.specs.Cursor.{separation}
+use Rattle.saphyr_scalar.specs.Views.Cursor.{separation}
 use Rattle.saphyr_scanner.proofs.LineTails.{separation_passes}
 use Rattle.saphyr_scanner.proofs.law.passes_separation.Goals as goal
 use Rattle.saphyr_scalar.proofs.Given.{given_of}

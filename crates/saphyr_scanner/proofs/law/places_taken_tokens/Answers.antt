@@ -1,5 +1,5 @@
 use Rattle.std.specs.Prelude.{[]}
-use Rattle.saphyr_scalar.specs.Cursor.{fresh}
+use Rattle.saphyr_scalar.specs.Views.Cursor.{fresh}
 use Rattle.saphyr_scanner.specs.TokensTaken as taken
 use Rattle.saphyr_scanner.proofs.Taken.Places.{tokens_at}
 use Rattle.saphyr_scanner.proofs.law.places_taken_tokens.Goals as goal

@@ -2,8 +2,8 @@ use Rattle.std.proofs.Common.{◌≡◌, ◌<◌, ℕ, suc, ◌+◌, refl, List,
 use Rattle.saphyr_input.specs.Classes.{is_break}
 use Rattle.saphyr_scalar.specs.declared.reading.block.BlockStyle.{BlockStyle}
 use Rattle.saphyr_scalar.specs.declared.reading.block.BlockStyle.TheVariants as block_style
-use Rattle.saphyr_scalar.specs.Cursor.{along}
-use Rattle.saphyr_scalar.specs.Quoted.{at}
+use Rattle.saphyr_scalar.specs.Views.Cursor.{along}
+use Rattle.saphyr_scalar.specs.Steps.Quoted.{at}
 use Rattle.saphyr_scalar.specs.declared.scalar.position.Marker.{Marker}
 use Rattle.saphyr_scanner.specs.TokensTaken.{block_indicator}
 use Rattle.saphyr_scanner.proofs.Sizes.Scalars.{Readers, quoted_laws}

@@ -1,5 +1,5 @@
 use Rattle.std.proofs.Common.{◌≡◌, ◌≤◌, ◌+◌, length}
-use Rattle.saphyr_scalar.specs.BlockReading as spec
+use Rattle.saphyr_scalar.specs.Reading.Block as spec
 use Rattle.saphyr_scalar.proofs.reading.block.count_lines.Given as goal
 
 abbrev pub invariant-loop-others : goal.invariant-loop-others

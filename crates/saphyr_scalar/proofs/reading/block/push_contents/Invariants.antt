@@ -1,5 +1,5 @@
 use Rattle.std.proofs.Common.{◌≡◌, ◌++◌, length}
-use Rattle.saphyr_scalar.specs.BlockReading as spec
+use Rattle.saphyr_scalar.specs.Reading.Block as spec
 use Rattle.saphyr_scalar.proofs.reading.block.push_contents.Given as goal
 
 abbrev pub invariant-loop-line : goal.invariant-loop-line

@@ -1,5 +1,5 @@
 use Rattle.std.proofs.Common.{◌≡◌, length}
-use Rattle.saphyr_scalar.specs.Escapes as spec
+use Rattle.saphyr_scalar.specs.Reading.Escapes as spec
 use Rattle.saphyr_scalar.proofs.reading.escapes.hex_character.Given as goal
 
 abbrev pub invariant-loop-digit : goal.invariant-loop-digit

@@ -1,11 +1,11 @@
 use Rattle.std.proofs.Common.{◌≡◌, false, ◌∙◌, sym}
-use Rattle.saphyr_scalar.specs.FlowReading.{is_closing}
+use Rattle.saphyr_scalar.specs.Reading.Flow.{is_closing_at_end}
 use Rattle.saphyr_scalar.proofs.Quoted.Items.{next_item}
 use Rattle.saphyr_scalar.proofs.reading.flow.items_to_quote.Goals as goal
 
 pub loop-c-preserved : goal.loop-c-preserved
 loop-c-preserved c =
-    let unclosed : is_closing c.args.quote c.in-Some.c.now c.in-Some.others.now ≡ false =
+    let unclosed : is_closing_at_end c.args.quote c.in-Some.c.now c.in-Some.others.now ≡ false =
     sym c.is_closing.ensures ∙ c.if-is_closing.false in
     let step = next_item c.args.quote c.loop-c.text.now c.in-Some.c.now c.in-Some.others.now c.split_at.result.1.now
     c.loop-c.items.items c.in-Some-first_item.item c.in-Some-first_item.len

@@ -1,6 +1,6 @@
 use Rattle.std.proofs.Common.{◌≡◌, ◌++◌, length}
 use Rattle.std.specs.Prelude.{option_map}
-use Rattle.saphyr_scalar.specs.FlowReading as spec
+use Rattle.saphyr_scalar.specs.Reading.Flow as spec
 use Rattle.saphyr_scalar.proofs.reading.flow.items_to_quote.Given as goal
 
 abbrev pub invariant-loop-c : goal.invariant-loop-c

@@ -1,5 +1,5 @@
 use Rattle.std.proofs.Common.{◌≡◌, ◌++◌, length}
-use Rattle.saphyr_scalar.specs.Folding as spec
+use Rattle.saphyr_scalar.specs.Reading.Folding as spec
 use Rattle.saphyr_scalar.proofs.reading.folding.folded_characters.Given as goal
 
 abbrev pub invariant-loop-first : goal.invariant-loop-first

@@ -1,5 +1,5 @@
 use Rattle.std.proofs.Common.{◌≡◌, ◌++◌}
-use Rattle.saphyr_scalar.specs.Folding as spec
+use Rattle.saphyr_scalar.specs.Reading.Folding as spec
 use Rattle.saphyr_scalar.proofs.reading.folding.push_line_feeds.Given as goal
 
 abbrev pub invariant-loop : goal.invariant-loop

@@ -1,17 +1,17 @@
 use Rattle.std.proofs.Common.{◌≡◌}
 use Rattle.saphyr_scalar.proofs.Directives.Refused.{separation_refused, directive_refused}
 use Rattle.saphyr_scalar.proofs.Refusals.{refused_of, anchor_refused, tag_refused}
-use Rattle.saphyr_scalar.specs.Anchor.{anchor}
+use Rattle.saphyr_scalar.specs.Steps.Anchor.{anchor}
 use Rattle.saphyr_scalar.proofs.Block.Refused.{block_scalar_refused}
-use Rattle.saphyr_scalar.specs.BlockScalar.{block_scalar}
-use Rattle.saphyr_scalar.specs.Cursor.{separation}
-use Rattle.saphyr_scalar.specs.Directive.{directive}
+use Rattle.saphyr_scalar.specs.Steps.Block.{block_scalar}
+use Rattle.saphyr_scalar.specs.Views.Cursor.{separation}
+use Rattle.saphyr_scalar.specs.Steps.Directive.{directive}
 use Rattle.saphyr_scalar.proofs.Plain.Refused.{plain_refused}
-use Rattle.saphyr_scalar.specs.Plain.{plain}
+use Rattle.saphyr_scalar.specs.Steps.Plain.{plain}
 use Rattle.saphyr_scalar.proofs.Quoted.Refused.{quoted_refused}
-use Rattle.saphyr_scalar.specs.Quoted.{quoted}
+use Rattle.saphyr_scalar.specs.Steps.Quoted.{quoted}
 use Rattle.saphyr_scalar.specs.RefusedInside.{IsRefusedInside}
-use Rattle.saphyr_scalar.specs.Tag.{tag}
+use Rattle.saphyr_scalar.specs.Steps.Tag.{tag}
 use Rattle.saphyr_scalar.proofs.scalar.refusal_law.refuses_inside.Goals as goal
 
 pub returns-clause-anchor : goal.returns-clause-anchor

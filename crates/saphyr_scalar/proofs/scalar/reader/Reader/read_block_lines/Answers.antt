@@ -1,5 +1,5 @@
 use Rattle.std.proofs.Common.{ap, sym, ◌∙◌, Ok, string_bytes, arith}
-use Rattle.saphyr_scalar.specs.Seen.{state}
+use Rattle.saphyr_scalar.specs.Views.Reader.{state}
 use Rattle.saphyr_scalar.proofs.Block.Turns.{skipped, turn, broken, cut, last}
 use Rattle.saphyr_scalar.proofs.scalar.reader.Reader.read_block_lines.Goals as goal
 

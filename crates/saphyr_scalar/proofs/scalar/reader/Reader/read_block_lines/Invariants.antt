@@ -1,13 +1,13 @@
 use Rattle.std.proofs.Common.{◌≡◌, ◌≤◌, length, string_bytes}
 use Rattle.std.specs.Prelude.{None}
-use Rattle.saphyr_scalar.specs.BlockScalar.{with_front, between_at}
-use Rattle.saphyr_scalar.specs.Seen.{state}
+use Rattle.saphyr_scalar.specs.Steps.Block.{with_lines, between_at}
+use Rattle.saphyr_scalar.specs.Views.Reader.{state}
 use Rattle.saphyr_scalar.proofs.scalar.reader.Reader.read_block_lines.Given as goal
 
 abbrev pub invariant-loop-style : goal.invariant-loop-style
 invariant-loop-style g l = record {
-  same : with_front (string_bytes l.text) (between_at l.style l.indentation l.above l.lines.count (state l.self))
-      ≡ with_front (string_bytes l.fn.text) (between_at l.style l.indentation None l.leading (state l.fn.self));
+  same : with_lines (string_bytes l.text) (between_at l.style l.indentation l.above l.lines.count (state l.self))
+      ≡ with_lines (string_bytes l.fn.text) (between_at l.style l.indentation None l.leading (state l.fn.self));
   few : l.lines.count ≤ l.self.mark.index;
 }
 

@@ -1,6 +1,6 @@
 use Rattle.std.proofs.Common.{◌≡◌, true, sym, ◌∙◌, arith}
 use Rattle.saphyr_input.specs.Classes as class
-use Rattle.saphyr_scalar.specs.Seen.{state}
+use Rattle.saphyr_scalar.specs.Views.Reader.{state}
 use Rattle.saphyr_scalar.proofs.Quoted.Escapes.{digits_none, digits_on, digits_below, digits_fit}
 use Rattle.saphyr_scalar.proofs.scalar.reader.Reader.read_digits.Goals as goal
 

@@ -1,6 +1,6 @@
 use Rattle.std.proofs.Common.{◌≡◌, ◌<◌, ◌-◌, ◌^◌}
-use Rattle.saphyr_scalar.specs.Quoted.{digits}
-use Rattle.saphyr_scalar.specs.Seen.{state}
+use Rattle.saphyr_scalar.specs.Steps.Quoted.{digits}
+use Rattle.saphyr_scalar.specs.Views.Reader.{state}
 use Rattle.saphyr_scalar.proofs.scalar.reader.Reader.read_digits.Given as goal
 
 abbrev pub invariant-loop : goal.invariant-loop

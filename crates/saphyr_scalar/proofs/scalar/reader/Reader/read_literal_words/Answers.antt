@@ -1,10 +1,10 @@
 use Rattle.std.proofs.Common.{ap, ◌∙◌, arith, subst, string_bytes}
 use Rattle.saphyr_input.proofs.WordRuns.{words_within}
 use Rattle.saphyr_scalar.specs.declared.scalar.position.Marker.{Marker}
-use Rattle.saphyr_scalar.specs.Cursor.{Cursor, along}
-use Rattle.saphyr_scalar.specs.Quoted.{is_literal, at, WordsMoved}
-use Rattle.saphyr_scalar.specs.Sets.{is_content}
-use Rattle.saphyr_scalar.specs.Seen.{state}
+use Rattle.saphyr_scalar.specs.Views.Cursor.{Cursor, along}
+use Rattle.saphyr_scalar.specs.Steps.Quoted.{is_literal, at, QuotedWordsMoved}
+use Rattle.saphyr_scalar.specs.Steps.Sets.{is_content}
+use Rattle.saphyr_scalar.specs.Views.Reader.{state}
 use Rattle.saphyr_scalar.proofs.Quoted.Words.{words_moved}
 use Rattle.saphyr_scalar.proofs.scalar.reader.Reader.read_literal_words.Goals as goal
 
@@ -23,7 +23,7 @@ along-self-requires-clause-index g c =
 pub returns : goal.returns
 returns g c =
     let there = at c.along-self.result (state c.fetch_literal_words.new.self).rest in
-    subst (λ (s : Cursor). WordsMoved c.args.quote (string_bytes c.args.text.now)
+    subst (λ (s : Cursor). QuotedWordsMoved c.args.quote (string_bytes c.args.text.now)
     (string_bytes c.fetch_literal_words.new.text) s there) c.look.ensures.same
     (words_moved c.args.quote _ _ c.in_ok-count.count (state c.look.new.self) _ c.along-self.result
     c.in_ok-count.ensures.words

@@ -1,7 +1,7 @@
 use Rattle.std.proofs.Common.{◌≡◌, Bool, true, false, ◌++◌, string_bytes, Ok, sym, ap, ◌∙◌, subst}
-use Rattle.saphyr_scalar.specs.Cursor.{Cursor}
-use Rattle.saphyr_scalar.specs.Plain as spec
-use Rattle.saphyr_scalar.specs.Seen.{state}
+use Rattle.saphyr_scalar.specs.Views.Cursor.{Cursor}
+use Rattle.saphyr_scalar.specs.Steps.Plain as spec
+use Rattle.saphyr_scalar.specs.Views.Reader.{state}
 use Rattle.saphyr_scalar.proofs.Plain.Pieces.{GapMoved, gap_of, gap_refused, turn_refused, no_turn, turn, turn_goes, turn_shorter, goes_says, plain_starts, plain_refused, no_plain, first_goes, no_text, moves_refused, moves_failed}
 use Rattle.saphyr_scalar.proofs.scalar.reader.Reader.read_plain.Goals as goal
 

@@ -1,6 +1,6 @@
 use Rattle.std.proofs.Common.{◌≡◌, true, length, string_bytes}
-use Rattle.saphyr_scalar.specs.Plain.{in_word, with_text, word, plain}
-use Rattle.saphyr_scalar.specs.Seen.{state}
+use Rattle.saphyr_scalar.specs.Steps.Plain.{in_word, with_text, word, plain}
+use Rattle.saphyr_scalar.specs.Views.Reader.{state}
 use Rattle.saphyr_scalar.proofs.scalar.reader.Reader.read_plain.Given as goal
 
 abbrev pub invariant-loop-gap : goal.invariant-loop-gap

@@ -1,6 +1,6 @@
 use Rattle.std.proofs.Common.{◌≡◌, true, slice_index, string_bytes, refl, sym, ap, ◌∙◌}
 use Rattle.saphyr_input.specs.Classes.{is_break}
-use Rattle.saphyr_scalar.specs.Seen.{state}
+use Rattle.saphyr_scalar.specs.Views.Reader.{state}
 use Rattle.saphyr_scalar.proofs.Plain.Gaps.{gap_read}
 use Rattle.saphyr_scalar.proofs.Quoted.Gaps.{moved_on}
 use Rattle.saphyr_scalar.proofs.scalar.reader.Reader.read_plain_gap.Goals as goal

@@ -1,8 +1,8 @@
 use Rattle.std.proofs.Common.{◌≡◌, ◌+◌, true, false, length, drop, slice_index, string_bytes, refl, sym, ap, ◌∙◌, arith, subst}
 use Rattle.saphyr_scalar.specs.declared.scalar.position.Marker.{Marker}
-use Rattle.saphyr_scalar.specs.Cursor.{Cursor, along}
-use Rattle.saphyr_scalar.specs.Plain.{in_word}
-use Rattle.saphyr_scalar.specs.Seen.{state}
+use Rattle.saphyr_scalar.specs.Views.Cursor.{Cursor, along}
+use Rattle.saphyr_scalar.specs.Steps.Plain.{in_word}
+use Rattle.saphyr_scalar.specs.Views.Reader.{state}
 use Rattle.saphyr_scalar.proofs.Plain.SingleSpaces.{WordsRan, none_ran, words_ran, colon_ran, words_done}
 use Rattle.saphyr_scalar.proofs.scalar.reader.Reader.read_plain_words.Goals as goal
 

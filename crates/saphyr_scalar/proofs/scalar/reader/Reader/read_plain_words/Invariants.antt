@@ -1,5 +1,5 @@
 use Rattle.std.proofs.Common.{length, string_bytes}
-use Rattle.saphyr_scalar.specs.Seen.{state}
+use Rattle.saphyr_scalar.specs.Views.Reader.{state}
 use Rattle.saphyr_scalar.proofs.Plain.SingleSpaces.{WordsRan}
 use Rattle.saphyr_scalar.proofs.scalar.reader.Reader.read_plain_words.Given as goal
 

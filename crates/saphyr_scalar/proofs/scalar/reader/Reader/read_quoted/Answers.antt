@@ -1,8 +1,8 @@
 use Rattle.std.proofs.Common.{◌≡◌, IsTrue, Ok, slice_index, string_bytes, sym, ap, ◌∙◌, subst}
-use Rattle.saphyr_scalar.specs.Cursor.{Cursor}
-use Rattle.saphyr_scalar.specs.FlowReading as flow
-use Rattle.saphyr_scalar.specs.Quoted as spec
-use Rattle.saphyr_scalar.specs.Seen.{state}
+use Rattle.saphyr_scalar.specs.Views.Cursor.{Cursor}
+use Rattle.saphyr_scalar.specs.Reading.Flow as flow
+use Rattle.saphyr_scalar.specs.Steps.Quoted as spec
+use Rattle.saphyr_scalar.specs.Views.Reader.{state}
 use Rattle.saphyr_scalar.proofs.Quoted.Inside.{no_front}
 use Rattle.saphyr_scalar.proofs.Quoted.Gaps.{quote_closes}
 use Rattle.saphyr_scalar.proofs.scalar.reader.Reader.read_quoted.Goals as goal

@@ -1,7 +1,7 @@
 use Rattle.std.proofs.Common.{◌≡◌, true, false, ◌++◌, slice_index, string_bytes, sym, ap, ◌∙◌}
 use Rattle.saphyr_input.specs.Classes as class
-use Rattle.saphyr_scalar.specs.Quoted as spec
-use Rattle.saphyr_scalar.specs.Seen.{state}
+use Rattle.saphyr_scalar.specs.Steps.Quoted as spec
+use Rattle.saphyr_scalar.specs.Views.Reader.{state}
 use Rattle.saphyr_scalar.proofs.Quoted.Gaps.{moved_on, blanks_to_break, blanks_to_end, blanks_to_word, reads_from}
 use Rattle.saphyr_scalar.proofs.scalar.reader.Reader.read_quoted_gap.Goals as goal
 use Rattle.saphyr_input.proofs.Basics.Characters.{z_is_nul}

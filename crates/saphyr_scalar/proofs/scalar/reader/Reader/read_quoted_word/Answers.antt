@@ -1,7 +1,7 @@
 use Rattle.std.proofs.Common.{Some, None, length, string_bytes, sym, ap, ◌∙◌, arith}
-use Rattle.saphyr_scalar.specs.Cursor.{Cursor}
-use Rattle.saphyr_scalar.specs.Quoted as spec
-use Rattle.saphyr_scalar.specs.Seen.{state}
+use Rattle.saphyr_scalar.specs.Views.Cursor.{Cursor}
+use Rattle.saphyr_scalar.specs.Steps.Quoted as spec
+use Rattle.saphyr_scalar.specs.Views.Reader.{state}
 use Rattle.saphyr_scalar.proofs.Quoted.Inside.{reads_refused}
 use Rattle.saphyr_scalar.proofs.Quoted.Parts.{special_moved, special_shorter, special_refused, special_none, word_ends, gives}
 use Rattle.saphyr_scalar.proofs.scalar.reader.Reader.read_quoted_word.Goals as goal

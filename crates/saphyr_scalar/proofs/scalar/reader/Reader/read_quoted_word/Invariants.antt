@@ -1,6 +1,6 @@
 use Rattle.std.proofs.Common.{◌≡◌, ℕ, ◌≤◌, length, string_bytes}
-use Rattle.saphyr_scalar.specs.Quoted.{with_front, inside_at, no_gap}
-use Rattle.saphyr_scalar.specs.Seen.{state}
+use Rattle.saphyr_scalar.specs.Steps.Quoted.{with_front, inside_at, no_gap}
+use Rattle.saphyr_scalar.specs.Views.Reader.{state}
 use Rattle.saphyr_scalar.proofs.scalar.reader.Reader.read_quoted_word.Given as goal
 
 abbrev pub invariant-loop-self : goal.invariant-loop-self

@@ -1,6 +1,6 @@
 use Rattle.std.proofs.Common.{◌≡◌, ◌<◌, ◌-◌, ◌*◌, ◌^◌}
-use Rattle.saphyr_scalar.specs.Tag.{trailing_bytes}
-use Rattle.saphyr_scalar.specs.Seen.{state}
+use Rattle.saphyr_scalar.specs.Steps.Tag.{trailing_bytes}
+use Rattle.saphyr_scalar.specs.Views.Reader.{state}
 use Rattle.saphyr_scalar.proofs.scalar.reader.Reader.read_trailing_bytes.Given as goal
 
 abbrev pub invariant-loop : goal.invariant-loop

@@ -1,8 +1,8 @@
 use Rattle.std.proofs.Common.{◌≡◌, false, length, slice_index, string_bytes, sym, ap, ◌∙◌, arith}
-use Rattle.saphyr_scalar.specs.Cursor.{Cursor, along}
-use Rattle.saphyr_scalar.specs.Quoted.{with_front}
-use Rattle.saphyr_scalar.specs.Tag as spec
-use Rattle.saphyr_scalar.specs.Seen.{state}
+use Rattle.saphyr_scalar.specs.Views.Cursor.{Cursor, along}
+use Rattle.saphyr_scalar.specs.Steps.Quoted.{with_front}
+use Rattle.saphyr_scalar.specs.Steps.Tag as spec
+use Rattle.saphyr_scalar.specs.Views.Reader.{state}
 use Rattle.saphyr_scalar.proofs.Plain.Pieces.{moves_refused}
 use Rattle.saphyr_scalar.proofs.Properties.BareCharacters.{bare_moved, bare_stops, bare_shorter, escape_in_set, escape_is_character}
 use Rattle.saphyr_scalar.proofs.Properties.PercentEscapes.{has_left, character_on, character_refused, character_shorter, characters_end}

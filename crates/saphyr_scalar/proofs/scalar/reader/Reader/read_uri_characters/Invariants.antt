@@ -1,7 +1,7 @@
 use Rattle.std.proofs.Common.{◌≡◌, length, string_bytes}
-use Rattle.saphyr_scalar.specs.Quoted.{with_front}
-use Rattle.saphyr_scalar.specs.Tag.{decoded_at}
-use Rattle.saphyr_scalar.specs.Seen.{state}
+use Rattle.saphyr_scalar.specs.Steps.Quoted.{with_front}
+use Rattle.saphyr_scalar.specs.Steps.Tag.{decoded_at}
+use Rattle.saphyr_scalar.specs.Views.Reader.{state}
 use Rattle.saphyr_scalar.proofs.scalar.reader.Reader.read_uri_characters.Given as goal
 
 abbrev pub invariant-loop-count : goal.invariant-loop-count

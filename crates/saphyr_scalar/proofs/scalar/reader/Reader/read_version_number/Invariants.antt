@@ -1,6 +1,6 @@
 use Rattle.std.proofs.Common.{◌≡◌, ◌≤◌, ◌<◌, ◌^◌, length, slice_index}
-use Rattle.saphyr_scalar.specs.Directive.{number_from, number}
-use Rattle.saphyr_scalar.specs.Seen.{state}
+use Rattle.saphyr_scalar.specs.Steps.Directive.{number_from, number}
+use Rattle.saphyr_scalar.specs.Views.Reader.{state}
 use Rattle.saphyr_scalar.proofs.scalar.reader.Reader.read_version_number.Given as goal
 
 abbrev pub invariant-loop-c : goal.invariant-loop-c

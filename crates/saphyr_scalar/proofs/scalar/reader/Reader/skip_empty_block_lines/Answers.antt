@@ -1,7 +1,7 @@
 use Rattle.std.proofs.Common.{◌≡◌, false, sym, ap, ◌∙◌, arith}
-use Rattle.saphyr_scalar.specs.Cursor.{Cursor}
-use Rattle.saphyr_scalar.specs.BlockScalar.{is_indentation}
-use Rattle.saphyr_scalar.specs.Seen.{state}
+use Rattle.saphyr_scalar.specs.Views.Cursor.{Cursor}
+use Rattle.saphyr_scalar.specs.Steps.Block.{is_indentation}
+use Rattle.saphyr_scalar.specs.Views.Reader.{state}
 use Rattle.saphyr_scalar.proofs.SpaceRuns.{empty_over, none_left}
 use Rattle.saphyr_scalar.proofs.Block.Lines.{break_turn, end_turn, break_index}
 use Rattle.saphyr_scalar.proofs.scalar.reader.Reader.skip_empty_block_lines.Goals as goal

@@ -1,11 +1,12 @@
 use Rattle.std.proofs.Common.{◌≡◌, ◌≤◌, length}
-use Rattle.saphyr_scalar.specs.BlockScalar as spec
-use Rattle.saphyr_scalar.specs.Seen.{state}
+use Rattle.saphyr_scalar.specs.Steps.Block as spec
+use Rattle.saphyr_scalar.specs.Views.Reader.{state}
 use Rattle.saphyr_scalar.proofs.scalar.reader.Reader.skip_empty_block_lines.Given as goal
 
 abbrev pub invariant-loop-limit : goal.invariant-loop-limit
 invariant-loop-limit g l = record {
-  same : spec.empty_lines_at l.limit l.lines (state l.self) ≡ spec.empty_lines_at l.limit l.fn.before (state l.fn.self);
+  same : spec.pass_empty_lines_at l.limit l.lines (state l.self)
+      ≡ spec.pass_empty_lines_at l.limit l.fn.before (state l.fn.self);
   few : l.lines.count ≤ l.self.mark.index;
 }
 

@@ -1,6 +1,6 @@
 use Rattle.std.proofs.Common.{◌≡◌, true, false, length, string_bytes}
-use Rattle.saphyr_scalar.specs.Plain.{lines}
-use Rattle.saphyr_scalar.specs.Seen.{state}
+use Rattle.saphyr_scalar.specs.Steps.Plain.{lines}
+use Rattle.saphyr_scalar.specs.Views.Reader.{state}
 use Rattle.saphyr_scalar.proofs.scalar.reader.Reader.skip_empty_lines.Given as goal
 
 abbrev pub invariant-loop-self : goal.invariant-loop-self

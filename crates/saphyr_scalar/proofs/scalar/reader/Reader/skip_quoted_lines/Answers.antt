@@ -1,9 +1,9 @@
 use Rattle.std.proofs.Common.{◌≡◌, true, false, length, length-drop, slice_index, sym, ap, ◌∙◌, arith}
 use Rattle.std.specs.Prelude.{◌&&◌, ◌==◌}
 use Rattle.saphyr_input.specs.Classes as class
-use Rattle.saphyr_scalar.specs.Cursor.{Cursor}
-use Rattle.saphyr_scalar.specs.Quoted.{is_left, over_lines, inside_at}
-use Rattle.saphyr_scalar.specs.Seen.{state}
+use Rattle.saphyr_scalar.specs.Views.Cursor.{Cursor}
+use Rattle.saphyr_scalar.specs.Steps.Quoted.{is_left, over_lines, inside_at}
+use Rattle.saphyr_scalar.specs.Views.Reader.{state}
 use Rattle.saphyr_scalar.proofs.SpaceRuns.{inside_over, spaces_shorter}
 use Rattle.saphyr_scalar.proofs.Quoted.Lines.{break_on, break_on_shorter, blank_on, tab_on, fits_right, fits_no_tab}
 use Rattle.saphyr_scalar.proofs.scalar.reader.Reader.skip_quoted_lines.Goals.{else-c-eq9-via-then-c-eq9+else-self-indent, else-c-eq9-via-else-c-eq9}

@@ -1,6 +1,6 @@
 use Rattle.std.proofs.Common.{◌≡◌, ◌+◌, ◌≤◌, Bool, length}
-use Rattle.saphyr_scalar.specs.Quoted.{inside_at, over_lines}
-use Rattle.saphyr_scalar.specs.Seen.{state}
+use Rattle.saphyr_scalar.specs.Steps.Quoted.{inside_at, over_lines}
+use Rattle.saphyr_scalar.specs.Views.Reader.{state}
 use Rattle.saphyr_scalar.specs.declared.scalar.position.Marker.{Marker}
 use Rattle.saphyr_scalar.specs.declared.reading.flow.Quote.{Quote}
 use Rattle.saphyr_scalar.proofs.scalar.reader.Reader.skip_quoted_lines.Given as goal

@@ -2,10 +2,10 @@
 -- Each relation is between what stands at a place, the items that it spells, and what stands behind it.
 use Rattle.std.specs.Prelude.{◌≡◌, ℕ, Bool, ◌&&◌, not, List, [], ◌∷◌, ◌++◌, drop, slice_index, Some, IsTrue}
 use Rattle.saphyr_input.specs.Classes.{is_break, is_breakz}
-use Rattle.saphyr_scalar.specs.FlowReading.{mark, is_special, raw_item, apostrophe, backslash}
-use Rattle.saphyr_scalar.specs.LineSpelling.{IsNumber}
-use Rattle.saphyr_scalar.specs.LineBreaks.{break_len}
-use Rattle.saphyr_scalar.specs.QuotedWords.{simple_escape, is_closing}
+use Rattle.saphyr_scalar.specs.Reading.Flow.{mark, is_special, raw_item, apostrophe, backslash}
+use Rattle.saphyr_scalar.specs.Spelling.OneLine.{IsNumber}
+use Rattle.saphyr_scalar.specs.Spelling.LineBreaks.{break_len}
+use Rattle.saphyr_scalar.specs.Spelling.QuotedWords.{simple_escape, is_closing}
 use Rattle.saphyr_scalar.specs.declared.reading.folding.Item.{Item}
 use Rattle.saphyr_scalar.specs.declared.reading.folding.Item.TheVariants.{Raw, Escaped, Break, EscapedBreak}
 use Rattle.saphyr_scalar.specs.declared.reading.flow.Quote.{Quote}

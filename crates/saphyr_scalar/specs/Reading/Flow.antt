@@ -1,8 +1,8 @@
 -- The readings of flow scalars (YAML 1.2.2, 7.3), over texts whose breaks are normalized.
 use Rattle.std.specs.Prelude.{ℕ, zero, suc, pred, ◌+◌, ◌==◌, Bool, false, ◌||◌, if◌then◌else◌, Option, Some, None, option_map, option_and_then, List, [], ◌∷◌, map, slice_index}
 use Rattle.saphyr_input.specs.Classes.{line_feed, is_blank}
-use Rattle.saphyr_scalar.specs.Escapes.{escape}
-use Rattle.saphyr_scalar.specs.Folding.{folded}
+use Rattle.saphyr_scalar.specs.Reading.Escapes.{escape}
+use Rattle.saphyr_scalar.specs.Reading.Folding.{folded}
 use Rattle.saphyr_scalar.specs.declared.reading.folding.Item.{Item}
 use Rattle.saphyr_scalar.specs.declared.reading.folding.Item.TheVariants.{Blank, Raw, Break}
 use Rattle.saphyr_scalar.specs.declared.reading.flow.Quote.{Quote}
@@ -45,9 +45,9 @@ first_item quote [] = None
 first_item quote (c ∷ text) = if is_special quote c then special_item quote c text else Some (raw_item c, 1)
 
 -- the closing quote, at the text's end
-abbrev pub is_closing : Quote → ℕ → List ℕ → Bool
-is_closing quote c [] = c == mark quote
-is_closing quote c (d ∷ text) = false
+abbrev pub is_closing_at_end : Quote → ℕ → List ℕ → Bool
+is_closing_at_end quote c [] = c == mark quote
+is_closing_at_end quote c (d ∷ text) = false
 
 -- The items of a text behind the opening quote, up to the closing quote at its end.
 -- `taken` is how many characters at the front belong to the item before.
@@ -55,7 +55,7 @@ abbrev pub items_to_quote : Quote → ℕ → List ℕ → Option (List Item)
 items_to_quote quote taken [] = None
 items_to_quote quote (suc taken) (c ∷ text) = items_to_quote quote taken text
 items_to_quote quote zero (c ∷ text) =
-    if is_closing quote c text then Some []
+    if is_closing_at_end quote c text then Some []
     else option_and_then (λ first. option_map (λ items. first.0 ∷ items) (items_to_quote quote (pred first.1) text))
     (first_item quote (c ∷ text))
 

@@ -1,12 +1,12 @@
 -- How directives are spelled (YAML 1.2.2, 6.8), and what may stand behind one on its line.
 use Rattle.std.specs.Prelude.{◌≡◌, ◌≢◌, ℕ, ◌+◌, ◌-◌, ◌*◌, ◌≤◌, ◌⊎◌, List, [], ◌∷◌, ◌++◌, length, slice_index, IsTrue, codes, encode_utf8_all}
 use Rattle.saphyr_input.specs.Classes.{is_blank, is_digit, is_yaml_non_space, is_yaml_non_break}
-use Rattle.saphyr_scalar.specs.Directive.{Directive, version, tag_prefix, reserved}
-use Rattle.saphyr_scalar.specs.TagSpelling.{AreIn, IsHandleText, IsPrefix}
+use Rattle.saphyr_scalar.specs.Steps.Directive.{Directive, version, tag_prefix, reserved}
+use Rattle.saphyr_scalar.specs.Spelling.Tag.{AreIn, IsHandleText, IsPrefix}
 
 -- spaces and tabs, at least one
-abbrev pub AreBlanks : List ℕ → Type 0
-AreBlanks t = (t ≢ []) × AreIn is_blank t
+abbrev pub AreSomeBlanks : List ℕ → Type 0
+AreSomeBlanks t = (t ≢ []) × AreIn is_blank t
 
 -- what decimal digits stand for, behind those that stand for v
 abbrev pub decimal_from : ℕ → List ℕ → ℕ
@@ -20,19 +20,20 @@ IsVersionNumber v t = (t ≢ []) × (length t ≤ 9) × AreIn is_digit t × (dec
 -- 6.8.1
 abbrev pub IsVersionDirective : ℕ → ℕ → List ℕ → Type 0
 IsVersionDirective major minor t =
-    (gap high low : List ℕ) × AreBlanks gap × IsVersionNumber major high × IsVersionNumber minor low
+    (gap high low : List ℕ) × AreSomeBlanks gap × IsVersionNumber major high × IsVersionNumber minor low
     × (t ≡ codes "%YAML" ++ (gap ++ (high ++ (codes "." ++ low))))
 
 -- 6.8.2
 abbrev pub IsTagDirective : List ℕ → List ℕ → List ℕ → Type 0
 IsTagDirective handle prefix t =
-    (first second written : List ℕ) × AreBlanks first × AreBlanks second × IsHandleText handle × IsPrefix prefix written
+    (first second written : List ℕ) × AreSomeBlanks first × AreSomeBlanks second × IsHandleText handle
+    × IsPrefix prefix written
     × (t ≡ codes "%TAG" ++ (first ++ (handle ++ (second ++ written))))
 
 -- A tag directive as it is read: no blank has to stand between a handle that ends with `!` and its prefix.
 abbrev pub IsReadTagDirective : List ℕ → List ℕ → List ℕ → Type 0
 IsReadTagDirective handle prefix t =
-    (first second written : List ℕ) × AreBlanks first × AreIn is_blank second × IsHandleText handle
+    (first second written : List ℕ) × AreSomeBlanks first × AreIn is_blank second × IsHandleText handle
     × IsPrefix prefix written × (t ≡ codes "%TAG" ++ (first ++ (handle ++ (second ++ written))))
 
 -- what a directive says, and the directive as it is written: a version directive, or a tag directive

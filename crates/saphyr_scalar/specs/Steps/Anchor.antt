@@ -4,13 +4,13 @@ use Rattle.saphyr_input.specs.Classes.{is_anchor_char}
 use Rattle.saphyr_scalar.specs.declared.scalar.position.Marker.{Marker}
 use Rattle.saphyr_scalar.specs.declared.scalar.fault.Refusal.{Refusal}
 use Rattle.saphyr_scalar.specs.declared.scalar.fault.FaultText.TheVariants as fault
-use Rattle.saphyr_scalar.specs.Cursor.{Cursor, refuse, pass}
-use Rattle.saphyr_scalar.specs.Quoted.{with_run}
+use Rattle.saphyr_scalar.specs.Views.Cursor.{Cursor, refuse, pass}
+use Rattle.saphyr_scalar.specs.Steps.Quoted.{with_run}
 
 -- a name has a character
-unfoldable pub name_of : Marker → List ℕ × Cursor → Result (List ℕ × Cursor) Refusal
-name_of start x = if length x.0 == 0 then refuse fault.AnchorNameExpected start else Ok x
+unfoldable pub anchor_name_of : Marker → List ℕ × Cursor → Result (List ℕ × Cursor) Refusal
+anchor_name_of start x = if length x.0 == 0 then refuse fault.AnchorNameExpected start else Ok x
 
 -- the name behind the `&` or the `*`, and what stands behind the name
 unfoldable pub anchor : Cursor → Result (List ℕ × Cursor) Refusal
-anchor s = name_of s.mark (with_run is_anchor_char [] (pass 1 s))
+anchor s = anchor_name_of s.mark (with_run is_anchor_char [] (pass 1 s))

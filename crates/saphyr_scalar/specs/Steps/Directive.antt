@@ -9,9 +9,9 @@ use Rattle.saphyr_scalar.specs.declared.scalar.fault.FaultText.TheVariants as fa
 use Rattle.saphyr_scalar.specs.declared.scalar.directive.Directive as declared
 use Rattle.saphyr_scalar.specs.declared.scalar.directive.Directive.TheVariants as variant
 use Rattle.saphyr_scalar.specs.declared.scalar.tag.UriSet.TheVariants.{Uri}
-use Rattle.saphyr_scalar.specs.Cursor.{Cursor, ◌>>=◌, refuse, along, pass, pass_blanks, pass_break, pass_comment, separation}
-use Rattle.saphyr_scalar.specs.Quoted.{with_front, with_run, at}
-use Rattle.saphyr_scalar.specs.Tag.{uri_character, decoded_at, handle_of}
+use Rattle.saphyr_scalar.specs.Views.Cursor.{Cursor, ◌>>=◌, refuse, along, pass, pass_blanks, pass_break, pass_comment, separation}
+use Rattle.saphyr_scalar.specs.Steps.Quoted.{with_front, with_run, at}
+use Rattle.saphyr_scalar.specs.Steps.Tag.{uri_character, decoded_at, handle_of}
 
 -- what a directive says: its texts as their bytes
 pub data Directive : Type 0 where
@@ -25,18 +25,18 @@ directive_of (variant.TagPrefix handle prefix) = tag_prefix (string_bytes handle
 directive_of (variant.Reserved name) = reserved (string_bytes name)
 
 -- blanks are passed
-abbrev pub behind_blanks : Cursor → Cursor
-behind_blanks s = pass_blanks (prefix_len is_blank s.rest) s
+abbrev pub pass_all_blanks : Cursor → Cursor
+pass_all_blanks s = pass_blanks (prefix_len is_blank s.rest) s
 
 -- a name has a character, and ends before a blank, a break, NUL or the end
-unfoldable pub name_of : Marker → List ℕ × Cursor → Result (List ℕ × Cursor) Refusal
-name_of start x =
+unfoldable pub directive_name_of : Marker → List ℕ × Cursor → Result (List ℕ × Cursor) Refusal
+directive_name_of start x =
     if length x.0 == 0 then refuse fault.DirectiveNameExpected start
     else if is_blank_or_breakz (slice_index x.1.rest 0) then Ok x
     else refuse fault.DirectiveNameCharacter start
 
 unfoldable pub name : Cursor → Result (List ℕ × Cursor) Refusal
-name s = name_of s.mark (with_run is_yaml_non_space [] s)
+name s = directive_name_of s.mark (with_run is_yaml_non_space [] s)
 
 -- Version directives (6.8.1).
 
@@ -62,20 +62,20 @@ behind_major start x =
     else refuse fault.VersionDigitOrDotExpected start
 
 unfoldable pub version_directive : Marker → Cursor → Result (Directive × Cursor) Refusal
-version_directive start s = number start (behind_blanks s) >>= λ x. behind_major start x
+version_directive start s = number start (pass_all_blanks s) >>= λ x. behind_major start x
 
 -- Tag directives (6.8.2).
 
 -- the handle is `!`, `!!` or `!word!`
-unfoldable pub behind_word : Marker → List ℕ × Cursor → Result (List ℕ × Cursor) Refusal
-behind_word start w =
+unfoldable pub handle_behind_word : Marker → List ℕ × Cursor → Result (List ℕ × Cursor) Refusal
+handle_behind_word start w =
     if slice_index w.1.rest 0 == 33 then Ok (handle_of w.0, pass 1 w.1)
     else if length w.0 == 0 then Ok (codes "!", w.1)
     else refuse fault.TagDirectiveHandleEndExpected start
 
 unfoldable pub handle : Marker → Cursor → Result (List ℕ × Cursor) Refusal
 handle start s =
-    if slice_index s.rest 0 == 33 then behind_word start (with_run is_alpha [] (pass 1 s))
+    if slice_index s.rest 0 == 33 then handle_behind_word start (with_run is_alpha [] (pass 1 s))
     else refuse fault.TagHandleStartExpected start
 
 -- a prefix begins with `!` or a character of tags (6.8.2.2)
@@ -91,7 +91,8 @@ behind_prefix start h x =
     fault.TagDirectiveEndExpected start
 
 unfoldable pub tag_directive : Marker → Cursor → Result (Directive × Cursor) Refusal
-tag_directive start s = handle start (behind_blanks s) >>= λ h. prefix start (behind_blanks h.1) >>= λ x. behind_prefix
+tag_directive start s = handle start (pass_all_blanks s) >>= λ h. prefix start
+    (pass_all_blanks h.1) >>= λ x. behind_prefix
     start h.0 x
 
 -- what a directive of a name says; the parameters of a reserved one are passed

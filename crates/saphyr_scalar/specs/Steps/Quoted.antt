@@ -8,12 +8,12 @@ use Rattle.saphyr_scalar.specs.declared.scalar.fault.Refusal.{Refusal}
 use Rattle.saphyr_scalar.specs.declared.scalar.fault.FaultText.TheVariants as fault
 use Rattle.saphyr_scalar.specs.declared.reading.flow.Quote.{Quote}
 use Rattle.saphyr_scalar.specs.declared.reading.flow.Quote.TheVariants.{Single, Double}
-use Rattle.saphyr_scalar.specs.Cursor.{Cursor, ◌>>=◌, refuse, along, next_line, pass}
-use Rattle.saphyr_scalar.specs.FlowReading as flow
-pub use Rattle.saphyr_scalar.specs.LineBreaks.{break_len}
-unfoldable pub use Rattle.saphyr_scalar.specs.QuotedWords.{simple_escape}
-pub use Rattle.saphyr_scalar.specs.QuotedWords.{digit_count, is_scalar, is_closing}
-use Rattle.saphyr_scalar.specs.Folding.{raw_break, line_feeds}
+use Rattle.saphyr_scalar.specs.Views.Cursor.{Cursor, ◌>>=◌, refuse, along, next_line, pass}
+use Rattle.saphyr_scalar.specs.Reading.Flow as flow
+pub use Rattle.saphyr_scalar.specs.Spelling.LineBreaks.{break_len}
+unfoldable pub use Rattle.saphyr_scalar.specs.Spelling.QuotedWords.{simple_escape}
+pub use Rattle.saphyr_scalar.specs.Spelling.QuotedWords.{hex_digit_count, is_scalar, is_closing}
+use Rattle.saphyr_scalar.specs.Reading.Folding.{raw_break, line_feeds}
 
 -- a character that stands for itself between the quotes and is no blank
 unfoldable pub is_literal : Quote → ℕ → Bool
@@ -38,11 +38,11 @@ numbered start n s =
 
 unfoldable pub escape_of : Marker → Option ℕ → ℕ → Cursor → Result (ℕ × Cursor) Refusal
 escape_of start (Some c) letter s = Ok (c, pass 2 s)
-escape_of start None letter s = numbered start (digit_count letter) s
+escape_of start None letter s = numbered start (hex_digit_count letter) s
 
 -- an escape, from its backslash on: the character that it stands for
-unfoldable pub escape : Marker → Cursor → Result (ℕ × Cursor) Refusal
-escape start s = escape_of start (simple_escape (slice_index s.rest 1)) (slice_index s.rest 1) s
+unfoldable pub escaped_character : Marker → Cursor → Result (ℕ × Cursor) Refusal
+escaped_character start s = escape_of start (simple_escape (slice_index s.rest 1)) (slice_index s.rest 1) s
 
 -- the bytes of a text, and what stands behind what was taken off, or a fault
 abbrev pub TextRead : Type 0
@@ -62,21 +62,21 @@ unfoldable pub special : Quote → Marker → Cursor → Result (Option ℕ × C
 special Single start s = if next_2_are s.rest 39 39 then Ok (Some 39, pass 2 s) else Ok (None, s)
 special Double start s =
     if (slice_index s.rest 0 == 92) && not (is_break (slice_index s.rest 1)) then
-    (escape start s >>= λ e. Ok (Some e.0, e.1))
+    (escaped_character start s >>= λ e. Ok (Some e.0, e.1))
     else Ok (None, s)
 
 -- how many characters such a spelling has behind its first one
 abbrev pub special_len : Quote → ℕ → ℕ
 special_len Single next = 1
-special_len Double next = suc (digit_count next)
+special_len Double next = suc (hex_digit_count next)
 
 -- What stands between two words of a scalar: blanks on a line, with their bytes, or a break, escaped or not, and behind
 -- it so many empty lines.
-pub data Gap : Type 0 where
-  on_line : (bytes : List ℕ) → Gap
-  over_lines : (escaped : Bool) → (empty : ℕ) → Gap
+pub data QuotedGap : Type 0 where
+  on_line : (bytes : List ℕ) → QuotedGap
+  over_lines : (escaped : Bool) → (empty : ℕ) → QuotedGap
 
-abbrev pub no_gap : Gap
+abbrev pub no_gap : QuotedGap
 no_gap = on_line []
 
 -- whether a place is left of the column that later lines have to reach
@@ -84,13 +84,13 @@ abbrev pub is_left : ℕ → Marker → Bool
 is_left indent m = nat_lt m.col indent
 
 -- a blank: no tab is part of a line's indentation (6.1)
-unfoldable pub blank_in : ℕ → Gap → Marker → ℕ → Result Gap Refusal
+unfoldable pub blank_in : ℕ → QuotedGap → Marker → ℕ → Result QuotedGap Refusal
 blank_in indent (on_line bytes) m c = Ok (on_line (bytes ++ encode_utf8 c))
 blank_in indent (over_lines escaped n) m c =
     if (c == 9) && is_left indent m then refuse fault.TabAsIndentation m else Ok (over_lines escaped n)
 
 -- a break: the blanks before it go, or a line that it ends is empty
-abbrev pub break_in : Gap → Gap
+abbrev pub break_in : QuotedGap → QuotedGap
 break_in (on_line bytes) = over_lines false 0
 break_in (over_lines escaped n) = over_lines escaped (suc n)
 
@@ -107,14 +107,14 @@ begin_word indent start s =
     else Ok s
 
 -- the bytes of a gap before a word or the closing quote
-unfoldable pub end_gap : ℕ → Marker → Gap → Cursor → Result (List ℕ) Refusal
+unfoldable pub end_gap : ℕ → Marker → QuotedGap → Cursor → Result (List ℕ) Refusal
 end_gap indent start (on_line bytes) s =
     if is_z (slice_index s.rest 0) then refuse fault.EndInsideQuotes start else Ok bytes
 end_gap indent start (over_lines escaped n) s =
     begin_word indent start s >>= λ t. Ok (encode_utf8_all (folded_break escaped n))
 
 -- what an escaped break begins: right before the closing quote nothing, and there the quote may stand anywhere
-abbrev pub escaped_gap : Quote → ℕ → Gap
+abbrev pub escaped_gap : Quote → ℕ → QuotedGap
 escaped_gap quote c = if c == flow.mark quote then no_gap else over_lines true 0
 
 abbrev pub if_some : {X : Type 0} → Option ℕ → (ℕ → X) → X → X
@@ -124,7 +124,7 @@ if_some None f x = x
 -- The text behind the quote at `start`: its bytes, and what stands behind the closing quote. `gap` stands before it.
 -- The
 -- next k characters are taken off already, and m is the place behind them.
-unfoldable pub inside : Quote → ℕ → Marker → Gap → ℕ → Marker → List ℕ → TextRead
+unfoldable pub inside : Quote → ℕ → Marker → QuotedGap → ℕ → Marker → List ℕ → TextRead
 inside quote indent start gap k m [] = refuse fault.EndInsideQuotes start
 inside quote indent start gap zero m (c ∷ cs) =
     if is_blank c then (blank_in indent gap m c >>= λ g. inside quote indent start g zero (along m 1) cs)
@@ -140,7 +140,7 @@ inside quote indent start gap zero m (c ∷ cs) =
     (next_line (along m 1) (break_len cs)) cs))))
 inside quote indent start gap (suc k) m (c ∷ cs) = inside quote indent start gap k m cs
 
-abbrev pub inside_at : Quote → ℕ → Marker → Gap → Cursor → TextRead
+abbrev pub inside_at : Quote → ℕ → Marker → QuotedGap → Cursor → TextRead
 inside_at quote indent start gap s = inside quote indent start gap zero s.mark s.rest
 
 -- A quoted scalar, from its opening quote to its closing one, where `indent` is the column that its later lines have to
@@ -175,7 +175,7 @@ Leads (Ok x) now before = now x ≡ before
 Leads (Err e) now before = before ≡ Err e
 
 -- Words were put behind a text, up to a character that does not stand for itself.
-pub record WordsMoved (quote : Quote) (text grown : List ℕ) (s t : Cursor) : Type 0 where
+pub record QuotedWordsMoved (quote : Quote) (text grown : List ℕ) (s t : Cursor) : Type 0 where
   pub same : (indent : ℕ) (start : Marker)
       → with_front grown (inside_at quote indent start no_gap t)
       ≡ with_front text (inside_at quote indent start no_gap s)

@@ -15,8 +15,8 @@ use Rattle.saphyr_scalar.specs.declared.scalar.fault.FaultText.TheVariants as fa
 use Rattle.saphyr_scalar.specs.declared.scalar.block.header.BlockHeader.{BlockHeader}
 use Rattle.saphyr_scalar.specs.declared.scalar.block.lines.EmptyLines.{EmptyLines}
 use Rattle.saphyr_scalar.specs.declared.scalar.block.breaks.BlockEnd.{BlockEnd}
-use Rattle.saphyr_scalar.specs.Cursor.{Cursor, ◌>>=◌, refuse, along, next_line, pass, pass_break, pass_comment, separation}
-use Rattle.saphyr_scalar.specs.Folding.{line_feeds, raw_break}
+use Rattle.saphyr_scalar.specs.Views.Cursor.{Cursor, ◌>>=◌, refuse, along, next_line, pass, pass_break, pass_comment, separation}
+use Rattle.saphyr_scalar.specs.Reading.Folding.{line_feeds, raw_break}
 
 -- 8.1.1.2: the chomping indicator that stands first, where one does, and what stands behind it
 unfoldable pub chomping : Cursor → Option Chomping × Cursor
@@ -86,16 +86,16 @@ abbrev pub one_more : EmptyLines → ℕ → EmptyLines
 one_more lines col = record { count = lines.count + 1; widest = max lines.widest col }
 
 -- Empty lines, which have spaces alone, and the indentation behind them. Some were met before.
-unfoldable pub empty_lines : Option ℕ → EmptyLines → Bool → Marker → List ℕ → EmptyLines × Cursor
-empty_lines limit lines b m [] = (widened lines m.col, there b m [])
-empty_lines limit lines b m (c ∷ cs) =
-    if is_indentation limit m.col c then empty_lines limit lines b (along m 1) cs
-    else if is_cr_lf c cs then empty_lines limit lines b (inside_break m) cs
-    else if is_break c then empty_lines limit (one_more lines m.col) true (next_line m 1) cs
+unfoldable pub pass_empty_lines : Option ℕ → EmptyLines → Bool → Marker → List ℕ → EmptyLines × Cursor
+pass_empty_lines limit lines b m [] = (widened lines m.col, there b m [])
+pass_empty_lines limit lines b m (c ∷ cs) =
+    if is_indentation limit m.col c then pass_empty_lines limit lines b (along m 1) cs
+    else if is_cr_lf c cs then pass_empty_lines limit lines b (inside_break m) cs
+    else if is_break c then pass_empty_lines limit (one_more lines m.col) true (next_line m 1) cs
     else (widened lines m.col, there b m (c ∷ cs))
 
-abbrev pub empty_lines_at : Option ℕ → EmptyLines → Cursor → EmptyLines × Cursor
-empty_lines_at limit lines s = empty_lines limit lines s.blank_so_far s.mark s.rest
+abbrev pub pass_empty_lines_at : Option ℕ → EmptyLines → Cursor → EmptyLines × Cursor
+pass_empty_lines_at limit lines s = pass_empty_lines limit lines s.blank_so_far s.mark s.rest
 
 -- whether a content line begins at a column: in column 0 no document marker does
 unfoldable pub line_starts : ℕ → ℕ → List ℕ → Bool
@@ -113,33 +113,34 @@ break_before Folded (Some above) lines below = if above || below then line_feeds
 abbrev pub LinesRead : Type 0
 LinesRead = List ℕ × BlockEnd × Cursor
 
-abbrev pub with_text : List ℕ → LinesRead → LinesRead
-with_text text read = (text ++ read.0, read.1, read.2)
+abbrev pub lines_behind_text : List ℕ → LinesRead → LinesRead
+lines_behind_text text read = (text ++ read.0, read.1, read.2)
 
-abbrev pub ended : Bool → ℕ → Cursor → LinesRead
-ended broken lines s = ([], record { broken = broken; empty_lines = lines }, s)
+abbrev pub lines_ended : Bool → ℕ → Cursor → LinesRead
+lines_ended broken lines s = ([], record { broken = broken; empty_lines = lines }, s)
 
 -- The content lines. `between` stands in the indentation of a line, behind the content line `above`, if there is one,
 -- and
 -- some empty lines; `line` stands inside the content of a line that is more indented or not.
 unfoldable mutual
   pub between : BlockStyle → ℕ → Option Bool → ℕ → Bool → Marker → List ℕ → LinesRead
-  between style i above lines b m [] = ended (is_some above) lines (there b m [])
+  between style i above lines b m [] = lines_ended (is_some above) lines (there b m [])
   between style i above lines b m (c ∷ cs) =
       if is_indentation (Some i) m.col c then between style i above lines b (along m 1) cs
       else if is_cr_lf c cs then between style i above lines b (inside_break m) cs
       else if is_break c then between style i above (lines + 1) true (next_line m 1) cs
       else if line_starts i m.col (c ∷ cs) then
-      with_text (break_before style above lines (is_blank c) ++ c ∷ []) (line style i (is_blank c) b (along m 1) cs)
-      else ended (is_some above) lines (there b m (c ∷ cs))
+      lines_behind_text (break_before style above lines (is_blank c) ++ c ∷ [])
+          (line style i (is_blank c) b (along m 1) cs)
+      else lines_ended (is_some above) lines (there b m (c ∷ cs))
 
   pub line : BlockStyle → ℕ → Bool → Bool → Marker → List ℕ → LinesRead
-  line style i more b m [] = ended false 0 (there b m [])
+  line style i more b m [] = lines_ended false 0 (there b m [])
   line style i more b m (c ∷ cs) =
-      if is_yaml_non_break c then with_text (c ∷ []) (line style i more b (along m 1) cs)
+      if is_yaml_non_break c then lines_behind_text (c ∷ []) (line style i more b (along m 1) cs)
       else if is_cr_lf c cs then line style i more b (inside_break m) cs
       else if is_break c then between style i (Some more) 0 true (next_line m 1) cs
-      else ended false 0 (there b m (c ∷ cs))
+      else lines_ended false 0 (there b m (c ∷ cs))
 
 abbrev pub between_at : BlockStyle → ℕ → Option Bool → ℕ → Cursor → LinesRead
 between_at style i above lines s = between style i above lines s.blank_so_far s.mark s.rest
@@ -152,8 +153,8 @@ abbrev pub with_line : List ℕ → Cursor → List ℕ × Cursor
 with_line text s = (text ++ encode_utf8_all (take (prefix_len is_yaml_non_break s.rest) s.rest), pass_comment s)
 
 -- the lines behind a text
-abbrev pub with_front : List ℕ → LinesRead → List ℕ × BlockEnd × Cursor
-with_front text read = (text ++ encode_utf8_all read.0, read.1, read.2)
+abbrev pub with_lines : List ℕ → LinesRead → List ℕ × BlockEnd × Cursor
+with_lines text read = (text ++ encode_utf8_all read.0, read.1, read.2)
 
 -- 8.1.1.2: what stays of the breaks behind the last content. The last line may lack a break and count as if it had one.
 abbrev pub tail : Chomping → Bool → BlockEnd → List ℕ
@@ -178,22 +179,23 @@ unfoldable pub given_indentation : ℕ → ℕ → Option ℕ
 given_indentation indent n = if n == 0 then None else Some (min (indent - 1 + n) (2 ^ 64 - 1))
 
 -- what is read of a scalar: its text, its span, and what stands behind it
-abbrev pub Reading : Type 0
-Reading = Result (List ℕ × Span × Cursor) Refusal
+abbrev pub BlockScalarRead : Type 0
+BlockScalarRead = Result (List ℕ × Span × Cursor) Refusal
 
-unfoldable pub chomped : Chomping → ℕ → Marker → LinesRead → Reading
-chomped c i start x =
+unfoldable pub chomped_lines : Chomping → ℕ → Marker → LinesRead → BlockScalarRead
+chomped_lines c i start x =
     Ok (encode_utf8_all (x.0 ++ tail c (is_unfinished i x.2) x.1), record { start = start; end = x.2.mark }, x.2)
 
 -- the content lines, from the first on, behind some empty lines
-unfoldable pub content : BlockStyle → Chomping → ℕ → ℕ → ℕ → Cursor → Reading
+unfoldable pub content : BlockStyle → Chomping → ℕ → ℕ → ℕ → Cursor → BlockScalarRead
 content style c indent i lines s =
     if nat_lt s.mark.col i && nat_le indent s.mark.col then refuse fault.BlockScalarLineIndentation s.mark
-    else chomped c i s.mark (between_at style i None lines s)
+    else chomped_lines c i s.mark (between_at style i None lines s)
 
 -- what stands behind the leading empty lines
-unfoldable pub behind_leading : BlockStyle → ℕ → Marker → Chomping → Option ℕ → EmptyLines × Cursor → Reading
-behind_leading style indent start c limit x =
+unfoldable pub behind_leading_lines : BlockStyle → ℕ → Marker → Chomping → Option ℕ → EmptyLines × Cursor
+    → BlockScalarRead
+behind_leading_lines style indent start c limit x =
     if is_z (slice_index x.1.rest 0) then
     Ok (encode_utf8_all (tail_alone c x.0.count x.1), record { start = start; end = x.1.mark }, x.1)
     else content style c indent (unwrap_or limit (max x.0.widest indent)) x.0.count x.1
@@ -202,12 +204,12 @@ behind_leading style indent start c limit x =
 abbrev pub no_lines : EmptyLines
 no_lines = record { count = 0; widest = 0 }
 
-unfoldable pub behind_header : BlockStyle → ℕ → Marker → BlockHeader × Cursor → Reading
+unfoldable pub behind_header : BlockStyle → ℕ → Marker → BlockHeader × Cursor → BlockScalarRead
 behind_header style indent start x =
-    behind_leading style indent start x.0.chomping (given_indentation indent x.0.indicator)
-    (empty_lines_at (given_indentation indent x.0.indicator) no_lines x.1)
+    behind_leading_lines style indent start x.0.chomping (given_indentation indent x.0.indicator)
+    (pass_empty_lines_at (given_indentation indent x.0.indicator) no_lines x.1)
 
 -- A block scalar, from its `|` or `>` on: its text, its span, and what stands behind it.
 -- `indent` is the first column to the right of the enclosing block collection.
-unfoldable pub block_scalar : BlockStyle → ℕ → Cursor → Reading
+unfoldable pub block_scalar : BlockStyle → ℕ → Cursor → BlockScalarRead
 block_scalar style indent s = header s >>= behind_header style indent s.mark

@@ -2,11 +2,11 @@
 -- Each relation is between what stands at a place, what it stands for, and what stands behind it.
 use Rattle.std.specs.Prelude.{◌≡◌, ℕ, ◌+◌, ◌*◌, ◌<◌, Bool, ◌&&◌, ◌==◌, not, List, [], ◌∷◌, ◌++◌, length, Some, IsTrue}
 use Rattle.saphyr_input.specs.Classes.{is_breakz, is_hex, hex_value}
-use Rattle.saphyr_scalar.specs.QuotedWords.{simple_escape, digit_count, is_scalar}
+use Rattle.saphyr_scalar.specs.Spelling.QuotedWords.{simple_escape, hex_digit_count, is_scalar}
 
 -- a character that stands for itself between double quotes: no break, NUL, quote or backslash
-abbrev pub stands_for_itself : ℕ → Bool
-stands_for_itself c = not (is_breakz c) && not (c == 34) && not (c == 92)
+abbrev pub stands_in_double_quotes : ℕ → Bool
+stands_in_double_quotes c = not (is_breakz c) && not (c == 34) && not (c == 92)
 
 -- hexadecimal digits
 abbrev pub AreHex : List ℕ → Type 0
@@ -14,22 +14,22 @@ AreHex [] = Unit {0}
 AreHex (d ∷ ds) = IsTrue (is_hex d) × AreHex ds
 
 -- what digits stand for, behind those that stand for v
-abbrev pub number_from : ℕ → List ℕ → ℕ
-number_from v [] = v
-number_from v (d ∷ ds) = number_from (v * 16 + hex_value d) ds
+abbrev pub hexadecimal_from : ℕ → List ℕ → ℕ
+hexadecimal_from v [] = v
+hexadecimal_from v (d ∷ ds) = hexadecimal_from (v * 16 + hex_value d) ds
 
 -- a character, by the digits behind the letter e
 pub record IsNumber (e c : ℕ) (ds : List ℕ) : Type 0 where
-  pub count : length ds ≡ digit_count e
+  pub count : length ds ≡ hex_digit_count e
   pub some : 0 < length ds
   pub hex : AreHex ds
-  pub value : number_from 0 ds ≡ c
+  pub value : hexadecimal_from 0 ds ≡ c
   pub scalar : IsTrue (is_scalar c)
 
 -- what stands behind the opening quote, up to the closing one, its characters, and what stands behind that
 pub data IsInside : List ℕ → List ℕ → List ℕ → Type 0 where
   closed : (x : List ℕ) → IsInside (34 ∷ x) [] x
-  itself : (c : ℕ) (t v x : List ℕ) → IsTrue (stands_for_itself c) → IsInside t v x → IsInside (c ∷ t) (c ∷ v) x
+  itself : (c : ℕ) (t v x : List ℕ) → IsTrue (stands_in_double_quotes c) → IsInside t v x → IsInside (c ∷ t) (c ∷ v) x
   escaped : (e c : ℕ) (t v x : List ℕ) → simple_escape e ≡ Some c → IsInside t v x → IsInside (92 ∷ e ∷ t) (c ∷ v) x
   numbered : (e c : ℕ) (ds t v x : List ℕ) → IsNumber e c ds → IsInside t v x → IsInside (92 ∷ e ∷ (ds ++ t)) (c ∷ v) x
 

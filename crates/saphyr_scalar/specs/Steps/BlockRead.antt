@@ -6,9 +6,9 @@ use Rattle.saphyr_scalar.specs.declared.reading.block.BlockStyle.{BlockStyle}
 use Rattle.saphyr_scalar.specs.declared.reading.block.Ending.{Ending}
 use Rattle.saphyr_scalar.specs.declared.reading.block.Ending.TheVariants.{AtEnd, AtMark}
 use Rattle.saphyr_scalar.specs.declared.scalar.block.header.BlockHeader.{BlockHeader}
-use Rattle.saphyr_scalar.specs.Cursor.{Cursor}
-use Rattle.saphyr_scalar.specs.BlockReading.{is_empty_line, block_value, ended_lines, last_line}
-use Rattle.saphyr_scalar.specs.BlockScalar as block
+use Rattle.saphyr_scalar.specs.Views.Cursor.{Cursor}
+use Rattle.saphyr_scalar.specs.Reading.Block.{is_empty_line, block_value, ended_lines, last_line}
+use Rattle.saphyr_scalar.specs.Steps.Block as block
 
 -- what ends the lines before a place
 abbrev pub ending : Cursor → Ending
@@ -18,7 +18,7 @@ ending s = if is_z (slice_index s.rest 0) then AtEnd else AtMark
 abbrev pub indentation_of : ℕ → BlockHeader → Cursor → ℕ
 indentation_of indent h s =
     unwrap_or (block.given_indentation indent h.indicator)
-    (max (block.empty_lines_at (block.given_indentation indent h.indicator) block.no_lines s).0.widest indent)
+    (max (block.pass_empty_lines_at (block.given_indentation indent h.indicator) block.no_lines s).0.widest indent)
 
 -- spaces alone
 abbrev pub spaces : ℕ → List ℕ

@@ -4,10 +4,10 @@ use Rattle.std.specs.List.{prefix_len}
 use Rattle.saphyr_input.specs.Classes.{is_blank, is_break, is_blank_or_breakz, is_flow, is_bom, is_z, tab}
 use Rattle.saphyr_input.specs.Places.{is_blank_or_break, is_document_indicator}
 use Rattle.saphyr_scalar.specs.declared.scalar.position.Marker.{Marker}
-use Rattle.saphyr_scalar.specs.Cursor.{Cursor, along, next_line}
-use Rattle.saphyr_scalar.specs.LineBreaks.{ends_line}
-use Rattle.saphyr_scalar.specs.Plain.{in_word}
-use Rattle.saphyr_scalar.specs.PlainReading.{AreWhite, passed}
+use Rattle.saphyr_scalar.specs.Views.Cursor.{Cursor, along, next_line}
+use Rattle.saphyr_scalar.specs.Spelling.LineBreaks.{ends_line}
+use Rattle.saphyr_scalar.specs.Steps.Plain.{in_word}
+use Rattle.saphyr_scalar.specs.Reading.Plain.{AreWhite, passed}
 
 -- a character that goes on with a word whatever follows it, inside flow and outside
 abbrev pub is_plain_safe : ℕ → Bool

@@ -5,7 +5,7 @@ use Rattle.saphyr_scalar.specs.declared.scalar.fault.Refusal.{Refusal}
 use Rattle.saphyr_scalar.specs.declared.scalar.fault.Stop.{Stop}
 use Rattle.saphyr_scalar.specs.declared.scalar.fault.Stop.TheVariants as stop
 use Rattle.saphyr_scalar.specs.declared.scalar.reader.Reader.{Reader}
-use Rattle.saphyr_scalar.specs.Cursor.{Cursor}
+use Rattle.saphyr_scalar.specs.Views.Cursor.{Cursor}
 
 abbrev pub state : {T : Type 0} {g : Ghosts T} → Reader T g → Cursor
 state {T} {g} r = record { rest = g.rest r.input; mark = r.mark; blank_so_far = r.blank_so_far }

@@ -4,9 +4,9 @@ use Rattle.saphyr_input.specs.Classes.{nul, byte_order_mark, is_blank_or_breakz,
 use Rattle.saphyr_input.specs.Breaks.{normalized}
 use Rattle.saphyr_input.specs.Places.{is_blank_or_break, is_document_indicator}
 use Rattle.saphyr_scalar.specs.declared.scalar.position.Marker.{Marker}
-use Rattle.saphyr_scalar.specs.Cursor.{Cursor, along, next_line}
-use Rattle.saphyr_scalar.specs.FlowReading.{plain_value}
-use Rattle.saphyr_scalar.specs.LineBreaks.{ends_line}
+use Rattle.saphyr_scalar.specs.Views.Cursor.{Cursor, along, next_line}
+use Rattle.saphyr_scalar.specs.Reading.Flow.{plain_value}
+use Rattle.saphyr_scalar.specs.Spelling.LineBreaks.{ends_line}
 
 abbrev pub AreWhite : List ℕ → Type 0
 AreWhite [] = Unit {0}

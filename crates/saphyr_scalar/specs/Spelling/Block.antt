@@ -7,10 +7,10 @@ use Rattle.saphyr_scalar.specs.declared.reading.block.Chomping.{Chomping}
 use Rattle.saphyr_scalar.specs.declared.reading.block.Chomping.TheVariants.{Strip, Clip, Keep}
 use Rattle.saphyr_scalar.specs.declared.reading.block.BlockStyle.{BlockStyle}
 use Rattle.saphyr_scalar.specs.declared.scalar.position.Span.{Span}
-use Rattle.saphyr_scalar.specs.Cursor.{Cursor}
-use Rattle.saphyr_scalar.specs.BlockReading.{Line, Empty, Content, lines_value}
-use Rattle.saphyr_scalar.specs.BlockRead.{spaces}
-use Rattle.saphyr_scalar.specs.BlockScalar.{block_scalar}
+use Rattle.saphyr_scalar.specs.Views.Cursor.{Cursor}
+use Rattle.saphyr_scalar.specs.Reading.Block.{Line, Empty, Content, lines_value}
+use Rattle.saphyr_scalar.specs.Steps.BlockRead.{spaces}
+use Rattle.saphyr_scalar.specs.Steps.Block.{block_scalar}
 
 -- characters of a class
 abbrev pub AreBlanks : List ℕ → Type 0

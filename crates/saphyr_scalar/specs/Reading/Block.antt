@@ -2,8 +2,8 @@
 use Rattle.std.specs.Prelude.{ℕ, zero, suc, ◌+◌, Bool, true, false, nat_le, not, ◌&&◌, ◌||◌, ◌==◌, if◌then◌else◌, List, [], ◌∷◌, ◌++◌, map, drop, length, slice_index}
 use Rattle.std.specs.List.{list_all}
 use Rattle.saphyr_input.specs.Classes.{line_feed, space, is_blank}
-use Rattle.saphyr_scalar.specs.Folding.{line_feeds, raw_break}
-pub use Rattle.saphyr_scalar.specs.Lines.{ended_lines, last_line}
+use Rattle.saphyr_scalar.specs.Reading.Folding.{line_feeds, raw_break}
+pub use Rattle.saphyr_scalar.specs.Reading.Lines.{ended_lines, last_line}
 use Rattle.saphyr_scalar.specs.declared.reading.block.BlockStyle.{BlockStyle}
 use Rattle.saphyr_scalar.specs.declared.reading.block.BlockStyle.TheVariants.{Literal, Folded}
 use Rattle.saphyr_scalar.specs.declared.reading.block.Chomping.{Chomping}

@@ -7,8 +7,8 @@ use Rattle.saphyr_scalar.specs.declared.scalar.fault.Refusal.{Refusal}
 use Rattle.saphyr_scalar.specs.declared.scalar.fault.FaultText.TheVariants as fault
 use Rattle.saphyr_scalar.specs.declared.scalar.tag.UriSet.{UriSet}
 use Rattle.saphyr_scalar.specs.declared.scalar.tag.UriSet.TheVariants.{Uri, Suffix}
-use Rattle.saphyr_scalar.specs.Cursor.{Cursor, ◌>>=◌, refuse, along, pass}
-use Rattle.saphyr_scalar.specs.Quoted.{is_scalar, with_front, with_run, at}
+use Rattle.saphyr_scalar.specs.Views.Cursor.{Cursor, ◌>>=◌, refuse, along, pass}
+use Rattle.saphyr_scalar.specs.Steps.Quoted.{is_scalar, with_front, with_run, at}
 
 -- the characters of a uri, or of a tag's suffix
 abbrev pub has : UriSet → ℕ → Bool
@@ -62,18 +62,19 @@ is_encoded width v = is_scalar v && (len_utf8 v == width)
 unfoldable pub encoded : Marker → ℕ → ℕ → Cursor → Result (ℕ × Cursor) Refusal
 encoded start width v s = if is_encoded width v then Ok (v, s) else refuse fault.TagEscapeCodePoint start
 
-unfoldable pub behind_leading : Marker → ℕ → Cursor → Result (ℕ × Cursor) Refusal
-behind_leading start b s =
+unfoldable pub behind_leading_byte : Marker → ℕ → Cursor → Result (ℕ × Cursor) Refusal
+behind_leading_byte start b s =
     if utf8_width b == 0 then refuse fault.TagEscapeLeadingByte start
     else (trailing_bytes start (utf8_width b - 1) (leading_bits b) s >>= λ x. encoded start (utf8_width b) x.0 x.1)
 
 -- a character as the bytes of its UTF-8, each escaped
-unfoldable pub escape : Marker → Cursor → Result (ℕ × Cursor) Refusal
-escape start s = escaped_byte start s >>= λ b. behind_leading start b.0 b.1
+unfoldable pub percent_escape : Marker → Cursor → Result (ℕ × Cursor) Refusal
+percent_escape start s = escaped_byte start s >>= λ b. behind_leading_byte start b.0 b.1
 
 -- a character, or the escape of one
 unfoldable pub uri_character : Marker → Cursor → Result (ℕ × Cursor) Refusal
-uri_character start s = if slice_index s.rest 0 == 37 then escape start s else Ok (slice_index s.rest 0, pass 1 s)
+uri_character start s = if slice_index s.rest 0 == 37 then percent_escape start s
+    else Ok (slice_index s.rest 0, pass 1 s)
 
 -- how many characters of it stand behind its first one
 abbrev pub uri_tail : List ℕ → ℕ

@@ -5,9 +5,9 @@ use Rattle.saphyr_input.specs.Places.{can_be_plain, is_document_indicator, is_bl
 use Rattle.saphyr_scalar.specs.declared.scalar.position.Marker.{Marker}
 use Rattle.saphyr_scalar.specs.declared.scalar.fault.Refusal.{Refusal}
 use Rattle.saphyr_scalar.specs.declared.scalar.fault.FaultText.TheVariants as fault
-use Rattle.saphyr_scalar.specs.Cursor.{Cursor, ◌>>=◌, refuse, along, next_line, pass, pass_blanks, pass_break}
-pub use Rattle.saphyr_scalar.specs.LineBreaks.{ends_line}
-use Rattle.saphyr_scalar.specs.Quoted.{at, with_run}
+use Rattle.saphyr_scalar.specs.Views.Cursor.{Cursor, ◌>>=◌, refuse, along, next_line, pass, pass_blanks, pass_break}
+pub use Rattle.saphyr_scalar.specs.Spelling.LineBreaks.{ends_line}
+use Rattle.saphyr_scalar.specs.Steps.Quoted.{at, with_run}
 
 -- a word goes on with the first character
 unfoldable pub in_word : Bool → List ℕ → Bool
@@ -32,7 +32,7 @@ flow_indented indent s = if nat_lt s.mark.col indent then refuse fault.FlowInden
 
 -- What stands behind a word: what it reads as where another word follows, whether a tab stands in the indentation of
 -- the line that is reached, and what stands behind it.
-pub record Gap : Type 0 where
+pub record PlainGap : Type 0 where
   pub text : List ℕ
   pub tabbed : Bool
   pub behind : Cursor
@@ -46,7 +46,7 @@ may_stand start tabbed s =
     else Ok s
 
 -- a line is reached
-abbrev pub reached : Marker → Bool → List ℕ → Cursor → Result Gap Refusal
+abbrev pub reached : Marker → Bool → List ℕ → Cursor → Result PlainGap Refusal
 reached start tabbed feeds s =
     may_stand start tabbed s >>= λ t. Ok (record { text = feeds; tabbed = tabbed; behind = t })
 
@@ -62,7 +62,7 @@ pass_white indent tabbed feeds s =
 
 -- Blanks and breaks from a line's start on: a line feed for each line of them (6.5).
 -- `indent` is the first column to the right of the enclosing block collection.
-unfoldable pub lines : ℕ → Marker → Bool → List ℕ → Marker → List ℕ → Result Gap Refusal
+unfoldable pub lines : ℕ → Marker → Bool → List ℕ → Marker → List ℕ → Result PlainGap Refusal
 lines indent start tabbed feeds m [] = reached start tabbed feeds (at_line m [])
 lines indent start tabbed feeds m (c ∷ cs) =
     if is_blank_or_break c then
@@ -72,25 +72,25 @@ lines indent start tabbed feeds m (c ∷ cs) =
     else reached start tabbed feeds (at_line m (c ∷ cs))
 
 -- a break before no empty line reads as a space, and another as its empty lines
-abbrev pub folded : Gap → Gap
-folded g = record g { text = if length g.text == 0 then space ∷ [] else g.text }
+abbrev pub folded_gap : PlainGap → PlainGap
+folded_gap g = record g { text = if length g.text == 0 then space ∷ [] else g.text }
 
 -- what stands between two words reads as: a break before no empty line as a space
 abbrev pub gap_text : Bool → List ℕ → List ℕ
 gap_text over_lines text = if over_lines && (length text == 0) then space ∷ [] else text
 
 -- a line behind a word's line begins
-abbrev pub next_lines : ℕ → Marker → Cursor → Result Gap Refusal
-next_lines indent start s = lines indent start false [] s.mark s.rest >>= λ g. Ok (folded g)
+abbrev pub next_lines : ℕ → Marker → Cursor → Result PlainGap Refusal
+next_lines indent start s = lines indent start false [] s.mark s.rest >>= λ g. Ok (folded_gap g)
 
 -- behind the blanks on a word's line
-unfoldable pub gap_from : ℕ → Marker → List ℕ → Cursor → Result Gap Refusal
+unfoldable pub gap_from : ℕ → Marker → List ℕ → Cursor → Result PlainGap Refusal
 gap_from indent start blanks s =
     if is_break (slice_index s.rest 0) then next_lines indent start (pass_break s)
     else Ok (record { text = blanks; tabbed = false; behind = s })
 
 -- behind a word
-unfoldable pub gap : ℕ → Marker → Cursor → Result Gap Refusal
+unfoldable pub gap : ℕ → Marker → Cursor → Result PlainGap Refusal
 gap indent start s = gap_from indent start (with_run is_blank [] s).0 (with_run is_blank [] s).1
 
 -- whether another word of the scalar begins behind a gap: outside flow, none does left of the indentation
@@ -106,47 +106,48 @@ comment_of in_flow tabbed s =
 
 -- what is read of a scalar: its text, the place behind its last word, a comment that keeps it from going on, and what
 -- stands behind it
-abbrev pub Reading : Type 0
-Reading = Result (List ℕ × Marker × Option Marker × Cursor) Refusal
+abbrev pub PlainScalarRead : Type 0
+PlainScalarRead = Result (List ℕ × Marker × Option Marker × Cursor) Refusal
 
 -- a text before what is read
-abbrev pub with_text : List ℕ → Reading → Reading
+abbrev pub with_text : List ℕ → PlainScalarRead → PlainScalarRead
 with_text text read = read >>= λ x. Ok (text ++ x.0, x.1, x.2, x.3)
 
 -- the scalar ended at `end`
-abbrev pub ended : Bool → Marker → Gap → Reading
-ended in_flow end g = Ok ([], end, comment_of in_flow g.tabbed g.behind, g.behind)
+abbrev pub scalar_ended : Bool → Marker → PlainGap → PlainScalarRead
+scalar_ended in_flow end g = Ok ([], end, comment_of in_flow g.tabbed g.behind, g.behind)
 
 -- how many characters of a text a gap has
-abbrev pub gap_len : List ℕ → Gap → ℕ
+abbrev pub gap_len : List ℕ → PlainGap → ℕ
 gap_len xs g = length xs - length g.behind.rest
 
 unfoldable mutual
   -- Behind a word that ended at `end`: so many characters of the gap g are still to be passed.
-  pub between : Bool → ℕ → Marker → Marker → Gap → ℕ → List ℕ → Reading
-  between in_flow indent start end g left [] = ended in_flow end g
+  pub between : Bool → ℕ → Marker → Marker → PlainGap → ℕ → List ℕ → PlainScalarRead
+  between in_flow indent start end g left [] = scalar_ended in_flow end g
   between in_flow indent start end g zero (c ∷ cs) = goes_on in_flow indent g.behind >>= λ b.
-      if b.0 then with_text (g.text ++ encode_utf8 c) (word in_flow indent start (along g.behind.mark 1) cs) else ended
+      if b.0 then with_text (g.text ++ encode_utf8 c) (word in_flow indent start (along g.behind.mark 1) cs)
+          else scalar_ended
       in_flow end g
   between in_flow indent start end g (suc left) (c ∷ cs) = between in_flow indent start end g left cs
 
   -- in a word that began before m
-  pub word : Bool → ℕ → Marker → Marker → List ℕ → Reading
-  word in_flow indent start m [] = ended in_flow m (record { text = []; tabbed = false; behind = at m [] })
+  pub word : Bool → ℕ → Marker → Marker → List ℕ → PlainScalarRead
+  word in_flow indent start m [] = scalar_ended in_flow m (record { text = []; tabbed = false; behind = at m [] })
   word in_flow indent start m (c ∷ cs) =
       if in_word in_flow (c ∷ cs) then with_text (encode_utf8 c) (word in_flow indent start (along m 1) cs)
       else gap indent start (at m (c ∷ cs)) >>= λ g.
-      if gap_len (c ∷ cs) g == 0 then ended in_flow m g else between in_flow indent start m g
+      if gap_len (c ∷ cs) g == 0 then scalar_ended in_flow m g else between in_flow indent start m g
       (pred (gap_len (c ∷ cs) g)) cs
 
 -- A plain scalar: its text, the place behind its last word, a comment that keeps it from going on, and what stands
 -- behind it. `indent` is the first column to the right of the enclosing block collection.
-unfoldable pub plain : Bool → ℕ → Cursor → Reading
+unfoldable pub plain : Bool → ℕ → Cursor → PlainScalarRead
 plain in_flow indent s = word_starts in_flow s >>= λ b.
     if b.0 then word in_flow indent s.mark b.1.mark b.1.rest else refuse fault.PlainEnd s.mark
 
 -- What a call that reads words of a scalar leaves: s is before them, inside a word, and t is where a word ends.
-pub record WordsMoved (in_flow : Bool) (text grown : List ℕ) (s t : Cursor) : Type 0 where
+pub record PlainWordsMoved (in_flow : Bool) (text grown : List ℕ) (s t : Cursor) : Type 0 where
   pub same : (indent : ℕ) (start : Marker)
       → with_text grown (word in_flow indent start t.mark t.rest)
       ≡ with_text text (word in_flow indent start s.mark s.rest)

@@ -46,19 +46,19 @@ folded_from at_start (EscapedBreak ∷ items) = line_feeds (empty_lines items) +
 abbrev pub folded : List Item → List ℕ
 folded items = folded_from false items
 
-abbrev pub AreBlanks : List Item → Type 0
-AreBlanks [] = Unit {0}
-AreBlanks (Blank c ∷ items) = AreBlanks items
-AreBlanks (Raw c ∷ items) = ⊥
-AreBlanks (Escaped c ∷ items) = ⊥
-AreBlanks (Break ∷ items) = ⊥
-AreBlanks (EscapedBreak ∷ items) = ⊥
+abbrev pub AreBlankItems : List Item → Type 0
+AreBlankItems [] = Unit {0}
+AreBlankItems (Blank c ∷ items) = AreBlankItems items
+AreBlankItems (Raw c ∷ items) = ⊥
+AreBlankItems (Escaped c ∷ items) = ⊥
+AreBlankItems (Break ∷ items) = ⊥
+AreBlankItems (EscapedBreak ∷ items) = ⊥
 
 -- so many raw breaks, with any blanks before, between and behind them
 abbrev pub AreBreaks : ℕ → List Item → Type 0
-AreBreaks zero items = AreBlanks items
+AreBreaks zero items = AreBlankItems items
 AreBreaks (suc n) items =
-    (blanks others : List Item) × AreBlanks blanks × AreBreaks n others × (items ≡ blanks ++ (Break ∷ others))
+    (blanks others : List Item) × AreBlankItems blanks × AreBreaks n others × (items ≡ blanks ++ (Break ∷ others))
 
 -- Line folding, told without a state: before a character, breaks of which n end empty lines read as one raw break
 -- before

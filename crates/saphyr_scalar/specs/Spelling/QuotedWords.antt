@@ -28,8 +28,8 @@ simple_escape c =
     else None
 
 -- how many hexadecimal digits follow the letter of an escape, 0 where none do
-abbrev pub digit_count : ℕ → ℕ
-digit_count c = if c == 120 then 2 else if c == 117 then 4 else if c == 85 then 8 else 0
+abbrev pub hex_digit_count : ℕ → ℕ
+hex_digit_count c = if c == 120 then 2 else if c == 117 then 4 else if c == 85 then 8 else 0
 
 -- a Unicode scalar value
 abbrev pub is_scalar : ℕ → Bool

@@ -7,13 +7,13 @@ use Rattle.saphyr_scalar.specs.declared.reading.block.BlockStyle.{BlockStyle}
 use Rattle.saphyr_scalar.specs.declared.reading.block.Chomping.{Chomping}
 use Rattle.saphyr_scalar.specs.declared.reading.block.Chomping.TheVariants.{Strip, Clip, Keep}
 use Rattle.saphyr_scalar.specs.declared.scalar.position.Marker.{Marker}
-use Rattle.saphyr_scalar.specs.Cursor.{Cursor}
-use Rattle.saphyr_scalar.specs.BlockRead.{ending, HasLines}
-use Rattle.saphyr_scalar.specs.BlockReading.{has_content, line_of, block_value}
-use Rattle.saphyr_scalar.specs.DirectiveSpelling.{IsLineTail}
-use Rattle.saphyr_scalar.specs.Lines.{ended_lines, last_line}
+use Rattle.saphyr_scalar.specs.Views.Cursor.{Cursor}
+use Rattle.saphyr_scalar.specs.Steps.BlockRead.{ending, HasLines}
+use Rattle.saphyr_scalar.specs.Reading.Block.{has_content, line_of, block_value}
+use Rattle.saphyr_scalar.specs.Spelling.Directive.{IsLineTail}
+use Rattle.saphyr_scalar.specs.Reading.Lines.{ended_lines, last_line}
 use Rattle.saphyr_scalar.specs.Passing.{IsPassed}
-use Rattle.saphyr_scalar.specs.TagSpelling.{AreIn}
+use Rattle.saphyr_scalar.specs.Spelling.Tag.{AreIn}
 
 -- ## The header (8.1.1)
 

@@ -4,8 +4,8 @@ use Rattle.saphyr_input.specs.Classes.{is_blank_or_breakz, is_bom, is_flow}
 use Rattle.saphyr_scalar.specs.declared.scalar.tag.UriSet.{UriSet}
 use Rattle.saphyr_scalar.specs.declared.scalar.tag.UriSet.TheVariants.{Uri, Suffix}
 use Rattle.saphyr_scalar.specs.declared.reading.flow.Quote.TheVariants.{Single, Double}
-use Rattle.saphyr_scalar.specs.Quoted.{is_literal}
-use Rattle.saphyr_scalar.specs.Tag as tag
+use Rattle.saphyr_scalar.specs.Steps.Quoted.{is_literal}
+use Rattle.saphyr_scalar.specs.Steps.Tag as tag
 
 -- no blank, break or NUL
 abbrev pub is_content : ℕ → Bool

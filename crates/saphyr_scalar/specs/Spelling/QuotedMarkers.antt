@@ -1,8 +1,8 @@
 -- Document markers and quoted scalars (YAML 1.2.2, 9.1.2, 7.3.1, 7.3.2).
 use Rattle.std.specs.Prelude.{ℕ, List, drop, IsFalse}
 use Rattle.saphyr_input.specs.Places.{is_document_indicator}
-use Rattle.saphyr_scalar.specs.LineBreaks.{break_len}
-use Rattle.saphyr_scalar.specs.QuotedSpelling.{IsText, closed, itself, broken, two_quotes, escaped, numbered, escaped_break}
+use Rattle.saphyr_scalar.specs.Spelling.LineBreaks.{break_len}
+use Rattle.saphyr_scalar.specs.Spelling.Quoted.{IsText, closed, itself, broken, two_quotes, escaped, numbered, escaped_break}
 use Rattle.saphyr_scalar.specs.declared.reading.folding.Item.{Item}
 use Rattle.saphyr_scalar.specs.declared.reading.flow.Quote.{Quote}
 

@@ -1,0 +1,3 @@
+-- What contracts see of a reader: the text that remains, its place, and what a call leaves.
+pub mod Cursor
+pub mod Reader
