@@ -93,7 +93,7 @@ mutual
       let k : length cs ≤ n = omega (arith, h) in
       let others = word_within n in_flow indent start (along m 1) cs k in
       let behind = λ (g : PlainGap) (left : ℕ)
-          (q : length g.behind.rest ≤ n). between_within n in_flow indent start m g left
+      (q : length g.behind.rest ≤ n). between_within n in_flow indent start m g left
       cs q k in
       by_test (in_word in_flow (c ∷ cs)) _ _ (Given (Within n))
       (λ _. given_bind (Within n) (word in_flow indent start (along m 1) cs) _

@@ -234,7 +234,7 @@ unfolding behind_header
 behind_place st indent start h u y (inl p) e =
     let limit = given_indentation indent h.indicator in
     behind_begun st indent start h.chomping (indentation_of indent h u) 0 limit u
-        (pass_empty_lines_at limit no_lines u) y
+    (pass_empty_lines_at limit no_lines u) y
     (led limit indent u p.0 p.1) refl e
 behind_place st indent start h u y (inr p) e =
     let limit = given_indentation indent h.indicator in

@@ -165,7 +165,7 @@ scalar_placed style indent s g =
     let h = given_of (λ (y : BlockHeader × Cursor). Ends s y.1) (header s) x (header_ends s g) e in
     let limit = given_indentation indent x.0.indicator in
     leading_placed style indent x.0.chomping limit s x.1
-        (pass_empty_lines limit no_lines x.1.blank_so_far x.1.mark x.1.rest)
+    (pass_empty_lines limit no_lines x.1.blank_so_far x.1.mark x.1.rest)
     h
     (empty_passes limit no_lines x.1.blank_so_far x.1.mark x.1.rest).here
     (empty_at_end limit no_lines x.1.blank_so_far x.1.mark x.1.rest))

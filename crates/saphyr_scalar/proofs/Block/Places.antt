@@ -44,7 +44,7 @@ content_on : (st : BlockStyle) (i : ℕ) (more b : Bool) (m : Marker) (cs t : Li
 content_on st i more b m [] t h = ap (λ x. line st i more b x t) (sym (along_none m))
 content_on st i more b m (c ∷ cs) t h =
     line_on st i more b m c (cs ++ t) h.0
-        ∙ ap (lines_behind_text (c ∷ [])) (content_on st i more b (along m 1) cs t h.1)
+    ∙ ap (lines_behind_text (c ∷ [])) (content_on st i more b (along m 1) cs t h.1)
     ∙ ap (λ x. lines_behind_text (c ∷ cs) (line st i more b x t))
     (along_more m 1 (length cs) (length (c ∷ cs)) (omega arith))
 

@@ -340,7 +340,7 @@ pub last : (st : BlockStyle) (i : ℕ) (ab : Option Bool) (before after : EmptyL
     ≡ (text, record { broken = b; empty_lines = after.count }, here)
 last st i ab before after text s t here b skip same h e =
     ap (with_lines text)
-        (no_line st i ab before after s t skip h ∙ ap (lines_ended (is_some ab) after.count) (sym same))
+    (no_line st i ab before after s t skip h ∙ ap (lines_ended (is_some ab) after.count) (sym same))
     ∙ rw (e, append-nil) refl
 
 abbrev SameLines : List ℕ → LinesRead → List ℕ → BlockEnd → Cursor → Type 0

@@ -58,7 +58,7 @@ unfolding escape_of numbered
 letter_alike text a b (Some c) letter s t first second e = (refl, passed 2 2 (two_part first second (normal_of e)) e)
 letter_alike text a b None letter s t first second e =
     both_by (hex_digit_count letter == 0) (hex_digit_count letter == 0) _ _ _ _ (GiveAlike (AreSame text)) refl
-        (λ _ _. refl)
+    (λ _ _. refl)
     (λ _ _. both_then (AreSame text) (AreSame text) _ _ _ _
     (digits_alike text a b (hex_digit_count letter) 0 0 (pass 2 s)
     (pass 2 t) refl (passed 2 2 (two_part first second (normal_of e)) e))

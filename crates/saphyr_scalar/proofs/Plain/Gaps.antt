@@ -114,7 +114,7 @@ gap_end i a s g =
     let t = pass n s in
     let start = dropped n s.rest (prefix_len-le-length is_blank s.rest) in
     by_test (is_break (slice_index t.rest 0)) _ _
-        (λ (r : Result PlainGap Refusal). r ≡ Ok g → IsEnd s.rest g.behind.rest)
+    (λ (r : Result PlainGap Refusal). r ≡ Ok g → IsEnd s.rest g.behind.rest)
     (λ _ e. end_of_end _ _ _ start (end_of_end _ _ _ (break_end t) (next_lines_end i a (pass_break t) g e)))
     (λ _ e. let is = same_gap _ g e in rw is start)
 

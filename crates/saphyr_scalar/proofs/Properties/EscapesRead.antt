@@ -74,7 +74,7 @@ unfolding percent_escape read_behind
 escape_bytes_read start m c b t y (percent_escape, more, is_byte, are_more, e) =
     let whole : t ++ y ≡ percent_escape ++ (more ++ y) = ap (λ u. u ++ y) e ∙ append_assoc percent_escape more y in
     let len : length t ≡ 3 + length more = rw (e, length-append)
-        (omega (arith, byte_len b.first percent_escape is_byte)) in
+    (omega (arith, byte_len b.first percent_escape is_byte)) in
     let others : trailing_bytes start (length b.others) (leading_bits b.first) (at (along m 3) (more ++ y))
     ≡ Ok (c, at (along m (length t)) y) =
     trailing_read start (along m 3) b.others (leading_bits b.first) more y b.trailing are_more

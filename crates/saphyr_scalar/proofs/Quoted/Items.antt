@@ -33,7 +33,7 @@ pub one_item : (quote : Quote) (c : ℕ) (others : List ℕ) (item : Item) (len 
 one_item quote c others item zero unclosed first some = absurd (omega arith)
 one_item quote c others item (suc n) unclosed first some =
     cond-false (is_closing_at_end quote c others) (Some [])
-        (items_from quote others (first_item quote (c ∷ others))) unclosed
+    (items_from quote others (first_item quote (c ∷ others))) unclosed
     ∙ ap (items_from quote others) first ∙ ap (option_map (λ items. item ∷ items)) (passed_over quote n others)
 
 -- the same behind the items before it

@@ -195,7 +195,7 @@ items_taken : (quote : Quote) (text : List ℕ) (taken : ℕ) (items : List Item
 items_taken quote [] taken items e = absurd (cc)
 items_taken quote (c ∷ text) zero items e =
     closed_or_one quote c text items (is_closing_at_end quote c text) refl
-        (λ n more h. items_taken quote text n more h) e
+    (λ n more h. items_taken quote text n more h) e
 items_taken quote (c ∷ text) (suc taken) items e = items_taken quote text taken items e
 
 pub quoted_taken : (quote : Quote) (items : List Item) (text : List ℕ) → quoted_items quote text ≡ Some items

@@ -168,7 +168,7 @@ backslash_word n indent start m (e ∷ xs) y s le known g = cases (is_break e)
     })
     (λ h.
     let t = then_text (escaped_character start (at m (92 ∷ e ∷ xs))) _ y s
-        (sym (at_escape indent start m (e ∷ xs) h) ∙ g) in
+    (sym (at_escape indent start m (e ∷ xs) h) ∙ g) in
     let esc = escape_spelled start m e xs t.0 t.1 t.2 in
     let f = front_gave (encode_utf8 t.0) (inside_at Double indent start no_gap t.1) y s t.3 in
     let r = known no_gap t.1.mark t.1.rest f.0 s (omega (arith, esc.shorter, le)) f.1 in

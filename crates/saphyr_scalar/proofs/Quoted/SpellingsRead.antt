@@ -119,7 +119,7 @@ cons_read quote item c others back items first rest =
     let end = mark quote ∷ [] in
     let open_here : is_closing_at_end quote c (others ++ (back ++ end)) ≡ false =
     ap (is_closing_at_end quote c) (sym (append_assoc others back end))
-        ∙ unclosed quote c (others ++ back) (mark quote) in
+    ∙ unclosed quote c (others ++ back) (mark quote) in
     ap (items_to_quote quote zero) (append_assoc (c ∷ others) back end)
     ∙ one_item quote c (others ++ (back ++ end)) item (length (c ∷ others)) open_here first (omega arith)
     ∙ ap (λ (t : List ℕ). option_map (λ items. item ∷ items) (items_to_quote quote zero t))

@@ -131,7 +131,7 @@ unfoldable mutual
       else if is_break c then between style i above (lines + 1) true (next_line m 1) cs
       else if line_starts i m.col (c ∷ cs) then
       lines_behind_text (break_before style above lines (is_blank c) ++ c ∷ [])
-          (line style i (is_blank c) b (along m 1) cs)
+      (line style i (is_blank c) b (along m 1) cs)
       else lines_ended (is_some above) lines (there b m (c ∷ cs))
 
   pub line : BlockStyle → ℕ → Bool → Bool → Marker → List ℕ → LinesRead

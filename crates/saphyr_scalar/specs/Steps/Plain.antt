@@ -127,7 +127,7 @@ unfoldable mutual
   between in_flow indent start end g left [] = scalar_ended in_flow end g
   between in_flow indent start end g zero (c ∷ cs) = goes_on in_flow indent g.behind >>= λ b.
       if b.0 then with_text (g.text ++ encode_utf8 c) (word in_flow indent start (along g.behind.mark 1) cs)
-          else scalar_ended
+      else scalar_ended
       in_flow end g
   between in_flow indent start end g (suc left) (c ∷ cs) = between in_flow indent start end g left cs
 
