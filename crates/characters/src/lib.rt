@@ -1,7 +1,7 @@
 //! An input of one's own, over the characters of a slice: an example, which `count_scalars` reads from.
 #![tactic(auto)]
 
-ghost use Rattle.std.specs.Prelude.{◌≤◌};
+ghost use Rattle.std.specs.Prelude.{◌≡◌, ◌≤◌};
 
 use saphyr_parser::Input;
 
@@ -17,7 +17,11 @@ pub struct Characters<'a> {
 }
 
 impl<'a> Characters<'a> {
-    pub fn new(rest: &'a [char]) -> Self {
+    /// The characters as an input of which nothing is loaded.
+    pub fn new(rest: &'a [char]) -> Self
+        ensures rest { ⟦<Characters<'a> as Input>⟧.rest result ≡ rest.now }
+        ensures loaded { ⟦<Characters<'a> as Input>⟧.loaded result ≡ 0 }
+    {
         Characters { rest, loaded: 0 }
     }
 }
