@@ -10,4 +10,6 @@ pub mod SingleSpaces
 pub mod Words
 pub mod Spelled
 pub mod Texts
+pub mod GapsRead
+pub mod WordsRead
 pub mod Sound
