@@ -155,6 +155,10 @@ impl<T: Input> Reader<T> {
             (string_bytes text.old) (string_bytes text.new)) }
         ensures mark { (state self.new).mark ≡ (state self.old).mark }
     {
+        // For speed: colons may stand in a row, and a run of nothing before each costs more than this look.
+        if self.look() == ':' {
+            return Ok(0);
+        }
         if in_flow {
             self.input.fetch_words::<PlainInFlow>(text)
         } else {
