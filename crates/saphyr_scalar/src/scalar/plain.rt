@@ -213,22 +213,24 @@ impl<T: Input> Reader<T> {
         Ok(())
     }
 
-    // Takes off a blank or a break of the lines behind a word, with a line feed for the break at
+    // Takes off `c`, a blank or a break of the lines behind a word, with a line feed for the break at
     // the end of a text. Gives whether a tab stands in the indentation of the line that is reached.
     #[tactic(auto, using(crate::proofs::Plain::Lines::some_blank), unfolding(crate::specs::Steps::Plain::pass_white))]
     fn skip_plain_white(
         &mut self,
+        c: char,
         indent: usize,
         tabbed: bool,
         feeds: &mut String,
     ) -> Result<bool, Stop>
-        requires { is_blank_or_break (slice_index (state self.old).rest 0) ≡ true }
+        requires first { c ≡ slice_index (state self.old).rest 0 }
+        requires loaded { 1 ≤ loaded self.old }
+        requires white { is_blank_or_break (slice_index (state self.old).rest 0) ≡ true }
         ensures { Moves (λ tabbed. (tabbed, string_bytes feeds.new, state self.new)) result
             (Ok (spec.pass_white indent tabbed (string_bytes feeds.old) (state self.old))) }
     {
-        let c = self.look();
         if is_break(c) {
-            self.skip_line_break();
+            self.skip_seen_break(c);
             feeds.push('\n')?;
             return Ok(false);
         }
@@ -259,10 +261,11 @@ impl<T: Input> Reader<T> {
         let mut tabbed = false;
         loop {
             self.skip_spaces(usize::MAX);
-            if !is_white(self.look()) {
+            let c = self.look();
+            if !is_white(c) {
                 break;
             }
-            tabbed = self.skip_plain_white(indent, tabbed, feeds)?;
+            tabbed = self.skip_plain_white(c, indent, tabbed, feeds)?;
         }
         self.check_plain_tab(start, tabbed)?;
         Ok(tabbed)

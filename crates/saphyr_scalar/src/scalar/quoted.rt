@@ -228,7 +228,7 @@ impl<T: Input> Reader<T> {
             self.skip_spaces(usize::MAX);
             let c = self.look();
             if is_break(c) {
-                self.skip_line_break();
+                self.skip_seen_break(c);
                 count += 1;
             } else if is_blank(c) {
                 if c == '\t' && self.mark.col < indent {

@@ -132,20 +132,55 @@ impl<T: Input> Reader<T> {
     pub(crate) fn skip_spaces(&mut self, most: usize)
         ensures { state self.new ≡ spec.pass_spaces most (state self.old) }
     {
-        let count = self.input.skip_spaces(most);
-        self.mark = self.mark.along(count);
+        // Where lines are empty, none stands here.
+        if self.look() == ' ' {
+            let count = self.input.skip_spaces(most);
+            self.mark = self.mark.along(count);
+        }
     }
 
     /// Takes off the break that stands first, if one does: CR LF, CR or LF.
-    #[inline]
+    #[inline(always)]
     pub fn skip_line_break(&mut self)
+        ensures { state self.new ≡ spec.pass_break (state self.old) }
+    {
+        // Most breaks are line feeds, which one look tells.
+        match self.input.look_ch() {
+            '\n' => {
+                self.input.skip();
+                self.start_line(1);
+            }
+            '\r' => self.skip_carriage_return(),
+            _ => {}
+        }
+    }
+
+    // The same of the first character, which was looked at.
+    #[inline(always)]
+    pub(crate) fn skip_seen_break(&mut self, c: char)
+        requires first { c ≡ slice_index (state self.old).rest 0 }
+        requires loaded { 1 ≤ loaded self.old }
+        ensures { state self.new ≡ spec.pass_break (state self.old) }
+    {
+        if c == '\n' {
+            self.input.skip();
+            self.start_line(1);
+        } else {
+            self.skip_line_break();
+        }
+    }
+
+    // Takes off CR, and an LF behind it.
+    #[inline(never)]
+    fn skip_carriage_return(&mut self)
+        requires { slice_index (state self.old).rest 0 ≡ 13 }
         ensures { state self.new ≡ spec.pass_break (state self.old) }
     {
         self.input.lookahead(2);
         if self.input.next_2_are('\r', '\n') {
             self.input.skip_n(2);
             self.start_line(2);
-        } else if self.input.next_is_break() {
+        } else {
             self.input.skip();
             self.start_line(1);
         }

@@ -8,75 +8,75 @@ use Rattle.saphyr_scalar.proofs.Plain.Pieces.{moves_refused}
 use Rattle.saphyr_scalar.proofs.Plain.Lines.{past_of, white_on, white_blank, white_shorter, line_over, refused_by, taken_by}
 use Rattle.saphyr_scalar.proofs.scalar.reader.Reader.skip_empty_lines.Goals as goal
 
-pub loop-self-smaller : goal.loop-self-smaller
-loop-self-smaller g c =
-    let here = state c.look.new.self in
+pub loop-c-smaller : goal.loop-c-smaller
+loop-c-smaller g c =
+    let here = state c.look-c.new.self in
     let goes : is_blank_or_break (slice_index here.rest 0) ≡ true =
-    ap (λ (s : Cursor). is_blank_or_break (slice_index s.rest 0)) c.look.ensures.same
-    ∙ ap is_blank_or_break (sym c.look.ensures.value) ∙ sym c.is_white.ensures ∙ c.if-not-is_white.false in
-    let past = past_of c.args.indent c.loop-self.tabbed (string_bytes c.loop-self.feeds) here _
+    ap (λ (s : Cursor). is_blank_or_break (slice_index s.rest 0)) c.look-c.ensures.same
+    ∙ ap is_blank_or_break (sym c.look-c.ensures.value) ∙ sym c.is_white.ensures ∙ c.if-not-is_white.false in
+    let past = past_of c.args.indent c.loop-c.tabbed (string_bytes c.loop-c.feeds) here _
     (string_bytes c.skip_plain_white.new.feeds) (state c.skip_plain_white.new.self) c.in_ok-tabbed.ensures in
     omega (
       arith,
       white_shorter _ _ _ here _ _ _ goes past,
-      ap (λ (s : Cursor). length s.rest) c.look.ensures.same,
-      spaces_shorter _ (state c.loop-self.self) (state c.skip_spaces.new.self) c.skip_spaces.ensures,
+      ap (λ (s : Cursor). length s.rest) c.look-c.ensures.same,
+      spaces_shorter _ (state c.loop-c.self) (state c.skip_spaces.new.self) c.skip_spaces.ensures,
     )
 
-pub loop-self-preserved : goal.loop-self-preserved
-loop-self-preserved g c =
-    let first = state c.loop-self.self in
+pub loop-c-preserved : goal.loop-c-preserved
+loop-c-preserved g c =
+    let first = state c.loop-c.self in
     let spaced = state c.skip_spaces.new.self in
-    let here = state c.look.new.self in
+    let here = state c.look-c.new.self in
     let next = state c.skip_plain_white.new.self in
-    let same = c.look.ensures.same in
+    let same = c.look-c.ensures.same in
     let goes : is_blank_or_break (slice_index here.rest 0) ≡ true =
-    ap (λ (s : Cursor). is_blank_or_break (slice_index s.rest 0)) same ∙ ap is_blank_or_break (sym c.look.ensures.value)
+    ap (λ (s : Cursor). is_blank_or_break (slice_index s.rest 0)) same ∙ ap is_blank_or_break (sym c.look-c.ensures.value)
     ∙ sym c.is_white.ensures ∙ c.if-not-is_white.false in
-    let past = past_of c.args.indent c.loop-self.tabbed (string_bytes c.loop-self.feeds) here _
+    let past = past_of c.args.indent c.loop-c.tabbed (string_bytes c.loop-c.feeds) here _
     (string_bytes c.skip_plain_white.new.feeds) next c.in_ok-tabbed.ensures in
     let blank = ap (λ (s : Cursor). s.blank_so_far) same ∙ ap (λ (s : Cursor). s.blank_so_far) c.skip_spaces.ensures
-    ∙ c.loop-self.invariant.blank in
+    ∙ c.loop-c.invariant.blank in
     record {
       blank = white_blank _ _ _ here _ _ next blank past;
       same = white_on _ c.args.start _ _ here _ _ next goes past
-          ∙ ap (λ (s : Cursor). spec.lines c.args.indent c.args.start c.loop-self.tabbed
-          (string_bytes c.loop-self.feeds) s.mark s.rest) same
-          ∙ lines_over c.args.indent c.args.start c.loop-self.tabbed (string_bytes c.loop-self.feeds) _ first spaced
-          c.skip_spaces.ensures ∙ c.loop-self.invariant.same;
+          ∙ ap (λ (s : Cursor). spec.lines c.args.indent c.args.start c.loop-c.tabbed
+          (string_bytes c.loop-c.feeds) s.mark s.rest) same
+          ∙ lines_over c.args.indent c.args.start c.loop-c.tabbed (string_bytes c.loop-c.feeds) _ first spaced
+          c.skip_spaces.ensures ∙ c.loop-c.invariant.same;
     }
 
 pub returns-in_err-check_plain_tab : goal.returns-in_err-check_plain_tab
 returns-in_err-check_plain_tab g c =
-    let first = state c.loop-self.self in
+    let first = state c.loop-c.self in
     let spaced = state c.skip_spaces.new.self in
-    let here = state c.look.new.self in
-    let same = c.look.ensures.same in
+    let here = state c.look-c.new.self in
+    let same = c.look-c.ensures.same in
     let over : is_blank_or_break (slice_index here.rest 0) ≡ false =
-    ap (λ (s : Cursor). is_blank_or_break (slice_index s.rest 0)) same ∙ ap is_blank_or_break (sym c.look.ensures.value)
+    ap (λ (s : Cursor). is_blank_or_break (slice_index s.rest 0)) same ∙ ap is_blank_or_break (sym c.look-c.ensures.value)
     ∙ sym c.is_white.ensures ∙ c.if-not-is_white.true in
     let blank = ap (λ (s : Cursor). s.blank_so_far) same ∙ ap (λ (s : Cursor). s.blank_so_far) c.skip_spaces.ensures
-    ∙ c.loop-self.invariant.blank in
-    let reached = ap (λ (s : Cursor). spec.lines c.args.indent c.args.start c.loop-self.tabbed
-    (string_bytes c.loop-self.feeds) s.mark s.rest) same
-    ∙ lines_over c.args.indent c.args.start c.loop-self.tabbed (string_bytes c.loop-self.feeds) _ first spaced
-    c.skip_spaces.ensures ∙ c.loop-self.invariant.same in
+    ∙ c.loop-c.invariant.blank in
+    let reached = ap (λ (s : Cursor). spec.lines c.args.indent c.args.start c.loop-c.tabbed
+    (string_bytes c.loop-c.feeds) s.mark s.rest) same
+    ∙ lines_over c.args.indent c.args.start c.loop-c.tabbed (string_bytes c.loop-c.feeds) _ first spaced
+    c.skip_spaces.ensures ∙ c.loop-c.invariant.same in
     moves_refused _ _ _ _ c.from_residual-in_err-check_plain_tab.ensures.1
     (sym reached ∙ line_over _ _ _ _ here over blank ∙ refused_by _ _ _ _ _ c.in_err-check_plain_tab.ensures)
 
 pub returns : goal.returns
 returns g c =
-    let first = state c.loop-self.self in
+    let first = state c.loop-c.self in
     let spaced = state c.skip_spaces.new.self in
-    let here = state c.look.new.self in
-    let same = c.look.ensures.same in
+    let here = state c.look-c.new.self in
+    let same = c.look-c.ensures.same in
     let over : is_blank_or_break (slice_index here.rest 0) ≡ false =
-    ap (λ (s : Cursor). is_blank_or_break (slice_index s.rest 0)) same ∙ ap is_blank_or_break (sym c.look.ensures.value)
+    ap (λ (s : Cursor). is_blank_or_break (slice_index s.rest 0)) same ∙ ap is_blank_or_break (sym c.look-c.ensures.value)
     ∙ sym c.is_white.ensures ∙ c.if-not-is_white.true in
     let blank = ap (λ (s : Cursor). s.blank_so_far) same ∙ ap (λ (s : Cursor). s.blank_so_far) c.skip_spaces.ensures
-    ∙ c.loop-self.invariant.blank in
-    let reached = ap (λ (s : Cursor). spec.lines c.args.indent c.args.start c.loop-self.tabbed
-    (string_bytes c.loop-self.feeds) s.mark s.rest) same
-    ∙ lines_over c.args.indent c.args.start c.loop-self.tabbed (string_bytes c.loop-self.feeds) _ first spaced
-    c.skip_spaces.ensures ∙ c.loop-self.invariant.same in
+    ∙ c.loop-c.invariant.blank in
+    let reached = ap (λ (s : Cursor). spec.lines c.args.indent c.args.start c.loop-c.tabbed
+    (string_bytes c.loop-c.feeds) s.mark s.rest) same
+    ∙ lines_over c.args.indent c.args.start c.loop-c.tabbed (string_bytes c.loop-c.feeds) _ first spaced
+    c.skip_spaces.ensures ∙ c.loop-c.invariant.same in
     sym reached ∙ line_over _ _ _ _ here over blank ∙ taken_by _ _ _ _ _ c.in_ok-check_plain_tab.ensures

@@ -9,40 +9,40 @@ use Rattle.saphyr_scalar.proofs.Quoted.Lines.{break_on, break_on_shorter, blank_
 use Rattle.saphyr_scalar.proofs.scalar.reader.Reader.skip_quoted_lines.Goals.{else-c-eq9-via-then-c-eq9+else-self-indent, else-c-eq9-via-else-c-eq9}
 use Rattle.saphyr_scalar.proofs.scalar.reader.Reader.skip_quoted_lines.Goals as goal
 
-pub loop-c-preserved-then-is_break : goal.loop-c-preserved-then-is_break
-loop-c-preserved-then-is_break g c =
-    let first = state c.loop-c.self in
+pub loop-self-preserved-then-is_break : goal.loop-self-preserved-then-is_break
+loop-self-preserved-then-is_break g c =
+    let first = state c.loop-self.self in
     let here = state c.skip_spaces.new.self in
     let there = state c.look-c.new.self in
-    let behind = state c.skip_line_break.new.self in
+    let behind = state c.skip_seen_break.new.self in
     let breaks : class.is_break (slice_index here.rest 0) ≡ true =
     ap class.is_break (sym c.look-c.ensures.value) ∙ sym c.is_break.ensures.test ∙ c.if-is_break.true in
     record {
-      same = λ q start escaped. break_on q c.args.indent start escaped c.loop-c.count here there behind breaks
-          c.look-c.ensures.same c.skip_line_break.ensures
-          ∙ inside_over q c.args.indent start escaped c.loop-c.count _ first here c.skip_spaces.ensures
-          ∙ c.loop-c.invariant.same q start escaped;
+      same = λ q start escaped. break_on q c.args.indent start escaped c.loop-self.count here there behind breaks
+          c.look-c.ensures.same c.skip_seen_break.ensures
+          ∙ inside_over q c.args.indent start escaped c.loop-self.count _ first here c.skip_spaces.ensures
+          ∙ c.loop-self.invariant.same q start escaped;
       counted = omega (
         arith,
-        break_on_shorter here there behind breaks c.look-c.ensures.same c.skip_line_break.ensures,
+        break_on_shorter here there behind breaks c.look-c.ensures.same c.skip_seen_break.ensures,
         spaces_shorter _ first here c.skip_spaces.ensures,
-        c.loop-c.invariant.counted,
+        c.loop-self.invariant.counted,
       );
     }
 
 pub returns-then-self-indent-clause-same : goal.returns-then-self-indent-clause-same
 returns-then-self-indent-clause-same g c = λ quote start escaped.
-    let first = state c.loop-c.self in
+    let first = state c.loop-self.self in
     let here = state c.skip_spaces.new.self in
     let tab : slice_index here.rest 0 ≡ 9 = sym c.look-c.ensures.value ∙ c.if-c-eq9.true in
-    sym (c.loop-c.invariant.same quote start escaped)
-    ∙ sym (inside_over quote c.args.indent start escaped c.loop-c.count _ first here c.skip_spaces.ensures)
-    ∙ tab_on quote c.args.indent start escaped c.loop-c.count here (state c.look-c.new.self) tab c.look-c.ensures.same
+    sym (c.loop-self.invariant.same quote start escaped)
+    ∙ sym (inside_over quote c.args.indent start escaped c.loop-self.count _ first here c.skip_spaces.ensures)
+    ∙ tab_on quote c.args.indent start escaped c.loop-self.count here (state c.look-c.new.self) tab c.look-c.ensures.same
     c.if-self-indent.true
 
-pub loop-c-preserved : goal.loop-c-preserved
-loop-c-preserved g c =
-    let first = state c.loop-c.self in
+pub loop-self-preserved : goal.loop-self-preserved
+loop-self-preserved g c =
+    let first = state c.loop-self.self in
     let here = state c.skip_spaces.new.self in
     let there = state c.look-c.new.self in
     let behind = state c.skip_blank.new.self in
@@ -57,10 +57,10 @@ loop-c-preserved g c =
           (λ is. w.if-c-eq9.false (c.look-c.ensures.value ∙ is))
     ] in
     record {
-      same = λ q start escaped. blank_on q c.args.indent start escaped c.loop-c.count here there behind blank fits
+      same = λ q start escaped. blank_on q c.args.indent start escaped c.loop-self.count here there behind blank fits
           c.look-c.ensures.same c.skip_blank.ensures
-          ∙ inside_over q c.args.indent start escaped c.loop-c.count _ first here c.skip_spaces.ensures
-          ∙ c.loop-c.invariant.same q start escaped;
+          ∙ inside_over q c.args.indent start escaped c.loop-self.count _ first here c.skip_spaces.ensures
+          ∙ c.loop-self.invariant.same q start escaped;
       counted = omega (
         arith,
         ap (λ (s : Cursor). length s.rest) c.skip_blank.ensures,
@@ -68,13 +68,13 @@ loop-c-preserved g c =
         ap
             (λ (s : Cursor). length s.rest) c.look-c.ensures.same,
         spaces_shorter _ first here c.skip_spaces.ensures,
-        c.loop-c.invariant.counted,
+        c.loop-self.invariant.counted,
       );
     }
 
 pub returns-else-is_blank-clause-same : goal.returns-else-is_blank-clause-same
 returns-else-is_blank-clause-same g c = λ quote start escaped.
-    let k = c.loop-c.count in
+    let k = c.loop-self.count in
     ap (inside_at quote c.args.indent start (over_lines escaped k)) c.look-c.ensures.same
-    ∙ inside_over quote c.args.indent start escaped k _ (state c.loop-c.self) (state c.skip_spaces.new.self)
-    c.skip_spaces.ensures ∙ c.loop-c.invariant.same quote start escaped
+    ∙ inside_over quote c.args.indent start escaped k _ (state c.loop-self.self) (state c.skip_spaces.new.self)
+    c.skip_spaces.ensures ∙ c.loop-self.invariant.same quote start escaped

@@ -5,13 +5,13 @@ use Rattle.saphyr_scalar.specs.declared.scalar.position.Marker.{Marker}
 use Rattle.saphyr_scalar.specs.declared.reading.flow.Quote.{Quote}
 use Rattle.saphyr_scalar.proofs.scalar.reader.Reader.skip_quoted_lines.Given as goal
 
-abbrev pub invariant-loop-c : goal.invariant-loop-c
-invariant-loop-c g l = record {
+abbrev pub invariant-loop-self : goal.invariant-loop-self
+invariant-loop-self g l = record {
   same : (q : Quote) (start : Marker) (escaped : Bool)
       → inside_at q l.fn.indent start (over_lines escaped l.count) (state l.self)
       ≡ inside_at q l.fn.indent start (over_lines escaped 0) (state l.fn.self);
   counted : l.count + length (state l.self).rest ≤ length (state l.fn.self).rest;
 }
 
-abbrev pub decreases-loop-c : goal.decreases-loop-c
-decreases-loop-c g l = length (state l.self).rest
+abbrev pub decreases-loop-self : goal.decreases-loop-self
+decreases-loop-self g l = length (state l.self).rest
