@@ -6,8 +6,8 @@ use Rattle.saphyr_scalar.specs.Views.Cursor.{◌>>=◌}
 use Rattle.saphyr_scanner.specs.Steps.Core.{Core, in_block, is_too_far, drop_far_key, forget_key}
 use Rattle.saphyr_scanner.specs.Steps.State.{State, carried}
 use Rattle.saphyr_scanner.specs.Steps.Fetch.{size, fetch_within, settled, needs_token, is_ready, fill_in, fill}
-use Rattle.saphyr_scanner.proofs.Sizes.Scalars.{Readers}
-use Rattle.saphyr_scanner.proofs.Sizes.Fetch.{read_smaller}
+use Rattle.saphyr_scanner.proofs.Effects.Readers.{Readers}
+use Rattle.saphyr_scanner.proofs.Effects.Fetch.{Fetched, read_fetched}
 use Rattle.saphyr_input.proofs.Basics.Booleans.{by_test, neither_parts}
 use Rattle.saphyr_scalar.proofs.Given.{given_of, bind_ok}
 
@@ -25,8 +25,7 @@ read_is limit s t u e f = rw e f
 pub smaller_read : Readers → (limit : ℕ) (s u : State) → needs_token s ≡ true → read limit s ≡ Ok u
     → size u.core < size s.core
 smaller_read laws limit s u needs e =
-    given_of (λ (t : State). size t.core < size s.core) (read limit s) u
-    (read_smaller laws limit s (going s.core.ended _ needs)) e
+    (given_of (Fetched s) (read limit s) u (read_fetched limit s (going s.core.ended _ needs)) e).smaller laws
 
 pub same_bind : {X Y : Type 0} → (r : Result X Refusal) (f g : X → Result Y Refusal) → ((x : X) → r ≡ Ok x → f x ≡ g x)
     → (r >>= f) ≡ (r >>= g)
@@ -88,7 +87,7 @@ read_settles limit s u e = let b = bind_ok (fetch_within limit s) settled u e in
 pub less_read : Readers → (limit : ℕ) (s u : State) → s.core.ended ≡ false → read limit s ≡ Ok u
     → size u.core < size s.core
 less_read laws limit s u over e =
-    given_of (λ (t : State). size t.core < size s.core) (read limit s) u (read_smaller laws limit s over) e
+    (given_of (Fetched s) (read limit s) u (read_fetched limit s over) e).smaller laws
 
 ready : (limit : ℕ) (s : State) → (in_block s.core && is_too_far s.core.level.key s.core.cursor.mark) ≡ false
     → needs_token s ≡ false → fill limit s ≡ Ok s

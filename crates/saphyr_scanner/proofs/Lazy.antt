@@ -11,7 +11,7 @@ use Rattle.saphyr_scanner.specs.Steps.Core.{Candidate, Level, Core, drop_far_key
 use Rattle.saphyr_scanner.specs.Steps.State.{State, start}
 use Rattle.saphyr_scanner.specs.Steps.Fetch.{size, needs_token, is_held, is_place, holds, any_holds}
 use Rattle.saphyr_scanner.specs.Steps.Remaining.{before_place, hand_out, delivered, run, remaining}
-use Rattle.saphyr_scanner.proofs.Sizes.Scalars.{Readers}
+use Rattle.saphyr_scanner.proofs.Effects.Readers.{Readers}
 use Rattle.saphyr_scanner.proofs.Filling.{read, read_is, less_read}
 use Rattle.saphyr_scanner.proofs.Leads.{Leads, stay, onward, flat, place_pieces}
 use Rattle.saphyr_scanner.proofs.Unroll.{behind, rest, enough}

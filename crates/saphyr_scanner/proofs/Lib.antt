@@ -5,7 +5,6 @@ pub mod Queues
 pub mod Turns
 pub mod Unroll
 pub mod Filling
-pub mod Sizes
 pub mod Blocks
 pub mod Gaps
 pub mod Leads
@@ -25,6 +24,7 @@ pub mod Counted
 pub mod Ordered
 pub mod LineTails
 pub mod Added
+pub mod Effects
 pub mod ReadersCounted
 pub mod Copies
 pub mod LineTexts

@@ -27,7 +27,7 @@ use Rattle.saphyr_scalar.specs.Steps.Tag as tags
 use Rattle.saphyr_scalar.specs.Spelling.Tag.{IsAnchorName, IsTagText, EndsTag}
 use Rattle.saphyr_scalar.proofs.Plain.Texts.{passed_index}
 use Rattle.saphyr_scanner.proofs.Counted.{Ahead, ahead_ahead, text_passed, passed_over, pass_break_counted}
-use Rattle.saphyr_scanner.proofs.Ordered.Scalars.{Reads, ReadsSpan, ReaderEnds}
+use Rattle.saphyr_scanner.proofs.Effects.Readers.{Reads, ReadsSpan, ReaderEnds}
 
 -- ## Plain scalars
 

@@ -13,7 +13,7 @@ use Rattle.saphyr_scanner.specs.Steps.Core.{Core}
 use Rattle.saphyr_scanner.specs.Steps.State.{State}
 use Rattle.saphyr_scanner.specs.Steps.Fetch.{size, settled, needs_token, fill, take}
 use Rattle.saphyr_scanner.specs.Steps.Remaining.{before_place, remaining}
-use Rattle.saphyr_scanner.proofs.Sizes.Scalars.{Readers}
+use Rattle.saphyr_scanner.proofs.Effects.Readers.{Readers}
 use Rattle.saphyr_scanner.proofs.Filling.{IsSettled, settled_once}
 use Rattle.saphyr_scanner.proofs.Unroll.{refused_first, rest, remaining_is, settled_is, filled_in}
 use Rattle.saphyr_scalar.proofs.Given.{bind_ok}

@@ -7,7 +7,7 @@ use Rattle.saphyr_scanner.specs.Steps.Queue.{Place}
 use Rattle.saphyr_scanner.specs.Steps.State.{State}
 use Rattle.saphyr_scanner.specs.Steps.Fetch.{size, settled, needs_token, fill_in, fill}
 use Rattle.saphyr_scanner.specs.Steps.Remaining.{before_place, without_first, hand_out, delivered, run, remaining}
-use Rattle.saphyr_scanner.proofs.Sizes.Scalars.{Readers}
+use Rattle.saphyr_scanner.proofs.Effects.Readers.{Readers}
 use Rattle.saphyr_scanner.proofs.Filling.{read, going, smaller_read, less_read, IsSettled, settled_once, read_settles}
 use Rattle.saphyr_scalar.proofs.Given.{bind_ok}
 use Rattle.std.proofs.lemmas.Bool.{cond-true, cond-false}

@@ -12,14 +12,11 @@ use Rattle.saphyr_scanner.specs.Steps.Core.{Core, drop_far_key, in_block, is_too
 use Rattle.saphyr_scanner.specs.Steps.State.{State, start, carried}
 use Rattle.saphyr_scanner.specs.Steps.Fetch.{size, settled, needs_token, fetch, within, fetch_within}
 use Rattle.saphyr_scanner.specs.Steps.Remaining.{before_place, hand_out, delivered, run, remaining, scan}
-use Rattle.saphyr_scanner.proofs.Sizes.Scalars.{Readers}
-use Rattle.saphyr_scanner.proofs.Sizes.Fetch.{read_smaller}
+use Rattle.saphyr_scanner.proofs.Effects.Readers.{Readers, ReaderEnds}
+use Rattle.saphyr_scanner.proofs.Effects.Fetch.{Fetched, read_fetched}
 use Rattle.saphyr_scanner.proofs.Unroll.{behind}
 use Rattle.saphyr_scanner.proofs.Ordered.Queue.{Grows}
-use Rattle.saphyr_scanner.proofs.Ordered.Scalars.{ReaderEnds}
-use Rattle.saphyr_scanner.proofs.Ordered.Fetch.{read_grows}
-use Rattle.saphyr_scanner.proofs.Added.Steps.{tokens_at, tokens_in, open_blocks, due}
-use Rattle.saphyr_scanner.proofs.Added.Fetch.{Fetches, read_fetches}
+use Rattle.saphyr_scanner.proofs.Added.Queue.{tokens_at, tokens_in, open_blocks, due}
 use Rattle.saphyr_input.proofs.Basics.Booleans.{by_test}
 use Rattle.saphyr_scalar.proofs.Given.{Given, given_bind, given_of}
 use Rattle.saphyr_scanner.proofs.Queues.{holding}
@@ -108,10 +105,9 @@ run_few readers laws n limit (suc fuel) s h = handed (λ t. run_few readers laws
         let w : Counts n limit t = record { counted = h.counted; limited = h.limited } in
         by_test t.core.ended _ _ (IsFew n limit t) (λ _. none_few n limit t w)
         (λ i. delivers n limit t r (run fuel limit) w (λ u q.
-        read_few n limit t u (run fuel limit u) (given_of (Fetches t) r u (read_fetches limit t) q).1
-        (given_of _ r u (read_smaller readers limit t i) q)
-        (others u (counts_on n limit t u (given_of (Grows t) r u (read_grows laws limit t) q)
-        (given_of (IsWithin limit) r u (read_stays limit t) q) w))))
+        let a = given_of (Fetched t) r u (read_fetched limit t i) q in
+        read_few n limit t u (run fuel limit u) a.few (a.smaller readers)
+        (others u (counts_on n limit t u (a.grows laws) (given_of (IsWithin limit) r u (read_stays limit t) q) w))))
 
     part : (ps : List Place) (r : Remaining) (k : ℕ) → IsFew n limit (holding s.core ps k) r
         → length r.pieces + 5 * n ≤ tokens_in ps + (open_blocks s.core + 5 * limit + 5 * size s.core)

@@ -12,12 +12,11 @@ use Rattle.saphyr_scanner.specs.Steps.State.{State, start}
 use Rattle.saphyr_scanner.specs.Steps.Fetch.{size, settled, needs_token, fetch_within}
 use Rattle.saphyr_scanner.specs.Steps.Remaining.{before_place, hand_out, delivered, run, remaining, scan}
 use Rattle.saphyr_scanner.specs.Ends.{EndsWithStream}
-use Rattle.saphyr_scanner.proofs.Sizes.Scalars.{Readers}
-use Rattle.saphyr_scanner.proofs.Sizes.Fetch.{read_smaller}
+use Rattle.saphyr_scanner.proofs.Effects.Readers.{Readers}
+use Rattle.saphyr_scanner.proofs.Effects.Fetch.{Stands, Standing, Fetched, read_fetched}
 use Rattle.saphyr_scanner.proofs.Filling.{going}
 use Rattle.saphyr_scanner.proofs.Unroll.{behind}
-use Rattle.saphyr_scanner.proofs.Added.Steps.{IsNoEnd, PlacesGoOn}
-use Rattle.saphyr_scanner.proofs.Added.Fetch.{Stands, Standing, Fetches, read_fetches}
+use Rattle.saphyr_scanner.proofs.Added.Queue.{IsNoEnd, PlacesGoOn}
 use Rattle.saphyr_input.proofs.Basics.Booleans.{by_test}
 use Rattle.saphyr_scalar.proofs.Given.{given_of}
 use Rattle.std.proofs.lemmas.Bool.{cond-true}
@@ -95,9 +94,8 @@ run_ends laws limit (suc fuel) s f h = by s.core.ended refl (λ t. run_ends laws
         let t : State = holding s.core ps k in
         by_test t.core.ended _ _ EndsWithStream (λ i. absurd (cc))
         (λ i. delivers (fetch_within limit t >>= settled) (run fuel limit) (λ u q.
-        let less = given_of _ (fetch_within limit t >>= settled) u (read_smaller laws limit t i) q in
-        let a = given_of (Fetches t) (fetch_within limit t >>= settled) u (read_fetches limit t) q in
-        others u (omega (arith, less, f)) (a.0 i h))))
+        let a = given_of (Fetched t) (fetch_within limit t >>= settled) u (read_fetched limit t i) q in
+        let less = a.smaller laws in others u (omega (arith, less, f)) (a.stands h))))
         s.queue.handed s.queue.places w
 
 pub scan_ends : Readers → (limit : ℕ) (text : List ℕ) → EndsWithStream (scan limit text)

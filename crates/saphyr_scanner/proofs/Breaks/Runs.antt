@@ -15,7 +15,7 @@ use Rattle.saphyr_scanner.specs.Steps.Fetch.{size, settled, needs_token, any_hol
 use Rattle.saphyr_scanner.specs.Steps.Remaining.{before_place, hand_out, delivered, run, remaining, scan}
 use Rattle.saphyr_scanner.specs.SameKinds.{HaveSameKinds}
 use Rattle.saphyr_scanner.proofs.Filling.{read, less_read}
-use Rattle.saphyr_scanner.proofs.Sizes.Scalars.{Readers}
+use Rattle.saphyr_scanner.proofs.Effects.Readers.{Readers}
 use Rattle.saphyr_scalar.specs.Alike.{GiveAlike}
 use Rattle.saphyr_scanner.proofs.Breaks.Cores.{Indexes, near_core, near_key, near_levels, first, others, Cores, Twin, Laws, of_cores}
 use Rattle.saphyr_scanner.proofs.Breaks.Fetches.{read_same, settled_same}

@@ -36,7 +36,7 @@ use Rattle.saphyr_scanner.proofs.InBlock.Streams.{begins}
 use Rattle.saphyr_scanner.proofs.InBlock.ToMarkers.{Closes, closes_on, IsMarkerRest, StartsHere, EndsHere, Found, passes_suffix, closes_documents}
 use Rattle.saphyr_scanner.proofs.Lazy.{onto, free_block, begins_so}
 use Rattle.saphyr_scanner.proofs.Leads.{flat}
-use Rattle.saphyr_scanner.proofs.Sizes.Scalars.{Readers}
+use Rattle.saphyr_scanner.proofs.Effects.Readers.{Readers}
 use Rattle.saphyr_scanner.proofs.Unroll.{rest}
 use Rattle.saphyr_scanner.proofs.Breaks.Layouts.{no_return_left}
 use Rattle.saphyr_scanner.proofs.Breaks.Normal.{beside, normal_shorter}

@@ -21,7 +21,7 @@ use Rattle.saphyr_scanner.proofs.InBlock.Scalars as scalars
 use Rattle.saphyr_scanner.proofs.InBlock.Statements.{Leaves}
 use Rattle.saphyr_scanner.proofs.InBlock.Streams.{layout_leads}
 use Rattle.saphyr_scanner.proofs.Lazy.{handed_out}
-use Rattle.saphyr_scanner.proofs.Sizes.Scalars.{Readers}
+use Rattle.saphyr_scanner.proofs.Effects.Readers.{Readers}
 
 pub leaves : Reads → ReadsBlocks → (limit : ℕ) → limit < 2 ^ 63 → Leaves limit
 leaves reads blocks limit short = record {

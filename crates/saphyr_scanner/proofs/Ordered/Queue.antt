@@ -1,15 +1,14 @@
 -- The places of the queue stand in order, and what a step does to it keeps them so.
-use Rattle.std.proofs.Common.{◌≡◌, ℕ, zero, suc, ◌-◌, ◌≤◌, List, [], ◌∷◌, ◌++◌, refl, sym, arith, subst}
+use Rattle.std.proofs.Common.{◌≡◌, ℕ, zero, suc, ◌-◌, ◌≤◌, List, [], ◌∷◌, ◌++◌, sym, ap, arith, subst}
 use Rattle.saphyr_scanner.specs.declared.queue.Opening.{Opening}
 use Rattle.saphyr_scanner.specs.Views.Tokens.{Piece}
-use Rattle.saphyr_scanner.specs.Steps.Queue.{Place, Queue, closed, opened}
-use Rattle.saphyr_scalar.specs.declared.scalar.fault.Refusal.{Refusal}
-use Rattle.std.specs.Prelude.{Result, Ok, Err}
+use Rattle.saphyr_scanner.specs.Steps.Queue.{Place, Queue, closed, opened, empty_piece}
+use Rattle.saphyr_scanner.specs.Grammar.Tokens.{Kind}
+use Rattle.saphyr_scalar.specs.declared.scalar.position.Marker.{Marker}
 use Rattle.saphyr_scalar.specs.Views.Cursor.{Cursor}
-use Rattle.saphyr_scanner.specs.Steps.Core.{Core, Action, Put, Open, Step, Steps, act, perform}
-use Rattle.saphyr_scanner.specs.Steps.State.{State, carried, acted}
-use Rattle.saphyr_scanner.proofs.Counted.{Ahead, ahead_ahead}
-use Rattle.saphyr_scalar.proofs.Given.{Given}
+use Rattle.saphyr_scanner.specs.Steps.Core.{Core, Action, Put, Open, act, perform, at_mark}
+use Rattle.saphyr_scanner.specs.Steps.State.{State, changed, acting}
+use Rattle.saphyr_scanner.proofs.Counted.{Ahead, stays, ahead_ahead}
 
 -- the tokens of the places, from `low` on to n
 abbrev pub PlacesInOrder : ℕ → ℕ → List Place → Type 0
@@ -45,8 +44,8 @@ place_opened n low k o [] h = h
 place_opened n low zero o (p ∷ ps) h = h
 place_opened n low (suc k) o (p ∷ ps) h = (h.0, h.1, place_opened n p.piece.span.end.index k o ps h.2)
 
-performed : (n m low : ℕ) (actions : List Action) (q : Queue) → PlacesInOrder n low q.places → PutsInOrder m n actions
-    → PlacesInOrder m low (perform actions q).places
+pub performed : (n m low : ℕ) (actions : List Action) (q : Queue) → PlacesInOrder n low q.places
+    → PutsInOrder m n actions → PlacesInOrder m low (perform actions q).places
 performed n m low [] q h k = places_further n m low q.places k h
 performed n m low (Put t ∷ others) q h k =
     performed t.span.end.index m low others (act (Put t) q)
@@ -54,12 +53,7 @@ performed n m low (Put t ∷ others) q h k =
 performed n m low (Open i o ∷ others) q h k =
     performed n m low others (act (Open i o) q) (place_opened n low (i - q.handed) o q.places h) k
 
--- ## Steps and states
-
--- a step from the place of s on: what it puts stands between that place and the one that is reached
-pub record Ordered (s : Cursor) (x : Step) : Type 0 where
-  pub ahead : Ahead s x.core.cursor
-  pub puts : PutsInOrder x.core.cursor.mark.index s.mark.index x.actions
+-- ## States
 
 abbrev pub InOrder : ℕ → State → Type 0
 InOrder low s = PlacesInOrder s.core.cursor.mark.index low s.queue.places
@@ -86,21 +80,14 @@ core_grows s t a e = record {
       subst P (sym e) (places_further s.core.cursor.mark.index t.core.cursor.mark.index low s.queue.places a.later h);
 }
 
-pub carried_grows : (s : State) (r : Result Core Refusal) → Given (λ (d : Core). Ahead s.core.cursor d.cursor) r
-    → Given (Grows s) (carried r s.queue)
-carried_grows s (Ok d) a = core_grows s _ a refl
-carried_grows s (Err e) a = tt
-
-pub acted_grows : (s : State) (r : Steps) → Given (Ordered s.core.cursor) r → Given (Grows s) (acted r s.queue)
-acted_grows s (Ok x) h =
+-- a token without characters at the place that is reached
+pub put_grows : (s : State) (m : Marker) (kind : Kind) (d : Core) → d.cursor ≡ s.core.cursor
+    → m.index ≡ s.core.cursor.mark.index → Grows s (acting (at_mark m kind) (changed d s))
+put_grows s m kind d e i =
+    let k : d.cursor.mark.index ≡ s.core.cursor.mark.index = ap (λ (c : Cursor). c.mark.index) e in
     record {
-      ahead = h.ahead;
-      ordered =
-          λ low k. performed s.core.cursor.mark.index x.core.cursor.mark.index low x.actions s.queue k h.puts;
+      ahead = stays s.core.cursor d.cursor e;
+      ordered = λ low h.
+          place_put s.core.cursor.mark.index d.cursor.mark.index low s.queue.places (empty_piece m kind) h
+          (omega (arith, i)) (omega arith) (omega (arith, i, k));
     }
-acted_grows s (Err e) h = tt
-
--- the same, from another state
-pub onward : (s t : State) (r : Result State Refusal) → Grows s t → Given (Grows t) r → Given (Grows s) r
-onward s t (Ok u) a b = grows_grows s t u a b
-onward s t (Err e) a b = tt

@@ -1,5 +1,5 @@
 -- The tokens of a text stand in order.
-use Rattle.std.proofs.Common.{◌≡◌, ℕ, zero, suc, ◌+◌, ◌≤◌, List, [], ◌∷◌, length, Result, Ok, Err, arith}
+use Rattle.std.proofs.Common.{◌≡◌, ℕ, zero, suc, ◌+◌, ◌≤◌, List, [], ◌∷◌, length, Result, Ok, Err, refl, arith}
 use Rattle.saphyr_scalar.specs.declared.scalar.fault.Refusal.{Refusal}
 use Rattle.saphyr_scalar.specs.Views.Cursor.{◌>>=◌}
 use Rattle.saphyr_scanner.specs.declared.queue.Opening.{Opening}
@@ -12,10 +12,11 @@ use Rattle.saphyr_scanner.specs.Steps.Fetch.{size, settled, needs_token, fetch_w
 use Rattle.saphyr_scanner.specs.Steps.Remaining.{before_place, hand_out, delivered, run, remaining, scan}
 use Rattle.saphyr_scanner.specs.SpansInOrder.{AreInOrder}
 use Rattle.saphyr_scanner.proofs.Ordered.Queue.{places_within, InOrder, Grows}
-use Rattle.saphyr_scanner.proofs.Ordered.Scalars.{ReaderEnds}
-use Rattle.saphyr_scanner.proofs.Ordered.Fetch.{read_grows, settled_grows}
+use Rattle.saphyr_scanner.proofs.Effects.Readers.{ReaderEnds}
+use Rattle.saphyr_scanner.proofs.Effects.States.{Advances}
+use Rattle.saphyr_scanner.proofs.Effects.Fetch.{Fetched, read_fetched, settled_advances}
 use Rattle.saphyr_input.proofs.Basics.Booleans.{by_test}
-use Rattle.saphyr_scalar.proofs.Given.{Given}
+use Rattle.saphyr_scalar.proofs.Given.{given_of}
 use Rattle.saphyr_scanner.proofs.Queues.{holding}
 
 -- what comes is in order from `low` on
@@ -49,9 +50,10 @@ within : (n low : ℕ) (s : State) → IsCounted n s → InOrder low s → low �
 within n low s w h = omega (arith, w, places_within s.core.cursor.mark.index low s.queue.places h)
 
 delivers : (n low : ℕ) (s : State) (r : Result State Refusal) (go : State → Remaining) → IsCounted n s → InOrder low s
-    → Given (Grows s) r → ((t : State) → IsCounted n t → InOrder low t → Follows n low (go t))
+    → ((t : State) → r ≡ Ok t → Grows s t) → ((t : State) → IsCounted n t → InOrder low t → Follows n low (go t))
     → Follows n low (delivered r go)
-delivers n low s (Ok t) go w h g others = others t (omega (arith, w, g.ahead.counted)) (g.ordered low h)
+delivers n low s (Ok t) go w h g others =
+    let a = g t refl in others t (omega (arith, w, a.ahead.counted)) (a.ordered low h)
 delivers n low s (Err e) go w h g others = within n low s w h
 
 run_in_order : ReaderEnds → (n limit fuel low : ℕ) (s : State) → IsCounted n s → InOrder low s
@@ -63,8 +65,9 @@ run_in_order laws n limit (suc fuel) low s w h =
     handed_in_order n _ s.core
     (λ l k ps i. let t : State = holding s.core ps k in
     by_test t.core.ended _ _ (Follows n l) (λ _. within n l t w i)
-    (λ _. delivers n l t (fetch_within limit t >>= settled) (run fuel limit) w i (read_grows laws limit t)
-    (others l)))
+    (λ e. let r = fetch_within limit t >>= settled in
+    delivers n l t r (run fuel limit) w i
+    (λ u q. (given_of (Fetched t) r u (read_fetched limit t e) q).grows laws) (others l)))
     low s.queue.handed s.queue.places h
 
 pub scan_in_order : ReaderEnds → (limit : ℕ) (text : List ℕ) → AreInOrder (length text) 0 (scan limit text).pieces
@@ -72,5 +75,5 @@ unfolding remaining
 scan_in_order laws limit text =
     let s : State = start text in
     delivers (length text) 0 s (settled s) (λ t. run (suc (size t.core)) limit t) (omega arith) (omega arith)
-    (settled_grows s)
+    (λ t e. (given_of (Advances 0 s) (settled s) t (settled_advances s) e).grows laws)
     (λ t w h. run_in_order laws (length text) limit (suc (size t.core)) 0 t w h)

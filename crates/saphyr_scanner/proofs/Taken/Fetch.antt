@@ -19,9 +19,8 @@ use Rattle.saphyr_scanner.specs.Steps.Fetch.{step, content, fetch_here, arrive, 
 use Rattle.saphyr_scanner.specs.TokensTaken as taken
 use Rattle.saphyr_scanner.specs.TokensTaken.{AreTokens, may_begin_plain}
 use Rattle.saphyr_scanner.proofs.Leads.{flat}
-use Rattle.saphyr_scanner.proofs.Sizes.Steps.{Took}
-use Rattle.saphyr_scanner.proofs.Sizes.Scalars.{Readers}
-use Rattle.saphyr_scanner.proofs.Sizes.Fetch.{left, marker_takes, end_marker_takes, mark_takes, directive_takes, stepped, step_takes, arrived_kept}
+use Rattle.saphyr_scanner.proofs.Effects.States.{Advances, acted_advances, is_marker, marker_advances, end_marker_advances, mark_advances, directive_advances}
+use Rattle.saphyr_scanner.proofs.Effects.Fetch.{left, step_effect, arrive_advances}
 use Rattle.saphyr_scanner.proofs.Taken.Separated.{given_map}
 use Rattle.saphyr_scanner.proofs.Taken.Later.{LaterThan}
 use Rattle.saphyr_scanner.proofs.Taken.Parts.{tokens_part}
@@ -147,7 +146,7 @@ pub record Read (columns : List ℕ) (from : Cursor) (t : State) : Type 0 where
   pub over : t.core.ended ≡ true → OverAt columns from t.queue
 
 both_given : (columns : List ℕ) (from : Cursor) (s : State) (r : Result State Refusal) → s.core.ended ≡ false
-    → Given (λ (t : State). Fetched columns from t.core t.queue) r → Given (λ (t : State). Took s.core t.core) r
+    → Given (λ (t : State). Fetched columns from t.core t.queue) r → Given (Advances 1 s) r
     → Given (Read columns from) r
 both_given columns from s (Ok t) going a b =
     record { fetched = a; over = λ e. absurd (let f : t.core.ended ≡ false = b.ended ∙ going in cc) }
@@ -173,11 +172,11 @@ deep_of : (deeper : Bool) (i col : ℕ) → nat_lt col (cond deeper i (i - 1)) �
 deep_of true i col e = let h = ltb-false col i e in omega (arith, h)
 deep_of false i col e = let h = ltb-false col (i - 1) e in omega (arith, h)
 
-here_read : TextLaws → Readers → (text : List ℕ) → length text < 2 ^ 63 → (columns : List ℕ) (from : Cursor) (s : State)
+here_read : TextLaws → (text : List ℕ) → length text < 2 ^ 63 → (columns : List ℕ) (from : Cursor) (s : State)
     → LaterThan (fresh text) from → s.core.ended ≡ false → Arrived columns from s
     → Given (Read columns from) (fetch_here s)
 unfolding fetch_here content
-here_read laws readers text small columns from s l going a =
+here_read laws text small columns from s l going a =
     let t = s.core.cursor.rest in
     let P = Given (Read columns from) in
     by_test (is_z (slice_index t 0)) _ _ P
@@ -187,30 +186,31 @@ here_read laws readers text small columns from s l going a =
     let h : HoldsState columns from s = record { taken = a.taken; keys = a.live z } in
     by_test (is_bom (slice_index t 0)) _ _ P
     (λ e. both_given columns from s (document.byte_order_mark s) going
-    (held columns from _ (mark_holds columns from s h e)) (mark_takes s some))
+    (held columns from _ (mark_holds columns from s h e)) (mark_advances s some))
     (λ _. by_test ((s.core.cursor.mark.col == 0) && (slice_index t 0 == 37)) _ _ P
     (λ e. let w = and_parts (s.core.cursor.mark.col == 0) (slice_index t 0 == 37) e in
     let first = eqb-true (slice_index t 0) 37 w.1 in
     both_given columns from s (document.directive s) going
     (held columns from _ (directive_holds laws columns from s h (eqb-true s.core.cursor.mark.col 0 w.0) first))
-    (directive_takes readers s first))
+    (directive_advances s first))
     (λ _. by_test ((s.core.cursor.mark.col == 0) && is_document_start t) _ _ P
     (λ e. let w = and_parts (s.core.cursor.mark.col == 0) (is_document_start t) e in
     both_given columns from s (document.marker tokens.DocumentStart s) going
     (held columns from _ (marker_holds columns from is_document_start (codes "---") tokens.DocumentStart
-    start_marking s h (eqb-true s.core.cursor.mark.col 0 w.0) w.1)) (marker_takes tokens.DocumentStart s some))
+    start_marking s h (eqb-true s.core.cursor.mark.col 0 w.0) w.1))
+    (marker_advances tokens.DocumentStart s (λ i. absurd (cc)) (is_marker 45 t refl w.1)))
     (λ _. by_test ((s.core.cursor.mark.col == 0) && is_document_end t) _ _ P
     (λ e. let w = and_parts (s.core.cursor.mark.col == 0) (is_document_end t) e in
     both_given columns from s (document.end_marker s) going
     (held columns from _ (end_marker_holds columns from s h (eqb-true s.core.cursor.mark.col 0 w.0) w.1))
-    (end_marker_takes s some))
+    (end_marker_advances s (is_marker 46 t refl w.1)))
     (λ _. by_test (nat_lt s.core.cursor.mark.col (least_column s.core)) _ _ P (λ _. tt)
     (λ e. let r = step (slice_index t 0) (slice_index t 1) (next s.queue) s.core in
     both_given columns from s (acted r s.queue) going
     (acted_fetched columns from s.queue r
     (step_fetched laws text small columns from s.queue (slice_index t 0) (slice_index t 1) s.core l h some refl refl
     (λ _. deep_of s.core.deeper s.core.indent s.core.cursor.mark.col e)))
-    (stepped s r (step_takes readers (slice_index t 0) (slice_index t 1) (next s.queue) s.core some refl))))))))
+    (acted_advances s r (step_effect (slice_index t 0) (slice_index t 1) (next s.queue) s.core some refl))))))))
 
 begin_live : (columns : List ℕ) (from : Cursor) (s : State) → TakenState columns from s → Live s.core s.queue
     → Live (record s.core { started = true }) (put (empty_piece s.core.cursor.mark tokens.StreamStart) s.queue)
@@ -233,16 +233,16 @@ begin_read columns from s going h l = record {
   over = λ e. absurd (let f : s.core.ended ≡ true = e in cc);
 }
 
-pub fetch_read : TextLaws → Readers → (text : List ℕ) → length text < 2 ^ 63
+pub fetch_read : TextLaws → (text : List ℕ) → length text < 2 ^ 63
     → (columns : List ℕ) (from : Cursor) (s : State) → LaterThan (fresh text) from → s.core.ended ≡ false
     → TakenState columns from s → Live s.core s.queue → Given (Read columns from) (fetch s)
 unfolding fetch
-fetch_read laws readers text small columns from s l going h k =
+fetch_read laws text small columns from s l going h k =
     by_test s.core.started _ _ (Given (Read columns from))
     (λ _. given_bind (Read columns from) (arrive s) fetch_here (λ t e.
     let a = given_of (Arrived columns from) (arrive s) t (arrived text small columns from s l h k) e in
-    let kept = given_of _ (arrive s) t (arrived_kept s) e in
-    here_read laws readers text small columns from t l (kept.ended ∙ going) a))
+    let kept = given_of (Advances 0 s) (arrive s) t (arrive_advances s) e in
+    here_read laws text small columns from t l (kept.ended ∙ going) a))
     (λ _. begin_read columns from s going h k)
 
 -- ## Where a candidate that is too far is dropped
@@ -279,12 +279,12 @@ settled_ready columns from s h =
       over = h.over;
     }))
 
-pub read_ready : TextLaws → Readers → (text : List ℕ) → length text < 2 ^ 63
+pub read_ready : TextLaws → (text : List ℕ) → length text < 2 ^ 63
     → (limit : ℕ) (columns : List ℕ) (from : Cursor) (s : State) → LaterThan (fresh text) from → s.core.ended ≡ false
     → Ready columns from s → Given (Ready columns from) (fetch_within limit s >>= settled)
 unfolding fetch_within
-read_ready laws readers text small limit columns from s l going h =
-    by (fetch s) (fetch_read laws readers text small columns from s l going h.taken (h.live going))
+read_ready laws text small limit columns from s l going h =
+    by (fetch s) (fetch_read laws text small columns from s l going h.taken (h.live going))
   where
     by : (r : Result State Refusal) → Given (Read columns from) r
         → Given (Ready columns from) ((r >>= within limit) >>= settled)

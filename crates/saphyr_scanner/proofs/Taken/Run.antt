@@ -1,7 +1,6 @@
 -- The tokens of a text are taken from it, and a refusal that ends them stands at a place of it.
 use Rattle.std.proofs.Common.{◌≡◌, ℕ, zero, suc, ◌+◌, ◌^◌, ◌<◌, Bool, true, false, List, [], ◌∷◌, ◌++◌, length, drop, Option, Some, None, Result, Ok, Err, refl, sym, ap, ◌∙◌, arith, subst, inl}
-use Rattle.std.specs.Prelude.{◌&&◌, ◌||◌, ◌==◌, not}
-use Rattle.std.proofs.lemmas.Bool.Decides.{nat_tests}
+use Rattle.std.specs.Prelude.{◌&&◌, ◌==◌, not}
 use Rattle.saphyr_scalar.specs.declared.scalar.fault.Refusal.{Refusal}
 use Rattle.saphyr_scalar.specs.Views.Cursor.{Cursor, fresh, ◌>>=◌}
 use Rattle.saphyr_scanner.specs.declared.queue.Opening.{Opening}
@@ -14,10 +13,10 @@ use Rattle.saphyr_scanner.specs.Steps.Fetch.{size, settled, needs_token, fetch_w
 use Rattle.saphyr_scanner.specs.Steps.Remaining.{before_place, hand_out, delivered, run, remaining, scan}
 use Rattle.saphyr_scanner.specs.TokensTaken as taken
 use Rattle.saphyr_scanner.specs.TokensTaken.{IsPlaceOf, AreTokens, IsEndOf, AreTakenFrom}
-use Rattle.saphyr_scanner.proofs.Sizes.Fetch.{read_smaller}
+use Rattle.saphyr_scanner.proofs.Effects.Fetch.{Fetched, read_fetched}
 use Rattle.saphyr_scanner.proofs.Filling.{going}
 use Rattle.saphyr_scanner.proofs.Leads.{flat, place_pieces}
-use Rattle.saphyr_scanner.proofs.Sizes.Scalars.{Readers}
+use Rattle.saphyr_scanner.proofs.Effects.Readers.{Readers}
 use Rattle.saphyr_scanner.proofs.Taken.Later.{LaterThan, later_here, later_later, tokens_later}
 use Rattle.saphyr_scanner.proofs.Taken.Parts.{open_all, open_append, tokens_append, tokens_part}
 use Rattle.saphyr_scanner.proofs.Taken.Held.{Stack, Key, KeyOf, lower, Keys, keys_weaken}
@@ -177,11 +176,11 @@ run_follows laws text small limit (suc fuel) columns from s l f h m =
     (λ e. let P : List Place → Type 0 =
     λ qs. AreTokens cs (flat qs) u u in
     (u, refl, (λ _. w.over e u (subst P (sym (over e)) refl)), (λ f i. absurd (cc))))
-    (λ e. let told = read_told laws.texts laws.readers laws.refusals text small limit cs u t k.0 k.1 e w m in
+    (λ e. let told = read_told laws.texts laws.refusals text small limit cs u t k.0 k.1 e w m in
     delivers text cs u r (run fuel limit)
-    (λ v q. let less = given_of _ r v (read_smaller laws.readers limit t e) q in
+    (λ v q. let less = (given_of (Fetched t) r v (read_fetched limit t e) q).smaller laws.readers in
     run_follows laws text small limit fuel cs u v k (omega (arith, less, f))
-    (given_of (Ready cs u) r v (read_ready laws.texts laws.readers text small limit cs u t k.0 e w) q)
+    (given_of (Ready cs u) r v (read_ready laws.texts text small limit cs u t k.0 e w) q)
     (told_ok NotedState (fresh text) r v told q))
     (λ g q. place_of text g.mark (told_err NotedState (fresh text) r g told q))))
     columns from s.queue.handed s.queue.places l h

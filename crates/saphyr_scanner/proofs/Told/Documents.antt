@@ -23,7 +23,7 @@ use Rattle.saphyr_scanner.specs.TokensTaken as taken
 use Rattle.saphyr_scanner.specs.TokensTaken.{IsReached}
 use Rattle.saphyr_scanner.specs.Steps.Unrolling.{unroll, end_blocks, end_block, is_right_of, outwards, less_deep}
 use Rattle.saphyr_scanner.proofs.Blocks.{unrolled_cursor}
-use Rattle.saphyr_scanner.proofs.Sizes.Fetch.{left}
+use Rattle.saphyr_scanner.proofs.Effects.Fetch.{left}
 use Rattle.saphyr_scanner.proofs.Taken.Documents.{three_at, end_place, no_length}
 use Rattle.saphyr_scanner.proofs.Taken.Scalars.{TextLaws}
 use Rattle.saphyr_scanner.proofs.Reached.{along_reached}

@@ -15,7 +15,6 @@ use Rattle.saphyr_scanner.proofs.Taken.Later.{LaterThan}
 use Rattle.saphyr_scanner.proofs.Leads.{flat}
 use Rattle.saphyr_scanner.proofs.PlainBehind.{IsNoted}
 use Rattle.saphyr_scanner.proofs.Reached.{apart_reached}
-use Rattle.saphyr_scanner.proofs.Sizes.Scalars.{Readers}
 use Rattle.saphyr_scanner.proofs.Taken.Places.{Reaches, reaches_reaches, At, at_here, at_further, tokens_reached}
 use Rattle.saphyr_scanner.proofs.Told.Refusals.{RefusalLaws, Told, told_further, Noted, Still, drop_still}
 use Rattle.saphyr_scanner.proofs.Told.Documents.{NotedState, carried_told, fetch_told}
@@ -53,13 +52,13 @@ settled_told text t a n =
     by (Ok d) h = noted_still t.core d h n
     by (Err e) h = at_further (fresh text) t.core.cursor e.mark a h
 
-pub read_told : TextLaws → Readers → RefusalLaws → (text : List ℕ) → length text < 2 ^ 63
+pub read_told : TextLaws → RefusalLaws → (text : List ℕ) → length text < 2 ^ 63
     → (limit : ℕ) (columns : List ℕ) (from : Cursor) (s : State) → LaterThan (fresh text) from
     → Reaches (fresh text) from → s.core.ended ≡ false → Ready columns from s → NotedState s
     → Told NotedState (fresh text) (fetch_within limit s >>= settled)
 unfolding fetch_within
-read_told laws readers refusals text small limit columns from s l a going h n =
-    by (fetch s) (fetch_read laws readers text small columns from s l going h.taken (h.live going))
+read_told laws refusals text small limit columns from s l a going h n =
+    by (fetch s) (fetch_read laws text small columns from s l going h.taken (h.live going))
     (told_further NotedState (fresh text) s.core.cursor (fetch s)
     (reaches_reaches (fresh text) from s.core.cursor a (taken_reached columns from s.core s.queue h.taken))
     (fetch_told laws refusals s n))

@@ -1,5 +1,5 @@
 use Rattle.saphyr_scanner.proofs.ReadersCounted.{reader_ends}
-use Rattle.saphyr_scanner.proofs.Sizes.Scalars.{Readers, quoted_laws}
+use Rattle.saphyr_scanner.proofs.Effects.Readers.{Readers, quoted_laws}
 use Rattle.saphyr_scanner.proofs.Added.Bound.{scan_few}
 use Rattle.saphyr_scanner.proofs.law.bounds_tokens.Goals as goal
 

@@ -1,4 +1,4 @@
-use Rattle.saphyr_scanner.proofs.Sizes.Scalars.{Readers, quoted_laws}
+use Rattle.saphyr_scanner.proofs.Effects.Readers.{Readers, quoted_laws}
 use Rattle.saphyr_scanner.proofs.Added.StreamEnds.{scan_ends}
 use Rattle.saphyr_scanner.proofs.law.ends_with_the_stream.Goals as goal
 

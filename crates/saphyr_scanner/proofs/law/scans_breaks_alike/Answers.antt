@@ -6,7 +6,7 @@ use Rattle.saphyr_scalar.specs.Views.Cursor.{along}
 use Rattle.saphyr_scalar.specs.Steps.Quoted.{at}
 use Rattle.saphyr_scalar.specs.declared.scalar.position.Marker.{Marker}
 use Rattle.saphyr_scanner.specs.TokensTaken.{block_indicator}
-use Rattle.saphyr_scanner.proofs.Sizes.Scalars.{Readers, quoted_laws}
+use Rattle.saphyr_scanner.proofs.Effects.Readers.{Readers, quoted_laws}
 use Rattle.saphyr_scanner.proofs.Breaks.Cores.{Laws}
 use Rattle.saphyr_scanner.proofs.Breaks.Forward.{Forwards, forward_plain, forward_passed, line_forward, break_forward}
 use Rattle.saphyr_scanner.proofs.Breaks.Runs.{scans_same}

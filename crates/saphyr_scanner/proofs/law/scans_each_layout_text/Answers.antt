@@ -1,5 +1,5 @@
 use Rattle.std.proofs.Common.{arith}
-use Rattle.saphyr_scanner.proofs.Sizes.Scalars.{Readers, quoted_laws}
+use Rattle.saphyr_scanner.proofs.Effects.Readers.{Readers, quoted_laws}
 use Rattle.saphyr_scanner.proofs.Flow.States.{Reads}
 use Rattle.saphyr_scanner.proofs.InBlock.ScalarTexts.{ReadsBlocks}
 use Rattle.saphyr_scanner.proofs.InBlock.Layouts.{layout_scans}

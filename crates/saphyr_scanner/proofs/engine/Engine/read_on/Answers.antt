@@ -1,5 +1,5 @@
 use Rattle.std.proofs.Common.{sym, ◌∙◌}
-use Rattle.saphyr_scanner.proofs.Sizes.Scalars.{Readers, quoted_laws}
+use Rattle.saphyr_scanner.proofs.Effects.Readers.{Readers, quoted_laws}
 use Rattle.saphyr_scanner.proofs.Filling.{read_is, smaller_read, one_more}
 use Rattle.saphyr_scanner.proofs.engine.Engine.read_on.Goals as goal
 

@@ -1,15 +1,13 @@
--- What a step adds to the queue: few tokens, and the end of the stream not among them.
-use Rattle.std.proofs.Common.{◌≡◌, ℕ, zero, suc, ◌+◌, ◌-◌, ◌≤◌, List, [], ◌∷◌, ◌++◌, length, Result, Ok, Err, refl, ◌∙◌, arith}
-use Rattle.saphyr_scalar.specs.declared.scalar.fault.Refusal.{Refusal}
+-- What is added to the queue: how many tokens, and whether the end of the stream is among them.
+use Rattle.std.proofs.Common.{◌≡◌, ℕ, zero, suc, ◌+◌, ◌-◌, ◌≤◌, List, [], ◌∷◌, ◌++◌, length, arith, refl}
 use Rattle.saphyr_scanner.specs.declared.queue.Opening.{Opening}
 use Rattle.saphyr_scanner.specs.declared.queue.Opening.TheVariants as opening
 use Rattle.saphyr_scanner.specs.Grammar.Tokens as tokens
 use Rattle.saphyr_scanner.specs.Grammar.Tokens.{Kind}
 use Rattle.saphyr_scanner.specs.Views.Tokens.{Piece}
 use Rattle.saphyr_scanner.specs.Steps.Queue.{Place, Queue, closed, opened}
-use Rattle.saphyr_scanner.specs.Steps.Core.{Core, Action, Put, Open, Step, Steps, act, perform}
-use Rattle.saphyr_scanner.specs.Steps.State.{State, carried, acted, changed, acting}
-use Rattle.saphyr_scalar.proofs.Given.{Given}
+use Rattle.saphyr_scanner.specs.Steps.Core.{Core, Action, Put, Open, act, perform}
+use Rattle.saphyr_scanner.specs.Steps.State.{State}
 
 abbrev pub IsNoEnd : Kind → Type 0
 IsNoEnd k = ¬ (k ≡ tokens.StreamEnd)
@@ -44,7 +42,7 @@ added [] = 0
 added (Put t ∷ others) = 1 + added others
 added (Open n o ∷ others) = 2 + added others
 
-place_goes_on : (ps : List Place) (t : Piece) → PlacesGoOn ps → IsNoEnd t.kind → PlacesGoOn (ps ++ closed t ∷ [])
+pub place_goes_on : (ps : List Place) (t : Piece) → PlacesGoOn ps → IsNoEnd t.kind → PlacesGoOn (ps ++ closed t ∷ [])
 place_goes_on [] t h k = (k, tt)
 place_goes_on (p ∷ ps) t h k = (h.0, place_goes_on ps t h.1 k)
 
@@ -84,7 +82,7 @@ tokens_performed (Open n o ∷ others) q =
     let a = tokens_performed others (act (Open n o) q) in let b =
     tokens_opened (n - q.handed) o q.places in omega (arith, a, b)
 
--- ## Steps and states
+-- ## What is due
 
 abbrev pub at_most_one : ℕ → ℕ
 at_most_one zero = 0
@@ -98,59 +96,6 @@ one_at_most (suc n) = omega arith
 abbrev pub open_blocks : Core → ℕ
 open_blocks c = at_most_one c.indent + length c.outer_indents
 
--- from c on n block collections begin at most, and the stream does not end
-abbrev pub Begins : ℕ → Core → Core → Type 0
-Begins n c d = (d.ended ≡ c.ended) × (open_blocks d ≤ open_blocks c + n)
-
--- a step that adds few tokens, with those that end the block collections which it begins
-abbrev pub AddsFew : Core → Step → Type 0
-AddsFew c x = (x.core.ended ≡ c.ended) × PutsGoOn x.actions × (added x.actions + open_blocks x.core ≤ open_blocks c + 5)
-
 -- the tokens of the queue, and those that end what is open
 abbrev pub due : State → ℕ
 due s = tokens_in s.queue.places + open_blocks s.core
-
--- from s on n tokens are added at most, and the stream does not end
-abbrev pub Adds : ℕ → State → State → Type 0
-Adds n s t = (t.core.ended ≡ s.core.ended) × (PlacesGoOn s.queue.places → PlacesGoOn t.queue.places)
-    × (due t ≤ due s + n)
-
-pub begins_none : (c : Core) → Begins 0 c c
-begins_none c = (refl, omega arith)
-
-pub adds_none : (s : State) → Adds 0 s s
-adds_none s = (refl, λ h. h, omega arith)
-
--- one more behind them
-pub adds_adds : (n m k : ℕ) (s t u : State) → n + m ≤ k → Adds n s t → Adds m t u → Adds k s u
-adds_adds n m k s t u l a b = (b.0 ∙ a.0, λ h. b.1 (a.1 h), let x = a.2 in let y = b.2 in omega (arith, x, y, l))
-
-pub carried_adds : (s : State) (r : Result Core Refusal) → Given (Begins 0 s.core) r
-    → Given (Adds 0 s) (carried r s.queue)
-carried_adds s (Ok d) a = (a.0, λ h. h, let x = a.1 in omega (arith, x))
-carried_adds s (Err e) a = tt
-
-pub acted_adds : (s : State) (r : Steps) → Given (AddsFew s.core) r → Given (Adds 5 s) (acted r s.queue)
-acted_adds s (Ok x) a = (
-  a.0,
-  λ h. performed_goes_on x.actions s.queue h a.1,
-  let y =
-      a.2 in let z = tokens_performed x.actions s.queue in omega (arith, y, z),
-)
-acted_adds s (Err e) a = tt
-
--- a token is put into the queue
-pub put_adds : (s : State) (t : Piece) (d : Core) → IsNoEnd t.kind → Begins 0 s.core d
-    → Adds 1 s (acting (Put t) (changed d s))
-put_adds s t d k a = (
-  a.0,
-  λ h. place_goes_on s.queue.places t h k,
-  let x =
-      a.1 in let y = tokens_put s.queue.places t in omega (arith, x, y),
-)
-
--- the same, from another state
-pub adds_onward : (n m k : ℕ) (s t : State) (r : Result State Refusal) → n + m ≤ k → Adds n s t → Given (Adds m t) r
-    → Given (Adds k s) r
-adds_onward n m k s t (Ok u) l a b = adds_adds n m k s t u l a b
-adds_onward n m k s t (Err e) l a b = tt

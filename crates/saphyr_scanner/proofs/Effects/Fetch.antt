@@ -1,0 +1,217 @@
+-- What is done where a token is fetched, in one statement.
+use Rattle.std.proofs.Common.{◌≡◌, ℕ, ◌+◌, ◌≤◌, ◌<◌, Bool, true, false, List, [], ◌∷◌, ◌++◌, length, Result, Ok, Err, refl, sym, ap, ◌∙◌, arith, cond, subst}
+use Rattle.std.specs.Prelude.{◌&&◌, slice_index, ◌==◌, nat_lt, nat_le, Some, None}
+use Rattle.saphyr_input.specs.Classes.{is_bom, is_z}
+use Rattle.saphyr_input.specs.Places.{is_document_start, is_document_end}
+use Rattle.saphyr_scalar.specs.declared.scalar.position.Marker.{Marker}
+use Rattle.saphyr_scalar.specs.declared.scalar.fault.Refusal.{Refusal}
+use Rattle.saphyr_scalar.specs.declared.reading.block.BlockStyle.TheVariants as block_style
+use Rattle.saphyr_scalar.specs.Views.Cursor.{◌>>=◌}
+use Rattle.saphyr_scanner.specs.declared.engine.level.Context.TheVariants as context
+use Rattle.saphyr_scanner.specs.Grammar.Tokens as tokens
+use Rattle.saphyr_scanner.specs.Views.Tokens.{Piece}
+use Rattle.saphyr_scanner.specs.Steps.Queue.{Place, empty_piece, closed, next}
+use Rattle.saphyr_scanner.specs.Steps.Core.{Core, least_column, drop_far_key}
+use Rattle.saphyr_scanner.specs.Steps.Passing.{pass_gap}
+use Rattle.saphyr_scanner.specs.Steps.State.{State, carried}
+use Rattle.saphyr_scanner.specs.Steps.Unrolling.{unroll}
+use Rattle.saphyr_scanner.specs.Steps.Document as document
+use Rattle.saphyr_scanner.specs.Steps.Fetch.{size, step, content, fetch_here, arrive, begin, fetch, within, fetch_within, settled}
+use Rattle.saphyr_scanner.proofs.Steps.Choice.{cases}
+use Rattle.saphyr_scanner.proofs.Blocks.{unrolled_cursor}
+use Rattle.saphyr_scanner.proofs.Ordered.Queue.{Grows, grows_grows, core_grows, put_grows}
+use Rattle.saphyr_scanner.proofs.Added.Queue.{PlacesGoOn, place_goes_on, due, tokens_put}
+use Rattle.saphyr_scanner.proofs.Effects.Readers.{Readers, ReaderEnds}
+use Rattle.saphyr_scanner.proofs.Effects.Steps.{Effect, Goes, goes_none, gap_goes, drop_goes}
+use Rattle.saphyr_scanner.proofs.Effects.Flow.{start_effect, end_effect, entry_effect, value_effect, flow_value_effect}
+use Rattle.saphyr_scanner.proofs.Effects.Scalars.{block_entry_effect, key_effect, double_quoted_effect, single_quoted_effect, plain_effect, block_effect, name_effect, tag_effect}
+use Rattle.saphyr_scanner.proofs.Effects.States.{Advances, advances_advances, carried_advances, acted_advances, same_index, unroll_advances, is_marker, marker_advances, end_marker_advances, mark_advances, directive_advances}
+use Rattle.saphyr_input.proofs.Basics.Booleans.{by_test, and_true_right}
+use Rattle.saphyr_scalar.proofs.Given.{Given, given_bind, given_of}
+use Rattle.std.proofs.lemmas.Bool.{eqb-true}
+
+-- ## What begins at a place
+
+pub step_effect : (first second n : ℕ) (c : Core) → 0 < length c.cursor.rest → slice_index c.cursor.rest 0 ≡ first
+    → Given (Effect c) (step first second n c)
+step_effect first second n c h f =
+    cases (Given (Effect c)) first second n c (record {
+      sequence = λ _. start_effect context.FlowSequence tokens.FlowSequenceStart n c (λ i. absurd (cc)) h;
+      mapping = λ _. start_effect context.FlowMapping tokens.FlowMappingStart n c (λ i. absurd (cc)) h;
+      sequence_end = λ _. end_effect true tokens.FlowSequenceEnd c (λ i. absurd (cc)) h;
+      mapping_end = λ _. end_effect false tokens.FlowMappingEnd c (λ i. absurd (cc)) h;
+      comma = λ _. entry_effect c h;
+      dash = λ _ _. block_entry_effect c h;
+      question = λ _ _. key_effect c h;
+      colon = λ _ _. value_effect c h;
+      beside = λ _ _. flow_value_effect second c h;
+      double = λ e. double_quoted_effect n c (f ∙ e);
+      single = λ e. single_quoted_effect n c (f ∙ e);
+      alias = λ _. name_effect true n c h;
+      anchor = λ _. name_effect false n c h;
+      tag = λ e. tag_effect n c (f ∙ e);
+      literal = λ _ _. block_effect block_style.Literal n c h;
+      folded = λ _ _. block_effect block_style.Folded n c h;
+      reserved = tt;
+      plain = λ _. plain_effect n c;
+    })
+
+-- a place that shows no NUL is a character
+pub left : (t : List ℕ) → is_z (slice_index t 0) ≡ false → 0 < length t
+left [] e = absurd (cc)
+left (c ∷ cs) e = omega arith
+
+-- ## A token is fetched
+
+-- where the stream has ended, its end is the last token of the queue alone; else it is none of them
+abbrev pub Stands : Bool → List Place → Type 0
+Stands false ps = PlacesGoOn ps
+Stands true ps = (front : List Place) × (end : Piece) × PlacesGoOn front × (end.kind ≡ tokens.StreamEnd)
+    × (ps ≡ front ++ closed end ∷ [])
+
+abbrev pub Standing : State → Type 0
+Standing s = Stands s.core.ended s.queue.places
+
+-- from s, where the stream has not ended
+pub record Fetched (s t : State) : Type 0 where
+  pub smaller : Readers → size t.core < size s.core
+  pub grows : ReaderEnds → Grows s t
+  pub stands : PlacesGoOn s.queue.places → Standing t
+  pub few : due t ≤ due s + 5
+
+abbrev flag : Bool → ℕ
+flag b = cond b 0 1
+
+flags : (b c : Bool) → b ≡ c → flag b ≡ flag c
+flags b c e = ap flag e
+
+of_advances : (s : State) (r : Result State Refusal) → s.core.ended ≡ false → Given (Advances 1 s) r
+    → Given (Fetched s) r
+of_advances s (Ok t) going a = record {
+  smaller = λ laws. let x = a.less laws in
+      let b = flags t.core.started s.core.started a.started in
+      let e = flags t.core.ended s.core.ended a.ended in omega (arith, x, b, e);
+  grows = a.grows;
+  stands = λ h. let P : Bool → Type 0 = λ b. Stands b t.queue.places in subst P (sym (a.ended ∙ going)) (a.goes_on h);
+  few = a.few;
+}
+of_advances s (Err f) going a = tt
+
+-- the same, from another state
+onward : (s t : State) (r : Result State Refusal) → Advances 0 s t → Given (Fetched t) r → Given (Fetched s) r
+onward s t (Ok u) a b = record {
+  smaller = λ laws. let x = a.less laws in
+      let y = b.smaller laws in
+      let c = flags t.core.started s.core.started a.started in
+      let e = flags t.core.ended s.core.ended a.ended in omega (arith, x, y, c, e);
+  grows = λ laws. grows_grows s t u (a.grows laws) (b.grows laws);
+  stands = λ h. b.stands (a.goes_on h);
+  few = let x = a.few in let y = b.few in omega (arith, x, y);
+}
+onward s t (Err f) a b = tt
+
+finish_fetched : (m : Marker) (s : State) → s.core.ended ≡ false → m.index ≡ s.core.cursor.mark.index
+    → Fetched s (document.finish m s)
+finish_fetched m s going i = record {
+  smaller = λ _. let e = flags s.core.ended false going in omega (arith, e);
+  grows = λ _. put_grows s m tokens.StreamEnd (document.finished s.core) refl i;
+  stands = λ h. (s.queue.places, empty_piece m tokens.StreamEnd, h, refl, refl);
+  few = let x = tokens_put s.queue.places (empty_piece m tokens.StreamEnd) in omega (arith, x);
+}
+
+end_mark_index : (m : Marker) → (document.end_mark m).index ≡ m.index
+end_mark_index m = by_test (m.col == 0) _ _ (λ (k : Marker). k.index ≡ m.index) (λ _. refl) (λ _. omega arith)
+
+end_fetched : (s : State) → s.core.ended ≡ false → Given (Fetched s) (document.end_stream s)
+unfolding document.end_stream document.end_at
+end_fetched s going =
+    let m : Marker = document.end_mark s.core.cursor.mark in
+    let t : State = unroll None m s in
+    let i : m.index ≡ s.core.cursor.mark.index = end_mark_index s.core.cursor.mark in
+    let a = unroll_advances None m s i in
+    by_test (length s.core.cursor.rest == 0) _ _ (Given (Fetched s))
+    (λ _. by_test s.core.required _ _ (Given (Fetched s)) (λ _. tt)
+    (λ _. onward s t (Ok (document.finish m t)) a
+    (finish_fetched m t (a.ended ∙ going)
+    (same_index m s.core.cursor t.core.cursor (unrolled_cursor None m s) i))))
+    (λ _. tt)
+
+here_fetched : (s : State) → s.core.ended ≡ false → Given (Fetched s) (fetch_here s)
+unfolding fetch_here content
+here_fetched s going =
+    let t = s.core.cursor.rest in let P = Given (Fetched s) in
+    by_test (is_z (slice_index t 0)) _ _ P (λ _. end_fetched s going) (λ z. let h : 0 < length t = left t z in
+    by_test (is_bom (slice_index t 0)) _ _ P (λ _. of_advances s _ going (mark_advances s h))
+    (λ _. by_test ((s.core.cursor.mark.col == 0) && (slice_index t 0 == 37)) _ _ P
+    (λ e. of_advances s _ going (directive_advances s
+    (eqb-true (slice_index t 0) 37 (and_true_right (s.core.cursor.mark.col == 0) _ e))))
+    (λ _. by_test ((s.core.cursor.mark.col == 0) && is_document_start t) _ _ P
+    (λ e. of_advances s _ going (marker_advances tokens.DocumentStart s (λ i. absurd (cc))
+    (is_marker 45 t refl (and_true_right (s.core.cursor.mark.col == 0) _ e))))
+    (λ _. by_test ((s.core.cursor.mark.col == 0) && is_document_end t) _ _ P
+    (λ e. of_advances s _ going (end_marker_advances s
+    (is_marker 46 t refl (and_true_right (s.core.cursor.mark.col == 0) _ e))))
+    (λ _. by_test (nat_lt s.core.cursor.mark.col (least_column s.core)) _ _ P (λ _. tt)
+    (λ _. of_advances s _ going (acted_advances s (step (slice_index t 0) (slice_index t 1) (next s.queue) s.core)
+    (step_effect (slice_index t 0) (slice_index t 1) (next s.queue) s.core h refl))))))))
+
+pub arrive_advances : (s : State) → Given (Advances 0 s) (arrive s)
+unfolding arrive
+arrive_advances s =
+    let r = pass_gap s.core >>= drop_far_key in
+    let P : Core → Type 0 = Goes 0 s.core.cursor s.core in
+    let gone : Given P r = given_bind P (pass_gap s.core) drop_far_key
+    (λ c e. drop_goes 0 s.core.cursor s.core c
+    (given_of P (pass_gap s.core) c (gap_goes 0 s.core.cursor s.core s.core (goes_none s.core)) e)) in
+    given_bind (Advances 0 s) (carried r s.queue) _ (λ t e.
+    advances_advances 0 0 s t _ (given_of (Advances 0 s) (carried r s.queue) t (carried_advances s r gone) e)
+    (unroll_advances (Some t.core.cursor.mark.col) t.core.cursor.mark t refl))
+
+begin_fetched : (s : State) → s.core.started ≡ false → s.core.ended ≡ false → Given (Fetched s) (Ok (begin s))
+begin_fetched s first going = record {
+  smaller = λ _. let e = flags s.core.started false first in omega (arith, e);
+  grows = λ _. put_grows s s.core.cursor.mark tokens.StreamStart (record s.core { started = true }) refl refl;
+  stands = λ h.
+      let P : Bool → Type 0 = λ b. Stands b (begin s).queue.places in subst P (sym going)
+      (place_goes_on s.queue.places (empty_piece s.core.cursor.mark tokens.StreamStart) h (λ i. absurd (cc)));
+  few = let x = tokens_put s.queue.places (empty_piece s.core.cursor.mark tokens.StreamStart) in omega (arith, x);
+}
+
+fetch_fetched : (s : State) → s.core.ended ≡ false → Given (Fetched s) (fetch s)
+unfolding fetch
+fetch_fetched s going =
+    by_test s.core.started _ _ (Given (Fetched s))
+    (λ _. given_bind (Fetched s) (arrive s) fetch_here (λ t e.
+    let a = given_of (Advances 0 s) (arrive s) t (arrive_advances s) e in
+    onward s t (fetch_here t) a (here_fetched t (a.ended ∙ going))))
+    (λ first. begin_fetched s first going)
+
+within_fetched : (limit : ℕ) (s : State) → s.core.ended ≡ false → Given (Fetched s) (fetch_within limit s)
+unfolding fetch_within
+within_fetched limit s going =
+    given_bind (Fetched s) (fetch s) (within limit) (λ t e.
+    by_test (nat_le t.core.cursor.mark.index limit) _ _ (Given (Fetched s))
+    (λ _. given_of (Fetched s) (fetch s) t (fetch_fetched s going) e) (λ _. tt))
+
+pub settled_advances : (s : State) → Given (Advances 0 s) (settled s)
+settled_advances s =
+    carried_advances s (drop_far_key s.core) (drop_goes 0 s.core.cursor s.core s.core (goes_none s.core))
+
+-- and a candidate that is too far is dropped
+dropped : (s t : State) (r : Result Core Refusal) → Fetched s t → Given (Goes 0 t.core.cursor t.core) r
+    → Given (Fetched s) (carried r t.queue)
+dropped s t (Ok d) a g = record {
+  smaller = λ laws. let x = a.smaller laws in
+      let b = flags d.started t.core.started g.1.0 in
+      let e = flags d.ended t.core.ended g.1.1 in omega (arith, x, b, e, g.0.later, g.0.counted);
+  grows = λ laws. grows_grows s t _ (a.grows laws) (core_grows t _ g.0 refl);
+  stands = λ h. let P : Bool → Type 0 = λ b. Stands b t.queue.places in subst P (sym g.1.1) (a.stands h);
+  few = let x = a.few in let y = g.1.2 in omega (arith, x, y);
+}
+dropped s t (Err f) a g = tt
+
+pub read_fetched : (limit : ℕ) (s : State) → s.core.ended ≡ false → Given (Fetched s) (fetch_within limit s >>= settled)
+read_fetched limit s going =
+    given_bind (Fetched s) (fetch_within limit s) settled (λ t e.
+    dropped s t (drop_far_key t.core) (given_of (Fetched s) (fetch_within limit s) t (within_fetched limit s going) e)
+    (drop_goes 0 t.core.cursor t.core t.core (goes_none t.core)))
