@@ -1,17 +1,20 @@
 -- A place of the queue is opened.
 use Rattle.std.proofs.Common.{◌≡◌, ℕ, zero, suc, ◌≤◌, List, [], ◌∷◌, length, refl, ap, arith, ◌∙◌}
 use Rattle.std.specs.Prelude.{map, set, slice_index_or, Bool, true, false, if◌then◌else◌, ◌++◌}
-use Rattle.saphyr_scanner.specs.declared.queue.Place as declared
+use Rattle.saphyr_scanner.specs.declared.queue.place.Place as declared
 use Rattle.saphyr_scanner.specs.declared.queue.Opening.{Opening}
 use Rattle.saphyr_scanner.specs.Steps.Queue.{Place, opened}
 use Rattle.saphyr_scanner.specs.declared.queue.slot.Slot.{Slot}
+use Rattle.saphyr_scanner.proofs.Queues.{with_front}
 use Rattle.saphyr_scanner.specs.Views.Queue.{in_slot, place, slot_place}
 
-pub opened_is_set : (n : ℕ) (o : Opening) (ps : List declared.Place) (p : declared.Place)
-    → map place (set ps n (record (slice_index_or ps n p) { opening = o })) ≡ opened n o (map place ps)
-opened_is_set n o [] p = refl
-opened_is_set zero o (q ∷ qs) p = refl
-opened_is_set (suc n) o (q ∷ qs) p = ap (λ r. place q ∷ r) (opened_is_set n o qs p)
+-- where `r` is `q`, which stood at that place, with this in front of it
+pub opened_is_set : (n : ℕ) (o : Opening) (ps : List declared.Place) (q r : declared.Place)
+    → q ≡ slice_index_or ps n q → place r ≡ with_front o (place q).piece
+    → map place (set ps n r) ≡ opened n o (map place ps)
+opened_is_set n o [] q r e f = refl
+opened_is_set zero o (p ∷ ps) q r e f = ap (λ x. x ∷ map place ps) (f ∙ ap (λ x. with_front o (place x).piece) e)
+opened_is_set (suc n) o (p ∷ ps) q r e f = ap (λ x. place p ∷ x) (opened_is_set n o ps q r e f)
 
 pub opened_outside : (n : ℕ) (o : Opening) (ps : List declared.Place) → length ps ≤ n
     → opened n o (map place ps) ≡ map place ps

@@ -4,7 +4,6 @@
 mod engine;
 pub mod examples_law;
 mod gap;
-mod held_span;
 pub mod law;
 mod queue;
 mod scanner;

@@ -1,12 +1,15 @@
 //! Tokens that wait to be handed out, and what is told in front of one that turns out to be a key.
 
 mod cloning;
+mod near;
+mod place;
+mod short;
 mod slot;
 
 ghost use Rattle.std.specs.Prelude.{◌≡◌, false, Ok, OnOk, length};
 ghost use Rattle.saphyr_scanner.specs.Steps.Queue as spec;
 
-use crate::held_span::HeldSpan;
+use crate::queue::place::Place;
 use crate::queue::slot::Slot;
 use crate::token::{Token, TokenType};
 use saphyr_scalar::{Span, Stop};
@@ -23,16 +26,6 @@ pub(crate) enum Opening {
     BlockMappingAndKey,
     /// The same for a pair in a flow sequence, as in `[a: b]`, which is a mapping of its own.
     FlowMappingAndKey,
-}
-
-/// A token, and what stands in front of it.
-#[derive(Drop)]
-pub(crate) struct Place {
-    // What the token is, and where it stands.
-    kind: TokenType,
-    span: HeldSpan,
-    // What is handed out before it.
-    opening: Opening,
 }
 
 /// The tokens that were read and not handed out, in places that are numbered from the text's start.
@@ -119,18 +112,14 @@ impl Queue {
         ensures { OnOk result (queue self.new
             ≡ spec.put (record { span = span.now; kind = kind_of kind }) (queue self.old)) }
     {
-        let span = HeldSpan::new(alloc, span)?;
+        let place = Place::new(alloc, span, kind)?;
         self.places.reserve(1)?;
-        self.places.push_back_reserved(Place {
-            span,
-            kind,
-            opening: Opening::Nothing,
-        });
+        self.places.push_back_reserved(place);
         Ok(())
     }
 
     /// Tells what stands in front of the token at a place.
-    #[tactic(auto, using(crate::proofs::Places::opened_is_set, crate::proofs::Places::opened_outside))]
+    #[tactic(auto, using(crate::proofs::Places::opened_outside))]
     pub(crate) fn set_opening(&mut self, number: usize, opening: Opening)
         ensures { queue self.new ≡ spec.with_opening number opening (queue self.old) }
     {
@@ -150,13 +139,13 @@ impl Queue {
             nth -= 1;
         }
         if let Some(place) = self.places.get_mut(nth) {
-            place.opening = opening;
+            place.open(opening);
         }
     }
 
     // Takes the first place behind the slots off, if there is one, and writes its token into `token`.
     #[inline(always)]
-    fn take_place(&mut self, token: &mut Token) -> Result<bool, Stop>
+    fn take_place(&mut self, alloc: Global, token: &mut Token) -> Result<bool, Stop>
         requires first { self.old.first.is_full ≡ false }
         requires second { self.old.second.is_full ≡ false }
         ensures { Moves (λ taken. (option_map piece (written taken token.new), queue self.new))
@@ -169,14 +158,13 @@ impl Queue {
             return Ok(false);
         };
         self.handed = handed;
-        token.span = place.span.span();
-        token.kind = place.kind;
+        place.write_into(alloc, token)?;
         Ok(true)
     }
 
     // Takes the first token behind the slots off, if there is one, and writes it into `token`.
     #[inline(always)]
-    fn take_behind(&mut self, token: &mut Token) -> Result<bool, Stop>
+    fn take_behind(&mut self, alloc: Global, token: &mut Token) -> Result<bool, Stop>
         requires first { self.old.first.is_full ≡ false }
         requires second { self.old.second.is_full ≡ false }
         ensures { Moves (λ taken. (option_map piece (written taken token.new), queue self.new))
@@ -185,26 +173,26 @@ impl Queue {
         let Some(place) = self.places.front_mut() else {
             return Ok(false);
         };
-        let (kind, left) = match place.opening {
-            Opening::Nothing => return self.take_place(token),
+        let (kind, left) = match place.opening() {
+            Opening::Nothing => return self.take_place(alloc, token),
             Opening::Key => (TokenType::Key, Opening::Nothing),
             Opening::BlockMappingAndKey => (TokenType::BlockMappingStart, Opening::Key),
             Opening::FlowMappingAndKey => (TokenType::FlowMappingStart, Opening::Key),
         };
-        token.span = Span::empty(place.span.start());
+        token.span = Span::empty(place.start());
         token.kind = kind;
-        place.opening = left;
+        place.open(left);
         Ok(true)
     }
 
     /// Takes the first token off, if there is one, and writes it into `token`.
     #[inline(always)]
-    pub(crate) fn take_into(&mut self, token: &mut Token) -> Result<bool, Stop>
+    pub(crate) fn take_into(&mut self, alloc: Global, token: &mut Token) -> Result<bool, Stop>
         ensures { Moves (λ taken. (option_map piece (written taken token.new), queue self.new))
             result (Ok (spec.take (queue self.old))) }
     {
         if !self.first.is_full && !self.second.is_full {
-            return self.take_behind(token);
+            return self.take_behind(alloc, token);
         }
         if self.handed == usize::MAX {
             return Err(Stop::OutOfMemory);

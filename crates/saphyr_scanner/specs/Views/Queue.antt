@@ -1,25 +1,58 @@
 -- What contracts see of the queue.
-use Rattle.std.specs.Prelude.{map, if◌then◌else◌, List, ◌∷◌, Option, ℕ}
+use Rattle.std.specs.Prelude.{map, take, if◌then◌else◌, ◌+◌, List, ◌∷◌, ℕ, string_bytes}
 use Rattle.saphyr_scalar.specs.declared.scalar.position.Marker.{Marker}
 use Rattle.saphyr_scalar.specs.declared.scalar.position.Span.{Span}
-use Rattle.saphyr_scanner.specs.declared.held_span.NearMarker.{NearMarker}
-use Rattle.saphyr_scanner.specs.declared.held_span.HeldSpan.{HeldSpan}
-use Rattle.saphyr_scanner.specs.declared.held_span.HeldSpan.TheVariants.{Near, Far}
-use Rattle.saphyr_scanner.specs.declared.queue.Place as declared_place
+use Rattle.saphyr_scanner.specs.declared.queue.near.NearMarker.{NearMarker}
+use Rattle.saphyr_scanner.specs.declared.queue.place.Indicator.{Indicator}
+use Rattle.saphyr_scanner.specs.declared.queue.place.Indicator.TheVariants as indicator
+use Rattle.saphyr_scanner.specs.declared.queue.place.TextKind.{TextKind}
+use Rattle.saphyr_scanner.specs.declared.queue.place.TextKind.TheVariants as text
+use Rattle.saphyr_scanner.specs.declared.queue.place.Place as declared_place
+use Rattle.saphyr_scanner.specs.declared.queue.place.Place.TheVariants.{Bare, Short, Long, Tagged, Whole}
+use Rattle.saphyr_scanner.specs.declared.queue.Opening.{Opening}
 use Rattle.saphyr_scanner.specs.declared.queue.Queue as declared_queue
 use Rattle.saphyr_scanner.specs.declared.queue.slot.Slot.{Slot}
-use Rattle.saphyr_scanner.specs.Views.Tokens.{kind_of, piece}
+use Rattle.saphyr_scalar.specs.declared.scalar.style.ScalarStyle.TheVariants as style
+use Rattle.saphyr_scanner.specs.Grammar.Tokens as tokens
+use Rattle.saphyr_scanner.specs.Grammar.Tokens.{Kind}
+use Rattle.saphyr_scanner.specs.Views.Tokens.{piece}
 use Rattle.saphyr_scanner.specs.Steps.Queue.{Place, Queue}
 
 abbrev pub near_marker : NearMarker → Marker
 near_marker m = record { index = m.index; line = m.line; col = m.col }
 
-abbrev pub held_span : HeldSpan → Span
-held_span (Near start end) = record { start = near_marker start; end = near_marker end }
-held_span (Far span) = span.value
+-- the span on one line that begins at a place and has so many characters
+abbrev pub near_span : NearMarker → ℕ → Span
+near_span m n = record {
+  start = near_marker m;
+  end = record { index = m.index + n; line = m.line; col = m.col + n };
+}
+
+abbrev pub indicator_kind : Indicator → Kind
+indicator_kind indicator.SequenceStart = tokens.FlowSequenceStart
+indicator_kind indicator.SequenceEnd = tokens.FlowSequenceEnd
+indicator_kind indicator.MappingStart = tokens.FlowMappingStart
+indicator_kind indicator.MappingEnd = tokens.FlowMappingEnd
+indicator_kind indicator.Entry = tokens.FlowEntry
+indicator_kind indicator.Key = tokens.Key
+indicator_kind indicator.Value = tokens.Value
+
+abbrev pub text_kind : TextKind → List ℕ → Kind
+text_kind text.Alias bs = tokens.Alias bs
+text_kind text.Anchor bs = tokens.Anchor bs
+text_kind text.Plain bs = tokens.Scalar style.Plain bs
+text_kind text.SingleQuoted bs = tokens.Scalar style.SingleQuoted bs
+text_kind text.DoubleQuoted bs = tokens.Scalar style.DoubleQuoted bs
+
+abbrev pub on_line : Opening → NearMarker → ℕ → Kind → Place
+on_line o m n kind = record { opening = o; piece = record { span = near_span m n; kind = kind } }
 
 abbrev pub place : declared_place.Place → Place
-place p = record { opening = p.opening; piece = record { span = held_span p.span; kind = kind_of p.kind } }
+place (Bare o what n m) = on_line o m n (indicator_kind what)
+place (Short o what n m s) = on_line o m n (text_kind what (take s.count s.bytes))
+place (Long o what n m s) = on_line o m n (text_kind what (string_bytes s.value))
+place (Tagged o n m t) = on_line o m n (tokens.Tag (string_bytes t.value.handle) (string_bytes t.value.suffix))
+place (Whole o t) = record { opening = o; piece = piece t.value }
 
 abbrev pub slot_place : Slot → Place
 slot_place s = record { opening = s.opening; piece = piece s.token }

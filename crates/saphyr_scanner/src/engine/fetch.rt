@@ -222,6 +222,6 @@ impl<T: Input> Engine<T> {
         ensures { Moves (λ taken. (option_map piece (written taken token.new), state self.new))
             result (Ok (fetch.take (state self.old))) }
     {
-        self.queue.take_into(token)
+        self.queue.take_into(self.alloc, token)
     }
 }

@@ -3,17 +3,33 @@
 ghost use Rattle.std.specs.Prelude.{◌≡◌, IfOk};
 ghost use Rattle.saphyr_scanner.specs.Views.Queue.{place, queue};
 
-use crate::queue::{Place, Queue};
+use crate::queue::Queue;
+use crate::queue::place::Place;
 use std::alloc::AllocError;
 
 impl Clone for Place {
     ghost is_clone = { λ p q. place q ≡ place p };
 
     fn clone(&self) -> Result<Place, AllocError> {
-        Ok(Place {
-            kind: self.kind.try_clone()?,
-            span: self.span.try_clone()?,
-            opening: self.opening,
+        Ok(match self {
+            Place::Bare(opening, indicator, length, start) => {
+                Place::Bare(*opening, *indicator, *length, *start)
+            }
+            Place::Short(opening, what, length, start, text) => {
+                Place::Short(*opening, *what, *length, *start, *text)
+            }
+            Place::Long(opening, what, length, start, text) => {
+                Place::Long(*opening, *what, *length, *start, text.clone()?)
+            }
+            Place::Tagged(opening, length, start, tag) => {
+                Place::Tagged(*opening, *length, *start, tag.clone()?)
+            }
+            Place::Whole(opening, token) => {
+                Place::Whole(
+                    *opening,
+                    Box::new(*Box::allocator(token), token.try_clone()?)?,
+                )
+            }
         })
     }
 }

@@ -1,0 +1,69 @@
+//! Spans on one line. They are kept small, since the queue may hold all tokens of a text.
+
+ghost use Rattle.std.specs.Prelude.{◌≡◌, IfSome};
+ghost use Rattle.saphyr_scanner.specs.Views.Queue.{near_marker, near_span};
+
+use saphyr_scalar::{Marker, Span};
+
+/// A place whose numbers fit into 32 bits.
+#[derive(Clone, Copy, Debug, PartialEq, Eq)]
+pub(super) struct NearMarker {
+    index: u32,
+    line: u32,
+    col: u32,
+}
+
+impl NearMarker {
+    #[inline(always)]
+    fn new(mark: Marker) -> Option<NearMarker>
+        ensures { IfSome result (λ near. near_marker near ≡ mark) }
+    {
+        let index = u32::try_from(mark.index).ok()?;
+        let line = u32::try_from(mark.line).ok()?;
+        let col = u32::try_from(mark.col).ok()?;
+        Some(NearMarker { index, line, col })
+    }
+
+    #[inline(always)]
+    pub(super) fn marker(self) -> Marker
+        ensures { result ≡ near_marker self }
+    {
+        Marker {
+            index: self.index as usize,
+            line: self.line as usize,
+            col: self.col as usize,
+        }
+    }
+
+    /// The span that begins here and has so many characters on this line.
+    #[inline(always)]
+    pub(super) fn span(self, length: u8) -> Span
+        ensures { result ≡ near_span self length }
+    {
+        let start = self.marker();
+        let length = usize::from(length);
+        Span {
+            start,
+            end: Marker {
+                index: start.index + length,
+                line: start.line,
+                col: start.col + length,
+            },
+        }
+    }
+}
+
+/// The place where a span begins, and the span's characters, if they stand on one line and their count fits
+/// into a byte.
+#[inline(always)]
+pub(super) fn near(span: &Span) -> Option<(NearMarker, u8)>
+    ensures { IfSome result (λ found. near_span found.0 found.1 ≡ span.now) }
+{
+    let start = NearMarker::new(span.start)?;
+    let length = u8::try_from(span.end.index.checked_sub(span.start.index)?).ok()?;
+    if start.span(length) == *span {
+        Some((start, length))
+    } else {
+        None
+    }
+}

@@ -1,0 +1,219 @@
+//! A token that is held, and what stands in front of it. It is kept small, since the queue may hold all tokens of a
+//! text.
+
+ghost use Rattle.std.specs.Prelude.{◌≡◌, IfOk, OnOk, string_bytes};
+ghost use Rattle.saphyr_scanner.specs.Steps.Queue as spec;
+ghost use Rattle.saphyr_scanner.specs.Views.Queue.{indicator_kind, near_span, place, text_kind};
+ghost use Rattle.saphyr_scanner.specs.Views.Tokens.{kind_of, piece};
+
+use crate::queue::Opening;
+use crate::queue::near::{NearMarker, near};
+use crate::queue::short::ShortText;
+use crate::token::{Token, TokenType};
+use saphyr_scalar::scalar::TagParts;
+use saphyr_scalar::{Marker, ScalarStyle, Span};
+use std::alloc::{AllocError, Global};
+
+/// What the tokens of flow style are that have no text.
+#[derive(Clone, Copy, Debug, PartialEq, Eq)]
+pub(super) enum Indicator {
+    SequenceStart,
+    SequenceEnd,
+    MappingStart,
+    MappingEnd,
+    Entry,
+    Key,
+    Value,
+}
+
+impl Indicator {
+    #[inline(always)]
+    fn kind(self) -> TokenType
+        ensures { kind_of result ≡ indicator_kind self }
+    {
+        match self {
+            Indicator::SequenceStart => TokenType::FlowSequenceStart,
+            Indicator::SequenceEnd => TokenType::FlowSequenceEnd,
+            Indicator::MappingStart => TokenType::FlowMappingStart,
+            Indicator::MappingEnd => TokenType::FlowMappingEnd,
+            Indicator::Entry => TokenType::FlowEntry,
+            Indicator::Key => TokenType::Key,
+            Indicator::Value => TokenType::Value,
+        }
+    }
+}
+
+/// What a text on one line is.
+#[derive(Clone, Copy, Debug, PartialEq, Eq)]
+pub(super) enum TextKind {
+    Alias,
+    Anchor,
+    Plain,
+    SingleQuoted,
+    DoubleQuoted,
+}
+
+impl TextKind {
+    #[inline(always)]
+    fn kind(self, text: String) -> TokenType
+        ensures { kind_of result ≡ text_kind self (string_bytes text) }
+    {
+        match self {
+            TextKind::Alias => TokenType::Alias(text),
+            TextKind::Anchor => TokenType::Anchor(text),
+            TextKind::Plain => TokenType::Scalar(ScalarStyle::Plain, text),
+            TextKind::SingleQuoted => TokenType::Scalar(ScalarStyle::SingleQuoted, text),
+            TextKind::DoubleQuoted => TokenType::Scalar(ScalarStyle::DoubleQuoted, text),
+        }
+    }
+}
+
+/// A token, and in front of it what is handed out before it.
+///
+/// All but the last are tokens on one line, of which the place is kept, and how many characters they have. A place has
+/// 24 bytes, since the fields of one byte stand beside one another.
+#[derive(Drop)]
+pub(super) enum Place {
+    Bare(Opening, Indicator, u8, NearMarker),
+    Short(Opening, TextKind, u8, NearMarker, ShortText),
+    Long(Opening, TextKind, u8, NearMarker, Box<String>),
+    Tagged(Opening, u8, NearMarker, Box<TagParts>),
+    /// Any other token.
+    Whole(Opening, Box<Token>),
+}
+
+impl Place {
+    /// The place of a token, with nothing in front of it.
+    #[inline(always)]
+    pub(super) fn new(alloc: Global, span: &Span, kind: TokenType) -> Result<Place, AllocError>
+        ensures { IfOk result (λ p. place p
+            ≡ spec.closed (record { span = span.now; kind = kind_of kind })) }
+    {
+        let Some((start, length)) = near(span) else {
+            return Place::whole(alloc, span, kind);
+        };
+        let indicator = match kind {
+            TokenType::FlowSequenceStart => Indicator::SequenceStart,
+            TokenType::FlowSequenceEnd => Indicator::SequenceEnd,
+            TokenType::FlowMappingStart => Indicator::MappingStart,
+            TokenType::FlowMappingEnd => Indicator::MappingEnd,
+            TokenType::FlowEntry => Indicator::Entry,
+            TokenType::Key => Indicator::Key,
+            TokenType::Value => Indicator::Value,
+            kind => return Place::of_text(alloc, start, length, kind),
+        };
+        Ok(Place::Bare(Opening::Nothing, indicator, length, start))
+    }
+
+    // The same of a token on one line that is none of the indicators.
+    #[inline(always)]
+    fn of_text(
+        alloc: Global,
+        start: NearMarker,
+        length: u8,
+        kind: TokenType,
+    ) -> Result<Place, AllocError>
+        ensures { IfOk result (λ p. place p
+            ≡ spec.closed (record { span = near_span start length; kind = kind_of kind })) }
+    {
+        let (what, text) = match kind {
+            TokenType::Alias(name) => (TextKind::Alias, name),
+            TokenType::Anchor(name) => (TextKind::Anchor, name),
+            TokenType::Scalar(ScalarStyle::Plain, text) => (TextKind::Plain, text),
+            TokenType::Scalar(ScalarStyle::SingleQuoted, text) => (TextKind::SingleQuoted, text),
+            TokenType::Scalar(ScalarStyle::DoubleQuoted, text) => (TextKind::DoubleQuoted, text),
+            TokenType::Tag(tag) => return Ok(Place::Tagged(Opening::Nothing, length, start, tag)),
+            kind => return Place::whole(alloc, &start.span(length), kind),
+        };
+        if let Some(short) = ShortText::new(&text) {
+            return Ok(Place::Short(Opening::Nothing, what, length, start, short));
+        }
+        let text = Box::new(alloc, text)?;
+        Ok(Place::Long(Opening::Nothing, what, length, start, text))
+    }
+
+    // The same of any token.
+    fn whole(alloc: Global, span: &Span, kind: TokenType) -> Result<Place, AllocError>
+        ensures { IfOk result (λ p. place p
+            ≡ spec.closed (record { span = span.now; kind = kind_of kind })) }
+    {
+        let token = Box::new(alloc, Token { span: *span, kind })?;
+        Ok(Place::Whole(Opening::Nothing, token))
+    }
+
+    /// What stands in front of the token.
+    #[inline(always)]
+    pub(super) fn opening(&self) -> Opening
+        ensures { result ≡ (place self.now).opening }
+    {
+        match self {
+            Place::Bare(opening, _, _, _) => *opening,
+            Place::Short(opening, _, _, _, _) => *opening,
+            Place::Long(opening, _, _, _, _) => *opening,
+            Place::Tagged(opening, _, _, _) => *opening,
+            Place::Whole(opening, _) => *opening,
+        }
+    }
+
+    /// Tells what stands in front of the token.
+    #[inline(always)]
+    pub(super) fn open(&mut self, before: Opening)
+        ensures { place self.new ≡ record { opening = before; piece = (place self.old).piece } }
+    {
+        match self {
+            Place::Bare(opening, _, _, _) => *opening = before,
+            Place::Short(opening, _, _, _, _) => *opening = before,
+            Place::Long(opening, _, _, _, _) => *opening = before,
+            Place::Tagged(opening, _, _, _) => *opening = before,
+            Place::Whole(opening, _) => *opening = before,
+        }
+    }
+
+    /// Where the token begins.
+    #[inline(always)]
+    pub(super) fn start(&self) -> Marker
+        ensures { result ≡ (place self.now).piece.span.start }
+    {
+        match self {
+            Place::Bare(_, _, _, start) => start.marker(),
+            Place::Short(_, _, _, start, _) => start.marker(),
+            Place::Long(_, _, _, start, _) => start.marker(),
+            Place::Tagged(_, _, start, _) => start.marker(),
+            Place::Whole(_, token) => token.span.start,
+        }
+    }
+
+    /// Writes the token into `token`.
+    #[inline(always)]
+    pub(super) fn write_into(self, alloc: Global, token: &mut Token) -> Result<(), AllocError>
+        ensures { OnOk result (piece token.new ≡ (place self).piece) }
+    {
+        match self {
+            Place::Bare(_, indicator, length, start) => {
+                token.span = start.span(length);
+                token.kind = indicator.kind();
+            }
+            Place::Short(_, what, length, start, text) => {
+                token.span = start.span(length);
+                token.kind = what.kind(text.to_string(alloc)?);
+            }
+            Place::Long(_, what, length, start, text) => {
+                token.span = start.span(length);
+                token.kind = what.kind(Box::into_inner(text));
+            }
+            Place::Tagged(_, length, start, tag) => {
+                token.span = start.span(length);
+                token.kind = TokenType::Tag(tag);
+            }
+            Place::Whole(_, whole) => {
+                let Token { span, kind } = Box::into_inner(whole);
+                token.span = span;
+                token.kind = kind;
+            }
+        }
+        Ok(())
+    }
+}
+
+// Texts that hold all their tokens have one for each byte or two.
+const _: () = prove!(size_of::<Place>() == 24);
