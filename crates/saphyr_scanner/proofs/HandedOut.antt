@@ -1,5 +1,5 @@
 -- Fetching a token does the same whether the first places were handed out before or not.
-use Rattle.std.proofs.Common.{◌≡◌, ℕ, zero, suc, ◌-◌, ◌≤◌, Bool, true, false, List, [], ◌∷◌, ◌++◌, length, Result, Ok, Err, refl, sym, ap, ◌∙◌, subst, cond, arith, append_assoc, length-append}
+use Rattle.std.proofs.Common.{◌≡◌, ℕ, zero, suc, ◌-◌, ◌≤◌, ◌<◌, Bool, true, false, List, [], ◌∷◌, ◌++◌, length, Result, Ok, Err, refl, sym, ap, ◌∙◌, subst, cond, arith, append_assoc, length-append}
 use Rattle.std.specs.Prelude.{◌&&◌, ◌||◌, slice_index, not, ◌==◌, nat_lt, nat_le, Option, Some, None}
 use Rattle.saphyr_input.specs.Classes.{is_bom, is_z, is_breakz}
 use Rattle.saphyr_input.specs.Places.{is_document_start, is_document_end}
@@ -18,8 +18,13 @@ use Rattle.saphyr_scanner.specs.Steps.State.{State, carried, acted, separated}
 use Rattle.saphyr_scanner.specs.Steps.Unrolling.{unroll, end_blocks, end_block, is_right_of, outwards, less_deep}
 use Rattle.saphyr_scanner.specs.Steps.Document as document
 use Rattle.saphyr_scanner.specs.Steps.Fetch.{step, content, fetch_here, arrive, fetch, within, fetch_within, settled}
-use Rattle.saphyr_scanner.proofs.Taken.Candidates.{Above, ActionsAbove, Keeps, behind, step_keeps, directive_keeps, gap_above, drop_above, remove_above, separate_above}
-use Rattle.saphyr_scalar.proofs.Given.{Given}
+use Rattle.saphyr_scalar.specs.Steps.Directive as directives
+use Rattle.saphyr_scanner.proofs.Taken.Candidates.{Above, ActionsAbove, Keeps}
+use Rattle.saphyr_scanner.proofs.Taken.Separated.{given_map}
+use Rattle.saphyr_scanner.proofs.Effects.Steps as effects
+use Rattle.saphyr_scanner.proofs.Effects.Fetch.{left, step_effect, arrival_goes}
+use Rattle.saphyr_scalar.proofs.Given.{Given, given_bind}
+use Rattle.saphyr_scalar.proofs.Breaks.Results.{both_by}
 
 -- the first queue holds these places, and in the second they were handed out
 pub record Behind (hs : List Place) (q p : Queue) : Type 0 where
@@ -107,10 +112,10 @@ acted_same : (hs : List Place) (r : Steps) (q p : Queue) → Behind hs q p → G
 acted_same hs (Ok x) q p b k = record { core = refl; queue = acts_behind hs x.actions q p b k.1; above = k.0 }
 acted_same hs (Err e) q p b k = refl
 
-carried_same : (hs : List Place) (r : Result Core Refusal) (q p : Queue) → Behind hs q p → Given (Above (length hs)) r
-    → Same hs (carried r q) (carried r p)
-carried_same hs (Ok c) q p b k = record { core = refl; queue = b; above = k }
-carried_same hs (Err e) q p b k = refl
+carried_same : (hs : List Place) (c : Core) (r : Result Core Refusal) (q p : Queue) → Behind hs q p
+    → Above (length hs) c → Given (effects.Goes 0 c.cursor c) r → Same hs (carried r q) (carried r p)
+carried_same hs c (Ok d) q p b k g = record { core = refl; queue = b; above = g.1.3 (length hs) k }
+carried_same hs c (Err e) q p b k g = refl
 
 -- ## Unrolling
 
@@ -149,7 +154,8 @@ unroll_goes hs column m c q p b k =
 -- ## Documents
 
 removal_agrees : (hs : List Place) → Agrees hs document.remove_key_of
-removal_agrees hs c q p b k = carried_same hs (remove_key c) q p b (remove_above (length hs) c k)
+removal_agrees hs c q p b k = carried_same hs c (remove_key c) q p b k
+    (effects.remove_goes 0 c.cursor c c (effects.goes_none c))
 
 content_ends : (hs : List Place) → Agrees hs document.end_content
 unfolding document.end_content
@@ -167,14 +173,14 @@ unfolding document.end_marker document.end_line
 end_marker_agrees hs c q p b k =
     same_then hs (document.marker tokens.DocumentEnd (at c q)) (document.marker tokens.DocumentEnd (at c p)) _
     (marker_agrees hs tokens.DocumentEnd c q p b k)
-    (λ d r s e a. line (separate d) d r s e (separate_above (length hs) d a))
+    (λ d r s e a. line (separate d) d r s e a (effects.separate_goes 0 d.cursor d d (effects.goes_none d)))
   where
-    line : (x : Result (SkipTabs × Core) Refusal) (d : Core) (r s : Queue) → Behind hs r s
-        → Given (λ y. Above (length hs) y.1) x
+    line : (x : Result (SkipTabs × Core) Refusal) (d : Core) (r s : Queue) → Behind hs r s → Above (length hs) d
+        → Given (λ y. effects.Goes 0 d.cursor d y.1) x
         → Same hs (separated x (at d r) >>= document.end_line) (separated x (at d s) >>= document.end_line)
-    line (Ok x) d r s e a = same_if hs (is_breakz (slice_index x.1.cursor.rest 0)) _ _ _ _
-        (record { core = refl; queue = e; above = a }) refl
-    line (Err f) d r s e a = refl
+    line (Ok x) d r s e a g = same_if hs (is_breakz (slice_index x.1.cursor.rest 0)) _ _ _ _
+        (record { core = refl; queue = e; above = g.1.3 (length hs) a }) refl
+    line (Err f) d r s e a g = refl
 
 mark_agrees : (hs : List Place) → Agrees hs document.byte_order_mark
 unfolding document.byte_order_mark
@@ -198,15 +204,22 @@ stream_agrees hs c q p b k =
 
 -- ## What begins at a place
 
-content_agrees : (hs : List Place) (first second : ℕ) → Agrees hs (content first second)
+content_same : (hs : List Place) (first second : ℕ) (c : Core) (q p : Queue) → 0 < length c.cursor.rest
+    → slice_index c.cursor.rest 0 ≡ first → Behind hs q p → Above (length hs) c
+    → Same hs (content first second (at c q)) (content first second (at c p))
 unfolding content
-content_agrees hs first second c q p b k =
+content_same hs first second c q p some f b k =
     let n : next q ≡ next p = same_next hs q p b in
     let places = ap length b.places in let l = length-append hs p.places in
     let before : length hs ≤ next q = omega (arith, places, l) in
     let told = acted_same hs (step first second (next q) c) q p b
-    (step_keeps (length hs) first second (next q) c before k) in
+    (given_map _ _ (step first second (next q) c) (λ x e. e.keeps (length hs) (before, k))
+    (step_effect first second (next q) c some f)) in
     subst (λ (m : ℕ). Same hs (acted (step first second (next q) c) q) (acted (step first second m c) p)) n told
+
+directive_keeps : (h : ℕ) (c : Core) → Above h c → Given (Keeps h) (document.read_directive c)
+unfolding document.read_directive
+directive_keeps h c k = given_bind (Keeps h) (directives.directive c.cursor) _ (λ x e. (k, tt))
 
 directive_agrees : (hs : List Place) → Agrees hs document.directive
 unfolding document.directive
@@ -218,22 +231,20 @@ here_agrees : (hs : List Place) → Agrees hs fetch_here
 unfolding fetch_here
 here_agrees hs c q p b k =
     let t = c.cursor.rest in
-    same_if hs (is_z (slice_index t 0)) _ _ _ _ (stream_agrees hs c q p b k)
-    (same_if hs (is_bom (slice_index t 0)) _ _ _ _ (mark_agrees hs c q p b k)
+    both_by (is_z (slice_index t 0)) _ _ _ _ _ (Same hs) refl (λ _ _. stream_agrees hs c q p b k)
+    (λ z _. same_if hs (is_bom (slice_index t 0)) _ _ _ _ (mark_agrees hs c q p b k)
     (same_if hs ((c.cursor.mark.col == 0) && (slice_index t 0 == 37)) _ _ _ _ (directive_agrees hs c q p b k)
     (same_if hs ((c.cursor.mark.col == 0) && is_document_start t) _ _ _ _
     (marker_agrees hs tokens.DocumentStart c q p b k)
     (same_if hs ((c.cursor.mark.col == 0) && is_document_end t) _ _ _ _ (end_marker_agrees hs c q p b k)
     (same_if hs (nat_lt c.cursor.mark.col (least_column c)) _ _ _ _ refl
-    (content_agrees hs (slice_index t 0) (slice_index t 1) c q p b k))))))
+    (content_same hs (slice_index t 0) (slice_index t 1) c q p (left t z) refl b k))))))
 
 arrive_agrees : (hs : List Place) → Agrees hs arrive
 unfolding arrive
 arrive_agrees hs c q p b k =
-    let h : ℕ = length hs in
-    let reached = behind h (Above h) (pass_gap c) drop_far_key (gap_above h c k) (λ d a. drop_above h d a) in
     same_then hs (carried (pass_gap c >>= drop_far_key) q) (carried (pass_gap c >>= drop_far_key) p) _
-    (carried_same hs _ q p b reached)
+    (carried_same hs c _ q p b k (arrival_goes c))
     (λ d r s e a. unroll_goes hs (Some d.cursor.mark.col) d.cursor.mark d r s e a)
 
 fetch_agrees : (hs : List Place) → Agrees hs fetch
@@ -248,7 +259,8 @@ within_agrees hs limit c q p b k =
     same_if hs (nat_le c.cursor.mark.index limit) _ _ _ _ (record { core = refl; queue = b; above = k }) refl
 
 settled_agrees : (hs : List Place) → Agrees hs settled
-settled_agrees hs c q p b k = carried_same hs (drop_far_key c) q p b (drop_above (length hs) c k)
+settled_agrees hs c q p b k = carried_same hs c (drop_far_key c) q p b k
+    (effects.drop_goes 0 c.cursor c c (effects.goes_none c))
 
 -- a token that is fetched, and the candidate of its line dropped where it is too far
 pub read_agrees : (hs : List Place) (limit : ℕ) → Agrees hs (λ s. fetch_within limit s >>= settled)

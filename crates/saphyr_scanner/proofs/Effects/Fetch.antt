@@ -11,7 +11,7 @@ use Rattle.saphyr_scanner.specs.declared.engine.level.Context.TheVariants as con
 use Rattle.saphyr_scanner.specs.Grammar.Tokens as tokens
 use Rattle.saphyr_scanner.specs.Views.Tokens.{Piece}
 use Rattle.saphyr_scanner.specs.Steps.Queue.{Place, empty_piece, closed, next}
-use Rattle.saphyr_scanner.specs.Steps.Core.{Core, least_column, drop_far_key}
+use Rattle.saphyr_scanner.specs.Steps.Core.{Core, Steps, least_column, drop_far_key}
 use Rattle.saphyr_scanner.specs.Steps.Passing.{pass_gap}
 use Rattle.saphyr_scanner.specs.Steps.State.{State, carried}
 use Rattle.saphyr_scanner.specs.Steps.Unrolling.{unroll}
@@ -22,7 +22,7 @@ use Rattle.saphyr_scanner.proofs.Blocks.{unrolled_cursor}
 use Rattle.saphyr_scanner.proofs.Ordered.Queue.{Grows, grows_grows, core_grows, put_grows}
 use Rattle.saphyr_scanner.proofs.Added.Queue.{PlacesGoOn, place_goes_on, due, tokens_put}
 use Rattle.saphyr_scanner.proofs.Effects.Readers.{Readers, ReaderEnds}
-use Rattle.saphyr_scanner.proofs.Effects.Steps.{Effect, Goes, goes_none, gap_goes, drop_goes}
+use Rattle.saphyr_scanner.proofs.Effects.Steps.{Effect, EffectAt, from_more, Goes, goes_none, gap_goes, drop_goes}
 use Rattle.saphyr_scanner.proofs.Effects.Flow.{start_effect, end_effect, entry_effect, value_effect, flow_value_effect}
 use Rattle.saphyr_scanner.proofs.Effects.Scalars.{block_entry_effect, key_effect, double_quoted_effect, single_quoted_effect, plain_effect, block_effect, name_effect, tag_effect}
 use Rattle.saphyr_scanner.proofs.Effects.States.{Advances, advances_advances, carried_advances, acted_advances, same_index, unroll_advances, is_marker, marker_advances, end_marker_advances, mark_advances, directive_advances}
@@ -33,18 +33,20 @@ use Rattle.std.proofs.lemmas.Bool.{eqb-true}
 -- ## What begins at a place
 
 pub step_effect : (first second n : ℕ) (c : Core) → 0 < length c.cursor.rest → slice_index c.cursor.rest 0 ≡ first
-    → Given (Effect c) (step first second n c)
+    → Given (EffectAt n c) (step first second n c)
 step_effect first second n c h f =
-    cases (Given (Effect c)) first second n c (record {
+    let still : (r : Steps) → Given (Effect c) r → Given (EffectAt n c) r =
+    λ r e. from_more _ _ (λ i a. a.1) c r e in
+    cases (Given (EffectAt n c)) first second n c (record {
       sequence = λ _. start_effect context.FlowSequence tokens.FlowSequenceStart n c (λ i. absurd (cc)) h;
       mapping = λ _. start_effect context.FlowMapping tokens.FlowMappingStart n c (λ i. absurd (cc)) h;
-      sequence_end = λ _. end_effect true tokens.FlowSequenceEnd c (λ i. absurd (cc)) h;
-      mapping_end = λ _. end_effect false tokens.FlowMappingEnd c (λ i. absurd (cc)) h;
-      comma = λ _. entry_effect c h;
-      dash = λ _ _. block_entry_effect c h;
-      question = λ _ _. key_effect c h;
-      colon = λ _ _. value_effect c h;
-      beside = λ _ _. flow_value_effect second c h;
+      sequence_end = λ _. still _ (end_effect true tokens.FlowSequenceEnd c (λ i. absurd (cc)) h);
+      mapping_end = λ _. still _ (end_effect false tokens.FlowMappingEnd c (λ i. absurd (cc)) h);
+      comma = λ _. still _ (entry_effect c h);
+      dash = λ _ _. still _ (block_entry_effect c h);
+      question = λ _ _. still _ (key_effect c h);
+      colon = λ _ _. still _ (value_effect c h);
+      beside = λ _ _. still _ (flow_value_effect second c h);
       double = λ e. double_quoted_effect n c (f ∙ e);
       single = λ e. single_quoted_effect n c (f ∙ e);
       alias = λ _. name_effect true n c h;
@@ -152,19 +154,23 @@ here_fetched s going =
     (λ e. of_advances s _ going (end_marker_advances s
     (is_marker 46 t refl (and_true_right (s.core.cursor.mark.col == 0) _ e))))
     (λ _. by_test (nat_lt s.core.cursor.mark.col (least_column s.core)) _ _ P (λ _. tt)
-    (λ _. of_advances s _ going (acted_advances s (step (slice_index t 0) (slice_index t 1) (next s.queue) s.core)
+    (λ _. of_advances s _ going (acted_advances _ s (step (slice_index t 0) (slice_index t 1) (next s.queue) s.core)
     (step_effect (slice_index t 0) (slice_index t 1) (next s.queue) s.core h refl))))))))
+
+-- what stands before the next token is passed
+pub arrival_goes : (c : Core) → Given (Goes 0 c.cursor c) (pass_gap c >>= drop_far_key)
+arrival_goes c =
+    given_bind (Goes 0 c.cursor c) (pass_gap c) drop_far_key
+    (λ d e. drop_goes 0 c.cursor c d
+    (given_of (Goes 0 c.cursor c) (pass_gap c) d (gap_goes 0 c.cursor c c (goes_none c)) e))
 
 pub arrive_advances : (s : State) → Given (Advances 0 s) (arrive s)
 unfolding arrive
 arrive_advances s =
     let r = pass_gap s.core >>= drop_far_key in
-    let P : Core → Type 0 = Goes 0 s.core.cursor s.core in
-    let gone : Given P r = given_bind P (pass_gap s.core) drop_far_key
-    (λ c e. drop_goes 0 s.core.cursor s.core c
-    (given_of P (pass_gap s.core) c (gap_goes 0 s.core.cursor s.core s.core (goes_none s.core)) e)) in
     given_bind (Advances 0 s) (carried r s.queue) _ (λ t e.
-    advances_advances 0 0 s t _ (given_of (Advances 0 s) (carried r s.queue) t (carried_advances s r gone) e)
+    advances_advances 0 0 s t _
+    (given_of (Advances 0 s) (carried r s.queue) t (carried_advances s r (arrival_goes s.core)) e)
     (unroll_advances (Some t.core.cursor.mark.col) t.core.cursor.mark t refl))
 
 begin_fetched : (s : State) → s.core.started ≡ false → s.core.ended ≡ false → Given (Fetched s) (Ok (begin s))

@@ -14,7 +14,8 @@ use Rattle.saphyr_scanner.specs.Steps.Value as value
 use Rattle.saphyr_scanner.specs.Steps.Fetch as fetching
 use Rattle.saphyr_scanner.proofs.Counted.{stays}
 use Rattle.saphyr_scanner.proofs.Added.Queue.{IsNoEnd}
-use Rattle.saphyr_scanner.proofs.Effects.Steps.{Read, one, read_on, whole, Effect, effect, one_put, Begins, begins_none, Goes, behind_blanks, roll_goes, behind_saving}
+use Rattle.saphyr_scanner.proofs.Taken.Candidates.{KeyAbove, LevelsAbove, Above}
+use Rattle.saphyr_scanner.proofs.Effects.Steps.{Read, one, read_on, whole, Effect, EffectAt, from_more, effect, one_put, Begins, begins_none, begins_forgotten, Goes, behind_blanks, roll_goes, behind_saving}
 use Rattle.saphyr_input.proofs.Basics.Booleans.{by_test}
 use Rattle.saphyr_scalar.proofs.Given.{Given, given_bind, given_of}
 
@@ -43,18 +44,20 @@ unfolding flow.open_collection
 open_effect x kind c k h =
     by_test (nat_le 255 (length c.outer)) _ _ (Given (Effect c)) (λ _. tt)
     (λ _. behind_blanks (Effect c) 0 (pass 1 c.cursor) c (pass_on 1 (flow.enter x c)) _
-    (behind_one 0 c (flow.enter x c) refl (begins_none c)) (λ e g. indicator false c e.1 kind k h g))
+    (behind_one 0 c (flow.enter x c) refl (refl, refl, omega arith, λ i a. (tt, a)))
+    (λ e g. indicator false c e.1 kind k h g))
 
 pub start_effect : (x : Context) (kind : Kind) (n : ℕ) (c : Core) → IsNoEnd kind → 0 < length c.cursor.rest
-    → Given (Effect c) (flow.start x kind n c)
+    → Given (EffectAt n c) (flow.start x kind n c)
 unfolding flow.start
 start_effect x kind n c k h =
     behind_saving n c (λ s. 0 < length s.rest) (λ d. flow.open_collection x kind (go_deeper d)) h
     (λ d some. open_effect x kind (go_deeper d) k some)
 
-left_goes : (ls : List Level) (c : Core) → Goes 0 (pass 1 c.cursor) c (pass_on 1 (flow.leave_to ls c))
-left_goes [] c = behind_one 0 c (flow.leave_to [] c) refl (begins_none c)
-left_goes (l ∷ ls) c = behind_one 0 c (flow.leave_to (l ∷ ls) c) refl (begins_none c)
+left_goes : (ls : List Level) (c : Core) → ((h : ℕ) → LevelsAbove h c.outer → LevelsAbove h ls)
+    → Goes 0 (pass 1 c.cursor) c (pass_on 1 (flow.leave_to ls c))
+left_goes [] c w = behind_one 0 c (flow.leave_to [] c) refl (refl, refl, omega arith, λ h a. (tt, tt))
+left_goes (l ∷ ls) c w = behind_one 0 c (flow.leave_to (l ∷ ls) c) refl (refl, refl, omega arith, λ h a. w h a.1)
 
 -- behind what is closed a colon may stand at once
 with_adjacent : (c d : Core) (actions : List Action) → Effect c (record { core = d; actions = actions })
@@ -69,13 +72,14 @@ with_adjacent c d actions x =
       ended = x.ended;
       goes_on = x.goes_on;
       few = x.few;
+      keeps = x.keeps;
     })
 
 close_effect : (ends : Bool) (kind : Kind) (c : Core) → IsNoEnd kind → 0 < length c.cursor.rest
     → Given (Effect c) (flow.close_collection ends kind c)
 unfolding flow.close_collection
 close_effect ends kind c k h =
-    behind_blanks (Effect c) 0 (pass 1 c.cursor) c (pass_on 1 (flow.leave c)) _ (left_goes c.outer c)
+    behind_blanks (Effect c) 0 (pass 1 c.cursor) c (pass_on 1 (flow.leave c)) _ (left_goes c.outer c (λ i a. a))
     (λ e g. with_adjacent c e.1 _ (indicator ends c e.1 kind k h g))
 
 pub end_effect : (sequence : Bool) (kind : Kind) (c : Core) → IsNoEnd kind → 0 < length c.cursor.rest
@@ -96,7 +100,7 @@ pub entry_effect : (c : Core) → 0 < length c.cursor.rest → Given (Effect c) 
 unfolding flow.entry remove_key
 entry_effect c h =
     by_test (in_block c && c.required) _ _ (λ r. Given (Effect c) (r >>= flow.next_entry)) (λ _. tt)
-    (λ _. next_entry_effect _ h)
+    (λ _. from_more _ _ (λ i a. (tt, a.1)) c (flow.next_entry _) (next_entry_effect _ h))
 
 -- ## Values
 
@@ -123,29 +127,31 @@ alone_effect true true c d r g =
     effect 2 c d _ _ _ r g
     (λ laws. let w = (r.span laws).ends in
     (omega arith, omega arith, (omega arith, omega arith, (omega arith, omega arith, w))))
-    (λ i. absurd (cc), (λ i. absurd (cc), (λ i. absurd (cc), tt))) (omega arith)
+    (λ i. absurd (cc), (λ i. absurd (cc), (λ i. absurd (cc), tt))) (omega arith) (λ h x. tt)
 alone_effect true false c d r g =
     effect 2 c d _ _ _ r g
     (λ laws. let w = (r.span laws).ends in (omega arith, omega arith, (omega arith, omega arith, w)))
-    (λ i. absurd (cc), (λ i. absurd (cc), tt)) (omega arith)
+    (λ i. absurd (cc), (λ i. absurd (cc), tt)) (omega arith) (λ h x. tt)
 alone_effect false true c d r g =
     effect 2 c d _ _ _ r g
     (λ laws. let w = (r.span laws).ends in (omega arith, omega arith, (omega arith, omega arith, w)))
-    (λ i. absurd (cc), (λ i. absurd (cc), tt)) (omega arith)
+    (λ i. absurd (cc), (λ i. absurd (cc), tt)) (omega arith) (λ h x. tt)
 alone_effect false false c d r g =
     effect 2 c d _ _ _ r g (λ laws. let w = (r.span laws).ends in (omega arith, omega arith, w))
-    (λ i. absurd (cc), tt) (omega arith)
+    (λ i. absurd (cc), tt) (omega arith) (λ h x. tt)
 
 value_effect_of : (k : Option Candidate) (begins : Bool) (c d : Core) → 0 < length c.cursor.rest
-    → Goes 0 (pass 1 c.cursor) c d → Given (Effect c) (value.behind_key k begins c.cursor.mark d)
+    → ((i : ℕ) → Above i d → KeyAbove i k) → Goes 0 (pass 1 c.cursor) c d
+    → Given (Effect c) (value.behind_key k begins c.cursor.mark d)
 unfolding value.behind_key value.of_key value.alone value.begin_alone
-value_effect_of (Some k) begins c d h g =
+value_effect_of (Some k) begins c d h w g =
     by_test (begins && nat_lt k.mark.line c.cursor.mark.line) _ _ (Given (Effect c)) (λ _. tt)
     (λ _. let p = roll_goes k.mark.col (pass 1 c.cursor) c d g in
     let r = read_on c.cursor _ _ (pass 1 c.cursor) (roll k.mark.col d).cursor (one c.cursor h) p.0 in
-    effect 2 c _ _ _ _ r p.1 (λ laws. let w = (r.span laws).ends in (omega arith, omega arith, w))
-    (λ i. absurd (cc), tt) (omega arith))
-value_effect_of None begins c d h g =
+    effect 2 c _ _ _ _ r (begins_forgotten 2 c (roll k.mark.col d) p.1)
+    (λ laws. let y = (r.span laws).ends in (omega arith, omega arith, y)) (λ i. absurd (cc), tt) (omega arith)
+    (λ i a. (w i (g.1.3 i a), tt)))
+value_effect_of None begins c d h w g =
     by_test (in_block d && not d.key_allowed) _ _ (Given (Effect c)) (λ _. tt)
     (λ _. let p = roll_goes c.cursor.mark.col (pass 1 c.cursor) c d g in
     alone_effect begins (is_further c.cursor.mark.col d) c _
@@ -156,7 +162,7 @@ unfolding value.fetch
 value_effect c h =
     let d : Core = with_context (value.behind_colon c.level.context) c in
     given_bind (Effect c) (value.check_tab (pass_on 1 d)) _ (λ e q.
-    value_effect_of e.level.key (value.begins_pair c.level.context) c e h
+    value_effect_of e.level.key (value.begins_pair c.level.context) c e h (λ i a. a.0)
     (given_of (Goes 0 (pass 1 c.cursor) c) (value.check_tab (pass_on 1 d)) e
     (tab_goes (pass 1 c.cursor) c (pass_on 1 d) (behind_one 0 c d refl (begins_none c))) q))
 

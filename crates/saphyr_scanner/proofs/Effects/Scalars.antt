@@ -24,7 +24,7 @@ use Rattle.saphyr_scanner.specs.Steps.Scalar as scalar
 use Rattle.saphyr_scanner.proofs.Counted.{Ahead, stays, ahead_ahead, spaces_counted}
 use Rattle.saphyr_scanner.proofs.Added.Queue.{IsNoEnd}
 use Rattle.saphyr_scanner.proofs.Effects.Readers.{Readers, ReaderEnds, Less}
-use Rattle.saphyr_scanner.proofs.Effects.Steps.{Read, one, read_on, whole, behind, Effect, one_put, Begins, begins_none, Goes, goes_none, behind_blanks, gap_goes, remove_goes, roll_goes, behind_saving}
+use Rattle.saphyr_scanner.proofs.Effects.Steps.{Read, one, read_on, whole, behind, Effect, EffectAt, one_put, Begins, begins_none, begins_forgotten, Goes, goes_none, behind_blanks, gap_goes, remove_goes, roll_goes, behind_saving}
 use Rattle.saphyr_scanner.proofs.Effects.Flow.{behind_one}
 use Rattle.saphyr_input.proofs.Basics.Booleans.{by_test}
 use Rattle.saphyr_scalar.proofs.Given.{Given, given_bind, given_of}
@@ -81,7 +81,7 @@ unfolding remove_key
 begun n c d e g =
     by_test (in_block d && d.required) _ _
     (λ r. Given (Goes n (pass 1 c.cursor) c) (r >>= λ f. block.pass_mark (record f { key_allowed = in_block f })))
-    (λ _. tt) (λ _. mark_goes n c _ e g)
+    (λ _. tt) (λ _. mark_goes n c _ e (begins_forgotten n c d g))
 
 question_goes : (c : Core) → Given (Goes 2 (pass 1 c.cursor) c) (block.begin_key c)
 unfolding block.begin_key
@@ -148,7 +148,7 @@ read_double_effect c h =
     (λ laws. laws.double_quoted (least_column c) c.cursor x.1 x.0 h q)))
 
 pub double_quoted_effect : (n : ℕ) (c : Core) → slice_index c.cursor.rest 0 ≡ 34
-    → Given (Effect c) (scalar.double_quoted n c)
+    → Given (EffectAt n c) (scalar.double_quoted n c)
 unfolding scalar.double_quoted
 double_quoted_effect n c h =
     behind_saving n c (λ s. slice_index s.rest 0 ≡ 34) _ h (λ d. read_double_effect (scalar.disallow_key d))
@@ -162,7 +162,7 @@ read_single_effect c h =
     (λ laws. laws.single_quoted (least_column c) c.cursor x.1 x.0 h q)))
 
 pub single_quoted_effect : (n : ℕ) (c : Core) → slice_index c.cursor.rest 0 ≡ 39
-    → Given (Effect c) (scalar.single_quoted n c)
+    → Given (EffectAt n c) (scalar.single_quoted n c)
 unfolding scalar.single_quoted
 single_quoted_effect n c h =
     behind_saving n c (λ s. slice_index s.rest 0 ≡ 39) _ h (λ d. read_single_effect (scalar.disallow_key d))
@@ -180,7 +180,7 @@ read_plain_effect c =
           record { ahead = r.ahead; begins = omega arith; inside = r.begins; ends = r.ends };
     }) (begins_none c)))
 
-pub plain_effect : (n : ℕ) (c : Core) → Given (Effect c) (scalar.plain n c)
+pub plain_effect : (n : ℕ) (c : Core) → Given (EffectAt n c) (scalar.plain n c)
 unfolding scalar.plain
 plain_effect n c =
     behind_saving n c (λ s. Unit {0}) _ tt
@@ -198,7 +198,7 @@ read_block_effect style c h =
     }) (begins_none c))
 
 pub block_effect : (style : BlockStyle) (n : ℕ) (c : Core) → 0 < length c.cursor.rest
-    → Given (Effect c) (scalar.block style n c)
+    → Given (EffectAt n c) (scalar.block style n c)
 unfolding scalar.block
 block_effect style n c h =
     behind_saving n c (λ s. 0 < length s.rest) _ h
@@ -218,7 +218,7 @@ read_name_effect is_alias c h =
     (begins_none c))
 
 pub name_effect : (is_alias : Bool) (n : ℕ) (c : Core) → 0 < length c.cursor.rest
-    → Given (Effect c) (property.name is_alias n c)
+    → Given (EffectAt n c) (property.name is_alias n c)
 unfolding property.name
 name_effect is_alias n c h =
     behind_saving n c (λ s. 0 < length s.rest) _ h (λ d. read_name_effect is_alias (scalar.disallow_key d))
@@ -232,7 +232,7 @@ read_tag_effect c h =
     (read_to c.cursor x.2 (λ laws. laws.tag f c.cursor x.2 x.0 x.1 h q)
     (λ laws. laws.tag f c.cursor x.2 x.0 x.1 h q)) (begins_none c))
 
-pub tag_effect : (n : ℕ) (c : Core) → slice_index c.cursor.rest 0 ≡ 33 → Given (Effect c) (property.tag n c)
+pub tag_effect : (n : ℕ) (c : Core) → slice_index c.cursor.rest 0 ≡ 33 → Given (EffectAt n c) (property.tag n c)
 unfolding property.tag
 tag_effect n c h =
     behind_saving n c (λ s. slice_index s.rest 0 ≡ 33) _ h (λ d. read_tag_effect (scalar.disallow_key d))

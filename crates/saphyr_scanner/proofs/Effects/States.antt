@@ -20,7 +20,7 @@ use Rattle.saphyr_scanner.proofs.Blocks.{block_cursor, less_deep_cursor, unrolle
 use Rattle.saphyr_scanner.proofs.Ordered.Queue.{Grows, grows_grows, core_grows, performed, put_grows}
 use Rattle.saphyr_scanner.proofs.Added.Queue.{IsNoEnd, PlacesGoOn, place_goes_on, at_most_one, one_at_most, open_blocks, due, performed_goes_on, tokens_put, tokens_performed}
 use Rattle.saphyr_scanner.proofs.Effects.Readers.{Readers, ReaderEnds}
-use Rattle.saphyr_scanner.proofs.Effects.Steps.{Read, taken, whole, Effect, one_put, begins_none, Goes, goes_none, separate_goes, remove_goes}
+use Rattle.saphyr_scanner.proofs.Effects.Steps.{Read, taken, whole, Effect, EffectFrom, one_put, Begins, begins_none, Goes, goes_none, separate_goes, remove_goes}
 use Rattle.saphyr_input.proofs.Basics.Booleans.{by_test}
 use Rattle.saphyr_scalar.proofs.Given.{Given, given_bind, given_of}
 
@@ -66,8 +66,9 @@ carried_advances s (Err e) g = tt
 advances_none : (s : State) → Advances 0 s s
 advances_none s = carried_advances s (Ok s.core) (goes_none s.core)
 
-pub acted_advances : (s : State) (r : Steps) → Given (Effect s.core) r → Given (Advances 1 s) (acted r s.queue)
-acted_advances s (Ok x) h = record {
+pub acted_advances : (P : ℕ → Type 0) (s : State) (r : Steps) → Given (EffectFrom P s.core) r
+    → Given (Advances 1 s) (acted r s.queue)
+acted_advances P s (Ok x) h = record {
   less = λ laws. let l = h.less laws in omega (arith, l);
   grows = λ laws.
       record {
@@ -80,7 +81,7 @@ acted_advances s (Ok x) h = record {
   goes_on = λ k. performed_goes_on x.actions s.queue k h.goes_on;
   few = let y = h.few in let z = tokens_performed x.actions s.queue in omega (arith, y, z);
 }
-acted_advances s (Err e) h = tt
+acted_advances P s (Err e) h = tt
 
 -- ## Block collections end
 
@@ -176,15 +177,15 @@ behind_content s f h =
 -- a token of n characters that are passed there, which stand at the place of s
 put_advances : (n : ℕ) (s : Cursor) (t : State) (d : Core) (kind : Kind) → IsNoEnd kind → t.core.cursor ≡ s → 0 < n
     → n ≤ length s.rest → d.cursor.mark.index ≡ t.core.cursor.mark.index + n
-    → d.cursor.rest ≡ drop n t.core.cursor.rest → d.started ≡ t.core.started → d.ended ≡ t.core.ended
-    → open_blocks d ≤ open_blocks t.core → Advances 1 t (document.put_passed s.mark kind d t)
-put_advances n s t d kind k e some h i r b f same =
+    → d.cursor.rest ≡ drop n t.core.cursor.rest → Begins 0 t.core d
+    → Advances 1 t (document.put_passed s.mark kind d t)
+put_advances n s t d kind k e some h i r g =
     let l = ap (λ (c : Cursor). length c.rest) e in
     let P : Cursor → Type 0 = λ u. Read t.core.cursor u.mark d.cursor.mark d.cursor in
-    acted_advances t (Ok (record { core = d; actions = from_to s.mark d.cursor.mark kind ∷ [] }))
+    acted_advances _ t (Ok (record { core = d; actions = from_to s.mark d.cursor.mark kind ∷ [] }))
     (one_put false 0 t.core d s.mark d.cursor.mark tokens.Value kind (omega arith) (λ q. absurd (cc)) k
     (subst P e (whole t.core.cursor _ _ d.cursor (taken t.core.cursor d.cursor n i r some (omega (arith, h, l)))))
-    (b, f, omega (arith, same)))
+    g)
 
 third_shown : (xs : List ℕ) (p : ℕ → Bool) → p 0 ≡ false → p (slice_index xs 2) ≡ true → 3 ≤ length xs
 third_shown [] p z e = absurd (cc)
@@ -213,7 +214,7 @@ marker_advances kind s k h =
     behind_content s _ (λ t e.
     let l = ap (λ (c : Cursor). length c.rest) e in
     put_advances 3 t.core.cursor t (document.pass_marker t.core) kind k refl (omega arith) (omega (arith, h, l)) refl
-    refl refl refl (omega arith))
+    refl (begins_none t.core))
 
 pub end_marker_advances : (s : State) → 3 ≤ length s.core.cursor.rest → Given (Advances 1 s) (document.end_marker s)
 unfolding document.end_marker document.end_line
@@ -238,7 +239,7 @@ mark_advances s h =
     by_test (nat_lt 0 s.core.cursor.mark.col || not (in_block s.core)) _ _ (Given (Advances 1 s)) (λ _. tt)
     (λ _. behind_content s _ (λ t e.
     put_advances 1 s.core.cursor t (document.pass_mark t.core) tokens.ByteOrderMark (λ i. absurd (cc)) e (omega arith)
-    (omega (arith, h)) refl refl refl refl (omega arith)))
+    (omega (arith, h)) refl refl (begins_none t.core)))
 
 directive_is_no_end : (d : Directive) → IsNoEnd (document.directive_kind d)
 directive_is_no_end (directives.version major minor) = λ i. absurd (cc)
@@ -261,5 +262,5 @@ pub directive_advances : (s : State) → slice_index s.core.cursor.rest 0 ≡ 37
     → Given (Advances 1 s) (document.directive s)
 unfolding document.directive
 directive_advances s h =
-    behind_content s _ (λ t e. acted_advances t (document.read_directive t.core)
+    behind_content s _ (λ t e. acted_advances _ t (document.read_directive t.core)
     (directive_effect t.core (ap (λ (c : Cursor). slice_index c.rest 0) e ∙ h)))

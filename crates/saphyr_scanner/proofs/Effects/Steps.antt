@@ -1,6 +1,7 @@
 -- What a step does, in one statement: what it takes off the text, that its tokens stand in order between the place
--- where it begins and the one that is reached, that they are few, and that none is the end of the stream.
-use Rattle.std.proofs.Common.{◌≡◌, ℕ, ◌+◌, ◌≤◌, ◌<◌, Bool, true, false, List, [], ◌∷◌, length, drop, Result, refl, ap, arith}
+-- where it begins and the one that is reached, that they are few, that none is the end of the stream, and that what may
+-- be a key behind it might be one before, or is its own token.
+use Rattle.std.proofs.Common.{◌≡◌, ℕ, ◌+◌, ◌≤◌, ◌<◌, Bool, true, false, List, [], ◌∷◌, length, drop, Result, Ok, Err, refl, ap, arith}
 use Rattle.std.specs.Prelude.{◌&&◌, not, Option, Some, None, if◌then◌else◌}
 use Rattle.std.proofs.lemmas.List.{length-drop}
 use Rattle.saphyr_input.specs.declared.input.SkipTabs.{SkipTabs}
@@ -10,11 +11,12 @@ use Rattle.saphyr_scalar.specs.declared.scalar.fault.Refusal.{Refusal}
 use Rattle.saphyr_scalar.specs.Views.Cursor.{Cursor, ◌>>=◌, pass, separation}
 use Rattle.saphyr_scanner.specs.Grammar.Tokens.{Kind}
 use Rattle.saphyr_scanner.specs.Steps.Gap as gaps
-use Rattle.saphyr_scanner.specs.Steps.Core.{Core, Action, Step, Steps, from_to, at_mark, in_block, save_key, remove_key, drop_far_key, is_too_far, is_further, roll, least_column}
+use Rattle.saphyr_scanner.specs.Steps.Core.{Core, Action, Step, Steps, from_to, at_mark, in_block, save_key, remove_key, forget_key, drop_far_key, is_too_far, is_further, roll, least_column}
 use Rattle.saphyr_scanner.specs.Steps.Passing.{separate, pass_gap, check_comment, goes_on_behind, behind_gap, intercepts}
 use Rattle.saphyr_scanner.proofs.Counted.{Ahead, stays, ahead_ahead, taken_off, separation_counted, gap_counted}
 use Rattle.saphyr_scanner.proofs.Effects.Readers.{Readers, ReaderEnds, Less, ReadsSpan}
 use Rattle.saphyr_scanner.proofs.Ordered.Queue.{PutsInOrder}
+use Rattle.saphyr_scanner.proofs.Taken.Candidates.{Above, ActionsAbove, Keeps}
 use Rattle.saphyr_scanner.proofs.Added.Queue.{IsNoEnd, PutsGoOn, added, one_at_most, open_blocks}
 use Rattle.saphyr_input.proofs.Basics.Booleans.{by_test}
 use Rattle.saphyr_scalar.proofs.Given.{Given, given_bind, given_of}
@@ -73,9 +75,9 @@ behind s a b t r = record {
 
 -- ## The statement
 
--- Of a step from the place s on, where so many block collections are open. What the readers take off and where they
--- end is told by their laws, each by those that it needs.
-pub record EffectOf (s : Cursor) (begun over : Bool) (blocks : ℕ) (x : Step) : Type 0 where
+-- Of a step from the place s on, where so many block collections are open, and `from` says before which places nothing
+-- may be a key. What the readers take off and where they end is told by their laws, by those that are needed for each.
+pub record EffectOf (s : Cursor) (begun over : Bool) (blocks : ℕ) (from : ℕ → Type 0) (x : Step) : Type 0 where
   pub less : Readers → Less x.core.cursor s
   pub ahead : ReaderEnds → Ahead s x.core.cursor
   pub puts : ReaderEnds → PutsInOrder x.core.cursor.mark.index s.mark.index x.actions
@@ -83,22 +85,51 @@ pub record EffectOf (s : Cursor) (begun over : Bool) (blocks : ℕ) (x : Step) :
   pub ended : x.core.ended ≡ over
   pub goes_on : PutsGoOn x.actions
   pub few : added x.actions + open_blocks x.core ≤ blocks + 5
+  pub keeps : (h : ℕ) → from h → Keeps h x
+
+abbrev pub EffectFrom : (ℕ → Type 0) → Core → Step → Type 0
+EffectFrom from c x = EffectOf c.cursor c.started c.ended (open_blocks c) from x
 
 abbrev pub Effect : Core → Step → Type 0
-Effect c x = EffectOf c.cursor c.started c.ended (open_blocks c) x
+Effect c x = EffectFrom (λ h. Above h c) c x
 
--- from c to d n block collections begin at most, and the stream neither begins nor ends
+-- the same of a step that may save a key, where its token has the place of this number
+abbrev pub EffectAt : ℕ → Core → Step → Type 0
+EffectAt n c x = EffectFrom (λ h. (h ≤ n) × Above h c) c x
+
+-- where more is known of the candidates
+pub from_more : (P Q : ℕ → Type 0) → ((h : ℕ) → Q h → P h) → (c : Core) (r : Steps) → Given (EffectFrom P c) r
+    → Given (EffectFrom Q c) r
+from_more P Q f c (Ok x) e = record {
+  less = e.less;
+  ahead = e.ahead;
+  puts = e.puts;
+  started = e.started;
+  ended = e.ended;
+  goes_on = e.goes_on;
+  few = e.few;
+  keeps = λ h a. e.keeps h (f h a);
+}
+from_more P Q f c (Err d) e = tt
+
+-- From c to d n block collections begin at most, the stream neither begins nor ends, and nothing more may be a key.
 abbrev pub Begins : ℕ → Core → Core → Type 0
 Begins n c d = (d.started ≡ c.started) × (d.ended ≡ c.ended) × (open_blocks d ≤ open_blocks c + n)
+    × ((h : ℕ) → Above h c → Above h d)
 
 pub begins_none : (c : Core) → Begins 0 c c
-begins_none c = (refl, refl, omega arith)
+begins_none c = (refl, refl, omega arith, λ h a. a)
+
+-- a key is forgotten
+pub begins_forgotten : (n : ℕ) (c d : Core) → Begins n c d → Begins n c (forget_key d)
+begins_forgotten n c d g = (g.0, g.1, g.2, λ h a. (tt, (g.3 h a).1))
 
 -- what was read, and what is put
 pub effect : (n : ℕ) (c d : Core) (a b : Marker) (actions : List Action) → Read c.cursor a b d.cursor → Begins n c d
     → (ReaderEnds → PutsInOrder d.cursor.mark.index c.cursor.mark.index actions) → PutsGoOn actions
-    → added actions + n ≤ 5 → Effect c (record { core = d; actions = actions })
-effect n c d a b actions r g puts kinds few = record {
+    → added actions + n ≤ 5 → ((h : ℕ) → Above h c → ActionsAbove h actions)
+    → Effect c (record { core = d; actions = actions })
+effect n c d a b actions r g puts kinds few opens = record {
   less = r.less;
   ahead = λ laws. (r.span laws).ahead;
   puts = puts;
@@ -106,6 +137,7 @@ effect n c d a b actions r g puts kinds few = record {
   ended = g.1;
   goes_on = kinds;
   few = let x = g.2 in omega (arith, x, few);
+  keeps = λ h x. (g.3 h x, opens h x);
 }
 
 -- a token, and one without characters that may stand in front of it, where the step begins
@@ -118,9 +150,10 @@ pub one_put : (front : Bool) (n : ℕ) (c d : Core) (a b : Marker) (first kind :
 one_put true n c d a b first kind small f k r g =
     effect n c d a b _ r g
     (λ laws. let w = r.span laws in (omega arith, omega arith, (w.begins, w.inside, w.ends))) (f, (k, tt))
-    (omega (arith, small))
+    (omega (arith, small)) (λ h x. tt)
 one_put false n c d a b first kind small f k r g =
     effect n c d a b _ r g (λ laws. let w = r.span laws in (w.begins, w.inside, w.ends)) (k, tt) (omega (arith, small))
+    (λ h x. tt)
 
 -- ## What is passed
 
@@ -170,24 +203,27 @@ gap_goes n s c d g =
 
 pub remove_goes : (n : ℕ) (s : Cursor) (c d : Core) → Goes n s c d → Given (Goes n s c) (remove_key d)
 unfolding remove_key
-remove_goes n s c d g = by_test (in_block d && d.required) _ _ (Given (Goes n s c)) (λ _. tt) (λ _. g)
+remove_goes n s c d g =
+    by_test (in_block d && d.required) _ _ (Given (Goes n s c)) (λ _. tt) (λ _. (g.0, begins_forgotten n c d g.1))
 
 pub drop_goes : (n : ℕ) (s : Cursor) (c d : Core) → Goes n s c d → Given (Goes n s c) (drop_far_key d)
 unfolding drop_far_key
 drop_goes n s c d g =
     by_test (not (in_block d && is_too_far d.level.key d.cursor.mark)) _ _ (Given (Goes n s c)) (λ _. g)
-    (λ _. by_test d.required _ _ (Given (Goes n s c)) (λ _. tt) (λ _. g))
+    (λ _. by_test d.required _ _ (Given (Goes n s c)) (λ _. tt) (λ _. (g.0, begins_forgotten n c d g.1)))
 
 pub roll_goes : (column : ℕ) (s : Cursor) (c d : Core) → Goes 0 s c d → Goes 2 s c (roll column d)
 roll_goes column s c d g =
     let x = g.1.2 in
     by_test (is_further column d) _ _ (Goes 2 s c)
-    (λ _. (g.0, (g.1.0, g.1.1, let y = one_at_most (column + 1) in omega (arith, x, y))))
-    (λ _. (g.0, (g.1.0, g.1.1, omega (arith, x))))
+    (λ _. (g.0, (g.1.0, g.1.1, let y = one_at_most (column + 1) in omega (arith, x, y), g.1.3)))
+    (λ _. (g.0, (g.1.0, g.1.1, omega (arith, x), g.1.3)))
 
 -- ## Keys
 
 -- a step that is told of what the text begins with, behind the saving of a key
 pub behind_saving : (n : ℕ) (c : Core) (Q : Cursor → Type 0) (f : Core → Steps) → Q c.cursor
-    → ((d : Core) → Q d.cursor → Given (Effect d) (f d)) → Given (Effect c) (f (save_key n c))
-behind_saving n c Q f q h = by_test c.key_allowed _ _ (λ (d : Core). Given (Effect c) (f d)) (λ _. h _ q) (λ _. h c q)
+    → ((d : Core) → Q d.cursor → Given (Effect d) (f d)) → Given (EffectAt n c) (f (save_key n c))
+behind_saving n c Q f q h =
+    by_test c.key_allowed _ _ (λ (d : Core). Given (EffectAt n c) (f d))
+    (λ _. from_more _ _ (λ i a. (a.0, a.1.1)) c (f _) (h _ q)) (λ _. from_more _ _ (λ i a. a.1) c (f c) (h c q))

@@ -15,10 +15,11 @@ use Rattle.saphyr_scanner.specs.Steps.Core.{Core, Steps, perform, in_block, is_t
 use Rattle.saphyr_scanner.specs.Steps.State.{State, carried, acted}
 use Rattle.saphyr_scanner.specs.Steps.Unrolling.{unroll}
 use Rattle.saphyr_scanner.specs.Steps.Document as document
-use Rattle.saphyr_scanner.specs.Steps.Fetch.{step, content, fetch_here, arrive, fetch, begin, within, fetch_within, settled, is_value_adjacent}
+use Rattle.saphyr_scanner.specs.Steps.Fetch.{step, content, fetch_here, arrive, fetch, begin, within, fetch_within, settled}
 use Rattle.saphyr_scanner.specs.TokensTaken as taken
 use Rattle.saphyr_scanner.specs.TokensTaken.{AreTokens, may_begin_plain}
 use Rattle.saphyr_scanner.proofs.Leads.{flat}
+use Rattle.saphyr_scanner.proofs.Steps.Choice.{NoIndicator, cases}
 use Rattle.saphyr_scanner.proofs.Effects.States.{Advances, acted_advances, is_marker, marker_advances, end_marker_advances, mark_advances, directive_advances}
 use Rattle.saphyr_scanner.proofs.Effects.Fetch.{left, step_effect, arrive_advances}
 use Rattle.saphyr_scanner.proofs.Taken.Separated.{given_map}
@@ -54,67 +55,55 @@ no_second true false true z e f g h = absurd (cc)
 no_second true false false true e f g h = absurd (cc)
 no_second true false false false e f g h = absurd (cc)
 
+-- where no indicator stands a plain scalar may begin
+plain_start : (first second : ℕ) (c : Core) → slice_index c.cursor.rest 0 ≡ first
+    → slice_index c.cursor.rest 1 ≡ second → NoIndicator first second c → PlainStart c.cursor
+plain_start first second c f g n =
+    let w = or_parts ((first == 37) || (first == 64)) (first == 96) n.reserved in
+    let v = or_parts (first == 37) (first == 64) w.0 in
+    record {
+      other = λ no_sign. ap may_begin_plain f
+          ∙ begins first n.comma n.sequence n.sequence_end n.mapping n.mapping_end
+          (ne_eqb first 35 (λ s. no_sign (f ∙ s))) n.anchor n.alias n.tag n.single n.double v.0 v.1 w.1;
+      no_indicator = λ s. ap is_blank_or_breakz g
+          ∙ no_second (is_blank_or_breakz second) (first == 45) (first == 63) (first == 58) n.dash n.question n.colon
+          (ap (λ x. is_one_of (codes "-?:") x) (sym f) ∙ s);
+    }
+
 step_fetched : TextLaws → (text : List ℕ) → length text < 2 ^ 63
     → (columns : List ℕ) (from : Cursor) (q : Queue) (first second : ℕ) (c : Core) → LaterThan (fresh text) from
     → Holds columns from c q → 0 < length c.cursor.rest
     → slice_index c.cursor.rest 0 ≡ first → slice_index c.cursor.rest 1 ≡ second
     → (in_block c ≡ true → c.indent ≤ c.cursor.mark.col + 1)
     → Given (FetchedStep columns from q) (step first second (next q) c)
-unfolding step
 step_fetched laws text small columns from q first second c l h some f g deep =
     let P = Given (FetchedStep columns from q) in
     let all : (r : Steps) → Given (HoldsStep columns from q) r → P r =
     λ r k. given_map _ _ r (λ x w. holds_fetched columns from x.core (perform x.actions q) w) k in
-    let is : (n : ℕ) → (first == n) ≡ true → slice_index c.cursor.rest 0 ≡ n = λ n e. f ∙ eqb-true first n e in
-    let with_second : (n : ℕ) → ((first == n) && is_blank_or_breakz second) ≡ true
-    → is_blank_or_breakz (slice_index c.cursor.rest 1) ≡ true =
-    λ n e. ap is_blank_or_breakz g ∙ (and_parts (first == n) (is_blank_or_breakz second) e).1 in
-    let alone : (n : ℕ) (b : Bool) → ((first == n) && b) ≡ true → slice_index c.cursor.rest 0 ≡ n =
-    λ n b e. is n (and_parts (first == n) b e).0 in
-    by_test (first == 91) _ _ P
-    (λ e. all _ (start_holds columns from q 91 tokens.FlowSequenceStart context.FlowSequence open_sequence
-    sequence_starts refl c h (is 91 e) deep))
-    (λ e1. by_test (first == 123) _ _ P
-    (λ e. all _ (start_holds columns from q 123 tokens.FlowMappingStart context.FlowMapping open_mapping
-    mapping_starts refl c h (is 123 e) deep))
-    (λ e2. by_test (first == 93) _ _ P
-    (λ e. all _ (end_holds columns from q 93 tokens.FlowSequenceEnd close_sequence true c h (is 93 e)))
-    (λ e3. by_test (first == 125) _ _ P
-    (λ e. all _ (end_holds columns from q 125 tokens.FlowMappingEnd close_mapping false c h (is 125 e)))
-    (λ e4. by_test (first == 44) _ _ P (λ e. all _ (entry_holds columns from q c h (is 44 e)))
-    (λ e5. by_test ((first == 45) && is_blank_or_breakz second) _ _ P
-    (λ e. all _ (block_entry_holds columns from q c h (alone 45 _ e) (with_second 45 e)))
-    (λ e6. by_test ((first == 63) && is_blank_or_breakz second) _ _ P
-    (λ e. all _ (key_holds columns from q c h (alone 63 _ e) (with_second 63 e)))
-    (λ e7. by_test ((first == 58) && is_blank_or_breakz second) _ _ P
-    (λ e. all _ (value_holds columns from q c h (alone 58 _ e)))
-    (λ e8. by_test ((first == 58) && is_value_adjacent second c) _ _ P
-    (λ e. all _ (flow_value_holds columns from q second c h (alone 58 _ e)))
-    (λ _. by_test (first == 34) _ _ P (λ e. all _ (double_holds laws columns from q c h (is 34 e) deep))
-    (λ e10. by_test (first == 39) _ _ P (λ e. all _ (single_holds laws columns from q c h (is 39 e) deep))
-    (λ e11. by_test (first == 42) _ _ P
-    (λ e. all _ (name_holds laws columns from q true 42 an_alias c h some (is 42 e) deep))
-    (λ e12. by_test (first == 38) _ _ P
-    (λ e. all _ (name_holds laws columns from q false 38 an_anchor c h some (is 38 e) deep))
-    (λ e13. by_test (first == 33) _ _ P (λ e. all _ (tag_holds laws columns from q c h (is 33 e) deep))
-    (λ e14. by_test ((first == 124) && in_block c) _ _ P
-    (λ e. block_holds laws text small columns from q block_style.Literal c l h
-    (and_parts (first == 124) (in_block c) e).1 (alone 124 _ e))
-    (λ _. by_test ((first == 62) && in_block c) _ _ P
-    (λ e. block_holds laws text small columns from q block_style.Folded c l h
-    (and_parts (first == 62) (in_block c) e).1 (alone 62 _ e))
-    (λ _. by_test ((first == 37) || (first == 64) || (first == 96)) _ _ P (λ _. tt)
-    (λ e17.
-    let w = or_parts ((first == 37) || (first == 64)) (first == 96) e17 in
-    let v = or_parts (first == 37) (first == 64) w.0 in
-    let start : PlainStart c.cursor = record {
-      other = λ no_sign. ap may_begin_plain f
-          ∙ begins first e5 e1 e3 e2 e4 (ne_eqb first 35 (λ s. no_sign (f ∙ s))) e13 e12 e14 e11 e10 v.0 v.1 w.1;
-      no_indicator = λ s. ap is_blank_or_breakz g
-          ∙ no_second (is_blank_or_breakz second) (first == 45) (first == 63) (first == 58) e6 e7 e8
-          (ap (λ x. is_one_of (codes "-?:") x) (sym f) ∙ s);
-    } in
-    all _ (plain_holds laws columns from q c h start deep))))))))))))))))))
+    let with_second : is_blank_or_breakz second ≡ true → is_blank_or_breakz (slice_index c.cursor.rest 1) ≡ true =
+    λ e. ap is_blank_or_breakz g ∙ e in
+    cases P first second (next q) c (record {
+      sequence = λ e. all _ (start_holds columns from q 91 tokens.FlowSequenceStart context.FlowSequence open_sequence
+          sequence_starts refl c h (f ∙ e) deep);
+      mapping = λ e. all _ (start_holds columns from q 123 tokens.FlowMappingStart context.FlowMapping open_mapping
+          mapping_starts refl c h (f ∙ e) deep);
+      sequence_end = λ e. all _ (end_holds columns from q 93 tokens.FlowSequenceEnd close_sequence true c h (f ∙ e));
+      mapping_end = λ e. all _ (end_holds columns from q 125 tokens.FlowMappingEnd close_mapping false c h (f ∙ e));
+      comma = λ e. all _ (entry_holds columns from q c h (f ∙ e));
+      dash = λ e b. all _ (block_entry_holds columns from q c h (f ∙ e) (with_second b));
+      question = λ e b. all _ (key_holds columns from q c h (f ∙ e) (with_second b));
+      colon = λ e _. all _ (value_holds columns from q c h (f ∙ e));
+      beside = λ e _. all _ (flow_value_holds columns from q second c h (f ∙ e));
+      double = λ e. all _ (double_holds laws columns from q c h (f ∙ e) deep);
+      single = λ e. all _ (single_holds laws columns from q c h (f ∙ e) deep);
+      alias = λ e. all _ (name_holds laws columns from q true 42 an_alias c h some (f ∙ e) deep);
+      anchor = λ e. all _ (name_holds laws columns from q false 38 an_anchor c h some (f ∙ e) deep);
+      tag = λ e. all _ (tag_holds laws columns from q c h (f ∙ e) deep);
+      literal = λ e b. block_holds laws text small columns from q block_style.Literal c l h b (f ∙ e);
+      folded = λ e b. block_holds laws text small columns from q block_style.Folded c l h b (f ∙ e);
+      reserved = tt;
+      plain = λ n. all _ (plain_holds laws columns from q c h (plain_start first second c f g n) deep);
+    })
 
 -- ## The end of the stream is the last token
 
@@ -210,7 +199,7 @@ here_read laws text small columns from s l going a =
     (acted_fetched columns from s.queue r
     (step_fetched laws text small columns from s.queue (slice_index t 0) (slice_index t 1) s.core l h some refl refl
     (λ _. deep_of s.core.deeper s.core.indent s.core.cursor.mark.col e)))
-    (acted_advances s r (step_effect (slice_index t 0) (slice_index t 1) (next s.queue) s.core some refl))))))))
+    (acted_advances _ s r (step_effect (slice_index t 0) (slice_index t 1) (next s.queue) s.core some refl))))))))
 
 begin_live : (columns : List ℕ) (from : Cursor) (s : State) → TakenState columns from s → Live s.core s.queue
     → Live (record s.core { started = true }) (put (empty_piece s.core.cursor.mark tokens.StreamStart) s.queue)

@@ -16,13 +16,14 @@ use Rattle.saphyr_scanner.specs.Grammar.Tokens.{Kind}
 use Rattle.saphyr_scanner.specs.Steps.Queue.{Queue, next}
 use Rattle.saphyr_scanner.specs.Steps.Core.{Core, Steps, in_block, remove_key, drop_far_key, least_column}
 use Rattle.saphyr_scanner.specs.Steps.Document as document
-use Rattle.saphyr_scanner.specs.Steps.Fetch.{step, content, fetch_here, arrive, fetch, is_value_adjacent}
+use Rattle.saphyr_scanner.specs.Steps.Fetch.{step, content, fetch_here, arrive, fetch}
 use Rattle.saphyr_scanner.specs.Steps.Passing.{separate, pass_gap}
 use Rattle.saphyr_scanner.specs.Steps.State.{State, carried, separated, acted}
 use Rattle.saphyr_scanner.specs.TokensTaken as taken
 use Rattle.saphyr_scanner.specs.TokensTaken.{IsReached}
 use Rattle.saphyr_scanner.specs.Steps.Unrolling.{unroll, end_blocks, end_block, is_right_of, outwards, less_deep}
 use Rattle.saphyr_scanner.proofs.Blocks.{unrolled_cursor}
+use Rattle.saphyr_scanner.proofs.Steps.Choice.{cases}
 use Rattle.saphyr_scanner.proofs.Effects.Fetch.{left}
 use Rattle.saphyr_scanner.proofs.Taken.Documents.{three_at, end_place, no_length}
 use Rattle.saphyr_scanner.proofs.Taken.Scalars.{TextLaws}
@@ -190,35 +191,27 @@ stream_told s n =
 pub step_told : TextLaws → RefusalLaws → (first second k : ℕ) (c : Core) → 0 < length c.cursor.rest
     → slice_index c.cursor.rest 0 ≡ first → c.comment ≡ None
     → Told NotedStep c.cursor (step first second k c)
-unfolding step
 step_told texts laws first second k c some f n =
-    let P = Told NotedStep c.cursor in
-    let is : (x : ℕ) → (first == x) ≡ true → slice_index c.cursor.rest 0 ≡ x = λ x e. f ∙ eqb-true first x e in
-    let alone : (x : ℕ) (b : Bool) → ((first == x) && b) ≡ true → slice_index c.cursor.rest 0 ≡ x =
-    λ x b e. is x (and_parts (first == x) b e).0 in
-    by_test (first == 91) _ _ P
-    (λ e. start_told laws context.FlowSequence tokens.FlowSequenceStart 91 k c refl refl (is 91 e) n)
-    (λ _. by_test (first == 123) _ _ P
-    (λ e. start_told laws context.FlowMapping tokens.FlowMappingStart 123 k c refl refl (is 123 e) n)
-    (λ _. by_test (first == 93) _ _ P (λ e. end_told laws true tokens.FlowSequenceEnd 93 c refl refl (is 93 e) n)
-    (λ _. by_test (first == 125) _ _ P (λ e. end_told laws false tokens.FlowMappingEnd 125 c refl refl (is 125 e) n)
-    (λ _. by_test (first == 44) _ _ P (λ e. flow_entry_told laws c (is 44 e) n)
-    (λ _. by_test ((first == 45) && is_blank_or_breakz second) _ _ P (λ e. block_entry_told laws c (alone 45 _ e) n)
-    (λ _. by_test ((first == 63) && is_blank_or_breakz second) _ _ P (λ e. key_told c (alone 63 _ e) n)
-    (λ _. by_test ((first == 58) && is_blank_or_breakz second) _ _ P (λ e. value_told laws c (alone 58 _ e) n)
-    (λ _. by_test ((first == 58) && is_value_adjacent second c) _ _ P
-    (λ e. flow_value_told laws second c (alone 58 _ e) n)
-    (λ _. by_test (first == 34) _ _ P (λ e. double_told texts laws k c (is 34 e) n)
-    (λ _. by_test (first == 39) _ _ P (λ e. single_told texts laws k c (is 39 e) n)
-    (λ _. by_test (first == 42) _ _ P (λ _. name_told laws true k c n)
-    (λ _. by_test (first == 38) _ _ P (λ _. name_told laws false k c n)
-    (λ _. by_test (first == 33) _ _ P (λ _. tag_told laws k c n)
-    (λ _. by_test ((first == 124) && in_block c) _ _ P
-    (λ e. block_told laws block_style.Literal k c (alone 124 _ e) some n)
-    (λ _. by_test ((first == 62) && in_block c) _ _ P
-    (λ e. block_told laws block_style.Folded k c (alone 62 _ e) some n)
-    (λ _. by_test ((first == 37) || (first == 64) || (first == 96)) _ _ P (λ _. at_here c.cursor)
-    (λ _. plain_told laws k c)))))))))))))))))
+    cases (Told NotedStep c.cursor) first second k c (record {
+      sequence = λ e. start_told laws context.FlowSequence tokens.FlowSequenceStart 91 k c refl refl (f ∙ e) n;
+      mapping = λ e. start_told laws context.FlowMapping tokens.FlowMappingStart 123 k c refl refl (f ∙ e) n;
+      sequence_end = λ e. end_told laws true tokens.FlowSequenceEnd 93 c refl refl (f ∙ e) n;
+      mapping_end = λ e. end_told laws false tokens.FlowMappingEnd 125 c refl refl (f ∙ e) n;
+      comma = λ e. flow_entry_told laws c (f ∙ e) n;
+      dash = λ e _. block_entry_told laws c (f ∙ e) n;
+      question = λ e _. key_told c (f ∙ e) n;
+      colon = λ e _. value_told laws c (f ∙ e) n;
+      beside = λ e _. flow_value_told laws second c (f ∙ e) n;
+      double = λ e. double_told texts laws k c (f ∙ e) n;
+      single = λ e. single_told texts laws k c (f ∙ e) n;
+      alias = λ _. name_told laws true k c n;
+      anchor = λ _. name_told laws false k c n;
+      tag = λ _. tag_told laws k c n;
+      literal = λ e _. block_told laws block_style.Literal k c (f ∙ e) some n;
+      folded = λ e _. block_told laws block_style.Folded k c (f ∙ e) some n;
+      reserved = at_here c.cursor;
+      plain = λ _. plain_told laws k c;
+    })
 
 pub here_told : TextLaws → RefusalLaws → (s : State) → s.core.comment ≡ None
     → Told NotedState s.core.cursor (fetch_here s)
