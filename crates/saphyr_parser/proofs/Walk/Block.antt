@@ -10,7 +10,7 @@ use Rattle.saphyr_parser.specs.declared.parser.state.State.TheVariants as state
 use Rattle.saphyr_parser.specs.Steps.Machine.{◌>>=◌, Machine, put_back, take_from, with_pieces, left_out}
 use Rattle.saphyr_parser.specs.Steps.Block.{sequence_node, sequence_node_at, sequence_entry, sequence_entry_at, indentless_node, indentless_node_at, indentless_entry, indentless_entry_at, key_node, key_node_at, mapping_key, mapping_key_at, value_node, value_node_at, mapping_value, mapping_value_at}
 use Rattle.saphyr_parser.specs.Answer.{is_value, begins_with_value}
-use Rattle.saphyr_parser.proofs.Walk.Steps.{Walk, On, Of, Taken, Gives, own, refused, put, behind, left, leaves_out, taken}
+use Rattle.saphyr_parser.proofs.Walk.Steps.{Walk, On, Of, Taken, Gives, own, refused, first, put, behind, left, leaves_out, taken}
 use Rattle.saphyr_parser.proofs.Walk.Nodes.{insides}
 
 module _ (w : Walk) where
@@ -84,12 +84,10 @@ module _ (w : Walk) where
       → On w low (9 + (if begins_with_value ts then 3 else 1)) m.tokens.refusal ts m.states
       → Gives w (take_from ts m >>= (λ t. mapping_key_at t.0.kind t.0 t.1))
   keys_from [] m a = w.nothing _ _ _ a.pieces
-  keys_from (t ∷ ts) m a =
-      mapping_keys_at t.kind t (with_pieces ts m)
-      (refl, record { pieces = w.from_start _ _ _ t ts a.pieces; places = a.places })
+  keys_from (t ∷ ts) m a = mapping_keys_at t.kind t (with_pieces ts m) (first w t ts m a)
 
-  pub mapping_keys : {low : Marker} (m : Machine) → Of w low (9 + (if begins_with_value m.tokens.pieces then 3 else 1)) m
-      → Gives w (mapping_key m)
+  pub mapping_keys : {low : Marker} (m : Machine)
+      → Of w low (9 + (if begins_with_value m.tokens.pieces then 3 else 1)) m → Gives w (mapping_key m)
   unfolding mapping_key
   mapping_keys m a = keys_from m.tokens.pieces m a
 

@@ -10,7 +10,7 @@ use Rattle.saphyr_parser.specs.declared.parser.context.Context.TheVariants.{Bloc
 use Rattle.saphyr_parser.specs.declared.parser.state.State.TheVariants as state
 use Rattle.saphyr_parser.specs.Steps.Machine.{◌>>=◌, Machine, Told, Names, take, take_from, with_pieces, put_back, push, is_listed}
 use Rattle.saphyr_parser.specs.Steps.Documents.{pass, pass_from, is_mark, is_end_or_mark, Declared, none_declared, is_directive, directive_at, directives, directives_from, stream_start, stream_start_at, forget_anchors, explicit_at, explicit_document, bare_document, implicit_start_at, implicit_start, explicit_start_at, explicit_start, no_content, content_at, document_content, behind_marks_at, behind_marks, behind_document_at, behind_document, forget_prefixes, document_end_at, document_end}
-use Rattle.saphyr_parser.proofs.Walk.Steps.{Walk, is_end, On, Of, Taken, Gives, own, refused, less, behind, pushed, entered, left, over, taken}
+use Rattle.saphyr_parser.proofs.Walk.Steps.{Walk, is_end, On, Of, Taken, Gives, own, refused, first, less, behind, pushed, entered, left, over, taken}
 use Rattle.saphyr_parser.proofs.Walk.Nodes.{nodes}
 
 no_mark : (k : Kind) → is_mark k ≡ true → is_end k ≡ false
@@ -44,11 +44,6 @@ module _ (w : Walk) where
   hands_on d (Ok x) go h k = k x.0 x.1 (refl, h)
   hands_on d (Err f) go h k = h
 
-  -- a token with others behind it
-  started : {low : Marker} {d : ℕ} (t : Piece) (ts : List Piece) (m : Machine)
-      → On w low d m.tokens.refusal (t ∷ ts) m.states → Taken w d t.kind t (with_pieces ts m)
-  started t ts m a = (refl, record { pieces = w.from_start _ _ _ t ts a.pieces; places = a.places })
-
   either : (d : ℕ) (b : Bool) (r q : Result (Piece × Machine) Refusal) → (b ≡ true → Hands d r) → Hands d q
       → Hands d (if b then r else q)
   either d true r q x y = x refl
@@ -61,13 +56,13 @@ module _ (w : Walk) where
   passes d passed (t ∷ ts) m n a =
       either d (passed t.kind) _ _
       (λ e. passes d passed ts (with_pieces ts m) n
-      (behind w (with_pieces ts m) (n t.kind e) (omega arith) (started t ts m a)))
-      (started t ts m a).1
+      (behind w (with_pieces ts m) (n t.kind e) (omega arith) (first w t ts m a)))
+      (first w t ts m a).1
 
   takes : {low : Marker} (d : ℕ) (ts : List Piece) (m : Machine) → On w low d m.tokens.refusal ts m.states
       → Hands d (take_from ts m)
   takes d [] m a = w.nothing _ _ _ a.pieces
-  takes d (t ∷ ts) m a = (started t ts m a).1
+  takes d (t ∷ ts) m a = (first w t ts m a).1
 
   -- ## Directives
 
@@ -104,7 +99,7 @@ module _ (w : Walk) where
       → On w low d m.tokens.refusal ts m.states → Hands d (directives_from ts c m)
   directs d [] c m a = w.nothing _ _ _ a.pieces
   directs d (t ∷ ts) c m a =
-      let b : Taken w d t.kind t (with_pieces ts m) = started t ts m a in
+      let b : Taken w d t.kind t (with_pieces ts m) = first w t ts m a in
       either d (is_directive t.kind) _ _
       (λ e. then_directs d ts (with_pieces ts m) (directive_at t.kind t c (with_pieces ts m))
       (directive t.kind t c (with_pieces ts m) b)

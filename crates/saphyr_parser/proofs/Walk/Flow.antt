@@ -54,7 +54,8 @@ module _ (w : Walk) where
 
   no_value : {k : Kind} (t : Piece) (m : Machine) → Taken w 12 k t m → Gives w (pair_value_at FlowEntry t m)
   no_value t m a =
-      leaves_out w t (state.FlowSequenceEntryMappingEnd t.span.end) t.span m (place_of t m a) (omega arith) (own w m a) a
+      leaves_out w t (state.FlowSequenceEntryMappingEnd t.span.end) t.span m (place_of t m a) (omega arith) (own w m a)
+      a
 
   pair_value_nodes_at : (k : Kind) (t : Piece) (m : Machine) → Taken w 12 k t m → Gives w (pair_value_node_at k t m)
   pair_value_nodes_at FlowEntry t m a = no_value t m a

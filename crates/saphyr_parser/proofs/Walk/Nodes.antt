@@ -90,7 +90,7 @@ module _ (w : Walk) where
   no_content p t m l s a =
       either (has_property p) _ _ (λ e. (s, left w (put_back t m) (put w m (l e) a))) (refused w m a)
 
-  -- properties end where the token or what is passed before it begins
+  -- properties, if there are any, stand before the token
   contents_at : {d : ℕ} (k : Kind) (p : Properties) (c : Context) (t : Piece) (m : Machine)
       → (has_property p ≡ true → 10 ≤ d) → room c ≤ d → w.Spans p.start p.behind → w.Spans p.behind t.span.start
       → Taken w d k t m → Gives w (content_at k p c t m)

@@ -17,7 +17,8 @@ abbrev pub is_end : Kind → Bool
 is_end tokens.StreamEnd = true
 is_end _ = false
 
--- The room is how much more there may be to do than is to be read, and 10.
+-- The room counts what may still be done, as weights do: a token that is taken gives 10, what is expected behind a node
+-- takes its weight, and a step ends where 10 are left.
 pub record Walk : Type 1 where
   -- from one place up to another
   pub Spans : Marker → Marker → Type 0
@@ -25,6 +26,7 @@ pub record Walk : Type 1 where
   pub Ahead : Marker → ℕ → Option Refusal → List Piece → Type 0
   -- the same between two steps, where a state is expected
   pub Rests : State → ℕ → Option Refusal → List Piece → Type 0
+  -- a refusal
   pub Fails : Refusal → Type 0
   pub joined : (a b c : Marker) → Spans a b → Spans b c → Spans a c
   pub first : (a b : Marker) → Spans a b → Spans a a
@@ -101,6 +103,11 @@ module _ (w : Walk) where
   less {low} {c} {d} {r} {ts} {ss} l a =
       record { pieces = w.less low _ _ r ts (omega (arith, l)) a.pieces; places = a.places }
 
+  -- the first of some tokens
+  pub first : {low : Marker} {d : ℕ} (t : Piece) (ts : List Piece) (m : Machine)
+      → On w low d m.tokens.refusal (t ∷ ts) m.states → Taken w d t.kind t (with_pieces ts m)
+  first t ts m a = (refl, record { pieces = w.from_start _ _ _ t ts a.pieces; places = a.places })
+
   -- a token that is put back
   pub put : {c d : ℕ} {k : Kind} {t : Piece} (m : Machine) → c ≤ d → Taken w d k t m
       → Of w t.span.start c (put_back t m)
@@ -167,9 +174,7 @@ module _ (w : Walk) where
       → ((t : Piece) (k : Machine) → w.Spans low t.span.start → Taken w d t.kind t k → Gives w (go (t, k)))
       → Gives w (take_from ts m >>= go)
   taken_from [] m go a h = w.nothing _ _ _ a.pieces
-  taken_from (t ∷ ts) m go a h =
-      h t (with_pieces ts m) (w.own _ _ _ t ts a.pieces).0
-      (refl, record { pieces = w.from_start _ _ _ t ts a.pieces; places = a.places })
+  taken_from (t ∷ ts) m go a h = h t (with_pieces ts m) (w.own _ _ _ t ts a.pieces).0 (first t ts m a)
 
   pub taken_behind : {low : Marker} {d : ℕ} (m : Machine) (go : Piece × Machine → Result Told Refusal)
       → Of w low d m
