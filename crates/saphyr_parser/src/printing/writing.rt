@@ -1,6 +1,6 @@
 //! Bytes, numbers and escaped texts, written to the last byte however few a writer takes at a time.
 
-ghost use Rattle.std.specs.Prelude.{◌≡◌, false, [], ◌∷◌, ◌++◌};
+ghost use Rattle.std.specs.Prelude.{◌≡◌, ◌<◌, ◌≤◌, false, [], ◌∷◌, ◌++◌, length, take, IfNone, IfSome};
 ghost use Rattle.std.specs.Fmt.{decimal};
 ghost use Rattle.saphyr_parser.specs.Written.{Takes};
 ghost use Rattle.saphyr_parser.specs.Printed.{escape, escaped};
@@ -60,20 +60,49 @@ fn split_plain(text: &[u8]) -> (&[u8], &[u8])
     text.split_at(count)
 }
 
-fn write_escape<W: Write>(out: &mut W, byte: u8) -> Result<(), Unwritten>
-    ensures { Takes result (W.contents out.old) (W.contents out.new) (escape byte) }
+// The letter that stands behind the backslash for a byte that is escaped.
+#[inline]
+fn letter_of(byte: u8) -> Option<u8>
+    ensures letter { IfSome result (λ letter. escape byte ≡ 92 ∷ (letter ∷ [])) }
+    ensures none { IfNone result (escape byte ≡ byte ∷ []) }
 {
     match byte {
-        b'\\' => write_all(out, b"\\\\"),
-        b'\n' => write_all(out, b"\\n"),
-        b'\r' => write_all(out, b"\\r"),
-        b'\t' => write_all(out, b"\\t"),
-        8 => write_all(out, b"\\b"),
-        _ => write_all(out, &[byte]),
+        b'\\' => Some(b'\\'),
+        b'\n' => Some(b'n'),
+        b'\r' => Some(b'r'),
+        b'\t' => Some(b't'),
+        8 => Some(b'b'),
+        _ => None,
     }
 }
 
-// Writes a scalar's text. What needs no escape is written in one piece.
+// Puts the escapes of bytes that stand in front into the room: of how many bytes, and how many places they fill. The
+// first byte may be one that isn't escaped.
+fn gather_escapes(text: &[u8], room: &mut [u8; 64]) -> (usize, usize)
+    ensures within { result.0 ≤ length text.now }
+    ensures some { 0 < length text.now → 0 < result.0 }
+    ensures filled { result.1 ≤ 64 }
+    ensures gathered { take result.1 room.new ≡ escaped (take result.0 text.now) }
+{
+    let mut read = 0;
+    let mut filled = 0;
+    while read < text.len() && filled < 63 {
+        if let Some(letter) = letter_of(text[read]) {
+            room[filled] = b'\\';
+            room[filled + 1] = letter;
+            filled += 2;
+        } else if filled == 0 {
+            room[filled] = text[read];
+            filled += 1;
+        } else {
+            break;
+        }
+        read += 1;
+    }
+    (read, filled)
+}
+
+// Writes a scalar's text. What needs no escape is written in one piece, and so are escapes behind one another.
 #[tactic(auto, using(crate::proofs::Printed::Escapes::plain_written, crate::proofs::Printed::Escapes::plain_lost))]
 pub(super) fn write_escaped<W: Write>(out: &mut W, text: &[u8]) -> Result<(), Unwritten>
     ensures { Takes result (W.contents out.old) (W.contents out.new) (escaped text.now) }
@@ -82,11 +111,13 @@ pub(super) fn write_escaped<W: Write>(out: &mut W, text: &[u8]) -> Result<(), Un
     while !rest.is_empty() {
         let (plain, others) = split_plain(rest);
         write_all(out, plain)?;
-        let Some((byte, behind)) = others.split_first() else {
+        if others.is_empty() {
             return Ok(());
-        };
-        write_escape(out, *byte)?;
-        rest = behind;
+        }
+        let mut room = [0; 64];
+        let (read, filled) = gather_escapes(others, &mut room);
+        write_all(out, &room[..filled])?;
+        rest = &others[read..];
     }
     Ok(())
 }

@@ -1,7 +1,7 @@
 use Rattle.std.proofs.Common.{rules}
 use Rattle.saphyr_parser.specs.Printed.{escaped}
 use Rattle.saphyr_parser.specs.Written.{TakesSome, TakesUpTo}
-use Rattle.saphyr_parser.proofs.Printed.Escapes.{plain_written, plain_lost, escape_written, escape_lost}
+use Rattle.saphyr_parser.proofs.Printed.Escapes.{plain_written, plain_lost, escapes_written, escapes_lost}
 use Rattle.saphyr_parser.proofs.printing.writing.write_escaped.Goals as goal
 
 pub returns-in_err-write_all : goal.returns-in_err-write_all
@@ -14,19 +14,20 @@ returns-in_err-write_all g c =
     c.in_err-write_all.ensures in
     search rules
 
-pub returns-in_err-write_escape : goal.returns-in_err-write_escape
-returns-in_err-write_escape g c =
+pub returns-in_err-write_all-2 : goal.returns-in_err-write_all-2
+returns-in_err-write_all-2 g c =
     let written : TakesUpTo (g.W.Write.contents c.args.out.now) (g.W.Write.contents c.write_all.new.out)
     (escaped c.args.text.now) (escaped c.split_plain.result.1.now) =
     plain_written (g.W.Write.contents c.args.out.now) (g.W.Write.contents c.loop-rest.out)
     (g.W.Write.contents c.write_all.new.out) c.args.text.now c.loop-rest.rest.now c.split_plain.result.0.now
     c.split_plain.result.1.now c.split_plain.ensures.text c.split_plain.ensures.plain c.loop-rest.invariant
     c.in_ok-write_all.ensures in
-    let lost : TakesSome (g.W.Write.contents c.args.out.now) (g.W.Write.contents c.write_escape.new.out)
+    let lost : TakesSome (g.W.Write.contents c.args.out.now) (g.W.Write.contents c.write_all-in-loop-rest.new.out)
     (escaped c.args.text.now) =
-    escape_lost (g.W.Write.contents c.args.out.now) (g.W.Write.contents c.write_all.new.out)
-    (g.W.Write.contents c.write_escape.new.out) c.args.text.now c.split_plain.result.1.now c.in-Some.behind.now
-    c.in-Some.byte.now c.in-Some.ensures.cases.0 written c.in_err-write_escape.ensures in
+    escapes_lost (g.W.Write.contents c.args.out.now) (g.W.Write.contents c.write_all.new.out)
+    (g.W.Write.contents c.write_all-in-loop-rest.new.out) c.args.text.now c.split_plain.result.1.now
+    _ c.gather_escapes-read.result.0 c.gather_escapes-read.ensures.gathered written
+    c.in_err-write_all-2.ensures in
     search rules
 
 pub loop-rest-preserved : goal.loop-rest-preserved
@@ -37,6 +38,7 @@ loop-rest-preserved g c =
     (g.W.Write.contents c.write_all.new.out) c.args.text.now c.loop-rest.rest.now c.split_plain.result.0.now
     c.split_plain.result.1.now c.split_plain.ensures.text c.split_plain.ensures.plain c.loop-rest.invariant
     c.in_ok-write_all.ensures in
-    escape_written (g.W.Write.contents c.args.out.now) (g.W.Write.contents c.write_all.new.out)
-    (g.W.Write.contents c.write_escape.new.out) c.args.text.now c.split_plain.result.1.now c.in-Some.behind.now
-    c.in-Some.byte.now c.in-Some.ensures.cases.0 written c.in_ok-write_escape.ensures
+    escapes_written (g.W.Write.contents c.args.out.now) (g.W.Write.contents c.write_all.new.out)
+    (g.W.Write.contents c.write_all-in-loop-rest.new.out) c.args.text.now c.split_plain.result.1.now
+    _ c.gather_escapes-read.result.0 c.gather_escapes-read.ensures.gathered written
+    c.in_ok-write_all-2.ensures

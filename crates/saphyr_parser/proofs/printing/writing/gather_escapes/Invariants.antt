@@ -1,0 +1,15 @@
+use Rattle.std.proofs.Common.{◌≡◌, ◌≤◌, ◌-◌, ◌*◌, length, take}
+use Rattle.saphyr_parser.specs.Printed.{escaped}
+use Rattle.saphyr_parser.proofs.printing.writing.gather_escapes.Given as goal
+
+abbrev pub invariant-loop-read : goal.invariant-loop-read
+invariant-loop-read l = record {
+  room : length l.room ≡ 64;
+  within : l.read ≤ length l.text;
+  filled : l.filled ≤ 64;
+  some : l.filled ≤ 2 * l.read;
+  gathered : take l.filled l.room ≡ escaped (take l.read l.text);
+}
+
+abbrev pub decreases-loop-read : goal.decreases-loop-read
+decreases-loop-read l = length l.text - l.read
