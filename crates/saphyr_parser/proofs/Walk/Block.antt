@@ -7,7 +7,7 @@ use Rattle.saphyr_scanner.specs.Grammar.Tokens.{Kind, BlockEnd, BlockEntry, Key,
 use Rattle.saphyr_scanner.specs.Views.Tokens.{Piece}
 use Rattle.saphyr_parser.specs.declared.parser.context.Context.TheVariants.{Block, BlockMapping}
 use Rattle.saphyr_parser.specs.declared.parser.state.State.TheVariants as state
-use Rattle.saphyr_parser.specs.Steps.Machine.{◌>>=◌, Machine, put_back, take_from, with_pieces, left_out}
+use Rattle.saphyr_parser.specs.Steps.Machine.{◌>>=◌, Machine, put_back, take_from, with_pieces, left_out_event}
 use Rattle.saphyr_parser.specs.Steps.Block.{sequence_node, sequence_node_at, sequence_entry, sequence_entry_at, indentless_node, indentless_node_at, indentless_entry, indentless_entry_at, key_node, key_node_at, mapping_key, mapping_key_at, value_node, value_node_at, mapping_value, mapping_value_at}
 use Rattle.saphyr_parser.specs.Answer.{is_value, begins_with_value}
 use Rattle.saphyr_parser.proofs.Walk.Steps.{Walk, On, Of, Taken, Gives, own, refused, first, put, behind, left, leaves_out, taken}
@@ -105,7 +105,7 @@ module _ (w : Walk) where
 
   -- a key behind a token that is no value
   left_key : {k : Kind} (t : Piece) (m : Machine) → is_value k ≡ false → Taken w 11 k t m
-      → Gives w (left_out t state.BlockMappingKey t.span m)
+      → Gives w (left_out_event t state.BlockMappingKey t.span m)
   left_key t m e a = (
     own w m a,
     record {

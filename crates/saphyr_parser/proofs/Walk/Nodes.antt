@@ -15,8 +15,8 @@ use Rattle.saphyr_parser.specs.declared.parser.state.State.{State}
 use Rattle.saphyr_parser.specs.declared.parser.state.State.TheVariants as state
 use Rattle.saphyr_parser.specs.Events.{ResolvedTag}
 use Rattle.saphyr_parser.specs.Steps.Machine.{◌>>=◌, Names, meaning, Machine, Told, put_back}
-use Rattle.saphyr_parser.specs.Steps.Tags.{undeclared, declared_or, prefix_of, resolved, is_named}
-use Rattle.saphyr_parser.specs.Steps.Nodes.{Properties, no_properties, has_property, without_content, content, content_at, next_content, alias, alias_of, register, behind_anchor, behind_anchor_at, behind_tag, behind_tag_at, node, node_at, inside}
+use Rattle.saphyr_parser.specs.Steps.Tags.{undeclared, declared_or, declared_prefix, resolved, is_named_handle}
+use Rattle.saphyr_parser.specs.Steps.Nodes.{NodeProperties, no_node_properties, has_property, without_content, content, content_at, next_content, alias, alias_of, register, behind_anchor, behind_anchor_at, behind_tag, behind_tag_at, node, node_at, inside}
 use Rattle.saphyr_parser.specs.Steps.Contexts.{allows_block, allows_indentless}
 use Rattle.saphyr_parser.specs.Answer.{weight}
 use Rattle.saphyr_parser.proofs.Walk.Steps.{Walk, HasPlace, Of, Taken, Gives, own, refused, put, behind, pushed, entered, left, taken_behind}
@@ -69,13 +69,13 @@ module _ (w : Walk) where
 
   tag_at : (names : Names (List ℕ)) (handle suffix : List ℕ) (place : Marker) → w.Spans place place
       → At (resolved names handle suffix place)
-  unfolding resolved prefix_of
+  unfolding resolved declared_prefix
   tag_at names handle suffix place p =
-      suffixed (prefix_of names handle place) suffix
+      suffixed (declared_prefix names handle place) suffix
       (unless (nat_eq (length handle) 0) (Ok handle) _ tt
       (or_declared (meaning handle names) (undeclared handle place)
       (unless (bytes_eq handle (codes "!!")) (Ok (codes "tag:yaml.org,2002:")) _ tt
-      (unless (is_named handle) (Err (record { text = fault.UndeclaredHandle; mark = place })) (Ok handle)
+      (unless (is_named_handle handle) (Err (record { text = fault.UndeclaredHandle; mark = place })) (Ok handle)
       (w.fails _ place p) tt))))
 
   then_gives : (r : Result ResolvedTag Refusal) (go : ResolvedTag → Result Told Refusal) → At r
@@ -85,13 +85,13 @@ module _ (w : Walk) where
 
   -- ## Content
 
-  no_content : {d : ℕ} {k : Kind} (p : Properties) (t : Piece) (m : Machine) → (has_property p ≡ true → 10 ≤ d)
+  no_content : {d : ℕ} {k : Kind} (p : NodeProperties) (t : Piece) (m : Machine) → (has_property p ≡ true → 10 ≤ d)
       → w.Spans p.start p.behind → Taken w d k t m → Gives w (without_content p t m)
   no_content p t m l s a =
       either (has_property p) _ _ (λ e. (s, left w (put_back t m) (put w m (l e) a))) (refused w m a)
 
   -- properties, if there are any, stand before the token
-  contents_at : {d : ℕ} (k : Kind) (p : Properties) (c : Context) (t : Piece) (m : Machine)
+  contents_at : {d : ℕ} (k : Kind) (p : NodeProperties) (c : Context) (t : Piece) (m : Machine)
       → (has_property p ≡ true → 10 ≤ d) → room c ≤ d → w.Spans p.start p.behind → w.Spans p.behind t.span.start
       → Taken w d k t m → Gives w (content_at k p c t m)
   contents_at {d} k p c t m l n s b a = by k a
@@ -127,12 +127,12 @@ module _ (w : Walk) where
       by _ a = no_content p t m l s a
 
   -- behind properties
-  contents : {k : Kind} (p : Properties) (c : Context) (t : Piece) (m : Machine) → w.Spans p.start p.behind
+  contents : {k : Kind} (p : NodeProperties) (c : Context) (t : Piece) (m : Machine) → w.Spans p.start p.behind
       → w.Spans p.behind t.span.start → Taken w 11 k t m → Gives w (content p c t m)
   unfolding content
   contents p c t m s b a = contents_at t.kind p c t m (λ e. omega arith) (most c) s b (refl, a.1)
 
-  next_contents : (p : Properties) (c : Context) (m : Machine) → w.Spans p.start p.behind → Of w p.behind 11 m
+  next_contents : (p : NodeProperties) (c : Context) (m : Machine) → w.Spans p.start p.behind → Of w p.behind 11 m
       → Gives w (next_content p c m)
   unfolding next_content
   next_contents p c m s a = taken_behind w m _ a (λ t k b a. contents p c t k s b a)
@@ -185,7 +185,7 @@ module _ (w : Walk) where
       (behind w m refl (let x = least c in omega (arith, x, n)) a)
   nodes_at _ c t m n a =
       let s : w.Spans t.span.start t.span.start = w.first _ _ (own w m a) in
-      contents_at t.kind (no_properties t.span.start) c t m (λ e. absurd (cc)) n s s (refl, a.1)
+      contents_at t.kind (no_node_properties t.span.start) c t m (λ e. absurd (cc)) n s s (refl, a.1)
 
   pub nodes : {d : ℕ} {k : Kind} (c : Context) (t : Piece) (m : Machine) → room c ≤ d → Taken w d k t m
       → Gives w (node c t m)

@@ -10,7 +10,7 @@ use Rattle.saphyr_scanner.specs.Grammar.Tokens.{Kind}
 use Rattle.saphyr_scanner.specs.Views.Tokens.{Piece}
 use Rattle.saphyr_parser.specs.declared.parser.state.State.{State}
 use Rattle.saphyr_parser.specs.declared.parser.state.State.TheVariants as state
-use Rattle.saphyr_parser.specs.Steps.Machine.{◌>>=◌, Machine, Told, ending, take, take_from, with_pieces, put_back, pop, popped, enter, left_out}
+use Rattle.saphyr_parser.specs.Steps.Machine.{◌>>=◌, Machine, Told, ending, take, take_from, with_pieces, put_back, pop, popped, enter, left_out_event}
 use Rattle.saphyr_parser.specs.Answer.{weight, weight_before, begins_with_value, total_weight}
 
 abbrev pub is_end : Kind → Bool
@@ -164,7 +164,7 @@ module _ (w : Walk) where
 
   -- a node is left out before the token
   pub leaves_out : {d : ℕ} {k : Kind} (t : Piece) (s : State) (span : Span) (m : Machine) → HasPlace w.Spans s
-      → 10 + weight s ≤ d → w.Spans span.start span.end → Taken w d k t m → Gives w (left_out t s span m)
+      → 10 + weight s ≤ d → w.Spans span.start span.end → Taken w d k t m → Gives w (left_out_event t s span m)
   leaves_out t s span m p l i a = (i, entered s (put_back t m) p (put m l a))
 
   -- ## Steps that take a token first
