@@ -6,7 +6,7 @@ use Rattle.std.specs.BTreeMap.{BTreeMap, IsClone}
 use Rattle.saphyr_scanner.specs.declared.token.Token.{Token}
 use Rattle.saphyr_scanner.specs.Views.Tokens.{Remaining, Piece, piece, before}
 use Rattle.saphyr_parser.specs.Names.{ids_of, texts_of}
-use Rattle.saphyr_parser.specs.Views.Machines.{ahead}
+use Rattle.saphyr_parser.specs.Views.Machines.{with_token_ahead}
 use Rattle.saphyr_parser.proofs.Names.{seen}
 
 -- ## Maps from texts
@@ -34,12 +34,12 @@ abbrev ahead_of : Option Piece → Remaining → Remaining
 ahead_of None r = r
 ahead_of (Some p) r = before p r
 
-ahead_seen : (t : Option Token) (r : Remaining) → ahead t r ≡ ahead_of (option_map piece t) r
+ahead_seen : (t : Option Token) (r : Remaining) → with_token_ahead t r ≡ ahead_of (option_map piece t) r
 ahead_seen None r = refl
 ahead_seen (Some t) r = refl
 
 pub ahead_copied : (s t : Option Token) (q r : Remaining) → option_map piece s ≡ option_map piece t → q ≡ r
-    → ahead s q ≡ ahead t r
+    → with_token_ahead s q ≡ with_token_ahead t r
 ahead_copied s t q r e f =
     ahead_seen s q ∙ ap (λ (p : Option Piece). ahead_of p q) e
     ∙ ap (λ (rest : Remaining). ahead_of (option_map piece t) rest) f ∙ sym (ahead_seen t r)

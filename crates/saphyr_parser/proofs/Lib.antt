@@ -1,6 +1,7 @@
 pub mod Names
 pub mod Stacks
 pub mod Passing
+pub mod Walk
 pub mod Sizes
 pub mod Spans
 pub mod Unroll

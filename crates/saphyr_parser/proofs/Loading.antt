@@ -9,9 +9,9 @@ use Rattle.saphyr_parser.specs.declared.parser.receiver.Refused.{Refused}
 use Rattle.saphyr_parser.specs.Events.{Happening}
 use Rattle.saphyr_parser.specs.Answer as answer
 use Rattle.saphyr_parser.specs.Answer.{Answer, Ending, before, failed}
-use Rattle.saphyr_parser.specs.Cursor.{Cursor, Kept, IsKept, IsUnmoved, IsUntold, Stays, count, finished_behind, inside_behind, to_come, told}
+use Rattle.saphyr_parser.specs.Cursor.{Cursor, Kept, IsKept, IsUnmoved, IsUntold, Stays, count, finished_behind, inside_behind, to_come, kept_answer}
 use Rattle.saphyr_parser.specs.Calls.{Advances, AdvancesOver, Looks}
-use Rattle.saphyr_parser.specs.Loading.{Part, is_last, with_event, part, to_send, inside_over, finished_over, Remembered, Passed, Keeps, Tells, Sends, SendsOne, Stopped, Lost, Finished, Faulted, Loads}
+use Rattle.saphyr_parser.specs.Loading.{Part, is_last, with_event, part, to_send, inside_over, finished_over, Remembered, PassedOver, Keeps, Tells, Sends, SendsOne, Stopped, Lost, Finished, Faulted, Loads}
 use Rattle.saphyr_parser.proofs.Calls.Handing.{advances, over_more, remembers}
 use Rattle.saphyr_parser.proofs.Calls.Looking.{looked, looked_over, looks_stays, untold}
 
@@ -67,8 +67,8 @@ cut false e p = (p.sent, refl)
 remembered_one : (mid new : Cursor) (e : Happening × Span) → Advances e mid new → Remembered mid (e ∷ []) new
 remembered_one mid new e h = let r = remembers e mid new h in record { inside = r.0; finished = r.1 }
 
-passed_more : (old mid new : Cursor) (es : List (Happening × Span)) (e : Happening × Span) → Passed old es mid
-    → Advances e mid new → Passed old (es ++ (e ∷ [])) new
+passed_more : (old mid new : Cursor) (es : List (Happening × Span)) (e : Happening × Span) → PassedOver old es mid
+    → Advances e mid new → PassedOver old (es ++ (e ∷ [])) new
 passed_more old mid new es e so step =
     let is = advances e mid new step in
     let next = remembered_one mid new e step in
@@ -82,8 +82,8 @@ unmoved_too : (old mid new : Cursor) (es : List (Happening × Span)) → Remembe
     → Remembered old es new
 unmoved_too old mid new es so same = record { inside = same.0 ∙ so.inside; finished = same.1 ∙ so.finished }
 
-passed_still : (old mid new : Cursor) (es : List (Happening × Span)) → Passed old es mid → to_come new ≡ to_come mid
-    → IsUnmoved mid new → Passed old es new
+passed_still : (old mid new : Cursor) (es : List (Happening × Span)) → PassedOver old es mid → to_come new ≡ to_come mid
+    → IsUnmoved mid new → PassedOver old es new
 passed_still old mid new es so is same = record {
   events = so.events ∙ ap (λ (a : Answer). es ++ a.events) (sym is);
   fault = so.fault ∙ ap (λ (a : Answer). a.fault) (sym is);
@@ -96,12 +96,12 @@ with_kept : (k : Kept) → k.given ≡ false → Some k ≡ Some (record { fault
 with_kept k h = ap (λ (b : Bool). let x : Kept = record { fault = k.fault; given = b } in Some x) h
 
 settled : (new : Cursor) (k : Kept) → new.kept ≡ Some k → new.current ≡ None → IsUntold new.current new.kept
-    → to_come new ≡ told new.kept → Keeps k.fault new × (to_come new ≡ failed k.fault)
+    → to_come new ≡ kept_answer new.kept → Keeps k.fault new × (to_come new ≡ failed k.fault)
 settled new k is nothing untold left =
     let here : IsUntold None (Some k) = subst (λ (o : Option Kept). IsUntold None o) is
     (subst (λ (o : Option (Happening × Span)). IsUntold o new.kept) nothing untold) in
     let same : new.kept ≡ Some (record { fault = k.fault; given = false }) = is ∙ with_kept k here in
-    (record { current = nothing; kept = same }, left ∙ ap told same)
+    (record { current = nothing; kept = same }, left ∙ ap kept_answer same)
 
 other : (m : _) (info : _) → (let o : Option Ending = Some (answer.Refused m info) in o) ≡ Some answer.OutOfMemory → ⊥
 other m info e = cc
@@ -138,7 +138,7 @@ module _ {R : Type 0} (receives : R → Happening × Span → Result (Unit {0}) 
   pub record Going (multi : Bool) (old : Cursor) (first last : R) (new : Cursor) : Type 0 where
     pub sent : List (Happening × Span)
     pub part : to_send multi old ≡ with_events sent (to_send multi new)
-    pub passed : Passed old sent new
+    pub passed : PassedOver old sent new
     pub sends : Sends receives first sent last
     pub leaves : AdvancesOver sent old new
     pub kept : new.kept ≡ None
@@ -183,7 +183,7 @@ module _ {R : Type 0} (receives : R → Happening × Span → Result (Unit {0}) 
         fault = ap (λ (q : Part). q.fault) p;
         sends = subst (λ (l : List (Happening × Span)). Sends receives first l next) (sym all)
             (one_more first last next so.sent e so.sends taken);
-        passed = subst (λ (l : List (Happening × Span)). Passed old l new) (sym all)
+        passed = subst (λ (l : List (Happening × Span)). PassedOver old l new) (sym all)
             (passed_more old mid new so.sent e so.passed is.0);
         leaves = subst (λ (l : List (Happening × Span)). AdvancesOver l old new) (sym all)
             (over_more so.sent e old mid new so.leaves is.0);
@@ -236,8 +236,8 @@ module _ {R : Type 0} (receives : R → Happening × Span → Result (Unit {0}) 
       record {
         fault = ap (λ (q : Part). q.fault) p;
         sends = subst (λ (l : List (Happening × Span)). Sends receives first l last) (sym all) so.sends;
-        passed = subst (λ (l : List (Happening × Span)). Passed old l new) (sym all)
-            (subst (λ (c : Cursor). Passed old so.sent c) (sym same) so.passed);
+        passed = subst (λ (l : List (Happening × Span)). PassedOver old l new) (sym all)
+            (subst (λ (c : Cursor). PassedOver old so.sent c) (sym same) so.passed);
         leaves = subst (λ (l : List (Happening × Span)). AdvancesOver l old new) (sym all)
             (subst (λ (c : Cursor). AdvancesOver so.sent old c) (sym same) so.leaves);
         kept = none;
@@ -252,7 +252,7 @@ module _ {R : Type 0} (receives : R → Happening × Span → Result (Unit {0}) 
       record {
         met = ap (λ (q : Part). q.fault) p;
         sends = subst (λ (l : List (Happening × Span)). Sends receives first l last) (sym all) so.sends;
-        passed = subst (λ (l : List (Happening × Span)). Passed old l new) (sym all)
+        passed = subst (λ (l : List (Happening × Span)). PassedOver old l new) (sym all)
             (passed_still old mid new so.sent so.passed is same);
         leaves = (mid, subst (λ (l : List (Happening × Span)). AdvancesOver l old mid) (sym all) so.leaves, looks);
         keeps = keeps;
@@ -302,7 +302,7 @@ module _ {R : Type 0} (receives : R → Happening × Span → Result (Unit {0}) 
       → Loads receives r (to_send multi old) old first last new
   over (Ok u) multi old mid new first last so (looks, nothing) h =
       finished multi old mid new first last so (looked_over mid new looks nothing h)
-      (looked mid new looks nothing ∙ ap told h) h
+      (looked mid new looks nothing ∙ ap kept_answer h) h
   over (Err (faults.Scan e)) multi old mid new first last so (looks, nothing) (given, h) =
       let stays = looks_stays mid new looks in
       let s = settled new (record { fault = answer.Refused e.mark (string_bytes e.info); given = given }) h nothing

@@ -137,7 +137,7 @@ follow_is_content InBlockMapping (tokens.Tag _ _) h = h
 follow_is_content _ _ h = tt
 
 -- behind properties it shows that their node has no content
-pub follow_ends : (c : grammar.Context) (k : Kind) (q : steps.Properties) (t : Piece) (m : Machine) → MayFollow c k
+pub follow_ends : (c : grammar.Context) (k : Kind) (q : steps.NodeProperties) (t : Piece) (m : Machine) → MayFollow c k
     → content_at k q (context_of c) t m ≡ without_content q t m
 follow_ends InFlow tokens.FlowEntry q t m h = refl
 follow_ends InFlow tokens.FlowSequenceEnd q t m h = refl

@@ -6,7 +6,7 @@ use Rattle.saphyr_scalar.specs.declared.scalar.style.ScalarStyle.TheVariants.{Pl
 use Rattle.saphyr_scanner.specs.Grammar.Tokens.{Kind, BlockEntry}
 use Rattle.saphyr_scanner.specs.Views.Tokens.{Piece}
 use Rattle.saphyr_parser.specs.Events.{Happening, Scalar}
-use Rattle.saphyr_parser.specs.Steps.Nodes.{Properties}
+use Rattle.saphyr_parser.specs.Steps.Nodes.{NodeProperties}
 use Rattle.saphyr_parser.specs.EventsTaken.{BelongsToNone, IsAnchorKind, IsTagKind, ArePropertyTokens, Spans, SpansAll, AreContentTokens, BeginsEntries, IsOf, HaveTokens}
 use Rattle.saphyr_parser.specs.EventsTaken as taking
 
@@ -61,34 +61,34 @@ own_more used ts unread what span es o h =
 -- ## Properties
 
 -- the tokens of properties, and their places
-abbrev pub Shape : List Piece → Properties → Type 0
+abbrev pub Shape : List Piece → NodeProperties → Type 0
 Shape [] q = (q.anchor ≡ 0) × (q.tag ≡ None)
 Shape (p ∷ []) q = (IsAnchorKind p.kind ⊎ IsTagKind p.kind) × (q.start ≡ p.span.start) × (q.behind ≡ p.span.end)
 Shape (p ∷ r ∷ []) q = ArePropertyTokens (p ∷ r ∷ []) × (q.start ≡ p.span.start) × (q.behind ≡ r.span.end)
 Shape _ q = ⊥
 
 -- content without properties begins with its own token
-abbrev pub StartsAt : List Piece → Marker → Properties → Type 0
+abbrev pub StartsAt : List Piece → Marker → NodeProperties → Type 0
 StartsAt [] m q = q.start ≡ m
 StartsAt _ m q = Unit {0}
 
 from_to : Marker → Marker → Span
 from_to a b = record { start = a; end = b }
 
-pub content_spans : (front : List Piece) (q : Properties) (t : Piece) → Shape front q → StartsAt front t.span.start q
+pub content_spans : (front : List Piece) (q : NodeProperties) (t : Piece) → Shape front q → StartsAt front t.span.start q
     → SpansAll (front ++ t ∷ []) (record { start = q.start; end = t.span.end })
 content_spans [] q t h s = ap (λ (m : Marker). let x : Span = record { start = m; end = t.span.end } in x) s
 content_spans (p ∷ []) q t h s = ap (λ (m : Marker). let x : Span = record { start = m; end = t.span.end } in x) h.1
 content_spans (p ∷ r ∷ []) q t h s = ap (λ (m : Marker). let x : Span = record { start = m; end = t.span.end } in x) h.1
 content_spans (p ∷ r ∷ z ∷ l) q t h s = absurd h
 
-properties_are : (front : List Piece) (q : Properties) → Shape front q → (front ≡ []) ⊎ ArePropertyTokens front
+properties_are : (front : List Piece) (q : NodeProperties) → Shape front q → (front ≡ []) ⊎ ArePropertyTokens front
 properties_are [] q h = inl refl
 properties_are (p ∷ []) q h = inr h.0
 properties_are (p ∷ r ∷ []) q h = inr h.0
 properties_are (p ∷ r ∷ z ∷ l) q h = absurd h
 
-pub content_is : (kind : Kind) (front : List Piece) (q : Properties) (t : Piece) → t.kind ≡ kind → Shape front q
+pub content_is : (kind : Kind) (front : List Piece) (q : NodeProperties) (t : Piece) → t.kind ≡ kind → Shape front q
     → AreContentTokens kind (front ++ t ∷ [])
 content_is kind front q t k h = (front, t, properties_are front q h, k, refl)
 
@@ -99,7 +99,7 @@ both_places a b c d h k =
     ∙ ap (λ (m : Marker). let x : Span = record { start = c; end = m } in x) k
 
 -- properties alone
-pub alone_is : (front : List Piece) (q : Properties) → Shape front q
+pub alone_is : (front : List Piece) (q : NodeProperties) → Shape front q
     → IsOf (Scalar [] Plain q.anchor q.tag) (record { start = q.start; end = q.behind }) (front ++ []) []
 alone_is [] q h = inr (inr (refl, refl, h.0, h.1, refl))
 alone_is (p ∷ []) q h = inr (inl (refl, refl, h.0, both_places q.start q.behind p.span.start p.span.end h.1 h.2))
@@ -107,7 +107,7 @@ alone_is (p ∷ r ∷ []) q h = inr (inl (refl, refl, h.0, both_places q.start q
 alone_is (p ∷ r ∷ z ∷ l) q h = absurd h
 
 -- a collection without a start of its own, before its first entry
-pub no_opening : (front : List Piece) (q : Properties) (t : Piece) (others : List Piece) → t.kind ≡ BlockEntry
+pub no_opening : (front : List Piece) (q : NodeProperties) (t : Piece) (others : List Piece) → t.kind ≡ BlockEntry
     → Shape front q → StartsAt front t.span.start q
     → BeginsEntries front (record { start = q.start; end = t.span.end }) (t ∷ others)
 no_opening front q t others k h s = (k, properties_are front q h, content_spans front q t h s)

@@ -13,7 +13,7 @@ use Rattle.saphyr_scanner.specs.Grammar.Tokens as tokens
 use Rattle.saphyr_scanner.specs.Grammar.Tokens.{Kind, tag_token}
 use Rattle.saphyr_scanner.specs.Views.Tokens.{Piece}
 use Rattle.saphyr_scanner.specs.TokensTaken.{IsScalarToken, IsToken, open_behind, least_column, AreTokens}
-use Rattle.saphyr_parser.proofs.Refusing.Nodes.{IsLastOr, AreEnded}
+use Rattle.saphyr_parser.proofs.Refusing.{IsLastOr, AreEnded}
 use Rattle.saphyr_parser.specs.WellFormed.{IsEncoded, IsWellFormed, MayStandBefore, AreWellFormed}
 use Rattle.saphyr_scalar.proofs.Properties.TagsRead.{mark_bytes}
 

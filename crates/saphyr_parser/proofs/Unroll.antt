@@ -1,50 +1,14 @@
 -- The events still to come, one step at a time.
-use Rattle.std.proofs.Common.{Bool, true, false, ◌≡◌, ◌≢◌, ℕ, zero, suc, ◌+◌, ◌≤◌, ◌<◌, Result, Ok, Err, refl, ap, ◌∙◌, arith}
+use Rattle.std.proofs.Common.{Bool, true, false, ◌≡◌, ◌≢◌, ℕ, zero, suc, ◌-◌, ◌≤◌, ◌<◌, List, Result, Ok, Err, refl, ap, ◌∙◌, arith, subst}
 use Rattle.std.specs.Prelude.{if◌then◌else◌}
 use Rattle.saphyr_scalar.specs.declared.scalar.fault.Refusal.{Refusal}
-use Rattle.saphyr_parser.specs.declared.parser.context.Context.TheVariants.{Block}
+use Rattle.saphyr_scanner.specs.Views.Tokens.{Piece}
 use Rattle.saphyr_parser.specs.declared.parser.state.State.{State}
 use Rattle.saphyr_parser.specs.declared.parser.state.State.TheVariants as state
 use Rattle.saphyr_parser.specs.Steps.Machine.{Machine, Told}
-use Rattle.saphyr_parser.specs.Steps.Expected.{block_node, step, step_at}
-use Rattle.saphyr_parser.specs.Answer.{Answer, none, before, deliver, unless_ended, run, remaining, open_size, size, weight_before, begins_with_value}
-use Rattle.saphyr_parser.proofs.Sizes.Steps.{Within, refuses, taken}
-use Rattle.saphyr_parser.proofs.Sizes.Nodes.{node_within}
-use Rattle.saphyr_parser.proofs.Sizes.Block as block
-use Rattle.saphyr_parser.proofs.Sizes.Flow as flow
-use Rattle.saphyr_parser.proofs.Sizes.Documents as document
-
-block_node_within : (n : ℕ) (m : Machine) → open_size m ≤ n → Within n (block_node m)
-unfolding block_node
-block_node_within n m l = taken n m _ (λ t k e. node_within n Block t k (omega (arith, l, e)))
-
-keyed : (b : Bool) (k n : ℕ) → k + (if b then 3 else 1) ≤ n + 1 → k + (if b then 2 else 0) ≤ n
-keyed true k n l = omega (arith, l)
-keyed false k n l = omega (arith, l)
-
-steps_at : (n : ℕ) (s : State) (m : Machine) → open_size m + weight_before s m.tokens.pieces ≤ n + 1
-    → Within n (step_at s m)
-steps_at n state.StreamStart m l = document.stream_start_within n m (omega (arith, l))
-steps_at n state.ImplicitDocumentStart m l = document.implicit_start_within n m (omega (arith, l))
-steps_at n state.DocumentStart m l = document.explicit_start_within n m (omega (arith, l))
-steps_at n state.DocumentContent m l = document.document_content_within n m (omega (arith, l))
-steps_at n state.DocumentEnd m l = document.document_end_within n m (omega (arith, l))
-steps_at n state.BlockNode m l = block_node_within n m (omega (arith, l))
-steps_at n state.BlockSequenceEntry m l = block.sequence_entry_within n m (omega (arith, l))
-steps_at n state.IndentlessSequenceEntry m l = block.indentless_entry_within n m (omega (arith, l))
-steps_at n state.BlockMappingKey m l =
-    block.mapping_key_within n m (keyed (begins_with_value m.tokens.pieces) (open_size m) n l)
-steps_at n state.BlockMappingValue m l = block.mapping_value_within n m (omega (arith, l))
-steps_at n state.FlowSequenceFirstEntry m l = flow.first_entry_within n m (omega (arith, l))
-steps_at n state.FlowSequenceEntry m l = flow.other_entry_within n m (omega (arith, l))
-steps_at n state.FlowSequenceEntryMappingKey m l = flow.pair_key_within n m (omega (arith, l))
-steps_at n state.FlowSequenceEntryMappingValue m l = flow.pair_value_within n m (omega (arith, l))
-steps_at n (state.FlowSequenceEntryMappingEnd place) m l = flow.pair_end_within n place m (omega (arith, l))
-steps_at n state.FlowMappingFirstKey m l = flow.first_pair_within n m (omega (arith, l))
-steps_at n state.FlowMappingKey m l = flow.other_pair_within n m (omega (arith, l))
-steps_at n state.FlowMappingValue m l = flow.mapping_value_within n m (omega (arith, l))
-steps_at n state.FlowMappingEmptyValue m l = flow.empty_value_within n m (omega (arith, l))
-steps_at n state.End m l = refuses n _
+use Rattle.saphyr_parser.specs.Steps.Expected.{step, step_at}
+use Rattle.saphyr_parser.specs.Answer.{Answer, none, before, deliver, unless_ended, run, remaining, size, weight_before, begins_with_value}
+use Rattle.saphyr_parser.proofs.Sizes.{step_leaves}
 
 key_is_positive : (b : Bool) → 0 < (if b then 3 else 1)
 key_is_positive true = omega arith
@@ -55,11 +19,16 @@ alive_at state.End m x e = absurd (cc)
 alive_at state.BlockMappingKey m x e = key_is_positive (begins_with_value m.tokens.pieces)
 alive_at _ m x e = omega arith
 
+going : (s : State) (ts : List Piece) → 0 < weight_before s ts → s ≢ state.End
+going s ts l e = let none = subst (λ s. 0 < weight_before s ts) e l in absurd (omega (arith, none))
+
 -- a step leaves less than there was
 pub shrinks_at : (n : ℕ) (m : Machine) (x : Told) → size m ≤ n → step m ≡ Ok x → size x.machine < n
 unfolding step
-shrinks_at zero m x l e = let alive = alive_at m.state m x e in absurd (omega (arith, l, alive))
-shrinks_at (suc n) m x l e = let b = (steps_at n m.state m (omega (arith, l))).bound x e in omega (arith, b)
+shrinks_at n m x l e =
+    let alive = alive_at m.state m x e in
+    let less = step_leaves (n - 1) m x (going m.state m.tokens.pieces alive) (omega (arith, l, alive)) e in
+    omega (arith, less, l, alive)
 
 same_delivery : (r : Result Told Refusal) (go ho : Machine → Answer)
     → ((x : Told) → r ≡ Ok x → go x.machine ≡ ho x.machine) → deliver r go ≡ deliver r ho

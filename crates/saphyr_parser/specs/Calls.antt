@@ -15,7 +15,7 @@ use Rattle.saphyr_parser.specs.Views.Machines.{happening}
 use Rattle.saphyr_parser.specs.Steps.Machine.{Machine, told}
 use Rattle.saphyr_parser.specs.Steps.Expected.{step}
 use Rattle.saphyr_parser.specs.Answer.{Answer, Ending, Refused, OutOfMemory, failed, none, remaining}
-use Rattle.saphyr_parser.specs.Cursor.{Cursor, Kept, IsUnmoved, Refuses, Shows, Stays, count, ending_of, event_of, keeping_tags, remembered, to_come}
+use Rattle.saphyr_parser.specs.Cursor.{Cursor, Kept, IsUnmoved, Refuses, Shows, Stays, count, ending_of_fault, event_of, keeping_tags, remembered, to_come}
 
 -- what was read, where an event or a fault is written into its place
 abbrev pub placed : Event × Span → Fault → Progress → Option (Result (Event × Span) Fault)
@@ -65,7 +65,7 @@ IsToldAs kept fault.Receiver = ⊥
 IsToldAs kept fault.InsideDocument = ⊥
 
 abbrev pub as_given : Fault → Option Kept
-as_given f = Some (record { fault = ending_of f; given = true })
+as_given f = Some (record { fault = ending_of_fault f; given = true })
 
 abbrev pub FailsFrom : Option (Happening × Span) → Option Kept → Fault → Cursor → Cursor → Type 0
 FailsFrom (Some next) kept f old new = ⊥
@@ -136,7 +136,7 @@ IsGivenOrNone (Some k) = k.given ≡ true
 abbrev pub IsShown : Option (Result (Bor (Event × Span)) (Bor Fault)) → Cursor → Type 0
 IsShown None c = (c.current ≡ None) × IsGivenOrNone c.kept
 IsShown (Some (Ok e)) c = c.current ≡ Some (event_of e.now)
-IsShown (Some (Err f)) c = (c.current ≡ None) × (c.kept ≡ Some (record { fault = ending_of f.now; given = false }))
+IsShown (Some (Err f)) c = (c.current ≡ None) × (c.kept ≡ Some (record { fault = ending_of_fault f.now; given = false }))
 
 -- What `peek` shows, and the parser that it leaves.
 pub record Peeks (old : Cursor) (shown : Option (Result (Bor (Event × Span)) (Bor Fault))) (new : Cursor) : Type 0 where

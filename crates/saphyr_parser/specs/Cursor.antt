@@ -63,11 +63,11 @@ filled next (Some (Ok x)) = Some (Ok next)
 filled next (Some (Err f)) = Some (Err f)
 
 -- what ends the events; the last two faults are given by `load` alone
-abbrev pub ending_of : Fault → Ending
-ending_of (fault.Scan e) = Refused e.mark (string_bytes e.info)
-ending_of fault.OutOfMemory = OutOfMemory
-ending_of fault.Receiver = OutOfMemory
-ending_of fault.InsideDocument = OutOfMemory
+abbrev pub ending_of_fault : Fault → Ending
+ending_of_fault (fault.Scan e) = Refused e.mark (string_bytes e.info)
+ending_of_fault fault.OutOfMemory = OutOfMemory
+ending_of_fault fault.Receiver = OutOfMemory
+ending_of_fault fault.InsideDocument = OutOfMemory
 
 -- Nothing is left but this fault. Memory may run out before anything that is left.
 abbrev pub Refuses : Fault → Answer → Type 0
@@ -87,9 +87,9 @@ abbrev pub Stays : Answer → Answer → Type 0
 Stays old new = (new ≡ old) ⊎ ((0 < count old) × (new ≡ failed OutOfMemory))
 
 -- what remains where no event was read ahead and none can be
-abbrev pub told : Option Kept → Answer
-told None = none
-told (Some k) = if k.given then none else failed k.fault
+abbrev pub kept_answer : Option Kept → Answer
+kept_answer None = none
+kept_answer (Some k) = if k.given then none else failed k.fault
 
 -- a fault was kept
 abbrev pub IsKept : Option Kept → Type 0
@@ -125,7 +125,7 @@ remembered what span c =
 abbrev pub IsGiven : Option (Result (Event × Span) Fault) → Option Kept → Type 0
 IsGiven None kept = Unit {0}
 IsGiven (Some (Ok e)) kept = Unit {0}
-IsGiven (Some (Err f)) kept = kept ≡ Some (record { fault = ending_of f; given = true })
+IsGiven (Some (Err f)) kept = kept ≡ Some (record { fault = ending_of_fault f; given = true })
 
 abbrev pub Remembers : Option (Result (Event × Span) Fault) → Cursor → Cursor → Type 0
 Remembers (Some (Ok e)) old new =
@@ -137,4 +137,4 @@ Remembers _ old new = IsUnmoved old new
 abbrev pub Shows : Option (Result (Bor (Event × Span)) (Bor Fault)) → Answer → Type 0
 Shows None a = a ≡ none
 Shows (Some (Ok e)) a = (others : Answer) × (a ≡ before (event_of e.now) others)
-Shows (Some (Err f)) a = a ≡ failed (ending_of f.now)
+Shows (Some (Err f)) a = a ≡ failed (ending_of_fault f.now)

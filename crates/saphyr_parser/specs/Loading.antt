@@ -53,7 +53,7 @@ pub record Remembered (old : Cursor) (passed : List (Happening × Span)) (new : 
   pub finished : new.finished ≡ finished_over passed old.finished
 
 -- these events were passed, and all others are still to come
-pub record Passed (old : Cursor) (passed : List (Happening × Span)) (new : Cursor) : Type 0 where
+pub record PassedOver (old : Cursor) (passed : List (Happening × Span)) (new : Cursor) : Type 0 where
   pub events : (to_come old).events ≡ passed ++ (to_come new).events
   pub fault : (to_come old).fault ≡ (to_come new).fault
   pub remembered : Remembered old passed new
@@ -93,7 +93,7 @@ module _ {R : Type 0} (receives : R → Happening × Span → Result (Unit {0}) 
     pub part : p.sent ≡ sent ++ (event ∷ unsent)
     pub sends : Sends first sent middle
     pub refused : receives middle event (Err (record {})) last
-    pub passed : Passed old (sent ++ (event ∷ [])) new
+    pub passed : PassedOver old (sent ++ (event ∷ [])) new
     pub leaves : AdvancesOver (sent ++ (event ∷ [])) old new
     pub kept : new.kept ≡ None
 
@@ -116,7 +116,7 @@ module _ {R : Type 0} (receives : R → Happening × Span → Result (Unit {0}) 
   pub record Finished (p : Part) (old : Cursor) (first last : R) (new : Cursor) : Type 0 where
     pub fault : p.fault ≡ None
     pub sends : Sends first p.sent last
-    pub passed : Passed old p.sent new
+    pub passed : PassedOver old p.sent new
     pub leaves : AdvancesOver p.sent old new
     pub kept : new.kept ≡ None
 
@@ -124,7 +124,7 @@ module _ {R : Type 0} (receives : R → Happening × Span → Result (Unit {0}) 
   pub record Faulted (fault : Ending) (p : Part) (old : Cursor) (first last : R) (new : Cursor) : Type 0 where
     pub met : p.fault ≡ Some fault
     pub sends : Sends first p.sent last
-    pub passed : Passed old p.sent new
+    pub passed : PassedOver old p.sent new
     pub leaves : MeetsBehind p.sent old new
     pub keeps : Keeps fault new
 

@@ -18,8 +18,8 @@ use Rattle.saphyr_parser.specs.Printed.{lines}
 use Rattle.saphyr_parser.specs.Dumps.{Prints, Dumps}
 
 -- the events of a text in UTF-8, and the fault that may end them
-abbrev pub told : List ℕ → Answer
-told bytes = to_come (at_start (scan 4294967295 (chars bytes)))
+abbrev pub answer_of_text : List ℕ → Answer
+answer_of_text bytes = to_come (at_start (scan 4294967295 (chars bytes)))
 
 -- a beginning of the bytes was taken, and maybe all of them
 pub record TakesBeginning (old new : Option (List ℕ)) (bytes : List ℕ) : Type 0 where
@@ -57,7 +57,7 @@ ReadsAll old new bytes = Consumes old new bytes × IsAtEnd new
 abbrev pub ReadsText : Result (Unit {0}) RunFault → Option (List ℕ) → Option (List ℕ) → Option (List ℕ)
     → Option (List ℕ) → Type 0
 ReadsText outcome unread left old new =
-    (bytes : List ℕ) × ReadsAll unread left bytes × IsUtf8 bytes × PrintsText outcome (told bytes) old new
+    (bytes : List ℕ) × ReadsAll unread left bytes × IsUtf8 bytes × PrintsText outcome (answer_of_text bytes) old new
 
 -- What a run does with what it reads: the bytes that the reader has left, and those that the writer holds, before and
 -- behind.

@@ -8,7 +8,7 @@ use Rattle.saphyr_parser.specs.Events.{Happening}
 use Rattle.saphyr_parser.specs.Steps.Machine.{Machine, told as told_step}
 use Rattle.saphyr_parser.specs.Answer as answer
 use Rattle.saphyr_parser.specs.Answer.{Answer, Ending, none, failed, before, remaining}
-use Rattle.saphyr_parser.specs.Cursor.{Cursor, Kept, IsUnmoved, IsUntold, Shows, Stays, behind, ending_of, event_of, remembered, to_come, told}
+use Rattle.saphyr_parser.specs.Cursor.{Cursor, Kept, IsUnmoved, IsUntold, Shows, Stays, behind, ending_of_fault, event_of, remembered, to_come, kept_answer}
 use Rattle.saphyr_parser.specs.Calls.{Advances, Ends, IsGivenOrNone, IsShown, Looks, LooksFrom, ReadsAhead}
 use Rattle.saphyr_parser.proofs.Unroll.{over}
 use Rattle.saphyr_parser.proofs.Calls.Handing.{moves}
@@ -17,13 +17,13 @@ ends_stays : (f : Ending) (a : Answer) → Ends f a → Stays a (failed f)
 ends_stays (answer.Refused mark text) a h = inl (sym h)
 ends_stays answer.OutOfMemory a h = inr (h, refl)
 
-not_given : (k : Kept) → k.given ≡ false → told (Some k) ≡ failed k.fault
+not_given : (k : Kept) → k.given ≡ false → kept_answer (Some k) ≡ failed k.fault
 not_given k e = rw e refl
 
 -- what one reading ahead leaves
 abbrev pub Leaves : Cursor → Cursor → Type 0
 Leaves old new = Stays (to_come old) (to_come new) × IsUnmoved old new
-    × (new.current ≡ None → to_come new ≡ told new.kept) × IsUntold new.current new.kept
+    × (new.current ≡ None → to_come new ≡ kept_answer new.kept) × IsUntold new.current new.kept
 
 reads_ahead : (d : Option (Happening × Span)) (l : Option Kept) (m : Machine) (i : Bool) (s : Option Span)
     (new : Cursor) → new.current ≡ d → new.kept ≡ l
@@ -40,13 +40,13 @@ reads_ahead None (Some k) m i s new is fault (fresh, ends, left) =
     let ended : to_come new ≡ failed k.fault = ap to_come left ∙ not_given k fresh in (
       subst (λ (a : Answer). Stays (remaining m) a) (sym ended) (ends_stays k.fault (remaining m) ends),
       (ap (λ (c : Cursor). c.inside) left, ap (λ (c : Cursor). c.finished) left),
-      (λ gone. ended ∙ sym (ap told fault ∙ not_given k fresh)),
+      (λ gone. ended ∙ sym (ap kept_answer fault ∙ not_given k fresh)),
       rw (is, fault) fresh,
     )
 reads_ahead None None m i s new is fault (done, same) = (
   inl (ap to_come same),
   (ap (λ (c : Cursor). c.inside) same, ap (λ (c : Cursor). c.finished) same),
-  (λ gone. ap to_come same ∙ over m done ∙ sym (ap told fault)),
+  (λ gone. ap to_come same ∙ over m done ∙ sym (ap kept_answer fault)),
   rw (is, fault) tt,
 )
 
@@ -71,13 +71,13 @@ looks_stays old new h = looking old.current old.kept old.machine old.inside old.
 -- where no event could be read ahead, what is left is what was kept
 left_kept : (c : Option (Happening × Span)) (k : Option Kept) (m : Machine) (i : Bool) (s : Option Span) (new : Cursor)
     → Looks (record { current = c; kept = k; machine = m; inside = i; finished = s }) new → new.current ≡ None
-    → to_come new ≡ told new.kept
+    → to_come new ≡ kept_answer new.kept
 left_kept (Some next) k m i s new same gone =
     let no : Some next ≡ None = sym (ap (λ (c : Cursor). c.current) same) ∙ gone in absurd (cc)
-left_kept None (Some k) m i s new same gone = ap to_come same ∙ sym (ap (λ (c : Cursor). told c.kept) same)
+left_kept None (Some k) m i s new same gone = ap to_come same ∙ sym (ap (λ (c : Cursor). kept_answer c.kept) same)
 left_kept None None m i s new h gone = (reads_ahead new.current new.kept m i s new refl refl h).2 gone
 
-pub looked : (old new : Cursor) → Looks old new → new.current ≡ None → to_come new ≡ told new.kept
+pub looked : (old new : Cursor) → Looks old new → new.current ≡ None → to_come new ≡ kept_answer new.kept
 looked old new h gone = left_kept old.current old.kept old.machine old.inside old.finished new h gone
 
 untold_by : (c : Option (Happening × Span)) (k : Option Kept) (m : Machine) (i : Bool) (s : Option Span) (new : Cursor)
@@ -96,7 +96,7 @@ untold old new free h = untold_by old.current old.kept old.machine old.inside ol
 
 -- ## What is shown
 
-shown_fault : (k : Option Kept) → IsGivenOrNone k → told k ≡ none
+shown_fault : (k : Option Kept) → IsGivenOrNone k → kept_answer k ≡ none
 shown_fault None h = refl
 shown_fault (Some k) h = rw h refl
 
@@ -111,7 +111,7 @@ pub shows_head : (r : Option (Result (Bor (Event × Span)) (Bor Fault))) (old ne
     → IsShown r new → Shows r (to_come new)
 shows_head None old new h (gone, told) = looked old new h gone ∙ shown_fault new.kept told
 shows_head (Some (Ok e)) old new h is = (behind new.kept new.machine, event_first new (event_of e.now) is)
-shows_head (Some (Err f)) old new h (gone, is) = fault_first new (ending_of f.now) gone is
+shows_head (Some (Err f)) old new h (gone, is) = fault_first new (ending_of_fault f.now) gone is
 
 -- ## What was read ahead is handed out
 

@@ -13,7 +13,7 @@ use Rattle.saphyr_parser.specs.declared.parser.state.State.TheVariants as state
 use Rattle.saphyr_parser.specs.Events.{ResolvedTag}
 use Rattle.saphyr_parser.specs.Steps.Machine.{◌>>=◌, Machine, Told, meaning, take}
 use Rattle.saphyr_parser.specs.Steps.Tags.{resolved}
-use Rattle.saphyr_parser.specs.Steps.Nodes.{Properties, no_properties, has_property, without_content, content, content_at, next_content, alias, alias_of, register, behind_anchor, behind_anchor_at, behind_tag, behind_tag_at, node, node_at}
+use Rattle.saphyr_parser.specs.Steps.Nodes.{NodeProperties, no_node_properties, has_property, without_content, content, content_at, next_content, alias, alias_of, register, behind_anchor, behind_anchor_at, behind_tag, behind_tag_at, node, node_at}
 use Rattle.saphyr_parser.specs.Steps.Contexts.{allows_block, allows_indentless}
 use Rattle.saphyr_parser.specs.Steps.Block as block
 use Rattle.saphyr_parser.specs.Steps.Flow as flow
@@ -37,10 +37,10 @@ either false r q h k = k
 
 -- ## Nodes
 
-without : (p : Properties) (t : Piece) (m : Machine) → Closes (without_content p t m)
+without : (p : NodeProperties) (t : Piece) (m : Machine) → Closes (without_content p t m)
 without p t m = either (has_property p) _ _ tt tt
 
-contents_at : (k : Kind) (p : Properties) (c : Context) (t : Piece) (m : Machine) → Closes (content_at k p c t m)
+contents_at : (k : Kind) (p : NodeProperties) (c : Context) (t : Piece) (m : Machine) → Closes (content_at k p c t m)
 contents_at (tokens.Scalar style text) p c t m = tt
 contents_at tokens.FlowSequenceStart p c t m = tt
 contents_at tokens.FlowMappingStart p c t m = tt
@@ -49,11 +49,11 @@ contents_at tokens.BlockMappingStart p c t m = either (allows_block c) _ _ tt (w
 contents_at tokens.BlockEntry p c t m = either (allows_indentless c) _ _ tt (without p t m)
 contents_at _ p c t m = without p t m
 
-contents : (p : Properties) (c : Context) (t : Piece) (m : Machine) → Closes (content p c t m)
+contents : (p : NodeProperties) (c : Context) (t : Piece) (m : Machine) → Closes (content p c t m)
 unfolding content
 contents p c t m = contents_at t.kind p c t m
 
-next_contents : (p : Properties) (c : Context) (m : Machine) → Closes (next_content p c m)
+next_contents : (p : NodeProperties) (c : Context) (m : Machine) → Closes (next_content p c m)
 unfolding next_content
 next_contents p c m = behind (take m) _ (λ t. contents p c t.0 t.1)
 
@@ -87,7 +87,7 @@ unfolding alias
 nodes_at (tokens.Alias name) c t m = aliases (meaning name m.anchors.ids) t.span m
 nodes_at (tokens.Anchor name) c t m = behind_anchors name t.span c m
 nodes_at (tokens.Tag handle suffix) c t m = behind_tags handle suffix t.span c m
-nodes_at _ c t m = contents (no_properties t.span.start) c t m
+nodes_at _ c t m = contents (no_node_properties t.span.start) c t m
 
 nodes : (c : Context) (t : Piece) (m : Machine) → Closes (node c t m)
 unfolding node

@@ -19,8 +19,8 @@ use Rattle.saphyr_parser.specs.Cursor.{Cursor}
 -- ## The empty text
 
 abbrev pieces : List Piece
-pieces = record { span = examples.at_start; kind = tokens.StreamStart }
-    ∷ record { span = examples.at_start; kind = tokens.StreamEnd } ∷ []
+pieces = record { span = examples.start_span; kind = tokens.StreamStart }
+    ∷ record { span = examples.start_span; kind = tokens.StreamEnd } ∷ []
 
 are_taken : AreTakenFrom [] (record { pieces = pieces; refusal = None })
 are_taken =
@@ -29,8 +29,8 @@ are_taken =
 
 have_tokens : HaveTokens [] examples.no_documents.events pieces
 have_tokens =
-    taking.event events.StreamStart examples.at_start _ [] pieces refl
-    (taking.event events.StreamEnd examples.at_start _ [] pieces refl (taking.nothing pieces))
+    taking.event events.StreamStart examples.start_span _ [] pieces refl
+    (taking.event events.StreamEnd examples.start_span _ [] pieces refl (taking.nothing pieces))
 
 pub takes_none : AreTaken false [] examples.no_documents
 takes_none = (

@@ -15,7 +15,7 @@ use Rattle.saphyr_parser.specs.Premises.{DocumentMarker, Starts, Ends}
 use Rattle.saphyr_parser.specs.Steps.Machine.{◌>>=◌, meaning, Machine, Told, ending, with_pieces, take_from, take, put_back, popped, pop, told}
 use Rattle.saphyr_parser.specs.More.{with_more}
 use Rattle.saphyr_parser.specs.Steps.Tags.{resolved}
-use Rattle.saphyr_parser.specs.Steps.Nodes.{Properties, register, has_property, without_content, content_at, content, next_content, alias_of, alias, behind_anchor_at, behind_anchor, behind_tag_at, behind_tag, node_at, node}
+use Rattle.saphyr_parser.specs.Steps.Nodes.{NodeProperties, register, has_property, without_content, content_at, content, next_content, alias_of, alias, behind_anchor_at, behind_anchor, behind_tag_at, behind_tag, node_at, node}
 
 -- ## More tokens
 
@@ -101,13 +101,13 @@ goes_on z o (Err f) go ho h = inr refl
 
 -- ## Nodes
 
-without_agrees : (z : More) (q : Properties) (t : Piece) (m : Machine) → End z (t ∷ m.tokens.pieces)
+without_agrees : (z : More) (q : NodeProperties) (t : Piece) (m : Machine) → End z (t ∷ m.tokens.pieces)
     → Agrees z m.tokens.refusal (without_content q t m) (without_content q t (longer z m))
 without_agrees z q t m b =
     either z m.tokens.refusal (has_property q) _ _ _ _ (tells_end z _ _ (put_back t m) b) (inr refl)
 
 content_agrees :
-    (z : More) (k : Kind) (q : Properties) (c : Context) (t : Piece) (m : Machine) → End z (t ∷ m.tokens.pieces)
+    (z : More) (k : Kind) (q : NodeProperties) (c : Context) (t : Piece) (m : Machine) → End z (t ∷ m.tokens.pieces)
     → EndBehind z k m
     → Agrees z m.tokens.refusal (content_at k q c t m) (content_at k q c t (longer z m))
 content_agrees z (tokens.Scalar style text) q c t m b f = tells_end z _ _ m f
@@ -124,7 +124,7 @@ content_agrees z tokens.BlockEntry q Block t m b f = without_agrees z q t m b
 content_agrees z tokens.BlockEntry q BlockMapping t m b f = (inl b, refl, refl)
 content_agrees z _ q c t m b f = without_agrees z q t m b
 
-next_agrees : (z : More) (q : Properties) (c : Context) (m : Machine) → End z m.tokens.pieces
+next_agrees : (z : More) (q : NodeProperties) (c : Context) (m : Machine) → End z m.tokens.pieces
     → Agrees z m.tokens.refusal (next_content q c m) (next_content q c (longer z m))
 unfolding next_content content
 next_agrees z q c m b = taken z m _ b (λ t us e. content_agrees z t.kind q c t (with_pieces us m) e e)

@@ -15,8 +15,8 @@ use Rattle.saphyr_parser.specs.declared.parser.state.State.{State}
 use Rattle.saphyr_parser.specs.declared.parser.state.State.TheVariants as state
 use Rattle.saphyr_parser.specs.Events.{Happening, ResolvedTag}
 use Rattle.saphyr_parser.specs.Steps.Machine.{◌>>=◌, Names, meaning, Machine, Told, with_pieces, take_from, take, put_back, popped, pop, told}
-use Rattle.saphyr_parser.specs.Steps.Tags.{undeclared, declared_or, prefix_of, resolved, is_named}
-use Rattle.saphyr_parser.specs.Steps.Nodes.{Properties, register, has_property, without_content, content_at, content, next_content, alias_of, alias, behind_anchor_at, behind_anchor, behind_tag_at, behind_tag, node_at, node}
+use Rattle.saphyr_parser.specs.Steps.Tags.{undeclared, declared_or, declared_prefix, resolved, is_named_handle}
+use Rattle.saphyr_parser.specs.Steps.Nodes.{NodeProperties, register, has_property, without_content, content_at, content, next_content, alias_of, alias, behind_anchor_at, behind_anchor, behind_tag_at, behind_tag, node_at, node}
 
 -- ## Machines without places
 
@@ -103,12 +103,12 @@ same_or (Some x) r q h = refl
 same_undeclared : (handle : List ℕ) (x y : Marker) → SameValue (undeclared handle x) (undeclared handle y)
 same_undeclared handle x y =
     same_if (bytes_eq handle (codes "!!")) (Ok (codes "tag:yaml.org,2002:")) _ _ _ refl
-    (same_if (is_named handle) (Err (record { text = fault.UndeclaredHandle; mark = x })) (Ok handle) _ _ (_, refl)
+    (same_if (is_named_handle handle) (Err (record { text = fault.UndeclaredHandle; mark = x })) (Ok handle) _ _ (_, refl)
     refl)
 
 same_prefix : (names : Names (List ℕ)) (handle : List ℕ) (x y : Marker)
-    → SameValue (prefix_of names handle x) (prefix_of names handle y)
-unfolding prefix_of
+    → SameValue (declared_prefix names handle x) (declared_prefix names handle y)
+unfolding declared_prefix
 same_prefix names handle x y =
     same_if (nat_eq (length handle) 0) (Ok handle) _ _ _ refl
     (same_or (meaning handle names) (undeclared handle x) (undeclared handle y) (same_undeclared handle x y))
@@ -125,18 +125,18 @@ same_tag : (names : Names (List ℕ)) (handle suffix : List ℕ) (x y : Marker)
     → SameValue (resolved names handle suffix x) (resolved names handle suffix y)
 unfolding resolved
 same_tag names handle suffix x y =
-    with_suffix (prefix_of names handle x) (prefix_of names handle y) suffix (same_prefix names handle x y)
+    with_suffix (declared_prefix names handle x) (declared_prefix names handle y) suffix (same_prefix names handle x y)
 
 -- ## Nodes
 
-abbrev placeless_properties : Properties → Properties
+abbrev placeless_properties : NodeProperties → NodeProperties
 placeless_properties q = record q { start = no_place; behind = no_place }
 
-without_same : (q : Properties) (t : Piece) (m : Machine)
+without_same : (q : NodeProperties) (t : Piece) (m : Machine)
     → Same (without_content q t m) (without_content (placeless_properties q) (placeless_piece t) (placeless m))
 without_same q t m = either (has_property q) _ _ _ _ (tells_end _ no_span (put_back t m)) (_, refl)
 
-content_same : (k : Kind) (q : Properties) (c : Context) (t : Piece) (m : Machine)
+content_same : (k : Kind) (q : NodeProperties) (c : Context) (t : Piece) (m : Machine)
     → Same (content_at k q c t m) (content_at k (placeless_properties q) c (placeless_piece t) (placeless m))
 content_same (tokens.Scalar style text) q c t m = tells_end _ no_span m
 content_same tokens.FlowSequenceStart q c t m = refl
@@ -152,7 +152,7 @@ content_same tokens.BlockEntry q Block t m = without_same q t m
 content_same tokens.BlockEntry q BlockMapping t m = refl
 content_same _ q c t m = without_same q t m
 
-next_same : (q : Properties) (c : Context) (m : Machine)
+next_same : (q : NodeProperties) (c : Context) (m : Machine)
     → Same (next_content q c m) (next_content (placeless_properties q) c (placeless m))
 unfolding next_content content
 next_same q c m = taken m _ _ (λ t us. content_same t.kind q c t (with_pieces us m))

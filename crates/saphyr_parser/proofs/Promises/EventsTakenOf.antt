@@ -15,8 +15,7 @@ use Rattle.saphyr_parser.specs.Begins.{IsBeginningOf, BeginsSomeForest}
 use Rattle.saphyr_parser.specs.Cursor.{Cursor, at_start, keeping_tags, to_come}
 use Rattle.saphyr_parser.specs.EventsTaken.{AreTaken, HasPlaceIn}
 use Rattle.saphyr_parser.specs.Promises.{TakesEvents}
-use Rattle.saphyr_parser.proofs.Refusing.Nodes.{IsRefused, IsLastOr, AreEnded}
-use Rattle.saphyr_parser.proofs.Refusing.Documents.{refused_at}
+use Rattle.saphyr_parser.proofs.Refusing.{IsRefused, IsLastOr, AreEnded, refused_at}
 use Rattle.saphyr_parser.proofs.Sound.{begins}
 use Rattle.saphyr_parser.proofs.TokensForm.{tokens_form}
 

@@ -11,7 +11,7 @@ use Rattle.saphyr_parser.specs.declared.parser.state.State.{State}
 use Rattle.saphyr_parser.specs.Events.{Happening, ResolvedTag}
 use Rattle.saphyr_parser.specs.Steps.Machine.{◌>>=◌, Machine, Told, meaning, pop, popped, put_back, take, take_from, told}
 use Rattle.saphyr_parser.specs.Steps.Tags.{resolved}
-use Rattle.saphyr_parser.specs.Steps.Nodes.{Properties, no_properties, has_property, without_content, content, content_at, next_content, alias, alias_of, register, behind_anchor, behind_anchor_at, behind_tag, behind_tag_at, node, node_at}
+use Rattle.saphyr_parser.specs.Steps.Nodes.{NodeProperties, no_node_properties, has_property, without_content, content, content_at, next_content, alias, alias_of, register, behind_anchor, behind_anchor_at, behind_tag, behind_tag_at, node, node_at}
 use Rattle.saphyr_parser.specs.Steps.Contexts.{allows_block, allows_indentless}
 use Rattle.saphyr_parser.specs.Steps.Documents.{Declared}
 use Rattle.saphyr_parser.specs.Steps.Settings.{set_to, with_setting}
@@ -67,11 +67,11 @@ pub popped_same : (b : Bool) (what : Happening) (s : Span) (m : Machine)
     → Same b (told what s (pop (set_to b m))) (told what s (pop m))
 popped_same b what s m = ap (told what s) (pop_same b m)
 
-without : (b : Bool) (p : Properties) (t : Piece) (m : Machine)
+without : (b : Bool) (p : NodeProperties) (t : Piece) (m : Machine)
     → Same b (without_content p t (set_to b m)) (without_content p t m)
 without b p t m = either b (has_property p) _ _ _ _ (popped_same b _ _ (put_back t m)) refl
 
-contents_at : (b : Bool) (k : Kind) (p : Properties) (c : Context) (t : Piece) (m : Machine)
+contents_at : (b : Bool) (k : Kind) (p : NodeProperties) (c : Context) (t : Piece) (m : Machine)
     → Same b (content_at k p c t (set_to b m)) (content_at k p c t m)
 contents_at b (tokens.Scalar style text) p c t m = popped_same b _ _ m
 contents_at b tokens.FlowSequenceStart p c t m = refl
@@ -81,12 +81,12 @@ contents_at b tokens.BlockMappingStart p c t m = either b (allows_block c) _ _ _
 contents_at b tokens.BlockEntry p c t m = either b (allows_indentless c) _ _ _ _ refl (without b p t m)
 contents_at b _ p c t m = without b p t m
 
-contents : (b : Bool) (p : Properties) (c : Context) (t : Piece) (m : Machine)
+contents : (b : Bool) (p : NodeProperties) (c : Context) (t : Piece) (m : Machine)
     → Same b (content p c t (set_to b m)) (content p c t m)
 unfolding content
 contents b p c t m = contents_at b t.kind p c t m
 
-next_contents : (b : Bool) (p : Properties) (c : Context) (m : Machine)
+next_contents : (b : Bool) (p : NodeProperties) (c : Context) (m : Machine)
     → Same b (next_content p c (set_to b m)) (next_content p c m)
 unfolding next_content
 next_contents b p c m = taken b m _ (λ t n. contents b p c t n)
@@ -124,7 +124,7 @@ unfolding alias
 nodes_at b (tokens.Alias name) c t m = aliases b (meaning name m.anchors.ids) t.span m
 nodes_at b (tokens.Anchor name) c t m = behind_anchors b name t.span c m
 nodes_at b (tokens.Tag handle suffix) c t m = behind_tags b handle suffix t.span c m
-nodes_at b _ c t m = contents b (no_properties t.span.start) c t m
+nodes_at b _ c t m = contents b (no_node_properties t.span.start) c t m
 
 pub nodes : (b : Bool) (c : Context) (t : Piece) (m : Machine) → Same b (node c t (set_to b m)) (node c t m)
 unfolding node

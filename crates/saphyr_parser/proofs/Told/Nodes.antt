@@ -19,9 +19,9 @@ use Rattle.saphyr_parser.specs.declared.parser.state.State.TheVariants as state
 use Rattle.saphyr_parser.specs.Preorder.{Part}
 use Rattle.saphyr_parser.specs.Events.{Happening, ResolvedTag}
 use Rattle.saphyr_parser.specs.Steps.Machine.{◌>>=◌, Names, meaning, next_id, Machine, Told, told, take}
-use Rattle.saphyr_parser.specs.Steps.Tags.{prefix_of, resolved, declared_or, undeclared}
+use Rattle.saphyr_parser.specs.Steps.Tags.{declared_prefix, resolved, declared_or, undeclared}
 use Rattle.saphyr_parser.specs.TagResolution.{default_prefix}
-use Rattle.saphyr_parser.specs.Steps.Nodes.{Properties, no_properties, content_at, content, next_content, behind_anchor_at, behind_anchor, behind_tag_at, behind_tag, node_at, node}
+use Rattle.saphyr_parser.specs.Steps.Nodes.{NodeProperties, no_node_properties, content_at, content, next_content, behind_anchor_at, behind_anchor, behind_tag_at, behind_tag, node_at, node}
 use Rattle.saphyr_parser.specs.Steps.Expected.{step}
 use Rattle.saphyr_parser.proofs.Told.Telling.{Spans, Memory, at}
 use Rattle.saphyr_parser.proofs.Remembering.{noted, after, own_id, resolve, resolve_any, with_properties, event_in, Says, says}
@@ -48,8 +48,8 @@ handle_is_some Secondary = omega arith
 handle_is_some (Named word) = omega arith
 
 pub has_handle : (handle : List ℕ) (names : Names (List ℕ)) (place : Marker) → 0 < length handle
-    → prefix_of names handle place ≡ declared_or (meaning handle names) (undeclared handle place)
-unfolding prefix_of
+    → declared_prefix names handle place ≡ declared_or (meaning handle names) (undeclared handle place)
+unfolding declared_prefix
 has_handle handle names place l =
     let some : nat_eq (length handle) 0 ≡ false = ne_eqb (length handle) 0 (λ e. omega (arith, l, e)) in ap
     (λ b. if b then Ok handle else declared_or (meaning handle names) (undeclared handle place)) some
@@ -89,7 +89,7 @@ within : (a b : ResolvedTag) → (let o : Option ResolvedTag = Some a in o) ≡ 
 within a b h = cc
 
 tag_is_token : (tag : Tag) → TagToken tag
-unfolding resolved prefix_of
+unfolding resolved declared_prefix
 tag_is_token NonSpecific =
     record { handle = []; suffix = codes "!"; token = refl; stands = λ names place r h. within _ r h }
 tag_is_token (Verbatim uri) =
@@ -113,7 +113,7 @@ IsContent (tokens.Tag _ _) = ⊥
 IsContent _ = Unit {0}
 
 content_alone : (k : Kind) (d : Context) (t : Piece) (m : Machine) → IsContent k
-    → node_at k d t m ≡ content (no_properties t.span.start) d t m
+    → node_at k d t m ≡ content (no_node_properties t.span.start) d t m
 content_alone (tokens.Alias _) d t m h = elim h [ ]
 content_alone (tokens.Anchor _) d t m h = elim h [ ]
 content_alone (tokens.Tag _ _) d t m h = elim h [ ]
@@ -132,7 +132,7 @@ content_behind_tag (tokens.Anchor _) tag s d t m h = elim h [ ]
 content_behind_tag _ tag s d t m h = refl
 
 -- the machine has read these properties
-pub record Has (e : Memory) (anchor : Option (List ℕ)) (tag : Option Tag) (q : Properties) : Type 0 where
+pub record Has (e : Memory) (anchor : Option (List ℕ)) (tag : Option Tag) (q : NodeProperties) : Type 0 where
   pub anchor_is : q.anchor ≡ own_id e anchor
   pub tag_is : resolve_any e.prefixes tag ≡ Some q.tag
 
@@ -148,7 +148,7 @@ made make a b t g w h k q = cc
 -- a node comes to its content, which begins with the token k
 pub record Comes (f : Spans) (d : Context) (x : State) (ss : List State) (e : Memory) (anchor : Option (List ℕ))
     (tag : Option Tag) (k : Kind) (ks : List Kind) (r : Result Told Refusal) : Type 0 where
-  pub properties : Properties
+  pub properties : NodeProperties
   pub has : Has e anchor tag properties
   pub goes : r ≡ content_at k properties d (record { span = f ks; kind = k }) (at f ks x ss (noted anchor e))
 
@@ -160,7 +160,7 @@ comes : (f : Spans) (d : Context) (x : State) (ss : List State) (e : Memory) (an
 unfolding node content next_content behind_anchor behind_tag
 comes f d x ss e None None front k ks found h c r =
     record {
-      properties = no_properties (f ks).start;
+      properties = no_node_properties (f ks).start;
       has =
           record { anchor_is = refl; tag_is = refl };
       goes =
@@ -239,7 +239,7 @@ pub node_opens : (f : Spans) (d : Context) (x : State) (ss : List State) (e : Me
     (p : forest.Properties) (front : List Kind) (k : Kind) (ks : List Kind) (part : Part) (ps : List Part)
     (make : ℕ → Option ResolvedTag → Happening) → YieldProperties p front → IsContent k → m.state ≢ state.End
     → step m ≡ next_node d (at f (front ++ k ∷ ks) x ss e) → event_in e part ≡ with_properties make e p
-    → ((q : Properties) → Has e p.anchor p.tag q
+    → ((q : NodeProperties) → Has e p.anchor p.tag q
     → (span : Span) × (content_at k q d (record { span = f ks; kind = k }) (at f ks x ss (noted p.anchor e))
     ≡ told (make q.anchor q.tag) span n)) → Says (after part e) n ps → Says e m (part ∷ ps)
 node_opens f d x ss e m n p front k ks part ps make h c more q v go l =

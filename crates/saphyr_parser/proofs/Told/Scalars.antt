@@ -13,7 +13,7 @@ use Rattle.saphyr_scanner.specs.Views.Tokens.{Piece}
 use Rattle.saphyr_parser.specs.Preorder.{Reference, Leaf}
 use Rattle.saphyr_parser.specs.Events.{Happening, ResolvedTag, Alias, Scalar}
 use Rattle.saphyr_parser.specs.Steps.Machine.{Machine, told, pop, put_back, meaning, next_id}
-use Rattle.saphyr_parser.specs.Steps.Nodes.{Properties, has_property, up_to, without_content, alias_of, alias, node}
+use Rattle.saphyr_parser.specs.Steps.Nodes.{NodeProperties, has_property, up_to, without_content, alias_of, alias, node}
 use Rattle.saphyr_parser.proofs.Told.Telling.{Memory, at}
 use Rattle.saphyr_parser.proofs.Remembering.{noted, resolve, says}
 use Rattle.saphyr_parser.proofs.Told.Nodes.{next_node, Has, node_opens}
@@ -29,14 +29,14 @@ is_tagged : (o : Option ResolvedTag) (found : Option ResolvedTag)
 is_tagged (Some v) found h = let same : Some v ≡ found = cc in ap is_some (sym same)
 is_tagged None found h = absurd (cc)
 
-has_one : (e : Memory) (anchor : Option (List ℕ)) (tag : Option Tag) (q : Properties) → HasOne anchor tag
+has_one : (e : Memory) (anchor : Option (List ℕ)) (tag : Option Tag) (q : NodeProperties) → HasOne anchor tag
     → Has e anchor tag q → has_property q ≡ true
 has_one e None None q h has = elim h [ ]
 has_one e (Some name) tag q h has = ap (λ b. b || is_some q.tag) (id_is_positive e q.anchor has.anchor_is)
 has_one e None (Some tag) q h has =
     ap (λ b. nat_lt 0 q.anchor || b) (is_tagged (resolve e.prefixes tag) q.tag has.tag_is) ∙ or-true (nat_lt 0 q.anchor)
 
-empty_is_told : (q : Properties) (t : Piece) (m : Machine) → has_property q ≡ true
+empty_is_told : (q : NodeProperties) (t : Piece) (m : Machine) → has_property q ≡ true
     → without_content q t m ≡ told (Scalar [] forest.Plain q.anchor q.tag) (up_to q q.behind) (pop (put_back t m))
 empty_is_told q t m h = rw h refl
 

@@ -22,7 +22,7 @@ use Rattle.saphyr_parser.specs.Anchors.{one_more}
 use Rattle.saphyr_parser.specs.Preorder.{Part, Leaf, OpenSequence, CloseSequence, OpenMapping, CloseMapping}
 use Rattle.saphyr_parser.specs.Events.{Happening, ResolvedTag, Scalar, SequenceStart, MappingStart}
 use Rattle.saphyr_parser.specs.Exactly.{kinds}
-use Rattle.saphyr_parser.specs.Steps.Nodes.{Properties, has_property, without_content}
+use Rattle.saphyr_parser.specs.Steps.Nodes.{NodeProperties, has_property, without_content}
 use Rattle.saphyr_parser.proofs.Told.Telling.{Memory}
 use Rattle.saphyr_parser.proofs.Remembering.{noted, own_id, with_properties}
 use Rattle.saphyr_parser.proofs.Told.Nodes.{Has}
@@ -51,13 +51,13 @@ NodeThen c s ss = Then (IsNodeOf (place_of c)) (Follows s ss)
 
 -- ## Properties that were read
 
-pub record Fronted (e : Memory) (p : forest.Properties) (q : Properties) (front : List Piece) : Type 0 where
+pub record Fronted (e : Memory) (p : forest.Properties) (q : NodeProperties) (front : List Piece) : Type 0 where
   pub are : YieldProperties p (kinds front)
   pub has : Has e p.anchor p.tag q
   pub enough : one_more (option_map encode_utf8_all p.anchor) 0 ≤ length front
   pub shape : Shape front q
 
-pub with_told : (make : ℕ → Option ResolvedTag → Happening) (e : Memory) (p : forest.Properties) (q : Properties)
+pub with_told : (make : ℕ → Option ResolvedTag → Happening) (e : Memory) (p : forest.Properties) (q : NodeProperties)
     → Has e p.anchor p.tag q → with_properties make e p ≡ Some (make q.anchor q.tag)
 with_told make e p q h =
     ap (option_map (make (own_id e p.anchor))) h.tag_is
@@ -70,7 +70,7 @@ enough_for p front own l = let a = length-append front own in omega (arith, l, a
 
 -- ## Scalars
 
-pub leaf_goes : (p : forest.Properties) (q : Properties) (front own : List Piece) (style : ScalarStyle) (value : List ℕ)
+pub leaf_goes : (p : forest.Properties) (q : NodeProperties) (front own : List Piece) (style : ScalarStyle) (value : List ℕ)
     (span : Span) (c : grammar.Context) (ts : List Piece) (r : Option Refusal) (s : State) (ss : List State)
     (e : Memory) → Fronted e p q front → YieldsScalar p style value (kinds own) → IsAlive s ss
     → HasOwn (front ++ own) (Scalar (encode_utf8_all value) style q.anchor q.tag) span ts
@@ -112,14 +112,14 @@ none_has : (a : ℕ) (g : Option ResolvedTag) → a ≡ 0 → (let o : Option (O
 none_has a None h k t = let no : (nat_lt 0 a || false) ≡ false = ap (λ (n : ℕ). nat_lt 0 n || false) h in cc
 none_has a (Some v) h k t = cc
 
-has_one : (anchor : Option (List ℕ)) (tag : Option Tag) (e : Memory) (q : Properties) → Has e anchor tag q
+has_one : (anchor : Option (List ℕ)) (tag : Option Tag) (e : Memory) (q : NodeProperties) → Has e anchor tag q
     → has_property q ≡ true → HasOne anchor tag
 has_one None None e q h t = absurd (none_has q.anchor q.tag h.anchor_is h.tag_is t)
 has_one (Some a) None e q h t = tt
 has_one None (Some g) e q h t = tt
 has_one (Some a) (Some g) e q h t = tt
 
-pub alone_turned : (t : Piece) (front : List Piece) (p : forest.Properties) (q : Properties) (c : Context)
+pub alone_turned : (t : Piece) (front : List Piece) (p : forest.Properties) (q : NodeProperties) (c : Context)
     (ts : List Piece) (r : Option Refusal) (x : State) (s : State) (ss : List State) (e : Memory) → Fronted e p q front
     → IsAlive s ss → Turned (NodeThen c s ss) e (front ++ t ∷ ts)
     (without_content q t (machine ts r x (s ∷ ss) (noted p.anchor e)))
@@ -149,7 +149,7 @@ split front t u = ap (λ (l : List Kind). l ++ u) (kinds_append front (t ∷ [])
 pub taken_one : (front : List Piece) (t : Piece) (ts : List Piece) → front ++ t ∷ ts ≡ (front ++ t ∷ []) ++ ts
 taken_one front t ts = sym (append_assoc front (t ∷ []) ts)
 
-pub flow_sequence_goes : (t : Piece) (p : forest.Properties) (q : Properties) (front : List Piece) (span : Span)
+pub flow_sequence_goes : (t : Piece) (p : forest.Properties) (q : NodeProperties) (front : List Piece) (span : Span)
     (c : grammar.Context) (ts : List Piece) (r : Option Refusal) (s : State) (ss : List State) (e : Memory)
     → t.kind ≡ tokens.FlowSequenceStart → Fronted e p q front → IsAlive s ss
     → HasOwn (front ++ t ∷ []) (SequenceStart q.anchor q.tag) span ts
@@ -187,7 +187,7 @@ flow_sequence_goes t p q front span c ts r s ss e k h a o = record {
       )) f;
 }
 
-pub flow_mapping_goes : (t : Piece) (p : forest.Properties) (q : Properties) (front : List Piece) (span : Span)
+pub flow_mapping_goes : (t : Piece) (p : forest.Properties) (q : NodeProperties) (front : List Piece) (span : Span)
     (c : grammar.Context) (ts : List Piece) (r : Option Refusal) (s : State) (ss : List State) (e : Memory)
     → t.kind ≡ tokens.FlowMappingStart → Fronted e p q front → IsAlive s ss
     → HasOwn (front ++ t ∷ []) (MappingStart q.anchor q.tag) span ts
@@ -225,7 +225,7 @@ flow_mapping_goes t p q front span c ts r s ss e k h a o = record {
       )) f;
 }
 
-pub block_sequence_goes : (t : Piece) (p : forest.Properties) (q : Properties) (front : List Piece) (span : Span)
+pub block_sequence_goes : (t : Piece) (p : forest.Properties) (q : NodeProperties) (front : List Piece) (span : Span)
     (c : grammar.Context) (ts : List Piece) (r : Option Refusal) (s : State) (ss : List State) (e : Memory)
     → t.kind ≡ tokens.BlockSequenceStart → grammar.AllowsBlock c → Fronted e p q front → IsAlive s ss
     → HasOwn (front ++ t ∷ []) (SequenceStart q.anchor q.tag) span ts
@@ -263,7 +263,7 @@ block_sequence_goes t p q front span c ts r s ss e k b h a o = record {
       )) f;
 }
 
-pub block_mapping_goes : (t : Piece) (p : forest.Properties) (q : Properties) (front : List Piece) (span : Span)
+pub block_mapping_goes : (t : Piece) (p : forest.Properties) (q : NodeProperties) (front : List Piece) (span : Span)
     (c : grammar.Context) (ts : List Piece) (r : Option Refusal) (s : State) (ss : List State) (e : Memory)
     → t.kind ≡ tokens.BlockMappingStart → grammar.AllowsBlock c → Fronted e p q front → IsAlive s ss
     → HasOwn (front ++ t ∷ []) (MappingStart q.anchor q.tag) span ts

@@ -15,7 +15,7 @@ use Rattle.saphyr_parser.specs.Anchors.{anchors}
 use Rattle.saphyr_parser.specs.Preorder.{Part, Leaf, node_parts}
 use Rattle.saphyr_parser.specs.Exactly.{kinds}
 use Rattle.saphyr_parser.specs.Events.{Happening}
-use Rattle.saphyr_parser.specs.Steps.Machine.{told, left_out, pop}
+use Rattle.saphyr_parser.specs.Steps.Machine.{told, left_out_event, pop}
 use Rattle.saphyr_parser.specs.Steps.Nodes.{inside}
 use Rattle.saphyr_parser.specs.WellFormed.{AreWellFormed}
 use Rattle.saphyr_parser.proofs.Told.Telling.{Memory}
@@ -34,7 +34,7 @@ Wanted s st ahead ks ps = Follows s st ks ps × Starts s ahead ks
 pub skipped : (F : List Kind → List Part → Type 0) (t : Piece) (sp : Span) (ts : List Piece) (r : Option Refusal)
     (x s : State) (st : List State) (e : Memory) → IsAlive s st
     → ((ks : List Kind) (ps : List Part) → Follows s st ks ps → Starts s (kinds (t ∷ ts)) ks
-    → F ks (Leaf forest.no_properties Plain [] ∷ ps)) → Turned F e (t ∷ ts) (left_out t s sp (machine ts r x st e))
+    → F ks (Leaf forest.no_properties Plain [] ∷ ps)) → Turned F e (t ∷ ts) (left_out_event t s sp (machine ts r x st e))
 skipped F t sp ts r x s st e a go =
     record {
       used = [];
@@ -53,7 +53,7 @@ skipped F t sp ts r x s st e a go =
 
 pub skip_optional : (c : grammar.Context) (t : Piece) (sp : Span) (ts : List Piece) (r : Option Refusal) (x s : State)
     (st : List State) (e : Memory) → IsAlive s st
-    → Turned (Then (IsOptionalOf c) (Follows s st)) e (t ∷ ts) (left_out t s sp (machine ts r x st e))
+    → Turned (Then (IsOptionalOf c) (Follows s st)) e (t ∷ ts) (left_out_event t s sp (machine ts r x st e))
 skip_optional c t sp ts r x s st e a =
     skipped (Then (IsOptionalOf c) (Follows s st)) t sp ts r x s st e a
     (λ ks ps f b. put (IsOptionalOf c) (Follows s st) [] (node_parts forest.left_out) ks ps

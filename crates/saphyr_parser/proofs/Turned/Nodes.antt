@@ -22,7 +22,7 @@ use Rattle.saphyr_parser.specs.Events.{ResolvedTag, Alias, SequenceStart}
 use Rattle.saphyr_parser.specs.Exactly.{kinds}
 use Rattle.saphyr_parser.specs.Steps.Machine.{◌>>=◌, take, meaning, next_id}
 use Rattle.saphyr_parser.specs.Steps.Tags.{resolved}
-use Rattle.saphyr_parser.specs.Steps.Nodes.{Properties, no_properties, content_at, content, next_content, alias_of, alias, behind_anchor_at, behind_anchor, behind_tag_at, behind_tag, node_at, node}
+use Rattle.saphyr_parser.specs.Steps.Nodes.{NodeProperties, no_node_properties, content_at, content, next_content, alias_of, alias, behind_anchor_at, behind_anchor, behind_tag_at, behind_tag, node_at, node}
 use Rattle.saphyr_parser.specs.WellFormed.{IsWellFormed, AreWellFormed}
 use Rattle.saphyr_parser.proofs.Told.Telling.{Memory}
 use Rattle.saphyr_parser.proofs.Remembering.{noted, resolve}
@@ -64,7 +64,7 @@ indentless_makes p front s ss ks ps h i g b =
           ∙ sym (append_assoc (entry_parts g.begins.0) (CloseSequence ∷ []) g2.second));
     }
 
-indentless_goes : (t : Piece) (p : forest.Properties) (q : Properties) (front : List Piece) (span : Span)
+indentless_goes : (t : Piece) (p : forest.Properties) (q : NodeProperties) (front : List Piece) (span : Span)
     (ts : List Piece) (r : Option Refusal) (s : State) (ss : List State) (e : Memory) → t.kind ≡ tokens.BlockEntry
     → IsPairState s → Fronted e p q front → IsAlive s ss → HasOwn front (SequenceStart q.anchor q.tag) span (t ∷ ts)
     → Goes (Then (IsNodeOf InBlockMapping) (Follows s ss)) e (front ++ t ∷ ts)
@@ -90,7 +90,7 @@ indentless_goes t p q front span ts r s ss e k i h a o = record {
 -- ## Content
 
 scalar_turned : (style : ScalarStyle) (text value : List ℕ) (sp : Span) (front : List Piece) (p : forest.Properties)
-    (q : Properties) (c : Context) (ts : List Piece) (r : Option Refusal) (x : State) (s : State) (ss : List State)
+    (q : NodeProperties) (c : Context) (ts : List Piece) (r : Option Refusal) (x : State) (s : State) (ss : List State)
     (e : Memory) → text ≡ encode_utf8_all value → Fronted e p q front → StartsAt front sp.start q → IsAlive s ss
     → Turned (NodeThen c s ss) e (front ++ record { span = sp; kind = tokens.Scalar style text } ∷ ts)
     (content_at (tokens.Scalar style text) q c (record { span = sp; kind = tokens.Scalar style text })
@@ -108,7 +108,7 @@ scalar_turned style text value sp front p q c ts r x s ss e v h b a =
           (record { span = sp; kind = tokens.Scalar style (encode_utf8_all value) }) h.shape b,
     ))))
 
-content_turned : (k : Kind) (sp : Span) (front : List Piece) (p : forest.Properties) (q : Properties) (c : Context)
+content_turned : (k : Kind) (sp : Span) (front : List Piece) (p : forest.Properties) (q : NodeProperties) (c : Context)
     (ts : List Piece) (r : Option Refusal) (x : State) (s : State) (ss : List State) (e : Memory) → IsWellFormed k
     → Suits c s → Fronted e p q front → StartsAt front sp.start q → IsAlive s ss
     → Turned (NodeThen c s ss) e (front ++ record { span = sp; kind = k } ∷ ts)
@@ -176,7 +176,7 @@ content_turned tokens.BlockEntry sp front p q BlockMapping ts r x s ss e w z h b
 content_turned k sp front p q c ts r x s ss e w z h b a =
     alone_turned (record { span = sp; kind = k }) front p q c ts r x s ss e h a
 
-next_turned : (ts front : List Piece) (p : forest.Properties) (q : Properties) (c : Context) (r : Option Refusal)
+next_turned : (ts front : List Piece) (p : forest.Properties) (q : NodeProperties) (c : Context) (r : Option Refusal)
     (x : State) (s : State) (ss : List State) (e : Memory) → AreWellFormed ts → Suits c s → Fronted e p q front
     → ((m : Marker) → StartsAt front m q) → IsAlive s ss
     → Turned (NodeThen c s ss) e (front ++ ts) (next_content q c (machine ts r x (s ∷ ss) (noted p.anchor e)))
@@ -363,7 +363,7 @@ node_at_turned (tokens.Anchor name) sp c ts r x s ss e wk w z a =
 node_at_turned (tokens.Tag handle suffix) sp c ts r x s ss e wk w z a =
     tagged_turned (resolved e.prefixes handle suffix sp.start) handle suffix sp ts c r x s ss e refl wk w z a
 node_at_turned k sp c ts r x s ss e wk w z a =
-    content_turned k sp [] forest.no_properties (no_properties sp.start) c ts r x s ss e wk z
+    content_turned k sp [] forest.no_properties (no_node_properties sp.start) c ts r x s ss e wk z
     (record {
       are = refl;
       has =

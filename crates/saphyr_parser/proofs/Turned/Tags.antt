@@ -17,7 +17,7 @@ use Rattle.saphyr_scanner.specs.Grammar.Tokens as tokens
 use Rattle.saphyr_scanner.specs.Grammar.Tokens.{Kind, tag_token}
 use Rattle.saphyr_parser.specs.Events.{ResolvedTag}
 use Rattle.saphyr_parser.specs.Steps.Machine.{◌>>=◌, Names, meaning}
-use Rattle.saphyr_parser.specs.Steps.Tags.{is_named, undeclared, declared_or, prefix_of, resolved}
+use Rattle.saphyr_parser.specs.Steps.Tags.{is_named_handle, undeclared, declared_or, declared_prefix, resolved}
 use Rattle.saphyr_parser.specs.TagResolution.{default_prefix}
 use Rattle.saphyr_parser.proofs.Told.Nodes.{handle_is_some, has_handle}
 use Rattle.saphyr_parser.proofs.Remembering.{resolve}
@@ -30,7 +30,7 @@ pub record Stands (names : Names (List ℕ)) (handle suffix : List ℕ) (v : Res
 
 -- ## Handles `!word!`
 
-named_test : (b : List ℕ) → is_named (33 ∷ (b ++ 33 ∷ [])) ≡ true
+named_test : (b : List ℕ) → is_named_handle (33 ∷ (b ++ 33 ∷ [])) ≡ true
 named_test b =
     let h : List ℕ = 33 ∷ (b ++ 33 ∷ []) in
     let l : length h - 1 ≡ length (33 ∷ b) = let a = length-append b (33 ∷ []) in omega (arith, a) in
@@ -40,8 +40,8 @@ named_test b =
     ∙ get_or-append_seam (33 ∷ b) 33 [] 0 in
     rw long (eq-eqb (slice_index h (length h - 1)) 33 last)
 
-named_handle : (word : List ℕ) → is_named (handle_bytes (Named word)) ≡ true
-named_handle word = ap is_named (sym (scalar.handle_bytes word)) ∙ named_test (encode_utf8_all word)
+named_handle : (word : List ℕ) → is_named_handle (handle_bytes (Named word)) ≡ true
+named_handle word = ap is_named_handle (sym (scalar.handle_bytes word)) ∙ named_test (encode_utf8_all word)
 
 -- ## What a handle stands for
 
@@ -88,7 +88,7 @@ pub secondary_bytes : handle_bytes Secondary ≡ codes "!!"
 unfolding encode
 secondary_bytes = refl
 
-refuses : (place : Marker) (handle prefix : List ℕ) → bytes_eq handle (codes "!!") ≡ false → is_named handle ≡ true
+refuses : (place : Marker) (handle prefix : List ℕ) → bytes_eq handle (codes "!!") ≡ false → is_named_handle handle ≡ true
     → undeclared handle place ≡ Ok prefix → ⊥
 refuses place handle prefix a b h =
     let no : undeclared handle place ≡ Err (record { text = fault.UndeclaredHandle; mark = place }) =
@@ -132,7 +132,7 @@ same a b h = cc
 
 tag_stands : (tag : Tag) (names : Names (List ℕ)) (place : Marker) (v : ResolvedTag)
     → resolved names (front tag) (back tag) place ≡ Ok v → Stands names (front tag) (back tag) v
-unfolding resolved prefix_of
+unfolding resolved declared_prefix
 tag_stands NonSpecific names place v e = record { tag = NonSpecific; token = refl; resolves = same _ v e }
 tag_stands (Verbatim uri) names place v e = record { tag = Verbatim uri; token = refl; resolves = same _ v e }
 tag_stands (Shorthand Primary suffix) names place v e = shorthand Primary suffix names place v (primary_default place) e

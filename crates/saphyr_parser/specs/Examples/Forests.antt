@@ -104,11 +104,11 @@ declared_twice_events =
 
 -- ## The empty text
 
-abbrev pub at_start : Span
-at_start = record { start = record { index = 0; line = 1; col = 0 }; end = record { index = 0; line = 1; col = 0 } }
+abbrev pub start_span : Span
+start_span = record { start = record { index = 0; line = 1; col = 0 }; end = record { index = 0; line = 1; col = 0 } }
 
 abbrev pub no_documents : Answer
-no_documents = record { events = (events.StreamStart, at_start) ∷ (events.StreamEnd, at_start) ∷ []; fault = None }
+no_documents = record { events = (events.StreamStart, start_span) ∷ (events.StreamEnd, start_span) ∷ []; fault = None }
 
 -- ## `- &a b` and `- *a` on two lines, with the places of its events
 
@@ -126,9 +126,9 @@ abbrev pub block_alias_answer : Answer
 block_alias_answer =
     record {
       events =
-          (events.StreamStart, at_start) ∷
-          (events.DocumentStart false, at_start) ∷
-          (events.SequenceStart 0 None, at_start) ∷
+          (events.StreamStart, start_span) ∷
+          (events.DocumentStart false, start_span) ∷
+          (events.SequenceStart 0 None, start_span) ∷
           (events.Scalar (codes "b") Plain 1 None, from_to (at 2 1 2) (at 6 1 6)) ∷
           (events.Alias 1, from_to (at 9 2 2) (at 11 2 4)) ∷
           (events.SequenceEnd, block_alias_end) ∷

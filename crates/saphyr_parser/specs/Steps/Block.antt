@@ -8,15 +8,15 @@ use Rattle.saphyr_scanner.specs.Views.Tokens.{Piece}
 use Rattle.saphyr_parser.specs.declared.parser.context.Context.TheVariants.{Block, BlockMapping}
 use Rattle.saphyr_parser.specs.declared.parser.state.State.TheVariants as state
 use Rattle.saphyr_parser.specs.Events.{SequenceEnd, MappingEnd}
-use Rattle.saphyr_parser.specs.Steps.Machine.{◌>>=◌, Machine, Told, told, refuse, take, put_back, pop, left_out}
+use Rattle.saphyr_parser.specs.Steps.Machine.{◌>>=◌, Machine, Told, told, refuse, take, put_back, pop, left_out_event}
 use Rattle.saphyr_parser.specs.Steps.Nodes.{inside}
 
 -- ## Sequences
 
 -- behind a `-` with this span
 abbrev pub sequence_node_at : Kind → Span → Piece → Machine → Result Told Refusal
-sequence_node_at BlockEntry s t m = left_out t state.BlockSequenceEntry s m
-sequence_node_at BlockEnd s t m = left_out t state.BlockSequenceEntry s m
+sequence_node_at BlockEntry s t m = left_out_event t state.BlockSequenceEntry s m
+sequence_node_at BlockEnd s t m = left_out_event t state.BlockSequenceEntry s m
 sequence_node_at _ s t m = inside state.BlockSequenceEntry Block t m
 
 unfoldable pub sequence_node : Span → Machine → Result Told Refusal
@@ -37,10 +37,10 @@ sequence_entry m = do
 -- ## Sequences at the column of the mapping around them
 
 abbrev pub indentless_node_at : Kind → Span → Piece → Machine → Result Told Refusal
-indentless_node_at BlockEntry s t m = left_out t state.IndentlessSequenceEntry s m
-indentless_node_at Key s t m = left_out t state.IndentlessSequenceEntry s m
-indentless_node_at Value s t m = left_out t state.IndentlessSequenceEntry s m
-indentless_node_at BlockEnd s t m = left_out t state.IndentlessSequenceEntry s m
+indentless_node_at BlockEntry s t m = left_out_event t state.IndentlessSequenceEntry s m
+indentless_node_at Key s t m = left_out_event t state.IndentlessSequenceEntry s m
+indentless_node_at Value s t m = left_out_event t state.IndentlessSequenceEntry s m
+indentless_node_at BlockEnd s t m = left_out_event t state.IndentlessSequenceEntry s m
 indentless_node_at _ s t m = inside state.IndentlessSequenceEntry Block t m
 
 unfoldable pub indentless_node : Span → Machine → Result Told Refusal
@@ -61,9 +61,9 @@ indentless_entry m = do
 
 -- behind a key's token; a key that is left out has the span of what follows
 abbrev pub key_node_at : Kind → Piece → Machine → Result Told Refusal
-key_node_at Key t m = left_out t state.BlockMappingValue t.span m
-key_node_at Value t m = left_out t state.BlockMappingValue t.span m
-key_node_at BlockEnd t m = left_out t state.BlockMappingValue t.span m
+key_node_at Key t m = left_out_event t state.BlockMappingValue t.span m
+key_node_at Value t m = left_out_event t state.BlockMappingValue t.span m
+key_node_at BlockEnd t m = left_out_event t state.BlockMappingValue t.span m
 key_node_at _ t m = inside state.BlockMappingValue BlockMapping t m
 
 unfoldable pub key_node : Machine → Result Told Refusal
@@ -73,7 +73,7 @@ key_node m = do
 
 abbrev pub mapping_key_at : Kind → Piece → Machine → Result Told Refusal
 mapping_key_at Key t m = key_node m
-mapping_key_at Value t m = left_out t state.BlockMappingValue t.span m
+mapping_key_at Value t m = left_out_event t state.BlockMappingValue t.span m
 mapping_key_at BlockEnd t m = told MappingEnd t.span (pop m)
 mapping_key_at _ t m = refuse fault.BlockMappingKeyExpected t
 
@@ -84,9 +84,9 @@ mapping_key m = do
 
 -- behind a value's token with this span
 abbrev pub value_node_at : Kind → Span → Piece → Machine → Result Told Refusal
-value_node_at Key s t m = left_out t state.BlockMappingKey s m
-value_node_at Value s t m = left_out t state.BlockMappingKey s m
-value_node_at BlockEnd s t m = left_out t state.BlockMappingKey s m
+value_node_at Key s t m = left_out_event t state.BlockMappingKey s m
+value_node_at Value s t m = left_out_event t state.BlockMappingKey s m
+value_node_at BlockEnd s t m = left_out_event t state.BlockMappingKey s m
 value_node_at _ s t m = inside state.BlockMappingKey BlockMapping t m
 
 unfoldable pub value_node : Span → Machine → Result Told Refusal
@@ -96,7 +96,7 @@ value_node s m = do
 
 abbrev pub mapping_value_at : Kind → Piece → Machine → Result Told Refusal
 mapping_value_at Value t m = value_node t.span m
-mapping_value_at _ t m = left_out t state.BlockMappingKey t.span m
+mapping_value_at _ t m = left_out_event t state.BlockMappingKey t.span m
 
 unfoldable pub mapping_value : Machine → Result Told Refusal
 mapping_value m = do

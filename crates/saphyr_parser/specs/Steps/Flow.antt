@@ -9,7 +9,7 @@ use Rattle.saphyr_scanner.specs.Views.Tokens.{Piece}
 use Rattle.saphyr_parser.specs.declared.parser.context.Context.TheVariants.{Flow}
 use Rattle.saphyr_parser.specs.declared.parser.state.State.TheVariants as state
 use Rattle.saphyr_parser.specs.Events.{SequenceEnd, MappingStart, MappingEnd}
-use Rattle.saphyr_parser.specs.Steps.Machine.{◌>>=◌, Machine, Told, told, refuse, take, pop, enter, left_out}
+use Rattle.saphyr_parser.specs.Steps.Machine.{◌>>=◌, Machine, Told, told, refuse, take, pop, enter, left_out_event}
 use Rattle.saphyr_parser.specs.Steps.Nodes.{inside}
 
 -- ## Sequences
@@ -39,9 +39,9 @@ other_entry m = do
 
 -- a key that is left out leaves what follows it
 abbrev pub pair_key_at : Kind → Piece → Machine → Result Told Refusal
-pair_key_at Value t m = left_out t state.FlowSequenceEntryMappingValue t.span m
-pair_key_at FlowEntry t m = left_out t state.FlowSequenceEntryMappingValue t.span m
-pair_key_at FlowSequenceEnd t m = left_out t state.FlowSequenceEntryMappingValue t.span m
+pair_key_at Value t m = left_out_event t state.FlowSequenceEntryMappingValue t.span m
+pair_key_at FlowEntry t m = left_out_event t state.FlowSequenceEntryMappingValue t.span m
+pair_key_at FlowSequenceEnd t m = left_out_event t state.FlowSequenceEntryMappingValue t.span m
 pair_key_at _ t m = inside state.FlowSequenceEntryMappingValue Flow t m
 
 unfoldable pub pair_key : Machine → Result Told Refusal
@@ -51,8 +51,8 @@ pair_key m = do
 
 -- behind the colon of such a pair; the pair ends behind the first token of its value
 abbrev pub pair_value_node_at : Kind → Piece → Machine → Result Told Refusal
-pair_value_node_at FlowEntry t m = left_out t (state.FlowSequenceEntryMappingEnd t.span.end) t.span m
-pair_value_node_at FlowSequenceEnd t m = left_out t (state.FlowSequenceEntryMappingEnd t.span.end) t.span m
+pair_value_node_at FlowEntry t m = left_out_event t (state.FlowSequenceEntryMappingEnd t.span.end) t.span m
+pair_value_node_at FlowSequenceEnd t m = left_out_event t (state.FlowSequenceEntryMappingEnd t.span.end) t.span m
 pair_value_node_at _ t m = inside (state.FlowSequenceEntryMappingEnd t.span.end) Flow t m
 
 unfoldable pub pair_value_node : Machine → Result Told Refusal
@@ -62,7 +62,7 @@ pair_value_node m = do
 
 abbrev pub pair_value_at : Kind → Piece → Machine → Result Told Refusal
 pair_value_at Value t m = pair_value_node m
-pair_value_at _ t m = left_out t (state.FlowSequenceEntryMappingEnd t.span.end) t.span m
+pair_value_at _ t m = left_out_event t (state.FlowSequenceEntryMappingEnd t.span.end) t.span m
 
 unfoldable pub pair_value : Machine → Result Told Refusal
 pair_value m = do
@@ -76,9 +76,9 @@ pair_end place m = told MappingEnd (record { start = place; end = place }) (ente
 
 -- behind a key's token
 abbrev pub key_node_at : Kind → Piece → Machine → Result Told Refusal
-key_node_at Value t m = left_out t state.FlowMappingValue t.span m
-key_node_at FlowEntry t m = left_out t state.FlowMappingValue t.span m
-key_node_at FlowMappingEnd t m = left_out t state.FlowMappingValue t.span m
+key_node_at Value t m = left_out_event t state.FlowMappingValue t.span m
+key_node_at FlowEntry t m = left_out_event t state.FlowMappingValue t.span m
+key_node_at FlowMappingEnd t m = left_out_event t state.FlowMappingValue t.span m
 key_node_at _ t m = inside state.FlowMappingValue Flow t m
 
 unfoldable pub key_node : Machine → Result Told Refusal
@@ -89,7 +89,7 @@ key_node m = do
 -- A pair begins with the token, or the mapping ends, where its end has the span of the comma or brace before it.
 abbrev pub pair_at : Kind → Span → Piece → Machine → Result Told Refusal
 pair_at Key s t m = key_node m
-pair_at Value s t m = left_out t state.FlowMappingValue t.span m
+pair_at Value s t m = left_out_event t state.FlowMappingValue t.span m
 pair_at FlowMappingEnd s t m = told MappingEnd s (pop m)
 pair_at _ s t m = inside state.FlowMappingEmptyValue Flow t m
 
@@ -115,8 +115,8 @@ other_pair m = do
 
 -- behind a value's token with this span
 abbrev pub value_node_at : Kind → Span → Piece → Machine → Result Told Refusal
-value_node_at FlowEntry s t m = left_out t state.FlowMappingKey s m
-value_node_at FlowMappingEnd s t m = left_out t state.FlowMappingKey s m
+value_node_at FlowEntry s t m = left_out_event t state.FlowMappingKey s m
+value_node_at FlowMappingEnd s t m = left_out_event t state.FlowMappingKey s m
 value_node_at _ s t m = inside state.FlowMappingKey Flow t m
 
 unfoldable pub value_node : Span → Machine → Result Told Refusal
@@ -126,7 +126,7 @@ value_node s m = do
 
 abbrev pub mapping_value_at : Kind → Piece → Machine → Result Told Refusal
 mapping_value_at Value t m = value_node t.span m
-mapping_value_at _ t m = left_out t state.FlowMappingKey t.span m
+mapping_value_at _ t m = left_out_event t state.FlowMappingKey t.span m
 
 unfoldable pub mapping_value : Machine → Result Told Refusal
 mapping_value m = do
@@ -137,4 +137,4 @@ mapping_value m = do
 unfoldable pub empty_value : Machine → Result Told Refusal
 empty_value m = do
   t ← take m
-  left_out t.0 state.FlowMappingKey t.0.span t.1
+  left_out_event t.0 state.FlowMappingKey t.0.span t.1

@@ -123,8 +123,8 @@ abbrev pub empty_scalar : Happening
 empty_scalar = Scalar [] Plain 0 None
 
 -- a node is left out before the token
-abbrev pub left_out : Piece → State → Span → Machine → Result Told Refusal
-left_out t s span m = told empty_scalar span (enter s (put_back t m))
+abbrev pub left_out_event : Piece → State → Span → Machine → Result Told Refusal
+left_out_event t s span m = told empty_scalar span (enter s (put_back t m))
 
 -- at the start of a stream
 abbrev pub fresh : Remaining → Machine

@@ -18,44 +18,44 @@ use Rattle.saphyr_parser.specs.Steps.Contexts.{allows_block, allows_indentless}
 use Rattle.saphyr_parser.specs.Steps.Tags.{resolved}
 
 -- from where to where properties stand, the id of their anchor, 0 for none, and their tag
-pub record Properties : Type 0 where
+pub record NodeProperties : Type 0 where
   pub start : Marker
   pub behind : Marker
   pub anchor : ℕ
   pub tag : Option ResolvedTag
 
-abbrev pub no_properties : Marker → Properties
-no_properties place = record { start = place; behind = place; anchor = 0; tag = None }
+abbrev pub no_node_properties : Marker → NodeProperties
+no_node_properties place = record { start = place; behind = place; anchor = 0; tag = None }
 
-abbrev pub has_property : Properties → Bool
+abbrev pub has_property : NodeProperties → Bool
 has_property p = nat_lt 0 p.anchor || is_some p.tag
 
 -- from the properties up to a place
-abbrev pub up_to : Properties → Marker → Span
+abbrev pub up_to : NodeProperties → Marker → Span
 up_to p place = record { start = p.start; end = place }
 
 -- properties alone stand for an empty scalar
-abbrev pub without_content : Properties → Piece → Machine → Result Told Refusal
+abbrev pub without_content : NodeProperties → Piece → Machine → Result Told Refusal
 without_content p t m =
     if has_property p then told (events.Scalar [] Plain p.anchor p.tag) (up_to p p.behind) (pop (put_back t m))
     else refuse fault.NodeContentExpected t
 
-abbrev pub opened_sequence : State → Properties → Marker → Machine → Told
+abbrev pub opened_sequence : State → NodeProperties → Marker → Machine → Told
 opened_sequence s p place m =
     record { what = events.SequenceStart p.anchor p.tag; span = up_to p place; machine = enter s m }
 
-abbrev pub opened_mapping : State → Properties → Marker → Machine → Told
+abbrev pub opened_mapping : State → NodeProperties → Marker → Machine → Told
 opened_mapping s p place m =
     record { what = events.MappingStart p.anchor p.tag; span = up_to p place; machine = enter s m }
 
-abbrev pub opens_sequence : State → Properties → Piece → Machine → Result Told Refusal
+abbrev pub opens_sequence : State → NodeProperties → Piece → Machine → Result Told Refusal
 opens_sequence s p t m = Ok (opened_sequence s p t.span.end m)
 
-abbrev pub opens_mapping : State → Properties → Piece → Machine → Result Told Refusal
+abbrev pub opens_mapping : State → NodeProperties → Piece → Machine → Result Told Refusal
 opens_mapping s p t m = Ok (opened_mapping s p t.span.end m)
 
 -- the content of a node begins with the token
-abbrev pub content_at : Kind → Properties → Context → Piece → Machine → Result Told Refusal
+abbrev pub content_at : Kind → NodeProperties → Context → Piece → Machine → Result Told Refusal
 content_at (tokens.Scalar style text) p c t m =
     told (events.Scalar text style p.anchor p.tag) (up_to p t.span.end) (pop m)
 content_at tokens.FlowSequenceStart p c t m = opens_sequence state.FlowSequenceFirstEntry p t m
@@ -69,11 +69,11 @@ content_at tokens.BlockEntry p c t m =
     m
 content_at _ p c t m = without_content p t m
 
-unfoldable pub content : Properties → Context → Piece → Machine → Result Told Refusal
+unfoldable pub content : NodeProperties → Context → Piece → Machine → Result Told Refusal
 content p c t m = content_at t.kind p c t m
 
 -- the content of a node behind its properties
-unfoldable pub next_content : Properties → Context → Machine → Result Told Refusal
+unfoldable pub next_content : NodeProperties → Context → Machine → Result Told Refusal
 next_content p c m = do
   t ← take m
   content p c t.0 t.1
@@ -118,7 +118,7 @@ abbrev pub node_at : Kind → Context → Piece → Machine → Result Told Refu
 node_at (tokens.Alias name) c t m = alias name t.span m
 node_at (tokens.Anchor name) c t m = behind_anchor name t.span c m
 node_at (tokens.Tag handle suffix) c t m = behind_tag handle suffix t.span c m
-node_at _ c t m = content (no_properties t.span.start) c t m
+node_at _ c t m = content (no_node_properties t.span.start) c t m
 
 unfoldable pub node : Context → Piece → Machine → Result Told Refusal
 node c t m = node_at t.kind c t m

@@ -8,14 +8,14 @@ use Rattle.saphyr_parser.specs.Events.{ResolvedTag}
 use Rattle.saphyr_parser.specs.Steps.Machine.{◌>>=◌, Names, meaning}
 
 -- a handle `!word!`, which has to be declared
-abbrev pub is_named : List ℕ → Bool
-is_named handle = nat_le 2 (length handle)
+abbrev pub is_named_handle : List ℕ → Bool
+is_named_handle handle = nat_le 2 (length handle)
     && (nat_eq (slice_index handle 0) 33 && nat_eq (slice_index handle (length handle - 1)) 33)
 
 abbrev pub undeclared : List ℕ → Marker → Result (List ℕ) Refusal
 undeclared handle place =
     if bytes_eq handle (codes "!!") then Ok (codes "tag:yaml.org,2002:")
-    else if is_named handle then Err (record { text = fault.UndeclaredHandle; mark = place })
+    else if is_named_handle handle then Err (record { text = fault.UndeclaredHandle; mark = place })
     else Ok handle
 
 abbrev pub declared_or : Option (List ℕ) → Result (List ℕ) Refusal → Result (List ℕ) Refusal
@@ -23,12 +23,12 @@ declared_or (Some prefix) r = Ok prefix
 declared_or None r = r
 
 -- The prefix of a handle, at a place. `!` and `!<uri>` have no handle.
-unfoldable pub prefix_of : Names (List ℕ) → List ℕ → Marker → Result (List ℕ) Refusal
-prefix_of prefixes handle place =
+unfoldable pub declared_prefix : Names (List ℕ) → List ℕ → Marker → Result (List ℕ) Refusal
+declared_prefix prefixes handle place =
     if nat_eq (length handle) 0 then Ok handle else declared_or (meaning handle prefixes) (undeclared handle place)
 
 -- the tag at a place
 unfoldable pub resolved : Names (List ℕ) → List ℕ → List ℕ → Marker → Result ResolvedTag Refusal
 resolved prefixes handle suffix place = do
-  prefix ← prefix_of prefixes handle place
+  prefix ← declared_prefix prefixes handle place
   Ok (record { handle = prefix; suffix = suffix })

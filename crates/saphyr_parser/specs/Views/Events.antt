@@ -12,8 +12,8 @@ abbrev pub resolved_tag : Tag → ResolvedTag
 resolved_tag tag = record { handle = string_bytes tag.handle; suffix = string_bytes tag.suffix }
 
 -- how a tag is printed
-abbrev pub tag_text : ResolvedTag → List ℕ
-tag_text tag = if bytes_eq tag.handle (codes "!") then codes "!" ++ tag.suffix else tag.handle
+abbrev pub displayed_tag : ResolvedTag → List ℕ
+displayed_tag tag = if bytes_eq tag.handle (codes "!") then codes "!" ++ tag.suffix else tag.handle
     ++ (codes "!" ++ tag.suffix)
 
 -- what an event tells

@@ -12,14 +12,14 @@ pub use Rattle.saphyr_parser.specs.Views.Events.{happening, resolved_tag}
 use Rattle.saphyr_parser.specs.Steps.Machine.{Machine, Told}
 
 -- the tokens still to be read, of which one may be read already
-abbrev pub ahead : Option Token → Remaining → Remaining
-ahead None r = r
-ahead (Some t) r = before (piece t) r
+abbrev pub with_token_ahead : Option Token → Remaining → Remaining
+with_token_ahead None r = r
+with_token_ahead (Some t) r = before (piece t) r
 
 abbrev pub machine_of : {T : Type 0} → declared.Machine T → Machine
 machine_of m = record {
   tokens =
-      ahead m.token m.scanner;
+      with_token_ahead m.token m.scanner;
   state =
       m.state;
   states = reverse m.states.items;

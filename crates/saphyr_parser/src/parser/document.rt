@@ -47,10 +47,10 @@ pub struct Declared {
 
 impl Declared {
     ghost use Rattle.saphyr_scalar.specs.Views.Reader.{Moves};
-    ghost use Rattle.saphyr_parser.specs.Views.Documents.{declared};
+    ghost use Rattle.saphyr_parser.specs.Views.Documents.{declared_of};
 
     fn nothing(alloc: Global) -> Declared
-        ensures { declared result ≡ spec.none_declared }
+        ensures { declared_of result ≡ spec.none_declared }
     {
         Declared {
             version: false,
@@ -60,8 +60,8 @@ impl Declared {
 
     // A version may be declared once.
     fn add_version(&mut self, place: Marker) -> Result<(), Stop>
-        ensures { Moves (λ _. declared self.new) result
-            (spec.add_version place (declared self.old)) }
+        ensures { Moves (λ _. declared_of self.new) result
+            (spec.add_version place (declared_of self.old)) }
     {
         if self.version {
             return Err(refuse(FaultText::DuplicateVersionDirective, place));
@@ -77,7 +77,7 @@ impl<T: Input> Machine<T> {
     ghost use Rattle.saphyr_scanner.specs.Views.Tokens.{piece};
     ghost use Rattle.saphyr_parser.specs.Views.Machines.{machine_of, TellsBy, TakesBy};
     ghost use Rattle.saphyr_parser.specs.Steps.Machine as machine;
-    ghost use Rattle.saphyr_parser.specs.Views.Documents.{declared as seen};
+    ghost use Rattle.saphyr_parser.specs.Views.Documents.{declared_of as seen};
 
     // Takes the first token behind ends of documents and byte order marks.
     fn pass_ends(&mut self) -> Result<Token, Stop>

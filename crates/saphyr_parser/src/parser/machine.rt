@@ -160,7 +160,7 @@ impl<T: Input> Machine<T> {
         next: &mut (Event<'input>, Span),
     ) -> Result<(), Stop>
         requires { self.old.token ≡ None }
-        ensures { TellsBy (spec.left_out (piece token) state span)
+        ensures { TellsBy (spec.left_out_event (piece token) state span)
             self.old result next.new self.new }
     {
         self.put_back(token);

@@ -285,7 +285,7 @@ impl<T: Input> Machine<T> {
     ) -> Result<(), Stop>
         requires { self.old.token ≡ None }
         ensures { TellsBy
-            (spec.content (spec.no_properties (piece token).span.start) context (piece token))
+            (spec.content (spec.no_node_properties (piece token).span.start) context (piece token))
             self.old result next.new self.new }
     {
         let Token { span, kind } = token;

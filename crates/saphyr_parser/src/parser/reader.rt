@@ -225,10 +225,10 @@ impl<'input, T: Input> Reader<'input, T> {
     fn end_with(&mut self, next: &mut (Event<'input>, Span), fault: &mut Fault) -> Progress
         requires { is_own fault.old ≡ true }
         ensures { calls.GivesFault (Some (record
-            { fault = spec.ending_of fault.old; given = false }))
+            { fault = spec.ending_of_fault fault.old; given = false }))
             (calls.placed next.new fault.new result)
             (record (cursor self.old)
-            { kept = Some (record { fault = spec.ending_of fault.old; given = false }) })
+            { kept = Some (record { fault = spec.ending_of_fault fault.old; given = false }) })
             (cursor self.new) }
     {
         self.kept = Some(Kept {

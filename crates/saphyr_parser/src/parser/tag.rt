@@ -38,9 +38,9 @@ impl Tag {
 
 impl fmt::Display for Tag {
     ghost use Rattle.std.specs.Prelude.{Some};
-    ghost use Rattle.saphyr_parser.specs.Views.Events.{tag_text};
+    ghost use Rattle.saphyr_parser.specs.Views.Events.{displayed_tag};
 
-    ghost output = { λ tag. Some (tag_text (resolved_tag tag)) };
+    ghost output = { λ tag. Some (displayed_tag (resolved_tag tag)) };
 
     fn fmt<W: fmt::Write>(&self, f: &mut fmt::Formatter<W>) -> fmt::Result {
         if self.handle.as_str() == "!" {

@@ -11,7 +11,7 @@ use saphyr_scalar::{FaultText, Marker, Stop};
 
 // Whether the handle has a word, and so has to be declared.
 fn is_named(handle: &str) -> bool
-    ensures { result ≡ spec.is_named handle.now }
+    ensures { result ≡ spec.is_named_handle handle.now }
 {
     let bytes = handle.as_bytes();
     bytes.len() >= 2 && bytes[0] == b'!' && bytes[bytes.len() - 1] == b'!'
@@ -22,10 +22,10 @@ impl<T: Input> Machine<T> {
     ghost use Rattle.saphyr_parser.specs.Views.Machines.{resolved_tag};
 
     // The prefix that stands for the handle of a tag at this place.
-    #[tactic(auto, unfolding(crate::specs::Steps::Tags::prefix_of))]
+    #[tactic(auto, unfolding(crate::specs::Steps::Tags::declared_prefix))]
     fn prefix_of(&self, handle: String, place: Marker) -> Result<String, Stop>
         ensures { Moves string_bytes result
-            (spec.prefix_of self.now.prefixes (string_bytes handle) place) }
+            (spec.declared_prefix self.now.prefixes (string_bytes handle) place) }
     {
         if handle.is_empty() {
             return Ok(handle);

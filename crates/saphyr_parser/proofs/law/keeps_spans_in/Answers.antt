@@ -1,4 +1,4 @@
-use Rattle.saphyr_parser.proofs.Spans.Events.{spans_in}
+use Rattle.saphyr_parser.proofs.Spans.{spans_in}
 use Rattle.saphyr_parser.proofs.law.keeps_spans_in.Goals as goal
 
 pub returns : goal.returns

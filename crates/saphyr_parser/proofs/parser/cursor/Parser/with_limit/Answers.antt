@@ -3,7 +3,7 @@ use Rattle.saphyr_parser.specs.Cursor.{at_start}
 use Rattle.saphyr_parser.proofs.Promises.ClosedBeginnings.{reads_closed_layout}
 use Rattle.saphyr_parser.proofs.Promises.Texts.{completed}
 use Rattle.saphyr_parser.proofs.Promises.EventsTakenOf.{parser_takes}
-use Rattle.saphyr_parser.proofs.Spans.Events.{parser_spans_in}
+use Rattle.saphyr_parser.proofs.Spans.{parser_spans_in}
 use Rattle.saphyr_parser.proofs.Promises.ReadsEachText.{reads_text}
 use Rattle.saphyr_scanner.specs.Grammar.Layout.{IsLayoutText, most_open}
 use Rattle.saphyr_parser.proofs.parser.cursor.Parser.with_limit.Goals as goal
