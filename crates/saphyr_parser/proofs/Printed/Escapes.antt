@@ -5,7 +5,7 @@ use Rattle.std.proofs.lemmas.Grind.{take-set_at}
 use Rattle.std.specs.Io.KnownBytes.{Appends}
 use Rattle.saphyr_parser.specs.Printed.{escape, escaped}
 use Rattle.saphyr_parser.specs.Written.{TakesSome, TakesUpTo}
-use Rattle.saphyr_parser.proofs.Printed.Written.{takes_piece, loses_piece}
+use Rattle.saphyr_parser.proofs.Printed.Written.{takes_less, takes_piece, loses_piece}
 
 pub escaped-append : (xs ys : List ℕ) → escaped (xs ++ ys) ≡ escaped xs ++ escaped ys
 escaped-append [] ys = refl
@@ -70,14 +70,30 @@ gathered_escaped : (gathered others : List ℕ) (read : ℕ) → gathered ≡ es
     → escaped others ≡ gathered ++ escaped (take (length others - read) (drop read others))
 gathered_escaped gathered others read e = rw e (others_escaped others read)
 
-pub escapes_written : (a b c : Option (List ℕ)) (text others gathered : List ℕ) (read : ℕ)
-    → gathered ≡ escaped (take read others) → TakesUpTo a b (escaped text) (escaped others) → Appends b c gathered
-    → TakesUpTo a c (escaped text) (escaped (take (length others - read) (drop read others)))
-escapes_written a b c text others gathered read e up q =
-    takes_piece a b c _ _ _ _ (gathered_escaped gathered others read e) up q
+pub gathered_lost : (a b : Option (List ℕ)) (text gathered : List ℕ) (read : ℕ) → gathered ≡ escaped (take read text)
+    → TakesSome a b gathered → TakesSome a b (escaped text)
+gathered_lost a b text gathered read e p = rw (gathered_escaped gathered text read e) (takes_less a b gathered _ p)
 
-pub escapes_lost : (a b c : Option (List ℕ)) (text others gathered : List ℕ) (read : ℕ)
-    → gathered ≡ escaped (take read others) → TakesUpTo a b (escaped text) (escaped others) → TakesSome b c gathered
-    → TakesSome a c (escaped text)
-escapes_lost a b c text others gathered read e up q =
-    loses_piece a b c _ _ _ _ (gathered_escaped gathered others read e) up q
+pub escapes_written : (a b c : Option (List ℕ)) (text others : List ℕ) (read : ℕ)
+    → TakesUpTo a b (escaped text) (escaped others) → Appends b c (escaped (take read others))
+    → TakesUpTo a c (escaped text) (escaped (take (length others - read) (drop read others)))
+escapes_written a b c text others read up q = takes_piece a b c _ _ _ _ (others_escaped others read) up q
+
+pub escapes_lost : (a b c : Option (List ℕ)) (text others : List ℕ) → TakesUpTo a b (escaped text) (escaped others)
+    → TakesSome b c (escaped others) → TakesSome a c (escaped text)
+escapes_lost a b c text others up q = loses_piece a b c _ _ _ _ (sym (append-nil (escaped others))) up q
+
+-- the first of them is escaped
+first_escaped : (byte : ℕ) (behind others : List ℕ) → others ≡ byte ∷ behind
+    → escaped others ≡ escape byte ++ escaped behind
+first_escaped byte behind others e = ap escaped e
+
+pub escape_written : (a b c : Option (List ℕ)) (text others behind : List ℕ) (byte : ℕ) → others ≡ byte ∷ behind
+    → TakesUpTo a b (escaped text) (escaped others) → Appends b c (escape byte)
+    → TakesUpTo a c (escaped text) (escaped behind)
+escape_written a b c text others behind byte e up q =
+    takes_piece a b c _ _ _ _ (first_escaped byte behind others e) up q
+
+pub escape_lost : (a b c : Option (List ℕ)) (text others behind : List ℕ) (byte : ℕ) → others ≡ byte ∷ behind
+    → TakesUpTo a b (escaped text) (escaped others) → TakesSome b c (escape byte) → TakesSome a c (escaped text)
+escape_lost a b c text others behind byte e up q = loses_piece a b c _ _ _ _ (first_escaped byte behind others e) up q

@@ -1,8 +1,9 @@
 //! Bytes, numbers and escaped texts, written to the last byte however few a writer takes at a time.
 
-ghost use Rattle.std.specs.Prelude.{◌≡◌, ◌<◌, ◌≤◌, false, [], ◌∷◌, ◌++◌, length, take, IfNone, IfSome};
+ghost use Rattle.std.specs.Prelude.{◌≡◌, ◌<◌, ◌≤◌, false, [], ◌∷◌, ◌++◌, length, take, IfErr, IfNone, IfOk, IfSome};
 ghost use Rattle.std.specs.Fmt.{decimal};
-ghost use Rattle.saphyr_parser.specs.Written.{Takes};
+ghost use Rattle.std.specs.Io.KnownBytes.{Appends};
+ghost use Rattle.saphyr_parser.specs.Written.{Takes, TakesSome};
 ghost use Rattle.saphyr_parser.specs.Printed.{escape, escaped};
 
 use std::io::Write;
@@ -102,6 +103,32 @@ fn gather_escapes(text: &[u8], room: &mut [u8; 64]) -> (usize, usize)
     (read, filled)
 }
 
+// Writes one byte's escape.
+fn write_escape<W: Write>(out: &mut W, byte: u8) -> Result<(), Unwritten>
+    ensures { Takes result (W.contents out.old) (W.contents out.new) (escape byte) }
+{
+    match letter_of(byte) {
+        Some(letter) => write_all(out, &[b'\\', letter]),
+        None => write_all(out, &[byte]),
+    }
+}
+
+// Writes the escapes of bytes that stand in front in one piece, and tells of how many bytes.
+#[tactic(auto, using(crate::proofs::Printed::Escapes::gathered_lost))]
+fn write_gathered<W: Write>(out: &mut W, text: &[u8]) -> Result<usize, Unwritten>
+    ensures within { IfOk result (λ read. read ≤ length text.now) }
+    ensures some { IfOk result (λ read. 0 < length text.now → 0 < read) }
+    ensures written { IfOk result (λ read.
+        Appends (W.contents out.old) (W.contents out.new) (escaped (take read text.now))) }
+    ensures lost { IfErr result (λ _.
+        TakesSome (W.contents out.old) (W.contents out.new) (escaped text.now)) }
+{
+    let mut room = [0; 64];
+    let (read, filled) = gather_escapes(text, &mut room);
+    write_all(out, &room[..filled])?;
+    Ok(read)
+}
+
 // Writes a scalar's text. What needs no escape is written in one piece, and so are escapes behind one another.
 #[tactic(auto, using(crate::proofs::Printed::Escapes::plain_written, crate::proofs::Printed::Escapes::plain_lost))]
 pub(super) fn write_escaped<W: Write>(out: &mut W, text: &[u8]) -> Result<(), Unwritten>
@@ -111,13 +138,16 @@ pub(super) fn write_escaped<W: Write>(out: &mut W, text: &[u8]) -> Result<(), Un
     while !rest.is_empty() {
         let (plain, others) = split_plain(rest);
         write_all(out, plain)?;
-        if others.is_empty() {
+        let Some((byte, behind)) = others.split_first() else {
             return Ok(());
+        };
+        if behind.is_empty() || !is_escaped(behind[0]) {
+            write_escape(out, *byte)?;
+            rest = behind;
+        } else {
+            let read = write_gathered(out, others)?;
+            rest = &others[read..];
         }
-        let mut room = [0; 64];
-        let (read, filled) = gather_escapes(others, &mut room);
-        write_all(out, &room[..filled])?;
-        rest = &others[read..];
     }
     Ok(())
 }
