@@ -17,8 +17,7 @@ use Rattle.saphyr_parser.specs.Cursor.{at_start, keeping_tags, to_come}
 use Rattle.saphyr_parser.specs.Exactly.{GivesExactly, TellTheSame, kinds, told_by}
 use Rattle.saphyr_parser.specs.More.{marker_token}
 use Rattle.saphyr_parser.proofs.Unroll.{unroll, over, shrinks_at}
-use Rattle.saphyr_parser.proofs.Placeless.Nodes.{no_span, placeless_piece, placeless_state, placeless, Same}
-use Rattle.saphyr_parser.proofs.Placeless.Documents.{steps_same}
+use Rattle.saphyr_parser.proofs.Placeless.{no_span, placeless_piece, placeless_state, placeless, Same, steps_same}
 use Rattle.saphyr_parser.proofs.Promises.CommonBeginnings.{ended}
 use Rattle.saphyr_parser.proofs.Promises.ClosedTokens.{closed_tokens}
 use Rattle.saphyr_parser.proofs.Happenings.{told_of}

@@ -28,6 +28,7 @@ pub mod Completions
 pub mod Sound
 pub mod Refusing
 pub mod TokensForm
+pub mod Beside
 pub mod Longer
 pub mod Placeless
 pub mod ByKinds

@@ -1,6 +1,126 @@
--- Whether prefixes of tags are kept counts at the end of a document alone: each other step leaves the same with each
--- value.
-pub mod Nodes
-pub mod Collections
-pub mod Documents
-pub mod Steps
+-- Whether prefixes of tags are kept counts at the end of a document alone: every other step leaves the same with
+-- each value.
+use Rattle.std.proofs.Common.{◌≡◌, ◌≢◌, Bool, Option, Some, None, Result, Ok, Err, refl, ap, ◌∙◌, subst, ◌⊎◌, inl, inr}
+use Rattle.saphyr_scalar.specs.declared.scalar.position.Span.{Span}
+use Rattle.saphyr_scalar.specs.declared.scalar.fault.Refusal.{Refusal}
+use Rattle.saphyr_scanner.specs.Grammar.Tokens as tokens
+use Rattle.saphyr_scanner.specs.Grammar.Tokens.{Kind}
+use Rattle.saphyr_scanner.specs.Views.Tokens.{Piece, Remaining}
+use Rattle.saphyr_parser.specs.declared.parser.state.State.{State}
+use Rattle.saphyr_parser.specs.declared.parser.state.State.TheVariants as state
+use Rattle.saphyr_parser.specs.Events as events
+use Rattle.saphyr_parser.specs.Events.{Happening}
+use Rattle.saphyr_parser.specs.Steps.Machine.{◌>>=◌, Machine, Told, ending}
+use Rattle.saphyr_parser.specs.Steps.Documents as document
+use Rattle.saphyr_parser.specs.Steps.Expected.{step, step_at}
+use Rattle.saphyr_parser.specs.Cursor.{Cursor, Kept, keeping_tags}
+use Rattle.saphyr_parser.specs.Calls.{Advances}
+use Rattle.saphyr_parser.specs.Steps.Settings.{set_to, with_setting}
+use Rattle.saphyr_parser.proofs.Beside.Machines.{Beside, Behind, Left, Tells}
+use Rattle.saphyr_parser.proofs.Beside.Documents.{IsStart, Passed, steps_beside}
+use Rattle.saphyr_parser.proofs.Beside.Maps.{becomes, tells_so, stay, still_expected, leaves}
+
+-- ## All steps
+
+behind : (k : Kind) (r q : Remaining) → q ≡ r → Behind (λ r q. q ≡ r) (λ d r q. ⊥) k r q
+behind tokens.DocumentStart r q e = inl e
+behind tokens.DocumentEnd r q e = inl e
+behind _ r q e = e
+
+abbrev with_set : Bool → Beside
+with_set b =
+    record {
+      Place = λ p q. q ≡ p;
+      Rest = λ r q. q ≡ r;
+      Over = λ d r q. ⊥;
+      Setting = λ c d. d ≡ b;
+      Early = λ f. ⊥;
+      Refused = λ f g. g ≡ f;
+      refused = λ text p q e. rw e refl;
+      none = λ us o e i. inr (ap (λ (r : Remaining). r.pieces) i, ap (λ (r : Remaining). ending r.refusal) i);
+      next = λ t ts us o e i.
+          record {
+            span = t.span;
+            tail = ts;
+            is = ap (λ (r : Remaining). r.pieces) i;
+            start = refl;
+            end = refl;
+            behind = behind t.kind _ _ (ap (λ (r : Remaining). record { pieces = ts; refusal = r.refusal }) i);
+          };
+    }
+
+left : (b : Bool) (m n : Machine) → Left (with_set b) m n → n ≡ set_to b m
+left b m n (inl near) =
+    becomes (with_set b) _ (λ p. p) m.tokens b m n (λ p q e. e) near near.tokens near.setting ∙ stay m.tokens b m
+left b m n (inr (d, over, a)) = absurd over.tokens
+
+same : (b : Bool) (p q : Result Told Refusal) → Tells (with_set b) p q → q ≡ with_setting b p
+same b (Ok x) (Ok y) h =
+    ap Ok (tells_so (with_set b) (λ p. p) x y _ (λ p q e. e) h (left b x.machine y.machine h.machine))
+same b (Ok x) (Err g) h = absurd h
+same b (Err f) (Ok y) (inl e) = absurd e
+same b (Err f) (Ok y) (inr e) = absurd e
+same b (Err f) (Err g) (inl e) = absurd e
+same b (Err f) (Err g) (inr e) = rw e refl
+
+others_at : (b : Bool) (s : State) (m : Machine) → s ≢ state.End → s ≢ state.DocumentEnd
+    → step_at s (set_to b m) ≡ with_setting b (step_at s m)
+others_at b s m on other =
+    by (steps_beside (with_set b) s s m (set_to b m) (still_expected (with_set b) (λ p. refl) s) on
+    (λ e. absurd (other e)) (leaves (with_set b) _ m.tokens b m (λ p. refl) refl refl))
+  where
+    by : Tells (with_set b) (step_at s m) (step_at s (set_to b m))
+        ⊎ (IsStart s × Passed (with_set b) m (set_to b m) (step_at s))
+        → step_at s (set_to b m) ≡ with_setting b (step_at s m)
+    by (inl h) = same b _ _ h
+    by (inr (i, p)) = absurd p.2.tokens
+
+sets_at : (b : Bool) (s : State) (m : Machine) → s ≢ state.DocumentEnd
+    → step_at s (set_to b m) ≡ with_setting b (step_at s m)
+sets_at b state.End m other = refl
+sets_at b s m other = others_at b s m (λ e. absurd (cc)) other
+
+-- each step but that at the end of a document
+pub sets : (b : Bool) (m : Machine) → m.state ≢ state.DocumentEnd → step (set_to b m) ≡ with_setting b (step m)
+unfolding step
+sets b m other = sets_at b m.state m other
+
+-- ## Between events
+
+abbrev EndsDocument : Result Told Refusal → Type 0
+EndsDocument (Ok x) = x.what ≡ events.DocumentEnd
+EndsDocument (Err e) = Unit {0}
+
+ends_document_at : (k : Kind) (t : Piece) (m : Machine) → EndsDocument (document.document_end_at k t m)
+ends_document_at tokens.DocumentEnd t m = refl
+ends_document_at (tokens.VersionDirective major minor) t m = tt
+ends_document_at (tokens.TagDirective handle prefix) t m = tt
+ends_document_at (tokens.ReservedDirective name) t m = tt
+ends_document_at _ t m = refl
+
+ends_document : (r : Result (Piece × Machine) Refusal)
+    → EndsDocument (r >>= (λ t. document.document_end_at t.0.kind t.0 (document.forget_prefixes t.1)))
+ends_document (Ok t) = ends_document_at t.0.kind t.0 (document.forget_prefixes t.1)
+ends_document (Err e) = tt
+
+-- at the end of a document no other event is told
+other_state : (m : Machine) (x : Told) → step m ≡ Ok x → x.what ≢ events.DocumentEnd → m.state ≢ state.DocumentEnd
+unfolding step document.document_end
+other_state m x is other at_end =
+    let told_so : step_at state.DocumentEnd m ≡ Ok x = subst (λ (s : State). step_at s m ≡ Ok x) at_end is in
+    other (subst EndsDocument told_so (ends_document (document.behind_document m)))
+
+setting : (b : Bool) (c : Option (Happening × Span)) (k : Option Kept) (m : Machine) (i : Bool) (f : Option Span)
+    (e : Happening × Span) (new : Cursor) → e.0 ≢ events.DocumentEnd
+    → Advances e (record { current = c; kept = k; machine = m; inside = i; finished = f }) new
+    → Advances e (record { current = c; kept = k; machine = set_to b m; inside = i; finished = f })
+    (keeping_tags b new)
+setting b (Some next) k m i f e new other (same, left) = (same, ap (keeping_tags b) left)
+setting b None (Some k) m i f e new other h = h
+setting b None None m i f e new other (moved, left) =
+    (sets b m (other_state m _ moved other) ∙ ap (with_setting b) moved, ap (keeping_tags b) left)
+
+-- any other event is handed out whatever the setting, which may be made before it or behind it
+pub sets_behind : (e : Happening × Span) (old new : Cursor) (b : Bool) → e.0 ≢ events.DocumentEnd → Advances e old new
+    → Advances e (keeping_tags b old) (keeping_tags b new)
+sets_behind e old new b other h = setting b old.current old.kept old.machine old.inside old.finished e new other h

@@ -18,8 +18,8 @@ use Rattle.saphyr_parser.specs.Cursor.{at_start, keeping_tags, to_come}
 use Rattle.saphyr_parser.specs.Exactly.{GivesExactly, told_by}
 use Rattle.saphyr_parser.specs.More.{marker_token}
 use Rattle.saphyr_parser.proofs.Unroll.{unroll, over}
-use Rattle.saphyr_parser.proofs.Longer.Nodes.{More, longer, IsLastOr, End, Awaits}
-use Rattle.saphyr_parser.proofs.Longer.Documents.{IsStart}
+use Rattle.saphyr_parser.proofs.Longer.{More, longer, IsLastOr, End, Awaits}
+use Rattle.saphyr_parser.proofs.Beside.Documents.{IsStart}
 use Rattle.saphyr_parser.proofs.Promises.CommonBeginnings.{or_last, IsStopped, GoesOn, goes_on}
 use Rattle.saphyr_parser.proofs.Happenings.{told_of}
 

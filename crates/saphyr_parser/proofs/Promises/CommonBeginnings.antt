@@ -15,8 +15,8 @@ use Rattle.saphyr_parser.specs.Steps.Expected.{step, step_at}
 use Rattle.saphyr_parser.specs.Answer.{Answer, before, deliver, failed, ending_of, remaining, size}
 use Rattle.saphyr_parser.specs.More.{with_more, BeginsAs}
 use Rattle.saphyr_parser.proofs.Unroll.{unroll, over, shrinks_at}
-use Rattle.saphyr_parser.proofs.Longer.Nodes.{More, longer, IsLastOr, End, Awaits, IsLeft, Agrees}
-use Rattle.saphyr_parser.proofs.Longer.Documents.{IsStart, IsPassed, steps_agree}
+use Rattle.saphyr_parser.proofs.Longer.{More, longer, IsLastOr, End, Awaits, IsLeft, Agrees, IsPassed, steps_agree}
+use Rattle.saphyr_parser.proofs.Beside.Documents.{IsStart}
 
 -- ## One step
 

@@ -1,6 +1,6 @@
 use Rattle.saphyr_parser.specs.Cursor.{keeping_tags}
 use Rattle.saphyr_parser.proofs.Calls.Handing.{advances}
-use Rattle.saphyr_parser.proofs.Settings.Steps.{sets, sets_behind}
+use Rattle.saphyr_parser.proofs.Settings.{sets, sets_behind}
 use Rattle.saphyr_parser.proofs.law.sets_at_document_ends.Goals as goal
 
 pub returns-clause-step : goal.returns-clause-step

@@ -1,0 +1,208 @@
+-- Two machines side by side give the same inside collections.
+use Rattle.std.proofs.Common.{refl}
+use Rattle.saphyr_scalar.specs.declared.scalar.position.Marker.{Marker}
+use Rattle.saphyr_scalar.specs.declared.scalar.position.Span.{Span}
+use Rattle.saphyr_scanner.specs.Grammar.Tokens as tokens
+use Rattle.saphyr_scanner.specs.Grammar.Tokens.{Kind}
+use Rattle.saphyr_scanner.specs.Views.Tokens.{Piece}
+use Rattle.saphyr_parser.specs.declared.parser.context.Context.{Context}
+use Rattle.saphyr_parser.specs.declared.parser.context.Context.TheVariants.{Flow, Block, BlockMapping}
+use Rattle.saphyr_parser.specs.declared.parser.state.State.{State}
+use Rattle.saphyr_parser.specs.declared.parser.state.State.TheVariants as state
+use Rattle.saphyr_parser.specs.Steps.Machine.{Machine, left_out_event, push, put_back}
+use Rattle.saphyr_parser.specs.Steps.Nodes.{inside}
+use Rattle.saphyr_parser.specs.Steps.Block as block
+use Rattle.saphyr_parser.specs.Steps.Flow as flow
+use Rattle.saphyr_parser.proofs.Beside.Machines.{Beside, Spans, Expected, Held, Alike, Tells, Both, AtBoth, taken, refuses, holds, tells_end, enters_told}
+use Rattle.saphyr_parser.proofs.Beside.Nodes.{node_beside}
+
+goes_inside :
+    (w : Beside) (x y : State) (c : Context) (k : Kind) (t u : Piece) (m n : Machine) → Expected w x y
+    → Held w k t u m n → Tells w (inside x c t m) (inside y c u n)
+goes_inside w x y c k t u m n i h = node_beside w c k t u (push x m) (push y n) (holds w x y k t u m n i h)
+
+leaves_out :
+    (w : Beside) (x y : State) (s r : Span) (k : Kind) (t u : Piece) (m n : Machine) → Expected w x y → Spans w s r
+    → Held w k t u m n → Tells w (left_out_event t x s m) (left_out_event u y r n)
+leaves_out w x y s r k t u m n i e h = enters_told w _ x y s r (put_back t m) (put_back u n) i e h.back
+
+sequence_node_at : (w : Beside) (s r : Span) → Spans w s r → AtBoth w (Alike w) (λ k. block.sequence_node_at k s) (λ k. block.sequence_node_at k r)
+sequence_node_at w s r e tokens.BlockEntry t u m n h = leaves_out w _ _ s r _ t u m n refl e h
+sequence_node_at w s r e tokens.BlockEnd t u m n h = leaves_out w _ _ s r _ t u m n refl e h
+sequence_node_at w s r e k t u m n h = goes_inside w _ _ Block k t u m n refl h
+
+pub sequence_node : (w : Beside) (s r : Span) → Spans w s r → Both w (Alike w) (block.sequence_node s) (block.sequence_node r)
+unfolding block.sequence_node
+sequence_node w s r e m n near = taken w _ (λ k. block.sequence_node_at k s) (λ k. block.sequence_node_at k r) m n near (sequence_node_at w s r e)
+
+sequence_entry_at : (w : Beside) → AtBoth w (Alike w) block.sequence_entry_at block.sequence_entry_at
+sequence_entry_at w tokens.BlockEnd t u m n h = tells_end w _ t.span u.span m n h.span h.behind
+sequence_entry_at w tokens.BlockEntry t u m n h = sequence_node w t.span u.span h.span m n h.behind
+sequence_entry_at w k t u m n h = refuses w _ t u h.span
+
+pub sequence_entry : (w : Beside) → Both w (Alike w) block.sequence_entry block.sequence_entry
+unfolding block.sequence_entry
+sequence_entry w m n near = taken w _ block.sequence_entry_at block.sequence_entry_at m n near (sequence_entry_at w)
+
+indentless_node_at : (w : Beside) (s r : Span) → Spans w s r → AtBoth w (Alike w) (λ k. block.indentless_node_at k s) (λ k. block.indentless_node_at k r)
+indentless_node_at w s r e tokens.BlockEntry t u m n h = leaves_out w _ _ s r _ t u m n refl e h
+indentless_node_at w s r e tokens.Key t u m n h = leaves_out w _ _ s r _ t u m n refl e h
+indentless_node_at w s r e tokens.Value t u m n h = leaves_out w _ _ s r _ t u m n refl e h
+indentless_node_at w s r e tokens.BlockEnd t u m n h = leaves_out w _ _ s r _ t u m n refl e h
+indentless_node_at w s r e k t u m n h = goes_inside w _ _ Block k t u m n refl h
+
+pub indentless_node : (w : Beside) (s r : Span) → Spans w s r → Both w (Alike w) (block.indentless_node s) (block.indentless_node r)
+unfolding block.indentless_node
+indentless_node w s r e m n near = taken w _ (λ k. block.indentless_node_at k s) (λ k. block.indentless_node_at k r) m n near (indentless_node_at w s r e)
+
+indentless_entry_at : (w : Beside) → AtBoth w (Alike w) block.indentless_entry_at block.indentless_entry_at
+indentless_entry_at w tokens.BlockEntry t u m n h = indentless_node w t.span u.span h.span m n h.behind
+indentless_entry_at w k t u m n h = tells_end w _ t.span u.span (put_back t m) (put_back u n) h.span h.back
+
+pub indentless_entry : (w : Beside) → Both w (Alike w) block.indentless_entry block.indentless_entry
+unfolding block.indentless_entry
+indentless_entry w m n near = taken w _ block.indentless_entry_at block.indentless_entry_at m n near (indentless_entry_at w)
+
+key_node_at : (w : Beside) → AtBoth w (Alike w) block.key_node_at block.key_node_at
+key_node_at w tokens.Key t u m n h = leaves_out w _ _ t.span u.span _ t u m n refl h.span h
+key_node_at w tokens.Value t u m n h = leaves_out w _ _ t.span u.span _ t u m n refl h.span h
+key_node_at w tokens.BlockEnd t u m n h = leaves_out w _ _ t.span u.span _ t u m n refl h.span h
+key_node_at w k t u m n h = goes_inside w _ _ BlockMapping k t u m n refl h
+
+pub key_node : (w : Beside) → Both w (Alike w) block.key_node block.key_node
+unfolding block.key_node
+key_node w m n near = taken w _ block.key_node_at block.key_node_at m n near (key_node_at w)
+
+mapping_key_at : (w : Beside) → AtBoth w (Alike w) block.mapping_key_at block.mapping_key_at
+mapping_key_at w tokens.Key t u m n h = key_node w m n h.behind
+mapping_key_at w tokens.Value t u m n h = leaves_out w _ _ t.span u.span _ t u m n refl h.span h
+mapping_key_at w tokens.BlockEnd t u m n h = tells_end w _ t.span u.span m n h.span h.behind
+mapping_key_at w k t u m n h = refuses w _ t u h.span
+
+pub mapping_key : (w : Beside) → Both w (Alike w) block.mapping_key block.mapping_key
+unfolding block.mapping_key
+mapping_key w m n near = taken w _ block.mapping_key_at block.mapping_key_at m n near (mapping_key_at w)
+
+value_node_at : (w : Beside) (s r : Span) → Spans w s r → AtBoth w (Alike w) (λ k. block.value_node_at k s) (λ k. block.value_node_at k r)
+value_node_at w s r e tokens.Key t u m n h = leaves_out w _ _ s r _ t u m n refl e h
+value_node_at w s r e tokens.Value t u m n h = leaves_out w _ _ s r _ t u m n refl e h
+value_node_at w s r e tokens.BlockEnd t u m n h = leaves_out w _ _ s r _ t u m n refl e h
+value_node_at w s r e k t u m n h = goes_inside w _ _ BlockMapping k t u m n refl h
+
+pub value_node : (w : Beside) (s r : Span) → Spans w s r → Both w (Alike w) (block.value_node s) (block.value_node r)
+unfolding block.value_node
+value_node w s r e m n near = taken w _ (λ k. block.value_node_at k s) (λ k. block.value_node_at k r) m n near (value_node_at w s r e)
+
+mapping_value_at : (w : Beside) → AtBoth w (Alike w) block.mapping_value_at block.mapping_value_at
+mapping_value_at w tokens.Value t u m n h = value_node w t.span u.span h.span m n h.behind
+mapping_value_at w k t u m n h = leaves_out w _ _ t.span u.span k t u m n refl h.span h
+
+pub mapping_value : (w : Beside) → Both w (Alike w) block.mapping_value block.mapping_value
+unfolding block.mapping_value
+mapping_value w m n near = taken w _ block.mapping_value_at block.mapping_value_at m n near (mapping_value_at w)
+
+flow_entry_at : (w : Beside) → AtBoth w (Alike w) flow.entry_at flow.entry_at
+flow_entry_at w tokens.FlowSequenceEnd t u m n h = tells_end w _ t.span u.span m n h.span h.behind
+flow_entry_at w tokens.Key t u m n h = enters_told w _ _ _ _ _ m n refl h.span h.behind
+flow_entry_at w k t u m n h = goes_inside w _ _ Flow k t u m n refl h
+
+pub flow_first_entry : (w : Beside) → Both w (Alike w) flow.first_entry flow.first_entry
+unfolding flow.first_entry
+flow_first_entry w m n near = taken w _ flow.entry_at flow.entry_at m n near (flow_entry_at w)
+
+flow_other_entry_at : (w : Beside) → AtBoth w (Alike w) flow.other_entry_at flow.other_entry_at
+flow_other_entry_at w tokens.FlowSequenceEnd t u m n h = tells_end w _ t.span u.span m n h.span h.behind
+flow_other_entry_at w tokens.FlowEntry t u m n h = flow_first_entry w m n h.behind
+flow_other_entry_at w k t u m n h = refuses w _ t u h.span
+
+pub flow_other_entry : (w : Beside) → Both w (Alike w) flow.other_entry flow.other_entry
+unfolding flow.other_entry
+flow_other_entry w m n near = taken w _ flow.other_entry_at flow.other_entry_at m n near (flow_other_entry_at w)
+
+flow_pair_key_at : (w : Beside) → AtBoth w (Alike w) flow.pair_key_at flow.pair_key_at
+flow_pair_key_at w tokens.Value t u m n h = leaves_out w _ _ t.span u.span _ t u m n refl h.span h
+flow_pair_key_at w tokens.FlowEntry t u m n h = leaves_out w _ _ t.span u.span _ t u m n refl h.span h
+flow_pair_key_at w tokens.FlowSequenceEnd t u m n h = leaves_out w _ _ t.span u.span _ t u m n refl h.span h
+flow_pair_key_at w k t u m n h = goes_inside w _ _ Flow k t u m n refl h
+
+pub flow_pair_key : (w : Beside) → Both w (Alike w) flow.pair_key flow.pair_key
+unfolding flow.pair_key
+flow_pair_key w m n near = taken w _ flow.pair_key_at flow.pair_key_at m n near (flow_pair_key_at w)
+
+flow_pair_value_node_at : (w : Beside) → AtBoth w (Alike w) flow.pair_value_node_at flow.pair_value_node_at
+flow_pair_value_node_at w tokens.FlowEntry t u m n h = leaves_out w _ _ t.span u.span _ t u m n (u.span.end, h.span.1, refl) h.span h
+flow_pair_value_node_at w tokens.FlowSequenceEnd t u m n h = leaves_out w _ _ t.span u.span _ t u m n (u.span.end, h.span.1, refl) h.span h
+flow_pair_value_node_at w k t u m n h = goes_inside w _ _ Flow k t u m n (u.span.end, h.span.1, refl) h
+
+pub flow_pair_value_node : (w : Beside) → Both w (Alike w) flow.pair_value_node flow.pair_value_node
+unfolding flow.pair_value_node
+flow_pair_value_node w m n near = taken w _ flow.pair_value_node_at flow.pair_value_node_at m n near (flow_pair_value_node_at w)
+
+flow_pair_value_at : (w : Beside) → AtBoth w (Alike w) flow.pair_value_at flow.pair_value_at
+flow_pair_value_at w tokens.Value t u m n h = flow_pair_value_node w m n h.behind
+flow_pair_value_at w k t u m n h = leaves_out w _ _ t.span u.span _ t u m n (u.span.end, h.span.1, refl) h.span h
+
+pub flow_pair_value : (w : Beside) → Both w (Alike w) flow.pair_value flow.pair_value
+unfolding flow.pair_value
+flow_pair_value w m n near = taken w _ flow.pair_value_at flow.pair_value_at m n near (flow_pair_value_at w)
+
+pub flow_pair_end : (w : Beside) (p q : Marker) → w.Place p q → Both w (Alike w) (flow.pair_end p) (flow.pair_end q)
+unfolding flow.pair_end
+flow_pair_end w p q e m n near = enters_told w _ _ _ _ _ m n refl (e, e) near
+
+flow_key_node_at : (w : Beside) → AtBoth w (Alike w) flow.key_node_at flow.key_node_at
+flow_key_node_at w tokens.Value t u m n h = leaves_out w _ _ t.span u.span _ t u m n refl h.span h
+flow_key_node_at w tokens.FlowEntry t u m n h = leaves_out w _ _ t.span u.span _ t u m n refl h.span h
+flow_key_node_at w tokens.FlowMappingEnd t u m n h = leaves_out w _ _ t.span u.span _ t u m n refl h.span h
+flow_key_node_at w k t u m n h = goes_inside w _ _ Flow k t u m n refl h
+
+pub flow_key_node : (w : Beside) → Both w (Alike w) flow.key_node flow.key_node
+unfolding flow.key_node
+flow_key_node w m n near = taken w _ flow.key_node_at flow.key_node_at m n near (flow_key_node_at w)
+
+flow_pair_at : (w : Beside) (s r : Span) → Spans w s r → AtBoth w (Alike w) (λ k. flow.pair_at k s) (λ k. flow.pair_at k r)
+flow_pair_at w s r e tokens.Key t u m n h = flow_key_node w m n h.behind
+flow_pair_at w s r e tokens.Value t u m n h = leaves_out w _ _ t.span u.span _ t u m n refl h.span h
+flow_pair_at w s r e tokens.FlowMappingEnd t u m n h = tells_end w _ s r m n e h.behind
+flow_pair_at w s r e k t u m n h = goes_inside w _ _ Flow k t u m n refl h
+
+pub flow_first_pair : (w : Beside) → Both w (Alike w) flow.first_pair flow.first_pair
+unfolding flow.first_pair
+flow_first_pair w m n near = taken w _ (λ k t. flow.pair_at k t.span t) (λ k t. flow.pair_at k t.span t) m n near
+    (λ k t u v x h. flow_pair_at w t.span u.span h.span k t u v x h)
+
+pub flow_pair_behind_comma : (w : Beside) (s r : Span) → Spans w s r → Both w (Alike w) (flow.pair_behind_comma s) (flow.pair_behind_comma r)
+unfolding flow.pair_behind_comma
+flow_pair_behind_comma w s r e m n near = taken w _ (λ k. flow.pair_at k s) (λ k. flow.pair_at k r) m n near (flow_pair_at w s r e)
+
+flow_other_pair_at : (w : Beside) → AtBoth w (Alike w) flow.other_pair_at flow.other_pair_at
+flow_other_pair_at w tokens.FlowMappingEnd t u m n h = tells_end w _ t.span u.span m n h.span h.behind
+flow_other_pair_at w tokens.FlowEntry t u m n h = flow_pair_behind_comma w t.span u.span h.span m n h.behind
+flow_other_pair_at w k t u m n h = refuses w _ t u h.span
+
+pub flow_other_pair : (w : Beside) → Both w (Alike w) flow.other_pair flow.other_pair
+unfolding flow.other_pair
+flow_other_pair w m n near = taken w _ flow.other_pair_at flow.other_pair_at m n near (flow_other_pair_at w)
+
+flow_value_node_at : (w : Beside) (s r : Span) → Spans w s r → AtBoth w (Alike w) (λ k. flow.value_node_at k s) (λ k. flow.value_node_at k r)
+flow_value_node_at w s r e tokens.FlowEntry t u m n h = leaves_out w _ _ s r _ t u m n refl e h
+flow_value_node_at w s r e tokens.FlowMappingEnd t u m n h = leaves_out w _ _ s r _ t u m n refl e h
+flow_value_node_at w s r e k t u m n h = goes_inside w _ _ Flow k t u m n refl h
+
+pub flow_value_node : (w : Beside) (s r : Span) → Spans w s r → Both w (Alike w) (flow.value_node s) (flow.value_node r)
+unfolding flow.value_node
+flow_value_node w s r e m n near = taken w _ (λ k. flow.value_node_at k s) (λ k. flow.value_node_at k r) m n near (flow_value_node_at w s r e)
+
+flow_mapping_value_at : (w : Beside) → AtBoth w (Alike w) flow.mapping_value_at flow.mapping_value_at
+flow_mapping_value_at w tokens.Value t u m n h = flow_value_node w t.span u.span h.span m n h.behind
+flow_mapping_value_at w k t u m n h = leaves_out w _ _ t.span u.span k t u m n refl h.span h
+
+pub flow_mapping_value : (w : Beside) → Both w (Alike w) flow.mapping_value flow.mapping_value
+unfolding flow.mapping_value
+flow_mapping_value w m n near = taken w _ flow.mapping_value_at flow.mapping_value_at m n near (flow_mapping_value_at w)
+
+pub flow_empty_value : (w : Beside) → Both w (Alike w) flow.empty_value flow.empty_value
+unfolding flow.empty_value
+flow_empty_value w m n near =
+    taken w _ (λ k t. left_out_event t state.FlowMappingKey t.span) (λ k t. left_out_event t state.FlowMappingKey t.span) m n near
+    (λ k t u v x h. leaves_out w _ _ t.span u.span k t u v x refl h.span h)
