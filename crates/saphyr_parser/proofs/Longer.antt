@@ -19,8 +19,7 @@ use Rattle.saphyr_parser.proofs.Beside.Maps.{becomes, tells_so, stay, still_expe
 -- ## More tokens
 
 -- Tokens that stand behind those of a machine, and what ends them. Those of the machine end with this marker's, or
--- `Early`
--- holds: they may end too early.
+-- `Early` holds: they may end too early.
 pub record More : Type 1 where
   pub Early : Type 0
   pub marker : DocumentMarker

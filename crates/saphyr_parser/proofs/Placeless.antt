@@ -72,7 +72,8 @@ without_places =
             is = ap (λ (r : Remaining). r.pieces) i;
             start = refl;
             end = refl;
-            behind = behind t.kind _ _ (ap (λ (r : Remaining). record { pieces = map placeless_piece ts; refusal = r.refusal }) i);
+            behind = behind t.kind _ _ (ap (λ
+                (r : Remaining). record { pieces = map placeless_piece ts; refusal = r.refusal }) i);
           };
     }
 

@@ -26,14 +26,17 @@ leaves_out :
     → Held w k t u m n → Tells w (left_out_event t x s m) (left_out_event u y r n)
 leaves_out w x y s r k t u m n i e h = enters_told w _ x y s r (put_back t m) (put_back u n) i e h.back
 
-sequence_node_at : (w : Beside) (s r : Span) → Spans w s r → AtBoth w (Alike w) (λ k. block.sequence_node_at k s) (λ k. block.sequence_node_at k r)
+sequence_node_at : (w : Beside) (s r : Span) → Spans w s r
+    → AtBoth w (Alike w) (λ k. block.sequence_node_at k s) (λ k. block.sequence_node_at k r)
 sequence_node_at w s r e tokens.BlockEntry t u m n h = leaves_out w _ _ s r _ t u m n refl e h
 sequence_node_at w s r e tokens.BlockEnd t u m n h = leaves_out w _ _ s r _ t u m n refl e h
 sequence_node_at w s r e k t u m n h = goes_inside w _ _ Block k t u m n refl h
 
-pub sequence_node : (w : Beside) (s r : Span) → Spans w s r → Both w (Alike w) (block.sequence_node s) (block.sequence_node r)
+pub sequence_node : (w : Beside) (s r : Span) → Spans w s r
+    → Both w (Alike w) (block.sequence_node s) (block.sequence_node r)
 unfolding block.sequence_node
-sequence_node w s r e m n near = taken w _ (λ k. block.sequence_node_at k s) (λ k. block.sequence_node_at k r) m n near (sequence_node_at w s r e)
+sequence_node w s r e m n near =
+    taken w _ (λ k. block.sequence_node_at k s) (λ k. block.sequence_node_at k r) m n near (sequence_node_at w s r e)
 
 sequence_entry_at : (w : Beside) → AtBoth w (Alike w) block.sequence_entry_at block.sequence_entry_at
 sequence_entry_at w tokens.BlockEnd t u m n h = tells_end w _ t.span u.span m n h.span h.behind
@@ -44,16 +47,20 @@ pub sequence_entry : (w : Beside) → Both w (Alike w) block.sequence_entry bloc
 unfolding block.sequence_entry
 sequence_entry w m n near = taken w _ block.sequence_entry_at block.sequence_entry_at m n near (sequence_entry_at w)
 
-indentless_node_at : (w : Beside) (s r : Span) → Spans w s r → AtBoth w (Alike w) (λ k. block.indentless_node_at k s) (λ k. block.indentless_node_at k r)
+indentless_node_at : (w : Beside) (s r : Span) → Spans w s r
+    → AtBoth w (Alike w) (λ k. block.indentless_node_at k s) (λ k. block.indentless_node_at k r)
 indentless_node_at w s r e tokens.BlockEntry t u m n h = leaves_out w _ _ s r _ t u m n refl e h
 indentless_node_at w s r e tokens.Key t u m n h = leaves_out w _ _ s r _ t u m n refl e h
 indentless_node_at w s r e tokens.Value t u m n h = leaves_out w _ _ s r _ t u m n refl e h
 indentless_node_at w s r e tokens.BlockEnd t u m n h = leaves_out w _ _ s r _ t u m n refl e h
 indentless_node_at w s r e k t u m n h = goes_inside w _ _ Block k t u m n refl h
 
-pub indentless_node : (w : Beside) (s r : Span) → Spans w s r → Both w (Alike w) (block.indentless_node s) (block.indentless_node r)
+pub indentless_node : (w : Beside) (s r : Span) → Spans w s r
+    → Both w (Alike w) (block.indentless_node s) (block.indentless_node r)
 unfolding block.indentless_node
-indentless_node w s r e m n near = taken w _ (λ k. block.indentless_node_at k s) (λ k. block.indentless_node_at k r) m n near (indentless_node_at w s r e)
+indentless_node w s r e m n near =
+    taken w _ (λ k. block.indentless_node_at k s) (λ k. block.indentless_node_at k r) m n near
+    (indentless_node_at w s r e)
 
 indentless_entry_at : (w : Beside) → AtBoth w (Alike w) block.indentless_entry_at block.indentless_entry_at
 indentless_entry_at w tokens.BlockEntry t u m n h = indentless_node w t.span u.span h.span m n h.behind
@@ -61,7 +68,8 @@ indentless_entry_at w k t u m n h = tells_end w _ t.span u.span (put_back t m) (
 
 pub indentless_entry : (w : Beside) → Both w (Alike w) block.indentless_entry block.indentless_entry
 unfolding block.indentless_entry
-indentless_entry w m n near = taken w _ block.indentless_entry_at block.indentless_entry_at m n near (indentless_entry_at w)
+indentless_entry w m n near =
+    taken w _ block.indentless_entry_at block.indentless_entry_at m n near (indentless_entry_at w)
 
 key_node_at : (w : Beside) → AtBoth w (Alike w) block.key_node_at block.key_node_at
 key_node_at w tokens.Key t u m n h = leaves_out w _ _ t.span u.span _ t u m n refl h.span h
@@ -83,7 +91,8 @@ pub mapping_key : (w : Beside) → Both w (Alike w) block.mapping_key block.mapp
 unfolding block.mapping_key
 mapping_key w m n near = taken w _ block.mapping_key_at block.mapping_key_at m n near (mapping_key_at w)
 
-value_node_at : (w : Beside) (s r : Span) → Spans w s r → AtBoth w (Alike w) (λ k. block.value_node_at k s) (λ k. block.value_node_at k r)
+value_node_at : (w : Beside) (s r : Span) → Spans w s r
+    → AtBoth w (Alike w) (λ k. block.value_node_at k s) (λ k. block.value_node_at k r)
 value_node_at w s r e tokens.Key t u m n h = leaves_out w _ _ s r _ t u m n refl e h
 value_node_at w s r e tokens.Value t u m n h = leaves_out w _ _ s r _ t u m n refl e h
 value_node_at w s r e tokens.BlockEnd t u m n h = leaves_out w _ _ s r _ t u m n refl e h
@@ -91,7 +100,8 @@ value_node_at w s r e k t u m n h = goes_inside w _ _ BlockMapping k t u m n ref
 
 pub value_node : (w : Beside) (s r : Span) → Spans w s r → Both w (Alike w) (block.value_node s) (block.value_node r)
 unfolding block.value_node
-value_node w s r e m n near = taken w _ (λ k. block.value_node_at k s) (λ k. block.value_node_at k r) m n near (value_node_at w s r e)
+value_node w s r e m n near =
+    taken w _ (λ k. block.value_node_at k s) (λ k. block.value_node_at k r) m n near (value_node_at w s r e)
 
 mapping_value_at : (w : Beside) → AtBoth w (Alike w) block.mapping_value_at block.mapping_value_at
 mapping_value_at w tokens.Value t u m n h = value_node w t.span u.span h.span m n h.behind
@@ -130,13 +140,16 @@ unfolding flow.pair_key
 flow_pair_key w m n near = taken w _ flow.pair_key_at flow.pair_key_at m n near (flow_pair_key_at w)
 
 flow_pair_value_node_at : (w : Beside) → AtBoth w (Alike w) flow.pair_value_node_at flow.pair_value_node_at
-flow_pair_value_node_at w tokens.FlowEntry t u m n h = leaves_out w _ _ t.span u.span _ t u m n (u.span.end, h.span.1, refl) h.span h
-flow_pair_value_node_at w tokens.FlowSequenceEnd t u m n h = leaves_out w _ _ t.span u.span _ t u m n (u.span.end, h.span.1, refl) h.span h
+flow_pair_value_node_at w tokens.FlowEntry t u m n h =
+    leaves_out w _ _ t.span u.span _ t u m n (u.span.end, h.span.1, refl) h.span h
+flow_pair_value_node_at w tokens.FlowSequenceEnd t u m n h =
+    leaves_out w _ _ t.span u.span _ t u m n (u.span.end, h.span.1, refl) h.span h
 flow_pair_value_node_at w k t u m n h = goes_inside w _ _ Flow k t u m n (u.span.end, h.span.1, refl) h
 
 pub flow_pair_value_node : (w : Beside) → Both w (Alike w) flow.pair_value_node flow.pair_value_node
 unfolding flow.pair_value_node
-flow_pair_value_node w m n near = taken w _ flow.pair_value_node_at flow.pair_value_node_at m n near (flow_pair_value_node_at w)
+flow_pair_value_node w m n near =
+    taken w _ flow.pair_value_node_at flow.pair_value_node_at m n near (flow_pair_value_node_at w)
 
 flow_pair_value_at : (w : Beside) → AtBoth w (Alike w) flow.pair_value_at flow.pair_value_at
 flow_pair_value_at w tokens.Value t u m n h = flow_pair_value_node w m n h.behind
@@ -160,7 +173,8 @@ pub flow_key_node : (w : Beside) → Both w (Alike w) flow.key_node flow.key_nod
 unfolding flow.key_node
 flow_key_node w m n near = taken w _ flow.key_node_at flow.key_node_at m n near (flow_key_node_at w)
 
-flow_pair_at : (w : Beside) (s r : Span) → Spans w s r → AtBoth w (Alike w) (λ k. flow.pair_at k s) (λ k. flow.pair_at k r)
+flow_pair_at : (w : Beside) (s r : Span) → Spans w s r
+    → AtBoth w (Alike w) (λ k. flow.pair_at k s) (λ k. flow.pair_at k r)
 flow_pair_at w s r e tokens.Key t u m n h = flow_key_node w m n h.behind
 flow_pair_at w s r e tokens.Value t u m n h = leaves_out w _ _ t.span u.span _ t u m n refl h.span h
 flow_pair_at w s r e tokens.FlowMappingEnd t u m n h = tells_end w _ s r m n e h.behind
@@ -171,9 +185,11 @@ unfolding flow.first_pair
 flow_first_pair w m n near = taken w _ (λ k t. flow.pair_at k t.span t) (λ k t. flow.pair_at k t.span t) m n near
     (λ k t u v x h. flow_pair_at w t.span u.span h.span k t u v x h)
 
-pub flow_pair_behind_comma : (w : Beside) (s r : Span) → Spans w s r → Both w (Alike w) (flow.pair_behind_comma s) (flow.pair_behind_comma r)
+pub flow_pair_behind_comma : (w : Beside) (s r : Span) → Spans w s r
+    → Both w (Alike w) (flow.pair_behind_comma s) (flow.pair_behind_comma r)
 unfolding flow.pair_behind_comma
-flow_pair_behind_comma w s r e m n near = taken w _ (λ k. flow.pair_at k s) (λ k. flow.pair_at k r) m n near (flow_pair_at w s r e)
+flow_pair_behind_comma w s r e m n near =
+    taken w _ (λ k. flow.pair_at k s) (λ k. flow.pair_at k r) m n near (flow_pair_at w s r e)
 
 flow_other_pair_at : (w : Beside) → AtBoth w (Alike w) flow.other_pair_at flow.other_pair_at
 flow_other_pair_at w tokens.FlowMappingEnd t u m n h = tells_end w _ t.span u.span m n h.span h.behind
@@ -184,14 +200,16 @@ pub flow_other_pair : (w : Beside) → Both w (Alike w) flow.other_pair flow.oth
 unfolding flow.other_pair
 flow_other_pair w m n near = taken w _ flow.other_pair_at flow.other_pair_at m n near (flow_other_pair_at w)
 
-flow_value_node_at : (w : Beside) (s r : Span) → Spans w s r → AtBoth w (Alike w) (λ k. flow.value_node_at k s) (λ k. flow.value_node_at k r)
+flow_value_node_at : (w : Beside) (s r : Span) → Spans w s r
+    → AtBoth w (Alike w) (λ k. flow.value_node_at k s) (λ k. flow.value_node_at k r)
 flow_value_node_at w s r e tokens.FlowEntry t u m n h = leaves_out w _ _ s r _ t u m n refl e h
 flow_value_node_at w s r e tokens.FlowMappingEnd t u m n h = leaves_out w _ _ s r _ t u m n refl e h
 flow_value_node_at w s r e k t u m n h = goes_inside w _ _ Flow k t u m n refl h
 
 pub flow_value_node : (w : Beside) (s r : Span) → Spans w s r → Both w (Alike w) (flow.value_node s) (flow.value_node r)
 unfolding flow.value_node
-flow_value_node w s r e m n near = taken w _ (λ k. flow.value_node_at k s) (λ k. flow.value_node_at k r) m n near (flow_value_node_at w s r e)
+flow_value_node w s r e m n near =
+    taken w _ (λ k. flow.value_node_at k s) (λ k. flow.value_node_at k r) m n near (flow_value_node_at w s r e)
 
 flow_mapping_value_at : (w : Beside) → AtBoth w (Alike w) flow.mapping_value_at flow.mapping_value_at
 flow_mapping_value_at w tokens.Value t u m n h = flow_value_node w t.span u.span h.span m n h.behind

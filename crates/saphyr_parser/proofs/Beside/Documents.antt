@@ -218,12 +218,15 @@ pub steps_beside :
     (w : Beside) (s r : State) (m n : Machine) → Expected w s r → s ≢ state.End → (s ≡ state.DocumentEnd → Keeps w)
     → Near w m n → Tells w (step_at s m) (step_at r n) ⊎ (IsStart s × Passed w m n (step_at s))
 unfolding block_node document.stream_start document.document_content
-steps_beside w state.StreamStart r m n e on keeps near = rw e (inl (taken w _ document.stream_start_at document.stream_start_at m n near (stream_at w)))
+steps_beside w state.StreamStart r m n e on keeps near =
+    rw e (inl (taken w _ document.stream_start_at document.stream_start_at m n near (stream_at w)))
 steps_beside w state.ImplicitDocumentStart r m n e on keeps near = rw e (start_passed (implicit_start w m n near))
 steps_beside w state.DocumentStart r m n e on keeps near = rw e (start_passed (explicit_start w m n near))
-steps_beside w state.DocumentContent r m n e on keeps near = rw e (inl (taken w _ document.content_at document.content_at m n near (content_at w)))
+steps_beside w state.DocumentContent r m n e on keeps near =
+    rw e (inl (taken w _ document.content_at document.content_at m n near (content_at w)))
 steps_beside w state.DocumentEnd r m n e on keeps near = rw e (inl (end_beside w (keeps refl) m n near))
-steps_beside w state.BlockNode r m n e on keeps near = rw e (inl (taken w _ (λ k. node Block) (λ k. node Block) m n near (node_beside w Block)))
+steps_beside w state.BlockNode r m n e on keeps near =
+    rw e (inl (taken w _ (λ k. node Block) (λ k. node Block) m n near (node_beside w Block)))
 steps_beside w state.BlockSequenceEntry r m n e on keeps near = rw e (inl (steps.sequence_entry w m n near))
 steps_beside w state.IndentlessSequenceEntry r m n e on keeps near = rw e (inl (steps.indentless_entry w m n near))
 steps_beside w state.BlockMappingKey r m n e on keeps near = rw e (inl (steps.mapping_key w m n near))

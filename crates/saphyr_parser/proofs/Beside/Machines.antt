@@ -58,7 +58,8 @@ abbrev pub Spans : Beside → Span → Span → Type 0
 Spans w s r = w.Place s.start r.start × w.Place s.end r.end
 
 abbrev pub Expected : Beside → State → State → Type 0
-Expected w (state.FlowSequenceEntryMappingEnd p) r = (q : Marker) × w.Place p q × (r ≡ state.FlowSequenceEntryMappingEnd q)
+Expected w (state.FlowSequenceEntryMappingEnd p) r =
+    (q : Marker) × w.Place p q × (r ≡ state.FlowSequenceEntryMappingEnd q)
 Expected w s r = r ≡ s
 
 abbrev pub AllExpected : Beside → List State → List State → Type 0
@@ -176,7 +177,8 @@ ahead w m n near = changed w _ _ m n _ _ _ _ _ _ near.tokens near.state near.sta
 
 -- the tokens are over
 pub over :
-    {X : Type 0} (w : Beside) (R : X → X → Type 0) (us : List Piece) (m n : Machine) (go : List Piece → Result X Refusal)
+    {X : Type 0} (w : Beside) (R : X → X → Type 0) (us : List Piece) (m n : Machine) (go : List Piece
+    → Result X Refusal)
     → Ahead w [] us m n → go [] ≡ Err (ending n.tokens.refusal)
     → Gives w R (Err (ending m.tokens.refusal)) (go us)
 over w R us m n go near is = by (w.none us m.tokens.refusal n.tokens.refusal near.tokens)

@@ -123,22 +123,27 @@ behind_anchor_beside :
 behind_anchor_beside w id s r c e (tokens.Tag handle suffix) t u m n h =
     resolves w handle suffix s.start r.start m n _ _ e.0 h.behind
     (λ tag. next_beside w s.start t.span.end r.start u.span.end id (Some tag) c e.0 h.span.1 m n h.behind)
-behind_anchor_beside w id s r c e k t u m n h = behind_beside w s.start s.end r.start r.end id None c e.0 e.1 k t u m n h
+behind_anchor_beside w id s r c e k t u m n h =
+    behind_beside w s.start s.end r.start r.end id None c e.0 e.1 k t u m n h
 
 anchor_beside : (w : Beside) (name : List ℕ) (s r : Span) (c : Context) → Spans w s r
     → Both w (Alike w) (behind_anchor name s c) (behind_anchor name r c)
 unfolding behind_anchor
 anchor_beside w name s r c e m n near =
-    rw near.anchors (taken w _ (λ k. behind_anchor_at k (next_id m.anchors) s c) (λ k. behind_anchor_at k (next_id m.anchors) r c)
-    (register name m) (record n { anchors = registered name m.anchors }) (registers w name m n near) (behind_anchor_beside w (next_id m.anchors) s r c e))
+    rw near.anchors (taken w _ (λ k. behind_anchor_at k (next_id m.anchors) s c) (λ k. behind_anchor_at k
+    (next_id m.anchors) r c)
+    (register name m) (record n { anchors = registered name m.anchors }) (registers w name m n near)
+    (behind_anchor_beside w (next_id m.anchors) s r c e))
 
 behind_tag_beside :
     (w : Beside) (tag : ResolvedTag) (s r : Span) (c : Context) → Spans w s r
     → AtBoth w (Alike w) (λ k. behind_tag_at k tag s c) (λ k. behind_tag_at k tag r c)
 behind_tag_beside w tag s r c e (tokens.Anchor name) t u m n h =
-    rw h.behind.anchors (next_beside w s.start t.span.end r.start u.span.end (next_id m.anchors) (Some tag) c e.0 h.span.1
+    rw h.behind.anchors (next_beside w s.start t.span.end r.start u.span.end (next_id m.anchors)
+    (Some tag) c e.0 h.span.1
     (register name m) (record n { anchors = registered name m.anchors }) (registers w name m n h.behind))
-behind_tag_beside w tag s r c e k t u m n h = behind_beside w s.start s.end r.start r.end 0 (Some tag) c e.0 e.1 k t u m n h
+behind_tag_beside w tag s r c e k t u m n h =
+    behind_beside w s.start s.end r.start r.end 0 (Some tag) c e.0 e.1 k t u m n h
 
 node_at_beside : (w : Beside) (c : Context) → AtBoth w (Alike w) (λ k. node_at k c) (λ k. node_at k c)
 unfolding alias behind_tag
