@@ -170,7 +170,11 @@ inside state.DocumentContent o ss i c =
       parts =
           leaf ∷ c.parts;
       follows =
-          put (IsOptionalOf InBlock) (Follows o ss) [] (leaf ∷ []) c.kinds c.parts (forest.left_out, inl (refl, refl), refl)
+          put (IsOptionalOf InBlock) (Follows o ss) [] (leaf ∷ []) c.kinds c.parts (
+            forest.left_out,
+            inl (refl, refl),
+            refl,
+          )
           c.follows;
       starts = λ ahead. tt;
       some = λ e. cc;
@@ -195,7 +199,8 @@ inside state.BlockSequenceEntry o ss i c =
       parts =
           CloseSequence ∷ c.parts;
       follows =
-          closed BlockEntries (Follows o ss) (BlockEnd ∷ []) CloseSequence c.kinds c.parts (NoNode, refl, refl) c.follows;
+          closed BlockEntries (Follows o ss) (BlockEnd ∷ []) CloseSequence c.kinds c.parts (NoNode, refl, refl)
+          c.follows;
       starts = λ ahead. tt;
       some = λ e. cc;
       quiet = (tt, c.quiet);
@@ -233,7 +238,8 @@ inside state.BlockMappingValue o ss i c =
       parts =
           leaf ∷ CloseMapping ∷ c.parts;
       follows =
-          inl (marked_value InBlockMapping (InBlockPairs (Follows o ss)) (BlockEnd ∷ c.kinds) (leaf ∷ CloseMapping ∷ c.parts)
+          inl (marked_value InBlockMapping (InBlockPairs (Follows o ss)) (BlockEnd ∷ c.kinds) (leaf ∷ CloseMapping ∷
+          c.parts)
           (put (IsOptionalOf InBlockMapping) (InBlockPairs (Follows o ss)) [] (leaf ∷ []) _ _
           (forest.left_out, inl (refl, refl), refl) (block_pairs_end (Follows o ss) c.kinds c.parts c.follows)));
       starts =
@@ -306,7 +312,8 @@ inside state.FlowMappingFirstKey o ss i c =
       parts =
           CloseMapping ∷ c.parts;
       follows =
-          closed FirstPairs (Follows o ss) (FlowMappingEnd ∷ []) CloseMapping c.kinds c.parts (NoPair, refl, refl) c.follows;
+          closed FirstPairs (Follows o ss) (FlowMappingEnd ∷ []) CloseMapping c.kinds c.parts (NoPair, refl, refl)
+          c.follows;
       starts = λ ahead. tt;
       some = λ e. cc;
       quiet = (tt, c.quiet);

@@ -75,7 +75,8 @@ StartsAt _ m q = Unit {0}
 from_to : Marker → Marker → Span
 from_to a b = record { start = a; end = b }
 
-pub content_spans : (front : List Piece) (q : NodeProperties) (t : Piece) → Shape front q → StartsAt front t.span.start q
+pub content_spans : (front : List Piece) (q : NodeProperties) (t : Piece) → Shape front q → StartsAt front t.span.start
+    q
     → SpansAll (front ++ t ∷ []) (record { start = q.start; end = t.span.end })
 content_spans [] q t h s = ap (λ (m : Marker). let x : Span = record { start = m; end = t.span.end } in x) s
 content_spans (p ∷ []) q t h s = ap (λ (m : Marker). let x : Span = record { start = m; end = t.span.end } in x) h.1

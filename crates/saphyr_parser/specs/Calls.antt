@@ -136,7 +136,8 @@ IsGivenOrNone (Some k) = k.given ≡ true
 abbrev pub IsShown : Option (Result (Bor (Event × Span)) (Bor Fault)) → Cursor → Type 0
 IsShown None c = (c.current ≡ None) × IsGivenOrNone c.kept
 IsShown (Some (Ok e)) c = c.current ≡ Some (event_of e.now)
-IsShown (Some (Err f)) c = (c.current ≡ None) × (c.kept ≡ Some (record { fault = ending_of_fault f.now; given = false }))
+IsShown (Some (Err f)) c = (c.current ≡ None)
+    × (c.kept ≡ Some (record { fault = ending_of_fault f.now; given = false }))
 
 -- What `peek` shows, and the parser that it leaves.
 pub record Peeks (old : Cursor) (shown : Option (Result (Bor (Event × Span)) (Bor Fault))) (new : Cursor) : Type 0 where

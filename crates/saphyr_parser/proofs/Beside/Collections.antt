@@ -222,5 +222,6 @@ flow_mapping_value w m n near = taken w _ flow.mapping_value_at flow.mapping_val
 pub flow_empty_value : (w : Beside) → Both w (Alike w) flow.empty_value flow.empty_value
 unfolding flow.empty_value
 flow_empty_value w m n near =
-    taken w _ (λ k t. left_out_event t state.FlowMappingKey t.span) (λ k t. left_out_event t state.FlowMappingKey t.span) m n near
+    taken w _ (λ k t. left_out_event t state.FlowMappingKey t.span) (λ k t. left_out_event t state.FlowMappingKey
+    t.span) m n near
     (λ k t u v x h. leaves_out w _ _ t.span u.span k t u v x refl h.span h)

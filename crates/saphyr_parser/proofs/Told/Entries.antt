@@ -235,7 +235,8 @@ other_entries n ns u v t h w first others = record {
 pub no_entries : (t : List Kind) → t ≡ [] → FlowEntriesSay NoNode t
 no_entries t h = record {
   by =
-      λ f ks s ss e ps l. nothing f state.FlowSequenceFirstEntry (s ∷ ss) e (CloseSequence ∷ ps) t (FlowSequenceEnd ∷ ks)
+      λ f ks s ss e ps l. nothing f state.FlowSequenceFirstEntry (s ∷ ss) e (CloseSequence ∷ ps) t (FlowSequenceEnd ∷
+      ks)
       h (flow_sequence_ends f ks s ss e ps l);
 }
 

@@ -99,7 +99,8 @@ alias_says name c t h = record {
       (λ w v. (
         f (k ∷ ks),
         q ∙ ap (λ u. next_node (context_of c) (at f (u ++ k ∷ ks) x (s ∷ ss) e)) h
-            ∙ alias_is_told (meaning (encode_utf8_all name) e.anchors.ids) w (f (k ∷ ks)) (at f (k ∷ ks) x (s ∷ ss) e) v,
+            ∙ alias_is_told (meaning (encode_utf8_all name) e.anchors.ids) w (f (k ∷ ks)) (at f (k ∷ ks) x (s ∷ ss) e)
+            v,
       ))
       l;
 }

@@ -70,7 +70,8 @@ enough_for p front own l = let a = length-append front own in omega (arith, l, a
 
 -- ## Scalars
 
-pub leaf_goes : (p : forest.Properties) (q : NodeProperties) (front own : List Piece) (style : ScalarStyle) (value : List ℕ)
+pub leaf_goes : (p : forest.Properties) (q : NodeProperties) (front own : List Piece) (style : ScalarStyle) (value :
+    List ℕ)
     (span : Span) (c : grammar.Context) (ts : List Piece) (r : Option Refusal) (s : State) (ss : List State)
     (e : Memory) → Fronted e p q front → YieldsScalar p style value (kinds own) → IsAlive s ss
     → HasOwn (front ++ own) (Scalar (encode_utf8_all value) style q.anchor q.tag) span ts

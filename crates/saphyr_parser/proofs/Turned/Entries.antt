@@ -34,7 +34,8 @@ Wanted s st ahead ks ps = Follows s st ks ps × Starts s ahead ks
 pub skipped : (F : List Kind → List Part → Type 0) (t : Piece) (sp : Span) (ts : List Piece) (r : Option Refusal)
     (x s : State) (st : List State) (e : Memory) → IsAlive s st
     → ((ks : List Kind) (ps : List Part) → Follows s st ks ps → Starts s (kinds (t ∷ ts)) ks
-    → F ks (Leaf forest.no_properties Plain [] ∷ ps)) → Turned F e (t ∷ ts) (left_out_event t s sp (machine ts r x st e))
+    → F ks (Leaf forest.no_properties Plain [] ∷ ps)) → Turned F e (t ∷ ts) (left_out_event t s sp (machine ts r x st
+    e))
 skipped F t sp ts r x s st e a go =
     record {
       used = [];

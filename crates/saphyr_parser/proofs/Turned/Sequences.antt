@@ -137,7 +137,10 @@ entry_turned Key sp ts r x s ss e w a =
           refl;
       few = omega arith;
       places =
-          whole (record { span = sp; kind = Key } ∷ []) _ _ (inr (inr (record { span = sp; kind = Key }, refl, refl)), refl);
+          whole (record { span = sp; kind = Key } ∷ []) _ _ (
+            inr (inr (record { span = sp; kind = Key }, refl, refl)),
+            refl,
+          );
       alive = (tt, a);
       makes = λ ks ps f b. pair_first (Follows s ss) ks ps f;
     }

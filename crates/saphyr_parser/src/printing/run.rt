@@ -69,14 +69,16 @@ fn print_source<R: Read, W: Write>(
 
 // Prints the events of a text.
 fn print_text<W: Write>(alloc: Global, text: &str, out: &mut W) -> Result<(), RunFault>
-    ensures { spec.PrintsText result (spec.answer_of_text text.now) (W.contents out.old) (W.contents out.new) }
+    ensures { spec.PrintsText result (spec.answer_of_text text.now) (W.contents out.old)
+        (W.contents out.new) }
 {
     let dumped = dump_text(alloc, text, out);
     finish(dumped, out)
 }
 
 fn dump_text<W: Write>(alloc: Global, text: &str, out: &mut W) -> Result<(), DumpFault>
-    ensures { spec.DumpsText result (spec.answer_of_text text.now) (W.contents out.old) (W.contents out.new) }
+    ensures { spec.DumpsText result (spec.answer_of_text text.now) (W.contents out.old)
+        (W.contents out.new) }
 {
     let mut parser = Parser::new_from_str(alloc, text);
     dump(&mut parser, out)

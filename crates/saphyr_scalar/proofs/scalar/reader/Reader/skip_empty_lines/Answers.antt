@@ -31,7 +31,8 @@ loop-c-preserved g c =
     let next = state c.skip_plain_white.new.self in
     let same = c.look-c.ensures.same in
     let goes : is_blank_or_break (slice_index here.rest 0) ≡ true =
-    ap (λ (s : Cursor). is_blank_or_break (slice_index s.rest 0)) same ∙ ap is_blank_or_break (sym c.look-c.ensures.value)
+    ap (λ (s : Cursor). is_blank_or_break (slice_index s.rest 0)) same ∙ ap is_blank_or_break (sym
+    c.look-c.ensures.value)
     ∙ sym c.is_white.ensures ∙ c.if-not-is_white.false in
     let past = past_of c.args.indent c.loop-c.tabbed (string_bytes c.loop-c.feeds) here _
     (string_bytes c.skip_plain_white.new.feeds) next c.in_ok-tabbed.ensures in
@@ -53,7 +54,8 @@ returns-in_err-check_plain_tab g c =
     let here = state c.look-c.new.self in
     let same = c.look-c.ensures.same in
     let over : is_blank_or_break (slice_index here.rest 0) ≡ false =
-    ap (λ (s : Cursor). is_blank_or_break (slice_index s.rest 0)) same ∙ ap is_blank_or_break (sym c.look-c.ensures.value)
+    ap (λ (s : Cursor). is_blank_or_break (slice_index s.rest 0)) same ∙ ap is_blank_or_break (sym
+    c.look-c.ensures.value)
     ∙ sym c.is_white.ensures ∙ c.if-not-is_white.true in
     let blank = ap (λ (s : Cursor). s.blank_so_far) same ∙ ap (λ (s : Cursor). s.blank_so_far) c.skip_spaces.ensures
     ∙ c.loop-c.invariant.blank in
@@ -71,7 +73,8 @@ returns g c =
     let here = state c.look-c.new.self in
     let same = c.look-c.ensures.same in
     let over : is_blank_or_break (slice_index here.rest 0) ≡ false =
-    ap (λ (s : Cursor). is_blank_or_break (slice_index s.rest 0)) same ∙ ap is_blank_or_break (sym c.look-c.ensures.value)
+    ap (λ (s : Cursor). is_blank_or_break (slice_index s.rest 0)) same ∙ ap is_blank_or_break (sym
+    c.look-c.ensures.value)
     ∙ sym c.is_white.ensures ∙ c.if-not-is_white.true in
     let blank = ap (λ (s : Cursor). s.blank_so_far) same ∙ ap (λ (s : Cursor). s.blank_so_far) c.skip_spaces.ensures
     ∙ c.loop-c.invariant.blank in

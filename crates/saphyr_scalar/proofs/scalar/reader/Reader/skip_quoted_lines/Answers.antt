@@ -37,7 +37,8 @@ returns-then-self-indent-clause-same g c = λ quote start escaped.
     let tab : slice_index here.rest 0 ≡ 9 = sym c.look-c.ensures.value ∙ c.if-c-eq9.true in
     sym (c.loop-self.invariant.same quote start escaped)
     ∙ sym (inside_over quote c.args.indent start escaped c.loop-self.count _ first here c.skip_spaces.ensures)
-    ∙ tab_on quote c.args.indent start escaped c.loop-self.count here (state c.look-c.new.self) tab c.look-c.ensures.same
+    ∙ tab_on quote c.args.indent start escaped c.loop-self.count here (state c.look-c.new.self) tab
+    c.look-c.ensures.same
     c.if-self-indent.true
 
 pub loop-self-preserved : goal.loop-self-preserved
