@@ -36,6 +36,10 @@ indicator_kind indicator.MappingEnd = tokens.FlowMappingEnd
 indicator_kind indicator.Entry = tokens.FlowEntry
 indicator_kind indicator.Key = tokens.Key
 indicator_kind indicator.Value = tokens.Value
+indicator_kind indicator.BlockSequenceStart = tokens.BlockSequenceStart
+indicator_kind indicator.BlockMappingStart = tokens.BlockMappingStart
+indicator_kind indicator.BlockEntry = tokens.BlockEntry
+indicator_kind indicator.BlockEnd = tokens.BlockEnd
 
 abbrev pub text_kind : TextKind → List ℕ → Kind
 text_kind text.Alias bs = tokens.Alias bs

@@ -14,7 +14,7 @@ use saphyr_scalar::scalar::TagParts;
 use saphyr_scalar::{Marker, ScalarStyle, Span};
 use std::alloc::{AllocError, Global};
 
-/// What the tokens of flow style are that have no text.
+/// What the tokens of collections are, which have no text.
 #[derive(Clone, Copy, Debug, PartialEq, Eq)]
 pub(super) enum Indicator {
     SequenceStart,
@@ -24,6 +24,10 @@ pub(super) enum Indicator {
     Entry,
     Key,
     Value,
+    BlockSequenceStart,
+    BlockMappingStart,
+    BlockEntry,
+    BlockEnd,
 }
 
 impl Indicator {
@@ -39,6 +43,10 @@ impl Indicator {
             Indicator::Entry => TokenType::FlowEntry,
             Indicator::Key => TokenType::Key,
             Indicator::Value => TokenType::Value,
+            Indicator::BlockSequenceStart => TokenType::BlockSequenceStart,
+            Indicator::BlockMappingStart => TokenType::BlockMappingStart,
+            Indicator::BlockEntry => TokenType::BlockEntry,
+            Indicator::BlockEnd => TokenType::BlockEnd,
         }
     }
 }
@@ -100,6 +108,10 @@ impl Place {
             TokenType::FlowEntry => Indicator::Entry,
             TokenType::Key => Indicator::Key,
             TokenType::Value => Indicator::Value,
+            TokenType::BlockSequenceStart => Indicator::BlockSequenceStart,
+            TokenType::BlockMappingStart => Indicator::BlockMappingStart,
+            TokenType::BlockEntry => Indicator::BlockEntry,
+            TokenType::BlockEnd => Indicator::BlockEnd,
             kind => return Place::of_text(alloc, start, length, kind),
         };
         Ok(Place::Bare(Opening::Nothing, indicator, length, start))
