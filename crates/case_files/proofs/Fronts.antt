@@ -8,45 +8,45 @@ use Rattle.std.proofs.lemmas.List.{take-append-drop}
 use Rattle.std.specs.Cmp.Lexicographic.{same_text}
 use Rattle.std.specs.Prelude.{⊤}
 use Rattle.std.specs.Str.{bytes_eq}
-use Rattle.case_files.specs.Files.{behind, before}
+use Rattle.case_files.specs.Files.{text_behind, text_before}
 
-pub behind_front : (front rest : List ℕ) → behind front (front ++ rest) ≡ Some rest
+pub behind_front : (front rest : List ℕ) → text_behind front (front ++ rest) ≡ Some rest
 behind_front [] rest = refl
 behind_front (c ∷ front) rest =
-    cond-true (c == c) (behind front (front ++ rest)) None (eq-eqb c c refl) ∙ behind_front front rest
+    cond-true (c == c) (text_behind front (front ++ rest)) None (eq-eqb c c refl) ∙ behind_front front rest
 
-pub behind_other : (front line : List ℕ) → ((rest : List ℕ) → line ≢ front ++ rest) → behind front line ≡ None
+pub behind_other : (front line : List ℕ) → ((rest : List ℕ) → line ≢ front ++ rest) → text_behind front line ≡ None
 behind_other [] line other = absurd (other line refl)
 behind_other (c ∷ front) [] other = refl
 behind_other (c ∷ front) (d ∷ line) other =
     elim (cases_eq c d) [
       | inl same ↦
-          cond-true (c == d) (behind front line) None (eq-eqb c d same)
+          cond-true (c == d) (text_behind front line) None (eq-eqb c d same)
           ∙ behind_other front line
           (λ rest e. other rest (ap (λ l. d ∷ l) e ∙ ap (λ x. x ∷ (front ++ rest)) (sym same)))
-      | inr differ ↦ cond-false (c == d) (behind front line) None (ne_eqb c d differ)
+      | inr differ ↦ cond-false (c == d) (text_behind front line) None (ne_eqb c d differ)
     ]
 
 -- what `strip_prefix` answers
 strips : (front line : List ℕ) (r : Option (Bor (List ℕ)))
     → MatchOption r (FindsTextPrefix front line None) (λ x. StripsPrefix (FindsTextPrefix front) line x.now)
-    → behind front line ≡ option_map (λ x. x.now) r
+    → text_behind front line ≡ option_map (λ x. x.now) r
 strips front line None other = behind_other front line other
 strips front line (Some x) (n, found, is, _) =
-    ap (λ l. behind front l) found.1 ∙ behind_front front (drop n line) ∙ ap (λ (l : List ℕ). Some l) (sym is)
+    ap (λ l. text_behind front l) found.1 ∙ behind_front front (drop n line) ∙ ap (λ (l : List ℕ). Some l) (sym is)
 
 pub strips_front : (front line : List ℕ) (r : Option (Bor (List ℕ))) {o : Option (Bor (List ℕ))}
     → MatchOption r (FindsTextPrefix front line None) (λ x. StripsPrefix (FindsTextPrefix front) line x.now)
-    → r ≡ o → behind front line ≡ option_map (λ x. x.now) o
+    → r ≡ o → text_behind front line ≡ option_map (λ x. x.now) o
 strips_front front line r cases is = strips front line r cases ∙ ap (λ o. option_map (λ x. x.now) o) is
 
-pub before_end : (front end : List ℕ) → before end (front ++ end) ≡ Some front
+pub before_end : (front end : List ℕ) → text_before end (front ++ end) ≡ Some front
 before_end front end =
-    ap (λ l. option_map reverse (behind (reverse end) l)) (reverse-append front end)
+    ap (λ l. option_map reverse (text_behind (reverse end) l)) (reverse-append front end)
     ∙ ap (λ o. option_map reverse o) (behind_front (reverse end) (reverse front))
     ∙ ap (λ (l : List ℕ). Some l) (reverse-reverse front)
 
-pub before_other : (end line : List ℕ) → ((front : List ℕ) → line ≢ front ++ end) → before end line ≡ None
+pub before_other : (end line : List ℕ) → ((front : List ℕ) → line ≢ front ++ end) → text_before end line ≡ None
 before_other end line other =
     ap (λ o. option_map reverse o) (behind_other (reverse end) (reverse line)
     (λ rest e. other (reverse rest) (sym (reverse-reverse line) ∙ ap reverse e ∙ reverse-append (reverse end) rest
@@ -55,10 +55,11 @@ before_other end line other =
 -- what `strip_suffix` answers
 pub strips_end : (end line : List ℕ) (r : Option (Bor (List ℕ)))
     → MatchOption r (FindsTextSuffix end line None) (λ x. StripsSuffix (FindsTextSuffix end) line x.now)
-    → before end line ≡ option_map (λ x. x.now) r
+    → text_before end line ≡ option_map (λ x. x.now) r
 strips_end end line None other = before_other end line other
 strips_end end line (Some x) (n, found, is, _) =
-    ap (λ l. before end l) found.1 ∙ before_end (take (length line - n) line) end ∙ ap (λ (l : List ℕ). Some l) (sym is)
+    ap (λ l. text_before end l) found.1 ∙ before_end (take (length line - n) line) end
+    ∙ ap (λ (l : List ℕ). Some l) (sym is)
 
 pub now_unwrap_or : (o : Option (Bor (List ℕ))) (d : Bor (List ℕ))
     → (unwrap_or o d).now ≡ unwrap_or (option_map (λ x. x.now) o) d.now

@@ -5,14 +5,14 @@ use Rattle.saphyr_parser.specs.declared.parser.event.Event.{Event}
 use Rattle.saphyr_parser.specs.declared.parser.fault.Fault.{Fault}
 use Rattle.saphyr_parser.specs.declared.parser.fault.Fault.TheVariants as fault
 use Rattle.saphyr_parser.specs.Events.{Happening}
-use Rattle.saphyr_parser.specs.Answer.{Answer, Ending, Refused, OutOfMemory, none, failed, before}
-use Rattle.saphyr_parser.specs.Cursor.{Hands, Refuses, Stays, count, event_of}
+use Rattle.saphyr_parser.specs.Answer.{Answer, Ending, Refused, OutOfMemory, empty_answer, failed, with_first_event}
+use Rattle.saphyr_parser.specs.Cursor.{HandsOutNext, Refuses, Stays, count, event_of}
 use Rattle.case_files.specs.Lines.{Comes, IsNext, event_line, line_of_fault, line_of_item, want_line}
-use Rattle.case_files.specs.Listings.{AreLinesOf, EndsInWant, IsBefore, ListAll, lines_of, lines_of_events}
+use Rattle.case_files.specs.Listings.{AreLinesOf, EndsInWant, IsBefore, ListAll, lines_of_answer, lines_of_events}
 
 -- one line more in front, of an event
 pub lists_before : (e : Happening × Span) (new : Answer) (lines : List (List ℕ)) → AreLinesOf lines new
-    → AreLinesOf (event_line e.0 e.1 ∷ lines) (before e new)
+    → AreLinesOf (event_line e.0 e.1 ∷ lines) (with_first_event e new)
 lists_before e new lines (inl same) = inl (ap (λ l. event_line e.0 e.1 ∷ l) same)
 lists_before e new lines (inr w) = inr (record {
   come = e ∷ w.come;
@@ -38,7 +38,7 @@ nothing_lost [] lost events fault some =
 nothing_lost (e ∷ come) lost events fault some = absurd (cc)
 
 -- Nothing is listed by no line alone.
-pub lists_nothing : (lines : List (List ℕ)) → AreLinesOf lines none → lines ≡ []
+pub lists_nothing : (lines : List (List ℕ)) → AreLinesOf lines empty_answer → lines ≡ []
 lists_nothing lines (inl same) = same
 lists_nothing lines (inr w) =
     absurd (nothing_lost w.come w.is_before.lost w.is_before.events w.is_before.fault w.is_before.some_lost)
@@ -53,21 +53,21 @@ lists_want all some = inr (record {
 
 -- the line of a fault, alone
 lists_fault : (f : Fault) (all : Answer) → Refuses f all → AreLinesOf (line_of_fault f ∷ []) all
-lists_fault (fault.Scan e) all refuses = inl (ap lines_of (sym refuses))
+lists_fault (fault.Scan e) all refuses = inl (ap lines_of_answer (sym refuses))
 lists_fault fault.OutOfMemory all refuses = lists_want all refuses
 lists_fault fault.Receiver all refuses = absurd refuses
 lists_fault fault.InsideDocument all refuses = absurd refuses
 
 -- What is handed out is the first line, and the others list what remains: all are listed.
 lists_item : (item : Option (Result (Event × Span) Fault)) (old new : Answer) (lines : List (String Global))
-    → Hands item old new → Comes item lines → ListAll (drop 1 lines) new → ListAll lines old
+    → HandsOutNext item old new → Comes item lines → ListAll (drop 1 lines) new → ListAll lines old
 lists_item None old new lines hands comes rest =
-    inl (ap (λ l. map string_bytes l) comes ∙ ap lines_of (sym hands.0))
+    inl (ap (λ l. map string_bytes l) comes ∙ ap lines_of_answer (sym hands.0))
 lists_item (Some r) old new [] hands comes rest = absurd comes
 lists_item (Some (Ok e)) old new (line ∷ lines) hands comes rest =
     let all = lists_before (event_of e) new (map string_bytes lines) rest in
-    let first : AreLinesOf (string_bytes line ∷ map string_bytes lines) (before (event_of e) new) =
-    subst (λ x. AreLinesOf (x ∷ map string_bytes lines) (before (event_of e) new)) (sym comes) all in
+    let first : AreLinesOf (string_bytes line ∷ map string_bytes lines) (with_first_event (event_of e) new) =
+    subst (λ x. AreLinesOf (x ∷ map string_bytes lines) (with_first_event (event_of e) new)) (sym comes) all in
     subst (λ a. AreLinesOf (string_bytes line ∷ map string_bytes lines) a) (sym hands) first
 lists_item (Some (Err f)) old new (line ∷ lines) hands comes rest =
     let none_left : map string_bytes lines ≡ [] =
@@ -77,7 +77,7 @@ lists_item (Some (Err f)) old new (line ∷ lines) hands comes rest =
     subst (λ l. AreLinesOf l old) (sym is) (lists_fault f old hands.0)
 
 pub lists_more : (item : Option (Result (Event × Span) Fault)) (old new : Answer) (lines left : List (String Global))
-    → Hands item old new → Comes item lines → left ≡ drop 1 lines → ListAll left new → ListAll lines old
+    → HandsOutNext item old new → Comes item lines → left ≡ drop 1 lines → ListAll left new → ListAll lines old
 lists_more item old new lines left hands comes is rest =
     lists_item item old new lines hands comes (subst (λ l. ListAll l new) is rest)
 
@@ -105,7 +105,7 @@ some_refused fault.Receiver all refuses = absurd refuses
 some_refused fault.InsideDocument all refuses = absurd refuses
 
 -- Behind what is handed out less is to come.
-pub hands_less : (item : Result (Event × Span) Fault) (old new : Answer) → Hands (Some item) old new
+pub hands_less : (item : Result (Event × Span) Fault) (old new : Answer) → HandsOutNext (Some item) old new
     → count new < count old
 hands_less (Ok e) old new hands =
     let counted : count old ≡ suc (length new.events) + (if is_some new.fault then 1 else 0) = ap count hands in

@@ -3,12 +3,12 @@ use Rattle.std.proofs.Common.{◌≡◌, ℕ, zero, suc, ◌<◌, ◌≤◌, Lis
 use Rattle.std.specs.Prelude.{option_map, unwrap_or, is_some, not, ◌&&◌}
 use Rattle.std.specs.Str.Pattern.{RFindsText, LacksTextAt, SplitsAroundMatch}
 use Rattle.std.proofs.lemmas.Bool.{and_right}
-use Rattle.case_files.specs.Files.{behind, place_mark, has_place, text_before_place}
+use Rattle.case_files.specs.Files.{text_behind, place_mark, has_place, text_before_place}
 use Rattle.case_files.proofs.Fronts.{behind_front, behind_other}
 
-begins : (line rest : List ℕ) → line ≡ place_mark ++ rest → is_some (behind place_mark line) ≡ true
+begins : (line rest : List ℕ) → line ≡ place_mark ++ rest → is_some (text_behind place_mark line) ≡ true
 begins line rest is =
-    ap (λ l. is_some (behind place_mark l)) is
+    ap (λ l. is_some (text_behind place_mark l)) is
     ∙ ap (λ (o : Option (List ℕ)). is_some o) (behind_front place_mark rest)
 
 has_place_at : (line : List ℕ) (i : ℕ) (rest : List ℕ) → drop i line ≡ place_mark ++ rest → has_place line ≡ true
@@ -16,7 +16,7 @@ has_place_at [] zero rest is = absurd (cc)
 has_place_at [] (suc i) rest is = absurd (cc)
 has_place_at (c ∷ line) zero rest is = rw (begins (c ∷ line) rest is) refl
 has_place_at (c ∷ line) (suc i) rest is =
-    elim (is_some (behind place_mark (c ∷ line))) as (λ b. (if b then true else has_place line) ≡ true) [
+    elim (is_some (text_behind place_mark (c ∷ line))) as (λ b. (if b then true else has_place line) ≡ true) [
       | true ↦ refl
       | false ↦ has_place_at line i rest is
     ]
@@ -43,8 +43,8 @@ cut_at (c ∷ line) zero rest lacks is =
     rw (begins (c ∷ line) rest is) (rw (has_none line (λ k fits. lacks (suc k) (omega arith) (omega arith))) refl)
 cut_at (c ∷ line) (suc i) rest lacks is =
     let later : has_place line ≡ true = has_place_at line i rest is in
-    let goes_on : (is_some (behind place_mark (c ∷ line)) && not (has_place line)) ≡ false =
-    and_right (is_some (behind place_mark (c ∷ line))) (not (has_place line)) (ap not later) in
+    let goes_on : (is_some (text_behind place_mark (c ∷ line)) && not (has_place line)) ≡ false =
+    and_right (is_some (text_behind place_mark (c ∷ line))) (not (has_place line)) (ap not later) in
     rw goes_on (ap (λ l. c ∷ l) (cut_at line i rest (λ k over fits. lacks (suc k) (omega arith) (omega arith)) is))
 
 -- what `rsplit_once` answers

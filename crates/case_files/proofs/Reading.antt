@@ -7,7 +7,7 @@ use Rattle.case_files.specs.declared.escape.Escape.{Escape}
 use Rattle.case_files.specs.declared.escape.Escape.TheVariants as at
 use Rattle.std.specs.List.{flat_map}
 use Rattle.std.proofs.lemmas.Bool.{cases_eq, ne_eqb}
-use Rattle.case_files.specs.Escapes.{text_of, read_behind, EscapeStep, escaped}
+use Rattle.case_files.specs.Escapes.{text_of, read_behind, EscapeStep, spelled_character}
 
 -- The characters `cs` gave a text and left an escape of which so much has been read.
 abbrev pub HasRead : List ℕ → List ℕ → Escape → Type 0
@@ -30,7 +30,7 @@ nothing_left at.Begun = refl
 nothing_left (at.Number n) = refl
 
 -- Of what is written each character comes back.
-reads_escaped : (c : ℕ) (cs : List ℕ) → text_of (escaped c ++ cs) ≡ c ∷ text_of cs
+reads_escaped : (c : ℕ) (cs : List ℕ) → text_of (spelled_character c ++ cs) ≡ c ∷ text_of cs
 reads_escaped c cs =
     elim (cases_eq c 92) [
       | inl is ↦ rw is refl
@@ -48,6 +48,6 @@ reads_escaped c cs =
       ]
     ]
 
-pub reads_all_escaped : (cs : List ℕ) → text_of (flat_map escaped cs) ≡ cs
+pub reads_all_escaped : (cs : List ℕ) → text_of (flat_map spelled_character cs) ≡ cs
 reads_all_escaped [] = refl
-reads_all_escaped (c ∷ cs) = reads_escaped c (flat_map escaped cs) ∙ ap (λ l. c ∷ l) (reads_all_escaped cs)
+reads_all_escaped (c ∷ cs) = reads_escaped c (flat_map spelled_character cs) ∙ ap (λ l. c ∷ l) (reads_all_escaped cs)

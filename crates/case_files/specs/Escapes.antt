@@ -48,11 +48,11 @@ abbrev pub unescaped : List ℕ → List ℕ
 unescaped line = encode_utf8_all (text_of (chars line))
 
 -- How a text is written: a backslash, LF, CR and a tab by their escapes, and each other character as it is.
-abbrev pub escaped : ℕ → List ℕ
-escaped c =
+abbrev pub spelled_character : ℕ → List ℕ
+spelled_character c =
     if c == 92 then codes "\\\\" else if c == 10 then codes "\\n" else if c == 13 then codes "\\r"
     else if c == 9 then codes "\\t" else c ∷ []
 
 -- A line in which each character of a text is written so gives that text.
 abbrev pub ReadsBack : List ℕ → List ℕ → Type 0
-ReadsBack line text = (cs : List ℕ) → chars line ≡ flat_map escaped cs → text ≡ encode_utf8_all cs
+ReadsBack line text = (cs : List ℕ) → chars line ≡ flat_map spelled_character cs → text ≡ encode_utf8_all cs

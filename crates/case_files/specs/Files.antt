@@ -8,18 +8,18 @@ use Rattle.std.specs.Str.{bytes_eq}
 use Rattle.case_files.specs.Escapes.{unescaped}
 
 -- what stands behind the front of a line, where it begins so
-abbrev pub behind : List ℕ → List ℕ → Option (List ℕ)
-behind [] line = Some line
-behind (c ∷ front) [] = None
-behind (c ∷ front) (d ∷ line) = if c == d then behind front line else None
+abbrev pub text_behind : List ℕ → List ℕ → Option (List ℕ)
+text_behind [] line = Some line
+text_behind (c ∷ front) [] = None
+text_behind (c ∷ front) (d ∷ line) = if c == d then text_behind front line else None
 
 -- what stands before the end of a line, where it ends so
-abbrev pub before : List ℕ → List ℕ → Option (List ℕ)
-before end line = option_map reverse (behind (reverse end) (reverse line))
+abbrev pub text_before : List ℕ → List ℕ → Option (List ℕ)
+text_before end line = option_map reverse (text_behind (reverse end) (reverse line))
 
 -- the title of a line `= TITLE`
 abbrev pub title_of : List ℕ → Option (List ℕ)
-title_of line = behind (codes "= ") line
+title_of line = text_behind (codes "= ") line
 
 -- A title, and the lines up to the next one.
 abbrev pub Section : Type 0
@@ -40,7 +40,7 @@ sections (line ∷ lines) = with_section (title_of line) (up_to_title lines) (se
 
 -- the text of a line `< TEXT`
 abbrev pub text_line : List ℕ → Option (List ℕ)
-text_line line = behind (codes "< ") line
+text_line line = text_behind (codes "< ") line
 
 -- the text of the last line `< TEXT`, or one that came before
 abbrev pub last_text : List ℕ → List (List ℕ) → List ℕ
@@ -60,8 +60,8 @@ pub record CaseFields : Type 0 where
 
 abbrev pub case_of : Section → CaseFields
 case_of s = record {
-  name = unwrap_or (before (codes " keep_tags") s.0) s.0;
-  keeps_tags = is_some (before (codes " keep_tags") s.0);
+  name = unwrap_or (text_before (codes " keep_tags") s.0) s.0;
+  keeps_tags = is_some (text_before (codes " keep_tags") s.0);
   text = last_text [] s.1;
   lines = other_lines s.1;
 }
@@ -89,12 +89,12 @@ place_mark = codes " @ "
 -- what stands before the last ` @ ` of a line, and all of a line that has none
 abbrev pub has_place : List ℕ → Bool
 has_place [] = false
-has_place (c ∷ line) = if is_some (behind place_mark (c ∷ line)) then true else has_place line
+has_place (c ∷ line) = if is_some (text_behind place_mark (c ∷ line)) then true else has_place line
 
 abbrev pub text_before_place : List ℕ → List ℕ
 text_before_place [] = []
 text_before_place (c ∷ line) =
-    if is_some (behind place_mark (c ∷ line)) && not (has_place line) then [] else c ∷ text_before_place line
+    if is_some (text_behind place_mark (c ∷ line)) && not (has_place line) then [] else c ∷ text_before_place line
 
 -- an event without its place and without what begins a document
 abbrev pub shown : List ℕ → List ℕ
@@ -107,7 +107,7 @@ dumped_event (Some event) = shown event ++ codes "\n"
 
 -- that for a line of a case, where it is one of an event
 abbrev pub dumped_line : List ℕ → List ℕ
-dumped_line line = dumped_event (behind (codes "> ") line)
+dumped_line line = dumped_event (text_behind (codes "> ") line)
 
 abbrev pub dumped : List (String Global) → List ℕ
 dumped lines = flat_map dumped_line (map string_bytes lines)

@@ -20,26 +20,27 @@ use Rattle.saphyr_parser.specs.declared.parser.receiver.Refused.{Refused}
 use Rattle.saphyr_parser.specs.Views.Events.{happening, resolved_tag}
 use Rattle.saphyr_parser.specs.Events as events
 use Rattle.saphyr_parser.specs.Events.{ResolvedTag, Happening}
-use Rattle.saphyr_parser.specs.Printed.{mark, node_text}
+use Rattle.saphyr_parser.specs.Printed.{style_mark, node_text}
 
-abbrev pub place_text : Marker → List ℕ
-place_text m = decimal m.index ++ (codes "," ++ (decimal m.line ++ (codes "," ++ decimal m.col)))
+abbrev pub place_numbers : Marker → List ℕ
+place_numbers m = decimal m.index ++ (codes "," ++ (decimal m.line ++ (codes "," ++ decimal m.col)))
 
 -- A character of a scalar's text: a backslash, LF, CR, a tab and a backspace are escaped.
-abbrev pub escape : ℕ → List ℕ
-escape c =
+abbrev pub character_text : ℕ → List ℕ
+character_text c =
     if c == 92 then codes "\\\\" else (if c == 10 then codes "\\n" else (if c == 13 then codes "\\r" else (
     if c == 9 then codes "\\t" else (if c == 8 then codes "\\b" else encode_utf8 c))))
 
-abbrev pub escaped : List ℕ → List ℕ
-escaped text = flat_map escape (chars text)
+abbrev pub escaped_text : List ℕ → List ℕ
+escaped_text text = flat_map character_text (chars text)
 
 abbrev pub document_text : Bool → List ℕ
 document_text false = codes "+DOC"
 document_text true = codes "+DOC ---"
 
 abbrev pub scalar_text : List ℕ → Style → ℕ → Option ResolvedTag → List ℕ
-scalar_text text style id tag = node_text (codes "=VAL") id tag ++ ((codes " " ++ mark style) ++ escaped text)
+scalar_text text style id tag =
+    node_text (codes "=VAL") id tag ++ ((codes " " ++ style_mark style) ++ escaped_text text)
 
 abbrev pub event_text : Happening → List ℕ
 event_text events.Nothing = codes "nothing"
@@ -55,15 +56,15 @@ event_text (events.MappingStart id tag) = node_text (codes "+MAP") id tag
 event_text events.MappingEnd = codes "-MAP"
 
 abbrev pub span_text : Span → List ℕ
-span_text s = place_text s.start ++ (codes " " ++ place_text s.end)
+span_text s = place_numbers s.start ++ (codes " " ++ place_numbers s.end)
 
 -- the line of an event with its span
 abbrev pub event_line : Happening → Span → List ℕ
 event_line e s = codes "> " ++ (event_text e ++ (codes " @ " ++ span_text s))
 
 -- what is seen of them
-abbrev pub line_of : Event × Span → List ℕ
-line_of e = event_line (happening e.0) e.1
+abbrev pub line_of_event : Event × Span → List ℕ
+line_of_event e = event_line (happening e.0) e.1
 
 -- what is seen of a tag, where there is one
 abbrev pub tag_of : Option Tag → Option ResolvedTag
@@ -94,7 +95,7 @@ line_of_fault fault.InsideDocument = codes "! load was called inside a document"
 
 -- the line of what is handed out
 abbrev pub line_of_item : Result (Event × Span) Fault → List ℕ
-line_of_item (Ok e) = line_of e
+line_of_item (Ok e) = line_of_event e
 line_of_item (Err f) = line_of_fault f
 
 -- what is handed out or shown, behind its references
@@ -119,8 +120,8 @@ pub record Comparing : Type 0 where
   pub before_refusal : ℕ
 
 -- What comes is the first line, which is passed. What is refused passes none: it is one too many, or differs.
-abbrev pub Passes : Result (Unit {0}) Refused → Happening → Span → Comparing → Comparing → Type 0
-Passes (Ok u) e s old new = IsNext (event_line e s) old.left
+abbrev pub PassesLine : Result (Unit {0}) Refused → Happening → Span → Comparing → Comparing → Type 0
+PassesLine (Ok u) e s old new = IsNext (event_line e s) old.left
     × (new ≡ record old { left = drop 1 old.left; before_refusal = old.before_refusal - 1 })
-Passes (Err r) e s old new = ((old.before_refusal ≡ 0) × (new ≡ old))
+PassesLine (Err r) e s old new = ((old.before_refusal ≡ 0) × (new ≡ old))
     ⊎ (new ≡ record old { differs = true; before_refusal = old.before_refusal - 1 })

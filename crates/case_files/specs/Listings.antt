@@ -27,8 +27,8 @@ lines_of_end None = []
 lines_of_end (Some f) = line_of_ending f ∷ []
 
 -- all lines of what is to come
-abbrev pub lines_of : Answer → List (List ℕ)
-lines_of a = lines_of_events a.events ++ lines_of_end a.fault
+abbrev pub lines_of_answer : Answer → List (List ℕ)
+lines_of_answer a = lines_of_events a.events ++ lines_of_end a.fault
 
 -- These events come first of all, and something is left behind them.
 pub record IsBefore (come : List (Happening × Span)) (all : Answer) : Type 0 where
@@ -45,7 +45,7 @@ pub record EndsInWant (lines : List (List ℕ)) (all : Answer) : Type 0 where
 
 -- The lines list all that is to come, or all up to where memory ran out. No list in a file has the line of that.
 abbrev pub AreLinesOf : List (List ℕ) → Answer → Type 0
-AreLinesOf lines all = (lines ≡ lines_of all) ⊎ EndsInWant lines all
+AreLinesOf lines all = (lines ≡ lines_of_answer all) ⊎ EndsInWant lines all
 
 -- the same of lines in memory
 abbrev pub ListAll : List (String Global) → Answer → Type 0
@@ -63,9 +63,9 @@ abbrev pub fault_line_of : List (String Global) → Option (List ℕ)
 fault_line_of lines = option_and_then (λ line. if_fault (string_bytes line)) (slice_get lines (length lines - 1))
 
 -- all that the text of a case gives
-abbrev pub told_by : Case → Answer
-told_by c = to_come (keeping_tags c.keeps_tags (at_start (scan 4294967295 (chars (string_bytes c.text)))))
+abbrev pub case_answer : Case → Answer
+case_answer c = to_come (keeping_tags c.keeps_tags (at_start (scan 4294967295 (chars (string_bytes c.text)))))
 
 -- The lines of a case list all that its text gives.
 abbrev pub Agrees : Case → Type 0
-Agrees c = ListAll c.lines.items (told_by c)
+Agrees c = ListAll c.lines.items (case_answer c)

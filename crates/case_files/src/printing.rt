@@ -36,7 +36,7 @@ pub fn push_item(
 }
 
 fn push_place(line: &mut String, mark: Marker) -> Result<(), AllocError>
-    ensures { Pushes result line.old line.new (lines.place_text mark) }
+    ensures { Pushes result line.old line.new (lines.place_numbers mark) }
 {
     let Marker {
         index,
@@ -81,7 +81,7 @@ fn push_scalar(
 }
 
 fn mark(style: ScalarStyle) -> &'static str
-    ensures { result.now ≡ codes " " ++ printed.mark style }
+    ensures { result.now ≡ codes " " ++ printed.style_mark style }
 {
     match style {
         ScalarStyle::Plain => " :",
@@ -93,7 +93,8 @@ fn mark(style: ScalarStyle) -> &'static str
 }
 
 fn push_node(line: &mut String, name: &str, id: usize, tag: &Option<Tag>) -> Result<(), AllocError>
-    ensures { Pushes result line.old line.new (printed.node_text name.now id (lines.tag_of tag.now)) }
+    ensures { Pushes result line.old line.new
+        (printed.node_text name.now id (lines.tag_of tag.now)) }
 {
     line.push_str(name)?;
     if id != 0 {
@@ -106,7 +107,7 @@ fn push_node(line: &mut String, name: &str, id: usize, tag: &Option<Tag>) -> Res
 }
 
 fn push_escaped(line: &mut String, text: &str) -> Result<(), AllocError>
-    ensures { Pushes result line.old line.new (lines.escaped text.now) }
+    ensures { Pushes result line.old line.new (lines.escaped_text text.now) }
 {
     for c in text.chars() {
         push_escape(line, c)?;
@@ -115,7 +116,7 @@ fn push_escaped(line: &mut String, text: &str) -> Result<(), AllocError>
 }
 
 fn push_escape(line: &mut String, c: char) -> Result<(), AllocError>
-    ensures { Pushes result line.old line.new (lines.escape c) }
+    ensures { Pushes result line.old line.new (lines.character_text c) }
 {
     match c {
         '\\' => line.push_str("\\\\"),

@@ -100,9 +100,9 @@ impl<'a> ComparingReceiver<'a> {
 }
 
 impl<'input> SpannedEventReceiver<'input> for ComparingReceiver<'_> {
-    ghost use Rattle.case_files.specs.Lines.{Passes};
+    ghost use Rattle.case_files.specs.Lines.{PassesLine};
 
-    ghost receives = { λ s e r t. Passes r e.0 e.1 s t };
+    ghost receives = { λ s e r t. PassesLine r e.0 e.1 s t };
 
     fn on_event(&mut self, ev: Event<'input>, span: Span) -> Result<(), Refused> {
         if self.before_refusal == 0 {

@@ -10,7 +10,7 @@ use Rattle.saphyr_parser.specs.declared.printing.fault.DumpFault.TheVariants as 
 use Rattle.saphyr_parser.specs.Events.{Happening}
 use Rattle.saphyr_parser.specs.Answer.{Answer, Ending, Refused}
 use Rattle.saphyr_parser.specs.Cursor.{count}
-use Rattle.saphyr_parser.specs.Printed.{line, lines}
+use Rattle.saphyr_parser.specs.Printed.{printed_line, printed_lines}
 use Rattle.saphyr_parser.specs.Dumps.{Cuts, Dumps}
 use Rattle.saphyr_parser.proofs.Printed.Dumping.{lines-append}
 use Rattle.case_files.specs.Lines.{line_of_fault}
@@ -82,16 +82,16 @@ begins_dump all left text taken rest split some cuts =
     record {
       taken = taken;
       rest = rest;
-      more = cuts.back ++ lines left.events;
+      more = cuts.back ++ printed_lines left.events;
       split = split;
       left = some;
       written =
-          ap lines cuts.split ∙ lines-append cuts.printed (cuts.event ∷ left.events)
-          ∙ ap (λ l. lines cuts.printed ++ (l ++ lines left.events)) cuts.cut
-          ∙ ap (λ l. lines cuts.printed ++ l) (append_assoc cuts.front cuts.back (lines left.events))
-          ∙ sym (append_assoc (lines cuts.printed) cuts.front (cuts.back ++ lines left.events))
-          ∙ ap (λ l. l ++ (cuts.back ++ lines left.events)) (sym cuts.taken);
-      missing = more cuts.back (lines left.events) cuts.missing;
+          ap printed_lines cuts.split ∙ lines-append cuts.printed (cuts.event ∷ left.events)
+          ∙ ap (λ l. printed_lines cuts.printed ++ (l ++ printed_lines left.events)) cuts.cut
+          ∙ ap (λ l. printed_lines cuts.printed ++ l) (append_assoc cuts.front cuts.back (printed_lines left.events))
+          ∙ sym (append_assoc (printed_lines cuts.printed) cuts.front (cuts.back ++ printed_lines left.events))
+          ∙ ap (λ l. l ++ (cuts.back ++ printed_lines left.events)) (sym cuts.taken);
+      missing = more cuts.back (printed_lines left.events) cuts.missing;
     }
 
 pub dumps_some : (all left : Answer) (text old taken rest : List ℕ) → old ≡ [] → text ≡ taken ++ rest

@@ -7,20 +7,20 @@ use Rattle.saphyr_parser.specs.declared.parser.fault.Fault.TheVariants as fault
 use Rattle.saphyr_parser.specs.declared.parser.receiver.Refused.{Refused}
 use Rattle.saphyr_parser.specs.Events as events
 use Rattle.saphyr_parser.specs.Events.{Happening}
-use Rattle.saphyr_parser.specs.Answer.{Answer, Ending, none, failed}
+use Rattle.saphyr_parser.specs.Answer.{Answer, Ending, empty_answer, failed}
 use Rattle.saphyr_parser.specs.declared.parser.event.Event.{Event}
-use Rattle.saphyr_parser.specs.Cursor.{Cursor, Hands, Kept, IsKept, count, inside_behind, keeping_tags, to_come, ahead, behind}
+use Rattle.saphyr_parser.specs.Cursor.{EventCursor, HandsOutNext, Kept, IsKept, count, inside_behind, keeping_tags, to_come, ahead, answer_behind}
 use Rattle.saphyr_parser.specs.Calls.{EndsTheStream}
-use Rattle.saphyr_parser.specs.Loading.{Part, is_last, with_event, part, to_send, inside_over, Keeps, Tells, Sends, SendsOne, Stopped, Lost, Finished, Loads}
-use Rattle.case_files.specs.Lines.{Comparing, IsNext, Passes, event_line, line_of_fault, want_line}
-use Rattle.case_files.specs.Listings.{AreLinesOf, EndsInWant, IsBefore, ListAll, lines_of, lines_of_events}
+use Rattle.saphyr_parser.specs.Loading.{Portion, is_last, with_event, portion, to_send, inside_over, Keeps, Tells, Sends, SendsOne, Stopped, Lost, Finished, Loads}
+use Rattle.case_files.specs.Lines.{Comparing, IsNext, PassesLine, event_line, line_of_fault, want_line}
+use Rattle.case_files.specs.Listings.{AreLinesOf, EndsInWant, IsBefore, ListAll, lines_of_answer, lines_of_events}
 use Rattle.case_files.proofs.Listings.{hands_less, lists_before, lists_more}
 use Rattle.event_cases.specs.Handed.{ListAllButOne, StandsBetween}
 
 -- ## Lines
 
 abbrev pub takes : Comparing → Happening × Span → Result (Unit {0}) Refused → Comparing → Type 0
-takes s e r t = Passes r e.0 e.1 s t
+takes s e r t = PassesLine r e.0 e.1 s t
 
 next_line : (text : List ℕ) (ls : List (String Global)) → IsNext text ls
     → map string_bytes ls ≡ text ∷ map string_bytes (drop 1 ls)
@@ -62,16 +62,16 @@ lists_sent sent lines left old new written events fault all =
 abbrev one_if : Option Ending → ℕ
 one_if fault = if is_some fault then 1 else 0
 
-record RestOf (es : List (Happening × Span)) (f : Option Ending) (p : Part) : Type 0 where
+record RestOf (es : List (Happening × Span)) (f : Option Ending) (p : Portion) : Type 0 where
   rest : List (Happening × Span)
   split : es ≡ p.sent ++ rest
   fewer : one_if p.fault ≤ one_if f
   some : 0 < count (record { events = es; fault = f }) → 0 < count (record { events = p.sent; fault = p.fault })
 
-abbrev behind_first : Bool → Happening × Span → Part → Part
+abbrev behind_first : Bool → Happening × Span → Portion → Portion
 behind_first last e p = if last then (record { sent = e ∷ []; fault = None }) else with_event e p
 
-rest_behind : (last : Bool) (e : Happening × Span) (es : List (Happening × Span)) (f : Option Ending) (p : Part)
+rest_behind : (last : Bool) (e : Happening × Span) (es : List (Happening × Span)) (f : Option Ending) (p : Portion)
     → RestOf es f p → RestOf (e ∷ es) f (behind_first last e p)
 rest_behind true e es f p r = record { rest = es; split = refl; fewer = omega arith; some = λ h. omega arith }
 rest_behind false e es f p r = record {
@@ -81,12 +81,12 @@ rest_behind false e es f p r = record {
   some = λ h. omega arith;
 }
 
-part_rest : (multi : Bool) (es : List (Happening × Span)) (f : Option Ending) → RestOf es f (part multi es f)
+part_rest : (multi : Bool) (es : List (Happening × Span)) (f : Option Ending) → RestOf es f (portion multi es f)
 part_rest multi [] f = record { rest = []; split = refl; fewer = omega arith; some = λ h. h }
-part_rest multi (e ∷ es) f = rest_behind (is_last multi e.0) e es f (part multi es f) (part_rest multi es f)
+part_rest multi (e ∷ es) f = rest_behind (is_last multi e.0) e es f (portion multi es f) (part_rest multi es f)
 
 -- Memory ran out behind what was sent.
-lost_lines : (multi : Bool) (old new : Cursor) (first last : Comparing)
+lost_lines : (multi : Bool) (old new : EventCursor) (first last : Comparing)
     → Lost takes (to_send multi old) old first last new → IsNext want_line last.left → drop 1 last.left ≡ []
     → ListAll first.left (to_come old)
 lost_lines multi old new first last lost next over =
@@ -105,13 +105,13 @@ lost_lines multi old new first last lost next over =
           (next_line want_line last.left next ∙ ap (λ l. want_line ∷ map string_bytes l) over);
     })
 
-keeps_it : (c : Cursor) (f : Ending) → Keeps f c → to_come c ≡ failed f
+keeps_it : (c : EventCursor) (f : Ending) → Keeps f c → to_come c ≡ failed f
 keeps_it c f keeps =
-    ap (λ o. ahead o (behind c.kept c.machine)) keeps.current ∙ ap (λ o. behind o c.machine) keeps.kept
+    ap (λ o. ahead o (answer_behind c.kept c.machine)) keeps.current ∙ ap (λ o. answer_behind o c.machine) keeps.kept
 
 -- ## Calls
 
-pub lists_finished : (multi : Bool) (old new : Cursor) (first last : Comparing)
+pub lists_finished : (multi : Bool) (old new : EventCursor) (first last : Comparing)
     → Finished takes (to_send multi old) old first last new → ListAll last.left (to_come new)
     → ListAll first.left (to_come old)
 lists_finished multi old new first last f all =
@@ -119,20 +119,21 @@ lists_finished multi old new first last f all =
     (sent_lines _ first last f.sends) f.passed.events f.passed.fault all
 
 -- the fault that was answered has the last line
-pub lists_failed : (multi : Bool) (f : Fault) (old new : Cursor) (first last : Comparing)
+pub lists_failed : (multi : Bool) (f : Fault) (old new : EventCursor) (first last : Comparing)
     → Loads takes (Err f) (to_send multi old) old first last new → (f ≡ fault.Receiver → ⊥)
     → IsNext (line_of_fault f) last.left → drop 1 last.left ≡ [] → ListAll first.left (to_come old)
 lists_failed multi (fault.Scan e) old new first last f told next over =
     lists_sent (to_send multi old).sent first.left last.left (to_come old) (to_come new)
     (sent_lines _ first last f.sends) f.passed.events f.passed.fault
-    (lists_more (Some (Err (fault.Scan e))) (to_come new) none last.left [] (keeps_it new _ f.keeps, refl) next (sym over)
+    (lists_more (Some (Err (fault.Scan e))) (to_come new) empty_answer last.left [] (keeps_it new _ f.keeps, refl) next
+    (sym over)
     (inl refl))
 lists_failed multi fault.OutOfMemory old new first last lost told next over =
     lost_lines multi old new first last lost next over
 lists_failed multi fault.Receiver old new first last f told next over = absurd (told refl)
 lists_failed multi fault.InsideDocument old new first last f told next over = absurd f
 
-finished_less : (multi : Bool) (old new : Cursor) (first last : Comparing)
+finished_less : (multi : Bool) (old new : EventCursor) (first last : Comparing)
     → Finished takes (to_send multi old) old first last new → 0 < count (to_come old)
     → count (to_come new) < count (to_come old)
 finished_less multi old new first last f some =
@@ -144,7 +145,7 @@ finished_less multi old new first last f some =
     let same : one_if all.fault ≡ one_if (to_come new).fault = ap one_if f.passed.fault in
     omega (arith, sent, no_fault, longer, same)
 
-over_now : (c : Cursor) (span : Span) → EndsTheStream c → c.finished ≡ Some span → to_come c ≡ none
+over_now : (c : EventCursor) (span : Span) → EndsTheStream c → c.finished ≡ Some span → to_come c ≡ empty_answer
 over_now c span over is = over span is c.machine.keep_tags
 
 is_kept : (kept : Option Kept) (k : Kept) → kept ≡ Some k → IsKept kept
@@ -156,7 +157,7 @@ kept_none (Some k) is same = cc
 
 -- A call that was answered by no fault has handed something over, if something was left.
 load_some : (kept : Option Kept) (finished : Option Span) (inside : Bool) (u : Unit {0}) (multi : Bool)
-    (old new : Cursor) (first last : Comparing) → old.kept ≡ kept → old.finished ≡ finished → old.inside ≡ inside
+    (old new : EventCursor) (first last : Comparing) → old.kept ≡ kept → old.finished ≡ finished → old.inside ≡ inside
     → (IsKept old.kept → Tells (Ok u) old.kept × (last ≡ first) × (new ≡ old))
     → (old.kept ≡ None → (span : Span) → old.finished ≡ Some span
     → SendsOne takes (Ok u) (events.StreamEnd, span) first last × (new ≡ old))
@@ -170,21 +171,23 @@ load_some (Some k) finished inside u multi old new first last k_is f_is i_is end
 load_some None (Some span) inside u multi old new first last k_is f_is i_is ended at_end within between over some =
     let same = (at_end k_is span f_is).1 in
     let nothing : count (to_come new) ≡ 0 =
-    ap count (over_now new span over (ap (λ (c : Cursor). c.finished) same ∙ f_is)) in
-    let still : count (to_come new) ≡ count (to_come old) = ap (λ (c : Cursor). count (to_come c)) same in
+    ap count (over_now new span over (ap (λ (c : EventCursor). c.finished) same ∙ f_is)) in
+    let still : count (to_come new) ≡ count (to_come old) = ap (λ (c : EventCursor). count (to_come c)) same in
     absurd (omega (arith, nothing, still, some))
 load_some None None true u multi old new first last k_is f_is i_is ended at_end within between over some =
     let inside = (within k_is f_is i_is).0 in absurd (cc)
 load_some None None false u multi old new first last k_is f_is i_is ended at_end within between over some =
     finished_less multi old new first last (between k_is f_is i_is) some
 
-pub load_less : (r : Result (Unit {0}) Fault) (u : Unit {0}) (multi : Bool) (old new : Cursor) (first last : Comparing)
+pub load_less : (r : Result (Unit {0}) Fault) (u : Unit {0}) (multi : Bool) (old new : EventCursor)
+    (first last : Comparing)
     → r ≡ Ok u → (IsKept old.kept → Tells r old.kept × (last ≡ first) × (new ≡ old))
     → (old.kept ≡ None → (span : Span) → old.finished ≡ Some span
     → SendsOne takes r (events.StreamEnd, span) first last × (new ≡ old))
     → (old.kept ≡ None → old.finished ≡ None → old.inside ≡ true
     → (r ≡ Err fault.InsideDocument) × (last ≡ first) × (new ≡ old))
-    → (old.kept ≡ None → old.finished ≡ None → old.inside ≡ false → Loads takes r (to_send multi old) old first last new)
+    → (old.kept ≡ None → old.finished ≡ None → old.inside ≡ false
+    → Loads takes r (to_send multi old) old first last new)
     → EndsTheStream new → 0 < count (to_come old) → count (to_come new) < count (to_come old)
 load_less (Ok v) u multi old new first last is ended at_end within between over some =
     load_some old.kept old.finished old.inside v multi old new first last refl refl refl ended at_end within between over
@@ -207,10 +210,11 @@ last_ends (events.MappingStart id tag) b is = absurd (cc)
 last_ends events.MappingEnd b is = absurd (cc)
 
 -- a part ends with a document, or is all that is to come
-abbrev IsPart : List (Happening × Span) → Option Ending → Bool → Part → Type 0
+abbrev IsPart : List (Happening × Span) → Option Ending → Bool → Portion → Type 0
 IsPart es f b p = p.fault ≡ None → (inside_over p.sent b ≡ false) ⊎ ((p.sent ≡ es) × (f ≡ None))
 
-part_behind : (last : Bool) (e : Happening × Span) (es : List (Happening × Span)) (f : Option Ending) (b : Bool) (p : Part)
+part_behind : (last : Bool) (e : Happening × Span) (es : List (Happening × Span)) (f : Option Ending) (b : Bool)
+    (p : Portion)
     → is_last false e.0 ≡ last → IsPart es f (inside_behind e.0 b) p → IsPart (e ∷ es) f b (behind_first last e p)
 part_behind true e es f b p is others no_fault = inl (last_ends e.0 b is)
 part_behind false e es f b p is others no_fault =
@@ -219,19 +223,20 @@ part_behind false e es f b p is others no_fault =
       | inr all ↦ inr (ap (λ l. e ∷ l) all.0, all.1)
     ]
 
-part_ends : (es : List (Happening × Span)) (f : Option Ending) (b : Bool) → IsPart es f b (part false es f)
+part_ends : (es : List (Happening × Span)) (f : Option Ending) (b : Bool) → IsPart es f b (portion false es f)
 part_ends [] f b no_fault = inr (refl, no_fault)
 part_ends (e ∷ es) f b no_fault =
-    part_behind (is_last false e.0) e es f b (part false es f) refl (part_ends es f (inside_behind e.0 b)) no_fault
+    part_behind (is_last false e.0) e es f b (portion false es f) refl (part_ends es f (inside_behind e.0 b)) no_fault
 
-not_finished : (c : Cursor) (finished : Option Span) → c.finished ≡ finished → EndsTheStream c → 0 < count (to_come c)
+not_finished : (c : EventCursor) (finished : Option Span) → c.finished ≡ finished → EndsTheStream c
+    → 0 < count (to_come c)
     → c.finished ≡ None
 not_finished c None is over some = is
 not_finished c (Some span) is over some =
     let nothing : count (to_come c) ≡ 0 = ap count (over_now c span over is) in
     absurd (omega (arith, nothing, some))
 
-pub stands_behind : (old new : Cursor) (first last : Comparing) → old.inside ≡ false
+pub stands_behind : (old new : EventCursor) (first last : Comparing) → old.inside ≡ false
     → Finished takes (to_send false old) old first last new → EndsTheStream new → 0 < count (to_come new)
     → StandsBetween new
 stands_behind old new first last outside f over some =
@@ -258,7 +263,7 @@ refused_nothing e middle last (inl refused) same = refused.1
 refused_nothing e middle last (inr found) same =
     let differs = ap (λ (c : Comparing). c.differs) (sym found) ∙ same in absurd (cc)
 
-pub refuses_one : (multi : Bool) (old new : Cursor) (first last : Comparing) (before others : List (String Global))
+pub refuses_one : (multi : Bool) (old new : EventCursor) (first last : Comparing) (before others : List (String Global))
     → Stopped takes (to_send multi old) old first last new → first.left ≡ before → last.left ≡ []
     → last.differs ≡ false → ListAll others (to_come new) → ListAllButOne before others (to_come old)
 refuses_one multi old new first last before others stopped begins ends same all =
@@ -284,14 +289,14 @@ anyway (Err e) h = tt
 -- ## Whether something is left
 
 pub some_given : (item : Option (Result (Event × Span) Fault)) (old new : Answer) → true ≡ is_some item
-    → Hands item old new → 0 < count old
+    → HandsOutNext item old new → 0 < count old
 some_given None old new is hands = absurd (cc)
 some_given (Some x) old new is hands = omega (arith, hands_less x old new hands)
 
 pub none_given : (item : Option (Result (Event × Span) Fault)) (old new : Answer) → false ≡ is_some item
-    → Hands item old new → old ≡ none
+    → HandsOutNext item old new → old ≡ empty_answer
 none_given None old new is hands = hands.0
 none_given (Some x) old new is hands = absurd (cc)
 
-pub lists_none : (lines : List (String Global)) (all : Answer) → lines ≡ [] → all ≡ none → ListAll lines all
-lists_none lines all empty over = inl (ap (λ l. map string_bytes l) empty ∙ ap lines_of (sym over))
+pub lists_none : (lines : List (String Global)) (all : Answer) → lines ≡ [] → all ≡ empty_answer → ListAll lines all
+lists_none lines all empty over = inl (ap (λ l. map string_bytes l) empty ∙ ap lines_of_answer (sym over))

@@ -6,11 +6,11 @@ use Rattle.yaml_tree.specs.declared.document.Document.{Document}
 use Rattle.yaml_tree.specs.declared.fault.TreeFault.{TreeFault}
 use Rattle.yaml_tree.specs.declared.fault.TreeFault.TheVariants as fault
 use Rattle.yaml_tree.specs.declared.tally.Limits.{Limits}
-use Rattle.yaml_tree.specs.Loading.{Loads}
+use Rattle.yaml_tree.specs.Loading.{LoadsDocuments}
 use Rattle.event_cases.specs.Trees.{HasTrees, IsTold}
 
 pub has_trees : (limits : Limits) (answer : Result (Vec Document Global) TreeFault) (all left : Answer)
-    → IsTold answer → Loads limits answer all left → HasTrees all
+    → IsTold answer → LoadsDocuments limits answer all left → HasTrees all
 has_trees limits (Ok documents) all left is loads =
     inl (record { documents = documents.items; unloaded = loads.0; whole = loads.1 })
 has_trees limits (Err (fault.Parse (parse.Scan e))) all left is loads =

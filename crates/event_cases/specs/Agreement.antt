@@ -4,7 +4,7 @@ use Rattle.std.specs.List.{starts_with}
 use Rattle.std.specs.declared.alloc.Global.{Global}
 use Rattle.case_files.specs.declared.case.Case.{Case}
 use Rattle.case_files.specs.Files.{dumped}
-use Rattle.case_files.specs.Listings.{Agrees, fault_line_of, told_by}
+use Rattle.case_files.specs.Listings.{Agrees, fault_line_of, case_answer}
 use Rattle.event_cases.specs.declared.findings.Subject.{Subject}
 use Rattle.event_cases.specs.declared.findings.Subject.TheVariants as subject
 use Rattle.event_cases.specs.Dumped.{IsDump}
@@ -13,7 +13,7 @@ use Rattle.event_cases.specs.Trees.{HasTrees}
 
 -- The events among the lines are what `dump` writes, and the last line is that of a fault where one ends them.
 abbrev pub DumpAgrees : Case → Type 0
-DumpAgrees c = IsDump (fault_line_of c.lines.items) (dumped c.lines.items) (told_by c)
+DumpAgrees c = IsDump (fault_line_of c.lines.items) (dumped c.lines.items) (case_answer c)
 
 -- whether a line is that of an event
 abbrev pub is_event_line : List ℕ → Bool
@@ -23,7 +23,7 @@ is_event_line line = starts_with nat_eq line (codes "> ")
 abbrev pub RefusalAgrees : Case → ℕ → Type 0
 RefusalAgrees c place = (line : String Global) → slice_get c.lines.items place ≡ Some line
     → is_event_line (string_bytes line) ≡ true
-    → ListAllButOne (take place c.lines.items) (drop 1 (drop place c.lines.items)) (told_by c)
+    → ListAllButOne (take place c.lines.items) (drop 1 (drop place c.lines.items)) (case_answer c)
 
 -- the same of each line
 abbrev pub RefusalsAgree : Case → Type 0
@@ -31,7 +31,7 @@ RefusalsAgree c = (place : ℕ) → place < length c.lines.items → RefusalAgre
 
 -- The lines list all that the text gives, and its events are those of trees, unless a fault of the text ends them.
 abbrev pub TreesAgree : Case → Type 0
-TreesAgree c = Agrees c × HasTrees (told_by c)
+TreesAgree c = Agrees c × HasTrees (case_answer c)
 
 -- What is compared of a case agrees.
 abbrev pub AgreesOn : Subject → Case → Type 0

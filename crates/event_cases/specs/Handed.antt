@@ -4,11 +4,11 @@ use Rattle.std.specs.declared.alloc.Global.{Global}
 use Rattle.saphyr_scalar.specs.declared.scalar.position.Span.{Span}
 use Rattle.saphyr_parser.specs.Events.{Happening}
 use Rattle.saphyr_parser.specs.Answer.{Answer}
-use Rattle.saphyr_parser.specs.Cursor.{Cursor}
+use Rattle.saphyr_parser.specs.Cursor.{EventCursor}
 use Rattle.case_files.specs.Listings.{ListAll, lines_of_events}
 
 -- A parser between documents: no fault was met, and the end of the stream was not handed out.
-pub record StandsBetween (parser : Cursor) : Type 0 where
+pub record StandsBetween (parser : EventCursor) : Type 0 where
   pub kept : parser.kept ≡ None
   pub finished : parser.finished ≡ None
   pub inside : parser.inside ≡ false

@@ -28,4 +28,5 @@ DeepBlockAgrees = IsDumpOf (times 10000 (codes "- ") ++ codes "a") None
 -- a key of 100,000 characters
 abbrev pub LongKeyAgrees : Type 0
 LongKeyAgrees = IsDumpOf ((codes "[" ++ times 100000 (codes "a")) ++ codes ": b]") None
-    ((codes "+STR\n+DOC\n+SEQ\n+MAP\n=VAL :" ++ times 100000 (codes "a")) ++ codes "\n=VAL :b\n-MAP\n-SEQ\n-DOC\n-STR\n")
+    ((codes "+STR\n+DOC\n+SEQ\n+MAP\n=VAL :" ++ times 100000 (codes "a"))
+    ++ codes "\n=VAL :b\n-MAP\n-SEQ\n-DOC\n-STR\n")

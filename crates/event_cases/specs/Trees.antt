@@ -7,13 +7,13 @@ use Rattle.saphyr_parser.specs.Answer.{Answer, Refused}
 use Rattle.yaml_tree.specs.declared.document.Document.{Document}
 use Rattle.yaml_tree.specs.declared.fault.TreeFault.{TreeFault}
 use Rattle.yaml_tree.specs.declared.fault.TreeFault.TheVariants as fault
-use Rattle.yaml_tree.specs.Loading.{told}
+use Rattle.yaml_tree.specs.Loading.{happenings}
 use Rattle.yaml_tree.specs.Unloading.{unload}
 
 -- No fault ends the events, and they are those of these documents.
 pub record HasDocuments (all : Answer) : Type 0 where
   pub documents : List Document
-  pub unloaded : unload documents ≡ told all.events
+  pub unloaded : unload documents ≡ happenings all.events
   pub whole : all.fault ≡ None
 
 -- A fault of the text ends the events.

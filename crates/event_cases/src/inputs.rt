@@ -11,10 +11,10 @@ use std::alloc::Global;
 
 /// What is compared of a parser, over any input.
 pub trait Comparison {
-    ghost use Rattle.saphyr_parser.specs.Cursor.{Cursor};
+    ghost use Rattle.saphyr_parser.specs.Cursor.{EventCursor};
 
     /// What is so of a parser of which no difference is found.
-    ghost agrees: { Self → Cursor → Type 0 };
+    ghost agrees: { Self → EventCursor → Type 0 };
 
     fn compare<T: CloneInput>(&self, parser: Parser<'_, T>) -> Result<(), Difference>
         ensures { OnOk result (agrees self.now parser.entry) };

@@ -2,7 +2,7 @@
 ghost use Rattle.std.specs.Prelude.{◌≡◌, IfOk, OnOk, Some, false, option_map};
 ghost use Rattle.saphyr_parser.specs.Cursor.{to_come};
 ghost use Rattle.case_files.specs.Lines.{line_of_fault};
-ghost use Rattle.case_files.specs.Listings.{fault_line_of, told_by};
+ghost use Rattle.case_files.specs.Listings.{fault_line_of, case_answer};
 ghost use Rattle.event_cases.specs.Agreement.{DumpAgrees};
 ghost use Rattle.event_cases.specs.Dumped.{IsWritten};
 
@@ -62,7 +62,7 @@ fn fail_each(alloc: Global, case: &Case, text: &str, manner: Manner) -> Result<(
 // Writes the lines of a case. Whether the writer has failed.
 fn write_case(alloc: Global, case: &Case, text: &str, manner: Manner) -> Result<bool, Difference>
     ensures { IfOk result (λ has_failed.
-        IsWritten has_failed (fault_line_of case.now.lines.items) text.now (told_by case.now)) }
+        IsWritten has_failed (fault_line_of case.now.lines.items) text.now (case_answer case.now)) }
 {
     let parser = Parser::new_from_str(alloc, case.text.as_str()).keep_tags(case.keeps_tags);
     is_dumped(alloc, parser, text, case.fault_line(), manner)

@@ -83,5 +83,5 @@ part_view (parts.OpenMapping p) = preorder.OpenMapping (properties_view p.now)
 part_view parts.CloseMapping = preorder.CloseMapping
 
 -- parts that stand before, the latest first
-abbrev pub behind : List Part → List preorder.Part
-behind before = reverse (map part_view before)
+abbrev pub parts_before : List Part → List preorder.Part
+parts_before before = reverse (map part_view before)

@@ -2,7 +2,7 @@
 ghost use Rattle.std.specs.Prelude.{◌≡◌, encode_utf8_all, suc};
 ghost use Rattle.std.specs.Str.{chars};
 ghost use Rattle.saphyr_parser.specs.Anchors as spec;
-ghost use Rattle.forest_events.specs.TreeSeen.{behind};
+ghost use Rattle.forest_events.specs.TreeSeen.{parts_before};
 
 use crate::part::Part;
 use crate::text::is_same;
@@ -10,7 +10,7 @@ use crate::text::is_same;
 /// The id of an anchor behind the parts.
 #[tactic(auto, using(crate::proofs::Behind::behind_more))]
 pub fn next_id(before: &[Part]) -> usize
-    ensures { result ≡ suc (spec.anchors (behind before.now)) }
+    ensures { result ≡ suc (spec.anchors (parts_before before.now)) }
 {
     let mut id = 1;
     for part in before {
@@ -24,7 +24,7 @@ pub fn next_id(before: &[Part]) -> usize
 /// The id of the latest anchor of the name in the document that is open.
 #[tactic(auto, using(crate::proofs::Behind::behind_more))]
 pub fn latest(name: &str, before: &[Part]) -> Option<usize>
-    ensures { result ≡ spec.latest (encode_utf8_all (chars name.now)) (behind before.now) }
+    ensures { result ≡ spec.latest (encode_utf8_all (chars name.now)) (parts_before before.now) }
 {
     let mut id = 0;
     let mut found = None;

@@ -3,7 +3,7 @@ ghost use Rattle.std.specs.Prelude.{◌≡◌, IfOk, map, option_map, string_byt
 ghost use Rattle.saphyr_scanner.specs.Grammar.Forest.{handle_bytes};
 ghost use Rattle.saphyr_parser.specs.Views.Events.{resolved_tag};
 ghost use Rattle.saphyr_parser.specs.TagResolution as spec;
-ghost use Rattle.forest_events.specs.TreeSeen.{behind, directive_view, handle_view, tag_view};
+ghost use Rattle.forest_events.specs.TreeSeen.{parts_before, directive_view, handle_view, tag_view};
 
 use crate::part::Part;
 use crate::text::owned;
@@ -61,7 +61,7 @@ fn declared(
     keep: bool,
 ) -> Result<Option<String>, AllocError>
     ensures { IfOk result (λ prefix. option_map string_bytes prefix
-        ≡ spec.declared keep (handle_view handle.now) (behind before.now)) }
+        ≡ spec.declared keep (handle_view handle.now) (parts_before before.now)) }
 {
     let mut declared = None;
     for part in before {
@@ -84,7 +84,7 @@ fn prefix_of(
     keep: bool,
 ) -> Result<Option<String>, AllocError>
     ensures { IfOk result (λ prefix. option_map string_bytes prefix
-        ≡ spec.prefix_of keep (handle_view handle.now) (behind before.now)) }
+        ≡ spec.prefix_of keep (handle_view handle.now) (parts_before before.now)) }
 {
     if let Some(prefix) = declared(alloc, handle, before, keep)? {
         return Ok(Some(prefix));
@@ -104,7 +104,7 @@ fn resolve(
     keep: bool,
 ) -> Result<Option<Tag>, AllocError>
     ensures { IfOk result (λ resolved. option_map resolved_tag resolved
-        ≡ spec.resolve keep (tag_view tag.now) (behind before.now)) }
+        ≡ spec.resolve keep (tag_view tag.now) (parts_before before.now)) }
 {
     let (prefix, suffix) = match tag {
         WrittenTag::NonSpecific => (Some(String::new(alloc)), String::from_str(alloc, "!")?),
@@ -128,7 +128,7 @@ pub fn resolve_any(
     keep: bool,
 ) -> Result<Option<Option<Tag>>, AllocError>
     ensures { IfOk result (λ resolved. option_map (λ any. option_map resolved_tag any) resolved
-        ≡ spec.resolve_any keep (option_map tag_view tag.now) (behind before.now)) }
+        ≡ spec.resolve_any keep (option_map tag_view tag.now) (parts_before before.now)) }
 {
     Ok(match tag {
         Some(tag) => match resolve(alloc, tag, before, keep)? {

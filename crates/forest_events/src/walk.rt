@@ -2,7 +2,7 @@
 ghost use Rattle.std.specs.Prelude.{[], ◌≡◌, IfOk, map, option_map};
 ghost use Rattle.saphyr_parser.specs.ForestEvents as spec;
 ghost use Rattle.saphyr_parser.specs.Views.Events.{happening};
-ghost use Rattle.forest_events.specs.TreeSeen.{behind, document_view, part_view, properties_view};
+ghost use Rattle.forest_events.specs.TreeSeen.{parts_before, document_view, part_view, properties_view};
 ghost use Rattle.saphyr_parser.specs.Anchors.{own_id};
 
 use crate::anchors::{latest, next_id};
@@ -57,7 +57,7 @@ fn event_of(
     keep: bool,
 ) -> Result<Option<Event<'static>>, AllocError>
     ensures { IfOk result (λ event. option_map happening event
-        ≡ spec.event_of keep (behind before.now) (part_view part.now)) }
+        ≡ spec.event_of_part keep (parts_before before.now) (part_view part.now)) }
 {
     Ok(match part {
         Part::OpenStream => Some(Event::StreamStart),
@@ -96,7 +96,7 @@ fn event_of(
 
 /// The id of a node's own anchor, 0 where it has none.
 fn own_anchor(properties: &Properties, before: &[Part]) -> usize
-    ensures { result ≡ own_id (behind before.now) (properties_view properties.now).anchor }
+    ensures { result ≡ own_id (parts_before before.now) (properties_view properties.now).anchor }
 {
     match &properties.anchor {
         Some(_) => next_id(before),

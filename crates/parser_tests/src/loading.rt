@@ -93,7 +93,10 @@ impl Iterator for Stutter {
 
     ghost use Rattle.std.specs.Prelude.{◌≡◌, ◌+◌, ◌<◌, ◌==◌, None, Some, if◌then◌else◌};
 
-    ghost next_gives = { λ s r t. (r ≡ (if s.place == 0 then Some 97 else (if s.place == 2 then Some 98 else (if s.place == 3 then Some 91 else (if s.place == 4 then Some 49 else (if s.place == 6 then Some 93 else None)))))) × (s.place < 7 → t.place ≡ s.place + 1) };
+    ghost next_gives = { λ s r t. (r ≡ (if s.place == 0 then Some 97
+        else (if s.place == 2 then Some 98 else (if s.place == 3 then Some 91
+        else (if s.place == 4 then Some 49 else (if s.place == 6 then Some 93 else None))))))
+        × (s.place < 7 → t.place ≡ s.place + 1) };
 
     fn next(&mut self) -> Option<char> {
         let place = self.place;

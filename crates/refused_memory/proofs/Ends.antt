@@ -4,22 +4,22 @@ use Rattle.saphyr_scalar.specs.declared.scalar.position.Span.{Span}
 use Rattle.saphyr_parser.specs.declared.parser.event.Event.{Event}
 use Rattle.saphyr_parser.specs.declared.parser.fault.Fault.{Fault}
 use Rattle.saphyr_parser.specs.declared.parser.fault.Fault.TheVariants as fault
-use Rattle.saphyr_parser.specs.Answer.{Answer, Ending, OutOfMemory, none, failed}
-use Rattle.saphyr_parser.specs.Cursor.{Hands, Shows, Stays}
-use Rattle.case_files.specs.Listings.{ListAll, lines_of}
+use Rattle.saphyr_parser.specs.Answer.{Answer, Ending, OutOfMemory, empty_answer, failed}
+use Rattle.saphyr_parser.specs.Cursor.{HandsOutNext, Shows, Stays}
+use Rattle.case_files.specs.Listings.{ListAll, lines_of_answer}
 
 pub nothing_shown : (shown : Option (Result (Bor (Event × Span)) (Bor Fault))) (old new : Answer)
-    → is_some shown ≡ false → Shows shown new → Stays old new → old ≡ none
+    → is_some shown ≡ false → Shows shown new → Stays old new → old ≡ empty_answer
 nothing_shown None old new is shows (inl same) = sym same ∙ shows
 nothing_shown None old new is shows (inr ran_out) =
     let differ : Some OutOfMemory ≡ None = ap (λ (a : Answer). a.fault) (sym ran_out.1 ∙ shows) in absurd (cc)
 nothing_shown (Some x) old new is shows stays = absurd (cc)
 
 pub nothing_given : (given : Option (Result (Event × Span) Fault)) (old new : Answer) → is_some given ≡ false
-    → Hands given old new → new ≡ none
+    → HandsOutNext given old new → new ≡ empty_answer
 nothing_given None old new is hands = hands.1
 nothing_given (Some x) old new is hands = absurd (cc)
 
 -- Nothing is left, of lines and of what is to come.
-pub lists_over : (all : Answer) (lines : List (String Global)) → lines ≡ [] → all ≡ none → ListAll lines all
-lists_over all lines empty over = inl (ap (λ l. map string_bytes l) empty ∙ ap lines_of (sym over))
+pub lists_over : (all : Answer) (lines : List (String Global)) → lines ≡ [] → all ≡ empty_answer → ListAll lines all
+lists_over all lines empty over = inl (ap (λ l. map string_bytes l) empty ∙ ap lines_of_answer (sym over))

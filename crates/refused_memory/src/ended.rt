@@ -1,6 +1,6 @@
 //! What stands behind all that a parser gives.
 ghost use Rattle.std.specs.Prelude.{◌≡◌, OnOk, string_bytes};
-ghost use Rattle.saphyr_parser.specs.Answer.{none};
+ghost use Rattle.saphyr_parser.specs.Answer.{empty_answer};
 ghost use Rattle.saphyr_parser.specs.Cursor.{to_come};
 ghost use Rattle.case_files.specs.Listings.{is_fault_line};
 
@@ -18,8 +18,8 @@ pub fn is_fault(line: &String) -> bool
 
 /// Nothing is left to show or to give.
 fn gives_nothing<T: Input>(alloc: Global, parser: &mut Parser<'_, T>) -> Result<(), Difference>
-    ensures before { OnOk result (to_come parser.old ≡ none) }
-    ensures behind { OnOk result (to_come parser.new ≡ none) }
+    ensures before { OnOk result (to_come parser.old ≡ empty_answer) }
+    ensures behind { OnOk result (to_come parser.new ≡ empty_answer) }
 {
     if parser.peek().is_some() {
         return Err(Difference::new(alloc, "`peek` shows more"));
@@ -35,8 +35,8 @@ pub fn is_ended_by_memory<T: Input>(
     alloc: Global,
     parser: &mut Parser<'_, T>,
 ) -> Result<(), Difference>
-    ensures before { OnOk result (to_come parser.old ≡ none) }
-    ensures behind { OnOk result (to_come parser.new ≡ none) }
+    ensures before { OnOk result (to_come parser.old ≡ empty_answer) }
+    ensures behind { OnOk result (to_come parser.new ≡ empty_answer) }
 {
     gives_nothing(alloc, parser)?;
     keeps_want(alloc, parser)?;
@@ -45,7 +45,7 @@ pub fn is_ended_by_memory<T: Input>(
 
 // `load` answers want of memory and sends nothing, and nothing is left behind it.
 fn keeps_want<T: Input>(alloc: Global, parser: &mut Parser<'_, T>) -> Result<(), Difference>
-    ensures { OnOk result (to_come parser.new ≡ none) }
+    ensures { OnOk result (to_come parser.new ≡ empty_answer) }
 {
     let mut receiver = ComparingReceiver::new(alloc, &[]);
     let answer = parser.load(&mut receiver, true);
@@ -63,7 +63,7 @@ pub fn is_ended<T: Input>(
     parser: &mut Parser<'_, T>,
     last: &[String],
 ) -> Result<Outcome, Difference>
-    ensures { OnOk result (to_come parser.old ≡ none) }
+    ensures { OnOk result (to_come parser.old ≡ empty_answer) }
 {
     gives_nothing(alloc, parser)?;
     let mut receiver = ComparingReceiver::new(alloc, last);

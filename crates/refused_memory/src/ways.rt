@@ -1,7 +1,7 @@
 //! The ways to take events one by one and by `load`.
 ghost use Rattle.std.specs.Prelude.{◌≡◌, ◌<◌, ◌-◌, OnOk, Ok, drop, length, true};
 ghost use Rattle.saphyr_parser.specs.Answer as answer;
-ghost use Rattle.saphyr_parser.specs.Answer.{failed, none};
+ghost use Rattle.saphyr_parser.specs.Answer.{failed, empty_answer};
 ghost use Rattle.saphyr_parser.specs.Cursor.{Stays, count, to_come};
 ghost use Rattle.case_files.specs.Listings.{ListAll};
 ghost use Rattle.refused_memory.specs.Want.{IsInWant};
@@ -28,7 +28,7 @@ pub fn take_left<T: Input>(
     lines: &[String],
 ) -> Result<Outcome, Difference>
     ensures whole { result ≡ Ok Whole → ListAll lines.now (to_come parser.old) }
-    ensures ended { OnOk result (to_come parser.new ≡ none) }
+    ensures ended { OnOk result (to_come parser.new ≡ empty_answer) }
 {
     let mut expected = Expected::new(alloc, lines);
     while let Some(item) = parser.next_event() {
@@ -97,7 +97,7 @@ fn shows_want<T: Input>(parser: &mut Parser<'_, T>) -> bool
 pub fn give_want<T: Input>(alloc: Global, parser: &mut Parser<'_, T>) -> Result<(), Difference>
     ensures shown { OnOk result (IsInWant parser.old) }
     ensures lost { OnOk result (0 < count (to_come parser.old)) }
-    ensures ended { OnOk result (to_come parser.new ≡ none) }
+    ensures ended { OnOk result (to_come parser.new ≡ empty_answer) }
 {
     if !(shows_want(parser) && shows_want(parser)) {
         return Err(Difference::new(alloc, "`peek` doesn't show want of memory"));

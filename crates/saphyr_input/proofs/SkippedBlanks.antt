@@ -20,11 +20,11 @@ skipped_ascii No = λ c h. grind (arith, nat_tests)
 skipped_ascii (Result a b) = λ c h. grind (arith, nat_tests)
 
 pub with_tabs : (t : SkipTabs) (b : Bool) → t ≡ Yes → b ≡ true → (c : ℕ)
-    → spec.is_skipped b c ≡ separation.is_skipped t c
+    → spec.is_passed_blank b c ≡ separation.is_skipped t c
 with_tabs t b e f c = rw (e, f) refl
 
 pub without_tabs : (t : SkipTabs) (b : Bool) → ¬ (t ≡ Yes) → b ≡ false → (c : ℕ)
-    → spec.is_skipped b c ≡ separation.is_skipped t c
+    → spec.is_passed_blank b c ≡ separation.is_skipped t c
 without_tabs Yes b n f c = absurd (n refl)
 without_tabs No b n f c = rw f refl
 without_tabs (Result x y) b n f c = rw f refl
@@ -35,11 +35,12 @@ pub record SkippedBlanks (t : SkipTabs) (bs : List ℕ) (n : ℕ) (tabs spaces :
   pub found : Result tabs spaces ≡ separation.found_blanks t (chars bs)
 
 pub blanks_are : (t : SkipTabs) (b : Bool) (bs : List ℕ) (n : ℕ) (tabs spaces : Bool) → IsUtf8 bs
-    → ((c : ℕ) → spec.is_skipped b c ≡ separation.is_skipped t c)
-    → n ≡ prefix_len (spec.is_skipped b) bs → tabs ≡ list_any (λ c. c == 9) (take n bs)
+    → ((c : ℕ) → spec.is_passed_blank b c ≡ separation.is_skipped t c)
+    → n ≡ prefix_len (spec.is_passed_blank b) bs → tabs ≡ list_any (λ c. c == 9) (take n bs)
     → spaces ≡ list_any (λ c. c == 32) (take n bs) → SkippedBlanks t bs n tabs spaces
 blanks_are t b bs n tabs spaces u same e f g =
-    let run : AsciiRun (separation.is_skipped t) bs n = ascii_class_run (separation.is_skipped t) (spec.is_skipped b) bs
+    let run : AsciiRun (separation.is_skipped t) bs n = ascii_class_run (separation.is_skipped t)
+    (spec.is_passed_blank b) bs
     n u (skipped_ascii t) same e in
     let count = run.ends (skipped_ascii t) in
     let front : take n bs ≡ take (separation.blank_len t (chars bs)) (chars bs) =

@@ -20,6 +20,6 @@ abbrev pub is_marker : ℕ → List ℕ → Bool
 is_marker mark xs = next_3_are xs mark mark mark && is_blank_or_breakz (slice_index xs 3)
 
 -- spaces, and tabs where these are asked for
-abbrev pub is_skipped : Bool → ℕ → Bool
-is_skipped true c = is_blank c
-is_skipped false c = c == space
+abbrev pub is_passed_blank : Bool → ℕ → Bool
+is_passed_blank true c = is_blank c
+is_passed_blank false c = c == space

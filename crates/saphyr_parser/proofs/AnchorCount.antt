@@ -5,26 +5,26 @@ use Rattle.saphyr_scanner.specs.Grammar.Forest as forest
 use Rattle.saphyr_scanner.specs.Grammar.Tokens.{Kind, DocumentStart, DocumentEnd, anchor_token, tag_token, directive_token}
 use Rattle.saphyr_scanner.specs.Grammar.TokenGrammar as grammar
 use Rattle.saphyr_scanner.specs.Grammar.TokenGrammar.{Context, InFlow, InBlock, InBlockMapping, AreBoth, YieldProperties, YieldsOptional, YieldsMarkedKey, YieldsMarkedValue, YieldsMarkedPair, YieldsSinglePair, YieldsFlowPair, YieldsBlockPair, YieldsNode, YieldsPairEntry, YieldFlowEntries, YieldOtherFlowEntries, YieldFlowPairs, YieldOtherFlowPairs, YieldBlockEntries, YieldBlockPairs, YieldsDocument, AreEndsAndMarks, YieldsBehindDocument, YieldDocuments, Yields}
-use Rattle.saphyr_parser.specs.Anchors.{anchor_of, one_more, anchors}
+use Rattle.saphyr_parser.specs.Anchors.{anchor_of, one_more_anchor, anchors}
 use Rattle.saphyr_parser.specs.Preorder.{Part, CloseSequence, CloseMapping, CloseDocument, node_parts, entry_parts, pair_parts, document_parts, parts}
 
 -- ## Sums
 
-one_more_sum : (o : Option (List ℕ)) (a b : ℕ) → one_more o (a + b) ≡ one_more o a + b
+one_more_sum : (o : Option (List ℕ)) (a b : ℕ) → one_more_anchor o (a + b) ≡ one_more_anchor o a + b
 one_more_sum None a b = refl
 one_more_sum (Some name) a b = omega arith
 
 sum : (ps qs : List Part) → anchors (ps ++ qs) ≡ anchors ps + anchors qs
 sum [] qs = omega arith
-sum (p ∷ ps) qs = ap (one_more (anchor_of p)) (sum ps qs) ∙ one_more_sum (anchor_of p) (anchors ps) (anchors qs)
+sum (p ∷ ps) qs = ap (one_more_anchor (anchor_of p)) (sum ps qs) ∙ one_more_sum (anchor_of p) (anchors ps) (anchors qs)
 
 parts_of : (t a b : List Kind) → t ≡ a ++ b → length t ≡ length a + length b
 parts_of t a b e = ap length e ∙ length-append a b
 
 own : Option (List ℕ) → ℕ
-own a = one_more (option_map encode_utf8_all a) 0
+own a = one_more_anchor (option_map encode_utf8_all a) 0
 
-with_own : (a : Option (List ℕ)) (n : ℕ) → one_more (option_map encode_utf8_all a) n ≡ own a + n
+with_own : (a : Option (List ℕ)) (n : ℕ) → one_more_anchor (option_map encode_utf8_all a) n ≡ own a + n
 unfolding own
 with_own None n = omega arith
 with_own (Some name) n = omega arith
@@ -39,7 +39,8 @@ property_count (Some name) (Some tag) t (inr h) = let l = ap length h in omega (
 
 -- a node with properties, before content that has enough tokens for the anchors inside
 with_properties : (p : Properties) (front content t : List Kind) (inside : ℕ) → YieldProperties p front
-    → t ≡ front ++ content → inside ≤ length content → one_more (option_map encode_utf8_all p.anchor) inside ≤ length t
+    → t ≡ front ++ content → inside ≤ length content
+    → one_more_anchor (option_map encode_utf8_all p.anchor) inside ≤ length t
 with_properties p front content t inside h e l =
     let a = property_count p.anchor p.tag front h in
     let b = parts_of t front content e in
@@ -123,7 +124,7 @@ between_count opening closing inside t n e l =
 
 closed : (ps : List Part) (p : Part) → anchor_of p ≡ None → anchors (ps ++ p ∷ []) ≡ anchors ps
 closed ps p e = let a = sum ps (p ∷ []) in let b : anchors (p ∷ []) ≡ 0 =
-    ap (λ o. one_more o 0) e in omega (arith, a, b)
+    ap (λ o. one_more_anchor o 0) e in omega (arith, a, b)
 
 -- what the entries of a collection count to
 abbrev EntriesCount : Nodes → (List Kind → Type 0) → Type 0
@@ -175,10 +176,10 @@ single_entry : (p : Properties) (key value : Node) (t : List Kind) → p ≡ for
 single_entry p key value t e x =
     let a = joined_pair key value NoPair t [] (t ++ []) refl x (omega arith) in
     let b = closed (pair_parts (MorePairs key value NoPair)) CloseMapping refl in
-    let c : one_more (option_map encode_utf8_all p.anchor)
+    let c : one_more_anchor (option_map encode_utf8_all p.anchor)
     (anchors (pair_parts (MorePairs key value NoPair) ++ CloseMapping ∷ []))
     ≡ anchors (pair_parts (MorePairs key value NoPair) ++ CloseMapping ∷ []) =
-    ap (λ (q : Properties). one_more (option_map encode_utf8_all q.anchor)
+    ap (λ (q : Properties). one_more_anchor (option_map encode_utf8_all q.anchor)
     (anchors (pair_parts (MorePairs key value NoPair) ++ CloseMapping ∷ []))) e in
     let d = length-append t [] in
     omega (arith, a, b, c, d)

@@ -11,8 +11,8 @@ use Rattle.saphyr_parser.specs.declared.parser.state.State.TheVariants as state
 use Rattle.saphyr_parser.specs.Events.{Happening}
 use Rattle.saphyr_parser.specs.Premises.{DocumentMarker, GivesFirst, behind_marker}
 use Rattle.saphyr_parser.specs.Steps.Machine.{Machine, Told}
-use Rattle.saphyr_parser.specs.Steps.Expected.{step, step_at}
-use Rattle.saphyr_parser.specs.Answer.{Answer, deliver, remaining, size}
+use Rattle.saphyr_parser.specs.Steps.Expected.{event_step, event_step_at}
+use Rattle.saphyr_parser.specs.Answer.{Answer, deliver, remaining_answer, machine_size}
 use Rattle.saphyr_parser.specs.Cursor.{at_start, keeping_tags, to_come}
 use Rattle.saphyr_parser.specs.Exactly.{GivesExactly, TellTheSame, kinds, told_by}
 use Rattle.saphyr_parser.specs.More.{marker_token}
@@ -37,8 +37,8 @@ not_over (state.FlowSequenceEntryMappingEnd place) h = λ e. absurd (cc)
 not_over s h = h
 
 delivers : (p q : Result Told Refusal) → Same p q
-    → ((x : Told) → p ≡ Ok x → Alike (remaining x.machine) (remaining (placeless x.machine)))
-    → Alike (deliver p remaining) (deliver q remaining)
+    → ((x : Told) → p ≡ Ok x → Alike (remaining_answer x.machine) (remaining_answer (placeless x.machine)))
+    → Alike (deliver p remaining_answer) (deliver q remaining_answer)
 delivers (Ok x) q e h = let behind =
     h x refl in rw e (record { told = ap (λ es. x.what ∷ es) behind.told; fault = behind.fault })
 delivers (Err f) q e h = rw e.1 (record { told = refl; fault = refl })
@@ -52,18 +52,19 @@ as_before a c b d e f h =
     }
 
 first_step : (m : Machine)
-    → ((x : Told) → step m ≡ Ok x → Alike (remaining x.machine) (remaining (placeless x.machine)))
-    → Alike (remaining m) (remaining (placeless m))
-unfolding step
+    → ((x : Told) → event_step m ≡ Ok x → Alike (remaining_answer x.machine) (remaining_answer (placeless x.machine)))
+    → Alike (remaining_answer m) (remaining_answer (placeless m))
+unfolding event_step
 first_step m next = by (ended m.state)
   where
-    by : (m.state ≡ state.End) ⊎ (m.state ≢ state.End) → Alike (remaining m) (remaining (placeless m))
+    by : (m.state ≡ state.End) ⊎ (m.state ≢ state.End) → Alike (remaining_answer m) (remaining_answer (placeless m))
     by (inl e) = as_before _ _ _ _ (over m e) (over (placeless m) (over_too m.state e))
         (record { told = refl; fault = refl })
     by (inr h) = as_before _ _ _ _ (unroll m h) (unroll (placeless m) (not_over m.state h))
-        (delivers (step_at m.state m) (step_at (placeless_state m.state) (placeless m)) (steps_same m.state m) next)
+        (delivers (event_step_at m.state m) (event_step_at (placeless_state m.state) (placeless m))
+        (steps_same m.state m) next)
 
-runs : (n : ℕ) (m : Machine) → size m < n → Alike (remaining m) (remaining (placeless m))
+runs : (n : ℕ) (m : Machine) → machine_size m < n → Alike (remaining_answer m) (remaining_answer (placeless m))
 runs zero m l = absurd (omega (arith, l))
 runs (suc n) m l = first_step m (λ x e. runs n x.machine (shrinks_at n m x (omega (arith, l)) e))
 
@@ -86,13 +87,13 @@ start keep tokens = (keeping_tags keep (at_start tokens)).machine
 alike : (keep : Bool) (a b : Remaining) → kinds a.pieces ≡ kinds b.pieces
     → Alike (to_come (keeping_tags keep (at_start a))) (to_come (keeping_tags keep (at_start b)))
 alike keep a b e =
-    let x = runs (suc (size (start keep a))) (start keep a) (omega arith) in
-    let y = runs (suc (size (start keep b))) (start keep b) (omega arith) in
+    let x = runs (suc (machine_size (start keep a))) (start keep a) (omega arith) in
+    let y = runs (suc (machine_size (start keep b))) (start keep b) (omega arith) in
     let same : placeless (start keep a) ≡ placeless (start keep b) =
     ap (λ ts. start keep (record { pieces = ts; refusal = None })) (same_pieces a.pieces b.pieces e) in
     record {
-      told = sym y.told ∙ ap (λ m. told_of (remaining m)) (sym same) ∙ x.told;
-      fault = sym y.fault ∙ ap (λ (m : Machine). is_some (remaining m).fault) (sym same) ∙ x.fault;
+      told = sym y.told ∙ ap (λ m. told_of (remaining_answer m)) (sym same) ∙ x.told;
+      fault = sym y.fault ∙ ap (λ (m : Machine). is_some (remaining_answer m).fault) (sym same) ∙ x.fault;
     }
 
 pub tells_too : (keep : Bool) (a b : Remaining) → kinds a.pieces ≡ kinds b.pieces

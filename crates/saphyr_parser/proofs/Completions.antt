@@ -7,7 +7,7 @@ use Rattle.saphyr_scanner.specs.Grammar.Tokens.{Kind, StreamStart, StreamEnd, Bl
 use Rattle.saphyr_scanner.specs.Grammar.TokenGrammar.{InFlow, InBlock, InBlockMapping}
 use Rattle.saphyr_parser.specs.declared.parser.state.State.{State}
 use Rattle.saphyr_parser.specs.declared.parser.state.State.TheVariants as state
-use Rattle.saphyr_parser.specs.Anchors.{one_more, anchor_of, anchors}
+use Rattle.saphyr_parser.specs.Anchors.{one_more_anchor, anchor_of, anchors}
 use Rattle.saphyr_parser.specs.Preorder.{Part, OpenStream, CloseStream, CloseDocument, Leaf, CloseSequence, CloseMapping}
 use Rattle.saphyr_parser.specs.Events.{Happening}
 use Rattle.saphyr_parser.specs.ForestEvents.{before_all}
@@ -70,7 +70,7 @@ no_anchor _ q = elim q [ ]
 pub quiet_anchors : (ps : List Part) → AreQuiet ps → anchors ps ≡ 0
 quiet_anchors [] q = refl
 quiet_anchors (p ∷ ps) q =
-    ap (λ (o : Option (List ℕ)). one_more o (anchors ps)) (no_anchor p q.0) ∙ quiet_anchors ps q.1
+    ap (λ (o : Option (List ℕ)). one_more_anchor o (anchors ps)) (no_anchor p q.0) ∙ quiet_anchors ps q.1
 
 -- ## Completions
 

@@ -9,7 +9,7 @@ use Rattle.saphyr_scanner.specs.Grammar.Tokens.{Kind, DocumentStart, directive_t
 use Rattle.saphyr_scanner.specs.Grammar.TokenGrammar.{AreMarks, AreEndsAndMarks}
 use Rattle.saphyr_parser.specs.declared.parser.state.State.{State}
 use Rattle.saphyr_parser.specs.Steps.Machine.{◌>>=◌, Machine, given, is_listed, listed}
-use Rattle.saphyr_parser.specs.Steps.Documents.{is_mark, is_end_or_mark, pass_from, pass, Declared, none_declared, directives_from, directives}
+use Rattle.saphyr_parser.specs.Steps.Documents.{is_mark, is_end_or_mark, unpassed_token_from, unpassed_token, Declared, none_declared, directives_from, directives}
 use Rattle.saphyr_parser.proofs.Told.Telling.{Spans, Memory, dressed, at}
 use Rattle.saphyr_parser.proofs.Remembering.{declaring}
 use Rattle.saphyr_parser.proofs.NameLaws.{still_unlisted}
@@ -22,20 +22,20 @@ AllPass passed (k ∷ ks) = (passed k ≡ true) × AllPass passed ks
 
 passes_from : (passed : Kind → Bool) (front : List Kind) (f : Spans) (k : Kind) (ks : List Kind) (x : State)
     (ss : List State) (e : Memory) → AllPass passed front → passed k ≡ false
-    → pass_from passed (dressed f (front ++ k ∷ ks)) (at f (front ++ k ∷ ks) x ss e)
+    → unpassed_token_from passed (dressed f (front ++ k ∷ ks)) (at f (front ++ k ∷ ks) x ss e)
     ≡ Ok (record { span = f ks; kind = k }, at f ks x ss e)
 passes_from passed [] f k ks x ss e h n =
-    ap (λ b. if b then pass_from passed (dressed f ks) (at f ks x ss e) else Ok
+    ap (λ b. if b then unpassed_token_from passed (dressed f ks) (at f ks x ss e) else Ok
     (record { span = f ks; kind = k }, at f ks x ss e)) n
 passes_from passed (j ∷ js) f k ks x ss e h n =
-    ap (λ b. if b then pass_from passed (dressed f (js ++ k ∷ ks)) (at f (js ++ k ∷ ks) x ss e) else Ok
+    ap (λ b. if b then unpassed_token_from passed (dressed f (js ++ k ∷ ks)) (at f (js ++ k ∷ ks) x ss e) else Ok
     (record { span = f (js ++ k ∷ ks); kind = j }, at f (js ++ k ∷ ks) x ss e)) h.0
     ∙ passes_from passed js f k ks x ss e h.1 n
 
 pub passes : (passed : Kind → Bool) (front : List Kind) (f : Spans) (k : Kind) (ks : List Kind) (x : State)
     (ss : List State) (e : Memory) → AllPass passed front → passed k ≡ false
-    → pass passed (at f (front ++ k ∷ ks) x ss e) ≡ Ok (record { span = f ks; kind = k }, at f ks x ss e)
-unfolding pass
+    → unpassed_token passed (at f (front ++ k ∷ ks) x ss e) ≡ Ok (record { span = f ks; kind = k }, at f ks x ss e)
+unfolding unpassed_token
 passes passed front f k ks x ss e h n = passes_from passed front f k ks x ss e h n
 
 pub ends_pass : (front : List Kind) → AreEndsAndMarks front → AllPass is_end_or_mark front

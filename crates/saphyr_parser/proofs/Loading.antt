@@ -8,10 +8,10 @@ use Rattle.saphyr_parser.specs.declared.parser.fault.Fault.TheVariants as faults
 use Rattle.saphyr_parser.specs.declared.parser.receiver.Refused.{Refused}
 use Rattle.saphyr_parser.specs.Events.{Happening}
 use Rattle.saphyr_parser.specs.Answer as answer
-use Rattle.saphyr_parser.specs.Answer.{Answer, Ending, before, failed}
-use Rattle.saphyr_parser.specs.Cursor.{Cursor, Kept, IsKept, IsUnmoved, IsUntold, Stays, count, finished_behind, inside_behind, to_come, kept_answer}
+use Rattle.saphyr_parser.specs.Answer.{Answer, Ending, with_first_event, failed}
+use Rattle.saphyr_parser.specs.Cursor.{EventCursor, Kept, IsKept, IsUnmoved, IsUntold, Stays, count, finished_behind, inside_behind, to_come, kept_answer}
 use Rattle.saphyr_parser.specs.Calls.{Advances, AdvancesOver, Looks}
-use Rattle.saphyr_parser.specs.Loading.{Part, is_last, with_event, part, to_send, inside_over, finished_over, Remembered, PassedOver, Keeps, Tells, Sends, SendsOne, Stopped, Lost, Finished, Faulted, Loads}
+use Rattle.saphyr_parser.specs.Loading.{Portion, is_last, with_event, portion, to_send, inside_over, finished_over, Remembered, PassedOver, Keeps, Tells, Sends, SendsOne, Stopped, Lost, Finished, Faulted, Loads}
 use Rattle.saphyr_parser.proofs.Calls.Handing.{advances, over_more, remembers}
 use Rattle.saphyr_parser.proofs.Calls.Looking.{looked, looked_over, looks_stays, untold}
 
@@ -27,7 +27,8 @@ finished_more : (es : List (Happening × Span)) (e : Happening × Span) (o : Opt
 finished_more [] e o = refl
 finished_more (d ∷ es) e o = finished_more es e (finished_behind d.0 d.1 o)
 
-remembered_more : (old mid new : Cursor) (es : List (Happening × Span)) (e : Happening × Span) → Remembered old es mid
+remembered_more : (old mid new : EventCursor) (es : List (Happening × Span)) (e : Happening × Span)
+    → Remembered old es mid
     → Remembered mid (e ∷ []) new → Remembered old (es ++ (e ∷ [])) new
 remembered_more old mid new es e so next = record {
   inside = next.inside ∙ ap (inside_behind e.0) so.inside ∙ sym (inside_more es e old.inside);
@@ -36,38 +37,38 @@ remembered_more old mid new es e so next = record {
 
 -- ## A part of which some events were handed over
 
-abbrev pub with_events : List (Happening × Span) → Part → Part
+abbrev pub with_events : List (Happening × Span) → Portion → Portion
 with_events es p = record { sent = es ++ p.sent; fault = p.fault }
 
-with_more : (es : List (Happening × Span)) (e : Happening × Span) (p : Part)
+with_more : (es : List (Happening × Span)) (e : Happening × Span) (p : Portion)
     → with_events (es ++ (e ∷ [])) p ≡ with_events es (with_event e p)
-with_more es e p = ap (λ (l : List (Happening × Span)). let q : Part = record { sent = l; fault = p.fault } in q)
+with_more es e p = ap (λ (l : List (Happening × Span)). let q : Portion = record { sent = l; fault = p.fault } in q)
     (append_assoc es (e ∷ []) p.sent)
 
-abbrev pub part_of : Bool → Answer → Part
-part_of multi a = part multi a.events a.fault
+abbrev pub part_of : Bool → Answer → Portion
+part_of multi a = portion multi a.events a.fault
 
-pub part_all : (es : List (Happening × Span)) (f : Option Ending) → part true es f ≡ record { sent = es; fault = f }
+pub part_all : (es : List (Happening × Span)) (f : Option Ending) → portion true es f ≡ record { sent = es; fault = f }
 part_all [] f = refl
 part_all (e ∷ es) f = ap (with_event e) (part_all es f)
 
 -- what is left of a part behind its first event
-abbrev pub behind_first : Bool → Happening × Span → Part → Part
+abbrev pub behind_first : Bool → Happening × Span → Portion → Portion
 behind_first last e p = if last then (record { sent = e ∷ []; fault = None }) else with_event e p
 
-part_before : (multi : Bool) (e : Happening × Span) (a mid : Answer) → mid ≡ before e a
+part_before : (multi : Bool) (e : Happening × Span) (a mid : Answer) → mid ≡ with_first_event e a
     → part_of multi mid ≡ behind_first (is_last multi e.0) e (part_of multi a)
 part_before multi e a mid is = ap (part_of multi) is
 
-cut : (last : Bool) (e : Happening × Span) (p : Part)
+cut : (last : Bool) (e : Happening × Span) (p : Portion)
     → (l : List (Happening × Span)) × ((behind_first last e p).sent ≡ e ∷ l)
 cut true e p = ([], refl)
 cut false e p = (p.sent, refl)
 
-remembered_one : (mid new : Cursor) (e : Happening × Span) → Advances e mid new → Remembered mid (e ∷ []) new
+remembered_one : (mid new : EventCursor) (e : Happening × Span) → Advances e mid new → Remembered mid (e ∷ []) new
 remembered_one mid new e h = let r = remembers e mid new h in record { inside = r.0; finished = r.1 }
 
-passed_more : (old mid new : Cursor) (es : List (Happening × Span)) (e : Happening × Span) → PassedOver old es mid
+passed_more : (old mid new : EventCursor) (es : List (Happening × Span)) (e : Happening × Span) → PassedOver old es mid
     → Advances e mid new → PassedOver old (es ++ (e ∷ [])) new
 passed_more old mid new es e so step =
     let is = advances e mid new step in
@@ -78,11 +79,12 @@ passed_more old mid new es e so step =
       remembered = remembered_more old mid new es e so.remembered next;
     }
 
-unmoved_too : (old mid new : Cursor) (es : List (Happening × Span)) → Remembered old es mid → IsUnmoved mid new
+unmoved_too : (old mid new : EventCursor) (es : List (Happening × Span)) → Remembered old es mid → IsUnmoved mid new
     → Remembered old es new
 unmoved_too old mid new es so same = record { inside = same.0 ∙ so.inside; finished = same.1 ∙ so.finished }
 
-passed_still : (old mid new : Cursor) (es : List (Happening × Span)) → PassedOver old es mid → to_come new ≡ to_come mid
+passed_still : (old mid new : EventCursor) (es : List (Happening × Span)) → PassedOver old es mid
+    → to_come new ≡ to_come mid
     → IsUnmoved mid new → PassedOver old es new
 passed_still old mid new es so is same = record {
   events = so.events ∙ ap (λ (a : Answer). es ++ a.events) (sym is);
@@ -95,7 +97,7 @@ passed_still old mid new es so is same = record {
 with_kept : (k : Kept) → k.given ≡ false → Some k ≡ Some (record { fault = k.fault; given = false })
 with_kept k h = ap (λ (b : Bool). let x : Kept = record { fault = k.fault; given = b } in Some x) h
 
-settled : (new : Cursor) (k : Kept) → new.kept ≡ Some k → new.current ≡ None → IsUntold new.current new.kept
+settled : (new : EventCursor) (k : Kept) → new.kept ≡ Some k → new.current ≡ None → IsUntold new.current new.kept
     → to_come new ≡ kept_answer new.kept → Keeps k.fault new × (to_come new ≡ failed k.fault)
 settled new k is nothing untold left =
     let here : IsUntold None (Some k) = subst (λ (o : Option Kept). IsUntold None o) is
@@ -117,16 +119,16 @@ fault_of (Some f) = f
 same_fault : (f g : Ending) → failed f ≡ failed g → f ≡ g
 same_fault f g e = ap (λ (a : Answer). fault_of a.fault) e
 
-count_part : (last : Bool) (e : Happening × Span) (p : Part)
+count_part : (last : Bool) (e : Happening × Span) (p : Portion)
     → 0 < count (record { events = (behind_first last e p).sent; fault = (behind_first last e p).fault })
 count_part true e p = omega arith
 count_part false e p = omega arith
 
 some_left : (multi : Bool) (es : List (Happening × Span)) (f : Option Ending)
     → 0 < count (record { events = es; fault = f })
-    → 0 < count (record { events = (part multi es f).sent; fault = (part multi es f).fault })
+    → 0 < count (record { events = (portion multi es f).sent; fault = (portion multi es f).fault })
 some_left multi [] f h = h
-some_left multi (e ∷ es) f h = count_part (is_last multi e.0) e (part multi es f)
+some_left multi (e ∷ es) f h = count_part (is_last multi e.0) e (portion multi es f)
 
 module _ {R : Type 0} (receives : R → Happening × Span → Result (Unit {0}) Refused → R → Type 0) where
   one_more : (r q s : R) (es : List (Happening × Span)) (e : Happening × Span) → Sends receives r es q
@@ -135,7 +137,7 @@ module _ {R : Type 0} (receives : R → Happening × Span → Result (Unit {0}) 
   one_more r q s (d ∷ es) e (p, first, others) taken = (p, first, one_more p q s es e others taken)
 
   -- some events of the part were handed over
-  pub record Going (multi : Bool) (old : Cursor) (first last : R) (new : Cursor) : Type 0 where
+  pub record Going (multi : Bool) (old : EventCursor) (first last : R) (new : EventCursor) : Type 0 where
     pub sent : List (Happening × Span)
     pub part : to_send multi old ≡ with_events sent (to_send multi new)
     pub passed : PassedOver old sent new
@@ -143,7 +145,7 @@ module _ {R : Type 0} (receives : R → Happening × Span → Result (Unit {0}) 
     pub leaves : AdvancesOver sent old new
     pub kept : new.kept ≡ None
 
-  pub begins : (multi : Bool) (c : Cursor) (r : R) → c.kept ≡ None → Going multi c r r c
+  pub begins : (multi : Bool) (c : EventCursor) (r : R) → c.kept ≡ None → Going multi c r r c
   begins multi c r none = record {
     sent =
         [];
@@ -156,7 +158,7 @@ module _ {R : Type 0} (receives : R → Happening × Span → Result (Unit {0}) 
     kept = none;
   }
 
-  pub goes_on : (multi : Bool) (old mid new : Cursor) (first last next : R) (e : Happening × Span)
+  pub goes_on : (multi : Bool) (old mid new : EventCursor) (first last next : R) (e : Happening × Span)
       → Going multi old first last mid → Advances e mid new × (new.kept ≡ None) → is_last multi e.0 ≡ false
       → receives last e (Ok tt) next → Going multi old first next new
   goes_on multi old mid new first last next e so is more taken = record {
@@ -170,7 +172,7 @@ module _ {R : Type 0} (receives : R → Happening × Span → Result (Unit {0}) 
     kept = is.1;
   }
 
-  pub ends : (multi : Bool) (old mid new : Cursor) (first last next : R) (e : Happening × Span)
+  pub ends : (multi : Bool) (old mid new : EventCursor) (first last next : R) (e : Happening × Span)
       → Going multi old first last mid → Advances e mid new × (new.kept ≡ None) → is_last multi e.0 ≡ true
       → receives last e (Ok tt) next → Finished receives (to_send multi old) old first next new
   ends multi old mid new first last next e so is final taken =
@@ -178,9 +180,9 @@ module _ {R : Type 0} (receives : R → Happening × Span → Result (Unit {0}) 
       so.part ∙ ap (with_events so.sent)
       (part_before multi e (to_come new) (to_come mid) (advances e mid new is.0)
       ∙ ap (λ (b : Bool). behind_first b e (to_send multi new)) final) in
-      let all : (to_send multi old).sent ≡ so.sent ++ (e ∷ []) = ap (λ (q : Part). q.sent) p in
+      let all : (to_send multi old).sent ≡ so.sent ++ (e ∷ []) = ap (λ (q : Portion). q.sent) p in
       record {
-        fault = ap (λ (q : Part). q.fault) p;
+        fault = ap (λ (q : Portion). q.fault) p;
         sends = subst (λ (l : List (Happening × Span)). Sends receives first l next) (sym all)
             (one_more first last next so.sent e so.sends taken);
         passed = subst (λ (l : List (Happening × Span)). PassedOver old l new) (sym all)
@@ -190,7 +192,7 @@ module _ {R : Type 0} (receives : R → Happening × Span → Result (Unit {0}) 
         kept = is.1;
       }
 
-  pub refuses : (multi : Bool) (old mid new : Cursor) (first last next : R) (e : Happening × Span)
+  pub refuses : (multi : Bool) (old mid new : EventCursor) (first last next : R) (e : Happening × Span)
       → Going multi old first last mid → Advances e mid new × (new.kept ≡ None) → receives last e (Err (record {})) next
       → Stopped receives (to_send multi old) old first next new
   refuses multi old mid new first last next e so is refused =
@@ -200,9 +202,9 @@ module _ {R : Type 0} (receives : R → Happening × Span → Result (Unit {0}) 
         event = e;
         unsent = c.0;
         middle = last;
-        part = ap (λ (q : Part). q.sent) so.part
+        part = ap (λ (q : Portion). q.sent) so.part
             ∙ ap (λ (l : List (Happening × Span)). so.sent ++ l)
-            (ap (λ (q : Part). q.sent) (part_before multi e (to_come new) (to_come mid) (advances e mid new is.0))
+            (ap (λ (q : Portion). q.sent) (part_before multi e (to_come new) (to_come mid) (advances e mid new is.0))
             ∙ c.1);
         sends = so.sends;
         refused = refused;
@@ -211,7 +213,7 @@ module _ {R : Type 0} (receives : R → Happening × Span → Result (Unit {0}) 
         kept = is.1;
       }
 
-  pub stops : (f : Fault) (multi : Bool) (old mid new : Cursor) (first last next : R) (e : Happening × Span)
+  pub stops : (f : Fault) (multi : Bool) (old mid new : EventCursor) (first last next : R) (e : Happening × Span)
       → Going multi old first last mid → Advances e mid new × (new.kept ≡ None) → SendsOne receives (Err f) e last next
       → Loads receives (Err f) (to_send multi old) old first next new
   stops faults.Receiver multi old mid new first last next e so is h =
@@ -220,37 +222,37 @@ module _ {R : Type 0} (receives : R → Happening × Span → Result (Unit {0}) 
   stops faults.OutOfMemory multi old mid new first last next e so is h = absurd h
   stops faults.InsideDocument multi old mid new first last next e so is h = absurd h
 
-  all_sent : (multi : Bool) (old mid : Cursor) (first last : R) (f : Option Ending)
+  all_sent : (multi : Bool) (old mid : EventCursor) (first last : R) (f : Option Ending)
       (so : Going multi old first last mid) → to_come mid ≡ record { events = []; fault = f }
       → to_send multi old ≡ record { sent = so.sent; fault = f }
   all_sent multi old mid first last f so is =
       so.part ∙ ap (λ (a : Answer). with_events so.sent (part_of multi a)) is
-      ∙ ap (λ (l : List (Happening × Span)). let q : Part = record { sent = l; fault = f } in q)
+      ∙ ap (λ (l : List (Happening × Span)). let q : Portion = record { sent = l; fault = f } in q)
       (append-nil so.sent)
 
-  finished : (multi : Bool) (old mid new : Cursor) (first last : R) → Going multi old first last mid → new ≡ mid
-      → to_come new ≡ answer.none → new.kept ≡ None → Finished receives (to_send multi old) old first last new
+  finished : (multi : Bool) (old mid new : EventCursor) (first last : R) → Going multi old first last mid → new ≡ mid
+      → to_come new ≡ answer.empty_answer → new.kept ≡ None → Finished receives (to_send multi old) old first last new
   finished multi old mid new first last so same over none =
       let p = all_sent multi old mid first last None so (sym (ap to_come same) ∙ over) in
-      let all : (to_send multi old).sent ≡ so.sent = ap (λ (q : Part). q.sent) p in
+      let all : (to_send multi old).sent ≡ so.sent = ap (λ (q : Portion). q.sent) p in
       record {
-        fault = ap (λ (q : Part). q.fault) p;
+        fault = ap (λ (q : Portion). q.fault) p;
         sends = subst (λ (l : List (Happening × Span)). Sends receives first l last) (sym all) so.sends;
         passed = subst (λ (l : List (Happening × Span)). PassedOver old l new) (sym all)
-            (subst (λ (c : Cursor). PassedOver old so.sent c) (sym same) so.passed);
+            (subst (λ (c : EventCursor). PassedOver old so.sent c) (sym same) so.passed);
         leaves = subst (λ (l : List (Happening × Span)). AdvancesOver l old new) (sym all)
-            (subst (λ (c : Cursor). AdvancesOver so.sent old c) (sym same) so.leaves);
+            (subst (λ (c : EventCursor). AdvancesOver so.sent old c) (sym same) so.leaves);
         kept = none;
       }
 
-  faulted : (multi : Bool) (old mid new : Cursor) (first last : R) (f : Ending) → Going multi old first last mid
+  faulted : (multi : Bool) (old mid new : EventCursor) (first last : R) (f : Ending) → Going multi old first last mid
       → Looks mid new → to_come new ≡ to_come mid → to_come new ≡ failed f → IsUnmoved mid new → Keeps f new
       → Faulted receives f (to_send multi old) old first last new
   faulted multi old mid new first last f so looks is over same keeps =
       let p = all_sent multi old mid first last (Some f) so (sym is ∙ over) in
-      let all : (to_send multi old).sent ≡ so.sent = ap (λ (q : Part). q.sent) p in
+      let all : (to_send multi old).sent ≡ so.sent = ap (λ (q : Portion). q.sent) p in
       record {
-        met = ap (λ (q : Part). q.fault) p;
+        met = ap (λ (q : Portion). q.fault) p;
         sends = subst (λ (l : List (Happening × Span)). Sends receives first l last) (sym all) so.sends;
         passed = subst (λ (l : List (Happening × Span)). PassedOver old l new) (sym all)
             (passed_still old mid new so.sent so.passed is same);
@@ -258,7 +260,7 @@ module _ {R : Type 0} (receives : R → Happening × Span → Result (Unit {0}) 
         keeps = keeps;
       }
 
-  lost : (multi : Bool) (old mid new : Cursor) (first last : R) (f : Ending) → Going multi old first last mid
+  lost : (multi : Bool) (old mid new : EventCursor) (first last : R) (f : Ending) → Going multi old first last mid
       → Looks mid new → Stays (to_come mid) (to_come new) → to_come new ≡ failed f → IsUnmoved mid new → Keeps f new
       → Lost receives (to_send multi old) old first last new
   lost multi old mid new first last f so looks (inl is) over same keeps =
@@ -267,9 +269,9 @@ module _ {R : Type 0} (receives : R → Happening × Span → Result (Unit {0}) 
         sent = so.sent;
         unsent = [];
         fault = f;
-        part = ap (λ (q : Part). q.sent) p ∙ sym (append-nil so.sent);
-        left = rw (ap (λ (q : Part). q.fault) p) (omega arith);
-        cause = inr (refl, ap (λ (q : Part). q.fault) p);
+        part = ap (λ (q : Portion). q.sent) p ∙ sym (append-nil so.sent);
+        left = rw (ap (λ (q : Portion). q.fault) p) (omega arith);
+        cause = inr (refl, ap (λ (q : Portion). q.fault) p);
         sends = so.sends;
         remembered = unmoved_too old mid new so.sent so.passed.remembered same;
         leaves = (mid, so.leaves, looks);
@@ -279,8 +281,8 @@ module _ {R : Type 0} (receives : R → Happening × Span → Result (Unit {0}) 
     sent = so.sent;
     unsent = (to_send multi mid).sent;
     fault = f;
-    part = ap (λ (q : Part). q.sent) so.part;
-    left = rw (ap (λ (q : Part). q.fault) so.part) (some_left multi (to_come mid).events (to_come mid).fault more);
+    part = ap (λ (q : Portion). q.sent) so.part;
+    left = rw (ap (λ (q : Portion). q.fault) so.part) (some_left multi (to_come mid).events (to_come mid).fault more);
     cause = inl (same_fault f answer.OutOfMemory (sym over ∙ is));
     sends = so.sends;
     remembered = unmoved_too old mid new so.sent so.passed.remembered same;
@@ -288,7 +290,7 @@ module _ {R : Type 0} (receives : R → Happening × Span → Result (Unit {0}) 
     keeps = keeps;
   }
 
-  lost_with : (multi : Bool) (old mid new : Cursor) (first last : R) (k : Option Kept) → new.kept ≡ k → IsKept k
+  lost_with : (multi : Bool) (old mid new : EventCursor) (first last : R) (k : Option Kept) → new.kept ≡ k → IsKept k
       → Going multi old first last mid → Looks mid new → new.current ≡ None
       → Lost receives (to_send multi old) old first last new
   lost_with multi old mid new first last None is h so looks nothing = absurd h
@@ -297,7 +299,7 @@ module _ {R : Type 0} (receives : R → Happening × Span → Result (Unit {0}) 
       let s = settled new k is nothing (untold mid new so.kept looks) (looked mid new looks nothing) in
       lost multi old mid new first last k.fault so looks stays.0 s.1 stays.1 s.0
 
-  pub over : (r : Result (Unit {0}) Fault) (multi : Bool) (old mid new : Cursor) (first last : R)
+  pub over : (r : Result (Unit {0}) Fault) (multi : Bool) (old mid new : EventCursor) (first last : R)
       → Going multi old first last mid → Looks mid new × (new.current ≡ None) → Tells r new.kept
       → Loads receives r (to_send multi old) old first last new
   over (Ok u) multi old mid new first last so (looks, nothing) h =

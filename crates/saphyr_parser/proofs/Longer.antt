@@ -7,9 +7,9 @@ use Rattle.saphyr_scanner.specs.Views.Tokens.{Piece, Remaining}
 use Rattle.saphyr_parser.specs.declared.parser.state.State.{State}
 use Rattle.saphyr_parser.specs.declared.parser.state.State.TheVariants as state
 use Rattle.saphyr_parser.specs.Premises.{DocumentMarker, Starts, Ends}
-use Rattle.saphyr_parser.specs.Steps.Machine.{Machine, Told, ending, with_pieces}
-use Rattle.saphyr_parser.specs.Steps.Documents.{pass, implicit_start, explicit_start}
-use Rattle.saphyr_parser.specs.Steps.Expected.{step_at}
+use Rattle.saphyr_parser.specs.Steps.Machine.{Machine, Told, ending_refusal, with_pieces}
+use Rattle.saphyr_parser.specs.Steps.Documents.{unpassed_token, implicit_start, explicit_start}
+use Rattle.saphyr_parser.specs.Steps.Expected.{event_step_at}
 use Rattle.saphyr_parser.specs.More.{with_more}
 use Rattle.saphyr_parser.proofs.Beside.Machines as beside
 use Rattle.saphyr_parser.proofs.Beside.Machines.{Beside, Behind, Left, With, Tells}
@@ -54,7 +54,7 @@ IsLeft z m = End z m.tokens.pieces ⊎ ((m.tokens.pieces ≡ []) × Awaits z.mar
 abbrev pub Agrees : More → Option Refusal → Result Told Refusal → Result Told Refusal → Type 0
 Agrees z r (Ok x) q = IsLeft z x.machine × (x.machine.tokens.refusal ≡ r)
     × (q ≡ Ok (record x { machine = longer z x.machine }))
-Agrees z r (Err f) q = (z.Early × (f ≡ ending r)) ⊎ (q ≡ Err f)
+Agrees z r (Err f) q = (z.Early × (f ≡ ending_refusal r)) ⊎ (q ≡ Err f)
 
 -- ## Both machines
 
@@ -84,10 +84,10 @@ with_longer z o =
       Rest = Rest z o;
       Over = Over z o;
       Setting = λ b c. c ≡ b;
-      Early = λ f. z.Early × (f ≡ ending o);
+      Early = λ f. z.Early × (f ≡ ending_refusal o);
       Refused = λ f g. g ≡ f;
       refused = λ text p q e. rw e refl;
-      none = λ us v e i. inl (i.0, ap ending i.1);
+      none = λ us v e i. inl (i.0, ap ending_refusal i.1);
       next = λ t ts us v e i.
           record {
             span = t.span;
@@ -135,28 +135,30 @@ agrees z o (Err f) (Err g) (inr e) = inr (ap (λ v. let y : Result Told Refusal 
 
 -- All tokens were passed, of which the last was `...`: the step is the one of the machine with the others alone.
 abbrev pub IsPassed : More → Machine → (Machine → Result Told Refusal) → Type 0
-IsPassed z m go = (z.marker ≡ Ends) × (go m ≡ Err (ending m.tokens.refusal))
+IsPassed z m go = (z.marker ≡ Ends) × (go m ≡ Err (ending_refusal m.tokens.refusal))
     × (go (longer z m) ≡ go (longer z (with_pieces [] m)))
 
-none_start : (s : State) (m : Machine) → IsStart s → step_at s (with_pieces [] m) ≡ Err (ending m.tokens.refusal)
-unfolding implicit_start explicit_start pass
+none_start : (s : State) (m : Machine) → IsStart s
+    → event_step_at s (with_pieces [] m) ≡ Err (ending_refusal m.tokens.refusal)
+unfolding implicit_start explicit_start unpassed_token
 none_start state.ImplicitDocumentStart m i = refl
 none_start state.DocumentStart m i = refl
 none_start _ m i = absurd i
 
 passed : (z : More) (o : Option Refusal) (s : State) (m : Machine) → IsStart s
-    → Passed (with_longer z o) m (longer z m) (step_at s) → IsPassed z m (step_at s)
+    → Passed (with_longer z o) m (longer z m) (event_step_at s) → IsPassed z m (event_step_at s)
 passed z o s m i (ts, us, over, e, y) =
     let none = over.tokens.0.1 in
     let others : us ≡ z.pieces = ap (λ (r : Remaining). r.pieces) over.tokens.2 ∙ ap (λ ts. ts ++ z.pieces) none in (
       over.tokens.0.0,
-      e ∙ ap (λ ts. step_at s (with_pieces ts m)) none ∙ none_start s m i,
-      y ∙ ap (λ us. step_at s (with_pieces us (longer z m))) others,
+      e ∙ ap (λ ts. event_step_at s (with_pieces ts m)) none ∙ none_start s m i,
+      y ∙ ap (λ us. event_step_at s (with_pieces us (longer z m))) others,
     )
 
 pub steps_agree :
     (z : More) (s : State) (m : Machine) → s ≢ state.End → End z m.tokens.pieces
-    → Agrees z m.tokens.refusal (step_at s m) (step_at s (longer z m)) ⊎ (IsStart s × IsPassed z m (step_at s))
+    → Agrees z m.tokens.refusal (event_step_at s m) (event_step_at s (longer z m))
+    ⊎ (IsStart s × IsPassed z m (event_step_at s))
 steps_agree z s m on e =
     by (steps_beside w s s m (longer z m) (still_expected w (λ p. refl) s) on (λ i b c k. k)
     (leaves w _ (more z m.tokens) m.keep_tags m (λ p. refl) (e, refl, refl) refl))
@@ -164,7 +166,9 @@ steps_agree z s m on e =
     w : Beside
     w = with_longer z m.tokens.refusal
 
-    by : Tells w (step_at s m) (step_at s (longer z m)) ⊎ (IsStart s × Passed w m (longer z m) (step_at s))
-        → Agrees z m.tokens.refusal (step_at s m) (step_at s (longer z m)) ⊎ (IsStart s × IsPassed z m (step_at s))
+    by : Tells w (event_step_at s m) (event_step_at s (longer z m))
+        ⊎ (IsStart s × Passed w m (longer z m) (event_step_at s))
+        → Agrees z m.tokens.refusal (event_step_at s m) (event_step_at s (longer z m))
+        ⊎ (IsStart s × IsPassed z m (event_step_at s))
     by (inl h) = inl (agrees z m.tokens.refusal _ _ h)
     by (inr (i, p)) = inr (i, passed z m.tokens.refusal s m i p)

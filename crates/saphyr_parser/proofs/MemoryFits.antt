@@ -7,11 +7,11 @@ use Rattle.std.proofs.lemmas.Slice.Eq.{bytes_eq-Decides}
 use Rattle.saphyr_scanner.specs.Grammar.Forest.{Handle, handle_bytes, Tag, NonSpecific, Verbatim, Shorthand, Properties, Directive, Version, TagPrefix, Reserved, GoesWithAll, AreCompatible}
 use Rattle.saphyr_parser.specs.Preorder.{Part, OpenStream, CloseStream, OpenDocument, CloseDocument, Reference, Leaf, OpenSequence, CloseSequence, OpenMapping, CloseMapping, opens_document, directives_of}
 use Rattle.saphyr_parser.specs.Events.{Happening, ResolvedTag, Alias, Scalar, SequenceStart, MappingStart}
-use Rattle.saphyr_parser.specs.Anchors.{anchor_of, one_more, anchors, is_named, latest}
+use Rattle.saphyr_parser.specs.Anchors.{anchor_of, one_more_anchor, anchors, is_named, latest}
 use Rattle.saphyr_parser.specs.Anchors as part
 use Rattle.saphyr_parser.specs.TagResolution.{prefix_in, declared, default_prefix}
 use Rattle.saphyr_parser.specs.TagResolution as tag
-use Rattle.saphyr_parser.specs.ForestEvents.{before_all, event_of, events_behind}
+use Rattle.saphyr_parser.specs.ForestEvents.{before_all, event_of_part, events_behind}
 use Rattle.saphyr_parser.specs.Steps.Machine.{Names, meaning, given, next_id}
 use Rattle.saphyr_parser.proofs.Told.Telling.{Memory}
 use Rattle.saphyr_parser.proofs.Remembering.{noted, declaring, after, own_id, resolve, resolve_any, with_properties, event_in, events_in}
@@ -63,7 +63,7 @@ id_is : (e : Memory) (n more : ℕ) → e.anchors.last ≡ n → n + suc more < 
 id_is e n more h l = omega (arith, h, l)
 
 own_same : (e : Memory) (front : List Part) (anchor : Option (List ℕ)) (more : ℕ) → e.anchors.last ≡ anchors front
-    → anchors front + one_more (option_map encode_utf8_all anchor) more < 2 ^ 64
+    → anchors front + one_more_anchor (option_map encode_utf8_all anchor) more < 2 ^ 64
     → own_id e anchor ≡ part.own_id front anchor
 own_same e front None more h l = refl
 own_same e front (Some name) more h l = id_is e (anchors front) more h l
@@ -89,7 +89,7 @@ resolve_any_same keep front names (Some g) h =
 
 properties_same : (make : ℕ → Option ResolvedTag → Happening) (keep : Bool) (front : List Part) (e : Memory)
     (p : Properties) (more : ℕ) → FitsInside keep front e
-    → anchors front + one_more (option_map encode_utf8_all p.anchor) more < 2 ^ 64
+    → anchors front + one_more_anchor (option_map encode_utf8_all p.anchor) more < 2 ^ 64
     → with_properties make e p ≡ option_map (make (part.own_id front p.anchor)) (tag.resolve_any keep p.tag front)
 properties_same make keep front e p more h l =
     ap (λ (id : ℕ). option_map (make id) (resolve_any e.prefixes p.tag)) (own_same e front p.anchor more h.count l)
@@ -98,7 +98,7 @@ properties_same make keep front e p more h l =
 -- ## The event of a part
 
 event_same : (b keep : Bool) (front : List Part) (e : Memory) (p : Part) (more : ℕ) → May b p → Fits b keep front e
-    → anchors front + one_more (anchor_of p) more < 2 ^ 64 → event_in e p ≡ event_of keep front p
+    → anchors front + one_more_anchor (anchor_of p) more < 2 ^ 64 → event_in e p ≡ event_of_part keep front p
 event_same true keep front e (Reference name) more m h l = ap (option_map Alias) (h.ids (encode_utf8_all name))
 event_same true keep front e (Leaf p style value) more m h l =
     properties_same (Scalar (encode_utf8_all value) style) keep front e p more h l
@@ -129,11 +129,11 @@ declared_behind keep handle p front o =
 -- behind a part of a document with this anchor
 fits_noted : (keep : Bool) (front : List Part) (e : Memory) (p : Part) (anchor : Option (List ℕ)) (more : ℕ)
     → opens_document p ≡ false → anchor_of p ≡ option_map encode_utf8_all anchor → FitsInside keep front e
-    → anchors front + one_more (option_map encode_utf8_all anchor) more < 2 ^ 64
+    → anchors front + one_more_anchor (option_map encode_utf8_all anchor) more < 2 ^ 64
     → FitsInside keep (p ∷ front) (noted anchor e)
 fits_noted keep front e p None more o a h l = record {
   keeps = h.keeps;
-  count = h.count ∙ sym (ap (λ (x : Option (List ℕ)). one_more x (anchors front)) a);
+  count = h.count ∙ sym (ap (λ (x : Option (List ℕ)). one_more_anchor x (anchors front)) a);
   ids = λ name. h.ids name ∙ sym (latest_behind name p front None o a);
   prefixes = λ handle. h.prefixes handle ∙ sym (declared_behind keep handle p front o);
 }
@@ -141,7 +141,7 @@ fits_noted keep front e p (Some own) more o a h l =
     let id : next_id e.anchors ≡ suc (anchors front) = id_is e (anchors front) more h.count l in
     record {
       keeps = h.keeps;
-      count = id ∙ sym (ap (λ (x : Option (List ℕ)). one_more x (anchors front)) a);
+      count = id ∙ sym (ap (λ (x : Option (List ℕ)). one_more_anchor x (anchors front)) a);
       ids = λ name.
           given_meaning name (encode_utf8_all own) (next_id e.anchors) e.anchors.ids
           ∙ ap (λ (n : ℕ). if bytes_eq name (encode_utf8_all own) then Some n else meaning name e.anchors.ids) id
@@ -194,7 +194,8 @@ kept_meaning false true handle front names k h = absurd (cc)
 -- ## Behind each part
 
 fits_after : (b keep : Bool) (front : List Part) (e : Memory) (p : Part) (more : ℕ) → May b p → Fits b keep front e
-    → anchors front + one_more (anchor_of p) more < 2 ^ 64 → Fits (inside_behind p b) keep (p ∷ front) (after p e)
+    → anchors front + one_more_anchor (anchor_of p) more < 2 ^ 64
+    → Fits (inside_behind p b) keep (p ∷ front) (after p e)
 fits_after false keep front e OpenStream more m h l = record { keeps = h.keeps; count = h.count; prefixes = h.prefixes }
 fits_after false keep front e CloseStream more m h l =
     record { keeps = h.keeps; count = h.count; prefixes = h.prefixes }
@@ -224,8 +225,8 @@ fits_after true keep front e (OpenMapping p) more m h l =
 fits_after true keep front e CloseMapping more m h l = fits_noted keep front e CloseMapping None more refl refl h l
 fits_after _ keep front e _ more m h l = elim m [ ]
 
-room_moves : (anchor : Option (List ℕ)) (n more : ℕ) → n + one_more anchor more < 2 ^ 64
-    → one_more anchor n + more < 2 ^ 64
+room_moves : (anchor : Option (List ℕ)) (n more : ℕ) → n + one_more_anchor anchor more < 2 ^ 64
+    → one_more_anchor anchor n + more < 2 ^ 64
 room_moves None n more l = l
 room_moves (Some _) n more l = omega (arith, l)
 
@@ -235,6 +236,6 @@ same_events [] b keep front e w h l = refl
 same_events (p ∷ ps) b keep front e w h l =
     ap (λ (o : Option Happening). before_all o (events_in (after p e) ps))
     (event_same b keep front e p (anchors ps) w.0 h l)
-    ∙ ap (before_all (event_of keep front p))
+    ∙ ap (before_all (event_of_part keep front p))
     (same_events ps (inside_behind p b) keep (p ∷ front) (after p e) w.1
     (fits_after b keep front e p (anchors ps) w.0 h l) (room_moves (anchor_of p) (anchors front) (anchors ps) l))

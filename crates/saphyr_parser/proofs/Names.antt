@@ -1,11 +1,11 @@
 -- Maps from texts, as lists of names.
-use Rattle.std.proofs.Common.{◌≡◌, ℕ, List, [], ◌∷◌, Option, Some, None, refl, sym, ap, ◌∙◌, cond, Bool, true, false, ◌||◌}
-use Rattle.std.specs.Prelude.{map, String, string_bytes, string_cmp, option_map}
+use Rattle.std.proofs.Common.{◌≡◌, arith, ℕ, length, List, [], ◌∷◌, Option, Some, None, refl, sym, ap, ◌∙◌, cond, Bool, true, false, ◌||◌}
+use Rattle.std.specs.Prelude.{map, String, string_bytes, string_cmp, option_map, is_some}
 use Rattle.std.specs.BTreeMap.{BTreeMap, get_by, insert_entry, is_at}
 use Rattle.std.specs.BTreeSet.{BTreeSet, contains_by, insert_key}
 use Rattle.std.specs.List.{list_any}
 use Rattle.std.specs.Cmp.Lexicographic.{slice_cmp}
-use Rattle.std.specs.Map.{lookup}
+use Rattle.std.specs.Map.{lookup, keys_of}
 use Rattle.std.specs.Ordering.{nat_cmp, match_ordering}
 use Rattle.std.specs.declared.cmp.Ordering.{Ordering}
 use Rattle.std.specs.declared.cmp.Ordering.TheVariants.{Less, Equal, Greater}
@@ -65,6 +65,51 @@ pub texts_meaning : {A : Type 0} (m : BTreeMap (String A) (String A)) (handle : 
     → option_map string_bytes (get_by (λ (k : String A). slice_cmp nat_cmp handle (string_bytes k)) m)
     ≡ meaning handle (texts_of m)
 texts_meaning m handle = found string_bytes handle m.entries
+
+pub texts_empty : {A : Type 0} (m : BTreeMap (String A) (String A)) → length m.entries ≡ 0 → texts_of m ≡ []
+texts_empty m e = none m.entries e
+  where
+    none : {A : Type 0} (es : List (String A × String A)) → length es ≡ 0 → seen string_bytes es ≡ []
+    none [] e = refl
+    none (x ∷ es) e = absurd (omega (arith, e))
+
+names_with : {Z : Type 0} (o : Ordering) (a b c : Names Z)
+    → keys_of (match_ordering o a b c) ≡ match_ordering o (keys_of a) (keys_of b) (keys_of c)
+names_with Less a b c = refl
+names_with Equal a b c = refl
+names_with Greater a b c = refl
+
+-- a name that is given a meaning is listed among the names
+pub given_names : {Z : Type 0} (name : List ℕ) (z : Z) (names : Names Z)
+    → keys_of (given name z names) ≡ listed name (keys_of names)
+given_names name z [] = refl
+given_names {Z} name z (e ∷ es) =
+    names_with (slice_cmp nat_cmp name e.0) ((name, z) ∷ e ∷ es) ((e.0, z) ∷ es) (e ∷ given name z es)
+    ∙ ap (λ (r : List (List ℕ)). match_ordering (slice_cmp nat_cmp name e.0) (name ∷ e.0 ∷ keys_of es)
+    (e.0 ∷ keys_of es) (e.0 ∷ r)) (given_names name z es)
+
+-- a name that has a meaning is listed among the names
+pub has_meaning : {Z : Type 0} (name : List ℕ) (names : Names Z)
+    → is_some (meaning name names) ≡ is_listed name (keys_of names)
+has_meaning name [] = refl
+has_meaning {Z} name (e ∷ es) =
+    some (is_at (slice_cmp nat_cmp name) e.0) e.1 (meaning name es)
+    ∙ ap (λ (b : Bool). is_at (slice_cmp nat_cmp name) e.0 || b) (has_meaning name es)
+  where
+    some : {Z : Type 0} (b : Bool) (z : Z) (o : Option Z) → is_some (cond b (Some z) o) ≡ b || is_some o
+    some true z o = refl
+    some false z o = refl
+
+pub texts_listed : {A : Type 0} (m : BTreeMap (String A) (String A)) (handle : List ℕ)
+    → is_some (get_by (λ (k : String A). slice_cmp nat_cmp handle (string_bytes k)) m)
+    ≡ is_listed handle (keys_of (texts_of m))
+texts_listed m handle =
+    still_some string_bytes _ ∙ ap (λ (o : Option (List ℕ)). is_some o) (texts_meaning m handle)
+    ∙ has_meaning handle (texts_of m)
+  where
+    still_some : {X Z : Type 0} (f : X → Z) (o : Option X) → is_some o ≡ is_some (option_map f o)
+    still_some f None = refl
+    still_some f (Some x) = refl
 
 -- ## Sets
 

@@ -7,22 +7,22 @@ use Rattle.saphyr_scanner.specs.Grammar.Forest as forest
 use Rattle.saphyr_scanner.specs.Grammar.Tokens as tokens
 use Rattle.saphyr_scanner.specs.Grammar.Tokens.{Kind, alias_token, anchor_token, tag_token, scalar_token}
 use Rattle.saphyr_scanner.specs.Grammar.TokenGrammar as grammar
-use Rattle.saphyr_scanner.specs.Grammar.TokenGrammar.{InFlow, InBlock, InBlockMapping, AllowsBlock, IsInBlockMapping, AreBoth, YieldProperties, YieldsOptional, YieldsNode}
+use Rattle.saphyr_scanner.specs.Grammar.TokenGrammar.{InFlow, InBlock, InBlockMapping, AllowsBlock, IsInBlockMapping, AreBoth, YieldsOptional, YieldsNode}
 use Rattle.saphyr_scanner.specs.Views.Tokens.{Piece}
-use Rattle.saphyr_parser.specs.declared.parser.context.Context.{Context}
-use Rattle.saphyr_parser.specs.declared.parser.context.Context.TheVariants.{Flow, Block, BlockMapping}
+use Rattle.saphyr_parser.specs.declared.parser.context.NodeContext.{NodeContext}
+use Rattle.saphyr_parser.specs.declared.parser.context.NodeContext.TheVariants.{Flow, Block, BlockMapping}
 use Rattle.saphyr_parser.specs.declared.parser.state.State.{State}
 use Rattle.saphyr_parser.specs.declared.parser.state.State.TheVariants.{End}
 use Rattle.saphyr_parser.specs.Preorder.{Part, Leaf, node_parts}
 use Rattle.saphyr_parser.specs.Steps.Machine.{Machine, told, empty_scalar}
 use Rattle.saphyr_parser.specs.Steps.Nodes as steps
-use Rattle.saphyr_parser.specs.Steps.Nodes.{without_content, content_at}
-use Rattle.saphyr_parser.specs.Steps.Expected.{step}
+use Rattle.saphyr_parser.specs.Steps.Nodes.{without_content, node_content_at}
+use Rattle.saphyr_parser.specs.Steps.Expected.{event_step}
 use Rattle.saphyr_parser.proofs.Told.Telling.{Spans, Memory, at}
 use Rattle.saphyr_parser.proofs.Remembering.{after_node, Says, Tells, plainly}
 use Rattle.saphyr_parser.proofs.Told.Nodes.{next_node, IsContent}
 
-abbrev pub context_of : grammar.Context → Context
+abbrev pub context_of : grammar.Context → NodeContext
 context_of InFlow = Flow
 context_of InBlock = Block
 context_of InBlockMapping = BlockMapping
@@ -138,7 +138,7 @@ follow_is_content _ _ h = tt
 
 -- behind properties it shows that their node has no content
 pub follow_ends : (c : grammar.Context) (k : Kind) (q : steps.NodeProperties) (t : Piece) (m : Machine) → MayFollow c k
-    → content_at k q (context_of c) t m ≡ without_content q t m
+    → node_content_at k q (context_of c) t m ≡ without_content q t m
 follow_ends InFlow tokens.FlowEntry q t m h = refl
 follow_ends InFlow tokens.FlowSequenceEnd q t m h = refl
 follow_ends InFlow tokens.FlowMappingEnd q t m h = refl
@@ -162,7 +162,8 @@ follow_ends _ _ q t m h = elim h [ ]
 pub record NodeSays (n : Node) (c : grammar.Context) (t : List Kind) : Type 0 where
   pub by : (f : Spans) (k : Kind) (ks : List Kind) (m : Machine) (x s : State) (ss : List State) (e : Memory)
       (ps : List Part) → MayFollow c k → m.state ≢ End
-      → step m ≡ next_node (context_of c) (at f (t ++ k ∷ ks) x (s ∷ ss) e) → Tells f (k ∷ ks) s ss (after_node n e) ps
+      → event_step m ≡ next_node (context_of c) (at f (t ++ k ∷ ks) x (s ∷ ss) e)
+      → Tells f (k ∷ ks) s ss (after_node n e) ps
       → Says e m (node_parts n ++ ps)
 
 -- The state behind the node may depend on the tokens that the node begins.
@@ -170,19 +171,19 @@ pub enters : (n : Node) (c : grammar.Context) (t : List Kind) → YieldsNode n c
     → (f : Spans) (k : Kind) (ks : List Kind) (machine : List Kind → Machine) (x : State) (behind : List Kind → State)
     (ss : List State) (e : Memory) (ps : List Part) → MayFollow c k → ((l : List Kind) → (machine l).state ≢ End)
     → ((j : Kind) (l : List Kind) → Starts c j
-    → step (machine (j ∷ l)) ≡ next_node (context_of c) (at f (j ∷ l) x (behind (j ∷ l) ∷ ss) e))
+    → event_step (machine (j ∷ l)) ≡ next_node (context_of c) (at f (j ∷ l) x (behind (j ∷ l) ∷ ss) e))
     → Tells f (k ∷ ks) (behind (t ++ k ∷ ks)) ss (after_node n e) ps
     → Says e (machine (t ++ k ∷ ks)) (node_parts n ++ ps)
 enters n c t h g f k ks machine x behind ss e ps z more go l =
     let d : Head c t = node_head n c t h in
     g.by f k ks (machine (t ++ k ∷ ks)) x (behind (t ++ k ∷ ks)) ss e ps z (more (t ++ k ∷ ks))
-    (subst (λ (u : List Kind). step (machine (u ++ k ∷ ks))
+    (subst (λ (u : List Kind). event_step (machine (u ++ k ∷ ks))
     ≡ next_node (context_of c) (at f (u ++ k ∷ ks) x (behind (u ++ k ∷ ks) ∷ ss) e)) (sym d.is)
     (go d.first (d.others ++ k ∷ ks) d.starts)) l
 
 -- one step tells a node that is left out
 pub skipped : (e : Memory) (m n : Machine) (ps : List Part) (span : Span) → m.state ≢ End
-    → step m ≡ told empty_scalar span n → Says e n ps → Says e m (node_parts forest.left_out ++ ps)
+    → event_step m ≡ told empty_scalar span n → Says e n ps → Says e m (node_parts forest.left_out ++ ps)
 unfolding encode
 skipped e m n ps span more q l =
     plainly e m n (Leaf forest.no_properties forest.Plain []) ps empty_scalar span more refl q l
@@ -204,9 +205,9 @@ pub enters_or_skips : (n : Node) (c : grammar.Context) (t : List Kind) → Yield
     → (YieldsNode n c t → NodeSays n c t)
     → (f : Spans) (k : Kind) (ks : List Kind) (machine : List Kind → Machine) (x : State) (behind : List Kind → State)
     (ss : List State) (e : Memory) (ps : List Part) → MayFollow c k → ((l : List Kind) → (machine l).state ≢ End)
-    → (span : Span) → step (machine (k ∷ ks)) ≡ told empty_scalar span (at f (k ∷ ks) (behind (k ∷ ks)) ss e)
+    → (span : Span) → event_step (machine (k ∷ ks)) ≡ told empty_scalar span (at f (k ∷ ks) (behind (k ∷ ks)) ss e)
     → ((j : Kind) (l : List Kind) → Starts c j
-    → step (machine (j ∷ l)) ≡ next_node (context_of c) (at f (j ∷ l) x (behind (j ∷ l) ∷ ss) e))
+    → event_step (machine (j ∷ l)) ≡ next_node (context_of c) (at f (j ∷ l) x (behind (j ∷ l) ∷ ss) e))
     → Tells f (k ∷ ks) (behind (t ++ k ∷ ks)) ss (after_node n e) ps
     → Says e (machine (t ++ k ∷ ks)) (node_parts n ++ ps)
 enters_or_skips n c t (inr h) g f k ks machine x behind ss e ps z more span skip go l =

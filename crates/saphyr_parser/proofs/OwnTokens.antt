@@ -7,7 +7,7 @@ use Rattle.saphyr_scanner.specs.Grammar.Tokens.{Kind, BlockEntry}
 use Rattle.saphyr_scanner.specs.Views.Tokens.{Piece}
 use Rattle.saphyr_parser.specs.Events.{Happening, Scalar}
 use Rattle.saphyr_parser.specs.Steps.Nodes.{NodeProperties}
-use Rattle.saphyr_parser.specs.EventsTaken.{BelongsToNone, IsAnchorKind, IsTagKind, ArePropertyTokens, Spans, SpansAll, AreContentTokens, BeginsEntries, IsOf, HaveTokens}
+use Rattle.saphyr_parser.specs.EventsTaken.{BelongsToNone, IsAnchorKind, IsTagKind, ArePropertyTokens, SpansAll, AreContentTokens, BeginsEntries, IsOf, HaveTokens}
 use Rattle.saphyr_parser.specs.EventsTaken as taking
 
 abbrev pub ArePassed : List Piece → Type 0

@@ -9,7 +9,7 @@ use Rattle.saphyr_scanner.specs.Views.Tokens.{Piece, Remaining}
 use Rattle.saphyr_parser.specs.declared.parser.state.State.{State}
 use Rattle.saphyr_parser.specs.declared.parser.state.State.TheVariants as state
 use Rattle.saphyr_parser.specs.Steps.Machine.{Machine, Told}
-use Rattle.saphyr_parser.specs.Steps.Expected.{step_at}
+use Rattle.saphyr_parser.specs.Steps.Expected.{event_step_at}
 use Rattle.saphyr_parser.proofs.Beside.Machines.{Beside, Behind, Left, Tells}
 use Rattle.saphyr_parser.proofs.Beside.Documents.{steps_beside, IsStart, Passed}
 use Rattle.saphyr_parser.proofs.Beside.Maps.{placed, expected, puts, becomes, tells_so}
@@ -91,18 +91,18 @@ same (Err f) (Ok y) (inr e) = absurd e
 same (Err f) (Err g) h = (g, refl)
 
 others_same : (s : State) (m : Machine) → s ≢ state.End
-    → Same (step_at s m) (step_at (placeless_state s) (placeless m))
+    → Same (event_step_at s m) (event_step_at (placeless_state s) (placeless m))
 others_same s m on =
     by (steps_beside without_places s (placeless_state s) m (placeless m)
     (expected without_places (λ p. no_place) (λ p. refl) s) on (λ e b c k. k)
     (puts without_places _ (λ p. no_place) (placeless_tokens m.tokens) m.keep_tags m (λ p. refl) refl refl))
   where
-    by : Tells without_places (step_at s m) (step_at (placeless_state s) (placeless m))
-        ⊎ (IsStart s × Passed without_places m (placeless m) (step_at s))
-        → Same (step_at s m) (step_at (placeless_state s) (placeless m))
+    by : Tells without_places (event_step_at s m) (event_step_at (placeless_state s) (placeless m))
+        ⊎ (IsStart s × Passed without_places m (placeless m) (event_step_at s))
+        → Same (event_step_at s m) (event_step_at (placeless_state s) (placeless m))
     by (inl h) = same _ _ h
     by (inr (i, p)) = absurd p.2.tokens
 
-pub steps_same : (s : State) (m : Machine) → Same (step_at s m) (step_at (placeless_state s) (placeless m))
+pub steps_same : (s : State) (m : Machine) → Same (event_step_at s m) (event_step_at (placeless_state s) (placeless m))
 steps_same state.End m = (_, refl)
 steps_same s m = others_same s m (λ e. absurd (cc))

@@ -2,6 +2,7 @@
 pub mod Written
 pub mod Numbers
 pub mod Escapes
+pub mod Lines
 pub mod Dumping
 pub mod Complaints
 pub mod Running

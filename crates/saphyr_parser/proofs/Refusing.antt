@@ -10,8 +10,8 @@ use Rattle.saphyr_scanner.specs.AtPlaces.{AreAtPlaces}
 use Rattle.saphyr_scanner.specs.TokensTaken as taken
 use Rattle.saphyr_scanner.specs.TokensTaken.{IsPlaceOf}
 use Rattle.saphyr_parser.specs.declared.parser.state.State.TheVariants as state
-use Rattle.saphyr_parser.specs.Steps.Machine.{Machine, ending}
-use Rattle.saphyr_parser.specs.Answer.{Ending, remaining, size}
+use Rattle.saphyr_parser.specs.Steps.Machine.{Machine, ending_refusal}
+use Rattle.saphyr_parser.specs.Answer.{Ending, remaining_answer, machine_size}
 use Rattle.saphyr_parser.specs.Cursor.{at_start, keeping_tags, to_come}
 use Rattle.saphyr_parser.specs.EventsTaken.{HasPlaceIn}
 use Rattle.saphyr_parser.proofs.Walk.Steps.{is_end, Walk}
@@ -32,7 +32,7 @@ abbrev pub AreEnded : (Marker → Type 0) → Option Refusal → List Piece → 
 AreEnded P r [] = IsRefused P r
 AreEnded P r (t ∷ ts) = IsLastOr (AreEnded P r ts) ts t.kind
 
-refused : (P : Marker → Type 0) (r : Option Refusal) → IsRefused P r → P (ending r).mark
+refused : (P : Marker → Type 0) (r : Option Refusal) → IsRefused P r → P (ending_refusal r).mark
 refused P None h = absurd h
 refused P (Some e) h = h
 
@@ -74,8 +74,9 @@ failed text (Some e) h = subst (λ (x : Ending). HasPlaceIn text (Some x)) (sym 
 pub refused_at : (text : List ℕ) (tokens : Remaining) (keep : Bool) → AreAtPlaces text tokens.pieces
     → AreEnded (IsPlaceOf text) tokens.refusal tokens.pieces
     → HasPlaceIn text (to_come (keeping_tags keep (at_start tokens))).fault
-unfolding remaining
+unfolding remaining_answer
 refused_at text tokens keep a e =
     let m : Machine = (keeping_tags keep (at_start tokens)).machine in
     failed text _
-    (runs (placed text) (resumes text) (suc (size m)) m (record { place = tt; places = tt; rests = inr (a, e) })).fault
+    (runs (placed text) (resumes text) (suc (machine_size m)) m
+    (record { place = tt; places = tt; rests = inr (a, e) })).fault

@@ -13,8 +13,8 @@ use Rattle.saphyr_parser.specs.Events.{Happening, ResolvedTag, StreamStart, Stre
 use Rattle.saphyr_parser.specs.ForestEvents.{before_all}
 use Rattle.saphyr_parser.specs.TagResolution.{default_prefix}
 use Rattle.saphyr_parser.specs.Steps.Machine.{Names, meaning, given, forgotten, next_id, registered, Machine, told}
-use Rattle.saphyr_parser.specs.Steps.Expected.{step}
-use Rattle.saphyr_parser.specs.Answer.{remaining}
+use Rattle.saphyr_parser.specs.Steps.Expected.{event_step}
+use Rattle.saphyr_parser.specs.Answer.{remaining_answer}
 use Rattle.saphyr_parser.specs.Exactly.{GivesExactly}
 use Rattle.saphyr_parser.proofs.Told.Telling.{Spans, Memory, at, tells}
 
@@ -113,7 +113,7 @@ events_in e (part ∷ others) = before_all (event_in e part) (events_in (after p
 
 -- the machine gives the events of these parts, if they have events
 abbrev pub Says : Memory → Machine → List Part → Type 0
-Says e m ps = (es : List Happening) → events_in e ps ≡ Some es → GivesExactly es (remaining m)
+Says e m ps = (es : List Happening) → events_in e ps ≡ Some es → GivesExactly es (remaining_answer m)
 
 -- the same of a machine that remembers just that
 abbrev pub Tells : Spans → List Kind → State → List State → Memory → List Part → Type 0
@@ -127,19 +127,20 @@ both None b es h = absurd (cc)
 
 -- one step tells the first part
 pub says : (e : Memory) (m n : Machine) (part : Part) (ps : List Part) → m.state ≢ End
-    → ((w : Happening) → event_in e part ≡ Some w → (span : Span) × (step m ≡ told w span n)) → Says (after part e) n ps
+    → ((w : Happening) → event_in e part ≡ Some w → (span : Span) × (event_step m ≡ told w span n))
+    → Says (after part e) n ps
     → Says e m (part ∷ ps)
 says e m n part ps more go h es q =
     let r : (w : Happening) × (ws : List Happening) × (event_in e part ≡ Some w)
     × (events_in (after part e) ps ≡ Some ws) × (w ∷ ws ≡ es) =
     both (event_in e part) (events_in (after part e) ps) es q in
-    let s : (span : Span) × (step m ≡ told r.0 span n) = go r.0 r.2 in
-    subst (λ l. GivesExactly l (remaining m)) r.4
+    let s : (span : Span) × (event_step m ≡ told r.0 span n) = go r.0 r.2 in
+    subst (λ l. GivesExactly l (remaining_answer m)) r.4
     (tells m (record { what = r.0; span = s.0; machine = n }) r.1 more s.1 (h r.1 r.3))
 
 -- the same of a part that always has its event
 pub plainly : (e : Memory) (m n : Machine) (part : Part) (ps : List Part) (w : Happening) (span : Span) → m.state ≢ End
-    → event_in e part ≡ Some w → step m ≡ told w span n → Says (after part e) n ps → Says e m (part ∷ ps)
+    → event_in e part ≡ Some w → event_step m ≡ told w span n → Says (after part e) n ps → Says e m (part ∷ ps)
 plainly e m n part ps w span more a q h =
     says e m n part ps more (λ v b.
     (span, q ∙ ap (λ u. told u span n) (let same : w ≡ v = (let c : Some w ≡ Some v = sym a ∙ b in cc) in same))) h

@@ -10,10 +10,10 @@ use Rattle.saphyr_parser.specs.declared.parser.state.State.{State}
 use Rattle.saphyr_parser.specs.declared.parser.state.State.TheVariants as state
 use Rattle.saphyr_parser.specs.Events as events
 use Rattle.saphyr_parser.specs.Events.{Happening}
-use Rattle.saphyr_parser.specs.Steps.Machine.{◌>>=◌, Machine, Told, ending}
+use Rattle.saphyr_parser.specs.Steps.Machine.{◌>>=◌, Machine, Told, ending_refusal}
 use Rattle.saphyr_parser.specs.Steps.Documents as document
-use Rattle.saphyr_parser.specs.Steps.Expected.{step, step_at}
-use Rattle.saphyr_parser.specs.Cursor.{Cursor, Kept, keeping_tags}
+use Rattle.saphyr_parser.specs.Steps.Expected.{event_step, event_step_at}
+use Rattle.saphyr_parser.specs.Cursor.{EventCursor, Kept, keeping_tags}
 use Rattle.saphyr_parser.specs.Calls.{Advances}
 use Rattle.saphyr_parser.specs.Steps.Settings.{set_to, with_setting}
 use Rattle.saphyr_parser.proofs.Beside.Machines.{Beside, Behind, Left, Tells}
@@ -37,7 +37,7 @@ with_set b =
       Early = λ f. ⊥;
       Refused = λ f g. g ≡ f;
       refused = λ text p q e. rw e refl;
-      none = λ us o e i. inr (ap (λ (r : Remaining). r.pieces) i, ap (λ (r : Remaining). ending r.refusal) i);
+      none = λ us o e i. inr (ap (λ (r : Remaining). r.pieces) i, ap (λ (r : Remaining). ending_refusal r.refusal) i);
       next = λ t ts us o e i.
           record {
             span = t.span;
@@ -64,25 +64,26 @@ same b (Err f) (Err g) (inl e) = absurd e
 same b (Err f) (Err g) (inr e) = rw e refl
 
 others_at : (b : Bool) (s : State) (m : Machine) → s ≢ state.End → s ≢ state.DocumentEnd
-    → step_at s (set_to b m) ≡ with_setting b (step_at s m)
+    → event_step_at s (set_to b m) ≡ with_setting b (event_step_at s m)
 others_at b s m on other =
     by (steps_beside (with_set b) s s m (set_to b m) (still_expected (with_set b) (λ p. refl) s) on
     (λ e. absurd (other e)) (leaves (with_set b) _ m.tokens b m (λ p. refl) refl refl))
   where
-    by : Tells (with_set b) (step_at s m) (step_at s (set_to b m))
-        ⊎ (IsStart s × Passed (with_set b) m (set_to b m) (step_at s))
-        → step_at s (set_to b m) ≡ with_setting b (step_at s m)
+    by : Tells (with_set b) (event_step_at s m) (event_step_at s (set_to b m))
+        ⊎ (IsStart s × Passed (with_set b) m (set_to b m) (event_step_at s))
+        → event_step_at s (set_to b m) ≡ with_setting b (event_step_at s m)
     by (inl h) = same b _ _ h
     by (inr (i, p)) = absurd p.2.tokens
 
 sets_at : (b : Bool) (s : State) (m : Machine) → s ≢ state.DocumentEnd
-    → step_at s (set_to b m) ≡ with_setting b (step_at s m)
+    → event_step_at s (set_to b m) ≡ with_setting b (event_step_at s m)
 sets_at b state.End m other = refl
 sets_at b s m other = others_at b s m (λ e. absurd (cc)) other
 
 -- each step but that at the end of a document
-pub sets : (b : Bool) (m : Machine) → m.state ≢ state.DocumentEnd → step (set_to b m) ≡ with_setting b (step m)
-unfolding step
+pub sets : (b : Bool) (m : Machine) → m.state ≢ state.DocumentEnd
+    → event_step (set_to b m) ≡ with_setting b (event_step m)
+unfolding event_step
 sets b m other = sets_at b m.state m other
 
 -- ## Between events
@@ -104,14 +105,15 @@ ends_document (Ok t) = ends_document_at t.0.kind t.0 (document.forget_prefixes t
 ends_document (Err e) = tt
 
 -- at the end of a document no other event is told
-other_state : (m : Machine) (x : Told) → step m ≡ Ok x → x.what ≢ events.DocumentEnd → m.state ≢ state.DocumentEnd
-unfolding step document.document_end
+other_state : (m : Machine) (x : Told) → event_step m ≡ Ok x → x.what ≢ events.DocumentEnd → m.state ≢ state.DocumentEnd
+unfolding event_step document.document_end
 other_state m x is other at_end =
-    let told_so : step_at state.DocumentEnd m ≡ Ok x = subst (λ (s : State). step_at s m ≡ Ok x) at_end is in
+    let told_so : event_step_at state.DocumentEnd m ≡ Ok x =
+    subst (λ (s : State). event_step_at s m ≡ Ok x) at_end is in
     other (subst EndsDocument told_so (ends_document (document.behind_document m)))
 
 setting : (b : Bool) (c : Option (Happening × Span)) (k : Option Kept) (m : Machine) (i : Bool) (f : Option Span)
-    (e : Happening × Span) (new : Cursor) → e.0 ≢ events.DocumentEnd
+    (e : Happening × Span) (new : EventCursor) → e.0 ≢ events.DocumentEnd
     → Advances e (record { current = c; kept = k; machine = m; inside = i; finished = f }) new
     → Advances e (record { current = c; kept = k; machine = set_to b m; inside = i; finished = f })
     (keeping_tags b new)
@@ -121,6 +123,7 @@ setting b None None m i f e new other (moved, left) =
     (sets b m (other_state m _ moved other) ∙ ap (with_setting b) moved, ap (keeping_tags b) left)
 
 -- any other event is handed out whatever the setting, which may be made before it or behind it
-pub sets_behind : (e : Happening × Span) (old new : Cursor) (b : Bool) → e.0 ≢ events.DocumentEnd → Advances e old new
+pub sets_behind : (e : Happening × Span) (old new : EventCursor) (b : Bool) → e.0 ≢ events.DocumentEnd
+    → Advances e old new
     → Advances e (keeping_tags b old) (keeping_tags b new)
 sets_behind e old new b other h = setting b old.current old.kept old.machine old.inside old.finished e new other h

@@ -4,8 +4,8 @@ use Rattle.saphyr_scalar.specs.declared.scalar.position.Marker.{Marker}
 use Rattle.saphyr_parser.specs.declared.parser.state.State.{State}
 use Rattle.saphyr_parser.specs.declared.parser.state.State.TheVariants as state
 use Rattle.saphyr_parser.specs.Steps.Machine.{Machine, Told}
-use Rattle.saphyr_parser.specs.Steps.Expected.{step}
-use Rattle.saphyr_parser.specs.Answer.{size}
+use Rattle.saphyr_parser.specs.Steps.Expected.{event_step}
+use Rattle.saphyr_parser.specs.Answer.{machine_size}
 use Rattle.saphyr_parser.proofs.Walk.Steps.{Walk, HasPlace, HavePlaces, Gives}
 use Rattle.saphyr_parser.proofs.Walk.All.{steps_at}
 
@@ -37,12 +37,12 @@ any_places : (ss : List State) → HavePlaces (λ a b. Unit {0}) ss
 any_places [] = tt
 any_places (s ∷ ss) = (any_place s, any_places ss)
 
-left : (n : ℕ) (x : Told) → Gives (measured n) (Ok x) → size x.machine ≤ n
+left : (n : ℕ) (x : Told) → Gives (measured n) (Ok x) → machine_size x.machine ≤ n
 left n x g = let l : 10 * length x.machine.tokens.pieces + _ ≤ n + 10 = g.1.rests in omega (arith, l)
 
-pub step_leaves : (n : ℕ) (m : Machine) (x : Told) → m.state ≢ state.End → size m ≤ n + 1 → step m ≡ Ok x
-    → size x.machine ≤ n
-unfolding step
+pub step_leaves : (n : ℕ) (m : Machine) (x : Told) → m.state ≢ state.End → machine_size m ≤ n + 1 → event_step m ≡ Ok x
+    → machine_size x.machine ≤ n
+unfolding event_step
 step_leaves n m x alive l e =
     let place : Marker = record { index = 0; line = 0; col = 0 } in
     left n x

@@ -10,14 +10,14 @@ use Rattle.saphyr_scanner.specs.Views.Tokens.{Piece, Remaining}
 use Rattle.saphyr_scanner.specs.Grammar.TokenGrammar.{Yields}
 use Rattle.saphyr_parser.specs.declared.parser.state.State.{State}
 use Rattle.saphyr_parser.specs.declared.parser.state.State.TheVariants as state
-use Rattle.saphyr_parser.specs.Anchors.{one_more, anchor_of, anchors}
+use Rattle.saphyr_parser.specs.Anchors.{one_more_anchor, anchor_of, anchors}
 use Rattle.saphyr_parser.specs.Preorder.{Part, parts}
 use Rattle.saphyr_parser.specs.Events.{Happening}
 use Rattle.saphyr_parser.specs.ForestEvents.{before_all, events}
 use Rattle.saphyr_parser.specs.Exactly.{kinds}
 use Rattle.saphyr_parser.specs.Steps.Machine.{Machine, Told}
-use Rattle.saphyr_parser.specs.Steps.Expected.{step, step_at}
-use Rattle.saphyr_parser.specs.Answer.{Answer, none, before, ending_of, failed, deliver, remaining, size}
+use Rattle.saphyr_parser.specs.Steps.Expected.{event_step, event_step_at}
+use Rattle.saphyr_parser.specs.Answer.{Answer, empty_answer, with_first_event, ending_of, failed, deliver, remaining_answer, machine_size}
 use Rattle.saphyr_parser.specs.Cursor.{at_start, keeping_tags, to_come}
 use Rattle.saphyr_parser.specs.EventsTaken.{IsAllUnless, IsCut}
 use Rattle.saphyr_parser.specs.WellFormed.{AreWellFormed}
@@ -47,7 +47,7 @@ plainly : (F G : List Kind → List Part → Type 0) (e : Memory) (k : List Piec
 plainly F G e k r i h = moves G e k r (weaker F G e k r i h)
 
 outside_moves : (s x : State) (ts : List Piece) (r : Option Refusal) (e : Memory) → AreWellFormed ts → IsOutside s
-    → Moves (Wanted s [] (kinds ts)) e ts (step_at s (machine ts r x [] e))
+    → Moves (Wanted s [] (kinds ts)) e ts (event_step_at s (machine ts r x [] e))
 outside_moves state.StreamStart x ts r e w i =
     moves (Wanted state.StreamStart [] (kinds ts)) e ts _ (document.stream_turned ts r x e)
 outside_moves state.ImplicitDocumentStart x ts r e w i = document.implicit_moves ts r x e w
@@ -57,7 +57,8 @@ outside_moves state.DocumentEnd x ts r e w i =
 outside_moves _ x ts r e w i = elim i [ ]
 
 inside_moves : (s x o : State) (ss : List State) (ts : List Piece) (r : Option Refusal) (e : Memory) → AreWellFormed ts
-    → IsInside s → IsAlive o ss → Moves (Wanted s (o ∷ ss) (kinds ts)) e ts (step_at s (machine ts r x (o ∷ ss) e))
+    → IsInside s → IsAlive o ss → Moves (Wanted s (o ∷ ss) (kinds ts)) e ts
+    (event_step_at s (machine ts r x (o ∷ ss) e))
 inside_moves state.DocumentContent x o ss ts r e w i a =
     plainly _ (Wanted state.DocumentContent (o ∷ ss) (kinds ts)) e ts _ (λ ks ps f. (f, tt))
     (behind.content_turned ts r x o ss e w a)
@@ -103,7 +104,7 @@ inside_moves state.FlowMappingEmptyValue x o ss ts r e w i a =
 inside_moves _ x o ss ts r e w i a = elim i [ ]
 
 step_moves : (s x : State) (ss : List State) (ts : List Piece) (r : Option Refusal) (e : Memory) → AreWellFormed ts
-    → IsAlive s ss → Moves (Wanted s ss (kinds ts)) e ts (step_at s (machine ts r x ss e))
+    → IsAlive s ss → Moves (Wanted s ss (kinds ts)) e ts (event_step_at s (machine ts r x ss e))
 step_moves s x [] ts r e w a = outside_moves s x ts r e w a
 step_moves s x (o ∷ ss) ts r e w a = inside_moves s x o ss ts r e w a.0 a.1
 
@@ -151,14 +152,14 @@ joined : (part : Part) (ps : List Part) (e : Memory) (w : Happening) (es : List 
 joined part ps e w es h k =
     ap (λ (o : Option Happening). before_all o (events_in (after part e) ps)) h ∙ ap (before_all (Some w)) k
 
-more_anchors : (o : Option (List ℕ)) (n a b : ℕ) → one_more o 0 ≤ a → n ≤ b → one_more o n ≤ a + b
+more_anchors : (o : Option (List ℕ)) (n a b : ℕ) → one_more_anchor o 0 ≤ a → n ≤ b → one_more_anchor o n ≤ a + b
 more_anchors None n a b h k = omega (arith, h, k)
 more_anchors (Some x) n a b h k = omega (arith, h, k)
 
 goes_on : (s : State) (ss : List State) (ts : List Piece) (e : Memory) (x : Told) (a : Answer)
     → Goes (Wanted s ss (kinds ts)) e ts x
     → Finishes x.machine.state x.machine.states x.machine.tokens.pieces (memory x.machine) a
-    → Finishes s ss ts e (before (x.what, x.span) a)
+    → Finishes s ss ts e (with_first_event (x.what, x.span) a)
 goes_on s ss ts e x a g h = record {
   read = g.used ++ h.read;
   unread = h.unread;
@@ -183,7 +184,7 @@ goes_on s ss ts e x a g h = record {
 }
 
 is_over : (s : State) (ss : List State) (ts : List Piece) (e : Memory) (x : Told) → Over (Wanted s ss (kinds ts)) e ts x
-    → Finishes s ss ts e (before (x.what, x.span) none)
+    → Finishes s ss ts e (with_first_event (x.what, x.span) empty_answer)
 is_over s ss ts e x o = record {
   read = ts;
   unread = [];
@@ -209,28 +210,29 @@ alive_is_no_end : (s : State) (ss : List State) → IsAlive s ss → s ≢ state
 alive_is_no_end s [] a e = subst IsOutside e a
 alive_is_no_end s (o ∷ ss) a e = subst IsInside e a.0
 
-finishes : (n : ℕ) (m : Machine) → size m < n → AreWellFormed m.tokens.pieces → IsAlive m.state m.states
-    → Finishes m.state m.states m.tokens.pieces (memory m) (remaining m)
-unfolding step
+finishes : (n : ℕ) (m : Machine) → machine_size m < n → AreWellFormed m.tokens.pieces → IsAlive m.state m.states
+    → Finishes m.state m.states m.tokens.pieces (memory m) (remaining_answer m)
+unfolding event_step
 finishes zero m l w a = absurd (omega (arith, l))
 finishes (suc n) m l w a =
     subst (λ (b : Answer). Finishes m.state m.states m.tokens.pieces (memory m) b)
     (sym (unroll m (alive_is_no_end m.state m.states a)))
-    (by (step m) refl (step_moves m.state m.state m.states m.tokens.pieces m.tokens.refusal (memory m) w a)
+    (by (event_step m) refl (step_moves m.state m.state m.states m.tokens.pieces m.tokens.refusal (memory m) w a)
     (λ k. finishes n k))
   where
-    by : (r : Result Told Refusal) → step m ≡ r
+    by : (r : Result Told Refusal) → event_step m ≡ r
         → Moves (Wanted m.state m.states (kinds m.tokens.pieces)) (memory m) m.tokens.pieces r
-        → ((k : Machine) → size k < n → AreWellFormed k.tokens.pieces → IsAlive k.state k.states
-        → Finishes k.state k.states k.tokens.pieces (memory k) (remaining k))
-        → Finishes m.state m.states m.tokens.pieces (memory m) (deliver r remaining)
+        → ((k : Machine) → machine_size k < n → AreWellFormed k.tokens.pieces → IsAlive k.state k.states
+        → Finishes k.state k.states k.tokens.pieces (memory k) (remaining_answer k))
+        → Finishes m.state m.states m.tokens.pieces (memory m) (deliver r remaining_answer)
     by (Err f) e h go = stops m.state m.states m.tokens.pieces (memory m) f a
     by (Ok x) e (inl g) go =
-        goes_on m.state m.states m.tokens.pieces (memory m) x (remaining x.machine) g
-        (go x.machine (let s = shrinks_at (size m) m x (omega arith) e in omega (arith, l, s))
+        goes_on m.state m.states m.tokens.pieces (memory m) x (remaining_answer x.machine) g
+        (go x.machine (let s = shrinks_at (machine_size m) m x (omega arith) e in omega (arith, l, s))
         (behind_used g.used m.tokens.pieces x.machine.tokens.pieces g.taken w) g.alive)
     by (Ok x) e (inr o) go =
-        subst (λ (b : Answer). Finishes m.state m.states m.tokens.pieces (memory m) (before (x.what, x.span) b))
+        subst (λ (b : Answer). Finishes m.state m.states m.tokens.pieces (memory m)
+        (with_first_event (x.what, x.span) b))
         (sym (over x.machine o.is_over)) (is_over m.state m.states m.tokens.pieces (memory m) x o)
 
 -- ## From the start
@@ -272,4 +274,4 @@ pub begins : (tokens : Remaining) (keep : Bool) → AreWellFormed tokens.pieces 
     → BeginsSomeForest keep tokens (to_come (keeping_tags keep (at_start tokens)))
 begins tokens keep w l =
     let m : Machine = machine tokens.pieces tokens.refusal state.StreamStart [] (at_first keep) in
-    from_start tokens keep (remaining m) l (finishes (suc (size m)) m (omega arith) w tt)
+    from_start tokens keep (remaining_answer m) l (finishes (suc (machine_size m)) m (omega arith) w tt)

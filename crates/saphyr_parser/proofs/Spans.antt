@@ -8,8 +8,8 @@ use Rattle.saphyr_scanner.specs.AtPlaces.{AreAtPlaces}
 use Rattle.saphyr_scanner.specs.TokensTaken as taken
 use Rattle.saphyr_scanner.specs.TokensTaken.{IsPlaceOf}
 use Rattle.saphyr_parser.specs.Steps.Machine.{Machine}
-use Rattle.saphyr_parser.specs.Answer.{remaining, size}
-use Rattle.saphyr_parser.specs.Cursor.{Cursor, at_start, keeping_tags, to_come}
+use Rattle.saphyr_parser.specs.Answer.{remaining_answer, machine_size}
+use Rattle.saphyr_parser.specs.Cursor.{EventCursor, at_start, keeping_tags, to_come}
 use Rattle.saphyr_parser.specs.SpansWithin.{IsIn, HasSpansIn}
 use Rattle.saphyr_parser.proofs.Walk.Steps.{Walk}
 use Rattle.saphyr_parser.proofs.Walk.All.{Resumes, runs}
@@ -47,14 +47,16 @@ resumes text s c d r ts n h =
 -- the tokens of a parser at its start give events with spans in the text
 pub spans_in : (text : List ℕ) (tokens : Remaining) (keep : Bool) → AreInOrder (length text) 0 tokens.pieces
     → AreAtPlaces text tokens.pieces → HasSpansIn text (to_come (keeping_tags keep (at_start tokens)))
-unfolding remaining
+unfolding remaining_answer
 spans_in text tokens keep h a =
     let m : Machine = (keeping_tags keep (at_start tokens)).machine in
-    (runs (ordered text) (resumes text) (suc (size m)) m (record { place = tt; places = tt; rests = (h, a) })).spans
+    (runs (ordered text) (resumes text) (suc (machine_size m)) m
+    (record { place = tt; places = tt; rests = (h, a) })).spans
 
 -- a parser that stands at the start of such tokens
-pub parser_spans_in : (text : List ℕ) (tokens : Remaining) (c : Cursor) → c ≡ at_start tokens
+pub parser_spans_in : (text : List ℕ) (tokens : Remaining) (c : EventCursor) → c ≡ at_start tokens
     → AreInOrder (length text) 0 tokens.pieces → AreAtPlaces text tokens.pieces → (keep : Bool)
     → HasSpansIn text (to_come (keeping_tags keep c))
 parser_spans_in text tokens c is h a keep =
-    subst (λ (x : Cursor). HasSpansIn text (to_come (keeping_tags keep x))) (sym is) (spans_in text tokens keep h a)
+    subst (λ (x : EventCursor). HasSpansIn text (to_come (keeping_tags keep x))) (sym is)
+    (spans_in text tokens keep h a)

@@ -12,7 +12,7 @@ use Rattle.saphyr_scanner.specs.Grammar.Forest.{Handle, Primary, Named, handle_t
 use Rattle.saphyr_scanner.specs.Grammar.Tokens as tokens
 use Rattle.saphyr_scanner.specs.Grammar.Tokens.{Kind, tag_token}
 use Rattle.saphyr_scanner.specs.Views.Tokens.{Piece}
-use Rattle.saphyr_scanner.specs.TokensTaken.{IsScalarToken, IsToken, open_behind, least_column, AreTokens}
+use Rattle.saphyr_scanner.specs.TokensTaken.{IsScalarToken, IsToken, open_behind, least_column_in, AreTokens}
 use Rattle.saphyr_parser.proofs.Refusing.{IsLastOr, AreEnded}
 use Rattle.saphyr_parser.specs.WellFormed.{IsEncoded, IsWellFormed, MayStandBefore, AreWellFormed}
 use Rattle.saphyr_scalar.proofs.Properties.TagsRead.{mark_bytes}
@@ -86,7 +86,7 @@ pub tokens_form : (P : Marker → Type 0) (r : Option Refusal) (columns : List �
 tokens_form P r columns [] s u a l = tt
 tokens_form P r columns (p ∷ ps) s u a (inl e) = absurd (cc)
 tokens_form P r columns (p ∷ ps) s u a (inr l) = (
-  token_form p.kind (least_column columns) p.span a.0 a.1 a.3,
+  token_form p.kind (least_column_in columns) p.span a.0 a.1 a.3,
   may_stand (AreEnded P r ps) p.kind ps l,
   tokens_form P
       r (open_behind p.kind p.span.start.col columns) ps a.1 u a.4 (goes_on P r p.kind ps l),

@@ -12,14 +12,14 @@ anchor_of (OpenSequence p) = option_map encode_utf8_all p.anchor
 anchor_of (OpenMapping p) = option_map encode_utf8_all p.anchor
 anchor_of _ = None
 
-abbrev pub one_more : Option (List ℕ) → ℕ → ℕ
-one_more None n = n
-one_more (Some _) n = suc n
+abbrev pub one_more_anchor : Option (List ℕ) → ℕ → ℕ
+one_more_anchor None n = n
+one_more_anchor (Some _) n = suc n
 
 -- how many anchors stand before
 abbrev pub anchors : List Part → ℕ
 anchors [] = 0
-anchors (part ∷ front) = one_more (anchor_of part) (anchors front)
+anchors (part ∷ front) = one_more_anchor (anchor_of part) (anchors front)
 
 -- the id of a part's own anchor, 0 where it has none
 abbrev pub own_id : List Part → Option (List ℕ) → ℕ

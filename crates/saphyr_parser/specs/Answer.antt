@@ -11,7 +11,7 @@ use Rattle.saphyr_parser.specs.declared.parser.state.State.{State}
 use Rattle.saphyr_parser.specs.declared.parser.state.State.TheVariants as state
 use Rattle.saphyr_parser.specs.Events.{Happening}
 use Rattle.saphyr_parser.specs.Steps.Machine.{Machine, Told}
-use Rattle.saphyr_parser.specs.Steps.Expected.{step}
+use Rattle.saphyr_parser.specs.Steps.Expected.{event_step}
 
 -- what ends the events before their end: a refusal with its place and its text, or that memory ran out
 pub data Ending : Type 0 where
@@ -23,30 +23,30 @@ pub record Answer : Type 0 where
   pub events : List (Happening × Span)
   pub fault : Option Ending
 
-abbrev pub none : Answer
-none = record { events = []; fault = None }
+abbrev pub empty_answer : Answer
+empty_answer = record { events = []; fault = None }
 
 abbrev pub failed : Ending → Answer
 failed f = record { events = []; fault = Some f }
 
-abbrev pub before : Happening × Span → Answer → Answer
-before e a = record { events = e ∷ a.events; fault = a.fault }
+abbrev pub with_first_event : Happening × Span → Answer → Answer
+with_first_event e a = record { events = e ∷ a.events; fault = a.fault }
 
 abbrev pub ending_of : Refusal → Ending
 ending_of e = Refused e.mark (fault_text e.text)
 
 abbrev pub deliver : Result Told Refusal → (Machine → Answer) → Answer
-deliver (Ok x) go = before (x.what, x.span) (go x.machine)
+deliver (Ok x) go = with_first_event (x.what, x.span) (go x.machine)
 deliver (Err e) go = failed (ending_of e)
 
 abbrev pub unless_ended : State → Answer → Answer
-unless_ended state.End a = none
+unless_ended state.End a = empty_answer
 unless_ended _ a = a
 
 -- the events of n steps
-abbrev pub run : ℕ → Machine → Answer
-run zero m = none
-run (suc n) m = unless_ended m.state (deliver (step m) (λ k. run n k))
+abbrev pub answer_of_steps : ℕ → Machine → Answer
+answer_of_steps zero m = empty_answer
+answer_of_steps (suc n) m = unless_ended m.state (deliver (event_step m) (λ k. answer_of_steps n k))
 
 -- ## How many steps a machine can make
 
@@ -85,9 +85,9 @@ total_weight (s ∷ ss) = weight s + total_weight ss
 abbrev pub open_size : Machine → ℕ
 open_size m = 10 * length m.tokens.pieces + total_weight m.states
 
-abbrev pub size : Machine → ℕ
-size m = open_size m + weight_before m.state m.tokens.pieces
+abbrev pub machine_size : Machine → ℕ
+machine_size m = open_size m + weight_before m.state m.tokens.pieces
 
 -- the events that are still to come
-unfoldable pub remaining : Machine → Answer
-remaining m = run (suc (size m)) m
+unfoldable pub remaining_answer : Machine → Answer
+remaining_answer m = answer_of_steps (suc (machine_size m)) m

@@ -9,8 +9,8 @@ use Rattle.saphyr_parser.specs.declared.parser.fault.Fault.TheVariants as fault
 use Rattle.saphyr_parser.specs.Events as events
 use Rattle.saphyr_parser.specs.Events.{Happening}
 use Rattle.saphyr_parser.specs.Views.Machines.{happening}
-use Rattle.saphyr_parser.specs.Steps.Machine.{Machine, fresh}
-use Rattle.saphyr_parser.specs.Answer.{Ending, Refused, OutOfMemory, Answer, none, failed, before, remaining}
+use Rattle.saphyr_parser.specs.Steps.Machine.{Machine, fresh_machine}
+use Rattle.saphyr_parser.specs.Answer.{Ending, Refused, OutOfMemory, Answer, empty_answer, failed, with_first_event, remaining_answer}
 
 -- the fault that ended the events, and whether it was handed out
 pub record Kept : Type 0 where
@@ -20,32 +20,33 @@ pub record Kept : Type 0 where
 -- An event that was read ahead, the fault that ended the events, what is still to be read, whether a document was
 -- handed
 -- out whose end wasn't, and the span of the stream's end where that was handed out.
-pub record Cursor : Type 0 where
+pub record EventCursor : Type 0 where
   pub current : Option (Happening × Span)
   pub kept : Option Kept
   pub machine : Machine
   pub inside : Bool
   pub finished : Option Span
 
-abbrev pub at_start : Remaining → Cursor
-at_start tokens = record { current = None; kept = None; machine = fresh tokens; inside = false; finished = None }
+abbrev pub at_start : Remaining → EventCursor
+at_start tokens =
+    record { current = None; kept = None; machine = fresh_machine tokens; inside = false; finished = None }
 
 -- whether the prefixes of tags hold for later documents too, from the next end of a document on that is read
-abbrev pub keeping_tags : Bool → Cursor → Cursor
+abbrev pub keeping_tags : Bool → EventCursor → EventCursor
 keeping_tags keep c = record c { machine = record c.machine { keep_tags = keep } }
 
 -- ## The events still to come
 
-abbrev pub behind : Option Kept → Machine → Answer
-behind None m = remaining m
-behind (Some k) m = if k.given then none else failed k.fault
+abbrev pub answer_behind : Option Kept → Machine → Answer
+answer_behind None m = remaining_answer m
+answer_behind (Some k) m = if k.given then empty_answer else failed k.fault
 
 abbrev pub ahead : Option (Happening × Span) → Answer → Answer
 ahead None a = a
-ahead (Some e) a = before e a
+ahead (Some e) a = with_first_event e a
 
-abbrev pub to_come : Cursor → Answer
-to_come c = ahead c.current (behind c.kept c.machine)
+abbrev pub to_come : EventCursor → Answer
+to_come c = ahead c.current (answer_behind c.kept c.machine)
 
 -- how many items are left
 abbrev pub count : Answer → ℕ
@@ -77,10 +78,10 @@ Refuses fault.Receiver a = ⊥
 Refuses fault.InsideDocument a = ⊥
 
 -- What is handed out, and what remains; behind a fault nothing does.
-abbrev pub Hands : Option (Result (Event × Span) Fault) → Answer → Answer → Type 0
-Hands None old new = (old ≡ none) × (new ≡ none)
-Hands (Some (Ok e)) old new = old ≡ before (event_of e) new
-Hands (Some (Err f)) old new = Refuses f old × (new ≡ none)
+abbrev pub HandsOutNext : Option (Result (Event × Span) Fault) → Answer → Answer → Type 0
+HandsOutNext None old new = (old ≡ empty_answer) × (new ≡ empty_answer)
+HandsOutNext (Some (Ok e)) old new = old ≡ with_first_event (event_of e) new
+HandsOutNext (Some (Err f)) old new = Refuses f old × (new ≡ empty_answer)
 
 -- Nothing was handed out; where memory ran out, that is what remains.
 abbrev pub Stays : Answer → Answer → Type 0
@@ -88,8 +89,8 @@ Stays old new = (new ≡ old) ⊎ ((0 < count old) × (new ≡ failed OutOfMemor
 
 -- what remains where no event was read ahead and none can be
 abbrev pub kept_answer : Option Kept → Answer
-kept_answer None = none
-kept_answer (Some k) = if k.given then none else failed k.fault
+kept_answer None = empty_answer
+kept_answer (Some k) = if k.given then empty_answer else failed k.fault
 
 -- a fault was kept
 abbrev pub IsKept : Option Kept → Type 0
@@ -103,7 +104,7 @@ IsUntold None (Some k) = k.given ≡ false
 IsUntold (Some e) (Some k) = ⊥
 
 -- no event was handed out
-abbrev pub IsUnmoved : Cursor → Cursor → Type 0
+abbrev pub IsUnmoved : EventCursor → EventCursor → Type 0
 IsUnmoved old new = (new.inside ≡ old.inside) × (new.finished ≡ old.finished)
 
 -- ## What is remembered of events that were handed out
@@ -117,7 +118,7 @@ abbrev pub finished_behind : Happening → Span → Option Span → Option Span
 finished_behind events.StreamEnd span finished = Some span
 finished_behind _ span finished = finished
 
-abbrev pub remembered : Happening → Span → Cursor → Cursor
+abbrev pub remembered : Happening → Span → EventCursor → EventCursor
 remembered what span c =
     record c { inside = inside_behind what c.inside; finished = finished_behind what span c.finished }
 
@@ -127,7 +128,7 @@ IsGiven None kept = Unit {0}
 IsGiven (Some (Ok e)) kept = Unit {0}
 IsGiven (Some (Err f)) kept = kept ≡ Some (record { fault = ending_of_fault f; given = true })
 
-abbrev pub Remembers : Option (Result (Event × Span) Fault) → Cursor → Cursor → Type 0
+abbrev pub Remembers : Option (Result (Event × Span) Fault) → EventCursor → EventCursor → Type 0
 Remembers (Some (Ok e)) old new =
     (new.inside ≡ inside_behind (happening e.0) old.inside)
     × (new.finished ≡ finished_behind (happening e.0) e.1 old.finished)
@@ -135,6 +136,6 @@ Remembers _ old new = IsUnmoved old new
 
 -- what `peek` shows of what remains
 abbrev pub Shows : Option (Result (Bor (Event × Span)) (Bor Fault)) → Answer → Type 0
-Shows None a = a ≡ none
-Shows (Some (Ok e)) a = (others : Answer) × (a ≡ before (event_of e.now) others)
+Shows None a = a ≡ empty_answer
+Shows (Some (Ok e)) a = (others : Answer) × (a ≡ with_first_event (event_of e.now) others)
 Shows (Some (Err f)) a = a ≡ failed (ending_of_fault f.now)

@@ -4,8 +4,8 @@ use Rattle.saphyr_scalar.specs.declared.scalar.position.Span.{Span}
 use Rattle.saphyr_scanner.specs.Grammar.Tokens.{Kind}
 use Rattle.saphyr_scanner.specs.Views.Tokens.{Piece}
 use Rattle.saphyr_parser.specs.Events.{Happening}
-use Rattle.saphyr_parser.specs.Steps.Machine.{fresh}
-use Rattle.saphyr_parser.specs.Answer.{Answer, remaining}
+use Rattle.saphyr_parser.specs.Steps.Machine.{fresh_machine}
+use Rattle.saphyr_parser.specs.Answer.{Answer, remaining_answer}
 
 -- these events, whatever their spans, and no fault
 abbrev pub GivesExactly : List Happening → Answer → Type 0
@@ -22,4 +22,5 @@ kinds ts = map (λ (t : Piece). t.kind) ts
 
 -- the events of tokens that no refusal ends, `keep` telling whether prefixes of tags are kept for later documents
 abbrev pub told_by : Bool → List Piece → Answer
-told_by keep ts = remaining (record (fresh (record { pieces = ts; refusal = None })) { keep_tags = keep })
+told_by keep ts =
+    remaining_answer (record (fresh_machine (record { pieces = ts; refusal = None })) { keep_tags = keep })

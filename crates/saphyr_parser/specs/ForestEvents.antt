@@ -9,18 +9,20 @@ use Rattle.saphyr_parser.specs.TagResolution.{resolve_any}
 -- The event of a part, behind the parts before it, the latest first. There is none for an alias without an anchor of
 -- its
 -- name, nor for a tag whose handle is not declared.
-abbrev pub event_of : Bool → List Part → Part → Option Happening
-event_of keep front OpenStream = Some StreamStart
-event_of keep front CloseStream = Some StreamEnd
-event_of keep front (OpenDocument explicit directives) = Some (DocumentStart explicit)
-event_of keep front CloseDocument = Some DocumentEnd
-event_of keep front (Reference name) = option_map Alias (latest (encode_utf8_all name) front)
-event_of keep front (Leaf p style value) =
+abbrev pub event_of_part : Bool → List Part → Part → Option Happening
+event_of_part keep front OpenStream = Some StreamStart
+event_of_part keep front CloseStream = Some StreamEnd
+event_of_part keep front (OpenDocument explicit directives) = Some (DocumentStart explicit)
+event_of_part keep front CloseDocument = Some DocumentEnd
+event_of_part keep front (Reference name) = option_map Alias (latest (encode_utf8_all name) front)
+event_of_part keep front (Leaf p style value) =
     option_map (Scalar (encode_utf8_all value) style (own_id front p.anchor)) (resolve_any keep p.tag front)
-event_of keep front (OpenSequence p) = option_map (SequenceStart (own_id front p.anchor)) (resolve_any keep p.tag front)
-event_of keep front CloseSequence = Some SequenceEnd
-event_of keep front (OpenMapping p) = option_map (MappingStart (own_id front p.anchor)) (resolve_any keep p.tag front)
-event_of keep front CloseMapping = Some MappingEnd
+event_of_part keep front (OpenSequence p) =
+    option_map (SequenceStart (own_id front p.anchor)) (resolve_any keep p.tag front)
+event_of_part keep front CloseSequence = Some SequenceEnd
+event_of_part keep front (OpenMapping p) =
+    option_map (MappingStart (own_id front p.anchor)) (resolve_any keep p.tag front)
+event_of_part keep front CloseMapping = Some MappingEnd
 
 abbrev pub before_all : Option Happening → Option (List Happening) → Option (List Happening)
 before_all (Some event) (Some others) = Some (event ∷ others)
@@ -30,7 +32,7 @@ before_all _ _ = None
 abbrev pub events_behind : Bool → List Part → List Part → Option (List Happening)
 events_behind keep front [] = Some []
 events_behind keep front (part ∷ others) =
-    before_all (event_of keep front part) (events_behind keep (part ∷ front) others)
+    before_all (event_of_part keep front part) (events_behind keep (part ∷ front) others)
 
 -- The events of a forest, `keep` telling whether prefixes of tags are kept for later documents. There are none where an
 -- alias or a handle stands for nothing.

@@ -8,14 +8,14 @@ use Rattle.saphyr_parser.specs.declared.parser.receiver.Refused.{Refused}
 use Rattle.saphyr_parser.specs.Events as events
 use Rattle.saphyr_parser.specs.Events.{Happening}
 use Rattle.saphyr_parser.specs.Answer as answer
-use Rattle.saphyr_parser.specs.Answer.{Ending, before}
-use Rattle.saphyr_parser.specs.Cursor.{Cursor, Kept, IsKept, count, event_of, finished_behind, inside_behind, to_come}
+use Rattle.saphyr_parser.specs.Answer.{Ending, with_first_event}
+use Rattle.saphyr_parser.specs.Cursor.{EventCursor, Kept, IsKept, count, event_of, finished_behind, inside_behind, to_come}
 use Rattle.saphyr_parser.specs.Calls.{Advances, AdvancesOver, Looks}
 
 -- ## Which events one call hands over
 
 -- the events that one call hands over, and the fault that it meets behind them, if it meets one
-pub record Part : Type 0 where
+pub record Portion : Type 0 where
   pub sent : List (Happening × Span)
   pub fault : Option Ending
 
@@ -24,18 +24,18 @@ abbrev pub is_last : Bool → Happening → Bool
 is_last false events.DocumentEnd = true
 is_last multi _ = false
 
-abbrev pub with_event : Happening × Span → Part → Part
+abbrev pub with_event : Happening × Span → Portion → Portion
 with_event e p = record { sent = e ∷ p.sent; fault = p.fault }
 
 -- of the events still to come, and the fault behind them
-abbrev pub part : Bool → List (Happening × Span) → Option Ending → Part
-part multi [] fault = record { sent = []; fault = fault }
-part multi (e ∷ es) fault =
-    if is_last multi e.0 then (record { sent = e ∷ []; fault = None }) else with_event e (part multi es fault)
+abbrev pub portion : Bool → List (Happening × Span) → Option Ending → Portion
+portion multi [] fault = record { sent = []; fault = fault }
+portion multi (e ∷ es) fault =
+    if is_last multi e.0 then (record { sent = e ∷ []; fault = None }) else with_event e (portion multi es fault)
 
 -- what one call hands over where it begins between documents
-abbrev pub to_send : Bool → Cursor → Part
-to_send multi c = part multi (to_come c).events (to_come c).fault
+abbrev pub to_send : Bool → EventCursor → Portion
+to_send multi c = portion multi (to_come c).events (to_come c).fault
 
 -- ## Where the parser stands behind events
 
@@ -48,22 +48,22 @@ finished_over [] finished = finished
 finished_over (e ∷ es) finished = finished_over es (finished_behind e.0 e.1 finished)
 
 -- what is remembered of these events
-pub record Remembered (old : Cursor) (passed : List (Happening × Span)) (new : Cursor) : Type 0 where
+pub record Remembered (old : EventCursor) (passed : List (Happening × Span)) (new : EventCursor) : Type 0 where
   pub inside : new.inside ≡ inside_over passed old.inside
   pub finished : new.finished ≡ finished_over passed old.finished
 
 -- these events were passed, and all others are still to come
-pub record PassedOver (old : Cursor) (passed : List (Happening × Span)) (new : Cursor) : Type 0 where
+pub record PassedOver (old : EventCursor) (passed : List (Happening × Span)) (new : EventCursor) : Type 0 where
   pub events : (to_come old).events ≡ passed ++ (to_come new).events
   pub fault : (to_come old).fault ≡ (to_come new).fault
   pub remembered : Remembered old passed new
 
 -- behind these events a fault was met in reading ahead
-abbrev pub MeetsBehind : List (Happening × Span) → Cursor → Cursor → Type 0
-MeetsBehind es old new = (middle : Cursor) × AdvancesOver es old middle × Looks middle new
+abbrev pub MeetsBehind : List (Happening × Span) → EventCursor → EventCursor → Type 0
+MeetsBehind es old new = (middle : EventCursor) × AdvancesOver es old middle × Looks middle new
 
 -- nothing but this fault is still to come, which is kept and wasn't given yet
-pub record Keeps (fault : Ending) (c : Cursor) : Type 0 where
+pub record Keeps (fault : Ending) (c : EventCursor) : Type 0 where
   pub current : c.current ≡ None
   pub kept : c.kept ≡ Some (record { fault = fault; given = false })
 
@@ -85,7 +85,7 @@ module _ {R : Type 0} (receives : R → Happening × Span → Result (Unit {0}) 
   Sends r (e ∷ es) s = (q : R) × receives r e (Ok tt) q × Sends q es s
 
   -- the receiver refused one of the events, behind which the parser stands
-  pub record Stopped (p : Part) (old : Cursor) (first last : R) (new : Cursor) : Type 0 where
+  pub record Stopped (p : Portion) (old : EventCursor) (first last : R) (new : EventCursor) : Type 0 where
     pub sent : List (Happening × Span)
     pub event : Happening × Span
     pub unsent : List (Happening × Span)
@@ -100,7 +100,7 @@ module _ {R : Type 0} (receives : R → Happening × Span → Result (Unit {0}) 
   -- Memory ran out: in reading, before something that was still to be sent or told, which is kept as a fault of its
   -- own;
   -- or while the fault behind all events was copied.
-  pub record Lost (p : Part) (old : Cursor) (first last : R) (new : Cursor) : Type 0 where
+  pub record Lost (p : Portion) (old : EventCursor) (first last : R) (new : EventCursor) : Type 0 where
     pub sent : List (Happening × Span)
     pub unsent : List (Happening × Span)
     pub fault : Ending
@@ -112,16 +112,17 @@ module _ {R : Type 0} (receives : R → Happening × Span → Result (Unit {0}) 
     pub leaves : MeetsBehind sent old new
     pub keeps : Keeps fault new
 
-  -- all events of the part were sent, and no fault was met
-  pub record Finished (p : Part) (old : Cursor) (first last : R) (new : Cursor) : Type 0 where
+  -- all events of the portion were sent, and no fault was met
+  pub record Finished (p : Portion) (old : EventCursor) (first last : R) (new : EventCursor) : Type 0 where
     pub fault : p.fault ≡ None
     pub sends : Sends first p.sent last
     pub passed : PassedOver old p.sent new
     pub leaves : AdvancesOver p.sent old new
     pub kept : new.kept ≡ None
 
-  -- all events of the part were sent, and then this fault was met
-  pub record Faulted (fault : Ending) (p : Part) (old : Cursor) (first last : R) (new : Cursor) : Type 0 where
+  -- all events of the portion were sent, and then this fault was met
+  pub record Faulted (fault : Ending) (p : Portion) (old : EventCursor) (first last : R)
+      (new : EventCursor) : Type 0 where
     pub met : p.fault ≡ Some fault
     pub sends : Sends first p.sent last
     pub passed : PassedOver old p.sent new
@@ -129,7 +130,7 @@ module _ {R : Type 0} (receives : R → Happening × Span → Result (Unit {0}) 
     pub keeps : Keeps fault new
 
   -- a call that begins between documents
-  abbrev pub Loads : Result (Unit {0}) Fault → Part → Cursor → R → R → Cursor → Type 0
+  abbrev pub Loads : Result (Unit {0}) Fault → Portion → EventCursor → R → R → EventCursor → Type 0
   Loads (Ok u) p old first last new = Finished p old first last new
   Loads (Err (faults.Scan e)) p old first last new =
       Faulted (answer.Refused e.mark (string_bytes e.info)) p old first last new
@@ -148,6 +149,6 @@ module _ {R : Type 0} (receives : R → Happening × Span → Result (Unit {0}) 
 -- ## One event
 
 -- the next event was passed, or there is none
-abbrev pub Passes : Option (Event × Span) → Cursor → Cursor → Type 0
+abbrev pub Passes : Option (Event × Span) → EventCursor → EventCursor → Type 0
 Passes (Some e) old new = Advances (event_of e) old new × (new.kept ≡ None)
 Passes None old new = Looks old new × (new.current ≡ None)

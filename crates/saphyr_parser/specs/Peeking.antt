@@ -8,10 +8,10 @@ use Rattle.saphyr_input.specs.declared.input.Input.{Ghosts}
 use Rattle.saphyr_parser.specs.declared.parser.event.Event.{Event}
 use Rattle.saphyr_parser.specs.declared.parser.fault.Fault.{Fault}
 use Rattle.saphyr_parser.specs.contracts.parser.cursor.Parser.{the_row}
-use Rattle.saphyr_parser.specs.Cursor.{Cursor}
+use Rattle.saphyr_parser.specs.Cursor.{EventCursor}
 use Rattle.saphyr_parser.specs.Calls.{Peeks}
 
 -- The parser lends what comes next, and is then as `Peeks` says. S is its input's type.
-abbrev pub LendsNext : (S : RattleType) (g : Ghosts S.Denot) → MutBor Cursor
+abbrev pub LendsNext : (S : RattleType) (g : Ghosts S.Denot) → MutBor EventCursor
     → Option (Result (Bor (Event × Span)) (Bor Fault)) → Fml
 LendsNext S g parser shown = Rests (the_row (record { mir = named 1; lft = [] }) S g) parser (Peeks parser.now shown)

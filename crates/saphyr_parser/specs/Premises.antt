@@ -8,7 +8,7 @@ use Rattle.saphyr_parser.specs.Events.{Happening, StreamEnd, DocumentStart, Docu
 use Rattle.saphyr_parser.specs.Steps.Machine.{empty_scalar}
 use Rattle.saphyr_parser.specs.ForestEvents.{events}
 use Rattle.saphyr_parser.specs.Answer.{Answer}
-use Rattle.saphyr_parser.specs.Cursor.{Cursor, keeping_tags, to_come}
+use Rattle.saphyr_parser.specs.Cursor.{EventCursor, keeping_tags, to_come}
 use Rattle.saphyr_parser.specs.Exactly.{GivesExactly}
 
 -- A relation of forests and texts, such as a grammar. How many flow collections may be open at once is a part of it.
@@ -28,7 +28,7 @@ pub record IsPromised (G : Grammar) (limit : ℕ) (keep : Bool) (forest : Forest
   pub has_events : events forest keep ≡ Some told
 
 -- each text of the grammar gives exactly its forest's events, and no fault
-abbrev pub ReadsEach : Grammar → ℕ → List ℕ → Cursor → Type 0
+abbrev pub ReadsEach : Grammar → ℕ → List ℕ → EventCursor → Type 0
 ReadsEach G limit text parser =
     (forest : Forest) (keep : Bool) (told : List Happening) → IsPromised G limit keep forest text told
     → GivesExactly told (to_come (keeping_tags keep parser))
@@ -81,7 +81,7 @@ abbrev pub GivesFirst : List Happening → Answer → Type 0
 GivesFirst es a = (others : List Happening) × (map (λ (e : Happening × Span). e.0) a.events ≡ es ++ others)
 
 -- whatever follows a closed beginning, its events come first
-abbrev pub ReadsClosed : Grammar → (List ℕ → Type 0) → ℕ → List ℕ → Cursor → Type 0
+abbrev pub ReadsClosed : Grammar → (List ℕ → Type 0) → ℕ → List ℕ → EventCursor → Type 0
 ReadsClosed G IsTail limit text parser =
     (keep : Bool) (first : List Happening) → IsClosed G IsTail limit keep text first
     → GivesFirst first (to_come (keeping_tags keep parser))

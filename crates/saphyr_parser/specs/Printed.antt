@@ -6,15 +6,15 @@ use Rattle.saphyr_scanner.specs.Grammar.Forest.{Style, Plain, SingleQuoted, Doub
 use Rattle.saphyr_parser.specs.Events.{ResolvedTag, Happening, Nothing, StreamStart, StreamEnd, DocumentStart, DocumentEnd, Alias, Scalar, SequenceStart, SequenceEnd, MappingStart, MappingEnd}
 
 -- A byte of a scalar's text: a backslash, LF, CR, a backspace and a tab are escaped, and all else stands as it is.
-abbrev pub escape : ℕ → List ℕ
-escape byte = if byte == 92 then codes "\\\\" else
+abbrev pub printed_byte : ℕ → List ℕ
+printed_byte byte = if byte == 92 then codes "\\\\" else
     (if byte == 10 then codes "\\n" else
     (if byte == 13 then codes "\\r" else
     (if byte == 8 then codes "\\b" else (if byte == 9 then codes "\\t" else byte ∷ []))))
 
-abbrev pub escaped : List ℕ → List ℕ
-escaped [] = []
-escaped (byte ∷ bytes) = escape byte ++ escaped bytes
+abbrev pub printed_bytes : List ℕ → List ℕ
+printed_bytes [] = []
+printed_bytes (byte ∷ bytes) = printed_byte byte ++ printed_bytes bytes
 
 -- the id of an anchor, where there is one
 abbrev pub anchor_text : ℕ → List ℕ
@@ -29,28 +29,28 @@ abbrev pub node_text : List ℕ → ℕ → Option ResolvedTag → List ℕ
 node_text name id tag = name ++ (anchor_text id ++ tag_text tag)
 
 -- the mark of a style
-abbrev pub mark : Style → List ℕ
-mark Plain = codes ":"
-mark SingleQuoted = codes "'"
-mark DoubleQuoted = codes "\""
-mark Literal = codes "|"
-mark Folded = codes ">"
+abbrev pub style_mark : Style → List ℕ
+style_mark Plain = codes ":"
+style_mark SingleQuoted = codes "'"
+style_mark DoubleQuoted = codes "\""
+style_mark Literal = codes "|"
+style_mark Folded = codes ">"
 
 -- No text has `Nothing` among its events, which has no line.
-abbrev pub line : Happening → List ℕ
-line Nothing = []
-line StreamStart = codes "+STR\n"
-line StreamEnd = codes "-STR\n"
-line (DocumentStart explicit) = codes "+DOC\n"
-line DocumentEnd = codes "-DOC\n"
-line (Alias id) = codes "=ALI *" ++ (decimal id ++ codes "\n")
-line (Scalar text style id tag) =
-    node_text (codes "=VAL") id tag ++ ((codes " " ++ mark style) ++ (escaped text ++ codes "\n"))
-line (SequenceStart id tag) = node_text (codes "+SEQ") id tag ++ codes "\n"
-line SequenceEnd = codes "-SEQ\n"
-line (MappingStart id tag) = node_text (codes "+MAP") id tag ++ codes "\n"
-line MappingEnd = codes "-MAP\n"
+abbrev pub printed_line : Happening → List ℕ
+printed_line Nothing = []
+printed_line StreamStart = codes "+STR\n"
+printed_line StreamEnd = codes "-STR\n"
+printed_line (DocumentStart explicit) = codes "+DOC\n"
+printed_line DocumentEnd = codes "-DOC\n"
+printed_line (Alias id) = codes "=ALI *" ++ (decimal id ++ codes "\n")
+printed_line (Scalar text style id tag) =
+    node_text (codes "=VAL") id tag ++ ((codes " " ++ style_mark style) ++ (printed_bytes text ++ codes "\n"))
+printed_line (SequenceStart id tag) = node_text (codes "+SEQ") id tag ++ codes "\n"
+printed_line SequenceEnd = codes "-SEQ\n"
+printed_line (MappingStart id tag) = node_text (codes "+MAP") id tag ++ codes "\n"
+printed_line MappingEnd = codes "-MAP\n"
 
-abbrev pub lines : List (Happening × Span) → List ℕ
-lines [] = []
-lines (e ∷ es) = line e.0 ++ lines es
+abbrev pub printed_lines : List (Happening × Span) → List ℕ
+printed_lines [] = []
+printed_lines (e ∷ es) = printed_line e.0 ++ printed_lines es

@@ -5,12 +5,12 @@ use Rattle.saphyr_scalar.specs.Spelling.Spaces.{IsLineRest}
 use Rattle.saphyr_scanner.specs.Grammar.Forest.{Forest, open_in_forest}
 use Rattle.saphyr_scanner.specs.Grammar.Json.{IsJson}
 use Rattle.saphyr_scanner.specs.Grammar.Layout.{most_open, IsLayoutText}
-use Rattle.saphyr_parser.specs.Cursor.{Cursor, keeping_tags, to_come}
+use Rattle.saphyr_parser.specs.Cursor.{EventCursor, keeping_tags, to_come}
 use Rattle.saphyr_parser.specs.EventsTaken.{AreTaken}
 use Rattle.saphyr_parser.specs.Premises.{ReadsEach, ReadsClosed}
 
 -- of every text: what comes is taken from it, whether prefixes of tags are kept or not
-abbrev pub TakesEvents : List ℕ → Cursor → Type 0
+abbrev pub TakesEvents : List ℕ → EventCursor → Type 0
 TakesEvents text parser = (keep : Bool) → AreTaken keep text (to_come (keeping_tags keep parser))
 
 -- a text of JSON with at most so many collections open at once, all of which are in flow style
@@ -18,14 +18,14 @@ abbrev pub IsShallowJson : ℕ → Forest → List ℕ → Type 0
 IsShallowJson room forest text = IsJson forest text × (open_in_forest forest ≤ room)
 
 -- each text of JSON (RFC 8259) gives exactly its forest's events
-abbrev pub ReadsJson : ℕ → List ℕ → Cursor → Type 0
+abbrev pub ReadsJson : ℕ → List ℕ → EventCursor → Type 0
 ReadsJson limit text parser = ReadsEach (IsShallowJson most_open) limit text parser
 
 -- each text of the layout grammar gives exactly its forest's events
-abbrev pub ReadsLayout : ℕ → List ℕ → Cursor → Type 0
+abbrev pub ReadsLayout : ℕ → List ℕ → EventCursor → Type 0
 ReadsLayout limit text parser = ReadsEach (IsLayoutText most_open) limit text parser
 
 -- Behind a beginning that a line of `---` or `...` closes, anything may follow. Behind the marker its line has blanks,
 -- and behind some blanks a comment.
-abbrev pub ReadsClosedLayout : ℕ → List ℕ → Cursor → Type 0
+abbrev pub ReadsClosedLayout : ℕ → List ℕ → EventCursor → Type 0
 ReadsClosedLayout limit text parser = ReadsClosed (IsLayoutText most_open) IsLineRest limit text parser

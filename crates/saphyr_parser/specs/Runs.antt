@@ -14,7 +14,7 @@ use Rattle.saphyr_parser.specs.declared.printing.run.RunFault.{RunFault}
 use Rattle.saphyr_parser.specs.declared.printing.run.RunFault.TheVariants as run
 use Rattle.saphyr_parser.specs.Answer.{Answer, Refused}
 use Rattle.saphyr_parser.specs.Cursor.{at_start, to_come, count}
-use Rattle.saphyr_parser.specs.Printed.{lines}
+use Rattle.saphyr_parser.specs.Printed.{printed_lines}
 use Rattle.saphyr_parser.specs.Dumps.{Prints, Dumps}
 
 -- the events of a text in UTF-8, and the fault that may end them
@@ -30,13 +30,13 @@ pub record TakesBeginning (old new : Option (List ℕ)) (bytes : List ℕ) : Typ
 
 -- What a run does with a text that it has read, and what the writer holds before and behind.
 abbrev pub PrintsText : Result (Unit {0}) RunFault → Answer → Option (List ℕ) → Option (List ℕ) → Type 0
-PrintsText (Ok u) a old new = (a.fault ≡ None) × Appends old new (lines a.events)
+PrintsText (Ok u) a old new = (a.fault ≡ None) × Appends old new (printed_lines a.events)
 PrintsText (Err (run.Parse (fault.Scan e))) a old new =
-    (a.fault ≡ Some (Refused e.mark (string_bytes e.info))) × Appends old new (lines a.events)
+    (a.fault ≡ Some (Refused e.mark (string_bytes e.info))) × Appends old new (printed_lines a.events)
 PrintsText (Err (run.Parse fault.OutOfMemory)) a old new = (lost : Answer) × Prints a lost old new × (0 < count lost)
 PrintsText (Err (run.Parse fault.Receiver)) a old new = ⊥
 PrintsText (Err (run.Parse fault.InsideDocument)) a old new = ⊥
-PrintsText (Err run.CantWrite) a old new = TakesBeginning old new (lines a.events)
+PrintsText (Err run.CantWrite) a old new = TakesBeginning old new (printed_lines a.events)
 PrintsText (Err run.CantRead) a old new = ⊥
 PrintsText (Err run.NotUtf8) a old new = ⊥
 

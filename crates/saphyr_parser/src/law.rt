@@ -13,12 +13,12 @@ ghost use Rattle.saphyr_input.specs.Breaks.{normalized};
 ghost use Rattle.saphyr_scanner.specs.Steps.Remaining.{scan};
 ghost use Rattle.saphyr_scanner.specs.Views.Tokens.{Piece, Remaining};
 ghost use Rattle.saphyr_scanner.specs.SpansInOrder.{AreInOrder};
-ghost use Rattle.saphyr_parser.specs.Cursor.{Cursor, at_start, keeping_tags, to_come};
+ghost use Rattle.saphyr_parser.specs.Cursor.{EventCursor, at_start, keeping_tags, to_come};
 ghost use Rattle.saphyr_parser.specs.Loading.{to_send};
 ghost use Rattle.saphyr_scanner.specs.Grammar.TokenGrammar.{Yields};
 ghost use Rattle.saphyr_scanner.specs.Grammar.Tokens.{Kind};
 ghost use Rattle.saphyr_scanner.specs.Grammar.Tokens as tokens;
-ghost use Rattle.saphyr_scanner.specs.Examples.TakenTexts.{at, from_to};
+ghost use Rattle.saphyr_scanner.specs.Examples.TakenTexts.{marker_at, piece_from_to};
 ghost use Rattle.saphyr_parser.specs.Exactly.{GivesExactly, TellTheSame, kinds, told_by};
 ghost use Rattle.saphyr_parser.specs.Events.{Alias, DocumentEnd, Happening};
 ghost use Rattle.saphyr_parser.specs.EventsTaken.{AreTaken, HasPlaceIn, IsOf};
@@ -34,9 +34,9 @@ ghost use Rattle.saphyr_scanner.specs.Ends.{EndsWithStream};
 ghost use Rattle.saphyr_scalar.specs.declared.scalar.fault.Refusal.{Refusal};
 ghost use Rattle.saphyr_scanner.specs.TokensTaken.{AreTakenFrom, IsPlaceOf};
 ghost use Rattle.saphyr_parser.specs.WellFormed.{AreWellFormed};
-ghost use Rattle.saphyr_parser.specs.Steps.Machine.{Machine, Told, ending};
-ghost use Rattle.saphyr_parser.specs.Steps.Expected.{step};
-ghost use Rattle.saphyr_parser.specs.Answer.{before, remaining};
+ghost use Rattle.saphyr_parser.specs.Steps.Machine.{Machine, Told, ending_refusal};
+ghost use Rattle.saphyr_parser.specs.Steps.Expected.{event_step};
+ghost use Rattle.saphyr_parser.specs.Answer.{with_first_event, remaining_answer};
 ghost use Rattle.saphyr_parser.specs.Calls.{Advances};
 ghost use Rattle.saphyr_parser.specs.Steps.Settings.{set_to, with_setting};
 ghost use Rattle.saphyr_parser.specs.declared.parser.state.State.TheVariants.{DocumentEnd as AtDocumentEnd};
@@ -129,7 +129,7 @@ pub fn keeps_spans_in()
 /// With `multi`, `load` hands over all events that are still to come, as iteration gives them, and meets
 /// the fault behind them.
 pub fn loads_all_events()
-    ensures { (parser : Cursor) → to_send true parser
+    ensures { (parser : EventCursor) → to_send true parser
         ≡ record { sent = (to_come parser).events; fault = (to_come parser).fault } }
 {}
 
@@ -138,14 +138,14 @@ pub fn loads_all_events()
 pub fn takes_events()
     ensures nothing { AreTaken false [] examples.no_documents }
     ensures alias { AreTaken false (codes "- &a b\n- *a") examples.block_alias_answer }
-    ensures promised { (text : List ℕ) (parser : Cursor) → TakesEvents text parser
+    ensures promised { (text : List ℕ) (parser : EventCursor) → TakesEvents text parser
         → AreTaken false text (to_come (keeping_tags false parser)) }
 {}
 
 /// An alias has no other span than its token.
 pub fn takes_no_other_span()
-    ensures { ¬ IsOf (Alias 1) (examples.from_to (at 9 2 2) (at 10 2 3))
-        (from_to (at 9 2 2) (at 11 2 4) (tokens.Alias (codes "a")) ∷ []) [] }
+    ensures { ¬ IsOf (Alias 1) (examples.span_between (marker_at 9 2 2) (marker_at 10 2 3))
+        (piece_from_to (marker_at 9 2 2) (marker_at 11 2 4) (tokens.Alias (codes "a")) ∷ []) [] }
 {}
 
 /// A text has one meaning: all forests that stand for it have the same events, where they have any. So it is
@@ -168,7 +168,7 @@ pub fn has_one_meaning()
 /// Behind the line `---` anything may follow: the start of its document is given. Where nothing follows, that
 /// is a part of what the text's events tell.
 pub fn closes_at_markers()
-    ensures alone { (parser : Cursor) → ReadsEach examples.IsStart 100 (codes "---\n") parser
+    ensures alone { (parser : EventCursor) → ReadsEach examples.IsStart 100 (codes "---\n") parser
         → ReadsClosed examples.IsStart examples.IsNothing 100 (codes "---\n") parser }
     ensures followed { IsClosed examples.IsStart examples.IsNothing 100 false (codes "---\n[")
         examples.start_events }
@@ -184,9 +184,9 @@ pub fn closes_layout()
         (codes "\u{feff}---\n[") examples.start_events }
     ensures behind { (keep : Bool) → IsClosed (IsLayoutText most_open) IsLineRest 100 keep
         (codes "---\n...\n\u{feff}---\n[") examples.two_starts_events }
-    ensures alone { (parser : Cursor) (keep : Bool) → ReadsLayout 100 (codes "---\n") parser
+    ensures alone { (parser : EventCursor) (keep : Bool) → ReadsLayout 100 (codes "---\n") parser
         → GivesExactly examples.start_told (to_come (keeping_tags keep parser)) }
-    ensures followed { (parser : Cursor) (keep : Bool)
+    ensures followed { (parser : EventCursor) (keep : Bool)
         → ReadsClosedLayout 100 (codes "---\n[") parser
         → GivesFirst examples.start_events (to_come (keeping_tags keep parser)) }
 {}
@@ -222,12 +222,13 @@ pub fn takes_all_events()
 /// them, and where another fault than the end of the tokens ends them, or none, they are all.
 pub fn begins_alike()
     ensures step { (m : Machine) (more : List Piece) (refusal : Option Refusal) (x : Told)
-        → step m ≡ Ok x → step (with_more more refusal m)
+        → event_step m ≡ Ok x → event_step (with_more more refusal m)
         ≡ Ok (record x { machine = with_more more refusal x.machine }) }
     ensures machine { (m : Machine) (more : List Piece) (refusal : Option Refusal)
-        → BeginsAs (ending m.tokens.refusal) (remaining m) (remaining (with_more more refusal m)) }
+        → BeginsAs (ending_refusal m.tokens.refusal) (remaining_answer m)
+        (remaining_answer (with_more more refusal m)) }
     ensures parser { (tokens : Remaining) (more : List Piece) (refusal : Option Refusal)
-        (keep : Bool) → BeginsAs (ending tokens.refusal)
+        (keep : Bool) → BeginsAs (ending_refusal tokens.refusal)
         (to_come (keeping_tags keep (at_start tokens)))
         (to_come (keeping_tags keep
         (at_start (record { pieces = tokens.pieces ++ more; refusal = refusal })))) }
@@ -270,10 +271,10 @@ pub fn closes_tokens()
 /// is, and what comes behind that event is the same whether it was set before the event or behind it.
 pub fn sets_at_document_ends()
     ensures step { (m : Machine) (keep : Bool) → m.state ≢ AtDocumentEnd
-        → step (set_to keep m) ≡ with_setting keep (step m) }
-    ensures event { (e : Happening × Span) (old new : Cursor) (keep : Bool) → e.0 ≢ DocumentEnd
+        → event_step (set_to keep m) ≡ with_setting keep (event_step m) }
+    ensures event { (e : Happening × Span) (old new : EventCursor) (keep : Bool) → e.0 ≢ DocumentEnd
         → Advances e old new → Advances e (keeping_tags keep old) (keeping_tags keep new) }
-    ensures list { (e : Happening × Span) (old new : Cursor) (keep : Bool) → e.0 ≢ DocumentEnd
+    ensures list { (e : Happening × Span) (old new : EventCursor) (keep : Bool) → e.0 ≢ DocumentEnd
         → Advances e old new → to_come (keeping_tags keep old)
-        ≡ before e (to_come (keeping_tags keep new)) }
+        ≡ with_first_event e (to_come (keeping_tags keep new)) }
 {}

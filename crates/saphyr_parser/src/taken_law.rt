@@ -22,8 +22,8 @@ pub fn begins_values_with_ink()
 {}
 
 /// What is not taken: `- a` with the value ` a`, and `a:` LF ` b` with the value ` b`; a block scalar
-/// that goes on over a document marker, or over a NUL, and a quoted one over a document marker; all events with a fault behind the end of the
-/// stream, and none without one.
+/// that goes on over a document marker, or over a NUL, and a quoted one over a document marker; all
+/// events with a fault behind the end of the stream, and none without one.
 pub fn takes_no_wrong_answers()
     ensures blank_first { (keep : Bool) → ¬ AreTaken keep (codes "- a") wrong.blank_first }
     ensures break_first { (keep : Bool) → ¬ AreTaken keep (codes "a:\n b") wrong.break_first }

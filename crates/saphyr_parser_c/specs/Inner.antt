@@ -6,8 +6,8 @@ use Rattle.saphyr_scalar.specs.declared.scalar.position.Span.{Span}
 use Rattle.saphyr_parser.specs.declared.parser.event.Event.{Event}
 use Rattle.saphyr_parser.specs.declared.parser.fault.Fault.{Fault}
 use Rattle.saphyr_scanner.specs.Steps.Remaining.{scan}
-use Rattle.saphyr_parser.specs.Calls.{EndsTheStream, Gives, Peeks}
-use Rattle.saphyr_parser.specs.Cursor.{Cursor, Hands, at_start, keeping_tags, to_come}
+use Rattle.saphyr_parser.specs.Calls.{EndsTheStream, GivesNext, Peeks}
+use Rattle.saphyr_parser.specs.Cursor.{EventCursor, HandsOutNext, at_start, keeping_tags, to_come}
 use Rattle.saphyr_parser.specs.Promises.{ReadsClosedLayout, ReadsJson, ReadsLayout, TakesEvents}
 use Rattle.saphyr_parser.specs.SpansWithin.{HasSpansIn}
 use Rattle.saphyr_parser_c.specs.declared.inner.Inner.{Inner}
@@ -17,7 +17,7 @@ use Rattle.saphyr_parser_c.specs.declared.status.Status.TheVariants as status
 use Rattle.saphyr_parser_c.specs.Shown.{TellsC, TellsLent}
 
 -- What a parser at the start of a text promises: those of `Parser::new_from_str`.
-pub record Promises (text : List ℕ) (parser : Cursor) : Type 0 where
+pub record Promises (text : List ℕ) (parser : EventCursor) : Type 0 where
   pub decided : parser ≡ at_start (scan 4294967295 text)
   pub json : ReadsJson 4294967295 text parser
   pub layout : ReadsLayout 4294967295 text parser
@@ -28,7 +28,7 @@ pub record Promises (text : List ℕ) (parser : Cursor) : Type 0 where
 -- a parser at the start of a text in UTF-8, which keeps the prefixes of tags or not, and no event yet
 pub record IsOverText (text : List ℕ) (keep : Bool) (inner : Inner) : Type 0 where
   pub utf8 : IsUtf8 text
-  pub fresh : Cursor
+  pub fresh : EventCursor
   pub promises : Promises (chars text) fresh
   pub parser : inner.parser ≡ keeping_tags keep fresh
   pub event : inner.event ≡ None
@@ -41,8 +41,8 @@ RefusesText text _ = ⊥
 
 -- What is handed out is the head of the events to come, and is told; it is kept until the next call.
 pub record HandsToC (old : Inner) (s : Status) (c : CEvent) (new : Inner) : Type 0 where
-  pub hands : Hands new.event (to_come old.parser) (to_come new.parser)
-  pub gives : Gives new.event old.parser new.parser
+  pub hands : HandsOutNext new.event (to_come old.parser) (to_come new.parser)
+  pub gives : GivesNext new.event old.parser new.parser
   pub over : EndsTheStream new.parser
   pub tells : TellsC new.event s c
 

@@ -12,7 +12,6 @@ pub mod Texts
 pub mod Turns
 pub mod Values
 pub mod Wholes
-pub mod Kept
 pub mod Counted
 pub mod PlacedHeaders
 pub mod Placed

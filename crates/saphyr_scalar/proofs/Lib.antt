@@ -13,7 +13,6 @@ pub mod Refusals
 pub mod NoBreaks
 pub mod RefusedOnWay
 pub mod Plain
-pub mod Lines
 pub mod Moving
 pub mod Passings
 pub mod Places

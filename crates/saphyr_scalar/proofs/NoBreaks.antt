@@ -5,10 +5,10 @@ use Rattle.std.proofs.lemmas.Bool.Decides.{nat_tests}
 use Rattle.saphyr_input.specs.Classes.{is_break, is_blank, is_digit, is_alpha, is_tag_char, is_uri_char, is_yaml_non_break, is_yaml_non_space, IsHex}
 use Rattle.saphyr_scalar.specs.declared.scalar.position.Marker.{Marker}
 use Rattle.saphyr_scalar.specs.Views.Cursor.{along}
-use Rattle.saphyr_scalar.specs.declared.reading.flow.Quote.{Quote}
-use Rattle.saphyr_scalar.specs.declared.reading.flow.Quote.TheVariants.{Single, Double}
-use Rattle.saphyr_scalar.specs.Reading.Flow as flow
-use Rattle.saphyr_scalar.specs.Steps.Directive.{Directive, version, tag_prefix, reserved}
+use Rattle.scalar_values.specs.declared.flow.Quote.{Quote}
+use Rattle.scalar_values.specs.declared.flow.Quote.TheVariants.{Single, Double}
+use Rattle.scalar_values.specs.Flow as flow
+use Rattle.saphyr_scalar.specs.Steps.Directive.{ReadDirective, version, tag_prefix, reserved}
 use Rattle.saphyr_scalar.specs.Spelling.Directive.{IsReadDirective}
 use Rattle.saphyr_scalar.specs.Passing.{IsPassed, nothing, character}
 use Rattle.saphyr_scalar.specs.Spelling.Tag.{AreIn, IsByteEscape, AreByteEscapes, IsCharacter, IsDecoded, IsHandleText, IsPrefix}
@@ -87,7 +87,7 @@ prefix_no_break (c ∷ value) t (first, more, is, others, text) =
 
 -- ## Directives
 
-pub directive_no_break : (d : Directive) (t : List ℕ) → IsReadDirective d t → NoBreaks t
+pub directive_no_break : (d : ReadDirective) (t : List ℕ) → IsReadDirective d t → NoBreaks t
 directive_no_break (version major minor) t (gap, high, low, blanks, first, second, text) =
     let numbers : NoBreaks (high ++ (46 ∷ low)) = no_breaks_both high (46 ∷ low)
     (no_breaks_in is_digit refl refl high first.2) (refl, no_breaks_in is_digit refl refl low second.2) in

@@ -1,27 +1,22 @@
 -- Quoted scalars and their escapes: each spelled one is read, and what is read is spelled so.
-pub mod LargeEscapes
 pub mod Escapes
-pub mod Foldings
 pub mod Counted
 pub mod Refused
 pub mod Gaps
 pub mod GapBytes
 pub mod GapsRead
 pub mod IndentedLines
-pub mod Items
 pub mod Lines
 pub mod OnLine
 pub mod Parts
 pub mod Pieces
 pub mod Reads
 pub mod Inside
-pub mod ReadSpellings
 pub mod SpelledEscapes
 pub mod SpelledGaps
 pub mod SpelledLines
 pub mod SpelledWords
 pub mod Spellings
-pub mod SpellingsRead
 pub mod Clean
 pub mod Words
 pub mod WordsRead

@@ -9,9 +9,9 @@ use Rattle.saphyr_scalar.specs.declared.scalar.position.Marker.{Marker}
 use Rattle.saphyr_scalar.specs.Views.Cursor.{Cursor, refuse, pass, pass_break, along}
 use Rattle.saphyr_scalar.specs.declared.scalar.fault.FaultText.TheVariants as fault
 use Rattle.saphyr_input.specs.Breaks.{normalized}
-use Rattle.saphyr_scalar.specs.declared.reading.flow.Quote.{Quote}
-use Rattle.saphyr_scalar.specs.declared.reading.flow.Quote.TheVariants.{Single, Double}
-use Rattle.saphyr_scalar.specs.Reading.Flow as flow
+use Rattle.scalar_values.specs.declared.flow.Quote.{Quote}
+use Rattle.scalar_values.specs.declared.flow.Quote.TheVariants.{Single, Double}
+use Rattle.scalar_values.specs.Flow as flow
 use Rattle.saphyr_scalar.specs.Steps.Quoted.{at, quoted}
 use Rattle.saphyr_scalar.proofs.Quoted.Pieces.{quoted_reading}
 use Rattle.saphyr_scalar.specs.Steps.Plain.{PlainGap, lines, reached, may_stand, at_line, next_lines, gap_from, gap, goes_on, word_starts, in_word, between, word, plain, gap_len}

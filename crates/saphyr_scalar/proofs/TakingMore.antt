@@ -6,8 +6,8 @@ use Rattle.saphyr_input.specs.Classes.{is_bom, is_blank, is_break, is_breakz, is
 use Rattle.saphyr_input.specs.Separation.{separation_len, is_bare_comment}
 use Rattle.saphyr_input.specs.declared.input.SkipTabs.{SkipTabs}
 use Rattle.saphyr_input.specs.declared.input.SkipTabs.TheVariants.{Yes}
-use Rattle.saphyr_scalar.specs.declared.reading.block.BlockStyle.{BlockStyle}
-use Rattle.saphyr_scalar.specs.declared.reading.block.Chomping.{Chomping}
+use Rattle.scalar_values.specs.declared.block.BlockStyle.{BlockStyle}
+use Rattle.scalar_values.specs.declared.block.Chomping.{Chomping}
 use Rattle.saphyr_scalar.specs.declared.scalar.position.Marker.{Marker}
 use Rattle.saphyr_scalar.specs.declared.scalar.position.Span.{Span}
 use Rattle.saphyr_scalar.specs.declared.scalar.block.header.BlockHeader.{BlockHeader}
@@ -18,7 +18,7 @@ use Rattle.saphyr_scalar.specs.Steps.Block.{chomping, indicator, header_break, h
 use Rattle.saphyr_scalar.specs.Steps.Anchor.{anchor}
 use Rattle.saphyr_scalar.specs.Steps.Tag.{tag}
 use Rattle.saphyr_scalar.specs.Spelling.Tag.{IsHandleText, IsTagText}
-use Rattle.saphyr_scalar.specs.Steps.Directive.{Directive, version, tag_prefix, reserved, directive}
+use Rattle.saphyr_scalar.specs.Steps.Directive.{ReadDirective, version, tag_prefix, reserved, directive}
 use Rattle.saphyr_scalar.specs.Spelling.Directive.{IsReadDirective}
 use Rattle.saphyr_scalar.proofs.Properties.AnchorsRead.{spells_anchor}
 use Rattle.saphyr_scalar.proofs.Properties.TagsSpelled.{spells_tag}
@@ -213,12 +213,12 @@ tag_takes in_flow s t handle suffix opening e =
     let whole = length-append spelled.0 t.rest in
     omega (arith, some, is, whole)
 
-directive_some : (d : Directive) (t : List ℕ) → IsReadDirective d t → 0 < length t
+directive_some : (d : ReadDirective) (t : List ℕ) → IsReadDirective d t → 0 < length t
 directive_some (version major minor) t is = begins 37 t _ is.6
 directive_some (tag_prefix handle prefix) t is = begins 37 t _ is.2.7
 directive_some (reserved name) t is = begins 37 t _ is.1.7
 
-pub directive_takes : (s t : Cursor) (d : Directive) (end : Marker) → slice_index s.rest 0 ≡ 37
+pub directive_takes : (s t : Cursor) (d : ReadDirective) (end : Marker) → slice_index s.rest 0 ≡ 37
     → directive s ≡ Ok (d, end, t) → length t.rest < length s.rest
 directive_takes s t d end opening e =
     let spelled = spells_directive s t d end opening e in

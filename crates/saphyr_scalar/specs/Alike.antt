@@ -7,15 +7,15 @@ use Rattle.saphyr_input.specs.declared.input.SkipTabs.{SkipTabs}
 use Rattle.saphyr_scalar.specs.declared.scalar.position.Marker.{Marker}
 use Rattle.saphyr_scalar.specs.declared.scalar.position.Span.{Span}
 use Rattle.saphyr_scalar.specs.declared.scalar.fault.Refusal.{Refusal}
-use Rattle.saphyr_scalar.specs.declared.reading.flow.Quote.{Quote}
-use Rattle.saphyr_scalar.specs.declared.reading.block.BlockStyle.{BlockStyle}
+use Rattle.scalar_values.specs.declared.flow.Quote.{Quote}
+use Rattle.scalar_values.specs.declared.block.BlockStyle.{BlockStyle}
 use Rattle.saphyr_scalar.specs.Views.Cursor.{Cursor, separation, pass_break, pass_comment, pass_byte_order_mark}
 use Rattle.saphyr_scalar.specs.Steps.Quoted.{quoted}
 use Rattle.saphyr_scalar.specs.Steps.Plain.{plain}
 use Rattle.saphyr_scalar.specs.Steps.Block.{block_scalar}
 use Rattle.saphyr_scalar.specs.Steps.Tag.{tag}
 use Rattle.saphyr_scalar.specs.Steps.Anchor.{anchor}
-use Rattle.saphyr_scalar.specs.Steps.Directive.{Directive, directive}
+use Rattle.saphyr_scalar.specs.Steps.Directive.{ReadDirective, directive}
 
 -- A place of the text and one of the normalized text: on the same line, in the same column, and what stands behind the
 -- first is, normalized, what stands behind the second.
@@ -66,7 +66,7 @@ abbrev pub AreTagsAlike : List ℕ → List ℕ × List ℕ × Cursor → List �
 AreTagsAlike text x y = (x.0 ≡ y.0) × (x.1 ≡ y.1) × AreAlike text x.2 y.2
 
 -- directives: what one says, the place behind it, and what stands behind its line
-abbrev pub AreDirectivesAlike : List ℕ → Directive × Marker × Cursor → Directive × Marker × Cursor → Type 0
+abbrev pub AreDirectivesAlike : List ℕ → ReadDirective × Marker × Cursor → ReadDirective × Marker × Cursor → Type 0
 AreDirectivesAlike text x y = (x.0 ≡ y.0) × AreMarksAlike text x.1 y.1 × AreAlike text x.2 y.2
 
 -- What stands at any place is read alike, and so is what begins with a character that is no break.

@@ -1,7 +1,6 @@
 -- How scalars, names, tags, directives and the spaces between are spelled, in the standard's words.
 pub mod LineBreaks
 pub mod QuotedWords
-pub mod Items
 pub mod OneLine
 pub mod Quoted
 pub mod QuotedLines

@@ -1,8 +1,6 @@
-//! Positions, faults and scalars of YAML: the reader that takes scalars off a text, and what the
-//! spellings of scalars are read as.
+//! Positions, faults and scalars of YAML, and the reader that takes scalars off a text.
 #![tactic(auto)]
 
-pub mod reading;
 pub mod scalar;
 
 pub use scalar::{

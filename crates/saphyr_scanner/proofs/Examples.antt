@@ -2,13 +2,10 @@
 pub mod Json
 pub mod Tags
 pub mod Tokens
-pub mod Layout
-pub mod LayoutRefused
-pub mod NearMisses
-pub mod AliasAlone
-pub mod DashApart
-pub mod OneForest
+pub mod MarkerAlone
 pub mod Taken
 pub mod TakenTexts
+pub mod TakenLines
+pub mod TakenStreams
 pub mod TakenBlocks
 pub mod TakenRefused

@@ -1,13 +1,13 @@
 -- A comment among what stands between two tokens.
 use Rattle.std.proofs.Common.{◌≡◌, ℕ, ◌+◌, Bool, true, false, List, [], ◌∷◌, drop, get_or, slice_index, refl, sym, ap, ◌∙◌, arith, nat_eq, suc, Result, Ok}
-use Rattle.std.specs.Prelude.{◌||◌, ◌==◌}
+use Rattle.std.specs.Prelude.{◌==◌}
 use Rattle.std.specs.List.{prefix_len}
 use Rattle.std.proofs.lemmas.Bool.Decides.{nat_tests}
 use Rattle.saphyr_input.specs.Classes.{is_blank, is_break, is_yaml_non_break}
 use Rattle.saphyr_scalar.specs.declared.scalar.position.Marker.{Marker}
 use Rattle.saphyr_scalar.specs.Views.Cursor.{Cursor, along, pass_comment}
 use Rattle.saphyr_scalar.specs.declared.scalar.fault.Refusal.{Refusal}
-use Rattle.saphyr_scanner.specs.Steps.Gap.{Passed, stop, gap, comment, gap_at, pass_gap, Spaced, spaces, line_comment, spaces_at}
+use Rattle.saphyr_scanner.specs.Steps.Gap.{Passed, stop, gap, comment, gap_at, passed_gap, Spaced, spaces, line_comment, spaces_at}
 use Rattle.saphyr_scalar.proofs.Moving.{along_none}
 use Rattle.saphyr_input.proofs.Basics.Booleans.{or_false_left, or_false_right}
 
@@ -138,7 +138,7 @@ nothing least m blank (c ∷ cs) a b e =
 
 -- where a token stands right here, nothing is passed
 pub nothing_passed : (least : ℕ) (s t : Cursor) (c : ℕ) → c ≡ slice_index s.rest 0 → t ≡ s → is_blank c ≡ false
-    → is_break c ≡ false → (c == 35) ≡ false → pass_gap least s ≡ Ok (record { cursor = t; broke = false })
+    → is_break c ≡ false → (c == 35) ≡ false → passed_gap least s ≡ Ok (record { cursor = t; broke = false })
 nothing_passed least s t c e same a b d =
     nothing least s.mark s.blank_so_far s.rest (rw (sym e) a) (rw (sym e) b) (rw (sym e) d)
     ∙ ap (λ (u : Cursor). Ok (record { cursor = u; broke = false })) (sym same)

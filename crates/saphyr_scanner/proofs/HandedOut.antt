@@ -17,7 +17,7 @@ use Rattle.saphyr_scanner.specs.Steps.Passing.{pass_gap, separate}
 use Rattle.saphyr_scanner.specs.Steps.State.{State, carried, acted, separated}
 use Rattle.saphyr_scanner.specs.Steps.Unrolling.{unroll, end_blocks, end_block, is_right_of, outwards, less_deep}
 use Rattle.saphyr_scanner.specs.Steps.Document as document
-use Rattle.saphyr_scanner.specs.Steps.Fetch.{step, content, fetch_here, arrive, fetch, within, fetch_within, settled}
+use Rattle.saphyr_scanner.specs.Steps.Fetch.{step, state_behind_content, fetch_here, arrive, fetch, within, fetch_within, settled}
 use Rattle.saphyr_scalar.specs.Steps.Directive as directives
 use Rattle.saphyr_scanner.proofs.Taken.Candidates.{Above, ActionsAbove, Keeps}
 use Rattle.saphyr_scanner.proofs.Taken.Separated.{given_map}
@@ -182,8 +182,8 @@ end_marker_agrees hs c q p b k =
         (record { core = refl; queue = e; above = g.1.3 (length hs) a }) refl
     line (Err f) d r s e a g = refl
 
-mark_agrees : (hs : List Place) → Agrees hs document.byte_order_mark
-unfolding document.byte_order_mark
+mark_agrees : (hs : List Place) → Agrees hs document.state_behind_byte_order_mark
+unfolding document.state_behind_byte_order_mark
 mark_agrees hs c q p b k =
     same_if hs (nat_lt 0 c.cursor.mark.col || not (in_block c)) _ _ _ _ refl
     (same_then hs (document.end_content (at c q)) (document.end_content (at c p)) _ (content_ends hs c q p b k)
@@ -206,8 +206,8 @@ stream_agrees hs c q p b k =
 
 content_same : (hs : List Place) (first second : ℕ) (c : Core) (q p : Queue) → 0 < length c.cursor.rest
     → slice_index c.cursor.rest 0 ≡ first → Behind hs q p → Above (length hs) c
-    → Same hs (content first second (at c q)) (content first second (at c p))
-unfolding content
+    → Same hs (state_behind_content first second (at c q)) (state_behind_content first second (at c p))
+unfolding state_behind_content
 content_same hs first second c q p some f b k =
     let n : next q ≡ next p = same_next hs q p b in
     let places = ap length b.places in let l = length-append hs p.places in
@@ -221,8 +221,8 @@ directive_keeps : (h : ℕ) (c : Core) → Above h c → Given (Keeps h) (docume
 unfolding document.read_directive
 directive_keeps h c k = given_bind (Keeps h) (directives.directive c.cursor) _ (λ x e. (k, tt))
 
-directive_agrees : (hs : List Place) → Agrees hs document.directive
-unfolding document.directive
+directive_agrees : (hs : List Place) → Agrees hs document.state_behind_directive
+unfolding document.state_behind_directive
 directive_agrees hs c q p b k =
     same_then hs (document.end_content (at c q)) (document.end_content (at c p)) _ (content_ends hs c q p b k)
     (λ d r s e a. acted_same hs (document.read_directive d) r s e (directive_keeps (length hs) d a))

@@ -1,3 +1,4 @@
+-- Nodes in flow style inside open block collections.
 pub mod States
 pub mod Tabs
 pub mod Quotes

@@ -11,7 +11,7 @@ use Rattle.saphyr_scanner.specs.Views.Tokens.{Piece, Remaining, none, before, pi
 use Rattle.saphyr_scanner.specs.Steps.Queue.{Place}
 use Rattle.saphyr_scanner.specs.Steps.Core.{Core}
 use Rattle.saphyr_scanner.specs.Steps.State.{State}
-use Rattle.saphyr_scanner.specs.Steps.Fetch.{size, settled, needs_token, fill, take}
+use Rattle.saphyr_scanner.specs.Steps.Fetch.{size, settled, needs_token, fill, take_token}
 use Rattle.saphyr_scanner.specs.Steps.Remaining.{before_place, remaining}
 use Rattle.saphyr_scanner.proofs.Effects.Readers.{Readers}
 use Rattle.saphyr_scanner.proofs.Filling.{IsSettled, settled_once}
@@ -43,7 +43,7 @@ place_first limit c p ps n ready = cond-false (needs_token (holding c (p ∷ ps)
 -- Whether a token has to be read does not depend on what stands in front of the first one.
 place_taken : (limit : ℕ) (c : Core) (o : Opening) (t : Piece) (ps : List Place) (n : ℕ)
     → needs_token (holding c (with_front o t ∷ ps) n) ≡ false
-    → Takes limit (holding c (with_front o t ∷ ps) n) (take (holding c (with_front o t ∷ ps) n))
+    → Takes limit (holding c (with_front o t ∷ ps) n) (take_token (holding c (with_front o t ∷ ps) n))
 place_taken limit c opening.Nothing t ps n ready = place_first limit c (with_front opening.Nothing t) ps n ready
 place_taken limit c opening.Key t ps n ready =
     place_first limit c (with_front opening.Key t) ps n ready
@@ -56,13 +56,13 @@ place_taken limit c opening.FlowMappingAndKey t ps n ready =
     ∙ ap (before _) (sym (place_first limit c (with_front opening.Key t) ps n ready))
 
 first_taken : (limit : ℕ) (c : Core) (ps : List Place) (n : ℕ) → needs_token (holding c ps n) ≡ false
-    → Takes limit (holding c ps n) (take (holding c ps n))
+    → Takes limit (holding c ps n) (take_token (holding c ps n))
 first_taken limit c [] n ready = (at_end limit c n ready, refl)
 first_taken limit c (p ∷ ps) n ready = place_taken limit c p.opening p.piece ps n ready
 
 -- ## What a call for the next token gives
 
-taken_settles : (t : State) → IsSettled t → IsSettled (take t).1
+taken_settles : (t : State) → IsSettled t → IsSettled (take_token t).1
 taken_settles t h = h
 
 remaining_of : (limit : ℕ) (t : State) → IsSettled t → remaining limit t ≡ rest limit t
@@ -78,21 +78,21 @@ filled laws limit s t e =
     (remaining_is limit s b.0 b.1 ∙ f.same, f.ready, f.settles)
 
 hands : (limit : ℕ) (t u : State) (r : Option Token) (old : Remaining) → old ≡ rest limit t → IsSettled t
-    → Takes limit t (take t) → (option_map piece r, u) ≡ take t → Hands (Ok r) old (remaining limit u)
+    → Takes limit t (take_token t) → (option_map piece r, u) ≡ take_token t → Hands (Ok r) old (remaining limit u)
 hands limit t u None old is settles taken e =
-    let first : (take t).0 ≡ None = ap (λ x. x.0) (sym e) in
-    let second : u ≡ (take t).1 = ap (λ x. x.1) e in
-    let gone = subst (Leaves limit t (take t).1) first taken in
+    let first : (take_token t).0 ≡ None = ap (λ x. x.0) (sym e) in
+    let second : u ≡ (take_token t).1 = ap (λ x. x.1) e in
+    let gone = subst (Leaves limit t (take_token t).1) first taken in
     (is ∙ gone.0, ap (remaining limit) (second ∙ gone.1) ∙ remaining_of limit t settles ∙ gone.0)
 hands limit t u (Some x) old is settles taken e =
-    let first : (take t).0 ≡ Some (piece x) = ap (λ x. x.0) (sym e) in
-    let second : u ≡ (take t).1 = ap (λ x. x.1) e in
-    let gone = subst (Leaves limit t (take t).1) first taken in
+    let first : (take_token t).0 ≡ Some (piece x) = ap (λ x. x.0) (sym e) in
+    let second : u ≡ (take_token t).1 = ap (λ x. x.1) e in
+    let gone = subst (Leaves limit t (take_token t).1) first taken in
     is ∙ gone ∙ ap (before (piece x))
-    (sym (remaining_of limit (take t).1 (taken_settles t settles)) ∙ ap (remaining limit) (sym second))
+    (sym (remaining_of limit (take_token t).1 (taken_settles t settles)) ∙ ap (remaining limit) (sym second))
 
 hands_out : Readers → (limit : ℕ) (s t u : State) (r : Option Token) (old : Remaining) → fill limit s ≡ Ok t
-    → take t ≡ (option_map piece r, u) → remaining limit s ≡ old → Hands (Ok r) old (remaining limit u)
+    → take_token t ≡ (option_map piece r, u) → remaining limit s ≡ old → Hands (Ok r) old (remaining limit u)
 hands_out laws limit s t u r old e took is =
     let f = filled laws limit s t e in
     hands limit t u r old (sym is ∙ f.0) f.2 (first_taken limit t.core t.queue.places t.queue.handed f.1) (sym took)
@@ -103,7 +103,7 @@ stopped laws limit s stops.OutOfMemory old new f is = tt
 stopped laws limit s (stops.Refused e) old new f is = sym is ∙ refused_first laws limit s e f
 
 pub handed_over : Readers → (limit : ℕ) (s t u : State) (token : Token) (r : Result Bool Stop) (old : Remaining)
-    → fill limit s ≡ Ok t → Moves (λ x. (option_map piece (written x token), u)) r (Ok (take t))
+    → fill limit s ≡ Ok t → Moves (λ x. (option_map piece (written x token), u)) r (Ok (take_token t))
     → remaining limit s ≡ old → Hands (handed token r) old (remaining limit u)
 handed_over laws limit s t u token (Ok x) old e took is = hands_out laws limit s t u (written x token) old e (cc) is
 handed_over laws limit s t u token (Err stops.OutOfMemory) old e took is = tt

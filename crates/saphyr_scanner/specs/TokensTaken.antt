@@ -9,21 +9,21 @@ use Rattle.saphyr_scalar.specs.declared.scalar.position.Span.{Span}
 use Rattle.saphyr_scalar.specs.declared.scalar.fault.Refusal.{Refusal}
 use Rattle.saphyr_scalar.specs.declared.scalar.style.ScalarStyle.{ScalarStyle}
 use Rattle.saphyr_scalar.specs.declared.scalar.style.ScalarStyle.TheVariants as style
-use Rattle.saphyr_scalar.specs.declared.reading.folding.Item.{Item}
-use Rattle.saphyr_scalar.specs.declared.reading.flow.Quote.{Quote}
-use Rattle.saphyr_scalar.specs.declared.reading.flow.Quote.TheVariants.{Single, Double}
-use Rattle.saphyr_scalar.specs.declared.reading.block.BlockStyle.{BlockStyle}
-use Rattle.saphyr_scalar.specs.declared.reading.block.BlockStyle.TheVariants as block_style
+use Rattle.scalar_values.specs.declared.folding.Item.{Item}
+use Rattle.scalar_values.specs.declared.flow.Quote.{Quote}
+use Rattle.scalar_values.specs.declared.flow.Quote.TheVariants.{Single, Double}
+use Rattle.scalar_values.specs.declared.block.BlockStyle.{BlockStyle}
+use Rattle.scalar_values.specs.declared.block.BlockStyle.TheVariants as block_style
 use Rattle.saphyr_scalar.specs.Views.Cursor.{Cursor, fresh, along, next_line}
 use Rattle.saphyr_scalar.specs.Passing.{IsPassed}
 use Rattle.saphyr_scalar.specs.Spelling.LineBreaks.{break_len}
-use Rattle.saphyr_scalar.specs.Reading.Folding.{folded}
+use Rattle.scalar_values.specs.Folding.{folded}
 use Rattle.saphyr_scalar.specs.Spelling.QuotedMarkers.{HasNoMarker}
 use Rattle.saphyr_scalar.specs.Spelling.Quoted.{IsQuotedText}
 use Rattle.saphyr_scalar.specs.Reading.Plain.{IsPlainReading}
 use Rattle.saphyr_scalar.specs.Reading.BlockText.{IsBlockText}
 use Rattle.saphyr_scalar.specs.Spelling.Tag.{AreIn, IsAnchorName, IsTagText}
-use Rattle.saphyr_scalar.specs.Steps.Directive.{Directive, version, tag_prefix, reserved}
+use Rattle.saphyr_scalar.specs.Steps.Directive.{ReadDirective, version, tag_prefix, reserved}
 use Rattle.saphyr_scalar.specs.Spelling.Directive.{IsReadDirective, IsLineTail}
 use Rattle.saphyr_scanner.specs.Grammar.Tokens as tokens
 use Rattle.saphyr_scanner.specs.Grammar.Tokens.{Kind}
@@ -125,7 +125,7 @@ IsTagToken front back span s t =
     × (back ≡ encode_utf8_all suffix) × IsSpan span text s t
 
 -- 6.8: a directive at the start of a line, on which nothing else stands but a comment
-abbrev pub IsDirectiveToken : Directive → Span → Cursor → Cursor → Type 0
+abbrev pub IsDirectiveToken : ReadDirective → Span → Cursor → Cursor → Type 0
 IsDirectiveToken d span s t =
     (text tail behind : List ℕ) × (s.mark.col ≡ 0) × IsReadDirective d text × IsSpan span text s t
     × IsLineTail tail × (t.rest ≡ tail ++ behind) × IsTrue (is_breakz (slice_index behind 0))
@@ -243,15 +243,15 @@ open_behind tokens.BlockMappingStart column columns = column ∷ columns
 open_behind tokens.BlockEnd column columns = without_innermost columns
 open_behind _ column columns = columns
 
-abbrev pub least_column : List ℕ → ℕ
-least_column [] = 0
-least_column (column ∷ columns) = column + 1
+abbrev pub least_column_in : List ℕ → ℕ
+least_column_in [] = 0
+least_column_in (column ∷ columns) = column + 1
 
 -- tokens from one place to another, where block collections are open at these columns
 abbrev pub AreTokens : List ℕ → List Piece → Cursor → Cursor → Type 0
 AreTokens columns [] s u = u ≡ s
 AreTokens columns (p ∷ ps) s u =
-    (here behind : Cursor) × AreApart s here × IsToken (least_column columns) p.kind p.span here behind
+    (here behind : Cursor) × AreApart s here × IsToken (least_column_in columns) p.kind p.span here behind
     × AreTokens (open_behind p.kind p.span.start.col columns) ps behind u
 
 -- the whole text, or a beginning and a refusal with its place in the text

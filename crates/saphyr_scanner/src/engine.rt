@@ -173,7 +173,8 @@ impl<T: Input> Engine<T> {
         if skip_gap(&mut self.reader, least)? && self.in_block() {
             self.key_allowed = true;
         }
-        self.check_comment()
+        self.check_comment()?;
+        Ok(())
     }
 
     // Refuses a comment that ended a plain scalar, where the next line could go on with it.

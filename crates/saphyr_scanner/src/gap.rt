@@ -1,7 +1,7 @@
 //! What stands between two tokens: blanks, breaks and comments (YAML 1.2.2, 6.7).
 
 ghost use Rattle.std.specs.Prelude.{◌≡◌, ◌||◌, false, slice_index};
-ghost use Rattle.saphyr_scalar.specs.Views.Reader.{state, Gives};
+ghost use Rattle.saphyr_scalar.specs.Views.Reader.{cursor_of, GivesAs};
 ghost use Rattle.saphyr_scanner.specs.Steps.Gap as spec;
 
 use saphyr_input::char_traits::{is_blank, is_bom, is_break, is_z};
@@ -10,8 +10,8 @@ use saphyr_scalar::{FaultText, Reader, Refusal};
 
 // Whether a tab stands on the line where indentation does, with the next character.
 fn stands_behind_tab<T: Input>(reader: &Reader<T>, least: usize, tabbed: bool, c: char) -> bool
-    ensures { result ≡ spec.is_tab_indentation least (state reader.now).mark
-        (state reader.now).blank_so_far c || tabbed }
+    ensures { result ≡ spec.is_tab_indentation least (cursor_of reader.now).mark
+        (cursor_of reader.now).blank_so_far c || tabbed }
 {
     c == '\t' && reader.blank_so_far() && reader.mark().col < least || tabbed
 }
@@ -24,10 +24,8 @@ fn end_gap<T: Input>(
     broke: bool,
     tabbed: bool,
 ) -> Result<bool, Refusal>
-    requires { c ≡ slice_index (state reader.now).rest 0 }
-    ensures { Gives (λ broke. record { cursor = state reader.now; broke = broke }) result
-        (spec.stop (state reader.now).mark (state reader.now).blank_so_far broke tabbed
-        (state reader.now).rest) }
+    requires { c ≡ slice_index (cursor_of reader.now).rest 0 }
+    ensures { GivesAs spec.seen_passed (spec.stop_at broke tabbed) reader.now result reader.now }
 {
     let mark = reader.mark();
     if tabbed && is_bom(c) {
@@ -43,8 +41,7 @@ fn end_gap<T: Input>(
 
 // Passes blanks, breaks and comments character by character, as `skip_gap` says.
 fn skip_gap_characters<T: Input>(reader: &mut Reader<T>, least: usize) -> Result<bool, Refusal>
-    ensures { Gives (λ broke. record { cursor = state reader.new; broke = broke }) result
-        (spec.pass_gap least (state reader.old)) }
+    ensures { GivesAs spec.seen_passed (spec.passed_gap least) reader.old result reader.new }
 {
     let mut broke = false;
     let mut tabbed = false;
@@ -70,8 +67,7 @@ fn skip_gap_characters<T: Input>(reader: &mut Reader<T>, least: usize) -> Result
 // A tab left of the column `least` is refused where content stands behind it on its line.
 #[inline(always)]
 pub(crate) fn skip_gap<T: Input>(reader: &mut Reader<T>, least: usize) -> Result<bool, Refusal>
-    ensures { Gives (λ broke. record { cursor = state reader.new; broke = broke }) result
-        (spec.pass_gap least (state reader.old)) }
+    ensures { GivesAs spec.seen_passed (spec.passed_gap least) reader.old result reader.new }
 {
     // Most often the next token stands right here.
     let c = reader.look();
@@ -83,8 +79,8 @@ pub(crate) fn skip_gap<T: Input>(reader: &mut Reader<T>, least: usize) -> Result
 
 // Passes spaces, breaks and comments, and tells whether a space or a break was met.
 pub(crate) fn skip_spaces<T: Input>(reader: &mut Reader<T>) -> bool
-    ensures { record { cursor = state reader.new; space = result }
-        ≡ spec.spaces_at false (state reader.old) }
+    ensures { record { cursor = cursor_of reader.new; space = result }
+        ≡ spec.spaces_at false (cursor_of reader.old) }
 {
     let mut space = false;
     loop {

@@ -1,7 +1,7 @@
 //! Laws of the definitions.
 ghost use Rattle.std.specs.Prelude.{◌≡◌, ◌≤◌, List, codes, ◌∷◌, ◌++◌, [], ℕ, length};
 ghost use Rattle.saphyr_scalar.specs.Spelling.Spaces.{IsLineRest};
-ghost use Rattle.saphyr_scanner.specs.Examples.Forests.{block_forest, block_tokens, brackets_tokens, json_forest, json_text, json_tokens};
+ghost use Rattle.saphyr_scanner.specs.Examples.Forests.{block_forest, block_tokens, brackets_tokens, json_forest, json_text, json_text_tokens};
 ghost use Rattle.saphyr_scanner.specs.Grammar.Forest.{Forest, Primary, Shorthand, open_in_forest};
 ghost use Rattle.saphyr_scanner.specs.Grammar.TagSpelling.{IsTag};
 ghost use Rattle.saphyr_scanner.specs.Grammar.Json.{IsJson};
@@ -42,7 +42,7 @@ pub fn reads_json()
 
 /// The tokens of that forest, and those of a block mapping with a sequence at the mapping's column.
 pub fn tells_tokens()
-    ensures flow { Yields json_forest json_tokens }
+    ensures flow { Yields json_forest json_text_tokens }
     ensures block { Yields block_forest block_tokens }
 {}
 
@@ -204,7 +204,7 @@ pub fn bounds_tokens()
 
 /// What is passed between two tokens is blanks, breaks and comments alone.
 pub fn passes_separation()
-    ensures gap { (least : ℕ) (s : Cursor) (g : gaps.Passed) → gaps.pass_gap least s ≡ Ok g
+    ensures gap { (least : ℕ) (s : Cursor) (g : gaps.Passed) → gaps.passed_gap least s ≡ Ok g
         → AreApart s g.cursor }
     ensures spaces { (s : Cursor) → AreApart s (gaps.spaces_at false s).cursor }
     ensures line { (s : Cursor) (x : SkipTabs × Cursor) → separation Yes s ≡ Ok x

@@ -2,7 +2,6 @@
 #![tactic(auto)]
 
 mod engine;
-pub mod examples_law;
 mod gap;
 pub mod law;
 mod queue;

@@ -46,9 +46,9 @@ pub(crate) struct Queue {
 
 impl Queue {
     ghost use Rattle.saphyr_scalar.specs.Views.Reader.{Moves};
-    ghost use Rattle.saphyr_scanner.specs.Views.Tokens.{kind_of, piece, written};
-    ghost use Rattle.saphyr_scanner.specs.Views.Queue.{queue};
-    ghost use Rattle.std.specs.Prelude.{option_map, ◌<◌};
+    ghost use Rattle.saphyr_scanner.specs.Views.Tokens.{kind_of, piece};
+    ghost use Rattle.saphyr_scanner.specs.Views.Queue.{queue, TakesOffBy};
+    ghost use Rattle.std.specs.Prelude.{◌<◌};
 
     pub(crate) fn new(alloc: Global) -> Self
         ensures { queue result ≡ spec.empty }
@@ -148,8 +148,7 @@ impl Queue {
     fn take_place(&mut self, alloc: Global, token: &mut Token) -> Result<bool, Stop>
         requires first { self.old.first.is_full ≡ false }
         requires second { self.old.second.is_full ≡ false }
-        ensures { Moves (λ taken. (option_map piece (written taken token.new), queue self.new))
-            result (Ok (spec.take_place (queue self.old))) }
+        ensures { TakesOffBy spec.take_place self.old result token.new self.new }
     {
         let Some(handed) = self.handed.checked_add(1) else {
             return Err(Stop::OutOfMemory);
@@ -167,8 +166,7 @@ impl Queue {
     fn take_behind(&mut self, alloc: Global, token: &mut Token) -> Result<bool, Stop>
         requires first { self.old.first.is_full ≡ false }
         requires second { self.old.second.is_full ≡ false }
-        ensures { Moves (λ taken. (option_map piece (written taken token.new), queue self.new))
-            result (Ok (spec.take (queue self.old))) }
+        ensures { TakesOffBy spec.take self.old result token.new self.new }
     {
         let Some(place) = self.places.front_mut() else {
             return Ok(false);
@@ -188,8 +186,7 @@ impl Queue {
     /// Takes the first token off, if there is one, and writes it into `token`.
     #[inline(always)]
     pub(crate) fn take_into(&mut self, alloc: Global, token: &mut Token) -> Result<bool, Stop>
-        ensures { Moves (λ taken. (option_map piece (written taken token.new), queue self.new))
-            result (Ok (spec.take (queue self.old))) }
+        ensures { TakesOffBy spec.take self.old result token.new self.new }
     {
         if !self.first.is_full && !self.second.is_full {
             return self.take_behind(alloc, token);

@@ -25,8 +25,8 @@ pub fn takes_block()
 /// The tokens of streams: a directive with a tag, a byte order mark with the end of a document, and a
 /// text that is refused at its second colon.
 pub fn takes_streams()
-    ensures tag { AreTakenFrom (codes "%TAG !e! t:\n--- !e!u v\n") texts.tag }
-    ensures byte_order_mark { AreTakenFrom (codes "\u{feff}a\n...\n") texts.byte_order_mark }
+    ensures tag { AreTakenFrom (codes "%TAG !e! t:\n--- !e!u v\n") texts.tag_tokens }
+    ensures byte_order_mark { AreTakenFrom (codes "\u{feff}a\n...\n") texts.byte_order_mark_tokens }
     ensures refusal { AreTakenFrom (codes "a: b: c") texts.refusal }
 {}
 
@@ -38,7 +38,7 @@ pub fn takes_no_others()
     ensures other_value { ¬ AreTakenFrom (codes "a") texts.other_value }
     ensures other_start { ¬ AreTakenFrom (codes "[]") texts.other_start }
     ensures other_indentation { ¬ AreTakenFrom (codes " a: |1\n   b") texts.other_indentation }
-    ensures place_behind { ¬ IsPlaceOf (codes "a") (texts.at 2 1 2) }
+    ensures place_behind { ¬ IsPlaceOf (codes "a") (texts.marker_at 2 1 2) }
 {}
 
 /// The value of a plain scalar begins with no blank and no break.

@@ -6,14 +6,14 @@ use Rattle.saphyr_parser.specs.Preorder as parts
 use Rattle.saphyr_parser.specs.Preorder.{Part, node_parts, entry_parts, pair_parts, document_parts}
 use Rattle.saphyr_parser.specs.Events as events
 use Rattle.saphyr_parser.specs.Events.{Happening}
-use Rattle.saphyr_parser.specs.ForestEvents.{event_of, before_all, events_behind}
+use Rattle.saphyr_parser.specs.ForestEvents.{event_of_part, before_all, events_behind}
 use Rattle.saphyr_parser.specs.ForestEvents as forests
 use Rattle.saphyr_parser.specs.Answer.{Ending, Answer}
 use Rattle.saphyr_parser.specs.EventsTaken.{IsAllUnless}
 use Rattle.yaml_tree.specs.declared.fault.TreeFault.TheVariants as fault
 use Rattle.yaml_tree.specs.declared.tally.Limits.{Limits}
-use Rattle.yaml_tree.specs.Nesting.{NestPlace, InStream, BeforeRoot, BehindRoot, InSequence, BeforeKey, BeforeValue, Nest, outside, complete, behind_node, moved, entered, behind_event, behind_all}
-use Rattle.yaml_tree.specs.Loading.{told, IsWhole, IsNested, IsStreamStart, BeginsStream, IsAtStart, Loads}
+use Rattle.yaml_tree.specs.Nesting.{NestPlace, InStream, BeforeRoot, BehindRoot, InSequence, BeforeKey, BeforeValue, Nest, outside, complete, place_behind_node, moved, entered, behind_event, behind_all}
+use Rattle.yaml_tree.specs.Loading.{happenings, IsWhole, IsNested, IsStreamStart, BeginsStream, IsAtStart, LoadsDocuments}
 use Rattle.yaml_tree.specs.Forests.{IsOfForest}
 use Rattle.yaml_tree.proofs.Taking.{behind_all-append}
 
@@ -42,10 +42,10 @@ record Passes (keep : Bool) (rest : List Part) (es : List Happening) (n m : Nest
 
 one_part : (keep : Bool) (front : List Part) (part : Part) (rest : List Part) (es : List Happening) (n m : Nest)
     → events_behind keep front (part ∷ rest) ≡ Some es
-    → ((h : Happening) → event_of keep front part ≡ Some h → behind_event h n ≡ Some m)
+    → ((h : Happening) → event_of_part keep front part ≡ Some h → behind_event h n ≡ Some m)
     → Passes keep rest es n m
 one_part keep front part rest es n m p step =
-    let b = begins (event_of keep front part) (events_behind keep (part ∷ front) rest) es p in
+    let b = begins (event_of_part keep front part) (events_behind keep (part ∷ front) rest) es p in
     record {
       front = part ∷ front;
       more = b.others;
@@ -77,8 +77,8 @@ given e h n m each p = let same : e ≡ h = cc in ap (λ (g : Happening). behind
 abbrev at : Nest → NestPlace → Nest
 at n place = record { innermost = place; outer = n.outer }
 
-behind_moved : (n : Nest) (place : NestPlace) → behind_node n.innermost ≡ Some place
-    → moved behind_node n ≡ Some (at n place)
+behind_moved : (n : Nest) (place : NestPlace) → place_behind_node n.innermost ≡ Some place
+    → moved place_behind_node n ≡ Some (at n place)
 behind_moved n place h = ap (option_map (λ (p : NestPlace). record n { innermost = p })) h
 
 -- ## Nodes
@@ -86,7 +86,7 @@ behind_moved n place h = ap (option_map (λ (p : NestPlace). record n { innermos
 mutual
   node_passes : (keep : Bool) (node : Node) (front rest : List Part) (es : List Happening) (n : Nest)
       (place : NestPlace)
-      → behind_node n.innermost ≡ Some place
+      → place_behind_node n.innermost ≡ Some place
       → events_behind keep front (node_parts node ++ rest) ≡ Some es → Passes keep rest es n (at n place)
   node_passes keep (Alias name) front rest es n place h p =
       one_part keep front (parts.Reference name) rest es n _ p
@@ -185,15 +185,15 @@ whole None (Some n) missing h e =
     cc
 
 pub nests : (forest : Forest) (keep : Bool) (a : Answer) → IsOfForest forest keep a → IsNested a
-nests forest keep a h = whole a.fault (behind_all (told a.events) outside) h.missing h.all_given
-    (sym (behind_all-append (told a.events) h.missing outside)
-    ∙ forest_nests forest keep (told a.events ++ h.missing) h.are_events)
+nests forest keep a h = whole a.fault (behind_all (happenings a.events) outside) h.missing h.all_given
+    (sym (behind_all-append (happenings a.events) h.missing outside)
+    ∙ forest_nests forest keep (happenings a.events ++ h.missing) h.are_events)
 
 -- ## Starts
 
 begins_stream : (es : List (Happening × Span)) (ending : Option Ending) (missing : List Happening) (h : Happening)
     (others : List Happening) → IsAllUnless ending missing
-    → told es ++ missing ≡ h ∷ others → events.StreamStart ≡ h → BeginsStream es ending
+    → happenings es ++ missing ≡ h ∷ others → events.StreamStart ≡ h → BeginsStream es ending
 begins_stream (e ∷ es) ending missing h others k p q = let same : events.StreamStart ≡ e.0 = cc in
     subst IsStreamStart same tt
 begins_stream [] (Some f) missing h others k p q = tt
@@ -202,11 +202,11 @@ begins_stream [] None missing h others k p q = let none : [] ≡ h ∷ others = 
 pub starts : (forest : Forest) (keep : Bool) (a : Answer) → IsOfForest forest keep a → IsAtStart a
 starts forest keep a h =
     let b = begins (Some events.StreamStart) (events_behind keep (parts.OpenStream ∷ []) (document_parts forest))
-    (told a.events ++ h.missing) h.are_events in
+    (happenings a.events ++ h.missing) h.are_events in
     let first : events.StreamStart ≡ b.first = cc b.is in
     begins_stream a.events a.fault h.missing b.first b.others h.all_given b.joined first
 
 pub never_late : (forest : Forest) (keep : Bool) (limits : Limits) (all left : Answer) → IsOfForest forest keep all
-    → Loads limits (Err fault.NotFresh) all left → ⊥
+    → LoadsDocuments limits (Err fault.NotFresh) all left → ⊥
 never_late forest keep limits all left h (inl late) = late.0 (starts forest keep all h)
 never_late forest keep limits all left h (inr ill) = ill (nests forest keep all h)

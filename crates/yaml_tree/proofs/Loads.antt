@@ -6,7 +6,7 @@ use Rattle.saphyr_scalar.specs.declared.scalar.position.Span.{Span}
 use Rattle.saphyr_parser.specs.declared.parser.fault.Fault.{Fault}
 use Rattle.saphyr_parser.specs.declared.parser.fault.Fault.TheVariants as parse
 use Rattle.saphyr_parser.specs.Events.{Happening}
-use Rattle.saphyr_parser.specs.Answer.{Ending, Refused, OutOfMemory, Answer, none, failed, before}
+use Rattle.saphyr_parser.specs.Answer.{Ending, Refused, OutOfMemory, Answer, empty_answer, failed, with_first_event}
 use Rattle.saphyr_parser.specs.Cursor.{count, Stays, Refuses}
 use Rattle.yaml_tree.specs.declared.fault.TreeFault.{TreeFault}
 use Rattle.yaml_tree.specs.declared.fault.TreeFault.TheVariants as fault
@@ -17,7 +17,7 @@ use Rattle.yaml_tree.specs.Nesting.{Nest, outside, complete, behind_all}
 use Rattle.yaml_tree.specs.Counting.{no_nodes, StayWithin}
 use Rattle.yaml_tree.specs.BuilderSeen.{Finishes}
 use Rattle.yaml_tree.specs.LoaderSeen.{HasTaken, Forbids}
-use Rattle.yaml_tree.specs.Loading.{told, IsWhole, IsNested, Stops, FailsToLoad, Loads, HasRead, TakesAll}
+use Rattle.yaml_tree.specs.Loading.{happenings, IsWhole, IsNested, Stops, FailsToLoad, LoadsDocuments, HasRead, TakesAll}
 use Rattle.yaml_tree.proofs.Taking.{behind_all-append}
 
 -- ## Event after event
@@ -25,16 +25,17 @@ use Rattle.yaml_tree.proofs.Taking.{behind_all-append}
 pub reads_none : (limits : Limits) (all : Answer) (l : Loader) → HasTaken limits [] l → HasRead limits all all l
 reads_none limits all l h = record { taken = []; split = refl; fault = refl; loader = h }
 
-told_push : (es : List (Happening × Span)) (e : Happening × Span) → told (es ++ e ∷ []) ≡ told es ++ e.0 ∷ []
+told_push : (es : List (Happening × Span)) (e : Happening × Span)
+    → happenings (es ++ e ∷ []) ≡ happenings es ++ e.0 ∷ []
 told_push es e = map-append (λ (d : Happening × Span). d.0) es (e ∷ [])
 
 split_more : (all a b : Answer) (es : List (Happening × Span)) (e : Happening × Span) → all.events ≡ es ++ a.events
-    → a ≡ before e b → all.events ≡ es ++ (e ∷ b.events)
+    → a ≡ with_first_event e b → all.events ≡ es ++ (e ∷ b.events)
 split_more all a b es e s h = s ∙ ap (λ (x : Answer). es ++ x.events) h
 
 -- the last event is taken too
 pub reads_more : (limits : Limits) (all a b : Answer) (e : Happening × Span) (old new : Loader)
-    (r : HasRead limits all a old) → a ≡ before e b → HasTaken limits (told r.taken ++ e.0 ∷ []) new
+    (r : HasRead limits all a old) → a ≡ with_first_event e b → HasTaken limits (happenings r.taken ++ e.0 ∷ []) new
     → HasRead limits all b new
 reads_more limits all a b e old new r h t = record {
   taken = r.taken ++ e ∷ [];
@@ -45,7 +46,8 @@ reads_more limits all a b e old new r h t = record {
 
 -- the last event can't be taken
 stops : (f : TreeFault) (limits : Limits) (all a b : Answer) (e : Happening × Span) (old : Loader)
-    (r : HasRead limits all a old) → a ≡ before e b → Forbids f limits (told r.taken ++ e.0 ∷ []) e.1.start
+    (r : HasRead limits all a old) → a ≡ with_first_event e b
+    → Forbids f limits (happenings r.taken ++ e.0 ∷ []) e.1.start
     → Stops f limits all b
 stops f limits all a b e old r h w = record {
   taken = r.taken;
@@ -60,22 +62,23 @@ no_nest : (f : Option Ending) (o : Option Nest) → o ≡ None → IsWhole f o �
 no_nest f o e w = subst (IsWhole f) e w
 
 told_split : (all a b : Answer) (es : List (Happening × Span)) (e : Happening × Span) → all.events ≡ es ++ a.events
-    → a ≡ before e b → told all.events ≡ (told es ++ e.0 ∷ []) ++ told b.events
-told_split all a b es e s h = ap told (split_more all a b es e s h)
+    → a ≡ with_first_event e b → happenings all.events ≡ (happenings es ++ e.0 ∷ []) ++ happenings b.events
+told_split all a b es e s h = ap happenings (split_more all a b es e s h)
     ∙ map-append (λ (d : Happening × Span). d.0) es (e ∷ b.events)
-    ∙ sym (append_assoc (told es) (e.0 ∷ []) (told b.events))
+    ∙ sym (append_assoc (happenings es) (e.0 ∷ []) (happenings b.events))
 
-unnested : (all : Answer) (es more : List Happening) → told all.events ≡ es ++ more → behind_all es outside ≡ None
+unnested : (all : Answer) (es more : List Happening) → happenings all.events ≡ es ++ more → behind_all es outside ≡ None
     → IsNested all → ⊥
 unnested all es more s n w = no_nest all.fault _
     (ap (λ hs. behind_all hs outside) s ∙ behind_all-append es more outside
     ∙ ap (option_and_then (behind_all more)) n) w
 
 pub fails : (f : TreeFault) (limits : Limits) (all a b : Answer) (e : Happening × Span) (old : Loader)
-    (r : HasRead limits all a old) → a ≡ before e b → Forbids f limits (told r.taken ++ e.0 ∷ []) e.1.start
+    (r : HasRead limits all a old) → a ≡ with_first_event e b
+    → Forbids f limits (happenings r.taken ++ e.0 ∷ []) e.1.start
     → FailsToLoad limits f all b
 fails (fault.Parse f) limits all a b e old r h w = absurd w
-fails fault.NotFresh limits all a b e old r h w = unnested all (told r.taken ++ e.0 ∷ []) (told b.events)
+fails fault.NotFresh limits all a b e old r h w = unnested all (happenings r.taken ++ e.0 ∷ []) (happenings b.events)
     (told_split all a b r.taken e r.split h) w
 fails fault.OutOfMemory limits all a b e old r h w = stops fault.OutOfMemory limits all a b e old r h w
 fails (fault.TooManyNodes at most) limits all a b e old r h w = stops
@@ -86,11 +89,11 @@ fails (fault.TooDeep at most) limits all a b e old r h w = stops (fault.TooDeep 
 
 -- where no event is left all were taken
 all_taken : (limits : Limits) (all a : Answer) (l : Loader) (r : HasRead limits all a l) → a.events ≡ []
-    → told r.taken ≡ told all.events
-all_taken limits all a l r e = ap told (sym (r.split ∙ ap (λ es. r.taken ++ es) e ∙ append-nil r.taken))
+    → happenings r.taken ≡ happenings all.events
+all_taken limits all a l r e = ap happenings (sym (r.split ∙ ap (λ es. r.taken ++ es) e ∙ append-nil r.taken))
 
 pub refuses : (f : Fault) (limits : Limits) (all a b : Answer) (l : Loader) → HasRead limits all a l → Refuses f a
-    → b ≡ none → FailsToLoad limits (fault.Parse f) all b
+    → b ≡ empty_answer → FailsToLoad limits (fault.Parse f) all b
 refuses (parse.Scan e) limits all a b l r h k =
     let events = ap (λ (x : Answer). x.events) h in (
       r.fault ∙ ap (λ (x : Answer). x.fault) h,
@@ -103,7 +106,8 @@ refuses parse.OutOfMemory limits all a b l r h k =
 refuses parse.Receiver limits all a b l r h k = h
 refuses parse.InsideDocument limits all a b l r h k = h
 
-pub reads_all : (limits : Limits) (all a b : Answer) (l : Loader) → HasRead limits all a l → a ≡ none → b ≡ none
+pub reads_all : (limits : Limits) (all a b : Answer) (l : Loader) → HasRead limits all a l → a ≡ empty_answer
+    → b ≡ empty_answer
     → TakesAll limits (Ok tt) all b l
 reads_all limits all a b l r h k =
     let events = ap (λ (x : Answer). x.events) h in (
@@ -119,7 +123,7 @@ whole : (f : Option Ending) (o : Option Nest) (n : Nest) → f ≡ None → o �
 whole f o n e g w = subst (λ (x : Option Nest). IsWhole None x) g (subst (λ (x : Option Ending). IsWhole x o) e w)
 
 pub loads_all : (limits : Limits) (all left : Answer) (l : Loader) (r : Result (Vec Document Global) TreeFault)
-    → TakesAll limits (Ok tt) all left l → Finishes r l.builder → Loads limits r all left
+    → TakesAll limits (Ok tt) all left l → Finishes r l.builder → LoadsDocuments limits r all left
 loads_all limits all left l (Ok documents) t f = (f.0 ∙ t.0.written, t.1, t.0.within, t.2)
 loads_all limits all left l (Err fault.NotFresh) t f = inr (λ w. f (whole all.fault _ _ t.1 t.0.nested w))
 loads_all limits all left l (Err fault.OutOfMemory) t f = absurd f
@@ -128,7 +132,7 @@ loads_all limits all left l (Err (fault.TooManyNodes at most)) t f = absurd f
 loads_all limits all left l (Err (fault.TooDeep at most)) t f = absurd f
 
 pub loads_none : (limits : Limits) (all left : Answer) (f : TreeFault) → FailsToLoad limits f all left
-    → Loads limits (Err f) all left
+    → LoadsDocuments limits (Err f) all left
 loads_none limits all left fault.NotFresh h = inr h
 loads_none limits all left fault.OutOfMemory h = h
 loads_none limits all left (fault.Parse g) h = h
@@ -152,7 +156,7 @@ no_refusal mark info e = cc
 
 -- then nothing but that fault can be answered
 runs_out : (limits : Limits) (all left : Answer) (r : Result (Vec Document Global) TreeFault) → 0 < count all
-    → Loads limits r (failed OutOfMemory) left → Loads limits r all left
+    → LoadsDocuments limits r (failed OutOfMemory) left → LoadsDocuments limits r all left
 runs_out limits all left (Ok documents) h l = absurd (some_fault _ l.1)
 runs_out limits all left (Err (fault.Parse (parse.Scan e))) h l = absurd (no_refusal _ _ l.0)
 runs_out limits all left (Err (fault.Parse parse.OutOfMemory)) h l =
@@ -166,7 +170,7 @@ runs_out limits all left (Err (fault.TooManyNodes at most)) h l = absurd (never_
 runs_out limits all left (Err (fault.TooDeep at most)) h l = absurd (never_stops _ _ _ l)
 
 pub loads_behind : (limits : Limits) (all mid left : Answer) (r : Result (Vec Document Global) TreeFault)
-    → Stays all mid → Loads limits r mid left → Loads limits r all left
-loads_behind limits all mid left r (inl same) l = subst (λ (a : Answer). Loads limits r a left) same l
+    → Stays all mid → LoadsDocuments limits r mid left → LoadsDocuments limits r all left
+loads_behind limits all mid left r (inl same) l = subst (λ (a : Answer). LoadsDocuments limits r a left) same l
 loads_behind limits all mid left r (inr lost) l = runs_out limits all left r lost.0
-    (subst (λ (a : Answer). Loads limits r a left) lost.1 l)
+    (subst (λ (a : Answer). LoadsDocuments limits r a left) lost.1 l)

@@ -13,15 +13,15 @@ use Rattle.yaml_tree.specs.OpenSeen.{open_events, place_of}
 use Rattle.yaml_tree.specs.Nesting.{Nest, left, complete, behind_event}
 
 -- the events so far
-abbrev pub written : Builder → List Happening
-written b = flat_map open_events b.outer.items ++ open_events b.innermost
+abbrev pub builder_events : Builder → List Happening
+builder_events b = flat_map open_events b.outer.items ++ open_events b.innermost
 
 abbrev pub nest_of : Builder → Nest
 nest_of b = record { innermost = place_of b.innermost; outer = reverse (map place_of b.outer.items) }
 
 -- The events grow by these, and then nest so. Where they may not come, the call is refused.
 abbrev pub Grows : Result (Unit {0}) TreeFault → List Happening → Option Nest → Builder → Builder → Type 0
-Grows (Ok u) more nest old new = (written new ≡ written old ++ more) × (nest ≡ Some (nest_of new))
+Grows (Ok u) more nest old new = (builder_events new ≡ builder_events old ++ more) × (nest ≡ Some (nest_of new))
 Grows (Err fault.NotFresh) more nest old new = nest ≡ None
 Grows (Err fault.OutOfMemory) more nest old new = Unit {0}
 Grows (Err _) more nest old new = ⊥
@@ -33,13 +33,13 @@ Follows result event old new = Grows result (event ∷ []) (behind_event event (
 -- what has begun last is handed out, and what stands around it is left
 abbrev pub HandsOutInnermost : Result Open TreeFault → Builder → Builder → Type 0
 HandsOutInnermost (Ok inner) old new =
-    (written old ≡ written new ++ open_events inner) × (left (nest_of old) ≡ Some (nest_of new))
+    (builder_events old ≡ builder_events new ++ open_events inner) × (left (nest_of old) ≡ Some (nest_of new))
     × (place_of inner ≡ place_of old.innermost)
 HandsOutInnermost (Err fault.NotFresh) old new = left (nest_of old) ≡ None
 HandsOutInnermost (Err _) old new = ⊥
 
 -- The documents' events are all events so far. They are refused where these are not complete.
 abbrev pub Finishes : Result (Vec Document Global) TreeFault → Builder → Type 0
-Finishes (Ok documents) b = (unload documents.items ≡ written b) × (nest_of b ≡ complete)
+Finishes (Ok documents) b = (unload documents.items ≡ builder_events b) × (nest_of b ≡ complete)
 Finishes (Err fault.NotFresh) b = nest_of b ≡ complete → ⊥
 Finishes (Err _) b = ⊥

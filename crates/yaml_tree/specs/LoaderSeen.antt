@@ -6,7 +6,7 @@ use Rattle.yaml_tree.specs.declared.fault.TreeFault.{TreeFault}
 use Rattle.yaml_tree.specs.declared.fault.TreeFault.TheVariants as fault
 use Rattle.yaml_tree.specs.declared.tally.Limits.{Limits}
 use Rattle.yaml_tree.specs.declared.loading.Loader.{Loader}
-use Rattle.yaml_tree.specs.BuilderSeen.{written, nest_of}
+use Rattle.yaml_tree.specs.BuilderSeen.{builder_events, nest_of}
 use Rattle.yaml_tree.specs.TallySeen.{counts_of, Exceeds}
 use Rattle.yaml_tree.specs.Nesting.{outside, behind_all}
 use Rattle.yaml_tree.specs.Counting.{no_nodes, counted_all, Fits, StayWithin}
@@ -14,7 +14,7 @@ use Rattle.yaml_tree.specs.Counting.{no_nodes, counted_all, Fits, StayWithin}
 -- the loader has taken exactly these events
 pub record HasTaken (limits : Limits) (events : List Happening) (l : Loader) : Type 0 where
   pub same_limits : l.tally.limits ≡ limits
-  pub written : written l.builder ≡ events
+  pub written : builder_events l.builder ≡ events
   pub nested : behind_all events outside ≡ Some (nest_of l.builder)
   pub counted : counts_of l.tally ≡ counted_all events no_nodes
   pub within : StayWithin limits events no_nodes

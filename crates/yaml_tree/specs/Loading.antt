@@ -4,7 +4,7 @@ use Rattle.std.specs.Global.{Global}
 use Rattle.saphyr_scalar.specs.declared.scalar.position.Span.{Span}
 use Rattle.saphyr_parser.specs.declared.parser.fault.Fault.TheVariants as parse
 use Rattle.saphyr_parser.specs.Events.{Happening, StreamStart}
-use Rattle.saphyr_parser.specs.Answer.{Ending, Answer, Refused, none}
+use Rattle.saphyr_parser.specs.Answer.{Ending, Answer, Refused, empty_answer}
 use Rattle.saphyr_parser.specs.Cursor.{count, Stays}
 use Rattle.yaml_tree.specs.declared.fault.TreeFault.{TreeFault}
 use Rattle.yaml_tree.specs.declared.fault.TreeFault.TheVariants as fault
@@ -17,8 +17,8 @@ use Rattle.yaml_tree.specs.Counting.{no_nodes, StayWithin}
 use Rattle.yaml_tree.specs.LoaderSeen.{HasTaken, Forbids}
 
 -- events without their spans
-abbrev pub told : List (Happening × Span) → List Happening
-told events = map (λ (e : Happening × Span). e.0) events
+abbrev pub happenings : List (Happening × Span) → List Happening
+happenings events = map (λ (e : Happening × Span). e.0) events
 
 -- ## Lists of events
 
@@ -42,7 +42,7 @@ IsWhole (Some f) (Some nest) = Unit {0}
 
 -- the events nest, and are complete where no fault ends them
 abbrev pub IsNested : Answer → Type 0
-IsNested a = IsWhole a.fault (behind_all (told a.events) outside)
+IsNested a = IsWhole a.fault (behind_all (happenings a.events) outside)
 
 -- ## Answers
 
@@ -52,8 +52,8 @@ pub record Stops (f : TreeFault) (limits : Limits) (all left : Answer) : Type 0 
   pub event : Happening × Span
   pub split : all.events ≡ taken ++ (event ∷ left.events)
   pub fault : all.fault ≡ left.fault
-  pub within : StayWithin limits (told taken) no_nodes
-  pub why : Forbids f limits (told taken ++ event.0 ∷ []) event.1.start
+  pub within : StayWithin limits (happenings taken) no_nodes
+  pub why : Forbids f limits (happenings taken ++ event.0 ∷ []) event.1.start
 
 -- the parser's memory ran out behind these events, before anything that was still to come
 pub record RunsOut (limits : Limits) (all : Answer) : Type 0 where
@@ -62,13 +62,13 @@ pub record RunsOut (limits : Limits) (all : Answer) : Type 0 where
   pub split : all.events ≡ taken ++ lost.events
   pub fault : all.fault ≡ lost.fault
   pub some_lost : 0 < count lost
-  pub within : StayWithin limits (told taken) no_nodes
+  pub within : StayWithin limits (happenings taken) no_nodes
 
 -- A fault, and what it leaves of all that was still to come. No text's events fail to nest.
 abbrev pub FailsToLoad : Limits → TreeFault → Answer → Answer → Type 0
 FailsToLoad limits (fault.Parse (parse.Scan e)) all left = (all.fault ≡ Some (Refused e.mark (string_bytes e.info)))
-    × StayWithin limits (told all.events) no_nodes × (left ≡ none)
-FailsToLoad limits (fault.Parse parse.OutOfMemory) all left = RunsOut limits all × (left ≡ none)
+    × StayWithin limits (happenings all.events) no_nodes × (left ≡ empty_answer)
+FailsToLoad limits (fault.Parse parse.OutOfMemory) all left = RunsOut limits all × (left ≡ empty_answer)
 FailsToLoad limits (fault.Parse parse.Receiver) all left = ⊥
 FailsToLoad limits (fault.Parse parse.InsideDocument) all left = ⊥
 FailsToLoad limits (fault.TooManyNodes at most) all left = Stops (fault.TooManyNodes at most) limits all left
@@ -81,11 +81,11 @@ abbrev pub IsLate : Answer → Answer → Type 0
 IsLate all left = (IsAtStart all → ⊥) × (left ≡ all)
 
 -- What a call answers, and what it leaves of all that was still to come.
-abbrev pub Loads : Limits → Result (Vec Document Global) TreeFault → Answer → Answer → Type 0
-Loads limits (Ok documents) all left = (unload documents.items ≡ told all.events) × (all.fault ≡ None)
-    × StayWithin limits (told all.events) no_nodes × (left ≡ none)
-Loads limits (Err fault.NotFresh) all left = IsLate all left ⊎ FailsToLoad limits fault.NotFresh all left
-Loads limits (Err f) all left = FailsToLoad limits f all left
+abbrev pub LoadsDocuments : Limits → Result (Vec Document Global) TreeFault → Answer → Answer → Type 0
+LoadsDocuments limits (Ok documents) all left = (unload documents.items ≡ happenings all.events) × (all.fault ≡ None)
+    × StayWithin limits (happenings all.events) no_nodes × (left ≡ empty_answer)
+LoadsDocuments limits (Err fault.NotFresh) all left = IsLate all left ⊎ FailsToLoad limits fault.NotFresh all left
+LoadsDocuments limits (Err f) all left = FailsToLoad limits f all left
 
 -- ## Steps of a call
 
@@ -99,9 +99,10 @@ pub record HasRead (limits : Limits) (all left : Answer) (l : Loader) : Type 0 w
   pub taken : List (Happening × Span)
   pub split : all.events ≡ taken ++ left.events
   pub fault : all.fault ≡ left.fault
-  pub loader : HasTaken limits (told taken) l
+  pub loader : HasTaken limits (happenings taken) l
 
 -- a loader takes all events, or fails
 abbrev pub TakesAll : Limits → Result (Unit {0}) TreeFault → Answer → Answer → Loader → Type 0
-TakesAll limits (Ok u) all left l = HasTaken limits (told all.events) l × (all.fault ≡ None) × (left ≡ none)
+TakesAll limits (Ok u) all left l =
+    HasTaken limits (happenings all.events) l × (all.fault ≡ None) × (left ≡ empty_answer)
 TakesAll limits (Err f) all left l = FailsToLoad limits f all left

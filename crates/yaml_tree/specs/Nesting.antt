@@ -28,24 +28,24 @@ abbrev pub complete : Nest
 complete = record { innermost = BehindStream; outer = [] }
 
 -- the place behind a node
-abbrev pub behind_node : NestPlace → Option NestPlace
-behind_node BeforeRoot = Some BehindRoot
-behind_node InSequence = Some InSequence
-behind_node BeforeKey = Some BeforeValue
-behind_node BeforeValue = Some BeforeKey
-behind_node _ = None
+abbrev pub place_behind_node : NestPlace → Option NestPlace
+place_behind_node BeforeRoot = Some BehindRoot
+place_behind_node InSequence = Some InSequence
+place_behind_node BeforeKey = Some BeforeValue
+place_behind_node BeforeValue = Some BeforeKey
+place_behind_node _ = None
 
-abbrev pub behind_document : NestPlace → Option NestPlace
-behind_document InStream = Some InStream
-behind_document _ = None
+abbrev pub place_behind_document : NestPlace → Option NestPlace
+place_behind_document InStream = Some InStream
+place_behind_document _ = None
 
-abbrev pub behind_stream_start : NestPlace → Option NestPlace
-behind_stream_start BeforeStream = Some InStream
-behind_stream_start _ = None
+abbrev pub place_behind_stream_start : NestPlace → Option NestPlace
+place_behind_stream_start BeforeStream = Some InStream
+place_behind_stream_start _ = None
 
-abbrev pub behind_stream_end : NestPlace → Option NestPlace
-behind_stream_end InStream = Some BehindStream
-behind_stream_end _ = None
+abbrev pub place_behind_stream_end : NestPlace → Option NestPlace
+place_behind_stream_end InStream = Some BehindStream
+place_behind_stream_end _ = None
 
 -- the same with another innermost place
 abbrev pub moved : (NestPlace → Option NestPlace) → Nest → Option Nest
@@ -63,26 +63,26 @@ abbrev pub left : Nest → Option Nest
 left n = left_list n.outer
 
 abbrev pub end_document : Nest → NestPlace → Option Nest
-end_document n BehindRoot = option_and_then (moved behind_document) (left n)
+end_document n BehindRoot = option_and_then (moved place_behind_document) (left n)
 end_document n _ = None
 
 abbrev pub end_sequence : Nest → NestPlace → Option Nest
-end_sequence n InSequence = option_and_then (moved behind_node) (left n)
+end_sequence n InSequence = option_and_then (moved place_behind_node) (left n)
 end_sequence n _ = None
 
 abbrev pub end_mapping : Nest → NestPlace → Option Nest
-end_mapping n BeforeKey = option_and_then (moved behind_node) (left n)
+end_mapping n BeforeKey = option_and_then (moved place_behind_node) (left n)
 end_mapping n _ = None
 
 -- behind an event, if it may come
 abbrev pub behind_event : Happening → Nest → Option Nest
 behind_event Nothing n = None
-behind_event StreamStart n = moved behind_stream_start n
-behind_event StreamEnd n = moved behind_stream_end n
+behind_event StreamStart n = moved place_behind_stream_start n
+behind_event StreamEnd n = moved place_behind_stream_end n
 behind_event (DocumentStart explicit) n = Some (entered BeforeRoot n)
 behind_event DocumentEnd n = end_document n n.innermost
-behind_event (Alias id) n = moved behind_node n
-behind_event (Scalar text style id tag) n = moved behind_node n
+behind_event (Alias id) n = moved place_behind_node n
+behind_event (Scalar text style id tag) n = moved place_behind_node n
 behind_event (SequenceStart id tag) n = Some (entered InSequence n)
 behind_event SequenceEnd n = end_sequence n n.innermost
 behind_event (MappingStart id tag) n = Some (entered BeforeKey n)

@@ -4,7 +4,7 @@ ghost use Rattle.saphyr_parser.specs.Events as events;
 ghost use Rattle.saphyr_parser.specs.Views.Events.{happening};
 ghost use Rattle.yaml_tree.specs.Unloading.{node_events};
 ghost use Rattle.yaml_tree.specs.OpenSeen.{open_events, place_of};
-ghost use Rattle.yaml_tree.specs.Nesting.{outside, behind_node, moved, entered};
+ghost use Rattle.yaml_tree.specs.Nesting.{outside, place_behind_node, moved, entered};
 
 use crate::document::Document;
 use crate::fault::TreeFault;
@@ -23,10 +23,10 @@ pub(crate) struct Builder {
 }
 
 impl Builder {
-    ghost use Rattle.yaml_tree.specs.BuilderSeen.{written, nest_of, Grows, Follows, HandsOutInnermost, Finishes};
+    ghost use Rattle.yaml_tree.specs.BuilderSeen.{builder_events, nest_of, Grows, Follows, HandsOutInnermost, Finishes};
 
     pub(crate) fn new(alloc: Global) -> Builder
-        ensures written { written result ≡ [] }
+        ensures written { builder_events result ≡ [] }
         ensures nested { nest_of result ≡ outside }
     {
         Builder {
@@ -113,8 +113,8 @@ impl Builder {
 
     // Adds a node that is complete.
     fn add(&mut self, node: Node) -> Result<(), TreeFault>
-        ensures { Grows result (node_events node) (moved behind_node (nest_of self.old)) self.old
-            self.new }
+        ensures { Grows result (node_events node)
+            (moved place_behind_node (nest_of self.old)) self.old self.new }
     {
         let open = mem::replace(&mut self.innermost, Open::Nothing);
         self.innermost = open.with_node(node)?;

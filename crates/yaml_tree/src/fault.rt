@@ -11,10 +11,10 @@ pub enum TreeFault {
     #[error(transparent)]
     Parse(Fault),
     /// One node more than this many came, at this place.
-    #[error("more than {1} nodes{place}", place = Place(*.0))]
+    #[error("more than {1} nodes{place}", place = PrintedPlace(*.0))]
     TooManyNodes(Marker, usize),
     /// One collection more than this many would be open at once, at this place.
-    #[error("more than {1} open collections{place}", place = Place(*.0))]
+    #[error("more than {1} open collections{place}", place = PrintedPlace(*.0))]
     TooDeep(Marker, usize),
     /// There was no memory for the trees.
     #[error("out of memory")]
@@ -26,9 +26,9 @@ pub enum TreeFault {
 
 // A place as faults print it.
 #[derive(Clone, Copy)]
-struct Place(Marker);
+struct PrintedPlace(Marker);
 
-impl fmt::Display for Place {
+impl fmt::Display for PrintedPlace {
     fn fmt<W: fmt::Write>(&self, f: &mut fmt::Formatter<W>) -> fmt::Result {
         let Marker { index, line, col } = self.0;
         let column = col as u128 + 1;

@@ -5,7 +5,7 @@ ghost use Rattle.saphyr_parser.specs.Answer.{Answer};
 ghost use Rattle.yaml_tree.specs.declared.tally.Limits.{Limits};
 ghost use Rattle.yaml_tree.specs.declared.fault.TreeFault.TheVariants.{NotFresh};
 ghost use Rattle.yaml_tree.specs.Forests.{IsOfForest};
-ghost use Rattle.yaml_tree.specs.Loading.{IsAtStart, IsNested, Loads};
+ghost use Rattle.yaml_tree.specs.Loading.{IsAtStart, IsNested, LoadsDocuments};
 
 /// The events of each forest nest and begin with the stream's start, and so does each beginning of them.
 ///
@@ -17,5 +17,5 @@ pub fn nests_each_forest()
     ensures starts { (forest : Forest) (keep : Bool) (a : Answer) → IsOfForest forest keep a
         → IsAtStart a }
     ensures fresh { (forest : Forest) (keep : Bool) (limits : Limits) (all left : Answer)
-        → IsOfForest forest keep all → Loads limits (Err NotFresh) all left → ⊥ }
+        → IsOfForest forest keep all → LoadsDocuments limits (Err NotFresh) all left → ⊥ }
 {}

@@ -3,7 +3,7 @@ ghost use Rattle.std.specs.Prelude.{◌≡◌, List, [], ◌∷◌, ◌++◌};
 ghost use Rattle.saphyr_parser.specs.Events.{Happening};
 ghost use Rattle.saphyr_parser.specs.Views.Events.{happening};
 ghost use Rattle.saphyr_parser.specs.Cursor.{to_come};
-ghost use Rattle.yaml_tree.specs.Loading.{Loads, TakesAll, BeginsSo};
+ghost use Rattle.yaml_tree.specs.Loading.{LoadsDocuments, TakesAll, BeginsSo};
 
 use crate::builder::Builder;
 use crate::document::Document;
@@ -22,7 +22,7 @@ pub fn load_documents<'input, T: Input>(
     parser: &mut Parser<'input, T>,
     limits: Limits,
 ) -> Result<Vec<Document>, TreeFault>
-    ensures { Loads limits result (to_come parser.old) (to_come parser.new) }
+    ensures { LoadsDocuments limits result (to_come parser.old) (to_come parser.new) }
 {
     if !is_at_start(parser) {
         return Err(TreeFault::NotFresh);

@@ -30,8 +30,8 @@ impl Open {
 
     // The stream that begins.
     pub(crate) fn begun(self, alloc: Global) -> Result<Open, TreeFault>
-        ensures { GrowsBy result (StreamStart ∷ []) (nesting.behind_stream_start (place_of self))
-            self }
+        ensures { GrowsBy result (StreamStart ∷ [])
+            (nesting.place_behind_stream_start (place_of self)) self }
     {
         match self {
             Open::Nothing => Ok(Open::Stream(Vec::new(alloc))),
@@ -41,7 +41,8 @@ impl Open {
 
     // The stream that ends.
     pub(crate) fn ended(self) -> Result<Open, TreeFault>
-        ensures { GrowsBy result (StreamEnd ∷ []) (nesting.behind_stream_end (place_of self)) self }
+        ensures { GrowsBy result (StreamEnd ∷ [])
+            (nesting.place_behind_stream_end (place_of self)) self }
     {
         match self {
             Open::Stream(documents) => Ok(Open::Ended(documents)),
@@ -52,7 +53,7 @@ impl Open {
     // The same with one more document.
     pub(crate) fn with_document(self, document: Document) -> Result<Open, TreeFault>
         ensures { GrowsBy result (document_events document)
-            (nesting.behind_document (place_of self)) self }
+            (nesting.place_behind_document (place_of self)) self }
     {
         match self {
             Open::Stream(mut documents) => match documents.push(document) {
@@ -65,7 +66,8 @@ impl Open {
 
     // The same with one more node.
     pub(crate) fn with_node(self, node: Node) -> Result<Open, TreeFault>
-        ensures { GrowsBy result (node_events node) (nesting.behind_node (place_of self)) self }
+        ensures { GrowsBy result (node_events node)
+            (nesting.place_behind_node (place_of self)) self }
     {
         match self {
             Open::Document(explicit, root) => match root {

@@ -1,7 +1,7 @@
 //! What is read of a block scalar, and where, against lists that were made elsewhere.
 use saphyr_input::StrInput;
-use saphyr_scalar::reading::BlockStyle;
 use saphyr_scalar::{BlockScalar, FaultText, Marker, Reader, Refusal, Span, Stop};
+use scalar_values::BlockStyle;
 use std::alloc::{AllocError, Global};
 use std::process::Abort;
 use std::test::Fail;

@@ -1,6 +1,6 @@
 //! Line breaks, folding, and the values of scalars in each style.
 
-use saphyr_scalar::reading::{
+use scalar_values::{
     BlockStyle, Chomping, Ending, Item, block_value, double_quoted_value, folded, normalized,
     plain_value, single_quoted_value,
 };

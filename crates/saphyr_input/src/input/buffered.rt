@@ -23,7 +23,8 @@ const MOST_ITEMS: u64 = 4294967296;
 /// [`Clone`] alone doesn't say so, since what a clone is like is for each type to tell.
 pub trait FaithfulClone: Iterator<Item = char> + Clone {
     /// What lists the items of an iterator lists those of its clone.
-    ghost faithful: { (s t : Self) → Self.is_clone s t → (xs : List ℕ) → Lists Self.can_next Self.next_gives s xs → Lists Self.can_next Self.next_gives t xs };
+    ghost faithful: { (s t : Self) → Self.is_clone s t → (xs : List ℕ)
+        → Lists Self.can_next Self.next_gives s xs → Lists Self.can_next Self.next_gives t xs };
 }
 
 impl FaithfulClone for Chars<'_> {
@@ -169,7 +170,9 @@ impl<I: Iterator<Item = char>> Input for BufferedInput<I> {
 }
 
 impl<I: FaithfulClone> Clone for BufferedInput<I> {
-    ghost is_clone = { λ s t. (⟦<BufferedInput<I> as Input>⟧.rest t ≡ ⟦<BufferedInput<I> as Input>⟧.rest s) × (⟦<BufferedInput<I> as Input>⟧.loaded t ≡ ⟦<BufferedInput<I> as Input>⟧.loaded s) };
+    ghost is_clone = { λ s t. (⟦<BufferedInput<I> as Input>⟧.rest t
+        ≡ ⟦<BufferedInput<I> as Input>⟧.rest s)
+        × (⟦<BufferedInput<I> as Input>⟧.loaded t ≡ ⟦<BufferedInput<I> as Input>⟧.loaded s) };
 
     fn clone(&self) -> Result<Self, AllocError> {
         let ring = clone_ring(&self.ring)?;

@@ -11,7 +11,8 @@ use crate::input::str::StrInput;
 /// one's own that is `Clone` needs an `impl` with a proof of this law, and no code.
 pub trait CloneInput: Input + Clone {
     /// A clone has the characters and the loaded places of its source.
-    ghost faithful: { (s t : Self) → Self.is_clone s t → (Self.rest t ≡ Self.rest s) × (Self.loaded t ≡ Self.loaded s) };
+    ghost faithful: { (s t : Self) → Self.is_clone s t
+        → (Self.rest t ≡ Self.rest s) × (Self.loaded t ≡ Self.loaded s) };
 }
 
 impl CloneInput for StrInput<'_> {

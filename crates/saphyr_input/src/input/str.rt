@@ -186,6 +186,7 @@ impl Input for StrInput<'_> {
         is_marker(self.rest, b'.')
     }
 
+    #[inline(always)]
     fn skip_ws_to_eol(&mut self, skip_tabs: SkipTabs) -> (usize, Result<SkipTabs, &'static str>) {
         // The bytes are fewer than 2^64, and the characters no more.
         let _ = self.rest.as_bytes();

@@ -5,20 +5,20 @@ use Rattle.saphyr_scalar.specs.declared.scalar.position.Span.{Span}
 use Rattle.saphyr_scanner.specs.Grammar.Tokens as tokens
 use Rattle.saphyr_scanner.specs.Grammar.Tokens.{Kind}
 use Rattle.saphyr_scanner.specs.Views.Tokens.{Piece}
-use Rattle.saphyr_parser.specs.declared.parser.context.Context.{Context}
-use Rattle.saphyr_parser.specs.declared.parser.context.Context.TheVariants.{Flow, Block, BlockMapping}
+use Rattle.saphyr_parser.specs.declared.parser.context.NodeContext.{NodeContext}
+use Rattle.saphyr_parser.specs.declared.parser.context.NodeContext.TheVariants.{Flow, Block, BlockMapping}
 use Rattle.saphyr_parser.specs.declared.parser.state.State.{State}
 use Rattle.saphyr_parser.specs.declared.parser.state.State.TheVariants as state
 use Rattle.saphyr_parser.specs.Steps.Machine.{Machine, left_out_event, push, put_back}
-use Rattle.saphyr_parser.specs.Steps.Nodes.{inside}
+use Rattle.saphyr_parser.specs.Steps.Nodes.{node_inside}
 use Rattle.saphyr_parser.specs.Steps.Block as block
 use Rattle.saphyr_parser.specs.Steps.Flow as flow
 use Rattle.saphyr_parser.proofs.Beside.Machines.{Beside, Spans, Expected, Held, Alike, Tells, Both, AtBoth, taken, refuses, holds, tells_end, enters_told}
 use Rattle.saphyr_parser.proofs.Beside.Nodes.{node_beside}
 
 goes_inside :
-    (w : Beside) (x y : State) (c : Context) (k : Kind) (t u : Piece) (m n : Machine) → Expected w x y
-    → Held w k t u m n → Tells w (inside x c t m) (inside y c u n)
+    (w : Beside) (x y : State) (c : NodeContext) (k : Kind) (t u : Piece) (m n : Machine) → Expected w x y
+    → Held w k t u m n → Tells w (node_inside x c t m) (node_inside y c u n)
 goes_inside w x y c k t u m n i h = node_beside w c k t u (push x m) (push y n) (holds w x y k t u m n i h)
 
 leaves_out :
@@ -71,15 +71,15 @@ unfolding block.indentless_entry
 indentless_entry w m n near =
     taken w _ block.indentless_entry_at block.indentless_entry_at m n near (indentless_entry_at w)
 
-key_node_at : (w : Beside) → AtBoth w (Alike w) block.key_node_at block.key_node_at
+key_node_at : (w : Beside) → AtBoth w (Alike w) block.block_key_node_at block.block_key_node_at
 key_node_at w tokens.Key t u m n h = leaves_out w _ _ t.span u.span _ t u m n refl h.span h
 key_node_at w tokens.Value t u m n h = leaves_out w _ _ t.span u.span _ t u m n refl h.span h
 key_node_at w tokens.BlockEnd t u m n h = leaves_out w _ _ t.span u.span _ t u m n refl h.span h
 key_node_at w k t u m n h = goes_inside w _ _ BlockMapping k t u m n refl h
 
-pub key_node : (w : Beside) → Both w (Alike w) block.key_node block.key_node
-unfolding block.key_node
-key_node w m n near = taken w _ block.key_node_at block.key_node_at m n near (key_node_at w)
+pub key_node : (w : Beside) → Both w (Alike w) block.block_key_node block.block_key_node
+unfolding block.block_key_node
+key_node w m n near = taken w _ block.block_key_node_at block.block_key_node_at m n near (key_node_at w)
 
 mapping_key_at : (w : Beside) → AtBoth w (Alike w) block.mapping_key_at block.mapping_key_at
 mapping_key_at w tokens.Key t u m n h = key_node w m n h.behind
@@ -92,24 +92,26 @@ unfolding block.mapping_key
 mapping_key w m n near = taken w _ block.mapping_key_at block.mapping_key_at m n near (mapping_key_at w)
 
 value_node_at : (w : Beside) (s r : Span) → Spans w s r
-    → AtBoth w (Alike w) (λ k. block.value_node_at k s) (λ k. block.value_node_at k r)
+    → AtBoth w (Alike w) (λ k. block.block_value_node_at k s) (λ k. block.block_value_node_at k r)
 value_node_at w s r e tokens.Key t u m n h = leaves_out w _ _ s r _ t u m n refl e h
 value_node_at w s r e tokens.Value t u m n h = leaves_out w _ _ s r _ t u m n refl e h
 value_node_at w s r e tokens.BlockEnd t u m n h = leaves_out w _ _ s r _ t u m n refl e h
 value_node_at w s r e k t u m n h = goes_inside w _ _ BlockMapping k t u m n refl h
 
-pub value_node : (w : Beside) (s r : Span) → Spans w s r → Both w (Alike w) (block.value_node s) (block.value_node r)
-unfolding block.value_node
+pub value_node : (w : Beside) (s r : Span) → Spans w s r
+    → Both w (Alike w) (block.block_value_node s) (block.block_value_node r)
+unfolding block.block_value_node
 value_node w s r e m n near =
-    taken w _ (λ k. block.value_node_at k s) (λ k. block.value_node_at k r) m n near (value_node_at w s r e)
+    taken w _ (λ k. block.block_value_node_at k s) (λ k. block.block_value_node_at k r) m n near (value_node_at w s r e)
 
-mapping_value_at : (w : Beside) → AtBoth w (Alike w) block.mapping_value_at block.mapping_value_at
+mapping_value_at : (w : Beside) → AtBoth w (Alike w) block.block_mapping_value_at block.block_mapping_value_at
 mapping_value_at w tokens.Value t u m n h = value_node w t.span u.span h.span m n h.behind
 mapping_value_at w k t u m n h = leaves_out w _ _ t.span u.span k t u m n refl h.span h
 
-pub mapping_value : (w : Beside) → Both w (Alike w) block.mapping_value block.mapping_value
-unfolding block.mapping_value
-mapping_value w m n near = taken w _ block.mapping_value_at block.mapping_value_at m n near (mapping_value_at w)
+pub mapping_value : (w : Beside) → Both w (Alike w) block.block_mapping_value block.block_mapping_value
+unfolding block.block_mapping_value
+mapping_value w m n near =
+    taken w _ block.block_mapping_value_at block.block_mapping_value_at m n near (mapping_value_at w)
 
 flow_entry_at : (w : Beside) → AtBoth w (Alike w) flow.entry_at flow.entry_at
 flow_entry_at w tokens.FlowSequenceEnd t u m n h = tells_end w _ t.span u.span m n h.span h.behind
@@ -163,15 +165,15 @@ pub flow_pair_end : (w : Beside) (p q : Marker) → w.Place p q → Both w (Alik
 unfolding flow.pair_end
 flow_pair_end w p q e m n near = enters_told w _ _ _ _ _ m n refl (e, e) near
 
-flow_key_node_at : (w : Beside) → AtBoth w (Alike w) flow.key_node_at flow.key_node_at
+flow_key_node_at : (w : Beside) → AtBoth w (Alike w) flow.flow_key_node_at flow.flow_key_node_at
 flow_key_node_at w tokens.Value t u m n h = leaves_out w _ _ t.span u.span _ t u m n refl h.span h
 flow_key_node_at w tokens.FlowEntry t u m n h = leaves_out w _ _ t.span u.span _ t u m n refl h.span h
 flow_key_node_at w tokens.FlowMappingEnd t u m n h = leaves_out w _ _ t.span u.span _ t u m n refl h.span h
 flow_key_node_at w k t u m n h = goes_inside w _ _ Flow k t u m n refl h
 
-pub flow_key_node : (w : Beside) → Both w (Alike w) flow.key_node flow.key_node
-unfolding flow.key_node
-flow_key_node w m n near = taken w _ flow.key_node_at flow.key_node_at m n near (flow_key_node_at w)
+pub flow_key_node : (w : Beside) → Both w (Alike w) flow.flow_key_node flow.flow_key_node
+unfolding flow.flow_key_node
+flow_key_node w m n near = taken w _ flow.flow_key_node_at flow.flow_key_node_at m n near (flow_key_node_at w)
 
 flow_pair_at : (w : Beside) (s r : Span) → Spans w s r
     → AtBoth w (Alike w) (λ k. flow.pair_at k s) (λ k. flow.pair_at k r)
@@ -201,23 +203,26 @@ unfolding flow.other_pair
 flow_other_pair w m n near = taken w _ flow.other_pair_at flow.other_pair_at m n near (flow_other_pair_at w)
 
 flow_value_node_at : (w : Beside) (s r : Span) → Spans w s r
-    → AtBoth w (Alike w) (λ k. flow.value_node_at k s) (λ k. flow.value_node_at k r)
+    → AtBoth w (Alike w) (λ k. flow.flow_value_node_at k s) (λ k. flow.flow_value_node_at k r)
 flow_value_node_at w s r e tokens.FlowEntry t u m n h = leaves_out w _ _ s r _ t u m n refl e h
 flow_value_node_at w s r e tokens.FlowMappingEnd t u m n h = leaves_out w _ _ s r _ t u m n refl e h
 flow_value_node_at w s r e k t u m n h = goes_inside w _ _ Flow k t u m n refl h
 
-pub flow_value_node : (w : Beside) (s r : Span) → Spans w s r → Both w (Alike w) (flow.value_node s) (flow.value_node r)
-unfolding flow.value_node
+pub flow_value_node : (w : Beside) (s r : Span) → Spans w s r
+    → Both w (Alike w) (flow.flow_value_node s) (flow.flow_value_node r)
+unfolding flow.flow_value_node
 flow_value_node w s r e m n near =
-    taken w _ (λ k. flow.value_node_at k s) (λ k. flow.value_node_at k r) m n near (flow_value_node_at w s r e)
+    taken w _ (λ k. flow.flow_value_node_at k s) (λ k. flow.flow_value_node_at k r) m n near
+    (flow_value_node_at w s r e)
 
-flow_mapping_value_at : (w : Beside) → AtBoth w (Alike w) flow.mapping_value_at flow.mapping_value_at
+flow_mapping_value_at : (w : Beside) → AtBoth w (Alike w) flow.flow_mapping_value_at flow.flow_mapping_value_at
 flow_mapping_value_at w tokens.Value t u m n h = flow_value_node w t.span u.span h.span m n h.behind
 flow_mapping_value_at w k t u m n h = leaves_out w _ _ t.span u.span k t u m n refl h.span h
 
-pub flow_mapping_value : (w : Beside) → Both w (Alike w) flow.mapping_value flow.mapping_value
-unfolding flow.mapping_value
-flow_mapping_value w m n near = taken w _ flow.mapping_value_at flow.mapping_value_at m n near (flow_mapping_value_at w)
+pub flow_mapping_value : (w : Beside) → Both w (Alike w) flow.flow_mapping_value flow.flow_mapping_value
+unfolding flow.flow_mapping_value
+flow_mapping_value w m n near =
+    taken w _ flow.flow_mapping_value_at flow.flow_mapping_value_at m n near (flow_mapping_value_at w)
 
 pub flow_empty_value : (w : Beside) → Both w (Alike w) flow.empty_value flow.empty_value
 unfolding flow.empty_value

@@ -6,15 +6,15 @@ use Rattle.saphyr_scalar.specs.declared.scalar.fault.Refusal.{Refusal}
 use Rattle.saphyr_scanner.specs.Grammar.Tokens as tokens
 use Rattle.saphyr_scanner.specs.Grammar.Tokens.{Kind}
 use Rattle.saphyr_scanner.specs.Views.Tokens.{Piece, Remaining}
-use Rattle.saphyr_parser.specs.declared.parser.context.Context.TheVariants.{Block}
+use Rattle.saphyr_parser.specs.declared.parser.context.NodeContext.TheVariants.{Block}
 use Rattle.saphyr_parser.specs.declared.parser.state.State.{State}
 use Rattle.saphyr_parser.specs.declared.parser.state.State.TheVariants as state
 use Rattle.saphyr_parser.specs.Premises.{DocumentMarker, Starts, Ends}
-use Rattle.saphyr_parser.specs.Steps.Machine.{◌>>=◌, Machine, Told, with_pieces, put_back, push, enter, forgotten}
+use Rattle.saphyr_parser.specs.Steps.Machine.{◌>>=◌, Machine, Told, with_pieces, put_back, push, with_state, forgotten}
 use Rattle.saphyr_parser.specs.Steps.Documents as document
-use Rattle.saphyr_parser.specs.Steps.Documents.{pass_from, pass, is_mark, is_end_or_mark, none_declared, directives, forget_anchors, forget_prefixes}
+use Rattle.saphyr_parser.specs.Steps.Documents.{unpassed_token_from, unpassed_token, is_mark, is_end_or_mark, none_declared, directives, forget_anchors, forget_prefixes}
 use Rattle.saphyr_parser.specs.Steps.Nodes.{node}
-use Rattle.saphyr_parser.specs.Steps.Expected.{block_node, step_at}
+use Rattle.saphyr_parser.specs.Steps.Expected.{block_node, event_step_at}
 use Rattle.saphyr_parser.proofs.Beside.Machines.{Beside, Expected, With, Near, Gives, Awaits, Left, Alike, Tells, Both, AtBoth, ahead, changed, taken, refuses, enters, tells, tells_end, enters_told}
 use Rattle.saphyr_parser.proofs.Beside.Nodes.{node_beside}
 use Rattle.saphyr_parser.proofs.Beside.Collections as steps
@@ -24,8 +24,8 @@ use Rattle.saphyr_parser.proofs.Beside.Passing.{Has, Passes, passes, has, goes_b
 
 -- anchors are forgotten, and something is expected behind the document
 opened : (w : Beside) (T : Remaining → Remaining → Type 0) (s : State) (m n : Machine) → Expected w s s → With w T m n
-    → With w T (enter s (push state.DocumentEnd (forget_anchors m)))
-    (enter s (push state.DocumentEnd (forget_anchors n)))
+    → With w T (with_state s (push state.DocumentEnd (forget_anchors m)))
+    (with_state s (push state.DocumentEnd (forget_anchors n)))
 opened w T s m n e near =
     record {
       tokens = near.tokens;
@@ -90,7 +90,7 @@ Starting w m n go = Tells w (go m) (go n) ⊎ Passed w m n go
 
 starts : (w : Beside) (m n : Machine) (go : Kind → Piece → Machine → Result Told Refusal) → AtBoth w (Alike w) go go
     → Near w m n
-    → Starting w m n (λ m. pass_from is_end_or_mark m.tokens.pieces m >>= (λ t. go t.0.kind t.0 t.1))
+    → Starting w m n (λ m. unpassed_token_from is_end_or_mark m.tokens.pieces m >>= (λ t. go t.0.kind t.0 t.1))
 starts w m n go f near = by _ _ (passes w _ is_end_or_mark (goes_by_ends w) _ _ m n (ahead w m n near))
   where
     goes_on_with : Result (Piece × Machine) Refusal → Result Told Refusal
@@ -99,17 +99,17 @@ starts w m n go f near = by _ _ (passes w _ is_end_or_mark (goes_by_ends w) _ _ 
     by : (p q : Result (Piece × Machine) Refusal) → Passes w (w.Over Ends) is_end_or_mark m n p q
         → Tells w (goes_on_with p) (goes_on_with q)
         ⊎ ((ts : List Piece) × (us : List Piece) × With w (w.Over Ends) (with_pieces ts m) (with_pieces us n)
-        × (goes_on_with p ≡ goes_on_with (pass_from is_end_or_mark ts (with_pieces ts m)))
-        × (goes_on_with q ≡ goes_on_with (pass_from is_end_or_mark us (with_pieces us n))))
+        × (goes_on_with p ≡ goes_on_with (unpassed_token_from is_end_or_mark ts (with_pieces ts m)))
+        × (goes_on_with q ≡ goes_on_with (unpassed_token_from is_end_or_mark us (with_pieces us n))))
     by p q (inl g) = inl (behind_both w (Alike w) p q go go f g)
     by p q (inr (ts, us, o, e, y)) = inr (ts, us, o, ap goes_on_with e, ap goes_on_with y)
 
 implicit_start : (w : Beside) (m n : Machine) → Near w m n → Starting w m n document.implicit_start
-unfolding document.implicit_start pass
+unfolding document.implicit_start unpassed_token
 implicit_start w m n near = starts w m n document.implicit_start_at (implicit_at w) near
 
 explicit_start : (w : Beside) (m n : Machine) → Near w m n → Starting w m n document.explicit_start
-unfolding document.explicit_start pass
+unfolding document.explicit_start unpassed_token
 explicit_start w m n near = starts w m n document.explicit_start_at (start_at w) near
 
 -- ## The content and the end of documents
@@ -117,7 +117,7 @@ explicit_start w m n near = starts w m n document.explicit_start_at (start_at w)
 none_at : (w : Beside) → AtBoth w (Alike w) (λ k. document.no_content) (λ k. document.no_content)
 none_at w k t u m n h = tells_end w _ t.span u.span (put_back t m) (put_back u n) h.span h.back
 
-content_at : (w : Beside) → AtBoth w (Alike w) document.content_at document.content_at
+content_at : (w : Beside) → AtBoth w (Alike w) document.document_content_at document.document_content_at
 content_at w (tokens.VersionDirective major minor) t u m n h = none_at w _ t u m n h
 content_at w (tokens.TagDirective handle prefix) t u m n h = none_at w _ t u m n h
 content_at w (tokens.ReservedDirective name) t u m n h = none_at w _ t u m n h
@@ -135,7 +135,7 @@ marks_at w p q e tokens.StreamEnd t u m n h = has w _ t u m n h
 marks_at w p q e _ t u m n h = inr (w.refused _ p q e)
 
 marks : (w : Beside) (p q : Marker) → w.Place p q → Both w (Has w) (document.behind_marks p) (document.behind_marks q)
-unfolding document.behind_marks pass
+unfolding document.behind_marks unpassed_token
 marks w p q e m n near = by _ _ (passes w _ is_mark (goes_by_marks w) _ _ m n (ahead w m n near))
   where
     by : (a b : Result (Piece × Machine) Refusal) → Passes w (λ r q. ⊥) is_mark m n a b
@@ -216,14 +216,14 @@ start_passed (inr b) = inr (tt, b)
 -- A step of both, but that at the end of a document where the settings differ.
 pub steps_beside :
     (w : Beside) (s r : State) (m n : Machine) → Expected w s r → s ≢ state.End → (s ≡ state.DocumentEnd → Keeps w)
-    → Near w m n → Tells w (step_at s m) (step_at r n) ⊎ (IsStart s × Passed w m n (step_at s))
+    → Near w m n → Tells w (event_step_at s m) (event_step_at r n) ⊎ (IsStart s × Passed w m n (event_step_at s))
 unfolding block_node document.stream_start document.document_content
 steps_beside w state.StreamStart r m n e on keeps near =
     rw e (inl (taken w _ document.stream_start_at document.stream_start_at m n near (stream_at w)))
 steps_beside w state.ImplicitDocumentStart r m n e on keeps near = rw e (start_passed (implicit_start w m n near))
 steps_beside w state.DocumentStart r m n e on keeps near = rw e (start_passed (explicit_start w m n near))
 steps_beside w state.DocumentContent r m n e on keeps near =
-    rw e (inl (taken w _ document.content_at document.content_at m n near (content_at w)))
+    rw e (inl (taken w _ document.document_content_at document.document_content_at m n near (content_at w)))
 steps_beside w state.DocumentEnd r m n e on keeps near = rw e (inl (end_beside w (keeps refl) m n near))
 steps_beside w state.BlockNode r m n e on keeps near =
     rw e (inl (taken w _ (λ k. node Block) (λ k. node Block) m n near (node_beside w Block)))

@@ -12,7 +12,7 @@ use Rattle.saphyr_parser.specs.declared.parser.state.State.{State}
 use Rattle.saphyr_parser.specs.declared.parser.state.State.TheVariants as state
 use Rattle.saphyr_parser.specs.Events.{Happening}
 use Rattle.saphyr_parser.specs.Premises.{DocumentMarker, Starts, Ends}
-use Rattle.saphyr_parser.specs.Steps.Machine.{◌>>=◌, Machine, Told, told, refuse, ending, with_pieces, take, take_from, put_back, pop, popped, enter, push, registered}
+use Rattle.saphyr_parser.specs.Steps.Machine.{◌>>=◌, Machine, Told, told, refusal_at, ending_refusal, with_pieces, taken_token, taken_token_from, put_back, pop, popped, with_state, push, registered}
 use Rattle.saphyr_parser.specs.Steps.Nodes.{register}
 
 -- ## What is alike
@@ -49,7 +49,7 @@ pub record Beside : Type 1 where
       → Refused (record { text = text; mark = p }) (record { text = text; mark = q })
   pub none : (us : List Piece) (o e : Option Refusal)
       → Rest (record { pieces = []; refusal = o }) (record { pieces = us; refusal = e })
-      → Early (ending o) ⊎ ((us ≡ []) × Refused (ending o) (ending e))
+      → Early (ending_refusal o) ⊎ ((us ≡ []) × Refused (ending_refusal o) (ending_refusal e))
   pub next : (t : Piece) (ts us : List Piece) (o e : Option Refusal)
       → Rest (record { pieces = t ∷ ts; refusal = o }) (record { pieces = us; refusal = e })
       → Next Place (Behind Rest Over t.kind) t ts us o e
@@ -179,13 +179,13 @@ ahead w m n near = changed w _ _ m n _ _ _ _ _ _ near.tokens near.state near.sta
 pub over :
     {X : Type 0} (w : Beside) (R : X → X → Type 0) (us : List Piece) (m n : Machine) (go : List Piece
     → Result X Refusal)
-    → Ahead w [] us m n → go [] ≡ Err (ending n.tokens.refusal)
-    → Gives w R (Err (ending m.tokens.refusal)) (go us)
+    → Ahead w [] us m n → go [] ≡ Err (ending_refusal n.tokens.refusal)
+    → Gives w R (Err (ending_refusal m.tokens.refusal)) (go us)
 over w R us m n go near is = by (w.none us m.tokens.refusal n.tokens.refusal near.tokens)
   where
-    by : w.Early (ending m.tokens.refusal)
-        ⊎ ((us ≡ []) × w.Refused (ending m.tokens.refusal) (ending n.tokens.refusal))
-        → Gives w R (Err (ending m.tokens.refusal)) (go us)
+    by : w.Early (ending_refusal m.tokens.refusal)
+        ⊎ ((us ≡ []) × w.Refused (ending_refusal m.tokens.refusal) (ending_refusal n.tokens.refusal))
+        → Gives w R (Err (ending_refusal m.tokens.refusal)) (go us)
     by (inl e) = inl e
     by (inr e) = rw e.0 (rw is (inr e.1))
 
@@ -214,22 +214,23 @@ holds_head w t ts us m n near x =
 pub taken :
     {X : Type 0} (w : Beside) (R : X → X → Type 0) (go ho : Kind → Piece → Machine → Result X Refusal) (m n : Machine)
     → Near w m n → AtBoth w R go ho
-    → Gives w R (take m >>= (λ t. go t.0.kind t.0 t.1)) (take n >>= (λ t. ho t.0.kind t.0 t.1))
+    → Gives w R (taken_token m >>= (λ t. go t.0.kind t.0 t.1)) (taken_token n >>= (λ t. ho t.0.kind t.0 t.1))
 taken w R go ho m n near h = by m.tokens.pieces n.tokens.pieces (ahead w m n near)
   where
     by : (ts us : List Piece) → Ahead w ts us m n
-        → Gives w R (take_from ts m >>= (λ t. go t.0.kind t.0 t.1)) (take_from us n >>= (λ t. ho t.0.kind t.0 t.1))
-    by [] us a = over w R us m n (λ us. take_from us n >>= (λ t. ho t.0.kind t.0 t.1)) a refl
+        → Gives w R (taken_token_from ts m >>= (λ t. go t.0.kind t.0 t.1))
+        (taken_token_from us n >>= (λ t. ho t.0.kind t.0 t.1))
+    by [] us a = over w R us m n (λ us. taken_token_from us n >>= (λ t. ho t.0.kind t.0 t.1)) a refl
     by (t ∷ ts) us a =
         let x = head w t ts us m n a in
         rw x.is (h t.kind t _ (with_pieces ts m) (with_pieces x.tail n) (holds_head w t ts us m n a x))
 
 pub refuses : (w : Beside) (text : FaultText) (t u : Piece) → Spans w t.span u.span
-    → Tells w (refuse text t) (refuse text u)
+    → Tells w (refusal_at text t) (refusal_at text u)
 refuses w text t u s = inr (w.refused text t.span.start u.span.start s.0)
 
 pub enters : (w : Beside) (T : Remaining → Remaining → Type 0) (s r : State) (m n : Machine) → Expected w s r
-    → With w T m n → With w T (enter s m) (enter r n)
+    → With w T m n → With w T (with_state s m) (with_state r n)
 enters w T s r m n e near = changed w _ _ m n _ _ _ _ _ _ near.tokens e near.states near
 
 pub pushes : (w : Beside) (T : Remaining → Remaining → Type 0) (s r : State) (m n : Machine) → Expected w s r
@@ -282,5 +283,5 @@ tells_end w what s r m n e near = tells w what s r _ _ e (pops w m n near)
 
 -- a state without a place
 pub enters_told : (w : Beside) (what : Happening) (x y : State) (s r : Span) (m n : Machine) → Expected w x y
-    → Spans w s r → Near w m n → Tells w (told what s (enter x m)) (told what r (enter y n))
+    → Spans w s r → Near w m n → Tells w (told what s (with_state x m)) (told what r (with_state y n))
 enters_told w what x y s r m n i e near = tells w what s r _ _ e (enters w w.Rest x y m n i near)

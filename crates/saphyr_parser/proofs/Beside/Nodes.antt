@@ -9,12 +9,12 @@ use Rattle.saphyr_scalar.specs.declared.scalar.fault.FaultText.TheVariants as fa
 use Rattle.saphyr_scanner.specs.Grammar.Tokens as tokens
 use Rattle.saphyr_scanner.specs.Grammar.Tokens.{Kind}
 use Rattle.saphyr_scanner.specs.Views.Tokens.{Piece}
-use Rattle.saphyr_parser.specs.declared.parser.context.Context.{Context}
+use Rattle.saphyr_parser.specs.declared.parser.context.NodeContext.{NodeContext}
 use Rattle.saphyr_parser.specs.Events.{ResolvedTag}
 use Rattle.saphyr_parser.specs.Steps.Machine.{◌>>=◌, Anchors, Names, meaning, Machine, Told, put_back, registered, next_id}
 use Rattle.saphyr_parser.specs.Steps.Tags.{undeclared, declared_or, declared_prefix, resolved, is_named_handle}
 use Rattle.saphyr_parser.specs.Steps.Contexts.{allows_block, allows_indentless}
-use Rattle.saphyr_parser.specs.Steps.Nodes.{NodeProperties, register, has_property, without_content, content_at, content, next_content, alias_of, alias, behind_anchor_at, behind_anchor, behind_tag_at, behind_tag, node_at, node}
+use Rattle.saphyr_parser.specs.Steps.Nodes.{NodeProperties, register, has_property, without_content, node_content_at, node_content, next_content, alias_of, alias_node, behind_anchor_at, behind_anchor, behind_tag_at, behind_tag, node_at, node}
 use Rattle.saphyr_parser.proofs.Beside.Machines.{Beside, Spans, Near, Held, Gives, Alike, Tells, Both, AtBoth, either, of_kind, taken, refuses, registers, tells_end, enters_told}
 
 -- ## Tags
@@ -73,15 +73,17 @@ without_beside w a b x y id tag k t u m n i j h =
     (tells_end w _ _ _ (put_back t m) (put_back u n) (i, j) h.back) (refuses w _ t u h.span)
 
 content_beside :
-    (w : Beside) (a b x y : Marker) (id : ℕ) (tag : Option ResolvedTag) (c : Context) → w.Place a x → w.Place b y
-    → AtBoth w (Alike w) (λ k. content_at k (properties a b id tag) c) (λ k. content_at k (properties x y id tag) c)
+    (w : Beside) (a b x y : Marker) (id : ℕ) (tag : Option ResolvedTag) (c : NodeContext) → w.Place a x → w.Place b y
+    → AtBoth w (Alike w) (λ k. node_content_at k (properties a b id tag) c)
+    (λ k. node_content_at k (properties x y id tag) c)
 content_beside w a b x y id tag c i j = at
   where
     none : (k : Kind) (t u : Piece) (m n : Machine) → Held w k t u m n
         → Tells w (without_content (properties a b id tag) t m) (without_content (properties x y id tag) u n)
     none k t u m n h = without_beside w a b x y id tag k t u m n i j h
 
-    at : AtBoth w (Alike w) (λ k. content_at k (properties a b id tag) c) (λ k. content_at k (properties x y id tag) c)
+    at : AtBoth w (Alike w) (λ k. node_content_at k (properties a b id tag) c)
+        (λ k. node_content_at k (properties x y id tag) c)
     at (tokens.Scalar style text) t u m n h = tells_end w _ _ _ m n (i, h.span.1) h.behind
     at tokens.FlowSequenceStart t u m n h = enters_told w _ _ _ _ _ m n refl (i, h.span.1) h.behind
     at tokens.FlowMappingStart t u m n h = enters_told w _ _ _ _ _ m n refl (i, h.span.1) h.behind
@@ -94,19 +96,21 @@ content_beside w a b x y id tag c i j = at
     at _ t u m n h = none _ t u m n h
 
 behind_beside :
-    (w : Beside) (a b x y : Marker) (id : ℕ) (tag : Option ResolvedTag) (c : Context) → w.Place a x → w.Place b y
-    → AtBoth w (Alike w) (λ k. content (properties a b id tag) c) (λ k. content (properties x y id tag) c)
-unfolding content
+    (w : Beside) (a b x y : Marker) (id : ℕ) (tag : Option ResolvedTag) (c : NodeContext) → w.Place a x → w.Place b y
+    → AtBoth w (Alike w) (λ k. node_content (properties a b id tag) c) (λ k. node_content (properties x y id tag) c)
+unfolding node_content
 behind_beside w a b x y id tag c i j =
-    of_kind w (Alike w) (λ k. content_at k (properties a b id tag) c) (λ k. content_at k (properties x y id tag) c)
+    of_kind w (Alike w) (λ k. node_content_at k (properties a b id tag) c)
+    (λ k. node_content_at k (properties x y id tag) c)
     (content_beside w a b x y id tag c i j)
 
 next_beside :
-    (w : Beside) (a b x y : Marker) (id : ℕ) (tag : Option ResolvedTag) (c : Context) → w.Place a x → w.Place b y
+    (w : Beside) (a b x y : Marker) (id : ℕ) (tag : Option ResolvedTag) (c : NodeContext) → w.Place a x → w.Place b y
     → Both w (Alike w) (next_content (properties a b id tag) c) (next_content (properties x y id tag) c)
-unfolding next_content content
+unfolding next_content node_content
 next_beside w a b x y id tag c i j m n near =
-    taken w _ (λ k. content_at k (properties a b id tag) c) (λ k. content_at k (properties x y id tag) c) m n near
+    taken w _ (λ k. node_content_at k (properties a b id tag) c)
+    (λ k. node_content_at k (properties x y id tag) c) m n near
     (content_beside w a b x y id tag c i j)
 
 alias_beside : (w : Beside) (o p : Option ℕ) (s r : Span) → p ≡ o → Spans w s r
@@ -118,7 +122,7 @@ alias_beside w o p s r is e m n near = rw is (by o)
     by (Some id) = tells_end w _ s r m n e near
 
 behind_anchor_beside :
-    (w : Beside) (id : ℕ) (s r : Span) (c : Context) → Spans w s r
+    (w : Beside) (id : ℕ) (s r : Span) (c : NodeContext) → Spans w s r
     → AtBoth w (Alike w) (λ k. behind_anchor_at k id s c) (λ k. behind_anchor_at k id r c)
 behind_anchor_beside w id s r c e (tokens.Tag handle suffix) t u m n h =
     resolves w handle suffix s.start r.start m n _ _ e.0 h.behind
@@ -126,7 +130,7 @@ behind_anchor_beside w id s r c e (tokens.Tag handle suffix) t u m n h =
 behind_anchor_beside w id s r c e k t u m n h =
     behind_beside w s.start s.end r.start r.end id None c e.0 e.1 k t u m n h
 
-anchor_beside : (w : Beside) (name : List ℕ) (s r : Span) (c : Context) → Spans w s r
+anchor_beside : (w : Beside) (name : List ℕ) (s r : Span) (c : NodeContext) → Spans w s r
     → Both w (Alike w) (behind_anchor name s c) (behind_anchor name r c)
 unfolding behind_anchor
 anchor_beside w name s r c e m n near =
@@ -136,7 +140,7 @@ anchor_beside w name s r c e m n near =
     (behind_anchor_beside w (next_id m.anchors) s r c e))
 
 behind_tag_beside :
-    (w : Beside) (tag : ResolvedTag) (s r : Span) (c : Context) → Spans w s r
+    (w : Beside) (tag : ResolvedTag) (s r : Span) (c : NodeContext) → Spans w s r
     → AtBoth w (Alike w) (λ k. behind_tag_at k tag s c) (λ k. behind_tag_at k tag r c)
 behind_tag_beside w tag s r c e (tokens.Anchor name) t u m n h =
     rw h.behind.anchors (next_beside w s.start t.span.end r.start u.span.end (next_id m.anchors)
@@ -145,8 +149,8 @@ behind_tag_beside w tag s r c e (tokens.Anchor name) t u m n h =
 behind_tag_beside w tag s r c e k t u m n h =
     behind_beside w s.start s.end r.start r.end 0 (Some tag) c e.0 e.1 k t u m n h
 
-node_at_beside : (w : Beside) (c : Context) → AtBoth w (Alike w) (λ k. node_at k c) (λ k. node_at k c)
-unfolding alias behind_tag
+node_at_beside : (w : Beside) (c : NodeContext) → AtBoth w (Alike w) (λ k. node_at k c) (λ k. node_at k c)
+unfolding alias_node behind_tag
 node_at_beside w c (tokens.Alias name) t u m n h =
     alias_beside w (meaning name m.anchors.ids) (meaning name n.anchors.ids) t.span u.span
     (ap (λ (a : Anchors). meaning name a.ids) h.behind.anchors) h.span m n h.behind
@@ -158,6 +162,6 @@ node_at_beside w c (tokens.Tag handle suffix) t u m n h =
 node_at_beside w c k t u m n h =
     behind_beside w t.span.start t.span.start u.span.start u.span.start 0 None c h.span.0 h.span.0 k t u m n h
 
-pub node_beside : (w : Beside) (c : Context) → AtBoth w (Alike w) (λ k. node c) (λ k. node c)
+pub node_beside : (w : Beside) (c : NodeContext) → AtBoth w (Alike w) (λ k. node c) (λ k. node c)
 unfolding node
 node_beside w c = of_kind w (Alike w) (λ k. node_at k c) (λ k. node_at k c) (node_at_beside w c)

@@ -8,7 +8,7 @@ use Rattle.saphyr_scanner.specs.Grammar.Tokens.{Kind}
 use Rattle.saphyr_scanner.specs.Views.Tokens.{Piece, Remaining}
 use Rattle.saphyr_parser.specs.Premises.{Ends}
 use Rattle.saphyr_parser.specs.Steps.Machine.{◌>>=◌, Machine, with_pieces, given, is_listed}
-use Rattle.saphyr_parser.specs.Steps.Documents.{pass_from, is_mark, is_end_or_mark, Declared, is_directive, directive_at, directives_from}
+use Rattle.saphyr_parser.specs.Steps.Documents.{unpassed_token_from, is_mark, is_end_or_mark, Declared, is_directive, directive_at, directives_from}
 use Rattle.saphyr_parser.proofs.Beside.Machines.{Beside, Behind, Spans, With, Ahead, Held, Gives, AtBoth, goes_on, either, of_kind, over, Head, head, holds_head, changed}
 
 -- ## Tokens that are passed
@@ -21,7 +21,7 @@ Has w x y = Held w x.0.kind x.0 y.0 x.1 y.1
 abbrev pub Stops : Beside → (Remaining → Remaining → Type 0) → (Kind → Bool) → Machine → Machine
     → Result (Piece × Machine) Refusal → Result (Piece × Machine) Refusal → Type 0
 Stops w S p m n a b = (ts : List Piece) × (us : List Piece) × With w S (with_pieces ts m) (with_pieces us n)
-    × (a ≡ pass_from p ts (with_pieces ts m)) × (b ≡ pass_from p us (with_pieces us n))
+    × (a ≡ unpassed_token_from p ts (with_pieces ts m)) × (b ≡ unpassed_token_from p us (with_pieces us n))
 
 abbrev pub Passes : Beside → (Remaining → Remaining → Type 0) → (Kind → Bool) → Machine → Machine
     → Result (Piece × Machine) Refusal → Result (Piece × Machine) Refusal → Type 0
@@ -39,8 +39,8 @@ has w k t u m n h = by t.kind h.kind refl
 
 pub passes :
     (w : Beside) (S : Remaining → Remaining → Type 0) (p : Kind → Bool) → Goes w S p → (ts us : List Piece)
-    (m n : Machine) → Ahead w ts us m n → Passes w S p m n (pass_from p ts m) (pass_from p us n)
-passes w S p go [] us m n a = inl (over w (Has w) us m n (λ us. pass_from p us n) a refl)
+    (m n : Machine) → Ahead w ts us m n → Passes w S p m n (unpassed_token_from p ts m) (unpassed_token_from p us n)
+passes w S p go [] us m n a = inl (over w (Has w) us m n (λ us. unpassed_token_from p us n) a refl)
 passes w S p go (t ∷ ts) us m n a =
     rw x.is (by (p t.kind) refl (λ b. passes w S p go ts x.tail (with_pieces ts m) (with_pieces x.tail n) b))
   where
@@ -52,8 +52,10 @@ passes w S p go (t ∷ ts) us m n a =
         ⊎ S (record { pieces = ts; refusal = m.tokens.refusal })
         (record { pieces = x.tail; refusal = n.tokens.refusal })
         → (Ahead w ts x.tail (with_pieces ts m) (with_pieces x.tail n)
-        → Passes w S p m n (pass_from p ts (with_pieces ts m)) (pass_from p x.tail (with_pieces x.tail n)))
-        → Passes w S p m n (pass_from p ts (with_pieces ts m)) (pass_from p x.tail (with_pieces x.tail n))
+        → Passes w S p m n (unpassed_token_from p ts (with_pieces ts m))
+        (unpassed_token_from p x.tail (with_pieces x.tail n)))
+        → Passes w S p m n (unpassed_token_from p ts (with_pieces ts m))
+        (unpassed_token_from p x.tail (with_pieces x.tail n))
     left (inl r) next = next (changed w _ _ m n _ _ _ _ _ _ r a.state a.states a)
     left (inr s) next = inr (
       ts,
@@ -66,9 +68,10 @@ passes w S p go (t ∷ ts) us m n a =
     by :
         (b : Bool) → p t.kind ≡ b
         → (Ahead w ts x.tail (with_pieces ts m) (with_pieces x.tail n)
-        → Passes w S p m n (pass_from p ts (with_pieces ts m)) (pass_from p x.tail (with_pieces x.tail n)))
-        → Passes w S p m n (if b then pass_from p ts (with_pieces ts m) else Ok (t, with_pieces ts m))
-        (if b then pass_from p x.tail (with_pieces x.tail n) else Ok
+        → Passes w S p m n (unpassed_token_from p ts (with_pieces ts m))
+        (unpassed_token_from p x.tail (with_pieces x.tail n)))
+        → Passes w S p m n (if b then unpassed_token_from p ts (with_pieces ts m) else Ok (t, with_pieces ts m))
+        (if b then unpassed_token_from p x.tail (with_pieces x.tail n) else Ok
         (record { span = x.span; kind = t.kind }, with_pieces x.tail n))
     by true y next = left (go t.kind _ _ y x.behind) next
     by false y next = inl (holds_head w t ts us m n a x)

@@ -5,16 +5,16 @@ use Rattle.saphyr_parser.specs.declared.parser.fault.Fault.{Fault}
 use Rattle.saphyr_parser.specs.declared.parser.fault.Fault.TheVariants as faults
 use Rattle.saphyr_parser.specs.declared.parser.receiver.Refused.{Refused}
 use Rattle.saphyr_parser.specs.Events.{Happening}
-use Rattle.saphyr_parser.specs.Cursor.{Cursor, IsKept, Kept}
+use Rattle.saphyr_parser.specs.Cursor.{EventCursor, IsKept, Kept}
 use Rattle.saphyr_parser.specs.Calls.{IsSound}
-use Rattle.saphyr_parser.specs.Loading.{Loads, MeetsBehind, Part}
+use Rattle.saphyr_parser.specs.Loading.{Loads, MeetsBehind, Portion}
 use Rattle.saphyr_parser.proofs.Calls.Soundness.{sound_looks, sound_over}
 
-met : (es : _) (old new : Cursor) → MeetsBehind es old new → IsSound old → IsSound new
+met : (es : _) (old new : EventCursor) → MeetsBehind es old new → IsSound old → IsSound new
 met es old new (middle, over, looks) s = sound_looks middle new looks (sound_over es old middle over s)
 
 module _ {R : Type 0} (receives : R → Happening × Span → Result (Unit {0}) Refused → R → Type 0) where
-  loads : (r : Result (Unit {0}) Fault) (p : Part) (old : Cursor) (first last : R) (new : Cursor)
+  loads : (r : Result (Unit {0}) Fault) (p : Portion) (old : EventCursor) (first last : R) (new : EventCursor)
       → Loads receives r p old first last new → IsSound old → IsSound new
   loads (Ok u) p old first last new h s = sound_over p.sent old new h.leaves s
   loads (Err (faults.Scan e)) p old first last new h s = met p.sent old new h.leaves s
@@ -23,8 +23,9 @@ module _ {R : Type 0} (receives : R → Happening × Span → Result (Unit {0}) 
   loads (Err faults.InsideDocument) p old first last new h s = absurd h
 
   -- in each state of the parser
-  between : (f : Option Span) (i : Bool) (r : Result (Unit {0}) Fault) (p : Part) (old : Cursor) (first last : R)
-      (new : Cursor)
+  between : (f : Option Span) (i : Bool) (r : Result (Unit {0}) Fault) (p : Portion) (old : EventCursor)
+      (first last : R)
+      (new : EventCursor)
       → ((span : Span) → f ≡ Some span → new ≡ old) → (f ≡ None → i ≡ true → new ≡ old)
       → (f ≡ None → i ≡ false → Loads receives r p old first last new) → IsSound old → IsSound new
   between (Some span) i r p old first last new finished inside loading s = subst IsSound (sym (finished span refl)) s
@@ -32,8 +33,8 @@ module _ {R : Type 0} (receives : R → Happening × Span → Result (Unit {0}) 
   between None false r p old first last new finished inside loading s =
       loads r p old first last new (loading refl refl) s
 
-  pub sound_loads : (k : Option Kept) (f : Option Span) (i : Bool) (r : Result (Unit {0}) Fault) (p : Part)
-      (old : Cursor) (first last : R) (new : Cursor)
+  pub sound_loads : (k : Option Kept) (f : Option Span) (i : Bool) (r : Result (Unit {0}) Fault) (p : Portion)
+      (old : EventCursor) (first last : R) (new : EventCursor)
       → (IsKept k → new ≡ old) → (k ≡ None → (span : Span) → f ≡ Some span → new ≡ old)
       → (k ≡ None → f ≡ None → i ≡ true → new ≡ old)
       → (k ≡ None → f ≡ None → i ≡ false → Loads receives r p old first last new) → IsSound old → IsSound new

@@ -10,9 +10,9 @@ use Rattle.saphyr_parser.specs.declared.parser.state.State.TheVariants as state
 use Rattle.saphyr_parser.specs.Events.{Happening, StreamEnd}
 use Rattle.saphyr_parser.specs.Steps.Machine.{Machine}
 use Rattle.saphyr_parser.specs.Answer as answer
-use Rattle.saphyr_parser.specs.Answer.{Answer, Ending, none, failed, remaining}
-use Rattle.saphyr_parser.specs.Cursor.{Cursor, Kept, Refuses, event_of, finished_behind}
-use Rattle.saphyr_parser.specs.Calls.{Advances, AdvancesOver, EndsTheStream, Ends, Fails, Gives, HasFinished, IsShown, IsSound, LeavesEnd, Looks, Peeks, ReadsAhead, as_given}
+use Rattle.saphyr_parser.specs.Answer.{Answer, Ending, empty_answer, remaining_answer}
+use Rattle.saphyr_parser.specs.Cursor.{EventCursor, Kept, Refuses, event_of, finished_behind}
+use Rattle.saphyr_parser.specs.Calls.{Advances, AdvancesOver, EndsTheStream, Ends, FailsWith, GivesNext, HasFinished, IsShown, IsSound, LeavesEnd, Looks, Peeks, ReadsAhead, as_given}
 use Rattle.saphyr_parser.proofs.Unroll.{over}
 use Rattle.saphyr_parser.proofs.Calls.Handing.{goes_on}
 use Rattle.saphyr_parser.proofs.Calls.Looking.{looks_stays, shows_head}
@@ -28,7 +28,7 @@ if_end : (what : Happening) (P : Type 0) (s : State) → LeavesEnd what s → (s
 if_end StreamEnd P s h go = go h
 if_end _ P s h go = tt
 
-finished_after : (what : Happening) (span : Span) (f : Option Span) (c : Cursor)
+finished_after : (what : Happening) (span : Span) (f : Option Span) (c : EventCursor)
     → IfEnd what ((c.current ≡ None) × (c.kept ≡ None) × (c.machine.state ≡ state.End)) → HasFinished f c
     → HasFinished (finished_behind what span f) c
 finished_after StreamEnd span f c h k = h
@@ -57,11 +57,12 @@ none_read : (f : Option Span) (c d : Option (Happening × Span)) (k l : Option K
 none_read None c d k l m n i j s t on h = tt
 none_read (Some span) c d k l m n i j s t on h = absurd (on h.2)
 
-abbrev cursor : Option (Happening × Span) → Option Kept → Machine → Bool → Option Span → Cursor
+abbrev cursor : Option (Happening × Span) → Option Kept → Machine → Bool → Option Span → EventCursor
 cursor c k m i f = record { current = c; kept = k; machine = m; inside = i; finished = f }
 
 advancing : (c : Option (Happening × Span)) (k : Option Kept) (m : Machine) (i : Bool) (f : Option Span)
-    (e : Happening × Span) (new : Cursor) → Advances e (cursor c k m i f) new → IsSound (cursor c k m i f) → IsSound new
+    (e : Happening × Span) (new : EventCursor) → Advances e (cursor c k m i f) new → IsSound (cursor c k m i f)
+    → IsSound new
 advancing (Some next) None m i f e new (is, left) s =
     let closed : LeavesEnd e.0 m.state = subst (λ (x : Happening × Span). LeavesEnd x.0 m.state) is s.ahead in
     subst IsSound (sym left) (record {
@@ -79,28 +80,29 @@ advancing None None m i f e new (moved, left) s =
           (none_read f None None None None m new.machine i _ f _ (goes_on m _ moved) s.finished);
     })
 
-pub sound_advances : (e : Happening × Span) (old new : Cursor) → Advances e old new → IsSound old → IsSound new
+pub sound_advances : (e : Happening × Span) (old new : EventCursor) → Advances e old new → IsSound old → IsSound new
 sound_advances e old new h s = advancing old.current old.kept old.machine old.inside old.finished e new h s
 
-pub sound_over : (es : List (Happening × Span)) (old new : Cursor) → AdvancesOver es old new → IsSound old → IsSound new
+pub sound_over : (es : List (Happening × Span)) (old new : EventCursor) → AdvancesOver es old new → IsSound old
+    → IsSound new
 sound_over [] old new same s = subst IsSound (sym same) s
 sound_over (e ∷ es) old new (middle, first, others) s =
     sound_over es middle new others (sound_advances e old middle first s)
 
 -- ## Behind a fault
 
-not_none : (f : Fault) → Refuses f none → ⊥
+not_none : (f : Fault) → Refuses f empty_answer → ⊥
 not_none (fault.Scan e) h =
     let differ : (let o : Option Ending = None in o) ≡ Some _ = ap (λ (a : Answer). a.fault) h in absurd (cc)
 not_none fault.OutOfMemory h = omega (arith, h)
 not_none fault.Receiver h = h
 not_none fault.InsideDocument h = h
 
-not_over : (f : Fault) (m : Machine) → Refuses f (remaining m) → m.state ≡ state.End → ⊥
+not_over : (f : Fault) (m : Machine) → Refuses f (remaining_answer m) → m.state ≡ state.End → ⊥
 not_over f m h done = not_none f (subst (Refuses f) (over m done) h)
 
 failing : (c : Option (Happening × Span)) (k : Option Kept) (m : Machine) (i : Bool) (s : Option Span) (f : Fault)
-    (new : Cursor) → Fails f (cursor c k m i s) new → IsSound (cursor c k m i s) → IsSound new
+    (new : EventCursor) → FailsWith f (cursor c k m i s) new → IsSound (cursor c k m i s) → IsSound new
 failing (Some next) k m i s f new h sound = absurd h
 failing None (Some kept) m i s f new (fresh, same, left) sound =
     subst IsSound (sym left)
@@ -113,10 +115,10 @@ failing None None m i s f new (refuses, left) sound =
           none_read s None None None (as_given f) m new.machine i i s s (not_over f m refuses) sound.finished;
     })
 
-pub sound_fails : (f : Fault) (old new : Cursor) → Fails f old new → IsSound old → IsSound new
+pub sound_fails : (f : Fault) (old new : EventCursor) → FailsWith f old new → IsSound old → IsSound new
 sound_fails f old new h s = failing old.current old.kept old.machine old.inside old.finished f new h s
 
-pub sound_gives : (r : Option (Result (Event × Span) Fault)) (old new : Cursor) → Gives r old new → IsSound old
+pub sound_gives : (r : Option (Result (Event × Span) Fault)) (old new : EventCursor) → GivesNext r old new → IsSound old
     → IsSound new
 sound_gives None old new (done, same) s = subst IsSound (sym same) s
 sound_gives (Some (Ok e)) old new h s = sound_advances (event_of e) old new h s
@@ -124,13 +126,13 @@ sound_gives (Some (Err f)) old new h s = sound_fails f old new h s
 
 -- ## Behind a look
 
-no_end : (f : Ending) → Ends f none → ⊥
+no_end : (f : Ending) → Ends f empty_answer → ⊥
 no_end (answer.Refused mark text) h =
     let differ : (let o : Option Ending = None in o) ≡ Some _ = ap (λ (a : Answer). a.fault) h in absurd (cc)
 no_end answer.OutOfMemory h = omega (arith, h)
 
 ahead_sound : (d : Option (Happening × Span)) (l : Option Kept) (m : Machine) (i : Bool) (s : Option Span)
-    (new : Cursor) → ReadsAhead d l (cursor None None m i s) new → IsSound (cursor None None m i s) → IsSound new
+    (new : EventCursor) → ReadsAhead d l (cursor None None m i s) new → IsSound (cursor None None m i s) → IsSound new
 ahead_sound (Some e) (Some k) m i s new h sound = absurd h
 ahead_sound (Some e) None m i s new (moved, left) sound =
     subst IsSound (sym left)
@@ -149,23 +151,24 @@ ahead_sound None (Some k) m i s new (fresh, ends, left) sound =
     })
 ahead_sound None None m i s new (done, same) sound = subst IsSound (sym same) sound
 
-looking : (c : Option (Happening × Span)) (k : Option Kept) (m : Machine) (i : Bool) (s : Option Span) (new : Cursor)
+looking : (c : Option (Happening × Span)) (k : Option Kept) (m : Machine) (i : Bool) (s : Option Span)
+    (new : EventCursor)
     → Looks (cursor c k m i s) new → IsSound (cursor c k m i s) → IsSound new
 looking (Some next) k m i s new same sound = subst IsSound (sym same) sound
 looking None (Some k) m i s new same sound = subst IsSound (sym same) sound
 looking None None m i s new h sound = ahead_sound new.current new.kept m i s new h sound
 
-pub sound_looks : (old new : Cursor) → Looks old new → IsSound old → IsSound new
+pub sound_looks : (old new : EventCursor) → Looks old new → IsSound old → IsSound new
 sound_looks old new h s = looking old.current old.kept old.machine old.inside old.finished new h s
 
 -- ## The end of the stream
 
-pub ends_stream : (c : Cursor) → IsSound c → EndsTheStream c
+pub ends_stream : (c : EventCursor) → IsSound c → EndsTheStream c
 ends_stream c s = λ span is keep.
     let over_now : HasFinished (Some span) c = subst (λ (f : Option Span). HasFinished f c) is s.finished in
     rw (over_now.0, over_now.1) (over _ over_now.2)
 
-pub peeks : (old new : Cursor) (r : Option (Result (Bor (Event × Span)) (Bor Fault))) → IsSound old → Looks old new
+pub peeks : (old new : EventCursor) (r : Option (Result (Bor (Event × Span)) (Bor Fault))) → IsSound old → Looks old new
     → IsShown r new → Peeks old r new
 peeks old new r s looks shows =
     let stays = looks_stays old new looks in

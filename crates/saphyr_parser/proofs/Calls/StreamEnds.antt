@@ -6,19 +6,19 @@ use Rattle.saphyr_scalar.specs.declared.scalar.fault.Refusal.{Refusal}
 use Rattle.saphyr_scanner.specs.Grammar.Tokens as tokens
 use Rattle.saphyr_scanner.specs.Grammar.Tokens.{Kind}
 use Rattle.saphyr_scanner.specs.Views.Tokens.{Piece}
-use Rattle.saphyr_parser.specs.declared.parser.context.Context.{Context}
-use Rattle.saphyr_parser.specs.declared.parser.context.Context.TheVariants.{Flow, Block, BlockMapping}
+use Rattle.saphyr_parser.specs.declared.parser.context.NodeContext.{NodeContext}
+use Rattle.saphyr_parser.specs.declared.parser.context.NodeContext.TheVariants.{Flow, Block, BlockMapping}
 use Rattle.saphyr_parser.specs.declared.parser.state.State.{State}
 use Rattle.saphyr_parser.specs.declared.parser.state.State.TheVariants as state
 use Rattle.saphyr_parser.specs.Events.{ResolvedTag}
-use Rattle.saphyr_parser.specs.Steps.Machine.{◌>>=◌, Machine, Told, meaning, take}
+use Rattle.saphyr_parser.specs.Steps.Machine.{◌>>=◌, Machine, Told, meaning, taken_token}
 use Rattle.saphyr_parser.specs.Steps.Tags.{resolved}
-use Rattle.saphyr_parser.specs.Steps.Nodes.{NodeProperties, no_node_properties, has_property, without_content, content, content_at, next_content, alias, alias_of, register, behind_anchor, behind_anchor_at, behind_tag, behind_tag_at, node, node_at}
+use Rattle.saphyr_parser.specs.Steps.Nodes.{NodeProperties, no_node_properties, has_property, without_content, node_content, node_content_at, next_content, alias_node, alias_of, register, behind_anchor, behind_anchor_at, behind_tag, behind_tag_at, node, node_at}
 use Rattle.saphyr_parser.specs.Steps.Contexts.{allows_block, allows_indentless}
 use Rattle.saphyr_parser.specs.Steps.Block as block
 use Rattle.saphyr_parser.specs.Steps.Flow as flow
 use Rattle.saphyr_parser.specs.Steps.Documents as document
-use Rattle.saphyr_parser.specs.Steps.Expected.{block_node, step, step_at}
+use Rattle.saphyr_parser.specs.Steps.Expected.{block_node, event_step, event_step_at}
 use Rattle.saphyr_parser.specs.Calls.{LeavesEnd}
 
 -- where a step tells the end of the stream, it leaves the machine at its end
@@ -40,7 +40,8 @@ either false r q h k = k
 without : (p : NodeProperties) (t : Piece) (m : Machine) → Closes (without_content p t m)
 without p t m = either (has_property p) _ _ tt tt
 
-contents_at : (k : Kind) (p : NodeProperties) (c : Context) (t : Piece) (m : Machine) → Closes (content_at k p c t m)
+contents_at : (k : Kind) (p : NodeProperties) (c : NodeContext) (t : Piece) (m : Machine)
+    → Closes (node_content_at k p c t m)
 contents_at (tokens.Scalar style text) p c t m = tt
 contents_at tokens.FlowSequenceStart p c t m = tt
 contents_at tokens.FlowMappingStart p c t m = tt
@@ -49,47 +50,48 @@ contents_at tokens.BlockMappingStart p c t m = either (allows_block c) _ _ tt (w
 contents_at tokens.BlockEntry p c t m = either (allows_indentless c) _ _ tt (without p t m)
 contents_at _ p c t m = without p t m
 
-contents : (p : NodeProperties) (c : Context) (t : Piece) (m : Machine) → Closes (content p c t m)
-unfolding content
+contents : (p : NodeProperties) (c : NodeContext) (t : Piece) (m : Machine) → Closes (node_content p c t m)
+unfolding node_content
 contents p c t m = contents_at t.kind p c t m
 
-next_contents : (p : NodeProperties) (c : Context) (m : Machine) → Closes (next_content p c m)
+next_contents : (p : NodeProperties) (c : NodeContext) (m : Machine) → Closes (next_content p c m)
 unfolding next_content
-next_contents p c m = behind (take m) _ (λ t. contents p c t.0 t.1)
+next_contents p c m = behind (taken_token m) _ (λ t. contents p c t.0 t.1)
 
 aliases : (o : Option ℕ) (s : Span) (m : Machine) → Closes (alias_of o s m)
 aliases None s m = tt
 aliases (Some id) s m = tt
 
-behind_anchors_at : (k : Kind) (id : ℕ) (s : Span) (c : Context) (t : Piece) (m : Machine)
+behind_anchors_at : (k : Kind) (id : ℕ) (s : Span) (c : NodeContext) (t : Piece) (m : Machine)
     → Closes (behind_anchor_at k id s c t m)
 behind_anchors_at (tokens.Tag handle suffix) id s c t m =
     behind (resolved m.prefixes handle suffix s.start) _ (λ tag. next_contents _ c m)
 behind_anchors_at _ id s c t m = contents _ c t m
 
-behind_anchors : (name : List ℕ) (s : Span) (c : Context) (m : Machine) → Closes (behind_anchor name s c m)
+behind_anchors : (name : List ℕ) (s : Span) (c : NodeContext) (m : Machine) → Closes (behind_anchor name s c m)
 unfolding behind_anchor
-behind_anchors name s c m = behind (take (register name m)) _ (λ t. behind_anchors_at t.0.kind _ s c t.0 t.1)
+behind_anchors name s c m = behind (taken_token (register name m)) _ (λ t. behind_anchors_at t.0.kind _ s c t.0 t.1)
 
-behind_tags_at : (k : Kind) (tag : ResolvedTag) (s : Span) (c : Context) (t : Piece) (m : Machine)
+behind_tags_at : (k : Kind) (tag : ResolvedTag) (s : Span) (c : NodeContext) (t : Piece) (m : Machine)
     → Closes (behind_tag_at k tag s c t m)
 behind_tags_at (tokens.Anchor name) tag s c t m = next_contents _ c (register name m)
 behind_tags_at _ tag s c t m = contents _ c t m
 
-behind_tags : (handle suffix : List ℕ) (s : Span) (c : Context) (m : Machine) → Closes (behind_tag handle suffix s c m)
+behind_tags : (handle suffix : List ℕ) (s : Span) (c : NodeContext) (m : Machine)
+    → Closes (behind_tag handle suffix s c m)
 unfolding behind_tag
 behind_tags handle suffix s c m =
     behind (resolved m.prefixes handle suffix s.start) _
-    (λ tag. behind (take m) _ (λ t. behind_tags_at t.0.kind tag s c t.0 t.1))
+    (λ tag. behind (taken_token m) _ (λ t. behind_tags_at t.0.kind tag s c t.0 t.1))
 
-nodes_at : (k : Kind) (c : Context) (t : Piece) (m : Machine) → Closes (node_at k c t m)
-unfolding alias
+nodes_at : (k : Kind) (c : NodeContext) (t : Piece) (m : Machine) → Closes (node_at k c t m)
+unfolding alias_node
 nodes_at (tokens.Alias name) c t m = aliases (meaning name m.anchors.ids) t.span m
 nodes_at (tokens.Anchor name) c t m = behind_anchors name t.span c m
 nodes_at (tokens.Tag handle suffix) c t m = behind_tags handle suffix t.span c m
 nodes_at _ c t m = contents (no_node_properties t.span.start) c t m
 
-nodes : (c : Context) (t : Piece) (m : Machine) → Closes (node c t m)
+nodes : (c : NodeContext) (t : Piece) (m : Machine) → Closes (node c t m)
 unfolding node
 nodes c t m = nodes_at t.kind c t m
 
@@ -103,7 +105,7 @@ sequence_nodes _ s t m = nodes Block t _
 sequence_entries : (k : Kind) (t : Piece) (m : Machine) → Closes (block.sequence_entry_at k t m)
 unfolding block.sequence_node
 sequence_entries tokens.BlockEnd t m = tt
-sequence_entries tokens.BlockEntry t m = behind (take m) _ (λ u. sequence_nodes u.0.kind t.span u.0 u.1)
+sequence_entries tokens.BlockEntry t m = behind (taken_token m) _ (λ u. sequence_nodes u.0.kind t.span u.0 u.1)
 sequence_entries _ t m = tt
 
 indentless_nodes : (k : Kind) (s : Span) (t : Piece) (m : Machine) → Closes (block.indentless_node_at k s t m)
@@ -115,31 +117,31 @@ indentless_nodes _ s t m = nodes Block t _
 
 indentless_entries : (k : Kind) (t : Piece) (m : Machine) → Closes (block.indentless_entry_at k t m)
 unfolding block.indentless_node
-indentless_entries tokens.BlockEntry t m = behind (take m) _ (λ u. indentless_nodes u.0.kind t.span u.0 u.1)
+indentless_entries tokens.BlockEntry t m = behind (taken_token m) _ (λ u. indentless_nodes u.0.kind t.span u.0 u.1)
 indentless_entries _ t m = tt
 
-block_keys : (k : Kind) (t : Piece) (m : Machine) → Closes (block.key_node_at k t m)
+block_keys : (k : Kind) (t : Piece) (m : Machine) → Closes (block.block_key_node_at k t m)
 block_keys tokens.Key t m = tt
 block_keys tokens.Value t m = tt
 block_keys tokens.BlockEnd t m = tt
 block_keys _ t m = nodes BlockMapping t _
 
 mapping_keys : (k : Kind) (t : Piece) (m : Machine) → Closes (block.mapping_key_at k t m)
-unfolding block.key_node
-mapping_keys tokens.Key t m = behind (take m) _ (λ u. block_keys u.0.kind u.0 u.1)
+unfolding block.block_key_node
+mapping_keys tokens.Key t m = behind (taken_token m) _ (λ u. block_keys u.0.kind u.0 u.1)
 mapping_keys tokens.Value t m = tt
 mapping_keys tokens.BlockEnd t m = tt
 mapping_keys _ t m = tt
 
-block_values : (k : Kind) (s : Span) (t : Piece) (m : Machine) → Closes (block.value_node_at k s t m)
+block_values : (k : Kind) (s : Span) (t : Piece) (m : Machine) → Closes (block.block_value_node_at k s t m)
 block_values tokens.Key s t m = tt
 block_values tokens.Value s t m = tt
 block_values tokens.BlockEnd s t m = tt
 block_values _ s t m = nodes BlockMapping t _
 
-mapping_values : (k : Kind) (t : Piece) (m : Machine) → Closes (block.mapping_value_at k t m)
-unfolding block.value_node
-mapping_values tokens.Value t m = behind (take m) _ (λ u. block_values u.0.kind t.span u.0 u.1)
+mapping_values : (k : Kind) (t : Piece) (m : Machine) → Closes (block.block_mapping_value_at k t m)
+unfolding block.block_value_node
+mapping_values tokens.Value t m = behind (taken_token m) _ (λ u. block_values u.0.kind t.span u.0 u.1)
 mapping_values _ t m = tt
 
 -- ## Flow collections
@@ -151,7 +153,7 @@ entries _ t m = nodes Flow t _
 
 first_entries : (m : Machine) → Closes (flow.first_entry m)
 unfolding flow.first_entry
-first_entries m = behind (take m) _ (λ t. entries t.0.kind t.0 t.1)
+first_entries m = behind (taken_token m) _ (λ t. entries t.0.kind t.0 t.1)
 
 other_entries : (k : Kind) (t : Piece) (m : Machine) → Closes (flow.other_entry_at k t m)
 other_entries tokens.FlowSequenceEnd t m = tt
@@ -171,18 +173,18 @@ pair_nodes _ t m = nodes Flow t _
 
 pair_values : (k : Kind) (t : Piece) (m : Machine) → Closes (flow.pair_value_at k t m)
 unfolding flow.pair_value_node
-pair_values tokens.Value t m = behind (take m) _ (λ u. pair_nodes u.0.kind u.0 u.1)
+pair_values tokens.Value t m = behind (taken_token m) _ (λ u. pair_nodes u.0.kind u.0 u.1)
 pair_values _ t m = tt
 
-keys : (k : Kind) (t : Piece) (m : Machine) → Closes (flow.key_node_at k t m)
+keys : (k : Kind) (t : Piece) (m : Machine) → Closes (flow.flow_key_node_at k t m)
 keys tokens.Value t m = tt
 keys tokens.FlowEntry t m = tt
 keys tokens.FlowMappingEnd t m = tt
 keys _ t m = nodes Flow t _
 
 pairs : (k : Kind) (s : Span) (t : Piece) (m : Machine) → Closes (flow.pair_at k s t m)
-unfolding flow.key_node
-pairs tokens.Key s t m = behind (take m) _ (λ u. keys u.0.kind u.0 u.1)
+unfolding flow.flow_key_node
+pairs tokens.Key s t m = behind (taken_token m) _ (λ u. keys u.0.kind u.0 u.1)
 pairs tokens.Value s t m = tt
 pairs tokens.FlowMappingEnd s t m = tt
 pairs _ s t m = nodes Flow t _
@@ -190,17 +192,17 @@ pairs _ s t m = nodes Flow t _
 other_pairs : (k : Kind) (t : Piece) (m : Machine) → Closes (flow.other_pair_at k t m)
 unfolding flow.pair_behind_comma
 other_pairs tokens.FlowMappingEnd t m = tt
-other_pairs tokens.FlowEntry t m = behind (take m) _ (λ u. pairs u.0.kind t.span u.0 u.1)
+other_pairs tokens.FlowEntry t m = behind (taken_token m) _ (λ u. pairs u.0.kind t.span u.0 u.1)
 other_pairs _ t m = tt
 
-value_nodes : (k : Kind) (s : Span) (t : Piece) (m : Machine) → Closes (flow.value_node_at k s t m)
+value_nodes : (k : Kind) (s : Span) (t : Piece) (m : Machine) → Closes (flow.flow_value_node_at k s t m)
 value_nodes tokens.FlowEntry s t m = tt
 value_nodes tokens.FlowMappingEnd s t m = tt
 value_nodes _ s t m = nodes Flow t _
 
-values : (k : Kind) (t : Piece) (m : Machine) → Closes (flow.mapping_value_at k t m)
-unfolding flow.value_node
-values tokens.Value t m = behind (take m) _ (λ u. value_nodes u.0.kind t.span u.0 u.1)
+values : (k : Kind) (t : Piece) (m : Machine) → Closes (flow.flow_mapping_value_at k t m)
+unfolding flow.flow_value_node
+values tokens.Value t m = behind (taken_token m) _ (λ u. value_nodes u.0.kind t.span u.0 u.1)
 values _ t m = tt
 
 -- ## Documents and the stream
@@ -231,7 +233,7 @@ explicit_start_at : (k : Kind) (t : Piece) (m : Machine) → Closes (document.ex
 explicit_start_at tokens.StreamEnd t m = refl
 explicit_start_at _ t m = explicit t m
 
-content_starts : (k : Kind) (t : Piece) (m : Machine) → Closes (document.content_at k t m)
+content_starts : (k : Kind) (t : Piece) (m : Machine) → Closes (document.document_content_at k t m)
 content_starts (tokens.VersionDirective major minor) t m = tt
 content_starts (tokens.TagDirective handle prefix) t m = tt
 content_starts (tokens.ReservedDirective name) t m = tt
@@ -250,34 +252,34 @@ ends _ t m = tt
 
 -- ## All steps
 
-closes_at : (s : State) (m : Machine) → Closes (step_at s m)
+closes_at : (s : State) (m : Machine) → Closes (event_step_at s m)
 unfolding block_node document.stream_start document.implicit_start document.explicit_start document.document_content
-    document.document_end block.sequence_entry block.indentless_entry block.mapping_key block.mapping_value
-    flow.other_entry flow.pair_key flow.pair_value flow.pair_end flow.first_pair flow.other_pair flow.mapping_value
+    document.document_end block.sequence_entry block.indentless_entry block.mapping_key block.block_mapping_value
+    flow.other_entry flow.pair_key flow.pair_value flow.pair_end flow.first_pair flow.other_pair flow.flow_mapping_value
     flow.empty_value
-closes_at state.StreamStart m = behind (take m) _ (λ t. starts t.0.kind t.0 t.1)
+closes_at state.StreamStart m = behind (taken_token m) _ (λ t. starts t.0.kind t.0 t.1)
 closes_at state.ImplicitDocumentStart m =
-    behind (document.pass document.is_end_or_mark m) _ (λ t. implicit_at t.0.kind t.0 t.1)
+    behind (document.unpassed_token document.is_end_or_mark m) _ (λ t. implicit_at t.0.kind t.0 t.1)
 closes_at state.DocumentStart m =
-    behind (document.pass document.is_end_or_mark m) _ (λ t. explicit_start_at t.0.kind t.0 t.1)
-closes_at state.DocumentContent m = behind (take m) _ (λ t. content_starts t.0.kind t.0 t.1)
+    behind (document.unpassed_token document.is_end_or_mark m) _ (λ t. explicit_start_at t.0.kind t.0 t.1)
+closes_at state.DocumentContent m = behind (taken_token m) _ (λ t. content_starts t.0.kind t.0 t.1)
 closes_at state.DocumentEnd m = behind (document.behind_document m) _ (λ t. ends t.0.kind t.0 _)
-closes_at state.BlockNode m = behind (take m) _ (λ t. nodes Block t.0 t.1)
-closes_at state.BlockSequenceEntry m = behind (take m) _ (λ t. sequence_entries t.0.kind t.0 t.1)
-closes_at state.IndentlessSequenceEntry m = behind (take m) _ (λ t. indentless_entries t.0.kind t.0 t.1)
-closes_at state.BlockMappingKey m = behind (take m) _ (λ t. mapping_keys t.0.kind t.0 t.1)
-closes_at state.BlockMappingValue m = behind (take m) _ (λ t. mapping_values t.0.kind t.0 t.1)
+closes_at state.BlockNode m = behind (taken_token m) _ (λ t. nodes Block t.0 t.1)
+closes_at state.BlockSequenceEntry m = behind (taken_token m) _ (λ t. sequence_entries t.0.kind t.0 t.1)
+closes_at state.IndentlessSequenceEntry m = behind (taken_token m) _ (λ t. indentless_entries t.0.kind t.0 t.1)
+closes_at state.BlockMappingKey m = behind (taken_token m) _ (λ t. mapping_keys t.0.kind t.0 t.1)
+closes_at state.BlockMappingValue m = behind (taken_token m) _ (λ t. mapping_values t.0.kind t.0 t.1)
 closes_at state.FlowSequenceFirstEntry m = first_entries m
-closes_at state.FlowSequenceEntry m = behind (take m) _ (λ t. other_entries t.0.kind t.0 t.1)
-closes_at state.FlowSequenceEntryMappingKey m = behind (take m) _ (λ t. pair_keys t.0.kind t.0 t.1)
-closes_at state.FlowSequenceEntryMappingValue m = behind (take m) _ (λ t. pair_values t.0.kind t.0 t.1)
+closes_at state.FlowSequenceEntry m = behind (taken_token m) _ (λ t. other_entries t.0.kind t.0 t.1)
+closes_at state.FlowSequenceEntryMappingKey m = behind (taken_token m) _ (λ t. pair_keys t.0.kind t.0 t.1)
+closes_at state.FlowSequenceEntryMappingValue m = behind (taken_token m) _ (λ t. pair_values t.0.kind t.0 t.1)
 closes_at (state.FlowSequenceEntryMappingEnd place) m = tt
-closes_at state.FlowMappingFirstKey m = behind (take m) _ (λ t. pairs t.0.kind t.0.span t.0 t.1)
-closes_at state.FlowMappingKey m = behind (take m) _ (λ t. other_pairs t.0.kind t.0 t.1)
-closes_at state.FlowMappingValue m = behind (take m) _ (λ t. values t.0.kind t.0 t.1)
-closes_at state.FlowMappingEmptyValue m = behind (take m) _ (λ t. tt)
+closes_at state.FlowMappingFirstKey m = behind (taken_token m) _ (λ t. pairs t.0.kind t.0.span t.0 t.1)
+closes_at state.FlowMappingKey m = behind (taken_token m) _ (λ t. other_pairs t.0.kind t.0 t.1)
+closes_at state.FlowMappingValue m = behind (taken_token m) _ (λ t. values t.0.kind t.0 t.1)
+closes_at state.FlowMappingEmptyValue m = behind (taken_token m) _ (λ t. tt)
 closes_at state.End m = tt
 
-pub closes : (m : Machine) (x : Told) → step m ≡ Ok x → LeavesEnd x.what x.machine.state
-unfolding step
+pub closes : (m : Machine) (x : Told) → event_step m ≡ Ok x → LeavesEnd x.what x.machine.state
+unfolding event_step
 closes m x e = subst Closes e (closes_at m.state m)

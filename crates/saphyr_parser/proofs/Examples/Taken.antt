@@ -14,7 +14,7 @@ use Rattle.saphyr_parser.specs.Examples.Forests as examples
 use Rattle.saphyr_parser.specs.EventsTaken as taking
 use Rattle.saphyr_parser.specs.EventsTaken.{AreTaken, HaveTokens}
 use Rattle.saphyr_parser.specs.Premises.{IsClosed, IsPromised, Starts, behind_marker, ReadsEach, ReadsClosed}
-use Rattle.saphyr_parser.specs.Cursor.{Cursor}
+use Rattle.saphyr_parser.specs.Cursor.{EventCursor}
 
 -- ## The empty text
 
@@ -91,7 +91,7 @@ closes_start =
 
 -- where the whole text is that line, what comes for it begins so
 pub reads_start :
-    (parser : Cursor) → ReadsEach examples.IsStart 100 line parser
+    (parser : EventCursor) → ReadsEach examples.IsStart 100 line parser
     → ReadsClosed examples.IsStart examples.IsNothing 100 line parser
 reads_start parser r keep first c =
     let p : IsPromised examples.IsStart 100 keep c.forest line c.told =

@@ -7,11 +7,10 @@ use Rattle.saphyr_scanner.specs.Views.Tokens.{Piece}
 use Rattle.saphyr_scanner.specs.Grammar.Forest.{Plain}
 use Rattle.saphyr_scanner.specs.Grammar.TokenGrammar.{Yields}
 use Rattle.saphyr_scanner.specs.Examples.TakenTexts as texts
-use Rattle.saphyr_scanner.specs.Examples.TakenTexts.{at}
+use Rattle.saphyr_scanner.specs.Examples.TakenTexts.{marker_at}
 use Rattle.saphyr_scanner.proofs.AllTokens.{bare_yields}
-use Rattle.saphyr_scanner.proofs.Examples.TakenTexts.{takes_block_alias}
+use Rattle.saphyr_scanner.proofs.Examples.TakenLines.{takes_block_alias}
 use Rattle.saphyr_parser.specs.Events as events
-use Rattle.saphyr_parser.specs.Events.{Happening}
 use Rattle.saphyr_parser.specs.Exactly.{kinds}
 use Rattle.saphyr_parser.specs.Examples.Forests as examples
 use Rattle.saphyr_parser.specs.EventsTaken as taking
@@ -21,16 +20,16 @@ abbrev pieces : List Piece
 pieces = texts.block_alias.pieces
 
 abbrev start : Piece
-start = texts.empty_at (at 0 1 0) tokens.BlockSequenceStart
+start = texts.empty_at (marker_at 0 1 0) tokens.BlockSequenceStart
 
 abbrev anchor : Piece
-anchor = texts.from_to (at 2 1 2) (at 4 1 4) (tokens.Anchor (codes "a"))
+anchor = texts.piece_from_to (marker_at 2 1 2) (marker_at 4 1 4) (tokens.Anchor (codes "a"))
 
 abbrev scalar : Piece
-scalar = texts.from_to (at 5 1 5) (at 6 1 6) (tokens.Scalar Plain (codes "b"))
+scalar = texts.piece_from_to (marker_at 5 1 5) (marker_at 6 1 6) (tokens.Scalar Plain (codes "b"))
 
 abbrev alias : Piece
-alias = texts.from_to (at 9 2 2) (at 11 2 4) (tokens.Alias (codes "a"))
+alias = texts.piece_from_to (marker_at 9 2 2) (marker_at 11 2 4) (tokens.Alias (codes "a"))
 
 have_tokens : HaveTokens [] examples.block_alias_answer.events pieces
 have_tokens =
@@ -45,7 +44,7 @@ have_tokens =
     (taking.event _ _ _ [] _ refl
     (taking.event _ _ _ [] _ refl (taking.event _ _ _ [] _ refl (taking.nothing _)))))))))))
 
-yields : Yields examples.block_alias (kinds pieces)
+yields : Yields examples.block_alias_forest (kinds pieces)
 unfolding encode
 yields =
     bare_yields _ _ (
@@ -59,7 +58,7 @@ yields =
 pub takes_block_alias_events : AreTaken false (codes "- &a b\n- *a") examples.block_alias_answer
 unfolding encode
 takes_block_alias_events = (
-  examples.block_alias,
+  examples.block_alias_forest,
   record {
     tokens = texts.block_alias;
     taken = takes_block_alias;
@@ -80,10 +79,10 @@ takes_block_alias_events = (
 
 -- ## An alias whose event has another span than its token
 
-pub other_span : IsOf (events.Alias 1) (examples.from_to (at 9 2 2) (at 10 2 3))
-    (texts.from_to (at 9 2 2) (at 11 2 4) (tokens.Alias (codes "a")) ∷ []) [] → ⊥
+pub other_span : IsOf (events.Alias 1) (examples.span_between (marker_at 9 2 2) (marker_at 10 2 3))
+    (texts.piece_from_to (marker_at 9 2 2) (marker_at 11 2 4) (tokens.Alias (codes "a")) ∷ []) [] → ⊥
 other_span (own, name, k, s, e) =
     let f : alias ≡ own = cc in
-    let g : alias.span ≡ examples.from_to (at 9 2 2) (at 10 2 3) = ap (λ p. p.span) f ∙ s in
+    let g : alias.span ≡ examples.span_between (marker_at 9 2 2) (marker_at 10 2 3) = ap (λ p. p.span) f ∙ s in
     let z : 11 ≡ 10 = ap (λ span. span.end.index) g in
     omega (arith, z)

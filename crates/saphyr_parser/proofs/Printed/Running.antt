@@ -9,7 +9,7 @@ use Rattle.saphyr_parser.specs.declared.printing.fault.DumpFault.TheVariants as 
 use Rattle.saphyr_parser.specs.declared.printing.run.RunFault.{RunFault}
 use Rattle.saphyr_parser.specs.declared.printing.run.RunFault.TheVariants as run
 use Rattle.saphyr_parser.specs.Answer.{Answer}
-use Rattle.saphyr_parser.specs.Printed.{lines}
+use Rattle.saphyr_parser.specs.Printed.{printed_lines}
 use Rattle.saphyr_parser.specs.Dumps.{Prints, Cuts, Dumps}
 use Rattle.saphyr_parser.specs.Runs.{TakesBeginning, PrintsText, DumpsText, Becomes}
 use Rattle.saphyr_parser.specs.Written.{Takes}
@@ -27,30 +27,32 @@ whole a b c bytes p q = record {
 }
 
 part : (a left : Answer) (old mid new : Option (List ℕ)) → Prints a left old mid → Keeps mid new
-    → TakesBeginning old new (lines a.events)
+    → TakesBeginning old new (printed_lines a.events)
 part a left old mid new p q =
     record {
-      front = lines p.printed;
+      front = printed_lines p.printed;
       back =
-          lines left.events;
+          printed_lines left.events;
       split =
-          ap lines p.split ∙ lines-append p.printed left.events;
+          ap printed_lines p.split ∙ lines-append p.printed left.events;
       taken = Appends-kept old mid new _ p.taken q;
     }
 
 cut : (a left : Answer) (old mid new : Option (List ℕ)) → Cuts a left old mid → Keeps mid new
-    → TakesBeginning old new (lines a.events)
+    → TakesBeginning old new (printed_lines a.events)
 cut a left old mid new p q = record {
-  front = lines p.printed ++ p.front;
-  back = p.back ++ lines left.events;
-  split = ap lines p.split ∙ lines-append p.printed _ ∙ ap (λ l. lines p.printed ++ (l ++ lines left.events)) p.cut
-      ∙ ap (λ l. lines p.printed ++ l) (append_assoc p.front p.back (lines left.events))
-      ∙ sym (append_assoc (lines p.printed) p.front (p.back ++ lines left.events));
+  front = printed_lines p.printed ++ p.front;
+  back = p.back ++ printed_lines left.events;
+  split =
+      ap printed_lines p.split ∙ lines-append p.printed _
+      ∙ ap (λ l. printed_lines p.printed ++ (l ++ printed_lines left.events)) p.cut
+      ∙ ap (λ l. printed_lines p.printed ++ l) (append_assoc p.front p.back (printed_lines left.events))
+      ∙ sym (append_assoc (printed_lines p.printed) p.front (p.back ++ printed_lines left.events));
   taken = Appends-kept old mid new _ p.taken q;
 }
 
 beginning : (d : Result (Unit {0}) DumpFault) (a left : Answer) (old mid new : Option (List ℕ)) → Dumps d a left old mid
-    → Keeps mid new → TakesBeginning old new (lines a.events)
+    → Keeps mid new → TakesBeginning old new (printed_lines a.events)
 beginning (Ok u) a left old mid new p q = whole old mid new _ p.1 q
 beginning (Err (dump.Parse (fault.Scan e))) a left old mid new p q = whole old mid new _ p.1 q
 beginning (Err (dump.Parse fault.OutOfMemory)) a left old mid new p q = part a p.0.0 old mid new p.0.1 q

@@ -108,3 +108,9 @@ pub takes_four : (r : Result (Unit {0}) Unwritten) (a b c d e : Option (List ℕ
     → Takes r d e fourth → bytes ≡ first ++ (second ++ (third ++ fourth)) → Takes r a e bytes
 takes_four r a b c d e bytes first second third fourth p q s t h =
     takes_three r a b c e bytes first second (third ++ fourth) p q (takes_more r c d e third fourth s t) h
+
+-- ## A line in one piece
+
+pub takes_same : (r : Result (Unit {0}) Unwritten) (a b : Option (List ℕ)) (bytes others : List ℕ) → bytes ≡ others
+    → Takes r a b bytes → Takes r a b others
+takes_same r a b bytes others e p = rw (sym e) p

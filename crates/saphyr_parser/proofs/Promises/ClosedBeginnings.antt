@@ -16,7 +16,7 @@ use Rattle.saphyr_parser.specs.Anchors.{anchors}
 use Rattle.saphyr_parser.specs.Preorder.{parts}
 use Rattle.saphyr_parser.specs.Events.{Happening}
 use Rattle.saphyr_parser.specs.ForestEvents.{events}
-use Rattle.saphyr_parser.specs.Cursor.{Cursor, at_start, keeping_tags, to_come}
+use Rattle.saphyr_parser.specs.Cursor.{EventCursor, at_start, keeping_tags, to_come}
 use Rattle.saphyr_parser.specs.Exactly.{kinds}
 use Rattle.saphyr_parser.specs.More.{marker_token}
 use Rattle.saphyr_parser.specs.Promises.{ReadsClosedLayout}
@@ -166,7 +166,7 @@ reads_closed G IsTail limit most sees bounds hands text keep first c =
 
 -- the same of the layout grammar
 pub reads_closed_layout : (limit : ℕ) → limit ≤ 4294967295 → BoundsTokens limit
-    → HandsOutMarkers (IsLayoutText most_open) IsLineRest limit → (text : List ℕ) (parser : Cursor)
+    → HandsOutMarkers (IsLayoutText most_open) IsLineRest limit → (text : List ℕ) (parser : EventCursor)
     → parser ≡ at_start (scan limit text)
     → ReadsClosedLayout limit text parser
 reads_closed_layout limit most bounds hands text parser is =

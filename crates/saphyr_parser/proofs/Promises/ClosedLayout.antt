@@ -6,13 +6,12 @@ use Rattle.saphyr_scalar.specs.Spelling.Spaces.{IsEol, IsFiller, IsLastFiller, I
 use Rattle.saphyr_scanner.specs.Grammar.Layout.{most_open, IsDocument, IsDocumentSuffix, AreDocuments, IsLayoutText}
 use Rattle.saphyr_scanner.specs.Grammar.Forest.{left_out}
 use Rattle.saphyr_scanner.specs.Grammar.BlockNodes.{IsBlockNode}
-use Rattle.saphyr_scanner.proofs.Examples.OneForest.{stands_for_one}
+use Rattle.saphyr_scanner.proofs.Examples.MarkerAlone.{stands_for_one}
 use Rattle.saphyr_parser.specs.Events as events
-use Rattle.saphyr_parser.specs.Events.{Happening}
 use Rattle.saphyr_parser.specs.Steps.Machine.{empty_scalar}
 use Rattle.saphyr_parser.specs.ForestEvents.{events}
 use Rattle.saphyr_parser.specs.Examples.Forests as examples
-use Rattle.saphyr_parser.specs.Cursor.{Cursor, keeping_tags, to_come}
+use Rattle.saphyr_parser.specs.Cursor.{EventCursor, keeping_tags, to_come}
 use Rattle.saphyr_parser.specs.Exactly.{GivesExactly}
 use Rattle.saphyr_parser.specs.Premises.{IsClosed, IsPromised, Starts, GivesFirst}
 use Rattle.saphyr_parser.specs.Promises.{ReadsLayout, ReadsClosedLayout}
@@ -140,10 +139,10 @@ behind keep =
       are_told = refl;
     }
 
-pub gives_start : (parser : Cursor) (keep : Bool) → ReadsLayout 100 (codes "---\n") parser
+pub gives_start : (parser : EventCursor) (keep : Bool) → ReadsLayout 100 (codes "---\n") parser
     → GivesExactly examples.start_told (to_come (keeping_tags keep parser))
 gives_start parser keep r = r examples.start_forest keep examples.start_told (promised keep)
 
-pub gives_first : (parser : Cursor) (keep : Bool) → ReadsClosedLayout 100 (codes "---\n[") parser
+pub gives_first : (parser : EventCursor) (keep : Bool) → ReadsClosedLayout 100 (codes "---\n[") parser
     → GivesFirst examples.start_events (to_come (keeping_tags keep parser))
 gives_first parser keep r = r keep examples.start_events (closed keep)

@@ -10,10 +10,10 @@ use Rattle.saphyr_parser.specs.declared.parser.state.State.TheVariants as state
 use Rattle.saphyr_parser.specs.Events as events
 use Rattle.saphyr_parser.specs.Events.{Happening}
 use Rattle.saphyr_parser.specs.Premises.{DocumentMarker, Starts, Ends, behind_marker, GivesFirst}
-use Rattle.saphyr_parser.specs.Steps.Machine.{Machine, fresh, told, empty_scalar, enter, with_pieces}
-use Rattle.saphyr_parser.specs.Steps.Documents.{pass, implicit_start, explicit_start, document_content, document_end, behind_document, forget_prefixes}
-use Rattle.saphyr_parser.specs.Steps.Expected.{step, step_at}
-use Rattle.saphyr_parser.specs.Answer.{Answer, before, deliver, remaining}
+use Rattle.saphyr_parser.specs.Steps.Machine.{Machine, fresh_machine, told, empty_scalar, with_state, with_pieces}
+use Rattle.saphyr_parser.specs.Steps.Documents.{unpassed_token, implicit_start, explicit_start, document_content, document_end, behind_document, forget_prefixes}
+use Rattle.saphyr_parser.specs.Steps.Expected.{event_step, event_step_at}
+use Rattle.saphyr_parser.specs.Answer.{Answer, with_first_event, deliver, remaining_answer}
 use Rattle.saphyr_parser.specs.Cursor.{at_start, keeping_tags, to_come}
 use Rattle.saphyr_parser.specs.Exactly.{GivesExactly, told_by}
 use Rattle.saphyr_parser.specs.More.{marker_token}
@@ -30,8 +30,8 @@ abbrev alone : Span → Machine → Machine
 alone s k = record k { tokens = record { pieces = record { span = s; kind = tokens.StreamEnd } ∷ []; refusal = None } }
 
 start_step : (s : Span) (x : State) (k : Machine) → IsStart x
-    → step_at x (alone s k) ≡ told events.StreamEnd s (enter state.End (with_pieces [] (alone s k)))
-unfolding implicit_start explicit_start pass
+    → event_step_at x (alone s k) ≡ told events.StreamEnd s (with_state state.End (with_pieces [] (alone s k)))
+unfolding implicit_start explicit_start unpassed_token
 start_step s state.ImplicitDocumentStart k i = refl
 start_step s state.DocumentStart k i = refl
 start_step s _ k i = absurd i
@@ -42,25 +42,25 @@ goes state.DocumentStart i = λ e. absurd (cc)
 goes _ i = absurd i
 
 start_told : (s : Span) (k : Machine) → IsStart k.state
-    → remaining (alone s k) ≡ record { events = (events.StreamEnd, s) ∷ []; fault = None }
-unfolding step
+    → remaining_answer (alone s k) ≡ record { events = (events.StreamEnd, s) ∷ []; fault = None }
+unfolding event_step
 start_told s k i =
-    unroll (alone s k) (goes k.state i) ∙ ap (λ q. deliver q remaining) (start_step s k.state k i)
-    ∙ ap (before (events.StreamEnd, s)) (over (enter state.End (with_pieces [] (alone s k))) refl)
+    unroll (alone s k) (goes k.state i) ∙ ap (λ q. deliver q remaining_answer) (start_step s k.state k i)
+    ∙ ap (with_first_event (events.StreamEnd, s)) (over (with_state state.End (with_pieces [] (alone s k))) refl)
 
 abbrev in_document : List State → Machine → Machine
 in_document ss k = record k { state = state.DocumentContent; states = state.DocumentEnd ∷ ss }
 
 content_told :
     (s : Span) (ss : List State) (k : Machine)
-    → remaining (alone s (in_document ss k))
+    → remaining_answer (alone s (in_document ss k))
     ≡ record { events = (empty_scalar, s) ∷ (events.DocumentEnd, s) ∷ (events.StreamEnd, s) ∷ []; fault = None }
-unfolding step document_content document_end behind_document
+unfolding event_step document_content document_end behind_document
 content_told s ss k =
     unroll (alone s (in_document ss k)) (λ e. absurd (cc))
-    ∙ ap (before (empty_scalar, s))
+    ∙ ap (with_first_event (empty_scalar, s))
     (unroll (alone s (record k { state = state.DocumentEnd; states = ss })) (λ e. absurd (cc))
-    ∙ ap (before (events.DocumentEnd, s))
+    ∙ ap (with_first_event (events.DocumentEnd, s))
     (start_told s (forget_prefixes (record k { state = state.DocumentStart; states = ss })) tt))
 
 -- ## The marker
@@ -69,23 +69,23 @@ abbrev ended_by : DocumentMarker → List Piece → Option Refusal → More
 ended_by w us e = record { Early = ⊥; marker = w; pieces = us; refusal = e }
 
 told_behind : (w : DocumentMarker) (s : Span) (k : Machine) → Awaits w k ⊎ ((w ≡ Ends) × IsStart k.state)
-    → told_of (remaining (alone s k)) ≡ behind_marker w
+    → told_of (remaining_answer (alone s k)) ≡ behind_marker w
 told_behind w s k (inl (inl a)) = rw a.0 (ap told_of (start_told s k (subst IsStart (sym a.1) tt)))
 told_behind w s k (inl (inr a)) =
     let ss : List State = a.2.0 in
     let same : k ≡ in_document ss k = ap (λ v. record k { state = v }) a.1
     ∙ ap (λ v. record k { state = state.DocumentContent; states = v }) a.2.1 in
-    rw a.0 (ap told_of (ap (λ v. remaining (alone s v)) same ∙ content_told s ss k))
+    rw a.0 (ap told_of (ap (λ v. remaining_answer (alone s v)) same ∙ content_told s ss k))
 told_behind w s k (inr a) = rw a.0 (ap told_of (start_told s k a.1))
 
 told_stopped :
     (w : DocumentMarker) (s : Span) (k : Machine)
     → IsStopped (ended_by w (record { span = s; kind = tokens.StreamEnd } ∷ []) None) k
-    → told_of (remaining (longer (ended_by w (record { span = s; kind = tokens.StreamEnd } ∷ []) None) k))
+    → told_of (remaining_answer (longer (ended_by w (record { span = s; kind = tokens.StreamEnd } ∷ []) None) k))
     ≡ behind_marker w
 told_stopped w s k (inl h) = absurd h
 told_stopped w s k (inr a) =
-    ap (λ ts. told_of (remaining
+    ap (λ ts. told_of (remaining_answer
     (record k {
       tokens = record { pieces = ts ++ record { span = s; kind = tokens.StreamEnd } ∷ []; refusal = None };
     }))) a.0 ∙ told_behind w s k a.1
@@ -108,7 +108,7 @@ first_told :
     → told_of b ≡ first ++ behind_marker w → GivesFirst first a
 first_told w s first a b (inl e) t = (behind_marker w, ap told_of (sym e) ∙ t)
 first_told w s first a b (inr g) t =
-    let behind : Answer = remaining
+    let behind : Answer = remaining_answer
     (longer (ended_by w (record { span = s; kind = tokens.StreamEnd } ∷ []) None) g.1.0) in
     let all : told_of b ≡ told_of a ++ told_of behind = ap told_of g.1.2
     ∙ map-append (λ (e : Happening × Span). e.0) a.events behind.events in
@@ -120,7 +120,7 @@ also_first : (z : More) (r : Option Refusal) (first : List Happening) (a b : Ans
     → GivesFirst first a → GivesFirst first b
 also_first z r first a b (inl e) f = (f.0, ap told_of e ∙ f.1)
 also_first z r first a b (inr g) f =
-    let behind : Answer = remaining (longer z g.1.0) in (
+    let behind : Answer = remaining_answer (longer z g.1.0) in (
       f.0 ++ told_of behind,
       ap told_of g.1.2 ∙ map-append (λ (e : Happening × Span). e.0) a.events behind.events
           ∙ ap (λ xs. xs ++ told_of behind) f.1 ∙ append_assoc first f.0 (told_of behind),
@@ -128,14 +128,14 @@ also_first z r first a b (inr g) f =
 
 -- a machine at the start of tokens
 abbrev start : Bool → List Piece → Option Refusal → Machine
-start keep ts e = record (fresh (record { pieces = ts; refusal = e })) { keep_tags = keep }
+start keep ts e = record (fresh_machine (record { pieces = ts; refusal = e })) { keep_tags = keep }
 
 closes :
     (keep : Bool) (w : DocumentMarker) (ts us : List Piece) (x : Piece) (s : Span) (e : Option Refusal)
     (first : List Happening) → x.kind ≡ marker_token w
-    → told_of (remaining (start keep ((ts ++ x ∷ []) ++ record { span = s; kind = tokens.StreamEnd } ∷ []) None))
+    → told_of (remaining_answer (start keep ((ts ++ x ∷ []) ++ record { span = s; kind = tokens.StreamEnd } ∷ []) None))
     ≡ first ++ behind_marker w
-    → GivesFirst first (remaining (start keep ((ts ++ x ∷ []) ++ us) e))
+    → GivesFirst first (remaining_answer (start keep ((ts ++ x ∷ []) ++ us) e))
 closes keep w ts us x s e first is t =
     let m : Machine = start keep (ts ++ x ∷ []) None in
     let end : List Piece = record { span = s; kind = tokens.StreamEnd } ∷ [] in
@@ -153,9 +153,10 @@ closed_tokens keep w ts us x y e first is ends g =
     let same : (vs : List Piece) → (ts ++ x ∷ []) ++ vs ≡ ts ++ x ∷ vs = λ vs. append_assoc ts (x ∷ []) vs in
     let the_end : y ≡ record { span = y.span; kind = tokens.StreamEnd } =
     ap (λ k. record { span = y.span; kind = k }) ends in
-    let given : told_of (remaining
+    let given : told_of (remaining_answer
     (start keep ((ts ++ x ∷ []) ++ record { span = y.span; kind = tokens.StreamEnd } ∷ []) None))
     ≡ first ++ behind_marker w =
-    ap (λ vs. told_of (remaining (start keep vs None))) (same _ ∙ ap (λ v. ts ++ x ∷ v ∷ []) (sym the_end)) ∙ g.1 in
-    subst (λ vs. GivesFirst first (remaining (start keep vs e))) (same us)
+    ap (λ vs. told_of (remaining_answer (start keep vs None))) (same _ ∙ ap (λ v. ts ++ x ∷ v ∷ []) (sym the_end))
+    ∙ g.1 in
+    subst (λ vs. GivesFirst first (remaining_answer (start keep vs e))) (same us)
     (closes keep w ts us x y.span e first is given)

@@ -9,10 +9,10 @@ use Rattle.saphyr_parser.specs.declared.parser.state.State.{State}
 use Rattle.saphyr_parser.specs.declared.parser.state.State.TheVariants as state
 use Rattle.saphyr_parser.specs.Events.{Happening}
 use Rattle.saphyr_parser.specs.Premises.{DocumentMarker, Starts, Ends}
-use Rattle.saphyr_parser.specs.Steps.Machine.{◌>>=◌, Machine, Told, ending, with_pieces, take_from}
-use Rattle.saphyr_parser.specs.Steps.Documents.{pass_from, pass, is_end_or_mark, implicit_start, document_content}
-use Rattle.saphyr_parser.specs.Steps.Expected.{step, step_at}
-use Rattle.saphyr_parser.specs.Answer.{Answer, before, deliver, failed, ending_of, remaining, size}
+use Rattle.saphyr_parser.specs.Steps.Machine.{◌>>=◌, Machine, Told, ending_refusal, with_pieces, taken_token_from}
+use Rattle.saphyr_parser.specs.Steps.Documents.{unpassed_token_from, unpassed_token, is_end_or_mark, implicit_start, document_content}
+use Rattle.saphyr_parser.specs.Steps.Expected.{event_step, event_step_at}
+use Rattle.saphyr_parser.specs.Answer.{Answer, with_first_event, deliver, failed, ending_of, remaining_answer, machine_size}
 use Rattle.saphyr_parser.specs.More.{with_more, BeginsAs}
 use Rattle.saphyr_parser.proofs.Unroll.{unroll, over, shrinks_at}
 use Rattle.saphyr_parser.proofs.Longer.{More, longer, IsLastOr, End, Awaits, IsLeft, Agrees, IsPassed, steps_agree}
@@ -41,30 +41,30 @@ same_result z r (Ok y) q x a e =
     let same : y ≡ x = cc in subst (λ (v : Told). q ≡ Ok (record v { machine = longer z v.machine })) same a.2
 same_result z r (Err f) q x a e = absurd (cc)
 
-step_given : (z : More) (m : Machine) (x : Told) → End z m.tokens.pieces → step m ≡ Ok x
-    → step (longer z m) ≡ Ok (record x { machine = longer z x.machine })
-unfolding step
+step_given : (z : More) (m : Machine) (x : Told) → End z m.tokens.pieces → event_step m ≡ Ok x
+    → event_step (longer z m) ≡ Ok (record x { machine = longer z x.machine })
+unfolding event_step
 step_given z m x e is = by (ended m.state)
   where
     agreed :
-        Agrees z m.tokens.refusal (step_at m.state m) (step_at m.state (longer z m))
-        ⊎ (IsStart m.state × IsPassed z m (step_at m.state))
-        → step_at m.state (longer z m) ≡ Ok (record x { machine = longer z x.machine })
-    agreed (inl a) = same_result z m.tokens.refusal (step_at m.state m) _ x a is
+        Agrees z m.tokens.refusal (event_step_at m.state m) (event_step_at m.state (longer z m))
+        ⊎ (IsStart m.state × IsPassed z m (event_step_at m.state))
+        → event_step_at m.state (longer z m) ≡ Ok (record x { machine = longer z x.machine })
+    agreed (inl a) = same_result z m.tokens.refusal (event_step_at m.state m) _ x a is
     agreed (inr p) = let no = p.1.1 in absurd (cc)
 
-    none : (s : State) → s ≡ state.End → step_at s m ≡ Ok x → ⊥
+    none : (s : State) → s ≡ state.End → event_step_at s m ≡ Ok x → ⊥
     none state.End y i = absurd (cc)
     none _ y i = absurd (cc)
 
     by : (m.state ≡ state.End) ⊎ (m.state ≢ state.End)
-        → step_at m.state (longer z m) ≡ Ok (record x { machine = longer z x.machine })
+        → event_step_at m.state (longer z m) ≡ Ok (record x { machine = longer z x.machine })
     by (inl y) = absurd (none m.state y is)
     by (inr n) = agreed (steps_agree z m.state m n e)
 
 -- a step gives the same with more tokens behind, which are left behind those that it leaves
-pub same_step : (m : Machine) (us : List Piece) (e : Option Refusal) (x : Told) → step m ≡ Ok x
-    → step (with_more us e m) ≡ Ok (record x { machine = with_more us e x.machine })
+pub same_step : (m : Machine) (us : List Piece) (e : Option Refusal) (x : Told) → event_step m ≡ Ok x
+    → event_step (with_more us e m) ≡ Ok (record x { machine = with_more us e x.machine })
 same_step m us e x is = step_given (record { Early = Unit {0}; marker = Starts; pieces = us; refusal = e }) m x
     (early Starts us e m.tokens.pieces) is
 
@@ -82,43 +82,43 @@ IsStopped z k = z.Early ⊎ ((k.tokens.pieces ≡ []) × (Awaits z.marker k ⊎ 
 -- from there.
 abbrev pub GoesOn : More → Option Refusal → Answer → Answer → Type 0
 GoesOn z r a b = (b ≡ a)
-    ⊎ ((a.fault ≡ Some (ending_of (ending r)))
-    × ((k : Machine) × IsStopped z k × (b ≡ behind_all a.events (remaining (longer z k)))))
+    ⊎ ((a.fault ≡ Some (ending_of (ending_refusal r)))
+    × ((k : Machine) × IsStopped z k × (b ≡ behind_all a.events (remaining_answer (longer z k)))))
 
 one_more : (z : More) (r : Option Refusal) (e : Happening × Span) (a b : Answer) → GoesOn z r a b
-    → GoesOn z r (before e a) (before e b)
-one_more z r e a b (inl y) = inl (ap (before e) y)
-one_more z r e a b (inr y) = inr (y.0, (y.1.0, y.1.1, ap (before e) y.1.2))
+    → GoesOn z r (with_first_event e a) (with_first_event e b)
+one_more z r e a b (inl y) = inl (ap (with_first_event e) y)
+one_more z r e a b (inr y) = inr (y.0, (y.1.0, y.1.1, ap (with_first_event e) y.1.2))
 
 as_before : (z : More) (r : Option Refusal) (a c b d : Answer) → a ≡ c → b ≡ d → GoesOn z r c d → GoesOn z r a b
 as_before z r a c b d x y g = subst (λ v. GoesOn z r v b) (sym x) (subst (λ v. GoesOn z r c v) (sym y) g)
 
 delivers :
     (z : More) (r : Option Refusal) (m : Machine) (p q : Result Told Refusal) → Agrees z r p q
-    → deliver q remaining ≡ remaining (longer z m)
+    → deliver q remaining_answer ≡ remaining_answer (longer z m)
     → ((x : Told) → p ≡ Ok x → IsLeft z x.machine
-    → GoesOn z x.machine.tokens.refusal (remaining x.machine) (remaining (longer z x.machine)))
-    → GoesOn z r (deliver p remaining) (deliver q remaining)
+    → GoesOn z x.machine.tokens.refusal (remaining_answer x.machine) (remaining_answer (longer z x.machine)))
+    → GoesOn z r (deliver p remaining_answer) (deliver q remaining_answer)
 delivers z r m (Ok x) q a s h =
     rw a.2 (one_more z r (x.what, x.span) _ _
-    (subst (λ o. GoesOn z o (remaining x.machine) (remaining (longer z x.machine))) a.1 (h x refl a.0)))
+    (subst (λ o. GoesOn z o (remaining_answer x.machine) (remaining_answer (longer z x.machine))) a.1 (h x refl a.0)))
 delivers z r m (Err f) q (inl e) s h = inr (rw e.1 refl, (m, inl e.0, s))
 delivers z r m (Err f) q (inr e) s h = inl (rw e refl)
 
 passed_from : (ts : List Piece) (m : Machine) (go : Piece × Machine → Result Told Refusal) → ts ≡ []
-    → (pass_from is_end_or_mark ts m >>= go) ≡ Err (ending m.tokens.refusal)
+    → (unpassed_token_from is_end_or_mark ts m >>= go) ≡ Err (ending_refusal m.tokens.refusal)
 passed_from ts m go e = rw e refl
 
 none_taken : (ts : List Piece) (m : Machine) (go : Piece × Machine → Result Told Refusal) → ts ≡ []
-    → (take_from ts m >>= go) ≡ Err (ending m.tokens.refusal)
+    → (taken_token_from ts m >>= go) ≡ Err (ending_refusal m.tokens.refusal)
 none_taken ts m go e = rw e refl
 
 awaits_at :
     (w : DocumentMarker) (s : State) (m : Machine) → m.tokens.pieces ≡ []
     → ((w ≡ Ends) × (s ≡ state.ImplicitDocumentStart))
     ⊎ ((w ≡ Starts) × (s ≡ state.DocumentContent) × ((ss : List State) × (m.states ≡ state.DocumentEnd ∷ ss)))
-    → step_at s m ≡ Err (ending m.tokens.refusal)
-unfolding implicit_start pass document_content
+    → event_step_at s m ≡ Err (ending_refusal m.tokens.refusal)
+unfolding implicit_start unpassed_token document_content
 awaits_at w state.ImplicitDocumentStart m e a = passed_from m.tokens.pieces m _ e
 awaits_at w state.DocumentContent m e a = none_taken m.tokens.pieces m _ e
 awaits_at w _ m e (inl a) = let y = a.1 in absurd (cc)
@@ -127,20 +127,22 @@ awaits_at w _ m e (inr a) = let y = a.1 in absurd (cc)
 -- a step, and what comes behind it
 first_step :
     (z : More) (m : Machine)
-    → ((x : Told) → step m ≡ Ok x → IsLeft z x.machine
-    → GoesOn z x.machine.tokens.refusal (remaining x.machine) (remaining (longer z x.machine)))
-    → IsLeft z m → GoesOn z m.tokens.refusal (remaining m) (remaining (longer z m))
-unfolding step
+    → ((x : Told) → event_step m ≡ Ok x → IsLeft z x.machine
+    → GoesOn z x.machine.tokens.refusal (remaining_answer x.machine) (remaining_answer (longer z x.machine)))
+    → IsLeft z m → GoesOn z m.tokens.refusal (remaining_answer m) (remaining_answer (longer z m))
+unfolding event_step
 first_step z m next i = by (ended m.state) i
   where
     r : Option Refusal
     r = m.tokens.refusal
 
     agreed :
-        m.state ≢ state.End → Agrees z r (step_at m.state m) (step_at m.state (longer z m))
-        ⊎ (IsStart m.state × IsPassed z m (step_at m.state))
-        → GoesOn z r (deliver (step_at m.state m) remaining) (deliver (step_at m.state (longer z m)) remaining)
-    agreed h (inl a) = delivers z r m (step_at m.state m) (step_at m.state (longer z m)) a (sym (unroll (longer z m) h))
+        m.state ≢ state.End → Agrees z r (event_step_at m.state m) (event_step_at m.state (longer z m))
+        ⊎ (IsStart m.state × IsPassed z m (event_step_at m.state))
+        → GoesOn z r (deliver (event_step_at m.state m) remaining_answer)
+        (deliver (event_step_at m.state (longer z m)) remaining_answer)
+    agreed h (inl a) =
+        delivers z r m (event_step_at m.state m) (event_step_at m.state (longer z m)) a (sym (unroll (longer z m) h))
         next
     agreed h (inr p) = rw p.1.1
         (inr (
@@ -148,36 +150,39 @@ first_step z m next i = by (ended m.state) i
           (
             with_pieces [] m,
             inr (refl, inr (p.1.0, p.0)),
-            ap (λ q. deliver q remaining) p.1.2
+            ap (λ q. deliver q remaining_answer) p.1.2
                 ∙ sym (unroll (longer z (with_pieces [] m)) h),
           ),
         ))
 
-    by : (m.state ≡ state.End) ⊎ (m.state ≢ state.End) → IsLeft z m → GoesOn z r (remaining m) (remaining (longer z m))
+    by : (m.state ≡ state.End) ⊎ (m.state ≢ state.End) → IsLeft z m
+        → GoesOn z r (remaining_answer m) (remaining_answer (longer z m))
     by (inl e) k = inl (over (longer z m) e ∙ sym (over m e))
     by (inr h) (inl e) = as_before z r _ _ _ _ (unroll m h) (unroll (longer z m) h)
         (agreed h (steps_agree z m.state m h e))
     by (inr h) (inr k) =
-        as_before z r _ (failed (ending_of (ending r))) _ _
-        (unroll m h ∙ ap (λ q. deliver q remaining) (awaits_at z.marker m.state m k.0 k.1)) refl
+        as_before z r _ (failed (ending_of (ending_refusal r))) _ _
+        (unroll m h ∙ ap (λ q. deliver q remaining_answer) (awaits_at z.marker m.state m k.0 k.1)) refl
         (inr (refl, (m, inr (k.0, inl k.1), refl)))
 
-runs : (n : ℕ) (z : More) (m : Machine) → size m < n → IsLeft z m
-    → GoesOn z m.tokens.refusal (remaining m) (remaining (longer z m))
+runs : (n : ℕ) (z : More) (m : Machine) → machine_size m < n → IsLeft z m
+    → GoesOn z m.tokens.refusal (remaining_answer m) (remaining_answer (longer z m))
 runs zero z m l i = absurd (omega (arith, l))
 runs (suc n) z m l i = first_step z m (λ x e k. runs n z x.machine (shrinks_at n m x (omega (arith, l)) e) k) i
 
-pub goes_on : (z : More) (m : Machine) → IsLeft z m → GoesOn z m.tokens.refusal (remaining m) (remaining (longer z m))
-goes_on z m i = runs (suc (size m)) z m (omega arith) i
+pub goes_on : (z : More) (m : Machine) → IsLeft z m
+    → GoesOn z m.tokens.refusal (remaining_answer m) (remaining_answer (longer z m))
+goes_on z m i = runs (suc (machine_size m)) z m (omega arith) i
 
-first_ones : (z : More) (r : Option Refusal) (a b : Answer) → GoesOn z r a b → BeginsAs (ending r) a b
+first_ones : (z : More) (r : Option Refusal) (a b : Answer) → GoesOn z r a b → BeginsAs (ending_refusal r) a b
 first_ones z r a b (inl e) = inl e
-first_ones z r a b (inr y) = inr (y.0, ((remaining (longer z y.1.0)).events, ap (λ (v : Answer). v.events) y.1.2))
+first_ones z r a b (inr y) =
+    inr (y.0, ((remaining_answer (longer z y.1.0)).events, ap (λ (v : Answer). v.events) y.1.2))
 
 -- the events of a machine are the first ones with more tokens behind, and all where another fault than the end of its
 -- tokens ends them, or none
 pub begins_as : (m : Machine) (us : List Piece) (e : Option Refusal)
-    → BeginsAs (ending m.tokens.refusal) (remaining m) (remaining (with_more us e m))
+    → BeginsAs (ending_refusal m.tokens.refusal) (remaining_answer m) (remaining_answer (with_more us e m))
 begins_as m us e =
     let z : More = record { Early = Unit {0}; marker = Starts; pieces = us; refusal = e } in
     first_ones z m.tokens.refusal _ _ (goes_on z m (inl (early Starts us e m.tokens.pieces)))

@@ -12,7 +12,7 @@ use Rattle.saphyr_scanner.specs.TokensTaken.{IsPlaceOf, IsEndOf, AreTakenFrom}
 use Rattle.saphyr_scanner.specs.AtPlaces.{AreAtPlaces}
 use Rattle.saphyr_parser.specs.Answer.{Answer}
 use Rattle.saphyr_parser.specs.Begins.{IsBeginningOf, BeginsSomeForest}
-use Rattle.saphyr_parser.specs.Cursor.{Cursor, at_start, keeping_tags, to_come}
+use Rattle.saphyr_parser.specs.Cursor.{EventCursor, at_start, keeping_tags, to_come}
 use Rattle.saphyr_parser.specs.EventsTaken.{AreTaken, HasPlaceIn}
 use Rattle.saphyr_parser.specs.Promises.{TakesEvents}
 use Rattle.saphyr_parser.proofs.Refusing.{IsRefused, IsLastOr, AreEnded, refused_at}
@@ -86,7 +86,7 @@ TakesAll = (text : List ℕ) (tokens : Remaining) → AreTakenFrom text tokens �
     → length tokens.pieces < 2 ^ 64 → TakesEvents text (at_start tokens)
 
 -- a parser that stands at the start of a text's tokens
-pub parser_takes : TakesAll → (limit : ℕ) (text : List ℕ) (r : Remaining) (c : Cursor) → c ≡ at_start r
+pub parser_takes : TakesAll → (limit : ℕ) (text : List ℕ) (r : Remaining) (c : EventCursor) → c ≡ at_start r
     → r ≡ scan limit text → AreTakenFrom text r → EndsWithStream (scan limit text)
     → length (scan limit text).pieces ≤ 5 * limit + 10 → limit ≤ 4294967295 → TakesEvents text c
 parser_takes all limit text r c is same t e b l =

@@ -5,9 +5,9 @@ use Rattle.saphyr_scanner.specs.Grammar.Forest as forest
 use Rattle.saphyr_scanner.specs.Grammar.Json.{IsMemberName, IsValue, AreElements, AreOtherElements, AreMembers, AreOtherMembers, IsJson}
 use Rattle.saphyr_parser.specs.Preorder.{Part, OpenStream, CloseStream, OpenDocument, CloseDocument, Reference, Leaf, OpenSequence, CloseSequence, OpenMapping, CloseMapping, node_parts, entry_parts, pair_parts, parts}
 use Rattle.saphyr_parser.specs.Events.{Happening, StreamStart, StreamEnd, DocumentStart, DocumentEnd, Scalar, SequenceStart, SequenceEnd, MappingStart, MappingEnd}
-use Rattle.saphyr_parser.specs.Anchors.{anchor_of, one_more, anchors, own_id}
+use Rattle.saphyr_parser.specs.Anchors.{anchor_of, one_more_anchor, anchors, own_id}
 use Rattle.saphyr_parser.specs.TagResolution.{resolve_any}
-use Rattle.saphyr_parser.specs.ForestEvents.{before_all, event_of, events_behind, events}
+use Rattle.saphyr_parser.specs.ForestEvents.{before_all, event_of_part, events_behind, events}
 
 abbrev IsBare : Part → Type 0
 IsBare (Reference _) = ⊥
@@ -23,7 +23,7 @@ AreBare (p ∷ ps) = IsBare p × AreBare ps
 abbrev Has : Option Happening → Type 0
 Has o = (e : Happening) × (o ≡ Some e)
 
-bare_event : (keep : Bool) (front : List Part) (p : Part) → IsBare p → Has (event_of keep front p)
+bare_event : (keep : Bool) (front : List Part) (p : Part) → IsBare p → Has (event_of_part keep front p)
 bare_event keep front (Reference x) h = elim h [ ]
 bare_event keep front (Leaf p s v) h = (
   Scalar (encode_utf8_all v) s 0 None,
@@ -52,7 +52,7 @@ bare_events : (keep : Bool) (front ps : List Part) → AreBare ps
     → (es : List Happening) × (events_behind keep front ps ≡ Some es)
 bare_events keep front [] h = ([], refl)
 bare_events keep front (p ∷ ps) h =
-    let first : Has (event_of keep front p) = bare_event keep front p h.0 in
+    let first : Has (event_of_part keep front p) = bare_event keep front p h.0 in
     let others : (es : List Happening) × (events_behind keep (p ∷ front) ps ≡ Some es) =
     bare_events keep (p ∷ front) ps h.1 in (
       first.0 ∷ others.0,
@@ -124,7 +124,7 @@ no_anchor _ h = refl
 
 no_anchors : (ps : List Part) → AreBare ps → anchors ps ≡ 0
 no_anchors [] h = refl
-no_anchors (p ∷ ps) h = ap (λ o. one_more o (anchors ps)) (no_anchor p h.0) ∙ no_anchors ps h.1
+no_anchors (p ∷ ps) h = ap (λ o. one_more_anchor o (anchors ps)) (no_anchor p h.0) ∙ no_anchors ps h.1
 
 pub json_has_no_anchors : (f : Forest) (text : List ℕ) → IsJson f text → anchors (parts f) ≡ 0
 json_has_no_anchors f text h = no_anchors (parts f) (json_is_bare f text h)

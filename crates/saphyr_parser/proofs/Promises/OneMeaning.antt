@@ -3,12 +3,13 @@ use Rattle.std.proofs.Common.{◌≤◌, ℕ, List, length, refl, sym, ◌∙◌
 use Rattle.saphyr_scanner.specs.Grammar.Layout.{most_open}
 use Rattle.saphyr_scanner.specs.Steps.Remaining.{scan}
 use Rattle.saphyr_parser.specs.Promises.{IsShallowJson}
-use Rattle.saphyr_parser.specs.Cursor.{Cursor, at_start}
+use Rattle.saphyr_parser.specs.Cursor.{EventCursor, at_start}
 use Rattle.saphyr_parser.specs.Premises.{Grammar, MeanTheSame, ReadsEach}
 use Rattle.saphyr_parser.proofs.Promises.Texts.{ScansJson, GivesJson, completed}
 
 pub mean_the_same :
-    (G H : Grammar) (limit : ℕ) (text : List ℕ) (parser : Cursor) → length text ≤ limit → ReadsEach G limit text parser
+    (G H : Grammar) (limit : ℕ) (text : List ℕ) (parser : EventCursor) → length text ≤ limit
+    → ReadsEach G limit text parser
     → ReadsEach H limit text parser
     → MeanTheSame G H text
 mean_the_same G H limit text parser short reads reads_too keep one other first second g h e f =

@@ -8,7 +8,7 @@ use Rattle.saphyr_scanner.specs.Grammar.TokenGrammar.{Yields}
 use Rattle.saphyr_scanner.specs.Grammar.Tokens.{Kind}
 use Rattle.saphyr_parser.specs.Anchors.{anchors}
 use Rattle.saphyr_parser.specs.Preorder.{parts}
-use Rattle.saphyr_parser.specs.Cursor.{Cursor, at_start, keeping_tags, to_come}
+use Rattle.saphyr_parser.specs.Cursor.{EventCursor, at_start, keeping_tags, to_come}
 use Rattle.saphyr_parser.specs.Exactly.{GivesExactly, kinds}
 use Rattle.saphyr_parser.specs.Premises.{Grammar, ReadsEach}
 use Rattle.saphyr_parser.proofs.AnchorCount.{forest_count}
@@ -28,11 +28,11 @@ few_anchors forest limit text yields bound most =
     omega (arith, count, same, bound, most)
 
 pub reads_text : (G : Grammar) (limit : ℕ) (text : List ℕ) → limit ≤ 4294967295
-    → length (scan limit text).pieces ≤ 5 * limit + 10 → ScansForests G limit text → (c : Cursor)
+    → length (scan limit text).pieces ≤ 5 * limit + 10 → ScansForests G limit text → (c : EventCursor)
     → c ≡ at_start (scan limit text) → ReadsEach G limit text c
 reads_text G limit text most bound scans c is forest keep told promised =
     let scanned = scans forest promised.stands_for promised.within in
     let yields = subst (Yields forest) (sym scanned.2.1) scanned.1 in
-    subst (λ (x : Cursor). GivesExactly told (to_come (keeping_tags keep x))) (sym is)
+    subst (λ (x : EventCursor). GivesExactly told (to_come (keeping_tags keep x))) (sym is)
     (each_parsed forest keep (scan limit text) told yields scanned.2.0 (few_anchors forest limit text yields bound most)
     promised.has_events)

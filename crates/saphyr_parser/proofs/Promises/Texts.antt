@@ -7,7 +7,7 @@ use Rattle.saphyr_scanner.specs.Steps.Remaining.{Scans, scan}
 use Rattle.saphyr_scanner.specs.Views.Tokens.{Remaining}
 use Rattle.saphyr_parser.specs.Events.{Happening}
 use Rattle.saphyr_parser.specs.ForestEvents.{events}
-use Rattle.saphyr_parser.specs.Cursor.{Cursor, at_start, keeping_tags, to_come}
+use Rattle.saphyr_parser.specs.Cursor.{EventCursor, at_start, keeping_tags, to_come}
 use Rattle.saphyr_parser.specs.Exactly.{GivesExactly, kinds}
 use Rattle.saphyr_parser.specs.Promises.{ReadsJson}
 
@@ -21,10 +21,10 @@ GivesJson =
     → kinds tokens.pieces ≡ json_tokens forest → tokens.refusal ≡ None → events forest keep ≡ Some told
     → GivesExactly told (to_come (keeping_tags keep (at_start tokens)))
 
-pub completed : ScansJson → GivesJson → (limit : ℕ) (text : List ℕ) (c : Cursor) → c ≡ at_start (scan limit text)
+pub completed : ScansJson → GivesJson → (limit : ℕ) (text : List ℕ) (c : EventCursor) → c ≡ at_start (scan limit text)
     → ReadsJson limit text c
 completed scans gives limit text c is forest keep told p =
     let json = p.stands_for.0 in
     let scanned = scans limit forest text json p.stands_for.1 p.within in
     let given = gives forest text keep (scan limit text) told json scanned.1 scanned.0 p.has_events in
-    subst (λ (x : Cursor). GivesExactly told (to_come (keeping_tags keep x))) (sym is) given
+    subst (λ (x : EventCursor). GivesExactly told (to_come (keeping_tags keep x))) (sym is) given

@@ -1,11 +1,11 @@
 -- A text within the limit is read as a whole, though no more items than a bound are taken.
 use Rattle.std.proofs.Common.{◌≡◌, ℕ, ◌≤◌, List, take, subst, arith}
 use Rattle.std.proofs.lemmas.List.{take_all}
-use Rattle.saphyr_parser.specs.Cursor.{Cursor}
+use Rattle.saphyr_parser.specs.Cursor.{EventCursor}
 use Rattle.saphyr_parser.specs.Premises.{Grammar, ReadsEach}
 use Rattle.saphyr_parser.specs.Promises.{ReadsClosedLayout}
 
-pub reads_whole : (G : Grammar) (limit bound : ℕ) (text : List ℕ) (parser : Cursor) → limit ≤ bound
+pub reads_whole : (G : Grammar) (limit bound : ℕ) (text : List ℕ) (parser : EventCursor) → limit ≤ bound
     → ReadsEach G limit (take bound text) parser → ReadsEach G limit text parser
 reads_whole G limit bound text parser within reads forest keep told promised =
     let short = promised.within in
@@ -13,7 +13,7 @@ reads_whole G limit bound text parser within reads forest keep told promised =
     subst (λ (cs : List ℕ). ReadsEach G limit cs parser) whole reads forest keep told promised
 
 -- the same of a closed beginning
-pub reads_whole_closed : (limit bound : ℕ) (text : List ℕ) (parser : Cursor) → limit ≤ bound
+pub reads_whole_closed : (limit bound : ℕ) (text : List ℕ) (parser : EventCursor) → limit ≤ bound
     → ReadsClosedLayout limit (take bound text) parser → ReadsClosedLayout limit text parser
 reads_whole_closed limit bound text parser within reads keep first closed =
     let short = closed.within in

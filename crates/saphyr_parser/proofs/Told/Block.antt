@@ -4,13 +4,13 @@ use Rattle.saphyr_scanner.specs.Grammar.Forest.{Node}
 use Rattle.saphyr_scanner.specs.Grammar.Forest as forest
 use Rattle.saphyr_scanner.specs.Grammar.Tokens.{Kind, BlockEntry, BlockEnd, Key, Value}
 use Rattle.saphyr_scanner.specs.Grammar.TokenGrammar.{InBlock, InBlockMapping, YieldsOptional, YieldsMarkedKey, YieldsMarkedValue, YieldsBlockPair, BeginsWithValue, YieldsNode}
-use Rattle.saphyr_parser.specs.declared.parser.context.Context.TheVariants.{Block, BlockMapping}
+use Rattle.saphyr_parser.specs.declared.parser.context.NodeContext.TheVariants.{Block, BlockMapping}
 use Rattle.saphyr_parser.specs.declared.parser.state.State.{State}
 use Rattle.saphyr_parser.specs.declared.parser.state.State.TheVariants as state
 use Rattle.saphyr_parser.specs.Preorder.{Part, node_parts}
 use Rattle.saphyr_parser.specs.Steps.Machine.{told, empty_scalar}
-use Rattle.saphyr_parser.specs.Steps.Block.{sequence_entry, sequence_node, indentless_entry, indentless_node, mapping_key, key_node, mapping_value, value_node}
-use Rattle.saphyr_parser.specs.Steps.Expected.{step}
+use Rattle.saphyr_parser.specs.Steps.Block.{sequence_entry, sequence_node, indentless_entry, indentless_node, mapping_key, block_key_node, block_mapping_value, block_value_node}
+use Rattle.saphyr_parser.specs.Steps.Expected.{event_step}
 use Rattle.saphyr_parser.proofs.Told.Telling.{Spans, Memory, at}
 use Rattle.saphyr_parser.proofs.Remembering.{after_node, Tells}
 use Rattle.saphyr_parser.proofs.Told.Nodes.{next_node}
@@ -30,17 +30,17 @@ entry_end_follows BlockEnd h = tt
 entry_end_follows _ h = elim h [ ]
 
 entry_begins : (f : Spans) (j : Kind) (l : List Kind) (ss : List State) (e : Memory) → Starts InBlock j
-    → step (at f (BlockEntry ∷ j ∷ l) state.BlockSequenceEntry ss e)
+    → event_step (at f (BlockEntry ∷ j ∷ l) state.BlockSequenceEntry ss e)
     ≡ next_node Block (at f (j ∷ l) state.BlockSequenceEntry (state.BlockSequenceEntry ∷ ss) e)
-unfolding step sequence_entry sequence_node
+unfolding event_step sequence_entry sequence_node
 entry_begins f BlockEntry l ss e h = elim h [ ]
 entry_begins f BlockEnd l ss e h = elim h [ ]
 entry_begins f _ l ss e h = refl
 
 entry_is_left_out : (f : Spans) (k : Kind) (ks : List Kind) (ss : List State) (e : Memory) → EndsBlockEntry k
-    → step (at f (BlockEntry ∷ k ∷ ks) state.BlockSequenceEntry ss e)
+    → event_step (at f (BlockEntry ∷ k ∷ ks) state.BlockSequenceEntry ss e)
     ≡ told empty_scalar (f (k ∷ ks)) (at f (k ∷ ks) state.BlockSequenceEntry ss e)
-unfolding step sequence_entry sequence_node
+unfolding event_step sequence_entry sequence_node
 entry_is_left_out f BlockEntry ks ss e h = refl
 entry_is_left_out f BlockEnd ks ss e h = refl
 entry_is_left_out f _ ks ss e h = elim h [ ]
@@ -73,9 +73,9 @@ mapping_follow_ends BlockEntry h = tt
 mapping_follow_ends _ h = h
 
 indentless_begins : (f : Spans) (j : Kind) (l : List Kind) (ss : List State) (e : Memory) → Starts InBlock j
-    → step (at f (BlockEntry ∷ j ∷ l) state.IndentlessSequenceEntry ss e)
+    → event_step (at f (BlockEntry ∷ j ∷ l) state.IndentlessSequenceEntry ss e)
     ≡ next_node Block (at f (j ∷ l) state.IndentlessSequenceEntry (state.IndentlessSequenceEntry ∷ ss) e)
-unfolding step indentless_entry indentless_node
+unfolding event_step indentless_entry indentless_node
 indentless_begins f BlockEntry l ss e h = elim h [ ]
 indentless_begins f Key l ss e h = elim h [ ]
 indentless_begins f Value l ss e h = elim h [ ]
@@ -83,9 +83,9 @@ indentless_begins f BlockEnd l ss e h = elim h [ ]
 indentless_begins f _ l ss e h = refl
 
 indentless_is_left_out : (f : Spans) (k : Kind) (ks : List Kind) (ss : List State) (e : Memory) → EndsIndentless k
-    → step (at f (BlockEntry ∷ k ∷ ks) state.IndentlessSequenceEntry ss e)
+    → event_step (at f (BlockEntry ∷ k ∷ ks) state.IndentlessSequenceEntry ss e)
     ≡ told empty_scalar (f (k ∷ ks)) (at f (k ∷ ks) state.IndentlessSequenceEntry ss e)
-unfolding step indentless_entry indentless_node
+unfolding event_step indentless_entry indentless_node
 indentless_is_left_out f BlockEntry ks ss e h = refl
 indentless_is_left_out f Key ks ss e h = refl
 indentless_is_left_out f Value ks ss e h = refl
@@ -105,36 +105,36 @@ indentless_says n t h g f k ks ss e ps z l =
 -- ## Entries of mappings
 
 key_begins : (f : Spans) (j : Kind) (l : List Kind) (ss : List State) (e : Memory) → Starts InBlockMapping j
-    → step (at f (Key ∷ j ∷ l) state.BlockMappingKey ss e)
+    → event_step (at f (Key ∷ j ∷ l) state.BlockMappingKey ss e)
     ≡ next_node BlockMapping (at f (j ∷ l) state.BlockMappingKey (state.BlockMappingValue ∷ ss) e)
-unfolding step mapping_key key_node
+unfolding event_step mapping_key block_key_node
 key_begins f Key l ss e h = elim h [ ]
 key_begins f Value l ss e h = elim h [ ]
 key_begins f BlockEnd l ss e h = elim h [ ]
 key_begins f _ l ss e h = refl
 
 key_is_left_out : (f : Spans) (k : Kind) (ks : List Kind) (ss : List State) (e : Memory) → MayFollow InBlockMapping k
-    → step (at f (Key ∷ k ∷ ks) state.BlockMappingKey ss e)
+    → event_step (at f (Key ∷ k ∷ ks) state.BlockMappingKey ss e)
     ≡ told empty_scalar (f ks) (at f (k ∷ ks) state.BlockMappingValue ss e)
-unfolding step mapping_key key_node
+unfolding event_step mapping_key block_key_node
 key_is_left_out f Key ks ss e h = refl
 key_is_left_out f Value ks ss e h = refl
 key_is_left_out f BlockEnd ks ss e h = refl
 key_is_left_out f _ ks ss e h = elim h [ ]
 
 value_begins : (f : Spans) (j : Kind) (l : List Kind) (ss : List State) (e : Memory) → Starts InBlockMapping j
-    → step (at f (Value ∷ j ∷ l) state.BlockMappingValue ss e)
+    → event_step (at f (Value ∷ j ∷ l) state.BlockMappingValue ss e)
     ≡ next_node BlockMapping (at f (j ∷ l) state.BlockMappingValue (state.BlockMappingKey ∷ ss) e)
-unfolding step mapping_value value_node
+unfolding event_step block_mapping_value block_value_node
 value_begins f Key l ss e h = elim h [ ]
 value_begins f Value l ss e h = elim h [ ]
 value_begins f BlockEnd l ss e h = elim h [ ]
 value_begins f _ l ss e h = refl
 
 value_is_left_out : (f : Spans) (k : Kind) (ks : List Kind) (ss : List State) (e : Memory) → MayFollow InBlockMapping k
-    → step (at f (Value ∷ k ∷ ks) state.BlockMappingValue ss e)
+    → event_step (at f (Value ∷ k ∷ ks) state.BlockMappingValue ss e)
     ≡ told empty_scalar (f (k ∷ ks)) (at f (k ∷ ks) state.BlockMappingKey ss e)
-unfolding step mapping_value value_node
+unfolding event_step block_mapping_value block_value_node
 value_is_left_out f Key ks ss e h = refl
 value_is_left_out f Value ks ss e h = refl
 value_is_left_out f BlockEnd ks ss e h = refl
@@ -142,9 +142,9 @@ value_is_left_out f _ ks ss e h = elim h [ ]
 
 value_is_missing : (f : Spans) (k : Kind) (ks : List Kind) (ss : List State) (e : Memory) → MayFollow InBlockMapping k
     → ¬ (BeginsWithValue (k ∷ ks))
-    → step (at f (k ∷ ks) state.BlockMappingValue ss e)
+    → event_step (at f (k ∷ ks) state.BlockMappingValue ss e)
     ≡ told empty_scalar (f ks) (at f (k ∷ ks) state.BlockMappingKey ss e)
-unfolding step mapping_value
+unfolding event_step block_mapping_value
 value_is_missing f Key ks ss e h n = refl
 value_is_missing f BlockEnd ks ss e h n = refl
 value_is_missing f Value ks ss e h n = absurd (n tt)
@@ -194,7 +194,7 @@ keyless_says : (value : Node) (t : List Kind) → YieldsMarkedValue value (Yield
     → (f : Spans) (k : Kind) (ks : List Kind) (ss : List State) (e : Memory) (ps : List Part)
     → MayFollow InBlockMapping k → Tells f (k ∷ ks) state.BlockMappingKey ss (after_node value e) ps
     → Tells f (t ++ k ∷ ks) state.BlockMappingKey ss e (node_parts forest.left_out ++ (node_parts value ++ ps))
-unfolding step mapping_key
+unfolding event_step mapping_key
 keyless_says value t h g f k ks ss e ps z l =
     let rest : List Kind = h.0 ++ k ∷ ks in
     let second : Tells f (Value ∷ rest) state.BlockMappingValue ss e (node_parts value ++ ps) =

@@ -6,17 +6,17 @@ use Rattle.saphyr_scanner.specs.Grammar.Forest.{Node, Directive, Version, TagPre
 use Rattle.saphyr_scanner.specs.Grammar.Tokens.{Kind, VersionDirective, TagDirective, ReservedDirective, StreamEnd, DocumentStart, DocumentEnd, ByteOrderMark, directive_token}
 use Rattle.saphyr_scanner.specs.Grammar.TokenGrammar.{InBlock, YieldsOptional, YieldsNode, YieldsExplicitDocument, YieldsDocument, AreMarks, AreEndsAndMarks, YieldsBehindDocument, YieldDocuments}
 use Rattle.saphyr_scanner.specs.Views.Tokens.{Piece}
-use Rattle.saphyr_parser.specs.declared.parser.context.Context.TheVariants.{Block}
+use Rattle.saphyr_parser.specs.declared.parser.context.NodeContext.TheVariants.{Block}
 use Rattle.saphyr_parser.specs.declared.parser.state.State.{State}
 use Rattle.saphyr_parser.specs.declared.parser.state.State.TheVariants as state
 use Rattle.saphyr_parser.specs.Preorder.{Part, CloseStream, OpenDocument, node_parts}
 use Rattle.saphyr_parser.specs.Events as events
 use Rattle.saphyr_parser.specs.Events.{Happening}
-use Rattle.saphyr_parser.specs.Answer.{remaining}
+use Rattle.saphyr_parser.specs.Answer.{remaining_answer}
 use Rattle.saphyr_parser.specs.Exactly.{GivesExactly}
 use Rattle.saphyr_parser.specs.Steps.Machine.{◌>>=◌, Machine, Told, told, empty_scalar}
 use Rattle.saphyr_parser.specs.Steps.Documents.{is_end_or_mark, directives, none_declared, explicit_at, explicit_document, bare_document, implicit_start_at, implicit_start, explicit_start_at, explicit_start, document_content}
-use Rattle.saphyr_parser.specs.Steps.Expected.{step, block_node}
+use Rattle.saphyr_parser.specs.Steps.Expected.{event_step, block_node}
 use Rattle.saphyr_parser.proofs.Told.Telling.{Spans, Memory, at, ends}
 use Rattle.saphyr_parser.proofs.Remembering.{opening, after_node, Says, Tells, plainly}
 use Rattle.saphyr_parser.proofs.Told.Nodes.{next_node}
@@ -29,17 +29,17 @@ use Rattle.saphyr_parser.proofs.DirectivesPass.{passes, ends_pass, all_directive
 
 pub implicitly : (front : List Kind) (f : Spans) (k : Kind) (ks : List Kind) (e : Memory) → AreEndsAndMarks front
     → is_end_or_mark k ≡ false
-    → step (at f (front ++ k ∷ ks) state.ImplicitDocumentStart [] e)
+    → event_step (at f (front ++ k ∷ ks) state.ImplicitDocumentStart [] e)
     ≡ implicit_start_at k (record { span = f ks; kind = k }) (at f ks state.ImplicitDocumentStart [] e)
-unfolding step implicit_start
+unfolding event_step implicit_start
 implicitly front f k ks e h n =
     ap (λ (r : Result (Piece × Machine) Refusal). r >>= (λ t. implicit_start_at t.0.kind t.0 t.1))
     (passes is_end_or_mark front f k ks state.ImplicitDocumentStart [] e (ends_pass front h) n)
 
 explicitly : (f : Spans) (k : Kind) (ks : List Kind) (e : Memory) → is_end_or_mark k ≡ false
-    → step (at f (k ∷ ks) state.DocumentStart [] e)
+    → event_step (at f (k ∷ ks) state.DocumentStart [] e)
     ≡ explicit_start_at k (record { span = f ks; kind = k }) (at f ks state.DocumentStart [] e)
-unfolding step explicit_start
+unfolding event_step explicit_start
 explicitly f k ks e n = ap (λ (r : Result (Piece × Machine) Refusal). r >>= (λ t. explicit_start_at t.0.kind t.0 t.1))
     (passes is_end_or_mark [] f k ks state.DocumentStart [] e tt n)
 
@@ -48,7 +48,7 @@ explicitly f k ks e n = ap (λ (r : Result (Piece × Machine) Refusal). r >>= (�
 over : (f : Spans) (e : Memory) → Tells f [] state.End [] e []
 over f e es q = let none : [] ≡ es =
     (let o : Some [] ≡ Some es = q in cc) in
-    subst (λ (l : List Happening). GivesExactly l (remaining (at f [] state.End [] e))) none
+    subst (λ (l : List Happening). GivesExactly l (remaining_answer (at f [] state.End [] e))) none
     (ends (at f [] state.End [] e) refl)
 
 pub stream_ends : (f : Spans) (front : List Kind) (e : Memory) → AreEndsAndMarks front
@@ -172,7 +172,7 @@ pub bare_says : (n : Node) (t : List Kind) → YieldsNode n InBlock t
     → (f : Spans) (front : List Kind) (k : Kind) (ks : List Kind) (e : Memory) (ps : List Part) → AreEndsAndMarks front
     → EndsDocument k → Tells f (k ∷ ks) state.DocumentEnd [] (after_node n (opening [] e)) ps
     → Tells f (front ++ (t ++ k ∷ ks)) state.ImplicitDocumentStart [] e (OpenDocument false [] ∷ (node_parts n ++ ps))
-unfolding step block_node
+unfolding event_step block_node
 bare_says n t h f front k ks e ps a z l =
     let e' : Memory = opening [] e in
     let m : Machine = at f (t ++ k ∷ ks) state.BlockNode (state.DocumentEnd ∷ []) e' in
@@ -192,7 +192,7 @@ abbrev pub opened : Machine → Result Told Refusal
 opened m = directives none_declared m >>= (λ u. explicit_at u.0.kind u.0 u.1)
 
 pub implicit_opens : (ds : List Directive) (f : Spans) (front rest : List Kind) (e : Memory) → AreEndsAndMarks front
-    → step (at f (front ++ (map directive_token ds ++ DocumentStart ∷ rest)) state.ImplicitDocumentStart [] e)
+    → event_step (at f (front ++ (map directive_token ds ++ DocumentStart ∷ rest)) state.ImplicitDocumentStart [] e)
     ≡ opened (at f (map directive_token ds ++ DocumentStart ∷ rest) state.ImplicitDocumentStart [] e)
 unfolding explicit_document
 implicit_opens [] f front rest e h = implicitly front f DocumentStart rest e h refl
@@ -203,15 +203,15 @@ implicit_opens (TagPrefix handle prefix ∷ ds) f front rest e h =
 implicit_opens (Reserved name ∷ ds) f front rest e h = implicitly front f (directive_token (Reserved name)) _ e h refl
 
 pub explicit_opens : (f : Spans) (rest : List Kind) (e : Memory)
-    → step (at f (DocumentStart ∷ rest) state.DocumentStart [] e)
+    → event_step (at f (DocumentStart ∷ rest) state.DocumentStart [] e)
     ≡ opened (at f (DocumentStart ∷ rest) state.DocumentStart [] e)
 unfolding explicit_document
 explicit_opens f rest e = explicitly f DocumentStart rest e refl
 
 content_begins : (f : Spans) (j : Kind) (l : List Kind) (e : Memory) → Starts InBlock j
-    → step (at f (j ∷ l) state.DocumentContent (state.DocumentEnd ∷ []) e)
+    → event_step (at f (j ∷ l) state.DocumentContent (state.DocumentEnd ∷ []) e)
     ≡ next_node Block (at f (j ∷ l) state.DocumentContent (state.DocumentEnd ∷ []) e)
-unfolding step document_content
+unfolding event_step document_content
 content_begins f (VersionDirective _ _) l e h = elim h [ ]
 content_begins f (TagDirective _ _) l e h = elim h [ ]
 content_begins f (ReservedDirective _) l e h = elim h [ ]
@@ -222,9 +222,9 @@ content_begins f StreamEnd l e h = elim h [ ]
 content_begins f _ l e h = refl
 
 content_is_left_out : (f : Spans) (k : Kind) (ks : List Kind) (e : Memory) → EndsDocument k
-    → step (at f (k ∷ ks) state.DocumentContent (state.DocumentEnd ∷ []) e)
+    → event_step (at f (k ∷ ks) state.DocumentContent (state.DocumentEnd ∷ []) e)
     ≡ told empty_scalar (f ks) (at f (k ∷ ks) state.DocumentEnd [] e)
-unfolding step document_content
+unfolding event_step document_content
 content_is_left_out f StreamEnd ks e h = refl
 content_is_left_out f DocumentStart ks e h = refl
 content_is_left_out f DocumentEnd ks e h = refl
@@ -235,7 +235,8 @@ content_is_left_out f _ ks e h = elim h [ ]
 pub explicit_says : (n : Node) (ds : List Directive) (t : List Kind) → AreCompatible ds
     → YieldsOptional n (YieldsNode n InBlock) t
     → (f : Spans) (k : Kind) (ks : List Kind) (m : Machine) (x : State) (e : Memory) (ps : List Part) → EndsDocument k
-    → m.state ≢ state.End → step m ≡ opened (at f (map directive_token ds ++ DocumentStart ∷ (t ++ k ∷ ks)) x [] e)
+    → m.state ≢ state.End → event_step m ≡ opened
+    (at f (map directive_token ds ++ DocumentStart ∷ (t ++ k ∷ ks)) x [] e)
     → Tells f (k ∷ ks) state.DocumentEnd [] (after_node n (opening ds e)) ps
     → Says e m (OpenDocument true ds ∷ (node_parts n ++ ps))
 explicit_says n ds t c h f k ks m x e ps z more q l =
@@ -246,7 +247,7 @@ explicit_says n ds t c h f k ks m x e ps z more q l =
     (λ l. at f l state.DocumentContent (state.DocumentEnd ∷ []) e') state.DocumentContent (λ l. state.DocumentEnd)
     [] e' ps (document_end_follows k z) (λ l q. cc) (f ks) (content_is_left_out f k ks e' z)
     (λ j l s. content_begins f j l e' s) l in
-    let goes : step m ≡ told (events.DocumentStart true) (f rest)
+    let goes : event_step m ≡ told (events.DocumentStart true) (f rest)
     (at f rest state.DocumentContent (state.DocumentEnd ∷ []) e') =
     q ∙ ap (λ (r : Result (Piece × Machine) Refusal). r >>= (λ u. explicit_at u.0.kind u.0 u.1))
     (all_directives_pass ds f rest x [] e c) in

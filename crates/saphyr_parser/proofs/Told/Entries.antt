@@ -11,7 +11,7 @@ use Rattle.saphyr_parser.specs.Events.{SequenceEnd, MappingEnd}
 use Rattle.saphyr_parser.specs.Steps.Machine.{Machine}
 use Rattle.saphyr_parser.specs.Steps.Flow.{first_entry, other_entry, first_pair, pair_behind_comma, other_pair}
 use Rattle.saphyr_parser.specs.Steps.Block.{sequence_entry, indentless_entry, mapping_key}
-use Rattle.saphyr_parser.specs.Steps.Expected.{step}
+use Rattle.saphyr_parser.specs.Steps.Expected.{event_step}
 use Rattle.saphyr_parser.proofs.Told.Telling.{Spans, Memory, at}
 use Rattle.saphyr_parser.proofs.Remembering.{after_node, after_nodes, after_pairs, Says, Tells, plainly}
 use Rattle.saphyr_parser.proofs.NodeStarts.{MayFollow, NodeSays}
@@ -32,14 +32,14 @@ nothing f x ss e ps t rest h l = subst (λ (u : List Kind). Tells f (u ++ rest) 
 
 flow_sequence_ends : (f : Spans) (ks : List Kind) (s : State) (ss : List State) (e : Memory) (ps : List Part)
     → Tells f ks s ss e ps → Tells f (FlowSequenceEnd ∷ ks) state.FlowSequenceFirstEntry (s ∷ ss) e (CloseSequence ∷ ps)
-unfolding step first_entry
+unfolding event_step first_entry
 flow_sequence_ends f ks s ss e ps l =
     plainly e (at f (FlowSequenceEnd ∷ ks) state.FlowSequenceFirstEntry (s ∷ ss) e) (at f ks s ss e) CloseSequence ps
     SequenceEnd (f ks) (λ q. cc) refl refl l
 
 other_sequence_ends : (f : Spans) (ks : List Kind) (s : State) (ss : List State) (e : Memory) (ps : List Part)
     → Tells f ks s ss e ps → Tells f (FlowSequenceEnd ∷ ks) state.FlowSequenceEntry (s ∷ ss) e (CloseSequence ∷ ps)
-unfolding step other_entry
+unfolding event_step other_entry
 other_sequence_ends f ks s ss e ps l =
     plainly e (at f (FlowSequenceEnd ∷ ks) state.FlowSequenceEntry (s ∷ ss) e) (at f ks s ss e) CloseSequence ps
     SequenceEnd (f ks) (λ q. cc) refl refl l
@@ -47,7 +47,7 @@ other_sequence_ends f ks s ss e ps l =
 comma_sequence_ends : (f : Spans) (ks : List Kind) (s : State) (ss : List State) (e : Memory) (ps : List Part)
     → Tells f ks s ss e ps → Tells f (FlowEntry ∷ FlowSequenceEnd ∷ ks) state.FlowSequenceEntry (s ∷ ss) e
     (CloseSequence ∷ ps)
-unfolding step other_entry first_entry
+unfolding event_step other_entry first_entry
 comma_sequence_ends f ks s ss e ps l =
     plainly e (at f (FlowEntry ∷ FlowSequenceEnd ∷ ks) state.FlowSequenceEntry (s ∷ ss) e) (at f ks s ss e)
     CloseSequence ps SequenceEnd (f ks) (λ q. cc) refl refl l
@@ -64,14 +64,14 @@ list_sequence_ends f t ks s ss e ps (inr h) l =
 
 flow_mapping_ends : (f : Spans) (ks : List Kind) (s : State) (ss : List State) (e : Memory) (ps : List Part)
     → Tells f ks s ss e ps → Tells f (FlowMappingEnd ∷ ks) state.FlowMappingFirstKey (s ∷ ss) e (CloseMapping ∷ ps)
-unfolding step first_pair
+unfolding event_step first_pair
 flow_mapping_ends f ks s ss e ps l =
     plainly e (at f (FlowMappingEnd ∷ ks) state.FlowMappingFirstKey (s ∷ ss) e) (at f ks s ss e) CloseMapping ps
     MappingEnd (f ks) (λ q. cc) refl refl l
 
 other_mapping_ends : (f : Spans) (ks : List Kind) (s : State) (ss : List State) (e : Memory) (ps : List Part)
     → Tells f ks s ss e ps → Tells f (FlowMappingEnd ∷ ks) state.FlowMappingKey (s ∷ ss) e (CloseMapping ∷ ps)
-unfolding step other_pair
+unfolding event_step other_pair
 other_mapping_ends f ks s ss e ps l =
     plainly e (at f (FlowMappingEnd ∷ ks) state.FlowMappingKey (s ∷ ss) e) (at f ks s ss e) CloseMapping ps MappingEnd
     (f ks) (λ q. cc) refl refl l
@@ -79,7 +79,7 @@ other_mapping_ends f ks s ss e ps l =
 comma_mapping_ends : (f : Spans) (ks : List Kind) (s : State) (ss : List State) (e : Memory) (ps : List Part)
     → Tells f ks s ss e ps → Tells f (FlowEntry ∷ FlowMappingEnd ∷ ks) state.FlowMappingKey (s ∷ ss) e
     (CloseMapping ∷ ps)
-unfolding step other_pair pair_behind_comma
+unfolding event_step other_pair pair_behind_comma
 comma_mapping_ends f ks s ss e ps l =
     plainly e (at f (FlowEntry ∷ FlowMappingEnd ∷ ks) state.FlowMappingKey (s ∷ ss) e) (at f ks s ss e) CloseMapping ps
     MappingEnd (f (FlowMappingEnd ∷ ks)) (λ q. cc) refl refl l
@@ -96,14 +96,14 @@ list_mapping_ends f t ks s ss e ps (inr h) l =
 
 block_sequence_ends : (f : Spans) (ks : List Kind) (s : State) (ss : List State) (e : Memory) (ps : List Part)
     → Tells f ks s ss e ps → Tells f (BlockEnd ∷ ks) state.BlockSequenceEntry (s ∷ ss) e (CloseSequence ∷ ps)
-unfolding step sequence_entry
+unfolding event_step sequence_entry
 block_sequence_ends f ks s ss e ps l =
     plainly e (at f (BlockEnd ∷ ks) state.BlockSequenceEntry (s ∷ ss) e) (at f ks s ss e) CloseSequence ps SequenceEnd
     (f ks) (λ q. cc) refl refl l
 
 block_mapping_ends : (f : Spans) (ks : List Kind) (s : State) (ss : List State) (e : Memory) (ps : List Part)
     → Tells f ks s ss e ps → Tells f (BlockEnd ∷ ks) state.BlockMappingKey (s ∷ ss) e (CloseMapping ∷ ps)
-unfolding step mapping_key
+unfolding event_step mapping_key
 block_mapping_ends f ks s ss e ps l =
     plainly e (at f (BlockEnd ∷ ks) state.BlockMappingKey (s ∷ ss) e) (at f ks s ss e) CloseMapping ps MappingEnd (f ks)
     (λ q. cc) refl refl l
@@ -111,7 +111,7 @@ block_mapping_ends f ks s ss e ps l =
 indentless_ends : (f : Spans) (k : Kind) (ks : List Kind) (s : State) (ss : List State) (e : Memory) (ps : List Part)
     → MayFollow InBlockMapping k → Tells f (k ∷ ks) s ss e ps
     → Tells f (k ∷ ks) state.IndentlessSequenceEntry (s ∷ ss) e (CloseSequence ∷ ps)
-unfolding step indentless_entry
+unfolding event_step indentless_entry
 indentless_ends f Key ks s ss e ps z l =
     plainly e (at f (Key ∷ ks) state.IndentlessSequenceEntry (s ∷ ss) e) (at f (Key ∷ ks) s ss e) CloseSequence ps
     SequenceEnd (f ks) (λ q. cc) refl refl l
@@ -127,12 +127,12 @@ indentless_ends f _ ks s ss e ps z l = elim z [ ]
 
 at_first_entry : (f : Spans) (ss : List State) (e : Memory)
     → AtEntry f state.FlowSequenceFirstEntry ss e (λ l. at f l state.FlowSequenceFirstEntry ss e)
-unfolding step first_entry
+unfolding event_step first_entry
 at_first_entry f ss e = record { goes_on = λ l q. cc; steps = λ k l. refl }
 
 at_other_entry : (f : Spans) (ss : List State) (e : Memory)
     → AtEntry f state.FlowSequenceEntry ss e (λ l. at f (FlowEntry ∷ l) state.FlowSequenceEntry ss e)
-unfolding step first_entry other_entry
+unfolding event_step first_entry other_entry
 at_other_entry f ss e = record { goes_on = λ l q. cc; steps = λ k l. refl }
 
 -- the span of the first token
@@ -142,12 +142,12 @@ span_of_first f (k ∷ l) = f l
 
 at_first_pair : (f : Spans) (ss : List State) (e : Memory)
     → AtPair f state.FlowMappingFirstKey ss e (λ l. at f l state.FlowMappingFirstKey ss e)
-unfolding step first_pair span_of_first
+unfolding event_step first_pair span_of_first
 at_first_pair f ss e = record { goes_on = λ l q. cc; span = span_of_first f; steps = λ k l. refl }
 
 at_other_pair : (f : Spans) (ss : List State) (e : Memory)
     → AtPair f state.FlowMappingKey ss e (λ l. at f (FlowEntry ∷ l) state.FlowMappingKey ss e)
-unfolding step other_pair pair_behind_comma
+unfolding event_step other_pair pair_behind_comma
 at_other_pair f ss e = record { goes_on = λ l q. cc; span = f; steps = λ k l. refl }
 
 -- an entry, with the token behind it shown

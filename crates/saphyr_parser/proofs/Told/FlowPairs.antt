@@ -6,14 +6,14 @@ use Rattle.saphyr_scanner.specs.Grammar.Forest as forest
 use Rattle.saphyr_scanner.specs.Grammar.Tokens.{Kind, FlowMappingEnd, FlowEntry, Key, Value}
 use Rattle.saphyr_scanner.specs.Grammar.TokenGrammar.{InFlow, YieldsOptional, YieldsMarkedKey, YieldsMarkedValue, YieldsFlowPair, YieldsNode}
 use Rattle.saphyr_scanner.specs.Views.Tokens.{Piece}
-use Rattle.saphyr_parser.specs.declared.parser.context.Context.TheVariants.{Flow}
+use Rattle.saphyr_parser.specs.declared.parser.context.NodeContext.TheVariants.{Flow}
 use Rattle.saphyr_parser.specs.declared.parser.state.State.{State}
 use Rattle.saphyr_parser.specs.declared.parser.state.State.TheVariants as state
 use Rattle.saphyr_parser.specs.Preorder.{Part, node_parts}
 use Rattle.saphyr_parser.specs.Steps.Machine.{Machine, told, empty_scalar}
-use Rattle.saphyr_parser.specs.Steps.Nodes.{inside}
-use Rattle.saphyr_parser.specs.Steps.Flow.{pair_at, key_node, mapping_value, value_node, empty_value}
-use Rattle.saphyr_parser.specs.Steps.Expected.{step}
+use Rattle.saphyr_parser.specs.Steps.Nodes.{node_inside}
+use Rattle.saphyr_parser.specs.Steps.Flow.{pair_at, flow_key_node, flow_mapping_value, flow_value_node, empty_value}
+use Rattle.saphyr_parser.specs.Steps.Expected.{event_step}
 use Rattle.saphyr_parser.proofs.Told.Telling.{Spans, Memory, at}
 use Rattle.saphyr_parser.proofs.Remembering.{after_node, Says, Tells}
 use Rattle.saphyr_parser.proofs.Told.Nodes.{next_node}
@@ -35,28 +35,28 @@ pub record AtPair (f : Spans) (x : State) (ss : List State) (e : Memory) (machin
   pub goes_on : (l : List Kind) → (machine l).state ≢ state.End
   pub span : List Kind → Span
   pub steps : (k : Kind) (l : List Kind)
-      → step (machine (k ∷ l)) ≡ pair_at k (span (k ∷ l)) (record { span = f l; kind = k }) (at f l x ss e)
+      → event_step (machine (k ∷ l)) ≡ pair_at k (span (k ∷ l)) (record { span = f l; kind = k }) (at f l x ss e)
 
 -- ## Keys
 
 key_begins : (f : Spans) (j : Kind) (l : List Kind) (x : State) (ss : List State) (e : Memory) → Starts InFlow j
-    → key_node (at f (j ∷ l) x ss e) ≡ next_node Flow (at f (j ∷ l) x (state.FlowMappingValue ∷ ss) e)
-unfolding key_node
+    → flow_key_node (at f (j ∷ l) x ss e) ≡ next_node Flow (at f (j ∷ l) x (state.FlowMappingValue ∷ ss) e)
+unfolding flow_key_node
 key_begins f Value l x ss e h = elim h [ ]
 key_begins f FlowEntry l x ss e h = elim h [ ]
 key_begins f FlowMappingEnd l x ss e h = elim h [ ]
 key_begins f _ l x ss e h = refl
 
 key_is_left_out : (f : Spans) (k : Kind) (ks : List Kind) (x : State) (ss : List State) (e : Memory) → EndsPair k
-    → key_node (at f (k ∷ ks) x ss e) ≡ told empty_scalar (f ks) (at f (k ∷ ks) state.FlowMappingValue ss e)
-unfolding key_node
+    → flow_key_node (at f (k ∷ ks) x ss e) ≡ told empty_scalar (f ks) (at f (k ∷ ks) state.FlowMappingValue ss e)
+unfolding flow_key_node
 key_is_left_out f FlowEntry ks x ss e h = refl
 key_is_left_out f FlowMappingEnd ks x ss e h = refl
 key_is_left_out f _ ks x ss e h = elim h [ ]
 
 -- a key without its mark
 bare_key_begins : (j : Kind) (s : Span) (t : Piece) (m : Machine) → Starts InFlow j
-    → pair_at j s t m ≡ inside state.FlowMappingEmptyValue Flow t m
+    → pair_at j s t m ≡ node_inside state.FlowMappingEmptyValue Flow t m
 bare_key_begins Key s t m h = elim h [ ]
 bare_key_begins Value s t m h = elim h [ ]
 bare_key_begins FlowMappingEnd s t m h = elim h [ ]
@@ -65,25 +65,25 @@ bare_key_begins _ s t m h = refl
 -- ## Values
 
 value_begins : (f : Spans) (j : Kind) (l : List Kind) (ss : List State) (e : Memory) → Starts InFlow j
-    → step (at f (Value ∷ j ∷ l) state.FlowMappingValue ss e)
+    → event_step (at f (Value ∷ j ∷ l) state.FlowMappingValue ss e)
     ≡ next_node Flow (at f (j ∷ l) state.FlowMappingValue (state.FlowMappingKey ∷ ss) e)
-unfolding step mapping_value value_node
+unfolding event_step flow_mapping_value flow_value_node
 value_begins f FlowEntry l ss e h = elim h [ ]
 value_begins f FlowMappingEnd l ss e h = elim h [ ]
 value_begins f _ l ss e h = refl
 
 value_is_left_out : (f : Spans) (k : Kind) (ks : List Kind) (ss : List State) (e : Memory) → EndsPair k
-    → step (at f (Value ∷ k ∷ ks) state.FlowMappingValue ss e)
+    → event_step (at f (Value ∷ k ∷ ks) state.FlowMappingValue ss e)
     ≡ told empty_scalar (f (k ∷ ks)) (at f (k ∷ ks) state.FlowMappingKey ss e)
-unfolding step mapping_value value_node
+unfolding event_step flow_mapping_value flow_value_node
 value_is_left_out f FlowEntry ks ss e h = refl
 value_is_left_out f FlowMappingEnd ks ss e h = refl
 value_is_left_out f _ ks ss e h = elim h [ ]
 
 value_is_missing : (f : Spans) (k : Kind) (ks : List Kind) (ss : List State) (e : Memory) → EndsPair k
-    → step (at f (k ∷ ks) state.FlowMappingValue ss e)
+    → event_step (at f (k ∷ ks) state.FlowMappingValue ss e)
     ≡ told empty_scalar (f ks) (at f (k ∷ ks) state.FlowMappingKey ss e)
-unfolding step mapping_value
+unfolding event_step flow_mapping_value
 value_is_missing f FlowEntry ks ss e h = refl
 value_is_missing f FlowMappingEnd ks ss e h = refl
 value_is_missing f _ ks ss e h = elim h [ ]
@@ -114,7 +114,7 @@ key_says : (key : Node) (t : List Kind) → YieldsOptional key (YieldsNode key I
     → (YieldsNode key InFlow t → NodeSays key InFlow t)
     → (f : Spans) (k : Kind) (ks : List Kind) (machine : List Kind → Machine) (x : State) (ss : List State) (e : Memory)
     (ps : List Part) → MayFollow InFlow k
-    → key_node (at f (k ∷ ks) x ss e) ≡ told empty_scalar (f ks) (at f (k ∷ ks) state.FlowMappingValue ss e)
+    → flow_key_node (at f (k ∷ ks) x ss e) ≡ told empty_scalar (f ks) (at f (k ∷ ks) state.FlowMappingValue ss e)
     → AtPair f x ss e machine → Tells f (k ∷ ks) state.FlowMappingValue ss (after_node key e) ps
     → Says e (machine (Key ∷ (t ++ k ∷ ks))) (node_parts key ++ ps)
 key_says key t h g f k ks machine x ss e ps z skip a l =
@@ -129,7 +129,7 @@ alone_says : (key : Node) (t : List Kind) → YieldsMarkedKey key (YieldsNode ke
     (ps : List Part) → EndsPair k → AtPair f x ss e machine
     → Tells f (k ∷ ks) state.FlowMappingKey ss (after_node key e) ps
     → Says e (machine (t ++ k ∷ ks)) (node_parts key ++ (node_parts forest.left_out ++ ps))
-unfolding step empty_value
+unfolding event_step empty_value
 alone_says key t (inl h) g f k ks machine x ss e ps z a l =
     subst (λ (u : List Kind). Says e (machine (u ++ k ∷ ks)) (node_parts key ++ (node_parts forest.left_out ++ ps)))
     (sym h.2) (key_says key h.0 h.1 (g h.0) f k ks machine x ss e _ (pair_end_follows k z)
@@ -167,7 +167,7 @@ pub pair_says : (key value : Node) (t : List Kind)
     (ps : List Part) → EndsPair k → AtPair f x ss e machine
     → Tells f (k ∷ ks) state.FlowMappingKey ss (after_node value (after_node key e)) ps
     → Says e (machine (t ++ k ∷ ks)) (node_parts key ++ (node_parts value ++ ps))
-unfolding key_node
+unfolding flow_key_node
 pair_says key value t (inl h) gk gv f k ks machine x ss e ps z a l =
     let kt : List Kind = h.2.0 in
     let vt : List Kind = h.3.0 in

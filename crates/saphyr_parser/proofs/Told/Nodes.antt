@@ -7,27 +7,27 @@ use Rattle.std.proofs.lemmas.Bool.{ne_eqb}
 use Rattle.saphyr_scalar.specs.declared.scalar.position.Marker.{Marker}
 use Rattle.saphyr_scalar.specs.declared.scalar.position.Span.{Span}
 use Rattle.saphyr_scalar.specs.declared.scalar.fault.Refusal.{Refusal}
-use Rattle.saphyr_scanner.specs.Grammar.Forest.{Handle, Primary, Secondary, Named, handle_bytes, Tag, NonSpecific, Verbatim, Shorthand, HasProperty}
+use Rattle.saphyr_scanner.specs.Grammar.Forest.{Handle, Primary, Secondary, Named, handle_bytes, Tag, NonSpecific, Verbatim, Shorthand}
 use Rattle.saphyr_scanner.specs.Grammar.Forest as forest
 use Rattle.saphyr_scanner.specs.Grammar.Tokens as tokens
 use Rattle.saphyr_scanner.specs.Grammar.Tokens.{Kind, anchor_token, tag_token}
 use Rattle.saphyr_scanner.specs.Grammar.TokenGrammar.{AreBoth, YieldProperties}
 use Rattle.saphyr_scanner.specs.Views.Tokens.{Piece}
-use Rattle.saphyr_parser.specs.declared.parser.context.Context.{Context}
+use Rattle.saphyr_parser.specs.declared.parser.context.NodeContext.{NodeContext}
 use Rattle.saphyr_parser.specs.declared.parser.state.State.{State}
 use Rattle.saphyr_parser.specs.declared.parser.state.State.TheVariants as state
 use Rattle.saphyr_parser.specs.Preorder.{Part}
 use Rattle.saphyr_parser.specs.Events.{Happening, ResolvedTag}
-use Rattle.saphyr_parser.specs.Steps.Machine.{◌>>=◌, Names, meaning, next_id, Machine, Told, told, take}
+use Rattle.saphyr_parser.specs.Steps.Machine.{◌>>=◌, Names, meaning, next_id, Machine, Told, told, taken_token}
 use Rattle.saphyr_parser.specs.Steps.Tags.{declared_prefix, resolved, declared_or, undeclared}
 use Rattle.saphyr_parser.specs.TagResolution.{default_prefix}
-use Rattle.saphyr_parser.specs.Steps.Nodes.{NodeProperties, no_node_properties, content_at, content, next_content, behind_anchor_at, behind_anchor, behind_tag_at, behind_tag, node_at, node}
-use Rattle.saphyr_parser.specs.Steps.Expected.{step}
+use Rattle.saphyr_parser.specs.Steps.Nodes.{NodeProperties, no_node_properties, node_content_at, node_content, next_content, behind_anchor_at, behind_anchor, behind_tag_at, behind_tag, node_at, node}
+use Rattle.saphyr_parser.specs.Steps.Expected.{event_step}
 use Rattle.saphyr_parser.proofs.Told.Telling.{Spans, Memory, at}
 use Rattle.saphyr_parser.proofs.Remembering.{noted, after, own_id, resolve, resolve_any, with_properties, event_in, Says, says}
 
-abbrev pub next_node : Context → Machine → Result Told Refusal
-next_node d m = take m >>= (λ t. node d t.0 t.1)
+abbrev pub next_node : NodeContext → Machine → Result Told Refusal
+next_node d m = taken_token m >>= (λ t. node d t.0 t.1)
 
 -- ## Tags
 
@@ -112,22 +112,22 @@ IsContent (tokens.Anchor _) = ⊥
 IsContent (tokens.Tag _ _) = ⊥
 IsContent _ = Unit {0}
 
-content_alone : (k : Kind) (d : Context) (t : Piece) (m : Machine) → IsContent k
-    → node_at k d t m ≡ content (no_node_properties t.span.start) d t m
+content_alone : (k : Kind) (d : NodeContext) (t : Piece) (m : Machine) → IsContent k
+    → node_at k d t m ≡ node_content (no_node_properties t.span.start) d t m
 content_alone (tokens.Alias _) d t m h = elim h [ ]
 content_alone (tokens.Anchor _) d t m h = elim h [ ]
 content_alone (tokens.Tag _ _) d t m h = elim h [ ]
 content_alone _ d t m h = refl
 
-content_behind_anchor : (k : Kind) (id : ℕ) (s : Span) (d : Context) (t : Piece) (m : Machine) → IsContent k
+content_behind_anchor : (k : Kind) (id : ℕ) (s : Span) (d : NodeContext) (t : Piece) (m : Machine) → IsContent k
     → behind_anchor_at k id s d t m
-    ≡ content (record { start = s.start; behind = s.end; anchor = id; tag = None }) d t m
+    ≡ node_content (record { start = s.start; behind = s.end; anchor = id; tag = None }) d t m
 content_behind_anchor (tokens.Tag _ _) id s d t m h = elim h [ ]
 content_behind_anchor _ id s d t m h = refl
 
-content_behind_tag : (k : Kind) (tag : ResolvedTag) (s : Span) (d : Context) (t : Piece) (m : Machine) → IsContent k
+content_behind_tag : (k : Kind) (tag : ResolvedTag) (s : Span) (d : NodeContext) (t : Piece) (m : Machine) → IsContent k
     → behind_tag_at k tag s d t m
-    ≡ content (record { start = s.start; behind = s.end; anchor = 0; tag = Some tag }) d t m
+    ≡ node_content (record { start = s.start; behind = s.end; anchor = 0; tag = Some tag }) d t m
 content_behind_tag (tokens.Anchor _) tag s d t m h = elim h [ ]
 content_behind_tag _ tag s d t m h = refl
 
@@ -146,18 +146,18 @@ made : (make : ℕ → Option ResolvedTag → Happening) (a b : ℕ) (t g : Opti
 made make a b t g w h k q = cc
 
 -- a node comes to its content, which begins with the token k
-pub record Comes (f : Spans) (d : Context) (x : State) (ss : List State) (e : Memory) (anchor : Option (List ℕ))
+pub record Comes (f : Spans) (d : NodeContext) (x : State) (ss : List State) (e : Memory) (anchor : Option (List ℕ))
     (tag : Option Tag) (k : Kind) (ks : List Kind) (r : Result Told Refusal) : Type 0 where
   pub properties : NodeProperties
   pub has : Has e anchor tag properties
-  pub goes : r ≡ content_at k properties d (record { span = f ks; kind = k }) (at f ks x ss (noted anchor e))
+  pub goes : r ≡ node_content_at k properties d (record { span = f ks; kind = k }) (at f ks x ss (noted anchor e))
 
-comes : (f : Spans) (d : Context) (x : State) (ss : List State) (e : Memory) (anchor : Option (List ℕ))
+comes : (f : Spans) (d : NodeContext) (x : State) (ss : List State) (e : Memory) (anchor : Option (List ℕ))
     (tag : Option Tag) (front : List Kind) (k : Kind) (ks : List Kind) (found : Option ResolvedTag)
     → AreBoth (option_map anchor_token anchor) (option_map tag_token tag) front → IsContent k
     → resolve_any e.prefixes tag ≡ Some found
     → Comes f d x ss e anchor tag k ks (next_node d (at f (front ++ k ∷ ks) x ss e))
-unfolding node content next_content behind_anchor behind_tag
+unfolding node node_content next_content behind_anchor behind_tag
 comes f d x ss e None None front k ks found h c r =
     record {
       properties = no_node_properties (f ks).start;
@@ -235,12 +235,12 @@ tells_so : {a b c : Result Told Refusal} (u w : Happening) (span : Span) (n : Ma
 tells_so u w span n p q r s = p ∙ q ∙ r ∙ ap (λ (x : Happening). told x span n) s
 
 -- A node with properties is told, where its content is told of what the machine has read.
-pub node_opens : (f : Spans) (d : Context) (x : State) (ss : List State) (e : Memory) (m n : Machine)
+pub node_opens : (f : Spans) (d : NodeContext) (x : State) (ss : List State) (e : Memory) (m n : Machine)
     (p : forest.Properties) (front : List Kind) (k : Kind) (ks : List Kind) (part : Part) (ps : List Part)
     (make : ℕ → Option ResolvedTag → Happening) → YieldProperties p front → IsContent k → m.state ≢ state.End
-    → step m ≡ next_node d (at f (front ++ k ∷ ks) x ss e) → event_in e part ≡ with_properties make e p
+    → event_step m ≡ next_node d (at f (front ++ k ∷ ks) x ss e) → event_in e part ≡ with_properties make e p
     → ((q : NodeProperties) → Has e p.anchor p.tag q
-    → (span : Span) × (content_at k q d (record { span = f ks; kind = k }) (at f ks x ss (noted p.anchor e))
+    → (span : Span) × (node_content_at k q d (record { span = f ks; kind = k }) (at f ks x ss (noted p.anchor e))
     ≡ told (make q.anchor q.tag) span n)) → Says (after part e) n ps → Says e m (part ∷ ps)
 node_opens f d x ss e m n p front k ks part ps make h c more q v go l =
     says e m n part ps more (λ w z.
@@ -248,7 +248,7 @@ node_opens f d x ss e m n p front k ks part ps make h c more q v go l =
     found_any make (own_id e p.anchor) (resolve_any e.prefixes p.tag) w (sym v ∙ z) in
     let r : Comes f d x ss e p.anchor p.tag k ks (next_node d (at f (front ++ k ∷ ks) x ss e)) =
     comes f d x ss e p.anchor p.tag front k ks g.0 h c g.1 in
-    let s : (span : Span) × (content_at k r.properties d (record { span = f ks; kind = k })
+    let s : (span : Span) × (node_content_at k r.properties d (record { span = f ks; kind = k })
     (at f ks x ss (noted p.anchor e)) ≡ told (make r.properties.anchor r.properties.tag) span n) =
     go r.properties r.has in
     let same : make r.properties.anchor r.properties.tag ≡ w = made make r.properties.anchor (own_id e p.anchor)

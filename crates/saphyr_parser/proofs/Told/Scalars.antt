@@ -4,7 +4,7 @@ use Rattle.std.specs.Prelude.{nat_lt, ◌||◌, is_some}
 use Rattle.std.proofs.Math.Bool.{or-true}
 use Rattle.std.proofs.lemmas.Bool.{lt-ltb}
 use Rattle.saphyr_scalar.specs.declared.scalar.position.Span.{Span}
-use Rattle.saphyr_scanner.specs.Grammar.Forest.{Style, Tag, HasOne, HasProperty, Node}
+use Rattle.saphyr_scanner.specs.Grammar.Forest.{Style, Tag, HasOne, HasProperty}
 use Rattle.saphyr_scanner.specs.Grammar.Forest as forest
 use Rattle.saphyr_scanner.specs.Grammar.Tokens.{Kind, scalar_token}
 use Rattle.saphyr_scanner.specs.Grammar.TokenGrammar as grammar
@@ -13,7 +13,7 @@ use Rattle.saphyr_scanner.specs.Views.Tokens.{Piece}
 use Rattle.saphyr_parser.specs.Preorder.{Reference, Leaf}
 use Rattle.saphyr_parser.specs.Events.{Happening, ResolvedTag, Alias, Scalar}
 use Rattle.saphyr_parser.specs.Steps.Machine.{Machine, told, pop, put_back, meaning, next_id}
-use Rattle.saphyr_parser.specs.Steps.Nodes.{NodeProperties, has_property, up_to, without_content, alias_of, alias, node}
+use Rattle.saphyr_parser.specs.Steps.Nodes.{NodeProperties, has_property, up_to, without_content, alias_of, alias_node, node}
 use Rattle.saphyr_parser.proofs.Told.Telling.{Memory, at}
 use Rattle.saphyr_parser.proofs.Remembering.{noted, resolve, says}
 use Rattle.saphyr_parser.proofs.Told.Nodes.{next_node, Has, node_opens}
@@ -92,7 +92,7 @@ alias_is_told None w s m h = absurd (cc)
 
 pub alias_says : (name : List ℕ) (c : grammar.Context) (t : List Kind) → YieldsNode (forest.Alias name) c t
     → NodeSays (forest.Alias name) c t
-unfolding node alias
+unfolding node alias_node
 alias_says name c t h = record {
   by = λ f k ks m x s ss e ps z more q l.
       says e m (at f (k ∷ ks) s ss e) (Reference name) ps more

@@ -6,15 +6,15 @@ use Rattle.saphyr_scanner.specs.Grammar.Forest as forest
 use Rattle.saphyr_scanner.specs.Grammar.Tokens.{Kind, FlowSequenceEnd, FlowEntry, Key, Value}
 use Rattle.saphyr_scanner.specs.Grammar.TokenGrammar.{InFlow, YieldsMarkedKey, YieldsSinglePair, YieldsNode}
 use Rattle.saphyr_scanner.specs.Views.Tokens.{Piece}
-use Rattle.saphyr_parser.specs.declared.parser.context.Context.TheVariants.{Flow}
+use Rattle.saphyr_parser.specs.declared.parser.context.NodeContext.TheVariants.{Flow}
 use Rattle.saphyr_parser.specs.declared.parser.state.State.{State}
 use Rattle.saphyr_parser.specs.declared.parser.state.State.TheVariants as state
 use Rattle.saphyr_parser.specs.Preorder.{Part, OpenMapping, CloseMapping, node_parts}
 use Rattle.saphyr_parser.specs.Events.{MappingStart, MappingEnd}
 use Rattle.saphyr_parser.specs.Steps.Machine.{Machine, told, empty_scalar}
-use Rattle.saphyr_parser.specs.Steps.Nodes.{inside}
+use Rattle.saphyr_parser.specs.Steps.Nodes.{node_inside}
 use Rattle.saphyr_parser.specs.Steps.Flow.{entry_at, pair_key, pair_value, pair_value_node, pair_end}
-use Rattle.saphyr_parser.specs.Steps.Expected.{step}
+use Rattle.saphyr_parser.specs.Steps.Expected.{event_step}
 use Rattle.saphyr_parser.proofs.Told.Telling.{Spans, Memory, at}
 use Rattle.saphyr_parser.proofs.Remembering.{after_node, Says, Tells, plainly}
 use Rattle.saphyr_parser.proofs.Told.Nodes.{next_node}
@@ -33,7 +33,7 @@ entry_end_follows _ h = elim h [ ]
 
 -- an entry begins with the first token of a node
 entry_begins : (k : Kind) (t : Piece) (m : Machine) → Starts InFlow k
-    → entry_at k t m ≡ inside state.FlowSequenceEntry Flow t m
+    → entry_at k t m ≡ node_inside state.FlowSequenceEntry Flow t m
 entry_begins FlowSequenceEnd t m h = elim h [ ]
 entry_begins Key t m h = elim h [ ]
 entry_begins _ t m h = refl
@@ -42,7 +42,7 @@ entry_begins _ t m h = refl
 pub record AtEntry (f : Spans) (x : State) (ss : List State) (e : Memory) (machine : List Kind → Machine) : Type 0 where
   pub goes_on : (l : List Kind) → (machine l).state ≢ state.End
   pub steps : (k : Kind) (l : List Kind)
-      → step (machine (k ∷ l)) ≡ entry_at k (record { span = f l; kind = k }) (at f l x ss e)
+      → event_step (machine (k ∷ l)) ≡ entry_at k (record { span = f l; kind = k }) (at f l x ss e)
 
 -- an entry that is a node
 pub entry_says : (n : Node) (t : List Kind) → YieldsNode n InFlow t → NodeSays n InFlow t
@@ -57,9 +57,9 @@ entry_says n t h g f k ks machine x ss e ps z a l =
 -- ## A pair
 
 key_begins : (f : Spans) (j : Kind) (l : List Kind) (ss : List State) (e : Memory) → Starts InFlow j
-    → step (at f (j ∷ l) state.FlowSequenceEntryMappingKey ss e)
+    → event_step (at f (j ∷ l) state.FlowSequenceEntryMappingKey ss e)
     ≡ next_node Flow (at f (j ∷ l) state.FlowSequenceEntryMappingKey (state.FlowSequenceEntryMappingValue ∷ ss) e)
-unfolding step pair_key
+unfolding event_step pair_key
 key_begins f Value l ss e h = elim h [ ]
 key_begins f FlowEntry l ss e h = elim h [ ]
 key_begins f FlowSequenceEnd l ss e h = elim h [ ]
@@ -71,34 +71,34 @@ behind_value f [] = state.FlowSequenceEntry
 behind_value f (j ∷ l) = state.FlowSequenceEntryMappingEnd (f l).end
 
 value_begins : (f : Spans) (j : Kind) (l : List Kind) (ss : List State) (e : Memory) → Starts InFlow j
-    → step (at f (Value ∷ j ∷ l) state.FlowSequenceEntryMappingValue ss e)
+    → event_step (at f (Value ∷ j ∷ l) state.FlowSequenceEntryMappingValue ss e)
     ≡ next_node Flow (at f (j ∷ l) state.FlowSequenceEntryMappingValue (behind_value f (j ∷ l) ∷ ss) e)
-unfolding step pair_value pair_value_node behind_value
+unfolding event_step pair_value pair_value_node behind_value
 value_begins f FlowEntry l ss e h = elim h [ ]
 value_begins f FlowSequenceEnd l ss e h = elim h [ ]
 value_begins f _ l ss e h = refl
 
 value_is_left_out : (f : Spans) (k : Kind) (ks : List Kind) (ss : List State) (e : Memory) → EndsEntry k
-    → step (at f (Value ∷ k ∷ ks) state.FlowSequenceEntryMappingValue ss e)
+    → event_step (at f (Value ∷ k ∷ ks) state.FlowSequenceEntryMappingValue ss e)
     ≡ told empty_scalar (f ks) (at f (k ∷ ks) (behind_value f (k ∷ ks)) ss e)
-unfolding step pair_value pair_value_node behind_value
+unfolding event_step pair_value pair_value_node behind_value
 value_is_left_out f FlowEntry ks ss e h = refl
 value_is_left_out f FlowSequenceEnd ks ss e h = refl
 value_is_left_out f _ ks ss e h = elim h [ ]
 
 -- no value at all
 value_is_missing : (f : Spans) (k : Kind) (ks : List Kind) (ss : List State) (e : Memory) → EndsEntry k
-    → step (at f (k ∷ ks) state.FlowSequenceEntryMappingValue ss e)
+    → event_step (at f (k ∷ ks) state.FlowSequenceEntryMappingValue ss e)
     ≡ told empty_scalar (f ks) (at f (k ∷ ks) (behind_value f (k ∷ ks)) ss e)
-unfolding step pair_value behind_value
+unfolding event_step pair_value behind_value
 value_is_missing f FlowEntry ks ss e h = refl
 value_is_missing f FlowSequenceEnd ks ss e h = refl
 value_is_missing f _ ks ss e h = elim h [ ]
 
 key_is_left_out : (f : Spans) (k : Kind) (ks : List Kind) (ss : List State) (e : Memory) → EndsEntry k
-    → step (at f (k ∷ ks) state.FlowSequenceEntryMappingKey ss e)
+    → event_step (at f (k ∷ ks) state.FlowSequenceEntryMappingKey ss e)
     ≡ told empty_scalar (f ks) (at f (k ∷ ks) state.FlowSequenceEntryMappingValue ss e)
-unfolding step pair_key
+unfolding event_step pair_key
 key_is_left_out f FlowEntry ks ss e h = refl
 key_is_left_out f FlowSequenceEnd ks ss e h = refl
 key_is_left_out f _ ks ss e h = elim h [ ]
@@ -106,7 +106,7 @@ key_is_left_out f _ ks ss e h = elim h [ ]
 pair_ends_at : (f : Spans) (place : Marker) (l : List Kind) (ss : List State) (e : Memory) (ps : List Part)
     → Tells f l state.FlowSequenceEntry ss e ps
     → Tells f l (state.FlowSequenceEntryMappingEnd place) ss e (CloseMapping ∷ ps)
-unfolding step pair_end
+unfolding event_step pair_end
 pair_ends_at f place l ss e ps h =
     plainly e (at f l (state.FlowSequenceEntryMappingEnd place) ss e) (at f l state.FlowSequenceEntry ss e) CloseMapping
     ps MappingEnd (record { start = place; end = place }) (λ q. cc) refl refl h
@@ -162,7 +162,7 @@ pub pair_says : (key value : Node) (t : List Kind)
     → Tells f (k ∷ ks) state.FlowSequenceEntry ss (after_node value (after_node key e)) ps
     → Says e (machine (t ++ k ∷ ks))
     (OpenMapping no_properties ∷ (node_parts key ++ (node_parts value ++ CloseMapping ∷ ps)))
-unfolding step pair_key
+unfolding event_step pair_key
 pair_says key value t (inl h) gk gv f k ks machine x ss e ps z a l =
     let kt : List Kind = h.2.0 in
     let vt : List Kind = h.3.0 in

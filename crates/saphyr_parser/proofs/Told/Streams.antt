@@ -11,7 +11,7 @@ use Rattle.saphyr_parser.specs.Preorder.{Part, OpenStream, CloseStream, OpenDocu
 use Rattle.saphyr_parser.specs.Events as events
 use Rattle.saphyr_parser.specs.Steps.Machine.{◌>>=◌, Machine}
 use Rattle.saphyr_parser.specs.Steps.Documents.{is_mark, stream_start, behind_marks_at, behind_marks, behind_document, document_end_at, document_end, forget_prefixes}
-use Rattle.saphyr_parser.specs.Steps.Expected.{step}
+use Rattle.saphyr_parser.specs.Steps.Expected.{event_step}
 use Rattle.saphyr_parser.proofs.Told.Telling.{Spans, Memory, at}
 use Rattle.saphyr_parser.proofs.Remembering.{closing, Tells, plainly}
 use Rattle.saphyr_parser.proofs.Told.Collections.{Next}
@@ -35,9 +35,9 @@ behind_is_no_mark _ h = elim h [ ]
 
 -- the step at the end of a document, behind the marks
 ended : (f : Spans) (j : Kind) (l : List Kind) (e : Memory) → IsBehind j
-    → step (at f (j ∷ l) state.DocumentEnd [] e)
+    → event_step (at f (j ∷ l) state.DocumentEnd [] e)
     ≡ document_end_at j (record { span = f l; kind = j }) (at f l state.DocumentEnd [] (closing e))
-unfolding step document_end behind_document
+unfolding event_step document_end behind_document
 ended f StreamEnd l e h = refl
 ended f DocumentStart l e h = refl
 ended f DocumentEnd l e h = refl
@@ -52,9 +52,9 @@ marks_behind f place DocumentEnd l e h = refl
 marks_behind f place _ l e h = elim h [ ]
 
 ended_behind : (f : Spans) (marks : List Kind) (j : Kind) (l : List Kind) (e : Memory) → AreMarks marks → IsBehind j
-    → step (at f (ByteOrderMark ∷ (marks ++ j ∷ l)) state.DocumentEnd [] e)
+    → event_step (at f (ByteOrderMark ∷ (marks ++ j ∷ l)) state.DocumentEnd [] e)
     ≡ document_end_at j (record { span = f l; kind = j }) (at f l state.DocumentEnd [] (closing e))
-unfolding step document_end behind_document behind_marks
+unfolding event_step document_end behind_document behind_marks
 ended_behind f marks j l e a h =
     let s : Span = f (marks ++ j ∷ l) in
     ap (λ (r : Result (Piece × Machine) Refusal). (r >>= (λ t. behind_marks_at t.0.kind s.start t.0 t.1))
@@ -64,11 +64,11 @@ ended_behind f marks j l e a h =
     (marks_behind f s j l e h)
 
 ended_all : (f : Spans) (marks : List Kind) (j : Kind) (l : List Kind) (e : Memory) → AreMarks marks → IsBehind j
-    → step (at f (marks ++ j ∷ l) state.DocumentEnd [] e)
+    → event_step (at f (marks ++ j ∷ l) state.DocumentEnd [] e)
     ≡ document_end_at j (record { span = f l; kind = j }) (at f l state.DocumentEnd [] (closing e))
 ended_all f [] j l e a h = ended f j l e h
 ended_all f (k ∷ ks) j l e a h =
-    subst (λ (k : Kind). step (at f (k ∷ (ks ++ j ∷ l)) state.DocumentEnd [] e)
+    subst (λ (k : Kind). event_step (at f (k ∷ (ks ++ j ∷ l)) state.DocumentEnd [] e)
     ≡ document_end_at j (record { span = f l; kind = j }) (at f l state.DocumentEnd [] (closing e))) (sym a.0)
     (ended_behind f ks j l e a.1 h)
 
@@ -224,7 +224,7 @@ documents_say (d ∷ ds) false t h = λ f e.
 
 pub stream_says : (forest : Forest) (t : List Kind) → Yields forest t → (f : Spans) (e : Memory)
     → Tells f t state.StreamStart [] e (parts forest)
-unfolding step stream_start
+unfolding event_step stream_start
 stream_says forest t h f e =
     let rest : List Kind = h.0 ++ h.1 in
     subst (λ (u : List Kind). Tells f u state.StreamStart [] e (parts forest)) (sym h.4)

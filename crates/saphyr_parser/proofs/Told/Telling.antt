@@ -11,8 +11,8 @@ use Rattle.saphyr_parser.specs.declared.parser.state.State.{State}
 use Rattle.saphyr_parser.specs.declared.parser.state.State.TheVariants.{End}
 use Rattle.saphyr_parser.specs.Events.{Happening}
 use Rattle.saphyr_parser.specs.Steps.Machine.{Names, Anchors, Machine, Told}
-use Rattle.saphyr_parser.specs.Steps.Expected.{step}
-use Rattle.saphyr_parser.specs.Answer.{before, deliver, remaining}
+use Rattle.saphyr_parser.specs.Steps.Expected.{event_step}
+use Rattle.saphyr_parser.specs.Answer.{with_first_event, deliver, remaining_answer}
 use Rattle.saphyr_parser.specs.Exactly.{GivesExactly, kinds}
 use Rattle.saphyr_parser.proofs.Unroll.{unroll, over}
 
@@ -78,12 +78,12 @@ dress any (t ∷ ts) =
 
 -- ## One step
 
-pub tells : (m : Machine) (x : Told) (es : List Happening) → m.state ≢ End → step m ≡ Ok x
-    → GivesExactly es (remaining x.machine) → GivesExactly (x.what ∷ es) (remaining m)
+pub tells : (m : Machine) (x : Told) (es : List Happening) → m.state ≢ End → event_step m ≡ Ok x
+    → GivesExactly es (remaining_answer x.machine) → GivesExactly (x.what ∷ es) (remaining_answer m)
 tells m x es more e h =
-    let all : remaining m ≡ before (x.what, x.span) (remaining x.machine) =
-    unroll m more ∙ ap (λ (r : Result Told Refusal). deliver r remaining) e in
+    let all : remaining_answer m ≡ with_first_event (x.what, x.span) (remaining_answer x.machine) =
+    unroll m more ∙ ap (λ (r : Result Told Refusal). deliver r remaining_answer) e in
     subst (λ a. GivesExactly (x.what ∷ es) a) (sym all) (h.0, ap (λ l. x.what ∷ l) h.1)
 
-pub ends : (m : Machine) → m.state ≡ End → GivesExactly [] (remaining m)
+pub ends : (m : Machine) → m.state ≡ End → GivesExactly [] (remaining_answer m)
 ends m e = subst (λ a. GivesExactly [] a) (sym (over m e)) (refl, refl)

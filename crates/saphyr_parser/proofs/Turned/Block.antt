@@ -4,18 +4,18 @@ use Rattle.std.proofs.Common.{◌≡◌, List, [], ◌∷◌, ◌++◌, Option, 
 use Rattle.saphyr_scalar.specs.declared.scalar.position.Span.{Span}
 use Rattle.saphyr_scalar.specs.declared.scalar.style.ScalarStyle.TheVariants.{Plain}
 use Rattle.saphyr_scalar.specs.declared.scalar.fault.Refusal.{Refusal}
-use Rattle.saphyr_scanner.specs.Grammar.Forest.{Node, Nodes, NoNode, MoreNodes, Pairs, NoPair, MorePairs}
+use Rattle.saphyr_scanner.specs.Grammar.Forest.{Node, NoNode, MoreNodes, NoPair, MorePairs}
 use Rattle.saphyr_scanner.specs.Grammar.Forest as forest
 use Rattle.saphyr_scanner.specs.Grammar.Tokens.{Kind, BlockEnd, BlockEntry, Key, Value}
 use Rattle.saphyr_scanner.specs.Views.Tokens.{Piece}
 use Rattle.saphyr_scanner.specs.Grammar.TokenGrammar.{InBlock, InBlockMapping, BeginsWithValue, YieldsNode, YieldsMarkedPair}
-use Rattle.saphyr_parser.specs.declared.parser.context.Context.TheVariants.{Block, BlockMapping}
+use Rattle.saphyr_parser.specs.declared.parser.context.NodeContext.TheVariants.{Block, BlockMapping}
 use Rattle.saphyr_parser.specs.declared.parser.state.State.{State}
 use Rattle.saphyr_parser.specs.declared.parser.state.State.TheVariants as state
 use Rattle.saphyr_parser.specs.Preorder.{Part, Leaf, CloseSequence, CloseMapping, node_parts, pair_parts}
 use Rattle.saphyr_parser.specs.Events.{SequenceEnd, MappingEnd}
 use Rattle.saphyr_parser.specs.Exactly.{kinds}
-use Rattle.saphyr_parser.specs.Steps.Block.{sequence_node_at, sequence_node, sequence_entry_at, sequence_entry, indentless_node_at, indentless_node, indentless_entry_at, indentless_entry, key_node_at, key_node, mapping_key_at, mapping_key, value_node_at, value_node, mapping_value_at, mapping_value}
+use Rattle.saphyr_parser.specs.Steps.Block.{sequence_node_at, sequence_node, sequence_entry_at, sequence_entry, indentless_node_at, indentless_node, indentless_entry_at, indentless_entry, block_key_node_at, block_key_node, mapping_key_at, mapping_key, block_value_node_at, block_value_node, block_mapping_value_at, block_mapping_value}
 use Rattle.saphyr_parser.specs.WellFormed.{AreWellFormed}
 use Rattle.saphyr_parser.proofs.Told.Telling.{Memory}
 use Rattle.saphyr_parser.proofs.Turned.Following.{Claim, Then, Exactly, IsOptionalOf, IsSkipped, IsValueOf, BlockEntries, BlockPairs, InBlockPairs, AtBlockValue, Follows, IsAlive}
@@ -267,7 +267,7 @@ keyless R ks ps (inl v) b =
 key_at_turned : (k : Kind) (sp : Span) (ts : List Piece) (r : Option Refusal) (x s : State) (ss : List State)
     (e : Memory) → AreWellFormed (record { span = sp; kind = k } ∷ ts) → IsAlive s ss
     → Turned (Then (IsOptionalOf InBlockMapping) (AtBlockValue (Follows s ss))) e (record { span = sp; kind = k } ∷ ts)
-    (key_node_at k (record { span = sp; kind = k }) (machine ts r x (s ∷ ss) e))
+    (block_key_node_at k (record { span = sp; kind = k }) (machine ts r x (s ∷ ss) e))
 key_at_turned Key sp ts r x s ss e w a =
     skip_optional InBlockMapping _ sp ts r x state.BlockMappingValue (s ∷ ss) e (tt, a)
 key_at_turned Value sp ts r x s ss e w a =
@@ -279,8 +279,8 @@ key_at_turned k sp ts r x s ss e w a =
 
 key_turned : (ts : List Piece) (r : Option Refusal) (x s : State) (ss : List State) (e : Memory) → AreWellFormed ts
     → IsAlive s ss → Turned (Then (IsOptionalOf InBlockMapping) (AtBlockValue (Follows s ss))) e ts
-    (key_node (machine ts r x (s ∷ ss) e))
-unfolding key_node
+    (block_key_node (machine ts r x (s ∷ ss) e))
+unfolding block_key_node
 key_turned [] r x s ss e w a = tt
 key_turned (t ∷ ts) r x s ss e w a = key_at_turned t.kind t.span ts r x s ss e w a
 
@@ -311,7 +311,7 @@ mapping_key_turned (t ∷ ts) r x s ss e w a = mapping_key_at_turned t.kind t.sp
 value_at_turned : (k : Kind) (sp span : Span) (ts : List Piece) (r : Option Refusal) (x s : State) (ss : List State)
     (e : Memory) → AreWellFormed (record { span = sp; kind = k } ∷ ts) → IsAlive s ss
     → Turned (Then (IsOptionalOf InBlockMapping) (InBlockPairs (Follows s ss))) e (record { span = sp; kind = k } ∷ ts)
-    (value_node_at k span (record { span = sp; kind = k }) (machine ts r x (s ∷ ss) e))
+    (block_value_node_at k span (record { span = sp; kind = k }) (machine ts r x (s ∷ ss) e))
 value_at_turned Key sp span ts r x s ss e w a =
     skip_optional InBlockMapping _ span ts r x state.BlockMappingKey (s ∷ ss) e (tt, a)
 value_at_turned Value sp span ts r x s ss e w a =
@@ -324,15 +324,15 @@ value_at_turned k sp span ts r x s ss e w a =
 value_turned : (span : Span) (ts : List Piece) (r : Option Refusal) (x s : State) (ss : List State) (e : Memory)
     → AreWellFormed ts → IsAlive s ss
     → Turned (Then (IsOptionalOf InBlockMapping) (InBlockPairs (Follows s ss))) e ts
-    (value_node span (machine ts r x (s ∷ ss) e))
-unfolding value_node
+    (block_value_node span (machine ts r x (s ∷ ss) e))
+unfolding block_value_node
 value_turned span [] r x s ss e w a = tt
 value_turned span (t ∷ ts) r x s ss e w a = value_at_turned t.kind t.span span ts r x s ss e w a
 
 mapping_value_at_turned : (k : Kind) (sp : Span) (ts : List Piece) (r : Option Refusal) (x s : State) (ss : List State)
     (e : Memory) → AreWellFormed ts → IsAlive s ss
     → Turned (Wanted state.BlockMappingValue (s ∷ ss) (k ∷ kinds ts)) e (record { span = sp; kind = k } ∷ ts)
-    (mapping_value_at k (record { span = sp; kind = k }) (machine ts r x (s ∷ ss) e))
+    (block_mapping_value_at k (record { span = sp; kind = k }) (machine ts r x (s ∷ ss) e))
 mapping_value_at_turned Value sp ts r x s ss e w a =
     behind (record { span = sp; kind = Value }) (Then (IsOptionalOf InBlockMapping) (InBlockPairs (Follows s ss)))
     (Wanted state.BlockMappingValue (s ∷ ss) (Value ∷ kinds ts)) e ts _ tt
@@ -352,7 +352,7 @@ mapping_value_at_turned k sp ts r x s ss e w a =
 
 pub mapping_value_turned : (ts : List Piece) (r : Option Refusal) (x s : State) (ss : List State) (e : Memory)
     → AreWellFormed ts → IsAlive s ss
-    → Turned (Wanted state.BlockMappingValue (s ∷ ss) (kinds ts)) e ts (mapping_value (machine ts r x (s ∷ ss) e))
-unfolding mapping_value
+    → Turned (Wanted state.BlockMappingValue (s ∷ ss) (kinds ts)) e ts (block_mapping_value (machine ts r x (s ∷ ss) e))
+unfolding block_mapping_value
 mapping_value_turned [] r x s ss e w a = tt
 mapping_value_turned (t ∷ ts) r x s ss e w a = mapping_value_at_turned t.kind t.span ts r x s ss e w.2 a

@@ -7,18 +7,18 @@ use Rattle.saphyr_scalar.specs.declared.scalar.style.ScalarStyle.{ScalarStyle}
 use Rattle.saphyr_scalar.specs.declared.scalar.style.ScalarStyle.TheVariants.{Plain}
 use Rattle.saphyr_scalar.specs.declared.scalar.fault.Refusal.{Refusal}
 use Rattle.saphyr_scalar.specs.declared.scalar.fault.FaultText.TheVariants as fault
-use Rattle.saphyr_scanner.specs.Grammar.Forest.{HasOne, HasProperty, Tag, Node, Nodes, NoNode, MoreNodes, Pairs, NoPair, MorePairs}
+use Rattle.saphyr_scanner.specs.Grammar.Forest.{HasOne, Tag, Node, Pairs, NoPair, MorePairs}
 use Rattle.saphyr_scanner.specs.Grammar.Forest as forest
 use Rattle.saphyr_scanner.specs.Grammar.Tokens as tokens
 use Rattle.saphyr_scanner.specs.Grammar.Tokens.{Kind}
 use Rattle.saphyr_scanner.specs.Views.Tokens.{Piece}
 use Rattle.saphyr_scanner.specs.Grammar.TokenGrammar as grammar
-use Rattle.saphyr_scanner.specs.Grammar.TokenGrammar.{InFlow, InBlock, InBlockMapping, YieldProperties, YieldsScalar, YieldsNode, YieldsBlockPair, YieldBlockPairs, YieldBlockEntries, HasNode}
-use Rattle.saphyr_parser.specs.declared.parser.context.Context.{Context}
-use Rattle.saphyr_parser.specs.declared.parser.context.Context.TheVariants.{Flow, Block, BlockMapping}
+use Rattle.saphyr_scanner.specs.Grammar.TokenGrammar.{InFlow, InBlock, InBlockMapping, YieldProperties, YieldsScalar, YieldsBlockPair, YieldBlockPairs}
+use Rattle.saphyr_parser.specs.declared.parser.context.NodeContext.{NodeContext}
+use Rattle.saphyr_parser.specs.declared.parser.context.NodeContext.TheVariants.{Flow, Block, BlockMapping}
 use Rattle.saphyr_parser.specs.declared.parser.state.State.{State}
 use Rattle.saphyr_parser.specs.declared.parser.state.State.TheVariants as state
-use Rattle.saphyr_parser.specs.Anchors.{one_more}
+use Rattle.saphyr_parser.specs.Anchors.{one_more_anchor}
 use Rattle.saphyr_parser.specs.Preorder.{Part, Leaf, OpenSequence, CloseSequence, OpenMapping, CloseMapping}
 use Rattle.saphyr_parser.specs.Events.{Happening, ResolvedTag, Scalar, SequenceStart, MappingStart}
 use Rattle.saphyr_parser.specs.Exactly.{kinds}
@@ -31,7 +31,7 @@ use Rattle.saphyr_parser.proofs.Turned.Turning.{machine, Goes, Turned, kinds_app
 
 -- ## Where a node stands
 
-abbrev pub place_of : Context → grammar.Context
+abbrev pub place_of : NodeContext → grammar.Context
 place_of Flow = InFlow
 place_of Block = InBlock
 place_of BlockMapping = InBlockMapping
@@ -42,11 +42,11 @@ IsPairState state.BlockMappingValue = Unit {0}
 IsPairState _ = ⊥
 
 -- the state behind a key or a value of a block mapping
-abbrev pub Suits : Context → State → Type 0
+abbrev pub Suits : NodeContext → State → Type 0
 Suits BlockMapping s = IsPairState s
 Suits _ s = Unit {0}
 
-abbrev pub NodeThen : Context → State → List State → List Kind → List Part → Type 0
+abbrev pub NodeThen : NodeContext → State → List State → List Kind → List Part → Type 0
 NodeThen c s ss = Then (IsNodeOf (place_of c)) (Follows s ss)
 
 -- ## Properties that were read
@@ -54,7 +54,7 @@ NodeThen c s ss = Then (IsNodeOf (place_of c)) (Follows s ss)
 pub record Fronted (e : Memory) (p : forest.Properties) (q : NodeProperties) (front : List Piece) : Type 0 where
   pub are : YieldProperties p (kinds front)
   pub has : Has e p.anchor p.tag q
-  pub enough : one_more (option_map encode_utf8_all p.anchor) 0 ≤ length front
+  pub enough : one_more_anchor (option_map encode_utf8_all p.anchor) 0 ≤ length front
   pub shape : Shape front q
 
 pub with_told : (make : ℕ → Option ResolvedTag → Happening) (e : Memory) (p : forest.Properties) (q : NodeProperties)
@@ -64,8 +64,8 @@ with_told make e p q h =
     ∙ ap (λ (n : ℕ). let o : Option Happening = Some (make n q.tag) in o) (sym h.anchor_is)
 
 pub enough_for : (p : forest.Properties) (front own : List Piece)
-    → one_more (option_map encode_utf8_all p.anchor) 0 ≤ length front
-    → one_more (option_map encode_utf8_all p.anchor) 0 ≤ length (front ++ own)
+    → one_more_anchor (option_map encode_utf8_all p.anchor) 0 ≤ length front
+    → one_more_anchor (option_map encode_utf8_all p.anchor) 0 ≤ length (front ++ own)
 enough_for p front own l = let a = length-append front own in omega (arith, l, a)
 
 -- ## Scalars
@@ -120,7 +120,7 @@ has_one (Some a) None e q h t = tt
 has_one None (Some g) e q h t = tt
 has_one (Some a) (Some g) e q h t = tt
 
-pub alone_turned : (t : Piece) (front : List Piece) (p : forest.Properties) (q : NodeProperties) (c : Context)
+pub alone_turned : (t : Piece) (front : List Piece) (p : forest.Properties) (q : NodeProperties) (c : NodeContext)
     (ts : List Piece) (r : Option Refusal) (x : State) (s : State) (ss : List State) (e : Memory) → Fronted e p q front
     → IsAlive s ss → Turned (NodeThen c s ss) e (front ++ t ∷ ts)
     (without_content q t (machine ts r x (s ∷ ss) (noted p.anchor e)))

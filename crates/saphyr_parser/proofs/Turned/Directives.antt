@@ -16,7 +16,7 @@ use Rattle.saphyr_scanner.specs.Grammar.Tokens.{Kind, directive_token}
 use Rattle.saphyr_scanner.specs.Views.Tokens.{Piece}
 use Rattle.saphyr_parser.specs.Exactly.{kinds}
 use Rattle.saphyr_parser.specs.Steps.Machine.{◌>>=◌, Machine, given, is_listed, listed, with_pieces}
-use Rattle.saphyr_parser.specs.Steps.Documents.{Declared, is_directive, tag_directive, directive_at, directives_from}
+use Rattle.saphyr_parser.specs.Steps.Documents.{Declared, is_directive, with_handle, directive_at, directives_from}
 use Rattle.saphyr_parser.specs.WellFormed.{IsWellFormed, AreWellFormed}
 use Rattle.saphyr_parser.proofs.Remembering.{declaring}
 use Rattle.saphyr_parser.proofs.NameLaws.{listed_test}
@@ -149,9 +149,9 @@ passed_at (tokens.VersionDirective major minor) sp ts d m w go =
     refl go
 passed_at (tokens.TagDirective handle prefix) sp ts d m w go =
     subst (λ (h : List ℕ). PassedBy (record { span = sp; kind = tokens.TagDirective h prefix } ∷ ts) d m
-    (tag_directive h prefix sp.start d (with_pieces ts m) >>= (λ s. directives_from ts s.0 s.1))) (sym w.1)
+    (with_handle h prefix sp.start d (with_pieces ts m) >>= (λ s. directives_from ts s.0 s.1))) (sym w.1)
     (subst (λ (p : List ℕ). PassedBy (record { span = sp; kind = tokens.TagDirective (handle_bytes w.0) p } ∷ ts) d m
-    (tag_directive (handle_bytes w.0) p sp.start d (with_pieces ts m) >>= (λ s. directives_from ts s.0 s.1)))
+    (with_handle (handle_bytes w.0) p sp.start d (with_pieces ts m) >>= (λ s. directives_from ts s.0 s.1)))
     (sym w.2.1)
     (tag_passed (is_listed (handle_bytes w.0) d.handles) w.0 w.2.0
     (record { span = sp; kind = tokens.TagDirective (handle_bytes w.0) (encode_utf8_all w.2.0) }) ts d m refl refl

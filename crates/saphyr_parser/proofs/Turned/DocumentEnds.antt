@@ -11,14 +11,14 @@ use Rattle.saphyr_scanner.specs.Grammar.Tokens as tokens
 use Rattle.saphyr_scanner.specs.Grammar.Tokens.{Kind, directive_token}
 use Rattle.saphyr_scanner.specs.Views.Tokens.{Piece}
 use Rattle.saphyr_scanner.specs.Grammar.TokenGrammar.{InBlock, AreMarks, AreEndsAndMarks, YieldDocuments}
-use Rattle.saphyr_parser.specs.declared.parser.context.Context.TheVariants.{Block}
+use Rattle.saphyr_parser.specs.declared.parser.context.NodeContext.TheVariants.{Block}
 use Rattle.saphyr_parser.specs.declared.parser.state.State.{State}
 use Rattle.saphyr_parser.specs.declared.parser.state.State.TheVariants as state
 use Rattle.saphyr_parser.specs.Preorder.{Part, CloseDocument}
 use Rattle.saphyr_parser.specs.Exactly.{kinds}
 use Rattle.saphyr_parser.specs.Steps.Machine.{◌>>=◌, Machine, with_pieces}
 use Rattle.saphyr_parser.specs.Steps.Expected.{block_node}
-use Rattle.saphyr_parser.specs.Steps.Documents.{is_mark, pass_from, pass, no_content, content_at, document_content, behind_marks_at, behind_marks, behind_document_at, behind_document, forget_prefixes, document_end_at, document_end}
+use Rattle.saphyr_parser.specs.Steps.Documents.{is_mark, unpassed_token_from, unpassed_token, no_content, document_content_at, document_content, behind_marks_at, behind_marks, behind_document_at, behind_document, forget_prefixes, document_end_at, document_end}
 use Rattle.saphyr_parser.specs.WellFormed.{AreWellFormed}
 use Rattle.saphyr_parser.proofs.Told.Telling.{Memory}
 use Rattle.saphyr_parser.proofs.Turned.Following.{Then, IsNodeOf, IsOptionalOf, AreExplicit, Outside, Follows, IsAlive, IsFree, BeginsFreely}
@@ -44,7 +44,7 @@ no_content_turned t ts r x s ss e a = skip_optional InBlock t t.span ts r x s ss
 content_at_turned : (k : Kind) (sp : Span) (ts : List Piece) (r : Option Refusal) (x s : State) (ss : List State)
     (e : Memory) → AreWellFormed (record { span = sp; kind = k } ∷ ts) → IsAlive s ss
     → Turned (Then (IsOptionalOf InBlock) (Follows s ss)) e (record { span = sp; kind = k } ∷ ts)
-    (content_at k (record { span = sp; kind = k }) (machine ts r x (s ∷ ss) e))
+    (document_content_at k (record { span = sp; kind = k }) (machine ts r x (s ∷ ss) e))
 content_at_turned (tokens.VersionDirective major minor) sp ts r x s ss e w a = no_content_turned _ ts r x s ss e a
 content_at_turned (tokens.TagDirective handle prefix) sp ts r x s ss e w a = no_content_turned _ ts r x s ss e a
 content_at_turned (tokens.ReservedDirective name) sp ts r x s ss e w a = no_content_turned _ ts r x s ss e a
@@ -98,12 +98,14 @@ one_more t ts m (Ok x) k h =
     }
 one_more t ts m (Err f) k h = tt
 
-marks_passed : (ts : List Piece) (m : Machine) → MarkedBy ts m (pass_from is_mark ts m)
+marks_passed : (ts : List Piece) (m : Machine) → MarkedBy ts m (unpassed_token_from is_mark ts m)
 marks_passed [] m = tt
 marks_passed (t ∷ ts) m = by (is_mark t.kind) refl (marks_passed ts (with_pieces ts m))
   where
-    by : (b : Bool) → is_mark t.kind ≡ b → MarkedBy ts (with_pieces ts m) (pass_from is_mark ts (with_pieces ts m))
-        → MarkedBy (t ∷ ts) m (if b then pass_from is_mark ts (with_pieces ts m) else Ok (t, with_pieces ts m))
+    by : (b : Bool) → is_mark t.kind ≡ b → MarkedBy ts (with_pieces ts m)
+        (unpassed_token_from is_mark ts (with_pieces ts m))
+        → MarkedBy (t ∷ ts) m (if b then unpassed_token_from is_mark ts (with_pieces ts m) else Ok
+        (t, with_pieces ts m))
     by true y h = one_more t ts m _ y h
     by false y h = record { marks = []; rest = ts; are = refl; are_marks = tt; no_mark = y; leaves = refl }
 
@@ -122,7 +124,7 @@ behind_some (Ok y) place ts m h = behind_at y.0.kind y.0.span place y.1 ts m h
 
 behind_all : (place : Marker) (ts : List Piece) (m : Machine)
     → MarkedBy ts (with_pieces ts m) (behind_marks place (with_pieces ts m))
-unfolding behind_marks pass
+unfolding behind_marks unpassed_token
 behind_all place ts m = behind_some _ place ts (with_pieces ts m) (marks_passed ts (with_pieces ts m))
 
 document_at : (k : Kind) (sp : Span) (ts : List Piece) (m : Machine)

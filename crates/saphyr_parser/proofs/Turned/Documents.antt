@@ -18,7 +18,7 @@ use Rattle.saphyr_parser.specs.Preorder.{Part, OpenStream, CloseStream, OpenDocu
 use Rattle.saphyr_parser.specs.Events as events
 use Rattle.saphyr_parser.specs.Exactly.{kinds}
 use Rattle.saphyr_parser.specs.Steps.Machine.{◌>>=◌, Machine, Told, with_pieces}
-use Rattle.saphyr_parser.specs.Steps.Documents.{is_end_or_mark, pass_from, pass, none_declared, directives, stream_start_at, stream_start, explicit_at, explicit_document, bare_document, implicit_start_at, implicit_start, explicit_start_at, explicit_start}
+use Rattle.saphyr_parser.specs.Steps.Documents.{is_end_or_mark, unpassed_token_from, unpassed_token, none_declared, directives, stream_start_at, stream_start, explicit_at, explicit_document, bare_document, implicit_start_at, implicit_start, explicit_start_at, explicit_start}
 use Rattle.saphyr_parser.specs.WellFormed.{AreWellFormed}
 use Rattle.saphyr_parser.proofs.Told.Telling.{Memory}
 use Rattle.saphyr_parser.proofs.Remembering.{event_in}
@@ -73,15 +73,16 @@ passing : (p : Kind → Bool) (G : List Kind → List Kind → List Part → Typ
     → ((k : Kind) (ahead ks : List Kind) (ps : List Part) → p k ≡ true → G ahead ks ps → G (k ∷ ahead) (k ∷ ks) ps)
     → ((t : Piece) (us : List Piece) → AreWellFormed (t ∷ us)
     → Moves (G (kinds (t ∷ us))) e (t ∷ us) (go (t, with_pieces us m)))
-    → Moves (G (kinds ts)) e ts (pass_from p ts m >>= go)
+    → Moves (G (kinds ts)) e ts (unpassed_token_from p ts m >>= go)
 passing p G e [] m go w free join here = tt
 passing p G e (t ∷ ts) m go w free join here =
     by (p t.kind) refl (passing p G e ts (with_pieces ts m) go w.2 free join here)
   where
-    by : (b : Bool) → p t.kind ≡ b → Moves (G (kinds ts)) e ts (pass_from p ts (with_pieces ts m) >>= go)
+    by : (b : Bool) → p t.kind ≡ b → Moves (G (kinds ts)) e ts (unpassed_token_from p ts (with_pieces ts m) >>= go)
         → Moves (G (kinds (t ∷ ts))) e (t ∷ ts)
-        ((if b then pass_from p ts (with_pieces ts m) else Ok (t, with_pieces ts m)) >>= go)
-    by true y h = behind_moves t (G (kinds ts)) (G (kinds (t ∷ ts))) e ts (pass_from p ts (with_pieces ts m) >>= go)
+        ((if b then unpassed_token_from p ts (with_pieces ts m) else Ok (t, with_pieces ts m)) >>= go)
+    by true y h =
+        behind_moves t (G (kinds ts)) (G (kinds (t ∷ ts))) e ts (unpassed_token_from p ts (with_pieces ts m) >>= go)
         (free t.kind y) (λ ks ps g. join t.kind (kinds ts) ks ps y g) h
     by false y h = here t ts w
 
@@ -334,7 +335,7 @@ implicit_pass k ahead ks ps y h =
 
 pub implicit_moves : (ts : List Piece) (r : Option Refusal) (x : State) (e : Memory) → AreWellFormed ts
     → Moves (Wanted state.ImplicitDocumentStart [] (kinds ts)) e ts (implicit_start (machine ts r x [] e))
-unfolding implicit_start pass
+unfolding implicit_start unpassed_token
 implicit_moves ts r x e w =
     passing is_end_or_mark (Wanted state.ImplicitDocumentStart []) e ts (machine ts r x [] e) _ w is_passed
     implicit_pass (λ t us v. implicit_at_moves t.kind t.span us r x e v)
@@ -374,7 +375,7 @@ explicit_pass k ahead ks ps y h =
 
 pub explicit_moves : (ts : List Piece) (r : Option Refusal) (x : State) (e : Memory) → AreWellFormed ts
     → Moves (Wanted state.DocumentStart [] (kinds ts)) e ts (explicit_start (machine ts r x [] e))
-unfolding explicit_start pass
+unfolding explicit_start unpassed_token
 explicit_moves ts r x e w =
     passing is_end_or_mark (Wanted state.DocumentStart []) e ts (machine ts r x [] e) _ w is_passed explicit_pass
     (λ t us v. explicit_at_moves t.kind t.span us r x e v)

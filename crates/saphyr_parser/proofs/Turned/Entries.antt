@@ -9,14 +9,14 @@ use Rattle.saphyr_scanner.specs.Grammar.Forest as forest
 use Rattle.saphyr_scanner.specs.Grammar.Tokens.{Kind, Value}
 use Rattle.saphyr_scanner.specs.Views.Tokens.{Piece}
 use Rattle.saphyr_scanner.specs.Grammar.TokenGrammar as grammar
-use Rattle.saphyr_parser.specs.declared.parser.context.Context.{Context}
+use Rattle.saphyr_parser.specs.declared.parser.context.NodeContext.{NodeContext}
 use Rattle.saphyr_parser.specs.declared.parser.state.State.{State}
 use Rattle.saphyr_parser.specs.Anchors.{anchors}
 use Rattle.saphyr_parser.specs.Preorder.{Part, Leaf, node_parts}
 use Rattle.saphyr_parser.specs.Exactly.{kinds}
 use Rattle.saphyr_parser.specs.Events.{Happening}
 use Rattle.saphyr_parser.specs.Steps.Machine.{told, left_out_event, pop}
-use Rattle.saphyr_parser.specs.Steps.Nodes.{inside}
+use Rattle.saphyr_parser.specs.Steps.Nodes.{node_inside}
 use Rattle.saphyr_parser.specs.WellFormed.{AreWellFormed}
 use Rattle.saphyr_parser.proofs.Told.Telling.{Memory}
 use Rattle.saphyr_parser.proofs.Remembering.{after, event_in}
@@ -60,17 +60,18 @@ skip_optional c t sp ts r x s st e a =
     (λ ks ps f b. put (IsOptionalOf c) (Follows s st) [] (node_parts forest.left_out) ks ps
     (forest.left_out, inl (refl, refl), refl) f)
 
-pub entered : (c : Context) (t : Piece) (ts : List Piece) (r : Option Refusal) (x s : State) (st : List State)
+pub entered : (c : NodeContext) (t : Piece) (ts : List Piece) (r : Option Refusal) (x s : State) (st : List State)
     (e : Memory) → AreWellFormed (t ∷ ts) → Suits c s → IsAlive s st
-    → Turned (Then (IsNodeOf (place_of c)) (Follows s st)) e (t ∷ ts) (inside s c t (machine ts r x st e))
+    → Turned (Then (IsNodeOf (place_of c)) (Follows s st)) e (t ∷ ts) (node_inside s c t (machine ts r x st e))
 entered c t ts r x s st e w z a = node_turned t c ts r x s st e w z a
 
-pub enter_optional : (c : Context) (t : Piece) (ts : List Piece) (r : Option Refusal) (x s : State) (st : List State)
+pub enter_optional : (c : NodeContext) (t : Piece) (ts : List Piece) (r : Option Refusal) (x s : State)
+    (st : List State)
     (e : Memory) → AreWellFormed (t ∷ ts) → Suits c s → IsAlive s st
-    → Turned (Then (IsOptionalOf (place_of c)) (Follows s st)) e (t ∷ ts) (inside s c t (machine ts r x st e))
+    → Turned (Then (IsOptionalOf (place_of c)) (Follows s st)) e (t ∷ ts) (node_inside s c t (machine ts r x st e))
 enter_optional c t ts r x s st e w z a =
     weaker (Then (IsNodeOf (place_of c)) (Follows s st)) (Then (IsOptionalOf (place_of c)) (Follows s st)) e (t ∷ ts)
-    (inside s c t (machine ts r x st e))
+    (node_inside s c t (machine ts r x st e))
     (λ ks ps h. replace (IsNodeOf (place_of c)) (Follows s st) (IsOptionalOf (place_of c)) [] [] ks ps
     (λ u q g. (g.0, inr g.1, g.2)) h) (entered c t ts r x s st e w z a)
 

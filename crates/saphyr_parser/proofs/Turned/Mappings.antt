@@ -8,13 +8,13 @@ use Rattle.saphyr_scanner.specs.Grammar.Forest as forest
 use Rattle.saphyr_scanner.specs.Grammar.Tokens.{Kind, FlowMappingEnd, FlowEntry, Key, Value}
 use Rattle.saphyr_scanner.specs.Views.Tokens.{Piece}
 use Rattle.saphyr_scanner.specs.Grammar.TokenGrammar.{InFlow, BeginsWithValue, YieldsNode, YieldsFlowPair, YieldFlowPairs, YieldOtherFlowPairs}
-use Rattle.saphyr_parser.specs.declared.parser.context.Context.TheVariants.{Flow}
+use Rattle.saphyr_parser.specs.declared.parser.context.NodeContext.TheVariants.{Flow}
 use Rattle.saphyr_parser.specs.declared.parser.state.State.{State}
 use Rattle.saphyr_parser.specs.declared.parser.state.State.TheVariants as state
 use Rattle.saphyr_parser.specs.Preorder.{Part, Leaf, CloseMapping, node_parts, pair_parts}
 use Rattle.saphyr_parser.specs.Events.{MappingEnd}
 use Rattle.saphyr_parser.specs.Exactly.{kinds}
-use Rattle.saphyr_parser.specs.Steps.Flow.{key_node_at, key_node, pair_at, first_pair, pair_behind_comma, other_pair_at, other_pair, value_node_at, value_node, mapping_value_at, mapping_value, empty_value}
+use Rattle.saphyr_parser.specs.Steps.Flow.{flow_key_node_at, flow_key_node, pair_at, first_pair, pair_behind_comma, other_pair_at, other_pair, flow_value_node_at, flow_value_node, flow_mapping_value_at, flow_mapping_value, empty_value}
 use Rattle.saphyr_parser.specs.WellFormed.{AreWellFormed}
 use Rattle.saphyr_parser.proofs.Told.Telling.{Memory}
 use Rattle.saphyr_parser.proofs.Turned.Following.{Claim, Then, Exactly, IsNodeOf, IsOptionalOf, IsSkipped, IsAnyValueOf, FirstPairs, OtherPairs, InMapping, Follows, IsAlive}
@@ -151,7 +151,8 @@ behind_comma R ks ps h =
 key_at_turned : (k : Kind) (sp : Span) (ts : List Piece) (r : Option Refusal) (x s : State) (ss : List State)
     (e : Memory) → AreWellFormed (record { span = sp; kind = k } ∷ ts) → IsAlive s ss
     → Turned (Then (IsOptionalOf InFlow) (Then (IsAnyValueOf InFlow) (InMapping (Follows s ss)))) e
-    (record { span = sp; kind = k } ∷ ts) (key_node_at k (record { span = sp; kind = k }) (machine ts r x (s ∷ ss) e))
+    (record { span = sp; kind = k } ∷ ts) (flow_key_node_at k (record { span = sp; kind = k })
+    (machine ts r x (s ∷ ss) e))
 key_at_turned Value sp ts r x s ss e w a = skip_optional InFlow _ sp ts r x state.FlowMappingValue (s ∷ ss) e (tt, a)
 key_at_turned FlowEntry sp ts r x s ss e w a =
     skip_optional InFlow _ sp ts r x state.FlowMappingValue (s ∷ ss) e (tt, a)
@@ -162,8 +163,8 @@ key_at_turned k sp ts r x s ss e w a =
 
 key_turned : (ts : List Piece) (r : Option Refusal) (x s : State) (ss : List State) (e : Memory) → AreWellFormed ts
     → IsAlive s ss → Turned (Then (IsOptionalOf InFlow) (Then (IsAnyValueOf InFlow) (InMapping (Follows s ss)))) e ts
-    (key_node (machine ts r x (s ∷ ss) e))
-unfolding key_node
+    (flow_key_node (machine ts r x (s ∷ ss) e))
+unfolding flow_key_node
 key_turned [] r x s ss e w a = tt
 key_turned (t ∷ ts) r x s ss e w a = key_at_turned t.kind t.span ts r x s ss e w a
 
@@ -221,7 +222,7 @@ other_pair_turned (t ∷ ts) r x s ss e w a = other_pair_at_turned t.kind t.span
 value_node_at_turned : (k : Kind) (sp span : Span) (ts : List Piece) (r : Option Refusal) (x s : State)
     (ss : List State) (e : Memory) → AreWellFormed (record { span = sp; kind = k } ∷ ts) → IsAlive s ss
     → Turned (Then (IsOptionalOf InFlow) (InMapping (Follows s ss))) e (record { span = sp; kind = k } ∷ ts)
-    (value_node_at k span (record { span = sp; kind = k }) (machine ts r x (s ∷ ss) e))
+    (flow_value_node_at k span (record { span = sp; kind = k }) (machine ts r x (s ∷ ss) e))
 value_node_at_turned FlowEntry sp span ts r x s ss e w a =
     skip_optional InFlow _ span ts r x state.FlowMappingKey (s ∷ ss) e (tt, a)
 value_node_at_turned FlowMappingEnd sp span ts r x s ss e w a =
@@ -231,15 +232,16 @@ value_node_at_turned k sp span ts r x s ss e w a =
 
 value_node_turned : (span : Span) (ts : List Piece) (r : Option Refusal) (x s : State) (ss : List State) (e : Memory)
     → AreWellFormed ts → IsAlive s ss
-    → Turned (Then (IsOptionalOf InFlow) (InMapping (Follows s ss))) e ts (value_node span (machine ts r x (s ∷ ss) e))
-unfolding value_node
+    → Turned (Then (IsOptionalOf InFlow) (InMapping (Follows s ss))) e ts
+    (flow_value_node span (machine ts r x (s ∷ ss) e))
+unfolding flow_value_node
 value_node_turned span [] r x s ss e w a = tt
 value_node_turned span (t ∷ ts) r x s ss e w a = value_node_at_turned t.kind t.span span ts r x s ss e w a
 
 mapping_value_at_turned : (k : Kind) (sp : Span) (ts : List Piece) (r : Option Refusal) (x s : State) (ss : List State)
     (e : Memory) → AreWellFormed ts → IsAlive s ss
     → Turned (Wanted state.FlowMappingValue (s ∷ ss) (k ∷ kinds ts)) e (record { span = sp; kind = k } ∷ ts)
-    (mapping_value_at k (record { span = sp; kind = k }) (machine ts r x (s ∷ ss) e))
+    (flow_mapping_value_at k (record { span = sp; kind = k }) (machine ts r x (s ∷ ss) e))
 mapping_value_at_turned Value sp ts r x s ss e w a =
     behind (record { span = sp; kind = Value }) (Then (IsOptionalOf InFlow) (InMapping (Follows s ss)))
     (Wanted state.FlowMappingValue (s ∷ ss) (Value ∷ kinds ts)) e ts _ tt
@@ -259,8 +261,8 @@ mapping_value_at_turned k sp ts r x s ss e w a =
 
 pub mapping_value_turned : (ts : List Piece) (r : Option Refusal) (x s : State) (ss : List State) (e : Memory)
     → AreWellFormed ts → IsAlive s ss
-    → Turned (Wanted state.FlowMappingValue (s ∷ ss) (kinds ts)) e ts (mapping_value (machine ts r x (s ∷ ss) e))
-unfolding mapping_value
+    → Turned (Wanted state.FlowMappingValue (s ∷ ss) (kinds ts)) e ts (flow_mapping_value (machine ts r x (s ∷ ss) e))
+unfolding flow_mapping_value
 mapping_value_turned [] r x s ss e w a = tt
 mapping_value_turned (t ∷ ts) r x s ss e w a = mapping_value_at_turned t.kind t.span ts r x s ss e w.2 a
 

@@ -13,16 +13,16 @@ use Rattle.saphyr_scanner.specs.Grammar.Tokens.{Kind, tag_token}
 use Rattle.saphyr_scanner.specs.Views.Tokens.{Piece}
 use Rattle.saphyr_scanner.specs.Grammar.TokenGrammar as grammar
 use Rattle.saphyr_scanner.specs.Grammar.TokenGrammar.{InBlockMapping, YieldBlockEntries, HasNode}
-use Rattle.saphyr_parser.specs.declared.parser.context.Context.{Context}
-use Rattle.saphyr_parser.specs.declared.parser.context.Context.TheVariants.{Flow, Block, BlockMapping}
+use Rattle.saphyr_parser.specs.declared.parser.context.NodeContext.{NodeContext}
+use Rattle.saphyr_parser.specs.declared.parser.context.NodeContext.TheVariants.{Flow, Block, BlockMapping}
 use Rattle.saphyr_parser.specs.declared.parser.state.State.{State}
 use Rattle.saphyr_parser.specs.declared.parser.state.State.TheVariants as state
 use Rattle.saphyr_parser.specs.Preorder.{Part, Reference, OpenSequence, CloseSequence, entry_parts}
 use Rattle.saphyr_parser.specs.Events.{ResolvedTag, Alias, SequenceStart}
 use Rattle.saphyr_parser.specs.Exactly.{kinds}
-use Rattle.saphyr_parser.specs.Steps.Machine.{◌>>=◌, take, meaning, next_id}
+use Rattle.saphyr_parser.specs.Steps.Machine.{◌>>=◌, taken_token, meaning, next_id}
 use Rattle.saphyr_parser.specs.Steps.Tags.{resolved}
-use Rattle.saphyr_parser.specs.Steps.Nodes.{NodeProperties, no_node_properties, content_at, content, next_content, alias_of, alias, behind_anchor_at, behind_anchor, behind_tag_at, behind_tag, node_at, node}
+use Rattle.saphyr_parser.specs.Steps.Nodes.{NodeProperties, no_node_properties, node_content_at, node_content, next_content, alias_of, alias_node, behind_anchor_at, behind_anchor, behind_tag_at, behind_tag, node_at, node}
 use Rattle.saphyr_parser.specs.WellFormed.{IsWellFormed, AreWellFormed}
 use Rattle.saphyr_parser.proofs.Told.Telling.{Memory}
 use Rattle.saphyr_parser.proofs.Remembering.{noted, resolve}
@@ -90,14 +90,15 @@ indentless_goes t p q front span ts r s ss e k i h a o = record {
 -- ## Content
 
 scalar_turned : (style : ScalarStyle) (text value : List ℕ) (sp : Span) (front : List Piece) (p : forest.Properties)
-    (q : NodeProperties) (c : Context) (ts : List Piece) (r : Option Refusal) (x : State) (s : State) (ss : List State)
+    (q : NodeProperties) (c : NodeContext) (ts : List Piece) (r : Option Refusal) (x : State) (s : State)
+    (ss : List State)
     (e : Memory) → text ≡ encode_utf8_all value → Fronted e p q front → StartsAt front sp.start q → IsAlive s ss
     → Turned (NodeThen c s ss) e (front ++ record { span = sp; kind = tokens.Scalar style text } ∷ ts)
-    (content_at (tokens.Scalar style text) q c (record { span = sp; kind = tokens.Scalar style text })
+    (node_content_at (tokens.Scalar style text) q c (record { span = sp; kind = tokens.Scalar style text })
     (machine ts r x (s ∷ ss) (noted p.anchor e)))
 scalar_turned style text value sp front p q c ts r x s ss e v h b a =
     subst (λ (w : List ℕ). Turned (NodeThen c s ss) e (front ++ record { span = sp; kind = tokens.Scalar style w } ∷ ts)
-    (content_at (tokens.Scalar style w) q c (record { span = sp; kind = tokens.Scalar style w })
+    (node_content_at (tokens.Scalar style w) q c (record { span = sp; kind = tokens.Scalar style w })
     (machine ts r x (s ∷ ss) (noted p.anchor e)))) (sym v)
     (leaf_goes p q front (record { span = sp; kind = tokens.Scalar style (encode_utf8_all value) } ∷ []) style value
     (record { start = q.start; end = sp.end }) (place_of c) ts r s ss e h (inl refl) a
@@ -108,11 +109,12 @@ scalar_turned style text value sp front p q c ts r x s ss e v h b a =
           (record { span = sp; kind = tokens.Scalar style (encode_utf8_all value) }) h.shape b,
     ))))
 
-content_turned : (k : Kind) (sp : Span) (front : List Piece) (p : forest.Properties) (q : NodeProperties) (c : Context)
+content_turned : (k : Kind) (sp : Span) (front : List Piece) (p : forest.Properties) (q : NodeProperties)
+    (c : NodeContext)
     (ts : List Piece) (r : Option Refusal) (x : State) (s : State) (ss : List State) (e : Memory) → IsWellFormed k
     → Suits c s → Fronted e p q front → StartsAt front sp.start q → IsAlive s ss
     → Turned (NodeThen c s ss) e (front ++ record { span = sp; kind = k } ∷ ts)
-    (content_at k q c (record { span = sp; kind = k }) (machine ts r x (s ∷ ss) (noted p.anchor e)))
+    (node_content_at k q c (record { span = sp; kind = k }) (machine ts r x (s ∷ ss) (noted p.anchor e)))
 content_turned (tokens.Scalar style text) sp front p q c ts r x s ss e w z h b a =
     scalar_turned style text w.0 sp front p q c ts r x s ss e w.1 h b a
 content_turned tokens.FlowSequenceStart sp front p q c ts r x s ss e w z h b a =
@@ -176,18 +178,19 @@ content_turned tokens.BlockEntry sp front p q BlockMapping ts r x s ss e w z h b
 content_turned k sp front p q c ts r x s ss e w z h b a =
     alone_turned (record { span = sp; kind = k }) front p q c ts r x s ss e h a
 
-next_turned : (ts front : List Piece) (p : forest.Properties) (q : NodeProperties) (c : Context) (r : Option Refusal)
+next_turned : (ts front : List Piece) (p : forest.Properties) (q : NodeProperties) (c : NodeContext)
+    (r : Option Refusal)
     (x : State) (s : State) (ss : List State) (e : Memory) → AreWellFormed ts → Suits c s → Fronted e p q front
     → ((m : Marker) → StartsAt front m q) → IsAlive s ss
     → Turned (NodeThen c s ss) e (front ++ ts) (next_content q c (machine ts r x (s ∷ ss) (noted p.anchor e)))
-unfolding next_content content
+unfolding next_content node_content
 next_turned [] front p q c r x s ss e w z h b a = tt
 next_turned (t ∷ ts) front p q c r x s ss e w z h b a =
     content_turned t.kind t.span front p q c ts r x s ss e w.0 z h (b t.span.start) a
 
 -- ## Aliases
 
-alias_turned : (o : Option ℕ) (text : List ℕ) (t : Piece) (c : Context) (ts : List Piece) (r : Option Refusal)
+alias_turned : (o : Option ℕ) (text : List ℕ) (t : Piece) (c : NodeContext) (ts : List Piece) (r : Option Refusal)
     (x : State) (s : State) (ss : List State) (e : Memory) → t.kind ≡ tokens.Alias (encode_utf8_all text)
     → meaning (encode_utf8_all text) e.anchors.ids ≡ o → IsAlive s ss
     → Turned (NodeThen c s ss) e (t ∷ ts) (alias_of o t.span (machine ts r x (s ∷ ss) e))
@@ -264,7 +267,7 @@ both_front text g v t u e (inr k) h =
     }
 
 -- a tag behind an anchor
-tag_behind : (rr : Result ResolvedTag Refusal) (text handle suffix : List ℕ) (t : Piece) (sp : Span) (c : Context)
+tag_behind : (rr : Result ResolvedTag Refusal) (text handle suffix : List ℕ) (t : Piece) (sp : Span) (c : NodeContext)
     (us : List Piece) (r : Option Refusal) (x : State) (s : State) (ss : List State) (e : Memory)
     → t.kind ≡ tokens.Anchor (encode_utf8_all text) → resolved e.prefixes handle suffix t.span.start ≡ rr
     → (tag : Tag) × (tokens.Tag handle suffix ≡ tag_token tag) → AreWellFormed us → Suits c s → IsAlive s ss
@@ -280,20 +283,20 @@ tag_behind (Ok v) text handle suffix t sp c us r x s ss e k q g w z a =
     (both_front text found.tag v t (record { span = sp; kind = tokens.Tag handle suffix }) e (inl (k, found.token))
     found.resolves) (λ m. tt) a
 
-behind_anchor_turned : (k : Kind) (sp : Span) (text : List ℕ) (t : Piece) (c : Context) (us : List Piece)
+behind_anchor_turned : (k : Kind) (sp : Span) (text : List ℕ) (t : Piece) (c : NodeContext) (us : List Piece)
     (r : Option Refusal) (x : State) (s : State) (ss : List State) (e : Memory)
     → t.kind ≡ tokens.Anchor (encode_utf8_all text) → IsWellFormed k → AreWellFormed us → Suits c s → IsAlive s ss
     → Turned (NodeThen c s ss) e (t ∷ record { span = sp; kind = k } ∷ us)
     (behind_anchor_at k (next_id e.anchors) t.span c (record { span = sp; kind = k })
     (machine us r x (s ∷ ss) (noted (Some text) e)))
-unfolding content
+unfolding node_content
 behind_anchor_turned (tokens.Tag handle suffix) sp text t c us r x s ss e h wk w z a =
     tag_behind (resolved e.prefixes handle suffix t.span.start) text handle suffix t sp c us r x s ss e h refl wk w z a
 behind_anchor_turned k sp text t c us r x s ss e h wk w z a =
     content_turned k sp (t ∷ []) (record { anchor = Some text; tag = None }) _ c us r x s ss e wk z
     (anchor_front text t e h) tt a
 
-anchored_turned : (ts : List Piece) (text : List ℕ) (t : Piece) (c : Context) (r : Option Refusal) (x : State)
+anchored_turned : (ts : List Piece) (text : List ℕ) (t : Piece) (c : NodeContext) (r : Option Refusal) (x : State)
     (s : State) (ss : List State) (e : Memory) → t.kind ≡ tokens.Anchor (encode_utf8_all text) → AreWellFormed ts
     → Suits c s → IsAlive s ss
     → Turned (NodeThen c s ss) e (t ∷ ts) (behind_anchor (encode_utf8_all text) t.span c (machine ts r x (s ∷ ss) e))
@@ -304,12 +307,12 @@ anchored_turned (u ∷ us) text t c r x s ss e h w z a =
 
 -- ## Tags
 
-behind_tag_turned : (k : Kind) (sp : Span) (g : Tag) (v : ResolvedTag) (t : Piece) (c : Context) (us : List Piece)
+behind_tag_turned : (k : Kind) (sp : Span) (g : Tag) (v : ResolvedTag) (t : Piece) (c : NodeContext) (us : List Piece)
     (r : Option Refusal) (x : State) (s : State) (ss : List State) (e : Memory) → t.kind ≡ tag_token g
     → resolve e.prefixes g ≡ Some v → IsWellFormed k → AreWellFormed us → Suits c s → IsAlive s ss
     → Turned (NodeThen c s ss) e (t ∷ record { span = sp; kind = k } ∷ us)
     (behind_tag_at k v t.span c (record { span = sp; kind = k }) (machine us r x (s ∷ ss) e))
-unfolding content
+unfolding node_content
 behind_tag_turned (tokens.Anchor name) sp g v t c us r x s ss e h found wk w z a =
     subst (λ (n : List ℕ). Turned (NodeThen c s ss) e (t ∷ record { span = sp; kind = tokens.Anchor n } ∷ us)
     (behind_tag_at (tokens.Anchor n) v t.span c (record { span = sp; kind = tokens.Anchor n })
@@ -322,21 +325,23 @@ behind_tag_turned k sp g v t c us r x s ss e h found wk w z a =
     content_turned k sp (t ∷ []) (record { anchor = None; tag = Some g }) _ c us r x s ss e wk z
     (tag_is e g v t h found) tt a
 
-tagged_from : (ts : List Piece) (g : Tag) (v : ResolvedTag) (t : Piece) (c : Context) (r : Option Refusal) (x : State)
+tagged_from : (ts : List Piece) (g : Tag) (v : ResolvedTag) (t : Piece) (c : NodeContext) (r : Option Refusal)
+    (x : State)
     (s : State) (ss : List State) (e : Memory) → t.kind ≡ tag_token g → resolve e.prefixes g ≡ Some v → AreWellFormed ts
     → Suits c s → IsAlive s ss
     → Turned (NodeThen c s ss) e (t ∷ ts)
-    (take (machine ts r x (s ∷ ss) e) >>= (λ u. behind_tag_at u.0.kind v t.span c u.0 u.1))
+    (taken_token (machine ts r x (s ∷ ss) e) >>= (λ u. behind_tag_at u.0.kind v t.span c u.0 u.1))
 tagged_from [] g v t c r x s ss e h found w z a = tt
 tagged_from (u ∷ us) g v t c r x s ss e h found w z a =
     behind_tag_turned u.kind u.span g v t c us r x s ss e h found w.0 w.2 z a
 
-tagged_turned : (rr : Result ResolvedTag Refusal) (handle suffix : List ℕ) (sp : Span) (ts : List Piece) (c : Context)
+tagged_turned : (rr : Result ResolvedTag Refusal) (handle suffix : List ℕ) (sp : Span) (ts : List Piece)
+    (c : NodeContext)
     (r : Option Refusal) (x : State) (s : State) (ss : List State) (e : Memory)
     → resolved e.prefixes handle suffix sp.start ≡ rr → (tag : Tag) × (tokens.Tag handle suffix ≡ tag_token tag)
     → AreWellFormed ts → Suits c s → IsAlive s ss
     → Turned (NodeThen c s ss) e (record { span = sp; kind = tokens.Tag handle suffix } ∷ ts)
-    (rr >>= (λ tag. take (machine ts r x (s ∷ ss) e) >>= (λ u. behind_tag_at u.0.kind tag sp c u.0 u.1)))
+    (rr >>= (λ tag. taken_token (machine ts r x (s ∷ ss) e) >>= (λ u. behind_tag_at u.0.kind tag sp c u.0 u.1)))
 tagged_turned (Err f) handle suffix sp ts c r x s ss e q g w z a = tt
 tagged_turned (Ok v) handle suffix sp ts c r x s ss e q g w z a =
     let found : Stands e.prefixes handle suffix v = stands e.prefixes handle suffix sp.start v g q in
@@ -345,14 +350,14 @@ tagged_turned (Ok v) handle suffix sp ts c r x s ss e q g w z a =
 
 -- ## Nodes
 
-node_at_turned : (k : Kind) (sp : Span) (c : Context) (ts : List Piece) (r : Option Refusal) (x : State) (s : State)
+node_at_turned : (k : Kind) (sp : Span) (c : NodeContext) (ts : List Piece) (r : Option Refusal) (x : State) (s : State)
     (ss : List State) (e : Memory) → IsWellFormed k → AreWellFormed ts → Suits c s → IsAlive s ss
     → Turned (NodeThen c s ss) e (record { span = sp; kind = k } ∷ ts)
     (node_at k c (record { span = sp; kind = k }) (machine ts r x (s ∷ ss) e))
-unfolding alias behind_tag content
+unfolding alias_node behind_tag node_content
 node_at_turned (tokens.Alias name) sp c ts r x s ss e wk w z a =
     subst (λ (n : List ℕ). Turned (NodeThen c s ss) e (record { span = sp; kind = tokens.Alias n } ∷ ts)
-    (alias n sp (machine ts r x (s ∷ ss) e))) (sym wk.1)
+    (alias_node n sp (machine ts r x (s ∷ ss) e))) (sym wk.1)
     (alias_turned (meaning (encode_utf8_all wk.0) e.anchors.ids) wk.0
     (record { span = sp; kind = tokens.Alias (encode_utf8_all wk.0) }) c ts r x s ss e refl refl a)
 node_at_turned (tokens.Anchor name) sp c ts r x s ss e wk w z a =
@@ -372,7 +377,7 @@ node_at_turned k sp c ts r x s ss e wk w z a =
       shape = (refl, refl);
     }) refl a
 
-pub node_turned : (t : Piece) (c : Context) (ts : List Piece) (r : Option Refusal) (x : State) (s : State)
+pub node_turned : (t : Piece) (c : NodeContext) (ts : List Piece) (r : Option Refusal) (x : State) (s : State)
     (ss : List State) (e : Memory) → AreWellFormed (t ∷ ts) → Suits c s → IsAlive s ss
     → Turned (NodeThen c s ss) e (t ∷ ts) (node c t (machine ts r x (s ∷ ss) e))
 unfolding node

@@ -9,7 +9,7 @@ use Rattle.saphyr_scanner.specs.Grammar.Forest as forest
 use Rattle.saphyr_scanner.specs.Grammar.Tokens.{Kind, FlowSequenceEnd, FlowEntry, Key, Value}
 use Rattle.saphyr_scanner.specs.Views.Tokens.{Piece}
 use Rattle.saphyr_scanner.specs.Grammar.TokenGrammar.{InFlow, YieldsNode, YieldsPairEntry, YieldsSinglePair, YieldFlowEntries, YieldOtherFlowEntries}
-use Rattle.saphyr_parser.specs.declared.parser.context.Context.TheVariants.{Flow}
+use Rattle.saphyr_parser.specs.declared.parser.context.NodeContext.TheVariants.{Flow}
 use Rattle.saphyr_parser.specs.declared.parser.state.State.{State}
 use Rattle.saphyr_parser.specs.declared.parser.state.State.TheVariants as state
 use Rattle.saphyr_parser.specs.Preorder.{Part, CloseSequence, OpenMapping, CloseMapping, node_parts}

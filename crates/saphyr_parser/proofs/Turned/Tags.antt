@@ -14,7 +14,7 @@ use Rattle.saphyr_scalar.specs.declared.scalar.fault.FaultText.TheVariants as fa
 use Rattle.saphyr_scalar.proofs.Properties.TagsRead as scalar
 use Rattle.saphyr_scanner.specs.Grammar.Forest.{Handle, Primary, Secondary, Named, handle_bytes, Tag, NonSpecific, Verbatim, Shorthand}
 use Rattle.saphyr_scanner.specs.Grammar.Tokens as tokens
-use Rattle.saphyr_scanner.specs.Grammar.Tokens.{Kind, tag_token}
+use Rattle.saphyr_scanner.specs.Grammar.Tokens.{tag_token}
 use Rattle.saphyr_parser.specs.Events.{ResolvedTag}
 use Rattle.saphyr_parser.specs.Steps.Machine.{◌>>=◌, Names, meaning}
 use Rattle.saphyr_parser.specs.Steps.Tags.{is_named_handle, undeclared, declared_or, declared_prefix, resolved}

@@ -6,13 +6,13 @@ use Rattle.saphyr_scalar.specs.declared.scalar.position.Marker.{Marker}
 use Rattle.saphyr_scalar.specs.declared.scalar.position.Span.{Span}
 use Rattle.saphyr_scalar.specs.declared.scalar.fault.Refusal.{Refusal}
 use Rattle.saphyr_scanner.specs.Views.Tokens.{Piece}
-use Rattle.saphyr_parser.specs.declared.parser.context.Context.TheVariants.{Block}
+use Rattle.saphyr_parser.specs.declared.parser.context.NodeContext.TheVariants.{Block}
 use Rattle.saphyr_parser.specs.declared.parser.state.State.{State}
 use Rattle.saphyr_parser.specs.declared.parser.state.State.TheVariants as state
 use Rattle.saphyr_parser.specs.Events.{Happening}
 use Rattle.saphyr_parser.specs.Steps.Machine.{Machine, Told}
-use Rattle.saphyr_parser.specs.Steps.Expected.{block_node, step, step_at}
-use Rattle.saphyr_parser.specs.Answer.{Answer, Ending, deliver, ending_of, unless_ended, run, weight_before}
+use Rattle.saphyr_parser.specs.Steps.Expected.{block_node, event_step, event_step_at}
+use Rattle.saphyr_parser.specs.Answer.{Answer, Ending, deliver, ending_of, unless_ended, answer_of_steps, weight_before}
 use Rattle.saphyr_parser.proofs.Walk.Steps.{Walk, HasPlace, Of, Stands, Gives, taken}
 use Rattle.saphyr_parser.proofs.Walk.Nodes.{nodes}
 use Rattle.saphyr_parser.proofs.Walk.Block as block
@@ -25,7 +25,7 @@ module _ (w : Walk) where
   block_nodes m a = taken w m _ a (λ t k b. nodes w Block t k (omega arith) b)
 
   pub steps_at : {low : Marker} (s : State) (m : Machine) → s ≢ state.End → HasPlace w.Spans s
-      → Of w low (9 + weight_before s m.tokens.pieces) m → Gives w (step_at s m)
+      → Of w low (9 + weight_before s m.tokens.pieces) m → Gives w (event_step_at s m)
   steps_at state.StreamStart m n p a = document.stream_starts w m a
   steps_at state.ImplicitDocumentStart m n p a = document.implicit_starts w m a
   steps_at state.DocumentStart m n p a = document.explicit_starts w m a
@@ -82,13 +82,13 @@ module _ (w : Walk) where
         fault = rest.fault;
       }
 
-  pub runs : Resumes → (n : ℕ) (m : Machine) → Stands w m → Holds (run n m)
-  unfolding step
+  pub runs : Resumes → (n : ℕ) (m : Machine) → Stands w m → Holds (answer_of_steps n m)
+  unfolding event_step
   runs go zero m s = nothing
   runs go (suc n) m s =
       unless_over m.state _ (λ alive.
       let a : (low : Marker) × w.Ahead low _ m.tokens.refusal m.tokens.pieces =
       go m.state _ _ m.tokens.refusal m.tokens.pieces alive s.rests in
-      delivers (step m) _
+      delivers (event_step m) _
       (steps_at m.state m alive s.place (record { pieces = a.1; places = s.places }))
       (λ k t. runs go n k t))

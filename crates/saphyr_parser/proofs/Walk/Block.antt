@@ -5,10 +5,10 @@ use Rattle.saphyr_scalar.specs.declared.scalar.position.Marker.{Marker}
 use Rattle.saphyr_scalar.specs.declared.scalar.position.Span.{Span}
 use Rattle.saphyr_scanner.specs.Grammar.Tokens.{Kind, BlockEnd, BlockEntry, Key, Value}
 use Rattle.saphyr_scanner.specs.Views.Tokens.{Piece}
-use Rattle.saphyr_parser.specs.declared.parser.context.Context.TheVariants.{Block, BlockMapping}
+use Rattle.saphyr_parser.specs.declared.parser.context.NodeContext.TheVariants.{Block, BlockMapping}
 use Rattle.saphyr_parser.specs.declared.parser.state.State.TheVariants as state
-use Rattle.saphyr_parser.specs.Steps.Machine.{◌>>=◌, Machine, put_back, take_from, with_pieces, left_out_event}
-use Rattle.saphyr_parser.specs.Steps.Block.{sequence_node, sequence_node_at, sequence_entry, sequence_entry_at, indentless_node, indentless_node_at, indentless_entry, indentless_entry_at, key_node, key_node_at, mapping_key, mapping_key_at, value_node, value_node_at, mapping_value, mapping_value_at}
+use Rattle.saphyr_parser.specs.Steps.Machine.{◌>>=◌, Machine, put_back, taken_token_from, with_pieces, left_out_event}
+use Rattle.saphyr_parser.specs.Steps.Block.{sequence_node, sequence_node_at, sequence_entry, sequence_entry_at, indentless_node, indentless_node_at, indentless_entry, indentless_entry_at, block_key_node, block_key_node_at, mapping_key, mapping_key_at, block_value_node, block_value_node_at, block_mapping_value, block_mapping_value_at}
 use Rattle.saphyr_parser.specs.Answer.{is_value, begins_with_value}
 use Rattle.saphyr_parser.proofs.Walk.Steps.{Walk, On, Of, Taken, Gives, own, refused, first, put, behind, left, leaves_out, taken}
 use Rattle.saphyr_parser.proofs.Walk.Nodes.{insides}
@@ -62,14 +62,14 @@ module _ (w : Walk) where
 
   -- ## Mappings
 
-  key_nodes_at : (k : Kind) (t : Piece) (m : Machine) → Taken w 13 k t m → Gives w (key_node_at k t m)
+  key_nodes_at : (k : Kind) (t : Piece) (m : Machine) → Taken w 13 k t m → Gives w (block_key_node_at k t m)
   key_nodes_at Key t m a = leaves_out w t state.BlockMappingValue t.span m tt (omega arith) (own w m a) a
   key_nodes_at Value t m a = leaves_out w t state.BlockMappingValue t.span m tt (omega arith) (own w m a) a
   key_nodes_at BlockEnd t m a = leaves_out w t state.BlockMappingValue t.span m tt (omega arith) (own w m a) a
   key_nodes_at _ t m a = insides w state.BlockMappingValue BlockMapping t m tt (omega arith) a
 
-  key_nodes : {low : Marker} (m : Machine) → Of w low 13 m → Gives w (key_node m)
-  unfolding key_node
+  key_nodes : {low : Marker} (m : Machine) → Of w low 13 m → Gives w (block_key_node m)
+  unfolding block_key_node
   key_nodes m a = taken w m _ a (λ t k b. key_nodes_at t.kind t k b)
 
   -- a key that is left out before a value takes more of the room
@@ -82,7 +82,7 @@ module _ (w : Walk) where
 
   keys_from : {low : Marker} (ts : List Piece) (m : Machine)
       → On w low (9 + (if begins_with_value ts then 3 else 1)) m.tokens.refusal ts m.states
-      → Gives w (take_from ts m >>= (λ t. mapping_key_at t.0.kind t.0 t.1))
+      → Gives w (taken_token_from ts m >>= (λ t. mapping_key_at t.0.kind t.0 t.1))
   keys_from [] m a = w.nothing _ _ _ a.pieces
   keys_from (t ∷ ts) m a = mapping_keys_at t.kind t (with_pieces ts m) (first w t ts m a)
 
@@ -92,15 +92,15 @@ module _ (w : Walk) where
   mapping_keys m a = keys_from m.tokens.pieces m a
 
   value_nodes_at : (k : Kind) (s : Span) (t : Piece) (m : Machine) → w.Spans s.start s.end → Taken w 14 k t m
-      → Gives w (value_node_at k s t m)
+      → Gives w (block_value_node_at k s t m)
   value_nodes_at Key s t m i a = leaves_out w t state.BlockMappingKey s m tt (omega arith) i a
   value_nodes_at Value s t m i a = leaves_out w t state.BlockMappingKey s m tt (omega arith) i a
   value_nodes_at BlockEnd s t m i a = leaves_out w t state.BlockMappingKey s m tt (omega arith) i a
   value_nodes_at _ s t m i a = insides w state.BlockMappingKey BlockMapping t m tt (omega arith) a
 
   value_nodes : {low : Marker} (s : Span) (m : Machine) → w.Spans s.start s.end → Of w low 14 m
-      → Gives w (value_node s m)
-  unfolding value_node
+      → Gives w (block_value_node s m)
+  unfolding block_value_node
   value_nodes s m i a = taken w m _ a (λ t k b. value_nodes_at t.kind s t k i b)
 
   -- a key behind a token that is no value
@@ -115,10 +115,10 @@ module _ (w : Walk) where
     },
   )
 
-  mapping_values_at : (k : Kind) (t : Piece) (m : Machine) → Taken w 11 k t m → Gives w (mapping_value_at k t m)
+  mapping_values_at : (k : Kind) (t : Piece) (m : Machine) → Taken w 11 k t m → Gives w (block_mapping_value_at k t m)
   mapping_values_at Value t m a = value_nodes t.span m (own w m a) (behind w m refl (omega arith) a)
   mapping_values_at _ t m a = left_key t m refl a
 
-  pub mapping_values : {low : Marker} (m : Machine) → Of w low 11 m → Gives w (mapping_value m)
-  unfolding mapping_value
+  pub mapping_values : {low : Marker} (m : Machine) → Of w low 11 m → Gives w (block_mapping_value m)
+  unfolding block_mapping_value
   mapping_values m a = taken w m _ a (λ t k b. mapping_values_at t.kind t k b)

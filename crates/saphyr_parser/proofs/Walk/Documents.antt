@@ -6,10 +6,10 @@ use Rattle.saphyr_scalar.specs.declared.scalar.fault.Refusal.{Refusal}
 use Rattle.saphyr_scanner.specs.Grammar.Tokens as tokens
 use Rattle.saphyr_scanner.specs.Grammar.Tokens.{Kind}
 use Rattle.saphyr_scanner.specs.Views.Tokens.{Piece}
-use Rattle.saphyr_parser.specs.declared.parser.context.Context.TheVariants.{Block}
+use Rattle.saphyr_parser.specs.declared.parser.context.NodeContext.TheVariants.{Block}
 use Rattle.saphyr_parser.specs.declared.parser.state.State.TheVariants as state
-use Rattle.saphyr_parser.specs.Steps.Machine.{◌>>=◌, Machine, Told, Names, take, take_from, with_pieces, put_back, push, is_listed}
-use Rattle.saphyr_parser.specs.Steps.Documents.{pass, pass_from, is_mark, is_end_or_mark, Declared, none_declared, is_directive, directive_at, directives, directives_from, stream_start, stream_start_at, forget_anchors, explicit_at, explicit_document, bare_document, implicit_start_at, implicit_start, explicit_start_at, explicit_start, no_content, content_at, document_content, behind_marks_at, behind_marks, behind_document_at, behind_document, forget_prefixes, document_end_at, document_end}
+use Rattle.saphyr_parser.specs.Steps.Machine.{◌>>=◌, Machine, Told, Names, taken_token, taken_token_from, with_pieces, put_back, push, is_listed}
+use Rattle.saphyr_parser.specs.Steps.Documents.{unpassed_token, unpassed_token_from, is_mark, is_end_or_mark, Declared, none_declared, is_directive, directive_at, directives, directives_from, stream_start, stream_start_at, forget_anchors, explicit_at, explicit_document, bare_document, implicit_start_at, implicit_start, explicit_start_at, explicit_start, no_content, document_content_at, document_content, behind_marks_at, behind_marks, behind_document_at, behind_document, forget_prefixes, document_end_at, document_end}
 use Rattle.saphyr_parser.proofs.Walk.Steps.{Walk, is_end, On, Of, Taken, Gives, own, refused, first, less, behind, pushed, entered, left, over, taken}
 use Rattle.saphyr_parser.proofs.Walk.Nodes.{nodes}
 
@@ -51,7 +51,7 @@ module _ (w : Walk) where
 
   passes : {low : Marker} (d : ℕ) (passed : Kind → Bool) (ts : List Piece) (m : Machine)
       → ((k : Kind) → passed k ≡ true → is_end k ≡ false) → On w low d m.tokens.refusal ts m.states
-      → Hands d (pass_from passed ts m)
+      → Hands d (unpassed_token_from passed ts m)
   passes d passed [] m n a = w.nothing _ _ _ a.pieces
   passes d passed (t ∷ ts) m n a =
       either d (passed t.kind) _ _
@@ -60,7 +60,7 @@ module _ (w : Walk) where
       (first w t ts m a).1
 
   takes : {low : Marker} (d : ℕ) (ts : List Piece) (m : Machine) → On w low d m.tokens.refusal ts m.states
-      → Hands d (take_from ts m)
+      → Hands d (taken_token_from ts m)
   takes d [] m a = w.nothing _ _ _ a.pieces
   takes d (t ∷ ts) m a = (first w t ts m a).1
 
@@ -154,9 +154,9 @@ module _ (w : Walk) where
   implicits_at _ t m a = bares t m a
 
   pub implicit_starts : {low : Marker} (m : Machine) → Of w low 13 m → Gives w (implicit_start m)
-  unfolding implicit_start pass
+  unfolding implicit_start unpassed_token
   implicit_starts m a =
-      goes_on 13 (pass_from is_end_or_mark m.tokens.pieces m) _
+      goes_on 13 (unpassed_token_from is_end_or_mark m.tokens.pieces m) _
       (passes 13 is_end_or_mark m.tokens.pieces m no_end_or_mark a) (λ t k b. implicits_at t.kind t k b)
 
   explicit_starts_at : (k : Kind) (t : Piece) (m : Machine) → Taken w 10 k t m → Gives w (explicit_start_at k t m)
@@ -164,9 +164,9 @@ module _ (w : Walk) where
   explicit_starts_at _ t m a = explicits t m a
 
   pub explicit_starts : {low : Marker} (m : Machine) → Of w low 10 m → Gives w (explicit_start m)
-  unfolding explicit_start pass
+  unfolding explicit_start unpassed_token
   explicit_starts m a =
-      goes_on 10 (pass_from is_end_or_mark m.tokens.pieces m) _
+      goes_on 10 (unpassed_token_from is_end_or_mark m.tokens.pieces m) _
       (passes 10 is_end_or_mark m.tokens.pieces m no_end_or_mark a) (λ t k b. explicit_starts_at t.kind t k b)
 
   -- ## The content and the end of documents
@@ -174,7 +174,7 @@ module _ (w : Walk) where
   empties : {k : Kind} (t : Piece) (m : Machine) → Taken w 10 k t m → Gives w (no_content t m)
   empties t m a = (own w m a, left w (put_back t m) a.1)
 
-  contents_at : (k : Kind) (t : Piece) (m : Machine) → Taken w 10 k t m → Gives w (content_at k t m)
+  contents_at : (k : Kind) (t : Piece) (m : Machine) → Taken w 10 k t m → Gives w (document_content_at k t m)
   contents_at (tokens.VersionDirective major minor) t m a = empties t m a
   contents_at (tokens.TagDirective handle prefix) t m a = empties t m a
   contents_at (tokens.ReservedDirective name) t m a = empties t m a
@@ -197,9 +197,9 @@ module _ (w : Walk) where
 
   marks : {low : Marker} (place : Marker) (m : Machine) → w.Spans place place → Of w low 11 m
       → Hands 11 (behind_marks place m)
-  unfolding behind_marks pass
+  unfolding behind_marks unpassed_token
   marks place m p a =
-      hands_on 11 (pass_from is_mark m.tokens.pieces m) _ (passes 11 is_mark m.tokens.pieces m no_mark a)
+      hands_on 11 (unpassed_token_from is_mark m.tokens.pieces m) _ (passes 11 is_mark m.tokens.pieces m no_mark a)
       (λ t k b. marks_at t.kind place t k p b)
 
   behinds_at : (k : Kind) (t : Piece) (m : Machine) → Taken w 11 k t m → Hands 11 (behind_document_at k t m)
@@ -209,7 +209,7 @@ module _ (w : Walk) where
 
   behinds : {low : Marker} (m : Machine) → Of w low 11 m → Hands 11 (behind_document m)
   unfolding behind_document
-  behinds m a = hands_on 11 (take m) _ (takes 11 m.tokens.pieces m a) (λ t k b. behinds_at t.kind t k b)
+  behinds m a = hands_on 11 (taken_token m) _ (takes 11 m.tokens.pieces m a) (λ t k b. behinds_at t.kind t k b)
 
   ends_at : (k : Kind) (t : Piece) (m : Machine) → Taken w 11 k t m → Gives w (document_end_at k t m)
   ends_at tokens.DocumentEnd t m a =

@@ -4,10 +4,10 @@ use Rattle.saphyr_scalar.specs.declared.scalar.position.Marker.{Marker}
 use Rattle.saphyr_scalar.specs.declared.scalar.position.Span.{Span}
 use Rattle.saphyr_scanner.specs.Grammar.Tokens.{Kind, FlowSequenceEnd, FlowMappingEnd, FlowEntry, Key, Value}
 use Rattle.saphyr_scanner.specs.Views.Tokens.{Piece}
-use Rattle.saphyr_parser.specs.declared.parser.context.Context.TheVariants.{Flow}
+use Rattle.saphyr_parser.specs.declared.parser.context.NodeContext.TheVariants.{Flow}
 use Rattle.saphyr_parser.specs.declared.parser.state.State.TheVariants as state
 use Rattle.saphyr_parser.specs.Steps.Machine.{Machine}
-use Rattle.saphyr_parser.specs.Steps.Flow.{entry_at, first_entry, other_entry_at, other_entry, pair_key_at, pair_key, pair_value_node_at, pair_value_node, pair_value_at, pair_value, pair_end, key_node_at, key_node, pair_at, first_pair, pair_behind_comma, other_pair_at, other_pair, value_node_at, value_node, mapping_value_at, mapping_value, empty_value}
+use Rattle.saphyr_parser.specs.Steps.Flow.{entry_at, first_entry, other_entry_at, other_entry, pair_key_at, pair_key, pair_value_node_at, pair_value_node, pair_value_at, pair_value, pair_end, flow_key_node_at, flow_key_node, pair_at, first_pair, pair_behind_comma, other_pair_at, other_pair, flow_value_node_at, flow_value_node, flow_mapping_value_at, flow_mapping_value, empty_value}
 use Rattle.saphyr_parser.proofs.Walk.Steps.{Walk, Of, Taken, Gives, own, refused, behind, entered, left, leaves_out, taken}
 use Rattle.saphyr_parser.proofs.Walk.Nodes.{insides}
 
@@ -82,14 +82,14 @@ module _ (w : Walk) where
 
   -- ## Mappings
 
-  key_nodes_at : (k : Kind) (t : Piece) (m : Machine) → Taken w 12 k t m → Gives w (key_node_at k t m)
+  key_nodes_at : (k : Kind) (t : Piece) (m : Machine) → Taken w 12 k t m → Gives w (flow_key_node_at k t m)
   key_nodes_at Value t m a = leaves_out w t state.FlowMappingValue t.span m tt (omega arith) (own w m a) a
   key_nodes_at FlowEntry t m a = leaves_out w t state.FlowMappingValue t.span m tt (omega arith) (own w m a) a
   key_nodes_at FlowMappingEnd t m a = leaves_out w t state.FlowMappingValue t.span m tt (omega arith) (own w m a) a
   key_nodes_at _ t m a = insides w state.FlowMappingValue Flow t m tt (omega arith) a
 
-  key_nodes : {low : Marker} (m : Machine) → Of w low 12 m → Gives w (key_node m)
-  unfolding key_node
+  key_nodes : {low : Marker} (m : Machine) → Of w low 12 m → Gives w (flow_key_node m)
+  unfolding flow_key_node
   key_nodes m a = taken w m _ a (λ t k b. key_nodes_at t.kind t k b)
 
   pairs_at : (k : Kind) (s : Span) (t : Piece) (m : Machine) → w.Spans s.start s.end → Taken w 12 k t m
@@ -118,22 +118,22 @@ module _ (w : Walk) where
   other_pairs m a = taken w m _ a (λ t k b. other_pairs_at t.kind t k b)
 
   value_nodes_at : (k : Kind) (s : Span) (t : Piece) (m : Machine) → w.Spans s.start s.end → Taken w 11 k t m
-      → Gives w (value_node_at k s t m)
+      → Gives w (flow_value_node_at k s t m)
   value_nodes_at FlowEntry s t m i a = leaves_out w t state.FlowMappingKey s m tt (omega arith) i a
   value_nodes_at FlowMappingEnd s t m i a = leaves_out w t state.FlowMappingKey s m tt (omega arith) i a
   value_nodes_at _ s t m i a = insides w state.FlowMappingKey Flow t m tt (omega arith) a
 
   value_nodes : {low : Marker} (s : Span) (m : Machine) → w.Spans s.start s.end → Of w low 11 m
-      → Gives w (value_node s m)
-  unfolding value_node
+      → Gives w (flow_value_node s m)
+  unfolding flow_value_node
   value_nodes s m i a = taken w m _ a (λ t k b. value_nodes_at t.kind s t k i b)
 
-  mapping_values_at : (k : Kind) (t : Piece) (m : Machine) → Taken w 11 k t m → Gives w (mapping_value_at k t m)
+  mapping_values_at : (k : Kind) (t : Piece) (m : Machine) → Taken w 11 k t m → Gives w (flow_mapping_value_at k t m)
   mapping_values_at Value t m a = value_nodes t.span m (own w m a) (behind w m refl (omega arith) a)
   mapping_values_at _ t m a = leaves_out w t state.FlowMappingKey t.span m tt (omega arith) (own w m a) a
 
-  pub mapping_values : {low : Marker} (m : Machine) → Of w low 11 m → Gives w (mapping_value m)
-  unfolding mapping_value
+  pub mapping_values : {low : Marker} (m : Machine) → Of w low 11 m → Gives w (flow_mapping_value m)
+  unfolding flow_mapping_value
   mapping_values m a = taken w m _ a (λ t k b. mapping_values_at t.kind t k b)
 
   pub empty_values : {low : Marker} (m : Machine) → Of w low 11 m → Gives w (empty_value m)

@@ -9,35 +9,35 @@ use Rattle.saphyr_scalar.specs.declared.scalar.fault.FaultText.TheVariants as fa
 use Rattle.saphyr_scanner.specs.Grammar.Tokens as tokens
 use Rattle.saphyr_scanner.specs.Grammar.Tokens.{Kind}
 use Rattle.saphyr_scanner.specs.Views.Tokens.{Piece}
-use Rattle.saphyr_parser.specs.declared.parser.context.Context.{Context}
-use Rattle.saphyr_parser.specs.declared.parser.context.Context.TheVariants.{Flow, Block, BlockMapping}
+use Rattle.saphyr_parser.specs.declared.parser.context.NodeContext.{NodeContext}
+use Rattle.saphyr_parser.specs.declared.parser.context.NodeContext.TheVariants.{Flow, Block, BlockMapping}
 use Rattle.saphyr_parser.specs.declared.parser.state.State.{State}
 use Rattle.saphyr_parser.specs.declared.parser.state.State.TheVariants as state
 use Rattle.saphyr_parser.specs.Events.{ResolvedTag}
 use Rattle.saphyr_parser.specs.Steps.Machine.{◌>>=◌, Names, meaning, Machine, Told, put_back}
 use Rattle.saphyr_parser.specs.Steps.Tags.{undeclared, declared_or, declared_prefix, resolved, is_named_handle}
-use Rattle.saphyr_parser.specs.Steps.Nodes.{NodeProperties, no_node_properties, has_property, without_content, content, content_at, next_content, alias, alias_of, register, behind_anchor, behind_anchor_at, behind_tag, behind_tag_at, node, node_at, inside}
+use Rattle.saphyr_parser.specs.Steps.Nodes.{NodeProperties, no_node_properties, has_property, without_content, node_content, node_content_at, next_content, alias_node, alias_of, register, behind_anchor, behind_anchor_at, behind_tag, behind_tag_at, node, node_at, node_inside}
 use Rattle.saphyr_parser.specs.Steps.Contexts.{allows_block, allows_indentless}
 use Rattle.saphyr_parser.specs.Answer.{weight}
 use Rattle.saphyr_parser.proofs.Walk.Steps.{Walk, HasPlace, Of, Taken, Gives, own, refused, put, behind, pushed, entered, left, taken_behind}
 
 -- the room before the first token of a node
-abbrev pub room : Context → ℕ
+abbrev pub room : NodeContext → ℕ
 room Flow = 4
 room Block = 4
 room BlockMapping = 11
 
-least : (c : Context) → 4 ≤ room c
+least : (c : NodeContext) → 4 ≤ room c
 least Flow = omega arith
 least Block = omega arith
 least BlockMapping = omega arith
 
-most : (c : Context) → room c ≤ 11
+most : (c : NodeContext) → room c ≤ 11
 most Flow = omega arith
 most Block = omega arith
 most BlockMapping = omega arith
 
-indented : (c : Context) → allows_indentless c ≡ true → 11 ≤ room c
+indented : (c : NodeContext) → allows_indentless c ≡ true → 11 ≤ room c
 indented BlockMapping e = omega arith
 indented _ e = absurd (cc)
 
@@ -91,9 +91,9 @@ module _ (w : Walk) where
       either (has_property p) _ _ (λ e. (s, left w (put_back t m) (put w m (l e) a))) (refused w m a)
 
   -- properties, if there are any, stand before the token
-  contents_at : {d : ℕ} (k : Kind) (p : NodeProperties) (c : Context) (t : Piece) (m : Machine)
+  contents_at : {d : ℕ} (k : Kind) (p : NodeProperties) (c : NodeContext) (t : Piece) (m : Machine)
       → (has_property p ≡ true → 10 ≤ d) → room c ≤ d → w.Spans p.start p.behind → w.Spans p.behind t.span.start
-      → Taken w d k t m → Gives w (content_at k p c t m)
+      → Taken w d k t m → Gives w (node_content_at k p c t m)
   contents_at {d} k p c t m l n s b a = by k a
     where
       up : {k : Kind} → Taken w d k t m → w.Spans p.start t.span.end
@@ -102,7 +102,7 @@ module _ (w : Walk) where
       enough : 4 ≤ d
       enough = let x = least c in omega (arith, x, n)
 
-      by : (k : Kind) → Taken w d k t m → Gives w (content_at k p c t m)
+      by : (k : Kind) → Taken w d k t m → Gives w (node_content_at k p c t m)
       by (tokens.Scalar style text) a = (up a, left w m (behind w m refl (omega arith) a))
       by tokens.FlowSequenceStart a =
           (up a, entered w state.FlowSequenceFirstEntry m tt (behind w m refl (omega (arith, enough)) a))
@@ -127,12 +127,12 @@ module _ (w : Walk) where
       by _ a = no_content p t m l s a
 
   -- behind properties
-  contents : {k : Kind} (p : NodeProperties) (c : Context) (t : Piece) (m : Machine) → w.Spans p.start p.behind
-      → w.Spans p.behind t.span.start → Taken w 11 k t m → Gives w (content p c t m)
-  unfolding content
+  contents : {k : Kind} (p : NodeProperties) (c : NodeContext) (t : Piece) (m : Machine) → w.Spans p.start p.behind
+      → w.Spans p.behind t.span.start → Taken w 11 k t m → Gives w (node_content p c t m)
+  unfolding node_content
   contents p c t m s b a = contents_at t.kind p c t m (λ e. omega arith) (most c) s b (refl, a.1)
 
-  next_contents : (p : NodeProperties) (c : Context) (m : Machine) → w.Spans p.start p.behind → Of w p.behind 11 m
+  next_contents : (p : NodeProperties) (c : NodeContext) (m : Machine) → w.Spans p.start p.behind → Of w p.behind 11 m
       → Gives w (next_content p c m)
   unfolding next_content
   next_contents p c m s a = taken_behind w m _ a (λ t k b a. contents p c t k s b a)
@@ -141,7 +141,7 @@ module _ (w : Walk) where
   aliases None s m i a = w.fails _ _ (w.first _ _ i)
   aliases (Some id) s m i a = (i, left w m a)
 
-  behind_anchors_at : (k : Kind) (id : ℕ) (s : Span) (c : Context) (t : Piece) (m : Machine) → w.Spans s.start s.end
+  behind_anchors_at : (k : Kind) (id : ℕ) (s : Span) (c : NodeContext) (t : Piece) (m : Machine) → w.Spans s.start s.end
       → w.Spans s.end t.span.start → Taken w 11 k t m → Gives w (behind_anchor_at k id s c t m)
   behind_anchors_at (tokens.Tag handle suffix) id s c t m i b a =
       then_gives (resolved m.prefixes handle suffix s.start) _
@@ -149,20 +149,20 @@ module _ (w : Walk) where
       (λ v. next_contents _ c m (w.joined _ _ _ i (w.joined _ _ _ b (own w m a))) (behind w m refl (omega arith) a))
   behind_anchors_at _ id s c t m i b a = contents _ c t m i b a
 
-  behind_anchors : (name : List ℕ) (s : Span) (c : Context) (m : Machine) → w.Spans s.start s.end → Of w s.end 11 m
+  behind_anchors : (name : List ℕ) (s : Span) (c : NodeContext) (m : Machine) → w.Spans s.start s.end → Of w s.end 11 m
       → Gives w (behind_anchor name s c m)
   unfolding behind_anchor
   behind_anchors name s c m i a =
       taken_behind w (register name m) _ a (λ t k b a. behind_anchors_at t.kind _ s c t k i b a)
 
-  behind_tags_at : (k : Kind) (v : ResolvedTag) (s : Span) (c : Context) (t : Piece) (m : Machine)
+  behind_tags_at : (k : Kind) (v : ResolvedTag) (s : Span) (c : NodeContext) (t : Piece) (m : Machine)
       → w.Spans s.start s.end → w.Spans s.end t.span.start → Taken w 11 k t m → Gives w (behind_tag_at k v s c t m)
   behind_tags_at (tokens.Anchor name) v s c t m i b a =
       next_contents _ c (register name m) (w.joined _ _ _ i (w.joined _ _ _ b (own w m a)))
       (behind w m refl (omega arith) a)
   behind_tags_at _ v s c t m i b a = contents _ c t m i b a
 
-  behind_tags : (handle suffix : List ℕ) (s : Span) (c : Context) (m : Machine) → w.Spans s.start s.end
+  behind_tags : (handle suffix : List ℕ) (s : Span) (c : NodeContext) (m : Machine) → w.Spans s.start s.end
       → Of w s.end 11 m → Gives w (behind_tag handle suffix s c m)
   unfolding behind_tag
   behind_tags handle suffix s c m i a =
@@ -172,9 +172,9 @@ module _ (w : Walk) where
 
   -- ## Nodes
 
-  nodes_at : {d : ℕ} (k : Kind) (c : Context) (t : Piece) (m : Machine) → room c ≤ d → Taken w d k t m
+  nodes_at : {d : ℕ} (k : Kind) (c : NodeContext) (t : Piece) (m : Machine) → room c ≤ d → Taken w d k t m
       → Gives w (node_at k c t m)
-  unfolding alias content
+  unfolding alias_node node_content
   nodes_at (tokens.Alias name) c t m n a =
       aliases (meaning name m.anchors.ids) t.span m (own w m a) (behind w m refl (omega arith) a)
   nodes_at (tokens.Anchor name) c t m n a =
@@ -187,11 +187,11 @@ module _ (w : Walk) where
       let s : w.Spans t.span.start t.span.start = w.first _ _ (own w m a) in
       contents_at t.kind (no_node_properties t.span.start) c t m (λ e. absurd (cc)) n s s (refl, a.1)
 
-  pub nodes : {d : ℕ} {k : Kind} (c : Context) (t : Piece) (m : Machine) → room c ≤ d → Taken w d k t m
+  pub nodes : {d : ℕ} {k : Kind} (c : NodeContext) (t : Piece) (m : Machine) → room c ≤ d → Taken w d k t m
       → Gives w (node c t m)
   unfolding node
   nodes c t m n a = nodes_at t.kind c t m n (refl, a.1)
 
-  pub insides : {d : ℕ} {k : Kind} (s : State) (c : Context) (t : Piece) (m : Machine) → HasPlace w.Spans s
-      → weight s + room c ≤ d → Taken w d k t m → Gives w (inside s c t m)
+  pub insides : {d : ℕ} {k : Kind} (s : State) (c : NodeContext) (t : Piece) (m : Machine) → HasPlace w.Spans s
+      → weight s + room c ≤ d → Taken w d k t m → Gives w (node_inside s c t m)
   insides s c t m p l a = nodes c t _ (omega arith) (a.0, pushed w s p l a.1)

@@ -10,7 +10,7 @@ use Rattle.saphyr_scanner.specs.Grammar.Tokens.{Kind}
 use Rattle.saphyr_scanner.specs.Views.Tokens.{Piece}
 use Rattle.saphyr_parser.specs.declared.parser.state.State.{State}
 use Rattle.saphyr_parser.specs.declared.parser.state.State.TheVariants as state
-use Rattle.saphyr_parser.specs.Steps.Machine.{◌>>=◌, Machine, Told, ending, take, take_from, with_pieces, put_back, pop, popped, enter, left_out_event}
+use Rattle.saphyr_parser.specs.Steps.Machine.{◌>>=◌, Machine, Told, ending_refusal, taken_token, taken_token_from, with_pieces, put_back, pop, popped, with_state, left_out_event}
 use Rattle.saphyr_parser.specs.Answer.{weight, weight_before, begins_with_value, total_weight}
 
 abbrev pub is_end : Kind → Bool
@@ -32,7 +32,7 @@ pub record Walk : Type 1 where
   pub first : (a b : Marker) → Spans a b → Spans a a
   pub last : (a b : Marker) → Spans a b → Spans b b
   pub fails : (text : FaultText) (a : Marker) → Spans a a → Fails (record { text = text; mark = a })
-  pub nothing : (low : Marker) (d : ℕ) (r : Option Refusal) → Ahead low d r [] → Fails (ending r)
+  pub nothing : (low : Marker) (d : ℕ) (r : Option Refusal) → Ahead low d r [] → Fails (ending_refusal r)
   pub own : (low : Marker) (d : ℕ) (r : Option Refusal) (t : Piece) (ts : List Piece) → Ahead low d r (t ∷ ts)
       → Spans low t.span.start × Spans t.span.start t.span.end
   pub from_start : (low : Marker) (d : ℕ) (r : Option Refusal) (t : Piece) (ts : List Piece) → Ahead low d r (t ∷ ts)
@@ -129,7 +129,7 @@ module _ (w : Walk) where
   -- ## What a step leaves
 
   pub entered : {low : Marker} (s : State) (m : Machine) → HasPlace w.Spans s → Of w low (10 + weight s) m
-      → Stands w (enter s m)
+      → Stands w (with_state s m)
   entered {low} s m p a = record {
     place = p;
     places =
@@ -154,7 +154,7 @@ module _ (w : Walk) where
   left m a = pops m.states m a
 
   -- the stream has ended
-  pub over : {d : ℕ} {t : Piece} (m : Machine) → Taken w d tokens.StreamEnd t m → Stands w (enter state.End m)
+  pub over : {d : ℕ} {t : Piece} (m : Machine) → Taken w d tokens.StreamEnd t m → Stands w (with_state state.End m)
   over {d} {t} m a = record {
     place = tt;
     places =
@@ -172,16 +172,16 @@ module _ (w : Walk) where
   taken_from : {low : Marker} {d : ℕ} (ts : List Piece) (m : Machine) (go : Piece × Machine → Result Told Refusal)
       → On w low d m.tokens.refusal ts m.states
       → ((t : Piece) (k : Machine) → w.Spans low t.span.start → Taken w d t.kind t k → Gives w (go (t, k)))
-      → Gives w (take_from ts m >>= go)
+      → Gives w (taken_token_from ts m >>= go)
   taken_from [] m go a h = w.nothing _ _ _ a.pieces
   taken_from (t ∷ ts) m go a h = h t (with_pieces ts m) (w.own _ _ _ t ts a.pieces).0 (first t ts m a)
 
   pub taken_behind : {low : Marker} {d : ℕ} (m : Machine) (go : Piece × Machine → Result Told Refusal)
       → Of w low d m
       → ((t : Piece) (k : Machine) → w.Spans low t.span.start → Taken w d t.kind t k → Gives w (go (t, k)))
-      → Gives w (take m >>= go)
+      → Gives w (taken_token m >>= go)
   taken_behind m go a h = taken_from m.tokens.pieces m go a h
 
   pub taken : {low : Marker} {d : ℕ} (m : Machine) (go : Piece × Machine → Result Told Refusal) → Of w low d m
-      → ((t : Piece) (k : Machine) → Taken w d t.kind t k → Gives w (go (t, k))) → Gives w (take m >>= go)
+      → ((t : Piece) (k : Machine) → Taken w d t.kind t k → Gives w (go (t, k))) → Gives w (taken_token m >>= go)
   taken m go a h = taken_behind m go a (λ t k b c. h t k c)

@@ -8,9 +8,9 @@ use Rattle.saphyr_parser.specs.Events as events
 use Rattle.saphyr_parser.specs.Events.{Happening}
 use Rattle.saphyr_parser.specs.EventsTaken.{IsCut, AreTaken}
 use Rattle.saphyr_parser.specs.ForestEvents as telling
-use Rattle.saphyr_parser.specs.ForestEvents.{event_of, before_all, events_behind}
+use Rattle.saphyr_parser.specs.ForestEvents.{event_of_part, before_all, events_behind}
 use Rattle.saphyr_parser.specs.Preorder.{Part, OpenStream, CloseStream, OpenDocument, CloseDocument, Reference, Leaf, OpenSequence, CloseSequence, OpenMapping, CloseMapping, node_parts, entry_parts, pair_parts, document_parts}
-use Rattle.saphyr_parser.specs.Examples.WrongAnswers.{IsNoEnd, HasNoEnd, EndsSo, EndsWithStreamEnd}
+use Rattle.saphyr_parser.specs.Examples.WrongAnswers.{IsNoStreamEnd, HasNoStreamEnd, EndsSo, EndsWithStreamEnd}
 
 -- ## Parts
 
@@ -64,18 +64,19 @@ documents_inner (d ∷ ds) =
 
 abbrev NoEnds : List Happening → Type 0
 NoEnds [] = Unit {0}
-NoEnds (w ∷ ws) = IsNoEnd w × NoEnds ws
+NoEnds (w ∷ ws) = IsNoStreamEnd w × NoEnds ws
 
-mapped : {X : Type 0} (o : Option X) (make : X → Happening) (w : Happening) → ((x : X) → IsNoEnd (make x))
-    → option_map make o ≡ Some w → IsNoEnd w
+mapped : {X : Type 0} (o : Option X) (make : X → Happening) (w : Happening) → ((x : X) → IsNoStreamEnd (make x))
+    → option_map make o ≡ Some w → IsNoStreamEnd w
 mapped None make w h e = absurd (cc)
-mapped (Some x) make w h e = let same : make x ≡ w = cc in subst IsNoEnd same (h x)
+mapped (Some x) make w h e = let same : make x ≡ w = cc in subst IsNoStreamEnd same (h x)
 
-is_event : (v w : Happening) → IsNoEnd v → (let o : Option Happening = Some v in o ≡ Some w) → IsNoEnd w
-is_event v w h e = let same : v ≡ w = cc in subst IsNoEnd same h
+is_event : (v w : Happening) → IsNoStreamEnd v → (let o : Option Happening = Some v in o ≡ Some w) → IsNoStreamEnd w
+is_event v w h e = let same : v ≡ w = cc in subst IsNoStreamEnd same h
 
-event_no_end : (keep : Bool) (front : List Part) (p : Part) (w : Happening) → IsInner p → event_of keep front p ≡ Some w
-    → IsNoEnd w
+event_no_end : (keep : Bool) (front : List Part) (p : Part) (w : Happening) → IsInner p
+    → event_of_part keep front p ≡ Some w
+    → IsNoStreamEnd w
 event_no_end keep front OpenStream w i e = is_event events.StreamStart w tt e
 event_no_end keep front CloseStream w i e = absurd i
 event_no_end keep front (OpenDocument explicit directives) w i e = is_event (events.DocumentStart explicit) w tt e
@@ -103,7 +104,7 @@ parts_close : (keep : Bool) (front : List Part) (ps : List Part) (es : List Happ
     → events_behind keep front (ps ++ CloseStream ∷ []) ≡ Some es → Closes es
 parts_close keep front [] es i e = record { front = []; are = cc; none = tt }
 parts_close keep front (p ∷ ps) es i e =
-    let w = before_some (event_of keep front p) (events_behind keep (p ∷ front) (ps ++ CloseStream ∷ [])) es e in
+    let w = before_some (event_of_part keep front p) (events_behind keep (p ∷ front) (ps ++ CloseStream ∷ [])) es e in
     let c = parts_close keep (p ∷ front) ps w.1 i.1 w.3 in
     record {
       front = w.0 ∷ c.front;
@@ -131,17 +132,17 @@ whole_ends [] (w ∷ front) e n = absurd (cc)
 whole_ends (x ∷ []) [] e n =
     let first : x.0 ≡ events.StreamEnd = cc in
     let P : Happening → Type 0 = λ w. (front : List (Happening × Span)) × (span : Span)
-    × ((w, x.1) ∷ [] ≡ front ++ (events.StreamEnd, span) ∷ []) × HasNoEnd front in
+    × ((w, x.1) ∷ [] ≡ front ++ (events.StreamEnd, span) ∷ []) × HasNoStreamEnd front in
     subst P (sym first) ([], x.1, refl, tt)
 whole_ends (x ∷ y ∷ es) [] e n = absurd (cc)
 whole_ends (x ∷ es) (w ∷ front) e n =
     let first : x.0 ≡ w = cc in
     let more : happenings es ≡ front ++ events.StreamEnd ∷ [] = cc in
     let r = whole_ends es front more n.1 in
-    (x ∷ r.0, r.1, ap (λ l. x ∷ l) r.2, (subst IsNoEnd (sym first) n.0, r.3))
+    (x ∷ r.0, r.1, ap (λ l. x ∷ l) r.2, (subst IsNoStreamEnd (sym first) n.0, r.3))
 
 cut_ends : (es : List (Happening × Span)) (missing front : List Happening)
-    → happenings es ++ missing ≡ front ++ events.StreamEnd ∷ [] → missing ≢ [] → NoEnds front → HasNoEnd es
+    → happenings es ++ missing ≡ front ++ events.StreamEnd ∷ [] → missing ≢ [] → NoEnds front → HasNoStreamEnd es
 cut_ends [] missing front e m n = tt
 cut_ends (x ∷ es) missing [] e m n = absurd (let over : happenings es ++ missing ≡ [] = cc in none es over)
   where
@@ -151,7 +152,7 @@ cut_ends (x ∷ es) missing [] e m n = absurd (let over : happenings es ++ missi
 cut_ends (x ∷ es) missing (w ∷ front) e m n =
     let first : x.0 ≡ w = cc in
     let more : happenings es ++ missing ≡ front ++ events.StreamEnd ∷ [] = cc in
-    (subst IsNoEnd (sym first) n.0, cut_ends es missing front more m n.1)
+    (subst IsNoStreamEnd (sym first) n.0, cut_ends es missing front more m n.1)
 
 ends_so : (fault : Option Ending) (es : List (Happening × Span)) (missing : List Happening)
     → Closes (happenings es ++ missing) → IsCut fault missing → EndsSo fault es

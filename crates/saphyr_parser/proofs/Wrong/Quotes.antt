@@ -2,16 +2,16 @@
 use Rattle.std.proofs.Common.{◌≡◌, ◌⊎◌, ℕ, Bool, true, false, List, [], ◌∷◌, ◌++◌, drop, slice_index, refl, sym, ap, ◌∙◌, arith, inl, inr, codes}
 use Rattle.saphyr_input.specs.Classes.{is_break}
 use Rattle.saphyr_input.specs.Places.{is_document_indicator}
-use Rattle.saphyr_scalar.specs.declared.reading.folding.Item.{Item}
-use Rattle.saphyr_scalar.specs.declared.reading.flow.Quote.{Quote}
-use Rattle.saphyr_scalar.specs.declared.reading.flow.Quote.TheVariants.{Single, Double}
+use Rattle.scalar_values.specs.declared.folding.Item.{Item}
+use Rattle.scalar_values.specs.declared.flow.Quote.{Quote}
+use Rattle.scalar_values.specs.declared.flow.Quote.TheVariants.{Single, Double}
 use Rattle.saphyr_scalar.specs.declared.scalar.style.ScalarStyle.TheVariants.{DoubleQuoted}
 use Rattle.saphyr_scalar.specs.Views.Cursor.{fresh}
-use Rattle.saphyr_scalar.specs.Reading.Flow.{mark}
+use Rattle.scalar_values.specs.Flow.{mark}
 use Rattle.saphyr_scalar.specs.Steps.Quoted.{break_len}
 use Rattle.saphyr_scalar.specs.Spelling.QuotedMarkers.{HasNoMarker}
 use Rattle.saphyr_scalar.specs.Spelling.Quoted.{IsText, closed, itself, broken, two_quotes, escaped, numbered, escaped_break, stands_for_itself}
-use Rattle.saphyr_scanner.specs.Examples.TakenTexts.{at}
+use Rattle.saphyr_scanner.specs.Examples.TakenTexts.{marker_at}
 use Rattle.saphyr_scanner.proofs.Beginnings.{heads, tails}
 use Rattle.saphyr_scanner.proofs.Wrong.Standing.{reached_behind, one_place}
 use Rattle.saphyr_parser.specs.EventsTaken.{AreTaken}
@@ -85,7 +85,8 @@ pub marker_in_quotes : (keep : Bool) → AreTaken keep (codes "\"a\n--- b\"") wr
 marker_in_quotes keep t = by (owned keep (codes "\"a\n--- b\"") wrong.marker_in_quotes t).1.1.0
   where
     by : (codes "a --- b" ≡ [])
-        ⊎ OwnScalar (codes "\"a\n--- b\"") (codes "a --- b") DoubleQuoted (record { start = at 0 1 0; end = at 9 2 6 })
+        ⊎ OwnScalar (codes "\"a\n--- b\"") (codes "a --- b") DoubleQuoted
+        (record { start = marker_at 0 1 0; end = marker_at 9 2 6 })
         → ⊥
     by (inl e) = cc
     by (inr o) =

@@ -4,11 +4,11 @@ use Rattle.std.specs.Prelude.{slice_index}
 use Rattle.saphyr_scalar.specs.declared.scalar.position.Marker.{Marker}
 use Rattle.saphyr_scalar.specs.declared.scalar.position.Span.{Span}
 use Rattle.saphyr_scalar.specs.declared.scalar.style.ScalarStyle.TheVariants.{Plain, Literal}
-use Rattle.saphyr_scalar.specs.declared.reading.block.BlockStyle.TheVariants as block_style
+use Rattle.scalar_values.specs.declared.block.BlockStyle.TheVariants as block_style
 use Rattle.saphyr_scalar.specs.Reading.BlockText.{AreInside}
 use Rattle.saphyr_input.specs.Classes.{is_break}
 use Rattle.saphyr_scalar.specs.Views.Cursor.{fresh}
-use Rattle.saphyr_scanner.specs.Examples.TakenTexts.{at}
+use Rattle.saphyr_scanner.specs.Examples.TakenTexts.{marker_at}
 use Rattle.saphyr_scanner.specs.TokensTaken as taken
 use Rattle.saphyr_scanner.specs.TokensTaken.{IsReached, IsPlaceOf}
 use Rattle.saphyr_scanner.proofs.Reached.{reached_counted}
@@ -61,20 +61,22 @@ marker_inside keep t = by (owned keep (codes "--- |\na\n---\nb\n") wrong.marker_
   where
     by : (codes "a\n---\nb\n" ≡ [])
         ⊎ OwnScalar (codes "--- |\na\n---\nb\n") (codes "a\n---\nb\n") Literal
-        (record { start = at 6 2 0; end = at 14 5 0 }) → ⊥
+        (record { start = marker_at 6 2 0; end = marker_at 14 5 0 }) → ⊥
     by (inl e) = cc
     by (inr o) = marker_refused
         (literal_lines (codes "--- ") (codes "a\n---\nb\n") (codes "a\n---\nb\n")
-        (record { start = at 6 2 0; end = at 14 5 0 }) o refl refl refl)
+        (record { start = marker_at 6 2 0; end = marker_at 14 5 0 }) o refl refl refl)
 
 pub nul_inside : (keep : Bool) → AreTaken keep (codes "|\n a\0b\n") wrong.nul_inside → ⊥
 nul_inside keep t = by (owned keep (codes "|\n a\0b\n") wrong.nul_inside t).1.1.0
   where
     by : (codes "a\0b\n" ≡ [])
-        ⊎ OwnScalar (codes "|\n a\0b\n") (codes "a\0b\n") Literal (record { start = at 3 2 1; end = at 7 3 0 }) → ⊥
+        ⊎ OwnScalar (codes "|\n a\0b\n") (codes "a\0b\n") Literal
+        (record { start = marker_at 3 2 1; end = marker_at 7 3 0 }) → ⊥
     by (inl e) = cc
     by (inr o) = nul_refused
-        (literal_lines [] (codes " a\0b\n") (codes "a\0b\n") (record { start = at 3 2 1; end = at 7 3 0 }) o refl refl
+        (literal_lines [] (codes " a\0b\n") (codes "a\0b\n")
+        (record { start = marker_at 3 2 1; end = marker_at 7 3 0 }) o refl refl
         refl)
 
 -- ## Faults behind the end, and no end
@@ -99,7 +101,7 @@ first_place _ _ n u (taken.mark m t _ _ f p) e = absurd (cc)
 first_place _ t n u (taken.line_break m _ _ _ f p) e =
     absurd (let k : is_break 0 ≡ true = sym (ap (λ l. is_break (slice_index l 0)) e) ∙ f in cc)
 
-no_place : IsPlaceOf [] (at 0 9 9) → ⊥
+no_place : IsPlaceOf [] (marker_at 0 9 9) → ⊥
 no_place (s, reached, inl e, l) =
     let k = first_place (fresh []).mark [] s.mark s.rest reached refl in
     let z : 9 ≡ 1 = ap (λ (m : Marker). m.line) (e ∙ k) in
@@ -107,4 +109,5 @@ no_place (s, reached, inl e, l) =
 no_place (s, reached, inr e, l) = let z : 9 ≡ 0 = ap (λ (m : Marker). m.col) e.1 in omega (arith, z)
 
 pub wrong_line : HasSpansIn [] wrong.wrong_line → ⊥
-wrong_line h = no_place (h 0 (events.StreamStart, record { start = at 0 1 0; end = at 0 1 0 }) (omega arith)).1
+wrong_line h = no_place (h 0 (events.StreamStart, record { start = marker_at 0 1 0; end = marker_at 0 1 0 })
+    (omega arith)).1

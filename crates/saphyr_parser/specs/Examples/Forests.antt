@@ -3,7 +3,7 @@ use Rattle.std.specs.Prelude.{◌≡◌, ℕ, true, false, List, [], ◌∷◌, 
 use Rattle.saphyr_scanner.specs.Grammar.Forest.{Plain, DoubleQuoted, Properties, no_properties, Tag, Primary, Named, Shorthand, Node, Alias, Scalar, Seq, NoNode, MoreNodes, Directive, TagPrefix, Document, bare, left_out, Forest}
 use Rattle.saphyr_scalar.specs.declared.scalar.position.Marker.{Marker}
 use Rattle.saphyr_scalar.specs.declared.scalar.position.Span.{Span}
-use Rattle.saphyr_scanner.specs.Examples.TakenTexts.{at}
+use Rattle.saphyr_scanner.specs.Examples.TakenTexts.{marker_at}
 use Rattle.saphyr_parser.specs.Answer.{Answer}
 use Rattle.saphyr_parser.specs.Events as events
 use Rattle.saphyr_parser.specs.Events.{Happening, ResolvedTag}
@@ -71,12 +71,12 @@ local_tag_events =
 
 -- ## `%TAG !p! x:`, then two documents `--- !p!A a` and `--- !p!B b`
 
-abbrev pub named_tag : List ℕ → List ℕ → Node
-named_tag suffix value = Scalar (tagged (Shorthand (Named (codes "p")) suffix)) Plain value
+abbrev pub named_tag_scalar : List ℕ → List ℕ → Node
+named_tag_scalar suffix value = Scalar (tagged (Shorthand (Named (codes "p")) suffix)) Plain value
 
 abbrev pub declared_once : Forest
-declared_once = explicit (TagPrefix (Named (codes "p")) (codes "x:") ∷ []) (named_tag (codes "A") (codes "a"))
-    ∷ explicit [] (named_tag (codes "B") (codes "b")) ∷ []
+declared_once = explicit (TagPrefix (Named (codes "p")) (codes "x:") ∷ []) (named_tag_scalar (codes "A") (codes "a"))
+    ∷ explicit [] (named_tag_scalar (codes "B") (codes "b")) ∷ []
 
 abbrev pub tagged_event : List ℕ → List ℕ → List ℕ → Happening
 tagged_event prefix suffix text = events.Scalar text Plain 0 (Some (record { handle = prefix; suffix = suffix }))
@@ -91,9 +91,9 @@ kept_events =
 
 abbrev pub declared_twice : Forest
 declared_twice =
-    explicit (TagPrefix (Named (codes "p")) (codes "x:") ∷ []) (named_tag (codes "A") (codes "a"))
-    ∷ explicit (TagPrefix (Named (codes "p")) (codes "y:") ∷ []) (named_tag (codes "B") (codes "b"))
-    ∷ explicit [] (named_tag (codes "C") (codes "c")) ∷ []
+    explicit (TagPrefix (Named (codes "p")) (codes "x:") ∷ []) (named_tag_scalar (codes "A") (codes "a"))
+    ∷ explicit (TagPrefix (Named (codes "p")) (codes "y:") ∷ []) (named_tag_scalar (codes "B") (codes "b"))
+    ∷ explicit [] (named_tag_scalar (codes "C") (codes "c")) ∷ []
 
 abbrev pub declared_twice_events : List Happening
 declared_twice_events =
@@ -112,15 +112,15 @@ no_documents = record { events = (events.StreamStart, start_span) ∷ (events.St
 
 -- ## `- &a b` and `- *a` on two lines, with the places of its events
 
-abbrev pub block_alias : Forest
-block_alias = bare (Seq no_properties
+abbrev pub block_alias_forest : Forest
+block_alias_forest = bare (Seq no_properties
     (MoreNodes (Scalar (anchored (codes "a")) Plain (codes "b")) (MoreNodes (Alias (codes "a")) NoNode))) ∷ []
 
-abbrev pub from_to : Marker → Marker → Span
-from_to start end = record { start = start; end = end }
+abbrev pub span_between : Marker → Marker → Span
+span_between start end = record { start = start; end = end }
 
 abbrev pub block_alias_end : Span
-block_alias_end = from_to (at 11 3 0) (at 11 3 0)
+block_alias_end = span_between (marker_at 11 3 0) (marker_at 11 3 0)
 
 abbrev pub block_alias_answer : Answer
 block_alias_answer =
@@ -129,8 +129,8 @@ block_alias_answer =
           (events.StreamStart, start_span) ∷
           (events.DocumentStart false, start_span) ∷
           (events.SequenceStart 0 None, start_span) ∷
-          (events.Scalar (codes "b") Plain 1 None, from_to (at 2 1 2) (at 6 1 6)) ∷
-          (events.Alias 1, from_to (at 9 2 2) (at 11 2 4)) ∷
+          (events.Scalar (codes "b") Plain 1 None, span_between (marker_at 2 1 2) (marker_at 6 1 6)) ∷
+          (events.Alias 1, span_between (marker_at 9 2 2) (marker_at 11 2 4)) ∷
           (events.SequenceEnd, block_alias_end) ∷
           (events.DocumentEnd, block_alias_end) ∷
           (events.StreamEnd, block_alias_end) ∷

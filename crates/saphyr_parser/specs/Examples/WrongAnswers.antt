@@ -6,7 +6,7 @@ use Rattle.saphyr_scalar.specs.declared.scalar.position.Marker.{Marker}
 use Rattle.saphyr_scalar.specs.declared.scalar.position.Span.{Span}
 use Rattle.saphyr_scanner.specs.Grammar.Forest.{Plain, DoubleQuoted, Literal}
 use Rattle.saphyr_scanner.specs.Views.Tokens.{Piece}
-use Rattle.saphyr_scanner.specs.Examples.TakenTexts.{at, from_to, empty_at}
+use Rattle.saphyr_scanner.specs.Examples.TakenTexts.{marker_at, piece_from_to, empty_at}
 use Rattle.saphyr_scanner.specs.Grammar.Tokens as tokens
 use Rattle.saphyr_parser.specs.Events as events
 use Rattle.saphyr_parser.specs.Events.{Happening}
@@ -20,20 +20,20 @@ abbrev pub BeginsWithInk : Happening → Type 0
 BeginsWithInk (events.Scalar value Plain id tag) = IsFalse (is_blank_or_break (slice_index value 0))
 BeginsWithInk _ = Unit {0}
 
-abbrev pub IsNoEnd : Happening → Type 0
-IsNoEnd events.StreamEnd = ⊥
-IsNoEnd _ = Unit {0}
+abbrev pub IsNoStreamEnd : Happening → Type 0
+IsNoStreamEnd events.StreamEnd = ⊥
+IsNoStreamEnd _ = Unit {0}
 
 -- no end of the stream is among the events
-abbrev pub HasNoEnd : List (Happening × Span) → Type 0
-HasNoEnd [] = Unit {0}
-HasNoEnd (e ∷ es) = IsNoEnd e.0 × HasNoEnd es
+abbrev pub HasNoStreamEnd : List (Happening × Span) → Type 0
+HasNoStreamEnd [] = Unit {0}
+HasNoStreamEnd (e ∷ es) = IsNoStreamEnd e.0 × HasNoStreamEnd es
 
 -- The end of the stream is the last event, and there is no other; with a fault there is none.
 abbrev pub EndsSo : Option Ending → List (Happening × Span) → Type 0
 EndsSo None es = (front : List (Happening × Span)) × (span : Span) × (es ≡ front ++ (events.StreamEnd, span) ∷ [])
-    × HasNoEnd front
-EndsSo (Some fault) es = HasNoEnd es
+    × HasNoStreamEnd front
+EndsSo (Some fault) es = HasNoStreamEnd es
 
 abbrev pub EndsWithStreamEnd : Answer → Type 0
 EndsWithStreamEnd a = EndsSo a.fault a.events
@@ -44,7 +44,7 @@ abbrev span_of : Marker → Marker → Span
 span_of start end = record { start = start; end = end }
 
 abbrev origin : Span
-origin = span_of (at 0 1 0) (at 0 1 0)
+origin = span_of (marker_at 0 1 0) (marker_at 0 1 0)
 
 -- `- a` with the value ` a`
 abbrev pub blank_first : Answer
@@ -54,10 +54,10 @@ blank_first =
           (events.StreamStart, origin) ∷
           (events.DocumentStart false, origin) ∷
           (events.SequenceStart 0 None, origin) ∷
-          (plain_event (codes " a"), span_of (at 1 1 1) (at 3 1 3)) ∷
-          (events.SequenceEnd, span_of (at 3 1 3) (at 3 1 3)) ∷
-          (events.DocumentEnd, span_of (at 3 1 3) (at 3 1 3)) ∷
-          (events.StreamEnd, span_of (at 3 1 3) (at 3 1 3)) ∷
+          (plain_event (codes " a"), span_of (marker_at 1 1 1) (marker_at 3 1 3)) ∷
+          (events.SequenceEnd, span_of (marker_at 3 1 3) (marker_at 3 1 3)) ∷
+          (events.DocumentEnd, span_of (marker_at 3 1 3) (marker_at 3 1 3)) ∷
+          (events.StreamEnd, span_of (marker_at 3 1 3) (marker_at 3 1 3)) ∷
           [];
       fault = None;
     }
@@ -70,11 +70,11 @@ break_first =
           (events.StreamStart, origin) ∷
           (events.DocumentStart false, origin) ∷
           (events.MappingStart 0 None, origin) ∷
-          (plain_event (codes "a"), span_of (at 0 1 0) (at 1 1 1)) ∷
-          (plain_event (codes " b"), span_of (at 2 1 2) (at 5 2 2)) ∷
-          (events.MappingEnd, span_of (at 5 2 2) (at 5 2 2)) ∷
-          (events.DocumentEnd, span_of (at 5 2 2) (at 5 2 2)) ∷
-          (events.StreamEnd, span_of (at 5 2 2) (at 5 2 2)) ∷
+          (plain_event (codes "a"), span_of (marker_at 0 1 0) (marker_at 1 1 1)) ∷
+          (plain_event (codes " b"), span_of (marker_at 2 1 2) (marker_at 5 2 2)) ∷
+          (events.MappingEnd, span_of (marker_at 5 2 2) (marker_at 5 2 2)) ∷
+          (events.DocumentEnd, span_of (marker_at 5 2 2) (marker_at 5 2 2)) ∷
+          (events.StreamEnd, span_of (marker_at 5 2 2) (marker_at 5 2 2)) ∷
           [];
       fault = None;
     }
@@ -87,12 +87,12 @@ fault_behind_the_end =
           (events.StreamStart, origin) ∷
           (events.DocumentStart false, origin) ∷
           (events.SequenceStart 0 None, origin) ∷
-          (plain_event (codes "a"), span_of (at 2 1 2) (at 3 1 3)) ∷
-          (events.SequenceEnd, span_of (at 3 1 3) (at 3 1 3)) ∷
-          (events.DocumentEnd, span_of (at 3 1 3) (at 3 1 3)) ∷
-          (events.StreamEnd, span_of (at 3 1 3) (at 3 1 3)) ∷
+          (plain_event (codes "a"), span_of (marker_at 2 1 2) (marker_at 3 1 3)) ∷
+          (events.SequenceEnd, span_of (marker_at 3 1 3) (marker_at 3 1 3)) ∷
+          (events.DocumentEnd, span_of (marker_at 3 1 3) (marker_at 3 1 3)) ∷
+          (events.StreamEnd, span_of (marker_at 3 1 3) (marker_at 3 1 3)) ∷
           [];
-      fault = Some (Refused (at 0 1 0) (codes "no text of the table"));
+      fault = Some (Refused (marker_at 0 1 0) (codes "no text of the table"));
     }
 
 -- nothing of `a`, without a fault
@@ -105,10 +105,10 @@ marker_inside =
     record {
       events =
           (events.StreamStart, origin) ∷
-          (events.DocumentStart true, span_of (at 0 1 0) (at 3 1 3)) ∷
-          (events.Scalar (codes "a\n---\nb\n") Literal 0 None, span_of (at 6 2 0) (at 14 5 0)) ∷
-          (events.DocumentEnd, span_of (at 14 5 0) (at 14 5 0)) ∷
-          (events.StreamEnd, span_of (at 14 5 0) (at 14 5 0)) ∷
+          (events.DocumentStart true, span_of (marker_at 0 1 0) (marker_at 3 1 3)) ∷
+          (events.Scalar (codes "a\n---\nb\n") Literal 0 None, span_of (marker_at 6 2 0) (marker_at 14 5 0)) ∷
+          (events.DocumentEnd, span_of (marker_at 14 5 0) (marker_at 14 5 0)) ∷
+          (events.StreamEnd, span_of (marker_at 14 5 0) (marker_at 14 5 0)) ∷
           [];
       fault = None;
     }
@@ -120,9 +120,9 @@ nul_inside =
       events =
           (events.StreamStart, origin) ∷
           (events.DocumentStart false, origin) ∷
-          (events.Scalar (codes "a\0b\n") Literal 0 None, span_of (at 3 2 1) (at 7 3 0)) ∷
-          (events.DocumentEnd, span_of (at 7 3 0) (at 7 3 0)) ∷
-          (events.StreamEnd, span_of (at 7 3 0) (at 7 3 0)) ∷
+          (events.Scalar (codes "a\0b\n") Literal 0 None, span_of (marker_at 3 2 1) (marker_at 7 3 0)) ∷
+          (events.DocumentEnd, span_of (marker_at 7 3 0) (marker_at 7 3 0)) ∷
+          (events.StreamEnd, span_of (marker_at 7 3 0) (marker_at 7 3 0)) ∷
           [];
       fault = None;
     }
@@ -134,9 +134,9 @@ marker_in_quotes =
       events =
           (events.StreamStart, origin) ∷
           (events.DocumentStart false, origin) ∷
-          (events.Scalar (codes "a --- b") DoubleQuoted 0 None, span_of (at 0 1 0) (at 9 2 6)) ∷
-          (events.DocumentEnd, span_of (at 9 2 6) (at 9 2 6)) ∷
-          (events.StreamEnd, span_of (at 9 2 6) (at 9 2 6)) ∷
+          (events.Scalar (codes "a --- b") DoubleQuoted 0 None, span_of (marker_at 0 1 0) (marker_at 9 2 6)) ∷
+          (events.DocumentEnd, span_of (marker_at 9 2 6) (marker_at 9 2 6)) ∷
+          (events.StreamEnd, span_of (marker_at 9 2 6) (marker_at 9 2 6)) ∷
           [];
       fault = None;
     }
@@ -145,7 +145,7 @@ marker_in_quotes =
 abbrev pub wrong_line : Answer
 wrong_line = record {
   events =
-      (events.StreamStart, span_of (at 0 9 9) (at 0 9 9)) ∷ (events.StreamEnd, origin) ∷ [];
+      (events.StreamStart, span_of (marker_at 0 9 9) (marker_at 0 9 9)) ∷ (events.StreamEnd, origin) ∷ [];
   fault = None;
 }
 
@@ -153,17 +153,17 @@ wrong_line = record {
 
 abbrev pub nested : List Piece
 nested =
-    empty_at (at 0 1 0) tokens.StreamStart ∷
-    empty_at (at 0 1 0) tokens.BlockMappingStart ∷
-    empty_at (at 0 1 0) tokens.Key ∷
-    from_to (at 0 1 0) (at 1 1 1) (tokens.Scalar Plain (codes "a")) ∷
-    empty_at (at 1 1 1) tokens.Value ∷
-    empty_at (at 5 2 2) tokens.BlockEntry ∷
-    from_to (at 5 2 2) (at 6 2 3) tokens.FlowSequenceStart ∷
-    from_to (at 6 2 3) (at 7 2 4) (tokens.Scalar Plain (codes "x")) ∷
-    from_to (at 7 2 4) (at 8 2 5) tokens.FlowSequenceEnd ∷
-    empty_at (at 8 3 0) tokens.BlockEnd ∷
-    empty_at (at 8 3 0) tokens.StreamEnd ∷
+    empty_at (marker_at 0 1 0) tokens.StreamStart ∷
+    empty_at (marker_at 0 1 0) tokens.BlockMappingStart ∷
+    empty_at (marker_at 0 1 0) tokens.Key ∷
+    piece_from_to (marker_at 0 1 0) (marker_at 1 1 1) (tokens.Scalar Plain (codes "a")) ∷
+    empty_at (marker_at 1 1 1) tokens.Value ∷
+    empty_at (marker_at 5 2 2) tokens.BlockEntry ∷
+    piece_from_to (marker_at 5 2 2) (marker_at 6 2 3) tokens.FlowSequenceStart ∷
+    piece_from_to (marker_at 6 2 3) (marker_at 7 2 4) (tokens.Scalar Plain (codes "x")) ∷
+    piece_from_to (marker_at 7 2 4) (marker_at 8 2 5) tokens.FlowSequenceEnd ∷
+    empty_at (marker_at 8 3 0) tokens.BlockEnd ∷
+    empty_at (marker_at 8 3 0) tokens.StreamEnd ∷
     []
 
 abbrev pub free_start : List (Happening × Span)
@@ -171,13 +171,13 @@ free_start =
     (events.StreamStart, origin) ∷
     (events.DocumentStart false, origin) ∷
     (events.MappingStart 0 None, origin) ∷
-    (plain_event (codes "a"), span_of (at 0 1 0) (at 1 1 1)) ∷
-    (events.SequenceStart 0 None, span_of (at 5 2 2) (at 6 2 3)) ∷
+    (plain_event (codes "a"), span_of (marker_at 0 1 0) (marker_at 1 1 1)) ∷
+    (events.SequenceStart 0 None, span_of (marker_at 5 2 2) (marker_at 6 2 3)) ∷
     (events.SequenceStart 0 None, origin) ∷
-    (plain_event (codes "x"), span_of (at 6 2 3) (at 7 2 4)) ∷
-    (events.SequenceEnd, span_of (at 7 2 4) (at 8 2 5)) ∷
-    (events.SequenceEnd, span_of (at 8 3 0) (at 8 3 0)) ∷
-    (events.MappingEnd, span_of (at 8 3 0) (at 8 3 0)) ∷
-    (events.DocumentEnd, span_of (at 8 3 0) (at 8 3 0)) ∷
-    (events.StreamEnd, span_of (at 8 3 0) (at 8 3 0)) ∷
+    (plain_event (codes "x"), span_of (marker_at 6 2 3) (marker_at 7 2 4)) ∷
+    (events.SequenceEnd, span_of (marker_at 7 2 4) (marker_at 8 2 5)) ∷
+    (events.SequenceEnd, span_of (marker_at 8 3 0) (marker_at 8 3 0)) ∷
+    (events.MappingEnd, span_of (marker_at 8 3 0) (marker_at 8 3 0)) ∷
+    (events.DocumentEnd, span_of (marker_at 8 3 0) (marker_at 8 3 0)) ∷
+    (events.StreamEnd, span_of (marker_at 8 3 0) (marker_at 8 3 0)) ∷
     []

@@ -6,10 +6,10 @@ use Rattle.saphyr_scalar.specs.declared.scalar.fault.FaultText.TheVariants as fa
 use Rattle.saphyr_scanner.specs.Grammar.Tokens as tokens
 use Rattle.saphyr_scanner.specs.Grammar.Tokens.{Kind}
 use Rattle.saphyr_scanner.specs.Views.Tokens.{Piece}
-use Rattle.saphyr_parser.specs.declared.parser.context.Context.TheVariants.{Block}
+use Rattle.saphyr_parser.specs.declared.parser.context.NodeContext.TheVariants.{Block}
 use Rattle.saphyr_parser.specs.declared.parser.state.State.TheVariants as state
 use Rattle.saphyr_parser.specs.Events as events
-use Rattle.saphyr_parser.specs.Steps.Machine.{◌>>=◌, Machine, Told, told, refuse, ending, take, with_pieces, put_back, pop, enter, push, empty_scalar, forgotten, given, is_listed, listed}
+use Rattle.saphyr_parser.specs.Steps.Machine.{◌>>=◌, Machine, Told, told, refusal_at, ending_refusal, taken_token, with_pieces, put_back, pop, with_state, push, empty_scalar, forgotten, given, is_listed, listed}
 use Rattle.saphyr_parser.specs.Steps.Nodes.{node}
 
 -- ## Tokens that are passed
@@ -23,13 +23,14 @@ is_end_or_mark tokens.DocumentEnd = true
 is_end_or_mark tokens.ByteOrderMark = true
 is_end_or_mark _ = false
 
-abbrev pub pass_from : (Kind → Bool) → List Piece → Machine → Result (Piece × Machine) Refusal
-pass_from passed [] m = Err (ending m.tokens.refusal)
-pass_from passed (t ∷ ts) m = if passed t.kind then pass_from passed ts (with_pieces ts m) else Ok (t, with_pieces ts m)
+abbrev pub unpassed_token_from : (Kind → Bool) → List Piece → Machine → Result (Piece × Machine) Refusal
+unpassed_token_from passed [] m = Err (ending_refusal m.tokens.refusal)
+unpassed_token_from passed (t ∷ ts) m =
+    if passed t.kind then unpassed_token_from passed ts (with_pieces ts m) else Ok (t, with_pieces ts m)
 
 -- the first token that isn't passed
-unfoldable pub pass : (Kind → Bool) → Machine → Result (Piece × Machine) Refusal
-pass passed m = pass_from passed m.tokens.pieces m
+unfoldable pub unpassed_token : (Kind → Bool) → Machine → Result (Piece × Machine) Refusal
+unpassed_token passed m = unpassed_token_from passed m.tokens.pieces m
 
 -- ## Directives (6.8)
 
@@ -48,14 +49,14 @@ is_directive (tokens.ReservedDirective name) = true
 is_directive _ = false
 
 -- a version is declared at most once
-abbrev pub add_version : Marker → Declared → Result Declared Refusal
-add_version place d =
+abbrev pub with_version : Marker → Declared → Result Declared Refusal
+with_version place d =
     if d.version then Err (record { text = fault.DuplicateVersionDirective; mark = place })
     else Ok (record { version = true; handles = d.handles })
 
 -- and so is each handle
-abbrev pub tag_directive : List ℕ → List ℕ → Marker → Declared → Machine → Result (Declared × Machine) Refusal
-tag_directive handle prefix place d m =
+abbrev pub with_handle : List ℕ → List ℕ → Marker → Declared → Machine → Result (Declared × Machine) Refusal
+with_handle handle prefix place d m =
     if is_listed handle d.handles then Err (record { text = fault.DuplicateTagDirective; mark = place })
     else Ok (
       record { version = d.version; handles = listed handle d.handles },
@@ -65,12 +66,12 @@ tag_directive handle prefix place d m =
 
 -- reserved directives are ignored
 abbrev pub directive_at : Kind → Piece → Declared → Machine → Result (Declared × Machine) Refusal
-directive_at (tokens.VersionDirective major minor) t d m = add_version t.span.start d >>= (λ e. Ok (e, m))
-directive_at (tokens.TagDirective handle prefix) t d m = tag_directive handle prefix t.span.start d m
+directive_at (tokens.VersionDirective major minor) t d m = with_version t.span.start d >>= (λ e. Ok (e, m))
+directive_at (tokens.TagDirective handle prefix) t d m = with_handle handle prefix t.span.start d m
 directive_at _ t d m = Ok (d, m)
 
 abbrev pub directives_from : List Piece → Declared → Machine → Result (Piece × Machine) Refusal
-directives_from [] d m = Err (ending m.tokens.refusal)
+directives_from [] d m = Err (ending_refusal m.tokens.refusal)
 directives_from (t ∷ ts) d m =
     if is_directive t.kind then directive_at t.kind t d (with_pieces ts m) >>= (λ s. directives_from ts s.0 s.1)
     else Ok (t, with_pieces ts m)
@@ -82,12 +83,12 @@ directives d m = directives_from m.tokens.pieces d m
 -- ## The beginning of the stream and of documents
 
 abbrev pub stream_start_at : Kind → Piece → Machine → Result Told Refusal
-stream_start_at tokens.StreamStart t m = told events.StreamStart t.span (enter state.ImplicitDocumentStart m)
-stream_start_at _ t m = refuse fault.DocumentStartExpected t
+stream_start_at tokens.StreamStart t m = told events.StreamStart t.span (with_state state.ImplicitDocumentStart m)
+stream_start_at _ t m = refusal_at fault.DocumentStartExpected t
 
 unfoldable pub stream_start : Machine → Result Told Refusal
 stream_start m = do
-  t ← take m
+  t ← taken_token m
   stream_start_at t.0.kind t.0 t.1
 
 -- anchors hold for their document
@@ -96,9 +97,10 @@ forget_anchors m = record m { anchors = forgotten m.anchors }
 
 abbrev pub explicit_at : Kind → Piece → Machine → Result Told Refusal
 explicit_at tokens.DocumentStart t m =
-    told (events.DocumentStart true) t.span (enter state.DocumentContent (push state.DocumentEnd (forget_anchors m)))
-explicit_at tokens.ByteOrderMark t m = refuse fault.MisplacedByteOrderMark t
-explicit_at _ t m = refuse fault.DocumentStartExpected t
+    told (events.DocumentStart true) t.span (with_state state.DocumentContent
+    (push state.DocumentEnd (forget_anchors m)))
+explicit_at tokens.ByteOrderMark t m = refusal_at fault.MisplacedByteOrderMark t
+explicit_at _ t m = refusal_at fault.DocumentStartExpected t
 
 -- directives and `---` begin with the token
 unfoldable pub explicit_document : Piece → Machine → Result Told Refusal
@@ -109,10 +111,10 @@ explicit_document t m = do
 -- a document without `---` begins with the token
 unfoldable pub bare_document : Piece → Machine → Result Told Refusal
 bare_document t m = told (events.DocumentStart false) t.span
-    (enter state.BlockNode (push state.DocumentEnd (forget_anchors (put_back t m))))
+    (with_state state.BlockNode (push state.DocumentEnd (forget_anchors (put_back t m))))
 
 abbrev pub implicit_start_at : Kind → Piece → Machine → Result Told Refusal
-implicit_start_at tokens.StreamEnd t m = told events.StreamEnd t.span (enter state.End m)
+implicit_start_at tokens.StreamEnd t m = told events.StreamEnd t.span (with_state state.End m)
 implicit_start_at (tokens.VersionDirective major minor) t m = explicit_document t m
 implicit_start_at (tokens.TagDirective handle prefix) t m = explicit_document t m
 implicit_start_at (tokens.ReservedDirective name) t m = explicit_document t m
@@ -122,16 +124,16 @@ implicit_start_at _ t m = bare_document t m
 -- a document that may begin without `---`, or the end of the stream
 unfoldable pub implicit_start : Machine → Result Told Refusal
 implicit_start m = do
-  t ← pass is_end_or_mark m
+  t ← unpassed_token is_end_or_mark m
   implicit_start_at t.0.kind t.0 t.1
 
 abbrev pub explicit_start_at : Kind → Piece → Machine → Result Told Refusal
-explicit_start_at tokens.StreamEnd t m = told events.StreamEnd t.span (enter state.End m)
+explicit_start_at tokens.StreamEnd t m = told events.StreamEnd t.span (with_state state.End m)
 explicit_start_at _ t m = explicit_document t m
 
 unfoldable pub explicit_start : Machine → Result Told Refusal
 explicit_start m = do
-  t ← pass is_end_or_mark m
+  t ← unpassed_token is_end_or_mark m
   explicit_start_at t.0.kind t.0 t.1
 
 -- ## The content and the end of documents
@@ -140,20 +142,20 @@ explicit_start m = do
 abbrev pub no_content : Piece → Machine → Result Told Refusal
 no_content t m = told empty_scalar t.span (pop (put_back t m))
 
-abbrev pub content_at : Kind → Piece → Machine → Result Told Refusal
-content_at (tokens.VersionDirective major minor) t m = no_content t m
-content_at (tokens.TagDirective handle prefix) t m = no_content t m
-content_at (tokens.ReservedDirective name) t m = no_content t m
-content_at tokens.DocumentStart t m = no_content t m
-content_at tokens.DocumentEnd t m = no_content t m
-content_at tokens.ByteOrderMark t m = no_content t m
-content_at tokens.StreamEnd t m = no_content t m
-content_at _ t m = node Block t m
+abbrev pub document_content_at : Kind → Piece → Machine → Result Told Refusal
+document_content_at (tokens.VersionDirective major minor) t m = no_content t m
+document_content_at (tokens.TagDirective handle prefix) t m = no_content t m
+document_content_at (tokens.ReservedDirective name) t m = no_content t m
+document_content_at tokens.DocumentStart t m = no_content t m
+document_content_at tokens.DocumentEnd t m = no_content t m
+document_content_at tokens.ByteOrderMark t m = no_content t m
+document_content_at tokens.StreamEnd t m = no_content t m
+document_content_at _ t m = node Block t m
 
 unfoldable pub document_content : Machine → Result Told Refusal
 document_content m = do
-  t ← take m
-  content_at t.0.kind t.0 t.1
+  t ← taken_token m
+  document_content_at t.0.kind t.0 t.1
 
 -- behind the byte order marks at the end of a document, of which the first has this place
 abbrev pub behind_marks_at : Kind → Marker → Piece → Machine → Result (Piece × Machine) Refusal
@@ -164,7 +166,7 @@ behind_marks_at _ place t m = Err (record { text = fault.MisplacedByteOrderMark;
 
 unfoldable pub behind_marks : Marker → Machine → Result (Piece × Machine) Refusal
 behind_marks place m = do
-  t ← pass is_mark m
+  t ← unpassed_token is_mark m
   behind_marks_at t.0.kind place t.0 t.1
 
 abbrev pub behind_document_at : Kind → Piece → Machine → Result (Piece × Machine) Refusal
@@ -174,7 +176,7 @@ behind_document_at _ t m = Ok (t, m)
 -- the token that stands behind a document and its byte order marks
 unfoldable pub behind_document : Machine → Result (Piece × Machine) Refusal
 behind_document m = do
-  t ← take m
+  t ← taken_token m
   behind_document_at t.0.kind t.0 t.1
 
 -- prefixes hold for their document, unless they are kept
@@ -182,11 +184,11 @@ abbrev pub forget_prefixes : Machine → Machine
 forget_prefixes m = record m { prefixes = if m.keep_tags then m.prefixes else [] }
 
 abbrev pub document_end_at : Kind → Piece → Machine → Result Told Refusal
-document_end_at tokens.DocumentEnd t m = told events.DocumentEnd t.span (enter state.ImplicitDocumentStart m)
-document_end_at (tokens.VersionDirective major minor) t m = refuse fault.DocumentEndExpected t
-document_end_at (tokens.TagDirective handle prefix) t m = refuse fault.DocumentEndExpected t
-document_end_at (tokens.ReservedDirective name) t m = refuse fault.DocumentEndExpected t
-document_end_at _ t m = told events.DocumentEnd t.span (enter state.DocumentStart (put_back t m))
+document_end_at tokens.DocumentEnd t m = told events.DocumentEnd t.span (with_state state.ImplicitDocumentStart m)
+document_end_at (tokens.VersionDirective major minor) t m = refusal_at fault.DocumentEndExpected t
+document_end_at (tokens.TagDirective handle prefix) t m = refusal_at fault.DocumentEndExpected t
+document_end_at (tokens.ReservedDirective name) t m = refusal_at fault.DocumentEndExpected t
+document_end_at _ t m = told events.DocumentEnd t.span (with_state state.DocumentStart (put_back t m))
 
 unfoldable pub document_end : Machine → Result Told Refusal
 document_end m = do

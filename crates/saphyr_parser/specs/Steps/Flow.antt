@@ -6,33 +6,33 @@ use Rattle.saphyr_scalar.specs.declared.scalar.fault.Refusal.{Refusal}
 use Rattle.saphyr_scalar.specs.declared.scalar.fault.FaultText.TheVariants as fault
 use Rattle.saphyr_scanner.specs.Grammar.Tokens.{Kind, FlowSequenceEnd, FlowMappingEnd, FlowEntry, Key, Value}
 use Rattle.saphyr_scanner.specs.Views.Tokens.{Piece}
-use Rattle.saphyr_parser.specs.declared.parser.context.Context.TheVariants.{Flow}
+use Rattle.saphyr_parser.specs.declared.parser.context.NodeContext.TheVariants.{Flow}
 use Rattle.saphyr_parser.specs.declared.parser.state.State.TheVariants as state
 use Rattle.saphyr_parser.specs.Events.{SequenceEnd, MappingStart, MappingEnd}
-use Rattle.saphyr_parser.specs.Steps.Machine.{◌>>=◌, Machine, Told, told, refuse, take, pop, enter, left_out_event}
-use Rattle.saphyr_parser.specs.Steps.Nodes.{inside}
+use Rattle.saphyr_parser.specs.Steps.Machine.{◌>>=◌, Machine, Told, told, refusal_at, taken_token, pop, with_state, left_out_event}
+use Rattle.saphyr_parser.specs.Steps.Nodes.{node_inside}
 
 -- ## Sequences
 
 -- an entry begins with the token, or the sequence ends
 abbrev pub entry_at : Kind → Piece → Machine → Result Told Refusal
 entry_at FlowSequenceEnd t m = told SequenceEnd t.span (pop m)
-entry_at Key t m = told (MappingStart 0 None) t.span (enter state.FlowSequenceEntryMappingKey m)
-entry_at _ t m = inside state.FlowSequenceEntry Flow t m
+entry_at Key t m = told (MappingStart 0 None) t.span (with_state state.FlowSequenceEntryMappingKey m)
+entry_at _ t m = node_inside state.FlowSequenceEntry Flow t m
 
 unfoldable pub first_entry : Machine → Result Told Refusal
 first_entry m = do
-  t ← take m
+  t ← taken_token m
   entry_at t.0.kind t.0 t.1
 
 abbrev pub other_entry_at : Kind → Piece → Machine → Result Told Refusal
 other_entry_at FlowSequenceEnd t m = told SequenceEnd t.span (pop m)
 other_entry_at FlowEntry t m = first_entry m
-other_entry_at _ t m = refuse fault.FlowSequenceEndExpected t
+other_entry_at _ t m = refusal_at fault.FlowSequenceEndExpected t
 
 unfoldable pub other_entry : Machine → Result Told Refusal
 other_entry m = do
-  t ← take m
+  t ← taken_token m
   other_entry_at t.0.kind t.0 t.1
 
 -- ## Pairs of a sequence that begin with `?`
@@ -42,22 +42,22 @@ abbrev pub pair_key_at : Kind → Piece → Machine → Result Told Refusal
 pair_key_at Value t m = left_out_event t state.FlowSequenceEntryMappingValue t.span m
 pair_key_at FlowEntry t m = left_out_event t state.FlowSequenceEntryMappingValue t.span m
 pair_key_at FlowSequenceEnd t m = left_out_event t state.FlowSequenceEntryMappingValue t.span m
-pair_key_at _ t m = inside state.FlowSequenceEntryMappingValue Flow t m
+pair_key_at _ t m = node_inside state.FlowSequenceEntryMappingValue Flow t m
 
 unfoldable pub pair_key : Machine → Result Told Refusal
 pair_key m = do
-  t ← take m
+  t ← taken_token m
   pair_key_at t.0.kind t.0 t.1
 
 -- behind the colon of such a pair; the pair ends behind the first token of its value
 abbrev pub pair_value_node_at : Kind → Piece → Machine → Result Told Refusal
 pair_value_node_at FlowEntry t m = left_out_event t (state.FlowSequenceEntryMappingEnd t.span.end) t.span m
 pair_value_node_at FlowSequenceEnd t m = left_out_event t (state.FlowSequenceEntryMappingEnd t.span.end) t.span m
-pair_value_node_at _ t m = inside (state.FlowSequenceEntryMappingEnd t.span.end) Flow t m
+pair_value_node_at _ t m = node_inside (state.FlowSequenceEntryMappingEnd t.span.end) Flow t m
 
 unfoldable pub pair_value_node : Machine → Result Told Refusal
 pair_value_node m = do
-  t ← take m
+  t ← taken_token m
   pair_value_node_at t.0.kind t.0 t.1
 
 abbrev pub pair_value_at : Kind → Piece → Machine → Result Told Refusal
@@ -66,75 +66,75 @@ pair_value_at _ t m = left_out_event t (state.FlowSequenceEntryMappingEnd t.span
 
 unfoldable pub pair_value : Machine → Result Told Refusal
 pair_value m = do
-  t ← take m
+  t ← taken_token m
   pair_value_at t.0.kind t.0 t.1
 
 unfoldable pub pair_end : Marker → Machine → Result Told Refusal
-pair_end place m = told MappingEnd (record { start = place; end = place }) (enter state.FlowSequenceEntry m)
+pair_end place m = told MappingEnd (record { start = place; end = place }) (with_state state.FlowSequenceEntry m)
 
 -- ## Mappings
 
 -- behind a key's token
-abbrev pub key_node_at : Kind → Piece → Machine → Result Told Refusal
-key_node_at Value t m = left_out_event t state.FlowMappingValue t.span m
-key_node_at FlowEntry t m = left_out_event t state.FlowMappingValue t.span m
-key_node_at FlowMappingEnd t m = left_out_event t state.FlowMappingValue t.span m
-key_node_at _ t m = inside state.FlowMappingValue Flow t m
+abbrev pub flow_key_node_at : Kind → Piece → Machine → Result Told Refusal
+flow_key_node_at Value t m = left_out_event t state.FlowMappingValue t.span m
+flow_key_node_at FlowEntry t m = left_out_event t state.FlowMappingValue t.span m
+flow_key_node_at FlowMappingEnd t m = left_out_event t state.FlowMappingValue t.span m
+flow_key_node_at _ t m = node_inside state.FlowMappingValue Flow t m
 
-unfoldable pub key_node : Machine → Result Told Refusal
-key_node m = do
-  t ← take m
-  key_node_at t.0.kind t.0 t.1
+unfoldable pub flow_key_node : Machine → Result Told Refusal
+flow_key_node m = do
+  t ← taken_token m
+  flow_key_node_at t.0.kind t.0 t.1
 
 -- A pair begins with the token, or the mapping ends, where its end has the span of the comma or brace before it.
 abbrev pub pair_at : Kind → Span → Piece → Machine → Result Told Refusal
-pair_at Key s t m = key_node m
+pair_at Key s t m = flow_key_node m
 pair_at Value s t m = left_out_event t state.FlowMappingValue t.span m
 pair_at FlowMappingEnd s t m = told MappingEnd s (pop m)
-pair_at _ s t m = inside state.FlowMappingEmptyValue Flow t m
+pair_at _ s t m = node_inside state.FlowMappingEmptyValue Flow t m
 
 unfoldable pub first_pair : Machine → Result Told Refusal
 first_pair m = do
-  t ← take m
+  t ← taken_token m
   pair_at t.0.kind t.0.span t.0 t.1
 
 unfoldable pub pair_behind_comma : Span → Machine → Result Told Refusal
 pair_behind_comma s m = do
-  t ← take m
+  t ← taken_token m
   pair_at t.0.kind s t.0 t.1
 
 abbrev pub other_pair_at : Kind → Piece → Machine → Result Told Refusal
 other_pair_at FlowMappingEnd t m = told MappingEnd t.span (pop m)
 other_pair_at FlowEntry t m = pair_behind_comma t.span m
-other_pair_at _ t m = refuse fault.FlowMappingEndExpected t
+other_pair_at _ t m = refusal_at fault.FlowMappingEndExpected t
 
 unfoldable pub other_pair : Machine → Result Told Refusal
 other_pair m = do
-  t ← take m
+  t ← taken_token m
   other_pair_at t.0.kind t.0 t.1
 
 -- behind a value's token with this span
-abbrev pub value_node_at : Kind → Span → Piece → Machine → Result Told Refusal
-value_node_at FlowEntry s t m = left_out_event t state.FlowMappingKey s m
-value_node_at FlowMappingEnd s t m = left_out_event t state.FlowMappingKey s m
-value_node_at _ s t m = inside state.FlowMappingKey Flow t m
+abbrev pub flow_value_node_at : Kind → Span → Piece → Machine → Result Told Refusal
+flow_value_node_at FlowEntry s t m = left_out_event t state.FlowMappingKey s m
+flow_value_node_at FlowMappingEnd s t m = left_out_event t state.FlowMappingKey s m
+flow_value_node_at _ s t m = node_inside state.FlowMappingKey Flow t m
 
-unfoldable pub value_node : Span → Machine → Result Told Refusal
-value_node s m = do
-  t ← take m
-  value_node_at t.0.kind s t.0 t.1
+unfoldable pub flow_value_node : Span → Machine → Result Told Refusal
+flow_value_node s m = do
+  t ← taken_token m
+  flow_value_node_at t.0.kind s t.0 t.1
 
-abbrev pub mapping_value_at : Kind → Piece → Machine → Result Told Refusal
-mapping_value_at Value t m = value_node t.span m
-mapping_value_at _ t m = left_out_event t state.FlowMappingKey t.span m
+abbrev pub flow_mapping_value_at : Kind → Piece → Machine → Result Told Refusal
+flow_mapping_value_at Value t m = flow_value_node t.span m
+flow_mapping_value_at _ t m = left_out_event t state.FlowMappingKey t.span m
 
-unfoldable pub mapping_value : Machine → Result Told Refusal
-mapping_value m = do
-  t ← take m
-  mapping_value_at t.0.kind t.0 t.1
+unfoldable pub flow_mapping_value : Machine → Result Told Refusal
+flow_mapping_value m = do
+  t ← taken_token m
+  flow_mapping_value_at t.0.kind t.0 t.1
 
 -- the value of a pair that has a key alone
 unfoldable pub empty_value : Machine → Result Told Refusal
 empty_value m = do
-  t ← take m
+  t ← taken_token m
   left_out_event t.0 state.FlowMappingKey t.0.span t.1

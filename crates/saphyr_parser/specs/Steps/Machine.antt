@@ -81,24 +81,24 @@ pub record Told : Type 0 where
 abbrev pub told : Happening → Span → Machine → Result Told Refusal
 told what span m = Ok (record { what = what; span = span; machine = m })
 
-abbrev pub refuse : {X : Type 0} → FaultText → Piece → Result X Refusal
-refuse text t = Err (record { text = text; mark = t.span.start })
+abbrev pub refusal_at : {X : Type 0} → FaultText → Piece → Result X Refusal
+refusal_at text t = Err (record { text = text; mark = t.span.start })
 
 -- What ends the tokens. A scanner gives the end of the stream or a refusal, so the second case doesn't come.
-abbrev pub ending : Option Refusal → Refusal
-ending (Some e) = e
-ending None = record { text = fault.DocumentStartExpected; mark = record { index = 0; line = 0; col = 0 } }
+abbrev pub ending_refusal : Option Refusal → Refusal
+ending_refusal (Some e) = e
+ending_refusal None = record { text = fault.DocumentStartExpected; mark = record { index = 0; line = 0; col = 0 } }
 
 abbrev pub with_pieces : List Piece → Machine → Machine
 with_pieces ts m = record m { tokens = record { pieces = ts; refusal = m.tokens.refusal } }
 
-abbrev pub take_from : List Piece → Machine → Result (Piece × Machine) Refusal
-take_from [] m = Err (ending m.tokens.refusal)
-take_from (t ∷ ts) m = Ok (t, with_pieces ts m)
+abbrev pub taken_token_from : List Piece → Machine → Result (Piece × Machine) Refusal
+taken_token_from [] m = Err (ending_refusal m.tokens.refusal)
+taken_token_from (t ∷ ts) m = Ok (t, with_pieces ts m)
 
 -- the next token
-abbrev pub take : Machine → Result (Piece × Machine) Refusal
-take m = take_from m.tokens.pieces m
+abbrev pub taken_token : Machine → Result (Piece × Machine) Refusal
+taken_token m = taken_token_from m.tokens.pieces m
 
 -- a token that is still to be read
 abbrev pub put_back : Piece → Machine → Machine
@@ -112,8 +112,8 @@ popped (s ∷ ss) m = record m { state = s; states = ss }
 abbrev pub pop : Machine → Machine
 pop m = popped m.states m
 
-abbrev pub enter : State → Machine → Machine
-enter s m = record m { state = s }
+abbrev pub with_state : State → Machine → Machine
+with_state s m = record m { state = s }
 
 abbrev pub push : State → Machine → Machine
 push s m = record m { states = s ∷ m.states }
@@ -124,11 +124,11 @@ empty_scalar = Scalar [] Plain 0 None
 
 -- a node is left out before the token
 abbrev pub left_out_event : Piece → State → Span → Machine → Result Told Refusal
-left_out_event t s span m = told empty_scalar span (enter s (put_back t m))
+left_out_event t s span m = told empty_scalar span (with_state s (put_back t m))
 
 -- at the start of a stream
-abbrev pub fresh : Remaining → Machine
-fresh r = record {
+abbrev pub fresh_machine : Remaining → Machine
+fresh_machine r = record {
   tokens =
       r;
   state = state.StreamStart;

@@ -8,12 +8,12 @@ use Rattle.saphyr_scalar.specs.declared.scalar.fault.FaultText.TheVariants as fa
 use Rattle.saphyr_scanner.specs.Grammar.Tokens as tokens
 use Rattle.saphyr_scanner.specs.Grammar.Tokens.{Kind}
 use Rattle.saphyr_scanner.specs.Views.Tokens.{Piece}
-use Rattle.saphyr_parser.specs.declared.parser.context.Context.{Context}
+use Rattle.saphyr_parser.specs.declared.parser.context.NodeContext.{NodeContext}
 use Rattle.saphyr_parser.specs.declared.parser.state.State.{State}
 use Rattle.saphyr_parser.specs.declared.parser.state.State.TheVariants as state
 use Rattle.saphyr_parser.specs.Events as events
 use Rattle.saphyr_parser.specs.Events.{Happening, ResolvedTag}
-use Rattle.saphyr_parser.specs.Steps.Machine.{◌>>=◌, Machine, Told, told, refuse, take, put_back, pop, enter, push, meaning, registered, next_id}
+use Rattle.saphyr_parser.specs.Steps.Machine.{◌>>=◌, Machine, Told, told, refusal_at, taken_token, put_back, pop, with_state, push, meaning, registered, next_id}
 use Rattle.saphyr_parser.specs.Steps.Contexts.{allows_block, allows_indentless}
 use Rattle.saphyr_parser.specs.Steps.Tags.{resolved}
 
@@ -38,15 +38,15 @@ up_to p place = record { start = p.start; end = place }
 abbrev pub without_content : NodeProperties → Piece → Machine → Result Told Refusal
 without_content p t m =
     if has_property p then told (events.Scalar [] Plain p.anchor p.tag) (up_to p p.behind) (pop (put_back t m))
-    else refuse fault.NodeContentExpected t
+    else refusal_at fault.NodeContentExpected t
 
 abbrev pub opened_sequence : State → NodeProperties → Marker → Machine → Told
 opened_sequence s p place m =
-    record { what = events.SequenceStart p.anchor p.tag; span = up_to p place; machine = enter s m }
+    record { what = events.SequenceStart p.anchor p.tag; span = up_to p place; machine = with_state s m }
 
 abbrev pub opened_mapping : State → NodeProperties → Marker → Machine → Told
 opened_mapping s p place m =
-    record { what = events.MappingStart p.anchor p.tag; span = up_to p place; machine = enter s m }
+    record { what = events.MappingStart p.anchor p.tag; span = up_to p place; machine = with_state s m }
 
 abbrev pub opens_sequence : State → NodeProperties → Piece → Machine → Result Told Refusal
 opens_sequence s p t m = Ok (opened_sequence s p t.span.end m)
@@ -55,74 +55,75 @@ abbrev pub opens_mapping : State → NodeProperties → Piece → Machine → Re
 opens_mapping s p t m = Ok (opened_mapping s p t.span.end m)
 
 -- the content of a node begins with the token
-abbrev pub content_at : Kind → NodeProperties → Context → Piece → Machine → Result Told Refusal
-content_at (tokens.Scalar style text) p c t m =
+abbrev pub node_content_at : Kind → NodeProperties → NodeContext → Piece → Machine → Result Told Refusal
+node_content_at (tokens.Scalar style text) p c t m =
     told (events.Scalar text style p.anchor p.tag) (up_to p t.span.end) (pop m)
-content_at tokens.FlowSequenceStart p c t m = opens_sequence state.FlowSequenceFirstEntry p t m
-content_at tokens.FlowMappingStart p c t m = opens_mapping state.FlowMappingFirstKey p t m
-content_at tokens.BlockSequenceStart p c t m =
+node_content_at tokens.FlowSequenceStart p c t m = opens_sequence state.FlowSequenceFirstEntry p t m
+node_content_at tokens.FlowMappingStart p c t m = opens_mapping state.FlowMappingFirstKey p t m
+node_content_at tokens.BlockSequenceStart p c t m =
     if allows_block c then opens_sequence state.BlockSequenceEntry p t m else without_content p t m
-content_at tokens.BlockMappingStart p c t m =
+node_content_at tokens.BlockMappingStart p c t m =
     if allows_block c then opens_mapping state.BlockMappingKey p t m else without_content p t m
-content_at tokens.BlockEntry p c t m =
+node_content_at tokens.BlockEntry p c t m =
     if allows_indentless c then opens_sequence state.IndentlessSequenceEntry p t (put_back t m) else without_content p t
     m
-content_at _ p c t m = without_content p t m
+node_content_at _ p c t m = without_content p t m
 
-unfoldable pub content : NodeProperties → Context → Piece → Machine → Result Told Refusal
-content p c t m = content_at t.kind p c t m
+unfoldable pub node_content : NodeProperties → NodeContext → Piece → Machine → Result Told Refusal
+node_content p c t m = node_content_at t.kind p c t m
 
 -- the content of a node behind its properties
-unfoldable pub next_content : NodeProperties → Context → Machine → Result Told Refusal
+unfoldable pub next_content : NodeProperties → NodeContext → Machine → Result Told Refusal
 next_content p c m = do
-  t ← take m
-  content p c t.0 t.1
+  t ← taken_token m
+  node_content p c t.0 t.1
 
 abbrev pub alias_of : Option ℕ → Span → Machine → Result Told Refusal
 alias_of (Some id) s m = told (events.Alias id) s (pop m)
 alias_of None s m = Err (record { text = fault.UnknownAnchor; mark = s.start })
 
-unfoldable pub alias : List ℕ → Span → Machine → Result Told Refusal
-alias name s m = alias_of (meaning name m.anchors.ids) s m
+unfoldable pub alias_node : List ℕ → Span → Machine → Result Told Refusal
+alias_node name s m = alias_of (meaning name m.anchors.ids) s m
 
 abbrev pub register : List ℕ → Machine → Machine
 register name m = record m { anchors = registered name m.anchors }
 
 -- behind an anchor that got the id
-abbrev pub behind_anchor_at : Kind → ℕ → Span → Context → Piece → Machine → Result Told Refusal
+abbrev pub behind_anchor_at : Kind → ℕ → Span → NodeContext → Piece → Machine → Result Told Refusal
 behind_anchor_at (tokens.Tag handle suffix) id s c t m = do
   tag ← resolved m.prefixes handle suffix s.start
   next_content (record { start = s.start; behind = t.span.end; anchor = id; tag = Some tag }) c m
-behind_anchor_at _ id s c t m = content (record { start = s.start; behind = s.end; anchor = id; tag = None }) c t m
+behind_anchor_at _ id s c t m = node_content (record { start = s.start; behind = s.end; anchor = id; tag = None }) c t m
 
-unfoldable pub behind_anchor : List ℕ → Span → Context → Machine → Result Told Refusal
+unfoldable pub behind_anchor : List ℕ → Span → NodeContext → Machine → Result Told Refusal
 behind_anchor name s c m = do
-  t ← take (register name m)
+  t ← taken_token (register name m)
   behind_anchor_at t.0.kind (next_id m.anchors) s c t.0 t.1
 
 -- behind a tag
-abbrev pub behind_tag_at : Kind → ResolvedTag → Span → Context → Piece → Machine → Result Told Refusal
+abbrev pub behind_tag_at : Kind → ResolvedTag → Span → NodeContext → Piece → Machine → Result Told Refusal
 behind_tag_at (tokens.Anchor name) tag s c t m =
     next_content (record { start = s.start; behind = t.span.end; anchor = next_id m.anchors; tag = Some tag }) c
     (register name m)
-behind_tag_at _ tag s c t m = content (record { start = s.start; behind = s.end; anchor = 0; tag = Some tag }) c t m
+behind_tag_at _ tag s c t m =
+    node_content (record { start = s.start; behind = s.end; anchor = 0; tag = Some tag }) c t m
 
-unfoldable pub behind_tag : List ℕ → List ℕ → Span → Context → Machine → Result Told Refusal
+unfoldable pub behind_tag : List ℕ → List ℕ → Span → NodeContext → Machine → Result Told Refusal
 behind_tag handle suffix s c m = do
   tag ← resolved m.prefixes handle suffix s.start
-  t ← take m
+  t ← taken_token m
   behind_tag_at t.0.kind tag s c t.0 t.1
 
 -- a node begins with the token
-abbrev pub node_at : Kind → Context → Piece → Machine → Result Told Refusal
-node_at (tokens.Alias name) c t m = alias name t.span m
+abbrev pub node_at : Kind → NodeContext → Piece → Machine → Result Told Refusal
+node_at (tokens.Alias name) c t m = alias_node name t.span m
 node_at (tokens.Anchor name) c t m = behind_anchor name t.span c m
 node_at (tokens.Tag handle suffix) c t m = behind_tag handle suffix t.span c m
-node_at _ c t m = content (no_node_properties t.span.start) c t m
+node_at _ c t m = node_content (no_node_properties t.span.start) c t m
 
-unfoldable pub node : Context → Piece → Machine → Result Told Refusal
+unfoldable pub node : NodeContext → Piece → Machine → Result Told Refusal
 node c t m = node_at t.kind c t m
 
 -- a node inside a collection, which goes on in the state behind it
-abbrev pub inside : State → Context → Piece → Machine → Result Told Refusal
-inside s c t m = node c t (push s m)
+abbrev pub node_inside : State → NodeContext → Piece → Machine → Result Told Refusal
+node_inside s c t m = node c t (push s m)

@@ -1,11 +1,11 @@
 -- What contracts see of a reader.
 use Rattle.std.specs.Prelude.{option_map}
-use Rattle.saphyr_parser.specs.declared.parser.reader.Reader.{Reader}
+use Rattle.saphyr_parser.specs.declared.parser.reader.EventReader.{EventReader}
 use Rattle.saphyr_parser.specs.Views.Machines.{machine_of}
-use Rattle.saphyr_parser.specs.Cursor.{Cursor, event_of}
+use Rattle.saphyr_parser.specs.Cursor.{EventCursor, event_of}
 use Rattle.saphyr_parser.specs.Views.Kept.{kept_of}
 
-abbrev pub cursor : {T : Type 0} → Reader T → Cursor
+abbrev pub cursor : {T : Type 0} → EventReader T → EventCursor
 cursor r = record {
   current =
       option_map event_of r.current;

@@ -1,7 +1,7 @@
 //! Callers of a parser, whose contracts follow from those of its calls alone.
 ghost use Rattle.std.specs.Prelude.{◌≡◌, ◌↔◌, None, IfSome, IsTrue};
 ghost use Rattle.saphyr_scalar.specs.declared.scalar.position.Span.{Span as PlaceSpan};
-ghost use Rattle.saphyr_parser.specs.Calls.{Gives};
+ghost use Rattle.saphyr_parser.specs.Calls.{GivesNext};
 ghost use Rattle.saphyr_parser.specs.Views.Events.{happening};
 ghost use Rattle.saphyr_parser.specs.Events.{StreamEnd};
 ghost use Rattle.saphyr_parser.specs.Loading.{SendsOne};
@@ -39,7 +39,7 @@ pub fn loads_the_end_again<'input, T: Input, R: SpannedEventReceiver<'input>>(
 pub fn hands_out_what_was_peeked<'input, T: Input>(
     parser: &mut Parser<'input, T>,
 ) -> Option<Result<(Event<'input>, Span), Fault>>
-    ensures { Gives result parser.old parser.new }
+    ensures { GivesNext result parser.old parser.new }
 {
     let _ = parser.peek();
     parser.next_event()

@@ -2,7 +2,7 @@
 
 ghost use Rattle.saphyr_parser.specs.Steps.Block as spec;
 
-use crate::parser::context::Context;
+use crate::parser::context::NodeContext;
 use crate::parser::event::Event;
 use crate::parser::machine::{Machine, refuse};
 use crate::parser::state::State;
@@ -27,11 +27,11 @@ impl<T: Input> Machine<T> {
                 self.pop();
                 next.0 = Event::SequenceEnd;
                 next.1 = token.span;
-                Ok(())
             }
-            TokenType::BlockEntry => self.block_sequence_node(token.span, next),
-            _ => Err(refuse(FaultText::SequenceEntryExpected, token.span.start)),
+            TokenType::BlockEntry => self.block_sequence_node(token.span, next)?,
+            _ => return Err(refuse(FaultText::SequenceEntryExpected, token.span.start)),
         }
+        Ok(())
     }
 
     // The node behind a `-`.
@@ -47,10 +47,11 @@ impl<T: Input> Machine<T> {
         let token = self.take()?;
         match token.kind {
             TokenType::BlockEntry | TokenType::BlockEnd => {
-                self.left_out(token, State::BlockSequenceEntry, dash, next)
+                self.left_out(token, State::BlockSequenceEntry, dash, next)?
             }
-            _ => self.inside(State::BlockSequenceEntry, Context::Block, token, next),
+            _ => self.inside(State::BlockSequenceEntry, NodeContext::Block, token, next)?,
         }
+        Ok(())
     }
 
     // An entry of a sequence at the column of the mapping around it, or its end.
@@ -63,16 +64,16 @@ impl<T: Input> Machine<T> {
     {
         let token = self.take()?;
         match token.kind {
-            TokenType::BlockEntry => self.indentless_sequence_node(token.span, next),
+            TokenType::BlockEntry => self.indentless_sequence_node(token.span, next)?,
             _ => {
                 let span = token.span;
                 self.put_back(token);
                 self.pop();
                 next.0 = Event::SequenceEnd;
                 next.1 = span;
-                Ok(())
             }
         }
+        Ok(())
     }
 
     #[tactic(auto, unfolding(crate::specs::Steps::Block::indentless_node))]
@@ -86,10 +87,16 @@ impl<T: Input> Machine<T> {
         let token = self.take()?;
         match token.kind {
             TokenType::BlockEntry | TokenType::Key | TokenType::Value | TokenType::BlockEnd => {
-                self.left_out(token, State::IndentlessSequenceEntry, dash, next)
+                self.left_out(token, State::IndentlessSequenceEntry, dash, next)?
             }
-            _ => self.inside(State::IndentlessSequenceEntry, Context::Block, token, next),
+            _ => self.inside(
+                State::IndentlessSequenceEntry,
+                NodeContext::Block,
+                token,
+                next,
+            )?,
         }
+        Ok(())
     }
 
     // A key of a block mapping, or its end.
@@ -102,67 +109,80 @@ impl<T: Input> Machine<T> {
     {
         let token = self.take()?;
         match token.kind {
-            TokenType::Key => self.block_key_node(next),
+            TokenType::Key => self.block_key_node(next)?,
             TokenType::Value => {
                 let span = token.span;
-                self.left_out(token, State::BlockMappingValue, span, next)
+                self.left_out(token, State::BlockMappingValue, span, next)?
             }
             TokenType::BlockEnd => {
                 self.pop();
                 next.0 = Event::MappingEnd;
                 next.1 = token.span;
-                Ok(())
             }
-            _ => Err(refuse(FaultText::BlockMappingKeyExpected, token.span.start)),
+            _ => return Err(refuse(FaultText::BlockMappingKeyExpected, token.span.start)),
         }
+        Ok(())
     }
 
     // The node behind a key's token.
-    #[tactic(auto, unfolding(crate::specs::Steps::Block::key_node))]
+    #[tactic(auto, unfolding(crate::specs::Steps::Block::block_key_node))]
     fn block_key_node<'input>(&mut self, next: &mut (Event<'input>, Span)) -> Result<(), Stop>
-        ensures { TellsBy spec.key_node self.old result next.new self.new }
+        ensures { TellsBy spec.block_key_node self.old result next.new self.new }
     {
         let token = self.take()?;
         match token.kind {
             TokenType::Key | TokenType::Value | TokenType::BlockEnd => {
                 let span = token.span;
-                self.left_out(token, State::BlockMappingValue, span, next)
+                self.left_out(token, State::BlockMappingValue, span, next)?
             }
-            _ => self.inside(State::BlockMappingValue, Context::BlockMapping, token, next),
+            _ => self.inside(
+                State::BlockMappingValue,
+                NodeContext::BlockMapping,
+                token,
+                next,
+            )?,
         }
+        Ok(())
     }
 
     // The value of a pair of a block mapping.
-    #[tactic(auto, unfolding(crate::specs::Steps::Block::mapping_value))]
+    #[tactic(auto, unfolding(crate::specs::Steps::Block::block_mapping_value))]
     pub(super) fn block_mapping_value<'input>(
         &mut self,
         next: &mut (Event<'input>, Span),
     ) -> Result<(), Stop>
-        ensures { TellsBy spec.mapping_value self.old result next.new self.new }
+        ensures { TellsBy spec.block_mapping_value self.old result next.new self.new }
     {
         let token = self.take()?;
         let span = token.span;
         match token.kind {
-            TokenType::Value => self.block_value_node(span, next),
-            _ => self.left_out(token, State::BlockMappingKey, span, next),
+            TokenType::Value => self.block_value_node(span, next)?,
+            _ => self.left_out(token, State::BlockMappingKey, span, next)?,
         }
+        Ok(())
     }
 
     // The node behind a value's token.
-    #[tactic(auto, unfolding(crate::specs::Steps::Block::value_node))]
+    #[tactic(auto, unfolding(crate::specs::Steps::Block::block_value_node))]
     fn block_value_node<'input>(
         &mut self,
         colon: Span,
         next: &mut (Event<'input>, Span),
     ) -> Result<(), Stop>
-        ensures { TellsBy (spec.value_node colon) self.old result next.new self.new }
+        ensures { TellsBy (spec.block_value_node colon) self.old result next.new self.new }
     {
         let token = self.take()?;
         match token.kind {
             TokenType::Key | TokenType::Value | TokenType::BlockEnd => {
-                self.left_out(token, State::BlockMappingKey, colon, next)
+                self.left_out(token, State::BlockMappingKey, colon, next)?
             }
-            _ => self.inside(State::BlockMappingKey, Context::BlockMapping, token, next),
+            _ => self.inside(
+                State::BlockMappingKey,
+                NodeContext::BlockMapping,
+                token,
+                next,
+            )?,
         }
+        Ok(())
     }
 }

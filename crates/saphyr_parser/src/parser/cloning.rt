@@ -8,7 +8,7 @@ ghost use Rattle.saphyr_parser.specs.Views.Kept.{kept_of};
 use crate::parser::event::Event;
 use crate::parser::kept::Kept;
 use crate::parser::machine::Machine;
-use crate::parser::reader::Reader;
+use crate::parser::reader::EventReader;
 use saphyr_input::input::CloneInput;
 use saphyr_scalar::Span;
 use saphyr_scanner::Token;
@@ -69,14 +69,14 @@ impl<T: CloneInput> Machine<T> {
     }
 }
 
-impl<'input, T: CloneInput> Reader<'input, T> {
+impl<'input, T: CloneInput> EventReader<'input, T> {
     ghost use Rattle.saphyr_parser.specs.Views.Readers.{cursor};
 
     // A reader of its own that stands at the same place.
     pub(super) fn try_clone(&self) -> Result<Self, AllocError>
         ensures { IfOk result (λ copy. cursor copy ≡ cursor self.now) }
     {
-        Ok(Reader {
+        Ok(EventReader {
             machine: self.machine.try_clone()?,
             current: copy_event(&self.current)?,
             kept: copy_kept(&self.kept)?,

@@ -4,7 +4,7 @@ ghost use Rattle.std.specs.Prelude.{◌≡◌};
 
 /// Where a node stands.
 #[derive(Clone, Copy, Debug, PartialEq, Eq)]
-pub enum Context {
+pub enum NodeContext {
     /// Inside a flow collection, where no block collection is.
     Flow,
     Block,
@@ -13,15 +13,15 @@ pub enum Context {
     BlockMapping,
 }
 
-impl Context {
+impl NodeContext {
     ghost use Rattle.saphyr_parser.specs.Steps.Contexts as spec;
 
     pub fn allows_block(self) -> bool
         ensures { result ≡ spec.allows_block self }
     {
         match self {
-            Context::Flow => false,
-            Context::Block | Context::BlockMapping => true,
+            NodeContext::Flow => false,
+            NodeContext::Block | NodeContext::BlockMapping => true,
         }
     }
 
@@ -30,8 +30,8 @@ impl Context {
         ensures { result ≡ spec.allows_indentless self }
     {
         match self {
-            Context::Flow | Context::Block => false,
-            Context::BlockMapping => true,
+            NodeContext::Flow | NodeContext::Block => false,
+            NodeContext::BlockMapping => true,
         }
     }
 }

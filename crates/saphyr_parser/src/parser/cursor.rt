@@ -13,7 +13,7 @@ use crate::law::{gives_json, takes_all_events};
 use crate::parser::event::Event;
 use crate::parser::fault::Fault;
 use crate::parser::progress::Progress;
-use crate::parser::reader::Reader;
+use crate::parser::reader::EventReader;
 use crate::parser::receiver::SpannedEventReceiver;
 use saphyr_input::input::{CloneInput, Input};
 use saphyr_input::{BufferedInput, StrInput};
@@ -34,7 +34,7 @@ const MOST_CHARACTERS: usize = 4294967295;
 ///
 /// Contracts see a cursor in the list of the events, which at most one fault ends.
 pub struct Parser<'input, T: Input> {
-    reader: Reader<'input, T>,
+    reader: EventReader<'input, T>,
 }
 
 // Written out, so that a crate with a parser calls it: a derived one is copied, with those of all inner types,
@@ -47,10 +47,10 @@ impl<T: Input + Drop> Drop for Parser<'_, T> {
 
 impl<'input, T: Input> Model for Parser<'input, T> {
     ghost use Rattle.saphyr_parser.specs.Calls.{IsSound};
-    ghost use Rattle.saphyr_parser.specs.Cursor.{Cursor};
+    ghost use Rattle.saphyr_parser.specs.Cursor.{EventCursor};
     ghost use Rattle.saphyr_parser.specs.Views.Readers.{cursor};
 
-    ghost Value = { Cursor };
+    ghost Value = { EventCursor };
 
     ghost view = { λ p. cursor p.reader };
 
@@ -113,7 +113,7 @@ impl<'input, T: Input> Parser<'input, T> {
         takes_all_events();
         places_taken_tokens();
         Parser {
-            reader: Reader::new(alloc, Scanner::new(alloc, src, limit)),
+            reader: EventReader::new(alloc, Scanner::new(alloc, src, limit)),
         }
     }
 
@@ -134,10 +134,10 @@ impl<'input, T: Input> Parser<'input, T> {
     /// for that, `OutOfMemory` is handed out and kept in its place.
     #[inline(always)]
     pub fn next_event(&mut self) -> Option<Result<(Event<'input>, Span), Fault>>
-        ensures hands { spec.Hands result (spec.to_come self.old) (spec.to_come self.new) }
+        ensures hands { spec.HandsOutNext result (spec.to_come self.old) (spec.to_come self.new) }
         ensures remembers { spec.Remembers result self.old self.new }
         ensures given { spec.IsGiven result self.new.kept }
-        ensures leaves { calls.Gives result self.old self.new }
+        ensures leaves { calls.GivesNext result self.old self.new }
         ensures over { calls.EndsTheStream self.new }
     {
         self.reader.next_event()
@@ -150,7 +150,8 @@ impl<'input, T: Input> Parser<'input, T> {
         next: &mut (Event<'input>, Span),
         fault: &mut Fault,
     ) -> Progress
-        ensures leaves { calls.Gives (calls.placed next.new fault.new result) self.old self.new }
+        ensures leaves { calls.GivesNext (calls.placed next.new fault.new result) self.old
+            self.new }
         ensures over { calls.EndsTheStream self.new }
     {
         self.reader.advance(next, fault)
@@ -258,10 +259,11 @@ impl<'input, T: Input + Drop> Iterator for Parser<'input, T> {
     type Item = Result<(Event<'input>, Span), Fault>;
 
     ghost use Rattle.std.specs.Iterator.{at_most};
-    ghost use Rattle.saphyr_parser.specs.Calls.{EndsTheStream, Gives};
-    ghost use Rattle.saphyr_parser.specs.Cursor.{Hands, IsGiven, Remembers, count, to_come};
+    ghost use Rattle.saphyr_parser.specs.Calls.{EndsTheStream, GivesNext};
+    ghost use Rattle.saphyr_parser.specs.Cursor.{HandsOutNext, IsGiven, Remembers, count, to_come};
 
-    ghost next_gives = { λ s r t. Hands r (to_come s) (to_come t) × Remembers r s t × IsGiven r t.kept × Gives r s t × EndsTheStream t };
+    ghost next_gives = { λ s r t. HandsOutNext r (to_come s) (to_come t) × Remembers r s t
+        × IsGiven r t.kept × GivesNext r s t × EndsTheStream t };
 
     ghost remaining = { λ s. at_most (count (to_come s)) };
 

@@ -1,14 +1,15 @@
 //! The states at the beginnings and the ends of the stream and of documents, with the directives
 //! (YAML 1.2.2, 6.8 and chapter 9).
 
-ghost use Rattle.std.specs.Prelude.{◌≡◌, None, string_bytes};
+ghost use Rattle.std.specs.Prelude.{◌≡◌, ℕ, List, None, string_bytes};
 ghost use Rattle.saphyr_scanner.specs.Views.Tokens.{kind_of};
 ghost use Rattle.saphyr_parser.specs.Steps.Documents as spec;
 
-use crate::parser::context::Context;
+use crate::parser::context::NodeContext;
 use crate::parser::event::Event;
 use crate::parser::handles::Handles;
 use crate::parser::machine::{Machine, refuse};
+use crate::parser::prefixes::Prefixes;
 use crate::parser::state::State;
 use saphyr_input::input::Input;
 use saphyr_scalar::{FaultText, Marker, Span, Stop};
@@ -42,26 +43,42 @@ fn is_directive(kind: &TokenType) -> bool
 #[derive(Drop)]
 pub struct Declared {
     version: bool,
+    // Whether prefixes of an earlier document were kept. If none were, the prefixes have no other handles, and these
+    // aren't noted a second time: a text may have a million of them.
+    apart: bool,
     handles: Handles,
 }
 
 impl Declared {
+    ghost use Rattle.saphyr_parser.specs.Steps.Machine.{Names, is_listed};
     ghost use Rattle.saphyr_scalar.specs.Views.Reader.{Moves};
     ghost use Rattle.saphyr_parser.specs.Views.Documents.{declared_of};
 
-    fn nothing(alloc: Global) -> Declared
-        ensures { declared_of result ≡ spec.none_declared }
+    fn nothing(alloc: Global, prefixes: &Prefixes) -> Declared
+        ensures { declared_of result prefixes.now ≡ spec.none_declared }
     {
         Declared {
             version: false,
+            apart: !prefixes.is_empty(),
             handles: Handles::new(alloc),
+        }
+    }
+
+    // Whether the document has declared the handle.
+    fn has(&self, handle: &str, prefixes: &Prefixes) -> bool
+        ensures { result ≡ is_listed handle.now (declared_of self.now prefixes.now).handles }
+    {
+        if self.apart {
+            self.handles.contains(handle)
+        } else {
+            prefixes.contains(handle)
         }
     }
 
     // A version may be declared once.
     fn add_version(&mut self, place: Marker) -> Result<(), Stop>
-        ensures { Moves (λ _. declared_of self.new) result
-            (spec.add_version place (declared_of self.old)) }
+        ensures { (prefixes : Names (List ℕ)) → Moves (λ _. declared_of self.new prefixes) result
+            (spec.with_version place (declared_of self.old prefixes)) }
     {
         if self.version {
             return Err(refuse(FaultText::DuplicateVersionDirective, place));
@@ -81,7 +98,7 @@ impl<T: Input> Machine<T> {
 
     // Takes the first token behind ends of documents and byte order marks.
     fn pass_ends(&mut self) -> Result<Token, Stop>
-        ensures taken { TakesBy (spec.pass spec.is_end_or_mark) self.old result self.new }
+        ensures taken { TakesBy (spec.unpassed_token spec.is_end_or_mark) self.old result self.new }
         ensures room { IfOk result (λ t. self.new.token ≡ None) }
     {
         loop {
@@ -94,7 +111,7 @@ impl<T: Input> Machine<T> {
 
     // Takes the first token behind byte order marks.
     fn pass_marks(&mut self) -> Result<Token, Stop>
-        ensures taken { TakesBy (spec.pass spec.is_mark) self.old result self.new }
+        ensures taken { TakesBy (spec.unpassed_token spec.is_mark) self.old result self.new }
         ensures room { IfOk result (λ t. self.new.token ≡ None) }
     {
         loop {
@@ -106,6 +123,7 @@ impl<T: Input> Machine<T> {
     }
 
     // Each handle may be declared once.
+    #[tactic(auto, using(crate::proofs::Names::given_names))]
     fn tag_directive(
         &mut self,
         handle: String,
@@ -114,23 +132,25 @@ impl<T: Input> Machine<T> {
         declared: &mut Declared,
     ) -> Result<(), Stop>
         ensures { Moves {Y = spec.Declared × machine.Machine}
-            (λ _. (seen declared.new, machine_of self.new)) result
-            (spec.tag_directive (string_bytes handle) (string_bytes prefix) place
-            (seen declared.old) (machine_of self.old)) }
+            (λ _. (seen declared.new self.new.prefixes, machine_of self.new)) result
+            (spec.with_handle (string_bytes handle) (string_bytes prefix) place
+            (seen declared.old self.old.prefixes) (machine_of self.old)) }
     {
-        if declared.handles.contains(handle.as_str()) {
+        if declared.has(handle.as_str(), &self.prefixes) {
             return Err(refuse(FaultText::DuplicateTagDirective, place));
         }
-        declared.handles.insert(handle.clone()?)?;
+        if declared.apart {
+            declared.handles.insert(handle.clone()?)?;
+        }
         self.prefixes.declare(handle, prefix)
     }
 
     // What a directive declares. Reserved directives are ignored.
     fn directive(&mut self, token: Token, declared: &mut Declared) -> Result<(), Stop>
         ensures { Moves {Y = spec.Declared × machine.Machine}
-            (λ _. (seen declared.new, machine_of self.new)) result
-            (spec.directive_at (piece token).kind (piece token) (seen declared.old)
-            (machine_of self.old)) }
+            (λ _. (seen declared.new self.new.prefixes, machine_of self.new)) result
+            (spec.directive_at (piece token).kind (piece token)
+            (seen declared.old self.old.prefixes) (machine_of self.old)) }
     {
         let Token { span, kind } = token;
         match kind {
@@ -147,7 +167,7 @@ impl<T: Input> Machine<T> {
     fn directives(&mut self) -> Result<Token, Stop>
         ensures { TakesBy (spec.directives spec.none_declared) self.old result self.new }
     {
-        let mut declared = Declared::nothing(self.alloc);
+        let mut declared = Declared::nothing(self.alloc, &self.prefixes);
         loop {
             let token = self.take()?;
             if !is_directive(&token.kind) {
@@ -287,7 +307,7 @@ impl<T: Input> Machine<T> {
                 *next = (self.empty_scalar(), span);
                 Ok(())
             }
-            _ => self.node(Context::Block, token, next),
+            _ => self.node(NodeContext::Block, token, next),
         }
     }
 

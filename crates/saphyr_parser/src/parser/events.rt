@@ -4,7 +4,7 @@ ghost use Rattle.std.specs.Prelude.{◌≡◌, ◌≢◌, ◌↔◌, IsTrue, fal
 ghost use Rattle.saphyr_parser.specs.Steps.Expected as spec;
 
 use crate::parser::anchors::Anchors;
-use crate::parser::context::Context;
+use crate::parser::context::NodeContext;
 use crate::parser::event::Event;
 use crate::parser::fault::Fault;
 use crate::parser::machine::Machine;
@@ -18,14 +18,14 @@ use std::alloc::Global;
 
 impl<T: Input> Machine<T> {
     ghost use Rattle.saphyr_parser.specs.Views.Machines.{machine_of, TellsBy};
-    ghost use Rattle.saphyr_parser.specs.Steps.Machine.{fresh};
+    ghost use Rattle.saphyr_parser.specs.Steps.Machine.{fresh_machine};
     ghost use Rattle.saphyr_parser.specs.Calls.{Reads, placed};
     ghost use Rattle.saphyr_parser.specs.Cursor.{filled};
     ghost use Rattle.saphyr_parser.specs.Faults.{IsFaultOf, is_foreign};
     ghost use Rattle.saphyr_parser.specs.declared.parser.state.State.TheVariants.{End};
 
     pub(super) fn new(alloc: Global, scanner: Scanner<T>) -> Self
-        ensures { machine_of result ≡ fresh scanner }
+        ensures { machine_of result ≡ fresh_machine scanner }
     {
         Machine {
             scanner,
@@ -45,7 +45,8 @@ impl<T: Input> Machine<T> {
         ensures { TellsBy spec.block_node self.old result next.new self.new }
     {
         let token = self.take()?;
-        self.node(Context::Block, token, next)
+        self.node(NodeContext::Block, token, next)?;
+        Ok(())
     }
 
     // Whether the end of the stream was reached.
@@ -108,34 +109,35 @@ impl<T: Input> Machine<T> {
 
     // The next event, which is written into its place.
     #[inline(never)]
-    #[tactic(auto, unfolding(crate::specs::Steps::Expected::step))]
+    #[tactic(auto, unfolding(crate::specs::Steps::Expected::event_step))]
     pub(super) fn event<'input>(&mut self, next: &mut (Event<'input>, Span)) -> Result<(), Stop>
         requires { (machine_of self.old).state ≢ End }
-        ensures { TellsBy spec.step self.old result next.new self.new }
+        ensures { TellsBy spec.event_step self.old result next.new self.new }
     {
         match self.state {
-            State::StreamStart => self.stream_start(next),
-            State::ImplicitDocumentStart => self.implicit_document_start(next),
-            State::DocumentStart => self.document_start(next),
-            State::DocumentContent => self.document_content(next),
-            State::DocumentEnd => self.document_end(next),
-            State::BlockNode => self.block_node(next),
-            State::BlockSequenceEntry => self.block_sequence_entry(next),
-            State::IndentlessSequenceEntry => self.indentless_sequence_entry(next),
-            State::BlockMappingKey => self.block_mapping_key(next),
-            State::BlockMappingValue => self.block_mapping_value(next),
-            State::FlowSequenceFirstEntry => self.flow_sequence_first_entry(next),
-            State::FlowSequenceEntry => self.flow_sequence_entry(next),
-            State::FlowSequenceEntryMappingKey => self.flow_sequence_entry_mapping_key(next),
-            State::FlowSequenceEntryMappingValue => self.flow_sequence_entry_mapping_value(next),
+            State::StreamStart => self.stream_start(next)?,
+            State::ImplicitDocumentStart => self.implicit_document_start(next)?,
+            State::DocumentStart => self.document_start(next)?,
+            State::DocumentContent => self.document_content(next)?,
+            State::DocumentEnd => self.document_end(next)?,
+            State::BlockNode => self.block_node(next)?,
+            State::BlockSequenceEntry => self.block_sequence_entry(next)?,
+            State::IndentlessSequenceEntry => self.indentless_sequence_entry(next)?,
+            State::BlockMappingKey => self.block_mapping_key(next)?,
+            State::BlockMappingValue => self.block_mapping_value(next)?,
+            State::FlowSequenceFirstEntry => self.flow_sequence_first_entry(next)?,
+            State::FlowSequenceEntry => self.flow_sequence_entry(next)?,
+            State::FlowSequenceEntryMappingKey => self.flow_sequence_entry_mapping_key(next)?,
+            State::FlowSequenceEntryMappingValue => self.flow_sequence_entry_mapping_value(next)?,
             State::FlowSequenceEntryMappingEnd(place) => {
-                self.flow_sequence_entry_mapping_end(place, next)
+                self.flow_sequence_entry_mapping_end(place, next)?
             }
-            State::FlowMappingFirstKey => self.flow_mapping_first_key(next),
-            State::FlowMappingKey => self.flow_mapping_key(next),
-            State::FlowMappingValue => self.flow_mapping_value(next),
-            State::FlowMappingEmptyValue => self.flow_mapping_empty_value(next),
+            State::FlowMappingFirstKey => self.flow_mapping_first_key(next)?,
+            State::FlowMappingKey => self.flow_mapping_key(next)?,
+            State::FlowMappingValue => self.flow_mapping_value(next)?,
+            State::FlowMappingEmptyValue => self.flow_mapping_empty_value(next)?,
             State::End => unreachable!(),
         }
+        Ok(())
     }
 }

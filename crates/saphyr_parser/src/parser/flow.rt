@@ -3,7 +3,7 @@
 ghost use Rattle.std.specs.Prelude.{◌≡◌, None};
 ghost use Rattle.saphyr_parser.specs.Steps.Flow as spec;
 
-use crate::parser::context::Context;
+use crate::parser::context::NodeContext;
 use crate::parser::event::Event;
 use crate::parser::machine::{Machine, refuse};
 use crate::parser::state::State;
@@ -30,16 +30,15 @@ impl<T: Input> Machine<T> {
                 self.pop();
                 next.0 = Event::SequenceEnd;
                 next.1 = token.span;
-                Ok(())
             }
             TokenType::Key => {
                 self.state = State::FlowSequenceEntryMappingKey;
                 next.0 = Event::MappingStart(0, None);
                 next.1 = token.span;
-                Ok(())
             }
-            _ => self.inside(State::FlowSequenceEntry, Context::Flow, token, next),
+            _ => self.inside(State::FlowSequenceEntry, NodeContext::Flow, token, next)?,
         }
+        Ok(())
     }
 
     // The comma before an entry of a flow sequence, with the entry, or the end of the sequence.
@@ -57,11 +56,11 @@ impl<T: Input> Machine<T> {
                 self.pop();
                 next.0 = Event::SequenceEnd;
                 next.1 = token.span;
-                Ok(())
             }
-            TokenType::FlowEntry => self.flow_sequence_first_entry(next),
-            _ => Err(refuse(FaultText::FlowSequenceEndExpected, token.span.start)),
+            TokenType::FlowEntry => self.flow_sequence_first_entry(next)?,
+            _ => return Err(refuse(FaultText::FlowSequenceEndExpected, token.span.start)),
         }
+        Ok(())
     }
 
     // The key of a pair of a flow sequence, behind its `?`. One that is left out leaves what follows it.
@@ -76,15 +75,16 @@ impl<T: Input> Machine<T> {
         match token.kind {
             TokenType::Value | TokenType::FlowEntry | TokenType::FlowSequenceEnd => {
                 let span = token.span;
-                self.left_out(token, State::FlowSequenceEntryMappingValue, span, next)
+                self.left_out(token, State::FlowSequenceEntryMappingValue, span, next)?
             }
             _ => self.inside(
                 State::FlowSequenceEntryMappingValue,
-                Context::Flow,
+                NodeContext::Flow,
                 token,
                 next,
-            ),
+            )?,
         }
+        Ok(())
     }
 
     // The value of a pair of a flow sequence.
@@ -97,7 +97,7 @@ impl<T: Input> Machine<T> {
     {
         let token = self.take()?;
         match token.kind {
-            TokenType::Value => self.flow_sequence_entry_mapping_node(next),
+            TokenType::Value => self.flow_sequence_entry_mapping_node(next)?,
             _ => {
                 let span = token.span;
                 self.left_out(
@@ -105,9 +105,10 @@ impl<T: Input> Machine<T> {
                     State::FlowSequenceEntryMappingEnd(span.end),
                     span,
                     next,
-                )
+                )?
             }
         }
+        Ok(())
     }
 
     // The node behind the colon of a pair of a flow sequence. The pair's end has its place behind the
@@ -125,9 +126,10 @@ impl<T: Input> Machine<T> {
         match token.kind {
             TokenType::FlowEntry | TokenType::FlowSequenceEnd => self.left_out(
                 token, state, span, next,
-            ),
-            _ => self.inside(state, Context::Flow, token, next),
+            )?,
+            _ => self.inside(state, NodeContext::Flow, token, next)?,
         }
+        Ok(())
     }
 
     // The end of a pair of a flow sequence.
@@ -159,7 +161,8 @@ impl<T: Input> Machine<T> {
     {
         let token = self.take()?;
         let span = token.span;
-        self.flow_mapping_pair(span, token, next)
+        self.flow_mapping_pair(span, token, next)?;
+        Ok(())
     }
 
     // The comma before a pair of a flow mapping, with its key, or the end of the mapping.
@@ -177,11 +180,11 @@ impl<T: Input> Machine<T> {
                 self.pop();
                 next.0 = Event::MappingEnd;
                 next.1 = token.span;
-                Ok(())
             }
-            TokenType::FlowEntry => self.flow_mapping_pair_behind_comma(token.span, next),
-            _ => Err(refuse(FaultText::FlowMappingEndExpected, token.span.start)),
+            TokenType::FlowEntry => self.flow_mapping_pair_behind_comma(token.span, next)?,
+            _ => return Err(refuse(FaultText::FlowMappingEndExpected, token.span.start)),
         }
+        Ok(())
     }
 
     #[inline(always)]
@@ -194,7 +197,8 @@ impl<T: Input> Machine<T> {
         ensures { TellsBy (spec.pair_behind_comma comma) self.old result next.new self.new }
     {
         let token = self.take()?;
-        self.flow_mapping_pair(comma, token, next)
+        self.flow_mapping_pair(comma, token, next)?;
+        Ok(())
     }
 
     // A pair begins with the token, or the mapping ends there, and its end has the span.
@@ -210,71 +214,74 @@ impl<T: Input> Machine<T> {
             self.old result next.new self.new }
     {
         match token.kind {
-            TokenType::Key => self.flow_key_node(next),
+            TokenType::Key => self.flow_key_node(next)?,
             TokenType::Value => {
                 let span = token.span;
-                self.left_out(token, State::FlowMappingValue, span, next)
+                self.left_out(token, State::FlowMappingValue, span, next)?
             }
             TokenType::FlowMappingEnd => {
                 self.pop();
                 next.0 = Event::MappingEnd;
                 next.1 = end;
-                Ok(())
             }
-            _ => self.inside(State::FlowMappingEmptyValue, Context::Flow, token, next),
+            _ => self.inside(State::FlowMappingEmptyValue, NodeContext::Flow, token, next)?,
         }
+        Ok(())
     }
 
     // The node behind a key's token.
     #[inline(always)]
-    #[tactic(auto, unfolding(crate::specs::Steps::Flow::key_node))]
+    #[tactic(auto, unfolding(crate::specs::Steps::Flow::flow_key_node))]
     fn flow_key_node<'input>(&mut self, next: &mut (Event<'input>, Span)) -> Result<(), Stop>
-        ensures { TellsBy spec.key_node self.old result next.new self.new }
+        ensures { TellsBy spec.flow_key_node self.old result next.new self.new }
     {
         let token = self.take()?;
         match token.kind {
             TokenType::Value | TokenType::FlowEntry | TokenType::FlowMappingEnd => {
                 let span = token.span;
-                self.left_out(token, State::FlowMappingValue, span, next)
+                self.left_out(token, State::FlowMappingValue, span, next)?
             }
-            _ => self.inside(State::FlowMappingValue, Context::Flow, token, next),
+            _ => self.inside(State::FlowMappingValue, NodeContext::Flow, token, next)?,
         }
+        Ok(())
     }
 
     // The value of a pair of a flow mapping.
     #[inline(always)]
-    #[tactic(auto, unfolding(crate::specs::Steps::Flow::mapping_value))]
+    #[tactic(auto, unfolding(crate::specs::Steps::Flow::flow_mapping_value))]
     pub(super) fn flow_mapping_value<'input>(
         &mut self,
         next: &mut (Event<'input>, Span),
     ) -> Result<(), Stop>
-        ensures { TellsBy spec.mapping_value self.old result next.new self.new }
+        ensures { TellsBy spec.flow_mapping_value self.old result next.new self.new }
     {
         let token = self.take()?;
         let span = token.span;
         match token.kind {
-            TokenType::Value => self.flow_value_node(span, next),
-            _ => self.left_out(token, State::FlowMappingKey, span, next),
+            TokenType::Value => self.flow_value_node(span, next)?,
+            _ => self.left_out(token, State::FlowMappingKey, span, next)?,
         }
+        Ok(())
     }
 
     // The node behind a value's token.
     #[inline(always)]
-    #[tactic(auto, unfolding(crate::specs::Steps::Flow::value_node))]
+    #[tactic(auto, unfolding(crate::specs::Steps::Flow::flow_value_node))]
     fn flow_value_node<'input>(
         &mut self,
         colon: Span,
         next: &mut (Event<'input>, Span),
     ) -> Result<(), Stop>
-        ensures { TellsBy (spec.value_node colon) self.old result next.new self.new }
+        ensures { TellsBy (spec.flow_value_node colon) self.old result next.new self.new }
     {
         let token = self.take()?;
         match token.kind {
             TokenType::FlowEntry | TokenType::FlowMappingEnd => {
-                self.left_out(token, State::FlowMappingKey, colon, next)
+                self.left_out(token, State::FlowMappingKey, colon, next)?
             }
-            _ => self.inside(State::FlowMappingKey, Context::Flow, token, next),
+            _ => self.inside(State::FlowMappingKey, NodeContext::Flow, token, next)?,
         }
+        Ok(())
     }
 
     // The value of a pair that has a key alone.
@@ -287,6 +294,7 @@ impl<T: Input> Machine<T> {
     {
         let token = self.take()?;
         let span = token.span;
-        self.left_out(token, State::FlowMappingKey, span, next)
+        self.left_out(token, State::FlowMappingKey, span, next)?;
+        Ok(())
     }
 }

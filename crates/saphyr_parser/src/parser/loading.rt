@@ -6,7 +6,7 @@ ghost use Rattle.saphyr_parser.specs.Views.Events.{happening};
 
 use crate::parser::event::Event;
 use crate::parser::fault::Fault;
-use crate::parser::reader::Reader;
+use crate::parser::reader::EventReader;
 use crate::parser::receiver::SpannedEventReceiver;
 use saphyr_input::input::Input;
 use saphyr_scalar::Span;
@@ -32,7 +32,7 @@ fn send<'input, R: SpannedEventReceiver<'input>>(
     }
 }
 
-impl<'input, T: Input> Reader<'input, T> {
+impl<'input, T: Input> EventReader<'input, T> {
     ghost use Rattle.saphyr_parser.specs.Views.Readers.{cursor};
     ghost use Rattle.std.specs.Prelude.{Some, Err, true, false};
     ghost use Rattle.saphyr_scalar.specs.declared.scalar.position.Span.{Span as PlaceSpan};

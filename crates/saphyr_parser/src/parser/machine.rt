@@ -55,7 +55,7 @@ impl<T: Input> Machine<T> {
     // Takes the token that was put back, if one was.
     #[inline(always)]
     fn take_back(&mut self) -> Option<Token>
-        ensures taken { IfSome result (λ t. spec.take (machine_of self.old)
+        ensures taken { IfSome result (λ t. spec.taken_token (machine_of self.old)
             ≡ Ok (piece t, machine_of self.new)) }
         ensures room { self.new.token ≡ None }
         ensures same { IfNone result (self.new ≡ self.old) }
@@ -71,7 +71,7 @@ impl<T: Input> Machine<T> {
     #[inline(always)]
     fn take_into(&mut self, token: &mut Token) -> Result<(), Stop>
         ensures taken { Moves (λ _. (piece token.new, machine_of self.new)) result
-            (spec.take (machine_of self.old)) }
+            (spec.taken_token (machine_of self.old)) }
         ensures room { IfOk result (λ _. self.new.token ≡ None) }
     {
         if let Some(next) = self.take_back() {
@@ -94,7 +94,7 @@ impl<T: Input> Machine<T> {
     // Takes the next token.
     #[inline(always)]
     pub(super) fn take(&mut self) -> Result<Token, Stop>
-        ensures taken { TakesBy spec.take self.old result self.new }
+        ensures taken { TakesBy spec.taken_token self.old result self.new }
         ensures room { IfOk result (λ t. self.new.token ≡ None) }
     {
         let mut token = Token::at_start();

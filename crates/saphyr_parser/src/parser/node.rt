@@ -4,7 +4,7 @@
 ghost use Rattle.std.specs.Prelude.{◌≡◌, None, string_bytes};
 ghost use Rattle.saphyr_parser.specs.Steps.Nodes as spec;
 
-use crate::parser::context::Context;
+use crate::parser::context::NodeContext;
 use crate::parser::event::Event;
 use crate::parser::machine::{Machine, refuse};
 use crate::parser::state::State;
@@ -111,16 +111,16 @@ impl<T: Input> Machine<T> {
 
     // The content of a node begins with the token.
     #[inline(always)]
-    #[tactic(auto, unfolding(crate::specs::Steps::Nodes::content))]
+    #[tactic(auto, unfolding(crate::specs::Steps::Nodes::node_content))]
     fn content<'input>(
         &mut self,
         properties: Properties,
-        context: Context,
+        context: NodeContext,
         token: Token,
         next: &mut (Event<'input>, Span),
     ) -> Result<(), Stop>
         requires { self.old.token ≡ None }
-        ensures { TellsBy (spec.content (seen properties) context (piece token))
+        ensures { TellsBy (spec.node_content (seen properties) context (piece token))
             self.old result next.new self.new }
     {
         let Token { span, kind } = token;
@@ -162,7 +162,7 @@ impl<T: Input> Machine<T> {
     fn next_content<'input>(
         &mut self,
         properties: Properties,
-        context: Context,
+        context: NodeContext,
         next: &mut (Event<'input>, Span),
     ) -> Result<(), Stop>
         ensures { TellsBy (spec.next_content (seen properties) context)
@@ -172,14 +172,14 @@ impl<T: Input> Machine<T> {
         self.content(properties, context, token, next)
     }
 
-    #[tactic(auto, unfolding(crate::specs::Steps::Nodes::alias))]
+    #[tactic(auto, unfolding(crate::specs::Steps::Nodes::alias_node))]
     fn alias<'input>(
         &mut self,
         name: &str,
         span: Span,
         next: &mut (Event<'input>, Span),
     ) -> Result<(), Stop>
-        ensures { TellsBy (spec.alias name.now span) self.old result next.new self.new }
+        ensures { TellsBy (spec.alias_node name.now span) self.old result next.new self.new }
     {
         match self.anchors.id_of(name) {
             Some(id) => {
@@ -197,7 +197,7 @@ impl<T: Input> Machine<T> {
         &mut self,
         name: String,
         anchor: Span,
-        context: Context,
+        context: NodeContext,
         next: &mut (Event<'input>, Span),
     ) -> Result<(), Stop>
         ensures { TellsBy (spec.behind_anchor (string_bytes name) anchor context)
@@ -227,7 +227,7 @@ impl<T: Input> Machine<T> {
         &mut self,
         tag: TagParts,
         place: Span,
-        context: Context,
+        context: NodeContext,
         next: &mut (Event<'input>, Span),
     ) -> Result<(), Stop>
         ensures { TellsBy
@@ -257,7 +257,7 @@ impl<T: Input> Machine<T> {
     #[tactic(auto, unfolding(crate::specs::Steps::Nodes::node))]
     pub(super) fn node<'input>(
         &mut self,
-        context: Context,
+        context: NodeContext,
         token: Token,
         next: &mut (Event<'input>, Span),
     ) -> Result<(), Stop>
@@ -266,26 +266,27 @@ impl<T: Input> Machine<T> {
     {
         let Token { span, kind } = token;
         match kind {
-            TokenType::Alias(name) => self.alias(name.as_str(), span, next),
-            TokenType::Anchor(name) => self.behind_anchor(name, span, context, next),
-            TokenType::Tag(tag) => self.behind_tag(Box::into_inner(tag), span, context, next),
-            kind => self.bare_content(context, Token { span, kind }, next),
+            TokenType::Alias(name) => self.alias(name.as_str(), span, next)?,
+            TokenType::Anchor(name) => self.behind_anchor(name, span, context, next)?,
+            TokenType::Tag(tag) => self.behind_tag(Box::into_inner(tag), span, context, next)?,
+            kind => self.bare_content(context, Token { span, kind }, next)?,
         }
+        Ok(())
     }
 
     // A node begins with the token, and has no properties. It is read as by `content`, but as most nodes are
     // such, no `Properties` are made for it.
     #[inline(always)]
-    #[tactic(auto, unfolding(crate::specs::Steps::Nodes::content))]
+    #[tactic(auto, unfolding(crate::specs::Steps::Nodes::node_content))]
     fn bare_content<'input>(
         &mut self,
-        context: Context,
+        context: NodeContext,
         token: Token,
         next: &mut (Event<'input>, Span),
     ) -> Result<(), Stop>
         requires { self.old.token ≡ None }
         ensures { TellsBy
-            (spec.content (spec.no_node_properties (piece token).span.start) context (piece token))
+            (spec.node_content (spec.no_node_properties (piece token).span.start) context (piece token))
             self.old result next.new self.new }
     {
         let Token { span, kind } = token;
@@ -329,16 +330,16 @@ impl<T: Input> Machine<T> {
     // A node inside a collection, which goes on in the state behind it. Behind a scalar without properties it
     // does so at once: its state need not be kept for later.
     #[inline(always)]
-    #[tactic(auto, unfolding(crate::specs::Steps::Nodes::node, crate::specs::Steps::Nodes::content))]
+    #[tactic(auto, unfolding(crate::specs::Steps::Nodes::node, crate::specs::Steps::Nodes::node_content))]
     pub(super) fn inside<'input>(
         &mut self,
         state: State,
-        context: Context,
+        context: NodeContext,
         token: Token,
         next: &mut (Event<'input>, Span),
     ) -> Result<(), Stop>
         requires { self.old.token ≡ None }
-        ensures { TellsBy (spec.inside state context (piece token))
+        ensures { TellsBy (spec.node_inside state context (piece token))
             self.old result next.new self.new }
     {
         let Token { span, kind } = token;
@@ -347,12 +348,12 @@ impl<T: Input> Machine<T> {
                 self.state = state;
                 next.0 = Event::Scalar(CowStr::Owned(text), style, 0, None);
                 next.1 = span;
-                Ok(())
             }
             kind => {
                 self.push(state)?;
-                self.node(context, Token { span, kind }, next)
+                self.node(context, Token { span, kind }, next)?;
             }
         }
+        Ok(())
     }
 }

@@ -25,7 +25,8 @@ impl Model for Prefixes {
 }
 
 impl Prefixes {
-    ghost use Rattle.std.specs.Prelude.{IfOk};
+    ghost use Rattle.std.specs.Prelude.{IfOk, IsTrue};
+    ghost use Rattle.std.specs.Map.{keys_of};
     ghost use Rattle.saphyr_scalar.specs.Views.Reader.{Moves};
 
     pub fn new(alloc: Global) -> Prefixes
@@ -42,13 +43,27 @@ impl Prefixes {
         self.declared.clear();
     }
 
+    pub fn is_empty(&self) -> bool
+        ensures { IsTrue result → self.now ≡ [] }
+    {
+        self.declared.is_empty()
+    }
+
+    /// Whether a prefix is declared for the handle.
+    pub fn contains(&self, handle: &str) -> bool
+        ensures { result ≡ spec.is_listed handle.now (keys_of self.now) }
+    {
+        self.declared.contains_key(handle)
+    }
+
     #[tactic(auto, using(crate::proofs::Names::texts_given))]
     /// Declares the prefix for the handle, in place of one that it may have.
     pub fn declare(&mut self, handle: String, prefix: String) -> Result<(), Stop>
         ensures { Moves (λ _. self.new) result
             (Ok (spec.given (string_bytes handle) (string_bytes prefix) self.old)) }
     {
-        self.declared.insert(handle, prefix)?;
+        // Copies, since both were read into more room than they take, and a text may declare a million of them.
+        self.declared.insert(handle.clone()?, prefix.clone()?)?;
         Ok(())
     }
 

@@ -28,7 +28,7 @@ pub(crate) fn no_event<'input>() -> (Event<'input>, Span) {
 
 /// A machine, with what was read ahead of it and what is remembered of the events that were handed out.
 #[derive(Drop)]
-pub struct Reader<'input, T: Input> {
+pub struct EventReader<'input, T: Input> {
     pub(super) machine: Machine<T>,
     // An event that was read and not yet handed out.
     pub(super) current: Option<(Event<'input>, Span)>,
@@ -55,7 +55,7 @@ fn fill<'input>(
     }
 }
 
-impl<'input, T: Input> Reader<'input, T> {
+impl<'input, T: Input> EventReader<'input, T> {
     ghost use Rattle.saphyr_parser.specs.Views.Machines.{happening};
     ghost use Rattle.saphyr_parser.specs.Cursor as spec;
     ghost use Rattle.saphyr_parser.specs.Calls as calls;
@@ -64,7 +64,7 @@ impl<'input, T: Input> Reader<'input, T> {
     pub(super) fn new(alloc: Global, scanner: Scanner<T>) -> Self
         ensures { cursor result ≡ spec.at_start scanner }
     {
-        Reader {
+        EventReader {
             machine: Machine::new(alloc, scanner),
             current: None,
             kept: None,
@@ -159,7 +159,7 @@ impl<'input, T: Input> Reader<'input, T> {
     // Hands out what was read ahead: an event, or the fault in place of it.
     fn next_ahead(&mut self) -> Option<Result<(Event<'input>, Span), Fault>>
         requires { IfNone self.old.current (spec.IsKept (cursor self.old).kept) }
-        ensures { calls.Gives result (cursor self.old) (cursor self.new) }
+        ensures { calls.GivesNext result (cursor self.old) (cursor self.new) }
     {
         if let Some((event, span)) = self.current.take() {
             self.remember(&event, span);
@@ -172,7 +172,7 @@ impl<'input, T: Input> Reader<'input, T> {
     #[inline(never)]
     fn next_ahead_into(&mut self, next: &mut (Event<'input>, Span)) -> Option<Result<(), Fault>>
         requires { IfNone self.old.current (spec.IsKept (cursor self.old).kept) }
-        ensures { calls.Gives (filled next.new result) (cursor self.old) (cursor self.new) }
+        ensures { calls.GivesNext (filled next.new result) (cursor self.old) (cursor self.new) }
     {
         fill(self.next_ahead(), next)
     }
@@ -183,7 +183,7 @@ impl<'input, T: Input> Reader<'input, T> {
         &mut self,
         next: &mut (Event<'input>, Span),
     ) -> Option<Result<(), Fault>>
-        ensures { calls.Gives (filled next.new result) (cursor self.old) (cursor self.new) }
+        ensures { calls.GivesNext (filled next.new result) (cursor self.old) (cursor self.new) }
     {
         if self.current.is_some() || self.kept.is_some() {
             return self.next_ahead_into(next);
@@ -207,7 +207,7 @@ impl<'input, T: Input> Reader<'input, T> {
     #[inline(never)]
     fn advance_ahead(&mut self, next: &mut (Event<'input>, Span), fault: &mut Fault) -> Progress
         requires { IfNone self.old.current (spec.IsKept (cursor self.old).kept) }
-        ensures { calls.Gives (calls.placed next.new fault.new result) (cursor self.old)
+        ensures { calls.GivesNext (calls.placed next.new fault.new result) (cursor self.old)
             (cursor self.new) }
     {
         match self.next_ahead_into(next) {
@@ -253,7 +253,7 @@ impl<'input, T: Input> Reader<'input, T> {
         next: &mut (Event<'input>, Span),
         fault: &mut Fault,
     ) -> Progress
-        ensures { calls.Gives (calls.placed next.new fault.new result) (cursor self.old)
+        ensures { calls.GivesNext (calls.placed next.new fault.new result) (cursor self.old)
             (cursor self.new) }
     {
         if self.current.is_some() || self.kept.is_some() {
@@ -272,7 +272,7 @@ impl<'input, T: Input> Reader<'input, T> {
     /// Hands out the next event.
     #[inline(always)]
     pub(super) fn next_event(&mut self) -> Option<Result<(Event<'input>, Span), Fault>>
-        ensures { calls.Gives result (cursor self.old) (cursor self.new) }
+        ensures { calls.GivesNext result (cursor self.old) (cursor self.new) }
     {
         let mut next = no_event();
         match self.next_into(&mut next)? {

@@ -1,20 +1,20 @@
 //! The line of an event: its name, the properties of its node, and a scalar's text.
 
-ghost use Rattle.std.specs.Prelude.{◌≡◌, ◌++◌, codes, option_map};
+ghost use Rattle.std.specs.Prelude.{◌≡◌, ◌+◌, ◌<◌, ◌++◌, codes, length, option_map};
 ghost use Rattle.std.specs.Fmt.{decimal};
 ghost use Rattle.saphyr_parser.specs.Views.Events.{happening, resolved_tag};
 ghost use Rattle.saphyr_parser.specs.Written.{Takes};
 ghost use Rattle.saphyr_parser.specs.Printed as printed;
 
 use crate::parser::{Event, Tag};
-use crate::printing::writing::{Unwritten, write_all, write_escaped, write_number};
+use crate::printing::writing::{Unwritten, is_plain, write_all, write_escaped, write_number};
 use saphyr_scalar::ScalarStyle;
 use std::io::Write;
 
 // Writes the line of an event.
 pub(super) fn write_line<W: Write>(out: &mut W, event: &Event<'_>) -> Result<(), Unwritten>
     ensures { Takes result (W.contents out.old) (W.contents out.new)
-        (printed.line (happening event.now)) }
+        (printed.printed_line (happening event.now)) }
 {
     match event {
         Event::Nothing => Ok(()),
@@ -54,7 +54,7 @@ fn write_scalar<W: Write>(
 ) -> Result<(), Unwritten>
     ensures { Takes result (W.contents out.old) (W.contents out.new)
         (printed.node_text (codes "=VAL") id (option_map resolved_tag tag.now)
-        ++ ((codes " " ++ printed.mark style) ++ (printed.escaped text.now ++ codes "\n"))) }
+        ++ ((codes " " ++ printed.style_mark style) ++ (printed.printed_bytes text.now ++ codes "\n"))) }
 {
     write_node(out, b"=VAL", id, tag)?;
     write_all(out, mark(style))?;
@@ -65,25 +65,44 @@ fn write_scalar<W: Write>(
 // Writes the line of a scalar without properties.
 fn write_bare_scalar<W: Write>(out: &mut W, text: &str, style: ScalarStyle) -> Result<(), Unwritten>
     ensures { Takes result (W.contents out.old) (W.contents out.new)
-        (codes "=VAL " ++ printed.mark style ++ (printed.escaped text.now ++ codes "\n")) }
+        (codes "=VAL " ++ printed.style_mark style ++ (printed.printed_bytes text.now ++ codes "\n")) }
 {
     write_text(out, bare_mark(style), text)
+}
+
+// Writes a line of at most 64 bytes in one piece: a text behind what stands before it.
+fn write_short<W: Write>(out: &mut W, front: &[u8], text: &[u8]) -> Result<(), Unwritten>
+    requires { length front.now + length text.now < 64 }
+    ensures { Takes result (W.contents out.old) (W.contents out.new)
+        (front.now ++ (text.now ++ codes "\n")) }
+{
+    let mut line = [0; 64];
+    let end = front.len() + text.len();
+    line[..front.len()].copy_from_slice(front);
+    line[front.len()..end].copy_from_slice(text);
+    line[end] = b'\n';
+    write_all(out, &line[..end + 1])
 }
 
 // Writes a scalar's text behind what stands before it, and ends the line.
 #[tactic(auto, using(crate::proofs::Printed::Written::takes_three, crate::proofs::Printed::Written::loses_first, crate::proofs::Printed::Written::loses_second))]
 fn write_text<W: Write>(out: &mut W, front: &[u8], text: &str) -> Result<(), Unwritten>
     ensures { Takes result (W.contents out.old) (W.contents out.new)
-        (front.now ++ (printed.escaped text.now ++ codes "\n")) }
+        (front.now ++ (printed.printed_bytes text.now ++ codes "\n")) }
 {
+    let text = text.as_bytes();
+    // For speed: a short line in one piece, since each write costs more than most texts.
+    if front.len() + text.len() < 64 && is_plain(text) {
+        return write_short(out, front, text);
+    }
     write_all(out, front)?;
-    write_escaped(out, text.as_bytes())?;
+    write_escaped(out, text)?;
     write_all(out, b"\n")
 }
 
 // What stands before the text of a scalar without properties.
 fn bare_mark(style: ScalarStyle) -> &'static [u8]
-    ensures { result.now ≡ codes "=VAL " ++ printed.mark style }
+    ensures { result.now ≡ codes "=VAL " ++ printed.style_mark style }
 {
     match style {
         ScalarStyle::Plain => b"=VAL :",
@@ -96,7 +115,7 @@ fn bare_mark(style: ScalarStyle) -> &'static [u8]
 
 // What stands between a scalar's properties and its text.
 fn mark(style: ScalarStyle) -> &'static [u8]
-    ensures { result.now ≡ codes " " ++ printed.mark style }
+    ensures { result.now ≡ codes " " ++ printed.style_mark style }
 {
     match style {
         ScalarStyle::Plain => b" :",

@@ -1,10 +1,10 @@
 //! Bytes, numbers and escaped texts, written to the last byte however few a writer takes at a time.
 
-ghost use Rattle.std.specs.Prelude.{◌≡◌, ◌<◌, ◌≤◌, false, [], ◌∷◌, ◌++◌, length, take, IfErr, IfNone, IfOk, IfSome};
+ghost use Rattle.std.specs.Prelude.{◌≡◌, ◌<◌, ◌≤◌, true, false, [], ◌∷◌, ◌++◌, length, take, IfErr, IfNone, IfOk, IfSome};
 ghost use Rattle.std.specs.Fmt.{decimal};
 ghost use Rattle.std.specs.Io.KnownBytes.{Appends};
 ghost use Rattle.saphyr_parser.specs.Written.{Takes, TakesSome};
-ghost use Rattle.saphyr_parser.specs.Printed.{escape, escaped};
+ghost use Rattle.saphyr_parser.specs.Printed.{printed_byte, printed_bytes};
 
 use std::io::Write;
 
@@ -43,7 +43,7 @@ pub(super) fn write_number<W: Write>(out: &mut W, number: u128) -> Result<(), Un
 // Whether a byte of a scalar's text may be escaped. Some rare bytes that are not are taken for one too.
 #[inline]
 fn is_escaped(byte: u8) -> bool
-    ensures { result ≡ false → escape byte ≡ byte ∷ [] }
+    ensures { result ≡ false → printed_byte byte ≡ byte ∷ [] }
 {
     byte <= b'\r' || byte == b'\\'
 }
@@ -52,7 +52,7 @@ fn is_escaped(byte: u8) -> bool
 #[tactic(auto, using(crate::proofs::Printed::Escapes::plain_more))]
 fn split_plain(text: &[u8]) -> (&[u8], &[u8])
     ensures text { text.now ≡ result.0.now ++ result.1.now }
-    ensures plain { escaped result.0.now ≡ result.0.now }
+    ensures plain { printed_bytes result.0.now ≡ result.0.now }
 {
     let mut count = 0;
     while count < text.len() && !is_escaped(text[count]) {
@@ -61,11 +61,19 @@ fn split_plain(text: &[u8]) -> (&[u8], &[u8])
     text.split_at(count)
 }
 
+// Whether surely no byte of a scalar's text is escaped.
+#[tactic(auto, using(crate::proofs::Printed::Escapes::plain_whole))]
+pub(super) fn is_plain(text: &[u8]) -> bool
+    ensures { result ≡ true → printed_bytes text.now ≡ text.now }
+{
+    split_plain(text).1.is_empty()
+}
+
 // The letter that stands behind the backslash for a byte that is escaped.
 #[inline]
 fn letter_of(byte: u8) -> Option<u8>
-    ensures letter { IfSome result (λ letter. escape byte ≡ 92 ∷ (letter ∷ [])) }
-    ensures none { IfNone result (escape byte ≡ byte ∷ []) }
+    ensures letter { IfSome result (λ letter. printed_byte byte ≡ 92 ∷ (letter ∷ [])) }
+    ensures none { IfNone result (printed_byte byte ≡ byte ∷ []) }
 {
     match byte {
         b'\\' => Some(b'\\'),
@@ -83,7 +91,7 @@ fn gather_escapes(text: &[u8], room: &mut [u8; 64]) -> (usize, usize)
     ensures within { result.0 ≤ length text.now }
     ensures some { 0 < length text.now → 0 < result.0 }
     ensures filled { result.1 ≤ 64 }
-    ensures gathered { take result.1 room.new ≡ escaped (take result.0 text.now) }
+    ensures gathered { take result.1 room.new ≡ printed_bytes (take result.0 text.now) }
 {
     let mut read = 0;
     let mut filled = 0;
@@ -105,7 +113,7 @@ fn gather_escapes(text: &[u8], room: &mut [u8; 64]) -> (usize, usize)
 
 // Writes one byte's escape.
 fn write_escape<W: Write>(out: &mut W, byte: u8) -> Result<(), Unwritten>
-    ensures { Takes result (W.contents out.old) (W.contents out.new) (escape byte) }
+    ensures { Takes result (W.contents out.old) (W.contents out.new) (printed_byte byte) }
 {
     match letter_of(byte) {
         Some(letter) => write_all(out, &[b'\\', letter]),
@@ -119,9 +127,9 @@ fn write_gathered<W: Write>(out: &mut W, text: &[u8]) -> Result<usize, Unwritten
     ensures within { IfOk result (λ read. read ≤ length text.now) }
     ensures some { IfOk result (λ read. 0 < length text.now → 0 < read) }
     ensures written { IfOk result (λ read.
-        Appends (W.contents out.old) (W.contents out.new) (escaped (take read text.now))) }
+        Appends (W.contents out.old) (W.contents out.new) (printed_bytes (take read text.now))) }
     ensures lost { IfErr result (λ _.
-        TakesSome (W.contents out.old) (W.contents out.new) (escaped text.now)) }
+        TakesSome (W.contents out.old) (W.contents out.new) (printed_bytes text.now)) }
 {
     let mut room = [0; 64];
     let (read, filled) = gather_escapes(text, &mut room);
@@ -132,7 +140,7 @@ fn write_gathered<W: Write>(out: &mut W, text: &[u8]) -> Result<usize, Unwritten
 // Writes a scalar's text. What needs no escape is written in one piece, and so are escapes behind one another.
 #[tactic(auto, using(crate::proofs::Printed::Escapes::plain_written, crate::proofs::Printed::Escapes::plain_lost))]
 pub(super) fn write_escaped<W: Write>(out: &mut W, text: &[u8]) -> Result<(), Unwritten>
-    ensures { Takes result (W.contents out.old) (W.contents out.new) (escaped text.now) }
+    ensures { Takes result (W.contents out.old) (W.contents out.new) (printed_bytes text.now) }
 {
     let mut rest = text;
     while !rest.is_empty() {

@@ -4,7 +4,7 @@ use Rattle.std.proofs.Common.{◌≡◌, ◌≢◌, ℕ, zero, suc, ◌+◌, ◌
 use Rattle.std.specs.Prelude.{max, Option, Some, None}
 use Rattle.std.proofs.lemmas.Bool.Decides.{nat_tests}
 use Rattle.saphyr_input.specs.Classes.{is_blank, is_yaml_non_break}
-use Rattle.saphyr_scalar.specs.declared.reading.block.BlockStyle.{BlockStyle}
+use Rattle.scalar_values.specs.declared.block.BlockStyle.{BlockStyle}
 use Rattle.saphyr_scalar.specs.declared.scalar.position.Marker.{Marker}
 use Rattle.saphyr_scalar.specs.declared.scalar.block.lines.EmptyLines.{EmptyLines}
 use Rattle.saphyr_scalar.specs.Views.Cursor.{Cursor, along, next_line}
@@ -13,10 +13,10 @@ use Rattle.saphyr_scalar.specs.Spelling.Block.{IsBehind, IsBody, leading, first,
 use Rattle.saphyr_scalar.specs.Steps.Block.{there, is_indentation, widened, one_more, pass_empty_lines, between}
 use Rattle.saphyr_scalar.proofs.Moving.{along_none, along_more}
 use Rattle.saphyr_scalar.proofs.Block.Lines.{stops}
-use Rattle.saphyr_scalar.specs.declared.reading.block.Chomping.{Chomping}
-use Rattle.saphyr_scalar.specs.Reading.Block as reading
-use Rattle.saphyr_scalar.specs.Reading.Block.{Line, Empty, Content, contents, contents_behind, empty_at_end, has_content}
-use Rattle.saphyr_scalar.specs.Reading.Folding.{line_feeds}
+use Rattle.scalar_values.specs.declared.block.Chomping.{Chomping}
+use Rattle.scalar_values.specs.Block as reading
+use Rattle.scalar_values.specs.Block.{Line, Empty, Content, contents, contents_behind, empty_at_end, has_content}
+use Rattle.scalar_values.specs.Folding.{line_feeds}
 use Rattle.std.proofs.Common.{append_assoc}
 use Rattle.saphyr_input.proofs.Basics.Booleans.{and_false}
 use Rattle.std.proofs.lemmas.Bool.{ne_eqb}

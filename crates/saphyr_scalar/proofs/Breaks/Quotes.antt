@@ -4,13 +4,13 @@ use Rattle.std.specs.Prelude.{◌&&◌, ◌==◌, not, Option, Some, None}
 use Rattle.saphyr_input.specs.Classes.{is_break, is_blank, is_z, is_hex, hex_value}
 use Rattle.saphyr_input.specs.Places.{next_2_are, is_document_indicator}
 use Rattle.std.proofs.lemmas.List.{length-drop}
-use Rattle.saphyr_scalar.specs.declared.reading.flow.Quote.{Quote}
-use Rattle.saphyr_scalar.specs.declared.reading.flow.Quote.TheVariants.{Single, Double}
+use Rattle.scalar_values.specs.declared.flow.Quote.{Quote}
+use Rattle.scalar_values.specs.declared.flow.Quote.TheVariants.{Single, Double}
 use Rattle.saphyr_scalar.specs.declared.scalar.position.Marker.{Marker}
 use Rattle.saphyr_scalar.specs.declared.scalar.fault.Refusal.{Refusal}
-use Rattle.saphyr_scalar.specs.Reading.Flow as flow
+use Rattle.scalar_values.specs.Flow as flow
 use Rattle.saphyr_scalar.specs.Views.Cursor.{Cursor, ◌>>=◌, along, next_line, pass}
-use Rattle.saphyr_scalar.specs.Steps.Quoted.{is_literal, simple_escape, hex_digit_count, is_scalar, digits, numbered, escape_of, escaped_character, TextRead, with_front, at, special, special_len, QuotedGap, on_line, over_lines, no_gap, is_left, blank_in, break_in, folded_break, begin_word, end_gap, escaped_gap, break_len, if_some, inside, inside_at, quoted}
+use Rattle.saphyr_scalar.specs.Steps.Quoted.{is_literal, simple_escape, hex_digit_count, is_scalar, digits, numbered, escape_of, escaped_character, TextRead, at, special, special_len, QuotedGap, on_line, over_lines, no_gap, is_left, blank_in, break_in, begin_word, end_gap, escaped_gap, break_len, if_some, inside, inside_at, quoted}
 use Rattle.saphyr_scalar.specs.Steps.Quoted as quotes
 use Rattle.saphyr_scalar.specs.Alike.{AreAlike, GiveAlike, AreSame}
 use Rattle.saphyr_scalar.proofs.Quoted.Inside.{passed_over, word_from, behind_gap}

@@ -6,7 +6,7 @@ use Rattle.saphyr_input.specs.Classes.{is_digit, is_uri_char, is_blank, is_break
 use Rattle.saphyr_scalar.specs.declared.scalar.position.Marker.{Marker}
 use Rattle.saphyr_scalar.specs.declared.scalar.fault.Refusal.{Refusal}
 use Rattle.saphyr_scalar.specs.Views.Cursor.{Cursor, along, pass_blanks}
-use Rattle.saphyr_scalar.specs.Steps.Directive.{Directive, pass_all_blanks}
+use Rattle.saphyr_scalar.specs.Steps.Directive.{ReadDirective, pass_all_blanks}
 use Rattle.saphyr_scalar.specs.Steps.Quoted.{at}
 use Rattle.saphyr_scalar.specs.Spelling.Tag.{AreIn}
 use Rattle.saphyr_scalar.proofs.Runs.{run_len}
@@ -47,5 +47,5 @@ pub blanks_read : (m : Marker) (gap y : List ℕ) → AreIn is_blank gap → is_
 blanks_read m gap y are ends =
     ap (λ n. blanks_passed n m (gap ++ y)) (run_len is_blank gap y are ends) ∙ rw (drop-append_seam gap y) refl
 
-abbrev pub said : Directive → Cursor → Result (Directive × Cursor) Refusal
+abbrev pub said : ReadDirective → Cursor → Result (ReadDirective × Cursor) Refusal
 said d s = Ok (d, s)

@@ -7,7 +7,7 @@ use Rattle.saphyr_input.specs.Classes.{is_blank, is_breakz, is_blank_or_breakz, 
 use Rattle.saphyr_scalar.specs.declared.scalar.position.Marker.{Marker}
 use Rattle.saphyr_scalar.specs.declared.scalar.fault.Refusal.{Refusal}
 use Rattle.saphyr_scalar.specs.Views.Cursor.{Cursor, along, pass, pass_break}
-use Rattle.saphyr_scalar.specs.Steps.Directive.{Directive, version, tag_prefix, reserved, directive_name_of, name, version_directive, handle, prefix, tag_directive, value, line_end, directive}
+use Rattle.saphyr_scalar.specs.Steps.Directive.{ReadDirective, version, tag_prefix, reserved, directive_name_of, name, version_directive, handle, prefix, tag_directive, value, line_end, directive}
 use Rattle.saphyr_scalar.specs.Spelling.Directive.{IsVersionDirective, IsTagDirective, IsDirectiveText, IsLineTail}
 use Rattle.saphyr_scalar.specs.Steps.Quoted.{at}
 use Rattle.saphyr_scalar.specs.Spelling.Tag.{AreIn}
@@ -28,7 +28,7 @@ name_read m w y some are ends =
     ap (directive_name_of m) (run_read is_yaml_non_space m w y are (ends_at (slice_index y 0) ends).no_name)
     ∙ rw (some_bytes w some, ends) refl
 
-pub whole_line : (s t : Cursor) (d : Directive) (text : List ℕ) (a b : Cursor) → name (pass 1 s) ≡ Ok (text, a)
+pub whole_line : (s t : Cursor) (d : ReadDirective) (text : List ℕ) (a b : Cursor) → name (pass 1 s) ≡ Ok (text, a)
     → value s.mark (text, a) ≡ Ok (d, b) → line_end s.mark b ≡ Ok t → directive s ≡ Ok (d, b.mark, t)
 unfolding directive
 whole_line s t d text a b named says ends = rw (named, says, ends) refl
@@ -43,13 +43,13 @@ tag_value start s = refl
 
 -- The whole directive.
 
-abbrev line_given : Directive → Marker → List ℕ → List ℕ → Result (Directive × Marker × Cursor) Refusal
+abbrev line_given : ReadDirective → Marker → List ℕ → List ℕ → Result (ReadDirective × Marker × Cursor) Refusal
 line_given d k tail x = Ok (d, k, pass_break (at (along k (length tail)) x))
 
-abbrev pub tail_given : Directive → Marker → Marker → List ℕ → Result (Directive × Marker × Cursor) Refusal
+abbrev pub tail_given : ReadDirective → Marker → Marker → List ℕ → Result (ReadDirective × Marker × Cursor) Refusal
 tail_given d k j x = Ok (d, k, pass_break (at j x))
 
-pub line_place : (d : Directive) (m k : Marker) (n : ℕ) (tail x : List ℕ) → k ≡ along m n
+pub line_place : (d : ReadDirective) (m k : Marker) (n : ℕ) (tail x : List ℕ) → k ≡ along m n
     → line_given d k tail x ≡ tail_given d (along m n) (along m (n + length tail)) x
 line_place d m k n tail x e =
     ap (λ k. line_given d k tail x) e
@@ -126,7 +126,7 @@ tag_line m h p t tail x (first, second, written, before, between, is_h, is_p, e)
     (line_read m (along a n) tail x is_tail ends)
     ∙ line_place d m (along a n) (length t) tail x (along_three m 1 3 n (length t) len)
 
-text_line : (m : Marker) (d : Directive) (t tail x : List ℕ) → IsDirectiveText d t → IsLineTail tail
+text_line : (m : Marker) (d : ReadDirective) (t tail x : List ℕ) → IsDirectiveText d t → IsLineTail tail
     → is_breakz (slice_index x 0) ≡ true
     → directive (at m (t ++ (tail ++ x))) ≡ tail_given d (along m (length t)) (along m (length t + length tail)) x
 text_line m (version major minor) t tail x is is_tail ends = version_line m major minor t tail x is is_tail ends
@@ -134,7 +134,8 @@ text_line m (tag_prefix handle prefix) t tail x (h, p, is, is_h, is_p) is_tail e
     rw (is_h, is_p) (tag_line m h p t tail x is is_tail ends)
 text_line m (reserved name) t tail x is is_tail ends = absurd is
 
-pub reads_directive : (s : Cursor) (d : Directive) (t tail x : List ℕ) → s.rest ≡ t ++ (tail ++ x) → IsDirectiveText d t
+pub reads_directive : (s : Cursor) (d : ReadDirective) (t tail x : List ℕ) → s.rest ≡ t ++ (tail ++ x)
+    → IsDirectiveText d t
     → IsLineTail tail → is_breakz (slice_index x 0) ≡ true
     → directive s ≡ Ok (d, along s.mark (length t), pass_break (at (along s.mark (length t + length tail)) x))
 reads_directive s d t tail x e is tail_is ends =

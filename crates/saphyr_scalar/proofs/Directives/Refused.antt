@@ -10,7 +10,7 @@ use Rattle.saphyr_scalar.specs.declared.scalar.position.Marker.{Marker}
 use Rattle.saphyr_scalar.specs.declared.scalar.fault.Refusal.{Refusal}
 use Rattle.saphyr_scalar.specs.declared.scalar.tag.UriSet.TheVariants.{Uri}
 use Rattle.saphyr_scalar.specs.Views.Cursor.{Cursor, along, pass, pass_blanks, separation, behind_separation}
-use Rattle.saphyr_scalar.specs.Steps.Directive.{Directive, pass_all_blanks, directive_name_of, name, number_end, number_from, number, behind_major, version_directive, handle_behind_word, handle, prefix, behind_prefix, tag_directive, value, line_end, directive}
+use Rattle.saphyr_scalar.specs.Steps.Directive.{ReadDirective, pass_all_blanks, directive_name_of, name, number_end, number_from, number, behind_major, version_directive, handle_behind_word, handle, prefix, behind_prefix, tag_directive, value, line_end, directive}
 use Rattle.saphyr_scalar.specs.Passing.{IsPassed, nothing, character}
 use Rattle.saphyr_scalar.specs.Steps.Quoted.{with_run, at}
 use Rattle.saphyr_scalar.specs.RefusedInside.{IsRefusedInside}
@@ -108,7 +108,7 @@ end_refused s t p =
     (λ _. (s.rest, nothing s.mark s.rest)))
 
 -- the place behind what a directive says
-value_passed : (m : Marker) (ys : List ℕ) (x : List ℕ × Cursor) (d : Directive × Cursor)
+value_passed : (m : Marker) (ys : List ℕ) (x : List ℕ × Cursor) (d : ReadDirective × Cursor)
     → name (at (along m 1) ys) ≡ Ok x → value m x ≡ Ok d → IsPassed m (37 ∷ ys) d.1.mark d.1.rest
 value_passed m ys x d h k =
     let n = name_spelled (along m 1) ys x.0 x.1 h in

@@ -3,7 +3,7 @@ use Rattle.std.proofs.Common.{◌≡◌, ℕ, ◌+◌, true, List, ◌∷◌, �
 use Rattle.saphyr_input.specs.Classes.{is_breakz}
 use Rattle.saphyr_scalar.specs.declared.scalar.position.Marker.{Marker}
 use Rattle.saphyr_scalar.specs.Views.Cursor.{Cursor, ◌>>=◌, along, pass_break}
-use Rattle.saphyr_scalar.specs.Steps.Directive.{Directive, name, value, line_end, directive}
+use Rattle.saphyr_scalar.specs.Steps.Directive.{ReadDirective, name, value, line_end, directive}
 use Rattle.saphyr_scalar.specs.Spelling.Directive.{IsReadDirective, IsLineTail}
 use Rattle.saphyr_scalar.specs.Steps.Quoted.{at}
 use Rattle.saphyr_scalar.proofs.Moving.{along_more}
@@ -15,16 +15,16 @@ use Rattle.saphyr_scalar.proofs.Directives.NamesSpelled.{NameOf, name_spelled}
 use Rattle.saphyr_scalar.proofs.Directives.TailsSpelled.{TailOf, line_spelled}
 use Rattle.saphyr_scalar.proofs.Directives.ValuesSpelled.{ValueOf, value_spelled}
 
-abbrev Spelled : Marker → List ℕ → Directive → Marker → Cursor → Type 0
+abbrev Spelled : Marker → List ℕ → ReadDirective → Marker → Cursor → Type 0
 Spelled m xs d end u =
     (t : List ℕ) × (tail : List ℕ) × (x : List ℕ) × (xs ≡ t ++ (tail ++ x)) × IsReadDirective d t × IsLineTail tail
     × (is_breakz (slice_index x 0) ≡ true) × (end ≡ along m (length t))
     × (u ≡ pass_break (at (along m (length t + length tail)) x))
 
-abbrev OfLine : Marker → List ℕ → Directive × Marker × Cursor → Type 0
+abbrev OfLine : Marker → List ℕ → ReadDirective × Marker × Cursor → Type 0
 OfLine m xs r = Spelled m xs r.0 r.1 r.2
 
-line_spells : (m : Marker) (ys text : List ℕ) (a b : Cursor) (d : Directive) (u : Cursor)
+line_spells : (m : Marker) (ys text : List ℕ) (a b : Cursor) (d : ReadDirective) (u : Cursor)
     → (n : NameOf (along m 1) ys text a) → ValueOf d (along (along m 1) (length n.word)) n.word a.rest b
     → TailOf b.mark b.rest u → Spelled m (37 ∷ ys) d b.mark u
 line_spells m ys text a b d u n is tail =
@@ -51,16 +51,16 @@ line_spells m ys text a b d u n is tail =
 pub at_self : (b : Cursor) (k : Marker) (r : List ℕ) → b ≡ at k r → at b.mark b.rest ≡ b
 at_self b k r e = ap (λ (y : Cursor). at y.mark y.rest) e ∙ sym e
 
-directive_spelled : (m : Marker) (ys : List ℕ) (d : Directive) (end : Marker) (u : Cursor)
+directive_spelled : (m : Marker) (ys : List ℕ) (d : ReadDirective) (end : Marker) (u : Cursor)
     → directive (at m (37 ∷ ys)) ≡ Ok (d, end, u) → Spelled m (37 ∷ ys) d end u
 unfolding directive
 directive_spelled m ys d end u h =
     let one = bind_ok (name (at (along m 1) ys))
-    (λ (x : List ℕ × Cursor). value m x >>= λ (e : Directive × Cursor). line_end m e.1 >>= λ (t : Cursor). Ok
+    (λ (x : List ℕ × Cursor). value m x >>= λ (e : ReadDirective × Cursor). line_end m e.1 >>= λ (t : Cursor). Ok
     (e.0, e.1.mark, t)) (d, end, u) h in
     let n = name_spelled (along m 1) ys one.given.0 one.given.1 one.first in
     let two = bind_ok (value m one.given)
-    (λ (e : Directive × Cursor). line_end m e.1 >>= λ (t : Cursor). Ok (e.0, e.1.mark, t)) (d, end, u) one.next in
+    (λ (e : ReadDirective × Cursor). line_end m e.1 >>= λ (t : Cursor). Ok (e.0, e.1.mark, t)) (d, end, u) one.next in
     let three = bind_ok (line_end m two.given.1) (λ (t : Cursor). Ok (two.given.0, two.given.1.mark, t)) (d, end, u)
     two.next in
     let a = one.given.1 in
@@ -73,10 +73,10 @@ directive_spelled m ys d end u h =
     let line : line_end m (at b.mark b.rest) ≡ Ok three.given = ap (λ (y : Cursor). line_end m y)
     (at_self b (along (along (along m 1) (length n.word)) (length is.more)) b.rest is.place) ∙ three.first in
     subst (OfLine m (37 ∷ ys))
-    (ok_same {A = Directive × Marker × Cursor} (two.given.0, b.mark, three.given) (d, end, u) three.next)
+    (ok_same {A = ReadDirective × Marker × Cursor} (two.given.0, b.mark, three.given) (d, end, u) three.next)
     (line_spells m ys one.given.0 a b two.given.0 three.given n is (line_spelled m b.mark b.rest three.given line))
 
-pub spells_directive : (s u : Cursor) (d : Directive) (end : Marker) → slice_index s.rest 0 ≡ 37
+pub spells_directive : (s u : Cursor) (d : ReadDirective) (end : Marker) → slice_index s.rest 0 ≡ 37
     → directive s ≡ Ok (d, end, u)
     → (t : List ℕ) × (tail : List ℕ) × (x : List ℕ) × (s.rest ≡ t ++ (tail ++ x)) × IsReadDirective d t
     × IsLineTail tail × (is_breakz (slice_index x 0) ≡ true) × (end ≡ along s.mark (length t))

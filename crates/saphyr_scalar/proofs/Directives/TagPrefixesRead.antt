@@ -6,12 +6,13 @@ use Rattle.saphyr_scalar.specs.declared.scalar.position.Marker.{Marker}
 use Rattle.saphyr_scalar.specs.declared.scalar.fault.Refusal.{Refusal}
 use Rattle.saphyr_scalar.specs.declared.scalar.tag.UriSet.TheVariants.{Uri}
 use Rattle.saphyr_scalar.specs.Views.Cursor.{Cursor, ◌>>=◌, along}
-use Rattle.saphyr_scalar.specs.Steps.Directive.{Directive, tag_prefix, pass_all_blanks, handle_behind_word, handle, prefix, behind_prefix, tag_directive}
+use Rattle.saphyr_scalar.specs.Steps.Directive.{ReadDirective, tag_prefix, pass_all_blanks, handle_behind_word, handle, prefix, behind_prefix, tag_directive}
 use Rattle.saphyr_scalar.specs.Spelling.Directive.{AreSomeBlanks}
 use Rattle.saphyr_scalar.specs.Steps.Quoted.{with_front, at}
-use Rattle.saphyr_scalar.specs.Steps.Tag.{uri_character, decoded_at, handle_of}
+use Rattle.saphyr_scalar.specs.Steps.Tag.{uri_character, handle_of}
 use Rattle.saphyr_scalar.specs.Spelling.Tag.{IsCharacter, IsHandleText, IsPrefix}
 use Rattle.saphyr_scalar.proofs.Moving.{along_none, along_more}
+use Rattle.saphyr_scalar.proofs.Properties.PercentEscapes.{reads_on}
 use Rattle.saphyr_scalar.proofs.Properties.EscapesRead.{character_read, escape_first, decoded_read}
 use Rattle.saphyr_scalar.proofs.Runs.{run_read}
 use Rattle.saphyr_scalar.proofs.Properties.TagsRead.{stops_blank, handle_bytes, mark_bytes}
@@ -54,11 +55,8 @@ written_first (c ∷ p) t y (first, more, is, others, e) =
     let whole : t ++ y ≡ first ++ (more ++ y) = ap (λ u. u ++ y) e ∙ append_assoc first more y in
     rw whole (prefix_first c first (more ++ y) is)
 
-abbrev reads_uri : Marker → Result (ℕ × Cursor) Refusal → Result (List ℕ × Cursor) Refusal
-reads_uri start r = r >>= λ x. with_front (encode_utf8 x.0) (decoded_at Uri start x.1)
-
 prefix_goes : (start : Marker) (s : Cursor) → begins_prefix (slice_index s.rest 0) ≡ true
-    → prefix start s ≡ reads_uri start (uri_character start s)
+    → prefix start s ≡ reads_on Uri start (uri_character start s)
 unfolding prefix
 prefix_goes start s h = rw h refl
 
@@ -71,7 +69,7 @@ prefix_read start m (c ∷ p) t y (first, more, is, others, e) ends =
     let there = along m (length first) in
     ap (λ u. prefix start (at m u)) whole
     ∙ prefix_goes start (at m (first ++ (more ++ y))) (prefix_first c first (more ++ y) is)
-    ∙ ap (reads_uri start) (character_read (λ x. is_tag_char x || (x == 33)) start m c first (more ++ y) is)
+    ∙ ap (reads_on Uri start) (character_read (λ x. is_tag_char x || (x == 33)) start m c first (more ++ y) is)
     ∙ ap (with_front (encode_utf8 c)) (decoded_read Uri start there p more y others ends)
     ∙ ap (λ k. text_given (encode_utf8 c ++ encode_utf8_all p) (at k y))
     (along_more m (length first) (length more) (length t) len)
@@ -81,10 +79,10 @@ prefix_ends : (start : Marker) (h p : List ℕ) (s : Cursor) → is_blank_or_bre
 unfolding behind_prefix
 prefix_ends start h p s ends = rw ends refl
 
-abbrev then_handle : Marker → Result (List ℕ × Cursor) Refusal → Result (Directive × Cursor) Refusal
+abbrev then_handle : Marker → Result (List ℕ × Cursor) Refusal → Result (ReadDirective × Cursor) Refusal
 then_handle start r = r >>= λ h. prefix start (pass_all_blanks h.1) >>= λ x. behind_prefix start h.0 x
 
-abbrev then_prefix : Marker → List ℕ → Result (List ℕ × Cursor) Refusal → Result (Directive × Cursor) Refusal
+abbrev then_prefix : Marker → List ℕ → Result (List ℕ × Cursor) Refusal → Result (ReadDirective × Cursor) Refusal
 then_prefix start h r = r >>= λ x. behind_prefix start h x
 
 handle_first : (h y : List ℕ) → IsHandleText h → is_blank (slice_index (h ++ y) 0) ≡ false

@@ -10,7 +10,7 @@ use Rattle.saphyr_scalar.specs.declared.scalar.fault.FaultText.TheVariants as fa
 use Rattle.saphyr_scalar.specs.declared.scalar.fault.Refusal.{Refusal}
 use Rattle.saphyr_scalar.specs.declared.scalar.tag.UriSet.TheVariants.{Uri}
 use Rattle.saphyr_scalar.specs.Views.Cursor.{Cursor, ◌>>=◌, along}
-use Rattle.saphyr_scalar.specs.Steps.Directive.{Directive, tag_prefix, pass_all_blanks, handle_behind_word, handle, prefix, behind_prefix, tag_directive}
+use Rattle.saphyr_scalar.specs.Steps.Directive.{ReadDirective, tag_prefix, pass_all_blanks, handle_behind_word, handle, prefix, behind_prefix, tag_directive}
 use Rattle.saphyr_scalar.specs.Spelling.Directive.{AreSomeBlanks}
 use Rattle.saphyr_scalar.specs.Steps.Quoted.{with_front, with_run, at}
 use Rattle.saphyr_scalar.specs.Steps.Tag.{uri_character, decoded, decoded_at, handle_of}
@@ -131,7 +131,7 @@ prefix_spelled start m xs text u h =
           (length-append first.piece others.piece));
     }
 
-pub record TagOf (d : Directive) (m : Marker) (xs : List ℕ) (u : Cursor) : Type 0 where
+pub record TagOf (d : ReadDirective) (m : Marker) (xs : List ℕ) (u : Cursor) : Type 0 where
   pub first : List ℕ
   pub handle : List ℕ
   pub second : List ℕ
@@ -145,18 +145,18 @@ pub record TagOf (d : Directive) (m : Marker) (xs : List ℕ) (u : Cursor) : Typ
   pub text : xs ≡ first ++ (handle ++ (second ++ (written ++ u.rest)))
   pub place : u ≡ at (along m (length first + length handle + length second + length written)) u.rest
 
-prefix_ended : (start : Marker) (h text : List ℕ) (d : Directive) (k u : Cursor)
+prefix_ended : (start : Marker) (h text : List ℕ) (d : ReadDirective) (k u : Cursor)
     → behind_prefix start h (text, k) ≡ Ok (d, u)
-    → Chosen {A = Directive × Cursor} (is_blank_or_breakz (slice_index k.rest 0)) (tag_prefix h text, k) (d, u)
+    → Chosen {A = ReadDirective × Cursor} (is_blank_or_breakz (slice_index k.rest 0)) (tag_prefix h text, k) (d, u)
 unfolding behind_prefix
 prefix_ended start h text d k u e =
-    cond_ok {A = Directive × Cursor} (is_blank_or_breakz (slice_index k.rest 0)) (tag_prefix h text, k) (d, u)
+    cond_ok {A = ReadDirective × Cursor} (is_blank_or_breakz (slice_index k.rest 0)) (tag_prefix h text, k) (d, u)
     (record { text = fault.TagDirectiveEndExpected; mark = start }) e
 
 no_mark_first : (c : ℕ) → is_blank_or_breakz c ≡ true → nat_eq c 33 ≡ false
 no_mark_first c h = other_than is_blank_or_breakz 33 c refl h
 
-pub tag_spelled : (start m : Marker) (xs : List ℕ) (d : Directive) (u : Cursor)
+pub tag_spelled : (start m : Marker) (xs : List ℕ) (d : ReadDirective) (u : Cursor)
     → is_blank_or_breakz (slice_index xs 0) ≡ true → tag_directive start (at m xs) ≡ Ok (d, u) → TagOf d m xs u
 unfolding tag_directive
 tag_spelled start m xs d u begins h =
@@ -172,12 +172,12 @@ tag_spelled start m xs d u begins h =
     let two = bind_ok (prefix start (pass_all_blanks one.given.1))
     (λ (x : List ℕ × Cursor). behind_prefix start one.given.0 x) (d, u) one.next in
     let ended = prefix_ended start one.given.0 two.given.0 d two.given.1 u two.next in
-    let left : two.given.1 ≡ u = ap (λ (x : Directive × Cursor). x.1) ended.same in
+    let left : two.given.1 ≡ u = ap (λ (x : ReadDirective × Cursor). x.1) ended.same in
     let there = along (along m n) (length a.handle) in
     let read = subst (λ (y : Cursor). prefix start (pass_all_blanks y) ≡ Ok two.given) a.place two.first in
     let b = subst (λ (y : Cursor). PrefixOf (along there o) (drop o ys) two.given.0 y) left
     (prefix_spelled start (along there o) (drop o ys) two.given.0 two.given.1 read) in
-    let says : tag_prefix one.given.0 two.given.0 ≡ d = ap (λ (x : Directive × Cursor). x.0) ended.same in
+    let says : tag_prefix one.given.0 two.given.0 ≡ d = ap (λ (x : ReadDirective × Cursor). x.0) ended.same in
     let total : length first + length a.handle + length second + length b.written
     ≡ n + length a.handle + o + length b.written = omega (arith, run_count is_blank xs, run_count is_blank ys) in
     record {

@@ -11,7 +11,7 @@ use Rattle.saphyr_input.proofs.Runs.{run_stops}
 use Rattle.saphyr_scalar.specs.declared.scalar.position.Marker.{Marker}
 use Rattle.saphyr_scalar.specs.declared.scalar.fault.Refusal.{Refusal}
 use Rattle.saphyr_scalar.specs.Views.Cursor.{Cursor, along, pass_comment}
-use Rattle.saphyr_scalar.specs.Steps.Directive.{Directive, version, tag_prefix, reserved, version_directive, tag_directive, value}
+use Rattle.saphyr_scalar.specs.Steps.Directive.{ReadDirective, version, tag_prefix, reserved, version_directive, tag_directive, value}
 use Rattle.saphyr_scalar.specs.Spelling.Directive.{IsReadDirective}
 use Rattle.saphyr_scalar.specs.Steps.Quoted.{at}
 use Rattle.saphyr_scalar.specs.Spelling.Tag.{AreIn}
@@ -24,13 +24,13 @@ use Rattle.saphyr_scalar.proofs.Directives.NamesSpelled.{run_count}
 use Rattle.saphyr_scalar.proofs.Directives.VersionsSpelled.{VersionOf, version_spelled}
 use Rattle.saphyr_scalar.proofs.Directives.TagPrefixesSpelled.{TagOf, tag_spelled}
 
-pub record ValueOf (d : Directive) (k : Marker) (w zs : List ℕ) (u : Cursor) : Type 0 where
+pub record ValueOf (d : ReadDirective) (k : Marker) (w zs : List ℕ) (u : Cursor) : Type 0 where
   pub more : List ℕ
   pub text : zs ≡ more ++ u.rest
   pub place : u ≡ at (along k (length more)) u.rest
   pub is : IsReadDirective d (37 ∷ (w ++ more))
 
-version_value : (d : Directive) (k : Marker) (zs : List ℕ) (u : Cursor) → VersionOf d k zs u
+version_value : (d : ReadDirective) (k : Marker) (zs : List ℕ) (u : Cursor) → VersionOf d k zs u
     → ValueOf d k (codes "YAML") zs u
 version_value d k zs u is =
     let more = is.gap ++ (is.high ++ (46 ∷ is.low)) in
@@ -43,10 +43,11 @@ version_value d k zs u is =
       text = is.text ∙ sym (append_assoc is.gap (is.high ++ (46 ∷ is.low)) u.rest
           ∙ ap (λ r. is.gap ++ r) (append_assoc is.high (46 ∷ is.low) u.rest));
       place = is.place ∙ ap (λ n. at (along k n) u.rest) len;
-      is = subst (λ (e : Directive). IsReadDirective e (37 ∷ (codes "YAML" ++ more))) is.says spelled;
+      is = subst (λ (e : ReadDirective). IsReadDirective e (37 ∷ (codes "YAML" ++ more))) is.says spelled;
     }
 
-tag_value : (d : Directive) (k : Marker) (zs : List ℕ) (u : Cursor) → TagOf d k zs u → ValueOf d k (codes "TAG") zs u
+tag_value : (d : ReadDirective) (k : Marker) (zs : List ℕ) (u : Cursor) → TagOf d k zs u
+    → ValueOf d k (codes "TAG") zs u
 tag_value d k zs u is =
     let more = is.first ++ (is.handle ++ (is.second ++ is.written)) in
     let len : length is.first + length is.handle + length is.second + length is.written ≡ length more =
@@ -73,7 +74,7 @@ tag_value d k zs u is =
           (append_assoc is.handle (is.second ++ is.written) u.rest
           ∙ ap (λ r. is.handle ++ r) (append_assoc is.second is.written u.rest)));
       place = is.place ∙ ap (λ n. at (along k n) u.rest) len;
-      is = subst (λ (e : Directive). IsReadDirective e (37 ∷ (codes "TAG" ++ more))) is.says spelled;
+      is = subst (λ (e : ReadDirective). IsReadDirective e (37 ∷ (codes "TAG" ++ more))) is.says spelled;
     }
 
 abbrev Begins : List ℕ → Type 0
@@ -125,10 +126,11 @@ reserved_value w k zs some no_yaml no_tag all ends =
       );
     }
 
-abbrev OfValue : Marker → List ℕ → List ℕ → Directive × Cursor → Type 0
+abbrev OfValue : Marker → List ℕ → List ℕ → ReadDirective × Cursor → Type 0
 OfValue k w zs x = ValueOf x.0 k w zs x.1
 
-pub value_spelled : (start k : Marker) (w zs : List ℕ) (d : Directive) (u : Cursor) → w ≢ [] → AreIn is_yaml_non_space w
+pub value_spelled : (start k : Marker) (w zs : List ℕ) (d : ReadDirective) (u : Cursor) → w ≢ []
+    → AreIn is_yaml_non_space w
     → is_blank_or_breakz (slice_index zs 0) ≡ true → value start (encode_utf8_all w, at k zs) ≡ Ok (d, u)
     → ValueOf d k w zs u
 unfolding value
@@ -136,17 +138,17 @@ value_spelled start k w zs d u some all ends =
     by_test (bytes_eq (encode_utf8_all w) (codes "YAML")) (version_directive start (at k zs))
     (cond (bytes_eq (encode_utf8_all w) (codes "TAG")) (tag_directive start (at k zs))
     (Ok (reserved (encode_utf8_all w), pass_comment (at k zs))))
-    (λ (r : Result (Directive × Cursor) Refusal). r ≡ Ok (d, u) → ValueOf d k w zs u)
+    (λ (r : Result (ReadDirective × Cursor) Refusal). r ≡ Ok (d, u) → ValueOf d k w zs u)
     (λ yaml h. subst (λ v. ValueOf d k v zs u)
     (sym (same_name w (codes "YAML") (lit< tt, (lit< tt, (lit< tt, (lit< tt, tt)))) yaml))
     (version_value d k zs u (version_spelled start k zs d u ends h)))
     (λ no_yaml. by_test (bytes_eq (encode_utf8_all w) (codes "TAG")) (tag_directive start (at k zs))
     (Ok (reserved (encode_utf8_all w), pass_comment (at k zs)))
-    (λ (r : Result (Directive × Cursor) Refusal). r ≡ Ok (d, u) → ValueOf d k w zs u)
+    (λ (r : Result (ReadDirective × Cursor) Refusal). r ≡ Ok (d, u) → ValueOf d k w zs u)
     (λ is_tag h. subst (λ v. ValueOf d k v zs u)
     (sym (same_name w (codes "TAG") (lit< tt, (lit< tt, (lit< tt, tt))) is_tag))
     (tag_value d k zs u (tag_spelled start k zs d u ends h)))
     (λ no_tag h. subst (OfValue k w zs)
-    (ok_same {A = Directive × Cursor} (reserved (encode_utf8_all w), pass_comment (at k zs)) (d, u) h)
+    (ok_same {A = ReadDirective × Cursor} (reserved (encode_utf8_all w), pass_comment (at k zs)) (d, u) h)
     (reserved_value w k zs some (other_name w (codes "YAML") yaml_eq no_yaml) (other_name w (codes "TAG") tag_eq no_tag)
     all ends)))

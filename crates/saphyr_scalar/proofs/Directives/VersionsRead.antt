@@ -6,7 +6,7 @@ use Rattle.saphyr_input.specs.Classes.{is_digit, is_blank}
 use Rattle.saphyr_scalar.specs.declared.scalar.position.Marker.{Marker}
 use Rattle.saphyr_scalar.specs.declared.scalar.fault.Refusal.{Refusal}
 use Rattle.saphyr_scalar.specs.Views.Cursor.{Cursor, ◌>>=◌, along}
-use Rattle.saphyr_scalar.specs.Steps.Directive.{Directive, version, number_end, number_from, number, behind_major, version_directive}
+use Rattle.saphyr_scalar.specs.Steps.Directive.{ReadDirective, version, number_end, number_from, number, behind_major, version_directive}
 use Rattle.saphyr_scalar.specs.Spelling.Directive.{AreSomeBlanks, decimal_from, IsVersionNumber}
 use Rattle.saphyr_scalar.specs.Steps.Quoted.{at}
 use Rattle.saphyr_scalar.specs.Spelling.Tag.{AreIn}
@@ -48,10 +48,10 @@ number_read start m v ds y (some, few, are, is) ends =
 digit_no_blank : (c : ℕ) → is_digit c ≡ true → is_blank c ≡ false
 digit_no_blank c h = rw (other_than is_digit 32 c refl h, other_than is_digit 9 c refl h) refl
 
-abbrev then_major : Marker → Result (ℕ × Cursor) Refusal → Result (Directive × Cursor) Refusal
+abbrev then_major : Marker → Result (ℕ × Cursor) Refusal → Result (ReadDirective × Cursor) Refusal
 then_major start r = r >>= λ x. behind_major start x
 
-abbrev then_minor : ℕ → Result (ℕ × Cursor) Refusal → Result (Directive × Cursor) Refusal
+abbrev then_minor : ℕ → Result (ℕ × Cursor) Refusal → Result (ReadDirective × Cursor) Refusal
 then_minor major r = r >>= λ y. Ok (version major y.0, y.1)
 
 pub version_read : (start m : Marker) (major minor : ℕ) (gap high low y : List ℕ) → AreSomeBlanks gap

@@ -9,7 +9,7 @@ use Rattle.saphyr_scalar.specs.declared.scalar.position.Marker.{Marker}
 use Rattle.saphyr_scalar.specs.declared.scalar.fault.FaultText.TheVariants as fault
 use Rattle.saphyr_scalar.specs.declared.scalar.fault.Refusal.{Refusal}
 use Rattle.saphyr_scalar.specs.Views.Cursor.{Cursor, ◌>>=◌, along, pass}
-use Rattle.saphyr_scalar.specs.Steps.Directive.{Directive, version, pass_all_blanks, number_end, number_from, number, behind_major, version_directive}
+use Rattle.saphyr_scalar.specs.Steps.Directive.{ReadDirective, version, pass_all_blanks, number_end, number_from, number, behind_major, version_directive}
 use Rattle.saphyr_scalar.specs.Spelling.Directive.{AreSomeBlanks, decimal_from, IsVersionNumber}
 use Rattle.saphyr_scalar.specs.Steps.Quoted.{at}
 use Rattle.saphyr_scalar.specs.Spelling.Tag.{AreIn}
@@ -93,7 +93,7 @@ is_version_number : (w : ℕ) (m : Marker) (xs : List ℕ) (u : Cursor) (is : Di
 is_version_number w m xs u is =
     (some_of_length is.digits (omega (arith, is.some)), omega (arith, is.few), is.all, is.value)
 
-pub record VersionOf (d : Directive) (m : Marker) (xs : List ℕ) (u : Cursor) : Type 0 where
+pub record VersionOf (d : ReadDirective) (m : Marker) (xs : List ℕ) (u : Cursor) : Type 0 where
   pub major : ℕ
   pub minor : ℕ
   pub gap : List ℕ
@@ -106,7 +106,7 @@ pub record VersionOf (d : Directive) (m : Marker) (xs : List ℕ) (u : Cursor) :
   pub text : xs ≡ gap ++ (high ++ (46 ∷ (low ++ u.rest)))
   pub place : u ≡ at (along m (length gap + length high + 1 + length low)) u.rest
 
-pub version_spelled : (start m : Marker) (xs : List ℕ) (d : Directive) (u : Cursor)
+pub version_spelled : (start m : Marker) (xs : List ℕ) (d : ReadDirective) (u : Cursor)
     → is_blank_or_breakz (slice_index xs 0) ≡ true → version_directive start (at m xs) ≡ Ok (d, u) → VersionOf d m xs u
 unfolding version_directive behind_major
 version_spelled start m xs d u begins h =
@@ -116,13 +116,13 @@ version_spelled start m xs d u begins h =
     let a = digits_spelled start 0 0 (along m n) (drop n xs) one.given.0 one.given.1 (omega arith) one.first in
     let high = a.digits in
     let mid = one.given.1 in
-    let dot = cond_then {A = Directive × Cursor} (nat_eq (slice_index mid.rest 0) 46)
+    let dot = cond_then {A = ReadDirective × Cursor} (nat_eq (slice_index mid.rest 0) 46)
     (number start (pass 1 mid) >>= λ (y : ℕ × Cursor). Ok (version one.given.0 y.0, y.1)) (d, u)
     (record { text = fault.VersionDigitOrDotExpected; mark = start }) one.next in
     let two = bind_ok (number start (pass 1 mid)) (λ (y : ℕ × Cursor). Ok (version one.given.0 y.0, y.1)) (d, u)
     dot.same in
-    let same = ok_same {A = Directive × Cursor} (version one.given.0 two.given.0, two.given.1) (d, u) two.next in
-    let left : two.given.1 ≡ u = ap (λ (x : Directive × Cursor). x.1) same in
+    let same = ok_same {A = ReadDirective × Cursor} (version one.given.0 two.given.0, two.given.1) (d, u) two.next in
+    let left : two.given.1 ≡ u = ap (λ (x : ReadDirective × Cursor). x.1) same in
     let b = subst (λ (y : Cursor). DigitsOf 0 0 two.given.0 (along mid.mark 1) (drop 1 mid.rest) y) left
     (digits_spelled start 0 0 (along mid.mark 1) (drop 1 mid.rest) two.given.0 two.given.1 (omega arith)
     two.first) in
@@ -138,7 +138,7 @@ version_spelled start m xs d u begins h =
       gap = gap;
       high = high;
       low = b.digits;
-      says = ap (λ (x : Directive × Cursor). x.0) same;
+      says = ap (λ (x : ReadDirective × Cursor). x.0) same;
       blanks = (
         gap_some is_digit xs gap (drop n xs) (λ c e. (ends_at c e).no_digit) begins
             (sym (take-append-drop n xs))

@@ -11,7 +11,7 @@ use Rattle.saphyr_scalar.specs.Views.Cursor.{Cursor, ◌>>=◌, along, next_line
 use Rattle.saphyr_scalar.specs.declared.scalar.fault.Stop.{Stop}
 use Rattle.saphyr_scalar.specs.declared.scalar.fault.Stop.TheVariants as stop
 use Rattle.saphyr_scalar.specs.Views.Reader.{Moves}
-use Rattle.saphyr_scalar.specs.Steps.Plain.{PlainGap, may_stand, reached, at_line, ends_line, lines, folded_gap, gap_text, next_lines, gap_from, gap}
+use Rattle.saphyr_scalar.specs.Steps.Plain.{PlainGap, seen_gap, may_stand, reached, at_line, ends_line, lines, folded_gap, gap_text, next_lines, gap_from, gap}
 use Rattle.saphyr_scalar.proofs.Quoted.Inside.{Moved}
 use Rattle.saphyr_input.proofs.Basics.Booleans.{by_test}
 use Rattle.std.proofs.lemmas.List.Sums.{prefix_len-le-length}
@@ -45,20 +45,17 @@ no_refusal r x e = absurd (cc)
 pub same_gap : (g h : PlainGap) → (let r : Result PlainGap Refusal = Ok g in r ≡ Ok h) → h ≡ g
 same_gap g h e = cc
 
-abbrev pub gap_of : Bool → List ℕ → Cursor → PlainGap
-gap_of tabbed text s = record { text = text; tabbed = tabbed; behind = s }
-
 pub may_stand_same : (a : Marker) (t : Bool) (f : List ℕ) (s : Cursor) (g : PlainGap) → reached a t f s ≡ Ok g
-    → g ≡ gap_of t f s
+    → g ≡ seen_gap t f s
 unfolding may_stand
 may_stand_same a t f s g =
     by_test (t && is_bom (slice_index s.rest 0)) _ _
-    (λ (r : Result Cursor Refusal). (r >>= λ u. Ok (gap_of t f u)) ≡ Ok g → g ≡ gap_of t f s)
+    (λ (r : Result Cursor Refusal). (r >>= λ u. Ok (seen_gap t f u)) ≡ Ok g → g ≡ seen_gap t f s)
     (λ _ e. absurd (no_refusal _ g e))
     (λ _. by_test (t && not ((slice_index s.rest 0 == 35) || is_z (slice_index s.rest 0))) _ _
-    (λ (r : Result Cursor Refusal). (r >>= λ u. Ok (gap_of t f u)) ≡ Ok g → g ≡ gap_of t f s)
+    (λ (r : Result Cursor Refusal). (r >>= λ u. Ok (seen_gap t f u)) ≡ Ok g → g ≡ seen_gap t f s)
     (λ _ e. absurd (no_refusal _ g e))
-    (λ _ e. same_gap (gap_of t f s) g e))
+    (λ _ e. same_gap (seen_gap t f s) g e))
 
 reached_end : (a : Marker) (t : Bool) (f : List ℕ) (m : Marker) (xs : List ℕ) (g : PlainGap)
     → reached a t f (at_line m xs) ≡ Ok g → IsEnd xs g.behind.rest
@@ -133,12 +130,12 @@ lines_blank i a t f m (c ∷ cs) g e =
     (λ _ e. ap (λ (x : PlainGap). x.behind.blank_so_far) (may_stand_same a t f (at_line m (c ∷ cs)) g e)) e
 
 lines_read : (i : ℕ) (a m : Marker) (xs feeds : List ℕ) (w : Cursor) (r : Result Bool Stop)
-    → Moves (λ t. gap_of t feeds w) r (lines i a false [] m xs)
-    → Moves (λ t. gap_of t (gap_text w.blank_so_far feeds) w) r (lines i a false [] m xs >>= λ g. Ok (folded_gap g))
+    → Moves (λ t. seen_gap t feeds w) r (lines i a false [] m xs)
+    → Moves (λ t. seen_gap t (gap_text w.blank_so_far feeds) w) r (lines i a false [] m xs >>= λ g. Ok (folded_gap g))
 lines_read i a m xs feeds w (Ok t) e =
     ap (λ (x : Result PlainGap Refusal). x >>= λ g. Ok (folded_gap g)) e
-    ∙ ap (λ b. let r : Result PlainGap Refusal = Ok (gap_of t (gap_text b feeds) w) in r)
-    (sym (lines_blank i a false [] m xs (gap_of t feeds w) e))
+    ∙ ap (λ b. let r : Result PlainGap Refusal = Ok (seen_gap t (gap_text b feeds) w) in r)
+    (sym (lines_blank i a false [] m xs (seen_gap t feeds w) e))
 lines_read i a m xs feeds w (Err stop.OutOfMemory) e = tt
 lines_read i a m xs feeds w (Err (stop.Refused r)) e = ap
     (λ (x : Result PlainGap Refusal). x >>= λ g. Ok (folded_gap g)) e
@@ -154,11 +151,11 @@ gap_over_break i a grown s t m h =
 -- a gap over lines
 pub gap_read : (i : ℕ) (a : Marker) (grown cleared feeds : List ℕ) (s t u v w : Cursor) (r : Result Bool Stop)
     → Moved is_blank [] grown s t → u ≡ t → is_break (slice_index t.rest 0) ≡ true → v ≡ pass_break u → cleared ≡ []
-    → Moves (λ t. gap_of t feeds w) r (lines i a false cleared v.mark v.rest)
-    → Moves (λ t. gap_of t (gap_text w.blank_so_far feeds) w) r (gap i a s)
+    → Moves (λ t. seen_gap t feeds w) r (lines i a false cleared v.mark v.rest)
+    → Moves (λ t. seen_gap t (gap_text w.blank_so_far feeds) w) r (gap i a s)
 gap_read i a grown cleared feeds s t u v w r m same breaks on empty h =
     let there : v ≡ pass_break t = on ∙ ap pass_break same in
     let from : gap i a s ≡ next_lines i a v = gap_over_break i a grown s t m breaks ∙ ap (next_lines i a) (sym there) in
-    subst (λ (x : Result PlainGap Refusal). Moves (λ t. gap_of t (gap_text w.blank_so_far feeds) w) r x) (sym from)
+    subst (λ (x : Result PlainGap Refusal). Moves (λ t. seen_gap t (gap_text w.blank_so_far feeds) w) r x) (sym from)
     (lines_read i a v.mark v.rest feeds w r
-    (subst (λ (x : List ℕ). Moves (λ t. gap_of t feeds w) r (lines i a false x v.mark v.rest)) empty h))
+    (subst (λ (x : List ℕ). Moves (λ t. seen_gap t feeds w) r (lines i a false x v.mark v.rest)) empty h))

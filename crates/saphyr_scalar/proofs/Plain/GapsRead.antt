@@ -11,13 +11,13 @@ use Rattle.saphyr_scalar.specs.declared.scalar.position.Marker.{Marker}
 use Rattle.saphyr_scalar.specs.declared.scalar.fault.Refusal.{Refusal}
 use Rattle.saphyr_scalar.specs.Views.Cursor.{Cursor, ◌>>=◌, along, next_line, pass, pass_break}
 use Rattle.saphyr_scalar.specs.Steps.Quoted.{at}
-use Rattle.saphyr_scalar.specs.Reading.Folding.{folded, line_feeds, raw_break}
+use Rattle.scalar_values.specs.Folding.{folded, line_feeds, raw_break}
 use Rattle.saphyr_scalar.specs.Steps.Plain as spec
-use Rattle.saphyr_scalar.specs.Steps.Plain.{PlainGap, ends_line, reached, at_line, lines, next_lines, gap_from, gap}
+use Rattle.saphyr_scalar.specs.Steps.Plain.{seen_gap, PlainGap, ends_line, reached, at_line, lines, next_lines, gap_from, gap}
 use Rattle.saphyr_scalar.specs.Reading.Plain.{AreWhite, passed}
 use Rattle.saphyr_scalar.proofs.Moving.{along_none, along_more}
 use Rattle.saphyr_scalar.proofs.Quoted.Inside.{break_cases}
-use Rattle.saphyr_scalar.proofs.Plain.Gaps.{no_refusal, same_gap, gap_of, may_stand_same}
+use Rattle.saphyr_scalar.proofs.Plain.Gaps.{no_refusal, same_gap, may_stand_same}
 use Rattle.saphyr_scalar.proofs.Plain.Runs.{Ink, NoFeed, items, ink_no_feed, same_ends, line_count, folded_breaks, AreBlank, folded_blanks}
 use Rattle.saphyr_input.proofs.Basics.Booleans.{by_test}
 use Rattle.std.proofs.lemmas.List.Sums.{prefix_len-le-length}
@@ -201,7 +201,7 @@ prefix_take xs = length-take-le (prefix_len is_blank xs) xs (prefix_len-le-lengt
 
 blanks_read : (xs : List ℕ) (m : Marker) → is_break (slice_index (drop (prefix_len is_blank xs) xs) 0) ≡ false
     → let n = prefix_len is_blank xs in
-    GapReads xs m (gap_of false (encode_utf8_all (take n xs)) (at (along m n) (drop n xs)))
+    GapReads xs m (seen_gap false (encode_utf8_all (take n xs)) (at (along m n) (drop n xs)))
 blanks_read xs m other =
     let n = prefix_len is_blank xs in
     let v = take n xs in

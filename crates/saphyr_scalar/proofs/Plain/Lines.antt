@@ -1,5 +1,5 @@
 -- The blanks and breaks behind a plain scalar's word, read a piece at a time.
-use Rattle.std.proofs.Common.{◌≡◌, ℕ, ◌+◌, ◌<◌, Bool, true, false, List, [], ◌∷◌, ◌++◌, length, drop, length-drop, slice_index, Result, Ok, Err, refl, sym, ap, ◌∙◌, arith, subst, nat_eq}
+use Rattle.std.proofs.Common.{◌≡◌, ℕ, ◌+◌, ◌<◌, Bool, true, false, List, [], ◌∷◌, ◌++◌, length, drop, length-drop, slice_index, Result, Ok, Err, refl, sym, ap, ◌∙◌, arith, subst}
 use Rattle.std.specs.Prelude.{◌||◌, ◌&&◌, ◌==◌, nat_lt}
 use Rattle.std.proofs.lemmas.Bool.Decides.{nat_tests}
 use Rattle.saphyr_input.specs.Classes.{is_blank, is_break, tab}
@@ -9,7 +9,7 @@ use Rattle.saphyr_scalar.specs.declared.scalar.fault.Refusal.{Refusal}
 use Rattle.saphyr_scalar.specs.Views.Cursor.{Cursor, ◌>>=◌, along, next_line, pass_break}
 use Rattle.saphyr_scalar.specs.Steps.Plain.{lines, reached, at_line, pass_white, may_stand}
 use Rattle.saphyr_scalar.proofs.Quoted.Inside.{break_cases}
-use Rattle.saphyr_input.proofs.Basics.Booleans.{by_test, either}
+use Rattle.saphyr_input.proofs.Basics.Booleans.{by_test}
 use Rattle.saphyr_input.proofs.Basics.Characters.{blank_cases}
 use Rattle.saphyr_scalar.proofs.PassedBreaks.{break_shorter}
 

@@ -1,5 +1,5 @@
 -- A plain scalar, read a piece at a time.
-use Rattle.std.proofs.Common.{◌≡◌, ℕ, zero, suc, ◌+◌, ◌<◌, Bool, true, false, List, [], ◌∷◌, ◌++◌, length, take, drop, length-drop, slice_index, Result, Ok, Err, refl, sym, ap, ◌∙◌, arith, subst, encode_utf8_all, append_assoc}
+use Rattle.std.proofs.Common.{◌≡◌, ℕ, zero, suc, ◌+◌, ◌<◌, Bool, true, false, List, [], ◌∷◌, ◌++◌, length, take, drop, slice_index, Result, Ok, Err, refl, sym, ap, ◌∙◌, arith, subst, encode_utf8_all, append_assoc}
 use Rattle.std.specs.Prelude.{◌||◌, ◌&&◌, ◌==◌, not, nat_lt, encode_utf8, if◌then◌else◌, pred}
 use Rattle.std.specs.Result.{IsErrAnd}
 use Rattle.std.proofs.lemmas.Bool.Decides.{nat_tests}
@@ -267,9 +267,6 @@ pub gap_refused : (f : Bool) (i : ℕ) (a : Marker) (text grown : List ℕ) (s t
     → PlainWordsMoved f text grown s t → gap i a t ≡ Err r → with_text text (word f i a s.mark s.rest) ≡ Err r
 gap_refused f i a text grown s t r m h =
     behind_word f i a text grown s t m ∙ ap (λ x. with_text grown (x >>= behind_gap f i a t.mark)) h
-
-abbrev pub gap_of : List ℕ → Bool → Cursor → PlainGap
-gap_of text tabbed s = record { text = text; tabbed = tabbed; behind = s }
 
 -- a gap behind a word
 pub record GapMoved (f : Bool) (i : ℕ) (a : Marker) (text grown : List ℕ) (s t : Cursor) (g : PlainGap) : Type 0 where

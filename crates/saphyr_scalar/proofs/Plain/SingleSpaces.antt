@@ -1,5 +1,5 @@
 -- Words of a plain scalar, and single spaces between them, taken off in one piece.
-use Rattle.std.proofs.Common.{◌≡◌, ℕ, zero, suc, ◌+◌, ◌<◌, ◌≤◌, Bool, true, false, List, [], ◌∷◌, ◌++◌, length, length-drop, take, drop, slice_index, Result, Ok, refl, sym, ap, ◌∙◌, arith, subst, encode_utf8_all, cond}
+use Rattle.std.proofs.Common.{◌≡◌, ℕ, zero, suc, ◌+◌, ◌<◌, ◌≤◌, Bool, true, false, List, [], ◌∷◌, ◌++◌, length, length-drop, take, drop, slice_index, Result, Ok, refl, sym, ap, ◌∙◌, arith, encode_utf8_all, cond}
 use Rattle.std.specs.Prelude.{◌&&◌, ◌||◌, ◌==◌, not, encode_utf8}
 use Rattle.std.specs.List.{prefix_len}
 use Rattle.std.proofs.lemmas.Bool.Decides.{nat_tests}
@@ -10,11 +10,11 @@ use Rattle.saphyr_input.proofs.WordRuns.{words_within}
 use Rattle.saphyr_scalar.specs.declared.scalar.position.Marker.{Marker}
 use Rattle.saphyr_scalar.specs.declared.scalar.fault.Refusal.{Refusal}
 use Rattle.saphyr_scalar.specs.Views.Cursor.{Cursor, ◌>>=◌, along, pass}
-use Rattle.saphyr_scalar.specs.Steps.Plain.{in_word, word_starts, goes_on, gap_from, gap, PlainGap, with_text, scalar_ended, word, PlainWordsMoved}
+use Rattle.saphyr_scalar.specs.Steps.Plain.{in_word, word_starts, goes_on, gap_from, gap, PlainGap, with_text, scalar_ended, word, PlainWordsMoved, seen_gap}
 use Rattle.saphyr_scalar.specs.Steps.Quoted.{at}
 use Rattle.saphyr_scalar.specs.Steps.Sets.{in_plain, leads_plain}
 use Rattle.saphyr_scalar.proofs.Moving.{along_none, along_more}
-use Rattle.saphyr_scalar.proofs.Plain.Pieces.{gap_of, behind_gap, word_over, word_on, text_twice, Part, no_part}
+use Rattle.saphyr_scalar.proofs.Plain.Pieces.{behind_gap, word_over, word_on, text_twice, Part, no_part}
 use Rattle.saphyr_scalar.proofs.Plain.Words.{word_left}
 use Rattle.saphyr_scalar.proofs.Quoted.Inside.{Moved, IsContent, content_of}
 use Rattle.saphyr_scalar.proofs.Quoted.Words.{not_true, both_true}
@@ -69,7 +69,7 @@ space_moved m cs h = record {
 }
 
 abbrev space_gap : Marker → List ℕ → PlainGap
-space_gap m cs = gap_of (encode_utf8 32) false (at (along m 1) cs)
+space_gap m cs = seen_gap false (encode_utf8 32) (at (along m 1) cs)
 
 abbrev Found : Type 0
 Found = Result PlainGap Refusal

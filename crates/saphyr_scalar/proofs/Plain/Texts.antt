@@ -9,7 +9,7 @@ use Rattle.saphyr_input.specs.Classes.{is_blank, is_break, is_blank_or_breakz, i
 use Rattle.saphyr_input.specs.Places.{is_blank_or_break, is_document_indicator}
 use Rattle.saphyr_scalar.specs.declared.scalar.position.Marker.{Marker}
 use Rattle.saphyr_scalar.specs.Views.Cursor.{Cursor, ◌>>=◌, along, next_line}
-use Rattle.saphyr_scalar.specs.Reading.Flow.{plain_value}
+use Rattle.scalar_values.specs.Flow.{plain_value}
 use Rattle.saphyr_scalar.specs.Steps.Plain.{in_word, word_starts, goes_on, comment_of, ends_line, with_text, PlainScalarRead, scalar_ended, word, plain}
 use Rattle.saphyr_scalar.specs.Reading.Plain.{AreWhite, passed}
 use Rattle.saphyr_scalar.specs.Spelling.Plain.{behind_blanks, past_white, reaches_tabbed, is_tabbed, EndsPlain, is_word_ink, AreInkBefore, IsWordBefore, has_line_end, IsPlainGap, words_text, IsNoMarker, AreFurtherWords, IsPlainText}

@@ -9,7 +9,7 @@ use Rattle.saphyr_scalar.specs.declared.scalar.position.Marker.{Marker}
 use Rattle.saphyr_scalar.specs.declared.scalar.fault.Refusal.{Refusal}
 use Rattle.saphyr_scalar.specs.Views.Cursor.{Cursor, ◌>>=◌, along, next_line, pass_break}
 use Rattle.saphyr_scalar.specs.Steps.Quoted.{at}
-use Rattle.saphyr_scalar.specs.Steps.Plain.{PlainGap, ends_line, may_stand, reached, at_line, lines, folded_gap, gap_from, gap}
+use Rattle.saphyr_scalar.specs.Steps.Plain.{PlainGap, ends_line, may_stand, reached, at_line, lines, folded_gap, gap_from, gap, seen_gap}
 use Rattle.saphyr_scalar.specs.Spelling.Plain.{behind_blanks, past_white, reaches_tabbed, is_tabbed, stands_behind_tab}
 use Rattle.saphyr_scalar.proofs.Moving.{along_none, along_more}
 use Rattle.saphyr_scalar.proofs.Quoted.Inside.{break_cases}
@@ -21,14 +21,10 @@ use Rattle.saphyr_input.proofs.Basics.Booleans.{by_test}
 use Rattle.saphyr_input.proofs.Basics.Characters.{blank_no_break}
 use Rattle.saphyr_scalar.proofs.Given.{cursor_at}
 
--- a gap that holds, and whether a tab stands in its indentation
-abbrev gap_with : Bool → List ℕ → Cursor → PlainGap
-gap_with t text s = record { text = text; tabbed = t; behind = s }
-
 -- what a gap leaves
 pub record Leaves (r : Result PlainGap Refusal) (t : Bool) (s : Cursor) : Type 0 where
   pub text : List ℕ
-  pub is : r ≡ Ok (gap_with t text s)
+  pub is : r ≡ Ok (seen_gap t text s)
 
 -- what may be reached, where a tab stands in its indentation or none
 abbrev pub MayStand : Bool → List ℕ → Type 0
@@ -38,7 +34,7 @@ no_mark : (c : ℕ) → ((c == 35) || is_z c) ≡ true → is_bom c ≡ false
 no_mark c h = grind (arith, nat_tests)
 
 is_reached : (a : Marker) (t : Bool) (f : List ℕ) (s : Cursor) → MayStand t s.rest
-    → reached a t f s ≡ Ok (gap_with t f s)
+    → reached a t f s ≡ Ok (seen_gap t f s)
 unfolding may_stand
 is_reached a false f s h = refl
 is_reached a true f s (inl e) = absurd (cc)
@@ -95,12 +91,12 @@ line_past i a t f m c cs white = rw white refl
 
 line_end : (i : ℕ) (a : Marker) (t : Bool) (f : List ℕ) (m : Marker) (c : ℕ) (cs : List ℕ)
     → is_blank_or_break c ≡ false → MayStand t (c ∷ cs)
-    → lines i a t f m (c ∷ cs) ≡ Ok (gap_with t f (at_line m (c ∷ cs)))
+    → lines i a t f m (c ∷ cs) ≡ Ok (seen_gap t f (at_line m (c ∷ cs)))
 unfolding lines
 line_end i a t f m c cs other h = rw other (is_reached a t f (at_line m (c ∷ cs)) h)
 
 text_end : (i : ℕ) (a : Marker) (t : Bool) (f : List ℕ) (m : Marker)
-    → lines i a t f m [] ≡ Ok (gap_with t f (at_line m []))
+    → lines i a t f m [] ≡ Ok (seen_gap t f (at_line m []))
 unfolding lines
 text_end i a t f m = is_reached a t f (at_line m []) (inr refl)
 
@@ -118,7 +114,7 @@ leaves_on : (r q : Result PlainGap Refusal) (p t : Bool) (s u : Cursor) → r �
 leaves_on r q p t s u e same place l =
     record {
       text = l.text;
-      is = e ∙ l.is ∙ ap (λ x. Ok (gap_with t l.text x)) (sym place) ∙ ap (λ x. Ok (gap_with x l.text s)) (sym same);
+      is = e ∙ l.is ∙ ap (λ x. Ok (seen_gap t l.text x)) (sym place) ∙ ap (λ x. Ok (seen_gap x l.text s)) (sym same);
     }
 
 pub lines_past : (i : ℕ) (a : Marker) (t : Bool) (f : List ℕ) (m : Marker) (xs : List ℕ)
@@ -228,7 +224,7 @@ at_break (c ∷ cs) m b h = break_cases c h (λ x. AtBreak (x ∷ cs) m b) (feed
 same_fold : (r : Result PlainGap Refusal) (t : Bool) (s : Cursor) → Leaves r t s
     → Leaves (r >>= λ g. Ok (folded_gap g)) t s
 same_fold r t s l =
-    record { text = (folded_gap (gap_with t l.text s)).text; is = ap (λ x. x >>= λ g. Ok (folded_gap g)) l.is }
+    record { text = (folded_gap (seen_gap t l.text s)).text; is = ap (λ x. x >>= λ g. Ok (folded_gap g)) l.is }
 
 from_past : (i : ℕ) (a : Marker) (blanks : List ℕ) (m : Marker) (xs : List ℕ) → is_blank (slice_index xs 0) ≡ false
     → MayStand (reaches_tabbed i 0 false xs) (past_white m false xs).rest

@@ -1,5 +1,5 @@
 -- The words of a plain scalar.
-use Rattle.std.proofs.Common.{◌≡◌, ℕ, ◌+◌, ◌<◌, Bool, true, false, List, [], ◌∷◌, length, drop, refl, arith}
+use Rattle.std.proofs.Common.{◌≡◌, ℕ, ◌+◌, ◌<◌, Bool, true, List, [], ◌∷◌, length, drop, refl, arith}
 use Rattle.saphyr_scalar.specs.Steps.Plain.{in_word, word_len}
 
 pub word_left : (f : Bool) (xs : List ℕ) → in_word f xs ≡ true → 0 < length xs

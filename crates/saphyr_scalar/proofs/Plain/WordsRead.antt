@@ -7,7 +7,7 @@ use Rattle.saphyr_input.specs.Classes.{is_blank, is_break, is_z}
 use Rattle.saphyr_input.specs.Places.{can_be_plain}
 use Rattle.saphyr_scalar.specs.declared.scalar.position.Marker.{Marker}
 use Rattle.saphyr_scalar.specs.Views.Cursor.{Cursor, along}
-use Rattle.saphyr_scalar.specs.Reading.Folding.{folded}
+use Rattle.scalar_values.specs.Folding.{folded}
 use Rattle.saphyr_scalar.specs.Steps.Plain.{in_word, word_len, comment_of, PlainGap}
 use Rattle.saphyr_scalar.specs.Reading.Plain.{AreWhite, passed, IsSpelledPlain, ends_piece}
 use Rattle.saphyr_scalar.proofs.Plain.Words.{word_left}

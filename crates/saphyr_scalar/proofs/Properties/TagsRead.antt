@@ -13,11 +13,11 @@ use Rattle.saphyr_scalar.specs.declared.scalar.fault.Refusal.{Refusal}
 use Rattle.saphyr_scalar.specs.declared.scalar.tag.UriSet.TheVariants.{Uri, Suffix}
 use Rattle.saphyr_scalar.specs.Views.Cursor.{Cursor, ◌>>=◌, along}
 use Rattle.saphyr_scalar.specs.Steps.Quoted.{with_front, at}
-use Rattle.saphyr_scalar.specs.Steps.Tag.{uri_character, decoded, decoded_at, Parts, verbatim, verbatim_end, handle_of, named_tag, named_tail, primary_tag, behind_word, shorthand, tag, tag_end}
+use Rattle.saphyr_scalar.specs.Steps.Tag.{uri_character, decoded, Parts, verbatim, verbatim_end, handle_of, named_tag, named_tail, primary_tag, behind_word, shorthand, tag, tag_end}
 use Rattle.saphyr_scalar.specs.Spelling.Tag.{AreIn, IsDecoded, IsTagText, EndsTag}
 use Rattle.saphyr_scalar.proofs.Moving.{along_none, along_more}
 use Rattle.saphyr_scalar.proofs.Quoted.Inside.{front_twice, no_front}
-use Rattle.saphyr_scalar.proofs.Properties.PercentEscapes.{one_more}
+use Rattle.saphyr_scalar.proofs.Properties.PercentEscapes.{one_more, reads_on}
 use Rattle.saphyr_scalar.proofs.Properties.EscapesRead.{decoded_read, escape_first, character_first}
 use Rattle.saphyr_scalar.proofs.Runs.{run_read}
 use Rattle.saphyr_input.proofs.Basics.Booleans.{and_true_right, other_than, by_test, either}
@@ -85,9 +85,6 @@ alpha_tag c h = rw (alpha_uri c h, alpha_no_flow c h, other_than is_alpha 33 c r
 alpha_plain : (c : ℕ) → is_alpha c ≡ true → nat_eq c 37 ≡ false
 alpha_plain c h = other_than is_alpha 37 c refl h
 
-abbrev reads_on : Marker → Result (ℕ × Cursor) Refusal → Result (List ℕ × Cursor) Refusal
-reads_on start r = r >>= λ x. with_front (encode_utf8 x.0) (decoded_at Suffix start x.1)
-
 plain_character : (start m : Marker) (c : ℕ) (cs : List ℕ) → nat_eq c 37 ≡ false
     → uri_character start (at m (c ∷ cs)) ≡ Ok (c, at (along m 1) cs)
 unfolding uri_character
@@ -97,7 +94,7 @@ alpha_first : (start m : Marker) (c : ℕ) (cs : List ℕ) → is_alpha c ≡ tr
     → decoded Suffix start 0 m (c ∷ cs) ≡ with_front (encode_utf8 c) (decoded Suffix start 0 (along m 1) cs)
 alpha_first start m c cs h =
     one_more Suffix start m (c ∷ cs) (alpha_tag c h)
-    ∙ ap (reads_on start) (plain_character start m c cs (alpha_plain c h))
+    ∙ ap (reads_on Suffix start) (plain_character start m c cs (alpha_plain c h))
 
 -- a word that was read before the rest of a suffix
 pub alpha_on : (start m : Marker) (xs : List ℕ)

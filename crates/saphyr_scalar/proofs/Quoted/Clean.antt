@@ -2,16 +2,16 @@
 use Rattle.std.proofs.Common.{◌≡◌, ℕ, List, [], ◌∷◌, ◌++◌, drop, slice_index, Some, IsTrue, IsFalse}
 use Rattle.saphyr_input.specs.Classes.{is_break}
 use Rattle.saphyr_input.specs.Places.{is_document_indicator}
-use Rattle.saphyr_scalar.specs.Reading.Flow.{mark, raw_item, apostrophe, backslash}
+use Rattle.scalar_values.specs.Flow.{mark, raw_item, apostrophe, backslash}
 use Rattle.saphyr_scalar.specs.Spelling.OneLine.{IsNumber}
 use Rattle.saphyr_scalar.specs.Steps.Quoted.{simple_escape, break_len, is_closing}
 use Rattle.saphyr_scalar.specs.Spelling.QuotedMarkers.{HasNoMarker}
 use Rattle.saphyr_scalar.specs.Spelling.Quoted as quotes
 pub use Rattle.saphyr_scalar.specs.Spelling.Quoted.{stands_for_itself, IsQuotedText}
-use Rattle.saphyr_scalar.specs.declared.reading.folding.Item.{Item}
-use Rattle.saphyr_scalar.specs.declared.reading.folding.Item.TheVariants.{Raw, Escaped, Break, EscapedBreak}
-use Rattle.saphyr_scalar.specs.declared.reading.flow.Quote.{Quote}
-use Rattle.saphyr_scalar.specs.declared.reading.flow.Quote.TheVariants.{Single, Double}
+use Rattle.scalar_values.specs.declared.folding.Item.{Item}
+use Rattle.scalar_values.specs.declared.folding.Item.TheVariants.{Raw, Escaped, Break, EscapedBreak}
+use Rattle.scalar_values.specs.declared.flow.Quote.{Quote}
+use Rattle.scalar_values.specs.declared.flow.Quote.TheVariants.{Single, Double}
 
 abbrev pub IsText : Quote → List ℕ → List Item → List ℕ → Type 0
 IsText q t items x = (is : quotes.IsText q t items x) × HasNoMarker q t items x is

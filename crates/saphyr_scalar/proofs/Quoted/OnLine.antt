@@ -3,12 +3,12 @@ use Rattle.std.proofs.Common.{◌≡◌, ℕ, ◌+◌, Bool, true, false, List, 
 use Rattle.std.specs.Prelude.{◌||◌, ◌&&◌, ◌==◌, not}
 use Rattle.saphyr_input.specs.Classes.{is_break}
 use Rattle.saphyr_scalar.specs.declared.scalar.position.Marker.{Marker}
-use Rattle.saphyr_scalar.specs.declared.reading.folding.Item.{Item}
-use Rattle.saphyr_scalar.specs.declared.reading.flow.Quote.{Quote}
-use Rattle.saphyr_scalar.specs.declared.reading.flow.Quote.TheVariants.{Single, Double}
+use Rattle.scalar_values.specs.declared.folding.Item.{Item}
+use Rattle.scalar_values.specs.declared.flow.Quote.{Quote}
+use Rattle.scalar_values.specs.declared.flow.Quote.TheVariants.{Single, Double}
 use Rattle.saphyr_scalar.specs.Views.Cursor.{Cursor, along}
-use Rattle.saphyr_scalar.specs.Reading.Flow as flow
-use Rattle.saphyr_scalar.specs.Reading.Folding.{folded}
+use Rattle.scalar_values.specs.Flow as flow
+use Rattle.scalar_values.specs.Folding.{folded}
 use Rattle.saphyr_scalar.specs.Passing.{IsPassed, nothing, character}
 use Rattle.saphyr_scalar.specs.Steps.Quoted.{hex_digit_count, at, quoted}
 use Rattle.saphyr_scalar.specs.Spelling.QuotedLines.{AreOnLine}

@@ -4,22 +4,22 @@ use Rattle.std.specs.Prelude.{◌||◌, ◌&&◌, ◌==◌, not, option_map, IsF
 use Rattle.std.proofs.lemmas.Bool.Decides.{nat_tests}
 use Rattle.saphyr_input.specs.Classes.{is_break, is_hex, hex_value}
 use Rattle.saphyr_input.specs.Breaks.{normalized}
-use Rattle.saphyr_scalar.specs.declared.reading.folding.Item.{Item}
-use Rattle.saphyr_scalar.specs.declared.reading.folding.Item.TheVariants.{Raw, Escaped, Break, EscapedBreak}
-use Rattle.saphyr_scalar.specs.declared.reading.flow.Quote.{Quote}
-use Rattle.saphyr_scalar.specs.declared.reading.flow.Quote.TheVariants.{Single, Double}
+use Rattle.scalar_values.specs.declared.folding.Item.{Item}
+use Rattle.scalar_values.specs.declared.folding.Item.TheVariants.{Raw, Escaped, Break, EscapedBreak}
+use Rattle.scalar_values.specs.declared.flow.Quote.{Quote}
+use Rattle.scalar_values.specs.declared.flow.Quote.TheVariants.{Single, Double}
 use Rattle.saphyr_scalar.specs.Views.Cursor.{Cursor}
-use Rattle.saphyr_scalar.specs.Reading.Escapes as escapes
-use Rattle.saphyr_scalar.specs.Reading.Flow as flow
-use Rattle.saphyr_scalar.specs.Reading.Folding.{folded}
+use Rattle.scalar_values.specs.Escapes as escapes
+use Rattle.scalar_values.specs.Flow as flow
+use Rattle.scalar_values.specs.Folding.{folded}
 use Rattle.saphyr_scalar.specs.Spelling.OneLine as line
 use Rattle.saphyr_scalar.specs.Steps.Quoted.{simple_escape, hex_digit_count, is_scalar, break_len, quoted}
 use Rattle.saphyr_scalar.specs.Spelling.Quoted as quotes
-use Rattle.saphyr_scalar.specs.Spelling.Items.{IsSpelling, Spells, IsSpelledQuote}
+use Rattle.scalar_values.specs.Items.{IsSpelling, Spells, IsSpelledQuote}
 use Rattle.saphyr_scalar.proofs.Quoted.Inside.{break_cases}
 use Rattle.saphyr_scalar.proofs.Quoted.SpelledLines.{quoted_spelled}
 use Rattle.saphyr_scalar.proofs.Quoted.SpelledEscapes.{GaveText}
-use Rattle.saphyr_scalar.proofs.Quoted.SpellingsRead.{quoted_read}
+use Rattle.scalar_values.proofs.SpellingsRead.{quoted_read}
 use Rattle.saphyr_input.proofs.Basics.Characters.{normalized_other}
 
 -- The two tables of escapes agree.

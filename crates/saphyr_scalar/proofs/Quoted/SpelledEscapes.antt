@@ -5,9 +5,9 @@ use Rattle.std.proofs.lemmas.Bool.Decides.{nat_tests}
 use Rattle.saphyr_input.specs.Classes.{is_hex, hex_value}
 use Rattle.saphyr_scalar.specs.declared.scalar.position.Marker.{Marker}
 use Rattle.saphyr_scalar.specs.declared.scalar.fault.Refusal.{Refusal}
-use Rattle.saphyr_scalar.specs.declared.reading.folding.Item.{Item}
-use Rattle.saphyr_scalar.specs.declared.reading.folding.Item.TheVariants.{Escaped}
-use Rattle.saphyr_scalar.specs.declared.reading.flow.Quote.TheVariants.{Double}
+use Rattle.scalar_values.specs.declared.folding.Item.{Item}
+use Rattle.scalar_values.specs.declared.folding.Item.TheVariants.{Escaped}
+use Rattle.scalar_values.specs.declared.flow.Quote.TheVariants.{Double}
 use Rattle.saphyr_scalar.specs.Views.Cursor.{Cursor, ◌>>=◌, along, pass}
 use Rattle.saphyr_scalar.specs.Steps.Quoted.{simple_escape, hex_digit_count, is_scalar, digits, character, numbered, escape_of, escaped_character, with_front, at}
 use Rattle.saphyr_scalar.specs.Spelling.OneLine as spelling

@@ -5,7 +5,7 @@ use Rattle.std.proofs.lemmas.Bool.Decides.{nat_tests}
 use Rattle.saphyr_input.specs.Classes.{is_blank_or_breakz}
 use Rattle.saphyr_input.specs.Places.{words_len, TransfersWords}
 use Rattle.saphyr_scalar.specs.declared.scalar.position.Marker.{Marker}
-use Rattle.saphyr_scalar.specs.declared.reading.flow.Quote.{Quote}
+use Rattle.scalar_values.specs.declared.flow.Quote.{Quote}
 use Rattle.saphyr_scalar.specs.Views.Cursor.{Cursor, along}
 use Rattle.saphyr_scalar.specs.Steps.Quoted.{is_literal, with_front, at, no_gap, inside, QuotedWordsMoved}
 use Rattle.saphyr_scalar.specs.Steps.Sets.{is_content}

@@ -5,12 +5,12 @@ use Rattle.std.proofs.lemmas.Bool.Decides.{nat_tests}
 use Rattle.saphyr_input.specs.Classes.{is_blank, is_break, is_breakz}
 use Rattle.saphyr_input.specs.Places.{is_document_indicator}
 use Rattle.saphyr_scalar.specs.declared.scalar.position.Marker.{Marker}
-use Rattle.saphyr_scalar.specs.declared.reading.folding.Item.{Item}
-use Rattle.saphyr_scalar.specs.declared.reading.folding.Item.TheVariants.{Raw, Escaped, EscapedBreak}
-use Rattle.saphyr_scalar.specs.declared.reading.flow.Quote.{Quote}
-use Rattle.saphyr_scalar.specs.declared.reading.flow.Quote.TheVariants.{Single, Double}
+use Rattle.scalar_values.specs.declared.folding.Item.{Item}
+use Rattle.scalar_values.specs.declared.folding.Item.TheVariants.{Raw, Escaped, EscapedBreak}
+use Rattle.scalar_values.specs.declared.flow.Quote.{Quote}
+use Rattle.scalar_values.specs.declared.flow.Quote.TheVariants.{Single, Double}
 use Rattle.saphyr_scalar.specs.Views.Cursor.{◌>>=◌, along, next_line}
-use Rattle.saphyr_scalar.specs.Reading.Flow as flow
+use Rattle.scalar_values.specs.Flow as flow
 use Rattle.saphyr_scalar.specs.Passing.{IsPassed, nothing, character, line_break}
 use Rattle.saphyr_scalar.specs.Steps.Quoted.{is_literal, with_front, at, QuotedGap, on_line, over_lines, no_gap, is_left, begin_word, end_gap, escaped_gap, break_len, is_closing, escaped_character, inside, inside_at}
 use Rattle.saphyr_scalar.specs.Spelling.Quoted as quotes

@@ -5,7 +5,7 @@ use Rattle.saphyr_input.specs.Breaks.{normalized}
 use Rattle.saphyr_input.specs.Places.{is_blank_or_break, is_document_indicator}
 use Rattle.saphyr_scalar.specs.declared.scalar.position.Marker.{Marker}
 use Rattle.saphyr_scalar.specs.Views.Cursor.{Cursor, along, next_line}
-use Rattle.saphyr_scalar.specs.Reading.Flow.{plain_value}
+use Rattle.scalar_values.specs.Flow.{plain_value}
 use Rattle.saphyr_scalar.specs.Spelling.LineBreaks.{ends_line}
 
 abbrev pub AreWhite : List ℕ → Type 0

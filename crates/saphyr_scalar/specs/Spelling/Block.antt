@@ -3,12 +3,12 @@
 use Rattle.std.specs.Prelude.{◌≡◌, ◌≢◌, ℕ, ◌+◌, ◌-◌, ◌^◌, ◌<◌, ◌≤◌, Ok, encode_utf8_all, Bool, true, false, List, [], ◌∷◌, ◌++◌, slice_index, ◌⊎◌}
 use Rattle.saphyr_input.specs.Classes.{is_blank, is_yaml_non_break, is_z}
 use Rattle.saphyr_input.specs.Places.{is_document_indicator}
-use Rattle.saphyr_scalar.specs.declared.reading.block.Chomping.{Chomping}
-use Rattle.saphyr_scalar.specs.declared.reading.block.Chomping.TheVariants.{Strip, Clip, Keep}
-use Rattle.saphyr_scalar.specs.declared.reading.block.BlockStyle.{BlockStyle}
+use Rattle.scalar_values.specs.declared.block.Chomping.{Chomping}
+use Rattle.scalar_values.specs.declared.block.Chomping.TheVariants.{Strip, Clip, Keep}
+use Rattle.scalar_values.specs.declared.block.BlockStyle.{BlockStyle}
 use Rattle.saphyr_scalar.specs.declared.scalar.position.Span.{Span}
 use Rattle.saphyr_scalar.specs.Views.Cursor.{Cursor}
-use Rattle.saphyr_scalar.specs.Reading.Block.{Line, Empty, Content, lines_value}
+use Rattle.scalar_values.specs.Block.{Line, Empty, Content, lines_value}
 use Rattle.saphyr_scalar.specs.Steps.BlockRead.{spaces}
 use Rattle.saphyr_scalar.specs.Steps.Block.{block_scalar}
 

@@ -1,7 +1,7 @@
 -- How directives are spelled (YAML 1.2.2, 6.8), and what may stand behind one on its line.
 use Rattle.std.specs.Prelude.{◌≡◌, ◌≢◌, ℕ, ◌+◌, ◌-◌, ◌*◌, ◌≤◌, ◌⊎◌, List, [], ◌∷◌, ◌++◌, length, slice_index, IsTrue, codes, encode_utf8_all}
 use Rattle.saphyr_input.specs.Classes.{is_blank, is_digit, is_yaml_non_space, is_yaml_non_break}
-use Rattle.saphyr_scalar.specs.Steps.Directive.{Directive, version, tag_prefix, reserved}
+use Rattle.saphyr_scalar.specs.Steps.Directive.{ReadDirective, version, tag_prefix, reserved}
 use Rattle.saphyr_scalar.specs.Spelling.Tag.{AreIn, IsHandleText, IsPrefix}
 
 -- spaces and tabs, at least one
@@ -37,7 +37,7 @@ IsReadTagDirective handle prefix t =
     × IsPrefix prefix written × (t ≡ codes "%TAG" ++ (first ++ (handle ++ (second ++ written))))
 
 -- what a directive says, and the directive as it is written: a version directive, or a tag directive
-abbrev pub IsDirectiveText : Directive → List ℕ → Type 0
+abbrev pub IsDirectiveText : ReadDirective → List ℕ → Type 0
 IsDirectiveText (version major minor) t = IsVersionDirective major minor t
 IsDirectiveText (tag_prefix handle prefix) t =
     (h p : List ℕ) × IsTagDirective h p t × (handle ≡ encode_utf8_all h) × (prefix ≡ encode_utf8_all p)
@@ -60,7 +60,7 @@ IsLineTail t = (blanks comment : List ℕ) × AreIn is_blank blanks × ((comment
     × (t ≡ blanks ++ comment)
 
 -- what a directive says, and the directive as it is read
-abbrev pub IsReadDirective : Directive → List ℕ → Type 0
+abbrev pub IsReadDirective : ReadDirective → List ℕ → Type 0
 IsReadDirective (version major minor) t = IsVersionDirective major minor t
 IsReadDirective (tag_prefix handle prefix) t =
     (h p : List ℕ) × IsReadTagDirective h p t × (handle ≡ encode_utf8_all h) × (prefix ≡ encode_utf8_all p)

@@ -2,14 +2,14 @@
 -- Each relation is between what stands at a place, the items that it spells, and what stands behind it.
 use Rattle.std.specs.Prelude.{◌≡◌, ℕ, Bool, ◌&&◌, not, List, [], ◌∷◌, ◌++◌, drop, slice_index, Some, IsTrue}
 use Rattle.saphyr_input.specs.Classes.{is_break, is_breakz}
-use Rattle.saphyr_scalar.specs.Reading.Flow.{mark, is_special, raw_item, apostrophe, backslash}
+use Rattle.scalar_values.specs.Flow.{mark, is_special, raw_item, apostrophe, backslash}
 use Rattle.saphyr_scalar.specs.Spelling.OneLine.{IsNumber}
 use Rattle.saphyr_scalar.specs.Spelling.LineBreaks.{break_len}
 use Rattle.saphyr_scalar.specs.Spelling.QuotedWords.{simple_escape, is_closing}
-use Rattle.saphyr_scalar.specs.declared.reading.folding.Item.{Item}
-use Rattle.saphyr_scalar.specs.declared.reading.folding.Item.TheVariants.{Raw, Escaped, Break, EscapedBreak}
-use Rattle.saphyr_scalar.specs.declared.reading.flow.Quote.{Quote}
-use Rattle.saphyr_scalar.specs.declared.reading.flow.Quote.TheVariants.{Single, Double}
+use Rattle.scalar_values.specs.declared.folding.Item.{Item}
+use Rattle.scalar_values.specs.declared.folding.Item.TheVariants.{Raw, Escaped, Break, EscapedBreak}
+use Rattle.scalar_values.specs.declared.flow.Quote.{Quote}
+use Rattle.scalar_values.specs.declared.flow.Quote.TheVariants.{Single, Double}
 
 -- a character that stands for itself and is no break
 abbrev pub stands_for_itself : Quote → ℕ → Bool

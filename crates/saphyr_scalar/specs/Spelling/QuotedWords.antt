@@ -2,8 +2,8 @@
 -- of
 -- the reader are told with these words.
 use Rattle.std.specs.Prelude.{ℕ, Bool, ◌||◌, ◌&&◌, ◌==◌, not, nat_lt, nat_le, List, slice_index, Option, Some, None, if◌then◌else◌}
-use Rattle.saphyr_scalar.specs.declared.reading.flow.Quote.{Quote}
-use Rattle.saphyr_scalar.specs.declared.reading.flow.Quote.TheVariants.{Single, Double}
+use Rattle.scalar_values.specs.declared.flow.Quote.{Quote}
+use Rattle.scalar_values.specs.declared.flow.Quote.TheVariants.{Single, Double}
 
 -- what an escape of one letter stands for
 unfoldable pub simple_escape : ℕ → Option ℕ

@@ -1,22 +1,23 @@
 -- Block scalars (YAML 1.2.2, 8.1), from their header on, in the steps in which they are read.
-use Rattle.std.specs.Prelude.{ℕ, ◌+◌, ◌-◌, ◌^◌, min, max, Bool, true, false, ◌||◌, ◌&&◌, ◌==◌, not, nat_lt, nat_le, List, [], ◌∷◌, ◌++◌, take, slice_index, Option, Some, None, is_some, unwrap_or, Result, Ok, if◌then◌else◌, encode_utf8_all}
+use Rattle.std.specs.Prelude.{ℕ, ◌+◌, ◌-◌, ◌^◌, min, max, Bool, true, false, ◌||◌, ◌&&◌, ◌==◌, not, nat_lt, nat_le, List, [], ◌∷◌, ◌++◌, take, slice_index, Option, Some, None, is_some, unwrap_or, Result, Ok, if◌then◌else◌, encode_utf8_all, string_bytes}
 use Rattle.std.specs.List.{prefix_len}
 use Rattle.saphyr_input.specs.Classes.{is_z, is_break, is_breakz, is_blank, is_digit, is_yaml_non_break, line_feed, carriage_return, space, tab}
 use Rattle.saphyr_input.specs.Places.{is_document_indicator}
 use Rattle.saphyr_input.specs.declared.input.SkipTabs.TheVariants.{Yes}
-use Rattle.saphyr_scalar.specs.declared.reading.block.BlockStyle.{BlockStyle}
-use Rattle.saphyr_scalar.specs.declared.reading.block.BlockStyle.TheVariants.{Literal, Folded}
-use Rattle.saphyr_scalar.specs.declared.reading.block.Chomping.{Chomping}
-use Rattle.saphyr_scalar.specs.declared.reading.block.Chomping.TheVariants.{Strip, Clip, Keep}
+use Rattle.scalar_values.specs.declared.block.BlockStyle.{BlockStyle}
+use Rattle.scalar_values.specs.declared.block.BlockStyle.TheVariants.{Literal, Folded}
+use Rattle.scalar_values.specs.declared.block.Chomping.{Chomping}
+use Rattle.scalar_values.specs.declared.block.Chomping.TheVariants.{Strip, Clip, Keep}
 use Rattle.saphyr_scalar.specs.declared.scalar.position.Marker.{Marker}
 use Rattle.saphyr_scalar.specs.declared.scalar.position.Span.{Span}
 use Rattle.saphyr_scalar.specs.declared.scalar.fault.Refusal.{Refusal}
 use Rattle.saphyr_scalar.specs.declared.scalar.fault.FaultText.TheVariants as fault
+use Rattle.saphyr_scalar.specs.declared.scalar.block.BlockScalar.{BlockScalar}
 use Rattle.saphyr_scalar.specs.declared.scalar.block.header.BlockHeader.{BlockHeader}
 use Rattle.saphyr_scalar.specs.declared.scalar.block.lines.EmptyLines.{EmptyLines}
 use Rattle.saphyr_scalar.specs.declared.scalar.block.breaks.BlockEnd.{BlockEnd}
 use Rattle.saphyr_scalar.specs.Views.Cursor.{Cursor, ◌>>=◌, refuse, along, next_line, pass, pass_break, pass_comment, separation}
-use Rattle.saphyr_scalar.specs.Reading.Folding.{line_feeds, raw_break}
+use Rattle.scalar_values.specs.Folding.{line_feeds, raw_break}
 
 -- 8.1.1.2: the chomping indicator that stands first, where one does, and what stands behind it
 unfoldable pub chomping : Cursor → Option Chomping × Cursor
@@ -156,6 +157,14 @@ with_line text s = (text ++ encode_utf8_all (take (prefix_len is_yaml_non_break 
 abbrev pub with_lines : List ℕ → LinesRead → List ℕ × BlockEnd × Cursor
 with_lines text read = (text ++ encode_utf8_all read.0, read.1, read.2)
 
+-- the lines behind a text, from the first on, behind some empty lines
+abbrev pub lines_onto : BlockStyle → ℕ → ℕ → List ℕ → Cursor → Result (List ℕ × BlockEnd × Cursor) Refusal
+lines_onto style i leading text s = Ok (with_lines text (between_at style i None leading s))
+
+-- what contracts see of the lines behind a text and of the reader behind them
+abbrev pub seen_lines : BlockEnd → List ℕ → Cursor → List ℕ × BlockEnd × Cursor
+seen_lines end text s = (text, end, s)
+
 -- 8.1.1.2: what stays of the breaks behind the last content. The last line may lack a break and count as if it had one.
 abbrev pub tail : Chomping → Bool → BlockEnd → List ℕ
 tail Strip unfinished end = []
@@ -182,15 +191,22 @@ given_indentation indent n = if n == 0 then None else Some (min (indent - 1 + n)
 abbrev pub BlockScalarRead : Type 0
 BlockScalarRead = Result (List ℕ × Span × Cursor) Refusal
 
+-- what contracts see of a scalar and of the reader behind it
+abbrev pub seen_block_scalar : BlockScalar → Cursor → List ℕ × Span × Cursor
+seen_block_scalar scalar s = (string_bytes scalar.text, scalar.span, s)
+
 unfoldable pub chomped_lines : Chomping → ℕ → Marker → LinesRead → BlockScalarRead
 chomped_lines c i start x =
     Ok (encode_utf8_all (x.0 ++ tail c (is_unfinished i x.2) x.1), record { start = start; end = x.2.mark }, x.2)
+
+abbrev pub content_lines : BlockStyle → Chomping → ℕ → ℕ → Cursor → BlockScalarRead
+content_lines style c i lines s = chomped_lines c i s.mark (between_at style i None lines s)
 
 -- the content lines, from the first on, behind some empty lines
 unfoldable pub content : BlockStyle → Chomping → ℕ → ℕ → ℕ → Cursor → BlockScalarRead
 content style c indent i lines s =
     if nat_lt s.mark.col i && nat_le indent s.mark.col then refuse fault.BlockScalarLineIndentation s.mark
-    else chomped_lines c i s.mark (between_at style i None lines s)
+    else content_lines style c i lines s
 
 -- what stands behind the leading empty lines
 unfoldable pub behind_leading_lines : BlockStyle → ℕ → Marker → Chomping → Option ℕ → EmptyLines × Cursor

@@ -2,12 +2,12 @@
 use Rattle.std.specs.Prelude.{◌≡◌, ℕ, max, true, false, List, [], ◌∷◌, ◌++◌, slice_index, replicate, ◌⊎◌, Some, unwrap_or, Ok, if◌then◌else◌, encode_utf8_all}
 use Rattle.saphyr_input.specs.Breaks.{normalized}
 use Rattle.saphyr_input.specs.Classes.{is_break, is_z, space}
-use Rattle.saphyr_scalar.specs.declared.reading.block.BlockStyle.{BlockStyle}
-use Rattle.saphyr_scalar.specs.declared.reading.block.Ending.{Ending}
-use Rattle.saphyr_scalar.specs.declared.reading.block.Ending.TheVariants.{AtEnd, AtMark}
+use Rattle.scalar_values.specs.declared.block.BlockStyle.{BlockStyle}
+use Rattle.scalar_values.specs.declared.block.Ending.{Ending}
+use Rattle.scalar_values.specs.declared.block.Ending.TheVariants.{AtEnd, AtMark}
 use Rattle.saphyr_scalar.specs.declared.scalar.block.header.BlockHeader.{BlockHeader}
 use Rattle.saphyr_scalar.specs.Views.Cursor.{Cursor}
-use Rattle.saphyr_scalar.specs.Reading.Block.{is_empty_line, block_value, ended_lines, last_line}
+use Rattle.scalar_values.specs.Block.{is_empty_line, block_value, ended_lines, last_line}
 use Rattle.saphyr_scalar.specs.Steps.Block as block
 
 -- what ends the lines before a place

@@ -8,21 +8,30 @@ use Rattle.saphyr_scalar.specs.declared.scalar.fault.Refusal.{Refusal}
 use Rattle.saphyr_scalar.specs.declared.scalar.fault.FaultText.TheVariants as fault
 use Rattle.saphyr_scalar.specs.declared.scalar.directive.Directive as declared
 use Rattle.saphyr_scalar.specs.declared.scalar.directive.Directive.TheVariants as variant
+use Rattle.saphyr_scalar.specs.declared.scalar.directive.DirectiveLine.{DirectiveLine}
 use Rattle.saphyr_scalar.specs.declared.scalar.tag.UriSet.TheVariants.{Uri}
 use Rattle.saphyr_scalar.specs.Views.Cursor.{Cursor, ◌>>=◌, refuse, along, pass, pass_blanks, pass_break, pass_comment, separation}
 use Rattle.saphyr_scalar.specs.Steps.Quoted.{with_front, with_run, at}
 use Rattle.saphyr_scalar.specs.Steps.Tag.{uri_character, decoded_at, handle_of}
 
 -- what a directive says: its texts as their bytes
-pub data Directive : Type 0 where
-  version : ℕ → ℕ → Directive
-  tag_prefix : List ℕ → List ℕ → Directive
-  reserved : List ℕ → Directive
+pub data ReadDirective : Type 0 where
+  version : ℕ → ℕ → ReadDirective
+  tag_prefix : List ℕ → List ℕ → ReadDirective
+  reserved : List ℕ → ReadDirective
 
-abbrev pub directive_of : declared.Directive → Directive
+abbrev pub directive_of : declared.Directive → ReadDirective
 directive_of (variant.Version major minor) = version major minor
 directive_of (variant.TagPrefix handle prefix) = tag_prefix (string_bytes handle) (string_bytes prefix)
 directive_of (variant.Reserved name) = reserved (string_bytes name)
+
+-- what contracts see of a directive and of the reader behind it
+abbrev pub seen_directive : declared.Directive → Cursor → ReadDirective × Cursor
+seen_directive d s = (directive_of d, s)
+
+-- what contracts see of a directive with its place, and of the reader behind its line
+abbrev pub seen_directive_line : DirectiveLine → Cursor → ReadDirective × Marker × Cursor
+seen_directive_line line s = (directive_of line.directive, line.end, s)
 
 -- blanks are passed
 abbrev pub pass_all_blanks : Cursor → Cursor
@@ -56,12 +65,12 @@ number_from start n v m (c ∷ cs) =
 abbrev pub number : Marker → Cursor → Result (ℕ × Cursor) Refusal
 number start s = number_from start 0 0 s.mark s.rest
 
-unfoldable pub behind_major : Marker → ℕ × Cursor → Result (Directive × Cursor) Refusal
+unfoldable pub behind_major : Marker → ℕ × Cursor → Result (ReadDirective × Cursor) Refusal
 behind_major start x =
     if slice_index x.1.rest 0 == 46 then (number start (pass 1 x.1) >>= λ y. Ok (version x.0 y.0, y.1))
     else refuse fault.VersionDigitOrDotExpected start
 
-unfoldable pub version_directive : Marker → Cursor → Result (Directive × Cursor) Refusal
+unfoldable pub version_directive : Marker → Cursor → Result (ReadDirective × Cursor) Refusal
 version_directive start s = number start (pass_all_blanks s) >>= λ x. behind_major start x
 
 -- Tag directives (6.8.2).
@@ -85,22 +94,25 @@ prefix start s =
     (uri_character start s >>= λ x. with_front (encode_utf8 x.0) (decoded_at Uri start x.1))
     else refuse fault.TagPrefixCharacter start
 
-unfoldable pub behind_prefix : Marker → List ℕ → List ℕ × Cursor → Result (Directive × Cursor) Refusal
+unfoldable pub behind_prefix : Marker → List ℕ → List ℕ × Cursor → Result (ReadDirective × Cursor) Refusal
 behind_prefix start h x =
     if is_blank_or_breakz (slice_index x.1.rest 0) then Ok (tag_prefix h x.0, x.1) else refuse
     fault.TagDirectiveEndExpected start
 
-unfoldable pub tag_directive : Marker → Cursor → Result (Directive × Cursor) Refusal
+unfoldable pub tag_directive : Marker → Cursor → Result (ReadDirective × Cursor) Refusal
 tag_directive start s = handle start (pass_all_blanks s) >>= λ h. prefix start
     (pass_all_blanks h.1) >>= λ x. behind_prefix
     start h.0 x
 
 -- what a directive of a name says; the parameters of a reserved one are passed
-unfoldable pub value : Marker → List ℕ × Cursor → Result (Directive × Cursor) Refusal
+unfoldable pub value : Marker → List ℕ × Cursor → Result (ReadDirective × Cursor) Refusal
 value start x =
     if bytes_eq x.0 (codes "YAML") then version_directive start x.1
     else if bytes_eq x.0 (codes "TAG") then tag_directive start x.1
     else Ok (reserved x.0, pass_comment x.1)
+
+abbrev pub value_of_name : Marker → List ℕ → Cursor → Result (ReadDirective × Cursor) Refusal
+value_of_name start name s = value start (name, s)
 
 -- blanks, a comment and the line's break
 unfoldable pub line_end : Marker → Cursor → Result Cursor Refusal
@@ -109,5 +121,5 @@ line_end start s =
     fault.DirectiveEndExpected start
 
 -- A directive, from its `%` on: what it says, the place behind it, and what stands behind its line.
-unfoldable pub directive : Cursor → Result (Directive × Marker × Cursor) Refusal
+unfoldable pub directive : Cursor → Result (ReadDirective × Marker × Cursor) Refusal
 directive s = name (pass 1 s) >>= λ x. value s.mark x >>= λ d. line_end s.mark d.1 >>= λ t. Ok (d.0, d.1.mark, t)

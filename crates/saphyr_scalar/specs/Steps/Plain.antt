@@ -1,10 +1,11 @@
 -- Plain scalars (YAML 1.2.2, 7.3.3).
-use Rattle.std.specs.Prelude.{◌≡◌, ◌<◌, ℕ, zero, suc, pred, ◌+◌, ◌-◌, Bool, true, false, ◌||◌, ◌&&◌, ◌==◌, not, nat_lt, List, [], ◌∷◌, ◌++◌, length, take, slice_index, Result, Ok, Option, Some, None, if◌then◌else◌, encode_utf8, encode_utf8_all}
+use Rattle.std.specs.Prelude.{◌≡◌, ◌<◌, ℕ, zero, suc, pred, ◌+◌, ◌-◌, Bool, true, false, ◌||◌, ◌&&◌, ◌==◌, not, nat_lt, List, [], ◌∷◌, ◌++◌, length, take, slice_index, Result, Ok, Option, Some, None, if◌then◌else◌, encode_utf8, encode_utf8_all, string_bytes}
 use Rattle.saphyr_input.specs.Classes.{is_z, is_break, is_blank, is_blank_or_breakz, is_flow, is_bom, tab, line_feed, carriage_return, space}
 use Rattle.saphyr_input.specs.Places.{can_be_plain, is_document_indicator, is_blank_or_break}
 use Rattle.saphyr_scalar.specs.declared.scalar.position.Marker.{Marker}
 use Rattle.saphyr_scalar.specs.declared.scalar.fault.Refusal.{Refusal}
 use Rattle.saphyr_scalar.specs.declared.scalar.fault.FaultText.TheVariants as fault
+use Rattle.saphyr_scalar.specs.declared.scalar.plain.PlainScalar.{PlainScalar}
 use Rattle.saphyr_scalar.specs.Views.Cursor.{Cursor, ◌>>=◌, refuse, along, next_line, pass, pass_blanks, pass_break}
 pub use Rattle.saphyr_scalar.specs.Spelling.LineBreaks.{ends_line}
 use Rattle.saphyr_scalar.specs.Steps.Quoted.{at, with_run}
@@ -37,6 +38,10 @@ pub record PlainGap : Type 0 where
   pub tabbed : Bool
   pub behind : Cursor
 
+-- what contracts see of a gap: whether a tab stands in the indentation, a text, and the reader behind the gap
+abbrev pub seen_gap : Bool → List ℕ → Cursor → PlainGap
+seen_gap tabbed text s = record { text = text; tabbed = tabbed; behind = s }
+
 -- behind a line's blanks, where a tab stands in its indentation: only a comment may, or nothing
 unfoldable pub may_stand : Marker → Bool → Cursor → Result Cursor Refusal
 may_stand start tabbed s =
@@ -60,6 +65,13 @@ pass_white indent tabbed feeds s =
     if is_break (slice_index s.rest 0) then (false, feeds ++ line_feed ∷ [], pass_break s)
     else (tabbed || ((slice_index s.rest 0 == tab) && nat_lt s.mark.col indent), feeds, pass_blanks 1 s)
 
+abbrev pub white_onto : ℕ → Bool → List ℕ → Cursor → Result (Bool × List ℕ × Cursor) Refusal
+white_onto indent tabbed feeds s = Ok (pass_white indent tabbed feeds s)
+
+-- what contracts see of a blank or a break that is passed
+abbrev pub seen_white : Bool → List ℕ → Cursor → Bool × List ℕ × Cursor
+seen_white tabbed feeds s = (tabbed, feeds, s)
+
 -- Blanks and breaks from a line's start on: a line feed for each line of them (6.5).
 -- `indent` is the first column to the right of the enclosing block collection.
 unfoldable pub lines : ℕ → Marker → Bool → List ℕ → Marker → List ℕ → Result PlainGap Refusal
@@ -71,6 +83,9 @@ lines indent start tabbed feeds m (c ∷ cs) =
     (if ends_line c cs then next_line m 1 else along m 1) cs
     else reached start tabbed feeds (at_line m (c ∷ cs))
 
+abbrev pub feeds_onto : ℕ → Marker → List ℕ → Cursor → Result PlainGap Refusal
+feeds_onto indent start feeds s = lines indent start false feeds s.mark s.rest
+
 -- a break before no empty line reads as a space, and another as its empty lines
 abbrev pub folded_gap : PlainGap → PlainGap
 folded_gap g = record g { text = if length g.text == 0 then space ∷ [] else g.text }
@@ -79,9 +94,13 @@ folded_gap g = record g { text = if length g.text == 0 then space ∷ [] else g.
 abbrev pub gap_text : Bool → List ℕ → List ℕ
 gap_text over_lines text = if over_lines && (length text == 0) then space ∷ [] else text
 
+-- what contracts see of a gap behind a word: its blanks, or a line feed for each empty line
+abbrev pub seen_word_gap : Bool → List ℕ → Cursor → PlainGap
+seen_word_gap tabbed text s = seen_gap tabbed (gap_text s.blank_so_far text) s
+
 -- a line behind a word's line begins
 abbrev pub next_lines : ℕ → Marker → Cursor → Result PlainGap Refusal
-next_lines indent start s = lines indent start false [] s.mark s.rest >>= λ g. Ok (folded_gap g)
+next_lines indent start s = feeds_onto indent start [] s >>= λ g. Ok (folded_gap g)
 
 -- behind the blanks on a word's line
 unfoldable pub gap_from : ℕ → Marker → List ℕ → Cursor → Result PlainGap Refusal
@@ -108,6 +127,10 @@ comment_of in_flow tabbed s =
 -- stands behind it
 abbrev pub PlainScalarRead : Type 0
 PlainScalarRead = Result (List ℕ × Marker × Option Marker × Cursor) Refusal
+
+-- what contracts see of a scalar and of the reader behind it
+abbrev pub seen_plain_scalar : PlainScalar → Cursor → List ℕ × Marker × Option Marker × Cursor
+seen_plain_scalar scalar s = (string_bytes scalar.text, scalar.end, scalar.comment, s)
 
 -- a text before what is read
 abbrev pub with_text : List ℕ → PlainScalarRead → PlainScalarRead

@@ -6,14 +6,14 @@ use Rattle.saphyr_input.specs.Places.{next_2_are, is_document_indicator}
 use Rattle.saphyr_scalar.specs.declared.scalar.position.Marker.{Marker}
 use Rattle.saphyr_scalar.specs.declared.scalar.fault.Refusal.{Refusal}
 use Rattle.saphyr_scalar.specs.declared.scalar.fault.FaultText.TheVariants as fault
-use Rattle.saphyr_scalar.specs.declared.reading.flow.Quote.{Quote}
-use Rattle.saphyr_scalar.specs.declared.reading.flow.Quote.TheVariants.{Single, Double}
+use Rattle.scalar_values.specs.declared.flow.Quote.{Quote}
+use Rattle.scalar_values.specs.declared.flow.Quote.TheVariants.{Single, Double}
 use Rattle.saphyr_scalar.specs.Views.Cursor.{Cursor, ◌>>=◌, refuse, along, next_line, pass}
-use Rattle.saphyr_scalar.specs.Reading.Flow as flow
+use Rattle.scalar_values.specs.Flow as flow
 pub use Rattle.saphyr_scalar.specs.Spelling.LineBreaks.{break_len}
 unfoldable pub use Rattle.saphyr_scalar.specs.Spelling.QuotedWords.{simple_escape}
 pub use Rattle.saphyr_scalar.specs.Spelling.QuotedWords.{hex_digit_count, is_scalar, is_closing}
-use Rattle.saphyr_scalar.specs.Reading.Folding.{raw_break, line_feeds}
+use Rattle.scalar_values.specs.Folding.{raw_break, line_feeds}
 
 -- a character that stands for itself between the quotes and is no blank
 unfoldable pub is_literal : Quote → ℕ → Bool

@@ -3,7 +3,7 @@ use Rattle.std.specs.Prelude.{◌≡◌, ℕ, Bool, false, ◌&&◌, ◌==◌, n
 use Rattle.saphyr_input.specs.Classes.{is_blank_or_breakz, is_bom, is_flow}
 use Rattle.saphyr_scalar.specs.declared.scalar.tag.UriSet.{UriSet}
 use Rattle.saphyr_scalar.specs.declared.scalar.tag.UriSet.TheVariants.{Uri, Suffix}
-use Rattle.saphyr_scalar.specs.declared.reading.flow.Quote.TheVariants.{Single, Double}
+use Rattle.scalar_values.specs.declared.flow.Quote.TheVariants.{Single, Double}
 use Rattle.saphyr_scalar.specs.Steps.Quoted.{is_literal}
 use Rattle.saphyr_scalar.specs.Steps.Tag as tag
 

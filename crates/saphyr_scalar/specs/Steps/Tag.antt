@@ -1,10 +1,11 @@
 -- Tags (YAML 1.2.2, 6.9.1), their handles (6.8.2.1), and percent escapes (5.6).
-use Rattle.std.specs.Prelude.{ℕ, zero, suc, ◌+◌, ◌-◌, ◌*◌, Bool, ◌||◌, ◌&&◌, ◌==◌, nat_lt, nat_le, List, [], ◌∷◌, ◌++◌, length, slice_index, Result, Ok, if◌then◌else◌, encode_utf8, codes}
+use Rattle.std.specs.Prelude.{ℕ, zero, suc, ◌+◌, ◌-◌, ◌*◌, Bool, ◌||◌, ◌&&◌, ◌==◌, nat_lt, nat_le, List, [], ◌∷◌, ◌++◌, length, slice_index, Result, Ok, if◌then◌else◌, encode_utf8, codes, string_bytes}
 use Rattle.std.specs.Char.{len_utf8}
 use Rattle.saphyr_input.specs.Classes.{is_alpha, is_hex, hex_value, is_blank_or_breakz, is_flow, is_uri_char, is_tag_char}
 use Rattle.saphyr_scalar.specs.declared.scalar.position.Marker.{Marker}
 use Rattle.saphyr_scalar.specs.declared.scalar.fault.Refusal.{Refusal}
 use Rattle.saphyr_scalar.specs.declared.scalar.fault.FaultText.TheVariants as fault
+use Rattle.saphyr_scalar.specs.declared.scalar.tag.TagParts.{TagParts}
 use Rattle.saphyr_scalar.specs.declared.scalar.tag.UriSet.{UriSet}
 use Rattle.saphyr_scalar.specs.declared.scalar.tag.UriSet.TheVariants.{Uri, Suffix}
 use Rattle.saphyr_scalar.specs.Views.Cursor.{Cursor, ◌>>=◌, refuse, along, pass}
@@ -93,9 +94,17 @@ decoded set start (suc k) m (c ∷ cs) = decoded set start k (along m 1) cs
 abbrev pub decoded_at : UriSet → Marker → Cursor → Result (List ℕ × Cursor) Refusal
 decoded_at set start s = decoded set start zero s.mark s.rest
 
+-- the same behind a text
+abbrev pub decoded_onto : UriSet → Marker → List ℕ → Cursor → Result (List ℕ × Cursor) Refusal
+decoded_onto set start text s = with_front text (decoded_at set start s)
+
 -- a tag's handle as it is written, its suffix, and what stands behind it
 abbrev pub Parts : Type 0
 Parts = List ℕ × List ℕ × Cursor
+
+-- what contracts see of a tag and of the reader behind it
+abbrev pub seen_tag : TagParts → Cursor → Parts
+seen_tag tag s = (string_bytes tag.handle, string_bytes tag.suffix, s)
 
 -- `!<uri>`: the uri is the suffix
 unfoldable pub verbatim_end : Marker → List ℕ × Cursor → Result Parts Refusal

@@ -1,6 +1,6 @@
 //! The names of anchors and aliases, taken off a text (YAML 1.2.2, 6.9.2 and 7.1).
 
-ghost use Rattle.std.specs.Prelude.{◌≡◌, ℕ, ◌<◌, List, length, string_bytes, Ok, refl};
+ghost use Rattle.std.specs.Prelude.{◌≡◌, ℕ, ◌<◌, List, length, refl};
 ghost use Rattle.saphyr_input.specs.Classes as class;
 ghost use Rattle.saphyr_scalar.specs.Steps.Anchor as spec;
 ghost use Rattle.saphyr_scalar.specs.Steps.Quoted as run;
@@ -30,13 +30,13 @@ impl CharSet for AnchorSet {
 }
 
 impl<T: Input> Reader<T> {
-    ghost use Rattle.saphyr_scalar.specs.Views.Reader.{state, Moves};
+    ghost use Rattle.saphyr_scalar.specs.Views.Reader.{cursor_of, ReadsTextBy, AppendsBy};
 
     // Moves the characters of a name to the end of a text.
     #[tactic(auto, using(crate::proofs::Lengths::run_within))]
     fn read_anchor_characters(&mut self, text: &mut String) -> Result<(), Stop>
-        ensures { Moves (λ _. (string_bytes text.new, state self.new)) result
-            (Ok (run.with_run class.is_anchor_char (string_bytes text.old) (state self.old))) }
+        ensures { AppendsBy (run.with_run class.is_anchor_char) text.old self.old result text.new
+            self.new }
     {
         let count = self.input.fetch_while::<AnchorSet>(text)?;
         self.mark = self.mark.along(count);
@@ -50,9 +50,8 @@ impl<T: Input> Reader<T> {
     /// A name without characters is refused at the indicator.
     #[tactic(auto, unfolding(crate::specs::Steps::Anchor::anchor, crate::specs::Steps::Anchor::anchor_name_of))]
     pub fn read_anchor(&mut self, alloc: Global) -> Result<String, Stop>
-        requires { 0 < length (state self.old).rest }
-        ensures { Moves (λ name. (string_bytes name, state self.new)) result
-            (spec.anchor (state self.old)) }
+        requires { 0 < length (cursor_of self.old).rest }
+        ensures { ReadsTextBy spec.anchor self.old result self.new }
     {
         let start = self.mark;
         self.skip_non_blank();

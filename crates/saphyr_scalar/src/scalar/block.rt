@@ -5,10 +5,9 @@ mod header;
 mod law;
 mod lines;
 
-ghost use Rattle.std.specs.Prelude.{◌≡◌, ◌<◌, ◌≤◌, length, string_bytes, IfOk, None, encode_utf8_all};
+ghost use Rattle.std.specs.Prelude.{◌≡◌, ◌<◌, ◌≤◌, length, string_bytes, IfOk, encode_utf8_all};
 ghost use Rattle.saphyr_scalar.specs.Steps.Block as spec;
 
-use crate::reading::{BlockStyle, Chomping};
 use crate::scalar::block::breaks::{push_line_feeds, push_tail};
 use crate::scalar::block::header::given_indentation;
 use crate::scalar::block::lines::EmptyLines;
@@ -18,6 +17,7 @@ use crate::scalar::reader::Reader;
 pub use law::{reads_block_texts, reads_each_block_scalar, reads_values_of_lines};
 use saphyr_input::char_traits::is_z;
 use saphyr_input::input::Input;
+use scalar_values::{BlockStyle, Chomping};
 use std::alloc::{AllocError, Global};
 
 /// The text of a block scalar, and where it stands.
@@ -31,13 +31,13 @@ pub struct BlockScalar {
 }
 
 impl<T: Input> Reader<T> {
-    ghost use Rattle.saphyr_scalar.specs.Views.Reader.{state, Moves};
+    ghost use Rattle.saphyr_scalar.specs.Views.Reader.{cursor_of, ReadsBy};
 
     // Whether the text's end or a NUL cuts the last line behind its indentation.
     #[tactic(auto, unfolding(crate::specs::Steps::Block::is_unfinished))]
     fn is_unfinished(&mut self, indentation: usize) -> bool
-        ensures value { result ≡ spec.is_unfinished indentation (state self.old) }
-        ensures same { state self.new ≡ state self.old }
+        ensures value { result ≡ spec.is_unfinished indentation (cursor_of self.old) }
+        ensures same { cursor_of self.new ≡ cursor_of self.old }
     {
         is_z(self.look()) && self.mark.col >= indentation.max(1)
     }
@@ -51,7 +51,7 @@ impl<T: Input> Reader<T> {
         empty_lines: usize,
     ) -> Result<String, AllocError>
         ensures { IfOk result (λ text. string_bytes text
-            ≡ encode_utf8_all (spec.tail_alone chomping empty_lines (state self.now))) }
+            ≡ encode_utf8_all (spec.tail_alone chomping empty_lines (cursor_of self.now))) }
     {
         let mut text = String::new(alloc);
         if chomping == Chomping::Keep {
@@ -74,10 +74,9 @@ impl<T: Input> Reader<T> {
         indentation: usize,
         leading: usize,
     ) -> Result<BlockScalar, Stop>
-        requires { leading ≤ (state self.old).mark.index }
-        ensures { Moves (λ scalar. (string_bytes scalar.text, scalar.span, state self.new)) result
-            (spec.chomped_lines chomping indentation (state self.old).mark
-            (spec.between_at style indentation None leading (state self.old))) }
+        requires { leading ≤ (cursor_of self.old).mark.index }
+        ensures { ReadsBy spec.seen_block_scalar
+            (spec.content_lines style chomping indentation leading) self.old result self.new }
     {
         let start = self.mark;
         let mut text = String::new(alloc);
@@ -101,9 +100,9 @@ impl<T: Input> Reader<T> {
         indentation: usize,
         leading: usize,
     ) -> Result<BlockScalar, Stop>
-        requires { leading ≤ (state self.old).mark.index }
-        ensures { Moves (λ scalar. (string_bytes scalar.text, scalar.span, state self.new)) result
-            (spec.content style chomping indent indentation leading (state self.old)) }
+        requires { leading ≤ (cursor_of self.old).mark.index }
+        ensures { ReadsBy spec.seen_block_scalar
+            (spec.content style chomping indent indentation leading) self.old result self.new }
     {
         if self.mark.col < indentation && self.mark.col >= indent {
             return Err(Stop::Refused(Refusal {
@@ -129,9 +128,9 @@ impl<T: Input> Reader<T> {
         style: BlockStyle,
         indent: usize,
     ) -> Result<BlockScalar, Stop>
-        requires { 0 < length (state self.old).rest }
-        ensures { Moves (λ scalar. (string_bytes scalar.text, scalar.span, state self.new)) result
-            (spec.block_scalar style indent (state self.old)) }
+        requires { 0 < length (cursor_of self.old).rest }
+        ensures { ReadsBy spec.seen_block_scalar (spec.block_scalar style indent) self.old result
+            self.new }
     {
         let start = self.mark;
         let header = self.read_block_header()?;

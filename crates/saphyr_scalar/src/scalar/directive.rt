@@ -31,12 +31,12 @@ pub struct DirectiveLine {
 }
 
 impl<T: Input> Reader<T> {
-    ghost use Rattle.saphyr_scalar.specs.Views.Reader.{state, Gives, Moves};
+    ghost use Rattle.saphyr_scalar.specs.Views.Reader.{cursor_of, GivesAs, GivesBy, PassesBy, ReadsBy, ReadsTextBy};
 
     // Takes blanks off.
     #[tactic(auto, using(crate::proofs::Lengths::run_within))]
     fn skip_blanks(&mut self)
-        ensures { state self.new ≡ spec.pass_all_blanks (state self.old) }
+        ensures { cursor_of self.new ≡ spec.pass_all_blanks (cursor_of self.old) }
     {
         let count = self.input.skip_while_blank();
         self.mark = self.mark.along(count);
@@ -45,8 +45,7 @@ impl<T: Input> Reader<T> {
     // Takes off the name of a directive.
     #[tactic(auto, using(crate::proofs::Lengths::run_within), unfolding(crate::specs::Steps::Directive::name, crate::specs::Steps::Directive::directive_name_of))]
     fn read_directive_name(&mut self, alloc: Global) -> Result<String, Stop>
-        ensures { Moves (λ name. (string_bytes name, state self.new)) result
-            (spec.name (state self.old)) }
+        ensures { ReadsTextBy spec.name self.old result self.new }
     {
         let start = self.mark;
         let mut name = String::new(alloc);
@@ -71,7 +70,7 @@ impl<T: Input> Reader<T> {
     // Takes off a number of one to nine digits.
     #[tactic(auto, unfolding(crate::specs::Steps::Directive::number_from, crate::specs::Steps::Directive::number_end))]
     fn read_version_number(&mut self, start: Marker) -> Result<u32, Refusal>
-        ensures { Gives (λ v. (v, state self.new)) result (spec.number start (state self.old)) }
+        ensures { GivesBy (spec.number start) self.old result self.new }
     {
         let mut count = 0usize;
         let mut value = 0u32;
@@ -101,8 +100,8 @@ impl<T: Input> Reader<T> {
     // Takes off the numbers of a version directive (YAML 1.2.2, 6.8.1).
     #[tactic(auto, unfolding(crate::specs::Steps::Directive::version_directive, crate::specs::Steps::Directive::behind_major))]
     fn read_version_directive(&mut self, start: Marker) -> Result<Directive, Refusal>
-        ensures { Gives (λ d. (spec.directive_of d, state self.new)) result
-            (spec.version_directive start (state self.old)) }
+        ensures { GivesAs spec.seen_directive (spec.version_directive start) self.old result
+            self.new }
     {
         self.skip_blanks();
         let major = self.read_version_number(start)?;
@@ -120,8 +119,7 @@ impl<T: Input> Reader<T> {
     // Takes off the handle of a tag directive: `!`, `!!` or `!word!`.
     #[tactic(auto, unfolding(crate::specs::Steps::Directive::handle, crate::specs::Steps::Directive::handle_behind_word))]
     fn read_directive_handle(&mut self, alloc: Global, start: Marker) -> Result<String, Stop>
-        ensures { Moves (λ handle. (string_bytes handle, state self.new)) result
-            (spec.handle start (state self.old)) }
+        ensures { ReadsTextBy (spec.handle start) self.old result self.new }
     {
         if self.look() != '!' {
             return Err(Stop::Refused(Refusal {
@@ -148,8 +146,7 @@ impl<T: Input> Reader<T> {
     // Takes off the prefix of a tag directive, with its escapes resolved.
     #[tactic(auto, using(crate::proofs::Directives::Numbers::prefix_left), unfolding(crate::specs::Steps::Directive::prefix))]
     fn read_tag_prefix(&mut self, alloc: Global, start: Marker) -> Result<String, Stop>
-        ensures { Moves (λ prefix. (string_bytes prefix, state self.new)) result
-            (spec.prefix start (state self.old)) }
+        ensures { ReadsTextBy (spec.prefix start) self.old result self.new }
     {
         let first = self.look();
         if first != '!' && !is_tag_char(first) {
@@ -168,8 +165,7 @@ impl<T: Input> Reader<T> {
     // Takes off the handle and the prefix of a tag directive (YAML 1.2.2, 6.8.2).
     #[tactic(auto, unfolding(crate::specs::Steps::Directive::tag_directive, crate::specs::Steps::Directive::behind_prefix))]
     fn read_tag_directive(&mut self, alloc: Global, start: Marker) -> Result<Directive, Stop>
-        ensures { Moves (λ d. (spec.directive_of d, state self.new)) result
-            (spec.tag_directive start (state self.old)) }
+        ensures { ReadsBy spec.seen_directive (spec.tag_directive start) self.old result self.new }
     {
         self.skip_blanks();
         let handle = self.read_directive_handle(alloc, start)?;
@@ -192,8 +188,8 @@ impl<T: Input> Reader<T> {
         name: String,
         start: Marker,
     ) -> Result<Directive, Stop>
-        ensures { Moves (λ d. (spec.directive_of d, state self.new)) result
-            (spec.value start (string_bytes name, state self.old)) }
+        ensures { ReadsBy spec.seen_directive (spec.value_of_name start (string_bytes name))
+            self.old result self.new }
     {
         if name.as_str() == "YAML" {
             return Ok(self.read_version_directive(start)?);
@@ -208,7 +204,7 @@ impl<T: Input> Reader<T> {
     // Takes off the blanks, the comment and the break behind a directive.
     #[tactic(auto, unfolding(crate::specs::Steps::Directive::line_end))]
     fn end_directive_line(&mut self, start: Marker) -> Result<(), Refusal>
-        ensures { Gives (λ _. state self.new) result (spec.line_end start (state self.old)) }
+        ensures { PassesBy (spec.line_end start) self.old result self.new }
     {
         self.skip_ws_to_eol(SkipTabs::Yes)?;
         if !is_breakz(self.look()) {
@@ -232,9 +228,8 @@ impl<T: Input> Reader<T> {
     /// content behind the directive. The parameters of a reserved directive are passed over.
     #[tactic(auto, unfolding(crate::specs::Steps::Directive::directive))]
     pub fn read_directive(&mut self, alloc: Global) -> Result<DirectiveLine, Stop>
-        requires { slice_index (state self.old).rest 0 ≡ 37 }
-        ensures { Moves (λ line. (spec.directive_of line.directive, line.end, state self.new))
-            result (spec.directive (state self.old)) }
+        requires { slice_index (cursor_of self.old).rest 0 ≡ 37 }
+        ensures { ReadsBy spec.seen_directive_line spec.directive self.old result self.new }
     {
         let start = self.mark;
         self.skip_non_blank();

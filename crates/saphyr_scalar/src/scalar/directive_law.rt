@@ -4,7 +4,7 @@
 ghost use Rattle.std.specs.Prelude.{◌≡◌, ℕ, ◌+◌, true, List, ◌++◌, length, Ok, encode_utf8_all, slice_index};
 ghost use Rattle.saphyr_input.specs.Classes.{is_breakz};
 ghost use Rattle.saphyr_scalar.specs.Views.Cursor.{Cursor, along, pass_break};
-ghost use Rattle.saphyr_scalar.specs.Steps.Directive.{Directive, reserved, directive};
+ghost use Rattle.saphyr_scalar.specs.Steps.Directive.{ReadDirective, reserved, directive};
 ghost use Rattle.saphyr_scalar.specs.Spelling.Directive.{IsDirectiveText, IsReservedDirective, IsReadDirective, IsLineTail};
 ghost use Rattle.saphyr_scalar.specs.Steps.Quoted.{at};
 ghost use Rattle.saphyr_scalar.specs.declared.scalar.position.Marker.{Marker};
@@ -12,7 +12,7 @@ ghost use Rattle.saphyr_scalar.specs.declared.scalar.position.Marker.{Marker};
 /// Where a version directive or a tag directive is spelled, and behind it blanks, a comment and a
 /// break, NUL or the end, it is read, without a fault, to the end of its line.
 pub fn reads_each_directive()
-    ensures { (s : Cursor) (d : Directive) (t tail x : List ℕ) → s.rest ≡ t ++ (tail ++ x)
+    ensures { (s : Cursor) (d : ReadDirective) (t tail x : List ℕ) → s.rest ≡ t ++ (tail ++ x)
         → IsDirectiveText d t → IsLineTail tail → is_breakz (slice_index x 0) ≡ true
         → directive s ≡ Ok (
           d,
@@ -37,7 +37,7 @@ pub fn reads_each_reserved_directive()
 
 /// What is read as a directive is spelled so, and what is left stands behind its line.
 pub fn spells_each_directive()
-    ensures { (s u : Cursor) (d : Directive) (end : Marker) → slice_index s.rest 0 ≡ 37
+    ensures { (s u : Cursor) (d : ReadDirective) (end : Marker) → slice_index s.rest 0 ≡ 37
         → directive s ≡ Ok (d, end, u)
         → (t : List ℕ) × (tail : List ℕ) × (x : List ℕ) × (s.rest ≡ t ++ (tail ++ x))
         × IsReadDirective d t × IsLineTail tail × (is_breakz (slice_index x 0) ≡ true)

@@ -49,14 +49,13 @@ fn digit_count(letter: char) -> usize
 }
 
 impl<T: Input> Reader<T> {
-    ghost use Rattle.saphyr_scalar.specs.Views.Reader.{state, Gives};
+    ghost use Rattle.saphyr_scalar.specs.Views.Reader.{cursor_of, GivesBy};
 
     // Takes off so many hexadecimal digits, and gives what they stand for.
     #[tactic(auto, using(crate::proofs::Quoted::Escapes::digits_stop))]
     fn read_digits(&mut self, count: usize, start: Marker) -> Result<u32, Refusal>
         requires { count ≤ 8 }
-        ensures { Gives (λ v. (v, state self.new)) result
-            (spec.digits start count 0 (state self.old)) }
+        ensures { GivesBy (spec.digits start count 0) self.old result self.new }
     {
         let mut value = 0;
         for _ in 0..count {
@@ -76,9 +75,8 @@ impl<T: Input> Reader<T> {
     // Takes an escape off, from its backslash on, and gives the character that it stands for.
     #[tactic(auto, using(crate::proofs::Quoted::Escapes::letter_left, crate::proofs::Quoted::Escapes::digits_left, crate::proofs::Quoted::Escapes::count_small), unfolding(crate::specs::Steps::Quoted::escaped_character, crate::specs::Steps::Quoted::escape_of, crate::specs::Steps::Quoted::numbered, crate::specs::Steps::Quoted::character))]
     pub(crate) fn read_escape(&mut self, start: Marker) -> Result<char, Refusal>
-        requires { slice_index (state self.old).rest 0 ≡ 92 }
-        ensures { Gives (λ c. (c, state self.new)) result
-            (spec.escaped_character start (state self.old)) }
+        requires { slice_index (cursor_of self.old).rest 0 ≡ 92 }
+        ensures { GivesBy (spec.escaped_character start) self.old result self.new }
     {
         self.load(2);
         let letter = self.input.peek_nth(1);

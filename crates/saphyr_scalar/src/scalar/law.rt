@@ -7,30 +7,30 @@ ghost use Rattle.saphyr_input.specs.Classes.{is_break, is_z};
 ghost use Rattle.std.specs.List.{prefix_len};
 ghost use Rattle.saphyr_input.specs.Places.{is_blank_or_break};
 ghost use Rattle.saphyr_scalar.specs.declared.scalar.position.Marker.{Marker};
-ghost use Rattle.saphyr_scalar.specs.declared.reading.block.BlockStyle.{BlockStyle};
+ghost use Rattle.scalar_values.specs.declared.block.BlockStyle.{BlockStyle};
 ghost use Rattle.saphyr_scalar.specs.declared.scalar.position.Span.{Span};
 ghost use Rattle.saphyr_scalar.specs.Steps.Anchor.{anchor};
 ghost use Rattle.saphyr_scalar.specs.Steps.Block.{block_scalar};
-ghost use Rattle.saphyr_scalar.specs.Steps.Directive.{Directive, directive};
+ghost use Rattle.saphyr_scalar.specs.Steps.Directive.{ReadDirective, directive};
 ghost use Rattle.saphyr_scalar.specs.Steps.Tag.{tag};
 ghost use Rattle.saphyr_scalar.specs.Views.Cursor.{Cursor, along};
-ghost use Rattle.saphyr_scalar.specs.Reading.Escapes as escapes;
+ghost use Rattle.scalar_values.specs.Escapes as escapes;
 ghost use Rattle.saphyr_scalar.specs.Steps.Quoted.{double_quoted, quoted, at, simple_escape, hex_digit_count, is_scalar};
 ghost use Rattle.saphyr_scalar.specs.Spelling.Quoted.{IsQuotedText};
-ghost use Rattle.saphyr_scalar.specs.Reading.Flow as flow;
-ghost use Rattle.saphyr_scalar.specs.Reading.Flow.{plain_value};
+ghost use Rattle.scalar_values.specs.Flow as flow;
+ghost use Rattle.scalar_values.specs.Flow.{plain_value};
 ghost use Rattle.saphyr_scalar.specs.Spelling.QuotedLines.{AreOnLine, LinesFit};
 ghost use Rattle.saphyr_scalar.specs.Spelling.QuotedMarkers.{HasNoMarker};
 ghost use Rattle.saphyr_scalar.specs.Passing.{IsPassed};
 ghost use Rattle.saphyr_input.specs.Breaks.{normalized};
-ghost use Rattle.saphyr_scalar.specs.Reading.Folding.{folded};
+ghost use Rattle.scalar_values.specs.Folding.{folded};
 ghost use Rattle.saphyr_scalar.specs.Spelling.OneLine.{IsDoubleQuoted};
 ghost use Rattle.saphyr_scalar.specs.Steps.Plain.{in_word, plain, comment_of};
 ghost use Rattle.saphyr_scalar.specs.Reading.Plain.{IsPlainReading, passed};
 ghost use Rattle.saphyr_scalar.specs.Spelling.Plain.{IsPlainWord, EndsPlain, IsPlainText, is_tabbed, past_white};
 
-use crate::reading::{Item, Quote};
 use crate::scalar::position::Marker;
+use scalar_values::{Item, Quote};
 
 /// Where a double quoted scalar is spelled on one line, it is read, without a fault and whatever the
 /// indentation: its characters, and what stands behind it.
@@ -207,7 +207,7 @@ pub fn takes_tag()
 
 /// A directive takes characters off the text.
 pub fn takes_directive()
-    ensures { (s t : Cursor) (d : Directive) (end : Marker) → slice_index s.rest 0 ≡ 37
+    ensures { (s t : Cursor) (d : ReadDirective) (end : Marker) → slice_index s.rest 0 ≡ 37
         → directive s ≡ Ok (d, end, t) → length t.rest < length s.rest }
 {}
 

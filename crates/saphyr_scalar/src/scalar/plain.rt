@@ -105,14 +105,13 @@ fn push_gap(text: &mut String, over_lines: bool, gap: &str) -> Result<(), AllocE
 }
 
 impl<T: Input> Reader<T> {
-    ghost use Rattle.saphyr_scalar.specs.Views.Reader.{state, loaded, Gives, Moves};
+    ghost use Rattle.saphyr_scalar.specs.Views.Reader.{cursor_of, loaded, GivesBy, PassesBy, ReadsBy, WritesBy};
 
     // Whether a word of a plain scalar begins here.
     #[inline(always)]
     #[tactic(auto, unfolding(crate::specs::Steps::Plain::word_starts))]
     fn plain_word_starts(&mut self, in_flow: bool) -> Result<bool, Refusal>
-        ensures { Gives (λ starts. (starts, state self.new)) result
-            (spec.word_starts in_flow (state self.old)) }
+        ensures { GivesBy (spec.word_starts in_flow) self.old result self.new }
     {
         self.load(4);
         let c = self.input.peek();
@@ -132,10 +131,10 @@ impl<T: Input> Reader<T> {
     #[inline(always)]
     #[tactic(auto, unfolding(crate::specs::Steps::Plain::in_word))]
     fn is_in_plain_word(&mut self, c: char, in_flow: bool) -> bool
-        requires first { c ≡ slice_index (state self.old).rest 0 }
+        requires first { c ≡ slice_index (cursor_of self.old).rest 0 }
         requires loaded { 1 ≤ loaded self.old }
-        ensures value { result ≡ spec.in_word in_flow (state self.old).rest }
-        ensures same { state self.new ≡ state self.old }
+        ensures value { result ≡ spec.in_word in_flow (cursor_of self.old).rest }
+        ensures same { cursor_of self.new ≡ cursor_of self.old }
         ensures loaded { 1 ≤ loaded self.new }
     {
         if c == ':' {
@@ -151,9 +150,9 @@ impl<T: Input> Reader<T> {
     #[inline(always)]
     fn fetch_plain_words(&mut self, in_flow: bool, text: &mut String) -> Result<usize, AllocError>
         ensures words { IfOk result (λ n. TransfersWords (sets.in_plain in_flow)
-            (sets.leads_plain in_flow) n (state self.old).rest (state self.new).rest
+            (sets.leads_plain in_flow) n (cursor_of self.old).rest (cursor_of self.new).rest
             (string_bytes text.old) (string_bytes text.new)) }
-        ensures mark { (state self.new).mark ≡ (state self.old).mark }
+        ensures mark { (cursor_of self.new).mark ≡ (cursor_of self.old).mark }
     {
         // For speed: colons may stand in a row, and a run of nothing before each costs more than this look.
         if self.look() == ':' {
@@ -170,7 +169,7 @@ impl<T: Input> Reader<T> {
     // single space stands.
     fn read_plain_words(&mut self, in_flow: bool, text: &mut String) -> Result<(), AllocError>
         ensures { OnOk result (spec.PlainWordsMoved in_flow (string_bytes text.old)
-            (string_bytes text.new) (state self.old) (state self.new)) }
+            (string_bytes text.new) (cursor_of self.old) (cursor_of self.new)) }
     {
         let mut count = 0;
         loop {
@@ -192,7 +191,7 @@ impl<T: Input> Reader<T> {
     // indentation, only a comment may.
     #[tactic(auto, unfolding(crate::specs::Steps::Plain::may_stand))]
     fn check_plain_tab(&mut self, start: Marker, tabbed: bool) -> Result<(), Refusal>
-        ensures { Gives (λ _. state self.new) result (spec.may_stand start tabbed (state self.old)) }
+        ensures { PassesBy (spec.may_stand start tabbed) self.old result self.new }
     {
         if !tabbed {
             return Ok(());
@@ -223,11 +222,11 @@ impl<T: Input> Reader<T> {
         tabbed: bool,
         feeds: &mut String,
     ) -> Result<bool, Stop>
-        requires first { c ≡ slice_index (state self.old).rest 0 }
+        requires first { c ≡ slice_index (cursor_of self.old).rest 0 }
         requires loaded { 1 ≤ loaded self.old }
-        requires white { is_blank_or_break (slice_index (state self.old).rest 0) ≡ true }
-        ensures { Moves (λ tabbed. (tabbed, string_bytes feeds.new, state self.new)) result
-            (Ok (spec.pass_white indent tabbed (string_bytes feeds.old) (state self.old))) }
+        requires white { is_blank_or_break (slice_index (cursor_of self.old).rest 0) ≡ true }
+        ensures { WritesBy spec.seen_white (spec.white_onto indent tabbed) feeds.old self.old result
+            feeds.new self.new }
     {
         if is_break(c) {
             self.skip_seen_break(c);
@@ -248,15 +247,9 @@ impl<T: Input> Reader<T> {
         start: Marker,
         feeds: &mut String,
     ) -> Result<bool, Stop>
-        requires { (state self.old).blank_so_far ≡ true }
-        ensures { Moves (λ tabbed. record {
-          text =
-              string_bytes feeds.new;
-          tabbed = tabbed;
-          behind = state self.new;
-        }) result
-            (spec.lines indent start false (string_bytes feeds.old) (state self.old).mark
-            (state self.old).rest) }
+        requires { (cursor_of self.old).blank_so_far ≡ true }
+        ensures { WritesBy spec.seen_gap (spec.feeds_onto indent start) feeds.old self.old result
+            feeds.new self.new }
     {
         let mut tabbed = false;
         loop {
@@ -282,13 +275,8 @@ impl<T: Input> Reader<T> {
         start: Marker,
         gap: &mut String,
     ) -> Result<bool, Stop>
-        ensures { Moves (λ tabbed. record {
-          text =
-              spec.gap_text (state self.new).blank_so_far (string_bytes gap.new);
-          tabbed =
-              tabbed;
-          behind = state self.new;
-        }) result (spec.gap indent start (state self.old)) }
+        ensures { WritesBy spec.seen_word_gap (λ _. spec.gap indent start) gap.old self.old result
+            gap.new self.new }
     {
         gap.clear();
         self.read_blanks(gap)?;
@@ -304,8 +292,7 @@ impl<T: Input> Reader<T> {
     #[inline(always)]
     #[tactic(auto, unfolding(crate::specs::Steps::Plain::goes_on))]
     fn plain_goes_on(&mut self, in_flow: bool, indent: usize) -> Result<bool, Refusal>
-        ensures { Gives (λ goes_on. (goes_on, state self.new)) result
-            (spec.goes_on in_flow indent (state self.old)) }
+        ensures { GivesBy (spec.goes_on in_flow indent) self.old result self.new }
     {
         if self.blank_so_far && !in_flow && self.mark.col < indent {
             return Ok(false);
@@ -317,8 +304,8 @@ impl<T: Input> Reader<T> {
     #[inline(always)]
     #[tactic(auto, unfolding(crate::specs::Steps::Plain::comment_of))]
     fn plain_comment(&mut self, in_flow: bool, tabbed: bool) -> Option<Marker>
-        ensures value { result ≡ spec.comment_of in_flow tabbed (state self.old) }
-        ensures same { state self.new ≡ state self.old }
+        ensures value { result ≡ spec.comment_of in_flow tabbed (cursor_of self.old) }
+        ensures same { cursor_of self.new ≡ cursor_of self.old }
     {
         if !in_flow && self.look() == '#' && (tabbed || !self.blank_so_far) {
             Some(self.mark)
@@ -332,7 +319,7 @@ impl<T: Input> Reader<T> {
     /// [`read_plain`](Reader::read_plain).
     #[tactic(auto, unfolding(crate::specs::Steps::Plain::flow_indented))]
     pub fn check_flow_indentation(&self, indent: usize) -> Result<(), Refusal>
-        ensures { Gives (λ _. state self.now) result (spec.flow_indented indent (state self.now)) }
+        ensures { PassesBy (spec.flow_indented indent) self.now result self.now }
     {
         if self.mark.col < indent {
             return Err(Refusal {
@@ -361,13 +348,8 @@ impl<T: Input> Reader<T> {
         in_flow: bool,
         indent: usize,
     ) -> Result<PlainScalar, Stop>
-        ensures { Moves (λ scalar. (
-          string_bytes scalar.text,
-          scalar.end,
-          scalar.comment,
-          state
-              self.new,
-        )) result (spec.plain in_flow indent (state self.old)) }
+        ensures { ReadsBy spec.seen_plain_scalar (spec.plain in_flow indent) self.old result
+            self.new }
     {
         let start = self.mark;
         if !self.plain_word_starts(in_flow)? {

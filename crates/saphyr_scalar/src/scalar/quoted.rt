@@ -1,21 +1,21 @@
 //! Quoted scalars, taken off a text word by word, with their lines folded on the way
 //! (YAML 1.2.2, 7.3.1, 7.3.2 and 6.5).
 
-ghost use Rattle.std.specs.Prelude.{◌≡◌, ℕ, Bool, true, false, ◌==◌, ◌++◌, ◌<◌, ◌≤◌, length, slice_index, string_bytes, encode_utf8_all, Ok, IfOk, OnOk, IsTrue, if◌then◌else◌};
+ghost use Rattle.std.specs.Prelude.{◌≡◌, ℕ, Bool, true, false, ◌==◌, ◌++◌, slice_index, string_bytes, encode_utf8_all, Ok, IfOk, OnOk, IsTrue, if◌then◌else◌};
 ghost use Rattle.saphyr_input.specs.Classes as class;
 ghost use Rattle.saphyr_input.specs.Places.{TransfersWords};
 ghost use Rattle.saphyr_scalar.specs.Views.Cursor as cursor;
 ghost use Rattle.saphyr_scalar.specs.Steps.Quoted as spec;
-ghost use Rattle.saphyr_scalar.specs.Reading.Flow as flow;
+ghost use Rattle.scalar_values.specs.Flow as flow;
 ghost use Rattle.saphyr_scalar.specs.Steps.Sets as sets;
 
-use crate::reading::Quote;
 use crate::scalar::fault::{FaultText, Refusal, Stop};
 use crate::scalar::position::Marker;
 use crate::scalar::reader::{FIRST_ROOM, Reader};
 use saphyr_input::char_set::{CharSet, SpacedSet};
 use saphyr_input::char_traits::{is_blank, is_blank_or_breakz, is_break, is_z};
 use saphyr_input::input::Input;
+use scalar_values::Quote;
 use std::alloc::{AllocError, Global};
 
 // Whether a character between the quotes stands for itself and is no blank.
@@ -106,16 +106,16 @@ fn push_folded_break(text: &mut String, escaped: bool, empty_lines: usize) -> Re
 }
 
 impl<T: Input> Reader<T> {
-    ghost use Rattle.saphyr_scalar.specs.Views.Reader.{state, Gives, Moves, ReadsOn};
+    ghost use Rattle.saphyr_scalar.specs.Views.Reader.{cursor_of, GivesBy, PassesBy, ReadsTextBy, AppendsBy, ReadsOn, IsNoLonger, IsShorter};
 
     // Moves words, and single spaces between them, to the end of a text, and gives how many
     // characters. The place stays.
     #[inline(always)]
     fn fetch_literal_words(&mut self, quote: Quote, text: &mut String) -> Result<usize, AllocError>
         ensures words { IfOk result (λ n. TransfersWords (spec.is_literal quote) sets.is_content n
-            (state self.old).rest (state self.new).rest (string_bytes text.old)
+            (cursor_of self.old).rest (cursor_of self.new).rest (string_bytes text.old)
             (string_bytes text.new)) }
-        ensures mark { (state self.new).mark ≡ (state self.old).mark }
+        ensures mark { (cursor_of self.new).mark ≡ (cursor_of self.old).mark }
     {
         match quote {
             Quote::Single => self.input.fetch_words::<InSingle>(text),
@@ -129,7 +129,7 @@ impl<T: Input> Reader<T> {
     fn read_literal_words(&mut self, quote: Quote, text: &mut String) -> Result<(), AllocError>
         ensures { OnOk result
             (spec.QuotedWordsMoved quote (string_bytes text.old) (string_bytes text.new)
-            (state self.old) (state self.new)) }
+            (cursor_of self.old) (cursor_of self.new)) }
     {
         // Behind an escape mostly stands another, or the closing quote: to look is cheaper than to
         // move nothing.
@@ -145,8 +145,8 @@ impl<T: Input> Reader<T> {
     // Moves the blanks inside a text to its end.
     #[inline(always)]
     pub(crate) fn read_blanks(&mut self, text: &mut String) -> Result<(), Stop>
-        ensures { Moves (λ _. (string_bytes text.new, state self.new)) result
-            (Ok (spec.with_run class.is_blank (string_bytes text.old) (state self.old))) }
+        ensures { AppendsBy (spec.with_run class.is_blank) text.old self.old result text.new
+            self.new }
     {
         let mut count = 0;
         let mut c = self.input.look_ch();
@@ -164,8 +164,7 @@ impl<T: Input> Reader<T> {
     // Takes off an escape, or a quote that two single ones stand for, if one is next.
     #[tactic(auto, unfolding(crate::specs::Steps::Quoted::special))]
     fn read_quoted_special(&mut self, quote: Quote, start: Marker) -> Result<Option<char>, Refusal>
-        ensures { Gives (λ c. (c, state self.new)) result
-            (spec.special quote start (state self.old)) }
+        ensures { GivesBy (spec.special quote start) self.old result self.new }
     {
         self.load(2);
         match quote {
@@ -195,11 +194,11 @@ impl<T: Input> Reader<T> {
     ) -> Result<(), Stop>
         ensures same { (indent : ℕ) → ReadsOn result
             (spec.with_front (string_bytes text.old)
-            (spec.inside_at quote indent start spec.no_gap (state self.old)))
+            (spec.inside_at quote indent start spec.no_gap (cursor_of self.old)))
             (spec.with_front (string_bytes text.new)
-            (spec.inside_at quote indent start spec.no_gap (state self.new))) }
-        ensures ended { OnOk result (IsTrue (spec.ends_word quote (state self.new).rest)) }
-        ensures shorter { OnOk result (length (state self.new).rest ≤ length (state self.old).rest) }
+            (spec.inside_at quote indent start spec.no_gap (cursor_of self.new))) }
+        ensures ended { OnOk result (IsTrue (spec.ends_word quote (cursor_of self.new).rest)) }
+        ensures shorter { OnOk result (IsNoLonger self.old self.new) }
     {
         loop {
             self.read_literal_words(quote, text)?;
@@ -215,13 +214,13 @@ impl<T: Input> Reader<T> {
     fn skip_quoted_lines(&mut self, indent: usize) -> Result<usize, Refusal>
         ensures same { (quote : Quote) → (start : Marker) → (escaped : Bool)
             → spec.Leads result (λ n. spec.inside_at quote indent start (spec.over_lines escaped n)
-            (state self.new)) (spec.inside_at quote indent start (spec.over_lines escaped 0)
-            (state self.old)) }
-        ensures no_blank { OnOk result (class.is_blank (slice_index (state self.new).rest 0)
+            (cursor_of self.new)) (spec.inside_at quote indent start (spec.over_lines escaped 0)
+            (cursor_of self.old)) }
+        ensures no_blank { OnOk result (class.is_blank (slice_index (cursor_of self.new).rest 0)
             ≡ false) }
-        ensures no_break { OnOk result (class.is_break (slice_index (state self.new).rest 0)
+        ensures no_break { OnOk result (class.is_break (slice_index (cursor_of self.new).rest 0)
             ≡ false) }
-        ensures shorter { OnOk result (length (state self.new).rest ≤ length (state self.old).rest) }
+        ensures shorter { OnOk result (IsNoLonger self.old self.new) }
     {
         let mut count = 0;
         loop {
@@ -247,7 +246,7 @@ impl<T: Input> Reader<T> {
     // Whether a word, or the closing quote, may stand here on a later line.
     #[tactic(auto, unfolding(crate::specs::Steps::Quoted::begin_word))]
     fn begin_quoted_word(&mut self, indent: usize, start: Marker) -> Result<(), Refusal>
-        ensures { Gives (λ _. state self.new) result (spec.begin_word indent start (state self.old)) }
+        ensures { PassesBy (spec.begin_word indent start) self.old result self.new }
     {
         self.load(4);
         let text = if self.mark.col == 0 && self.input.next_is_document_indicator() {
@@ -273,10 +272,10 @@ impl<T: Input> Reader<T> {
     ) -> Result<(), Stop>
         ensures same { (quote : Quote) → ReadsOn result
             (spec.with_front (string_bytes text.old)
-            (spec.inside_at quote indent start (spec.over_lines escaped 0) (state self.old)))
+            (spec.inside_at quote indent start (spec.over_lines escaped 0) (cursor_of self.old)))
             (spec.with_front (string_bytes text.new)
-            (spec.inside_at quote indent start spec.no_gap (state self.new))) }
-        ensures shorter { OnOk result (length (state self.new).rest ≤ length (state self.old).rest) }
+            (spec.inside_at quote indent start spec.no_gap (cursor_of self.new))) }
+        ensures shorter { OnOk result (IsNoLonger self.old self.new) }
     {
         let empty_lines = self.skip_quoted_lines(indent)?;
         self.begin_quoted_word(indent, start)?;
@@ -293,12 +292,12 @@ impl<T: Input> Reader<T> {
         start: Marker,
         text: &mut String,
     ) -> Result<(), Stop>
-        requires { IsTrue (spec.is_escaped_break quote (state self.old).rest) }
+        requires { IsTrue (spec.is_escaped_break quote (cursor_of self.old).rest) }
         ensures same { ReadsOn result (spec.with_front (string_bytes text.old)
-            (spec.inside_at quote indent start spec.no_gap (state self.old)))
+            (spec.inside_at quote indent start spec.no_gap (cursor_of self.old)))
             (spec.with_front (string_bytes text.new)
-            (spec.inside_at quote indent start spec.no_gap (state self.new))) }
-        ensures shorter { OnOk result (length (state self.new).rest < length (state self.old).rest) }
+            (spec.inside_at quote indent start spec.no_gap (cursor_of self.new))) }
+        ensures shorter { OnOk result (IsShorter self.old self.new) }
     {
         self.skip_non_blank();
         self.skip_line_break();
@@ -318,13 +317,13 @@ impl<T: Input> Reader<T> {
         blanks: &mut String,
         text: &mut String,
     ) -> Result<(), Stop>
-        requires ended { IsTrue (spec.ends_word quote (state self.old).rest) }
-        requires open { (slice_index (state self.old).rest 0 == flow.mark quote) ≡ false }
+        requires ended { IsTrue (spec.ends_word quote (cursor_of self.old).rest) }
+        requires open { (slice_index (cursor_of self.old).rest 0 == flow.mark quote) ≡ false }
         ensures same { ReadsOn result (spec.with_front (string_bytes text.old)
-            (spec.inside_at quote indent start spec.no_gap (state self.old)))
+            (spec.inside_at quote indent start spec.no_gap (cursor_of self.old)))
             (spec.with_front (string_bytes text.new)
-            (spec.inside_at quote indent start spec.no_gap (state self.new))) }
-        ensures shorter { OnOk result (length (state self.new).rest < length (state self.old).rest) }
+            (spec.inside_at quote indent start spec.no_gap (cursor_of self.new))) }
+        ensures shorter { OnOk result (IsShorter self.old self.new) }
     {
         if self.look() == '\\' {
             return self.read_escaped_break(quote, indent, start, text);
@@ -348,9 +347,8 @@ impl<T: Input> Reader<T> {
 
     // Takes off a quoted scalar, from its opening quote to its closing one, and gives its text.
     fn read_quoted(&mut self, alloc: Global, quote: Quote, indent: usize) -> Result<String, Stop>
-        requires { slice_index (state self.old).rest 0 ≡ flow.mark quote }
-        ensures { Moves (λ text. (string_bytes text, state self.new)) result
-            (spec.quoted quote indent (state self.old)) }
+        requires { slice_index (cursor_of self.old).rest 0 ≡ flow.mark quote }
+        ensures { ReadsTextBy (spec.quoted quote indent) self.old result self.new }
     {
         let start = self.mark;
         self.skip_non_blank();
@@ -377,9 +375,8 @@ impl<T: Input> Reader<T> {
     /// and a text that ends before the scalar does. A tab left of the column is refused where it
     /// stands.
     pub fn read_double_quoted(&mut self, alloc: Global, indent: usize) -> Result<String, Stop>
-        requires { slice_index (state self.old).rest 0 ≡ 34 }
-        ensures { Moves (λ text. (string_bytes text, state self.new)) result
-            (spec.double_quoted indent (state self.old)) }
+        requires { slice_index (cursor_of self.old).rest 0 ≡ 34 }
+        ensures { ReadsTextBy (spec.double_quoted indent) self.old result self.new }
     {
         self.read_quoted(alloc, Quote::Double, indent)
     }
@@ -389,9 +386,8 @@ impl<T: Input> Reader<T> {
     ///
     /// It is refused as a double quoted one is, but for the faults in escapes.
     pub fn read_single_quoted(&mut self, alloc: Global, indent: usize) -> Result<String, Stop>
-        requires { slice_index (state self.old).rest 0 ≡ 39 }
-        ensures { Moves (λ text. (string_bytes text, state self.new)) result
-            (spec.single_quoted indent (state self.old)) }
+        requires { slice_index (cursor_of self.old).rest 0 ≡ 39 }
+        ensures { ReadsTextBy (spec.single_quoted indent) self.old result self.new }
     {
         self.read_quoted(alloc, Quote::Single, indent)
     }

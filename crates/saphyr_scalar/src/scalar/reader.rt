@@ -28,12 +28,12 @@ pub struct Reader<T: Input> {
 }
 
 impl<T: Input> Reader<T> {
-    ghost use Rattle.saphyr_scalar.specs.Views.Reader.{state, loaded, Gives};
+    ghost use Rattle.saphyr_scalar.specs.Views.Reader.{cursor_of, loaded, GivesBy};
     ghost use Rattle.saphyr_input.specs.Separation as separation;
 
     /// A reader at the start of a text.
     pub fn new(mut input: T) -> Self
-        ensures fresh { state result ≡ spec.fresh (T.rest input) }
+        ensures fresh { cursor_of result ≡ spec.fresh (T.rest input) }
         ensures countable { length (T.rest input) < 2 ^ 63 }
     {
         input.lookahead(1);
@@ -59,8 +59,8 @@ impl<T: Input> Reader<T> {
     /// The place that is reached.
     #[inline]
     pub fn mark(&self) -> Marker
-        ensures value { result ≡ (state self.now).mark }
-        ensures near { result.col + length (state self.now).rest < 2 ^ 64 }
+        ensures value { result ≡ (cursor_of self.now).mark }
+        ensures near { result.col + length (cursor_of self.now).rest < 2 ^ 64 }
     {
         self.mark
     }
@@ -68,7 +68,7 @@ impl<T: Input> Reader<T> {
     /// Whether only blanks stand before the place on its line.
     #[inline]
     pub fn blank_so_far(&self) -> bool
-        ensures { result ≡ (state self.now).blank_so_far }
+        ensures { result ≡ (cursor_of self.now).blank_so_far }
     {
         self.blank_so_far
     }
@@ -77,7 +77,7 @@ impl<T: Input> Reader<T> {
     #[inline]
     pub fn load(&mut self, count: usize)
         requires { count ≤ 8 }
-        ensures same { state self.new ≡ state self.old }
+        ensures same { cursor_of self.new ≡ cursor_of self.old }
         ensures loaded { count ≤ loaded self.new }
     {
         self.input.lookahead(count);
@@ -86,8 +86,8 @@ impl<T: Input> Reader<T> {
     /// The first character, or NUL at the end. One place is loaded.
     #[inline]
     pub fn look(&mut self) -> char
-        ensures value { result ≡ slice_index (state self.old).rest 0 }
-        ensures same { state self.new ≡ state self.old }
+        ensures value { result ≡ slice_index (cursor_of self.old).rest 0 }
+        ensures same { cursor_of self.new ≡ cursor_of self.old }
         ensures loaded { 1 ≤ loaded self.new }
     {
         self.input.look_ch()
@@ -96,8 +96,8 @@ impl<T: Input> Reader<T> {
     /// Takes off a character that is no blank.
     #[inline]
     pub fn skip_non_blank(&mut self)
-        requires { 0 < length (state self.old).rest }
-        ensures { state self.new ≡ spec.pass 1 (state self.old) }
+        requires { 0 < length (cursor_of self.old).rest }
+        ensures { cursor_of self.new ≡ spec.pass 1 (cursor_of self.old) }
     {
         self.skip_n_non_blank(1);
     }
@@ -106,8 +106,8 @@ impl<T: Input> Reader<T> {
     #[inline]
     pub fn skip_n_non_blank(&mut self, count: usize)
         requires near { count ≤ 8 }
-        requires some { count ≤ length (state self.old).rest }
-        ensures { state self.new ≡ spec.pass count (state self.old) }
+        requires some { count ≤ length (cursor_of self.old).rest }
+        ensures { cursor_of self.new ≡ spec.pass count (cursor_of self.old) }
     {
         self.input.lookahead(count);
         self.input.skip_n(count);
@@ -118,8 +118,8 @@ impl<T: Input> Reader<T> {
     /// Takes off a blank.
     #[inline]
     pub fn skip_blank(&mut self)
-        requires { 0 < length (state self.old).rest }
-        ensures { state self.new ≡ spec.pass_blanks 1 (state self.old) }
+        requires { 0 < length (cursor_of self.old).rest }
+        ensures { cursor_of self.new ≡ spec.pass_blanks 1 (cursor_of self.old) }
     {
         self.input.lookahead(1);
         self.input.skip();
@@ -130,7 +130,7 @@ impl<T: Input> Reader<T> {
     #[inline(always)]
     #[tactic(auto, using(crate::proofs::SpaceRuns::spaces_fit))]
     pub(crate) fn skip_spaces(&mut self, most: usize)
-        ensures { state self.new ≡ spec.pass_spaces most (state self.old) }
+        ensures { cursor_of self.new ≡ spec.pass_spaces most (cursor_of self.old) }
     {
         // Where lines are empty, none stands here.
         if self.look() == ' ' {
@@ -142,7 +142,7 @@ impl<T: Input> Reader<T> {
     /// Takes off the break that stands first, if one does: CR LF, CR or LF.
     #[inline(always)]
     pub fn skip_line_break(&mut self)
-        ensures { state self.new ≡ spec.pass_break (state self.old) }
+        ensures { cursor_of self.new ≡ spec.pass_break (cursor_of self.old) }
     {
         // Most breaks are line feeds, which one look tells.
         match self.input.look_ch() {
@@ -158,9 +158,9 @@ impl<T: Input> Reader<T> {
     // The same of the first character, which was looked at.
     #[inline(always)]
     pub(crate) fn skip_seen_break(&mut self, c: char)
-        requires first { c ≡ slice_index (state self.old).rest 0 }
+        requires first { c ≡ slice_index (cursor_of self.old).rest 0 }
         requires loaded { 1 ≤ loaded self.old }
-        ensures { state self.new ≡ spec.pass_break (state self.old) }
+        ensures { cursor_of self.new ≡ spec.pass_break (cursor_of self.old) }
     {
         if c == '\n' {
             self.input.skip();
@@ -173,8 +173,8 @@ impl<T: Input> Reader<T> {
     // Takes off CR, and an LF behind it.
     #[inline(never)]
     fn skip_carriage_return(&mut self)
-        requires { slice_index (state self.old).rest 0 ≡ 13 }
-        ensures { state self.new ≡ spec.pass_break (state self.old) }
+        requires { slice_index (cursor_of self.old).rest 0 ≡ 13 }
+        ensures { cursor_of self.new ≡ spec.pass_break (cursor_of self.old) }
     {
         self.input.lookahead(2);
         if self.input.next_2_are('\r', '\n') {
@@ -189,8 +189,9 @@ impl<T: Input> Reader<T> {
     // The place behind a break that was taken off.
     #[inline]
     fn start_line(&mut self, count: usize)
-        requires { (state self.old).mark.index + count + length (state self.old).rest < 2 ^ 64 }
-        ensures { state self.new ≡ spec.begin_line count (state self.old) }
+        requires { (cursor_of self.old).mark.index + count + length (cursor_of self.old).rest
+            < 2 ^ 64 }
+        ensures { cursor_of self.new ≡ spec.begin_line count (cursor_of self.old) }
     {
         self.mark = self.mark.next_line(count);
         self.blank_so_far = true;
@@ -199,7 +200,7 @@ impl<T: Input> Reader<T> {
     /// Takes off what stands before the next break, NUL, byte order mark or the end: a comment.
     #[tactic(auto, using(crate::proofs::Lengths::run_within))]
     pub fn skip_comment(&mut self)
-        ensures { state self.new ≡ spec.pass_comment (state self.old) }
+        ensures { cursor_of self.new ≡ spec.pass_comment (cursor_of self.old) }
     {
         let count = self.input.skip_while_non_breakz();
         self.mark = self.mark.along(count);
@@ -207,8 +208,8 @@ impl<T: Input> Reader<T> {
 
     /// Takes off a byte order mark at the start of a line, which has no column.
     pub fn skip_byte_order_mark(&mut self)
-        requires { 0 < length (state self.old).rest }
-        ensures { state self.new ≡ spec.pass_byte_order_mark (state self.old) }
+        requires { 0 < length (cursor_of self.old).rest }
+        ensures { cursor_of self.new ≡ spec.pass_byte_order_mark (cursor_of self.old) }
     {
         self.input.lookahead(1);
         self.input.skip();
@@ -224,8 +225,7 @@ impl<T: Input> Reader<T> {
     #[tactic(auto, using(crate::proofs::Lengths::separation_within), unfolding(crate::specs::Views::Cursor::separation, crate::specs::Views::Cursor::behind_separation))]
     pub fn skip_ws_to_eol(&mut self, skip_tabs: SkipTabs) -> Result<SkipTabs, Refusal>
         requires { separation.IsRequest skip_tabs }
-        ensures { Gives (λ found. (found, state self.new)) result
-            (spec.separation skip_tabs (state self.old)) }
+        ensures { GivesBy (spec.separation skip_tabs) self.old result self.new }
     {
         let (count, found) = self.input.skip_ws_to_eol(skip_tabs);
         self.mark = self.mark.along(count);
@@ -242,7 +242,7 @@ impl<T: Input> Reader<T> {
     #[inline]
     fn refusal(&self, text: FaultText) -> Refusal
         ensures text { result.text ≡ text }
-        ensures mark { result.mark ≡ (state self.now).mark }
+        ensures mark { result.mark ≡ (cursor_of self.now).mark }
     {
         Refusal {
             text,
@@ -253,11 +253,11 @@ impl<T: Input> Reader<T> {
 
 impl<T: CloneInput> Reader<T> {
     ghost use Rattle.std.specs.Prelude.{IfOk};
-    ghost use Rattle.saphyr_scalar.specs.Views.Reader.{state, loaded};
+    ghost use Rattle.saphyr_scalar.specs.Views.Reader.{cursor_of, loaded};
 
     /// A reader of its own at the same place of the same text, unless memory runs out.
     pub fn try_clone(&self) -> Result<Self, AllocError>
-        ensures same { IfOk result (λ copy. state copy ≡ state self.now) }
+        ensures same { IfOk result (λ copy. cursor_of copy ≡ cursor_of self.now) }
         ensures loaded { IfOk result (λ copy. loaded copy ≡ loaded self.now) }
     {
         Ok(Reader {

@@ -119,13 +119,12 @@ pub(crate) fn named_handle(alloc: Global, word: &str) -> Result<String, AllocErr
 }
 
 impl<T: Input> Reader<T> {
-    ghost use Rattle.saphyr_scalar.specs.Views.Reader.{state, Gives, Moves};
+    ghost use Rattle.saphyr_scalar.specs.Views.Reader.{cursor_of, GivesBy, ReadsBy, WritesBy, AppendsBy, text_alone};
 
     // Takes off the escape of one byte.
     #[tactic(auto, unfolding(crate::specs::Steps::Tag::escaped_byte))]
     fn read_escaped_byte(&mut self, start: Marker) -> Result<u32, Refusal>
-        ensures value { Gives (λ byte. (byte, state self.new)) result
-            (spec.escaped_byte start (state self.old)) }
+        ensures value { GivesBy (spec.escaped_byte start) self.old result self.new }
         ensures small { IfOk result (λ byte. byte < 256) }
     {
         self.load(3);
@@ -146,8 +145,7 @@ impl<T: Input> Reader<T> {
     #[tactic(auto, unfolding(crate::specs::Steps::Tag::trailing_byte))]
     fn read_trailing_byte(&mut self, value: u32, start: Marker) -> Result<u32, Refusal>
         requires { value < 2 ^ 24 }
-        ensures value { Gives (λ grown. (grown, state self.new)) result
-            (spec.trailing_byte start value (state self.old)) }
+        ensures value { GivesBy (spec.trailing_byte start value) self.old result self.new }
         ensures small { IfOk result (λ grown. grown < 64 * value + 64) }
     {
         let byte = self.read_escaped_byte(start)?;
@@ -170,8 +168,7 @@ impl<T: Input> Reader<T> {
     ) -> Result<u32, Refusal>
         requires few { count ≤ 3 }
         requires small { bits < 256 }
-        ensures { Gives (λ value. (value, state self.new)) result
-            (spec.trailing_bytes start count bits (state self.old)) }
+        ensures { GivesBy (spec.trailing_bytes start count bits) self.old result self.new }
     {
         let mut value = bits;
         for _ in 0..count {
@@ -183,8 +180,7 @@ impl<T: Input> Reader<T> {
     // Takes off a percent escape, and gives the character that it stands for (YAML 1.2.2, 5.6).
     #[tactic(auto, unfolding(crate::specs::Steps::Tag::percent_escape, crate::specs::Steps::Tag::behind_leading_byte, crate::specs::Steps::Tag::encoded))]
     fn read_percent_escape(&mut self, start: Marker) -> Result<char, Refusal>
-        ensures { Gives (λ c. (c, state self.new)) result
-            (spec.percent_escape start (state self.old)) }
+        ensures { GivesBy (spec.percent_escape start) self.old result self.new }
     {
         let first = self.read_escaped_byte(start)?;
         let width = utf8_width(first);
@@ -207,9 +203,8 @@ impl<T: Input> Reader<T> {
     // Takes off a character of a uri, or the escape of one.
     #[tactic(auto, unfolding(crate::specs::Steps::Tag::uri_character))]
     pub(crate) fn read_uri_character(&mut self, start: Marker) -> Result<char, Refusal>
-        requires { 0 < length (state self.old).rest }
-        ensures { Gives (λ c. (c, state self.new)) result
-            (spec.uri_character start (state self.old)) }
+        requires { 0 < length (cursor_of self.old).rest }
+        ensures { GivesBy (spec.uri_character start) self.old result self.new }
     {
         let c = self.look();
         if c == '%' {
@@ -222,9 +217,9 @@ impl<T: Input> Reader<T> {
     // Moves characters of a set that begin no escape to the end of a text, and gives how many. The
     // place stays.
     fn fetch_bare_characters(&mut self, set: UriSet, text: &mut String) -> Result<usize, AllocError>
-        ensures run { IfOk result (λ n. TransfersRun (sets.is_bare set) n (state self.old).rest
-            (state self.new).rest (string_bytes text.old) (string_bytes text.new)) }
-        ensures mark { (state self.new).mark ≡ (state self.old).mark }
+        ensures run { IfOk result (λ n. TransfersRun (sets.is_bare set) n (cursor_of self.old).rest
+            (cursor_of self.new).rest (string_bytes text.old) (string_bytes text.new)) }
+        ensures mark { (cursor_of self.new).mark ≡ (cursor_of self.old).mark }
     {
         match set {
             UriSet::Uri => self.input.fetch_while::<PlainUri>(text),
@@ -239,8 +234,8 @@ impl<T: Input> Reader<T> {
         start: Marker,
         text: &mut String,
     ) -> Result<(), Stop>
-        ensures { Moves (λ _. (string_bytes text.new, state self.new)) result
-            (run.with_front (string_bytes text.old) (spec.decoded_at set start (state self.old))) }
+        ensures { WritesBy text_alone (spec.decoded_onto set start) text.old self.old result
+            text.new self.new }
     {
         loop {
             let count = self.fetch_bare_characters(set, text)?;
@@ -258,8 +253,8 @@ impl<T: Input> Reader<T> {
     // Moves the characters of a handle's word to the end of a text.
     #[tactic(auto, using(crate::proofs::Lengths::run_within))]
     pub(crate) fn read_tag_word(&mut self, text: &mut String) -> Result<(), Stop>
-        ensures { Moves (λ _. (string_bytes text.new, state self.new)) result
-            (Ok (run.with_run class.is_alpha (string_bytes text.old) (state self.old))) }
+        ensures { AppendsBy (run.with_run class.is_alpha) text.old self.old result text.new
+            self.new }
     {
         let count = self.input.fetch_while_is_alpha(text)?;
         self.mark = self.mark.along(count);
@@ -270,9 +265,8 @@ impl<T: Input> Reader<T> {
     // Takes off `!<uri>`.
     #[tactic(auto, unfolding(crate::specs::Steps::Tag::verbatim, crate::specs::Steps::Tag::verbatim_end))]
     fn read_verbatim_tag(&mut self, alloc: Global) -> Result<TagParts, Stop>
-        requires { 2 ≤ length (state self.old).rest }
-        ensures { Moves (λ tag. (string_bytes tag.handle, string_bytes tag.suffix, state self.new))
-            result (spec.verbatim (state self.old)) }
+        requires { 2 ≤ length (cursor_of self.old).rest }
+        ensures { ReadsBy spec.seen_tag spec.verbatim self.old result self.new }
     {
         let start = self.mark;
         self.skip_n_non_blank(2);
@@ -299,8 +293,7 @@ impl<T: Input> Reader<T> {
         word: &str,
         start: Marker,
     ) -> Result<TagParts, Stop>
-        ensures { Moves (λ tag. (string_bytes tag.handle, string_bytes tag.suffix, state self.new))
-            result (spec.named_tail start word.now (state self.old)) }
+        ensures { ReadsBy spec.seen_tag (spec.named_tail start word.now) self.old result self.new }
     {
         let mut suffix = String::new(alloc);
         self.read_uri_characters(UriSet::Suffix, start, &mut suffix)?;
@@ -317,9 +310,8 @@ impl<T: Input> Reader<T> {
     // Takes off a tag of a handle and a suffix.
     #[tactic(auto, unfolding(crate::specs::Steps::Tag::shorthand, crate::specs::Steps::Tag::behind_word, crate::specs::Steps::Tag::primary_tag))]
     fn read_shorthand_tag(&mut self, alloc: Global) -> Result<TagParts, Stop>
-        requires { 0 < length (state self.old).rest }
-        ensures { Moves (λ tag. (string_bytes tag.handle, string_bytes tag.suffix, state self.new))
-            result (spec.shorthand (state self.old)) }
+        requires { 0 < length (cursor_of self.old).rest }
+        ensures { ReadsBy spec.seen_tag spec.shorthand self.old result self.new }
     {
         let start = self.mark;
         self.skip_non_blank();
@@ -351,9 +343,8 @@ impl<T: Input> Reader<T> {
     /// blank, a break or the end behind it, or in flow a flow indicator.
     #[tactic(auto, unfolding(crate::specs::Steps::Tag::tag, crate::specs::Steps::Tag::tag_end))]
     pub fn read_tag(&mut self, alloc: Global, in_flow: bool) -> Result<TagParts, Stop>
-        requires { slice_index (state self.old).rest 0 ≡ 33 }
-        ensures { Moves (λ tag. (string_bytes tag.handle, string_bytes tag.suffix, state self.new))
-            result (spec.tag in_flow (state self.old)) }
+        requires { slice_index (cursor_of self.old).rest 0 ≡ 33 }
+        ensures { ReadsBy spec.seen_tag (spec.tag in_flow) self.old result self.new }
     {
         let start = self.mark;
         self.load(2);

@@ -243,9 +243,9 @@ passed_mark text c x t k = (
 
 pub byte_order_mark_same : (text : List ℕ) (c : Core) (x : Indexes) (q r : Queue) → Twin text c x → SameQueues q r
     → Inked c.cursor.rest
-    → GiveAlike (States text) (document.byte_order_mark (holding c q))
-    (document.byte_order_mark (holding (near_core x c) r))
-unfolding document.byte_order_mark
+    → GiveAlike (States text) (document.state_behind_byte_order_mark (holding c q))
+    (document.state_behind_byte_order_mark (holding (near_core x c) r))
+unfolding document.state_behind_byte_order_mark
 byte_order_mark_same text c x q r t e ink =
     both_choose (States text) (nat_lt 0 c.cursor.mark.col || not (in_block c))
     (nat_lt 0 c.cursor.mark.col || not (in_block c)) _ _ _ _ refl (λ _. refl)
@@ -275,8 +275,9 @@ read_directive_same text c x laws t begins =
 
 pub directive_same : (text : List ℕ) (c : Core) (x : Indexes) (q r : Queue) → Laws text → Twin text c x
     → SameQueues q r → Begins 37 c.cursor
-    → GiveAlike (States text) (document.directive (holding c q)) (document.directive (holding (near_core x c) r))
-unfolding document.directive
+    → GiveAlike (States text) (document.state_behind_directive (holding c q))
+    (document.state_behind_directive (holding (near_core x c) r))
+unfolding document.state_behind_directive
 directive_same text c x q r laws t e begins =
     content_then text (States text) c x q r _ _ t e
     (λ d y u v w m f. acted_same text (document.read_directive d) (document.read_directive (near_core y d)) u v

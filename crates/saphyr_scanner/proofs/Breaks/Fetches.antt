@@ -1,17 +1,16 @@
 -- The next token is fetched alike from a text and from its normalized text.
 use Rattle.std.proofs.Common.{◌≡◌, ℕ, ◌≤◌, true, false, List, [], ◌∷◌, length, Some, Result, Ok, Err, refl, sym, ap, ◌∙◌, arith, subst}
 use Rattle.std.specs.Prelude.{◌&&◌, ◌||◌, ◌==◌, not, slice_index, nat_le, nat_lt}
-use Rattle.std.proofs.lemmas.Bool.Decides.{nat_tests}
 use Rattle.saphyr_input.specs.Breaks.{normalized}
 use Rattle.saphyr_input.specs.Classes.{is_break, is_z, is_bom, is_flow, is_blank_or_breakz}
 use Rattle.saphyr_input.specs.Places.{is_document_start, is_document_end}
-use Rattle.saphyr_scalar.specs.declared.reading.block.BlockStyle.TheVariants as block_style
+use Rattle.scalar_values.specs.declared.block.BlockStyle.TheVariants as block_style
 use Rattle.saphyr_scalar.specs.declared.scalar.fault.Refusal.{Refusal}
 use Rattle.saphyr_scalar.specs.Views.Cursor.{Cursor, ◌>>=◌}
 use Rattle.saphyr_scanner.specs.declared.engine.level.Context.TheVariants as context
 use Rattle.saphyr_scanner.specs.Grammar.Tokens as tokens
 use Rattle.saphyr_scanner.specs.Steps.Core.{Core, in_block, least_column, drop_far_key, at_mark}
-use Rattle.saphyr_scanner.specs.Steps.Fetch.{step, is_value_adjacent, content, fetch_here, arrive, fetch, within, fetch_within, settled}
+use Rattle.saphyr_scanner.specs.Steps.Fetch.{step, is_value_adjacent, state_behind_content, fetch_here, arrive, fetch, within, fetch_within, settled}
 use Rattle.saphyr_scanner.specs.Steps.Passing.{pass_gap}
 use Rattle.saphyr_scanner.specs.Steps.Queue.{Queue, next}
 use Rattle.saphyr_scanner.specs.Steps.State.{State, carried, acted}
@@ -68,10 +67,11 @@ first_same (c ∷ t) k = let e = no_return c k in rw e refl
 
 content_same : (text : List ℕ) (c : Core) (x : Indexes) (q r : Queue) → Laws text → Twin text c x → SameQueues q r
     → Inked c.cursor.rest → is_break (slice_index c.cursor.rest 0) ≡ false
-    → GiveAlike (States text) (content (slice_index c.cursor.rest 0) (slice_index c.cursor.rest 1) (holding c q))
-    (content (slice_index (normalized c.cursor.rest) 0) (slice_index (normalized c.cursor.rest) 1)
+    → GiveAlike (States text) (state_behind_content (slice_index c.cursor.rest 0) (slice_index c.cursor.rest 1)
+    (holding c q))
+    (state_behind_content (slice_index (normalized c.cursor.rest) 0) (slice_index (normalized c.cursor.rest) 1)
     (holding (near_core x c) r))
-unfolding content
+unfolding state_behind_content
 content_same text c x q r laws t e ink k =
     let s = c.cursor.rest in
     let n = normalized s in

@@ -7,16 +7,16 @@ use Rattle.saphyr_input.specs.Classes.{is_break}
 use Rattle.saphyr_input.specs.Places.{next_2_are}
 use Rattle.saphyr_input.specs.declared.input.SkipTabs.{SkipTabs}
 use Rattle.saphyr_input.specs.declared.input.SkipTabs.TheVariants as tabs
-use Rattle.saphyr_scalar.specs.declared.reading.block.BlockStyle.{BlockStyle}
-use Rattle.saphyr_scalar.specs.declared.reading.flow.Quote.{Quote}
+use Rattle.scalar_values.specs.declared.block.BlockStyle.{BlockStyle}
+use Rattle.scalar_values.specs.declared.flow.Quote.{Quote}
 use Rattle.saphyr_scalar.specs.declared.scalar.position.Marker.{Marker}
 use Rattle.saphyr_scalar.specs.declared.scalar.position.Span.{Span}
 use Rattle.saphyr_scalar.specs.Steps.Anchor as anchors
 use Rattle.saphyr_scalar.specs.Steps.Block as blocks
 use Rattle.saphyr_scalar.specs.Views.Cursor.{Cursor, along, next_line, pass_break, separation}
 use Rattle.saphyr_scalar.specs.Steps.Directive as directives
-use Rattle.saphyr_scalar.specs.Steps.Directive.{Directive}
-use Rattle.saphyr_scalar.specs.Reading.Flow.{mark}
+use Rattle.saphyr_scalar.specs.Steps.Directive.{ReadDirective}
+use Rattle.scalar_values.specs.Flow.{mark}
 use Rattle.saphyr_scalar.specs.Passing as passing
 use Rattle.saphyr_scalar.specs.Passing.{IsPassed}
 use Rattle.saphyr_scalar.specs.Steps.Plain as words
@@ -141,7 +141,7 @@ pub record Forwards : Type 0 where
   pub name : (s : Cursor) (x : List ℕ × Cursor) → 0 < length s.rest → anchors.anchor s ≡ Ok x → Forward s x.1
   pub tag : (in_flow : Bool) (s : Cursor) (x : List ℕ × List ℕ × Cursor) → slice_index s.rest 0 ≡ 33
       → tags.tag in_flow s ≡ Ok x → Forward s x.2
-  pub directive : (s : Cursor) (x : Directive × Marker × Cursor) → slice_index s.rest 0 ≡ 37
+  pub directive : (s : Cursor) (x : ReadDirective × Marker × Cursor) → slice_index s.rest 0 ≡ 37
       → directives.directive s ≡ Ok x → Forward s x.2
 
 -- a text of the line was read

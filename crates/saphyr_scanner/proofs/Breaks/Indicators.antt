@@ -42,8 +42,9 @@ open_same text k kind c x laws t ink =
 
 pub start_same : (text : List ℕ) (k : Context) (kind : Kind) (n : ℕ) (c : Core) (x : Indexes) → Laws text
     → Twin text c x → Inked c.cursor.rest
-    → GiveAlike (SameSteps text) (flow.start k kind n c) (flow.start k kind n (near_core x c))
-unfolding flow.start
+    → GiveAlike (SameSteps text) (flow.opening_steps k kind n c)
+    (flow.opening_steps k kind n (near_core x c))
+unfolding flow.opening_steps
 start_same text k kind n c x laws t ink =
     of_still text (λ a b. GiveAlike (SameSteps text) (flow.open_collection k kind (go_deeper a))
     (flow.open_collection k kind (go_deeper b))) c.cursor (save_key n c) (save_key n (near_core x c))
@@ -88,18 +89,19 @@ close_same text ends kind c x laws t ink =
 
 pub end_same : (text : List ℕ) (is_sequence : Bool) (kind : Kind) (c : Core) (x : Indexes) → Laws text
     → Twin text c x → Inked c.cursor.rest
-    → GiveAlike (SameSteps text) (flow.end is_sequence kind c) (flow.end is_sequence kind (near_core x c))
-unfolding flow.end
+    → GiveAlike (SameSteps text) (flow.closing_steps is_sequence kind c)
+    (flow.closing_steps is_sequence kind (near_core x c))
+unfolding flow.closing_steps
 end_same text is_sequence kind c x laws t ink =
     both_choose (SameSteps text) (in_block c) (in_block c) _ _ _ _ refl (λ _. refl)
     (λ _. close_same text (is_sequence && flow.ends_pair c.level.context) kind c x laws t ink)
 
 pub entry_same : (text : List ℕ) (c : Core) (x : Indexes) → Laws text → Twin text c x → Inked c.cursor.rest
-    → GiveAlike (SameSteps text) (flow.entry c) (flow.entry (near_core x c))
-unfolding flow.entry flow.next_entry
+    → GiveAlike (SameSteps text) (flow.flow_entry_steps c) (flow.flow_entry_steps (near_core x c))
+unfolding flow.flow_entry_steps flow.next_flow_entry
 entry_same text c x laws t ink =
     still_then text (SameSteps text) c.cursor (remove_key c)
-    (remove_key (near_core x c)) flow.next_entry flow.next_entry (remove_still text c x t)
+    (remove_key (near_core x c)) flow.next_flow_entry flow.next_flow_entry (remove_still text c x t)
     (λ d y u e. pass_then text (SameSteps text)
     (with_context (flow.behind_entry d.level.context) (record d { key_allowed = true })) y _ _ laws u
     (still_inked c.cursor d.cursor e ink)
@@ -113,7 +115,7 @@ entry_same text c x laws t ink =
 -- ## Values
 
 tab_same : (k : SkipTabs) (text : List ℕ) (c : Core) (x : Indexes) → Twin text c x
-    → GiveAlike (Cores text) (value.refuse_tab (k, c)) (value.refuse_tab (k, near_core x c))
+    → GiveAlike (Cores text) (value.refuse_lone_tab (k, c)) (value.refuse_lone_tab (k, near_core x c))
 tab_same k text c x t =
     let b = in_block c && not (has_valid_yaml_ws k) in
     both_choose (Cores text) (b && ((slice_index c.cursor.rest 0 == 45) || is_alpha (slice_index c.cursor.rest 0)))
@@ -126,7 +128,7 @@ unfolding value.check_tab
 check_same text c x laws t =
     both_choose (Cores text) (slice_index c.cursor.rest 0 == 9)
     (slice_index (normalized c.cursor.rest) 0 == 9) _ _ _ _ (first_is (λ y. y == 9) refl c.cursor.rest)
-    (λ _. separate_then text (Cores text) c x value.refuse_tab value.refuse_tab laws t
+    (λ _. separate_then text (Cores text) c x value.refuse_lone_tab value.refuse_lone_tab laws t
     (λ k d y u. tab_same k text d y u)) (λ _. (x, refl, t))
 
 alone_puts : (begins further : Bool) (start : Marker) (i : ℕ) (c : Core) (x : Indexes)
@@ -164,8 +166,8 @@ behind_same text None i begins start j c x t =
     ))
 
 pub value_same : (text : List ℕ) (c : Core) (x : Indexes) → Laws text → Twin text c x → Inked c.cursor.rest
-    → GiveAlike (SameSteps text) (value.fetch c) (value.fetch (near_core x c))
-unfolding value.fetch
+    → GiveAlike (SameSteps text) (value.value_steps c) (value.value_steps (near_core x c))
+unfolding value.value_steps
 value_same text c x laws t ink =
     let d : Core = with_context (value.behind_colon c.level.context) c in
     of_cores text (λ a b. GiveAlike (SameSteps text)
@@ -276,7 +278,7 @@ mark_same text space c x t =
     (λ _. (x, refl, t)))
 
 question_same : (text : List ℕ) (c : Core) (x : Indexes) → Laws text → Twin text c x → Inked c.cursor.rest
-    → GiveAlike (Cores text) (block.pass_mark c) (block.pass_mark (near_core x c))
+    → GiveAlike (Cores text) (block.pass_question c) (block.pass_question (near_core x c))
 question_same text c x laws t ink =
     let s = pass 1 c.cursor in
     let e : pass 1 (near x.at c.cursor) ≡ near
@@ -301,8 +303,8 @@ begin_same text c x laws t ink =
     let column = c.cursor.mark.col in
     let f : Core → Core = λ a. with_context (block.behind_question c.level.context) a in
     of_still text (λ a b. GiveAlike (Cores text)
-    (remove_key (f a) >>= λ d. block.pass_mark (record d { key_allowed = in_block d }))
-    (remove_key (f b) >>= λ d. block.pass_mark (record d { key_allowed = in_block d })))
+    (remove_key (f a) >>= λ d. block.pass_question (record d { key_allowed = in_block d }))
+    (remove_key (f b) >>= λ d. block.pass_question (record d { key_allowed = in_block d })))
     c.cursor (roll column c) (roll column (near_core x c)) (roll_still text column c x t)
     (λ y u e. still_then text (Cores text) (roll column c).cursor (remove_key (f (roll column c)))
     (remove_key (near_core y (f (roll column c)))) _ _ (remove_still text (f (roll column c)) y u)

@@ -47,8 +47,8 @@ pub gap_rests : (text : List ℕ) (c : Core) (x : Indexes) → Laws text → Twi
     → GiveAlike (Rested text) (pass_gap c) (pass_gap (near_core x c))
 unfolding pass_gap check_comment
 gap_rests text c x laws t =
-    both_then (Passes text c.cursor x.at) (Rested text) (gaps.pass_gap (least_column c) c.cursor)
-    (gaps.pass_gap (least_column c) (near x.at c.cursor)) _ _
+    both_then (Passes text c.cursor x.at) (Rested text) (gaps.passed_gap (least_column c) c.cursor)
+    (gaps.passed_gap (least_column c) (near x.at c.cursor)) _ _
     (gap_alike text (least_column c) c.cursor x.at false false (twin_low text c x laws t) (twin_stands text c x t))
     (λ g h e f w.
     let P : gaps.Passed → Type 0 = λ h. GiveAlike (Rested text) (check_comment (behind_gap c g))

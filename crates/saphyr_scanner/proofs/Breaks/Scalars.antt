@@ -3,17 +3,17 @@ use Rattle.std.proofs.Common.{◌≡◌, ℕ, ◌<◌, Bool, true, false, List, 
 use Rattle.std.specs.Prelude.{◌&&◌, ◌||◌, ◌==◌, not, slice_index, nat_lt}
 use Rattle.saphyr_input.specs.Breaks.{normalized}
 use Rattle.saphyr_input.specs.Classes.{is_break, is_breakz}
-use Rattle.saphyr_scalar.specs.declared.reading.block.BlockStyle.{BlockStyle}
-use Rattle.saphyr_scalar.specs.declared.reading.block.BlockStyle.TheVariants as block_style
-use Rattle.saphyr_scalar.specs.declared.reading.flow.Quote.{Quote}
-use Rattle.saphyr_scalar.specs.declared.reading.flow.Quote.TheVariants.{Single, Double}
+use Rattle.scalar_values.specs.declared.block.BlockStyle.{BlockStyle}
+use Rattle.scalar_values.specs.declared.block.BlockStyle.TheVariants as block_style
+use Rattle.scalar_values.specs.declared.flow.Quote.{Quote}
+use Rattle.scalar_values.specs.declared.flow.Quote.TheVariants.{Single, Double}
 use Rattle.saphyr_scalar.specs.declared.scalar.position.Marker.{Marker}
 use Rattle.saphyr_scalar.specs.declared.scalar.style.ScalarStyle.{ScalarStyle}
 use Rattle.saphyr_scalar.specs.declared.scalar.style.ScalarStyle.TheVariants.{Plain, SingleQuoted, DoubleQuoted}
 use Rattle.saphyr_scalar.specs.Steps.Anchor as anchors
 use Rattle.saphyr_scalar.specs.Steps.Block as blocks
 use Rattle.saphyr_scalar.specs.Views.Cursor.{Cursor, ◌>>=◌}
-use Rattle.saphyr_scalar.specs.Reading.Flow.{mark}
+use Rattle.scalar_values.specs.Flow.{mark}
 use Rattle.saphyr_scalar.specs.Steps.Plain as words
 use Rattle.saphyr_scalar.specs.Steps.Quoted as quoted
 use Rattle.saphyr_scalar.specs.Steps.Tag as tags
@@ -105,8 +105,8 @@ quotes_same text quote style c x k laws t begins =
     (behind_same text s.mark x.at style a.0 (with_cursor a.1 c) (going_to b.1.mark.index x) laws v.1)))
 
 pub double_same : (text : List ℕ) (n : ℕ) (c : Core) (x : Indexes) → Laws text → Twin text c x → Begins 34 c.cursor
-    → GiveAlike (SameSteps text) (scalar.double_quoted n c) (scalar.double_quoted n (near_core x c))
-unfolding scalar.double_quoted scalar.read_double_quoted
+    → GiveAlike (SameSteps text) (scalar.double_quoted_steps n c) (scalar.double_quoted_steps n (near_core x c))
+unfolding scalar.double_quoted_steps scalar.read_double_quoted
 double_same text n c x laws t begins =
     of_still text (λ a b. GiveAlike (SameSteps text) (scalar.read_double_quoted (scalar.disallow_key a))
     (scalar.read_double_quoted (scalar.disallow_key b))) c.cursor (save_key n c) (save_key n (near_core x c))
@@ -114,8 +114,8 @@ double_same text n c x laws t begins =
     (scalar.disallow_key (save_key n c)) y refl laws u (begins_still 34 c.cursor (save_key n c).cursor e begins))
 
 pub single_same : (text : List ℕ) (n : ℕ) (c : Core) (x : Indexes) → Laws text → Twin text c x → Begins 39 c.cursor
-    → GiveAlike (SameSteps text) (scalar.single_quoted n c) (scalar.single_quoted n (near_core x c))
-unfolding scalar.single_quoted scalar.read_single_quoted
+    → GiveAlike (SameSteps text) (scalar.single_quoted_steps n c) (scalar.single_quoted_steps n (near_core x c))
+unfolding scalar.single_quoted_steps scalar.read_single_quoted
 single_same text n c x laws t begins =
     of_still text (λ a b. GiveAlike (SameSteps text) (scalar.read_single_quoted (scalar.disallow_key a))
     (scalar.read_single_quoted (scalar.disallow_key b))) c.cursor (save_key n c) (save_key n (near_core x c))
@@ -166,8 +166,8 @@ read_same text c x laws t =
     )))
 
 pub plain_same : (text : List ℕ) (n : ℕ) (c : Core) (x : Indexes) → Laws text → Twin text c x
-    → GiveAlike (SameSteps text) (scalar.plain n c) (scalar.plain n (near_core x c))
-unfolding scalar.plain
+    → GiveAlike (SameSteps text) (scalar.plain_steps n c) (scalar.plain_steps n (near_core x c))
+unfolding scalar.plain_steps
 plain_same text n c x laws t =
     of_still text (λ a b. GiveAlike (SameSteps text)
     (scalar.read_plain (record (scalar.disallow_key a) { deeper = false }))
@@ -201,8 +201,9 @@ read_block_same text style c x laws t begins =
 
 pub block_same : (text : List ℕ) (style : BlockStyle) (n : ℕ) (c : Core) (x : Indexes) → Laws text → Twin text c x
     → Begins (block_indicator style) c.cursor
-    → GiveAlike (SameSteps text) (scalar.block style n c) (scalar.block style n (near_core x c))
-unfolding scalar.block
+    → GiveAlike (SameSteps text) (scalar.block_scalar_steps style n c)
+    (scalar.block_scalar_steps style n (near_core x c))
+unfolding scalar.block_scalar_steps
 block_same text style n c x laws t begins =
     of_still text (λ a b. GiveAlike (SameSteps text)
     (scalar.read_block style (record a { key_allowed = true; deeper = false }))
@@ -245,8 +246,8 @@ read_name_same text is_alias c x laws t ink =
 
 pub name_same : (text : List ℕ) (is_alias : Bool) (n : ℕ) (c : Core) (x : Indexes) → Laws text → Twin text c x
     → Inked c.cursor.rest
-    → GiveAlike (SameSteps text) (property.name is_alias n c) (property.name is_alias n (near_core x c))
-unfolding property.name
+    → GiveAlike (SameSteps text) (property.name_steps is_alias n c) (property.name_steps is_alias n (near_core x c))
+unfolding property.name_steps
 name_same text is_alias n c x laws t ink =
     of_still text (λ a b. GiveAlike (SameSteps text) (property.read_name is_alias (scalar.disallow_key a))
     (property.read_name is_alias (scalar.disallow_key b))) c.cursor (save_key n c) (save_key n (near_core x c))
@@ -269,8 +270,8 @@ read_tag_same text c x laws t begins =
     ))
 
 pub tag_same : (text : List ℕ) (n : ℕ) (c : Core) (x : Indexes) → Laws text → Twin text c x → Begins 33 c.cursor
-    → GiveAlike (SameSteps text) (property.tag n c) (property.tag n (near_core x c))
-unfolding property.tag
+    → GiveAlike (SameSteps text) (property.tag_steps n c) (property.tag_steps n (near_core x c))
+unfolding property.tag_steps
 tag_same text n c x laws t begins =
     of_still text (λ a b. GiveAlike (SameSteps text) (property.read_tag (scalar.disallow_key a))
     (property.read_tag (scalar.disallow_key b))) c.cursor (save_key n c) (save_key n (near_core x c))

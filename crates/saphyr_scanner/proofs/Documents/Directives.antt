@@ -28,19 +28,19 @@ use Rattle.saphyr_scanner.proofs.Documents.Markers.{piece_of, at_line}
 use Rattle.saphyr_scalar.proofs.Given.{cursor_at}
 use Rattle.std.proofs.lemmas.Bool.{eq-eqb, false≢true}
 
-directive_here : (m e : Marker) (blank : Bool) (r : List ℕ) (d : directives.Directive) (u : Cursor)
+directive_here : (m e : Marker) (blank : Bool) (r : List ℕ) (d : directives.ReadDirective) (u : Cursor)
     (k : Option Candidate) (a : Bool) (ad : ℕ) (ps : List Place) → m.col ≡ 0
     → directives.directive (cursor_at (37 ∷ r) m blank) ≡ Ok (d, e, u)
     → fetch_here (state_at false (cursor_at (37 ∷ r) m blank) context.Block k [] a ad ps)
     ≡ Ok (state_at false u context.Block None [] false ad (ps ++ closed (piece_of m e (directive_kind d)) ∷ []))
-unfolding fetch_here document.directive end_content remove_key unroll read_directive
+unfolding fetch_here document.state_behind_directive end_content remove_key unroll read_directive
 directive_here m e blank r d u k a ad ps col is = rw (eq-eqb m.col 0 col, is) refl
 
 -- ## How a directive is read
 
 -- A directive is read where its line's break and o stand behind it.
 record ReadsAs (d : forest.Directive) (t : List ℕ) : Type 0 where
-  said : directives.Directive
+  said : directives.ReadDirective
   end : Marker → Marker
   kind : directive_kind said ≡ directive_token d
   first : slice_index t 0 ≡ 37
@@ -48,7 +48,7 @@ record ReadsAs (d : forest.Directive) (t : List ℕ) : Type 0 where
       → directives.directive (cursor_at (t ++ (10 ∷ o)) m blank)
       ≡ Ok (said, end m, cursor_at o (next_line (along m (length t)) 1) true)
 
-reads_text : Reads → (d : forest.Directive) (said : directives.Directive) (t tail : List ℕ)
+reads_text : Reads → (d : forest.Directive) (said : directives.ReadDirective) (t tail : List ℕ)
     → directive_kind said ≡ directive_token d → IsDirectiveText said t → IsLineTail tail
     → slice_index (t ++ tail) 0 ≡ 37 → ReadsAs d (t ++ tail)
 reads_text readers d said t tail kind is tail_is first =
@@ -59,7 +59,7 @@ reads_text readers d said t tail kind is tail_is first =
       first = first;
       reads = λ m blank o. readers.directive (cursor_at ((t ++ tail) ++ (10 ∷ o)) m blank) said t tail (10 ∷ o)
           (append_assoc t tail (10 ∷ o)) is tail_is refl
-          ∙ ap (λ (n : ℕ). Ok (let x : directives.Directive × Marker × Cursor =
+          ∙ ap (λ (n : ℕ). Ok (let x : directives.ReadDirective × Marker × Cursor =
           (said, along m (length t), cursor_at o (next_line (along m n) 1) true) in x))
           (sym (length-append t tail));
     }

@@ -1,11 +1,10 @@
 -- Ends of lines, filler and the gaps before a document's node.
-use Rattle.std.proofs.Common.{◌≡◌, ℕ, zero, suc, ◌+◌, ◌≤◌, Bool, true, List, [], ◌∷◌, ◌++◌, length, slice_index, inl, inr, refl, sym, ap, ◌∙◌, arith, subst, append_assoc, ◌⊎◌}
+use Rattle.std.proofs.Common.{◌≡◌, ℕ, suc, ◌+◌, ◌≤◌, Bool, true, List, [], ◌∷◌, ◌++◌, length, slice_index, inl, inr, refl, sym, ap, ◌∙◌, arith, subst, append_assoc, ◌⊎◌}
 use Rattle.std.proofs.lemmas.Bool.Decides.{nat_tests}
 use Rattle.saphyr_input.specs.Classes.{is_blank, is_blank_or_breakz, is_breakz}
 use Rattle.saphyr_scalar.specs.declared.scalar.position.Marker.{Marker}
 use Rattle.saphyr_scalar.specs.Views.Cursor.{next_line}
-use Rattle.saphyr_scalar.specs.Steps.BlockRead.{spaces}
-use Rattle.saphyr_scalar.specs.Spelling.Spaces.{joined, AreEach, IsCommentBehind, IsFillerLine, IsFiller, IsGap, IsLineRest, IsEol}
+use Rattle.saphyr_scalar.specs.Spelling.Spaces.{joined, AreEach, IsCommentBehind, IsFillerLine, IsFiller, IsLineRest, IsEol}
 use Rattle.saphyr_scalar.specs.Spelling.Tag.{AreIn}
 use Rattle.saphyr_scanner.proofs.Flow.States.{moved, past}
 use Rattle.saphyr_scanner.proofs.Flow.Places.{moved_append, moved_count}

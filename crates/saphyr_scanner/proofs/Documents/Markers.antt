@@ -20,7 +20,7 @@ use Rattle.saphyr_scanner.specs.Steps.Passing.{with_cursor}
 use Rattle.saphyr_scanner.specs.Steps.State.{separated}
 use Rattle.saphyr_scanner.specs.Steps.State.{State}
 use Rattle.saphyr_scanner.specs.Steps.Unrolling.{unroll}
-use Rattle.saphyr_scanner.specs.Steps.Document.{end_content, marker, end_line, end_marker, byte_order_mark}
+use Rattle.saphyr_scanner.specs.Steps.Document.{end_content, marker, end_line, end_marker, state_behind_byte_order_mark}
 use Rattle.saphyr_scanner.specs.Steps.Fetch.{fetch_here}
 use Rattle.saphyr_scanner.proofs.Leads.{Leads}
 use Rattle.saphyr_scanner.proofs.Json.States.{core_at, state_at}
@@ -101,7 +101,7 @@ mark_here : (m : Marker) (blank : Bool) (r : List ℕ) (k : Option Candidate) (a
     → fetch_here (state_at false (cursor_at (65279 ∷ r) m blank) context.Block k [] a ad ps)
     ≡ Ok (state_at false (cursor_at r (behind_mark m) blank) context.Block None [] true ad
     (ps ++ closed (piece_of m (behind_mark m) tokens.ByteOrderMark) ∷ []))
-unfolding fetch_here byte_order_mark end_content remove_key unroll
+unfolding fetch_here state_behind_byte_order_mark end_content remove_key unroll
 mark_here m blank r k a ad ps col = rw (no_greater m.col col) refl
 
 mark_count : (m : Marker) (r : List ℕ) (limit : ℕ) → m.index + length (65279 ∷ r) ≤ limit

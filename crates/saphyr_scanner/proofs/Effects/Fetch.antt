@@ -5,7 +5,7 @@ use Rattle.saphyr_input.specs.Classes.{is_bom, is_z}
 use Rattle.saphyr_input.specs.Places.{is_document_start, is_document_end}
 use Rattle.saphyr_scalar.specs.declared.scalar.position.Marker.{Marker}
 use Rattle.saphyr_scalar.specs.declared.scalar.fault.Refusal.{Refusal}
-use Rattle.saphyr_scalar.specs.declared.reading.block.BlockStyle.TheVariants as block_style
+use Rattle.scalar_values.specs.declared.block.BlockStyle.TheVariants as block_style
 use Rattle.saphyr_scalar.specs.Views.Cursor.{◌>>=◌}
 use Rattle.saphyr_scanner.specs.declared.engine.level.Context.TheVariants as context
 use Rattle.saphyr_scanner.specs.Grammar.Tokens as tokens
@@ -16,7 +16,7 @@ use Rattle.saphyr_scanner.specs.Steps.Passing.{pass_gap}
 use Rattle.saphyr_scanner.specs.Steps.State.{State, carried}
 use Rattle.saphyr_scanner.specs.Steps.Unrolling.{unroll}
 use Rattle.saphyr_scanner.specs.Steps.Document as document
-use Rattle.saphyr_scanner.specs.Steps.Fetch.{size, step, content, fetch_here, arrive, begin, fetch, within, fetch_within, settled}
+use Rattle.saphyr_scanner.specs.Steps.Fetch.{size, step, state_behind_content, fetch_here, arrive, begin, fetch, within, fetch_within, settled}
 use Rattle.saphyr_scanner.proofs.Steps.Choice.{cases}
 use Rattle.saphyr_scanner.proofs.Blocks.{unrolled_cursor}
 use Rattle.saphyr_scanner.proofs.Ordered.Queue.{Grows, grows_grows, core_grows, put_grows}
@@ -139,7 +139,7 @@ end_fetched s going =
     (λ _. tt)
 
 here_fetched : (s : State) → s.core.ended ≡ false → Given (Fetched s) (fetch_here s)
-unfolding fetch_here content
+unfolding fetch_here state_behind_content
 here_fetched s going =
     let t = s.core.cursor.rest in let P = Given (Fetched s) in
     by_test (is_z (slice_index t 0)) _ _ P (λ _. end_fetched s going) (λ z. let h : 0 < length t = left t z in

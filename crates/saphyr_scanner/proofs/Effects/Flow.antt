@@ -48,8 +48,8 @@ open_effect x kind c k h =
     (λ e g. indicator false c e.1 kind k h g))
 
 pub start_effect : (x : Context) (kind : Kind) (n : ℕ) (c : Core) → IsNoEnd kind → 0 < length c.cursor.rest
-    → Given (EffectAt n c) (flow.start x kind n c)
-unfolding flow.start
+    → Given (EffectAt n c) (flow.opening_steps x kind n c)
+unfolding flow.opening_steps
 start_effect x kind n c k h =
     behind_saving n c (λ s. 0 < length s.rest) (λ d. flow.open_collection x kind (go_deeper d)) h
     (λ d some. open_effect x kind (go_deeper d) k some)
@@ -83,24 +83,24 @@ close_effect ends kind c k h =
     (λ e g. with_adjacent c e.1 _ (indicator ends c e.1 kind k h g))
 
 pub end_effect : (sequence : Bool) (kind : Kind) (c : Core) → IsNoEnd kind → 0 < length c.cursor.rest
-    → Given (Effect c) (flow.end sequence kind c)
-unfolding flow.end
+    → Given (Effect c) (flow.closing_steps sequence kind c)
+unfolding flow.closing_steps
 end_effect sequence kind c k h =
     by_test (in_block c) _ _ (Given (Effect c)) (λ _. tt)
     (λ _. close_effect (sequence && flow.ends_pair c.level.context) kind c k h)
 
-next_entry_effect : (c : Core) → 0 < length c.cursor.rest → Given (Effect c) (flow.next_entry c)
-unfolding flow.next_entry
+next_entry_effect : (c : Core) → 0 < length c.cursor.rest → Given (Effect c) (flow.next_flow_entry c)
+unfolding flow.next_flow_entry
 next_entry_effect c h =
     let d : Core = with_context (flow.behind_entry c.level.context) (record c { key_allowed = true }) in
     behind_blanks (Effect c) 0 (pass 1 c.cursor) c (pass_on 1 d) _ (behind_one 0 c d refl (begins_none c))
     (λ e g. indicator (flow.ends_pair c.level.context) c e.1 tokens.FlowEntry (λ i. absurd (cc)) h g)
 
-pub entry_effect : (c : Core) → 0 < length c.cursor.rest → Given (Effect c) (flow.entry c)
-unfolding flow.entry remove_key
+pub entry_effect : (c : Core) → 0 < length c.cursor.rest → Given (Effect c) (flow.flow_entry_steps c)
+unfolding flow.flow_entry_steps remove_key
 entry_effect c h =
-    by_test (in_block c && c.required) _ _ (λ r. Given (Effect c) (r >>= flow.next_entry)) (λ _. tt)
-    (λ _. from_more _ _ (λ i a. (tt, a.1)) c (flow.next_entry _) (next_entry_effect _ h))
+    by_test (in_block c && c.required) _ _ (λ r. Given (Effect c) (r >>= flow.next_flow_entry)) (λ _. tt)
+    (λ _. from_more _ _ (λ i a. (tt, a.1)) c (flow.next_flow_entry _) (next_entry_effect _ h))
 
 -- ## Values
 
@@ -108,7 +108,7 @@ tab_goes : (s : Cursor) (c d : Core) → Goes 0 s c d → Given (Goes 0 s c) (va
 unfolding value.check_tab
 tab_goes s c d g =
     by_test (slice_index d.cursor.rest 0 == 9) _ _ (Given (Goes 0 s c))
-    (λ _. behind_blanks (Goes 0 s c) 0 s c d value.refuse_tab g (λ x k.
+    (λ _. behind_blanks (Goes 0 s c) 0 s c d value.refuse_lone_tab g (λ x k.
     by_test (in_block x.1 && not (has_valid_yaml_ws x.0)
     && ((slice_index x.1.cursor.rest 0 == 45) || is_alpha (slice_index x.1.cursor.rest 0))) _ _ (Given (Goes 0 s c))
     (λ _. tt) (λ _. k)))
@@ -157,8 +157,8 @@ value_effect_of None begins c d h w g =
     alone_effect begins (is_further c.cursor.mark.col d) c _
     (read_on c.cursor _ _ (pass 1 c.cursor) (roll c.cursor.mark.col d).cursor (one c.cursor h) p.0) p.1)
 
-pub value_effect : (c : Core) → 0 < length c.cursor.rest → Given (Effect c) (value.fetch c)
-unfolding value.fetch
+pub value_effect : (c : Core) → 0 < length c.cursor.rest → Given (Effect c) (value.value_steps c)
+unfolding value.value_steps
 value_effect c h =
     let d : Core = with_context (value.behind_colon c.level.context) c in
     given_bind (Effect c) (value.check_tab (pass_on 1 d)) _ (λ e q.

@@ -3,7 +3,7 @@ use Rattle.std.proofs.Common.{◌≡◌, ℕ, ◌<◌, Bool, true, false, List, 
 use Rattle.std.specs.Prelude.{◌&&◌, ◌||◌, slice_index, not, ◌==◌, nat_lt}
 use Rattle.saphyr_input.specs.Classes.{is_break, is_flow}
 use Rattle.saphyr_input.specs.Separation.{found_tabs}
-use Rattle.saphyr_scalar.specs.declared.reading.block.BlockStyle.{BlockStyle}
+use Rattle.scalar_values.specs.declared.block.BlockStyle.{BlockStyle}
 use Rattle.saphyr_scalar.specs.declared.scalar.position.Marker.{Marker}
 use Rattle.saphyr_scalar.specs.declared.scalar.style.ScalarStyle.{ScalarStyle}
 use Rattle.saphyr_scalar.specs.declared.scalar.style.ScalarStyle.TheVariants.{SingleQuoted, DoubleQuoted}
@@ -64,7 +64,7 @@ block_entry_effect c h =
     (λ _. by_test (not c.key_allowed) _ _ (Given (Effect c)) (λ _. tt) (λ _. next_entry_effect c h))
 
 mark_goes : (n : ℕ) (c d : Core) → d.cursor ≡ c.cursor → Begins n c d
-    → Given (Goes n (pass 1 c.cursor) c) (block.pass_mark d)
+    → Given (Goes n (pass 1 c.cursor) c) (block.pass_question d)
 unfolding block.behind_mark
 mark_goes n c d e g =
     let s = pass 1 c.cursor in
@@ -76,11 +76,12 @@ mark_goes n c d e g =
 
 -- behind the removal of a key, at the place where it stood
 begun : (n : ℕ) (c d : Core) → d.cursor ≡ c.cursor → Begins n c d
-    → Given (Goes n (pass 1 c.cursor) c) (remove_key d >>= λ e. block.pass_mark (record e { key_allowed = in_block e }))
+    → Given (Goes n (pass 1 c.cursor) c) (remove_key d >>= λ e. block.pass_question
+    (record e { key_allowed = in_block e }))
 unfolding remove_key
 begun n c d e g =
     by_test (in_block d && d.required) _ _
-    (λ r. Given (Goes n (pass 1 c.cursor) c) (r >>= λ f. block.pass_mark (record f { key_allowed = in_block f })))
+    (λ r. Given (Goes n (pass 1 c.cursor) c) (r >>= λ f. block.pass_question (record f { key_allowed = in_block f })))
     (λ _. tt) (λ _. mark_goes n c _ e (begins_forgotten n c d g))
 
 question_goes : (c : Core) → Given (Goes 2 (pass 1 c.cursor) c) (block.begin_key c)
@@ -148,8 +149,8 @@ read_double_effect c h =
     (λ laws. laws.double_quoted (least_column c) c.cursor x.1 x.0 h q)))
 
 pub double_quoted_effect : (n : ℕ) (c : Core) → slice_index c.cursor.rest 0 ≡ 34
-    → Given (EffectAt n c) (scalar.double_quoted n c)
-unfolding scalar.double_quoted
+    → Given (EffectAt n c) (scalar.double_quoted_steps n c)
+unfolding scalar.double_quoted_steps
 double_quoted_effect n c h =
     behind_saving n c (λ s. slice_index s.rest 0 ≡ 34) _ h (λ d. read_double_effect (scalar.disallow_key d))
 
@@ -162,8 +163,8 @@ read_single_effect c h =
     (λ laws. laws.single_quoted (least_column c) c.cursor x.1 x.0 h q)))
 
 pub single_quoted_effect : (n : ℕ) (c : Core) → slice_index c.cursor.rest 0 ≡ 39
-    → Given (EffectAt n c) (scalar.single_quoted n c)
-unfolding scalar.single_quoted
+    → Given (EffectAt n c) (scalar.single_quoted_steps n c)
+unfolding scalar.single_quoted_steps
 single_quoted_effect n c h =
     behind_saving n c (λ s. slice_index s.rest 0 ≡ 39) _ h (λ d. read_single_effect (scalar.disallow_key d))
 
@@ -180,8 +181,8 @@ read_plain_effect c =
           record { ahead = r.ahead; begins = omega arith; inside = r.begins; ends = r.ends };
     }) (begins_none c)))
 
-pub plain_effect : (n : ℕ) (c : Core) → Given (EffectAt n c) (scalar.plain n c)
-unfolding scalar.plain
+pub plain_effect : (n : ℕ) (c : Core) → Given (EffectAt n c) (scalar.plain_steps n c)
+unfolding scalar.plain_steps
 plain_effect n c =
     behind_saving n c (λ s. Unit {0}) _ tt
     (λ d _. read_plain_effect (record (scalar.disallow_key d) { deeper = false }))
@@ -198,8 +199,8 @@ read_block_effect style c h =
     }) (begins_none c))
 
 pub block_effect : (style : BlockStyle) (n : ℕ) (c : Core) → 0 < length c.cursor.rest
-    → Given (EffectAt n c) (scalar.block style n c)
-unfolding scalar.block
+    → Given (EffectAt n c) (scalar.block_scalar_steps style n c)
+unfolding scalar.block_scalar_steps
 block_effect style n c h =
     behind_saving n c (λ s. 0 < length s.rest) _ h
     (λ d. read_block_effect style (record d { key_allowed = true; deeper = false }))
@@ -218,8 +219,8 @@ read_name_effect is_alias c h =
     (begins_none c))
 
 pub name_effect : (is_alias : Bool) (n : ℕ) (c : Core) → 0 < length c.cursor.rest
-    → Given (EffectAt n c) (property.name is_alias n c)
-unfolding property.name
+    → Given (EffectAt n c) (property.name_steps is_alias n c)
+unfolding property.name_steps
 name_effect is_alias n c h =
     behind_saving n c (λ s. 0 < length s.rest) _ h (λ d. read_name_effect is_alias (scalar.disallow_key d))
 
@@ -232,7 +233,7 @@ read_tag_effect c h =
     (read_to c.cursor x.2 (λ laws. laws.tag f c.cursor x.2 x.0 x.1 h q)
     (λ laws. laws.tag f c.cursor x.2 x.0 x.1 h q)) (begins_none c))
 
-pub tag_effect : (n : ℕ) (c : Core) → slice_index c.cursor.rest 0 ≡ 33 → Given (EffectAt n c) (property.tag n c)
-unfolding property.tag
+pub tag_effect : (n : ℕ) (c : Core) → slice_index c.cursor.rest 0 ≡ 33 → Given (EffectAt n c) (property.tag_steps n c)
+unfolding property.tag_steps
 tag_effect n c h =
     behind_saving n c (λ s. slice_index s.rest 0 ≡ 33) _ h (λ d. read_tag_effect (scalar.disallow_key d))

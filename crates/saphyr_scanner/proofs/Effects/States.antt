@@ -7,7 +7,7 @@ use Rattle.saphyr_scalar.specs.declared.scalar.position.Marker.{Marker}
 use Rattle.saphyr_scalar.specs.declared.scalar.fault.Refusal.{Refusal}
 use Rattle.saphyr_scalar.specs.Views.Cursor.{Cursor, ◌>>=◌}
 use Rattle.saphyr_scalar.specs.Steps.Directive as directives
-use Rattle.saphyr_scalar.specs.Steps.Directive.{Directive}
+use Rattle.saphyr_scalar.specs.Steps.Directive.{ReadDirective}
 use Rattle.saphyr_scanner.specs.Grammar.Tokens as tokens
 use Rattle.saphyr_scanner.specs.Grammar.Tokens.{Kind}
 use Rattle.saphyr_scanner.specs.Steps.Queue.{empty_piece}
@@ -233,15 +233,16 @@ end_marker_advances s h =
     parted t (Ok y) g = carried_advances t (Ok y.1) g
     parted t (Err f) g = tt
 
-pub mark_advances : (s : State) → 0 < length s.core.cursor.rest → Given (Advances 1 s) (document.byte_order_mark s)
-unfolding document.byte_order_mark
+pub mark_advances : (s : State) → 0 < length s.core.cursor.rest
+    → Given (Advances 1 s) (document.state_behind_byte_order_mark s)
+unfolding document.state_behind_byte_order_mark
 mark_advances s h =
     by_test (nat_lt 0 s.core.cursor.mark.col || not (in_block s.core)) _ _ (Given (Advances 1 s)) (λ _. tt)
     (λ _. behind_content s _ (λ t e.
     put_advances 1 s.core.cursor t (document.pass_mark t.core) tokens.ByteOrderMark (λ i. absurd (cc)) e (omega arith)
     (omega (arith, h)) refl refl (begins_none t.core)))
 
-directive_is_no_end : (d : Directive) → IsNoEnd (document.directive_kind d)
+directive_is_no_end : (d : ReadDirective) → IsNoEnd (document.directive_kind d)
 directive_is_no_end (directives.version major minor) = λ i. absurd (cc)
 directive_is_no_end (directives.tag_prefix handle prefix) = λ i. absurd (cc)
 directive_is_no_end (directives.reserved name) = λ i. absurd (cc)
@@ -259,8 +260,8 @@ directive_effect c h =
     }) (begins_none c))
 
 pub directive_advances : (s : State) → slice_index s.core.cursor.rest 0 ≡ 37
-    → Given (Advances 1 s) (document.directive s)
-unfolding document.directive
+    → Given (Advances 1 s) (document.state_behind_directive s)
+unfolding document.state_behind_directive
 directive_advances s h =
     behind_content s _ (λ t e. acted_advances _ t (document.read_directive t.core)
     (directive_effect t.core (ap (λ (c : Cursor). slice_index c.rest 0) e ∙ h)))

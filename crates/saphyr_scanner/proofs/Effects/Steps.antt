@@ -193,10 +193,10 @@ check_goes n s c d g = intercepts_goes n s c d.comment d g
 pub gap_goes : (n : ℕ) (s : Cursor) (c d : Core) → Goes n s c d → Given (Goes n s c) (pass_gap d)
 unfolding pass_gap
 gap_goes n s c d g =
-    given_bind (Goes n s c) (gaps.pass_gap (least_column d) d.cursor) _ (λ p e.
+    given_bind (Goes n s c) (gaps.passed_gap (least_column d) d.cursor) _ (λ p e.
     check_goes n s c (behind_gap d p) (
       ahead_ahead s d.cursor p.cursor g.0
-          (given_of (λ (q : gaps.Passed). Ahead d.cursor q.cursor) (gaps.pass_gap (least_column d) d.cursor) p
+          (given_of (λ (q : gaps.Passed). Ahead d.cursor q.cursor) (gaps.passed_gap (least_column d) d.cursor) p
           (gap_counted (least_column d) false false d.cursor) e),
       g.1,
     ))

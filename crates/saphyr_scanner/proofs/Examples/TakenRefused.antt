@@ -5,11 +5,11 @@ use lib.Utf8.{encode}
 use Rattle.saphyr_input.specs.Classes.{is_blank, is_break}
 use Rattle.saphyr_input.specs.Breaks.{normalized}
 use Rattle.saphyr_scalar.specs.declared.scalar.position.Marker.{Marker}
-use Rattle.saphyr_scalar.specs.Reading.Flow.{plain_value}
+use Rattle.scalar_values.specs.Flow.{plain_value}
 use Rattle.saphyr_scanner.specs.TokensTaken.{IsPassedOver, nothing, blank, line_break, comment, AreTakenFrom, IsPlaceOf}
 use Rattle.saphyr_scanner.proofs.Beginnings.{heads, tails}
 use Rattle.saphyr_scanner.specs.Examples.TakenTexts as texts
-use Rattle.saphyr_scanner.specs.Examples.TakenTexts.{at}
+use Rattle.saphyr_scanner.specs.Examples.TakenTexts.{marker_at}
 
 -- ## Nothing but blanks, breaks and comments is passed over
 
@@ -73,11 +73,11 @@ pub other_start : AreTakenFrom (codes "[]") texts.other_start → ⊥
 other_start (end, (here, behind, apart, (x, y, is), (h, b, a, (c, start, o), rest)), fin) =
     let first = stays _ _ _ _ 91 (codes "]") apart refl refl refl (λ v. omega arith) in
     let second = stays _ _ _ _ 91 (codes "]") a (ap (λ v. v.rest) is ∙ first.1) refl refl (λ v. omega arith) in
-    let same : at 1 1 1 ≡ at 0 1 0 = start ∙ second.0 ∙ ap (λ v. v.mark) is ∙ first.0 in
+    let same : marker_at 1 1 1 ≡ marker_at 0 1 0 = start ∙ second.0 ∙ ap (λ v. v.mark) is ∙ first.0 in
     let z : 1 ≡ 0 = ap (λ v. v.index) same in
     omega (arith, z)
 
 -- ## A place behind the text
 
-pub place_behind : IsPlaceOf (codes "a") (at 2 1 2) → ⊥
+pub place_behind : IsPlaceOf (codes "a") (marker_at 2 1 2) → ⊥
 place_behind (s, r, p, h) = omega arith

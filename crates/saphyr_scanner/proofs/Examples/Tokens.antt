@@ -4,7 +4,7 @@ use lib.Utf8.{encode}
 use Rattle.saphyr_scanner.specs.Grammar.Forest.{Style, no_properties, Scalar}
 use Rattle.saphyr_scanner.specs.Grammar.Tokens.{scalar_token}
 use Rattle.saphyr_scanner.specs.Grammar.TokenGrammar.{Context, InFlow, InBlock, InBlockMapping, YieldsNode, Yields}
-use Rattle.saphyr_scanner.specs.Examples.Forests.{json_array, json_object, json_forest, json_tokens, block_sequence, block_mapping, block_forest, block_tokens}
+use Rattle.saphyr_scanner.specs.Examples.Forests.{json_array, json_object, json_forest, json_text_tokens, block_sequence, block_mapping, block_forest, block_tokens}
 use Rattle.saphyr_scanner.proofs.AllTokens.{bare_yields}
 
 -- a scalar without properties is its token
@@ -12,7 +12,7 @@ leaf : (style : Style) (value : List ℕ) (context : Context)
     → YieldsNode (Scalar no_properties style value) context (scalar_token style value ∷ [])
 leaf style value context = ([], _, refl, inl refl, refl)
 
-pub json_yields : Yields json_forest json_tokens
+pub json_yields : Yields json_forest json_text_tokens
 unfolding encode
 json_yields =
     let items : YieldsNode json_array InFlow _ = (

@@ -12,7 +12,7 @@ use Rattle.saphyr_scanner.specs.Steps.Core.{Candidate, Level, Action, perform, w
 use Rattle.saphyr_scanner.specs.Steps.Passing.{pass_gap, check_comment, behind_gap}
 use Rattle.saphyr_scanner.specs.Steps.State.{State, carried, acted}
 use Rattle.saphyr_scanner.specs.Steps.Unrolling.{unroll}
-use Rattle.saphyr_scanner.specs.Steps.Fetch.{step, content, fetch_here, arrive, fetch}
+use Rattle.saphyr_scanner.specs.Steps.Fetch.{step, state_behind_content, fetch_here, arrive, fetch}
 use Rattle.saphyr_scanner.proofs.Json.States.{queue_of, none_before, stop_here}
 use Rattle.saphyr_scanner.proofs.InFlow.States.{Around, core_at, state_at, least, least_low, not_left, drops, key_left, left_in_flow, left_or_none, none_unrolls, Deepens, Comes, comes}
 use Rattle.saphyr_scanner.proofs.Flow.States.{crosses, past, is_filler_rest}
@@ -104,7 +104,7 @@ pub record BeginsToken (m : Marker) (t : List ℕ) : Type 0 where
 pub begins_here : (around : Around) (d : Bool) (s : Cursor) (x : Context) (k : Option Candidate) (ls : List Level)
     (a : Bool) (ad : ℕ) (ps : List Place) → BeginsToken s.mark s.rest → around.indent ≤ s.mark.col
     → fetch_here (state_at around s x k ls a ad ps d)
-    ≡ content (slice_index s.rest 0) (slice_index s.rest 1) (state_at around s x k ls a ad ps d)
+    ≡ state_behind_content (slice_index s.rest 0) (slice_index s.rest 1) (state_at around s x k ls a ad ps d)
 unfolding fetch_here
 begins_here around d s x k ls a ad ps h right =
     let n = and_or_false (s.mark.col == 0) (is_document_start s.rest) (is_document_end s.rest) h.marker in
@@ -129,7 +129,7 @@ pub one : (around : Around) (s : Cursor) (x : Context) (k : Option Candidate) (l
     ≡ went actions (core_at around (to d) t z j ms b be))
     → perform actions (queue_of ps) ≡ queue_of qs → t.mark.index ≤ around.limit
     → Comes around (state_at around s x k ls a ad ps) t z j ms b be qs
-unfolding fetch content
+unfolding fetch state_behind_content
 one around s x k ls a ad ps m y v h t z j ms b be qs actions to deepens is done low =
     let seen = cursor_at y m v.blank in
     comes around (state_at around s x k ls a ad ps) t z j ms b be qs to deepens (λ d. refl)

@@ -69,7 +69,7 @@ pub saved_so : (x : Context) (a b : Bool) (n : ℕ) (m : Marker) (k j : Option C
 saved_so x a b n m k j h e = let s = h e in ap (λ (q : Bool). saved q n m j) s.1 ∙ ap (saved a n m) s.0
 
 pub open_passes : (around : Around) (y : Context) → is_block y ≡ false → (kind : Kind) (ch : ℕ) → IsMark ch
-    → ((second i : ℕ) (c : Core) → step ch second i c ≡ flow.start y kind i c)
+    → ((second i : ℕ) (c : Core) → step ch second i c ≡ flow.opening_steps y kind i c)
     → (m : Marker) (o : List ℕ) → Fits around m (ch ∷ []) o → IsParted around.indent o
     → (s : Cursor) (x : Context) (k : Option Candidate) (ls : List Level) (a : Bool) (ad : ℕ) (ps : List Place)
     → length ls < 255 → Calm around x → ad ≤ m.index

@@ -96,7 +96,7 @@ pub record AreBrackets (b : Brackets) : Type 0 where
   pub flows : is_block b.context ≡ false
   pub opening_mark : IsMark b.opening
   pub closing_mark : IsMark b.closing
-  pub begins : (second i : ℕ) (c : Core) → step b.opening second i c ≡ flow.start b.context b.opens i c
+  pub begins : (second i : ℕ) (c : Core) → step b.opening second i c ≡ flow.opening_steps b.context b.opens i c
 
 -- Behind a collection: as behind a node, of which blanks alone stand before a colon that may stand at once.
 pub record IsBracketed (indent : ℕ) (x : Context) (kept : Kept) (m : Marker) (o : List ℕ) (key : Option Candidate)

@@ -1,6 +1,6 @@
 -- The colons of a text in flow style are read, behind a key and without one.
 use Rattle.std.proofs.Common.{◌≡◌, ℕ, ◌≤◌, Bool, true, false, List, [], ◌∷◌, ◌++◌, length, slice_index, Ok, refl, sym, ap, ◌∙◌, arith, append_assoc, IsTrue, ◌⊎◌, inl, inr}
-use Rattle.std.specs.Prelude.{if◌then◌else◌, ◌||◌, ◌&&◌, ◌==◌, not, nat_lt, Option, Some, None}
+use Rattle.std.specs.Prelude.{if◌then◌else◌, ◌||◌, ◌==◌, not, nat_lt, Option, Some, None}
 use Rattle.std.proofs.lemmas.Bool.Decides.{nat_tests}
 use Rattle.saphyr_input.specs.Classes.{is_blank_or_breakz, is_flow}
 use Rattle.saphyr_input.specs.declared.input.SkipTabs.{SkipTabs}
@@ -17,7 +17,7 @@ use Rattle.saphyr_scanner.specs.Steps.Queue.{Place, closed, opened, empty_piece}
 use Rattle.saphyr_scanner.specs.Steps.Core.{Candidate, Level, Core, Put, Open, Steps, is_block, at_mark, went, perform}
 use Rattle.saphyr_scanner.specs.Steps.Passing.{with_cursor}
 use Rattle.saphyr_scanner.specs.Steps.Value as value
-use Rattle.saphyr_scanner.specs.Steps.Value.{begins_pair, behind_colon, check_tab, refuse_tab, of_key, alone, begin_alone, behind_key}
+use Rattle.saphyr_scanner.specs.Steps.Value.{begins_pair, behind_colon, check_tab, refuse_lone_tab, of_key, alone, behind_key}
 use Rattle.saphyr_scanner.specs.Steps.Fetch.{step, flow_value}
 use Rattle.saphyr_scanner.proofs.InFlow.States.{Around, required_at, core_at}
 use Rattle.saphyr_scanner.proofs.Json.States.{queue_of}
@@ -45,15 +45,15 @@ is_flow_or_blank c h e = (flow_one c h e, other c h e)
 -- where a colon may stand at once, or before what ends it
 pub begins : (around : Around) (d : Bool) (second i : ℕ) (s : Cursor) (y : Context) (k : Option Candidate)
     (ls : List Level) (a : Bool) (ad : ℕ) → is_block y ≡ false → (s.mark.index ≡ ad) ⊎ IsTrue (ends_colon second)
-    → step 58 second i (core_at around d s y k ls a ad) ≡ value.fetch (core_at around d s y k ls a ad)
+    → step 58 second i (core_at around d s y k ls a ad) ≡ value.value_steps (core_at around d s y k ls a ad)
 unfolding step flow_value
 begins around d second i s y k ls a ad e (inl f) =
     let c = core_at around d s y k ls a ad in
-    by_test (is_blank_or_breakz second) (value.fetch c) _ (λ (r : Steps). r ≡ value.fetch c) (λ _. refl)
+    by_test (is_blank_or_breakz second) (value.value_steps c) _ (λ (r : Steps). r ≡ value.value_steps c) (λ _. refl)
     (λ _. rw (eq-eqb s.mark.index ad f, or_right (is_flow second) true refl, e) refl)
 begins around d second i s y k ls a ad e (inr h) =
     let c = core_at around d s y k ls a ad in
-    by_test (is_blank_or_breakz second) (value.fetch c) _ (λ (r : Steps). r ≡ value.fetch c) (λ _. refl)
+    by_test (is_blank_or_breakz second) (value.value_steps c) _ (λ (r : Steps). r ≡ value.value_steps c) (λ _. refl)
     (λ b. let f = is_flow_or_blank second h b in rw (f.0, f.1, and_false (not (s.mark.index == ad)), e) refl)
 
 -- ## Behind the colon
@@ -67,7 +67,7 @@ pub record Tabbed (around : Around) (o : List ℕ) (m : Marker) (y : Context) (k
 
 no_refusal : (around : Around) (d : Bool) (found : SkipTabs) (there : Cursor) (y : Context) (k : Option Candidate)
     (ls : List Level) (a : Bool) (ad : ℕ) → is_block y ≡ false
-    → refuse_tab (found, core_at around d there y k ls a ad) ≡ Ok (core_at around d there y k ls a ad)
+    → refuse_lone_tab (found, core_at around d there y k ls a ad) ≡ Ok (core_at around d there y k ls a ad)
 no_refusal around d found there y k ls a ad e = rw e refl
 
 pub tabbed : (around : Around) (o : List ℕ) (m : Marker) (y : Context) (k : Option Candidate) (ls : List Level)
@@ -84,7 +84,7 @@ tabbed around o m y k ls a ad flows parted right = by_tab (slice_index o 0 == 9)
           there = p.there;
           is = λ d. rw e (ap (λ q.
               (q >>= λ (z : SkipTabs × Cursor). Ok
-              (z.0, with_cursor z.1 (core_at around d (cursor_at o m false) y k ls a ad))) >>= refuse_tab) p.is
+              (z.0, with_cursor z.1 (core_at around d (cursor_at o m false) y k ls a ad))) >>= refuse_lone_tab) p.is
               ∙ no_refusal around d p.found p.there y k ls a ad flows);
           lands = p.lands;
         }
@@ -127,9 +127,9 @@ colon_flows context.MarkedFlowPair e = refl
 pub fetches : (around : Around) (d : Bool) (o : List ℕ) (m : Marker) (b : Bool) (y : Context) (k : Option Candidate)
     (ls : List Level) (a : Bool) (ad : ℕ) → is_block y ≡ false
     → (p : Tabbed around o (along m 1) (behind_colon y) k ls a ad)
-    → value.fetch (core_at around d (cursor_at (58 ∷ o) m b) y k ls a ad)
+    → value.value_steps (core_at around d (cursor_at (58 ∷ o) m b) y k ls a ad)
     ≡ behind_key k (begins_pair y) m (core_at around d p.there (behind_colon y) k ls a ad)
-unfolding value.fetch
+unfolding value.value_steps
 fetches around d o m b y k ls a ad flows p =
     let same : required_at around y ≡ required_at around (behind_colon y) =
     ap (λ (q : Bool). if q then around.pending else around.required) (flows ∙ sym (colon_flows y flows)) in

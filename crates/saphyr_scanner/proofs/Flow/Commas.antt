@@ -12,7 +12,7 @@ use Rattle.saphyr_scanner.specs.Steps.Queue.{Place}
 use Rattle.saphyr_scanner.specs.Steps.Core.{Candidate, Level, Core, is_block, from_to, up_to_here, went, remove_key}
 use Rattle.saphyr_scanner.specs.Steps.Passing.{with_cursor}
 use Rattle.saphyr_scanner.specs.Steps.Flow as flow
-use Rattle.saphyr_scanner.specs.Steps.Flow.{next_entry, behind_entry, behind_pair, ends_pair}
+use Rattle.saphyr_scanner.specs.Steps.Flow.{next_flow_entry, behind_entry, behind_pair, ends_pair}
 use Rattle.saphyr_scanner.proofs.InFlow.States.{Around, required_at, core_at, state_at, as_before}
 use Rattle.saphyr_scanner.proofs.Flow.Places.{right_one}
 use Rattle.saphyr_scanner.proofs.Flow.States.{moved, past, IsParted, fresh_key, Passes, Fits}
@@ -38,10 +38,10 @@ in_flow context.MarkedFlowPair e = refl
 parts : (around : Around) (d : Bool) (o : List ℕ) (m : Marker) (b : Bool) (y : Context) (k : Option Candidate)
     (ls : List Level) (a : Bool) (ad : ℕ) → is_block y ≡ false → (found : SkipTabs) (there : Cursor)
     → separation Yes (cursor_at o (along m 1) false) ≡ Ok (found, there)
-    → next_entry (core_at around d (cursor_at (44 ∷ o) m b) y k ls a ad)
+    → next_flow_entry (core_at around d (cursor_at (44 ∷ o) m b) y k ls a ad)
     ≡ went (behind_pair (ends_pair y) m (from_to m there.mark tokens.FlowEntry))
     (core_at around d there (behind_entry y) k ls true ad)
-unfolding next_entry
+unfolding next_flow_entry
 parts around d o m b y k ls a ad flows found there is =
     let c : Core = record (core_at around d (cursor_at o (along m 1) false) (behind_entry y) k ls true ad)
     { required = required_at around y } in
@@ -54,9 +54,9 @@ parts around d o m b y k ls a ad flows found there is =
 
 removes : (around : Around) (d : Bool) (o : List ℕ) (m : Marker) (b : Bool) (y : Context) (k : Option Candidate)
     (ls : List Level) (a : Bool) (ad : ℕ) → is_block y ≡ false
-    → flow.entry (core_at around d (cursor_at (44 ∷ o) m b) y k ls a ad)
-    ≡ next_entry (core_at around d (cursor_at (44 ∷ o) m b) y None ls a ad)
-unfolding flow.entry remove_key
+    → flow.flow_entry_steps (core_at around d (cursor_at (44 ∷ o) m b) y k ls a ad)
+    ≡ next_flow_entry (core_at around d (cursor_at (44 ∷ o) m b) y None ls a ad)
+unfolding flow.flow_entry_steps remove_key
 removes around d o m b context.Block k ls a ad e = absurd (true≢false e)
 removes around d o m b context.FlowSequence k ls a ad e = refl
 removes around d o m b context.FlowMapping k ls a ad e = refl

@@ -5,8 +5,8 @@ use Rattle.std.proofs.lemmas.Bool.Decides.{nat_tests}
 use Rattle.saphyr_input.specs.Classes.{is_blank, is_blank_or_breakz}
 use Rattle.std.proofs.lemmas.Bool.{false≢true}
 use Rattle.saphyr_scalar.specs.declared.scalar.position.Marker.{Marker}
-use Rattle.saphyr_scalar.specs.declared.reading.flow.Quote.{Quote}
-use Rattle.saphyr_scalar.specs.declared.reading.flow.Quote.TheVariants.{Single, Double}
+use Rattle.scalar_values.specs.declared.flow.Quote.{Quote}
+use Rattle.scalar_values.specs.declared.flow.Quote.TheVariants.{Single, Double}
 use Rattle.saphyr_scalar.specs.Views.Cursor.{Cursor}
 use Rattle.saphyr_scalar.specs.Spelling.Spaces.{IsSeparation}
 use Rattle.saphyr_scanner.specs.declared.engine.level.Context.{Context}
@@ -17,7 +17,7 @@ use Rattle.saphyr_scanner.specs.Steps.Queue.{Place, closed}
 use Rattle.saphyr_scanner.specs.Steps.Core.{Candidate, Level, is_block}
 use Rattle.saphyr_scanner.specs.Grammar.Forest.{Style, Plain, SingleQuoted, DoubleQuoted, Literal, Folded, Properties, Node, Scalar}
 use Rattle.saphyr_scanner.specs.Grammar.FlowNodes.{allows_adjacent}
-use Rattle.saphyr_scalar.specs.Reading.Flow.{plain_value}
+use Rattle.scalar_values.specs.Flow.{plain_value}
 use Rattle.saphyr_scanner.specs.Grammar.FlowScalars.{IsPlainKey, IsQuoted, IsFlowScalar}
 use Rattle.saphyr_scanner.proofs.InFlow.States.{Around, state_at}
 use Rattle.saphyr_scanner.proofs.InFlow.Tabs.{lands_on_ink}

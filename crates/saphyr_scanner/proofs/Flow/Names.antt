@@ -1,7 +1,6 @@
 -- The anchors, aliases and tags of a text in flow style are passed.
-use Rattle.std.proofs.Common.{◌≡◌, ℕ, ◌+◌, ◌≤◌, Bool, true, false, List, [], ◌∷◌, ◌++◌, length, slice_index, refl, sym, ap, ◌∙◌, arith, subst, IsTrue, encode_utf8_all}
+use Rattle.std.proofs.Common.{◌≡◌, ℕ, ◌+◌, ◌≤◌, Bool, true, false, List, [], ◌∷◌, ◌++◌, length, slice_index, refl, sym, ap, ◌∙◌, arith, subst, encode_utf8_all}
 use Rattle.std.specs.Prelude.{◌==◌, not, Option}
-use Rattle.std.proofs.lemmas.Bool.Decides.{nat_tests}
 use Rattle.saphyr_input.specs.Classes.{is_break, is_anchor_char, line_feed}
 use Rattle.saphyr_scalar.specs.declared.scalar.position.Marker.{Marker}
 use Rattle.saphyr_scalar.specs.Views.Cursor.{Cursor, ◌>>=◌, along}
@@ -57,10 +56,10 @@ named_along m indicator name e h =
 pub name_step : Reads → (around : Around) (d : Bool) (is_alias : Bool) (n : ℕ) (m : Marker) (b : Bool) (indicator : ℕ)
     (name o : List ℕ) → is_break indicator ≡ false → IsAnchorName name → is_anchor_char (slice_index o 0) ≡ false
     → (x : Context) (k : Option Candidate) (ls : List Level) (a : Bool) (ad : ℕ) → Placed around x a m
-    → property.name is_alias n (core_at around d (cursor_at (indicator ∷ (name ++ o)) m b) x k ls a ad)
+    → property.name_steps is_alias n (core_at around d (cursor_at (indicator ∷ (name ++ o)) m b) x k ls a ad)
     ≡ went (from_to m (moved m (indicator ∷ name)) (name_token is_alias (encode_utf8_all name)) ∷ [])
     (core_at around d (at (moved m (indicator ∷ name)) o) x (saved a n m k) ls false ad)
-unfolding property.name read_name
+unfolding property.name_steps read_name
 name_step reads around d is_alias n m b indicator name o e h ends x k ls a ad placed =
     let s = cursor_at (indicator ∷ (name ++ o)) m b in
     let c = core_at around d s x (saved a n m k) ls false ad in
@@ -70,7 +69,7 @@ name_step reads around d is_alias n m b indicator name o e h ends x k ls a ad pl
     ∙ ap (λ (end : Marker). token (encode_utf8_all name, at end o)) (named_along m indicator name e h)
 
 name_passes : Reads → (around : Around) (is_alias : Bool) (indicator : ℕ) (name o : List ℕ) (m : Marker)
-    → ((second n : ℕ) (c : Core) → step indicator second n c ≡ property.name is_alias n c)
+    → ((second n : ℕ) (c : Core) → step indicator second n c ≡ property.name_steps is_alias n c)
     → Begins (indicator ∷ name) → is_break indicator ≡ false → IsAnchorName name
     → is_anchor_char (slice_index o 0) ≡ false → Fits around m (indicator ∷ name) o
     → (s : Cursor) (x : Context) (k : Option Candidate) (ls : List Level) (a : Bool) (ad : ℕ) (ps : List Place)
@@ -100,11 +99,11 @@ name_passes reads around is_alias indicator name o m begins first break h ends f
       tells = (refl, refl);
     })
 
-pub begins_anchor : (second n : ℕ) (c : Core) → step 38 second n c ≡ property.name false n c
+pub begins_anchor : (second n : ℕ) (c : Core) → step 38 second n c ≡ property.name_steps false n c
 unfolding step
 begins_anchor second n c = refl
 
-pub begins_alias : (second n : ℕ) (c : Core) → step 42 second n c ≡ property.name true n c
+pub begins_alias : (second n : ℕ) (c : Core) → step 42 second n c ≡ property.name_steps true n c
 unfolding step
 begins_alias second n c = refl
 
@@ -163,10 +162,10 @@ alias_token_passes reads around name t o m h ends fits s x k ls a ad ps text =
 pub tag_step : Reads → (around : Around) (d : Bool) (n : ℕ) (m : Marker) (b : Bool) (t handle suffix o : List ℕ)
     → IsTagText t handle suffix → (x : Context) (k : Option Candidate) (ls : List Level) (a : Bool) (ad : ℕ)
     → EndsTag (not (is_block x)) o → Placed around x a m
-    → property.tag n (core_at around d (cursor_at (t ++ o) m b) x k ls a ad)
+    → property.tag_steps n (core_at around d (cursor_at (t ++ o) m b) x k ls a ad)
     ≡ went (from_to m (moved m t) (tokens.Tag (encode_utf8_all handle) (encode_utf8_all suffix)) ∷ [])
     (core_at around d (at (moved m t) o) x (saved a n m k) ls false ad)
-unfolding property.tag read_tag
+unfolding property.tag_steps read_tag
 tag_step reads around d n m b t handle suffix o h x k ls a ad ends placed =
     let s = cursor_at (t ++ o) m b in
     let c = core_at around d s x (saved a n m k) ls false ad in
@@ -177,7 +176,7 @@ tag_step reads around d n m b t handle suffix o h x k ls a ad ends placed =
     ∙ ap (λ (end : Marker). token (encode_utf8_all handle, encode_utf8_all suffix, at end o))
     (sym (unbroken_along m t (tag_no_break t handle suffix h)))
 
-pub begins_tag : (second n : ℕ) (c : Core) → step 33 second n c ≡ property.tag n c
+pub begins_tag : (second n : ℕ) (c : Core) → step 33 second n c ≡ property.tag_steps n c
 unfolding step
 begins_tag second n c = refl
 

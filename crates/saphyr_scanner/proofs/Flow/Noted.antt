@@ -7,7 +7,7 @@ use Rattle.saphyr_scanner.specs.declared.engine.level.Context.TheVariants as con
 use Rattle.saphyr_scanner.specs.Steps.Queue.{Place, Queue}
 use Rattle.saphyr_scanner.specs.Steps.Core.{Candidate, Level, Core, Action, perform, went, is_too_far, drop_far_key}
 use Rattle.saphyr_scanner.specs.Steps.State.{State, carried, acted}
-use Rattle.saphyr_scanner.specs.Steps.Fetch.{step, content, fetch_here, fetch, within, fetch_within}
+use Rattle.saphyr_scanner.specs.Steps.Fetch.{step, state_behind_content, fetch_here, fetch, within, fetch_within}
 use Rattle.saphyr_scanner.proofs.Leads.{stay, onward}
 use Rattle.saphyr_scanner.proofs.InFlow.States.{Around, core_at, state_at, key_left, left_or_none, Run, Runs, Deepens}
 use Rattle.saphyr_scanner.proofs.Json.States.{queue_of, none_before}
@@ -84,7 +84,7 @@ pub noted_one : (around : Around) (s : Cursor) (k : Option Candidate) (ls : List
     ≡ went actions (core_with around (to d) comment t j ms b be))
     → perform actions (queue_of ps) ≡ queue_of qs → t.mark.index ≤ around.limit
     → NotedComes around (state_at around s context.Block k ls a ad ps) comment t j ms b be qs
-unfolding fetch content
+unfolding fetch state_behind_content
 noted_one around s k ls a ad ps m y v h comment t j ms b be qs actions to deepens is done low =
     let seen = cursor_at y m v.blank in
     noted_comes around (state_at around s context.Block k ls a ad ps) comment t j ms b be qs to deepens (λ d. refl)

@@ -6,7 +6,7 @@ use Rattle.saphyr_input.specs.Breaks.{normalized}
 use Rattle.saphyr_input.specs.Classes.{is_blank, is_blank_or_breakz, is_flow, is_z}
 use Rattle.saphyr_scalar.specs.declared.scalar.position.Marker.{Marker}
 use Rattle.saphyr_scalar.specs.Views.Cursor.{Cursor, ◌>>=◌}
-use Rattle.saphyr_scalar.specs.Reading.Flow.{plain_value}
+use Rattle.scalar_values.specs.Flow.{plain_value}
 use Rattle.saphyr_scalar.specs.Steps.Plain.{PlainScalarRead, comment_of}
 use Rattle.saphyr_scalar.specs.Spelling.Plain.{is_tabbed, past_white, EndsPlain, is_word_ink, AreWordInk, IsPlainText}
 use Rattle.saphyr_scanner.specs.declared.engine.level.Context.{Context}
@@ -30,7 +30,7 @@ use Rattle.saphyr_scanner.proofs.Flow.Fillers.{white_past}
 use Rattle.saphyr_scanner.proofs.Flow.GapSteps.{past_ink}
 use Rattle.saphyr_scanner.proofs.Flow.Arrivals.{arrives, within_index}
 use Rattle.saphyr_scanner.proofs.Flow.Low.{behind_low}
-use Rattle.saphyr_scanner.proofs.Flow.Tokens.{Begins, saved_since, begins_past, begins_inked, begins_token, after_token, token_passes}
+use Rattle.saphyr_scanner.proofs.Flow.Tokens.{Begins, saved_since, begins_past, begins_inked, begins_token, adjacent_at, after_token, token_passes}
 use Rattle.saphyr_scanner.proofs.Flow.WordGaps.{passed_moved, normalized_same}
 use Rattle.saphyr_scanner.proofs.Flow.Words.{ink_other, no_break, colon_is_ink, plain_text, key_text, plain_right, key_right}
 use Rattle.saphyr_scanner.proofs.Flow.Noted.{noted_one}
@@ -173,7 +173,7 @@ value_test false first second i ad h (inr low) = by_first (first == 58) refl
 pub plain_begins : (first second n : ℕ) (c : Core) → IsTrue (begins_plain first)
     → ((first == 45) && is_blank_or_breakz second) ≡ false → ((first == 63) && is_blank_or_breakz second) ≡ false
     → ((first == 58) && is_blank_or_breakz second) ≡ false
-    → ((first == 58) && is_value_adjacent second c) ≡ false → step first second n c ≡ scalar.plain n c
+    → ((first == 58) && is_value_adjacent second c) ≡ false → step first second n c ≡ scalar.plain_steps n c
 unfolding step
 plain_begins first second n c h dash mark colon value =
     let other : (d : ℕ) → begins_plain d ≡ false → (first == d) ≡ false = λ d e. other_than begins_plain d first e h in
@@ -218,11 +218,12 @@ found indent f o end v = Ok (
 plain_read : Reads → (around : Around) (d : Bool) (n : ℕ) (m : Marker) (b : Bool) (t o : List ℕ) (x : Context)
     → IsPlainText (not (is_block x)) around.indent m t o → IsClear m t o
     → (k : Option Candidate) (ls : List Level) (a : Bool) (ad : ℕ) → Placed around x a m
-    → let u = past_white (moved m t) false o in scalar.plain n (core_at around d (cursor_at (t ++ o) m b) x k ls a ad)
+    → let u = past_white (moved m t) false o in scalar.plain_steps n
+    (core_at around d (cursor_at (t ++ o) m b) x k ls a ad)
     ≡ went (from_to m (moved m t) (plain_token t) ∷ [])
     (record (core_at around false u x (saved a n m k) ls u.blank_so_far ad)
     { comment = comment_of (not (is_block x)) (is_tabbed around.indent o) u })
-unfolding scalar.plain read_plain
+unfolding scalar.plain_steps read_plain
 plain_read reads around d n m b t o x h clear k ls a ad placed =
     let s = cursor_at (t ++ o) m b in
     let f = not (is_block x) in
@@ -243,7 +244,7 @@ pub plain_dispatches : (around : Around) (d : Bool) (s : Cursor) (n : ℕ) (t o 
     → BeginsWord (not (is_block x)) t o → (k : Option Candidate) (ls : List Level) (a : Bool) (ad : ℕ)
     → (is_block x ≡ true) ⊎ (ad < s.mark.index)
     → step (slice_index (t ++ o) 0) (slice_index (t ++ o) 1) n (core_at around d s x k ls a ad)
-    ≡ scalar.plain n (core_at around d s x k ls a ad)
+    ≡ scalar.plain_steps n (core_at around d s x k ls a ad)
 plain_dispatches around d s n t o x w k ls a ad low =
     let f = not (is_block x) in
     let first = slice_index (t ++ o) 0 in
@@ -278,10 +279,6 @@ plain_step reads around d n m b t o x begins text clear k ls a ad low placed =
 
 -- ## Inside flow
 
--- the place where a colon may stand at once is still the same
-abbrev pub still_adjacent : ℕ → Bool → ℕ → Type 0
-still_adjacent ad allowed adjacent = adjacent ≡ ad
-
 no_comment : (f t : Bool) (u : Cursor) → f ≡ true → comment_of f t u ≡ None
 unfolding comment_of
 no_comment f t u e = rw e refl
@@ -292,7 +289,7 @@ pub text_passes : Reads → (around : Around) (t o : List ℕ) (m : Marker) → 
     → is_blank (slice_index (past around.indent (moved m t) o).1 0) ≡ false
     → (s : Cursor) (x : Context) (k : Option Candidate) (ls : List Level) (a : Bool) (ad : ℕ) (ps : List Place)
     → is_block x ≡ false → ad < m.index → past around.indent s.mark s.rest ≡ past around.indent m (t ++ o)
-    → Passes around (state_at around s x k ls a ad ps) (after_token (still_adjacent ad) x (keeping a (length ps) m k t))
+    → Passes around (state_at around s x k ls a ad ps) (after_token (adjacent_at ad) x (keeping a (length ps) m k t))
     x ls ps (moved m t) o (scalar_token Plain (plain_value t) ∷ [])
 text_passes reads around t o m begins plain fits right inked s x k ls a ad ps flow low text =
     let inside : not (is_block x) ≡ true = ap not flow in
@@ -300,7 +297,7 @@ text_passes reads around t o m begins plain fits right inked s x k ls a ad ps fl
     let word : BeginsWord (not (is_block x)) t o = subst (λ (f : Bool). BeginsWord f t o) (sym inside) begins in
     let is_text : IsPlainText (not (is_block x)) around.indent m t o =
     subst (λ (f : Bool). IsPlainText f around.indent m t o) (sym inside) plain in
-    token_passes around (still_adjacent ad) (plain_token t) t o m (token_begins true t o begins) fits right s x k ls a
+    token_passes around (adjacent_at ad) (plain_token t) t o m (token_begins true t o begins) fits right s x k ls a
     ad ps text
     (λ b j e. record {
       there = u;
@@ -324,7 +321,7 @@ pub plain_passes : Reads → (around : Around) (t o : List ℕ) (m : Marker) →
     → is_blank (slice_index (past around.indent (moved m t) o).1 0) ≡ false
     → (s : Cursor) (x : Context) (k : Option Candidate) (ls : List Level) (a : Bool) (ad : ℕ) (ps : List Place)
     → is_block x ≡ false → ad < m.index → past around.indent s.mark s.rest ≡ past around.indent m (t ++ o)
-    → Passes around (state_at around s x k ls a ad ps) (after_token (still_adjacent ad) x (keeping a (length ps) m k t))
+    → Passes around (state_at around s x k ls a ad ps) (after_token (adjacent_at ad) x (keeping a (length ps) m k t))
     x ls ps (moved m t) o (scalar_token Plain (plain_value t) ∷ [])
 plain_passes reads around t o m h fits ends inked =
     text_passes reads around t o m (word_begins true around.indent t o h)
@@ -336,7 +333,7 @@ pub plain_key_passes : Reads → (around : Around) (t r : List ℕ) (m : Marker)
     → Fits around m t (58 ∷ r) → EndsPlain true around.indent (moved m t) (58 ∷ r)
     → (s : Cursor) (x : Context) (k : Option Candidate) (ls : List Level) (a : Bool) (ad : ℕ) (ps : List Place)
     → is_block x ≡ false → ad < m.index → past around.indent s.mark s.rest ≡ past around.indent m (t ++ (58 ∷ r))
-    → Passes around (state_at around s x k ls a ad ps) (after_token (still_adjacent ad) x (keeping a (length ps) m k t))
+    → Passes around (state_at around s x k ls a ad ps) (after_token (adjacent_at ad) x (keeping a (length ps) m k t))
     x ls ps (moved m t) (58 ∷ r) (scalar_token Plain (plain_value t) ∷ [])
 plain_key_passes reads around t r m h fits ends =
     text_passes reads around t (58 ∷ r) m (key_begins true around.indent t r h)

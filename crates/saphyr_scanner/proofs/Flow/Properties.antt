@@ -17,7 +17,7 @@ use Rattle.saphyr_scanner.specs.Steps.State.{State}
 use Rattle.saphyr_scanner.specs.Grammar.Forest.{Tag, Alias}
 use Rattle.saphyr_scanner.specs.Grammar.TagSpelling.{IsTag}
 use Rattle.saphyr_scanner.specs.Grammar.FlowNodes as layout
-use Rattle.saphyr_scanner.specs.Grammar.FlowNodes.{IsAnchor, IsAlias, allows_adjacent}
+use Rattle.saphyr_scanner.specs.Grammar.FlowNodes.{IsAnchor}
 use Rattle.saphyr_scanner.proofs.InFlow.States.{Around, state_at}
 use Rattle.saphyr_scanner.proofs.Json.Marks.{saved}
 use Rattle.saphyr_scanner.proofs.Flow.States.{Since, Kept, keeping, moved, past, IsBehindNode, IsBehindRoot, Reads, Known, Passes, Fits, IsAfterNode, IsAfterProperties, NodePasses, RootCloses}

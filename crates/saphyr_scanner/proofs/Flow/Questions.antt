@@ -14,7 +14,7 @@ use Rattle.saphyr_scanner.specs.Grammar.Tokens as tokens
 use Rattle.saphyr_scanner.specs.Steps.Queue.{Place}
 use Rattle.saphyr_scanner.specs.Steps.Core.{Candidate, Level, Core, is_block, from_to, up_to_here, went, remove_key}
 use Rattle.saphyr_scanner.specs.Steps.Block as block
-use Rattle.saphyr_scanner.specs.Steps.Block.{behind_question, behind_mark, pass_mark, begin_key}
+use Rattle.saphyr_scanner.specs.Steps.Block.{behind_question, behind_mark, pass_question, begin_key}
 use Rattle.saphyr_scanner.specs.Steps.Passing.{with_cursor}
 use Rattle.saphyr_scanner.specs.Steps.Fetch.{step}
 use Rattle.saphyr_scanner.proofs.InFlow.States.{Around, core_at, state_at, as_before}
@@ -62,7 +62,8 @@ begins second i c h = rw h refl
 
 begins_key : (around : Around) (d : Bool) (s : Cursor) (y : Context) (k : Option Candidate) (ls : List Level) (a : Bool)
     (ad : ℕ) → is_block y ≡ false
-    → begin_key (core_at around d s y k ls a ad) ≡ pass_mark (core_at around d s (behind_question y) None ls false ad)
+    → begin_key (core_at around d s y k ls a ad)
+    ≡ pass_question (core_at around d s (behind_question y) None ls false ad)
 unfolding begin_key remove_key
 begins_key around d s context.Block k ls a ad e = absurd (true≢false e)
 begins_key around d s context.FlowSequence k ls a ad e = refl
@@ -74,7 +75,7 @@ begins_key around d s context.MarkedFlowPair k ls a ad e = refl
 passes_mark : (around : Around) (d : Bool) (o : List ℕ) (m : Marker) (b : Bool) (y : Context) (ls : List Level) (ad : ℕ)
     (n : Marker) (blank : Bool) (c : ℕ) (cs : List ℕ) → IsInk c
     → spaces (along m 1) false false o ≡ spaced n blank true (c ∷ cs)
-    → pass_mark (core_at around d (cursor_at (63 ∷ o) m b) y None ls false ad)
+    → pass_question (core_at around d (cursor_at (63 ∷ o) m b) y None ls false ad)
     ≡ Ok (core_at around d (cursor_at (c ∷ cs) n blank) y None ls false ad)
 unfolding behind_mark
 passes_mark around d o m b y ls ad n blank c cs ink is =

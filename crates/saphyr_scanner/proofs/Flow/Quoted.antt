@@ -6,13 +6,13 @@ use Rattle.std.proofs.lemmas.Bool.Decides.{nat_tests}
 use Rattle.saphyr_input.specs.Classes.{is_break, space, line_feed, carriage_return}
 use Rattle.saphyr_input.specs.Places.{is_document_indicator}
 use Rattle.saphyr_scalar.specs.declared.scalar.position.Marker.{Marker}
-use Rattle.saphyr_scalar.specs.declared.reading.folding.Item.{Item}
-use Rattle.saphyr_scalar.specs.declared.reading.folding.Item.TheVariants.{Escaped}
-use Rattle.saphyr_scalar.specs.declared.reading.flow.Quote.{Quote}
-use Rattle.saphyr_scalar.specs.declared.reading.flow.Quote.TheVariants.{Single, Double}
+use Rattle.scalar_values.specs.declared.folding.Item.{Item}
+use Rattle.scalar_values.specs.declared.folding.Item.TheVariants.{Escaped}
+use Rattle.scalar_values.specs.declared.flow.Quote.{Quote}
+use Rattle.scalar_values.specs.declared.flow.Quote.TheVariants.{Single, Double}
 use Rattle.saphyr_scalar.specs.Views.Cursor.{Cursor, along, next_line}
-use Rattle.saphyr_scalar.specs.Reading.Flow.{mark, backslash, apostrophe}
-use Rattle.saphyr_scalar.specs.Reading.Folding.{folded}
+use Rattle.scalar_values.specs.Flow.{mark, backslash, apostrophe}
+use Rattle.scalar_values.specs.Folding.{folded}
 use Rattle.saphyr_scalar.specs.Passing.{IsPassed, nothing, character, line_break}
 use Rattle.saphyr_scalar.specs.Steps.Quoted as quotes
 use Rattle.saphyr_scalar.specs.Steps.Quoted.{at, break_len, is_closing}

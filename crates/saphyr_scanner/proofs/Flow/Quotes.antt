@@ -5,10 +5,10 @@ use Rattle.saphyr_input.specs.Classes.{is_blank, is_break, is_breakz}
 use Rattle.saphyr_input.specs.declared.input.SkipTabs.{SkipTabs}
 use Rattle.saphyr_input.specs.declared.input.SkipTabs.TheVariants.{Yes}
 use Rattle.saphyr_scalar.specs.declared.scalar.position.Marker.{Marker}
-use Rattle.saphyr_scalar.specs.declared.reading.flow.Quote.{Quote}
-use Rattle.saphyr_scalar.specs.declared.reading.flow.Quote.TheVariants.{Single, Double}
+use Rattle.scalar_values.specs.declared.flow.Quote.{Quote}
+use Rattle.scalar_values.specs.declared.flow.Quote.TheVariants.{Single, Double}
 use Rattle.saphyr_scalar.specs.Views.Cursor.{Cursor, ◌>>=◌, separation}
-use Rattle.saphyr_scalar.specs.Reading.Flow.{mark}
+use Rattle.scalar_values.specs.Flow.{mark}
 use Rattle.saphyr_scalar.specs.Steps.Quoted.{at}
 use Rattle.saphyr_scanner.specs.declared.engine.level.Context.{Context}
 use Rattle.saphyr_scanner.specs.declared.engine.level.Context.TheVariants as context
@@ -30,7 +30,7 @@ use Rattle.saphyr_scanner.proofs.Flow.GapSteps.{past_again, past_ink}
 use Rattle.saphyr_scanner.proofs.Flow.Fillers.{EndsLine, rest_past, separation_past}
 use Rattle.saphyr_scanner.proofs.Flow.Arrivals.{PassesGap, passes_gap}
 use Rattle.saphyr_scanner.proofs.Flow.Separates.{separates, separates_rest}
-use Rattle.saphyr_scanner.proofs.Flow.Tokens.{Begins, after_token, token_passes}
+use Rattle.saphyr_scanner.proofs.Flow.Tokens.{Begins, adjacent_at, after_token, token_passes}
 use Rattle.saphyr_scanner.proofs.Flow.Quoted.{quoted_read, quoted_right}
 use Rattle.saphyr_scanner.proofs.InBlock.Crossings.{line_rest_crosses}
 use Rattle.std.proofs.lemmas.Bool.{or_left}
@@ -149,7 +149,7 @@ pub quoted_step : Reads → (around : Around) (d : Bool) (quote : Quote) (n : �
     → step c (slice_index (t ++ o) 1) n (core_at around d (cursor_at (t ++ o) m b) x k ls a ad)
     ≡ behind_quotes m (style_of quote) (encode_utf8_all value)
     (core_at around d (at (moved m t) o) x (saved a n m k) ls false ad)
-unfolding step scalar.single_quoted scalar.double_quoted read_single_quoted read_double_quoted
+unfolding step scalar.single_quoted_steps scalar.double_quoted_steps read_single_quoted read_double_quoted
 quoted_step reads around d Single n m b value t o h clear ends x k ls a ad c first placed =
     let s = cursor_at (t ++ o) m b in
     let inner = core_at around d s x (saved a n m k) ls false ad in
@@ -190,10 +190,6 @@ quote_first Double inside =
       nul = refl;
       directive = refl;
     }
-
--- a colon may stand at once where the next token does
-abbrev pub adjacent_at : ℕ → Bool → ℕ → Type 0
-adjacent_at n allowed adjacent = adjacent ≡ n
 
 pub quoted_passes : Reads → (around : Around) (quote : Quote) (value t o : List ℕ) (m : Marker)
     → IsQuoted quote around.indent value t → Fits around m t o

@@ -14,7 +14,7 @@ use Rattle.saphyr_scanner.specs.Steps.Queue.{Place}
 use Rattle.saphyr_scanner.specs.Steps.Core.{Candidate, Level, is_block}
 use Rattle.saphyr_scanner.specs.Grammar.Forest.{Style, Plain, Tag, Properties, no_properties, HasOne, Scalar}
 use Rattle.saphyr_scanner.specs.Grammar.FlowNodes as layout
-use Rattle.saphyr_scanner.specs.Grammar.FlowNodes.{IsProperties, IsBeforeContent, IsScalarNode, allows_adjacent, IsPlainKeyNode}
+use Rattle.saphyr_scanner.specs.Grammar.FlowNodes.{IsProperties, IsBeforeContent, IsScalarNode, IsPlainKeyNode}
 use Rattle.saphyr_scanner.specs.Grammar.FlowScalars.{IsFlowScalar}
 use Rattle.saphyr_scanner.proofs.InFlow.States.{Around, state_at}
 use Rattle.saphyr_scanner.proofs.Json.Marks.{saved}

@@ -17,14 +17,14 @@ use Rattle.saphyr_scalar.specs.Steps.Quoted as quotes
 use Rattle.saphyr_scalar.specs.Steps.Quoted.{at}
 use Rattle.saphyr_scalar.specs.Spelling.QuotedLines.{LinesFit}
 use Rattle.saphyr_scalar.specs.Spelling.Quoted.{IsQuotedText}
-use Rattle.saphyr_scalar.specs.Reading.Flow.{plain_value}
-use Rattle.saphyr_scalar.specs.Reading.Folding.{folded}
+use Rattle.scalar_values.specs.Flow.{plain_value}
+use Rattle.scalar_values.specs.Folding.{folded}
 use Rattle.saphyr_scalar.specs.Passing.{IsPassed}
 use Rattle.saphyr_scalar.specs.Steps.Directive as directives
-use Rattle.saphyr_scalar.specs.Steps.Directive.{Directive}
+use Rattle.saphyr_scalar.specs.Steps.Directive.{ReadDirective}
 use Rattle.saphyr_scalar.specs.Spelling.Directive.{IsDirectiveText, IsReservedDirective, IsLineTail}
-use Rattle.saphyr_scalar.specs.declared.reading.folding.Item.{Item}
-use Rattle.saphyr_scalar.specs.declared.reading.flow.Quote.{Quote}
+use Rattle.scalar_values.specs.declared.folding.Item.{Item}
+use Rattle.scalar_values.specs.declared.flow.Quote.{Quote}
 use Rattle.saphyr_scalar.specs.Spelling.Tag.{AreIn, IsAnchorName, IsTagText, EndsTag}
 use Rattle.saphyr_scalar.specs.Spelling.Spaces.{IsSeparation, IsLineRest}
 use Rattle.saphyr_scanner.specs.declared.engine.level.Context.{Context}
@@ -207,7 +207,7 @@ pub record Reads : Type 0 where
   pub tag : (in_flow : Bool) (s : Cursor) (t handle suffix x : List ℕ) → s.rest ≡ t ++ x → IsTagText t handle suffix
       → EndsTag in_flow x
       → tags.tag in_flow s ≡ Ok (encode_utf8_all handle, encode_utf8_all suffix, at (along s.mark (length t)) x)
-  pub directive : (s : Cursor) (d : Directive) (t tail x : List ℕ) → s.rest ≡ t ++ (tail ++ x) → IsDirectiveText d t
+  pub directive : (s : Cursor) (d : ReadDirective) (t tail x : List ℕ) → s.rest ≡ t ++ (tail ++ x) → IsDirectiveText d t
       → IsLineTail tail → is_breakz (slice_index x 0) ≡ true
       → directives.directive s
       ≡ Ok (d, along s.mark (length t), pass_break (at (along s.mark (length t + length tail)) x))

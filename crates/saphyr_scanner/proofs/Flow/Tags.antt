@@ -1,5 +1,5 @@
 -- The tags of a text in flow style are tags as they are read.
-use Rattle.std.proofs.Common.{◌≡◌, ℕ, Bool, List, [], ◌∷◌, ◌++◌, refl, ap, ◌∙◌, IsTrue, inl, inr, encode_utf8_all}
+use Rattle.std.proofs.Common.{◌≡◌, ℕ, List, [], ◌∷◌, ◌++◌, refl, ap, ◌∙◌, IsTrue, inl, inr, encode_utf8_all}
 use lib.Utf8.{encode}
 use Rattle.saphyr_input.specs.Classes.{is_alpha}
 use Rattle.saphyr_scalar.specs.Spelling.Tag.{AreIn, IsHandleText, IsTagText}

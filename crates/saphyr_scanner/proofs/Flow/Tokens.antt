@@ -71,6 +71,10 @@ pub record IsAfterToken (says : Bool → ℕ → Type 0) (x : Context) (kept : K
   pub since : Since kept.before kept.from kept.over key
   pub tells : says allowed adjacent
 
+-- a colon may stand at once at this place alone
+abbrev pub adjacent_at : ℕ → Bool → ℕ → Type 0
+adjacent_at n allowed adjacent = adjacent ≡ n
+
 abbrev pub after_token : (Bool → ℕ → Type 0) → Context → Kept → Known
 after_token says x kept key allowed adjacent new = IsAfterToken says x kept key allowed adjacent new
 

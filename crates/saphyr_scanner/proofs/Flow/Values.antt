@@ -62,7 +62,7 @@ colon_passes around y flows first e node w o parts fits parted ends same_line st
     (le_next around.indent m.col fits.right) in
     let stepped = λ (d : Bool). begins around d (slice_index o 0) (length qs) seen y v.key ls v.allowed p.adjacent flows
     (by_place ends (n.near flows w o refl parts))
-    ∙ ap (λ (j : Option Candidate). value.fetch (core_at around d seen y j ls v.allowed p.adjacent)) kept
+    ∙ ap (λ (j : Option Candidate). value.value_steps (core_at around d seen y j ls v.allowed p.adjacent)) kept
     ∙ fetches around d o m v.blank y (Some k) ls v.allowed p.adjacent flows t
     ∙ behind_some k (begins_pair y) m (core_at around d t.there (behind_colon y) (Some k) ls v.allowed p.adjacent)
     ∙ opens_key around d k m t.there y ls v.allowed p.adjacent flows same_line in
@@ -146,7 +146,8 @@ value_passes around y flows m o fits parted s k ls a ad ps none ends before text
     let t = tabbed around o (along m 1) (behind_colon y) None ls v.allowed ad (colon_flows y flows) parted
     (le_next around.indent m.col fits.right) in
     let stepped = λ (d : Bool). begins around d (slice_index o 0) (length ps) seen y v.key ls v.allowed ad flows ends
-    ∙ ap (λ (j : Option Candidate). value.fetch (core_at around d seen y j ls v.allowed ad)) ((v.same flows).0 ∙ none)
+    ∙ ap (λ (j : Option Candidate). value.value_steps (core_at around d seen y j ls v.allowed ad))
+    ((v.same flows).0 ∙ none)
     ∙ fetches around d o m v.blank y None ls v.allowed ad flows t
     ∙ behind_none (begins_pair y) m (core_at around d t.there (behind_colon y) None ls v.allowed ad)
     ∙ alone_step around d m t.there y ls v.allowed ad flows in

@@ -20,7 +20,7 @@ use Rattle.saphyr_scanner.specs.Steps.State.{State, acted}
 use Rattle.saphyr_scanner.specs.Grammar.Tokens as tokens
 use Rattle.saphyr_scanner.specs.Grammar.Tokens.{Kind}
 use Rattle.saphyr_scanner.specs.Steps.Value as value
-use Rattle.saphyr_scanner.specs.Steps.Fetch.{fetch, fetch_here, content, step}
+use Rattle.saphyr_scanner.specs.Steps.Fetch.{fetch, fetch_here, state_behind_content, step}
 use Rattle.saphyr_scanner.specs.Grammar.BlockNodes as layout
 use Rattle.saphyr_scanner.proofs.Json.States.{queue_of}
 use Rattle.saphyr_scanner.proofs.Json.Marks.{kinds, kinds_append}
@@ -80,11 +80,11 @@ passes_colon o h m = by_tab (slice_index o 0 == 9) refl h.tabs
         let there = cursor_at h.more (front_end h m) false in
         let sep = ap (separation Yes) at ∙ separates o h m false in
         let first : (slice_index n.cursor.rest 0 == 9) ≡ true = ap (λ (s : Cursor). slice_index s.rest 0 == 9) at ∙ e in
-        let word : value.refuse_tab (found_blanks Yes o, core_of f (record n { cursor = there }))
+        let word : value.refuse_lone_tab (found_blanks Yes o, core_of f (record n { cursor = there }))
         ≡ Ok (core_of f (record n { cursor = there })) =
         rw (no_word h.more ends, and_false (not (has_valid_yaml_ws (found_blanks Yes o)))) refl in
         rw first (ap (λ r. (r >>= λ (x : SkipTabs × Cursor). Ok (x.0, with_cursor x.1 (core_of f n)))
-        >>= value.refuse_tab) sep ∙ word)
+        >>= value.refuse_lone_tab) sep ∙ word)
 
     stays : (slice_index o 0 == 9) ≡ false → PassesColon o h m
     stays e = record {
@@ -137,7 +137,7 @@ value_step : (f : Frame) (m : Marker) (o : List ℕ) (h : IsBehindIndicator o) (
     (blank : Bool) (ad : ℕ) (deeper : Bool) → f.indent ≡ m.col + 1 → (i : ℕ)
     → step 58 (slice_index o 0) i (core_of f (moment_at m (58 ∷ o) blank None true ad deeper))
     ≡ went (at_mark m tokens.Value ∷ []) (core_of f (behind_value p.mark p.rest ad))
-unfolding step value.fetch value.behind_key value.alone value.begin_alone
+unfolding step value.value_steps value.behind_key value.alone value.begin_alone
 value_step f m o h p blank ad deeper same i =
     let n : Moment = record (moment_at m (58 ∷ o) blank None true ad deeper)
     { cursor = cursor_at o (along m 1) false } in
@@ -152,21 +152,21 @@ pub reads_value : {limit : ℕ} {start : State} {ts : List Kind} (f : Frame) (m 
     → f.indent ≡ m.col + 1 → IsBehindIndicator o
     → m.index + length (58 ∷ o) ≤ limit → (v : At limit start f m (58 ∷ o) ts) → v.key ≡ None → v.allowed ≡ true
     → Before limit start (layout.BehindMark m.col) f (along m 1) o (ts ++ tokens.Value ∷ [])
-unfolding content
+unfolding state_behind_content
 reads_value {limit} {start} {ts} f m o same h count v none allowed =
     let i = next (queue_of v.places) in
     let deeper = deeper_at f v.deeper m in
     let p = passes_colon o h (along m 1) in
     let t = behind_value p.mark p.rest v.adjacent in
     let qs = v.places ++ closed (empty_piece m tokens.Value) ∷ [] in
-    let made : content 58 (slice_index o 0)
+    let made : state_behind_content 58 (slice_index o 0)
     (state_of f (moment_at m (58 ∷ o) v.blank None true v.adjacent deeper) v.places) ≡ Ok (state_of f t qs) =
     ap (λ r. acted r (queue_of v.places)) (value_step f m o h p v.blank v.adjacent deeper same i) in
-    let there : content 58 (slice_index o 0)
+    let there : state_behind_content 58 (slice_index o 0)
     (state_of f (moment_at m (58 ∷ o) v.blank v.key v.allowed v.adjacent deeper) v.places) ≡ Ok (state_of f t qs) =
-    ap (λ (b : Bool). content 58 (slice_index o 0)
+    ap (λ (b : Bool). state_behind_content 58 (slice_index o 0)
     (state_of f (moment_at m (58 ∷ o) v.blank v.key b v.adjacent deeper) v.places)) allowed
-    ∙ ap (λ (k : Option Candidate). content 58 (slice_index o 0)
+    ∙ ap (λ (k : Option Candidate). state_behind_content 58 (slice_index o 0)
     (state_of f (moment_at m (58 ∷ o) v.blank k true v.adjacent deeper) v.places)) none ∙ made in
     let kept = kinds_append v.places (closed (empty_piece m tokens.Value) ∷ [])
     ∙ ap (λ (x : List Kind). x ++ tokens.Value ∷ []) v.are in
@@ -207,7 +207,7 @@ colon_step : (f : Frame) (r : Bool) (k : Candidate) (m : Marker) (o : List ℕ) 
     → step 58 (slice_index o 0) i (core_of f (moment_with r m (58 ∷ o) blank (Some k) a ad deeper))
     ≡ went (Open k.place (block_opening further) ∷ at_mark m tokens.Value ∷ [])
     (core_of (frame_behind further k.mark.col f) (behind_colon p.mark p.rest ad))
-unfolding step value.fetch value.behind_key value.of_key
+unfolding step value.value_steps value.behind_key value.of_key
 colon_step f r k m o h p blank a ad deeper further e far some i =
     let n : Moment = record (moment_with r m (58 ∷ o) blank (Some k) a ad deeper)
     { cursor = cursor_at o (along m 1) false } in
@@ -254,7 +254,7 @@ pub reads_colon : {limit : ℕ} {start : State} (f : Frame) (n : Moment) (ps oth
     → m.index + length (58 ∷ o) ≤ limit → n.adjacent ≤ m.index
     → Before limit start (layout.BehindKey k.col) (frame_behind further k.col f) (along m 1) o
     (ts ++ (key_kinds further ++ (us ++ tokens.Value ∷ [])))
-unfolding fetch content
+unfolding fetch state_behind_content
 reads_colon {limit} {start} f n ps others new key k m o ts us further e far v is first are candidate quiet here untabbed
     near right h count low =
     let l = lands_key f n (ps ++ new) m (58 ∷ o) here untabbed quiet near

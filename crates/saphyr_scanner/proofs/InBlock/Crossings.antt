@@ -9,7 +9,6 @@ use Rattle.saphyr_scalar.specs.Views.Cursor.{Cursor, along, next_line}
 use Rattle.saphyr_scalar.specs.Steps.Plain.{ends_line}
 use Rattle.saphyr_scalar.specs.Spelling.Plain.{past_white}
 use Rattle.saphyr_scalar.specs.Spelling.Spaces.{AreEach, joined, IsSeparation, IsSeparationLine, IsLineRest}
-use Rattle.saphyr_scalar.specs.Spelling.Tag.{AreIn}
 use Rattle.saphyr_scanner.specs.declared.engine.level.Context.{Context}
 use Rattle.saphyr_scanner.specs.Steps.Core.{is_block}
 use Rattle.saphyr_scanner.proofs.Flow.States.{crosses, IsFresh}

@@ -148,7 +148,8 @@ directive_line (TagPrefix handle prefix) t (written, directive, tail, handle_is,
       is =
           e ∙ ap (λ (x : List ℕ). x ++ tail) is.7;
       line =
-          subst IsLine (sym e) (both_lines directive tail (tag_line written prefix directive is) (tail_line tail tail_is));
+          subst IsLine (sym e)
+          (both_lines directive tail (tag_line written prefix directive is) (tail_line tail tail_is));
     }
 directive_line (Reserved name) t h = record { others = name ++ h.0; is = h.7; line = reserved_line name t h }
 

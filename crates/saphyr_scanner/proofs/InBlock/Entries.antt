@@ -21,7 +21,7 @@ use Rattle.saphyr_scanner.specs.Steps.Queue.{next, Place, Queue, closed, empty_p
 use Rattle.saphyr_scanner.specs.Steps.State.{State, acted}
 use Rattle.saphyr_scanner.specs.Grammar.Tokens as tokens
 use Rattle.saphyr_scanner.specs.Grammar.Tokens.{Kind}
-use Rattle.saphyr_scanner.specs.Steps.Fetch.{fetch, fetch_here, content, step}
+use Rattle.saphyr_scanner.specs.Steps.Fetch.{fetch, fetch_here, state_behind_content, step}
 use Rattle.saphyr_scanner.proofs.Leads.{Leads}
 use Rattle.saphyr_scanner.proofs.Json.States.{queue_of}
 use Rattle.saphyr_scanner.proofs.Json.Marks.{kinds, kinds_append}
@@ -109,7 +109,7 @@ tabs_and_dash o h = by_tabs h.tabs
 -- From a token a step leads on. Behind it no key is kept.
 pub steps_on : {limit : ℕ} {start : State} {ts : List Kind} (f g : Frame) (m : Marker) (y : List ℕ)
     (v : At limit start f m y ts) → BeginsToken m y → f.indent ≤ m.col + 1 → (n : Moment) (qs : List Place)
-    → content (slice_index y 0) (slice_index y 1)
+    → state_behind_content (slice_index y 0) (slice_index y 1)
     (state_of f (moment_at m y v.blank v.key v.allowed v.adjacent (deeper_at f v.deeper m)) v.places)
     ≡ Ok (state_of g n qs)
     → n.key ≡ None → n.cursor.mark.index ≤ limit → Leads limit (state_of g n qs) start
@@ -298,7 +298,7 @@ pub reads_dash : {limit : ℕ} {start : State} {ts : List Kind} (f : Frame) (m :
     → m.index + length (45 ∷ o) ≤ limit → (v : At limit start f m (45 ∷ o) ts) → v.allowed ≡ true
     → Before limit start (layout.BehindDash m.col) (frame_behind further m.col f) (along m 1) o
     (ts ++ dash_kinds further)
-unfolding content
+unfolding state_behind_content
 reads_dash {limit} {start} {ts} f m o further e far h count v allowed =
     let i = next (queue_of v.places) in
     let n = front_end h (along m 1) in
@@ -306,16 +306,16 @@ reads_dash {limit} {start} {ts} f m o further e far h count v allowed =
     let s = dash_step f m o h v.blank v.key v.adjacent deeper further e i in
     let g = frame_behind further m.col f in
     let t = behind_dash h.more n s.0 v.adjacent in
-    let made : content 45 (slice_index o 0)
+    let made : state_behind_content 45 (slice_index o 0)
     (state_of f (moment_at m (45 ∷ o) v.blank v.key true v.adjacent deeper) v.places)
     ≡ Ok (state_of g t (dash_places further m n v.places)) =
     ap (λ r. acted r (queue_of v.places)) s.1
     ∙ ap (λ (q : Queue). Ok (let r : State = record { core = core_of g t; queue = q } in r))
     (dash_performs further m n v.places) in
-    let there : content 45 (slice_index o 0)
+    let there : state_behind_content 45 (slice_index o 0)
     (state_of f (moment_at m (45 ∷ o) v.blank v.key v.allowed v.adjacent deeper) v.places)
     ≡ Ok (state_of g t (dash_places further m n v.places)) =
-    ap (λ (b : Bool). content 45 (slice_index o 0)
+    ap (λ (b : Bool). state_behind_content 45 (slice_index o 0)
     (state_of f (moment_at m (45 ∷ o) v.blank v.key b v.adjacent deeper) v.places)) allowed ∙ made in
     let size = ap length h.is ∙ length-append h.blanks (h.comment ++ h.more) in
     let inner = length-append h.comment h.more in

@@ -3,12 +3,12 @@ use Rattle.std.proofs.Common.{◌≡◌, ℕ, Bool, true, false, List, [], ◌�
 use Rattle.saphyr_scalar.specs.Steps.BlockRead.{spaces}
 use Rattle.saphyr_scalar.specs.Spelling.Spaces.{IsLastFiller}
 use Rattle.saphyr_scanner.specs.Grammar.Forest.{Properties, Directive, Node, Alias, Scalar, Seq, Map, Document, Forest}
-use Rattle.saphyr_scanner.specs.Grammar.BlockNodes.{Position, BehindDash, BehindMark, BehindKey, BehindMarker, AtStart, indent_at, sequence_indent_at, IsGapAt, AreSpacesAt, IsLead, IsLeftOut, IsFlowInBlock, IsBlockNode}
+use Rattle.saphyr_scanner.specs.Grammar.BlockNodes.{Position, BehindDash, BehindMark, BehindKey, BehindMarker, AtStart, indent_at, sequence_indent_at, AreSpacesAt, IsLead, IsLeftOut, IsFlowInBlock, IsBlockNode}
 use Rattle.saphyr_scanner.specs.Grammar.Layout as layout
 use Rattle.saphyr_scanner.specs.Grammar.Layout.{most_open, AreDirectives}
 use Rattle.saphyr_scanner.proofs.Flow.States.{IsInk}
 use Rattle.saphyr_scanner.proofs.Flow.Inks.{BeginsInk, properties_ink}
-use Rattle.saphyr_scanner.proofs.InBlock.Skips.{IsSkipped, nothing, skipped_append, filler_skipped, spaces_skipped, are_spaces_skipped, line_end_skipped}
+use Rattle.saphyr_scanner.proofs.InBlock.Skips.{gap_skipped, IsSkipped, nothing, skipped_append, filler_skipped, spaces_skipped, are_spaces_skipped, line_end_skipped}
 use Rattle.saphyr_scanner.proofs.InBlock.Statements.{Leaves}
 use Rattle.saphyr_scanner.proofs.InBlock.BehindIndicators.{dash_ink, further_ink, entries_ink, pairs_ink}
 use Rattle.saphyr_scanner.proofs.InBlock.Documents.Ends.{AreBlockDocuments}
@@ -63,14 +63,6 @@ token_behind w t k h = record {
 }
 
 -- ## Nodes
-
-gap_skipped : (place : Position) (gap : List ℕ) → IsGapAt place gap → IsSkipped gap
-gap_skipped place gap (inl (inl h)) = are_spaces_skipped 1 gap h
-gap_skipped place gap (inl (inr (end, filler, front, end_is, filler_is, front_is, e))) =
-    subst IsSkipped (sym e) (skipped_append end (filler ++ front) (line_end_skipped end end_is)
-    (skipped_append filler front (filler_skipped filler filler_is)
-    (are_spaces_skipped (indent_at place) front front_is)))
-gap_skipped place gap (inr h) = subst IsSkipped (sym h.1) nothing
 
 spaces_at_skipped : (place : Position) (white : List ℕ) → AreSpacesAt place white → IsSkipped white
 spaces_at_skipped place white (inl h) = are_spaces_skipped 1 white h

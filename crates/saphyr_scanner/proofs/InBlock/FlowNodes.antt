@@ -17,7 +17,7 @@ use Rattle.saphyr_scanner.specs.Grammar.Tokens.{Kind}
 use Rattle.saphyr_scanner.proofs.InFlow.States.{least_low}
 use Rattle.saphyr_scanner.proofs.Json.Marks.{kinds, kinds_append}
 use Rattle.saphyr_scanner.proofs.Flow.States as flow
-use Rattle.saphyr_scanner.proofs.Flow.States.{moved, past, crosses, EndsDocument, IsLeft, IsBehindRoot, Since, Reads, Closes, RootCloses}
+use Rattle.saphyr_scanner.proofs.Flow.States.{moved, past, crosses, EndsDocument, IsLeft, IsBehindRoot, Since, Reads}
 use Rattle.saphyr_scanner.proofs.Flow.Places.{moved_append, moved_count}
 use Rattle.saphyr_scanner.proofs.Flow.GapSteps.{past_low}
 use Rattle.saphyr_scanner.proofs.Flow.Fillers.{rest_past}

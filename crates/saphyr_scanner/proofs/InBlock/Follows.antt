@@ -12,7 +12,7 @@ use Rattle.saphyr_scanner.specs.Steps.Passing.{pass_gap, check_comment, goes_on_
 use Rattle.saphyr_scanner.specs.Steps.Queue.{Place}
 use Rattle.saphyr_scanner.specs.Steps.State.{State, carried}
 use Rattle.saphyr_scanner.specs.Steps.Unrolling.{unroll}
-use Rattle.saphyr_scanner.specs.Steps.Fetch.{fetch, fetch_here, arrive, fetch_within, within, settled, content}
+use Rattle.saphyr_scanner.specs.Steps.Fetch.{fetch, fetch_here, arrive, fetch_within, within, settled, state_behind_content}
 use Rattle.saphyr_scanner.proofs.Leads.{Leads, stay, onward}
 use Rattle.saphyr_scanner.proofs.Json.States.{queue_of}
 use Rattle.saphyr_scanner.proofs.Json.Marks.{chain}
@@ -197,7 +197,7 @@ far_enough i col true h = by_test (nat_le i col) refl
 pub begins_here : (f : Frame) (r : Bool) (m : Marker) (y : List ℕ) (blank : Bool) (key : Option Candidate) (a : Bool)
     (ad : ℕ) (deeper : Bool) (ps : List Place) → BeginsToken m y → f.indent ≤ m.col + 1
     → fetch_here (state_of f (moment_with r m y blank key a ad (deeper_at f deeper m)) ps)
-    ≡ content (slice_index y 0) (slice_index y 1)
+    ≡ state_behind_content (slice_index y 0) (slice_index y 1)
     (state_of f (moment_with r m y blank key a ad (deeper_at f deeper m)) ps)
 unfolding fetch_here
 begins_here f r m y blank key a ad deeper ps h far =

@@ -3,12 +3,12 @@ use Rattle.std.proofs.Common.{◌≡◌, ℕ, zero, suc, Bool, true, false, List
 use Rattle.saphyr_input.specs.Classes.{is_z, is_yaml_non_break}
 use Rattle.saphyr_input.specs.Places.{is_document_indicator}
 use Rattle.saphyr_scalar.specs.Steps.BlockRead.{spaces}
-use Rattle.saphyr_scalar.specs.Reading.Block.{Line}
+use Rattle.scalar_values.specs.Block.{Line}
 use Rattle.saphyr_scalar.specs.Spelling.Block as spelling
 use Rattle.saphyr_scalar.specs.Spelling.Block.{IsIndicator, no_digit, digit, IsChomping, strip, clip, keep, no_comment, comment, IsContent, AreLines, no_lines, empty, content, last, IsBody, leading, first, first_and_last, IsHeader, digit_first, chomping_first, IsBehind, IsBlockScalar}
-use Rattle.saphyr_scalar.specs.declared.reading.block.BlockStyle.{BlockStyle}
-use Rattle.saphyr_scalar.specs.declared.reading.block.BlockStyle.TheVariants as block
-use Rattle.saphyr_scalar.specs.declared.reading.block.Chomping.{Chomping}
+use Rattle.scalar_values.specs.declared.block.BlockStyle.{BlockStyle}
+use Rattle.scalar_values.specs.declared.block.BlockStyle.TheVariants as block
+use Rattle.scalar_values.specs.declared.block.Chomping.{Chomping}
 use Rattle.saphyr_scanner.specs.Grammar.Forest.{Style, Literal, Folded, Plain, SingleQuoted, DoubleQuoted}
 use Rattle.saphyr_scanner.specs.Grammar.BlockNodes.{IsBehindScalar, IsBlockScalarText, IsStyled}
 use Rattle.saphyr_scanner.proofs.InBlock.MarkedLines.{fed_marker}

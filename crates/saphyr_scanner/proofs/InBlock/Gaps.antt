@@ -8,13 +8,14 @@ use Rattle.saphyr_scalar.specs.declared.scalar.position.Marker.{Marker}
 use Rattle.saphyr_scalar.specs.Views.Cursor.{Cursor, along, next_line, refuse}
 use Rattle.saphyr_scalar.specs.declared.scalar.fault.Refusal.{Refusal}
 use Rattle.saphyr_scalar.specs.declared.scalar.fault.FaultText.TheVariants as fault
-use Rattle.saphyr_scanner.specs.Steps.Gap.{Passed, gap, comment, stop, is_tab_indentation, pass_gap}
+use Rattle.saphyr_scanner.specs.Steps.Gap.{Passed, gap, comment, stop, is_tab_indentation, passed_gap}
 use Rattle.saphyr_scanner.proofs.Flow.States.{IsInk, is_left_tab, past, past_comment}
 use Rattle.saphyr_scanner.proofs.InBlock.States.{IsStop, tabbed, tabbed_comment, IsUntabbed, crosses, crosses_comment}
 use Rattle.saphyr_input.proofs.Basics.Characters.{no_return_and}
 use Rattle.saphyr_input.proofs.Basics.Booleans.{or_false_left}
 use Rattle.std.proofs.Math.Bool.{or-false, or-true}
 use Rattle.saphyr_scanner.proofs.Flow.Gaps.{stop_ends}
+use Rattle.saphyr_scanner.proofs.Json.States.{stop_here}
 
 -- ## Where `gap` stops
 
@@ -118,12 +119,6 @@ mutual
       (comment_stops least (along m 1) blank broke tab cs) (gap_stops least (along m 1) blank broke tab cs)
       (gap_stops least (next_line m 1) true true false cs)
 
-stops_untabbed : (m : Marker) (blank broke : Bool) (t : List ℕ)
-    → stop m blank broke false t
-    ≡ Ok (record { cursor = record { rest = t; mark = m; blank_so_far = blank }; broke = broke })
-unfolding stop
-stops_untabbed m blank broke t = refl
-
 broke_by : (x y : Bool) (n : Marker) (q p : Passed)
     → (if x then refuse fault.MisplacedByteOrderMark n else if y then refuse fault.TabInBlockIndentation n else Ok q)
     ≡ Ok p → p.broke ≡ q.broke
@@ -153,7 +148,7 @@ past_stops m t = (gap_stops 0 m false false false t).stop
 -- what stands between two tokens is passed where no tab indents
 pub record PassesTo (least : ℕ) (s : Cursor) (m : Marker) (y : List ℕ) : Type 0 where
   pub blank : Bool
-  pub is : pass_gap least s
+  pub is : passed_gap least s
       ≡ Ok (let p : Passed = record {
         cursor =
             record { rest = y; mark = m; blank_so_far = blank };
@@ -169,7 +164,7 @@ passes_to least s m y here clean =
       is = g.is ∙ ap (λ (b : Bool). stop (past 0 s.mark s.rest).0 g.still_blank (crosses s.rest) b
           (past 0 s.mark s.rest).1) clean
           ∙ ap (λ (p : Marker × List ℕ). stop p.0 g.still_blank (crosses s.rest) false p.1) here
-          ∙ stops_untabbed m g.still_blank (crosses s.rest) y;
+          ∙ stop_here m g.still_blank (crosses s.rest) y;
     }
 
 -- ## Before a token
@@ -200,4 +195,4 @@ pub gap_still : (least : ℕ) (m : Marker) (blank : Bool) (y : List ℕ) → IsS
     → gap least m blank false false y
     ≡ Ok (let p : Passed = record { cursor = record { rest = y; mark = m; blank_so_far = blank }; broke = false } in
     p)
-gap_still least m blank y h = gap_stays least m blank y h ∙ stops_untabbed m blank false y
+gap_still least m blank y h = gap_stays least m blank y h ∙ stop_here m blank false y

@@ -4,15 +4,15 @@ use Rattle.std.specs.Prelude.{◌||◌, ◌==◌, not, Option, Some, None}
 use Rattle.std.proofs.lemmas.Bool.Decides.{nat_tests}
 use Rattle.std.proofs.lemmas.List.{length-append}
 use Rattle.saphyr_input.specs.Classes.{is_break}
-use Rattle.saphyr_scalar.specs.declared.reading.block.BlockStyle.{BlockStyle}
-use Rattle.saphyr_scalar.specs.declared.reading.block.BlockStyle.TheVariants as block_style
+use Rattle.scalar_values.specs.declared.block.BlockStyle.{BlockStyle}
+use Rattle.scalar_values.specs.declared.block.BlockStyle.TheVariants as block_style
 use Rattle.saphyr_scalar.specs.declared.scalar.position.Marker.{Marker}
 use Rattle.saphyr_scalar.specs.declared.scalar.position.Span.{Span}
 use Rattle.saphyr_scalar.specs.Steps.BlockRead.{spaces}
 use Rattle.saphyr_scalar.specs.Steps.Block as blocks
 use Rattle.saphyr_scalar.specs.Views.Cursor.{Cursor, ◌>>=◌}
 use Rattle.saphyr_scanner.specs.Steps.Core.{Core, Candidate, went, from_to, is_too_far, drop_far_key, least_column, save_key}
-use Rattle.saphyr_scanner.specs.Steps.Fetch.{fetch, fetch_here, fetch_within, within, content, step}
+use Rattle.saphyr_scanner.specs.Steps.Fetch.{fetch, fetch_here, fetch_within, within, state_behind_content, step}
 use Rattle.saphyr_scanner.specs.Grammar.Forest.{Style, Plain, SingleQuoted, DoubleQuoted, Literal, Folded}
 use Rattle.saphyr_scanner.specs.Grammar.BlockNodes.{IsBlockScalarText, IsStyled}
 use Rattle.saphyr_scanner.specs.Steps.Passing.{with_cursor}
@@ -80,17 +80,17 @@ reads_block f style m y blank key ad text span left e =
 block_step : (f : Frame) (style : BlockStyle) (m : Marker) (y : List ℕ) (blank : Bool) (key : Option Candidate)
     (a : Bool) (ad : ℕ) (deeper : Bool) (text : List ℕ) (span : Span) (left : Cursor)
     → f.indent ≤ m.col → blocks.block_scalar style f.indent (cursor_at y m blank) ≡ Ok (text, span, left) → (i : ℕ)
-    → scalar.block style i (core_of f (moment_at m y blank key a ad deeper))
+    → scalar.block_scalar_steps style i (core_of f (moment_at m y blank key a ad deeper))
     ≡ went (from_to span.start span.end (kind.Scalar (style_of style) text) ∷ [])
     (core_of f (behind_scalar left (saved a i m key) ad))
-unfolding scalar.block
+unfolding scalar.block_scalar_steps
 block_step f style m y blank key a ad deeper text span left low e i =
     ap (λ (c : Core). scalar.read_block style (record c { key_allowed = true; deeper = false }))
     (saves f m y blank key a ad deeper i low)
     ∙ reads_block f style m y blank (saved a i m key) ad text span left e
 
 at_sign : (f : Frame) (style : BlockStyle) (n : Moment) (second i : ℕ)
-    → step (sign style) second i (core_of f n) ≡ scalar.block style i (core_of f n)
+    → step (sign style) second i (core_of f n) ≡ scalar.block_scalar_steps style i (core_of f n)
 unfolding step
 at_sign f block_style.Literal n second i = refl
 at_sign f block_style.Folded n second i = refl
@@ -191,7 +191,7 @@ pub reads_scalar : ReadsBlocks
     → t ≡ sign style ∷ more → IsBlockScalarText style value f.indent t o → Fits limit m t o
     → IsBehind f.indent (moved m t) o → (v : At limit start f m (t ++ o) ts) → IsLate v.key m
     → Arrived limit start f (moved m t) o (ts ++ kind.Scalar (style_of style) (encode_utf8_all value) ∷ [])
-unfolding fetch content
+unfolding fetch state_behind_content
 reads_scalar laws {limit} {start} {ts} f style value m more t o short low begins is fits behind v late =
     let y = t ++ o in
     let start_is : y ≡ sign style ∷ (more ++ o) = ap (λ (x : List ℕ). x ++ o) begins in
@@ -211,7 +211,7 @@ reads_scalar laws {limit} {start} {ts} f style value m more t o short low begins
     ∙ at_sign f style (moment_at m y v.blank v.key v.allowed v.adjacent deeper) (slice_index y 1) i
     ∙ block_step f style m y v.blank v.key v.allowed v.adjacent deeper (encode_utf8_all value) b.span b.left low b.read
     i in
-    let made : content (slice_index y 0) (slice_index y 1)
+    let made : state_behind_content (slice_index y 0) (slice_index y 1)
     (state_of f (moment_at m y v.blank v.key v.allowed v.adjacent deeper) v.places) ≡ Ok (state_of f n qs) =
     ap (λ r. acted r (queue_of v.places)) stepped in
     let there : fetch (state_of f (moment_at m y v.blank v.key v.allowed v.adjacent v.deeper) v.places)

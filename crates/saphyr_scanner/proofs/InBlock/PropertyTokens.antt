@@ -7,7 +7,7 @@ use Rattle.saphyr_scalar.specs.Views.Cursor.{Cursor, ◌>>=◌, along}
 use Rattle.saphyr_scalar.specs.Steps.Quoted.{at}
 use Rattle.saphyr_scalar.specs.Spelling.Tag.{IsAnchorName, IsTagText, EndsTag}
 use Rattle.saphyr_scanner.specs.Steps.Core.{Core, Candidate, went, from_to, is_too_far, least_column}
-use Rattle.saphyr_scanner.specs.Steps.Fetch.{fetch, fetch_here, fetch_within, within, content, step}
+use Rattle.saphyr_scanner.specs.Steps.Fetch.{fetch, fetch_here, fetch_within, within, state_behind_content, step}
 use Rattle.saphyr_scanner.specs.Grammar.Forest.{Tag}
 use Rattle.saphyr_scanner.specs.Grammar.FlowNodes.{IsAnchor}
 use Rattle.saphyr_scanner.specs.Steps.Passing.{with_cursor}
@@ -79,7 +79,7 @@ token_read : {limit : ℕ} {start : State} {ts : List Kind} (f : Frame) (k : Kin
     (core_of f (moment_at m y v.blank v.key v.allowed v.adjacent deeper))
     ≡ went (from_to m n k ∷ []) (core_of f (moment_at n o false (saved v.allowed i m v.key) false v.adjacent deeper)))
     → n.index ≤ limit → m.index ≤ n.index → IsClean o → IsLate v.key m → TokenRead limit start f m n o (ts ++ k ∷ [])
-unfolding fetch content
+unfolding fetch state_behind_content
 token_read {limit} {start} {ts} f k m n y o v low begins steps limited onward clean late =
     let i = next (queue_of v.places) in
     let deeper = deeper_at f v.deeper m in
@@ -87,7 +87,7 @@ token_read {limit} {start} {ts} f k m n y o v low begins steps limited onward cl
     let qs = v.places ++ closed piece ∷ [] in
     let far = column_far f.indent m.col low in
     let here = moment_at n o false (saved v.allowed i m v.key) false v.adjacent deeper in
-    let made : content (slice_index y 0) (slice_index y 1)
+    let made : state_behind_content (slice_index y 0) (slice_index y 1)
     (state_of f (moment_at m y v.blank v.key v.allowed v.adjacent deeper) v.places) ≡ Ok (state_of f here qs) =
     ap (λ r. acted r (queue_of v.places)) (steps i deeper) in
     let there : fetch (state_of f (moment_at m y v.blank v.key v.allowed v.adjacent v.deeper) v.places)
@@ -141,10 +141,10 @@ fits_index m t o h = let below =
 
 anchor_step : Reads → (f : Frame) (m : Marker) (name o : List ℕ) (blank : Bool) (key : Option Candidate) (a : Bool)
     (ad : ℕ) (deeper : Bool) (i : ℕ) → f.indent ≤ m.col → IsAnchorName name → is_anchor_char (slice_index o 0) ≡ false
-    → property.name false i (core_of f (moment_at m (38 ∷ (name ++ o)) blank key a ad deeper))
+    → property.name_steps false i (core_of f (moment_at m (38 ∷ (name ++ o)) blank key a ad deeper))
     ≡ went (from_to m (moved m (38 ∷ name)) (anchor_token name) ∷ [])
     (core_of f (moment_at (moved m (38 ∷ name)) o false (saved a i m key) false ad deeper))
-unfolding property.name property.read_name
+unfolding property.name_steps property.read_name
 anchor_step reads f m name o blank key a ad deeper i low h ends =
     let y = 38 ∷ (name ++ o) in
     let c = core_of f (moment_at m y blank (saved a i m key) false ad deeper) in
@@ -187,10 +187,10 @@ anchor_reads reads {limit} {start} f name t (h, e) =
 
 tag_step : Reads → (f : Frame) (m : Marker) (t handle suffix o : List ℕ) (blank : Bool) (key : Option Candidate)
     (a : Bool) (ad : ℕ) (deeper : Bool) (i : ℕ) → f.indent ≤ m.col → IsTagText t handle suffix → EndsTag false o
-    → property.tag i (core_of f (moment_at m (t ++ o) blank key a ad deeper))
+    → property.tag_steps i (core_of f (moment_at m (t ++ o) blank key a ad deeper))
     ≡ went (from_to m (moved m t) (kind.Tag (encode_utf8_all handle) (encode_utf8_all suffix)) ∷ [])
     (core_of f (moment_at (moved m t) o false (saved a i m key) false ad deeper))
-unfolding property.tag property.read_tag
+unfolding property.tag_steps property.read_tag
 tag_step reads f m t handle suffix o blank key a ad deeper i low h ends =
     let c = core_of f (moment_at m (t ++ o) blank (saved a i m key) false ad deeper) in
     let token = λ (x : List ℕ × List ℕ × Cursor). went (from_to m x.2.mark (kind.Tag x.0 x.1) ∷ [])

@@ -15,7 +15,7 @@ use Rattle.saphyr_scanner.specs.Steps.Queue.{next, Place, Queue, closed, empty_p
 use Rattle.saphyr_scanner.specs.Steps.State.{State, acted}
 use Rattle.saphyr_scanner.specs.Grammar.Tokens as tokens
 use Rattle.saphyr_scanner.specs.Grammar.Tokens.{Kind}
-use Rattle.saphyr_scanner.specs.Steps.Fetch.{content, step}
+use Rattle.saphyr_scanner.specs.Steps.Fetch.{state_behind_content, step}
 use Rattle.saphyr_scanner.specs.Grammar.BlockNodes as layout
 use Rattle.saphyr_scanner.proofs.Json.States.{queue_of}
 use Rattle.saphyr_scanner.proofs.Json.Marks.{kinds, kinds_append}
@@ -102,7 +102,7 @@ behind_question n y blank ad deeper = moment_at n y blank None true ad deeper
 
 passes_mark : (g : Frame) (m : Marker) (o : List ℕ) (blank : Bool) (ad : ℕ) (deeper : Bool) → BeginsWhite o
     → has_tab o ≡ false
-    → (b : Bool) × (block.pass_mark (core_of g (moment_at m (63 ∷ o) blank None true ad deeper))
+    → (b : Bool) × (block.pass_question (core_of g (moment_at m (63 ∷ o) blank None true ad deeper))
     ≡ Ok (core_of g (behind_question (past 0 (along m 1) o).0 (past 0 (along m 1) o).1 b ad deeper)))
 unfolding block.behind_mark
 passes_mark g m o blank ad deeper h clean =
@@ -129,7 +129,7 @@ question_step f m o blank key ad deeper further e h clean i =
     let p = passes_mark g m o blank ad r.0 h clean in
     let first = white_first o h in
     let last = core_of g (behind_question (past 0 (along m 1) o).0 (past 0 (along m 1) o).1 p.0 ad r.0) in
-    let begun = ap (λ q. q >>= λ (d : Core). block.pass_mark (record d { key_allowed = in_block d })) r.1 ∙ p.1 in (
+    let begun = ap (λ q. q >>= λ (d : Core). block.pass_question (record d { key_allowed = in_block d })) r.1 ∙ p.1 in (
       p.0,
       r.0,
       rw first (ap (λ q. q >>= λ (d : Core). went
@@ -181,7 +181,7 @@ pub reads_question : {limit : ℕ} {start : State} {ts : List Kind} (f : Frame) 
     → m.index + length (63 ∷ o) ≤ limit → (v : At limit start f m (63 ∷ o) ts) → v.allowed ≡ true
     → Before limit start (layout.BehindMark m.col) (frame_behind further m.col f) (along m 1) o
     (ts ++ key_kinds further)
-unfolding content
+unfolding state_behind_content
 reads_question {limit} {start} {ts} f m o further e far h clean count v allowed =
     let i = next (queue_of v.places) in
     let deeper = deeper_at f v.deeper m in
@@ -191,14 +191,14 @@ reads_question {limit} {start} {ts} f m o further e far h clean count v allowed 
     let y = (past 0 (along m 1) o).1 in
     let t = behind_question n y s.0 v.adjacent s.1 in
     let qs = mark_places further m n v.places in
-    let made : content 63 (slice_index o 0)
+    let made : state_behind_content 63 (slice_index o 0)
     (state_of f (moment_at m (63 ∷ o) v.blank v.key true v.adjacent deeper) v.places) ≡ Ok (state_of g t qs) =
     ap (λ r. acted r (queue_of v.places)) s.2
     ∙ ap (λ (q : Queue). Ok (let r : State = record { core = core_of g t; queue = q } in r))
     (mark_performs further m n v.places) in
-    let there : content 63 (slice_index o 0)
+    let there : state_behind_content 63 (slice_index o 0)
     (state_of f (moment_at m (63 ∷ o) v.blank v.key v.allowed v.adjacent deeper) v.places) ≡ Ok (state_of g t qs) =
-    ap (λ (b : Bool). content 63 (slice_index o 0)
+    ap (λ (b : Bool). state_behind_content 63 (slice_index o 0)
     (state_of f (moment_at m (63 ∷ o) v.blank v.key b v.adjacent deeper) v.places)) allowed ∙ made in
     let counted = past_count 0 (along m 1) o in
     let stop = past_stops (along m 1) o in

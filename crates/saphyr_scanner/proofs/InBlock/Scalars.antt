@@ -20,7 +20,7 @@ use Rattle.saphyr_scanner.proofs.Flow.Places.{moved_append}
 use Rattle.saphyr_scanner.proofs.Flow.Tags.{tag_read}
 use Rattle.saphyr_scanner.proofs.LineTexts.{name_no_break, tag_no_break}
 use Rattle.saphyr_scanner.proofs.InBlock.States.{Frame, IsPlaced, At, Before}
-use Rattle.saphyr_scanner.proofs.InBlock.Skips.{IsSkipped, nothing, skipped_append, line_end_skipped, filler_skipped, are_spaces_skipped}
+use Rattle.saphyr_scanner.proofs.InBlock.Skips.{gap_skipped}
 use Rattle.saphyr_scanner.proofs.InBlock.Lines.{Fits, fits_front, fits_so}
 use Rattle.saphyr_scanner.proofs.InBlock.Statements.{context_at, IsBehind, Arrived, NodeRead, ReadsAt}
 use Rattle.saphyr_scanner.proofs.InBlock.Texts.{spaces_moved, indentation_col, reaches}
@@ -29,14 +29,6 @@ use Rattle.saphyr_scanner.proofs.InBlock.ScalarTexts.{ReadsBlocks, sign_ink}
 use Rattle.saphyr_scanner.proofs.InBlock.HeaderScalars.{IsLate, reads_behind}
 
 -- ## The gap before it
-
-gap_skipped : (place : Position) (gap : List ℕ) → IsGapAt place gap → IsSkipped gap
-gap_skipped place gap (inl (inl h)) = are_spaces_skipped 1 gap h
-gap_skipped place gap (inl (inr (end, filler, front, end_is, filler_is, front_is, e))) =
-    subst IsSkipped (sym e) (skipped_append end (filler ++ front) (line_end_skipped end end_is)
-    (skipped_append filler front (filler_skipped filler filler_is)
-    (are_spaces_skipped (indent_at place) front front_is)))
-gap_skipped place gap (inr (first, e)) = subst IsSkipped (sym e) nothing
 
 pub spaces_reach : (place : Position) (m : Marker) (n : ℕ) → 1 ≤ n → IsPlaced place m → indent_at place ≤ m.col + n
 spaces_reach (layout.BehindDash c) m n some placed = omega (arith, some, placed)

@@ -8,6 +8,7 @@ use Rattle.saphyr_scalar.specs.Steps.BlockRead.{spaces}
 use Rattle.saphyr_scalar.specs.Views.Cursor.{along, next_line}
 use Rattle.saphyr_scalar.specs.Spelling.Tag.{AreIn}
 use Rattle.saphyr_scalar.specs.Spelling.Spaces.{AreEach, AreSpaces, joined, IsComment, IsLineRest, IsLineEnd, IsFillerLine, IsFiller}
+use Rattle.saphyr_scanner.specs.Grammar.BlockNodes.{Position, indent_at, IsGapAt}
 use Rattle.saphyr_scanner.specs.Steps.Gap as gap
 use Rattle.saphyr_scanner.specs.Steps.Gap.{is_tab_indentation}
 use Rattle.saphyr_scanner.proofs.Flow.States.{moved, past, past_comment}
@@ -363,3 +364,12 @@ spaces_reach m blank c t (inr e) clean =
       subst (λ (x : ℕ). gap.spaces m blank false (x ∷ t)
           ≡ gap.spaced (past 0 m (x ∷ t)).0 p.still_blank true (past 0 m (x ∷ t)).1) (sym e) (p.is ∙ last),
     )
+
+-- what parts a node from what stands before it
+pub gap_skipped : (place : Position) (gap : List ℕ) → IsGapAt place gap → IsSkipped gap
+gap_skipped place gap (inl (inl h)) = are_spaces_skipped 1 gap h
+gap_skipped place gap (inl (inr (end, filler, front, end_is, filler_is, front_is, e))) =
+    subst IsSkipped (sym e) (skipped_append end (filler ++ front) (line_end_skipped end end_is)
+    (skipped_append filler front (filler_skipped filler filler_is)
+    (are_spaces_skipped (indent_at place) front front_is)))
+gap_skipped place gap (inr (first, e)) = subst IsSkipped (sym e) nothing

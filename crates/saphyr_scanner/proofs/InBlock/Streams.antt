@@ -6,9 +6,9 @@ use Rattle.saphyr_scalar.specs.Views.Cursor.{fresh}
 use Rattle.saphyr_scalar.specs.Spelling.Tag.{AreIn}
 use Rattle.saphyr_scanner.specs.Grammar.Forest.{Forest}
 use Rattle.saphyr_scanner.specs.Grammar.Layout as layout
-use Rattle.saphyr_scanner.specs.Grammar.Layout.{has_marker, AreDirectives, IsDocumentPrefix, IsDocumentSuffix, IsLayout, most_open}
+use Rattle.saphyr_scanner.specs.Grammar.Layout.{IsDocumentPrefix, IsLayout, most_open}
 use Rattle.saphyr_scanner.specs.Grammar.Tokens as tokens
-use Rattle.saphyr_scanner.specs.Grammar.Tokens.{Kind, directive_token}
+use Rattle.saphyr_scanner.specs.Grammar.Tokens.{Kind}
 use Rattle.saphyr_scanner.specs.Grammar.TokenGrammar as grammar
 use Rattle.saphyr_scanner.specs.Grammar.TokenGrammar.{AreEndsAndMarks, Yields}
 use Rattle.saphyr_scanner.specs.Steps.State.{State, start}

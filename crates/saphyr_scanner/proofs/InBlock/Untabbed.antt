@@ -1,5 +1,5 @@
--- Where no tab stands left of a column on the line of a token, what is passed up to the next token doesn't depend on the
--- column.
+-- Where no tab stands left of a column on the line of a token, what is passed up to the next token doesn't depend on
+-- the column.
 use Rattle.std.proofs.Common.{◌≡◌, ℕ, ◌≤◌, Bool, true, false, List, [], ◌∷◌, slice_index, refl, sym, ◌∙◌, subst}
 use Rattle.std.specs.Prelude.{◌||◌, ◌&&◌, ◌==◌, not, nat_lt}
 use Rattle.saphyr_input.specs.Classes.{is_blank, is_break, is_yaml_non_break}

@@ -12,7 +12,7 @@ use Rattle.saphyr_scanner.specs.Steps.Queue.{Place, Queue}
 use Rattle.saphyr_scanner.specs.Steps.Core.{Candidate, Level, is_block, from_to, went}
 use Rattle.saphyr_scanner.specs.Steps.Flow.{close_collection, ends_pair}
 use Rattle.saphyr_scanner.specs.Steps.State.{State, carried, acted}
-use Rattle.saphyr_scanner.specs.Steps.Fetch.{step, content, fetch_here, fetch, within, fetch_within}
+use Rattle.saphyr_scanner.specs.Steps.Fetch.{step, state_behind_content, fetch_here, fetch, within, fetch_within}
 use Rattle.saphyr_scanner.proofs.Leads.{Leads, stay, onward}
 use Rattle.saphyr_scanner.proofs.Json.States.{queue_of, none_before}
 use Rattle.saphyr_scanner.proofs.Json.Marks.{chain, kinds, kinds_append, level_of}
@@ -119,7 +119,7 @@ shut : (around : Around) → around.pending ≡ around.required → (b : Bracket
     → past around.indent s.mark s.rest ≡ past around.indent e (b.closing ∷ colon_text n r)
     → Closed around (state_at (calmed around) s inside j (level_of context.Block (Some k) ∷ []) a ad qs d) k qs
     (ends_pair inside) b.closes e (moved (along e 1) (spaces n)) r ad d
-unfolding fetch content fetch_within
+unfolding fetch state_behind_content fetch_within
 shut around same b are inside flows closing k j a ad qs s d e n r text right at =
     let o = colon_text n r in
     let ls = level_of context.Block (Some k) ∷ [] in

@@ -35,35 +35,36 @@ first_at around d s n ad =
     core_at (keyed around d s.mark) d s context.Block (Some (record { mark = s.mark; place = n })) [] false ad
 
 name_fresh : (is_alias : Bool) (around : Around) (d : Bool) (s : Cursor) (k : Option Candidate) (ad n : ℕ)
-    → property.name is_alias n (core_at around d s context.Block k [] true ad)
-    ≡ property.name is_alias n (first_at around d s n ad)
-unfolding property.name
+    → property.name_steps is_alias n (core_at around d s context.Block k [] true ad)
+    ≡ property.name_steps is_alias n (first_at around d s n ad)
+unfolding property.name_steps
 name_fresh is_alias around d s k ad n = refl
 
 tag_fresh : (around : Around) (d : Bool) (s : Cursor) (k : Option Candidate) (ad n second : ℕ)
     → step 33 second n (core_at around d s context.Block k [] true ad) ≡ step 33 second n (first_at around d s n ad)
-unfolding step property.tag
+unfolding step property.tag_steps
 tag_fresh around d s k ad n second = refl
 
 single_fresh : (around : Around) (d : Bool) (s : Cursor) (k : Option Candidate) (ad n second : ℕ)
     → step 39 second n (core_at around d s context.Block k [] true ad) ≡ step 39 second n (first_at around d s n ad)
-unfolding step scalar.single_quoted
+unfolding step scalar.single_quoted_steps
 single_fresh around d s k ad n second = refl
 
 double_fresh : (around : Around) (d : Bool) (s : Cursor) (k : Option Candidate) (ad n second : ℕ)
     → step 34 second n (core_at around d s context.Block k [] true ad) ≡ step 34 second n (first_at around d s n ad)
-unfolding step scalar.double_quoted
+unfolding step scalar.double_quoted_steps
 double_fresh around d s k ad n second = refl
 
 plain_fresh : (around : Around) (d : Bool) (s : Cursor) (k : Option Candidate) (ad n : ℕ)
-    → scalar.plain n (core_at around d s context.Block k [] true ad) ≡ scalar.plain n (first_at around d s n ad)
-unfolding scalar.plain
+    → scalar.plain_steps n (core_at around d s context.Block k [] true ad)
+    ≡ scalar.plain_steps n (first_at around d s n ad)
+unfolding scalar.plain_steps
 plain_fresh around d s k ad n = refl
 
 start_fresh : (y : Context) (kind : Kind) (around : Around) (d : Bool) (s : Cursor) (k : Option Candidate) (ad n : ℕ)
-    → flow.start y kind n (core_at around d s context.Block k [] true ad)
-    ≡ flow.start y kind n (first_at around d s n ad)
-unfolding flow.start open_collection
+    → flow.opening_steps y kind n (core_at around d s context.Block k [] true ad)
+    ≡ flow.opening_steps y kind n (first_at around d s n ad)
+unfolding flow.opening_steps open_collection
 start_fresh y kind around d s k ad n = refl
 
 fresh_so : (around : Around) (t u : List ℕ) → t ≡ u → Fresh around u → Fresh around t

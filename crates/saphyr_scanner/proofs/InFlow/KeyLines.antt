@@ -15,7 +15,7 @@ use Rattle.saphyr_scanner.specs.Steps.Core.{Candidate, Level, is_too_far, drop_f
 use Rattle.saphyr_scanner.specs.Steps.Passing.{pass_gap, check_comment, behind_gap}
 use Rattle.saphyr_scanner.specs.Steps.State.{State, carried, acted}
 use Rattle.saphyr_scanner.specs.Steps.Unrolling.{unroll}
-use Rattle.saphyr_scanner.specs.Steps.Fetch.{step, content, fetch_here, arrive, fetch, within, fetch_within}
+use Rattle.saphyr_scanner.specs.Steps.Fetch.{step, state_behind_content, fetch_here, arrive, fetch, within, fetch_within}
 use Rattle.saphyr_scanner.proofs.Leads.{Leads, stay, onward}
 use Rattle.saphyr_scanner.proofs.Json.States.{queue_of, none_before, stop_here}
 use Rattle.saphyr_scanner.proofs.Json.Brackets.{place_of}
@@ -109,7 +109,8 @@ pub record Ready (around : Around) (start : State) (k : Candidate) (t : List ℕ
 begins_low : (around : Around) (d : Bool) (s : Cursor) (k : Option Candidate) (a : Bool) (ad : ℕ) (ps : List Place)
     → BeginsToken s.mark s.rest → nat_lt s.mark.col (least around.indent d) ≡ false
     → fetch_here (state_at around s context.Block k [] a ad ps d)
-    ≡ content (slice_index s.rest 0) (slice_index s.rest 1) (state_at around s context.Block k [] a ad ps d)
+    ≡ state_behind_content (slice_index s.rest 0) (slice_index s.rest 1)
+    (state_at around s context.Block k [] a ad ps d)
 unfolding fetch_here
 begins_low around d s k a ad ps h right =
     let n = and_or_false (s.mark.col == 0) (is_document_start s.rest) (is_document_end s.rest) h.marker in
@@ -125,7 +126,7 @@ pub later_ready : (around : Around) (d : Bool) (s : Cursor) (k : Candidate) (ad 
     (c : ℕ) (cs : List ℕ) → s.rest ≡ w ++ (c ∷ cs) → AreIn is_blank w → IsInk c
     → around.indent ≤ s.mark.col → IsNear k (moved s.mark w) → BeginsToken (moved s.mark w) (c ∷ cs)
     → Ready around (state_at around s context.Block (Some k) [] false ad ps d) k (c ∷ cs) (moved s.mark w) ad ps
-unfolding fetch content
+unfolding fetch state_behind_content
 later_ready around d s k ad ps w c cs is are ink right near token =
     let n = moved s.mark w in
     let there = cursor_at (c ∷ cs) n s.blank_so_far in
@@ -196,7 +197,7 @@ pub first_ready : (around : Around) → around.pending ≡ false
     → Ready (keyed around (deeper_at around d m) m)
     (state_at around (cursor_at (c ∷ cs) m blank) context.Block k [] true ad ps d)
     (record { mark = m; place = length ps }) (c ∷ cs) m ad ps
-unfolding fetch arrive pass_gap check_comment unroll content
+unfolding fetch arrive pass_gap check_comment unroll state_behind_content
 first_ready around calm d blank k ad ps m c cs ink right token fresh =
     let there = cursor_at (c ∷ cs) m blank in
     let here = core_at around d there context.Block k [] true ad in

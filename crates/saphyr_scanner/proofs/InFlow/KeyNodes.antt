@@ -131,8 +131,8 @@ content_key reads around start p style value k qs front content n r e ad (inr (t
       along = along_joins f.along c;
     })
 
-pub scalar_key : Reads → (around : Around) (start : State) (p : Properties) (style : Style) (value : List ℕ) (k : Candidate)
-    (qs : List Place) (t : List ℕ) (n : ℕ) (r : List ℕ) (e : Marker) (ad : ℕ)
+pub scalar_key : Reads → (around : Around) (start : State) (p : Properties) (style : Style) (value : List ℕ)
+    (k : Candidate) (qs : List Place) (t : List ℕ) (n : ℕ) (r : List ℕ) (e : Marker) (ad : ℕ)
     → IsScalarNode p style value false around.indent t → IsBeforeColon (Scalar p style value) (spaces n)
     → is_blank_or_breakz (slice_index r 0) ≡ true → InKey around k e (t ++ spaces n) (58 ∷ r) → ad ≤ e.index
     → Ready around start k (t ++ colon_text n r) e ad qs

@@ -3,10 +3,10 @@ use Rattle.std.proofs.Common.{◌≡◌, ◌≢◌, ℕ, zero, suc, ◌≤◌, B
 use Rattle.std.specs.Prelude.{◌==◌, Option, Some, None}
 use Rattle.saphyr_input.specs.Classes.{is_blank, is_blank_or_breakz}
 use Rattle.saphyr_scalar.specs.declared.scalar.position.Marker.{Marker}
-use Rattle.saphyr_scalar.specs.declared.reading.flow.Quote.{Quote}
-use Rattle.saphyr_scalar.specs.declared.reading.flow.Quote.TheVariants.{Single, Double}
+use Rattle.scalar_values.specs.declared.flow.Quote.{Quote}
+use Rattle.scalar_values.specs.declared.flow.Quote.TheVariants.{Single, Double}
 use Rattle.saphyr_scalar.specs.Views.Cursor.{Cursor, ◌>>=◌, along}
-use Rattle.saphyr_scalar.specs.Reading.Flow.{mark, plain_value}
+use Rattle.scalar_values.specs.Flow.{mark, plain_value}
 use Rattle.saphyr_scalar.specs.Steps.Quoted.{at}
 use Rattle.saphyr_scalar.specs.Steps.Plain.{in_word, comment_of}
 use Rattle.saphyr_scalar.specs.Spelling.Plain.{is_tabbed, past_white, EndsPlain, IsPlainText}

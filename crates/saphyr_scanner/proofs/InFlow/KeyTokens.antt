@@ -210,7 +210,8 @@ ends_there {around} {start} {k} {qs} e c cs b behind w y ad kind deeper h is are
 
 pub name_along : Reads → (around : Around) (start : State) (k : Candidate) (qs : List Place) (is_alias : Bool)
     (indicator : ℕ) (name b behind w y : List ℕ) (e : Marker) (ad : ℕ)
-    → ((second n : ℕ) (c : Core) → step indicator second n c ≡ property.name is_alias n c) → is_break indicator ≡ false
+    → ((second n : ℕ) (c : Core) → step indicator second n c ≡ property.name_steps is_alias n c)
+    → is_break indicator ≡ false
     → IsAnchorName name → is_anchor_char (slice_index (b ++ behind) 0) ≡ false
     → InKey around k e ((indicator ∷ name) ++ b) behind → b ++ behind ≡ w ++ y → AreIn is_blank w → ad ≤ e.index
     → Ready around start k ((indicator ∷ name) ++ (b ++ behind)) e ad qs

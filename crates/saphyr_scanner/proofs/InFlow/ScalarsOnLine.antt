@@ -2,9 +2,9 @@
 use Rattle.std.proofs.Common.{◌≡◌, ℕ, ◌≤◌, Bool, true, false, List, [], ◌∷◌, ◌++◌, drop, slice_index, refl, sym, ap, ◌∙◌, arith, subst, append_assoc, IsTrue, ◌⊎◌, inl, inr}
 use Rattle.std.specs.Prelude.{◌==◌, not}
 use Rattle.saphyr_input.specs.Classes.{is_blank, is_break, line_feed}
-use Rattle.saphyr_scalar.specs.declared.reading.folding.Item.{Item}
-use Rattle.saphyr_scalar.specs.declared.reading.flow.Quote.{Quote}
-use Rattle.saphyr_scalar.specs.declared.reading.flow.Quote.TheVariants.{Single, Double}
+use Rattle.scalar_values.specs.declared.folding.Item.{Item}
+use Rattle.scalar_values.specs.declared.flow.Quote.{Quote}
+use Rattle.scalar_values.specs.declared.flow.Quote.TheVariants.{Single, Double}
 use Rattle.saphyr_scalar.specs.Steps.BlockRead.{spaces}
 use Rattle.saphyr_scalar.specs.Steps.Quoted.{break_len}
 use Rattle.saphyr_scalar.specs.Spelling.Quoted.{IsText, closed, itself, broken, two_quotes, escaped, numbered, escaped_break}
@@ -180,8 +180,8 @@ plain_key_node_lowers i j low (Scalar p style value) f t line (front, content, p
   e,
 )
 
-pub text_lowers : (i j : ℕ) → j ≤ i → (node : Node) (f : Bool) (K L : List ℕ → Type 0) (t separation : List ℕ) → IsOnLine t
-    → (K t → L t) → IsKeyText K node f i t separation → IsKeyText L node f j t separation
+pub text_lowers : (i j : ℕ) → j ≤ i → (node : Node) (f : Bool) (K L : List ℕ → Type 0) (t separation : List ℕ)
+    → IsOnLine t → (K t → L t) → IsKeyText K node f i t separation → IsKeyText L node f j t separation
 text_lowers i j low node f K L t separation line k (inl h) = inl (k h)
 text_lowers i j low node f K L t separation line k (inr (h, none)) =
     inr (plain_key_node_lowers i j low node f t line h, none)

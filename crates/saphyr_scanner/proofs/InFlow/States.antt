@@ -298,9 +298,9 @@ plain_placed around x a m (behind_key b e) = rw b refl
 
 pub starts : (y : Context) (kind : Kind) (n : ℕ) (around : Around) (d : Bool) (s : Cursor) (x : Context)
     (k : Option Candidate) (ls : List Level) (a : Bool) (ad : ℕ) → Placed around x a s.mark
-    → flow.start y kind n (core_at around d s x k ls a ad)
+    → flow.opening_steps y kind n (core_at around d s x k ls a ad)
     ≡ open_collection y kind (core_at around (deepened around x d) s x (saved a n s.mark k) ls a ad)
-unfolding flow.start
+unfolding flow.opening_steps
 starts y kind n around d s x k ls a ad h =
     ap (λ (c : Core). open_collection y kind (go_deeper c)) (saves_key n around d s x k ls a ad h)
 

@@ -13,7 +13,7 @@ use Rattle.saphyr_scanner.specs.Steps.Queue.{Place, closed}
 use Rattle.saphyr_scanner.specs.Steps.Core.{Candidate, Level, Core, go_deeper, is_block, from_to, up_to_here, went, remove_key}
 use Rattle.saphyr_scanner.specs.Steps.Passing.{with_cursor}
 use Rattle.saphyr_scanner.specs.Steps.Flow as flow
-use Rattle.saphyr_scanner.specs.Steps.Flow.{open_collection, close_collection, next_entry, allow_adjacent, behind_pair}
+use Rattle.saphyr_scanner.specs.Steps.Flow.{open_collection, close_collection, next_flow_entry, allow_adjacent, behind_pair}
 use Rattle.saphyr_scanner.specs.Steps.Fetch.{step}
 use Rattle.saphyr_scanner.proofs.Json.States.{skip, IsClean, total, core_at, state_at, arrives, IsContent, one}
 use Rattle.saphyr_scanner.proofs.Json.Marks.{Passes, once, Separates, separates, saved, saves_key, goes_deeper, level_of, not_full}
@@ -27,9 +27,9 @@ place_of a b kind = closed (record { span = record { start = a; end = b }; kind 
 
 pub starts : (y : Context) (kind : Kind) (n : ℕ) (s : Cursor) (x : Context) (k : Option Candidate) (ls : List Level)
     (a : Bool) (ad : ℕ)
-    → flow.start y kind n (core_at false s x k ls a ad)
+    → flow.opening_steps y kind n (core_at false s x k ls a ad)
     ≡ open_collection y kind (core_at false s x (saved a n s.mark k) ls a ad)
-unfolding flow.start
+unfolding flow.opening_steps
 starts y kind n s x k ls a ad =
     ap (λ (c : Core). open_collection y kind (go_deeper c)) (saves_key n s x k ls a ad)
     ∙ ap (open_collection y kind) (goes_deeper s x (saved a n s.mark k) ls a ad)
@@ -57,7 +57,7 @@ further m ch r n t e f = omega (arith, e, f)
 -- a bracket that opens a collection
 pub open_passes : (limit n : ℕ) → n ≤ limit → (y : Context) (kind : Kind) (ch : ℕ) (r o : List ℕ) → IsContent (ch ∷ r)
     → IsClean (ch ∷ r)
-    → ((second i : ℕ) (c : Core) → step ch second i c ≡ flow.start y kind i c)
+    → ((second i : ℕ) (c : Core) → step ch second i c ≡ flow.opening_steps y kind i c)
     → (s : Cursor) (x : Context) (k : Option Candidate) (ls : List Level) (a : Bool) (ad : ℕ) (ps : List Place)
     → total s ≡ n → skip s.rest ≡ ch ∷ r → skip r ≡ skip o → IsClean (skip o) → length ls < 255
     → (j : Option Candidate)
@@ -128,10 +128,10 @@ collection false = context.FlowMapping
 
 parts : (is_sequence : Bool) (r : List ℕ) (m : Marker) (b : Bool) (k : Option Candidate) (ls : List Level) (a : Bool)
     (ad : ℕ) (p : Separates (cursor_at r (along m 1) false))
-    → flow.entry (core_at false (cursor_at (44 ∷ r) m b) (collection is_sequence) k ls a ad)
+    → flow.flow_entry_steps (core_at false (cursor_at (44 ∷ r) m b) (collection is_sequence) k ls a ad)
     ≡ went (from_to m p.there.mark tokens.FlowEntry ∷ [])
     (core_at false p.there (collection is_sequence) None ls true ad)
-unfolding flow.entry remove_key next_entry
+unfolding flow.flow_entry_steps remove_key next_flow_entry
 parts true r m b k ls a ad p =
     let c = core_at false (cursor_at r (along m 1) false) context.FlowSequence None ls true ad in
     ap (λ q. (q >>= λ (d : SkipTabs × Cursor). Ok (d.0, with_cursor d.1 c)) >>= λ (d : SkipTabs × Core). went
@@ -141,7 +141,7 @@ parts false r m b k ls a ad p =
     ap (λ q. (q >>= λ (d : SkipTabs × Cursor). Ok (d.0, with_cursor d.1 c)) >>= λ (d : SkipTabs × Core). went
     (behind_pair false m (up_to_here m tokens.FlowEntry d.1)) d.1) p.is
 
-pub comma_begins : (second i : ℕ) (c : Core) → step 44 second i c ≡ flow.entry c
+pub comma_begins : (second i : ℕ) (c : Core) → step 44 second i c ≡ flow.flow_entry_steps c
 unfolding step
 comma_begins second i c = refl
 

@@ -1,7 +1,6 @@
 -- The colon of JSON is read, behind the name of a member.
 use Rattle.std.proofs.Common.{◌≡◌, ℕ, ◌+◌, ◌-◌, ◌≤◌, Bool, true, false, List, [], ◌∷◌, ◌++◌, length, slice_index, Ok, refl, sym, ap, ◌∙◌, arith, subst, append_assoc}
 use Rattle.std.specs.Prelude.{◌==◌, Option, Some, None}
-use Rattle.std.proofs.lemmas.Bool.Decides.{nat_tests}
 use Rattle.saphyr_input.specs.Classes.{is_blank_or_breakz, is_flow}
 use Rattle.saphyr_input.specs.declared.input.SkipTabs.{SkipTabs}
 use Rattle.saphyr_scalar.specs.declared.scalar.position.Marker.{Marker}
@@ -17,7 +16,7 @@ use Rattle.saphyr_scanner.specs.Steps.Queue.{Place, closed, opened, empty_piece}
 use Rattle.saphyr_scanner.specs.Steps.Core.{Candidate, is_block, Level, Core, Put, Open, Steps, at_mark, went, perform}
 use Rattle.saphyr_scanner.specs.Steps.Passing.{with_cursor}
 use Rattle.saphyr_scanner.specs.Steps.Value as value
-use Rattle.saphyr_scanner.specs.Steps.Value.{check_tab, refuse_tab, of_key, behind_key}
+use Rattle.saphyr_scanner.specs.Steps.Value.{check_tab, refuse_lone_tab, of_key, behind_key}
 use Rattle.saphyr_scanner.specs.Steps.State.{State}
 use Rattle.saphyr_scanner.specs.Grammar.Forest.{DoubleQuoted}
 use Rattle.saphyr_scanner.specs.Steps.Fetch.{step, flow_value}
@@ -32,11 +31,11 @@ use Rattle.std.proofs.lemmas.Bool.{or_right, eq-eqb}
 -- a colon at the place where one may stand adjacent, inside flow
 begins : (second i : ℕ) (s : Cursor) (k : Option Candidate) (ls : List Level) (a : Bool) (ad : ℕ) → s.mark.index ≡ ad
     → step 58 second i (core_at false s context.FlowMapping k ls a ad)
-    ≡ value.fetch (core_at false s context.FlowMapping k ls a ad)
+    ≡ value.value_steps (core_at false s context.FlowMapping k ls a ad)
 unfolding step flow_value
 begins second i s k ls a ad e =
     let c = core_at false s context.FlowMapping k ls a ad in
-    by_test (is_blank_or_breakz second) (value.fetch c) _ (λ (r : Steps). r ≡ value.fetch c) (λ _. refl)
+    by_test (is_blank_or_breakz second) (value.value_steps c) _ (λ (r : Steps). r ≡ value.value_steps c) (λ _. refl)
     (λ _. rw (eq-eqb s.mark.index ad e, or_right (is_flow second) true refl) refl)
 
 -- behind the colon
@@ -61,7 +60,7 @@ tabbed r m k ls a ad h =
         record {
           there = p.there;
           is =
-              rw e (ap (λ q. (q >>= λ (d : SkipTabs × Cursor). Ok (d.0, with_cursor d.1 c)) >>= refuse_tab) p.is);
+              rw e (ap (λ q. (q >>= λ (d : SkipTabs × Cursor). Ok (d.0, with_cursor d.1 c)) >>= refuse_lone_tab) p.is);
           rest =
               p.rest;
           count = p.count;
@@ -70,10 +69,10 @@ tabbed r m k ls a ad h =
 
 fetches : (r : List ℕ) (m : Marker) (b : Bool) (k : Candidate) (ls : List Level) (a : Bool) (ad : ℕ)
     (p : Tabbed r (along m 1) (Some k) ls a ad)
-    → value.fetch (core_at false (cursor_at (58 ∷ r) m b) context.FlowMapping (Some k) ls a ad)
+    → value.value_steps (core_at false (cursor_at (58 ∷ r) m b) context.FlowMapping (Some k) ls a ad)
     ≡ went (Open k.place opening.Key ∷ at_mark m tokens.Value ∷ [])
     (core_at false p.there context.FlowMapping None ls false ad)
-unfolding value.fetch of_key behind_key
+unfolding value.value_steps of_key behind_key
 fetches r m b k ls a ad p = ap (λ q. q >>= λ (d : Core). behind_key d.level.key false m d) p.is
 
 -- the place before the others that come behind it is opened
@@ -127,7 +126,8 @@ name_passes limit n below start ls ps r o text h follows clean =
     let seen = cursor_at (58 ∷ r) v.mark v.blank in
     let counted : total p.there ≡ n = further v.mark 58 r n (total p.there) (v.count ∙ h.count) p.count in
     let stepped = begins (slice_index r 0) (length qs) seen v.key ls v.allowed s.mark.index place
-    ∙ ap (λ (j : Option Candidate). value.fetch (core_at false seen context.FlowMapping j ls v.allowed s.mark.index))
+    ∙ ap (λ (j : Option Candidate). value.value_steps
+    (core_at false seen context.FlowMapping j ls v.allowed s.mark.index))
     (v.same refl ∙ h.saves refl refl)
     ∙ fetches r v.mark v.blank k ls v.allowed s.mark.index p in
     let content : IsContent (58 ∷ r) =

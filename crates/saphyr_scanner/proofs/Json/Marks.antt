@@ -1,5 +1,5 @@
 -- The indicators of JSON are read: brackets, commas and colons.
-use Rattle.std.proofs.Common.{◌≡◌, ℕ, ◌+◌, ◌<◌, Bool, true, false, List, [], ◌∷◌, ◌++◌, length, slice_index, Ok, refl, sym, ap, ◌∙◌, arith, append_assoc, ◌⊎◌, inl, inr}
+use Rattle.std.proofs.Common.{◌≡◌, ℕ, ◌+◌, ◌<◌, Bool, true, false, List, [], ◌∷◌, ◌++◌, length, slice_index, Ok, refl, ap, ◌∙◌, arith, append_assoc, ◌⊎◌, inl, inr}
 use Rattle.std.specs.Prelude.{map, ◌==◌, nat_le, Option, Some}
 use Rattle.std.proofs.lemmas.Bool.Decides.{nat_tests}
 use Rattle.std.proofs.lemmas.List.{length-append, map-append}
@@ -15,7 +15,7 @@ use Rattle.saphyr_scanner.specs.Views.Tokens.{Piece}
 use Rattle.saphyr_scanner.specs.Steps.Queue.{Place}
 use Rattle.saphyr_scanner.specs.Steps.Core.{Candidate, Level, save_key, go_deeper}
 use Rattle.saphyr_scanner.specs.Steps.State.{State}
-use Rattle.saphyr_scanner.proofs.Leads.{Leads, stay, onward, flat, place_pieces}
+use Rattle.saphyr_scanner.proofs.Leads.{Leads, stay, onward, flat}
 use Rattle.saphyr_scanner.proofs.Json.Gaps.{line_first, white_separated}
 use Rattle.saphyr_scanner.proofs.Json.States.{skip, split, skip_white, skip_skip, IsClean, stops_blanks, total, core_at, state_at, Comes}
 use Rattle.saphyr_scanner.proofs.Queues.{flat_append}

@@ -94,25 +94,25 @@ content_of c r (inr (inr (inr e))) =
     (record { nul = refl; byte_order_mark = refl; directive = refl; document_start = refl; document_end = refl })
 
 pub begins_sequence : (second i : ℕ) (c : Core)
-    → step 91 second i c ≡ flow.start context.FlowSequence tokens.FlowSequenceStart i c
+    → step 91 second i c ≡ flow.opening_steps context.FlowSequence tokens.FlowSequenceStart i c
 unfolding step
 begins_sequence second i c = refl
 
 pub begins_mapping : (second i : ℕ) (c : Core)
-    → step 123 second i c ≡ flow.start context.FlowMapping tokens.FlowMappingStart i c
+    → step 123 second i c ≡ flow.opening_steps context.FlowMapping tokens.FlowMappingStart i c
 unfolding step
 begins_mapping second i c = refl
 
 ends_sequence : (second i : ℕ) (s : Cursor) (k : Option Candidate) (ls : List Level) (a : Bool) (ad : ℕ)
     → step 93 second i (core_at false s context.FlowSequence k ls a ad)
     ≡ close_collection false tokens.FlowSequenceEnd (core_at false s context.FlowSequence k ls a ad)
-unfolding step flow.end
+unfolding step flow.closing_steps
 ends_sequence second i s k ls a ad = refl
 
 ends_mapping : (second i : ℕ) (s : Cursor) (k : Option Candidate) (ls : List Level) (a : Bool) (ad : ℕ)
     → step 125 second i (core_at false s context.FlowMapping k ls a ad)
     ≡ close_collection false tokens.FlowMappingEnd (core_at false s context.FlowMapping k ls a ad)
-unfolding step flow.end
+unfolding step flow.closing_steps
 ends_mapping second i s k ls a ad = refl
 
 member_told : (a b c : List Kind)

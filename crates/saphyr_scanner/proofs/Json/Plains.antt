@@ -10,7 +10,6 @@ use Rattle.saphyr_scalar.specs.Views.Cursor.{Cursor, ◌>>=◌, along}
 use Rattle.saphyr_scalar.specs.Steps.Plain as words
 use Rattle.saphyr_scanner.specs.declared.engine.level.Context.{Context}
 use Rattle.saphyr_scanner.specs.Grammar.Tokens as tokens
-use Rattle.saphyr_scanner.specs.Grammar.Tokens.{Kind}
 use Rattle.saphyr_scanner.specs.Grammar.Forest.{Plain}
 use Rattle.saphyr_scanner.specs.Steps.Queue.{Place}
 use Rattle.saphyr_scanner.specs.Steps.Core.{Candidate, Level, Core, is_block, from_to, went}
@@ -37,7 +36,7 @@ pub record Read (n : ℕ) (m : Marker) (b : Bool) (t o y : List ℕ) (x : Contex
     (a : Bool) (ad : ℕ) : Type 0 where
   pub mark : Marker
   pub broke : Bool
-  pub is : scalar.plain n (core_at false (cursor_at (t ++ o) m b) x k ls a ad)
+  pub is : scalar.plain_steps n (core_at false (cursor_at (t ++ o) m b) x k ls a ad)
       ≡ went (from_to m (along m (length t)) (tokens.Scalar Plain (encode_utf8_all t)) ∷ [])
       (core_at false (cursor_at y mark broke) x (saved a n m k) ls broke ad)
   pub count : mark.index + length y ≡ m.index + length (t ++ o)
@@ -46,7 +45,7 @@ word_step : ReadsPlainWords words.plain → (n : ℕ) (m : Marker) (b : Bool) (t
     → IsWhiteSpace w → o ≡ w ++ y
     → (x : Context) (k : Option Candidate) (ls : List Level) (a : Bool) (ad : ℕ) → IsBehindValue (not (is_block x)) y
     → Read n m b t o y x k ls a ad
-unfolding scalar.plain read_plain
+unfolding scalar.plain_steps read_plain
 word_step reads n m b t o y h w white behind x k ls a ad ends =
     let s = cursor_at (t ++ o) m b in
     let r = word_read words.plain reads (not (is_block x)) s t w y (ap (λ (z : List ℕ). t ++ z) behind) h white ends in
@@ -76,7 +75,8 @@ record BeginsPlain (first second : ℕ) : Type 0 where
   double_quote : (first == 34) ≡ false
   dash : ((first == 45) && is_blank_or_breakz second) ≡ false
 
-plain_begins : (first second n : ℕ) (c : Core) → BeginsPlain first second → step first second n c ≡ scalar.plain n c
+plain_begins : (first second n : ℕ) (c : Core) → BeginsPlain first second
+    → step first second n c ≡ scalar.plain_steps n c
 unfolding step
 plain_begins first second n c h =
     let o = h.nothing_else in

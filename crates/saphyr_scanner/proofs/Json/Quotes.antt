@@ -36,10 +36,10 @@ reader = quoted.double_quoted 0
 string_step : ReadsDoubleQuoted reader → CountsDoubleQuoted reader → (n : ℕ) (m : Marker) (b : Bool) (p o r v : List ℕ)
     → 34 ∷ r ≡ p ++ o → IsString v p
     → (x : Context) (k : Option Candidate) (ls : List Level) (a : Bool) (ad : ℕ)
-    → scalar.double_quoted n (core_at false (cursor_at (34 ∷ r) m b) x k ls a ad)
+    → scalar.double_quoted_steps n (core_at false (cursor_at (34 ∷ r) m b) x k ls a ad)
     ≡ behind_quotes m DoubleQuoted (encode_utf8_all v)
     (core_at false (at (along m (length p)) o) x (saved a n m k) ls false ad)
-unfolding scalar.double_quoted read_double_quoted
+unfolding scalar.double_quoted_steps read_double_quoted
 string_step reads counts n m b p o r v text h x k ls a ad =
     let s = cursor_at (34 ∷ r) m b in
     let c = core_at false s x (saved a n m k) ls false ad in
@@ -108,7 +108,7 @@ behind_step m text s x k ls ad y p g goes =
     DoubleQuoted text d.1) p.is
     ∙ rw goes (ap (λ q. q >>= token) g.is)
 
-begins : (second n : ℕ) (c : Core) → step 34 second n c ≡ scalar.double_quoted n c
+begins : (second n : ℕ) (c : Core) → step 34 second n c ≡ scalar.double_quoted_steps n c
 unfolding step
 begins second n c = refl
 

@@ -1,6 +1,6 @@
 -- The states of a scanner that reads a text of JSON, and the way to the next token.
 use Rattle.std.proofs.Common.{◌≡◌, ℕ, ◌+◌, ◌≤◌, Bool, true, false, List, [], ◌∷◌, ◌++◌, length, slice_index, Ok, refl, sym, ap, ◌∙◌, arith, subst}
-use Rattle.std.specs.Prelude.{◌||◌, ◌&&◌, ◌==◌, nat_lt, nat_le, Option, Some, None, if◌then◌else◌}
+use Rattle.std.specs.Prelude.{◌||◌, ◌&&◌, ◌==◌, Option, Some, None, if◌then◌else◌}
 use Rattle.std.proofs.lemmas.Bool.Decides.{nat_tests}
 use Rattle.saphyr_input.specs.Classes.{is_blank, is_break, is_bom, is_z}
 use Rattle.saphyr_input.specs.Places.{is_document_start, is_document_end}
@@ -14,7 +14,7 @@ use Rattle.saphyr_scanner.specs.Steps.Core.{Candidate, Level, Core, Action, perf
 use Rattle.saphyr_scanner.specs.Steps.Passing.{pass_gap, check_comment, behind_gap}
 use Rattle.saphyr_scanner.specs.Steps.State.{State, carried, acted}
 use Rattle.saphyr_scanner.specs.Steps.Unrolling.{unroll}
-use Rattle.saphyr_scanner.specs.Steps.Fetch.{step, content, fetch_here, arrive, fetch, within, fetch_within}
+use Rattle.saphyr_scanner.specs.Steps.Fetch.{step, state_behind_content, fetch_here, arrive, fetch, within, fetch_within}
 use Rattle.saphyr_scanner.specs.Grammar.Json.{IsWhite, IsWhiteSpace}
 use Rattle.saphyr_scanner.proofs.Leads.{Leads, stay, onward}
 use Rattle.saphyr_scanner.proofs.Json.Gaps.{StopsGap, StopsBlanks, white_passed, gap_passed}
@@ -231,7 +231,7 @@ pub record IsContent (t : List ℕ) : Type 0 where
 here : (s : Cursor) (x : Context) (k : Option Candidate) (ls : List Level) (a : Bool) (ad : ℕ) (ps : List Place)
     → IsContent s.rest
     → fetch_here (state_at false s x k ls a ad ps)
-    ≡ content (slice_index s.rest 0) (slice_index s.rest 1) (state_at false s x k ls a ad ps)
+    ≡ state_behind_content (slice_index s.rest 0) (slice_index s.rest 1) (state_at false s x k ls a ad ps)
 unfolding fetch_here
 here s x k ls a ad ps h =
     rw (
@@ -283,7 +283,7 @@ pub one : (limit : ℕ) (s : Cursor) (x : Context) (k : Option Candidate) (ls : 
     ≡ went actions (core_at false t z j ms b be)
     → perform actions (queue_of ps) ≡ queue_of qs → t.mark.index ≤ limit
     → Comes limit (state_at false s x k ls a ad ps) false t z j ms b be qs
-unfolding fetch content
+unfolding fetch state_behind_content
 one limit s x k ls a ad ps y v h t z j ms b be qs actions is done low =
     let seen = cursor_at y v.mark v.blank in
     let c = core_at false seen x v.key ls v.allowed ad in

@@ -8,7 +8,7 @@ use Rattle.saphyr_scalar.specs.declared.scalar.fault.Refusal.{Refusal}
 use Rattle.saphyr_scalar.specs.Views.Cursor.{Cursor, along}
 use Rattle.saphyr_scalar.specs.Steps.Quoted.{simple_escape, is_scalar, at}
 use Rattle.saphyr_scalar.specs.Spelling.OneLine as spelling
-use Rattle.saphyr_scalar.specs.Spelling.OneLine.{stands_in_double_quotes, AreHex, hexadecimal_from, IsInside, closed, itself, escaped, numbered, IsDoubleQuoted}
+use Rattle.saphyr_scalar.specs.Spelling.OneLine.{stands_in_double_quotes, IsInside, closed, itself, escaped, numbered, IsDoubleQuoted}
 use Rattle.saphyr_scanner.specs.Grammar.Characters.{IsSurrogate}
 use Rattle.saphyr_scanner.specs.Grammar.Json.{IsUnescaped, IsJsonEscape, IsCode, IsJsonSpelling, AreSpellings, IsString}
 

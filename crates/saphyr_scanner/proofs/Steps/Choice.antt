@@ -3,7 +3,7 @@
 use Rattle.std.proofs.Common.{◌≡◌, ℕ, Bool, true, false, refl, ap}
 use Rattle.std.specs.Prelude.{◌&&◌, ◌||◌, ◌==◌}
 use Rattle.saphyr_input.specs.Classes.{is_blank_or_breakz}
-use Rattle.saphyr_scalar.specs.declared.reading.block.BlockStyle.TheVariants as block_style
+use Rattle.scalar_values.specs.declared.block.BlockStyle.TheVariants as block_style
 use Rattle.saphyr_scalar.specs.declared.scalar.fault.FaultText.TheVariants as fault
 use Rattle.saphyr_scalar.specs.Views.Cursor.{refuse}
 use Rattle.saphyr_scalar.proofs.Breaks.Results.{both_by}
@@ -41,31 +41,33 @@ pub record NoIndicator (first second : ℕ) (c : Core) : Type 0 where
 -- what is to be shown of each
 pub record Cases (P : Steps → Steps → Type 0) (first second other n : ℕ) (c d : Core) : Type 0 where
   pub sequence : first ≡ 91
-      → P (flow.start context.FlowSequence tokens.FlowSequenceStart n c)
-      (flow.start context.FlowSequence tokens.FlowSequenceStart n d)
+      → P (flow.opening_steps context.FlowSequence tokens.FlowSequenceStart n c)
+      (flow.opening_steps context.FlowSequence tokens.FlowSequenceStart n d)
   pub mapping : first ≡ 123
-      → P (flow.start context.FlowMapping tokens.FlowMappingStart n c)
-      (flow.start context.FlowMapping tokens.FlowMappingStart n d)
-  pub sequence_end : first ≡ 93 → P (flow.end true tokens.FlowSequenceEnd c) (flow.end true tokens.FlowSequenceEnd d)
-  pub mapping_end : first ≡ 125 → P (flow.end false tokens.FlowMappingEnd c) (flow.end false tokens.FlowMappingEnd d)
-  pub comma : first ≡ 44 → P (flow.entry c) (flow.entry d)
+      → P (flow.opening_steps context.FlowMapping tokens.FlowMappingStart n c)
+      (flow.opening_steps context.FlowMapping tokens.FlowMappingStart n d)
+  pub sequence_end : first ≡ 93 → P (flow.closing_steps true tokens.FlowSequenceEnd c)
+      (flow.closing_steps true tokens.FlowSequenceEnd d)
+  pub mapping_end : first ≡ 125 → P (flow.closing_steps false tokens.FlowMappingEnd c)
+      (flow.closing_steps false tokens.FlowMappingEnd d)
+  pub comma : first ≡ 44 → P (flow.flow_entry_steps c) (flow.flow_entry_steps d)
   pub dash : first ≡ 45 → is_blank_or_breakz second ≡ true → P (block.entry c) (block.entry d)
   pub question : first ≡ 63 → is_blank_or_breakz second ≡ true → P (block.key c) (block.key d)
-  pub colon : first ≡ 58 → is_blank_or_breakz second ≡ true → P (value.fetch c) (value.fetch d)
+  pub colon : first ≡ 58 → is_blank_or_breakz second ≡ true → P (value.value_steps c) (value.value_steps d)
   pub beside : first ≡ 58 → is_value_adjacent second c ≡ true → P (flow_value second c) (flow_value other d)
-  pub double : first ≡ 34 → P (scalar.double_quoted n c) (scalar.double_quoted n d)
-  pub single : first ≡ 39 → P (scalar.single_quoted n c) (scalar.single_quoted n d)
-  pub alias : first ≡ 42 → P (property.name true n c) (property.name true n d)
-  pub anchor : first ≡ 38 → P (property.name false n c) (property.name false n d)
-  pub tag : first ≡ 33 → P (property.tag n c) (property.tag n d)
+  pub double : first ≡ 34 → P (scalar.double_quoted_steps n c) (scalar.double_quoted_steps n d)
+  pub single : first ≡ 39 → P (scalar.single_quoted_steps n c) (scalar.single_quoted_steps n d)
+  pub alias : first ≡ 42 → P (property.name_steps true n c) (property.name_steps true n d)
+  pub anchor : first ≡ 38 → P (property.name_steps false n c) (property.name_steps false n d)
+  pub tag : first ≡ 33 → P (property.tag_steps n c) (property.tag_steps n d)
   pub literal : first ≡ 124 → in_block c ≡ true
-      → P (scalar.block block_style.Literal n c) (scalar.block block_style.Literal n d)
+      → P (scalar.block_scalar_steps block_style.Literal n c) (scalar.block_scalar_steps block_style.Literal n d)
   pub folded : first ≡ 62 → in_block c ≡ true
-      → P (scalar.block block_style.Folded n c) (scalar.block block_style.Folded n d)
+      → P (scalar.block_scalar_steps block_style.Folded n c) (scalar.block_scalar_steps block_style.Folded n d)
   pub reserved :
       P (refuse (fault.UnexpectedCharacter first) c.cursor.mark)
       (refuse (fault.UnexpectedCharacter first) d.cursor.mark)
-  pub plain : NoIndicator first second c → P (scalar.plain n c) (scalar.plain n d)
+  pub plain : NoIndicator first second c → P (scalar.plain_steps n c) (scalar.plain_steps n d)
 
 pub both_cases : (P : Steps → Steps → Type 0) (first second other n : ℕ) (c d : Core)
     → is_blank_or_breakz second ≡ is_blank_or_breakz other → is_value_adjacent second c ≡ is_value_adjacent other d

@@ -1,5 +1,5 @@
 -- Each step of block collections takes its tokens from the text.
-use Rattle.std.proofs.Common.{◌≡◌, ℕ, Bool, true, false, List, [], ◌∷◌, drop, Result, Ok, Err, refl, sym, ap, ◌∙◌, subst, inl, inr, IsTrue}
+use Rattle.std.proofs.Common.{◌≡◌, ℕ, Bool, true, false, List, [], Result, Ok, Err, refl, sym, ap, ◌∙◌, subst, inl, inr, IsTrue}
 use Rattle.std.specs.Prelude.{◌&&◌, ◌||◌, ◌==◌, slice_index, not, if◌then◌else◌}
 use Rattle.saphyr_input.specs.Classes.{is_break, is_flow, is_blank_or_breakz}
 use Rattle.saphyr_input.specs.Separation.{found_tabs}
@@ -10,7 +10,6 @@ use Rattle.saphyr_scalar.specs.Views.Cursor.{Cursor, ◌>>=◌, pass, separation
 use Rattle.saphyr_scanner.specs.declared.engine.level.Context.{Context}
 use Rattle.saphyr_scanner.specs.declared.engine.level.Context.TheVariants as context
 use Rattle.saphyr_scanner.specs.Grammar.Tokens as tokens
-use Rattle.saphyr_scanner.specs.Grammar.Tokens.{Kind}
 use Rattle.saphyr_scanner.specs.Views.Tokens.{Piece}
 use Rattle.saphyr_scanner.specs.Steps.Gap.{spaces_at}
 use Rattle.saphyr_scanner.specs.Steps.Queue.{Queue, put, next, empty_piece}
@@ -18,7 +17,7 @@ use Rattle.saphyr_scanner.specs.Steps.Core.{Core, at_mark, up_to_here, is_block,
 use Rattle.saphyr_scanner.specs.Steps.Passing.{pass_on, with_cursor}
 use Rattle.saphyr_scanner.specs.Steps.Block as block
 use Rattle.saphyr_scanner.specs.TokensTaken as taken
-use Rattle.saphyr_scanner.specs.TokensTaken.{AreApart, LiesOnLine, begins_text}
+use Rattle.saphyr_scanner.specs.TokensTaken.{AreApart, begins_text}
 use Rattle.saphyr_scanner.proofs.Taken.Separated.{spaces_apart}
 use Rattle.saphyr_scanner.proofs.LineTails.{OnLine, separation_passes}
 use Rattle.saphyr_scanner.proofs.Taken.Held.{Taken, taken_put}
@@ -126,14 +125,14 @@ block_entry_holds columns from q c h f g =
 behind_question_mark : {X : Type 0} → (P : X → Type 0) (c : Core) (f : Core → Result X Refusal)
     → ((t : Cursor) → AreApart (pass 1 c.cursor) t → (allowed : Bool)
     → Given P (f (with_cursor t (record (forget_key c) { key_allowed = allowed }))))
-    → Given P ((remove_key c >>= λ d. block.pass_mark (record d { key_allowed = in_block d })) >>= f)
+    → Given P ((remove_key c >>= λ d. block.pass_question (record d { key_allowed = in_block d })) >>= f)
 unfolding remove_key block.behind_mark
 behind_question_mark P c f go =
     let d : Core = record (forget_key c) { key_allowed = in_block (forget_key c) } in
     let t = spaces_at false (pass_on 1 d).cursor in
     by_test (in_block c && c.required) _ _
     (λ (r : Result Core Refusal). Given P
-    ((r >>= λ e. block.pass_mark (record e { key_allowed = in_block e })) >>= f)) (λ _. tt)
+    ((r >>= λ e. block.pass_question (record e { key_allowed = in_block e })) >>= f)) (λ _. tt)
     (λ _. by_test (not t.space) _ _ (λ (r : Result Core Refusal). Given P (r >>= f)) (λ _. tt)
     (λ _. by_test (slice_index t.cursor.rest 0 == 9) _ _ (λ (r : Result Core Refusal). Given P (r >>= f)) (λ _. tt)
     (λ _. go t.cursor (spaces_apart false (pass_on 1 d).cursor) (in_block (forget_key c)))))
@@ -158,7 +157,7 @@ key_holds columns from q c h f g =
     by_test (in_block c && not c.key_allowed) _ _ (Given (HoldsStep columns from q)) (λ _. tt)
     (λ _. by_bool (is_further s.mark.col c)
     (λ b. Given (HoldsStep columns from q)
-    ((remove_key (with_context x (if b then enter_block s.mark.col c else c)) >>= λ d. block.pass_mark
+    ((remove_key (with_context x (if b then enter_block s.mark.col c else c)) >>= λ d. block.pass_question
     (record d { key_allowed = in_block d })) >>= λ d. went
     (block.behind_start b s.mark tokens.BlockMappingStart (up_to_here s.mark tokens.Key d)) d))
     (λ e.

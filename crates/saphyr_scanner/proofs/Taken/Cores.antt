@@ -13,7 +13,7 @@ use Rattle.saphyr_scanner.specs.Steps.Queue.{Queue, closed, put, next}
 use Rattle.saphyr_scanner.specs.Steps.Core.{Candidate, Level, Core, Step, perform, is_block, in_block, save_key, forget_key, remove_key, least_column}
 use Rattle.saphyr_scanner.specs.Steps.Passing.{separate, with_cursor, pass_gap, check_comment, goes_on_behind, behind_gap, intercepts}
 use Rattle.saphyr_scanner.specs.TokensTaken as taken
-use Rattle.saphyr_scanner.specs.TokensTaken.{AreApart, IsToken, TakesCharacter, open_behind}
+use Rattle.saphyr_scanner.specs.TokensTaken.{AreApart, IsToken, TakesCharacter}
 use Rattle.saphyr_scanner.proofs.Taken.Separated.{gap_apart}
 use Rattle.saphyr_scanner.proofs.LineTails.{OnLine, separation_passes}
 use Rattle.saphyr_scanner.proofs.Taken.Parts.{is_quiet, quiet_open, Begins}
@@ -239,7 +239,8 @@ behind_blanks P c f go = by (separation tabs.Yes c.cursor) (separation_passes c.
 pub behind_gap_of : {X : Type 0} → (P : X → Type 0) (c : Core) (f : Core → Result X Refusal)
     → ((d : Core) → Alike c d → AreApart c.cursor d.cursor → Given P (f d)) → Given P (pass_gap c >>= f)
 unfolding pass_gap check_comment
-behind_gap_of P c f go = by (gaps.pass_gap (least_column c) c.cursor) (gap_apart (least_column c) false false c.cursor)
+behind_gap_of P c f go = by (gaps.passed_gap (least_column c) c.cursor)
+    (gap_apart (least_column c) false false c.cursor)
   where
     checked : (m : Option Marker) (d : Core) → Alike c d → AreApart c.cursor d.cursor → Given P (intercepts m d >>= f)
     checked None d a p = go d a p

@@ -1,7 +1,7 @@
 -- The steps of documents and of the stream's end take their tokens from the text.
 use Rattle.std.proofs.Common.{◌≡◌, ℕ, ◌+◌, Bool, true, false, List, [], ◌∷◌, ◌++◌, length, drop, None, Result, Ok, Err, refl, sym, ap, ◌∙◌, arith, subst, inl, inr}
 use Rattle.std.specs.Prelude.{◌&&◌, ◌||◌, ◌==◌, slice_index, not, nat_lt, codes}
-use Rattle.saphyr_input.specs.Classes.{is_bom, is_break, is_breakz, is_blank_or_breakz, is_yaml_non_break, byte_order_mark}
+use Rattle.saphyr_input.specs.Classes.{is_bom, is_break, is_breakz, is_blank_or_breakz, byte_order_mark}
 use Rattle.saphyr_input.specs.Places.{is_document_start, is_document_end, next_2_are, next_3_are}
 use Rattle.saphyr_input.specs.declared.input.SkipTabs.{SkipTabs}
 use Rattle.saphyr_input.specs.declared.input.SkipTabs.TheVariants as tabs
@@ -10,7 +10,7 @@ use Rattle.saphyr_scalar.specs.declared.scalar.position.Span.{Span}
 use Rattle.saphyr_scalar.specs.declared.scalar.fault.Refusal.{Refusal}
 use Rattle.saphyr_scalar.specs.Views.Cursor.{Cursor, ◌>>=◌, along, next_line, pass_break, separation}
 use Rattle.saphyr_scalar.specs.Steps.Directive as directives
-use Rattle.saphyr_scalar.specs.Steps.Directive.{Directive, version, tag_prefix, reserved}
+use Rattle.saphyr_scalar.specs.Steps.Directive.{ReadDirective, version, tag_prefix, reserved}
 use Rattle.saphyr_scalar.specs.Steps.Quoted.{at, break_len}
 use Rattle.saphyr_scalar.proofs.Moving.{along_more}
 use Rattle.saphyr_scalar.proofs.Properties.TagsSpelled.{cut_at}
@@ -171,8 +171,9 @@ end_marker_holds columns from s h col e =
     by t k (Err f) o = tt
 
 pub mark_holds : (columns : List ℕ) (from : Cursor) (s : State) → HoldsState columns from s
-    → is_bom (slice_index s.core.cursor.rest 0) ≡ true → Given (HoldsState columns from) (document.byte_order_mark s)
-unfolding document.byte_order_mark
+    → is_bom (slice_index s.core.cursor.rest 0) ≡ true
+    → Given (HoldsState columns from) (document.state_behind_byte_order_mark s)
+unfolding document.state_behind_byte_order_mark
 mark_holds columns from s h e =
     by_test (nat_lt 0 s.core.cursor.mark.col || not (in_block s.core)) _ _ (Given (HoldsState columns from)) (λ _. tt)
     (λ w. behind_content (HoldsState columns from) columns from s _ h (λ t k same.
@@ -226,13 +227,13 @@ break_apart s =
     (taken.nothing _ _)))
     (λ c. taken.nothing s.mark s.rest))
 
-directive_token : (d : Directive) (i : ℕ) (span : Span) (s t : Cursor) → taken.IsDirectiveToken d span s t
+directive_token : (d : ReadDirective) (i : ℕ) (span : Span) (s t : Cursor) → taken.IsDirectiveToken d span s t
     → IsToken i (document.directive_kind d) span s t
 directive_token (version major minor) i span s t h = h
 directive_token (tag_prefix handle prefix) i span s t h = h
 directive_token (reserved name) i span s t h = h
 
-quiet_directive : (d : Directive) → is_quiet (document.directive_kind d) ≡ true
+quiet_directive : (d : ReadDirective) → is_quiet (document.directive_kind d) ≡ true
 quiet_directive (version major minor) = refl
 quiet_directive (tag_prefix handle prefix) = refl
 quiet_directive (reserved name) = refl
@@ -266,8 +267,8 @@ directive_step laws columns from q c h col f =
 
 pub directive_holds : TextLaws → (columns : List ℕ) (from : Cursor) (s : State) → HoldsState columns from s
     → s.core.cursor.mark.col ≡ 0 → slice_index s.core.cursor.rest 0 ≡ 37
-    → Given (HoldsState columns from) (document.directive s)
-unfolding document.directive
+    → Given (HoldsState columns from) (document.state_behind_directive s)
+unfolding document.state_behind_directive
 directive_holds laws columns from s h col f =
     behind_content (HoldsState columns from) columns from s _ h (λ t k same.
     by t (document.read_directive t.core)

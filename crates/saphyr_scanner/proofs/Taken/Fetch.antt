@@ -3,7 +3,7 @@ use Rattle.std.proofs.Common.{◌≡◌, ℕ, ◌+◌, ◌-◌, ◌^◌, ◌≤�
 use Rattle.std.specs.Prelude.{◌&&◌, ◌||◌, ◌==◌, slice_index, not, nat_lt, nat_le, codes}
 use Rattle.saphyr_input.specs.Classes.{is_z, is_bom, is_blank_or_breakz, is_one_of}
 use Rattle.saphyr_input.specs.Places.{is_document_start, is_document_end}
-use Rattle.saphyr_scalar.specs.declared.reading.block.BlockStyle.TheVariants as block_style
+use Rattle.scalar_values.specs.declared.block.BlockStyle.TheVariants as block_style
 use Rattle.saphyr_scalar.specs.declared.scalar.position.Marker.{Marker}
 use Rattle.saphyr_scalar.specs.declared.scalar.fault.Refusal.{Refusal}
 use Rattle.saphyr_scalar.specs.Views.Cursor.{Cursor, fresh, ◌>>=◌}
@@ -15,7 +15,7 @@ use Rattle.saphyr_scanner.specs.Steps.Core.{Core, Steps, perform, in_block, is_t
 use Rattle.saphyr_scanner.specs.Steps.State.{State, carried, acted}
 use Rattle.saphyr_scanner.specs.Steps.Unrolling.{unroll}
 use Rattle.saphyr_scanner.specs.Steps.Document as document
-use Rattle.saphyr_scanner.specs.Steps.Fetch.{step, content, fetch_here, arrive, fetch, begin, within, fetch_within, settled}
+use Rattle.saphyr_scanner.specs.Steps.Fetch.{step, state_behind_content, fetch_here, arrive, fetch, begin, within, fetch_within, settled}
 use Rattle.saphyr_scanner.specs.TokensTaken as taken
 use Rattle.saphyr_scanner.specs.TokensTaken.{AreTokens, may_begin_plain}
 use Rattle.saphyr_scanner.proofs.Leads.{flat}
@@ -164,7 +164,7 @@ deep_of false i col e = let h = ltb-false col (i - 1) e in omega (arith, h)
 here_read : TextLaws → (text : List ℕ) → length text < 2 ^ 63 → (columns : List ℕ) (from : Cursor) (s : State)
     → LaterThan (fresh text) from → s.core.ended ≡ false → Arrived columns from s
     → Given (Read columns from) (fetch_here s)
-unfolding fetch_here content
+unfolding fetch_here state_behind_content
 here_read laws text small columns from s l going a =
     let t = s.core.cursor.rest in
     let P = Given (Read columns from) in
@@ -174,12 +174,12 @@ here_read laws text small columns from s l going a =
     (λ z. let some : 0 < length t = left t z in
     let h : HoldsState columns from s = record { taken = a.taken; keys = a.live z } in
     by_test (is_bom (slice_index t 0)) _ _ P
-    (λ e. both_given columns from s (document.byte_order_mark s) going
+    (λ e. both_given columns from s (document.state_behind_byte_order_mark s) going
     (held columns from _ (mark_holds columns from s h e)) (mark_advances s some))
     (λ _. by_test ((s.core.cursor.mark.col == 0) && (slice_index t 0 == 37)) _ _ P
     (λ e. let w = and_parts (s.core.cursor.mark.col == 0) (slice_index t 0 == 37) e in
     let first = eqb-true (slice_index t 0) 37 w.1 in
-    both_given columns from s (document.directive s) going
+    both_given columns from s (document.state_behind_directive s) going
     (held columns from _ (directive_holds laws columns from s h (eqb-true s.core.cursor.mark.col 0 w.0) first))
     (directive_advances s first))
     (λ _. by_test ((s.core.cursor.mark.col == 0) && is_document_start t) _ _ P

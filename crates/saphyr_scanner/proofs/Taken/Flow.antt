@@ -100,8 +100,8 @@ open_holds columns from q x kind ctx bracket starts e c d s h f deep =
 pub start_holds : (columns : List ℕ) (from : Cursor) (q : Queue) (x : ℕ) (kind : Kind) (ctx : Context) → Bracket x kind
     → IsStart kind → is_block ctx ≡ false → (c : Core) → Holds columns from c q → slice_index c.cursor.rest 0 ≡ x
     → (in_block c ≡ true → c.indent ≤ c.cursor.mark.col + 1)
-    → Given (HoldsStep columns from q) (flow.start ctx kind (next q) c)
-unfolding flow.start
+    → Given (HoldsStep columns from q) (flow.opening_steps ctx kind (next q) c)
+unfolding flow.opening_steps
 start_holds columns from q x kind ctx bracket starts e c h f deep =
     let d : Core = go_deeper (save_key (next q) c) in
     open_holds columns from q x kind ctx bracket starts e c d
@@ -176,8 +176,8 @@ left_holds columns from c q (l ∷ ls) h k =
 
 pub end_holds : (columns : List ℕ) (from : Cursor) (q : Queue) (x : ℕ) (kind : Kind) → Bracket x kind
     → (sequence : Bool) (c : Core) → Holds columns from c q → slice_index c.cursor.rest 0 ≡ x
-    → Given (HoldsStep columns from q) (flow.end sequence kind c)
-unfolding flow.end flow.close_collection
+    → Given (HoldsStep columns from q) (flow.closing_steps sequence kind c)
+unfolding flow.closing_steps flow.close_collection
 end_holds columns from q x kind bracket sequence c h f =
     let outers = keys_weaken (lower (next q) c.level.key) (next q) q c.indent c.outer
     (below_key (next q) q (is_block c.level.context) c.indent c.level.key h.keys.1) h.keys.2 in
@@ -193,8 +193,8 @@ entry_block context.Block = refl
 entry_block _ = refl
 
 pub entry_holds : (columns : List ℕ) (from : Cursor) (q : Queue) (c : Core) → Holds columns from c q
-    → slice_index c.cursor.rest 0 ≡ 44 → Given (HoldsStep columns from q) (flow.entry c)
-unfolding flow.entry flow.next_entry
+    → slice_index c.cursor.rest 0 ≡ 44 → Given (HoldsStep columns from q) (flow.flow_entry_steps c)
+unfolding flow.flow_entry_steps flow.next_flow_entry
 entry_holds columns from q c h f =
     let d : Core = with_context (flow.behind_entry c.level.context) (record (forget_key c) { key_allowed = true }) in
     let k : Holds columns from d q = holds_lesser columns from c d q

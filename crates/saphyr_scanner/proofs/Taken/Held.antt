@@ -8,7 +8,7 @@ use Rattle.saphyr_scanner.specs.declared.queue.Opening.TheVariants as opening
 use Rattle.saphyr_scanner.specs.Views.Tokens.{Piece}
 use Rattle.saphyr_scanner.specs.Steps.Queue.{Place, Queue, closed, opened, put, with_opening}
 use Rattle.saphyr_scanner.specs.Steps.Core.{Candidate, Level, Core, is_block}
-use Rattle.saphyr_scanner.specs.TokensTaken.{AreApart, IsToken, AreTokens, open_behind, least_column}
+use Rattle.saphyr_scanner.specs.TokensTaken.{AreApart, IsToken, AreTokens, open_behind, least_column_in}
 use Rattle.saphyr_scanner.proofs.Leads.{flat, place_pieces}
 use Rattle.saphyr_scanner.proofs.Taken.Separated.{apart_apart}
 use Rattle.saphyr_scanner.proofs.Taken.Parts.{open_all, open_append, tokens_append, is_quiet, AreQuiet, quiet_append, opened_there, opened_behind, Begins, opens_block, column_of, place_tokens, place_open}
@@ -22,7 +22,7 @@ Stack [] i is = (i ≡ 0) × (is ≡ [])
 Stack (column ∷ columns) i [] = ⊥
 Stack (column ∷ columns) i (j ∷ is) = (i ≡ column + 1) × Stack columns j is
 
-stack_indent : (columns : List ℕ) (i : ℕ) (is : List ℕ) → Stack columns i is → least_column columns ≡ i
+stack_indent : (columns : List ℕ) (i : ℕ) (is : List ℕ) → Stack columns i is → least_column_in columns ≡ i
 stack_indent [] i is h = sym h.0
 stack_indent (column ∷ columns) i [] h = absurd h
 stack_indent (column ∷ columns) i (j ∷ is) h = sym h.0
@@ -62,7 +62,7 @@ pub taken_put : (columns : List ℕ) (from : Cursor) (c d : Core) (q : Queue) (t
     → Taken columns from c q → Taken columns from d (put t q)
 taken_put columns from c d q t here behind a is b o h =
     let open_now = open_all (flat q.places) columns in
-    let i : least_column open_now ≡ c.indent = stack_indent open_now c.indent c.outer_indents h.stack in
+    let i : least_column_in open_now ≡ c.indent = stack_indent open_now c.indent c.outer_indents h.stack in
     let apart = apart_apart h.last.mark h.last.rest c.cursor.mark c.cursor.rest here.mark here.rest h.apart a in
     let one : AreTokens open_now (t ∷ []) h.last behind =
     (here, behind, apart, subst (λ j. IsToken j t.kind t.span here behind) (sym i) is, refl) in

@@ -18,7 +18,7 @@ use Rattle.saphyr_scanner.specs.Grammar.Tokens as tokens
 use Rattle.saphyr_scanner.specs.Grammar.Tokens.{Kind}
 use Rattle.saphyr_scanner.specs.Views.Tokens.{Piece}
 use Rattle.saphyr_scanner.specs.TokensTaken as taken
-use Rattle.saphyr_scanner.specs.TokensTaken.{IsPassedOver, AreApart, HasNoText, IsSpan, IsMark, TakesCharacter, IsToken, AreTokens, open_behind, past_mark}
+use Rattle.saphyr_scanner.specs.TokensTaken.{IsPassedOver, HasNoText, IsSpan, IsMark, TakesCharacter, IsToken, AreTokens, open_behind}
 use Rattle.saphyr_input.proofs.Basics.Lists.{shown}
 use Rattle.saphyr_input.proofs.Basics.Booleans.{by_test}
 
@@ -205,7 +205,7 @@ tokens_later columns [] s u h =
     let P : Cursor → Type 0 = λ v. LaterThan s v in subst P (sym h) (later_here s.mark s.rest)
 tokens_later columns (p ∷ ps) s u h =
     let a = apart_later s.mark s.rest h.0.mark h.0.rest h.2 in
-    let b = token_later (taken.least_column columns) p.kind p.span h.0 h.1 h.3 in
+    let b = token_later (taken.least_column_in columns) p.kind p.span h.0 h.1 h.3 in
     let c = tokens_later (open_behind p.kind p.span.start.col columns) ps h.1 u h.4 in
     later_later s.mark s.rest h.0.mark h.0.rest u.mark u.rest a
     (later_later h.0.mark h.0.rest h.1.mark h.1.rest u.mark u.rest b c)

@@ -1,5 +1,5 @@
 -- Tokens that are taken from a text, one part behind the other.
-use Rattle.std.proofs.Common.{◌≡◌, ℕ, suc, ◌+◌, Bool, true, false, List, [], ◌∷◌, ◌++◌, length, refl, sym, ap, ◌∙◌, arith, subst, inl, inr, append_assoc, IsTrue}
+use Rattle.std.proofs.Common.{◌≡◌, ℕ, suc, ◌+◌, Bool, true, false, List, [], ◌∷◌, ◌++◌, length, refl, sym, ap, ◌∙◌, arith, subst, inl, inr, IsTrue}
 use Rattle.std.specs.Prelude.{slice_index}
 use Rattle.saphyr_scalar.specs.declared.scalar.position.Span.{Span}
 use Rattle.saphyr_scalar.specs.declared.scalar.style.ScalarStyle.TheVariants as style
@@ -11,7 +11,7 @@ use Rattle.saphyr_scanner.specs.Grammar.Tokens.{Kind}
 use Rattle.saphyr_scanner.specs.Views.Tokens.{Piece}
 use Rattle.saphyr_scanner.specs.Steps.Queue.{Place, closed, opened}
 use Rattle.saphyr_scanner.specs.TokensTaken as taken
-use Rattle.saphyr_scanner.specs.TokensTaken.{AreApart, IsToken, AreTokens, begins_text, open_behind}
+use Rattle.saphyr_scanner.specs.TokensTaken.{IsToken, AreTokens, begins_text, open_behind}
 use Rattle.saphyr_scanner.proofs.Leads.{flat, place_pieces}
 use Rattle.saphyr_scanner.proofs.Queues.{flat_append, with_front}
 
@@ -85,7 +85,7 @@ quiet_tokens columns others (p ∷ ps) s u q h = (
   h.0,
   h.1,
   h.2,
-  quiet_token (taken.least_column columns) (taken.least_column others) p.kind p.span h.0 h.1 q.0 h.3,
+  quiet_token (taken.least_column_in columns) (taken.least_column_in others) p.kind p.span h.0 h.1 q.0 h.3,
   quiet_tokens (open_behind p.kind p.span.start.col columns) (open_behind p.kind p.span.start.col others) ps h.1 u
       q.1 h.4,
 )

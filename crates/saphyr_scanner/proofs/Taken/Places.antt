@@ -14,7 +14,7 @@ use Rattle.saphyr_scanner.specs.Grammar.Tokens.{Kind}
 use Rattle.saphyr_scanner.specs.Views.Tokens.{Piece}
 use Rattle.saphyr_scanner.specs.AtPlaces.{AreAtPlaces}
 use Rattle.saphyr_scanner.specs.TokensTaken as taken
-use Rattle.saphyr_scanner.specs.TokensTaken.{IsReached, IsPlaceOrEnd, IsPlaceOf, AreApart, HasNoText, IsSpan, IsMark, TakesCharacter, IsDash, LiesOnLine, IsPlainToken, IsToken, AreTokens, open_behind, least_column}
+use Rattle.saphyr_scanner.specs.TokensTaken.{IsReached, IsPlaceOrEnd, IsPlaceOf, HasNoText, IsSpan, IsMark, TakesCharacter, LiesOnLine, IsToken, AreTokens, open_behind, least_column_in}
 use Rattle.saphyr_scanner.proofs.LineTexts.{name_no_break, tag_no_break, tail_no_break}
 use Rattle.saphyr_scanner.proofs.Reached.{reached_reached, reached_counted, along_reached, apart_reached, passed_reached, piece_reached, Uncut, uncut_ink, uncut_behind}
 use Rattle.saphyr_input.proofs.Basics.Booleans.{or_false_right}
@@ -131,7 +131,7 @@ tokens_reached columns [] s u h =
     let P : Cursor → Type 0 = λ v. Reaches s v in subst P (sym h) (taken.nothing s.mark s.rest)
 tokens_reached columns (p ∷ ps) s u h =
     let a = apart_reached s.mark s.rest h.0.mark h.0.rest h.2 in
-    let b = token_reached (least_column columns) p.kind p.span h.0 h.1 h.3 in
+    let b = token_reached (least_column_in columns) p.kind p.span h.0 h.1 h.3 in
     let c = tokens_reached (open_behind p.kind p.span.start.col columns) ps h.1 u h.4 in
     reaches_reaches s h.0 u a (reaches_reaches h.0 h.1 u b c)
 
@@ -262,7 +262,7 @@ pub tokens_at : (text columns : List ℕ) (ps : List Piece) (s u : Cursor) → R
     → AreTokens columns ps s u → AreAtPlaces text ps
 tokens_at text columns [] s u r h = tt
 tokens_at text columns (p ∷ ps) s u r h =
-    let i = least_column columns in
+    let i = least_column_in columns in
     let a = reaches_reaches (fresh text) s h.0 r (apart_reached s.mark s.rest h.0.mark h.0.rest h.2) in
     let b = reaches_reaches (fresh text) h.0 h.1 a (token_reached i p.kind p.span h.0 h.1 h.3) in
     let first = place_of text p.span.start

@@ -3,10 +3,10 @@ use Rattle.std.proofs.Common.{◌≡◌, ◌≢◌, ℕ, ◌+◌, ◌≤◌, ◌
 use Rattle.std.specs.Prelude.{◌&&◌, ◌==◌, slice_index, not, nat_lt, codes, encode_utf8_all}
 use Rattle.saphyr_input.specs.Classes.{is_anchor_char, is_blank_or_breakz, is_one_of, is_z, is_breakz}
 use Rattle.saphyr_input.specs.Places.{is_blank_or_break}
-use Rattle.saphyr_scalar.specs.declared.reading.block.BlockStyle.{BlockStyle}
-use Rattle.saphyr_scalar.specs.declared.reading.flow.Quote.{Quote}
-use Rattle.saphyr_scalar.specs.declared.reading.flow.Quote.TheVariants.{Single, Double}
-use Rattle.saphyr_scalar.specs.declared.reading.folding.Item.{Item}
+use Rattle.scalar_values.specs.declared.block.BlockStyle.{BlockStyle}
+use Rattle.scalar_values.specs.declared.flow.Quote.{Quote}
+use Rattle.scalar_values.specs.declared.flow.Quote.TheVariants.{Single, Double}
+use Rattle.scalar_values.specs.declared.folding.Item.{Item}
 use Rattle.saphyr_scalar.specs.declared.scalar.position.Marker.{Marker}
 use Rattle.saphyr_scalar.specs.declared.scalar.position.Span.{Span}
 use Rattle.saphyr_scalar.specs.declared.scalar.style.ScalarStyle.{ScalarStyle}
@@ -16,10 +16,10 @@ use Rattle.saphyr_scalar.specs.Reading.BlockText.{IsBlockText}
 use Rattle.saphyr_scalar.specs.Steps.Block as blocks
 use Rattle.saphyr_scalar.specs.Views.Cursor.{Cursor, ◌>>=◌, along, pass_break}
 use Rattle.saphyr_scalar.specs.Steps.Directive as directives
-use Rattle.saphyr_scalar.specs.Steps.Directive.{Directive}
+use Rattle.saphyr_scalar.specs.Steps.Directive.{ReadDirective}
 use Rattle.saphyr_scalar.specs.Spelling.Directive.{IsReadDirective, IsLineTail}
-use Rattle.saphyr_scalar.specs.Reading.Flow.{mark}
-use Rattle.saphyr_scalar.specs.Reading.Folding.{folded}
+use Rattle.scalar_values.specs.Flow.{mark}
+use Rattle.scalar_values.specs.Folding.{folded}
 use Rattle.saphyr_scalar.specs.Passing.{IsPassed}
 use Rattle.saphyr_scalar.specs.Steps.Plain as words
 use Rattle.saphyr_scalar.specs.Reading.Plain.{IsSpelledPlain, IsPlainReading}
@@ -30,7 +30,6 @@ use Rattle.saphyr_scalar.specs.Spelling.Quoted.{IsQuotedText}
 use Rattle.saphyr_scalar.specs.Steps.Tag as tags
 use Rattle.saphyr_scalar.specs.Spelling.Tag.{IsAnchorName, IsHandleText, IsTagText, EndsTag}
 use Rattle.saphyr_scanner.specs.Grammar.Tokens as tokens
-use Rattle.saphyr_scanner.specs.Grammar.Tokens.{Kind}
 use Rattle.saphyr_scanner.specs.Views.Tokens.{Piece}
 use Rattle.saphyr_scanner.specs.Steps.Queue.{Queue, put, next}
 use Rattle.saphyr_scanner.specs.Steps.Core.{Core, in_block, least_column, save_key}
@@ -81,7 +80,7 @@ pub record TextLaws : Type 0 where
       → (t : List ℕ) × (handle : List ℕ) × (suffix : List ℕ) × (s.rest ≡ t ++ u.rest) × IsTagText t handle suffix
       × EndsTag in_flow u.rest × (u ≡ at (along s.mark (length t)) u.rest) × (encode_utf8_all handle ≡ front)
       × (encode_utf8_all suffix ≡ back)
-  pub directive : (s u : Cursor) (d : Directive) (end : Marker) → slice_index s.rest 0 ≡ 37
+  pub directive : (s u : Cursor) (d : ReadDirective) (end : Marker) → slice_index s.rest 0 ≡ 37
       → directives.directive s ≡ Ok (d, end, u)
       → (t : List ℕ) × (tail : List ℕ) × (x : List ℕ) × (s.rest ≡ t ++ (tail ++ x)) × IsReadDirective d t
       × IsLineTail tail × (is_breakz (slice_index x 0) ≡ true) × (end ≡ along s.mark (length t))
@@ -149,8 +148,8 @@ disallowed n c = saved_alike n c (save_key n c) (scalar.disallow_key (save_key n
 
 pub double_holds : TextLaws → (columns : List ℕ) (from : Cursor) (q : Queue) (c : Core) → Holds columns from c q
     → slice_index c.cursor.rest 0 ≡ 34 → (in_block c ≡ true → c.indent ≤ c.cursor.mark.col + 1)
-    → Given (HoldsStep columns from q) (scalar.double_quoted (next q) c)
-unfolding scalar.double_quoted scalar.read_double_quoted
+    → Given (HoldsStep columns from q) (scalar.double_quoted_steps (next q) c)
+unfolding scalar.double_quoted_steps scalar.read_double_quoted
 double_holds laws columns from q c h f deep =
     quotes_hold laws columns from q Double DoubleQuoted
     (record {
@@ -163,8 +162,8 @@ double_holds laws columns from q c h f deep =
 
 pub single_holds : TextLaws → (columns : List ℕ) (from : Cursor) (q : Queue) (c : Core) → Holds columns from c q
     → slice_index c.cursor.rest 0 ≡ 39 → (in_block c ≡ true → c.indent ≤ c.cursor.mark.col + 1)
-    → Given (HoldsStep columns from q) (scalar.single_quoted (next q) c)
-unfolding scalar.single_quoted scalar.read_single_quoted
+    → Given (HoldsStep columns from q) (scalar.single_quoted_steps (next q) c)
+unfolding scalar.single_quoted_steps scalar.read_single_quoted
 single_holds laws columns from q c h f deep =
     quotes_hold laws columns from q Single SingleQuoted
     (record {
@@ -240,8 +239,8 @@ plain_holds_at laws columns from q c d s h f deep =
 
 pub plain_holds : TextLaws → (columns : List ℕ) (from : Cursor) (q : Queue) (c : Core) → Holds columns from c q
     → PlainStart c.cursor → (in_block c ≡ true → c.indent ≤ c.cursor.mark.col + 1)
-    → Given (HoldsStep columns from q) (scalar.plain (next q) c)
-unfolding scalar.plain
+    → Given (HoldsStep columns from q) (scalar.plain_steps (next q) c)
+unfolding scalar.plain_steps
 plain_holds laws columns from q c h f deep =
     let d : Core = record (scalar.disallow_key (save_key (next q) c)) { deeper = false } in
     plain_holds_at laws columns from q c d
@@ -313,8 +312,8 @@ name_holds_at laws columns from q is_alias x named c d s h some f deep =
 pub name_holds : TextLaws → (columns : List ℕ) (from : Cursor) (q : Queue) (is_alias : Bool) (x : ℕ) → Named is_alias x
     → (c : Core) → Holds columns from c q → 0 < length c.cursor.rest → slice_index c.cursor.rest 0 ≡ x
     → (in_block c ≡ true → c.indent ≤ c.cursor.mark.col + 1)
-    → Given (HoldsStep columns from q) (property.name is_alias (next q) c)
-unfolding property.name
+    → Given (HoldsStep columns from q) (property.name_steps is_alias (next q) c)
+unfolding property.name_steps
 name_holds laws columns from q is_alias x named c h some f deep =
     let d : Core = scalar.disallow_key (save_key (next q) c) in
     let s = disallowed (next q) c in
@@ -349,8 +348,8 @@ tag_holds_at laws columns from q c d s h f deep =
 
 pub tag_holds : TextLaws → (columns : List ℕ) (from : Cursor) (q : Queue) (c : Core) → Holds columns from c q
     → slice_index c.cursor.rest 0 ≡ 33 → (in_block c ≡ true → c.indent ≤ c.cursor.mark.col + 1)
-    → Given (HoldsStep columns from q) (property.tag (next q) c)
-unfolding property.tag
+    → Given (HoldsStep columns from q) (property.tag_steps (next q) c)
+unfolding property.tag_steps
 tag_holds laws columns from q c h f deep =
     let d : Core = scalar.disallow_key (save_key (next q) c) in
     let s = disallowed (next q) c in

@@ -1,16 +1,14 @@
 -- What is known between tokens: behind a block scalar a candidate is too far in front to be a key.
 use Rattle.std.proofs.Common.{◌≡◌, ℕ, ◌^◌, ◌≤◌, ◌<◌, ◌⊎◌, Bool, true, false, List, [], ◌∷◌, length, Option, Some, None, refl, sym, ap, ◌∙◌, arith, subst, inl, inr}
-use Rattle.std.specs.Prelude.{◌&&◌, slice_index, nat_lt}
-use Rattle.std.proofs.lemmas.Bool.Decides.{nat_tests}
+use Rattle.std.specs.Prelude.{◌&&◌, slice_index}
 use Rattle.saphyr_input.specs.Classes.{is_z}
-use Rattle.saphyr_scalar.specs.declared.reading.block.BlockStyle.{BlockStyle}
-use Rattle.saphyr_scalar.specs.declared.reading.block.BlockStyle.TheVariants as block_style
+use Rattle.scalar_values.specs.declared.block.BlockStyle.{BlockStyle}
+use Rattle.scalar_values.specs.declared.block.BlockStyle.TheVariants as block_style
 use Rattle.saphyr_scalar.specs.declared.scalar.position.Marker.{Marker}
 use Rattle.saphyr_scalar.specs.declared.scalar.position.Span.{Span}
 use Rattle.saphyr_scalar.specs.Steps.Block as blocks
 use Rattle.saphyr_scalar.specs.Views.Cursor.{Cursor, fresh}
 use Rattle.saphyr_scanner.specs.Grammar.Tokens as tokens
-use Rattle.saphyr_scanner.specs.Grammar.Tokens.{Kind}
 use Rattle.saphyr_scanner.specs.Views.Tokens.{Piece}
 use Rattle.saphyr_scanner.specs.Steps.Queue.{Place, Queue, closed, put, next, empty_piece}
 use Rattle.saphyr_scanner.specs.Steps.Core.{Candidate, Level, Core, Step, perform, in_block, is_block, is_too_far, save_key}
@@ -189,8 +187,8 @@ block_at laws text small columns from q style c d l s h b bd f =
 pub block_holds : TextLaws → (text : List ℕ) → length text < 2 ^ 63
     → (columns : List ℕ) (from : Cursor) (q : Queue) (style : BlockStyle) (c : Core) → LaterThan (fresh text) from
     → Holds columns from c q → in_block c ≡ true → slice_index c.cursor.rest 0 ≡ taken.block_indicator style
-    → Given (FetchedStep columns from q) (scalar.block style (next q) c)
-unfolding scalar.block
+    → Given (FetchedStep columns from q) (scalar.block_scalar_steps style (next q) c)
+unfolding scalar.block_scalar_steps
 block_holds laws text small columns from q style c l h b f =
     let d : Core = record (save_key (next q) c) { key_allowed = true; deeper = false } in
     let s : Saved (next q) c d = saved_alike (next q) c (save_key (next q) c) d (saved (next q) c)

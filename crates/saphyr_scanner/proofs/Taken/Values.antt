@@ -12,14 +12,13 @@ use Rattle.saphyr_scanner.specs.declared.engine.level.Context.TheVariants as con
 use Rattle.saphyr_scanner.specs.declared.queue.Opening.{Opening}
 use Rattle.saphyr_scanner.specs.declared.queue.Opening.TheVariants as opening
 use Rattle.saphyr_scanner.specs.Grammar.Tokens as tokens
-use Rattle.saphyr_scanner.specs.Grammar.Tokens.{Kind}
 use Rattle.saphyr_scanner.specs.Steps.Queue.{Place, Queue, put, opened, with_opening, next, empty_piece}
 use Rattle.saphyr_scanner.specs.Steps.Core.{Candidate, Level, Core, Open, perform, at_mark, is_block, in_block, forget_key, go_deeper, is_further, enter_block, roll, with_context}
 use Rattle.saphyr_scanner.specs.Steps.Passing.{separate, pass_on, with_cursor}
 use Rattle.saphyr_scanner.specs.Steps.Value as value
 use Rattle.saphyr_scanner.specs.Steps.Fetch as fetching
 use Rattle.saphyr_scanner.specs.TokensTaken as taken
-use Rattle.saphyr_scanner.specs.TokensTaken.{AreApart, IsToken, TakesCharacter}
+use Rattle.saphyr_scanner.specs.TokensTaken.{AreApart}
 use Rattle.saphyr_scanner.proofs.LineTails.{OnLine, separation_passes}
 use Rattle.saphyr_scanner.proofs.Taken.Parts.{opens_block, column_of}
 use Rattle.saphyr_scanner.proofs.Taken.Held.{Stack, taken_open, Key, KeyOf, lower, Keys, keys_weaken, keys_open}
@@ -31,17 +30,17 @@ behind_tab : {X : Type 0} → (P : X → Type 0) (c : Core) (f : Core → Result
     → ((t : Cursor) → AreApart c.cursor t → Given P (f (with_cursor t c))) → Given P (value.check_tab c >>= f)
 unfolding value.check_tab
 behind_tab P c f go =
-    by_test (slice_index c.cursor.rest 0 == 9) (separate c >>= value.refuse_tab) (Ok c) (λ r. Given P (r >>= f))
+    by_test (slice_index c.cursor.rest 0 == 9) (separate c >>= value.refuse_lone_tab) (Ok c) (λ r. Given P (r >>= f))
     (λ _. by (separation tabs.Yes c.cursor) (separation_passes c.cursor)) (λ _. go c.cursor (taken.nothing _ _))
   where
-    checked : (x : SkipTabs × Core) → Given P (f x.1) → Given P (value.refuse_tab x >>= f)
+    checked : (x : SkipTabs × Core) → Given P (f x.1) → Given P (value.refuse_lone_tab x >>= f)
     checked x h =
         by_test (in_block x.1 && not (has_valid_yaml_ws x.0)
         && ((slice_index x.1.cursor.rest 0 == 45) || is_alpha (slice_index x.1.cursor.rest 0))) _ _
         (λ r. Given P (r >>= f)) (λ _. tt) (λ _. h)
 
     by : (r : Result (SkipTabs × Cursor) Refusal) → Given (λ (x : SkipTabs × Cursor). OnLine c.cursor x.1) r
-        → Given P (((r >>= λ x. Ok (x.0, with_cursor x.1 c)) >>= value.refuse_tab) >>= f)
+        → Given P (((r >>= λ x. Ok (x.0, with_cursor x.1 c)) >>= value.refuse_lone_tab) >>= f)
     by (Ok x) h = checked (x.0, with_cursor x.1 c) (go x.1 h.apart)
     by (Err e) h = tt
 
@@ -251,8 +250,8 @@ pair_flows context.Block e = absurd (cc)
 pair_flows _ e = refl
 
 pub value_holds : (columns : List ℕ) (from : Cursor) (q : Queue) (c : Core) → Holds columns from c q
-    → slice_index c.cursor.rest 0 ≡ 58 → Given (HoldsStep columns from q) (value.fetch c)
-unfolding value.fetch
+    → slice_index c.cursor.rest 0 ≡ 58 → Given (HoldsStep columns from q) (value.value_steps c)
+unfolding value.value_steps
 value_holds columns from q c h f =
     let v : Core = with_context (value.behind_colon c.level.context) c in
     let k : Holds columns from v q = holds_lesser columns from c v q

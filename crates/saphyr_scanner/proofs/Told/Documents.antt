@@ -4,19 +4,19 @@ use Rattle.std.specs.Prelude.{◌&&◌, ◌||◌, ◌==◌, not, nat_lt, slice_i
 use Rattle.saphyr_input.specs.Classes.{is_bom, is_break, is_breakz, is_z, is_blank_or_breakz}
 use Rattle.saphyr_input.specs.Places.{is_document_start, is_document_end, next_3_are}
 use Rattle.saphyr_input.specs.declared.input.SkipTabs.{SkipTabs}
-use Rattle.saphyr_scalar.specs.declared.reading.block.BlockStyle.TheVariants as block_style
+use Rattle.scalar_values.specs.declared.block.BlockStyle.TheVariants as block_style
 use Rattle.saphyr_scalar.specs.declared.scalar.position.Marker.{Marker}
 use Rattle.saphyr_scalar.specs.declared.scalar.fault.Refusal.{Refusal}
 use Rattle.saphyr_scalar.specs.Views.Cursor.{Cursor, ◌>>=◌, along, pass}
 use Rattle.saphyr_scalar.specs.Steps.Directive as directives
-use Rattle.saphyr_scalar.specs.Steps.Directive.{Directive}
+use Rattle.saphyr_scalar.specs.Steps.Directive.{ReadDirective}
 use Rattle.saphyr_scanner.specs.declared.engine.level.Context.TheVariants as context
 use Rattle.saphyr_scanner.specs.Grammar.Tokens as tokens
 use Rattle.saphyr_scanner.specs.Grammar.Tokens.{Kind}
 use Rattle.saphyr_scanner.specs.Steps.Queue.{Queue, next}
 use Rattle.saphyr_scanner.specs.Steps.Core.{Core, Steps, in_block, remove_key, drop_far_key, least_column}
 use Rattle.saphyr_scanner.specs.Steps.Document as document
-use Rattle.saphyr_scanner.specs.Steps.Fetch.{step, content, fetch_here, arrive, fetch}
+use Rattle.saphyr_scanner.specs.Steps.Fetch.{step, state_behind_content, fetch_here, arrive, fetch}
 use Rattle.saphyr_scanner.specs.Steps.Passing.{separate, pass_gap}
 use Rattle.saphyr_scanner.specs.Steps.State.{State, carried, separated, acted}
 use Rattle.saphyr_scanner.specs.TokensTaken as taken
@@ -145,8 +145,9 @@ end_marker_told laws s e n =
     by t (Ok x) h = h
     by t (Err e) h = h
 
-pub mark_told : (s : State) → s.core.comment ≡ None → Told NotedState s.core.cursor (document.byte_order_mark s)
-unfolding document.byte_order_mark
+pub mark_told : (s : State) → s.core.comment ≡ None
+    → Told NotedState s.core.cursor (document.state_behind_byte_order_mark s)
+unfolding document.state_behind_byte_order_mark
 mark_told s n =
     by_test (nat_lt 0 s.core.cursor.mark.col || not (in_block s.core)) _ _ (Told NotedState s.core.cursor)
     (λ _. at_here s.core.cursor)
@@ -157,7 +158,7 @@ read_directive_told : RefusalLaws → (c : Core) → slice_index c.cursor.rest 0
     → Told NotedStep c.cursor (document.read_directive c)
 unfolding document.read_directive
 read_directive_told laws c e n =
-    let P : Directive × Marker × Cursor → Type 0 = λ x. Unit {0} in
+    let P : ReadDirective × Marker × Cursor → Type 0 = λ x. Unit {0} in
     let r = directives.directive c.cursor in
     told_then P NotedStep c.cursor r _ (reader_told P c.cursor r (given_any r) (λ f q. laws.directive c.cursor f e q))
     (λ x h. inl n)
@@ -167,8 +168,8 @@ acted_told s (Ok x) q h = h
 acted_told s (Err e) q h = h
 
 pub directive_told : RefusalLaws → (s : State) → slice_index s.core.cursor.rest 0 ≡ 37 → s.core.comment ≡ None
-    → Told NotedState s.core.cursor (document.directive s)
-unfolding document.directive
+    → Told NotedState s.core.cursor (document.state_behind_directive s)
+unfolding document.state_behind_directive
 directive_told laws s e n =
     told_then (StillState s) NotedState s.core.cursor (document.end_content s) _ (content_told s)
     (λ t h.
@@ -215,7 +216,7 @@ step_told texts laws first second k c some f n =
 
 pub here_told : TextLaws → RefusalLaws → (s : State) → s.core.comment ≡ None
     → Told NotedState s.core.cursor (fetch_here s)
-unfolding fetch_here content
+unfolding fetch_here state_behind_content
 here_told texts laws s n =
     let t = s.core.cursor.rest in
     let P = Told NotedState s.core.cursor in

@@ -4,15 +4,15 @@ use Rattle.std.specs.Prelude.{◌&&◌, ◌==◌, not, slice_index}
 use Rattle.saphyr_input.specs.Classes.{is_break}
 use Rattle.saphyr_input.specs.declared.input.SkipTabs.{SkipTabs}
 use Rattle.saphyr_input.specs.declared.input.SkipTabs.TheVariants as tabs
-use Rattle.saphyr_scalar.specs.declared.reading.block.BlockStyle.{BlockStyle}
-use Rattle.saphyr_scalar.specs.declared.reading.flow.Quote.{Quote}
+use Rattle.scalar_values.specs.declared.block.BlockStyle.{BlockStyle}
+use Rattle.scalar_values.specs.declared.flow.Quote.{Quote}
 use Rattle.saphyr_scalar.specs.declared.scalar.position.Marker.{Marker}
 use Rattle.saphyr_scalar.specs.declared.scalar.fault.Refusal.{Refusal}
 use Rattle.saphyr_scalar.specs.Steps.Anchor as anchors
 use Rattle.saphyr_scalar.specs.Steps.Block as blocks
 use Rattle.saphyr_scalar.specs.Views.Cursor.{Cursor, ◌>>=◌, pass, separation}
 use Rattle.saphyr_scalar.specs.Steps.Directive as directives
-use Rattle.saphyr_scalar.specs.Reading.Flow.{mark}
+use Rattle.scalar_values.specs.Flow.{mark}
 use Rattle.saphyr_scalar.specs.RefusedInside.{IsRefusedInside}
 use Rattle.saphyr_scalar.specs.Steps.Plain as words
 use Rattle.saphyr_scalar.specs.Steps.Quoted as quoted
@@ -144,7 +144,7 @@ separate_goes laws s c g = by (separation tabs.Yes c.cursor) refl (separation_pa
 pub gap_told : (c : Core) → Noted c → Told (Goes c.cursor) c.cursor (pass_gap c)
 unfolding pass_gap check_comment
 gap_told c n =
-    by (gaps.pass_gap (least_column c) c.cursor) (gap_apart (least_column c) false false c.cursor)
+    by (gaps.passed_gap (least_column c) c.cursor) (gap_apart (least_column c) false false c.cursor)
     (gap_refused (least_column c) c.cursor.mark c.cursor.blank_so_far false false c.cursor.rest)
   where
     checked : (o : Option Marker) (d : Core) → d.comment ≡ o → IsNoted o c.cursor → Reaches c.cursor d.cursor

@@ -3,10 +3,10 @@ use Rattle.std.proofs.Common.{◌≡◌, ℕ, ◌<◌, Bool, true, false, List, 
 use Rattle.std.specs.Prelude.{◌&&◌, not, nat_lt, slice_index}
 use Rattle.saphyr_input.specs.Classes.{is_break}
 use Rattle.saphyr_input.specs.declared.input.SkipTabs.{SkipTabs}
-use Rattle.saphyr_scalar.specs.declared.reading.block.BlockStyle.{BlockStyle}
-use Rattle.saphyr_scalar.specs.declared.reading.block.BlockStyle.TheVariants as block_style
-use Rattle.saphyr_scalar.specs.declared.reading.flow.Quote.{Quote}
-use Rattle.saphyr_scalar.specs.declared.reading.flow.Quote.TheVariants.{Single, Double}
+use Rattle.scalar_values.specs.declared.block.BlockStyle.{BlockStyle}
+use Rattle.scalar_values.specs.declared.block.BlockStyle.TheVariants as block_style
+use Rattle.scalar_values.specs.declared.flow.Quote.{Quote}
+use Rattle.scalar_values.specs.declared.flow.Quote.TheVariants.{Single, Double}
 use Rattle.saphyr_scalar.specs.declared.scalar.position.Marker.{Marker}
 use Rattle.saphyr_scalar.specs.declared.scalar.position.Span.{Span}
 use Rattle.saphyr_scalar.specs.declared.scalar.fault.Refusal.{Refusal}
@@ -15,7 +15,7 @@ use Rattle.saphyr_scalar.specs.declared.scalar.style.ScalarStyle.TheVariants.{Si
 use Rattle.saphyr_scalar.specs.Steps.Anchor as anchors
 use Rattle.saphyr_scalar.specs.Steps.Block as blocks
 use Rattle.saphyr_scalar.specs.Views.Cursor.{Cursor, ◌>>=◌}
-use Rattle.saphyr_scalar.specs.Reading.Flow.{mark}
+use Rattle.scalar_values.specs.Flow.{mark}
 use Rattle.saphyr_scalar.specs.Steps.Plain as words
 use Rattle.saphyr_scalar.specs.Steps.Quoted as quoted
 use Rattle.saphyr_scalar.specs.Steps.Tag as tags
@@ -77,8 +77,8 @@ unfolding scalar.read_double_quoted
 read_double_told texts laws c e n = read_quoted_told texts laws Double DoubleQuoted c e n
 
 pub double_told : TextLaws → RefusalLaws → (k : ℕ) (c : Core) → slice_index c.cursor.rest 0 ≡ 34 → c.comment ≡ None
-    → Told NotedStep c.cursor (scalar.double_quoted k c)
-unfolding scalar.double_quoted
+    → Told NotedStep c.cursor (scalar.double_quoted_steps k c)
+unfolding scalar.double_quoted_steps
 double_told texts laws k c e n =
     by_test c.key_allowed _ _
     (λ (d : Core). Told NotedStep c.cursor (scalar.read_double_quoted (scalar.disallow_key d)))
@@ -90,8 +90,8 @@ unfolding scalar.read_single_quoted
 read_single_told texts laws c e n = read_quoted_told texts laws Single SingleQuoted c e n
 
 pub single_told : TextLaws → RefusalLaws → (k : ℕ) (c : Core) → slice_index c.cursor.rest 0 ≡ 39 → c.comment ≡ None
-    → Told NotedStep c.cursor (scalar.single_quoted k c)
-unfolding scalar.single_quoted
+    → Told NotedStep c.cursor (scalar.single_quoted_steps k c)
+unfolding scalar.single_quoted_steps
 single_told texts laws k c e n =
     by_test c.key_allowed _ _
     (λ (d : Core). Told NotedStep c.cursor (scalar.read_single_quoted (scalar.disallow_key d)))
@@ -109,8 +109,8 @@ read_plain_told laws c =
     (plain_ends (not (in_block c)) c.indent c.cursor) (laws.plain (not (in_block c)) c.indent c.cursor))
     (λ x h. h.0))
 
-pub plain_told : RefusalLaws → (k : ℕ) (c : Core) → Told NotedStep c.cursor (scalar.plain k c)
-unfolding scalar.plain
+pub plain_told : RefusalLaws → (k : ℕ) (c : Core) → Told NotedStep c.cursor (scalar.plain_steps k c)
+unfolding scalar.plain_steps
 plain_told laws k c =
     by_test c.key_allowed _ _
     (λ (d : Core). Told NotedStep c.cursor (scalar.read_plain (record (scalar.disallow_key d) { deeper = false })))
@@ -137,8 +137,8 @@ read_block_told laws style c e some n =
 
 pub block_told : RefusalLaws → (style : BlockStyle) (k : ℕ) (c : Core)
     → slice_index c.cursor.rest 0 ≡ block_indicator style → 0 < length c.cursor.rest → c.comment ≡ None
-    → Told NotedStep c.cursor (scalar.block style k c)
-unfolding scalar.block
+    → Told NotedStep c.cursor (scalar.block_scalar_steps style k c)
+unfolding scalar.block_scalar_steps
 block_told laws style k c e some n =
     by_test c.key_allowed _ _
     (λ (d : Core). Told NotedStep c.cursor
@@ -158,8 +158,8 @@ read_name_told laws is_alias c n =
     (λ x h. inl n)
 
 pub name_told : RefusalLaws → (is_alias : Bool) (k : ℕ) (c : Core) → c.comment ≡ None
-    → Told NotedStep c.cursor (property.name is_alias k c)
-unfolding property.name
+    → Told NotedStep c.cursor (property.name_steps is_alias k c)
+unfolding property.name_steps
 name_told laws is_alias k c n =
     by_test c.key_allowed _ _
     (λ (d : Core). Told NotedStep c.cursor (property.read_name is_alias (scalar.disallow_key d)))
@@ -174,8 +174,8 @@ read_tag_told laws c n =
     told_then P NotedStep c.cursor r _ (reader_here P c.cursor r (given_any r) (laws.tag (not (in_block c)) c.cursor))
     (λ x h. inl n)
 
-pub tag_told : RefusalLaws → (k : ℕ) (c : Core) → c.comment ≡ None → Told NotedStep c.cursor (property.tag k c)
-unfolding property.tag
+pub tag_told : RefusalLaws → (k : ℕ) (c : Core) → c.comment ≡ None → Told NotedStep c.cursor (property.tag_steps k c)
+unfolding property.tag_steps
 tag_told laws k c n =
     by_test c.key_allowed _ _ (λ (d : Core). Told NotedStep c.cursor (property.read_tag (scalar.disallow_key d)))
     (λ _. read_tag_told laws _ n) (λ _. read_tag_told laws (scalar.disallow_key c) n)

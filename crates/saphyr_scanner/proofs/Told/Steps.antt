@@ -42,8 +42,8 @@ open_told laws x kind i c z b e n =
 
 pub start_told : RefusalLaws → (x : Context) (kind : Kind) (i k : ℕ) (c : Core) → (i == 0) ≡ false → is_break i ≡ false
     → slice_index c.cursor.rest 0 ≡ i → c.comment ≡ None
-    → Told NotedStep c.cursor (flow.start x kind k c)
-unfolding flow.start
+    → Told NotedStep c.cursor (flow.opening_steps x kind k c)
+unfolding flow.opening_steps
 start_told laws x kind i k c z b e n =
     by_test c.key_allowed _ _ (λ (d : Core). Told NotedStep c.cursor (flow.open_collection x kind (go_deeper d)))
     (λ _. open_told laws x kind i _ z b e n)
@@ -55,8 +55,8 @@ left_still (l ∷ ls) c = (refl, refl)
 
 pub end_told : RefusalLaws → (is_sequence : Bool) (kind : Kind) (i : ℕ) (c : Core) → (i == 0) ≡ false
     → is_break i ≡ false → slice_index c.cursor.rest 0 ≡ i → c.comment ≡ None
-    → Told NotedStep c.cursor (flow.end is_sequence kind c)
-unfolding flow.end flow.close_collection
+    → Told NotedStep c.cursor (flow.closing_steps is_sequence kind c)
+unfolding flow.closing_steps flow.close_collection
 end_told laws is_sequence kind i c z b e n =
     by_test (in_block c) _ _ (Told NotedStep c.cursor) (λ _. at_here c.cursor)
     (λ _. told_then (λ (d : SkipTabs × Core). Goes c.cursor d.1) NotedStep c.cursor
@@ -65,10 +65,10 @@ end_told laws is_sequence kind i c z b e n =
     (λ d g. by_test (in_block d.1) _ _ Noted (λ _. inl g.1) (λ _. inl g.1)))
 
 pub flow_entry_told : RefusalLaws → (c : Core) → slice_index c.cursor.rest 0 ≡ 44 → c.comment ≡ None
-    → Told NotedStep c.cursor (flow.entry c)
-unfolding flow.entry flow.next_entry
+    → Told NotedStep c.cursor (flow.flow_entry_steps c)
+unfolding flow.flow_entry_steps flow.next_flow_entry
 flow_entry_told laws c e n =
-    told_then (Still c) NotedStep c.cursor (remove_key c) flow.next_entry (remove_still c)
+    told_then (Still c) NotedStep c.cursor (remove_key c) flow.next_flow_entry (remove_still c)
     (λ d s.
     let f : Core = with_context (flow.behind_entry d.level.context) (record d { key_allowed = true }) in
     told_then (λ (x : SkipTabs × Core). Goes c.cursor x.1) NotedStep c.cursor (separate (pass_on 1 f)) _
@@ -100,7 +100,7 @@ block_entry_told laws c e n =
     (λ d h. inl h.1)))
 
 mark_told : (s : Cursor) (c : Core) → Reaches s (pass 1 c.cursor) → c.comment ≡ None
-    → Told (Goes s) s (block.pass_mark c)
+    → Told (Goes s) s (block.pass_question c)
 unfolding block.behind_mark
 mark_told s c a n =
     let t : Cursor = pass 1 c.cursor in
@@ -136,7 +136,7 @@ tab_told : RefusalLaws → (s : Cursor) (c : Core) → Goes s c → Told (Goes s
 unfolding value.check_tab
 tab_told laws s c g =
     by_test (slice_index c.cursor.rest 0 == 9) _ _ (Told (Goes s) s)
-    (λ _. told_then (λ (x : SkipTabs × Core). Goes s x.1) (Goes s) s (separate c) value.refuse_tab
+    (λ _. told_then (λ (x : SkipTabs × Core). Goes s x.1) (Goes s) s (separate c) value.refuse_lone_tab
     (separate_goes laws s c g)
     (λ x h. by_test (in_block x.1 && not (has_valid_yaml_ws x.0)
     && ((slice_index x.1.cursor.rest 0 == 45) || is_alpha (slice_index x.1.cursor.rest 0))) _ _ (Told (Goes s) s)
@@ -157,8 +157,8 @@ colon_told None begins s c n =
     by_test (in_block c && not c.key_allowed) _ _ (Told NotedStep s) (λ _. at_here s) (λ _. inl (rolled s.mark.col c n))
 
 pub value_told : RefusalLaws → (c : Core) → slice_index c.cursor.rest 0 ≡ 58 → c.comment ≡ None
-    → Told NotedStep c.cursor (value.fetch c)
-unfolding value.fetch
+    → Told NotedStep c.cursor (value.value_steps c)
+unfolding value.value_steps
 value_told laws c e n =
     let f : Core = pass_on 1 (with_context (value.behind_colon c.level.context) c) in
     told_then (Goes c.cursor) NotedStep c.cursor (value.check_tab f) _

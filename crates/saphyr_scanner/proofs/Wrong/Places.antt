@@ -3,7 +3,6 @@ use Rattle.std.proofs.Common.{◌≡◌, true, sym, ap, ◌∙◌}
 use Rattle.std.specs.Prelude.{codes, slice_index}
 use Rattle.saphyr_scanner.specs.TokensTaken.{AreTakenFrom, begins_text}
 use Rattle.saphyr_scanner.specs.Examples.TakenTexts as texts
-use Rattle.saphyr_scanner.specs.Examples.TakenTexts.{at}
 use Rattle.saphyr_scanner.proofs.Wrong.Standing.{tokens_stand, at_origin}
 
 pub other_indentation : AreTakenFrom (codes " a: |1\n   b") texts.other_indentation → ⊥

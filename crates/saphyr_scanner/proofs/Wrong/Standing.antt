@@ -2,7 +2,6 @@
 use Rattle.std.proofs.Common.{◌≡◌, ◌≢◌, ℕ, Bool, true, false, List, [], ◌∷◌, ◌++◌, length, take, drop, refl, sym, ap, ◌∙◌, arith, append_assoc}
 use Rattle.std.specs.Prelude.{◌||◌, ◌==◌, slice_index}
 use Rattle.std.specs.List.{list_any}
-use Rattle.std.proofs.lemmas.Bool.Decides.{nat_tests}
 use Rattle.std.proofs.lemmas.List.{take-append-drop, length-append}
 use Rattle.saphyr_scalar.specs.declared.scalar.position.Marker.{Marker}
 use Rattle.saphyr_scalar.specs.Views.Cursor.{Cursor, fresh}
@@ -10,7 +9,7 @@ use Rattle.saphyr_scalar.specs.Steps.Quoted.{break_len}
 use Rattle.saphyr_input.specs.Classes.{byte_order_mark}
 use Rattle.saphyr_scanner.specs.Views.Tokens.{Piece}
 use Rattle.saphyr_scanner.specs.TokensTaken as taken
-use Rattle.saphyr_scanner.specs.TokensTaken.{IsReached, IsToken, AreTokens, open_behind, least_column}
+use Rattle.saphyr_scanner.specs.TokensTaken.{IsReached, IsToken, AreTokens, open_behind, least_column_in}
 use Rattle.saphyr_scanner.proofs.Reached.{reached_counted, apart_reached}
 use Rattle.saphyr_scanner.proofs.Taken.Places.{Reaches, reaches_reaches, token_reached}
 use Rattle.std.proofs.lemmas.Bool.{eq-eqb}
@@ -31,7 +30,7 @@ tokens_stand_from : (text columns : List ℕ) (ps : List Piece) (s u : Cursor) �
     → AreTokens columns ps s u → AllStand text ps
 tokens_stand_from text columns [] s u r h = tt
 tokens_stand_from text columns (p ∷ ps) s u r h =
-    let i = least_column columns in
+    let i = least_column_in columns in
     let a = reaches_reaches (fresh text) s h.0 r (apart_reached s.mark s.rest h.0.mark h.0.rest h.2) in
     let b = reaches_reaches (fresh text) h.0 h.1 a (token_reached i p.kind p.span h.0 h.1 h.3) in (
       record { indent = i; here = h.0; behind = h.1; reached = a; is = h.3 },

@@ -7,11 +7,11 @@ use Rattle.saphyr_scanner.specs.Grammar.Tokens as tokens
 use Rattle.saphyr_scanner.specs.Grammar.Tokens.{Kind}
 use Rattle.saphyr_scanner.specs.Views.Tokens.{Piece, Remaining}
 
-abbrev pub plain : List ℕ → Node
-plain value = Scalar no_properties Plain value
+abbrev pub plain_node : List ℕ → Node
+plain_node value = Scalar no_properties Plain value
 
-abbrev pub double_quoted : List ℕ → Node
-double_quoted value = Scalar no_properties DoubleQuoted value
+abbrev pub double_quoted_node : List ℕ → Node
+double_quoted_node value = Scalar no_properties DoubleQuoted value
 
 -- ## A text of JSON
 
@@ -19,16 +19,16 @@ abbrev pub json_text : List ℕ
 json_text = codes "{\"a\":[1,true]}"
 
 abbrev pub json_array : Node
-json_array = Seq no_properties (MoreNodes (plain (codes "1")) (MoreNodes (plain (codes "true")) NoNode))
+json_array = Seq no_properties (MoreNodes (plain_node (codes "1")) (MoreNodes (plain_node (codes "true")) NoNode))
 
 abbrev pub json_object : Node
-json_object = Map no_properties (MorePairs (double_quoted (codes "a")) json_array NoPair)
+json_object = Map no_properties (MorePairs (double_quoted_node (codes "a")) json_array NoPair)
 
 abbrev pub json_forest : Forest
 json_forest = bare json_object ∷ []
 
-abbrev pub json_tokens : List Kind
-json_tokens =
+abbrev pub json_text_tokens : List Kind
+json_text_tokens =
     tokens.StreamStart ∷ tokens.FlowMappingStart ∷ tokens.Key ∷ tokens.Scalar DoubleQuoted (codes "a") ∷ tokens.Value
     ∷ tokens.FlowSequenceStart ∷ tokens.Scalar Plain (codes "1") ∷ tokens.FlowEntry
     ∷ tokens.Scalar Plain (codes "true") ∷ tokens.FlowSequenceEnd ∷ tokens.FlowMappingEnd ∷ tokens.StreamEnd ∷ []
@@ -36,11 +36,12 @@ json_tokens =
 -- ## A block mapping whose first value is a sequence at the mapping's column: `a:`, `- b`, `c: d` on three lines
 
 abbrev pub block_sequence : Node
-block_sequence = Seq no_properties (MoreNodes (plain (codes "b")) NoNode)
+block_sequence = Seq no_properties (MoreNodes (plain_node (codes "b")) NoNode)
 
 abbrev pub block_mapping : Node
 block_mapping = Map no_properties
-    (MorePairs (plain (codes "a")) block_sequence (MorePairs (plain (codes "c")) (plain (codes "d")) NoPair))
+    (MorePairs (plain_node (codes "a")) block_sequence
+    (MorePairs (plain_node (codes "c")) (plain_node (codes "d")) NoPair))
 
 abbrev pub block_forest : Forest
 block_forest = bare block_mapping ∷ []

@@ -8,14 +8,14 @@ use Rattle.saphyr_scanner.specs.Grammar.Tokens.{Kind}
 use Rattle.saphyr_scanner.specs.Views.Tokens.{Piece, Remaining}
 
 -- a place: its index, its line and its column
-abbrev pub at : ℕ → ℕ → ℕ → Marker
-at index line col = record { index = index; line = line; col = col }
+abbrev pub marker_at : ℕ → ℕ → ℕ → Marker
+marker_at index line col = record { index = index; line = line; col = col }
 
-abbrev pub from_to : Marker → Marker → Kind → Piece
-from_to start end kind = record { span = record { start = start; end = end }; kind = kind }
+abbrev pub piece_from_to : Marker → Marker → Kind → Piece
+piece_from_to start end kind = record { span = record { start = start; end = end }; kind = kind }
 
 abbrev pub empty_at : Marker → Kind → Piece
-empty_at m kind = from_to m m kind
+empty_at m kind = piece_from_to m m kind
 
 -- ## `{'a': "b" # c` LF `}`
 
@@ -23,14 +23,14 @@ abbrev pub flow_mapping : Remaining
 flow_mapping =
     record {
       pieces =
-          empty_at (at 0 1 0) tokens.StreamStart ∷
-          from_to (at 0 1 0) (at 1 1 1) tokens.FlowMappingStart ∷
-          empty_at (at 1 1 1) tokens.Key ∷
-          from_to (at 1 1 1) (at 4 1 4) (tokens.Scalar SingleQuoted (codes "a")) ∷
-          empty_at (at 4 1 4) tokens.Value ∷
-          from_to (at 6 1 6) (at 13 1 13) (tokens.Scalar DoubleQuoted (codes "b")) ∷
-          from_to (at 14 2 0) (at 15 2 1) tokens.FlowMappingEnd ∷
-          empty_at (at 15 3 0) tokens.StreamEnd ∷
+          empty_at (marker_at 0 1 0) tokens.StreamStart ∷
+          piece_from_to (marker_at 0 1 0) (marker_at 1 1 1) tokens.FlowMappingStart ∷
+          empty_at (marker_at 1 1 1) tokens.Key ∷
+          piece_from_to (marker_at 1 1 1) (marker_at 4 1 4) (tokens.Scalar SingleQuoted (codes "a")) ∷
+          empty_at (marker_at 4 1 4) tokens.Value ∷
+          piece_from_to (marker_at 6 1 6) (marker_at 13 1 13) (tokens.Scalar DoubleQuoted (codes "b")) ∷
+          piece_from_to (marker_at 14 2 0) (marker_at 15 2 1) tokens.FlowMappingEnd ∷
+          empty_at (marker_at 15 3 0) tokens.StreamEnd ∷
           [];
       refusal = None;
     }
@@ -41,23 +41,23 @@ abbrev pub block_mappings : Remaining
 block_mappings =
     record {
       pieces =
-          empty_at (at 0 1 0) tokens.StreamStart ∷
-          empty_at (at 0 1 0) tokens.BlockSequenceStart ∷
-          empty_at (at 2 1 2) tokens.BlockEntry ∷
-          empty_at (at 2 1 2) tokens.BlockMappingStart ∷
-          empty_at (at 2 1 2) tokens.Key ∷
-          from_to (at 2 1 2) (at 3 1 3) (tokens.Scalar Plain (codes "a")) ∷
-          empty_at (at 3 1 3) tokens.Value ∷
-          from_to (at 5 1 5) (at 6 1 6) (tokens.Scalar Plain (codes "b")) ∷
-          empty_at (at 7 2 0) tokens.BlockEnd ∷
-          empty_at (at 9 2 2) tokens.BlockEntry ∷
-          empty_at (at 9 2 2) tokens.BlockMappingStart ∷
-          empty_at (at 9 2 2) tokens.Key ∷
-          from_to (at 9 2 2) (at 10 2 3) (tokens.Scalar Plain (codes "c")) ∷
-          empty_at (at 10 2 3) tokens.Value ∷
-          empty_at (at 12 3 0) tokens.BlockEnd ∷
-          empty_at (at 12 3 0) tokens.BlockEnd ∷
-          empty_at (at 12 3 0) tokens.StreamEnd ∷
+          empty_at (marker_at 0 1 0) tokens.StreamStart ∷
+          empty_at (marker_at 0 1 0) tokens.BlockSequenceStart ∷
+          empty_at (marker_at 2 1 2) tokens.BlockEntry ∷
+          empty_at (marker_at 2 1 2) tokens.BlockMappingStart ∷
+          empty_at (marker_at 2 1 2) tokens.Key ∷
+          piece_from_to (marker_at 2 1 2) (marker_at 3 1 3) (tokens.Scalar Plain (codes "a")) ∷
+          empty_at (marker_at 3 1 3) tokens.Value ∷
+          piece_from_to (marker_at 5 1 5) (marker_at 6 1 6) (tokens.Scalar Plain (codes "b")) ∷
+          empty_at (marker_at 7 2 0) tokens.BlockEnd ∷
+          empty_at (marker_at 9 2 2) tokens.BlockEntry ∷
+          empty_at (marker_at 9 2 2) tokens.BlockMappingStart ∷
+          empty_at (marker_at 9 2 2) tokens.Key ∷
+          piece_from_to (marker_at 9 2 2) (marker_at 10 2 3) (tokens.Scalar Plain (codes "c")) ∷
+          empty_at (marker_at 10 2 3) tokens.Value ∷
+          empty_at (marker_at 12 3 0) tokens.BlockEnd ∷
+          empty_at (marker_at 12 3 0) tokens.BlockEnd ∷
+          empty_at (marker_at 12 3 0) tokens.StreamEnd ∷
           [];
       refusal = None;
     }
@@ -68,10 +68,10 @@ abbrev pub literal : Remaining
 literal =
     record {
       pieces =
-          empty_at (at 0 1 0) tokens.StreamStart ∷
-          from_to (at 0 1 0) (at 3 1 3) tokens.DocumentStart ∷
-          from_to (at 7 2 1) (at 9 3 0) (tokens.Scalar Literal (codes "a\n")) ∷
-          empty_at (at 9 3 0) tokens.StreamEnd ∷
+          empty_at (marker_at 0 1 0) tokens.StreamStart ∷
+          piece_from_to (marker_at 0 1 0) (marker_at 3 1 3) tokens.DocumentStart ∷
+          piece_from_to (marker_at 7 2 1) (marker_at 9 3 0) (tokens.Scalar Literal (codes "a\n")) ∷
+          empty_at (marker_at 9 3 0) tokens.StreamEnd ∷
           [];
       refusal = None;
     }
@@ -82,14 +82,14 @@ abbrev pub alias : Remaining
 alias =
     record {
       pieces =
-          empty_at (at 0 1 0) tokens.StreamStart ∷
-          from_to (at 0 1 0) (at 1 1 1) tokens.FlowSequenceStart ∷
-          from_to (at 1 1 1) (at 3 1 3) (tokens.Anchor (codes "x")) ∷
-          from_to (at 4 1 4) (at 5 1 5) (tokens.Scalar Plain (codes "a")) ∷
-          from_to (at 5 1 5) (at 7 1 7) tokens.FlowEntry ∷
-          from_to (at 7 1 7) (at 9 1 9) (tokens.Alias (codes "x")) ∷
-          from_to (at 9 1 9) (at 10 1 10) tokens.FlowSequenceEnd ∷
-          empty_at (at 10 2 0) tokens.StreamEnd ∷
+          empty_at (marker_at 0 1 0) tokens.StreamStart ∷
+          piece_from_to (marker_at 0 1 0) (marker_at 1 1 1) tokens.FlowSequenceStart ∷
+          piece_from_to (marker_at 1 1 1) (marker_at 3 1 3) (tokens.Anchor (codes "x")) ∷
+          piece_from_to (marker_at 4 1 4) (marker_at 5 1 5) (tokens.Scalar Plain (codes "a")) ∷
+          piece_from_to (marker_at 5 1 5) (marker_at 7 1 7) tokens.FlowEntry ∷
+          piece_from_to (marker_at 7 1 7) (marker_at 9 1 9) (tokens.Alias (codes "x")) ∷
+          piece_from_to (marker_at 9 1 9) (marker_at 10 1 10) tokens.FlowSequenceEnd ∷
+          empty_at (marker_at 10 2 0) tokens.StreamEnd ∷
           [];
       refusal = None;
     }
@@ -100,46 +100,46 @@ abbrev pub block_alias : Remaining
 block_alias =
     record {
       pieces =
-          empty_at (at 0 1 0) tokens.StreamStart ∷
-          empty_at (at 0 1 0) tokens.BlockSequenceStart ∷
-          empty_at (at 2 1 2) tokens.BlockEntry ∷
-          from_to (at 2 1 2) (at 4 1 4) (tokens.Anchor (codes "a")) ∷
-          from_to (at 5 1 5) (at 6 1 6) (tokens.Scalar Plain (codes "b")) ∷
-          empty_at (at 9 2 2) tokens.BlockEntry ∷
-          from_to (at 9 2 2) (at 11 2 4) (tokens.Alias (codes "a")) ∷
-          empty_at (at 11 3 0) tokens.BlockEnd ∷
-          empty_at (at 11 3 0) tokens.StreamEnd ∷
+          empty_at (marker_at 0 1 0) tokens.StreamStart ∷
+          empty_at (marker_at 0 1 0) tokens.BlockSequenceStart ∷
+          empty_at (marker_at 2 1 2) tokens.BlockEntry ∷
+          piece_from_to (marker_at 2 1 2) (marker_at 4 1 4) (tokens.Anchor (codes "a")) ∷
+          piece_from_to (marker_at 5 1 5) (marker_at 6 1 6) (tokens.Scalar Plain (codes "b")) ∷
+          empty_at (marker_at 9 2 2) tokens.BlockEntry ∷
+          piece_from_to (marker_at 9 2 2) (marker_at 11 2 4) (tokens.Alias (codes "a")) ∷
+          empty_at (marker_at 11 3 0) tokens.BlockEnd ∷
+          empty_at (marker_at 11 3 0) tokens.StreamEnd ∷
           [];
       refusal = None;
     }
 
 -- ## `%TAG !e! t:` LF `--- !e!u v`
 
-abbrev pub tag : Remaining
-tag =
+abbrev pub tag_tokens : Remaining
+tag_tokens =
     record {
       pieces =
-          empty_at (at 0 1 0) tokens.StreamStart ∷
-          from_to (at 0 1 0) (at 11 1 11) (tokens.TagDirective (codes "!e!") (codes "t:")) ∷
-          from_to (at 12 2 0) (at 15 2 3) tokens.DocumentStart ∷
-          from_to (at 16 2 4) (at 20 2 8) (tokens.Tag (codes "!e!") (codes "u")) ∷
-          from_to (at 21 2 9) (at 22 2 10) (tokens.Scalar Plain (codes "v")) ∷
-          empty_at (at 23 3 0) tokens.StreamEnd ∷
+          empty_at (marker_at 0 1 0) tokens.StreamStart ∷
+          piece_from_to (marker_at 0 1 0) (marker_at 11 1 11) (tokens.TagDirective (codes "!e!") (codes "t:")) ∷
+          piece_from_to (marker_at 12 2 0) (marker_at 15 2 3) tokens.DocumentStart ∷
+          piece_from_to (marker_at 16 2 4) (marker_at 20 2 8) (tokens.Tag (codes "!e!") (codes "u")) ∷
+          piece_from_to (marker_at 21 2 9) (marker_at 22 2 10) (tokens.Scalar Plain (codes "v")) ∷
+          empty_at (marker_at 23 3 0) tokens.StreamEnd ∷
           [];
       refusal = None;
     }
 
 -- ## `(mark)a` LF `...`
 
-abbrev pub byte_order_mark : Remaining
-byte_order_mark =
+abbrev pub byte_order_mark_tokens : Remaining
+byte_order_mark_tokens =
     record {
       pieces =
-          empty_at (at 0 1 0) tokens.StreamStart ∷
-          from_to (at 0 1 0) (at 1 1 0) tokens.ByteOrderMark ∷
-          from_to (at 1 1 0) (at 2 1 1) (tokens.Scalar Plain (codes "a")) ∷
-          from_to (at 3 2 0) (at 6 2 3) tokens.DocumentEnd ∷
-          empty_at (at 7 3 0) tokens.StreamEnd ∷
+          empty_at (marker_at 0 1 0) tokens.StreamStart ∷
+          piece_from_to (marker_at 0 1 0) (marker_at 1 1 0) tokens.ByteOrderMark ∷
+          piece_from_to (marker_at 1 1 0) (marker_at 2 1 1) (tokens.Scalar Plain (codes "a")) ∷
+          piece_from_to (marker_at 3 2 0) (marker_at 6 2 3) tokens.DocumentEnd ∷
+          empty_at (marker_at 7 3 0) tokens.StreamEnd ∷
           [];
       refusal = None;
     }
@@ -150,14 +150,14 @@ abbrev pub refusal : Remaining
 refusal =
     record {
       pieces =
-          empty_at (at 0 1 0) tokens.StreamStart ∷
-          empty_at (at 0 1 0) tokens.BlockMappingStart ∷
-          empty_at (at 0 1 0) tokens.Key ∷
-          from_to (at 0 1 0) (at 1 1 1) (tokens.Scalar Plain (codes "a")) ∷
-          empty_at (at 1 1 1) tokens.Value ∷
-          from_to (at 3 1 3) (at 4 1 4) (tokens.Scalar Plain (codes "b")) ∷
+          empty_at (marker_at 0 1 0) tokens.StreamStart ∷
+          empty_at (marker_at 0 1 0) tokens.BlockMappingStart ∷
+          empty_at (marker_at 0 1 0) tokens.Key ∷
+          piece_from_to (marker_at 0 1 0) (marker_at 1 1 1) (tokens.Scalar Plain (codes "a")) ∷
+          empty_at (marker_at 1 1 1) tokens.Value ∷
+          piece_from_to (marker_at 3 1 3) (marker_at 4 1 4) (tokens.Scalar Plain (codes "b")) ∷
           [];
-      refusal = Some (record { text = fault.ValueNotAllowed; mark = at 4 1 4 });
+      refusal = Some (record { text = fault.ValueNotAllowed; mark = marker_at 4 1 4 });
     }
 
 -- ## `a: >1-` LF `  b` LF ` c`
@@ -166,14 +166,14 @@ abbrev pub indentation : Remaining
 indentation =
     record {
       pieces =
-          empty_at (at 0 1 0) tokens.StreamStart ∷
-          empty_at (at 0 1 0) tokens.BlockMappingStart ∷
-          empty_at (at 0 1 0) tokens.Key ∷
-          from_to (at 0 1 0) (at 1 1 1) (tokens.Scalar Plain (codes "a")) ∷
-          empty_at (at 1 1 1) tokens.Value ∷
-          from_to (at 8 2 1) (at 14 4 0) (tokens.Scalar Folded (codes " b\nc")) ∷
-          empty_at (at 14 4 0) tokens.BlockEnd ∷
-          empty_at (at 14 4 0) tokens.StreamEnd ∷
+          empty_at (marker_at 0 1 0) tokens.StreamStart ∷
+          empty_at (marker_at 0 1 0) tokens.BlockMappingStart ∷
+          empty_at (marker_at 0 1 0) tokens.Key ∷
+          piece_from_to (marker_at 0 1 0) (marker_at 1 1 1) (tokens.Scalar Plain (codes "a")) ∷
+          empty_at (marker_at 1 1 1) tokens.Value ∷
+          piece_from_to (marker_at 8 2 1) (marker_at 14 4 0) (tokens.Scalar Folded (codes " b\nc")) ∷
+          empty_at (marker_at 14 4 0) tokens.BlockEnd ∷
+          empty_at (marker_at 14 4 0) tokens.StreamEnd ∷
           [];
       refusal = None;
     }
@@ -185,10 +185,10 @@ abbrev pub dropped_word : Remaining
 dropped_word =
     record {
       pieces =
-          empty_at (at 0 1 0) tokens.StreamStart ∷
-          from_to (at 0 1 0) (at 1 1 1) tokens.FlowSequenceStart ∷
-          from_to (at 2 1 2) (at 3 1 3) tokens.FlowSequenceEnd ∷
-          empty_at (at 3 2 0) tokens.StreamEnd ∷
+          empty_at (marker_at 0 1 0) tokens.StreamStart ∷
+          piece_from_to (marker_at 0 1 0) (marker_at 1 1 1) tokens.FlowSequenceStart ∷
+          piece_from_to (marker_at 2 1 2) (marker_at 3 1 3) tokens.FlowSequenceEnd ∷
+          empty_at (marker_at 3 2 0) tokens.StreamEnd ∷
           [];
       refusal = None;
     }
@@ -197,9 +197,9 @@ abbrev pub other_value : Remaining
 other_value =
     record {
       pieces =
-          empty_at (at 0 1 0) tokens.StreamStart ∷
-          from_to (at 0 1 0) (at 1 1 1) (tokens.Scalar Plain (codes "b")) ∷
-          empty_at (at 1 2 0) tokens.StreamEnd ∷
+          empty_at (marker_at 0 1 0) tokens.StreamStart ∷
+          piece_from_to (marker_at 0 1 0) (marker_at 1 1 1) (tokens.Scalar Plain (codes "b")) ∷
+          empty_at (marker_at 1 2 0) tokens.StreamEnd ∷
           [];
       refusal = None;
     }
@@ -208,10 +208,10 @@ abbrev pub other_start : Remaining
 other_start =
     record {
       pieces =
-          empty_at (at 0 1 0) tokens.StreamStart ∷
-          empty_at (at 1 1 1) tokens.FlowSequenceStart ∷
-          from_to (at 1 1 1) (at 2 1 2) tokens.FlowSequenceEnd ∷
-          empty_at (at 2 2 0) tokens.StreamEnd ∷
+          empty_at (marker_at 0 1 0) tokens.StreamStart ∷
+          empty_at (marker_at 1 1 1) tokens.FlowSequenceStart ∷
+          piece_from_to (marker_at 1 1 1) (marker_at 2 1 2) tokens.FlowSequenceEnd ∷
+          empty_at (marker_at 2 2 0) tokens.StreamEnd ∷
           [];
       refusal = None;
     }
@@ -220,14 +220,14 @@ abbrev pub other_indentation : Remaining
 other_indentation =
     record {
       pieces =
-          empty_at (at 0 1 0) tokens.StreamStart ∷
-          empty_at (at 0 1 0) tokens.BlockMappingStart ∷
-          empty_at (at 1 1 1) tokens.Key ∷
-          from_to (at 1 1 1) (at 2 1 2) (tokens.Scalar Plain (codes "a")) ∷
-          empty_at (at 2 1 2) tokens.Value ∷
-          from_to (at 8 2 1) (at 11 2 4) (tokens.Scalar Literal (codes "  b\n")) ∷
-          empty_at (at 11 2 4) tokens.BlockEnd ∷
-          empty_at (at 11 3 0) tokens.StreamEnd ∷
+          empty_at (marker_at 0 1 0) tokens.StreamStart ∷
+          empty_at (marker_at 0 1 0) tokens.BlockMappingStart ∷
+          empty_at (marker_at 1 1 1) tokens.Key ∷
+          piece_from_to (marker_at 1 1 1) (marker_at 2 1 2) (tokens.Scalar Plain (codes "a")) ∷
+          empty_at (marker_at 2 1 2) tokens.Value ∷
+          piece_from_to (marker_at 8 2 1) (marker_at 11 2 4) (tokens.Scalar Literal (codes "  b\n")) ∷
+          empty_at (marker_at 11 2 4) tokens.BlockEnd ∷
+          empty_at (marker_at 11 3 0) tokens.StreamEnd ∷
           [];
       refusal = None;
     }

@@ -4,10 +4,10 @@
 use Rattle.std.specs.Prelude.{◌≡◌, ◌≢◌, ℕ, suc, ◌+◌, ◌<◌, ◌≤◌, ◌⊎◌, Bool, true, false, not, ◌==◌, ◌&&◌, ◌||◌, List, [], ◌∷◌, ◌++◌, length, IsTrue, IsFalse, codes}
 use Rattle.saphyr_input.specs.Classes.{is_blank, is_break, tab, space}
 use Rattle.saphyr_input.specs.Places.{is_document_indicator}
-use Rattle.saphyr_scalar.specs.declared.reading.block.BlockStyle.{BlockStyle}
-use Rattle.saphyr_scalar.specs.declared.reading.block.BlockStyle.TheVariants as block
-use Rattle.saphyr_scalar.specs.declared.reading.block.Chomping.{Chomping}
-use Rattle.saphyr_scalar.specs.Reading.Block.{Line, lines_value}
+use Rattle.scalar_values.specs.declared.block.BlockStyle.{BlockStyle}
+use Rattle.scalar_values.specs.declared.block.BlockStyle.TheVariants as block
+use Rattle.scalar_values.specs.declared.block.Chomping.{Chomping}
+use Rattle.scalar_values.specs.Block.{Line, lines_value}
 use Rattle.saphyr_scalar.specs.Steps.BlockRead.{spaces}
 use Rattle.saphyr_scalar.specs.Spelling.Block.{IsBlockScalar}
 use Rattle.saphyr_scalar.specs.Spelling.Spaces.{AreSpaces, IsLineEnd, IsEol, IsFiller, IsLastFiller, IsGap}

@@ -8,7 +8,7 @@ use Rattle.saphyr_scalar.specs.Spelling.Tag.{AreIn, IsAnchorName}
 use Rattle.saphyr_scalar.specs.Spelling.Spaces.{AreSpaces, IsSeparation}
 use Rattle.saphyr_scanner.specs.Grammar.Forest.{Style, Plain, SingleQuoted, DoubleQuoted, Tag, Properties, no_properties, Node, Alias, Scalar, Seq, Map, Nodes, NoNode, MoreNodes, Pairs, NoPair, MorePairs, left_out}
 use Rattle.saphyr_scanner.specs.Grammar.TagSpelling.{IsTag}
-use Rattle.saphyr_scalar.specs.Reading.Flow.{plain_value}
+use Rattle.scalar_values.specs.Flow.{plain_value}
 use Rattle.saphyr_scanner.specs.Grammar.FlowScalars.{IsPlainKey, IsFlowScalar}
 
 -- ## Properties and aliases

@@ -2,11 +2,11 @@
 -- `indent` is the first column to the right of the enclosing block collection, and 0 at the root.
 use Rattle.std.specs.Prelude.{◌≡◌, ◌≢◌, ℕ, Bool, not, ◌⊎◌, List, [], ◌∷◌, ◌++◌, slice_index, IsTrue, codes}
 use Rattle.saphyr_input.specs.Classes.{is_one_of, is_blank}
-use Rattle.saphyr_scalar.specs.declared.reading.folding.Item.{Item}
-use Rattle.saphyr_scalar.specs.declared.reading.flow.Quote.{Quote}
-use Rattle.saphyr_scalar.specs.declared.reading.flow.Quote.TheVariants.{Single, Double}
-use Rattle.saphyr_scalar.specs.Reading.Folding.{folded}
-use Rattle.saphyr_scalar.specs.Reading.Flow.{mark, plain_value}
+use Rattle.scalar_values.specs.declared.folding.Item.{Item}
+use Rattle.scalar_values.specs.declared.flow.Quote.{Quote}
+use Rattle.scalar_values.specs.declared.flow.Quote.TheVariants.{Single, Double}
+use Rattle.scalar_values.specs.Folding.{folded}
+use Rattle.scalar_values.specs.Flow.{mark, plain_value}
 use Rattle.saphyr_scalar.specs.Spelling.Plain.{is_word_ink, IsWordIn}
 use Rattle.saphyr_scalar.specs.Spelling.Quoted.{IsText}
 use Rattle.saphyr_scalar.specs.Spelling.QuotedLines.{LinesFit}

@@ -63,12 +63,12 @@ behind_mark space c =
     else if slice_index c.cursor.rest 0 == 9 then refuse fault.TabNotAllowed c.cursor.mark
     else Ok c
 
-abbrev pub pass_mark : Core → Result Core Refusal
-pass_mark c = let s = spaces_at false (pass_on 1 c).cursor in behind_mark s.space (with_cursor s.cursor c)
+abbrev pub pass_question : Core → Result Core Refusal
+pass_question c = let s = spaces_at false (pass_on 1 c).cursor in behind_mark s.space (with_cursor s.cursor c)
 
 unfoldable pub begin_key : Core → Result Core Refusal
 begin_key c =
-    remove_key (with_context (behind_question c.level.context) (roll c.cursor.mark.col c)) >>= λ d. pass_mark
+    remove_key (with_context (behind_question c.level.context) (roll c.cursor.mark.col c)) >>= λ d. pass_question
     (record d { key_allowed = in_block d })
 
 -- `?`

@@ -42,8 +42,8 @@ abbrev pub at_root : Level
 at_root = record { context = context.Block; key = None }
 
 -- at the start of a text
-abbrev pub start : List ℕ → Core
-start text =
+abbrev pub core_at_start : List ℕ → Core
+core_at_start text =
     record {
       cursor = fresh text;
       level = at_root;

@@ -7,7 +7,7 @@ use Rattle.saphyr_scalar.specs.declared.scalar.fault.Refusal.{Refusal}
 use Rattle.saphyr_scalar.specs.declared.scalar.fault.FaultText.TheVariants as fault
 use Rattle.saphyr_scalar.specs.Views.Cursor.{◌>>=◌, refuse, next_line, pass_byte_order_mark}
 use Rattle.saphyr_scalar.specs.Steps.Directive as directives
-use Rattle.saphyr_scalar.specs.Steps.Directive.{Directive, version, tag_prefix, reserved}
+use Rattle.saphyr_scalar.specs.Steps.Directive.{ReadDirective, version, tag_prefix, reserved}
 use Rattle.saphyr_scanner.specs.Grammar.Tokens as tokens
 use Rattle.saphyr_scanner.specs.Grammar.Tokens.{Kind}
 use Rattle.saphyr_scanner.specs.Steps.Core.{Core, Steps, went, at_mark, from_to, up_to_here, in_block, remove_key}
@@ -65,15 +65,15 @@ abbrev pub pass_mark : Core → Core
 pass_mark c = record (with_cursor (pass_byte_order_mark c.cursor) c) { key_allowed = true }
 
 -- A byte order mark, which has a place at the start of a line outside flow alone.
-unfoldable pub byte_order_mark : State → Result State Refusal
-byte_order_mark s =
+unfoldable pub state_behind_byte_order_mark : State → Result State Refusal
+state_behind_byte_order_mark s =
     if nat_lt 0 s.core.cursor.mark.col || not (in_block s.core) then refuse fault.MisplacedByteOrderMark
     s.core.cursor.mark
     else (end_content s >>= λ t. Ok (put_passed s.core.cursor.mark tokens.ByteOrderMark (pass_mark t.core) t))
 
 -- ## Directives (6.8)
 
-abbrev pub directive_kind : Directive → Kind
+abbrev pub directive_kind : ReadDirective → Kind
 directive_kind (version major minor) = tokens.VersionDirective major minor
 directive_kind (tag_prefix handle prefix) = tokens.TagDirective handle prefix
 directive_kind (reserved name) = tokens.ReservedDirective name
@@ -85,5 +85,5 @@ read_directive c =
     (record (with_cursor x.2 c) { key_allowed = false })
 
 -- `%` at the start of a line
-unfoldable pub directive : State → Result State Refusal
-directive s = end_content s >>= λ t. acted (read_directive t.core) t.queue
+unfoldable pub state_behind_directive : State → Result State Refusal
+state_behind_directive s = end_content s >>= λ t. acted (read_directive t.core) t.queue

@@ -20,7 +20,7 @@ use Rattle.saphyr_scanner.specs.Steps.Block as block
 use Rattle.saphyr_scanner.specs.Steps.Value as value
 use Rattle.saphyr_scanner.specs.Steps.Scalar as scalar
 use Rattle.saphyr_scanner.specs.Steps.Property as property
-use Rattle.saphyr_scalar.specs.declared.reading.block.BlockStyle.TheVariants as block_style
+use Rattle.scalar_values.specs.declared.block.BlockStyle.TheVariants as block_style
 
 -- ## What begins here
 
@@ -33,44 +33,44 @@ unfoldable pub flow_value : ℕ → Core → Steps
 flow_value second c =
     if not (c.cursor.mark.index == c.adjacent) && ((second == 91) || (second == 123)) then refuse fault.ColonBeforeFlow
     c.cursor.mark
-    else value.fetch c
+    else value.value_steps c
 
 -- what the first character begins, with the second at hand, and the number of the place of its token
 unfoldable pub step : ℕ → ℕ → ℕ → Core → Steps
 step first second n c =
-    if first == 91 then flow.start context.FlowSequence tokens.FlowSequenceStart n c
-    else if first == 123 then flow.start context.FlowMapping tokens.FlowMappingStart n c
-    else if first == 93 then flow.end true tokens.FlowSequenceEnd c
-    else if first == 125 then flow.end false tokens.FlowMappingEnd c
-    else if first == 44 then flow.entry c
+    if first == 91 then flow.opening_steps context.FlowSequence tokens.FlowSequenceStart n c
+    else if first == 123 then flow.opening_steps context.FlowMapping tokens.FlowMappingStart n c
+    else if first == 93 then flow.closing_steps true tokens.FlowSequenceEnd c
+    else if first == 125 then flow.closing_steps false tokens.FlowMappingEnd c
+    else if first == 44 then flow.flow_entry_steps c
     else if (first == 45) && is_blank_or_breakz second then block.entry c
     else if (first == 63) && is_blank_or_breakz second then block.key c
-    else if (first == 58) && is_blank_or_breakz second then value.fetch c
+    else if (first == 58) && is_blank_or_breakz second then value.value_steps c
     else if (first == 58) && is_value_adjacent second c then flow_value second c
-    else if first == 34 then scalar.double_quoted n c
-    else if first == 39 then scalar.single_quoted n c
-    else if first == 42 then property.name true n c
-    else if first == 38 then property.name false n c
-    else if first == 33 then property.tag n c
-    else if (first == 124) && in_block c then scalar.block block_style.Literal n c
-    else if (first == 62) && in_block c then scalar.block block_style.Folded n c
+    else if first == 34 then scalar.double_quoted_steps n c
+    else if first == 39 then scalar.single_quoted_steps n c
+    else if first == 42 then property.name_steps true n c
+    else if first == 38 then property.name_steps false n c
+    else if first == 33 then property.tag_steps n c
+    else if (first == 124) && in_block c then scalar.block_scalar_steps block_style.Literal n c
+    else if (first == 62) && in_block c then scalar.block_scalar_steps block_style.Folded n c
     else if (first == 37) || (first == 64) || (first == 96) then refuse (fault.UnexpectedCharacter first) c.cursor.mark
-    else scalar.plain n c
+    else scalar.plain_steps n c
 
-unfoldable pub content : ℕ → ℕ → State → Result State Refusal
-content first second s = acted (step first second (next s.queue) s.core) s.queue
+unfoldable pub state_behind_content : ℕ → ℕ → State → Result State Refusal
+state_behind_content first second s = acted (step first second (next s.queue) s.core) s.queue
 
 -- what begins at the start of a line alone, or anywhere
 unfoldable pub fetch_here : State → Result State Refusal
 fetch_here s =
     let c = s.core in let t = c.cursor.rest in let at_start = c.cursor.mark.col == 0 in
     if is_z (slice_index t 0) then document.end_stream s
-    else if is_bom (slice_index t 0) then document.byte_order_mark s
-    else if at_start && (slice_index t 0 == 37) then document.directive s
+    else if is_bom (slice_index t 0) then document.state_behind_byte_order_mark s
+    else if at_start && (slice_index t 0 == 37) then document.state_behind_directive s
     else if at_start && is_document_start t then document.marker tokens.DocumentStart s
     else if at_start && is_document_end t then document.end_marker s
     else if nat_lt c.cursor.mark.col (least_column c) then refuse fault.InvalidIndentation c.cursor.mark
-    else content (slice_index t 0) (slice_index t 1) s
+    else state_behind_content (slice_index t 0) (slice_index t 1) s
 
 -- to where the next token begins
 unfoldable pub arrive : State → Result State Refusal
@@ -137,5 +137,5 @@ unfoldable pub fill : ℕ → State → Result State Refusal
 fill limit s = settled s >>= λ t. fill_in (suc (size t.core)) limit t
 
 -- the first token is taken off
-abbrev pub take : State → Option Piece × State
-take s = let x = queue.take s.queue in (x.0, record { core = s.core; queue = x.1 })
+abbrev pub take_token : State → Option Piece × State
+take_token s = let x = queue.take s.queue in (x.0, record { core = s.core; queue = x.1 })

@@ -41,8 +41,8 @@ open_collection x kind c =
     else (separate (pass_on 1 (enter x c)) >>= λ d. went (up_to_here c.cursor.mark kind d.1 ∷ []) d.1)
 
 -- `[` or `{`, which may begin a key
-unfoldable pub start : Context → Kind → ℕ → Core → Steps
-start x kind n c = open_collection x kind (go_deeper (save_key n c))
+unfoldable pub opening_steps : Context → Kind → ℕ → Core → Steps
+opening_steps x kind n c = open_collection x kind (go_deeper (save_key n c))
 
 -- behind a collection inside flow, which may be a key, its colon may stand at once
 abbrev pub allow_adjacent : Core → Core
@@ -58,17 +58,17 @@ close_collection ends kind c =
     (allow_adjacent d.1)
 
 -- `]` or `}`
-unfoldable pub end : Bool → Kind → Core → Steps
-end is_sequence kind c =
+unfoldable pub closing_steps : Bool → Kind → Core → Steps
+closing_steps is_sequence kind c =
     if in_block c then refuse fault.MisplacedBracket c.cursor.mark
     else close_collection (is_sequence && ends_pair c.level.context) kind c
 
-unfoldable pub next_entry : Core → Steps
-next_entry c =
+unfoldable pub next_flow_entry : Core → Steps
+next_flow_entry c =
     separate (pass_on 1 (with_context (behind_entry c.level.context) (record c { key_allowed = true })))
     >>= λ d. went (behind_pair (ends_pair c.level.context) c.cursor.mark
     (up_to_here c.cursor.mark tokens.FlowEntry d.1)) d.1
 
 -- `,`
-unfoldable pub entry : Core → Steps
-entry c = remove_key c >>= next_entry
+unfoldable pub flow_entry_steps : Core → Steps
+flow_entry_steps c = remove_key c >>= next_flow_entry

@@ -11,12 +11,19 @@ pub record Passed : Type 0 where
   pub cursor : Cursor
   pub broke : Bool
 
+-- what contracts see of a gap that was passed: whether a break was met, and the reader behind it
+abbrev pub seen_passed : Bool → Cursor → Passed
+seen_passed broke s = record { cursor = s; broke = broke }
+
 -- `tabbed` tells that a tab stood on the line where indentation does, so that nothing else may stand there.
 unfoldable pub stop : Marker → Bool → Bool → Bool → List ℕ → Result Passed Refusal
 stop m blank broke tabbed text =
     if tabbed && is_bom (slice_index text 0) then refuse fault.MisplacedByteOrderMark m
     else if tabbed && not (is_z (slice_index text 0)) then refuse fault.TabInBlockIndentation m
     else Ok (record { cursor = record { rest = text; mark = m; blank_so_far = blank }; broke = broke })
+
+abbrev pub stop_at : Bool → Bool → Cursor → Result Passed Refusal
+stop_at broke tabbed s = stop s.mark s.blank_so_far broke tabbed s.rest
 
 -- a tab left of the column that content has to reach
 abbrev pub is_tab_indentation : ℕ → Marker → Bool → ℕ → Bool
@@ -46,8 +53,8 @@ abbrev pub gap_at : ℕ → Bool → Bool → Cursor → Result Passed Refusal
 gap_at least broke tabbed s = gap least s.mark s.blank_so_far broke tabbed s.rest
 
 -- what stands between two tokens is passed, where content has to reach a column
-abbrev pub pass_gap : ℕ → Cursor → Result Passed Refusal
-pass_gap least s = gap_at least false false s
+abbrev pub passed_gap : ℕ → Cursor → Result Passed Refusal
+passed_gap least s = gap_at least false false s
 
 -- ## Behind `?`: spaces, breaks and comments (8.2.2), of which something has to stand there
 

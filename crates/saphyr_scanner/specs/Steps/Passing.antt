@@ -45,4 +45,4 @@ behind_gap c g = record c { cursor = g.cursor; key_allowed = (g.broke && in_bloc
 
 -- what stands between two tokens is passed
 unfoldable pub pass_gap : Core → Result Core Refusal
-pass_gap c = gap.pass_gap (least_column c) c.cursor >>= λ g. check_comment (behind_gap c g)
+pass_gap c = gap.passed_gap (least_column c) c.cursor >>= λ g. check_comment (behind_gap c g)

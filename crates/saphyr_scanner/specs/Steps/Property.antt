@@ -18,13 +18,13 @@ read_name is_alias c = anchors.anchor c.cursor >>= λ x. went
     (from_to c.cursor.mark x.1.mark (name_token is_alias x.0) ∷ []) (with_cursor x.1 c)
 
 -- an anchor or an alias
-unfoldable pub name : Bool → ℕ → Core → Steps
-name is_alias n c = read_name is_alias (disallow_key (save_key n c))
+unfoldable pub name_steps : Bool → ℕ → Core → Steps
+name_steps is_alias n c = read_name is_alias (disallow_key (save_key n c))
 
 unfoldable pub read_tag : Core → Steps
 read_tag c = tags.tag (not (in_block c)) c.cursor >>= λ x. went
     (from_to c.cursor.mark x.2.mark (tokens.Tag x.0 x.1) ∷ []) (with_cursor x.2 c)
 
 -- a tag
-unfoldable pub tag : ℕ → Core → Steps
-tag n c = read_tag (disallow_key (save_key n c))
+unfoldable pub tag_steps : ℕ → Core → Steps
+tag_steps n c = read_tag (disallow_key (save_key n c))

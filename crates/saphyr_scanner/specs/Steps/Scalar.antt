@@ -9,8 +9,8 @@ use Rattle.saphyr_scalar.specs.Views.Cursor.{Cursor, ◌>>=◌, refuse}
 use Rattle.saphyr_scalar.specs.Steps.Quoted as quoted
 use Rattle.saphyr_scalar.specs.Steps.Plain as words
 use Rattle.saphyr_scalar.specs.Steps.Block as blocks
-use Rattle.saphyr_scalar.specs.declared.reading.block.BlockStyle.{BlockStyle}
-use Rattle.saphyr_scalar.specs.declared.reading.block.BlockStyle.TheVariants as block_style
+use Rattle.scalar_values.specs.declared.block.BlockStyle.{BlockStyle}
+use Rattle.scalar_values.specs.declared.block.BlockStyle.TheVariants as block_style
 use Rattle.saphyr_scanner.specs.Grammar.Tokens as tokens
 use Rattle.saphyr_scanner.specs.Steps.Core.{Core, Steps, went, from_to, in_block, least_column, save_key}
 use Rattle.saphyr_scanner.specs.Steps.Passing.{separate, pass_gap, with_cursor}
@@ -47,16 +47,16 @@ read_double_quoted c = quoted.double_quoted (least_column c) c.cursor >>= λ x. 
     x.0 (with_cursor x.1 c)
 
 -- a double quoted scalar
-unfoldable pub double_quoted : ℕ → Core → Steps
-double_quoted n c = read_double_quoted (disallow_key (save_key n c))
+unfoldable pub double_quoted_steps : ℕ → Core → Steps
+double_quoted_steps n c = read_double_quoted (disallow_key (save_key n c))
 
 unfoldable pub read_single_quoted : Core → Steps
 read_single_quoted c = quoted.single_quoted (least_column c) c.cursor >>= λ x. behind_quotes c.cursor.mark SingleQuoted
     x.0 (with_cursor x.1 c)
 
 -- a single quoted scalar
-unfoldable pub single_quoted : ℕ → Core → Steps
-single_quoted n c = read_single_quoted (disallow_key (save_key n c))
+unfoldable pub single_quoted_steps : ℕ → Core → Steps
+single_quoted_steps n c = read_single_quoted (disallow_key (save_key n c))
 
 -- behind a plain scalar: a key may begin where its line has ended, and a comment may have ended it
 abbrev pub behind_plain : Option Marker → Cursor → Core → Core
@@ -69,8 +69,8 @@ read_plain c =
     (from_to c.cursor.mark x.1 (tokens.Scalar Plain x.0) ∷ []) (behind_plain x.2 x.3 c))
 
 -- a plain scalar
-unfoldable pub plain : ℕ → Core → Steps
-plain n c = read_plain (record (disallow_key (save_key n c)) { deeper = false })
+unfoldable pub plain_steps : ℕ → Core → Steps
+plain_steps n c = read_plain (record (disallow_key (save_key n c)) { deeper = false })
 
 abbrev pub style_of : BlockStyle → ScalarStyle
 style_of block_style.Literal = Literal
@@ -82,5 +82,5 @@ read_block style c =
     (from_to x.1.start x.1.end (tokens.Scalar (style_of style) x.0) ∷ []) (with_cursor x.2 c)
 
 -- a block scalar, behind which a key may begin
-unfoldable pub block : BlockStyle → ℕ → Core → Steps
-block style n c = read_block style (record (save_key n c) { key_allowed = true; deeper = false })
+unfoldable pub block_scalar_steps : BlockStyle → ℕ → Core → Steps
+block_scalar_steps style n c = read_block style (record (save_key n c) { key_allowed = true; deeper = false })

@@ -12,7 +12,7 @@ pub record State : Type 0 where
 
 -- at the start of a text
 abbrev pub start : List ℕ → State
-start text = record { core = core.start text; queue = queue.empty }
+start text = record { core = core.core_at_start text; queue = queue.empty }
 
 abbrev pub changed : Core → State → State
 changed c s = record { core = c; queue = s.queue }

@@ -27,15 +27,15 @@ behind_colon context.FlowSequence = context.FlowPair
 behind_colon x = x
 
 -- Outside flow a tab alone does not part a colon from a word.
-abbrev pub refuse_tab : SkipTabs × Core → Result Core Refusal
-refuse_tab x =
+abbrev pub refuse_lone_tab : SkipTabs × Core → Result Core Refusal
+refuse_lone_tab x =
     if in_block x.1 && not (has_valid_yaml_ws x.0)
     && ((slice_index x.1.cursor.rest 0 == 45) || is_alpha (slice_index x.1.cursor.rest 0))
     then refuse fault.ColonWithoutWhitespace x.1.cursor.mark
     else Ok x.1
 
 unfoldable pub check_tab : Core → Result Core Refusal
-check_tab c = if slice_index c.cursor.rest 0 == 9 then (separate c >>= refuse_tab) else Ok c
+check_tab c = if slice_index c.cursor.rest 0 == 9 then (separate c >>= refuse_lone_tab) else Ok c
 
 -- what stands in front of the key
 abbrev pub opening_of : Bool → ℕ → Core → Opening
@@ -69,7 +69,7 @@ behind_key (Some k) begins start c = of_key k begins start c
 behind_key None begins start c = alone begins start c
 
 -- `:`
-unfoldable pub fetch : Core → Steps
-fetch c =
+unfoldable pub value_steps : Core → Steps
+value_steps c =
     check_tab (pass_on 1 (with_context (behind_colon c.level.context) c))
     >>= λ d. behind_key d.level.key (begins_pair c.level.context) c.cursor.mark d

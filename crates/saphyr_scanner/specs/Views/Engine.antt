@@ -20,7 +20,7 @@ level l = record { context = l.context; key = option_map candidate l.key }
 abbrev pub core : {T : Type 0} {g : Ghosts T} → Engine T g → Core
 core {T} {g} e =
     record {
-      cursor = reader.state e.reader;
+      cursor = reader.cursor_of e.reader;
       level = level e.level;
       outer = map level (reverse e.outer.items);
       required = e.required;

@@ -1,5 +1,6 @@
 -- What contracts see of the queue.
-use Rattle.std.specs.Prelude.{map, take, if◌then◌else◌, ◌+◌, List, ◌∷◌, ℕ, string_bytes}
+use Rattle.std.specs.Prelude.{map, take, if◌then◌else◌, ◌+◌, List, ◌∷◌, ℕ, string_bytes, Bool, Option, option_map, Result, Ok}
+use Rattle.saphyr_scalar.specs.declared.scalar.fault.Stop.{Stop}
 use Rattle.saphyr_scalar.specs.declared.scalar.position.Marker.{Marker}
 use Rattle.saphyr_scalar.specs.declared.scalar.position.Span.{Span}
 use Rattle.saphyr_scanner.specs.declared.queue.near.NearMarker.{NearMarker}
@@ -15,7 +16,9 @@ use Rattle.saphyr_scanner.specs.declared.queue.slot.Slot.{Slot}
 use Rattle.saphyr_scalar.specs.declared.scalar.style.ScalarStyle.TheVariants as style
 use Rattle.saphyr_scanner.specs.Grammar.Tokens as tokens
 use Rattle.saphyr_scanner.specs.Grammar.Tokens.{Kind}
-use Rattle.saphyr_scanner.specs.Views.Tokens.{piece}
+use Rattle.saphyr_scanner.specs.declared.token.Token.{Token}
+use Rattle.saphyr_scalar.specs.Views.Reader.{Moves}
+use Rattle.saphyr_scanner.specs.Views.Tokens.{Piece, piece, written}
 use Rattle.saphyr_scanner.specs.Steps.Queue.{Place, Queue}
 
 abbrev pub near_marker : NearMarker → Marker
@@ -67,3 +70,10 @@ in_slot s ps = if s.is_full then slot_place s ∷ ps else ps
 
 abbrev pub queue : declared_queue.Queue → Queue
 queue q = record { places = in_slot q.first (in_slot q.second (map place q.places.items)); handed = q.handed }
+
+-- The token that a call wrote into a place, if it took one off, and the queue that it left are what the function gives,
+-- unless memory ran out.
+abbrev pub TakesOffBy
+    : (Queue → Option Piece × Queue) → declared_queue.Queue → Result Bool Stop → Token → declared_queue.Queue → Type 0
+TakesOffBy f old result token new =
+    Moves (λ taken. (option_map piece (written taken token), queue new)) result (Ok (f (queue old)))

@@ -42,8 +42,7 @@ impl<T: Input> Engine<T> {
     fn refuse_tab(&mut self, found: SkipTabs) -> Result<(), Stop>
         ensures { CarriesBy (λ c. block.refuse_tab (found, c)) self.old result self.new }
     {
-        let is_dash = self.is_dash_next();
-        if found.found_tabs() && is_dash {
+        if found.found_tabs() && self.is_dash_next() {
             return Err(self.refuse_here(FaultText::DashWithoutWhitespace));
         }
         self.deepen();
@@ -57,7 +56,8 @@ impl<T: Input> Engine<T> {
         ensures { CarriesBy block.pass_dash self.old result self.new }
     {
         let found = self.separate()?;
-        self.refuse_tab(found)
+        self.refuse_tab(found)?;
+        Ok(())
     }
 
     // Content on a later line, and flow collections, have to stand right of the `-`.

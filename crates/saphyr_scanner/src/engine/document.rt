@@ -77,10 +77,10 @@ impl<T: Input> Engine<T> {
     }
 
     // `%` and the rest of a directive's line.
-    #[tactic(auto, using(crate::proofs::Blocks::unrolled_cursor), unfolding(crate::specs::Steps::Document::directive, crate::specs::Steps::Document::read_directive, crate::specs::Steps::Document::end_content, crate::specs::Steps::Core::remove_key))]
+    #[tactic(auto, using(crate::proofs::Blocks::unrolled_cursor), unfolding(crate::specs::Steps::Document::state_behind_directive, crate::specs::Steps::Document::read_directive, crate::specs::Steps::Document::end_content, crate::specs::Steps::Core::remove_key))]
     pub(super) fn fetch_directive(&mut self) -> Result<(), Stop>
         requires { slice_index (state self.old).core.cursor.rest 0 ≡ 37 }
-        ensures { MovesBy document.directive self.old result self.new }
+        ensures { MovesBy document.state_behind_directive self.old result self.new }
     {
         self.end_content()?;
         self.key_allowed = false;
@@ -92,10 +92,10 @@ impl<T: Input> Engine<T> {
     }
 
     // A byte order mark, which has a place at the start of a line outside flow alone.
-    #[tactic(auto, using(crate::proofs::Blocks::unrolled_cursor), unfolding(crate::specs::Steps::Document::byte_order_mark, crate::specs::Steps::Document::end_content, crate::specs::Steps::Core::remove_key))]
+    #[tactic(auto, using(crate::proofs::Blocks::unrolled_cursor), unfolding(crate::specs::Steps::Document::state_behind_byte_order_mark, crate::specs::Steps::Document::end_content, crate::specs::Steps::Core::remove_key))]
     pub(super) fn fetch_byte_order_mark(&mut self) -> Result<(), Stop>
         requires { 0 < length (state self.old).core.cursor.rest }
-        ensures { MovesBy document.byte_order_mark self.old result self.new }
+        ensures { MovesBy document.state_behind_byte_order_mark self.old result self.new }
     {
         let start = self.reader.mark();
         if start.col > 0 || !self.in_block() {

@@ -8,11 +8,11 @@ use crate::engine::{Context, Engine, Level};
 use crate::token::{Token, TokenType};
 use saphyr_input::char_traits::{is_blank_or_breakz, is_bom, is_flow, is_z};
 use saphyr_input::input::Input;
-use saphyr_scalar::reading::BlockStyle;
 use saphyr_scalar::scalar::{
     takes_anchor, takes_block_scalar, takes_directive, takes_plain, takes_quoted, takes_tag,
 };
 use saphyr_scalar::{FaultText, Stop};
+use scalar_values::BlockStyle;
 
 impl Level {
     ghost use Rattle.saphyr_scanner.specs.Views.Engine.{level};
@@ -41,7 +41,8 @@ impl<T: Input> Engine<T> {
         self.pass_gap()?;
         self.drop_far_key()?;
         let mark = self.reader.mark();
-        self.unroll(Some(mark.col), mark)
+        self.unroll(Some(mark.col), mark)?;
+        Ok(())
     }
 
     // Puts the next token into the queue.
@@ -56,7 +57,8 @@ impl<T: Input> Engine<T> {
             return Ok(());
         }
         self.arrive()?;
-        self.fetch_here()
+        self.fetch_here()?;
+        Ok(())
     }
 
     // Puts the token that stands here into the queue.
@@ -86,37 +88,39 @@ impl<T: Input> Engine<T> {
             return Err(self.refuse_here(FaultText::InvalidIndentation));
         }
         let next = self.reader.input().peek_nth(1);
-        self.fetch_content(c, next)
+        self.fetch_content(c, next)?;
+        Ok(())
     }
 
     // Puts the token that the first character begins into the queue.
-    #[tactic(auto, unfolding(crate::specs::Steps::Fetch::content, crate::specs::Steps::Fetch::step))]
+    #[tactic(auto, unfolding(crate::specs::Steps::Fetch::state_behind_content, crate::specs::Steps::Fetch::step))]
     fn fetch_content(&mut self, c: char, next: char) -> Result<(), Stop>
         requires some { 0 < length (state self.old).core.cursor.rest }
         requires first { c ≡ slice_index (state self.old).core.cursor.rest 0 }
         requires second { next ≡ slice_index (state self.old).core.cursor.rest 1 }
-        ensures { MovesBy (fetch.content c next) self.old result self.new }
+        ensures { MovesBy (fetch.state_behind_content c next) self.old result self.new }
     {
         match c {
-            '[' => self.fetch_flow_start(Context::FlowSequence, TokenType::FlowSequenceStart),
-            '{' => self.fetch_flow_start(Context::FlowMapping, TokenType::FlowMappingStart),
-            ']' => self.fetch_flow_end(true, TokenType::FlowSequenceEnd),
-            '}' => self.fetch_flow_end(false, TokenType::FlowMappingEnd),
-            ',' => self.fetch_flow_entry(),
-            '-' if is_blank_or_breakz(next) => self.fetch_block_entry(),
-            '?' if is_blank_or_breakz(next) => self.fetch_key(),
-            ':' if is_blank_or_breakz(next) => self.fetch_value(),
-            ':' if self.is_value_adjacent(next) => self.fetch_flow_value(next),
-            '"' => self.fetch_double_quoted(),
-            '\'' => self.fetch_single_quoted(),
-            '*' => self.fetch_name(true),
-            '&' => self.fetch_name(false),
-            '!' => self.fetch_tag(),
-            '|' if self.in_block() => self.fetch_block_scalar(BlockStyle::Literal),
-            '>' if self.in_block() => self.fetch_block_scalar(BlockStyle::Folded),
-            '%' | '@' | '`' => Err(self.refuse_here(FaultText::UnexpectedCharacter(c))),
-            _ => self.fetch_plain(),
+            '[' => self.fetch_flow_start(Context::FlowSequence, TokenType::FlowSequenceStart)?,
+            '{' => self.fetch_flow_start(Context::FlowMapping, TokenType::FlowMappingStart)?,
+            ']' => self.fetch_flow_end(true, TokenType::FlowSequenceEnd)?,
+            '}' => self.fetch_flow_end(false, TokenType::FlowMappingEnd)?,
+            ',' => self.fetch_flow_entry()?,
+            '-' if is_blank_or_breakz(next) => self.fetch_block_entry()?,
+            '?' if is_blank_or_breakz(next) => self.fetch_key()?,
+            ':' if is_blank_or_breakz(next) => self.fetch_value()?,
+            ':' if self.is_value_adjacent(next) => self.fetch_flow_value(next)?,
+            '"' => self.fetch_double_quoted()?,
+            '\'' => self.fetch_single_quoted()?,
+            '*' => self.fetch_name(true)?,
+            '&' => self.fetch_name(false)?,
+            '!' => self.fetch_tag()?,
+            '|' if self.in_block() => self.fetch_block_scalar(BlockStyle::Literal)?,
+            '>' if self.in_block() => self.fetch_block_scalar(BlockStyle::Folded)?,
+            '%' | '@' | '`' => return Err(self.refuse_here(FaultText::UnexpectedCharacter(c))),
+            _ => self.fetch_plain()?,
         }
+        Ok(())
     }
 
     // Whether a colon that no blank follows stands between a key and its value, inside flow.
@@ -140,6 +144,7 @@ impl<T: Input> Engine<T> {
 
     // Whether the first token of the queue may yet turn out to be a key, in whatever is open. Then it can't be
     // handed out, nor what stands behind it: a mapping's start and a key may have to come before it.
+    #[inline(always)]
     fn is_held(&self) -> bool
         ensures { result ≡ fetch.is_held (state self.now) }
     {
@@ -220,7 +225,7 @@ impl<T: Input> Engine<T> {
     #[inline(always)]
     pub(crate) fn take_into(&mut self, token: &mut Token) -> Result<bool, Stop>
         ensures { Moves (λ taken. (option_map piece (written taken token.new), state self.new))
-            result (Ok (fetch.take (state self.old))) }
+            result (Ok (fetch.take_token (state self.old))) }
     {
         self.queue.take_into(self.alloc, token)
     }

@@ -78,10 +78,10 @@ impl<T: Input> Engine<T> {
 
     // `[` or `{`.
     #[inline(always)]
-    #[tactic(auto, unfolding(crate::specs::Steps::Flow::start, crate::specs::Steps::Flow::open_collection))]
+    #[tactic(auto, unfolding(crate::specs::Steps::Flow::opening_steps, crate::specs::Steps::Flow::open_collection))]
     pub(super) fn fetch_flow_start(&mut self, context: Context, kind: TokenType) -> Result<(), Stop>
         requires { 0 < length (state self.old).core.cursor.rest }
-        ensures { ActsBy (flow.start context (kind_of kind) (next (state self.old).queue))
+        ensures { ActsBy (flow.opening_steps context (kind_of kind) (next (state self.old).queue))
             self.old result self.new }
     {
         self.save_key()?;
@@ -99,10 +99,10 @@ impl<T: Input> Engine<T> {
 
     // `]` or `}`.
     #[inline(always)]
-    #[tactic(auto, unfolding(crate::specs::Steps::Flow::end, crate::specs::Steps::Flow::close_collection))]
+    #[tactic(auto, unfolding(crate::specs::Steps::Flow::closing_steps, crate::specs::Steps::Flow::close_collection))]
     pub(super) fn fetch_flow_end(&mut self, is_sequence: bool, kind: TokenType) -> Result<(), Stop>
         requires { 0 < length (state self.old).core.cursor.rest }
-        ensures { ActsBy (flow.end is_sequence (kind_of kind)) self.old result self.new }
+        ensures { ActsBy (flow.closing_steps is_sequence (kind_of kind)) self.old result self.new }
     {
         if self.in_block() {
             return Err(self.refuse_here(FaultText::MisplacedBracket));
@@ -123,10 +123,10 @@ impl<T: Input> Engine<T> {
 
     // `,`.
     #[inline(always)]
-    #[tactic(auto, unfolding(crate::specs::Steps::Flow::entry, crate::specs::Steps::Flow::next_entry, crate::specs::Steps::Core::remove_key))]
+    #[tactic(auto, unfolding(crate::specs::Steps::Flow::flow_entry_steps, crate::specs::Steps::Flow::next_flow_entry, crate::specs::Steps::Core::remove_key))]
     pub(super) fn fetch_flow_entry(&mut self) -> Result<(), Stop>
         requires { 0 < length (state self.old).core.cursor.rest }
-        ensures { ActsBy flow.entry self.old result self.new }
+        ensures { ActsBy flow.flow_entry_steps self.old result self.new }
     {
         self.remove_key()?;
         self.key_allowed = true;

@@ -13,10 +13,10 @@ impl<T: Input> Engine<T> {
     ghost use Rattle.saphyr_scanner.specs.Steps.Queue.{next};
 
     // `&` and an anchor's name, or `*` and an alias's.
-    #[tactic(auto, unfolding(crate::specs::Steps::Property::name, crate::specs::Steps::Property::read_name))]
+    #[tactic(auto, unfolding(crate::specs::Steps::Property::name_steps, crate::specs::Steps::Property::read_name))]
     pub(super) fn fetch_name(&mut self, is_alias: bool) -> Result<(), Stop>
         requires { 0 < length (state self.old).core.cursor.rest }
-        ensures { ActsBy (property.name is_alias (next (state self.old).queue))
+        ensures { ActsBy (property.name_steps is_alias (next (state self.old).queue))
             self.old result self.new }
     {
         self.save_key()?;
@@ -33,10 +33,11 @@ impl<T: Input> Engine<T> {
     }
 
     // `!` and the rest of a tag.
-    #[tactic(auto, unfolding(crate::specs::Steps::Property::tag, crate::specs::Steps::Property::read_tag))]
+    #[tactic(auto, unfolding(crate::specs::Steps::Property::tag_steps, crate::specs::Steps::Property::read_tag))]
     pub(super) fn fetch_tag(&mut self) -> Result<(), Stop>
         requires { slice_index (state self.old).core.cursor.rest 0 ≡ 33 }
-        ensures { ActsBy (property.tag (next (state self.old).queue)) self.old result self.new }
+        ensures { ActsBy (property.tag_steps (next (state self.old).queue)) self.old result
+            self.new }
     {
         self.save_key()?;
         self.key_allowed = false;

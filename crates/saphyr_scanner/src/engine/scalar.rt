@@ -7,14 +7,15 @@ use crate::engine::Engine;
 use crate::token::TokenType;
 use saphyr_input::char_traits::is_breakz;
 use saphyr_input::input::Input;
-use saphyr_scalar::reading::BlockStyle;
 use saphyr_scalar::{FaultText, Marker, ScalarStyle, Stop};
+use scalar_values::BlockStyle;
 
 impl<T: Input> Engine<T> {
     ghost use Rattle.saphyr_scanner.specs.Views.Engine.{state, ActsBy};
     ghost use Rattle.saphyr_scanner.specs.Steps.Queue.{next};
 
     // Whether the characters here may stand behind a quoted scalar that began at a place.
+    #[inline(always)]
     #[tactic(auto, unfolding(crate::specs::Steps::Scalar::goes_on_behind_quotes))]
     fn goes_on_behind_quotes(&mut self, start: Marker) -> bool
         ensures value { result ≡ scalar.goes_on_behind_quotes start (state self.old).core }
@@ -53,10 +54,10 @@ impl<T: Input> Engine<T> {
 
     // A double quoted scalar.
     #[inline(always)]
-    #[tactic(auto, unfolding(crate::specs::Steps::Scalar::double_quoted, crate::specs::Steps::Scalar::read_double_quoted))]
+    #[tactic(auto, unfolding(crate::specs::Steps::Scalar::double_quoted_steps, crate::specs::Steps::Scalar::read_double_quoted))]
     pub(super) fn fetch_double_quoted(&mut self) -> Result<(), Stop>
         requires { slice_index (state self.old).core.cursor.rest 0 ≡ 34 }
-        ensures { ActsBy (scalar.double_quoted (next (state self.old).queue))
+        ensures { ActsBy (scalar.double_quoted_steps (next (state self.old).queue))
             self.old result self.new }
     {
         self.save_key()?;
@@ -64,14 +65,15 @@ impl<T: Input> Engine<T> {
         let start = self.reader.mark();
         let least = self.least_column();
         let text = self.reader.read_double_quoted(self.alloc, least)?;
-        self.fetch_behind_quotes(start, ScalarStyle::DoubleQuoted, text)
+        self.fetch_behind_quotes(start, ScalarStyle::DoubleQuoted, text)?;
+        Ok(())
     }
 
     // A single quoted scalar.
-    #[tactic(auto, unfolding(crate::specs::Steps::Scalar::single_quoted, crate::specs::Steps::Scalar::read_single_quoted))]
+    #[tactic(auto, unfolding(crate::specs::Steps::Scalar::single_quoted_steps, crate::specs::Steps::Scalar::read_single_quoted))]
     pub(super) fn fetch_single_quoted(&mut self) -> Result<(), Stop>
         requires { slice_index (state self.old).core.cursor.rest 0 ≡ 39 }
-        ensures { ActsBy (scalar.single_quoted (next (state self.old).queue))
+        ensures { ActsBy (scalar.single_quoted_steps (next (state self.old).queue))
             self.old result self.new }
     {
         self.save_key()?;
@@ -79,14 +81,16 @@ impl<T: Input> Engine<T> {
         let start = self.reader.mark();
         let least = self.least_column();
         let text = self.reader.read_single_quoted(self.alloc, least)?;
-        self.fetch_behind_quotes(start, ScalarStyle::SingleQuoted, text)
+        self.fetch_behind_quotes(start, ScalarStyle::SingleQuoted, text)?;
+        Ok(())
     }
 
     // A plain scalar.
-    #[tactic(auto, unfolding(crate::specs::Steps::Scalar::plain, crate::specs::Steps::Scalar::read_plain))]
+    #[tactic(auto, unfolding(crate::specs::Steps::Scalar::plain_steps, crate::specs::Steps::Scalar::read_plain))]
     pub(super) fn fetch_plain(&mut self) -> Result<(), Stop>
         requires { 0 < length (state self.old).core.cursor.rest }
-        ensures { ActsBy (scalar.plain (next (state self.old).queue)) self.old result self.new }
+        ensures { ActsBy (scalar.plain_steps (next (state self.old).queue)) self.old result
+            self.new }
     {
         self.save_key()?;
         self.key_allowed = false;
@@ -105,10 +109,10 @@ impl<T: Input> Engine<T> {
     }
 
     // A block scalar.
-    #[tactic(auto, unfolding(crate::specs::Steps::Scalar::block, crate::specs::Steps::Scalar::read_block))]
+    #[tactic(auto, unfolding(crate::specs::Steps::Scalar::block_scalar_steps, crate::specs::Steps::Scalar::read_block))]
     pub(super) fn fetch_block_scalar(&mut self, style: BlockStyle) -> Result<(), Stop>
         requires { 0 < length (state self.old).core.cursor.rest }
-        ensures { ActsBy (scalar.block style (next (state self.old).queue))
+        ensures { ActsBy (scalar.block_scalar_steps style (next (state self.old).queue))
             self.old result self.new }
     {
         self.save_key()?;

@@ -59,10 +59,10 @@ impl<T: Input> Engine<T> {
 
     // `:`.
     #[inline(always)]
-    #[tactic(auto, unfolding(crate::specs::Steps::Value::fetch, crate::specs::Steps::Value::behind_key))]
+    #[tactic(auto, unfolding(crate::specs::Steps::Value::value_steps, crate::specs::Steps::Value::behind_key))]
     pub(super) fn fetch_value(&mut self) -> Result<(), Stop>
         requires { 0 < length (state self.old).core.cursor.rest }
-        ensures { ActsBy value.fetch self.old result self.new }
+        ensures { ActsBy value.value_steps self.old result self.new }
     {
         let start = self.reader.mark();
         let begins_pair = self.level.context.begins_pair();
@@ -70,9 +70,10 @@ impl<T: Input> Engine<T> {
         self.reader.skip_non_blank();
         self.check_tab()?;
         match self.level.key {
-            Some(key) => self.fetch_value_of(key, begins_pair, start),
-            None => self.fetch_value_alone(begins_pair, start),
+            Some(key) => self.fetch_value_of(key, begins_pair, start)?,
+            None => self.fetch_value_alone(begins_pair, start)?,
         }
+        Ok(())
     }
 
     // The candidate is the colon's key.

@@ -31,6 +31,7 @@ impl ShortText {
     }
 
     /// The text with memory of its own.
+    #[inline(always)]
     pub(super) fn to_string(&self, alloc: Global) -> Result<String, AllocError>
         ensures { IfOk result (λ text. string_bytes text ≡ take self.now.count self.now.bytes) }
     {

@@ -1,6 +1,6 @@
 use Rattle.std.proofs.Common.{◌≡◌, ◌++◌, take, sym, ap, ◌∙◌, Some, None, codes, string_bytes, lit<}
 use Rattle.std.proofs.lemmas.List.{append-nil, append_assoc}
-use Rattle.case_files.specs.Files.{behind, dumped, dumped_event, shown}
+use Rattle.case_files.specs.Files.{text_behind, dumped, dumped_event, shown}
 use Rattle.case_files.proofs.Fronts.{strips_front}
 use Rattle.case_files.proofs.Dumping.{dumps_more}
 use Rattle.case_files.proofs.writing.printed.Goals as goal
@@ -11,10 +11,10 @@ loop-line-preserved c =
     let before = dumped (take c.loop-line.line-index c.args.lines.now) in
     let i = c.loop-line.line-index in
     let more = dumps_more c.args.lines.now i c.line-item.result c.loop-line-test.true c.line-item.is in
-    let same = ap (λ l. behind (codes "> ") l) (sym c.deref.ensures) in
+    let same = ap (λ l. text_behind (codes "> ") l) (sym c.deref.ensures) in
     elim c.match-strip_prefix.branch [
       | in-Some+in_ok-push_str+in_ok-push w ↦
-          let found : behind (codes "> ") (string_bytes c.line-item.result) ≡ Some w.in-Some.event.now =
+          let found : text_behind (codes "> ") (string_bytes c.line-item.result) ≡ Some w.in-Some.event.now =
           same
           ∙ strips_front (codes "> ") c.deref.result.now c.strip_prefix.result c.strip_prefix.ensures.cases
           w.in-Some.is in
@@ -25,7 +25,7 @@ loop-line-preserved c =
           ∙ append_assoc before (shown w.in-Some.event.now) (codes "\n")
           ∙ ap (λ o. before ++ dumped_event o) (sym found) ∙ more
       | in_default w ↦
-          let found : behind (codes "> ") (string_bytes c.line-item.result) ≡ None =
+          let found : text_behind (codes "> ") (string_bytes c.line-item.result) ≡ None =
           same
           ∙ strips_front (codes "> ") c.deref.result.now c.strip_prefix.result c.strip_prefix.ensures.cases
           w.in_default.is in

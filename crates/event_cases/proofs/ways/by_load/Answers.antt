@@ -2,8 +2,8 @@ use Rattle.std.proofs.Common.{◌≡◌, ◌<◌, false, Result, Err, ap, subst,
 use Rattle.std.proofs.lemmas.Result.{on_ok_weaker}
 use Rattle.saphyr_parser.specs.declared.parser.fault.Fault.{Fault}
 use Rattle.saphyr_parser.specs.declared.parser.fault.Fault.TheVariants.{Receiver}
-use Rattle.saphyr_parser.specs.Answer.{none}
-use Rattle.saphyr_parser.specs.Cursor.{Cursor, count, to_come}
+use Rattle.saphyr_parser.specs.Answer.{empty_answer}
+use Rattle.saphyr_parser.specs.Cursor.{EventCursor, count, to_come}
 use Rattle.case_files.specs.Lines.{Comparing, IsNext, line_of_fault}
 use Rattle.case_files.specs.Listings.{ListAll}
 use Rattle.event_cases.proofs.Loading.{lists_failed, lists_finished, lists_none, load_less, none_given, some_given, stands_behind}
@@ -12,7 +12,7 @@ use Rattle.event_cases.proofs.ways.by_load.Goals as goal
 pub loop-receiver-smaller : goal.loop-receiver-smaller
 loop-receiver-smaller g c =
     let called = c.load-answer.ensures in
-    let some = subst (λ (p : Cursor). 0 < count (to_come p)) c.in_ok-try_clone.ensures
+    let some = subst (λ (p : EventCursor). 0 < count (to_come p)) c.in_ok-try_clone.ensures
     (some_given c.next_event.result _ _ c.if-is_some.ensures c.next_event.ensures.hands) in
     load_less _ _ false c.loop-receiver.parser c.load-answer.new.self c.loop-receiver.receiver c.load-answer.new.recv
     c.in-Ok.is called.ended called.finished called.inside called.between called.over some
@@ -20,7 +20,7 @@ loop-receiver-smaller g c =
 pub loop-receiver-preserved : goal.loop-receiver-preserved
 loop-receiver-preserved g c = λ between.
     let before = c.loop-receiver.invariant between in
-    let some = subst (λ (p : Cursor). 0 < count (to_come p)) c.in_ok-try_clone.ensures
+    let some = subst (λ (p : EventCursor). 0 < count (to_come p)) c.in_ok-try_clone.ensures
     (some_given c.next_event.result _ _ c.if-is_some.ensures c.next_event.ensures.hands) in
     let here = before.between some in
     let sent = rw c.in-Ok.is at (c.load-answer.ensures.between here.kept here.finished here.inside) in
@@ -36,7 +36,7 @@ loop-receiver-preserved g c = λ between.
 pub returns-in-Err : goal.returns-in-Err
 returns-in-Err g c = λ between.
     let before = c.loop-receiver.invariant between in
-    let some = subst (λ (p : Cursor). 0 < count (to_come p)) c.in_ok-try_clone.ensures
+    let some = subst (λ (p : EventCursor). 0 < count (to_come p)) c.in_ok-try_clone.ensures
     (some_given c.next_event.result _ _ c.if-is_some.ensures c.next_event.ensures.hands) in
     let here = before.between some in
     let answer = c.in_ok-check_answer-in-Err.ensures.fault in
@@ -48,13 +48,15 @@ returns-in-Err g c = λ between.
     absurd (cc) in
     on_ok_weaker c.check_end.result (λ ends. before.lists
     (lists_failed false c.in-Err.fault c.loop-receiver.parser c.load-answer.new.self c.loop-receiver.receiver
-    c.load-answer.new.recv (rw c.in-Err.is at (c.load-answer.ensures.between here.kept here.finished here.inside)) told_fault
+    c.load-answer.new.recv (rw c.in-Err.is at (c.load-answer.ensures.between here.kept here.finished here.inside))
+    told_fault
     (subst (λ (r : Comparing). IsNext (line_of_fault c.in-Err.fault) r.left) told answer.0)
     (subst (λ (r : Comparing). drop 1 r.left ≡ []) told (sym answer.1 ∙ ends)))) c.check_end.ensures.ends
 
 pub returns : goal.returns
 returns g c = λ between.
-    let over : to_come c.loop-receiver.parser ≡ none = subst (λ (p : Cursor). to_come p ≡ none) c.in_ok-try_clone.ensures
+    let over : to_come c.loop-receiver.parser ≡ empty_answer =
+    subst (λ (p : EventCursor). to_come p ≡ empty_answer) c.in_ok-try_clone.ensures
     (none_given c.next_event.result _ _ c.if-is_some.ensures c.next_event.ensures.hands) in
     on_ok_weaker c.check_end-2.result (λ ends. (c.loop-receiver.invariant between).lists
     (lists_none _ _ ends over)) c.check_end-2.ensures.ends

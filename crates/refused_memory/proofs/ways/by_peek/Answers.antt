@@ -1,6 +1,6 @@
 use Rattle.std.proofs.Common.{◌≡◌, ◌∙◌, subst}
 use Rattle.std.specs.Result.{OnOk}
-use Rattle.saphyr_parser.specs.Answer.{none}
+use Rattle.saphyr_parser.specs.Answer.{empty_answer}
 use Rattle.saphyr_parser.specs.Cursor.{to_come}
 use Rattle.case_files.specs.Listings.{ListAll}
 use Rattle.case_files.proofs.Listings.{lists_more, lists_stayed}
@@ -18,6 +18,6 @@ loop-line-preserved g c = λ rest.
 
 pub returns : goal.returns
 returns g c = λ whole.
-    let over : to_come c.loop-line.parser ≡ none =
-    subst (λ r. OnOk r (to_come c.loop-line.parser ≡ none)) whole c.is_ended.ensures in
+    let over : to_come c.loop-line.parser ≡ empty_answer =
+    subst (λ r. OnOk r (to_come c.loop-line.parser ≡ empty_answer)) whole c.is_ended.ensures in
     c.loop-line.invariant (lists_over _ _ c.in_ok-is_next-2.ensures.comes over)

@@ -213,9 +213,10 @@ pub(super) struct Blanks {
 // The spaces that come first, and tabs among them where these are asked for.
 #[inline]
 fn leading_blanks(bytes: &[u8], with_tabs: bool) -> Blanks
-    ensures count { result.count ≡ prefix_len (spec.is_skipped with_tabs) bytes.now }
+    ensures count { result.count ≡ prefix_len (spec.is_passed_blank with_tabs) bytes.now }
     ensures tabs { result.tabs ≡ list_any (λ c. c == class.tab) (take result.count bytes.now) }
-    ensures spaces { result.spaces ≡ list_any (λ c. c == class.space) (take result.count bytes.now) }
+    ensures spaces { result.spaces
+        ≡ list_any (λ c. c == class.space) (take result.count bytes.now) }
 {
     let mut tabs = false;
     let mut spaces = false;

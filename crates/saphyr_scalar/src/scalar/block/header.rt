@@ -3,12 +3,12 @@
 ghost use Rattle.std.specs.Prelude.{◌≡◌, ◌+◌, ◌-◌, ◌<◌, length};
 ghost use Rattle.saphyr_scalar.specs.Steps.Block as spec;
 
-use crate::reading::Chomping;
 use crate::scalar::fault::{FaultText, Refusal};
 use crate::scalar::position::Marker;
 use crate::scalar::reader::Reader;
 use saphyr_input::char_traits::{is_breakz, is_digit};
 use saphyr_input::input::{Input, SkipTabs};
+use scalar_values::Chomping;
 
 // What a header says: the indicator of the indentation is 0 where none stands.
 #[derive(Clone, Copy)]
@@ -29,12 +29,12 @@ pub(crate) fn given_indentation(indent: usize, indicator: usize) -> Option<usize
 }
 
 impl<T: Input> Reader<T> {
-    ghost use Rattle.saphyr_scalar.specs.Views.Reader.{state, Gives};
+    ghost use Rattle.saphyr_scalar.specs.Views.Reader.{cursor_of, GivesBy, PassesBy};
 
     // Takes off the chomping indicator that stands first, where one does.
     #[tactic(auto, using(crate::proofs::Block::Lines::read_left), unfolding(crate::specs::Steps::Block::chomping))]
     fn read_chomping(&mut self) -> Option<Chomping>
-        ensures { (result, state self.new) ≡ spec.chomping (state self.old) }
+        ensures { (result, cursor_of self.new) ≡ spec.chomping (cursor_of self.old) }
     {
         let chomping = match self.look() {
             '+' => Chomping::Keep,
@@ -48,7 +48,7 @@ impl<T: Input> Reader<T> {
     // Takes off the indentation indicator that stands first, and gives 0 where none does.
     #[tactic(auto, using(crate::proofs::Block::Lines::read_left), unfolding(crate::specs::Steps::Block::indicator))]
     fn read_indentation_indicator(&mut self, start: Marker) -> Result<usize, Refusal>
-        ensures { Gives (λ n. (n, state self.new)) result (spec.indicator start (state self.old)) }
+        ensures { GivesBy (spec.indicator start) self.old result self.new }
     {
         let c = self.look();
         if !is_digit(c) {
@@ -67,7 +67,7 @@ impl<T: Input> Reader<T> {
     // Takes off the end of a header's line.
     #[tactic(auto, unfolding(crate::specs::Steps::Block::header_end, crate::specs::Steps::Block::header_break))]
     fn end_block_header(&mut self, start: Marker) -> Result<(), Refusal>
-        ensures { Gives (λ _. state self.new) result (spec.header_end start (state self.old)) }
+        ensures { PassesBy (spec.header_end start) self.old result self.new }
     {
         self.skip_ws_to_eol(SkipTabs::Yes)?;
         if !is_breakz(self.look()) {
@@ -89,7 +89,7 @@ impl<T: Input> Reader<T> {
     // The chomping, whose indicator may stand behind that of the indentation.
     #[tactic(auto, unfolding(crate::specs::Steps::Block::last_chomping))]
     fn read_last_chomping(&mut self, first: Option<Chomping>) -> Chomping
-        ensures { (result, state self.new) ≡ spec.last_chomping first (state self.old) }
+        ensures { (result, cursor_of self.new) ≡ spec.last_chomping first (cursor_of self.old) }
     {
         match first {
             Some(chomping) => chomping,
@@ -100,8 +100,8 @@ impl<T: Input> Reader<T> {
     // Takes off a header, from its `|` or `>` on, with its line.
     #[tactic(auto, unfolding(crate::specs::Steps::Block::header, crate::specs::Steps::Block::header_behind))]
     pub(crate) fn read_block_header(&mut self) -> Result<BlockHeader, Refusal>
-        requires { 0 < length (state self.old).rest }
-        ensures { Gives (λ header. (header, state self.new)) result (spec.header (state self.old)) }
+        requires { 0 < length (cursor_of self.old).rest }
+        ensures { GivesBy spec.header self.old result self.new }
     {
         let start = self.mark;
         self.skip_non_blank();

@@ -6,12 +6,12 @@ ghost use Rattle.saphyr_input.specs.Classes.{is_break};
 ghost use Rattle.saphyr_scalar.specs.Views.Cursor.{Cursor};
 ghost use Rattle.saphyr_scalar.specs.Steps.Block.{block_scalar};
 ghost use Rattle.saphyr_scalar.specs.Steps.BlockRead.{IsRead};
-ghost use Rattle.saphyr_scalar.specs.Reading.Block.{Line};
+ghost use Rattle.scalar_values.specs.Block.{Line};
 ghost use Rattle.saphyr_scalar.specs.Reading.BlockText.{IsBlockText};
 ghost use Rattle.saphyr_scalar.specs.Spelling.Block.{IsBlockScalar, IsTaken};
 
-use crate::reading::{BlockStyle, Chomping};
 use crate::scalar::position::Span;
+use scalar_values::{BlockStyle, Chomping};
 
 /// What is read as a block scalar is the value of the lines that are taken off behind its header.
 pub fn reads_values_of_lines()

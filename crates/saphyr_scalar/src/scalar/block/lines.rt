@@ -1,16 +1,16 @@
 //! The lines of block scalars: those with content, and empty ones, which are counted
 //! (YAML 1.2.2, 8.1.2 and 8.1.3).
 
-ghost use Rattle.std.specs.Prelude.{◌≡◌, ◌+◌, ◌≤◌, string_bytes, Ok, None};
+ghost use Rattle.std.specs.Prelude.{◌≡◌, ◌+◌, ◌≤◌};
 ghost use Rattle.saphyr_scalar.specs.Steps.Block as spec;
 
-use crate::reading::BlockStyle;
 use crate::scalar::block::breaks::{BlockEnd, push_break_before};
 use crate::scalar::fault::Stop;
 use crate::scalar::reader::Reader;
 use saphyr_input::char_set::NonBreak;
 use saphyr_input::char_traits::{is_break, is_yaml_non_break};
 use saphyr_input::input::Input;
+use scalar_values::BlockStyle;
 
 // Lines of spaces alone: how many breaks end them, and the column that the longest reaches.
 #[derive(Clone, Copy)]
@@ -31,7 +31,7 @@ fn indentation_left(limit: Option<usize>, col: usize) -> usize
 }
 
 impl<T: Input> Reader<T> {
-    ghost use Rattle.saphyr_scalar.specs.Views.Reader.{state, loaded, Moves};
+    ghost use Rattle.saphyr_scalar.specs.Views.Reader.{cursor_of, loaded, WritesBy, AppendsBy};
 
     // Takes off empty lines and the indentation behind them, which may have a limit.
     pub(crate) fn skip_empty_block_lines(
@@ -39,10 +39,10 @@ impl<T: Input> Reader<T> {
         limit: Option<usize>,
         before: EmptyLines,
     ) -> EmptyLines
-        requires { before.count ≤ (state self.old).mark.index }
-        ensures taken { (result, state self.new)
-            ≡ spec.pass_empty_lines_at limit before (state self.old) }
-        ensures few { result.count ≤ (state self.new).mark.index }
+        requires { before.count ≤ (cursor_of self.old).mark.index }
+        ensures taken { (result, cursor_of self.new)
+            ≡ spec.pass_empty_lines_at limit before (cursor_of self.old) }
+        ensures few { result.count ≤ (cursor_of self.new).mark.index }
     {
         let mut lines = before;
         loop {
@@ -62,9 +62,9 @@ impl<T: Input> Reader<T> {
     // Whether a content line begins here.
     #[tactic(auto, unfolding(crate::specs::Steps::Block::line_starts))]
     fn block_line_starts(&mut self, indentation: usize) -> bool
-        ensures value { result ≡ spec.line_starts indentation (state self.old).mark.col
-            (state self.old).rest }
-        ensures same { state self.new ≡ state self.old }
+        ensures value { result ≡ spec.line_starts indentation (cursor_of self.old).mark.col
+            (cursor_of self.old).rest }
+        ensures same { cursor_of self.new ≡ cursor_of self.old }
         ensures loaded { 1 ≤ loaded self.new }
     {
         self.load(4);
@@ -76,13 +76,13 @@ impl<T: Input> Reader<T> {
     // Moves the rest of a line to the end of a text.
     #[tactic(auto, using(crate::proofs::Lengths::run_within))]
     fn read_block_line(&mut self, text: &mut String) -> Result<(), Stop>
-        ensures { Moves (λ _. (string_bytes text.new, state self.new)) result
-            (Ok (spec.with_line (string_bytes text.old) (state self.old))) }
+        ensures { AppendsBy spec.with_line text.old self.old result text.new self.new }
     {
         let count = self.input.fetch_while::<NonBreak>(text)?;
         self.mark = self.mark.along(count);
         Ok(())
     }
+
     // Moves the content lines to the end of a text, behind some empty lines, and gives what stands
     // behind the last content.
     pub(crate) fn read_block_lines(
@@ -92,10 +92,9 @@ impl<T: Input> Reader<T> {
         leading: usize,
         text: &mut String,
     ) -> Result<BlockEnd, Stop>
-        requires { leading ≤ (state self.old).mark.index }
-        ensures { Moves (λ end. (string_bytes text.new, end, state self.new)) result
-            (Ok (spec.with_lines (string_bytes text.old)
-            (spec.between_at style indentation None leading (state self.old)))) }
+        requires { leading ≤ (cursor_of self.old).mark.index }
+        ensures { WritesBy spec.seen_lines (spec.lines_onto style indentation leading) text.old
+            self.old result text.new self.new }
     {
         let mut above = None;
         let mut lines = EmptyLines {

@@ -99,7 +99,7 @@ pub ends_square : (around : Around) (z : Context) → is_block z ≡ false
     → (second i : ℕ) (d : Bool) (s : Cursor) (k : Option Candidate) (ms : List Level) (a : Bool) (ad : ℕ)
     → step 93 second i (core_at around d s z k ms a ad)
     ≡ close_collection (ends_pair z) tokens.FlowSequenceEnd (core_at around d s z k ms a ad)
-unfolding step flow.end
+unfolding step flow.closing_steps
 ends_square around context.Block e second i d s k ms a ad = absurd (true≢false e)
 ends_square around context.FlowSequence e second i d s k ms a ad = refl
 ends_square around context.FlowMapping e second i d s k ms a ad = refl
@@ -111,7 +111,7 @@ pub ends_curly : (around : Around) (second i : ℕ) (d : Bool) (s : Cursor) (k :
     (a : Bool) (ad : ℕ)
     → step 125 second i (core_at around d s context.FlowMapping k ms a ad)
     ≡ close_collection false tokens.FlowMappingEnd (core_at around d s context.FlowMapping k ms a ad)
-unfolding step flow.end
+unfolding step flow.closing_steps
 ends_curly around second i d s k ms a ad = refl
 
 -- ## A collection, given the run over its entries

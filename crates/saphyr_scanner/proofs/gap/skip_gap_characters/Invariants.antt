@@ -1,11 +1,11 @@
 use Rattle.std.proofs.Common.{◌≡◌, length, false}
-use Rattle.saphyr_scalar.specs.Views.Reader.{state}
+use Rattle.saphyr_scalar.specs.Views.Reader.{cursor_of}
 use Rattle.saphyr_scanner.specs.Steps.Gap as spec
 use Rattle.saphyr_scanner.proofs.gap.skip_gap_characters.Given as goal
 
 abbrev pub invariant-loop-reader : goal.invariant-loop-reader
 invariant-loop-reader g l =
-    spec.gap_at l.least l.broke l.tabbed (state l.reader) ≡ spec.gap_at l.least false false (state l.fn.reader)
+    spec.gap_at l.least l.broke l.tabbed (cursor_of l.reader) ≡ spec.gap_at l.least false false (cursor_of l.fn.reader)
 
 abbrev pub decreases-loop-reader : goal.decreases-loop-reader
-decreases-loop-reader g l = length (state l.reader).rest
+decreases-loop-reader g l = length (cursor_of l.reader).rest

@@ -1,10 +1,10 @@
 use Rattle.std.proofs.Common.{◌≡◌, length, false}
-use Rattle.saphyr_scalar.specs.Views.Reader.{state}
+use Rattle.saphyr_scalar.specs.Views.Reader.{cursor_of}
 use Rattle.saphyr_scanner.specs.Steps.Gap as spec
 use Rattle.saphyr_scanner.proofs.gap.skip_spaces.Given as goal
 
 abbrev pub invariant-loop-space : goal.invariant-loop-space
-invariant-loop-space g l = spec.spaces_at l.space (state l.reader) ≡ spec.spaces_at false (state l.fn.reader)
+invariant-loop-space g l = spec.spaces_at l.space (cursor_of l.reader) ≡ spec.spaces_at false (cursor_of l.fn.reader)
 
 abbrev pub decreases-loop-space : goal.decreases-loop-space
-decreases-loop-space g l = length (state l.reader).rest
+decreases-loop-space g l = length (cursor_of l.reader).rest

@@ -1,7 +1,6 @@
 use Rattle.std.specs.Prelude.{[]}
 use Rattle.saphyr_scalar.specs.Views.Cursor.{fresh}
 use Rattle.saphyr_scanner.specs.Steps.Remaining.{scan}
-use Rattle.saphyr_scanner.specs.TokensTaken.{IsReached}
 use Rattle.saphyr_scanner.specs.TokensTaken as taken
 use Rattle.saphyr_scanner.proofs.Taken.Places.{tokens_at}
 use Rattle.saphyr_scanner.proofs.law.begins_at_places.Goals as goal

@@ -1,4 +1,4 @@
-use Rattle.saphyr_scanner.proofs.Examples.TakenTexts.{takes_block_mappings, takes_block_alias}
+use Rattle.saphyr_scanner.proofs.Examples.TakenLines.{takes_block_mappings, takes_block_alias}
 use Rattle.saphyr_scanner.proofs.Examples.TakenBlocks.{takes_literal, takes_indentation}
 use Rattle.saphyr_scanner.proofs.taken_law.takes_block.Goals as goal
 

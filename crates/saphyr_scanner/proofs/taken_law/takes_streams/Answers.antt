@@ -1,4 +1,4 @@
-use Rattle.saphyr_scanner.proofs.Examples.TakenTexts.{takes_tag, takes_byte_order_mark, takes_refusal}
+use Rattle.saphyr_scanner.proofs.Examples.TakenStreams.{takes_tag, takes_byte_order_mark, takes_refusal}
 use Rattle.saphyr_scanner.proofs.taken_law.takes_streams.Goals as goal
 
 pub returns-clause-tag : goal.returns-clause-tag

@@ -1,5 +1,5 @@
 use Rattle.std.proofs.Common.{◌≡◌, ◌≤◌, ◌-◌, ◌*◌, length, take}
-use Rattle.saphyr_parser.specs.Printed.{escaped}
+use Rattle.saphyr_parser.specs.Printed.{printed_bytes}
 use Rattle.saphyr_parser.proofs.printing.writing.gather_escapes.Given as goal
 
 abbrev pub invariant-loop-read : goal.invariant-loop-read
@@ -8,7 +8,7 @@ invariant-loop-read l = record {
   within : l.read ≤ length l.text;
   filled : l.filled ≤ 64;
   some : l.filled ≤ 2 * l.read;
-  gathered : take l.filled l.room ≡ escaped (take l.read l.text);
+  gathered : take l.filled l.room ≡ printed_bytes (take l.read l.text);
 }
 
 abbrev pub decreases-loop-read : goal.decreases-loop-read

@@ -1,11 +1,11 @@
 use Rattle.std.proofs.Common.{length}
-use Rattle.saphyr_parser.specs.Printed.{escaped}
+use Rattle.saphyr_parser.specs.Printed.{printed_bytes}
 use Rattle.saphyr_parser.specs.Written.{TakesUpTo}
 use Rattle.saphyr_parser.proofs.printing.writing.write_escaped.Given as goal
 
 abbrev pub invariant-loop-rest : goal.invariant-loop-rest
 invariant-loop-rest g l =
-    TakesUpTo (g.W.Write.contents l.fn.out) (g.W.Write.contents l.out) (escaped l.text) (escaped l.rest)
+    TakesUpTo (g.W.Write.contents l.fn.out) (g.W.Write.contents l.out) (printed_bytes l.text) (printed_bytes l.rest)
 
 abbrev pub decreases-loop-rest : goal.decreases-loop-rest
 decreases-loop-rest g l = length l.rest

@@ -1,4 +1,4 @@
-use Rattle.saphyr_scalar.specs.declared.reading.flow.Quote.TheVariants.{Double}
+use Rattle.scalar_values.specs.declared.flow.Quote.TheVariants.{Double}
 use Rattle.saphyr_scalar.proofs.Quoted.Counted.{quoted_counts}
 use Rattle.saphyr_scalar.proofs.scalar.law.counts_each_double_quoted.Goals as goal
 

@@ -1,6 +1,6 @@
 use Rattle.std.proofs.Common.{◌≡◌, Err, rules}
 use Rattle.saphyr_parser.specs.Cursor.{event_of}
-use Rattle.yaml_tree.specs.Loading.{told}
+use Rattle.yaml_tree.specs.Loading.{happenings}
 use Rattle.yaml_tree.proofs.Loads.{reads_none, reads_more, fails, refuses, reads_all}
 use Rattle.yaml_tree.proofs.loading.Loader.take_all.Goals as goal
 
@@ -12,7 +12,7 @@ loop-read-preserved g c = λ limits h.
     let read = c.loop-read.invariant limits h in
     let hands = rw c.in-Ok.is at c.in-Some.ensures.hands in
     reads_more limits _ _ _ (event_of (c.in-Ok.event, c.in-Ok.span)) _ _ read hands
-    (c.in_ok-take-in-Ok.ensures limits (told read.taken) read.loader)
+    (c.in_ok-take-in-Ok.ensures limits (happenings read.taken) read.loader)
 
 pub returns-in_err-take-in-Ok : goal.returns-in_err-take-in-Ok
 returns-in_err-take-in-Ok g c = λ limits h.
@@ -20,7 +20,7 @@ returns-in_err-take-in-Ok g c = λ limits h.
     let hands = rw c.in-Ok.is at c.in-Some.ensures.hands in
     let answer : c.from_residual.result ≡ Err c.in_err-take-in-Ok.field-0.0 = search rules in
     rw answer (fails _ limits _ _ _ (event_of (c.in-Ok.event, c.in-Ok.span)) _ read hands
-    (c.in_err-take-in-Ok.ensures limits (told read.taken) read.loader))
+    (c.in_err-take-in-Ok.ensures limits (happenings read.taken) read.loader))
 
 pub returns-in-Err : goal.returns-in-Err
 returns-in-Err g c = λ limits h.

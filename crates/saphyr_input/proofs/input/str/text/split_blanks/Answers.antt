@@ -7,7 +7,7 @@ use Rattle.saphyr_input.proofs.input.str.text.split_blanks.Goals as goal
 use Rattle.saphyr_input.proofs.input.str.text.split_blanks.Goals.{After-leading_blanks-blanks, in-Yes, in_default}
 
 same : (c : After-leading_blanks-blanks) → (x : ℕ)
-    → spec.is_skipped c.match-matches.matches x ≡ separation.is_skipped c.args.skip_tabs x
+    → spec.is_passed_blank c.match-matches.matches x ≡ separation.is_skipped c.args.skip_tabs x
 same c = elim c.match-matches.branch [
   | in-Yes w ↦ with_tabs c.args.skip_tabs c.match-matches.matches w.in-Yes.is w.matches-is
   | in_default w ↦ without_tabs c.args.skip_tabs c.match-matches.matches w.in_default.not-Yes w.matches-is

@@ -1,5 +1,5 @@
 use Rattle.std.proofs.Common.{subst}
-use Rattle.saphyr_parser.specs.Cursor.{Cursor, Hands, to_come}
+use Rattle.saphyr_parser.specs.Cursor.{EventCursor, HandsOutNext, to_come}
 use Rattle.saphyr_parser.specs.Views.Readers.{cursor}
 use Rattle.saphyr_parser.proofs.Calls.Handing.{gives_hands}
 use Rattle.saphyr_parser.proofs.Calls.Soundness.{ends_stream, sound_gives}
@@ -10,7 +10,8 @@ invariant_of-self g c = sound_gives c.next_event.result _ _ c.next_event.ensures
 
 pub returns-clause-hands : goal.returns-clause-hands
 returns-clause-hands g c =
-    subst (λ (old : Cursor). Hands c.next_event.result (to_come old) (to_come (cursor c.next_event.new.self)))
+    subst (λ (old : EventCursor). HandsOutNext c.next_event.result (to_come old)
+    (to_come (cursor c.next_event.new.self)))
     c.self.view_is (gives_hands c.next_event.result _ _ c.next_event.ensures)
 
 pub returns-clause-over : goal.returns-clause-over

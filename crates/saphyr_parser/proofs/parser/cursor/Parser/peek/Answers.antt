@@ -1,5 +1,5 @@
 use Rattle.std.proofs.Common.{refl, subst}
-use Rattle.saphyr_parser.specs.Cursor.{Cursor}
+use Rattle.saphyr_parser.specs.Cursor.{EventCursor}
 use Rattle.saphyr_parser.specs.Calls.{Peeks}
 use Rattle.saphyr_parser.specs.Views.Readers.{cursor}
 use Rattle.saphyr_parser.proofs.Calls.Soundness.{peeks, sound_looks}
@@ -14,7 +14,7 @@ returns g c =
       (
         refl,
         (λ _. tt),
-        subst (λ (old : Cursor). Peeks old c.shown.result (cursor c.look.new.self)) c.self.view_is
+        subst (λ (old : EventCursor). Peeks old c.shown.result (cursor c.look.new.self)) c.self.view_is
             peeked,
       ),
       tt,

@@ -6,7 +6,8 @@ use Rattle.saphyr_parser.proofs.parser.machine.Machine.directives.Given as goal
 
 abbrev pub invariant-loop-declared : goal.invariant-loop-declared
 invariant-loop-declared g l =
-    directives (declared_of l.declared) (machine_of l.self) ≡ directives none_declared (machine_of l.fn.self)
+    directives (declared_of l.declared l.self.prefixes) (machine_of l.self)
+    ≡ directives none_declared (machine_of l.fn.self)
 
 abbrev pub decreases-loop-declared : goal.decreases-loop-declared
 decreases-loop-declared g l = length (machine_of l.self).tokens.pieces

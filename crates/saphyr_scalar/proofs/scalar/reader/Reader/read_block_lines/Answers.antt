@@ -1,26 +1,26 @@
 use Rattle.std.proofs.Common.{ap, sym, ◌∙◌, Ok, string_bytes, arith}
-use Rattle.saphyr_scalar.specs.Views.Reader.{state}
+use Rattle.saphyr_scalar.specs.Views.Reader.{cursor_of}
 use Rattle.saphyr_scalar.proofs.Block.Turns.{skipped, turn, broken, cut, last}
 use Rattle.saphyr_scalar.proofs.scalar.reader.Reader.read_block_lines.Goals as goal
 
 pub returns-then-not-block_line_starts : goal.returns-then-not-block_line_starts
 returns-then-not-block_line_starts g c =
-    let s = state c.loop-style.self in
-    let t = state c.skip_empty_block_lines-lines.new.self in
+    let s = cursor_of c.loop-style.self in
+    let t = cursor_of c.skip_empty_block_lines-lines.new.self in
     let skip = skipped c.args.style c.args.indentation c.loop-style.above c.loop-style.lines
     c.skip_empty_block_lines-lines.result s t c.skip_empty_block_lines-lines.ensures.taken in
     ap Ok (sym c.loop-style.invariant.same
     ∙ last c.args.style c.args.indentation c.loop-style.above c.loop-style.lines c.skip_empty_block_lines-lines.result
-    (string_bytes c.loop-style.text) s t (state c.block_line_starts.new.self) _ skip
+    (string_bytes c.loop-style.text) s t (cursor_of c.block_line_starts.new.self) _ skip
     c.block_line_starts.ensures.same
     (sym c.block_line_starts.ensures.value ∙ c.if-not-block_line_starts.true) c.is_some.ensures)
 
 pub returns-then-not-is_break : goal.returns-then-not-is_break
 returns-then-not-is_break g c =
-    let s = state c.loop-style.self in
-    let t = state c.skip_empty_block_lines-lines.new.self in
-    let here = state c.block_line_starts.new.self in
-    let end = state c.read_block_line.new.self in
+    let s = cursor_of c.loop-style.self in
+    let t = cursor_of c.skip_empty_block_lines-lines.new.self in
+    let here = cursor_of c.block_line_starts.new.self in
+    let end = cursor_of c.read_block_line.new.self in
     let text = string_bytes c.loop-style.text in
     let grown = string_bytes c.read_block_line.new.text in
     let below = c.next_is_blank-below.result in
@@ -32,15 +32,15 @@ returns-then-not-is_break g c =
     (sym c.block_line_starts.ensures.value ∙ c.if-not-block_line_starts.false) c.next_is_blank-below.ensures
     c.in_ok-push_break_before.ensures c.in_ok-read_block_line.ensures in
     ap Ok (sym c.loop-style.invariant.same ∙ one.0
-    ∙ cut c.args.style c.args.indentation below grown end (state c.look.new.self) c.look.result c.look.ensures.same
+    ∙ cut c.args.style c.args.indentation below grown end (cursor_of c.look.new.self) c.look.result c.look.ensures.same
     c.look.ensures.value (sym c.is_break.ensures.test ∙ c.if-not-is_break.true) one.1)
 
 pub loop-style-smaller : goal.loop-style-smaller
 loop-style-smaller g c =
-    let s = state c.loop-style.self in
-    let t = state c.skip_empty_block_lines-lines.new.self in
-    let here = state c.block_line_starts.new.self in
-    let end = state c.read_block_line.new.self in
+    let s = cursor_of c.loop-style.self in
+    let t = cursor_of c.skip_empty_block_lines-lines.new.self in
+    let here = cursor_of c.block_line_starts.new.self in
+    let end = cursor_of c.read_block_line.new.self in
     let text = string_bytes c.loop-style.text in
     let grown = string_bytes c.read_block_line.new.text in
     let below = c.next_is_blank-below.result in
@@ -51,17 +51,17 @@ loop-style-smaller g c =
     skip c.block_line_starts.ensures.same
     (sym c.block_line_starts.ensures.value ∙ c.if-not-block_line_starts.false) c.next_is_blank-below.ensures
     c.in_ok-push_break_before.ensures c.in_ok-read_block_line.ensures in
-    let next = broken c.args.style c.args.indentation below grown end (state c.look.new.self)
-    (state c.skip_line_break.new.self) c.look.result c.look.ensures.same c.look.ensures.value
+    let next = broken c.args.style c.args.indentation below grown end (cursor_of c.look.new.self)
+    (cursor_of c.skip_line_break.new.self) c.look.result c.look.ensures.same c.look.ensures.value
     (sym c.is_break.ensures.test ∙ c.if-not-is_break.false) c.skip_line_break.ensures in
     omega (arith, one.2, next.1)
 
 pub loop-style-preserved : goal.loop-style-preserved
 loop-style-preserved g c =
-    let s = state c.loop-style.self in
-    let t = state c.skip_empty_block_lines-lines.new.self in
-    let here = state c.block_line_starts.new.self in
-    let end = state c.read_block_line.new.self in
+    let s = cursor_of c.loop-style.self in
+    let t = cursor_of c.skip_empty_block_lines-lines.new.self in
+    let here = cursor_of c.block_line_starts.new.self in
+    let end = cursor_of c.read_block_line.new.self in
     let text = string_bytes c.loop-style.text in
     let grown = string_bytes c.read_block_line.new.text in
     let below = c.next_is_blank-below.result in
@@ -72,7 +72,7 @@ loop-style-preserved g c =
     skip c.block_line_starts.ensures.same
     (sym c.block_line_starts.ensures.value ∙ c.if-not-block_line_starts.false) c.next_is_blank-below.ensures
     c.in_ok-push_break_before.ensures c.in_ok-read_block_line.ensures in
-    let next = broken c.args.style c.args.indentation below grown end (state c.look.new.self)
-    (state c.skip_line_break.new.self) c.look.result c.look.ensures.same c.look.ensures.value
+    let next = broken c.args.style c.args.indentation below grown end (cursor_of c.look.new.self)
+    (cursor_of c.skip_line_break.new.self) c.look.result c.look.ensures.same c.look.ensures.value
     (sym c.is_break.ensures.test ∙ c.if-not-is_break.false) c.skip_line_break.ensures in
     record { same = next.0 ∙ sym one.0 ∙ c.loop-style.invariant.same; few = omega arith }

@@ -1,6 +1,6 @@
 use Rattle.std.proofs.Common.{◌≡◌, true, sym, ◌∙◌, arith}
 use Rattle.saphyr_input.specs.Classes as class
-use Rattle.saphyr_scalar.specs.Views.Reader.{state}
+use Rattle.saphyr_scalar.specs.Views.Reader.{cursor_of}
 use Rattle.saphyr_scalar.proofs.Quoted.Escapes.{digits_none, digits_on, digits_below, digits_fit}
 use Rattle.saphyr_scalar.proofs.scalar.reader.Reader.read_digits.Goals as goal
 
@@ -21,7 +21,7 @@ loop-preserved g c =
     let hex : class.is_hex c.look-c.result ≡ true = sym c.is_hex.ensures.test ∙ c.if-not-is_hex.false in
     record {
       same = digits_on c.args.start c.args.count c.loop.counter c.loop.value c.look-c.result c.as_hex.result
-          (state c.loop.self) (state c.look-c.new.self) (state c.skip_non_blank.new.self)
+          (cursor_of c.loop.self) (cursor_of c.look-c.new.self) (cursor_of c.skip_non_blank.new.self)
           (omega arith) c.look-c.ensures.value hex c.as_hex.ensures.value c.look-c.ensures.same c.skip_non_blank.ensures
           ∙ c.loop.invariant.same;
       below = digits_below _ _ _ c.loop.invariant.below c.as_hex.ensures.digit;
@@ -29,4 +29,4 @@ loop-preserved g c =
 
 pub returns : goal.returns
 returns g c = sym c.loop.invariant.same
-    ∙ digits_none c.args.start c.args.count c.loop.counter c.loop.value (state c.loop.self) (omega arith)
+    ∙ digits_none c.args.start c.args.count c.loop.counter c.loop.value (cursor_of c.loop.self) (omega arith)

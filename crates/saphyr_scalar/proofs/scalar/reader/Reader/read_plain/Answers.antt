@@ -1,20 +1,20 @@
 use Rattle.std.proofs.Common.{◌≡◌, Bool, true, false, ◌++◌, string_bytes, Ok, sym, ap, ◌∙◌, subst}
 use Rattle.saphyr_scalar.specs.Views.Cursor.{Cursor}
 use Rattle.saphyr_scalar.specs.Steps.Plain as spec
-use Rattle.saphyr_scalar.specs.Views.Reader.{state}
-use Rattle.saphyr_scalar.proofs.Plain.Pieces.{GapMoved, gap_of, gap_refused, turn_refused, no_turn, turn, turn_goes, turn_shorter, goes_says, plain_starts, plain_refused, no_plain, first_goes, no_text, moves_refused, moves_failed}
+use Rattle.saphyr_scalar.specs.Views.Reader.{cursor_of}
+use Rattle.saphyr_scalar.proofs.Plain.Pieces.{GapMoved, gap_refused, turn_refused, no_turn, turn, turn_goes, turn_shorter, goes_says, plain_starts, plain_refused, no_plain, first_goes, no_text, moves_refused, moves_failed}
 use Rattle.saphyr_scalar.proofs.scalar.reader.Reader.read_plain.Goals as goal
 
 pub returns-in_err-plain_word_starts : goal.returns-in_err-plain_word_starts
 returns-in_err-plain_word_starts g c =
     moves_refused _ _ _ _ c.from_residual.ensures.1
-    (plain_refused c.args.in_flow c.args.indent (state c.args.self.now) _ c.in_err-plain_word_starts.ensures)
+    (plain_refused c.args.in_flow c.args.indent (cursor_of c.args.self.now) _ c.in_err-plain_word_starts.ensures)
 
 pub returns-then-not-branch : goal.returns-then-not-branch
 returns-then-not-branch g c =
     let f = c.args.in_flow in
-    let s = state c.args.self.now in
-    let there = state c.plain_word_starts.new.self in
+    let s = cursor_of c.args.self.now in
+    let there = cursor_of c.plain_word_starts.new.self in
     no_plain f c.args.indent s there
     (subst (λ (b : Bool). spec.word_starts f s ≡ Ok (b, there)) c.if-not-branch.true
     c.in_ok-plain_word_starts.ensures)
@@ -22,8 +22,8 @@ returns-then-not-branch g c =
 pub loop-gap-init : goal.loop-gap-init
 loop-gap-init g c =
     let f = c.args.in_flow in
-    let s = state c.args.self.now in
-    let there = state c.plain_word_starts.new.self in
+    let s = cursor_of c.args.self.now in
+    let there = cursor_of c.plain_word_starts.new.self in
     let starts : spec.word_starts f s ≡ Ok (true, there) = subst (λ (b : Bool). spec.word_starts f s ≡ Ok (b, there))
     c.if-not-branch.false c.in_ok-plain_word_starts.ensures in
     record {
@@ -38,8 +38,8 @@ returns-in_err-tabbed g c =
     let f = c.args.in_flow in
     let i = c.args.indent in
     let start = c.args.self.now.mark in
-    let here = state c.loop-gap.self in
-    let end = state c.read_plain_words.new.self in
+    let here = cursor_of c.loop-gap.self in
+    let end = cursor_of c.read_plain_words.new.self in
     moves_failed _ _ _ (spec.gap i start end) _ c.from_residual-in_err-tabbed.ensures.1 c.in_err-tabbed.ensures
     (λ r h. sym c.loop-gap.invariant.same ∙ gap_refused f i start _ _ here end r c.in_ok-read_plain_words.ensures h)
 
@@ -48,11 +48,10 @@ returns-in_err-plain_goes_on g c =
     let f = c.args.in_flow in
     let i = c.args.indent in
     let start = c.args.self.now.mark in
-    let here = state c.loop-gap.self in
-    let end = state c.read_plain_words.new.self in
-    let behind = state c.read_plain_gap.new.self in
-    let gap = gap_of (spec.gap_text behind.blank_so_far (string_bytes c.read_plain_gap.new.gap)) c.in_ok-tabbed.tabbed
-    behind in
+    let here = cursor_of c.loop-gap.self in
+    let end = cursor_of c.read_plain_words.new.self in
+    let behind = cursor_of c.read_plain_gap.new.self in
+    let gap = spec.seen_word_gap c.in_ok-tabbed.tabbed (string_bytes c.read_plain_gap.new.gap) behind in
     let moved : GapMoved f i start (string_bytes c.loop-gap.text) (string_bytes c.read_plain_words.new.text) here end
     gap = record {
       moved = c.in_ok-read_plain_words.ensures;
@@ -66,12 +65,11 @@ returns-then-not-branch-2 g c =
     let f = c.args.in_flow in
     let i = c.args.indent in
     let start = c.args.self.now.mark in
-    let here = state c.loop-gap.self in
-    let end = state c.read_plain_words.new.self in
-    let behind = state c.read_plain_gap.new.self in
-    let there = state c.plain_goes_on.new.self in
-    let gap = gap_of (spec.gap_text behind.blank_so_far (string_bytes c.read_plain_gap.new.gap)) c.in_ok-tabbed.tabbed
-    behind in
+    let here = cursor_of c.loop-gap.self in
+    let end = cursor_of c.read_plain_words.new.self in
+    let behind = cursor_of c.read_plain_gap.new.self in
+    let there = cursor_of c.plain_goes_on.new.self in
+    let gap = spec.seen_word_gap c.in_ok-tabbed.tabbed (string_bytes c.read_plain_gap.new.gap) behind in
     let grown = string_bytes c.read_plain_words.new.text in
     let moved : GapMoved f i start (string_bytes c.loop-gap.text) grown here end gap = record {
       moved = c.in_ok-read_plain_words.ensures;
@@ -88,12 +86,11 @@ loop-gap-smaller g c =
     let f = c.args.in_flow in
     let i = c.args.indent in
     let start = c.args.self.now.mark in
-    let here = state c.loop-gap.self in
-    let end = state c.read_plain_words.new.self in
-    let behind = state c.read_plain_gap.new.self in
-    let there = state c.plain_goes_on.new.self in
-    let gap = gap_of (spec.gap_text behind.blank_so_far (string_bytes c.read_plain_gap.new.gap)) c.in_ok-tabbed.tabbed
-    behind in
+    let here = cursor_of c.loop-gap.self in
+    let end = cursor_of c.read_plain_words.new.self in
+    let behind = cursor_of c.read_plain_gap.new.self in
+    let there = cursor_of c.plain_goes_on.new.self in
+    let gap = spec.seen_word_gap c.in_ok-tabbed.tabbed (string_bytes c.read_plain_gap.new.gap) behind in
     let moved : GapMoved f i start (string_bytes c.loop-gap.text) (string_bytes c.read_plain_words.new.text) here end
     gap = record {
       moved = c.in_ok-read_plain_words.ensures;
@@ -108,12 +105,11 @@ loop-gap-preserved g c =
     let f = c.args.in_flow in
     let i = c.args.indent in
     let start = c.args.self.now.mark in
-    let here = state c.loop-gap.self in
-    let end = state c.read_plain_words.new.self in
-    let behind = state c.read_plain_gap.new.self in
-    let there = state c.plain_goes_on.new.self in
-    let gap = gap_of (spec.gap_text behind.blank_so_far (string_bytes c.read_plain_gap.new.gap)) c.in_ok-tabbed.tabbed
-    behind in
+    let here = cursor_of c.loop-gap.self in
+    let end = cursor_of c.read_plain_words.new.self in
+    let behind = cursor_of c.read_plain_gap.new.self in
+    let there = cursor_of c.plain_goes_on.new.self in
+    let gap = spec.seen_word_gap c.in_ok-tabbed.tabbed (string_bytes c.read_plain_gap.new.gap) behind in
     let grown = string_bytes c.read_plain_words.new.text in
     let moved : GapMoved f i start (string_bytes c.loop-gap.text) grown here end gap = record {
       moved = c.in_ok-read_plain_words.ensures;

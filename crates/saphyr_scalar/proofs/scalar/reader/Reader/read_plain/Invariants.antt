@@ -1,14 +1,15 @@
 use Rattle.std.proofs.Common.{◌≡◌, true, length, string_bytes}
 use Rattle.saphyr_scalar.specs.Steps.Plain.{in_word, with_text, word, plain}
-use Rattle.saphyr_scalar.specs.Views.Reader.{state}
+use Rattle.saphyr_scalar.specs.Views.Reader.{cursor_of}
 use Rattle.saphyr_scalar.proofs.scalar.reader.Reader.read_plain.Given as goal
 
 abbrev pub invariant-loop-gap : goal.invariant-loop-gap
 invariant-loop-gap g l = record {
-  same : with_text (string_bytes l.text) (word l.in_flow l.indent l.start (state l.self).mark (state l.self).rest)
-      ≡ plain l.in_flow l.indent (state l.fn.self);
-  goes : in_word l.in_flow (state l.self).rest ≡ true;
+  same : with_text (string_bytes l.text) (word l.in_flow l.indent l.start (cursor_of l.self).mark
+      (cursor_of l.self).rest)
+      ≡ plain l.in_flow l.indent (cursor_of l.fn.self);
+  goes : in_word l.in_flow (cursor_of l.self).rest ≡ true;
 }
 
 abbrev pub decreases-loop-gap : goal.decreases-loop-gap
-decreases-loop-gap g l = length (state l.self).rest
+decreases-loop-gap g l = length (cursor_of l.self).rest

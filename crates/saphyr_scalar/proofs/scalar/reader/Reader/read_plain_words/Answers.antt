@@ -1,31 +1,33 @@
-use Rattle.std.proofs.Common.{◌≡◌, ◌+◌, true, false, length, drop, slice_index, string_bytes, refl, sym, ap, ◌∙◌, arith, subst}
+use Rattle.std.proofs.Common.{◌≡◌, ◌+◌, true, false, drop, slice_index, string_bytes, refl, sym, ap, ◌∙◌, arith, subst}
 use Rattle.saphyr_scalar.specs.declared.scalar.position.Marker.{Marker}
 use Rattle.saphyr_scalar.specs.Views.Cursor.{Cursor, along}
 use Rattle.saphyr_scalar.specs.Steps.Plain.{in_word}
-use Rattle.saphyr_scalar.specs.Views.Reader.{state}
+use Rattle.saphyr_scalar.specs.Views.Reader.{cursor_of}
 use Rattle.saphyr_scalar.proofs.Plain.SingleSpaces.{WordsRan, none_ran, words_ran, colon_ran, words_done}
 use Rattle.saphyr_scalar.proofs.scalar.reader.Reader.read_plain_words.Goals as goal
 
 pub loop-count-init : goal.loop-count-init
-loop-count-init g c = none_ran c.args.in_flow (string_bytes c.args.text.now) (state c.args.self.now)
+loop-count-init g c = none_ran c.args.in_flow (string_bytes c.args.text.now) (cursor_of c.args.self.now)
 
 pub overflow_add-count : goal.overflow_add-count
 overflow_add-count g c =
     let f = c.args.in_flow in
-    let start = state c.args.self.now in
+    let start = cursor_of c.args.self.now in
     let n = c.loop-count.count + c.in_ok-count.field-0 in
-    let ran = words_ran f _ _ _ start (state c.loop-count.self) (state c.fetch_plain_words.new.self) c.loop-count.count
+    let ran = words_ran f _ _ _ start (cursor_of c.loop-count.self) (cursor_of c.fetch_plain_words.new.self)
+    c.loop-count.count
     c.in_ok-count.field-0 c.loop-count.invariant c.in_ok-count.ensures.words c.fetch_plain_words.ensures.mark in
     omega (arith, ran.total, c.args.self.now.fits)
 
 pub overflow_add-count-in-loop-count : goal.overflow_add-count-in-loop-count
 overflow_add-count-in-loop-count g c =
     let f = c.args.in_flow in
-    let start = state c.args.self.now in
+    let start = cursor_of c.args.self.now in
     let n = c.loop-count.count + c.in_ok-count.field-0 in
-    let ran = words_ran f _ _ _ start (state c.loop-count.self) (state c.fetch_plain_words.new.self) c.loop-count.count
+    let ran = words_ran f _ _ _ start (cursor_of c.loop-count.self) (cursor_of c.fetch_plain_words.new.self)
+    c.loop-count.count
     c.in_ok-count.field-0 c.loop-count.invariant c.in_ok-count.ensures.words c.fetch_plain_words.ensures.mark in
-    let here = state c.is_in_plain_word.new.self in
+    let here = cursor_of c.is_in_plain_word.new.self in
     let same = c.is_in_plain_word.ensures.same ∙ c.look-c.ensures.same in
     let ran_here = subst (λ (x : Cursor). WordsRan f (string_bytes c.args.text.now)
     (string_bytes c.fetch_plain_words.new.text) start x n) (sym same) ran in
@@ -38,11 +40,12 @@ overflow_add-count-in-loop-count g c =
 pub loop-count-smaller : goal.loop-count-smaller
 loop-count-smaller g c =
     let f = c.args.in_flow in
-    let start = state c.args.self.now in
+    let start = cursor_of c.args.self.now in
     let n = c.loop-count.count + c.in_ok-count.field-0 in
-    let ran = words_ran f _ _ _ start (state c.loop-count.self) (state c.fetch_plain_words.new.self) c.loop-count.count
+    let ran = words_ran f _ _ _ start (cursor_of c.loop-count.self) (cursor_of c.fetch_plain_words.new.self)
+    c.loop-count.count
     c.in_ok-count.field-0 c.loop-count.invariant c.in_ok-count.ensures.words c.fetch_plain_words.ensures.mark in
-    let here = state c.is_in_plain_word.new.self in
+    let here = cursor_of c.is_in_plain_word.new.self in
     let same = c.is_in_plain_word.ensures.same ∙ c.look-c.ensures.same in
     let ran_here = subst (λ (x : Cursor). WordsRan f (string_bytes c.args.text.now)
     (string_bytes c.fetch_plain_words.new.text) start x n) (sym same) ran in
@@ -56,11 +59,12 @@ loop-count-smaller g c =
 pub loop-count-preserved : goal.loop-count-preserved
 loop-count-preserved g c =
     let f = c.args.in_flow in
-    let start = state c.args.self.now in
+    let start = cursor_of c.args.self.now in
     let n = c.loop-count.count + c.in_ok-count.field-0 in
-    let ran = words_ran f _ _ _ start (state c.loop-count.self) (state c.fetch_plain_words.new.self) c.loop-count.count
+    let ran = words_ran f _ _ _ start (cursor_of c.loop-count.self) (cursor_of c.fetch_plain_words.new.self)
+    c.loop-count.count
     c.in_ok-count.field-0 c.loop-count.invariant c.in_ok-count.ensures.words c.fetch_plain_words.ensures.mark in
-    let here = state c.is_in_plain_word.new.self in
+    let here = cursor_of c.is_in_plain_word.new.self in
     let same = c.is_in_plain_word.ensures.same ∙ c.look-c.ensures.same in
     let ran_here = subst (λ (x : Cursor). WordsRan f (string_bytes c.args.text.now)
     (string_bytes c.fetch_plain_words.new.text) start x n) (sym same) ran in
@@ -73,11 +77,12 @@ loop-count-preserved g c =
 pub along-self-requires-clause-index : goal.along-self-requires-clause-index
 along-self-requires-clause-index g c =
     let f = c.args.in_flow in
-    let start = state c.args.self.now in
+    let start = cursor_of c.args.self.now in
     let n = c.loop-count.count + c.in_ok-count.field-0 in
-    let ran = words_ran f _ _ _ start (state c.loop-count.self) (state c.fetch_plain_words.new.self) c.loop-count.count
+    let ran = words_ran f _ _ _ start (cursor_of c.loop-count.self) (cursor_of c.fetch_plain_words.new.self)
+    c.loop-count.count
     c.in_ok-count.field-0 c.loop-count.invariant c.in_ok-count.ensures.words c.fetch_plain_words.ensures.mark in
-    let here = state c.is_in_plain_word.new.self in
+    let here = cursor_of c.is_in_plain_word.new.self in
     let same = c.is_in_plain_word.ensures.same ∙ c.look-c.ensures.same in
     let ran_here = subst (λ (x : Cursor). WordsRan f (string_bytes c.args.text.now)
     (string_bytes c.fetch_plain_words.new.text) start x n) (sym same) ran in
@@ -86,11 +91,12 @@ along-self-requires-clause-index g c =
 pub returns : goal.returns
 returns g c =
     let f = c.args.in_flow in
-    let start = state c.args.self.now in
+    let start = cursor_of c.args.self.now in
     let n = c.loop-count.count + c.in_ok-count.field-0 in
-    let ran = words_ran f _ _ _ start (state c.loop-count.self) (state c.fetch_plain_words.new.self) c.loop-count.count
+    let ran = words_ran f _ _ _ start (cursor_of c.loop-count.self) (cursor_of c.fetch_plain_words.new.self)
+    c.loop-count.count
     c.in_ok-count.field-0 c.loop-count.invariant c.in_ok-count.ensures.words c.fetch_plain_words.ensures.mark in
-    let here = state c.is_in_plain_word.new.self in
+    let here = cursor_of c.is_in_plain_word.new.self in
     let same = c.is_in_plain_word.ensures.same ∙ c.look-c.ensures.same in
     let ran_here = subst (λ (x : Cursor). WordsRan f (string_bytes c.args.text.now)
     (string_bytes c.fetch_plain_words.new.text) start x n) (sym same) ran in

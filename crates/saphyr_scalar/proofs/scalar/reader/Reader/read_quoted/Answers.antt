@@ -1,8 +1,8 @@
 use Rattle.std.proofs.Common.{◌≡◌, IsTrue, Ok, slice_index, string_bytes, sym, ap, ◌∙◌, subst}
 use Rattle.saphyr_scalar.specs.Views.Cursor.{Cursor}
-use Rattle.saphyr_scalar.specs.Reading.Flow as flow
+use Rattle.scalar_values.specs.Flow as flow
 use Rattle.saphyr_scalar.specs.Steps.Quoted as spec
-use Rattle.saphyr_scalar.specs.Views.Reader.{state}
+use Rattle.saphyr_scalar.specs.Views.Reader.{cursor_of}
 use Rattle.saphyr_scalar.proofs.Quoted.Inside.{no_front}
 use Rattle.saphyr_scalar.proofs.Quoted.Gaps.{quote_closes}
 use Rattle.saphyr_scalar.proofs.scalar.reader.Reader.read_quoted.Goals as goal
@@ -12,18 +12,18 @@ unfolding spec.quoted
 loop-blanks-init g c =
     let a = c.args in
     let start = a.self.now.mark in
-    let there = state c.skip_non_blank.new.self in
-    ap (λ b. spec.with_front b (spec.inside_at a.quote a.indent start spec.no_gap (state c.look.new.self)))
+    let there = cursor_of c.skip_non_blank.new.self in
+    ap (λ b. spec.with_front b (spec.inside_at a.quote a.indent start spec.no_gap (cursor_of c.look.new.self)))
     c.in_ok-text.ensures.bytes
-    ∙ no_front (spec.inside_at a.quote a.indent start spec.no_gap (state c.look.new.self))
+    ∙ no_front (spec.inside_at a.quote a.indent start spec.no_gap (cursor_of c.look.new.self))
     ∙ ap (spec.inside_at a.quote a.indent start spec.no_gap) (c.look.ensures.same ∙ c.skip_non_blank.ensures)
 
 pub returns : goal.returns
 returns g c =
     let a = c.args in
     let start = a.self.now.mark in
-    let word = state c.read_quoted_word.new.self in
-    let here = state c.look-in-loop-blanks.new.self in
+    let word = cursor_of c.read_quoted_word.new.self in
+    let here = cursor_of c.look-in-loop-blanks.new.self in
     let text = string_bytes c.read_quoted_word.new.text in
     let same : here ≡ word = c.look-in-loop-blanks.ensures.same in
     let ended : IsTrue (spec.ends_word a.quote here.rest) = subst

@@ -1,7 +1,7 @@
 use Rattle.std.proofs.Common.{◌≡◌, true, false, ◌++◌, slice_index, string_bytes, sym, ap, ◌∙◌}
 use Rattle.saphyr_input.specs.Classes as class
 use Rattle.saphyr_scalar.specs.Steps.Quoted as spec
-use Rattle.saphyr_scalar.specs.Views.Reader.{state}
+use Rattle.saphyr_scalar.specs.Views.Reader.{cursor_of}
 use Rattle.saphyr_scalar.proofs.Quoted.Gaps.{moved_on, blanks_to_break, blanks_to_end, blanks_to_word, reads_from}
 use Rattle.saphyr_scalar.proofs.scalar.reader.Reader.read_quoted_gap.Goals as goal
 use Rattle.saphyr_input.proofs.Basics.Characters.{z_is_nul}
@@ -9,26 +9,28 @@ use Rattle.saphyr_input.proofs.Basics.Characters.{z_is_nul}
 pub returns-then-is_break-clause-same : goal.returns-then-is_break-clause-same
 returns-then-is_break-clause-same g c =
     let a = c.args in
-    let here = state a.self.now in
-    let blanks = state c.read_blanks.new.self in
-    let there = state c.look-c.new.self in
+    let here = cursor_of a.self.now in
+    let blanks = cursor_of c.read_blanks.new.self in
+    let there = cursor_of c.look-c.new.self in
     let grown = string_bytes c.read_blanks.new.text in
-    let moved = moved_on grown here (state c.look.new.self) blanks (string_bytes c.clear.new.self) c.look.ensures.same
+    let moved = moved_on grown here (cursor_of c.look.new.self) blanks (string_bytes c.clear.new.self)
+    c.look.ensures.same
     c.clear.ensures.bytes c.in_ok-read_blanks.ensures in
     let breaks : class.is_break (slice_index blanks.rest 0) ≡ true =
     ap class.is_break (sym c.look-c.ensures.value) ∙ sym c.is_break.ensures.test ∙ c.if-is_break.true in
     let line = blanks_to_break a.quote a.indent a.start (string_bytes a.text.now) grown here blanks there
-    (state c.skip_line_break.new.self) moved c.look-c.ensures.same breaks c.skip_line_break.ensures in
+    (cursor_of c.skip_line_break.new.self) moved c.look-c.ensures.same breaks c.skip_line_break.ensures in
     reads_from c.read_quoted_lines.result _ _ _ line (c.read_quoted_lines.ensures.same a.quote)
 
 pub returns-then-is_z-clause-same : goal.returns-then-is_z-clause-same
 returns-then-is_z-clause-same g c =
     let a = c.args in
-    let here = state a.self.now in
-    let blanks = state c.read_blanks.new.self in
-    let there = state c.look-c.new.self in
+    let here = cursor_of a.self.now in
+    let blanks = cursor_of c.read_blanks.new.self in
+    let there = cursor_of c.look-c.new.self in
     let grown = string_bytes c.read_blanks.new.text in
-    let moved = moved_on grown here (state c.look.new.self) blanks (string_bytes c.clear.new.self) c.look.ensures.same
+    let moved = moved_on grown here (cursor_of c.look.new.self) blanks (string_bytes c.clear.new.self)
+    c.look.ensures.same
     c.clear.ensures.bytes c.in_ok-read_blanks.ensures in
     let ends : class.is_z (slice_index blanks.rest 0) ≡ true = ap class.is_z (sym c.look-c.ensures.value)
     ∙ sym c.is_z.ensures.test ∙ c.if-is_z.true in
@@ -38,11 +40,12 @@ returns-then-is_z-clause-same g c =
 pub returns-clause-same : goal.returns-clause-same
 returns-clause-same g c =
     let a = c.args in
-    let here = state a.self.now in
-    let blanks = state c.read_blanks.new.self in
-    let there = state c.look-c.new.self in
+    let here = cursor_of a.self.now in
+    let blanks = cursor_of c.read_blanks.new.self in
+    let there = cursor_of c.look-c.new.self in
     let grown = string_bytes c.read_blanks.new.text in
-    let moved = moved_on grown here (state c.look.new.self) blanks (string_bytes c.clear.new.self) c.look.ensures.same
+    let moved = moved_on grown here (cursor_of c.look.new.self) blanks (string_bytes c.clear.new.self)
+    c.look.ensures.same
     c.clear.ensures.bytes c.in_ok-read_blanks.ensures in
     let goes : class.is_break (slice_index blanks.rest 0) ≡ false =
     ap class.is_break (sym c.look-c.ensures.value) ∙ sym c.is_break.ensures.test ∙ c.if-is_break.false in

@@ -1,8 +1,8 @@
 use Rattle.std.proofs.Common.{length, string_bytes, sym, ap, ◌∙◌, arith}
 use Rattle.saphyr_scalar.specs.Views.Cursor.{Cursor}
 use Rattle.saphyr_scalar.specs.Steps.Quoted as spec
-use Rattle.saphyr_scalar.specs.Views.Reader.{state}
-use Rattle.saphyr_scalar.specs.declared.reading.flow.Quote.TheVariants.{Double}
+use Rattle.saphyr_scalar.specs.Views.Reader.{cursor_of}
+use Rattle.scalar_values.specs.declared.flow.Quote.TheVariants.{Double}
 use Rattle.saphyr_scalar.proofs.Quoted.Inside.{reads_refused}
 use Rattle.saphyr_scalar.proofs.Quoted.Lines.{begins_word, begins_refused}
 use Rattle.saphyr_scalar.proofs.scalar.reader.Reader.read_quoted_lines.Goals as goal
@@ -13,7 +13,7 @@ returns-in_err-begin_quoted_word-clause-same g c = λ quote.
     let lines = c.in_ok-empty_lines in
     let refusal = c.in_err-begin_quoted_word.field-0.0 in
     let refused = begins_refused quote a.indent a.start a.escaped lines.empty_lines (string_bytes a.text.now)
-    (state c.skip_quoted_lines.new.self) refusal lines.ensures.no_blank lines.ensures.no_break
+    (cursor_of c.skip_quoted_lines.new.self) refusal lines.ensures.no_blank lines.ensures.no_break
     c.in_err-begin_quoted_word.ensures in
     reads_refused c.from_residual-in_err-begin_quoted_word.result _ _ refusal
     c.from_residual-in_err-begin_quoted_word.ensures.1
@@ -23,9 +23,9 @@ pub returns-clause-same : goal.returns-clause-same
 returns-clause-same g c = λ quote.
     let a = c.args in
     let lines = c.in_ok-empty_lines in
-    let there = state c.begin_quoted_word.new.self in
+    let there = cursor_of c.begin_quoted_word.new.self in
     let word = begins_word quote a.indent a.start a.escaped lines.empty_lines (string_bytes a.text.now)
-    (state c.skip_quoted_lines.new.self) there lines.ensures.no_blank lines.ensures.no_break
+    (cursor_of c.skip_quoted_lines.new.self) there lines.ensures.no_blank lines.ensures.no_break
     c.in_ok-begin_quoted_word.ensures in
     ap (λ b. spec.with_front b (spec.inside_at quote a.indent a.start spec.no_gap there))
     c.in_ok-push_folded_break.ensures
@@ -36,6 +36,6 @@ returns-clause-shorter g c =
     let a = c.args in
     let lines = c.in_ok-empty_lines in
     let word = begins_word Double a.indent a.start a.escaped lines.empty_lines (string_bytes a.text.now)
-    (state c.skip_quoted_lines.new.self) (state c.begin_quoted_word.new.self) lines.ensures.no_blank
+    (cursor_of c.skip_quoted_lines.new.self) (cursor_of c.begin_quoted_word.new.self) lines.ensures.no_blank
     lines.ensures.no_break c.in_ok-begin_quoted_word.ensures in
     omega (arith, ap (λ (s : Cursor). length s.rest) word.0, lines.ensures.shorter)

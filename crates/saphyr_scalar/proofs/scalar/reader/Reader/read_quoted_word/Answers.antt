@@ -1,7 +1,7 @@
 use Rattle.std.proofs.Common.{Some, None, length, string_bytes, sym, ap, ◌∙◌, arith}
 use Rattle.saphyr_scalar.specs.Views.Cursor.{Cursor}
 use Rattle.saphyr_scalar.specs.Steps.Quoted as spec
-use Rattle.saphyr_scalar.specs.Views.Reader.{state}
+use Rattle.saphyr_scalar.specs.Views.Reader.{cursor_of}
 use Rattle.saphyr_scalar.proofs.Quoted.Inside.{reads_refused}
 use Rattle.saphyr_scalar.proofs.Quoted.Parts.{special_moved, special_shorter, special_refused, special_none, word_ends, gives}
 use Rattle.saphyr_scalar.proofs.scalar.reader.Reader.read_quoted_word.Goals as goal
@@ -9,7 +9,7 @@ use Rattle.saphyr_scalar.proofs.scalar.reader.Reader.read_quoted_word.Goals as g
 pub returns-in_err-c-clause-same : goal.returns-in_err-c-clause-same
 returns-in_err-c-clause-same g c = λ indent.
     let q = c.args.quote in
-    let here = state c.read_literal_words.new.self in
+    let here = cursor_of c.read_literal_words.new.self in
     let moved = c.in_ok-read_literal_words.ensures in
     let refusal = c.in_err-c.field-0.0 in
     let text = string_bytes c.read_literal_words.new.text in
@@ -20,8 +20,8 @@ returns-in_err-c-clause-same g c = λ indent.
 pub returns-in_default-clause-same : goal.returns-in_default-clause-same
 returns-in_default-clause-same g c = λ indent.
     let q = c.args.quote in
-    let here = state c.read_literal_words.new.self in
-    let there = state c.read_quoted_special.new.self in
+    let here = cursor_of c.read_literal_words.new.self in
+    let there = cursor_of c.read_quoted_special.new.self in
     let moved = c.in_ok-read_literal_words.ensures in
     let none = gives (spec.special q c.args.start here) _ None there c.in_ok-c.ensures c.in_default.is in
     ap (λ x. spec.with_front (string_bytes c.read_literal_words.new.text)
@@ -31,8 +31,8 @@ returns-in_default-clause-same g c = λ indent.
 pub returns-in_default-clause-ended : goal.returns-in_default-clause-ended
 returns-in_default-clause-ended g c =
     let q = c.args.quote in
-    let here = state c.read_literal_words.new.self in
-    let there = state c.read_quoted_special.new.self in
+    let here = cursor_of c.read_literal_words.new.self in
+    let there = cursor_of c.read_quoted_special.new.self in
     let moved = c.in_ok-read_literal_words.ensures in
     let none = gives (spec.special q c.args.start here) _ None there c.in_ok-c.ensures c.in_default.is in
     rw (ap (λ (x : Cursor). x.rest) (special_none q c.args.start here there none))
@@ -41,8 +41,8 @@ returns-in_default-clause-ended g c =
 pub returns-in_default-clause-shorter : goal.returns-in_default-clause-shorter
 returns-in_default-clause-shorter g c =
     let q = c.args.quote in
-    let here = state c.read_literal_words.new.self in
-    let there = state c.read_quoted_special.new.self in
+    let here = cursor_of c.read_literal_words.new.self in
+    let there = cursor_of c.read_quoted_special.new.self in
     let moved = c.in_ok-read_literal_words.ensures in
     let none = gives (spec.special q c.args.start here) _ None there c.in_ok-c.ensures c.in_default.is in
     omega (
@@ -55,8 +55,8 @@ returns-in_default-clause-shorter g c =
 pub loop-self-smaller : goal.loop-self-smaller
 loop-self-smaller g c =
     let q = c.args.quote in
-    let here = state c.read_literal_words.new.self in
-    let there = state c.read_quoted_special.new.self in
+    let here = cursor_of c.read_literal_words.new.self in
+    let there = cursor_of c.read_quoted_special.new.self in
     let moved = c.in_ok-read_literal_words.ensures in
     let some = gives (spec.special q c.args.start here) _ (Some c.in-Some.c) there c.in_ok-c.ensures c.in-Some.is in
     let less = special_shorter q c.args.start here there c.in-Some.c some in
@@ -65,8 +65,8 @@ loop-self-smaller g c =
 pub loop-self-preserved : goal.loop-self-preserved
 loop-self-preserved g c =
     let q = c.args.quote in
-    let here = state c.read_literal_words.new.self in
-    let there = state c.read_quoted_special.new.self in
+    let here = cursor_of c.read_literal_words.new.self in
+    let there = cursor_of c.read_quoted_special.new.self in
     let moved = c.in_ok-read_literal_words.ensures in
     let some = gives (spec.special q c.args.start here) _ (Some c.in-Some.c) there c.in_ok-c.ensures c.in-Some.is in
     let less = special_shorter q c.args.start here there c.in-Some.c some in

@@ -1,14 +1,15 @@
 use Rattle.std.proofs.Common.{◌≡◌, ℕ, ◌≤◌, length, string_bytes}
 use Rattle.saphyr_scalar.specs.Steps.Quoted.{with_front, inside_at, no_gap}
-use Rattle.saphyr_scalar.specs.Views.Reader.{state}
+use Rattle.saphyr_scalar.specs.Views.Reader.{cursor_of}
 use Rattle.saphyr_scalar.proofs.scalar.reader.Reader.read_quoted_word.Given as goal
 
 abbrev pub invariant-loop-self : goal.invariant-loop-self
 invariant-loop-self g l = record {
-  same : (indent : ℕ) → with_front (string_bytes l.text) (inside_at l.fn.quote indent l.fn.start no_gap (state l.self))
-      ≡ with_front (string_bytes l.fn.text) (inside_at l.fn.quote indent l.fn.start no_gap (state l.fn.self));
-  shorter : length (state l.self).rest ≤ length (state l.fn.self).rest;
+  same : (indent : ℕ) → with_front (string_bytes l.text)
+      (inside_at l.fn.quote indent l.fn.start no_gap (cursor_of l.self))
+      ≡ with_front (string_bytes l.fn.text) (inside_at l.fn.quote indent l.fn.start no_gap (cursor_of l.fn.self));
+  shorter : length (cursor_of l.self).rest ≤ length (cursor_of l.fn.self).rest;
 }
 
 abbrev pub decreases-loop-self : goal.decreases-loop-self
-decreases-loop-self g l = length (state l.self).rest
+decreases-loop-self g l = length (cursor_of l.self).rest

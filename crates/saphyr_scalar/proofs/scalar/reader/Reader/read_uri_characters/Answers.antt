@@ -2,7 +2,7 @@ use Rattle.std.proofs.Common.{◌≡◌, false, length, slice_index, string_byte
 use Rattle.saphyr_scalar.specs.Views.Cursor.{Cursor, along}
 use Rattle.saphyr_scalar.specs.Steps.Quoted.{with_front}
 use Rattle.saphyr_scalar.specs.Steps.Tag as spec
-use Rattle.saphyr_scalar.specs.Views.Reader.{state}
+use Rattle.saphyr_scalar.specs.Views.Reader.{cursor_of}
 use Rattle.saphyr_scalar.proofs.Plain.Pieces.{moves_refused}
 use Rattle.saphyr_scalar.proofs.Properties.BareCharacters.{bare_moved, bare_stops, bare_shorter, escape_in_set, escape_is_character}
 use Rattle.saphyr_scalar.proofs.Properties.PercentEscapes.{has_left, character_on, character_refused, character_shorter, characters_end}
@@ -12,10 +12,10 @@ pub returns-in_err-c : goal.returns-in_err-c
 returns-in_err-c g c =
     let set = c.args.set in
     let start = c.args.start in
-    let here = state c.look.new.self in
+    let here = cursor_of c.look.new.self in
     let same = c.look.ensures.same in
     let grown = string_bytes c.fetch_bare_characters.new.text in
-    let moved = bare_moved set start _ _ c.in_ok-count.count (state c.loop-count.self)
+    let moved = bare_moved set start _ _ c.in_ok-count.count (cursor_of c.loop-count.self)
     (g.T.Input.rest c.fetch_bare_characters.new.self.input) c.along-self.result c.in_ok-count.ensures.run
     (c.along-self.ensures ∙ ap (λ m. along m c.in_ok-count.count) c.fetch_bare_characters.ensures.mark) in
     let reached = ap (λ (s : Cursor). with_front grown (spec.decoded_at set start s)) same ∙ moved
@@ -32,10 +32,10 @@ pub loop-count-smaller : goal.loop-count-smaller
 loop-count-smaller g c =
     let set = c.args.set in
     let start = c.args.start in
-    let here = state c.look.new.self in
+    let here = cursor_of c.look.new.self in
     let same = c.look.ensures.same in
     let grown = string_bytes c.fetch_bare_characters.new.text in
-    let moved = bare_moved set start _ _ c.in_ok-count.count (state c.loop-count.self)
+    let moved = bare_moved set start _ _ c.in_ok-count.count (cursor_of c.loop-count.self)
     (g.T.Input.rest c.fetch_bare_characters.new.self.input) c.along-self.result c.in_ok-count.ensures.run
     (c.along-self.ensures ∙ ap (λ m. along m c.in_ok-count.count) c.fetch_bare_characters.ensures.mark) in
     let reached = ap (λ (s : Cursor). with_front grown (spec.decoded_at set start s)) same ∙ moved
@@ -43,7 +43,7 @@ loop-count-smaller g c =
     let escape : slice_index here.rest 0 ≡ 37 = ap (λ (s : Cursor). slice_index s.rest 0) same
     ∙ sym c.look.ensures.value ∙ c.if-look-ne37.false in
     let in_set = escape_in_set set (slice_index here.rest 0) escape in
-    let less = character_shorter start here (state c.read_percent_escape.new.self) c.in_ok-c.c
+    let less = character_shorter start here (cursor_of c.read_percent_escape.new.self) c.in_ok-c.c
     (has_left set here.rest in_set) (escape_is_character start here escape ∙ c.in_ok-c.ensures) in
     omega (
       arith,
@@ -57,10 +57,10 @@ pub loop-count-preserved : goal.loop-count-preserved
 loop-count-preserved g c =
     let set = c.args.set in
     let start = c.args.start in
-    let here = state c.look.new.self in
+    let here = cursor_of c.look.new.self in
     let same = c.look.ensures.same in
     let grown = string_bytes c.fetch_bare_characters.new.text in
-    let moved = bare_moved set start _ _ c.in_ok-count.count (state c.loop-count.self)
+    let moved = bare_moved set start _ _ c.in_ok-count.count (cursor_of c.loop-count.self)
     (g.T.Input.rest c.fetch_bare_characters.new.self.input) c.along-self.result c.in_ok-count.ensures.run
     (c.along-self.ensures ∙ ap (λ m. along m c.in_ok-count.count) c.fetch_bare_characters.ensures.mark) in
     let reached = ap (λ (s : Cursor). with_front grown (spec.decoded_at set start s)) same ∙ moved
@@ -68,7 +68,7 @@ loop-count-preserved g c =
     let escape : slice_index here.rest 0 ≡ 37 = ap (λ (s : Cursor). slice_index s.rest 0) same
     ∙ sym c.look.ensures.value ∙ c.if-look-ne37.false in
     let in_set = escape_in_set set (slice_index here.rest 0) escape in
-    let there = state c.read_percent_escape.new.self in
+    let there = cursor_of c.read_percent_escape.new.self in
     ap (λ b. with_front b (spec.decoded_at set start there)) c.in_ok-push.ensures.bytes
     ∙ character_on set start grown here there c.in_ok-c.c in_set
     (escape_is_character start here escape ∙ c.in_ok-c.ensures) ∙ reached
@@ -77,10 +77,10 @@ pub returns : goal.returns
 returns g c =
     let set = c.args.set in
     let start = c.args.start in
-    let here = state c.look.new.self in
+    let here = cursor_of c.look.new.self in
     let same = c.look.ensures.same in
     let grown = string_bytes c.fetch_bare_characters.new.text in
-    let moved = bare_moved set start _ _ c.in_ok-count.count (state c.loop-count.self)
+    let moved = bare_moved set start _ _ c.in_ok-count.count (cursor_of c.loop-count.self)
     (g.T.Input.rest c.fetch_bare_characters.new.self.input) c.along-self.result c.in_ok-count.ensures.run
     (c.along-self.ensures ∙ ap (λ m. along m c.in_ok-count.count) c.fetch_bare_characters.ensures.mark) in
     let reached = ap (λ (s : Cursor). with_front grown (spec.decoded_at set start s)) same ∙ moved

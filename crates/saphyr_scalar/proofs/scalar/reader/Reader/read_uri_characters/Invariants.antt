@@ -1,13 +1,13 @@
 use Rattle.std.proofs.Common.{◌≡◌, length, string_bytes}
 use Rattle.saphyr_scalar.specs.Steps.Quoted.{with_front}
 use Rattle.saphyr_scalar.specs.Steps.Tag.{decoded_at}
-use Rattle.saphyr_scalar.specs.Views.Reader.{state}
+use Rattle.saphyr_scalar.specs.Views.Reader.{cursor_of}
 use Rattle.saphyr_scalar.proofs.scalar.reader.Reader.read_uri_characters.Given as goal
 
 abbrev pub invariant-loop-count : goal.invariant-loop-count
 invariant-loop-count g l =
-    with_front (string_bytes l.text) (decoded_at l.set l.start (state l.self))
-    ≡ with_front (string_bytes l.fn.text) (decoded_at l.set l.start (state l.fn.self))
+    with_front (string_bytes l.text) (decoded_at l.set l.start (cursor_of l.self))
+    ≡ with_front (string_bytes l.fn.text) (decoded_at l.set l.start (cursor_of l.fn.self))
 
 abbrev pub decreases-loop-count : goal.decreases-loop-count
-decreases-loop-count g l = length (state l.self).rest
+decreases-loop-count g l = length (cursor_of l.self).rest

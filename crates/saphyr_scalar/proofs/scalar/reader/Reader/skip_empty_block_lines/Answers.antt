@@ -1,7 +1,7 @@
 use Rattle.std.proofs.Common.{◌≡◌, false, sym, ap, ◌∙◌, arith}
 use Rattle.saphyr_scalar.specs.Views.Cursor.{Cursor}
 use Rattle.saphyr_scalar.specs.Steps.Block.{is_indentation}
-use Rattle.saphyr_scalar.specs.Views.Reader.{state}
+use Rattle.saphyr_scalar.specs.Views.Reader.{cursor_of}
 use Rattle.saphyr_scalar.proofs.SpaceRuns.{empty_over, none_left}
 use Rattle.saphyr_scalar.proofs.Block.Lines.{break_turn, end_turn, break_index}
 use Rattle.saphyr_scalar.proofs.scalar.reader.Reader.skip_empty_block_lines.Goals as goal
@@ -10,10 +10,10 @@ pub loop-limit-preserved : goal.loop-limit-preserved
 loop-limit-preserved g c =
     let limit = c.args.limit in
     let lines = c.loop-limit.lines in
-    let s = state c.loop-limit.self in
-    let spaced = state c.skip_spaces.new.self in
-    let here = state c.look.new.self in
-    let t = state c.skip_line_break.new.self in
+    let s = cursor_of c.loop-limit.self in
+    let spaced = cursor_of c.skip_spaces.new.self in
+    let here = cursor_of c.look.new.self in
+    let t = cursor_of c.skip_line_break.new.self in
     let test = sym c.is_break.ensures.test ∙ c.if-not-is_break.false in
     let left = c.indentation_left-left.result in
     record {
@@ -30,9 +30,9 @@ pub returns-clause-taken : goal.returns-clause-taken
 returns-clause-taken g c =
     let limit = c.args.limit in
     let lines = c.loop-limit.lines in
-    let s = state c.loop-limit.self in
-    let spaced = state c.skip_spaces.new.self in
-    let here = state c.look.new.self in
+    let s = cursor_of c.loop-limit.self in
+    let spaced = cursor_of c.skip_spaces.new.self in
+    let here = cursor_of c.look.new.self in
     let left = c.indentation_left-left.result in
     let none : is_indentation limit here.mark.col c.look.result ≡ false =
     ap (λ (x : Cursor). is_indentation limit x.mark.col c.look.result) c.look.ensures.same

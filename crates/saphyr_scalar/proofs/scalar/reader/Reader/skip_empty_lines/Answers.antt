@@ -2,7 +2,7 @@ use Rattle.std.proofs.Common.{◌≡◌, true, false, length, slice_index, strin
 use Rattle.saphyr_input.specs.Places.{is_blank_or_break}
 use Rattle.saphyr_scalar.specs.Views.Cursor.{Cursor}
 use Rattle.saphyr_scalar.specs.Steps.Plain as spec
-use Rattle.saphyr_scalar.specs.Views.Reader.{state}
+use Rattle.saphyr_scalar.specs.Views.Reader.{cursor_of}
 use Rattle.saphyr_scalar.proofs.SpaceRuns.{lines_over, spaces_shorter}
 use Rattle.saphyr_scalar.proofs.Plain.Pieces.{moves_refused}
 use Rattle.saphyr_scalar.proofs.Plain.Lines.{past_of, white_on, white_blank, white_shorter, line_over, refused_by, taken_by}
@@ -10,25 +10,25 @@ use Rattle.saphyr_scalar.proofs.scalar.reader.Reader.skip_empty_lines.Goals as g
 
 pub loop-c-smaller : goal.loop-c-smaller
 loop-c-smaller g c =
-    let here = state c.look-c.new.self in
+    let here = cursor_of c.look-c.new.self in
     let goes : is_blank_or_break (slice_index here.rest 0) ≡ true =
     ap (λ (s : Cursor). is_blank_or_break (slice_index s.rest 0)) c.look-c.ensures.same
     ∙ ap is_blank_or_break (sym c.look-c.ensures.value) ∙ sym c.is_white.ensures ∙ c.if-not-is_white.false in
     let past = past_of c.args.indent c.loop-c.tabbed (string_bytes c.loop-c.feeds) here _
-    (string_bytes c.skip_plain_white.new.feeds) (state c.skip_plain_white.new.self) c.in_ok-tabbed.ensures in
+    (string_bytes c.skip_plain_white.new.feeds) (cursor_of c.skip_plain_white.new.self) c.in_ok-tabbed.ensures in
     omega (
       arith,
       white_shorter _ _ _ here _ _ _ goes past,
       ap (λ (s : Cursor). length s.rest) c.look-c.ensures.same,
-      spaces_shorter _ (state c.loop-c.self) (state c.skip_spaces.new.self) c.skip_spaces.ensures,
+      spaces_shorter _ (cursor_of c.loop-c.self) (cursor_of c.skip_spaces.new.self) c.skip_spaces.ensures,
     )
 
 pub loop-c-preserved : goal.loop-c-preserved
 loop-c-preserved g c =
-    let first = state c.loop-c.self in
-    let spaced = state c.skip_spaces.new.self in
-    let here = state c.look-c.new.self in
-    let next = state c.skip_plain_white.new.self in
+    let first = cursor_of c.loop-c.self in
+    let spaced = cursor_of c.skip_spaces.new.self in
+    let here = cursor_of c.look-c.new.self in
+    let next = cursor_of c.skip_plain_white.new.self in
     let same = c.look-c.ensures.same in
     let goes : is_blank_or_break (slice_index here.rest 0) ≡ true =
     ap (λ (s : Cursor). is_blank_or_break (slice_index s.rest 0)) same ∙ ap is_blank_or_break (sym
@@ -49,9 +49,9 @@ loop-c-preserved g c =
 
 pub returns-in_err-check_plain_tab : goal.returns-in_err-check_plain_tab
 returns-in_err-check_plain_tab g c =
-    let first = state c.loop-c.self in
-    let spaced = state c.skip_spaces.new.self in
-    let here = state c.look-c.new.self in
+    let first = cursor_of c.loop-c.self in
+    let spaced = cursor_of c.skip_spaces.new.self in
+    let here = cursor_of c.look-c.new.self in
     let same = c.look-c.ensures.same in
     let over : is_blank_or_break (slice_index here.rest 0) ≡ false =
     ap (λ (s : Cursor). is_blank_or_break (slice_index s.rest 0)) same ∙ ap is_blank_or_break (sym
@@ -68,9 +68,9 @@ returns-in_err-check_plain_tab g c =
 
 pub returns : goal.returns
 returns g c =
-    let first = state c.loop-c.self in
-    let spaced = state c.skip_spaces.new.self in
-    let here = state c.look-c.new.self in
+    let first = cursor_of c.loop-c.self in
+    let spaced = cursor_of c.skip_spaces.new.self in
+    let here = cursor_of c.look-c.new.self in
     let same = c.look-c.ensures.same in
     let over : is_blank_or_break (slice_index here.rest 0) ≡ false =
     ap (λ (s : Cursor). is_blank_or_break (slice_index s.rest 0)) same ∙ ap is_blank_or_break (sym

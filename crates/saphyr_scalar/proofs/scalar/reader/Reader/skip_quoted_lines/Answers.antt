@@ -3,7 +3,7 @@ use Rattle.std.specs.Prelude.{◌&&◌, ◌==◌}
 use Rattle.saphyr_input.specs.Classes as class
 use Rattle.saphyr_scalar.specs.Views.Cursor.{Cursor}
 use Rattle.saphyr_scalar.specs.Steps.Quoted.{is_left, over_lines, inside_at}
-use Rattle.saphyr_scalar.specs.Views.Reader.{state}
+use Rattle.saphyr_scalar.specs.Views.Reader.{cursor_of}
 use Rattle.saphyr_scalar.proofs.SpaceRuns.{inside_over, spaces_shorter}
 use Rattle.saphyr_scalar.proofs.Quoted.Lines.{break_on, break_on_shorter, blank_on, tab_on, fits_right, fits_no_tab}
 use Rattle.saphyr_scalar.proofs.scalar.reader.Reader.skip_quoted_lines.Goals.{else-c-eq9-via-then-c-eq9+else-self-indent, else-c-eq9-via-else-c-eq9}
@@ -11,10 +11,10 @@ use Rattle.saphyr_scalar.proofs.scalar.reader.Reader.skip_quoted_lines.Goals as 
 
 pub loop-self-preserved-then-is_break : goal.loop-self-preserved-then-is_break
 loop-self-preserved-then-is_break g c =
-    let first = state c.loop-self.self in
-    let here = state c.skip_spaces.new.self in
-    let there = state c.look-c.new.self in
-    let behind = state c.skip_seen_break.new.self in
+    let first = cursor_of c.loop-self.self in
+    let here = cursor_of c.skip_spaces.new.self in
+    let there = cursor_of c.look-c.new.self in
+    let behind = cursor_of c.skip_seen_break.new.self in
     let breaks : class.is_break (slice_index here.rest 0) ≡ true =
     ap class.is_break (sym c.look-c.ensures.value) ∙ sym c.is_break.ensures.test ∙ c.if-is_break.true in
     record {
@@ -32,21 +32,21 @@ loop-self-preserved-then-is_break g c =
 
 pub returns-then-self-indent-clause-same : goal.returns-then-self-indent-clause-same
 returns-then-self-indent-clause-same g c = λ quote start escaped.
-    let first = state c.loop-self.self in
-    let here = state c.skip_spaces.new.self in
+    let first = cursor_of c.loop-self.self in
+    let here = cursor_of c.skip_spaces.new.self in
     let tab : slice_index here.rest 0 ≡ 9 = sym c.look-c.ensures.value ∙ c.if-c-eq9.true in
     sym (c.loop-self.invariant.same quote start escaped)
     ∙ sym (inside_over quote c.args.indent start escaped c.loop-self.count _ first here c.skip_spaces.ensures)
-    ∙ tab_on quote c.args.indent start escaped c.loop-self.count here (state c.look-c.new.self) tab
+    ∙ tab_on quote c.args.indent start escaped c.loop-self.count here (cursor_of c.look-c.new.self) tab
     c.look-c.ensures.same
     c.if-self-indent.true
 
 pub loop-self-preserved : goal.loop-self-preserved
 loop-self-preserved g c =
-    let first = state c.loop-self.self in
-    let here = state c.skip_spaces.new.self in
-    let there = state c.look-c.new.self in
-    let behind = state c.skip_blank.new.self in
+    let first = cursor_of c.loop-self.self in
+    let here = cursor_of c.skip_spaces.new.self in
+    let there = cursor_of c.look-c.new.self in
+    let behind = cursor_of c.skip_blank.new.self in
     let blank : class.is_blank (slice_index here.rest 0) ≡ true =
     ap class.is_blank (sym c.look-c.ensures.value) ∙ sym c.is_blank.ensures.test ∙ c.if-is_blank.true in
     let column = ap (λ (s : Cursor). s.mark.col) c.look-c.ensures.same in
@@ -77,5 +77,5 @@ pub returns-else-is_blank-clause-same : goal.returns-else-is_blank-clause-same
 returns-else-is_blank-clause-same g c = λ quote start escaped.
     let k = c.loop-self.count in
     ap (inside_at quote c.args.indent start (over_lines escaped k)) c.look-c.ensures.same
-    ∙ inside_over quote c.args.indent start escaped k _ (state c.loop-self.self) (state c.skip_spaces.new.self)
+    ∙ inside_over quote c.args.indent start escaped k _ (cursor_of c.loop-self.self) (cursor_of c.skip_spaces.new.self)
     c.skip_spaces.ensures ∙ c.loop-self.invariant.same quote start escaped

@@ -1,17 +1,17 @@
 use Rattle.std.proofs.Common.{◌≡◌, ◌+◌, ◌≤◌, Bool, length}
 use Rattle.saphyr_scalar.specs.Steps.Quoted.{inside_at, over_lines}
-use Rattle.saphyr_scalar.specs.Views.Reader.{state}
+use Rattle.saphyr_scalar.specs.Views.Reader.{cursor_of}
 use Rattle.saphyr_scalar.specs.declared.scalar.position.Marker.{Marker}
-use Rattle.saphyr_scalar.specs.declared.reading.flow.Quote.{Quote}
+use Rattle.scalar_values.specs.declared.flow.Quote.{Quote}
 use Rattle.saphyr_scalar.proofs.scalar.reader.Reader.skip_quoted_lines.Given as goal
 
 abbrev pub invariant-loop-self : goal.invariant-loop-self
 invariant-loop-self g l = record {
   same : (q : Quote) (start : Marker) (escaped : Bool)
-      → inside_at q l.fn.indent start (over_lines escaped l.count) (state l.self)
-      ≡ inside_at q l.fn.indent start (over_lines escaped 0) (state l.fn.self);
-  counted : l.count + length (state l.self).rest ≤ length (state l.fn.self).rest;
+      → inside_at q l.fn.indent start (over_lines escaped l.count) (cursor_of l.self)
+      ≡ inside_at q l.fn.indent start (over_lines escaped 0) (cursor_of l.fn.self);
+  counted : l.count + length (cursor_of l.self).rest ≤ length (cursor_of l.fn.self).rest;
 }
 
 abbrev pub decreases-loop-self : goal.decreases-loop-self
-decreases-loop-self g l = length (state l.self).rest
+decreases-loop-self g l = length (cursor_of l.self).rest

@@ -1,0 +1,249 @@
+-- Near misses of the layout grammar: what stands where another character must.
+use Rattle.std.proofs.Common.{◌≡◌, ◌≢◌, ℕ, zero, suc, ◌⊎◌, Bool, true, false, ◌==◌, not, List, [], ◌∷◌, ◌++◌, IsTrue}
+use Rattle.std.proofs.Common.{inl, inr, refl, sym, ◌∙◌, arith, codes, ap}
+use Rattle.saphyr_input.specs.Classes.{is_blank, line_feed}
+use Rattle.scalar_values.specs.declared.block.Chomping.{Chomping}
+use Rattle.saphyr_scalar.specs.Steps.BlockRead.{spaces}
+use Rattle.scalar_values.specs.Block.{Line}
+use Rattle.saphyr_scalar.specs.Spelling.Block.{IsIndicator, no_digit, digit, IsChomping, strip, clip, keep, no_comment}
+use Rattle.saphyr_scalar.specs.Spelling.Block.{comment, IsHeader, digit_first, chomping_first, IsBlockScalar}
+use Rattle.saphyr_scalar.specs.Spelling.Block as block
+use Rattle.saphyr_scalar.specs.Spelling.Plain.{is_word_ink}
+use Rattle.saphyr_scalar.specs.Spelling.Spaces.{AreSpaces, IsLineRest, IsEol}
+use Rattle.saphyr_scanner.specs.Grammar.Forest.{Properties, Node, Seq, Nodes, NoNode, MoreNodes}
+use Rattle.saphyr_scanner.specs.Grammar.FlowScalars.{begins_plain, IsFirstWord, IsPlain}
+use Rattle.saphyr_scanner.specs.Grammar.FlowNodes.{IsOnLine, IsFlowNode}
+use Rattle.saphyr_scanner.proofs.Beginnings.{no_feed_no_filler, heads, tails, Begins, behind_in, before_in, lacks}
+use Rattle.saphyr_scanner.proofs.Beginnings.{IsFirst, no_first, behind_filler}
+use Rattle.saphyr_scanner.specs.Grammar.BlockNodes.{BehindKey, IsBehindScalar, IsLead, IsEntryIndentation}
+use Rattle.saphyr_scanner.specs.Grammar.BlockNodes.{has_tab_ahead, IsImplicitPair, IsKeyAlone, IsBlockNode}
+use Rattle.saphyr_scanner.specs.Grammar.BlockNodes.{AreOtherEntries}
+use Rattle.saphyr_input.specs.Places.{is_document_indicator}
+use Rattle.std.proofs.Math.Bool.{or-true}
+use Rattle.std.specs.Prelude.{◌||◌}
+use Rattle.saphyr_scanner.proofs.InBlock.TabsAhead.{last_none}
+
+-- ## Plain scalars
+
+no_dash : (in_flow : Bool) (first others : List ℕ) → IsFirstWord in_flow first → codes "- a" ≡ first ++ others → ⊥
+no_dash in_flow [] others (h, b, x, y, z) e = h.some refl
+no_dash in_flow (c ∷ []) others (h, b, x, y, z) e = x (ap (λ v. v ∷ []) (heads 45 c (codes " a") others e))
+no_dash in_flow (c ∷ d ∷ cs) others (h, b, x, y, z) e =
+    let f : d ≡ 32 = heads 32 d (codes "a") (cs ++ others) (tails 45 c (codes " a") (d ∷ (cs ++ others)) e) in
+    let g : is_word_ink in_flow d ≡ false = ap (λ v. is_word_ink in_flow v) f in
+    let i : is_word_ink in_flow d ≡ true = h.ink.2.0 in
+    cc
+
+pub dash_and_blank : (in_flow : Bool) (indent : ℕ) → IsPlain in_flow indent (codes "- a") → ⊥
+dash_and_blank in_flow indent (first, others, h, m, e) = no_dash in_flow first others h e
+
+-- a scalar of one character has no other first word
+no_lone : (d : ℕ) (first others : List ℕ) → first ≢ [] → first ≢ d ∷ [] → d ∷ [] ≡ first ++ others → ⊥
+no_lone d [] others some other e = some refl
+no_lone d (c ∷ []) others some other e = other (ap (λ v. v ∷ []) (heads d c [] others e))
+no_lone d (c ∷ b ∷ cs) others some other e =
+    let f : [] ≡ b ∷ (cs ++ others) = tails d c [] (b ∷ (cs ++ others)) e in cc
+
+pub lone_colon : (in_flow : Bool) (indent : ℕ) → IsPlain in_flow indent (codes ":") → ⊥
+lone_colon in_flow indent (first, others, (h, b, x, y, z), m, e) = no_lone 58 first others h.some z e
+
+pub lone_dash : (in_flow : Bool) (indent : ℕ) → IsPlain in_flow indent (codes "-") → ⊥
+lone_dash in_flow indent (first, others, (h, b, x, y, z), m, e) = no_lone 45 first others h.some x e
+
+no_indicator : (in_flow : Bool) (first others : List ℕ) → IsFirstWord in_flow first → codes "@a" ≡ first ++ others → ⊥
+no_indicator in_flow [] others (h, b, x, y, z) e = h.some refl
+no_indicator in_flow (c ∷ cs) others (h, b, x, y, z) e =
+    let f : begins_plain c ≡ false = ap (λ v. begins_plain v) (heads 64 c (codes "a") (cs ++ others) e) in cc
+
+pub indicator_first : (in_flow : Bool) (indent : ℕ) → IsPlain in_flow indent (codes "@a") → ⊥
+indicator_first in_flow indent (first, others, h, m, e) = no_indicator in_flow first others h e
+
+-- ## Block scalars: behind the header's digit stands no other
+
+line_end : (c : ℕ) (rest d x : List ℕ) → is_blank c ≡ false → c ≢ 10 → block.IsHeaderEnd d x → d ≡ c ∷ rest → ⊥
+line_end c rest _ x b n (no_comment [] _ h) e = n (sym (heads c 10 rest x (sym e)))
+line_end c rest _ x b n (no_comment (blank ∷ blanks) _ (h, hs)) e =
+    let f : is_blank blank ≡ is_blank c = ap (λ v. is_blank v) (heads c blank rest _ (sym e)) in cc
+line_end c rest _ x b n (comment blank blanks text _ (h, hs) g) e =
+    let f : is_blank blank ≡ is_blank c = ap (λ v. is_blank v) (heads c blank rest _ (sym e)) in cc
+
+chomped_end : (c : ℕ) (rest b d x : List ℕ) (k : Chomping) → is_blank c ≡ false → c ≢ 10 → c ≢ 45 → c ≢ 43
+    → IsChomping k b d → block.IsHeaderEnd d x → b ≡ c ∷ rest → ⊥
+chomped_end c rest _ d x _ l n p q (strip _) h e = p (sym (heads c 45 rest d (sym e)))
+chomped_end c rest _ d x _ l n p q (clip _) h e = line_end c rest d x l n h e
+chomped_end c rest _ d x _ l n p q (keep _) h e = q (sym (heads c 43 rest d (sym e)))
+
+indicated_end : (n : ℕ) (rest a b d x : List ℕ) (k : Chomping) → IsIndicator n a b → IsChomping k b d
+    → block.IsHeaderEnd d x → a ≡ 49 ∷ 50 ∷ rest → ⊥
+indicated_end _ rest a _ d x k (no_digit _) c h e =
+    chomped_end 49 (50 ∷ rest) a d x k refl (λ y. omega arith) (λ y. omega arith) (λ y. omega arith) c h e
+indicated_end _ rest _ b d x k (digit m _ l g) c h e =
+    chomped_end 50 rest b d x k refl (λ y. omega arith) (λ y. omega arith) (λ y. omega arith) c h
+    (tails _ 49 b (50 ∷ rest) e)
+
+end_indicated : (n : ℕ) (rest a b x : List ℕ) → IsIndicator n a b → block.IsHeaderEnd b x → a ≡ 49 ∷ 50 ∷ rest → ⊥
+end_indicated _ rest a _ x (no_digit _) h e = line_end 49 (50 ∷ rest) a x refl (λ y. omega arith) h e
+end_indicated _ rest _ b x (digit m _ l g) h e =
+    line_end 50 rest b x refl (λ y. omega arith) h (tails _ 49 b (50 ∷ rest) e)
+
+indicated_last : (rest a b d x : List ℕ) (n : ℕ) (k : Chomping) → IsChomping k a b → IsIndicator n b d
+    → block.IsHeaderEnd d x → a ≡ 49 ∷ 50 ∷ rest → ⊥
+indicated_last rest _ b d x n _ (strip _) i h e = let f : 49 ≡ 45 = heads 45 49 b (50 ∷ rest) e in omega (arith, f)
+indicated_last rest _ b d x n _ (clip _) i h e = end_indicated n rest b d x i h e
+indicated_last rest _ b d x n _ (keep _) i h e = let f : 49 ≡ 43 = heads 43 49 b (50 ∷ rest) e in omega (arith, f)
+
+header_digits : (n : ℕ) (k : Chomping) (x t rest : List ℕ) → IsHeader n k x t → t ≡ 124 ∷ 49 ∷ 50 ∷ rest → ⊥
+header_digits n k x _ rest (digit_first mark a b d i c h) e =
+    indicated_end n rest a b d x k i c h (tails mark 124 a (49 ∷ 50 ∷ rest) e)
+header_digits n k x _ rest (chomping_first mark a b d c i h) e =
+    indicated_last rest a b d x n k c i h (tails mark 124 a (49 ∷ 50 ∷ rest) e)
+
+pub two_digits : (indent i n : ℕ) (k : Chomping) (lines : List Line) (t body others : List ℕ)
+    → IsBlockScalar indent i n k lines (codes "|12" ++ t) body others → ⊥
+two_digits indent i n k lines t body others s = header_digits s.digit k body (codes "|12" ++ t) t s.header refl
+
+-- ## Ends of lines and indentation
+
+line_rest : (t : List ℕ) → IsLineRest t → (t ≡ []) ⊎ Begins (λ c. IsTrue (is_blank c)) t
+line_rest t ([], words, are, inl e, d) = inl (rw (d, e) refl)
+line_rest t ([], words, are, inr (n, h), d) = absurd (n refl)
+line_rest t (b ∷ bs, words, are, h, d) = inr (b, bs ++ words, are.0, rw d refl)
+
+no_blank_sign : (c : ℕ) → IsTrue (is_blank c) → c ≡ 35 → ⊥
+no_blank_sign c b g = absurd (let e : is_blank 35 ≡ true = ap is_blank (sym g) ∙ b in cc)
+
+no_hash : (rest behind : List ℕ) → (rest ≡ []) ⊎ Begins (λ c. IsTrue (is_blank c)) rest → codes "#x\n" ≡ rest ++ behind
+    → behind ≢ codes "#x\n" → ⊥
+no_hash rest behind (inl e) d n = n (sym (rw e at d))
+no_hash rest behind (inr (c, cs, b, e)) d n =
+    let f : codes "#x\n" ≡ c ∷ (cs ++ behind) = rw e at d in
+    no_blank_sign c b (heads 35 c (codes "x\n") (cs ++ behind) f)
+
+pub comment_without_blank : (behind : List ℕ) → IsEol (codes "#x\n") behind → ⊥
+comment_without_blank behind (inl (rest, h, e)) =
+    no_hash rest (codes "\n") (line_rest rest h) e
+    (λ d. let f : 35 ≡ 10 = heads 10 35 [] (codes "x\n") d in omega (arith, f))
+comment_without_blank behind (inr (h, e)) = begins_so (line_rest (codes "#x\n") h)
+  where
+    begins_so : (codes "#x\n" ≡ []) ⊎ Begins (λ c. IsTrue (is_blank c)) (codes "#x\n") → ⊥
+    begins_so (inl d) = cc
+    begins_so (inr (c, cs, b, d)) = no_blank_sign c b (heads 35 c (codes "x\n") cs d)
+
+indentation : (m : ℕ) (t : List ℕ) → IsEntryIndentation m t → (t ≡ spaces m) ⊎ Begins IsFirst t
+indentation m t (front, h, e) = behind_filler t front (spaces m) h e
+
+-- ## Block collections
+
+abbrev stays : ℕ → Bool
+stays c = not (c == line_feed)
+
+no_tab : (m : ℕ) (front others : List ℕ) → front ≡ spaces m → codes "\t- b" ≡ front ++ (45 ∷ others) → ⊥
+no_tab zero front others e d =
+    let f : codes "\t- b" ≡ 45 ∷ others = rw e at d in let g : 45 ≡ 9 = heads 9 45 (codes "- b") others f in omega
+    (arith, g)
+no_tab (suc m) front others e d =
+    let f : codes "\t- b" ≡ 32 ∷ (spaces m ++ (45 ∷ others)) = rw e at d in
+    let g : 32 ≡ 9 = heads 9 32 (codes "- b") (spaces m ++ (45 ∷ others)) f in omega (arith, g)
+
+-- on one line no filler stands
+on_one_line : (m : ℕ) (front others : List ℕ) → IsEntryIndentation m front → codes "\t- b" ≡ front ++ (45 ∷ others)
+    → front ≡ spaces m
+on_one_line m front others (filling, h, e) d =
+    let clean = before_in stays (codes "\t- b") front (45 ∷ others) d (refl, (refl, (refl, (refl, tt)))) in
+    let none = no_feed_no_filler filling (before_in stays front filling (spaces m) e clean) h in
+    e ∙ ap (λ (x : List ℕ). x ++ spaces m) none
+
+pub tab_in_indentation : (room : ℕ) (nodes : Nodes) (m : ℕ) (behind : List ℕ)
+    → AreOtherEntries room nodes m (codes "\t- b") behind → ⊥
+tab_in_indentation room NoNode m behind e = cc
+tab_in_indentation room (MoreNodes node nodes) m behind (front, entry, others, i, h, g, e) =
+    no_tab m front (entry ++ others) (on_one_line m front (entry ++ others) i e) e
+
+pub tab_behind_question : (room : ℕ) (key value : Node) (m : ℕ) (behind : List ℕ)
+    → IsKeyAlone value (IsBlockNode room key) m (codes "?\t\n") behind → ⊥
+tab_behind_question room key value m behind (node, out, (some, clear), k, e) =
+    let f : codes "\t\n" ≡ node = tails 63 63 (codes "\t\n") node e in
+    let g : has_tab_ahead false (codes "\t\n" ++ behind) ≡ false =
+    ap (λ (x : List ℕ). has_tab_ahead false (x ++ behind)) f ∙ clear in cc
+
+pub tab_behind_left_out : (room : ℕ) (key value : Node) (m : ℕ) (others : List ℕ)
+    → IsKeyAlone value (IsBlockNode room key) m (codes "?\n") (codes "\t\n" ++ others) → ⊥
+tab_behind_left_out room key value m others (node, out, (some, clear), k, e) =
+    let f : codes "\n" ≡ node = tails 63 63 (codes "\n") node e in
+    let g : has_tab_ahead false (codes "\n\t\n" ++ others) ≡ false =
+    ap (λ (x : List ℕ). has_tab_ahead false (x ++ (codes "\t\n" ++ others))) f ∙ clear in cc
+
+-- whether a document marker stands anywhere
+abbrev any_marker : List ℕ → Bool
+any_marker [] = is_document_indicator []
+any_marker (c ∷ cs) = is_document_indicator (c ∷ cs) || any_marker cs
+
+marker_in : (a b : List ℕ) → is_document_indicator b ≡ true → any_marker (a ++ b) ≡ true
+marker_in [] [] h = h
+marker_in [] (c ∷ cs) h = rw h refl
+marker_in (c ∷ cs) b h = rw (marker_in cs b h) (or-true (is_document_indicator (c ∷ (cs ++ b))))
+
+pub tab_behind_block_scalar : (indent i : ℕ) → IsBehindScalar indent i (codes "\t\n- b") → ⊥
+tab_behind_block_scalar indent i (inl e) = cc
+tab_behind_block_scalar indent i (inr (inl h)) = absurd (let e : false ≡ true = h in cc)
+tab_behind_block_scalar indent i (inr (inr (inl (zero, c, more, ink, feed, left, e)))) =
+    let f : is_blank c ≡ true = ap is_blank (heads 9 c (codes "\n- b") more e) in cc
+tab_behind_block_scalar indent i (inr (inr (inl (suc n, c, more, ink, feed, left, e)))) =
+    let f : 32 ≡ 9 = heads 9 32 (codes "\n- b") (spaces n ++ (c ∷ more)) e in omega (arith, f)
+tab_behind_block_scalar indent i (inr (inr (inr (n, others, left, e, inl last)))) =
+    let f : true ≡ false = last_none (codes "\t\n- b") last in cc
+tab_behind_block_scalar indent i (inr (inr (inr (n, others, left, e, inr (filling, marked, h, marker, is))))) =
+    let f : false ≡ true = ap any_marker is ∙ marker_in filling marked marker in cc
+
+no_left : (m : ℕ) (front others : List ℕ) → (front ≡ spaces (suc m)) ⊎ Begins IsFirst front
+    → codes "- b" ≡ front ++ others → ⊥
+no_left m front others (inl e) d =
+    let f : codes "- b" ≡ 32 ∷ (spaces m ++ others) = rw e at d in
+    let g : 32 ≡ 45 = heads 45 32 (codes " b") (spaces m ++ others) f in omega (arith, g)
+no_left m front others (inr (c, cs, h, e)) d =
+    let f : codes "- b" ≡ c ∷ (cs ++ others) = rw e at d in no_first 45 c (codes " b") (cs ++ others) refl
+    (λ y. omega arith) (λ y. omega arith) h f
+
+pub entry_left : (room : ℕ) (nodes : Nodes) (m : ℕ) (behind : List ℕ)
+    → AreOtherEntries room nodes (suc m) (codes "- b") behind → ⊥
+entry_left room NoNode m behind e = cc
+entry_left room (MoreNodes node nodes) m behind (front, entry, others, i, h, g, e) =
+    no_left m front (45 ∷ (entry ++ others)) (indentation (suc m) front i) e
+
+-- behind a key on its line stand spaces and the colon
+before_colon : (c : ℕ) (rest between value : List ℕ) → c ≢ 32 → c ≢ 58 → AreSpaces 0 between
+    → c ∷ rest ≡ between ++ (58 ∷ value) → ⊥
+before_colon c rest between value x y (zero, l, f) e =
+    let g : c ∷ rest ≡ 58 ∷ value = rw f at e in y (sym (heads c 58 rest value g))
+before_colon c rest between value x y (suc n, l, f) e =
+    let g : c ∷ rest ≡ 32 ∷ (spaces n ++ (58 ∷ value)) = rw f at e in x
+    (sym (heads c 32 rest (spaces n ++ (58 ∷ value)) g))
+
+on_line : (node between value : List ℕ) → IsOnLine node → AreSpaces 0 between
+    → codes "a\nb: c" ≡ node ++ (between ++ (58 ∷ value)) → ⊥
+on_line [] between value l s e =
+    before_colon 97 (codes "\nb: c") between value (λ y. omega arith) (λ y. omega arith) s e
+on_line (c ∷ []) between value l s e =
+    before_colon 10 (codes "b: c") between value (λ y. omega arith) (λ y. omega arith) s
+    (tails 97 c (codes "\nb: c") (between ++ (58 ∷ value)) e)
+on_line (c ∷ d ∷ ds) between value (l, (k, ls)) s e =
+    let f : d ≡ 10 = heads 10 d (codes "b: c") (ds ++ (between ++ (58 ∷ value)))
+    (tails 97 c (codes "\nb: c") (d ∷ (ds ++ (between ++ (58 ∷ value)))) e) in
+    let g : not (d == line_feed) ≡ false = ap (λ v. not (v == line_feed)) f in cc
+
+pub key_over_lines : (room : ℕ) (key value : Node) (m : ℕ) (behind : List ℕ)
+    → IsImplicitPair room key (IsBlockNode room value) m (codes "a\nb: c") behind → ⊥
+key_over_lines room key value m behind (node, between, text, k, l, s, b, n, v, e) = on_line node between text l s e
+
+pub sequence_behind_key : (p : Properties) (column least m : ℕ) → IsLead p (BehindKey column) least m (codes " ") → ⊥
+sequence_behind_key p column least m (inl (front, end, filling, l, c, (rest, r, f), h, e)) =
+    lacks stays 10 end rest [] refl f
+    (before_in stays (end ++ (filling ++ spaces m)) end (filling ++ spaces m) refl
+    (behind_in stays (codes " ") front (end ++ (filling ++ spaces m)) e (refl, tt)))
+sequence_behind_key p column least m (inr (e, h)) = h
+
+-- ## Room
+
+pub no_room : (p : Properties) (nodes : Nodes) (in_flow : Bool) (indent : ℕ) (t : List ℕ)
+    → IsFlowNode 0 (Seq p nodes) in_flow indent t → ⊥
+no_room p nodes in_flow indent t (left, opening, inside, r, o, i, e) = omega (arith, r)

@@ -1,0 +1,26 @@
+use Rattle.layout_examples.proofs.NearMisses.{dash_and_blank, indicator_first, lone_colon, two_digits}
+use Rattle.layout_examples.proofs.NearMisses.{comment_without_blank}
+use Rattle.layout_examples.proofs.AliasAlone.{alias_alone}
+use Rattle.layout_examples.proofs.DashApart.{dash_apart}
+use Rattle.layout_examples.proofs.refuses_scalars.Goals as goal
+
+pub returns-clause-dash_and_blank : goal.returns-clause-dash_and_blank
+returns-clause-dash_and_blank c = dash_and_blank
+
+pub returns-clause-indicator_first : goal.returns-clause-indicator_first
+returns-clause-indicator_first c = indicator_first
+
+pub returns-clause-two_digits : goal.returns-clause-two_digits
+returns-clause-two_digits c = two_digits
+
+pub returns-clause-comment_without_blank : goal.returns-clause-comment_without_blank
+returns-clause-comment_without_blank c = comment_without_blank
+
+pub returns-clause-alias_with_anchor : goal.returns-clause-alias_with_anchor
+returns-clause-alias_with_anchor c = alias_alone
+
+pub returns-clause-lone_colon : goal.returns-clause-lone_colon
+returns-clause-lone_colon c = lone_colon
+
+pub returns-clause-dash_apart : goal.returns-clause-dash_apart
+returns-clause-dash_apart c = dash_apart

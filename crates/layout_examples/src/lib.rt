@@ -1,0 +1,279 @@
+//! Small texts of the layout grammar, each with the forest that it stands for, and near misses.
+//!
+//! The functions are laws: they do nothing, and their clauses are what is proved.
+#![tactic(auto)]
+
+ghost use Rattle.std.specs.Prelude.{codes, ◌≡◌, ◌∷◌, ◌++◌, [], ℕ, suc, Bool, true, false, List, Some, None};
+ghost use Rattle.scalar_values.specs.declared.block.Chomping.{Chomping};
+ghost use Rattle.scalar_values.specs.Block.{Line};
+ghost use Rattle.saphyr_scalar.specs.Spelling.Block.{IsBlockScalar};
+ghost use Rattle.saphyr_scalar.specs.Spelling.Spaces.{IsEol};
+ghost use Rattle.saphyr_scanner.specs.Examples.Forests.{plain_node, double_quoted_node};
+ghost use Rattle.saphyr_scanner.specs.Grammar.Forest.{Plain, SingleQuoted, DoubleQuoted, Literal, Folded, Primary, Secondary, Named, Verbatim, Shorthand, NonSpecific, no_properties, Alias, Scalar, Seq, Map, NoNode, MoreNodes, NoPair, MorePairs, left_out, Version, TagPrefix, Reserved, bare, Document, Forest, Node, Nodes, Properties, AreCompatible};
+ghost use Rattle.saphyr_scanner.specs.Grammar.BlockNodes.{AreOtherEntries, BehindKey, IsBehindScalar, IsBlockNode, IsImplicitPair, IsKeyAlone, IsLead};
+ghost use Rattle.saphyr_scanner.specs.Grammar.FlowNodes.{AreItems, IsBeforeColon, IsFlowNode, IsKeyText};
+ghost use Rattle.saphyr_scanner.specs.Grammar.FlowScalars.{IsFirstWord, IsPlain};
+ghost use Rattle.saphyr_scanner.specs.Grammar.Layout.{IsBareDocument, IsLayoutText, most_open};
+
+/// Texts in flow style, each with the forest that it stands for: collections, pairs, properties, and
+/// scalars on several lines.
+pub fn derives_flow()
+    ensures sequence { IsLayoutText most_open (bare
+        (Seq no_properties (MoreNodes (plain_node (codes "a")) (MoreNodes (plain_node (codes "b")) NoNode)))
+        ∷ []) (codes "[a, b]") }
+    ensures mapping { IsLayoutText most_open (bare
+        (Map no_properties (MorePairs (plain_node (codes "a")) (plain_node (codes "b")) NoPair)) ∷ [])
+        (codes "{a: b}") }
+    ensures empty_collections { IsLayoutText most_open (bare
+        (Seq no_properties (MoreNodes (Seq no_properties NoNode)
+        (MoreNodes (Map no_properties NoPair) NoNode))) ∷ []) (codes "[[], {},]") }
+    ensures single_pairs { IsLayoutText most_open (bare
+        (Seq no_properties (MoreNodes
+        (Map no_properties (MorePairs (plain_node (codes "a")) (plain_node (codes "b")) NoPair))
+        (MoreNodes (Map no_properties
+        (MorePairs (double_quoted_node (codes "c")) (plain_node (codes "d")) NoPair)) NoNode))) ∷ [])
+        (codes "[a: b, \"c\":d]") }
+    ensures explicit_pairs { IsLayoutText most_open (bare
+        (Seq no_properties (MoreNodes
+        (Map no_properties (MorePairs (plain_node (codes "a")) (plain_node (codes "b")) NoPair))
+        (MoreNodes (Map no_properties (MorePairs left_out (plain_node (codes "d")) NoPair))
+        (MoreNodes (Map no_properties (MorePairs left_out left_out NoPair)) NoNode)))) ∷ [])
+        (codes "[? a : b, : d, ? ]") }
+    ensures entries { IsLayoutText most_open (bare
+        (Map no_properties (MorePairs (plain_node (codes "a")) left_out
+        (MorePairs (plain_node (codes "b")) left_out
+        (MorePairs left_out (plain_node (codes "c"))
+        (MorePairs left_out (plain_node (codes "d")) (MorePairs (Alias (codes "x")) left_out NoPair))))))
+        ∷ []) (codes "{a, ? b, ? : c, : d, *x :}") }
+    ensures lines { IsLayoutText most_open (bare
+        (Seq no_properties (MoreNodes (plain_node (codes "a")) (MoreNodes (plain_node (codes "b")) NoNode)))
+        ∷ []) (codes "[\n a # x\n ,b]") }
+    ensures properties { IsLayoutText most_open (bare
+        (Scalar (record { anchor = Some (codes "x"); tag = Some (Shorthand Primary (codes "t")) })
+        Plain (codes "a")) ∷ []) (codes "&x !t a # c\n") }
+    ensures properties_alone { IsLayoutText most_open (bare
+        (Seq no_properties (MoreNodes
+        (Scalar (record { anchor = None; tag = Some (Shorthand Secondary (codes "t")) }) Plain ([]))
+        (MoreNodes (Scalar (record { anchor = Some (codes "x"); tag = Some (Verbatim (codes "u")) })
+        DoubleQuoted (codes "b")) NoNode))) ∷ []) (codes "[!!t, !<u> &x\t\"b\"]") }
+    ensures collection_key { IsLayoutText most_open (bare
+        (Seq no_properties (MoreNodes
+        (Map no_properties (MorePairs
+        (Map no_properties (MorePairs (plain_node (codes "a")) (plain_node (codes "b")) NoPair))
+        (plain_node (codes "c")) NoPair)) NoNode)) ∷ []) (codes "[ {a: b}:c]") }
+    ensures plain_lines { IsLayoutText most_open (bare (plain_node (codes "a b\nc")) ∷ [])
+        (codes "a b \n\n c") }
+    ensures plain_tabs { IsLayoutText most_open (bare (plain_node (codes "a\nb")) ∷ [])
+        (codes "a\n\t\n \tb") }
+    ensures quoted_lines { IsLayoutText most_open (bare
+        (Seq no_properties (MoreNodes (Scalar no_properties SingleQuoted (codes "it's\nso"))
+        (MoreNodes (double_quoted_node (codes "a b")) NoNode))) ∷ [])
+        (codes "['it''s\n\n so', \"a\n b\"]") }
+    ensures colon_in_key { IsLayoutText most_open
+        (bare (Seq no_properties (MoreNodes (Map no_properties (MorePairs (plain_node (codes "a:")) left_out NoPair))
+        NoNode)) ∷ []) (codes "[a::]") }
+    ensures lone_key { IsLayoutText most_open
+        (bare (Seq no_properties (MoreNodes (Map no_properties
+        (MorePairs (plain_node (codes "?")) left_out NoPair)) NoNode)) ∷ []) (codes "[?:]") }
+    ensures comment_before_colon { IsLayoutText most_open (bare
+        (Map no_properties (MorePairs (double_quoted_node (codes "a")) (plain_node (codes "b")) NoPair)) ∷ [])
+        (codes "{\"a\" # c\n :b}") }
+{}
+
+/// Texts in block style, each with the forest that it stands for: block sequences and mappings,
+/// compact ones, explicit keys, properties, block scalars, and a value on the next line.
+pub fn derives_block()
+    ensures sequence { IsLayoutText most_open (bare
+        (Seq no_properties (MoreNodes (plain_node (codes "a")) (MoreNodes (plain_node (codes "b")) NoNode)))
+        ∷ []) (codes "- a\n- b") }
+    ensures tabs_at_ends { IsLayoutText most_open (bare
+        (Seq no_properties (MoreNodes (plain_node (codes "a")) (MoreNodes (plain_node (codes "b")) NoNode)))
+        ∷ []) (codes "- a\t\n- b \t# c") }
+    ensures tabs_behind { IsLayoutText most_open
+        (bare (Map no_properties (MorePairs (plain_node (codes "k"))
+        (Seq no_properties (MoreNodes (plain_node (codes "a")) (MoreNodes left_out NoNode))) NoPair)) ∷ [])
+        (codes "k:\t# c\n  - a\n  -\t") }
+    ensures tabs_in_filler { IsLayoutText most_open (bare
+        (Map no_properties (MorePairs (plain_node (codes "a")) (plain_node (codes "b")) NoPair)) ∷ [])
+        (codes "a: b\n\t# c\n") }
+    ensures tabs_between { IsLayoutText most_open (bare
+        (Seq no_properties (MoreNodes (plain_node (codes "a")) (MoreNodes (plain_node (codes "b")) NoNode)))
+        ∷ []) (codes "- a\n \t\n- b") }
+    ensures tabs_before { IsLayoutText most_open
+        (bare (Map no_properties (MorePairs (plain_node (codes "k"))
+        (Seq no_properties (MoreNodes (plain_node (codes "a")) NoNode)) NoPair)) ∷ [])
+        (codes "k:\n\t\n  - a") }
+    ensures tabs_in_flow { IsLayoutText most_open (bare
+        (Seq no_properties (MoreNodes (Seq no_properties
+        (MoreNodes (plain_node (codes "a")) (MoreNodes (plain_node (codes "b")) NoNode))) NoNode)) ∷ [])
+        (codes "- [a,\n\t# c\n  b]") }
+    ensures tab_behind_scalar { IsLayoutText most_open (bare
+        (Seq no_properties (MoreNodes (Scalar no_properties Literal (codes "a\n")) NoNode)) ∷ [])
+        (codes "- |\n  a\n\t# c") }
+    ensures colons_in_keys { IsLayoutText most_open
+        (bare (Map no_properties (MorePairs (plain_node (codes "a:")) (plain_node (codes "b"))
+        (MorePairs (plain_node (codes "c :")) (plain_node (codes "d")) NoPair))) ∷ []) (codes "a:: b\nc :: d") }
+    ensures lone_keys { IsLayoutText most_open
+        (bare (Map no_properties (MorePairs (plain_node (codes "-")) (plain_node (codes "a"))
+        (MorePairs (plain_node (codes ":")) (plain_node (codes "b")) NoPair))) ∷ []) (codes "-: a\n:: b") }
+    ensures mapping { IsLayoutText most_open (bare
+        (Map no_properties (MorePairs (plain_node (codes "a")) (plain_node (codes "b"))
+        (MorePairs (plain_node (codes "c")) (Seq no_properties (MoreNodes (plain_node (codes "d")) NoNode))
+        NoPair))) ∷ []) (codes "a: b\nc:\n  - d") }
+    ensures sequence_at_mapping { IsLayoutText most_open (bare
+        (Map no_properties (MorePairs (plain_node (codes "a"))
+        (Seq no_properties (MoreNodes (plain_node (codes "b")) (MoreNodes left_out NoNode)))
+        (MorePairs (plain_node (codes "c")) (plain_node (codes "d")) NoPair))) ∷ [])
+        (codes "a:\n- b\n-\nc : d") }
+    ensures compact { IsLayoutText most_open (bare
+        (Seq no_properties (MoreNodes
+        (Seq no_properties (MoreNodes (plain_node (codes "a")) (MoreNodes (plain_node (codes "b")) NoNode)))
+        (MoreNodes (Map no_properties (MorePairs (plain_node (codes "c")) left_out NoPair)) NoNode)))
+        ∷ []) (codes "- - a\n  - b\n# x\n- c:") }
+    ensures explicit_key { IsLayoutText most_open (bare
+        (Map no_properties (MorePairs (plain_node (codes "a")) (plain_node (codes "b"))
+        (MorePairs (Seq no_properties (MoreNodes (plain_node (codes "c")) NoNode)) left_out NoPair)))
+        ∷ []) (codes "? a\n: b\n? - c") }
+    ensures properties { IsLayoutText most_open (bare
+        (Map (record { anchor = Some (codes "x"); tag = None })
+        (MorePairs (plain_node (codes "a"))
+        (Map (record { anchor = None; tag = Some (Shorthand Primary (codes "t")) })
+        (MorePairs (Alias (codes "x")) (Scalar no_properties SingleQuoted (codes "b")) NoPair))
+        NoPair)) ∷ []) (codes "&x\na: !t # c\n\n *x : 'b'\n") }
+    ensures literal { IsLayoutText most_open ((record
+        { explicit = true; directives = []; node = (Scalar no_properties Literal (codes "a\n")) })
+        ∷ []) (codes "--- |\n a\n") }
+    ensures folded { IsLayoutText most_open (bare
+        (Seq no_properties (MoreNodes
+        (Scalar (record { anchor = Some (codes "x"); tag = None }) Folded (codes "a b\n\n  c"))
+        (MoreNodes (plain_node (codes "d")) NoNode))) ∷ [])
+        (codes "- &x >-1 # x\n a\n b\n\n   c\n\n- d\n") }
+    ensures next_line { IsLayoutText most_open (bare
+        (Map no_properties (MorePairs (plain_node (codes "a")) (plain_node (codes "b")) NoPair)) ∷ [])
+        (codes "a:\n\n b\n") }
+    ensures comment_left { IsLayoutText most_open (bare
+        (Seq no_properties (MoreNodes (Scalar no_properties Literal (codes "a\n"))
+        (MoreNodes (plain_node (codes "b")) NoNode))) ∷ []) (codes "- |\n  a\n # x\n- b") }
+    ensures indicator { IsLayoutText most_open (bare
+        (Map no_properties (MorePairs (plain_node (codes "a"))
+        (Scalar no_properties Literal (codes " b")) NoPair)) ∷ []) (codes "a: |1-\n  b\n") }
+    ensures explicit_collections { IsLayoutText most_open (bare
+        (Map no_properties (MorePairs (Seq no_properties (MoreNodes (plain_node (codes "a")) NoNode))
+        (Seq no_properties (MoreNodes (plain_node (codes "b")) NoNode)) NoPair)) ∷ [])
+        (codes "? [a]\n\n # x\n:\n- b\n") }
+{}
+
+/// Streams, each with its forest: filler alone, directives, explicit and bare documents, byte order
+/// marks, and a carriage return before a line feed.
+pub fn derives_streams()
+    ensures nothing { IsLayoutText most_open ([]) (codes "# x\n ") }
+    ensures directives { IsLayoutText most_open ((record {
+      explicit = true;
+      directives =
+          (Version 1 2 ∷ TagPrefix (Named (codes "e")) (codes "t:") ∷ Reserved (codes "x") ∷ []);
+      node = (plain_node (codes "a"));
+    }) ∷ []) (codes "%YAML 1.2\n%TAG !e! t:\n%x y\n--- a") }
+    ensures documents { IsLayoutText most_open ((record
+        { explicit = true; directives = []; node = (Scalar no_properties Literal (codes "a\n\n")) })
+        ∷ (record { explicit = true; directives = []; node = left_out })
+        ∷ (record { explicit = true; directives = []; node = (plain_node (codes "b")) })
+        ∷ bare (plain_node (codes "c")) ∷ []) (codes "--- |+\na\n\n--- # x\n---\nb\n# y\n... \nc\n") }
+    ensures byte_order_marks { IsLayoutText most_open (bare (plain_node (codes "a"))
+        ∷ bare (plain_node (codes "b")) ∷ []) (codes "\u{feff}a\n...\n\n\u{feff}b") }
+    ensures carriage_return { IsLayoutText most_open (bare
+        (Seq no_properties (MoreNodes (plain_node (codes "a")) (MoreNodes (plain_node (codes "b")) NoNode)))
+        ∷ []) (codes "[a\r\n ,b]\n") }
+    ensures properties { IsLayoutText most_open ((record {
+      explicit = true;
+      directives =
+          (TagPrefix Primary (codes "!t") ∷ TagPrefix Secondary (codes "u") ∷ []);
+      node =
+          (Seq (record { anchor = Some (codes "x"); tag = None })
+          (MoreNodes (Alias (codes "x")) NoNode));
+    }) ∷ [])
+        (codes "%TAG ! !t\n%TAG !! u\n--- &x\n- *x") }
+    ensures tabs { IsLayoutText most_open ((record
+        { explicit = true; directives = []; node = (plain_node (codes "a")) }) ∷ [])
+        (codes "--- a\n\t\n...\n\t# c") }
+    ensures mark_behind_filler { IsLayoutText most_open (bare
+        (Scalar (record { anchor = None; tag = Some (NonSpecific) }) Plain ([])) ∷ [])
+        (codes "!\n...\n# c\n\u{feff}\n") }
+{}
+
+/// How many flow collections are open at once: where there is no room for one, no sequence in brackets
+/// stands. Block collections, and a pair in brackets without braces of its own, take no room.
+pub fn counts_open_collections()
+    ensures no_room { (p : Properties) (nodes : Nodes) (in_flow : Bool) (indent : ℕ) (t : List ℕ)
+        → ¬ IsFlowNode 0 (Seq p nodes) in_flow indent t }
+    ensures single_pair { IsLayoutText 1 (bare (Seq no_properties
+        (MoreNodes (Map no_properties (MorePairs (plain_node (codes "a")) (plain_node (codes "b")) NoPair))
+        NoNode)) ∷ []) (codes "[a: b]") }
+    ensures block { IsLayoutText 0 (bare (Seq no_properties
+        (MoreNodes (Seq no_properties
+        (MoreNodes (plain_node (codes "a")) (MoreNodes (plain_node (codes "b")) NoNode)))
+        (MoreNodes (Map no_properties (MorePairs (plain_node (codes "c")) left_out NoPair)) NoNode)))
+        ∷ []) (codes "- - a\n  - b\n# x\n- c:") }
+{}
+
+/// The line `---` stands for one document, whose node is left out, and for no other forest.
+pub fn has_one_forest()
+    ensures stands { (room : ℕ) → IsLayoutText room
+        ((record { explicit = true; directives = []; node = left_out }) ∷ []) (codes "---\n") }
+    ensures only { (room : ℕ) (forest : Forest) → IsLayoutText room forest (codes "---\n")
+        → forest ≡ (record { explicit = true; directives = []; node = left_out }) ∷ [] }
+{}
+
+/// What the layout grammar has not: `[,]` for any sequence, an entry that begins with a comma, `*x:` as
+/// a key with its colon, a word with a colon at its end, a line in a bare document that begins with a
+/// document marker, and two version directives of one document.
+pub fn refuses_near_misses()
+    ensures comma_alone { (room : ℕ) (p : Properties) (nodes : Nodes)
+        → ¬ IsFlowNode room (Seq p nodes) false 0 (codes "[,]") }
+    ensures comma_first { (room : ℕ) (nodes : Nodes) (indent : ℕ) (t : List ℕ)
+        → ¬ AreItems room nodes indent (codes "," ++ t) }
+    ensures alias_key { (name : List ℕ) → ¬ IsBeforeColon (Alias name) [] }
+    ensures colon_at_end { ¬ IsFirstWord false (codes "a:") }
+    ensures marker_inside { (room : ℕ) (d : Document) (behind : List ℕ)
+        → ¬ IsBareDocument (IsBlockNode room) d (codes "a\n--- b") behind }
+    ensures two_versions { (major minor : ℕ) → ¬ AreCompatible
+        (Version 1 2 ∷ Version major minor ∷ []) }
+{}
+
+/// No plain scalar is `- a` or `@a`, and none but a key is a colon alone; a lone `-` with a blank before its colon is
+/// no key; no header of a block scalar has two digits, `#x` without a blank before it ends no line, and no alias has
+/// an anchor.
+pub fn refuses_scalars()
+    ensures dash_and_blank { (in_flow : Bool) (indent : ℕ)
+        → ¬ IsPlain in_flow indent (codes "- a") }
+    ensures indicator_first { (in_flow : Bool) (indent : ℕ)
+        → ¬ IsPlain in_flow indent (codes "@a") }
+    ensures lone_colon { (in_flow : Bool) (indent : ℕ) → ¬ IsPlain in_flow indent (codes ":") }
+    ensures dash_apart { (room : ℕ) (key : Node) (in_flow : Bool) (indent : ℕ)
+        → ¬ IsKeyText (IsFlowNode room key in_flow indent) key in_flow indent
+        (codes "-") (codes " ") }
+    ensures two_digits { (indent i n : ℕ) (chomping : Chomping) (lines : List Line)
+        (t body others : List ℕ)
+        → ¬ IsBlockScalar indent i n chomping lines (codes "|12" ++ t) body others }
+    ensures comment_without_blank { (behind : List ℕ) → ¬ IsEol (codes "#x\n") behind }
+    ensures alias_with_anchor { (room : ℕ) (node : Node) (in_flow : Bool) (indent : ℕ)
+        → ¬ IsFlowNode room node in_flow indent (codes "&a *b") }
+{}
+
+/// In block style no tab stands before a further entry, nor behind a `?` before what comes next, also where its
+/// key is left out, nor on the line behind a block scalar's before a further entry. No entry of a sequence
+/// stands left of the others, no key goes on over lines, and no sequence begins on the line of its key.
+pub fn refuses_in_block()
+    ensures tab_in_indentation { (room : ℕ) (nodes : Nodes) (m : ℕ) (behind : List ℕ)
+        → ¬ AreOtherEntries room nodes m (codes "\t- b") behind }
+    ensures tab_behind_question { (room : ℕ) (key value : Node) (m : ℕ) (behind : List ℕ)
+        → ¬ IsKeyAlone value (IsBlockNode room key) m (codes "?\t\n") behind }
+    ensures tab_behind_left_out { (room : ℕ) (key value : Node) (m : ℕ) (others : List ℕ)
+        → ¬ IsKeyAlone value (IsBlockNode room key) m (codes "?\n") (codes "\t\n" ++ others) }
+    ensures tab_behind_block_scalar { (indent i : ℕ) → ¬ IsBehindScalar indent i (codes "\t\n- b") }
+    ensures entry_left { (room : ℕ) (nodes : Nodes) (m : ℕ) (behind : List ℕ)
+        → ¬ AreOtherEntries room nodes (suc m) (codes "- b") behind }
+    ensures key_over_lines { (room : ℕ) (key value : Node) (m : ℕ) (behind : List ℕ)
+        → ¬ IsImplicitPair room key (IsBlockNode room value) m (codes "a\nb: c") behind }
+    ensures sequence_behind_key { (p : Properties) (column least m : ℕ)
+        → ¬ IsLead p (BehindKey column) least m (codes " ") }
+{}

@@ -1,0 +1,7 @@
+pub mod Foldings
+pub mod Items
+pub mod Kept
+pub mod LargeEscapes
+pub mod Lines
+pub mod ReadSpellings
+pub mod SpellingsRead

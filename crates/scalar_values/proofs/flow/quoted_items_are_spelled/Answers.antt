@@ -1,0 +1,6 @@
+use Rattle.scalar_values.proofs.SpellingsRead.{quoted_read}
+use Rattle.scalar_values.proofs.ReadSpellings.{quoted_taken}
+use Rattle.scalar_values.proofs.flow.quoted_items_are_spelled.Goals as goal
+
+pub returns : goal.returns
+returns c = λ quote items text. (quoted_read quote items text, quoted_taken quote items text)
