@@ -222,25 +222,27 @@ def judge_batch(edits, said):
 def judge(crate, names):
     """Tries the edits of a crate. Gives how many were refused, and a line for each that was not."""
     left, wrong = edits_of(crate, names)
-    number, alone = 0, False
+    number, at_once = 0, len(left)
     with tempfile.TemporaryDirectory(prefix="edits-kept-") as kept:
         while left:
             begun = time.time()
-            batch, texts = batch_of(left[:1] if alone else left, crate.folder)
+            batch, texts = batch_of(left[:at_once], crate.folder)
             said = check(crate, texts, set().union(*(it.functions for it in batch)), kept)
             refused, proved = judge_batch(batch, said)
-            wrong += [f"{crate.name}/{it.name}: NOT REFUSED" for it in proved]
+            # An edit that doesn't compile leaves no verdict on any edit beside it.
             if not refused and not proved and len(batch) > 1:
-                alone = True
+                at_once = len(batch) // 2
                 continue
             if not refused and not proved:
-                wrong.append(f"{crate.name}: no verdict on {', '.join(it.name for it in left)}: {said[-1500:]}")
-                break
+                wrong.append(f"{crate.name}/{batch[0].name}: no verdict: {said[-1500:]}")
+            wrong += [f"{crate.name}/{it.name}: NOT REFUSED" for it in proved]
             for edit in refused:
                 if all(is_for_a_name(it, said) for it in edit.functions):
                     print(f"{crate.name}/{edit.name}: refused only because a proof file names what it took away")
             number += len(refused)
-            left = [it for it in left if it not in refused + proved]
+            judged = refused + proved or batch
+            left = [it for it in left if it not in judged]
+            at_once = len(left)
             tried = f"{len(refused)} of {len(batch)} refused, {len(left)} left"
             print(f"{crate.name}: {tried}, {time.time() - begun:.0f} s", flush=True)
     return number, wrong
