@@ -1,7 +1,7 @@
 -- What a step does, in one statement: what it takes off the text, that its tokens stand in order between the place
 -- where it begins and the one that is reached, that they are few, that none is the end of the stream, and that what may
 -- be a key behind it might be one before, or is its own token.
-use Rattle.std.proofs.Common.{◌≡◌, ℕ, ◌+◌, ◌≤◌, ◌<◌, Bool, true, false, List, [], ◌∷◌, length, drop, Result, Ok, Err, refl, ap, arith}
+use Rattle.std.proofs.Common.{◌≡◌, ℕ, ◌+◌, ◌≤◌, ◌<◌, Bool, true, false, List, [], ◌∷◌, length, drop, Result, refl, ap, arith}
 use Rattle.std.specs.Prelude.{◌&&◌, not, Option, Some, None, if◌then◌else◌}
 use Rattle.std.proofs.lemmas.List.{length-drop}
 use Rattle.saphyr_input.specs.declared.input.SkipTabs.{SkipTabs}
@@ -11,13 +11,13 @@ use Rattle.saphyr_scalar.specs.declared.scalar.fault.Refusal.{Refusal}
 use Rattle.saphyr_scalar.specs.Views.Cursor.{Cursor, ◌>>=◌, pass, separation}
 use Rattle.saphyr_scanner.specs.Grammar.Tokens.{Kind}
 use Rattle.saphyr_scanner.specs.Steps.Gap as gaps
-use Rattle.saphyr_scanner.specs.Steps.Core.{Core, Action, Step, Steps, from_to, at_mark, in_block, save_key, remove_key, forget_key, drop_far_key, is_too_far, is_further, roll, least_column}
+use Rattle.saphyr_scanner.specs.Steps.Core.{Core, Action, Step, from_to, at_mark, in_block, remove_key, forget_key, drop_far_key, is_too_far, least_column}
 use Rattle.saphyr_scanner.specs.Steps.Passing.{separate, pass_gap, check_comment, goes_on_behind, behind_gap, intercepts}
 use Rattle.saphyr_scanner.proofs.Counted.{Ahead, stays, ahead_ahead, taken_off, separation_counted, gap_counted}
 use Rattle.saphyr_scanner.proofs.Effects.Readers.{Readers, ReaderEnds, Less, ReadsSpan}
 use Rattle.saphyr_scanner.proofs.Ordered.Queue.{PutsInOrder}
 use Rattle.saphyr_scanner.proofs.Taken.Candidates.{Above, ActionsAbove, Keeps}
-use Rattle.saphyr_scanner.proofs.Added.Queue.{IsNoEnd, PutsGoOn, added, one_at_most, open_blocks}
+use Rattle.saphyr_scanner.proofs.Added.Queue.{IsNoEnd, PutsGoOn, added, open_blocks}
 use Rattle.saphyr_input.proofs.Basics.Booleans.{by_test}
 use Rattle.saphyr_scalar.proofs.Given.{Given, given_bind, given_of}
 
@@ -43,19 +43,6 @@ taken s t n i r some h =
 -- one character is
 pub one : (s : Cursor) → 0 < length s.rest → Read s s.mark s.mark (pass 1 s)
 one s h = taken s (pass 1 s) 1 refl refl (omega arith) (omega (arith, h))
-
--- more is passed behind it
-pub read_on : (s : Cursor) (a b : Marker) (t u : Cursor) → Read s a b t → Ahead t u → Read s a b u
-read_on s a b t u r x = record {
-  less = λ laws. let l = r.less laws in omega (arith, x.later, x.counted, l);
-  span = λ laws. let w = r.span laws in
-      record {
-        ahead = ahead_ahead s t u w.ahead x;
-        begins = w.begins;
-        inside = w.inside;
-        ends = let y = w.ends in omega (arith, y, x.later);
-      };
-}
 
 -- the token of all that was read
 pub whole : (s : Cursor) (a b : Marker) (t : Cursor) → Read s a b t → Read s s.mark t.mark t
@@ -96,21 +83,6 @@ Effect c x = EffectFrom (λ h. Above h c) c x
 -- the same of a step that may save a key, where its token has the place of this number
 abbrev pub EffectAt : ℕ → Core → Step → Type 0
 EffectAt n c x = EffectFrom (λ h. (h ≤ n) × Above h c) c x
-
--- where more is known of the candidates
-pub from_more : (P Q : ℕ → Type 0) → ((h : ℕ) → Q h → P h) → (c : Core) (r : Steps) → Given (EffectFrom P c) r
-    → Given (EffectFrom Q c) r
-from_more P Q f c (Ok x) e = record {
-  less = e.less;
-  ahead = e.ahead;
-  puts = e.puts;
-  started = e.started;
-  ended = e.ended;
-  goes_on = e.goes_on;
-  few = e.few;
-  keeps = λ h a. e.keeps h (f h a);
-}
-from_more P Q f c (Err d) e = tt
 
 -- From c to d n block collections begin at most, the stream neither begins nor ends, and nothing more may be a key.
 abbrev pub Begins : ℕ → Core → Core → Type 0
@@ -212,18 +184,4 @@ drop_goes n s c d g =
     by_test (not (in_block d && is_too_far d.level.key d.cursor.mark)) _ _ (Given (Goes n s c)) (λ _. g)
     (λ _. by_test d.required _ _ (Given (Goes n s c)) (λ _. tt) (λ _. (g.0, begins_forgotten n c d g.1)))
 
-pub roll_goes : (column : ℕ) (s : Cursor) (c d : Core) → Goes 0 s c d → Goes 2 s c (roll column d)
-roll_goes column s c d g =
-    let x = g.1.2 in
-    by_test (is_further column d) _ _ (Goes 2 s c)
-    (λ _. (g.0, (g.1.0, g.1.1, let y = one_at_most (column + 1) in omega (arith, x, y), g.1.3)))
-    (λ _. (g.0, (g.1.0, g.1.1, omega (arith, x), g.1.3)))
-
 -- ## Keys
-
--- a step that is told of what the text begins with, behind the saving of a key
-pub behind_saving : (n : ℕ) (c : Core) (Q : Cursor → Type 0) (f : Core → Steps) → Q c.cursor
-    → ((d : Core) → Q d.cursor → Given (Effect d) (f d)) → Given (EffectAt n c) (f (save_key n c))
-behind_saving n c Q f q h =
-    by_test c.key_allowed _ _ (λ (d : Core). Given (EffectAt n c) (f d))
-    (λ _. from_more _ _ (λ i a. (a.0, a.1.1)) c (f _) (h _ q)) (λ _. from_more _ _ (λ i a. a.1) c (f c) (h c q))

@@ -32,7 +32,7 @@ use Rattle.std.proofs.lemmas.Bool.Decides.{nat_tests}
 use Rattle.saphyr_scanner.proofs.Taken.Parts.{is_quiet}
 use Rattle.saphyr_scanner.proofs.Taken.Held.{taken_further, taken_put}
 use Rattle.saphyr_scanner.proofs.Taken.Cores.{Holds, HoldsStep, holds_further, holds_forgotten, no_keys, quiet_put}
-use Rattle.saphyr_scanner.proofs.Taken.Scalars.{TextLaws}
+use Rattle.saphyr_scanner.proofs.Effects.Readers.{TextLaws}
 use Rattle.saphyr_scanner.proofs.Taken.States.{Fetched, TakenState, unroll_taken, blocks_levels}
 use Rattle.std.proofs.lemmas.Bool.{eqb-true, and_parts}
 use Rattle.saphyr_input.proofs.Basics.Booleans.{by_test}

@@ -1,16 +1,14 @@
 -- Where a fetch of the next token refuses.
-use Rattle.std.proofs.Common.{◌≡◌, ℕ, ◌<◌, Bool, true, false, List, [], ◌∷◌, length, drop, Option, Some, None, Result, Ok, Err, refl, sym, ap, ◌∙◌, subst, inl}
+use Rattle.std.proofs.Common.{◌≡◌, ℕ, Bool, true, false, List, [], ◌∷◌, length, drop, Option, Some, None, Result, Ok, Err, refl, sym, ap, ◌∙◌, subst, inl}
 use Rattle.std.specs.Prelude.{◌&&◌, ◌||◌, ◌==◌, not, nat_lt, slice_index}
 use Rattle.saphyr_input.specs.Classes.{is_bom, is_break, is_breakz, is_z, is_blank_or_breakz}
 use Rattle.saphyr_input.specs.Places.{is_document_start, is_document_end, next_3_are}
 use Rattle.saphyr_input.specs.declared.input.SkipTabs.{SkipTabs}
-use Rattle.scalar_values.specs.declared.block.BlockStyle.TheVariants as block_style
 use Rattle.saphyr_scalar.specs.declared.scalar.position.Marker.{Marker}
 use Rattle.saphyr_scalar.specs.declared.scalar.fault.Refusal.{Refusal}
 use Rattle.saphyr_scalar.specs.Views.Cursor.{Cursor, ◌>>=◌, along, pass}
 use Rattle.saphyr_scalar.specs.Steps.Directive as directives
 use Rattle.saphyr_scalar.specs.Steps.Directive.{ReadDirective}
-use Rattle.saphyr_scanner.specs.declared.engine.level.Context.TheVariants as context
 use Rattle.saphyr_scanner.specs.Grammar.Tokens as tokens
 use Rattle.saphyr_scanner.specs.Grammar.Tokens.{Kind}
 use Rattle.saphyr_scanner.specs.Steps.Queue.{Queue, next}
@@ -23,16 +21,14 @@ use Rattle.saphyr_scanner.specs.TokensTaken as taken
 use Rattle.saphyr_scanner.specs.TokensTaken.{IsReached}
 use Rattle.saphyr_scanner.specs.Steps.Unrolling.{unroll, end_blocks, end_block, is_right_of, outwards, less_deep}
 use Rattle.saphyr_scanner.proofs.Blocks.{unrolled_cursor}
-use Rattle.saphyr_scanner.proofs.Steps.Choice.{cases}
-use Rattle.saphyr_scanner.proofs.Effects.Fetch.{left}
+use Rattle.saphyr_scanner.proofs.Effects.Fetch.{left, step_does}
 use Rattle.saphyr_scanner.proofs.Taken.Documents.{three_at, end_place, no_length}
-use Rattle.saphyr_scanner.proofs.Taken.Scalars.{TextLaws}
+use Rattle.saphyr_scanner.proofs.Effects.Readers.{TextLaws, RefusalLaws}
 use Rattle.saphyr_scanner.proofs.Reached.{along_reached}
 use Rattle.saphyr_scanner.proofs.Taken.Places.{Reaches, At, at_here, at_further}
-use Rattle.saphyr_scanner.proofs.Told.Refusals.{RefusalLaws, Told, told_then, told_further, reader_told, Goes, Noted, NotedStep, Still, goes_still, at_core, remove_still, drop_still, separate_goes, gap_told}
-use Rattle.saphyr_scanner.proofs.Told.Scalars.{given_any, double_told, single_told, plain_told, block_told, name_told, tag_told}
-use Rattle.saphyr_scanner.proofs.Told.Steps.{start_told, end_told, flow_entry_told, block_entry_told, key_told, value_told, flow_value_told}
+use Rattle.saphyr_scanner.proofs.Told.Refusals.{Told, walked_told, told_then, told_further, reader_told, Goes, Noted, NotedStep, Still, goes_still, at_core, remove_still, drop_still, separate_goes, gap_told}
 use Rattle.saphyr_input.proofs.Basics.Booleans.{by_test}
+use Rattle.saphyr_scalar.proofs.Given.{Given}
 use Rattle.std.proofs.lemmas.Bool.{and_parts, eqb-true}
 
 abbrev pub NotedState : State → Type 0
@@ -154,6 +150,11 @@ mark_told s n =
     (λ _. told_then (StillState s) NotedState s.core.cursor (document.end_content s) _ (content_told s)
     (λ t h. inl (h.1 ∙ n)))
 
+-- where a reader gives something, whatever that is
+given_any : {X : Type 0} → (r : Result X Refusal) → Given (λ (x : X). Unit {0}) r
+given_any (Ok x) = tt
+given_any (Err e) = tt
+
 read_directive_told : RefusalLaws → (c : Core) → slice_index c.cursor.rest 0 ≡ 37 → c.comment ≡ None
     → Told NotedStep c.cursor (document.read_directive c)
 unfolding document.read_directive
@@ -189,31 +190,6 @@ stream_told s n =
 
 -- ## What begins here
 
-pub step_told : TextLaws → RefusalLaws → (first second k : ℕ) (c : Core) → 0 < length c.cursor.rest
-    → slice_index c.cursor.rest 0 ≡ first → c.comment ≡ None
-    → Told NotedStep c.cursor (step first second k c)
-step_told texts laws first second k c some f n =
-    cases (Told NotedStep c.cursor) first second k c (record {
-      sequence = λ e. start_told laws context.FlowSequence tokens.FlowSequenceStart 91 k c refl refl (f ∙ e) n;
-      mapping = λ e. start_told laws context.FlowMapping tokens.FlowMappingStart 123 k c refl refl (f ∙ e) n;
-      sequence_end = λ e. end_told laws true tokens.FlowSequenceEnd 93 c refl refl (f ∙ e) n;
-      mapping_end = λ e. end_told laws false tokens.FlowMappingEnd 125 c refl refl (f ∙ e) n;
-      comma = λ e. flow_entry_told laws c (f ∙ e) n;
-      dash = λ e _. block_entry_told laws c (f ∙ e) n;
-      question = λ e _. key_told c (f ∙ e) n;
-      colon = λ e _. value_told laws c (f ∙ e) n;
-      beside = λ e _. flow_value_told laws second c (f ∙ e) n;
-      double = λ e. double_told texts laws k c (f ∙ e) n;
-      single = λ e. single_told texts laws k c (f ∙ e) n;
-      alias = λ _. name_told laws true k c n;
-      anchor = λ _. name_told laws false k c n;
-      tag = λ _. tag_told laws k c n;
-      literal = λ e _. block_told laws block_style.Literal k c (f ∙ e) some n;
-      folded = λ e _. block_told laws block_style.Folded k c (f ∙ e) some n;
-      reserved = at_here c.cursor;
-      plain = λ _. plain_told laws k c;
-    })
-
 pub here_told : TextLaws → RefusalLaws → (s : State) → s.core.comment ≡ None
     → Told NotedState s.core.cursor (fetch_here s)
 unfolding fetch_here state_behind_content
@@ -233,7 +209,8 @@ here_told texts laws s n =
     (λ _. by_test (nat_lt s.core.cursor.mark.col (least_column s.core)) _ _ P (λ _. at_here s.core.cursor)
     (λ _. let r = step (slice_index t 0) (slice_index t 1) (next s.queue) s.core in
     acted_told s.core.cursor r s.queue
-    (step_told texts laws (slice_index t 0) (slice_index t 1) (next s.queue) s.core (left t z) refl n)))))))
+    (walked_told s.core (laws, texts, n) (next s.queue) r
+    (step_does (slice_index t 0) (slice_index t 1) (next s.queue) s.core (left t z) refl refl))))))))
 
 -- ## To where it begins
 
