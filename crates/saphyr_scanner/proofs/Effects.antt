@@ -7,4 +7,5 @@ pub mod Values
 pub mod Blocks
 pub mod Scalars
 pub mod States
+pub mod Documents
 pub mod Fetch

@@ -1,6 +1,6 @@
 -- What is done where a token is fetched, in one statement.
 use Rattle.std.proofs.Common.{◌≡◌, ℕ, ◌+◌, ◌≤◌, ◌<◌, Bool, true, false, List, [], ◌∷◌, ◌++◌, length, Result, Ok, Err, refl, sym, ap, ◌∙◌, arith, cond, subst}
-use Rattle.std.specs.Prelude.{◌&&◌, slice_index, ◌==◌, nat_lt, nat_le, Some, None}
+use Rattle.std.specs.Prelude.{codes, ◌&&◌, slice_index, ◌==◌, nat_lt, nat_le, Some, None}
 use Rattle.saphyr_input.specs.Classes.{is_bom, is_z, is_blank_or_breakz}
 use Rattle.saphyr_input.specs.Places.{is_document_start, is_document_end}
 use Rattle.saphyr_scalar.specs.declared.scalar.position.Marker.{Marker}
@@ -29,10 +29,12 @@ use Rattle.saphyr_scanner.proofs.Effects.Values.{value_does, flow_value_does}
 use Rattle.saphyr_scanner.proofs.Effects.Blocks.{block_entry_does, key_does}
 use Rattle.saphyr_scanner.proofs.Effects.Scalars.{plain_start, double_quoted_does, single_quoted_does, plain_does, an_alias, an_anchor, name_does, tag_does, block_does}
 use Rattle.saphyr_scanner.proofs.Taken.Places.{at_here}
-use Rattle.saphyr_scanner.proofs.Effects.States.{Advances, advances_advances, carried_advances, acted_advances, same_index, unroll_advances, is_marker, marker_advances, end_marker_advances, mark_advances, directive_advances}
-use Rattle.saphyr_input.proofs.Basics.Booleans.{by_test, and_true_right}
+use Rattle.saphyr_scanner.proofs.Effects.States.{Advances, advances_advances, carried_advances, acted_advances, same_index, unroll_advances}
+use Rattle.saphyr_scanner.proofs.Effects.Documents.{start_walked, end_marker_walked, mark_walked, directive_walked, documents_advance}
+use Rattle.saphyr_scanner.proofs.Taken.Documents.{start_marking}
+use Rattle.saphyr_input.proofs.Basics.Booleans.{by_test}
 use Rattle.saphyr_scalar.proofs.Given.{Given, given_bind, given_of}
-use Rattle.std.proofs.lemmas.Bool.{eqb-true}
+use Rattle.std.proofs.lemmas.Bool.{and_parts, eqb-true}
 
 -- ## What begins at a place
 
@@ -159,16 +161,18 @@ unfolding fetch_here state_behind_content
 here_fetched s going =
     let t = s.core.cursor.rest in let P = Given (Fetched s) in
     by_test (is_z (slice_index t 0)) _ _ P (λ _. end_fetched s going) (λ z. let h : 0 < length t = left t z in
-    by_test (is_bom (slice_index t 0)) _ _ P (λ _. of_advances s _ going (mark_advances s h))
+    by_test (is_bom (slice_index t 0)) _ _ P (λ e. of_advances s _ going (documents_advance s _ (mark_walked s e)))
     (λ _. by_test ((s.core.cursor.mark.col == 0) && (slice_index t 0 == 37)) _ _ P
-    (λ e. of_advances s _ going (directive_advances s
-    (eqb-true (slice_index t 0) 37 (and_true_right (s.core.cursor.mark.col == 0) _ e))))
+    (λ e. let w = and_parts (s.core.cursor.mark.col == 0) (slice_index t 0 == 37) e in
+    of_advances s _ going (documents_advance s _ (directive_walked s (eqb-true s.core.cursor.mark.col 0 w.0)
+    (eqb-true (slice_index t 0) 37 w.1))))
     (λ _. by_test ((s.core.cursor.mark.col == 0) && is_document_start t) _ _ P
-    (λ e. of_advances s _ going (marker_advances tokens.DocumentStart s (λ i. absurd (cc))
-    (is_marker 45 t refl (and_true_right (s.core.cursor.mark.col == 0) _ e))))
+    (λ e. let w = and_parts (s.core.cursor.mark.col == 0) (is_document_start t) e in
+    of_advances s _ going (documents_advance s _ (start_walked is_document_start (codes "---") tokens.DocumentStart
+    start_marking (λ i. absurd (cc)) s (eqb-true s.core.cursor.mark.col 0 w.0) w.1)))
     (λ _. by_test ((s.core.cursor.mark.col == 0) && is_document_end t) _ _ P
-    (λ e. of_advances s _ going (end_marker_advances s
-    (is_marker 46 t refl (and_true_right (s.core.cursor.mark.col == 0) _ e))))
+    (λ e. let w = and_parts (s.core.cursor.mark.col == 0) (is_document_end t) e in
+    of_advances s _ going (documents_advance s _ (end_marker_walked s (eqb-true s.core.cursor.mark.col 0 w.0) w.1)))
     (λ _. by_test (nat_lt s.core.cursor.mark.col (least_column s.core)) _ _ P (λ _. tt)
     (λ _. of_advances s _ going (acted_advances _ s (step (slice_index t 0) (slice_index t 1) (next s.queue) s.core)
     (step_effect (slice_index t 0) (slice_index t 1) (next s.queue) s.core h refl refl))))))))

@@ -12,7 +12,7 @@ use Rattle.saphyr_scanner.specs.declared.queue.Opening.TheVariants as opening
 use Rattle.saphyr_scanner.specs.Views.Tokens.{Piece}
 use Rattle.saphyr_scanner.specs.Steps.Gap as gaps
 use Rattle.saphyr_scanner.specs.Steps.Queue.{Place, Queue, closed, put, opened, with_opening, next}
-use Rattle.saphyr_scanner.specs.Steps.Core.{Candidate, Level, Core, Step, perform, is_block, in_block, save_key, forget_key, least_column, is_further, enter_block}
+use Rattle.saphyr_scanner.specs.Steps.Core.{Candidate, Level, Core, is_block, in_block, save_key, forget_key, least_column, is_further, enter_block}
 use Rattle.saphyr_scanner.specs.Steps.Passing.{separate, with_cursor, pass_gap, check_comment, goes_on_behind, behind_gap, intercepts}
 use Rattle.saphyr_scanner.specs.TokensTaken as taken
 use Rattle.saphyr_scanner.specs.TokensTaken.{AreApart, IsToken, TakesCharacter}
@@ -26,9 +26,6 @@ use Rattle.saphyr_scalar.proofs.Given.{Given}
 pub record Holds (columns : List ℕ) (from : Cursor) (c : Core) (q : Queue) : Type 0 where
   pub taken : Taken columns from c q
   pub keys : Keys (next q) q c.indent (c.level ∷ c.outer)
-
-abbrev pub HoldsStep : List ℕ → Cursor → Queue → Step → Type 0
-HoldsStep columns from q x = Holds columns from x.core (perform x.actions q)
 
 -- a truth value, by its cases
 pub by_bool : (b : Bool) (P : Bool → Type 0) → (b ≡ true → P true) → (b ≡ false → P false) → P b
@@ -51,13 +48,6 @@ keys_of b q i j l m ls ms e f g h =
     let Q : Level → Type 0 = λ x. Keys b q i (x ∷ ms) in
     let R : List Level → Type 0 = λ x. Keys b q i (l ∷ x) in
     subst P (sym e) (subst Q (sym f) (subst R (sym g) h))
-
-pub holds_further : (columns : List ℕ) (from : Cursor) (c d : Core) (q : Queue) → Alike c d → AreApart c.cursor d.cursor
-    → Holds columns from c q → Holds columns from d q
-holds_further columns from c d q a p h = record {
-  taken = taken_further columns from c d q p a.indent a.outer_indents h.taken;
-  keys = keys_of (next q) q c.indent d.indent c.level d.level c.outer d.outer a.indent a.level a.outer h.keys;
-}
 
 -- the key of the level may be forgotten
 pub record Lesser (l m : Level) : Type 0 where

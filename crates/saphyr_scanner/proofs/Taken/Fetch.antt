@@ -18,15 +18,16 @@ use Rattle.saphyr_scanner.specs.TokensTaken as taken
 use Rattle.saphyr_scanner.specs.TokensTaken.{AreTokens, may_begin_plain}
 use Rattle.saphyr_scanner.proofs.Effects.Readers.{TextLaws}
 use Rattle.saphyr_scanner.proofs.Leads.{flat}
-use Rattle.saphyr_scanner.proofs.Effects.States.{Advances, acted_advances, is_marker, marker_advances, end_marker_advances, mark_advances, directive_advances}
+use Rattle.saphyr_scanner.proofs.Effects.States.{Advances, acted_advances}
 use Rattle.saphyr_scanner.proofs.Effects.Fetch.{left, step_does, step_effect, arrive_advances}
 use Rattle.saphyr_scanner.proofs.Taken.Later.{LaterThan}
 use Rattle.saphyr_scanner.proofs.Taken.Parts.{tokens_part}
 use Rattle.saphyr_scanner.proofs.Taken.Held.{taken_put}
 use Rattle.saphyr_scanner.proofs.Taken.Cores.{no_keys, quiet_put}
-use Rattle.saphyr_scanner.proofs.Effects.Moves.{Premises, walked_given, Stepped}
+use Rattle.saphyr_scanner.proofs.Effects.Moves.{Premises, Walked, walked_given, Stepped}
+use Rattle.saphyr_scanner.proofs.Effects.Documents.{Documented, start_walked, end_marker_walked, mark_walked, directive_walked, documents_advance, documents_hold}
 use Rattle.saphyr_scanner.proofs.Taken.States.{Live, Fetched, holds_fetched, FetchedStep, TakenState}
-use Rattle.saphyr_scanner.proofs.Taken.Documents.{HoldsState, start_marking, marker_holds, end_marker_holds, mark_holds, directive_holds, end_fetched}
+use Rattle.saphyr_scanner.proofs.Taken.Documents.{HoldsState, start_marking, end_fetched}
 use Rattle.saphyr_input.proofs.Basics.Booleans.{by_test}
 use Rattle.saphyr_scalar.proofs.Given.{Given, given_bind, given_of}
 use Rattle.std.proofs.lemmas.Bool.{and_parts, not-true, ltb-false, eqb-true}
@@ -101,26 +102,23 @@ here_read laws text small columns from s l going a =
     (end_over columns from s))
     (λ z. let some : 0 < length t = left t z in
     let h : HoldsState columns from s = record { taken = a.taken; keys = a.live z } in
+    let behind : (r : Result State Refusal) → Walked (Premises s.core) (Documented s) s.core.cursor r → P r =
+    λ r w. both_given columns from s r going (held columns from r (documents_hold laws columns from s r h w))
+    (documents_advance s r w) in
     by_test (is_bom (slice_index t 0)) _ _ P
-    (λ e. both_given columns from s (document.state_behind_byte_order_mark s) going
-    (held columns from _ (mark_holds columns from s h e)) (mark_advances s some))
+    (λ e. behind (document.state_behind_byte_order_mark s) (mark_walked s e))
     (λ _. by_test ((s.core.cursor.mark.col == 0) && (slice_index t 0 == 37)) _ _ P
     (λ e. let w = and_parts (s.core.cursor.mark.col == 0) (slice_index t 0 == 37) e in
-    let first = eqb-true (slice_index t 0) 37 w.1 in
-    both_given columns from s (document.state_behind_directive s) going
-    (held columns from _ (directive_holds laws columns from s h (eqb-true s.core.cursor.mark.col 0 w.0) first))
-    (directive_advances s first))
+    behind (document.state_behind_directive s)
+    (directive_walked s (eqb-true s.core.cursor.mark.col 0 w.0) (eqb-true (slice_index t 0) 37 w.1)))
     (λ _. by_test ((s.core.cursor.mark.col == 0) && is_document_start t) _ _ P
     (λ e. let w = and_parts (s.core.cursor.mark.col == 0) (is_document_start t) e in
-    both_given columns from s (document.marker tokens.DocumentStart s) going
-    (held columns from _ (marker_holds columns from is_document_start (codes "---") tokens.DocumentStart
-    start_marking s h (eqb-true s.core.cursor.mark.col 0 w.0) w.1))
-    (marker_advances tokens.DocumentStart s (λ i. absurd (cc)) (is_marker 45 t refl w.1)))
+    behind (document.marker tokens.DocumentStart s)
+    (start_walked is_document_start (codes "---") tokens.DocumentStart start_marking (λ i. absurd (cc)) s
+    (eqb-true s.core.cursor.mark.col 0 w.0) w.1))
     (λ _. by_test ((s.core.cursor.mark.col == 0) && is_document_end t) _ _ P
     (λ e. let w = and_parts (s.core.cursor.mark.col == 0) (is_document_end t) e in
-    both_given columns from s (document.end_marker s) going
-    (held columns from _ (end_marker_holds columns from s h (eqb-true s.core.cursor.mark.col 0 w.0) w.1))
-    (end_marker_advances s (is_marker 46 t refl w.1)))
+    behind (document.end_marker s) (end_marker_walked s (eqb-true s.core.cursor.mark.col 0 w.0) w.1))
     (λ _. by_test (nat_lt s.core.cursor.mark.col (least_column s.core)) _ _ P (λ _. tt)
     (λ e. let r = step (slice_index t 0) (slice_index t 1) (next s.queue) s.core in
     both_given columns from s (acted r s.queue) going

@@ -6,7 +6,6 @@ use Rattle.saphyr_input.specs.declared.input.SkipTabs.TheVariants as tabs
 use Rattle.saphyr_scalar.specs.declared.scalar.position.Marker.{Marker}
 use Rattle.saphyr_scalar.specs.declared.scalar.fault.Refusal.{Refusal}
 use Rattle.saphyr_scalar.specs.Views.Cursor.{Cursor, ◌>>=◌, separation}
-use Rattle.saphyr_scalar.specs.RefusedInside.{IsRefusedInside}
 use Rattle.saphyr_scanner.specs.Steps.Gap as gaps
 use Rattle.saphyr_scanner.specs.Steps.Core.{Core, Step, Steps, in_block, is_too_far, remove_key, drop_far_key, least_column}
 use Rattle.saphyr_scanner.specs.Steps.Passing.{separate, with_cursor, pass_gap, check_comment, goes_on_behind, behind_gap, intercepts}
@@ -37,13 +36,6 @@ pub told_further : {X : Type 0} → (P : X → Type 0) (s t : Cursor) (r : Resul
 told_further P s t (Ok x) a h = h
 told_further P s t (Err e) a h = at_further s t e.mark a h
 
--- what a reader gives, and where it refuses
-pub reader_told : {X : Type 0} → (P : X → Type 0) (s : Cursor) (r : Result X Refusal) → Given P r
-    → ((e : Refusal) → r ≡ Err e → IsRefusedInside s e) → Told P s r
-reader_told P s (Ok x) h go = h
-reader_told P s (Err e) h go =
-    let w = go e refl in at_reached s e.mark w.0 (passed_reached s.mark s.rest e.mark w.0 w.1)
-
 -- ## Cores
 
 -- a place was reached, and no comment is kept
@@ -68,9 +60,6 @@ Still c d = (d.cursor ≡ c.cursor) × (d.comment ≡ c.comment)
 
 pub goes_still : (s : Cursor) (c d : Core) → Still c d → Goes s c → Goes s d
 goes_still s c d e g = let P : Cursor → Type 0 = λ u. Reaches s u in (subst P (sym e.0) g.0, e.1 ∙ g.1)
-
-pub at_core : (s : Cursor) (c : Core) → Goes s c → At s c.cursor.mark
-at_core s c g = at_further s c.cursor c.cursor.mark g.0 (at_here c.cursor)
 
 pub drop_still : (c : Core) → Told (Still c) c.cursor (drop_far_key c)
 unfolding drop_far_key
