@@ -84,7 +84,8 @@ next_entry_does c e first second =
     (block_begins c tokens.BlockSequenceStart (λ i. absurd (cc)) (λ i p u t h. h) (λ x y. refl) e
     (ap taken.begins_text first))
     (dash (forget_key (enter_block s.mark.col c)) (record d { key_allowed = true }) first second g.0 g.1))))
-    (λ _. walked_then (Premises c) (Behind (pass_on 1 c)) (Doing None c) s (block.pass_dash (pass_on 1 c) >>= remove_key)
+    (λ _. walked_then (Premises c) (Behind (pass_on 1 c)) (Doing None c) s
+    (block.pass_dash (pass_on 1 c) >>= remove_key)
     _ (dash_walked c s (pass_on 1 c) a)
     (λ d g. at_most (omega arith) (and_then (λ n. n)
     (lesser c (forget_key c) (record { block = refl; key = inr refl }) refl (λ n. n) (taken.nothing s.mark s.rest))

@@ -160,7 +160,8 @@ end_marker_walked s col e =
     there t q =
         let P : Cursor → Type 0 = λ u. Reaches s.core.cursor u in
         subst P (sym q) (three_reached 46 s.core.cursor refl refl
-        (and_parts (next_3_are s.core.cursor.rest 46 46 46) (is_blank_or_breakz (slice_index s.core.cursor.rest 3)) e).0)
+        (and_parts (next_3_are s.core.cursor.rest 46 46 46) (is_blank_or_breakz (slice_index s.core.cursor.rest 3))
+        e).0)
 
     by : (t : State) → Documented s t → Reaches s.core.cursor t.core.cursor → (r : Result (SkipTabs × Core) Refusal)
         → Walked (Premises s.core) (λ (x : SkipTabs × Core). Same t.core x.1 × OnLine t.core.cursor x.1.cursor)
@@ -228,7 +229,8 @@ directive_is_no_end (directives.reserved name) = λ i. absurd (cc)
 
 directive_reading : (c : Core) (x : ReadDirective × Marker × Cursor) → c.cursor.mark.col ≡ 0
     → slice_index c.cursor.rest 0 ≡ 37 → directives.directive c.cursor ≡ Ok x
-    → Reading 1 c (record { span = record { start = c.cursor.mark; end = x.1 }; kind = document.directive_kind x.0 }) x.2
+    → Reading 1 c (record { span = record { start = c.cursor.mark; end = x.1 }; kind = document.directive_kind x.0 })
+    x.2
 directive_reading c x col f e = record {
   less = λ laws. let z = laws.directive c.cursor x.2 x.0 x.1 f e in omega (arith, z);
   span = λ laws. let z = laws.directive c.cursor x.2 x.0 x.1 f e in
@@ -248,7 +250,8 @@ directive_reading c x col f e = record {
       let P : Cursor → Type 0 = λ u. AreApart mid u in (
         mid,
         directive_token x.0 c.indent (record { start = s.mark; end = x.1 }) s mid
-            (text, tail, behind, col, r.4, record { is = r.3; start = refl; end = r.7; goes_on = refl }, r.5, refl, r.6),
+            (text, tail, behind, col, r.4, record { is = r.3; start = refl; end = r.7; goes_on = refl }, r.5, refl,
+            r.6),
         subst P (sym r.8) (apart_apart mid.mark mid.rest there.mark there.rest (pass_break there).mark
             (pass_break there).rest second (break_apart there)),
       );

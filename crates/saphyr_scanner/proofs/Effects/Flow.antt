@@ -78,7 +78,8 @@ bracket_read x kind c u b f o =
     let later = apart_later (pass 1 c.cursor).mark (pass 1 c.cursor).rest u.mark u.rest o.apart in
     indicated x c u (bracket_piece kind c u) (stands x kind c.cursor b f) o.apart (omega arith)
     (omega (arith, later.index)) (omega arith)
-    (λ t. b.is c.indent (record { start = c.cursor.mark; end = u.mark }) c.cursor (pass 1 c.cursor) (t, refl, o.on_line))
+    (λ t. b.is c.indent (record { start = c.cursor.mark; end = u.mark }) c.cursor (pass 1 c.cursor)
+    (t, refl, o.on_line))
 
 -- ## `[` and `{`
 
@@ -92,7 +93,8 @@ start_does i kind x b starts flows n c f =
     let d : Core = go_deeper (record c { level = l; required = r }) in
     by_test (nat_le 255 (length d.outer)) _ _ P (λ _ _. at_here c.cursor)
     (λ _. walked_then (Premises c) _ (Doing (Some n) c) c.cursor (separate (pass_on 1 (flow.enter x d))) _
-    (separate_walked c c.cursor (pass_on 1 (flow.enter x d)) (λ _. passes i c.cursor (stands i kind c.cursor b f))) (λ e g.
+    (separate_walked c c.cursor (pass_on 1 (flow.enter x d)) (λ _. passes i c.cursor (stands i kind c.cursor b f)))
+    (λ e g.
     let u : Cursor = e.1.cursor in
     let later = apart_later (pass 1 c.cursor).mark (pass 1 c.cursor).rest u.mark u.rest g.1.apart in
     let behind : Core = record c { cursor = u; level = l; required = r } in

@@ -109,7 +109,8 @@ abbrev pub NoComment : Core → Core → Type 0
 NoComment c d = c.comment ≡ None → d.comment ≡ None
 
 -- one move and another behind it, where the first notes no comment
-pub and_then : {n : Option ℕ} {k l v w : ℕ} {c d e : Core} {front back : List Action} → NoComment c d → Does n k v c d front → Does None l w d e back → Does n (k + l) (v + w) c e (front ++ back)
+pub and_then : {n : Option ℕ} {k l v w : ℕ} {c d e : Core} {front back : List Action} → NoComment c d
+    → Does n k v c d front → Does None l w d e back → Does n (k + l) (v + w) c e (front ++ back)
 and_then {n} {k} {l} {v} {w} {c} {d} {e} {front} {back} m a b = record {
   less = λ laws. let x = a.less laws in let y = b.less laws in omega (arith, x, y);
   ahead = λ laws. ahead_ahead c.cursor d.cursor e.cursor (a.ahead laws) (b.ahead laws);
@@ -231,7 +232,8 @@ pub entered : (x : Context) (c : Core) → is_block x ≡ false → Does None 0 
 entered x c e =
     level_changes c (flow.enter x c) refl refl refl refl (λ n. n) (λ h a. (tt, a))
     (λ columns from q h. record {
-      taken = taken_further columns from c (flow.enter x c) q (taken.nothing c.cursor.mark c.cursor.rest) refl refl h.taken;
+      taken = taken_further columns from c (flow.enter x c) q (taken.nothing c.cursor.mark c.cursor.rest) refl refl
+          h.taken;
       keys = ((λ f. absurd (cc)), tt, h.keys);
     })
 
@@ -254,7 +256,8 @@ left c P f =
         → P (flow.leave_to ls c)
     by [] above keys =
         f at_root [] (level_changes c _ refl refl refl refl (λ n. n) (λ h a. (tt, tt))
-        (λ columns from q h. record { taken = taken_there at_root [] columns from q h.taken; keys = ((λ _. refl), tt, tt) }))
+        (λ columns from q h. record { taken = taken_there at_root [] columns from q h.taken;
+          keys = ((λ _. refl), tt, tt) }))
     by (l ∷ ls) above keys =
         f l ls (level_changes c _ refl refl refl refl (λ n. n) (λ h a. above h a.1)
         (λ columns from q h. record { taken = taken_there l ls columns from q h.taken; keys = keys q h.keys }))
@@ -335,7 +338,8 @@ putting n k v c d t r e s f m few above holds = record {
 pub quiet : (k : ℕ) (c : Core) (t : Piece) (u : Cursor) → is_quiet t.kind ≡ true → IsNoEnd t.kind → Reading k c t u
     → Does None k 1 c (with_cursor u c) (Put t ∷ [])
 quiet k c t u q e r =
-    putting None k 0 c (with_cursor u c) t r e refl refl (λ m. inl m) (omega arith) (λ h _ a. a) (λ laws columns from p _ h.
+    putting None k 0 c (with_cursor u c) t r e refl refl (λ m. inl m) (omega arith) (λ h _ a. a)
+    (λ laws columns from p _ h.
     let w = r.token laws in
     quiet_put columns from c (with_cursor u c) p t c.cursor w.0 q (taken.nothing c.cursor.mark c.cursor.rest) w.1 w.2
     (record { level = refl; outer = refl; indent = refl; outer_indents = refl }) h)
@@ -384,7 +388,8 @@ saved n c d t s a m q e begins start h =
     ap (λ (x : Around). at_most_one x.indent + length x.outer_indents) a in
     putting (Some n) 1 4 c d t h e (ap (λ (x : Around). x.started) a) (ap (λ (x : Around). x.ended) a) m
     (omega (arith, blocks))
-    (λ i b x. let P : List Level → Type 0 = λ ls. LevelsAbove i ls in (saved_above i n c d.level s b x.0, subst P (sym outer) x.1))
+    (λ i b x. let P : List Level → Type 0 = λ ls. LevelsAbove i ls in
+    (saved_above i n c d.level s b x.0, subst P (sym outer) x.1))
     (λ laws columns from p i k.
     let w = h.token laws in
     let Q : ℕ → Type 0 = λ j. IsSaved j c d.level in

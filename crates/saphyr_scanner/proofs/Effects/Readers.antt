@@ -1,5 +1,5 @@
--- The laws of the readers, as they are called: what each takes off, where it ends what it reads, what that is, and where
--- it refuses, from a text that begins with its indicator.
+-- The laws of the readers, as they are called: what each takes off, where it ends what it reads, what that is, and
+-- where it refuses, from a text that begins with its indicator.
 use Rattle.std.proofs.Common.{◌≡◌, ℕ, ◌+◌, ◌≤◌, ◌<◌, ◌⊎◌, Bool, true, false, List, ◌∷◌, ◌++◌, length, Ok, Err}
 use Rattle.std.specs.Prelude.{slice_index, Option, encode_utf8_all}
 use Rattle.saphyr_input.specs.Classes.{is_anchor_char, is_z, is_break, is_breakz}

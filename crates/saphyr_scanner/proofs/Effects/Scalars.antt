@@ -299,7 +299,8 @@ tag_begins text behind handle suffix (inr (inr h)) = ap (λ t. slice_index (t ++
     by (inr e) = ap (λ t. slice_index ((t ++ h.0) ++ behind) 0) e.2
 
 pub name_does : (is_alias : Bool) (x : ℕ) → Named is_alias x → (n : ℕ) (c : Core) → 0 < length c.cursor.rest
-    → slice_index c.cursor.rest 0 ≡ x → Walked (Premises c) (Doing (Some n) c) c.cursor (property.name_steps is_alias n c)
+    → slice_index c.cursor.rest 0 ≡ x
+    → Walked (Premises c) (Doing (Some n) c) c.cursor (property.name_steps is_alias n c)
 unfolding property.name_steps property.read_name
 name_does is_alias x named n c some f =
     let here = c.cursor in

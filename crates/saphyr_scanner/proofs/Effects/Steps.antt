@@ -20,8 +20,8 @@ use Rattle.saphyr_scalar.proofs.Given.{Given, given_bind, given_of}
 
 -- ## The statement
 
--- Of a step whose token has the place of this number, if it may be a key. What the readers take off and where they end is
--- told by their laws, by those that are needed for each.
+-- Of a step whose token has the place of this number, if it may be a key. What the readers take off and where they end
+-- is told by their laws, by those that are needed for each.
 pub record EffectAt (n : ℕ) (c : Core) (x : Step) : Type 0 where
   pub less : Readers → Less x.core.cursor c.cursor
   pub ahead : ReaderEnds → Ahead c.cursor x.core.cursor

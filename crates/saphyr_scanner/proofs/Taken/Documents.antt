@@ -1,4 +1,5 @@
--- What is held behind a document's content and at the stream's end, and which texts are markers' and directives' tokens.
+-- What is held behind a document's content and at the stream's end, and which texts are tokens of markers and
+-- directives.
 use Rattle.std.proofs.Common.{◌≡◌, ℕ, Bool, true, false, List, [], ◌∷◌, ◌++◌, length, drop, None, refl, sym, ap, ◌∙◌, arith, subst, inl, inr}
 use Rattle.std.specs.Prelude.{◌&&◌, ◌==◌, slice_index, codes}
 use Rattle.saphyr_input.specs.Classes.{is_break, is_blank_or_breakz}
