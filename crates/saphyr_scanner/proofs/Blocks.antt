@@ -37,3 +37,29 @@ unfolding unroll
 unrolled_cursor column m s =
     by_test (in_block s.core) _ _ (λ (t : State). t.core.cursor ≡ s.core.cursor)
     (λ _. blocks_cursor column m s.core.outer_indents _ ∙ less_deep_cursor column s.core) (λ _. refl)
+
+-- ## No comment comes
+
+outwards_comment : (is : List ℕ) (c : Core) → (outwards is c).comment ≡ c.comment
+outwards_comment [] c = refl
+outwards_comment (i ∷ is) c = refl
+
+blocks_comment : (column : Option ℕ) (m : Marker) (is : List ℕ) (s : State)
+    → (end_blocks column m is s).core.comment ≡ s.core.comment
+blocks_comment column m [] s =
+    by_test (is_right_of column s.core.indent) _ _ (λ (t : State). t.core.comment ≡ s.core.comment)
+    (λ _. outwards_comment s.core.outer_indents s.core) (λ _. refl)
+blocks_comment column m (i ∷ is) s =
+    by_test (is_right_of column s.core.indent) _ _ (λ (t : State). t.core.comment ≡ s.core.comment)
+    (λ _. blocks_comment column m is (end_block m s) ∙ outwards_comment s.core.outer_indents s.core)
+    (λ _. refl)
+
+less_deep_comment : (column : Option ℕ) (c : Core) → (less_deep column c).comment ≡ c.comment
+less_deep_comment None c = refl
+less_deep_comment (Some column) c = refl
+
+pub unrolled_comment : (column : Option ℕ) (m : Marker) (s : State) → (unroll column m s).core.comment ≡ s.core.comment
+unfolding unroll
+unrolled_comment column m s =
+    by_test (in_block s.core) _ _ (λ (t : State). t.core.comment ≡ s.core.comment)
+    (λ _. blocks_comment column m s.core.outer_indents _ ∙ less_deep_comment column s.core) (λ _. refl)

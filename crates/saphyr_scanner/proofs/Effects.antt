@@ -1,7 +1,11 @@
 -- What each step of the scanner does, in one statement.
 pub mod Readers
 pub mod Steps
+pub mod Moves
 pub mod Flow
+pub mod Values
+pub mod Blocks
 pub mod Scalars
 pub mod States
+pub mod Documents
 pub mod Fetch

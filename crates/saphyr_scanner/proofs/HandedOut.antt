@@ -205,16 +205,16 @@ stream_agrees hs c q p b k =
 -- ## What begins at a place
 
 content_same : (hs : List Place) (first second : ℕ) (c : Core) (q p : Queue) → 0 < length c.cursor.rest
-    → slice_index c.cursor.rest 0 ≡ first → Behind hs q p → Above (length hs) c
+    → slice_index c.cursor.rest 0 ≡ first → slice_index c.cursor.rest 1 ≡ second → Behind hs q p → Above (length hs) c
     → Same hs (state_behind_content first second (at c q)) (state_behind_content first second (at c p))
 unfolding state_behind_content
-content_same hs first second c q p some f b k =
+content_same hs first second c q p some f g b k =
     let n : next q ≡ next p = same_next hs q p b in
     let places = ap length b.places in let l = length-append hs p.places in
     let before : length hs ≤ next q = omega (arith, places, l) in
     let told = acted_same hs (step first second (next q) c) q p b
     (given_map _ _ (step first second (next q) c) (λ x e. e.keeps (length hs) (before, k))
-    (step_effect first second (next q) c some f)) in
+    (step_effect first second (next q) c some f g)) in
     subst (λ (m : ℕ). Same hs (acted (step first second (next q) c) q) (acted (step first second m c) p)) n told
 
 directive_keeps : (h : ℕ) (c : Core) → Above h c → Given (Keeps h) (document.read_directive c)
@@ -238,7 +238,7 @@ here_agrees hs c q p b k =
     (marker_agrees hs tokens.DocumentStart c q p b k)
     (same_if hs ((c.cursor.mark.col == 0) && is_document_end t) _ _ _ _ (end_marker_agrees hs c q p b k)
     (same_if hs (nat_lt c.cursor.mark.col (least_column c)) _ _ _ _ refl
-    (content_same hs (slice_index t 0) (slice_index t 1) c q p (left t z) refl b k))))))
+    (content_same hs (slice_index t 0) (slice_index t 1) c q p (left t z) refl refl b k))))))
 
 arrive_agrees : (hs : List Place) → Agrees hs arrive
 unfolding arrive

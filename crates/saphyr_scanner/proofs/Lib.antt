@@ -13,7 +13,6 @@ pub mod HandedOut
 pub mod Lazy
 pub mod Levels
 pub mod Stacks
-pub mod StillCursors
 pub mod Examples
 pub mod Json
 pub mod InFlow

@@ -5,10 +5,6 @@ pub mod Parts
 pub mod Later
 pub mod Held
 pub mod Cores
-pub mod Flow
-pub mod Values
-pub mod Blocks
-pub mod Scalars
 pub mod States
 pub mod Documents
 pub mod Arrivals

@@ -1,7 +1,7 @@
 -- What is done where a token is fetched, in one statement.
 use Rattle.std.proofs.Common.{◌≡◌, ℕ, ◌+◌, ◌≤◌, ◌<◌, Bool, true, false, List, [], ◌∷◌, ◌++◌, length, Result, Ok, Err, refl, sym, ap, ◌∙◌, arith, cond, subst}
-use Rattle.std.specs.Prelude.{◌&&◌, slice_index, ◌==◌, nat_lt, nat_le, Some, None}
-use Rattle.saphyr_input.specs.Classes.{is_bom, is_z}
+use Rattle.std.specs.Prelude.{codes, ◌&&◌, slice_index, ◌==◌, nat_lt, nat_le, Some, None}
+use Rattle.saphyr_input.specs.Classes.{is_bom, is_z, is_blank_or_breakz}
 use Rattle.saphyr_input.specs.Places.{is_document_start, is_document_end}
 use Rattle.saphyr_scalar.specs.declared.scalar.position.Marker.{Marker}
 use Rattle.saphyr_scalar.specs.declared.scalar.fault.Refusal.{Refusal}
@@ -22,41 +22,59 @@ use Rattle.saphyr_scanner.proofs.Blocks.{unrolled_cursor}
 use Rattle.saphyr_scanner.proofs.Ordered.Queue.{Grows, grows_grows, core_grows, put_grows}
 use Rattle.saphyr_scanner.proofs.Added.Queue.{PlacesGoOn, place_goes_on, due, tokens_put}
 use Rattle.saphyr_scanner.proofs.Effects.Readers.{Readers, ReaderEnds}
-use Rattle.saphyr_scanner.proofs.Effects.Steps.{Effect, EffectAt, from_more, Goes, goes_none, gap_goes, drop_goes}
-use Rattle.saphyr_scanner.proofs.Effects.Flow.{start_effect, end_effect, entry_effect, value_effect, flow_value_effect}
-use Rattle.saphyr_scanner.proofs.Effects.Scalars.{block_entry_effect, key_effect, double_quoted_effect, single_quoted_effect, plain_effect, block_effect, name_effect, tag_effect}
-use Rattle.saphyr_scanner.proofs.Effects.States.{Advances, advances_advances, carried_advances, acted_advances, same_index, unroll_advances, is_marker, marker_advances, end_marker_advances, mark_advances, directive_advances}
-use Rattle.saphyr_input.proofs.Basics.Booleans.{by_test, and_true_right}
+use Rattle.saphyr_scanner.proofs.Effects.Steps.{EffectAt, Goes, goes_none, gap_goes, drop_goes}
+use Rattle.saphyr_scanner.proofs.Effects.Moves.{Premises, Walked, walked_given, Doing, Stepped, walked_step, unsaved_step}
+use Rattle.saphyr_scanner.proofs.Effects.Flow.{open_sequence, open_mapping, close_sequence, close_mapping, sequence_starts, mapping_starts, start_does, end_does, entry_does}
+use Rattle.saphyr_scanner.proofs.Effects.Values.{value_does, flow_value_does}
+use Rattle.saphyr_scanner.proofs.Effects.Blocks.{block_entry_does, key_does}
+use Rattle.saphyr_scanner.proofs.Effects.Scalars.{plain_start, double_quoted_does, single_quoted_does, plain_does, an_alias, an_anchor, name_does, tag_does, block_does}
+use Rattle.saphyr_scanner.proofs.Taken.Places.{at_here}
+use Rattle.saphyr_scanner.proofs.Effects.States.{Advances, advances_advances, carried_advances, acted_advances, same_index, unroll_advances}
+use Rattle.saphyr_scanner.proofs.Effects.Documents.{start_walked, end_marker_walked, mark_walked, directive_walked, documents_advance}
+use Rattle.saphyr_scanner.proofs.Taken.Documents.{start_marking}
+use Rattle.saphyr_input.proofs.Basics.Booleans.{by_test}
 use Rattle.saphyr_scalar.proofs.Given.{Given, given_bind, given_of}
-use Rattle.std.proofs.lemmas.Bool.{eqb-true}
+use Rattle.std.proofs.lemmas.Bool.{and_parts, eqb-true}
 
 -- ## What begins at a place
 
-pub step_effect : (first second n : ℕ) (c : Core) → 0 < length c.cursor.rest → slice_index c.cursor.rest 0 ≡ first
-    → Given (EffectAt n c) (step first second n c)
-step_effect first second n c h f =
-    let still : (r : Steps) → Given (Effect c) r → Given (EffectAt n c) r =
-    λ r e. from_more _ _ (λ i a. a.1) c r e in
-    cases (Given (EffectAt n c)) first second n c (record {
-      sequence = λ _. start_effect context.FlowSequence tokens.FlowSequenceStart n c (λ i. absurd (cc)) h;
-      mapping = λ _. start_effect context.FlowMapping tokens.FlowMappingStart n c (λ i. absurd (cc)) h;
-      sequence_end = λ _. still _ (end_effect true tokens.FlowSequenceEnd c (λ i. absurd (cc)) h);
-      mapping_end = λ _. still _ (end_effect false tokens.FlowMappingEnd c (λ i. absurd (cc)) h);
-      comma = λ _. still _ (entry_effect c h);
-      dash = λ _ _. still _ (block_entry_effect c h);
-      question = λ _ _. still _ (key_effect c h);
-      colon = λ _ _. still _ (value_effect c h);
-      beside = λ _ _. still _ (flow_value_effect second c h);
-      double = λ e. double_quoted_effect n c (f ∙ e);
-      single = λ e. single_quoted_effect n c (f ∙ e);
-      alias = λ _. name_effect true n c h;
-      anchor = λ _. name_effect false n c h;
-      tag = λ e. tag_effect n c (f ∙ e);
-      literal = λ _ _. block_effect block_style.Literal n c h;
-      folded = λ _ _. block_effect block_style.Folded n c h;
-      reserved = tt;
-      plain = λ _. plain_effect n c;
+pub step_does : (first second n : ℕ) (c : Core) → 0 < length c.cursor.rest → slice_index c.cursor.rest 0 ≡ first
+    → slice_index c.cursor.rest 1 ≡ second → Walked (Premises c) (Stepped n c) c.cursor (step first second n c)
+step_does first second n c h f g =
+    let does : (r : Steps) → Walked (Premises c) (Doing (Some n) c) c.cursor r
+    → Walked (Premises c) (Stepped n c) c.cursor r =
+    λ r w. walked_step (Premises c) n c c.cursor r w in
+    let still : (r : Steps) → Walked (Premises c) (Doing None c) c.cursor r
+    → Walked (Premises c) (Stepped n c) c.cursor r =
+    λ r w. unsaved_step (Premises c) n c c.cursor r w in
+    cases (Walked (Premises c) (Stepped n c) c.cursor) first second n c (record {
+      sequence = λ e. does _ (start_does 91 tokens.FlowSequenceStart context.FlowSequence open_sequence sequence_starts
+          refl n c (f ∙ e));
+      mapping = λ e. does _ (start_does 123 tokens.FlowMappingStart context.FlowMapping open_mapping mapping_starts refl
+          n c (f ∙ e));
+      sequence_end = λ e. still _ (end_does 93 tokens.FlowSequenceEnd close_sequence true c (f ∙ e));
+      mapping_end = λ e. still _ (end_does 125 tokens.FlowMappingEnd close_mapping false c (f ∙ e));
+      comma = λ e. still _ (entry_does c (f ∙ e));
+      dash = λ e b. still _ (block_entry_does c (f ∙ e) (ap is_blank_or_breakz g ∙ b));
+      question = λ e b. still _ (key_does c (f ∙ e) (ap is_blank_or_breakz g ∙ b));
+      colon = λ e _. still _ (value_does c (f ∙ e));
+      beside = λ e _. still _ (flow_value_does second c (f ∙ e));
+      double = λ e. does _ (double_quoted_does n c (f ∙ e));
+      single = λ e. does _ (single_quoted_does n c (f ∙ e));
+      alias = λ e. does _ (name_does true 42 an_alias n c h (f ∙ e));
+      anchor = λ e. does _ (name_does false 38 an_anchor n c h (f ∙ e));
+      tag = λ e. does _ (tag_does n c (f ∙ e));
+      literal = λ e b. block_does block_style.Literal n c b h (f ∙ e);
+      folded = λ e b. block_does block_style.Folded n c b h (f ∙ e);
+      reserved = λ _. at_here c.cursor;
+      plain = λ m. does _ (plain_does n c (plain_start first second c f g m));
     })
+
+pub step_effect : (first second n : ℕ) (c : Core) → 0 < length c.cursor.rest → slice_index c.cursor.rest 0 ≡ first
+    → slice_index c.cursor.rest 1 ≡ second → Given (EffectAt n c) (step first second n c)
+step_effect first second n c h f g =
+    walked_given (Premises c) (Stepped n c) (EffectAt n c) c.cursor (step first second n c) (λ x k. k.effect)
+    (step_does first second n c h f g)
 
 -- a place that shows no NUL is a character
 pub left : (t : List ℕ) → is_z (slice_index t 0) ≡ false → 0 < length t
@@ -143,19 +161,21 @@ unfolding fetch_here state_behind_content
 here_fetched s going =
     let t = s.core.cursor.rest in let P = Given (Fetched s) in
     by_test (is_z (slice_index t 0)) _ _ P (λ _. end_fetched s going) (λ z. let h : 0 < length t = left t z in
-    by_test (is_bom (slice_index t 0)) _ _ P (λ _. of_advances s _ going (mark_advances s h))
+    by_test (is_bom (slice_index t 0)) _ _ P (λ e. of_advances s _ going (documents_advance s _ (mark_walked s e)))
     (λ _. by_test ((s.core.cursor.mark.col == 0) && (slice_index t 0 == 37)) _ _ P
-    (λ e. of_advances s _ going (directive_advances s
-    (eqb-true (slice_index t 0) 37 (and_true_right (s.core.cursor.mark.col == 0) _ e))))
+    (λ e. let w = and_parts (s.core.cursor.mark.col == 0) (slice_index t 0 == 37) e in
+    of_advances s _ going (documents_advance s _ (directive_walked s (eqb-true s.core.cursor.mark.col 0 w.0)
+    (eqb-true (slice_index t 0) 37 w.1))))
     (λ _. by_test ((s.core.cursor.mark.col == 0) && is_document_start t) _ _ P
-    (λ e. of_advances s _ going (marker_advances tokens.DocumentStart s (λ i. absurd (cc))
-    (is_marker 45 t refl (and_true_right (s.core.cursor.mark.col == 0) _ e))))
+    (λ e. let w = and_parts (s.core.cursor.mark.col == 0) (is_document_start t) e in
+    of_advances s _ going (documents_advance s _ (start_walked is_document_start (codes "---") tokens.DocumentStart
+    start_marking (λ i. absurd (cc)) s (eqb-true s.core.cursor.mark.col 0 w.0) w.1)))
     (λ _. by_test ((s.core.cursor.mark.col == 0) && is_document_end t) _ _ P
-    (λ e. of_advances s _ going (end_marker_advances s
-    (is_marker 46 t refl (and_true_right (s.core.cursor.mark.col == 0) _ e))))
+    (λ e. let w = and_parts (s.core.cursor.mark.col == 0) (is_document_end t) e in
+    of_advances s _ going (documents_advance s _ (end_marker_walked s (eqb-true s.core.cursor.mark.col 0 w.0) w.1)))
     (λ _. by_test (nat_lt s.core.cursor.mark.col (least_column s.core)) _ _ P (λ _. tt)
     (λ _. of_advances s _ going (acted_advances _ s (step (slice_index t 0) (slice_index t 1) (next s.queue) s.core)
-    (step_effect (slice_index t 0) (slice_index t 1) (next s.queue) s.core h refl))))))))
+    (step_effect (slice_index t 0) (slice_index t 1) (next s.queue) s.core h refl refl))))))))
 
 -- what stands before the next token is passed
 pub arrival_goes : (c : Core) → Given (Goes 0 c.cursor c) (pass_gap c >>= drop_far_key)

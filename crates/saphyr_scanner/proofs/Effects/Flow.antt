@@ -1,174 +1,168 @@
--- The effect of each step of flow collections and of values.
-use Rattle.std.proofs.Common.{◌≡◌, ℕ, ◌<◌, Bool, true, false, List, [], ◌∷◌, ◌++◌, length, refl, ap, arith}
-use Rattle.std.specs.Prelude.{◌&&◌, ◌||◌, slice_index, not, ◌==◌, nat_lt, nat_le, Option, Some, None, if◌then◌else◌}
-use Rattle.saphyr_input.specs.Classes.{is_alpha}
-use Rattle.saphyr_input.specs.Separation.{has_valid_yaml_ws}
+-- What each step of flow collections does.
+use Rattle.std.proofs.Common.{◌≡◌, ℕ, ◌<◌, Bool, true, false, [], ◌∷◌, length, Some, None, refl, sym, ap, arith, subst, inl, inr, IsTrue}
+use Rattle.std.specs.Prelude.{◌&&◌, ◌==◌, slice_index, nat_le}
+use Rattle.saphyr_input.specs.Classes.{is_break}
+use Rattle.saphyr_scalar.specs.declared.scalar.position.Marker.{Marker}
+use Rattle.saphyr_scalar.specs.declared.scalar.position.Span.{Span}
 use Rattle.saphyr_scalar.specs.Views.Cursor.{Cursor, ◌>>=◌, pass}
 use Rattle.saphyr_scanner.specs.declared.engine.level.Context.{Context}
+use Rattle.saphyr_scanner.specs.declared.engine.level.Context.TheVariants as context
 use Rattle.saphyr_scanner.specs.Grammar.Tokens as tokens
 use Rattle.saphyr_scanner.specs.Grammar.Tokens.{Kind}
-use Rattle.saphyr_scanner.specs.Steps.Core.{Candidate, Level, Core, Action, from_to, at_mark, in_block, remove_key, is_further, go_deeper, roll, with_context}
-use Rattle.saphyr_scanner.specs.Steps.Passing.{pass_on}
+use Rattle.saphyr_scanner.specs.Views.Tokens.{Piece}
+use Rattle.saphyr_scanner.specs.Steps.Queue.{empty_piece}
+use Rattle.saphyr_scanner.specs.Steps.Core.{Core, is_block, in_block, forget_key, remove_key, go_deeper, up_to_here, with_context, went}
+use Rattle.saphyr_scanner.specs.Steps.Passing.{separate, pass_on, with_cursor}
 use Rattle.saphyr_scanner.specs.Steps.Flow as flow
-use Rattle.saphyr_scanner.specs.Steps.Value as value
-use Rattle.saphyr_scanner.specs.Steps.Fetch as fetching
-use Rattle.saphyr_scanner.proofs.Counted.{stays}
+use Rattle.saphyr_scanner.specs.TokensTaken as taken
+use Rattle.saphyr_scanner.specs.TokensTaken.{IsToken, IsFlowIndicator, begins_text}
 use Rattle.saphyr_scanner.proofs.Added.Queue.{IsNoEnd}
-use Rattle.saphyr_scanner.proofs.Taken.Candidates.{KeyAbove, LevelsAbove, Above}
-use Rattle.saphyr_scanner.proofs.Effects.Steps.{Read, one, read_on, whole, Effect, EffectAt, from_more, effect, one_put, Begins, begins_none, begins_forgotten, Goes, behind_blanks, roll_goes, behind_saving}
+use Rattle.saphyr_scanner.proofs.Effects.Moves.{Does, and_then, Same, same, same_same, lesser, further, entered, left, Reading, empty_reading, Stands, passes, indicated, quiet, saving, saved, Premises, Walked, walked_then, walked_map, at_most, Doing, separate_walked}
+use Rattle.saphyr_scanner.proofs.LineTails.{OnLine}
+use Rattle.saphyr_scanner.proofs.Taken.Later.{apart_later}
+use Rattle.saphyr_scanner.proofs.Taken.Parts.{is_quiet, Begins}
+use Rattle.saphyr_scanner.proofs.Taken.Places.{at_here}
 use Rattle.saphyr_input.proofs.Basics.Booleans.{by_test}
-use Rattle.saphyr_scalar.proofs.Given.{Given, given_bind, given_of}
 
--- ## Indicators
+-- a bracket or a comma
+pub record Bracket (x : ℕ) (kind : Kind) : Type 0 where
+  pub some : (x == 0) ≡ false
+  pub unbroken : is_break x ≡ false
+  pub quiet : is_quiet kind ≡ true
+  pub no_end : IsNoEnd kind
+  pub is : (i : ℕ) (span : Span) (s t : Cursor) → IsFlowIndicator x span s t → IsToken i kind span s t
 
--- behind the first character
-pub behind_one : (n : ℕ) (c d : Core) → d.cursor ≡ c.cursor → Begins n c d → Goes n (pass 1 c.cursor) c (pass_on 1 d)
-behind_one n c d e g = (stays (pass 1 c.cursor) (pass 1 d.cursor) (ap (pass 1) e), g)
+abbrev pub IsStart : Kind → Type 0
+IsStart kind = (span : Span) → span.start.index < span.end.index → Begins (record { span = span; kind = kind })
 
--- an indicator, with what stands behind it on its line, and the end of a pair that may stand in front of it
-indicator : (ends : Bool) (c d : Core) (kind : Kind) → IsNoEnd kind → 0 < length c.cursor.rest
-    → Goes 0 (pass 1 c.cursor) c d
-    → Effect c (record {
-      core = d;
-      actions = flow.behind_pair ends c.cursor.mark (from_to c.cursor.mark d.cursor.mark kind);
-    })
-indicator ends c d kind k h g =
-    one_put ends 0 c d c.cursor.mark d.cursor.mark tokens.FlowMappingEnd kind (omega arith) (λ i. absurd (cc)) k
-    (whole c.cursor _ _ d.cursor (read_on c.cursor _ _ (pass 1 c.cursor) d.cursor (one c.cursor h) g.0)) g.1
+pub open_sequence : Bracket 91 tokens.FlowSequenceStart
+open_sequence =
+    record { some = refl; unbroken = refl; quiet = refl; no_end = λ i. absurd (cc); is = λ i span s t h. h }
 
--- ## Flow collections
+pub open_mapping : Bracket 123 tokens.FlowMappingStart
+open_mapping =
+    record { some = refl; unbroken = refl; quiet = refl; no_end = λ i. absurd (cc); is = λ i span s t h. inl h }
 
-open_effect : (x : Context) (kind : Kind) (c : Core) → IsNoEnd kind → 0 < length c.cursor.rest
-    → Given (Effect c) (flow.open_collection x kind c)
-unfolding flow.open_collection
-open_effect x kind c k h =
-    by_test (nat_le 255 (length c.outer)) _ _ (Given (Effect c)) (λ _. tt)
-    (λ _. behind_blanks (Effect c) 0 (pass 1 c.cursor) c (pass_on 1 (flow.enter x c)) _
-    (behind_one 0 c (flow.enter x c) refl (refl, refl, omega arith, λ i a. (tt, a)))
-    (λ e g. indicator false c e.1 kind k h g))
+pub close_sequence : Bracket 93 tokens.FlowSequenceEnd
+close_sequence =
+    record { some = refl; unbroken = refl; quiet = refl; no_end = λ i. absurd (cc); is = λ i span s t h. h }
 
-pub start_effect : (x : Context) (kind : Kind) (n : ℕ) (c : Core) → IsNoEnd kind → 0 < length c.cursor.rest
-    → Given (EffectAt n c) (flow.opening_steps x kind n c)
-unfolding flow.opening_steps
-start_effect x kind n c k h =
-    behind_saving n c (λ s. 0 < length s.rest) (λ d. flow.open_collection x kind (go_deeper d)) h
-    (λ d some. open_effect x kind (go_deeper d) k some)
+pub close_mapping : Bracket 125 tokens.FlowMappingEnd
+close_mapping =
+    record { some = refl; unbroken = refl; quiet = refl; no_end = λ i. absurd (cc); is = λ i span s t h. inl h }
 
-left_goes : (ls : List Level) (c : Core) → ((h : ℕ) → LevelsAbove h c.outer → LevelsAbove h ls)
-    → Goes 0 (pass 1 c.cursor) c (pass_on 1 (flow.leave_to ls c))
-left_goes [] c w = behind_one 0 c (flow.leave_to [] c) refl (refl, refl, omega arith, λ h a. (tt, tt))
-left_goes (l ∷ ls) c w = behind_one 0 c (flow.leave_to (l ∷ ls) c) refl (refl, refl, omega arith, λ h a. w h a.1)
+comma : Bracket 44 tokens.FlowEntry
+comma = record { some = refl; unbroken = refl; quiet = refl; no_end = λ i. absurd (cc); is = λ i span s t h. h }
 
--- behind what is closed a colon may stand at once
-with_adjacent : (c d : Core) (actions : List Action) → Effect c (record { core = d; actions = actions })
-    → Effect c (record { core = flow.allow_adjacent d; actions = actions })
-with_adjacent c d actions x =
-    by_test (in_block d) _ _ (λ (e : Core). Effect c (record { core = e; actions = actions })) (λ _. x)
-    (λ _. record {
-      less = x.less;
-      ahead = x.ahead;
-      puts = x.puts;
-      started = x.started;
-      ended = x.ended;
-      goes_on = x.goes_on;
-      few = x.few;
-      keeps = x.keeps;
-    })
+pub sequence_starts : IsStart tokens.FlowSequenceStart
+sequence_starts span l i s u h = (h.1, ap (λ t. begins_text (slice_index t 0)) h.0.0)
 
-close_effect : (ends : Bool) (kind : Kind) (c : Core) → IsNoEnd kind → 0 < length c.cursor.rest
-    → Given (Effect c) (flow.close_collection ends kind c)
-unfolding flow.close_collection
-close_effect ends kind c k h =
-    behind_blanks (Effect c) 0 (pass 1 c.cursor) c (pass_on 1 (flow.leave c)) _ (left_goes c.outer c (λ i a. a))
-    (λ e g. with_adjacent c e.1 _ (indicator ends c e.1 kind k h g))
+pub mapping_starts : IsStart tokens.FlowMappingStart
+mapping_starts span l i s u h = by h
+  where
+    by : IsToken i tokens.FlowMappingStart span s u
+        → (span.start ≡ s.mark) × IsTrue (begins_text (slice_index s.rest 0))
+    by (inl k) = (k.1, ap (λ t. begins_text (slice_index t 0)) k.0.0)
+    by (inr k) = absurd (let e : span.end.index ≡ span.start.index =
+        ap (λ (m : Marker). m.index) k.0 in omega (arith, e, l))
 
-pub end_effect : (sequence : Bool) (kind : Kind) (c : Core) → IsNoEnd kind → 0 < length c.cursor.rest
-    → Given (Effect c) (flow.closing_steps sequence kind c)
-unfolding flow.closing_steps
-end_effect sequence kind c k h =
-    by_test (in_block c) _ _ (Given (Effect c)) (λ _. tt)
-    (λ _. close_effect (sequence && flow.ends_pair c.level.context) kind c k h)
+stands : (x : ℕ) (kind : Kind) (s : Cursor) → Bracket x kind → slice_index s.rest 0 ≡ x → Stands x s
+stands x kind s b f = record { some = b.some; unbroken = b.unbroken; is = f }
 
-next_entry_effect : (c : Core) → 0 < length c.cursor.rest → Given (Effect c) (flow.next_flow_entry c)
-unfolding flow.next_flow_entry
-next_entry_effect c h =
-    let d : Core = with_context (flow.behind_entry c.level.context) (record c { key_allowed = true }) in
-    behind_blanks (Effect c) 0 (pass 1 c.cursor) c (pass_on 1 d) _ (behind_one 0 c d refl (begins_none c))
-    (λ e g. indicator (flow.ends_pair c.level.context) c e.1 tokens.FlowEntry (λ i. absurd (cc)) h g)
+abbrev bracket_piece : Kind → Core → Cursor → Piece
+bracket_piece kind c u = record { span = record { start = c.cursor.mark; end = u.mark }; kind = kind }
 
-pub entry_effect : (c : Core) → 0 < length c.cursor.rest → Given (Effect c) (flow.flow_entry_steps c)
-unfolding flow.flow_entry_steps remove_key
-entry_effect c h =
-    by_test (in_block c && c.required) _ _ (λ r. Given (Effect c) (r >>= flow.next_flow_entry)) (λ _. tt)
-    (λ _. from_more _ _ (λ i a. (tt, a.1)) c (flow.next_flow_entry _) (next_entry_effect _ h))
+bracket_read : (x : ℕ) (kind : Kind) (c : Core) (u : Cursor) → Bracket x kind → slice_index c.cursor.rest 0 ≡ x
+    → OnLine (pass 1 c.cursor) u → Reading 1 c (bracket_piece kind c u) u
+bracket_read x kind c u b f o =
+    let later = apart_later (pass 1 c.cursor).mark (pass 1 c.cursor).rest u.mark u.rest o.apart in
+    indicated x c u (bracket_piece kind c u) (stands x kind c.cursor b f) o.apart (omega arith)
+    (omega (arith, later.index)) (omega arith)
+    (λ t. b.is c.indent (record { start = c.cursor.mark; end = u.mark }) c.cursor (pass 1 c.cursor)
+    (t, refl, o.on_line))
 
--- ## Values
+-- ## `[` and `{`
 
-tab_goes : (s : Cursor) (c d : Core) → Goes 0 s c d → Given (Goes 0 s c) (value.check_tab d)
-unfolding value.check_tab
-tab_goes s c d g =
-    by_test (slice_index d.cursor.rest 0 == 9) _ _ (Given (Goes 0 s c))
-    (λ _. behind_blanks (Goes 0 s c) 0 s c d value.refuse_lone_tab g (λ x k.
-    by_test (in_block x.1 && not (has_valid_yaml_ws x.0)
-    && ((slice_index x.1.cursor.rest 0 == 45) || is_alpha (slice_index x.1.cursor.rest 0))) _ _ (Given (Goes 0 s c))
-    (λ _. tt) (λ _. k)))
-    (λ _. g)
+pub start_does : (i : ℕ) (kind : Kind) (x : Context) → Bracket i kind → IsStart kind → is_block x ≡ false → (n : ℕ)
+    (c : Core) → slice_index c.cursor.rest 0 ≡ i
+    → Walked (Premises c) (Doing (Some n) c) c.cursor (flow.opening_steps x kind n c)
+unfolding flow.opening_steps flow.open_collection
+start_does i kind x b starts flows n c f =
+    let P = Walked (Premises c) (Doing (Some n) c) c.cursor in
+    saving n c (λ d. P (flow.open_collection x kind (go_deeper d))) (λ l r s.
+    let d : Core = go_deeper (record c { level = l; required = r }) in
+    by_test (nat_le 255 (length d.outer)) _ _ P (λ _ _. at_here c.cursor)
+    (λ _. walked_then (Premises c) _ (Doing (Some n) c) c.cursor (separate (pass_on 1 (flow.enter x d))) _
+    (separate_walked c c.cursor (pass_on 1 (flow.enter x d)) (λ _. passes i c.cursor (stands i kind c.cursor b f)))
+    (λ e g.
+    let u : Cursor = e.1.cursor in
+    let later = apart_later (pass 1 c.cursor).mark (pass 1 c.cursor).rest u.mark u.rest g.1.apart in
+    let behind : Core = record c { cursor = u; level = l; required = r } in
+    and_then (λ n. n)
+    (saved n c behind (bracket_piece kind c u) s refl (λ m. inl m) b.quiet b.no_end
+    (starts (record { start = c.cursor.mark; end = u.mark }) (omega (arith, later.index))) refl
+    (bracket_read i kind c u b f g.1))
+    (and_then (λ n. n) (entered x behind flows)
+    (further (flow.enter x behind) e.1 g.0 (taken.nothing u.mark u.rest))))))
 
--- tokens without characters, of which the first two may be left out
-alone_effect : (begins further : Bool) (c d : Core) → Read c.cursor c.cursor.mark c.cursor.mark d.cursor → Begins 2 c d
-    → Effect c (record {
-      core = d;
-      actions =
-          (if begins then at_mark c.cursor.mark tokens.FlowMappingStart ∷ [] else [])
-          ++ ((if further then at_mark c.cursor.mark tokens.BlockMappingStart ∷ [] else [])
-          ++ at_mark c.cursor.mark tokens.Value ∷ []);
-    })
-alone_effect true true c d r g =
-    effect 2 c d _ _ _ r g
-    (λ laws. let w = (r.span laws).ends in
-    (omega arith, omega arith, (omega arith, omega arith, (omega arith, omega arith, w))))
-    (λ i. absurd (cc), (λ i. absurd (cc), (λ i. absurd (cc), tt))) (omega arith) (λ h x. tt)
-alone_effect true false c d r g =
-    effect 2 c d _ _ _ r g
-    (λ laws. let w = (r.span laws).ends in (omega arith, omega arith, (omega arith, omega arith, w)))
-    (λ i. absurd (cc), (λ i. absurd (cc), tt)) (omega arith) (λ h x. tt)
-alone_effect false true c d r g =
-    effect 2 c d _ _ _ r g
-    (λ laws. let w = (r.span laws).ends in (omega arith, omega arith, (omega arith, omega arith, w)))
-    (λ i. absurd (cc), (λ i. absurd (cc), tt)) (omega arith) (λ h x. tt)
-alone_effect false false c d r g =
-    effect 2 c d _ _ _ r g (λ laws. let w = (r.span laws).ends in (omega arith, omega arith, w))
-    (λ i. absurd (cc), tt) (omega arith) (λ h x. tt)
+-- ## The end of a collection or an entry
 
-value_effect_of : (k : Option Candidate) (begins : Bool) (c d : Core) → 0 < length c.cursor.rest
-    → ((i : ℕ) → Above i d → KeyAbove i k) → Goes 0 (pass 1 c.cursor) c d
-    → Given (Effect c) (value.behind_key k begins c.cursor.mark d)
-unfolding value.behind_key value.of_key value.alone value.begin_alone
-value_effect_of (Some k) begins c d h w g =
-    by_test (begins && nat_lt k.mark.line c.cursor.mark.line) _ _ (Given (Effect c)) (λ _. tt)
-    (λ _. let p = roll_goes k.mark.col (pass 1 c.cursor) c d g in
-    let r = read_on c.cursor _ _ (pass 1 c.cursor) (roll k.mark.col d).cursor (one c.cursor h) p.0 in
-    effect 2 c _ _ _ _ r (begins_forgotten 2 c (roll k.mark.col d) p.1)
-    (λ laws. let y = (r.span laws).ends in (omega arith, omega arith, y)) (λ i. absurd (cc), tt) (omega arith)
-    (λ i a. (w i (g.1.3 i a), tt)))
-value_effect_of None begins c d h w g =
-    by_test (in_block d && not d.key_allowed) _ _ (Given (Effect c)) (λ _. tt)
-    (λ _. let p = roll_goes c.cursor.mark.col (pass 1 c.cursor) c d g in
-    alone_effect begins (is_further c.cursor.mark.col d) c _
-    (read_on c.cursor _ _ (pass 1 c.cursor) (roll c.cursor.mark.col d).cursor (one c.cursor h) p.0) p.1)
+-- behind a bracket or a comma, and before it the end of a pair
+closed : (x : ℕ) (kind : Kind) → Bracket x kind → (b c : Core) (ends : Bool) → slice_index c.cursor.rest 0 ≡ x
+    → (f : Core → Core) → ((e : Core) → Same e (f e) × ((f e).cursor ≡ e.cursor))
+    → Walked (Premises b) (Doing None c) c.cursor
+    (separate (pass_on 1 c) >>= λ e. went (flow.behind_pair ends c.cursor.mark (up_to_here c.cursor.mark kind e.1))
+    (f e.1))
+closed x kind bracket b c ends first f alike =
+    walked_then (Premises b) _ (Doing None c) c.cursor (separate (pass_on 1 c)) _
+    (separate_walked b c.cursor (pass_on 1 c) (λ _. passes x c.cursor (stands x kind c.cursor bracket first))) (λ e g.
+    let u : Cursor = e.1.cursor in
+    let k = alike e.1 in
+    let P : Cursor → Type 0 = λ v. taken.AreApart u v in
+    let token : Does None 1 1 c (f e.1) (up_to_here c.cursor.mark kind e.1 ∷ []) = and_then (λ n. n)
+    (quiet 1 c (bracket_piece kind c u) u bracket.quiet bracket.no_end (bracket_read x kind c u bracket first g.1))
+    (further (with_cursor u c) (f e.1) (same_same c e.1 (f e.1) g.0 k.0)
+    (subst P (sym k.1) (taken.nothing u.mark u.rest))) in
+    by_test ends _ _ (λ actions. Does None 1 5 c (f e.1) actions)
+    (λ _. at_most (omega arith) (and_then (λ n. n)
+    (quiet 0 c (empty_piece c.cursor.mark tokens.FlowMappingEnd) c.cursor refl (λ i. absurd (cc))
+    (empty_reading c tokens.FlowMappingEnd (inr (refl, inl refl, refl)))) token))
+    (λ _. at_most (omega arith) token))
 
-pub value_effect : (c : Core) → 0 < length c.cursor.rest → Given (Effect c) (value.value_steps c)
-unfolding value.value_steps
-value_effect c h =
-    let d : Core = with_context (value.behind_colon c.level.context) c in
-    given_bind (Effect c) (value.check_tab (pass_on 1 d)) _ (λ e q.
-    value_effect_of e.level.key (value.begins_pair c.level.context) c e h (λ i a. a.0)
-    (given_of (Goes 0 (pass 1 c.cursor) c) (value.check_tab (pass_on 1 d)) e
-    (tab_goes (pass 1 c.cursor) c (pass_on 1 d) (behind_one 0 c d refl (begins_none c))) q))
+adjacent_same : (c : Core) → Same c (flow.allow_adjacent c) × ((flow.allow_adjacent c).cursor ≡ c.cursor)
+adjacent_same c =
+    by_test (in_block c) _ _ (λ (d : Core). Same c d × (d.cursor ≡ c.cursor)) (λ _. (same c, refl))
+    (λ _. ((refl, refl, λ n. n), refl))
 
-pub flow_value_effect : (second : ℕ) (c : Core) → 0 < length c.cursor.rest
-    → Given (Effect c) (fetching.flow_value second c)
-unfolding fetching.flow_value
-flow_value_effect second c h =
-    by_test (not (c.cursor.mark.index == c.adjacent) && ((second == 91) || (second == 123))) _ _ (Given (Effect c))
-    (λ _. tt) (λ _. value_effect c h)
+pub end_does : (i : ℕ) (kind : Kind) → Bracket i kind → (sequence : Bool) (c : Core) → slice_index c.cursor.rest 0 ≡ i
+    → Walked (Premises c) (Doing None c) c.cursor (flow.closing_steps sequence kind c)
+unfolding flow.closing_steps flow.close_collection
+end_does i kind b sequence c first =
+    let ends = sequence && flow.ends_pair c.level.context in
+    by_test (in_block c) _ _ (Walked (Premises c) (Doing None c) c.cursor) (λ _ _. at_here c.cursor)
+    (λ _. left c
+    (λ d. Walked (Premises c) (Doing None c) c.cursor
+    (separate (pass_on 1 d) >>= λ e. went
+    (flow.behind_pair ends c.cursor.mark (up_to_here c.cursor.mark kind e.1)) (flow.allow_adjacent e.1)))
+    (λ l ls m.
+    let d : Core = record c { level = l; outer = ls; key_allowed = false } in
+    walked_map (Premises c) (Doing None d) (Doing None c) c.cursor _ (λ x k. and_then (λ n. n) m k)
+    (closed i kind b c d ends first flow.allow_adjacent adjacent_same)))
+
+entry_block : (x : Context) → is_block (flow.behind_entry x) ≡ is_block x
+entry_block context.Block = refl
+entry_block _ = refl
+
+pub entry_does : (c : Core) → slice_index c.cursor.rest 0 ≡ 44
+    → Walked (Premises c) (Doing None c) c.cursor (flow.flow_entry_steps c)
+unfolding flow.flow_entry_steps flow.next_flow_entry remove_key
+entry_does c first =
+    let d : Core = with_context (flow.behind_entry c.level.context) (record (forget_key c) { key_allowed = true }) in
+    by_test (in_block c && c.required) _ _
+    (λ r. Walked (Premises c) (Doing None c) c.cursor (r >>= flow.next_flow_entry)) (λ _ _. at_here c.cursor)
+    (λ _. walked_map (Premises c) (Doing None d) (Doing None c) c.cursor _
+    (λ x k. and_then (λ n. n)
+    (lesser c d (record { block = entry_block c.level.context; key = inr refl }) refl (λ n. n)
+    (taken.nothing c.cursor.mark c.cursor.rest)) k)
+    (closed 44 tokens.FlowEntry comma c d (flow.ends_pair c.level.context) first (λ e. e)
+    (λ e. (same e, refl))))

@@ -1,22 +1,39 @@
--- The laws of the readers, as they are called: what each takes off, and where it ends what it reads, from a text that
--- begins with its indicator.
-use Rattle.std.proofs.Common.{◌≡◌, ℕ, ◌≤◌, ◌<◌, Bool, List, length, Ok}
-use Rattle.std.specs.Prelude.{slice_index, Option}
+-- The laws of the readers, as they are called: what each takes off, where it ends what it reads, what that is, and
+-- where it refuses, from a text that begins with its indicator.
+use Rattle.std.proofs.Common.{◌≡◌, ℕ, ◌+◌, ◌≤◌, ◌<◌, ◌⊎◌, Bool, true, false, List, ◌∷◌, ◌++◌, length, Ok, Err}
+use Rattle.std.specs.Prelude.{slice_index, Option, encode_utf8_all}
+use Rattle.saphyr_input.specs.Classes.{is_anchor_char, is_z, is_break, is_breakz}
+use Rattle.saphyr_input.specs.Places.{is_blank_or_break}
+use Rattle.saphyr_input.specs.declared.input.SkipTabs.{SkipTabs}
 use Rattle.scalar_values.specs.declared.block.BlockStyle.{BlockStyle}
 use Rattle.scalar_values.specs.declared.flow.Quote.{Quote}
 use Rattle.scalar_values.specs.declared.flow.Quote.TheVariants.{Single, Double}
+use Rattle.scalar_values.specs.declared.folding.Item.{Item}
 use Rattle.scalar_values.specs.Flow.{mark}
+use Rattle.scalar_values.specs.Folding.{folded}
 use Rattle.saphyr_scalar.specs.declared.scalar.position.Marker.{Marker}
 use Rattle.saphyr_scalar.specs.declared.scalar.position.Span.{Span}
+use Rattle.saphyr_scalar.specs.declared.scalar.fault.Refusal.{Refusal}
+use Rattle.saphyr_scalar.specs.Passing.{IsPassed}
+use Rattle.saphyr_scalar.specs.Reading.BlockText.{IsBlockText}
+use Rattle.saphyr_scalar.specs.Reading.Plain.{IsPlainReading}
+use Rattle.saphyr_scalar.specs.RefusedInside.{IsRefusedInside}
+use Rattle.saphyr_scalar.specs.Spelling.Directive.{IsReadDirective, IsLineTail}
+use Rattle.saphyr_scalar.specs.Spelling.Quoted.{IsQuotedText}
+use Rattle.saphyr_scalar.specs.Spelling.QuotedMarkers.{HasNoMarker}
+use Rattle.saphyr_scalar.specs.Spelling.Tag.{IsAnchorName, IsTagText, EndsTag}
 use Rattle.saphyr_scalar.specs.Steps.Anchor as anchors
 use Rattle.saphyr_scalar.specs.Steps.Block as blocks
-use Rattle.saphyr_scalar.specs.Views.Cursor.{Cursor}
+use Rattle.saphyr_scalar.specs.Views.Cursor.{Cursor, along, pass_break, separation}
 use Rattle.saphyr_scalar.specs.Steps.Directive as directives
 use Rattle.saphyr_scalar.specs.Steps.Directive.{ReadDirective}
 use Rattle.saphyr_scalar.specs.Steps.Plain as words
 use Rattle.saphyr_scalar.specs.Steps.Quoted as quoted
+use Rattle.saphyr_scalar.specs.Steps.Quoted.{at}
 use Rattle.saphyr_scalar.specs.Steps.Tag as tags
+use Rattle.saphyr_scanner.specs.TokensTaken as taken
 use Rattle.saphyr_scanner.proofs.Counted.{Ahead}
+use Rattle.saphyr_scanner.proofs.Taken.Later.{top}
 
 -- ## What is taken off
 
@@ -78,3 +95,57 @@ pub record ReaderEnds : Type 0 where
       → tags.tag in_flow s ≡ Ok (handle, suffix, t) → Ahead s t
   pub directive : (s t : Cursor) (d : ReadDirective) (end : Marker) → slice_index s.rest 0 ≡ 37
       → directives.directive s ≡ Ok (d, end, t) → Reads s end t
+
+-- ## What it reads, and where it refuses
+
+-- where a block scalar stands, and that it ends behind its line or at the end
+pub record BlockPlace (s : Cursor) (span : Span) (t : Cursor) : Type 0 where
+  pub passes : IsPassed s.mark s.rest t.mark t.rest
+  pub end : span.end ≡ t.mark
+  pub line : s.mark.line < top → (s.mark.line < t.mark.line) ⊎ (is_z (slice_index t.rest 0) ≡ true)
+
+-- what the laws of the readers say
+pub record TextLaws : Type 0 where
+  pub plain : (in_flow : Bool) (indent : ℕ) (s t : Cursor) (text : List ℕ) (end : Marker) (comment : Option Marker)
+      → words.plain in_flow indent s ≡ Ok (text, end, comment, t) → IsPlainReading s text end t
+  pub quotes : (quote : Quote) (indent : ℕ) (s t : Cursor) (text : List ℕ) → slice_index s.rest 0 ≡ mark quote
+      → quoted.quoted quote indent s ≡ Ok (text, t)
+      → (items : List Item) × (is : IsQuotedText quote s.rest items t.rest) × (encode_utf8_all (folded items) ≡ text)
+      × IsPassed s.mark s.rest t.mark t.rest × HasNoMarker quote is.0 items t.rest is.2
+  pub ink : (in_flow : Bool) (indent : ℕ) (s t : Cursor) (text : List ℕ) (end : Marker) (comment : Option Marker)
+      → words.plain in_flow indent s ≡ Ok (text, end, comment, t) → is_blank_or_break (slice_index s.rest 0) ≡ false
+  pub block_text : (style : BlockStyle) (indent : ℕ) (s t : Cursor) (text : List ℕ) (span : Span)
+      → slice_index s.rest 0 ≡ taken.block_indicator style → blocks.block_scalar style indent s ≡ Ok (text, span, t)
+      → IsBlockText style indent s text span.start t
+  pub block_place : (style : BlockStyle) (indent : ℕ) (s t : Cursor) (text : List ℕ) (span : Span)
+      → slice_index s.rest 0 ≡ taken.block_indicator style → blocks.block_scalar style indent s ≡ Ok (text, span, t)
+      → BlockPlace s span t
+  pub name : (s t : Cursor) (text : List ℕ) → 0 < length s.rest → anchors.anchor s ≡ Ok (text, t)
+      → (indicator : ℕ) × (name : List ℕ) × (s.rest ≡ indicator ∷ (name ++ t.rest)) × IsAnchorName name
+      × (is_anchor_char (slice_index t.rest 0) ≡ false) × (t ≡ at (along s.mark (1 + length name)) t.rest)
+      × (encode_utf8_all name ≡ text)
+  pub tag : (in_flow : Bool) (s u : Cursor) (front back : List ℕ) → slice_index s.rest 0 ≡ 33
+      → tags.tag in_flow s ≡ Ok (front, back, u)
+      → (t : List ℕ) × (handle : List ℕ) × (suffix : List ℕ) × (s.rest ≡ t ++ u.rest) × IsTagText t handle suffix
+      × EndsTag in_flow u.rest × (u ≡ at (along s.mark (length t)) u.rest) × (encode_utf8_all handle ≡ front)
+      × (encode_utf8_all suffix ≡ back)
+  pub directive : (s u : Cursor) (d : ReadDirective) (end : Marker) → slice_index s.rest 0 ≡ 37
+      → directives.directive s ≡ Ok (d, end, u)
+      → (t : List ℕ) × (tail : List ℕ) × (x : List ℕ) × (s.rest ≡ t ++ (tail ++ x)) × IsReadDirective d t
+      × IsLineTail tail × (is_breakz (slice_index x 0) ≡ true) × (end ≡ along s.mark (length t))
+      × (u ≡ pass_break (at (along s.mark (length t + length tail)) x))
+
+-- what the laws of the readers say of their refusals
+pub record RefusalLaws : Type 0 where
+  pub name : (s : Cursor) (e : Refusal) → anchors.anchor s ≡ Err e → e.mark ≡ s.mark
+  pub tag : (in_flow : Bool) (s : Cursor) (e : Refusal) → tags.tag in_flow s ≡ Err e → e.mark ≡ s.mark
+  pub separation : (tabs : SkipTabs) (s : Cursor) (e : Refusal) → separation tabs s ≡ Err e → IsRefusedInside s e
+  pub directive : (s : Cursor) (e : Refusal) → slice_index s.rest 0 ≡ 37 → directives.directive s ≡ Err e
+      → IsRefusedInside s e
+  pub quotes : (quote : Quote) (indent : ℕ) (s : Cursor) (e : Refusal) → slice_index s.rest 0 ≡ mark quote
+      → quoted.quoted quote indent s ≡ Err e → IsRefusedInside s e
+  pub plain : (in_flow : Bool) (indent : ℕ) (s : Cursor) (e : Refusal) → words.plain in_flow indent s ≡ Err e
+      → IsRefusedInside s e
+  pub block_scalar : (style : BlockStyle) (indent : ℕ) (s : Cursor) (e : Refusal)
+      → is_break (slice_index s.rest 0) ≡ false → 0 < length s.rest → blocks.block_scalar style indent s ≡ Err e
+      → IsRefusedInside s e

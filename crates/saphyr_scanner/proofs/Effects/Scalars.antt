@@ -1,239 +1,399 @@
--- The effect of each step of block collections, of scalars and of properties.
-use Rattle.std.proofs.Common.{◌≡◌, ℕ, ◌<◌, Bool, true, false, List, [], ◌∷◌, length, refl, arith}
-use Rattle.std.specs.Prelude.{◌&&◌, ◌||◌, slice_index, not, ◌==◌, nat_lt}
-use Rattle.saphyr_input.specs.Classes.{is_break, is_flow}
-use Rattle.saphyr_input.specs.Separation.{found_tabs}
+-- What each step of scalars and of properties does, by the laws of the readers.
+use Rattle.std.proofs.Common.{◌≡◌, ◌≢◌, ℕ, ◌+◌, ◌<◌, Bool, true, false, List, [], ◌∷◌, ◌++◌, length, Some, Ok, IsTrue, IsFalse, refl, sym, ap, ◌∙◌, arith, subst, inl, inr}
+use Rattle.std.specs.Prelude.{◌&&◌, ◌||◌, ◌==◌, slice_index, not, nat_lt, codes}
+use Rattle.saphyr_input.specs.Classes.{is_break, is_blank_or_breakz, is_one_of}
+use Rattle.saphyr_input.specs.Places.{is_blank_or_break}
 use Rattle.scalar_values.specs.declared.block.BlockStyle.{BlockStyle}
+use Rattle.scalar_values.specs.declared.block.BlockStyle.TheVariants as block_style
+use Rattle.scalar_values.specs.declared.flow.Quote.{Quote}
+use Rattle.scalar_values.specs.declared.flow.Quote.TheVariants.{Single, Double}
+use Rattle.scalar_values.specs.Flow.{mark}
 use Rattle.saphyr_scalar.specs.declared.scalar.position.Marker.{Marker}
+use Rattle.saphyr_scalar.specs.declared.scalar.position.Span.{Span}
 use Rattle.saphyr_scalar.specs.declared.scalar.style.ScalarStyle.{ScalarStyle}
-use Rattle.saphyr_scalar.specs.declared.scalar.style.ScalarStyle.TheVariants.{SingleQuoted, DoubleQuoted}
+use Rattle.saphyr_scalar.specs.declared.scalar.style.ScalarStyle.TheVariants.{Plain, SingleQuoted, DoubleQuoted}
+use Rattle.saphyr_scalar.specs.Reading.Plain.{IsSpelledPlain, IsPlainReading}
+use Rattle.saphyr_scalar.specs.Spelling.Tag.{IsHandleText, IsTagText}
 use Rattle.saphyr_scalar.specs.Steps.Anchor as anchors
 use Rattle.saphyr_scalar.specs.Steps.Block as blocks
-use Rattle.saphyr_scalar.specs.Views.Cursor.{Cursor, ◌>>=◌, pass}
 use Rattle.saphyr_scalar.specs.Steps.Plain as words
 use Rattle.saphyr_scalar.specs.Steps.Quoted as quoted
 use Rattle.saphyr_scalar.specs.Steps.Tag as tags
+use Rattle.saphyr_scalar.specs.Views.Cursor.{Cursor, ◌>>=◌, along}
 use Rattle.saphyr_scanner.specs.Grammar.Tokens as tokens
 use Rattle.saphyr_scanner.specs.Grammar.Tokens.{Kind}
-use Rattle.saphyr_scanner.specs.Steps.Core.{Core, from_to, in_block, least_column, remove_key, is_further, roll, with_context}
-use Rattle.saphyr_scanner.specs.Steps.Gap.{spaces_at}
-use Rattle.saphyr_scanner.specs.Steps.Passing.{pass_on, pass_gap, with_cursor}
-use Rattle.saphyr_scanner.specs.Steps.Block as block
+use Rattle.saphyr_scanner.specs.Views.Tokens.{Piece}
+use Rattle.saphyr_scanner.specs.Steps.Core.{Level, Core, is_block, in_block, least_column}
+use Rattle.saphyr_scanner.specs.Steps.Passing.{separate, pass_gap, with_cursor}
 use Rattle.saphyr_scanner.specs.Steps.Property as property
 use Rattle.saphyr_scanner.specs.Steps.Scalar as scalar
-use Rattle.saphyr_scanner.proofs.Counted.{Ahead, stays, ahead_ahead, spaces_counted}
+use Rattle.saphyr_scanner.specs.TokensTaken as taken
+use Rattle.saphyr_scanner.specs.TokensTaken.{AreApart, IsToken, IsQuotedToken, may_begin_plain, begins_text}
 use Rattle.saphyr_scanner.proofs.Added.Queue.{IsNoEnd}
-use Rattle.saphyr_scanner.proofs.Effects.Readers.{Readers, ReaderEnds, Less}
-use Rattle.saphyr_scanner.proofs.Effects.Steps.{Read, one, read_on, whole, behind, Effect, EffectAt, one_put, Begins, begins_none, begins_forgotten, Goes, goes_none, behind_blanks, gap_goes, remove_goes, roll_goes, behind_saving}
-use Rattle.saphyr_scanner.proofs.Effects.Flow.{behind_one}
+use Rattle.saphyr_scanner.proofs.Counted.{Ahead}
+use Rattle.saphyr_scanner.proofs.Effects.Moves.{IsSaved, saving, saved_above, saved, Reading, Premises, Walked, walked_then, Doing, Stepped, at_inside, read_walked, at_reach, separate_walked, gap_walked}
+use Rattle.saphyr_scanner.proofs.Effects.Readers.{Readers, ReaderEnds, Less, TextLaws}
+use Rattle.saphyr_scanner.proofs.PlainBehind.{Ends, plain_ends}
+use Rattle.saphyr_scanner.proofs.Reached.{apart_reached, passed_reached}
+use Rattle.saphyr_scanner.proofs.Steps.Choice.{NoIndicator}
+use Rattle.saphyr_scanner.proofs.Taken.Later.{apart_later}
+use Rattle.saphyr_scanner.proofs.Taken.Parts.{is_quiet}
+use Rattle.saphyr_scanner.proofs.Taken.Places.{Reaches, reaches_reaches, at_here, here_at}
+use Rattle.saphyr_scanner.proofs.Taken.Separated.{apart_apart}
+use Rattle.saphyr_scanner.proofs.Taken.States.{block_fetched}
+use Rattle.std.proofs.lemmas.Bool.{or_parts, ne_eqb, eqb-true}
 use Rattle.saphyr_input.proofs.Basics.Booleans.{by_test}
-use Rattle.saphyr_scalar.proofs.Given.{Given, given_bind, given_of}
+use Rattle.saphyr_scalar.proofs.Given.{given_of}
 
--- ## Block collections
+-- a span begins where a text does
+abbrev Starts : Span → Cursor → Type 0
+Starts span s = (span.start ≡ s.mark) × IsTrue (begins_text (slice_index s.rest 0))
 
-deepen_goes : (s : Cursor) (c d : Core) → Goes 2 s c d → Goes 2 s c (block.deepen d)
-deepen_goes s c d g = by_test (is_break (slice_index d.cursor.rest 0) || is_flow (slice_index d.cursor.rest 0)) _ _
-    (Goes 2 s c) (λ _. g) (λ _. g)
+-- ## Quoted scalars
 
-dash_goes : (s : Cursor) (c d : Core) → Goes 2 s c d → Given (Goes 2 s c) (block.pass_dash d)
-unfolding block.pass_dash
-dash_goes s c d g =
-    behind_blanks (Goes 2 s c) 2 s c d block.refuse_tab g
-    (λ x k. by_test (found_tabs x.0 && block.is_dash_next x.1) _ _ (Given (Goes 2 s c)) (λ _. tt)
-    (λ _. deepen_goes s c x.1 k))
+-- the style of a quote, and what the reader takes off
+record Quoting (quote : Quote) (style : ScalarStyle) : Type 0 where
+  quiet : (value : List ℕ) → is_quiet (tokens.Scalar style value) ≡ true
+  is : (i : ℕ) (value : List ℕ) (span : Span) (s t : Cursor) → IsQuotedToken quote value span s t
+      → IsToken i (tokens.Scalar style value) span s t
+  of : (i : ℕ) (value : List ℕ) (span : Span) (s t : Cursor) → IsToken i (tokens.Scalar style value) span s t
+      → Starts span s
+  less : Readers → (indent : ℕ) (s t : Cursor) (text : List ℕ) → slice_index s.rest 0 ≡ mark quote
+      → quoted.quoted quote indent s ≡ Ok (text, t) → Less t s
+  ahead : ReaderEnds → (indent : ℕ) (s t : Cursor) (text : List ℕ) → slice_index s.rest 0 ≡ mark quote
+      → quoted.quoted quote indent s ≡ Ok (text, t) → Ahead s t
 
-next_entry_effect : (c : Core) → 0 < length c.cursor.rest → Given (Effect c) (block.next_entry c)
-unfolding block.next_entry
-next_entry_effect c h =
-    let s : Cursor = pass 1 c.cursor in
-    let d : Core = roll c.cursor.mark.col (pass_on 1 c) in
-    let r = block.pass_dash d >>= remove_key in
-    let rolled : Goes 2 s c d = roll_goes c.cursor.mark.col s c (pass_on 1 c) (behind_one 0 c c refl (begins_none c)) in
-    let gone : Given (Goes 2 s c) r = given_bind (Goes 2 s c) (block.pass_dash d) remove_key
-    (λ x p. remove_goes 2 s c x (given_of (Goes 2 s c) (block.pass_dash d) x (dash_goes s c d rolled) p)) in
-    given_bind (Effect c) r _ (λ e q.
-    let g = given_of (Goes 2 s c) r e gone q in
-    one_put (is_further c.cursor.mark.col c) 2 c (record e { key_allowed = true }) e.cursor.mark e.cursor.mark
-    tokens.BlockSequenceStart tokens.BlockEntry (omega arith) (λ i. absurd (cc)) (λ i. absurd (cc))
-    (behind c.cursor _ _ e.cursor (read_on c.cursor _ _ s e.cursor (one c.cursor h) g.0)) g.1)
-
-pub block_entry_effect : (c : Core) → 0 < length c.cursor.rest → Given (Effect c) (block.entry c)
-unfolding block.entry
-block_entry_effect c h =
-    by_test (not (in_block c)) _ _ (Given (Effect c)) (λ _. tt)
-    (λ _. by_test (not c.key_allowed) _ _ (Given (Effect c)) (λ _. tt) (λ _. next_entry_effect c h))
-
-mark_goes : (n : ℕ) (c d : Core) → d.cursor ≡ c.cursor → Begins n c d
-    → Given (Goes n (pass 1 c.cursor) c) (block.pass_question d)
-unfolding block.behind_mark
-mark_goes n c d e g =
-    let s = pass 1 c.cursor in
-    let t = spaces_at false (pass_on 1 d).cursor in
-    let a = ahead_ahead s (pass_on 1 d).cursor t.cursor (behind_one n c d e g).0
-    (spaces_counted false (pass_on 1 d).cursor) in
-    by_test (not t.space) _ _ (Given (Goes n s c)) (λ _. tt)
-    (λ _. by_test (slice_index t.cursor.rest 0 == 9) _ _ (Given (Goes n s c)) (λ _. tt) (λ _. (a, g)))
-
--- behind the removal of a key, at the place where it stood
-begun : (n : ℕ) (c d : Core) → d.cursor ≡ c.cursor → Begins n c d
-    → Given (Goes n (pass 1 c.cursor) c) (remove_key d >>= λ e. block.pass_question
-    (record e { key_allowed = in_block e }))
-unfolding remove_key
-begun n c d e g =
-    by_test (in_block d && d.required) _ _
-    (λ r. Given (Goes n (pass 1 c.cursor) c) (r >>= λ f. block.pass_question (record f { key_allowed = in_block f })))
-    (λ _. tt) (λ _. mark_goes n c _ e (begins_forgotten n c d g))
-
-question_goes : (c : Core) → Given (Goes 2 (pass 1 c.cursor) c) (block.begin_key c)
-unfolding block.begin_key
-question_goes c =
-    let d : Core = roll c.cursor.mark.col c in
-    begun 2 c (with_context (block.behind_question c.level.context) d) (roll_cursor c.cursor.mark.col c)
-    (roll_goes c.cursor.mark.col c.cursor c c (goes_none c)).1
-  where
-    roll_cursor : (column : ℕ) (c : Core) → (roll column c).cursor ≡ c.cursor
-    roll_cursor column c = by_test (is_further column c) _ _ (λ (d : Core). d.cursor ≡ c.cursor) (λ _. refl) (λ _. refl)
-
-pub key_effect : (c : Core) → 0 < length c.cursor.rest → Given (Effect c) (block.key c)
-unfolding block.key
-key_effect c h =
-    by_test (in_block c && not c.key_allowed) _ _ (Given (Effect c)) (λ _. tt)
-    (λ _. given_bind (Effect c) (block.begin_key c) _ (λ d q.
-    let g = given_of (Goes 2 (pass 1 c.cursor) c) (block.begin_key c) d (question_goes c) q in
-    one_put (is_further c.cursor.mark.col c) 2 c d c.cursor.mark d.cursor.mark tokens.BlockMappingStart tokens.Key
-    (omega arith) (λ i. absurd (cc)) (λ i. absurd (cc))
-    (whole c.cursor _ _ d.cursor (read_on c.cursor _ _ (pass 1 c.cursor) d.cursor (one c.cursor h) g.0)) g.1))
-
--- ## Scalars and properties
-
--- a token of what was read
-token : (c d : Core) (a b : Marker) (kind : Kind) → IsNoEnd kind → Read c.cursor a b d.cursor → Begins 0 c d
-    → Effect c (record { core = d; actions = from_to a b kind ∷ [] })
-token c d a b kind k r g = one_put false 0 c d a b tokens.Value kind (omega arith) (λ i. absurd (cc)) k r g
-
-line_effect : (style : ScalarStyle) (text : List ℕ) (c d : Core)
-    → Read c.cursor c.cursor.mark d.cursor.mark d.cursor → Begins 0 c d
-    → Given (Effect c) (scalar.behind_line c.cursor.mark style text d)
-line_effect style text c d r g =
-    by_test (scalar.goes_on_behind_quotes c.cursor.mark d) _ _ (Given (Effect c))
-    (λ _. given_bind (Effect c) (pass_gap d) _ (λ e q.
-    let w = given_of (Goes 0 d.cursor c) (pass_gap d) e
-    (gap_goes 0 d.cursor c d (stays d.cursor d.cursor refl, g)) q in
-    token c (scalar.adjacent_here e) c.cursor.mark d.cursor.mark (tokens.Scalar style text) (λ i. absurd (cc))
-    (read_on c.cursor _ _ d.cursor e.cursor r w.0) w.1))
-    (λ _. tt)
-
--- what was read is a quoted scalar
-quotes_effect : (style : ScalarStyle) (text : List ℕ) (c : Core) (t : Cursor) → Read c.cursor c.cursor.mark t.mark t
-    → Given (Effect c) (scalar.behind_quotes c.cursor.mark style text (with_cursor t c))
-unfolding scalar.behind_quotes
-quotes_effect style text c t r =
-    behind_blanks (Effect c) 0 t c (with_cursor t c) _ (stays t t refl, begins_none c)
-    (λ x g. line_effect style text c x.1
-    (whole c.cursor _ _ x.1.cursor (read_on c.cursor _ _ t x.1.cursor r g.0)) g.1)
-
--- of a reader that takes a text off and ends its token there
-read_to : (s t : Cursor) → (Readers → Less t s) → (ReaderEnds → Ahead s t) → Read s s.mark t.mark t
-read_to s t less ends = record {
-  less = less;
-  span = λ laws. let a = ends laws in
-      record { ahead = a; begins = omega arith; inside = a.later; ends = omega arith };
+double_quoting : Quoting Double DoubleQuoted
+double_quoting = record {
+  quiet = λ v. refl;
+  is = λ i v p s t k. k;
+  of = λ i v p s t k. (k.4, ap (λ l. begins_text (slice_index l 0)) k.1.1);
+  less = λ laws. laws.double_quoted;
+  ahead = λ laws. laws.double_quoted;
 }
 
-read_double_effect : (c : Core) → slice_index c.cursor.rest 0 ≡ 34 → Given (Effect c) (scalar.read_double_quoted c)
-unfolding scalar.read_double_quoted
-read_double_effect c h =
-    given_bind (Effect c) (quoted.double_quoted (least_column c) c.cursor) _ (λ x q.
-    quotes_effect DoubleQuoted x.0 c x.1
-    (read_to c.cursor x.1 (λ laws. laws.double_quoted (least_column c) c.cursor x.1 x.0 h q)
-    (λ laws. laws.double_quoted (least_column c) c.cursor x.1 x.0 h q)))
+single_quoting : Quoting Single SingleQuoted
+single_quoting = record {
+  quiet = λ v. refl;
+  is = λ i v p s t k. k;
+  of = λ i v p s t k. (k.4, ap (λ l. begins_text (slice_index l 0)) k.1.1);
+  less = λ laws. laws.single_quoted;
+  ahead = λ laws. laws.single_quoted;
+}
 
-pub double_quoted_effect : (n : ℕ) (c : Core) → slice_index c.cursor.rest 0 ≡ 34
-    → Given (EffectAt n c) (scalar.double_quoted_steps n c)
-unfolding scalar.double_quoted_steps
-double_quoted_effect n c h =
-    behind_saving n c (λ s. slice_index s.rest 0 ≡ 34) _ h (λ d. read_double_effect (scalar.disallow_key d))
-
-read_single_effect : (c : Core) → slice_index c.cursor.rest 0 ≡ 39 → Given (Effect c) (scalar.read_single_quoted c)
-unfolding scalar.read_single_quoted
-read_single_effect c h =
-    given_bind (Effect c) (quoted.single_quoted (least_column c) c.cursor) _ (λ x q.
-    quotes_effect SingleQuoted x.0 c x.1
-    (read_to c.cursor x.1 (λ laws. laws.single_quoted (least_column c) c.cursor x.1 x.0 h q)
-    (λ laws. laws.single_quoted (least_column c) c.cursor x.1 x.0 h q)))
-
-pub single_quoted_effect : (n : ℕ) (c : Core) → slice_index c.cursor.rest 0 ≡ 39
-    → Given (EffectAt n c) (scalar.single_quoted_steps n c)
-unfolding scalar.single_quoted_steps
-single_quoted_effect n c h =
-    behind_saving n c (λ s. slice_index s.rest 0 ≡ 39) _ h (λ d. read_single_effect (scalar.disallow_key d))
-
-read_plain_effect : (c : Core) → Given (Effect c) (scalar.read_plain c)
-unfolding scalar.read_plain
-read_plain_effect c =
-    let f = not (in_block c) in
-    by_test (f && nat_lt c.cursor.mark.col c.indent) _ _ (Given (Effect c)) (λ _. tt)
-    (λ _. given_bind (Effect c) (words.plain f c.indent c.cursor) _ (λ x q.
-    token c (scalar.behind_plain x.2 x.3 c) c.cursor.mark x.1 _ (λ i. absurd (cc))
+quotes_do : (quote : Quote) (style : ScalarStyle) → Quoting quote style → (n : ℕ) (c : Core)
+    → slice_index c.cursor.rest 0 ≡ mark quote → (l : Level) (r : Bool) → IsSaved n c l
+    → let d = scalar.disallow_key (record c { level = l; required = r }) in
+    Walked (Premises c) (Doing (Some n) c) c.cursor
+    (quoted.quoted quote (least_column d) d.cursor >>= λ x. scalar.behind_quotes d.cursor.mark style x.0
+    (with_cursor x.1 d))
+unfolding scalar.behind_quotes
+quotes_do quote style quoting n c first l r s =
+    let here = c.cursor in
+    let d : Core = scalar.disallow_key (record c { level = l; required = r }) in
+    let Q = Doing (Some n) c in
+    let low = least_column c in
+    walked_then (Premises c) _ Q here (quoted.quoted quote low here) _
+    (read_walked (Premises c) here (quoted.quoted quote low here)
+    (λ e q laws. at_inside here e (laws.0.quotes quote low here e first q))) (λ x e.
+    let there : Premises c → Reaches here x.1 = λ laws. passed_reached here.mark here.rest x.1.mark x.1.rest
+    (laws.1.quotes quote low here x.1 x.0 first e).3 in
+    walked_then (Premises c) _ Q here (separate (with_cursor x.1 d)) _
+    (separate_walked c here (with_cursor x.1 d) there) (λ y g.
+    let u : Cursor = y.1.cursor in
+    let reach : Premises c → Reaches here u = λ laws. reaches_reaches here x.1 u (there laws)
+    (apart_reached x.1.mark x.1.rest u.mark u.rest g.1.apart) in
+    let t : Piece = record {
+      span = record { start = here.mark; end = u.mark };
+      kind = tokens.Scalar style x.0;
+    } in
+    by_test (scalar.goes_on_behind_quotes here.mark y.1) _ _ (Walked (Premises c) Q here)
+    (λ _. walked_then (Premises c) _ Q here (pass_gap y.1) _ (gap_walked c here y.1 reach (λ laws. g.0.2 laws.2))
+    (λ f k.
+    let v : Cursor = f.cursor in
+    let a = apart_later x.1.mark x.1.rest u.mark u.rest g.1.apart in
+    let b = apart_later u.mark u.rest v.mark v.rest k.1 in
+    saved n c (scalar.adjacent_here f) t (subst (λ m. IsSaved n c m) (sym (k.0.0 ∙ g.0.0)) s) (k.0.1 ∙ g.0.1)
+    (λ m. inl (k.0.2 (g.0.2 m))) (quoting.quiet x.0) (λ i. absurd (cc)) (λ i. quoting.of i x.0 t.span) refl
     (record {
-      less = λ laws. laws.plain f c.indent c.cursor x.3 x.0 x.1 x.2 q;
-      span = λ laws. let r = laws.plain f c.indent c.cursor x.3 x.0 x.1 x.2 q in
-          record { ahead = r.ahead; begins = omega arith; inside = r.begins; ends = r.ends };
-    }) (begins_none c)))
+      less = λ laws. let z = quoting.less laws low here x.1 x.0 first e in
+          omega (arith, z, a.index, a.counted, b.index, b.counted);
+      span = λ laws. let z = quoting.ahead laws low here x.1 x.0 first e in
+          record {
+            ahead = record {
+              later = omega (arith, z.later, a.index, b.index);
+              counted = omega (arith, z.counted, a.counted, b.counted);
+            };
+            begins = omega arith;
+            inside = omega (arith, z.later, a.index);
+            ends = b.index;
+          };
+      token = λ laws. let w = laws.quotes quote low here x.1 x.0 first e in (
+        x.1,
+        quoting.is c.indent x.0 t.span here x.1 (w.0, w.1, sym w.2, w.3, refl, g.1.on_line, w.4),
+        apart_apart x.1.mark x.1.rest u.mark u.rest v.mark v.rest g.1.apart k.1,
+      );
+    })))
+    (λ _ laws. at_reach here u (reach laws))))
 
-pub plain_effect : (n : ℕ) (c : Core) → Given (EffectAt n c) (scalar.plain_steps n c)
-unfolding scalar.plain_steps
-plain_effect n c =
-    behind_saving n c (λ s. Unit {0}) _ tt
-    (λ d _. read_plain_effect (record (scalar.disallow_key d) { deeper = false }))
+pub double_quoted_does : (n : ℕ) (c : Core) → slice_index c.cursor.rest 0 ≡ 34
+    → Walked (Premises c) (Doing (Some n) c) c.cursor (scalar.double_quoted_steps n c)
+unfolding scalar.double_quoted_steps scalar.read_double_quoted
+double_quoted_does n c first =
+    saving n c (λ d. Walked (Premises c) (Doing (Some n) c) c.cursor
+    (scalar.read_double_quoted (scalar.disallow_key d)))
+    (λ l r s. quotes_do Double DoubleQuoted double_quoting n c first l r s)
 
-read_block_effect : (style : BlockStyle) (c : Core) → 0 < length c.cursor.rest
-    → Given (Effect c) (scalar.read_block style c)
-unfolding scalar.read_block
-read_block_effect style c h =
-    given_bind (Effect c) (blocks.block_scalar style c.indent c.cursor) _ (λ x q.
-    token c (with_cursor x.2 c) x.1.start x.1.end (tokens.Scalar (scalar.style_of style) x.0) (λ i. absurd (cc))
+pub single_quoted_does : (n : ℕ) (c : Core) → slice_index c.cursor.rest 0 ≡ 39
+    → Walked (Premises c) (Doing (Some n) c) c.cursor (scalar.single_quoted_steps n c)
+unfolding scalar.single_quoted_steps scalar.read_single_quoted
+single_quoted_does n c first =
+    saving n c (λ d. Walked (Premises c) (Doing (Some n) c) c.cursor
+    (scalar.read_single_quoted (scalar.disallow_key d)))
+    (λ l r s. quotes_do Single SingleQuoted single_quoting n c first l r s)
+
+-- ## Plain scalars
+
+-- what a plain scalar begins with begins a text
+plain_begins : (c : ℕ) → IsTrue (may_begin_plain c) → IsFalse (is_blank_or_break c) → IsTrue (begins_text c)
+plain_begins c h ink = by (c == 35) refl
+  where
+    by : (b : Bool) → (c == 35) ≡ b → IsTrue (begins_text c)
+    by false e = rw (ink, e) refl
+    by true e = absurd (let same : c ≡ 35 =
+        eqb-true c 35 e in let no : may_begin_plain c ≡ false = ap may_begin_plain same in cc)
+
+-- what a plain scalar begins with, but for `#`
+pub record PlainStart (s : Cursor) : Type 0 where
+  pub other : (slice_index s.rest 0 ≢ 35) → IsTrue (may_begin_plain (slice_index s.rest 0))
+  pub no_indicator : IsTrue (is_one_of (codes "-?:") (slice_index s.rest 0))
+      → IsFalse (is_blank_or_breakz (slice_index s.rest 1))
+
+abbrev NoSign : List ℕ → Type 0
+NoSign [] = Unit {0}
+NoSign (c ∷ cs) = c ≢ 35
+
+spelled_start : (m : Marker) (p behind : List ℕ) → IsSpelledPlain m true p behind → NoSign p
+spelled_start m [] behind h = tt
+spelled_start m (c ∷ cs) behind h = h.2 refl
+
+no_sign : (s t : Cursor) (text : List ℕ) (end : Marker) → IsPlainReading s text end t → slice_index s.rest 0 ≢ 35
+no_sign s t text end r = by r.piece r.front r.closes r.is (spelled_start s.mark r.piece (r.white ++ t.rest) r.spelled)
+  where
+    by : (p front : List ℕ) → p ≡ front ++ r.last ∷ [] → s.rest ≡ p ++ (r.white ++ t.rest) → NoSign p
+        → slice_index s.rest 0 ≢ 35
+    by [] [] e is n k = absurd (cc)
+    by [] (x ∷ xs) e is n k = absurd (cc)
+    by (c ∷ cs) front e is n k = n (sym (ap (λ l. slice_index l 0) is) ∙ k)
+
+begins : (x : ℕ) → (x == 44) ≡ false → (x == 91) ≡ false → (x == 93) ≡ false → (x == 123) ≡ false → (x == 125) ≡ false
+    → (x == 35) ≡ false → (x == 38) ≡ false → (x == 42) ≡ false → (x == 33) ≡ false → (x == 39) ≡ false
+    → (x == 34) ≡ false → (x == 37) ≡ false → (x == 64) ≡ false → (x == 96) ≡ false
+    → may_begin_plain x ≡ true
+begins x a b c d e f g h i j k l m n = rw (a, b, c, d, e, f, g, h, i, j, k, l, m, n) refl
+
+no_second : (b x y z : Bool) → (x && b) ≡ false → (y && b) ≡ false → (z && b) ≡ false
+    → (x || (y || (z || false))) ≡ true → b ≡ false
+no_second false x y z e f g h = refl
+no_second true true y z e f g h = absurd (cc)
+no_second true false true z e f g h = absurd (cc)
+no_second true false false true e f g h = absurd (cc)
+no_second true false false false e f g h = absurd (cc)
+
+-- where no indicator stands a plain scalar may begin
+pub plain_start : (first second : ℕ) (c : Core) → slice_index c.cursor.rest 0 ≡ first
+    → slice_index c.cursor.rest 1 ≡ second → NoIndicator first second c → PlainStart c.cursor
+plain_start first second c f g n =
+    let w = or_parts ((first == 37) || (first == 64)) (first == 96) n.reserved in
+    let v = or_parts (first == 37) (first == 64) w.0 in
+    record {
+      other = λ no_sign. ap may_begin_plain f
+          ∙ begins first n.comma n.sequence n.sequence_end n.mapping n.mapping_end
+          (ne_eqb first 35 (λ s. no_sign (f ∙ s))) n.anchor n.alias n.tag n.single n.double v.0 v.1 w.1;
+      no_indicator = λ s. ap is_blank_or_breakz g
+          ∙ no_second (is_blank_or_breakz second) (first == 45) (first == 63) (first == 58) n.dash n.question n.colon
+          (ap (λ x. is_one_of (codes "-?:") x) (sym f) ∙ s);
+    }
+
+pub plain_does : (n : ℕ) (c : Core) → PlainStart c.cursor
+    → Walked (Premises c) (Doing (Some n) c) c.cursor (scalar.plain_steps n c)
+unfolding scalar.plain_steps scalar.read_plain
+plain_does n c starts =
+    let here = c.cursor in
+    let Q = Doing (Some n) c in
+    saving n c (λ d. Walked (Premises c) Q here
+    (scalar.read_plain (record (scalar.disallow_key d) { deeper = false }))) (λ l r s.
+    let d : Core = record (scalar.disallow_key (record c { level = l; required = r })) { deeper = false } in
+    let f = not (in_block d) in
+    by_test (f && nat_lt here.mark.col c.indent) _ _ (Walked (Premises c) Q here) (λ _ _. at_here here)
+    (λ _. walked_then (Premises c) _ Q here (words.plain f c.indent here) _
+    (read_walked (Premises c) here (words.plain f c.indent here)
+    (λ e q laws. at_inside here e (laws.0.plain f c.indent here e q))) (λ x e.
+    let ends = given_of Ends (words.plain f c.indent here) x (plain_ends f c.indent here) e in
+    let t : Piece = record { span = record { start = here.mark; end = x.1 }; kind = tokens.Scalar Plain x.0 } in
+    saved n c (scalar.behind_plain x.2 x.3 d) t s refl (λ _. ends.0) refl (λ i. absurd (cc))
+    (λ i a b k. (k.start, plain_begins (slice_index a.rest 0) k.begins k.is_ink)) refl
     (record {
-      less = λ laws. laws.block_scalar style c.indent c.cursor x.2 x.0 x.1 h q;
-      span = λ laws. laws.block_scalar style c.indent c.cursor x.2 x.0 x.1 h q;
-    }) (begins_none c))
+      less = λ laws. let z = laws.plain f c.indent here x.3 x.0 x.1 x.2 e in omega (arith, z);
+      span = λ laws. let z = laws.plain f c.indent here x.3 x.0 x.1 x.2 e in
+          record { ahead = z.ahead; begins = omega arith; inside = z.begins; ends = z.ends };
+      token = λ laws. let z = laws.plain f c.indent here x.3 x.0 x.1 x.2 e in (
+        x.3,
+        record {
+          start = refl;
+          begins = starts.other (no_sign here x.3 x.0 x.1 z);
+          is_ink = laws.ink f c.indent here x.3 x.0 x.1 x.2 e;
+          no_indicator = starts.no_indicator;
+          reading = z;
+          uncut = inr ends.1;
+        },
+        taken.nothing x.3.mark x.3.rest,
+      );
+    }))))
 
-pub block_effect : (style : BlockStyle) (n : ℕ) (c : Core) → 0 < length c.cursor.rest
-    → Given (EffectAt n c) (scalar.block_scalar_steps style n c)
-unfolding scalar.block_scalar_steps
-block_effect style n c h =
-    behind_saving n c (λ s. 0 < length s.rest) _ h
-    (λ d. read_block_effect style (record d { key_allowed = true; deeper = false }))
+-- ## Names and tags
 
-name_is_no_end : (is_alias : Bool) (name : List ℕ) → IsNoEnd (property.name_token is_alias name)
-name_is_no_end true name = λ i. absurd (cc)
-name_is_no_end false name = λ i. absurd (cc)
+-- a reader that takes a text off, and ends its token there
+token_read : (c : Core) (kind : Kind) (u : Cursor) → (Readers → Less u c.cursor) → (ReaderEnds → Ahead c.cursor u)
+    → (TextLaws → IsToken c.indent kind (record { start = c.cursor.mark; end = u.mark }) c.cursor u)
+    → Reading 1 c (record { span = record { start = c.cursor.mark; end = u.mark }; kind = kind }) u
+token_read c kind u less ahead is = record {
+  less = λ laws. let z = less laws in omega (arith, z);
+  span = λ laws. let z = ahead laws in
+      record { ahead = z; begins = omega arith; inside = z.later; ends = omega arith };
+  token = λ laws. (u, is laws, taken.nothing u.mark u.rest);
+}
 
-read_name_effect : (is_alias : Bool) (c : Core) → 0 < length c.cursor.rest
-    → Given (Effect c) (property.read_name is_alias c)
-unfolding property.read_name
-read_name_effect is_alias c h =
-    given_bind (Effect c) (anchors.anchor c.cursor) _ (λ x q.
-    token c (with_cursor x.1 c) c.cursor.mark x.1.mark _ (name_is_no_end is_alias x.0)
-    (read_to c.cursor x.1 (λ laws. laws.name c.cursor x.1 x.0 h q) (λ laws. laws.name c.cursor x.1 x.0 h q))
-    (begins_none c))
+pub record Named (is_alias : Bool) (x : ℕ) : Type 0 where
+  pub no_end : (name : List ℕ) → IsNoEnd (property.name_token is_alias name)
+  pub quiet : (name : List ℕ) → is_quiet (property.name_token is_alias name) ≡ true
+  pub is : (i : ℕ) (name : List ℕ) (span : Span) (s t : Cursor) → taken.IsNameToken x name span s t
+      → IsToken i (property.name_token is_alias name) span s t
+  pub of : (i : ℕ) (name : List ℕ) (span : Span) (s t : Cursor) → IsToken i (property.name_token is_alias name) span s t
+      → Starts span s
 
-pub name_effect : (is_alias : Bool) (n : ℕ) (c : Core) → 0 < length c.cursor.rest
-    → Given (EffectAt n c) (property.name_steps is_alias n c)
-unfolding property.name_steps
-name_effect is_alias n c h =
-    behind_saving n c (λ s. 0 < length s.rest) _ h (λ d. read_name_effect is_alias (scalar.disallow_key d))
+pub an_alias : Named true 42
+an_alias = record {
+  no_end = λ n i. absurd (cc);
+  quiet = λ n. refl;
+  is = λ i n p s t h. h;
+  of = λ i n p s t h. (h.3.start, ap (λ l. begins_text (slice_index l 0)) h.3.is);
+}
 
-read_tag_effect : (c : Core) → slice_index c.cursor.rest 0 ≡ 33 → Given (Effect c) (property.read_tag c)
-unfolding property.read_tag
-read_tag_effect c h =
-    let f = not (in_block c) in
-    given_bind (Effect c) (tags.tag f c.cursor) _ (λ x q.
-    token c (with_cursor x.2 c) c.cursor.mark x.2.mark _ (λ i. absurd (cc))
-    (read_to c.cursor x.2 (λ laws. laws.tag f c.cursor x.2 x.0 x.1 h q)
-    (λ laws. laws.tag f c.cursor x.2 x.0 x.1 h q)) (begins_none c))
+pub an_anchor : Named false 38
+an_anchor = record {
+  no_end = λ n i. absurd (cc);
+  quiet = λ n. refl;
+  is = λ i n p s t h. h;
+  of = λ i n p s t h. (h.3.start, ap (λ l. begins_text (slice_index l 0)) h.3.is);
+}
 
-pub tag_effect : (n : ℕ) (c : Core) → slice_index c.cursor.rest 0 ≡ 33 → Given (EffectAt n c) (property.tag_steps n c)
-unfolding property.tag_steps
-tag_effect n c h =
-    behind_saving n c (λ s. slice_index s.rest 0 ≡ 33) _ h (λ d. read_tag_effect (scalar.disallow_key d))
+-- a tag begins with `!`
+tag_begins : (text behind handle suffix : List ℕ) → IsTagText text handle suffix → slice_index (text ++ behind) 0 ≡ 33
+tag_begins text behind handle suffix (inl h) = ap (λ t. slice_index (t ++ behind) 0) h.0
+tag_begins text behind handle suffix (inr (inl h)) = ap (λ t. slice_index (t ++ behind) 0) h.3
+tag_begins text behind handle suffix (inr (inr h)) = ap (λ t. slice_index (t ++ behind) 0) h.4 ∙ by h.1
+  where
+    by : IsHandleText handle → slice_index ((handle ++ h.0) ++ behind) 0 ≡ 33
+    by (inl e) = ap (λ t. slice_index ((t ++ h.0) ++ behind) 0) e
+    by (inr e) = ap (λ t. slice_index ((t ++ h.0) ++ behind) 0) e.2
+
+pub name_does : (is_alias : Bool) (x : ℕ) → Named is_alias x → (n : ℕ) (c : Core) → 0 < length c.cursor.rest
+    → slice_index c.cursor.rest 0 ≡ x
+    → Walked (Premises c) (Doing (Some n) c) c.cursor (property.name_steps is_alias n c)
+unfolding property.name_steps property.read_name
+name_does is_alias x named n c some f =
+    let here = c.cursor in
+    let Q = Doing (Some n) c in
+    saving n c (λ d. Walked (Premises c) Q here (property.read_name is_alias (scalar.disallow_key d))) (λ l r s.
+    let d : Core = scalar.disallow_key (record c { level = l; required = r }) in
+    walked_then (Premises c) _ Q here (anchors.anchor here) _
+    (read_walked (Premises c) here (anchors.anchor here) (λ e q laws. here_at here e.mark (laws.0.name here e q)))
+    (λ y e.
+    let span : Span = record { start = here.mark; end = y.1.mark } in
+    let kind : Kind = property.name_token is_alias y.0 in
+    saved n c (with_cursor y.1 d) (record { span = span; kind = kind }) s refl (λ m. inl m) (named.quiet y.0)
+    (named.no_end y.0) (λ i. named.of i y.0 span) refl
+    (token_read c kind y.1 (λ laws. laws.name here y.1 y.0 some e) (λ laws. laws.name here y.1 y.0 some e) (λ laws.
+    let w = laws.name here y.1 y.0 some e in
+    let first : w.0 ≡ x = sym (ap (λ t. slice_index t 0) w.2) ∙ f in
+    let P : ℕ → Type 0 = λ k. here.rest ≡ k ∷ (w.1 ++ y.1.rest) in
+    let m : 1 + length w.1 ≡ length (x ∷ w.1) = omega arith in
+    let goes : y.1.mark ≡ along here.mark (length (x ∷ w.1)) =
+    ap (λ (u : Cursor). u.mark) w.5 ∙ ap (λ k. along here.mark k) m in
+    named.is c.indent y.0 span here y.1
+    (w.1, w.3, sym w.6, record { is = subst P first w.2; start = refl; end = refl; goes_on = goes }, w.4)))))
+
+pub tag_does : (n : ℕ) (c : Core) → slice_index c.cursor.rest 0 ≡ 33
+    → Walked (Premises c) (Doing (Some n) c) c.cursor (property.tag_steps n c)
+unfolding property.tag_steps property.read_tag
+tag_does n c first =
+    let here = c.cursor in
+    let Q = Doing (Some n) c in
+    saving n c (λ d. Walked (Premises c) Q here (property.read_tag (scalar.disallow_key d))) (λ l r s.
+    let d : Core = scalar.disallow_key (record c { level = l; required = r }) in
+    let f = not (in_block d) in
+    walked_then (Premises c) _ Q here (tags.tag f here) _
+    (read_walked (Premises c) here (tags.tag f here) (λ e q laws. here_at here e.mark (laws.0.tag f here e q))) (λ y e.
+    let span : Span = record { start = here.mark; end = y.2.mark } in
+    saved n c (with_cursor y.2 d) (record { span = span; kind = tokens.Tag y.0 y.1 }) s refl (λ m. inl m) refl
+    (λ i. absurd (cc))
+    (λ i a b k. (
+      k.6.start,
+      ap (λ t. begins_text (slice_index t 0)) k.6.is ∙ ap begins_text (tag_begins k.0 b.rest k.1 k.2 k.3),
+    )) refl
+    (token_read c (tokens.Tag y.0 y.1) y.2 (λ laws. laws.tag f here y.2 y.0 y.1 first e)
+    (λ laws. laws.tag f here y.2 y.0 y.1 first e) (λ laws.
+    let w = laws.tag f here y.2 y.0 y.1 first e in (
+      w.0,
+      w.1,
+      w.2,
+      w.4,
+      sym w.7,
+      sym w.8,
+      record { is = w.3; start = refl; end = refl; goes_on = ap (λ (u : Cursor). u.mark) w.6 },
+    )))))
+
+-- ## Block scalars
+
+indicator_begins : (style : BlockStyle) (x : ℕ) → x ≡ taken.block_indicator style → is_break x ≡ false
+indicator_begins block_style.Literal x e = ap is_break e
+indicator_begins block_style.Folded x e = ap is_break e
+
+-- A key may be too far behind one.
+pub block_does : (style : BlockStyle) (n : ℕ) (c : Core) → in_block c ≡ true → 0 < length c.cursor.rest
+    → slice_index c.cursor.rest 0 ≡ taken.block_indicator style
+    → Walked (Premises c) (Stepped n c) c.cursor (scalar.block_scalar_steps style n c)
+unfolding scalar.block_scalar_steps scalar.read_block
+block_does style n c b some f =
+    let here = c.cursor in
+    let Q = Stepped n c in
+    saving n c (λ d. Walked (Premises c) Q here
+    (scalar.read_block style (record d { key_allowed = true; deeper = false }))) (λ l r s.
+    let d : Core = record c { level = l; required = r; key_allowed = true; deeper = false } in
+    walked_then (Premises c) _ Q here (blocks.block_scalar style c.indent here) _
+    (read_walked (Premises c) here (blocks.block_scalar style c.indent here)
+    (λ e q laws. at_inside here e
+    (laws.0.block_scalar style c.indent here e (indicator_begins style (slice_index here.rest 0) f) some q))) (λ x e.
+    record {
+      effect = record {
+        less = λ laws. laws.block_scalar style c.indent here x.2 x.0 x.1 some e;
+        ahead = λ laws. (laws.block_scalar style c.indent here x.2 x.0 x.1 some e).ahead;
+        puts = λ laws. let z = laws.block_scalar style c.indent here x.2 x.0 x.1 some e in (z.begins, z.inside, z.ends);
+        started = refl;
+        ended = refl;
+        goes_on = ((λ i. absurd (cc)), tt);
+        few = omega arith;
+        keeps = λ h a. ((saved_above h n c l s a.0 a.1.0, a.1.1), tt);
+      };
+      fetched = λ laws text small columns from q later g deep k.
+          let Q : ℕ → Type 0 = λ j. IsSaved j c l in
+          block_fetched laws text small columns from q style c d later
+          (record { level = subst Q g s; cursor = refl; outer = refl; indent = refl; outer_indents = refl }) k b
+          (still l s) f x e;
+      noted = λ m. inl m;
+    }))
+  where
+    still : (l : Level) → IsSaved n c l → is_block l.context ≡ true
+    still l (inl e) = ap (λ (x : Level). is_block x.context) e ∙ b
+    still l (inr e) = ap (λ (x : Level). is_block x.context) e ∙ b

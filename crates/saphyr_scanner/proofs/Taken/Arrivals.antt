@@ -17,7 +17,7 @@ use Rattle.saphyr_scanner.proofs.Blocks.{none_ends, unrolled_cursor}
 use Rattle.saphyr_scanner.proofs.Taken.Later.{top, LaterThan, later_later}
 use Rattle.saphyr_scanner.proofs.Taken.Held.{Taken, taken_further, Keys}
 use Rattle.saphyr_scanner.proofs.Taken.Cores.{Alike, keys_of, keys_lesser, no_keys, behind_gap_of}
-use Rattle.saphyr_scanner.proofs.Taken.Values.{key_known}
+use Rattle.saphyr_scanner.proofs.Taken.Cores.{key_known}
 use Rattle.saphyr_scanner.proofs.Taken.States.{line_small, taken_later, key_stands, Live, TakenState, unroll_taken, blocks_levels}
 use Rattle.saphyr_input.proofs.Basics.Booleans.{by_test, and_false}
 use Rattle.saphyr_scalar.proofs.Given.{Given}

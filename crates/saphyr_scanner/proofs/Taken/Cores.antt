@@ -1,32 +1,31 @@
 -- What is held stays so where the core of a scanner changes, and where a token comes.
-use Rattle.std.proofs.Common.{◌≡◌, ℕ, ◌+◌, ◌≤◌, ◌⊎◌, Bool, true, false, List, [], ◌∷◌, Option, Some, None, Result, Ok, Err, refl, sym, ◌∙◌, arith, subst, inl, inr, length-append}
-use Rattle.std.specs.Prelude.{◌&&◌, ◌==◌, slice_index}
+use Rattle.std.proofs.Common.{◌≡◌, ℕ, zero, suc, ◌+◌, ◌-◌, ◌≤◌, ◌⊎◌, Bool, true, false, List, [], ◌∷◌, length, Option, Some, None, Result, Ok, Err, refl, sym, ap, ◌∙◌, arith, subst, inl, inr, length-append}
+use Rattle.std.specs.Prelude.{◌&&◌, ◌==◌, slice_index, nat_le}
 use Rattle.saphyr_input.specs.declared.input.SkipTabs.{SkipTabs}
 use Rattle.saphyr_input.specs.declared.input.SkipTabs.TheVariants as tabs
 use Rattle.saphyr_scalar.specs.declared.scalar.position.Marker.{Marker}
 use Rattle.saphyr_scalar.specs.declared.scalar.fault.Refusal.{Refusal}
 use Rattle.saphyr_scalar.specs.Views.Cursor.{Cursor, ◌>>=◌, pass, separation}
 use Rattle.saphyr_scalar.proofs.Properties.TagsSpelled.{cut_at}
+use Rattle.saphyr_scanner.specs.declared.queue.Opening.{Opening}
+use Rattle.saphyr_scanner.specs.declared.queue.Opening.TheVariants as opening
 use Rattle.saphyr_scanner.specs.Views.Tokens.{Piece}
 use Rattle.saphyr_scanner.specs.Steps.Gap as gaps
-use Rattle.saphyr_scanner.specs.Steps.Queue.{Queue, closed, put, next}
-use Rattle.saphyr_scanner.specs.Steps.Core.{Candidate, Level, Core, Step, perform, is_block, in_block, save_key, forget_key, remove_key, least_column}
+use Rattle.saphyr_scanner.specs.Steps.Queue.{Place, Queue, closed, put, opened, with_opening, next}
+use Rattle.saphyr_scanner.specs.Steps.Core.{Candidate, Level, Core, is_block, in_block, save_key, forget_key, least_column, is_further, enter_block}
 use Rattle.saphyr_scanner.specs.Steps.Passing.{separate, with_cursor, pass_gap, check_comment, goes_on_behind, behind_gap, intercepts}
 use Rattle.saphyr_scanner.specs.TokensTaken as taken
 use Rattle.saphyr_scanner.specs.TokensTaken.{AreApart, IsToken, TakesCharacter}
 use Rattle.saphyr_scanner.proofs.Taken.Separated.{gap_apart}
 use Rattle.saphyr_scanner.proofs.LineTails.{OnLine, separation_passes}
-use Rattle.saphyr_scanner.proofs.Taken.Parts.{is_quiet, quiet_open, Begins}
-use Rattle.saphyr_scanner.proofs.Taken.Held.{Stack, Taken, taken_further, Opens, taken_put, Key, KeyOf, lower, Keys, keys_weaken, keys_put, below_key}
+use Rattle.saphyr_scanner.proofs.Taken.Parts.{is_quiet, quiet_open, Begins, opens_block, column_of}
+use Rattle.saphyr_scanner.proofs.Taken.Held.{Stack, Taken, taken_further, Opens, taken_put, taken_open, Key, KeyOf, lower, Keys, keys_weaken, keys_put, keys_open, below_key}
 use Rattle.saphyr_input.proofs.Basics.Booleans.{by_test}
 use Rattle.saphyr_scalar.proofs.Given.{Given}
 
 pub record Holds (columns : List ℕ) (from : Cursor) (c : Core) (q : Queue) : Type 0 where
   pub taken : Taken columns from c q
   pub keys : Keys (next q) q c.indent (c.level ∷ c.outer)
-
-abbrev pub HoldsStep : List ℕ → Cursor → Queue → Step → Type 0
-HoldsStep columns from q x = Holds columns from x.core (perform x.actions q)
 
 -- a truth value, by its cases
 pub by_bool : (b : Bool) (P : Bool → Type 0) → (b ≡ true → P true) → (b ≡ false → P false) → P b
@@ -42,9 +41,6 @@ pub record Alike (c d : Core) : Type 0 where
   pub indent : d.indent ≡ c.indent
   pub outer_indents : d.outer_indents ≡ c.outer_indents
 
-pub alike : (c : Core) → Alike c c
-alike c = record { level = refl; outer = refl; indent = refl; outer_indents = refl }
-
 pub keys_of : (b : ℕ) (q : Queue) (i j : ℕ) (l m : Level) (ls ms : List Level) → j ≡ i → m ≡ l → ms ≡ ls
     → Keys b q i (l ∷ ls) → Keys b q j (m ∷ ms)
 keys_of b q i j l m ls ms e f g h =
@@ -52,13 +48,6 @@ keys_of b q i j l m ls ms e f g h =
     let Q : Level → Type 0 = λ x. Keys b q i (x ∷ ms) in
     let R : List Level → Type 0 = λ x. Keys b q i (l ∷ x) in
     subst P (sym e) (subst Q (sym f) (subst R (sym g) h))
-
-pub holds_further : (columns : List ℕ) (from : Cursor) (c d : Core) (q : Queue) → Alike c d → AreApart c.cursor d.cursor
-    → Holds columns from c q → Holds columns from d q
-holds_further columns from c d q a p h = record {
-  taken = taken_further columns from c d q p a.indent a.outer_indents h.taken;
-  keys = keys_of (next q) q c.indent d.indent c.level d.level c.outer d.outer a.indent a.level a.outer h.keys;
-}
 
 -- the key of the level may be forgotten
 pub record Lesser (l m : Level) : Type 0 where
@@ -166,24 +155,17 @@ saved n c =
     (λ _. record { level = inr refl; cursor = refl; outer = refl; indent = refl; outer_indents = refl })
     (λ _. record { level = inl refl; cursor = refl; outer = refl; indent = refl; outer_indents = refl })
 
-pub saved_alike : (n : ℕ) (c d e : Core) → Saved n c d → Alike d e → e.cursor ≡ d.cursor → Saved n c e
-saved_alike n c d e s a p =
-    record {
-      level = by s.level;
-      cursor =
-          p ∙ s.cursor;
-      outer = a.outer ∙ s.outer;
-      indent =
-          a.indent ∙ s.indent;
-      outer_indents = a.outer_indents ∙ s.outer_indents;
-    }
-  where
-    by : (d.level ≡ c.level)
-        ⊎ (d.level ≡ record { context = c.level.context; key = Some (record { mark = c.cursor.mark; place = n }) })
-        → (e.level ≡ c.level) ⊎ (e.level
-        ≡ record { context = c.level.context; key = Some (record { mark = c.cursor.mark; place = n }) })
-    by (inl f) = inl (a.level ∙ f)
-    by (inr f) = inr (a.level ∙ f)
+pub first_at : (x : ℕ) (s t : Cursor) → t ≡ s → slice_index s.rest 0 ≡ x → slice_index t.rest 0 ≡ x
+first_at x s t e f = ap (λ (u : Cursor). slice_index u.rest 0) e ∙ f
+
+pub apart_same : (s t : Cursor) → t ≡ s → AreApart s t
+apart_same s t e = let P : Cursor → Type 0 = λ u. AreApart s u in subst P (sym e) (taken.nothing s.mark s.rest)
+
+-- what the new token is put behind, where a key was saved
+pub saved_taken : (columns : List ℕ) (from : Cursor) (n : ℕ) (c d : Core) (q : Queue) → Saved n c d
+    → Taken columns from c q → Taken columns from d q
+saved_taken columns from n c d q s h =
+    taken_further columns from c d q (apart_same c.cursor d.cursor s.cursor) s.indent s.outer_indents h
 
 -- the token that may be a key
 pub saved_keys : (c : Core) (q : Queue) (t : Piece) (d : Core) → is_quiet t.kind ≡ true → Begins t
@@ -224,6 +206,70 @@ saved_keys c q t d e b m deep s h = by s.level
         (record { context = c.level.context; key = Some (record { mark = c.cursor.mark; place = next q }) }) d.level
         c.outer d.outer s.indent f s.outer (h.0, own, keys_put (next q) q c.indent c.outer t e outers)
 
+-- ## A candidate turns out to be a key
+
+opened_length : (n : ℕ) (o : Opening) (ps : List Place) → length (opened n o ps) ≡ length ps
+opened_length n o [] = refl
+opened_length zero o (p ∷ ps) = refl
+opened_length (suc n) o (p ∷ ps) = ap suc (opened_length n o ps)
+
+next_open : (n : ℕ) (o : Opening) (q : Queue) → next (with_opening n o q) ≡ next q
+next_open n o q = ap (λ l. q.handed + l) (opened_length (n - q.handed) o q.places)
+
+quiet_column : (o : Opening) (column : ℕ) (columns : List ℕ) → opens_block o ≡ false
+    → column_of o column columns ≡ columns
+quiet_column opening.BlockMappingAndKey column columns e = absurd (cc)
+quiet_column _ column columns e = refl
+
+pub key_known : (b : ℕ) (q : Queue) (block : Bool) (i : ℕ) (o : Option Candidate) (k : Candidate) (ls : List Level)
+    → o ≡ Some k → KeyOf b q block i o → Keys (lower b o) q i ls → Key b q block i k × Keys k.place q i ls
+key_known b q block i o k ls e x y =
+    let P : Option Candidate → Type 0 = λ z. KeyOf b q block i z in
+    let Q : Option Candidate → Type 0 = λ z. Keys (lower b z) q i ls in
+    (subst P e x, subst Q e y)
+
+-- a key alone, or in flow with its mapping
+pub open_quiet : (columns : List ℕ) (from : Cursor) (c : Core) (q : Queue) (k : Candidate) (o : Opening)
+    → opens_block o ≡ false → c.level.key ≡ Some k → Holds columns from c q
+    → Holds columns from (forget_key c) (with_opening k.place o q)
+open_quiet columns from c q k o e is h =
+    let known = key_known (next q) q (is_block c.level.context) c.indent c.level.key k c.outer is h.keys.1 h.keys.2 in
+    let key = known.0 in
+    let n = next_open k.place o q in
+    let r = with_opening k.place o q in
+    record {
+      taken = taken_open columns from c (forget_key c) q (next q) (is_block c.level.context) k o key (λ f. absurd (cc))
+          (taken.nothing _ _) (λ l s. subst (λ j. Stack j c.indent c.outer_indents)
+          (sym (quiet_column o k.mark.col l e)) s) h.taken;
+      keys = (
+        h.keys.0,
+        tt,
+        keys_weaken k.place (next r) r c.indent c.outer (omega (arith, n, key.below))
+            (keys_open k.place k.place q c.indent c.outer o e (omega arith) known.1),
+      );
+    }
+
+-- a block mapping and a key
+pub open_loud : (columns : List ℕ) (from : Cursor) (c : Core) (q : Queue) (k : Candidate) → in_block c ≡ true
+    → c.level.key ≡ Some k → Holds columns from c q
+    → Holds columns from (forget_key (enter_block k.mark.col c)) (with_opening k.place opening.BlockMappingAndKey q)
+open_loud columns from c q k e is h =
+    let known = key_known (next q) q (is_block c.level.context) c.indent c.level.key k c.outer is h.keys.1 h.keys.2 in
+    let d : Core = forget_key (enter_block k.mark.col c) in
+    let r = with_opening k.place opening.BlockMappingAndKey q in
+    record {
+      taken = taken_open columns from c d q (next q) (is_block c.level.context) k opening.BlockMappingAndKey known.0
+          (λ f. e) (taken.nothing _ _) (λ l s. (refl, s)) h.taken;
+      keys = no_keys (next r) r d.indent d.level d.outer refl (outermost columns from c q h e);
+    }
+
+pub further_block : (column : ℕ) (c : Core) → is_further column c ≡ true → in_block c ≡ true
+further_block column c e = first (in_block c) (nat_le c.indent column) e
+  where
+    first : (a b : Bool) → (a && b) ≡ true → a ≡ true
+    first true b e = refl
+    first false b e = absurd (cc)
+
 -- ## What is passed
 
 pub behind_blanks : {X : Type 0} → (P : X → Type 0) (c : Core) (f : SkipTabs × Core → Result X Refusal)
@@ -255,11 +301,6 @@ behind_gap_of P c f go = by (gaps.passed_gap (least_column c) c.cursor)
     by (Ok g) h = checked c.comment (behind_gap c g)
         (record { level = refl; outer = refl; indent = refl; outer_indents = refl }) h
     by (Err e) h = tt
-
-pub behind_forgotten : {X : Type 0} → (P : X → Type 0) (c : Core) (f : Core → Result X Refusal)
-    → Given P (f (forget_key c)) → Given P (remove_key c >>= f)
-unfolding remove_key
-behind_forgotten P c f h = by_test (in_block c && c.required) _ _ (λ r. Given P (r >>= f)) (λ _. tt) (λ _. h)
 
 -- an indicator is passed
 pub indicator : (x : ℕ) (s : Cursor) → (x == 0) ≡ false → slice_index s.rest 0 ≡ x → TakesCharacter x s (pass 1 s)

@@ -1,49 +1,37 @@
--- The steps of documents and of the stream's end take their tokens from the text.
-use Rattle.std.proofs.Common.{◌≡◌, ℕ, ◌+◌, Bool, true, false, List, [], ◌∷◌, ◌++◌, length, drop, None, Result, Ok, Err, refl, sym, ap, ◌∙◌, arith, subst, inl, inr}
-use Rattle.std.specs.Prelude.{◌&&◌, ◌||◌, ◌==◌, slice_index, not, nat_lt, codes}
-use Rattle.saphyr_input.specs.Classes.{is_bom, is_break, is_breakz, is_blank_or_breakz, byte_order_mark}
+-- What is held behind a document's content and at the stream's end, and which texts are tokens of markers and
+-- directives.
+use Rattle.std.proofs.Common.{◌≡◌, ℕ, Bool, true, false, List, [], ◌∷◌, ◌++◌, length, drop, None, refl, sym, ap, ◌∙◌, arith, subst, inl, inr}
+use Rattle.std.specs.Prelude.{◌&&◌, ◌==◌, slice_index, codes}
+use Rattle.saphyr_input.specs.Classes.{is_break, is_blank_or_breakz}
 use Rattle.saphyr_input.specs.Places.{is_document_start, is_document_end, next_2_are, next_3_are}
-use Rattle.saphyr_input.specs.declared.input.SkipTabs.{SkipTabs}
-use Rattle.saphyr_input.specs.declared.input.SkipTabs.TheVariants as tabs
 use Rattle.saphyr_scalar.specs.declared.scalar.position.Marker.{Marker}
 use Rattle.saphyr_scalar.specs.declared.scalar.position.Span.{Span}
-use Rattle.saphyr_scalar.specs.declared.scalar.fault.Refusal.{Refusal}
-use Rattle.saphyr_scalar.specs.Views.Cursor.{Cursor, ◌>>=◌, along, next_line, pass_break, separation}
-use Rattle.saphyr_scalar.specs.Steps.Directive as directives
+use Rattle.saphyr_scalar.specs.Views.Cursor.{Cursor, next_line, pass_break}
 use Rattle.saphyr_scalar.specs.Steps.Directive.{ReadDirective, version, tag_prefix, reserved}
-use Rattle.saphyr_scalar.specs.Steps.Quoted.{at, break_len}
-use Rattle.saphyr_scalar.proofs.Moving.{along_more}
-use Rattle.saphyr_scalar.proofs.Properties.TagsSpelled.{cut_at}
+use Rattle.saphyr_scalar.specs.Steps.Quoted.{break_len}
 use Rattle.saphyr_scanner.specs.Grammar.Tokens as tokens
 use Rattle.saphyr_scanner.specs.Grammar.Tokens.{Kind}
-use Rattle.saphyr_scanner.specs.Views.Tokens.{Piece}
-use Rattle.saphyr_scanner.specs.Steps.Queue.{Queue, next, empty_piece}
-use Rattle.saphyr_scanner.specs.Steps.Core.{Core, Steps, in_block, forget_key, remove_key}
-use Rattle.saphyr_scanner.specs.Steps.Passing.{with_cursor}
-use Rattle.saphyr_scanner.specs.Steps.State.{State, carried, separated, changed, acted}
+use Rattle.saphyr_scanner.specs.Steps.Queue.{next, empty_piece}
+use Rattle.saphyr_scanner.specs.Steps.Core.{in_block, forget_key}
+use Rattle.saphyr_scanner.specs.Steps.State.{State, changed}
 use Rattle.saphyr_scanner.specs.Steps.Unrolling.{unroll, end_blocks, less_deep}
 use Rattle.saphyr_scanner.specs.Steps.Document as document
 use Rattle.saphyr_scanner.specs.TokensTaken as taken
 use Rattle.saphyr_scanner.specs.TokensTaken.{AreApart, IsPassedOver, IsToken, IsPlaceOrEnd}
 use Rattle.saphyr_scanner.proofs.Blocks.{unrolled_cursor}
-use Rattle.saphyr_scanner.proofs.Taken.Separated.{apart_apart}
-use Rattle.saphyr_scanner.proofs.LineTails.{OnLine, separation_passes, tail_apart}
-use Rattle.std.proofs.lemmas.Bool.Decides.{nat_tests}
 use Rattle.saphyr_scanner.proofs.Taken.Parts.{is_quiet}
 use Rattle.saphyr_scanner.proofs.Taken.Held.{taken_further, taken_put}
-use Rattle.saphyr_scanner.proofs.Taken.Cores.{Holds, HoldsStep, holds_further, holds_forgotten, no_keys, quiet_put}
-use Rattle.saphyr_scanner.proofs.Taken.Scalars.{TextLaws}
+use Rattle.saphyr_scanner.proofs.Taken.Cores.{Holds, holds_forgotten, no_keys}
 use Rattle.saphyr_scanner.proofs.Taken.States.{Fetched, TakenState, unroll_taken, blocks_levels}
 use Rattle.std.proofs.lemmas.Bool.{eqb-true, and_parts}
 use Rattle.saphyr_input.proofs.Basics.Booleans.{by_test}
-use Rattle.saphyr_scalar.proofs.Given.{Given, given_bind, given_of}
-use Rattle.saphyr_input.proofs.Basics.Characters.{breakz_no_non_break}
+use Rattle.saphyr_scalar.proofs.Given.{Given}
 
 abbrev pub HoldsState : List ℕ → Cursor → State → Type 0
 HoldsState columns from s = Holds columns from s.core s.queue
 
 -- all block collections end, and no key is left
-forgotten_unrolled : (columns : List ℕ) (from : Cursor) (s : State) → HoldsState columns from s
+pub forgotten_unrolled : (columns : List ℕ) (from : Cursor) (s : State) → HoldsState columns from s
     → Holds columns from (forget_key (unroll None s.core.cursor.mark s).core) (unroll None s.core.cursor.mark s).queue
 unfolding unroll
 forgotten_unrolled columns from s h =
@@ -64,18 +52,6 @@ forgotten_unrolled columns from s h =
     unrolled : (columns : List ℕ) (from : Cursor) (s : State) → HoldsState columns from s
         → TakenState columns from (unroll None s.core.cursor.mark s)
     unrolled columns from s h = unroll_taken columns from None s.core.cursor.mark s (inl refl) h.taken
-
-pub behind_content : {X : Type 0}
-    → (P : X → Type 0) (columns : List ℕ) (from : Cursor) (s : State) (f : State → Result X Refusal)
-    → HoldsState columns from s
-    → ((t : State) → HoldsState columns from t → t.core.cursor ≡ s.core.cursor → Given P (f t))
-    → Given P (document.end_content s >>= f)
-unfolding document.end_content remove_key
-behind_content P columns from s f h go =
-    let u : State = unroll None s.core.cursor.mark s in
-    by_test (in_block u.core && u.core.required) _ _ (λ r. Given P (carried r u.queue >>= f)) (λ _. tt)
-    (λ _. go (record { core = forget_key u.core; queue = u.queue }) (forgotten_unrolled columns from s h)
-    (unrolled_cursor None s.core.cursor.mark s))
 
 -- ## Markers
 
@@ -123,92 +99,6 @@ end_marking = record {
   count = refl;
 }
 
-pub marker_holds : (columns : List ℕ) (from : Cursor) (stands : List ℕ → Bool) (text : List ℕ) (kind : Kind)
-    → Marking stands text kind → (s : State) → HoldsState columns from s → s.core.cursor.mark.col ≡ 0
-    → stands s.core.cursor.rest ≡ true → Given (HoldsState columns from) (document.marker kind s)
-unfolding document.marker
-marker_holds columns from stands text kind marking s h col e =
-    behind_content (HoldsState columns from) columns from s _ h (λ t k same.
-    let d : Core = document.pass_marker t.core in
-    let piece : Piece = record { span = record { start = t.core.cursor.mark; end = d.cursor.mark }; kind = kind } in
-    let stand : stands t.core.cursor.rest ≡ true = ap (λ (c : Cursor). stands c.rest) same ∙ e in
-    let first : t.core.cursor.mark.col ≡ 0 = ap (λ (c : Cursor). c.mark.col) same ∙ col in
-    let goes : d.cursor.mark ≡ along t.core.cursor.mark (length text) =
-    ap (λ n. along t.core.cursor.mark n) (sym marking.count) in
-    quiet_put columns from t.core d t.queue piece t.core.cursor d.cursor marking.quiet (taken.nothing _ _)
-    (marking.is t.core.indent piece.span t.core.cursor d.cursor (
-      first,
-      stand,
-      record {
-        is =
-            marking.three t.core.cursor.rest stand;
-        start = refl;
-        end = refl;
-        goes_on = goes;
-      },
-    ))
-    (taken.nothing _ _) (record { level = refl; outer = refl; indent = refl; outer_indents = refl }) k)
-
-pub end_marker_holds : (columns : List ℕ) (from : Cursor) (s : State) → HoldsState columns from s
-    → s.core.cursor.mark.col ≡ 0 → is_document_end s.core.cursor.rest ≡ true
-    → Given (HoldsState columns from) (document.end_marker s)
-unfolding document.end_marker document.end_line
-end_marker_holds columns from s h col e =
-    let P = HoldsState columns from in
-    given_bind P (document.marker tokens.DocumentEnd s) _ (λ t q.
-    let k = given_of P (document.marker tokens.DocumentEnd s) t
-    (marker_holds columns from is_document_end (codes "...") tokens.DocumentEnd end_marking s h col e) q in
-    by t k (separation tabs.Yes t.core.cursor) (separation_passes t.core.cursor))
-  where
-    by : (t : State) → HoldsState columns from t → (r : Result (SkipTabs × Cursor) Refusal)
-        → Given (λ (x : SkipTabs × Cursor). OnLine t.core.cursor x.1) r
-        → Given (HoldsState columns from)
-        (separated (r >>= λ x. Ok (x.0, with_cursor x.1 t.core)) t >>= document.end_line)
-    by t k (Ok x) o =
-        by_test (is_breakz (slice_index x.1.rest 0)) _ _ (Given (HoldsState columns from))
-        (λ _. holds_further columns from t.core (with_cursor x.1 t.core) t.queue
-        (record { level = refl; outer = refl; indent = refl; outer_indents = refl }) o.apart k) (λ _. tt)
-    by t k (Err f) o = tt
-
-pub mark_holds : (columns : List ℕ) (from : Cursor) (s : State) → HoldsState columns from s
-    → is_bom (slice_index s.core.cursor.rest 0) ≡ true
-    → Given (HoldsState columns from) (document.state_behind_byte_order_mark s)
-unfolding document.state_behind_byte_order_mark
-mark_holds columns from s h e =
-    by_test (nat_lt 0 s.core.cursor.mark.col || not (in_block s.core)) _ _ (Given (HoldsState columns from)) (λ _. tt)
-    (λ w. behind_content (HoldsState columns from) columns from s _ h (λ t k same.
-    let d : Core = document.pass_mark t.core in
-    let piece : Piece = record {
-      span = record { start = s.core.cursor.mark; end = d.cursor.mark };
-      kind =
-          tokens.ByteOrderMark;
-    } in
-    let first : slice_index t.core.cursor.rest 0 ≡ byte_order_mark =
-    ap (λ (c : Cursor). slice_index c.rest 0) same
-    ∙ eqb-true (slice_index s.core.cursor.rest 0) byte_order_mark e in
-    let col : t.core.cursor.mark.col ≡ 0 = ap (λ (c : Cursor). c.mark.col) same
-    ∙ no_column s.core.cursor.mark.col (not (in_block s.core)) w in
-    quiet_put columns from t.core d t.queue piece t.core.cursor d.cursor refl (taken.nothing _ _)
-    (record {
-      is = cut_at byte_order_mark t.core.cursor.rest refl first;
-      at_start =
-          col;
-      start = ap (λ (c : Cursor). c.mark) (sym same);
-      end = refl;
-      goes_on = refl;
-    })
-    (taken.nothing _ _) (record { level = refl; outer = refl; indent = refl; outer_indents = refl }) k))
-  where
-    no_column : (n : ℕ) (b : Bool) → (nat_lt 0 n || b) ≡ false → n ≡ 0
-    no_column n b f = zero_of n (left (nat_lt 0 n) b f)
-      where
-        left : (a b : Bool) → (a || b) ≡ false → a ≡ false
-        left false b g = refl
-        left true b g = absurd (cc)
-
-        zero_of : (n : ℕ) → nat_lt 0 n ≡ false → n ≡ 0
-        zero_of n g = grind (arith, nat_tests)
-
 -- ## Directives
 
 pub break_apart : (s : Cursor) → AreApart s (pass_break s)
@@ -227,58 +117,16 @@ break_apart s =
     (taken.nothing _ _)))
     (λ c. taken.nothing s.mark s.rest))
 
-directive_token : (d : ReadDirective) (i : ℕ) (span : Span) (s t : Cursor) → taken.IsDirectiveToken d span s t
+pub directive_token : (d : ReadDirective) (i : ℕ) (span : Span) (s t : Cursor) → taken.IsDirectiveToken d span s t
     → IsToken i (document.directive_kind d) span s t
 directive_token (version major minor) i span s t h = h
 directive_token (tag_prefix handle prefix) i span s t h = h
 directive_token (reserved name) i span s t h = h
 
-quiet_directive : (d : ReadDirective) → is_quiet (document.directive_kind d) ≡ true
+pub quiet_directive : (d : ReadDirective) → is_quiet (document.directive_kind d) ≡ true
 quiet_directive (version major minor) = refl
 quiet_directive (tag_prefix handle prefix) = refl
 quiet_directive (reserved name) = refl
-
-directive_step : TextLaws → (columns : List ℕ) (from : Cursor) (q : Queue) (c : Core) → Holds columns from c q
-    → c.cursor.mark.col ≡ 0 → slice_index c.cursor.rest 0 ≡ 37
-    → Given (HoldsStep columns from q) (document.read_directive c)
-unfolding document.read_directive
-directive_step laws columns from q c h col f =
-    given_bind (HoldsStep columns from q) (directives.directive c.cursor) _ (λ x e.
-    let r = laws.directive c.cursor x.2 x.0 x.1 f e in
-    let text = r.0 in
-    let tail = r.1 in
-    let behind = r.2 in
-    let s = c.cursor in
-    let mid : Cursor = at (along s.mark (length text)) (tail ++ behind) in
-    let there : Cursor = at (along s.mark (length text + length tail)) behind in
-    let piece : Piece = record { span = record { start = s.mark; end = x.1 }; kind = document.directive_kind x.0 } in
-    let first : IsPassedOver mid.mark (tail ++ behind) (along mid.mark (length tail)) behind =
-    tail_apart mid.mark tail behind r.5 (breakz_no_non_break (slice_index behind 0) r.6) in
-    let second : AreApart mid there = subst (λ (m : Marker). IsPassedOver mid.mark (tail ++ behind) m behind)
-    (along_more s.mark (length text) (length tail) (length text + length tail) refl) first in
-    let P : Cursor → Type 0 = λ u. AreApart mid u in
-    let apart : AreApart mid x.2 =
-    subst P (sym r.8) (apart_apart mid.mark mid.rest there.mark there.rest (pass_break there).mark
-    (pass_break there).rest second (break_apart there)) in
-    quiet_put columns from c _ q piece s mid (quiet_directive x.0) (taken.nothing _ _)
-    (directive_token x.0 c.indent piece.span s mid
-    (text, tail, behind, col, r.4, record { is = r.3; start = refl; end = r.7; goes_on = refl }, r.5, refl, r.6))
-    apart (record { level = refl; outer = refl; indent = refl; outer_indents = refl }) h)
-
-pub directive_holds : TextLaws → (columns : List ℕ) (from : Cursor) (s : State) → HoldsState columns from s
-    → s.core.cursor.mark.col ≡ 0 → slice_index s.core.cursor.rest 0 ≡ 37
-    → Given (HoldsState columns from) (document.state_behind_directive s)
-unfolding document.state_behind_directive
-directive_holds laws columns from s h col f =
-    behind_content (HoldsState columns from) columns from s _ h (λ t k same.
-    by t (document.read_directive t.core)
-    (directive_step laws columns from t.queue t.core k (ap (λ (c : Cursor). c.mark.col) same ∙ col)
-    (ap (λ (c : Cursor). slice_index c.rest 0) same ∙ f)))
-  where
-    by : (t : State) (r : Steps) → Given (HoldsStep columns from t.queue) r
-        → Given (HoldsState columns from) (acted r t.queue)
-    by t (Ok x) g = g
-    by t (Err x) g = tt
 
 -- ## The end of the stream
 

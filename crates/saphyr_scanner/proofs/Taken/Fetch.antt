@@ -1,109 +1,38 @@
 -- Each token that is fetched is taken from the text.
-use Rattle.std.proofs.Common.{◌≡◌, ℕ, ◌+◌, ◌-◌, ◌^◌, ◌≤◌, ◌<◌, Bool, true, false, List, [], ◌∷◌, length, None, Result, Ok, Err, refl, sym, ap, ◌∙◌, arith, subst, inl, inr, cond}
-use Rattle.std.specs.Prelude.{◌&&◌, ◌||◌, ◌==◌, slice_index, not, nat_lt, nat_le, codes}
-use Rattle.saphyr_input.specs.Classes.{is_z, is_bom, is_blank_or_breakz, is_one_of}
+use Rattle.std.proofs.Common.{◌≡◌, ℕ, ◌+◌, ◌-◌, ◌^◌, ◌≤◌, ◌<◌, Bool, true, false, List, [], ◌∷◌, length, None, Result, Ok, Err, refl, ap, ◌∙◌, arith, subst, inl, inr, cond}
+use Rattle.std.specs.Prelude.{◌&&◌, ◌==◌, slice_index, not, nat_lt, nat_le, codes}
+use Rattle.saphyr_input.specs.Classes.{is_z, is_bom}
 use Rattle.saphyr_input.specs.Places.{is_document_start, is_document_end}
-use Rattle.scalar_values.specs.declared.block.BlockStyle.TheVariants as block_style
 use Rattle.saphyr_scalar.specs.declared.scalar.position.Marker.{Marker}
 use Rattle.saphyr_scalar.specs.declared.scalar.fault.Refusal.{Refusal}
 use Rattle.saphyr_scalar.specs.Views.Cursor.{Cursor, fresh, ◌>>=◌}
-use Rattle.saphyr_scanner.specs.declared.engine.level.Context.TheVariants as context
 use Rattle.saphyr_scanner.specs.Grammar.Tokens as tokens
 use Rattle.saphyr_scanner.specs.Views.Tokens.{Piece}
 use Rattle.saphyr_scanner.specs.Steps.Queue.{Queue, closed, put, next, empty_piece}
-use Rattle.saphyr_scanner.specs.Steps.Core.{Core, Steps, perform, in_block, is_too_far, forget_key, drop_far_key, least_column}
+use Rattle.saphyr_scanner.specs.Steps.Core.{Steps, in_block, is_too_far, forget_key, drop_far_key, least_column}
 use Rattle.saphyr_scanner.specs.Steps.State.{State, carried, acted}
 use Rattle.saphyr_scanner.specs.Steps.Unrolling.{unroll}
 use Rattle.saphyr_scanner.specs.Steps.Document as document
 use Rattle.saphyr_scanner.specs.Steps.Fetch.{step, state_behind_content, fetch_here, arrive, fetch, begin, within, fetch_within, settled}
 use Rattle.saphyr_scanner.specs.TokensTaken as taken
 use Rattle.saphyr_scanner.specs.TokensTaken.{AreTokens, may_begin_plain}
+use Rattle.saphyr_scanner.proofs.Effects.Readers.{TextLaws}
 use Rattle.saphyr_scanner.proofs.Leads.{flat}
-use Rattle.saphyr_scanner.proofs.Steps.Choice.{NoIndicator, cases}
-use Rattle.saphyr_scanner.proofs.Effects.States.{Advances, acted_advances, is_marker, marker_advances, end_marker_advances, mark_advances, directive_advances}
-use Rattle.saphyr_scanner.proofs.Effects.Fetch.{left, step_effect, arrive_advances}
-use Rattle.saphyr_scanner.proofs.Taken.Separated.{given_map}
+use Rattle.saphyr_scanner.proofs.Effects.States.{Advances, acted_advances}
+use Rattle.saphyr_scanner.proofs.Effects.Fetch.{left, step_does, step_effect, arrive_advances}
 use Rattle.saphyr_scanner.proofs.Taken.Later.{LaterThan}
 use Rattle.saphyr_scanner.proofs.Taken.Parts.{tokens_part}
 use Rattle.saphyr_scanner.proofs.Taken.Held.{taken_put}
-use Rattle.saphyr_scanner.proofs.Taken.Cores.{Holds, HoldsStep, no_keys, quiet_put}
-use Rattle.saphyr_scanner.proofs.Taken.Flow.{open_sequence, open_mapping, close_sequence, close_mapping, sequence_starts, mapping_starts, start_holds, end_holds, entry_holds}
-use Rattle.saphyr_scanner.proofs.Taken.Values.{value_holds, flow_value_holds}
-use Rattle.saphyr_scanner.proofs.Taken.Blocks.{block_entry_holds, key_holds}
-use Rattle.saphyr_scanner.proofs.Taken.Scalars.{TextLaws, PlainStart, double_holds, single_holds, plain_holds, an_alias, an_anchor, name_holds, tag_holds}
-use Rattle.saphyr_scanner.proofs.Taken.States.{Live, Fetched, holds_fetched, FetchedStep, block_holds, TakenState}
-use Rattle.saphyr_scanner.proofs.Taken.Documents.{HoldsState, start_marking, marker_holds, end_marker_holds, mark_holds, directive_holds, end_fetched}
+use Rattle.saphyr_scanner.proofs.Taken.Cores.{no_keys, quiet_put}
+use Rattle.saphyr_scanner.proofs.Effects.Moves.{Premises, Walked, walked_given, Stepped}
+use Rattle.saphyr_scanner.proofs.Effects.Documents.{Documented, start_walked, end_marker_walked, mark_walked, directive_walked, documents_advance, documents_hold}
+use Rattle.saphyr_scanner.proofs.Taken.States.{Live, Fetched, holds_fetched, FetchedStep, TakenState}
+use Rattle.saphyr_scanner.proofs.Taken.Documents.{HoldsState, start_marking, end_fetched}
 use Rattle.saphyr_input.proofs.Basics.Booleans.{by_test}
 use Rattle.saphyr_scalar.proofs.Given.{Given, given_bind, given_of}
-use Rattle.std.proofs.lemmas.Bool.{or_parts, and_parts, not-true, ltb-false, ne_eqb, eqb-true}
+use Rattle.std.proofs.lemmas.Bool.{and_parts, not-true, ltb-false, eqb-true}
 use Rattle.saphyr_scanner.proofs.Queues.{flat_append}
 use Rattle.saphyr_scanner.proofs.Taken.Arrivals.{forgotten_live, forgotten_taken, Arrived, arrived}
-
--- ## What begins there
-
-begins : (x : ℕ) → (x == 44) ≡ false → (x == 91) ≡ false → (x == 93) ≡ false → (x == 123) ≡ false → (x == 125) ≡ false
-    → (x == 35) ≡ false → (x == 38) ≡ false → (x == 42) ≡ false → (x == 33) ≡ false → (x == 39) ≡ false
-    → (x == 34) ≡ false → (x == 37) ≡ false → (x == 64) ≡ false → (x == 96) ≡ false
-    → may_begin_plain x ≡ true
-begins x a b c d e f g h i j k l m n = rw (a, b, c, d, e, f, g, h, i, j, k, l, m, n) refl
-
-no_second : (b x y z : Bool) → (x && b) ≡ false → (y && b) ≡ false → (z && b) ≡ false
-    → (x || (y || (z || false))) ≡ true → b ≡ false
-no_second false x y z e f g h = refl
-no_second true true y z e f g h = absurd (cc)
-no_second true false true z e f g h = absurd (cc)
-no_second true false false true e f g h = absurd (cc)
-no_second true false false false e f g h = absurd (cc)
-
--- where no indicator stands a plain scalar may begin
-plain_start : (first second : ℕ) (c : Core) → slice_index c.cursor.rest 0 ≡ first
-    → slice_index c.cursor.rest 1 ≡ second → NoIndicator first second c → PlainStart c.cursor
-plain_start first second c f g n =
-    let w = or_parts ((first == 37) || (first == 64)) (first == 96) n.reserved in
-    let v = or_parts (first == 37) (first == 64) w.0 in
-    record {
-      other = λ no_sign. ap may_begin_plain f
-          ∙ begins first n.comma n.sequence n.sequence_end n.mapping n.mapping_end
-          (ne_eqb first 35 (λ s. no_sign (f ∙ s))) n.anchor n.alias n.tag n.single n.double v.0 v.1 w.1;
-      no_indicator = λ s. ap is_blank_or_breakz g
-          ∙ no_second (is_blank_or_breakz second) (first == 45) (first == 63) (first == 58) n.dash n.question n.colon
-          (ap (λ x. is_one_of (codes "-?:") x) (sym f) ∙ s);
-    }
-
-step_fetched : TextLaws → (text : List ℕ) → length text < 2 ^ 63
-    → (columns : List ℕ) (from : Cursor) (q : Queue) (first second : ℕ) (c : Core) → LaterThan (fresh text) from
-    → Holds columns from c q → 0 < length c.cursor.rest
-    → slice_index c.cursor.rest 0 ≡ first → slice_index c.cursor.rest 1 ≡ second
-    → (in_block c ≡ true → c.indent ≤ c.cursor.mark.col + 1)
-    → Given (FetchedStep columns from q) (step first second (next q) c)
-step_fetched laws text small columns from q first second c l h some f g deep =
-    let P = Given (FetchedStep columns from q) in
-    let all : (r : Steps) → Given (HoldsStep columns from q) r → P r =
-    λ r k. given_map _ _ r (λ x w. holds_fetched columns from x.core (perform x.actions q) w) k in
-    let with_second : is_blank_or_breakz second ≡ true → is_blank_or_breakz (slice_index c.cursor.rest 1) ≡ true =
-    λ e. ap is_blank_or_breakz g ∙ e in
-    cases P first second (next q) c (record {
-      sequence = λ e. all _ (start_holds columns from q 91 tokens.FlowSequenceStart context.FlowSequence open_sequence
-          sequence_starts refl c h (f ∙ e) deep);
-      mapping = λ e. all _ (start_holds columns from q 123 tokens.FlowMappingStart context.FlowMapping open_mapping
-          mapping_starts refl c h (f ∙ e) deep);
-      sequence_end = λ e. all _ (end_holds columns from q 93 tokens.FlowSequenceEnd close_sequence true c h (f ∙ e));
-      mapping_end = λ e. all _ (end_holds columns from q 125 tokens.FlowMappingEnd close_mapping false c h (f ∙ e));
-      comma = λ e. all _ (entry_holds columns from q c h (f ∙ e));
-      dash = λ e b. all _ (block_entry_holds columns from q c h (f ∙ e) (with_second b));
-      question = λ e b. all _ (key_holds columns from q c h (f ∙ e) (with_second b));
-      colon = λ e _. all _ (value_holds columns from q c h (f ∙ e));
-      beside = λ e _. all _ (flow_value_holds columns from q second c h (f ∙ e));
-      double = λ e. all _ (double_holds laws columns from q c h (f ∙ e) deep);
-      single = λ e. all _ (single_holds laws columns from q c h (f ∙ e) deep);
-      alias = λ e. all _ (name_holds laws columns from q true 42 an_alias c h some (f ∙ e) deep);
-      anchor = λ e. all _ (name_holds laws columns from q false 38 an_anchor c h some (f ∙ e) deep);
-      tag = λ e. all _ (tag_holds laws columns from q c h (f ∙ e) deep);
-      literal = λ e b. block_holds laws text small columns from q block_style.Literal c l h b (f ∙ e);
-      folded = λ e b. block_holds laws text small columns from q block_style.Folded c l h b (f ∙ e);
-      reserved = tt;
-      plain = λ n. all _ (plain_holds laws columns from q c h (plain_start first second c f g n) deep);
-    })
 
 -- ## The end of the stream is the last token
 
@@ -173,33 +102,32 @@ here_read laws text small columns from s l going a =
     (end_over columns from s))
     (λ z. let some : 0 < length t = left t z in
     let h : HoldsState columns from s = record { taken = a.taken; keys = a.live z } in
+    let behind : (r : Result State Refusal) → Walked (Premises s.core) (Documented s) s.core.cursor r → P r =
+    λ r w. both_given columns from s r going (held columns from r (documents_hold laws columns from s r h w))
+    (documents_advance s r w) in
     by_test (is_bom (slice_index t 0)) _ _ P
-    (λ e. both_given columns from s (document.state_behind_byte_order_mark s) going
-    (held columns from _ (mark_holds columns from s h e)) (mark_advances s some))
+    (λ e. behind (document.state_behind_byte_order_mark s) (mark_walked s e))
     (λ _. by_test ((s.core.cursor.mark.col == 0) && (slice_index t 0 == 37)) _ _ P
     (λ e. let w = and_parts (s.core.cursor.mark.col == 0) (slice_index t 0 == 37) e in
-    let first = eqb-true (slice_index t 0) 37 w.1 in
-    both_given columns from s (document.state_behind_directive s) going
-    (held columns from _ (directive_holds laws columns from s h (eqb-true s.core.cursor.mark.col 0 w.0) first))
-    (directive_advances s first))
+    behind (document.state_behind_directive s)
+    (directive_walked s (eqb-true s.core.cursor.mark.col 0 w.0) (eqb-true (slice_index t 0) 37 w.1)))
     (λ _. by_test ((s.core.cursor.mark.col == 0) && is_document_start t) _ _ P
     (λ e. let w = and_parts (s.core.cursor.mark.col == 0) (is_document_start t) e in
-    both_given columns from s (document.marker tokens.DocumentStart s) going
-    (held columns from _ (marker_holds columns from is_document_start (codes "---") tokens.DocumentStart
-    start_marking s h (eqb-true s.core.cursor.mark.col 0 w.0) w.1))
-    (marker_advances tokens.DocumentStart s (λ i. absurd (cc)) (is_marker 45 t refl w.1)))
+    behind (document.marker tokens.DocumentStart s)
+    (start_walked is_document_start (codes "---") tokens.DocumentStart start_marking (λ i. absurd (cc)) s
+    (eqb-true s.core.cursor.mark.col 0 w.0) w.1))
     (λ _. by_test ((s.core.cursor.mark.col == 0) && is_document_end t) _ _ P
     (λ e. let w = and_parts (s.core.cursor.mark.col == 0) (is_document_end t) e in
-    both_given columns from s (document.end_marker s) going
-    (held columns from _ (end_marker_holds columns from s h (eqb-true s.core.cursor.mark.col 0 w.0) w.1))
-    (end_marker_advances s (is_marker 46 t refl w.1)))
+    behind (document.end_marker s) (end_marker_walked s (eqb-true s.core.cursor.mark.col 0 w.0) w.1))
     (λ _. by_test (nat_lt s.core.cursor.mark.col (least_column s.core)) _ _ P (λ _. tt)
     (λ e. let r = step (slice_index t 0) (slice_index t 1) (next s.queue) s.core in
     both_given columns from s (acted r s.queue) going
     (acted_fetched columns from s.queue r
-    (step_fetched laws text small columns from s.queue (slice_index t 0) (slice_index t 1) s.core l h some refl refl
-    (λ _. deep_of s.core.deeper s.core.indent s.core.cursor.mark.col e)))
-    (acted_advances _ s r (step_effect (slice_index t 0) (slice_index t 1) (next s.queue) s.core some refl))))))))
+    (walked_given (Premises s.core) (Stepped (next s.queue) s.core) (FetchedStep columns from s.queue) s.core.cursor r
+    (λ x k. k.fetched laws text small columns from s.queue l refl
+    (λ _. deep_of s.core.deeper s.core.indent s.core.cursor.mark.col e) h)
+    (step_does (slice_index t 0) (slice_index t 1) (next s.queue) s.core some refl refl)))
+    (acted_advances _ s r (step_effect (slice_index t 0) (slice_index t 1) (next s.queue) s.core some refl refl))))))))
 
 begin_live : (columns : List ℕ) (from : Cursor) (s : State) → TakenState columns from s → Live s.core s.queue
     → Live (record s.core { started = true }) (put (empty_piece s.core.cursor.mark tokens.StreamStart) s.queue)

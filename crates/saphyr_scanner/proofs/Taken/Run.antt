@@ -16,14 +16,12 @@ use Rattle.saphyr_scanner.specs.TokensTaken.{IsPlaceOf, AreTokens, IsEndOf, AreT
 use Rattle.saphyr_scanner.proofs.Effects.Fetch.{Fetched, read_fetched}
 use Rattle.saphyr_scanner.proofs.Filling.{going}
 use Rattle.saphyr_scanner.proofs.Leads.{flat, place_pieces}
-use Rattle.saphyr_scanner.proofs.Effects.Readers.{Readers}
+use Rattle.saphyr_scanner.proofs.Effects.Readers.{Readers, TextLaws, RefusalLaws}
 use Rattle.saphyr_scanner.proofs.Taken.Later.{LaterThan, later_here, later_later, tokens_later}
 use Rattle.saphyr_scanner.proofs.Taken.Parts.{open_all, open_append, tokens_append, tokens_part}
 use Rattle.saphyr_scanner.proofs.Taken.Held.{Stack, Key, KeyOf, lower, Keys, keys_weaken}
-use Rattle.saphyr_scanner.proofs.Taken.Scalars.{TextLaws}
 use Rattle.saphyr_scanner.proofs.Taken.Fetch.{Read, Ready, settled_ready, read_ready}
 use Rattle.saphyr_scanner.proofs.Taken.Places.{Reaches, reaches_reaches, place_of, tokens_reached}
-use Rattle.saphyr_scanner.proofs.Told.Refusals.{RefusalLaws}
 use Rattle.saphyr_scanner.proofs.Told.Documents.{NotedState}
 use Rattle.saphyr_scanner.proofs.Told.Reads.{told_ok, told_err, settled_told, read_told}
 use Rattle.saphyr_input.proofs.Basics.Booleans.{by_test}

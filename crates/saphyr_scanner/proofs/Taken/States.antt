@@ -1,5 +1,5 @@
 -- What is known between tokens: behind a block scalar a candidate is too far in front to be a key.
-use Rattle.std.proofs.Common.{◌≡◌, ℕ, ◌^◌, ◌≤◌, ◌<◌, ◌⊎◌, Bool, true, false, List, [], ◌∷◌, length, Option, Some, None, refl, sym, ap, ◌∙◌, arith, subst, inl, inr}
+use Rattle.std.proofs.Common.{◌≡◌, ℕ, ◌^◌, ◌≤◌, ◌<◌, ◌⊎◌, Bool, true, false, List, [], ◌∷◌, length, Option, Ok, Some, None, refl, sym, ap, ◌∙◌, arith, subst, inl, inr}
 use Rattle.std.specs.Prelude.{◌&&◌, slice_index}
 use Rattle.saphyr_input.specs.Classes.{is_z}
 use Rattle.scalar_values.specs.declared.block.BlockStyle.{BlockStyle}
@@ -11,7 +11,7 @@ use Rattle.saphyr_scalar.specs.Views.Cursor.{Cursor, fresh}
 use Rattle.saphyr_scanner.specs.Grammar.Tokens as tokens
 use Rattle.saphyr_scanner.specs.Views.Tokens.{Piece}
 use Rattle.saphyr_scanner.specs.Steps.Queue.{Place, Queue, closed, put, next, empty_piece}
-use Rattle.saphyr_scanner.specs.Steps.Core.{Candidate, Level, Core, Step, perform, in_block, is_block, is_too_far, save_key}
+use Rattle.saphyr_scanner.specs.Steps.Core.{Candidate, Level, Core, Step, perform, in_block, is_block, is_too_far}
 use Rattle.saphyr_scanner.specs.Steps.Passing.{with_cursor}
 use Rattle.saphyr_scanner.specs.Steps.Scalar as scalar
 use Rattle.saphyr_scanner.specs.Steps.State.{State, changed}
@@ -23,12 +23,11 @@ use Rattle.saphyr_scanner.proofs.Leads.{flat}
 use Rattle.saphyr_scanner.proofs.Taken.Later.{top, Later, LaterThan, later_later, apart_later, token_later, tokens_later}
 use Rattle.saphyr_scanner.proofs.Taken.Parts.{tokens_part}
 use Rattle.saphyr_scanner.proofs.Taken.Held.{Stack, Taken, taken_further, taken_put, Key, Keys}
-use Rattle.saphyr_scanner.proofs.Taken.Cores.{Holds, Saved, saved, saved_alike, no_keys}
-use Rattle.saphyr_scanner.proofs.Taken.Flow.{saved_taken, first_at, apart_same}
-use Rattle.saphyr_scanner.proofs.Taken.Values.{key_known}
-use Rattle.saphyr_scanner.proofs.Taken.Scalars.{TextLaws}
+use Rattle.saphyr_scanner.proofs.Taken.Cores.{Holds, Saved, no_keys}
+use Rattle.saphyr_scanner.proofs.Taken.Cores.{saved_taken, first_at, apart_same}
+use Rattle.saphyr_scanner.proofs.Taken.Cores.{key_known}
+use Rattle.saphyr_scanner.proofs.Effects.Readers.{TextLaws}
 use Rattle.saphyr_input.proofs.Basics.Booleans.{by_test}
-use Rattle.saphyr_scalar.proofs.Given.{Given, given_bind}
 use Rattle.std.proofs.lemmas.Bool.{lt-ltb}
 use Rattle.saphyr_scanner.proofs.Queues.{flat_append}
 
@@ -136,14 +135,16 @@ key_line columns from q c d l s h k i = by s.level
         let u = same in
         omega (arith, n, u)
 
-block_at : TextLaws → (text : List ℕ) → length text < 2 ^ 63
+pub block_fetched : TextLaws → (text : List ℕ) → length text < 2 ^ 63
     → (columns : List ℕ) (from : Cursor) (q : Queue) (style : BlockStyle) (c d : Core) → LaterThan (fresh text) from
     → Saved (next q) c d → Holds columns from c q → in_block c ≡ true → in_block d ≡ true
-    → slice_index c.cursor.rest 0 ≡ taken.block_indicator style
-    → Given (FetchedStep columns from q) (scalar.read_block style d)
-unfolding scalar.read_block
-block_at laws text small columns from q style c d l s h b bd f =
-    given_bind (FetchedStep columns from q) (blocks.block_scalar style d.indent d.cursor) _ (λ x e.
+    → slice_index c.cursor.rest 0 ≡ taken.block_indicator style → (x : List ℕ × Span × Cursor)
+    → blocks.block_scalar style d.indent d.cursor ≡ Ok x
+    → Fetched columns from (with_cursor x.2 d) (put (record {
+      span = record { start = x.1.start; end = x.1.end };
+      kind = tokens.Scalar (scalar.style_of style) x.0;
+    }) q)
+block_fetched laws text small columns from q style c d l s h b bd f x e =
     let first : slice_index d.cursor.rest 0 ≡ taken.block_indicator style =
     first_at (taken.block_indicator style) c.cursor d.cursor s.cursor f in
     let p = laws.block_place style d.indent d.cursor x.2 x.0 x.1 first e in
@@ -182,24 +183,7 @@ block_at laws text small columns from q style c d l s h b bd f =
           (block_token style d.indent x.0 x.1 d.cursor x.2 is) (taken.nothing _ _) (λ cs k. k) held;
       live = λ _. elim (p.line (line_small text d.cursor small r))
           [ inl less ↦ by d.level.key refl less | inr z ↦ inl (λ nz. absurd (cc)) ];
-    })
-
-pub block_holds : TextLaws → (text : List ℕ) → length text < 2 ^ 63
-    → (columns : List ℕ) (from : Cursor) (q : Queue) (style : BlockStyle) (c : Core) → LaterThan (fresh text) from
-    → Holds columns from c q → in_block c ≡ true → slice_index c.cursor.rest 0 ≡ taken.block_indicator style
-    → Given (FetchedStep columns from q) (scalar.block_scalar_steps style (next q) c)
-unfolding scalar.block_scalar_steps
-block_holds laws text small columns from q style c l h b f =
-    let d : Core = record (save_key (next q) c) { key_allowed = true; deeper = false } in
-    let s : Saved (next q) c d = saved_alike (next q) c (save_key (next q) c) d (saved (next q) c)
-    (record { level = refl; outer = refl; indent = refl; outer_indents = refl }) refl in
-    block_at laws text small columns from q style c d l s h b (still c d s.level b) f
-  where
-    still : (c d : Core) → (d.level ≡ c.level)
-        ⊎ (d.level ≡ record { context = c.level.context; key = Some (record { mark = c.cursor.mark; place = next q }) })
-        → in_block c ≡ true → in_block d ≡ true
-    still c d (inl g) e = ap (λ (y : Level). is_block y.context) g ∙ e
-    still c d (inr g) e = ap (λ (y : Level). is_block y.context) g ∙ e
+    }
 
 -- ## Block collections end
 

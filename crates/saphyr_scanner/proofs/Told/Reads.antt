@@ -9,14 +9,14 @@ use Rattle.saphyr_scanner.specs.Steps.Fetch.{fetch, fetch_within, within, settle
 use Rattle.saphyr_scanner.specs.Steps.Queue.{Queue}
 use Rattle.saphyr_scanner.specs.Steps.State.{State}
 use Rattle.saphyr_scanner.proofs.Taken.Fetch.{Read, Ready, fetch_read}
-use Rattle.saphyr_scanner.proofs.Taken.Scalars.{TextLaws}
+use Rattle.saphyr_scanner.proofs.Effects.Readers.{TextLaws, RefusalLaws}
 use Rattle.saphyr_scanner.proofs.Taken.Held.{Taken}
 use Rattle.saphyr_scanner.proofs.Taken.Later.{LaterThan}
 use Rattle.saphyr_scanner.proofs.Leads.{flat}
 use Rattle.saphyr_scanner.proofs.PlainBehind.{IsNoted}
 use Rattle.saphyr_scanner.proofs.Reached.{apart_reached}
 use Rattle.saphyr_scanner.proofs.Taken.Places.{Reaches, reaches_reaches, At, at_here, at_further, tokens_reached}
-use Rattle.saphyr_scanner.proofs.Told.Refusals.{RefusalLaws, Told, told_further, Noted, Still, drop_still}
+use Rattle.saphyr_scanner.proofs.Told.Refusals.{Told, told_further, Noted, Still, drop_still}
 use Rattle.saphyr_scanner.proofs.Told.Documents.{NotedState, carried_told, fetch_told}
 use Rattle.saphyr_input.proofs.Basics.Booleans.{by_test}
 use Rattle.saphyr_scalar.proofs.Given.{Given}

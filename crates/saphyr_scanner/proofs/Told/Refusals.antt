@@ -1,51 +1,25 @@
 -- What a step tells: what it gives, or a refusal at a place on the way from where it began.
-use Rattle.std.proofs.Common.{◌≡◌, ℕ, ◌<◌, Bool, false, length, Option, Some, None, Result, Ok, Err, refl, sym, ◌∙◌, subst, inl, inr}
-use Rattle.std.specs.Prelude.{◌&&◌, ◌==◌, not, slice_index}
-use Rattle.saphyr_input.specs.Classes.{is_break}
+use Rattle.std.proofs.Common.{◌≡◌, ℕ, false, Option, Some, None, Result, Ok, Err, refl, sym, ◌∙◌, subst, inl, inr}
+use Rattle.std.specs.Prelude.{◌&&◌, not}
 use Rattle.saphyr_input.specs.declared.input.SkipTabs.{SkipTabs}
 use Rattle.saphyr_input.specs.declared.input.SkipTabs.TheVariants as tabs
-use Rattle.scalar_values.specs.declared.block.BlockStyle.{BlockStyle}
-use Rattle.scalar_values.specs.declared.flow.Quote.{Quote}
 use Rattle.saphyr_scalar.specs.declared.scalar.position.Marker.{Marker}
 use Rattle.saphyr_scalar.specs.declared.scalar.fault.Refusal.{Refusal}
-use Rattle.saphyr_scalar.specs.Steps.Anchor as anchors
-use Rattle.saphyr_scalar.specs.Steps.Block as blocks
-use Rattle.saphyr_scalar.specs.Views.Cursor.{Cursor, ◌>>=◌, pass, separation}
-use Rattle.saphyr_scalar.specs.Steps.Directive as directives
-use Rattle.scalar_values.specs.Flow.{mark}
-use Rattle.saphyr_scalar.specs.RefusedInside.{IsRefusedInside}
-use Rattle.saphyr_scalar.specs.Steps.Plain as words
-use Rattle.saphyr_scalar.specs.Steps.Quoted as quoted
-use Rattle.saphyr_scalar.specs.Steps.Tag as tags
+use Rattle.saphyr_scalar.specs.Views.Cursor.{Cursor, ◌>>=◌, separation}
 use Rattle.saphyr_scanner.specs.Steps.Gap as gaps
-use Rattle.saphyr_scanner.specs.Steps.Core.{Core, Step, in_block, is_too_far, remove_key, drop_far_key, least_column, is_further, roll}
+use Rattle.saphyr_scanner.specs.Steps.Core.{Core, Step, Steps, in_block, is_too_far, remove_key, drop_far_key, least_column}
 use Rattle.saphyr_scanner.specs.Steps.Passing.{separate, with_cursor, pass_gap, check_comment, goes_on_behind, behind_gap, intercepts}
-use Rattle.saphyr_scanner.specs.TokensTaken as taken
 use Rattle.saphyr_scanner.specs.TokensTaken.{AreApart}
 use Rattle.saphyr_scanner.proofs.GapPlaces.{Refused, gap_refused}
-use Rattle.saphyr_scanner.proofs.Taken.Cores.{indicator}
+use Rattle.saphyr_scanner.proofs.Effects.Readers.{RefusalLaws}
+use Rattle.saphyr_scanner.proofs.Effects.Moves.{Premises, Walked, Stepped}
 use Rattle.saphyr_scanner.proofs.LineTails.{OnLine, separation_passes}
 use Rattle.saphyr_scanner.proofs.PlainBehind.{IsNoted}
 use Rattle.saphyr_scanner.proofs.Reached.{apart_reached, passed_reached}
 use Rattle.saphyr_scanner.proofs.Taken.Separated.{gap_apart}
-use Rattle.saphyr_scanner.proofs.Taken.Places.{Reaches, reaches_reaches, At, at_here, at_further, at_reached, here_at, character_reached}
+use Rattle.saphyr_scanner.proofs.Taken.Places.{Reaches, reaches_reaches, At, at_here, at_further, at_reached, here_at}
 use Rattle.saphyr_input.proofs.Basics.Booleans.{by_test}
 use Rattle.saphyr_scalar.proofs.Given.{Given}
-
--- what the laws of the readers say of their refusals
-pub record RefusalLaws : Type 0 where
-  pub name : (s : Cursor) (e : Refusal) → anchors.anchor s ≡ Err e → e.mark ≡ s.mark
-  pub tag : (in_flow : Bool) (s : Cursor) (e : Refusal) → tags.tag in_flow s ≡ Err e → e.mark ≡ s.mark
-  pub separation : (tabs : SkipTabs) (s : Cursor) (e : Refusal) → separation tabs s ≡ Err e → IsRefusedInside s e
-  pub directive : (s : Cursor) (e : Refusal) → slice_index s.rest 0 ≡ 37 → directives.directive s ≡ Err e
-      → IsRefusedInside s e
-  pub quotes : (quote : Quote) (indent : ℕ) (s : Cursor) (e : Refusal) → slice_index s.rest 0 ≡ mark quote
-      → quoted.quoted quote indent s ≡ Err e → IsRefusedInside s e
-  pub plain : (in_flow : Bool) (indent : ℕ) (s : Cursor) (e : Refusal) → words.plain in_flow indent s ≡ Err e
-      → IsRefusedInside s e
-  pub block_scalar : (style : BlockStyle) (indent : ℕ) (s : Cursor) (e : Refusal)
-      → is_break (slice_index s.rest 0) ≡ false → 0 < length s.rest → blocks.block_scalar style indent s ≡ Err e
-      → IsRefusedInside s e
 
 abbrev pub Told : {X : Type 0} → (X → Type 0) → Cursor → Result X Refusal → Type 0
 Told P s (Ok x) = P x
@@ -62,18 +36,6 @@ pub told_further : {X : Type 0} → (P : X → Type 0) (s t : Cursor) (r : Resul
 told_further P s t (Ok x) a h = h
 told_further P s t (Err e) a h = at_further s t e.mark a h
 
--- what a reader gives, and where it refuses
-pub reader_told : {X : Type 0} → (P : X → Type 0) (s : Cursor) (r : Result X Refusal) → Given P r
-    → ((e : Refusal) → r ≡ Err e → IsRefusedInside s e) → Told P s r
-reader_told P s (Ok x) h go = h
-reader_told P s (Err e) h go =
-    let w = go e refl in at_reached s e.mark w.0 (passed_reached s.mark s.rest e.mark w.0 w.1)
-
-pub reader_here : {X : Type 0} → (P : X → Type 0) (s : Cursor) (r : Result X Refusal) → Given P r
-    → ((e : Refusal) → r ≡ Err e → e.mark ≡ s.mark) → Told P s r
-reader_here P s (Ok x) h go = h
-reader_here P s (Err e) h go = here_at s e.mark (go e refl)
-
 -- ## Cores
 
 -- a place was reached, and no comment is kept
@@ -87,22 +49,17 @@ Noted c = IsNoted c.comment c.cursor
 abbrev pub NotedStep : Step → Type 0
 NotedStep x = Noted x.core
 
+-- what is told of a step that is walked
+pub walked_told : (c : Core) → Premises c → (n : ℕ) (r : Steps) → Walked (Premises c) (Stepped n c) c.cursor r
+    → Told NotedStep c.cursor r
+walked_told c laws n (Ok x) h = h.noted laws.2
+walked_told c laws n (Err e) h = h laws
+
 abbrev pub Still : Core → Core → Type 0
 Still c d = (d.cursor ≡ c.cursor) × (d.comment ≡ c.comment)
 
-pub goes_here : (c : Core) → c.comment ≡ None → Goes c.cursor c
-goes_here c n = (taken.nothing c.cursor.mark c.cursor.rest, n)
-
 pub goes_still : (s : Cursor) (c d : Core) → Still c d → Goes s c → Goes s d
 goes_still s c d e g = let P : Cursor → Type 0 = λ u. Reaches s u in (subst P (sym e.0) g.0, e.1 ∙ g.1)
-
-pub at_core : (s : Cursor) (c : Core) → Goes s c → At s c.cursor.mark
-at_core s c g = at_further s c.cursor c.cursor.mark g.0 (at_here c.cursor)
-
--- an indicator is passed
-pub passes : (x : ℕ) (s : Cursor) → (x == 0) ≡ false → is_break x ≡ false → slice_index s.rest 0 ≡ x
-    → Reaches s (pass 1 s)
-passes x s z b e = character_reached x s (pass 1 s) b (indicator x s z e)
 
 pub drop_still : (c : Core) → Told (Still c) c.cursor (drop_far_key c)
 unfolding drop_far_key
@@ -114,13 +71,6 @@ pub remove_still : (c : Core) → Told (Still c) c.cursor (remove_key c)
 unfolding remove_key
 remove_still c = by_test (in_block c && c.required) _ _ (Told (Still c) c.cursor) (λ _. at_here c.cursor)
     (λ _. (refl, refl))
-
-pub remove_goes : (s : Cursor) (c : Core) → Goes s c → Told (Goes s) s (remove_key c)
-unfolding remove_key
-remove_goes s c g = by_test (in_block c && c.required) _ _ (Told (Goes s) s) (λ _. at_core s c g) (λ _. g)
-
-pub roll_still : (column : ℕ) (c : Core) → Still c (roll column c)
-roll_still column c = by_test (is_further column c) _ _ (Still c) (λ _. (refl, refl)) (λ _. (refl, refl))
 
 -- ## What is passed
 

@@ -3,10 +3,8 @@ use Rattle.saphyr_input.specs.Classes.{is_break}
 use Rattle.scalar_values.specs.declared.block.BlockStyle.{BlockStyle}
 use Rattle.scalar_values.specs.declared.block.BlockStyle.TheVariants as block_style
 use Rattle.saphyr_scanner.specs.TokensTaken.{block_indicator}
-use Rattle.saphyr_scanner.proofs.Effects.Readers.{Readers, quoted_laws}
-use Rattle.saphyr_scanner.proofs.Taken.Scalars.{TextLaws}
+use Rattle.saphyr_scanner.proofs.Effects.Readers.{Readers, quoted_laws, TextLaws, RefusalLaws}
 use Rattle.saphyr_scanner.proofs.Taken.Run.{scan_taken}
-use Rattle.saphyr_scanner.proofs.Told.Refusals.{RefusalLaws}
 use Rattle.saphyr_scanner.proofs.law.takes_all_tokens.Goals as goal
 
 indicator_begins : (style : BlockStyle) → is_break (block_indicator style) ≡ false

@@ -1,0 +1,302 @@
+-- What each step of documents does: markers, byte order marks and directives.
+use Rattle.std.proofs.Common.{◌≡◌, ℕ, ◌+◌, ◌<◌, Bool, true, false, List, [], ◌∷◌, ◌++◌, length, drop, None, Result, Ok, Err, refl, sym, ap, ◌∙◌, arith, subst}
+use Rattle.std.specs.Prelude.{◌&&◌, ◌||◌, ◌==◌, slice_index, not, nat_lt, codes}
+use Rattle.saphyr_input.specs.Classes.{is_bom, is_break, is_breakz, is_blank_or_breakz, byte_order_mark}
+use Rattle.saphyr_input.specs.Places.{is_document_end, next_3_are}
+use Rattle.saphyr_input.specs.declared.input.SkipTabs.{SkipTabs}
+use Rattle.saphyr_scalar.specs.declared.scalar.position.Marker.{Marker}
+use Rattle.saphyr_scalar.specs.declared.scalar.fault.Refusal.{Refusal}
+use Rattle.saphyr_scalar.specs.Views.Cursor.{Cursor, ◌>>=◌, along, pass, pass_break}
+use Rattle.saphyr_scalar.specs.Steps.Directive as directives
+use Rattle.saphyr_scalar.specs.Steps.Directive.{ReadDirective}
+use Rattle.saphyr_scalar.specs.Steps.Quoted.{at}
+use Rattle.saphyr_scalar.proofs.Moving.{along_more}
+use Rattle.saphyr_scalar.proofs.Properties.TagsSpelled.{cut_at}
+use Rattle.saphyr_scanner.specs.Grammar.Tokens as tokens
+use Rattle.saphyr_scanner.specs.Grammar.Tokens.{Kind}
+use Rattle.saphyr_scanner.specs.Steps.Core.{Core, Step, from_to, up_to_here, perform, in_block, forget_key, remove_key, went}
+use Rattle.saphyr_scanner.specs.Steps.Passing.{separate, with_cursor}
+use Rattle.saphyr_scanner.specs.Steps.State.{State, carried, separated, acted}
+use Rattle.saphyr_scanner.specs.Steps.Unrolling.{unroll}
+use Rattle.saphyr_scanner.specs.Steps.Document as document
+use Rattle.saphyr_scanner.specs.TokensTaken as taken
+use Rattle.saphyr_scanner.specs.TokensTaken.{AreApart, IsPassedOver, IsReached, IsToken}
+use Rattle.saphyr_scanner.proofs.Added.Queue.{IsNoEnd}
+use Rattle.saphyr_scanner.proofs.Blocks.{unrolled_cursor, unrolled_comment}
+use Rattle.saphyr_scanner.proofs.Counted.{stays, text_passed}
+use Rattle.saphyr_scanner.proofs.Effects.Moves.{Does, and_then, NoComment, Same, still, Reading, quiet, Premises, Walked, walked_then, at_most, Doing, unsaved_step, at_reach, at_inside, read_walked, separate_walked, further}
+use Rattle.saphyr_scanner.proofs.Effects.Readers.{TextLaws}
+use Rattle.saphyr_scanner.proofs.Effects.States.{Advances, advances_advances, carried_advances, acted_advances, unroll_advances}
+use Rattle.saphyr_scanner.proofs.Effects.Steps.{begins_none, begins_forgotten}
+use Rattle.saphyr_scanner.proofs.LineTails.{OnLine, tail_apart}
+use Rattle.saphyr_scanner.proofs.Reached.{along_reached, apart_reached}
+use Rattle.saphyr_scanner.proofs.Taken.Documents.{HoldsState, forgotten_unrolled, three_at, Marking, end_marking, break_apart, directive_token, quiet_directive}
+use Rattle.saphyr_scanner.proofs.Taken.Later.{apart_later}
+use Rattle.saphyr_scanner.proofs.Taken.Parts.{is_quiet}
+use Rattle.saphyr_scanner.proofs.Taken.Places.{Reaches, reaches_reaches, At, at_here}
+use Rattle.saphyr_scanner.proofs.Taken.Separated.{apart_apart}
+use Rattle.saphyr_input.proofs.Basics.Booleans.{by_test}
+use Rattle.saphyr_input.proofs.Basics.Characters.{breakz_no_non_break}
+use Rattle.saphyr_scalar.proofs.Given.{Given}
+use Rattle.std.proofs.lemmas.Bool.{eqb-true, and_parts}
+use Rattle.std.proofs.lemmas.Bool.Decides.{nat_tests}
+
+-- from s to t, at the same place, the content of a document ends
+record Content (s t : State) : Type 0 where
+  advances : Advances 0 s t
+  cursor : t.core.cursor ≡ s.core.cursor
+  comment : NoComment s.core t.core
+  holds : (columns : List ℕ) (from : Cursor) → HoldsState columns from s → HoldsState columns from t
+
+content_walked : (s : State) → Walked (Premises s.core) (Content s) s.core.cursor (document.end_content s)
+unfolding document.end_content remove_key
+content_walked s =
+    let u : State = unroll None s.core.cursor.mark s in
+    let there = unrolled_cursor None s.core.cursor.mark s in
+    by_test (in_block u.core && u.core.required) _ _
+    (λ r. Walked (Premises s.core) (Content s) s.core.cursor (carried r u.queue))
+    (λ _ _. let P : Cursor → Type 0 = λ v. At s.core.cursor v.mark in subst P (sym there) (at_here s.core.cursor))
+    (λ _. record {
+      advances = advances_advances 0 0 s u _ (unroll_advances None s.core.cursor.mark s refl)
+          (carried_advances u (Ok (forget_key u.core))
+          (stays u.core.cursor u.core.cursor refl, begins_forgotten 0 u.core u.core (begins_none u.core)));
+      cursor = there;
+      comment = λ n. unrolled_comment None s.core.cursor.mark s ∙ n;
+      holds = λ columns from h. forgotten_unrolled columns from s h;
+    })
+
+-- from s to t a token is put, which is taken from the text
+pub record Documented (s t : State) : Type 0 where
+  pub advances : Advances 1 s t
+  pub holds : TextLaws → (columns : List ℕ) (from : Cursor) → HoldsState columns from s → HoldsState columns from t
+  pub comment : NoComment s.core t.core
+
+-- behind the content, a step that saves no key
+documented : (s t : State) (x : Step) → Content s t → NoComment t.core x.core → Doing None t.core x
+    → Documented s (record { core = x.core; queue = perform x.actions t.queue })
+documented s t x c m d = record {
+  advances = advances_advances 0 1 s t _ c.advances
+      (acted_advances _ t (Ok x) (unsaved_step (Unit {0}) 0 t.core t.core.cursor (Ok x) d).effect);
+  holds = λ laws columns from h. d.holds laws columns from t.queue tt (c.holds columns from h);
+  comment = λ n. m (c.comment n);
+}
+
+-- the token of a text that stands here
+spelled : (c d : Core) (kind : Kind) (text : List ℕ) → c.cursor.rest ≡ text ++ d.cursor.rest
+    → d.cursor.mark.index ≡ c.cursor.mark.index + length text → 0 < length text → is_quiet kind ≡ true → IsNoEnd kind
+    → Same c d → IsToken c.indent kind (record { start = c.cursor.mark; end = d.cursor.mark }) c.cursor d.cursor
+    → Does None 1 5 c d (up_to_here c.cursor.mark kind d ∷ [])
+spelled c d kind text is i some q e s token =
+    let u = d.cursor in
+    let a = text_passed c.cursor u text is i in
+    at_most (omega arith) (and_then (λ n. n)
+    (quiet 1 c (record { span = record { start = c.cursor.mark; end = u.mark }; kind = kind }) u q e
+    (record {
+      less = λ _. omega (arith, a.counted, i, some);
+      span = λ _. record { ahead = a; begins = omega arith; inside = a.later; ends = omega arith };
+      token = λ _. (u, token, taken.nothing u.mark u.rest);
+    }))
+    (still (with_cursor u c) d s refl))
+
+-- ## Markers
+
+pub marker_walked : (stands : List ℕ → Bool) (text : List ℕ) (kind : Kind) → Marking stands text kind → IsNoEnd kind
+    → (s : State) → s.core.cursor.mark.col ≡ 0 → stands s.core.cursor.rest ≡ true
+    → Walked (Premises s.core) (λ (t : State). Documented s t × (t.core.cursor ≡ pass 3 s.core.cursor)) s.core.cursor
+    (document.marker kind s)
+unfolding document.marker
+marker_walked stands text kind marking no_end s col e =
+    walked_then (Premises s.core) (Content s)
+    (λ (t : State). Documented s t × (t.core.cursor ≡ pass 3 s.core.cursor)) s.core.cursor (document.end_content s) _
+    (content_walked s) (λ t c.
+    let d : Core = document.pass_marker t.core in
+    let stand : stands t.core.cursor.rest ≡ true = ap (λ (u : Cursor). stands u.rest) c.cursor ∙ e in
+    let three = marking.three t.core.cursor.rest stand in
+    let goes : d.cursor.mark ≡ along t.core.cursor.mark (length text) =
+    ap (λ n. along t.core.cursor.mark n) (sym marking.count) in
+    let token : taken.IsMarker stands text (record { start = t.core.cursor.mark; end = d.cursor.mark }) t.core.cursor
+    d.cursor = (
+      ap (λ (u : Cursor). u.mark.col) c.cursor ∙ col,
+      stand,
+      record { is = three; start = refl; end = refl; goes_on = goes },
+    ) in (
+      documented s t (record { core = d; actions = up_to_here t.core.cursor.mark kind d ∷ [] }) c (λ n. n)
+          (spelled t.core d kind text three (let k = marking.count in omega (arith, k))
+          (let k = marking.count in omega (arith, k)) marking.quiet no_end (refl, refl, λ n. n)
+          (marking.is t.core.indent _ t.core.cursor d.cursor token)),
+      ap (pass 3) c.cursor,
+    ))
+
+pub start_walked : (stands : List ℕ → Bool) (text : List ℕ) (kind : Kind) → Marking stands text kind → IsNoEnd kind
+    → (s : State) → s.core.cursor.mark.col ≡ 0 → stands s.core.cursor.rest ≡ true
+    → Walked (Premises s.core) (Documented s) s.core.cursor (document.marker kind s)
+start_walked stands text kind marking no_end s col e =
+    weaker (document.marker kind s) (marker_walked stands text kind marking no_end s col e)
+  where
+    weaker : (r : Result State Refusal)
+        → Walked (Premises s.core) (λ (t : State). Documented s t × (t.core.cursor ≡ pass 3 s.core.cursor))
+        s.core.cursor r → Walked (Premises s.core) (Documented s) s.core.cursor r
+    weaker (Ok t) h = h.0
+    weaker (Err x) h = h
+
+three_reached : (x : ℕ) (s : Cursor) → (0 == x) ≡ false → is_break x ≡ false → next_3_are s.rest x x x ≡ true
+    → Reaches s (pass 3 s)
+three_reached x s z b e =
+    let three = three_at x s.rest z e in
+    let P : List ℕ → Type 0 = λ l. IsReached s.mark l (along s.mark 3) (drop 3 s.rest) in
+    subst P (sym three) (along_reached s.mark (x ∷ x ∷ x ∷ []) (drop 3 s.rest) (b, (b, (b, tt))))
+
+pub end_marker_walked : (s : State) → s.core.cursor.mark.col ≡ 0 → is_document_end s.core.cursor.rest ≡ true
+    → Walked (Premises s.core) (Documented s) s.core.cursor (document.end_marker s)
+unfolding document.end_marker document.end_line
+end_marker_walked s col e =
+    let here = s.core.cursor in
+    walked_then (Premises s.core) (λ (t : State). Documented s t × (t.core.cursor ≡ pass 3 here)) (Documented s) here
+    (document.marker tokens.DocumentEnd s) _
+    (marker_walked is_document_end (codes "...") tokens.DocumentEnd end_marking (λ i. absurd (cc)) s col e)
+    (λ t g. by t g.0 (there t g.1) (separate t.core) (separate_walked s.core here t.core (λ _. there t g.1)))
+  where
+    there : (t : State) → t.core.cursor ≡ pass 3 s.core.cursor → Reaches s.core.cursor t.core.cursor
+    there t q =
+        let P : Cursor → Type 0 = λ u. Reaches s.core.cursor u in
+        subst P (sym q) (three_reached 46 s.core.cursor refl refl
+        (and_parts (next_3_are s.core.cursor.rest 46 46 46) (is_blank_or_breakz (slice_index s.core.cursor.rest 3))
+        e).0)
+
+    by : (t : State) → Documented s t → Reaches s.core.cursor t.core.cursor → (r : Result (SkipTabs × Core) Refusal)
+        → Walked (Premises s.core) (λ (x : SkipTabs × Core). Same t.core x.1 × OnLine t.core.cursor x.1.cursor)
+        s.core.cursor r
+        → Walked (Premises s.core) (Documented s) s.core.cursor (separated r t >>= document.end_line)
+    by t d a (Ok x) h =
+        let c = t.core.cursor in
+        let u = x.1.cursor in
+        let later = apart_later c.mark c.rest u.mark u.rest h.1.apart in
+        let f = further t.core x.1 h.0 h.1.apart in
+        by_test (is_breakz (slice_index u.rest 0)) _ _ (Walked (Premises s.core) (Documented s) s.core.cursor)
+        (λ _. record {
+          advances = advances_advances 1 0 s t _ d.advances
+              (carried_advances t (Ok x.1) (
+                record { later = later.index; counted = later.counted },
+                (f.started, f.ended, (let w = f.few in omega (arith, w)), λ i k. (f.keeps i tt k).0),
+              ));
+          holds = λ laws columns from k. f.holds laws columns from t.queue tt (d.holds laws columns from k);
+          comment = λ n. h.0.2 (d.comment n);
+        })
+        (λ _ _. at_reach s.core.cursor u (reaches_reaches s.core.cursor c u a (apart_reached c.mark c.rest u.mark u.rest
+        h.1.apart)))
+    by t d a (Err x) h = h
+
+-- ## Byte order marks
+
+pub mark_walked : (s : State) → is_bom (slice_index s.core.cursor.rest 0) ≡ true
+    → Walked (Premises s.core) (Documented s) s.core.cursor (document.state_behind_byte_order_mark s)
+unfolding document.state_behind_byte_order_mark
+mark_walked s e =
+    let here = s.core.cursor in
+    by_test (nat_lt 0 here.mark.col || not (in_block s.core)) _ _ (Walked (Premises s.core) (Documented s) here)
+    (λ _ _. at_here here)
+    (λ w. walked_then (Premises s.core) (Content s) (Documented s) here (document.end_content s) _ (content_walked s)
+    (λ t c.
+    let d : Core = document.pass_mark t.core in
+    let first : slice_index t.core.cursor.rest 0 ≡ byte_order_mark =
+    ap (λ (u : Cursor). slice_index u.rest 0) c.cursor
+    ∙ eqb-true (slice_index here.rest 0) byte_order_mark e in
+    let is = cut_at byte_order_mark t.core.cursor.rest refl first in
+    let col : t.core.cursor.mark.col ≡ 0 = ap (λ (u : Cursor). u.mark.col) c.cursor
+    ∙ no_column here.mark.col (not (in_block s.core)) w in
+    let P : Cursor → Type 0 = λ u. Does None 1 5 t.core d (up_to_here u.mark tokens.ByteOrderMark d ∷ []) in
+    documented s t (record { core = d; actions = up_to_here here.mark tokens.ByteOrderMark d ∷ [] }) c (λ n. n)
+    (subst P c.cursor (spelled t.core d tokens.ByteOrderMark (byte_order_mark ∷ []) is (omega arith) (omega arith) refl
+    (λ i. absurd (cc)) (refl, refl, λ n. n)
+    (record { is = is; at_start = col; start = refl; end = refl; goes_on = refl })))))
+  where
+    no_column : (n : ℕ) (b : Bool) → (nat_lt 0 n || b) ≡ false → n ≡ 0
+    no_column n b f = zero_of n (first (nat_lt 0 n) b f)
+      where
+        first : (a b : Bool) → (a || b) ≡ false → a ≡ false
+        first false b g = refl
+        first true b g = absurd (cc)
+
+        zero_of : (n : ℕ) → nat_lt 0 n ≡ false → n ≡ 0
+        zero_of n g = grind (arith, nat_tests)
+
+-- ## Directives
+
+directive_is_no_end : (d : ReadDirective) → IsNoEnd (document.directive_kind d)
+directive_is_no_end (directives.version major minor) = λ i. absurd (cc)
+directive_is_no_end (directives.tag_prefix handle prefix) = λ i. absurd (cc)
+directive_is_no_end (directives.reserved name) = λ i. absurd (cc)
+
+directive_reading : (c : Core) (x : ReadDirective × Marker × Cursor) → c.cursor.mark.col ≡ 0
+    → slice_index c.cursor.rest 0 ≡ 37 → directives.directive c.cursor ≡ Ok x
+    → Reading 1 c (record { span = record { start = c.cursor.mark; end = x.1 }; kind = document.directive_kind x.0 })
+    x.2
+directive_reading c x col f e = record {
+  less = λ laws. let z = laws.directive c.cursor x.2 x.0 x.1 f e in omega (arith, z);
+  span = λ laws. let z = laws.directive c.cursor x.2 x.0 x.1 f e in
+      record { ahead = z.ahead; begins = omega arith; inside = z.begins; ends = z.ends };
+  token = λ laws.
+      let r = laws.directive c.cursor x.2 x.0 x.1 f e in
+      let text = r.0 in
+      let tail = r.1 in
+      let behind = r.2 in
+      let s = c.cursor in
+      let mid : Cursor = at (along s.mark (length text)) (tail ++ behind) in
+      let there : Cursor = at (along s.mark (length text + length tail)) behind in
+      let first : IsPassedOver mid.mark (tail ++ behind) (along mid.mark (length tail)) behind =
+      tail_apart mid.mark tail behind r.5 (breakz_no_non_break (slice_index behind 0) r.6) in
+      let second : AreApart mid there = subst (λ (m : Marker). IsPassedOver mid.mark (tail ++ behind) m behind)
+      (along_more s.mark (length text) (length tail) (length text + length tail) refl) first in
+      let P : Cursor → Type 0 = λ u. AreApart mid u in (
+        mid,
+        directive_token x.0 c.indent (record { start = s.mark; end = x.1 }) s mid
+            (text, tail, behind, col, r.4, record { is = r.3; start = refl; end = r.7; goes_on = refl }, r.5, refl,
+            r.6),
+        subst P (sym r.8) (apart_apart mid.mark mid.rest there.mark there.rest (pass_break there).mark
+            (pass_break there).rest second (break_apart there)),
+      );
+}
+
+pub directive_walked : (s : State) → s.core.cursor.mark.col ≡ 0 → slice_index s.core.cursor.rest 0 ≡ 37
+    → Walked (Premises s.core) (Documented s) s.core.cursor (document.state_behind_directive s)
+unfolding document.state_behind_directive document.read_directive
+directive_walked s col f =
+    let A = Premises s.core in
+    let here = s.core.cursor in
+    walked_then A (Content s) (Documented s) here (document.end_content s) _ (content_walked s) (λ t c.
+    let r = directives.directive t.core.cursor in
+    let first = ap (λ (u : Cursor). slice_index u.rest 0) c.cursor ∙ f in
+    let P : Cursor → Type 0 = λ u. (e : Refusal) → r ≡ Err e → A → At u e.mark in
+    by t c r (ap (λ (u : Cursor). u.mark.col) c.cursor ∙ col) first
+    (read_walked A here r (subst P c.cursor (λ e q laws. at_inside t.core.cursor e
+    (laws.0.directive t.core.cursor e first q)))))
+  where
+    by : (t : State) → Content s t → (r : Result (ReadDirective × Marker × Cursor) Refusal)
+        → t.core.cursor.mark.col ≡ 0 → slice_index t.core.cursor.rest 0 ≡ 37
+        → Walked (Premises s.core) (λ (x : ReadDirective × Marker × Cursor). directives.directive t.core.cursor ≡ Ok x)
+        s.core.cursor r
+        → Walked (Premises s.core) (Documented s) s.core.cursor
+        (acted (r >>= λ x. went (from_to t.core.cursor.mark x.1 (document.directive_kind x.0) ∷ [])
+        (record (with_cursor x.2 t.core) { key_allowed = false })) t.queue)
+    by t c (Ok x) col first e =
+        let d : Core = record (with_cursor x.2 t.core) { key_allowed = false } in
+        let kind = document.directive_kind x.0 in
+        documented s t (record { core = d; actions = from_to t.core.cursor.mark x.1 kind ∷ [] }) c (λ n. n)
+        (at_most (omega arith) (and_then (λ n. n)
+        (quiet 1 t.core (record { span = record { start = t.core.cursor.mark; end = x.1 }; kind = kind }) x.2
+        (quiet_directive x.0) (directive_is_no_end x.0) (directive_reading t.core x col first e))
+        (still (with_cursor x.2 t.core) d (refl, refl, λ n. n) refl)))
+    by t c (Err e) col first h = h
+
+-- ## What follows
+
+pub documents_advance : (s : State) (r : Result State Refusal) → Walked (Premises s.core) (Documented s) s.core.cursor r
+    → Given (Advances 1 s) r
+documents_advance s (Ok t) h = h.advances
+documents_advance s (Err e) h = tt
+
+pub documents_hold : TextLaws → (columns : List ℕ) (from : Cursor) (s : State) (r : Result State Refusal)
+    → HoldsState columns from s → Walked (Premises s.core) (Documented s) s.core.cursor r
+    → Given (HoldsState columns from) r
+documents_hold laws columns from s (Ok t) k h = h.holds laws columns from k
+documents_hold laws columns from s (Err e) k h = tt
