@@ -7,8 +7,7 @@ use Rattle.saphyr_scanner.specs.Grammar.Layout.{IsLayoutText}
 use Rattle.layout_examples.proofs.Pieces.Spaces.{no_filler, filler, comment_line, text_end}
 use Rattle.layout_examples.proofs.Pieces.Scalars.{letter_a, letter_b, letter_c}
 use Rattle.layout_examples.proofs.Pieces.Block.{line, nothing, at_start, behind_dash, sequence, dash, next_dash}
-use Rattle.layout_examples.proofs.Pieces.Block.{no_dash}
-use Rattle.layout_examples.proofs.Pieces.Block.{mapping, first_pair, no_pair, letter}
+use Rattle.layout_examples.proofs.Pieces.Block.{no_dash, mapping, first_pair, no_pair, letter}
 use Rattle.layout_examples.proofs.Pieces.Streams.{document}
 
 -- block collections in the entries of a block sequence

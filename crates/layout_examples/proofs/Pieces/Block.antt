@@ -1,16 +1,15 @@
 -- Block collections, their entries and pairs, and nodes in flow style at their places.
-use Rattle.std.proofs.Common.{ℕ, suc, ◌+◌, ◌≤◌, false, not, ◌==◌, List, [], ◌∷◌, ◌++◌, length}
-use Rattle.std.proofs.Common.{inl, inr, refl, arith, codes, IsTrue, IsFalse}
+use Rattle.std.proofs.Common.{ℕ, suc, ◌+◌, ◌≤◌, false, not, ◌==◌, List, [], ◌∷◌, ◌++◌, length, inl, inr, refl, arith}
+use Rattle.std.proofs.Common.{codes, IsTrue, IsFalse}
 use Rattle.std.specs.List.{list_all}
 use Rattle.saphyr_scalar.specs.Steps.BlockRead.{spaces}
 use Rattle.saphyr_scanner.specs.Grammar.Forest.{Properties, no_properties, Node, Alias, Scalar, Seq, Map, Nodes, NoNode}
 use Rattle.saphyr_scanner.specs.Grammar.Forest.{MoreNodes, Pairs, NoPair, MorePairs, left_out}
 use Rattle.saphyr_scanner.specs.Grammar.FlowNodes.{needs_separation}
-use Rattle.saphyr_scanner.specs.Grammar.BlockNodes.{Position, BehindDash, BehindMark, BehindKey, AtStart}
-use Rattle.saphyr_scanner.specs.Grammar.BlockNodes.{indent_at, sequence_indent_at, is_start, IsLead, IsFlowInBlock}
-use Rattle.saphyr_scanner.specs.Grammar.BlockNodes.{IsBehindQuestion, IsBlockPair, IsBlockNode}
-use Rattle.saphyr_scanner.specs.Grammar.BlockNodes.{AreEntries, AreOtherEntries, ArePairs, AreOtherPairs}
-use Rattle.saphyr_scanner.specs.Grammar.BlockNodes.{IsCollectionFront}
+use Rattle.saphyr_scanner.specs.Grammar.BlockNodes.{Position, BehindDash, BehindMark, BehindKey, AtStart, indent_at}
+use Rattle.saphyr_scanner.specs.Grammar.BlockNodes.{sequence_indent_at, is_start, IsLead, IsFlowInBlock}
+use Rattle.saphyr_scanner.specs.Grammar.BlockNodes.{IsBehindQuestion, IsBlockPair, IsBlockNode, AreEntries}
+use Rattle.saphyr_scanner.specs.Grammar.BlockNodes.{AreOtherEntries, ArePairs, AreOtherPairs, IsCollectionFront}
 use Rattle.saphyr_scanner.specs.Examples.Forests.{plain_node}
 use Rattle.layout_examples.proofs.Pieces.Spaces.{each, Rest, Filler, End, feed, text_end, Gap, space}
 use Rattle.layout_examples.proofs.Pieces.Scalars.{Front, FlowText, IsLetter, word}

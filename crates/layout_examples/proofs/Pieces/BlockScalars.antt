@@ -1,7 +1,6 @@
 -- Block scalars.
-use Rattle.std.proofs.Common.{◌≡◌, ◌≢◌, ℕ, zero, suc, ◌<◌, ◌≤◌, true, false, List, [], ◌∷◌, ◌++◌, slice_index, inl, inr}
-use Rattle.std.proofs.Common.{refl, sym}
-use Rattle.std.proofs.Common.{arith, codes, ap, subst}
+use Rattle.std.proofs.Common.{◌≡◌, ◌≢◌, ℕ, zero, suc, ◌<◌, ◌≤◌, Bool, true, false, List, [], ◌∷◌, ◌++◌, slice_index, inl}
+use Rattle.std.proofs.Common.{inr, refl, sym, arith, codes, ap, subst}
 use Rattle.std.proofs.lemmas.List.{append_assoc}
 use Rattle.saphyr_input.specs.Classes.{is_one_of, is_z}
 use Rattle.scalar_values.specs.declared.block.BlockStyle.TheVariants as block
@@ -10,13 +9,18 @@ use Rattle.scalar_values.specs.declared.block.Chomping.TheVariants.{Clip}
 use Rattle.scalar_values.specs.Block.{Line, Content, lines_value}
 use Rattle.saphyr_scalar.specs.Steps.BlockRead.{spaces}
 use Rattle.saphyr_scalar.specs.Spelling.Block.{no_digit, clip, no_comment, IsBehind, digit_first, first, no_lines}
-use Rattle.saphyr_scalar.specs.Spelling.Block.{found}
-use Rattle.saphyr_scalar.specs.Spelling.Block.{IsBlockScalar}
+use Rattle.saphyr_scalar.specs.Spelling.Block.{found, IsBlockScalar}
 use Rattle.saphyr_scanner.specs.Grammar.Forest.{Properties, no_properties, Literal, Folded, Scalar}
 use Rattle.saphyr_scanner.specs.Grammar.BlockNodes.{Position, indent_at, IsBehindScalar}
 use Rattle.layout_examples.proofs.Pieces.Spaces.{space}
 use Rattle.layout_examples.proofs.Pieces.Scalars.{Front}
 use Rattle.layout_examples.proofs.Pieces.Block.{BlockText}
+
+abbrev is_white : ℕ → Bool
+is_white c = is_one_of (codes " \n\r") c
+
+no_white : (c : ℕ) → is_white c ≡ false → (d : ℕ) → is_white d ≡ true → c ≢ d
+no_white c h d g e = let f : is_white c ≡ is_white d = ap (λ x. is_white x) e in cc
 
 -- what ends the lines begins with no space and no break, and stands left of them
 pub ends : (i n : ℕ) (others : List ℕ) → n < i → is_one_of (codes " \n\r") (slice_index others 0) ≡ false
@@ -25,12 +29,9 @@ ends i n others less none z = record {
   is = refl;
   within = omega (arith, less);
   finished = z;
-  no_space = λ e f. (let g : is_one_of (codes " \n\r") (slice_index others 0) ≡ true =
-      ap (is_one_of (codes " \n\r")) f in cc);
-  no_break = λ f. (let g : is_one_of (codes " \n\r") (slice_index others 0) ≡ true =
-      ap (is_one_of (codes " \n\r")) f in cc);
-  no_return = λ f. (let g : is_one_of (codes " \n\r") (slice_index others 0) ≡ true =
-      ap (is_one_of (codes " \n\r")) f in cc);
+  no_space = λ e f. no_white _ none 32 refl f;
+  no_break = λ f. no_white _ none 10 refl f;
+  no_return = λ f. no_white _ none 13 refl f;
   no_content = λ e. absurd (let f : ⊥ = omega (arith, less, e) in f);
 }
 

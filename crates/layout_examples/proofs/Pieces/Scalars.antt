@@ -1,7 +1,6 @@
 -- Nodes in flow style that are no collections: aliases, properties and scalars.
 use Rattle.std.proofs.Common.{◌≡◌, ◌≢◌, ℕ, ◌<◌, ◌≤◌, Bool, true, false, not, ◌==◌, List, [], ◌∷◌, ◌++◌, Some, None, inl}
-use Rattle.std.proofs.Common.{inr}
-use Rattle.std.proofs.Common.{refl, sym, arith, codes, ap, IsTrue}
+use Rattle.std.proofs.Common.{inr, refl, sym, arith, codes, ap, IsTrue}
 use Rattle.std.specs.List.{list_all}
 use Rattle.scalar_values.specs.declared.folding.Item.{Item}
 use Rattle.scalar_values.specs.declared.flow.Quote.TheVariants.{Single, Double}
@@ -17,8 +16,8 @@ use Rattle.saphyr_scalar.specs.Spelling.Spaces.{AreMany}
 use Rattle.saphyr_scanner.specs.Grammar.Forest.{Style, Plain, SingleQuoted, DoubleQuoted, Handle, Tag, NonSpecific}
 use Rattle.saphyr_scanner.specs.Grammar.Forest.{Verbatim, Shorthand, Properties, no_properties, Node, Alias, Scalar}
 use Rattle.saphyr_scanner.specs.Grammar.TagSpelling.{IsHandle, IsTag}
-use Rattle.saphyr_scanner.specs.Grammar.FlowScalars.{begins_plain, IsFirstWord, IsLinePrefix, IsWordGap}
-use Rattle.saphyr_scanner.specs.Grammar.FlowScalars.{IsFurtherWord, IsPlain, IsFlowScalar}
+use Rattle.saphyr_scanner.specs.Grammar.FlowScalars.{begins_plain, IsFirstWord, IsLinePrefix, IsWordGap, IsFurtherWord}
+use Rattle.saphyr_scanner.specs.Grammar.FlowScalars.{IsPlain, IsFlowScalar}
 use Rattle.saphyr_scanner.specs.Grammar.FlowNodes.{IsProperties, IsFlowNode}
 use Rattle.saphyr_scanner.specs.Examples.Forests.{plain_node}
 use Rattle.layout_examples.proofs.Pieces.Spaces.{each, Apart}

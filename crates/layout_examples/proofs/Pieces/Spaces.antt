@@ -1,14 +1,13 @@
 -- White space of small texts: ends of lines, filler, and separation. A piece is a text with what holds of it.
-use Rattle.std.proofs.Common.{◌≡◌, ℕ, ◌≤◌, Bool, List, [], ◌∷◌, ◌++◌, inl, inr, refl, sym}
-use Rattle.std.proofs.Common.{◌∙◌, arith, codes, ap, IsTrue}
+use Rattle.std.proofs.Common.{◌≡◌, ℕ, ◌≤◌, Bool, List, [], ◌∷◌, ◌++◌, inl, inr, refl, sym, ◌∙◌, arith, codes, ap}
+use Rattle.std.proofs.Common.{IsTrue}
 use Rattle.std.specs.List.{list_all}
 use Rattle.std.proofs.lemmas.List.{append-nil, append_assoc}
 use Rattle.saphyr_input.proofs.Basics.Booleans.{and_true_left, and_true_right}
 use Rattle.saphyr_input.specs.Classes.{is_blank, is_yaml_non_break}
 use Rattle.saphyr_scalar.specs.Steps.BlockRead.{spaces}
 use Rattle.saphyr_scalar.specs.Spelling.Tag.{AreIn}
-use Rattle.saphyr_scalar.specs.Spelling.Spaces.{IsLineRest, IsEol, IsFillerText, IsFiller, IsLastFiller}
-use Rattle.saphyr_scalar.specs.Spelling.Spaces.{IsSeparation}
+use Rattle.saphyr_scalar.specs.Spelling.Spaces.{IsLineRest, IsEol, IsFillerText, IsFiller, IsLastFiller, IsSeparation}
 use Rattle.saphyr_scanner.specs.Grammar.BlockNodes.{Position, AtStart, indent_at, IsGapAt}
 
 pub each : (set : ℕ → Bool) (t : List ℕ) → IsTrue (list_all set t) → AreIn set t

@@ -12,12 +12,11 @@ use Rattle.layout_examples.proofs.Pieces.Spaces.{lines_down}
 use Rattle.layout_examples.proofs.Pieces.Spaces as spaces
 use Rattle.layout_examples.proofs.Pieces.Scalars.{anchor_x, alias_x, tag_t, tagged, scalar, letter_a, letter_b}
 use Rattle.layout_examples.proofs.Pieces.Scalars.{letter_c, letter_d, letter_k, plain_word, word, single_quoted}
-use Rattle.layout_examples.proofs.Pieces.Flow.{node_key, plain_key, sign_key, item, items, no_comma, comma}
-use Rattle.layout_examples.proofs.Pieces.Flow.{brackets}
-use Rattle.layout_examples.proofs.Pieces.Block.{flow, line, last, nothing, at_start, behind_question}
-use Rattle.layout_examples.proofs.Pieces.Block.{below, below_first, below_behind, sequence, dash, next_dash, no_dash}
-use Rattle.layout_examples.proofs.Pieces.Block.{letter_key, mapping, first_pair, next_pair, no_pair, colon}
-use Rattle.layout_examples.proofs.Pieces.Block.{colon_apart, letter, asked, asked_pair}
+use Rattle.layout_examples.proofs.Pieces.Flow.{node_key, plain_key, sign_key, item, items, no_comma, comma, brackets}
+use Rattle.layout_examples.proofs.Pieces.Block.{flow, line, last, nothing, at_start, behind_question, below}
+use Rattle.layout_examples.proofs.Pieces.Block.{below_first, below_behind, sequence, dash, next_dash, no_dash}
+use Rattle.layout_examples.proofs.Pieces.Block.{letter_key, mapping, first_pair, next_pair, no_pair, colon, colon_apart}
+use Rattle.layout_examples.proofs.Pieces.Block.{letter, asked, asked_pair}
 use Rattle.layout_examples.proofs.Pieces.BlockScalars.{ends, literal, folded, literal_a}
 use Rattle.layout_examples.proofs.Pieces.Streams.{bare_document, explicit, end_of_stream, documents, at_once, finish}
 use Rattle.layout_examples.proofs.Pieces.Streams.{stream, document}

@@ -4,13 +4,12 @@ use Rattle.scalar_values.specs.declared.flow.Quote.TheVariants.{Single, Double}
 use Rattle.saphyr_scalar.specs.Spelling.QuotedLines.{IsLine}
 use Rattle.saphyr_scalar.specs.Spelling.Quoted.{IsText, closed, itself, broken, two_quotes}
 use Rattle.saphyr_scanner.specs.Grammar.Layout.{most_open}
-use Rattle.layout_examples.proofs.Pieces.Spaces.{no_filler, comment, blanks, apart, tight, blank, lines_apart}
-use Rattle.layout_examples.proofs.Pieces.Spaces.{no_gap, text_end, feed_behind}
+use Rattle.layout_examples.proofs.Pieces.Spaces.{no_filler, comment, blanks, apart, tight, blank, lines_apart, no_gap}
+use Rattle.layout_examples.proofs.Pieces.Spaces.{text_end, feed_behind}
 use Rattle.layout_examples.proofs.Pieces.Scalars.{anchor_x_before, anchor_x_behind, alias_x, tag_t, verbatim_u, tagged}
 use Rattle.layout_examples.proofs.Pieces.Scalars.{scalar, with_front, front_alone, letter_a, letter_b, letter_c}
 use Rattle.layout_examples.proofs.Pieces.Scalars.{letter_d, plain, word, double_quoted, space_gap, empty_line_gap}
-use Rattle.layout_examples.proofs.Pieces.Scalars.{no_word}
-use Rattle.layout_examples.proofs.Pieces.Scalars.{next_word, words, single_quoted_lines, double_quoted_lines}
+use Rattle.layout_examples.proofs.Pieces.Scalars.{no_word, next_word, words, single_quoted_lines, double_quoted_lines}
 use Rattle.layout_examples.proofs.Pieces.Flow.{node_key, sign_key, colon_alone, colon, colon_at_once, keyed, key_asked}
 use Rattle.layout_examples.proofs.Pieces.Flow.{value_asked, pair_asked, item, item_apart, pair_item, value_item}
 use Rattle.layout_examples.proofs.Pieces.Flow.{asked_item, mark_item, no_items, items, no_comma, last_comma, comma}

@@ -6,11 +6,10 @@ use Rattle.scalar_values.specs.Block.{Empty, Content}
 use Rattle.saphyr_scalar.specs.Spelling.Block.{no_digit, keep, no_comment, no_lines, empty, first, digit_first, found}
 use Rattle.saphyr_scanner.specs.Grammar.Layout.{most_open}
 use Rattle.layout_examples.proofs.Pieces.Spaces.{feed, text_end, feed_behind, blanks, comment, blank_line, comment_line}
-use Rattle.layout_examples.proofs.Pieces.Spaces.{no_filler, filler, last_line, tight, lines_apart, no_gap}
-use Rattle.layout_examples.proofs.Pieces.Spaces.{space, lines_down}
+use Rattle.layout_examples.proofs.Pieces.Spaces.{no_filler, filler, last_line, tight, lines_apart, no_gap, space}
+use Rattle.layout_examples.proofs.Pieces.Spaces.{lines_down}
 use Rattle.layout_examples.proofs.Pieces.Scalars.{anchor_x, alias_x, mark_alone, tagged, front_alone, letter_a}
-use Rattle.layout_examples.proofs.Pieces.Scalars.{letter_b}
-use Rattle.layout_examples.proofs.Pieces.Scalars.{letter_c, word}
+use Rattle.layout_examples.proofs.Pieces.Scalars.{letter_b, letter_c, word}
 use Rattle.layout_examples.proofs.Pieces.Flow.{item, item_apart, items, no_comma, comma, brackets}
 use Rattle.layout_examples.proofs.Pieces.Block.{flow, line, last, nothing, below_behind, sequence, dash, no_dash}
 use Rattle.layout_examples.proofs.Pieces.BlockScalars.{literal}
