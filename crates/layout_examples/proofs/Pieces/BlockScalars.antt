@@ -1,6 +1,6 @@
 -- Block scalars.
-use Rattle.std.proofs.Common.{◌≡◌, ◌≢◌, ℕ, zero, suc, ◌<◌, ◌≤◌, Bool, true, false, List, [], ◌∷◌, ◌++◌, slice_index, inl}
-use Rattle.std.proofs.Common.{inr, refl, sym, arith, codes, ap, subst}
+use Rattle.std.proofs.Common.{◌≡◌, ◌≢◌, ℕ, zero, suc, ◌<◌, ◌≤◌, Bool, true, false, List, [], ◌∷◌, ◌++◌, slice_index}
+use Rattle.std.proofs.Common.{inl, inr, refl, sym, arith, codes, ap, subst}
 use Rattle.std.proofs.lemmas.List.{append_assoc}
 use Rattle.saphyr_input.specs.Classes.{is_one_of, is_z}
 use Rattle.scalar_values.specs.declared.block.BlockStyle.TheVariants as block

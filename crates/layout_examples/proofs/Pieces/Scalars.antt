@@ -20,6 +20,7 @@ use Rattle.saphyr_scanner.specs.Grammar.FlowScalars.{begins_plain, IsFirstWord, 
 use Rattle.saphyr_scanner.specs.Grammar.FlowScalars.{IsPlain, IsFlowScalar}
 use Rattle.saphyr_scanner.specs.Grammar.FlowNodes.{IsProperties, IsFlowNode}
 use Rattle.saphyr_scanner.specs.Examples.Forests.{plain_node}
+use Rattle.saphyr_scanner.proofs.Examples.TakenStreams.{decodes_itself}
 use Rattle.layout_examples.proofs.Pieces.Spaces.{each, Apart}
 
 -- a node in flow style
@@ -43,15 +44,13 @@ alias_x = record { holds = (name (codes "x") (λ e. cc) refl, refl) }
 pub record TagText (tag : Tag) (t : List ℕ) : Type 0 where
   pub holds : IsTag tag t
 
--- one character that stands for itself
-pub one : (set : ℕ → Bool) (c : ℕ) → IsTrue (set c) → c ≢ 37 → IsDecoded set (c ∷ []) (c ∷ [])
-one set c h n = (c ∷ [], [], inl (h, n, refl), refl, refl)
-
 pub tag_t : {handle : Handle} (t : List ℕ) → IsHandle handle t → TagText (Shorthand handle (codes "t")) (t ++ codes "t")
-tag_t {handle} t h = record { holds = (t, codes "t", h, (λ e. cc), one is_tag_char 116 refl (λ e. omega arith), refl) }
+tag_t {handle} t h =
+    let back = decodes_itself is_tag_char 116 refl (λ e. omega arith) in
+    record { holds = (t, codes "t", h, (λ e. cc), back, refl) }
 
 pub verbatim_u : TagText (Verbatim (codes "u")) (codes "!<u>")
-verbatim_u = record { holds = (codes "u", (λ e. cc), one is_uri_char 117 refl (λ e. omega arith), refl) }
+verbatim_u = record { holds = (codes "u", (λ e. cc), decodes_itself is_uri_char 117 refl (λ e. omega arith), refl) }
 
 pub mark_alone : TagText NonSpecific (codes "!")
 mark_alone = record { holds = refl }

@@ -13,7 +13,7 @@ use Rattle.saphyr_scanner.specs.Grammar.BlockNodes.{AtStart, BehindMarker, IsBlo
 use Rattle.saphyr_scanner.specs.Grammar.Layout.{IsDirective, AreDirectives, IsDocument, IsDocumentPrefix}
 use Rattle.saphyr_scanner.specs.Grammar.Layout.{IsBehindDocument, AreDocuments, has_marker, IsLayout, IsLayoutText}
 use Rattle.saphyr_scanner.specs.Grammar.TagSpelling.{IsHandle}
-use Rattle.layout_examples.proofs.Pieces.Scalars.{one}
+use Rattle.saphyr_scanner.proofs.Examples.TakenStreams.{decodes_itself}
 use Rattle.layout_examples.proofs.Pieces.Spaces.{Filler, no_filler, LastFiller, no_more, End}
 use Rattle.layout_examples.proofs.Pieces.Block.{BlockText}
 
@@ -169,7 +169,7 @@ prefix_of_one c h n = (c ∷ [], [], inl (h, n, refl), refl, refl)
 
 pub prefix_of_two : (c d : ℕ) → IsTrue (is_tag_char c || (c == 33)) → c ≢ 37 → IsTrue (is_uri_char d) → d ≢ 37
     → IsPrefix (c ∷ d ∷ []) (c ∷ d ∷ [])
-prefix_of_two c d h n g m = (c ∷ [], d ∷ [], inl (h, n, refl), one is_uri_char d g m, refl)
+prefix_of_two c d h n g m = (c ∷ [], d ∷ [], inl (h, n, refl), decodes_itself is_uri_char d g m, refl)
 
 -- whether two texts are the same, which tells words apart
 abbrev pub same : List ℕ → List ℕ → Bool

@@ -14,21 +14,22 @@ use Rattle.saphyr_scanner.proofs.Examples.TokenTexts.{document_start, document_e
 use Rattle.saphyr_scanner.proofs.Examples.TokenTexts.{tag_directive, tag, letter_v}
 
 -- one character that stands for itself
-one : (set : ℕ → Bool) (c : ℕ) → IsTrue (set c) → c ≢ 37 → IsDecoded set (c ∷ []) (c ∷ [])
-one set c h n = (c ∷ [], [], inl (h, n, refl), refl, refl)
+pub decodes_itself : (set : ℕ → Bool) (c : ℕ) → IsTrue (set c) → c ≢ 37 → IsDecoded set (c ∷ []) (c ∷ [])
+decodes_itself set c h n = (c ∷ [], [], inl (h, n, refl), refl, refl)
 
 handle_e : IsHandleText (codes "!e!")
 handle_e = inr (codes "e", (refl, tt), refl)
 
 prefix_t : IsPrefix (codes "t:") (codes "t:")
 prefix_t =
-    (codes "t", codes ":", inl (refl, (λ e. omega arith), refl), one is_uri_char 58 refl (λ e. omega arith), refl)
+    let colon = decodes_itself is_uri_char 58 refl (λ e. omega arith) in
+    (codes "t", codes ":", inl (refl, (λ e. omega arith), refl), colon, refl)
 
 directive_e : IsReadTagDirective (codes "!e!") (codes "t:") (codes "%TAG !e! t:")
 directive_e = (codes " ", codes " ", codes "t:", ((λ e. cc), (refl, tt)), (refl, tt), handle_e, prefix_t, refl)
 
 tag_e : IsTagText (codes "!e!u") (codes "!e!") (codes "u")
-tag_e = inr (inr (codes "u", handle_e, (λ e. cc), one is_tag_char 117 refl (λ e. omega arith), refl))
+tag_e = inr (inr (codes "u", handle_e, (λ e. cc), decodes_itself is_tag_char 117 refl (λ e. omega arith), refl))
 
 pub takes_tag : AreTakenFrom (codes "%TAG !e! t:\n--- !e!u v\n") texts.tag_tokens
 unfolding encode
