@@ -3,6 +3,7 @@ pub mod Json
 pub mod Tags
 pub mod Tokens
 pub mod MarkerAlone
+pub mod TokenTexts
 pub mod Taken
 pub mod TakenTexts
 pub mod TakenLines

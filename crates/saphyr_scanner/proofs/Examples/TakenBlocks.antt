@@ -1,215 +1,98 @@
 -- The tokens of small texts with block scalars are taken from them.
-use Rattle.std.specs.Prelude.{codes}
-use Rattle.std.proofs.Common.{[], refl, inl, inr, arith}
+use Rattle.std.proofs.Common.{ℕ, true, List, ◌∷◌, ◌++◌, [], refl, inl, inr, arith, codes}
 use lib.Utf8.{encode}
 use Rattle.scalar_values.specs.declared.block.Chomping.TheVariants.{Strip, Clip}
 use Rattle.saphyr_scalar.specs.Passing as passing
-use Rattle.saphyr_scanner.specs.TokensTaken as taken
+use Rattle.saphyr_scalar.specs.Reading.BlockText.{AreIndicators, EndsHeader, IsHeaderLine, AreInside}
+use Rattle.saphyr_scalar.specs.Spelling.Directive.{IsLineTail}
+use Rattle.scalar_values.specs.declared.block.Chomping.{Chomping}
+use Rattle.saphyr_scanner.specs.Grammar.Forest.{Literal, Folded}
+use Rattle.saphyr_scanner.specs.Grammar.Tokens as tokens
 use Rattle.saphyr_scanner.specs.TokensTaken.{AreTakenFrom}
 use Rattle.saphyr_scanner.specs.Examples.TakenTexts as texts
 use Rattle.saphyr_scanner.specs.Examples.TakenTexts.{marker_at}
-use Rattle.std.proofs.lemmas.Bool.{false≢true}
-use Rattle.saphyr_scanner.proofs.Examples.TakenTexts.{cursor}
+use Rattle.saphyr_scanner.proofs.Examples.TokenTexts.{from_to, TokenText, no_token, here, behind_blank, whole}
+use Rattle.saphyr_scanner.proofs.Examples.TokenTexts.{stream_start, stream_end, mapping_start, block_end, key, colon}
+use Rattle.saphyr_scanner.proofs.Examples.TokenTexts.{plain, document_start, letter_a, char, feed}
+
+-- a header with nothing behind its indicators
+header : (n : ℕ) (chomping : Chomping) (behind : List ℕ) (mark : ℕ) (indicators : List ℕ)
+    → AreIndicators n chomping indicators → EndsHeader behind (codes "\n")
+    → IsHeaderLine n chomping behind (mark ∷ (indicators ++ codes "\n"))
+header n chomping behind mark indicators h e = (mark, indicators, [], codes "\n", h, no_comment, e, refl)
+  where
+    no_comment : IsLineTail []
+    no_comment = ([], [], tt, inl refl, refl)
 
 pub takes_literal : AreTakenFrom (codes "--- |\n a\n") texts.literal
 unfolding encode
-takes_literal = (
-  cursor [] (marker_at 9 3 0),
-  (
-    cursor (codes "--- |\n a\n") (marker_at 0 1 0),
-    cursor (codes "--- |\n a\n") (marker_at 0 1 0),
-    taken.nothing _ _,
-    (refl, inl refl, refl),
-    (
-      cursor (codes "--- |\n a\n") (marker_at 0 1 0),
-      cursor (codes " |\n a\n") (marker_at 3 1 3),
-      taken.nothing _ _,
-      (refl, refl, record { is = refl; start = refl; end = refl; goes_on = refl }),
-      (
-        cursor (codes "|\n a\n") (marker_at 4 1 4),
-        cursor [] (marker_at 9 3 0),
-        taken.blank _ _ _ _ _ refl (taken.nothing _ _),
-        record {
-          begins = refl;
-          reading = record {
-            digit = 0;
-            chomping = Clip;
-            first = codes "|\n";
-            lines = codes " a\n";
-            is = refl;
-            begins = (
-              124,
-              [],
-              [],
-              codes "\n",
-              (omega arith, inl refl),
-              ([], [], tt, inl refl, refl),
-              inl (inl refl, (λ e. omega arith)),
-              refl,
-            );
-            indentation = 1;
-            indented = (codes " ", codes "a\n", refl, (refl, tt), refl, refl);
-            shaped = record { ended = (inr (codes "a", refl), tt); last = inl refl };
-            inside = (refl, (λ e. refl), (refl, (λ e. refl), (refl, (λ e. refl), tt)));
-            ends = record { no_space = λ e. omega arith; no_break = refl; no_content = λ e. inl refl };
-            value = refl;
-            before = codes "|\n ";
-            behind = codes "a\n";
-            split = refl;
-            starts = passing.character _ _ _ _ _ refl (passing.line_break _ _ _ _ refl
-                (passing.character _ _ _ _ _ refl (passing.nothing _ _)));
-            goes_on = passing.character _ _ _ _ _ refl (passing.line_break _ _ _ _ refl (passing.nothing _ _));
-            no_content = inr (codes " ", refl, refl);
-          };
-          passes = passing.character _ _ _ _ _ refl (passing.line_break _ _ _ _ refl (passing.character _ _ _ _ _
-              refl (passing.character _ _ _ _ _ refl (passing.line_break _ _ _ _ refl (passing.nothing _ _)))));
-          end = refl;
-        },
-        (cursor [] (marker_at 9 3 0), cursor [] (marker_at 9 3 0), taken.nothing _ _, (refl, (refl, inl refl, refl)), refl),
-      ),
-    ),
-  ),
-  refl,
-)
+takes_literal =
+    let scalar : TokenText 0 (tokens.Scalar Literal (codes "a\n")) (from_to (marker_at 7 2 1) (marker_at 9 3 0))
+    (marker_at 4 1 4) (codes "|\n a\n") (marker_at 9 3 0) [] =
+    record {
+      holds = record {
+        begins = refl;
+        reading = record {
+          digit = 0;
+          chomping = Clip;
+          first = codes "|\n";
+          lines = codes " a\n";
+          is = refl;
+          begins = header 0 Clip (codes " a\n") 124 [] (omega arith, inl refl) (inl (inl refl, (λ e. omega arith)));
+          indentation = 1;
+          indented = (codes " ", codes "a\n", refl, (refl, tt), refl, refl);
+          shaped = record { ended = (inr (codes "a", refl), tt); last = inl refl };
+          inside = (refl, (λ e. refl), (refl, (λ e. refl), (refl, (λ e. refl), tt)));
+          ends = record { no_space = λ e. omega arith; no_break = refl; no_content = λ e. inl refl };
+          value = refl;
+          before = codes "|\n ";
+          behind = codes "a\n";
+          split = refl;
+          starts = char refl (feed (char refl (passing.nothing _ _)));
+          goes_on = char refl (feed (passing.nothing _ _));
+          no_content = inr (codes " ", refl, refl);
+        };
+        passes = char refl (feed (char refl (char refl (feed (passing.nothing _ _)))));
+        end = refl;
+      };
+    } in
+    whole (here stream_start (here (document_start refl refl) (behind_blank scalar (here stream_end no_token))))
 
 pub takes_indentation : AreTakenFrom (codes "a: >1-\n  b\n c\n") texts.indentation
 unfolding encode
-takes_indentation = (
-  cursor [] (marker_at 14 4 0),
-  (
-    cursor (codes "a: >1-\n  b\n c\n") (marker_at 0 1 0),
-    cursor (codes "a: >1-\n  b\n c\n") (marker_at 0 1 0),
-    taken.nothing _ _,
-    (refl, inl refl, refl),
-    (
-      cursor (codes "a: >1-\n  b\n c\n") (marker_at 0 1 0),
-      cursor (codes "a: >1-\n  b\n c\n") (marker_at 0 1 0),
-      taken.nothing _ _,
-      (refl, refl, refl, refl),
-      (
-        cursor (codes "a: >1-\n  b\n c\n") (marker_at 0 1 0),
-        cursor (codes "a: >1-\n  b\n c\n") (marker_at 0 1 0),
-        taken.nothing _ _,
-        inr (refl, inl refl, refl),
-        (
-          cursor (codes "a: >1-\n  b\n c\n") (marker_at 0 1 0),
-          cursor (codes ": >1-\n  b\n c\n") (marker_at 1 1 1),
-          taken.nothing _ _,
-          record {
-            start = refl;
-            begins = refl;
-            is_ink = refl;
-            no_indicator = λ e. absurd (false≢true e);
-            reading = record {
-              piece = codes "a";
-              white = [];
-              is = refl;
-              spelled = (
-                (λ e. omega arith),
-                (λ e. omega arith),
-                (λ e f. omega arith),
-                (λ e. absurd (let z : ⊥ = omega arith in z)),
-                (λ e. refl),
-                tt,
-              );
-              front = [];
-              last = 97;
-              closes = refl;
-              is_ink = refl;
-              follows = refl;
-              value = refl;
-              ends = refl;
-              are_white = tt;
-              behind = refl;
-            };
-            uncut = inl refl;
-          },
-          (
-            cursor (codes ": >1-\n  b\n c\n") (marker_at 1 1 1),
-            cursor (codes " >1-\n  b\n c\n") (marker_at 2 1 2),
-            taken.nothing _ _,
-            ((refl, refl), refl, refl),
-            (
-              cursor (codes ">1-\n  b\n c\n") (marker_at 3 1 3),
-              cursor [] (marker_at 14 4 0),
-              taken.blank _ _ _ _ _ refl (taken.nothing _ _),
-              record {
-                begins = refl;
-                reading = record {
-                  digit = 1;
-                  chomping = Strip;
-                  first = codes ">1-\n";
-                  lines = codes "  b\n c\n";
-                  is = refl;
-                  begins = (
-                    62,
-                    codes "1-",
-                    [],
-                    codes "\n",
-                    (omega arith, inl refl),
-                    ([], [], tt, inl refl, refl),
-                    inl (inl refl, (λ e. omega arith)),
-                    refl,
-                  );
-                  indentation = 1;
-                  indented = refl;
-                  shaped = record {
-                    ended = (inr (codes " b", refl), (inr (codes "c", refl), tt));
-                    last = inl refl;
-                  };
-                  inside = (
-                    refl,
-                    (λ e. refl),
-                    (
-                      refl,
-                      (λ e. refl),
-                      (
-                        refl,
-                        (λ e. refl),
-                        (refl, (λ e. refl), (refl, (λ e. refl), (refl, (λ e. refl), (refl, (λ e. refl), tt)))),
-                      ),
-                    ),
-                  );
-                  ends = record { no_space = λ e. omega arith; no_break = refl; no_content = λ e. inl refl };
-                  value = refl;
-                  before = codes ">1-\n ";
-                  behind = codes " b\n c\n";
-                  split = refl;
-                  starts = passing.character _ _ _ _ _ refl (passing.character _ _ _ _ _ refl
-                      (passing.character _ _ _ _ _ refl (passing.line_break _ _ _ _ refl
-                      (passing.character _ _ _ _ _ refl (passing.nothing _ _)))));
-                  goes_on = passing.character _ _ _ _ _ refl (passing.character _ _ _ _ _ refl
-                      (passing.line_break _ _ _ _ refl (passing.character _ _ _ _ _ refl
-                      (passing.character _ _ _ _ _ refl (passing.line_break _ _ _ _ refl (passing.nothing _
-                      _))))));
-                  no_content = inr (codes " ", refl, refl);
-                };
-                passes = passing.character _ _ _ _ _ refl (passing.character _ _ _ _ _ refl
-                    (passing.character _ _ _ _ _ refl (passing.line_break _ _ _ _ refl
-                    (passing.character _ _ _ _ _ refl (passing.character _ _ _ _ _ refl
-                    (passing.character _ _ _ _ _ refl (passing.line_break _ _ _ _ refl
-                    (passing.character _ _ _ _ _ refl (passing.character _ _ _ _ _ refl
-                    (passing.line_break _ _ _ _ refl (passing.nothing _ _)))))))))));
-                end = refl;
-              },
-              (
-                cursor [] (marker_at 14 4 0),
-                cursor [] (marker_at 14 4 0),
-                taken.nothing _ _,
-                (refl, inl refl, refl),
-                (
-                  cursor [] (marker_at 14 4 0),
-                  cursor [] (marker_at 14 4 0),
-                  taken.nothing _ _,
-                  (refl, (refl, inl refl, refl)),
-                  refl,
-                ),
-              ),
-            ),
-          ),
-        ),
-      ),
-    ),
-  ),
-  refl,
-)
+takes_indentation =
+    let inside_c : AreInside true (codes " c\n") [] =
+    (refl, (λ e. refl), (refl, (λ e. refl), (refl, (λ e. refl), tt))) in
+    let scalar : TokenText 1 (tokens.Scalar Folded (codes " b\nc")) (from_to (marker_at 8 2 1) (marker_at 14 4 0))
+    (marker_at 3 1 3) (codes ">1-\n  b\n c\n") (marker_at 14 4 0) [] =
+    record {
+      holds = record {
+        begins = refl;
+        reading = record {
+          digit = 1;
+          chomping = Strip;
+          first = codes ">1-\n";
+          lines = codes "  b\n c\n";
+          is = refl;
+          begins = header 1 Strip (codes "  b\n c\n") 62 (codes "1-") (omega arith, inl refl)
+              (inl (inl refl, (λ e. omega arith)));
+          indentation = 1;
+          indented = refl;
+          shaped = record { ended = (inr (codes " b", refl), (inr (codes "c", refl), tt)); last = inl refl };
+          inside = (refl, (λ e. refl), (refl, (λ e. refl), (refl, (λ e. refl), (refl, (λ e. refl), inside_c))));
+          ends = record { no_space = λ e. omega arith; no_break = refl; no_content = λ e. inl refl };
+          value = refl;
+          before = codes ">1-\n ";
+          behind = codes " b\n c\n";
+          split = refl;
+          starts = char refl (char refl (char refl (feed (char refl (passing.nothing _ _)))));
+          goes_on = char refl (char refl (feed (char refl (char refl (feed (passing.nothing _ _))))));
+          no_content = inr (codes " ", refl, refl);
+        };
+        passes = char refl (char refl (char refl (feed (char refl (char refl (char refl
+            (feed (char refl (char refl (feed (passing.nothing _ _)))))))))));
+        end = refl;
+      };
+    } in
+    whole (here stream_start (here (mapping_start refl) (here key (here (plain letter_a refl refl refl refl) (here colon
+    (behind_blank scalar (here block_end (here stream_end no_token))))))))

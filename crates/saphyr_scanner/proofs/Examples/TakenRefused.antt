@@ -1,5 +1,6 @@
 -- Near misses of what tokens are taken from a text.
-use Rattle.std.proofs.Common.{◌≡◌, ◌≢◌, ℕ, false, List, [], ◌∷◌, ◌++◌, refl, sym, ◌∙◌, arith, codes, ap, slice_index, IsFalse}
+use Rattle.std.proofs.Common.{◌≡◌, ◌≢◌, ℕ, false, List, [], ◌∷◌, ◌++◌, refl, sym, ◌∙◌, arith, codes, ap, slice_index}
+use Rattle.std.proofs.Common.{IsFalse}
 use Rattle.std.specs.Prelude.{encode_utf8_all}
 use lib.Utf8.{encode}
 use Rattle.saphyr_input.specs.Classes.{is_blank, is_break}

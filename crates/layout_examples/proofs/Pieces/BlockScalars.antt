@@ -1,0 +1,100 @@
+-- Block scalars.
+use Rattle.std.proofs.Common.{◌≡◌, ◌≢◌, ℕ, zero, suc, ◌<◌, ◌≤◌, Bool, true, false, List, [], ◌∷◌, ◌++◌, slice_index}
+use Rattle.std.proofs.Common.{inl, inr, refl, sym, arith, codes, ap, subst}
+use Rattle.std.proofs.lemmas.List.{append_assoc}
+use Rattle.saphyr_input.specs.Classes.{is_one_of, is_z}
+use Rattle.scalar_values.specs.declared.block.BlockStyle.TheVariants as block
+use Rattle.scalar_values.specs.declared.block.Chomping.{Chomping}
+use Rattle.scalar_values.specs.declared.block.Chomping.TheVariants.{Clip}
+use Rattle.scalar_values.specs.Block.{Line, Content, lines_value}
+use Rattle.saphyr_scalar.specs.Steps.BlockRead.{spaces}
+use Rattle.saphyr_scalar.specs.Spelling.Block.{no_digit, clip, no_comment, IsBehind, digit_first, first, no_lines}
+use Rattle.saphyr_scalar.specs.Spelling.Block.{found, IsBlockScalar}
+use Rattle.saphyr_scanner.specs.Grammar.Forest.{Properties, no_properties, Literal, Folded, Scalar}
+use Rattle.saphyr_scanner.specs.Grammar.BlockNodes.{Position, indent_at, IsBehindScalar}
+use Rattle.layout_examples.proofs.Pieces.Spaces.{space}
+use Rattle.layout_examples.proofs.Pieces.Scalars.{Front}
+use Rattle.layout_examples.proofs.Pieces.Block.{BlockText}
+
+abbrev is_white : ℕ → Bool
+is_white c = is_one_of (codes " \n\r") c
+
+no_white : (c : ℕ) → is_white c ≡ false → (d : ℕ) → is_white d ≡ true → c ≢ d
+no_white c h d g e = let f : is_white c ≡ is_white d = ap (λ x. is_white x) e in cc
+
+-- what ends the lines begins with no space and no break, and stands left of them
+pub ends : (i n : ℕ) (others : List ℕ) → n < i → is_one_of (codes " \n\r") (slice_index others 0) ≡ false
+    → (is_z (slice_index others 0) ≡ true → n ≡ 0) → IsBehind i n (spaces n ++ others) others
+ends i n others less none z = record {
+  is = refl;
+  within = omega (arith, less);
+  finished = z;
+  no_space = λ e f. no_white _ none 32 refl f;
+  no_break = λ f. no_white _ none 10 refl f;
+  no_return = λ f. no_white _ none 13 refl f;
+  no_content = λ e. absurd (let f : ⊥ = omega (arith, less, e) in f);
+}
+
+-- a literal scalar behind an indicator and a space
+pub literal : {room : ℕ} {place : Position} {value others behind : List ℕ} (i n : ℕ) (chomping : Chomping)
+    (lines : List Line) (t body : List ℕ)
+    → (s : IsBlockScalar (indent_at place) i n chomping lines ((124 ∷ t) ++ behind) body others) → s.behind ≡ behind
+    → IsBehindScalar (indent_at place) i behind → value ≡ lines_value block.Literal chomping true lines
+    → BlockText room (Scalar no_properties Literal value) place (32 ∷ 124 ∷ t) behind
+literal {place = place} {others = others} i n chomping lines t body s e b v = record {
+  holds = inr (inr (
+    codes " ",
+    [],
+    124 ∷ t,
+    (space {place = place}).holds,
+    inl (refl, refl),
+    (t, (i, n, chomping, lines, body, others, s, e, b, v), refl),
+    refl,
+  ));
+}
+
+pub folded : {room : ℕ} {place : Position} {p : Properties} {value front others behind : List ℕ} (i n : ℕ)
+    (chomping : Chomping) (lines : List Line) (t body : List ℕ) → Front p front
+    → (s : IsBlockScalar (indent_at place) i n chomping lines ((62 ∷ t) ++ behind) body others) → s.behind ≡ behind
+    → IsBehindScalar (indent_at place) i behind → value ≡ lines_value block.Folded chomping true lines
+    → BlockText room (Scalar p Folded value) place ((32 ∷ front) ++ (32 ∷ 62 ∷ t)) behind
+folded {place = place} {front = front} {others = others} i n chomping lines t body h s e b v = record {
+  holds = inr (inr (
+    codes " ",
+    front ++ codes " ",
+    62 ∷ t,
+    (space {place = place}).holds,
+    inr (front, codes " ", h.holds, (1, omega arith, refl), refl),
+    (t, (i, n, chomping, lines, body, others, s, e, b, v), refl),
+    ap (λ x. 32 ∷ x) (sym (append_assoc front (codes " ") (62 ∷ t))),
+  ));
+}
+
+-- one line of the letter a, at column i, before a line that begins at column n
+pub literal_a : {room : ℕ} {place : Position} (i n : ℕ) (others : List ℕ) → indent_at place ≤ i → n < i
+    → is_one_of (codes " \n\r") (slice_index others 0) ≡ false → (is_z (slice_index others 0) ≡ true → n ≡ 0)
+    → IsBehindScalar (indent_at place) i (spaces n ++ others)
+    → BlockText room (Scalar no_properties Literal (codes "a\n")) place (codes " |\n" ++ (spaces i ++ codes "a\n"))
+    (spaces n ++ others)
+literal_a {room} {place} i n others least less none z b =
+    let body : List ℕ = spaces i ++ (97 ∷ 10 ∷ (spaces n ++ others)) in
+    let scalar : IsBlockScalar (indent_at place) i n Clip (Content (codes "a") ∷ []) (124 ∷ 10 ∷ body) body others =
+    record {
+      digit = 0;
+      is_given = false;
+      behind = spaces n ++ others;
+      header = digit_first 124 _ _ _ (no_digit _) (clip _) (no_comment [] body tt);
+      no_tab = no_tab i;
+      indentation = found least;
+      lines = first 97 _ _ _ (λ e f. omega arith) (record { all = (refl, tt); no_marker = λ e. refl }) no_lines;
+      ends = ends i n others less none z;
+    } in
+    let same : 124 ∷ 10 ∷ body ≡ 124 ∷ 10 ∷ ((spaces i ++ codes "a\n") ++ (spaces n ++ others)) =
+    ap (λ x. 124 ∷ 10 ∷ x) (sym (append_assoc (spaces i) (codes "a\n") (spaces n ++ others))) in
+    let there = subst (λ x. (s : IsBlockScalar (indent_at place) i n Clip (Content (codes "a") ∷ []) x body others)
+    × (s.behind ≡ spaces n ++ others)) same (scalar, refl) in
+    literal i n Clip (Content (codes "a") ∷ []) (10 ∷ (spaces i ++ codes "a\n")) body there.0 there.1 b refl
+  where
+    no_tab : (i : ℕ) → slice_index (spaces i ++ (97 ∷ 10 ∷ (spaces n ++ others))) 0 ≢ 9
+    no_tab zero e = omega arith
+    no_tab (suc j) e = omega arith

@@ -1,0 +1,324 @@
+-- Tokens of small texts, a piece for each: what stands before a token, and the token with what stands behind it.
+use Rattle.std.proofs.Common.{◌≡◌, ℕ, ◌<◌, ◌≤◌, Bool, true, false, List, [], ◌∷◌, ◌++◌, length, slice_index, None}
+use Rattle.std.proofs.Common.{inl, inr, refl, sym, arith, codes, ap, IsTrue, IsFalse}
+use Rattle.std.specs.Prelude.{encode_utf8_all}
+use Rattle.saphyr_input.specs.Breaks.{normalized}
+use Rattle.saphyr_input.specs.Classes.{is_break, is_breakz, is_anchor_char, is_one_of}
+use Rattle.saphyr_input.specs.Places.{is_blank_or_break, is_document_indicator, is_document_start, is_document_end}
+use Rattle.scalar_values.specs.declared.flow.Quote.{Quote}
+use Rattle.scalar_values.specs.declared.flow.Quote.TheVariants.{Single, Double}
+use Rattle.scalar_values.specs.Flow.{mark, raw_item, plain_value}
+use Rattle.scalar_values.specs.Folding.{folded}
+use Rattle.saphyr_scalar.specs.declared.scalar.position.Marker.{Marker}
+use Rattle.saphyr_scalar.specs.declared.scalar.position.Span.{Span}
+use Rattle.saphyr_scalar.specs.Views.Cursor.{Cursor, along, next_line}
+use Rattle.saphyr_scalar.specs.Passing as passing
+use Rattle.saphyr_scalar.specs.Passing.{IsPassed}
+use Rattle.saphyr_scalar.specs.Reading.Plain.{ends_piece, passed}
+use Rattle.saphyr_scalar.specs.Spelling.Tag.{IsTagText}
+use Rattle.saphyr_scalar.specs.Spelling.Directive.{IsLineTail, IsReadTagDirective}
+use Rattle.saphyr_scalar.specs.Spelling.Quoted.{stands_for_itself, closed, itself}
+use Rattle.saphyr_scalar.specs.Spelling.QuotedWords.{is_closing}
+use Rattle.saphyr_scanner.specs.Grammar.Forest.{Plain, SingleQuoted, DoubleQuoted}
+use Rattle.saphyr_scanner.specs.Grammar.Tokens as tokens
+use Rattle.saphyr_scanner.specs.Grammar.Tokens.{Kind}
+use Rattle.saphyr_scanner.specs.Views.Tokens.{Piece}
+use Rattle.saphyr_scanner.specs.TokensTaken as taken
+use Rattle.saphyr_scanner.specs.TokensTaken.{IsPassedOver, LiesOnLine, IsFlowIndicator, IsNameToken, IsQuotedToken}
+use Rattle.saphyr_scanner.specs.TokensTaken.{IsSpan}
+use Rattle.saphyr_scanner.specs.TokensTaken.{past_mark, may_begin_plain, begins_text, IsToken, open_behind}
+use Rattle.saphyr_scanner.specs.TokensTaken.{least_column_in}
+use Rattle.saphyr_scanner.specs.TokensTaken.{AreTokens, IsPlaceOf, AreTakenFrom}
+use Rattle.saphyr_scanner.specs.Examples.TakenTexts.{marker_at}
+
+abbrev pub cursor : List ℕ → Marker → Cursor
+cursor rest m = record { rest = rest; mark = m; blank_so_far = true }
+
+abbrev pub from_to : Marker → Marker → Span
+from_to start end = record { start = start; end = end }
+
+-- ## Tokens in a row
+
+-- from m, where t stands, to n, where u stands
+pub record Tokens (columns : List ℕ) (ps : List Piece) (m : Marker) (t : List ℕ) (n : Marker) (u : List ℕ) :
+    Type 0 where
+  pub holds : AreTokens columns ps (cursor t m) (cursor u n)
+
+pub record TokenText (least : ℕ) (kind : Kind) (span : Span) (m : Marker) (t : List ℕ) (n : Marker) (u : List ℕ) :
+    Type 0 where
+  pub holds : IsToken least kind span (cursor t m) (cursor u n)
+
+pub no_token : {columns : List ℕ} {m : Marker} {t : List ℕ} → Tokens columns [] m t m t
+no_token = record { holds = refl }
+
+-- behind what is passed over
+pub behind : {columns t v w u : List ℕ} {p : Piece} {ps : List Piece} {m a b n : Marker} → IsPassedOver m t a v
+    → TokenText (least_column_in columns) p.kind p.span a v b w
+    → Tokens (open_behind p.kind p.span.start.col columns) ps b w n u → Tokens columns (p ∷ ps) m t n u
+behind {v = v} {w} {a = a} {b} o h r = record { holds = (cursor v a, cursor w b, o, h.holds, r.holds) }
+
+pub here : {columns t w u : List ℕ} {p : Piece} {ps : List Piece} {m b n : Marker}
+    → TokenText (least_column_in columns) p.kind p.span m t b w
+    → Tokens (open_behind p.kind p.span.start.col columns) ps b w n u → Tokens columns (p ∷ ps) m t n u
+here h r = behind (taken.nothing _ _) h r
+
+pub behind_blank : {columns t w u : List ℕ} {p : Piece} {ps : List Piece} {m b n : Marker}
+    → TokenText (least_column_in columns) p.kind p.span (along m 1) t b w
+    → Tokens (open_behind p.kind p.span.start.col columns) ps b w n u → Tokens columns (p ∷ ps) m (32 ∷ t) n u
+behind_blank h r = behind (taken.blank _ _ _ _ _ refl (taken.nothing _ _)) h r
+
+pub behind_feed : {columns t w u : List ℕ} {p : Piece} {ps : List Piece} {m b n : Marker}
+    → TokenText (least_column_in columns) p.kind p.span (next_line m 1) t b w
+    → Tokens (open_behind p.kind p.span.start.col columns) ps b w n u → Tokens columns (p ∷ ps) m (10 ∷ t) n u
+behind_feed h r = behind (taken.line_break _ _ _ _ refl (taken.nothing _ _)) h r
+
+-- all of a text
+pub whole : {pieces : List Piece} {text : List ℕ} {n : Marker} → Tokens [] pieces (marker_at 0 1 0) text n []
+    → AreTakenFrom text (record { pieces = pieces; refusal = None })
+whole {n = n} h = (cursor [] n, h.holds, refl)
+
+-- ## Tokens without a text
+
+pub stream_start : {indent : ℕ} {m : Marker} {t : List ℕ} → TokenText indent tokens.StreamStart (from_to m m) m t m t
+stream_start = record { holds = (refl, inl refl, refl) }
+
+pub stream_end : {indent : ℕ} {m : Marker} → TokenText indent tokens.StreamEnd (from_to m m) m [] m []
+stream_end = record { holds = (refl, (refl, inl refl, refl)) }
+
+-- behind a last line that no break ends
+pub stream_end_behind : {indent : ℕ} {m : Marker}
+    → TokenText indent tokens.StreamEnd (from_to (next_line m 0) (next_line m 0)) m [] m []
+stream_end_behind = record { holds = (refl, (refl, inr (refl, refl), refl)) }
+
+pub sequence_start : {indent : ℕ} {m : Marker} {t : List ℕ} → IsTrue (begins_text (slice_index t 0))
+    → TokenText indent tokens.BlockSequenceStart (from_to m m) m t m t
+sequence_start b = record { holds = (refl, refl, refl, b) }
+
+pub mapping_start : {indent : ℕ} {m : Marker} {t : List ℕ} → IsTrue (begins_text (slice_index t 0))
+    → TokenText indent tokens.BlockMappingStart (from_to m m) m t m t
+mapping_start b = record { holds = (refl, refl, refl, b) }
+
+pub block_end : {indent : ℕ} {m : Marker} {t : List ℕ} → TokenText indent tokens.BlockEnd (from_to m m) m t m t
+block_end = record { holds = (refl, inl refl, refl) }
+
+pub block_end_behind : {indent : ℕ} {m : Marker}
+    → TokenText indent tokens.BlockEnd (from_to (next_line m 0) (next_line m 0)) m [] m []
+block_end_behind = record { holds = (refl, inr (refl, refl), refl) }
+
+pub key : {indent : ℕ} {m : Marker} {t : List ℕ} → TokenText indent tokens.Key (from_to m m) m t m t
+key = record { holds = inr (refl, inl refl, refl) }
+
+-- ## Indicators
+
+-- n characters of blanks and a comment stand first
+pub record Tail (t : List ℕ) (n : ℕ) : Type 0 where
+  pub holds : (tail behind : List ℕ) × IsLineTail tail × (t ≡ tail ++ behind) × (length tail ≡ n)
+
+pub no_tail : {t : List ℕ} → Tail t 0
+no_tail {t} = record { holds = ([], t, ([], [], tt, inl refl, refl), refl, refl) }
+
+pub blank : {t : List ℕ} → Tail (32 ∷ t) 1
+blank {t} = record { holds = (codes " ", t, (codes " ", [], (refl, tt), inl refl, refl), refl, refl) }
+
+pub comment_c : {t : List ℕ} → Tail (codes " # c" ++ t) 4
+comment_c {t} = record {
+  holds = (
+    codes " # c",
+    t,
+    (codes " ", codes "# c", (refl, tt), inr (codes " c", (λ e. cc), (refl, (refl, tt)), refl), refl),
+    refl,
+    refl,
+  );
+}
+
+lies : {t : List ℕ} {n : ℕ} (m : Marker) → Tail t n → LiesOnLine (cursor t m) (along m n)
+lies m h = let (tail, behind, is, e, l) = h.holds in (tail, behind, is, e, ap (λ k. along m k) (sym l))
+
+indicator : (c n : ℕ) (m : Marker) (t : List ℕ) → Tail t n
+    → IsFlowIndicator c (from_to m (along (along m 1) n)) (cursor (c ∷ t) m) (cursor t (along m 1))
+indicator c n m t h = ((refl, refl), refl, lies (along m 1) h)
+
+pub open_bracket : {indent n : ℕ} {m : Marker} {t : List ℕ} → Tail t n
+    → TokenText indent tokens.FlowSequenceStart (from_to m (along (along m 1) n)) m (91 ∷ t) (along m 1) t
+open_bracket {n = n} {m} {t} h = record { holds = indicator 91 n m t h }
+
+pub close_bracket : {indent n : ℕ} {m : Marker} {t : List ℕ} → Tail t n
+    → TokenText indent tokens.FlowSequenceEnd (from_to m (along (along m 1) n)) m (93 ∷ t) (along m 1) t
+close_bracket {n = n} {m} {t} h = record { holds = indicator 93 n m t h }
+
+pub open_brace : {indent n : ℕ} {m : Marker} {t : List ℕ} → Tail t n
+    → TokenText indent tokens.FlowMappingStart (from_to m (along (along m 1) n)) m (123 ∷ t) (along m 1) t
+open_brace {n = n} {m} {t} h = record { holds = inl (indicator 123 n m t h) }
+
+pub close_brace : {indent n : ℕ} {m : Marker} {t : List ℕ} → Tail t n
+    → TokenText indent tokens.FlowMappingEnd (from_to m (along (along m 1) n)) m (125 ∷ t) (along m 1) t
+close_brace {n = n} {m} {t} h = record { holds = inl (indicator 125 n m t h) }
+
+pub comma : {indent n : ℕ} {m : Marker} {t : List ℕ} → Tail t n
+    → TokenText indent tokens.FlowEntry (from_to m (along (along m 1) n)) m (44 ∷ t) (along m 1) t
+comma {n = n} {m} {t} h = record { holds = indicator 44 n m t h }
+
+-- a `-` and a blank
+pub dash : {indent : ℕ} {m : Marker} {t : List ℕ} → TokenText indent tokens.BlockEntry
+    (from_to (along (along m 1) 1) (along (along m 1) 1)) m (45 ∷ 32 ∷ t) (along m 1) (32 ∷ t)
+dash {m = m} = record { holds = ((refl, refl), refl, lies (along m 1) blank, refl) }
+
+pub colon : {indent : ℕ} {m : Marker} {others : List ℕ}
+    → TokenText indent tokens.Value (from_to m m) m (58 ∷ others) (along m 1) others
+colon = record { holds = ((refl, refl), refl, refl) }
+
+-- ## Names, of one character
+
+named : (indicator c : ℕ) (bytes : List ℕ) (m : Marker) (t : List ℕ) → IsTrue (is_anchor_char c)
+    → bytes ≡ encode_utf8_all (c ∷ []) → IsFalse (is_anchor_char (slice_index t 0))
+    → IsNameToken indicator bytes (from_to m (along m 2)) (cursor (indicator ∷ c ∷ t) m) (cursor t (along m 2))
+named indicator c bytes m t h e n =
+    (c ∷ [], ((λ f. cc), (h, tt)), e, record { is = refl; start = refl; end = refl; goes_on = refl }, n)
+
+pub anchor : {indent : ℕ} {m : Marker} {bytes t : List ℕ} (c : ℕ) → IsTrue (is_anchor_char c)
+    → bytes ≡ encode_utf8_all (c ∷ []) → IsFalse (is_anchor_char (slice_index t 0))
+    → TokenText indent (tokens.Anchor bytes) (from_to m (along m 2)) m (38 ∷ c ∷ t) (along m 2) t
+anchor {m = m} {bytes} {t} c h e n = record { holds = named 38 c bytes m t h e n }
+
+pub alias : {indent : ℕ} {m : Marker} {bytes t : List ℕ} (c : ℕ) → IsTrue (is_anchor_char c)
+    → bytes ≡ encode_utf8_all (c ∷ []) → IsFalse (is_anchor_char (slice_index t 0))
+    → TokenText indent (tokens.Alias bytes) (from_to m (along m 2)) m (42 ∷ c ∷ t) (along m 2) t
+alias {m = m} {bytes} {t} c h e n = record { holds = named 42 c bytes m t h e n }
+
+-- ## Scalars
+
+-- behind three characters
+abbrev pub third : Marker → Marker
+third m = along (along (along m 1) 1) 1
+
+-- one character in quotes
+quoted : (quote : Quote) (c n : ℕ) (bytes : List ℕ) (m : Marker) (t : List ℕ) → Tail t n
+    → IsTrue (stands_for_itself quote c) → IsFalse (is_break c) → IsFalse (is_break (mark quote))
+    → IsTrue (is_closing quote (mark quote ∷ t)) → bytes ≡ encode_utf8_all (folded (raw_item c ∷ []))
+    → IsQuotedToken quote bytes (from_to m (along (third m) n)) (cursor (mark quote ∷ c ∷ mark quote ∷ t) m)
+    (cursor t (third m))
+quoted quote c n bytes m t h s b q d e = (
+  raw_item c ∷ [],
+  (c ∷ mark quote ∷ t, refl, itself quote c (mark quote ∷ t) [] t s (closed quote t d)),
+  e,
+  passing.character _ _ _ _ _ q (passing.character _ _ _ _ _ b
+      (passing.character _ _ _ _ _ q (passing.nothing _ _))),
+  refl,
+  lies (third m) h,
+  tt,
+)
+
+pub single_quoted : {indent n : ℕ} {bytes t : List ℕ} {m : Marker} (c : ℕ) → Tail t n
+    → IsTrue (stands_for_itself Single c) → IsFalse (is_break c) → IsTrue (is_closing Single (39 ∷ t))
+    → bytes ≡ encode_utf8_all (folded (raw_item c ∷ []))
+    → TokenText indent (tokens.Scalar SingleQuoted bytes) (from_to m (along (third m) n)) m (39 ∷ c ∷ 39 ∷ t) (third m)
+    t
+single_quoted {n = n} {bytes} {t} {m} c h s b d e = record { holds = quoted Single c n bytes m t h s b refl d e }
+
+pub double_quoted : {indent n : ℕ} {bytes t : List ℕ} {m : Marker} (c : ℕ) → Tail t n
+    → IsTrue (stands_for_itself Double c) → IsFalse (is_break c) → bytes ≡ encode_utf8_all (folded (raw_item c ∷ []))
+    → TokenText indent (tokens.Scalar DoubleQuoted bytes) (from_to m (along (third m) n)) m (34 ∷ c ∷ 34 ∷ t) (third m)
+    t
+double_quoted {n = n} {bytes} {t} {m} c h s b e = record { holds = quoted Double c n bytes m t h s b refl refl e }
+
+-- a character that may stand alone as a plain scalar
+pub record IsLetter (c : ℕ) : Type 0 where
+  pub begins : IsTrue (may_begin_plain c)
+  pub is_ink : IsFalse (is_blank_or_break c)
+  pub no_indicator : IsFalse (is_one_of (codes "-?:") c)
+  pub above : 65 ≤ c
+  pub below : c < 128
+
+pub letter_a : IsLetter 97
+letter_a = record { begins = refl; is_ink = refl; no_indicator = refl; above = omega arith; below = omega arith }
+
+pub letter_b : IsLetter 98
+letter_b = record { begins = refl; is_ink = refl; no_indicator = refl; above = omega arith; below = omega arith }
+
+pub letter_c : IsLetter 99
+letter_c = record { begins = refl; is_ink = refl; no_indicator = refl; above = omega arith; below = omega arith }
+
+pub letter_v : IsLetter 118
+letter_v = record { begins = refl; is_ink = refl; no_indicator = refl; above = omega arith; below = omega arith }
+
+absent : (a : Bool) → a ≡ false → IsTrue a → (P : Type 0) → P
+absent a e h P = absurd (let f : false ≡ true = rw e at h in cc)
+
+pub plain : {indent c : ℕ} {m : Marker} {bytes t : List ℕ} → IsLetter c → IsFalse (is_document_indicator (c ∷ t))
+    → IsTrue (ends_piece (slice_index t 0)) → encode_utf8_all (plain_value (normalized (c ∷ []))) ≡ bytes
+    → passed m (c ∷ []) ≡ along m 1
+    → TokenText indent (tokens.Scalar Plain bytes) (from_to m (along m 1)) m (c ∷ t) (along m 1) t
+plain {c = c} {t = t} l d f v e = record {
+  holds = record {
+    start = refl;
+    begins = l.begins;
+    is_ink = l.is_ink;
+    no_indicator = λ x. absent (is_one_of (codes "-?:") c) l.no_indicator x _;
+    reading = record {
+      piece = c ∷ [];
+      white = [];
+      is = refl;
+      spelled = (
+        (λ x. omega (arith, l.above)),
+        (λ x. omega (arith, l.below)),
+        (λ x y. omega (arith, l.above)),
+        (λ x. absurd (let z : ⊥ = omega (arith, l.above) in z)),
+        (λ x. d),
+        tt,
+      );
+      front = [];
+      last = c;
+      closes = refl;
+      is_ink = l.is_ink;
+      follows = f;
+      value = v;
+      ends = e;
+      are_white = tt;
+      behind = refl;
+    };
+    uncut = inl refl;
+  };
+}
+
+-- ## What is passed
+
+pub char : {m n : Marker} {c : ℕ} {t u : List ℕ} → IsFalse (is_break c) → IsPassed (along m 1) t n u
+    → IsPassed m (c ∷ t) n u
+char h p = passing.character _ _ _ _ _ h p
+
+pub feed : {m n : Marker} {t u : List ℕ} → IsPassed (next_line m 1) t n u → IsPassed m (10 ∷ t) n u
+feed p = passing.line_break _ _ _ _ refl p
+
+-- ## Tokens that are their spans
+
+pub on_line : {text u : List ℕ} {m : Marker} → IsSpan (from_to m (along m (length text))) text (cursor (text ++ u) m)
+    (cursor u (along m (length text)))
+on_line = record { is = refl; start = refl; end = refl; goes_on = refl }
+
+pub document_start : {indent : ℕ} {m : Marker} {t : List ℕ} → m.col ≡ 0 → IsTrue (is_document_start (codes "---" ++ t))
+    → TokenText indent tokens.DocumentStart (from_to m (along m 3)) m (codes "---" ++ t) (along m 3) t
+document_start c h = record { holds = (c, h, on_line) }
+
+pub document_end : {indent : ℕ} {m : Marker} {t : List ℕ} → m.col ≡ 0 → IsTrue (is_document_end (codes "..." ++ t))
+    → TokenText indent tokens.DocumentEnd (from_to m (along m 3)) m (codes "..." ++ t) (along m 3) t
+document_end c h = record { holds = (c, h, on_line) }
+
+pub byte_order_mark : {indent : ℕ} {m : Marker} {t : List ℕ} → m.col ≡ 0
+    → TokenText indent tokens.ByteOrderMark (from_to m (past_mark m)) m (0xFEFF ∷ t) (past_mark m) t
+byte_order_mark c = record { holds = record { is = refl; at_start = c; start = refl; end = refl; goes_on = refl } }
+
+-- a handle and a prefix, with nothing behind them on their line
+pub tag_directive : {indent : ℕ} {m : Marker} {front back t : List ℕ} (handle prefix text : List ℕ)
+    → IsReadTagDirective handle prefix text → front ≡ encode_utf8_all handle → back ≡ encode_utf8_all prefix → m.col ≡ 0
+    → IsTrue (is_breakz (slice_index t 0))
+    → TokenText indent (tokens.TagDirective front back) (from_to m (along m (length text))) m (text ++ t)
+    (along m (length text)) t
+tag_directive {t = t} handle prefix text h e f c b = record {
+  holds = (text, [], t, c, (handle, prefix, h, e, f), on_line, ([], [], tt, inl refl, refl), refl, b);
+}
+
+pub tag : {indent : ℕ} {m : Marker} {front back t : List ℕ} (text handle suffix : List ℕ) → IsTagText text handle suffix
+    → front ≡ encode_utf8_all handle → back ≡ encode_utf8_all suffix
+    → TokenText indent (tokens.Tag front back) (from_to m (along m (length text))) m (text ++ t)
+    (along m (length text)) t
+tag text handle suffix h e f = record { holds = (text, handle, suffix, h, e, f, on_line) }
