@@ -5,5 +5,5 @@ pub mod scalar;
 
 pub use scalar::{
     BlockScalar, Directive, DirectiveLine, FaultText, Marker, PlainScalar, Reader, Refusal,
-    ScalarStyle, ScanError, Span, Stop, TagParts,
+    ScalarStyle, ScanError, Span, Spare, Stop, TagParts,
 };

@@ -13,6 +13,7 @@ mod property_law;
 mod quoted;
 mod reader;
 mod refusal_law;
+mod spare;
 mod style;
 mod tag;
 
@@ -36,5 +37,6 @@ pub use position::{Marker, Span};
 pub use property_law::{reads_each_anchor, reads_each_tag, spells_each_anchor, spells_each_tag};
 pub use reader::Reader;
 pub use refusal_law::refuses_inside;
+pub use spare::Spare;
 pub use style::ScalarStyle;
 pub use tag::TagParts;

@@ -131,7 +131,8 @@ impl<T: Input> Engine<T> {
             ≡ spec_state.acting (spec.from_to start end (kind_of kind)) (state self.old)) }
     {
         let span = Span::new(start, end);
-        self.queue.put(self.alloc, Token { span, kind })
+        self.queue
+            .put(self.alloc, Token { span, kind }, &mut self.reader.spare)
     }
 
     // Puts a token without characters into the queue.

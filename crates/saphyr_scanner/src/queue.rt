@@ -12,7 +12,7 @@ ghost use Rattle.saphyr_scanner.specs.Steps.Queue as spec;
 use crate::queue::place::Place;
 use crate::queue::slot::Slot;
 use crate::token::{Token, TokenType};
-use saphyr_scalar::{Span, Stop};
+use saphyr_scalar::{Span, Spare, Stop};
 use std::alloc::{AllocError, Global};
 use std::collections::VecDeque;
 
@@ -90,12 +90,17 @@ impl Queue {
     /// Puts a token at the end.
     #[inline(always)]
     #[tactic(auto, using(crate::proofs::Places::behind_slots))]
-    pub(crate) fn put(&mut self, alloc: Global, token: Token) -> Result<(), AllocError>
+    pub(crate) fn put(
+        &mut self,
+        alloc: Global,
+        token: Token,
+        spare: &mut Spare,
+    ) -> Result<(), AllocError>
         ensures { OnOk result (queue self.new ≡ spec.put (piece token) (queue self.old)) }
     {
         if self.second.is_full || !self.places.is_empty() {
             let Token { span, kind } = token;
-            return self.put_behind(alloc, &span, kind);
+            return self.put_behind(alloc, &span, kind, spare);
         }
         if self.first.is_full {
             self.second.put(token);
@@ -108,11 +113,17 @@ impl Queue {
     // The same behind tokens that are held.
     #[inline(never)]
     #[tactic(auto, using(crate::proofs::Places::behind_slots))]
-    fn put_behind(&mut self, alloc: Global, span: &Span, kind: TokenType) -> Result<(), AllocError>
+    fn put_behind(
+        &mut self,
+        alloc: Global,
+        span: &Span,
+        kind: TokenType,
+        spare: &mut Spare,
+    ) -> Result<(), AllocError>
         ensures { OnOk result (queue self.new
             ≡ spec.put (record { span = span.now; kind = kind_of kind }) (queue self.old)) }
     {
-        let place = Place::new(alloc, span, kind)?;
+        let place = Place::new(alloc, span, kind, spare)?;
         self.places.reserve(1)?;
         self.places.push_back_reserved(place);
         Ok(())
@@ -145,7 +156,12 @@ impl Queue {
 
     // Takes the first place behind the slots off, if there is one, and writes its token into `token`.
     #[inline(always)]
-    fn take_place(&mut self, alloc: Global, token: &mut Token) -> Result<bool, Stop>
+    fn take_place(
+        &mut self,
+        alloc: Global,
+        token: &mut Token,
+        spare: &mut Spare,
+    ) -> Result<bool, Stop>
         requires first { self.old.first.is_full ≡ false }
         requires second { self.old.second.is_full ≡ false }
         ensures { TakesOffBy spec.take_place self.old result token.new self.new }
@@ -157,13 +173,18 @@ impl Queue {
             return Ok(false);
         };
         self.handed = handed;
-        place.write_into(alloc, token)?;
+        place.write_into(alloc, token, spare)?;
         Ok(true)
     }
 
     // Takes the first token behind the slots off, if there is one, and writes it into `token`.
     #[inline(always)]
-    fn take_behind(&mut self, alloc: Global, token: &mut Token) -> Result<bool, Stop>
+    fn take_behind(
+        &mut self,
+        alloc: Global,
+        token: &mut Token,
+        spare: &mut Spare,
+    ) -> Result<bool, Stop>
         requires first { self.old.first.is_full ≡ false }
         requires second { self.old.second.is_full ≡ false }
         ensures { TakesOffBy spec.take self.old result token.new self.new }
@@ -172,7 +193,7 @@ impl Queue {
             return Ok(false);
         };
         let (kind, left) = match place.opening() {
-            Opening::Nothing => return self.take_place(alloc, token),
+            Opening::Nothing => return self.take_place(alloc, token, spare),
             Opening::Key => (TokenType::Key, Opening::Nothing),
             Opening::BlockMappingAndKey => (TokenType::BlockMappingStart, Opening::Key),
             Opening::FlowMappingAndKey => (TokenType::FlowMappingStart, Opening::Key),
@@ -185,11 +206,16 @@ impl Queue {
 
     /// Takes the first token off, if there is one, and writes it into `token`.
     #[inline(always)]
-    pub(crate) fn take_into(&mut self, alloc: Global, token: &mut Token) -> Result<bool, Stop>
+    pub(crate) fn take_into(
+        &mut self,
+        alloc: Global,
+        token: &mut Token,
+        spare: &mut Spare,
+    ) -> Result<bool, Stop>
         ensures { TakesOffBy spec.take self.old result token.new self.new }
     {
         if !self.first.is_full && !self.second.is_full {
-            return self.take_behind(alloc, token);
+            return self.take_behind(alloc, token, spare);
         }
         if self.handed == usize::MAX {
             return Err(Stop::OutOfMemory);

@@ -87,6 +87,14 @@ impl<T: Input> Scanner<T> {
         self.engine.fill(self.limit)?;
         self.engine.take_into(token)
     }
+
+    /// Takes a text that is no longer wanted, whose memory the next one may be given in.
+    #[inline(always)]
+    pub fn give_back(&mut self, text: String)
+        ensures { self.new ≡ self.old }
+    {
+        self.engine.give_back(text);
+    }
 }
 
 impl<T: CloneInput> Scanner<T> {

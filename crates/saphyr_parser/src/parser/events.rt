@@ -15,6 +15,8 @@ use saphyr_input::input::Input;
 use saphyr_scalar::{Span, Stop};
 use saphyr_scanner::Scanner;
 use std::alloc::Global;
+use std::borrow::CowStr;
+use std::mem::replace;
 
 impl<T: Input> Machine<T> {
     ghost use Rattle.saphyr_parser.specs.Views.Machines.{machine_of, TellsBy};
@@ -83,6 +85,17 @@ impl<T: Input> Machine<T> {
         *fault = Fault::new(self.alloc, stop);
     }
 
+    // Gives the text of the event that is written over back, for the memory of the next one.
+    #[inline(always)]
+    fn give_back<'input>(&mut self, next: &mut (Event<'input>, Span))
+        ensures { machine_of self.new ≡ machine_of self.old }
+    {
+        if let Event::Scalar(CowStr::Owned(text), _, _, _) = &mut next.0 {
+            self.scanner
+                .give_back(replace(text, String::new(self.alloc)));
+        }
+    }
+
     // Reads the next event or fault into its place, if there is one.
     #[inline(always)]
     #[tactic(auto, using(crate::proofs::Turns::refused))]
@@ -98,6 +111,7 @@ impl<T: Input> Machine<T> {
         if self.is_done() {
             return Progress::Over;
         }
+        self.give_back(next);
         match self.event(next) {
             Ok(()) => Progress::Event,
             Err(stop) => {

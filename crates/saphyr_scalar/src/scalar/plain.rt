@@ -8,7 +8,7 @@ ghost use Rattle.saphyr_scalar.specs.Steps.Sets as sets;
 
 use crate::scalar::fault::{FaultText, Refusal, Stop};
 use crate::scalar::position::Marker;
-use crate::scalar::reader::{FIRST_ROOM, Reader};
+use crate::scalar::reader::Reader;
 use saphyr_input::char_set::{CharSet, SpacedSet};
 use saphyr_input::char_traits::{is_blank, is_blank_or_breakz, is_bom, is_break, is_flow, is_z};
 use saphyr_input::input::Input;
@@ -358,7 +358,7 @@ impl<T: Input> Reader<T> {
                 mark: start,
             }));
         }
-        let mut text = String::with_capacity(alloc, FIRST_ROOM)?;
+        let mut text = self.spare.begin(alloc)?;
         let mut gap = String::new(alloc);
         loop {
             self.read_plain_words(in_flow, &mut text)?;

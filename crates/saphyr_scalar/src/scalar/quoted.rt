@@ -11,7 +11,8 @@ ghost use Rattle.saphyr_scalar.specs.Steps.Sets as sets;
 
 use crate::scalar::fault::{FaultText, Refusal, Stop};
 use crate::scalar::position::Marker;
-use crate::scalar::reader::{FIRST_ROOM, Reader};
+use crate::scalar::reader::Reader;
+use crate::scalar::spare::FIRST_ROOM;
 use saphyr_input::char_set::{CharSet, SpacedSet};
 use saphyr_input::char_traits::{is_blank, is_blank_or_breakz, is_break, is_z};
 use saphyr_input::input::Input;
@@ -354,7 +355,7 @@ impl<T: Input> Reader<T> {
         self.skip_non_blank();
         let is_empty = self.look() == quote.mark();
         let room = if is_empty { 0 } else { FIRST_ROOM };
-        let mut text = String::with_capacity(alloc, room)?;
+        let mut text = self.spare.begin_with(alloc, room)?;
         let mut blanks = String::new(alloc);
         loop {
             self.read_quoted_word(quote, start, &mut text)?;

@@ -6,13 +6,10 @@ ghost use Rattle.saphyr_scalar.specs.Views.Cursor as spec;
 
 use crate::scalar::fault::{FaultText, Refusal};
 use crate::scalar::position::Marker;
+use crate::scalar::spare::Spare;
 use saphyr_input::char_traits::is_bom;
 use saphyr_input::input::{CloneInput, Input, SkipTabs};
 use std::alloc::AllocError;
-
-/// How many bytes a scalar's text has room for at first. Most scalars need no more, and a smaller
-/// piece of memory costs as much.
-pub(crate) const FIRST_ROOM: usize = 24;
 
 /// The characters of a text, and the place that is reached in it.
 ///
@@ -23,6 +20,8 @@ pub struct Reader<T: Input> {
     pub(crate) input: T,
     pub(crate) mark: Marker,
     pub(crate) blank_so_far: bool,
+    /// What the next text is begun in. No contract sees it.
+    pub spare: Spare,
     ghost fits: { mark.index + length (T.rest input) < 2 ^ 64 },
     ghost column: { mark.col ≤ mark.index },
 }
@@ -45,6 +44,7 @@ impl<T: Input> Reader<T> {
                 col: 0,
             },
             blank_so_far: true,
+            spare: Spare::new(),
         }
     }
 
@@ -264,6 +264,7 @@ impl<T: CloneInput> Reader<T> {
             input: self.input.clone()?,
             mark: self.mark,
             blank_so_far: self.blank_so_far,
+            spare: Spare::new(),
         })
     }
 }

@@ -227,6 +227,15 @@ impl<T: Input> Engine<T> {
         ensures { Moves (λ taken. (option_map piece (written taken token.new), state self.new))
             result (Ok (fetch.take_token (state self.old))) }
     {
-        self.queue.take_into(self.alloc, token)
+        self.queue
+            .take_into(self.alloc, token, &mut self.reader.spare)
+    }
+
+    /// Keeps the memory of a text that is no longer wanted for the next one.
+    #[inline(always)]
+    pub(crate) fn give_back(&mut self, text: String)
+        ensures { state self.new ≡ state self.old }
+    {
+        self.reader.spare.keep(text);
     }
 }

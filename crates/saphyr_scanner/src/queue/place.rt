@@ -11,7 +11,7 @@ use crate::queue::near::{NearMarker, near};
 use crate::queue::short::ShortText;
 use crate::token::{Token, TokenType};
 use saphyr_scalar::scalar::TagParts;
-use saphyr_scalar::{Marker, ScalarStyle, Span};
+use saphyr_scalar::{Marker, ScalarStyle, Span, Spare};
 use std::alloc::{AllocError, Global};
 
 /// What the tokens of collections are, which have no text.
@@ -93,7 +93,12 @@ pub(super) enum Place {
 impl Place {
     /// The place of a token, with nothing in front of it.
     #[inline(always)]
-    pub(super) fn new(alloc: Global, span: &Span, kind: TokenType) -> Result<Place, AllocError>
+    pub(super) fn new(
+        alloc: Global,
+        span: &Span,
+        kind: TokenType,
+        spare: &mut Spare,
+    ) -> Result<Place, AllocError>
         ensures { IfOk result (λ p. place p
             ≡ spec.closed (record { span = span.now; kind = kind_of kind })) }
     {
@@ -112,7 +117,7 @@ impl Place {
             TokenType::BlockMappingStart => Indicator::BlockMappingStart,
             TokenType::BlockEntry => Indicator::BlockEntry,
             TokenType::BlockEnd => Indicator::BlockEnd,
-            kind => return Place::of_text(alloc, start, length, kind),
+            kind => return Place::of_text(alloc, start, length, kind, spare),
         };
         Ok(Place::Bare(Opening::Nothing, indicator, length, start))
     }
@@ -124,6 +129,7 @@ impl Place {
         start: NearMarker,
         length: u8,
         kind: TokenType,
+        spare: &mut Spare,
     ) -> Result<Place, AllocError>
         ensures { IfOk result (λ p. place p
             ≡ spec.closed (record { span = near_span start length; kind = kind_of kind })) }
@@ -138,6 +144,7 @@ impl Place {
             kind => return Place::whole(alloc, &start.span(length), kind),
         };
         if let Some(short) = ShortText::new(&text) {
+            spare.keep(text);
             return Ok(Place::Short(Opening::Nothing, what, length, start, short));
         }
         let text = Box::new(alloc, text)?;
@@ -197,7 +204,12 @@ impl Place {
 
     /// Writes the token into `token`.
     #[inline(always)]
-    pub(super) fn write_into(self, alloc: Global, token: &mut Token) -> Result<(), AllocError>
+    pub(super) fn write_into(
+        self,
+        alloc: Global,
+        token: &mut Token,
+        spare: &mut Spare,
+    ) -> Result<(), AllocError>
         ensures { OnOk result (piece token.new ≡ (place self).piece) }
     {
         match self {
@@ -207,7 +219,7 @@ impl Place {
             }
             Place::Short(_, what, length, start, text) => {
                 token.span = start.span(length);
-                token.kind = what.kind(text.to_string(alloc)?);
+                token.kind = what.kind(text.to_string(alloc, spare)?);
             }
             Place::Long(_, what, length, start, text) => {
                 token.span = start.span(length);

@@ -2,6 +2,7 @@
 
 ghost use Rattle.std.specs.Prelude.{◌≡◌, ◌≤◌, IfOk, IfSome, IsUtf8, string_bytes, take};
 
+use saphyr_scalar::Spare;
 use std::alloc::{AllocError, Global};
 use std::str;
 
@@ -32,10 +33,12 @@ impl ShortText {
 
     /// The text with memory of its own.
     #[inline(always)]
-    pub(super) fn to_string(&self, alloc: Global) -> Result<String, AllocError>
+    pub(super) fn to_string(&self, alloc: Global, spare: &mut Spare) -> Result<String, AllocError>
         ensures { IfOk result (λ text. string_bytes text ≡ take self.now.count self.now.bytes) }
     {
         let bytes = &self.bytes[..usize::from(self.count)];
-        String::from_str(alloc, str::from_utf8(bytes).unwrap())
+        let mut text = spare.begin(alloc)?;
+        text.push_str(str::from_utf8(bytes).unwrap())?;
+        Ok(text)
     }
 }

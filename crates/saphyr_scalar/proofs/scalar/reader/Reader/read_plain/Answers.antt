@@ -28,7 +28,7 @@ loop-gap-init g c =
     c.if-not-branch.false c.in_ok-plain_word_starts.ensures in
     record {
       same = ap (λ b. spec.with_text b (spec.word f c.args.indent s.mark there.mark there.rest))
-          c.in_ok-text.ensures.bytes
+          c.in_ok-text.ensures
           ∙ no_text _ ∙ sym (plain_starts f c.args.indent s there starts);
       goes = first_goes f s there starts;
     }

@@ -14,7 +14,7 @@ loop-blanks-init g c =
     let start = a.self.now.mark in
     let there = cursor_of c.skip_non_blank.new.self in
     ap (λ b. spec.with_front b (spec.inside_at a.quote a.indent start spec.no_gap (cursor_of c.look.new.self)))
-    c.in_ok-text.ensures.bytes
+    c.in_ok-text.ensures
     ∙ no_front (spec.inside_at a.quote a.indent start spec.no_gap (cursor_of c.look.new.self))
     ∙ ap (spec.inside_at a.quote a.indent start spec.no_gap) (c.look.ensures.same ∙ c.skip_non_blank.ensures)
 
