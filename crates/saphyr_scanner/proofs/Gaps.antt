@@ -1,14 +1,15 @@
--- A comment among what stands between two tokens.
-use Rattle.std.proofs.Common.{◌≡◌, ℕ, ◌+◌, Bool, true, false, List, [], ◌∷◌, drop, get_or, slice_index, refl, sym, ap, ◌∙◌, arith, nat_eq, suc, Result, Ok}
+-- Comments and spaces among what stands between two tokens.
+use Rattle.std.proofs.Common.{◌≡◌, ℕ, ◌+◌, ◌≤◌, Bool, true, false, List, [], ◌∷◌, drop, get_or, slice_index, refl, sym, ap, ◌∙◌, arith, nat_eq, zero, suc, Result, Ok}
 use Rattle.std.specs.Prelude.{◌==◌}
 use Rattle.std.specs.List.{prefix_len}
 use Rattle.std.proofs.lemmas.Bool.Decides.{nat_tests}
 use Rattle.saphyr_input.specs.Classes.{is_blank, is_break, is_yaml_non_break}
 use Rattle.saphyr_scalar.specs.declared.scalar.position.Marker.{Marker}
-use Rattle.saphyr_scalar.specs.Views.Cursor.{Cursor, along, pass_comment}
+use Rattle.saphyr_scalar.specs.Views.Cursor.{Cursor, along, pass_comment, pass_spaces}
 use Rattle.saphyr_scalar.specs.declared.scalar.fault.Refusal.{Refusal}
 use Rattle.saphyr_scanner.specs.Steps.Gap.{Passed, stop, gap, comment, gap_at, passed_gap, Spaced, spaces, line_comment, spaces_at}
-use Rattle.saphyr_scalar.proofs.Moving.{along_none}
+use Rattle.saphyr_input.specs.Places.{spaces_within}
+use Rattle.saphyr_scalar.proofs.Moving.{along_none, along_more}
 use Rattle.saphyr_input.proofs.Basics.Booleans.{or_false_left, or_false_right}
 
 along-along : (m : Marker) (a b : ℕ) → along (along m a) b ≡ along m (a + b)
@@ -76,6 +77,38 @@ pub comment_passed : (l : ℕ) (broke tabbed : Bool) (before read after : Cursor
     → gap_at l broke tabbed before ≡ all → gap_at l broke tabbed after ≡ all
 comment_passed l broke tabbed before read after all c first same passed sign known =
     rw (passed, same) (on_comment l broke tabbed before (sym first ∙ sign) ∙ known)
+
+-- ## Spaces that are passed in one piece
+
+over_spaces : (l : ℕ) (blank broke tabbed : Bool) (m : Marker) (n : ℕ) (t : List ℕ) → n ≤ prefix_len (λ c. c == 32) t
+    → gap l (along m n) blank broke tabbed (drop n t) ≡ gap l m blank broke tabbed t
+over_spaces l blank broke tabbed m zero t few = ap (λ k. gap l k blank broke tabbed t) (along_none m)
+over_spaces l blank broke tabbed m (suc n) [] few = absurd (omega (arith, few))
+over_spaces l blank broke tabbed m (suc n) (c ∷ cs) few =
+    by_test (c == 32) refl (over_spaces l blank broke tabbed (along m 1) n cs) few
+  where
+    by_test : (b : Bool) → (c == 32) ≡ b
+        → (n ≤ prefix_len (λ d. d == 32) cs
+        → gap l (along (along m 1) n) blank broke tabbed (drop n cs) ≡ gap l (along m 1) blank broke tabbed cs)
+        → suc n ≤ prefix_len (λ d. d == 32) (c ∷ cs)
+        → gap l (along m (suc n)) blank broke tabbed (drop n cs) ≡ gap l m blank broke tabbed (c ∷ cs)
+    by_test true e rest less =
+        let space : 32 ≡ c = grind (arith, nat_tests) in
+        let counted : prefix_len (λ d. d == 32) (c ∷ cs) ≡ 1 + prefix_len (λ d. d == 32) cs = rw e refl in
+        ap (λ k. gap l k blank broke tabbed (drop n cs)) (sym (along_more m 1 n (suc n) (omega arith)))
+        ∙ rest (omega (arith, less, counted)) ∙ ap (λ d. gap l m blank broke tabbed (d ∷ cs)) space
+    by_test false e rest less =
+        let counted : prefix_len (λ d. d == 32) (c ∷ cs) ≡ 0 = rw e refl in
+        absurd (omega (arith, less, counted))
+
+-- the spaces that are taken off are passed
+pub spaces_passed : (l most : ℕ) (broke tabbed : Bool) (before read after : Cursor) (all : Result Passed Refusal)
+    → read ≡ before → after ≡ pass_spaces most read → gap_at l broke tabbed before ≡ all
+    → gap_at l broke tabbed after ≡ all
+spaces_passed l most broke tabbed before read after all same passed known =
+    rw (passed, same)
+    (over_spaces l before.blank_so_far broke tabbed before.mark (spaces_within most before.rest) before.rest (omega arith)
+    ∙ known)
 
 -- ## The same behind `?`
 

@@ -66,6 +66,8 @@ pub(crate) struct Engine<T: Input> {
     started: bool,
     // Whether the token of the stream's end was.
     ended: bool,
+    // What ended the reading, once a call has answered by `false` that something did.
+    stop: Stop,
     // Where the memory of tokens and their texts comes from.
     alloc: Global,
 }
@@ -73,7 +75,7 @@ pub(crate) struct Engine<T: Input> {
 impl<T: Input> Engine<T> {
     ghost use Rattle.std.specs.Prelude.{Err, false};
     ghost use Rattle.saphyr_scalar.specs.Views.Reader.{Moves};
-    ghost use Rattle.saphyr_scanner.specs.Views.Engine.{state, CarriesBy};
+    ghost use Rattle.saphyr_scanner.specs.Views.Engine.{state, CarriesBy, answered};
     ghost use Rattle.saphyr_scanner.specs.Views.Tokens.{kind_of};
     ghost use Rattle.saphyr_scalar.specs.declared.scalar.fault.Stop.TheVariants.{Refused};
 
@@ -98,6 +100,7 @@ impl<T: Input> Engine<T> {
             comment: None,
             started: false,
             ended: false,
+            stop: Stop::OutOfMemory,
             alloc,
         }
     }
@@ -122,6 +125,21 @@ impl<T: Input> Engine<T> {
             { text = text; mark = (state self.now).core.cursor.mark }) }
     {
         Self::refuse(text, self.reader.mark())
+    }
+
+    // Keeps what ended the reading, and tells whether nothing did.
+    #[inline(always)]
+    fn keep(&mut self, ended: Result<(), Stop>) -> bool
+        ensures told { answered result self.new.stop ≡ ended }
+        ensures same { state self.new ≡ state self.old }
+    {
+        match ended {
+            Ok(()) => true,
+            Err(stop) => {
+                self.stop = stop;
+                false
+            }
+        }
     }
 
     // Puts a token from one place to another into the queue.

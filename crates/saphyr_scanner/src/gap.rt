@@ -39,7 +39,7 @@ fn end_gap<T: Input>(
     Ok(broke)
 }
 
-// Passes blanks, breaks and comments character by character, as `skip_gap` says.
+// Passes blanks, breaks and comments one after the other, spaces and comments in one piece, as `skip_gap` says.
 fn skip_gap_characters<T: Input>(reader: &mut Reader<T>, least: usize) -> Result<bool, Refusal>
     ensures { GivesAs spec.seen_passed (spec.passed_gap least) reader.old result reader.new }
 {
@@ -47,7 +47,9 @@ fn skip_gap_characters<T: Input>(reader: &mut Reader<T>, least: usize) -> Result
     let mut tabbed = false;
     loop {
         let c = reader.look();
-        if is_blank(c) {
+        if c == ' ' {
+            reader.skip_spaces(usize::MAX);
+        } else if c == '\t' {
             tabbed = stands_behind_tab(reader, least, tabbed, c);
             reader.skip_blank();
         } else if is_break(c) {

@@ -68,12 +68,11 @@ impl<T: Input> Machine<T> {
         ensures reads { Reads (filled next.new result) (machine_of self.old) (machine_of self.new) }
         ensures own { is_foreign result ≡ false }
     {
-        if self.is_done() {
-            return None;
-        }
-        match self.event(next) {
-            Ok(()) => Some(Ok(())),
-            Err(stop) => Some(Err(Fault::new(self.alloc, stop))),
+        let mut fault = Fault::OutOfMemory;
+        match self.advance(next, &mut fault) {
+            Progress::Event => Some(Ok(())),
+            Progress::Fault => Some(Err(fault)),
+            Progress::Over => None,
         }
     }
 
@@ -97,7 +96,7 @@ impl<T: Input> Machine<T> {
     }
 
     // Reads the next event or fault into its place, if there is one.
-    #[inline(always)]
+    #[inline(never)]
     #[tactic(auto, using(crate::proofs::Turns::refused))]
     pub(super) fn advance<'input>(
         &mut self,
@@ -122,7 +121,7 @@ impl<T: Input> Machine<T> {
     }
 
     // The next event, which is written into its place.
-    #[inline(never)]
+    #[inline(always)]
     #[tactic(auto, unfolding(crate::specs::Steps::Expected::event_step))]
     pub(super) fn event<'input>(&mut self, next: &mut (Event<'input>, Span)) -> Result<(), Stop>
         requires { (machine_of self.old).state ≢ End }

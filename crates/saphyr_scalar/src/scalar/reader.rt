@@ -126,10 +126,10 @@ impl<T: Input> Reader<T> {
         self.mark = self.mark.along(1);
     }
 
-    // Takes off spaces, but no more than `most`.
+    /// Takes off spaces, but no more than `most`.
     #[inline(always)]
     #[tactic(auto, using(crate::proofs::SpaceRuns::spaces_fit))]
-    pub(crate) fn skip_spaces(&mut self, most: usize)
+    pub fn skip_spaces(&mut self, most: usize)
         ensures { cursor_of self.new ≡ spec.pass_spaces most (cursor_of self.old) }
     {
         // Where lines are empty, none stands here.

@@ -1,5 +1,5 @@
 -- What contracts see of the engine.
-use Rattle.std.specs.Prelude.{map, reverse, option_map, Result}
+use Rattle.std.specs.Prelude.{map, reverse, option_map, Bool, true, false, Result, Ok, Err}
 use Rattle.saphyr_input.specs.declared.input.Input.{Ghosts}
 use Rattle.saphyr_scalar.specs.declared.scalar.fault.Refusal.{Refusal}
 use Rattle.saphyr_scalar.specs.declared.scalar.fault.Stop.{Stop}
@@ -54,3 +54,8 @@ abbrev pub ActsBy
     : {T : Type 0} {g : Ghosts T}
     → (Core → Steps) → Engine T g → Result Unit Stop → Engine T g → Type 0
 ActsBy f = MovesBy (λ s. acted (f s.core) s.queue)
+
+-- what a call answers by `true`, or by `false` and the stop that the engine keeps
+abbrev pub answered : Bool → Stop → Result Unit Stop
+answered true stop = Ok tt
+answered false stop = Err stop

@@ -27,6 +27,7 @@ impl<T: CloneInput> Engine<T> {
             comment: self.comment,
             started: self.started,
             ended: self.ended,
+            stop: self.stop,
             alloc: self.alloc,
         })
     }

@@ -30,7 +30,7 @@ impl Level {
 
 impl<T: Input> Engine<T> {
     ghost use Rattle.saphyr_scalar.specs.Views.Reader.{Moves};
-    ghost use Rattle.saphyr_scanner.specs.Views.Engine.{state, MovesBy, ActsBy};
+    ghost use Rattle.saphyr_scanner.specs.Views.Engine.{state, MovesBy, ActsBy, answered};
     ghost use Rattle.saphyr_scanner.specs.Views.Tokens.{piece, written};
 
     // Comes to where the next token begins.
@@ -88,11 +88,28 @@ impl<T: Input> Engine<T> {
             return Err(self.refuse_here(FaultText::InvalidIndentation));
         }
         let next = self.reader.input().peek_nth(1);
-        self.fetch_content(c, next)?;
+        if !self.fetches_content(c, next) {
+            return Err(self.stop);
+        }
         Ok(())
     }
 
+    // The same as `fetch_content`, with the stop kept: a result is cleared before a call and copied behind it, and this
+    // call isn't inlined.
+    #[inline(never)]
+    fn fetches_content(&mut self, c: char, next: char) -> bool
+        requires some { 0 < length (state self.old).core.cursor.rest }
+        requires first { c ≡ slice_index (state self.old).core.cursor.rest 0 }
+        requires second { next ≡ slice_index (state self.old).core.cursor.rest 1 }
+        ensures { MovesBy (fetch.state_behind_content c next) self.old
+            (answered result self.new.stop) self.new }
+    {
+        let ended = self.fetch_content(c, next);
+        self.keep(ended)
+    }
+
     // Puts the token that the first character begins into the queue.
+    #[inline(always)]
     #[tactic(auto, unfolding(crate::specs::Steps::Fetch::state_behind_content, crate::specs::Steps::Fetch::step))]
     fn fetch_content(&mut self, c: char, next: char) -> Result<(), Stop>
         requires some { 0 < length (state self.old).core.cursor.rest }
@@ -189,7 +206,7 @@ impl<T: Input> Engine<T> {
     }
 
     // Reads tokens until the head of the queue can be handed out, unless all were.
-    #[inline(never)]
+    #[inline(always)]
     #[tactic(auto, unfolding(crate::specs::Steps::Fetch::fill))]
     fn read_on(&mut self, limit: usize) -> Result<(), Stop>
         ensures { MovesBy (fetch.fill limit) self.old result self.new }
@@ -209,6 +226,15 @@ impl<T: Input> Engine<T> {
         Ok(())
     }
 
+    // The same, with the stop kept, as a call of its own.
+    #[inline(never)]
+    fn reads_on(&mut self, limit: usize) -> bool
+        ensures { MovesBy (fetch.fill limit) self.old (answered result self.new.stop) self.new }
+    {
+        let ended = self.read_on(limit);
+        self.keep(ended)
+    }
+
     /// Has a token at the head of the queue that can be handed out, unless all were.
     #[inline(always)]
     #[tactic(auto, using(crate::proofs::Filling::ready_as_is))]
@@ -218,7 +244,10 @@ impl<T: Input> Engine<T> {
         if self.is_ready() {
             return Ok(());
         }
-        self.read_on(limit)
+        if self.reads_on(limit) {
+            return Ok(());
+        }
+        Err(self.stop)
     }
 
     /// Takes the first token off the queue, if there is one, and writes it into `token`.

@@ -3,9 +3,9 @@ use Rattle.saphyr_scalar.specs.Views.Reader.{cursor_of}
 use Rattle.saphyr_scanner.specs.Steps.Gap as spec
 use Rattle.saphyr_scanner.proofs.gap.skip_gap_characters.Given as goal
 
-abbrev pub invariant-loop-reader : goal.invariant-loop-reader
-invariant-loop-reader g l =
+abbrev pub invariant-loop-c : goal.invariant-loop-c
+invariant-loop-c g l =
     spec.gap_at l.least l.broke l.tabbed (cursor_of l.reader) ≡ spec.gap_at l.least false false (cursor_of l.fn.reader)
 
-abbrev pub decreases-loop-reader : goal.decreases-loop-reader
-decreases-loop-reader g l = length (cursor_of l.reader).rest
+abbrev pub decreases-loop-c : goal.decreases-loop-c
+decreases-loop-c g l = length (cursor_of l.reader).rest
