@@ -156,9 +156,3 @@ spaces_at low n (c ∷ cs) m blank space h =
           (λ _. by_test ((c == 13) && (slice_index cs 0 == 10)) _ _ P (λ _. further)
           (λ _. by_test (is_break c) _ _ P (λ _. line) (λ _. h))),
     )
-
-pub spaces_counted : (space : Bool) (s : Cursor) → Ahead s (spaces s.mark s.blank_so_far space s.rest).cursor
-spaces_counted space s =
-    let h = (spaces_at s.mark.index (s.mark.index + length s.rest) s.rest s.mark s.blank_so_far space
-    (omega arith, refl)).0 in
-    record { later = h.0; counted = h.1 }

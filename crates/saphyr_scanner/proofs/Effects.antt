@@ -2,6 +2,8 @@
 pub mod Readers
 pub mod Steps
 pub mod Moves
+pub mod Puts
+pub mod Walked
 pub mod Flow
 pub mod Values
 pub mod Blocks

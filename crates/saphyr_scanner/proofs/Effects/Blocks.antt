@@ -15,7 +15,10 @@ use Rattle.saphyr_scanner.specs.Steps.Passing.{separate, pass_on, with_cursor}
 use Rattle.saphyr_scanner.specs.Steps.Block as block
 use Rattle.saphyr_scanner.specs.TokensTaken as taken
 use Rattle.saphyr_scanner.specs.TokensTaken.{AreApart}
-use Rattle.saphyr_scanner.proofs.Effects.Moves.{Does, and_then, Same, lesser, further, passes, indicated, quiet, block_begins, Premises, Walked, walked_then, at_most, Doing, at_reach, separate_walked}
+use Rattle.saphyr_scanner.proofs.Effects.Moves.{Does, and_then, Same, lesser, further}
+use Rattle.saphyr_scanner.proofs.Effects.Puts.{passes, indicated, quiet, block_begins}
+use Rattle.saphyr_scanner.proofs.Effects.Walked.{Premises, Walked, walked_then, at_most, Doing, at_reach}
+use Rattle.saphyr_scanner.proofs.Effects.Walked.{separate_walked}
 use Rattle.saphyr_scanner.proofs.LineTails.{OnLine}
 use Rattle.saphyr_scanner.proofs.Reached.{apart_reached}
 use Rattle.saphyr_scanner.proofs.Taken.Cores.{by_bool, further_block}

@@ -24,7 +24,10 @@ use Rattle.saphyr_scanner.specs.TokensTaken.{AreApart, IsPassedOver, IsReached, 
 use Rattle.saphyr_scanner.proofs.Added.Queue.{IsNoEnd}
 use Rattle.saphyr_scanner.proofs.Blocks.{unrolled_cursor, unrolled_comment}
 use Rattle.saphyr_scanner.proofs.Counted.{stays, text_passed}
-use Rattle.saphyr_scanner.proofs.Effects.Moves.{Does, and_then, NoComment, Same, still, Reading, quiet, Premises, Walked, walked_then, at_most, Doing, unsaved_step, at_reach, at_inside, read_walked, separate_walked, further}
+use Rattle.saphyr_scanner.proofs.Effects.Moves.{Does, and_then, NoComment, Same, still, further}
+use Rattle.saphyr_scanner.proofs.Effects.Puts.{Reading, quiet}
+use Rattle.saphyr_scanner.proofs.Effects.Walked.{Premises, Walked, walked_then, at_most, Doing, unsaved_step, at_reach}
+use Rattle.saphyr_scanner.proofs.Effects.Walked.{at_inside, read_walked, separate_walked}
 use Rattle.saphyr_scanner.proofs.Effects.Readers.{TextLaws}
 use Rattle.saphyr_scanner.proofs.Effects.States.{Advances, advances_advances, carried_advances, acted_advances, unroll_advances}
 use Rattle.saphyr_scanner.proofs.Effects.Steps.{begins_none, begins_forgotten}
@@ -249,9 +252,17 @@ directive_reading c x col f e = record {
       (along_more s.mark (length text) (length tail) (length text + length tail) refl) first in
       let P : Cursor → Type 0 = λ u. AreApart mid u in (
         mid,
-        directive_token x.0 c.indent (record { start = s.mark; end = x.1 }) s mid
-            (text, tail, behind, col, r.4, record { is = r.3; start = refl; end = r.7; goes_on = refl }, r.5, refl,
-            r.6),
+        directive_token x.0 c.indent (record { start = s.mark; end = x.1 }) s mid (
+          text,
+          tail,
+          behind,
+          col,
+          r.4,
+          record { is = r.3; start = refl; end = r.7; goes_on = refl },
+          r.5,
+          refl,
+          r.6,
+        ),
         subst P (sym r.8) (apart_apart mid.mark mid.rest there.mark there.rest (pass_break there).mark
             (pass_break there).rest second (break_apart there)),
       );

@@ -23,7 +23,8 @@ use Rattle.saphyr_scanner.proofs.Ordered.Queue.{Grows, grows_grows, core_grows, 
 use Rattle.saphyr_scanner.proofs.Added.Queue.{PlacesGoOn, place_goes_on, due, tokens_put}
 use Rattle.saphyr_scanner.proofs.Effects.Readers.{Readers, ReaderEnds}
 use Rattle.saphyr_scanner.proofs.Effects.Steps.{EffectAt, Goes, goes_none, gap_goes, drop_goes}
-use Rattle.saphyr_scanner.proofs.Effects.Moves.{Premises, Walked, walked_given, Doing, Stepped, walked_step, unsaved_step}
+use Rattle.saphyr_scanner.proofs.Effects.Walked.{Premises, Walked, walked_given, Doing, Stepped, walked_step}
+use Rattle.saphyr_scanner.proofs.Effects.Walked.{unsaved_step}
 use Rattle.saphyr_scanner.proofs.Effects.Flow.{open_sequence, open_mapping, close_sequence, close_mapping, sequence_starts, mapping_starts, start_does, end_does, entry_does}
 use Rattle.saphyr_scanner.proofs.Effects.Values.{value_does, flow_value_does}
 use Rattle.saphyr_scanner.proofs.Effects.Blocks.{block_entry_does, key_does}

@@ -17,7 +17,10 @@ use Rattle.saphyr_scanner.specs.Steps.Flow as flow
 use Rattle.saphyr_scanner.specs.TokensTaken as taken
 use Rattle.saphyr_scanner.specs.TokensTaken.{IsToken, IsFlowIndicator, begins_text}
 use Rattle.saphyr_scanner.proofs.Added.Queue.{IsNoEnd}
-use Rattle.saphyr_scanner.proofs.Effects.Moves.{Does, and_then, Same, same, same_same, lesser, further, entered, left, Reading, empty_reading, Stands, passes, indicated, quiet, saving, saved, Premises, Walked, walked_then, walked_map, at_most, Doing, separate_walked}
+use Rattle.saphyr_scanner.proofs.Effects.Moves.{Does, and_then, Same, same, same_same, lesser, further, entered, left}
+use Rattle.saphyr_scanner.proofs.Effects.Puts.{Reading, empty_reading, Stands, passes, indicated, quiet, saving, saved}
+use Rattle.saphyr_scanner.proofs.Effects.Walked.{Premises, Walked, walked_then, walked_map, at_most, Doing}
+use Rattle.saphyr_scanner.proofs.Effects.Walked.{separate_walked}
 use Rattle.saphyr_scanner.proofs.LineTails.{OnLine}
 use Rattle.saphyr_scanner.proofs.Taken.Later.{apart_later}
 use Rattle.saphyr_scanner.proofs.Taken.Parts.{is_quiet, Begins}

@@ -31,7 +31,9 @@ use Rattle.saphyr_scanner.specs.TokensTaken as taken
 use Rattle.saphyr_scanner.specs.TokensTaken.{AreApart, IsToken, IsQuotedToken, may_begin_plain, begins_text}
 use Rattle.saphyr_scanner.proofs.Added.Queue.{IsNoEnd}
 use Rattle.saphyr_scanner.proofs.Counted.{Ahead}
-use Rattle.saphyr_scanner.proofs.Effects.Moves.{IsSaved, saving, saved_above, saved, Reading, Premises, Walked, walked_then, Doing, Stepped, at_inside, read_walked, at_reach, separate_walked, gap_walked}
+use Rattle.saphyr_scanner.proofs.Effects.Puts.{IsSaved, saving, saved_above, saved, Reading}
+use Rattle.saphyr_scanner.proofs.Effects.Walked.{Premises, Walked, walked_then, Doing, Stepped, at_inside, read_walked}
+use Rattle.saphyr_scanner.proofs.Effects.Walked.{at_reach, separate_walked, gap_walked}
 use Rattle.saphyr_scanner.proofs.Effects.Readers.{Readers, ReaderEnds, Less, TextLaws}
 use Rattle.saphyr_scanner.proofs.PlainBehind.{Ends, plain_ends}
 use Rattle.saphyr_scanner.proofs.Reached.{apart_reached, passed_reached}

@@ -16,7 +16,11 @@ use Rattle.saphyr_scanner.specs.Steps.Value as value
 use Rattle.saphyr_scanner.specs.Steps.Fetch as fetching
 use Rattle.saphyr_scanner.specs.TokensTaken as taken
 use Rattle.saphyr_scanner.specs.TokensTaken.{AreApart}
-use Rattle.saphyr_scanner.proofs.Effects.Moves.{Does, and_then, Around, Same, same, lesser, still, empty_reading, Stands, passes, indicated, quiet, block_begins, key_opens, mapping_opens, Premises, Walked, walked_then, walked_map, at_most, Doing, at_reach, separate_walked}
+use Rattle.saphyr_scanner.proofs.Effects.Moves.{Does, and_then, Around, Same, same, lesser, still}
+use Rattle.saphyr_scanner.proofs.Effects.Puts.{empty_reading, Stands, passes, indicated, quiet, block_begins, key_opens}
+use Rattle.saphyr_scanner.proofs.Effects.Puts.{mapping_opens}
+use Rattle.saphyr_scanner.proofs.Effects.Walked.{Premises, Walked, walked_then, walked_map, at_most, Doing, at_reach}
+use Rattle.saphyr_scanner.proofs.Effects.Walked.{separate_walked}
 use Rattle.saphyr_scanner.proofs.Reached.{apart_reached}
 use Rattle.saphyr_scanner.proofs.Taken.Cores.{by_bool, further_block}
 use Rattle.saphyr_scanner.proofs.Taken.Later.{apart_later}

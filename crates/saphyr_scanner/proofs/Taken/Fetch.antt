@@ -24,7 +24,7 @@ use Rattle.saphyr_scanner.proofs.Taken.Later.{LaterThan}
 use Rattle.saphyr_scanner.proofs.Taken.Parts.{tokens_part}
 use Rattle.saphyr_scanner.proofs.Taken.Held.{taken_put}
 use Rattle.saphyr_scanner.proofs.Taken.Cores.{no_keys, quiet_put}
-use Rattle.saphyr_scanner.proofs.Effects.Moves.{Premises, Walked, walked_given, Stepped}
+use Rattle.saphyr_scanner.proofs.Effects.Walked.{Premises, Walked, walked_given, Stepped}
 use Rattle.saphyr_scanner.proofs.Effects.Documents.{Documented, start_walked, end_marker_walked, mark_walked, directive_walked, documents_advance, documents_hold}
 use Rattle.saphyr_scanner.proofs.Taken.States.{Live, Fetched, holds_fetched, FetchedStep, TakenState}
 use Rattle.saphyr_scanner.proofs.Taken.Documents.{HoldsState, start_marking, end_fetched}

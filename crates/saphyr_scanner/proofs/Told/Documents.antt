@@ -19,7 +19,7 @@ use Rattle.saphyr_scanner.specs.TokensTaken.{IsReached}
 use Rattle.saphyr_scanner.specs.Steps.Unrolling.{unroll}
 use Rattle.saphyr_scanner.proofs.Blocks.{unrolled_cursor, unrolled_comment}
 use Rattle.saphyr_scanner.proofs.Effects.Documents.{Documented, start_walked, end_marker_walked, mark_walked, directive_walked}
-use Rattle.saphyr_scanner.proofs.Effects.Moves.{Premises, Walked}
+use Rattle.saphyr_scanner.proofs.Effects.Walked.{Premises, Walked}
 use Rattle.saphyr_scanner.proofs.Effects.Fetch.{left, step_does}
 use Rattle.saphyr_scanner.proofs.Taken.Documents.{start_marking, end_place, no_length}
 use Rattle.saphyr_scanner.proofs.Effects.Readers.{TextLaws, RefusalLaws}

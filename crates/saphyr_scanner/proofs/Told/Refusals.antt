@@ -12,7 +12,7 @@ use Rattle.saphyr_scanner.specs.Steps.Passing.{separate, with_cursor, pass_gap, 
 use Rattle.saphyr_scanner.specs.TokensTaken.{AreApart}
 use Rattle.saphyr_scanner.proofs.GapPlaces.{Refused, gap_refused}
 use Rattle.saphyr_scanner.proofs.Effects.Readers.{RefusalLaws}
-use Rattle.saphyr_scanner.proofs.Effects.Moves.{Premises, Walked, Stepped}
+use Rattle.saphyr_scanner.proofs.Effects.Walked.{Premises, Walked, Stepped}
 use Rattle.saphyr_scanner.proofs.LineTails.{OnLine, separation_passes}
 use Rattle.saphyr_scanner.proofs.PlainBehind.{IsNoted}
 use Rattle.saphyr_scanner.proofs.Reached.{apart_reached, passed_reached}

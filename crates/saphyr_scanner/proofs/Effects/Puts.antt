@@ -1,0 +1,209 @@
+-- The moves that put a token, save a key, or turn a candidate into a key.
+use Rattle.std.proofs.Common.{◌≡◌, ℕ, ◌+◌, ◌≤◌, ◌⊎◌, Bool, true, false, List, [], ◌∷◌, length, Option, Some, None}
+use Rattle.std.proofs.Common.{refl, sym, ap, arith, subst, inl, inr, IsTrue}
+use Rattle.std.specs.Prelude.{◌==◌, slice_index}
+use Rattle.saphyr_input.specs.Classes.{is_break}
+use Rattle.saphyr_scalar.specs.declared.scalar.position.Span.{Span}
+use Rattle.saphyr_scalar.specs.Views.Cursor.{Cursor, pass, separation}
+use Rattle.saphyr_scanner.specs.declared.queue.Opening.{Opening}
+use Rattle.saphyr_scanner.specs.declared.queue.Opening.TheVariants as opening
+use Rattle.saphyr_scanner.specs.Grammar.Tokens.{Kind}
+use Rattle.saphyr_scanner.specs.Views.Tokens.{Piece}
+use Rattle.saphyr_scanner.specs.Steps.Queue.{Queue, put, with_opening, empty_piece}
+use Rattle.saphyr_scanner.specs.Steps.Core.{Candidate, Level, Core, Put, Open, at_mark}
+use Rattle.saphyr_scanner.specs.Steps.Core.{in_block, save_key, forget_key, enter_block}
+use Rattle.saphyr_scanner.specs.Steps.Passing.{with_cursor}
+use Rattle.saphyr_scanner.specs.TokensTaken as taken
+use Rattle.saphyr_scanner.specs.TokensTaken.{AreApart, IsToken, TakesCharacter, IsBlockStart, begins_text, open_behind}
+use Rattle.saphyr_scanner.proofs.Added.Queue.{IsNoEnd, at_most_one, one_at_most, open_blocks}
+use Rattle.saphyr_scanner.proofs.Effects.Readers.{Readers, ReaderEnds, ReadsSpan, TextLaws}
+use Rattle.saphyr_scanner.proofs.Effects.Moves.{Around, Does, IsBefore, IsNext, NoComment, around}
+use Rattle.saphyr_scanner.proofs.PlainBehind.{IsNoted}
+use Rattle.saphyr_scanner.proofs.Taken.Candidates.{KeyAbove, LevelsAbove, Above}
+use Rattle.saphyr_scanner.proofs.Taken.Cores.{Holds, outermost, quiet_opens, quiet_put, loud_put}
+use Rattle.saphyr_scanner.proofs.Taken.Cores.{saved_keys, open_quiet, open_loud, indicator}
+use Rattle.saphyr_scanner.proofs.Taken.Held.{Stack, taken_put}
+use Rattle.saphyr_scanner.proofs.Taken.Later.{apart_later}
+use Rattle.saphyr_scanner.proofs.Taken.Parts.{is_quiet, Begins, opens_block}
+use Rattle.saphyr_scanner.proofs.Taken.Places.{Reaches, character_reached}
+use Rattle.saphyr_input.proofs.Basics.Booleans.{by_test}
+
+-- ## A token is put
+
+-- a token from the place of c to u, where k characters at least are taken off
+pub record Reading (k : ℕ) (c : Core) (t : Piece) (u : Cursor) : Type 0 where
+  pub less : Readers → length u.rest + k ≤ length c.cursor.rest
+  pub span : ReaderEnds → ReadsSpan c.cursor t.span u
+  pub token : TextLaws → (behind : Cursor) × IsToken c.indent t.kind t.span c.cursor behind × AreApart behind u
+
+-- a token without characters
+pub empty_reading : (c : Core) (kind : Kind)
+    → IsToken c.indent kind (record { start = c.cursor.mark; end = c.cursor.mark }) c.cursor c.cursor
+    → Reading 0 c (empty_piece c.cursor.mark kind) c.cursor
+empty_reading c kind is = record {
+  less = λ _. omega arith;
+  span = λ _. record {
+    ahead = record { later = omega arith; counted = refl };
+    begins = omega arith;
+    inside = omega arith;
+    ends = omega arith;
+  };
+  token = λ _. (c.cursor, is, taken.nothing c.cursor.mark c.cursor.rest);
+}
+
+-- an indicator stands here
+pub record Stands (x : ℕ) (s : Cursor) : Type 0 where
+  pub some : (x == 0) ≡ false
+  pub unbroken : is_break x ≡ false
+  pub is : slice_index s.rest 0 ≡ x
+
+pub passes : (x : ℕ) (s : Cursor) → Stands x s → Reaches s (pass 1 s)
+passes x s h = character_reached x s (pass 1 s) h.unbroken (indicator x s h.some h.is)
+
+-- its token, with separation behind it
+pub indicated : (x : ℕ) (c : Core) (u : Cursor) (t : Piece) → Stands x c.cursor → AreApart (pass 1 c.cursor) u
+    → c.cursor.mark.index ≤ t.span.start.index → t.span.start.index ≤ t.span.end.index
+    → t.span.end.index ≤ u.mark.index
+    → (TakesCharacter x c.cursor (pass 1 c.cursor) → IsToken c.indent t.kind t.span c.cursor (pass 1 c.cursor))
+    → Reading 1 c t u
+indicated x c u t stands apart begins inside ends is =
+    let takes = indicator x c.cursor stands.some stands.is in
+    let l : length c.cursor.rest ≡ length (x ∷ (pass 1 c.cursor).rest) = ap length takes.0 in
+    let later = apart_later (pass 1 c.cursor).mark (pass 1 c.cursor).rest u.mark u.rest apart in
+    record {
+      less = λ _. omega (arith, l, later.index, later.counted);
+      span = λ _. record {
+        ahead = record { later = omega (arith, later.index); counted = omega (arith, l, later.counted) };
+        begins = begins;
+        inside = inside;
+        ends = ends;
+      };
+      token = λ _. (pass 1 c.cursor, is takes, apart);
+    }
+
+putting : (n : Option ℕ) (k v : ℕ) (c d : Core) (t : Piece) → Reading k c t d.cursor → IsNoEnd t.kind
+    → d.started ≡ c.started → d.ended ≡ c.ended → (c.comment ≡ None → IsNoted d.comment d.cursor)
+    → open_blocks d ≤ open_blocks c + v
+    → ((h : ℕ) → IsBefore h n → Above h c → Above h d)
+    → (TextLaws → (columns : List ℕ) (from : Cursor) (q : Queue) → IsNext n c q → Holds columns from c q
+    → Holds columns from d (put t q)) → Does n k (1 + v) c d (Put t ∷ [])
+putting n k v c d t r e s f m few above holds = record {
+  less = r.less;
+  ahead = λ laws. (r.span laws).ahead;
+  puts = λ laws. let w = r.span laws in (w.begins, w.inside, w.ends);
+  started = s;
+  ended = f;
+  goes_on = (e, tt);
+  few = omega (arith, few);
+  keeps = λ h i x. (above h i x, tt);
+  holds = holds;
+  noted = m;
+}
+
+-- one that doesn't change which block collections are open
+pub quiet : (k : ℕ) (c : Core) (t : Piece) (u : Cursor) → is_quiet t.kind ≡ true → IsNoEnd t.kind → Reading k c t u
+    → Does None k 1 c (with_cursor u c) (Put t ∷ [])
+quiet k c t u q e r =
+    putting None k 0 c (with_cursor u c) t r e refl refl (λ m. inl m) (omega arith) (λ h _ a. a)
+    (λ laws columns from p _ h.
+    let w = r.token laws in
+    quiet_put columns from c (with_cursor u c) p t c.cursor w.0 q (taken.nothing c.cursor.mark c.cursor.rest) w.1 w.2
+    (record { level = refl; outer = refl; indent = refl; outer_indents = refl }) h)
+
+-- a block collection begins, where no token may be a key any more
+pub block_begins : (c : Core) (kind : Kind) → IsNoEnd kind
+    → ((i : ℕ) (span : Span) (s t : Cursor) → IsBlockStart span s t → IsToken i kind span s t)
+    → ((column : ℕ) (columns : List ℕ) → open_behind kind column columns ≡ column ∷ columns)
+    → in_block c ≡ true → IsTrue (begins_text (slice_index c.cursor.rest 0))
+    → Does None 0 3 c (forget_key (enter_block c.cursor.mark.col c)) (at_mark c.cursor.mark kind ∷ [])
+block_begins c kind e is opens b first =
+    let d : Core = forget_key (enter_block c.cursor.mark.col c) in
+    let none : AreApart c.cursor c.cursor = taken.nothing c.cursor.mark c.cursor.rest in
+    let token = is c.indent (record { start = c.cursor.mark; end = c.cursor.mark }) c.cursor c.cursor
+    (refl, refl, refl, first) in
+    putting None 0 2 c d (empty_piece c.cursor.mark kind) (empty_reading c kind token) e refl refl (λ m. inl m)
+    (let y = one_at_most (c.cursor.mark.col + 1) in omega (arith, y)) (λ h _ a. (tt, a.1)) (λ _ columns from q _ h.
+    loud_put columns from c d q (empty_piece c.cursor.mark kind) c.cursor c.cursor none token none
+    (λ cs k. subst (λ l. Stack l d.indent d.outer_indents) (sym (opens c.cursor.mark.col cs)) (refl, k)) refl
+    (outermost columns from c q h b) h)
+
+-- ## A key is saved
+
+abbrev pub IsSaved : ℕ → Core → Level → Type 0
+IsSaved n c l =
+    (l ≡ c.level)
+    ⊎ (l ≡ record { context = c.level.context; key = Some (record { mark = c.cursor.mark; place = n }) })
+
+pub saving : (n : ℕ) (c : Core) (P : Core → Type 0)
+    → ((l : Level) (r : Bool) → IsSaved n c l → P (record c { level = l; required = r })) → P (save_key n c)
+saving n c P f = by_test c.key_allowed _ _ P (λ _. f _ _ (inr refl)) (λ _. f c.level c.required (inl refl))
+
+pub saved_above : (h n : ℕ) (c : Core) (l : Level) → IsSaved n c l → h ≤ n → KeyAbove h c.level.key → KeyAbove h l.key
+saved_above h n c l (inl e) i a = let P : Level → Type 0 = λ x. KeyAbove h x.key in subst P (sym e) a
+saved_above h n c l (inr e) i a = let P : Level → Type 0 = λ x. KeyAbove h x.key in subst P (sym e) i
+
+-- the token that may be a key
+pub saved : (n : ℕ) (c d : Core) (t : Piece) → IsSaved n c d.level → around d ≡ around c
+    → (c.comment ≡ None → IsNoted d.comment d.cursor) → is_quiet t.kind ≡ true → IsNoEnd t.kind → Begins t
+    → t.span.start ≡ c.cursor.mark → Reading 1 c t d.cursor → Does (Some n) 1 5 c d (Put t ∷ [])
+saved n c d t s a m q e begins start h =
+    let outer = ap (λ (x : Around). x.outer) a in
+    let indent = ap (λ (x : Around). x.indent) a in
+    let indents = ap (λ (x : Around). x.outer_indents) a in
+    let blocks : open_blocks d ≡ open_blocks c =
+    ap (λ (x : Around). at_most_one x.indent + length x.outer_indents) a in
+    putting (Some n) 1 4 c d t h e (ap (λ (x : Around). x.started) a) (ap (λ (x : Around). x.ended) a) m
+    (omega (arith, blocks))
+    (λ i b x. let P : List Level → Type 0 = λ ls. LevelsAbove i ls in
+    (saved_above i n c d.level s b x.0, subst P (sym outer) x.1))
+    (λ laws columns from p i k.
+    let w = h.token laws in
+    let Q : ℕ → Type 0 = λ j. IsSaved j c d.level in
+    record {
+      taken = taken_put columns from c d p t c.cursor w.0 (taken.nothing c.cursor.mark c.cursor.rest) w.1 w.2
+          (quiet_opens t c d q indent indents) k.taken;
+      keys = saved_keys c p t (with_cursor c.cursor d) q begins start i.1
+          (record { level = subst Q i.0 s; cursor = refl; outer = outer; indent = indent; outer_indents = indents })
+          k.keys;
+    })
+
+-- ## A candidate turns out to be a key
+
+opens : (v : ℕ) (c d : Core) (k : Candidate) (o : Opening) → d.cursor ≡ c.cursor → c.level.key ≡ Some k
+    → d.level.key ≡ None → d.outer ≡ c.outer → d.started ≡ c.started → d.ended ≡ c.ended → NoComment c d
+    → open_blocks d ≤ open_blocks c + v
+    → ((columns : List ℕ) (from : Cursor) (q : Queue) → Holds columns from c q
+    → Holds columns from d (with_opening k.place o q)) → Does None 0 (2 + v) c d (Open k.place o ∷ [])
+opens v c d k o e key none outer s f m few holds =
+    let l = ap (λ (u : Cursor). length u.rest) e in
+    let i = ap (λ (u : Cursor). u.mark.index) e in
+    record {
+      less = λ _. omega (arith, l);
+      ahead = λ _. record { later = omega (arith, i); counted = omega (arith, i, l) };
+      puts = λ _. omega (arith, i);
+      started = s;
+      ended = f;
+      goes_on = tt;
+      few = omega (arith, few);
+      keeps = λ h _ x.
+          let P : Option Candidate → Type 0 = λ y. KeyAbove h y in
+          let Q : List Level → Type 0 = λ ls. LevelsAbove h ls in
+          ((subst P (sym none) tt, subst Q (sym outer) x.1), (subst P key x.0, tt));
+      holds = λ _ columns from q _ h. holds columns from q h;
+      noted = λ g. inl (m g);
+    }
+
+-- a key alone, or in flow with its mapping
+pub key_opens : (c : Core) (k : Candidate) (o : Opening) → opens_block o ≡ false → c.level.key ≡ Some k
+    → Does None 0 2 c (forget_key c) (Open k.place o ∷ [])
+key_opens c k o e is =
+    opens 0 c (forget_key c) k o refl is refl refl refl refl (λ n. n) (omega arith)
+    (λ columns from q h. open_quiet columns from c q k o e is h)
+
+-- a block mapping and a key
+pub mapping_opens : (c : Core) (k : Candidate) → in_block c ≡ true → c.level.key ≡ Some k
+    → Does None 0 4 c (forget_key (enter_block k.mark.col c)) (Open k.place opening.BlockMappingAndKey ∷ [])
+mapping_opens c k b is =
+    opens 2 c (forget_key (enter_block k.mark.col c)) k opening.BlockMappingAndKey refl is refl refl refl refl (λ n. n)
+    (let y = one_at_most (k.mark.col + 1) in omega (arith, y))
+    (λ columns from q h. open_loud columns from c q k b is h)

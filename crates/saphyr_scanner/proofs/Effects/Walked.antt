@@ -1,0 +1,165 @@
+-- What is known of each step, told with the place of its refusal: of what it passes, and of all that it does.
+use Rattle.std.proofs.Common.{◌≡◌, ℕ, ◌+◌, ◌^◌, ◌≤◌, ◌<◌, true, false, List, length, Option, Some, None, Result, Ok}
+use Rattle.std.proofs.Common.{Err, refl, arith}
+use Rattle.saphyr_input.specs.declared.input.SkipTabs.{SkipTabs}
+use Rattle.saphyr_input.specs.declared.input.SkipTabs.TheVariants as tabs
+use Rattle.saphyr_scalar.specs.declared.scalar.position.Marker.{Marker}
+use Rattle.saphyr_scalar.specs.declared.scalar.fault.Refusal.{Refusal}
+use Rattle.saphyr_scalar.specs.RefusedInside.{IsRefusedInside}
+use Rattle.saphyr_scalar.specs.Views.Cursor.{Cursor, fresh, ◌>>=◌, separation}
+use Rattle.saphyr_scanner.specs.Steps.Queue.{Queue, next}
+use Rattle.saphyr_scanner.specs.Steps.Core.{Core, Action, Step, Steps, perform, in_block, least_column}
+use Rattle.saphyr_scanner.specs.Steps.Gap as gaps
+use Rattle.saphyr_scanner.specs.Steps.Passing.{separate, with_cursor, pass_gap, check_comment, goes_on_behind}
+use Rattle.saphyr_scanner.specs.Steps.Passing.{behind_gap, intercepts}
+use Rattle.saphyr_scanner.specs.TokensTaken.{AreApart}
+use Rattle.saphyr_scanner.proofs.Effects.Readers.{TextLaws, RefusalLaws}
+use Rattle.saphyr_scanner.proofs.Effects.Steps.{EffectAt}
+use Rattle.saphyr_scanner.proofs.Effects.Moves.{Does, IsBefore, IsNext, Same, same}
+use Rattle.saphyr_scanner.proofs.GapPlaces.{Refused, gap_refused}
+use Rattle.saphyr_scanner.proofs.LineTails.{OnLine, separation_passes}
+use Rattle.saphyr_scanner.proofs.PlainBehind.{IsNoted}
+use Rattle.saphyr_scanner.proofs.Reached.{passed_reached}
+use Rattle.saphyr_scanner.proofs.Taken.Cores.{Holds}
+use Rattle.saphyr_scanner.proofs.Taken.Later.{LaterThan}
+use Rattle.saphyr_scanner.proofs.Taken.Places.{Reaches, At, at_here, at_further, at_reached}
+use Rattle.saphyr_scanner.proofs.Taken.Separated.{gap_apart}
+use Rattle.saphyr_scanner.proofs.Taken.States.{FetchedStep, holds_fetched}
+use Rattle.saphyr_input.proofs.Basics.Booleans.{by_test}
+use Rattle.saphyr_scalar.proofs.Given.{Given}
+
+-- ## What a step gives, and where it refuses
+
+-- what a refusal's place is told of
+abbrev pub Premises : Core → Type 0
+Premises c = RefusalLaws × TextLaws × (c.comment ≡ None)
+
+abbrev pub Walked : {X : Type 0} → Type 0 → (X → Type 0) → Cursor → Result X Refusal → Type 0
+Walked A P s (Ok x) = P x
+Walked A P s (Err e) = A → At s e.mark
+
+pub walked_then : {X Y : Type 0}
+    → (A : Type 0) (P : X → Type 0) (Q : Y → Type 0) (s : Cursor) (r : Result X Refusal) (f : X → Result Y Refusal)
+    → Walked A P s r → ((x : X) → P x → Walked A Q s (f x)) → Walked A Q s (r >>= f)
+walked_then A P Q s (Ok x) f h go = go x h
+walked_then A P Q s (Err e) f h go = h
+
+pub walked_map : {X : Type 0} → (A : Type 0) (P Q : X → Type 0) (s : Cursor) (r : Result X Refusal)
+    → ((x : X) → P x → Q x) → Walked A P s r → Walked A Q s r
+walked_map A P Q s (Ok x) go h = go x h
+walked_map A P Q s (Err e) go h = h
+
+pub walked_given : {X : Type 0} → (A : Type 0) (P Q : X → Type 0) (s : Cursor) (r : Result X Refusal)
+    → ((x : X) → P x → Q x) → Walked A P s r → Given Q r
+walked_given A P Q s (Ok x) go h = go x h
+walked_given A P Q s (Err e) go h = tt
+
+weaker : {m n : Option ℕ} {k v w : ℕ} {c d : Core} {actions : List Action} → v ≤ w
+    → ((h : ℕ) → IsBefore h n → IsBefore h m) → ((q : Queue) → IsNext n c q → IsNext m c q)
+    → Does m k v c d actions → Does n k w c d actions
+weaker {m} {n} {k} {v} {w} {c} {d} {actions} l before there a = record {
+  less = a.less;
+  ahead = a.ahead;
+  puts = a.puts;
+  started = a.started;
+  ended = a.ended;
+  goes_on = a.goes_on;
+  few = let f = a.few in omega (arith, f, l);
+  keeps = λ h i. a.keeps h (before h i);
+  holds = λ laws columns from q i. a.holds laws columns from q (there q i);
+  noted = a.noted;
+}
+
+-- at most so many become due
+pub at_most : {n : Option ℕ} {k v w : ℕ} {c d : Core} {actions : List Action} → v ≤ w → Does n k v c d actions
+    → Does n k w c d actions
+at_most l a = weaker l (λ h i. i) (λ q i. i) a
+
+-- a character at least is taken off, and five tokens at most become due
+abbrev pub Doing : Option ℕ → Core → Step → Type 0
+Doing n c x = Does n 1 5 c x.core x.actions
+
+-- What is known of each step, where its token has the place of this number: of the text taken off, the order and the
+-- count of its tokens, and the candidates; that its tokens are taken from the text; and that a comment it notes stands
+-- where the text goes on.
+pub record Stepped (n : ℕ) (c : Core) (x : Step) : Type 0 where
+  pub effect : EffectAt n c x
+  pub fetched : TextLaws → (text : List ℕ) → length text < 2 ^ 63 → (columns : List ℕ) (from : Cursor) (q : Queue)
+      → LaterThan (fresh text) from → n ≡ next q → (in_block c ≡ true → c.indent ≤ c.cursor.mark.col + 1)
+      → Holds columns from c q → FetchedStep columns from q x
+  pub noted : c.comment ≡ None → IsNoted x.core.comment x.core.cursor
+
+pub walked_step : (A : Type 0) (n : ℕ) (c : Core) (s : Cursor) (r : Steps) → Walked A (Doing (Some n) c) s r
+    → Walked A (Stepped n c) s r
+walked_step A n c s r h = walked_map A (Doing (Some n) c) (Stepped n c) s r (λ x d. record {
+  effect = record {
+    less = λ laws. let l = d.less laws in omega (arith, l);
+    ahead = d.ahead;
+    puts = d.puts;
+    started = d.started;
+    ended = d.ended;
+    goes_on = d.goes_on;
+    few = d.few;
+    keeps = λ i a. d.keeps i a.0 a.1;
+  };
+  fetched = λ laws text small columns from q l e deep k.
+      holds_fetched columns from x.core (perform x.actions q) (d.holds laws columns from q (e, deep) k);
+  noted = d.noted;
+}) h
+
+-- where no key is saved
+pub unsaved_step : (A : Type 0) (n : ℕ) (c : Core) (s : Cursor) (r : Steps) → Walked A (Doing None c) s r
+    → Walked A (Stepped n c) s r
+unsaved_step A n c s r h =
+    walked_step A n c s r (walked_map A (Doing None c) (Doing (Some n) c) s r
+    (λ x d. weaker (omega arith) (λ i b. tt) (λ q i. tt) d) h)
+
+-- ## What is passed
+
+-- the refusal stands where the text was reached
+pub at_reach : (s t : Cursor) → Reaches s t → At s t.mark
+at_reach s t a = at_further s t t.mark a (at_here t)
+
+pub at_inside : (s : Cursor) (e : Refusal) → IsRefusedInside s e → At s e.mark
+at_inside s e w = at_reached s e.mark w.0 (passed_reached s.mark s.rest e.mark w.0 w.1)
+
+-- what a reader gives, and where it refuses
+pub read_walked : {X : Type 0} → (A : Type 0) (s : Cursor) (r : Result X Refusal)
+    → ((e : Refusal) → r ≡ Err e → A → At s e.mark) → Walked A (λ x. r ≡ Ok x) s r
+read_walked A s (Ok x) told = refl
+read_walked A s (Err e) told = told e refl
+
+pub separate_walked : (b : Core) (s : Cursor) (c : Core) → (Premises b → Reaches s c.cursor)
+    → Walked (Premises b) (λ (x : SkipTabs × Core). Same c x.1 × OnLine c.cursor x.1.cursor) s (separate c)
+separate_walked b s c a = by (separation tabs.Yes c.cursor) refl (separation_passes c.cursor)
+  where
+    by : (r : Result (SkipTabs × Cursor) Refusal) → separation tabs.Yes c.cursor ≡ r
+        → Given (λ (x : SkipTabs × Cursor). OnLine c.cursor x.1) r
+        → Walked (Premises b) (λ (x : SkipTabs × Core). Same c x.1 × OnLine c.cursor x.1.cursor) s
+        (r >>= λ x. Ok (x.0, with_cursor x.1 c))
+    by (Ok x) e h = (same c, h)
+    by (Err e) f h =
+        λ laws. at_further s c.cursor e.mark (a laws) (at_inside c.cursor e (laws.0.separation tabs.Yes c.cursor e f))
+
+pub gap_walked : (b : Core) (s : Cursor) (c : Core) → (Premises b → Reaches s c.cursor)
+    → (Premises b → c.comment ≡ None)
+    → Walked (Premises b) (λ (d : Core). Same c d × AreApart c.cursor d.cursor) s (pass_gap c)
+unfolding pass_gap check_comment
+gap_walked b s c a none =
+    by (gaps.passed_gap (least_column c) c.cursor) (gap_apart (least_column c) false false c.cursor)
+    (gap_refused (least_column c) c.cursor.mark c.cursor.blank_so_far false false c.cursor.rest)
+  where
+    checked : (o : Option Marker) (d : Core) → Same c d → AreApart c.cursor d.cursor → (Premises b → o ≡ None)
+        → Walked (Premises b) (λ (e : Core). Same c e × AreApart c.cursor e.cursor) s (intercepts o d)
+    checked None d m p n = (m, p)
+    checked (Some k) d m p n =
+        by_test (goes_on_behind k (record d { comment = None })) _ _
+        (Walked (Premises b) (λ (e : Core). Same c e × AreApart c.cursor e.cursor) s)
+        (λ _ laws. absurd (let no = n laws in cc)) (λ _. ((m.0, m.1, λ _. refl), p))
+
+    by : (r : Result gaps.Passed Refusal) → Given (λ (p : gaps.Passed). AreApart c.cursor p.cursor) r
+        → Refused c.cursor.mark c.cursor.rest r
+        → Walked (Premises b) (λ (d : Core). Same c d × AreApart c.cursor d.cursor) s
+        (r >>= λ g. intercepts (behind_gap c g).comment (behind_gap c g))
+    by (Ok g) h k = checked c.comment (behind_gap c g) (refl, refl, λ n. n) h none
+    by (Err e) h k = λ laws. at_further s c.cursor e.mark (a laws) (at_reached c.cursor e.mark k.0 k.1)
