@@ -96,7 +96,7 @@ impl<T: Input> Machine<T> {
     }
 
     // Reads the next event or fault into its place, if there is one.
-    #[inline(never)]
+    #[inline(always)]
     #[tactic(auto, using(crate::proofs::Turns::refused))]
     pub(super) fn advance<'input>(
         &mut self,
@@ -121,7 +121,7 @@ impl<T: Input> Machine<T> {
     }
 
     // The next event, which is written into its place.
-    #[inline(always)]
+    #[inline(never)]
     #[tactic(auto, unfolding(crate::specs::Steps::Expected::event_step))]
     pub(super) fn event<'input>(&mut self, next: &mut (Event<'input>, Span)) -> Result<(), Stop>
         requires { (machine_of self.old).state ≢ End }

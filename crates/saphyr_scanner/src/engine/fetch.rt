@@ -88,28 +88,11 @@ impl<T: Input> Engine<T> {
             return Err(self.refuse_here(FaultText::InvalidIndentation));
         }
         let next = self.reader.input().peek_nth(1);
-        if !self.fetches_content(c, next) {
-            return Err(self.stop);
-        }
+        self.fetch_content(c, next)?;
         Ok(())
     }
 
-    // The same as `fetch_content`, with the stop kept: a result is cleared before a call and copied behind it, and this
-    // call isn't inlined.
-    #[inline(never)]
-    fn fetches_content(&mut self, c: char, next: char) -> bool
-        requires some { 0 < length (state self.old).core.cursor.rest }
-        requires first { c ≡ slice_index (state self.old).core.cursor.rest 0 }
-        requires second { next ≡ slice_index (state self.old).core.cursor.rest 1 }
-        ensures { MovesBy (fetch.state_behind_content c next) self.old
-            (answered result self.new.stop) self.new }
-    {
-        let ended = self.fetch_content(c, next);
-        self.keep(ended)
-    }
-
     // Puts the token that the first character begins into the queue.
-    #[inline(always)]
     #[tactic(auto, unfolding(crate::specs::Steps::Fetch::state_behind_content, crate::specs::Steps::Fetch::step))]
     fn fetch_content(&mut self, c: char, next: char) -> Result<(), Stop>
         requires some { 0 < length (state self.old).core.cursor.rest }
@@ -226,7 +209,8 @@ impl<T: Input> Engine<T> {
         Ok(())
     }
 
-    // The same, with the stop kept, as a call of its own.
+    // The same, with the stop kept, as a call of its own: a result is cleared before such a call and copied behind it,
+    // and an answer of one byte isn't.
     #[inline(never)]
     fn reads_on(&mut self, limit: usize) -> bool
         ensures { MovesBy (fetch.fill limit) self.old (answered result self.new.stop) self.new }
