@@ -5,7 +5,7 @@ use Rattle.saphyr_parser.specs.declared.parser.event.Event.{Event}
 use Rattle.saphyr_parser.specs.declared.parser.fault.Fault.{Fault}
 use Rattle.saphyr_parser.specs.declared.parser.fault.Fault.TheVariants as fault
 use Rattle.saphyr_parser.specs.Events.{Happening}
-use Rattle.saphyr_parser.specs.Answer.{Answer, Ending, Refused, OutOfMemory, empty_answer, failed, with_first_event}
+use Rattle.saphyr_parser.specs.Answer.{Answer, Ending, Refused, OutOfMemory, empty_answer, fault_alone, with_first_event}
 use Rattle.saphyr_parser.specs.Cursor.{HandsOutNext, Refuses, Stays, count, event_of}
 use Rattle.case_files.specs.Lines.{Comes, IsNext, event_line, line_of_fault, line_of_item, want_line}
 use Rattle.case_files.specs.Listings.{AreLinesOf, EndsInWant, IsBefore, ListAll, lines_of_answer, lines_of_events}
@@ -82,7 +82,7 @@ lists_more item old new lines left hands comes is rest =
     lists_item item old new lines hands comes (subst (λ l. ListAll l new) is rest)
 
 -- Where memory ran out in looking, that alone is listed.
-want_alone : (lines : List (List ℕ)) → AreLinesOf lines (failed OutOfMemory) → lines ≡ want_line ∷ []
+want_alone : (lines : List (List ℕ)) → AreLinesOf lines (fault_alone OutOfMemory) → lines ≡ want_line ∷ []
 want_alone lines (inl same) = same
 want_alone lines (inr w) =
     w.written

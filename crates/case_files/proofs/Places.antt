@@ -6,15 +6,15 @@ use Rattle.std.proofs.lemmas.Bool.{and_right}
 use Rattle.case_files.specs.Files.{text_behind, place_mark, has_place, text_before_place}
 use Rattle.case_files.proofs.Fronts.{behind_front, behind_other}
 
-begins : (line rest : List ℕ) → line ≡ place_mark ++ rest → is_some (text_behind place_mark line) ≡ true
-begins line rest is =
+place_line_begins : (line rest : List ℕ) → line ≡ place_mark ++ rest → is_some (text_behind place_mark line) ≡ true
+place_line_begins line rest is =
     ap (λ l. is_some (text_behind place_mark l)) is
     ∙ ap (λ (o : Option (List ℕ)). is_some o) (behind_front place_mark rest)
 
 has_place_at : (line : List ℕ) (i : ℕ) (rest : List ℕ) → drop i line ≡ place_mark ++ rest → has_place line ≡ true
 has_place_at [] zero rest is = absurd (cc)
 has_place_at [] (suc i) rest is = absurd (cc)
-has_place_at (c ∷ line) zero rest is = rw (begins (c ∷ line) rest is) refl
+has_place_at (c ∷ line) zero rest is = rw (place_line_begins (c ∷ line) rest is) refl
 has_place_at (c ∷ line) (suc i) rest is =
     elim (is_some (text_behind place_mark (c ∷ line))) as (λ b. (if b then true else has_place line) ≡ true) [
       | true ↦ refl
@@ -40,7 +40,8 @@ cut_at : (line : List ℕ) (i : ℕ) (rest : List ℕ)
 cut_at [] zero rest lacks is = refl
 cut_at [] (suc i) rest lacks is = refl
 cut_at (c ∷ line) zero rest lacks is =
-    rw (begins (c ∷ line) rest is) (rw (has_none line (λ k fits. lacks (suc k) (omega arith) (omega arith))) refl)
+    rw (place_line_begins (c ∷ line) rest is)
+    (rw (has_none line (λ k fits. lacks (suc k) (omega arith) (omega arith))) refl)
 cut_at (c ∷ line) (suc i) rest lacks is =
     let later : has_place line ≡ true = has_place_at line i rest is in
     let goes_on : (is_some (text_behind place_mark (c ∷ line)) && not (has_place line)) ≡ false =

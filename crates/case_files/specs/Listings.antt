@@ -7,6 +7,7 @@ use Rattle.std.specs.declared.alloc.Global.{Global}
 use Rattle.std.specs.Str.{chars}
 use Rattle.saphyr_scalar.specs.declared.scalar.position.Span.{Span}
 use Rattle.saphyr_scanner.specs.Steps.Remaining.{scan}
+use Rattle.saphyr_parser.specs.Limits.{most_characters}
 use Rattle.saphyr_parser.specs.Events.{Happening}
 use Rattle.saphyr_parser.specs.Answer as answer
 use Rattle.saphyr_parser.specs.Answer.{Answer, Ending}
@@ -64,7 +65,7 @@ fault_line_of lines = option_and_then (λ line. if_fault (string_bytes line)) (s
 
 -- all that the text of a case gives
 abbrev pub case_answer : Case → Answer
-case_answer c = to_come (keeping_tags c.keeps_tags (at_start (scan 4294967295 (chars (string_bytes c.text)))))
+case_answer c = to_come (keeping_tags c.keeps_tags (at_start (scan most_characters (chars (string_bytes c.text)))))
 
 -- The lines of a case list all that its text gives.
 abbrev pub Agrees : Case → Type 0

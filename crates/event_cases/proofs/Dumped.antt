@@ -18,14 +18,14 @@ use Rattle.case_files.specs.Listings.{IsBefore}
 use Rattle.event_cases.specs.Dumped.{BeginsDump, IsDump, IsDumpUpTo, IsWritten}
 
 -- all of a text was taken
-whole : (text taken rest : List ℕ) → text ≡ taken ++ rest → length rest ≡ 0 → text ≡ taken
-whole text taken [] split none = split ∙ append-nil taken
-whole text taken (b ∷ rest) split none = absurd (cc)
+all_was_taken : (text taken rest : List ℕ) → text ≡ taken ++ rest → length rest ≡ 0 → text ≡ taken
+all_was_taken text taken [] split none = split ∙ append-nil taken
+all_was_taken text taken (b ∷ rest) split none = absurd (cc)
 
 all_written : (all left : Answer) (text taken rest : List ℕ) (u : Unit {0}) → text ≡ taken ++ rest → length rest ≡ 0
     → Dumps (Ok u) all left (Some []) (Some taken) → IsDump None text all
 all_written all left text taken rest u split none dumps =
-    (whole text taken rest split none ∙ dumps.1, dumps.0)
+    (all_was_taken text taken rest split none ∙ dumps.1, dumps.0)
 
 pub nothing_shown : (shown : Option (Bor (List ℕ))) → is_some shown ≡ false → option_map (λ line. line.now) shown ≡ None
 nothing_shown None is = refl
@@ -42,7 +42,7 @@ dumps_all shown all left text old taken rest u is empty split none dumps =
 up_to : (f : Fault) (all left : Answer) (text taken rest : List ℕ) → text ≡ taken ++ rest → length rest ≡ 0
     → Dumps (Err (dump.Parse f)) all left (Some []) (Some taken) → IsDumpUpTo f text all
 up_to (fault.Scan e) all left text taken rest split none dumps =
-    (whole text taken rest split none ∙ dumps.1, dumps.0)
+    (all_was_taken text taken rest split none ∙ dumps.1, dumps.0)
 up_to fault.OutOfMemory all left text taken rest split none dumps = (
   dumps.0.1.printed,
   record {
@@ -51,7 +51,7 @@ up_to fault.OutOfMemory all left text taken rest split none dumps = (
     fault = dumps.0.1.fault;
     some_lost = dumps.0.2;
   },
-  whole text taken rest split none ∙ dumps.0.1.taken,
+  all_was_taken text taken rest split none ∙ dumps.0.1.taken,
 )
 up_to fault.Receiver all left text taken rest split none dumps = absurd dumps
 up_to fault.InsideDocument all left text taken rest split none dumps = absurd dumps

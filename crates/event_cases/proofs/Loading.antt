@@ -7,7 +7,7 @@ use Rattle.saphyr_parser.specs.declared.parser.fault.Fault.TheVariants as fault
 use Rattle.saphyr_parser.specs.declared.parser.receiver.Refused.{Refused}
 use Rattle.saphyr_parser.specs.Events as events
 use Rattle.saphyr_parser.specs.Events.{Happening}
-use Rattle.saphyr_parser.specs.Answer.{Answer, Ending, empty_answer, failed}
+use Rattle.saphyr_parser.specs.Answer.{Answer, Ending, empty_answer, fault_alone}
 use Rattle.saphyr_parser.specs.declared.parser.event.Event.{Event}
 use Rattle.saphyr_parser.specs.Cursor.{EventCursor, HandsOutNext, Kept, IsKept, count, inside_behind, keeping_tags, to_come, ahead, answer_behind}
 use Rattle.saphyr_parser.specs.Calls.{EndsTheStream}
@@ -105,7 +105,7 @@ lost_lines multi old new first last lost next over =
           (next_line want_line last.left next ∙ ap (λ l. want_line ∷ map string_bytes l) over);
     })
 
-keeps_it : (c : EventCursor) (f : Ending) → Keeps f c → to_come c ≡ failed f
+keeps_it : (c : EventCursor) (f : Ending) → Keeps f c → to_come c ≡ fault_alone f
 keeps_it c f keeps =
     ap (λ o. ahead o (answer_behind c.kept c.machine)) keeps.current ∙ ap (λ o. answer_behind o c.machine) keeps.kept
 
@@ -190,8 +190,8 @@ pub load_less : (r : Result (Unit {0}) Fault) (u : Unit {0}) (multi : Bool) (old
     → Loads takes r (to_send multi old) old first last new)
     → EndsTheStream new → 0 < count (to_come old) → count (to_come new) < count (to_come old)
 load_less (Ok v) u multi old new first last is ended at_end within between over some =
-    load_some old.kept old.finished old.inside v multi old new first last refl refl refl ended at_end within between over
-    some
+    load_some old.kept old.finished old.inside v multi old new first last refl refl refl ended at_end within between
+    over some
 load_less (Err f) u multi old new first last is ended at_end within between over some = absurd (cc)
 
 -- ## Where a call leaves the parser

@@ -2,6 +2,7 @@
 use Rattle.std.specs.Prelude.{◌≡◌, ℕ, zero, suc, List, [], ◌++◌, Option, Some, None, codes}
 use Rattle.std.specs.Str.{chars}
 use Rattle.saphyr_scanner.specs.Steps.Remaining.{scan}
+use Rattle.saphyr_parser.specs.Limits.{most_characters}
 use Rattle.saphyr_parser.specs.Cursor.{at_start, to_come}
 use Rattle.event_cases.specs.Dumped.{IsDump}
 
@@ -12,7 +13,7 @@ times (suc n) piece = times n piece ++ piece
 
 -- These are the lines that `dump` writes of a text.
 abbrev pub IsDumpOf : List ℕ → Option (List ℕ) → List ℕ → Type 0
-IsDumpOf text fault lines = IsDump fault lines (to_come (at_start (scan 4294967295 (chars text))))
+IsDumpOf text fault lines = IsDump fault lines (to_come (at_start (scan most_characters (chars text))))
 
 -- 10,000 open flow mappings
 abbrev pub DeepFlowAgrees : Type 0

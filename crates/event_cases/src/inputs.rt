@@ -2,6 +2,7 @@
 ghost use Rattle.std.specs.Prelude.{OnOk};
 ghost use Rattle.std.specs.Str.{chars};
 ghost use Rattle.saphyr_scanner.specs.Steps.Remaining.{scan};
+ghost use Rattle.saphyr_parser.specs.Limits.{most_characters};
 ghost use Rattle.saphyr_parser.specs.Cursor.{at_start};
 
 use case_files::Difference;
@@ -27,7 +28,7 @@ pub fn compare_inputs<C: Comparison>(
     comparison: &C,
 ) -> Result<(), Difference>
     ensures { OnOk result
-        (C.agrees comparison.now (at_start (scan 4294967295 (chars text.now)))) }
+        (C.agrees comparison.now (at_start (scan most_characters (chars text.now)))) }
 {
     let of_text = comparison.compare(Parser::new_from_str(alloc, text));
     of_text.map_err(|it| it.within(alloc, "from a string"))?;

@@ -20,8 +20,8 @@ is_here c = is_one_of (codes "&a *b") c
 abbrev AreHere : List ℕ → Type 0
 AreHere t = AreIn is_here t
 
-whole : AreHere (codes "&a *b")
-whole = (refl, (refl, (refl, (refl, (refl, tt)))))
+anchor_and_alias_stand_here : AreHere (codes "&a *b")
+anchor_and_alias_stand_here = (refl, (refl, (refl, (refl, (refl, tt)))))
 
 -- ## No tag, quotes or brackets are here
 
@@ -59,16 +59,17 @@ blanks_alone indent t (lines, blanks, (pieces, h, f), b, e) i =
 
 -- ## The anchor goes on to the blank, and behind it no content begins
 
-no_word : (in_flow : Bool) (c : ℕ) (rest first others : List ℕ) → begins_plain c ≡ false → IsFirstWord in_flow first
+word_begins_plain : (in_flow : Bool) (c : ℕ) (rest first others : List ℕ) → begins_plain c ≡ false
+    → IsFirstWord in_flow first
     → c ∷ rest ≡ first ++ others → ⊥
-no_word in_flow c rest [] others n (h, b, x, y, z) e = h.some refl
-no_word in_flow c rest (d ∷ ds) others n (h, b, x, y, z) e =
+word_begins_plain in_flow c rest [] others n (h, b, x, y, z) e = h.some refl
+word_begins_plain in_flow c rest (d ∷ ds) others n (h, b, x, y, z) e =
     let f : begins_plain d ≡ begins_plain c = ap (λ v. begins_plain v) (heads c d rest (ds ++ others) e) in cc
 
 no_content : (style : Style) (value : List ℕ) (in_flow : Bool) (indent c : ℕ) (rest t : List ℕ)
     → IsFlowScalar style value in_flow indent t → AreHere t → begins_plain c ≡ false → c ∷ rest ≡ t → ⊥
 no_content Plain value in_flow indent c rest t ((first, others, w, m, e), v) h n f =
-    no_word in_flow c rest first others n w (f ∙ e)
+    word_begins_plain in_flow c rest first others n w (f ∙ e)
 no_content SingleQuoted value in_flow indent c rest t (inside, items, s, f, v, e) h n g =
     lacks is_here 39 t [] inside refl e h
 no_content DoubleQuoted value in_flow indent c rest t (inside, items, s, f, v, e) h n g =
@@ -100,12 +101,15 @@ behind_anchor : (anchor : Option (List ℕ)) (x : Option Tag) (t others : List �
 behind_anchor None None t others h e = absurd h
 behind_anchor (Some name) None t others ((n, h), f) e =
     no_anchor name others h n (tails 38 38 (codes "a *b") (name ++ others) (rw f at e))
-behind_anchor None (Some x) t others h e = absurd (no_tag x t h (before_in is_here (codes "&a *b") t others e whole))
+behind_anchor None (Some x) t others h e =
+    absurd (no_tag x t h (before_in is_here (codes "&a *b") t others e anchor_and_alias_stand_here))
 behind_anchor (Some name) (Some x) t others (a, between, w, h, i, s, inl f) e =
     absurd (no_tag x w i (behind_in is_here (between ++ w) between w refl
-    (behind_in is_here t a (between ++ w) f (before_in is_here (codes "&a *b") t others e whole))))
+    (behind_in is_here t a (between ++ w) f (before_in is_here (codes "&a *b") t others e
+    anchor_and_alias_stand_here))))
 behind_anchor (Some name) (Some x) t others (a, between, w, h, i, s, inr f) e =
-    absurd (no_tag x w i (before_in is_here t w (between ++ a) f (before_in is_here (codes "&a *b") t others e whole)))
+    absurd (no_tag x w i (before_in is_here t w (between ++ a) f (before_in is_here (codes "&a *b") t others e
+    anchor_and_alias_stand_here)))
 
 no_scalar : (p : Properties) (style : Style) (value : List ℕ) (in_flow : Bool) (indent : ℕ) (t : List ℕ)
     → IsScalarNode p style value in_flow indent t → codes "&a *b" ≡ t → ⊥
@@ -113,12 +117,12 @@ no_scalar p style value in_flow indent t (inl (e, f, h)) d =
     let g : codes " *b" ≡ [] = behind_anchor p.anchor p.tag t [] h (d ∙ sym (append-nil t)) in cc
 no_scalar p style value in_flow indent t (inr (before, content, inl (e, f), c, g)) d =
     let same : codes "&a *b" ≡ content = d ∙ (rw f at g) in no_content style value in_flow indent 38 (codes "a *b")
-    content c (subst (λ (u : List ℕ). AreHere u) same whole) refl same
+    content c (subst (λ (u : List ℕ). AreHere u) same anchor_and_alias_stand_here) refl same
 no_scalar p style value in_flow indent t (inr (before, content, inr (properties, separation, h, n, s, f), c, g)) d =
     let all : codes "&a *b" ≡ properties ++ (separation ++ content) =
     d ∙ g ∙ ap (λ u. u ++ content) f ∙ append_assoc properties separation content in
     let here : AreHere (separation ++ content) = behind_in is_here (codes "&a *b") properties (separation ++ content)
-    all whole in
+    all anchor_and_alias_stand_here in
     let blank : AreIn is_blank separation = blanks_alone indent separation s
     (before_in is_here (separation ++ content) separation content refl here) in
     let same : codes "*b" ≡ content = no_blanks separation content blank n
@@ -136,6 +140,8 @@ alias_alone room (Alias name) in_flow indent (h, e) =
     let f : 42 ≡ 38 = heads 38 42 (codes "a *b") name e in omega (arith, f)
 alias_alone room (Scalar p style value) in_flow indent h = no_scalar p style value in_flow indent (codes "&a *b") h refl
 alias_alone room (Seq p nodes) in_flow indent (left, opening, inside, r, o, i, e) =
-    no_opening p 91 indent opening refl o (before_in is_here (codes "&a *b") opening (inside ++ codes "]") e whole)
+    no_opening p 91 indent opening refl o
+    (before_in is_here (codes "&a *b") opening (inside ++ codes "]") e anchor_and_alias_stand_here)
 alias_alone room (Map p pairs) in_flow indent (left, opening, inside, r, o, i, e) =
-    no_opening p 123 indent opening refl o (before_in is_here (codes "&a *b") opening (inside ++ codes "}") e whole)
+    no_opening p 123 indent opening refl o
+    (before_in is_here (codes "&a *b") opening (inside ++ codes "}") e anchor_and_alias_stand_here)

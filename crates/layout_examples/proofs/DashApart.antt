@@ -16,8 +16,8 @@ is_dash c = c == 45
 dashes : (t : List ℕ) → codes "-" ≡ t → AreIn is_dash t
 dashes t is = subst (AreIn is_dash) is (refl, tt)
 
-no_mark : (t : List ℕ) → codes "-" ≡ t → Begins IsMark t → ⊥
-no_mark t is (c, cs, m, e) = other c m (heads 45 c [] cs (is ∙ e))
+dash_is_no_mark : (t : List ℕ) → codes "-" ≡ t → Begins IsMark t → ⊥
+dash_is_no_mark t is (c, cs, m, e) = other c m (heads 45 c [] cs (is ∙ e))
   where
     other : (c : ℕ) → IsMark c → c ≡ 45 → ⊥
     other c (inl e) f = omega arith
@@ -34,19 +34,20 @@ flow_scalar DoubleQuoted v in_flow indent t is (inside, items, s, f, e, d) =
 flow_scalar Literal v in_flow indent t is h = absurd h
 flow_scalar Folded v in_flow indent t is h = absurd h
 
-scalar : (p : Properties) (style : Style) (v : List ℕ) (in_flow : Bool) (indent : ℕ) (t : List ℕ) → codes "-" ≡ t
+dash_is_no_scalar : (p : Properties) (style : Style) (v : List ℕ) (in_flow : Bool) (indent : ℕ) (t : List ℕ)
+    → codes "-" ≡ t
     → IsScalarNode p style v in_flow indent t → ⊥
-scalar p style v in_flow indent t is (inl (e, f, h)) = no_mark t is (properties p.anchor p.tag t h)
-scalar p style v in_flow indent t is (inr (front, content, b, h, e)) = by_front (before p indent front b)
+dash_is_no_scalar p style v in_flow indent t is (inl (e, f, h)) = dash_is_no_mark t is (properties p.anchor p.tag t h)
+dash_is_no_scalar p style v in_flow indent t is (inr (front, content, b, h, e)) = by_front (before p indent front b)
   where
     by_front : (front ≡ []) ⊎ Begins IsMark front → ⊥
     by_front (inl none) = flow_scalar style v in_flow indent content (is ∙ e ∙ ap (λ x. x ++ content) none) h
-    by_front (inr m) = no_mark t is (front_of IsMark front content t m e)
+    by_front (inr m) = dash_is_no_mark t is (front_of IsMark front content t m e)
 
 node : (room : ℕ) (x : Node) (in_flow : Bool) (indent : ℕ) (t : List ℕ) → codes "-" ≡ t
     → IsFlowNode room x in_flow indent t → ⊥
 node room (Alias name) in_flow indent t is (h, e) = lacks is_dash 42 t [] name refl e (dashes t is)
-node room (Scalar p style v) in_flow indent t is h = scalar p style v in_flow indent t is h
+node room (Scalar p style v) in_flow indent t is h = dash_is_no_scalar p style v in_flow indent t is h
 node room (Seq p nodes) in_flow indent t is (left, opening, inside, r, (front, separation, b, s, e), items, d) =
     lacks is_dash 91 opening front separation refl e
     (before_in is_dash t opening (inside ++ codes "]") d (dashes t is))

@@ -22,9 +22,9 @@ use Rattle.saphyr_scanner.proofs.Beginnings.{behind_first, heads, Begins, front_
 abbrev NoComma : List ℕ → Type 0
 NoComma t = Begins (λ c. c ≢ 44) t
 
-behind : (a b t : List ℕ) → (a ≡ []) ⊎ NoComma a → NoComma b → t ≡ a ++ b → NoComma t
-behind a b t (inl e) (c, cs, n, f) d = (c, cs, n, rw (d, e, f) refl)
-behind a b t (inr h) g d = front_of (λ c. c ≢ 44) a b t h d
+no_comma_behind : (a b t : List ℕ) → (a ≡ []) ⊎ NoComma a → NoComma b → t ≡ a ++ b → NoComma t
+no_comma_behind a b t (inl e) (c, cs, n, f) d = (c, cs, n, rw (d, e, f) refl)
+no_comma_behind a b t (inr h) g d = front_of (λ c. c ≢ 44) a b t h d
 
 -- ## Properties
 
@@ -53,16 +53,16 @@ properties (Some name) (Some x) t (front, between, written, a, b, s, inl e) =
 properties (Some name) (Some x) t (front, between, written, a, b, s, inr e) =
     front_of IsMark written (between ++ front) t (tag x written b) e
 
-no_mark : (c : ℕ) → IsMark c → c ≢ 44
-no_mark c (inl e) f = omega arith
-no_mark c (inr e) f = omega arith
+mark_is_no_comma : (c : ℕ) → IsMark c → c ≢ 44
+mark_is_no_comma c (inl e) f = omega arith
+mark_is_no_comma c (inr e) f = omega arith
 
 no_bracket : (c : ℕ) → IsMark c → c ≢ 91
 no_bracket c (inl e) f = omega arith
 no_bracket c (inr e) f = omega arith
 
-marked : (t : List ℕ) → Begins IsMark t → NoComma t
-marked t (c, cs, h, e) = (c, cs, no_mark c h, e)
+mark_has_no_comma_in : (t : List ℕ) → Begins IsMark t → NoComma t
+mark_has_no_comma_in t (c, cs, h, e) = (c, cs, mark_is_no_comma c h, e)
 
 -- before content stands nothing, or properties first
 pub before : (p : Properties) (indent : ℕ) (t : List ℕ) → IsBeforeContent p indent t → (t ≡ []) ⊎ Begins IsMark t
@@ -70,9 +70,9 @@ before p indent t (inl (e, f)) = inl f
 before p indent t (inr (front, separation, h, n, s, e)) =
     inr (front_of IsMark front separation t (properties p.anchor p.tag front h) e)
 
-weaker : (t : List ℕ) → (t ≡ []) ⊎ Begins IsMark t → (t ≡ []) ⊎ NoComma t
-weaker t (inl e) = inl e
-weaker t (inr h) = inr (marked t h)
+mark_has_no_comma : (t : List ℕ) → (t ≡ []) ⊎ Begins IsMark t → (t ≡ []) ⊎ NoComma t
+mark_has_no_comma t (inl e) = inl e
+mark_has_no_comma t (inr h) = inr (mark_has_no_comma_in t h)
 
 -- ## Scalars and nodes
 
@@ -94,11 +94,12 @@ flow_scalar DoubleQuoted v in_flow indent t (inside, items, s, f, e, d) = (34, i
 flow_scalar Literal v in_flow indent t h = absurd h
 flow_scalar Folded v in_flow indent t h = absurd h
 
-scalar : (p : Properties) (style : Style) (v : List ℕ) (in_flow : Bool) (indent : ℕ) (t : List ℕ)
+scalar_has_no_comma : (p : Properties) (style : Style) (v : List ℕ) (in_flow : Bool) (indent : ℕ) (t : List ℕ)
     → IsScalarNode p style v in_flow indent t → NoComma t
-scalar p style v in_flow indent t (inl (e, f, h)) = marked t (properties p.anchor p.tag t h)
-scalar p style v in_flow indent t (inr (front, content, b, h, e)) =
-    behind front content t (weaker front (before p indent front b)) (flow_scalar style v in_flow indent content h) e
+scalar_has_no_comma p style v in_flow indent t (inl (e, f, h)) = mark_has_no_comma_in t (properties p.anchor p.tag t h)
+scalar_has_no_comma p style v in_flow indent t (inr (front, content, b, h, e)) =
+    no_comma_behind front content t (mark_has_no_comma front (before p indent front b))
+    (flow_scalar style v in_flow indent content h) e
 
 plain_key_word : (in_flow : Bool) (indent : ℕ) (t : List ℕ) → IsPlainKey in_flow indent t → NoComma t
 plain_key_word in_flow indent [] (inl ((some, ink, sign), b)) = absurd (some refl)
@@ -111,16 +112,18 @@ plain_key (Alias name) in_flow indent t h = absurd h
 plain_key (Seq p nodes) in_flow indent t h = absurd h
 plain_key (Map p pairs) in_flow indent t h = absurd h
 plain_key (Scalar p style v) in_flow indent t (front, content, q, b, h, d, e) =
-    behind front content t (weaker front (before p indent front b)) (plain_key_word in_flow indent content h) e
+    no_comma_behind front content t (mark_has_no_comma front (before p indent front b))
+    (plain_key_word in_flow indent content h) e
 
 opening : (p : Properties) (c indent : ℕ) (t : List ℕ) → c ≢ 44 → IsOpening p (c ∷ []) indent t → NoComma t
 opening p c indent t n (front, separation, b, s, e) =
-    behind front (c ∷ separation) t (weaker front (before p indent front b)) (c, separation, n, refl) e
+    no_comma_behind front (c ∷ separation) t (mark_has_no_comma front (before p indent front b))
+    (c, separation, n, refl) e
 
 flow_node : (room : ℕ) (x : Node) (in_flow : Bool) (indent : ℕ) (t : List ℕ) → IsFlowNode room x in_flow indent t
     → NoComma t
 flow_node room (Alias name) in_flow indent t (h, e) = (42, name, (λ x. omega arith), e)
-flow_node room (Scalar p style v) in_flow indent t h = scalar p style v in_flow indent t h
+flow_node room (Scalar p style v) in_flow indent t h = scalar_has_no_comma p style v in_flow indent t h
 flow_node room (Seq p nodes) in_flow indent t (left, o, inside, r, h, i, e) =
     front_of (λ c. c ≢ 44) o (inside ++ codes "]") t (opening p 91 indent o (λ x. omega arith) h) e
 flow_node room (Map p pairs) in_flow indent t (left, o, inside, r, h, i, e) =
@@ -128,10 +131,11 @@ flow_node room (Map p pairs) in_flow indent t (left, o, inside, r, h, i, e) =
 
 -- ## Entries
 
-colon : (adjacent : Bool) (v : Node) (V : List ℕ → Type 0) (indent : ℕ) (t : List ℕ)
+value_has_no_comma : (adjacent : Bool) (v : Node) (V : List ℕ → Type 0) (indent : ℕ) (t : List ℕ)
     → IsColonAndValue adjacent v V indent t → NoComma t
-colon adjacent v V indent t (inl (e, f)) = (58, [], (λ x. omega arith), f)
-colon adjacent v V indent t (inr (separation, text, s, a, h, e)) = (58, separation ++ text, (λ x. omega arith), e)
+value_has_no_comma adjacent v V indent t (inl (e, f)) = (58, [], (λ x. omega arith), f)
+value_has_no_comma adjacent v V indent t (inr (separation, text, s, a, h, e)) =
+    (58, separation ++ text, (λ x. omega arith), e)
 
 pair_text : (room : ℕ) (k v : Node) (indent : ℕ) (t : List ℕ)
     → IsSinglePairText k v (IsFlowNode room k true indent) (IsFlowNode room v true indent) indent t → NoComma t
@@ -139,7 +143,7 @@ pair_text room k v indent t (inl (key, blanks, value, inl h, l, b, n, c, e)) =
     front_of (λ c. c ≢ 44) key (blanks ++ value) t (flow_node room k true indent key h) e
 pair_text room k v indent t (inl (key, blanks, value, inr (h, none), l, b, n, c, e)) =
     front_of (λ c. c ≢ 44) key (blanks ++ value) t (plain_key k true indent key h) e
-pair_text room k v indent t (inr (inl (e, h))) = colon false v (IsFlowNode room v true indent) indent t h
+pair_text room k v indent t (inr (inl (e, h))) = value_has_no_comma false v (IsFlowNode room v true indent) indent t h
 pair_text room k v indent t (inr (inr (separation, pair, s, h, e))) = (63, separation ++ pair, (λ x. omega arith), e)
 
 pair : (room : ℕ) (k v : Node) (indent : ℕ) (t : List ℕ)
@@ -187,17 +191,18 @@ lines_begin indent [] h = inl refl
 lines_begin indent (line ∷ lines) (h, hs) =
     inr (front_of (λ c. c ≢ 44) line (joined lines) (line ++ joined lines) (line_begins indent line h) refl)
 
-both : (a b t : List ℕ) → (a ≡ []) ⊎ NoComma a → (b ≡ []) ⊎ NoComma b → t ≡ a ++ b → (t ≡ []) ⊎ NoComma t
-both a b t (inl e) (inl f) d = inl (rw (d, e, f) refl)
-both a b t (inl e) (inr h) d = inr (behind a b t (inl e) h d)
-both a b t (inr h) g d = inr (front_of (λ c. c ≢ 44) a b t h d)
+joined_has_no_comma : (a b t : List ℕ) → (a ≡ []) ⊎ NoComma a → (b ≡ []) ⊎ NoComma b → t ≡ a ++ b → (t ≡ []) ⊎ NoComma t
+joined_has_no_comma a b t (inl e) (inl f) d = inl (rw (d, e, f) refl)
+joined_has_no_comma a b t (inl e) (inr h) d = inr (no_comma_behind a b t (inl e) h d)
+joined_has_no_comma a b t (inr h) g d = inr (front_of (λ c. c ≢ 44) a b t h d)
 
 at_lines : (a b : List ℕ) → a ≡ b → (b ≡ []) ⊎ NoComma b → (a ≡ []) ⊎ NoComma a
 at_lines a b e h = rw e h
 
 separation_begins : (indent : ℕ) (t : List ℕ) → IsSeparation indent t → (t ≡ []) ⊎ NoComma t
 separation_begins indent t (lines, blanks, (pieces, h, f), b, e) =
-    both lines blanks t (at_lines lines (joined pieces) f (lines_begin indent pieces h)) (blanks_begin blanks b) e
+    joined_has_no_comma lines blanks t (at_lines lines (joined pieces) f (lines_begin indent pieces h))
+    (blanks_begin blanks b) e
 
 -- ## The text
 
@@ -212,13 +217,13 @@ inside_is_no_comma a b (inr (c, cs, n, e)) g d =
     let x : codes ",]" ≡ c ∷ (cs ++ (b ++ codes "]")) = rw (d, e) refl in n
     (heads 44 c (codes "]") (cs ++ (b ++ codes "]")) x)
 
-opened : (front separation inside : List ℕ) (indent : ℕ) → (front ≡ []) ⊎ Begins IsMark front
+bracket_and_comma_refused : (front separation inside : List ℕ) (indent : ℕ) → (front ≡ []) ⊎ Begins IsMark front
     → IsSeparation indent separation → (inside ≡ []) ⊎ NoComma inside
     → codes "[,]" ≡ (front ++ (91 ∷ separation)) ++ (inside ++ codes "]") → ⊥
-opened front separation inside indent (inl e) s h d =
+bracket_and_comma_refused front separation inside indent (inl e) s h d =
     let x : codes "[,]" ≡ 91 ∷ (separation ++ (inside ++ codes "]")) = rw (d, e) refl in
     inside_is_no_comma separation inside (separation_begins indent separation s) h (ap (λ t. behind_first t) x)
-opened front separation inside indent (inr (c, cs, m, e)) s h d =
+bracket_and_comma_refused front separation inside indent (inr (c, cs, m, e)) s h d =
     let x : codes "[,]" ≡ c ∷ ((cs ++ (91 ∷ separation)) ++ (inside ++ codes "]")) = rw (d, e) refl in
     no_bracket c m (heads 91 c (codes ",]") ((cs ++ (91 ∷ separation)) ++ (inside ++ codes "]")) x)
 
@@ -228,7 +233,8 @@ joins o front separation inside e d = rw (d, e) refl
 
 pub comma_alone : (room : ℕ) (p : Properties) (nodes : Nodes) → IsFlowNode room (Seq p nodes) false 0 (codes "[,]") → ⊥
 comma_alone room p nodes (left, o, inside, r, (front, separation, b, s, e), i, d) =
-    opened front separation inside 0 (before p 0 front b) s (no_entry_begins_with_a_comma left nodes 0 inside i)
+    bracket_and_comma_refused front separation inside 0 (before p 0 front b) s
+    (no_entry_begins_with_a_comma left nodes 0 inside i)
     (joins o front separation inside e d)
 
 pub comma_first : (room : ℕ) (nodes : Nodes) (indent : ℕ) (t : List ℕ) → AreItems room nodes indent (codes "," ++ t) → ⊥

@@ -60,17 +60,18 @@ indicator_first in_flow indent (first, others, h, m, e) = no_indicator in_flow f
 
 -- ## Block scalars: behind the header's digit stands no other
 
-line_end : (c : ℕ) (rest d x : List ℕ) → is_blank c ≡ false → c ≢ 10 → block.IsHeaderEnd d x → d ≡ c ∷ rest → ⊥
-line_end c rest _ x b n (no_comment [] _ h) e = n (sym (heads c 10 rest x (sym e)))
-line_end c rest _ x b n (no_comment (blank ∷ blanks) _ (h, hs)) e =
+header_ends_with_break : (c : ℕ) (rest d x : List ℕ) → is_blank c ≡ false → c ≢ 10 → block.IsHeaderEnd d x
+    → d ≡ c ∷ rest → ⊥
+header_ends_with_break c rest _ x b n (no_comment [] _ h) e = n (sym (heads c 10 rest x (sym e)))
+header_ends_with_break c rest _ x b n (no_comment (blank ∷ blanks) _ (h, hs)) e =
     let f : is_blank blank ≡ is_blank c = ap (λ v. is_blank v) (heads c blank rest _ (sym e)) in cc
-line_end c rest _ x b n (comment blank blanks text _ (h, hs) g) e =
+header_ends_with_break c rest _ x b n (comment blank blanks text _ (h, hs) g) e =
     let f : is_blank blank ≡ is_blank c = ap (λ v. is_blank v) (heads c blank rest _ (sym e)) in cc
 
 chomped_end : (c : ℕ) (rest b d x : List ℕ) (k : Chomping) → is_blank c ≡ false → c ≢ 10 → c ≢ 45 → c ≢ 43
     → IsChomping k b d → block.IsHeaderEnd d x → b ≡ c ∷ rest → ⊥
 chomped_end c rest _ d x _ l n p q (strip _) h e = p (sym (heads c 45 rest d (sym e)))
-chomped_end c rest _ d x _ l n p q (clip _) h e = line_end c rest d x l n h e
+chomped_end c rest _ d x _ l n p q (clip _) h e = header_ends_with_break c rest d x l n h e
 chomped_end c rest _ d x _ l n p q (keep _) h e = q (sym (heads c 43 rest d (sym e)))
 
 indicated_end : (n : ℕ) (rest a b d x : List ℕ) (k : Chomping) → IsIndicator n a b → IsChomping k b d
@@ -82,9 +83,9 @@ indicated_end _ rest _ b d x k (digit m _ l g) c h e =
     (tails _ 49 b (50 ∷ rest) e)
 
 end_indicated : (n : ℕ) (rest a b x : List ℕ) → IsIndicator n a b → block.IsHeaderEnd b x → a ≡ 49 ∷ 50 ∷ rest → ⊥
-end_indicated _ rest a _ x (no_digit _) h e = line_end 49 (50 ∷ rest) a x refl (λ y. omega arith) h e
+end_indicated _ rest a _ x (no_digit _) h e = header_ends_with_break 49 (50 ∷ rest) a x refl (λ y. omega arith) h e
 end_indicated _ rest _ b x (digit m _ l g) h e =
-    line_end 50 rest b x refl (λ y. omega arith) h (tails _ 49 b (50 ∷ rest) e)
+    header_ends_with_break 50 rest b x refl (λ y. omega arith) h (tails _ 49 b (50 ∷ rest) e)
 
 indicated_last : (rest a b d x : List ℕ) (n : ℕ) (k : Chomping) → IsChomping k a b → IsIndicator n b d
     → block.IsHeaderEnd d x → a ≡ 49 ∷ 50 ∷ rest → ⊥
@@ -134,8 +135,8 @@ indentation m t (front, h, e) = behind_filler t front (spaces m) h e
 
 -- ## Block collections
 
-abbrev stays : ℕ → Bool
-stays c = not (c == line_feed)
+abbrev is_no_blank_and_no_colon : ℕ → Bool
+is_no_blank_and_no_colon c = not (c == line_feed)
 
 no_tab : (m : ℕ) (front others : List ℕ) → front ≡ spaces m → codes "\t- b" ≡ front ++ (45 ∷ others) → ⊥
 no_tab zero front others e d =
@@ -149,8 +150,9 @@ no_tab (suc m) front others e d =
 on_one_line : (m : ℕ) (front others : List ℕ) → IsEntryIndentation m front → codes "\t- b" ≡ front ++ (45 ∷ others)
     → front ≡ spaces m
 on_one_line m front others (filling, h, e) d =
-    let clean = before_in stays (codes "\t- b") front (45 ∷ others) d (refl, (refl, (refl, (refl, tt)))) in
-    let none = no_feed_no_filler filling (before_in stays front filling (spaces m) e clean) h in
+    let clean = before_in is_no_blank_and_no_colon (codes "\t- b") front (45 ∷ others) d
+    (refl, (refl, (refl, (refl, tt)))) in
+    let none = no_feed_no_filler filling (before_in is_no_blank_and_no_colon front filling (spaces m) e clean) h in
     e ∙ ap (λ (x : List ℕ). x ++ spaces m) none
 
 pub tab_in_indentation : (room : ℕ) (nodes : Nodes) (m : ℕ) (behind : List ℕ)
@@ -219,27 +221,28 @@ before_colon c rest between value x y (suc n, l, f) e =
     let g : c ∷ rest ≡ 32 ∷ (spaces n ++ (58 ∷ value)) = rw f at e in x
     (sym (heads c 32 rest (spaces n ++ (58 ∷ value)) g))
 
-on_line : (node between value : List ℕ) → IsOnLine node → AreSpaces 0 between
+no_key_over_lines : (node between value : List ℕ) → IsOnLine node → AreSpaces 0 between
     → codes "a\nb: c" ≡ node ++ (between ++ (58 ∷ value)) → ⊥
-on_line [] between value l s e =
+no_key_over_lines [] between value l s e =
     before_colon 97 (codes "\nb: c") between value (λ y. omega arith) (λ y. omega arith) s e
-on_line (c ∷ []) between value l s e =
+no_key_over_lines (c ∷ []) between value l s e =
     before_colon 10 (codes "b: c") between value (λ y. omega arith) (λ y. omega arith) s
     (tails 97 c (codes "\nb: c") (between ++ (58 ∷ value)) e)
-on_line (c ∷ d ∷ ds) between value (l, (k, ls)) s e =
+no_key_over_lines (c ∷ d ∷ ds) between value (l, (k, ls)) s e =
     let f : d ≡ 10 = heads 10 d (codes "b: c") (ds ++ (between ++ (58 ∷ value)))
     (tails 97 c (codes "\nb: c") (d ∷ (ds ++ (between ++ (58 ∷ value)))) e) in
     let g : not (d == line_feed) ≡ false = ap (λ v. not (v == line_feed)) f in cc
 
 pub key_over_lines : (room : ℕ) (key value : Node) (m : ℕ) (behind : List ℕ)
     → IsImplicitPair room key (IsBlockNode room value) m (codes "a\nb: c") behind → ⊥
-key_over_lines room key value m behind (node, between, text, k, l, s, b, n, v, e) = on_line node between text l s e
+key_over_lines room key value m behind (node, between, text, k, l, s, b, n, v, e) =
+    no_key_over_lines node between text l s e
 
 pub sequence_behind_key : (p : Properties) (column least m : ℕ) → IsLead p (BehindKey column) least m (codes " ") → ⊥
 sequence_behind_key p column least m (inl (front, end, filling, l, c, (rest, r, f), h, e)) =
-    lacks stays 10 end rest [] refl f
-    (before_in stays (end ++ (filling ++ spaces m)) end (filling ++ spaces m) refl
-    (behind_in stays (codes " ") front (end ++ (filling ++ spaces m)) e (refl, tt)))
+    lacks is_no_blank_and_no_colon 10 end rest [] refl f
+    (before_in is_no_blank_and_no_colon (end ++ (filling ++ spaces m)) end (filling ++ spaces m) refl
+    (behind_in is_no_blank_and_no_colon (codes " ") front (end ++ (filling ++ spaces m)) e (refl, tt)))
 sequence_behind_key p column least m (inr (e, h)) = h
 
 -- ## Room

@@ -164,9 +164,9 @@ no_first_mark t (c, cs, inr m, e) h =
     let f : (c == 10) ≡ true = (subst (λ (u : List ℕ). IsAll 10 u) e h).0 in let g : (c == 10) ≡ false = ap
     (λ x. x == 10) m in cc
 
-no_word : (in_flow : Bool) (w : List ℕ) → IsFirstWord in_flow w → IsAll 10 w → ⊥
-no_word in_flow [] (h, b, x, y, z) i = h.some refl
-no_word in_flow (c ∷ cs) (h, b, x, y, z) (i, is) =
+feeds_are_no_word : (in_flow : Bool) (w : List ℕ) → IsFirstWord in_flow w → IsAll 10 w → ⊥
+feeds_are_no_word in_flow [] (h, b, x, y, z) i = h.some refl
+feeds_are_no_word in_flow (c ∷ cs) (h, b, x, y, z) (i, is) =
     let e : c ≡ 10 = is_that c i in let f : is_word_ink in_flow c ≡ false =
     ap (λ v. is_word_ink in_flow v) e in let g : is_word_ink in_flow c ≡ true = h.ink.0 in cc
   where
@@ -176,7 +176,7 @@ no_word in_flow (c ∷ cs) (h, b, x, y, z) (i, is) =
 no_content : (style : Style) (value : List ℕ) (in_flow : Bool) (indent : ℕ) (t : List ℕ)
     → IsFlowScalar style value in_flow indent t → IsAll 10 t → ⊥
 no_content Plain value in_flow indent t ((first, others, w, m, e), v) h =
-    no_word in_flow first w (before_in (is 10) t first others e h)
+    feeds_are_no_word in_flow first w (before_in (is 10) t first others e h)
 no_content SingleQuoted value in_flow indent t (inside, items, s, f, e, d) h = lacks (is 10) 39 t [] inside refl d h
 no_content DoubleQuoted value in_flow indent t (inside, items, s, f, e, d) h = lacks (is 10) 34 t [] inside refl d h
 no_content Literal value in_flow indent t s h = s
@@ -265,26 +265,27 @@ no_document : (room : ℕ) (d : Document) (t behind : List ℕ) → IsExplicitDo
 no_document room d t behind (directives, node, x, c, ds, m, n, e) h =
     lacks (is 10) 45 t directives (codes "--" ++ node) refl e h
 
-last : (room : ℕ) (ds : Forest) (t : List ℕ) → IsBehindDocument (AreDocuments (IsBlockNode room) ds) t → IsAll 10 t
+no_document_behind : (room : ℕ) (ds : Forest) (t : List ℕ) → IsBehindDocument (AreDocuments (IsBlockNode room) ds) t
+    → IsAll 10 t
     → ds ≡ []
-last room [] t h i = refl
-last room (d ∷ ds) t (inl (filling, document, others, f, inl (x, h), b, e)) i = cc
-last room (d ∷ ds) t (inl (filling, document, others, f, inr (x, h), b, e)) i =
+no_document_behind room [] t h i = refl
+no_document_behind room (d ∷ ds) t (inl (filling, document, others, f, inl (x, h), b, e)) i = cc
+no_document_behind room (d ∷ ds) t (inl (filling, document, others, f, inr (x, h), b, e)) i =
     absurd (no_document room d document others h
     (before_in (is 10) (document ++ others) document others refl
     (behind_in (is 10) t filling (document ++ others) e i)))
-last room (d ∷ ds) t (inr (suffix, others, (filling, end, prefix, f, l, p, g), h, e)) i =
+no_document_behind room (d ∷ ds) t (inr (suffix, others, (filling, end, prefix, f, l, p, g), h, e)) i =
     absurd (lacks (is 10) 46 suffix filling (codes ".." ++ (end ++ prefix)) refl g
     (before_in (is 10) t suffix others e i))
 
 -- ## The stream
 
-same : (explicit : Bool) (directives : List Directive) (node : Node) → explicit ≡ true → directives ≡ []
+only_document : (explicit : Bool) (directives : List Directive) (node : Node) → explicit ≡ true → directives ≡ []
     → node ≡ left_out → record { explicit = explicit; directives = directives; node = node } ≡ only
-same explicit directives node e f g = rw (e, f, g) refl
+only_document explicit directives node e f g = rw (e, f, g) refl
 
-alone : (d : Document) (ds : Forest) → d ≡ only → ds ≡ [] → d ∷ ds ≡ only ∷ []
-alone d ds e f = rw (e, f) refl
+only_forest : (d : Document) (ds : Forest) → d ≡ only → ds ≡ [] → d ∷ ds ≡ only ∷ []
+only_forest d ds e f = rw (e, f) refl
 
 line_feeds : (node others : List ℕ) → codes "\n" ≡ node ++ others → IsAll 10 node × IsAll 10 others
 line_feeds node others e =
@@ -301,8 +302,8 @@ explicit_one room d ds t others (directives, node, x, c, dirs, m, n, e) b f =
     by_directives (inr h) = absurd (no_percent t directives others (codes "---" ++ node) h e f)
     by_directives (inl (g, h)) =
         let i = line_feeds node others (behind_dashes t directives node others h e f) in
-        alone d ds (same d.explicit d.directives d.node x g (is_left_out room d.node node others n i.0))
-        (last room ds others b i.1)
+        only_forest d ds (only_document d.explicit d.directives d.node x g (is_left_out room d.node node others n i.0))
+        (no_document_behind room ds others b i.1)
 
 document : (room : ℕ) (forest : Forest) (t : List ℕ) → AreDocuments (IsBlockNode room) forest true t → codes "---\n" ≡ t
     → forest ≡ only ∷ []

@@ -4,7 +4,7 @@ use Rattle.saphyr_scalar.specs.declared.scalar.position.Span.{Span}
 use Rattle.saphyr_parser.specs.declared.parser.event.Event.{Event}
 use Rattle.saphyr_parser.specs.declared.parser.fault.Fault.{Fault}
 use Rattle.saphyr_parser.specs.declared.parser.fault.Fault.TheVariants as fault
-use Rattle.saphyr_parser.specs.Answer.{Answer, Ending, OutOfMemory, empty_answer, failed}
+use Rattle.saphyr_parser.specs.Answer.{Answer, Ending, OutOfMemory, empty_answer, fault_alone}
 use Rattle.saphyr_parser.specs.Cursor.{HandsOutNext, Shows, Stays}
 use Rattle.case_files.specs.Listings.{ListAll, lines_of_answer}
 

@@ -1,7 +1,7 @@
 //! The ways to take events one by one and by `load`.
 ghost use Rattle.std.specs.Prelude.{◌≡◌, ◌<◌, ◌-◌, OnOk, Ok, drop, length, true};
 ghost use Rattle.saphyr_parser.specs.Answer as answer;
-ghost use Rattle.saphyr_parser.specs.Answer.{failed, empty_answer};
+ghost use Rattle.saphyr_parser.specs.Answer.{fault_alone, empty_answer};
 ghost use Rattle.saphyr_parser.specs.Cursor.{Stays, count, to_come};
 ghost use Rattle.case_files.specs.Listings.{ListAll};
 ghost use Rattle.refused_memory.specs.Want.{IsInWant};
@@ -87,7 +87,7 @@ pub fn by_peek<T: Input>(
 
 fn shows_want<T: Input>(parser: &mut Parser<'_, T>) -> bool
     ensures stays { Stays (to_come parser.old) (to_come parser.new) }
-    ensures want { result ≡ true → to_come parser.new ≡ failed answer.OutOfMemory }
+    ensures want { result ≡ true → to_come parser.new ≡ fault_alone answer.OutOfMemory }
     ensures shown { result ≡ true → IsInWant parser.old }
 {
     matches!(parser.peek(), Some(Err(Fault::OutOfMemory)))

@@ -179,23 +179,23 @@ test_at p bs n mark u a l some h =
     ∙ same_test p (get_or (drop n bs) 0 0) (get_or (chars (drop n bs)) 0 0) a (first_stands (drop n bs) s.utf8)
     ∙ ap (λ (xs : List ℕ). p (get_or xs 0 0)) s.rest ∙ ap p (at_drop (chars bs) n)
 
-marks1 : (bs : List ℕ) (mark : ℕ) → (get_or bs 0 0 == mark) ≡ true → (k : ℕ) → k < 1 → get_or bs k 0 ≡ mark
-marks1 bs mark t zero l = eqb-true (get_or bs 0 0) mark t
-marks1 bs mark t (suc k) l = absurd (omega arith)
+one_mark : (bs : List ℕ) (mark : ℕ) → (get_or bs 0 0 == mark) ≡ true → (k : ℕ) → k < 1 → get_or bs k 0 ≡ mark
+one_mark bs mark t zero l = eqb-true (get_or bs 0 0) mark t
+one_mark bs mark t (suc k) l = absurd (omega arith)
 
-marks2 : (bs : List ℕ) (mark : ℕ) → ((get_or bs 0 0 == mark) && (get_or bs 1 0 == mark)) ≡ true → (k : ℕ) → k < 2
+two_marks : (bs : List ℕ) (mark : ℕ) → ((get_or bs 0 0 == mark) && (get_or bs 1 0 == mark)) ≡ true → (k : ℕ) → k < 2
     → get_or bs k 0 ≡ mark
-marks2 bs mark t zero l = eqb-true (get_or bs 0 0) mark (and_true_left _ _ t)
-marks2 bs mark t (suc zero) l = eqb-true (get_or bs 1 0) mark (and_true_right _ _ t)
-marks2 bs mark t (suc (suc k)) l = absurd (omega arith)
+two_marks bs mark t zero l = eqb-true (get_or bs 0 0) mark (and_true_left _ _ t)
+two_marks bs mark t (suc zero) l = eqb-true (get_or bs 1 0) mark (and_true_right _ _ t)
+two_marks bs mark t (suc (suc k)) l = absurd (omega arith)
 
-marks3 : (bs : List ℕ) (mark : ℕ)
+three_marks : (bs : List ℕ) (mark : ℕ)
     → ((get_or bs 0 0 == mark) && (get_or bs 1 0 == mark) && (get_or bs 2 0 == mark)) ≡ true → (k : ℕ) → k < 3
     → get_or bs k 0 ≡ mark
-marks3 bs mark t zero l = eqb-true (get_or bs 0 0) mark (and_true_left _ _ (and_true_left _ _ t))
-marks3 bs mark t (suc zero) l = eqb-true (get_or bs 1 0) mark (and_true_right _ _ (and_true_left _ _ t))
-marks3 bs mark t (suc (suc zero)) l = eqb-true (get_or bs 2 0) mark (and_true_right _ _ t)
-marks3 bs mark t (suc (suc (suc k))) l = absurd (omega arith)
+three_marks bs mark t zero l = eqb-true (get_or bs 0 0) mark (and_true_left _ _ (and_true_left _ _ t))
+three_marks bs mark t (suc zero) l = eqb-true (get_or bs 1 0) mark (and_true_right _ _ (and_true_left _ _ t))
+three_marks bs mark t (suc (suc zero)) l = eqb-true (get_or bs 2 0) mark (and_true_right _ _ t)
+three_marks bs mark t (suc (suc (suc k))) l = absurd (omega arith)
 
 and_same : (x y p q : Bool) → x ≡ y → (x ≡ true → p ≡ q) → (x && p) ≡ (y && q)
 and_same true y p q e h = ap (λ (b : Bool). true && b) (h refl) ∙ ap (λ (b : Bool). b && q) e
@@ -212,9 +212,9 @@ same_marker mark bs u l some =
     (and_same _ _ _ _
     (and_same _ _ _ _
     (test_at p bs 0 mark u a l some (λ k lt. absurd (omega (arith, lt))))
-    (λ t. test_at p bs 1 mark u a l some (marks1 bs mark t)))
-    (λ t. test_at p bs 2 mark u a l some (marks2 bs mark t)))
-    (λ t. test_at is_blank_or_breakz bs 3 mark u b l some (marks3 bs mark t))
+    (λ t. test_at p bs 1 mark u a l some (one_mark bs mark t)))
+    (λ t. test_at p bs 2 mark u a l some (two_marks bs mark t)))
+    (λ t. test_at is_blank_or_breakz bs 3 mark u b l some (three_marks bs mark t))
 
 prefix_same : (p q : ℕ → Bool) (xs : List ℕ) → ((c : ℕ) → p c ≡ q c) → prefix_len p xs ≡ prefix_len q xs
 prefix_same p q [] h = refl

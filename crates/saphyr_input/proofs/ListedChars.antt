@@ -11,15 +11,15 @@ use Rattle.saphyr_input.specs.Listed.{Lists, Listed, IsCallable, GivesOnly}
 callable : (s : Chars) → IsCallable (λ _. ⊤) chars_steps s
 callable s = (hlevel props, tt)
 
-ends : (s : Chars) → IsUtf8 (chars_rest s) → chars (chars_rest s) ≡ [] → chars_steps s None s
-ends s utf8 e =
+chars_end : (s : Chars) → IsUtf8 (chars_rest s) → chars (chars_rest s) ≡ [] → chars_steps s None s
+chars_end s utf8 e =
     let empty : chars_rest s ≡ [] = sym (encodes-chars (chars_rest s) utf8) ∙ ap encode_utf8_all e in
     let none : length (chars_rest s) ≡ 0 = ap length empty in
     ((none, refl), (λ some. absurd (omega arith)), sym (ap (λ (cs : List ℕ). slice_get cs 0) e))
 
-comes : (s : Chars) (x : ℕ) (xs : List ℕ) → IsUtf8 (chars_rest s) → chars (chars_rest s) ≡ x ∷ xs
+next_char_comes : (s : Chars) (x : ℕ) (xs : List ℕ) → IsUtf8 (chars_rest s) → chars (chars_rest s) ≡ x ∷ xs
     → (t : Chars) × chars_steps s (Some x) t
-comes s x xs utf8 e = (
+next_char_comes s x xs utf8 e = (
   record s { rest = record s.rest { now = encode_utf8_all xs } },
   (
     sym (encodes-chars (chars_rest s) utf8)
@@ -39,10 +39,10 @@ gives_only s r cs e first p = (
 
 lists_from : (xs : List ℕ) (s : Chars) → IsUtf8 (chars_rest s) → chars (chars_rest s) ≡ xs
     → Lists (λ _. ⊤) chars_steps s xs
-lists_from [] s utf8 e = (callable s, gives_only s None [] e refl (s, ends s utf8 e))
+lists_from [] s utf8 e = (callable s, gives_only s None [] e refl (s, chars_end s utf8 e))
 lists_from (x ∷ xs) s utf8 e = (
   callable s,
-  gives_only s (Some x) (x ∷ xs) e refl (comes s x xs utf8 e),
+  gives_only s (Some x) (x ∷ xs) e refl (next_char_comes s x xs utf8 e),
   λ (t : Chars) (step : chars_steps s (Some x) t).
       let past = chars_past_char (chars_rest s) (chars_rest t) x utf8 step.0 in
       lists_from xs t (IsUtf8-past_char (chars_rest s) (chars_rest t) x utf8 step.0) (cc),

@@ -1,5 +1,5 @@
 -- Words of a set with single spaces between them, and runs of spaces that may have a limit.
-use Rattle.std.proofs.Common.{◌≡◌, ℕ, zero, suc, cond, ◌+◌, ◌<◌, ◌≤◌, Bool, true, false, List, [], ◌∷◌, ◌++◌, length, take, drop, get_or, IsUtf8, IsTrue, refl, sym, ap, ◌∙◌, subst, arith, string_bytes}
+use Rattle.std.proofs.Common.{◌≡◌, ℕ, zero, suc, cond, ◌+◌, ◌<◌, ◌≤◌, Bool, true, false, List, [], ◌∷◌, ◌++◌, length, take, drop, get_or, IsUtf8, refl, sym, ap, ◌∙◌, subst, arith}
 use Rattle.std.specs.Prelude.{◌||◌, ◌&&◌, ◌==◌, min, slice_index, Result, Ok, Err, IfOk}
 use Rattle.std.specs.List.{prefix_len}
 use Rattle.std.specs.Str.{chars}
@@ -7,8 +7,8 @@ use Rattle.std.proofs.lemmas.Bool.Decides.{nat_tests}
 use Rattle.std.proofs.lemmas.List.{drop-drop}
 use Rattle.std.proofs.lemmas.List.Sums.{prefix_len-le-length, prefix_len_passes}
 use Rattle.saphyr_input.specs.Fronts.{IsAsciiClass, StandsFor}
-use Rattle.saphyr_input.specs.Places.{words_len, spaces_within, Transfers, TransfersRun, TransfersWords}
-use Rattle.saphyr_input.proofs.Ascii.{PastAscii, past_ascii, AsciiRun, ascii_class_run, first_stands, at_drop}
+use Rattle.saphyr_input.specs.Places.{words_len, spaces_within, TransfersRun, TransfersWords}
+use Rattle.saphyr_input.proofs.Ascii.{PastAscii, past_ascii, ascii_class_run, first_stands, at_drop}
 use Rattle.saphyr_input.proofs.Texts.{length-chars}
 
 abbrev Set : Type 0

@@ -2,6 +2,7 @@
 -- Each stands here twice: in small letters as a test that computes, and as the fact that the test decides.
 use Rattle.std.specs.Prelude.{◌≡◌, ◌≢◌, ℕ, ◌-◌, ◌≤◌, Bool, ◌||◌, ◌&&◌, ◌==◌, not, nat_le, if◌then◌else◌, codes, Contains, ◌⊎◌, List}
 use Rattle.std.specs.List.{list_any}
+use Rattle.saphyr_input.specs.Indicators.{exclamation_mark, low_line}
 
 abbrev pub nul : ℕ
 nul = 0
@@ -81,10 +82,10 @@ IsAlpha c = IsDigit c ⊎ (IsFrom 97 122 c ⊎ (IsFrom 65 90 c ⊎ Contains (cod
 
 -- word characters (YAML 1.2.2, 5.6): digits, letters and `-`
 abbrev pub is_word_char : ℕ → Bool
-is_word_char c = is_alpha c && not (c == 95)
+is_word_char c = is_alpha c && not (c == low_line)
 
 abbrev pub IsWordChar : ℕ → Type 0
-IsWordChar c = IsAlpha c × (c ≢ 95)
+IsWordChar c = IsAlpha c × (c ≢ low_line)
 
 -- hexadecimal digits (YAML 1.2.2, 5.6)
 abbrev pub is_hex : ℕ → Bool
@@ -148,7 +149,7 @@ IsUriChar c = IsWordChar c ⊎ IsUriMark c
 
 -- characters of a tag's suffix (YAML 1.2.2, 5.6): those of a URI without `!` and the flow indicators
 abbrev pub is_tag_char : ℕ → Bool
-is_tag_char c = is_uri_char c && not (is_flow c || (c == 33))
+is_tag_char c = is_uri_char c && not (is_flow c || (c == exclamation_mark))
 
 abbrev pub IsTagChar : ℕ → Type 0
-IsTagChar c = IsUriChar c × ¬ (IsFlow c ⊎ (c ≡ 33))
+IsTagChar c = IsUriChar c × ¬ (IsFlow c ⊎ (c ≡ exclamation_mark))

@@ -2,6 +2,7 @@ pub mod Breaks
 pub mod Classes
 pub mod Clones
 pub mod Fronts
+pub mod Indicators
 pub mod Listed
 pub mod Places
 pub mod Separation

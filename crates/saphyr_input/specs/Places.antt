@@ -3,6 +3,7 @@
 use Rattle.std.specs.Prelude.{◌≡◌, ℕ, ◌+◌, ◌≤◌, min, Bool, false, ◌||◌, ◌&&◌, ◌==◌, not, List, [], ◌∷◌, ◌++◌, take, drop, slice_index, if◌then◌else◌, encode_utf8_all}
 use Rattle.std.specs.List.{prefix_len}
 use Rattle.saphyr_input.specs.Classes.{is_blank, is_break, is_blank_or_breakz, is_flow, byte_order_mark, space}
+use Rattle.saphyr_input.specs.Indicators.{colon, full_stop, hyphen}
 
 abbrev pub next_2_are : List ℕ → ℕ → ℕ → Bool
 next_2_are xs a b = (slice_index xs 0 == a) && (slice_index xs 1 == b)
@@ -12,11 +13,11 @@ next_3_are xs a b c = (slice_index xs 0 == a) && (slice_index xs 1 == b) && (sli
 
 -- `---` before a blank, a break, NUL or the end (YAML 1.2.2, 9.1.4)
 abbrev pub is_document_start : List ℕ → Bool
-is_document_start xs = next_3_are xs 45 45 45 && is_blank_or_breakz (slice_index xs 3)
+is_document_start xs = next_3_are xs hyphen hyphen hyphen && is_blank_or_breakz (slice_index xs 3)
 
 -- `...` before a blank, a break, NUL or the end (YAML 1.2.2, 9.1.2)
 abbrev pub is_document_end : List ℕ → Bool
-is_document_end xs = next_3_are xs 46 46 46 && is_blank_or_breakz (slice_index xs 3)
+is_document_end xs = next_3_are xs full_stop full_stop full_stop && is_blank_or_breakz (slice_index xs 3)
 
 abbrev pub is_document_indicator : List ℕ → Bool
 is_document_indicator xs = is_document_start xs || is_document_end xs
@@ -25,7 +26,7 @@ is_document_indicator xs = is_document_start xs || is_document_end xs
 -- (YAML 1.2.2, 7.3.3)
 abbrev pub can_be_plain : Bool → List ℕ → Bool
 can_be_plain in_flow xs =
-    if slice_index xs 0 == 58 then
+    if slice_index xs 0 == colon then
     not (is_blank_or_breakz (slice_index xs 1) || (in_flow && is_flow (slice_index xs 1)))
     else not ((slice_index xs 0 == byte_order_mark) || (in_flow && is_flow (slice_index xs 0)))
 

@@ -4,6 +4,7 @@ use Rattle.std.specs.List.{prefix_len, list_any}
 use Rattle.saphyr_input.specs.Classes.{is_blank, is_yaml_non_break, space, tab}
 use Rattle.saphyr_input.specs.declared.input.SkipTabs.{SkipTabs}
 use Rattle.saphyr_input.specs.declared.input.SkipTabs.TheVariants.{Yes, No, Result}
+use Rattle.saphyr_input.specs.Indicators.{number_sign}
 
 -- what a caller may ask for
 abbrev pub IsRequest : SkipTabs → Type 0
@@ -23,11 +24,11 @@ blank_len tabs xs = prefix_len (is_skipped tabs) xs
 
 -- the length of the comment that stands first, 0 where none does
 abbrev pub comment_len : List ℕ → ℕ
-comment_len xs = if slice_index xs 0 == 35 then prefix_len is_yaml_non_break xs else 0
+comment_len xs = if slice_index xs 0 == number_sign then prefix_len is_yaml_non_break xs else 0
 
 -- a `#` before which nothing is skipped, which begins no comment
 abbrev pub is_bare_comment : SkipTabs → List ℕ → Bool
-is_bare_comment tabs xs = (blank_len tabs xs == 0) && (slice_index xs 0 == 35)
+is_bare_comment tabs xs = (blank_len tabs xs == 0) && (slice_index xs 0 == number_sign)
 
 -- how many characters are skipped
 abbrev pub separation_len : SkipTabs → List ℕ → ℕ

@@ -18,8 +18,8 @@ sum : (ps qs : List Part) → anchors (ps ++ qs) ≡ anchors ps + anchors qs
 sum [] qs = omega arith
 sum (p ∷ ps) qs = ap (one_more_anchor (anchor_of p)) (sum ps qs) ∙ one_more_sum (anchor_of p) (anchors ps) (anchors qs)
 
-parts_of : (t a b : List Kind) → t ≡ a ++ b → length t ≡ length a + length b
-parts_of t a b e = ap length e ∙ length-append a b
+length_of_parts : (t a b : List Kind) → t ≡ a ++ b → length t ≡ length a + length b
+length_of_parts t a b e = ap length e ∙ length-append a b
 
 own : Option (List ℕ) → ℕ
 own a = one_more_anchor (option_map encode_utf8_all a) 0
@@ -43,7 +43,7 @@ with_properties : (p : Properties) (front content t : List Kind) (inside : ℕ) 
     → one_more_anchor (option_map encode_utf8_all p.anchor) inside ≤ length t
 with_properties p front content t inside h e l =
     let a = property_count p.anchor p.tag front h in
-    let b = parts_of t front content e in
+    let b = length_of_parts t front content e in
     let c = with_own p.anchor inside in
     omega (arith, a, b, c, l)
 
@@ -68,42 +68,44 @@ value_count : (n : Node) (N : List Kind → Type 0) (t : List Kind) → YieldsMa
 value_count n N t h g = let a = optional_count n N h.0 h.1 (g h.0) in let b = ap length h.2 in omega (arith, a, b)
 
 -- the anchors of a pair's nodes
-both : Node → Node → ℕ
-both key value = anchors (node_parts key) + anchors (node_parts value)
+anchors_of_pair : Node → Node → ℕ
+anchors_of_pair key value = anchors (node_parts key) + anchors (node_parts value)
 
 left_out_value : (key value : Node) (t : List Kind) → value ≡ forest.left_out → anchors (node_parts key) ≤ length t
-    → both key value ≤ length t
-unfolding both
+    → anchors_of_pair key value ≤ length t
+unfolding anchors_of_pair
 left_out_value key value t e l =
     let none : anchors (node_parts value) ≡ 0 = ap (λ (v : Node). anchors (node_parts v)) e in omega (arith, none, l)
 
 left_out_key : (key value : Node) (t : List Kind) → key ≡ forest.left_out → anchors (node_parts value) ≤ length t
-    → both key value ≤ length t
-unfolding both
+    → anchors_of_pair key value ≤ length t
+unfolding anchors_of_pair
 left_out_key key value t e l =
     let none : anchors (node_parts key) ≡ 0 = ap (λ (v : Node). anchors (node_parts v)) e in omega (arith, none, l)
 
 marked_count : (key value : Node) (K V : List Kind → Type 0) (t : List Kind) → YieldsMarkedPair key value K V t
-    → Counts key K → Counts value V → both key value ≤ length t
-unfolding both
+    → Counts key K → Counts value V → anchors_of_pair key value ≤ length t
+unfolding anchors_of_pair
 marked_count key value K V t h k v =
-    let a = key_count key K h.0 h.2 k in let b = value_count value V h.1 h.3 v in let c = parts_of t h.0 h.1 h.4 in
+    let a = key_count key K h.0 h.2 k in
+    let b = value_count value V h.1 h.3 v in
+    let c = length_of_parts t h.0 h.1 h.4 in
     omega (arith, a, b, c)
 
 single_count : (key value : Node) (K V : List Kind → Type 0) (t : List Kind) → YieldsSinglePair key value K V t
-    → Counts key K → Counts value V → both key value ≤ length t
+    → Counts key K → Counts value V → anchors_of_pair key value ≤ length t
 single_count key value K V t (inl h) k v = marked_count key value K V t h k v
 single_count key value K V t (inr h) k v = left_out_value key value t h.0 (key_count key K t h.1 k)
 
 flow_count : (key value : Node) (K V : List Kind → Type 0) (t : List Kind) → YieldsFlowPair key value K V t
-    → Counts key K → Counts value V → both key value ≤ length t
+    → Counts key K → Counts value V → anchors_of_pair key value ≤ length t
 flow_count key value K V t (inl h) k v = marked_count key value K V t h k v
 flow_count key value K V t (inr (inl h)) k v = left_out_value key value t h.0 (key_count key K t h.1 k)
 flow_count key value K V t (inr (inr (inl h))) k v = left_out_key key value t h.0 (value_count value V t h.1 v)
 flow_count key value K V t (inr (inr (inr h))) k v = left_out_value key value t h.0 (k t h.1)
 
 block_count : (key value : Node) (K V : List Kind → Type 0) (others t : List Kind)
-    → YieldsBlockPair key value K V others t → Counts key K → Counts value V → both key value ≤ length t
+    → YieldsBlockPair key value K V others t → Counts key K → Counts value V → anchors_of_pair key value ≤ length t
 block_count key value K V others t (inl h) k v = marked_count key value K V t h k v
 block_count key value K V others t (inr (inl h)) k v = left_out_value key value t h.0 (key_count key K t h.2 k)
 block_count key value K V others t (inr (inr h)) k v = left_out_key key value t h.0 (value_count value V t h.1 v)
@@ -122,8 +124,8 @@ between_count : (opening closing : Kind) (inside t : List Kind) (n : ℕ) → t 
 between_count opening closing inside t n e l =
     let a = ap length e in let b = length-append inside (closing ∷ []) in omega (arith, a, b, l)
 
-closed : (ps : List Part) (p : Part) → anchor_of p ≡ None → anchors (ps ++ p ∷ []) ≡ anchors ps
-closed ps p e = let a = sum ps (p ∷ []) in let b : anchors (p ∷ []) ≡ 0 =
+anchors_before_end : (ps : List Part) (p : Part) → anchor_of p ≡ None → anchors (ps ++ p ∷ []) ≡ anchors ps
+anchors_before_end ps p e = let a = sum ps (p ∷ []) in let b : anchors (p ∷ []) ≡ 0 =
     ap (λ o. one_more_anchor o 0) e in omega (arith, a, b)
 
 -- what the entries of a collection count to
@@ -146,36 +148,36 @@ mapping_count : (qs : Pairs) (c : Context) (t : List Kind)
 mapping_count qs c t (inl h) f b = between_count _ _ h.0 t (anchors (pair_parts qs)) h.2 (f h.0 h.1)
 mapping_count qs c t (inr h) f b = between_count _ _ h.1.0 t (anchors (pair_parts qs)) h.1.2 (b h.1.0 h.1.1)
 
-joined : (n : Node) (ns : Nodes) (a b t : List Kind) → t ≡ a ++ b → anchors (node_parts n) ≤ length a
+entry_anchors_within : (n : Node) (ns : Nodes) (a b t : List Kind) → t ≡ a ++ b → anchors (node_parts n) ≤ length a
     → anchors (entry_parts ns) ≤ length b → anchors (entry_parts (MoreNodes n ns)) ≤ length t
-joined n ns a b t e x y =
-    let l = parts_of t a b e in let s = sum (node_parts n) (entry_parts ns) in omega (arith, l, s, x, y)
+entry_anchors_within n ns a b t e x y =
+    let l = length_of_parts t a b e in let s = sum (node_parts n) (entry_parts ns) in omega (arith, l, s, x, y)
 
 joined_behind : (n : Node) (ns : Nodes) (k : Kind) (a b t : List Kind) → t ≡ k ∷ (a ++ b)
     → anchors (node_parts n) ≤ length a → anchors (entry_parts ns) ≤ length b
     → anchors (entry_parts (MoreNodes n ns)) ≤ length t
 joined_behind n ns k a b t e x y =
-    let l = joined n ns a b (a ++ b) refl x y in let m = ap length e in omega (arith, l, m)
+    let l = entry_anchors_within n ns a b (a ++ b) refl x y in let m = ap length e in omega (arith, l, m)
 
-joined_pair : (key value : Node) (qs : Pairs) (a b t : List Kind) → t ≡ a ++ b → both key value ≤ length a
+joined_pair : (key value : Node) (qs : Pairs) (a b t : List Kind) → t ≡ a ++ b → anchors_of_pair key value ≤ length a
     → anchors (pair_parts qs) ≤ length b → anchors (pair_parts (MorePairs key value qs)) ≤ length t
-unfolding both
+unfolding anchors_of_pair
 joined_pair key value qs a b t e x y =
-    let l = parts_of t a b e in let s = sum (node_parts key) (node_parts value ++ pair_parts qs) in let r = sum
+    let l = length_of_parts t a b e in let s = sum (node_parts key) (node_parts value ++ pair_parts qs) in let r = sum
     (node_parts value) (pair_parts qs) in omega (arith, l, s, r, x, y)
 
 joined_pair_behind : (key value : Node) (qs : Pairs) (k : Kind) (a b t : List Kind) → t ≡ k ∷ (a ++ b)
-    → both key value ≤ length a → anchors (pair_parts qs) ≤ length b
+    → anchors_of_pair key value ≤ length a → anchors (pair_parts qs) ≤ length b
     → anchors (pair_parts (MorePairs key value qs)) ≤ length t
 joined_pair_behind key value qs k a b t e x y =
     let l = joined_pair key value qs a b (a ++ b) refl x y in let m = ap length e in omega (arith, l, m)
 
 -- a mapping of one pair, without properties
 single_entry : (p : Properties) (key value : Node) (t : List Kind) → p ≡ forest.no_properties
-    → both key value ≤ length t → anchors (node_parts (Map p (MorePairs key value NoPair))) ≤ length t
+    → anchors_of_pair key value ≤ length t → anchors (node_parts (Map p (MorePairs key value NoPair))) ≤ length t
 single_entry p key value t e x =
     let a = joined_pair key value NoPair t [] (t ++ []) refl x (omega arith) in
-    let b = closed (pair_parts (MorePairs key value NoPair)) CloseMapping refl in
+    let b = anchors_before_end (pair_parts (MorePairs key value NoPair)) CloseMapping refl in
     let c : one_more_anchor (option_map encode_utf8_all p.anchor)
     (anchors (pair_parts (MorePairs key value NoPair) ++ CloseMapping ∷ []))
     ≡ anchors (pair_parts (MorePairs key value NoPair) ++ CloseMapping ∷ []) =
@@ -191,11 +193,12 @@ mutual
   node_count (Alias name) c t h = omega arith
   node_count (Scalar p style value) c t h = with_properties p h.0 h.1 t 0 h.2 h.4 (omega arith)
   node_count (Seq p ns) c t h =
-      let e = closed (entry_parts ns) CloseSequence refl in let l =
+      let e = anchors_before_end (entry_parts ns) CloseSequence refl in let l =
       sequence_count ns c h.1 h.3 (λ u g. entries_count ns u g) (λ u g. block_entries_count ns u g) in
       with_properties p h.0 h.1 t (anchors (entry_parts ns ++ CloseSequence ∷ [])) h.2 h.4 (omega (arith, e, l))
   node_count (Map p qs) c t h =
-      let e = closed (pair_parts qs) CloseMapping refl in let l = mapping_count qs c h.1 h.3 (λ u g. pairs_count qs u g)
+      let e = anchors_before_end (pair_parts qs) CloseMapping refl in
+      let l = mapping_count qs c h.1 h.3 (λ u g. pairs_count qs u g)
       (λ u g. block_pairs_count qs u g) in
       with_properties p h.0 h.1 t (anchors (pair_parts qs ++ CloseMapping ∷ [])) h.2 h.4 (omega (arith, e, l))
 
@@ -209,7 +212,8 @@ mutual
   entries_count : (ns : Nodes) (t : List Kind) → YieldFlowEntries ns t → anchors (entry_parts ns) ≤ length t
   entries_count NoNode t h = omega arith
   entries_count (MoreNodes n ns) t h =
-      joined n ns h.0 h.1 t h.4 (entry_count n h.0 h.2 (λ g. node_count n InFlow h.0 g) (λ g. pair_entry_count n h.0 g))
+      entry_anchors_within n ns h.0 h.1 t h.4
+      (entry_count n h.0 h.2 (λ g. node_count n InFlow h.0 g) (λ g. pair_entry_count n h.0 g))
       (other_entries_count ns h.1 h.3)
 
   other_entries_count : (ns : Nodes) (t : List Kind) → YieldOtherFlowEntries ns t → anchors (entry_parts ns) ≤ length t
@@ -255,14 +259,14 @@ document_count : (d : Document) (free : Bool) (t : List Kind) → YieldsDocument
 document_count d free t (inl h) = node_count d.node InBlock t h.1.2
 document_count d free t (inr h) =
     let a = optional_count d.node (YieldsNode d.node InBlock) h.1.0 h.1.3 (λ g. node_count d.node InBlock h.1.0 g) in
-    let b = parts_of t (map directive_token d.directives) (DocumentStart ∷ h.1.0) h.1.4 in
+    let b = length_of_parts t (map directive_token d.directives) (DocumentStart ∷ h.1.0) h.1.4 in
     omega (arith, a, b)
 
 behind_count : (ds : Forest) (t : List Kind) → YieldsBehindDocument (YieldDocuments ds) t
     → ((free : Bool) (u : List Kind) → YieldDocuments ds free u → anchors (document_parts ds) ≤ length u)
     → anchors (document_parts ds) ≤ length t
 behind_count ds t h g =
-    let a = parts_of t h.0 (h.1 ++ h.2) h.5 in
+    let a = length_of_parts t h.0 (h.1 ++ h.2) h.5 in
     let b = length-append h.1 h.2 in
     let c : anchors (document_parts ds) ≤ length h.2 = by h.4 in
     omega (arith, a, b, c)
@@ -279,7 +283,7 @@ documents_count [] free t h = omega arith
 documents_count (d ∷ ds) free t h =
     let a = document_count d free h.0 h.2 in
     let b = behind_count ds h.1 h.3 (λ f u g. documents_count ds f u g) in
-    let c = parts_of t h.0 h.1 h.4 in
+    let c = length_of_parts t h.0 h.1 h.4 in
     let e = sum (node_parts d.node) (CloseDocument ∷ document_parts ds) in
     omega (arith, a, b, c, e)
 

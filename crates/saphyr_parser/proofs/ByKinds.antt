@@ -36,12 +36,12 @@ not_over : (s : State) → s ≢ state.End → placeless_state s ≢ state.End
 not_over (state.FlowSequenceEntryMappingEnd place) h = λ e. absurd (cc)
 not_over s h = h
 
-delivers : (p q : Result Told Refusal) → Same p q
+delivers_alike : (p q : Result Told Refusal) → Same p q
     → ((x : Told) → p ≡ Ok x → Alike (remaining_answer x.machine) (remaining_answer (placeless x.machine)))
     → Alike (deliver p remaining_answer) (deliver q remaining_answer)
-delivers (Ok x) q e h = let behind =
+delivers_alike (Ok x) q e h = let behind =
     h x refl in rw e (record { told = ap (λ es. x.what ∷ es) behind.told; fault = behind.fault })
-delivers (Err f) q e h = rw e.1 (record { told = refl; fault = refl })
+delivers_alike (Err f) q e h = rw e.1 (record { told = refl; fault = refl })
 
 as_before : (a c b d : Answer) → a ≡ c → b ≡ d → Alike c d → Alike a b
 as_before a c b d e f h =
@@ -61,7 +61,7 @@ first_step m next = by (ended m.state)
     by (inl e) = as_before _ _ _ _ (over m e) (over (placeless m) (over_too m.state e))
         (record { told = refl; fault = refl })
     by (inr h) = as_before _ _ _ _ (unroll m h) (unroll (placeless m) (not_over m.state h))
-        (delivers (event_step_at m.state m) (event_step_at (placeless_state m.state) (placeless m))
+        (delivers_alike (event_step_at m.state m) (event_step_at (placeless_state m.state) (placeless m))
         (steps_same m.state m) next)
 
 runs : (n : ℕ) (m : Machine) → machine_size m < n → Alike (remaining_answer m) (remaining_answer (placeless m))

@@ -8,7 +8,7 @@ use Rattle.saphyr_scanner.specs.Grammar.Forest.{handle_bytes, Directive, Version
 use Rattle.saphyr_scanner.specs.Grammar.Tokens.{Kind, DocumentStart, directive_token}
 use Rattle.saphyr_scanner.specs.Grammar.TokenGrammar.{AreMarks, AreEndsAndMarks}
 use Rattle.saphyr_parser.specs.declared.parser.state.State.{State}
-use Rattle.saphyr_parser.specs.Steps.Machine.{◌>>=◌, Machine, given, is_listed, listed}
+use Rattle.saphyr_parser.specs.Steps.Machine.{◌>>=◌, Machine, with_meaning, is_listed, with_name}
 use Rattle.saphyr_parser.specs.Steps.Documents.{is_mark, is_end_or_mark, unpassed_token_from, unpassed_token, Declared, none_declared, directives_from, directives}
 use Rattle.saphyr_parser.proofs.Told.Telling.{Spans, Memory, dressed, at}
 use Rattle.saphyr_parser.proofs.Remembering.{declaring}
@@ -61,7 +61,7 @@ AreFree d (x ∷ xs) = IsFree d x × AreFree d xs
 
 abbrev pub declared_by : Directive → Declared → Declared
 declared_by (Version _ _) d = record { version = true; handles = d.handles }
-declared_by (TagPrefix handle _) d = record { version = d.version; handles = listed (handle_bytes handle) d.handles }
+declared_by (TagPrefix handle _) d = record { version = d.version; handles = with_name (handle_bytes handle) d.handles }
 declared_by (Reserved _) d = d
 
 still_free : (x y : Directive) (d : Declared) → GoesWith x y → IsFree d y → IsFree (declared_by x d) y
@@ -113,7 +113,7 @@ directives_pass (TagPrefix handle prefix ∷ ds) d f ks x ss e c h =
     let rest : List Kind = map directive_token ds ++ DocumentStart ∷ ks in
     let e' : Memory = record {
       anchors = e.anchors;
-      prefixes = given (handle_bytes handle) (encode_utf8_all prefix)
+      prefixes = with_meaning (handle_bytes handle) (encode_utf8_all prefix)
           e.prefixes;
       keep = e.keep;
     } in

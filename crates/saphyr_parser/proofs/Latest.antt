@@ -49,24 +49,24 @@ pub all : (name : List ℕ) (front : List Part) (id : ℕ) → IsLatest name fro
 all name front id h = ap (latest name) h.6 ∙ each name h.0 h.1 h.2 h.3 h.4 ∙ ap (λ t. Some t) (sym h.5)
 
 -- where a part opens no document and has no anchor of the name, the latest one stands before it
-stays : (name : List ℕ) (p : Part) (ps : List Part) (id : ℕ) → opens_document p ≡ false
+latest_stays : (name : List ℕ) (p : Part) (ps : List Part) (id : ℕ) → opens_document p ≡ false
     → is_named name (anchor_of p) ≡ false → IsLatest name ps id → IsLatest name (p ∷ ps) id
-stays name p ps id e f h =
+latest_stays name p ps id e f h =
     let other : anchor_of p ≢ Some name = λ g. let k : true ≡ false = sym (named name) ∙ ap (is_named name) (sym g)
     ∙ f in cc in
     (p ∷ h.0, h.1, h.2, (e, other, h.3), h.4, h.5, ap (λ t. p ∷ t) h.6)
 
 -- the answer at a part, by the two tests on it
-step : (name : List ℕ) (p : Part) (ps : List Part) (id : ℕ) → (latest name ps ≡ Some id → IsLatest name ps id)
+latest_at_part : (name : List ℕ) (p : Part) (ps : List Part) (id : ℕ) → (latest name ps ≡ Some id → IsLatest name ps id)
     → (b d : Bool) → opens_document p ≡ b → is_named name (anchor_of p) ≡ d
     → (if b then None else (if d then Some (suc (anchors ps)) else latest name ps)) ≡ Some id
     → IsLatest name (p ∷ ps) id
-step name p ps id others true d e f h = cc
-step name p ps id others false true e f h =
+latest_at_part name p ps id others true d e f h = cc
+latest_at_part name p ps id others false true e f h =
     ([], p, ps, tt, named_only name (anchor_of p) f, (let k : suc (anchors ps) ≡ id = cc in sym k), refl)
-step name p ps id others false false e f h = stays name p ps id e f (others h)
+latest_at_part name p ps id others false false e f h = latest_stays name p ps id e f (others h)
 
 pub found : (name : List ℕ) (front : List Part) (id : ℕ) → latest name front ≡ Some id → IsLatest name front id
 found name [] id h = cc
 found name (p ∷ ps) id h =
-    step name p ps id (found name ps id) (opens_document p) (is_named name (anchor_of p)) refl refl h
+    latest_at_part name p ps id (found name ps id) (opens_document p) (is_named name (anchor_of p)) refl refl h

@@ -8,7 +8,7 @@ use Rattle.saphyr_parser.specs.declared.parser.fault.Fault.TheVariants as faults
 use Rattle.saphyr_parser.specs.declared.parser.receiver.Refused.{Refused}
 use Rattle.saphyr_parser.specs.Events.{Happening}
 use Rattle.saphyr_parser.specs.Answer as answer
-use Rattle.saphyr_parser.specs.Answer.{Answer, Ending, with_first_event, failed}
+use Rattle.saphyr_parser.specs.Answer.{Answer, Ending, with_first_event, fault_alone}
 use Rattle.saphyr_parser.specs.Cursor.{EventCursor, Kept, IsKept, IsUnmoved, IsUntold, Stays, count, finished_behind, inside_behind, to_come, kept_answer}
 use Rattle.saphyr_parser.specs.Calls.{Advances, AdvancesOver, Looks}
 use Rattle.saphyr_parser.specs.Loading.{Portion, is_last, with_event, portion, to_send, inside_over, finished_over, Remembered, PassedOver, Keeps, Tells, Sends, SendsOne, Stopped, Lost, Finished, Faulted, Loads}
@@ -60,10 +60,10 @@ part_before : (multi : Bool) (e : Happening × Span) (a mid : Answer) → mid �
     → part_of multi mid ≡ behind_first (is_last multi e.0) e (part_of multi a)
 part_before multi e a mid is = ap (part_of multi) is
 
-cut : (last : Bool) (e : Happening × Span) (p : Portion)
+first_is_sent : (last : Bool) (e : Happening × Span) (p : Portion)
     → (l : List (Happening × Span)) × ((behind_first last e p).sent ≡ e ∷ l)
-cut true e p = ([], refl)
-cut false e p = (p.sent, refl)
+first_is_sent true e p = ([], refl)
+first_is_sent false e p = (p.sent, refl)
 
 remembered_one : (mid new : EventCursor) (e : Happening × Span) → Advances e mid new → Remembered mid (e ∷ []) new
 remembered_one mid new e h = let r = remembers e mid new h in record { inside = r.0; finished = r.1 }
@@ -98,7 +98,7 @@ with_kept : (k : Kept) → k.given ≡ false → Some k ≡ Some (record { fault
 with_kept k h = ap (λ (b : Bool). let x : Kept = record { fault = k.fault; given = b } in Some x) h
 
 settled : (new : EventCursor) (k : Kept) → new.kept ≡ Some k → new.current ≡ None → IsUntold new.current new.kept
-    → to_come new ≡ kept_answer new.kept → Keeps k.fault new × (to_come new ≡ failed k.fault)
+    → to_come new ≡ kept_answer new.kept → Keeps k.fault new × (to_come new ≡ fault_alone k.fault)
 settled new k is nothing untold left =
     let here : IsUntold None (Some k) = subst (λ (o : Option Kept). IsUntold None o) is
     (subst (λ (o : Option (Happening × Span)). IsUntold o new.kept) nothing untold) in
@@ -108,7 +108,8 @@ settled new k is nothing untold left =
 other : (m : _) (info : _) → (let o : Option Ending = Some (answer.Refused m info) in o) ≡ Some answer.OutOfMemory → ⊥
 other m info e = cc
 
-still_refused : (mid new : Answer) (m : _) (info : _) → Stays mid new → new ≡ failed (answer.Refused m info) → new ≡ mid
+still_refused : (mid new : Answer) (m : _) (info : _)
+    → Stays mid new → new ≡ fault_alone (answer.Refused m info) → new ≡ mid
 still_refused mid new m info (inl e) is = e
 still_refused mid new m info (inr (p, e)) is = absurd (other m info (ap (λ (a : Answer). a.fault) (sym is ∙ e)))
 
@@ -116,7 +117,7 @@ abbrev fault_of : Option Ending → Ending
 fault_of None = answer.OutOfMemory
 fault_of (Some f) = f
 
-same_fault : (f g : Ending) → failed f ≡ failed g → f ≡ g
+same_fault : (f g : Ending) → fault_alone f ≡ fault_alone g → f ≡ g
 same_fault f g e = ap (λ (a : Answer). fault_of a.fault) e
 
 count_part : (last : Bool) (e : Happening × Span) (p : Portion)
@@ -124,11 +125,11 @@ count_part : (last : Bool) (e : Happening × Span) (p : Portion)
 count_part true e p = omega arith
 count_part false e p = omega arith
 
-some_left : (multi : Bool) (es : List (Happening × Span)) (f : Option Ending)
+some_of_portion : (multi : Bool) (es : List (Happening × Span)) (f : Option Ending)
     → 0 < count (record { events = es; fault = f })
     → 0 < count (record { events = (portion multi es f).sent; fault = (portion multi es f).fault })
-some_left multi [] f h = h
-some_left multi (e ∷ es) f h = count_part (is_last multi e.0) e (portion multi es f)
+some_of_portion multi [] f h = h
+some_of_portion multi (e ∷ es) f h = count_part (is_last multi e.0) e (portion multi es f)
 
 module _ {R : Type 0} (receives : R → Happening × Span → Result (Unit {0}) Refused → R → Type 0) where
   one_more : (r q s : R) (es : List (Happening × Span)) (e : Happening × Span) → Sends receives r es q
@@ -196,7 +197,7 @@ module _ {R : Type 0} (receives : R → Happening × Span → Result (Unit {0}) 
       → Going multi old first last mid → Advances e mid new × (new.kept ≡ None) → receives last e (Err (record {})) next
       → Stopped receives (to_send multi old) old first next new
   refuses multi old mid new first last next e so is refused =
-      let c = cut (is_last multi e.0) e (to_send multi new) in
+      let c = first_is_sent (is_last multi e.0) e (to_send multi new) in
       record {
         sent = so.sent;
         event = e;
@@ -246,7 +247,7 @@ module _ {R : Type 0} (receives : R → Happening × Span → Result (Unit {0}) 
       }
 
   faulted : (multi : Bool) (old mid new : EventCursor) (first last : R) (f : Ending) → Going multi old first last mid
-      → Looks mid new → to_come new ≡ to_come mid → to_come new ≡ failed f → IsUnmoved mid new → Keeps f new
+      → Looks mid new → to_come new ≡ to_come mid → to_come new ≡ fault_alone f → IsUnmoved mid new → Keeps f new
       → Faulted receives f (to_send multi old) old first last new
   faulted multi old mid new first last f so looks is over same keeps =
       let p = all_sent multi old mid first last (Some f) so (sym is ∙ over) in
@@ -261,7 +262,8 @@ module _ {R : Type 0} (receives : R → Happening × Span → Result (Unit {0}) 
       }
 
   lost : (multi : Bool) (old mid new : EventCursor) (first last : R) (f : Ending) → Going multi old first last mid
-      → Looks mid new → Stays (to_come mid) (to_come new) → to_come new ≡ failed f → IsUnmoved mid new → Keeps f new
+      → Looks mid new → Stays (to_come mid) (to_come new) → to_come new ≡ fault_alone f
+      → IsUnmoved mid new → Keeps f new
       → Lost receives (to_send multi old) old first last new
   lost multi old mid new first last f so looks (inl is) over same keeps =
       let p = all_sent multi old mid first last (Some f) so (sym is ∙ over) in
@@ -282,7 +284,9 @@ module _ {R : Type 0} (receives : R → Happening × Span → Result (Unit {0}) 
     unsent = (to_send multi mid).sent;
     fault = f;
     part = ap (λ (q : Portion). q.sent) so.part;
-    left = rw (ap (λ (q : Portion). q.fault) so.part) (some_left multi (to_come mid).events (to_come mid).fault more);
+    left =
+        rw (ap (λ (q : Portion). q.fault) so.part)
+        (some_of_portion multi (to_come mid).events (to_come mid).fault more);
     cause = inl (same_fault f answer.OutOfMemory (sym over ∙ is));
     sends = so.sends;
     remembered = unmoved_too old mid new so.sent so.passed.remembered same;

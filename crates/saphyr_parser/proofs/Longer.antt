@@ -68,14 +68,14 @@ Rest z o r q = End z r.pieces × (r.refusal ≡ o) × (q ≡ more z r)
 abbrev Over : More → Option Refusal → DocumentMarker → Remaining → Remaining → Type 0
 Over z o d r q = ((z.marker ≡ d) × (r.pieces ≡ [])) × (r.refusal ≡ o) × (q ≡ more z r)
 
-behind :
+longer_behind :
     (z : More) (o : Option Refusal) (k : Kind) (r q : Remaining) → IsLastOr z.marker (End z r.pieces) r.pieces k
     → r.refusal ≡ o → q ≡ more z r → Behind (Rest z o) (Over z o) k r q
-behind z o tokens.DocumentStart r q (inl e) i y = inr (e, i, y)
-behind z o tokens.DocumentStart r q (inr e) i y = inl (e, i, y)
-behind z o tokens.DocumentEnd r q (inl e) i y = inr (e, i, y)
-behind z o tokens.DocumentEnd r q (inr e) i y = inl (e, i, y)
-behind z o _ r q e i y = (e, i, y)
+longer_behind z o tokens.DocumentStart r q (inl e) i y = inr (e, i, y)
+longer_behind z o tokens.DocumentStart r q (inr e) i y = inl (e, i, y)
+longer_behind z o tokens.DocumentEnd r q (inl e) i y = inr (e, i, y)
+longer_behind z o tokens.DocumentEnd r q (inr e) i y = inl (e, i, y)
+longer_behind z o _ r q e i y = (e, i, y)
 
 abbrev with_longer : More → Option Refusal → Beside
 with_longer z o =
@@ -96,7 +96,7 @@ with_longer z o =
             start = refl;
             end = refl;
             behind =
-                behind z o t.kind _ _ i.0 i.1
+                longer_behind z o t.kind _ _ i.0 i.1
                 (ap (λ (r : Remaining). record { pieces = ts ++ z.pieces; refusal = r.refusal }) i.2);
           };
     }
@@ -114,11 +114,11 @@ awaits : (z : More) (d : DocumentMarker) (m : Machine) → z.marker ≡ d → be
 awaits z Starts m e a = inr (e, a.0, a.1)
 awaits z Ends m e a = inl (e, a)
 
-left : (z : More) (o : Option Refusal) (m n : Machine) → Left (with_longer z o) m n
+longer_left : (z : More) (o : Option Refusal) (m n : Machine) → Left (with_longer z o) m n
     → IsLeft z m × (m.tokens.refusal ≡ o) × (n ≡ longer z m)
-left z o m n (inl near) =
+longer_left z o m n (inl near) =
     (inl near.tokens.0, near.tokens.1, becomes_longer z o _ m n near near.tokens.2)
-left z o m n (inr (d, over, a)) = (
+longer_left z o m n (inr (d, over, a)) = (
   inr (over.tokens.0.1, awaits z d m over.tokens.0.0 a),
   over.tokens.1,
   becomes_longer z o _ m n over over.tokens.2,
@@ -126,7 +126,7 @@ left z o m n (inr (d, over, a)) = (
 
 agrees : (z : More) (o : Option Refusal) (p q : Result Told Refusal) → Tells (with_longer z o) p q → Agrees z o p q
 agrees z o (Ok x) (Ok y) h =
-    let l = left z o x.machine y.machine h.machine in
+    let l = longer_left z o x.machine y.machine h.machine in
     (l.0, l.1, ap Ok (tells_so (with_longer z o) (λ p. p) x y _ (λ p q e. e) h l.2))
 agrees z o (Ok x) (Err g) h = absurd h
 agrees z o (Err f) q (inl e) = inl e

@@ -12,7 +12,7 @@ use Rattle.saphyr_parser.specs.Anchors as part
 use Rattle.saphyr_parser.specs.TagResolution.{prefix_in, declared, default_prefix}
 use Rattle.saphyr_parser.specs.TagResolution as tag
 use Rattle.saphyr_parser.specs.ForestEvents.{before_all, event_of_part, events_behind}
-use Rattle.saphyr_parser.specs.Steps.Machine.{Names, meaning, given, next_id}
+use Rattle.saphyr_parser.specs.Steps.Machine.{Names, meaning, with_meaning, next_id}
 use Rattle.saphyr_parser.proofs.Told.Telling.{Memory}
 use Rattle.saphyr_parser.proofs.Remembering.{noted, declaring, after, own_id, resolve, resolve_any, with_properties, event_in, events_in}
 use Rattle.saphyr_parser.proofs.NameLaws.{different, given_meaning}
@@ -177,7 +177,7 @@ declaring_meaning handle (Version _ _ ∷ ds) names c = declaring_meaning handle
 declaring_meaning handle (Reserved _ ∷ ds) names c = declaring_meaning handle ds names c.1
 declaring_meaning handle (TagPrefix other prefix ∷ ds) names c =
     let test : Bool = bytes_eq (handle_bytes handle) (handle_bytes other) in
-    declaring_meaning handle ds (given (handle_bytes other) (encode_utf8_all prefix) names) c.1
+    declaring_meaning handle ds (with_meaning (handle_bytes other) (encode_utf8_all prefix) names) c.1
     ∙ ap (option_or (prefix_in handle ds))
     (given_meaning (handle_bytes handle) (handle_bytes other) (encode_utf8_all prefix) names)
     ∙ one_prefix test (encode_utf8_all prefix) (prefix_in handle ds) (meaning (handle_bytes handle) names)

@@ -9,7 +9,7 @@ use Rattle.std.specs.Str.{bytes_eq}
 use Rattle.std.proofs.lemmas.Map.Text.{is_eq-slice_cmp}
 use Rattle.std.proofs.lemmas.Map.Lookups.{exact_bytes}
 use Rattle.std.proofs.lemmas.Slice.Eq.{bytes_eq-Decides}
-use Rattle.saphyr_parser.specs.Steps.Machine.{Names, meaning, given, is_listed, listed}
+use Rattle.saphyr_parser.specs.Steps.Machine.{Names, meaning, with_meaning, is_listed, with_name}
 
 -- a name that comes behind another is another name
 behind_is_other : (a b : List ℕ) → slice_cmp nat_cmp a b ≡ Greater → bytes_eq a b ≡ false
@@ -29,11 +29,11 @@ twice : {X : Type 0} (b : Bool) (x y : X) (o : Option X) → cond b (Some x) o �
 twice true x y o = refl
 twice false x y o = refl
 
-found : {X : Type 0} → List ℕ → Names X → Option X
-found name es = lookup (λ (k : List ℕ). bytes_eq name k) es
+meaning_found : {X : Type 0} → List ℕ → Names X → Option X
+meaning_found name es = lookup (λ (k : List ℕ). bytes_eq name k) es
 
-found_meaning : {X : Type 0} (name : List ℕ) (es : Names X) → meaning name es ≡ found name es
-unfolding found
+found_meaning : {X : Type 0} (name : List ℕ) (es : Names X) → meaning name es ≡ meaning_found name es
+unfolding meaning_found
 found_meaning name [] = refl
 found_meaning {X} name (e ∷ es) =
     ap (λ (b : Bool). cond b (Some e.1) (meaning name es)) (is_eq-slice_cmp name e.0)
@@ -48,16 +48,16 @@ not_both name other key h a b =
     let no : true ≡ false = sym z ∙ h in cc
 
 given_found : {X : Type 0} (name other : List ℕ) (x : X) (es : Names X)
-    → found name (given other x es) ≡ cond (bytes_eq name other) (Some x) (found name es)
-unfolding found
+    → meaning_found name (with_meaning other x es) ≡ cond (bytes_eq name other) (Some x) (meaning_found name es)
+unfolding meaning_found
 given_found name other x [] = refl
 given_found {X} name other x (e ∷ es) = by (slice_cmp nat_cmp other e.0) refl (given_found name other x es)
   where
     by : (o : Ordering) → slice_cmp nat_cmp other e.0 ≡ o
-        → lookup (λ (k : List ℕ). bytes_eq name k) (given other x es)
+        → lookup (λ (k : List ℕ). bytes_eq name k) (with_meaning other x es)
         ≡ cond (bytes_eq name other) (Some x) (lookup (λ (k : List ℕ). bytes_eq name k) es)
         → lookup (λ (k : List ℕ). bytes_eq name k)
-        (match_ordering o ((other, x) ∷ e ∷ es) ((e.0, x) ∷ es) (e ∷ given other x es))
+        (match_ordering o ((other, x) ∷ e ∷ es) ((e.0, x) ∷ es) (e ∷ with_meaning other x es))
         ≡ cond (bytes_eq name other) (Some x)
         (cond (bytes_eq name e.0) (Some e.1) (lookup (λ (k : List ℕ). bytes_eq name k) es))
     by Less h ih = refl
@@ -70,38 +70,38 @@ given_found {X} name other x (e ∷ es) = by (slice_cmp nat_cmp other e.0) refl 
         (not_both name other e.0 (behind_is_other other e.0 h))
 
 pub given_meaning : {X : Type 0} (name other : List ℕ) (x : X) (es : Names X)
-    → meaning name (given other x es) ≡ (if bytes_eq name other then Some x else meaning name es)
+    → meaning name (with_meaning other x es) ≡ (if bytes_eq name other then Some x else meaning name es)
 given_meaning {X} name other x es =
-    found_meaning name (given other x es) ∙ given_found name other x es
+    found_meaning name (with_meaning other x es) ∙ given_found name other x es
     ∙ ap (λ (o : Option X). cond (bytes_eq name other) (Some x) o) (sym (found_meaning name es))
 
 -- ## Lists of names
 
-either : (a b r : Bool) → (a || (b || r)) ≡ (b || (a || r))
-either true true r = refl
-either true false r = refl
-either false true r = refl
-either false false r = refl
+or_swapped : (a b r : Bool) → (a || (b || r)) ≡ (b || (a || r))
+or_swapped true true r = refl
+or_swapped true false r = refl
+or_swapped false true r = refl
+or_swapped false false r = refl
 
 once : (a r : Bool) → (a || r) ≡ (a || (a || r))
 once true r = refl
 once false r = refl
 
 pub listed_test : (name other : List ℕ) (names : List (List ℕ))
-    → is_listed name (listed other names) ≡ (is_at (slice_cmp nat_cmp name) other || is_listed name names)
+    → is_listed name (with_name other names) ≡ (is_at (slice_cmp nat_cmp name) other || is_listed name names)
 listed_test name other [] = refl
 listed_test name other (k ∷ ks) = by (slice_cmp nat_cmp other k) refl (listed_test name other ks)
   where
     by : (o : Ordering) → slice_cmp nat_cmp other k ≡ o
-        → is_listed name (listed other ks) ≡ (is_at (slice_cmp nat_cmp name) other || is_listed name ks)
-        → is_listed name (match_ordering o (other ∷ k ∷ ks) (k ∷ ks) (k ∷ listed other ks))
+        → is_listed name (with_name other ks) ≡ (is_at (slice_cmp nat_cmp name) other || is_listed name ks)
+        → is_listed name (match_ordering o (other ∷ k ∷ ks) (k ∷ ks) (k ∷ with_name other ks))
         ≡ (is_at (slice_cmp nat_cmp name) other || (is_at (slice_cmp nat_cmp name) k || is_listed name ks))
     by Less h ih = refl
     by Equal h ih = once (is_at (slice_cmp nat_cmp name) k) (is_listed name ks)
         ∙ ap (λ (x : List ℕ). is_at (slice_cmp nat_cmp name) x
         || (is_at (slice_cmp nat_cmp name) k || is_listed name ks)) (sym (exact_bytes other k h))
     by Greater h ih = ap (λ b. is_at (slice_cmp nat_cmp name) k || b) ih
-        ∙ either (is_at (slice_cmp nat_cmp name) k) (is_at (slice_cmp nat_cmp name) other) (is_listed name ks)
+        ∙ or_swapped (is_at (slice_cmp nat_cmp name) k) (is_at (slice_cmp nat_cmp name) other) (is_listed name ks)
 
 pub different : (a b : List ℕ) → a ≢ b → bytes_eq a b ≡ false
 different a b h = by (bytes_eq a b) refl
@@ -112,7 +112,7 @@ different a b h = by (bytes_eq a b) refl
 
 -- another name is listed if it was
 pub still_unlisted : (name other : List ℕ) (names : List (List ℕ)) → other ≢ name → is_listed name names ≡ false
-    → is_listed name (listed other names) ≡ false
+    → is_listed name (with_name other names) ≡ false
 still_unlisted name other names h u =
     let test : is_at (slice_cmp nat_cmp name) other ≡ false = is_eq-slice_cmp name other
     ∙ different name other (λ e. h (sym e)) in

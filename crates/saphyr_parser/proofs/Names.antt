@@ -9,7 +9,7 @@ use Rattle.std.specs.Map.{lookup, keys_of}
 use Rattle.std.specs.Ordering.{nat_cmp, match_ordering}
 use Rattle.std.specs.declared.cmp.Ordering.{Ordering}
 use Rattle.std.specs.declared.cmp.Ordering.TheVariants.{Less, Equal, Greater}
-use Rattle.saphyr_parser.specs.Steps.Machine.{Names, meaning, given, is_listed, listed}
+use Rattle.saphyr_parser.specs.Steps.Machine.{Names, meaning, with_meaning, is_listed, with_name}
 use Rattle.saphyr_parser.specs.Names.{ids_of, texts_of, names_of}
 
 abbrev pub seen : {A X Z : Type 0} → (X → Z) → List (String A × X) → Names Z
@@ -35,36 +35,36 @@ split : {X Z : Type 0} (f : X → Z) (b : Bool) (x : X) (o : Option X)
 split f true x o = refl
 split f false x o = refl
 
-found : {A X Z : Type 0} (f : X → Z) (name : List ℕ) (es : List (String A × X))
+found_by_bytes : {A X Z : Type 0} (f : X → Z) (name : List ℕ) (es : List (String A × X))
     → option_map f (lookup (is_at (λ (k : String A). slice_cmp nat_cmp name (string_bytes k))) es)
     ≡ meaning name (seen f es)
-found f name [] = refl
-found {A} {X} {Z} f name (e ∷ es) =
+found_by_bytes f name [] = refl
+found_by_bytes {A} {X} {Z} f name (e ∷ es) =
     let here : Bool = is_at (slice_cmp nat_cmp name) (string_bytes e.0) in
     split f here e.1 (lookup (is_at (λ (k : String A). slice_cmp nat_cmp name (string_bytes k))) es)
-    ∙ ap (λ (o : Option Z). cond here (Some (f e.1)) o) (found f name es)
+    ∙ ap (λ (o : Option Z). cond here (Some (f e.1)) o) (found_by_bytes f name es)
 
 kept : {X : Type 0} (o : Option X) → option_map (λ x. x) o ≡ o
 kept None = refl
 kept (Some x) = refl
 
 pub ids_given : {A : Type 0} (m n : BTreeMap (String A) ℕ) (name : String A) (id : ℕ)
-    → n.entries ≡ insert_entry string_cmp m.entries name id → ids_of n ≡ given (string_bytes name) id (ids_of m)
+    → n.entries ≡ insert_entry string_cmp m.entries name id → ids_of n ≡ with_meaning (string_bytes name) id (ids_of m)
 ids_given m n name id e = rw e (inserted (λ (x : ℕ). x) m.entries name id)
 
 pub ids_meaning : {A : Type 0} (m : BTreeMap (String A) ℕ) (name : List ℕ)
     → get_by (λ (k : String A). slice_cmp nat_cmp name (string_bytes k)) m ≡ meaning name (ids_of m)
-ids_meaning m name = sym (kept _) ∙ found (λ (x : ℕ). x) name m.entries
+ids_meaning m name = sym (kept _) ∙ found_by_bytes (λ (x : ℕ). x) name m.entries
 
 pub texts_given : {A : Type 0} (m n : BTreeMap (String A) (String A)) (handle prefix : String A)
     → n.entries ≡ insert_entry string_cmp m.entries handle prefix
-    → texts_of n ≡ given (string_bytes handle) (string_bytes prefix) (texts_of m)
+    → texts_of n ≡ with_meaning (string_bytes handle) (string_bytes prefix) (texts_of m)
 texts_given m n handle prefix e = rw e (inserted string_bytes m.entries handle prefix)
 
 pub texts_meaning : {A : Type 0} (m : BTreeMap (String A) (String A)) (handle : List ℕ)
     → option_map string_bytes (get_by (λ (k : String A). slice_cmp nat_cmp handle (string_bytes k)) m)
     ≡ meaning handle (texts_of m)
-texts_meaning m handle = found string_bytes handle m.entries
+texts_meaning m handle = found_by_bytes string_bytes handle m.entries
 
 pub texts_empty : {A : Type 0} (m : BTreeMap (String A) (String A)) → length m.entries ≡ 0 → texts_of m ≡ []
 texts_empty m e = none m.entries e
@@ -81,10 +81,10 @@ names_with Greater a b c = refl
 
 -- a name that is given a meaning is listed among the names
 pub given_names : {Z : Type 0} (name : List ℕ) (z : Z) (names : Names Z)
-    → keys_of (given name z names) ≡ listed name (keys_of names)
+    → keys_of (with_meaning name z names) ≡ with_name name (keys_of names)
 given_names name z [] = refl
 given_names {Z} name z (e ∷ es) =
-    names_with (slice_cmp nat_cmp name e.0) ((name, z) ∷ e ∷ es) ((e.0, z) ∷ es) (e ∷ given name z es)
+    names_with (slice_cmp nat_cmp name e.0) ((name, z) ∷ e ∷ es) ((e.0, z) ∷ es) (e ∷ with_meaning name z es)
     ∙ ap (λ (r : List (List ℕ)). match_ordering (slice_cmp nat_cmp name e.0) (name ∷ e.0 ∷ keys_of es)
     (e.0 ∷ keys_of es) (e.0 ∷ r)) (given_names name z es)
 
@@ -123,7 +123,7 @@ among Equal a b c = refl
 among Greater a b c = refl
 
 added : {A : Type 0} (ks : List (String A)) (k : String A)
-    → texts (insert_key string_cmp ks k) ≡ listed (string_bytes k) (texts ks)
+    → texts (insert_key string_cmp ks k) ≡ with_name (string_bytes k) (texts ks)
 added [] k = refl
 added (x ∷ ks) k =
     among (string_cmp k x) (k ∷ x ∷ ks) (x ∷ ks) (x ∷ insert_key string_cmp ks k)
@@ -136,7 +136,7 @@ has [] name = refl
 has (x ∷ ks) name = ap (λ b. is_at (slice_cmp nat_cmp name) (string_bytes x) || b) (has ks name)
 
 pub names_listed : {A : Type 0} (s n : BTreeSet (String A)) (name : String A)
-    → n.keys ≡ insert_key string_cmp s.keys name → names_of n ≡ listed (string_bytes name) (names_of s)
+    → n.keys ≡ insert_key string_cmp s.keys name → names_of n ≡ with_name (string_bytes name) (names_of s)
 names_listed s n name e = rw e (added s.keys name)
 
 pub name_listed : {A : Type 0} (s : BTreeSet (String A)) (name : List ℕ)

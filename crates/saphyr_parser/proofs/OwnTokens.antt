@@ -72,9 +72,6 @@ abbrev pub StartsAt : List Piece → Marker → NodeProperties → Type 0
 StartsAt [] m q = q.start ≡ m
 StartsAt _ m q = Unit {0}
 
-from_to : Marker → Marker → Span
-from_to a b = record { start = a; end = b }
-
 pub content_spans : (front : List Piece) (q : NodeProperties) (t : Piece) → Shape front q → StartsAt front t.span.start
     q
     → SpansAll (front ++ t ∷ []) (record { start = q.start; end = t.span.end })

@@ -13,22 +13,22 @@ use Rattle.saphyr_scanner.specs.Views.Tokens.{Piece, Remaining}
 use Rattle.saphyr_parser.specs.Steps.Machine.{◌>>=◌, Machine, taken_token, taken_token_from, with_pieces, Names, is_listed}
 use Rattle.saphyr_parser.specs.Steps.Documents.{unpassed_token, unpassed_token_from, Declared, is_directive, directive_at, directives, directives_from}
 
-within : {A : Type 0} (x y : A) → (let r : Result A Refusal = Ok x in r) ≡ Ok y → x ≡ y
-within x y e = cc
+ok_inside : {A : Type 0} (x y : A) → (let r : Result A Refusal = Ok x in r) ≡ Ok y → x ≡ y
+ok_inside x y e = cc
 
 first_is : (t u : Piece) (m n : Machine) → (let r : Result (Piece × Machine) Refusal = Ok (t, m) in r) ≡ Ok (u, n)
     → t ≡ u
-first_is t u m n e = ap (λ (p : Piece × Machine). p.0) (within (t, m) (u, n) e)
+first_is t u m n e = ap (λ (p : Piece × Machine). p.0) (ok_inside (t, m) (u, n) e)
 
-second_is : (t u : Piece) (m n : Machine) → (let r : Result (Piece × Machine) Refusal = Ok (t, m) in r) ≡ Ok (u, n)
+same_machine : (t u : Piece) (m n : Machine) → (let r : Result (Piece × Machine) Refusal = Ok (t, m) in r) ≡ Ok (u, n)
     → m ≡ n
-second_is t u m n e = ap (λ (p : Piece × Machine). p.1) (within (t, m) (u, n) e)
+same_machine t u m n e = ap (λ (p : Piece × Machine). p.1) (ok_inside (t, m) (u, n) e)
 
 shorter_from : (ts : List Piece) (m n : Machine) (t : Piece) → taken_token_from ts m ≡ Ok (t, n)
     → length n.tokens.pieces < length ts
 shorter_from [] m n t e = absurd (cc)
 shorter_from (x ∷ ts) m n t e =
-    subst (λ (k : Machine). length k.tokens.pieces < length (x ∷ ts)) (second_is x t (with_pieces ts m) n e)
+    subst (λ (k : Machine). length k.tokens.pieces < length (x ∷ ts)) (same_machine x t (with_pieces ts m) n e)
     (omega arith)
 
 pub shorter : (m n : Machine) (t : Piece) → taken_token m ≡ Ok (t, n) → length n.tokens.pieces < length m.tokens.pieces
@@ -37,7 +37,7 @@ shorter m n t e = shorter_from m.tokens.pieces m n t e
 prefixes_from : (ts : List Piece) (m n : Machine) (t : Piece) → taken_token_from ts m ≡ Ok (t, n)
     → n.prefixes ≡ m.prefixes
 prefixes_from [] m n t e = absurd (cc)
-prefixes_from (x ∷ ts) m n t e = ap (λ (k : Machine). k.prefixes) (sym (second_is x t (with_pieces ts m) n e))
+prefixes_from (x ∷ ts) m n t e = ap (λ (k : Machine). k.prefixes) (sym (same_machine x t (with_pieces ts m) n e))
 
 -- taking a token declares nothing
 pub prefixes_kept : (m n : Machine) (t : Piece) → taken_token m ≡ Ok (t, n) → n.prefixes ≡ m.prefixes
@@ -50,7 +50,7 @@ passes_from : (passed : Kind → Bool) (ts : List Piece) (m n : Machine) (t : Pi
 passes_from passed [] m n t e h = absurd (cc)
 passes_from passed (x ∷ ts) m n t e h =
     let test : passed x.kind ≡ true = ap (λ (p : Piece). passed p.kind) (first_is x t (with_pieces ts m) n e) ∙ h in
-    ap (λ (k : Machine). unpassed_token_from passed k.tokens.pieces k) (sym (second_is x t (with_pieces ts m) n e))
+    ap (λ (k : Machine). unpassed_token_from passed k.tokens.pieces k) (sym (same_machine x t (with_pieces ts m) n e))
     ∙ rw test refl
 
 stops_from : (passed : Kind → Bool) (ts : List Piece) (m n : Machine) (t : Piece) → taken_token_from ts m ≡ Ok (t, n)
@@ -104,7 +104,7 @@ Keeps m r = (e : Declared) (n : Machine) → r ≡ Ok (e, n) → n.tokens ≡ m.
 
 later : (d e : Declared) (m n : Machine) → (let r : Result (Declared × Machine) Refusal = Ok (d, m) in r) ≡ Ok (e, n)
     → m ≡ n
-later d e m n h = ap (λ (p : Declared × Machine). p.1) (within (d, m) (e, n) h)
+later d e m n h = ap (λ (p : Declared × Machine). p.1) (ok_inside (d, m) (e, n) h)
 
 changed : (d : Declared) (m : Machine) (prefixes : Names (List ℕ)) → Keeps m (Ok (d, record m { prefixes = prefixes }))
 unfolding Keeps
@@ -114,19 +114,19 @@ nothing_changed : (d : Declared) (m : Machine) → Keeps m (Ok (d, m))
 unfolding Keeps
 nothing_changed d m e n h = ap (λ (k : Machine). k.tokens) (sym (later d e m n h))
 
-refused : (m : Machine) (f : Refusal) → Keeps m (Err f)
+refusal_keeps : (m : Machine) (f : Refusal) → Keeps m (Err f)
 unfolding Keeps
-refused m f e n h = absurd (cc)
+refusal_keeps m f e n h = absurd (cc)
 
 versions : (b : Bool) (place : Marker) (d : Declared) (m : Machine)
     → Keeps m ((if b then Err (record { text = fault.DuplicateVersionDirective; mark = place }) else Ok
     (record { version = true; handles = d.handles })) >>= (λ e. Ok (e, m)))
-versions true place d m = refused m _
+versions true place d m = refusal_keeps m _
 versions false place d m = nothing_changed _ m
 
 handles : (b : Bool) (f : Refusal) (d : Declared) (m : Machine) (prefixes : Names (List ℕ))
     → Keeps m (if b then Err f else Ok (d, record m { prefixes = prefixes }))
-handles true f d m p = refused m f
+handles true f d m p = refusal_keeps m f
 handles false f d m p = changed d m p
 
 keeps_tokens : (k : Kind) (t : Piece) (d : Declared) (m : Machine) → Keeps m (directive_at k t d m)
@@ -145,7 +145,7 @@ directs_from : (ts : List Piece) (d : Declared) (m n : Machine) (t : Piece) → 
 directs_from [] d m n t e h = absurd (cc)
 directs_from (x ∷ ts) d m n t e h =
     let same : x ≡ t = first_is x t (with_pieces ts m) n e in
-    let left : with_pieces ts m ≡ n = second_is x t (with_pieces ts m) n e in
+    let left : with_pieces ts m ≡ n = same_machine x t (with_pieces ts m) n e in
     let test : is_directive x.kind ≡ true = ap (λ (p : Piece). is_directive p.kind) same ∙ h in
     rw test (ap (λ (k : Machine). directive_at x.kind x d k >>= (λ s. directives_from k.tokens.pieces s.0 s.1)) left
     ∙ ap (λ (p : Piece). directive_at p.kind p d n >>= (λ s. directives_from n.tokens.pieces s.0 s.1)) same)

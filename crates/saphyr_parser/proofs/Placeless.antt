@@ -48,11 +48,11 @@ Same (Err f) q = (g : Refusal) × (q ≡ Err g)
 
 -- ## Each step
 
-behind : (k : Kind) (r q : Remaining) → q ≡ placeless_tokens r
+placeless_behind : (k : Kind) (r q : Remaining) → q ≡ placeless_tokens r
     → Behind (λ r q. q ≡ placeless_tokens r) (λ d r q. ⊥) k r q
-behind tokens.DocumentStart r q e = inl e
-behind tokens.DocumentEnd r q e = inl e
-behind _ r q e = e
+placeless_behind tokens.DocumentStart r q e = inl e
+placeless_behind tokens.DocumentEnd r q e = inl e
+placeless_behind _ r q e = e
 
 abbrev without_places : Beside
 without_places =
@@ -72,23 +72,23 @@ without_places =
             is = ap (λ (r : Remaining). r.pieces) i;
             start = refl;
             end = refl;
-            behind = behind t.kind _ _ (ap (λ
+            behind = placeless_behind t.kind _ _ (ap (λ
                 (r : Remaining). record { pieces = map placeless_piece ts; refusal = r.refusal }) i);
           };
     }
 
-left : (m n : Machine) → Left without_places m n → n ≡ placeless m
-left m n (inl near) = becomes without_places _ (λ p. no_place) _ m.keep_tags m n (λ p q e. e) near near.tokens
+placeless_left : (m n : Machine) → Left without_places m n → n ≡ placeless m
+placeless_left m n (inl near) = becomes without_places _ (λ p. no_place) _ m.keep_tags m n (λ p q e. e) near near.tokens
     near.setting
-left m n (inr (d, over, a)) = absurd over.tokens
+placeless_left m n (inr (d, over, a)) = absurd over.tokens
 
-same : (p q : Result Told Refusal) → Tells without_places p q → Same p q
-same (Ok x) (Ok y) h =
-    ap Ok (tells_so without_places (λ p. no_place) x y _ (λ p q e. e) h (left x.machine y.machine h.machine))
-same (Ok x) (Err g) h = absurd h
-same (Err f) (Ok y) (inl e) = absurd e
-same (Err f) (Ok y) (inr e) = absurd e
-same (Err f) (Err g) h = (g, refl)
+told_same : (p q : Result Told Refusal) → Tells without_places p q → Same p q
+told_same (Ok x) (Ok y) h =
+    ap Ok (tells_so without_places (λ p. no_place) x y _ (λ p q e. e) h (placeless_left x.machine y.machine h.machine))
+told_same (Ok x) (Err g) h = absurd h
+told_same (Err f) (Ok y) (inl e) = absurd e
+told_same (Err f) (Ok y) (inr e) = absurd e
+told_same (Err f) (Err g) h = (g, refl)
 
 others_same : (s : State) (m : Machine) → s ≢ state.End
     → Same (event_step_at s m) (event_step_at (placeless_state s) (placeless m))
@@ -100,7 +100,7 @@ others_same s m on =
     by : Tells without_places (event_step_at s m) (event_step_at (placeless_state s) (placeless m))
         ⊎ (IsStart s × Passed without_places m (placeless m) (event_step_at s))
         → Same (event_step_at s m) (event_step_at (placeless_state s) (placeless m))
-    by (inl h) = same _ _ h
+    by (inl h) = told_same _ _ h
     by (inr (i, p)) = absurd p.2.tokens
 
 pub steps_same : (s : State) (m : Machine) → Same (event_step_at s m) (event_step_at (placeless_state s) (placeless m))

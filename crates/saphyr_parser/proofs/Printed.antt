@@ -2,6 +2,7 @@
 pub mod Written
 pub mod Numbers
 pub mod Escapes
+pub mod Blocks
 pub mod Lines
 pub mod Dumping
 pub mod Complaints

@@ -32,13 +32,13 @@ abbrev pub AreEnded : (Marker → Type 0) → Option Refusal → List Piece → 
 AreEnded P r [] = IsRefused P r
 AreEnded P r (t ∷ ts) = IsLastOr (AreEnded P r ts) ts t.kind
 
-refused : (P : Marker → Type 0) (r : Option Refusal) → IsRefused P r → P (ending_refusal r).mark
-refused P None h = absurd h
-refused P (Some e) h = h
+refused_mark : (P : Marker → Type 0) (r : Option Refusal) → IsRefused P r → P (ending_refusal r).mark
+refused_mark P None h = absurd h
+refused_mark P (Some e) h = h
 
-goes_on : (A : Type 0) (ts : List Piece) (k : Kind) → is_end k ≡ false → IsLastOr A ts k → A
-goes_on A ts tokens.StreamEnd e h = absurd (cc)
-goes_on A ts _ e h = h
+known_before_last : (A : Type 0) (ts : List Piece) (k : Kind) → is_end k ≡ false → IsLastOr A ts k → A
+known_before_last A ts tokens.StreamEnd e h = absurd (cc)
+known_before_last A ts _ e h = h
 
 -- the tokens stand at places of the text; behind the end of the stream nothing is known of them
 abbrev placed : List ℕ → Walk
@@ -51,11 +51,11 @@ placed text = record {
   first = λ a b s. (s.0, s.0);
   last = λ a b s. (s.1, s.1);
   fails = λ words a s. s.0;
-  nothing = λ low d r a. refused (IsPlaceOf text) r a.2;
+  nothing = λ low d r a. refused_mark (IsPlaceOf text) r a.2;
   own = λ low d r t ts a. ((a.0, a.1.0.0), (a.1.0.0, a.1.0.1));
   from_start = λ low d r t ts a. (a.1.0.0, a.1, a.2);
   behind = λ low d r t ts e a.
-      (a.1.0.1, a.1.1, goes_on (AreEnded (IsPlaceOf text) r ts) ts t.kind e a.2);
+      (a.1.0.1, a.1.1, known_before_last (AreEnded (IsPlaceOf text) r ts) ts t.kind e a.2);
   less = λ low c d r ts l a. a;
   rests = λ low s d r ts a. inr (a.1, a.2);
   over = λ low d c r t ts e l a. inl refl;

@@ -12,7 +12,7 @@ use Rattle.saphyr_parser.specs.Preorder.{Part, OpenStream, CloseStream, OpenDocu
 use Rattle.saphyr_parser.specs.Events.{Happening, ResolvedTag, StreamStart, StreamEnd, DocumentStart, DocumentEnd, Alias, Scalar, SequenceStart, SequenceEnd, MappingStart, MappingEnd}
 use Rattle.saphyr_parser.specs.ForestEvents.{before_all}
 use Rattle.saphyr_parser.specs.TagResolution.{default_prefix}
-use Rattle.saphyr_parser.specs.Steps.Machine.{Names, meaning, given, forgotten, next_id, registered, Machine, told}
+use Rattle.saphyr_parser.specs.Steps.Machine.{Names, meaning, with_meaning, without_ids, next_id, with_anchor, Machine, told}
 use Rattle.saphyr_parser.specs.Steps.Expected.{event_step}
 use Rattle.saphyr_parser.specs.Answer.{remaining_answer}
 use Rattle.saphyr_parser.specs.Exactly.{GivesExactly}
@@ -24,7 +24,7 @@ abbrev pub noted : Option (List ℕ) → Memory → Memory
 noted None e = e
 noted (Some name) e = record {
   anchors =
-      registered (encode_utf8_all name) e.anchors;
+      with_anchor (encode_utf8_all name) e.anchors;
   prefixes = e.prefixes;
   keep = e.keep;
 }
@@ -33,14 +33,14 @@ noted (Some name) e = record {
 abbrev pub declaring : List Directive → Names (List ℕ) → Names (List ℕ)
 declaring [] names = names
 declaring (TagPrefix handle prefix ∷ others) names =
-    declaring others (given (handle_bytes handle) (encode_utf8_all prefix) names)
+    declaring others (with_meaning (handle_bytes handle) (encode_utf8_all prefix) names)
 declaring (Version _ _ ∷ others) names = declaring others names
 declaring (Reserved _ ∷ others) names = declaring others names
 
 abbrev pub opening : List Directive → Memory → Memory
 opening directives e = record {
   anchors =
-      forgotten e.anchors;
+      without_ids e.anchors;
   prefixes = declaring directives e.prefixes;
   keep = e.keep;
 }
@@ -119,11 +119,11 @@ Says e m ps = (es : List Happening) → events_in e ps ≡ Some es → GivesExac
 abbrev pub Tells : Spans → List Kind → State → List State → Memory → List Part → Type 0
 Tells f ks s ss e ps = Says e (at f ks s ss e) ps
 
-both : (a : Option Happening) (b : Option (List Happening)) (es : List Happening) → before_all a b ≡ Some es
+before_all_parts : (a : Option Happening) (b : Option (List Happening)) (es : List Happening) → before_all a b ≡ Some es
     → (w : Happening) × (ws : List Happening) × (a ≡ Some w) × (b ≡ Some ws) × (w ∷ ws ≡ es)
-both (Some w) (Some ws) es h = (w, ws, refl, refl, (cc))
-both (Some w) None es h = absurd (cc)
-both None b es h = absurd (cc)
+before_all_parts (Some w) (Some ws) es h = (w, ws, refl, refl, (cc))
+before_all_parts (Some w) None es h = absurd (cc)
+before_all_parts None b es h = absurd (cc)
 
 -- one step tells the first part
 pub says : (e : Memory) (m n : Machine) (part : Part) (ps : List Part) → m.state ≢ End
@@ -133,7 +133,7 @@ pub says : (e : Memory) (m n : Machine) (part : Part) (ps : List Part) → m.sta
 says e m n part ps more go h es q =
     let r : (w : Happening) × (ws : List Happening) × (event_in e part ≡ Some w)
     × (events_in (after part e) ps ≡ Some ws) × (w ∷ ws ≡ es) =
-    both (event_in e part) (events_in (after part e) ps) es q in
+    before_all_parts (event_in e part) (events_in (after part e) ps) es q in
     let s : (span : Span) × (event_step m ≡ told r.0 span n) = go r.0 r.2 in
     subst (λ l. GivesExactly l (remaining_answer m)) r.4
     (tells m (record { what = r.0; span = s.0; machine = n }) r.1 more s.1 (h r.1 r.3))

@@ -22,10 +22,10 @@ use Rattle.saphyr_parser.proofs.Beside.Maps.{becomes, tells_so, stay, still_expe
 
 -- ## All steps
 
-behind : (k : Kind) (r q : Remaining) → q ≡ r → Behind (λ r q. q ≡ r) (λ d r q. ⊥) k r q
-behind tokens.DocumentStart r q e = inl e
-behind tokens.DocumentEnd r q e = inl e
-behind _ r q e = e
+same_behind : (k : Kind) (r q : Remaining) → q ≡ r → Behind (λ r q. q ≡ r) (λ d r q. ⊥) k r q
+same_behind tokens.DocumentStart r q e = inl e
+same_behind tokens.DocumentEnd r q e = inl e
+same_behind _ r q e = e
 
 abbrev with_set : Bool → Beside
 with_set b =
@@ -45,23 +45,23 @@ with_set b =
             is = ap (λ (r : Remaining). r.pieces) i;
             start = refl;
             end = refl;
-            behind = behind t.kind _ _ (ap (λ (r : Remaining). record { pieces = ts; refusal = r.refusal }) i);
+            behind = same_behind t.kind _ _ (ap (λ (r : Remaining). record { pieces = ts; refusal = r.refusal }) i);
           };
     }
 
-left : (b : Bool) (m n : Machine) → Left (with_set b) m n → n ≡ set_to b m
-left b m n (inl near) =
+set_left : (b : Bool) (m n : Machine) → Left (with_set b) m n → n ≡ set_to b m
+set_left b m n (inl near) =
     becomes (with_set b) _ (λ p. p) m.tokens b m n (λ p q e. e) near near.tokens near.setting ∙ stay m.tokens b m
-left b m n (inr (d, over, a)) = absurd over.tokens
+set_left b m n (inr (d, over, a)) = absurd over.tokens
 
-same : (b : Bool) (p q : Result Told Refusal) → Tells (with_set b) p q → q ≡ with_setting b p
-same b (Ok x) (Ok y) h =
-    ap Ok (tells_so (with_set b) (λ p. p) x y _ (λ p q e. e) h (left b x.machine y.machine h.machine))
-same b (Ok x) (Err g) h = absurd h
-same b (Err f) (Ok y) (inl e) = absurd e
-same b (Err f) (Ok y) (inr e) = absurd e
-same b (Err f) (Err g) (inl e) = absurd e
-same b (Err f) (Err g) (inr e) = rw e refl
+set_same : (b : Bool) (p q : Result Told Refusal) → Tells (with_set b) p q → q ≡ with_setting b p
+set_same b (Ok x) (Ok y) h =
+    ap Ok (tells_so (with_set b) (λ p. p) x y _ (λ p q e. e) h (set_left b x.machine y.machine h.machine))
+set_same b (Ok x) (Err g) h = absurd h
+set_same b (Err f) (Ok y) (inl e) = absurd e
+set_same b (Err f) (Ok y) (inr e) = absurd e
+set_same b (Err f) (Err g) (inl e) = absurd e
+set_same b (Err f) (Err g) (inr e) = rw e refl
 
 others_at : (b : Bool) (s : State) (m : Machine) → s ≢ state.End → s ≢ state.DocumentEnd
     → event_step_at s (set_to b m) ≡ with_setting b (event_step_at s m)
@@ -72,7 +72,7 @@ others_at b s m on other =
     by : Tells (with_set b) (event_step_at s m) (event_step_at s (set_to b m))
         ⊎ (IsStart s × Passed (with_set b) m (set_to b m) (event_step_at s))
         → event_step_at s (set_to b m) ≡ with_setting b (event_step_at s m)
-    by (inl h) = same b _ _ h
+    by (inl h) = set_same b _ _ h
     by (inr (i, p)) = absurd p.2.tokens
 
 sets_at : (b : Bool) (s : State) (m : Machine) → s ≢ state.DocumentEnd

@@ -37,15 +37,15 @@ any_places : (ss : List State) → HavePlaces (λ a b. Unit {0}) ss
 any_places [] = tt
 any_places (s ∷ ss) = (any_place s, any_places ss)
 
-left : (n : ℕ) (x : Told) → Gives (measured n) (Ok x) → machine_size x.machine ≤ n
-left n x g = let l : 10 * length x.machine.tokens.pieces + _ ≤ n + 10 = g.1.rests in omega (arith, l)
+size_left : (n : ℕ) (x : Told) → Gives (measured n) (Ok x) → machine_size x.machine ≤ n
+size_left n x g = let l : 10 * length x.machine.tokens.pieces + _ ≤ n + 10 = g.1.rests in omega (arith, l)
 
 pub step_leaves : (n : ℕ) (m : Machine) (x : Told) → m.state ≢ state.End → machine_size m ≤ n + 1 → event_step m ≡ Ok x
     → machine_size x.machine ≤ n
 unfolding event_step
 step_leaves n m x alive l e =
     let place : Marker = record { index = 0; line = 0; col = 0 } in
-    left n x
+    size_left n x
     (subst (Gives (measured n)) e
     (steps_at (measured n) {low = place} m.state m alive (any_place m.state)
     (record { pieces = omega (arith, l); places = any_places m.states })))

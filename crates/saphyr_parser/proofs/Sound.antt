@@ -17,7 +17,7 @@ use Rattle.saphyr_parser.specs.ForestEvents.{before_all, events}
 use Rattle.saphyr_parser.specs.Exactly.{kinds}
 use Rattle.saphyr_parser.specs.Steps.Machine.{Machine, Told}
 use Rattle.saphyr_parser.specs.Steps.Expected.{event_step, event_step_at}
-use Rattle.saphyr_parser.specs.Answer.{Answer, empty_answer, with_first_event, ending_of, failed, deliver, remaining_answer, machine_size}
+use Rattle.saphyr_parser.specs.Answer.{Answer, empty_answer, with_first_event, ending_of, fault_alone, deliver, remaining_answer, machine_size}
 use Rattle.saphyr_parser.specs.Cursor.{at_start, keeping_tags, to_come}
 use Rattle.saphyr_parser.specs.EventsTaken.{IsAllUnless, IsCut}
 use Rattle.saphyr_parser.specs.WellFormed.{AreWellFormed}
@@ -126,9 +126,9 @@ pub record Finishes (s : State) (ss : List State) (ts : List Piece) (e : Memory)
   pub all_expected : IsAllUnless a.fault expected
   pub all_given : IsCut a.fault missing
 
-stops : (s : State) (ss : List State) (ts : List Piece) (e : Memory) (f : Refusal) → IsAlive s ss
-    → Finishes s ss ts e (failed (ending_of f))
-stops s ss ts e f a =
+finishes_at_fault : (s : State) (ss : List State) (ts : List Piece) (e : Memory) (f : Refusal) → IsAlive s ss
+    → Finishes s ss ts e (fault_alone (ending_of f))
+finishes_at_fault s ss ts e f a =
     let c : Completion s ss = completed ss s a in
     let es : (es : List Happening) × (events_in e c.parts ≡ Some es) = quiet_events c.parts e c.quiet in
     record {
@@ -147,20 +147,21 @@ stops s ss ts e f a =
       all_given = some_events c.parts e c.quiet c.some;
     }
 
-joined : (part : Part) (ps : List Part) (e : Memory) (w : Happening) (es : List Happening) → event_in e part ≡ Some w
+events_joined : (part : Part) (ps : List Part) (e : Memory) (w : Happening) (es : List Happening)
+    → event_in e part ≡ Some w
     → events_in (after part e) ps ≡ Some es → events_in e (part ∷ ps) ≡ Some (w ∷ es)
-joined part ps e w es h k =
+events_joined part ps e w es h k =
     ap (λ (o : Option Happening). before_all o (events_in (after part e) ps)) h ∙ ap (before_all (Some w)) k
 
 more_anchors : (o : Option (List ℕ)) (n a b : ℕ) → one_more_anchor o 0 ≤ a → n ≤ b → one_more_anchor o n ≤ a + b
 more_anchors None n a b h k = omega (arith, h, k)
 more_anchors (Some x) n a b h k = omega (arith, h, k)
 
-goes_on : (s : State) (ss : List State) (ts : List Piece) (e : Memory) (x : Told) (a : Answer)
+finishes_behind_event : (s : State) (ss : List State) (ts : List Piece) (e : Memory) (x : Told) (a : Answer)
     → Goes (Wanted s ss (kinds ts)) e ts x
     → Finishes x.machine.state x.machine.states x.machine.tokens.pieces (memory x.machine) a
     → Finishes s ss ts e (with_first_event (x.what, x.span) a)
-goes_on s ss ts e x a g h = record {
+finishes_behind_event s ss ts e x a g h = record {
   read = g.used ++ h.read;
   unread = h.unread;
   expected = h.expected;
@@ -171,7 +172,7 @@ goes_on s ss ts e x a g h = record {
       (sym (ap (λ (l : List Kind). l ++ h.expected) (kinds_append g.used h.read)
       ∙ append_assoc (kinds g.used) (kinds h.read) h.expected))
       (g.makes (kinds h.read ++ h.expected) h.parts h.wanted.0 h.wanted.1);
-  told = joined g.part h.parts e x.what (told_of a ++ h.missing) g.tells
+  told = events_joined g.part h.parts e x.what (told_of a ++ h.missing) g.tells
       (subst (λ (m : Memory). events_in m h.parts ≡ Some (told_of a ++ h.missing)) g.remembers h.told);
   few = (let l = length-append g.used h.read in let m =
       more_anchors (anchor_of g.part) (anchors h.parts) (length g.used) (length h.read) g.few h.few in
@@ -193,7 +194,7 @@ is_over s ss ts e x o = record {
   missing = [];
   are_read = sym (append-nil ts);
   wanted = subst (λ (l : List Kind). Wanted s ss (kinds ts) l (o.part ∷ [])) (sym (append-nil (kinds ts))) o.makes;
-  told = joined o.part [] e x.what [] o.tells refl;
+  told = events_joined o.part [] e x.what [] o.tells refl;
   few = o.few;
   places = subst (λ (l : List Piece). HaveTokens [] ((x.what, x.span) ∷ []) l) (append-nil ts)
       (own_more ts [] [] x.what x.span [] o.places (taking.nothing []));
@@ -225,9 +226,9 @@ finishes (suc n) m l w a =
         → ((k : Machine) → machine_size k < n → AreWellFormed k.tokens.pieces → IsAlive k.state k.states
         → Finishes k.state k.states k.tokens.pieces (memory k) (remaining_answer k))
         → Finishes m.state m.states m.tokens.pieces (memory m) (deliver r remaining_answer)
-    by (Err f) e h go = stops m.state m.states m.tokens.pieces (memory m) f a
+    by (Err f) e h go = finishes_at_fault m.state m.states m.tokens.pieces (memory m) f a
     by (Ok x) e (inl g) go =
-        goes_on m.state m.states m.tokens.pieces (memory m) x (remaining_answer x.machine) g
+        finishes_behind_event m.state m.states m.tokens.pieces (memory m) x (remaining_answer x.machine) g
         (go x.machine (let s = shrinks_at (machine_size m) m x (omega arith) e in omega (arith, l, s))
         (behind_used g.used m.tokens.pieces x.machine.tokens.pieces g.taken w) g.alive)
     by (Ok x) e (inr o) go =

@@ -75,10 +75,10 @@ may_stand A tokens.StreamEnd ts h = h
 may_stand A _ ts h = tt
 
 -- and behind another the rest is ended
-goes_on : (P : Marker → Type 0) (r : Option Refusal) (k : Kind) (ts : List Piece) → IsLastOr (AreEnded P r ts) ts k
+ended_behind : (P : Marker → Type 0) (r : Option Refusal) (k : Kind) (ts : List Piece) → IsLastOr (AreEnded P r ts) ts k
     → (ts ≡ []) ⊎ AreEnded P r ts
-goes_on P r tokens.StreamEnd ts h = inl h
-goes_on P r _ ts h = inr h
+ended_behind P r tokens.StreamEnd ts h = inl h
+ended_behind P r _ ts h = inr h
 
 -- tokens that are taken from a text and that the end of the stream or a refusal ends are well formed
 pub tokens_form : (P : Marker → Type 0) (r : Option Refusal) (columns : List ℕ) (ps : List Piece) (s u : Cursor)
@@ -89,5 +89,5 @@ tokens_form P r columns (p ∷ ps) s u a (inr l) = (
   token_form p.kind (least_column_in columns) p.span a.0 a.1 a.3,
   may_stand (AreEnded P r ps) p.kind ps l,
   tokens_form P
-      r (open_behind p.kind p.span.start.col columns) ps a.1 u a.4 (goes_on P r p.kind ps l),
+      r (open_behind p.kind p.span.start.col columns) ps a.1 u a.4 (ended_behind P r p.kind ps l),
 )

@@ -44,16 +44,16 @@ enough (suc n) (suc k) m a b =
     (same_delivery (event_step m) _ _
     (λ x e. enough n k x.machine (shrinks_at n m x (omega (arith, a)) e) (shrinks_at k m x (omega (arith, b)) e)))
 
-goes_on : (s : State) (a : Answer) → s ≢ state.End → unless_ended s a ≡ a
-goes_on state.End a h = absurd (h refl)
-goes_on _ a h = refl
+unless_ended_is : (s : State) (a : Answer) → s ≢ state.End → unless_ended s a ≡ a
+unless_ended_is state.End a h = absurd (h refl)
+unless_ended_is _ a h = refl
 
 is_over : (s : State) (a : Answer) → s ≡ state.End → unless_ended s a ≡ empty_answer
 is_over s a e = rw e refl
 
 pub unroll : (m : Machine) → m.state ≢ state.End → remaining_answer m ≡ deliver (event_step m) remaining_answer
 unfolding remaining_answer
-unroll m h = goes_on m.state _ h
+unroll m h = unless_ended_is m.state _ h
     ∙ same_delivery (event_step m) _ _
     (λ x e. enough (machine_size m) (suc (machine_size x.machine)) x.machine
     (shrinks_at (machine_size m) m x (omega arith) e) (omega arith))

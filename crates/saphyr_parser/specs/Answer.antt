@@ -26,8 +26,8 @@ pub record Answer : Type 0 where
 abbrev pub empty_answer : Answer
 empty_answer = record { events = []; fault = None }
 
-abbrev pub failed : Ending → Answer
-failed f = record { events = []; fault = Some f }
+abbrev pub fault_alone : Ending → Answer
+fault_alone f = record { events = []; fault = Some f }
 
 abbrev pub with_first_event : Happening × Span → Answer → Answer
 with_first_event e a = record { events = e ∷ a.events; fault = a.fault }
@@ -37,7 +37,7 @@ ending_of e = Refused e.mark (fault_text e.text)
 
 abbrev pub deliver : Result Told Refusal → (Machine → Answer) → Answer
 deliver (Ok x) go = with_first_event (x.what, x.span) (go x.machine)
-deliver (Err e) go = failed (ending_of e)
+deliver (Err e) go = fault_alone (ending_of e)
 
 abbrev pub unless_ended : State → Answer → Answer
 unless_ended state.End a = empty_answer

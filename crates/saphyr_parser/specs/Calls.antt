@@ -14,14 +14,14 @@ use Rattle.saphyr_parser.specs.Events.{Happening}
 use Rattle.saphyr_parser.specs.Views.Machines.{happening}
 use Rattle.saphyr_parser.specs.Steps.Machine.{Machine, told}
 use Rattle.saphyr_parser.specs.Steps.Expected.{event_step}
-use Rattle.saphyr_parser.specs.Answer.{Answer, Ending, Refused, OutOfMemory, failed, empty_answer, remaining_answer}
-use Rattle.saphyr_parser.specs.Cursor.{EventCursor, Kept, IsUnmoved, Refuses, Shows, Stays, count, ending_of_fault, event_of, keeping_tags, remembered, to_come}
+use Rattle.saphyr_parser.specs.Answer.{Answer, Ending, Refused, OutOfMemory, fault_alone, empty_answer, remaining_answer}
+use Rattle.saphyr_parser.specs.Cursor.{EventCursor, Kept, IsUnmoved, Refuses, Shows, Stays, count, ending_of_fault, event_of, keeping_tags, with_event_handed, to_come}
 
 -- what was read, where an event or a fault is written into its place
-abbrev pub placed : Event × Span → Fault → Progress → Option (Result (Event × Span) Fault)
-placed next fault progress.Event = Some (Ok next)
-placed next fault progress.Fault = Some (Err fault)
-placed next fault progress.Over = None
+abbrev pub item_at : Event × Span → Fault → Progress → Option (Result (Event × Span) Fault)
+item_at next fault progress.Event = Some (Ok next)
+item_at next fault progress.Fault = Some (Err fault)
+item_at next fault progress.Over = None
 
 -- ## A reading
 
@@ -34,18 +34,18 @@ Reads (Some (Err f)) old new = Refuses f (remaining_answer old)
 
 -- nothing but this is still to come; memory may run out before anything that is
 abbrev pub Ends : Ending → Answer → Type 0
-Ends (Refused mark text) a = a ≡ failed (Refused mark text)
+Ends (Refused mark text) a = a ≡ fault_alone (Refused mark text)
 Ends OutOfMemory a = 0 < count a
 
 -- ## Events that are handed out
 
 abbrev pub AdvancesFrom : Option (Happening × Span) → Option Kept → Happening × Span → EventCursor → EventCursor
     → Type 0
-AdvancesFrom (Some next) kept e old new = (next ≡ e) × (new ≡ remembered e.0 e.1 (record old { current = None }))
+AdvancesFrom (Some next) kept e old new = (next ≡ e) × (new ≡ with_event_handed e.0 e.1 (record old { current = None }))
 AdvancesFrom None (Some k) e old new = ⊥
 AdvancesFrom None None e old new =
     (event_step old.machine ≡ told e.0 e.1 new.machine)
-    × (new ≡ remembered e.0 e.1 (record old { machine = new.machine }))
+    × (new ≡ with_event_handed e.0 e.1 (record old { machine = new.machine }))
 
 -- This event is handed out. It was read ahead, or the machine makes one step; nothing else changes but what is
 -- remembered of it.

@@ -10,7 +10,7 @@ use Rattle.saphyr_parser.specs.Events as events
 use Rattle.saphyr_parser.specs.Events.{Happening}
 use Rattle.saphyr_parser.specs.Views.Machines.{happening}
 use Rattle.saphyr_parser.specs.Steps.Machine.{Machine, fresh_machine}
-use Rattle.saphyr_parser.specs.Answer.{Ending, Refused, OutOfMemory, Answer, empty_answer, failed, with_first_event, remaining_answer}
+use Rattle.saphyr_parser.specs.Answer.{Ending, Refused, OutOfMemory, Answer, empty_answer, fault_alone, with_first_event, remaining_answer}
 
 -- the fault that ended the events, and whether it was handed out
 pub record Kept : Type 0 where
@@ -39,7 +39,7 @@ keeping_tags keep c = record c { machine = record c.machine { keep_tags = keep }
 
 abbrev pub answer_behind : Option Kept → Machine → Answer
 answer_behind None m = remaining_answer m
-answer_behind (Some k) m = if k.given then empty_answer else failed k.fault
+answer_behind (Some k) m = if k.given then empty_answer else fault_alone k.fault
 
 abbrev pub ahead : Option (Happening × Span) → Answer → Answer
 ahead None a = a
@@ -58,10 +58,10 @@ abbrev pub event_of : Event × Span → Happening × Span
 event_of e = (happening e.0, e.1)
 
 -- what was read, where an event is written into its place
-abbrev pub filled : {X : Type 0} → Event × Span → Option (Result X Fault) → Option (Result (Event × Span) Fault)
-filled next None = None
-filled next (Some (Ok x)) = Some (Ok next)
-filled next (Some (Err f)) = Some (Err f)
+abbrev pub item_in : {X : Type 0} → Event × Span → Option (Result X Fault) → Option (Result (Event × Span) Fault)
+item_in next None = None
+item_in next (Some (Ok x)) = Some (Ok next)
+item_in next (Some (Err f)) = Some (Err f)
 
 -- what ends the events; the last two faults are given by `load` alone
 abbrev pub ending_of_fault : Fault → Ending
@@ -72,7 +72,7 @@ ending_of_fault fault.InsideDocument = OutOfMemory
 
 -- Nothing is left but this fault. Memory may run out before anything that is left.
 abbrev pub Refuses : Fault → Answer → Type 0
-Refuses (fault.Scan e) a = a ≡ failed (Refused e.mark (string_bytes e.info))
+Refuses (fault.Scan e) a = a ≡ fault_alone (Refused e.mark (string_bytes e.info))
 Refuses fault.OutOfMemory a = 0 < count a
 Refuses fault.Receiver a = ⊥
 Refuses fault.InsideDocument a = ⊥
@@ -85,12 +85,12 @@ HandsOutNext (Some (Err f)) old new = Refuses f old × (new ≡ empty_answer)
 
 -- Nothing was handed out; where memory ran out, that is what remains.
 abbrev pub Stays : Answer → Answer → Type 0
-Stays old new = (new ≡ old) ⊎ ((0 < count old) × (new ≡ failed OutOfMemory))
+Stays old new = (new ≡ old) ⊎ ((0 < count old) × (new ≡ fault_alone OutOfMemory))
 
 -- what remains where no event was read ahead and none can be
 abbrev pub kept_answer : Option Kept → Answer
 kept_answer None = empty_answer
-kept_answer (Some k) = if k.given then empty_answer else failed k.fault
+kept_answer (Some k) = if k.given then empty_answer else fault_alone k.fault
 
 -- a fault was kept
 abbrev pub IsKept : Option Kept → Type 0
@@ -118,8 +118,8 @@ abbrev pub finished_behind : Happening → Span → Option Span → Option Span
 finished_behind events.StreamEnd span finished = Some span
 finished_behind _ span finished = finished
 
-abbrev pub remembered : Happening → Span → EventCursor → EventCursor
-remembered what span c =
+abbrev pub with_event_handed : Happening → Span → EventCursor → EventCursor
+with_event_handed what span c =
     record c { inside = inside_behind what c.inside; finished = finished_behind what span c.finished }
 
 -- a fault that ends the events was handed out
@@ -138,4 +138,4 @@ Remembers _ old new = IsUnmoved old new
 abbrev pub Shows : Option (Result (Bor (Event × Span)) (Bor Fault)) → Answer → Type 0
 Shows None a = a ≡ empty_answer
 Shows (Some (Ok e)) a = (others : Answer) × (a ≡ with_first_event (event_of e.now) others)
-Shows (Some (Err f)) a = a ≡ failed (ending_of_fault f.now)
+Shows (Some (Err f)) a = a ≡ fault_alone (ending_of_fault f.now)

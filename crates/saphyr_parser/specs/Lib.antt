@@ -7,6 +7,7 @@ pub mod Faults
 pub mod Cursor
 pub mod Calls
 pub mod Exactly
+pub mod Limits
 pub mod Peeking
 pub mod Anchors
 pub mod Examples

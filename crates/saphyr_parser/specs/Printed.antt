@@ -1,20 +1,27 @@
 -- How events are printed, a line for each, in UTF-8.
-use Rattle.std.specs.Prelude.{ℕ, List, [], ◌∷◌, ◌++◌, ◌==◌, if◌then◌else◌, Option, Some, None, codes}
+use Rattle.std.specs.Prelude.{◌≡◌, ℕ, ◌<◌, ◌≤◌, List, [], ◌∷◌, ◌++◌, ◌==◌, if◌then◌else◌, Option, Some, None, codes, slice_index}
 use Rattle.std.specs.Fmt.{decimal}
+use Rattle.saphyr_input.specs.Classes.{carriage_return, line_feed, tab}
+use Rattle.saphyr_input.specs.Indicators.{backslash}
 use Rattle.saphyr_scalar.specs.declared.scalar.position.Span.{Span}
 use Rattle.saphyr_scanner.specs.Grammar.Forest.{Style, Plain, SingleQuoted, DoubleQuoted, Literal, Folded}
 use Rattle.saphyr_parser.specs.Events.{ResolvedTag, Happening, Nothing, StreamStart, StreamEnd, DocumentStart, DocumentEnd, Alias, Scalar, SequenceStart, SequenceEnd, MappingStart, MappingEnd}
 
 -- A byte of a scalar's text: a backslash, LF, CR, a backspace and a tab are escaped, and all else stands as it is.
 abbrev pub printed_byte : ℕ → List ℕ
-printed_byte byte = if byte == 92 then codes "\\\\" else
-    (if byte == 10 then codes "\\n" else
-    (if byte == 13 then codes "\\r" else
-    (if byte == 8 then codes "\\b" else (if byte == 9 then codes "\\t" else byte ∷ []))))
+printed_byte byte = if byte == backslash then codes "\\\\" else
+    (if byte == line_feed then codes "\\n" else
+    (if byte == carriage_return then codes "\\r" else
+    (if byte == 8 then codes "\\b" else (if byte == tab then codes "\\t" else byte ∷ []))))
 
 abbrev pub printed_bytes : List ℕ → List ℕ
 printed_bytes [] = []
 printed_bytes (byte ∷ bytes) = printed_byte byte ++ printed_bytes bytes
+
+-- the bytes of a text from one place up to another stand as they are
+abbrev pub ArePlain : List ℕ → ℕ → ℕ → Type 0
+ArePlain text start end =
+    (i : ℕ) → start ≤ i → i < end → printed_byte (slice_index text i) ≡ slice_index text i ∷ []
 
 -- the id of an anchor, where there is one
 abbrev pub anchor_text : ℕ → List ℕ

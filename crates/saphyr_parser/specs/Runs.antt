@@ -6,6 +6,7 @@ use Rattle.std.specs.Fmt.{decimal}
 use Rattle.saphyr_scalar.specs.declared.scalar.position.Marker.{Marker}
 use Rattle.saphyr_scalar.specs.Faults.{error_text}
 use Rattle.saphyr_scanner.specs.Steps.Remaining.{scan}
+use Rattle.saphyr_parser.specs.Limits.{most_characters}
 use Rattle.saphyr_parser.specs.declared.parser.fault.Fault.{Fault}
 use Rattle.saphyr_parser.specs.declared.parser.fault.Fault.TheVariants as fault
 use Rattle.saphyr_parser.specs.declared.printing.fault.DumpFault.{DumpFault}
@@ -19,7 +20,7 @@ use Rattle.saphyr_parser.specs.Dumps.{Prints, Dumps}
 
 -- the events of a text in UTF-8, and the fault that may end them
 abbrev pub answer_of_text : List ℕ → Answer
-answer_of_text bytes = to_come (at_start (scan 4294967295 (chars bytes)))
+answer_of_text bytes = to_come (at_start (scan most_characters (chars bytes)))
 
 -- a beginning of the bytes was taken, and maybe all of them
 pub record TakesBeginning (old new : Option (List ℕ)) (bytes : List ℕ) : Type 0 where

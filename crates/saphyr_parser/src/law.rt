@@ -1,6 +1,7 @@
 //! Laws of the definitions that the promises on a parser mean. Code needs none of them: they are for
 //! whoever proves more about parsers.
 ghost use Rattle.std.specs.Prelude.{Bool, List, [], ◌∷◌, ◌++◌, codes, false, true, ℕ, ◌≡◌, ◌≢◌, ◌<◌, ◌≤◌, ◌^◌, length, None, Ok, Option, Some};
+ghost use Rattle.saphyr_parser.specs.Limits.{most_characters};
 ghost use Rattle.saphyr_parser.specs.Anchors.{IsLatest, anchors, latest};
 ghost use Rattle.saphyr_parser.specs.Preorder.{Part, parts};
 ghost use Rattle.saphyr_parser.specs.Examples.Forests as examples;
@@ -152,11 +153,11 @@ pub fn takes_no_other_span()
 /// of each grammar whose texts a parser reads, since its one list is the events of each of their forests: of the
 /// layout grammar, of JSON, and where a text is one of both.
 pub fn has_one_meaning()
-    ensures layout { (text : List ℕ) → length text ≤ 4294967295
+    ensures layout { (text : List ℕ) → length text ≤ most_characters
         → HasOneMeaning (IsLayoutText most_open) text }
-    ensures json { (text : List ℕ) → length text ≤ 4294967295
+    ensures json { (text : List ℕ) → length text ≤ most_characters
         → HasOneMeaning (IsShallowJson most_open) text }
-    ensures both { (text : List ℕ) → length text ≤ 4294967295
+    ensures both { (text : List ℕ) → length text ≤ most_characters
         → MeanTheSame (IsShallowJson most_open) (IsLayoutText most_open) text }
 {
     scans_each_json();

@@ -3,6 +3,7 @@ use Rattle.std.specs.Prelude.{◌≡◌, ℕ, Bool, List, Option, None, Result, 
 use Rattle.std.specs.Borrow.{Bor}
 use Rattle.std.specs.Str.{chars}
 use Rattle.saphyr_scalar.specs.declared.scalar.position.Span.{Span}
+use Rattle.saphyr_parser.specs.Limits.{most_characters}
 use Rattle.saphyr_parser.specs.declared.parser.event.Event.{Event}
 use Rattle.saphyr_parser.specs.declared.parser.fault.Fault.{Fault}
 use Rattle.saphyr_scanner.specs.Steps.Remaining.{scan}
@@ -18,10 +19,10 @@ use Rattle.saphyr_parser_c.specs.Shown.{TellsC, TellsLent}
 
 -- What a parser at the start of a text promises: those of `Parser::new_from_str`.
 pub record Promises (text : List ℕ) (parser : EventCursor) : Type 0 where
-  pub decided : parser ≡ at_start (scan 4294967295 text)
-  pub json : ReadsJson 4294967295 text parser
-  pub layout : ReadsLayout 4294967295 text parser
-  pub closed : ReadsClosedLayout 4294967295 text parser
+  pub decided : parser ≡ at_start (scan most_characters text)
+  pub json : ReadsJson most_characters text parser
+  pub layout : ReadsLayout most_characters text parser
+  pub closed : ReadsClosedLayout most_characters text parser
   pub spans : (keep : Bool) → HasSpansIn text (to_come (keeping_tags keep parser))
   pub taken : TakesEvents text parser
 

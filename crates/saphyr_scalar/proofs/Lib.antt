@@ -1,6 +1,7 @@
 pub mod Properties
 pub mod Directives
 pub mod Breaks
+pub mod ByteSets
 pub mod Block
 pub mod Quoted
 pub mod EscapeEnds
@@ -11,6 +12,7 @@ pub mod TakingMore
 pub mod PassedBreaks
 pub mod Refusals
 pub mod NoBreaks
+pub mod NoSeparation
 pub mod RefusedOnWay
 pub mod Plain
 pub mod Moving

@@ -12,4 +12,6 @@ pub mod Spelled
 pub mod Texts
 pub mod GapsRead
 pub mod WordsRead
+pub mod WordEnds
+pub mod LineEnds
 pub mod Sound

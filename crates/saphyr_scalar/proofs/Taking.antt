@@ -152,15 +152,15 @@ no_value : (quote : Quote) (value : List ℕ) → flow.quoted_value quote (norma
 no_value Single value e = absurd (cc)
 no_value Double value e = absurd (cc)
 
-longer : (piece rest : List ℕ) → (piece ≡ [] → ⊥) → length rest < length (piece ++ rest)
-longer [] rest h = absurd (h refl)
-longer (c ∷ cs) rest h = let l = length-append cs rest in omega (arith, l)
+piece_is_longer : (piece rest : List ℕ) → (piece ≡ [] → ⊥) → length rest < length (piece ++ rest)
+piece_is_longer [] rest h = absurd (h refl)
+piece_is_longer (c ∷ cs) rest h = let l = length-append cs rest in omega (arith, l)
 
 pub quoted_takes : (quote : Quote) (indent : ℕ) (s t : Cursor) (text : List ℕ) → slice_index s.rest 0 ≡ flow.mark quote
     → quoted quote indent s ≡ Ok (text, t) → length t.rest < length s.rest
 quoted_takes quote indent s t text opening read =
     let r = quoted_reading quote indent s text t opening read in
-    let less = longer r.0 t.rest
+    let less = piece_is_longer r.0 t.rest
     (λ e. no_value quote r.1 (ap (λ p. flow.quoted_value quote (normalized p)) (sym e) ∙ r.3)) in
     let is = ap length r.2 in
     omega (arith, less, is)

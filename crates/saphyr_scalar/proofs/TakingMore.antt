@@ -192,16 +192,17 @@ anchor_takes s t text some e =
     omega (arith, is, whole)
 
 -- a text that begins with some character has one
-begins : (c : ℕ) (t cs : List ℕ) → t ≡ c ∷ cs → 0 < length t
-begins c t cs e = let is : length t ≡ length (c ∷ cs) = ap length e in omega (arith, is)
+some_behind_first : (c : ℕ) (t cs : List ℕ) → t ≡ c ∷ cs → 0 < length t
+some_behind_first c t cs e = let is : length t ≡ length (c ∷ cs) = ap length e in omega (arith, is)
 
 handle_some : (handle back t : List ℕ) → IsHandleText handle → t ≡ handle ++ back → 0 < length t
-handle_some handle back t (inl alone) e = begins 33 t back (e ∙ ap (λ u. u ++ back) alone)
-handle_some handle back t (inr named) e = begins 33 t ((named.0 ++ codes "!") ++ back) (e ∙ ap (λ u. u ++ back) named.2)
+handle_some handle back t (inl alone) e = some_behind_first 33 t back (e ∙ ap (λ u. u ++ back) alone)
+handle_some handle back t (inr named) e =
+    some_behind_first 33 t ((named.0 ++ codes "!") ++ back) (e ∙ ap (λ u. u ++ back) named.2)
 
 tag_some : (t handle suffix : List ℕ) → IsTagText t handle suffix → 0 < length t
-tag_some t handle suffix (inl alone) = begins 33 t [] alone.0
-tag_some t handle suffix (inr (inl verbatim)) = begins 33 t (60 ∷ (verbatim.0 ++ codes ">")) verbatim.3
+tag_some t handle suffix (inl alone) = some_behind_first 33 t [] alone.0
+tag_some t handle suffix (inr (inl verbatim)) = some_behind_first 33 t (60 ∷ (verbatim.0 ++ codes ">")) verbatim.3
 tag_some t handle suffix (inr (inr short)) = handle_some handle short.0 t short.1 short.4
 
 pub tag_takes : (in_flow : Bool) (s t : Cursor) (handle suffix : List ℕ) → slice_index s.rest 0 ≡ 33
@@ -214,9 +215,9 @@ tag_takes in_flow s t handle suffix opening e =
     omega (arith, some, is, whole)
 
 directive_some : (d : ReadDirective) (t : List ℕ) → IsReadDirective d t → 0 < length t
-directive_some (version major minor) t is = begins 37 t _ is.6
-directive_some (tag_prefix handle prefix) t is = begins 37 t _ is.2.7
-directive_some (reserved name) t is = begins 37 t _ is.1.7
+directive_some (version major minor) t is = some_behind_first 37 t _ is.6
+directive_some (tag_prefix handle prefix) t is = some_behind_first 37 t _ is.2.7
+directive_some (reserved name) t is = some_behind_first 37 t _ is.1.7
 
 pub directive_takes : (s t : Cursor) (d : ReadDirective) (end : Marker) → slice_index s.rest 0 ≡ 37
     → directive s ≡ Ok (d, end, t) → length t.rest < length s.rest

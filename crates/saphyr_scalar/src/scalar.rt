@@ -2,6 +2,7 @@
 mod anchor;
 mod block;
 mod break_law;
+mod byte_sets;
 mod directive;
 mod directive_law;
 mod escape;

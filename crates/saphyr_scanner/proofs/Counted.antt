@@ -12,7 +12,7 @@ use Rattle.saphyr_scalar.specs.Views.Cursor.{Cursor, along, next_line, pass_blan
 use Rattle.saphyr_scalar.specs.Passing.{IsPassed, nothing, character, line_break}
 use Rattle.saphyr_scalar.specs.Steps.Quoted.{break_len}
 use Rattle.saphyr_scalar.proofs.Lengths.{two_shown, separation_within}
-use Rattle.saphyr_scanner.specs.Steps.Gap.{gap, comment, stop, Passed, is_tab_indentation, Spaced, spaces, line_comment}
+use Rattle.saphyr_scanner.specs.Steps.Gap.{gap, comment, stop, Passed, is_tab_indentation}
 use Rattle.saphyr_input.proofs.Basics.Lists.{shown}
 use Rattle.saphyr_input.proofs.Basics.Booleans.{by_test}
 use Rattle.saphyr_scalar.proofs.Given.{Given}
@@ -137,22 +137,3 @@ gap_counted l broke tabbed s =
     ahead_of (Err e) h = tt
 
 -- ## Behind `?`
-
-abbrev SpacedAt : ℕ → ℕ → Spaced → Type 0
-SpacedAt low n r = At low n r.cursor.mark r.cursor.rest
-
-spaces_at : (low n : ℕ) (t : List ℕ) (m : Marker) (blank space : Bool) → At low n m t
-    → SpacedAt low n (spaces m blank space t) × SpacedAt low n (line_comment m blank space t)
-spaces_at low n [] m blank space h = (h, h)
-spaces_at low n (c ∷ cs) m blank space h =
-    let P = SpacedAt low n in
-    let k : At low n (along m 1) cs = (omega (arith, h.0), omega (arith, h.1)) in
-    let line : P (spaces (next_line m 1) true true cs) = (spaces_at low n cs (next_line m 1) true true k).0 in
-    let further : P (spaces (along m 1) blank true cs) = (spaces_at low n cs (along m 1) blank true k).0 in
-    let inside : P (line_comment (along m 1) blank space cs) = (spaces_at low n cs (along m 1) blank space k).1 in (
-      by_test ((c == 32) || ((c == 13) && (slice_index cs 0 == 10))) _ _ P (λ _. further)
-          (λ _. by_test (is_break c) _ _ P (λ _. line) (λ _. by_test (c == 35) _ _ P (λ _. inside) (λ _. h))),
-      by_test (is_yaml_non_break c) _ _ P (λ _. inside)
-          (λ _. by_test ((c == 13) && (slice_index cs 0 == 10)) _ _ P (λ _. further)
-          (λ _. by_test (is_break c) _ _ P (λ _. line) (λ _. h))),
-    )

@@ -5,7 +5,7 @@ use Rattle.saphyr_scalar.specs.declared.scalar.fault.Refusal.{Refusal}
 use Rattle.saphyr_scalar.specs.Views.Cursor.{◌>>=◌}
 use Rattle.saphyr_scanner.specs.Steps.Core.{Core, in_block, is_too_far, drop_far_key, forget_key}
 use Rattle.saphyr_scanner.specs.Steps.State.{State, carried}
-use Rattle.saphyr_scanner.specs.Steps.Fetch.{size, fetch_within, settled, needs_token, is_ready, fill_in, fill}
+use Rattle.saphyr_scanner.specs.Steps.Fetch.{size, fetch_within, without_far_key, needs_token, is_ready, fill_in, fill}
 use Rattle.saphyr_scanner.proofs.Effects.Readers.{Readers}
 use Rattle.saphyr_scanner.proofs.Effects.Fetch.{Fetched, read_fetched}
 use Rattle.saphyr_input.proofs.Basics.Booleans.{by_test, neither_parts}
@@ -17,9 +17,9 @@ going false b e = refl
 
 -- the next token is read, and a candidate that is too far is dropped
 abbrev pub read : ℕ → State → Result State Refusal
-read limit s = fetch_within limit s >>= settled
+read limit s = fetch_within limit s >>= without_far_key
 
-pub read_is : (limit : ℕ) (s t u : State) → fetch_within limit s ≡ Ok t → settled t ≡ Ok u → read limit s ≡ Ok u
+pub read_is : (limit : ℕ) (s t u : State) → fetch_within limit s ≡ Ok t → without_far_key t ≡ Ok u → read limit s ≡ Ok u
 read_is limit s t u e f = rw e f
 
 pub smaller_read : Readers → (limit : ℕ) (s u : State) → needs_token s ≡ true → read limit s ≡ Ok u
@@ -78,11 +78,11 @@ carried_core : (r : Result Core Refusal) (s t : State) → carried r s.queue ≡
 carried_core (Ok c) s t e = cc
 carried_core (Err f) s t e = absurd (cc)
 
-pub settled_once : (s t : State) → settled s ≡ Ok t → IsSettled t
+pub settled_once : (s t : State) → without_far_key s ≡ Ok t → IsSettled t
 settled_once s t e = not_twice s.core t.core (carried_core (drop_far_key s.core) s t e)
 
 pub read_settles : (limit : ℕ) (s u : State) → read limit s ≡ Ok u → IsSettled u
-read_settles limit s u e = let b = bind_ok (fetch_within limit s) settled u e in settled_once b.0 u b.2
+read_settles limit s u e = let b = bind_ok (fetch_within limit s) without_far_key u e in settled_once b.0 u b.2
 
 pub less_read : Readers → (limit : ℕ) (s u : State) → s.core.ended ≡ false → read limit s ≡ Ok u
     → size u.core < size s.core

@@ -18,14 +18,14 @@ along-along m a b =
     let k : m.col + a + b ≡ m.col + (a + b) = omega arith in
     rw (i, k) refl
 
-no_blank : (c : ℕ) → is_yaml_non_break c ≡ false → is_blank c ≡ false
-no_blank c e = grind (arith, nat_tests)
+break_is_no_blank : (c : ℕ) → is_yaml_non_break c ≡ false → is_blank c ≡ false
+break_is_no_blank c e = grind (arith, nat_tests)
 
 no_tab : (c : ℕ) → is_yaml_non_break c ≡ false → nat_eq c 9 ≡ false
 no_tab c e = grind (arith, nat_tests)
 
-no_sign : (c : ℕ) → is_yaml_non_break c ≡ false → nat_eq c 35 ≡ false
-no_sign c e = grind (arith, nat_tests)
+break_is_no_sign : (c : ℕ) → is_yaml_non_break c ≡ false → nat_eq c 35 ≡ false
+break_is_no_sign c e = grind (arith, nat_tests)
 
 one_further : (l : ℕ) (m : Marker) (blank broke tabbed : Bool) (n c : ℕ) (cs : List ℕ)
     → gap l (along (along m 1) n) blank broke tabbed (drop n cs)
@@ -49,8 +49,8 @@ behind_sign l (c ∷ cs) m blank broke tabbed =
         (drop (prefix_len is_yaml_non_break (c ∷ cs)) (c ∷ cs))
     by_test true e ih = rw e (ih ∙ one_further l m blank broke tabbed (prefix_len is_yaml_non_break cs) c cs)
     by_test false e ih =
-        let b = no_blank c e in
-        let s = no_sign c e in
+        let b = break_is_no_blank c e in
+        let s = break_is_no_sign c e in
         let t = no_tab c e in
         let none : comment l m blank broke tabbed (c ∷ cs) ≡ gap l m blank broke tabbed (c ∷ cs) =
         rw (e, b, s, t) refl in
@@ -107,8 +107,8 @@ pub spaces_passed : (l most : ℕ) (broke tabbed : Bool) (before read after : Cu
     → gap_at l broke tabbed after ≡ all
 spaces_passed l most broke tabbed before read after all same passed known =
     rw (passed, same)
-    (over_spaces l before.blank_so_far broke tabbed before.mark (spaces_within most before.rest) before.rest (omega arith)
-    ∙ known)
+    (over_spaces l before.blank_so_far broke tabbed before.mark (spaces_within most before.rest) before.rest
+    (omega arith) ∙ known)
 
 -- ## The same behind `?`
 
@@ -137,7 +137,7 @@ behind_line_sign (c ∷ cs) m blank space =
     by_test true e ih = rw e (ih ∙ spaces_further m blank space (prefix_len is_yaml_non_break cs) c cs)
     by_test false e ih =
         let b = no_space c e in
-        let s = no_sign c e in
+        let s = break_is_no_sign c e in
         let none : line_comment m blank space (c ∷ cs) ≡ spaces m blank space (c ∷ cs) = rw (e, b, s) refl in
         let last : spaces (along m 0) blank space (c ∷ cs)
         ≡ spaces (along m (prefix_len is_yaml_non_break (c ∷ cs))) blank space
@@ -158,13 +158,13 @@ line_comment_passed space before read after all c first same passed sign known =
         (behind_line_sign cs (along before.mark 1) before.blank_so_far space
         ∙ spaces_further before.mark before.blank_so_far space (prefix_len is_yaml_non_break cs) 35 cs))
 
-nothing : (least : ℕ) (m : Marker) (blank : Bool) (text : List ℕ) → is_blank (slice_index text 0) ≡ false
+gap_of_nothing : (least : ℕ) (m : Marker) (blank : Bool) (text : List ℕ) → is_blank (slice_index text 0) ≡ false
     → is_break (slice_index text 0) ≡ false → (slice_index text 0 == 35) ≡ false
     → gap least m blank false false text
     ≡ Ok (record { cursor = record { rest = text; mark = m; blank_so_far = blank }; broke = false })
 unfolding stop
-nothing least m blank [] a b e = refl
-nothing least m blank (c ∷ cs) a b e =
+gap_of_nothing least m blank [] a b e = refl
+gap_of_nothing least m blank (c ∷ cs) a b e =
     let return : (c == 13) ≡ false = or_false_right (c == 10) (c == 13) b in
     let feed : (c == 10) ≡ false = or_false_left (c == 10) (c == 13) b in
     rw (a, return, feed, e) refl
@@ -173,5 +173,5 @@ nothing least m blank (c ∷ cs) a b e =
 pub nothing_passed : (least : ℕ) (s t : Cursor) (c : ℕ) → c ≡ slice_index s.rest 0 → t ≡ s → is_blank c ≡ false
     → is_break c ≡ false → (c == 35) ≡ false → passed_gap least s ≡ Ok (record { cursor = t; broke = false })
 nothing_passed least s t c e same a b d =
-    nothing least s.mark s.blank_so_far s.rest (rw (sym e) a) (rw (sym e) b) (rw (sym e) d)
+    gap_of_nothing least s.mark s.blank_so_far s.rest (rw (sym e) a) (rw (sym e) b) (rw (sym e) d)
     ∙ ap (λ (u : Cursor). Ok (record { cursor = u; broke = false })) (sym same)

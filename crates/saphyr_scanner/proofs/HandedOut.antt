@@ -14,10 +14,10 @@ use Rattle.saphyr_scanner.specs.Views.Tokens.{Piece}
 use Rattle.saphyr_scanner.specs.Steps.Queue.{Place, Queue, next, put, opened, closed}
 use Rattle.saphyr_scanner.specs.Steps.Core.{Core, Action, Put, Open, Steps, perform, in_block, least_column, remove_key, drop_far_key}
 use Rattle.saphyr_scanner.specs.Steps.Passing.{pass_gap, separate}
-use Rattle.saphyr_scanner.specs.Steps.State.{State, carried, acted, separated}
+use Rattle.saphyr_scanner.specs.Steps.State.{State, carried, acted, on_core_with}
 use Rattle.saphyr_scanner.specs.Steps.Unrolling.{unroll, end_blocks, end_block, is_right_of, outwards, less_deep}
 use Rattle.saphyr_scanner.specs.Steps.Document as document
-use Rattle.saphyr_scanner.specs.Steps.Fetch.{step, state_behind_content, fetch_here, arrive, fetch, within, fetch_within, settled}
+use Rattle.saphyr_scanner.specs.Steps.Fetch.{step, state_behind_content, fetch_here, arrive, fetch, within, fetch_within, without_far_key}
 use Rattle.saphyr_scalar.specs.Steps.Directive as directives
 use Rattle.saphyr_scanner.proofs.Taken.Candidates.{Above, ActionsAbove, Keeps}
 use Rattle.saphyr_scanner.proofs.Taken.Separated.{given_map}
@@ -177,7 +177,7 @@ end_marker_agrees hs c q p b k =
   where
     line : (x : Result (SkipTabs × Core) Refusal) (d : Core) (r s : Queue) → Behind hs r s → Above (length hs) d
         → Given (λ y. effects.Goes 0 d.cursor d y.1) x
-        → Same hs (separated x (at d r) >>= document.end_line) (separated x (at d s) >>= document.end_line)
+        → Same hs (on_core_with x (at d r) >>= document.end_line) (on_core_with x (at d s) >>= document.end_line)
     line (Ok x) d r s e a g = same_if hs (is_breakz (slice_index x.1.cursor.rest 0)) _ _ _ _
         (record { core = refl; queue = e; above = g.1.3 (length hs) a }) refl
     line (Err f) d r s e a g = refl
@@ -192,7 +192,7 @@ mark_agrees hs c q p b k =
 finish_goes : (hs : List Place) (m : Marker) (s t : State) → Goes hs s t
     → Goes hs (document.finish m s) (document.finish m t)
 finish_goes hs m s t g =
-    record { core = ap document.finished g.core; queue = put_behind hs _ s.queue t.queue g.queue; above = g.above }
+    record { core = ap document.core_at_end g.core; queue = put_behind hs _ s.queue t.queue g.queue; above = g.above }
 
 stream_agrees : (hs : List Place) → Agrees hs document.end_stream
 unfolding document.end_stream document.end_at
@@ -258,14 +258,14 @@ within_agrees : (hs : List Place) (limit : ℕ) → Agrees hs (within limit)
 within_agrees hs limit c q p b k =
     same_if hs (nat_le c.cursor.mark.index limit) _ _ _ _ (record { core = refl; queue = b; above = k }) refl
 
-settled_agrees : (hs : List Place) → Agrees hs settled
+settled_agrees : (hs : List Place) → Agrees hs without_far_key
 settled_agrees hs c q p b k = carried_same hs c (drop_far_key c) q p b k
     (effects.drop_goes 0 c.cursor c c (effects.goes_none c))
 
 -- a token that is fetched, and the candidate of its line dropped where it is too far
-pub read_agrees : (hs : List Place) (limit : ℕ) → Agrees hs (λ s. fetch_within limit s >>= settled)
+pub read_agrees : (hs : List Place) (limit : ℕ) → Agrees hs (λ s. fetch_within limit s >>= without_far_key)
 unfolding fetch_within
 read_agrees hs limit c q p b k =
-    same_then hs (fetch_within limit (at c q)) (fetch_within limit (at c p)) settled
+    same_then hs (fetch_within limit (at c q)) (fetch_within limit (at c p)) without_far_key
     (same_then hs (fetch (at c q)) (fetch (at c p)) (within limit) (fetch_agrees hs c q p b k) (within_agrees hs limit))
     (settled_agrees hs)

@@ -31,8 +31,8 @@ levels_further h [] k e = tt
 levels_further h (l ∷ ls) k e =
     let n = or_parts (holds h l) (any_holds h ls) e in (key_further h l.key k.0 n.0, levels_further h ls k.1 n.1)
 
-further : (h : ℕ) (c : Core) → Above h c → (holds h c.level || any_holds h c.outer) ≡ false → Above (suc h) c
-further h c k e = let n =
+above_next : (h : ℕ) (c : Core) → Above h c → (holds h c.level || any_holds h c.outer) ≡ false → Above (suc h) c
+above_next h c k e = let n =
     or_parts (holds h c.level) (any_holds h c.outer) e in
     (key_further h c.level.key k.0 n.0, levels_further h c.outer k.1 n.1)
 
@@ -142,7 +142,7 @@ next_goes : (s : State) (p : Place) (ps hs : List Place) (n : ℕ) → Goes hs s
 next_goes s p ps hs n g h =
     let len : length (hs ++ p ∷ []) ≡ suc (length hs) = omega (arith, length-append hs (p ∷ [])) in
     let handed = g.queue.handed in
-    let no_key = further (length hs) s.core g.above
+    let no_key = above_next (length hs) s.core g.above
     (subst (λ m. (holds m s.core.level || any_holds m s.core.outer) ≡ false) handed h) in
     record {
       core = refl;
@@ -185,9 +185,9 @@ hands laws limit d s u live e ih (p ∷ ps) hs n g =
     by false h more = next_gives limit d s.core p ps hs n (needs s.core.ended _ live ∙ h)
         (more (next_goes s p ps hs n g h))
 
-ends : Readers → (limit : ℕ) (d : State) → Free d.core → (hs ws : List Place) (k : ℕ)
+ended_gives : Readers → (limit : ℕ) (d : State) → Free d.core → (hs ws : List Place) (k : ℕ)
     → Behind hs d.queue (record { places = ws; handed = k }) → Gives limit d hs (holding d.core ws k)
-ends laws limit d free hs ws k b =
+ended_gives laws limit d free hs ws k b =
     let places = ap length b.places in let l = length-append hs ws in let handed = b.handed in
     let e : k + length ws ≡ length d.queue.places = omega (arith, places, l, handed) in
     record {
@@ -205,7 +205,7 @@ of_core limit d s hs t g w = subst (λ (c : Core). Gives limit d hs (at c t.queu
 
 lazy : {limit : ℕ} {d s : State} → Readers → Free d.core → Leads limit d s → Hypothesis limit d s
 lazy {limit} {d} laws free stay =
-    λ hs t g. of_core limit d d hs t g (ends laws limit d free hs t.queue.places t.queue.handed g.queue)
+    λ hs t g. of_core limit d d hs t g (ended_gives laws limit d free hs t.queue.places t.queue.handed g.queue)
 lazy {limit} {d} laws free (onward s t u live e f l) = λ hs v g.
     of_core limit d s hs v g
     (hands laws limit d s u live (read_is limit s t u e f) (lazy laws free l) v.queue.places hs v.queue.handed

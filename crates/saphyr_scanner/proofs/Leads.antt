@@ -6,7 +6,7 @@ use Rattle.saphyr_scanner.specs.Grammar.Tokens as tokens
 use Rattle.saphyr_scanner.specs.Views.Tokens.{Piece}
 use Rattle.saphyr_scanner.specs.Steps.Queue.{Place, empty_piece}
 use Rattle.saphyr_scanner.specs.Steps.State.{State}
-use Rattle.saphyr_scanner.specs.Steps.Fetch.{fetch_within, settled}
+use Rattle.saphyr_scanner.specs.Steps.Fetch.{fetch_within, without_far_key}
 
 -- the tokens of a place
 abbrev pub place_pieces : Opening → Piece → List Piece
@@ -25,5 +25,5 @@ flat (p ∷ ps) = place_pieces p.opening p.piece ++ flat ps
 -- from a state to d, a token after the other
 pub data Leads (limit : ℕ) (d : State) : State → Type 0 where
   stay : Leads limit d d
-  onward : (s t u : State) → s.core.ended ≡ false → fetch_within limit s ≡ Ok t → settled t ≡ Ok u → Leads limit d u
-      → Leads limit d s
+  onward : (s t u : State) → s.core.ended ≡ false → fetch_within limit s ≡ Ok t → without_far_key t ≡ Ok u
+      → Leads limit d u → Leads limit d s

@@ -25,7 +25,7 @@ pub mod LineTails
 pub mod Added
 pub mod Effects
 pub mod ReadersCounted
-pub mod Copies
+pub mod HeldTexts
 pub mod LineTexts
 pub mod Reached
 pub mod PlainBehind

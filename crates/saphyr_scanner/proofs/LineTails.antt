@@ -41,8 +41,8 @@ pub record Tail (m : Marker) (t : List ℕ) (n : ℕ) : Type 0 where
   pub rest : behind ≡ drop n t
   pub apart : IsPassedOver m t (along m n) behind
 
-no_tail : (m : Marker) (t : List ℕ) → Tail m t 0
-no_tail m t = record {
+empty_tail : (m : Marker) (t : List ℕ) → Tail m t 0
+empty_tail m t = record {
   tail = [];
   behind = t;
   is = refl;
@@ -147,15 +147,15 @@ with_comment m xs e =
         omega arith in rw one refl
 
 separation_tail : (m : Marker) (xs : List ℕ) → Tail m xs (separation_len Yes xs)
-separation_tail m xs = by_test (blank_len Yes xs == 0) _ _ (Tail m xs) (λ _. no_tail m xs) (with_comment m xs)
+separation_tail m xs = by_test (blank_len Yes xs == 0) _ _ (Tail m xs) (λ _. empty_tail m xs) (with_comment m xs)
 
 -- what a separation passes on its line
 pub record OnLine (s t : Cursor) : Type 0 where
   pub on_line : LiesOnLine s t.mark
   pub apart : AreApart s t
 
-on_line : (s : Cursor) (n : ℕ) → Tail s.mark s.rest n → OnLine s (pass_blanks n s)
-on_line s n t = record {
+tail_on_line : (s : Cursor) (n : ℕ) → Tail s.mark s.rest n → OnLine s (pass_blanks n s)
+tail_on_line s n t = record {
   on_line = (t.tail, t.behind, t.line, t.is, ap (λ i. along s.mark i) (sym t.count));
   apart = subst (λ u. IsPassedOver s.mark s.rest (along s.mark n) u) t.rest t.apart;
 }
@@ -167,4 +167,4 @@ separation_passes s =
     let t : Cursor = pass_blanks (separation_len Yes s.rest) s in
     by_test (nat_lt 0 t.mark.col && is_bom (slice_index t.rest 0)) _ _ (Given P) (λ _. tt)
     (λ _. by_test (is_bare_comment Yes s.rest) _ _ (Given P) (λ _. tt)
-    (λ _. on_line s (separation_len Yes s.rest) (separation_tail s.mark s.rest)))
+    (λ _. tail_on_line s (separation_len Yes s.rest) (separation_tail s.mark s.rest)))

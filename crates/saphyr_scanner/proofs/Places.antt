@@ -1,26 +1,45 @@
 -- A place of the queue is opened.
-use Rattle.std.proofs.Common.{◌≡◌, ℕ, zero, suc, ◌≤◌, List, [], ◌∷◌, length, refl, ap, arith, ◌∙◌}
+use Rattle.std.proofs.Common.{◌≡◌, ℕ, zero, suc, ◌≤◌, List, [], ◌∷◌, length, refl, sym, ap, subst, arith, ◌∙◌}
 use Rattle.std.specs.Prelude.{map, set, slice_index_or, Bool, true, false, if◌then◌else◌, ◌++◌}
+use Rattle.std.specs.List.{All}
+use Rattle.std.proofs.lemmas.List.Elements.{All-nil, All-cons, All-head, All-tail}
 use Rattle.saphyr_scanner.specs.declared.queue.place.Place as declared
 use Rattle.saphyr_scanner.specs.declared.queue.Opening.{Opening}
 use Rattle.saphyr_scanner.specs.Steps.Queue.{Place, opened}
 use Rattle.saphyr_scanner.specs.declared.queue.slot.Slot.{Slot}
 use Rattle.saphyr_scanner.proofs.Queues.{with_front}
-use Rattle.saphyr_scanner.specs.Views.Queue.{in_slot, place, slot_place}
+use Rattle.saphyr_scanner.specs.Views.Places.{HasHeldText, IsHeldText, place, text_place}
+use Rattle.saphyr_scanner.specs.Views.Queue.{in_slot, slot_place}
 
 -- where `r` is `q`, which stood at that place, with this in front of it
-pub opened_is_set : (n : ℕ) (o : Opening) (ps : List declared.Place) (q r : declared.Place)
-    → q ≡ slice_index_or ps n q → place r ≡ with_front o (place q).piece
-    → map place (set ps n r) ≡ opened n o (map place ps)
-opened_is_set n o [] q r e f = refl
-opened_is_set zero o (p ∷ ps) q r e f = ap (λ x. x ∷ map place ps) (f ∙ ap (λ x. with_front o (place x).piece) e)
-opened_is_set (suc n) o (p ∷ ps) q r e f = ap (λ x. place p ∷ x) (opened_is_set n o ps q r e f)
+pub opened_is_set : (bytes : List ℕ) (n : ℕ) (o : Opening) (ps : List declared.Place) (q r : declared.Place)
+    → q ≡ slice_index_or ps n q → place bytes r ≡ with_front o (place bytes q).piece
+    → map (place bytes) (set ps n r) ≡ opened n o (map (place bytes) ps)
+opened_is_set bytes n o [] q r e f = refl
+opened_is_set bytes zero o (p ∷ ps) q r e f =
+    ap (λ x. x ∷ map (place bytes) ps) (f ∙ ap (λ x. with_front o (place bytes x).piece) e)
+opened_is_set bytes (suc n) o (p ∷ ps) q r e f =
+    ap (λ x. place bytes p ∷ x) (opened_is_set bytes n o ps q r e f)
 
-pub opened_outside : (n : ℕ) (o : Opening) (ps : List declared.Place) → length ps ≤ n
-    → opened n o (map place ps) ≡ map place ps
-opened_outside n o [] h = refl
-opened_outside zero o (q ∷ qs) h = absurd (omega (arith, h))
-opened_outside (suc n) o (q ∷ qs) h = ap (λ r. place q ∷ r) (opened_outside n o qs (omega (arith, h)))
+-- where the opened place has its text where it had it
+pub texts_of_set : (bytes : List ℕ) (n : ℕ) (ps : List declared.Place) (q r : declared.Place)
+    → q ≡ slice_index_or ps n q → text_place r ≡ text_place q
+    → All (HasHeldText bytes) ps → All (HasHeldText bytes) (set ps n r)
+texts_of_set bytes n [] q r e t h = All-nil (HasHeldText bytes)
+texts_of_set bytes zero (p ∷ ps) q r e t h =
+    All-cons (HasHeldText bytes) r ps
+    (subst (IsHeldText bytes) (sym (t ∙ ap text_place e)) (All-head (HasHeldText bytes) p ps h))
+    (All-tail (HasHeldText bytes) p ps h)
+texts_of_set bytes (suc n) (p ∷ ps) q r e t h =
+    All-cons (HasHeldText bytes) p (set ps n r)
+    (All-head (HasHeldText bytes) p ps h)
+    (texts_of_set bytes n ps q r e t (All-tail (HasHeldText bytes) p ps h))
+
+pub opened_outside : (bytes : List ℕ) (n : ℕ) (o : Opening) (ps : List declared.Place) → length ps ≤ n
+    → opened n o (map (place bytes) ps) ≡ map (place bytes) ps
+opened_outside bytes n o [] h = refl
+opened_outside bytes zero o (q ∷ qs) h = absurd (omega (arith, h))
+opened_outside bytes (suc n) o (q ∷ qs) h = ap (λ r. place bytes q ∷ r) (opened_outside bytes n o qs (omega (arith, h)))
 
 in_slot_append : (full : Bool) (p : Place) (ps qs : List Place)
     → (if full then p ∷ (ps ++ qs) else (ps ++ qs)) ≡ (if full then p ∷ ps else ps) ++ qs

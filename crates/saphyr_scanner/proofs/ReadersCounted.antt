@@ -49,9 +49,10 @@ plain_counted s t text end r =
 -- ## Names and tags
 
 -- what stands behind a text of the line
-at_end : (s t : Cursor) (text : List ℕ) → s.rest ≡ text ++ t.rest → t ≡ at (along s.mark (length text)) t.rest
+ahead_behind_text : (s t : Cursor) (text : List ℕ) → s.rest ≡ text ++ t.rest
+    → t ≡ at (along s.mark (length text)) t.rest
     → Ahead s t
-at_end s t text is e = text_passed s t text is (ap (λ (c : Cursor). c.mark.index) e)
+ahead_behind_text s t text is e = text_passed s t text is (ap (λ (c : Cursor). c.mark.index) e)
 
 name_counted : (s t : Cursor) (indicator : ℕ) (name : List ℕ) → s.rest ≡ indicator ∷ (name ++ t.rest)
     → t ≡ at (along s.mark (1 + length name)) t.rest → Ahead s t
@@ -124,7 +125,7 @@ reader_ends plain quotes block name tag directive = record {
   block_scalar = λ style i s t text span some e. let x =
       block style i s t text span some e in block_counted s t span x.0 x.1 x.2 x.3;
   name = λ s t text some e. let x = name s t text some e in name_counted s t x.0 x.1 x.2 x.5;
-  tag = λ f s t handle suffix first e. let x = tag f s t handle suffix first e in at_end s t x.0 x.3 x.6;
+  tag = λ f s t handle suffix first e. let x = tag f s t handle suffix first e in ahead_behind_text s t x.0 x.3 x.6;
   directive = λ s t d end first e. let x =
       directive s t d end first e in directive_counted s t end x.0 x.1 x.2 x.3 x.7 x.8;
 }

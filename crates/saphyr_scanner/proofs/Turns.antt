@@ -7,11 +7,11 @@ use Rattle.saphyr_scalar.specs.Views.Reader.{Fails, Moves}
 use Rattle.saphyr_scanner.specs.declared.token.Token.{Token}
 use Rattle.saphyr_scanner.specs.declared.queue.Opening.{Opening}
 use Rattle.saphyr_scanner.specs.declared.queue.Opening.TheVariants as opening
-use Rattle.saphyr_scanner.specs.Views.Tokens.{Piece, Remaining, none, before, piece, written, handed, Hands}
+use Rattle.saphyr_scanner.specs.Views.Tokens.{Piece, Remaining, none, before, piece, written_token, handed_token, Hands}
 use Rattle.saphyr_scanner.specs.Steps.Queue.{Place}
 use Rattle.saphyr_scanner.specs.Steps.Core.{Core}
 use Rattle.saphyr_scanner.specs.Steps.State.{State}
-use Rattle.saphyr_scanner.specs.Steps.Fetch.{size, settled, needs_token, fill, take_token}
+use Rattle.saphyr_scanner.specs.Steps.Fetch.{size, without_far_key, needs_token, fill, take_token}
 use Rattle.saphyr_scanner.specs.Steps.Remaining.{before_place, remaining}
 use Rattle.saphyr_scanner.proofs.Effects.Readers.{Readers}
 use Rattle.saphyr_scanner.proofs.Filling.{IsSettled, settled_once}
@@ -28,8 +28,8 @@ Leaves limit t u (Some x) = rest limit t ≡ before x (rest limit u)
 abbrev Takes : ℕ → State → Option Piece × State → Type 0
 Takes limit t r = Leaves limit t r.1 r.0
 
-at_end : (limit : ℕ) (c : Core) (n : ℕ) → needs_token (holding c [] n) ≡ false → rest limit (holding c [] n) ≡ none
-at_end limit c n ready = cond-true c.ended _ _ (over c.ended ready)
+rest_at_end : (limit : ℕ) (c : Core) (n : ℕ) → needs_token (holding c [] n) ≡ false → rest limit (holding c [] n) ≡ none
+rest_at_end limit c n ready = cond-true c.ended _ _ (over c.ended ready)
   where
     over : (b : Bool) → (not b && true) ≡ false → b ≡ true
     over true e = refl
@@ -57,7 +57,7 @@ place_taken limit c opening.FlowMappingAndKey t ps n ready =
 
 first_taken : (limit : ℕ) (c : Core) (ps : List Place) (n : ℕ) → needs_token (holding c ps n) ≡ false
     → Takes limit (holding c ps n) (take_token (holding c ps n))
-first_taken limit c [] n ready = (at_end limit c n ready, refl)
+first_taken limit c [] n ready = (rest_at_end limit c n ready, refl)
 first_taken limit c (p ∷ ps) n ready = place_taken limit c p.opening p.piece ps n ready
 
 -- ## What a call for the next token gives
@@ -73,7 +73,7 @@ pub filled : Readers → (limit : ℕ) (s t : State) → fill limit s ≡ Ok t
     → (remaining limit s ≡ rest limit t) × (needs_token t ≡ false) × IsSettled t
 unfolding fill
 filled laws limit s t e =
-    let b = bind_ok (settled s) _ t e in
+    let b = bind_ok (without_far_key s) _ t e in
     let f = filled_in laws limit (suc (size b.0.core)) b.0 t (omega arith) (settled_once s b.0 b.1) b.2 in
     (remaining_is limit s b.0 b.1 ∙ f.same, f.ready, f.settles)
 
@@ -103,8 +103,9 @@ stopped laws limit s stops.OutOfMemory old new f is = tt
 stopped laws limit s (stops.Refused e) old new f is = sym is ∙ refused_first laws limit s e f
 
 pub handed_over : Readers → (limit : ℕ) (s t u : State) (token : Token) (r : Result Bool Stop) (old : Remaining)
-    → fill limit s ≡ Ok t → Moves (λ x. (option_map piece (written x token), u)) r (Ok (take_token t))
-    → remaining limit s ≡ old → Hands (handed token r) old (remaining limit u)
-handed_over laws limit s t u token (Ok x) old e took is = hands_out laws limit s t u (written x token) old e (cc) is
+    → fill limit s ≡ Ok t → Moves (λ x. (option_map piece (written_token x token), u)) r (Ok (take_token t))
+    → remaining limit s ≡ old → Hands (handed_token token r) old (remaining limit u)
+handed_over laws limit s t u token (Ok x) old e took is =
+    hands_out laws limit s t u (written_token x token) old e (cc) is
 handed_over laws limit s t u token (Err stops.OutOfMemory) old e took is = tt
 handed_over laws limit s t u token (Err (stops.Refused f)) old e took is = absurd (cc)

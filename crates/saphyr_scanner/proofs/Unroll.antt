@@ -5,7 +5,7 @@ use Rattle.saphyr_scalar.specs.Views.Cursor.{◌>>=◌}
 use Rattle.saphyr_scanner.specs.Views.Tokens.{Remaining, none, refused}
 use Rattle.saphyr_scanner.specs.Steps.Queue.{Place}
 use Rattle.saphyr_scanner.specs.Steps.State.{State}
-use Rattle.saphyr_scanner.specs.Steps.Fetch.{size, settled, needs_token, fill_in, fill}
+use Rattle.saphyr_scanner.specs.Steps.Fetch.{size, without_far_key, needs_token, fill_in, fill}
 use Rattle.saphyr_scanner.specs.Steps.Remaining.{before_place, without_first, hand_out, delivered, run, remaining}
 use Rattle.saphyr_scanner.proofs.Effects.Readers.{Readers}
 use Rattle.saphyr_scanner.proofs.Filling.{read, going, smaller_read, less_read, IsSettled, settled_once, read_settles}
@@ -55,11 +55,11 @@ enough laws limit (suc n) (suc m) s a b =
 abbrev pub rest : ℕ → State → Remaining
 rest limit s = run (suc (size s.core)) limit s
 
-pub remaining_is : (limit : ℕ) (s t : State) → settled s ≡ Ok t → remaining limit s ≡ rest limit t
+pub remaining_is : (limit : ℕ) (s t : State) → without_far_key s ≡ Ok t → remaining limit s ≡ rest limit t
 unfolding remaining
 remaining_is limit s t e = rw e refl
 
-pub settled_is : (s : State) → IsSettled s → settled s ≡ Ok s
+pub settled_is : (s : State) → IsSettled s → without_far_key s ≡ Ok s
 settled_is s e = rw e refl
 
 -- what is read first changes nothing
@@ -141,8 +141,8 @@ refused_in laws limit (suc n) s e a k q =
         first needs ∙ read_so (read limit s) refl needs g h
     by false needs h = absurd (cc)
 
-settled_fill : (limit : ℕ) (s : State) (r : Result State Refusal) (e : Refusal) → settled s ≡ r → fill limit s ≡ Err e
-    → Readers → remaining limit s ≡ refused e
+settled_fill : (limit : ℕ) (s : State) (r : Result State Refusal) (e : Refusal)
+    → without_far_key s ≡ r → fill limit s ≡ Err e → Readers → remaining limit s ≡ refused e
 unfolding fill remaining
 settled_fill limit s (Ok t) e i f laws =
     let g : fill_in (suc (size t.core)) limit t ≡ Err e =
@@ -156,4 +156,4 @@ settled_fill limit s (Err d) e i f laws =
 
 pub refused_first : Readers → (limit : ℕ) (s : State) (e : Refusal) → fill limit s ≡ Err e
     → remaining limit s ≡ refused e
-refused_first laws limit s e f = settled_fill limit s (settled s) e refl f laws
+refused_first laws limit s e f = settled_fill limit s (without_far_key s) e refl f laws

@@ -3,6 +3,7 @@ pub mod Examples
 pub mod Views
 pub mod Steps
 pub mod SameKinds
+pub mod TakenOff
 pub mod TokensTaken
 pub mod SpansInOrder
 pub mod Ends

@@ -4,6 +4,7 @@
 use Rattle.std.specs.Prelude.{◌≡◌, ℕ, ◌+◌, ◌≤◌, Bool, not, ◌&&◌, ◌==◌, ◌⊎◌, List, [], ◌∷◌, ◌++◌, length, drop, slice_index, Option, Some, None, IsTrue, IsFalse, codes, encode_utf8_all}
 use Rattle.saphyr_input.specs.Classes.{is_blank, is_break, is_breakz, is_blank_or_breakz, is_yaml_non_break, is_anchor_char, is_one_of, byte_order_mark}
 use Rattle.saphyr_input.specs.Places.{is_document_start, is_document_end, is_blank_or_break}
+use Rattle.saphyr_input.specs.Indicators.{ampersand, asterisk, colon, comma, greater_than, hyphen, left_brace, left_bracket, number_sign, question_mark, right_brace, right_bracket, vertical_bar}
 use Rattle.saphyr_scalar.specs.declared.scalar.position.Marker.{Marker}
 use Rattle.saphyr_scalar.specs.declared.scalar.position.Span.{Span}
 use Rattle.saphyr_scalar.specs.declared.scalar.fault.Refusal.{Refusal}
@@ -66,7 +67,7 @@ pub data IsPassedOver : Marker → List ℕ → Marker → List ℕ → Type 0 w
       → IsPassedOver (next_line m (break_len t)) (drop (break_len t) t) n u → IsPassedOver m t n u
   comment : (m : Marker) (words t : List ℕ) (n : Marker) (u : List ℕ) → AreIn is_yaml_non_break words
       → IsFalse (is_yaml_non_break (slice_index t 0)) → IsPassedOver (along m (1 + length words)) t n u
-      → IsPassedOver m (35 ∷ (words ++ t)) n u
+      → IsPassedOver m (number_sign ∷ (words ++ t)) n u
 
 abbrev pub AreApart : Cursor → Cursor → Type 0
 AreApart s t = IsPassedOver s.mark s.rest t.mark t.rest
@@ -85,7 +86,7 @@ HasNoText span s t = (span.end ≡ span.start) × IsPlaceOrEnd s span.start × (
 -- nor
 -- a comment stands there.
 abbrev pub begins_text : ℕ → Bool
-begins_text c = not (is_blank_or_break c) && not (c == 35)
+begins_text c = not (is_blank_or_break c) && not (c == number_sign)
 
 abbrev pub IsBlockStart : Span → Cursor → Cursor → Type 0
 IsBlockStart span s t = (span.end ≡ span.start) × (span.start ≡ s.mark) × (t ≡ s)
@@ -142,18 +143,19 @@ IsFlowIndicator c span s t = TakesCharacter c s t × (span.start ≡ s.mark) × 
 
 -- 8.2.1: `-`, whose span is empty and stands behind the blanks and the comment that follow
 abbrev pub IsDash : Span → Cursor → Cursor → Type 0
-IsDash span s t = TakesCharacter 45 s t × IsTrue (is_blank_or_breakz (slice_index t.rest 0)) × LiesOnLine t span.start
+IsDash span s t =
+    TakesCharacter hyphen s t × IsTrue (is_blank_or_breakz (slice_index t.rest 0)) × LiesOnLine t span.start
     × (span.end ≡ span.start)
 
 -- 7.4.2, 8.2.2: `?`, whose span goes on over blanks, breaks and comments
 abbrev pub IsQuestionMark : Span → Cursor → Cursor → Type 0
 IsQuestionMark span s t =
-    TakesCharacter 63 s t × IsTrue (is_blank_or_breakz (slice_index t.rest 0)) × (span.start ≡ s.mark)
+    TakesCharacter question_mark s t × IsTrue (is_blank_or_breakz (slice_index t.rest 0)) × (span.start ≡ s.mark)
     × ((behind : List ℕ) × IsPassedOver t.mark t.rest span.end behind)
 
 -- 7.4.2, 8.2.2: `:`, before which the span stands, empty
 abbrev pub IsColon : Span → Cursor → Cursor → Type 0
-IsColon span s t = TakesCharacter 58 s t × (span.start ≡ s.mark) × (span.end ≡ s.mark)
+IsColon span s t = TakesCharacter colon s t × (span.start ≡ s.mark) × (span.end ≡ s.mark)
 
 -- ## Scalars (7.3, 8.1)
 
@@ -184,8 +186,8 @@ pub record IsPlainToken (value : List ℕ) (span : Span) (s t : Cursor) : Type 0
   pub uncut : (reading.white ≡ []) ⊎ IsFalse (is_break (slice_index t.rest 0))
 
 abbrev pub block_indicator : BlockStyle → ℕ
-block_indicator block_style.Literal = 124
-block_indicator block_style.Folded = 62
+block_indicator block_style.Literal = vertical_bar
+block_indicator block_style.Folded = greater_than
 
 -- The least_column that is given counts from the innermost open block collection, whose content stands right of its
 -- column.
@@ -219,16 +221,16 @@ IsToken indent tokens.ByteOrderMark span s t = IsMark span s t
 IsToken indent tokens.BlockSequenceStart span s t = IsBlockStart span s t
 IsToken indent tokens.BlockMappingStart span s t = IsBlockStart span s t
 IsToken indent tokens.BlockEnd span s t = HasNoText span s t
-IsToken indent tokens.FlowSequenceStart span s t = IsFlowIndicator 91 span s t
-IsToken indent tokens.FlowSequenceEnd span s t = IsFlowIndicator 93 span s t
-IsToken indent tokens.FlowMappingStart span s t = IsFlowIndicator 123 span s t ⊎ HasNoText span s t
-IsToken indent tokens.FlowMappingEnd span s t = IsFlowIndicator 125 span s t ⊎ HasNoText span s t
+IsToken indent tokens.FlowSequenceStart span s t = IsFlowIndicator left_bracket span s t
+IsToken indent tokens.FlowSequenceEnd span s t = IsFlowIndicator right_bracket span s t
+IsToken indent tokens.FlowMappingStart span s t = IsFlowIndicator left_brace span s t ⊎ HasNoText span s t
+IsToken indent tokens.FlowMappingEnd span s t = IsFlowIndicator right_brace span s t ⊎ HasNoText span s t
 IsToken indent tokens.BlockEntry span s t = IsDash span s t
-IsToken indent tokens.FlowEntry span s t = IsFlowIndicator 44 span s t
+IsToken indent tokens.FlowEntry span s t = IsFlowIndicator comma span s t
 IsToken indent tokens.Key span s t = IsQuestionMark span s t ⊎ HasNoText span s t
 IsToken indent tokens.Value span s t = IsColon span s t
-IsToken indent (tokens.Alias name) span s t = IsNameToken 42 name span s t
-IsToken indent (tokens.Anchor name) span s t = IsNameToken 38 name span s t
+IsToken indent (tokens.Alias name) span s t = IsNameToken asterisk name span s t
+IsToken indent (tokens.Anchor name) span s t = IsNameToken ampersand name span s t
 IsToken indent (tokens.Tag handle suffix) span s t = IsTagToken handle suffix span s t
 IsToken indent (tokens.Scalar style value) span s t = IsScalarToken style indent value span s t
 

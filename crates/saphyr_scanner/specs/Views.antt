@@ -1,4 +1,5 @@
 -- What contracts see of tokens, of the queue and of the engine.
 pub mod Tokens
+pub mod Places
 pub mod Queue
 pub mod Engine

@@ -75,7 +75,7 @@ pub(crate) struct Engine<T: Input> {
 impl<T: Input> Engine<T> {
     ghost use Rattle.std.specs.Prelude.{Err, false};
     ghost use Rattle.saphyr_scalar.specs.Views.Reader.{Moves};
-    ghost use Rattle.saphyr_scanner.specs.Views.Engine.{state, CarriesBy, answered};
+    ghost use Rattle.saphyr_scanner.specs.Views.Engine.{state, CarriesBy, answer_of};
     ghost use Rattle.saphyr_scanner.specs.Views.Tokens.{kind_of};
     ghost use Rattle.saphyr_scalar.specs.declared.scalar.fault.Stop.TheVariants.{Refused};
 
@@ -130,7 +130,7 @@ impl<T: Input> Engine<T> {
     // Keeps what ended the reading, and tells whether nothing did.
     #[inline(always)]
     fn keep(&mut self, ended: Result<(), Stop>) -> bool
-        ensures told { answered result self.new.stop ≡ ended }
+        ensures told { answer_of result self.new.stop ≡ ended }
         ensures same { state self.new ≡ state self.old }
     {
         match ended {
@@ -146,7 +146,7 @@ impl<T: Input> Engine<T> {
     #[inline(always)]
     fn put(&mut self, start: Marker, end: Marker, kind: TokenType) -> Result<(), AllocError>
         ensures { OnOk result (state self.new
-            ≡ spec_state.acting (spec.from_to start end (kind_of kind)) (state self.old)) }
+            ≡ spec_state.with_action (spec.from_to start end (kind_of kind)) (state self.old)) }
     {
         let span = Span::new(start, end);
         self.queue
@@ -157,7 +157,7 @@ impl<T: Input> Engine<T> {
     #[inline(always)]
     fn put_empty(&mut self, mark: Marker, kind: TokenType) -> Result<(), AllocError>
         ensures { OnOk result (state self.new
-            ≡ spec_state.acting (spec.at_mark mark (kind_of kind)) (state self.old)) }
+            ≡ spec_state.with_action (spec.at_mark mark (kind_of kind)) (state self.old)) }
     {
         self.put(mark, mark, kind)
     }
@@ -166,7 +166,7 @@ impl<T: Input> Engine<T> {
     #[inline(always)]
     fn put_from(&mut self, start: Marker, kind: TokenType) -> Result<(), AllocError>
         ensures { OnOk result (state self.new
-            ≡ spec_state.acting (spec.up_to_here start (kind_of kind) (state self.old).core)
+            ≡ spec_state.with_action (spec.up_to_here start (kind_of kind) (state self.old).core)
             (state self.old)) }
     {
         let end = self.reader.mark();
@@ -177,7 +177,7 @@ impl<T: Input> Engine<T> {
     #[inline(always)]
     fn separate(&mut self) -> Result<SkipTabs, Stop>
         ensures { Moves (λ found. (found, state self.new)) result
-            (spec_state.separated (passing.separate (state self.old).core) (state self.old)) }
+            (spec_state.on_core_with (passing.separate (state self.old).core) (state self.old)) }
     {
         Ok(self.reader.skip_ws_to_eol(SkipTabs::Yes)?)
     }

@@ -16,6 +16,7 @@ ghost use Rattle.saphyr_scanner.specs.SpansInOrder.{AreInOrder};
 ghost use Rattle.saphyr_scanner.specs.AtPlaces.{AreAtPlaces};
 ghost use Rattle.saphyr_scanner.specs.Ends.{EndsWithStream};
 ghost use Rattle.saphyr_scanner.specs.Steps.Gap as gaps;
+ghost use Rattle.saphyr_scanner.specs.TakenOff.{Readers};
 ghost use Rattle.saphyr_scanner.specs.TokensTaken.{AreApart, AreTakenFrom, AreTokens, LiesOnLine, IsPlaceOf};
 ghost use Rattle.saphyr_input.specs.Breaks.{normalized};
 ghost use Rattle.saphyr_scalar.specs.Views.Cursor.{Cursor, fresh, separation};
@@ -69,6 +70,19 @@ pub fn tells_json_tokens()
         → Yields forest (json.json_tokens forest) }
 {}
 
+/// Each reader of a token takes characters off the text, so that scanning ends. Like all laws it does nothing when it
+/// runs.
+pub fn takes_characters_off()
+    ensures { Readers }
+{
+    takes_plain();
+    takes_quoted();
+    takes_block_scalar();
+    takes_anchor();
+    takes_tag();
+    takes_directive();
+}
+
 /// Each text of JSON within the limit, with at most 255 collections open at once, gives the tokens of
 /// its forest, and no fault.
 pub fn scans_each_json()
@@ -79,12 +93,7 @@ pub fn scans_each_json()
     reads_each_plain_word();
     reads_each_double_quoted();
     counts_each_double_quoted();
-    takes_plain();
-    takes_quoted();
-    takes_block_scalar();
-    takes_anchor();
-    takes_tag();
-    takes_directive();
+    takes_characters_off();
 }
 
 /// A text and its normalized text have tokens of the same kinds, and a refusal with the same text ends both
@@ -100,12 +109,7 @@ pub fn scans_breaks_alike()
     spells_each_anchor();
     spells_each_tag();
     spells_each_directive();
-    takes_plain();
-    takes_quoted();
-    takes_block_scalar();
-    takes_anchor();
-    takes_tag();
-    takes_directive();
+    takes_characters_off();
 }
 
 /// Each text of the layout grammar, within the limit, gives tokens of its forest, and no fault.
@@ -124,12 +128,7 @@ pub fn scans_each_layout_text()
     reads_each_tag();
     reads_each_directive();
     reads_each_reserved_directive();
-    takes_plain();
-    takes_quoted();
-    takes_block_scalar();
-    takes_anchor();
-    takes_tag();
-    takes_directive();
+    takes_characters_off();
 }
 
 /// A text of the layout grammar ends with a line of `---` or `...`: whatever follows its last break, the tokens up to
@@ -151,12 +150,7 @@ pub fn hands_out_markers()
     reads_each_tag();
     reads_each_directive();
     reads_each_reserved_directive();
-    takes_plain();
-    takes_quoted();
-    takes_block_scalar();
-    takes_anchor();
-    takes_tag();
-    takes_directive();
+    takes_characters_off();
 }
 
 /// The spans of a text's tokens stand one behind the other, within the text.
@@ -176,12 +170,7 @@ pub fn orders_spans()
 pub fn ends_with_the_stream()
     ensures { (limit : ℕ) (text : List ℕ) → EndsWithStream (scan limit text) }
 {
-    takes_plain();
-    takes_quoted();
-    takes_block_scalar();
-    takes_anchor();
-    takes_tag();
-    takes_directive();
+    takes_characters_off();
 }
 
 /// A text has five tokens at most for each character that the limit allows, and ten.
@@ -194,12 +183,7 @@ pub fn bounds_tokens()
     spells_each_anchor();
     spells_each_tag();
     spells_each_directive();
-    takes_plain();
-    takes_quoted();
-    takes_block_scalar();
-    takes_anchor();
-    takes_tag();
-    takes_directive();
+    takes_characters_off();
 }
 
 /// What is passed between two tokens is blanks, breaks and comments alone.
@@ -226,12 +210,7 @@ pub fn takes_all_tokens()
     spells_each_anchor();
     spells_each_tag();
     spells_each_directive();
-    takes_plain();
-    takes_quoted();
-    takes_block_scalar();
-    takes_anchor();
-    takes_tag();
-    takes_directive();
+    takes_characters_off();
     refuses_inside();
 }
 

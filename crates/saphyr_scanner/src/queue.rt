@@ -1,20 +1,20 @@
 //! Tokens that wait to be handed out, and what is told in front of one that turns out to be a key.
 
 mod cloning;
+mod held;
 mod near;
 mod place;
-mod short;
 mod slot;
+mod texts;
 
 ghost use Rattle.std.specs.Prelude.{◌≡◌, false, Ok, OnOk, length};
 ghost use Rattle.saphyr_scanner.specs.Steps.Queue as spec;
 
-use crate::queue::place::Place;
+use crate::queue::held::Held;
 use crate::queue::slot::Slot;
 use crate::token::{Token, TokenType};
 use saphyr_scalar::{Span, Spare, Stop};
 use std::alloc::{AllocError, Global};
-use std::collections::VecDeque;
 
 /// What stands in front of a token: nothing, or the tokens that make it a key.
 #[derive(Clone, Copy, Debug, PartialEq, Eq)]
@@ -39,7 +39,7 @@ pub(crate) struct Queue {
     first: Slot,
     second: Slot,
     // The tokens behind them in the order of the text.
-    places: VecDeque<Place>,
+    held: Held,
     // How many places were handed out, which is the number of the first one here.
     handed: usize,
 }
@@ -56,7 +56,7 @@ impl Queue {
         Queue {
             first: Slot::new(),
             second: Slot::new(),
-            places: VecDeque::new(alloc),
+            held: Held::new(alloc),
             handed: 0,
         }
     }
@@ -65,7 +65,7 @@ impl Queue {
     pub(crate) fn is_empty(&self) -> bool
         ensures { result ≡ spec.is_empty (queue self.now) }
     {
-        !self.first.is_full && !self.second.is_full && self.places.is_empty()
+        !self.first.is_full && !self.second.is_full && self.held.is_empty()
     }
 
     /// The number of the first place.
@@ -80,7 +80,7 @@ impl Queue {
         ensures { Moves (λ n. n) result (Ok (spec.next (queue self.now))) }
     {
         let slots = usize::from(self.first.is_full) + usize::from(self.second.is_full);
-        self.places
+        self.held
             .len()
             .checked_add(slots)
             .and_then(|count| self.handed.checked_add(count))
@@ -98,7 +98,7 @@ impl Queue {
     ) -> Result<(), AllocError>
         ensures { OnOk result (queue self.new ≡ spec.put (piece token) (queue self.old)) }
     {
-        if self.second.is_full || !self.places.is_empty() {
+        if self.second.is_full || !self.held.is_empty() {
             let Token { span, kind } = token;
             return self.put_behind(alloc, &span, kind, spare);
         }
@@ -123,14 +123,10 @@ impl Queue {
         ensures { OnOk result (queue self.new
             ≡ spec.put (record { span = span.now; kind = kind_of kind }) (queue self.old)) }
     {
-        let place = Place::new(alloc, span, kind, spare)?;
-        self.places.reserve(1)?;
-        self.places.push_back_reserved(place);
-        Ok(())
+        self.held.put(alloc, span, kind, spare)
     }
 
     /// Tells what stands in front of the token at a place.
-    #[tactic(auto, using(crate::proofs::Places::opened_outside))]
     pub(crate) fn set_opening(&mut self, number: usize, opening: Opening)
         ensures { queue self.new ≡ spec.with_opening number opening (queue self.old) }
     {
@@ -149,59 +145,7 @@ impl Queue {
             }
             nth -= 1;
         }
-        if let Some(place) = self.places.get_mut(nth) {
-            place.open(opening);
-        }
-    }
-
-    // Takes the first place behind the slots off, if there is one, and writes its token into `token`.
-    #[inline(always)]
-    fn take_place(
-        &mut self,
-        alloc: Global,
-        token: &mut Token,
-        spare: &mut Spare,
-    ) -> Result<bool, Stop>
-        requires first { self.old.first.is_full ≡ false }
-        requires second { self.old.second.is_full ≡ false }
-        ensures { TakesOffBy spec.take_place self.old result token.new self.new }
-    {
-        let Some(handed) = self.handed.checked_add(1) else {
-            return Err(Stop::OutOfMemory);
-        };
-        let Some(place) = self.places.pop_front() else {
-            return Ok(false);
-        };
-        self.handed = handed;
-        place.write_into(alloc, token, spare)?;
-        Ok(true)
-    }
-
-    // Takes the first token behind the slots off, if there is one, and writes it into `token`.
-    #[inline(always)]
-    fn take_behind(
-        &mut self,
-        alloc: Global,
-        token: &mut Token,
-        spare: &mut Spare,
-    ) -> Result<bool, Stop>
-        requires first { self.old.first.is_full ≡ false }
-        requires second { self.old.second.is_full ≡ false }
-        ensures { TakesOffBy spec.take self.old result token.new self.new }
-    {
-        let Some(place) = self.places.front_mut() else {
-            return Ok(false);
-        };
-        let (kind, left) = match place.opening() {
-            Opening::Nothing => return self.take_place(alloc, token, spare),
-            Opening::Key => (TokenType::Key, Opening::Nothing),
-            Opening::BlockMappingAndKey => (TokenType::BlockMappingStart, Opening::Key),
-            Opening::FlowMappingAndKey => (TokenType::FlowMappingStart, Opening::Key),
-        };
-        token.span = Span::empty(place.start());
-        token.kind = kind;
-        place.open(left);
-        Ok(true)
+        self.held.open(nth, opening);
     }
 
     /// Takes the first token off, if there is one, and writes it into `token`.
@@ -215,7 +159,7 @@ impl Queue {
         ensures { TakesOffBy spec.take self.old result token.new self.new }
     {
         if !self.first.is_full && !self.second.is_full {
-            return self.take_behind(alloc, token, spare);
+            return self.held.take_into(alloc, token, &mut self.handed, spare);
         }
         if self.handed == usize::MAX {
             return Err(Stop::OutOfMemory);

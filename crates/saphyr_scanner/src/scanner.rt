@@ -2,18 +2,15 @@
 
 ghost use Rattle.std.specs.Prelude.{◌≡◌, length};
 ghost use Rattle.saphyr_scanner.specs.Steps.Remaining.{scan};
-ghost use Rattle.saphyr_scanner.specs.Views.Tokens.{Hands, handed};
+ghost use Rattle.saphyr_scanner.specs.Views.Tokens.{Hands, handed_token};
 ghost use Rattle.saphyr_scanner.specs.SpansInOrder.{AreInOrder};
 ghost use Rattle.saphyr_scanner.specs.TokensTaken.{AreTakenFrom};
 
 use crate::engine::Engine;
-use crate::law::{orders_spans, takes_all_tokens};
+use crate::law::{orders_spans, takes_all_tokens, takes_characters_off};
 use crate::token::Token;
 use saphyr_input::input::{CloneInput, Input};
 use saphyr_scalar::Stop;
-use saphyr_scalar::scalar::{
-    takes_anchor, takes_block_scalar, takes_directive, takes_plain, takes_quoted, takes_tag,
-};
 use std::alloc::{AllocError, Global};
 use std::marker::Model;
 
@@ -75,15 +72,10 @@ impl<T: Input> Scanner<T> {
     /// written there.
     #[inline(always)]
     pub fn next_token_into(&mut self, token: &mut Token) -> Result<bool, Stop>
-        ensures { Hands (handed token.new result) self.old self.new }
+        ensures { Hands (handed_token token.new result) self.old self.new }
     {
-        // Laws, which do nothing when they run: each says that its reader takes characters off.
-        takes_plain();
-        takes_quoted();
-        takes_block_scalar();
-        takes_anchor();
-        takes_tag();
-        takes_directive();
+        // A law, which does nothing when it runs.
+        takes_characters_off();
         self.engine.fill(self.limit)?;
         self.engine.take_into(token)
     }

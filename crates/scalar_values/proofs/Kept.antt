@@ -7,16 +7,16 @@ use Rattle.scalar_values.specs.Block.{Line, Empty, Content, has_content, content
 use Rattle.scalar_values.specs.declared.block.BlockStyle.TheVariants.{Literal}
 use Rattle.scalar_values.specs.declared.block.Chomping.TheVariants.{Keep}
 
-one_more : (n : ℕ) (text : List ℕ) → line_feeds (suc n) ++ text ≡ line_feeds n ++ (line_feed ∷ text)
-one_more zero text = refl
-one_more (suc n) text = ap (λ (t : List ℕ). line_feed ∷ t) (one_more n text)
+one_more_line_feed : (n : ℕ) (text : List ℕ) → line_feeds (suc n) ++ text ≡ line_feeds n ++ (line_feed ∷ text)
+one_more_line_feed zero text = refl
+one_more_line_feed (suc n) text = ap (λ (t : List ℕ). line_feed ∷ t) (one_more_line_feed n text)
 
 kept_behind : (above : List ℕ) (n : ℕ) (lines : List Line)
     → contents_behind Literal above n lines ++ (line_feed ∷ line_feeds (empty_at_end n lines))
     ≡ line_feed ∷ (line_feeds n ++ each_line lines)
 kept_behind above n [] = ap (λ (t : List ℕ). line_feed ∷ t) (sym (append-nil (line_feeds n)))
 kept_behind above n (Empty ∷ lines) =
-    kept_behind above (suc n) lines ∙ ap (λ (t : List ℕ). line_feed ∷ t) (one_more n (each_line lines))
+    kept_behind above (suc n) lines ∙ ap (λ (t : List ℕ). line_feed ∷ t) (one_more_line_feed n (each_line lines))
 kept_behind above n (Content text ∷ lines) =
     let rest = contents_behind Literal text zero lines in
     let end = line_feed ∷ line_feeds (empty_at_end zero lines) in

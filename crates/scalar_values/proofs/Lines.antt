@@ -67,9 +67,9 @@ told_at c cs false e others = (
       (rw e at h) in let rest = others.1 yes in (c ∷ rest.0, rest.1, rw (e, rest.2) refl),
 )
 
-told : (text : List ℕ) → IsToldByBreak text
-told [] = (λ h. (refl, refl), λ h. absurd (cc))
-told (c ∷ cs) = told_at c cs (c == line_feed) refl (told cs)
+told_by_break : (text : List ℕ) → IsToldByBreak text
+told_by_break [] = (λ h. (refl, refl), λ h. absurd (cc))
+told_by_break (c ∷ cs) = told_at c cs (c == line_feed) refl (told_by_break cs)
 
 picked : (b : Bool) (x n : ℕ) → cond b (Some x) None ≡ Some n → (b ≡ true) × (x ≡ n)
 picked true x n e = (refl, cc)
@@ -90,15 +90,15 @@ pub no_break_at : (text : List ℕ) → position (λ c. c == line_feed) text ≡
 no_break_at text e =
     let none = unpicked (nat_lt (line_len text) (length text)) (line_len text) e in
     let all : length text ≤ line_len text = grind (arith, nat_tests, none) in
-    (told text).0 (has_none text all)
+    (told_by_break text).0 (has_none text all)
 
 -- a break at a text's end ends its last line
 ended_at : (c : ℕ) (cs : List ℕ) (b more : Bool) → (c == line_feed) ≡ b → has_break cs ≡ more
     → ended_lines (cs ++ line_feed ∷ []) ≡ ended_lines cs ++ last_line cs ∷ []
     → ended_lines (c ∷ (cs ++ line_feed ∷ [])) ≡ ended_lines (c ∷ cs) ++ last_line (c ∷ cs) ∷ []
 ended_at c cs true more e f others = rw (e, others) refl
-ended_at c cs false true e f others = let rest = (told cs).1 f in rw (e, others, f, rest.2) refl
-ended_at c cs false false e f others = let rest = (told cs).0 f in rw (e, others, f, rest.0) refl
+ended_at c cs false true e f others = let rest = (told_by_break cs).1 f in rw (e, others, f, rest.2) refl
+ended_at c cs false false e f others = let rest = (told_by_break cs).0 f in rw (e, others, f, rest.0) refl
 
 ended_more : (text : List ℕ) → ended_lines (text ++ line_feed ∷ []) ≡ ended_lines text ++ last_line text ∷ []
 ended_more [] = refl

@@ -152,13 +152,13 @@ spelling_taken quote (c ∷ text) item n e = special_or_itself quote c text item
 abbrev pub IsTakenToQuote : Quote → List Item → List ℕ → Type 0
 IsTakenToQuote quote items text = (inside : List ℕ) × Spells quote items inside × (text ≡ inside ++ mark quote ∷ [])
 
-closed : (quote : Quote) (c : ℕ) (text : List ℕ) (items : List Item) → is_closing_at_end quote c text ≡ true → []
+read_at_close : (quote : Quote) (c : ℕ) (text : List ℕ) (items : List Item) → is_closing_at_end quote c text ≡ true → []
     ≡ items
     → IsTakenToQuote quote items (c ∷ text)
-closed quote c [] items closing e =
+read_at_close quote c [] items closing e =
     subst (λ (is : List Item). IsTakenToQuote quote is (c ∷ [])) e
     ([], refl, ap (λ (d : ℕ). d ∷ []) (equal_by_test c (mark quote) true closing refl))
-closed quote c (d ∷ text) items closing e = absurd (cc)
+read_at_close quote c (d ∷ text) items closing e = absurd (cc)
 
 one_taken : (quote : Quote) (c : ℕ) (text : List ℕ) (item : Item) (n : ℕ) (items : List Item)
     → IsTaken (IsSpelling quote) item n (c ∷ text) → IsTakenToQuote quote items (drop (pred n) text)
@@ -179,7 +179,7 @@ closed_or_one : (quote : Quote) (c : ℕ) (text : List ℕ) (items : List Item) 
     (λ first. option_map (λ items. first.0 ∷ items) (items_to_quote quote (pred first.1) text))
     (first_item quote (c ∷ text))) ≡ Some items
     → IsTakenToQuote quote items (c ∷ text)
-closed_or_one quote c text items true closing others e = closed quote c text items closing (cc)
+closed_or_one quote c text items true closing others e = read_at_close quote c text items closing (cc)
 closed_or_one quote c text items false unclosed others e =
     let (first, found, chain) =
     chained_from (λ first. option_map (λ items. first.0 ∷ items) (items_to_quote quote (pred first.1) text))

@@ -1,6 +1,7 @@
 -- The readings of flow scalars (YAML 1.2.2, 7.3), over texts whose breaks are normalized.
 use Rattle.std.specs.Prelude.{ℕ, zero, suc, pred, ◌+◌, ◌==◌, Bool, false, ◌||◌, if◌then◌else◌, Option, Some, None, option_map, option_and_then, List, [], ◌∷◌, map, slice_index}
 use Rattle.saphyr_input.specs.Classes.{line_feed, is_blank}
+pub use Rattle.saphyr_input.specs.Indicators.{quotation_mark, apostrophe, backslash}
 use Rattle.scalar_values.specs.Escapes.{escape}
 use Rattle.scalar_values.specs.Folding.{folded}
 use Rattle.scalar_values.specs.declared.folding.Item.{Item}
@@ -15,15 +16,6 @@ raw_item c = if c == line_feed then Break else (if is_blank c then Blank c else 
 -- 7.3.3: a plain scalar's value
 abbrev pub plain_value : List ℕ → List ℕ
 plain_value text = folded (map raw_item text)
-
-abbrev pub quotation_mark : ℕ
-quotation_mark = 0x22
-
-abbrev pub apostrophe : ℕ
-apostrophe = 0x27
-
-abbrev pub backslash : ℕ
-backslash = 0x5C
 
 -- the character that a quoted scalar begins and ends with
 abbrev pub mark : Quote → ℕ

@@ -26,12 +26,13 @@ record Begins (e : Option Happening) (o : Option (List Happening)) (es : List Ha
   are : o ≡ Some others
   joined : es ≡ first ∷ others
 
-begins : (e : Option Happening) (o : Option (List Happening)) (es : List Happening) → before_all e o ≡ Some es
+before_all_begins : (e : Option Happening) (o : Option (List Happening)) (es : List Happening)
+    → before_all e o ≡ Some es
     → Begins e o es
-begins (Some h) (Some hs) es p = record { first = h; others = hs; is = refl; are = refl; joined = cc }
-begins (Some h) None es p = absurd (cc)
-begins None (Some hs) es p = absurd (cc)
-begins None None es p = absurd (cc)
+before_all_begins (Some h) (Some hs) es p = record { first = h; others = hs; is = refl; are = refl; joined = cc }
+before_all_begins (Some h) None es p = absurd (cc)
+before_all_begins None (Some hs) es p = absurd (cc)
+before_all_begins None None es p = absurd (cc)
 
 -- parts are passed, and their events lead from a nest to another
 record Passes (keep : Bool) (rest : List Part) (es : List Happening) (n m : Nest) : Type 0 where
@@ -45,7 +46,7 @@ one_part : (keep : Bool) (front : List Part) (part : Part) (rest : List Part) (e
     → ((h : Happening) → event_of_part keep front part ≡ Some h → behind_event h n ≡ Some m)
     → Passes keep rest es n m
 one_part keep front part rest es n m p step =
-    let b = begins (event_of_part keep front part) (events_behind keep (part ∷ front) rest) es p in
+    let b = before_all_begins (event_of_part keep front part) (events_behind keep (part ∷ front) rest) es p in
     record {
       front = part ∷ front;
       more = b.others;
@@ -175,17 +176,17 @@ forest_nests forest keep es p =
 
 -- ## Beginnings
 
-whole : (ending : Option Ending) (o : Option Nest) (missing : List Happening) → IsAllUnless ending missing
+whole_at_end : (ending : Option Ending) (o : Option Nest) (missing : List Happening) → IsAllUnless ending missing
     → option_and_then (behind_all missing) o ≡ Some complete → IsWhole ending o
-whole ending None missing h e = absurd (cc)
-whole (Some f) (Some n) missing h e = tt
-whole None (Some n) missing h e =
+whole_at_end ending None missing h e = absurd (cc)
+whole_at_end (Some f) (Some n) missing h e = tt
+whole_at_end None (Some n) missing h e =
     let same : behind_all missing n ≡ Some n = ap (λ (hs : List Happening). behind_all hs n) h in
     let found : Some n ≡ Some complete = sym same ∙ e in
     cc
 
 pub nests : (forest : Forest) (keep : Bool) (a : Answer) → IsOfForest forest keep a → IsNested a
-nests forest keep a h = whole a.fault (behind_all (happenings a.events) outside) h.missing h.all_given
+nests forest keep a h = whole_at_end a.fault (behind_all (happenings a.events) outside) h.missing h.all_given
     (sym (behind_all-append (happenings a.events) h.missing outside)
     ∙ forest_nests forest keep (happenings a.events ++ h.missing) h.are_events)
 
@@ -201,7 +202,8 @@ begins_stream [] None missing h others k p q = let none : [] ≡ h ∷ others = 
 
 pub starts : (forest : Forest) (keep : Bool) (a : Answer) → IsOfForest forest keep a → IsAtStart a
 starts forest keep a h =
-    let b = begins (Some events.StreamStart) (events_behind keep (parts.OpenStream ∷ []) (document_parts forest))
+    let b = before_all_begins (Some events.StreamStart)
+    (events_behind keep (parts.OpenStream ∷ []) (document_parts forest))
     (happenings a.events ++ h.missing) h.are_events in
     let first : events.StreamStart ≡ b.first = cc b.is in
     begins_stream a.events a.fault h.missing b.first b.others h.all_given b.joined first

@@ -6,7 +6,7 @@ use Rattle.saphyr_scalar.specs.declared.scalar.position.Span.{Span}
 use Rattle.saphyr_parser.specs.declared.parser.fault.Fault.{Fault}
 use Rattle.saphyr_parser.specs.declared.parser.fault.Fault.TheVariants as parse
 use Rattle.saphyr_parser.specs.Events.{Happening}
-use Rattle.saphyr_parser.specs.Answer.{Ending, Refused, OutOfMemory, Answer, empty_answer, failed, with_first_event}
+use Rattle.saphyr_parser.specs.Answer.{Ending, Refused, OutOfMemory, Answer, empty_answer, fault_alone, with_first_event}
 use Rattle.saphyr_parser.specs.Cursor.{count, Stays, Refuses}
 use Rattle.yaml_tree.specs.declared.fault.TreeFault.{TreeFault}
 use Rattle.yaml_tree.specs.declared.fault.TreeFault.TheVariants as fault
@@ -45,11 +45,11 @@ reads_more limits all a b e old new r h t = record {
 }
 
 -- the last event can't be taken
-stops : (f : TreeFault) (limits : Limits) (all a b : Answer) (e : Happening × Span) (old : Loader)
+stops_at_last : (f : TreeFault) (limits : Limits) (all a b : Answer) (e : Happening × Span) (old : Loader)
     (r : HasRead limits all a old) → a ≡ with_first_event e b
     → Forbids f limits (happenings r.taken ++ e.0 ∷ []) e.1.start
     → Stops f limits all b
-stops f limits all a b e old r h w = record {
+stops_at_last f limits all a b e old r h w = record {
   taken = r.taken;
   event = e;
   split = split_more all a b r.taken e r.split h;
@@ -80,10 +80,11 @@ pub fails : (f : TreeFault) (limits : Limits) (all a b : Answer) (e : Happening 
 fails (fault.Parse f) limits all a b e old r h w = absurd w
 fails fault.NotFresh limits all a b e old r h w = unnested all (happenings r.taken ++ e.0 ∷ []) (happenings b.events)
     (told_split all a b r.taken e r.split h) w
-fails fault.OutOfMemory limits all a b e old r h w = stops fault.OutOfMemory limits all a b e old r h w
-fails (fault.TooManyNodes at most) limits all a b e old r h w = stops
+fails fault.OutOfMemory limits all a b e old r h w = stops_at_last fault.OutOfMemory limits all a b e old r h w
+fails (fault.TooManyNodes at most) limits all a b e old r h w = stops_at_last
     (fault.TooManyNodes at most) limits all a b e old r h w
-fails (fault.TooDeep at most) limits all a b e old r h w = stops (fault.TooDeep at most) limits all a b e old r h w
+fails (fault.TooDeep at most) limits all a b e old r h w =
+    stops_at_last (fault.TooDeep at most) limits all a b e old r h w
 
 -- ## The last of the events
 
@@ -119,13 +120,15 @@ reads_all limits all a b l r h k =
 
 -- ## The documents
 
-whole : (f : Option Ending) (o : Option Nest) (n : Nest) → f ≡ None → o ≡ Some n → IsWhole f o → n ≡ complete
-whole f o n e g w = subst (λ (x : Option Nest). IsWhole None x) g (subst (λ (x : Option Ending). IsWhole x o) e w)
+whole_is_complete : (f : Option Ending) (o : Option Nest) (n : Nest) → f ≡ None → o ≡ Some n → IsWhole f o
+    → n ≡ complete
+whole_is_complete f o n e g w =
+    subst (λ (x : Option Nest). IsWhole None x) g (subst (λ (x : Option Ending). IsWhole x o) e w)
 
 pub loads_all : (limits : Limits) (all left : Answer) (l : Loader) (r : Result (Vec Document Global) TreeFault)
     → TakesAll limits (Ok tt) all left l → Finishes r l.builder → LoadsDocuments limits r all left
 loads_all limits all left l (Ok documents) t f = (f.0 ∙ t.0.written, t.1, t.0.within, t.2)
-loads_all limits all left l (Err fault.NotFresh) t f = inr (λ w. f (whole all.fault _ _ t.1 t.0.nested w))
+loads_all limits all left l (Err fault.NotFresh) t f = inr (λ w. f (whole_is_complete all.fault _ _ t.1 t.0.nested w))
 loads_all limits all left l (Err fault.OutOfMemory) t f = absurd f
 loads_all limits all left l (Err (fault.Parse g)) t f = absurd f
 loads_all limits all left l (Err (fault.TooManyNodes at most)) t f = absurd f
@@ -145,20 +148,20 @@ nothing_before : {X : Type 0} (xs ys : List X) (y : X) → [] ≡ xs ++ (y ∷ y
 nothing_before [] ys y e = cc
 nothing_before (x ∷ xs) ys y e = cc
 
-never_stops : (f : TreeFault) (limits : Limits) (left : Answer) → Stops f limits (failed OutOfMemory) left → ⊥
+never_stops : (f : TreeFault) (limits : Limits) (left : Answer) → Stops f limits (fault_alone OutOfMemory) left → ⊥
 never_stops f limits left s = nothing_before s.taken left.events s.event s.split
 
 some_fault : (f : Ending) → Some f ≡ None → ⊥
 some_fault f e = cc
 
-no_refusal : (mark : Marker) (info : List ℕ) → Some OutOfMemory ≡ Some (Refused mark info) → ⊥
-no_refusal mark info e = cc
+memory_is_no_refusal : (mark : Marker) (info : List ℕ) → Some OutOfMemory ≡ Some (Refused mark info) → ⊥
+memory_is_no_refusal mark info e = cc
 
 -- then nothing but that fault can be answered
 runs_out : (limits : Limits) (all left : Answer) (r : Result (Vec Document Global) TreeFault) → 0 < count all
-    → LoadsDocuments limits r (failed OutOfMemory) left → LoadsDocuments limits r all left
+    → LoadsDocuments limits r (fault_alone OutOfMemory) left → LoadsDocuments limits r all left
 runs_out limits all left (Ok documents) h l = absurd (some_fault _ l.1)
-runs_out limits all left (Err (fault.Parse (parse.Scan e))) h l = absurd (no_refusal _ _ l.0)
+runs_out limits all left (Err (fault.Parse (parse.Scan e))) h l = absurd (memory_is_no_refusal _ _ l.0)
 runs_out limits all left (Err (fault.Parse parse.OutOfMemory)) h l =
     (record { taken = []; lost = all; split = refl; fault = refl; some_lost = h; within = tt }, l.1)
 runs_out limits all left (Err (fault.Parse parse.Receiver)) h l = l

@@ -30,15 +30,15 @@ pub plain_key : {room indent : ℕ} {in_flow : Bool} {t : List ℕ} → IsPlainK
     → KeyText room (plain_node t) in_flow indent t []
 plain_key {t = t} h e = record { holds = inr (([], t, refl, inl (refl, refl), h, e, refl), refl) }
 
-no_sign : (c : ℕ) → IsTrue (begins_plain c) → c ≢ 35
-no_sign c h e = let f : begins_plain c ≡ false = ap (λ x. begins_plain x) e in cc
+plain_begins_no_comment : (c : ℕ) → IsTrue (begins_plain c) → c ≢ 35
+plain_begins_no_comment c h e = let f : begins_plain c ≡ false = ap (λ x. begins_plain x) e in cc
 
 -- a word that may be or end with an indicator
 pub sign_key : {room indent : ℕ} {in_flow : Bool} (c : ℕ) (cs : List ℕ)
     → IsTrue (list_all (is_word_ink in_flow) (c ∷ cs)) → IsTrue (begins_plain c) → c ∷ cs ≡ plain_value (c ∷ cs)
     → KeyText room (plain_node (c ∷ cs)) in_flow indent (c ∷ cs) []
 sign_key {in_flow = in_flow} c cs h b e =
-    plain_key (inl (((λ f. cc), each (is_word_ink in_flow) (c ∷ cs) h, no_sign c b), b)) e
+    plain_key (inl (((λ f. cc), each (is_word_ink in_flow) (c ∷ cs) h, plain_begins_no_comment c b), b)) e
 
 -- ## Values
 
@@ -89,10 +89,10 @@ pub pair_asked : {room indent : ℕ} {key value : Node} {t : List ℕ} → KeyAn
     → BehindQuestion room key value indent t
 pair_asked h = record { holds = inr (inr h.holds) }
 
-explicit : {room indent : ℕ} {key value : Node} {t : List ℕ} → BehindQuestion room key value indent t
+explicit_pair : {room indent : ℕ} {key value : Node} {t : List ℕ} → BehindQuestion room key value indent t
     → IsExplicitPair key value (IsFlowNode room key true indent) (IsFlowNode room value true indent) indent
     (63 ∷ 32 ∷ t)
-explicit {indent = indent} {t = t} h =
+explicit_pair {indent = indent} {t = t} h =
     (codes " ", t, ((λ e. cc), (blank {indent = indent}).holds, refl), h.holds, refl)
 
 before_nothing : (P : List ℕ → Type 0) (indent : ℕ) (t : List ℕ) → P t → IsBeforeSeparation P indent t
@@ -134,7 +134,7 @@ value_item {indent = indent} {t = t} h =
 pub asked_item : {room indent : ℕ} {key value : Node} {t : List ℕ} → BehindQuestion room key value indent t
     → Item room (pair_node key value) indent (63 ∷ 32 ∷ t)
 asked_item {indent = indent} {t = t} h =
-    record { holds = inr (refl, inr (before_nothing _ indent (63 ∷ 32 ∷ t) (inr (inr (explicit h))))) }
+    record { holds = inr (refl, inr (before_nothing _ indent (63 ∷ 32 ∷ t) (inr (inr (explicit_pair h))))) }
 
 -- a `?` and a blank alone
 pub mark_item : {room indent : ℕ} → Item room (pair_node left_out left_out) indent (codes "? ")
@@ -201,7 +201,7 @@ value_pair h = pair_text (inr (inr (inl (refl, h.holds))))
 
 pub asked_pair : {room indent : ℕ} {key value : Node} {t : List ℕ} → BehindQuestion room key value indent t
     → FlowPair room key value indent (63 ∷ 32 ∷ t)
-asked_pair h = pair_text (inr (inr (inr (explicit h))))
+asked_pair h = pair_text (inr (inr (inr (explicit_pair h))))
 
 pub record FlowPairs (room : ℕ) (pairs : Pairs) (indent : ℕ) (t : List ℕ) : Type 0 where
   pub holds : AreFlowPairs room pairs indent t

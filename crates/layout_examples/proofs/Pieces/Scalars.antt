@@ -32,14 +32,14 @@ pub record FlowText (room : ℕ) (node : Node) (in_flow : Bool) (indent : ℕ) (
 pub record Front (p : Properties) (t : List ℕ) : Type 0 where
   pub holds : IsProperties p t
 
-name : (t : List ℕ) → t ≢ [] → IsTrue (list_all is_anchor_char t) → IsAnchorName t
-name t n h = (n, each is_anchor_char t h)
+anchor_name : (t : List ℕ) → t ≢ [] → IsTrue (list_all is_anchor_char t) → IsAnchorName t
+anchor_name t n h = (n, each is_anchor_char t h)
 
 pub anchor_x : Front (record { anchor = Some (codes "x"); tag = None }) (codes "&x")
-anchor_x = record { holds = (name (codes "x") (λ e. cc) refl, refl) }
+anchor_x = record { holds = (anchor_name (codes "x") (λ e. cc) refl, refl) }
 
 pub alias_x : {room indent : ℕ} {in_flow : Bool} → FlowText room (Alias (codes "x")) in_flow indent (codes "*x")
-alias_x = record { holds = (name (codes "x") (λ e. cc) refl, refl) }
+alias_x = record { holds = (anchor_name (codes "x") (λ e. cc) refl, refl) }
 
 pub record TagText (tag : Tag) (t : List ℕ) : Type 0 where
   pub holds : IsTag tag t

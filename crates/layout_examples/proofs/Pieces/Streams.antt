@@ -126,8 +126,8 @@ directive {t = t} {others} h g = record { holds = (t, [], others, h.holds, no_fi
 some_space : AreSomeBlanks (codes " ")
 some_space = ((λ e. cc), (refl, tt))
 
-no_tail : IsLineTail []
-no_tail = ([], [], tt, inl refl, refl)
+empty_line_tail : IsLineTail []
+empty_line_tail = ([], [], tt, inl refl, refl)
 
 -- a digit
 number : (d : ℕ) → IsTrue (is_digit d) → IsVersionNumber (d - 48) (d ∷ [])
@@ -144,7 +144,7 @@ version major minor h g = record {
     codes "%YAML " ++ (major ∷ 46 ∷ minor ∷ []),
     [],
     (codes " ", major ∷ [], minor ∷ [], some_space, number major h, number minor g, refl),
-    no_tail,
+    empty_line_tail,
     refl,
   );
 }
@@ -158,7 +158,7 @@ tag_prefix handle written h t p = record {
     [],
     h,
     (codes " ", codes " ", written, some_space, some_space, t, p, refl),
-    no_tail,
+    empty_line_tail,
     refl,
   );
 }

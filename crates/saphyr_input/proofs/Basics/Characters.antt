@@ -1,6 +1,6 @@
 -- Classes of characters: one excludes another, or holds it.
-use Rattle.std.proofs.Common.{◌≡◌, ℕ, Bool, true, false, not, List, ◌∷◌, ◌++◌, slice_index, nat_eq, refl, ap, arith, subst, IsTrue}
-use Rattle.std.specs.Prelude.{◌&&◌, ◌||◌, ◌==◌}
+use Rattle.std.proofs.Common.{◌≡◌, ℕ, Bool, true, false, not, List, ◌∷◌, nat_eq, refl, ap, arith, subst, IsTrue}
+use Rattle.std.specs.Prelude.{◌&&◌, ◌==◌}
 use Rattle.std.proofs.lemmas.Bool.Decides.{nat_tests}
 use Rattle.saphyr_input.specs.Breaks.{normalized}
 use Rattle.saphyr_input.specs.Classes.{line_feed, is_z, is_break, is_breakz, is_blank, is_yaml_non_break}

@@ -10,7 +10,7 @@ use Rattle.saphyr_parser.specs.declared.parser.context.NodeContext.TheVariants.{
 use Rattle.saphyr_parser.specs.declared.parser.state.State.{State}
 use Rattle.saphyr_parser.specs.declared.parser.state.State.TheVariants as state
 use Rattle.saphyr_parser.specs.Premises.{DocumentMarker, Starts, Ends}
-use Rattle.saphyr_parser.specs.Steps.Machine.{◌>>=◌, Machine, Told, with_pieces, put_back, push, with_state, forgotten}
+use Rattle.saphyr_parser.specs.Steps.Machine.{◌>>=◌, Machine, Told, with_pieces, put_back, push, with_state, without_ids}
 use Rattle.saphyr_parser.specs.Steps.Documents as document
 use Rattle.saphyr_parser.specs.Steps.Documents.{unpassed_token_from, unpassed_token, is_mark, is_end_or_mark, none_declared, directives, forget_anchors, forget_prefixes}
 use Rattle.saphyr_parser.specs.Steps.Nodes.{node}
@@ -23,23 +23,25 @@ use Rattle.saphyr_parser.proofs.Beside.Passing.{Has, Passes, passes, has, goes_b
 -- ## The beginnings of the stream and of documents
 
 -- anchors are forgotten, and something is expected behind the document
-opened : (w : Beside) (T : Remaining → Remaining → Type 0) (s : State) (m n : Machine) → Expected w s s → With w T m n
+opened_beside : (w : Beside) (T : Remaining → Remaining → Type 0) (s : State) (m n : Machine) → Expected w s s
+    → With w T m n
     → With w T (with_state s (push state.DocumentEnd (forget_anchors m)))
     (with_state s (push state.DocumentEnd (forget_anchors n)))
-opened w T s m n e near =
+opened_beside w T s m n e near =
     record {
       tokens = near.tokens;
       state = e;
       states = (refl, near.states);
-      anchors = ap forgotten near.anchors;
+      anchors = ap without_ids near.anchors;
       prefixes = near.prefixes;
       setting = near.setting;
     }
 
 -- behind a document's marker
-left : (w : Beside) (d : DocumentMarker) (m n : Machine) → With w (λ r q. w.Rest r q ⊎ w.Over d r q) m n → Awaits d m
+left_behind_marker : (w : Beside) (d : DocumentMarker) (m n : Machine) → With w (λ r q. w.Rest r q ⊎ w.Over d r q) m n
+    → Awaits d m
     → Left w m n
-left w d m n near awaits = by near.tokens
+left_behind_marker w d m n near awaits = by near.tokens
   where
     by : w.Rest m.tokens n.tokens ⊎ w.Over d m.tokens n.tokens → Left w m n
     by (inl r) = inl (changed w _ _ m n _ _ _ _ _ _ r near.state near.states near)
@@ -54,14 +56,17 @@ explicit_at w tokens.DocumentStart t u m n h =
     record {
       what = refl;
       span = h.span;
-      machine = left w Starts _ _ (opened w _ state.DocumentContent m n refl h.behind) (refl, (m.states, refl));
+      machine =
+          left_behind_marker w Starts _ _ (opened_beside w _ state.DocumentContent m n refl h.behind)
+          (refl, (m.states, refl));
     }
 explicit_at w tokens.ByteOrderMark t u m n h = refuses w _ t u h.span
 explicit_at w _ t u m n h = refuses w _ t u h.span
 
-explicit : (w : Beside) → AtBoth w (Alike w) (λ k. document.explicit_document) (λ k. document.explicit_document)
+explicit_document_alike : (w : Beside)
+    → AtBoth w (Alike w) (λ k. document.explicit_document) (λ k. document.explicit_document)
 unfolding document.explicit_document directives
-explicit w k t u m n h =
+explicit_document_alike w k t u m n h =
     behind_both w (Alike w) _ _ document.explicit_at document.explicit_at (explicit_at w)
     (directives_beside w (t ∷ m.tokens.pieces) (u ∷ n.tokens.pieces) none_declared (put_back t m) (put_back u n)
     (ahead w (put_back t m) (put_back u n) h.back))
@@ -69,16 +74,16 @@ explicit w k t u m n h =
 implicit_at : (w : Beside) → AtBoth w (Alike w) document.implicit_start_at document.implicit_start_at
 unfolding document.bare_document
 implicit_at w tokens.StreamEnd t u m n h = enters_told w _ _ _ t.span u.span m n refl h.span h.behind
-implicit_at w (tokens.VersionDirective major minor) t u m n h = explicit w _ t u m n h
-implicit_at w (tokens.TagDirective handle prefix) t u m n h = explicit w _ t u m n h
-implicit_at w (tokens.ReservedDirective name) t u m n h = explicit w _ t u m n h
-implicit_at w tokens.DocumentStart t u m n h = explicit w _ t u m n h
+implicit_at w (tokens.VersionDirective major minor) t u m n h = explicit_document_alike w _ t u m n h
+implicit_at w (tokens.TagDirective handle prefix) t u m n h = explicit_document_alike w _ t u m n h
+implicit_at w (tokens.ReservedDirective name) t u m n h = explicit_document_alike w _ t u m n h
+implicit_at w tokens.DocumentStart t u m n h = explicit_document_alike w _ t u m n h
 implicit_at w _ t u m n h = tells w _ t.span u.span _ _ h.span
-    (opened w w.Rest state.BlockNode (put_back t m) (put_back u n) refl h.back)
+    (opened_beside w w.Rest state.BlockNode (put_back t m) (put_back u n) refl h.back)
 
 start_at : (w : Beside) → AtBoth w (Alike w) document.explicit_start_at document.explicit_start_at
 start_at w tokens.StreamEnd t u m n h = enters_told w _ _ _ t.span u.span m n refl h.span h.behind
-start_at w k t u m n h = explicit w k t u m n h
+start_at w k t u m n h = explicit_document_alike w k t u m n h
 
 -- The first machine's tokens were all passed, and the step is the one behind them.
 abbrev pub Passed : Beside → Machine → Machine → (Machine → Result Told Refusal) → Type 0
@@ -88,10 +93,11 @@ Passed w m n go = (ts : List Piece) × (us : List Piece) × With w (w.Over Ends)
 abbrev Starting : Beside → Machine → Machine → (Machine → Result Told Refusal) → Type 0
 Starting w m n go = Tells w (go m) (go n) ⊎ Passed w m n go
 
-starts : (w : Beside) (m n : Machine) (go : Kind → Piece → Machine → Result Told Refusal) → AtBoth w (Alike w) go go
+starts_beside : (w : Beside) (m n : Machine) (go : Kind → Piece → Machine → Result Told Refusal)
+    → AtBoth w (Alike w) go go
     → Near w m n
     → Starting w m n (λ m. unpassed_token_from is_end_or_mark m.tokens.pieces m >>= (λ t. go t.0.kind t.0 t.1))
-starts w m n go f near = by _ _ (passes w _ is_end_or_mark (goes_by_ends w) _ _ m n (ahead w m n near))
+starts_beside w m n go f near = by _ _ (passes w _ is_end_or_mark (goes_by_ends w) _ _ m n (ahead w m n near))
   where
     goes_on_with : Result (Piece × Machine) Refusal → Result Told Refusal
     goes_on_with r = r >>= (λ t. go t.0.kind t.0 t.1)
@@ -106,11 +112,11 @@ starts w m n go f near = by _ _ (passes w _ is_end_or_mark (goes_by_ends w) _ _ 
 
 implicit_start : (w : Beside) (m n : Machine) → Near w m n → Starting w m n document.implicit_start
 unfolding document.implicit_start unpassed_token
-implicit_start w m n near = starts w m n document.implicit_start_at (implicit_at w) near
+implicit_start w m n near = starts_beside w m n document.implicit_start_at (implicit_at w) near
 
 explicit_start : (w : Beside) (m n : Machine) → Near w m n → Starting w m n document.explicit_start
 unfolding document.explicit_start unpassed_token
-explicit_start w m n near = starts w m n document.explicit_start_at (start_at w) near
+explicit_start w m n near = starts_beside w m n document.explicit_start_at (start_at w) near
 
 -- ## The content and the end of documents
 
@@ -178,7 +184,7 @@ end_at w tokens.DocumentEnd t u m n h =
     record {
       what = refl;
       span = h.span;
-      machine = left w Ends _ _ (enters w _ state.ImplicitDocumentStart _ m n refl h.behind) refl;
+      machine = left_behind_marker w Ends _ _ (enters w _ state.ImplicitDocumentStart _ m n refl h.behind) refl;
     }
 end_at w (tokens.VersionDirective major minor) t u m n h = refuses w _ t u h.span
 end_at w (tokens.TagDirective handle prefix) t u m n h = refuses w _ t u h.span

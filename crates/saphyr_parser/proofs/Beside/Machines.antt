@@ -12,7 +12,7 @@ use Rattle.saphyr_parser.specs.declared.parser.state.State.{State}
 use Rattle.saphyr_parser.specs.declared.parser.state.State.TheVariants as state
 use Rattle.saphyr_parser.specs.Events.{Happening}
 use Rattle.saphyr_parser.specs.Premises.{DocumentMarker, Starts, Ends}
-use Rattle.saphyr_parser.specs.Steps.Machine.{◌>>=◌, Machine, Told, told, refusal_at, ending_refusal, with_pieces, taken_token, taken_token_from, put_back, pop, popped, with_state, push, registered}
+use Rattle.saphyr_parser.specs.Steps.Machine.{◌>>=◌, Machine, Told, told, refusal_at, ending_refusal, with_pieces, taken_token, taken_token_from, put_back, pop, pop_from, with_state, push, with_anchor}
 use Rattle.saphyr_parser.specs.Steps.Nodes.{register}
 
 -- ## What is alike
@@ -252,7 +252,7 @@ holds w s r k t u m n e h =
 
 -- one more anchor
 pub registers : (w : Beside) (name : List ℕ) (m n : Machine) → Near w m n
-    → Near w (register name m) (record n { anchors = registered name m.anchors })
+    → Near w (register name m) (record n { anchors = with_anchor name m.anchors })
 registers w name m n near =
     record {
       tokens = near.tokens;
@@ -270,7 +270,7 @@ tells w what s r m n e near = record { what = refl; span = e; machine = inl near
 pub pops : (w : Beside) (m n : Machine) → Near w m n → Near w (pop m) (pop n)
 pops w m n near = by m.states n.states near.states
   where
-    by : (ss rs : List State) → AllExpected w ss rs → Near w (popped ss m) (popped rs n)
+    by : (ss rs : List State) → AllExpected w ss rs → Near w (pop_from ss m) (pop_from rs n)
     by [] [] e = changed w _ _ m n _ _ _ _ _ _ near.tokens refl refl near
     by [] (r ∷ rs) e = absurd (cc)
     by (s ∷ ss) [] e = absurd e

@@ -11,7 +11,7 @@ use Rattle.saphyr_scanner.specs.Grammar.Tokens.{Kind}
 use Rattle.saphyr_scanner.specs.Views.Tokens.{Piece}
 use Rattle.saphyr_parser.specs.declared.parser.context.NodeContext.{NodeContext}
 use Rattle.saphyr_parser.specs.Events.{ResolvedTag}
-use Rattle.saphyr_parser.specs.Steps.Machine.{◌>>=◌, Anchors, Names, meaning, Machine, Told, put_back, registered, next_id}
+use Rattle.saphyr_parser.specs.Steps.Machine.{◌>>=◌, Anchors, Names, meaning, Machine, Told, put_back, with_anchor, next_id}
 use Rattle.saphyr_parser.specs.Steps.Tags.{undeclared, declared_or, declared_prefix, resolved, is_named_handle}
 use Rattle.saphyr_parser.specs.Steps.Contexts.{allows_block, allows_indentless}
 use Rattle.saphyr_parser.specs.Steps.Nodes.{NodeProperties, register, has_property, without_content, node_content_at, node_content, next_content, alias_of, alias_node, behind_anchor_at, behind_anchor, behind_tag_at, behind_tag, node_at, node}
@@ -136,7 +136,7 @@ unfolding behind_anchor
 anchor_beside w name s r c e m n near =
     rw near.anchors (taken w _ (λ k. behind_anchor_at k (next_id m.anchors) s c) (λ k. behind_anchor_at k
     (next_id m.anchors) r c)
-    (register name m) (record n { anchors = registered name m.anchors }) (registers w name m n near)
+    (register name m) (record n { anchors = with_anchor name m.anchors }) (registers w name m n near)
     (behind_anchor_beside w (next_id m.anchors) s r c e))
 
 behind_tag_beside :
@@ -145,7 +145,7 @@ behind_tag_beside :
 behind_tag_beside w tag s r c e (tokens.Anchor name) t u m n h =
     rw h.behind.anchors (next_beside w s.start t.span.end r.start u.span.end (next_id m.anchors)
     (Some tag) c e.0 h.span.1
-    (register name m) (record n { anchors = registered name m.anchors }) (registers w name m n h.behind))
+    (register name m) (record n { anchors = with_anchor name m.anchors }) (registers w name m n h.behind))
 behind_tag_beside w tag s r c e k t u m n h =
     behind_beside w s.start s.end r.start r.end 0 (Some tag) c e.0 e.1 k t u m n h
 

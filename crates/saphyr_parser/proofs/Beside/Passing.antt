@@ -7,7 +7,7 @@ use Rattle.saphyr_scanner.specs.Grammar.Tokens as tokens
 use Rattle.saphyr_scanner.specs.Grammar.Tokens.{Kind}
 use Rattle.saphyr_scanner.specs.Views.Tokens.{Piece, Remaining}
 use Rattle.saphyr_parser.specs.Premises.{Ends}
-use Rattle.saphyr_parser.specs.Steps.Machine.{◌>>=◌, Machine, with_pieces, given, is_listed}
+use Rattle.saphyr_parser.specs.Steps.Machine.{◌>>=◌, Machine, with_pieces, with_meaning, is_listed}
 use Rattle.saphyr_parser.specs.Steps.Documents.{unpassed_token_from, is_mark, is_end_or_mark, Declared, is_directive, directive_at, directives_from}
 use Rattle.saphyr_parser.proofs.Beside.Machines.{Beside, Behind, Spans, With, Ahead, Held, Gives, AtBoth, goes_on, either, of_kind, over, Head, head, holds_head, changed}
 
@@ -122,7 +122,7 @@ directive_beside w (tokens.TagDirective handle prefix) t u ts us d m n e a =
         state = a.state;
         states = a.states;
         anchors = a.anchors;
-        prefixes = ap (given handle prefix) a.prefixes;
+        prefixes = ap (with_meaning handle prefix) a.prefixes;
         setting = a.setting;
       },
     )

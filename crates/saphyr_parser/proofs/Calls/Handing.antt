@@ -10,9 +10,9 @@ use Rattle.saphyr_parser.specs.declared.parser.state.State.TheVariants as state
 use Rattle.saphyr_parser.specs.Events.{Happening}
 use Rattle.saphyr_parser.specs.Steps.Machine.{Machine, Told, told}
 use Rattle.saphyr_parser.specs.Steps.Expected.{event_step, event_step_at}
-use Rattle.saphyr_parser.specs.Answer.{Answer, Ending, empty_answer, failed, with_first_event, deliver, remaining_answer}
-use Rattle.saphyr_parser.specs.Cursor.{EventCursor, Kept, HandsOutNext, IsGiven, IsUnmoved, Refuses, Remembers, count, event_of, finished_behind, inside_behind, to_come}
-use Rattle.saphyr_parser.specs.Calls.{Advances, AdvancesFrom, AdvancesOver, FailsWith, FailsFrom, IsOver, IsOverFrom, IsToldAs, GivesNext}
+use Rattle.saphyr_parser.specs.Answer.{Answer, Ending, empty_answer, fault_alone, with_first_event, deliver, remaining_answer}
+use Rattle.saphyr_parser.specs.Cursor.{EventCursor, Kept, HandsOutNext, Refuses, count, event_of, finished_behind, inside_behind, to_come}
+use Rattle.saphyr_parser.specs.Calls.{Advances, AdvancesFrom, AdvancesOver, FailsWith, IsOver, IsOverFrom, IsToldAs, GivesNext}
 use Rattle.saphyr_parser.proofs.Unroll.{unroll, over}
 
 -- a machine that makes a step isn't at its end
@@ -89,16 +89,16 @@ over_splits (e ∷ es) old new (middle, first, others) =
 
 -- ## The fault that ends the events
 
-told_as : (kept : Ending) (f : Fault) → IsToldAs kept f → Refuses f (failed kept)
-told_as kept (fault.Scan e) h = ap failed h
+told_as : (kept : Ending) (f : Fault) → IsToldAs kept f → Refuses f (fault_alone kept)
+told_as kept (fault.Scan e) h = ap fault_alone h
 told_as kept fault.OutOfMemory h = omega arith
 told_as kept fault.Receiver h = h
 told_as kept fault.InsideDocument h = h
 
-not_given : (g : Bool) (kept : Ending) → g ≡ false → (if g then empty_answer else failed kept) ≡ failed kept
+not_given : (g : Bool) (kept : Ending) → g ≡ false → (if g then empty_answer else fault_alone kept) ≡ fault_alone kept
 not_given g kept e = rw e refl
 
-was_given : (g : Bool) (kept : Ending) → g ≡ true → (if g then empty_answer else failed kept) ≡ empty_answer
+was_given : (g : Bool) (kept : Ending) → g ≡ true → (if g then empty_answer else fault_alone kept) ≡ empty_answer
 was_given g kept e = rw e refl
 
 failing : (c : Option (Happening × Span)) (k : Option Kept) (m : Machine) (i : Bool) (s : Option Span) (f : Fault)
@@ -115,30 +115,17 @@ pub fails : (f : Fault) (old new : EventCursor) → FailsWith f old new
     → Refuses f (to_come old) × (to_come new ≡ empty_answer)
 fails f old new h = failing old.current old.kept old.machine old.inside old.finished f new h
 
-unmoved : (c : Option (Happening × Span)) (k : Option Kept) (f : Fault) (old new : EventCursor)
-    → FailsFrom c k f old new
-    → IsUnmoved old new × IsGiven (Some (Err f)) new.kept
-unmoved (Some next) k f old new h = absurd h
-unmoved None (Some kept) f old new (fresh, same, left) = (
-  (ap (λ (c : EventCursor). c.inside) left, ap (λ (c : EventCursor). c.finished) left),
-  ap (λ (c : EventCursor). c.kept) left,
-)
-unmoved None None f old new (refuses, left) = (
-  (ap (λ (c : EventCursor). c.inside) left, ap (λ (c : EventCursor). c.finished) left),
-  ap (λ (c : EventCursor). c.kept) left,
-)
-
 -- ## The end
 
-none_left : (c : Option (Happening × Span)) (k : Option Kept) (m : Machine) (i : Bool) (s : Option Span)
+over_has_none : (c : Option (Happening × Span)) (k : Option Kept) (m : Machine) (i : Bool) (s : Option Span)
     → IsOverFrom c k m → to_come (record { current = c; kept = k; machine = m; inside = i; finished = s })
     ≡ empty_answer
-none_left (Some next) k m i s h = absurd h
-none_left None (Some kept) m i s h = was_given kept.given kept.fault h
-none_left None None m i s h = over m h
+over_has_none (Some next) k m i s h = absurd h
+over_has_none None (Some kept) m i s h = was_given kept.given kept.fault h
+over_has_none None None m i s h = over m h
 
 pub nothing_left : (c : EventCursor) → IsOver c → to_come c ≡ empty_answer
-nothing_left c h = none_left c.current c.kept c.machine c.inside c.finished h
+nothing_left c h = over_has_none c.current c.kept c.machine c.inside c.finished h
 
 -- ## Each answer of a call
 
@@ -147,16 +134,3 @@ pub gives_hands : (r : Option (Result (Event × Span) Fault)) (old new : EventCu
 gives_hands None old new (done, same) = (nothing_left old done, ap to_come same ∙ nothing_left old done)
 gives_hands (Some (Ok e)) old new h = advances (event_of e) old new h
 gives_hands (Some (Err f)) old new h = fails f old new h
-
-pub gives_remembers : (r : Option (Result (Event × Span) Fault)) (old new : EventCursor) → GivesNext r old new
-    → Remembers r old new
-gives_remembers None old new (done, same) =
-    (ap (λ (c : EventCursor). c.inside) same, ap (λ (c : EventCursor). c.finished) same)
-gives_remembers (Some (Ok e)) old new h = remembers (event_of e) old new h
-gives_remembers (Some (Err f)) old new h = (unmoved old.current old.kept f old new h).0
-
-pub gives_given : (r : Option (Result (Event × Span) Fault)) (old new : EventCursor) → GivesNext r old new
-    → IsGiven r new.kept
-gives_given None old new h = tt
-gives_given (Some (Ok e)) old new h = tt
-gives_given (Some (Err f)) old new h = (unmoved old.current old.kept f old new h).1

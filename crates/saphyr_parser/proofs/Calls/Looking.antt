@@ -7,17 +7,17 @@ use Rattle.saphyr_parser.specs.declared.parser.fault.Fault.{Fault}
 use Rattle.saphyr_parser.specs.Events.{Happening}
 use Rattle.saphyr_parser.specs.Steps.Machine.{Machine, told as told_step}
 use Rattle.saphyr_parser.specs.Answer as answer
-use Rattle.saphyr_parser.specs.Answer.{Answer, Ending, empty_answer, failed, with_first_event, remaining_answer}
-use Rattle.saphyr_parser.specs.Cursor.{EventCursor, Kept, IsUnmoved, IsUntold, Shows, Stays, answer_behind, ending_of_fault, event_of, remembered, to_come, kept_answer}
+use Rattle.saphyr_parser.specs.Answer.{Answer, Ending, empty_answer, fault_alone, with_first_event, remaining_answer}
+use Rattle.saphyr_parser.specs.Cursor.{EventCursor, Kept, IsUnmoved, IsUntold, Shows, Stays, answer_behind, ending_of_fault, event_of, with_event_handed, to_come, kept_answer}
 use Rattle.saphyr_parser.specs.Calls.{Advances, Ends, IsGivenOrNone, IsShown, Looks, LooksFrom, ReadsAhead}
 use Rattle.saphyr_parser.proofs.Unroll.{over}
 use Rattle.saphyr_parser.proofs.Calls.Handing.{moves}
 
-ends_stays : (f : Ending) (a : Answer) → Ends f a → Stays a (failed f)
+ends_stays : (f : Ending) (a : Answer) → Ends f a → Stays a (fault_alone f)
 ends_stays (answer.Refused mark text) a h = inl (sym h)
 ends_stays answer.OutOfMemory a h = inr (h, refl)
 
-not_given : (k : Kept) → k.given ≡ false → kept_answer (Some k) ≡ failed k.fault
+not_given : (k : Kept) → k.given ≡ false → kept_answer (Some k) ≡ fault_alone k.fault
 not_given k e = rw e refl
 
 -- what one reading ahead leaves
@@ -37,7 +37,7 @@ reads_ahead (Some e) None m i s new is fault (moved, left) = (
   rw (is, fault) tt,
 )
 reads_ahead None (Some k) m i s new is fault (fresh, ends, left) =
-    let ended : to_come new ≡ failed k.fault = ap to_come left ∙ not_given k fresh in (
+    let ended : to_come new ≡ fault_alone k.fault = ap to_come left ∙ not_given k fresh in (
       subst (λ (a : Answer). Stays (remaining_answer m) a) (sym ended) (ends_stays k.fault (remaining_answer m) ends),
       (ap (λ (c : EventCursor). c.inside) left, ap (λ (c : EventCursor). c.finished) left),
       (λ gone. ended ∙ sym (ap kept_answer fault ∙ not_given k fresh)),
@@ -108,7 +108,7 @@ event_first : (c : EventCursor) (e : Happening × Span) → c.current ≡ Some e
 event_first c e is = rw is refl
 
 fault_first : (c : EventCursor) (f : Ending) → c.current ≡ None → c.kept ≡ Some (record { fault = f; given = false })
-    → to_come c ≡ failed f
+    → to_come c ≡ fault_alone f
 fault_first c f gone is = rw (gone, is) refl
 
 pub shows_head : (r : Option (Result (Bor (Event × Span)) (Bor Fault))) (old new : EventCursor) → Looks old new
@@ -122,7 +122,7 @@ shows_head (Some (Err f)) old new h (gone, is) = fault_first new (ending_of_faul
 hands_ahead : (d : Option (Happening × Span)) (l : Option Kept) (m : Machine) (i : Bool) (s : Option Span)
     (e : Happening × Span) (middle new : EventCursor) → d ≡ Some e
     → ReadsAhead d l (record { current = None; kept = None; machine = m; inside = i; finished = s }) middle
-    → new ≡ remembered e.0 e.1 (record middle { current = None })
+    → new ≡ with_event_handed e.0 e.1 (record middle { current = None })
     → Advances e (record { current = None; kept = None; machine = m; inside = i; finished = s }) new
 hands_ahead (Some d) (Some k) m i s e middle new is h left = absurd h
 hands_ahead (Some d) None m i s e middle new is (moved, ahead) left =
@@ -130,8 +130,8 @@ hands_ahead (Some d) None m i s e middle new is (moved, ahead) left =
     let machine : new.machine ≡ middle.machine = ap (λ (c : EventCursor). c.machine) left in (
       moved ∙ ap (λ (x : Happening × Span). told_step x.0 x.1 middle.machine) same
           ∙ ap (told_step e.0 e.1) (sym machine),
-      left ∙ ap (λ (c : EventCursor). remembered e.0 e.1 (record c { current = None })) ahead
-          ∙ ap (λ (n : Machine). remembered e.0 e.1
+      left ∙ ap (λ (c : EventCursor). with_event_handed e.0 e.1 (record c { current = None })) ahead
+          ∙ ap (λ (n : Machine). with_event_handed e.0 e.1
           (record { current = None; kept = None; machine = n; inside = i; finished = s })) (sym machine),
     )
 hands_ahead None (Some k) m i s e middle new is h left = absurd (cc)
@@ -140,19 +140,19 @@ hands_ahead None None m i s e middle new is h left = absurd (cc)
 handing : (c : Option (Happening × Span)) (k : Option Kept) (m : Machine) (i : Bool) (s : Option Span)
     (e : Happening × Span) (middle new : EventCursor)
     → Looks (record { current = c; kept = k; machine = m; inside = i; finished = s }) middle → middle.current ≡ Some e
-    → new ≡ remembered e.0 e.1 (record middle { current = None })
+    → new ≡ with_event_handed e.0 e.1 (record middle { current = None })
     → Advances e (record { current = c; kept = k; machine = m; inside = i; finished = s }) new
 handing (Some next) k m i s e middle new same is left =
     let first : Some next ≡ Some e = sym (ap (λ (c : EventCursor). c.current) same) ∙ is in
     let next_is : next ≡ e = cc in
-    (next_is, left ∙ ap (λ (c : EventCursor). remembered e.0 e.1 (record c { current = None })) same)
+    (next_is, left ∙ ap (λ (c : EventCursor). with_event_handed e.0 e.1 (record c { current = None })) same)
 handing None (Some k) m i s e middle new same is left =
     let no : None ≡ Some e = sym (ap (λ (c : EventCursor). c.current) same) ∙ is in absurd (cc)
 handing None None m i s e middle new h is left = hands_ahead middle.current middle.kept m i s e middle new is h left
 
 pub hands_what_was_read : (e : Happening × Span) (old middle new : EventCursor) → Looks old middle
     → middle.current ≡ Some e
-    → new ≡ remembered e.0 e.1 (record middle { current = None }) → Advances e old new
+    → new ≡ with_event_handed e.0 e.1 (record middle { current = None }) → Advances e old new
 hands_what_was_read e old middle new h is left =
     handing old.current old.kept old.machine old.inside old.finished e middle new h is left
 

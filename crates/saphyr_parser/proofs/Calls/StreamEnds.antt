@@ -26,28 +26,28 @@ abbrev pub Closes : Result Told Refusal → Type 0
 Closes (Ok x) = LeavesEnd x.what x.machine.state
 Closes (Err e) = Unit {0}
 
-behind : {A : Type 0} (r : Result A Refusal) (go : A → Result Told Refusal) → ((x : A) → Closes (go x))
+closes_behind : {A : Type 0} (r : Result A Refusal) (go : A → Result Told Refusal) → ((x : A) → Closes (go x))
     → Closes (r >>= go)
-behind (Ok x) go h = h x
-behind (Err e) go h = tt
+closes_behind (Ok x) go h = h x
+closes_behind (Err e) go h = tt
 
-either : (b : Bool) (r q : Result Told Refusal) → Closes r → Closes q → Closes (if b then r else q)
-either true r q h k = h
-either false r q h k = k
+closes_either : (b : Bool) (r q : Result Told Refusal) → Closes r → Closes q → Closes (if b then r else q)
+closes_either true r q h k = h
+closes_either false r q h k = k
 
 -- ## Nodes
 
 without : (p : NodeProperties) (t : Piece) (m : Machine) → Closes (without_content p t m)
-without p t m = either (has_property p) _ _ tt tt
+without p t m = closes_either (has_property p) _ _ tt tt
 
 contents_at : (k : Kind) (p : NodeProperties) (c : NodeContext) (t : Piece) (m : Machine)
     → Closes (node_content_at k p c t m)
 contents_at (tokens.Scalar style text) p c t m = tt
 contents_at tokens.FlowSequenceStart p c t m = tt
 contents_at tokens.FlowMappingStart p c t m = tt
-contents_at tokens.BlockSequenceStart p c t m = either (allows_block c) _ _ tt (without p t m)
-contents_at tokens.BlockMappingStart p c t m = either (allows_block c) _ _ tt (without p t m)
-contents_at tokens.BlockEntry p c t m = either (allows_indentless c) _ _ tt (without p t m)
+contents_at tokens.BlockSequenceStart p c t m = closes_either (allows_block c) _ _ tt (without p t m)
+contents_at tokens.BlockMappingStart p c t m = closes_either (allows_block c) _ _ tt (without p t m)
+contents_at tokens.BlockEntry p c t m = closes_either (allows_indentless c) _ _ tt (without p t m)
 contents_at _ p c t m = without p t m
 
 contents : (p : NodeProperties) (c : NodeContext) (t : Piece) (m : Machine) → Closes (node_content p c t m)
@@ -56,7 +56,7 @@ contents p c t m = contents_at t.kind p c t m
 
 next_contents : (p : NodeProperties) (c : NodeContext) (m : Machine) → Closes (next_content p c m)
 unfolding next_content
-next_contents p c m = behind (taken_token m) _ (λ t. contents p c t.0 t.1)
+next_contents p c m = closes_behind (taken_token m) _ (λ t. contents p c t.0 t.1)
 
 aliases : (o : Option ℕ) (s : Span) (m : Machine) → Closes (alias_of o s m)
 aliases None s m = tt
@@ -65,12 +65,13 @@ aliases (Some id) s m = tt
 behind_anchors_at : (k : Kind) (id : ℕ) (s : Span) (c : NodeContext) (t : Piece) (m : Machine)
     → Closes (behind_anchor_at k id s c t m)
 behind_anchors_at (tokens.Tag handle suffix) id s c t m =
-    behind (resolved m.prefixes handle suffix s.start) _ (λ tag. next_contents _ c m)
+    closes_behind (resolved m.prefixes handle suffix s.start) _ (λ tag. next_contents _ c m)
 behind_anchors_at _ id s c t m = contents _ c t m
 
 behind_anchors : (name : List ℕ) (s : Span) (c : NodeContext) (m : Machine) → Closes (behind_anchor name s c m)
 unfolding behind_anchor
-behind_anchors name s c m = behind (taken_token (register name m)) _ (λ t. behind_anchors_at t.0.kind _ s c t.0 t.1)
+behind_anchors name s c m =
+    closes_behind (taken_token (register name m)) _ (λ t. behind_anchors_at t.0.kind _ s c t.0 t.1)
 
 behind_tags_at : (k : Kind) (tag : ResolvedTag) (s : Span) (c : NodeContext) (t : Piece) (m : Machine)
     → Closes (behind_tag_at k tag s c t m)
@@ -81,8 +82,8 @@ behind_tags : (handle suffix : List ℕ) (s : Span) (c : NodeContext) (m : Machi
     → Closes (behind_tag handle suffix s c m)
 unfolding behind_tag
 behind_tags handle suffix s c m =
-    behind (resolved m.prefixes handle suffix s.start) _
-    (λ tag. behind (taken_token m) _ (λ t. behind_tags_at t.0.kind tag s c t.0 t.1))
+    closes_behind (resolved m.prefixes handle suffix s.start) _
+    (λ tag. closes_behind (taken_token m) _ (λ t. behind_tags_at t.0.kind tag s c t.0 t.1))
 
 nodes_at : (k : Kind) (c : NodeContext) (t : Piece) (m : Machine) → Closes (node_at k c t m)
 unfolding alias_node
@@ -105,7 +106,7 @@ sequence_nodes _ s t m = nodes Block t _
 sequence_entries : (k : Kind) (t : Piece) (m : Machine) → Closes (block.sequence_entry_at k t m)
 unfolding block.sequence_node
 sequence_entries tokens.BlockEnd t m = tt
-sequence_entries tokens.BlockEntry t m = behind (taken_token m) _ (λ u. sequence_nodes u.0.kind t.span u.0 u.1)
+sequence_entries tokens.BlockEntry t m = closes_behind (taken_token m) _ (λ u. sequence_nodes u.0.kind t.span u.0 u.1)
 sequence_entries _ t m = tt
 
 indentless_nodes : (k : Kind) (s : Span) (t : Piece) (m : Machine) → Closes (block.indentless_node_at k s t m)
@@ -117,7 +118,8 @@ indentless_nodes _ s t m = nodes Block t _
 
 indentless_entries : (k : Kind) (t : Piece) (m : Machine) → Closes (block.indentless_entry_at k t m)
 unfolding block.indentless_node
-indentless_entries tokens.BlockEntry t m = behind (taken_token m) _ (λ u. indentless_nodes u.0.kind t.span u.0 u.1)
+indentless_entries tokens.BlockEntry t m =
+    closes_behind (taken_token m) _ (λ u. indentless_nodes u.0.kind t.span u.0 u.1)
 indentless_entries _ t m = tt
 
 block_keys : (k : Kind) (t : Piece) (m : Machine) → Closes (block.block_key_node_at k t m)
@@ -128,7 +130,7 @@ block_keys _ t m = nodes BlockMapping t _
 
 mapping_keys : (k : Kind) (t : Piece) (m : Machine) → Closes (block.mapping_key_at k t m)
 unfolding block.block_key_node
-mapping_keys tokens.Key t m = behind (taken_token m) _ (λ u. block_keys u.0.kind u.0 u.1)
+mapping_keys tokens.Key t m = closes_behind (taken_token m) _ (λ u. block_keys u.0.kind u.0 u.1)
 mapping_keys tokens.Value t m = tt
 mapping_keys tokens.BlockEnd t m = tt
 mapping_keys _ t m = tt
@@ -141,7 +143,7 @@ block_values _ s t m = nodes BlockMapping t _
 
 mapping_values : (k : Kind) (t : Piece) (m : Machine) → Closes (block.block_mapping_value_at k t m)
 unfolding block.block_value_node
-mapping_values tokens.Value t m = behind (taken_token m) _ (λ u. block_values u.0.kind t.span u.0 u.1)
+mapping_values tokens.Value t m = closes_behind (taken_token m) _ (λ u. block_values u.0.kind t.span u.0 u.1)
 mapping_values _ t m = tt
 
 -- ## Flow collections
@@ -153,7 +155,7 @@ entries _ t m = nodes Flow t _
 
 first_entries : (m : Machine) → Closes (flow.first_entry m)
 unfolding flow.first_entry
-first_entries m = behind (taken_token m) _ (λ t. entries t.0.kind t.0 t.1)
+first_entries m = closes_behind (taken_token m) _ (λ t. entries t.0.kind t.0 t.1)
 
 other_entries : (k : Kind) (t : Piece) (m : Machine) → Closes (flow.other_entry_at k t m)
 other_entries tokens.FlowSequenceEnd t m = tt
@@ -173,7 +175,7 @@ pair_nodes _ t m = nodes Flow t _
 
 pair_values : (k : Kind) (t : Piece) (m : Machine) → Closes (flow.pair_value_at k t m)
 unfolding flow.pair_value_node
-pair_values tokens.Value t m = behind (taken_token m) _ (λ u. pair_nodes u.0.kind u.0 u.1)
+pair_values tokens.Value t m = closes_behind (taken_token m) _ (λ u. pair_nodes u.0.kind u.0 u.1)
 pair_values _ t m = tt
 
 keys : (k : Kind) (t : Piece) (m : Machine) → Closes (flow.flow_key_node_at k t m)
@@ -184,7 +186,7 @@ keys _ t m = nodes Flow t _
 
 pairs : (k : Kind) (s : Span) (t : Piece) (m : Machine) → Closes (flow.pair_at k s t m)
 unfolding flow.flow_key_node
-pairs tokens.Key s t m = behind (taken_token m) _ (λ u. keys u.0.kind u.0 u.1)
+pairs tokens.Key s t m = closes_behind (taken_token m) _ (λ u. keys u.0.kind u.0 u.1)
 pairs tokens.Value s t m = tt
 pairs tokens.FlowMappingEnd s t m = tt
 pairs _ s t m = nodes Flow t _
@@ -192,7 +194,7 @@ pairs _ s t m = nodes Flow t _
 other_pairs : (k : Kind) (t : Piece) (m : Machine) → Closes (flow.other_pair_at k t m)
 unfolding flow.pair_behind_comma
 other_pairs tokens.FlowMappingEnd t m = tt
-other_pairs tokens.FlowEntry t m = behind (taken_token m) _ (λ u. pairs u.0.kind t.span u.0 u.1)
+other_pairs tokens.FlowEntry t m = closes_behind (taken_token m) _ (λ u. pairs u.0.kind t.span u.0 u.1)
 other_pairs _ t m = tt
 
 value_nodes : (k : Kind) (s : Span) (t : Piece) (m : Machine) → Closes (flow.flow_value_node_at k s t m)
@@ -202,36 +204,37 @@ value_nodes _ s t m = nodes Flow t _
 
 values : (k : Kind) (t : Piece) (m : Machine) → Closes (flow.flow_mapping_value_at k t m)
 unfolding flow.flow_value_node
-values tokens.Value t m = behind (taken_token m) _ (λ u. value_nodes u.0.kind t.span u.0 u.1)
+values tokens.Value t m = closes_behind (taken_token m) _ (λ u. value_nodes u.0.kind t.span u.0 u.1)
 values _ t m = tt
 
 -- ## Documents and the stream
 
-starts : (k : Kind) (t : Piece) (m : Machine) → Closes (document.stream_start_at k t m)
-starts tokens.StreamStart t m = tt
-starts _ t m = tt
+stream_start_closes : (k : Kind) (t : Piece) (m : Machine) → Closes (document.stream_start_at k t m)
+stream_start_closes tokens.StreamStart t m = tt
+stream_start_closes _ t m = tt
 
 explicit_at : (k : Kind) (t : Piece) (m : Machine) → Closes (document.explicit_at k t m)
 explicit_at tokens.DocumentStart t m = tt
 explicit_at tokens.ByteOrderMark t m = tt
 explicit_at _ t m = tt
 
-explicit : (t : Piece) (m : Machine) → Closes (document.explicit_document t m)
+explicit_document_closes : (t : Piece) (m : Machine) → Closes (document.explicit_document t m)
 unfolding document.explicit_document
-explicit t m = behind (document.directives document.none_declared _) _ (λ u. explicit_at u.0.kind u.0 u.1)
+explicit_document_closes t m =
+    closes_behind (document.directives document.none_declared _) _ (λ u. explicit_at u.0.kind u.0 u.1)
 
 implicit_at : (k : Kind) (t : Piece) (m : Machine) → Closes (document.implicit_start_at k t m)
 unfolding document.bare_document
 implicit_at tokens.StreamEnd t m = refl
-implicit_at (tokens.VersionDirective major minor) t m = explicit t m
-implicit_at (tokens.TagDirective handle prefix) t m = explicit t m
-implicit_at (tokens.ReservedDirective name) t m = explicit t m
-implicit_at tokens.DocumentStart t m = explicit t m
+implicit_at (tokens.VersionDirective major minor) t m = explicit_document_closes t m
+implicit_at (tokens.TagDirective handle prefix) t m = explicit_document_closes t m
+implicit_at (tokens.ReservedDirective name) t m = explicit_document_closes t m
+implicit_at tokens.DocumentStart t m = explicit_document_closes t m
 implicit_at _ t m = tt
 
 explicit_start_at : (k : Kind) (t : Piece) (m : Machine) → Closes (document.explicit_start_at k t m)
 explicit_start_at tokens.StreamEnd t m = refl
-explicit_start_at _ t m = explicit t m
+explicit_start_at _ t m = explicit_document_closes t m
 
 content_starts : (k : Kind) (t : Piece) (m : Machine) → Closes (document.document_content_at k t m)
 content_starts (tokens.VersionDirective major minor) t m = tt
@@ -243,12 +246,12 @@ content_starts tokens.ByteOrderMark t m = tt
 content_starts tokens.StreamEnd t m = tt
 content_starts _ t m = nodes Block t m
 
-ends : (k : Kind) (t : Piece) (m : Machine) → Closes (document.document_end_at k t m)
-ends tokens.DocumentEnd t m = tt
-ends (tokens.VersionDirective major minor) t m = tt
-ends (tokens.TagDirective handle prefix) t m = tt
-ends (tokens.ReservedDirective name) t m = tt
-ends _ t m = tt
+document_end_closes : (k : Kind) (t : Piece) (m : Machine) → Closes (document.document_end_at k t m)
+document_end_closes tokens.DocumentEnd t m = tt
+document_end_closes (tokens.VersionDirective major minor) t m = tt
+document_end_closes (tokens.TagDirective handle prefix) t m = tt
+document_end_closes (tokens.ReservedDirective name) t m = tt
+document_end_closes _ t m = tt
 
 -- ## All steps
 
@@ -257,27 +260,27 @@ unfolding block_node document.stream_start document.implicit_start document.expl
     document.document_end block.sequence_entry block.indentless_entry block.mapping_key block.block_mapping_value
     flow.other_entry flow.pair_key flow.pair_value flow.pair_end flow.first_pair flow.other_pair flow.flow_mapping_value
     flow.empty_value
-closes_at state.StreamStart m = behind (taken_token m) _ (λ t. starts t.0.kind t.0 t.1)
+closes_at state.StreamStart m = closes_behind (taken_token m) _ (λ t. stream_start_closes t.0.kind t.0 t.1)
 closes_at state.ImplicitDocumentStart m =
-    behind (document.unpassed_token document.is_end_or_mark m) _ (λ t. implicit_at t.0.kind t.0 t.1)
+    closes_behind (document.unpassed_token document.is_end_or_mark m) _ (λ t. implicit_at t.0.kind t.0 t.1)
 closes_at state.DocumentStart m =
-    behind (document.unpassed_token document.is_end_or_mark m) _ (λ t. explicit_start_at t.0.kind t.0 t.1)
-closes_at state.DocumentContent m = behind (taken_token m) _ (λ t. content_starts t.0.kind t.0 t.1)
-closes_at state.DocumentEnd m = behind (document.behind_document m) _ (λ t. ends t.0.kind t.0 _)
-closes_at state.BlockNode m = behind (taken_token m) _ (λ t. nodes Block t.0 t.1)
-closes_at state.BlockSequenceEntry m = behind (taken_token m) _ (λ t. sequence_entries t.0.kind t.0 t.1)
-closes_at state.IndentlessSequenceEntry m = behind (taken_token m) _ (λ t. indentless_entries t.0.kind t.0 t.1)
-closes_at state.BlockMappingKey m = behind (taken_token m) _ (λ t. mapping_keys t.0.kind t.0 t.1)
-closes_at state.BlockMappingValue m = behind (taken_token m) _ (λ t. mapping_values t.0.kind t.0 t.1)
+    closes_behind (document.unpassed_token document.is_end_or_mark m) _ (λ t. explicit_start_at t.0.kind t.0 t.1)
+closes_at state.DocumentContent m = closes_behind (taken_token m) _ (λ t. content_starts t.0.kind t.0 t.1)
+closes_at state.DocumentEnd m = closes_behind (document.behind_document m) _ (λ t. document_end_closes t.0.kind t.0 _)
+closes_at state.BlockNode m = closes_behind (taken_token m) _ (λ t. nodes Block t.0 t.1)
+closes_at state.BlockSequenceEntry m = closes_behind (taken_token m) _ (λ t. sequence_entries t.0.kind t.0 t.1)
+closes_at state.IndentlessSequenceEntry m = closes_behind (taken_token m) _ (λ t. indentless_entries t.0.kind t.0 t.1)
+closes_at state.BlockMappingKey m = closes_behind (taken_token m) _ (λ t. mapping_keys t.0.kind t.0 t.1)
+closes_at state.BlockMappingValue m = closes_behind (taken_token m) _ (λ t. mapping_values t.0.kind t.0 t.1)
 closes_at state.FlowSequenceFirstEntry m = first_entries m
-closes_at state.FlowSequenceEntry m = behind (taken_token m) _ (λ t. other_entries t.0.kind t.0 t.1)
-closes_at state.FlowSequenceEntryMappingKey m = behind (taken_token m) _ (λ t. pair_keys t.0.kind t.0 t.1)
-closes_at state.FlowSequenceEntryMappingValue m = behind (taken_token m) _ (λ t. pair_values t.0.kind t.0 t.1)
+closes_at state.FlowSequenceEntry m = closes_behind (taken_token m) _ (λ t. other_entries t.0.kind t.0 t.1)
+closes_at state.FlowSequenceEntryMappingKey m = closes_behind (taken_token m) _ (λ t. pair_keys t.0.kind t.0 t.1)
+closes_at state.FlowSequenceEntryMappingValue m = closes_behind (taken_token m) _ (λ t. pair_values t.0.kind t.0 t.1)
 closes_at (state.FlowSequenceEntryMappingEnd place) m = tt
-closes_at state.FlowMappingFirstKey m = behind (taken_token m) _ (λ t. pairs t.0.kind t.0.span t.0 t.1)
-closes_at state.FlowMappingKey m = behind (taken_token m) _ (λ t. other_pairs t.0.kind t.0 t.1)
-closes_at state.FlowMappingValue m = behind (taken_token m) _ (λ t. values t.0.kind t.0 t.1)
-closes_at state.FlowMappingEmptyValue m = behind (taken_token m) _ (λ t. tt)
+closes_at state.FlowMappingFirstKey m = closes_behind (taken_token m) _ (λ t. pairs t.0.kind t.0.span t.0 t.1)
+closes_at state.FlowMappingKey m = closes_behind (taken_token m) _ (λ t. other_pairs t.0.kind t.0 t.1)
+closes_at state.FlowMappingValue m = closes_behind (taken_token m) _ (λ t. values t.0.kind t.0 t.1)
+closes_at state.FlowMappingEmptyValue m = closes_behind (taken_token m) _ (λ t. tt)
 closes_at state.End m = tt
 
 pub closes : (m : Machine) (x : Told) → event_step m ≡ Ok x → LeavesEnd x.what x.machine.state

@@ -21,9 +21,10 @@ plain_more xs i l e p =
     ∙ ap (λ k. take i xs ++ k) (append-nil (printed_byte (slice_index xs i)) ∙ e))
 
 -- what is still to be written begins with bytes that need no escape
-cut : (rest plain others : List ℕ) → rest ≡ plain ++ others → printed_bytes plain ≡ plain
+printed_behind_plain : (rest plain others : List ℕ) → rest ≡ plain ++ others → printed_bytes plain ≡ plain
     → printed_bytes rest ≡ plain ++ printed_bytes others
-cut rest plain others e p = ap printed_bytes e ∙ escaped-append plain others ∙ ap (λ l. l ++ printed_bytes others) p
+printed_behind_plain rest plain others e p =
+    ap printed_bytes e ∙ escaped-append plain others ∙ ap (λ l. l ++ printed_bytes others) p
 
 -- nothing needs an escape
 pub plain_whole : (text plain others : List ℕ) → text ≡ plain ++ others → printed_bytes plain ≡ plain → others ≡ []
@@ -34,12 +35,14 @@ plain_whole text plain others e p n =
 pub plain_written : (a b c : Option (List ℕ)) (text rest plain others : List ℕ) → rest ≡ plain ++ others
     → printed_bytes plain ≡ plain → TakesUpTo a b (printed_bytes text) (printed_bytes rest) → Appends b c plain
     → TakesUpTo a c (printed_bytes text) (printed_bytes others)
-plain_written a b c text rest plain others e p up q = takes_piece a b c _ _ _ _ (cut rest plain others e p) up q
+plain_written a b c text rest plain others e p up q =
+    takes_piece a b c _ _ _ _ (printed_behind_plain rest plain others e p) up q
 
 pub plain_lost : (a b c : Option (List ℕ)) (text rest plain others : List ℕ) → rest ≡ plain ++ others
     → printed_bytes plain ≡ plain → TakesUpTo a b (printed_bytes text) (printed_bytes rest) → TakesSome b c plain
     → TakesSome a c (printed_bytes text)
-plain_lost a b c text rest plain others e p up q = loses_piece a b c _ _ _ _ (cut rest plain others e p) up q
+plain_lost a b c text rest plain others e p up q =
+    loses_piece a b c _ _ _ _ (printed_behind_plain rest plain others e p) up q
 
 -- the escape of the next byte is put behind those of the bytes before it
 next_escape : (text : List ℕ) (read : ℕ) → read < length text

@@ -7,8 +7,8 @@ use Rattle.saphyr_parser.specs.declared.printing.writing.Unwritten.{Unwritten}
 use Rattle.saphyr_parser.specs.Written.{Takes, TakesSome}
 use Rattle.saphyr_parser.proofs.Printed.Written.{takes_more, takes_less}
 
-step : (n : ℕ) → 10 ≤ n → n < 2 ^ 128 → decimal n ≡ decimal (n / 10) ++ ((48 + n % 10) ∷ [])
-step n l b = let most : 2 ^ 128 < 10 ^ 64 = lit< tt in decimal_step_wide n l (omega arith)
+decimal_by_tens : (n : ℕ) → 10 ≤ n → n < 2 ^ 128 → decimal n ≡ decimal (n / 10) ++ ((48 + n % 10) ∷ [])
+decimal_by_tens n l b = let most : 2 ^ 128 < 10 ^ 64 = lit< tt in decimal_step_wide n l (omega arith)
 
 pub one_digit : (r : Result (Unit {0}) Unwritten) (a b : Option (List ℕ)) (n : ℕ) → n < 10
     → Takes r a b ((48 + n % 10) ∷ []) → Takes r a b (decimal n)
@@ -16,8 +16,8 @@ one_digit r a b n l p = let e : n % 10 ≡ n = omega arith in rw (decimal_digit 
 
 pub last_digit : (r : Result (Unit {0}) Unwritten) (a b c : Option (List ℕ)) (n : ℕ) → 10 ≤ n → n < 2 ^ 128
     → Appends a b (decimal (n / 10)) → Takes r b c ((48 + n % 10) ∷ []) → Takes r a c (decimal n)
-last_digit r a b c n l m p q = rw (step n l m) (takes_more r a b c _ _ p q)
+last_digit r a b c n l m p q = rw (decimal_by_tens n l m) (takes_more r a b c _ _ p q)
 
 pub lost_digit : (a b : Option (List ℕ)) (n : ℕ) → 10 ≤ n → n < 2 ^ 128 → TakesSome a b (decimal (n / 10))
     → TakesSome a b (decimal n)
-lost_digit a b n l m p = rw (step n l m) (takes_less a b _ _ p)
+lost_digit a b n l m p = rw (decimal_by_tens n l m) (takes_less a b _ _ p)

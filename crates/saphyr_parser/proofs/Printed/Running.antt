@@ -17,8 +17,8 @@ use Rattle.saphyr_parser.specs.declared.printing.writing.Unwritten.{Unwritten}
 use Rattle.saphyr_parser.proofs.Printed.Dumping.{lines-append}
 
 -- everything was taken, and then the writer may have failed to pass it on
-whole : (a b c : Option (List ℕ)) (bytes : List ℕ) → Appends a b bytes → Keeps b c → TakesBeginning a c bytes
-whole a b c bytes p q = record {
+takes_all : (a b c : Option (List ℕ)) (bytes : List ℕ) → Appends a b bytes → Keeps b c → TakesBeginning a c bytes
+takes_all a b c bytes p q = record {
   front =
       bytes;
   back = [];
@@ -38,9 +38,9 @@ part a left old mid new p q =
       taken = Appends-kept old mid new _ p.taken q;
     }
 
-cut : (a left : Answer) (old mid new : Option (List ℕ)) → Cuts a left old mid → Keeps mid new
+takes_beginning : (a left : Answer) (old mid new : Option (List ℕ)) → Cuts a left old mid → Keeps mid new
     → TakesBeginning old new (printed_lines a.events)
-cut a left old mid new p q = record {
+takes_beginning a left old mid new p q = record {
   front = printed_lines p.printed ++ p.front;
   back = p.back ++ printed_lines left.events;
   split =
@@ -53,12 +53,12 @@ cut a left old mid new p q = record {
 
 beginning : (d : Result (Unit {0}) DumpFault) (a left : Answer) (old mid new : Option (List ℕ)) → Dumps d a left old mid
     → Keeps mid new → TakesBeginning old new (printed_lines a.events)
-beginning (Ok u) a left old mid new p q = whole old mid new _ p.1 q
-beginning (Err (dump.Parse (fault.Scan e))) a left old mid new p q = whole old mid new _ p.1 q
+beginning (Ok u) a left old mid new p q = takes_all old mid new _ p.1 q
+beginning (Err (dump.Parse (fault.Scan e))) a left old mid new p q = takes_all old mid new _ p.1 q
 beginning (Err (dump.Parse fault.OutOfMemory)) a left old mid new p q = part a p.0.0 old mid new p.0.1 q
 beginning (Err (dump.Parse fault.Receiver)) a left old mid new p q = absurd p
 beginning (Err (dump.Parse fault.InsideDocument)) a left old mid new p q = absurd p
-beginning (Err dump.Write) a left old mid new p q = cut a left old mid new p q
+beginning (Err dump.Write) a left old mid new p q = takes_beginning a left old mid new p q
 
 up_to_fault : (f : Fault) (a left : Answer) (old mid new : Option (List ℕ)) → Dumps (Err (dump.Parse f)) a left old mid
     → Keeps mid new → PrintsText (Err (run.Parse f)) a old new

@@ -1,5 +1,6 @@
 -- What a writer took, piece after piece.
 use Rattle.std.proofs.Common.{◌≡◌, ℕ, ◌-◌, ◌<◌, List, [], ◌++◌, length, take, drop, Option, Result, Ok, Err, IsErr, refl, sym, ap, ◌∙◌, append_assoc, append-nil, length-append, take-append-drop, arith}
+use Rattle.std.proofs.Math.Seq.{take-length}
 use Rattle.std.proofs.lemmas.List.{take_rest}
 use Rattle.std.specs.Io.KnownBytes.{Appends, Keeps}
 use Rattle.std.proofs.KnownBytes.{Appends-trans, Appends-nil, Appends-kept}
@@ -73,25 +74,27 @@ loses_piece a b c bytes rest piece others e p q = record {
 
 -- ## Several pieces
 
-fails : (r : Result (Unit {0}) Unwritten) (a b : Option (List ℕ)) (bytes : List ℕ) → IsErr r → TakesSome a b bytes
+takes_before_error : (r : Result (Unit {0}) Unwritten) (a b : Option (List ℕ)) (bytes : List ℕ) → IsErr r
+    → TakesSome a b bytes
     → Takes r a b bytes
-fails (Ok u) a b bytes e p = absurd (cc)
-fails (Err x) a b bytes e p = p
+takes_before_error (Ok u) a b bytes e p = absurd (cc)
+takes_before_error (Err x) a b bytes e p = p
 
 pub loses_first : (r : Result (Unit {0}) Unwritten) (a b : Option (List ℕ)) (bytes first rest : List ℕ) → IsErr r
     → TakesSome a b first → bytes ≡ first ++ rest → Takes r a b bytes
-loses_first r a b bytes first rest f p e = rw e (fails r a b _ f (takes_less a b first rest p))
+loses_first r a b bytes first rest f p e = rw e (takes_before_error r a b _ f (takes_less a b first rest p))
 
 pub loses_second : (r : Result (Unit {0}) Unwritten) (a b c : Option (List ℕ)) (bytes first second rest : List ℕ)
     → IsErr r → Appends a b first → TakesSome b c second → bytes ≡ first ++ (second ++ rest) → Takes r a c bytes
 loses_second r a b c bytes first second rest f p q e =
-    rw e (takes_more r a b c first _ p (fails r b c _ f (takes_less b c second rest q)))
+    rw e (takes_more r a b c first _ p (takes_before_error r b c _ f (takes_less b c second rest q)))
 
 pub loses_third : (r : Result (Unit {0}) Unwritten) (a b c d : Option (List ℕ)) (bytes first second third rest : List ℕ)
     → IsErr r → Appends a b first → Appends b c second → TakesSome c d third
     → bytes ≡ first ++ (second ++ (third ++ rest)) → Takes r a d bytes
 loses_third r a b c d bytes first second third rest f p q t e =
-    rw e (takes_more r a b d first _ p (takes_more r b c d second _ q (fails r c d _ f (takes_less c d third rest t))))
+    rw e (takes_more r a b d first _ p (takes_more r b c d second _ q (takes_before_error r c d _ f
+    (takes_less c d third rest t))))
 
 pub takes_two : (r : Result (Unit {0}) Unwritten) (a b c : Option (List ℕ)) (bytes first second : List ℕ)
     → Appends a b first → Takes r b c second → bytes ≡ first ++ second → Takes r a c bytes
@@ -108,6 +111,26 @@ pub takes_four : (r : Result (Unit {0}) Unwritten) (a b c d e : Option (List ℕ
     → Takes r d e fourth → bytes ≡ first ++ (second ++ (third ++ fourth)) → Takes r a e bytes
 takes_four r a b c d e bytes first second third fourth p q s t h =
     takes_three r a b c e bytes first second (third ++ fourth) p q (takes_more r c d e third fourth s t) h
+
+-- ## By the first write, most often
+
+-- all bytes were taken at once
+pub takes_whole : (a b : Option (List ℕ)) (bytes : List ℕ) (n : ℕ) → n ≡ length bytes → Appends a b (take n bytes)
+    → Appends a b bytes
+takes_whole a b bytes n e p =
+    let whole : take n bytes ≡ bytes = ap (λ k. take k bytes) e ∙ take-length bytes in rw (sym whole) p
+
+-- the first n bytes were taken, and then what was taken of the rest
+pub takes_rest : (r : Result (Unit {0}) Unwritten) (a b c : Option (List ℕ)) (bytes : List ℕ) (n : ℕ)
+    → Appends a b (take n bytes) → Takes r b c (take (length bytes - n) (drop n bytes)) → Takes r a c bytes
+takes_rest r a b c bytes n p q =
+    takes_two r a b c bytes (take n bytes) (take (length bytes - n) (drop n bytes)) p q
+    (sym (ap (λ l. take n bytes ++ l) (take_rest bytes n) ∙ take-append-drop n bytes))
+
+-- nothing was taken
+pub takes_nothing : (a b : Option (List ℕ)) (bytes : List ℕ) → 0 < length bytes → Keeps a b → TakesSome a b bytes
+takes_nothing a b bytes m p =
+    record { front = []; back = bytes; split = refl; missing = m; taken = Appends-kept a a b [] (Appends-nil a) p }
 
 -- ## A line in one piece
 

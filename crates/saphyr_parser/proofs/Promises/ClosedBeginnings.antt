@@ -50,10 +50,10 @@ feed_first : (x : ℕ) (xs front behind cs : List ℕ) → cs ≡ front ++ behin
 feed_first x xs [] behind cs e n f = absurd (cc)
 feed_first x xs (d ∷ ds) behind cs e n f = subst (λ (vs : List ℕ). (slice_index vs 0 == 10) ≡ true) e f
 
-no_feed : (front behind cs : List ℕ) → cs ≡ front ++ behind → (slice_index cs 0 == 10) ≡ false
+front_begins_no_feed : (front behind cs : List ℕ) → cs ≡ front ++ behind → (slice_index cs 0 == 10) ≡ false
     → (slice_index front 0 == 10) ≡ false
-no_feed [] behind cs e f = refl
-no_feed (d ∷ ds) behind cs e f = subst (λ (vs : List ℕ). (slice_index vs 0 == 10) ≡ false) e f
+front_begins_no_feed [] behind cs e f = refl
+front_begins_no_feed (d ∷ ds) behind cs e f = subst (λ (vs : List ℕ). (slice_index vs 0 == 10) ≡ false) e f
 
 with_first :
     (c : ℕ) (cs : List ℕ) (x : ℕ) (xs others : List ℕ) (return feed : Bool) → (c == 13) ≡ return
@@ -89,7 +89,8 @@ with_first c cs x xs others true false e f less same n =
       front = c ∷ p.front;
       behind = p.behind;
       are_all = ap (λ vs. c ∷ vs) p.are_all;
-      is_front = lone_return c p.front e (no_feed p.front p.behind cs p.are_all f) ∙ (let own = p.is_front in cc);
+      is_front =
+          lone_return c p.front e (front_begins_no_feed p.front p.behind cs p.are_all f) ∙ (let own = p.is_front in cc);
       is_behind = p.is_behind;
     }
 

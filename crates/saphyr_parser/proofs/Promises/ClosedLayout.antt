@@ -30,8 +30,8 @@ promised keep =
     }
 
 -- nothing stands behind the marker
-no_tail : IsLineRest []
-no_tail = ([], [], tt, inl refl, refl)
+empty_line_rest : IsLineRest []
+empty_line_rest = ([], [], tt, inl refl, refl)
 
 pub closed : (keep : Bool)
     → IsClosed (IsLayoutText most_open) IsLineRest 100 keep (codes "---\n[") examples.start_events
@@ -42,7 +42,7 @@ closed keep =
       begins = refl;
       within = omega arith;
       marker = Starts;
-      ends = ([], [], no_tail, inl (inl refl), refl);
+      ends = ([], [], empty_line_rest, inl (inl refl), refl);
       forest = examples.start_forest;
       told = examples.start_told;
       promised = promised keep;
@@ -59,16 +59,17 @@ no_filler = ([], tt, refl)
 no_last_filler : IsLastFiller []
 no_last_filler = ([], [], no_filler, ([], [], tt, inl refl, refl), refl)
 
-line_end : (behind : List ℕ) → IsEol (codes "\n") behind
-line_end behind = inl ([], no_tail, refl)
+feed_is_eol : (behind : List ℕ) → IsEol (codes "\n") behind
+feed_is_eol behind = inl ([], empty_line_rest, refl)
 
 -- a document of `---` alone
-starts : (free : Bool) (behind : List ℕ)
+starts_alone : (free : Bool) (behind : List ℕ)
     → IsDocument (IsBlockNode most_open) (examples.explicit [] left_out) free (codes "---\n") behind
-starts free behind = inr (inr refl, ([], codes "\n", refl, tt, refl, refl, inl (refl, refl, line_end behind), refl))
+starts_alone free behind =
+    inr (inr refl, ([], codes "\n", refl, tt, refl, refl, inl (refl, refl, feed_is_eol behind), refl))
 
 last_start : AreDocuments (IsBlockNode most_open) examples.start_forest true (codes "---\n")
-last_start = ([], codes "---\n", [], no_filler, starts true [], inl no_last_filler, refl)
+last_start = ([], codes "---\n", [], no_filler, starts_alone true [], inl no_last_filler, refl)
 
 marked_stands : IsLayoutText most_open examples.start_forest (codes "\u{feff}---\n")
 marked_stands = (codes "\u{feff}", codes "---\n", inr refl, last_start, refl)
@@ -82,7 +83,7 @@ marked keep =
       begins = refl;
       within = omega arith;
       marker = Starts;
-      ends = (codes "\u{feff}", [], no_tail, inr (inl refl), refl);
+      ends = (codes "\u{feff}", [], empty_line_rest, inr (inl refl), refl);
       forest = examples.start_forest;
       told = examples.start_told;
       promised = record { stands_for = marked_stands; within = omega arith; has_events = has_events keep };
@@ -94,7 +95,7 @@ marked keep =
 behind_stands : IsLayoutText most_open examples.two_starts (codes "---\n...\n\u{feff}---\n")
 behind_stands =
     let suffix : IsDocumentSuffix (codes "...\n\u{feff}") (codes "---\n") =
-    ([], codes "\n", codes "\u{feff}", no_filler, inl ([], no_tail, refl), inr ([], no_filler, refl), refl) in (
+    ([], codes "\n", codes "\u{feff}", no_filler, inl ([], empty_line_rest, refl), inr ([], no_filler, refl), refl) in (
       [],
       codes "---\n...\n\u{feff}---\n",
       inl refl,
@@ -103,7 +104,7 @@ behind_stands =
         codes "---\n",
         codes "...\n\u{feff}---\n",
         no_filler,
-        starts true (codes "...\n\u{feff}---\n"),
+        starts_alone true (codes "...\n\u{feff}---\n"),
         inr (codes "...\n\u{feff}", codes "---\n", suffix, last_start, refl),
         refl,
       ),
@@ -127,8 +128,8 @@ behind keep =
       ends = (
         codes "---\n...\n\u{feff}",
         [],
-        no_tail,
-        inr (inr (codes "---\n", [], [], inr (codes "---", refl), no_tail, no_filler, refl)),
+        empty_line_rest,
+        inr (inr (codes "---\n", [], [], inr (codes "---", refl), empty_line_rest, no_filler, refl)),
         refl,
       );
       forest = examples.two_starts;

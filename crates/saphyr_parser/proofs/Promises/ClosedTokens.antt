@@ -94,10 +94,10 @@ its_own : (w : DocumentMarker) (x : Piece) → x.kind ≡ marker_token w → IsL
 its_own Starts x e = rw e (inl (refl, refl))
 its_own Ends x e = rw e (inl (refl, refl))
 
-last : (w : DocumentMarker) (us : List Piece) (e : Option Refusal) (ts : List Piece) (x : Piece)
+marker_ends : (w : DocumentMarker) (us : List Piece) (e : Option Refusal) (ts : List Piece) (x : Piece)
     → x.kind ≡ marker_token w → End (ended_by w us e) (ts ++ x ∷ [])
-last w us e [] x is = its_own w x is
-last w us e (t ∷ ts) x is = or_last w _ (ts ++ x ∷ []) t.kind (last w us e ts x is)
+marker_ends w us e [] x is = its_own w x is
+marker_ends w us e (t ∷ ts) x is = or_last w _ (ts ++ x ∷ []) t.kind (marker_ends w us e ts x is)
 
 -- ## Whatever follows
 
@@ -130,17 +130,17 @@ also_first z r first a b (inr g) f =
 abbrev start : Bool → List Piece → Option Refusal → Machine
 start keep ts e = record (fresh_machine (record { pieces = ts; refusal = e })) { keep_tags = keep }
 
-closes :
+tokens_close :
     (keep : Bool) (w : DocumentMarker) (ts us : List Piece) (x : Piece) (s : Span) (e : Option Refusal)
     (first : List Happening) → x.kind ≡ marker_token w
     → told_of (remaining_answer (start keep ((ts ++ x ∷ []) ++ record { span = s; kind = tokens.StreamEnd } ∷ []) None))
     ≡ first ++ behind_marker w
     → GivesFirst first (remaining_answer (start keep ((ts ++ x ∷ []) ++ us) e))
-closes keep w ts us x s e first is t =
+tokens_close keep w ts us x s e first is t =
     let m : Machine = start keep (ts ++ x ∷ []) None in
     let end : List Piece = record { span = s; kind = tokens.StreamEnd } ∷ [] in
-    also_first (ended_by w us e) None first _ _ (goes_on (ended_by w us e) m (inl (last w us e ts x is)))
-    (first_told w s first _ _ (goes_on (ended_by w end None) m (inl (last w end None ts x is))) t)
+    also_first (ended_by w us e) None first _ _ (goes_on (ended_by w us e) m (inl (marker_ends w us e ts x is)))
+    (first_told w s first _ _ (goes_on (ended_by w end None) m (inl (marker_ends w end None ts x is))) t)
 
 -- Tokens end with a marker's and the end of the stream, and give exactly these events. Where others follow the marker's
 -- token, the events up to and with the marker's come first.
@@ -159,4 +159,4 @@ closed_tokens keep w ts us x y e first is ends g =
     ap (λ vs. told_of (remaining_answer (start keep vs None))) (same _ ∙ ap (λ v. ts ++ x ∷ v ∷ []) (sym the_end))
     ∙ g.1 in
     subst (λ vs. GivesFirst first (remaining_answer (start keep vs e))) (same us)
-    (closes keep w ts us x y.span e first is given)
+    (tokens_close keep w ts us x y.span e first is given)

@@ -12,7 +12,7 @@ use Rattle.saphyr_parser.specs.Premises.{DocumentMarker, Starts, Ends}
 use Rattle.saphyr_parser.specs.Steps.Machine.{◌>>=◌, Machine, Told, ending_refusal, with_pieces, taken_token_from}
 use Rattle.saphyr_parser.specs.Steps.Documents.{unpassed_token_from, unpassed_token, is_end_or_mark, implicit_start, document_content}
 use Rattle.saphyr_parser.specs.Steps.Expected.{event_step, event_step_at}
-use Rattle.saphyr_parser.specs.Answer.{Answer, with_first_event, deliver, failed, ending_of, remaining_answer, machine_size}
+use Rattle.saphyr_parser.specs.Answer.{Answer, with_first_event, deliver, fault_alone, ending_of, remaining_answer, machine_size}
 use Rattle.saphyr_parser.specs.More.{with_more, BeginsAs}
 use Rattle.saphyr_parser.proofs.Unroll.{unroll, over, shrinks_at}
 use Rattle.saphyr_parser.proofs.Longer.{More, longer, IsLastOr, End, Awaits, IsLeft, Agrees, IsPassed, steps_agree}
@@ -85,25 +85,25 @@ GoesOn z r a b = (b ≡ a)
     ⊎ ((a.fault ≡ Some (ending_of (ending_refusal r)))
     × ((k : Machine) × IsStopped z k × (b ≡ behind_all a.events (remaining_answer (longer z k)))))
 
-one_more : (z : More) (r : Option Refusal) (e : Happening × Span) (a b : Answer) → GoesOn z r a b
+goes_on_behind_event : (z : More) (r : Option Refusal) (e : Happening × Span) (a b : Answer) → GoesOn z r a b
     → GoesOn z r (with_first_event e a) (with_first_event e b)
-one_more z r e a b (inl y) = inl (ap (with_first_event e) y)
-one_more z r e a b (inr y) = inr (y.0, (y.1.0, y.1.1, ap (with_first_event e) y.1.2))
+goes_on_behind_event z r e a b (inl y) = inl (ap (with_first_event e) y)
+goes_on_behind_event z r e a b (inr y) = inr (y.0, (y.1.0, y.1.1, ap (with_first_event e) y.1.2))
 
 as_before : (z : More) (r : Option Refusal) (a c b d : Answer) → a ≡ c → b ≡ d → GoesOn z r c d → GoesOn z r a b
 as_before z r a c b d x y g = subst (λ v. GoesOn z r v b) (sym x) (subst (λ v. GoesOn z r c v) (sym y) g)
 
-delivers :
+delivers_longer :
     (z : More) (r : Option Refusal) (m : Machine) (p q : Result Told Refusal) → Agrees z r p q
     → deliver q remaining_answer ≡ remaining_answer (longer z m)
     → ((x : Told) → p ≡ Ok x → IsLeft z x.machine
     → GoesOn z x.machine.tokens.refusal (remaining_answer x.machine) (remaining_answer (longer z x.machine)))
     → GoesOn z r (deliver p remaining_answer) (deliver q remaining_answer)
-delivers z r m (Ok x) q a s h =
-    rw a.2 (one_more z r (x.what, x.span) _ _
+delivers_longer z r m (Ok x) q a s h =
+    rw a.2 (goes_on_behind_event z r (x.what, x.span) _ _
     (subst (λ o. GoesOn z o (remaining_answer x.machine) (remaining_answer (longer z x.machine))) a.1 (h x refl a.0)))
-delivers z r m (Err f) q (inl e) s h = inr (rw e.1 refl, (m, inl e.0, s))
-delivers z r m (Err f) q (inr e) s h = inl (rw e refl)
+delivers_longer z r m (Err f) q (inl e) s h = inr (rw e.1 refl, (m, inl e.0, s))
+delivers_longer z r m (Err f) q (inr e) s h = inl (rw e refl)
 
 passed_from : (ts : List Piece) (m : Machine) (go : Piece × Machine → Result Told Refusal) → ts ≡ []
     → (unpassed_token_from is_end_or_mark ts m >>= go) ≡ Err (ending_refusal m.tokens.refusal)
@@ -142,7 +142,8 @@ first_step z m next i = by (ended m.state) i
         → GoesOn z r (deliver (event_step_at m.state m) remaining_answer)
         (deliver (event_step_at m.state (longer z m)) remaining_answer)
     agreed h (inl a) =
-        delivers z r m (event_step_at m.state m) (event_step_at m.state (longer z m)) a (sym (unroll (longer z m) h))
+        delivers_longer z r m (event_step_at m.state m) (event_step_at m.state (longer z m)) a
+        (sym (unroll (longer z m) h))
         next
     agreed h (inr p) = rw p.1.1
         (inr (
@@ -161,7 +162,7 @@ first_step z m next i = by (ended m.state) i
     by (inr h) (inl e) = as_before z r _ _ _ _ (unroll m h) (unroll (longer z m) h)
         (agreed h (steps_agree z m.state m h e))
     by (inr h) (inr k) =
-        as_before z r _ (failed (ending_of (ending_refusal r))) _ _
+        as_before z r _ (fault_alone (ending_of (ending_refusal r))) _ _
         (unroll m h ∙ ap (λ q. deliver q remaining_answer) (awaits_at z.marker m.state m k.0 k.1)) refl
         (inr (refl, (m, inr (k.0, inl k.1), refl)))
 

@@ -25,9 +25,10 @@ no_last : (A : Type 0) (k : Kind) (ts : List Piece) → ¬ (k ≡ tokens.StreamE
 no_last A tokens.StreamEnd ts h a = absurd (h refl)
 no_last A _ ts h a = a
 
-refused : (P : Marker → Type 0) (r : Option Refusal) (ts : List Piece) → HasNoEnd ts → IsRefused P r → AreEnded P r ts
-refused P r [] h e = e
-refused P r (t ∷ ts) h e = no_last (AreEnded P r ts) t.kind ts h.0 (refused P r ts h.1 e)
+ended_by_refusal : (P : Marker → Type 0) (r : Option Refusal) (ts : List Piece) → HasNoEnd ts → IsRefused P r
+    → AreEnded P r ts
+ended_by_refusal P r [] h e = e
+ended_by_refusal P r (t ∷ ts) h e = no_last (AreEnded P r ts) t.kind ts h.0 (ended_by_refusal P r ts h.1 e)
 
 complete : (P : Marker → Type 0) (r : Option Refusal) (front : List Piece) (end : Piece) → HasNoEnd front
     → end.kind ≡ tokens.StreamEnd → AreEnded P r (front ++ end ∷ [])
@@ -38,14 +39,15 @@ complete P r (t ∷ front) end h e =
 -- where a refusal has such a place
 pub ended : (P : Marker → Type 0) (r : Remaining) → EndsWithStream r → ((e : Refusal) → r.refusal ≡ Some e → P e.mark)
     → AreEnded P r.refusal r.pieces
-ended P r (inl h) at = refused P r.refusal r.pieces h.2 (subst (IsRefused P) (sym h.1) (at h.0 h.1))
+ended P r (inl h) at = ended_by_refusal P r.refusal r.pieces h.2 (subst (IsRefused P) (sym h.1) (at h.0 h.1))
 ended P r (inr h) at = subst (AreEnded P r.refusal) (sym h.4) (complete P r.refusal h.0 h.1 h.2 h.3)
 
 -- ## The events
 
-joined : (keep : Bool) (text : List ℕ) (r : Remaining) (a : Answer) → AreTakenFrom text r → HasPlaceIn text a.fault
+events_taken : (keep : Bool) (text : List ℕ) (r : Remaining) (a : Answer) → AreTakenFrom text r
+    → HasPlaceIn text a.fault
     → BeginsSomeForest keep r a → AreTaken keep text a
-joined keep text r a t p b =
+events_taken keep text r a t p b =
     let i : IsBeginningOf b.0 keep r.pieces a = b.1 in (
       b.0,
       record {
@@ -76,7 +78,7 @@ pub takes : (text : List ℕ) (r : Remaining) → AreTakenFrom text r → AreAtP
 takes text r t a e l keep =
     let ends : AreEnded (IsPlaceOf text) r.refusal r.pieces = ended (IsPlaceOf text) r e
     (λ f is. subst (λ (o : Option Refusal). IsEndOf text o t.0) is t.2) in
-    joined keep text r (to_come (keeping_tags keep (at_start r))) t (refused_at text r keep a ends)
+    events_taken keep text r (to_come (keeping_tags keep (at_start r))) t (refused_at text r keep a ends)
     (begins r keep (tokens_form (IsPlaceOf text) r.refusal [] r.pieces (scalar.fresh text) t.0 t.1 (inr ends)) l)
 
 -- ## Parsers

@@ -60,19 +60,19 @@ bare_events keep front (p ∷ ps) h =
           ∙ ap (before_all (Some first.0)) others.1,
     )
 
-both : (ps qs : List Part) → AreBare ps → AreBare qs → AreBare (ps ++ qs)
-both [] qs h k = k
-both (p ∷ ps) qs h k = (h.0, both ps qs h.1 k)
+joined_are_bare : (ps qs : List Part) → AreBare ps → AreBare qs → AreBare (ps ++ qs)
+joined_are_bare [] qs h k = k
+joined_are_bare (p ∷ ps) qs h k = (h.0, joined_are_bare ps qs h.1 k)
 
-name : (n : Node) (t : List ℕ) → IsMemberName n t → AreBare (node_parts n)
-name (forest.Scalar p DoubleQuoted v) t h = (h.0, tt)
-name (forest.Scalar p Plain v) t h = elim h [ ]
-name (forest.Scalar p SingleQuoted v) t h = elim h [ ]
-name (forest.Scalar p Literal v) t h = elim h [ ]
-name (forest.Scalar p Folded v) t h = elim h [ ]
-name (Alias x) t h = elim h [ ]
-name (forest.Seq p ns) t h = elim h [ ]
-name (forest.Map p ps) t h = elim h [ ]
+member_name_is_bare : (n : Node) (t : List ℕ) → IsMemberName n t → AreBare (node_parts n)
+member_name_is_bare (forest.Scalar p DoubleQuoted v) t h = (h.0, tt)
+member_name_is_bare (forest.Scalar p Plain v) t h = elim h [ ]
+member_name_is_bare (forest.Scalar p SingleQuoted v) t h = elim h [ ]
+member_name_is_bare (forest.Scalar p Literal v) t h = elim h [ ]
+member_name_is_bare (forest.Scalar p Folded v) t h = elim h [ ]
+member_name_is_bare (Alias x) t h = elim h [ ]
+member_name_is_bare (forest.Seq p ns) t h = elim h [ ]
+member_name_is_bare (forest.Map p ps) t h = elim h [ ]
 
 mutual
   value : (n : Node) (t : List ℕ) → IsValue n t → AreBare (node_parts n)
@@ -82,33 +82,41 @@ mutual
   value (forest.Scalar p Literal v) t h = elim h [ ]
   value (forest.Scalar p Folded v) t h = elim h [ ]
   value (Alias x) t h = elim h [ ]
-  value (forest.Seq p ns) t h = (h.3, both (entry_parts ns) (CloseSequence ∷ []) (elements ns h.1 h.5) (tt, tt))
-  value (forest.Map p ps) t h = (h.3, both (pair_parts ps) (CloseMapping ∷ []) (members ps h.1 h.5) (tt, tt))
+  value (forest.Seq p ns) t h =
+      (h.3, joined_are_bare (entry_parts ns) (CloseSequence ∷ []) (elements ns h.1 h.5) (tt, tt))
+  value (forest.Map p ps) t h = (h.3, joined_are_bare (pair_parts ps) (CloseMapping ∷ []) (members ps h.1 h.5) (tt, tt))
 
   elements : (ns : Nodes) (t : List ℕ) → AreElements ns t → AreBare (entry_parts ns)
   elements NoNode t h = tt
-  elements (MoreNodes n ns) t h = both (node_parts n) (entry_parts ns) (value n h.0 h.2) (other_elements ns h.1 h.3)
+  elements (MoreNodes n ns) t h =
+      joined_are_bare (node_parts n) (entry_parts ns) (value n h.0 h.2) (other_elements ns h.1 h.3)
 
   other_elements : (ns : Nodes) (t : List ℕ) → AreOtherElements ns t → AreBare (entry_parts ns)
   other_elements NoNode t h = tt
   other_elements (MoreNodes n ns) t h =
-      both (node_parts n) (entry_parts ns) (value n h.1 h.4) (other_elements ns h.2 h.5)
+      joined_are_bare (node_parts n) (entry_parts ns) (value n h.1 h.4) (other_elements ns h.2 h.5)
 
   members : (ps : Pairs) (t : List ℕ) → AreMembers ps t → AreBare (pair_parts ps)
   members NoPair t h = tt
   members (MorePairs k v ps) t h =
-      both (node_parts k) (node_parts v ++ pair_parts ps) (name k h.0 h.4)
-      (both (node_parts v) (pair_parts ps) (value v h.2 h.6) (other_members ps h.3 h.7))
+      joined_are_bare (node_parts k) (node_parts v ++ pair_parts ps) (member_name_is_bare k h.0 h.4)
+      (joined_are_bare (node_parts v) (pair_parts ps) (value v h.2 h.6) (other_members ps h.3 h.7))
 
   other_members : (ps : Pairs) (t : List ℕ) → AreOtherMembers ps t → AreBare (pair_parts ps)
   other_members NoPair t h = tt
   other_members (MorePairs k v ps) t h =
-      both (node_parts k) (node_parts v ++ pair_parts ps) (name k h.1 h.6)
-      (both (node_parts v) (pair_parts ps) (value v h.3 h.8) (other_members ps h.4 h.9))
+      joined_are_bare (node_parts k) (node_parts v ++ pair_parts ps) (member_name_is_bare k h.1 h.6)
+      (joined_are_bare (node_parts v) (pair_parts ps) (value v h.3 h.8) (other_members ps h.4 h.9))
 
 json_is_bare : (f : Forest) (text : List ℕ) → IsJson f text → AreBare (parts f)
-json_is_bare (d ∷ []) text h =
-    (tt, (tt, both (node_parts d.node) (CloseDocument ∷ CloseStream ∷ []) (value d.node h.1.1 h.1.4) (tt, (tt, tt))))
+json_is_bare (d ∷ []) text h = (
+  tt,
+  (
+    tt,
+    joined_are_bare (node_parts d.node) (CloseDocument ∷ CloseStream ∷ []) (value d.node h.1.1 h.1.4)
+        (tt, (tt, tt)),
+  ),
+)
 json_is_bare [] text h = elim h [ ]
 json_is_bare (d ∷ (_ ∷ _)) text h = elim h [ ]
 

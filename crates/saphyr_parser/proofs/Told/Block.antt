@@ -104,14 +104,14 @@ indentless_says n t h g f k ks ss e ps z l =
 
 -- ## Entries of mappings
 
-key_begins : (f : Spans) (j : Kind) (l : List Kind) (ss : List State) (e : Memory) → Starts InBlockMapping j
+block_key_begins : (f : Spans) (j : Kind) (l : List Kind) (ss : List State) (e : Memory) → Starts InBlockMapping j
     → event_step (at f (Key ∷ j ∷ l) state.BlockMappingKey ss e)
     ≡ next_node BlockMapping (at f (j ∷ l) state.BlockMappingKey (state.BlockMappingValue ∷ ss) e)
 unfolding event_step mapping_key block_key_node
-key_begins f Key l ss e h = elim h [ ]
-key_begins f Value l ss e h = elim h [ ]
-key_begins f BlockEnd l ss e h = elim h [ ]
-key_begins f _ l ss e h = refl
+block_key_begins f Key l ss e h = elim h [ ]
+block_key_begins f Value l ss e h = elim h [ ]
+block_key_begins f BlockEnd l ss e h = elim h [ ]
+block_key_begins f _ l ss e h = refl
 
 key_is_left_out : (f : Spans) (k : Kind) (ks : List Kind) (ss : List State) (e : Memory) → MayFollow InBlockMapping k
     → event_step (at f (Key ∷ k ∷ ks) state.BlockMappingKey ss e)
@@ -122,14 +122,14 @@ key_is_left_out f Value ks ss e h = refl
 key_is_left_out f BlockEnd ks ss e h = refl
 key_is_left_out f _ ks ss e h = elim h [ ]
 
-value_begins : (f : Spans) (j : Kind) (l : List Kind) (ss : List State) (e : Memory) → Starts InBlockMapping j
+block_value_begins : (f : Spans) (j : Kind) (l : List Kind) (ss : List State) (e : Memory) → Starts InBlockMapping j
     → event_step (at f (Value ∷ j ∷ l) state.BlockMappingValue ss e)
     ≡ next_node BlockMapping (at f (j ∷ l) state.BlockMappingValue (state.BlockMappingKey ∷ ss) e)
 unfolding event_step block_mapping_value block_value_node
-value_begins f Key l ss e h = elim h [ ]
-value_begins f Value l ss e h = elim h [ ]
-value_begins f BlockEnd l ss e h = elim h [ ]
-value_begins f _ l ss e h = refl
+block_value_begins f Key l ss e h = elim h [ ]
+block_value_begins f Value l ss e h = elim h [ ]
+block_value_begins f BlockEnd l ss e h = elim h [ ]
+block_value_begins f _ l ss e h = refl
 
 value_is_left_out : (f : Spans) (k : Kind) (ks : List Kind) (ss : List State) (e : Memory) → MayFollow InBlockMapping k
     → event_step (at f (Value ∷ k ∷ ks) state.BlockMappingValue ss e)
@@ -159,7 +159,7 @@ key_says : (key : Node) (t : List Kind) → YieldsOptional key (YieldsNode key I
 key_says key t h g f k ks ss e ps z l =
     enters_or_skips key InBlockMapping t h g f k ks (λ l. at f (Key ∷ l) state.BlockMappingKey ss e)
     state.BlockMappingKey (λ l. state.BlockMappingValue) ss e ps z (λ l q. cc) (f ks)
-    (key_is_left_out f k ks ss e z) (λ j l s. key_begins f j l ss e s) l
+    (key_is_left_out f k ks ss e z) (λ j l s. block_key_begins f j l ss e s) l
 
 -- the value, from its mark on
 value_says : (value : Node) (t : List Kind) → YieldsOptional value (YieldsNode value InBlockMapping) t
@@ -170,7 +170,7 @@ value_says : (value : Node) (t : List Kind) → YieldsOptional value (YieldsNode
 value_says value t h g f k ks ss e ps z l =
     enters_or_skips value InBlockMapping t h g f k ks (λ l. at f (Value ∷ l) state.BlockMappingValue ss e)
     state.BlockMappingValue (λ l. state.BlockMappingKey) ss e ps z (λ l q. cc) (f (k ∷ ks))
-    (value_is_left_out f k ks ss e z) (λ j l s. value_begins f j l ss e s) l
+    (value_is_left_out f k ks ss e z) (λ j l s. block_value_begins f j l ss e s) l
 
 -- a pair whose value is left out
 alone_says : (key : Node) (t : List Kind) → YieldsMarkedKey key (YieldsNode key InBlockMapping) t

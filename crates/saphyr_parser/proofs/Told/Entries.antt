@@ -26,9 +26,9 @@ use Rattle.saphyr_parser.proofs.Told.Collections.{FlowEntriesSay, FlowPairsSay, 
 -- ## The ends of collections
 
 -- the tokens of no entry
-nothing : (f : Spans) (x : State) (ss : List State) (e : Memory) (ps : List Part) (t rest : List Kind) → t ≡ []
+no_entry_told : (f : Spans) (x : State) (ss : List State) (e : Memory) (ps : List Part) (t rest : List Kind) → t ≡ []
     → Tells f rest x ss e ps → Tells f (t ++ rest) x ss e ps
-nothing f x ss e ps t rest h l = subst (λ (u : List Kind). Tells f (u ++ rest) x ss e ps) (sym h) l
+no_entry_told f x ss e ps t rest h l = subst (λ (u : List Kind). Tells f (u ++ rest) x ss e ps) (sym h) l
 
 flow_sequence_ends : (f : Spans) (ks : List Kind) (s : State) (ss : List State) (e : Memory) (ps : List Part)
     → Tells f ks s ss e ps → Tells f (FlowSequenceEnd ∷ ks) state.FlowSequenceFirstEntry (s ∷ ss) e (CloseSequence ∷ ps)
@@ -56,7 +56,7 @@ list_sequence_ends : (f : Spans) (t ks : List Kind) (s : State) (ss : List State
     → (t ≡ []) ⊎ (t ≡ FlowEntry ∷ []) → Tells f ks s ss e ps
     → Tells f (t ++ FlowSequenceEnd ∷ ks) state.FlowSequenceEntry (s ∷ ss) e (CloseSequence ∷ ps)
 list_sequence_ends f t ks s ss e ps (inl h) l =
-    nothing f state.FlowSequenceEntry (s ∷ ss) e (CloseSequence ∷ ps) t (FlowSequenceEnd ∷ ks) h
+    no_entry_told f state.FlowSequenceEntry (s ∷ ss) e (CloseSequence ∷ ps) t (FlowSequenceEnd ∷ ks) h
     (other_sequence_ends f ks s ss e ps l)
 list_sequence_ends f t ks s ss e ps (inr h) l =
     subst (λ (u : List Kind). Tells f (u ++ FlowSequenceEnd ∷ ks) state.FlowSequenceEntry (s ∷ ss) e
@@ -88,7 +88,7 @@ list_mapping_ends : (f : Spans) (t ks : List Kind) (s : State) (ss : List State)
     → (t ≡ []) ⊎ (t ≡ FlowEntry ∷ []) → Tells f ks s ss e ps
     → Tells f (t ++ FlowMappingEnd ∷ ks) state.FlowMappingKey (s ∷ ss) e (CloseMapping ∷ ps)
 list_mapping_ends f t ks s ss e ps (inl h) l =
-    nothing f state.FlowMappingKey (s ∷ ss) e (CloseMapping ∷ ps) t (FlowMappingEnd ∷ ks) h
+    no_entry_told f state.FlowMappingKey (s ∷ ss) e (CloseMapping ∷ ps) t (FlowMappingEnd ∷ ks) h
     (other_mapping_ends f ks s ss e ps l)
 list_mapping_ends f t ks s ss e ps (inr h) l =
     subst (λ (u : List Kind). Tells f (u ++ FlowMappingEnd ∷ ks) state.FlowMappingKey (s ∷ ss) e (CloseMapping ∷ ps))
@@ -235,7 +235,8 @@ other_entries n ns u v t h w first others = record {
 pub no_entries : (t : List Kind) → t ≡ [] → FlowEntriesSay NoNode t
 no_entries t h = record {
   by =
-      λ f ks s ss e ps l. nothing f state.FlowSequenceFirstEntry (s ∷ ss) e (CloseSequence ∷ ps) t (FlowSequenceEnd ∷
+      λ f ks s ss e ps l. no_entry_told f state.FlowSequenceFirstEntry (s ∷ ss) e (CloseSequence ∷ ps) t
+      (FlowSequenceEnd ∷
       ks)
       h (flow_sequence_ends f ks s ss e ps l);
 }
@@ -295,7 +296,8 @@ other_pairs key value qs u v t h w d gk gv others = record {
 pub no_pairs : (t : List Kind) → t ≡ [] → FlowPairsSay NoPair t
 no_pairs t h = record {
   by =
-      λ f ks s ss e ps l. nothing f state.FlowMappingFirstKey (s ∷ ss) e (CloseMapping ∷ ps) t (FlowMappingEnd ∷ ks) h
+      λ f ks s ss e ps l. no_entry_told f state.FlowMappingFirstKey (s ∷ ss) e (CloseMapping ∷ ps) t
+      (FlowMappingEnd ∷ ks) h
       (flow_mapping_ends f ks s ss e ps l);
 }
 
@@ -325,7 +327,7 @@ block_entries n ns u v t d h w g others = record {
 pub no_block_entries : (t : List Kind) → t ≡ [] → BlockEntriesSay NoNode t
 no_block_entries t h = record {
   by =
-      λ f ks s ss e ps l. nothing f state.BlockSequenceEntry (s ∷ ss) e (CloseSequence ∷ ps) t (BlockEnd ∷ ks) h
+      λ f ks s ss e ps l. no_entry_told f state.BlockSequenceEntry (s ∷ ss) e (CloseSequence ∷ ps) t (BlockEnd ∷ ks) h
       (block_sequence_ends f ks s ss e ps l);
 }
 
@@ -351,7 +353,7 @@ indentless_entries n ns u v t d h w g others = record {
 pub no_indentless_entries : (t : List Kind) → t ≡ [] → IndentlessSay NoNode t
 no_indentless_entries t h =
     record {
-      by = λ f k ks s ss e ps z l. nothing f state.IndentlessSequenceEntry (s ∷ ss) e (CloseSequence ∷ ps) t
+      by = λ f k ks s ss e ps z l. no_entry_told f state.IndentlessSequenceEntry (s ∷ ss) e (CloseSequence ∷ ps) t
           (k ∷ ks) h (indentless_ends f k ks s ss e ps z l);
     }
 
@@ -383,6 +385,6 @@ block_pairs key value qs u v t d h w gk gv others = record {
 pub no_block_pairs : (t : List Kind) → t ≡ [] → BlockPairsSay NoPair t
 no_block_pairs t h = record {
   by =
-      λ f ks s ss e ps l. nothing f state.BlockMappingKey (s ∷ ss) e (CloseMapping ∷ ps) t (BlockEnd ∷ ks) h
+      λ f ks s ss e ps l. no_entry_told f state.BlockMappingKey (s ∷ ss) e (CloseMapping ∷ ps) t (BlockEnd ∷ ks) h
       (block_mapping_ends f ks s ss e ps l);
 }

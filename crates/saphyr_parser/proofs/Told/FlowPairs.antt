@@ -39,13 +39,13 @@ pub record AtPair (f : Spans) (x : State) (ss : List State) (e : Memory) (machin
 
 -- ## Keys
 
-key_begins : (f : Spans) (j : Kind) (l : List Kind) (x : State) (ss : List State) (e : Memory) → Starts InFlow j
+flow_key_begins : (f : Spans) (j : Kind) (l : List Kind) (x : State) (ss : List State) (e : Memory) → Starts InFlow j
     → flow_key_node (at f (j ∷ l) x ss e) ≡ next_node Flow (at f (j ∷ l) x (state.FlowMappingValue ∷ ss) e)
 unfolding flow_key_node
-key_begins f Value l x ss e h = elim h [ ]
-key_begins f FlowEntry l x ss e h = elim h [ ]
-key_begins f FlowMappingEnd l x ss e h = elim h [ ]
-key_begins f _ l x ss e h = refl
+flow_key_begins f Value l x ss e h = elim h [ ]
+flow_key_begins f FlowEntry l x ss e h = elim h [ ]
+flow_key_begins f FlowMappingEnd l x ss e h = elim h [ ]
+flow_key_begins f _ l x ss e h = refl
 
 key_is_left_out : (f : Spans) (k : Kind) (ks : List Kind) (x : State) (ss : List State) (e : Memory) → EndsPair k
     → flow_key_node (at f (k ∷ ks) x ss e) ≡ told empty_scalar (f ks) (at f (k ∷ ks) state.FlowMappingValue ss e)
@@ -64,13 +64,13 @@ bare_key_begins _ s t m h = refl
 
 -- ## Values
 
-value_begins : (f : Spans) (j : Kind) (l : List Kind) (ss : List State) (e : Memory) → Starts InFlow j
+flow_value_begins : (f : Spans) (j : Kind) (l : List Kind) (ss : List State) (e : Memory) → Starts InFlow j
     → event_step (at f (Value ∷ j ∷ l) state.FlowMappingValue ss e)
     ≡ next_node Flow (at f (j ∷ l) state.FlowMappingValue (state.FlowMappingKey ∷ ss) e)
 unfolding event_step flow_mapping_value flow_value_node
-value_begins f FlowEntry l ss e h = elim h [ ]
-value_begins f FlowMappingEnd l ss e h = elim h [ ]
-value_begins f _ l ss e h = refl
+flow_value_begins f FlowEntry l ss e h = elim h [ ]
+flow_value_begins f FlowMappingEnd l ss e h = elim h [ ]
+flow_value_begins f _ l ss e h = refl
 
 value_is_left_out : (f : Spans) (k : Kind) (ks : List Kind) (ss : List State) (e : Memory) → EndsPair k
     → event_step (at f (Value ∷ k ∷ ks) state.FlowMappingValue ss e)
@@ -99,7 +99,7 @@ value_says : (value : Node) (t : List Kind) → YieldsOptional value (YieldsNode
 value_says value t h g f k ks ss e ps z l =
     enters_or_skips value InFlow t h g f k ks (λ l. at f (Value ∷ l) state.FlowMappingValue ss e) state.FlowMappingValue
     (λ l. state.FlowMappingKey) ss e ps (pair_end_follows k z) (λ l q. cc) (f (k ∷ ks))
-    (value_is_left_out f k ks ss e z) (λ j l s. value_begins f j l ss e s) l
+    (value_is_left_out f k ks ss e z) (λ j l s. flow_value_begins f j l ss e s) l
 
 -- no value
 missing_value_says : (f : Spans) (k : Kind) (ks : List Kind) (ss : List State) (e : Memory) (ps : List Part)
@@ -120,7 +120,7 @@ key_says : (key : Node) (t : List Kind) → YieldsOptional key (YieldsNode key I
 key_says key t h g f k ks machine x ss e ps z skip a l =
     enters_or_skips key InFlow t h g f k ks (λ l. machine (Key ∷ l)) x (λ l. state.FlowMappingValue) ss e ps z
     (λ l. a.goes_on (Key ∷ l)) (f ks) (a.steps Key (k ∷ ks) ∙ skip)
-    (λ j l s. a.steps Key (j ∷ l) ∙ key_begins f j l x ss e s) l
+    (λ j l s. a.steps Key (j ∷ l) ∙ flow_key_begins f j l x ss e s) l
 
 -- a pair whose value is left out, by its key's tokens
 alone_says : (key : Node) (t : List Kind) → YieldsMarkedKey key (YieldsNode key InFlow) t ⊎ YieldsNode key InFlow t

@@ -84,16 +84,16 @@ shorthand_stands handle suffix names place r h =
     (encode_utf8_all suffix) r
     (λ prefix. handle_stands handle names place prefix (meaning (handle_bytes handle) names)) h
 
-within : (a b : ResolvedTag) → (let o : Option ResolvedTag = Some a in o) ≡ Some b
+some_inside : (a b : ResolvedTag) → (let o : Option ResolvedTag = Some a in o) ≡ Some b
     → (let r : Result ResolvedTag Refusal = Ok a in r) ≡ Ok b
-within a b h = cc
+some_inside a b h = cc
 
 tag_is_token : (tag : Tag) → TagToken tag
 unfolding resolved declared_prefix
 tag_is_token NonSpecific =
-    record { handle = []; suffix = codes "!"; token = refl; stands = λ names place r h. within _ r h }
+    record { handle = []; suffix = codes "!"; token = refl; stands = λ names place r h. some_inside _ r h }
 tag_is_token (Verbatim uri) =
-    record { handle = []; suffix = encode_utf8_all uri; token = refl; stands = λ names place r h. within _ r h }
+    record { handle = []; suffix = encode_utf8_all uri; token = refl; stands = λ names place r h. some_inside _ r h }
 tag_is_token (Shorthand handle suffix) =
     record {
       handle = handle_bytes handle;
@@ -152,13 +152,13 @@ pub record Comes (f : Spans) (d : NodeContext) (x : State) (ss : List State) (e 
   pub has : Has e anchor tag properties
   pub goes : r ≡ node_content_at k properties d (record { span = f ks; kind = k }) (at f ks x ss (noted anchor e))
 
-comes : (f : Spans) (d : NodeContext) (x : State) (ss : List State) (e : Memory) (anchor : Option (List ℕ))
+node_comes : (f : Spans) (d : NodeContext) (x : State) (ss : List State) (e : Memory) (anchor : Option (List ℕ))
     (tag : Option Tag) (front : List Kind) (k : Kind) (ks : List Kind) (found : Option ResolvedTag)
     → AreBoth (option_map anchor_token anchor) (option_map tag_token tag) front → IsContent k
     → resolve_any e.prefixes tag ≡ Some found
     → Comes f d x ss e anchor tag k ks (next_node d (at f (front ++ k ∷ ks) x ss e))
 unfolding node node_content next_content behind_anchor behind_tag
-comes f d x ss e None None front k ks found h c r =
+node_comes f d x ss e None None front k ks found h c r =
     record {
       properties = no_node_properties (f ks).start;
       has =
@@ -166,7 +166,7 @@ comes f d x ss e None None front k ks found h c r =
       goes =
           ap (λ l. next_node d (at f (l ++ k ∷ ks) x ss e)) h ∙ content_alone k d _ _ c;
     }
-comes f d x ss e (Some name) None front k ks found h c r =
+node_comes f d x ss e (Some name) None front k ks found h c r =
     record {
       properties = record {
         start =
@@ -181,7 +181,7 @@ comes f d x ss e (Some name) None front k ks found h c r =
           ap (λ l. next_node d (at f (l ++ k ∷ ks) x ss e)) h
           ∙ content_behind_anchor k (next_id e.anchors) (f (k ∷ ks)) d _ _ c;
     }
-comes f d x ss e None (Some tag) front k ks found h c r =
+node_comes f d x ss e None (Some tag) front k ks found h c r =
     let t : TagToken tag = tag_is_token tag in
     let g : (v : ResolvedTag) × (resolve e.prefixes tag ≡ Some v) = tagged (resolve e.prefixes tag) found r in
     let s : Span = f (k ∷ ks) in
@@ -194,7 +194,7 @@ comes f d x ss e None (Some tag) front k ks found h c r =
           (t.stands e.prefixes s.start g.0 g.1)
           ∙ content_behind_tag k g.0 s d _ _ c;
     }
-comes f d x ss e (Some name) (Some tag) front k ks found (inl h) c r =
+node_comes f d x ss e (Some name) (Some tag) front k ks found (inl h) c r =
     let t : TagToken tag = tag_is_token tag in
     let g : (v : ResolvedTag) × (resolve e.prefixes tag ≡ Some v) = tagged (resolve e.prefixes tag) found r in
     let s : Span = f (tokens.Tag t.handle t.suffix ∷ k ∷ ks) in
@@ -208,7 +208,7 @@ comes f d x ss e (Some name) (Some tag) front k ks found (inl h) c r =
           { start = s.start; behind = end; anchor = next_id e.anchors; tag = Some v }) d
           (at f (k ∷ ks) x ss (noted (Some name) e)))) (t.stands e.prefixes s.start g.0 g.1);
     }
-comes f d x ss e (Some name) (Some tag) front k ks found (inr h) c r =
+node_comes f d x ss e (Some name) (Some tag) front k ks found (inr h) c r =
     let t : TagToken tag = tag_is_token tag in
     let g : (v : ResolvedTag) × (resolve e.prefixes tag ≡ Some v) = tagged (resolve e.prefixes tag) found r in
     let s : Span = f (anchor_token name ∷ k ∷ ks) in
@@ -247,7 +247,7 @@ node_opens f d x ss e m n p front k ks part ps make h c more q v go l =
     let g : (g : Option ResolvedTag) × (resolve_any e.prefixes p.tag ≡ Some g) × (make (own_id e p.anchor) g ≡ w) =
     found_any make (own_id e p.anchor) (resolve_any e.prefixes p.tag) w (sym v ∙ z) in
     let r : Comes f d x ss e p.anchor p.tag k ks (next_node d (at f (front ++ k ∷ ks) x ss e)) =
-    comes f d x ss e p.anchor p.tag front k ks g.0 h c g.1 in
+    node_comes f d x ss e p.anchor p.tag front k ks g.0 h c g.1 in
     let s : (span : Span) × (node_content_at k r.properties d (record { span = f ks; kind = k })
     (at f ks x ss (noted p.anchor e)) ≡ told (make r.properties.anchor r.properties.tag) span n) =
     go r.properties r.has in

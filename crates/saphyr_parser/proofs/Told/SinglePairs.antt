@@ -56,27 +56,27 @@ entry_says n t h g f k ks machine x ss e ps z a l =
 
 -- ## A pair
 
-key_begins : (f : Spans) (j : Kind) (l : List Kind) (ss : List State) (e : Memory) → Starts InFlow j
+single_key_begins : (f : Spans) (j : Kind) (l : List Kind) (ss : List State) (e : Memory) → Starts InFlow j
     → event_step (at f (j ∷ l) state.FlowSequenceEntryMappingKey ss e)
     ≡ next_node Flow (at f (j ∷ l) state.FlowSequenceEntryMappingKey (state.FlowSequenceEntryMappingValue ∷ ss) e)
 unfolding event_step pair_key
-key_begins f Value l ss e h = elim h [ ]
-key_begins f FlowEntry l ss e h = elim h [ ]
-key_begins f FlowSequenceEnd l ss e h = elim h [ ]
-key_begins f _ l ss e h = refl
+single_key_begins f Value l ss e h = elim h [ ]
+single_key_begins f FlowEntry l ss e h = elim h [ ]
+single_key_begins f FlowSequenceEnd l ss e h = elim h [ ]
+single_key_begins f _ l ss e h = refl
 
 -- the state behind the value of a pair, which holds where the value's first token ends
 behind_value : Spans → List Kind → State
 behind_value f [] = state.FlowSequenceEntry
 behind_value f (j ∷ l) = state.FlowSequenceEntryMappingEnd (f l).end
 
-value_begins : (f : Spans) (j : Kind) (l : List Kind) (ss : List State) (e : Memory) → Starts InFlow j
+single_value_begins : (f : Spans) (j : Kind) (l : List Kind) (ss : List State) (e : Memory) → Starts InFlow j
     → event_step (at f (Value ∷ j ∷ l) state.FlowSequenceEntryMappingValue ss e)
     ≡ next_node Flow (at f (j ∷ l) state.FlowSequenceEntryMappingValue (behind_value f (j ∷ l) ∷ ss) e)
 unfolding event_step pair_value pair_value_node behind_value
-value_begins f FlowEntry l ss e h = elim h [ ]
-value_begins f FlowSequenceEnd l ss e h = elim h [ ]
-value_begins f _ l ss e h = refl
+single_value_begins f FlowEntry l ss e h = elim h [ ]
+single_value_begins f FlowSequenceEnd l ss e h = elim h [ ]
+single_value_begins f _ l ss e h = refl
 
 value_is_left_out : (f : Spans) (k : Kind) (ks : List Kind) (ss : List State) (e : Memory) → EndsEntry k
     → event_step (at f (Value ∷ k ∷ ks) state.FlowSequenceEntryMappingValue ss e)
@@ -146,7 +146,7 @@ key_alone_says key t h gk f k ks machine x ss e ps z a l =
     enters_or_skips key InFlow h.0 h.1 (gk h.0) f k ks (λ l. at f l state.FlowSequenceEntryMappingKey ss e)
     state.FlowSequenceEntryMappingKey (λ l. state.FlowSequenceEntryMappingValue) ss e
     (node_parts forest.left_out ++ CloseMapping ∷ ps) (entry_end_follows k z) (λ l q. cc) (f ks)
-    (key_is_left_out f k ks ss e z) (λ j l s. key_begins f j l ss e s) second in
+    (key_is_left_out f k ks ss e z) (λ j l s. single_key_begins f j l ss e s) second in
     subst (λ (u : List Kind). Says e (machine (u ++ k ∷ ks))
     (OpenMapping no_properties ∷ (node_parts key ++ (node_parts forest.left_out ++ CloseMapping ∷ ps)))) (sym h.2)
     (pair_opens f (h.0 ++ k ∷ ks) machine x ss e
@@ -176,13 +176,13 @@ pair_says key value t (inl h) gk gv f k ks machine x ss e ps z a l =
     enters_or_skips value InFlow vt h.3.1 (gv vt) f k ks
     (λ l. at f (Value ∷ l) state.FlowSequenceEntryMappingValue ss e') state.FlowSequenceEntryMappingValue
     (behind_value f) ss e' (CloseMapping ∷ ps) (entry_end_follows k z) (λ l q. cc) (f ks)
-    (value_is_left_out f k ks ss e' z) (λ j l s. value_begins f j l ss e' s) last in
+    (value_is_left_out f k ks ss e' z) (λ j l s. single_value_begins f j l ss e' s) last in
     let first : Tells f (kt ++ Value ∷ (vt ++ k ∷ ks)) state.FlowSequenceEntryMappingKey ss e
     (node_parts key ++ (node_parts value ++ CloseMapping ∷ ps)) =
     enters_or_skips key InFlow kt h.2.1 (gk kt) f Value (vt ++ k ∷ ks)
     (λ l. at f l state.FlowSequenceEntryMappingKey ss e) state.FlowSequenceEntryMappingKey
     (λ l. state.FlowSequenceEntryMappingValue) ss e (node_parts value ++ CloseMapping ∷ ps) tt (λ l q. cc)
-    (f (vt ++ k ∷ ks)) refl (λ j l s. key_begins f j l ss e s) second in
+    (f (vt ++ k ∷ ks)) refl (λ j l s. single_key_begins f j l ss e s) second in
     subst (λ (u : List Kind). Says e (machine u)
     (OpenMapping no_properties ∷ (node_parts key ++ (node_parts value ++ CloseMapping ∷ ps)))) (sym same)
     (pair_opens f (kt ++ Value ∷ (vt ++ k ∷ ks)) machine x ss e

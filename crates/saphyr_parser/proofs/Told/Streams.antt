@@ -34,14 +34,14 @@ behind_is_no_mark DocumentEnd h = refl
 behind_is_no_mark _ h = elim h [ ]
 
 -- the step at the end of a document, behind the marks
-ended : (f : Spans) (j : Kind) (l : List Kind) (e : Memory) → IsBehind j
+document_end_told : (f : Spans) (j : Kind) (l : List Kind) (e : Memory) → IsBehind j
     → event_step (at f (j ∷ l) state.DocumentEnd [] e)
     ≡ document_end_at j (record { span = f l; kind = j }) (at f l state.DocumentEnd [] (closing e))
 unfolding event_step document_end behind_document
-ended f StreamEnd l e h = refl
-ended f DocumentStart l e h = refl
-ended f DocumentEnd l e h = refl
-ended f _ l e h = elim h [ ]
+document_end_told f StreamEnd l e h = refl
+document_end_told f DocumentStart l e h = refl
+document_end_told f DocumentEnd l e h = refl
+document_end_told f _ l e h = elim h [ ]
 
 marks_behind : (f : Spans) (place : Span) (j : Kind) (l : List Kind) (e : Memory) → IsBehind j
     → behind_marks_at j place.start (record { span = f l; kind = j }) (at f l state.DocumentEnd [] e)
@@ -66,7 +66,7 @@ ended_behind f marks j l e a h =
 ended_all : (f : Spans) (marks : List Kind) (j : Kind) (l : List Kind) (e : Memory) → AreMarks marks → IsBehind j
     → event_step (at f (marks ++ j ∷ l) state.DocumentEnd [] e)
     ≡ document_end_at j (record { span = f l; kind = j }) (at f l state.DocumentEnd [] (closing e))
-ended_all f [] j l e a h = ended f j l e h
+ended_all f [] j l e a h = document_end_told f j l e h
 ended_all f (k ∷ ks) j l e a h =
     subst (λ (k : Kind). event_step (at f (k ∷ (ks ++ j ∷ l)) state.DocumentEnd [] e)
     ≡ document_end_at j (record { span = f l; kind = j }) (at f l state.DocumentEnd [] (closing e))) (sym a.0)

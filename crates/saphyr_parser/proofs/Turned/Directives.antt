@@ -15,7 +15,7 @@ use Rattle.saphyr_scanner.specs.Grammar.Tokens as tokens
 use Rattle.saphyr_scanner.specs.Grammar.Tokens.{Kind, directive_token}
 use Rattle.saphyr_scanner.specs.Views.Tokens.{Piece}
 use Rattle.saphyr_parser.specs.Exactly.{kinds}
-use Rattle.saphyr_parser.specs.Steps.Machine.{◌>>=◌, Machine, given, is_listed, listed, with_pieces}
+use Rattle.saphyr_parser.specs.Steps.Machine.{◌>>=◌, Machine, with_meaning, is_listed, with_name, with_pieces}
 use Rattle.saphyr_parser.specs.Steps.Documents.{Declared, is_directive, with_handle, directive_at, directives_from}
 use Rattle.saphyr_parser.specs.WellFormed.{IsWellFormed, AreWellFormed}
 use Rattle.saphyr_parser.proofs.Remembering.{declaring}
@@ -25,7 +25,7 @@ use Rattle.std.proofs.lemmas.Bool.{or_parts}
 
 -- ## Directives that may stand together
 
-was_unlisted : (name other : List ℕ) (names : List (List ℕ)) → is_listed name (listed other names) ≡ false
+was_unlisted : (name other : List ℕ) (names : List (List ℕ)) → is_listed name (with_name other names) ≡ false
     → (other ≢ name) × (is_listed name names ≡ false)
 was_unlisted name other names h =
     let both : (is_at (slice_cmp nat_cmp name) other ≡ false) × (is_listed name names ≡ false) =
@@ -91,12 +91,12 @@ nothing_passed t ts d m =
     }
 
 -- one more directive
-one_more : (x : Directive) (t : Piece) (ts : List Piece) (d : Declared) (m n : Machine)
+one_more_directive : (x : Directive) (t : Piece) (ts : List Piece) (d : Declared) (m n : Machine)
     (r : Result (Piece × Machine) Refusal) → t.kind ≡ directive_token x → IsFree d x
     → ((ds : List Directive) (rest : List Piece) → declaring_machine ds rest n ≡ declaring_machine (x ∷ ds) rest m)
     → PassedBy ts (declared_by x d) n r → PassedBy (t ∷ ts) d m r
-one_more x t ts d m n (Err f) k free same h = tt
-one_more x t ts d m n (Ok y) k free same h =
+one_more_directive x t ts d m n (Err f) k free same h = tt
+one_more_directive x t ts d m n (Ok y) k free same h =
     let others : GoesWithAll x h.directives × AreFree d h.directives = all_were_free x h.directives d h.free in
     record {
       directives = x ∷ h.directives;
@@ -118,7 +118,7 @@ version_passed : (b : Bool) (major minor : ℕ) (t : Piece) (ts : List Piece) (d
     >>= (λ s. directives_from ts s.0 s.1))
 version_passed true major minor t ts d m v k go = tt
 version_passed false major minor t ts d m v k go =
-    one_more (Version major minor) t ts d m (with_pieces ts m) _ k v (λ ds rest. refl)
+    one_more_directive (Version major minor) t ts d m (with_pieces ts m) _ k v (λ ds rest. refl)
     (go (record { version = true; handles = d.handles }) (with_pieces ts m))
 
 tag_passed : (b : Bool) (handle : Handle) (prefix : List ℕ) (t : Piece) (ts : List Piece) (d : Declared) (m : Machine)
@@ -128,15 +128,16 @@ tag_passed : (b : Bool) (handle : Handle) (prefix : List ℕ) (t : Piece) (ts : 
     → PassedBy (t ∷ ts) d m ((if b then Err (record { text = fault.DuplicateTagDirective; mark = t.span.start }) else
     (let y : Result (Declared × Machine) Refusal =
     Ok (
-      record { version = d.version; handles = listed (handle_bytes handle) d.handles },
+      record { version = d.version; handles = with_name (handle_bytes handle) d.handles },
       record (with_pieces ts m)
-          { prefixes = given (handle_bytes handle) (encode_utf8_all prefix) m.prefixes },
+          { prefixes = with_meaning (handle_bytes handle) (encode_utf8_all prefix) m.prefixes },
     ) in y))
     >>= (λ s. directives_from ts s.0 s.1))
 tag_passed true handle prefix t ts d m v k go = tt
 tag_passed false handle prefix t ts d m v k go =
-    one_more (TagPrefix handle prefix) t ts d m
-    (record (with_pieces ts m) { prefixes = given (handle_bytes handle) (encode_utf8_all prefix) m.prefixes }) _ k v
+    one_more_directive (TagPrefix handle prefix) t ts d m
+    (record (with_pieces ts m) { prefixes = with_meaning (handle_bytes handle) (encode_utf8_all prefix) m.prefixes })
+    _ k v
     (λ ds rest. refl) (go _ _)
 
 passed_at : (k : Kind) (sp : Span) (ts : List Piece) (d : Declared) (m : Machine) → IsWellFormed k
@@ -157,7 +158,8 @@ passed_at (tokens.TagDirective handle prefix) sp ts d m w go =
     (record { span = sp; kind = tokens.TagDirective (handle_bytes w.0) (encode_utf8_all w.2.0) }) ts d m refl refl
     go))
 passed_at (tokens.ReservedDirective name) sp ts d m w go =
-    one_more (Reserved w.0) (record { span = sp; kind = tokens.ReservedDirective name }) ts d m (with_pieces ts m) _
+    one_more_directive (Reserved w.0) (record { span = sp; kind = tokens.ReservedDirective name }) ts d m
+    (with_pieces ts m) _
     (ap tokens.ReservedDirective w.1) tt (λ ds rest. refl) (go d (with_pieces ts m))
 passed_at k sp ts d m w go = nothing_passed (record { span = sp; kind = k }) ts d m
 

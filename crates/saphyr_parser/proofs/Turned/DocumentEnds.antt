@@ -83,9 +83,10 @@ mark_is : (k : Kind) → is_mark k ≡ true → k ≡ tokens.ByteOrderMark
 mark_is tokens.ByteOrderMark h = refl
 mark_is _ h = absurd (cc)
 
-one_more : (t : Piece) (ts : List Piece) (m : Machine) (r : Result (Piece × Machine) Refusal) → is_mark t.kind ≡ true
+one_more_mark : (t : Piece) (ts : List Piece) (m : Machine) (r : Result (Piece × Machine) Refusal)
+    → is_mark t.kind ≡ true
     → MarkedBy ts (with_pieces ts m) r → MarkedBy (t ∷ ts) m r
-one_more t ts m (Ok x) k h =
+one_more_mark t ts m (Ok x) k h =
     record {
       marks = t ∷ h.marks;
       rest =
@@ -96,7 +97,7 @@ one_more t ts m (Ok x) k h =
       no_mark = h.no_mark;
       leaves = h.leaves;
     }
-one_more t ts m (Err f) k h = tt
+one_more_mark t ts m (Err f) k h = tt
 
 marks_passed : (ts : List Piece) (m : Machine) → MarkedBy ts m (unpassed_token_from is_mark ts m)
 marks_passed [] m = tt
@@ -106,7 +107,7 @@ marks_passed (t ∷ ts) m = by (is_mark t.kind) refl (marks_passed ts (with_piec
         (unpassed_token_from is_mark ts (with_pieces ts m))
         → MarkedBy (t ∷ ts) m (if b then unpassed_token_from is_mark ts (with_pieces ts m) else Ok
         (t, with_pieces ts m))
-    by true y h = one_more t ts m _ y h
+    by true y h = one_more_mark t ts m _ y h
     by false y h = record { marks = []; rest = ts; are = refl; are_marks = tt; no_mark = y; leaves = refl }
 
 behind_at : (k : Kind) (sp : Span) (place : Marker) (n : Machine) (ts : List Piece) (m : Machine)
@@ -131,7 +132,7 @@ document_at : (k : Kind) (sp : Span) (ts : List Piece) (m : Machine)
     → MarkedBy (record { span = sp; kind = k } ∷ ts) m
     (behind_document_at k (record { span = sp; kind = k }) (with_pieces ts m))
 document_at tokens.ByteOrderMark sp ts m =
-    one_more (record { span = sp; kind = tokens.ByteOrderMark }) ts m _ refl (behind_all sp.start ts m)
+    one_more_mark (record { span = sp; kind = tokens.ByteOrderMark }) ts m _ refl (behind_all sp.start ts m)
 document_at _ sp ts m = record { marks = []; rest = ts; are = refl; are_marks = tt; no_mark = refl; leaves = refl }
 
 behind_turned : (ts : List Piece) (r : Option Refusal) (x : State) (e : Memory)

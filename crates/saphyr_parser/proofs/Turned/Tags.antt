@@ -45,17 +45,18 @@ named_handle word = ap is_named_handle (sym (scalar.handle_bytes word)) ∙ name
 
 -- ## What a handle stands for
 
-found : (o : Option (List ℕ)) (u : Result (List ℕ) Refusal) (d : Option (List ℕ)) (suffix : List ℕ) (v : ResolvedTag)
+prefix_found : (o : Option (List ℕ)) (u : Result (List ℕ) Refusal) (d : Option (List ℕ)) (suffix : List ℕ)
+    (v : ResolvedTag)
     → ((prefix : List ℕ) → u ≡ Ok prefix → d ≡ Some prefix)
     → (declared_or o u >>= (λ prefix. let x : Result ResolvedTag Refusal =
     Ok (record { handle = prefix; suffix = suffix }) in x)) ≡ Ok v
     → option_map (λ prefix. let t : ResolvedTag = record { handle = prefix; suffix = suffix } in t) (option_or o d)
     ≡ Some v
-found (Some p) u d suffix v h e = cc
-found None (Ok p) d suffix v h e =
+prefix_found (Some p) u d suffix v h e = cc
+prefix_found None (Ok p) d suffix v h e =
     ap (λ (o : Option (List ℕ)). option_map
     (λ prefix. let t : ResolvedTag = record { handle = prefix; suffix = suffix } in t) o) (h p refl) ∙ (cc)
-found None (Err f) d suffix v h e = absurd (cc)
+prefix_found None (Err f) d suffix v h e = absurd (cc)
 
 -- a handle whose default is that of the machine
 shorthand : (handle : Handle) (suffix : List ℕ) (names : Names (List ℕ)) (place : Marker) (v : ResolvedTag)
@@ -66,7 +67,7 @@ unfolding resolved
 shorthand handle suffix names place v h e = record {
   tag = Shorthand handle suffix;
   token = refl;
-  resolves = found (meaning (handle_bytes handle) names) (undeclared (handle_bytes handle) place)
+  resolves = prefix_found (meaning (handle_bytes handle) names) (undeclared (handle_bytes handle) place)
       (default_prefix handle) (encode_utf8_all suffix) v h
       (ap (λ (p : Result (List ℕ) Refusal). p
       >>= (λ prefix. let x : Result ResolvedTag Refusal =
@@ -142,14 +143,14 @@ tag_stands (Shorthand Secondary suffix) names place v e =
 tag_stands (Shorthand (Named word) suffix) names place v e =
     named_stands word suffix names place v (bytes_eq (handle_bytes (Named word)) (codes "!!")) refl e
 
-parts_of : (a b c d : List ℕ) → tokens.Tag a b ≡ tokens.Tag c d → (a ≡ c) × (b ≡ d)
-parts_of a b c d e = ((cc), (cc))
+tag_parts : (a b c d : List ℕ) → tokens.Tag a b ≡ tokens.Tag c d → (a ≡ c) × (b ≡ d)
+tag_parts a b c d e = ((cc), (cc))
 
 pub stands : (names : Names (List ℕ)) (handle suffix : List ℕ) (place : Marker) (v : ResolvedTag)
     → (tag : Tag) × (tokens.Tag handle suffix ≡ tag_token tag) → resolved names handle suffix place ≡ Ok v
     → Stands names handle suffix v
 stands names handle suffix place v h e =
-    let parts : (handle ≡ front h.0) × (suffix ≡ back h.0) = parts_of handle suffix (front h.0) (back h.0)
+    let parts : (handle ≡ front h.0) × (suffix ≡ back h.0) = tag_parts handle suffix (front h.0) (back h.0)
     (h.1 ∙ sym (token_is h.0)) in
     subst (λ (x : List ℕ). resolved names x suffix place ≡ Ok v → Stands names x suffix v) (sym parts.0)
     (subst (λ (y : List ℕ). resolved names (front h.0) y place ≡ Ok v → Stands names (front h.0) y v) (sym parts.1)

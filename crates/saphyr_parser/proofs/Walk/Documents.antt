@@ -13,9 +13,9 @@ use Rattle.saphyr_parser.specs.Steps.Documents.{unpassed_token, unpassed_token_f
 use Rattle.saphyr_parser.proofs.Walk.Steps.{Walk, is_end, On, Of, Taken, Gives, own, refused, first, less, behind, pushed, entered, left, over, taken}
 use Rattle.saphyr_parser.proofs.Walk.Nodes.{nodes}
 
-no_mark : (k : Kind) → is_mark k ≡ true → is_end k ≡ false
-no_mark tokens.StreamEnd e = absurd (cc)
-no_mark _ e = refl
+mark_is_no_end : (k : Kind) → is_mark k ≡ true → is_end k ≡ false
+mark_is_no_end tokens.StreamEnd e = absurd (cc)
+mark_is_no_end _ e = refl
 
 no_end_or_mark : (k : Kind) → is_end_or_mark k ≡ true → is_end k ≡ false
 no_end_or_mark tokens.StreamEnd e = absurd (cc)
@@ -199,7 +199,8 @@ module _ (w : Walk) where
       → Hands 11 (behind_marks place m)
   unfolding behind_marks unpassed_token
   marks place m p a =
-      hands_on 11 (unpassed_token_from is_mark m.tokens.pieces m) _ (passes 11 is_mark m.tokens.pieces m no_mark a)
+      hands_on 11 (unpassed_token_from is_mark m.tokens.pieces m) _
+      (passes 11 is_mark m.tokens.pieces m mark_is_no_end a)
       (λ t k b. marks_at t.kind place t k p b)
 
   behinds_at : (k : Kind) (t : Piece) (m : Machine) → Taken w 11 k t m → Hands 11 (behind_document_at k t m)

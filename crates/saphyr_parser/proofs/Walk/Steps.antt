@@ -10,7 +10,7 @@ use Rattle.saphyr_scanner.specs.Grammar.Tokens.{Kind}
 use Rattle.saphyr_scanner.specs.Views.Tokens.{Piece}
 use Rattle.saphyr_parser.specs.declared.parser.state.State.{State}
 use Rattle.saphyr_parser.specs.declared.parser.state.State.TheVariants as state
-use Rattle.saphyr_parser.specs.Steps.Machine.{◌>>=◌, Machine, Told, ending_refusal, taken_token, taken_token_from, with_pieces, put_back, pop, popped, with_state, left_out_event}
+use Rattle.saphyr_parser.specs.Steps.Machine.{◌>>=◌, Machine, Told, ending_refusal, taken_token, taken_token_from, with_pieces, put_back, pop, pop_from, with_state, left_out_event}
 use Rattle.saphyr_parser.specs.Answer.{weight, weight_before, begins_with_value, total_weight}
 
 abbrev pub is_end : Kind → Bool
@@ -139,7 +139,7 @@ module _ (w : Walk) where
   }
 
   pops : {low : Marker} (ss : List State) (m : Machine) → On w low 10 m.tokens.refusal m.tokens.pieces ss
-      → Stands w (popped ss m)
+      → Stands w (pop_from ss m)
   pops {low} [] m a = record { place = tt; places = tt; rests = w.rests low state.End _ _ _ a.pieces }
   pops {low} (s ∷ ss) m a = record {
     place =

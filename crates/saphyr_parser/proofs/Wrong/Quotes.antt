@@ -22,8 +22,8 @@ mark_is : (q : Quote) (c : ℕ) → mark q ≡ c → (c ≡ 39) ⊎ (c ≡ 34)
 mark_is Single c e = inl (sym e)
 mark_is Double c e = inr (sym e)
 
-no_mark : (q : Quote) (c : ℕ) → mark q ≡ c → (c ≡ 39 → ⊥) → (c ≡ 34 → ⊥) → ⊥
-no_mark q c e a b = by (mark_is q c e)
+neither_quote : (q : Quote) (c : ℕ) → mark q ≡ c → (c ≡ 39 → ⊥) → (c ≡ 34 → ⊥) → ⊥
+neither_quote q c e a b = by (mark_is q c e)
   where
     by : (c ≡ 39) ⊎ (c ≡ 34) → ⊥
     by (inl k) = a k
@@ -44,7 +44,7 @@ no_text _ _ _ _ (escaped_break t items x h r) e = cc
 at_marker : (q : Quote) (t : List ℕ) (items : List Item) (x : List ℕ) (is : IsText q t items x)
     → HasNoMarker q t items x is → t ≡ codes "\n--- b\"" → ⊥
 at_marker _ _ _ _ (closed q x h) m e =
-    no_mark q 10 (sym (heads (mark q) 10 x (codes "--- b\"") e)) (λ k. omega (arith, k)) (λ k. omega (arith, k))
+    neither_quote q 10 (sym (heads (mark q) 10 x (codes "--- b\"") e)) (λ k. omega (arith, k)) (λ k. omega (arith, k))
 at_marker _ _ _ _ (itself q c t items x h r) m e =
     let same : 10 ≡ c = heads c 10 t (codes "--- b\"") e in
     let k : stands_for_itself q 10 ≡ true = ap (stands_for_itself q) same ∙ h in
@@ -62,7 +62,7 @@ at_marker _ _ _ _ (escaped_break t items x h r) m e = let z : 10 ≡ 92 = heads 
 before_marker : (q : Quote) (t : List ℕ) (items : List Item) (x : List ℕ) (is : IsText q t items x)
     → HasNoMarker q t items x is → t ≡ codes "a\n--- b\"" → ⊥
 before_marker _ _ _ _ (closed q x h) m e =
-    no_mark q 97 (sym (heads (mark q) 97 x (codes "\n--- b\"") e)) (λ k. omega (arith, k)) (λ k. omega (arith, k))
+    neither_quote q 97 (sym (heads (mark q) 97 x (codes "\n--- b\"") e)) (λ k. omega (arith, k)) (λ k. omega (arith, k))
 before_marker _ _ _ _ (itself q c t items x h r) m e = at_marker q t items x r m (tails c 97 t (codes "\n--- b\"") e)
 before_marker _ _ _ _ (broken q t items x h r) m e =
     let k : is_break 97 ≡ true = sym (ap (λ l. is_break (slice_index l 0)) e) ∙ h in cc

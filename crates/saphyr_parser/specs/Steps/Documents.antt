@@ -9,7 +9,7 @@ use Rattle.saphyr_scanner.specs.Views.Tokens.{Piece}
 use Rattle.saphyr_parser.specs.declared.parser.context.NodeContext.TheVariants.{Block}
 use Rattle.saphyr_parser.specs.declared.parser.state.State.TheVariants as state
 use Rattle.saphyr_parser.specs.Events as events
-use Rattle.saphyr_parser.specs.Steps.Machine.{◌>>=◌, Machine, Told, told, refusal_at, ending_refusal, taken_token, with_pieces, put_back, pop, with_state, push, empty_scalar, forgotten, given, is_listed, listed}
+use Rattle.saphyr_parser.specs.Steps.Machine.{◌>>=◌, Machine, Told, told, refusal_at, ending_refusal, taken_token, with_pieces, put_back, pop, with_state, push, empty_scalar, without_ids, with_meaning, is_listed, with_name}
 use Rattle.saphyr_parser.specs.Steps.Nodes.{node}
 
 -- ## Tokens that are passed
@@ -59,9 +59,9 @@ abbrev pub with_handle : List ℕ → List ℕ → Marker → Declared → Machi
 with_handle handle prefix place d m =
     if is_listed handle d.handles then Err (record { text = fault.DuplicateTagDirective; mark = place })
     else Ok (
-      record { version = d.version; handles = listed handle d.handles },
+      record { version = d.version; handles = with_name handle d.handles },
       record m
-          { prefixes = given handle prefix m.prefixes },
+          { prefixes = with_meaning handle prefix m.prefixes },
     )
 
 -- reserved directives are ignored
@@ -93,7 +93,7 @@ stream_start m = do
 
 -- anchors hold for their document
 abbrev pub forget_anchors : Machine → Machine
-forget_anchors m = record m { anchors = forgotten m.anchors }
+forget_anchors m = record m { anchors = without_ids m.anchors }
 
 abbrev pub explicit_at : Kind → Piece → Machine → Result Told Refusal
 explicit_at tokens.DocumentStart t m =

@@ -32,15 +32,15 @@ abbrev pub meaning : {X : Type 0} → List ℕ → Names X → Option X
 meaning name names = lookup (is_at (slice_cmp nat_cmp name)) names
 
 -- a name gets a meaning, in place of one that it may have
-abbrev pub given : {X : Type 0} → List ℕ → X → Names X → Names X
-given name x names = insert_entry (slice_cmp nat_cmp) names name x
+abbrev pub with_meaning : {X : Type 0} → List ℕ → X → Names X → Names X
+with_meaning name x names = insert_entry (slice_cmp nat_cmp) names name x
 
 abbrev pub is_listed : List ℕ → List (List ℕ) → Bool
 is_listed name names = list_any (is_at (slice_cmp nat_cmp name)) names
 
 -- one more name
-abbrev pub listed : List ℕ → List (List ℕ) → List (List ℕ)
-listed name names = insert_key (slice_cmp nat_cmp) names name
+abbrev pub with_name : List ℕ → List (List ℕ) → List (List ℕ)
+with_name name names = insert_key (slice_cmp nat_cmp) names name
 
 -- the ids of the anchors of a document, and the id that was given last in any document
 pub record Anchors : Type 0 where
@@ -50,15 +50,15 @@ pub record Anchors : Type 0 where
 abbrev pub no_anchors : Anchors
 no_anchors = record { ids = []; last = 0 }
 
-abbrev pub forgotten : Anchors → Anchors
-forgotten a = record { ids = []; last = a.last }
+abbrev pub without_ids : Anchors → Anchors
+without_ids a = record { ids = []; last = a.last }
 
 -- the id of one more anchor, up to the last number that can be
 abbrev pub next_id : Anchors → ℕ
 next_id a = min (a.last + 1) (2 ^ 64 - 1)
 
-abbrev pub registered : List ℕ → Anchors → Anchors
-registered name a = record { ids = given name (next_id a) a.ids; last = next_id a }
+abbrev pub with_anchor : List ℕ → Anchors → Anchors
+with_anchor name a = record { ids = with_meaning name (next_id a) a.ids; last = next_id a }
 
 -- ## The state
 
@@ -104,13 +104,13 @@ taken_token m = taken_token_from m.tokens.pieces m
 abbrev pub put_back : Piece → Machine → Machine
 put_back t m = record m { tokens = before t m.tokens }
 
-abbrev pub popped : List State → Machine → Machine
-popped [] m = record m { state = state.End; states = [] }
-popped (s ∷ ss) m = record m { state = s; states = ss }
+abbrev pub pop_from : List State → Machine → Machine
+pop_from [] m = record m { state = state.End; states = [] }
+pop_from (s ∷ ss) m = record m { state = s; states = ss }
 
 -- what is expected behind the node that has ended
 abbrev pub pop : Machine → Machine
-pop m = popped m.states m
+pop m = pop_from m.states m
 
 abbrev pub with_state : State → Machine → Machine
 with_state s m = record m { state = s }

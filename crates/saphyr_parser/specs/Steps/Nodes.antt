@@ -13,7 +13,7 @@ use Rattle.saphyr_parser.specs.declared.parser.state.State.{State}
 use Rattle.saphyr_parser.specs.declared.parser.state.State.TheVariants as state
 use Rattle.saphyr_parser.specs.Events as events
 use Rattle.saphyr_parser.specs.Events.{Happening, ResolvedTag}
-use Rattle.saphyr_parser.specs.Steps.Machine.{◌>>=◌, Machine, Told, told, refusal_at, taken_token, put_back, pop, with_state, push, meaning, registered, next_id}
+use Rattle.saphyr_parser.specs.Steps.Machine.{◌>>=◌, Machine, Told, told, refusal_at, taken_token, put_back, pop, with_state, push, meaning, with_anchor, next_id}
 use Rattle.saphyr_parser.specs.Steps.Contexts.{allows_block, allows_indentless}
 use Rattle.saphyr_parser.specs.Steps.Tags.{resolved}
 
@@ -86,7 +86,7 @@ unfoldable pub alias_node : List ℕ → Span → Machine → Result Told Refusa
 alias_node name s m = alias_of (meaning name m.anchors.ids) s m
 
 abbrev pub register : List ℕ → Machine → Machine
-register name m = record m { anchors = registered name m.anchors }
+register name m = record m { anchors = with_anchor name m.anchors }
 
 -- behind an anchor that got the id
 abbrev pub behind_anchor_at : Kind → ℕ → Span → NodeContext → Piece → Machine → Result Told Refusal

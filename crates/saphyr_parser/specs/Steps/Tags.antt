@@ -1,6 +1,7 @@
 -- What the handle of a tag stands for (YAML 1.2.2, 6.8.2 and 6.9.1).
 use Rattle.std.specs.Prelude.{ℕ, ◌-◌, length, Bool, nat_le, nat_eq, ◌&&◌, if◌then◌else◌, List, Option, Some, None, Result, Ok, Err, codes, slice_index}
 use Rattle.std.specs.Str.{bytes_eq}
+use Rattle.saphyr_input.specs.Indicators.{exclamation_mark}
 use Rattle.saphyr_scalar.specs.declared.scalar.position.Marker.{Marker}
 use Rattle.saphyr_scalar.specs.declared.scalar.fault.Refusal.{Refusal}
 use Rattle.saphyr_scalar.specs.declared.scalar.fault.FaultText.TheVariants as fault
@@ -10,7 +11,8 @@ use Rattle.saphyr_parser.specs.Steps.Machine.{◌>>=◌, Names, meaning}
 -- a handle `!word!`, which has to be declared
 abbrev pub is_named_handle : List ℕ → Bool
 is_named_handle handle = nat_le 2 (length handle)
-    && (nat_eq (slice_index handle 0) 33 && nat_eq (slice_index handle (length handle - 1)) 33)
+    && (nat_eq (slice_index handle 0) exclamation_mark
+    && nat_eq (slice_index handle (length handle - 1)) exclamation_mark)
 
 abbrev pub undeclared : List ℕ → Marker → Result (List ℕ) Refusal
 undeclared handle place =

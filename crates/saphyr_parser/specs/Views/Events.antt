@@ -1,5 +1,5 @@
 -- What contracts see of events and tags.
-use Rattle.std.specs.Prelude.{ℕ, List, ◌++◌, option_map, codes, if◌then◌else◌}
+use Rattle.std.specs.Prelude.{ℕ, Bool, false, is_some, List, ◌++◌, option_map, codes, if◌then◌else◌}
 use Rattle.std.specs.Str.{bytes_eq}
 use Rattle.std.specs.String.{string_bytes}
 use Rattle.std.specs.Cow.{cow_str_bytes}
@@ -29,3 +29,17 @@ happening (events.SequenceStart id tag) = SequenceStart id (option_map resolved_
 happening events.SequenceEnd = SequenceEnd
 happening (events.MappingStart id tag) = MappingStart id (option_map resolved_tag tag)
 happening events.MappingEnd = MappingEnd
+
+-- whether an event has a tag
+abbrev pub has_tag : Event → Bool
+has_tag events.Nothing = false
+has_tag events.StreamStart = false
+has_tag events.StreamEnd = false
+has_tag (events.DocumentStart explicit) = false
+has_tag events.DocumentEnd = false
+has_tag (events.Alias id) = false
+has_tag (events.Scalar text style id tag) = is_some tag
+has_tag (events.SequenceStart id tag) = is_some tag
+has_tag events.SequenceEnd = false
+has_tag (events.MappingStart id tag) = is_some tag
+has_tag events.MappingEnd = false

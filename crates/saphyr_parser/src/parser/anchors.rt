@@ -41,7 +41,7 @@ impl Anchors {
 
     /// Forgets the names.
     pub fn forget(&mut self)
-        ensures { self.new ≡ spec.forgotten self.old }
+        ensures { self.new ≡ spec.without_ids self.old }
     {
         self.ids.clear();
     }
@@ -50,7 +50,7 @@ impl Anchors {
     /// Gives the next id to the name, which may have one already.
     pub fn register(&mut self, name: String) -> Result<usize, Stop>
         ensures { Moves {Y = ℕ × spec.Anchors} (λ id. (id, self.new)) result
-            (Ok (spec.next_id self.old, spec.registered (string_bytes name) self.old)) }
+            (Ok (spec.next_id self.old, spec.with_anchor (string_bytes name) self.old)) }
     {
         let id = self.last.saturating_add(1);
         self.ids.insert(name, id)?;

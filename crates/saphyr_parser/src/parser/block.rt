@@ -25,7 +25,7 @@ impl<T: Input> Machine<T> {
         match token.kind {
             TokenType::BlockEnd => {
                 self.pop();
-                next.0 = Event::SequenceEnd;
+                next.0.write_over(Event::SequenceEnd);
                 next.1 = token.span;
             }
             TokenType::BlockEntry => self.block_sequence_node(token.span, next)?,
@@ -69,7 +69,7 @@ impl<T: Input> Machine<T> {
                 let span = token.span;
                 self.put_back(token);
                 self.pop();
-                next.0 = Event::SequenceEnd;
+                next.0.write_over(Event::SequenceEnd);
                 next.1 = span;
             }
         }
@@ -116,7 +116,7 @@ impl<T: Input> Machine<T> {
             }
             TokenType::BlockEnd => {
                 self.pop();
-                next.0 = Event::MappingEnd;
+                next.0.write_over(Event::MappingEnd);
                 next.1 = token.span;
             }
             _ => return Err(refuse(FaultText::BlockMappingKeyExpected, token.span.start)),

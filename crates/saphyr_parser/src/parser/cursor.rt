@@ -1,9 +1,10 @@
 //! The parser as its callers see it: a place in the list of a text's events.
 
-ghost use Rattle.std.specs.Prelude.{◌≡◌, ◌≤◌, ℕ, Bool, List, length, take, IfOk};
+ghost use Rattle.std.specs.Prelude.{◌≡◌, ◌≤◌, ℕ, ◌+◌, Bool, List, length, take, IfOk};
 ghost use Rattle.std.specs.Str.{chars};
 ghost use Rattle.saphyr_input.specs.Listed.{Lists, Listed};
 ghost use Rattle.saphyr_scanner.specs.Steps.Remaining.{scan};
+ghost use Rattle.saphyr_parser.specs.Limits.{most_characters};
 ghost use Rattle.saphyr_parser.specs.Cursor as spec;
 ghost use Rattle.saphyr_parser.specs.Calls as calls;
 ghost use Rattle.saphyr_parser.specs.SpansWithin.{HasSpansIn};
@@ -77,10 +78,10 @@ impl<'input, T: Input> Parser<'input, T> {
     /// place in it.
     #[must_use]
     pub fn new(alloc: Global, src: T) -> Self
-        ensures decided { result ≡ spec.at_start (scan 4294967295 (T.rest src)) }
-        ensures json { ReadsJson 4294967295 (T.rest src) result }
-        ensures layout { ReadsLayout 4294967295 (T.rest src) result }
-        ensures closed { ReadsClosedLayout 4294967295 (T.rest src) result }
+        ensures decided { result ≡ spec.at_start (scan most_characters (T.rest src)) }
+        ensures json { ReadsJson most_characters (T.rest src) result }
+        ensures layout { ReadsLayout most_characters (T.rest src) result }
+        ensures closed { ReadsClosedLayout most_characters (T.rest src) result }
         ensures spans { (keep : Bool) → HasSpansIn (T.rest src)
             (spec.to_come (spec.keeping_tags keep result)) }
         ensures taken { TakesEvents (T.rest src) result }
@@ -98,11 +99,11 @@ impl<'input, T: Input> Parser<'input, T> {
     pub fn with_limit(alloc: Global, src: T, limit: usize) -> Self
         ensures decided { result ≡ spec.at_start (scan limit (T.rest src)) }
         ensures json { ReadsJson limit (T.rest src) result }
-        ensures layout { limit ≤ 4294967295 → ReadsLayout limit (T.rest src) result }
-        ensures closed { limit ≤ 4294967295 → ReadsClosedLayout limit (T.rest src) result }
+        ensures layout { limit ≤ most_characters → ReadsLayout limit (T.rest src) result }
+        ensures closed { limit ≤ most_characters → ReadsClosedLayout limit (T.rest src) result }
         ensures spans { (keep : Bool) → HasSpansIn (T.rest src)
             (spec.to_come (spec.keeping_tags keep result)) }
-        ensures taken { limit ≤ 4294967295 → TakesEvents (T.rest src) result }
+        ensures taken { limit ≤ most_characters → TakesEvents (T.rest src) result }
     {
         scans_each_json();
         scans_each_layout_text();
@@ -150,7 +151,7 @@ impl<'input, T: Input> Parser<'input, T> {
         next: &mut (Event<'input>, Span),
         fault: &mut Fault,
     ) -> Progress
-        ensures leaves { calls.GivesNext (calls.placed next.new fault.new result) self.old
+        ensures leaves { calls.GivesNext (calls.item_at next.new fault.new result) self.old
             self.new }
         ensures over { calls.EndsTheStream self.new }
     {
@@ -216,10 +217,10 @@ impl<'input> Parser<'input, StrInput<'input>> {
     /// The events of a text in memory, which is refused past 4,294,967,295 characters.
     #[must_use]
     pub fn new_from_str(alloc: Global, value: &'input str) -> Self
-        ensures decided { result ≡ spec.at_start (scan 4294967295 (chars value.now)) }
-        ensures json { ReadsJson 4294967295 (chars value.now) result }
-        ensures layout { ReadsLayout 4294967295 (chars value.now) result }
-        ensures closed { ReadsClosedLayout 4294967295 (chars value.now) result }
+        ensures decided { result ≡ spec.at_start (scan most_characters (chars value.now)) }
+        ensures json { ReadsJson most_characters (chars value.now) result }
+        ensures layout { ReadsLayout most_characters (chars value.now) result }
+        ensures closed { ReadsClosedLayout most_characters (chars value.now) result }
         ensures spans { (keep : Bool) → HasSpansIn (chars value.now)
             (spec.to_come (spec.keeping_tags keep result)) }
         ensures taken { TakesEvents (chars value.now) result }
@@ -238,18 +239,18 @@ impl<'input, I: Iterator<Item = char>> Parser<'input, BufferedInput<I>> {
         requires { Listed I.can_next I.next_gives iter }
         ensures decided { (text : List ℕ) → Lists I.can_next I.next_gives iter text
             → IfOk result (λ parser. parser
-            ≡ spec.at_start (scan 4294967295 (take 4294967296 text))) }
+            ≡ spec.at_start (scan most_characters (take (most_characters + 1) text))) }
         ensures json { (text : List ℕ) → Lists I.can_next I.next_gives iter text
-            → IfOk result (λ parser. ReadsJson 4294967295 text parser) }
+            → IfOk result (λ parser. ReadsJson most_characters text parser) }
         ensures layout { (text : List ℕ) → Lists I.can_next I.next_gives iter text
-            → IfOk result (λ parser. ReadsLayout 4294967295 text parser) }
+            → IfOk result (λ parser. ReadsLayout most_characters text parser) }
         ensures closed { (text : List ℕ) → Lists I.can_next I.next_gives iter text
-            → IfOk result (λ parser. ReadsClosedLayout 4294967295 text parser) }
+            → IfOk result (λ parser. ReadsClosedLayout most_characters text parser) }
         ensures spans { (text : List ℕ) → Lists I.can_next I.next_gives iter text
             → IfOk result (λ parser. (keep : Bool)
-            → HasSpansIn (take 4294967296 text) (spec.to_come (spec.keeping_tags keep parser))) }
+            → HasSpansIn (take (most_characters + 1) text) (spec.to_come (spec.keeping_tags keep parser))) }
         ensures taken { (text : List ℕ) → Lists I.can_next I.next_gives iter text
-            → IfOk result (λ parser. TakesEvents (take 4294967296 text) parser) }
+            → IfOk result (λ parser. TakesEvents (take (most_characters + 1) text) parser) }
     {
         Ok(Parser::new(alloc, BufferedInput::new(alloc, iter)?))
     }

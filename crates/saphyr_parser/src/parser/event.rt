@@ -1,12 +1,13 @@
 //! Events: the serialization of a text's nodes, step by step (YAML 1.2.2, 3.2.2).
 
-ghost use Rattle.std.specs.Prelude.{◌≡◌, IfOk, option_map};
-ghost use Rattle.saphyr_parser.specs.Views.Events.{happening, resolved_tag};
+ghost use Rattle.std.specs.Prelude.{◌≡◌, false, IfOk, option_map};
+ghost use Rattle.saphyr_parser.specs.Views.Events.{happening, resolved_tag, has_tag};
 
 use crate::parser::tag::Tag;
 use saphyr_scalar::ScalarStyle;
 use std::alloc::AllocError;
 use std::borrow::CowStr;
+use std::mem::{forget, replace};
 
 /// A step through a text: the stream, its documents, and their nodes in preorder.
 ///
@@ -38,6 +39,8 @@ pub enum Event<'input> {
 }
 
 impl<'input> Event<'input> {
+    ghost use Rattle.saphyr_parser.specs.declared.parser.event.Event.TheVariants.{Nothing};
+
     /// An equal event, unless memory runs out.
     pub fn try_clone(&self) -> Result<Event<'input>, AllocError>
         ensures { IfOk result (λ event. happening event ≡ happening self.now) }
@@ -57,6 +60,57 @@ impl<'input> Event<'input> {
             Event::MappingStart(id, tag) => Event::MappingStart(*id, try_clone_any(tag)?),
             Event::MappingEnd => Event::MappingEnd,
         })
+    }
+
+    // Whether it has a tag, which holds memory.
+    #[inline(always)]
+    fn is_tagged(&self) -> bool
+        ensures { result ≡ has_tag self.now }
+    {
+        match self {
+            Event::Scalar(_, _, _, tag) => tag.is_some(),
+            Event::SequenceStart(_, tag) | Event::MappingStart(_, tag) => tag.is_some(),
+            _ => false,
+        }
+    }
+
+    // Lets go of an event that holds no memory: of what it may hold, the tag is asked for, and its text was
+    // taken out before. For speed no code for its drop stands here, which would read all of the event.
+    #[inline(always)]
+    fn let_go(self)
+        requires { has_tag self ≡ false }
+    {
+        forget(self);
+    }
+
+    // Drops what it holds.
+    #[inline(never)]
+    fn clear(&mut self)
+        ensures { self.new ≡ Nothing }
+    {
+        *self = Event::Nothing;
+    }
+
+    // The same, of an event whose text was taken out.
+    #[inline(always)]
+    pub(super) fn clear_rest(&mut self)
+        ensures { self.new ≡ Nothing }
+    {
+        if self.is_tagged() {
+            self.clear();
+        }
+        replace(self, Event::Nothing).let_go();
+    }
+
+    // Writes an event into this place, where most often is none.
+    #[inline(always)]
+    pub(super) fn write_over(&mut self, event: Event<'input>)
+        ensures { self.new ≡ event.entry }
+    {
+        if !matches!(self, Event::Nothing) {
+            self.clear();
+        }
+        replace(self, event).let_go();
     }
 }
 

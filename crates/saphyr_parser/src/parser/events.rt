@@ -21,8 +21,8 @@ use std::mem::replace;
 impl<T: Input> Machine<T> {
     ghost use Rattle.saphyr_parser.specs.Views.Machines.{machine_of, TellsBy};
     ghost use Rattle.saphyr_parser.specs.Steps.Machine.{fresh_machine};
-    ghost use Rattle.saphyr_parser.specs.Calls.{Reads, placed};
-    ghost use Rattle.saphyr_parser.specs.Cursor.{filled};
+    ghost use Rattle.saphyr_parser.specs.Calls.{Reads, item_at};
+    ghost use Rattle.saphyr_parser.specs.Cursor.{item_in};
     ghost use Rattle.saphyr_parser.specs.Faults.{IsFaultOf, is_foreign};
     ghost use Rattle.saphyr_parser.specs.declared.parser.state.State.TheVariants.{End};
 
@@ -65,7 +65,8 @@ impl<T: Input> Machine<T> {
         &mut self,
         next: &mut (Event<'input>, Span),
     ) -> Option<Result<(), Fault>>
-        ensures reads { Reads (filled next.new result) (machine_of self.old) (machine_of self.new) }
+        ensures reads { Reads (item_in next.new result) (machine_of self.old)
+            (machine_of self.new) }
         ensures own { is_foreign result ≡ false }
     {
         let mut fault = Fault::OutOfMemory;
@@ -84,15 +85,17 @@ impl<T: Input> Machine<T> {
         *fault = Fault::new(self.alloc, stop);
     }
 
-    // Gives the text of the event that is written over back, for the memory of the next one.
+    // Gives the text of the event that is written over back, for the memory of the next one. Then no event is left
+    // in its place, so that the next one is written there without a look at all of it.
     #[inline(always)]
-    fn give_back<'input>(&mut self, next: &mut (Event<'input>, Span))
+    fn give_back<'input>(&mut self, place: &mut Event<'input>)
         ensures { machine_of self.new ≡ machine_of self.old }
     {
-        if let Event::Scalar(CowStr::Owned(text), _, _, _) = &mut next.0 {
+        if let Event::Scalar(CowStr::Owned(text), _, _, _) = place {
             self.scanner
                 .give_back(replace(text, String::new(self.alloc)));
         }
+        place.clear_rest();
     }
 
     // Reads the next event or fault into its place, if there is one.
@@ -103,14 +106,14 @@ impl<T: Input> Machine<T> {
         next: &mut (Event<'input>, Span),
         fault: &mut Fault,
     ) -> Progress
-        ensures reads { Reads (placed next.new fault.new result) (machine_of self.old)
+        ensures reads { Reads (item_at next.new fault.new result) (machine_of self.old)
             (machine_of self.new) }
-        ensures own { is_foreign (placed next.new fault.new result) ≡ false }
+        ensures own { is_foreign (item_at next.new fault.new result) ≡ false }
     {
         if self.is_done() {
             return Progress::Over;
         }
-        self.give_back(next);
+        self.give_back(&mut next.0);
         match self.event(next) {
             Ok(()) => Progress::Event,
             Err(stop) => {

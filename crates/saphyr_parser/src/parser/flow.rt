@@ -28,12 +28,12 @@ impl<T: Input> Machine<T> {
         match token.kind {
             TokenType::FlowSequenceEnd => {
                 self.pop();
-                next.0 = Event::SequenceEnd;
+                next.0.write_over(Event::SequenceEnd);
                 next.1 = token.span;
             }
             TokenType::Key => {
                 self.state = State::FlowSequenceEntryMappingKey;
-                next.0 = Event::MappingStart(0, None);
+                next.0.write_over(Event::MappingStart(0, None));
                 next.1 = token.span;
             }
             _ => self.inside(State::FlowSequenceEntry, NodeContext::Flow, token, next)?,
@@ -54,7 +54,7 @@ impl<T: Input> Machine<T> {
         match token.kind {
             TokenType::FlowSequenceEnd => {
                 self.pop();
-                next.0 = Event::SequenceEnd;
+                next.0.write_over(Event::SequenceEnd);
                 next.1 = token.span;
             }
             TokenType::FlowEntry => self.flow_sequence_first_entry(next)?,
@@ -146,7 +146,7 @@ impl<T: Input> Machine<T> {
             start: place,
             end: place,
         };
-        next.0 = Event::MappingEnd;
+        next.0.write_over(Event::MappingEnd);
         next.1 = span;
         Ok(())
     }
@@ -178,7 +178,7 @@ impl<T: Input> Machine<T> {
         match token.kind {
             TokenType::FlowMappingEnd => {
                 self.pop();
-                next.0 = Event::MappingEnd;
+                next.0.write_over(Event::MappingEnd);
                 next.1 = token.span;
             }
             TokenType::FlowEntry => self.flow_mapping_pair_behind_comma(token.span, next)?,
@@ -221,7 +221,7 @@ impl<T: Input> Machine<T> {
             }
             TokenType::FlowMappingEnd => {
                 self.pop();
-                next.0 = Event::MappingEnd;
+                next.0.write_over(Event::MappingEnd);
                 next.1 = end;
             }
             _ => self.inside(State::FlowMappingEmptyValue, NodeContext::Flow, token, next)?,

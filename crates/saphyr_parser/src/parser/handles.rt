@@ -43,7 +43,8 @@ impl Handles {
 
     #[tactic(auto, using(crate::proofs::Names::names_listed))]
     pub fn insert(&mut self, handle: String) -> Result<(), Stop>
-        ensures { Moves (λ _. self.new) result (Ok (spec.listed (string_bytes handle) self.old)) }
+        ensures { Moves (λ _. self.new) result
+            (Ok (spec.with_name (string_bytes handle) self.old)) }
     {
         self.declared.insert(handle)?;
         Ok(())

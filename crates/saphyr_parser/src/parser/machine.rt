@@ -165,7 +165,7 @@ impl<T: Input> Machine<T> {
     {
         self.put_back(token);
         self.state = state;
-        next.0 = self.empty_scalar();
+        next.0.write_over(self.empty_scalar());
         next.1 = span;
         Ok(())
     }

@@ -252,9 +252,39 @@ impl<T: Input> Machine<T> {
         }
     }
 
-    // A node begins with the token.
-    #[inline(always)]
+    // A node that begins with an alias, an anchor or a tag, or that isn't there. It is kept apart, since it is rare.
+    #[inline(never)]
     #[tactic(auto, unfolding(crate::specs::Steps::Nodes::node))]
+    fn rare_node<'input>(
+        &mut self,
+        context: NodeContext,
+        token: Token,
+        next: &mut (Event<'input>, Span),
+    ) -> Result<(), Stop>
+        requires { self.old.token ≡ None }
+        ensures { TellsBy (spec.node context (piece token)) self.old result next.new self.new }
+    {
+        let Token { span, kind } = token;
+        match kind {
+            TokenType::Alias(name) => self.alias(name.as_str(), span, next),
+            TokenType::Anchor(name) => self.behind_anchor(name, span, context, next),
+            TokenType::Tag(tag) => self.behind_tag(Box::into_inner(tag), span, context, next),
+            kind => {
+                let properties = Properties {
+                    start: span.start,
+                    behind: span.start,
+                    anchor: 0,
+                    tag: None,
+                };
+                self.content(properties, context, Token { span, kind }, next)
+            }
+        }
+    }
+
+    // A node begins with the token. As most nodes have no properties, what is read of those by `content` is read
+    // here, and no `Properties` are made for it.
+    #[inline(always)]
+    #[tactic(auto, unfolding(crate::specs::Steps::Nodes::node, crate::specs::Steps::Nodes::node_content))]
     pub(super) fn node<'input>(
         &mut self,
         context: NodeContext,
@@ -266,63 +296,39 @@ impl<T: Input> Machine<T> {
     {
         let Token { span, kind } = token;
         match kind {
-            TokenType::Alias(name) => self.alias(name.as_str(), span, next)?,
-            TokenType::Anchor(name) => self.behind_anchor(name, span, context, next)?,
-            TokenType::Tag(tag) => self.behind_tag(Box::into_inner(tag), span, context, next)?,
-            kind => self.bare_content(context, Token { span, kind }, next)?,
-        }
-        Ok(())
-    }
-
-    // A node begins with the token, and has no properties. It is read as by `content`, but as most nodes are
-    // such, no `Properties` are made for it.
-    #[inline(always)]
-    #[tactic(auto, unfolding(crate::specs::Steps::Nodes::node_content))]
-    fn bare_content<'input>(
-        &mut self,
-        context: NodeContext,
-        token: Token,
-        next: &mut (Event<'input>, Span),
-    ) -> Result<(), Stop>
-        requires { self.old.token ≡ None }
-        ensures { TellsBy
-            (spec.node_content (spec.no_node_properties (piece token).span.start) context (piece token))
-            self.old result next.new self.new }
-    {
-        let Token { span, kind } = token;
-        match kind {
             TokenType::Scalar(style, text) => {
                 self.pop();
-                next.0 = Event::Scalar(CowStr::Owned(text), style, 0, None);
+                next.0
+                    .write_over(Event::Scalar(CowStr::Owned(text), style, 0, None));
                 next.1 = span;
             }
             TokenType::FlowSequenceStart => {
                 self.state = State::FlowSequenceFirstEntry;
-                next.0 = Event::SequenceStart(0, None);
+                next.0.write_over(Event::SequenceStart(0, None));
                 next.1 = span;
             }
             TokenType::FlowMappingStart => {
                 self.state = State::FlowMappingFirstKey;
-                next.0 = Event::MappingStart(0, None);
+                next.0.write_over(Event::MappingStart(0, None));
                 next.1 = span;
             }
             TokenType::BlockSequenceStart if context.allows_block() => {
                 self.state = State::BlockSequenceEntry;
-                next.0 = Event::SequenceStart(0, None);
+                next.0.write_over(Event::SequenceStart(0, None));
                 next.1 = span;
             }
             TokenType::BlockMappingStart if context.allows_block() => {
                 self.state = State::BlockMappingKey;
-                next.0 = Event::MappingStart(0, None);
+                next.0.write_over(Event::MappingStart(0, None));
                 next.1 = span;
             }
             TokenType::BlockEntry if context.allows_indentless() => {
                 self.put_back(Token { span, kind });
                 self.state = State::IndentlessSequenceEntry;
-                next.0 = Event::SequenceStart(0, None);
+                next.0.write_over(Event::SequenceStart(0, None));
                 next.1 = span;
             }
-            _ => return Err(refuse(FaultText::NodeContentExpected, span.start)),
+            kind => self.rare_node(context, Token { span, kind }, next)?,
         }
         Ok(())
     }
@@ -346,7 +352,8 @@ impl<T: Input> Machine<T> {
         match kind {
             TokenType::Scalar(style, text) => {
                 self.state = state;
-                next.0 = Event::Scalar(CowStr::Owned(text), style, 0, None);
+                next.0
+                    .write_over(Event::Scalar(CowStr::Owned(text), style, 0, None));
                 next.1 = span;
             }
             kind => {

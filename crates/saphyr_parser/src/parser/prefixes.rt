@@ -60,7 +60,7 @@ impl Prefixes {
     /// Declares the prefix for the handle, in place of one that it may have.
     pub fn declare(&mut self, handle: String, prefix: String) -> Result<(), Stop>
         ensures { Moves (λ _. self.new) result
-            (Ok (spec.given (string_bytes handle) (string_bytes prefix) self.old)) }
+            (Ok (spec.with_meaning (string_bytes handle) (string_bytes prefix) self.old)) }
     {
         // Copies, since both were read into more room than they take, and a text may declare a million of them.
         self.declared.insert(handle.clone()?, prefix.clone()?)?;

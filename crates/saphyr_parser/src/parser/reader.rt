@@ -2,7 +2,7 @@
 
 ghost use Rattle.std.specs.Prelude.{◌≡◌, None, Some, true, false, IfNone};
 ghost use Rattle.saphyr_parser.specs.Faults.{is_own};
-ghost use Rattle.saphyr_parser.specs.Cursor.{filled};
+ghost use Rattle.saphyr_parser.specs.Cursor.{item_in};
 
 use crate::parser::event::Event;
 use crate::parser::fault::Fault;
@@ -44,7 +44,7 @@ fn fill<'input>(
     handed: Option<Result<(Event<'input>, Span), Fault>>,
     next: &mut (Event<'input>, Span),
 ) -> Option<Result<(), Fault>>
-    ensures { filled next.new result ≡ handed.entry }
+    ensures { item_in next.new result ≡ handed.entry }
 {
     match handed? {
         Ok(item) => {
@@ -110,7 +110,8 @@ impl<'input, T: Input> EventReader<'input, T> {
     // Remembers what an event says of the place between events that stands behind it.
     #[inline(always)]
     pub(super) fn remember(&mut self, event: &Event<'input>, span: Span)
-        ensures { cursor self.new ≡ spec.remembered (happening event.now) span (cursor self.old) }
+        ensures { cursor self.new
+            ≡ spec.with_event_handed (happening event.now) span (cursor self.old) }
     {
         match event {
             Event::DocumentStart(_) => self.inside = true,
@@ -150,8 +151,8 @@ impl<'input, T: Input> EventReader<'input, T> {
     // The same, where an event would be written into its place.
     #[inline(never)]
     fn give_fault_into(&mut self, next: &mut (Event<'input>, Span)) -> Option<Result<(), Fault>>
-        ensures { calls.GivesFault (cursor self.old).kept (filled next.new result) (cursor self.old)
-            (cursor self.new) }
+        ensures { calls.GivesFault (cursor self.old).kept (item_in next.new result)
+            (cursor self.old) (cursor self.new) }
     {
         fill(self.give_fault(), next)
     }
@@ -172,7 +173,7 @@ impl<'input, T: Input> EventReader<'input, T> {
     #[inline(never)]
     fn next_ahead_into(&mut self, next: &mut (Event<'input>, Span)) -> Option<Result<(), Fault>>
         requires { IfNone self.old.current (spec.IsKept (cursor self.old).kept) }
-        ensures { calls.GivesNext (filled next.new result) (cursor self.old) (cursor self.new) }
+        ensures { calls.GivesNext (item_in next.new result) (cursor self.old) (cursor self.new) }
     {
         fill(self.next_ahead(), next)
     }
@@ -183,7 +184,7 @@ impl<'input, T: Input> EventReader<'input, T> {
         &mut self,
         next: &mut (Event<'input>, Span),
     ) -> Option<Result<(), Fault>>
-        ensures { calls.GivesNext (filled next.new result) (cursor self.old) (cursor self.new) }
+        ensures { calls.GivesNext (item_in next.new result) (cursor self.old) (cursor self.new) }
     {
         if self.current.is_some() || self.kept.is_some() {
             return self.next_ahead_into(next);
@@ -207,7 +208,7 @@ impl<'input, T: Input> EventReader<'input, T> {
     #[inline(never)]
     fn advance_ahead(&mut self, next: &mut (Event<'input>, Span), fault: &mut Fault) -> Progress
         requires { IfNone self.old.current (spec.IsKept (cursor self.old).kept) }
-        ensures { calls.GivesNext (calls.placed next.new fault.new result) (cursor self.old)
+        ensures { calls.GivesNext (calls.item_at next.new fault.new result) (cursor self.old)
             (cursor self.new) }
     {
         match self.next_ahead_into(next) {
@@ -226,7 +227,7 @@ impl<'input, T: Input> EventReader<'input, T> {
         requires { is_own fault.old ≡ true }
         ensures { calls.GivesFault (Some (record
             { fault = spec.ending_of_fault fault.old; given = false }))
-            (calls.placed next.new fault.new result)
+            (calls.item_at next.new fault.new result)
             (record (cursor self.old)
             { kept = Some (record { fault = spec.ending_of_fault fault.old; given = false }) })
             (cursor self.new) }
@@ -253,7 +254,7 @@ impl<'input, T: Input> EventReader<'input, T> {
         next: &mut (Event<'input>, Span),
         fault: &mut Fault,
     ) -> Progress
-        ensures { calls.GivesNext (calls.placed next.new fault.new result) (cursor self.old)
+        ensures { calls.GivesNext (calls.item_at next.new fault.new result) (cursor self.old)
             (cursor self.new) }
     {
         if self.current.is_some() || self.kept.is_some() {

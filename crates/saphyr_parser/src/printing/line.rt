@@ -67,10 +67,11 @@ fn write_bare_scalar<W: Write>(out: &mut W, text: &str, style: ScalarStyle) -> R
     ensures { Takes result (W.contents out.old) (W.contents out.new)
         (codes "=VAL " ++ printed.style_mark style ++ (printed.printed_bytes text.now ++ codes "\n")) }
 {
-    write_text(out, bare_mark(style), text)
+    write_text(out, bare_mark(style), text.as_bytes())
 }
 
 // Writes a line of at most 64 bytes in one piece: a text behind what stands before it.
+#[inline(always)]
 fn write_short<W: Write>(out: &mut W, front: &[u8], text: &[u8]) -> Result<(), Unwritten>
     requires { length front.now + length text.now < 64 }
     ensures { Takes result (W.contents out.old) (W.contents out.new)
@@ -85,22 +86,32 @@ fn write_short<W: Write>(out: &mut W, front: &[u8], text: &[u8]) -> Result<(), U
 }
 
 // Writes a scalar's text behind what stands before it, and ends the line.
-#[tactic(auto, using(crate::proofs::Printed::Written::takes_three, crate::proofs::Printed::Written::loses_first, crate::proofs::Printed::Written::loses_second))]
-fn write_text<W: Write>(out: &mut W, front: &[u8], text: &str) -> Result<(), Unwritten>
+#[inline(always)]
+fn write_text<W: Write>(out: &mut W, front: &[u8], text: &[u8]) -> Result<(), Unwritten>
     ensures { Takes result (W.contents out.old) (W.contents out.new)
         (front.now ++ (printed.printed_bytes text.now ++ codes "\n")) }
 {
-    let text = text.as_bytes();
     // For speed: a short line in one piece, since each write costs more than most texts.
     if front.len() + text.len() < 64 && is_plain(text) {
         return write_short(out, front, text);
     }
+    write_pieces(out, front, text)
+}
+
+// The same, of a line that is long or has escapes.
+#[inline(never)]
+#[tactic(auto, using(crate::proofs::Printed::Written::takes_three, crate::proofs::Printed::Written::loses_first, crate::proofs::Printed::Written::loses_second))]
+fn write_pieces<W: Write>(out: &mut W, front: &[u8], text: &[u8]) -> Result<(), Unwritten>
+    ensures { Takes result (W.contents out.old) (W.contents out.new)
+        (front.now ++ (printed.printed_bytes text.now ++ codes "\n")) }
+{
     write_all(out, front)?;
     write_escaped(out, text)?;
     write_all(out, b"\n")
 }
 
 // What stands before the text of a scalar without properties.
+#[inline(always)]
 fn bare_mark(style: ScalarStyle) -> &'static [u8]
     ensures { result.now ≡ codes "=VAL " ++ printed.style_mark style }
 {

@@ -1,20 +1,39 @@
 //! Bytes, numbers and escaped texts, written to the last byte however few a writer takes at a time.
 
-ghost use Rattle.std.specs.Prelude.{◌≡◌, ◌<◌, ◌≤◌, true, false, [], ◌∷◌, ◌++◌, length, take, IfErr, IfNone, IfOk, IfSome};
+ghost use Rattle.std.specs.Prelude.{◌≡◌, ◌+◌, ◌<◌, ◌≤◌, true, false, [], ◌∷◌, ◌++◌, length, take, IfErr, IfNone, IfOk, IfSome};
+ghost use Rattle.saphyr_input.specs.Indicators.{backslash};
 ghost use Rattle.std.specs.Fmt.{decimal};
 ghost use Rattle.std.specs.Io.KnownBytes.{Appends};
 ghost use Rattle.saphyr_parser.specs.Written.{Takes, TakesSome};
-ghost use Rattle.saphyr_parser.specs.Printed.{printed_byte, printed_bytes};
+ghost use Rattle.saphyr_parser.specs.Printed.{ArePlain, printed_byte, printed_bytes};
 
 use std::io::Write;
+use std::simd::prelude::*;
 
 /// The writer answered an error, or took nothing of bytes that weren't empty.
 #[derive(Clone, Copy, Debug)]
 pub struct Unwritten;
 
-// Writes all bytes, however few the writer takes at a time.
-#[tactic(auto, using(crate::proofs::Printed::Written::takes_first, crate::proofs::Printed::Written::takes_next, crate::proofs::Printed::Written::takes_all, crate::proofs::Printed::Written::takes_none))]
+// Writes all bytes. Most writers take them at once, which is inlined.
+#[inline(always)]
+#[tactic(auto, using(crate::proofs::Printed::Written::takes_whole, crate::proofs::Printed::Written::takes_rest, crate::proofs::Printed::Written::takes_nothing))]
 pub(super) fn write_all<W: Write>(out: &mut W, bytes: &[u8]) -> Result<(), Unwritten>
+    ensures { Takes result (W.contents out.old) (W.contents out.new) bytes.now }
+{
+    if bytes.is_empty() {
+        return Ok(());
+    }
+    match out.write(bytes) {
+        Ok(count) if count == bytes.len() => Ok(()),
+        Ok(0) | Err(_) => Err(Unwritten),
+        Ok(count) => write_rest(out, &bytes[count..]),
+    }
+}
+
+// Writes all bytes, however few the writer takes at a time.
+#[inline(never)]
+#[tactic(auto, using(crate::proofs::Printed::Written::takes_first, crate::proofs::Printed::Written::takes_next, crate::proofs::Printed::Written::takes_all, crate::proofs::Printed::Written::takes_none))]
+fn write_rest<W: Write>(out: &mut W, bytes: &[u8]) -> Result<(), Unwritten>
     ensures { Takes result (W.contents out.old) (W.contents out.new) bytes.now }
 {
     let mut rest = bytes;
@@ -48,31 +67,77 @@ fn is_escaped(byte: u8) -> bool
     byte <= b'\r' || byte == b'\\'
 }
 
+// Whether surely none of N bytes is escaped.
+#[inline(always)]
+fn is_plain_block<const N: usize>(text: &[u8], start: usize) -> bool
+    requires { (N ≤ 64) × (start + N ≤ length text.now) }
+    ensures { result ≡ true → ArePlain text.now start (start + N) }
+{
+    let block = Simd::<u8, N>::from_slice(&text[start..]);
+    block.simd_le(Simd::splat(b'\r')).to_bitmask() == 0
+        && block.simd_eq(Simd::splat(b'\\')).to_bitmask() == 0
+}
+
 // The bytes before the first that is escaped, and the others.
-#[tactic(auto, using(crate::proofs::Printed::Escapes::plain_more))]
+#[tactic(auto, using(crate::proofs::Printed::Escapes::plain_more, crate::proofs::Printed::Blocks::plain_up_to))]
 fn split_plain(text: &[u8]) -> (&[u8], &[u8])
     ensures text { text.now ≡ result.0.now ++ result.1.now }
     ensures plain { printed_bytes result.0.now ≡ result.0.now }
 {
     let mut count = 0;
+    while text.len() - count >= 16 && is_plain_block::<16>(text, count) {
+        count += 16;
+    }
     while count < text.len() && !is_escaped(text[count]) {
         count += 1;
     }
     text.split_at(count)
 }
 
+// Whether surely none of at most 2 * N bytes is escaped: neither the first N nor the last.
+#[inline(always)]
+fn are_ends_plain<const N: usize>(text: &[u8]) -> bool
+    requires { (N ≤ 32) × (N ≤ length text.now) × (length text.now ≤ N + N) }
+    ensures { result ≡ true → ArePlain text.now 0 (length text.now) }
+{
+    is_plain_block::<N>(text, 0) && is_plain_block::<N>(text, text.len() - N)
+}
+
+// Whether surely none of 16 bytes and more is escaped. The last block may lap over the one before it.
+#[inline(always)]
+fn are_blocks_plain(text: &[u8]) -> bool
+    requires { 16 ≤ length text.now }
+    ensures { result ≡ true → ArePlain text.now 0 (length text.now) }
+{
+    let last = text.len() - 16;
+    let mut start = 0;
+    while start < last {
+        if !is_plain_block::<16>(text, start) {
+            return false;
+        }
+        start += 16;
+    }
+    is_plain_block::<16>(text, last)
+}
+
 // Whether surely no byte of a scalar's text is escaped.
-#[tactic(auto, using(crate::proofs::Printed::Escapes::plain_whole))]
+#[inline(always)]
+#[tactic(auto, using(crate::proofs::Printed::Escapes::plain_whole, crate::proofs::Printed::Blocks::plain_through))]
 pub(super) fn is_plain(text: &[u8]) -> bool
     ensures { result ≡ true → printed_bytes text.now ≡ text.now }
 {
-    split_plain(text).1.is_empty()
+    match text.len() {
+        0..4 => split_plain(text).1.is_empty(),
+        4..8 => are_ends_plain::<4>(text),
+        8..16 => are_ends_plain::<8>(text),
+        _ => are_blocks_plain(text),
+    }
 }
 
 // The letter that stands behind the backslash for a byte that is escaped.
 #[inline]
 fn letter_of(byte: u8) -> Option<u8>
-    ensures letter { IfSome result (λ letter. printed_byte byte ≡ 92 ∷ (letter ∷ [])) }
+    ensures letter { IfSome result (λ letter. printed_byte byte ≡ backslash ∷ (letter ∷ [])) }
     ensures none { IfNone result (printed_byte byte ≡ byte ∷ []) }
 {
     match byte {

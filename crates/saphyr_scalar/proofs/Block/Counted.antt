@@ -28,12 +28,12 @@ Stands low n t = (low ≤ t.mark.index) × (t.mark.index + length t.rest ≡ n)
 abbrev Behind : (A : Type 0) → ℕ → ℕ → A × Cursor → Type 0
 Behind A low n x = Stands low n x.1
 
-moved : (low n k i : ℕ) (xs : List ℕ) → low ≤ i → i + length xs ≡ n → k ≤ length xs
+counts_moved : (low n k i : ℕ) (xs : List ℕ) → low ≤ i → i + length xs ≡ n → k ≤ length xs
     → (low ≤ i + k) × (i + k + length (drop k xs) ≡ n)
-moved low n k i xs a b c = let l = length-drop k xs in (omega arith, omega (arith, l))
+counts_moved low n k i xs a b c = let l = length-drop k xs in (omega arith, omega (arith, l))
 
 one_moved : (low n : ℕ) (s : Cursor) → Stands low n s → 1 ≤ length s.rest → Stands low n (pass 1 s)
-one_moved low n s h k = moved low n 1 s.mark.index s.rest h.0 h.1 k
+one_moved low n s h k = counts_moved low n 1 s.mark.index s.rest h.0 h.1 k
 
 -- ## The header
 
@@ -56,9 +56,9 @@ indicator_stands low n start s h =
 break_stands : (low n : ℕ) (s : Cursor) → Stands low n s → Stands low n (pass_break s)
 break_stands low n s h =
     by_test (next_2_are s.rest 13 10) _ _ (Stands low n)
-    (λ e. moved low n 2 s.mark.index s.rest h.0 h.1 (two_shown s.rest e))
+    (λ e. counts_moved low n 2 s.mark.index s.rest h.0 h.1 (two_shown s.rest e))
     (λ _. by_test (is_break (slice_index s.rest 0)) _ _ (Stands low n)
-    (λ e. moved low n 1 s.mark.index s.rest h.0 h.1 (shown s.rest is_break true e (λ k. absurd (cc)))) (λ _. h))
+    (λ e. counts_moved low n 1 s.mark.index s.rest h.0 h.1 (shown s.rest is_break true e (λ k. absurd (cc)))) (λ _. h))
 
 header_break_stands : (low n : ℕ) (start : Marker) (s : Cursor) → Stands low n s
     → Given (Stands low n) (header_break start s)
@@ -75,7 +75,7 @@ separation_stands low n tabs s h =
     let t : Cursor = pass_blanks (separation_len tabs s.rest) s in
     by_test (nat_lt 0 t.mark.col && is_bom (slice_index t.rest 0)) _ _ (Given (Behind SkipTabs low n)) (λ _. tt)
     (λ _. by_test (is_bare_comment tabs s.rest) _ _ (Given (Behind SkipTabs low n)) (λ _. tt)
-    (λ _. moved low n (separation_len tabs s.rest) s.mark.index s.rest h.0 h.1 (separation_within tabs s.rest)))
+    (λ _. counts_moved low n (separation_len tabs s.rest) s.mark.index s.rest h.0 h.1 (separation_within tabs s.rest)))
 
 header_end_stands : (low n : ℕ) (start : Marker) (s : Cursor) → Stands low n s
     → Given (Stands low n) (header_end start s)

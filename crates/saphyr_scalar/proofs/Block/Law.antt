@@ -31,14 +31,15 @@ use Rattle.saphyr_scalar.proofs.Block.Indentations.{nul_no_indentation}
 abbrev Begun : EmptyLines × Cursor → Type 0
 Begun r = r.1.blank_so_far ≡ true
 
-begun : (limit : Option ℕ) (before : EmptyLines) (m : Marker) (xs : List ℕ)
+begun_by_empty_lines : (limit : Option ℕ) (before : EmptyLines) (m : Marker) (xs : List ℕ)
     → Begun (pass_empty_lines limit before true m xs)
 unfolding pass_empty_lines
-begun limit before m [] = refl
-begun limit before m (x ∷ cs) =
-    by_test (is_indentation limit m.col x) _ _ Begun (λ _. begun limit before (along m 1) cs)
-    (λ _. by_test (is_cr_lf x cs) _ _ Begun (λ _. begun limit before (inside_break m) cs)
-    (λ _. by_test (is_break x) _ _ Begun (λ _. begun limit (one_more before m.col) (next_line m 1) cs) (λ _. refl)))
+begun_by_empty_lines limit before m [] = refl
+begun_by_empty_lines limit before m (x ∷ cs) =
+    by_test (is_indentation limit m.col x) _ _ Begun (λ _. begun_by_empty_lines limit before (along m 1) cs)
+    (λ _. by_test (is_cr_lf x cs) _ _ Begun (λ _. begun_by_empty_lines limit before (inside_break m) cs)
+    (λ _. by_test (is_break x) _ _ Begun (λ _. begun_by_empty_lines limit (one_more before m.col) (next_line m 1) cs)
+    (λ _. refl)))
 
 z_is_none : (x : ℕ) → is_z x ≡ true → is_yaml_non_break x ≡ false
 z_is_none x h = ap is_yaml_non_break (z_is_nul x h)
@@ -96,7 +97,7 @@ led limit indent u col blank =
       within = omega (arith, l.reached, far);
       space = no_space limit indent r.1.mark.col r.0.widest (slice_index r.1.rest 0) stop.0;
       clear = stop.1;
-      begun = begun limit no_lines m xs;
+      begun = begun_by_empty_lines limit no_lines m xs;
     } in
     let P : EmptyLines × Cursor → Type 0 = λ x. Led (unwrap_or limit (max x.0.widest indent)) u x.1 x.0.count in
     subst P (ap (λ b. pass_empty_lines limit no_lines b m xs) (sym blank)) here
@@ -190,9 +191,10 @@ nothing_led limit u z =
     stops limit no_lines u (ap (is_indentation limit u.mark.col) first ∙ nul_no_indentation limit u.mark.col)
     (ap is_break first)
 
-told : (st : BlockStyle) (c : Chomping) (i : ℕ) (u : Cursor) (x y : Read) → gave x ≡ gave y → Behind st c i u x.0 x.2
+told_behind : (st : BlockStyle) (c : Chomping) (i : ℕ) (u : Cursor) (x y : Read) → gave x ≡ gave y
+    → Behind st c i u x.0 x.2
     → Behind st c i u y.0 y.2
-told st c i u x y e b = subst (λ (r : Read). Behind st c i u r.0 r.2) (same_gift x y e) b
+told_behind st c i u x y e b = subst (λ (r : Read). Behind st c i u r.0 r.2) (same_gift x y e) b
 
 pub behind_begun : (st : BlockStyle) (indent : ℕ) (start : Marker) (c : Chomping) (i k : ℕ) (limit : Option ℕ)
     (u : Cursor) (x : EmptyLines × Cursor) (y : Read) → Led i u x.1 x.0.count
@@ -201,7 +203,8 @@ pub behind_begun : (st : BlockStyle) (indent : ℕ) (start : Marker) (c : Chompi
 unfolding behind_leading_lines content chomped_lines
 behind_begun st indent start c i k limit u x y l same =
     by_test (is_z (slice_index x.1.rest 0)) _ _ (λ r. r ≡ gave y → Behind st c i u y.0 y.2)
-    (λ h e. told st c i u (encode_utf8_all (tail_alone c x.0.count x.1), record { start = start; end = x.1.mark }, x.1)
+    (λ h e. told_behind st c i u
+    (encode_utf8_all (tail_alone c x.0.count x.1), record { start = start; end = x.1.mark }, x.1)
     y e (alone st c i u x.1 x.0.count l h))
     (λ h. by_test (nat_lt x.1.mark.col (unwrap_or limit (max x.0.widest indent)) && nat_le indent x.1.mark.col) _ _
     (λ r. r ≡ gave y → Behind st c i u y.0 y.2)
@@ -212,7 +215,7 @@ behind_begun st indent start c i k limit u x y l same =
     (encode_utf8_all (z.0 ++ tail c (is_unfinished j z.2) z.1), record { start = x.1.mark; end = z.2.mark }, z.2)
     ≡ gave y in
     let z = between_at st i None x.0.count x.1 in
-    told st c i u (
+    told_behind st c i u (
       encode_utf8_all (z.0 ++ tail c (is_unfinished i z.2) z.1),
       record { start = x.1.mark; end = z.2.mark },
       z.2,
@@ -225,7 +228,8 @@ unfolding behind_leading_lines
 behind_cut st indent start c i limit u y z blank e =
     let here : behind_leading_lines st indent start c limit (widened no_lines u.mark.col, u)
     ≡ gave (encode_utf8_all (tail_alone c 0 u), record { start = start; end = u.mark }, u) = rw z refl in
-    told st c i u (encode_utf8_all (tail_alone c 0 u), record { start = start; end = u.mark }, u) y (sym here ∙ e)
+    told_behind st c i u (encode_utf8_all (tail_alone c 0 u), record { start = start; end = u.mark }, u) y
+    (sym here ∙ e)
     (cut_header st c i u z blank)
 
 behind_place : (st : BlockStyle) (indent : ℕ) (start : Marker) (h : BlockHeader) (u : Cursor) (y : Read) → Place u

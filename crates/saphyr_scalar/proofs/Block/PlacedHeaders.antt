@@ -50,8 +50,8 @@ pub record Goes (s t : Cursor) : Type 0 where
   pub passes : IsPassed s.mark s.rest t.mark t.rest
   pub line : t.mark.line ≡ s.mark.line
 
-stays : (s : Cursor) → Goes s s
-stays s = record { passes = passing.nothing s.mark s.rest; line = refl }
+goes_nowhere : (s : Cursor) → Goes s s
+goes_nowhere s = record { passes = passing.nothing s.mark s.rest; line = refl }
 
 goes_goes : (s t u : Cursor) → Goes s t → Goes t u → Goes s u
 goes_goes s t u a b = record {
@@ -82,7 +82,7 @@ unfolding chomping
 chomping_goes s =
     let P : Option Chomping × Cursor → Type 0 = λ x. Goes s x.1 in
     by_test (slice_index s.rest 0 == 43) _ _ P (λ e. number_passed s 43 e refl refl)
-    (λ _. by_test (slice_index s.rest 0 == 45) _ _ P (λ e. number_passed s 45 e refl refl) (λ _. stays s))
+    (λ _. by_test (slice_index s.rest 0 == 45) _ _ P (λ e. number_passed s 45 e refl refl) (λ _. goes_nowhere s))
 
 digit_no_break : (c : ℕ) → not (is_digit c) ≡ false → is_break c ≡ false
 digit_no_break c e = grind (arith, nat_tests)
@@ -91,7 +91,7 @@ indicator_goes : (start : Marker) (s : Cursor) → Given (λ (x : ℕ × Cursor)
 unfolding indicator
 indicator_goes start s =
     let P : ℕ × Cursor → Type 0 = λ x. Goes s x.1 in
-    by_test (not (is_digit (slice_index s.rest 0))) _ _ (Given P) (λ _. stays s)
+    by_test (not (is_digit (slice_index s.rest 0))) _ _ (Given P) (λ _. goes_nowhere s)
     (λ e. by_test (slice_index s.rest 0 == 48) _ _ (Given P) (λ _. tt)
     (λ _. one_passed s (digit_no_break (slice_index s.rest 0) e) (some s.rest e)))
   where
@@ -218,7 +218,7 @@ header_end_ends start s t g =
 
 last_goes : (first : Option Chomping) (s : Cursor) → Goes s (last_chomping first s).1
 unfolding last_chomping
-last_goes (Some first) s = stays s
+last_goes (Some first) s = goes_nowhere s
 last_goes None s = chomping_goes s
 
 header_behind_ends : (start : Marker) (i : ℕ) (s : Cursor) (x : Chomping × Cursor) → Goes s x.1

@@ -29,9 +29,6 @@ text_twice : (a b : List ℕ) (read : LinesRead) → lines_behind_text a (lines_
     ≡ lines_behind_text (a ++ b) read
 text_twice a b read = rw append_assoc refl
 
-no_text : (read : LinesRead) → lines_behind_text [] read ≡ read
-no_text read = refl
-
 front_text : (text a : List ℕ) (read : LinesRead)
     → with_lines text (lines_behind_text a read) ≡ with_lines (text ++ encode_utf8_all a) read
 front_text text a read = rw (encodes-append, append_assoc) refl
@@ -164,13 +161,13 @@ pub line_on : (st : BlockStyle) (i : ℕ) (more b : Bool) (m : Marker) (c : ℕ)
 unfolding line
 line_on st i more b m c cs h = rw h refl
 
-begun : (st : BlockStyle) (i : ℕ) (ab : Option Bool) (k : ℕ) (b : Bool) (m : Marker) (c : ℕ) (cs : List ℕ)
+line_begun : (st : BlockStyle) (i : ℕ) (ab : Option Bool) (k : ℕ) (b : Bool) (m : Marker) (c : ℕ) (cs : List ℕ)
     → is_indentation (Some i) m.col c ≡ false → is_cr_lf c cs ≡ false → is_break c ≡ false
     → line_starts i m.col (c ∷ cs) ≡ true
     → between st i ab k b m (c ∷ cs)
     ≡ lines_behind_text (break_before st ab k (is_blank c) ++ c ∷ []) (line st i (is_blank c) b (along m 1) cs)
 unfolding between
-begun st i ab k b m c cs h0 h1 h2 h = rw (h0, h1, h2, h) refl
+line_begun st i ab k b m c cs h0 h1 h2 h = rw (h0, h1, h2, h) refl
 
 pub line_begins : (st : BlockStyle) (i : ℕ) (ab : Option Bool) (k : ℕ) (b : Bool) (m : Marker) (xs : List ℕ)
     → line_starts i m.col xs ≡ true
@@ -182,7 +179,7 @@ line_begins st i ab k b m (c ∷ cs) h =
     let s = starts i m.col (c ∷ cs) h in
     let clear = non_break_no_break c s.content in
     let half : is_cr_lf c cs ≡ false = rw (no_break c clear).1 refl in
-    begun st i ab k b m c cs (not_left i m.col c s.column) half clear h
+    line_begun st i ab k b m c cs (not_left i m.col c s.column) half clear h
     ∙ sym (text_twice (break_before st ab k (is_blank c)) (c ∷ []) (line st i (is_blank c) b (along m 1) cs))
     ∙ ap (lines_behind_text (break_before st ab k (is_blank c))) (sym (line_on st i (is_blank c) b m c cs s.content))
 

@@ -323,8 +323,8 @@ begun_line st c i more k col x cs r s l =
 no_space_at : (i col : ℕ) → is_indentation (Some i) col 0 ≡ false
 no_space_at i col = refl
 
-is_space : (i col x : ℕ) → is_indentation (Some i) col x ≡ true → (x ≡ 32) × (col + 1 ≤ i)
-is_space i col x h =
+indentation_is_space : (i col x : ℕ) → is_indentation (Some i) col x ≡ true → (x ≡ 32) × (col + 1 ≤ i)
+indentation_is_space i col x h =
     let both = and_parts (nat_eq x 32) (nat_lt col i) h in
     (grind (arith, nat_tests), grind (arith, nat_tests))
 
@@ -338,8 +338,8 @@ mutual
       (record { no_space = no_space_at i m.col; no_break = refl; no_content = no_start i m.col [] refl })
   between_read st c i more k b m (x ∷ cs) within =
       by_test (is_indentation (Some i) m.col x) _ _ (BetweenRead st c i more k m.col (x ∷ cs))
-      (λ h. space_more st c i more k m.col x cs _ (is_space i m.col x h).0
-      (between_read st c i more k b (along m 1) cs (is_space i m.col x h).1))
+      (λ h. space_more st c i more k m.col x cs _ (indentation_is_space i m.col x h).0
+      (between_read st c i more k b (along m 1) cs (indentation_is_space i m.col x h).1))
       (λ h0. by_test (is_cr_lf x cs) _ _ (BetweenRead st c i more k m.col (x ∷ cs))
       (λ h. half_more st c i more k m.col x cs _ h (between_read st c i more k b (inside_break m) cs within))
       (λ h1. by_test (is_break x) _ _ (BetweenRead st c i more k m.col (x ∷ cs))

@@ -82,10 +82,10 @@ version_alike text m n s t e =
 
 -- ## Handles and prefixes
 
-word_alike : (text : List ℕ) (m n : Marker) (x y : List ℕ × Cursor) → AreSame text x y
+handle_word_alike : (text : List ℕ) (m n : Marker) (x y : List ℕ × Cursor) → AreSame text x y
     → GiveAlike (AreSame text) (handle_behind_word m x) (handle_behind_word n y)
 unfolding handle_behind_word
-word_alike text m n x y e =
+handle_word_alike text m n x y e =
     by_first (λ c. c == 33) refl e.1 (GiveAlike (AreSame text))
     (λ h. (ap handle_of e.0, one_passed (no_break_in (λ c. c == 33) refl refl x.1.rest h) e.1))
     (λ _. both_by (length x.0 == 0) (length y.0 == 0) _ _ _ _ (GiveAlike (AreSame text)) (ap (λ r. length r == 0) e.0)
@@ -96,7 +96,7 @@ handle_alike : (text : List ℕ) (m n : Marker) (s t : Cursor) → AreAlike text
 unfolding handle
 handle_alike text m n s t e =
     by_first (λ c. c == 33) refl e (GiveAlike (AreSame text))
-    (λ h. word_alike text m n _ _
+    (λ h. handle_word_alike text m n _ _
     (run_alike is_alpha refl refl [] (one_passed (no_break_in (λ c. c == 33) refl refl s.rest h) e))) (λ _. refl)
 
 prefix_alike : (text : List ℕ) (m n : Marker) (s t : Cursor) → AreAlike text s t

@@ -234,10 +234,10 @@ primary_alike text x y e =
     both_by (length x.0 == 0) (length y.0 == 0) _ _ _ _ (AreTagsAlike text) (ap (λ r. length r == 0) e.0)
     (λ _ _. (refl, refl, e.1)) (λ _ _. (refl, e.0, e.1))
 
-word_alike : (text : List ℕ) (m n : Marker) (x y : List ℕ × Cursor) → AreSame text x y
+tag_word_alike : (text : List ℕ) (m n : Marker) (x y : List ℕ × Cursor) → AreSame text x y
     → GiveAlike (AreTagsAlike text) (behind_word m x) (behind_word n y)
 unfolding behind_word
-word_alike text m n x y e =
+tag_word_alike text m n x y e =
     by_first (λ c. c == 33) refl e.1 (GiveAlike (AreTagsAlike text))
     (λ h. tail_alike text m n x.0 y.0 (pass 1 x.1) (pass 1 y.1) e.0
     (one_passed (no_break_in (λ c. c == 33) refl refl x.1.rest h) e.1))
@@ -248,7 +248,7 @@ word_alike text m n x y e =
 shorthand_alike : (text : List ℕ) (s t : Cursor) → NoBreak s.rest → AreAlike text s t
     → GiveAlike (AreTagsAlike text) (shorthand s) (shorthand t)
 unfolding shorthand
-shorthand_alike text s t h e = word_alike text s.mark t.mark _ _ (run_alike is_alpha refl refl [] (one_passed h e))
+shorthand_alike text s t h e = tag_word_alike text s.mark t.mark _ _ (run_alike is_alpha refl refl [] (one_passed h e))
 
 end_alike : (text : List ℕ) (in_flow : Bool) (m n : Marker) (x y : List ℕ × List ℕ × Cursor) → AreTagsAlike text x y
     → GiveAlike (AreTagsAlike text) (tag_end in_flow m x) (tag_end in_flow n y)

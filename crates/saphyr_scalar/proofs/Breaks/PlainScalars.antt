@@ -19,15 +19,15 @@ use Rattle.saphyr_input.proofs.Basics.Characters.{no_return}
 
 -- ## Words
 
-word_alike : (f : Bool) {r q : List ℕ} → Normal r q → in_word f r ≡ in_word f q
+in_word_alike : (f : Bool) {r q : List ℕ} → Normal r q → in_word f r ≡ in_word f q
 unfolding in_word
-word_alike f nothing = refl
-word_alike f (character c h n) =
+in_word_alike f nothing = refl
+in_word_alike f (character c h n) =
     ap (λ t. not (is_blank_or_breakz c) && cond (c == 58) (not t) (not (is_bom c || (f && is_flow c))))
     (first_in (λ d. is_blank_or_breakz d || (f && is_flow d)) refl n)
-word_alike f (feed n) = refl
-word_alike f (return h n) = refl
-word_alike f (pair n) = refl
+in_word_alike f (feed n) = refl
+in_word_alike f (return h n) = refl
+in_word_alike f (pair n) = refl
 
 dash_alike : (f : Bool) {r q : List ℕ} → Normal r q
     → (f && (slice_index r 0 == 45) && is_flow (slice_index r 1)) ≡
@@ -53,7 +53,7 @@ starts_alike text f s t e =
     (λ _ _. both_by (f && (slice_index s.rest 0 == 45) && is_flow (slice_index s.rest 1))
     (f && (slice_index t.rest 0 == 45) && is_flow (slice_index t.rest 1)) _ _ _ _ (GiveAlike (AreSame text))
     (dash_alike f (normal_of e))
-    (λ _ _. refl) (λ _ _. (word_alike f (normal_of e), e)))
+    (λ _ _. refl) (λ _ _. (in_word_alike f (normal_of e), e)))
 
 goes_alike : (text : List ℕ) (f : Bool) (i : ℕ) (s t : Cursor) → AreAlike text s t
     → GiveAlike (AreSame text) (goes_on f i s) (goes_on f i t)
@@ -189,7 +189,7 @@ module _ (text : List ℕ) (f : Bool) (i : ℕ) (a b : Marker) where
       let here : AreAlike text (at s.mark s.rest) (at t.mark t.rest) =
       alike false false refl (normal_of e) (places_of e) in
       both_are (ArePlainAlike text) _ _ _ _ (word_over f i a s.mark s.rest stops)
-      (word_over f i b t.mark t.rest (sym (word_alike f (normal_of e)) ∙ stops))
+      (word_over f i b t.mark t.rest (sym (in_word_alike f (normal_of e)) ∙ stops))
       (both_then (AreGapsAlike text) (ArePlainAlike text) _ _ _ _
       (gap_alike text i a b (at s.mark s.rest) (at t.mark t.rest) here) (λ g k first _ is.
       let shorter = word_behind f s.rest g.behind.rest (gap_end i a (at s.mark s.rest) g first) stops in
@@ -201,7 +201,7 @@ module _ (text : List ℕ) (f : Bool) (i : ℕ) (a b : Marker) where
   on_alike m n goes nothing p others = absurd (cc)
   on_alike m n goes (character c {r = r} {q = q} h x) p others =
       both_are (ArePlainAlike text) _ _ _ _ (word_on f i a m c r goes)
-      (word_on f i b n c q (sym (word_alike f (character c h x)) ∙ goes))
+      (word_on f i b n c q (sym (in_word_alike f (character c h x)) ∙ goes))
       (front_alike text (encode_utf8 c) (encode_utf8 c) _ _ refl (others (at (along m 1) r) (at (along n 1) q)
       (omega arith) (alike false false refl x (moved_along 1 1 refl p))))
   on_alike m n goes (feed x) p others = absurd (cc)

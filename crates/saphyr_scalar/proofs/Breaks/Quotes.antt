@@ -116,11 +116,11 @@ special_alike text Double a b s t e =
 abbrev Leaves : List ℕ → Result (Option ℕ × Cursor) Refusal → Type 0
 Leaves r read = (x : Option ℕ × Cursor) (d : ℕ) → read ≡ Ok x → x.0 ≡ Some d → x.1.rest ≡ r
 
-none_left : (r : List ℕ) (s : Cursor) → Leaves r (Ok (None, s))
-none_left r s x d read some = absurd (cc)
+leaves_none : (r : List ℕ) (s : Cursor) → Leaves r (Ok (None, s))
+leaves_none r s x d read some = absurd (cc)
 
-some_left : (r : List ℕ) (d : ℕ) (s : Cursor) → s.rest ≡ r → Leaves r (Ok (Some d, s))
-some_left r d s e x other read some = subst (λ (k : Result (Option ℕ × Cursor) Refusal). Left k) read e
+leaves_some : (r : List ℕ) (d : ℕ) (s : Cursor) → s.rest ≡ r → Leaves r (Ok (Some d, s))
+leaves_some r d s e x other read some = subst (λ (k : Result (Option ℕ × Cursor) Refusal). Left k) read e
   where
     Left : Result (Option ℕ × Cursor) Refusal → Type 0
     Left (Ok y) = y.1.rest ≡ r
@@ -129,29 +129,29 @@ some_left r d s e x other read some = subst (λ (k : Result (Option ℕ × Curso
 escape_left : (a m : Marker) (c : ℕ) (cs : List ℕ) (r : Result (ℕ × Cursor) Refusal)
     → escaped_character a (at m (c ∷ cs)) ≡ r
     → Leaves (drop (2 + hex_digit_count (slice_index cs 0)) (c ∷ cs)) (r >>= λ e. Ok (Some e.0, e.1))
-escape_left a m c cs (Ok e) is = some_left _ e.0 e.1 (ap (λ (t : Cursor). t.rest) (escape_place a m (c ∷ cs) e is))
+escape_left a m c cs (Ok e) is = leaves_some _ e.0 e.1 (ap (λ (t : Cursor). t.rest) (escape_place a m (c ∷ cs) e is))
 escape_left a m c cs (Err e) is = λ x d read some. absurd (cc)
 
 special_left : (quote : Quote) (a m : Marker) (c : ℕ) (cs : List ℕ)
     → Leaves (drop (special_len quote (slice_index cs 0)) cs) (special quote a (at m (c ∷ cs)))
 unfolding special
 special_left Single a m c cs =
-    by_test (next_2_are (c ∷ cs) 39 39) _ _ (Leaves (drop 1 cs)) (λ _. some_left _ 39 (pass 2 (at m (c ∷ cs))) refl)
-    (λ _. none_left _ _)
+    by_test (next_2_are (c ∷ cs) 39 39) _ _ (Leaves (drop 1 cs)) (λ _. leaves_some _ 39 (pass 2 (at m (c ∷ cs))) refl)
+    (λ _. leaves_none _ _)
 special_left Double a m c cs =
     let k = hex_digit_count (slice_index cs 0) in
     let two : 2 + k ≡ suc (suc k) = omega arith in
     by_test ((c == 92) && not (is_break (slice_index cs 0))) _ _ (Leaves (drop (suc k) cs))
     (λ _. subst (λ n. Leaves (drop n (c ∷ cs)) (escaped_character a (at m (c ∷ cs)) >>= λ e. Ok (Some e.0, e.1))) two
     (escape_left a m c cs (escaped_character a (at m (c ∷ cs))) refl))
-    (λ _. none_left _ _)
+    (λ _. leaves_none _ _)
 
 -- ## Gaps
 
-word_alike : (text : List ℕ) (i : ℕ) (a b : Marker) (s t : Cursor) → AreAlike text s t
+begin_word_alike : (text : List ℕ) (i : ℕ) (a b : Marker) (s t : Cursor) → AreAlike text s t
     → GiveAlike (AreAlike text) (begin_word i a s) (begin_word i b t)
 unfolding begin_word
-word_alike text i a b s t e =
+begin_word_alike text i a b s t e =
     let marker = indicator_alike (normal_of e) in
     both_by ((s.mark.col == 0) && is_document_indicator s.rest) ((t.mark.col == 0) && is_document_indicator t.rest)
     _ _ _ _ (GiveAlike (AreAlike text)) (rw (e.col, marker) refl) (λ _ _. refl)
@@ -171,7 +171,7 @@ unfolding end_gap
 gap_alike text i a b (on_line bytes) s t e =
     by_first is_z refl e (GiveAlike AreTexts) (λ _. refl) (λ _. refl)
 gap_alike text i a b (over_lines escaped n) s t e =
-    both_then (AreAlike text) AreTexts _ _ _ _ (word_alike text i a b s t e) (λ x y _ _ is. refl)
+    both_then (AreAlike text) AreTexts _ _ _ _ (begin_word_alike text i a b s t e) (λ x y _ _ is. refl)
 
 blank_alike : (i : ℕ) (gap : QuotedGap) (m n : Marker) (c : ℕ) → m.col ≡ n.col
     → GiveAlike AreGaps (blank_in i gap m c) (blank_in i gap n c)

@@ -45,9 +45,10 @@ at_return (d ∷ ds) here behind = by (d == 10) refl
         subst (λ x. Normal (13 ∷ x ∷ ds) (normalized (13 ∷ x ∷ ds))) ten (pair behind)
     by false e = rw e (return e here)
 
-one_more : (c : ℕ) (cs : List ℕ) → Normal cs (normalized cs) → Normal (drop 1 cs) (normalized (drop 1 cs))
+normal_behind_character : (c : ℕ) (cs : List ℕ) → Normal cs (normalized cs)
+    → Normal (drop 1 cs) (normalized (drop 1 cs))
     → Normal (c ∷ cs) (normalized (c ∷ cs))
-one_more c cs here behind = by (c == 13) (c == 10) refl refl
+normal_behind_character c cs here behind = by (c == 13) (c == 10) refl refl
   where
     by : (a b : Bool) → (c == 13) ≡ a → (c == 10) ≡ b → Normal (c ∷ cs) (normalized (c ∷ cs))
     by true b e f =
@@ -58,12 +59,12 @@ one_more c cs here behind = by (c == 13) (c == 10) refl refl
         subst (λ x. Normal (x ∷ cs) (normalized (x ∷ cs))) is (feed here)
     by false false e f = let no : is_break c ≡ false = rw (e, f) refl in rw e (character c no here)
 
-both : (r : List ℕ) → Normal r (normalized r) × Normal (drop 1 r) (normalized (drop 1 r))
-both [] = (nothing, nothing)
-both (c ∷ cs) = (one_more c cs (both cs).0 (both cs).1, (both cs).0)
+normal_by_two : (r : List ℕ) → Normal r (normalized r) × Normal (drop 1 r) (normalized (drop 1 r))
+normal_by_two [] = (nothing, nothing)
+normal_by_two (c ∷ cs) = (normal_behind_character c cs (normal_by_two cs).0 (normal_by_two cs).1, (normal_by_two cs).0)
 
 pub normal : (r q : List ℕ) → normalized r ≡ q → Normal r q
-normal r q e = subst (Normal r) e (both r).0
+normal r q e = subst (Normal r) e (normal_by_two r).0
 
 -- ## What stands next
 
@@ -143,8 +144,8 @@ pub record Places (text r q : List ℕ) (m n : Marker) : Type 0 where
   pub there : drop n.index (normalized text) ≡ q
 
 -- so many characters further
-further : (text r : List ℕ) (i j a : ℕ) → drop i text ≡ r → j ≡ i + a → drop j text ≡ drop a r
-further text r i j a e f = rw f (sym (drop-drop a i text) ∙ ap (drop a) e)
+dropped_further : (text r : List ℕ) (i j a : ℕ) → drop i text ≡ r → j ≡ i + a → drop j text ≡ drop a r
+dropped_further text r i j a e f = rw f (sym (drop-drop a i text) ∙ ap (drop a) e)
 
 pub moved : {text r q : List ℕ} {m n : Marker} (a b : ℕ) (k l : Marker) → Places text r q m n → k.index ≡ m.index + a
     → l.index ≡ n.index + b → k.line ≡ l.line → k.col ≡ l.col → Places text (drop a r) (drop b q) k l
@@ -152,8 +153,8 @@ moved {text = text} {r = r} {q = q} {m = m} {n = n} a b k l p e f line col =
     record {
       line = line;
       col = col;
-      here = further text r m.index k.index a p.here e;
-      there = further (normalized text) q n.index l.index b p.there f;
+      here = dropped_further text r m.index k.index a p.here e;
+      there = dropped_further (normalized text) q n.index l.index b p.there f;
     }
 
 pub moved_along : {text r q : List ℕ} {m n : Marker} (a b : ℕ) → a ≡ b → Places text r q m n

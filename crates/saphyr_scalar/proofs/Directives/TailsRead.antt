@@ -22,8 +22,8 @@ use Rattle.saphyr_scalar.proofs.Directives.PartEnds.{blanks_passed}
 no_bom : (c : ℕ) → is_breakz c ≡ true → is_bom c ≡ false
 no_bom c h = other_than is_breakz 65279 c refl h
 
-no_blank : (c : ℕ) → is_breakz c ≡ true → is_blank c ≡ false
-no_blank c h = rw (other_than is_breakz 32 c refl h, other_than is_breakz 9 c refl h) refl
+break_is_no_blank : (c : ℕ) → is_breakz c ≡ true → is_blank c ≡ false
+break_is_no_blank c h = rw (other_than is_breakz 32 c refl h, other_than is_breakz 9 c refl h) refl
 
 abbrev pub Tail : List ℕ → List ℕ → Type 0
 Tail blanks comment = (comment ≡ []) ⊎ IsTailComment blanks comment
@@ -37,7 +37,7 @@ tail_begins [] comment x are (inr (words, some, in_line, is)) ends = absurd (som
 
 comment_begins : (blanks comment x : List ℕ) → Tail blanks comment → is_breakz (slice_index x 0) ≡ true
     → is_blank (slice_index (comment ++ x) 0) ≡ false
-comment_begins blanks comment x (inl none) ends = rw none (no_blank (slice_index x 0) ends)
+comment_begins blanks comment x (inl none) ends = rw none (break_is_no_blank (slice_index x 0) ends)
 comment_begins blanks comment x (inr (words, some, in_line, is)) ends = rw is refl
 
 comment_is : (blanks comment x : List ℕ) → Tail blanks comment → is_breakz (slice_index x 0) ≡ true
@@ -56,7 +56,7 @@ separation_is : (blanks comment x : List ℕ) → AreIn is_blank blanks → Tail
     → is_breakz (slice_index x 0) ≡ true
     → separation_len Yes (blanks ++ (comment ++ x)) ≡ length blanks + length comment
 separation_is [] comment x are (inl none) ends =
-    rw none (ap (λ n. separated n x) (run_stops is_blank x (no_blank (slice_index x 0) ends)))
+    rw none (ap (λ n. separated n x) (run_stops is_blank x (break_is_no_blank (slice_index x 0) ends)))
 separation_is [] comment x are (inr (words, some, in_line, is)) ends = absurd (some refl)
 separation_is (b ∷ bs) comment x are tail ends =
     let xs = b ∷ (bs ++ (comment ++ x)) in

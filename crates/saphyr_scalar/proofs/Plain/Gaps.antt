@@ -22,11 +22,11 @@ pub record IsEnd (xs ys : List ℕ) : Type 0 where
   pub is : ys ≡ drop taken xs
   pub count : taken + length ys ≡ length xs
 
-whole : (xs : List ℕ) → IsEnd xs xs
-whole xs = record { taken = 0; is = refl; count = omega arith }
+end_at_start : (xs : List ℕ) → IsEnd xs xs
+end_at_start xs = record { taken = 0; is = refl; count = omega arith }
 
-one_more : (c : ℕ) (xs ys : List ℕ) → IsEnd xs ys → IsEnd (c ∷ xs) ys
-one_more c xs ys e = record { taken = suc e.taken; is = e.is; count = omega (arith, e.count) }
+end_behind_character : (c : ℕ) (xs ys : List ℕ) → IsEnd xs ys → IsEnd (c ∷ xs) ys
+end_behind_character c xs ys e = record { taken = suc e.taken; is = e.is; count = omega (arith, e.count) }
 
 end_of_end : (xs ys zs : List ℕ) → IsEnd xs ys → IsEnd ys zs → IsEnd xs zs
 end_of_end xs ys zs e f = record {
@@ -59,7 +59,7 @@ may_stand_same a t f s g =
 
 reached_end : (a : Marker) (t : Bool) (f : List ℕ) (m : Marker) (xs : List ℕ) (g : PlainGap)
     → reached a t f (at_line m xs) ≡ Ok g → IsEnd xs g.behind.rest
-reached_end a t f m xs g e = let is = may_stand_same a t f (at_line m xs) g e in rw is (whole xs)
+reached_end a t f m xs g e = let is = may_stand_same a t f (at_line m xs) g e in rw is (end_at_start xs)
 
 lines_end : (i : ℕ) (a : Marker) (t : Bool) (f : List ℕ) (m : Marker) (xs : List ℕ) (g : PlainGap)
     → lines i a t f m xs ≡ Ok g → IsEnd xs g.behind.rest
@@ -67,7 +67,7 @@ unfolding lines
 lines_end i a t f m [] g = reached_end a t f m [] g
 lines_end i a t f m (c ∷ cs) g =
     by_test (is_blank_or_break c) _ _ (λ (r : Result PlainGap Refusal). r ≡ Ok g → IsEnd (c ∷ cs) g.behind.rest)
-    (λ _ e. one_more c cs _ (lines_end i a (is_blank c && (t || ((c == tab) && nat_lt m.col i)))
+    (λ _ e. end_behind_character c cs _ (lines_end i a (is_blank c && (t || ((c == tab) && nat_lt m.col i)))
     (if ends_line c cs then f ++ line_feed ∷ [] else f) (if ends_line c cs then next_line m 1 else along m 1) cs g
     e))
     (λ _ e. reached_end a t f m (c ∷ cs) g e)
@@ -86,15 +86,17 @@ break_end s = at_first s.rest
     Goal xs = IsEnd xs (pass_break (from xs)).rest
 
     at_first : (xs : List ℕ) → Goal xs
-    at_first [] = whole []
+    at_first [] = end_at_start []
     at_first (c ∷ []) = by_test (next_2_are (c ∷ []) 13 10) _ _ (λ (p : Cursor). IsEnd (c ∷ []) p.rest)
         (λ h. absurd (not_two (c == 13) h))
-        (λ _. by_test (is_break c) _ _ (λ (p : Cursor). IsEnd (c ∷ []) p.rest) (λ _. one_more c [] _ (whole _))
-        (λ _. whole _))
+        (λ _. by_test (is_break c) _ _ (λ (p : Cursor). IsEnd (c ∷ []) p.rest)
+        (λ _. end_behind_character c [] _ (end_at_start _))
+        (λ _. end_at_start _))
     at_first (c ∷ d ∷ cs) = by_test (next_2_are (c ∷ d ∷ cs) 13 10) _ _ (λ (p : Cursor). IsEnd (c ∷ d ∷ cs) p.rest)
-        (λ _. one_more c _ _ (one_more d _ _ (whole _)))
-        (λ _. by_test (is_break c) _ _ (λ (p : Cursor). IsEnd (c ∷ d ∷ cs) p.rest) (λ _. one_more c _ _ (whole _))
-        (λ _. whole _))
+        (λ _. end_behind_character c _ _ (end_behind_character d _ _ (end_at_start _)))
+        (λ _. by_test (is_break c) _ _ (λ (p : Cursor). IsEnd (c ∷ d ∷ cs) p.rest)
+        (λ _. end_behind_character c _ _ (end_at_start _))
+        (λ _. end_at_start _))
 
 next_lines_end : (i : ℕ) (a : Marker) (s : Cursor) (g : PlainGap) → next_lines i a s ≡ Ok g → IsEnd s.rest g.behind.rest
 next_lines_end i a s g = by_result (lines i a false [] s.mark s.rest) (lines_end i a false [] s.mark s.rest)
@@ -129,7 +131,7 @@ lines_blank i a t f m (c ∷ cs) g e =
     e)
     (λ _ e. ap (λ (x : PlainGap). x.behind.blank_so_far) (may_stand_same a t f (at_line m (c ∷ cs)) g e)) e
 
-lines_read : (i : ℕ) (a m : Marker) (xs feeds : List ℕ) (w : Cursor) (r : Result Bool Stop)
+pub lines_read : (i : ℕ) (a m : Marker) (xs feeds : List ℕ) (w : Cursor) (r : Result Bool Stop)
     → Moves (λ t. seen_gap t feeds w) r (lines i a false [] m xs)
     → Moves (λ t. seen_gap t (gap_text w.blank_so_far feeds) w) r (lines i a false [] m xs >>= λ g. Ok (folded_gap g))
 lines_read i a m xs feeds w (Ok t) e =

@@ -17,10 +17,6 @@ pub some_blank : (xs : List ℕ) → is_blank (slice_index xs 0) ≡ true → 0 
 some_blank [] h = absurd (cc)
 some_blank (c ∷ cs) h = omega arith
 
-pub some_break : (xs : List ℕ) → is_break (slice_index xs 0) ≡ true → 0 < length xs
-some_break [] h = absurd (cc)
-some_break (c ∷ cs) h = omega arith
-
 -- whether a tab stands in the indentation, once a character of the line more is read
 abbrev pub tabbed_by : ℕ → Bool → Marker → ℕ → Bool
 tabbed_by indent tabbed m c = tabbed || ((c == tab) && nat_lt m.col indent)

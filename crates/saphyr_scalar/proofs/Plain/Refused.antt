@@ -116,9 +116,9 @@ gap_told indent start s =
     (break_ends t (or_left (is_break (slice_index t.rest 0)) (is_z (slice_index t.rest 0)) e)).passes))
     (λ _. p)
 
-gap_refused : (indent : ℕ) (s t : Cursor) → IsPassed s.mark s.rest t.mark t.rest
+plain_gap_refused : (indent : ℕ) (s t : Cursor) → IsPassed s.mark s.rest t.mark t.rest
     → Refused (IsRefusedInside s) (gap indent s.mark t)
-gap_refused indent s t p = by (gap indent s.mark t) (gap_told indent s.mark t)
+plain_gap_refused indent s t p = by (gap indent s.mark t) (gap_told indent s.mark t)
   where
     by : (r : Result PlainGap Refusal) → GapTold s.mark t r → Refused (IsRefusedInside s) r
     by (Ok g) h = tt
@@ -190,7 +190,7 @@ mutual
       (λ e. text_refused P (encode_utf8 c) (word in_flow indent s.mark (along m 1) cs)
       (word_refused s in_flow indent (along m 1) cs
       (one_more_passed s m c cs p (word_no_break in_flow (c ∷ cs) e))))
-      (λ _. refused_bind P (gap indent s.mark t) _ (gap_refused indent s t p) (λ g e.
+      (λ _. refused_bind P (gap indent s.mark t) _ (plain_gap_refused indent s t p) (λ g e.
       let end = gap_end indent s.mark t g e in
       let k = pred (gap_len (c ∷ cs) g) in
       let there = passed_passed s.mark s.rest m (c ∷ cs) g.behind.mark g.behind.rest p

@@ -77,8 +77,9 @@ one_spelled f m apart c cs behind all is w comment marker more = (
       (subst (λ (b : Bool). IsSpelledPlain (along m 1) b cs behind) (sym w.ink) more),
 )
 
-joined : (xs y behind : List ℕ) (n : ℕ) → drop n xs ≡ y ++ behind → (take n xs ++ y) ++ behind ≡ xs
-joined xs y behind n e = append_assoc (take n xs) y behind ∙ ap (λ l. take n xs ++ l) (sym e) ∙ take-append-drop n xs
+taken_and_left : (xs y behind : List ℕ) (n : ℕ) → drop n xs ≡ y ++ behind → (take n xs ++ y) ++ behind ≡ xs
+taken_and_left xs y behind n e =
+    append_assoc (take n xs) y behind ∙ ap (λ l. take n xs ++ l) (sym e) ∙ take-append-drop n xs
 
 word_tail : (f : Bool) (m : Marker) (xs y behind : List ℕ) → 0 < m.col → drop (word_len f xs) xs ≡ y ++ behind
     → IsSpelledPlain (along m (word_len f xs)) false y behind
@@ -94,7 +95,7 @@ word_tail f m (c ∷ cs) y behind some =
     let Goal : ℕ → Type 0 = λ k. drop k (c ∷ cs) ≡ y ++ behind → IsSpelledPlain (along m k) false y behind
     → IsSpelledPlain m false (take k (c ∷ cs) ++ y) behind in
     let next : Goal (suc n) = λ e h.
-    one_spelled f m false c (take n cs ++ y) behind cs (joined cs y behind n e) (word_character f c cs goes)
+    one_spelled f m false c (take n cs ++ y) behind cs (taken_and_left cs y behind n e) (word_character f c cs goes)
     (λ t. absurd (false≢true t)) (λ t. absurd (omega arith))
     (word_tail f (along m 1) cs y behind (omega arith) e
     (subst (λ x. IsSpelledPlain x false y behind) (sym (along_more m 1 n (suc n) (omega arith))) h)) in
@@ -116,7 +117,7 @@ word_spelled f m (c ∷ cs) y behind goes b =
     let Goal : ℕ → Type 0 = λ k. drop k (c ∷ cs) ≡ y ++ behind → IsSpelledPlain (along m k) false y behind
     → IsSpelledPlain m true (take k (c ∷ cs) ++ y) behind in
     let next : Goal (suc n) = λ e h.
-    one_spelled f m true c (take n cs ++ y) behind cs (joined cs y behind n e) (word_character f c cs goes)
+    one_spelled f m true c (take n cs ++ y) behind cs (taken_and_left cs y behind n e) (word_character f c cs goes)
     (λ _. b.comment) b.marker
     (word_tail f (along m 1) cs y behind (omega arith) e
     (subst (λ x. IsSpelledPlain x false y behind) (sym (along_more m 1 n (suc n) (omega arith))) h)) in
@@ -177,14 +178,14 @@ white_character c cs h = by_blank (is_blank c) refl
           no_marker = refl;
         })
 
-weaker : (m : Marker) (apart : Bool) (cs behind : List ℕ) → IsSpelledPlain m true cs behind
+spelled_apart_or_not : (m : Marker) (apart : Bool) (cs behind : List ℕ) → IsSpelledPlain m true cs behind
     → IsSpelledPlain m apart cs behind
-weaker m apart [] behind h = tt
-weaker m apart (c ∷ cs) behind h = (h.0, h.1, λ _. h.2 refl, h.3, h.4, h.5)
+spelled_apart_or_not m apart [] behind h = tt
+spelled_apart_or_not m apart (c ∷ cs) behind h = (h.0, h.1, λ _. h.2 refl, h.3, h.4, h.5)
 
 pub white_spelled : (m : Marker) (apart : Bool) (v next behind : List ℕ) → AreWhite v → NoFeed (next ++ behind)
     → IsSpelledPlain (passed m v) true next behind → IsSpelledPlain m apart (v ++ next) behind
-white_spelled m apart [] next behind are none h = weaker m apart next behind h
+white_spelled m apart [] next behind are none h = spelled_apart_or_not m apart next behind h
 white_spelled m apart (c ∷ v) next behind are none h =
     let w = white_character c ((v ++ next) ++ behind) are.0 in
     let line : ends_line c ((v ++ next) ++ behind) ≡ ends_line c v =

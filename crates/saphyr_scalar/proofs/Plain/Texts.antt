@@ -81,8 +81,8 @@ starts_so f s hash marker lone goes =
     rw hash marker in
     rw (none, lone, goes) refl
 
-no_marker : (m : Marker) (xs : List ℕ) → IsNoMarker m xs → ((m.col == 0) && is_document_indicator xs) ≡ false
-no_marker m xs h = test (m.col == 0) refl
+no_marker_by_test : (m : Marker) (xs : List ℕ) → IsNoMarker m xs → ((m.col == 0) && is_document_indicator xs) ≡ false
+no_marker_by_test m xs h = test (m.col == 0) refl
   where
     test : (b : Bool) → (m.col == 0) ≡ b → ((m.col == 0) && is_document_indicator xs) ≡ false
     test true e = let is : m.col ≡ 0 =
@@ -103,7 +103,7 @@ word_begins f m b w y h marker =
     let s = cursor_at (w ++ y) m b in
     let other : slice_index (w ++ y) 0 ≢ 35 = λ e. h.no_comment (sym (first_is f w y h) ∙ e) in
     let hash : (slice_index (w ++ y) 0 == 35) ≡ false = differs (slice_index (w ++ y) 0) other in
-    starts_so f s hash (no_marker m (w ++ y) marker) h.no_lone_dash (first_in f w y h)
+    starts_so f s hash (no_marker_by_test m (w ++ y) marker) h.no_lone_dash (first_in f w y h)
   where
     differs : (c : ℕ) → (c ≢ 35) → (c == 35) ≡ false
     differs c h = grind (arith, nat_tests)

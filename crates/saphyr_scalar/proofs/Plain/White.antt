@@ -30,15 +30,15 @@ pub record Leaves (r : Result PlainGap Refusal) (t : Bool) (s : Cursor) : Type 0
 abbrev pub MayStand : Bool → List ℕ → Type 0
 MayStand t xs = (t ≡ false) ⊎ (stands_behind_tab xs ≡ true)
 
-no_mark : (c : ℕ) → ((c == 35) || is_z c) ≡ true → is_bom c ≡ false
-no_mark c h = grind (arith, nat_tests)
+no_byte_order_mark : (c : ℕ) → ((c == 35) || is_z c) ≡ true → is_bom c ≡ false
+no_byte_order_mark c h = grind (arith, nat_tests)
 
 is_reached : (a : Marker) (t : Bool) (f : List ℕ) (s : Cursor) → MayStand t s.rest
     → reached a t f s ≡ Ok (seen_gap t f s)
 unfolding may_stand
 is_reached a false f s h = refl
 is_reached a true f s (inl e) = absurd (cc)
-is_reached a true f s (inr e) = rw (no_mark (slice_index s.rest 0) e, e) refl
+is_reached a true f s (inr e) = rw (no_byte_order_mark (slice_index s.rest 0) e, e) refl
 
 -- the flag behind a blank or a break
 abbrev pub flag_on : ℕ → ℕ → Bool → ℕ → Bool
@@ -89,11 +89,11 @@ line_past : (i : ℕ) (a : Marker) (t : Bool) (f : List ℕ) (m : Marker) (c : �
 unfolding lines
 line_past i a t f m c cs white = rw white refl
 
-line_end : (i : ℕ) (a : Marker) (t : Bool) (f : List ℕ) (m : Marker) (c : ℕ) (cs : List ℕ)
+line_ends_with_ink : (i : ℕ) (a : Marker) (t : Bool) (f : List ℕ) (m : Marker) (c : ℕ) (cs : List ℕ)
     → is_blank_or_break c ≡ false → MayStand t (c ∷ cs)
     → lines i a t f m (c ∷ cs) ≡ Ok (seen_gap t f (at_line m (c ∷ cs)))
 unfolding lines
-line_end i a t f m c cs other h = rw other (is_reached a t f (at_line m (c ∷ cs)) h)
+line_ends_with_ink i a t f m c cs other h = rw other (is_reached a t f (at_line m (c ∷ cs)) h)
 
 text_end : (i : ℕ) (a : Marker) (t : Bool) (f : List ℕ) (m : Marker)
     → lines i a t f m [] ≡ Ok (seen_gap t f (at_line m []))
@@ -149,7 +149,7 @@ lines_past i a t f m (c ∷ cs) h = by_case (is_blank_or_break c) refl
         let place = past_stop m true (c ∷ cs) other in
         leaves_on _ _ _ _ _ _ refl flag place (record {
           text = f;
-          is = line_end i a t f m c cs other
+          is = line_ends_with_ink i a t f m c cs other
               (subst (λ (b : Bool). MayStand b (c ∷ cs)) flag
               (subst (λ (s : Cursor). MayStand (reaches_tabbed i m.col t (c ∷ cs)) s.rest) place h));
         })

@@ -92,9 +92,10 @@ pub record CharacterOf (set : ℕ → Bool) (c : ℕ) (m : Marker) (xs : List �
   pub text : xs ≡ piece ++ u.rest
   pub place : u ≡ at (along m (length piece)) u.rest
 
-cut : (set : ℕ → Bool) (xs : List ℕ) → set 0 ≡ false → set (slice_index xs 0) ≡ true → xs ≡ slice_index xs 0 ∷ drop 1 xs
-cut set [] nul h = let k : false ≡ true = sym nul ∙ h in absurd (false≢true k)
-cut set (c ∷ cs) nul h = refl
+first_of_set : (set : ℕ → Bool) (xs : List ℕ) → set 0 ≡ false → set (slice_index xs 0) ≡ true
+    → xs ≡ slice_index xs 0 ∷ drop 1 xs
+first_of_set set [] nul h = let k : false ≡ true = sym nul ∙ h in absurd (false≢true k)
+first_of_set set (c ∷ cs) nul h = refl
 
 pub character_spelled : (set : ℕ → Bool) (start m : Marker) (xs : List ℕ) (c : ℕ) (u : Cursor) → set 0 ≡ false
     → set (slice_index xs 0) ≡ true → uri_character start (at m xs) ≡ Ok (c, u) → CharacterOf set c m xs u
@@ -114,7 +115,7 @@ character_spelled set start m xs c u nul in_set =
     record {
       piece = c ∷ [];
       is = inl (subst (λ (x : ℕ). set x ≡ true) first in_set, other, refl);
-      text = cut set xs nul in_set ∙ ap (λ (x : ℕ). x ∷ drop 1 xs) first ∙ ap (λ r. c ∷ r) rest;
+      text = first_of_set set xs nul in_set ∙ ap (λ (x : ℕ). x ∷ drop 1 xs) first ∙ ap (λ r. c ∷ r) rest;
       place = sym left ∙ ap (at (along m 1)) rest;
     })
 

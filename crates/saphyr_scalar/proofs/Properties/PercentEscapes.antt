@@ -59,15 +59,15 @@ gives_refused view (Err r) f refusal h e = e ∙ ap Err (sym h)
 
 -- Where an escape ends.
 
-further : (m : Marker) (xs : List ℕ) (a b n : ℕ) → n ≡ a + b
+places_added : (m : Marker) (xs : List ℕ) (a b n : ℕ) → n ≡ a + b
     → at (along (along m a) b) (drop b (drop a xs)) ≡ at (along m n) (drop n xs)
-further m xs a b n e = ap (λ x. at x (drop b (drop a xs))) (along_more m a b n e)
+places_added m xs a b n e = ap (λ x. at x (drop b (drop a xs))) (along_more m a b n e)
     ∙ ap (at (along m n)) (drop_more b a n xs e)
 
 -- what is read behind a place is read behind the one before it
 then_further : (m : Marker) (xs : List ℕ) (a b n : ℕ) (r : Result (ℕ × Cursor) Refusal) → n ≡ a + b
     → Ends (along m a) (drop a xs) b r → Ends m xs n r
-then_further m xs a b n r e h x is = h x is ∙ further m xs a b n e
+then_further m xs a b n r e h x is = h x is ∙ places_added m xs a b n e
 
 byte_place : (start m : Marker) (xs : List ℕ) → Ends m xs 3 (escaped_byte start (at m xs))
 unfolding escaped_byte
@@ -107,7 +107,7 @@ leading_place start m b xs =
     (λ x is.
     let n : 3 * w ≡ 3 + 3 * (w - 1) = grind (arith, nat_tests) in
     let place : x.1 ≡ at (along m (3 * w)) (drop (3 * w) xs) = bytes_place start (along m 3) (w - 1) (leading_bits b)
-    (drop 3 xs) x is ∙ further m xs 3 (3 * (w - 1)) (3 * w) n in
+    (drop 3 xs) x is ∙ places_added m xs 3 (3 * (w - 1)) (3 * w) n in
     subst (λ y. Ends m xs (3 * w) (encoded start w x.0 y)) (sym place) (encoded_place start m w x.0 (3 * w) xs)))
 
 escape_place : (start m : Marker) (xs : List ℕ)
@@ -163,15 +163,15 @@ character_place start m xs x =
     (λ h is. read m xs 1 (slice_index xs 0) x is ∙ ap (λ k. at (along m k) (drop k xs)) (tail_of_character xs h))
 
 -- the characters of an escape are passed over
-passed_over : (set : UriSet) (start : Marker) (k : ℕ) (m : Marker) (xs : List ℕ)
+escape_passed_over : (set : UriSet) (start : Marker) (k : ℕ) (m : Marker) (xs : List ℕ)
     → decoded set start k m xs ≡ decoded set start 0 (along m k) (drop k xs)
 unfolding decoded
-passed_over set start zero m xs = ap (λ x. decoded set start 0 x xs) (sym (along_none m))
-passed_over set start (suc k) m [] =
+escape_passed_over set start zero m xs = ap (λ x. decoded set start 0 x xs) (sym (along_none m))
+escape_passed_over set start (suc k) m [] =
     ap (λ (x : Marker). let r : Result (List ℕ × Cursor) Refusal = Ok ([], at x []) in r)
     (sym (along_none (along m (suc k))))
-passed_over set start (suc k) m (c ∷ cs) =
-    passed_over set start k (along m 1) cs
+escape_passed_over set start (suc k) m (c ∷ cs) =
+    escape_passed_over set start k (along m 1) cs
     ∙ ap (λ x. decoded set start 0 x (drop k cs)) (along_more m 1 k (suc k) (omega arith))
 
 no_nul : (set : UriSet) → has set 0 ≡ true → ⊥
@@ -194,7 +194,7 @@ one_more set start m (c ∷ cs) h = rw h (bind_same (uri_character start (at m (
     let place : x.1 ≡ at (along m (1 + k)) (drop (1 + k) (c ∷ cs)) = character_place start m (c ∷ cs) x is in
     let one : suc k ≡ 1 + k = omega arith in
     ap (with_front (encode_utf8 x.0))
-    (passed_over set start k (along m 1) cs
+    (escape_passed_over set start k (along m 1) cs
     ∙ ap (λ y. decoded set start 0 y (drop k cs)) (along_more m 1 k (1 + k) refl)
     ∙ ap (λ n. decoded set start 0 (along m (1 + k)) (drop n (c ∷ cs))) one
     ∙ ap (decoded_at set start) (sym place))))

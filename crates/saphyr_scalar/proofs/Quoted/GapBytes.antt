@@ -44,27 +44,27 @@ no_gap_bytes items = by_break (is_before_break items)
     by_break false = refl
 
 -- no empty line is left
-none_left : (escaped : Bool) (n : ℕ) (b : List ℕ)
+no_line_more : (escaped : Bool) (n : ℕ) (b : List ℕ)
     → encode_utf8_all (folded_break escaped n) ++ b ≡ encode_utf8_all (folded_break escaped (n + 0)) ++ b
-none_left escaped n b = ap (λ k. encode_utf8_all (folded_break escaped k) ++ b) (sym (add-zero n))
+no_line_more escaped n b = ap (λ k. encode_utf8_all (folded_break escaped k) ++ b) (sym (add-zero n))
 
 pub closed_bytes : (gap : QuotedGap) → gap_front gap ++ [] ≡ gap_bytes gap []
 closed_bytes (on_line bytes) = refl
-closed_bytes (over_lines escaped n) = none_left escaped n []
+closed_bytes (over_lines escaped n) = no_line_more escaped n []
 
 pub raw_bytes : (gap : QuotedGap) (c : ℕ) (items : List Item)
     → gap_front gap ++ (encode_utf8 c ++ gap_bytes no_gap items) ≡ gap_bytes gap (Raw c ∷ items)
 raw_bytes (on_line bytes) c items = ap (λ b. bytes ++ (encode_utf8 c ++ b)) (no_gap_bytes items)
 raw_bytes (over_lines escaped n) c items =
     ap (λ b. encode_utf8_all (folded_break escaped n) ++ (encode_utf8 c ++ b)) (no_gap_bytes items)
-    ∙ none_left escaped n _
+    ∙ no_line_more escaped n _
 
 pub escaped_bytes : (gap : QuotedGap) (c : ℕ) (items : List Item)
     → gap_front gap ++ (encode_utf8 c ++ gap_bytes no_gap items) ≡ gap_bytes gap (Escaped c ∷ items)
 escaped_bytes (on_line bytes) c items = ap (λ b. bytes ++ (encode_utf8 c ++ b)) (no_gap_bytes items)
 escaped_bytes (over_lines escaped n) c items =
     ap (λ b. encode_utf8_all (folded_break escaped n) ++ (encode_utf8 c ++ b)) (no_gap_bytes items)
-    ∙ none_left escaped n _
+    ∙ no_line_more escaped n _
 
 -- the bytes behind an escaped break
 escaped_break_line : (items : List Item)
@@ -77,4 +77,4 @@ pub escaped_break_bytes : (gap : QuotedGap) (items : List Item)
     → gap_front gap ++ gap_bytes (over_lines true 0) items ≡ gap_bytes gap (EscapedBreak ∷ items)
 escaped_break_bytes (on_line bytes) items = ap (λ b. bytes ++ b) (escaped_break_line items)
 escaped_break_bytes (over_lines escaped n) items =
-    ap (λ b. encode_utf8_all (folded_break escaped n) ++ b) (escaped_break_line items) ∙ none_left escaped n _
+    ap (λ b. encode_utf8_all (folded_break escaped n) ++ b) (escaped_break_line items) ∙ no_line_more escaped n _

@@ -17,6 +17,8 @@ use Rattle.scalar_values.specs.Flow as flow
 use Rattle.saphyr_scalar.proofs.NoBreaks.{mark_no_nul}
 use Rattle.saphyr_scalar.proofs.Quoted.Inside.{front_twice, passed_over, behind_no_gap, IsContent, at_break, at_end, flushed, Moved, moved_stops, SameRun, moved_of}
 use Rattle.saphyr_scalar.proofs.Quoted.Parts.{blanks_moved}
+use Rattle.std.proofs.lemmas.Bool.{eqb-true}
+use Rattle.saphyr_input.proofs.Basics.Booleans.{and_true_left}
 use Rattle.saphyr_scalar.specs.Steps.Quoted.{is_literal, is_escaped_break, is_closing, ends_word, with_front, at, special, on_line, over_lines, no_gap, escaped_gap, break_len, inside, inside_at}
 
 pub by_break_len : (s : Cursor) → is_break (slice_index s.rest 0) ≡ true → pass_break s ≡ pass_line (break_len s.rest) s
@@ -182,11 +184,17 @@ at_closing Single indent start m cs h =
     not_second true h = absurd (cc)
     not_second false h = refl
 
-pub quote_closes : (q : Quote) (indent : ℕ) (start : Marker) (text : List ℕ) (s : Cursor) → IsTrue (ends_word q s.rest)
-    → slice_index s.rest 0 ≡ flow.mark q
+closing_mark : (q : Quote) (xs : List ℕ) → IsTrue (is_closing q xs) → slice_index xs 0 ≡ flow.mark q
+closing_mark Double xs h = sym (sym (eqb-true (slice_index xs 0) 34 h))
+closing_mark Single xs h =
+    sym (sym (eqb-true (slice_index xs 0) 39
+    (and_true_left (slice_index xs 0 == 39) (not (slice_index xs 1 == 39)) h)))
+
+pub closing_closes : (q : Quote) (indent : ℕ) (start : Marker) (text : List ℕ) (s : Cursor)
+    → IsTrue (is_closing q s.rest)
     → with_front text (inside_at q indent start no_gap s) ≡ Ok (text, pass 1 s)
-quote_closes q indent start text s h e =
-    ap (with_front text) (closes s.mark s.rest (closing_quote q s.rest h e) e) ∙ rw (append-nil text) refl
+closing_closes q indent start text s h =
+    ap (with_front text) (closes s.mark s.rest h (closing_mark q s.rest h)) ∙ rw (append-nil text) refl
   where
     closes : (m : Marker) (xs : List ℕ) → IsTrue (is_closing q xs) → slice_index xs 0 ≡ flow.mark q
         → inside q indent start no_gap 0 m xs ≡ Ok ([], at (along m 1) (drop 1 xs))
@@ -194,3 +202,8 @@ quote_closes q indent start text s h e =
     closes m (c ∷ cs) h e =
         ap (λ x. inside q indent start no_gap 0 m (x ∷ cs)) e
         ∙ at_closing q indent start m cs (subst (λ (x : ℕ). IsTrue (is_closing q (x ∷ cs))) e h)
+
+pub quote_closes : (q : Quote) (indent : ℕ) (start : Marker) (text : List ℕ) (s : Cursor) → IsTrue (ends_word q s.rest)
+    → slice_index s.rest 0 ≡ flow.mark q
+    → with_front text (inside_at q indent start no_gap s) ≡ Ok (text, pass 1 s)
+quote_closes q indent start text s h e = closing_closes q indent start text s (closing_quote q s.rest h e)

@@ -21,12 +21,6 @@ use Rattle.saphyr_input.proofs.Basics.Lists.{run_ends}
 use Rattle.saphyr_input.proofs.Basics.Booleans.{neither_parts, by_test, either}
 use Rattle.std.proofs.lemmas.Bool.{or_parts}
 
--- a place that shows a literal is a character
-pub literal_left : (q : Quote) (xs : List ℕ) (c : ℕ) → c ≡ slice_index xs 0 → is_literal q c ≡ true → 0 < length xs
-unfolding is_literal
-literal_left q [] c e h = absurd (cc)
-literal_left q (x ∷ xs) c e h = omega arith
-
 pub front_twice : (a b : List ℕ) (read : TextRead) → with_front a (with_front b read) ≡ with_front (a ++ b) read
 front_twice a b (Ok x) = rw append_assoc refl
 front_twice a b (Err e) = refl
@@ -100,24 +94,6 @@ Piece q indent start m xs n =
 pub no_piece : (q : Quote) (indent : ℕ) (start m : Marker) (xs : List ℕ) → Piece q indent start m xs 0
 no_piece q indent start m xs =
     sym (no_front _) ∙ ap (λ x. with_front [] (inside q indent start no_gap 0 x xs)) (sym (along_none m))
-
-more_piece : (q : Quote) (indent : ℕ) (start m : Marker) (c : ℕ) (cs : List ℕ) (n : ℕ) → is_literal q c ≡ true
-    → Piece q indent start (along m 1) cs n → Piece q indent start m (c ∷ cs) (suc n)
-more_piece q indent start m c cs n h r =
-    stands q indent start m c cs h ∙ ap (with_front (encode_utf8 c)) r
-    ∙ front_twice (encode_utf8 c) (encode_utf8_all (take n cs)) _
-    ∙ ap (λ x. with_front (encode_utf8 c ++ encode_utf8_all (take n cs)) (inside q indent start no_gap 0 x (drop n cs)))
-    (along_more m 1 n (suc n) (omega arith))
-
-pub run_stands : (q : Quote) (indent : ℕ) (start m : Marker) (xs : List ℕ)
-    → Piece q indent start m xs (prefix_len (is_literal q) xs)
-run_stands q indent start m [] = no_piece q indent start m []
-run_stands q indent start m (c ∷ cs) =
-    let one : 1 + prefix_len (is_literal q) cs ≡ suc (prefix_len (is_literal q) cs) = omega arith in
-    by_test (is_literal q c) (1 + prefix_len (is_literal q) cs) 0 (Piece q indent start m (c ∷ cs))
-    (λ h. rw one (more_piece q indent start m c cs (prefix_len (is_literal q) cs) h
-    (run_stands q indent start (along m 1) cs)))
-    (λ h. no_piece q indent start m (c ∷ cs))
 
 -- blanks on a line
 abbrev pub Blanks : Quote → ℕ → Marker → List ℕ → Marker → List ℕ → ℕ → Type 0

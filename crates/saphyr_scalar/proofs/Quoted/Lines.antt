@@ -159,10 +159,10 @@ begins_at q indent start m escaped n b (c ∷ cs) blank break =
     (behind_lines q indent start m escaped n c cs blank break)
     (λ nul. behind_no_gap q indent start m c cs blank break nul)
 
-begins : (q : Quote) (indent : ℕ) (start : Marker) (escaped : Bool) (n : ℕ) (s : Cursor)
+begins_with_ink : (q : Quote) (indent : ℕ) (start : Marker) (escaped : Bool) (n : ℕ) (s : Cursor)
     → is_blank (slice_index s.rest 0) ≡ false → is_break (slice_index s.rest 0) ≡ false
     → Begins q indent start escaped n s (begin_word indent start s)
-begins q indent start escaped n s blank break =
+begins_with_ink q indent start escaped n s blank break =
     begins_at q indent start s.mark escaped n s.blank_so_far s.rest blank break
 
 -- a word that may stand on a later line
@@ -172,7 +172,7 @@ pub begins_word : (q : Quote) (indent : ℕ) (start : Marker) (escaped : Bool) (
     → (t ≡ s) × (with_front (text ++ encode_utf8_all (folded_break escaped n)) (inside_at q indent start no_gap t)
     ≡ with_front text (inside_at q indent start (over_lines escaped n) s))
 begins_word q indent start escaped n text s t blank break e =
-    let r = subst (Begins q indent start escaped n s) e (begins q indent start escaped n s blank break) in (
+    let r = subst (Begins q indent start escaped n s) e (begins_with_ink q indent start escaped n s blank break) in (
       r.0,
       ap (λ u. with_front (text ++ encode_utf8_all (folded_break escaped n)) (inside_at q indent start no_gap u)) r.0
           ∙ sym (front_twice text _ _) ∙ ap (with_front text) r.1,
@@ -184,4 +184,5 @@ pub begins_refused : (q : Quote) (indent : ℕ) (start : Marker) (escaped : Bool
     → begin_word indent start s ≡ Err refusal
     → with_front text (inside_at q indent start (over_lines escaped n) s) ≡ Err refusal
 begins_refused q indent start escaped n text s refusal blank break e =
-    ap (with_front text) (subst (Begins q indent start escaped n s) e (begins q indent start escaped n s blank break))
+    ap (with_front text) (subst (Begins q indent start escaped n s) e (begins_with_ink q indent start escaped n s blank
+    break))

@@ -26,8 +26,8 @@ record OnLine (t x : List ℕ) : Type 0 where
   total : length t ≡ count + length x
   passed : (m : Marker) → IsPassed m t (along m count) x
 
-one_more : (c : ℕ) (t x : List ℕ) → is_break c ≡ false → OnLine t x → OnLine (c ∷ t) x
-one_more c t x h r = record {
+character_on_line : (c : ℕ) (t x : List ℕ) → is_break c ≡ false → OnLine t x → OnLine (c ∷ t) x
+character_on_line c t x h r = record {
   count = 1 + r.count;
   total = omega (arith, r.total);
   passed = λ m. character m c t (along m (1 + r.count)) x h
@@ -42,24 +42,26 @@ no_break_itself q c h = by_tests (is_break c) (c == 0) (flow.is_special q c) h
     by_tests true z d h = absurd (cc)
     by_tests false z d h = refl
 
-on_line : (q : Quote) (t : List ℕ) (items : List Item) (x : List ℕ) → quotes.IsText q t items x → AreOnLine items
+text_on_line : (q : Quote) (t : List ℕ) (items : List Item) (x : List ℕ) → quotes.IsText q t items x → AreOnLine items
     → OnLine t x
-on_line _ _ _ _ (quotes.closed q x h) on = record {
+text_on_line _ _ _ _ (quotes.closed q x h) on = record {
   count = 1;
   total = omega arith;
   passed = λ m. character m (flow.mark q) x (along m 1) x (mark_no_break q) (nothing (along m 1) x);
 }
-on_line _ _ _ _ (quotes.itself q c t items x h r) on =
-    one_more c t x (no_break_itself q c h) (on_line q t items x r (on_line_behind (flow.raw_item c) items on))
-on_line _ _ _ _ (quotes.broken q t items x h r) on = absurd on
-on_line _ _ _ _ (quotes.two_quotes t items x r) on =
-    one_more 39 (39 ∷ t) x refl (one_more 39 t x refl (on_line Single t items x r on))
-on_line _ _ _ _ (quotes.escaped e c t items x h r) on =
-    one_more 92 (e ∷ t) x refl (one_more e t x (no_break_simple e c h) (on_line Double t items x r on))
-on_line _ _ _ _ (quotes.numbered e c ds t items x h r) on =
-    let b = on_line Double t items x r on in
+text_on_line _ _ _ _ (quotes.itself q c t items x h r) on =
+    character_on_line c t x (no_break_itself q c h)
+    (text_on_line q t items x r (on_line_behind (flow.raw_item c) items on))
+text_on_line _ _ _ _ (quotes.broken q t items x h r) on = absurd on
+text_on_line _ _ _ _ (quotes.two_quotes t items x r) on =
+    character_on_line 39 (39 ∷ t) x refl (character_on_line 39 t x refl (text_on_line Single t items x r on))
+text_on_line _ _ _ _ (quotes.escaped e c t items x h r) on =
+    character_on_line 92 (e ∷ t) x refl
+    (character_on_line e t x (no_break_simple e c h) (text_on_line Double t items x r on))
+text_on_line _ _ _ _ (quotes.numbered e c ds t items x h r) on =
+    let b = text_on_line Double t items x r on in
     let some : hex_digit_count e ≡ 0 → ⊥ = λ z. absurd (omega (arith, h.count, h.some)) in
-    one_more 92 (e ∷ (ds ++ t)) x refl (one_more e (ds ++ t) x (no_break_digits e some)
+    character_on_line 92 (e ∷ (ds ++ t)) x refl (character_on_line e (ds ++ t) x (no_break_digits e some)
     (record {
       count = length ds + b.count;
       total = length-append ds t ∙ omega (arith, b.total);
@@ -67,7 +69,7 @@ on_line _ _ _ _ (quotes.numbered e c ds t items x h r) on =
           (subst (λ (k : Marker). IsPassed (along m (length ds)) t k x)
           (along_more m (length ds) b.count (length ds + b.count) refl) (b.passed (along m (length ds))));
     }))
-on_line _ _ _ _ (quotes.escaped_break t items x h r) on = absurd on
+text_on_line _ _ _ _ (quotes.escaped_break t items x h r) on = absurd on
 
 -- a scalar on one line is read whatever the indentation, and ends so many characters further on the line
 pub quoted_on_line : (q : Quote) (indent : ℕ) (s : Cursor) (items : List Item) (x : List ℕ)
@@ -76,7 +78,7 @@ pub quoted_on_line : (q : Quote) (indent : ℕ) (s : Cursor) (items : List Item)
     × (quoted q indent s ≡ Ok (encode_utf8_all (folded items), at (along s.mark n) x))
 quoted_on_line q indent s items x is on =
     let (inside_text, cut, text) = is in
-    let line = on_line q inside_text items x text on in
+    let line = text_on_line q inside_text items x text on in
     let n = 1 + line.count in
     let (m, passed, read) = quoted_read q indent s items x (inside_text, cut, text)
     (line_fits indent q inside_text items x text on) in

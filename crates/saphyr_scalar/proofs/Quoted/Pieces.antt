@@ -145,10 +145,10 @@ raw_spelling Single item c h e = inl (c, h, e, refl)
 raw_spelling Double item c h e = inl (c, h, e, refl)
 
 -- one character or more before a piece
-longer : (q : Quote) (item : Item) (xs t : List ℕ) (items : List Item) (x front piece : List ℕ)
+piece_behind_item : (q : Quote) (item : Item) (xs t : List ℕ) (items : List Item) (x front piece : List ℕ)
     (p : TextPiece q t items x) → IsSpelling q item front → Begins piece xs x
     → normalized piece ≡ front ++ normalized p.piece → TextPiece q xs (item ∷ items) x
-longer q item xs t items x front piece p spelled begins norm = record {
+piece_behind_item q item xs t items x front piece p spelled begins norm = record {
   piece = piece;
   begins = begins;
   inside = front ++ p.inside;
@@ -237,13 +237,14 @@ text_piece _ _ _ _ (quotes.closed q x h) = mark_piece q x
 text_piece _ _ _ _ (quotes.itself q c t items x h r) =
     let p = text_piece q t items x r in
     let is = itself_of q c h in
-    longer q (flow.raw_item c) (c ∷ t) t items x (c ∷ []) (c ∷ p.piece) p
+    piece_behind_item q (flow.raw_item c) (c ∷ t) t items x (c ∷ []) (c ∷ p.piece) p
     (raw_spelling q (flow.raw_item c) c is.plain refl) (begin_more c p.piece t x p.begins.cut)
     (normalized_other c p.piece is.no_return)
 text_piece _ _ _ _ (quotes.broken q t items x h r) =
     let p = text_piece q (drop (break_len t) t) items x r in
     let b = break_piece t p.piece x h p.begins in
-    longer q Break t (drop (break_len t) t) items x (10 ∷ []) b.piece p (raw_spelling q Break 10 (plain q) refl)
+    piece_behind_item q Break t (drop (break_len t) t) items x (10 ∷ []) b.piece p
+    (raw_spelling q Break 10 (plain q) refl)
     b.begins b.norm
   where
     plain : (q : Quote) → IsFalse (flow.is_special q 10)
@@ -251,17 +252,17 @@ text_piece _ _ _ _ (quotes.broken q t items x h r) =
     plain Double = refl
 text_piece _ _ _ _ (quotes.two_quotes t items x r) =
     let p = text_piece Single t items x r in
-    longer Single (Raw 39) (39 ∷ 39 ∷ t) t items x (39 ∷ 39 ∷ []) (39 ∷ 39 ∷ p.piece) p (inr (refl, refl))
+    piece_behind_item Single (Raw 39) (39 ∷ 39 ∷ t) t items x (39 ∷ 39 ∷ []) (39 ∷ 39 ∷ p.piece) p (inr (refl, refl))
     (begin_more 39 (39 ∷ p.piece) (39 ∷ t) x (ap (λ (l : List ℕ). 39 ∷ l) p.begins.cut)) refl
 text_piece _ _ _ _ (quotes.escaped e c t items x h r) =
     let p = text_piece Double t items x r in
-    longer Double (Escaped c) (92 ∷ e ∷ t) t items x (92 ∷ e ∷ []) (92 ∷ e ∷ p.piece) p
+    piece_behind_item Double (Escaped c) (92 ∷ e ∷ t) t items x (92 ∷ e ∷ []) (92 ∷ e ∷ p.piece) p
     (inr (e ∷ [], inl (e, sym (same_escape e) ∙ h, refl), refl))
     (begin_more 92 (e ∷ p.piece) (e ∷ t) x (ap (λ (l : List ℕ). e ∷ l) p.begins.cut))
     (ap (λ (l : List ℕ). 92 ∷ l) (normalized_other e p.piece (no_return_simple e c h)))
 text_piece _ _ _ _ (quotes.numbered e c ds t items x h r) =
     let p = text_piece Double t items x r in
-    longer Double (Escaped c) (92 ∷ e ∷ (ds ++ t)) t items x (92 ∷ e ∷ ds) (92 ∷ e ∷ (ds ++ p.piece)) p
+    piece_behind_item Double (Escaped c) (92 ∷ e ∷ (ds ++ t)) t items x (92 ∷ e ∷ ds) (92 ∷ e ∷ (ds ++ p.piece)) p
     (inr (e ∷ ds, inr (e, ds, same_count e (length ds) h.count h.some, number_spells e c ds h, refl), refl))
     (begin_more 92 (e ∷ (ds ++ p.piece)) (e ∷ (ds ++ t)) x
     (ap (λ (l : List ℕ). e ∷ (ds ++ l)) p.begins.cut
@@ -272,7 +273,7 @@ text_piece _ _ _ _ (quotes.numbered e c ds t items x h r) =
 text_piece _ _ _ _ (quotes.escaped_break t items x h r) =
     let p = text_piece Double (drop (break_len t) t) items x r in
     let b = break_piece t p.piece x h p.begins in
-    longer Double EscapedBreak (92 ∷ t) (drop (break_len t) t) items x (92 ∷ 10 ∷ []) (92 ∷ b.piece) p
+    piece_behind_item Double EscapedBreak (92 ∷ t) (drop (break_len t) t) items x (92 ∷ 10 ∷ []) (92 ∷ b.piece) p
     (inr (10 ∷ [], refl, refl))
     (begin_more 92 b.piece t x b.begins.cut) (ap (λ (l : List ℕ). 92 ∷ l) b.norm)
 

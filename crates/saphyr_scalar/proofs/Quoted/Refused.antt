@@ -57,12 +57,12 @@ word_refused indent start s =
     (λ _. by_test (is_z (slice_index s.rest 0)) _ _ (RefusedAt start) (λ _. refl)
     (λ _. by_test (is_left indent s.mark) _ _ (RefusedAt start) (λ _. refl) (λ _. tt)))
 
-gap_refused : (indent : ℕ) (start : Marker) (gap : QuotedGap) (s : Cursor)
+quoted_gap_refused : (indent : ℕ) (start : Marker) (gap : QuotedGap) (s : Cursor)
     → RefusedAt start (end_gap indent start gap s)
 unfolding end_gap
-gap_refused indent start (on_line bytes) s =
+quoted_gap_refused indent start (on_line bytes) s =
     by_test (is_z (slice_index s.rest 0)) _ _ (RefusedAt start) (λ _. refl) (λ _. tt)
-gap_refused indent start (over_lines escaped n) s =
+quoted_gap_refused indent start (over_lines escaped n) s =
     refused_bind (λ e. e.mark ≡ start) (begin_word indent start s) _ (word_refused indent start s) (λ _ _. tt)
 
 -- a tab is refused where it stands
@@ -171,7 +171,7 @@ inside_refused q indent s gap zero m (c ∷ cs) p =
     inside_refused q indent s (break_in gap) (pred n) (next_line m n) cs
     (subst (λ u. IsPassed s.mark s.rest (next_line m n) u) (behind_break c cs) (one_break s m (c ∷ cs) p breaks)))
     (λ no_break. refused_bind P (end_gap indent start gap here) _
-    (refused_more (λ e. e.mark ≡ start) P (end_gap indent start gap here) (gap_refused indent start gap here)
+    (refused_more (λ e. e.mark ≡ start) P (end_gap indent start gap here) (quoted_gap_refused indent start gap here)
     (inside_start s)) (λ text ended.
     let is : IsContent c = record {
       blank = no_blank;

@@ -29,8 +29,8 @@ pub record Ended (gap : QuotedGap) (col : ℕ) (xs text : List ℕ) : Type 0 whe
   pub clear : IsOver gap → col ≡ 0 → IsClear xs
   pub nul : is_z (slice_index xs 0) ≡ false
 
-no_refusal : {A X : Type 0} (r : Refusal) (x : A) → ◌≡◌ {A = Result A Refusal} (Err r) (Ok x) → X
-no_refusal r x e = absurd (cc)
+no_error_is_ok : {A X : Type 0} (r : Refusal) (x : A) → ◌≡◌ {A = Result A Refusal} (Err r) (Ok x) → X
+no_error_is_ok r x e = absurd (cc)
 
 given_is : (x y : List ℕ) → ◌≡◌ {A = Result (List ℕ) Refusal} (Ok x) (Ok y) → y ≡ x
 given_is x y e = cc
@@ -46,12 +46,13 @@ unfolding end_gap begin_word
 gap_ended indent start (on_line bytes) s text =
     by_test (is_z (slice_index s.rest 0)) _ _
     (λ (r : Result (List ℕ) Refusal). r ≡ Ok text → Ended (on_line bytes) s.mark.col s.rest text)
-    (λ _ e. no_refusal _ text e) (λ nul e. record { bytes = given_is bytes text e; clear = λ o. absurd o; nul = nul })
+    (λ _ e. no_error_is_ok _ text e)
+    (λ nul e. record { bytes = given_is bytes text e; clear = λ o. absurd o; nul = nul })
 gap_ended indent start (over_lines escaped n) s text =
     by_test ((s.mark.col == 0) && is_document_indicator s.rest) _ _ (LinesEnded escaped n s text)
-    (λ _ e. no_refusal _ text e)
-    (λ none. by_test (is_z (slice_index s.rest 0)) _ _ (LinesEnded escaped n s text) (λ _ e. no_refusal _ text e)
-    (λ nul. by_test (is_left indent s.mark) _ _ (LinesEnded escaped n s text) (λ _ e. no_refusal _ text e)
+    (λ _ e. no_error_is_ok _ text e)
+    (λ none. by_test (is_z (slice_index s.rest 0)) _ _ (LinesEnded escaped n s text) (λ _ e. no_error_is_ok _ text e)
+    (λ nul. by_test (is_left indent s.mark) _ _ (LinesEnded escaped n s text) (λ _ e. no_error_is_ok _ text e)
     (λ _ e. record {
       bytes =
           given_is (encode_utf8_all (folded_break escaped n)) text e;

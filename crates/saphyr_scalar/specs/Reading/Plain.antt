@@ -3,6 +3,7 @@ use Rattle.std.specs.Prelude.{◌≡◌, ◌≢◌, ℕ, Bool, true, ◌||◌, �
 use Rattle.saphyr_input.specs.Classes.{nul, byte_order_mark, is_blank_or_breakz, is_bom, is_flow}
 use Rattle.saphyr_input.specs.Breaks.{normalized}
 use Rattle.saphyr_input.specs.Places.{is_blank_or_break, is_document_indicator}
+use Rattle.saphyr_input.specs.Indicators.{colon, number_sign}
 use Rattle.saphyr_scalar.specs.declared.scalar.position.Marker.{Marker}
 use Rattle.saphyr_scalar.specs.Views.Cursor.{Cursor, along, next_line}
 use Rattle.scalar_values.specs.Flow.{plain_value}
@@ -24,14 +25,14 @@ passed m (c ∷ cs) = passed (if ends_line c cs then next_line m 1 else along m 
 abbrev pub IsSpelledPlain : Marker → Bool → List ℕ → List ℕ → Type 0
 IsSpelledPlain m apart [] behind = Unit {0}
 IsSpelledPlain m apart (c ∷ cs) behind =
-    (c ≢ nul) × (c ≢ byte_order_mark) × (IsTrue apart → c ≢ 35)
-    × (c ≡ 58 → IsFalse (is_blank_or_breakz (slice_index (cs ++ behind) 0)))
+    (c ≢ nul) × (c ≢ byte_order_mark) × (IsTrue apart → c ≢ number_sign)
+    × (c ≡ colon → IsFalse (is_blank_or_breakz (slice_index (cs ++ behind) 0)))
     × (m.col ≡ 0 → IsFalse (is_document_indicator (c ∷ (cs ++ behind))))
     × IsSpelledPlain (if ends_line c (cs ++ behind) then next_line m 1 else along m 1) (is_blank_or_break c) cs behind
 
 -- what may stand behind a plain scalar: a blank, a break, NUL, a byte order mark, a colon, a flow indicator or the end
 abbrev pub ends_piece : ℕ → Bool
-ends_piece c = is_blank_or_breakz c || is_bom c || (c == 58) || is_flow c
+ends_piece c = is_blank_or_breakz c || is_bom c || (c == colon) || is_flow c
 
 -- The text is the reading of a piece at the place s that ends at `end`, and t is the place behind the blanks and breaks
 -- that follow it.

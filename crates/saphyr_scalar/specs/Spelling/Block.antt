@@ -1,8 +1,9 @@
 -- The spellings of block scalars (YAML 1.2.2, 8.1), in texts whose breaks are line feeds.
 -- Each relation is between what stands at a place and what stands behind it.
 use Rattle.std.specs.Prelude.{◌≡◌, ◌≢◌, ℕ, ◌+◌, ◌-◌, ◌^◌, ◌<◌, ◌≤◌, Ok, encode_utf8_all, Bool, true, false, List, [], ◌∷◌, ◌++◌, slice_index, ◌⊎◌}
-use Rattle.saphyr_input.specs.Classes.{is_blank, is_yaml_non_break, is_z}
+use Rattle.saphyr_input.specs.Classes.{is_blank, is_yaml_non_break, is_z, carriage_return, line_feed, space, tab}
 use Rattle.saphyr_input.specs.Places.{is_document_indicator}
+use Rattle.saphyr_input.specs.Indicators.{hyphen, number_sign, plus_sign}
 use Rattle.scalar_values.specs.declared.block.Chomping.{Chomping}
 use Rattle.scalar_values.specs.declared.block.Chomping.TheVariants.{Strip, Clip, Keep}
 use Rattle.scalar_values.specs.declared.block.BlockStyle.{BlockStyle}
@@ -28,15 +29,15 @@ pub data IsIndicator : ℕ → List ℕ → List ℕ → Type 0 where
 
 -- 8.1.1.2: a chomping indicator, or none
 pub data IsChomping : Chomping → List ℕ → List ℕ → Type 0 where
-  strip : (x : List ℕ) → IsChomping Strip (45 ∷ x) x
+  strip : (x : List ℕ) → IsChomping Strip (hyphen ∷ x) x
   clip : (x : List ℕ) → IsChomping Clip x x
-  keep : (x : List ℕ) → IsChomping Keep (43 ∷ x) x
+  keep : (x : List ℕ) → IsChomping Keep (plus_sign ∷ x) x
 
 -- 6.6: blanks, and behind some blanks a comment, up to a line feed
 pub data IsHeaderEnd : List ℕ → List ℕ → Type 0 where
-  no_comment : (blanks x : List ℕ) → AreBlanks blanks → IsHeaderEnd (blanks ++ (10 ∷ x)) x
+  no_comment : (blanks x : List ℕ) → AreBlanks blanks → IsHeaderEnd (blanks ++ (line_feed ∷ x)) x
   comment : (blank : ℕ) (blanks text x : List ℕ) → AreBlanks (blank ∷ blanks) → AreContent text
-      → IsHeaderEnd ((blank ∷ blanks) ++ (35 ∷ (text ++ (10 ∷ x)))) x
+      → IsHeaderEnd ((blank ∷ blanks) ++ (number_sign ∷ (text ++ (line_feed ∷ x)))) x
 
 -- a line's content: characters that are no breaks, at column 0 none that begin a document marker
 pub record IsContent (i : ℕ) (c : ℕ) (cs x : List ℕ) : Type 0 where
@@ -47,9 +48,9 @@ pub record IsContent (i : ℕ) (c : ℕ) (cs x : List ℕ) : Type 0 where
 pub data AreLines (i : ℕ) (x : List ℕ) : List Line → List ℕ → Type 0 where
   no_lines : AreLines i x [] x
   empty : (j : ℕ) (ls : List Line) (t : List ℕ) → j ≤ i → AreLines i x ls t
-      → AreLines i x (Empty ∷ ls) (spaces j ++ (10 ∷ t))
-  content : (c : ℕ) (cs : List ℕ) (ls : List Line) (t : List ℕ) → IsContent i c cs (10 ∷ t) → AreLines i x ls t
-      → AreLines i x (Content (c ∷ cs) ∷ ls) (spaces i ++ (c ∷ (cs ++ (10 ∷ t))))
+      → AreLines i x (Empty ∷ ls) (spaces j ++ (line_feed ∷ t))
+  content : (c : ℕ) (cs : List ℕ) (ls : List Line) (t : List ℕ) → IsContent i c cs (line_feed ∷ t) → AreLines i x ls t
+      → AreLines i x (Content (c ∷ cs) ∷ ls) (spaces i ++ (c ∷ (cs ++ (line_feed ∷ t))))
   last : (c : ℕ) (cs : List ℕ) → IsContent i c cs [] → x ≡ []
       → AreLines i x (Content (c ∷ cs) ∷ []) (spaces i ++ (c ∷ cs))
 
@@ -58,9 +59,9 @@ pub record IsBehind (i n : ℕ) (x others : List ℕ) : Type 0 where
   pub is : x ≡ spaces n ++ others
   pub within : n ≤ i
   pub finished : is_z (slice_index others 0) ≡ true → n ≡ 0
-  pub no_space : n < i → slice_index others 0 ≢ 32
-  pub no_break : slice_index others 0 ≢ 10
-  pub no_return : slice_index others 0 ≢ 13
+  pub no_space : n < i → slice_index others 0 ≢ space
+  pub no_break : slice_index others 0 ≢ line_feed
+  pub no_return : slice_index others 0 ≢ carriage_return
   pub no_content : n ≡ i → (is_yaml_non_break (slice_index others 0) ≡ false)
       ⊎ ((i ≡ 0) × (is_document_indicator others ≡ true))
 
@@ -68,10 +69,11 @@ pub record IsBehind (i n : ℕ) (x others : List ℕ) : Type 0 where
 -- begins with no space
 pub data IsBody (i : ℕ) (given : Bool) (x : List ℕ) : List Line → List ℕ → Type 0 where
   leading : (j : ℕ) (ls : List Line) (t : List ℕ) → j ≤ i → IsBody i given x ls t
-      → IsBody i given x (Empty ∷ ls) (spaces j ++ (10 ∷ t))
-  first : (c : ℕ) (cs : List ℕ) (ls : List Line) (t : List ℕ) → (given ≡ false → c ≢ 32) → IsContent i c cs (10 ∷ t)
-      → AreLines i x ls t → IsBody i given x (Content (c ∷ cs) ∷ ls) (spaces i ++ (c ∷ (cs ++ (10 ∷ t))))
-  first_and_last : (c : ℕ) (cs : List ℕ) → (given ≡ false → c ≢ 32) → IsContent i c cs [] → x ≡ []
+      → IsBody i given x (Empty ∷ ls) (spaces j ++ (line_feed ∷ t))
+  first : (c : ℕ) (cs : List ℕ) (ls : List Line) (t : List ℕ) → (given ≡ false → c ≢ space)
+      → IsContent i c cs (line_feed ∷ t) → AreLines i x ls t
+      → IsBody i given x (Content (c ∷ cs) ∷ ls) (spaces i ++ (c ∷ (cs ++ (line_feed ∷ t))))
+  first_and_last : (c : ℕ) (cs : List ℕ) → (given ≡ false → c ≢ space) → IsContent i c cs [] → x ≡ []
       → IsBody i given x (Content (c ∷ cs) ∷ []) (spaces i ++ (c ∷ cs))
 
 -- 8.1.1: a header, with its line; its indicators stand in either order
@@ -94,7 +96,7 @@ pub record IsBlockScalar (indent i n : ℕ) (chomping : Chomping) (ls : List Lin
   pub is_given : Bool
   pub behind : List ℕ
   pub header : IsHeader digit chomping body t
-  pub no_tab : slice_index body 0 ≢ 9
+  pub no_tab : slice_index body 0 ≢ tab
   pub indentation : IsIndentation indent i digit is_given
   pub lines : IsBody i is_given behind ls body
   pub ends : IsBehind i n behind others

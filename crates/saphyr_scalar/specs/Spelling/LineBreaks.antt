@@ -5,7 +5,7 @@ use Rattle.saphyr_input.specs.Places.{next_2_are}
 
 -- how many characters the break that stands first has (5.4)
 abbrev pub break_len : List ℕ → ℕ
-break_len xs = if next_2_are xs 13 10 then 2 else 1
+break_len xs = if next_2_are xs carriage_return line_feed then 2 else 1
 
 -- whether a line ends with the character: CR before LF does not end it
 abbrev pub ends_line : ℕ → List ℕ → Bool

@@ -2,11 +2,12 @@
 -- Each relation is between what stands at a place, what it stands for, and what stands behind it.
 use Rattle.std.specs.Prelude.{◌≡◌, ℕ, ◌+◌, ◌*◌, ◌<◌, Bool, ◌&&◌, ◌==◌, not, List, [], ◌∷◌, ◌++◌, length, Some, IsTrue}
 use Rattle.saphyr_input.specs.Classes.{is_breakz, is_hex, hex_value}
+use Rattle.saphyr_input.specs.Indicators.{backslash, quotation_mark}
 use Rattle.saphyr_scalar.specs.Spelling.QuotedWords.{simple_escape, hex_digit_count, is_scalar}
 
 -- a character that stands for itself between double quotes: no break, NUL, quote or backslash
 abbrev pub stands_in_double_quotes : ℕ → Bool
-stands_in_double_quotes c = not (is_breakz c) && not (c == 34) && not (c == 92)
+stands_in_double_quotes c = not (is_breakz c) && not (c == quotation_mark) && not (c == backslash)
 
 -- hexadecimal digits
 abbrev pub AreHex : List ℕ → Type 0
@@ -28,11 +29,13 @@ pub record IsNumber (e c : ℕ) (ds : List ℕ) : Type 0 where
 
 -- what stands behind the opening quote, up to the closing one, its characters, and what stands behind that
 pub data IsInside : List ℕ → List ℕ → List ℕ → Type 0 where
-  closed : (x : List ℕ) → IsInside (34 ∷ x) [] x
+  closed : (x : List ℕ) → IsInside (quotation_mark ∷ x) [] x
   itself : (c : ℕ) (t v x : List ℕ) → IsTrue (stands_in_double_quotes c) → IsInside t v x → IsInside (c ∷ t) (c ∷ v) x
-  escaped : (e c : ℕ) (t v x : List ℕ) → simple_escape e ≡ Some c → IsInside t v x → IsInside (92 ∷ e ∷ t) (c ∷ v) x
-  numbered : (e c : ℕ) (ds t v x : List ℕ) → IsNumber e c ds → IsInside t v x → IsInside (92 ∷ e ∷ (ds ++ t)) (c ∷ v) x
+  escaped : (e c : ℕ) (t v x : List ℕ) → simple_escape e ≡ Some c → IsInside t v x
+      → IsInside (backslash ∷ e ∷ t) (c ∷ v) x
+  numbered : (e c : ℕ) (ds t v x : List ℕ) → IsNumber e c ds → IsInside t v x
+      → IsInside (backslash ∷ e ∷ (ds ++ t)) (c ∷ v) x
 
 -- a scalar from its opening quote to its closing one
 abbrev pub IsDoubleQuoted : List ℕ → List ℕ → List ℕ → Type 0
-IsDoubleQuoted t v x = (inside : List ℕ) × (t ≡ 34 ∷ inside) × IsInside inside v x
+IsDoubleQuoted t v x = (inside : List ℕ) × (t ≡ quotation_mark ∷ inside) × IsInside inside v x

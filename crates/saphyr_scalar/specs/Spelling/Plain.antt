@@ -3,6 +3,7 @@ use Rattle.std.specs.Prelude.{◌≡◌, ◌≢◌, ℕ, ◌+◌, ◌<◌, ◌�
 use Rattle.std.specs.List.{prefix_len}
 use Rattle.saphyr_input.specs.Classes.{is_blank, is_break, is_blank_or_breakz, is_flow, is_bom, is_z, tab}
 use Rattle.saphyr_input.specs.Places.{is_blank_or_break, is_document_indicator}
+use Rattle.saphyr_input.specs.Indicators.{colon, full_stop, hyphen, number_sign}
 use Rattle.saphyr_scalar.specs.declared.scalar.position.Marker.{Marker}
 use Rattle.saphyr_scalar.specs.Views.Cursor.{Cursor, along, next_line}
 use Rattle.saphyr_scalar.specs.Spelling.LineBreaks.{ends_line}
@@ -11,7 +12,7 @@ use Rattle.saphyr_scalar.specs.Reading.Plain.{AreWhite, passed}
 
 -- a character that goes on with a word whatever follows it, inside flow and outside
 abbrev pub is_plain_safe : ℕ → Bool
-is_plain_safe c = not (is_blank_or_breakz c) && not (c == 58) && not (is_bom c) && not (is_flow c)
+is_plain_safe c = not (is_blank_or_breakz c) && not (c == colon) && not (is_bom c) && not (is_flow c)
 
 abbrev pub AreSafe : List ℕ → Type 0
 AreSafe [] = Unit {0}
@@ -23,9 +24,9 @@ pub record IsPlainWord (w : List ℕ) : Type 0 where
   pub others : List ℕ
   pub is : w ≡ first ∷ others
   pub safe : AreSafe w
-  pub no_comment : first ≢ 35
-  pub no_dot : first ≢ 46
-  pub dash : first ≡ 45 → (second : ℕ) × (more : List ℕ) × (others ≡ second ∷ more) × (second ≢ 45)
+  pub no_comment : first ≢ number_sign
+  pub no_dot : first ≢ full_stop
+  pub dash : first ≡ hyphen → (second : ℕ) × (more : List ℕ) × (others ≡ second ∷ more) × (second ≢ hyphen)
 
 -- the characters behind the blanks
 abbrev pub behind_blanks : List ℕ → List ℕ
@@ -54,13 +55,13 @@ is_tabbed indent xs = reaches_tabbed indent 0 false (behind_blanks xs)
 
 -- Behind a tab in the indentation a comment may stand, or the text's end.
 abbrev pub stands_behind_tab : List ℕ → Bool
-stands_behind_tab xs = (slice_index xs 0 == 35) || is_z (slice_index xs 0)
+stands_behind_tab xs = (slice_index xs 0 == number_sign) || is_z (slice_index xs 0)
 
 -- no word goes on, a comment or a document marker stands, or outside flow content left of the scalar's indentation
 abbrev pub StopsPlain : Bool → ℕ → Cursor → Type 0
 StopsPlain in_flow indent s =
     (in_word in_flow s.rest ≡ false)
-    ⊎ ((slice_index s.rest 0 ≡ 35)
+    ⊎ ((slice_index s.rest 0 ≡ number_sign)
     ⊎ (((s.mark.col ≡ 0) × IsTrue (is_document_indicator s.rest))
     ⊎ ((in_flow ≡ false) × IsTrue s.blank_so_far × (s.mark.col < indent))))
 
@@ -68,7 +69,7 @@ StopsPlain in_flow indent s =
 -- scalar. Where a tab stands in the indentation of the line of that, it is a comment or the text's end.
 pub record EndsPlain (in_flow : Bool) (indent : ℕ) (end : Marker) (xs : List ℕ) : Type 0 where
   pub stops : StopsPlain in_flow indent (past_white end false xs)
-  pub apart : slice_index xs 0 ≢ 35
+  pub apart : slice_index xs 0 ≢ number_sign
   pub tabs : IsFalse (is_tabbed indent xs) ⊎ IsTrue (stands_behind_tab (past_white end false xs).rest)
 
 -- Plain scalars of several words and lines.
@@ -80,20 +81,20 @@ is_word_ink in_flow c = not (is_blank_or_breakz c) && not (is_bom c) && not (in_
 -- the characters of a word, of which the last is no colon
 abbrev pub AreWordInk : Bool → List ℕ → Type 0
 AreWordInk in_flow [] = Unit {0}
-AreWordInk in_flow (c ∷ cs) = IsTrue (is_word_ink in_flow c) × (c ≡ 58 → cs ≢ []) × AreWordInk in_flow cs
+AreWordInk in_flow (c ∷ cs) = IsTrue (is_word_ink in_flow c) × (c ≡ colon → cs ≢ []) × AreWordInk in_flow cs
 
 -- a word begins with no `#`, and inside flow it is no lone `-`
 pub record IsWordIn (in_flow : Bool) (w : List ℕ) : Type 0 where
   pub some : w ≢ []
   pub ink : AreWordInk in_flow w
-  pub no_comment : slice_index w 0 ≢ 35
-  pub no_lone_dash : in_flow ≡ true → w ≢ 45 ∷ []
+  pub no_comment : slice_index w 0 ≢ number_sign
+  pub no_lone_dash : in_flow ≡ true → w ≢ hyphen ∷ []
 
 -- the same before what stands behind the word: a colon stands before a character of a word
 abbrev pub AreInkBefore : Bool → List ℕ → List ℕ → Type 0
 AreInkBefore in_flow [] behind = Unit {0}
 AreInkBefore in_flow (c ∷ cs) behind =
-    IsTrue (is_word_ink in_flow c) × (c ≡ 58 → IsTrue (is_word_ink in_flow (slice_index (cs ++ behind) 0)))
+    IsTrue (is_word_ink in_flow c) × (c ≡ colon → IsTrue (is_word_ink in_flow (slice_index (cs ++ behind) 0)))
     × AreInkBefore in_flow cs behind
 
 -- a word before what stands behind it: its last character may be a colon, and inside flow it is no `-` before a flow
@@ -101,8 +102,9 @@ AreInkBefore in_flow (c ∷ cs) behind =
 pub record IsWordBefore (in_flow : Bool) (w behind : List ℕ) : Type 0 where
   pub some : w ≢ []
   pub ink : AreInkBefore in_flow w behind
-  pub no_comment : slice_index w 0 ≢ 35
-  pub no_lone_dash : (in_flow && (slice_index (w ++ behind) 0 == 45) && is_flow (slice_index (w ++ behind) 1)) ≡ false
+  pub no_comment : slice_index w 0 ≢ number_sign
+  pub no_lone_dash
+      : (in_flow && (slice_index (w ++ behind) 0 == hyphen) && is_flow (slice_index (w ++ behind) 1)) ≡ false
 
 -- whether a line ends in the text
 abbrev pub has_line_end : List ℕ → Bool

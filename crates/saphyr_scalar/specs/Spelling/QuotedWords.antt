@@ -2,6 +2,7 @@
 -- of
 -- the reader are told with these words.
 use Rattle.std.specs.Prelude.{ℕ, Bool, ◌||◌, ◌&&◌, ◌==◌, not, nat_lt, nat_le, List, slice_index, Option, Some, None, if◌then◌else◌}
+use Rattle.saphyr_input.specs.Indicators.{apostrophe, quotation_mark}
 use Rattle.scalar_values.specs.declared.flow.Quote.{Quote}
 use Rattle.scalar_values.specs.declared.flow.Quote.TheVariants.{Single, Double}
 
@@ -37,5 +38,5 @@ is_scalar v = nat_lt v 0xD800 || (nat_le 0xE000 v && nat_lt v 0x11_0000)
 
 -- the closing quote, and not the first of two single quotes
 abbrev pub is_closing : Quote → List ℕ → Bool
-is_closing Single xs = (slice_index xs 0 == 39) && not (slice_index xs 1 == 39)
-is_closing Double xs = slice_index xs 0 == 34
+is_closing Single xs = (slice_index xs 0 == apostrophe) && not (slice_index xs 1 == apostrophe)
+is_closing Double xs = slice_index xs 0 == quotation_mark

@@ -2,6 +2,7 @@
 use Rattle.std.specs.Prelude.{◌≡◌, ◌≢◌, ℕ, ◌+◌, ◌*◌, ◌<◌, ◌≤◌, Bool, ◌||◌, ◌&&◌, ◌==◌, ◌⊎◌, List, [], ◌∷◌, ◌++◌, slice_index, IsTrue, codes}
 use Rattle.std.specs.Char.{encode_utf8}
 use Rattle.saphyr_input.specs.Classes.{is_alpha, is_anchor_char, is_tag_char, is_uri_char, is_blank_or_breakz, is_flow, hex_value, IsHex}
+use Rattle.saphyr_input.specs.Indicators.{exclamation_mark, percent_sign}
 
 -- a character of the set, each
 abbrev pub AreIn : (ℕ → Bool) → List ℕ → Type 0
@@ -16,14 +17,10 @@ IsAnchorName name = (name ≢ []) × AreIn is_anchor_char name
 abbrev pub IsScalarValue : ℕ → Type 0
 IsScalarValue c = (c < 0xD800) ⊎ ((0xDFFF < c) × (c ≤ 0x10FFFF))
 
--- `%`, with which an escape begins (5.6)
-abbrev pub percent : ℕ
-percent = 37
-
--- a byte as `%` and two hexadecimal digits
+-- a byte as `%` and two hexadecimal digits (5.6)
 abbrev pub IsByteEscape : ℕ → List ℕ → Type 0
 IsByteEscape byte t = (high low : ℕ) × IsHex high × IsHex low × (byte ≡ hex_value high * 16 + hex_value low)
-    × (t ≡ percent ∷ high ∷ low ∷ [])
+    × (t ≡ percent_sign ∷ high ∷ low ∷ [])
 
 abbrev pub AreByteEscapes : List ℕ → List ℕ → Type 0
 AreByteEscapes [] t = t ≡ []
@@ -33,7 +30,7 @@ AreByteEscapes (byte ∷ others) t =
 -- A character of the set: itself, or its bytes in UTF-8, each escaped. So no overlong form stands for a character, and
 -- no escapes stand for a surrogate or for a number past U+10FFFF.
 abbrev pub IsCharacter : (ℕ → Bool) → ℕ → List ℕ → Type 0
-IsCharacter set c t = (IsTrue (set c) × (c ≢ percent) × (t ≡ c ∷ []))
+IsCharacter set c t = (IsTrue (set c) × (c ≢ percent_sign) × (t ≡ c ∷ []))
     ⊎ (IsScalarValue c × AreByteEscapes (encode_utf8 c) t)
 
 -- characters of the set and percent escapes, which stand for the decoded characters
@@ -73,5 +70,6 @@ EndsTag in_flow x = IsTrue (is_blank_or_breakz (slice_index x 0) || (in_flow && 
 abbrev pub IsPrefix : List ℕ → List ℕ → Type 0
 IsPrefix [] t = ⊥
 IsPrefix (c ∷ others) t =
-    (first more : List ℕ) × IsCharacter (λ x. is_tag_char x || (x == 33)) c first × IsDecoded is_uri_char others more
+    (first more : List ℕ) × IsCharacter (λ x. is_tag_char x || (x == exclamation_mark)) c first
+    × IsDecoded is_uri_char others more
     × (t ≡ first ++ more)

@@ -4,6 +4,7 @@ use Rattle.std.specs.List.{prefix_len}
 use Rattle.saphyr_input.specs.Classes.{is_z, is_break, is_breakz, is_blank, is_digit, is_yaml_non_break, line_feed, carriage_return, space, tab}
 use Rattle.saphyr_input.specs.Places.{is_document_indicator}
 use Rattle.saphyr_input.specs.declared.input.SkipTabs.TheVariants.{Yes}
+use Rattle.saphyr_input.specs.Indicators.{hyphen, plus_sign}
 use Rattle.scalar_values.specs.declared.block.BlockStyle.{BlockStyle}
 use Rattle.scalar_values.specs.declared.block.BlockStyle.TheVariants.{Literal, Folded}
 use Rattle.scalar_values.specs.declared.block.Chomping.{Chomping}
@@ -22,8 +23,8 @@ use Rattle.scalar_values.specs.Folding.{line_feeds, raw_break}
 -- 8.1.1.2: the chomping indicator that stands first, where one does, and what stands behind it
 unfoldable pub chomping : Cursor → Option Chomping × Cursor
 chomping s =
-    if slice_index s.rest 0 == 43 then (Some Keep, pass 1 s)
-    else if slice_index s.rest 0 == 45 then (Some Strip, pass 1 s)
+    if slice_index s.rest 0 == plus_sign then (Some Keep, pass 1 s)
+    else if slice_index s.rest 0 == hyphen then (Some Strip, pass 1 s)
     else (None, s)
 
 -- 8.1.1.1: the indentation indicator that stands first, 0 where none does

@@ -3,6 +3,7 @@ use Rattle.std.specs.Prelude.{ℕ, suc, ◌+◌, ◌-◌, ◌*◌, ◌||◌, ◌
 use Rattle.std.specs.List.{prefix_len}
 use Rattle.saphyr_input.specs.Classes.{is_blank, is_breakz, is_blank_or_breakz, is_digit, is_alpha, is_tag_char, is_yaml_non_space}
 use Rattle.saphyr_input.specs.declared.input.SkipTabs.TheVariants.{Yes}
+use Rattle.saphyr_input.specs.Indicators.{exclamation_mark, full_stop}
 use Rattle.saphyr_scalar.specs.declared.scalar.position.Marker.{Marker}
 use Rattle.saphyr_scalar.specs.declared.scalar.fault.Refusal.{Refusal}
 use Rattle.saphyr_scalar.specs.declared.scalar.fault.FaultText.TheVariants as fault
@@ -67,7 +68,7 @@ number start s = number_from start 0 0 s.mark s.rest
 
 unfoldable pub behind_major : Marker → ℕ × Cursor → Result (ReadDirective × Cursor) Refusal
 behind_major start x =
-    if slice_index x.1.rest 0 == 46 then (number start (pass 1 x.1) >>= λ y. Ok (version x.0 y.0, y.1))
+    if slice_index x.1.rest 0 == full_stop then (number start (pass 1 x.1) >>= λ y. Ok (version x.0 y.0, y.1))
     else refuse fault.VersionDigitOrDotExpected start
 
 unfoldable pub version_directive : Marker → Cursor → Result (ReadDirective × Cursor) Refusal
@@ -78,19 +79,19 @@ version_directive start s = number start (pass_all_blanks s) >>= λ x. behind_ma
 -- the handle is `!`, `!!` or `!word!`
 unfoldable pub handle_behind_word : Marker → List ℕ × Cursor → Result (List ℕ × Cursor) Refusal
 handle_behind_word start w =
-    if slice_index w.1.rest 0 == 33 then Ok (handle_of w.0, pass 1 w.1)
+    if slice_index w.1.rest 0 == exclamation_mark then Ok (handle_of w.0, pass 1 w.1)
     else if length w.0 == 0 then Ok (codes "!", w.1)
     else refuse fault.TagDirectiveHandleEndExpected start
 
 unfoldable pub handle : Marker → Cursor → Result (List ℕ × Cursor) Refusal
 handle start s =
-    if slice_index s.rest 0 == 33 then handle_behind_word start (with_run is_alpha [] (pass 1 s))
+    if slice_index s.rest 0 == exclamation_mark then handle_behind_word start (with_run is_alpha [] (pass 1 s))
     else refuse fault.TagHandleStartExpected start
 
 -- a prefix begins with `!` or a character of tags (6.8.2.2)
 unfoldable pub prefix : Marker → Cursor → Result (List ℕ × Cursor) Refusal
 prefix start s =
-    if (slice_index s.rest 0 == 33) || is_tag_char (slice_index s.rest 0) then
+    if (slice_index s.rest 0 == exclamation_mark) || is_tag_char (slice_index s.rest 0) then
     (uri_character start s >>= λ x. with_front (encode_utf8 x.0) (decoded_at Uri start x.1))
     else refuse fault.TagPrefixCharacter start
 

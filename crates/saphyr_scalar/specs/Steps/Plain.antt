@@ -1,12 +1,13 @@
 -- Plain scalars (YAML 1.2.2, 7.3.3).
-use Rattle.std.specs.Prelude.{◌≡◌, ◌<◌, ℕ, zero, suc, pred, ◌+◌, ◌-◌, Bool, true, false, ◌||◌, ◌&&◌, ◌==◌, not, nat_lt, List, [], ◌∷◌, ◌++◌, length, take, slice_index, Result, Ok, Option, Some, None, if◌then◌else◌, encode_utf8, encode_utf8_all, string_bytes}
-use Rattle.saphyr_input.specs.Classes.{is_z, is_break, is_blank, is_blank_or_breakz, is_flow, is_bom, tab, line_feed, carriage_return, space}
+use Rattle.std.specs.Prelude.{◌≡◌, ◌<◌, ℕ, zero, suc, pred, ◌+◌, ◌-◌, Bool, true, false, ◌||◌, ◌&&◌, ◌==◌, not, nat_lt, List, [], ◌∷◌, ◌++◌, length, slice_index, Result, Ok, Option, Some, None, if◌then◌else◌, encode_utf8, string_bytes}
+use Rattle.saphyr_input.specs.Classes.{is_z, is_break, is_blank, is_blank_or_breakz, is_flow, is_bom, tab, line_feed, space}
 use Rattle.saphyr_input.specs.Places.{can_be_plain, is_document_indicator, is_blank_or_break}
+use Rattle.saphyr_input.specs.Indicators.{hyphen, number_sign}
 use Rattle.saphyr_scalar.specs.declared.scalar.position.Marker.{Marker}
 use Rattle.saphyr_scalar.specs.declared.scalar.fault.Refusal.{Refusal}
 use Rattle.saphyr_scalar.specs.declared.scalar.fault.FaultText.TheVariants as fault
 use Rattle.saphyr_scalar.specs.declared.scalar.plain.PlainScalar.{PlainScalar}
-use Rattle.saphyr_scalar.specs.Views.Cursor.{Cursor, ◌>>=◌, refuse, along, next_line, pass, pass_blanks, pass_break}
+use Rattle.saphyr_scalar.specs.Views.Cursor.{Cursor, ◌>>=◌, refuse, along, next_line, pass_blanks, pass_break}
 pub use Rattle.saphyr_scalar.specs.Spelling.LineBreaks.{ends_line}
 use Rattle.saphyr_scalar.specs.Steps.Quoted.{at, with_run}
 
@@ -22,8 +23,8 @@ word_len in_flow (c ∷ cs) = if in_word in_flow (c ∷ cs) then 1 + word_len in
 -- whether a word of the scalar begins: neither a comment nor a document marker does, and in flow no lone `-`
 unfoldable pub word_starts : Bool → Cursor → Result (Bool × Cursor) Refusal
 word_starts in_flow s =
-    if (slice_index s.rest 0 == 35) || ((s.mark.col == 0) && is_document_indicator s.rest) then Ok (false, s)
-    else if in_flow && (slice_index s.rest 0 == 45) && is_flow (slice_index s.rest 1) then refuse
+    if (slice_index s.rest 0 == number_sign) || ((s.mark.col == 0) && is_document_indicator s.rest) then Ok (false, s)
+    else if in_flow && (slice_index s.rest 0 == hyphen) && is_flow (slice_index s.rest 1) then refuse
     fault.PlainDashBeforeFlow s.mark
     else Ok (in_word in_flow s.rest, s)
 
@@ -46,7 +47,8 @@ seen_gap tabbed text s = record { text = text; tabbed = tabbed; behind = s }
 unfoldable pub may_stand : Marker → Bool → Cursor → Result Cursor Refusal
 may_stand start tabbed s =
     if tabbed && is_bom (slice_index s.rest 0) then refuse fault.MisplacedByteOrderMark s.mark
-    else if tabbed && not ((slice_index s.rest 0 == 35) || is_z (slice_index s.rest 0)) then refuse fault.TabInsidePlain
+    else if tabbed && not ((slice_index s.rest 0 == number_sign) || is_z (slice_index s.rest 0)) then
+    refuse fault.TabInsidePlain
     start
     else Ok s
 
@@ -121,7 +123,7 @@ goes_on in_flow indent s =
 -- behind a tab in the indentation.
 unfoldable pub comment_of : Bool → Bool → Cursor → Option Marker
 comment_of in_flow tabbed s =
-    if not in_flow && (slice_index s.rest 0 == 35) && (tabbed || not s.blank_so_far) then Some s.mark else None
+    if not in_flow && (slice_index s.rest 0 == number_sign) && (tabbed || not s.blank_so_far) then Some s.mark else None
 
 -- what is read of a scalar: its text, the place behind its last word, a comment that keeps it from going on, and what
 -- stands behind it

@@ -1,8 +1,9 @@
 -- Quoted scalars (YAML 1.2.2, 7.3.1 and 7.3.2), and the escapes of double quoted ones (5.7).
 use Rattle.std.specs.Prelude.{ℕ, zero, suc, pred, ◌+◌, ◌*◌, Bool, true, false, ◌||◌, ◌&&◌, ◌==◌, not, nat_lt, List, [], ◌∷◌, ◌++◌, take, drop, length, ◌≤◌, slice_index, Option, Some, None, Result, Ok, Err, ◌≡◌, if◌then◌else◌, encode_utf8, encode_utf8_all}
 use Rattle.std.specs.List.{prefix_len}
-use Rattle.saphyr_input.specs.Classes.{is_z, is_break, is_blank, is_blank_or_breakz, is_hex, hex_value}
+use Rattle.saphyr_input.specs.Classes.{is_z, is_break, is_blank, is_blank_or_breakz, is_hex, hex_value, tab}
 use Rattle.saphyr_input.specs.Places.{next_2_are, is_document_indicator}
+use Rattle.saphyr_input.specs.Indicators.{apostrophe, backslash}
 use Rattle.saphyr_scalar.specs.declared.scalar.position.Marker.{Marker}
 use Rattle.saphyr_scalar.specs.declared.scalar.fault.Refusal.{Refusal}
 use Rattle.saphyr_scalar.specs.declared.scalar.fault.FaultText.TheVariants as fault
@@ -59,9 +60,10 @@ at m cs = record { rest = cs; mark = m; blank_so_far = false }
 -- The character of a spelling of several characters, where one stands: an escape between double quotes, two single
 -- quotes between single ones.
 unfoldable pub special : Quote → Marker → Cursor → Result (Option ℕ × Cursor) Refusal
-special Single start s = if next_2_are s.rest 39 39 then Ok (Some 39, pass 2 s) else Ok (None, s)
+special Single start s =
+    if next_2_are s.rest apostrophe apostrophe then Ok (Some apostrophe, pass 2 s) else Ok (None, s)
 special Double start s =
-    if (slice_index s.rest 0 == 92) && not (is_break (slice_index s.rest 1)) then
+    if (slice_index s.rest 0 == backslash) && not (is_break (slice_index s.rest 1)) then
     (escaped_character start s >>= λ e. Ok (Some e.0, e.1))
     else Ok (None, s)
 
@@ -87,7 +89,7 @@ is_left indent m = nat_lt m.col indent
 unfoldable pub blank_in : ℕ → QuotedGap → Marker → ℕ → Result QuotedGap Refusal
 blank_in indent (on_line bytes) m c = Ok (on_line (bytes ++ encode_utf8 c))
 blank_in indent (over_lines escaped n) m c =
-    if (c == 9) && is_left indent m then refuse fault.TabAsIndentation m else Ok (over_lines escaped n)
+    if (c == tab) && is_left indent m then refuse fault.TabAsIndentation m else Ok (over_lines escaped n)
 
 -- a break: the blanks before it go, or a line that it ends is empty
 abbrev pub break_in : QuotedGap → QuotedGap
@@ -163,7 +165,7 @@ with_run p text s = (text ++ encode_utf8_all (take (prefix_len p s.rest) s.rest)
 -- a break behind a backslash
 abbrev pub is_escaped_break : Quote → List ℕ → Bool
 is_escaped_break Single xs = false
-is_escaped_break Double xs = (slice_index xs 0 == 92) && is_break (slice_index xs 1)
+is_escaped_break Double xs = (slice_index xs 0 == backslash) && is_break (slice_index xs 1)
 
 -- what ends a word
 abbrev pub ends_word : Quote → List ℕ → Bool

@@ -1,6 +1,7 @@
 -- Sets of characters whose runs scalars, names and tags take off in one piece.
 use Rattle.std.specs.Prelude.{◌≡◌, ℕ, Bool, false, ◌&&◌, ◌==◌, not, refl}
 use Rattle.saphyr_input.specs.Classes.{is_blank_or_breakz, is_bom, is_flow}
+use Rattle.saphyr_input.specs.Indicators.{colon, hyphen, number_sign, percent_sign}
 use Rattle.saphyr_scalar.specs.declared.scalar.tag.UriSet.{UriSet}
 use Rattle.saphyr_scalar.specs.declared.scalar.tag.UriSet.TheVariants.{Uri, Suffix}
 use Rattle.scalar_values.specs.declared.flow.Quote.TheVariants.{Single, Double}
@@ -13,15 +14,15 @@ is_content c = not (is_blank_or_breakz c)
 
 -- with such a character a word of a plain scalar goes on wherever it stands (YAML 1.2.2, 7.3.3): all but the colon
 abbrev pub in_plain : Bool → ℕ → Bool
-in_plain in_flow c = not (c == 58) && not (is_blank_or_breakz c) && not (is_bom c) && not (in_flow && is_flow c)
+in_plain in_flow c = not (c == colon) && not (is_blank_or_breakz c) && not (is_bom c) && not (in_flow && is_flow c)
 
 -- and with such a one behind a space: neither a comment nor a lone `-` begins there
 abbrev pub leads_plain : Bool → ℕ → Bool
-leads_plain in_flow c = in_plain in_flow c && not (c == 35) && not (c == 45)
+leads_plain in_flow c = in_plain in_flow c && not (c == number_sign) && not (c == hyphen)
 
 -- a character of a URI, and of a tag's suffix, that begins no escape
 abbrev pub is_bare : UriSet → ℕ → Bool
-is_bare set c = not (c == 37) && tag.has set c
+is_bare set c = not (c == percent_sign) && tag.has set c
 
 abbrev pub is_bare_in_uri : ℕ → Bool
 is_bare_in_uri = is_bare Uri

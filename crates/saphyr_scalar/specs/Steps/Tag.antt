@@ -2,6 +2,7 @@
 use Rattle.std.specs.Prelude.{ℕ, zero, suc, ◌+◌, ◌-◌, ◌*◌, Bool, ◌||◌, ◌&&◌, ◌==◌, nat_lt, nat_le, List, [], ◌∷◌, ◌++◌, length, slice_index, Result, Ok, if◌then◌else◌, encode_utf8, codes, string_bytes}
 use Rattle.std.specs.Char.{len_utf8}
 use Rattle.saphyr_input.specs.Classes.{is_alpha, is_hex, hex_value, is_blank_or_breakz, is_flow, is_uri_char, is_tag_char}
+use Rattle.saphyr_input.specs.Indicators.{exclamation_mark, greater_than, less_than, percent_sign}
 use Rattle.saphyr_scalar.specs.declared.scalar.position.Marker.{Marker}
 use Rattle.saphyr_scalar.specs.declared.scalar.fault.Refusal.{Refusal}
 use Rattle.saphyr_scalar.specs.declared.scalar.fault.FaultText.TheVariants as fault
@@ -22,7 +23,7 @@ byte_value xs = hex_value (slice_index xs 1) * 16 + hex_value (slice_index xs 2)
 
 -- `%` and two hexadecimal digits
 abbrev pub shows_byte : List ℕ → Bool
-shows_byte xs = (slice_index xs 0 == 37) && is_hex (slice_index xs 1) && is_hex (slice_index xs 2)
+shows_byte xs = (slice_index xs 0 == percent_sign) && is_hex (slice_index xs 1) && is_hex (slice_index xs 2)
 
 unfoldable pub escaped_byte : Marker → Cursor → Result (ℕ × Cursor) Refusal
 escaped_byte start s = if shows_byte s.rest then Ok (byte_value s.rest, pass 3 s) else refuse fault.TagEscape start
@@ -74,12 +75,12 @@ percent_escape start s = escaped_byte start s >>= λ b. behind_leading_byte star
 
 -- a character, or the escape of one
 unfoldable pub uri_character : Marker → Cursor → Result (ℕ × Cursor) Refusal
-uri_character start s = if slice_index s.rest 0 == 37 then percent_escape start s
+uri_character start s = if slice_index s.rest 0 == percent_sign then percent_escape start s
     else Ok (slice_index s.rest 0, pass 1 s)
 
 -- how many characters of it stand behind its first one
 abbrev pub uri_tail : List ℕ → ℕ
-uri_tail xs = if slice_index xs 0 == 37 then 3 * utf8_width (byte_value xs) - 1 else 0
+uri_tail xs = if slice_index xs 0 == percent_sign then 3 * utf8_width (byte_value xs) - 1 else 0
 
 -- Characters of the set, with their escapes resolved: their bytes, and what stands behind them.
 -- The next k characters are those of an escape, which is read already.
@@ -108,7 +109,7 @@ seen_tag tag s = (string_bytes tag.handle, string_bytes tag.suffix, s)
 
 -- `!<uri>`: the uri is the suffix
 unfoldable pub verbatim_end : Marker → List ℕ × Cursor → Result Parts Refusal
-verbatim_end start x = if slice_index x.1.rest 0 == 62 then Ok ([], x.0, pass 1 x.1) else refuse
+verbatim_end start x = if slice_index x.1.rest 0 == greater_than then Ok ([], x.0, pass 1 x.1) else refuse
     fault.VerbatimTagEndExpected start
 
 unfoldable pub verbatim : Cursor → Result Parts Refusal
@@ -132,7 +133,7 @@ primary_tag x = if length x.0 == 0 then ([], codes "!", x.1) else (codes "!", x.
 -- behind `!` and a word
 unfoldable pub behind_word : Marker → List ℕ × Cursor → Result Parts Refusal
 behind_word start w =
-    if slice_index w.1.rest 0 == 33 then named_tail start w.0 (pass 1 w.1)
+    if slice_index w.1.rest 0 == exclamation_mark then named_tail start w.0 (pass 1 w.1)
     else (with_front w.0 (decoded_at Suffix start w.1) >>= λ x. Ok (primary_tag x))
 
 unfoldable pub shorthand : Cursor → Result Parts Refusal
@@ -146,4 +147,5 @@ tag_end in_flow start p =
 
 -- a tag, from its `!` on
 unfoldable pub tag : Bool → Cursor → Result Parts Refusal
-tag in_flow s = (if slice_index s.rest 1 == 60 then verbatim s else shorthand s) >>= λ p. tag_end in_flow s.mark p
+tag in_flow s =
+    (if slice_index s.rest 1 == less_than then verbatim s else shorthand s) >>= λ p. tag_end in_flow s.mark p

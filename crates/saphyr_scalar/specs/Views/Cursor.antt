@@ -1,7 +1,7 @@
 -- What a reader of characters takes off a text, as functions on the text that remains and the place in it.
 use Rattle.std.specs.Prelude.{ℕ, ◌+◌, ◌-◌, ◌^◌, min, Bool, true, false, ◌&&◌, nat_lt, List, drop, slice_index, Result, Ok, Err, if◌then◌else◌}
 use Rattle.std.specs.List.{prefix_len}
-use Rattle.saphyr_input.specs.Classes.{is_break, is_bom, is_yaml_non_break}
+use Rattle.saphyr_input.specs.Classes.{is_break, is_bom, is_yaml_non_break, carriage_return, line_feed}
 use Rattle.saphyr_input.specs.Places.{next_2_are, spaces_within}
 use Rattle.saphyr_input.specs.Separation.{separation_len, is_bare_comment, found_blanks}
 use Rattle.saphyr_input.specs.declared.input.SkipTabs.{SkipTabs}
@@ -60,7 +60,7 @@ pass_line n s = record { rest = drop n s.rest; mark = next_line s.mark n; blank_
 -- the break that stands first is passed, if one does (YAML 1.2.2, 5.4)
 abbrev pub pass_break : Cursor → Cursor
 pass_break s =
-    if next_2_are s.rest 13 10 then pass_line 2 s
+    if next_2_are s.rest carriage_return line_feed then pass_line 2 s
     else if is_break (slice_index s.rest 0) then pass_line 1 s
     else s
 

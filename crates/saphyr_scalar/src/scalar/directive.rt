@@ -1,6 +1,7 @@
 //! Directives, taken off a text to the ends of their lines (YAML 1.2.2, 6.8).
 
 ghost use Rattle.std.specs.Prelude.{◌≡◌, ℕ, ◌<◌, List, [], length, slice_index, string_bytes, Ok};
+ghost use Rattle.saphyr_input.specs.Indicators.{percent_sign};
 ghost use Rattle.saphyr_scalar.specs.Steps.Directive as spec;
 ghost use Rattle.saphyr_scalar.specs.Steps.Quoted as run;
 
@@ -228,7 +229,7 @@ impl<T: Input> Reader<T> {
     /// content behind the directive. The parameters of a reserved directive are passed over.
     #[tactic(auto, unfolding(crate::specs::Steps::Directive::directive))]
     pub fn read_directive(&mut self, alloc: Global) -> Result<DirectiveLine, Stop>
-        requires { slice_index (cursor_of self.old).rest 0 ≡ 37 }
+        requires { slice_index (cursor_of self.old).rest 0 ≡ percent_sign }
         ensures { ReadsBy spec.seen_directive_line spec.directive self.old result self.new }
     {
         let start = self.mark;

@@ -2,6 +2,7 @@
 //! and what is read is spelled so (YAML 1.2.2, 6.8).
 
 ghost use Rattle.std.specs.Prelude.{◌≡◌, ℕ, ◌+◌, true, List, ◌++◌, length, Ok, encode_utf8_all, slice_index};
+ghost use Rattle.saphyr_input.specs.Indicators.{percent_sign};
 ghost use Rattle.saphyr_input.specs.Classes.{is_breakz};
 ghost use Rattle.saphyr_scalar.specs.Views.Cursor.{Cursor, along, pass_break};
 ghost use Rattle.saphyr_scalar.specs.Steps.Directive.{ReadDirective, reserved, directive};
@@ -37,7 +38,8 @@ pub fn reads_each_reserved_directive()
 
 /// What is read as a directive is spelled so, and what is left stands behind its line.
 pub fn spells_each_directive()
-    ensures { (s u : Cursor) (d : ReadDirective) (end : Marker) → slice_index s.rest 0 ≡ 37
+    ensures { (s u : Cursor) (d : ReadDirective) (end : Marker)
+        → slice_index s.rest 0 ≡ percent_sign
         → directive s ≡ Ok (d, end, u)
         → (t : List ℕ) × (tail : List ℕ) × (x : List ℕ) × (s.rest ≡ t ++ (tail ++ x))
         × IsReadDirective d t × IsLineTail tail × (is_breakz (slice_index x 0) ≡ true)

@@ -1,6 +1,7 @@
 //! The escapes of double quoted scalars, taken off a text (YAML 1.2.2, 5.7).
 
 ghost use Rattle.std.specs.Prelude.{◌≡◌, ◌≤◌, slice_index};
+ghost use Rattle.saphyr_input.specs.Indicators.{backslash};
 ghost use Rattle.saphyr_scalar.specs.Steps.Quoted as spec;
 
 use crate::scalar::fault::{FaultText, Refusal};
@@ -75,7 +76,7 @@ impl<T: Input> Reader<T> {
     // Takes an escape off, from its backslash on, and gives the character that it stands for.
     #[tactic(auto, using(crate::proofs::Quoted::Escapes::letter_left, crate::proofs::Quoted::Escapes::digits_left, crate::proofs::Quoted::Escapes::count_small), unfolding(crate::specs::Steps::Quoted::escaped_character, crate::specs::Steps::Quoted::escape_of, crate::specs::Steps::Quoted::numbered, crate::specs::Steps::Quoted::character))]
     pub(crate) fn read_escape(&mut self, start: Marker) -> Result<char, Refusal>
-        requires { slice_index (cursor_of self.old).rest 0 ≡ 92 }
+        requires { slice_index (cursor_of self.old).rest 0 ≡ backslash }
         ensures { GivesBy (spec.escaped_character start) self.old result self.new }
     {
         self.load(2);

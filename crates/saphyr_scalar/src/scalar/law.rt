@@ -3,6 +3,7 @@
 //! scanner comes to an end.
 
 ghost use Rattle.std.specs.Prelude.{◌≡◌, ◌≢◌, ℕ, ◌+◌, ◌-◌, ◌^◌, ◌<◌, ◌≤◌, ◌⊎◌, Bool, Option, Some, false, true, List, drop, ◌++◌, length, Ok, encode_utf8_all, slice_index};
+ghost use Rattle.saphyr_input.specs.Indicators.{exclamation_mark, number_sign, percent_sign};
 ghost use Rattle.saphyr_input.specs.Classes.{is_break, is_z};
 ghost use Rattle.std.specs.List.{prefix_len};
 ghost use Rattle.saphyr_input.specs.Places.{is_blank_or_break};
@@ -152,7 +153,7 @@ pub fn passes_blanks_and_breaks()
 /// Where nothing encloses a scalar, it may end before blanks and breaks and a character with which
 /// no word goes on.
 pub fn ends_each_plain_scalar()
-    ensures { (in_flow : Bool) (end : Marker) (xs : List ℕ) → slice_index xs 0 ≢ 35
+    ensures { (in_flow : Bool) (end : Marker) (xs : List ℕ) → slice_index xs 0 ≢ number_sign
         → in_word in_flow (drop (prefix_len is_blank_or_break xs) xs) ≡ false
         → EndsPlain in_flow 0 end xs }
 {}
@@ -201,13 +202,15 @@ pub fn takes_anchor()
 
 /// A tag takes characters off the text.
 pub fn takes_tag()
-    ensures { (in_flow : Bool) (s t : Cursor) (handle suffix : List ℕ) → slice_index s.rest 0 ≡ 33
+    ensures { (in_flow : Bool) (s t : Cursor) (handle suffix : List ℕ)
+        → slice_index s.rest 0 ≡ exclamation_mark
         → tag in_flow s ≡ Ok (handle, suffix, t) → length t.rest < length s.rest }
 {}
 
 /// A directive takes characters off the text.
 pub fn takes_directive()
-    ensures { (s t : Cursor) (d : ReadDirective) (end : Marker) → slice_index s.rest 0 ≡ 37
+    ensures { (s t : Cursor) (d : ReadDirective) (end : Marker)
+        → slice_index s.rest 0 ≡ percent_sign
         → directive s ≡ Ok (d, end, t) → length t.rest < length s.rest }
 {}
 

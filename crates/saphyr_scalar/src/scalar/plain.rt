@@ -4,8 +4,11 @@ ghost use Rattle.std.specs.Prelude.{◌≡◌, ℕ, ◌<◌, ◌≤◌, List, �
 ghost use Rattle.saphyr_input.specs.Places.{is_blank_or_break, TransfersWords};
 ghost use Rattle.saphyr_scalar.specs.Views.Cursor as cursor;
 ghost use Rattle.saphyr_scalar.specs.Steps.Plain as spec;
+ghost use Rattle.saphyr_input.specs.Classes as class;
+ghost use Rattle.saphyr_scalar.specs.Steps.PlainLines as lines;
 ghost use Rattle.saphyr_scalar.specs.Steps.Sets as sets;
 
+use crate::scalar::byte_sets::{is_in_plain_in_flow, is_in_plain_outside};
 use crate::scalar::fault::{FaultText, Refusal, Stop};
 use crate::scalar::position::Marker;
 use crate::scalar::reader::Reader;
@@ -45,12 +48,9 @@ impl CharSet for PlainOutside {
         c != ':' && !is_blank_or_breakz(c) && !is_bom(c)
     }
 
+    #[inline(always)]
     fn has_ascii(byte: u8) -> bool {
-        if byte > b':' {
-            byte < 0x80
-        } else {
-            byte != b':' && !is_blank_or_breakz(byte as char)
-        }
+        is_in_plain_outside(byte)
     }
 }
 
@@ -74,12 +74,9 @@ impl CharSet for PlainInFlow {
         c != ':' && !is_blank_or_breakz(c) && !is_bom(c) && !is_flow(c)
     }
 
+    #[inline(always)]
     fn has_ascii(byte: u8) -> bool {
-        matches!(byte, b'a'..=b'z')
-            || byte < 0x80
-                && byte != b':'
-                && !is_blank_or_breakz(byte as char)
-                && !is_flow(byte as char)
+        is_in_plain_in_flow(byte)
     }
 }
 
@@ -330,6 +327,106 @@ impl<T: Input> Reader<T> {
         Ok(())
     }
 
+    // Moves what is left of a plain scalar behind a word to the end of its text, and takes off the
+    // blanks and breaks behind it.
+    #[inline(never)]
+    fn read_plain_rest(
+        &mut self,
+        alloc: Global,
+        in_flow: bool,
+        indent: usize,
+        start: Marker,
+        mut text: String,
+    ) -> Result<PlainScalar, Stop>
+        requires ended { spec.in_word in_flow (cursor_of self.old).rest ≡ false }
+        requires on_line { (cursor_of self.old).blank_so_far ≡ false }
+        ensures { ReadsBy spec.seen_plain_scalar (λ s. spec.with_text (string_bytes text)
+            (spec.word in_flow indent start s.mark s.rest)) self.old result self.new }
+    {
+        let mut gap = String::new(alloc);
+        loop {
+            let end = self.mark;
+            let tabbed = self.read_plain_gap(indent, start, &mut gap)?;
+            if !self.plain_goes_on(in_flow, indent)? {
+                let comment = self.plain_comment(in_flow, tabbed);
+                return Ok(PlainScalar { text, end, comment });
+            }
+            push_gap(&mut text, self.blank_so_far, gap.as_str())?;
+            self.read_plain_words(in_flow, &mut text)?;
+        }
+    }
+
+    // Moves what is left of a plain scalar behind a line's break and maybe spaces to the end of its
+    // text, and takes off the blanks and breaks behind it.
+    #[inline(never)]
+    fn read_plain_lines(
+        &mut self,
+        alloc: Global,
+        in_flow: bool,
+        indent: usize,
+        start: Marker,
+        behind_word: Marker,
+        mut text: String,
+    ) -> Result<PlainScalar, Stop>
+        requires { (cursor_of self.old).blank_so_far ≡ true }
+        ensures { ReadsBy spec.seen_plain_scalar (λ s. spec.with_text (string_bytes text)
+            (lines.behind_line in_flow indent start behind_word s)) self.old result self.new }
+    {
+        let mut feeds = String::new(alloc);
+        let tabbed = self.skip_empty_lines(indent, start, &mut feeds)?;
+        if !self.plain_goes_on(in_flow, indent)? {
+            let comment = self.plain_comment(in_flow, tabbed);
+            return Ok(PlainScalar {
+                text,
+                end: behind_word,
+                comment,
+            });
+        }
+        push_gap(&mut text, self.blank_so_far, feeds.as_str())?;
+        self.read_plain_words(in_flow, &mut text)?;
+        self.read_plain_rest(alloc, in_flow, indent, start, text)
+    }
+
+    // Whether what stands here is left of where a scalar outside flow can go on.
+    #[inline(always)]
+    fn plain_stands_left(&mut self, in_flow: bool, indent: usize) -> bool
+        ensures value { result ≡ lines.stands_left in_flow indent (cursor_of self.old) }
+        ensures same { cursor_of self.new ≡ cursor_of self.old }
+    {
+        !in_flow && self.mark.col < indent && !is_white(self.look())
+    }
+
+    // Moves what is left of a plain scalar behind a word at a line's end, as `read_plain_rest` does.
+    // Mostly the next line begins left of `indent`: then nothing is left.
+    #[inline(always)]
+    fn read_plain_break(
+        &mut self,
+        alloc: Global,
+        in_flow: bool,
+        indent: usize,
+        start: Marker,
+        text: String,
+    ) -> Result<PlainScalar, Stop>
+        requires ended { spec.in_word in_flow (cursor_of self.old).rest ≡ false }
+        requires on_line { (cursor_of self.old).blank_so_far ≡ false }
+        requires breaks { class.is_break (slice_index (cursor_of self.old).rest 0) ≡ true }
+        ensures { ReadsBy spec.seen_plain_scalar (λ s. spec.with_text (string_bytes text)
+            (spec.word in_flow indent start s.mark s.rest)) self.old result self.new }
+    {
+        let behind_word = self.mark;
+        self.skip_line_break();
+        self.skip_spaces(usize::MAX);
+        if self.plain_stands_left(in_flow, indent) {
+            let comment = None;
+            return Ok(PlainScalar {
+                text,
+                end: behind_word,
+                comment,
+            });
+        }
+        self.read_plain_lines(alloc, in_flow, indent, start, behind_word, text)
+    }
+
     /// Takes off a plain scalar, inside flow or outside, and the blanks and breaks behind it
     /// (YAML 1.2.2, 7.3.3), and gives its text with its lines folded (6.5).
     ///
@@ -359,16 +456,19 @@ impl<T: Input> Reader<T> {
             }));
         }
         let mut text = self.spare.begin(alloc)?;
-        let mut gap = String::new(alloc);
-        loop {
-            self.read_plain_words(in_flow, &mut text)?;
-            let end = self.mark;
-            let tabbed = self.read_plain_gap(indent, start, &mut gap)?;
-            if !self.plain_goes_on(in_flow, indent)? {
-                let comment = self.plain_comment(in_flow, tabbed);
-                return Ok(PlainScalar { text, end, comment });
-            }
-            push_gap(&mut text, self.blank_so_far, gap.as_str())?;
+        self.read_plain_words(in_flow, &mut text)?;
+        let c = self.look();
+        if is_break(c) {
+            return self.read_plain_break(alloc, in_flow, indent, start, text);
         }
+        // Most others end right before a colon, a comma or a bracket.
+        if !is_blank(c) {
+            return Ok(PlainScalar {
+                text,
+                end: self.mark,
+                comment: None,
+            });
+        }
+        self.read_plain_rest(alloc, in_flow, indent, start, text)
     }
 }

@@ -2,6 +2,7 @@
 //! so is read, and what is read is spelled so (YAML 1.2.2, 6.9 and 7.1).
 
 ghost use Rattle.std.specs.Prelude.{◌≡◌, ℕ, ◌+◌, ◌<◌, Bool, false, List, ◌∷◌, ◌++◌, length, Ok, encode_utf8_all, slice_index};
+ghost use Rattle.saphyr_input.specs.Indicators.{exclamation_mark};
 ghost use Rattle.saphyr_input.specs.Classes.{is_anchor_char};
 ghost use Rattle.saphyr_scalar.specs.Views.Cursor.{Cursor, along};
 ghost use Rattle.saphyr_scalar.specs.Steps.Quoted.{at};
@@ -38,7 +39,8 @@ pub fn reads_each_tag()
 
 /// What is read as a tag is spelled so, and what is left stands behind it.
 pub fn spells_each_tag()
-    ensures { (in_flow : Bool) (s u : Cursor) (front back : List ℕ) → slice_index s.rest 0 ≡ 33
+    ensures { (in_flow : Bool) (s u : Cursor) (front back : List ℕ)
+        → slice_index s.rest 0 ≡ exclamation_mark
         → tag in_flow s ≡ Ok (front, back, u)
         → (t : List ℕ) × (handle : List ℕ) × (suffix : List ℕ) × (s.rest ≡ t ++ u.rest)
         × IsTagText t handle suffix × EndsTag in_flow u.rest

@@ -2,6 +2,7 @@
 //! (YAML 1.2.2, 7.3.1, 7.3.2 and 6.5).
 
 ghost use Rattle.std.specs.Prelude.{◌≡◌, ℕ, Bool, true, false, ◌==◌, ◌++◌, slice_index, string_bytes, encode_utf8_all, Ok, IfOk, OnOk, IsTrue, if◌then◌else◌};
+ghost use Rattle.saphyr_input.specs.Indicators.{apostrophe, quotation_mark};
 ghost use Rattle.saphyr_input.specs.Classes as class;
 ghost use Rattle.saphyr_input.specs.Places.{TransfersWords};
 ghost use Rattle.saphyr_scalar.specs.Views.Cursor as cursor;
@@ -9,6 +10,7 @@ ghost use Rattle.saphyr_scalar.specs.Steps.Quoted as spec;
 ghost use Rattle.scalar_values.specs.Flow as flow;
 ghost use Rattle.saphyr_scalar.specs.Steps.Sets as sets;
 
+use crate::scalar::byte_sets::{is_in_double, is_in_single};
 use crate::scalar::fault::{FaultText, Refusal, Stop};
 use crate::scalar::position::Marker;
 use crate::scalar::reader::Reader;
@@ -44,13 +46,9 @@ impl CharSet for InSingle {
         is_literal(Quote::Single, c)
     }
 
-    #[tactic(auto, unfolding(crate::specs::Steps::Quoted::is_literal))]
+    #[inline(always)]
     fn has_ascii(byte: u8) -> bool {
-        if byte > b'\'' {
-            byte < 0x80
-        } else {
-            is_literal(Quote::Single, byte as char)
-        }
+        is_in_single(byte)
     }
 }
 
@@ -74,13 +72,9 @@ impl CharSet for InDouble {
         is_literal(Quote::Double, c)
     }
 
-    #[tactic(auto, unfolding(crate::specs::Steps::Quoted::is_literal))]
+    #[inline(always)]
     fn has_ascii(byte: u8) -> bool {
-        if byte > b'\\' {
-            byte < 0x80
-        } else {
-            is_literal(Quote::Double, byte as char)
-        }
+        is_in_double(byte)
     }
 }
 
@@ -127,20 +121,29 @@ impl<T: Input> Reader<T> {
     // Moves words, and single spaces between them, to the end of a text: up to what does not stand
     // for itself.
     #[inline(always)]
+    fn take_literal_words(&mut self, quote: Quote, text: &mut String) -> Result<(), AllocError>
+        ensures { OnOk result
+            (spec.QuotedWordsMoved quote (string_bytes text.old) (string_bytes text.new)
+            (cursor_of self.old) (cursor_of self.new)) }
+    {
+        let count = self.fetch_literal_words(quote, text)?;
+        self.mark = self.mark.along(count);
+        self.blank_so_far = false;
+        Ok(())
+    }
+
+    // The same behind an escape: there mostly stands another, or the closing quote, and to look is cheaper than to
+    // move nothing.
+    #[inline(always)]
     fn read_literal_words(&mut self, quote: Quote, text: &mut String) -> Result<(), AllocError>
         ensures { OnOk result
             (spec.QuotedWordsMoved quote (string_bytes text.old) (string_bytes text.new)
             (cursor_of self.old) (cursor_of self.new)) }
     {
-        // Behind an escape mostly stands another, or the closing quote: to look is cheaper than to
-        // move nothing.
         if !is_literal(quote, self.look()) {
             return Ok(());
         }
-        let count = self.fetch_literal_words(quote, text)?;
-        self.mark = self.mark.along(count);
-        self.blank_so_far = false;
-        Ok(())
+        self.take_literal_words(quote, text)
     }
 
     // Moves the blanks inside a text to its end.
@@ -346,16 +349,34 @@ impl<T: Input> Reader<T> {
         Ok(())
     }
 
-    // Takes off a quoted scalar, from its opening quote to its closing one, and gives its text.
-    fn read_quoted(&mut self, alloc: Global, quote: Quote, indent: usize) -> Result<String, Stop>
-        requires { slice_index (cursor_of self.old).rest 0 ≡ flow.mark quote }
-        ensures { ReadsTextBy (spec.quoted quote indent) self.old result self.new }
+    // Whether the closing quote stands here, and not the first of two single quotes.
+    #[inline(always)]
+    fn closes(&mut self, quote: Quote) -> bool
+        ensures value { result ≡ spec.is_closing quote (cursor_of self.old).rest }
+        ensures same { cursor_of self.new ≡ cursor_of self.old }
     {
-        let start = self.mark;
-        self.skip_non_blank();
-        let is_empty = self.look() == quote.mark();
-        let room = if is_empty { 0 } else { FIRST_ROOM };
-        let mut text = self.spare.begin_with(alloc, room)?;
+        match quote {
+            Quote::Single => {
+                self.load(2);
+                self.input.next_char_is('\'') && !self.input.nth_char_is(1, '\'')
+            }
+            Quote::Double => self.look() == '"',
+        }
+    }
+
+    // Moves what is left of a quoted scalar to the end of its text, and takes off the closing quote.
+    #[inline(never)]
+    fn read_quoted_rest(
+        &mut self,
+        alloc: Global,
+        quote: Quote,
+        indent: usize,
+        start: Marker,
+        mut text: String,
+    ) -> Result<String, Stop>
+        ensures { ReadsTextBy (λ s. spec.with_front (string_bytes text)
+            (spec.inside_at quote indent start spec.no_gap s)) self.old result self.new }
+    {
         let mut blanks = String::new(alloc);
         loop {
             self.read_quoted_word(quote, start, &mut text)?;
@@ -368,6 +389,26 @@ impl<T: Input> Reader<T> {
         Ok(text)
     }
 
+    // Takes off a quoted scalar, from its opening quote to its closing one, and gives its text. Most
+    // are words on one line that stand for themselves: then that is all.
+    #[inline(always)]
+    fn read_quoted(&mut self, alloc: Global, quote: Quote, indent: usize) -> Result<String, Stop>
+        requires { slice_index (cursor_of self.old).rest 0 ≡ flow.mark quote }
+        ensures { ReadsTextBy (spec.quoted quote indent) self.old result self.new }
+    {
+        let start = self.mark;
+        self.skip_non_blank();
+        let is_empty = self.look() == quote.mark();
+        let room = if is_empty { 0 } else { FIRST_ROOM };
+        let mut text = self.spare.begin_with(alloc, room)?;
+        self.take_literal_words(quote, &mut text)?;
+        if self.closes(quote) {
+            self.skip_non_blank();
+            return Ok(text);
+        }
+        self.read_quoted_rest(alloc, quote, indent, start, text)
+    }
+
     /// Takes off a double quoted scalar, from its opening quote to its closing one, and gives its
     /// text: escapes are replaced, and lines are folded (YAML 1.2.2, 7.3.1).
     ///
@@ -376,7 +417,7 @@ impl<T: Input> Reader<T> {
     /// and a text that ends before the scalar does. A tab left of the column is refused where it
     /// stands.
     pub fn read_double_quoted(&mut self, alloc: Global, indent: usize) -> Result<String, Stop>
-        requires { slice_index (cursor_of self.old).rest 0 ≡ 34 }
+        requires { slice_index (cursor_of self.old).rest 0 ≡ quotation_mark }
         ensures { ReadsTextBy (spec.double_quoted indent) self.old result self.new }
     {
         self.read_quoted(alloc, Quote::Double, indent)
@@ -387,7 +428,7 @@ impl<T: Input> Reader<T> {
     ///
     /// It is refused as a double quoted one is, but for the faults in escapes.
     pub fn read_single_quoted(&mut self, alloc: Global, indent: usize) -> Result<String, Stop>
-        requires { slice_index (cursor_of self.old).rest 0 ≡ 39 }
+        requires { slice_index (cursor_of self.old).rest 0 ≡ apostrophe }
         ensures { ReadsTextBy (spec.single_quoted indent) self.old result self.new }
     {
         self.read_quoted(alloc, Quote::Single, indent)

@@ -1,7 +1,11 @@
 //! The characters of a text with the place that is reached, and the steps over blanks, breaks and comments
 //! (YAML 1.2.2, 5.4, 6.2 and 6.6).
 
-ghost use Rattle.std.specs.Prelude.{◌≡◌, ℕ, ◌+◌, ◌<◌, ◌≤◌, ◌^◌, length, slice_index};
+ghost use Rattle.std.specs.Prelude.{◌≡◌, ℕ, ◌+◌, ◌<◌, ◌≤◌, ◌^◌, ◌==◌, false, IsTrue, length, slice_index};
+ghost use Rattle.saphyr_input.specs.Classes as class;
+ghost use Rattle.saphyr_input.specs.Classes.{carriage_return};
+ghost use Rattle.saphyr_input.specs.Separation as separation;
+ghost use Rattle.saphyr_input.specs.declared.input.SkipTabs.{SkipTabs};
 ghost use Rattle.saphyr_scalar.specs.Views.Cursor as spec;
 
 use crate::scalar::fault::{FaultText, Refusal};
@@ -26,9 +30,18 @@ pub struct Reader<T: Input> {
     ghost column: { mark.col ≤ mark.index },
 }
 
+// Whether the character is surely no blank, `#` or byte order mark, as most behind a token are.
+#[inline(always)]
+fn begins_no_separation(c: char) -> bool
+    ensures skipped { IsTrue result → (tabs : SkipTabs) → separation.is_skipped tabs c ≡ false }
+    ensures comment { IsTrue result → (c == 35) ≡ false }
+    ensures mark { IsTrue result → class.is_bom c ≡ false }
+{
+    (c == '\n' || c > '#') && !is_bom(c)
+}
+
 impl<T: Input> Reader<T> {
     ghost use Rattle.saphyr_scalar.specs.Views.Reader.{cursor_of, loaded, GivesBy};
-    ghost use Rattle.saphyr_input.specs.Separation as separation;
 
     /// A reader at the start of a text.
     pub fn new(mut input: T) -> Self
@@ -173,7 +186,7 @@ impl<T: Input> Reader<T> {
     // Takes off CR, and an LF behind it.
     #[inline(never)]
     fn skip_carriage_return(&mut self)
-        requires { slice_index (cursor_of self.old).rest 0 ≡ 13 }
+        requires { slice_index (cursor_of self.old).rest 0 ≡ carriage_return }
         ensures { cursor_of self.new ≡ spec.pass_break (cursor_of self.old) }
     {
         self.input.lookahead(2);
@@ -227,6 +240,9 @@ impl<T: Input> Reader<T> {
         requires { separation.IsRequest skip_tabs }
         ensures { GivesBy (spec.separation skip_tabs) self.old result self.new }
     {
+        if begins_no_separation(self.look()) {
+            return Ok(SkipTabs::Result(false, false));
+        }
         let (count, found) = self.input.skip_ws_to_eol(skip_tabs);
         self.mark = self.mark.along(count);
         if self.mark.col > 0 && is_bom(self.look()) {

@@ -1,6 +1,7 @@
 //! Laws: where the readers refuse a text. By them each refusal of a scanner has its place in the text.
 
 ghost use Rattle.std.specs.Prelude.{◌≡◌, ℕ, ◌<◌, Bool, false, length, Err, slice_index};
+ghost use Rattle.saphyr_input.specs.Indicators.{percent_sign};
 ghost use Rattle.saphyr_input.specs.Classes.{is_break};
 ghost use Rattle.saphyr_input.specs.declared.input.SkipTabs.{SkipTabs};
 ghost use Rattle.saphyr_scalar.specs.declared.scalar.fault.Refusal.{Refusal};
@@ -23,8 +24,8 @@ pub fn refuses_inside()
         → e.mark ≡ s.mark }
     ensures separation { (tabs : SkipTabs) (s : Cursor) (e : Refusal) → separation tabs s ≡ Err e
         → IsRefusedInside s e }
-    ensures directive { (s : Cursor) (e : Refusal) → slice_index s.rest 0 ≡ 37 → directive s ≡ Err e
-        → IsRefusedInside s e }
+    ensures directive { (s : Cursor) (e : Refusal) → slice_index s.rest 0 ≡ percent_sign
+        → directive s ≡ Err e → IsRefusedInside s e }
     ensures quoted { (quote : Quote) (indent : ℕ) (s : Cursor) (e : Refusal)
         → slice_index s.rest 0 ≡ flow.mark quote → quoted quote indent s ≡ Err e
         → IsRefusedInside s e }

@@ -1,6 +1,7 @@
 //! Tags, taken off a text, with their percent escapes decoded (YAML 1.2.2, 6.9.1 and 5.6).
 
 ghost use Rattle.std.specs.Prelude.{◌≡◌, ℕ, ◌+◌, ◌*◌, ◌<◌, ◌≤◌, ◌^◌, List, [], length, slice_index, string_bytes, Ok, IfOk, refl};
+ghost use Rattle.saphyr_input.specs.Indicators.{exclamation_mark};
 ghost use Rattle.saphyr_input.specs.Classes as class;
 ghost use Rattle.saphyr_input.specs.Places.{TransfersRun};
 ghost use Rattle.saphyr_scalar.specs.Steps.Quoted as run;
@@ -343,7 +344,7 @@ impl<T: Input> Reader<T> {
     /// blank, a break or the end behind it, or in flow a flow indicator.
     #[tactic(auto, unfolding(crate::specs::Steps::Tag::tag, crate::specs::Steps::Tag::tag_end))]
     pub fn read_tag(&mut self, alloc: Global, in_flow: bool) -> Result<TagParts, Stop>
-        requires { slice_index (cursor_of self.old).rest 0 ≡ 33 }
+        requires { slice_index (cursor_of self.old).rest 0 ≡ exclamation_mark }
         ensures { ReadsBy spec.seen_tag (spec.tag in_flow) self.old result self.new }
     {
         let start = self.mark;

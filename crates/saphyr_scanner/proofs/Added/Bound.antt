@@ -10,7 +10,7 @@ use Rattle.saphyr_scanner.specs.Views.Tokens.{Piece, Remaining}
 use Rattle.saphyr_scanner.specs.Steps.Queue.{Place}
 use Rattle.saphyr_scanner.specs.Steps.Core.{Core, drop_far_key, in_block, is_too_far}
 use Rattle.saphyr_scanner.specs.Steps.State.{State, start, carried}
-use Rattle.saphyr_scanner.specs.Steps.Fetch.{size, settled, needs_token, fetch, within, fetch_within}
+use Rattle.saphyr_scanner.specs.Steps.Fetch.{size, without_far_key, needs_token, fetch, within, fetch_within}
 use Rattle.saphyr_scanner.specs.Steps.Remaining.{before_place, hand_out, delivered, run, remaining, scan}
 use Rattle.saphyr_scanner.proofs.Effects.Readers.{Readers, ReaderEnds}
 use Rattle.saphyr_scanner.proofs.Effects.Fetch.{Fetched, read_fetched}
@@ -46,7 +46,7 @@ handed_counted m n go c others k (p ∷ ps) =
 abbrev IsWithin : ℕ → State → Type 0
 IsWithin limit s = s.core.cursor.mark.index ≤ limit
 
-drop_stays : (limit : ℕ) (s : State) → IsWithin limit s → Given (IsWithin limit) (settled s)
+drop_stays : (limit : ℕ) (s : State) → IsWithin limit s → Given (IsWithin limit) (without_far_key s)
 unfolding drop_far_key
 drop_stays limit s h =
     let P : Result Core Refusal → Type 0 = λ r. Given (IsWithin limit) (carried r s.queue) in
@@ -60,9 +60,9 @@ within_stays limit s =
     by_test (nat_le t.core.cursor.mark.index limit) _ _ (Given (IsWithin limit))
     (λ i. let j : t.core.cursor.mark.index ≤ limit = grind (arith, nat_tests) in j) (λ _. tt))
 
-read_stays : (limit : ℕ) (s : State) → Given (IsWithin limit) (fetch_within limit s >>= settled)
+read_stays : (limit : ℕ) (s : State) → Given (IsWithin limit) (fetch_within limit s >>= without_far_key)
 read_stays limit s =
-    given_bind (IsWithin limit) (fetch_within limit s) settled
+    given_bind (IsWithin limit) (fetch_within limit s) without_far_key
     (λ t e. drop_stays limit t (given_of (IsWithin limit) (fetch_within limit s) t (within_stays limit s) e))
 
 -- ## What comes
@@ -88,10 +88,10 @@ counts_on : (n limit : ℕ) (s t : State) → Grows s t → IsWithin limit t →
 counts_on n limit s t g w h =
     record { counted = let a = h.counted in let b = g.ahead.counted in omega (arith, a, b); limited = w }
 
-delivers : (n limit : ℕ) (s : State) (r : Result State Refusal) (go : State → Remaining) → Counts n limit s
+delivers_few : (n limit : ℕ) (s : State) (r : Result State Refusal) (go : State → Remaining) → Counts n limit s
     → ((t : State) → r ≡ Ok t → IsFew n limit s (go t)) → IsFew n limit s (delivered r go)
-delivers n limit s (Ok t) go h others = others t refl
-delivers n limit s (Err e) go h others = none_few n limit s h
+delivers_few n limit s (Ok t) go h others = others t refl
+delivers_few n limit s (Err e) go h others = none_few n limit s h
 
 run_few : Readers → ReaderEnds → (n limit fuel : ℕ) (s : State) → Counts n limit s → IsFew n limit s (run fuel limit s)
 run_few readers laws n limit zero s h = none_few n limit s h
@@ -101,10 +101,10 @@ run_few readers laws n limit (suc fuel) s h = handed (λ t. run_few readers laws
         → IsFew n limit (holding s.core ps k) (behind fuel limit (holding s.core ps k))
     here others k ps =
         let t : State = holding s.core ps k in
-        let r = fetch_within limit t >>= settled in
+        let r = fetch_within limit t >>= without_far_key in
         let w : Counts n limit t = record { counted = h.counted; limited = h.limited } in
         by_test t.core.ended _ _ (IsFew n limit t) (λ _. none_few n limit t w)
-        (λ i. delivers n limit t r (run fuel limit) w (λ u q.
+        (λ i. delivers_few n limit t r (run fuel limit) w (λ u q.
         let a = given_of (Fetched t) r u (read_fetched limit t i) q in
         read_few n limit t u (run fuel limit u) a.few (a.smaller readers)
         (others u (counts_on n limit t u (a.grows laws) (given_of (IsWithin limit) r u (read_stays limit t) q) w))))

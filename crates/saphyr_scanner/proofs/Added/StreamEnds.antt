@@ -9,7 +9,7 @@ use Rattle.saphyr_scanner.specs.Views.Tokens.{Piece, Remaining, none, before}
 use Rattle.saphyr_scanner.specs.Steps.Queue.{Place, closed, empty_piece}
 use Rattle.saphyr_scanner.specs.Steps.Core.{Core, drop_far_key}
 use Rattle.saphyr_scanner.specs.Steps.State.{State, start}
-use Rattle.saphyr_scanner.specs.Steps.Fetch.{size, settled, needs_token, fetch_within}
+use Rattle.saphyr_scanner.specs.Steps.Fetch.{size, without_far_key, needs_token, fetch_within}
 use Rattle.saphyr_scanner.specs.Steps.Remaining.{before_place, hand_out, delivered, run, remaining, scan}
 use Rattle.saphyr_scanner.specs.Ends.{EndsWithStream}
 use Rattle.saphyr_scanner.proofs.Effects.Readers.{Readers}
@@ -56,24 +56,25 @@ going_on go c others k (p ∷ ps) h =
     (λ _. place_before p.opening p.piece _ h.0 next)
 
 -- where the stream has ended all places are handed out
-ended : (go : State → Remaining) (c : Core) → c.ended ≡ true → ((k : ℕ) (ps : List Place) → go (holding c ps k) ≡ none)
+ended_hands_out : (go : State → Remaining) (c : Core) → c.ended ≡ true
+    → ((k : ℕ) (ps : List Place) → go (holding c ps k) ≡ none)
     → (k : ℕ) (front : List Place) (end : Piece) → PlacesGoOn front → end.kind ≡ tokens.StreamEnd
     → EndsWithStream (hand_out (front ++ closed end ∷ []) go (holding c (front ++ closed end ∷ []) k))
-ended go c over others k [] end h e =
+ended_hands_out go c over others k [] end h e =
     by_test (needs_token (holding c (closed end ∷ []) k)) _ _ EndsWithStream
     (λ n. absurd (let g = going c.ended _ n in cc))
     (λ _. let r = others (k + 1) [] in
     inr ([], end, tt, e, ap (λ (x : Remaining). end ∷ x.pieces) r, ap (λ (x : Remaining). x.refusal) r))
-ended go c over others k (p ∷ front) end h e =
-    let next = ended go c over others (k + 1) front end h.1 e in
+ended_hands_out go c over others k (p ∷ front) end h e =
+    let next = ended_hands_out go c over others (k + 1) front end h.1 e in
     by_test (needs_token (holding c (p ∷ (front ++ closed end ∷ [])) k)) _ _ EndsWithStream
     (λ n. absurd (let g = going c.ended _ n in cc))
     (λ _. place_before p.opening p.piece _ h.0 next)
 
-delivers : (r : Result State Refusal) (go : State → Remaining) → ((t : State) → r ≡ Ok t → EndsWithStream (go t))
+delivers_end : (r : Result State Refusal) (go : State → Remaining) → ((t : State) → r ≡ Ok t → EndsWithStream (go t))
     → EndsWithStream (delivered r go)
-delivers (Ok t) go h = h t refl
-delivers (Err e) go h = inl (e, refl, tt)
+delivers_end (Ok t) go h = h t refl
+delivers_end (Err e) go h = inl (e, refl, tt)
 
 run_ends : Readers → (limit fuel : ℕ) (s : State) → size s.core < fuel → Standing s → EndsWithStream (run fuel limit s)
 run_ends laws limit zero s f h = absurd (omega (arith, f))
@@ -87,14 +88,15 @@ run_ends laws limit (suc fuel) s f h = by s.core.ended refl (λ t. run_ends laws
         → EndsWithStream (hand_out s.queue.places go s)
     by true e others w =
         let P : List Place → Type 0 = λ ps. EndsWithStream (hand_out ps go (holding s.core ps s.queue.handed)) in
-        subst P (sym w.4) (ended go s.core e (λ k ps. cond-true s.core.ended none _ e) s.queue.handed w.0 w.1 w.2 w.3)
+        subst P (sym w.4) (ended_hands_out go s.core e (λ k ps. cond-true s.core.ended none _ e) s.queue.handed w.0 w.1
+        w.2 w.3)
     by false e others w =
         going_on go s.core
         (λ k ps h.
         let t : State = holding s.core ps k in
         by_test t.core.ended _ _ EndsWithStream (λ i. absurd (cc))
-        (λ i. delivers (fetch_within limit t >>= settled) (run fuel limit) (λ u q.
-        let a = given_of (Fetched t) (fetch_within limit t >>= settled) u (read_fetched limit t i) q in
+        (λ i. delivers_end (fetch_within limit t >>= without_far_key) (run fuel limit) (λ u q.
+        let a = given_of (Fetched t) (fetch_within limit t >>= without_far_key) u (read_fetched limit t i) q in
         let less = a.smaller laws in others u (omega (arith, less, f)) (a.stands h))))
         s.queue.handed s.queue.places w
 

@@ -16,7 +16,7 @@ use Rattle.saphyr_scanner.specs.Steps.Core.{Core, Put, in_block, remove_key, act
 use Rattle.saphyr_scanner.specs.Steps.Document as document
 use Rattle.saphyr_scanner.specs.Steps.Passing.{separate, with_cursor}
 use Rattle.saphyr_scanner.specs.Steps.Queue.{Queue}
-use Rattle.saphyr_scanner.specs.Steps.State.{State, carried, separated}
+use Rattle.saphyr_scanner.specs.Steps.State.{State, carried, on_core_with}
 use Rattle.saphyr_scanner.specs.Steps.Unrolling.{unroll}
 use Rattle.saphyr_scalar.specs.Alike.{AreDirectivesAlike, GiveAlike}
 use Rattle.saphyr_scalar.proofs.Breaks.Results.{both_then}
@@ -85,7 +85,7 @@ stream_same text c x q r t e =
     let w = unroll_same text None m k c x q r t e in
     let a = unroll None m (holding c q) in
     let b = unroll None k (holding (near_core x c) r) in (
-      of_cores text (λ d f. Cores text (document.finished d) (document.finished f)) a.core b.core w.0
+      of_cores text (λ d f. Cores text (document.core_at_end d) (document.core_at_end f)) a.core b.core w.0
           (λ y u. (y, refl, u)),
       put_same m m k k tokens.StreamEnd a.queue b.queue w.2,
     )))
@@ -107,9 +107,9 @@ three_of x k z (a ∷ b ∷ c ∷ t) e f g =
     let none : (y : ℕ) → (y == x) ≡ true → (y == 13) ≡ false = λ y h. ap (λ n. n == 13) (eqb-true y x h) ∙ k in
     (none a e, none b f, none c g)
 
-marked : (x : ℕ) → (x == 13) ≡ false → (0 == x) ≡ false → (t : List ℕ) (b : Bool)
+three_marks : (x : ℕ) → (x == 13) ≡ false → (0 == x) ≡ false → (t : List ℕ) (b : Bool)
     → ((slice_index t 0 == x) && (slice_index t 1 == x) && (slice_index t 2 == x) && b) ≡ true → Three t
-marked x k z t b e =
+three_marks x k z t b e =
     let p = and_parts ((slice_index t 0 == x) && (slice_index t 1 == x) && (slice_index t 2 == x)) b e in
     let q = and_parts ((slice_index t 0 == x) && (slice_index t 1 == x)) (slice_index t 2 == x) p.0 in
     let r = and_parts (slice_index t 0 == x) (slice_index t 1 == x) q.0 in
@@ -171,7 +171,7 @@ pub start_marker_same : (text : List ℕ) (c : Core) (x : Indexes) (q r : Queue)
     → GiveAlike (States text) (document.marker tokens.DocumentStart (holding c q))
     (document.marker tokens.DocumentStart (holding (near_core x c) r))
 start_marker_same text c x q r t e k =
-    marker_same text tokens.DocumentStart c x q r t e (marked 45 refl refl c.cursor.rest _ k)
+    marker_same text tokens.DocumentStart c x q r t e (three_marks 45 refl refl c.cursor.rest _ k)
 
 line_ends : (text : List ℕ) (k : SkipTabs) (c : Core) (x : Indexes) (q r : Queue) → Twin text c x → SameQueues q r
     → GiveAlike (States text) (document.end_line (k, holding c q)) (document.end_line (k, holding (near_core x c) r))
@@ -182,13 +182,13 @@ line_ends text k c x q r t e =
     (λ _. ((x, refl, t), e)) (λ _. refl)
 
 behind_marker : (text : List ℕ) (c : Core) (x : Indexes) (q r : Queue) → Laws text → Twin text c x → SameQueues q r
-    → GiveAlike (States text) (separated (separate c) (holding c q) >>= document.end_line)
-    (separated (separate (near_core x c)) (holding (near_core x c) r) >>= document.end_line)
+    → GiveAlike (States text) (on_core_with (separate c) (holding c q) >>= document.end_line)
+    (on_core_with (separate (near_core x c)) (holding (near_core x c) r) >>= document.end_line)
 behind_marker text c x q r laws t e = by (separate c) (separate (near_core x c)) (separate_alike text c x laws t)
   where
     by : (a b : Result (SkipTabs × Core) Refusal) → GiveAlike (Separated text) a b
-        → GiveAlike (States text) (separated a (holding c q) >>= document.end_line)
-        (separated b (holding (near_core x c) r) >>= document.end_line)
+        → GiveAlike (States text) (on_core_with a (holding c q) >>= document.end_line)
+        (on_core_with b (holding (near_core x c) r) >>= document.end_line)
     by (Ok a) (Ok b) h =
         let P : SkipTabs → Core → Type 0 = λ k d. GiveAlike (States text) (document.end_line (a.0, holding a.1 q))
         (document.end_line (k, holding d r)) in
@@ -203,10 +203,10 @@ pub end_marker_same : (text : List ℕ) (c : Core) (x : Indexes) (q r : Queue) �
 unfolding document.end_marker
 end_marker_same text c x q r laws t e k =
     both_then (States text) (States text) _ _ _ _
-    (marker_same text tokens.DocumentEnd c x q r t e (marked 46 refl refl c.cursor.rest _ k))
+    (marker_same text tokens.DocumentEnd c x q r t e (three_marks 46 refl refl c.cursor.rest _ k))
     (λ a b i j h. of_cores text (λ d f. GiveAlike (States text)
-    (separated (separate d) (holding d a.queue) >>= document.end_line)
-    (separated (separate f) (holding f b.queue) >>= document.end_line)) a.core b.core h.0
+    (on_core_with (separate d) (holding d a.queue) >>= document.end_line)
+    (on_core_with (separate f) (holding f b.queue) >>= document.end_line)) a.core b.core h.0
     (λ y u. behind_marker text a.core y a.queue b.queue laws u h.1))
 
 -- ## Byte order marks

@@ -10,7 +10,7 @@ use Rattle.saphyr_scalar.specs.Views.Cursor.{Cursor, ◌>>=◌}
 use Rattle.saphyr_scanner.specs.declared.engine.level.Context.TheVariants as context
 use Rattle.saphyr_scanner.specs.Grammar.Tokens as tokens
 use Rattle.saphyr_scanner.specs.Steps.Core.{Core, in_block, least_column, drop_far_key, at_mark}
-use Rattle.saphyr_scanner.specs.Steps.Fetch.{step, is_value_adjacent, state_behind_content, fetch_here, arrive, fetch, within, fetch_within, settled}
+use Rattle.saphyr_scanner.specs.Steps.Fetch.{step, is_value_adjacent, state_behind_content, fetch_here, arrive, fetch, within, fetch_within, without_far_key}
 use Rattle.saphyr_scanner.specs.Steps.Passing.{pass_gap}
 use Rattle.saphyr_scanner.specs.Steps.Queue.{Queue, next}
 use Rattle.saphyr_scanner.specs.Steps.State.{State, carried, acted}
@@ -172,22 +172,22 @@ within_same text limit c x q r short t e =
     (λ _. ((x, refl, t), e)) (λ _. refl)
 
 pub settled_same : (text : List ℕ) (c : Core) (x : Indexes) (q r : Queue) → Twin text c x → SameQueues q r
-    → GiveAlike (States text) (settled (holding c q)) (settled (holding (near_core x c) r))
+    → GiveAlike (States text) (without_far_key (holding c q)) (without_far_key (holding (near_core x c) r))
 settled_same text c x q r t e =
     carried_same text (drop_far_key c) (drop_far_key (near_core x c)) q r (drop_twin text c x t) e
 
 -- a token is read, and a candidate that is too far is dropped
 pub read_same : (text : List ℕ) (limit : ℕ) (c : Core) (x : Indexes) (q r : Queue) → Laws text → length text ≤ limit
     → Twin text c x → SameQueues q r
-    → GiveAlike (States text) (fetch_within limit (holding c q) >>= settled)
-    (fetch_within limit (holding (near_core x c) r) >>= settled)
+    → GiveAlike (States text) (fetch_within limit (holding c q) >>= without_far_key)
+    (fetch_within limit (holding (near_core x c) r) >>= without_far_key)
 unfolding fetch_within
 read_same text limit c x q r laws short t e =
-    both_then (States text) (States text) _ _ settled settled
+    both_then (States text) (States text) _ _ without_far_key without_far_key
     (both_then (States text) (States text) (fetch (holding c q)) (fetch (holding (near_core x c) r)) (within limit)
     (within limit) (fetch_same text c x q r laws t e)
     (λ a b i j h. of_cores text (λ d f. GiveAlike (States text) (within limit (holding d a.queue))
     (within limit (holding f b.queue))) a.core b.core h.0
     (λ y u. within_same text limit a.core y a.queue b.queue short u h.1)))
-    (λ a b i j h. of_cores text (λ d f. GiveAlike (States text) (settled (holding d a.queue))
-    (settled (holding f b.queue))) a.core b.core h.0 (λ y u. settled_same text a.core y a.queue b.queue u h.1))
+    (λ a b i j h. of_cores text (λ d f. GiveAlike (States text) (without_far_key (holding d a.queue))
+    (without_far_key (holding f b.queue))) a.core b.core h.0 (λ y u. settled_same text a.core y a.queue b.queue u h.1))

@@ -21,9 +21,9 @@ Passes text s i g h =
     (j : ℕ) × (h ≡ record { cursor = near j g.cursor; broke = g.broke }) × Ahead text s i g.cursor j ×
     (is_break (slice_index g.cursor.rest 0) ≡ false)
 
-further : (text : List ℕ) (s : Cursor) (i : ℕ) (t : Cursor) (j : ℕ) (r q : Result Passed Refusal)
+passes_from_ahead : (text : List ℕ) (s : Cursor) (i : ℕ) (t : Cursor) (j : ℕ) (r q : Result Passed Refusal)
     → Ahead text s i t j → GiveAlike (Passes text t j) r q → GiveAlike (Passes text s i) r q
-further text s i t j r q x h =
+passes_from_ahead text s i t j r q x h =
     both_so (Passes text t j) (Passes text s i) r q
     (λ g k p. (p.0, p.1, ahead_ahead text s i t j g.cursor p.0 x p.2, p.3)) h
 
@@ -75,37 +75,38 @@ all_gaps text least _ _ (character c {r = t} {q = n} ink w) m i blank broke tabb
       between =
           both_choose R (is_blank c || ((c == 13) && (slice_index t 0 == 10)))
           (is_blank c || ((c == 13) && (slice_index n 0 == 10))) _ _ _ _ (ap (λ b. is_blank c || b) (not_cut c t n e))
-          (λ _. further text _ _ _ _ _ _ on (more (is_tab_indentation least m blank c || tabbed)).between)
-          (λ _. both_choose R (is_break c) (is_break c) _ _ _ _ refl (λ _. further text _ _ _ _ _ _ line next.between)
+          (λ _. passes_from_ahead text _ _ _ _ _ _ on (more (is_tab_indentation least m blank c || tabbed)).between)
+          (λ _. both_choose R (is_break c) (is_break c) _ _ _ _ refl (λ _. passes_from_ahead text _ _ _ _ _ _ line
+          next.between)
           (λ k. both_choose R (c == 35) (c == 35) _ _ _ _ refl
-          (λ _. further text _ _ _ _ _ _ on (more tabbed).inside) (λ _. here k)));
+          (λ _. passes_from_ahead text _ _ _ _ _ _ on (more tabbed).inside) (λ _. here k)));
       inside =
           both_choose R (is_yaml_non_break c) (is_yaml_non_break c) _ _ _ _ refl
-          (λ _. further text _ _ _ _ _ _ on (more tabbed).inside)
+          (λ _. passes_from_ahead text _ _ _ _ _ _ on (more tabbed).inside)
           (λ _. both_choose R ((c == 13) && (slice_index t 0 == 10)) ((c == 13) && (slice_index n 0 == 10)) _ _ _ _
           (not_cut c t n e)
-          (λ _. further text _ _ _ _ _ _ on (more tabbed).between)
+          (λ _. passes_from_ahead text _ _ _ _ _ _ on (more tabbed).between)
           (λ _. both_choose R (is_break c) (is_break c) _ _ _ _ refl
-          (λ _. further text _ _ _ _ _ _ line next.between) here));
+          (λ _. passes_from_ahead text _ _ _ _ _ _ line next.between) here));
     }
 all_gaps text least _ _ (feed {r = t} {q = n} w) m i blank broke tabbed low x =
     let line = single_ahead text 10 10 t m i blank true refl (omega (arith, low)) x in
     let next = all_gaps text least t n w (next_line m 1) (i + 1) true true false (omega (arith, low))
     (ahead_stands text _ _ _ _ line) in
-    let h = further text _ _ _ _ _ _ line next.between in
+    let h = passes_from_ahead text _ _ _ _ _ _ line next.between in
     record { between = h; inside = h }
 all_gaps text least _ _ (pair {r = t} {q = n} w) m i blank broke tabbed low x =
     let line = two_ahead text t m i blank true (omega (arith, low)) x in
     let next = all_gaps text least t n w (line_from m (m.index + 1 + 1)) (i + 1) true true false
     (omega (arith, low)) (ahead_stands text _ _ _ _ line) in
-    let h = further text _ _ _ _ _ _ line next.between in
+    let h = passes_from_ahead text _ _ _ _ _ _ line next.between in
     record { between = h; inside = h }
 all_gaps text least _ _ (return {r = t} {q = n} e w) m i blank broke tabbed low x =
     let is : normalized (13 ∷ t) ≡ 10 ∷ normalized t = rw e refl in
     let line = single_ahead text 13 10 t m i blank true is (omega (arith, low)) x in
     let next = all_gaps text least t n w (next_line m 1) (i + 1) true true false (omega (arith, low))
     (ahead_stands text _ _ _ _ line) in
-    let h = further text _ _ _ _ _ _ line next.between in
+    let h = passes_from_ahead text _ _ _ _ _ _ line next.between in
     record { between = rw e h; inside = rw e h }
 
 pub gap_alike : (text : List ℕ) (least : ℕ) (s : Cursor) (i : ℕ) (broke tabbed : Bool) → Low s → Stand text s i

@@ -11,7 +11,7 @@ use Rattle.saphyr_scanner.specs.Views.Tokens.{Piece, Remaining}
 use Rattle.saphyr_scanner.specs.Steps.Queue.{Place, Queue, is_empty_list}
 use Rattle.saphyr_scanner.specs.Steps.Core.{Level, Core}
 use Rattle.saphyr_scanner.specs.Steps.State.{State, start}
-use Rattle.saphyr_scanner.specs.Steps.Fetch.{size, settled, needs_token, any_holds, is_place, holds}
+use Rattle.saphyr_scanner.specs.Steps.Fetch.{size, without_far_key, needs_token, any_holds, is_place, holds}
 use Rattle.saphyr_scanner.specs.Steps.Remaining.{before_place, hand_out, delivered, run, remaining, scan}
 use Rattle.saphyr_scanner.specs.SameKinds.{HaveSameKinds}
 use Rattle.saphyr_scanner.proofs.Filling.{read, less_read}
@@ -144,7 +144,7 @@ scans_same text laws readers limit short =
       line = 1;
       adjacent = even_here 1 0 0;
     } in
-    delivered_same text (settled s) (settled (start (normalized text))) _ _
+    delivered_same text (without_far_key s) (without_far_key (start (normalized text))) _ _
     (settled_same text s.core at_start s.queue s.queue t (record { places = tt; handed = refl }))
     (λ u v i j h. of_cores text (λ c d. HaveSameKinds (run (suc (size c)) limit (holding c u.queue))
     (run (suc (size d)) limit (holding d v.queue))) u.core v.core h.0

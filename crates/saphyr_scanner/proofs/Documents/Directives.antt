@@ -92,9 +92,9 @@ reads_as readers (Reserved name) t is =
 
 -- ## Directive lines
 
-begins : (t : List ℕ) → slice_index t 0 ≡ 37 → (r : List ℕ) × (t ≡ 37 ∷ r)
-begins [] h = absurd (cc)
-begins (c ∷ cs) h = (cs, ap (λ (x : ℕ). x ∷ cs) h)
+percent_sign_begins : (t : List ℕ) → slice_index t 0 ≡ 37 → (r : List ℕ) × (t ≡ 37 ∷ r)
+percent_sign_begins [] h = absurd (cc)
+percent_sign_begins (c ∷ cs) h = (cs, ap (λ (x : ℕ). x ∷ cs) h)
 
 line_count : (m : Marker) (t o : List ℕ) (limit : ℕ) → m.index + length (t ++ (10 ∷ o)) ≤ limit
     → m.index + length t + 1 + length o ≤ limit
@@ -107,15 +107,15 @@ not_none (c ∷ cs) o h e = cc
 wider : (l i n : ℕ) → l ≤ i + 1 → l ≤ i + n + 1
 wider l i n h = omega (arith, h)
 
-further : (i n : ℕ) → i ≤ i + n + 1
-further i n = omega arith
+index_behind_next : (i n : ℕ) → i ≤ i + n + 1
+index_behind_next i n = omega arith
 
 reads_directive : {limit : ℕ} {start : State} {ts : List Kind} (d : forest.Directive) (t o : List ℕ) → ReadsAs d t
     → Stands limit start true (Lined false (t ++ (10 ∷ o))) (t ++ (10 ∷ o)) ts
     → Stands limit start true (Lined false o) o (ts ++ directive_token d ∷ [])
 reads_directive {limit = limit} {start = start} {ts = ts} d t o h v =
     let col = at_line (t ++ (10 ∷ o)) v.mark v.line.0 (not_none t o h.first) in
-    let b = begins t h.first in
+    let b = percent_sign_begins t h.first in
     let n = next_line (along v.mark (length t)) 1 in
     let text : t ++ (10 ∷ o) ≡ 37 ∷ (b.0 ++ (10 ∷ o)) = ap (λ (x : List ℕ). x ++ (10 ∷ o)) b.1 in
     let here : past 0 v.mark (t ++ (10 ∷ o)) ≡ (v.mark, t ++ (10 ∷ o)) =
@@ -128,7 +128,7 @@ reads_directive {limit = limit} {start = start} {ts = ts} d t o h v =
     (reads_token v here (inl refl) (λ _. cursor_at o n true) false
     (piece_of v.mark (h.end v.mark) (directive_kind h.said)) fetched (Lined false o) n o (λ _. refl)
     (line_count v.mark t o limit v.count) (λ _. (inl refl, λ e. absurd (false≢true e)))
-    (further v.mark.index (length t))
+    (index_behind_next v.mark.index (length t))
     (one_lined (along v.mark (length t)) 10 (wider v.mark.line v.mark.index (length t) v.lined)))
 
 lines_text : (directive filler more y : List ℕ)

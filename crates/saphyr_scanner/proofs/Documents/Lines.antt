@@ -56,8 +56,8 @@ whole_line m rest o h =
     further : {n : ℕ} (i l : ℕ) → i + suc l ≡ n → i + 1 + l ≡ n
     further i l e = omega (arith, e)
 
-last_line : (m : Marker) (rest : List ℕ) → IsLineRest rest → EndsWithLine m (rest ++ []) []
-last_line m rest h = record {
+ends_with_last_line : (m : Marker) (rest : List ℕ) → IsLineRest rest → EndsWithLine m (rest ++ []) []
+ends_with_last_line m rest h = record {
   rest =
       rest;
   more = [];
@@ -78,7 +78,7 @@ last_line m rest h = record {
 pub eol : (m : Marker) (end o : List ℕ) → IsEol end o → EndsWithLine m (end ++ o) o
 eol m end o (inl h) = subst (λ (t : List ℕ). EndsWithLine m t o)
     (sym (ap (λ (x : List ℕ). x ++ o) h.2 ∙ append_assoc h.0 (10 ∷ []) o)) (whole_line m h.0 o h.1)
-eol m end o (inr h) = subst (λ (z : List ℕ). EndsWithLine m (end ++ z) z) (sym h.1) (last_line m end h.0)
+eol m end o (inr h) = subst (λ (z : List ℕ). EndsWithLine m (end ++ z) z) (sym h.1) (ends_with_last_line m end h.0)
 
 pub break_ends : (more : List ℕ) → EndsLine more → is_breakz (slice_index more 0) ≡ true
 break_ends more (inl e) = ap (λ (t : List ℕ). is_breakz (slice_index t 0)) e

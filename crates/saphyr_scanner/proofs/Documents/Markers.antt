@@ -17,7 +17,7 @@ use Rattle.saphyr_scanner.specs.Views.Tokens.{Piece}
 use Rattle.saphyr_scanner.specs.Steps.Queue.{Place, closed}
 use Rattle.saphyr_scanner.specs.Steps.Core.{Candidate, remove_key}
 use Rattle.saphyr_scanner.specs.Steps.Passing.{with_cursor}
-use Rattle.saphyr_scanner.specs.Steps.State.{separated}
+use Rattle.saphyr_scanner.specs.Steps.State.{on_core_with}
 use Rattle.saphyr_scanner.specs.Steps.State.{State}
 use Rattle.saphyr_scanner.specs.Steps.Unrolling.{unroll}
 use Rattle.saphyr_scanner.specs.Steps.Document.{end_content, marker, end_line, end_marker, state_behind_byte_order_mark}
@@ -66,8 +66,8 @@ start_here m blank r k a ad ps col h = rw (eq-eqb m.col 0 col, h) refl
 off_line : (n : ℕ) → (n + 3 == 0) ≡ false
 off_line n = grind (arith, nat_tests)
 
-further : (i n : ℕ) → i ≤ i + n
-further i n = omega arith
+index_behind : (i n : ℕ) → i ≤ i + n
+index_behind i n = omega arith
 
 pub start_count : (m : Marker) (r : List ℕ) (limit : ℕ) → m.index + length (45 ∷ 45 ∷ 45 ∷ r) ≤ limit
     → m.index + 3 + length r ≤ limit
@@ -88,7 +88,7 @@ reads_start {limit = limit} r v h =
     (piece_of v.mark (along v.mark 3) tokens.DocumentStart)
     (λ blank key allowed ad ps. start_here v.mark blank r key allowed ad ps col h) (BehindStart r) (along v.mark 3) r
     (λ _. refl) (start_count v.mark r limit v.count) (λ _. (off_line v.mark.col, or-false (crosses r)))
-    (further v.mark.index 3) (along_lined v.mark 3 v.lined)
+    (index_behind v.mark.index 3) (along_lined v.mark 3 v.lined)
 
 -- ## A byte order mark
 
@@ -117,7 +117,7 @@ reads_mark {limit = limit} r v =
     (piece_of v.mark (behind_mark v.mark) tokens.ByteOrderMark)
     (λ blank key allowed ad ps. mark_here v.mark blank r key allowed ad ps col) (Lined true r) (behind_mark v.mark) r
     (λ _. refl) (mark_count v.mark r limit v.count) (λ _. (inl col, λ _. inl (or-true (crosses r))))
-    (further v.mark.index 1) (along_lined v.mark 1 v.lined)
+    (index_behind v.mark.index 1) (along_lined v.mark 1 v.lined)
 
 -- ## `...`
 
@@ -137,7 +137,7 @@ end_here m n blank r more found k a ad ps col first is h =
     (ps ++ closed (piece_of m (along m 3) tokens.DocumentEnd) ∷ []) in
     let line : end_line (found, u) ≡ Ok u = rw h refl in
     rw (eq-eqb m.col 0 col, first)
-    (ap (λ q. separated (q >>= λ (x : SkipTabs × Cursor). Ok (x.0, with_cursor x.1 c)) t >>= end_line) is ∙ line)
+    (ap (λ q. on_core_with (q >>= λ (x : SkipTabs × Cursor). Ok (x.0, with_cursor x.1 c)) t >>= end_line) is ∙ line)
 
 pub end_ends : (r : List ℕ) → is_blank_or_breakz (slice_index r 0) ≡ true
     → IsTrue (is_document_indicator (46 ∷ 46 ∷ 46 ∷ r))

@@ -31,29 +31,29 @@ use Rattle.std.proofs.lemmas.Bool.{eq-eqb}
 
 -- ## Behind a comment that ended a plain scalar
 
-fails : (a b c d e f : Bool) → (d ≡ true) ⊎ (e ≡ true) → (a && b && c && not d && not e && f) ≡ false
-fails false b c d e f h = refl
-fails true false c d e f h = refl
-fails true true false d e f h = refl
-fails true true true true e f h = refl
-fails true true true false true f h = refl
-fails true true true false false f (inl e) = absurd (cc)
-fails true true true false false f (inr e) = absurd (cc)
+no_document_begins : (a b c d e f : Bool) → (d ≡ true) ⊎ (e ≡ true) → (a && b && c && not d && not e && f) ≡ false
+no_document_begins false b c d e f h = refl
+no_document_begins true false c d e f h = refl
+no_document_begins true true false d e f h = refl
+no_document_begins true true true true e f h = refl
+no_document_begins true true true false true f h = refl
+no_document_begins true true true false false f (inl e) = absurd (cc)
+no_document_begins true true true false false f (inr e) = absurd (cc)
 
-ends : (m : Marker) (y : List ℕ) → EndsDocument m y
+document_ends_by_test : (m : Marker) (y : List ℕ) → EndsDocument m y
     → (is_z (slice_index y 0) ≡ true) ⊎ (((m.col == 0) && is_document_indicator y) ≡ true)
-ends m y (inl e) = inl (ap (λ (t : List ℕ). is_z (slice_index t 0)) e)
-ends m y (inr h) = inr (rw (eq-eqb m.col 0 h.0) h.1)
+document_ends_by_test m y (inl e) = inl (ap (λ (t : List ℕ). is_z (slice_index t 0)) e)
+document_ends_by_test m y (inr h) = inr (rw (eq-eqb m.col 0 h.0) h.1)
 
 none_goes_on : (comment : Marker) (c : Core) → EndsDocument c.cursor.mark c.cursor.rest
     → goes_on_behind comment c ≡ false
 unfolding goes_on_behind
 none_goes_on comment c h =
-    fails (in_block c) (c.cursor.mark.line - comment.line == 1)
+    no_document_begins (in_block c) (c.cursor.mark.line - comment.line == 1)
     (if c.deeper then nat_lt c.indent c.cursor.mark.col else nat_le c.indent c.cursor.mark.col)
     (is_z (slice_index c.cursor.rest 0))
     ((c.cursor.mark.col == 0) && is_document_indicator c.cursor.rest) (can_be_plain false c.cursor.rest)
-    (ends c.cursor.mark c.cursor.rest h)
+    (document_ends_by_test c.cursor.mark c.cursor.rest h)
 
 none_less : 0 ≤ 0
 none_less = omega arith

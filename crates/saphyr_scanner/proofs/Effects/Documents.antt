@@ -16,7 +16,7 @@ use Rattle.saphyr_scanner.specs.Grammar.Tokens as tokens
 use Rattle.saphyr_scanner.specs.Grammar.Tokens.{Kind}
 use Rattle.saphyr_scanner.specs.Steps.Core.{Core, Step, from_to, up_to_here, perform, in_block, forget_key, remove_key, went}
 use Rattle.saphyr_scanner.specs.Steps.Passing.{separate, with_cursor}
-use Rattle.saphyr_scanner.specs.Steps.State.{State, carried, separated, acted}
+use Rattle.saphyr_scanner.specs.Steps.State.{State, carried, on_core_with, acted}
 use Rattle.saphyr_scanner.specs.Steps.Unrolling.{unroll}
 use Rattle.saphyr_scanner.specs.Steps.Document as document
 use Rattle.saphyr_scanner.specs.TokensTaken as taken
@@ -169,7 +169,7 @@ end_marker_walked s col e =
     by : (t : State) → Documented s t → Reaches s.core.cursor t.core.cursor → (r : Result (SkipTabs × Core) Refusal)
         → Walked (Premises s.core) (λ (x : SkipTabs × Core). Same t.core x.1 × OnLine t.core.cursor x.1.cursor)
         s.core.cursor r
-        → Walked (Premises s.core) (Documented s) s.core.cursor (separated r t >>= document.end_line)
+        → Walked (Premises s.core) (Documented s) s.core.cursor (on_core_with r t >>= document.end_line)
     by t d a (Ok x) h =
         let c = t.core.cursor in
         let u = x.1.cursor in

@@ -16,7 +16,7 @@ use Rattle.saphyr_scanner.specs.Steps.Passing.{pass_gap}
 use Rattle.saphyr_scanner.specs.Steps.State.{State, carried}
 use Rattle.saphyr_scanner.specs.Steps.Unrolling.{unroll}
 use Rattle.saphyr_scanner.specs.Steps.Document as document
-use Rattle.saphyr_scanner.specs.Steps.Fetch.{size, step, state_behind_content, fetch_here, arrive, begin, fetch, within, fetch_within, settled}
+use Rattle.saphyr_scanner.specs.Steps.Fetch.{size, step, state_behind_content, fetch_here, arrive, begin, fetch, within, fetch_within, without_far_key}
 use Rattle.saphyr_scanner.proofs.Steps.Choice.{cases}
 use Rattle.saphyr_scanner.proofs.Blocks.{unrolled_cursor}
 use Rattle.saphyr_scanner.proofs.Ordered.Queue.{Grows, grows_grows, core_grows, put_grows}
@@ -135,7 +135,7 @@ finish_fetched : (m : Marker) (s : State) → s.core.ended ≡ false → m.index
     → Fetched s (document.finish m s)
 finish_fetched m s going i = record {
   smaller = λ _. let e = flags s.core.ended false going in omega (arith, e);
-  grows = λ _. put_grows s m tokens.StreamEnd (document.finished s.core) refl i;
+  grows = λ _. put_grows s m tokens.StreamEnd (document.core_at_end s.core) refl i;
   stands = λ h. (s.queue.places, empty_piece m tokens.StreamEnd, h, refl, refl);
   few = let x = tokens_put s.queue.places (empty_piece m tokens.StreamEnd) in omega (arith, x);
 }
@@ -220,7 +220,7 @@ within_fetched limit s going =
     by_test (nat_le t.core.cursor.mark.index limit) _ _ (Given (Fetched s))
     (λ _. given_of (Fetched s) (fetch s) t (fetch_fetched s going) e) (λ _. tt))
 
-pub settled_advances : (s : State) → Given (Advances 0 s) (settled s)
+pub settled_advances : (s : State) → Given (Advances 0 s) (without_far_key s)
 settled_advances s =
     carried_advances s (drop_far_key s.core) (drop_goes 0 s.core.cursor s.core s.core (goes_none s.core))
 
@@ -237,8 +237,9 @@ dropped s t (Ok d) a g = record {
 }
 dropped s t (Err f) a g = tt
 
-pub read_fetched : (limit : ℕ) (s : State) → s.core.ended ≡ false → Given (Fetched s) (fetch_within limit s >>= settled)
+pub read_fetched : (limit : ℕ) (s : State) → s.core.ended ≡ false
+    → Given (Fetched s) (fetch_within limit s >>= without_far_key)
 read_fetched limit s going =
-    given_bind (Fetched s) (fetch_within limit s) settled (λ t e.
+    given_bind (Fetched s) (fetch_within limit s) without_far_key (λ t e.
     dropped s t (drop_far_key t.core) (given_of (Fetched s) (fetch_within limit s) t (within_fetched limit s going) e)
     (drop_goes 0 t.core.cursor t.core t.core (goes_none t.core)))

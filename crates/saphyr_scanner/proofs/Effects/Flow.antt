@@ -54,8 +54,9 @@ pub close_mapping : Bracket 125 tokens.FlowMappingEnd
 close_mapping =
     record { some = refl; unbroken = refl; quiet = refl; no_end = λ i. absurd (cc); is = λ i span s t h. inl h }
 
-comma : Bracket 44 tokens.FlowEntry
-comma = record { some = refl; unbroken = refl; quiet = refl; no_end = λ i. absurd (cc); is = λ i span s t h. h }
+comma_is_bracket : Bracket 44 tokens.FlowEntry
+comma_is_bracket =
+    record { some = refl; unbroken = refl; quiet = refl; no_end = λ i. absurd (cc); is = λ i span s t h. h }
 
 pub sequence_starts : IsStart tokens.FlowSequenceStart
 sequence_starts span l i s u h = (h.1, ap (λ t. begins_text (slice_index t 0)) h.0.0)
@@ -111,12 +112,12 @@ start_does i kind x b starts flows n c f =
 -- ## The end of a collection or an entry
 
 -- behind a bracket or a comma, and before it the end of a pair
-closed : (x : ℕ) (kind : Kind) → Bracket x kind → (b c : Core) (ends : Bool) → slice_index c.cursor.rest 0 ≡ x
+bracket_walked : (x : ℕ) (kind : Kind) → Bracket x kind → (b c : Core) (ends : Bool) → slice_index c.cursor.rest 0 ≡ x
     → (f : Core → Core) → ((e : Core) → Same e (f e) × ((f e).cursor ≡ e.cursor))
     → Walked (Premises b) (Doing None c) c.cursor
     (separate (pass_on 1 c) >>= λ e. went (flow.behind_pair ends c.cursor.mark (up_to_here c.cursor.mark kind e.1))
     (f e.1))
-closed x kind bracket b c ends first f alike =
+bracket_walked x kind bracket b c ends first f alike =
     walked_then (Premises b) _ (Doing None c) c.cursor (separate (pass_on 1 c)) _
     (separate_walked b c.cursor (pass_on 1 c) (λ _. passes x c.cursor (stands x kind c.cursor bracket first))) (λ e g.
     let u : Cursor = e.1.cursor in
@@ -150,7 +151,7 @@ end_does i kind b sequence c first =
     (λ l ls m.
     let d : Core = record c { level = l; outer = ls; key_allowed = false } in
     walked_map (Premises c) (Doing None d) (Doing None c) c.cursor _ (λ x k. and_then (λ n. n) m k)
-    (closed i kind b c d ends first flow.allow_adjacent adjacent_same)))
+    (bracket_walked i kind b c d ends first flow.allow_adjacent adjacent_same)))
 
 entry_block : (x : Context) → is_block (flow.behind_entry x) ≡ is_block x
 entry_block context.Block = refl
@@ -167,5 +168,5 @@ entry_does c first =
     (λ x k. and_then (λ n. n)
     (lesser c d (record { block = entry_block c.level.context; key = inr refl }) refl (λ n. n)
     (taken.nothing c.cursor.mark c.cursor.rest)) k)
-    (closed 44 tokens.FlowEntry comma c d (flow.ends_pair c.level.context) first (λ e. e)
+    (bracket_walked 44 tokens.FlowEntry comma_is_bracket c d (flow.ends_pair c.level.context) first (λ e. e)
     (λ e. (same e, refl))))

@@ -3,9 +3,9 @@
 -- text.
 use Rattle.std.proofs.Common.{◌≡◌, ℕ, ◌+◌, ◌≤◌, ◌⊎◌, Bool, true, false, List, [], ◌∷◌, ◌++◌, length, Option, Some, None}
 use Rattle.std.proofs.Common.{refl, sym, ap, ◌∙◌, arith, subst, inl, inr}
-use Rattle.saphyr_scalar.specs.Views.Cursor.{Cursor, separation}
+use Rattle.saphyr_scalar.specs.Views.Cursor.{Cursor}
 use Rattle.saphyr_scanner.specs.declared.engine.level.Context.{Context}
-use Rattle.saphyr_scanner.specs.Steps.Queue.{Queue, put, next}
+use Rattle.saphyr_scanner.specs.Steps.Queue.{Queue, next}
 use Rattle.saphyr_scanner.specs.Steps.Core.{Candidate, Level, Core, Action, Put, Open, act, perform, is_block}
 use Rattle.saphyr_scanner.specs.Steps.Core.{in_block, at_root}
 use Rattle.saphyr_scanner.specs.Steps.Flow as flow

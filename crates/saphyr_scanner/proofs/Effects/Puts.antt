@@ -4,7 +4,7 @@ use Rattle.std.proofs.Common.{refl, sym, ap, arith, subst, inl, inr, IsTrue}
 use Rattle.std.specs.Prelude.{◌==◌, slice_index}
 use Rattle.saphyr_input.specs.Classes.{is_break}
 use Rattle.saphyr_scalar.specs.declared.scalar.position.Span.{Span}
-use Rattle.saphyr_scalar.specs.Views.Cursor.{Cursor, pass, separation}
+use Rattle.saphyr_scalar.specs.Views.Cursor.{Cursor, pass}
 use Rattle.saphyr_scanner.specs.declared.queue.Opening.{Opening}
 use Rattle.saphyr_scanner.specs.declared.queue.Opening.TheVariants as opening
 use Rattle.saphyr_scanner.specs.Grammar.Tokens.{Kind}

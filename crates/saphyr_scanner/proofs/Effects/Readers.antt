@@ -1,4 +1,4 @@
--- The laws of the readers, as they are called: what each takes off, where it ends what it reads, what that is, and
+-- The laws of the readers, as they are called: where each ends what it reads, what that is, and
 -- where it refuses, from a text that begins with its indicator.
 use Rattle.std.proofs.Common.{◌≡◌, ℕ, ◌+◌, ◌≤◌, ◌<◌, ◌⊎◌, Bool, true, false, List, ◌∷◌, ◌++◌, length, Ok, Err}
 use Rattle.std.specs.Prelude.{slice_index, Option, encode_utf8_all}
@@ -7,7 +7,6 @@ use Rattle.saphyr_input.specs.Places.{is_blank_or_break}
 use Rattle.saphyr_input.specs.declared.input.SkipTabs.{SkipTabs}
 use Rattle.scalar_values.specs.declared.block.BlockStyle.{BlockStyle}
 use Rattle.scalar_values.specs.declared.flow.Quote.{Quote}
-use Rattle.scalar_values.specs.declared.flow.Quote.TheVariants.{Single, Double}
 use Rattle.scalar_values.specs.declared.folding.Item.{Item}
 use Rattle.scalar_values.specs.Flow.{mark}
 use Rattle.scalar_values.specs.Folding.{folded}
@@ -31,39 +30,10 @@ use Rattle.saphyr_scalar.specs.Steps.Plain as words
 use Rattle.saphyr_scalar.specs.Steps.Quoted as quoted
 use Rattle.saphyr_scalar.specs.Steps.Quoted.{at}
 use Rattle.saphyr_scalar.specs.Steps.Tag as tags
+pub use Rattle.saphyr_scanner.specs.TakenOff.{Less, Readers}
 use Rattle.saphyr_scanner.specs.TokensTaken as taken
 use Rattle.saphyr_scanner.proofs.Counted.{Ahead}
 use Rattle.saphyr_scanner.proofs.Taken.Later.{top}
-
--- ## What is taken off
-
-abbrev pub Less : Cursor → Cursor → Type 0
-Less t s = length t.rest < length s.rest
-
--- what each takes off
-pub record Readers : Type 0 where
-  pub plain : (in_flow : Bool) (indent : ℕ) (s t : Cursor) (text : List ℕ) (end : Marker) (comment : Option Marker)
-      → words.plain in_flow indent s ≡ Ok (text, end, comment, t) → Less t s
-  pub double_quoted : (indent : ℕ) (s t : Cursor) (text : List ℕ) → slice_index s.rest 0 ≡ 34
-      → quoted.double_quoted indent s ≡ Ok (text, t) → Less t s
-  pub single_quoted : (indent : ℕ) (s t : Cursor) (text : List ℕ) → slice_index s.rest 0 ≡ 39
-      → quoted.single_quoted indent s ≡ Ok (text, t) → Less t s
-  pub block_scalar : (style : BlockStyle) (indent : ℕ) (s t : Cursor) (text : List ℕ) (span : Span) → 0 < length s.rest
-      → blocks.block_scalar style indent s ≡ Ok (text, span, t) → Less t s
-  pub name : (s t : Cursor) (text : List ℕ) → 0 < length s.rest → anchors.anchor s ≡ Ok (text, t) → Less t s
-  pub tag : (in_flow : Bool) (s t : Cursor) (handle suffix : List ℕ) → slice_index s.rest 0 ≡ 33
-      → tags.tag in_flow s ≡ Ok (handle, suffix, t) → Less t s
-  pub directive : (s t : Cursor) (d : ReadDirective) (end : Marker) → slice_index s.rest 0 ≡ 37
-      → directives.directive s ≡ Ok (d, end, t) → Less t s
-
--- the laws as they are called: those of quoted scalars are one
-pub quoted_laws : ((quote : Quote) (indent : ℕ) (s t : Cursor) (text : List ℕ) → slice_index s.rest 0 ≡ mark quote
-    → quoted.quoted quote indent s ≡ Ok (text, t) → Less t s)
-    → ((indent : ℕ) (s t : Cursor) (text : List ℕ) → slice_index s.rest 0 ≡ 34
-    → quoted.double_quoted indent s ≡ Ok (text, t) → Less t s)
-    × ((indent : ℕ) (s t : Cursor) (text : List ℕ) → slice_index s.rest 0 ≡ 39
-    → quoted.single_quoted indent s ≡ Ok (text, t) → Less t s)
-quoted_laws law = (law Double, law Single)
 
 -- ## Where it ends
 

@@ -188,11 +188,12 @@ no_sign s t text end r = by r.piece r.front r.closes r.is (spelled_start s.mark 
     by [] (x ∷ xs) e is n k = absurd (cc)
     by (c ∷ cs) front e is n k = n (sym (ap (λ l. slice_index l 0) is) ∙ k)
 
-begins : (x : ℕ) → (x == 44) ≡ false → (x == 91) ≡ false → (x == 93) ≡ false → (x == 123) ≡ false → (x == 125) ≡ false
+no_indicator_begins_plain : (x : ℕ) → (x == 44) ≡ false → (x == 91) ≡ false → (x == 93) ≡ false → (x == 123) ≡ false
+    → (x == 125) ≡ false
     → (x == 35) ≡ false → (x == 38) ≡ false → (x == 42) ≡ false → (x == 33) ≡ false → (x == 39) ≡ false
     → (x == 34) ≡ false → (x == 37) ≡ false → (x == 64) ≡ false → (x == 96) ≡ false
     → may_begin_plain x ≡ true
-begins x a b c d e f g h i j k l m n = rw (a, b, c, d, e, f, g, h, i, j, k, l, m, n) refl
+no_indicator_begins_plain x a b c d e f g h i j k l m n = rw (a, b, c, d, e, f, g, h, i, j, k, l, m, n) refl
 
 no_second : (b x y z : Bool) → (x && b) ≡ false → (y && b) ≡ false → (z && b) ≡ false
     → (x || (y || (z || false))) ≡ true → b ≡ false
@@ -210,7 +211,7 @@ plain_start first second c f g n =
     let v = or_parts (first == 37) (first == 64) w.0 in
     record {
       other = λ no_sign. ap may_begin_plain f
-          ∙ begins first n.comma n.sequence n.sequence_end n.mapping n.mapping_end
+          ∙ no_indicator_begins_plain first n.comma n.sequence n.sequence_end n.mapping n.mapping_end
           (ne_eqb first 35 (λ s. no_sign (f ∙ s))) n.anchor n.alias n.tag n.single n.double v.0 v.1 w.1;
       no_indicator = λ s. ap is_blank_or_breakz g
           ∙ no_second (is_blank_or_breakz second) (first == 45) (first == 63) (first == 58) n.dash n.question n.colon

@@ -8,7 +8,7 @@ use Rattle.saphyr_scanner.specs.Grammar.Tokens as tokens
 use Rattle.saphyr_scanner.specs.Grammar.Tokens.{Kind}
 use Rattle.saphyr_scanner.specs.Steps.Queue.{empty_piece}
 use Rattle.saphyr_scanner.specs.Steps.Core.{Core, Steps, at_mark, in_block}
-use Rattle.saphyr_scanner.specs.Steps.State.{State, carried, changed, acting, acted}
+use Rattle.saphyr_scanner.specs.Steps.State.{State, carried, with_core, with_action, acted}
 use Rattle.saphyr_scanner.specs.Steps.Unrolling.{unroll, end_blocks, end_block, is_right_of, outwards, less_deep}
 use Rattle.saphyr_scanner.proofs.Blocks.{block_cursor, less_deep_cursor}
 use Rattle.saphyr_scanner.proofs.Ordered.Queue.{Grows, grows_grows, core_grows, performed, put_grows}
@@ -39,17 +39,12 @@ advances_advances k l s t u a b = record {
   few = let x = a.few in let y = b.few in omega (arith, x, y);
 }
 
-onward : (k l : ℕ) (s t : State) (r : Result State Refusal) → Advances k s t → Given (Advances l t) r
-    → Given (Advances (k + l) s) r
-onward k l s t (Ok u) a b = advances_advances k l s t u a b
-onward k l s t (Err e) a b = tt
-
 -- the queue stays as it is
 pub carried_advances : (s : State) (r : Result Core Refusal) → Given (Goes 0 s.core.cursor s.core) r
     → Given (Advances 0 s) (carried r s.queue)
 carried_advances s (Ok d) g = record {
   less = λ _. omega (arith, g.0.later, g.0.counted);
-  grows = λ _. core_grows s (changed d s) g.0 refl;
+  grows = λ _. core_grows s (with_core d s) g.0 refl;
   started = g.1.0;
   ended = g.1.1;
   goes_on = λ h. h;
@@ -91,7 +86,7 @@ is_open column (suc n) e = refl
 -- the token of its end was due
 end_advances : (m : Marker) (s : State) (d : Core) → m.index ≡ s.core.cursor.mark.index → d.cursor ≡ s.core.cursor
     → d.started ≡ s.core.started → d.ended ≡ s.core.ended → open_blocks d + 1 ≤ open_blocks s.core
-    → Advances 0 s (acting (at_mark m tokens.BlockEnd) (changed d s))
+    → Advances 0 s (with_action (at_mark m tokens.BlockEnd) (with_core d s))
 end_advances m s d i e b f fewer = record {
   less = λ _. let l = ap (λ (c : Cursor). length c.rest) e in omega (arith, l);
   grows = λ _. put_grows s m tokens.BlockEnd d e i;
@@ -106,7 +101,7 @@ block_advances : (m : Marker) (s : State) → m.index ≡ s.core.cursor.mark.ind
 block_advances m s i e = at s.core.outer_indents refl
   where
     at : (is : List ℕ) → s.core.outer_indents ≡ is
-        → Advances 0 s (changed (outwards is s.core) (acting (at_mark m tokens.BlockEnd) s))
+        → Advances 0 s (with_core (outwards is s.core) (with_action (at_mark m tokens.BlockEnd) s))
     at [] l = end_advances m s (outwards [] s.core) i refl refl refl (omega (arith, e))
     at (x ∷ is) l =
         end_advances m s (outwards (x ∷ is) s.core) i refl refl refl
@@ -135,7 +130,7 @@ pub unroll_advances : (column : Option ℕ) (m : Marker) (s : State) → m.index
     → Advances 0 s (unroll column m s)
 unfolding unroll
 unroll_advances column m s i =
-    let t : State = changed (less_deep column s.core) s in
+    let t : State = with_core (less_deep column s.core) s in
     by_test (in_block s.core) _ _ (Advances 0 s)
     (λ _. advances_advances 0 0 s t _ (carried_advances s (Ok (less_deep column s.core)) (less_deep_goes column s.core))
     (blocks_advance column m s.core.outer_indents t

@@ -77,9 +77,9 @@ key_same c d o s e = ap (λ (l : Level). l.key) (sym s.0) ∙ e
 -- ## The colon
 
 -- from e, which stands before the colon
-colon : (e d : Core) (u : Cursor) → slice_index e.cursor.rest 0 ≡ 58 → AreApart (pass 1 e.cursor) u
+colon_does : (e d : Core) (u : Cursor) → slice_index e.cursor.rest 0 ≡ 58 → AreApart (pass 1 e.cursor) u
     → Same e d → d.cursor ≡ u → Does None 1 1 e d (at_mark e.cursor.mark tokens.Value ∷ [])
-colon e d u first a s there =
+colon_does e d u first a s there =
     let later = apart_later (pass 1 e.cursor).mark (pass 1 e.cursor).rest u.mark u.rest a in
     and_then (λ n. n)
     (quiet 1 e (empty_piece e.cursor.mark tokens.Value) u refl (λ i. absurd (cc))
@@ -101,7 +101,7 @@ key_does b c d k begins first g flows is =
     let alone : (o : Opening) → opens_block o ≡ false
     → Does None 1 5 c (Into false) (Open k.place o ∷ at_mark s.mark tokens.Value ∷ []) =
     λ o e. at_most (omega arith) (and_then (λ n. n) (key_opens c k o e known)
-    (colon (forget_key c) (Into false) u first g.1 (same_forgotten c d g.0) refl)) in
+    (colon_does (forget_key c) (Into false) u first g.1 (same_forgotten c d g.0) refl)) in
     by_test (begins && nat_lt k.mark.line s.mark.line) _ _ (Walked (Premises b) (Doing None c) s) (λ _ _. at_here s)
     (λ _. by_bool (is_further k.mark.col d)
     (λ f. Does None 1 5 c (Into f) (Open k.place (if begins then opening.FlowMappingAndKey else if f then
@@ -111,7 +111,7 @@ key_does b c d k begins first g flows is =
     (λ o. Does None 1 5 c (Into true) (Open k.place o ∷ at_mark s.mark tokens.Value ∷ []))
     (λ e. absurd (let no = flows e in cc))
     (λ _. and_then (λ n. n) (mapping_opens c k (block_same c d g.0 inside) known)
-    (colon (forget_key (enter_block k.mark.col c)) (Into true) u first g.1
+    (colon_does (forget_key (enter_block k.mark.col c)) (Into true) u first g.1
     (same_forgotten (enter_block k.mark.col c) (enter_block k.mark.col d) (same_blocks k.mark.col c d g.0)) refl)))
     (λ _. by_test begins opening.FlowMappingAndKey opening.Key
     (λ o. Does None 1 5 c (Into false) (Open k.place o ∷ at_mark s.mark tokens.Value ∷ []))
@@ -137,9 +137,9 @@ alone_does b c d begins first g none =
     and_then (λ n. n)
     (block_begins c tokens.BlockMappingStart (λ i. absurd (cc)) (λ i p v t h. h) (λ x y. refl)
     (block_same c d g.0 (further_block column d f)) (ap taken.begins_text first))
-    (colon (forget_key (enter_block column c)) (Into true) u first g.1
+    (colon_does (forget_key (enter_block column c)) (Into true) u first g.1
     (no_key d.level none ∙ ap (λ (l : Level). record { context = l.context; key = None }) g.0.0, r.1, r.2) refl))
-    (λ _. at_most (omega arith) (colon c (Into false) u first g.1 g.0 refl)) in
+    (λ _. at_most (omega arith) (colon_does c (Into false) u first g.1 g.0 refl)) in
     by_test (in_block d && not d.key_allowed) _ _ (Walked (Premises b) (Doing None c) s) (λ _ _. at_here s)
     (λ _. by_bool begins
     (λ f. Does None 1 5 c (Into (is_further column d))

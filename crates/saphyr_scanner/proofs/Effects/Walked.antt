@@ -54,10 +54,10 @@ pub walked_given : {X : Type 0} → (A : Type 0) (P Q : X → Type 0) (s : Curso
 walked_given A P Q s (Ok x) go h = go x h
 walked_given A P Q s (Err e) go h = tt
 
-weaker : {m n : Option ℕ} {k v w : ℕ} {c d : Core} {actions : List Action} → v ≤ w
+does_weaker : {m n : Option ℕ} {k v w : ℕ} {c d : Core} {actions : List Action} → v ≤ w
     → ((h : ℕ) → IsBefore h n → IsBefore h m) → ((q : Queue) → IsNext n c q → IsNext m c q)
     → Does m k v c d actions → Does n k w c d actions
-weaker {m} {n} {k} {v} {w} {c} {d} {actions} l before there a = record {
+does_weaker {m} {n} {k} {v} {w} {c} {d} {actions} l before there a = record {
   less = a.less;
   ahead = a.ahead;
   puts = a.puts;
@@ -73,7 +73,7 @@ weaker {m} {n} {k} {v} {w} {c} {d} {actions} l before there a = record {
 -- at most so many become due
 pub at_most : {n : Option ℕ} {k v w : ℕ} {c d : Core} {actions : List Action} → v ≤ w → Does n k v c d actions
     → Does n k w c d actions
-at_most l a = weaker l (λ h i. i) (λ q i. i) a
+at_most l a = does_weaker l (λ h i. i) (λ q i. i) a
 
 -- a character at least is taken off, and five tokens at most become due
 abbrev pub Doing : Option ℕ → Core → Step → Type 0
@@ -112,7 +112,7 @@ pub unsaved_step : (A : Type 0) (n : ℕ) (c : Core) (s : Cursor) (r : Steps) �
     → Walked A (Stepped n c) s r
 unsaved_step A n c s r h =
     walked_step A n c s r (walked_map A (Doing None c) (Doing (Some n) c) s r
-    (λ x d. weaker (omega arith) (λ i b. tt) (λ q i. tt) d) h)
+    (λ x d. does_weaker (omega arith) (λ i b. tt) (λ q i. tt) d) h)
 
 -- ## What is passed
 

@@ -7,8 +7,8 @@ use Rattle.saphyr_scanner.specs.Examples.Forests.{json_text, json_forest, json_a
 unescaped : IsUnescaped 97
 unescaped = (inl (omega arith), omega arith, (λ e. omega arith), (λ e. omega arith))
 
-name : IsString (codes "a") (codes "\"a\"")
-name = (codes "a", (codes "a", [], inl (unescaped, refl), refl, refl), refl)
+name_is_string : IsString (codes "a") (codes "\"a\"")
+name_is_string = (codes "a", (codes "a", [], inl (unescaped, refl), refl, refl), refl)
 
 number : IsJsonNumber (codes "1")
 number = ([], codes "1", [], [], inl refl, inr (49, [], (omega arith, omega arith), tt, refl), inl refl, inl refl, refl)
@@ -38,7 +38,7 @@ object = (
   codes "}",
   refl,
   ([], [], tt, tt, refl),
-  (codes "\"a\"", codes ":", codes "[1,true]", [], (refl, name), ([], [], tt, tt, refl), array, refl, refl),
+  (codes "\"a\"", codes ":", codes "[1,true]", [], (refl, name_is_string), ([], [], tt, tt, refl), array, refl, refl),
   ([], [], tt, tt, refl),
   refl,
 )

@@ -23,11 +23,11 @@ still m _ n u (blank _ c t _ _ h s) x y z = cc
 still m t n u (line_break _ _ _ _ h s) x y z = cc
 still m _ n u (comment _ words t _ _ h g s) x y z = absurd (z refl)
 
-stays :
+refusal_stays :
     (m : Marker) (t : List ℕ) (n : Marker) (u : List ℕ) (c : ℕ) (cs : List ℕ) → IsPassedOver m t n u → t ≡ c ∷ cs
     → is_blank c ≡ false → is_break c ≡ false → c ≢ 35
     → (n ≡ m) × (u ≡ c ∷ cs)
-stays m t n u c cs s e x y z =
+refusal_stays m t n u c cs s e x y z =
     let f : slice_index t 0 ≡ c = ap (λ v. slice_index v 0) e in
     let r = still m t n u s (ap (λ v. is_blank v) f ∙ x) (ap (λ v. is_break v) f ∙ y) (λ d. z (sym f ∙ d)) in
     (r.0, r.1 ∙ e)
@@ -36,11 +36,12 @@ stays m t n u c cs s e x y z =
 
 pub dropped_word : AreTakenFrom (codes "[a]") texts.dropped_word → ⊥
 dropped_word (end, (here, behind, apart, (x, y, is), (h, b, a, ((e, m), s, o), (i, d, f, ((g, n), r, q), rest))), fin) =
-    let first : here.rest ≡ codes "[a]" = (stays _ _ _ _ 91 (codes "a]") apart refl refl refl (λ v. omega arith)).1 in
+    let first : here.rest ≡ codes "[a]"
+    = (refusal_stays _ _ _ _ 91 (codes "a]") apart refl refl refl (λ v. omega arith)).1 in
     let second : h.rest ≡ codes "[a]" =
-    (stays _ _ _ _ 91 (codes "a]") a (ap (λ v. v.rest) is ∙ first) refl refl (λ v. omega arith)).1 in
+    (refusal_stays _ _ _ _ 91 (codes "a]") a (ap (λ v. v.rest) is ∙ first) refl refl (λ v. omega arith)).1 in
     let third : b.rest ≡ codes "a]" = tails 91 91 b.rest (codes "a]") (sym e ∙ second) in
-    let fourth : i.rest ≡ codes "a]" = (stays _ _ _ _ 97 (codes "]") f third refl refl (λ v. omega arith)).1 in
+    let fourth : i.rest ≡ codes "a]" = (refusal_stays _ _ _ _ 97 (codes "]") f third refl refl (λ v. omega arith)).1 in
     let z : 97 ≡ 93 = heads 93 97 d.rest (codes "]") (sym g ∙ fourth) in
     omega (arith, z)
 
@@ -62,9 +63,9 @@ no_value (c ∷ d ∷ cs) others front last e f g =
 
 pub other_value : AreTakenFrom (codes "a") texts.other_value → ⊥
 other_value (end, (here, behind, apart, (x, y, is), (h, b, a, scalar, rest)), fin) =
-    let first : here.rest ≡ codes "a" = (stays _ _ _ _ 97 [] apart refl refl refl (λ v. omega arith)).1 in
+    let first : here.rest ≡ codes "a" = (refusal_stays _ _ _ _ 97 [] apart refl refl refl (λ v. omega arith)).1 in
     let second : h.rest ≡ codes "a" =
-    (stays _ _ _ _ 97 [] a (ap (λ v. v.rest) is ∙ first) refl refl (λ v. omega arith)).1 in
+    (refusal_stays _ _ _ _ 97 [] a (ap (λ v. v.rest) is ∙ first) refl refl (λ v. omega arith)).1 in
     let r = scalar.reading in
     no_value r.piece (r.white ++ b.rest) r.front r.last (sym second ∙ r.is) r.closes r.value
 
@@ -72,8 +73,8 @@ other_value (end, (here, behind, apart, (x, y, is), (h, b, a, scalar, rest)), fi
 
 pub other_start : AreTakenFrom (codes "[]") texts.other_start → ⊥
 other_start (end, (here, behind, apart, (x, y, is), (h, b, a, (c, start, o), rest)), fin) =
-    let first = stays _ _ _ _ 91 (codes "]") apart refl refl refl (λ v. omega arith) in
-    let second = stays _ _ _ _ 91 (codes "]") a (ap (λ v. v.rest) is ∙ first.1) refl refl (λ v. omega arith) in
+    let first = refusal_stays _ _ _ _ 91 (codes "]") apart refl refl refl (λ v. omega arith) in
+    let second = refusal_stays _ _ _ _ 91 (codes "]") a (ap (λ v. v.rest) is ∙ first.1) refl refl (λ v. omega arith) in
     let same : marker_at 1 1 1 ≡ marker_at 0 1 0 = start ∙ second.0 ∙ ap (λ v. v.mark) is ∙ first.0 in
     let z : 1 ≡ 0 = ap (λ v. v.index) same in
     omega (arith, z)

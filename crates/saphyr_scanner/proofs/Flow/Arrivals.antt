@@ -7,14 +7,14 @@ use Rattle.saphyr_scalar.specs.declared.scalar.position.Marker.{Marker}
 use Rattle.saphyr_scalar.specs.Views.Cursor.{Cursor, ◌>>=◌}
 use Rattle.saphyr_scanner.specs.declared.engine.level.Context.{Context}
 use Rattle.saphyr_scanner.specs.Steps.Gap.{Passed, stop}
-use Rattle.saphyr_scanner.specs.Steps.Queue.{Place, Queue}
+use Rattle.saphyr_scanner.specs.Steps.Queue.{Queue}
 use Rattle.saphyr_scanner.specs.Steps.Core.{Candidate, Level, Action, perform, went, is_block, drop_far_key}
 use Rattle.saphyr_scanner.specs.Steps.Passing.{pass_gap, check_comment, behind_gap}
 use Rattle.saphyr_scanner.specs.Steps.State.{State, carried, acted}
 use Rattle.saphyr_scanner.specs.Steps.Unrolling.{unroll}
 use Rattle.saphyr_scanner.specs.Steps.Fetch.{step, state_behind_content, fetch_here, arrive, fetch}
 use Rattle.saphyr_scanner.proofs.Json.States.{queue_of, none_before, stop_here}
-use Rattle.saphyr_scanner.proofs.InFlow.States.{Around, core_at, state_at, least, least_low, not_left, drops, key_left, left_in_flow, left_or_none, none_unrolls, Deepens, Comes, comes}
+use Rattle.saphyr_scanner.proofs.InFlow.States.{Around, core_at, state_at, least, least_low, not_left, drops_far_key, key_left, left_in_flow, left_or_none, none_unrolls, Deepens, Comes, comes, FlowMoment}
 use Rattle.saphyr_scanner.proofs.Flow.States.{crosses, past, is_filler_rest}
 use Rattle.saphyr_scanner.proofs.Flow.Gaps.{gap_past, no_tab_before}
 use Rattle.saphyr_scanner.proofs.Flow.GapSteps.{past_count}
@@ -59,39 +59,39 @@ passes_gap around s x k ls a ad m y here inked =
     none_less n = omega arith
 
 -- the text y begins with the next token, which stands at m
-pub record Arrives (around : Around) (s : Cursor) (x : Context) (k : Option Candidate) (ls : List Level) (a : Bool)
-    (ad : ℕ) (ps : List Place) (m : Marker) (y : List ℕ) : Type 0 where
+pub record Arrives (around : Around) (now : FlowMoment) (m : Marker) (y : List ℕ) : Type 0 where
   pub blank : Bool
   pub key : Option Candidate
   pub allowed : Bool
-  pub is : (d : Bool) → arrive (state_at around s x k ls a ad ps d)
-      ≡ Ok (state_at around (cursor_at y m blank) x key ls allowed ad ps d)
+  pub is : (d : Bool) → arrive (state_at around now d)
+      ≡ Ok (state_at around (record now { cursor = cursor_at y m blank; key = key; allowed = allowed }) d)
   pub right : around.indent ≤ m.col
   pub calm : around.pending ≡ false
-  pub same : is_block x ≡ false → (key ≡ k) × (allowed ≡ a)
-  pub kept : (key ≡ None) ⊎ (key ≡ k)
+  pub same : is_block now.context ≡ false → (key ≡ now.key) × (allowed ≡ now.allowed)
+  pub kept : (key ≡ None) ⊎ (key ≡ now.key)
 
-pub arrives : (around : Around) (s : Cursor) (x : Context) (k : Option Candidate) (ls : List Level) (a : Bool) (ad : ℕ)
-    (ps : List Place) (m : Marker) (y : List ℕ) → past around.indent s.mark s.rest ≡ (m, y)
-    → is_blank (slice_index y 0) ≡ false → around.indent ≤ m.col → around.pending ≡ false
-    → Arrives around s x k ls a ad ps m y
+pub arrives : (around : Around) (now : FlowMoment) (m : Marker) (y : List ℕ) → past around.indent now.cursor.mark
+    now.cursor.rest ≡ (m, y) → is_blank (slice_index y 0) ≡ false → around.indent ≤ m.col → around.pending ≡ false
+    → Arrives around now m y
 unfolding arrive
-arrives around s x k ls a ad ps m y text inked right calm =
-    let g = passes_gap around s x k ls a ad m y text inked in
+arrives around now m y text inked right calm =
+    let g = passes_gap around now.cursor now.context now.key now.outer now.allowed now.adjacent m y text inked in
     let there = cursor_at y m g.blank in
-    let left = key_left x k m in
+    let left = key_left now.context now.key m in
     record {
       blank = g.blank;
       key = left;
       allowed = g.allowed;
-      is = λ d. let reached = ap (λ r. r >>= drop_far_key) (g.is d) ∙ drops around d there x k ls g.allowed ad calm in
-          ap (λ r. carried r (queue_of ps) >>= λ (t : State). Ok
+      is = λ d. let reached = ap (λ r. r >>= drop_far_key) (g.is d) ∙ drops_far_key around d there now.context now.key
+          now.outer g.allowed now.adjacent calm in
+          ap (λ r. carried r (queue_of now.places) >>= λ (t : State). Ok
           (unroll (Some t.core.cursor.mark.col) t.core.cursor.mark t)) reached
-          ∙ ap Ok (none_unrolls around m.col m there x left ls g.allowed ad ps d right);
+          ∙ ap Ok (none_unrolls around m.col m there now.context left now.outer g.allowed now.adjacent now.places d
+          right);
       right = right;
       calm = calm;
-      same = λ e. (left_in_flow x k m e, g.same e);
-      kept = left_or_none x k m;
+      same = λ e. (left_in_flow now.context now.key m e, g.same e);
+      kept = left_or_none now.context now.key m;
     }
 
 -- neither the end nor something else that stands at the start of a line alone
@@ -101,45 +101,45 @@ pub record BeginsToken (m : Marker) (t : List ℕ) : Type 0 where
   pub directive : (slice_index t 0 == 37) ≡ false
   pub marker : ((m.col == 0) && is_document_indicator t) ≡ false
 
-pub begins_here : (around : Around) (d : Bool) (s : Cursor) (x : Context) (k : Option Candidate) (ls : List Level)
-    (a : Bool) (ad : ℕ) (ps : List Place) → BeginsToken s.mark s.rest → around.indent ≤ s.mark.col
-    → fetch_here (state_at around s x k ls a ad ps d)
-    ≡ state_behind_content (slice_index s.rest 0) (slice_index s.rest 1) (state_at around s x k ls a ad ps d)
+pub begins_here : (around : Around) (d : Bool) (now : FlowMoment) → BeginsToken now.cursor.mark now.cursor.rest
+    → around.indent ≤ now.cursor.mark.col → fetch_here (state_at around now d)
+    ≡ state_behind_content (slice_index now.cursor.rest 0) (slice_index now.cursor.rest 1) (state_at around now d)
 unfolding fetch_here
-begins_here around d s x k ls a ad ps h right =
-    let n = and_or_false (s.mark.col == 0) (is_document_start s.rest) (is_document_end s.rest) h.marker in
+begins_here around d now h right =
+    let n = and_or_false (now.cursor.mark.col == 0) (is_document_start now.cursor.rest)
+    (is_document_end now.cursor.rest) h.marker in
     rw (
       h.nul,
       h.byte_order_mark,
       h.directive,
-      and_false (s.mark.col == 0),
+      and_false (now.cursor.mark.col == 0),
       n.0,
       n.1,
-      not_left around.indent s.mark.col
-          d right,
+      not_left around.indent now.cursor.mark.col d right,
     ) refl
 
 -- what the step at the next token's first characters gives
-pub one : (around : Around) (s : Cursor) (x : Context) (k : Option Candidate) (ls : List Level) (a : Bool) (ad : ℕ)
-    (ps : List Place) (m : Marker) (y : List ℕ) (v : Arrives around s x k ls a ad ps m y) → BeginsToken m y
-    → (t : Cursor) (z : Context) (j : Option Candidate) (ms : List Level) (b : Bool) (be : ℕ) (qs : List Place)
-    (actions : List Action) (to : Bool → Bool) → Deepens around to
-    → ((d : Bool) → step (slice_index y 0) (slice_index y 1) (length ps)
-    (core_at around d (cursor_at y m v.blank) x v.key ls v.allowed ad)
-    ≡ went actions (core_at around (to d) t z j ms b be))
-    → perform actions (queue_of ps) ≡ queue_of qs → t.mark.index ≤ around.limit
-    → Comes around (state_at around s x k ls a ad ps) t z j ms b be qs
+pub step_comes : (around : Around) (now : FlowMoment) (m : Marker) (y : List ℕ) (v : Arrives around now m y)
+    → BeginsToken m y → (next : FlowMoment) (actions : List Action) (to : Bool → Bool) → Deepens around to
+    → ((d : Bool) → step (slice_index y 0) (slice_index y 1) (length now.places)
+    (core_at around d (cursor_at y m v.blank) now.context v.key now.outer v.allowed now.adjacent) ≡ went actions
+    (core_at around (to d) next.cursor next.context next.key next.outer next.allowed next.adjacent))
+    → perform actions (queue_of now.places) ≡ queue_of next.places → next.cursor.mark.index ≤ around.limit
+    → Comes around (state_at around now) next
 unfolding fetch state_behind_content
-one around s x k ls a ad ps m y v h t z j ms b be qs actions to deepens is done low =
+step_comes around now m y v h next actions to deepens is done low =
     let seen = cursor_at y m v.blank in
-    comes around (state_at around s x k ls a ad ps) t z j ms b be qs to deepens (λ d. refl)
-    (λ d. let c = core_at around d seen x v.key ls v.allowed ad in
-    let there = ap (λ r. r >>= fetch_here) (v.is d) ∙ begins_here around d seen x v.key ls v.allowed ad ps h v.right in
-    let at_place = ap (λ (n : ℕ). acted (step (slice_index y 0) (slice_index y 1) n c) (queue_of ps))
-    (none_before (length ps)) in
-    let made = ap (λ r. acted r (queue_of ps)) (is d)
-    ∙ ap (λ (q : Queue). Ok (let r : State = record { core = core_at around (to d) t z j ms b be; queue = q } in r))
-    done in
+    comes around (state_at around now) next to deepens (λ d. refl)
+    (λ d. let c = core_at around d seen now.context v.key now.outer v.allowed now.adjacent in
+    let there = ap (λ r. r >>= fetch_here) (v.is d) ∙ begins_here around d (record now {
+      cursor = seen;
+      key = v.key;
+      allowed = v.allowed;
+    }) h v.right in
+    let at_place = ap (λ (n : ℕ). acted (step (slice_index y 0) (slice_index y 1) n c) (queue_of now.places))
+    (none_before (length now.places)) in
+    let made = ap (λ r. acted r (queue_of now.places)) (is d)
+    ∙ ap (λ (q : Queue). Ok (let r : State = record (state_at around next (to d)) { queue = q } in r)) done in
     there ∙ at_place ∙ made) low v.calm
 
 -- a place before the same token is within the limit

@@ -1,21 +1,18 @@
 -- The pairs of braces inside flow, one behind the other.
-use Rattle.std.proofs.Common.{◌≡◌, ℕ, ◌+◌, ◌<◌, ◌≤◌, Bool, true, List, [], ◌∷◌, ◌++◌, length, refl, sym, ap, ◌∙◌, subst, append_assoc, inl, inr}
-use Rattle.std.specs.Prelude.{Option, None}
+use Rattle.std.proofs.Common.{◌≡◌, ℕ, ◌+◌, ◌<◌, ◌≤◌, true, List, [], ◌∷◌, ◌++◌, length, refl, sym, ap, ◌∙◌, subst, append_assoc, inl, inr}
+use Rattle.std.specs.Prelude.{None}
 use Rattle.saphyr_scalar.specs.declared.scalar.position.Marker.{Marker}
-use Rattle.saphyr_scalar.specs.Views.Cursor.{Cursor}
 use Rattle.saphyr_scanner.specs.declared.engine.level.Context.TheVariants as context
 use Rattle.saphyr_scanner.specs.Grammar.Tokens as tokens
 use Rattle.saphyr_scanner.specs.Grammar.TokenGrammar as grammar
-use Rattle.saphyr_scanner.specs.Steps.Queue.{Place}
-use Rattle.saphyr_scanner.specs.Steps.Core.{Candidate, Level}
 use Rattle.saphyr_scanner.specs.Grammar.Forest.{Node, Pairs, NoPair, MorePairs}
 use Rattle.saphyr_scanner.specs.Grammar.FlowNodes.{IsPairText, IsPair, IsFlowNode, AreFlowPairs, AreOtherFlowPairs}
-use Rattle.saphyr_scanner.proofs.InFlow.States.{Around, state_at}
-use Rattle.saphyr_scanner.proofs.Flow.States.{Fits, moved, past, ended, PassesNode}
+use Rattle.saphyr_scanner.proofs.InFlow.States.{Around, state_at, FlowMoment, moment_in}
+use Rattle.saphyr_scanner.proofs.Flow.States.{Fits, moved, past, ended, PassesNode, after, StandsBefore}
 use Rattle.saphyr_scanner.proofs.Flow.Places.{moved_append}
 use Rattle.saphyr_scanner.proofs.Flow.GapSteps.{less_behind}
 use Rattle.saphyr_scanner.proofs.InBlock.Crossings.{fresh_in_flow}
-use Rattle.saphyr_scanner.proofs.Flow.Joins.{join, knowing, none}
+use Rattle.saphyr_scanner.proofs.Flow.Joins.{join, knowing, passes_nothing}
 use Rattle.saphyr_scanner.proofs.Flow.Inks.{BeginsInk, begins_with, ink_front, node_ink}
 use Rattle.saphyr_scanner.proofs.Flow.Pieces.{fits_front, fits_back, fits_so, fits_before, end_ink}
 use Rattle.saphyr_scanner.proofs.Flow.Pairs.{Told}
@@ -64,17 +61,16 @@ pairs_ink indent room (MorePairs key value pairs) p o (pair, others, i, h, e) =
 
 one_passes : {around : Around} (room : ℕ) (key value : Node) → PassesNode around room key → PassesNode around room value
     → (m : Marker) (t o : List ℕ) → Fits around m t o → BeginsEnd o
-    → IsPairIn around.indent room key value t
-    → (s : Cursor) (k : Option Candidate) (ls : List Level) (a : Bool) (ad : ℕ) (ps : List Place) → k ≡ None → a ≡ true
-    → room + length ls ≤ 255 → ad < m.index → past around.indent s.mark s.rest ≡ past around.indent m (t ++ o)
-    → Told around (state_at around s context.FlowMapping k ls a ad ps) (PairInBraces key value) context.FlowMapping ls
-    ps (moved m t) o
-one_passes {around} room key value K V m t o fits b h s k ls a ad ps no_candidate fresh low before text =
+    → IsPairIn around.indent room key value t → (now : FlowMoment) → now.key ≡ None → now.allowed ≡ true
+    → room + length now.outer ≤ 255 → now.adjacent < m.index → StandsBefore around now m (t ++ o)
+    → Told around (state_at around (moment_in context.FlowMapping now)) (PairInBraces key value)
+    context.FlowMapping now.outer now.places (moved m t) o
+one_passes {around} room key value K V m t o fits b h now no_candidate fresh low before text =
     let f = fits_before m t o (b.first ∷ b.others) b.is fits in
-    let start = state_at around s context.FlowMapping k ls a ad ps in
-    subst (λ (x : List ℕ). Told around start (PairInBraces key value) context.FlowMapping ls ps (moved m t) x)
-    (sym b.is)
-    (pair_passes room key value K V m t b.first b.others f b.ends h s k ls a ad ps no_candidate fresh low before
+    let start = state_at around (moment_in context.FlowMapping now) in
+    subst (λ (x : List ℕ). Told around start (PairInBraces key value) context.FlowMapping now.outer now.places
+    (moved m t) x) (sym b.is)
+    (pair_passes room key value K V m t b.first b.others f b.ends h now no_candidate fresh low before
     (text ∙ ap (λ (x : List ℕ). past around.indent m (t ++ x)) b.is))
 
 -- ## The others
@@ -82,32 +78,31 @@ one_passes {around} room key value K V m t o fits b h s k ls a ad ps no_candidat
 abbrev pub PassesOtherPairs : Around → ℕ → Pairs → Type 0
 PassesOtherPairs around room pairs =
     (m : Marker) (p o : List ℕ) → AreOtherFlowPairs room pairs around.indent p → Fits around m p (125 ∷ o)
-    → (s : Cursor) (k : Option Candidate) (ls : List Level) (a : Bool) (ad : ℕ) (ps : List Place)
-    → room + length ls ≤ 255 → ad ≤ (past around.indent m (p ++ (125 ∷ o))).0.index
-    → past around.indent s.mark s.rest ≡ past around.indent m (p ++ (125 ∷ o))
-    → Told around (state_at around s context.FlowMapping k ls a ad ps) (grammar.YieldOtherFlowPairs pairs)
-    context.FlowMapping ls ps (moved m p) (125 ∷ o)
+    → (now : FlowMoment)
+    → room + length now.outer ≤ 255 → now.adjacent ≤ (past around.indent m (p ++ (125 ∷ o))).0.index
+    → StandsBefore around now m (p ++ (125 ∷ o))
+    → Told around (state_at around (moment_in context.FlowMapping now)) (grammar.YieldOtherFlowPairs pairs)
+    context.FlowMapping now.outer now.places (moved m p) (125 ∷ o)
 
 pub no_other_pairs_pass : {around : Around} (room : ℕ) → PassesOtherPairs around room NoPair
-no_other_pairs_pass {around} room m p o (inl e) fits s k ls a ad ps low before text =
-    let start = state_at around s context.FlowMapping k ls a ad ps in
-    let there : past around.indent s.mark s.rest ≡ past around.indent m (125 ∷ o) =
+no_other_pairs_pass {around} room m p o (inl e) fits now low before text =
+    let start = state_at around (moment_in context.FlowMapping now) in
+    let there : StandsBefore around now m (125 ∷ o) =
     text ∙ ap (λ (t : List ℕ). past around.indent m (t ++ (125 ∷ o))) e in
-    let near : ad ≤ (past around.indent m (125 ∷ o)).0.index = subst
-    (λ (t : List ℕ). ad ≤ (past around.indent m (t ++ (125 ∷ o))).0.index) e before in
-    subst (λ (t : List ℕ). Told around start (grammar.YieldOtherFlowPairs NoPair) context.FlowMapping ls ps (moved m t)
-    (125 ∷ o)) (sym e)
+    let near : now.adjacent ≤ (past around.indent m (125 ∷ o)).0.index = subst
+    (λ (t : List ℕ). now.adjacent ≤ (past around.indent m (t ++ (125 ∷ o))).0.index) e before in
+    subst (λ (t : List ℕ). Told around start (grammar.YieldOtherFlowPairs NoPair) context.FlowMapping now.outer
+    now.places (moved m t) (125 ∷ o)) (sym e)
     (record {
       tokens = [];
       are =
           inl refl;
-      passes = none around s context.FlowMapping k ls a ad ps m (125 ∷ o) (ended around.indent m (125 ∷ o))
-          fits.right there (fresh_in_flow context.FlowMapping (125 ∷ o) a s refl) near;
+      passes = passes_nothing around (moment_in context.FlowMapping now) m (125 ∷ o) (ended around.indent m (125 ∷ o))
+          fits.right there (fresh_in_flow context.FlowMapping (125 ∷ o) now.allowed now.cursor refl) near;
     })
-no_other_pairs_pass {around} room m p o (inr comma) fits s k ls a ad ps low before text =
+no_other_pairs_pass {around} room m p o (inr comma) fits now low before text =
     let c = comma_behind around context.FlowMapping context.FlowMapping refl refl m p (125 ∷ o) comma fits
-    (begins_with 125 o (125 ∷ o) refl (end_ink 125 (inr (inr refl)))) s k ls a ad ps before
-    text in
+    (begins_with 125 o (125 ∷ o) refl (end_ink 125 (inr (inr refl)))) now before text in
     record {
       tokens = tokens.FlowEntry ∷ [];
       are =
@@ -119,10 +114,9 @@ no_other_pairs_pass {around} room m p o (inr comma) fits s k ls a ad ps low befo
 pub other_pairs_pass : {around : Around} (room : ℕ) (key value : Node) (pairs : Pairs) → PassesNode around room key
     → PassesNode around room value → PassesOtherPairs around room pairs
     → PassesOtherPairs around room (MorePairs key value pairs)
-other_pairs_pass {around} room key value pairs K V O m p o (comma, pair, others, c, i, h, e) fits s k ls a ad ps low
-    before text =
+other_pairs_pass {around} room key value pairs K V O m p o (comma, pair, others, c, i, h, e) fits now low before text =
     let behind_all = 125 ∷ o in
-    let start = state_at around s context.FlowMapping k ls a ad ps in
+    let start = state_at around (moment_in context.FlowMapping now) in
     let whole = fits_so m p (comma ++ (pair ++ others)) behind_all e fits in
     let follow : (pair ++ others) ++ behind_all ≡ pair ++ (others ++ behind_all) =
     append_assoc pair others behind_all in
@@ -134,24 +128,24 @@ other_pairs_pass {around} room key value pairs K V O m p o (comma, pair, others,
     let ink = ink_front pair (pair ++ (others ++ behind_all)) (others ++ behind_all) refl
     (pair_ink around.indent room key value pair i) in
     let q = comma_behind around context.FlowMapping context.FlowMapping refl refl m comma
-    (pair ++ (others ++ behind_all)) c comma_fits ink s k ls a ad ps
-    (subst (λ (t : List ℕ). ad ≤ (past around.indent m t).0.index) texts before)
+    (pair ++ (others ++ behind_all)) c comma_fits ink now
+    (subst (λ (t : List ℕ). now.adjacent ≤ (past around.indent m t).0.index) texts before)
     (text ∙ ap (past around.indent m) texts) in
     let here = moved m comma in
     let inner = fits_back m comma (pair ++ others) behind_all q.right whole in
     let n = one_passes room key value K V here pair (others ++ behind_all)
     (fits_front here pair others behind_all inner) (others_first around.indent room pairs others o h) i
-    q.there q.key ls q.allowed q.adjacent (ps ++ q.new) q.knows.0 q.knows.1 low q.knows.2 q.fits in
+    (after q) q.knows.0 q.knows.1 low q.knows.2 q.fits in
     let there = moved here pair in
     let both = join q n.passes (ended around.indent there (others ++ behind_all)) n.passes.knows in
-    let r = O there others o h (fits_back here pair others behind_all n.passes.right inner) both.there both.key ls
-    both.allowed both.adjacent (ps ++ both.new) low both.knows both.fits in
+    let r = O there others o h (fits_back here pair others behind_all n.passes.right inner) (after both) low both.knows
+    both.fits in
     let end = moved there others in
     let all = join both r.passes (ended around.indent end behind_all) r.passes.knows in
     let place : end ≡ moved m p =
     sym (ap (moved m) e ∙ moved_append m comma (pair ++ others) ∙ moved_append here pair others) in
     subst (λ (z : Marker). Told around start (grammar.YieldOtherFlowPairs (MorePairs key value pairs))
-    context.FlowMapping ls ps z behind_all) place
+    context.FlowMapping now.outer now.places z behind_all) place
     (record {
       tokens = ((tokens.FlowEntry ∷ []) ++ n.tokens) ++ r.tokens;
       are =
@@ -164,49 +158,47 @@ other_pairs_pass {around} room key value pairs K V O m p o (comma, pair, others,
 abbrev pub PassesPairs : Around → ℕ → Pairs → Type 0
 PassesPairs around room pairs =
     (m : Marker) (p o : List ℕ) → AreFlowPairs room pairs around.indent p → Fits around m p (125 ∷ o)
-    → (s : Cursor) (k : Option Candidate) (ls : List Level) (a : Bool) (ad : ℕ) (ps : List Place) → k ≡ None → a ≡ true
-    → room + length ls ≤ 255 → ad < m.index
-    → past around.indent s.mark s.rest ≡ past around.indent m (p ++ (125 ∷ o))
-    → Told around (state_at around s context.FlowMapping k ls a ad ps) (grammar.YieldFlowPairs pairs)
-    context.FlowMapping ls ps (moved m p) (125 ∷ o)
+    → (now : FlowMoment) → now.key ≡ None → now.allowed ≡ true → room + length now.outer ≤ 255 → now.adjacent < m.index
+    → StandsBefore around now m (p ++ (125 ∷ o))
+    → Told around (state_at around (moment_in context.FlowMapping now)) (grammar.YieldFlowPairs pairs)
+    context.FlowMapping now.outer now.places (moved m p) (125 ∷ o)
 
 pub no_pairs_pass : {around : Around} (room : ℕ) → PassesPairs around room NoPair
-no_pairs_pass {around} room m p o e fits s k ls a ad ps no_candidate fresh low before text =
-    let start = state_at around s context.FlowMapping k ls a ad ps in
-    let there : past around.indent s.mark s.rest ≡ past around.indent m (125 ∷ o) =
+no_pairs_pass {around} room m p o e fits now no_candidate fresh low before text =
+    let start = state_at around (moment_in context.FlowMapping now) in
+    let there : StandsBefore around now m (125 ∷ o) =
     text ∙ ap (λ (t : List ℕ). past around.indent m (t ++ (125 ∷ o))) e in
-    subst (λ (t : List ℕ). Told around start (grammar.YieldFlowPairs NoPair) context.FlowMapping ls ps (moved m t)
-    (125 ∷ o)) (sym e)
+    subst (λ (t : List ℕ). Told around start (grammar.YieldFlowPairs NoPair) context.FlowMapping now.outer now.places
+    (moved m t) (125 ∷ o)) (sym e)
     (record {
       tokens = [];
       are =
           refl;
-      passes = none around s context.FlowMapping k ls a ad ps m (125 ∷ o) (ended around.indent m (125 ∷ o))
-          fits.right there (fresh_in_flow context.FlowMapping (125 ∷ o) a s refl)
-          (less_behind around.indent ad m [] (125 ∷ o) before);
+      passes = passes_nothing around (moment_in context.FlowMapping now) m (125 ∷ o) (ended around.indent m (125 ∷ o))
+          fits.right there (fresh_in_flow context.FlowMapping (125 ∷ o) now.allowed now.cursor refl)
+          (less_behind around.indent now.adjacent m [] (125 ∷ o) before);
     })
 
 pub pairs_pass : {around : Around} (room : ℕ) (key value : Node) (pairs : Pairs) → PassesNode around room key
     → PassesNode around room value → PassesOtherPairs around room pairs
     → PassesPairs around room (MorePairs key value pairs)
-pairs_pass {around} room key value pairs K V O m p o (pair, others, i, h, e) fits s k ls a ad ps no_candidate fresh low
+pairs_pass {around} room key value pairs K V O m p o (pair, others, i, h, e) fits now no_candidate fresh low
     before text =
     let behind_all = 125 ∷ o in
-    let start = state_at around s context.FlowMapping k ls a ad ps in
+    let start = state_at around (moment_in context.FlowMapping now) in
     let whole = fits_so m p (pair ++ others) behind_all e fits in
     let texts : p ++ behind_all ≡ pair ++ (others ++ behind_all) =
     ap (λ (t : List ℕ). t ++ behind_all) e ∙ append_assoc pair others behind_all in
     let n = one_passes room key value K V m pair (others ++ behind_all) (fits_front m pair others behind_all whole)
     (others_first around.indent room pairs others o h) i
-    s k ls a ad ps no_candidate fresh low before (text ∙ ap (past around.indent m) texts) in
+    now no_candidate fresh low before (text ∙ ap (past around.indent m) texts) in
     let there = moved m pair in
     let q = n.passes in
-    let r = O there others o h (fits_back m pair others behind_all q.right whole) q.there q.key ls q.allowed q.adjacent
-    (ps ++ q.new) low q.knows q.fits in
+    let r = O there others o h (fits_back m pair others behind_all q.right whole) (after q) low q.knows q.fits in
     let end = moved there others in
     let place : end ≡ moved m p = sym (ap (moved m) e ∙ moved_append m pair others) in
-    subst (λ (z : Marker). Told around start (grammar.YieldFlowPairs (MorePairs key value pairs)) context.FlowMapping ls
-    ps z behind_all) place
+    subst (λ (z : Marker). Told around start (grammar.YieldFlowPairs (MorePairs key value pairs)) context.FlowMapping
+    now.outer now.places z behind_all) place
     (record {
       tokens = n.tokens ++ r.tokens;
       are =

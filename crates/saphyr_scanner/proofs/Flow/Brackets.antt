@@ -19,17 +19,17 @@ use Rattle.saphyr_scanner.specs.Steps.Core.{Candidate, Level, Core, is_block, fr
 use Rattle.saphyr_scanner.specs.Steps.Flow as flow
 use Rattle.saphyr_scanner.specs.Steps.Flow.{close_collection, behind_pair}
 use Rattle.saphyr_scanner.specs.Steps.Fetch.{step}
-use Rattle.saphyr_scanner.proofs.InFlow.States.{Around, core_at, state_at, Calm, placed_right, starts, opens, closes, deepened, bracket_deepens, as_before}
+use Rattle.saphyr_scanner.proofs.InFlow.States.{Around, core_at, state_at, Calm, placed_right, opening_steps_open, open_collection_gives, close_collection_gives, deepened, bracket_deepens, as_before, FlowMoment, moment, moment_with}
 use Rattle.saphyr_scanner.proofs.Json.States.{queue_of}
 use Rattle.saphyr_scanner.proofs.Json.Marks.{kinds, saved, level_of}
 use Rattle.saphyr_scanner.proofs.Json.Brackets.{place_of}
-use Rattle.saphyr_scanner.proofs.Flow.States.{IsFresh, Since, moved, past, IsClear, IsInk, IsParted, Known, fresh_key, Passes, Fits}
+use Rattle.saphyr_scanner.proofs.Flow.States.{IsFresh, Since, moved, past, IsClear, IsInk, IsParted, Known, fresh_key, Passes, Fits, StandsBefore, key_behind}
 use Rattle.saphyr_scanner.proofs.Flow.Places.{moved_index, right_one, clear_here}
 use Rattle.saphyr_scanner.proofs.Flow.GapSteps.{past_ink, past_low}
-use Rattle.saphyr_scanner.proofs.Flow.Arrivals.{BeginsToken, arrives, one, within_index}
+use Rattle.saphyr_scanner.proofs.Flow.Arrivals.{BeginsToken, arrives, step_comes, within_index}
 use Rattle.saphyr_scanner.proofs.Flow.Tokens.{saved_since}
 use Rattle.saphyr_scanner.proofs.Flow.Separates.{separates}
-use Rattle.saphyr_scanner.proofs.Flow.Joins.{once}
+use Rattle.saphyr_scanner.proofs.Flow.Joins.{step_passes}
 use Rattle.saphyr_scanner.proofs.InBlock.Crossings.{fresh_in_flow}
 use Rattle.saphyr_scalar.proofs.Given.{cursor_at}
 use Rattle.saphyr_input.proofs.Basics.Numbers.{le_next}
@@ -71,41 +71,40 @@ saved_so x a b n m k j h e = let s = h e in ap (λ (q : Bool). saved q n m j) s.
 pub open_passes : (around : Around) (y : Context) → is_block y ≡ false → (kind : Kind) (ch : ℕ) → IsMark ch
     → ((second i : ℕ) (c : Core) → step ch second i c ≡ flow.opening_steps y kind i c)
     → (m : Marker) (o : List ℕ) → Fits around m (ch ∷ []) o → IsParted around.indent o
-    → (s : Cursor) (x : Context) (k : Option Candidate) (ls : List Level) (a : Bool) (ad : ℕ) (ps : List Place)
-    → length ls < 255 → Calm around x → ad ≤ m.index
-    → past around.indent s.mark s.rest ≡ past around.indent m (ch ∷ o)
-    → (j : Option Candidate) × (is_block x ≡ false → j ≡ saved a (length ps) m k)
-    × Passes around (state_at around s x k ls a ad ps) (opened_collection (moved m (ch ∷ []))) y (level_of x j ∷ ls)
-    ps (moved m (ch ∷ [])) o (kind ∷ [])
-    × ((t : List ℕ) → (key : Option Candidate) → (key ≡ None) ⊎ (key ≡ j) → Since k m t key)
-open_passes around y in_flow kind ch mark begins m o fits parted s x k ls a ad ps low calm before text =
-    let v = arrives around s x k ls a ad ps m (ch ∷ o) (text ∙ past_ink around.indent m ch o mark.ink) mark.ink.blank
+    → (now : FlowMoment) → length now.outer < 255 → Calm around now.context → now.adjacent ≤ m.index
+    → StandsBefore around now m (ch ∷ o) → (j : Option Candidate) × (is_block now.context ≡ false → j ≡ key_behind now
+    m)
+    × Passes around (state_at around now) (opened_collection (moved m (ch ∷ []))) y (level_of now.context j ∷ now.outer)
+    now.places (moved m (ch ∷ [])) o (kind ∷ [])
+    × ((t : List ℕ) → (key : Option Candidate) → (key ≡ None) ⊎ (key ≡ j) → Since now.key m t key)
+open_passes around y in_flow kind ch mark begins m o fits parted now low calm before text =
+    let v = arrives around now m (ch ∷ o) (text ∙ past_ink around.indent m ch o mark.ink) mark.ink.blank
     fits.right fits.calm in
-    let key = saved v.allowed (length ps) m v.key in
+    let key = saved v.allowed (length now.places) m v.key in
     let p = separates around.indent (cursor_at o (along m 1) false) parted.separation parted.first parted.others
     parted.is parted.parts (le_next around.indent m.col fits.right) parted.ink in
-    let stepped = λ (d : Bool). begins (slice_index o 0) (length ps)
-    (core_at around d (cursor_at (ch ∷ o) m v.blank) x v.key ls v.allowed ad)
-    ∙ starts y kind (length ps) around d (cursor_at (ch ∷ o) m v.blank) x v.key ls v.allowed ad
-    (placed_right x v.allowed fits.calm fits.right)
-    ∙ opens y kind ch o m v.blank around (deepened around x d) x key ls v.allowed ad p.found p.there p.is low in_flow
-    calm in
+    let stepped = λ (d : Bool). begins (slice_index o 0) (length now.places)
+    (core_at around d (cursor_at (ch ∷ o) m v.blank) now.context v.key now.outer v.allowed now.adjacent)
+    ∙ opening_steps_open y kind (length now.places) around d (cursor_at (ch ∷ o) m v.blank) now.context v.key now.outer
+    v.allowed now.adjacent (placed_right now.context v.allowed fits.calm fits.right)
+    ∙ open_collection_gives y kind ch o m v.blank around (deepened around now.context d) now.context key now.outer
+    v.allowed now.adjacent p.found p.there p.is low in_flow calm in
     let below = fits.below in
     let new = place_of m p.there.mark kind ∷ [] in
-    let came = one around s x k ls a ad ps m (ch ∷ o) v (mark_begins m ch o mark fits.clear) p.there y None
-    (level_of x key ∷ ls) true ad (ps ++ new) (from_to m p.there.mark kind ∷ []) (deepened around x)
-    (bracket_deepens around x)
+    let next = moment p.there y None (level_of now.context key ∷ now.outer) true now.adjacent now.places in
+    let came = step_comes around now m (ch ∷ o) v (mark_begins m ch o mark fits.clear) (moment_with new next)
+    (from_to m p.there.mark kind ∷ []) (deepened around now.context) (bracket_deepens around now.context)
     stepped refl (within_index around.indent around.limit p.there (along m 1) o p.lands (omega (arith, below))) in (
       key,
-      saved_so x a v.allowed (length ps) m k v.key v.same,
-      once true ad p.there ps new (moved m (ch ∷ [])) o (kind ∷ []) (opened_collection (moved m (ch ∷ []))) came
-          (right_one around.indent m ch mark.feed fits.right)
+      saved_so now.context now.allowed v.allowed (length now.places) m now.key v.key v.same,
+      step_passes next new (moved m (ch ∷ [])) o (kind ∷ []) (opened_collection
+          (moved m (ch ∷ []))) came (right_one around.indent m ch mark.feed fits.right)
           (p.lands ∙ ap (λ (q : Marker). past around.indent q o) (mark_moved m ch mark))
           (fresh_in_flow y o true p.there in_flow) refl (
-            (came.same in_flow, refl, one_on m ch ad before),
+            (came.same in_flow, refl, one_on m ch now.adjacent before),
             (record { span = record { start = m; end = p.there.mark }; kind = kind }, refl),
           ),
-      λ t j h. saved_since v.allowed (length ps) m k v.key t j v.kept h,
+      λ t j h. saved_since v.allowed (length now.places) m now.key v.key t j v.kept h,
     )
 
 -- ## A closing bracket
@@ -185,29 +184,28 @@ pub close_passes : (around : Around) (y : Context) → is_block y ≡ false → 
     → (m : Marker) (o : List ℕ) → Fits around m (ch ∷ []) o → (found : SkipTabs) (there : Cursor)
     → separation Yes (cursor_at o (along m 1) false) ≡ Ok (found, there)
     → past around.indent there.mark there.rest ≡ past around.indent (along m 1) o
-    → (s : Cursor) (k j : Option Candidate) (x : Context) (ls : List Level) (a : Bool) (ad : ℕ) (ps : List Place)
-    → IsFresh x o false there → Calm around x → ad ≤ m.index
-    → past around.indent s.mark s.rest ≡ past around.indent m (ch ∷ o)
-    → Passes around (state_at around s y k (level_of x j ∷ ls) a ad ps)
-    (closed_collection around.indent x j (moved m (ch ∷ [])) o) x ls ps (moved m (ch ∷ [])) o
+    → (j : Option Candidate) (x : Context) (ls : List Level) (now : FlowMoment) → IsFresh x o false there
+    → Calm around x → now.adjacent ≤ m.index → StandsBefore around now m (ch ∷ o)
+    → Passes around (state_at around (record now { context = y; outer = level_of x j ∷ ls }))
+    (closed_collection around.indent x j (moved m (ch ∷ [])) o) x ls now.places (moved m (ch ∷ [])) o
     (pending ends ++ kind ∷ [])
-close_passes around y flows ends kind ch mark begins m o fits found there is lands s k j x ls a ad ps fresh calm before
-    text =
-    let v = arrives around s y k (level_of x j ∷ ls) a ad ps m (ch ∷ o) (text ∙ past_ink around.indent m ch o mark.ink)
-    mark.ink.blank fits.right fits.calm in
-    let stepped = λ (d : Bool). begins (slice_index o 0) (length ps) d (cursor_at (ch ∷ o) m v.blank) v.key
-    (level_of x j ∷ ls) v.allowed ad
-    ∙ closes ends kind ch o m v.blank around d y v.key j x ls v.allowed ad found there is flows calm in
+close_passes around y flows ends kind ch mark begins m o fits found there is lands j x ls now fresh calm before text =
+    let inside : FlowMoment = record now { context = y; outer = level_of x j ∷ ls } in
+    let v = arrives around inside m (ch ∷ o) (text ∙ past_ink around.indent m ch o
+    mark.ink) mark.ink.blank fits.right fits.calm in
+    let stepped = λ (d : Bool). begins (slice_index o 0) (length now.places) d (cursor_at (ch ∷ o) m v.blank) v.key
+    (level_of x j ∷ ls) v.allowed now.adjacent
+    ∙ close_collection_gives ends kind ch o m v.blank around d y v.key j x ls v.allowed now.adjacent found there
+    is flows calm in
     let below = fits.below in
     let new = mark_places ends m there.mark kind in
-    let near_here = cond (is_block x) ad there.mark.index in
-    let came = one around s y k (level_of x j ∷ ls) a ad ps m (ch ∷ o) v (mark_begins m ch o mark fits.clear) there x j
-    ls false near_here (ps ++ new) (behind_pair ends m (from_to m there.mark kind)) (λ d. d) (as_before around)
-    stepped
-    (mark_puts ends ps m there.mark kind)
+    let next = moment there x j ls false (cond (is_block x) now.adjacent there.mark.index) now.places in
+    let came = step_comes around inside m (ch ∷ o) v (mark_begins m ch o mark fits.clear) (moment_with new next)
+    (behind_pair ends m (from_to m there.mark kind)) (λ d. d)
+    (as_before around) stepped (mark_puts ends now.places m there.mark kind)
     (within_index around.indent around.limit there (along m 1) o lands (omega (arith, below))) in
     let here = mark_moved m ch mark in
-    once false near_here there ps new (moved m (ch ∷ [])) o (pending ends ++ kind ∷ [])
+    step_passes next new (moved m (ch ∷ [])) o (pending ends ++ kind ∷ [])
     (closed_collection around.indent x j (moved m (ch ∷ [])) o) came
     (right_one around.indent m ch mark.feed fits.right)
     (lands ∙ ap (λ (q : Marker). past around.indent q o) here) fresh (mark_kinds ends m there.mark kind)
@@ -218,8 +216,8 @@ close_passes around y flows ends kind ch mark begins m o fits found there is lan
           rw e (ap (λ (q : Marker). q.index)
           (one_place around.indent (cursor_at o (along m 1) false) found there is w more text parts
           (le_next around.indent m.col fits.right) blank ∙ ap (λ (q : Marker). moved q w) here));
-      low = either (is_block x) ad there.mark.index (past around.indent (moved m (ch ∷ [])) o).0.index
-          (one_behind around.indent m ch o ad before)
+      low = either (is_block x) now.adjacent there.mark.index (past around.indent (moved m (ch ∷ [])) o).0.index
+          (one_behind around.indent m ch o now.adjacent before)
           (subst (λ (q : Marker × List ℕ). there.mark.index ≤ q.0.index)
           (lands ∙ ap (λ (q : Marker). past around.indent q o) here)
           (past_low around.indent there.mark there.rest));

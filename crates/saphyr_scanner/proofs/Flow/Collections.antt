@@ -19,14 +19,14 @@ use Rattle.saphyr_scanner.specs.Steps.Flow as flow
 use Rattle.saphyr_scanner.specs.Steps.Flow.{close_collection, ends_pair}
 use Rattle.saphyr_scanner.specs.Steps.State.{State}
 use Rattle.saphyr_scanner.specs.Steps.Fetch.{step}
-use Rattle.saphyr_scanner.proofs.InFlow.States.{Around, core_at, state_at, Calm}
+use Rattle.saphyr_scanner.proofs.InFlow.States.{Around, core_at, state_at, Calm, FlowMoment}
 use Rattle.saphyr_scanner.proofs.Json.Marks.{level_of}
-use Rattle.saphyr_scanner.proofs.Flow.States.{crosses, IsFresh, Since, Kept, keeping, moved, past, IsParted, IsBehindRoot, Known, Passes, Fits, ended}
+use Rattle.saphyr_scanner.proofs.Flow.States.{crosses, IsFresh, Since, Kept, keeping, moved, past, IsParted, IsBehindRoot, Known, Passes, Fits, ended, StandsBefore, after}
 use Rattle.saphyr_scanner.proofs.Flow.Places.{moved_append}
 use Rattle.saphyr_scanner.proofs.Flow.GapSteps.{past_ink, less_on}
 use Rattle.saphyr_scanner.proofs.Flow.Fillers.{rest_past}
 use Rattle.saphyr_scanner.proofs.Flow.Separates.{separates, separates_rest}
-use Rattle.saphyr_scanner.proofs.Flow.Joins.{join, behind}
+use Rattle.saphyr_scanner.proofs.Flow.Joins.{join, separation_joins}
 use Rattle.saphyr_scanner.proofs.Flow.Brackets.{IsMark, open_passes, pending, close_passes}
 use Rattle.saphyr_scanner.proofs.InBlock.Crossings.{fresh_in_flow, line_rest_crosses}
 use Rattle.saphyr_scanner.proofs.Flow.Pieces.{fits_front, fits_back, fits_before}
@@ -121,18 +121,19 @@ bracket_text b w inside = (b.opening ∷ w) ++ (inside ++ (b.closing ∷ []))
 abbrev pub RunsInside : Around → (List Kind → Type 0) → Brackets → Context → List Level → Marker → List ℕ → List ℕ
     → Type 0
 RunsInside around Is b x ls m inside o =
-    (s : Cursor) (k j : Option Candidate) (a : Bool) (ad : ℕ) (ps : List Place) → k ≡ None → a ≡ true → ad < m.index
-    → around.indent ≤ m.col → past around.indent s.mark s.rest ≡ past around.indent m (inside ++ (b.closing ∷ o))
-    → InsidePasses around (state_at around s b.context k (level_of x j ∷ ls) a ad ps) Is b.closing b.closes
-    (level_of x j ∷ ls) ps (moved m inside) (b.closing ∷ o)
+    (j : Option Candidate) (now : FlowMoment) → now.key ≡ None → now.allowed ≡ true → now.adjacent < m.index
+    → around.indent ≤ m.col → StandsBefore around now m (inside ++ (b.closing ∷ o))
+    → InsidePasses around (state_at around (record now { context = b.context; outer = level_of x j ∷ ls })) Is b.closing
+    b.closes (level_of x j ∷ ls) now.places (moved m inside) (b.closing ∷ o)
 
-pub record BracketsPass (around : Around) (start : Bool → State) (Is : List Kind → Type 0) (b : Brackets) (kept : Kept)
-    (x : Context) (ls : List Level) (ps : List Place) (m : Marker) (o : List ℕ) :
-    Type 0 where
+-- the run over a collection whose text t stands at m before o
+pub record BracketsPass (around : Around) (now : FlowMoment) (Is : List Kind → Type 0) (b : Brackets) (m : Marker)
+    (t o : List ℕ) : Type 0 where
   pub inside : List Kind
   pub are : Is inside
-  pub passes : Passes around start (bracketed around.indent x kept m o) x ls ps m o
-      (b.opens ∷ (inside ++ b.closes ∷ []))
+  pub passes : Passes around (state_at around now)
+      (bracketed around.indent now.context (keeping now m t) (moved m t) o) now.context now.outer now.places (moved m t)
+      o (b.opens ∷ (inside ++ b.closes ∷ []))
 
 -- a token of its own is the first, and no colon may stand at once from n on
 abbrev starts_with : Piece → ℕ → Known
@@ -145,15 +146,13 @@ all_told opens closes ts ends = ap (λ (x : List Kind). opens ∷ x) (sym (appen
 pub brackets_pass : (around : Around) (Is : List Kind → Type 0) (b : Brackets) → AreBrackets b
     → (m : Marker) (w inside o : List ℕ) → Fits around m (bracket_text b w inside) o → IsSeparation around.indent w
     → IsParted around.indent (w ++ (inside ++ (b.closing ∷ o)))
-    → (s : Cursor) (x : Context) (k : Option Candidate) (ls : List Level) (a : Bool) (ad : ℕ) (ps : List Place)
-    → length ls < 255 → Calm around x → ad ≤ m.index
-    → past around.indent s.mark s.rest ≡ past around.indent m (bracket_text b w inside ++ o)
+    → (now : FlowMoment) → length now.outer < 255 → Calm around now.context → now.adjacent ≤ m.index
+    → StandsBefore around now m (bracket_text b w inside ++ o)
     → (around.indent ≤ (moved (moved m (b.opening ∷ w)) inside).col
-    → EndsAt around.indent x (moved (moved m (b.opening ∷ w)) inside) o)
-    → RunsInside around Is b x ls (moved m (b.opening ∷ w)) inside o
-    → BracketsPass around (state_at around s x k ls a ad ps) Is b (keeping a (length ps) m k (bracket_text b w inside))
-    x ls ps (moved m (bracket_text b w inside)) o
-brackets_pass around Is b are m w inside o fits parts parted s x k ls a ad ps low calm before text ends run =
+    → EndsAt around.indent now.context (moved (moved m (b.opening ∷ w)) inside) o)
+    → RunsInside around Is b now.context now.outer (moved m (b.opening ∷ w)) inside o
+    → BracketsPass around now Is b m (bracket_text b w inside) o
+brackets_pass around Is b are m w inside o fits parts parted now low calm before text ends run =
     let close = b.closing ∷ [] in
     let follow : (inside ++ close) ++ o ≡ inside ++ (b.closing ∷ o) = append_assoc inside close o in
     let whole = fits_front m (b.opening ∷ w) (inside ++ close) o fits in
@@ -165,10 +164,10 @@ brackets_pass around Is b are m w inside o fits parts parted s x k ls a ad ps lo
     append_assoc (b.opening ∷ w) (inside ++ close) o ∙ ap (λ (t : List ℕ). b.opening ∷ (w ++ t)) follow in
     let opened = open_passes around b.context are.flows b.opens b.opening are.opening_mark are.begins m
     (w ++ (inside ++ (b.closing ∷ o))) opening_fits parted
-    s x k ls a ad ps low calm before (text ∙ ap (past around.indent m) texts) in
+    now low calm before (text ∙ ap (past around.indent m) texts) in
     let j = opened.0 in
-    let p = behind (moved m (b.opening ∷ [])) w (inside ++ (b.closing ∷ o)) parts opened.2 in
-    let r = run p.there p.key j p.allowed p.adjacent (ps ++ p.new) p.knows.0.0 p.knows.0.1
+    let p = separation_joins (moved m (b.opening ∷ [])) w (inside ++ (b.closing ∷ o)) parts opened.2 in
+    let r = run j (after p) p.knows.0.0 p.knows.0.1
     (less_on p.adjacent (moved m (b.opening ∷ [])) w p.knows.0.2) p.right p.fits in
     let closing_fits = fits_back here inside close o r.passes.right
     (fits_back m (b.opening ∷ w) (inside ++ close) o p.right fits) in
@@ -181,10 +180,10 @@ brackets_pass around Is b are m w inside o fits parts parted s x k ls a ad ps lo
     ((r.passes.new, ap (λ (z : List Place). z ++ r.passes.new) p.knows.1.1), first_ended) in
     let c = close_passes around r.inside r.flows (ends_pair r.inside) b.closes b.closing are.closing_mark r.closes
     at_end o closing_fits at_close.found at_close.there at_close.is at_close.lands
-    q.there q.key j x ls q.allowed q.adjacent (ps ++ q.new) at_close.fresh calm q.knows.1 q.fits in
+    j now.context now.outer (after q) at_close.fresh calm q.knows.1 q.fits in
     let end = moved at_end close in
-    let kept = keeping a (length ps) m k (bracket_text b w inside) in
-    let known : IsBracketed around.indent x kept end o c.key c.adjacent (q.new ++ c.new) = record {
+    let kept = keeping now m (bracket_text b w inside) in
+    let known : IsBracketed around.indent now.context kept end o c.key c.adjacent (q.new ++ c.new) = record {
       piece = piece;
       others = q.knows.0.0 ++ c.new;
       is = ap (λ (z : List Place). z ++ c.new) q.knows.0.1;
@@ -193,14 +192,17 @@ brackets_pass around Is b are m w inside o fits parts parted s x k ls a ad ps lo
       near = c.knows.near;
       low = c.knows.low;
     } in
-    let all = join q c (bracketed around.indent x kept end o) known in
-    let start = state_at around s x k ls a ad ps in
+    let all = join q c (bracketed around.indent now.context kept end o) known in
+    let start = state_at around now in
     let place : end ≡ moved m (bracket_text b w inside) =
     sym (moved_append m (b.opening ∷ w) (inside ++ close) ∙ moved_append here inside close) in
-    subst (λ (e : Marker). BracketsPass around start Is b kept x ls ps e o) place
-    (record {
-      inside = r.tokens ++ pending (ends_pair r.inside);
+    let inner = r.tokens ++ pending (ends_pair r.inside) in
+    record {
+      inside = inner;
       are = r.are;
-      passes = subst (λ (ts : List Kind). Passes around start (bracketed around.indent x kept end o) x ls ps end o ts)
-          (all_told b.opens b.closes r.tokens (pending (ends_pair r.inside))) all;
-    })
+      passes = subst (λ (e : Marker). Passes around start (bracketed around.indent now.context kept e o) now.context
+          now.outer now.places e o (b.opens ∷ (inner ++ b.closes ∷ []))) place
+          (subst (λ (ts : List Kind). Passes around start (bracketed around.indent now.context kept end o)
+          now.context now.outer now.places end o ts)
+          (all_told b.opens b.closes r.tokens (pending (ends_pair r.inside))) all);
+    }

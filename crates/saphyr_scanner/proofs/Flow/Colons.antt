@@ -43,15 +43,15 @@ is_flow_or_blank c h e = (flow_one c h e, other c h e)
     other c h e = grind (arith, nat_tests)
 
 -- where a colon may stand at once, or before what ends it
-pub begins : (around : Around) (d : Bool) (second i : ℕ) (s : Cursor) (y : Context) (k : Option Candidate)
+pub colon_reads_value : (around : Around) (d : Bool) (second i : ℕ) (s : Cursor) (y : Context) (k : Option Candidate)
     (ls : List Level) (a : Bool) (ad : ℕ) → is_block y ≡ false → (s.mark.index ≡ ad) ⊎ IsTrue (ends_colon second)
     → step 58 second i (core_at around d s y k ls a ad) ≡ value.value_steps (core_at around d s y k ls a ad)
 unfolding step flow_value
-begins around d second i s y k ls a ad e (inl f) =
+colon_reads_value around d second i s y k ls a ad e (inl f) =
     let c = core_at around d s y k ls a ad in
     by_test (is_blank_or_breakz second) (value.value_steps c) _ (λ (r : Steps). r ≡ value.value_steps c) (λ _. refl)
     (λ _. rw (eq-eqb s.mark.index ad f, or_right (is_flow second) true refl, e) refl)
-begins around d second i s y k ls a ad e (inr h) =
+colon_reads_value around d second i s y k ls a ad e (inr h) =
     let c = core_at around d s y k ls a ad in
     by_test (is_blank_or_breakz second) (value.value_steps c) _ (λ (r : Steps). r ≡ value.value_steps c) (λ _. refl)
     (λ b. let f = is_flow_or_blank second h b in rw (f.0, f.1, and_false (not (s.mark.index == ad)), e) refl)

@@ -8,18 +8,17 @@ use Rattle.saphyr_scalar.specs.Views.Cursor.{Cursor, ◌>>=◌, along, separatio
 use Rattle.saphyr_scanner.specs.declared.engine.level.Context.{Context}
 use Rattle.saphyr_scanner.specs.declared.engine.level.Context.TheVariants as context
 use Rattle.saphyr_scanner.specs.Grammar.Tokens as tokens
-use Rattle.saphyr_scanner.specs.Steps.Queue.{Place}
 use Rattle.saphyr_scanner.specs.Steps.Core.{Candidate, Level, Core, is_block, from_to, up_to_here, went, remove_key}
 use Rattle.saphyr_scanner.specs.Steps.Passing.{with_cursor}
 use Rattle.saphyr_scanner.specs.Steps.Flow as flow
 use Rattle.saphyr_scanner.specs.Steps.Flow.{next_flow_entry, behind_entry, behind_pair, ends_pair}
-use Rattle.saphyr_scanner.proofs.InFlow.States.{Around, required_at, core_at, state_at, as_before}
+use Rattle.saphyr_scanner.proofs.InFlow.States.{Around, required_at, core_at, state_at, as_before, moment, FlowMoment, moment_in, moment_with}
 use Rattle.saphyr_scanner.proofs.Flow.Places.{right_one}
-use Rattle.saphyr_scanner.proofs.Flow.States.{moved, past, IsParted, fresh_key, Passes, Fits}
+use Rattle.saphyr_scanner.proofs.Flow.States.{moved, past, IsParted, fresh_key, Passes, Fits, StandsBefore}
 use Rattle.saphyr_scanner.proofs.Flow.GapSteps.{past_ink}
-use Rattle.saphyr_scanner.proofs.Flow.Arrivals.{arrives, one, within_index}
+use Rattle.saphyr_scanner.proofs.Flow.Arrivals.{arrives, step_comes, within_index}
 use Rattle.saphyr_scanner.proofs.Flow.Separates.{separates}
-use Rattle.saphyr_scanner.proofs.Flow.Joins.{once}
+use Rattle.saphyr_scanner.proofs.Flow.Joins.{step_passes}
 use Rattle.saphyr_scanner.proofs.InBlock.Crossings.{fresh_in_flow}
 use Rattle.saphyr_scanner.proofs.Flow.Brackets.{IsMark, mark_begins, mark_moved, one_on, pending, mark_places, mark_puts, mark_kinds}
 use Rattle.saphyr_scalar.proofs.Given.{cursor_at}
@@ -35,14 +34,15 @@ in_flow context.FlowPair e = refl
 in_flow context.ExplicitFlowPair e = refl
 in_flow context.MarkedFlowPair e = refl
 
-parts : (around : Around) (d : Bool) (o : List ℕ) (m : Marker) (b : Bool) (y : Context) (k : Option Candidate)
+next_entry_gives : (around : Around) (d : Bool) (o : List ℕ) (m : Marker) (b : Bool) (y : Context)
+    (k : Option Candidate)
     (ls : List Level) (a : Bool) (ad : ℕ) → is_block y ≡ false → (found : SkipTabs) (there : Cursor)
     → separation Yes (cursor_at o (along m 1) false) ≡ Ok (found, there)
     → next_flow_entry (core_at around d (cursor_at (44 ∷ o) m b) y k ls a ad)
     ≡ went (behind_pair (ends_pair y) m (from_to m there.mark tokens.FlowEntry))
     (core_at around d there (behind_entry y) k ls true ad)
 unfolding next_flow_entry
-parts around d o m b y k ls a ad flows found there is =
+next_entry_gives around d o m b y k ls a ad flows found there is =
     let c : Core = record (core_at around d (cursor_at o (along m 1) false) (behind_entry y) k ls true ad)
     { required = required_at around y } in
     let same : required_at around y ≡ required_at around (behind_entry y) =
@@ -75,30 +75,30 @@ comma = record {
 
 -- A comma ends a pair that has no bracket of its own, and behind it a key may begin.
 pub comma_passes : (around : Around) (y : Context) → is_block y ≡ false → (m : Marker) (o : List ℕ)
-    → Fits around m (44 ∷ []) o → IsParted around.indent o
-    → (s : Cursor) (k : Option Candidate) (ls : List Level) (a : Bool) (ad : ℕ) (ps : List Place) → ad ≤ m.index
-    → past around.indent s.mark s.rest ≡ past around.indent m (44 ∷ o)
-    → Passes around (state_at around s y k ls a ad ps) (fresh_key (moved m (44 ∷ []))) (behind_entry y) ls ps
-    (moved m (44 ∷ [])) o (pending (ends_pair y) ++ tokens.FlowEntry ∷ [])
-comma_passes around y flows m o fits parted s k ls a ad ps before text =
-    let v = arrives around s y k ls a ad ps m (44 ∷ o) (text ∙ past_ink around.indent m 44 o comma.ink) refl fits.right
-    fits.calm in
+    → Fits around m (44 ∷ []) o → IsParted around.indent o → (now : FlowMoment) → now.adjacent ≤ m.index
+    → StandsBefore around now m (44 ∷ o)
+    → Passes around (state_at around (moment_in y now)) (fresh_key (moved m (44 ∷ []))) (behind_entry y) now.outer
+    now.places (moved m (44 ∷ [])) o (pending (ends_pair y) ++ tokens.FlowEntry ∷ [])
+comma_passes around y flows m o fits parted now before text =
+    let v = arrives around (moment_in y now) m (44 ∷ o) (text ∙ past_ink around.indent m 44 o comma.ink) refl
+    fits.right fits.calm in
     let p = separates around.indent (cursor_at o (along m 1) false) parted.separation parted.first parted.others
     parted.is parted.parts (le_next around.indent m.col fits.right) parted.ink in
-    let stepped = λ (d : Bool). comma_begins (slice_index o 0) (length ps)
-    (core_at around d (cursor_at (44 ∷ o) m v.blank) y v.key ls v.allowed ad)
-    ∙ removes around d o m v.blank y v.key ls v.allowed ad flows
-    ∙ parts around d o m v.blank y None ls v.allowed ad flows p.found p.there p.is in
+    let stepped = λ (d : Bool). comma_begins (slice_index o 0) (length now.places)
+    (core_at around d (cursor_at (44 ∷ o) m v.blank) y v.key now.outer v.allowed now.adjacent)
+    ∙ removes around d o m v.blank y v.key now.outer v.allowed now.adjacent flows
+    ∙ next_entry_gives around d o m v.blank y None now.outer v.allowed now.adjacent flows p.found p.there p.is in
     let below = fits.below in
     let new = mark_places (ends_pair y) m p.there.mark tokens.FlowEntry in
-    let came = one around s y k ls a ad ps m (44 ∷ o) v (mark_begins m 44 o comma fits.clear) p.there (behind_entry y)
-    None ls true ad (ps ++ new) (behind_pair (ends_pair y) m (from_to m p.there.mark tokens.FlowEntry)) (λ d. d)
-    (as_before around) stepped
-    (mark_puts (ends_pair y) ps m p.there.mark tokens.FlowEntry)
+    let next = moment p.there (behind_entry y) None now.outer true now.adjacent now.places in
+    let came = step_comes around (moment_in y now) m (44 ∷ o) v (mark_begins m 44 o comma fits.clear)
+    (moment_with new next) (behind_pair (ends_pair y) m
+    (from_to m p.there.mark tokens.FlowEntry)) (λ d. d) (as_before around) stepped
+    (mark_puts (ends_pair y) now.places m p.there.mark tokens.FlowEntry)
     (within_index around.indent around.limit p.there (along m 1) o p.lands (omega (arith, below))) in
-    once true ad p.there ps new (moved m (44 ∷ [])) o (pending (ends_pair y) ++ tokens.FlowEntry ∷ [])
-    (fresh_key (moved m (44 ∷ []))) came (right_one around.indent m 44 refl fits.right)
+    step_passes next new (moved m (44 ∷ [])) o (pending (ends_pair y)
+    ++ tokens.FlowEntry ∷ []) (fresh_key (moved m (44 ∷ []))) came (right_one around.indent m 44 refl fits.right)
     (p.lands ∙ ap (λ (q : Marker). past around.indent q o) (mark_moved m 44 comma))
     (fresh_in_flow (behind_entry y) o true p.there (in_flow y flows))
     (mark_kinds (ends_pair y) m p.there.mark tokens.FlowEntry)
-    (came.same (in_flow y flows), refl, one_on m 44 ad before)
+    (came.same (in_flow y flows), refl, one_on m 44 now.adjacent before)

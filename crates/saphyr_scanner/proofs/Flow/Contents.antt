@@ -1,5 +1,5 @@
 -- The content of a scalar in flow style is passed, behind its properties or without any.
-use Rattle.std.proofs.Common.{◌≡◌, ℕ, ◌<◌, ◌≤◌, Bool, true, false, List, [], ◌∷◌, ◌++◌, length, slice_index, refl, sym, ap, ◌∙◌, arith, subst, IsTrue, inl, inr}
+use Rattle.std.proofs.Common.{◌≡◌, ℕ, ◌<◌, ◌≤◌, true, false, List, [], ◌∷◌, ◌++◌, slice_index, refl, sym, ap, ◌∙◌, arith, subst, IsTrue, inl, inr}
 use Rattle.std.specs.Prelude.{◌==◌, Option}
 use Rattle.std.proofs.lemmas.Bool.Decides.{nat_tests}
 use Rattle.saphyr_input.specs.Classes.{is_blank, is_blank_or_breakz}
@@ -7,27 +7,24 @@ use Rattle.std.proofs.lemmas.Bool.{false≢true}
 use Rattle.saphyr_scalar.specs.declared.scalar.position.Marker.{Marker}
 use Rattle.scalar_values.specs.declared.flow.Quote.{Quote}
 use Rattle.scalar_values.specs.declared.flow.Quote.TheVariants.{Single, Double}
-use Rattle.saphyr_scalar.specs.Views.Cursor.{Cursor}
 use Rattle.saphyr_scalar.specs.Spelling.Spaces.{IsSeparation}
 use Rattle.saphyr_scanner.specs.declared.engine.level.Context.{Context}
-use Rattle.saphyr_scanner.specs.declared.engine.level.Context.TheVariants as context
 use Rattle.saphyr_scanner.specs.Grammar.Tokens.{scalar_token}
 use Rattle.saphyr_scanner.specs.Views.Tokens.{Piece}
 use Rattle.saphyr_scanner.specs.Steps.Queue.{Place, closed}
-use Rattle.saphyr_scanner.specs.Steps.Core.{Candidate, Level, is_block}
+use Rattle.saphyr_scanner.specs.Steps.Core.{Candidate, is_block}
 use Rattle.saphyr_scanner.specs.Grammar.Forest.{Style, Plain, SingleQuoted, DoubleQuoted, Literal, Folded, Properties, Node, Scalar}
 use Rattle.saphyr_scanner.specs.Grammar.FlowNodes.{allows_adjacent}
 use Rattle.scalar_values.specs.Flow.{plain_value}
 use Rattle.saphyr_scanner.specs.Grammar.FlowScalars.{IsPlainKey, IsQuoted, IsFlowScalar}
-use Rattle.saphyr_scanner.proofs.InFlow.States.{Around, state_at}
+use Rattle.saphyr_scanner.proofs.InFlow.States.{Around, state_at, FlowMoment, root_moment}
 use Rattle.saphyr_scanner.proofs.InFlow.Tabs.{lands_on_ink}
-use Rattle.saphyr_scanner.proofs.Json.Marks.{saved}
-use Rattle.saphyr_scanner.proofs.Flow.States.{moved, past, IsBehindNode, IsBehindRoot, Reads, Known, Passes, Closes, Fits}
+use Rattle.saphyr_scanner.proofs.Flow.States.{moved, past, IsBehindNode, IsBehindRoot, Reads, Known, Passes, Closes, Fits, StandsBefore, key_behind}
 use Rattle.saphyr_scanner.proofs.Flow.GapSteps.{past_ink, less_behind}
 use Rattle.saphyr_scanner.proofs.Flow.Fillers.{separation_past}
-use Rattle.saphyr_scanner.proofs.Flow.Joins.{root, knowing}
-use Rattle.saphyr_scanner.proofs.Flow.Ends.{EndsHere, node_first, root_first}
-use Rattle.saphyr_scanner.proofs.Flow.Quotes.{node_ink, flow_ends_quotes, root_ends_quotes, style_of, quoted_passes}
+use Rattle.saphyr_scanner.proofs.Flow.Joins.{closes_unnoted, knowing}
+use Rattle.saphyr_scanner.proofs.Flow.Ends.{EndsHere, behind_node_first, root_first}
+use Rattle.saphyr_scanner.proofs.Flow.Quotes.{ends_node_ink, flow_ends_quotes, root_ends_quotes, style_of, quoted_passes}
 use Rattle.saphyr_scanner.proofs.Flow.PlainEnds.{ends_in_flow, ends_at_root}
 use Rattle.saphyr_scanner.proofs.Flow.Plains.{plain_passes, plain_key_passes, plain_closes}
 use Rattle.saphyr_scanner.proofs.Flow.Words.{plain_right, key_right}
@@ -49,11 +46,10 @@ behind_content indent x kept node m o key allowed adjacent new = IsBehindContent
 -- what is shown of the content of a scalar inside flow
 abbrev pub PassesContent : Around → Node → Style → List ℕ → List ℕ → List ℕ → Marker → Type 0
 PassesContent around node style value t o m =
-    (s : Cursor) (x : Context) (k : Option Candidate) (ls : List Level) (a : Bool) (ad : ℕ) (ps : List Place)
-    → is_block x ≡ false → ad < m.index → past around.indent s.mark s.rest ≡ past around.indent m (t ++ o)
-    → Passes around (state_at around s x k ls a ad ps)
-    (behind_content around.indent x (saved a (length ps) m k) node (moved m t) o) x ls ps (moved m t) o
-    (scalar_token style value ∷ [])
+    (now : FlowMoment) → is_block now.context ≡ false → now.adjacent < m.index → StandsBefore around now m (t ++ o)
+    → Passes around (state_at around now)
+    (behind_content around.indent now.context (key_behind now m) node (moved m t) o) now.context now.outer now.places
+    (moved m t) o (scalar_token style value ∷ [])
 
 -- ## Quotes
 
@@ -82,12 +78,12 @@ same_low a b e = omega (arith, e)
 quotes_pass : Reads → (around : Around) (node : Node) (quote : Quote) (value t o : List ℕ) (m : Marker)
     → IsQuoted quote around.indent value t → Fits around m t o
     → IsBehindNode around.indent node o → PassesContent around node (style_of quote) value t o m
-quotes_pass reads around node quote value t o m h fits behind s x k ls a ad ps flow low text =
+quotes_pass reads around node quote value t o m h fits behind now flow low text =
     let right = quoted_right around.indent quote m value t o h fits.clear fits.right in
     let q = quoted_passes reads around quote value t o m h fits
-    (node_apart node (slice_index o 0) (node_first around.indent node o behind)) s x k ls a ad ps
-    (flow_ends_quotes around node m (moved m t) o x flow behind right) text in
-    knowing q (behind_content around.indent x (saved a (length ps) m k) node (moved m t) o)
+    (node_apart node (slice_index o 0) (behind_node_first around.indent node o behind)) now
+    (flow_ends_quotes around node m (moved m t) o now.context flow behind right) text in
+    knowing q (behind_content around.indent now.context (key_behind now m) node (moved m t) o)
     (record {
       piece = q.knows.piece;
       is = q.knows.is;
@@ -100,20 +96,19 @@ quotes_pass reads around node quote value t o m h fits behind s x k ls a ad ps f
 -- what is shown of the content of a document's node
 abbrev pub ClosesContent : Around → Style → List ℕ → List ℕ → List ℕ → Marker → Type 0
 ClosesContent around style value t o m =
-    (s : Cursor) (k : Option Candidate) (a : Bool) (ad : ℕ) (ps : List Place) → ad ≤ m.index
-    → past around.indent s.mark s.rest ≡ past around.indent m (t ++ o)
-    → Closes around (state_at around s context.Block k [] a ad ps) k m t ps (moved m t) o
+    (now : FlowMoment) → now.adjacent ≤ m.index → StandsBefore around now m (t ++ o)
+    → Closes around (state_at around (root_moment now)) now.key m t now.places (moved m t) o
     (scalar_token style value ∷ [])
 
 quotes_close : Reads → (around : Around) (quote : Quote) (value t o : List ℕ) (m : Marker)
     → IsQuoted quote around.indent value t → Fits around m t o → IsBehindRoot around.indent (moved m t) o
     → ClosesContent around (style_of quote) value t o m
-quotes_close reads around quote value t o m h fits behind s k a ad ps before text =
+quotes_close reads around quote value t o m h fits behind now before text =
     let apart = white_apart (slice_index o 0) (root_first around.indent (moved m t) o behind) in
-    let q = quoted_passes reads around quote value t o m h fits apart s context.Block k [] a ad ps
+    let q = quoted_passes reads around quote value t o m h fits apart (root_moment now)
     (root_ends_quotes around m (moved m t) o behind
     (quoted_right around.indent quote m value t o h fits.clear fits.right)) text in
-    root q (same_low q.adjacent (past around.indent (moved m t) o).0.index q.knows.tells) q.knows.since
+    closes_unnoted q (same_low q.adjacent (past around.indent (moved m t) o).0.index q.knows.tells) q.knows.since
 
 -- ## Plain scalars
 
@@ -121,27 +116,27 @@ plains_pass : Reads → (around : Around) (p : Properties) (value t o : List ℕ
     → IsFlowScalar Plain value true around.indent t → Fits around m t o
     → IsBehindNode around.indent (Scalar p Plain value) o
     → PassesContent around (Scalar p Plain value) Plain value t o m
-plains_pass reads around p value t o m h fits behind s x k ls a ad ps flow low text =
+plains_pass reads around p value t o m h fits behind now flow low text =
     let node = Scalar p Plain value in
     let right = plain_right true around.indent m t o h.0 fits.clear fits.right in
-    let ink = node_ink node behind.separation behind.others behind.first behind.ends in
+    let ink = ends_node_ink node behind.separation behind.others behind.first behind.ends in
     let lands = ap (past around.indent (moved m t)) behind.is
     ∙ separation_past around.indent (moved m t) behind.separation (behind.first ∷ behind.others) behind.parts right
     ∙ past_ink around.indent (moved (moved m t) behind.separation) behind.first behind.others ink.0 in
     let inked = ap (λ (z : Marker × List ℕ). is_blank (slice_index z.1 0)) lands ∙ ink.0.blank in
     let q = plain_passes reads around t o m h.0 fits
-    (ends_in_flow around.indent node (moved m t) o (λ w. refl) behind right) inked s x k ls a ad ps flow low text in
-    subst (λ (v : List ℕ). Passes around (state_at around s x k ls a ad ps)
-    (behind_content around.indent x (saved a (length ps) m k) node (moved m t) o) x ls ps (moved m t) o
-    (scalar_token Plain v ∷ [])) (sym h.1)
-    (knowing q (behind_content around.indent x (saved a (length ps) m k) node (moved m t) o)
+    (ends_in_flow around.indent node (moved m t) o (λ w. refl) behind right) inked now flow low text in
+    subst (λ (v : List ℕ). Passes around (state_at around now)
+    (behind_content around.indent now.context (key_behind now m) node (moved m t) o) now.context now.outer now.places
+    (moved m t) o (scalar_token Plain v ∷ [])) (sym h.1)
+    (knowing q (behind_content around.indent now.context (key_behind now m) node (moved m t) o)
     (record {
       piece = q.knows.piece;
       is = q.knows.is;
       keeps = q.knows.keeps;
       near = λ separation more is parts allows. absurd (false≢true allows);
       low = subst (λ (n : ℕ). n ≤ (past around.indent (moved m t) o).0.index) (sym q.knows.tells)
-          (less_behind around.indent ad m t o low);
+          (less_behind around.indent now.adjacent m t o low);
     }))
 
 -- a key before its colon
@@ -149,34 +144,33 @@ pub key_content_passes : Reads → (around : Around) (p : Properties) (value t r
     → value ≡ plain_value t → IsPlainKey true around.indent t → Fits around m t (58 ∷ r)
     → IsBehindNode around.indent (Scalar p Plain value) (58 ∷ r)
     → PassesContent around (Scalar p Plain value) Plain value t (58 ∷ r) m
-key_content_passes reads around p value t r m stands h fits behind s x k ls a ad ps flow low text =
+key_content_passes reads around p value t r m stands h fits behind now flow low text =
     let node = Scalar p Plain value in
     let right = key_right true around.indent m t r h fits.clear fits.right in
     let q = plain_key_passes reads around t r m h fits
-    (ends_in_flow around.indent node (moved m t) (58 ∷ r) (λ w. refl) behind right) s x k ls a ad ps flow low
-    text in
-    subst (λ (v : List ℕ). Passes around (state_at around s x k ls a ad ps)
-    (behind_content around.indent x (saved a (length ps) m k) node (moved m t) (58 ∷ r)) x ls ps (moved m t)
-    (58 ∷ r) (scalar_token Plain v ∷ [])) (sym stands)
-    (knowing q (behind_content around.indent x (saved a (length ps) m k) node (moved m t) (58 ∷ r))
+    (ends_in_flow around.indent node (moved m t) (58 ∷ r) (λ w. refl) behind right) now flow low text in
+    subst (λ (v : List ℕ). Passes around (state_at around now)
+    (behind_content around.indent now.context (key_behind now m) node (moved m t) (58 ∷ r)) now.context now.outer
+    now.places (moved m t) (58 ∷ r) (scalar_token Plain v ∷ [])) (sym stands)
+    (knowing q (behind_content around.indent now.context (key_behind now m) node (moved m t) (58 ∷ r))
     (record {
       piece = q.knows.piece;
       is = q.knows.is;
       keeps = q.knows.keeps;
       near = λ separation more is parts allows. absurd (false≢true allows);
       low = subst (λ (n : ℕ). n ≤ (past around.indent (moved m t) (58 ∷ r)).0.index) (sym q.knows.tells)
-          (less_behind around.indent ad m t (58 ∷ r) low);
+          (less_behind around.indent now.adjacent m t (58 ∷ r) low);
     }))
 
 plains_close : Reads → (around : Around) (value t o : List ℕ) (m : Marker)
     → IsFlowScalar Plain value false around.indent t → Fits around m t o → IsBehindRoot around.indent (moved m t) o
     → ClosesContent around Plain value t o m
-plains_close reads around value t o m h fits behind s k a ad ps before text =
+plains_close reads around value t o m h fits behind now before text =
     let right = plain_right false around.indent m t o h.0 fits.clear fits.right in
     let end = past around.indent (moved m t) o in
     let q = plain_closes reads around t o m h.0 fits (ends_at_root around.indent (moved m t) o behind right)
-    (lands_on_ink around.indent end.0 end.1 (behind.lands right)) s k a ad ps before text in
-    subst (λ (v : List ℕ). Closes around (state_at around s context.Block k [] a ad ps) k m t ps (moved m t) o
+    (lands_on_ink around.indent end.0 end.1 (behind.lands right)) now before text in
+    subst (λ (v : List ℕ). Closes around (state_at around (root_moment now)) now.key m t now.places (moved m t) o
     (scalar_token Plain v ∷ [])) (sym h.1) q
 
 -- ## The content

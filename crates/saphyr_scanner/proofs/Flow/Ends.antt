@@ -38,8 +38,8 @@ two_white : (a b : List ℕ) → BeginsWhite a → BeginsWhite b → BeginsWhite
 two_white [] b h k = k
 two_white (c ∷ cs) b h k = h
 
-line_white : (indent : ℕ) (w : List ℕ) → IsSeparationLine indent w → BeginsWhite w
-line_white indent w h = subst BeginsWhite (sym h.6)
+separation_line_white : (indent : ℕ) (w : List ℕ) → IsSeparationLine indent w → BeginsWhite w
+separation_line_white indent w h = subst BeginsWhite (sym h.6)
     (behind_white h.0 h.1 (10 ∷ (h.2 ++ spaces indent)) (blanks_white h.0 h.3) h.4 refl)
 
 pub separation_white : (indent : ℕ) (w : List ℕ) → IsSeparation indent w → BeginsWhite w
@@ -49,7 +49,7 @@ separation_white indent w h =
   where
     pieces : (ws : List (List ℕ)) → AreEach (IsSeparationLine indent) ws → BeginsWhite (joined ws)
     pieces [] k = tt
-    pieces (v ∷ vs) k = two_white v (joined vs) (line_white indent v k.0) (pieces vs k.1)
+    pieces (v ∷ vs) k = two_white v (joined vs) (separation_line_white indent v k.0) (pieces vs k.1)
 
 rest_white : (rest more : List ℕ) → IsLineRest rest → BeginsWhite more → BeginsWhite (rest ++ more)
 rest_white rest more h k =
@@ -93,8 +93,9 @@ abbrev pub EndsHere : Node → ℕ → Type 0
 EndsHere node c = IsTrue (is_blank_or_breakz c)
     ⊎ ((c ≡ 44) ⊎ ((c ≡ 93) ⊎ ((c ≡ 125) ⊎ ((c ≡ 58) × IsTrue (not (needs_separation node))))))
 
-pub node_first : (indent : ℕ) (node : Node) (o : List ℕ) → IsBehindNode indent node o → EndsHere node (slice_index o 0)
-node_first indent node o h = by_separation h.separation h.is h.parts h.ends
+pub behind_node_first : (indent : ℕ) (node : Node) (o : List ℕ) → IsBehindNode indent node o → EndsHere node
+    (slice_index o 0)
+behind_node_first indent node o h = by_separation h.separation h.is h.parts h.ends
   where
     colon : IsBeforeColon node [] → IsTrue (not (needs_separation node))
     colon (inl some) = absurd (some refl)
@@ -135,7 +136,7 @@ white_ends_tag in_flow o h = or_left (is_blank_or_breakz (slice_index o 0)) (in_
 -- behind a node that needs separation before a colon
 pub node_ends_tag : (indent : ℕ) (node : Node) (o : List ℕ) → IsTrue (needs_separation node)
     → IsBehindNode indent node o → EndsTag true o
-node_ends_tag indent node o needs h = by_first (slice_index o 0) (node_first indent node o h)
+node_ends_tag indent node o needs h = by_first (slice_index o 0) (behind_node_first indent node o h)
   where
     never : (b : Bool) → b ≡ true → IsTrue (not b) → ⊥
     never true e k = absurd (cc)

@@ -1,9 +1,9 @@
 -- The entries of braces and of brackets inside flow.
 use Rattle.std.proofs.Common.{◌≡◌, ℕ, ◌+◌, ◌<◌, ◌≤◌, Bool, true, false, List, [], ◌∷◌, ◌++◌, length, refl, sym, ap, ◌∙◌, subst, append_assoc, append-nil, ◌⊎◌, inl, inr}
-use Rattle.std.specs.Prelude.{Option, None}
+use Rattle.std.specs.Prelude.{None}
 use Rattle.saphyr_input.specs.Classes.{is_blank}
 use Rattle.saphyr_scalar.specs.declared.scalar.position.Marker.{Marker}
-use Rattle.saphyr_scalar.specs.Views.Cursor.{Cursor, along}
+use Rattle.saphyr_scalar.specs.Views.Cursor.{along}
 use Rattle.saphyr_scalar.specs.Spelling.Tag.{AreIn}
 use Rattle.saphyr_scalar.specs.Spelling.Spaces.{IsSeparation}
 use Rattle.saphyr_scanner.specs.declared.engine.level.Context.{Context}
@@ -12,17 +12,17 @@ use Rattle.saphyr_scanner.specs.Grammar.Tokens as tokens
 use Rattle.saphyr_scanner.specs.Grammar.Tokens.{Kind}
 use Rattle.saphyr_scanner.specs.Grammar.TokenGrammar as grammar
 use Rattle.saphyr_scanner.specs.Steps.Queue.{Place}
-use Rattle.saphyr_scanner.specs.Steps.Core.{Candidate, Level, is_block}
+use Rattle.saphyr_scanner.specs.Steps.Core.{Level, is_block}
 use Rattle.saphyr_scanner.specs.Steps.Flow.{behind_entry, ends_pair}
 use Rattle.saphyr_scanner.specs.Steps.State.{State}
 use Rattle.saphyr_scanner.specs.Grammar.Forest.{no_properties, Node, Map, NoPair, MorePairs}
 use Rattle.saphyr_scanner.specs.Grammar.FlowNodes.{IsOnLine, IsKeyAndValue, IsBeforeSeparation, IsPairText, IsPair, IsSinglePairText, IsSinglePair, IsFlowNode}
-use Rattle.saphyr_scanner.proofs.InFlow.States.{Around, state_at}
-use Rattle.saphyr_scanner.proofs.Flow.States.{Fits, moved, past, Passes, ended, PassesNode}
+use Rattle.saphyr_scanner.proofs.InFlow.States.{Around, state_at, FlowMoment, moment_in}
+use Rattle.saphyr_scanner.proofs.Flow.States.{Fits, moved, past, Passes, ended, PassesNode, StandsBefore}
 use Rattle.saphyr_scanner.proofs.Flow.Places.{moved_append, moved_along}
 use Rattle.saphyr_scanner.proofs.Flow.Fillers.{separation_past}
 use Rattle.saphyr_scanner.proofs.Flow.Separates.{blanks_moved}
-use Rattle.saphyr_scanner.proofs.Flow.Joins.{behind, knowing}
+use Rattle.saphyr_scanner.proofs.Flow.Joins.{separation_joins, knowing}
 use Rattle.saphyr_scanner.proofs.Flow.Brackets.{pending}
 use Rattle.saphyr_scanner.proofs.Flow.Pieces.{fits_front, fits_so, IsBehindEntry, entry_behind, wider_entry}
 use Rattle.saphyr_scanner.proofs.Flow.Pairs.{Told, told_at, told_so, key_passes, alone_passes}
@@ -41,7 +41,7 @@ ended_behind : {around : Around} {start : Bool → State} {x : Context} {ls : Li
     → Passes around start (ended around.indent m (w ++ o)) x ls ps m (w ++ o) ts
     → Passes around start (ended around.indent (moved m w) o) x ls ps (moved m w) o ts
 ended_behind {around = around} m w o parts p =
-    let q = behind m w o parts p in
+    let q = separation_joins m w o parts p in
     knowing q (ended around.indent (moved m w) o)
     (subst (λ (r : Marker × List ℕ). q.adjacent ≤ r.0.index) (separation_past around.indent m w o parts p.right)
     q.knows)
@@ -62,15 +62,13 @@ marked_in_braces key value t (inr h) = inr (inl h)
 pair_text_passes : {around : Around} (room : ℕ) (key value : Node) → PassesNode around room key
     → PassesNode around room value → (m : Marker) (t o : List ℕ) → Fits around m t o → IsBehindEntry around.indent o
     → IsPairText key value (IsFlowNode room key true around.indent) (IsFlowNode room value true around.indent)
-    around.indent t
-    → (s : Cursor) (k : Option Candidate) (ls : List Level) (a : Bool) (ad : ℕ) (ps : List Place) → k ≡ None → a ≡ true
-    → room + length ls ≤ 255 → ad < m.index → past around.indent s.mark s.rest ≡ past around.indent m (t ++ o)
-    → Told around (state_at around s context.FlowMapping k ls a ad ps) (PairInBraces key value) context.FlowMapping ls
-    ps (moved m t) o
-pair_text_passes {around} room key value K V m t o fits ends (inl (none, h)) s k ls a ad ps no_candidate fresh low
-    before text =
-    let n = K m t o (inl h) fits (entry_behind around.indent key o ends) s context.FlowMapping k ls a ad ps before refl
-    low text in
+    around.indent t → (now : FlowMoment) → now.key ≡ None → now.allowed ≡ true
+    → room + length now.outer ≤ 255 → now.adjacent < m.index → StandsBefore around now m (t ++ o)
+    → Told around (state_at around (moment_in context.FlowMapping now)) (PairInBraces key value)
+    context.FlowMapping now.outer now.places (moved m t) o
+pair_text_passes {around} room key value K V m t o fits ends (inl (none, h)) now no_candidate fresh low before text =
+    let n = K m t o (inl h) fits (entry_behind around.indent key o ends) (moment_in context.FlowMapping now)
+    before refl low text in
     record {
       tokens = n.tokens;
       are =
@@ -78,41 +76,35 @@ pair_text_passes {around} room key value K V m t o fits ends (inl (none, h)) s k
       passes =
           knowing n.passes (ended around.indent (moved m t) o) (n.passes.knows.low refl);
     }
-pair_text_passes room key value K V m t o fits ends (inr (inl h)) s k ls a ad ps no_candidate fresh low before text =
+pair_text_passes room key value K V m t o fits ends (inr (inl h)) now no_candidate fresh low before text =
     told_so (λ ts (ks, vs, are, others, is).
     inl (tokens.Key ∷ ks, tokens.Value ∷ vs, (ks, inr are, refl), (vs, others, refl), is))
-    (key_passes room key value K V context.FlowMapping refl m t o fits ends h (λ e. absurd (none e)) s k ls a ad ps
+    (key_passes room key value K V context.FlowMapping refl m t o fits ends h (λ e. absurd (none e)) now
     fresh low before text)
   where
     none : false ≡ true → ⊥
     none e = cc
-pair_text_passes room key value K V m t o fits ends (inr (inr (inl h))) s k ls a ad ps no_candidate fresh low before
-    text =
+pair_text_passes room key value K V m t o fits ends (inr (inr (inl h))) now no_candidate fresh low before text =
     told_so (λ ts v. inr (inr (inl (h.0, v))))
-    (alone_passes room key value V context.FlowMapping refl m t o fits ends h s k ls a ad ps no_candidate low before
-    text)
-pair_text_passes room key value K V m t o fits ends (inr (inr (inr h))) s k ls a ad ps no_candidate fresh low before
-    text =
+    (alone_passes room key value V context.FlowMapping refl m t o fits ends h now no_candidate low before text)
+pair_text_passes room key value K V m t o fits ends (inr (inr (inr h))) now no_candidate fresh low before text =
     told_so (marked_in_braces key value)
-    (explicit_passes room key value K V context.FlowMapping context.FlowMapping in_braces m t o fits ends h s k ls a
-    ad ps low before text)
+    (explicit_passes room key value K V context.FlowMapping context.FlowMapping in_braces m t o fits ends h now low
+    before text)
 
 -- a pair in braces, with the separation behind it
 pub pair_passes : {around : Around} (room : ℕ) (key value : Node) → PassesNode around room key
     → PassesNode around room value → (m : Marker) (t : List ℕ) (c : ℕ) (cs : List ℕ) → Fits around m t (c ∷ cs)
     → (c ≡ 44) ⊎ ((c ≡ 93) ⊎ (c ≡ 125))
     → IsPair key value (IsFlowNode room key true around.indent) (IsFlowNode room value true around.indent) around.indent
-    t
-    → (s : Cursor) (k : Option Candidate) (ls : List Level) (a : Bool) (ad : ℕ) (ps : List Place) → k ≡ None → a ≡ true
-    → room + length ls ≤ 255 → ad < m.index
-    → past around.indent s.mark s.rest ≡ past around.indent m (t ++ (c ∷ cs))
-    → Told around (state_at around s context.FlowMapping k ls a ad ps) (PairInBraces key value) context.FlowMapping ls
-    ps (moved m t) (c ∷ cs)
-pair_passes room key value K V m t c cs fits ends (inl h) s k ls a ad ps no_candidate fresh low before text =
+    t → (now : FlowMoment) → now.key ≡ None → now.allowed ≡ true
+    → room + length now.outer ≤ 255 → now.adjacent < m.index → StandsBefore around now m (t ++ (c ∷ cs))
+    → Told around (state_at around (moment_in context.FlowMapping now)) (PairInBraces key value)
+    context.FlowMapping now.outer now.places (moved m t) (c ∷ cs)
+pair_passes room key value K V m t c cs fits ends (inl h) now no_candidate fresh low before text =
     told_so (marked_in_braces key value)
-    (lone_passes key value context.FlowMapping context.FlowMapping in_braces m t c cs fits ends h s k ls a ad ps
-    before text)
-pair_passes {around} room key value K V m t c cs fits ends (inr (piece, separation, h, parts, e)) s k ls a ad ps
+    (lone_passes key value context.FlowMapping context.FlowMapping in_braces m t c cs fits ends h now before text)
+pair_passes {around} room key value K V m t c cs fits ends (inr (piece, separation, h, parts, e)) now
     no_candidate fresh low before text =
     let f = fits_front m piece separation (c ∷ cs) (fits_so m t (piece ++ separation) (c ∷ cs) e fits) in
     let texts = ap (λ (x : List ℕ). x ++ (c ∷ cs)) e ∙ append_assoc piece separation (c ∷ cs) in
@@ -120,7 +112,7 @@ pair_passes {around} room key value K V m t c cs fits ends (inr (piece, separati
     (sym (moved_append m piece separation) ∙ ap (moved m) (sym e))
     (told_behind (moved m piece) separation (c ∷ cs) parts
     (pair_text_passes room key value K V m piece (separation ++ (c ∷ cs)) f
-    (wider_entry around.indent separation cs c parts ends) h s k ls a ad ps no_candidate fresh low before
+    (wider_entry around.indent separation cs c parts ends) h now no_candidate fresh low before
     (text ∙ ap (past around.indent m) texts)))
 
 -- ## In brackets
@@ -163,18 +155,17 @@ item_behind m w o parts t =
 pub node_item_passes : {around : Around} (room : ℕ) (node : Node) → PassesNode around room node
     → (m : Marker) (t : List ℕ) (c : ℕ) (cs : List ℕ) → Fits around m t (c ∷ cs)
     → (c ≡ 44) ⊎ ((c ≡ 93) ⊎ (c ≡ 125)) → IsBeforeSeparation (IsFlowNode room node true around.indent) around.indent t
-    → (s : Cursor) (k : Option Candidate) (ls : List Level) (a : Bool) (ad : ℕ) (ps : List Place)
-    → room + length ls ≤ 255 → ad < m.index
-    → past around.indent s.mark s.rest ≡ past around.indent m (t ++ (c ∷ cs))
-    → ItemPasses around (state_at around s context.FlowSequence k ls a ad ps) (IsEntry node) ls ps (moved m t) (c ∷ cs)
-node_item_passes {around} room node N m t c cs fits ends (piece, separation, h, parts, e) s k ls a ad ps low before
-    text =
+    → (now : FlowMoment) → room + length now.outer ≤ 255 → now.adjacent < m.index
+    → StandsBefore around now m (t ++ (c ∷ cs))
+    → ItemPasses around (state_at around (moment_in context.FlowSequence now)) (IsEntry node) now.outer now.places
+    (moved m t) (c ∷ cs)
+node_item_passes {around} room node N m t c cs fits ends (piece, separation, h, parts, e) now low before text =
     let o = separation ++ (c ∷ cs) in
     let f = fits_front m piece separation (c ∷ cs) (fits_so m t (piece ++ separation) (c ∷ cs) e fits) in
     let texts = ap (λ (x : List ℕ). x ++ (c ∷ cs)) e ∙ append_assoc piece separation (c ∷ cs) in
     let n = N m piece o (inl h) f
-    (entry_behind around.indent node o (wider_entry around.indent separation cs c parts ends)) s
-    context.FlowSequence k ls a ad ps before refl low (text ∙ ap (past around.indent m) texts) in
+    (entry_behind around.indent node o (wider_entry around.indent separation cs c parts ends))
+    (moment_in context.FlowSequence now) before refl low (text ∙ ap (past around.indent m) texts) in
     item_at (moved (moved m piece) separation) (moved m t)
     (sym (moved_append m piece separation) ∙ ap (moved m) (sym e))
     (item_behind (moved m piece) separation (c ∷ cs) parts
@@ -211,18 +202,17 @@ same_line m node blanks h are =
 single_text_passes : {around : Around} (room : ℕ) (key value : Node) → PassesNode around room key
     → PassesNode around room value → (m : Marker) (t o : List ℕ) → Fits around m t o → IsBehindEntry around.indent o
     → IsSinglePairText key value (IsFlowNode room key true around.indent) (IsFlowNode room value true around.indent)
-    around.indent t
-    → (s : Cursor) (k : Option Candidate) (ls : List Level) (a : Bool) (ad : ℕ) (ps : List Place) → k ≡ None → a ≡ true
-    → room + length ls ≤ 255 → ad < m.index → past around.indent s.mark s.rest ≡ past around.indent m (t ++ o)
-    → ItemPasses around (state_at around s context.FlowSequence k ls a ad ps) (IsEntry (single key value)) ls ps
-    (moved m t) o
-single_text_passes {around} room key value K V m t o fits ends (inl (node, blanks, colon, h, line, are, apart, c, e)) s
-    k ls a ad ps no_candidate fresh low before text =
+    around.indent t → (now : FlowMoment) → now.key ≡ None → now.allowed ≡ true
+    → room + length now.outer ≤ 255 → now.adjacent < m.index → StandsBefore around now m (t ++ o)
+    → ItemPasses around (state_at around (moment_in context.FlowSequence now)) (IsEntry (single key value)) now.outer
+    now.places (moved m t) o
+single_text_passes {around} room key value K V m t o fits ends (inl (node, blanks, colon, h, line, are, apart, c, e))
+    now no_candidate fresh low before text =
     let pair : IsKeyAndValue key value (IsFlowNode room key true around.indent)
     (IsFlowNode room value true around.indent) around.indent t =
     (node, blanks, colon, h, ([], blanks, ([], tt, refl), are, refl), apart, c, e) in
     let p = key_passes room key value K V context.FlowSequence refl m t o fits ends pair
-    (λ _. same_line m node blanks line are) s k ls a ad ps fresh low before text in
+    (λ _. same_line m node blanks line are) now fresh low before text in
     let ks = p.are.0 in
     let vs = p.are.1 in
     let told : PairInBraces key value (tokens.Key ∷ (ks ++ tokens.Value ∷ vs)) =
@@ -230,19 +220,17 @@ single_text_passes {around} room key value K V m t o fits ends (inl (node, blank
     let all = subst (λ (x : List Kind). IsEntry (single key value) (x ++ tokens.FlowMappingEnd ∷ [])) (sym p.are.4)
     (between key value (tokens.Key ∷ (ks ++ tokens.Value ∷ vs)) told) in
     record { inside = context.FlowPair; flows = refl; back = refl; tokens = p.tokens; are = all; passes = p.passes }
-single_text_passes {around} room key value K V m t o fits ends (inr (inl h)) s k ls a ad ps no_candidate fresh low
-    before text =
-    let p = alone_passes room key value V context.FlowSequence refl m t o fits ends h s k ls a ad ps no_candidate low
+single_text_passes {around} room key value K V m t o fits ends (inr (inl h)) now no_candidate fresh low before text =
+    let p = alone_passes room key value V context.FlowSequence refl m t o fits ends h now no_candidate low
     before text in
     let vs = p.are.0 in
     let told : PairInBraces key value (tokens.Value ∷ vs) = inr (inr (inl (h.0, (vs, p.are.1, refl)))) in
     let all = subst (λ (x : List Kind). IsEntry (single key value) (x ++ tokens.FlowMappingEnd ∷ [])) (sym p.are.2)
     (between key value (tokens.Value ∷ vs) told) in
     record { inside = context.FlowPair; flows = refl; back = refl; tokens = p.tokens; are = all; passes = p.passes }
-single_text_passes {around} room key value K V m t o fits ends (inr (inr h)) s k ls a ad ps no_candidate fresh low
-    before text =
+single_text_passes {around} room key value K V m t o fits ends (inr (inr h)) now no_candidate fresh low before text =
     let p = explicit_passes room key value K V context.FlowSequence context.ExplicitFlowPair in_brackets m t o fits ends
-    h s k ls a ad ps low before text in
+    h now low before text in
     record {
       inside = context.ExplicitFlowPair;
       flows =
@@ -260,15 +248,13 @@ pub single_passes : {around : Around} (room : ℕ) (key value : Node) → Passes
     → PassesNode around room value → (m : Marker) (t : List ℕ) (c : ℕ) (cs : List ℕ) → Fits around m t (c ∷ cs)
     → (c ≡ 44) ⊎ ((c ≡ 93) ⊎ (c ≡ 125))
     → IsSinglePair key value (IsFlowNode room key true around.indent) (IsFlowNode room value true around.indent)
-    around.indent t
-    → (s : Cursor) (k : Option Candidate) (ls : List Level) (a : Bool) (ad : ℕ) (ps : List Place) → k ≡ None → a ≡ true
-    → room + length ls ≤ 255 → ad < m.index
-    → past around.indent s.mark s.rest ≡ past around.indent m (t ++ (c ∷ cs))
-    → ItemPasses around (state_at around s context.FlowSequence k ls a ad ps) (IsEntry (single key value)) ls ps
-    (moved m t) (c ∷ cs)
-single_passes room key value K V m t c cs fits ends (inl h) s k ls a ad ps no_candidate fresh low before text =
-    let p = lone_passes key value context.FlowSequence context.ExplicitFlowPair in_brackets m t c cs fits ends h s k ls
-    a ad ps before text in
+    around.indent t → (now : FlowMoment) → now.key ≡ None → now.allowed ≡ true
+    → room + length now.outer ≤ 255 → now.adjacent < m.index → StandsBefore around now m (t ++ (c ∷ cs))
+    → ItemPasses around (state_at around (moment_in context.FlowSequence now)) (IsEntry (single key value)) now.outer
+    now.places (moved m t) (c ∷ cs)
+single_passes room key value K V m t c cs fits ends (inl h) now no_candidate fresh low before text =
+    let p = lone_passes key value context.FlowSequence context.ExplicitFlowPair in_brackets m t c cs fits ends h now
+    before text in
     record {
       inside = context.ExplicitFlowPair;
       flows =
@@ -280,7 +266,7 @@ single_passes room key value K V m t c cs fits ends (inl h) s k ls a ad ps no_ca
       passes =
           p.passes;
     }
-single_passes {around} room key value K V m t c cs fits ends (inr (piece, separation, h, parts, e)) s k ls a ad ps
+single_passes {around} room key value K V m t c cs fits ends (inr (piece, separation, h, parts, e)) now
     no_candidate fresh low before text =
     let f = fits_front m piece separation (c ∷ cs) (fits_so m t (piece ++ separation) (c ∷ cs) e fits) in
     let texts = ap (λ (x : List ℕ). x ++ (c ∷ cs)) e ∙ append_assoc piece separation (c ∷ cs) in
@@ -288,5 +274,5 @@ single_passes {around} room key value K V m t c cs fits ends (inr (piece, separa
     (sym (moved_append m piece separation) ∙ ap (moved m) (sym e))
     (item_behind (moved m piece) separation (c ∷ cs) parts
     (single_text_passes room key value K V m piece (separation ++ (c ∷ cs)) f
-    (wider_entry around.indent separation cs c parts ends) h s k ls a ad ps no_candidate fresh low before
+    (wider_entry around.indent separation cs c parts ends) h now no_candidate fresh low before
     (text ∙ ap (past around.indent m) texts)))

@@ -188,11 +188,11 @@ gap_kind column m blank broke c cs false false false false t e f g on line sign 
           (stop_plain m blank broke tab (is_filler_rest (c ∷ cs)) (c ∷ cs) (no_rest c cs e f g) bare);
     }
 
-comment_kind : (column : ℕ) (m : Marker) (blank broke : Bool) (c : ℕ) (cs : List ℕ) (is_word is_return is_line : Bool)
+gap_in_comment : (column : ℕ) (m : Marker) (blank broke : Bool) (c : ℕ) (cs : List ℕ) (is_word is_return is_line : Bool)
     → is_yaml_non_break c ≡ is_word → ((c == 13) && (slice_index cs 0 == 10)) ≡ is_return → is_break c ≡ is_line
     → CommentPast column (along m 1) blank broke cs → GapPast column (along m 1) blank broke cs
     → GapPast column (next_line m 1) true true cs → CommentPast column m blank broke (c ∷ cs)
-comment_kind column m blank broke c cs true q r e f g word on line =
+gap_in_comment column m blank broke c cs true q r e f g word on line =
     let there : past_comment column m (c ∷ cs) ≡ past_comment column (along m 1) cs = rw e refl in
     record {
       still_blank = word.still_blank;
@@ -201,7 +201,7 @@ comment_kind column m blank broke c cs true q r e f g word on line =
           (word.is (ap (λ (z : Marker × List ℕ). is_blank (slice_index z.1 0)) (sym there) ∙ h) low under tab
           (λ k. word_rest c cs e (bare k)));
     }
-comment_kind column m blank broke c cs false true r e f g word on line =
+gap_in_comment column m blank broke c cs false true r e f g word on line =
     let there : past_comment column m (c ∷ cs) ≡ past column (along m 1) cs = rw (e, f) refl in
     record {
       still_blank = on.still_blank;
@@ -210,7 +210,7 @@ comment_kind column m blank broke c cs false true r e f g word on line =
           (on.is (ap (λ (z : Marker × List ℕ). is_blank (slice_index z.1 0)) (sym there) ∙ h) low under tab
           (λ _. return_rest c cs f));
     }
-comment_kind column m blank broke c cs false false true e f g word on line =
+gap_in_comment column m blank broke c cs false false true e f g word on line =
     let there : past_comment column m (c ∷ cs) ≡ past column (next_line m 1) cs = rw (e, f, g) refl in
     record {
       still_blank = line.still_blank;
@@ -219,7 +219,7 @@ comment_kind column m blank broke c cs false false true e f g word on line =
           (line.is (ap (λ (z : Marker × List ℕ). is_blank (slice_index z.1 0)) (sym there) ∙ h) low under false
           (no_tab_before (is_filler_rest cs)));
     }
-comment_kind column m blank broke c cs false false false e f g word on line =
+gap_in_comment column m blank broke c cs false false false e f g word on line =
     record {
       still_blank = blank;
       now_broke = broke;
@@ -241,7 +241,7 @@ mutual
   comment_past column m blank broke [] =
       record { still_blank = blank; now_broke = broke; is = λ h low under tab bare. stop_ends m blank broke tab }
   comment_past column m blank broke (c ∷ cs) =
-      comment_kind column m blank broke c cs (is_yaml_non_break c) ((c == 13) && (slice_index cs 0 == 10)) (is_break c)
-      refl refl refl
+      gap_in_comment column m blank broke c cs (is_yaml_non_break c) ((c == 13) && (slice_index cs 0 == 10))
+      (is_break c) refl refl refl
       (comment_past column (along m 1) blank broke cs) (gap_past column (along m 1) blank broke cs)
       (gap_past column (next_line m 1) true true cs)

@@ -1,25 +1,24 @@
 -- The entries of brackets inside flow, one behind the other.
 use Rattle.std.proofs.Common.{◌≡◌, ℕ, ◌+◌, ◌<◌, ◌≤◌, Bool, true, false, List, [], ◌∷◌, ◌++◌, length, refl, sym, ap, ◌∙◌, subst, append_assoc, append-nil, ◌⊎◌, inl, inr}
-use Rattle.std.specs.Prelude.{Option, None}
+use Rattle.std.specs.Prelude.{None}
 use Rattle.saphyr_scalar.specs.declared.scalar.position.Marker.{Marker}
-use Rattle.saphyr_scalar.specs.Views.Cursor.{Cursor}
 use Rattle.saphyr_scanner.specs.declared.engine.level.Context.{Context}
 use Rattle.saphyr_scanner.specs.declared.engine.level.Context.TheVariants as context
 use Rattle.saphyr_scanner.specs.Grammar.Tokens as tokens
 use Rattle.saphyr_scanner.specs.Grammar.Tokens.{Kind}
 use Rattle.saphyr_scanner.specs.Grammar.TokenGrammar as grammar
 use Rattle.saphyr_scanner.specs.Steps.Queue.{Place}
-use Rattle.saphyr_scanner.specs.Steps.Core.{Candidate, Level, is_block}
+use Rattle.saphyr_scanner.specs.Steps.Core.{Level, is_block}
 use Rattle.saphyr_scanner.specs.Steps.Flow.{behind_entry, ends_pair}
 use Rattle.saphyr_scanner.specs.Steps.State.{State}
 use Rattle.saphyr_scanner.specs.Grammar.Forest.{Properties, Node, Alias, Scalar, Seq, Map, Nodes, NoNode, MoreNodes, NoPair, MorePairs}
 use Rattle.saphyr_scanner.specs.Grammar.FlowNodes.{IsBeforeSeparation, IsSinglePairText, IsSinglePair, IsComma, IsLastComma, IsFlowNode, AreItems, AreOtherItems, IsPairItem}
-use Rattle.saphyr_scanner.proofs.InFlow.States.{Around, state_at}
-use Rattle.saphyr_scanner.proofs.Flow.States.{Fits, moved, past, IsParted, Passes, fresh_key, ended, PassesNode}
+use Rattle.saphyr_scanner.proofs.InFlow.States.{Around, state_at, FlowMoment, moment_in}
+use Rattle.saphyr_scanner.proofs.Flow.States.{Fits, moved, past, IsParted, Passes, fresh_key, ended, PassesNode, after, StandsBefore}
 use Rattle.saphyr_scanner.proofs.Flow.Places.{moved_append}
 use Rattle.saphyr_scanner.proofs.Flow.GapSteps.{past_ink, less_on, less_behind}
 use Rattle.saphyr_scanner.proofs.InBlock.Crossings.{fresh_in_flow}
-use Rattle.saphyr_scanner.proofs.Flow.Joins.{join, behind, knowing, none}
+use Rattle.saphyr_scanner.proofs.Flow.Joins.{join, separation_joins, knowing, passes_nothing}
 use Rattle.saphyr_scanner.proofs.Flow.Brackets.{pending}
 use Rattle.saphyr_scanner.proofs.Flow.Commas.{comma_passes}
 use Rattle.saphyr_scanner.proofs.Flow.Inks.{BeginsInk, begins_with, ink_front, node_ink, key_text_ink}
@@ -108,12 +107,11 @@ items_ink indent room (MoreNodes node nodes) p o (item, others, i, h, e) =
 
 pub comma_behind : (around : Around) (y z : Context) → is_block y ≡ false → behind_entry y ≡ z
     → (m : Marker) (comma o : List ℕ) → IsComma around.indent comma → Fits around m comma o → BeginsInk o
-    → (s : Cursor) (k : Option Candidate) (ls : List Level) (a : Bool) (ad : ℕ) (ps : List Place)
-    → ad ≤ (past around.indent m (comma ++ o)).0.index
-    → past around.indent s.mark s.rest ≡ past around.indent m (comma ++ o)
-    → Passes around (state_at around s y k ls a ad ps) (fresh_key (moved m comma)) z ls ps (moved m comma) o
-    (pending (ends_pair y) ++ tokens.FlowEntry ∷ [])
-comma_behind around y z flows back m comma o (separation, parts, e) fits b s k ls a ad ps before text =
+    → (now : FlowMoment) → now.adjacent ≤ (past around.indent m (comma ++ o)).0.index
+    → StandsBefore around now m (comma ++ o)
+    → Passes around (state_at around (moment_in y now)) (fresh_key (moved m comma)) z now.outer now.places
+    (moved m comma) o (pending (ends_pair y) ++ tokens.FlowEntry ∷ [])
+comma_behind around y z flows back m comma o (separation, parts, e) fits b now before text =
     let whole = fits_so m comma ((44 ∷ []) ++ separation) o e fits in
     let f = fits_front m (44 ∷ []) separation o whole in
     let texts : comma ++ o ≡ 44 ∷ (separation ++ o) = ap (λ (t : List ℕ). t ++ o) e in
@@ -129,17 +127,17 @@ comma_behind around y z flows back m comma o (separation, parts, e) fits b s k l
     } in
     let here : past around.indent m (comma ++ o) ≡ (m, 44 ∷ (separation ++ o)) =
     ap (past around.indent m) texts ∙ past_ink around.indent m 44 (separation ++ o) (end_ink 44 (inl refl)) in
-    let low : ad ≤ m.index = subst (λ (q : Marker × List ℕ). ad ≤ q.0.index) here before in
-    let p = behind (moved m (44 ∷ [])) separation o parts
-    (comma_passes around y flows m (separation ++ o) f parted s k ls a ad ps low
-    (text ∙ ap (past around.indent m) texts)) in
+    let low : now.adjacent ≤ m.index = subst (λ (q : Marker × List ℕ). now.adjacent ≤ q.0.index) here before in
+    let p = separation_joins (moved m (44 ∷ [])) separation o parts
+    (comma_passes around y flows m (separation ++ o) f parted now low (text ∙ ap (past around.indent m) texts)) in
     let q = knowing p (fresh_key (moved m (44 ∷ separation)))
     (p.knows.0, p.knows.1, less_on p.adjacent (moved m (44 ∷ [])) separation p.knows.2) in
-    let start = state_at around s y k ls a ad ps in
+    let start = state_at around (moment_in y now) in
     let ts = pending (ends_pair y) ++ tokens.FlowEntry ∷ [] in
-    let r = subst (λ (t : List ℕ). Passes around start (fresh_key (moved m t)) (behind_entry y) ls ps (moved m t) o ts)
-    (sym e) q in
-    subst (λ (x : Context). Passes around start (fresh_key (moved m comma)) x ls ps (moved m comma) o ts) back r
+    let r = subst (λ (t : List ℕ). Passes around start (fresh_key (moved m t)) (behind_entry y) now.outer now.places
+    (moved m t) o ts) (sym e) q in
+    subst (λ (x : Context). Passes around start (fresh_key (moved m comma)) x now.outer now.places (moved m comma) o ts)
+    back r
 
 -- ## One entry
 
@@ -147,38 +145,39 @@ comma_behind around y z flows back m comma o (separation, parts, e) fits b s k l
 abbrev pub PassesPairItem : Around → ℕ → Node → Type 0
 PassesPairItem around room node =
     (m : Marker) (t : List ℕ) (c : ℕ) (cs : List ℕ) → Fits around m t (c ∷ cs) → EndsEntry c
-    → IsPairItem room node around.indent t
-    → (s : Cursor) (k : Option Candidate) (ls : List Level) (a : Bool) (ad : ℕ) (ps : List Place) → k ≡ None → a ≡ true
-    → room + length ls ≤ 255 → ad < m.index
-    → past around.indent s.mark s.rest ≡ past around.indent m (t ++ (c ∷ cs))
-    → ItemPasses around (state_at around s context.FlowSequence k ls a ad ps) (IsEntry node) ls ps (moved m t) (c ∷ cs)
+    → IsPairItem room node around.indent t → (now : FlowMoment) → now.key ≡ None → now.allowed ≡ true
+    → room + length now.outer ≤ 255 → now.adjacent < m.index → StandsBefore around now m (t ++ (c ∷ cs))
+    → ItemPasses around (state_at around (moment_in context.FlowSequence now)) (IsEntry node) now.outer now.places
+    (moved m t) (c ∷ cs)
 
 pub pair_item_passes : {around : Around} (room : ℕ) (p : Properties) (key value : Node) → PassesNode around room key
     → PassesNode around room value
     → PassesPairItem around room (Map p (MorePairs key value NoPair))
-pair_item_passes {around} room p key value K V m t c cs fits ends h s k ls a ad ps no_candidate fresh low before text =
-    subst (λ (q : Properties). ItemPasses around (state_at around s context.FlowSequence k ls a ad ps)
-    (IsEntry (Map q (MorePairs key value NoPair))) ls ps (moved m t) (c ∷ cs)) (sym h.0)
-    (single_passes room key value K V m t c cs fits ends h.1 s k ls a ad ps no_candidate fresh low before text)
+pair_item_passes {around} room p key value K V m t c cs fits ends h now no_candidate fresh low before text =
+    subst (λ (q : Properties). ItemPasses around (state_at around (moment_in context.FlowSequence now))
+    (IsEntry (Map q (MorePairs key value NoPair))) now.outer now.places (moved m t) (c ∷ cs)) (sym h.0)
+    (single_passes room key value K V m t c cs fits ends h.1 now no_candidate fresh low before text)
 
 item_passes : {around : Around} (room : ℕ) (node : Node) → PassesNode around room node → PassesPairItem around room node
     → (m : Marker) (t o : List ℕ) → Fits around m t o → BeginsEnd o → IsItem around.indent room node t
-    → (s : Cursor) (k : Option Candidate) (ls : List Level) (a : Bool) (ad : ℕ) (ps : List Place) → k ≡ None → a ≡ true
-    → room + length ls ≤ 255 → ad < m.index → past around.indent s.mark s.rest ≡ past around.indent m (t ++ o)
-    → ItemPasses around (state_at around s context.FlowSequence k ls a ad ps) (IsEntry node) ls ps (moved m t) o
-item_passes {around} room node N P m t o fits b h s k ls a ad ps no_candidate fresh low before text =
+    → (now : FlowMoment) → now.key ≡ None → now.allowed ≡ true
+    → room + length now.outer ≤ 255 → now.adjacent < m.index → StandsBefore around now m (t ++ o)
+    → ItemPasses around (state_at around (moment_in context.FlowSequence now)) (IsEntry node) now.outer now.places
+    (moved m t) o
+item_passes {around} room node N P m t o fits b h now no_candidate fresh low before text =
     let f = fits_before m t o (b.first ∷ b.others) b.is fits in
     let there = text ∙ ap (λ (x : List ℕ). past around.indent m (t ++ x)) b.is in
-    let start = state_at around s context.FlowSequence k ls a ad ps in
-    subst (λ (x : List ℕ). ItemPasses around start (IsEntry node) ls ps (moved m t) x) (sym b.is) (by_kind h f there)
+    let start = state_at around (moment_in context.FlowSequence now) in
+    subst (λ (x : List ℕ). ItemPasses around start (IsEntry node) now.outer now.places (moved m t) x) (sym b.is)
+    (by_kind h f there)
   where
     by_kind : IsItem around.indent room node t → Fits around m t (b.first ∷ b.others)
-        → past around.indent s.mark s.rest ≡ past around.indent m (t ++ (b.first ∷ b.others))
-        → ItemPasses around (state_at around s context.FlowSequence k ls a ad ps) (IsEntry node) ls ps (moved m t)
-        (b.first ∷ b.others)
+        → StandsBefore around now m (t ++ (b.first ∷ b.others))
+        → ItemPasses around (state_at around (moment_in context.FlowSequence now)) (IsEntry node) now.outer now.places
+        (moved m t) (b.first ∷ b.others)
     by_kind (inl n) f there =
-        node_item_passes room node N m t b.first b.others f b.ends n s k ls a ad ps low before there
-    by_kind (inr p) f there = P m t b.first b.others f b.ends p s k ls a ad ps no_candidate fresh low before there
+        node_item_passes room node N m t b.first b.others f b.ends n now low before there
+    by_kind (inr p) f there = P m t b.first b.others f b.ends p now no_candidate fresh low before there
 
 -- ## The others
 
@@ -198,19 +197,18 @@ abbrev pub PassesOtherItems : Around → ℕ → Nodes → Type 0
 PassesOtherItems around room nodes =
     (m : Marker) (p o : List ℕ) → AreOtherItems room nodes around.indent p → Fits around m p (93 ∷ o) → (x : Context)
     → is_block x ≡ false → behind_entry x ≡ context.FlowSequence
-    → (s : Cursor) (k : Option Candidate) (ls : List Level) (a : Bool) (ad : ℕ) (ps : List Place)
-    → room + length ls ≤ 255 → ad ≤ (past around.indent m (p ++ (93 ∷ o))).0.index
-    → past around.indent s.mark s.rest ≡ past around.indent m (p ++ (93 ∷ o))
-    → OthersPass around (state_at around s x k ls a ad ps) x nodes ls ps (moved m p) (93 ∷ o)
+    → (now : FlowMoment) → room + length now.outer ≤ 255 → now.adjacent ≤ (past around.indent m (p ++ (93 ∷ o))).0.index
+    → StandsBefore around now m (p ++ (93 ∷ o))
+    → OthersPass around (state_at around (moment_in x now)) x nodes now.outer now.places (moved m p) (93 ∷ o)
 
 pub no_others_pass : {around : Around} (room : ℕ) → PassesOtherItems around room NoNode
-no_others_pass {around} room m p o (inl e) fits x flows back s k ls a ad ps low before text =
-    let start = state_at around s x k ls a ad ps in
-    let there : past around.indent s.mark s.rest ≡ past around.indent m (93 ∷ o) =
+no_others_pass {around} room m p o (inl e) fits x flows back now low before text =
+    let start = state_at around (moment_in x now) in
+    let there : StandsBefore around now m (93 ∷ o) =
     text ∙ ap (λ (t : List ℕ). past around.indent m (t ++ (93 ∷ o))) e in
-    let near : ad ≤ (past around.indent m (93 ∷ o)).0.index = subst
-    (λ (t : List ℕ). ad ≤ (past around.indent m (t ++ (93 ∷ o))).0.index) e before in
-    subst (λ (t : List ℕ). OthersPass around start x NoNode ls ps (moved m t) (93 ∷ o)) (sym e)
+    let near : now.adjacent ≤ (past around.indent m (93 ∷ o)).0.index = subst
+    (λ (t : List ℕ). now.adjacent ≤ (past around.indent m (t ++ (93 ∷ o))).0.index) e before in
+    subst (λ (t : List ℕ). OthersPass around start x NoNode now.outer now.places (moved m t) (93 ∷ o)) (sym e)
     (record {
       inside = x;
       flows = flows;
@@ -219,12 +217,12 @@ no_others_pass {around} room m p o (inl e) fits x flows back s k ls a ad ps low 
       others = [];
       is = sym (append-nil (pending (ends_pair x)));
       are = inl refl;
-      passes = none around s x k ls a ad ps m (93 ∷ o) (ended around.indent m (93 ∷ o)) fits.right there
-          (fresh_in_flow x (93 ∷ o) a s flows) near;
+      passes = passes_nothing around (moment_in x now) m (93 ∷ o) (ended around.indent m (93 ∷ o)) fits.right there
+          (fresh_in_flow x (93 ∷ o) now.allowed now.cursor flows) near;
     })
-no_others_pass {around} room m p o (inr comma) fits x flows back s k ls a ad ps low before text =
+no_others_pass {around} room m p o (inr comma) fits x flows back now low before text =
     let c = comma_behind around x context.FlowSequence flows back m p (93 ∷ o) comma fits
-    (begins_with 93 o (93 ∷ o) refl (end_ink 93 (inr (inl refl)))) s k ls a ad ps before text in
+    (begins_with 93 o (93 ∷ o) refl (end_ink 93 (inr (inl refl)))) now before text in
     record {
       inside = context.FlowSequence;
       flows = refl;
@@ -237,9 +235,9 @@ no_others_pass {around} room m p o (inr comma) fits x flows back s k ls a ad ps 
           (less_behind around.indent c.adjacent (moved m p) [] (93 ∷ o) c.knows.2);
     }
 
-regrouped : (p i q r j o : List Kind) (e : Kind) → q ++ r ≡ j ++ o
+entries_regrouped : (p i q r j o : List Kind) (e : Kind) → q ++ r ≡ j ++ o
     → (((p ++ e ∷ []) ++ i) ++ q) ++ r ≡ p ++ (e ∷ ((i ++ j) ++ o))
-regrouped p i q r j o e is = front ∙ ap (λ (x : List Kind). p ++ (e ∷ (i ++ x))) is ∙ back
+entries_regrouped p i q r j o e is = front ∙ ap (λ (x : List Kind). p ++ (e ∷ (i ++ x))) is ∙ back
   where
     front : (((p ++ e ∷ []) ++ i) ++ q) ++ r ≡ p ++ (e ∷ (i ++ (q ++ r)))
     front = simp append_assoc
@@ -250,10 +248,10 @@ regrouped p i q r j o e is = front ∙ ap (λ (x : List Kind). p ++ (e ∷ (i ++
 pub others_pass : {around : Around} (room : ℕ) (node : Node) (nodes : Nodes) → PassesNode around room node
     → PassesPairItem around room node → PassesOtherItems around room nodes
     → PassesOtherItems around room (MoreNodes node nodes)
-others_pass {around} room node nodes N P O m p o (comma, item, others, c, i, h, e) fits x flows back s k ls a ad ps low
+others_pass {around} room node nodes N P O m p o (comma, item, others, c, i, h, e) fits x flows back now low
     before text =
     let behind_all = 93 ∷ o in
-    let start = state_at around s x k ls a ad ps in
+    let start = state_at around (moment_in x now) in
     let whole = fits_so m p (comma ++ (item ++ others)) behind_all e fits in
     let follow : (item ++ others) ++ behind_all ≡ item ++ (others ++ behind_all) =
     append_assoc item others behind_all in
@@ -265,30 +263,28 @@ others_pass {around} room node nodes N P O m p o (comma, item, others, c, i, h, 
     let first = item_ink around.indent room node item i in
     let ink = ink_front item (item ++ (others ++ behind_all)) (others ++ behind_all) refl first in
     let q = comma_behind around x context.FlowSequence flows back m comma (item ++ (others ++ behind_all)) c comma_fits
-    ink s k ls a ad ps
-    (subst (λ (t : List ℕ). ad ≤ (past around.indent m t).0.index) texts before)
+    ink now (subst (λ (t : List ℕ). now.adjacent ≤ (past around.indent m t).0.index) texts before)
     (text ∙ ap (past around.indent m) texts) in
     let here = moved m comma in
     let inner = fits_back m comma (item ++ others) behind_all q.right whole in
     let n = item_passes room node N P here item (others ++ behind_all) (fits_front here item others behind_all inner)
-    (others_first around.indent room nodes others o h) i
-    q.there q.key ls q.allowed q.adjacent (ps ++ q.new) q.knows.0 q.knows.1 low q.knows.2 q.fits in
+    (others_first around.indent room nodes others o h) i (after q) q.knows.0 q.knows.1 low q.knows.2 q.fits in
     let there = moved here item in
     let both = join q n.passes (ended around.indent there (others ++ behind_all)) n.passes.knows in
     let r = O there others o h (fits_back here item others behind_all n.passes.right inner) n.inside n.flows n.back
-    both.there both.key ls both.allowed both.adjacent (ps ++ both.new) low both.knows both.fits in
+    (after both) low both.knows both.fits in
     let end = moved there others in
     let all = join both r.passes (ended around.indent end behind_all) r.passes.knows in
     let place : end ≡ moved m p =
     sym (ap (moved m) e ∙ moved_append m comma (item ++ others) ∙ moved_append here item others) in
-    subst (λ (z : Marker). OthersPass around start x (MoreNodes node nodes) ls ps z behind_all) place
+    subst (λ (z : Marker). OthersPass around start x (MoreNodes node nodes) now.outer now.places z behind_all) place
     (record {
       inside = r.inside;
       flows = r.flows;
       back = r.back;
       tokens = ((pending (ends_pair x) ++ tokens.FlowEntry ∷ []) ++ n.tokens) ++ r.tokens;
       others = tokens.FlowEntry ∷ ((n.tokens ++ pending (ends_pair n.inside)) ++ r.others);
-      is = regrouped (pending (ends_pair x)) n.tokens r.tokens (pending (ends_pair r.inside))
+      is = entries_regrouped (pending (ends_pair x)) n.tokens r.tokens (pending (ends_pair r.inside))
           (pending (ends_pair n.inside)) r.others tokens.FlowEntry r.is;
       are = (n.tokens ++ pending (ends_pair n.inside), r.others, n.are, r.are, refl);
       passes = all;
@@ -299,27 +295,27 @@ others_pass {around} room node nodes N P O m p o (comma, item, others, c, i, h, 
 abbrev pub PassesItems : Around → ℕ → Nodes → Type 0
 PassesItems around room nodes =
     (m : Marker) (p o : List ℕ) → AreItems room nodes around.indent p → Fits around m p (93 ∷ o)
-    → (s : Cursor) (k : Option Candidate) (ls : List Level) (a : Bool) (ad : ℕ) (ps : List Place) → k ≡ None → a ≡ true
-    → room + length ls ≤ 255 → ad < m.index
-    → past around.indent s.mark s.rest ≡ past around.indent m (p ++ (93 ∷ o))
-    → ItemPasses around (state_at around s context.FlowSequence k ls a ad ps) (grammar.YieldFlowEntries nodes) ls ps
-    (moved m p) (93 ∷ o)
+    → (now : FlowMoment) → now.key ≡ None → now.allowed ≡ true → room + length now.outer ≤ 255 → now.adjacent < m.index
+    → StandsBefore around now m (p ++ (93 ∷ o))
+    → ItemPasses around (state_at around (moment_in context.FlowSequence now)) (grammar.YieldFlowEntries nodes)
+    now.outer now.places (moved m p) (93 ∷ o)
 
 pub no_items_pass : {around : Around} (room : ℕ) → PassesItems around room NoNode
-no_items_pass {around} room m p o e fits s k ls a ad ps no_candidate fresh low before text =
-    let start = state_at around s context.FlowSequence k ls a ad ps in
-    let there : past around.indent s.mark s.rest ≡ past around.indent m (93 ∷ o) =
+no_items_pass {around} room m p o e fits now no_candidate fresh low before text =
+    let start = state_at around (moment_in context.FlowSequence now) in
+    let there : StandsBefore around now m (93 ∷ o) =
     text ∙ ap (λ (t : List ℕ). past around.indent m (t ++ (93 ∷ o))) e in
-    subst (λ (t : List ℕ). ItemPasses around start (grammar.YieldFlowEntries NoNode) ls ps (moved m t) (93 ∷ o)) (sym e)
+    subst (λ (t : List ℕ). ItemPasses around start (grammar.YieldFlowEntries NoNode) now.outer now.places (moved m t)
+    (93 ∷ o)) (sym e)
     (record {
       inside = context.FlowSequence;
       flows = refl;
       back = refl;
       tokens = [];
       are = refl;
-      passes = none around s context.FlowSequence k ls a ad ps m (93 ∷ o) (ended around.indent m (93 ∷ o)) fits.right
-          there (fresh_in_flow context.FlowSequence (93 ∷ o) a s refl)
-          (less_behind around.indent ad m [] (93 ∷ o) before);
+      passes = passes_nothing around (moment_in context.FlowSequence now) m (93 ∷ o) (ended around.indent m (93 ∷ o))
+          fits.right there (fresh_in_flow context.FlowSequence (93 ∷ o) now.allowed now.cursor refl)
+          (less_behind around.indent now.adjacent m [] (93 ∷ o) before);
     })
 
 first_regrouped : (i q r j o : List Kind) → q ++ r ≡ j ++ o → (i ++ q) ++ r ≡ (i ++ j) ++ o
@@ -328,24 +324,23 @@ first_regrouped i q r j o is = append_assoc i q r ∙ ap (λ (x : List Kind). i 
 pub items_pass : {around : Around} (room : ℕ) (node : Node) (nodes : Nodes) → PassesNode around room node
     → PassesPairItem around room node → PassesOtherItems around room nodes
     → PassesItems around room (MoreNodes node nodes)
-items_pass {around} room node nodes N P O m p o (item, others, i, h, e) fits s k ls a ad ps no_candidate fresh low
-    before text =
+items_pass {around} room node nodes N P O m p o (item, others, i, h, e) fits now no_candidate fresh low before text =
     let behind_all = 93 ∷ o in
-    let start = state_at around s context.FlowSequence k ls a ad ps in
+    let start = state_at around (moment_in context.FlowSequence now) in
     let whole = fits_so m p (item ++ others) behind_all e fits in
     let texts : p ++ behind_all ≡ item ++ (others ++ behind_all) =
     ap (λ (t : List ℕ). t ++ behind_all) e ∙ append_assoc item others behind_all in
     let n = item_passes room node N P m item (others ++ behind_all) (fits_front m item others behind_all whole)
     (others_first around.indent room nodes others o h) i
-    s k ls a ad ps no_candidate fresh low before (text ∙ ap (past around.indent m) texts) in
+    now no_candidate fresh low before (text ∙ ap (past around.indent m) texts) in
     let there = moved m item in
     let q = n.passes in
-    let r = O there others o h (fits_back m item others behind_all n.passes.right whole) n.inside n.flows n.back q.there
-    q.key ls q.allowed q.adjacent (ps ++ q.new) low q.knows q.fits in
+    let r = O there others o h (fits_back m item others behind_all n.passes.right whole) n.inside n.flows n.back
+    (after q) low q.knows q.fits in
     let end = moved there others in
     let place : end ≡ moved m p = sym (ap (moved m) e ∙ moved_append m item others) in
-    subst (λ (z : Marker). ItemPasses around start (grammar.YieldFlowEntries (MoreNodes node nodes)) ls ps z behind_all)
-    place
+    subst (λ (z : Marker). ItemPasses around start (grammar.YieldFlowEntries (MoreNodes node nodes)) now.outer
+    now.places z behind_all) place
     (record {
       inside = r.inside;
       flows = r.flows;

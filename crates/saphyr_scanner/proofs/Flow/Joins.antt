@@ -2,7 +2,6 @@
 use Rattle.std.proofs.Common.{◌≡◌, inl, inr, sym, ℕ, ◌≤◌, Bool, List, [], ◌++◌, refl, ap, ◌∙◌, append_assoc, append-nil}
 use Rattle.std.specs.Prelude.{Option, Some, None}
 use Rattle.saphyr_scalar.specs.declared.scalar.position.Marker.{Marker}
-use Rattle.saphyr_scalar.specs.Views.Cursor.{Cursor}
 use Rattle.saphyr_scalar.specs.Spelling.Spaces.{IsSeparation}
 use Rattle.saphyr_scanner.specs.declared.engine.level.Context.{Context}
 use Rattle.saphyr_scanner.specs.declared.engine.level.Context.TheVariants as context
@@ -10,9 +9,9 @@ use Rattle.saphyr_scanner.specs.Grammar.Tokens.{Kind}
 use Rattle.saphyr_scanner.specs.Steps.Queue.{Place}
 use Rattle.saphyr_scanner.specs.Steps.Core.{Candidate, Level}
 use Rattle.saphyr_scanner.specs.Steps.State.{State}
-use Rattle.saphyr_scanner.proofs.InFlow.States.{Around, state_at, stays, chains, Comes}
+use Rattle.saphyr_scanner.proofs.InFlow.States.{Around, state_at, runs_to_itself, chains, Comes, FlowMoment, moment_with}
 use Rattle.saphyr_scanner.proofs.Json.Marks.{kinds, kinds_append}
-use Rattle.saphyr_scanner.proofs.Flow.States.{moved, past, IsFresh, Since, Known, Passes, Closes}
+use Rattle.saphyr_scanner.proofs.Flow.States.{moved, past, IsFresh, Since, Known, Passes, Closes, after, StandsBefore}
 use Rattle.saphyr_scanner.proofs.Flow.Places.{moved_append}
 use Rattle.saphyr_scanner.proofs.Flow.Fillers.{separation_past, right_behind}
 use Rattle.saphyr_scanner.proofs.InBlock.Crossings.{separation_crosses}
@@ -20,7 +19,7 @@ use Rattle.saphyr_scanner.proofs.InBlock.Crossings.{separation_crosses}
 -- a piece, and another behind it
 pub join : {around : Around} {start : Bool → State} {known more : Known} {x y : Context} {ls ms : List Level}
     {ps : List Place} {m e : Marker} {o z : List ℕ} {ts us : List Kind} → (p : Passes around start known x ls ps m o ts)
-    → (q : Passes around (state_at around p.there x p.key ls p.allowed p.adjacent (ps ++ p.new)) more y ms (ps ++ p.new)
+    → (q : Passes around (state_at around (after p)) more y ms (ps ++ p.new)
     e z us) → (all : Known) → all q.key q.allowed q.adjacent (p.new ++ q.new)
     → Passes around start all y ms ps e z (ts ++ us)
 join {ps = ps} {ts = ts} {us = us} p q all knows =
@@ -72,7 +71,7 @@ since_join k m a w b j key f (inr (inr (front, back, place, is, g))) =
 pub join_root : {around : Around} {start : Bool → State} {known : Known} {ps : List Place} {m e : Marker} {o z : List ℕ}
     {ts us : List Kind} → (p : Passes around start known context.Block [] ps m o ts)
     {j k : Option Candidate} {first next : Marker} {t u : List ℕ}
-    → (q : Closes around (state_at around p.there context.Block p.key [] p.allowed p.adjacent (ps ++ p.new)) j next
+    → (q : Closes around (state_at around (after p)) j next
     u (ps ++ p.new) e z us) → Since k first t q.key → Closes around start k first t ps e z (ts ++ us)
 join_root {ps = ps} {ts = ts} p q late =
     record {
@@ -92,11 +91,12 @@ join_root {ps = ps} {ts = ts} p q late =
     }
 
 -- a document's node behind which no comment is noted
-pub root : {around : Around} {start : Bool → State} {known : Known} {ps : List Place} {m : Marker} {o : List ℕ}
+pub closes_unnoted : {around : Around} {start : Bool → State} {known : Known} {ps : List Place} {m : Marker}
+    {o : List ℕ}
     {ts : List Kind} → (p : Passes around start known context.Block [] ps m o ts)
     → p.adjacent ≤ (past around.indent m o).0.index → {k : Option Candidate} {first : Marker} {t : List ℕ}
     → Since k first t p.key → Closes around start k first t ps m o ts
-root p low late = record {
+closes_unnoted p low late = record {
   there =
       p.there;
   key = p.key;
@@ -117,10 +117,11 @@ root p low late = record {
 }
 
 -- the separation behind a piece
-pub behind : {around : Around} {start : Bool → State} {known : Known} {x : Context} {ls : List Level} {ps : List Place}
+pub separation_joins : {around : Around} {start : Bool → State} {known : Known} {x : Context} {ls : List Level}
+    {ps : List Place}
     {ts : List Kind} → (m : Marker) (w o : List ℕ) → IsSeparation around.indent w
     → Passes around start known x ls ps m (w ++ o) ts → Passes around start known x ls ps (moved m w) o ts
-behind {around = around} m w o h p =
+separation_joins {around = around} m w o h p =
     record {
       there = p.there;
       key = p.key;
@@ -158,20 +159,19 @@ knowing p other h =
     }
 
 -- one step
-pub once : {around : Around} {start : Bool → State} {x : Context} {k : Option Candidate} {ls : List Level} (a : Bool)
-    (ad : ℕ) (s : Cursor) (ps new : List Place) (m : Marker) (o : List ℕ) (ts : List Kind) (known : Known)
-    → (c : Comes around start s x k ls a ad (ps ++ new)) → around.indent ≤ m.col
-    → past around.indent s.mark s.rest ≡ past around.indent m o → IsFresh x o a s → kinds new ≡ ts
-    → known c.key a ad new
-    → Passes around start known x ls ps m o ts
-once a ad s ps new m o ts known c right fits fresh are knows =
+pub step_passes : {around : Around} {start : Bool → State} (next : FlowMoment) (new : List Place) (m : Marker)
+    (o : List ℕ) (ts : List Kind) (known : Known) → (c : Comes around start (moment_with new next))
+    → around.indent ≤ m.col → StandsBefore around next m o → IsFresh next.context o next.allowed next.cursor
+    → kinds new ≡ ts → known c.key next.allowed next.adjacent new
+    → Passes around start known next.context next.outer next.places m o ts
+step_passes next new m o ts known c right fits fresh are knows =
     record {
-      there = s;
+      there = next.cursor;
       key =
           c.key;
-      allowed = a;
+      allowed = next.allowed;
       adjacent =
-          ad;
+          next.adjacent;
       new = new;
       leads = c.leads;
       right = right;
@@ -182,20 +182,19 @@ once a ad s ps new m o ts known c right fits fresh are knows =
     }
 
 -- no step
-pub none : (around : Around) (s : Cursor) (x : Context) (k : Option Candidate) (ls : List Level) (a : Bool) (ad : ℕ)
-    (ps : List Place) (m : Marker) (o : List ℕ) (known : Known) → around.indent ≤ m.col
-    → past around.indent s.mark s.rest ≡ past around.indent m o → IsFresh x o a s → known k a ad []
-    → Passes around (state_at around s x k ls a ad ps) known x ls ps m o []
-none around s x k ls a ad ps m o known right text fresh knows =
+pub passes_nothing : (around : Around) (now : FlowMoment) (m : Marker) (o : List ℕ) (known : Known) → around.indent
+    ≤ m.col → StandsBefore around now m o → IsFresh now.context o now.allowed now.cursor → known now.key now.allowed
+    now.adjacent [] → Passes around (state_at around now) known now.context now.outer now.places m o []
+passes_nothing around now m o known right text fresh knows =
     record {
-      there = s;
+      there = now.cursor;
       key =
-          k;
-      allowed = a;
+          now.key;
+      allowed = now.allowed;
       adjacent =
-          ad;
+          now.adjacent;
       new = [];
-      leads = rw append-nil (stays around _);
+      leads = rw append-nil (runs_to_itself around _);
       right =
           right;
       fits = text;

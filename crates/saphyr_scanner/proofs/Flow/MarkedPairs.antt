@@ -1,23 +1,21 @@
 -- Pairs that a `?` begins, inside flow.
 use Rattle.std.proofs.Common.{◌≡◌, ℕ, ◌+◌, ◌<◌, ◌≤◌, Bool, true, false, List, [], ◌∷◌, ◌++◌, length, refl, sym, ap, ◌∙◌, arith, subst, append_assoc, ◌⊎◌, inl, inr}
-use Rattle.std.specs.Prelude.{Option, None}
+use Rattle.std.specs.Prelude.{None}
 use Rattle.saphyr_scalar.specs.declared.scalar.position.Marker.{Marker}
-use Rattle.saphyr_scalar.specs.Views.Cursor.{Cursor}
 use Rattle.saphyr_scanner.specs.declared.engine.level.Context.{Context}
 use Rattle.saphyr_scanner.specs.Grammar.Tokens as tokens
 use Rattle.saphyr_scanner.specs.Grammar.Tokens.{Kind}
 use Rattle.saphyr_scanner.specs.Grammar.TokenGrammar as grammar
-use Rattle.saphyr_scanner.specs.Steps.Queue.{Place}
-use Rattle.saphyr_scanner.specs.Steps.Core.{Candidate, Level, is_block}
+use Rattle.saphyr_scanner.specs.Steps.Core.{is_block}
 use Rattle.saphyr_scanner.specs.Steps.Block.{behind_question}
 use Rattle.saphyr_scanner.specs.Steps.Value.{begins_pair, behind_colon}
 use Rattle.saphyr_scanner.specs.Grammar.Forest.{Node, left_out}
 use Rattle.saphyr_scanner.specs.Grammar.FlowNodes.{IsColonAndValue, IsKeyAndValue, IsValueAlone, IsBehindMark, IsExplicitPair, IsLoneMark, IsFlowNode}
-use Rattle.saphyr_scanner.proofs.InFlow.States.{Around, state_at}
-use Rattle.saphyr_scanner.proofs.Flow.States.{Fits, moved, past, IsInk, IsParted, Passes, no_key, ended, PassesNode}
+use Rattle.saphyr_scanner.proofs.InFlow.States.{Around, state_at, FlowMoment, moment_in}
+use Rattle.saphyr_scanner.proofs.Flow.States.{Fits, moved, past, IsInk, IsParted, Passes, no_key, ended, PassesNode, after, StandsBefore}
 use Rattle.saphyr_scanner.proofs.Flow.Places.{moved_append}
 use Rattle.saphyr_scanner.proofs.Flow.GapSteps.{past_low, less_on}
-use Rattle.saphyr_scanner.proofs.Flow.Joins.{join, behind, knowing}
+use Rattle.saphyr_scanner.proofs.Flow.Joins.{join, separation_joins, knowing}
 use Rattle.saphyr_scanner.proofs.Flow.Values.{alone_kinds}
 use Rattle.saphyr_scanner.proofs.Flow.Questions.{mark_passes}
 use Rattle.saphyr_scanner.proofs.Flow.Inks.{BeginsInk, begins_with, ink_front, node_ink, key_text_ink}
@@ -41,12 +39,11 @@ pub record IsMarked (y z : Context) : Type 0 where
 -- the `?` and the separation behind it
 mark_behind : (around : Around) (y z : Context) → IsMarked y z → (m : Marker) (separation o : List ℕ)
     → Fits around m (63 ∷ separation) o → IsBehindMark around.indent separation → (first : ℕ) (others : List ℕ)
-    → o ≡ first ∷ others → IsInk first
-    → (s : Cursor) (k : Option Candidate) (ls : List Level) (a : Bool) (ad : ℕ) (ps : List Place) → ad ≤ m.index
-    → past around.indent s.mark s.rest ≡ past around.indent m (63 ∷ (separation ++ o))
-    → Passes around (state_at around s y k ls a ad ps) (no_key (moved m (63 ∷ separation))) z ls ps
+    → o ≡ first ∷ others → IsInk first → (now : FlowMoment) → now.adjacent ≤ m.index
+    → StandsBefore around now m (63 ∷ (separation ++ o))
+    → Passes around (state_at around (moment_in y now)) (no_key (moved m (63 ∷ separation))) z now.outer now.places
     (moved m (63 ∷ separation)) o (tokens.Key ∷ [])
-mark_behind around y z c m separation o fits (some, parts, tabs) first others is ink s k ls a ad ps before text =
+mark_behind around y z c m separation o fits (some, parts, tabs) first others is ink now before text =
     let parted : IsParted around.indent (separation ++ o) =
     record {
       separation = separation;
@@ -58,12 +55,11 @@ mark_behind around y z c m separation o fits (some, parts, tabs) first others is
       ink = ink;
     } in
     let f = fits_front m (63 ∷ []) separation o fits in
-    let p = mark_passes around y c.flows m (separation ++ o) f parted some tabs s k ls a ad ps before text in
-    let start = state_at around s y k ls a ad ps in
-    let q = behind (moved m (63 ∷ [])) separation o parts p in
-    subst (λ (x : Context). Passes around start (no_key (moved m (63 ∷ separation))) x ls ps (moved m (63 ∷ separation))
-    o (tokens.Key ∷ [])) c.question
-    (knowing q (no_key (moved m (63 ∷ separation)))
+    let p = mark_passes around y c.flows m (separation ++ o) f parted some tabs now before text in
+    let start = state_at around (moment_in y now) in
+    let q = separation_joins (moved m (63 ∷ [])) separation o parts p in
+    subst (λ (x : Context). Passes around start (no_key (moved m (63 ∷ separation))) x now.outer now.places
+    (moved m (63 ∷ separation)) o (tokens.Key ∷ [])) c.question (knowing q (no_key (moved m (63 ∷ separation)))
     (q.knows.0, q.knows.1, less_on q.adjacent (moved m (63 ∷ [])) separation q.knows.2))
 
 -- ## A key, a value or both behind the mark
@@ -105,12 +101,12 @@ InsideTokens key value t = MarkedTokens key value (tokens.Key ∷ t)
 inside_passes : {around : Around} (room : ℕ) (key value : Node) → PassesNode around room key
     → PassesNode around room value → (y z : Context) → IsMarked y z → (m : Marker) (t o : List ℕ) → Fits around m t o
     → IsBehindEntry around.indent o → Inside around.indent room key value t
-    → (s : Cursor) (k : Option Candidate) (ls : List Level) (a : Bool) (ad : ℕ) (ps : List Place) → k ≡ None → a ≡ false
-    → room + length ls ≤ 255 → ad < m.index → past around.indent s.mark s.rest ≡ past around.indent m (t ++ o)
-    → Told around (state_at around s z k ls a ad ps) (InsideTokens key value) z ls ps (moved m t) o
-inside_passes {around} room key value K V y z c m t o fits ends (inl (none, h)) s k ls a ad ps no_candidate none_allowed
+    → (now : FlowMoment) → now.key ≡ None → now.allowed ≡ false
+    → room + length now.outer ≤ 255 → now.adjacent < m.index → StandsBefore around now m (t ++ o)
+    → Told around (state_at around (moment_in z now)) (InsideTokens key value) z now.outer now.places (moved m t) o
+inside_passes {around} room key value K V y z c m t o fits ends (inl (none, h)) now no_candidate none_allowed
     low before text =
-    let n = K m t o (inl h) fits (entry_behind around.indent key o ends) s z k ls a ad ps before c.inside low text in
+    let n = K m t o (inl h) fits (entry_behind around.indent key o ends) (moment_in z now) before c.inside low text in
     record {
       tokens = n.tokens;
       are =
@@ -118,10 +114,10 @@ inside_passes {around} room key value K V y z c m t o fits ends (inl (none, h)) 
       passes =
           knowing n.passes (ended around.indent (moved m t) o) (n.passes.knows.low c.inside);
     }
-inside_passes {around} room key value K V y z c m t o fits ends (inr (inl h)) s k ls a ad ps no_candidate none_allowed
+inside_passes {around} room key value K V y z c m t o fits ends (inr (inl h)) now no_candidate none_allowed
     low before text =
-    let start = state_at around s z k ls a ad ps in
-    let v = alone_passes room key value V z c.inside m t o fits ends h s k ls a ad ps no_candidate low before text in
+    let start = state_at around (moment_in z now) in
+    let v = alone_passes room key value V z c.inside m t o fits ends h now no_candidate low before text in
     told_so (λ ts (vs, are, is). inl (
       tokens.Key ∷ [],
       tokens.Value ∷ vs,
@@ -130,12 +126,12 @@ inside_passes {around} room key value K V y z c m t o fits ends (inr (inl h)) s 
       ap (λ (x : List Kind). tokens.Key ∷ x)
           (is ∙ ap (λ (b : Bool). alone_kinds b ++ (tokens.Value ∷ vs)) c.no_pair),
     ))
-    (subst (λ (x : Context). Told around start (AloneTokens (alone_kinds (begins_pair z)) value) x ls ps (moved m t) o)
-    c.colon v)
-inside_passes {around} room key value K V y z c m t o fits ends (inr (inr h)) s k ls a ad ps no_candidate none_allowed
+    (subst (λ (x : Context). Told around start (AloneTokens (alone_kinds (begins_pair z)) value) x now.outer now.places
+    (moved m t) o) c.colon v)
+inside_passes {around} room key value K V y z c m t o fits ends (inr (inr h)) now no_candidate none_allowed
     low before text =
-    let start = state_at around s z k ls a ad ps in
-    let v = marked_key_passes room key value K V z c.inside c.no_pair m t o fits ends h s k ls a ad ps no_candidate
+    let start = state_at around (moment_in z now) in
+    let v = marked_key_passes room key value K V z c.inside c.no_pair m t o fits ends h now no_candidate
     none_allowed low before text in
     told_so (λ ts (ks, vs, are, others, is).
     inl (
@@ -146,7 +142,8 @@ inside_passes {around} room key value K V y z c m t o fits ends (inr (inr h)) s 
       (vs, others, refl),
       ap (λ (x : List Kind). tokens.Key ∷ x) is,
     ))
-    (subst (λ (x : Context). Told around start (PairTokens [] key value) x ls ps (moved m t) o) c.colon v)
+    (subst (λ (x : Context). Told around start (PairTokens [] key value) x now.outer now.places (moved m t) o) c.colon
+    v)
 
 -- a `?` with a key, a value or both
 pub explicit_passes : {around : Around} (room : ℕ) (key value : Node) → PassesNode around room key
@@ -154,22 +151,19 @@ pub explicit_passes : {around : Around} (room : ℕ) (key value : Node) → Pass
     → Fits around m t o → IsBehindEntry around.indent o
     → IsExplicitPair key value (IsFlowNode room key true around.indent) (IsFlowNode room value true around.indent)
     around.indent t
-    → (s : Cursor) (k : Option Candidate) (ls : List Level) (a : Bool) (ad : ℕ) (ps : List Place)
-    → room + length ls ≤ 255 → ad < m.index → past around.indent s.mark s.rest ≡ past around.indent m (t ++ o)
-    → Told around (state_at around s y k ls a ad ps) (MarkedTokens key value) z ls ps (moved m t) o
-explicit_passes {around} room key value K V y z c m t o fits ends (separation, pair, mark, h, e) s k ls a ad ps low
-    before text =
+    → (now : FlowMoment) → room + length now.outer ≤ 255 → now.adjacent < m.index → StandsBefore around now m (t ++ o)
+    → Told around (state_at around (moment_in y now)) (MarkedTokens key value) z now.outer now.places (moved m t) o
+explicit_passes {around} room key value K V y z c m t o fits ends (separation, pair, mark, h, e) now low before text =
     let b = inside_ink around.indent room key value pair h in
     let is : t ≡ (63 ∷ separation) ++ pair = e in
     let whole = fits_so m t ((63 ∷ separation) ++ pair) o is fits in
     let texts : t ++ o ≡ 63 ∷ (separation ++ (pair ++ o)) = ap (λ (x : List ℕ). x ++ o) is
     ∙ append_assoc (63 ∷ separation) pair o in
     let p = mark_behind around y z c m separation (pair ++ o) (fits_front m (63 ∷ separation) pair o whole) mark b.first
-    (b.others ++ o) (ap (λ (x : List ℕ). x ++ o) b.is) b.ink s k ls a ad ps
+    (b.others ++ o) (ap (λ (x : List ℕ). x ++ o) b.is) b.ink now
     (omega (arith, before)) (text ∙ ap (past around.indent m) texts) in
     let q = inside_passes room key value K V y z c (moved m (63 ∷ separation)) pair o
-    (fits_back m (63 ∷ separation) pair o p.right whole) ends h p.there p.key ls p.allowed p.adjacent (ps ++ p.new)
-    p.knows.0 p.knows.1 low p.knows.2 p.fits in
+    (fits_back m (63 ∷ separation) pair o p.right whole) ends h (after p) p.knows.0 p.knows.1 low p.knows.2 p.fits in
     told_at (moved (moved m (63 ∷ separation)) pair) (moved m t)
     (sym (moved_append m (63 ∷ separation) pair) ∙ ap (moved m) (sym is))
     (record {
@@ -185,14 +179,13 @@ upto a b c h k = omega (arith, h, k)
 -- a `?` alone
 pub lone_passes : {around : Around} (key value : Node) (y z : Context) → IsMarked y z
     → (m : Marker) (t : List ℕ) (c : ℕ) (cs : List ℕ) → Fits around m t (c ∷ cs) → (c ≡ 44) ⊎ ((c ≡ 93) ⊎ (c ≡ 125))
-    → IsLoneMark key value around.indent t
-    → (s : Cursor) (k : Option Candidate) (ls : List Level) (a : Bool) (ad : ℕ) (ps : List Place) → ad < m.index
-    → past around.indent s.mark s.rest ≡ past around.indent m (t ++ (c ∷ cs))
-    → Told around (state_at around s y k ls a ad ps) (MarkedTokens key value) z ls ps (moved m t) (c ∷ cs)
-lone_passes {around} key value y z q m t c cs fits ends (separation, no_key_there, none, mark, e) s k ls a ad ps before
-    text =
+    → IsLoneMark key value around.indent t → (now : FlowMoment) → now.adjacent < m.index
+    → StandsBefore around now m (t ++ (c ∷ cs))
+    → Told around (state_at around (moment_in y now)) (MarkedTokens key value) z now.outer now.places (moved m t)
+    (c ∷ cs)
+lone_passes {around} key value y z q m t c cs fits ends (separation, no_key_there, none, mark, e) now before text =
     let p = mark_behind around y z q m separation (c ∷ cs) (fits_so m t (63 ∷ separation) (c ∷ cs) e fits) mark c cs
-    refl (end_ink c ends) s k ls a ad ps (omega (arith, before))
+    refl (end_ink c ends) now (omega (arith, before))
     (text ∙ ap (λ (x : List ℕ). past around.indent m (x ++ (c ∷ cs))) e) in
     told_at (moved m (63 ∷ separation)) (moved m t) (ap (moved m) (sym e))
     (record {

@@ -11,7 +11,6 @@ use Rattle.saphyr_scanner.specs.declared.engine.level.Context.{Context}
 use Rattle.saphyr_scanner.specs.Grammar.Tokens as tokens
 use Rattle.saphyr_scanner.specs.Grammar.Tokens.{Kind, alias_token, anchor_token, tag_token}
 use Rattle.saphyr_scanner.specs.Grammar.Forest.{Tag}
-use Rattle.saphyr_scanner.specs.Steps.Queue.{Place}
 use Rattle.saphyr_scanner.specs.Steps.Core.{Candidate, Level, Core, is_block, from_to, went}
 use Rattle.saphyr_scanner.specs.Steps.Passing.{with_cursor}
 use Rattle.saphyr_scanner.specs.Steps.Property as property
@@ -21,25 +20,25 @@ use Rattle.saphyr_scanner.specs.Steps.Fetch.{step}
 use Rattle.saphyr_scanner.specs.Grammar.TagSpelling.{IsTag}
 use Rattle.saphyr_scanner.specs.Grammar.FlowNodes.{IsAnchor, IsAlias}
 use Rattle.saphyr_scanner.proofs.LineTexts.{name_no_break, tag_no_break}
-use Rattle.saphyr_scanner.proofs.InFlow.States.{Around, core_at, state_at, Placed, placed_right, saves_key, as_before}
+use Rattle.saphyr_scanner.proofs.InFlow.States.{Around, core_at, Placed, placed_right, saves_key, as_before, FlowMoment}
 use Rattle.saphyr_scanner.proofs.Json.Marks.{saved}
-use Rattle.saphyr_scanner.proofs.Flow.States.{keeping, moved, past, Reads, Passes, Fits}
+use Rattle.saphyr_scanner.proofs.Flow.States.{moved, Reads, Fits, StandsBefore}
 use Rattle.saphyr_scanner.proofs.Flow.Places.{moved_along, right_along}
-use Rattle.saphyr_scanner.proofs.Flow.Tokens.{Begins, after_token, token_passes}
+use Rattle.saphyr_scanner.proofs.Flow.Tokens.{Begins, token_passes, PassesToken}
 use Rattle.saphyr_scanner.proofs.Flow.Tags.{tag_read, tag_first}
 use Rattle.saphyr_scalar.proofs.Given.{cursor_at}
 use Rattle.saphyr_input.proofs.Basics.Characters.{no_break_no_feed}
 
 -- on its line what has no break has no line feed
-pub on_line : (t : List ℕ) → NoBreaks t → AreIn (λ c. not (c == line_feed)) t
-on_line [] h = tt
-on_line (c ∷ cs) h = (no_break_no_feed c h.0, on_line cs h.1)
+pub unbroken_on_line : (t : List ℕ) → NoBreaks t → AreIn (λ c. not (c == line_feed)) t
+unbroken_on_line [] h = tt
+unbroken_on_line (c ∷ cs) h = (no_break_no_feed c h.0, unbroken_on_line cs h.1)
 
 pub unbroken_along : (m : Marker) (t : List ℕ) → NoBreaks t → moved m t ≡ along m (length t)
-unbroken_along m t h = moved_along m t (on_line t h)
+unbroken_along m t h = moved_along m t (unbroken_on_line t h)
 
 pub unbroken_right : (column : ℕ) (m : Marker) (t : List ℕ) → NoBreaks t → column ≤ m.col → column ≤ (moved m t).col
-unbroken_right column m t h low = right_along column m t (on_line t h) low
+unbroken_right column m t h low = right_along column m t (unbroken_on_line t h) low
 
 -- no key may begin behind the token, and the place where a colon may stand at once is still the same
 abbrev pub closes_key : ℕ → Bool → ℕ → Type 0
@@ -72,28 +71,24 @@ name_passes : Reads → (around : Around) (is_alias : Bool) (indicator : ℕ) (n
     → ((second n : ℕ) (c : Core) → step indicator second n c ≡ property.name_steps is_alias n c)
     → Begins (indicator ∷ name) → is_break indicator ≡ false → IsAnchorName name
     → is_anchor_char (slice_index o 0) ≡ false → Fits around m (indicator ∷ name) o
-    → (s : Cursor) (x : Context) (k : Option Candidate) (ls : List Level) (a : Bool) (ad : ℕ) (ps : List Place)
-    → past around.indent s.mark s.rest ≡ past around.indent m ((indicator ∷ name) ++ o)
-    → Passes around (state_at around s x k ls a ad ps)
-    (after_token (closes_key ad) x (keeping a (length ps) m k (indicator ∷ name))) x ls ps
-    (moved m (indicator ∷ name)) o (name_token is_alias (encode_utf8_all name) ∷ [])
-name_passes reads around is_alias indicator name o m begins first break h ends fits s x k ls a ad ps text =
+    → (now : FlowMoment) → StandsBefore around now m ((indicator ∷ name) ++ o) → PassesToken around
+    (closes_key now.adjacent) now m (indicator ∷ name) o (name_token is_alias (encode_utf8_all name))
+name_passes reads around is_alias indicator name o m begins first break h ends fits now text =
     let kind = name_token is_alias (encode_utf8_all name) in
     let end = moved m (indicator ∷ name) in
-    token_passes around (closes_key ad) kind (indicator ∷ name) o m first fits
-    (unbroken_right around.indent m (indicator ∷ name) (break, name_no_break name h) fits.right) s x k ls a ad ps
-    text
+    token_passes around (closes_key now.adjacent) kind (indicator ∷ name) o m first fits
+    (unbroken_right around.indent m (indicator ∷ name) (break, name_no_break name h) fits.right) now text
     (λ b j e. record {
       there = at end o;
       end = end;
       allowed = false;
-      adjacent = ad;
+      adjacent = now.adjacent;
       to = λ d. d;
       deepens = as_before around;
-      is = λ d. begins (slice_index (name ++ o) 0) (length ps)
-          (core_at around d (cursor_at (indicator ∷ (name ++ o)) m b) x j ls e ad)
-          ∙ name_step reads around d is_alias (length ps) m b indicator name o break h ends x j ls e ad
-          (placed_right x e fits.calm fits.right);
+      is = λ d. begins (slice_index (name ++ o) 0) (length now.places)
+          (core_at around d (cursor_at (indicator ∷ (name ++ o)) m b) now.context j now.outer e now.adjacent)
+          ∙ name_step reads around d is_alias (length now.places) m b indicator name o break h ends now.context j
+          now.outer e now.adjacent (placed_right now.context e fits.calm fits.right);
       fits = refl;
       fresh = λ _ e. e;
       tells = (refl, refl);
@@ -132,30 +127,22 @@ alias_first name = record {
 }
 
 pub anchor_passes : Reads → (around : Around) (name t o : List ℕ) (m : Marker) → IsAnchor name t
-    → is_anchor_char (slice_index o 0) ≡ false → Fits around m t o
-    → (s : Cursor) (x : Context) (k : Option Candidate) (ls : List Level) (a : Bool) (ad : ℕ) (ps : List Place)
-    → past around.indent s.mark s.rest ≡ past around.indent m (t ++ o)
-    → Passes around (state_at around s x k ls a ad ps) (after_token (closes_key ad) x (keeping a (length ps) m k t)) x
-    ls ps (moved m t) o (anchor_token name ∷ [])
-anchor_passes reads around name t o m h ends fits s x k ls a ad ps text =
-    subst (λ (p : List ℕ). Fits around m p o → past around.indent s.mark s.rest ≡ past around.indent m (p ++ o)
-    → Passes around (state_at around s x k ls a ad ps) (after_token (closes_key ad) x (keeping a (length ps) m k p)) x
-    ls ps (moved m p) o (anchor_token name ∷ []))
-    (sym h.1) (λ f e. name_passes reads around false 38 name o m begins_anchor (anchor_first name) refl h.0 ends f s x k
-    ls a ad ps e) fits text
+    → is_anchor_char (slice_index o 0) ≡ false → Fits around m t o → (now : FlowMoment) → StandsBefore around now m
+    (t ++ o) → PassesToken around (closes_key now.adjacent) now m t o (anchor_token name)
+anchor_passes reads around name t o m h ends fits now text =
+    subst (λ (p : List ℕ). Fits around m p o → StandsBefore around now m (p ++ o)
+    → PassesToken around (closes_key now.adjacent) now m p o (anchor_token name))
+    (sym h.1) (λ f e. name_passes reads around false 38 name o m begins_anchor (anchor_first name) refl h.0 ends f now
+    e) fits text
 
 pub alias_token_passes : Reads → (around : Around) (name t o : List ℕ) (m : Marker) → IsAlias name t
-    → is_anchor_char (slice_index o 0) ≡ false → Fits around m t o
-    → (s : Cursor) (x : Context) (k : Option Candidate) (ls : List Level) (a : Bool) (ad : ℕ) (ps : List Place)
-    → past around.indent s.mark s.rest ≡ past around.indent m (t ++ o)
-    → Passes around (state_at around s x k ls a ad ps) (after_token (closes_key ad) x (keeping a (length ps) m k t)) x
-    ls ps (moved m t) o (alias_token name ∷ [])
-alias_token_passes reads around name t o m h ends fits s x k ls a ad ps text =
-    subst (λ (p : List ℕ). Fits around m p o → past around.indent s.mark s.rest ≡ past around.indent m (p ++ o)
-    → Passes around (state_at around s x k ls a ad ps) (after_token (closes_key ad) x (keeping a (length ps) m k p)) x
-    ls ps (moved m p) o (alias_token name ∷ []))
-    (sym h.1) (λ f e. name_passes reads around true 42 name o m begins_alias (alias_first name) refl h.0 ends f s x k ls
-    a ad ps e) fits text
+    → is_anchor_char (slice_index o 0) ≡ false → Fits around m t o → (now : FlowMoment) → StandsBefore around now m
+    (t ++ o) → PassesToken around (closes_key now.adjacent) now m t o (alias_token name)
+alias_token_passes reads around name t o m h ends fits now text =
+    subst (λ (p : List ℕ). Fits around m p o → StandsBefore around now m (p ++ o)
+    → PassesToken around (closes_key now.adjacent) now m p o (alias_token name))
+    (sym h.1) (λ f e. name_passes reads around true 42 name o m begins_alias (alias_first name) refl h.0 ends f now e)
+    fits text
 
 -- ## Tags
 
@@ -181,11 +168,9 @@ unfolding step
 begins_tag second n c = refl
 
 pub tag_passes : Reads → (around : Around) (tag : Tag) (t o : List ℕ) (m : Marker) → IsTag tag t → Fits around m t o
-    → (s : Cursor) (x : Context) (k : Option Candidate) (ls : List Level) (a : Bool) (ad : ℕ) (ps : List Place)
-    → EndsTag (not (is_block x)) o → past around.indent s.mark s.rest ≡ past around.indent m (t ++ o)
-    → Passes around (state_at around s x k ls a ad ps) (after_token (closes_key ad) x (keeping a (length ps) m k t)) x
-    ls ps (moved m t) o (tag_token tag ∷ [])
-tag_passes reads around tag t o m h fits s x k ls a ad ps ends text =
+    → (now : FlowMoment) → EndsTag (not (is_block now.context)) o → StandsBefore around now m (t ++ o)
+    → PassesToken around (closes_key now.adjacent) now m t o (tag_token tag)
+tag_passes reads around tag t o m h fits now ends text =
     let r = tag_read tag t h in
     let f = tag_first t r.handle r.suffix r.is in
     let first : Begins t = record {
@@ -200,23 +185,21 @@ tag_passes reads around tag t o m h fits s x k ls a ad ps ends text =
     let at_first : slice_index (t ++ o) 0 ≡ 33 = ap (λ (p : List ℕ). slice_index (p ++ o) 0) f.1 in
     let second = slice_index (t ++ o) 1 in
     let end = moved m t in
-    let n = length ps in
+    let n = length now.places in
     let kind = tokens.Tag (encode_utf8_all r.handle) (encode_utf8_all r.suffix) in
-    subst (λ (q : Kind). Passes around (state_at around s x k ls a ad ps)
-    (after_token (closes_key ad) x (keeping a (length ps) m k t)) x ls ps (moved m t) o (q ∷ [])) r.token
-    (token_passes around (closes_key ad) kind t o m first fits
-    (unbroken_right around.indent m t (tag_no_break t r.handle r.suffix r.is) fits.right) s x k ls a ad ps text
-    (λ b j e. record {
+    subst (λ (q : Kind). PassesToken around (closes_key now.adjacent) now m t o q) r.token (token_passes around
+    (closes_key now.adjacent) kind t o m first fits
+    (unbroken_right around.indent m t (tag_no_break t r.handle r.suffix r.is) fits.right) now text (λ b j e. record {
       there = at end o;
       end = end;
       allowed = false;
-      adjacent = ad;
+      adjacent = now.adjacent;
       to = λ d. d;
       deepens = as_before around;
-      is = λ d. let c = core_at around d (cursor_at (t ++ o) m b) x j ls e ad in
+      is = λ d. let c = core_at around d (cursor_at (t ++ o) m b) now.context j now.outer e now.adjacent in
           ap (λ (i : ℕ). step i second n c) at_first ∙ begins_tag second n c
-          ∙ tag_step reads around d n m b t r.handle r.suffix o r.is x j ls e ad ends
-          (placed_right x e fits.calm fits.right);
+          ∙ tag_step reads around d n m b t r.handle r.suffix o r.is now.context j now.outer e now.adjacent ends
+          (placed_right now.context e fits.calm fits.right);
       fits = refl;
       fresh = λ _ e. e;
       tells = (refl, refl);

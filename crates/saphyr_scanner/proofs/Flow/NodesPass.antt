@@ -1,22 +1,16 @@
 -- The scanner takes a node in flow style and makes its tokens.
-use Rattle.std.proofs.Common.{◌≡◌, ℕ, ◌+◌, ◌<◌, ◌≤◌, Bool, true, false, List, [], ◌∷◌, ◌++◌, length, refl, sym, ap, ◌∙◌, arith, subst, inl, inr}
-use Rattle.std.specs.Prelude.{Option}
+use Rattle.std.proofs.Common.{◌≡◌, ℕ, ◌+◌, ◌<◌, ◌≤◌, true, false, List, [], ◌∷◌, ◌++◌, length, refl, sym, ap, ◌∙◌, arith, subst, inl, inr}
 use Rattle.saphyr_scalar.specs.declared.scalar.position.Marker.{Marker}
-use Rattle.saphyr_scalar.specs.Views.Cursor.{Cursor}
-use Rattle.saphyr_scanner.specs.declared.engine.level.Context.{Context}
-use Rattle.saphyr_scanner.specs.declared.engine.level.Context.TheVariants as context
 use Rattle.saphyr_scanner.specs.Grammar.Tokens as tokens
-use Rattle.saphyr_scanner.specs.Steps.Queue.{Place}
-use Rattle.saphyr_scanner.specs.Steps.Core.{Candidate, Level, is_block}
+use Rattle.saphyr_scanner.specs.Steps.Core.{is_block}
 use Rattle.saphyr_scanner.specs.Grammar.Forest.{Style, Properties, Node, Alias, Scalar, Seq, Map, Nodes, NoNode, MoreNodes, Pairs, NoPair, MorePairs}
 use Rattle.saphyr_scanner.specs.Grammar.FlowNodes.{IsFlowNode}
-use Rattle.saphyr_scanner.proofs.InFlow.States.{Around, state_at}
-use Rattle.saphyr_scanner.proofs.Json.Marks.{saved}
-use Rattle.saphyr_scanner.proofs.Flow.States.{moved, past, Fits, IsParted, IsBehindNode, Reads, after_node, NodePasses, PassesNode, ClosesNode, ClosesNodes}
+use Rattle.saphyr_scanner.proofs.InFlow.States.{Around, FlowMoment, root_moment}
+use Rattle.saphyr_scanner.proofs.Flow.States.{moved, past, Fits, IsParted, IsBehindNode, Reads, after_node, NodePasses, PassesNode, ClosesNode, ClosesNodes, StandsBefore, key_behind}
 use Rattle.saphyr_scanner.proofs.Flow.GapSteps.{past_ink}
-use Rattle.saphyr_scanner.proofs.Flow.Joins.{knowing, root}
+use Rattle.saphyr_scanner.proofs.Flow.Joins.{knowing, closes_unnoted}
 use Rattle.saphyr_scanner.proofs.Flow.Inks.{BeginsInk, node_ink}
-use Rattle.saphyr_scanner.proofs.Flow.Quotes as quotes
+use Rattle.saphyr_scanner.proofs.Flow.Quotes.{ends_node_ink}
 use Rattle.saphyr_scanner.proofs.Flow.Collections.{ends_inside, ends_root}
 use Rattle.saphyr_scanner.proofs.Flow.Items.{PassesPairItem, PassesOtherItems, PassesItems, pair_item_passes, no_others_pass, others_pass, no_items_pass, items_pass}
 use Rattle.saphyr_scanner.proofs.Flow.Braces.{PassesOtherPairs, PassesPairs, no_other_pairs_pass, other_pairs_pass, no_pairs_pass, pairs_pass}
@@ -36,7 +30,7 @@ behind_parted indent node o h =
       is =
           h.is;
       parts = h.parts;
-      ink = (quotes.node_ink node h.separation h.others h.first h.ends).0;
+      ink = (ends_node_ink node h.separation h.others h.first h.ends).0;
     }
 
 weaker : (a b : ℕ) → a < b → a ≤ b
@@ -47,18 +41,15 @@ abbrev PassesWhole : Around → ℕ → Node → Type 0
 PassesWhole around room node =
     (m : Marker) (p o : List ℕ) → IsFlowNode room node true around.indent p → Fits around m p o
     → IsBehindNode around.indent node o
-    → (s : Cursor) (x : Context) (k : Option Candidate) (ls : List Level) (a : Bool) (ad : ℕ) (ps : List Place)
-    → ad < m.index → is_block x ≡ false → room + length ls ≤ 255
-    → past around.indent s.mark s.rest ≡ past around.indent m (p ++ o)
-    → NodePasses around (state_at around s x k ls a ad ps) node (saved a (length ps) m k) x ls ps (moved m p) o
+    → (now : FlowMoment) → now.adjacent < m.index → is_block now.context ≡ false → room + length now.outer ≤ 255
+    → StandsBefore around now m (p ++ o) → NodePasses around now node m p o
 
 sequence_passes : {around : Around} → Reads → (room : ℕ) (p : Properties) (nodes : Nodes)
     → ((left : ℕ) → PassesItems around left nodes) → PassesWhole around room (Seq p nodes)
-sequence_passes {around} reads room p nodes items m t o h fits behind s x k ls a ad ps before flow low text =
-    let c = sequence_run reads room p nodes true items m t o h fits s x k ls a ad ps
-    (λ e right. ends_inside around.indent x e o flow (behind_parted around.indent (Seq p nodes) o behind) right) low
-    (calm_in_flow around x flow)
-    (weaker ad m.index before) text in
+sequence_passes {around} reads room p nodes items m t o h fits behind now before flow low text =
+    let c = sequence_run reads room p nodes true items m t o h fits now
+    (λ e right. ends_inside around.indent now.context e o flow (behind_parted around.indent (Seq p nodes) o behind)
+    right) low (calm_in_flow around now.context flow) (weaker now.adjacent m.index before) text in
     let n = c.passes.knows in
     record {
       tokens = c.properties ++ (tokens.FlowSequenceStart ∷ (c.inside ++ tokens.FlowSequenceEnd ∷ []));
@@ -70,17 +61,16 @@ sequence_passes {around} reads room p nodes items m t o h fits behind s x k ls a
         inl (c.inside, c.are, refl),
         refl,
       );
-      passes = knowing c.passes (after_node around.indent x (saved a (length ps) m k) (Seq p nodes) (moved m t) o)
+      passes = knowing c.passes (after_node around.indent now.context (key_behind now m) (Seq p nodes) (moved m t) o)
           (record { piece = n.piece; others = n.others; is = n.is; keeps = n.keeps; near = n.near; low = λ e. n.low });
     }
 
 mapping_passes : {around : Around} → Reads → (room : ℕ) (p : Properties) (pairs : Pairs)
     → ((left : ℕ) → PassesPairs around left pairs) → PassesWhole around room (Map p pairs)
-mapping_passes {around} reads room p pairs members m t o h fits behind s x k ls a ad ps before flow low text =
-    let c = mapping_run reads room p pairs true members m t o h fits s x k ls a ad ps
-    (λ e right. ends_inside around.indent x e o flow (behind_parted around.indent (Map p pairs) o behind) right) low
-    (calm_in_flow around x flow)
-    (weaker ad m.index before) text in
+mapping_passes {around} reads room p pairs members m t o h fits behind now before flow low text =
+    let c = mapping_run reads room p pairs true members m t o h fits now
+    (λ e right. ends_inside around.indent now.context e o flow (behind_parted around.indent (Map p pairs) o behind)
+    right) low (calm_in_flow around now.context flow) (weaker now.adjacent m.index before) text in
     let n = c.passes.knows in
     record {
       tokens = c.properties ++ (tokens.FlowMappingStart ∷ (c.inside ++ tokens.FlowMappingEnd ∷ []));
@@ -92,7 +82,7 @@ mapping_passes {around} reads room p pairs members m t o h fits behind s x k ls 
         inl (c.inside, c.are, refl),
         refl,
       );
-      passes = knowing c.passes (after_node around.indent x (saved a (length ps) m k) (Map p pairs) (moved m t) o)
+      passes = knowing c.passes (after_node around.indent now.context (key_behind now m) (Map p pairs) (moved m t) o)
           (record { piece = n.piece; others = n.others; is = n.is; keeps = n.keeps; near = n.near; low = λ e. n.low });
     }
 
@@ -107,9 +97,9 @@ all_room = omega arith
 
 sequence_closes : {around : Around} → Reads → (p : Properties) (nodes : Nodes)
     → ((left : ℕ) → PassesItems around left nodes) → around.required ≡ false → ClosesNode around (Seq p nodes)
-sequence_closes {around} reads p nodes items none_required m t o h fits behind s k a ad ps before text =
-    let low = at_ink around.indent m t o ad (node_ink around.indent 255 (Seq p nodes) false t h) before in
-    let c = sequence_run reads 255 p nodes false items m t o h fits s context.Block k [] a ad ps
+sequence_closes {around} reads p nodes items none_required m t o h fits behind now before text =
+    let low = at_ink around.indent m t o now.adjacent (node_ink around.indent 255 (Seq p nodes) false t h) before in
+    let c = sequence_run reads 255 p nodes false items m t o h fits (root_moment now)
     (λ e right. ends_root around.indent e (moved m t) o behind right) all_room
     (calm_at_root around fits.calm none_required) low text in
     record {
@@ -122,14 +112,14 @@ sequence_closes {around} reads p nodes items none_required m t o h fits behind s
         inl (c.inside, c.are, refl),
         refl,
       );
-      closes = root c.passes c.passes.knows.low c.passes.knows.since;
+      closes = closes_unnoted c.passes c.passes.knows.low c.passes.knows.since;
     }
 
 mapping_closes : {around : Around} → Reads → (p : Properties) (pairs : Pairs)
     → ((left : ℕ) → PassesPairs around left pairs) → around.required ≡ false → ClosesNode around (Map p pairs)
-mapping_closes {around} reads p pairs members none_required m t o h fits behind s k a ad ps before text =
-    let low = at_ink around.indent m t o ad (node_ink around.indent 255 (Map p pairs) false t h) before in
-    let c = mapping_run reads 255 p pairs false members m t o h fits s context.Block k [] a ad ps
+mapping_closes {around} reads p pairs members none_required m t o h fits behind now before text =
+    let low = at_ink around.indent m t o now.adjacent (node_ink around.indent 255 (Map p pairs) false t h) before in
+    let c = mapping_run reads 255 p pairs false members m t o h fits (root_moment now)
     (λ e right. ends_root around.indent e (moved m t) o behind right) all_room
     (calm_at_root around fits.calm none_required) low text in
     record {
@@ -142,18 +132,15 @@ mapping_closes {around} reads p pairs members none_required m t o h fits behind 
         inl (c.inside, c.are, refl),
         refl,
       );
-      closes = root c.passes c.passes.knows.low c.passes.knows.since;
+      closes = closes_unnoted c.passes c.passes.knows.low c.passes.knows.since;
     }
 
 -- what is shown of a key before its colon
 abbrev KeyPasses : Around → ℕ → Properties → Style → List ℕ → Marker → List ℕ → List ℕ → Type 0
 KeyPasses around room p style value m t o =
     Fits around m t o → IsBehindNode around.indent (Scalar p style value) o
-    → (s : Cursor) (x : Context) (k : Option Candidate) (ls : List Level) (a : Bool) (ad : ℕ) (ps : List Place)
-    → ad < m.index → is_block x ≡ false → room + length ls ≤ 255
-    → past around.indent s.mark s.rest ≡ past around.indent m (t ++ o)
-    → NodePasses around (state_at around s x k ls a ad ps) (Scalar p style value) (saved a (length ps) m k) x ls ps
-    (moved m t) o
+    → (now : FlowMoment) → now.adjacent < m.index → is_block now.context ≡ false → room + length now.outer ≤ 255
+    → StandsBefore around now m (t ++ o) → NodePasses around now (Scalar p style value) m t o
 
 -- ## All nodes
 
@@ -165,8 +152,8 @@ mutual
       scalar_passes reads around room p style value m t o h
   nodes_pass reads around room (Scalar p style value) m t o (inr (h, (r, e))) =
       subst (λ (y : List ℕ). KeyPasses around room p style value m t y) (sym e)
-      (λ fits behind s x k ls a ad ps low flow small text. key_node_passes reads around p style value t r m h fits
-      behind s x k ls a ad ps low flow text)
+      (λ fits behind now low flow small text. key_node_passes reads around p style value t r m h fits
+      behind now low flow text)
   nodes_pass reads around room (Seq p nodes) m t o (inl h) =
       sequence_passes reads room p nodes (λ left. all_items_pass reads around left nodes) m t o h
   nodes_pass reads around room (Seq p nodes) m t o (inr h) = absurd h.0

@@ -1,26 +1,25 @@
 -- Pairs of a key and a value inside flow.
 use Rattle.std.proofs.Common.{◌≡◌, ◌≢◌, ℕ, ◌+◌, ◌<◌, ◌≤◌, Bool, true, false, List, [], ◌∷◌, ◌++◌, length, slice_index, refl, sym, ap, ◌∙◌, arith, subst, append_assoc, append-nil, IsTrue, ◌⊎◌, inl, inr}
-use Rattle.std.specs.Prelude.{Option, Some, None}
+use Rattle.std.specs.Prelude.{Some, None}
 use Rattle.saphyr_scalar.specs.declared.scalar.position.Marker.{Marker}
-use Rattle.saphyr_scalar.specs.Views.Cursor.{Cursor}
 use Rattle.saphyr_scalar.specs.Spelling.Spaces.{IsSeparation}
 use Rattle.saphyr_scanner.specs.declared.engine.level.Context.{Context}
 use Rattle.saphyr_scanner.specs.Grammar.Tokens as tokens
 use Rattle.saphyr_scanner.specs.Grammar.Tokens.{Kind}
 use Rattle.saphyr_scanner.specs.Grammar.TokenGrammar as grammar
 use Rattle.saphyr_scanner.specs.Steps.Queue.{Place}
-use Rattle.saphyr_scanner.specs.Steps.Core.{Candidate, Level, is_block}
+use Rattle.saphyr_scanner.specs.Steps.Core.{Level, is_block}
 use Rattle.saphyr_scanner.specs.Steps.Value.{begins_pair, behind_colon}
 use Rattle.saphyr_scanner.specs.Steps.State.{State}
 use Rattle.saphyr_scanner.specs.Grammar.Forest.{Node, left_out}
 use Rattle.saphyr_scanner.specs.Grammar.FlowNodes.{allows_adjacent, IsColonAndValue, IsBeforeColon, IsKeyAndValue, IsValueAlone, IsFlowNode, IsKeyText}
-use Rattle.saphyr_scanner.proofs.InFlow.States.{Around, state_at}
+use Rattle.saphyr_scanner.proofs.InFlow.States.{Around, state_at, FlowMoment, moment_in}
 use Rattle.saphyr_scanner.proofs.Json.Marks.{saved}
-use Rattle.saphyr_scanner.proofs.Flow.States.{moved, past, Fits, IsInk, IsParted, ends_colon, IsBehindNode, Known, Passes, no_key, ended, after_node, IsAfterNode, IsNodeOrKey, PassesNode}
+use Rattle.saphyr_scanner.proofs.Flow.States.{moved, past, Fits, IsInk, IsParted, ends_colon, IsBehindNode, Known, Passes, no_key, ended, after_node, IsAfterNode, IsNodeOrKey, PassesNode, after, StandsBefore, key_behind}
 use Rattle.saphyr_scanner.proofs.Flow.Places.{moved_append, right_one}
 use Rattle.saphyr_scanner.proofs.Flow.GapSteps.{past_ink, less_on, less_behind}
 use Rattle.saphyr_scanner.proofs.Flow.Fillers.{separation_past, right_behind}
-use Rattle.saphyr_scanner.proofs.Flow.Joins.{join, behind, knowing}
+use Rattle.saphyr_scanner.proofs.Flow.Joins.{join, separation_joins, knowing}
 use Rattle.saphyr_scanner.proofs.Flow.Colons.{key_kinds, colon_flows}
 use Rattle.saphyr_scanner.proofs.Flow.Values.{key_at, colon_passes, alone_kinds, value_passes}
 use Rattle.saphyr_scanner.proofs.Flow.Inks.{node_ink}
@@ -78,11 +77,10 @@ value_behind {around} {start} {ls} {ps} {ts} room value V y flows m rest o fits 
     let right = right_behind around.indent m separation parts fits.right in
     let f = fits_back m separation node o right (fits_so m rest (separation ++ node) o e fits) in
     let text : rest ++ o ≡ separation ++ (node ++ o) = ap (λ (t : List ℕ). t ++ o) e ∙ append_assoc separation node o in
-    let q = behind m separation (node ++ o) parts
+    let q = separation_joins m separation (node ++ o) parts
     (subst (λ (t : List ℕ). Passes around start (no_key m) y ls ps m t ts) text p) in
-    let n = V (moved m separation) node o (inl h) f (entry_behind around.indent value o ends) q.there y q.key ls
-    q.allowed q.adjacent (ps ++ q.new) (less_on q.adjacent m separation q.knows.2) flows low
-    q.fits in
+    let n = V (moved m separation) node o (inl h) f (entry_behind around.indent value o ends) (after q)
+    (less_on q.adjacent m separation q.knows.2) flows low q.fits in
     told_at (moved (moved m separation) node) (moved m rest)
     (sym (moved_append m separation node) ∙ ap (moved m) (sym e))
     (record {
@@ -101,10 +99,10 @@ pub record IsColonText (indent room : ℕ) (adjacent : Bool) (value : Node) (col
   pub ends : IsTrue adjacent ⊎ IsTrue (ends_colon (slice_index (rest ++ o) 0))
   pub value_text : IsValueText indent room value rest
 
-pub colon_text : (indent room : ℕ) (adjacent : Bool) (value : Node) (colon o : List ℕ) → IsBehindEntry indent o
+pub is_colon_text : (indent room : ℕ) (adjacent : Bool) (value : Node) (colon o : List ℕ) → IsBehindEntry indent o
     → IsColonAndValue adjacent value (IsFlowNode room value true indent) indent colon
     → IsColonText indent room adjacent value colon o
-colon_text indent room adjacent value colon o ends (inl (none, e)) =
+is_colon_text indent room adjacent value colon o ends (inl (none, e)) =
     record {
       rest = [];
       is =
@@ -113,7 +111,7 @@ colon_text indent room adjacent value colon o ends (inl (none, e)) =
       ends = inr (entry_ends_colon indent o ends);
       value_text = inl (none, refl);
     }
-colon_text indent room adjacent value colon o ends (inr (separation, node, parts, apart, h, e)) =
+is_colon_text indent room adjacent value colon o ends (inr (separation, node, parts, apart, h, e)) =
     let assoc = sym (append_assoc separation node o) in
     record {
       rest = separation ++ node;
@@ -159,8 +157,9 @@ node_or_key : (indent room : ℕ) (key : Node) (t separation r : List ℕ)
 node_or_key indent room key t separation r (inl h) = inl h
 node_or_key indent room key t separation r (inr (h, none)) = inr (h, (r, ap (λ (x : List ℕ). x ++ (58 ∷ r)) none))
 
-regrouped : (front ks vs : List Kind) → (front ++ (ks ++ tokens.Value ∷ [])) ++ vs ≡ front ++ (ks ++ tokens.Value ∷ vs)
-regrouped front ks vs = simp append_assoc
+value_regrouped : (front ks vs : List Kind) → (front ++ (ks ++ tokens.Value ∷ [])) ++ vs ≡ front ++ (ks ++ tokens.Value
+    ∷ vs)
+value_regrouped front ks vs = simp append_assoc
 
 whole_moved : (m : Marker) (t node separation rest : List ℕ) → t ≡ node ++ (separation ++ (58 ∷ rest))
     → moved (moved (moved (moved m node) separation) (58 ∷ [])) rest ≡ moved m t
@@ -174,13 +173,13 @@ pub key_passes : {around : Around} (room : ℕ) (key value : Node) → PassesNod
     → Fits around m t o → IsBehindEntry around.indent o
     → (h : IsKeyAndValue key value (IsFlowNode room key true around.indent) (IsFlowNode room value true around.indent)
     around.indent t) → (begins_pair y ≡ true → m.line ≡ (moved (moved m h.0) h.1).line)
-    → (s : Cursor) (k : Option Candidate) (ls : List Level) (a : Bool) (ad : ℕ) (ps : List Place) → a ≡ true
-    → room + length ls ≤ 255 → ad < m.index → past around.indent s.mark s.rest ≡ past around.indent m (t ++ o)
-    → Told around (state_at around s y k ls a ad ps) (PairTokens (key_kinds (begins_pair y)) key value) (behind_colon y)
-    ls ps (moved m t) o
-key_passes {around} room key value K V y flows m t o fits ends (node, separation, colon, h, parts, apart, c, e) line s k
-    ls a ad ps fresh low before text =
-    let x = colon_text around.indent room (allows_adjacent key separation) value colon o ends c in
+    → (now : FlowMoment) → now.allowed ≡ true
+    → room + length now.outer ≤ 255 → now.adjacent < m.index → StandsBefore around now m (t ++ o)
+    → Told around (state_at around (moment_in y now)) (PairTokens (key_kinds (begins_pair y)) key value)
+    (behind_colon y) now.outer now.places (moved m t) o
+key_passes {around} room key value K V y flows m t o fits ends (node, separation, colon, h, parts, apart, c, e) line now
+    fresh low before text =
+    let x = is_colon_text around.indent room (allows_adjacent key separation) value colon o ends c in
     let rest = x.rest in
     let is : t ≡ node ++ (separation ++ (58 ∷ rest)) = e ∙ ap (λ (z : List ℕ). node ++ (separation ++ z)) x.is in
     let follow : (separation ++ (58 ∷ rest)) ++ o ≡ separation ++ (58 ∷ (rest ++ o)) =
@@ -190,13 +189,13 @@ key_passes {around} room key value K V y flows m t o fits ends (node, separation
     (fits_front m node (separation ++ (58 ∷ rest)) o whole) in
     let at_end = moved m node in
     let here = moved at_end separation in
-    let start = state_at around s y k ls a ad ps in
+    let start = state_at around (moment_in y now) in
     let texts : t ++ o ≡ node ++ (separation ++ (58 ∷ (rest ++ o))) =
     ap (λ (z : List ℕ). z ++ o) is ∙ append_assoc node (separation ++ (58 ∷ rest)) o
     ∙ ap (λ (z : List ℕ). node ++ z) follow in
     let n = K m node (separation ++ (58 ∷ (rest ++ o)))
     (node_or_key around.indent room key node separation (rest ++ o) h) node_fits
-    (behind_key around.indent room key value separation rest o parts apart x.ends) s y k ls a ad ps before flows low
+    (behind_key around.indent room key value separation rest o parts apart x.ends) (moment_in y now) before flows low
     (text ∙ ap (past around.indent m) texts) in
     let at_colon_right = right_behind around.indent at_end separation parts n.passes.right in
     let colon_fits = fits_back at_end separation (58 ∷ rest) o at_colon_right
@@ -204,18 +203,18 @@ key_passes {around} room key value K V y flows m t o fits ends (node, separation
     let mark_fits = fits_front here (58 ∷ []) rest o colon_fits in
     let behind_mark = right_one around.indent here 58 refl at_colon_right in
     let q = n.passes in
-    let kept = subst (λ (b : Bool). IsAfterNode around.indent y (saved b (length ps) m k) key at_end
+    let kept = subst (λ (b : Bool). IsAfterNode around.indent y (saved b (length now.places) m now.key) key at_end
     (separation ++ (58 ∷ (rest ++ o))) q.key q.adjacent q.new) fresh q.knows in
-    let after = after_node around.indent y (Some (key_at m ps)) key at_end (separation ++ (58 ∷ (rest ++ o))) in
+    let known = after_node around.indent y (Some (key_at m now.places)) key at_end (separation ++ (58 ∷ (rest ++ o))) in
     let p = colon_passes around y flows m at_end key separation (rest ++ o) parts mark_fits x.parted x.ends line start
-    ls ps n.tokens (knowing q after kept) in
+    now.outer now.places n.tokens (knowing q known kept) in
     let v = value_behind room value V (behind_colon y) (colon_flows y flows) (moved here (58 ∷ [])) rest o
     (fits_back here (58 ∷ []) rest o behind_mark colon_fits) ends low x.value_text p in
     told_at (moved (moved here (58 ∷ [])) rest) (moved m t) (whole_moved m t node separation rest is)
     (record {
       tokens = v.tokens;
       are =
-          (n.tokens, v.are.0, n.are, v.are.1, v.are.2 ∙ regrouped (key_kinds (begins_pair y)) n.tokens v.are.0);
+          (n.tokens, v.are.0, n.are, v.are.1, v.are.2 ∙ value_regrouped (key_kinds (begins_pair y)) n.tokens v.are.0);
       passes =
           v.passes;
     })
@@ -228,16 +227,16 @@ AloneTokens front value t = (vs : List Kind) × ValueTokens value vs × (t ≡ f
 pub alone_passes : {around : Around} (room : ℕ) (key value : Node) → PassesNode around room value → (y : Context)
     → is_block y ≡ false → (m : Marker) (t o : List ℕ) → Fits around m t o → IsBehindEntry around.indent o
     → IsValueAlone key value (IsFlowNode room value true around.indent) around.indent t
-    → (s : Cursor) (k : Option Candidate) (ls : List Level) (a : Bool) (ad : ℕ) (ps : List Place) → k ≡ None
-    → room + length ls ≤ 255 → ad < m.index → past around.indent s.mark s.rest ≡ past around.indent m (t ++ o)
-    → Told around (state_at around s y k ls a ad ps) (AloneTokens (alone_kinds (begins_pair y)) value) (behind_colon y)
-    ls ps (moved m t) o
-alone_passes {around} room key value V y flows m t o fits ends (none, c) s k ls a ad ps no_candidate low before text =
-    let x = colon_text around.indent room false value t o ends c in
+    → (now : FlowMoment) → now.key ≡ None
+    → room + length now.outer ≤ 255 → now.adjacent < m.index → StandsBefore around now m (t ++ o)
+    → Told around (state_at around (moment_in y now)) (AloneTokens (alone_kinds (begins_pair y)) value)
+    (behind_colon y) now.outer now.places (moved m t) o
+alone_passes {around} room key value V y flows m t o fits ends (none, c) now no_candidate low before text =
+    let x = is_colon_text around.indent room false value t o ends c in
     let rest = x.rest in
     let whole = fits_so m t (58 ∷ rest) o x.is fits in
     let mark_fits = fits_front m (58 ∷ []) rest o whole in
-    let p = value_passes around y flows m (rest ++ o) mark_fits x.parted s k ls a ad ps no_candidate
+    let p = value_passes around y flows m (rest ++ o) mark_fits x.parted now no_candidate
     (by_end (slice_index (rest ++ o) 0) x.ends) (omega (arith, before))
     (text ∙ ap (λ (z : List ℕ). past around.indent m (z ++ o)) x.is) in
     let v = value_behind room value V (behind_colon y) (colon_flows y flows) (moved m (58 ∷ [])) rest o
@@ -251,7 +250,7 @@ alone_passes {around} room key value V y flows m t o fits ends (none, c) s k ls 
           v.passes;
     })
   where
-    by_end : (c : ℕ) → IsTrue false ⊎ IsTrue (ends_colon c) → (m.index ≡ ad) ⊎ IsTrue (ends_colon c)
+    by_end : (c : ℕ) → IsTrue false ⊎ IsTrue (ends_colon c) → (m.index ≡ now.adjacent) ⊎ IsTrue (ends_colon c)
     by_end c (inl h) = absurd (cc)
     by_end c (inr h) = inr h
 
@@ -272,13 +271,13 @@ pub marked_key_passes : {around : Around} (room : ℕ) (key value : Node) → Pa
     → PassesNode around room value → (y : Context) → is_block y ≡ false → begins_pair y ≡ false
     → (m : Marker) (t o : List ℕ) → Fits around m t o → IsBehindEntry around.indent o
     → IsKeyAndValue key value (IsFlowNode room key true around.indent) (IsFlowNode room value true around.indent)
-    around.indent t
-    → (s : Cursor) (k : Option Candidate) (ls : List Level) (a : Bool) (ad : ℕ) (ps : List Place) → k ≡ None → a ≡ false
-    → room + length ls ≤ 255 → ad < m.index → past around.indent s.mark s.rest ≡ past around.indent m (t ++ o)
-    → Told around (state_at around s y k ls a ad ps) (PairTokens [] key value) (behind_colon y) ls ps (moved m t) o
+    around.indent t → (now : FlowMoment) → now.key ≡ None → now.allowed ≡ false
+    → room + length now.outer ≤ 255 → now.adjacent < m.index → StandsBefore around now m (t ++ o)
+    → Told around (state_at around (moment_in y now)) (PairTokens [] key value) (behind_colon y) now.outer now.places
+    (moved m t) o
 marked_key_passes {around} room key value K V y flows no_pair m t o fits ends
-    (node, separation, colon, h, parts, apart, c, e) s k ls a ad ps no_candidate none_allowed low before text =
-    let x = colon_text around.indent room (allows_adjacent key separation) value colon o ends c in
+    (node, separation, colon, h, parts, apart, c, e) now no_candidate none_allowed low before text =
+    let x = is_colon_text around.indent room (allows_adjacent key separation) value colon o ends c in
     let rest = x.rest in
     let is : t ≡ node ++ (separation ++ (58 ∷ rest)) = e ∙ ap (λ (z : List ℕ). node ++ (separation ++ z)) x.is in
     let follow : (separation ++ (58 ∷ rest)) ++ o ≡ separation ++ (58 ∷ (rest ++ o)) =
@@ -293,7 +292,7 @@ marked_key_passes {around} room key value K V y flows no_pair m t o fits ends
     ∙ ap (λ (z : List ℕ). node ++ z) follow in
     let n = K m node (separation ++ (58 ∷ (rest ++ o)))
     (node_or_key around.indent room key node separation (rest ++ o) h) node_fits
-    (behind_key around.indent room key value separation rest o parts apart x.ends) s y k ls a ad ps before flows low
+    (behind_key around.indent room key value separation rest o parts apart x.ends) (moment_in y now) before flows low
     (text ∙ ap (past around.indent m) texts) in
     let at_colon_right = right_behind around.indent at_end separation parts n.passes.right in
     let colon_fits = fits_back at_end separation (58 ∷ rest) o at_colon_right
@@ -301,7 +300,7 @@ marked_key_passes {around} room key value K V y flows no_pair m t o fits ends
     let mark_fits = fits_front here (58 ∷ []) rest o colon_fits in
     let behind_mark = right_one around.indent here 58 refl at_colon_right in
     let known = n.passes.knows in
-    let kept : saved a (length ps) m k ≡ None = rw (none_allowed, no_candidate) refl in
+    let kept : key_behind now m ≡ None = rw (none_allowed, no_candidate) refl in
     let second = slice_index (rest ++ o) 0 in
     let ink : IsInk 58 = record { blank = refl; break = refl; comment = refl; byte_order_mark = refl } in
     let lands = separation_past around.indent at_end separation (58 ∷ (rest ++ o)) parts n.passes.right
@@ -313,9 +312,10 @@ marked_key_passes {around} room key value K V y flows no_pair m t o fits ends
       subst
           (λ (z : Marker × List ℕ). n.passes.adjacent ≤ z.0.index) lands (known.low flows),
     ) in
-    let q = behind at_end separation (58 ∷ (rest ++ o)) parts (knowing n.passes (at_colon here second) told) in
-    let p = value_passes around y flows here (rest ++ o) mark_fits x.parted q.there q.key ls q.allowed q.adjacent
-    (ps ++ q.new) q.knows.0 q.knows.1 q.knows.2 q.fits in
+    let q = separation_joins at_end separation (58 ∷ (rest ++ o)) parts (knowing n.passes (at_colon here second)
+    told) in
+    let p = value_passes around y flows here (rest ++ o) mark_fits x.parted (after q) q.knows.0 q.knows.1 q.knows.2
+    q.fits in
     let v = value_behind room value V (behind_colon y) (colon_flows y flows) (moved here (58 ∷ [])) rest o
     (fits_back here (58 ∷ []) rest o behind_mark colon_fits) ends low x.value_text
     (join q p (no_key (moved here (58 ∷ []))) p.knows) in

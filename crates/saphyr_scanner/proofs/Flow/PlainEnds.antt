@@ -15,8 +15,8 @@ use Rattle.saphyr_scanner.proofs.Flow.States.{past, moved, IsInk, EndsDocument, 
 use Rattle.saphyr_scanner.proofs.Flow.GapSteps.{past_ink, no_left}
 use Rattle.saphyr_scanner.proofs.InFlow.Tabs.{lands_on_ink, tabs_behind, broke_or_right}
 use Rattle.saphyr_scanner.proofs.Flow.Fillers.{white_past, separation_past}
-use Rattle.saphyr_scanner.proofs.Flow.Ends.{EndsHere, node_first, root_first}
-use Rattle.saphyr_scanner.proofs.Flow.Quotes.{node_ink}
+use Rattle.saphyr_scanner.proofs.Flow.Ends.{EndsHere, behind_node_first, root_first}
+use Rattle.saphyr_scanner.proofs.Flow.Quotes.{ends_node_ink}
 use Rattle.saphyr_input.proofs.Basics.Booleans.{by_test}
 
 -- ## Behind the blanks and breaks
@@ -112,8 +112,8 @@ word_stops node w c others apart (inr (inr (inr (e, before, inr ends)))) =
 
 -- ## Ends
 
-no_sign : (node : Node) (c : ℕ) → EndsHere node c → c ≢ 35
-no_sign node c h e = absurd (by_end (subst (EndsHere node) e h))
+ends_no_sign : (node : Node) (c : ℕ) → EndsHere node c → c ≢ 35
+ends_no_sign node c h e = absurd (by_end (subst (EndsHere node) e h))
   where
     by_end : EndsHere node 35 → ⊥
     by_end (inl k) = cc
@@ -128,12 +128,12 @@ ends_in_flow column node m o apart h right =
     record {
       stops = stops (reaches column m o inked);
       apart =
-          no_sign node (slice_index o 0) (node_first column node o h);
+          ends_no_sign node (slice_index o 0) (behind_node_first column node o h);
       tabs = tabs_behind column m m false o inked;
     }
   where
     ink : IsInk h.first
-    ink = (node_ink node h.separation h.others h.first h.ends).0
+    ink = (ends_node_ink node h.separation h.others h.first h.ends).0
 
     lands : past column m o ≡ (moved m h.separation, h.first ∷ h.others)
     lands = ap (past column m) h.is ∙ separation_past column m h.separation (h.first ∷ h.others) h.parts right

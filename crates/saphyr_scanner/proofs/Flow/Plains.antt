@@ -14,26 +14,25 @@ use Rattle.saphyr_scanner.specs.declared.engine.level.Context.TheVariants as con
 use Rattle.saphyr_scanner.specs.Grammar.Tokens as tokens
 use Rattle.saphyr_scanner.specs.Grammar.Tokens.{Kind, scalar_token}
 use Rattle.saphyr_scanner.specs.Grammar.Forest.{Plain}
-use Rattle.saphyr_scanner.specs.Steps.Queue.{Place}
 use Rattle.saphyr_scanner.specs.Steps.Core.{Candidate, Level, Core, is_block, from_to, went}
 use Rattle.saphyr_scanner.specs.Steps.Scalar as scalar
 use Rattle.saphyr_scanner.specs.Steps.Scalar.{read_plain, disallow_key, behind_plain}
 use Rattle.saphyr_scanner.specs.Steps.Fetch.{step, is_value_adjacent}
 use Rattle.saphyr_scanner.specs.Grammar.FlowScalars.{begins_plain, IsPlain, IsPlainKey}
 use Rattle.saphyr_scalar.specs.Spelling.Tag.{AreIn}
-use Rattle.saphyr_scanner.proofs.InFlow.States.{Around, core_at, state_at, Placed, placed_right, plain_placed, saves_key, none_deeper}
+use Rattle.saphyr_scanner.proofs.InFlow.States.{Around, core_at, state_at, Placed, placed_right, plain_placed, saves_key, none_deeper, FlowMoment, moment, root_moment}
 use Rattle.saphyr_scanner.proofs.Json.Marks.{saved}
 use Rattle.saphyr_scanner.proofs.Json.Brackets.{place_of}
-use Rattle.saphyr_scanner.proofs.Flow.States.{keeping, moved, past, IsClear, IsInk, Reads, Passes, Closes, Fits}
+use Rattle.saphyr_scanner.proofs.Flow.States.{moved, past, IsClear, IsInk, Reads, Closes, Fits, StandsBefore}
 use Rattle.saphyr_scanner.proofs.Flow.Places.{moved_count}
 use Rattle.saphyr_scanner.proofs.Flow.Fillers.{white_past}
 use Rattle.saphyr_scanner.proofs.Flow.GapSteps.{past_ink}
 use Rattle.saphyr_scanner.proofs.Flow.Arrivals.{arrives, within_index}
 use Rattle.saphyr_scanner.proofs.Flow.Low.{behind_low}
-use Rattle.saphyr_scanner.proofs.Flow.Tokens.{Begins, saved_since, begins_past, begins_inked, begins_token, adjacent_at, after_token, token_passes}
+use Rattle.saphyr_scanner.proofs.Flow.Tokens.{Begins, saved_since, begins_past, begins_inked, begins_token, adjacent_at, token_passes, PassesToken}
 use Rattle.saphyr_scanner.proofs.Flow.WordGaps.{passed_moved, normalized_same}
-use Rattle.saphyr_scanner.proofs.Flow.Words.{ink_other, no_break, colon_is_ink, plain_text, key_text, plain_right, key_right}
-use Rattle.saphyr_scanner.proofs.Flow.Noted.{noted_one}
+use Rattle.saphyr_scanner.proofs.Flow.Words.{ink_other, ink_no_break, colon_is_ink, plain_text, key_text, plain_right, key_right}
+use Rattle.saphyr_scanner.proofs.Flow.Noted.{noted_step_comes}
 use Rattle.saphyr_scanner.proofs.InBlock.Crossings.{white_crosses}
 use Rattle.saphyr_input.proofs.Basics.Booleans.{other_than, and_false}
 use Rattle.saphyr_scalar.proofs.Given.{cursor_at}
@@ -137,7 +136,7 @@ token_begins f t o b =
       ink = record {
         blank = no_blank b.first ink.blank_or_breakz;
         break =
-            no_break b.first ink.blank_or_breakz;
+            ink_no_break b.first ink.blank_or_breakz;
         comment =
             ne_eqb b.first 35 b.no_comment;
         byte_order_mark = ink.byte_order_mark;
@@ -287,30 +286,29 @@ no_comment f t u e = rw e refl
 pub text_passes : Reads → (around : Around) (t o : List ℕ) (m : Marker) → BeginsWord true t o
     → IsPlainText true around.indent m t o → Fits around m t o → around.indent ≤ (moved m t).col
     → is_blank (slice_index (past around.indent (moved m t) o).1 0) ≡ false
-    → (s : Cursor) (x : Context) (k : Option Candidate) (ls : List Level) (a : Bool) (ad : ℕ) (ps : List Place)
-    → is_block x ≡ false → ad < m.index → past around.indent s.mark s.rest ≡ past around.indent m (t ++ o)
-    → Passes around (state_at around s x k ls a ad ps) (after_token (adjacent_at ad) x (keeping a (length ps) m k t))
-    x ls ps (moved m t) o (scalar_token Plain (plain_value t) ∷ [])
-text_passes reads around t o m begins plain fits right inked s x k ls a ad ps flow low text =
-    let inside : not (is_block x) ≡ true = ap not flow in
+    → (now : FlowMoment) → is_block now.context ≡ false → now.adjacent < m.index → StandsBefore around now m (t ++ o)
+    → PassesToken around (adjacent_at now.adjacent) now m t o (scalar_token Plain (plain_value t))
+text_passes reads around t o m begins plain fits right inked now flow low text =
+    let inside : not (is_block now.context) ≡ true = ap not flow in
     let u = past_white (moved m t) false o in
-    let word : BeginsWord (not (is_block x)) t o = subst (λ (f : Bool). BeginsWord f t o) (sym inside) begins in
-    let is_text : IsPlainText (not (is_block x)) around.indent m t o =
+    let word : BeginsWord (not (is_block now.context)) t o = subst (λ (f : Bool). BeginsWord f t o) (sym inside)
+    begins in
+    let is_text : IsPlainText (not (is_block now.context)) around.indent m t o =
     subst (λ (f : Bool). IsPlainText f around.indent m t o) (sym inside) plain in
-    token_passes around (adjacent_at ad) (plain_token t) t o m (token_begins true t o begins) fits right s x k ls a
-    ad ps text
-    (λ b j e. record {
+    token_passes around (adjacent_at now.adjacent) (plain_token t) t o m (token_begins true t o begins) fits right now
+    text (λ b j e. record {
       there = u;
       end = moved m t;
       allowed = u.blank_so_far;
-      adjacent = ad;
+      adjacent = now.adjacent;
       to = λ d. false;
       deepens = none_deeper around;
-      is = λ d. plain_step reads around d (length ps) m b t o x word is_text fits.clear j ls e ad (inr low)
-          (placed_right x e fits.calm fits.right)
+      is = λ d. plain_step reads around d (length now.places) m b t o now.context word is_text fits.clear j now.outer e
+          now.adjacent (inr low) (placed_right now.context e fits.calm fits.right)
           ∙ ap (λ (q : Option Marker). went (from_to m (moved m t) (plain_token t) ∷ [])
-          (record (core_at around false u x (saved e (length ps) m j) ls u.blank_so_far ad) { comment = q }))
-          (no_comment (not (is_block x)) (is_tabbed around.indent o) u inside);
+          (record (core_at around false u now.context (saved e (length now.places) m j) now.outer u.blank_so_far
+          now.adjacent) { comment = q }))
+          (no_comment (not (is_block now.context)) (is_tabbed around.indent o) u inside);
       fits = white_past around.indent (moved m t) false o inked;
       fresh = λ _ e. white_crosses (moved m t) false o e;
       tells = refl;
@@ -319,10 +317,8 @@ text_passes reads around t o m begins plain fits right inked s x k ls a ad ps fl
 pub plain_passes : Reads → (around : Around) (t o : List ℕ) (m : Marker) → IsPlain true around.indent t
     → Fits around m t o → EndsPlain true around.indent (moved m t) o
     → is_blank (slice_index (past around.indent (moved m t) o).1 0) ≡ false
-    → (s : Cursor) (x : Context) (k : Option Candidate) (ls : List Level) (a : Bool) (ad : ℕ) (ps : List Place)
-    → is_block x ≡ false → ad < m.index → past around.indent s.mark s.rest ≡ past around.indent m (t ++ o)
-    → Passes around (state_at around s x k ls a ad ps) (after_token (adjacent_at ad) x (keeping a (length ps) m k t))
-    x ls ps (moved m t) o (scalar_token Plain (plain_value t) ∷ [])
+    → (now : FlowMoment) → is_block now.context ≡ false → now.adjacent < m.index → StandsBefore around now m (t ++ o)
+    → PassesToken around (adjacent_at now.adjacent) now m t o (scalar_token Plain (plain_value t))
 plain_passes reads around t o m h fits ends inked =
     text_passes reads around t o m (word_begins true around.indent t o h)
     (plain_text true around.indent m t o h fits.clear ends) fits
@@ -331,10 +327,9 @@ plain_passes reads around t o m h fits ends inked =
 -- a key is passed, up to its colon
 pub plain_key_passes : Reads → (around : Around) (t r : List ℕ) (m : Marker) → IsPlainKey true around.indent t
     → Fits around m t (58 ∷ r) → EndsPlain true around.indent (moved m t) (58 ∷ r)
-    → (s : Cursor) (x : Context) (k : Option Candidate) (ls : List Level) (a : Bool) (ad : ℕ) (ps : List Place)
-    → is_block x ≡ false → ad < m.index → past around.indent s.mark s.rest ≡ past around.indent m (t ++ (58 ∷ r))
-    → Passes around (state_at around s x k ls a ad ps) (after_token (adjacent_at ad) x (keeping a (length ps) m k t))
-    x ls ps (moved m t) (58 ∷ r) (scalar_token Plain (plain_value t) ∷ [])
+    → (now : FlowMoment) → is_block now.context ≡ false → now.adjacent < m.index → StandsBefore around now m
+    (t ++ (58 ∷ r))
+    → PassesToken around (adjacent_at now.adjacent) now m t (58 ∷ r) (scalar_token Plain (plain_value t))
 plain_key_passes reads around t r m h fits ends =
     text_passes reads around t (58 ∷ r) m (key_begins true around.indent t r h)
     (key_text true around.indent m t r h fits.clear ends) fits
@@ -349,14 +344,13 @@ plain_key_passes reads around t r m h fits ends =
 pub plain_closes : Reads → (around : Around) (t o : List ℕ) (m : Marker) → IsPlain false around.indent t
     → Fits around m t o → EndsPlain false around.indent (moved m t) o
     → is_blank (slice_index (past around.indent (moved m t) o).1 0) ≡ false
-    → (s : Cursor) (k : Option Candidate) (a : Bool) (ad : ℕ) (ps : List Place) → ad ≤ m.index
-    → past around.indent s.mark s.rest ≡ past around.indent m (t ++ o)
-    → Closes around (state_at around s context.Block k [] a ad ps) k m t ps (moved m t) o
+    → (now : FlowMoment) → now.adjacent ≤ m.index → StandsBefore around now m (t ++ o)
+    → Closes around (state_at around (root_moment now)) now.key m t now.places (moved m t) o
     (scalar_token Plain (plain_value t) ∷ [])
-plain_closes reads around t o m h fits ends inked s k a ad ps before text =
+plain_closes reads around t o m h fits ends inked now before text =
     let w = word_begins false around.indent t o h in
     let f = token_begins false t o w in
-    let v = arrives around s context.Block k [] a ad ps m (t ++ o) (text ∙ begins_past around.indent m t o f)
+    let v = arrives around (root_moment now) m (t ++ o) (text ∙ begins_past around.indent m t o f)
     (begins_inked t o f) fits.right fits.calm in
     let u = past_white (moved m t) false o in
     let lands = white_past around.indent (moved m t) false o inked in
@@ -364,24 +358,26 @@ plain_closes reads around t o m h fits ends inked s k a ad ps before text =
     let below = fits.below in
     let low = within_index around.indent around.limit u (moved m t) o lands (omega (arith, count, below)) in
     let new = place_of m (moved m t) (plain_token t) ∷ [] in
-    let stepped = λ (d : Bool). plain_step reads around d (length ps) m v.blank t o context.Block w
-    (plain_text false around.indent m t o h fits.clear ends) fits.clear v.key [] v.allowed ad (inl refl)
+    let stepped = λ (d : Bool). plain_step reads around d (length now.places) m v.blank t o context.Block w
+    (plain_text false around.indent m t o h fits.clear ends) fits.clear v.key [] v.allowed now.adjacent (inl refl)
     (placed_right context.Block v.allowed fits.calm fits.right) in
-    let came = noted_one around s k [] a ad ps m (t ++ o) v (begins_token m t o f fits.clear)
-    (comment_of false (is_tabbed around.indent o) u) u (saved v.allowed (length ps) m v.key) [] u.blank_so_far ad
-    (ps ++ new) (from_to m (moved m t) (plain_token t) ∷ []) (λ d. false) (none_deeper around) stepped refl low in
+    let came = noted_step_comes around now m (t ++ o) v (begins_token m t o f fits.clear)
+    (comment_of false (is_tabbed around.indent o) u) (moment u context.Block (saved v.allowed (length now.places) m
+    v.key) [] u.blank_so_far now.adjacent
+    (now.places ++ new)) (from_to m (moved m t) (plain_token t) ∷ []) (λ d. false) (none_deeper around) stepped refl
+    low in
     record {
       there = u;
       key = came.key;
       allowed = u.blank_so_far;
-      adjacent = ad;
+      adjacent = now.adjacent;
       comment = comment_of false (is_tabbed around.indent o) u;
       new = new;
       leads = came.leads;
       right = plain_right false around.indent m t o h fits.clear fits.right;
       fits = lands;
       are = refl;
-      low = behind_low around.indent ad m t o before;
-      late = saved_since v.allowed (length ps) m k v.key t came.key v.kept came.kept;
+      low = behind_low around.indent now.adjacent m t o before;
+      late = saved_since v.allowed (length now.places) m now.key v.key t came.key v.kept came.kept;
       fresh = λ _ e. white_crosses (moved m t) false o e;
     }

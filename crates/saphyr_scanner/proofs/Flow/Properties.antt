@@ -4,11 +4,9 @@ use Rattle.std.specs.Prelude.{not, option_map, Option, Some, None}
 use Rattle.saphyr_input.specs.Classes.{is_blank, is_blank_or_breakz}
 use Rattle.std.proofs.lemmas.Bool.{false≢true}
 use Rattle.saphyr_scalar.specs.declared.scalar.position.Marker.{Marker}
-use Rattle.saphyr_scalar.specs.Views.Cursor.{Cursor}
 use Rattle.saphyr_scalar.specs.Spelling.Tag.{AreIn, EndsTag}
 use Rattle.saphyr_scalar.specs.Spelling.Spaces.{AreSpaces}
 use Rattle.saphyr_scanner.specs.declared.engine.level.Context.{Context}
-use Rattle.saphyr_scanner.specs.declared.engine.level.Context.TheVariants as context
 use Rattle.saphyr_scanner.specs.Grammar.Tokens.{Kind, alias_token, anchor_token, tag_token}
 use Rattle.saphyr_scanner.specs.Grammar.TokenGrammar as grammar
 use Rattle.saphyr_scanner.specs.Steps.Queue.{Place}
@@ -18,14 +16,14 @@ use Rattle.saphyr_scanner.specs.Grammar.Forest.{Tag, Alias}
 use Rattle.saphyr_scanner.specs.Grammar.TagSpelling.{IsTag}
 use Rattle.saphyr_scanner.specs.Grammar.FlowNodes as layout
 use Rattle.saphyr_scanner.specs.Grammar.FlowNodes.{IsAnchor}
-use Rattle.saphyr_scanner.proofs.InFlow.States.{Around, state_at}
+use Rattle.saphyr_scanner.proofs.InFlow.States.{Around, state_at, FlowMoment, root_moment}
 use Rattle.saphyr_scanner.proofs.Json.Marks.{saved}
-use Rattle.saphyr_scanner.proofs.Flow.States.{Since, Kept, keeping, moved, past, IsBehindNode, IsBehindRoot, Reads, Known, Passes, Fits, IsAfterNode, IsAfterProperties, NodePasses, RootCloses}
+use Rattle.saphyr_scanner.proofs.Flow.States.{Since, Kept, keeping, moved, past, IsBehindNode, IsBehindRoot, Reads, Known, Passes, Fits, IsAfterNode, IsAfterProperties, NodePasses, RootCloses, after, StandsBefore, key_behind}
 use Rattle.saphyr_scanner.proofs.Flow.Places.{moved_append}
 use Rattle.saphyr_scanner.proofs.Flow.GapSteps.{less_behind}
 use Rattle.saphyr_scanner.proofs.Flow.Fillers.{blanks_past, spaces_are_blank, are_spaces_past}
 use Rattle.saphyr_scanner.proofs.Flow.Pieces.{fits_front, fits_back}
-use Rattle.saphyr_scanner.proofs.Flow.Joins.{since_join, join, root, knowing}
+use Rattle.saphyr_scanner.proofs.Flow.Joins.{since_join, join, closes_unnoted, knowing}
 use Rattle.saphyr_scanner.proofs.Flow.Inks.{node_ink}
 use Rattle.saphyr_scanner.proofs.Flow.Low.{start_low, behind_low}
 use Rattle.saphyr_scanner.proofs.Flow.Tokens.{after_token}
@@ -74,22 +72,20 @@ spaces_right column m w h low =
 -- two with spaces between
 two_properties : (around : Around) (start : Bool → State) (x : Context) (kept before : Option Candidate)
     (ls : List Level) (ps : List Place) (ad : ℕ) (m : Marker) (a w b o : List ℕ) (first second : Kind) → AreSpaces 1 w
-    → Passes around start (after_token (closes_key ad) x (record { kept = kept; before = before; from = m; over = a }))
-    x ls ps (moved m a) ((w ++ b) ++ o) (first ∷ [])
-    → ((s : Cursor) (k : Option Candidate) (e : Bool) (be : ℕ) (qs : List Place)
-    → past around.indent s.mark s.rest ≡ past around.indent (moved (moved m a) w) (b ++ o)
-    → around.indent ≤ (moved (moved m a) w).col
-    → Passes around (state_at around s x k ls e be qs)
-    (after_token (closes_key be) x (keeping e (length qs) (moved (moved m a) w) k b)) x ls qs
+    → (p : Passes around start
+    (after_token (closes_key ad) x (record { kept = kept; before = before; from = m; over = a })) x ls ps (moved m a)
+    ((w ++ b) ++ o) (first ∷ []))
+    → (StandsBefore around (after p) (moved (moved m a) w) (b ++ o) → around.indent ≤ (moved (moved m a) w).col
+    → Passes around (state_at around (after p))
+    (after_token (closes_key p.adjacent) x (keeping (after p) (moved (moved m a) w) b)) x ls (ps ++ p.new)
     (moved (moved (moved m a) w) b) o (second ∷ []))
     → Passes around start (behind_properties x (record { kept = kept; before = before; from = m; over = a ++ (w ++ b) })
     ad) x ls ps (moved m (a ++ (w ++ b))) o (first ∷ second ∷ [])
 two_properties around start x kept before ls ps ad m a w b o first second h p passes =
-    let here : past around.indent p.there.mark p.there.rest ≡ past around.indent (moved (moved m a) w) (b ++ o) =
+    let here : StandsBefore around (after p) (moved (moved m a) w) (b ++ o) =
     p.fits ∙ ap (past around.indent (moved m a)) (append_assoc w b o)
     ∙ are_spaces_past around.indent 1 w h (moved m a) (b ++ o) in
-    let q = passes p.there p.key p.allowed p.adjacent (ps ++ p.new) here
-    (spaces_right around.indent (moved m a) w h p.right) in
+    let q = passes here (spaces_right around.indent (moved m a) w h p.right) in
     let place : moved (moved (moved m a) w) b ≡ moved m (a ++ (w ++ b)) =
     sym (moved_append m a (w ++ b) ∙ moved_append (moved m a) w b) in
     subst (λ (n : Marker). Passes around start
@@ -115,108 +111,103 @@ space_first w y (zero, some, is) = absurd (omega (arith, some))
 space_first w y (suc n, some, is) =
     subst (λ (v : List ℕ). IsTrue (is_blank_or_breakz (slice_index (v ++ y) 0))) (sym is) refl
 
-spaces_end : (in_flow : Bool) (w b o : List ℕ) → AreSpaces 1 w → EndsTag in_flow ((w ++ b) ++ o)
-spaces_end in_flow w b o h =
+spaces_end_tag : (in_flow : Bool) (w b o : List ℕ) → AreSpaces 1 w → EndsTag in_flow ((w ++ b) ++ o)
+spaces_end_tag in_flow w b o h =
     subst (EndsTag in_flow) (sym (append_assoc w b o))
     (white_ends_tag in_flow (w ++ (b ++ o)) (space_first w (b ++ o) h))
 
 -- ## Properties
 
 -- the tokens of an anchor and a tag, and the run over their text
-pub record PropertiesRead (around : Around) (start : Bool → State) (anchor : Option (List ℕ)) (tag : Option Tag)
-    (kept : Kept) (x : Context) (ls : List Level) (ps : List Place) (ad : ℕ)
-    (m : Marker) (o : List ℕ) : Type 0 where
+pub record PropertiesRead (around : Around) (now : FlowMoment) (anchor : Option (List ℕ)) (tag : Option Tag)
+    (m : Marker) (t o : List ℕ) : Type 0 where
   pub tokens : List Kind
   pub are : grammar.AreBoth (option_map anchor_token anchor) (option_map tag_token tag) tokens
-  pub passes : Passes around start (behind_properties x kept ad) x ls ps m o tokens
+  pub passes : Passes around (state_at around now) (behind_properties now.context (keeping now m t) now.adjacent)
+      now.context now.outer now.places (moved m t) o tokens
 
 -- what is shown of a piece with properties
-abbrev ReadsProperties : Around → Option (List ℕ) → Option Tag → Marker → List ℕ → List ℕ → Cursor → Context
-    → Option Candidate → List Level → Bool → ℕ → List Place → Type 0
-ReadsProperties around anchor tag m t o s x k ls a ad ps =
-    Fits around m t o → past around.indent s.mark s.rest ≡ past around.indent m (t ++ o)
-    → PropertiesRead around (state_at around s x k ls a ad ps) anchor tag (keeping a (length ps) m k t) x ls ps
-    ad (moved m t) o
+abbrev ReadsProperties : Around → Option (List ℕ) → Option Tag → Marker → List ℕ → List ℕ → FlowMoment → Type 0
+ReadsProperties around anchor tag m t o now =
+    Fits around m t o → StandsBefore around now m (t ++ o) → PropertiesRead around now anchor tag m t o
 
 anchor_and_tag : Reads → (around : Around) (name : List ℕ) (tag : Tag) (m : Marker) (a w b o : List ℕ) → IsAnchor name a
-    → AreSpaces 1 w → IsTag tag b
-    → (s : Cursor) (x : Context) (k : Option Candidate) (ls : List Level) (e : Bool) (ad : ℕ) (ps : List Place)
-    → EndsTag (not (is_block x)) o
-    → ReadsProperties around (Some name) (Some tag) m (a ++ (w ++ b)) o s x k ls e ad ps
-anchor_and_tag reads around name tag m a w b o h spaced g s x k ls e ad ps ends fits text =
+    → AreSpaces 1 w → IsTag tag b → (now : FlowMoment) → EndsTag (not (is_block now.context)) o
+    → ReadsProperties around (Some name) (Some tag) m (a ++ (w ++ b)) o now
+anchor_and_tag reads around name tag m a w b o h spaced g now ends fits text =
     let behind = (w ++ b) ++ o in
-    let p = anchor_passes reads around name a behind m h (tag_ends_name true behind (spaces_end true w b o spaced))
-    (fits_front m a (w ++ b) o fits)
-    s x k ls e ad ps (text ∙ ap (past around.indent m) (append_assoc a (w ++ b) o)) in
+    let p = anchor_passes reads around name a behind m h (tag_ends_name true behind (spaces_end_tag true w b o spaced))
+    (fits_front m a (w ++ b) o fits) now (text ∙ ap (past around.indent m) (append_assoc a (w ++ b) o)) in
     record {
       tokens = anchor_token name ∷ tag_token tag ∷ [];
       are = inl refl;
-      passes = two_properties around (state_at around s x k ls e ad ps) x (saved e (length ps) m k) k ls ps ad m a w b o
-          (anchor_token name) (tag_token tag) spaced p
-          (λ u j d be qs there right. tag_passes reads around tag b o (moved (moved m a) w) g
-          (fits_back (moved m a) w b o right (fits_back m a (w ++ b) o p.right fits))
-          u x j ls d be qs ends there);
+      passes = two_properties around (state_at around now) now.context (key_behind now m) now.key now.outer now.places
+          now.adjacent m a w b o (anchor_token name) (tag_token tag) spaced p
+          (λ there right. tag_passes reads around tag b o (moved (moved m a) w) g
+          (fits_back (moved m a) w b o right (fits_back m a (w ++ b) o p.right fits)) (after p) ends there);
     }
 
 tag_and_anchor : Reads → (around : Around) (name : List ℕ) (tag : Tag) (m : Marker) (a w b o : List ℕ) → IsTag tag a
-    → AreSpaces 1 w → IsAnchor name b
-    → (s : Cursor) (x : Context) (k : Option Candidate) (ls : List Level) (e : Bool) (ad : ℕ) (ps : List Place)
-    → EndsTag (not (is_block x)) o
-    → ReadsProperties around (Some name) (Some tag) m (a ++ (w ++ b)) o s x k ls e ad ps
-tag_and_anchor reads around name tag m a w b o g spaced h s x k ls e ad ps ends fits text =
+    → AreSpaces 1 w → IsAnchor name b → (now : FlowMoment) → EndsTag (not (is_block now.context)) o
+    → ReadsProperties around (Some name) (Some tag) m (a ++ (w ++ b)) o now
+tag_and_anchor reads around name tag m a w b o g spaced h now ends fits text =
     let behind = (w ++ b) ++ o in
-    let p = tag_passes reads around tag a behind m g (fits_front m a (w ++ b) o fits) s x k ls e ad ps
-    (spaces_end (not (is_block x)) w b o spaced)
+    let p = tag_passes reads around tag a behind m g (fits_front m a (w ++ b) o fits) now
+    (spaces_end_tag (not (is_block now.context)) w b o spaced)
     (text ∙ ap (past around.indent m) (append_assoc a (w ++ b) o)) in
     record {
       tokens = tag_token tag ∷ anchor_token name ∷ [];
       are = inr refl;
-      passes = two_properties around (state_at around s x k ls e ad ps) x (saved e (length ps) m k) k ls ps ad m a w b o
-          (tag_token tag) (anchor_token name) spaced p
-          (λ u j d be qs there right. anchor_passes reads around name b o (moved (moved m a) w) h
-          (tag_ends_name (not (is_block x)) o ends)
-          (fits_back (moved m a) w b o right (fits_back m a (w ++ b) o p.right fits)) u x j ls d be qs there);
+      passes = two_properties around (state_at around now) now.context (key_behind now m) now.key now.outer now.places
+          now.adjacent m a w b o (tag_token tag) (anchor_token name) spaced p
+          (λ there right. anchor_passes reads around name b o (moved (moved m a) w) h
+          (tag_ends_name (not (is_block now.context)) o ends)
+          (fits_back (moved m a) w b o right (fits_back m a (w ++ b) o p.right fits)) (after p) there);
     }
 
 pub properties_read : Reads
     → (around : Around) (anchor : Option (List ℕ)) (tag : Option Tag) (m : Marker) (t o : List ℕ)
     → layout.AreProperties anchor tag t
-    → (s : Cursor) (x : Context) (k : Option Candidate) (ls : List Level) (a : Bool) (ad : ℕ) (ps : List Place)
-    → EndsTag (not (is_block x)) o → ReadsProperties around anchor tag m t o s x k ls a ad ps
-properties_read reads around None None m t o h s x k ls a ad ps ends fits text = absurd h
-properties_read reads around (Some name) None m t o h s x k ls a ad ps ends fits text =
-    let p = anchor_passes reads around name t o m h (tag_ends_name (not (is_block x)) o ends) fits s x k ls a ad ps
-    text in
-    record { tokens = anchor_token name ∷ []; are = refl; passes = one_property x (keeping a (length ps) m k t) ad p }
-properties_read reads around None (Some tag) m t o h s x k ls a ad ps ends fits text =
-    let p = tag_passes reads around tag t o m h fits s x k ls a ad ps ends text in
-    record { tokens = tag_token tag ∷ []; are = refl; passes = one_property x (keeping a (length ps) m k t) ad p }
-properties_read reads around (Some name) (Some tag) m t o (anchor, between, written, h, g, spaced, inl is) s x k ls a ad
-    ps ends fits text =
-    subst (λ (y : List ℕ). ReadsProperties around (Some name) (Some tag) m y o s x k ls a ad ps) (sym is)
-    (anchor_and_tag reads around name tag m anchor between written o h spaced g s x k ls a ad ps ends) fits text
-properties_read reads around (Some name) (Some tag) m t o (anchor, between, written, h, g, spaced, inr is) s x k ls a ad
-    ps ends fits text =
-    subst (λ (y : List ℕ). ReadsProperties around (Some name) (Some tag) m y o s x k ls a ad ps) (sym is)
-    (tag_and_anchor reads around name tag m written between anchor o g spaced h s x k ls a ad ps ends) fits text
+    → (now : FlowMoment) → EndsTag (not (is_block now.context)) o → ReadsProperties around anchor tag m t o now
+properties_read reads around None None m t o h now ends fits text = absurd h
+properties_read reads around (Some name) None m t o h now ends fits text =
+    let p = anchor_passes reads around name t o m h (tag_ends_name (not (is_block now.context)) o ends) fits now text in
+    record {
+      tokens = anchor_token name ∷ [];
+      are = refl;
+      passes = one_property now.context (keeping now m t) now.adjacent p;
+    }
+properties_read reads around None (Some tag) m t o h now ends fits text =
+    let p = tag_passes reads around tag t o m h fits now ends text in
+    record {
+      tokens = tag_token tag ∷ [];
+      are = refl;
+      passes = one_property now.context (keeping now m t) now.adjacent p;
+    }
+properties_read reads around (Some name) (Some tag) m t o (anchor, between, written, h, g, spaced, inl is) now ends fits
+    text =
+    subst (λ (y : List ℕ). ReadsProperties around (Some name) (Some tag) m y o now) (sym is)
+    (anchor_and_tag reads around name tag m anchor between written o h spaced g now ends) fits text
+properties_read reads around (Some name) (Some tag) m t o (anchor, between, written, h, g, spaced, inr is) now ends fits
+    text =
+    subst (λ (y : List ℕ). ReadsProperties around (Some name) (Some tag) m y o now) (sym is)
+    (tag_and_anchor reads around name tag m written between anchor o g spaced h now ends) fits text
 
 -- ## An alias
 
 pub alias_passes : Reads → (around : Around) (room : ℕ) (name : List ℕ) (m : Marker) (p o : List ℕ)
     → layout.IsFlowNode room (Alias name) true around.indent p → Fits around m p o
     → IsBehindNode around.indent (Alias name) o
-    → (s : Cursor) (x : Context) (k : Option Candidate) (ls : List Level) (a : Bool) (ad : ℕ) (ps : List Place)
-    → ad < m.index → is_block x ≡ false → room + length ls ≤ 255
-    → past around.indent s.mark s.rest ≡ past around.indent m (p ++ o)
-    → NodePasses around (state_at around s x k ls a ad ps) (Alias name) (saved a (length ps) m k) x ls ps (moved m p) o
-alias_passes reads around room name m p o h fits behind s x k ls a ad ps before flow small text =
+    → (now : FlowMoment) → now.adjacent < m.index → is_block now.context ≡ false → room + length now.outer ≤ 255
+    → StandsBefore around now m (p ++ o) → NodePasses around now (Alias name) m p o
+alias_passes reads around room name m p o h fits behind now before flow small text =
     let ends = tag_ends_name true o (node_ends_tag around.indent (Alias name) o refl behind) in
-    let q = alias_token_passes reads around name p o m h ends fits s x k ls a ad ps text in
+    let q = alias_token_passes reads around name p o m h ends fits now text in
     record {
       tokens = alias_token name ∷ [];
       are = refl;
-      passes = knowing q (λ key allowed adjacent new. IsAfterNode around.indent x (saved a (length ps) m k) (Alias name)
-          (moved m p) o key adjacent new)
+      passes = knowing q (λ key allowed adjacent new. IsAfterNode around.indent now.context (key_behind now m)
+          (Alias name) (moved m p) o key adjacent new)
           (record {
             piece = q.knows.piece;
             others = [];
@@ -224,25 +215,23 @@ alias_passes reads around room name m p o h fits behind s x k ls a ad ps before 
             keeps = q.knows.keeps;
             near = λ e separation more is parts allows. absurd (false≢true allows);
             low = λ e. subst (λ (n : ℕ). n ≤ (past around.indent (moved m p) o).0.index) (sym q.knows.tells.1)
-                (less_behind around.indent ad m p o before);
+                (less_behind around.indent now.adjacent m p o before);
           });
     }
 
 pub alias_closes : Reads → (around : Around) (name : List ℕ) (m : Marker) (p o : List ℕ)
     → layout.IsFlowNode 255 (Alias name) false around.indent p → Fits around m p o
     → IsBehindRoot around.indent (moved m p) o
-    → (s : Cursor) (k : Option Candidate) (a : Bool) (ad : ℕ) (ps : List Place)
-    → ad ≤ (past around.indent m (p ++ o)).0.index
-    → past around.indent s.mark s.rest ≡ past around.indent m (p ++ o)
-    → RootCloses around (state_at around s context.Block k [] a ad ps) (Alias name) k m p ps (moved m p) o
-alias_closes reads around name m p o h fits behind s k a ad ps before text =
-    let first = start_low around.indent ad m p o (node_ink around.indent 255 (Alias name) false p h) before in
+    → (now : FlowMoment) → now.adjacent ≤ (past around.indent m (p ++ o)).0.index → StandsBefore around now m (p ++ o)
+    → RootCloses around now (Alias name) m p o
+alias_closes reads around name m p o h fits behind now before text =
+    let first = start_low around.indent now.adjacent m p o (node_ink around.indent 255 (Alias name) false p h) before in
     let ends = tag_ends_name true o (white_ends_tag true o (root_first around.indent (moved m p) o behind)) in
-    let q = alias_token_passes reads around name p o m h ends fits s context.Block k [] a ad ps text in
+    let q = alias_token_passes reads around name p o m h ends fits (root_moment now) text in
     record {
       tokens = alias_token name ∷ [];
       are =
           refl;
-      closes = root q (subst (λ (n : ℕ). n ≤ (past around.indent (moved m p) o).0.index) (sym q.knows.tells.1)
-          (behind_low around.indent ad m p o first)) q.knows.since;
+      closes = closes_unnoted q (subst (λ (n : ℕ). n ≤ (past around.indent (moved m p) o).0.index) (sym q.knows.tells.1)
+          (behind_low around.indent now.adjacent m p o first)) q.knows.since;
     }

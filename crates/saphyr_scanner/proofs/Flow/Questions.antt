@@ -11,20 +11,19 @@ use Rattle.saphyr_scanner.specs.declared.engine.level.Context.TheVariants as con
 use Rattle.saphyr_scanner.specs.Grammar.FlowNodes.{has_tab_outside}
 use Rattle.saphyr_scanner.specs.Steps.Gap.{Spaced, spaced, spaces}
 use Rattle.saphyr_scanner.specs.Grammar.Tokens as tokens
-use Rattle.saphyr_scanner.specs.Steps.Queue.{Place}
 use Rattle.saphyr_scanner.specs.Steps.Core.{Candidate, Level, Core, is_block, from_to, up_to_here, went, remove_key}
 use Rattle.saphyr_scanner.specs.Steps.Block as block
 use Rattle.saphyr_scanner.specs.Steps.Block.{behind_question, behind_mark, pass_question, begin_key}
 use Rattle.saphyr_scanner.specs.Steps.Passing.{with_cursor}
 use Rattle.saphyr_scanner.specs.Steps.Fetch.{step}
-use Rattle.saphyr_scanner.proofs.InFlow.States.{Around, core_at, state_at, as_before}
+use Rattle.saphyr_scanner.proofs.InFlow.States.{Around, core_at, state_at, as_before, moment, FlowMoment, moment_in, moment_with}
 use Rattle.saphyr_scanner.proofs.Flow.Places.{right_one}
 use Rattle.saphyr_scanner.proofs.Json.Brackets.{place_of}
-use Rattle.saphyr_scanner.proofs.Flow.States.{moved, past, IsInk, IsParted, no_key, Passes, Fits}
+use Rattle.saphyr_scanner.proofs.Flow.States.{moved, past, IsInk, IsParted, no_key, Passes, Fits, StandsBefore}
 use Rattle.saphyr_scanner.proofs.Flow.GapSteps.{past_ink}
 use Rattle.saphyr_scanner.proofs.Flow.Fillers.{separation_past}
-use Rattle.saphyr_scanner.proofs.Flow.Arrivals.{arrives, one, within_index}
-use Rattle.saphyr_scanner.proofs.Flow.Joins.{once}
+use Rattle.saphyr_scanner.proofs.Flow.Arrivals.{arrives, step_comes, within_index}
+use Rattle.saphyr_scanner.proofs.Flow.Joins.{step_passes}
 use Rattle.saphyr_scanner.proofs.InBlock.Crossings.{fresh_in_flow}
 use Rattle.saphyr_scanner.proofs.Flow.Brackets.{IsMark, mark_begins, mark_moved, one_on}
 use Rattle.saphyr_scanner.proofs.Flow.Spaces.{separation_begins, spaces_passed}
@@ -56,9 +55,9 @@ white_first indent w y parts some =
     by_first c (inl h) = blank c h
     by_first c (inr e) = ap is_blank_or_breakz e
 
-begins : (second i : ℕ) (c : Core) → is_blank_or_breakz second ≡ true → step 63 second i c ≡ block.key c
+question_reads_key : (second i : ℕ) (c : Core) → is_blank_or_breakz second ≡ true → step 63 second i c ≡ block.key c
 unfolding step
-begins second i c h = rw h refl
+question_reads_key second i c h = rw h refl
 
 begins_key : (around : Around) (d : Bool) (s : Cursor) (y : Context) (k : Option Candidate) (ls : List Level) (a : Bool)
     (ad : ℕ) → is_block y ≡ false
@@ -106,12 +105,11 @@ key_of around d s context.MarkedFlowPair k ls a ad e = refl
 pub mark_passes : (around : Around) (y : Context) → is_block y ≡ false → (m : Marker) (o : List ℕ)
     → Fits around m (63 ∷ []) o
     → (parted : IsParted around.indent o) → parted.separation ≢ [] → has_tab_outside false parted.separation ≡ false
-    → (s : Cursor) (k : Option Candidate) (ls : List Level) (a : Bool) (ad : ℕ) (ps : List Place) → ad ≤ m.index
-    → past around.indent s.mark s.rest ≡ past around.indent m (63 ∷ o)
-    → Passes around (state_at around s y k ls a ad ps) (no_key (moved m (63 ∷ []))) (behind_question y) ls ps
-    (moved m (63 ∷ [])) o (tokens.Key ∷ [])
-mark_passes around y flows m o fits parted some tabs s k ls a ad ps before text =
-    let v = arrives around s y k ls a ad ps m (63 ∷ o) (text ∙ past_ink around.indent m 63 o question.ink) refl
+    → (now : FlowMoment) → now.adjacent ≤ m.index → StandsBefore around now m (63 ∷ o)
+    → Passes around (state_at around (moment_in y now)) (no_key (moved m (63 ∷ []))) (behind_question y) now.outer
+    now.places (moved m (63 ∷ [])) o (tokens.Key ∷ [])
+mark_passes around y flows m o fits parted some tabs now before text =
+    let v = arrives around (moment_in y now) m (63 ∷ o) (text ∙ past_ink around.indent m 63 o question.ink) refl
     fits.right fits.calm in
     let on = le_next around.indent m.col fits.right in
     let w = parted.separation in
@@ -123,23 +121,23 @@ mark_passes around y flows m o fits parted some tabs s k ls a ad ps before text 
     let there = cursor_at (c ∷ cs) n p.still_blank in
     let white : is_blank_or_breakz (slice_index o 0) ≡ true = ap (λ (t : List ℕ). is_blank_or_breakz (slice_index t 0))
     parted.is ∙ white_first around.indent w (c ∷ cs) parted.parts some in
-    let stepped = λ (d : Bool). begins (slice_index o 0) (length ps) (core_at around d seen y v.key ls v.allowed ad)
-    white ∙ key_of around d seen y v.key ls v.allowed ad flows
+    let stepped = λ (d : Bool). question_reads_key (slice_index o 0) (length now.places) (core_at around d seen y v.key
+    now.outer v.allowed now.adjacent) white ∙ key_of around d seen y v.key now.outer v.allowed now.adjacent flows
     ∙ ap (λ q. q >>= λ (e : Core). went (up_to_here m tokens.Key e ∷ []) e)
-    (begins_key around d seen y v.key ls v.allowed ad flows
-    ∙ passes_mark around d o m v.blank (behind_question y) ls ad n p.still_blank c cs parted.ink
+    (begins_key around d seen y v.key now.outer v.allowed now.adjacent flows
+    ∙ passes_mark around d o m v.blank (behind_question y) now.outer now.adjacent n p.still_blank c cs parted.ink
     (ap (spaces (along m 1) false false) parted.is ∙ p.is)) in
     let lands : past around.indent there.mark there.rest ≡ past around.indent (along m 1) o =
     sym (ap (past around.indent (along m 1)) parted.is
     ∙ separation_past around.indent (along m 1) w (c ∷ cs) parted.parts on) in
     let below = fits.below in
     let new = place_of m n tokens.Key ∷ [] in
-    let came = one around s y k ls a ad ps m (63 ∷ o) v (mark_begins m 63 o question fits.clear) there
-    (behind_question y) None ls false ad (ps ++ new) (from_to m n tokens.Key ∷ []) (λ d. d) (as_before around)
-    stepped refl
+    let next = moment there (behind_question y) None now.outer false now.adjacent now.places in
+    let came = step_comes around (moment_in y now) m (63 ∷ o) v (mark_begins m 63 o question fits.clear)
+    (moment_with new next) (from_to m n tokens.Key ∷ []) (λ d. d) (as_before around) stepped refl
     (within_index around.indent around.limit there (along m 1) o lands (omega (arith, below))) in
-    once false ad there ps new (moved m (63 ∷ [])) o (tokens.Key ∷ []) (no_key (moved m (63 ∷ []))) came
-    (right_one around.indent m 63 refl fits.right)
+    step_passes next new (moved m (63 ∷ [])) o (tokens.Key ∷ [])
+    (no_key (moved m (63 ∷ []))) came (right_one around.indent m 63 refl fits.right)
     (lands ∙ ap (λ (q : Marker). past around.indent q o) (mark_moved m 63 question))
     (fresh_in_flow (behind_question y) o false there (question_flows y flows)) refl
-    (came.same (question_flows y flows), refl, one_on m 63 ad before)
+    (came.same (question_flows y flows), refl, one_on m 63 now.adjacent before)

@@ -125,9 +125,9 @@ line_fits low indent below m u o c cs is start clear line =
     by_line (inl k) = inl (let more = more_spaces u o in omega (arith, below, k, more))
     by_line (inr k) = inr (still_broken u o k)
 
-closes : (q : Quote) (y : List ℕ) → (slice_index y 0 == 39) ≡ false → IsTrue (is_closing q (mark q ∷ y))
-closes Single y h = rw h refl
-closes Double y h = refl
+quote_closes : (q : Quote) (y : List ℕ) → (slice_index y 0 == 39) ≡ false → IsTrue (is_closing q (mark q ∷ y))
+quote_closes Single y h = rw h refl
+quote_closes Double y h = refl
 
 -- a text between quotes, with its lines
 abbrev Fits : ℕ → Quote → List ℕ → List Item → List ℕ → Type 0
@@ -151,7 +151,10 @@ extends : (low indent : ℕ) → low ≤ indent
     → LinesFit indent q t items x spelled → (o : List ℕ) (m : Marker) → IsClear m t o
     → (slice_index (x ++ o) 0 == 39) ≡ false
     → Fits low q (t ++ o) items (x ++ o)
-extends low indent below _ _ _ _ (closed q x h) fit o m clear ends = (closed q (x ++ o) (closes q (x ++ o) ends), tt)
+extends low indent below _ _ _ _ (closed q x h) fit o m clear ends = (
+  closed q (x ++ o) (quote_closes q (x ++ o) ends),
+  tt,
+)
 extends low indent below _ _ _ _ (itself q c t items x h r) fit o m clear ends =
     let more = extends low indent below q t items x r fit o (moved m (c ∷ [])) (clear_back m (c ∷ []) t o clear) ends in
     (itself q c (t ++ o) items (x ++ o) h more.0, more.1)
@@ -189,8 +192,8 @@ extends low indent below _ _ _ _ (escaped_break t items x h r) fit o m clear end
 feed : (c : ℕ) → (c == line_feed) ≡ true → c ≡ 10
 feed c e = grind (arith, nat_tests)
 
-no_break : (c : ℕ) → (c == line_feed) ≡ false → IsTrue (not (c == carriage_return)) → IsFalse (is_break c)
-no_break c e h = grind (arith, nat_tests)
+no_feed_no_break : (c : ℕ) → (c == line_feed) ≡ false → IsTrue (not (c == carriage_return)) → IsFalse (is_break c)
+no_feed_no_break c e h = grind (arith, nat_tests)
 
 pub moved_passes : (m : Marker) (t o : List ℕ) → AreIn (λ c. not (c == carriage_return)) t
     → IsPassed m (t ++ o) (moved m t) o
@@ -199,7 +202,8 @@ moved_passes m (c ∷ cs) o h =
     by_test (c == line_feed) (next_line m 1) (along m 1) (λ (k : Marker). IsPassed m (c ∷ (cs ++ o)) (moved k cs) o)
     (λ e. subst (λ (y : ℕ). IsPassed m (y ∷ (cs ++ o)) (moved (next_line m 1) cs) o) (sym (feed c e))
     (line_break m (10 ∷ (cs ++ o)) (moved (next_line m 1) cs) o refl (moved_passes (next_line m 1) cs o h.1)))
-    (λ e. character m c (cs ++ o) (moved (along m 1) cs) o (no_break c e h.0) (moved_passes (along m 1) cs o h.1))
+    (λ e. character m c (cs ++ o) (moved (along m 1) cs) o (no_feed_no_break c e h.0) (moved_passes (along m 1) cs o
+    h.1))
 
 -- ## A quoted scalar is read
 

@@ -15,22 +15,21 @@ use Rattle.saphyr_scanner.specs.declared.engine.level.Context.TheVariants as con
 use Rattle.saphyr_scanner.specs.Grammar.Tokens as tokens
 use Rattle.saphyr_scanner.specs.Grammar.Tokens.{scalar_token}
 use Rattle.saphyr_scanner.specs.Grammar.Forest.{Style, SingleQuoted, DoubleQuoted, Node}
-use Rattle.saphyr_scanner.specs.Steps.Queue.{Place}
 use Rattle.saphyr_scanner.specs.Steps.Core.{Candidate, Level, Core, is_block, from_to, went}
 use Rattle.saphyr_scanner.specs.Steps.Passing.{with_cursor}
 use Rattle.saphyr_scanner.specs.Steps.Scalar as scalar
 use Rattle.saphyr_scanner.specs.Steps.Scalar.{read_single_quoted, read_double_quoted, disallow_key, behind_quotes, behind_line, goes_on_behind_quotes, adjacent_here}
 use Rattle.saphyr_scanner.specs.Steps.Fetch.{step}
 use Rattle.saphyr_scanner.specs.Grammar.FlowScalars.{IsQuoted}
-use Rattle.saphyr_scanner.proofs.InFlow.States.{Around, core_at, state_at, least, least_low, Placed, placed_right, saves_key, as_before}
+use Rattle.saphyr_scanner.proofs.InFlow.States.{Around, core_at, least, least_low, Placed, placed_right, saves_key, as_before, FlowMoment}
 use Rattle.saphyr_scanner.proofs.InFlow.Tabs.{lands_on_ink}
 use Rattle.saphyr_scanner.proofs.Json.Marks.{saved}
-use Rattle.saphyr_scanner.proofs.Flow.States.{keeping, moved, past, crosses, IsClear, IsInk, EndsNode, IsBehindNode, IsBehindRoot, Reads, Passes, Fits}
+use Rattle.saphyr_scanner.proofs.Flow.States.{moved, past, crosses, IsClear, IsInk, EndsNode, IsBehindNode, IsBehindRoot, Reads, Fits, StandsBefore}
 use Rattle.saphyr_scanner.proofs.Flow.GapSteps.{past_again, past_ink}
 use Rattle.saphyr_scanner.proofs.Flow.Fillers.{EndsLine, rest_past, separation_past}
 use Rattle.saphyr_scanner.proofs.Flow.Arrivals.{PassesGap, passes_gap}
 use Rattle.saphyr_scanner.proofs.Flow.Separates.{separates, separates_rest}
-use Rattle.saphyr_scanner.proofs.Flow.Tokens.{Begins, adjacent_at, after_token, token_passes}
+use Rattle.saphyr_scanner.proofs.Flow.Tokens.{Begins, adjacent_at, token_passes, PassesToken}
 use Rattle.saphyr_scanner.proofs.Flow.Quoted.{quoted_read, quoted_right}
 use Rattle.saphyr_scanner.proofs.InBlock.Crossings.{line_rest_crosses}
 use Rattle.std.proofs.lemmas.Bool.{or_left}
@@ -68,21 +67,22 @@ goes_at_root : (around : Around) (d : Bool) (start : Marker) (s : Cursor) (k : O
 unfolding goes_on_behind_quotes
 goes_at_root around d start s k ls a ad e = or_left (is_breakz (slice_index s.rest 0)) _ e
 
-pub node_ink : (node : Node) (w others : List ℕ) (c : ℕ) → EndsNode node w c others → IsInk c × (ends_entry c ≡ true)
-node_ink node w others c (inl e) =
+pub ends_node_ink : (node : Node) (w others : List ℕ) (c : ℕ) → EndsNode node w c others → IsInk c
+    × (ends_entry c ≡ true)
+ends_node_ink node w others c (inl e) =
     rw e (record { blank = refl; break = refl; comment = refl; byte_order_mark = refl }, refl)
-node_ink node w others c (inr (inl e)) =
+ends_node_ink node w others c (inr (inl e)) =
     rw e (record { blank = refl; break = refl; comment = refl; byte_order_mark = refl }, refl)
-node_ink node w others c (inr (inr (inl e))) =
+ends_node_ink node w others c (inr (inr (inl e))) =
     rw e (record { blank = refl; break = refl; comment = refl; byte_order_mark = refl }, refl)
-node_ink node w others c (inr (inr (inr h))) =
+ends_node_ink node w others c (inr (inr (inr h))) =
     rw h.0 (record { blank = refl; break = refl; comment = refl; byte_order_mark = refl }, refl)
 
 pub flow_ends_quotes : (around : Around) (node : Node) (start m : Marker) (o : List ℕ) (x : Context)
     → is_block x ≡ false → IsBehindNode around.indent node o → around.indent ≤ m.col
     → EndsQuotes around start (at m o) x
 flow_ends_quotes around node start m o x flow h right =
-    let ink = node_ink node h.separation h.others h.first h.ends in
+    let ink = ends_node_ink node h.separation h.others h.first h.ends in
     let p = separates around.indent (at m o) h.separation h.first h.others h.is h.parts right ink.0 in
     let reached = ap (past around.indent m) h.is
     ∙ separation_past around.indent m h.separation (h.first ∷ h.others) h.parts right
@@ -194,20 +194,18 @@ quote_first Double inside =
 pub quoted_passes : Reads → (around : Around) (quote : Quote) (value t o : List ℕ) (m : Marker)
     → IsQuoted quote around.indent value t → Fits around m t o
     → (slice_index o 0 == 39) ≡ false
-    → (s : Cursor) (x : Context) (k : Option Candidate) (ls : List Level) (a : Bool) (ad : ℕ) (ps : List Place)
-    → EndsQuotes around m (at (moved m t) o) x → past around.indent s.mark s.rest ≡ past around.indent m (t ++ o)
-    → Passes around (state_at around s x k ls a ad ps)
-    (after_token (adjacent_at (past around.indent (moved m t) o).0.index) x (keeping a (length ps) m k t)) x ls ps
-    (moved m t) o
-    (scalar_token (style_of quote) value ∷ [])
-quoted_passes reads around quote value t o m h fits apart s x k ls a ad ps p text =
+    → (now : FlowMoment) → EndsQuotes around m (at (moved m t) o) now.context → StandsBefore around now m (t ++ o)
+    → PassesToken around (adjacent_at (past around.indent (moved m t) o).0.index) now m t o
+    (scalar_token (style_of quote) value)
+quoted_passes reads around quote value t o m h fits apart now p text =
     let first = subst Begins (sym h.5) (quote_first quote h.0) in
     let at_first : slice_index (t ++ o) 0 ≡ mark quote = ap (λ (y : List ℕ). slice_index (y ++ o) 0) h.5 in
     let behind = past around.indent (moved m t) o in
-    let place = length ps in
+    let place = length now.places in
     token_passes around (adjacent_at behind.0.index) (scalar_token (style_of quote) value) t o m first fits
-    (quoted_right around.indent quote m value t o h fits.clear fits.right) s x k ls a ad ps text
-    (λ b j e. let g = passes_gap around p.there x (saved e place m j) ls false ad behind.0 behind.1 p.lands p.inked in
+    (quoted_right around.indent quote m value t o h fits.clear fits.right) now text
+    (λ b j e. let g = passes_gap around p.there now.context (saved e place m j) now.outer false now.adjacent behind.0
+    behind.1 p.lands p.inked in
     record {
       there = cursor_at behind.1 behind.0 g.blank;
       end = p.there.mark;
@@ -215,10 +213,10 @@ quoted_passes reads around quote value t o m h fits apart s x k ls a ad ps p tex
       adjacent = behind.0.index;
       to = λ d. d;
       deepens = as_before around;
-      is = λ d. quoted_step reads around d quote place m b value t o h fits.clear apart x j ls e ad
-          (slice_index (t ++ o) 0) at_first (placed_right x e fits.calm fits.right)
-          ∙ behind_step around d m (style_of quote) (encode_utf8_all value) (at (moved m t) o) x (saved e place m j) ls
-          ad behind.0 behind.1 p g;
+      is = λ d. quoted_step reads around d quote place m b value t o h fits.clear apart now.context j now.outer e
+          now.adjacent (slice_index (t ++ o) 0) at_first (placed_right now.context e fits.calm fits.right)
+          ∙ behind_step around d m (style_of quote) (encode_utf8_all value) (at (moved m t) o) now.context
+          (saved e place m j) now.outer now.adjacent behind.0 behind.1 p g;
       fits = past_again around.indent (moved m t) o;
       fresh = λ b e. or_left g.allowed (crosses behind.1) (g.fresh b (p.stays b e));
       tells = refl;

@@ -3,27 +3,24 @@ use Rattle.std.proofs.Common.{◌≡◌, ◌≢◌, ℕ, ◌+◌, ◌<◌, ◌�
 use Rattle.std.specs.Prelude.{not, Option, Some, None}
 use Rattle.std.proofs.lemmas.Bool.{false≢true}
 use Rattle.saphyr_scalar.specs.declared.scalar.position.Marker.{Marker}
-use Rattle.saphyr_scalar.specs.Views.Cursor.{Cursor}
 use Rattle.saphyr_scalar.specs.Spelling.Tag.{EndsTag}
 use Rattle.saphyr_scalar.specs.Spelling.Spaces.{IsSeparation}
 use Rattle.saphyr_scanner.specs.declared.engine.level.Context.{Context}
-use Rattle.saphyr_scanner.specs.declared.engine.level.Context.TheVariants as context
 use Rattle.saphyr_scanner.specs.Grammar.Tokens.{Kind, scalar_token}
 use Rattle.saphyr_scanner.specs.Grammar.TokenGrammar as grammar
 use Rattle.saphyr_scanner.specs.Steps.Queue.{Place}
-use Rattle.saphyr_scanner.specs.Steps.Core.{Candidate, Level, is_block}
+use Rattle.saphyr_scanner.specs.Steps.Core.{is_block}
 use Rattle.saphyr_scanner.specs.Grammar.Forest.{Style, Plain, Tag, Properties, no_properties, HasOne, Scalar}
 use Rattle.saphyr_scanner.specs.Grammar.FlowNodes as layout
 use Rattle.saphyr_scanner.specs.Grammar.FlowNodes.{IsProperties, IsBeforeContent, IsScalarNode, IsPlainKeyNode}
 use Rattle.saphyr_scanner.specs.Grammar.FlowScalars.{IsFlowScalar}
-use Rattle.saphyr_scanner.proofs.InFlow.States.{Around, state_at}
-use Rattle.saphyr_scanner.proofs.Json.Marks.{saved}
-use Rattle.saphyr_scanner.proofs.Flow.States.{moved, past, IsBehindNode, IsBehindRoot, Reads, Passes, Fits, Closes, after_node, NodePasses, RootCloses}
+use Rattle.saphyr_scanner.proofs.InFlow.States.{Around, state_at, FlowMoment, root_moment}
+use Rattle.saphyr_scanner.proofs.Flow.States.{moved, past, IsBehindNode, IsBehindRoot, Reads, Passes, Fits, Closes, after_node, NodePasses, RootCloses, after, StandsBefore, key_behind}
 use Rattle.saphyr_scanner.proofs.Flow.Places.{moved_append, moved_index}
 use Rattle.saphyr_scanner.proofs.Flow.GapSteps.{less_behind}
 use Rattle.saphyr_scanner.proofs.Flow.Fillers.{separation_past, right_behind}
 use Rattle.saphyr_scanner.proofs.Flow.Pieces.{fits_front, fits_back}
-use Rattle.saphyr_scanner.proofs.Flow.Joins.{since_join, join, join_root, root, knowing}
+use Rattle.saphyr_scanner.proofs.Flow.Joins.{since_join, join, join_root, closes_unnoted, knowing}
 use Rattle.saphyr_scanner.proofs.Flow.Inks.{node_ink}
 use Rattle.saphyr_scanner.proofs.Flow.Low.{start_low, behind_low}
 use Rattle.saphyr_scanner.proofs.Flow.Ends.{white_ends_tag, node_ends_tag, behind_separation, root_first}
@@ -49,19 +46,17 @@ empty_are p t tokens place h are =
 
 empty_passes : Reads → (around : Around) (p : Properties) (m : Marker) (t o : List ℕ) → IsProperties p t
     → Fits around m t o → IsBehindNode around.indent (Scalar p Plain []) o
-    → (s : Cursor) (x : Context) (k : Option Candidate) (ls : List Level) (a : Bool) (ad : ℕ) (ps : List Place)
-    → ad < m.index → is_block x ≡ false → past around.indent s.mark s.rest ≡ past around.indent m (t ++ o)
-    → NodePasses around (state_at around s x k ls a ad ps) (Scalar p Plain []) (saved a (length ps) m k) x ls ps
-    (moved m t) o
-empty_passes reads around p m t o h fits behind s x k ls a ad ps low flow text =
+    → (now : FlowMoment) → now.adjacent < m.index → is_block now.context ≡ false → StandsBefore around now m (t ++ o)
+    → NodePasses around now (Scalar p Plain []) m t o
+empty_passes reads around p m t o h fits behind now low flow text =
     let node = Scalar p Plain [] in
-    let ends = flow_ends_tag x o flow (node_ends_tag around.indent node o refl behind) in
-    let r = properties_read reads around p.anchor p.tag m t o h s x k ls a ad ps ends fits text in
+    let ends = flow_ends_tag now.context o flow (node_ends_tag around.indent node o refl behind) in
+    let r = properties_read reads around p.anchor p.tag m t o h now ends fits text in
     let known = r.passes.knows.properties in
     record {
       tokens = r.tokens;
       are = empty_are p t r.tokens grammar.InFlow h r.are;
-      passes = knowing r.passes (after_node around.indent x (saved a (length ps) m k) node (moved m t) o)
+      passes = knowing r.passes (after_node around.indent now.context (key_behind now m) node (moved m t) o)
           (record {
             piece = known.piece;
             others = known.others;
@@ -69,23 +64,21 @@ empty_passes reads around p m t o h fits behind s x k ls a ad ps low flow text =
             keeps = known.keeps;
             near = λ e separation more is parts allows. absurd (false≢true allows);
             low = λ e. subst (λ (n : ℕ). n ≤ (past around.indent (moved m t) o).0.index) (sym r.passes.knows.still)
-                (less_behind around.indent ad m t o low);
+                (less_behind around.indent now.adjacent m t o low);
           });
     }
 
 empty_closes : Reads → (around : Around) (p : Properties) (m : Marker) (t o : List ℕ) → IsProperties p t
-    → Fits around m t o → IsBehindRoot around.indent (moved m t) o
-    → (s : Cursor) (k : Option Candidate) (a : Bool) (ad : ℕ) (ps : List Place) → ad ≤ m.index
-    → past around.indent s.mark s.rest ≡ past around.indent m (t ++ o)
-    → RootCloses around (state_at around s context.Block k [] a ad ps) (Scalar p Plain []) k m t ps (moved m t) o
-empty_closes reads around p m t o h fits behind s k a ad ps before text =
+    → Fits around m t o → IsBehindRoot around.indent (moved m t) o → (now : FlowMoment) → now.adjacent ≤ m.index
+    → StandsBefore around now m (t ++ o) → RootCloses around now (Scalar p Plain []) m t o
+empty_closes reads around p m t o h fits behind now before text =
     let ends = white_ends_tag false o (root_first around.indent (moved m t) o behind) in
-    let r = properties_read reads around p.anchor p.tag m t o h s context.Block k [] a ad ps ends fits text in
+    let r = properties_read reads around p.anchor p.tag m t o h (root_moment now) ends fits text in
     record {
       tokens = r.tokens;
       are = empty_are p t r.tokens grammar.InBlock h r.are;
-      closes = root r.passes (subst (λ (n : ℕ). n ≤ (past around.indent (moved m t) o).0.index)
-          (sym r.passes.knows.still) (behind_low around.indent ad m t o before)) r.passes.knows.since;
+      closes = closes_unnoted r.passes (subst (λ (n : ℕ). n ≤ (past around.indent (moved m t) o).0.index)
+          (sym r.passes.knows.still) (behind_low around.indent now.adjacent m t o before)) r.passes.knows.since;
     }
 
 -- ## Content without properties
@@ -107,19 +100,17 @@ ContentPasses around p style value t o =
     (m : Marker) → Fits around m t o → IsBehindNode around.indent (Scalar p style value) o
     → PassesContent around (Scalar p style value) style value t o m
 
-bare_passes : Reads → (around : Around) (p : Properties) (style : Style) (value t o : List ℕ) (m : Marker)
+bare_scalar_passes : Reads → (around : Around) (p : Properties) (style : Style) (value t o : List ℕ) (m : Marker)
     → p ≡ no_properties → ContentPasses around p style value t o → Fits around m t o
     → IsBehindNode around.indent (Scalar p style value) o
-    → (s : Cursor) (x : Context) (k : Option Candidate) (ls : List Level) (a : Bool) (ad : ℕ) (ps : List Place)
-    → ad < m.index → is_block x ≡ false → past around.indent s.mark s.rest ≡ past around.indent m (t ++ o)
-    → NodePasses around (state_at around s x k ls a ad ps) (Scalar p style value) (saved a (length ps) m k) x ls ps
-    (moved m t) o
-bare_passes reads around p style value t o m e h fits behind s x k ls a ad ps low flow text =
-    let q = h m fits behind s x k ls a ad ps flow low text in
+    → (now : FlowMoment) → now.adjacent < m.index → is_block now.context ≡ false → StandsBefore around now m (t ++ o)
+    → NodePasses around now (Scalar p style value) m t o
+bare_scalar_passes reads around p style value t o m e h fits behind now low flow text =
+    let q = h m fits behind now flow low text in
     record {
       tokens = scalar_token style value ∷ [];
       are = bare_are p style value grammar.InFlow e;
-      passes = knowing q (after_node around.indent x (saved a (length ps) m k) (Scalar p style value) (moved m t) o)
+      passes = knowing q (after_node around.indent now.context (key_behind now m) (Scalar p style value) (moved m t) o)
           (record {
             piece = q.knows.piece;
             others =
@@ -140,9 +131,9 @@ record Behind (around : Around) (m : Marker) (a w b o : List ℕ) : Type 0 where
   later : m.index ≤ (moved (moved m a) w).index
   place : moved (moved (moved m a) w) b ≡ moved m (a ++ (w ++ b))
 
-behind_parts : (around : Around) (m : Marker) (a w b o : List ℕ) → IsSeparation around.indent w
+behind_separated : (around : Around) (m : Marker) (a w b o : List ℕ) → IsSeparation around.indent w
     → Fits around m (a ++ (w ++ b)) o → Behind around m a w b o
-behind_parts around m a w b o parts fits =
+behind_separated around m a w b o parts fits =
     let first = moved_index m a in
     let second = moved_index (moved m a) w in
     record {
@@ -167,18 +158,16 @@ full_are p style value tokens place are = (tokens, scalar_token style value ∷ 
 full_passes : Reads → (around : Around) (p : Properties) (style : Style) (value a w b o : List ℕ) (m : Marker)
     → IsProperties p a → w ≢ [] → IsSeparation around.indent w → ContentPasses around p style value b o
     → Fits around m (a ++ (w ++ b)) o → IsBehindNode around.indent (Scalar p style value) o
-    → (s : Cursor) (x : Context) (k : Option Candidate) (ls : List Level) (e : Bool) (ad : ℕ) (ps : List Place)
-    → ad < m.index → is_block x ≡ false
-    → past around.indent s.mark s.rest ≡ past around.indent m ((a ++ (w ++ b)) ++ o)
-    → NodePasses around (state_at around s x k ls e ad ps) (Scalar p style value) (saved e (length ps) m k) x ls ps
-    (moved m (a ++ (w ++ b))) o
-full_passes reads around p style value a w b o m h some parts g fits behind s x k ls e ad ps low flow text =
+    → (now : FlowMoment) → now.adjacent < m.index → is_block now.context ≡ false
+    → StandsBefore around now m ((a ++ (w ++ b)) ++ o) → NodePasses around now (Scalar p style value) m (a ++ (w ++ b))
+    o
+full_passes reads around p style value a w b o m h some parts g fits behind now low flow text =
     let node = Scalar p style value in
-    let kept = saved e (length ps) m k in
-    let d = behind_parts around m a w b o parts fits in
+    let kept = key_behind now m in
+    let d = behind_separated around m a w b o parts fits in
     let n = moved (moved m a) w in
-    let r = properties_read reads around p.anchor p.tag m a ((w ++ b) ++ o) h s x k ls e ad ps
-    (separation_ends around.indent (not (is_block x)) w b o some parts) d.front
+    let r = properties_read reads around p.anchor p.tag m a ((w ++ b) ++ o) h now
+    (separation_ends around.indent (not (is_block now.context)) w b o some parts) d.front
     (text ∙ ap (past around.indent m) (append_assoc a (w ++ b) o)) in
     let q = r.passes in
     let still = q.knows.still in
@@ -187,20 +176,21 @@ full_passes reads around p style value a w b o m h some parts g fits behind s x 
     let here : past around.indent q.there.mark q.there.rest ≡ past around.indent n (b ++ o) =
     q.fits ∙ ap (past around.indent (moved m a)) (append_assoc w b o)
     ∙ separation_past around.indent (moved m a) w (b ++ o) parts q.right in
-    let c = g n (d.behind q.right) behind q.there x q.key ls q.allowed q.adjacent (ps ++ q.new) flow lower here in
+    let c = g n (d.behind q.right) behind (after q) flow lower here in
     let known = q.knows.properties in
     let near = c.knows.near in
     record {
       tokens = r.tokens ++ scalar_token style value ∷ [];
       are = full_are p style value r.tokens grammar.InFlow r.are;
-      passes = subst (λ (z : Marker). Passes around (state_at around s x k ls e ad ps)
-          (after_node around.indent x kept node z o) x ls ps z o (r.tokens ++ scalar_token style value ∷ [])) d.place
-          (join q c (after_node around.indent x kept node (moved n b) o)
+      passes = subst (λ (z : Marker). Passes around (state_at around now)
+          (after_node around.indent now.context kept node z o) now.context now.outer now.places z o
+          (r.tokens ++ scalar_token style value ∷ [])) d.place
+          (join q c (after_node around.indent now.context kept node (moved n b) o)
           (record {
             piece = known.piece;
             others = known.others ++ c.new;
             is = ap (λ (z : List Place). z ++ c.new) known.is;
-            keeps = λ f. c.knows.keeps f ∙ closed_saved q.allowed (length (ps ++ q.new)) n q.key known.closed
+            keeps = λ f. c.knows.keeps f ∙ closed_saved q.allowed (length (now.places ++ q.new)) n q.key known.closed
                 ∙ known.keeps f;
             near = λ f. near;
             low = λ f. c.knows.low;
@@ -210,14 +200,12 @@ full_passes reads around p style value a w b o m h some parts g fits behind s x 
 full_closes : Reads → (around : Around) (p : Properties) (style : Style) (value a w b o : List ℕ) (m : Marker)
     → IsProperties p a → w ≢ [] → IsSeparation around.indent w → IsFlowScalar style value false around.indent b
     → Fits around m (a ++ (w ++ b)) o → IsBehindRoot around.indent (moved m (a ++ (w ++ b))) o
-    → (s : Cursor) (k : Option Candidate) (e : Bool) (ad : ℕ) (ps : List Place) → ad ≤ m.index
-    → past around.indent s.mark s.rest ≡ past around.indent m ((a ++ (w ++ b)) ++ o)
-    → RootCloses around (state_at around s context.Block k [] e ad ps) (Scalar p style value) k m (a ++ (w ++ b)) ps
-    (moved m (a ++ (w ++ b))) o
-full_closes reads around p style value a w b o m h some parts g fits behind s k e ad ps before text =
-    let d = behind_parts around m a w b o parts fits in
+    → (now : FlowMoment) → now.adjacent ≤ m.index → StandsBefore around now m ((a ++ (w ++ b)) ++ o)
+    → RootCloses around now (Scalar p style value) m (a ++ (w ++ b)) o
+full_closes reads around p style value a w b o m h some parts g fits behind now before text =
+    let d = behind_separated around m a w b o parts fits in
     let n = moved (moved m a) w in
-    let r = properties_read reads around p.anchor p.tag m a ((w ++ b) ++ o) h s context.Block k [] e ad ps
+    let r = properties_read reads around p.anchor p.tag m a ((w ++ b) ++ o) h (root_moment now)
     (separation_ends around.indent false w b o some parts) d.front
     (text ∙ ap (past around.indent m) (append_assoc a (w ++ b) o)) in
     let q = r.passes in
@@ -229,14 +217,13 @@ full_closes reads around p style value a w b o m h some parts g fits behind s k 
     let lower : q.adjacent ≤ n.index = omega (arith, still, before, later) in
     let ends : IsBehindRoot around.indent (moved n b) o = subst (λ (z : Marker). IsBehindRoot around.indent z o)
     (sym d.place) behind in
-    let c = content_closes reads around style value b o n g (d.behind q.right) ends q.there q.key q.allowed q.adjacent
-    (ps ++ q.new) lower here in
+    let c = content_closes reads around style value b o n g (d.behind q.right) ends (after q) lower here in
     record {
       tokens = r.tokens ++ scalar_token style value ∷ [];
       are = full_are p style value r.tokens grammar.InBlock r.are;
-      closes = subst (λ (z : Marker). Closes around (state_at around s context.Block k [] e ad ps) k m (a ++ (w ++ b))
-          ps z o (r.tokens ++ scalar_token style value ∷ [])) d.place
-          (join_root q c (since_join k m a w b q.key c.key q.knows.since c.late));
+      closes = subst (λ (z : Marker). Closes around (state_at around (root_moment now)) now.key m
+          (a ++ (w ++ b)) now.places z o (r.tokens ++ scalar_token style value ∷ [])) d.place
+          (join_root q c (since_join now.key m a w b q.key c.key q.knows.since c.late));
     }
 
 -- ## All scalars
@@ -244,31 +231,28 @@ full_closes reads around p style value a w b o m h some parts g fits behind s k 
 abbrev ScalarPasses : Around → Properties → Style → List ℕ → List ℕ → List ℕ → Marker → Type 0
 ScalarPasses around p style value t o m =
     Fits around m t o → IsBehindNode around.indent (Scalar p style value) o
-    → (s : Cursor) (x : Context) (k : Option Candidate) (ls : List Level) (a : Bool) (ad : ℕ) (ps : List Place)
-    → ad < m.index → is_block x ≡ false → past around.indent s.mark s.rest ≡ past around.indent m (t ++ o)
-    → NodePasses around (state_at around s x k ls a ad ps) (Scalar p style value) (saved a (length ps) m k) x ls ps
-    (moved m t) o
+    → (now : FlowMoment) → now.adjacent < m.index → is_block now.context ≡ false → StandsBefore around now m (t ++ o)
+    → NodePasses around now (Scalar p style value) m t o
 
 content_node : Reads → (around : Around) (p : Properties) (style : Style) (value front content o : List ℕ) (m : Marker)
     → IsBeforeContent p around.indent front → ContentPasses around p style value content o
     → ScalarPasses around p style value (front ++ content) o m
 content_node reads around p style value front content o m (inl (none, is)) g =
     subst (λ (t : List ℕ). ScalarPasses around p style value (t ++ content) o m) (sym is)
-    (λ fits behind s x k ls a ad ps low flow text. bare_passes reads around p style value content o m none g fits behind
-    s x k ls a ad ps low flow text)
+    (λ fits behind now low flow text. bare_scalar_passes reads around p style value content o m none g fits behind
+    now low flow text)
 content_node reads around p style value front content o m (inr (written, separation, h, some, parts, is)) g =
     subst (λ (t : List ℕ). ScalarPasses around p style value t o m)
     (sym (ap (λ (t : List ℕ). t ++ content) is ∙ append_assoc written separation content))
-    (λ fits behind s x k ls a ad ps low flow text. full_passes reads around p style value written separation content o m
-    h some parts g fits behind s x k ls a ad ps low flow text)
+    (λ fits behind now low flow text. full_passes reads around p style value written separation content o m
+    h some parts g fits behind now low flow text)
 
 scalar_node : Reads → (around : Around) (p : Properties) (style : Style) (value t o : List ℕ) (m : Marker)
     → IsScalarNode p style value true around.indent t → ScalarPasses around p style value t o m
 scalar_node reads around p style value t o m (inl (plain, empty, h)) =
     subst (λ (q : Style). ScalarPasses around p q value t o m) (sym plain)
     (subst (λ (v : List ℕ). ScalarPasses around p Plain v t o m) (sym empty)
-    (λ fits behind s x k ls a ad ps low flow text. empty_passes reads around p m t o h fits behind s x k ls a ad ps low
-    flow text))
+    (λ fits behind now low flow text. empty_passes reads around p m t o h fits behind now low flow text))
 scalar_node reads around p style value t o m (inr (front, content, before, g, is)) =
     subst (λ (y : List ℕ). ScalarPasses around p style value y o m) (sym is)
     (content_node reads around p style value front content o m before
@@ -287,45 +271,40 @@ pub scalar_passes : Reads
     → (around : Around) (room : ℕ) (p : Properties) (style : Style) (value : List ℕ) (m : Marker) (t o : List ℕ)
     → layout.IsFlowNode room (Scalar p style value) true around.indent t → Fits around m t o
     → IsBehindNode around.indent (Scalar p style value) o
-    → (s : Cursor) (x : Context) (k : Option Candidate) (ls : List Level) (a : Bool) (ad : ℕ) (ps : List Place)
-    → ad < m.index → is_block x ≡ false → room + length ls ≤ 255
-    → past around.indent s.mark s.rest ≡ past around.indent m (t ++ o)
-    → NodePasses around (state_at around s x k ls a ad ps) (Scalar p style value) (saved a (length ps) m k) x ls ps
-    (moved m t) o
-scalar_passes reads around room p style value m t o h fits behind s x k ls a ad ps low flow small text =
-    scalar_node reads around p style value t o m h fits behind s x k ls a ad ps low flow text
+    → (now : FlowMoment) → now.adjacent < m.index → is_block now.context ≡ false → room + length now.outer ≤ 255
+    → StandsBefore around now m (t ++ o) → NodePasses around now (Scalar p style value) m t o
+scalar_passes reads around room p style value m t o h fits behind now low flow small text =
+    scalar_node reads around p style value t o m h fits behind now low flow text
 
 -- ## All scalars as a document's node
 
 abbrev ScalarCloses : Around → Properties → Style → List ℕ → List ℕ → List ℕ → Marker → Type 0
 ScalarCloses around p style value t o m =
-    Fits around m t o → IsBehindRoot around.indent (moved m t) o
-    → (s : Cursor) (k : Option Candidate) (a : Bool) (ad : ℕ) (ps : List Place) → ad ≤ m.index
-    → past around.indent s.mark s.rest ≡ past around.indent m (t ++ o)
-    → RootCloses around (state_at around s context.Block k [] a ad ps) (Scalar p style value) k m t ps (moved m t) o
+    Fits around m t o → IsBehindRoot around.indent (moved m t) o → (now : FlowMoment) → now.adjacent ≤ m.index
+    → StandsBefore around now m (t ++ o) → RootCloses around now (Scalar p style value) m t o
 
 content_root : Reads → (around : Around) (p : Properties) (style : Style) (value front content o : List ℕ) (m : Marker)
     → IsBeforeContent p around.indent front → IsFlowScalar style value false around.indent content
     → ScalarCloses around p style value (front ++ content) o m
 content_root reads around p style value front content o m (inl (none, is)) g =
     subst (λ (t : List ℕ). ScalarCloses around p style value (t ++ content) o m) (sym is)
-    (λ fits behind s k a ad ps before text. record {
+    (λ fits behind now before text. record {
       tokens = scalar_token style value ∷ [];
       are = bare_are p style value grammar.InBlock none;
-      closes = content_closes reads around style value content o m g fits behind s k a ad ps before text;
+      closes = content_closes reads around style value content o m g fits behind now before text;
     })
 content_root reads around p style value front content o m (inr (written, separation, h, some, parts, is)) g =
     subst (λ (t : List ℕ). ScalarCloses around p style value t o m)
     (sym (ap (λ (t : List ℕ). t ++ content) is ∙ append_assoc written separation content))
-    (λ fits behind s k a ad ps before text. full_closes reads around p style value written separation content o m h some
-    parts g fits behind s k a ad ps before text)
+    (λ fits behind now before text. full_closes reads around p style value written separation content o m h some
+    parts g fits behind now before text)
 
 scalar_root : Reads → (around : Around) (p : Properties) (style : Style) (value t o : List ℕ) (m : Marker)
     → IsScalarNode p style value false around.indent t → ScalarCloses around p style value t o m
 scalar_root reads around p style value t o m (inl (plain, empty, h)) =
     subst (λ (q : Style). ScalarCloses around p q value t o m) (sym plain)
     (subst (λ (v : List ℕ). ScalarCloses around p Plain v t o m) (sym empty)
-    (λ fits behind s k a ad ps before text. empty_closes reads around p m t o h fits behind s k a ad ps before text))
+    (λ fits behind now before text. empty_closes reads around p m t o h fits behind now before text))
 scalar_root reads around p style value t o m (inr (front, content, before, g, is)) =
     subst (λ (y : List ℕ). ScalarCloses around p style value y o m) (sym is)
     (content_root reads around p style value front content o m before g)
@@ -334,10 +313,9 @@ pub scalar_closes : Reads
     → (around : Around) (p : Properties) (style : Style) (value : List ℕ) (m : Marker) (t o : List ℕ)
     → layout.IsFlowNode 255 (Scalar p style value) false around.indent t → Fits around m t o
     → IsBehindRoot around.indent (moved m t) o
-    → (s : Cursor) (k : Option Candidate) (a : Bool) (ad : ℕ) (ps : List Place)
-    → ad ≤ (past around.indent m (t ++ o)).0.index
-    → past around.indent s.mark s.rest ≡ past around.indent m (t ++ o)
-    → RootCloses around (state_at around s context.Block k [] a ad ps) (Scalar p style value) k m t ps (moved m t) o
-scalar_closes reads around p style value m t o h fits behind s k a ad ps before text =
-    scalar_root reads around p style value t o m h fits behind s k a ad ps
-    (start_low around.indent ad m t o (node_ink around.indent 255 (Scalar p style value) false t h) before) text
+    → (now : FlowMoment) → now.adjacent ≤ (past around.indent m (t ++ o)).0.index → StandsBefore around now m (t ++ o)
+    → RootCloses around now (Scalar p style value) m t o
+scalar_closes reads around p style value m t o h fits behind now before text =
+    scalar_root reads around p style value t o m h fits behind now
+    (start_low around.indent now.adjacent m t o (node_ink around.indent 255 (Scalar p style value) false t h) before)
+    text

@@ -63,12 +63,12 @@ comment_counts blanks comment more (inr (some, (words, are, is))) h =
         → comment_len (35 ∷ (words ++ more)) ≡ length (35 ∷ words)
     counted words run = omega (arith, run)
 
-no_sign : (c : ℕ) → is_blank c ≡ true → (c == 35) ≡ false
-no_sign c h = grind (arith, nat_tests)
+blank_no_sign : (c : ℕ) → is_blank c ≡ true → (c == 35) ≡ false
+blank_no_sign c h = grind (arith, nat_tests)
 
 starts_white : (blanks comment more : List ℕ) → AreIn is_blank blanks → IsCommentBehind blanks comment
     → StopsLine comment more → (slice_index (blanks ++ (comment ++ more)) 0 == 35) ≡ false
-starts_white (c ∷ cs) comment more are k h = no_sign c are.0
+starts_white (c ∷ cs) comment more are k h = blank_no_sign c are.0
 starts_white [] comment more are (inl e) h = ap (λ (t : List ℕ). slice_index (t ++ more) 0 == 35) e ∙ h.sign e
 starts_white [] comment more are (inr k) h = absurd (k.0 refl)
 
@@ -155,9 +155,9 @@ pub record Separates (column : ℕ) (s : Cursor) (w y : List ℕ) : Type 0 where
   pub ends : (is_break (slice_index there.rest 0) ≡ true) ⊎ (there.rest ≡ y)
   pub near : AreIn is_blank w → (there.rest ≡ y) × (there.mark ≡ moved s.mark w)
 
-on_line : (column : ℕ) (s : Cursor) (blanks : List ℕ) (c : ℕ) (cs : List ℕ) → s.rest ≡ blanks ++ (c ∷ cs)
+separates_on_line : (column : ℕ) (s : Cursor) (blanks : List ℕ) (c : ℕ) (cs : List ℕ) → s.rest ≡ blanks ++ (c ∷ cs)
     → AreIn is_blank blanks → column ≤ s.mark.col → IsInk c → Separates column s blanks (c ∷ cs)
-on_line column s blanks c cs is are low ink =
+separates_on_line column s blanks c cs is are low ink =
     let mark : along s.mark (length (blanks ++ [])) ≡ moved s.mark blanks =
     ap (λ (t : List ℕ). along s.mark (length t)) (append-nil blanks) ∙ sym (blanks_moved s.mark blanks are) in
     record {
@@ -227,7 +227,7 @@ separates column s w c cs is (lines, blanks, (pieces, each, lines_are), are, e) 
     by_lines [] each lines_are =
         let same : w ≡ blanks = e ∙ ap (λ (t : List ℕ). t ++ blanks) lines_are in
         subst (λ (v : List ℕ). Separates column s v (c ∷ cs)) (sym same)
-        (on_line column s blanks c cs (is ∙ ap (λ (t : List ℕ). t ++ (c ∷ cs)) same) are low ink)
+        (separates_on_line column s blanks c cs (is ∙ ap (λ (t : List ℕ). t ++ (c ∷ cs)) same) are low ink)
     by_lines (p ∷ ps) ((first, comment, filler, first_are, k, filler_is, line_is), others) lines_are =
         let more = (filler ++ spaces column) ++ (joined ps ++ (blanks ++ (c ∷ cs))) in
         let inside : w ≡ first ++ (comment ++ (10 ∷ ((filler ++ spaces column) ++ (joined ps ++ blanks)))) =

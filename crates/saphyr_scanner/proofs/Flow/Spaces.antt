@@ -51,8 +51,9 @@ no_tab column m c h = ap (λ (b : Bool). b && nat_lt m.col column) h
 space_alone : (c : ℕ) → (c == tab) ≡ false → is_blank c ≡ (c == 32)
 space_alone c h = grind (arith, nat_tests)
 
-stays : (m : Marker) (d : ℕ) (w y : List ℕ) (n : Marker) → let t : Marker × List ℕ = (m, d ∷ (w ++ y)) in t ≡ (n, y) → ⊥
-stays m d w y n e =
+longer_differs : (m : Marker) (d : ℕ) (w y : List ℕ) (n : Marker) → let t : Marker × List ℕ = (m, d ∷ (w ++ y)) in t
+    ≡ (n, y) → ⊥
+longer_differs m d w y n e =
     let l = ap (λ (q : Marker × List ℕ). length q.1) e in
     let k = length-append w y in
     absurd (omega (arith, l, k))
@@ -60,9 +61,9 @@ stays m d w y n e =
 place_of : (m n : Marker) (y z : List ℕ) → let t : Marker × List ℕ = (m, y) in t ≡ (n, z) → m ≡ n
 place_of m n y z e = ap (λ (q : Marker × List ℕ). q.0) e
 
-spaces_end : (column : ℕ) (c : ℕ) (cs : List ℕ) → IsInk c → (m : Marker) (blank space : Bool) (n : Marker)
+spaces_end_at_ink : (column : ℕ) (c : ℕ) (cs : List ℕ) → IsInk c → (m : Marker) (blank space : Bool) (n : Marker)
     → past column m (c ∷ cs) ≡ (n, c ∷ cs) → Spaces m blank space [] (c ∷ cs) n
-spaces_end column c cs ink m blank space n e =
+spaces_end_at_ink column c cs ink m blank space n e =
     let same : m ≡ n = place_of m n (c ∷ cs) (c ∷ cs) (sym (past_ink column m c cs ink) ∙ e) in
     let here : spaces m blank space (c ∷ cs) ≡ spaced m blank space (c ∷ cs) =
     rw (ink_no_space c ink.blank, ink.break, ink.comment, no_return_and c (slice_index cs 0 == 10) ink.break)
@@ -113,7 +114,7 @@ spaces_kind column d ds y m blank space n tabs false false true e f g p on line 
 spaces_kind column d ds y m blank space n tabs false false false e f g p on line sign =
     let there : past column m (d ∷ (ds ++ y)) ≡ (m, d ∷ (ds ++ y)) =
     rw (no_tab column m d (or_parts (d == tab) (has_tab_outside (d == 35) ds) tabs).0, e, f, g) refl in
-    absurd (stays m d ds y n (sym there ∙ p))
+    absurd (longer_differs m d ds y n (sym there ∙ p))
 
 behind_word : (d : ℕ) (ds : List ℕ) → is_break d ≡ false → has_tab_outside true (d ∷ ds) ≡ false
     → has_tab_outside true ds ≡ false
@@ -123,7 +124,7 @@ behind_break : (d : ℕ) (ds : List ℕ) → is_break d ≡ true → has_tab_out
     → has_tab_outside false ds ≡ false
 behind_break d ds e h = ap (λ (b : Bool). has_tab_outside (not b) ds) (sym e) ∙ h
 
-comment_kind : (column : ℕ) (d : ℕ) (ds y : List ℕ) (m : Marker) (blank space : Bool) (n : Marker)
+spaces_in_comment : (column : ℕ) (d : ℕ) (ds y : List ℕ) (m : Marker) (blank space : Bool) (n : Marker)
     → (is_word is_return is_line : Bool)
     → is_yaml_non_break d ≡ is_word → ((d == 13) && (slice_index (ds ++ y) 0 == 10)) ≡ is_return → is_break d ≡ is_line
     → past_comment column m (d ∷ (ds ++ y)) ≡ (n, y)
@@ -134,26 +135,26 @@ comment_kind : (column : ℕ) (d : ℕ) (ds y : List ℕ) (m : Marker) (blank sp
     → Spaces (along m 1) blank true ds y n)
     → (has_tab_outside false ds ≡ false → past column (next_line m 1) (ds ++ y) ≡ (n, y)
     → Spaces (next_line m 1) true true ds y n) → Comment m blank space (d ∷ ds) y n
-comment_kind column d ds y m blank space n true q r e f g p tabs word on line =
+spaces_in_comment column d ds y m blank space n true q r e f g p tabs word on line =
     let there : past_comment column m (d ∷ (ds ++ y)) ≡ past_comment column (along m 1) (ds ++ y) = rw e refl in
     let k = word (behind_word d ds (non_break_no_break d e) tabs) (sym there ∙ p) in
     let here : line_comment m blank space (d ∷ (ds ++ y)) ≡ line_comment (along m 1) blank space (ds ++ y) =
     rw e refl in
     record { still_blank = k.still_blank; some = k.some; is = here ∙ k.is; has = k.has }
-comment_kind column d ds y m blank space n false true r e f g p tabs word on line =
+spaces_in_comment column d ds y m blank space n false true r e f g p tabs word on line =
     let there : past_comment column m (d ∷ (ds ++ y)) ≡ past column (along m 1) (ds ++ y) = rw (e, f) refl in
     let k = on (behind_break d ds (return_breaks d (slice_index (ds ++ y) 0 == 10) f) tabs) (sym there ∙ p) in
     let here : line_comment m blank space (d ∷ (ds ++ y)) ≡ spaces (along m 1) blank true (ds ++ y) = rw (e, f) refl in
     record { still_blank = k.still_blank; some = k.some; is = here ∙ k.is; has = λ _. k.has refl }
-comment_kind column d ds y m blank space n false false true e f g p tabs word on line =
+spaces_in_comment column d ds y m blank space n false false true e f g p tabs word on line =
     let there : past_comment column m (d ∷ (ds ++ y)) ≡ past column (next_line m 1) (ds ++ y) = rw (e, f, g) refl in
     let k = line (behind_break d ds g tabs) (sym there ∙ p) in
     let here : line_comment m blank space (d ∷ (ds ++ y)) ≡ spaces (next_line m 1) true true (ds ++ y) =
     rw (e, f, g) refl in
     record { still_blank = k.still_blank; some = k.some; is = here ∙ k.is; has = λ _. k.has refl }
-comment_kind column d ds y m blank space n false false false e f g p tabs word on line =
+spaces_in_comment column d ds y m blank space n false false false e f g p tabs word on line =
     let there : past_comment column m (d ∷ (ds ++ y)) ≡ (m, d ∷ (ds ++ y)) = rw (e, f, g) refl in
-    absurd (stays m d ds y n (sym there ∙ p))
+    absurd (longer_differs m d ds y n (sym there ∙ p))
 
 comment_back : (column : ℕ) (k : Marker) (t : List ℕ) (n : Marker) (c : ℕ) → past_comment column k t ≡ (n, c ∷ t) → ⊥
 comment_back column k t n c e =
@@ -186,7 +187,7 @@ mutual
   spaces_go : (column : ℕ) (w : List ℕ) (c : ℕ) (cs : List ℕ) → IsInk c → (m : Marker) (blank space : Bool) (n : Marker)
       → has_tab_outside false w ≡ false → past column m (w ++ (c ∷ cs)) ≡ (n, c ∷ cs)
       → Spaces m blank space w (c ∷ cs) n
-  spaces_go column [] c cs ink m blank space n tabs p = spaces_end column c cs ink m blank space n p
+  spaces_go column [] c cs ink m blank space n tabs p = spaces_end_at_ink column c cs ink m blank space n p
   spaces_go column (d ∷ ds) c cs ink m blank space n tabs p =
       spaces_kind column d ds (c ∷ cs) m blank space n tabs
       (is_blank d || ((d == 13) && (slice_index (ds ++ (c ∷ cs)) 0 == 10))) (is_break d) (d == 35) refl refl refl p
@@ -199,7 +200,7 @@ mutual
       → past_comment column m (w ++ (c ∷ cs)) ≡ (n, c ∷ cs) → Comment m blank space w (c ∷ cs) n
   comment_go column [] c cs ink m blank space n tabs p = comment_end column c cs ink m blank space n p
   comment_go column (d ∷ ds) c cs ink m blank space n tabs p =
-      comment_kind column d ds (c ∷ cs) m blank space n (is_yaml_non_break d)
+      spaces_in_comment column d ds (c ∷ cs) m blank space n (is_yaml_non_break d)
       ((d == 13) && (slice_index (ds ++ (c ∷ cs)) 0 == 10)) (is_break d) refl refl refl p tabs
       (λ t e. comment_go column ds c cs ink (along m 1) blank space n t e)
       (λ t e. spaces_go column ds c cs ink (along m 1) blank true n t e)

@@ -37,7 +37,7 @@ use Rattle.saphyr_scanner.specs.Steps.Core.{Candidate, Level, is_block}
 use Rattle.saphyr_scanner.specs.Steps.State.{State}
 use Rattle.saphyr_scanner.specs.Grammar.Forest.{Node}
 use Rattle.saphyr_scanner.specs.Grammar.FlowNodes.{IsPlainKeyNode, IsBeforeColon, allows_adjacent, IsFlowNode}
-use Rattle.saphyr_scanner.proofs.InFlow.States.{Around, state_at, Runs}
+use Rattle.saphyr_scanner.proofs.InFlow.States.{Around, FlowMoment, moment, state_at, Runs, root_moment}
 use Rattle.saphyr_scanner.proofs.Json.Marks.{kinds, saved}
 
 -- ## Places in a text
@@ -82,6 +82,11 @@ abbrev mutual
       else if (c == 13) && (slice_index cs 0 == 10) then past column (along m 1) cs
       else if is_break c then past column (next_line m 1) cs
       else (m, c ∷ cs)
+
+-- the text that stands at m has the same next token as what is left at a moment
+abbrev pub StandsBefore : Around → FlowMoment → Marker → List ℕ → Type 0
+StandsBefore around now m t =
+    past around.indent now.cursor.mark now.cursor.rest ≡ past around.indent m t
 
 -- Whether a break stands before the next token (the text's end): what `gap` knows where it stops.
 abbrev mutual
@@ -237,8 +242,12 @@ pub record Kept : Type 0 where
   pub from : Marker
   pub over : List ℕ
 
-abbrev pub keeping : Bool → ℕ → Marker → Option Candidate → List ℕ → Kept
-keeping a n m k t = record { kept = saved a n m k; before = k; from = m; over = t }
+-- the key behind a token at m, where a key may begin
+abbrev pub key_behind : FlowMoment → Marker → Option Candidate
+key_behind now m = saved now.allowed (length now.places) m now.key
+
+abbrev pub keeping : FlowMoment → Marker → List ℕ → Kept
+keeping now m t = record { kept = key_behind now m; before = now.key; from = m; over = t }
 
 -- ## Where a key may begin
 
@@ -262,12 +271,17 @@ pub record Passes (around : Around) (start : Bool → State) (known : Known) (x 
   pub allowed : Bool
   pub adjacent : ℕ
   pub new : List Place
-  pub leads : Runs around (state_at around there x key ls allowed adjacent (ps ++ new)) start
+  pub leads : Runs around (state_at around (moment there x key ls allowed adjacent (ps ++ new))) start
   pub right : around.indent ≤ m.col
   pub fits : past around.indent there.mark there.rest ≡ past around.indent m o
   pub fresh : IsFresh x o allowed there
   pub are : kinds new ≡ ts
   pub knows : known key allowed adjacent new
+
+-- the moment behind a piece
+abbrev pub after : {around : Around} {start : Bool → State} {known : Known} {x : Context} {ls : List Level}
+    {ps : List Place} {m : Marker} {o : List ℕ} {ts : List Kind} → Passes around start known x ls ps m o ts → FlowMoment
+after {x = x} {ls = ls} {ps = ps} p = moment p.there x p.key ls p.allowed p.adjacent (ps ++ p.new)
 
 -- a state with the comment that ended a plain scalar outside flow
 abbrev pub noted : Option Marker → State → State
@@ -283,7 +297,7 @@ pub record Closes (around : Around) (start : Bool → State) (k : Option Candida
   pub comment : Option Marker
   pub new : List Place
   pub leads : Runs around (λ d. noted comment
-      (state_at around there context.Block key [] allowed adjacent (ps ++ new) d)) start
+      (state_at around (moment there context.Block key [] allowed adjacent (ps ++ new)) d)) start
   pub right : around.indent ≤ m.col
   pub fits : past around.indent there.mark there.rest ≡ past around.indent m o
   pub are : kinds new ≡ ts
@@ -333,18 +347,19 @@ pub record IsAfterProperties (x : Context) (kept key : Option Candidate) (allowe
 
 -- ## What is shown of nodes
 
--- The tokens of a node, and the run over its text.
-pub record NodePasses (around : Around) (start : Bool → State) (node : Node) (kept : Option Candidate) (x : Context)
-    (ls : List Level) (ps : List Place) (m : Marker) (o : List ℕ) : Type 0 where
+-- The tokens of a node, and the run over its text t, which stands at m before o.
+pub record NodePasses (around : Around) (now : FlowMoment) (node : Node) (m : Marker) (t o : List ℕ) : Type 0 where
   pub tokens : List Kind
   pub are : grammar.YieldsNode node grammar.InFlow tokens
-  pub passes : Passes around start (after_node around.indent x kept node m o) x ls ps m o tokens
+  pub passes : Passes around (state_at around now)
+      (after_node around.indent now.context (key_behind now m) node (moved m t) o) now.context now.outer now.places
+      (moved m t) o tokens
 
-pub record RootCloses (around : Around) (start : Bool → State) (node : Node) (k : Option Candidate) (first : Marker)
-    (t : List ℕ) (ps : List Place) (m : Marker) (o : List ℕ) : Type 0 where
+-- the same of a document's node
+pub record RootCloses (around : Around) (now : FlowMoment) (node : Node) (m : Marker) (t o : List ℕ) : Type 0 where
   pub tokens : List Kind
   pub are : grammar.YieldsNode node grammar.InBlock tokens
-  pub closes : Closes around start k first t ps m o tokens
+  pub closes : Closes around (state_at around (root_moment now)) now.key m t now.places (moved m t) o tokens
 
 -- a node inside flow, or a plain scalar that is a key, with its colon right behind it
 abbrev pub IsNodeOrKey : ℕ → Node → ℕ → List ℕ → List ℕ → Type 0
@@ -356,20 +371,16 @@ abbrev pub PassesNode : Around → ℕ → Node → Type 0
 PassesNode around room node =
     (m : Marker) (p o : List ℕ) → IsNodeOrKey room node around.indent p o → Fits around m p o
     → IsBehindNode around.indent node o
-    → (s : Cursor) (x : Context) (k : Option Candidate) (ls : List Level) (a : Bool) (ad : ℕ) (ps : List Place)
-    → ad < m.index → is_block x ≡ false → room + length ls ≤ 255
-    → past around.indent s.mark s.rest ≡ past around.indent m (p ++ o)
-    → NodePasses around (state_at around s x k ls a ad ps) node (saved a (length ps) m k) x ls ps (moved m p) o
+    → (now : FlowMoment) → now.adjacent < m.index → is_block now.context ≡ false → room + length now.outer ≤ 255
+    → StandsBefore around now m (p ++ o) → NodePasses around now node m p o
 
 -- A node at block level is passed.
 abbrev pub ClosesNode : Around → Node → Type 0
 ClosesNode around node =
     (m : Marker) (p o : List ℕ) → IsFlowNode 255 node false around.indent p → Fits around m p o
     → IsBehindRoot around.indent (moved m p) o
-    → (s : Cursor) (k : Option Candidate) (a : Bool) (ad : ℕ) (ps : List Place)
-    → ad ≤ (past around.indent m (p ++ o)).0.index
-    → past around.indent s.mark s.rest ≡ past around.indent m (p ++ o)
-    → RootCloses around (state_at around s context.Block k [] a ad ps) node k m p ps (moved m p) o
+    → (now : FlowMoment) → now.adjacent ≤ (past around.indent m (p ++ o)).0.index → StandsBefore around now m (p ++ o)
+    → RootCloses around now node m p o
 
 -- each is, where no key is required
 abbrev pub ClosesNodes : Around → Type 0

@@ -10,13 +10,13 @@ use Rattle.saphyr_scanner.specs.Views.Tokens.{Piece}
 use Rattle.saphyr_scanner.specs.Steps.Queue.{Place, closed}
 use Rattle.saphyr_scanner.specs.Steps.Core.{Candidate, Level, is_block, from_to, went}
 use Rattle.saphyr_scanner.specs.Steps.Fetch.{step}
-use Rattle.saphyr_scanner.proofs.InFlow.States.{Around, core_at, state_at, Deepens}
+use Rattle.saphyr_scanner.proofs.InFlow.States.{Around, core_at, state_at, Deepens, FlowMoment, moment}
 use Rattle.saphyr_scanner.proofs.Json.Marks.{saved}
 use Rattle.saphyr_scanner.proofs.Json.Brackets.{place_of}
-use Rattle.saphyr_scanner.proofs.Flow.States.{moved, past, IsClear, IsInk, IsFresh, Since, Kept, keeping, Known, Passes, Fits}
+use Rattle.saphyr_scanner.proofs.Flow.States.{moved, past, IsClear, IsInk, IsFresh, Since, Kept, keeping, Known, Passes, Fits, StandsBefore}
 use Rattle.saphyr_scanner.proofs.Flow.Places.{moved_count, clear_here}
 use Rattle.saphyr_scanner.proofs.Flow.GapSteps.{past_ink}
-use Rattle.saphyr_scanner.proofs.Flow.Arrivals.{BeginsToken, arrives, one, within_index}
+use Rattle.saphyr_scanner.proofs.Flow.Arrivals.{BeginsToken, arrives, step_comes, within_index}
 use Rattle.saphyr_scalar.proofs.Given.{cursor_at}
 
 -- a piece whose first character begins a token
@@ -78,6 +78,12 @@ adjacent_at n allowed adjacent = adjacent ≡ n
 abbrev pub after_token : (Bool → ℕ → Type 0) → Context → Kept → Known
 after_token says x kept key allowed adjacent new = IsAfterToken says x kept key allowed adjacent new
 
+-- the run over a token p, which stands at m before o
+abbrev pub PassesToken : Around → (Bool → ℕ → Type 0) → FlowMoment → Marker → List ℕ → List ℕ → Kind → Type 0
+PassesToken around says now m p o kind =
+    Passes around (state_at around now) (after_token says now.context (keeping now m p)) now.context now.outer
+    now.places (moved m p) o (kind ∷ [])
+
 pub same_saved : (n : ℕ) (m : Marker) (a b : Bool) (k j : Option Candidate) → (j ≡ k) × (b ≡ a)
     → saved b n m j ≡ saved a n m k
 same_saved n m a b k j e = rw (e.0, e.1) refl
@@ -91,24 +97,21 @@ saved_since false n m k j p key (inl h) (inr g) = inl (g ∙ h)
 saved_since false n m k j p key (inr h) (inr g) = inr (inl (g ∙ h))
 
 pub token_passes : (around : Around) (says : Bool → ℕ → Type 0) (kind : Kind) (p o : List ℕ) (m : Marker) → Begins p
-    → Fits around m p o → around.indent ≤ (moved m p).col
-    → (s : Cursor) (x : Context) (k : Option Candidate) (ls : List Level) (a : Bool) (ad : ℕ) (ps : List Place)
-    → past around.indent s.mark s.rest ≡ past around.indent m (p ++ o)
+    → Fits around m p o → around.indent ≤ (moved m p).col → (now : FlowMoment) → StandsBefore around now m (p ++ o)
     → ((b : Bool) (j : Option Candidate) (e : Bool)
-    → Step around says kind (p ++ o) m (moved m p) o x ls ad (length ps) b j e)
-    → Passes around (state_at around s x k ls a ad ps) (after_token says x (keeping a (length ps) m k p)) x ls ps
-    (moved m p) o (kind ∷ [])
-token_passes around says kind p o m f fits right s x k ls a ad ps text steps =
-    let v = arrives around s x k ls a ad ps m (p ++ o) (text ∙ begins_past around.indent m p o f) (begins_inked p o f)
+    → Step around says kind (p ++ o) m (moved m p) o now.context now.outer now.adjacent (length now.places) b j e)
+    → PassesToken around says now m p o kind
+token_passes around says kind p o m f fits right now text steps =
+    let v = arrives around now m (p ++ o) (text ∙ begins_past around.indent m p o f) (begins_inked p o f)
     fits.right fits.calm in
     let w = steps v.blank v.key v.allowed in
     let count = moved_count m p o in
     let below = fits.below in
     let low = within_index around.indent around.limit w.there (moved m p) o w.fits (omega (arith, count, below)) in
     let new = place_of m w.end kind ∷ [] in
-    let came = one around s x k ls a ad ps m (p ++ o) v (begins_token m p o f fits.clear) w.there x
-    (saved v.allowed (length ps) m v.key) ls w.allowed w.adjacent (ps ++ new) (from_to m w.end kind ∷ [])
-    w.to w.deepens w.is refl low in
+    let came = step_comes around now m (p ++ o) v (begins_token m p o f fits.clear) (moment w.there now.context
+    (saved v.allowed (length now.places) m v.key) now.outer w.allowed w.adjacent
+    (now.places ++ new)) (from_to m w.end kind ∷ []) w.to w.deepens w.is refl low in
     record {
       there = w.there;
       key = came.key;
@@ -123,8 +126,8 @@ token_passes around says kind p o m f fits right s x k ls a ad ps text steps =
       knows = record {
         piece = record { span = record { start = m; end = w.end }; kind = kind };
         is = refl;
-        keeps = λ e. came.same e ∙ same_saved (length ps) m a v.allowed k v.key (v.same e);
-        since = saved_since v.allowed (length ps) m k v.key p came.key v.kept came.kept;
+        keeps = λ e. came.same e ∙ same_saved (length now.places) m now.allowed v.allowed now.key v.key (v.same e);
+        since = saved_since v.allowed (length now.places) m now.key v.key p came.key v.kept came.kept;
         tells = w.tells;
       };
     }

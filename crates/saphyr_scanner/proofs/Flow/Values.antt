@@ -15,18 +15,18 @@ use Rattle.saphyr_scanner.specs.Steps.Value.{begins_pair, behind_colon, alone, b
 use Rattle.saphyr_scanner.specs.Steps.State.{State}
 use Rattle.saphyr_scanner.specs.Grammar.Forest.{Node}
 use Rattle.saphyr_scanner.specs.Grammar.FlowNodes.{allows_adjacent}
-use Rattle.saphyr_scanner.proofs.InFlow.States.{Around, core_at, state_at, chains, as_before}
+use Rattle.saphyr_scanner.proofs.InFlow.States.{Around, core_at, state_at, chains, as_before, moment, FlowMoment, moment_in, moment_with}
 use Rattle.saphyr_scanner.proofs.Json.States.{queue_of}
 use Rattle.saphyr_scanner.proofs.Json.Marks.{kinds}
-use Rattle.saphyr_scanner.proofs.Flow.States.{moved, past, IsParted, ends_colon, no_key, after_node, Passes, Fits}
+use Rattle.saphyr_scanner.proofs.Flow.States.{moved, past, IsParted, ends_colon, no_key, after_node, Passes, Fits, after, StandsBefore}
 use Rattle.saphyr_scanner.proofs.Flow.Places.{right_one}
 use Rattle.saphyr_scanner.proofs.Flow.GapSteps.{past_ink}
 use Rattle.saphyr_scanner.proofs.Flow.Fillers.{separation_past}
-use Rattle.saphyr_scanner.proofs.Flow.Arrivals.{arrives, one, within_index}
-use Rattle.saphyr_scanner.proofs.Flow.Joins.{once}
+use Rattle.saphyr_scanner.proofs.Flow.Arrivals.{arrives, step_comes, within_index}
+use Rattle.saphyr_scanner.proofs.Flow.Joins.{step_passes}
 use Rattle.saphyr_scanner.proofs.InBlock.Crossings.{fresh_in_flow}
 use Rattle.saphyr_scanner.proofs.Flow.Brackets.{mark_begins, mark_moved, one_on}
-use Rattle.saphyr_scanner.proofs.Flow.Colons.{begins, tabbed, opened_key, key_kinds, opens_key, fetches, behind_some, behind_none, colon, colon_flows, pair_places, performs, pair_kinds}
+use Rattle.saphyr_scanner.proofs.Flow.Colons.{colon_reads_value, tabbed, opened_key, key_kinds, opens_key, fetches, behind_some, behind_none, colon, colon_flows, pair_places, performs, pair_kinds}
 use Rattle.saphyr_scalar.proofs.Given.{cursor_at}
 use Rattle.saphyr_input.proofs.Basics.Numbers.{le_next}
 use Rattle.std.proofs.lemmas.Bool.{true≢false}
@@ -53,15 +53,14 @@ colon_passes around y flows first e node w o parts fits parted ends same_line st
     separation_past around.indent e w (58 ∷ o) parts p.right ∙ past_ink around.indent m 58 o colon.ink in
     let before : p.adjacent ≤ m.index = subst (λ (q : Marker × List ℕ). p.adjacent ≤ q.0.index) lands (n.low flows) in
     let qs = ps ++ p.new in
-    let v = arrives around p.there y p.key ls p.allowed p.adjacent qs m (58 ∷ o) (p.fits ∙ lands) refl fits.right
-    fits.calm in
+    let v = arrives around (after p) m (58 ∷ o) (p.fits ∙ lands) refl fits.right fits.calm in
     let k = key_at first ps in
     let kept : v.key ≡ Some k = (v.same flows).0 ∙ n.keeps flows in
     let seen = cursor_at (58 ∷ o) m v.blank in
     let t = tabbed around o (along m 1) (behind_colon y) (Some k) ls v.allowed p.adjacent (colon_flows y flows) parted
     (le_next around.indent m.col fits.right) in
-    let stepped = λ (d : Bool). begins around d (slice_index o 0) (length qs) seen y v.key ls v.allowed p.adjacent flows
-    (by_place ends (n.near flows w o refl parts))
+    let stepped = λ (d : Bool). colon_reads_value around d (slice_index o 0) (length qs) seen y v.key ls v.allowed
+    p.adjacent flows (by_place ends (n.near flows w o refl parts))
     ∙ ap (λ (j : Option Candidate). value.value_steps (core_at around d seen y j ls v.allowed p.adjacent)) kept
     ∙ fetches around d o m v.blank y (Some k) ls v.allowed p.adjacent flows t
     ∙ behind_some k (begins_pair y) m (core_at around d t.there (behind_colon y) (Some k) ls v.allowed p.adjacent)
@@ -69,10 +68,9 @@ colon_passes around y flows first e node w o parts fits parted ends same_line st
     let below = fits.below in
     let op = opened_key (begins_pair y) in
     let new = pair_places op n.piece n.others (empty_piece m tokens.Value) in
-    let came = one around p.there y p.key ls p.allowed p.adjacent qs m (58 ∷ o) v (mark_begins m 58 o colon fits.clear)
-    t.there (behind_colon y) None ls false p.adjacent (ps ++ new)
-    (Open (length ps) op ∷ at_mark m tokens.Value ∷ []) (λ d. d) (as_before around) stepped
-    (performs ps n.others p.new op n.piece (empty_piece m tokens.Value) n.is)
+    let came = step_comes around (after p) m (58 ∷ o) v (mark_begins m 58 o colon fits.clear)
+    (moment t.there (behind_colon y) None ls false p.adjacent (ps ++ new)) (Open (length ps) op ∷ at_mark m tokens.Value
+    ∷ []) (λ d. d) (as_before around) stepped (performs ps n.others p.new op n.piece (empty_piece m tokens.Value) n.is)
     (within_index around.indent around.limit t.there (along m 1) o t.lands (omega (arith, below))) in
     record {
       there = t.there;
@@ -133,32 +131,32 @@ alone_told false m = refl
 
 -- A colon where no key is kept: a key that is left out, or that a `?` began.
 pub value_passes : (around : Around) (y : Context) → is_block y ≡ false → (m : Marker) (o : List ℕ)
-    → Fits around m (58 ∷ []) o → IsParted around.indent o
-    → (s : Cursor) (k : Option Candidate) (ls : List Level) (a : Bool) (ad : ℕ) (ps : List Place) → k ≡ None
-    → (m.index ≡ ad) ⊎ IsTrue (ends_colon (slice_index o 0)) → ad ≤ m.index
-    → past around.indent s.mark s.rest ≡ past around.indent m (58 ∷ o)
-    → Passes around (state_at around s y k ls a ad ps) (no_key (moved m (58 ∷ []))) (behind_colon y) ls ps
-    (moved m (58 ∷ [])) o (alone_kinds (begins_pair y) ++ tokens.Value ∷ [])
-value_passes around y flows m o fits parted s k ls a ad ps none ends before text =
-    let v = arrives around s y k ls a ad ps m (58 ∷ o) (text ∙ past_ink around.indent m 58 o colon.ink) refl fits.right
-    fits.calm in
+    → Fits around m (58 ∷ []) o → IsParted around.indent o → (now : FlowMoment) → now.key ≡ None
+    → (m.index ≡ now.adjacent) ⊎ IsTrue (ends_colon (slice_index o 0)) → now.adjacent ≤ m.index
+    → StandsBefore around now m (58 ∷ o)
+    → Passes around (state_at around (moment_in y now)) (no_key (moved m (58 ∷ []))) (behind_colon y) now.outer
+    now.places (moved m (58 ∷ [])) o (alone_kinds (begins_pair y) ++ tokens.Value ∷ [])
+value_passes around y flows m o fits parted now none ends before text =
+    let v = arrives around (moment_in y now) m (58 ∷ o) (text ∙ past_ink around.indent m 58 o colon.ink) refl
+    fits.right fits.calm in
     let seen = cursor_at (58 ∷ o) m v.blank in
-    let t = tabbed around o (along m 1) (behind_colon y) None ls v.allowed ad (colon_flows y flows) parted
-    (le_next around.indent m.col fits.right) in
-    let stepped = λ (d : Bool). begins around d (slice_index o 0) (length ps) seen y v.key ls v.allowed ad flows ends
-    ∙ ap (λ (j : Option Candidate). value.value_steps (core_at around d seen y j ls v.allowed ad))
-    ((v.same flows).0 ∙ none)
-    ∙ fetches around d o m v.blank y None ls v.allowed ad flows t
-    ∙ behind_none (begins_pair y) m (core_at around d t.there (behind_colon y) None ls v.allowed ad)
-    ∙ alone_step around d m t.there y ls v.allowed ad flows in
+    let t = tabbed around o (along m 1) (behind_colon y) None now.outer v.allowed now.adjacent (colon_flows y flows)
+    parted (le_next around.indent m.col fits.right) in
+    let stepped = λ (d : Bool). colon_reads_value around d (slice_index o 0) (length now.places) seen y v.key now.outer
+    v.allowed now.adjacent flows ends
+    ∙ ap (λ (j : Option Candidate). value.value_steps (core_at around d seen y j now.outer v.allowed now.adjacent))
+    ((v.same flows).0 ∙ none) ∙ fetches around d o m v.blank y None now.outer v.allowed now.adjacent flows t
+    ∙ behind_none (begins_pair y) m (core_at around d t.there (behind_colon y) None now.outer v.allowed now.adjacent)
+    ∙ alone_step around d m t.there y now.outer v.allowed now.adjacent flows in
     let below = fits.below in
     let new = alone_places (begins_pair y) m in
-    let came = one around s y k ls a ad ps m (58 ∷ o) v (mark_begins m 58 o colon fits.clear) t.there (behind_colon y)
-    None ls false ad (ps ++ new) (alone_actions (begins_pair y) m) (λ d. d) (as_before around) stepped
-    (alone_puts (begins_pair y) ps m)
+    let next = moment t.there (behind_colon y) None now.outer false now.adjacent now.places in
+    let came = step_comes around (moment_in y now) m (58 ∷ o) v (mark_begins m 58 o colon fits.clear)
+    (moment_with new next) (alone_actions (begins_pair y) m) (λ d. d) (as_before around) stepped
+    (alone_puts (begins_pair y) now.places m)
     (within_index around.indent around.limit t.there (along m 1) o t.lands (omega (arith, below))) in
-    once false ad t.there ps new (moved m (58 ∷ [])) o (alone_kinds (begins_pair y) ++ tokens.Value ∷ [])
-    (no_key (moved m (58 ∷ []))) came (right_one around.indent m 58 refl fits.right)
+    step_passes next new (moved m (58 ∷ [])) o (alone_kinds (begins_pair y)
+    ++ tokens.Value ∷ []) (no_key (moved m (58 ∷ []))) came (right_one around.indent m 58 refl fits.right)
     (t.lands ∙ ap (λ (q : Marker). past around.indent q o) (mark_moved m 58 colon))
     (fresh_in_flow (behind_colon y) o false t.there (colon_flows y flows)) (alone_told (begins_pair y) m)
-    (came.same (colon_flows y flows), refl, one_on m 58 ad before)
+    (came.same (colon_flows y flows), refl, one_on m 58 now.adjacent before)

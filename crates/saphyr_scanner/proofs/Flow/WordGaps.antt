@@ -61,15 +61,15 @@ prefix_white : (indent : ℕ) (t : List ℕ) → IsLinePrefix indent t → AreWh
 prefix_white indent t (front, blanks, spaced, are, is) =
     subst AreWhite (sym is) (both_white front blanks (spaces_white indent front spaced) (blanks_white blanks are))
 
-line_white : (indent : ℕ) (t : List ℕ) → IsEmptyLine indent t → AreWhite t
-line_white indent t (front, inl h, is) =
+empty_line_white : (indent : ℕ) (t : List ℕ) → IsEmptyLine indent t → AreWhite t
+empty_line_white indent t (front, inl h, is) =
     subst AreWhite (sym is) (both_white front (10 ∷ []) (spaces_white 0 front h) (refl, tt))
-line_white indent t (front, inr h, is) =
+empty_line_white indent t (front, inr h, is) =
     subst AreWhite (sym is) (both_white front (10 ∷ []) (prefix_white indent front h) (refl, tt))
 
 lines_white : (indent : ℕ) (ts : List (List ℕ)) → AreEach (IsEmptyLine indent) ts → AreWhite (joined ts)
 lines_white indent [] h = tt
-lines_white indent (t ∷ ts) h = both_white t (joined ts) (line_white indent t h.0) (lines_white indent ts h.1)
+lines_white indent (t ∷ ts) h = both_white t (joined ts) (empty_line_white indent t h.0) (lines_white indent ts h.1)
 
 not_nothing : (a : List ℕ) (c : ℕ) (b : List ℕ) → a ++ (c ∷ b) ≢ []
 not_nothing [] c b e = absurd (cc)

@@ -14,7 +14,7 @@ use Rattle.saphyr_scalar.proofs.NoBreaks.{NoBreaks}
 use Rattle.saphyr_scanner.specs.Grammar.FlowScalars.{IsWordGap, IsFurtherWord, IsPlain, IsLastWord, IsPlainKey}
 use Rattle.saphyr_scanner.proofs.Flow.States.{moved, IsClear}
 use Rattle.saphyr_scanner.proofs.Flow.Places.{moved_append, right_along, clear_front, clear_back, clear_here}
-use Rattle.saphyr_scanner.proofs.Flow.Names.{unbroken_along, on_line}
+use Rattle.saphyr_scanner.proofs.Flow.Names.{unbroken_along, unbroken_on_line}
 use Rattle.saphyr_input.proofs.Basics.Booleans.{none_of_three, and_false}
 use Rattle.saphyr_scanner.proofs.Flow.WordGaps.{passed_moved, word_gap, plain_gap}
 
@@ -31,12 +31,12 @@ ink_other f c h = let p =
     none_of_three (is_blank_or_breakz c) (is_bom c) (f && is_flow c) h in
     record { blank_or_breakz = p.0; byte_order_mark = p.1; flow = p.2 }
 
-pub no_break : (c : ℕ) → is_blank_or_breakz c ≡ false → is_break c ≡ false
-no_break c h = grind (arith, nat_tests)
+pub ink_no_break : (c : ℕ) → is_blank_or_breakz c ≡ false → is_break c ≡ false
+ink_no_break c h = grind (arith, nat_tests)
 
 word_unbroken : (f : Bool) (w y : List ℕ) → AreInkBefore f w y → NoBreaks w
 word_unbroken f [] y h = tt
-word_unbroken f (c ∷ cs) y h = (no_break c (ink_other f c h.0).blank_or_breakz, word_unbroken f cs y h.2)
+word_unbroken f (c ∷ cs) y h = (ink_no_break c (ink_other f c h.0).blank_or_breakz, word_unbroken f cs y h.2)
 
 -- ## Words before what follows them
 
@@ -167,7 +167,7 @@ one_further f indent m gap word more o gapped is_word clear rest =
           (sym (moved_append m gap (word ++ more) ∙ moved_append (moved m gap) word more
           ∙ ap (λ (k : Marker). moved (moved k word) more) (sym there) ∙ ap (λ (k : Marker). moved k more) line))
           (rest.right (subst (λ (k : Marker). indent ≤ k.col) line
-          (right_along indent (passed m gap) word (on_line word unbroken)
+          (right_along indent (passed m gap) word (unbroken_on_line word unbroken)
           (subst (λ (k : Marker). indent ≤ k.col) (sym there) ((word_gap indent m gap gapped).right low)))));
     }
 
@@ -277,7 +277,7 @@ right_of f indent m t o h low =
     let unbroken = word_unbroken f h.first (h.behind ++ o) h.word.ink in
     let line : moved m h.first ≡ along m (length h.first) = unbroken_along m h.first unbroken in
     let here = subst (λ (k : Marker). indent ≤ k.col) line
-    (right_along indent m h.first (on_line h.first unbroken) low) in
+    (right_along indent m h.first (unbroken_on_line h.first unbroken) low) in
     subst (λ (k : Marker). indent ≤ k.col)
     (sym (ap (moved m) h.is ∙ moved_append m h.first h.behind ∙ ap (λ (k : Marker). moved k h.behind) line))
     (h.others.right here)

@@ -264,15 +264,16 @@ without_mark t [] y e other opens =
     absurd (let k : true ≡ false = ap (λ (x : List ℕ). slice_index x 0 == 65279) e ∙ other in cc)
 without_mark t (c ∷ cs) y e other opens = record { front = cs; is = cc; line = opens_too (c == line_feed) cs opens }
 
-no_mark : (marker : DocumentMarker) (tail : List ℕ) → (slice_index (last_line marker tail) 0 == 65279) ≡ false
-no_mark Starts tail = refl
-no_mark Ends tail = refl
+no_byte_order_mark : (marker : DocumentMarker) (tail : List ℕ)
+    → (slice_index (last_line marker tail) 0 == 65279) ≡ false
+no_byte_order_mark Starts tail = refl
+no_byte_order_mark Ends tail = refl
 
 -- behind one at the text's start
 placed_behind : (marker : DocumentMarker) (t front tail : List ℕ) → IsBeforeMarker front
     → 65279 ∷ t ≡ front ++ last_line marker tail → Placed marker tail t
 placed_behind marker t front tail (inl before) e =
-    inl (without_mark t front (last_line marker tail) e (no_mark marker tail) (before_line front before))
+    inl (without_mark t front (last_line marker tail) e (no_byte_order_mark marker tail) (before_line front before))
 placed_behind marker t front tail (inr (inl one)) e =
     let text : 65279 ∷ t ≡ 65279 ∷ last_line marker tail = e ∙ ap (λ (x : List ℕ). x ++ last_line marker tail) one in
     inl (record { front = []; is = cc; line = refl })

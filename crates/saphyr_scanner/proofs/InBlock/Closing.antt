@@ -12,7 +12,7 @@ use Rattle.saphyr_scanner.specs.Steps.Core.{Candidate}
 use Rattle.saphyr_scanner.specs.Steps.Document as document
 use Rattle.saphyr_scanner.specs.Steps.Document.{end_mark}
 use Rattle.saphyr_scanner.specs.Steps.Queue.{Place, closed, empty_piece}
-use Rattle.saphyr_scanner.specs.Steps.State.{State, separated}
+use Rattle.saphyr_scanner.specs.Steps.State.{State, on_core_with}
 use Rattle.saphyr_scanner.specs.Grammar.Tokens as tokens
 use Rattle.saphyr_scanner.specs.Grammar.Tokens.{Kind}
 use Rattle.saphyr_scanner.specs.Steps.Unrolling.{unroll}
@@ -135,7 +135,7 @@ marked_alike start m s t at_s at_t e = by_start start
 
     by_start : (start : Bool) → by_marker start s ≡ by_marker start t
     by_start true = marker tokens.DocumentStart
-    by_start false = ap (λ r. r >>= λ (u : State). separated (separate u.core) u >>= document.end_line)
+    by_start false = ap (λ r. r >>= λ (u : State). on_core_with (separate u.core) u >>= document.end_line)
         (marker tokens.DocumentEnd)
 
 -- what the end of the stream does

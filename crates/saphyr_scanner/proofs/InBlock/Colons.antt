@@ -51,9 +51,10 @@ record PassesColon (o : List ℕ) (h : IsBehindIndicator o) (m : Marker) : Type 
   clean : (least : ℕ) → tabbed least mark false false rest ≡ false
 
 -- where the line ends, no word stands
-no_word : (more : List ℕ) → EndsLine more → ((slice_index more 0 == 45) || is_alpha (slice_index more 0)) ≡ false
-no_word more (inl e) = ap (λ (t : List ℕ). (slice_index t 0 == 45) || is_alpha (slice_index t 0)) e
-no_word more (inr e) = ap (λ (c : ℕ). (c == 45) || is_alpha c) e
+no_word_at_line_end : (more : List ℕ) → EndsLine more
+    → ((slice_index more 0 == 45) || is_alpha (slice_index more 0)) ≡ false
+no_word_at_line_end more (inl e) = ap (λ (t : List ℕ). (slice_index t 0 == 45) || is_alpha (slice_index t 0)) e
+no_word_at_line_end more (inr e) = ap (λ (c : ℕ). (c == 45) || is_alpha c) e
 
 no_space_first : (o : List ℕ) (n : ℕ) (xs : List ℕ) → o ≡ spaces n ++ xs → is_blank (slice_index xs 0) ≡ false
     → (slice_index o 0 == 9) ≡ false
@@ -82,7 +83,7 @@ passes_colon o h m = by_tab (slice_index o 0 == 9) refl h.tabs
         let first : (slice_index n.cursor.rest 0 == 9) ≡ true = ap (λ (s : Cursor). slice_index s.rest 0 == 9) at ∙ e in
         let word : value.refuse_lone_tab (found_blanks Yes o, core_of f (record n { cursor = there }))
         ≡ Ok (core_of f (record n { cursor = there })) =
-        rw (no_word h.more ends, and_false (not (has_valid_yaml_ws (found_blanks Yes o)))) refl in
+        rw (no_word_at_line_end h.more ends, and_false (not (has_valid_yaml_ws (found_blanks Yes o)))) refl in
         rw first (ap (λ r. (r >>= λ (x : SkipTabs × Cursor). Ok (x.0, with_cursor x.1 (core_of f n)))
         >>= value.refuse_lone_tab) sep ∙ word)
 

@@ -123,9 +123,9 @@ steps_on f g m y v begins far n qs is none low =
 
 -- ## `-`
 
-no_marker : (o : List ℕ) → is_blank_or_breakz (slice_index o 0) ≡ true → is_document_indicator (45 ∷ o) ≡ false
-no_marker [] h = refl
-no_marker (c ∷ cs) h = by_dash (c == 45) refl
+dash_is_no_marker : (o : List ℕ) → is_blank_or_breakz (slice_index o 0) ≡ true → is_document_indicator (45 ∷ o) ≡ false
+dash_is_no_marker [] h = refl
+dash_is_no_marker (c ∷ cs) h = by_dash (c == 45) refl
   where
     dash : (c : ℕ) → (c == 45) ≡ true → is_blank_or_breakz c ≡ true → ⊥
     dash c e h = absurd (let k : false ≡ true = sym (no c e) ∙ h in cc)
@@ -146,7 +146,7 @@ dash_begins m o h = record {
   byte_order_mark = refl;
   directive =
       and_false (m.col == 0);
-  marker = rw (no_marker o h, and_false (m.col == 0)) refl;
+  marker = rw (dash_is_no_marker o h, and_false (m.col == 0)) refl;
 }
 
 deepens : (g : Frame) (n : Moment) → (d : Bool) × (deepen (core_of g n) ≡ core_of g (record n { deeper = d }))
@@ -192,13 +192,14 @@ behind_dash more n deeper ad =
       comment = None;
     }
 
-enters : (f : Frame) (m : Marker) (o : List ℕ) (blank : Bool) (key : Option Candidate) (ad : ℕ) (deeper further : Bool)
+dash_enters : (f : Frame) (m : Marker) (o : List ℕ) (blank : Bool) (key : Option Candidate) (ad : ℕ)
+    (deeper further : Bool)
     → nat_le f.indent m.col ≡ further
     → (d : Bool) × (roll m.col (pass_on 1 (core_of f (moment_at m (45 ∷ o) blank key true ad deeper)))
     ≡ core_of (frame_behind further m.col f)
     (record (moment_at m (45 ∷ o) blank key true ad d) { cursor = cursor_at o (along m 1) false }))
-enters f m o blank key ad deeper true e = (false, rw e refl)
-enters f m o blank key ad deeper false e = (deeper, rw e refl)
+dash_enters f m o blank key ad deeper true e = (false, rw e refl)
+dash_enters f m o blank key ad deeper false e = (deeper, rw e refl)
 
 forgets : (g : Frame) (n : Moment) → n.required ≡ false
     → remove_key (core_of g n) ≡ Ok (core_of g (record n { key = None; required = false }))
@@ -213,7 +214,7 @@ dash_step : (f : Frame) (m : Marker) (o : List ℕ) (h : IsBehindIndicator o) (b
 unfolding step entry next_entry
 dash_step f m o h blank key ad deeper further e i =
     let c = core_of f (moment_at m (45 ∷ o) blank key true ad deeper) in
-    let r = enters f m o blank key ad deeper further e in
+    let r = dash_enters f m o blank key ad deeper further e in
     let n : Moment = record (moment_at m (45 ∷ o) blank key true ad r.0) { cursor = cursor_at o (along m 1) false } in
     let g = frame_behind further m.col f in
     let p = passes_dash g n o h (along m 1) refl in

@@ -120,8 +120,8 @@ node_token leaves (Map p pairs) place t o (inr (m, lead, entries, lead_is, h, e)
 percent_ink : IsInk 37
 percent_ink = record { blank = refl; break = refl; comment = refl; byte_order_mark = refl }
 
-here : (c : ℕ) (cs t : List ℕ) → IsInk c → t ≡ c ∷ cs → HasToken t
-here c cs t ink e = record { white = []; skipped = nothing; first = c; others = cs; ink = ink; is = e }
+ink_is_token : (c : ℕ) (cs t : List ℕ) → IsInk c → t ≡ c ∷ cs → HasToken t
+ink_is_token c cs t ink e = record { white = []; skipped = nothing; first = c; others = cs; ink = ink; is = e }
 
 document_token : {limit : ℕ} → Leaves limit → (d : Document) (free : Bool) (t o : List ℕ)
     → layout.IsDocument (IsBlockNode most_open) d free t o → HasToken t
@@ -135,10 +135,11 @@ document_token leaves d free t o (inr (may, (directives, node, explicit, compati
     by_directives d.directives are
   where
     by_directives : (ds : List Directive) → AreDirectives ds directives → HasToken t
-    by_directives [] h = here 45 (45 ∷ 45 ∷ node) t dash_ink (e ∙ ap (λ (x : List ℕ). x ++ (45 ∷ 45 ∷ 45 ∷ node)) h)
+    by_directives [] h =
+        ink_is_token 45 (45 ∷ 45 ∷ node) t dash_ink (e ∙ ap (λ (x : List ℕ). x ++ (45 ∷ 45 ∷ 45 ∷ node)) h)
     by_directives (k ∷ ks) (directive, filler, more, is, filler_is, others, text) =
         let line = directive_line k directive is in
-        here 37 ((line.others ++ (10 ∷ (filler ++ more))) ++ (45 ∷ 45 ∷ 45 ∷ node)) t percent_ink
+        ink_is_token 37 ((line.others ++ (10 ∷ (filler ++ more))) ++ (45 ∷ 45 ∷ 45 ∷ node)) t percent_ink
         (e ∙ ap (λ (x : List ℕ). x ++ (45 ∷ 45 ∷ 45 ∷ node))
         (text ∙ ap (λ (x : List ℕ). x ++ (10 ∷ (filler ++ more))) line.is))
 

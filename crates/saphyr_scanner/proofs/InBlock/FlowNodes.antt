@@ -7,6 +7,7 @@ use Rattle.saphyr_input.specs.Classes.{is_z}
 use Rattle.saphyr_input.specs.Places.{can_be_plain, is_document_indicator}
 use Rattle.saphyr_scalar.specs.declared.scalar.position.Marker.{Marker}
 use Rattle.saphyr_scalar.specs.Spelling.Spaces.{IsEol}
+use Rattle.saphyr_scanner.specs.declared.engine.level.Context.TheVariants as context
 use Rattle.saphyr_scanner.specs.Steps.Core.{Candidate, least_column}
 use Rattle.saphyr_scanner.specs.Grammar.Forest.{Node, Alias, Scalar, Seq, Map}
 use Rattle.saphyr_scanner.specs.Grammar.BlockNodes.{Position, IsFlowInBlock}
@@ -14,7 +15,7 @@ use Rattle.saphyr_scanner.specs.Grammar.FlowNodes.{IsFlowNode}
 use Rattle.saphyr_scanner.specs.Steps.Passing.{goes_on_behind}
 use Rattle.saphyr_scanner.specs.Grammar.TokenGrammar as grammar
 use Rattle.saphyr_scanner.specs.Grammar.Tokens.{Kind}
-use Rattle.saphyr_scanner.proofs.InFlow.States.{least_low}
+use Rattle.saphyr_scanner.proofs.InFlow.States.{moment, least_low}
 use Rattle.saphyr_scanner.proofs.Json.Marks.{kinds, kinds_append}
 use Rattle.saphyr_scanner.proofs.Flow.States as flow
 use Rattle.saphyr_scanner.proofs.Flow.States.{moved, past, crosses, EndsDocument, IsLeft, IsBehindRoot, Since, Reads}
@@ -97,9 +98,6 @@ in_context place (Map p pairs) ts (properties, content, are, inr h, is) =
     (properties, content, are, inr (allows_block place, h.1), is)
 
 -- ## What may be a key behind it
-
-none_left : (m : Marker) → left_key None m ≡ None
-none_left m = refl
 
 far_left : (k : Candidate) (m : Marker) → k.mark.line < m.line → left_key (Some k) m ≡ None
 far_left k m h = rw (too_far k m h) refl
@@ -218,8 +216,8 @@ reads_flow reads limit short node place f same m t o (gap, text, end, gap_is, no
     let root = behind_root f n end o end_is q lands_at (past_stops (moved m t) o) behind.left in
     let start_low = v.low in
     let on = past_low f.indent at (text ++ rest) in
-    let r = nodes_close reads around refl node at text rest is inside root (cursor_at (text ++ rest) at v.blank) v.key
-    v.allowed v.adjacent v.places (omega (arith, start_low, on)) refl in
+    let now = moment (cursor_at (text ++ rest) at v.blank) context.Block v.key [] v.allowed v.adjacent v.places in
+    let r = nodes_close reads around refl node at text rest is inside root now (omega (arith, start_low, on)) refl in
     let c = r.closes in
     let ran = c.leads.run v.deeper in
     let there : Moment = record {

@@ -12,7 +12,7 @@ use Rattle.saphyr_scanner.specs.Steps.Passing.{pass_gap, check_comment, goes_on_
 use Rattle.saphyr_scanner.specs.Steps.Queue.{Place}
 use Rattle.saphyr_scanner.specs.Steps.State.{State, carried}
 use Rattle.saphyr_scanner.specs.Steps.Unrolling.{unroll}
-use Rattle.saphyr_scanner.specs.Steps.Fetch.{fetch, fetch_here, arrive, fetch_within, within, settled, state_behind_content}
+use Rattle.saphyr_scanner.specs.Steps.Fetch.{fetch, fetch_here, arrive, fetch_within, within, without_far_key, state_behind_content}
 use Rattle.saphyr_scanner.proofs.Leads.{Leads, stay, onward}
 use Rattle.saphyr_scanner.proofs.Json.States.{queue_of}
 use Rattle.saphyr_scanner.proofs.Json.Marks.{chain}
@@ -36,7 +36,7 @@ goes_alike f e g = record { reached = f.reached; leads = f.leads; same = f.same 
 
 -- the first step from a state that goes on alike
 pub first_step : {limit : ℕ} {start s t u : State} → Follows limit start s → s.core.ended ≡ false
-    → fetch_within limit s ≡ Ok t → settled t ≡ Ok u → Leads limit u start
+    → fetch_within limit s ≡ Ok t → without_far_key t ≡ Ok u → Leads limit u start
 unfolding fetch_within
 first_step {limit} {s = s} {t = t} {u = u} f going is settles =
     let there : fetch_within limit f.reached ≡ Ok t = ap (λ r. r >>= within limit) f.same ∙ is in
@@ -87,12 +87,12 @@ IsQuiet f n m y = (n.comment ≡ None)
     ⊎ ((comment : Marker) (blank : Bool)
     → goes_on_behind comment (core_of f (record (landed n m y blank) { key = n.key; required = n.required })) ≡ false)
 
-passes : (f : Frame) (n : Moment) (m : Marker) (y : List ℕ) → past 0 n.cursor.mark n.cursor.rest ≡ (m, y)
+passes_untabbed : (f : Frame) (n : Moment) (m : Marker) (y : List ℕ) → past 0 n.cursor.mark n.cursor.rest ≡ (m, y)
     → IsUntabbed (least_column (core_of f n)) n.cursor → IsQuiet f n m y
     → (blank : Bool) × (pass_gap (core_of f n)
     ≡ Ok (core_of f (record (landed n m y blank) { key = n.key; required = n.required })))
 unfolding pass_gap check_comment
-passes f n m y here clean quiet =
+passes_untabbed f n m y here clean quiet =
     let p = passes_to (least_column (core_of f n)) n.cursor m y here clean in
     let first = ap (λ r. r >>= λ (g : Passed). check_comment (behind_gap (core_of f n) g)) p.is in
     (p.blank, first ∙ at_comment p.blank n.comment quiet refl)
@@ -129,7 +129,7 @@ pub lands : (f : Frame) (n : Moment) (ps : List Place) (m : Marker) (y : List �
     → IsQuiet f n m y → (blank : Bool) × (fetch (state_of f n ps) ≡ fetch (state_of f (landed n m y blank) ps))
 unfolding fetch arrive
 lands f n ps m y free here clean quiet =
-    let p = passes f n m y here clean quiet in
+    let p = passes_untabbed f n m y here clean quiet in
     let raw = ap (λ r. r >>= drop_far_key) p.1
     ∙ drops f (record (landed n m y p.0) { key = n.key; required = n.required }) free in
     let there = arrives_still f m y p.0 (left_key n.key m) (crosses n.cursor.rest || n.allowed) n.adjacent n.deeper
@@ -224,7 +224,7 @@ pub lands_key : (f : Frame) (n : Moment) (ps : List Place) (m : Marker) (y : Lis
     (deeper_at f n.deeper m)) ps))
 unfolding arrive drop_far_key
 lands_key f n ps m y here clean quiet near far =
-    let p = passes f n m y here clean (inl quiet) in
+    let p = passes_untabbed f n m y here clean (inl quiet) in
     let there : Moment = moment_with n.required m y p.0 n.key (crosses n.cursor.rest || n.allowed) n.adjacent
     n.deeper in
     let kept : drop_far_key (core_of f there) ≡ Ok (core_of f there) = rw near refl in (

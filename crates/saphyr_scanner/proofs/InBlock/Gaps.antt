@@ -73,18 +73,18 @@ gap_kind least m blank broke tab c cs false false false e f g on line sign =
           rw (no_left m c, e, f, g) (or_false_left (is_blank c) ((c == 13) && (slice_index cs 0 == 10)) e, f, g);
     }
 
-comment_kind : (least : ℕ) (m : Marker) (blank broke tab : Bool) (c : ℕ) (cs : List ℕ)
+gap_over_comment : (least : ℕ) (m : Marker) (blank broke tab : Bool) (c : ℕ) (cs : List ℕ)
     (is_word is_return is_line : Bool)
     → is_yaml_non_break c ≡ is_word → ((c == 13) && (slice_index cs 0 == 10)) ≡ is_return → is_break c ≡ is_line
     → StopsComment least (along m 1) blank broke tab cs → Stops least (along m 1) blank broke tab cs
     → Stops least (next_line m 1) true true false cs → StopsComment least m blank broke tab (c ∷ cs)
-comment_kind least m blank broke tab c cs true q r e f g word on line =
+gap_over_comment least m blank broke tab c cs true q r e f g word on line =
     record { still_blank = word.still_blank; is = rw e word.is; stop = rw e word.stop }
-comment_kind least m blank broke tab c cs false true r e f g word on line =
+gap_over_comment least m blank broke tab c cs false true r e f g word on line =
     record { still_blank = on.still_blank; is = rw (e, f) on.is; stop = rw (e, f) on.stop }
-comment_kind least m blank broke tab c cs false false true e f g word on line =
+gap_over_comment least m blank broke tab c cs false false true e f g word on line =
     record { still_blank = line.still_blank; is = rw (e, f, g, or-true broke) line.is; stop = rw (e, f, g) line.stop }
-comment_kind least m blank broke tab c cs false false false e f g word on line =
+gap_over_comment least m blank broke tab c cs false false false e f g word on line =
     record {
       still_blank = blank;
       is =
@@ -114,7 +114,7 @@ mutual
   comment_stops least m blank broke tab [] =
       record { still_blank = blank; is = stop_ends m blank broke tab ∙ rw (or-false broke) refl; stop = tt }
   comment_stops least m blank broke tab (c ∷ cs) =
-      comment_kind least m blank broke tab c cs (is_yaml_non_break c) ((c == 13) && (slice_index cs 0 == 10))
+      gap_over_comment least m blank broke tab c cs (is_yaml_non_break c) ((c == 13) && (slice_index cs 0 == 10))
       (is_break c) refl refl refl
       (comment_stops least (along m 1) blank broke tab cs) (gap_stops least (along m 1) blank broke tab cs)
       (gap_stops least (next_line m 1) true true false cs)
@@ -168,10 +168,6 @@ passes_to least s m y here clean =
     }
 
 -- ## Before a token
-
-pub stop_crosses : (y : List ℕ) → IsStop y → crosses y ≡ false
-stop_crosses [] h = refl
-stop_crosses (c ∷ cs) h = rw (h.0, no_return_and c (slice_index cs 0 == 10) h.1, h.1, h.2) refl
 
 pub stop_tabbed : (least : ℕ) (m : Marker) (blank : Bool) (y : List ℕ) → IsStop y
     → tabbed least m blank false y ≡ false

@@ -42,8 +42,8 @@ comes_there : {limit : ℕ} {start s d : State} → Follows limit start s → s.
 comes_there f running stay new = absurd (new refl)
 comes_there f running (onward s t u going is settles l) new = chain (first_step f running is settles) l
 
-longer : (ps : List Place) (p : Place) → ps ++ p ∷ [] ≡ ps → ⊥
-longer ps p e = let l = length-append ps (p ∷ []) in let same = ap length e in omega (arith, l, same)
+longer_by_one : (ps : List Place) (p : Place) → ps ++ p ∷ [] ≡ ps → ⊥
+longer_by_one ps p e = let l = length-append ps (p ∷ []) in let same = ap length e in omega (arith, l, same)
 
 hands_token : {limit : ℕ} {start : State} {free : Bool} {P : Marker → Bool → Type 0} {y : List ℕ} {ts : List Kind}
     (v : Stands limit start free P y ts) → past 0 v.mark y ≡ (v.mark, y) → EndsDocument v.mark y
@@ -59,7 +59,7 @@ hands_token {limit = limit} {y = y} {ts = ts} v here ends t piece is low =
     record {
       last = state_at false t context.Block r.1 [] false v.adjacent (v.places ++ closed piece ∷ []);
       leads = comes_there v.follows refl r.4
-          (λ e. longer v.places (closed piece) (ap (λ (s : State). s.queue.places) e));
+          (λ e. longer_by_one v.places (closed piece) (ap (λ (s : State). s.queue.places) e));
       none = r.3 refl;
       outer = refl;
       are = kinds_append v.places (closed piece ∷ []) ∙ ap (λ (x : List Kind). x ++ piece.kind ∷ []) v.are;

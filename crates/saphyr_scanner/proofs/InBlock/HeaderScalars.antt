@@ -115,9 +115,9 @@ header_begins block_style.Folded m o =
       marker = and_false (m.col == 0);
     }
 
-no_break : (style : BlockStyle) → is_break (sign style) ≡ false
-no_break block_style.Literal = refl
-no_break block_style.Folded = refl
+sign_is_no_break : (style : BlockStyle) → is_break (sign style) ≡ false
+sign_is_no_break block_style.Literal = refl
+sign_is_no_break block_style.Folded = refl
 
 -- ## A key that is dropped behind a line
 
@@ -196,7 +196,7 @@ reads_scalar laws {limit} {start} {ts} f style value m more t o short low begins
     let y = t ++ o in
     let start_is : y ≡ sign style ∷ (more ++ o) = ap (λ (x : List ℕ). x ++ o) begins in
     let b = block_taken laws style value f.indent (cursor_at y m v.blank) (sign style) more t o refl begins
-    (no_break style) fits.clear.no_return is in
+    (sign_is_no_break style) fits.clear.no_return is in
     let i = next (queue_of v.places) in
     let deeper = deeper_at f v.deeper m in
     let n = behind_scalar b.left (saved v.allowed i m v.key) v.adjacent in

@@ -54,8 +54,8 @@ first_unmarked c cs o e f h at_start =
     or_from (at_start && is_document_indicator (c ∷ (cs ++ o))) (marks_line (c == line_feed) cs o)
     (and_right at_start _ (no_marker_at c (cs ++ o) e f)) h
 
-no_feed : (c : ℕ) → IsTrue (not (c == line_feed)) → (c == line_feed) ≡ false
-no_feed c h = by_test (c == line_feed) h
+feed_by_test : (c : ℕ) → IsTrue (not (c == line_feed)) → (c == line_feed) ≡ false
+feed_by_test c h = by_test (c == line_feed) h
   where
     by_test : (b : Bool) → IsTrue (not b) → b ≡ false
     by_test true h = absurd (cc)
@@ -63,7 +63,7 @@ no_feed c h = by_test (c == line_feed) h
 
 words_unmarked : (w o : List ℕ) → AreIn (λ c. not (c == line_feed)) w → marks_line false w o ≡ false
 words_unmarked [] o h = refl
-words_unmarked (c ∷ cs) o h = ap (λ (b : Bool). marks_line b cs o) (no_feed c h.0) ∙ words_unmarked cs o h.1
+words_unmarked (c ∷ cs) o h = ap (λ (b : Bool). marks_line b cs o) (feed_by_test c h.0) ∙ words_unmarked cs o h.1
 
 -- a line, or its beginning, whose first character begins no marker
 pub line_unmarked : (c : ℕ) (cs : List ℕ) → (c == 45) ≡ false → (c == 46) ≡ false

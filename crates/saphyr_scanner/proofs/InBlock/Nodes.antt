@@ -95,10 +95,11 @@ old_list : (ts ps us : List Kind) → ((ts ++ ps) ++ []) ++ us ≡ ts ++ (ps ++ 
 old_list ts ps us = simp (append_assoc, append-nil)
 
 -- a collection that began at a column ends
-closes : {limit : ℕ} {start : State} {ts : List Kind} (f : Frame) (column : ℕ) (q : Marker × List ℕ) → f.indent ≤ column
+collection_closes : {limit : ℕ} {start : State} {ts : List Kind} (f : Frame) (column : ℕ) (q : Marker × List ℕ)
+    → f.indent ≤ column
     → EndsDocument q.0 q.1 ⊎ (q.0.col < f.indent) → ArrivedAt limit start (frame_behind true column f) ts q
     → ArrivedAt limit start f (ts ++ tokens.BlockEnd ∷ []) q
-closes {limit} {start} {ts} f column q low left v =
+collection_closes {limit} {start} {ts} f column q low left v =
     let c = closes_block f column q.0 q.1 low (by_left left) v.at in
     record { at = c.0; next = by_next c v.next }
   where
@@ -171,7 +172,8 @@ reads_sequence {limit} leaves p node nodes reads more place f same m t o (column
         (subst (λ (c : ℕ). AreEntries 255 (MoreNodes node nodes) c entries o) (sym col) h)
         (fits_back m lead entries o whole)
         (behind_wider f.indent (suc n.col) (moved n entries) o wide behind_o) start (ts ++ l.tokens) l.at l.allowed in
-        let c = closes f n.col (past 0 (moved n entries) o) (leb-true f.indent n.col k) behind_o.left r.arrived in
+        let c = collection_closes f n.col (past 0 (moved n entries) o) (leb-true f.indent n.col k) behind_o.left
+        r.arrived in
         record {
           tokens = l.tokens ++ (tokens.BlockSequenceStart ∷ (r.tokens ++ tokens.BlockEnd ∷ []));
           are = inr (
@@ -239,7 +241,7 @@ reads_mapping {limit} leaves p key value pairs K V more place f same m t o (colu
     (fits_back m lead entries o whole)
     (behind_wider f.indent (suc n.col) (moved n entries) o (two f.indent n.col low) behind_o) start (ts ++ l.tokens)
     l.at l.allowed in
-    let c = closes f n.col (past 0 (moved n entries) o) low behind_o.left r.arrived in
+    let c = collection_closes f n.col (past 0 (moved n entries) o) low behind_o.left r.arrived in
     record {
       tokens = l.tokens ++ (tokens.BlockMappingStart ∷ (r.tokens ++ tokens.BlockEnd ∷ []));
       are = inr (
@@ -267,11 +269,11 @@ reads_mapping {limit} leaves p key value pairs K V more place f same m t o (colu
 
 -- ## All nodes
 
-either : (limit : ℕ) (node : Node) (A B : Position → List ℕ → List ℕ → Type 0) → ReadsAt limit node A
+reads_either : (limit : ℕ) (node : Node) (A B : Position → List ℕ → List ℕ → Type 0) → ReadsAt limit node A
     → ReadsAt limit node B → ReadsAt limit node (λ place t o. A place t o ⊎ B place t o)
-either limit node A B a b place f same m t o (inl h) fits behind start ts v =
+reads_either limit node A B a b place f same m t o (inl h) fits behind start ts v =
     a place f same m t o h fits behind start ts v
-either limit node A B a b place f same m t o (inr h) fits behind start ts v =
+reads_either limit node A B a b place f same m t o (inr h) fits behind start ts v =
     b place f same m t o h fits behind start ts v
 
 no_sequence : (limit : ℕ) (p : Properties) → ReadsAt limit (Seq p NoNode) (IsBlockSequence p NoNode)
@@ -284,22 +286,22 @@ mutual
   pub reads_node : {limit : ℕ} → Leaves limit → (node : Node) → ReadsAt limit node (IsBlockNode 255 node)
   reads_node leaves (Alias name) = leaves.flow (Alias name)
   reads_node {limit} leaves (Scalar p style value) =
-      either limit (Scalar p style value) (IsLeftOut (Scalar p style value)) _
+      reads_either limit (Scalar p style value) (IsLeftOut (Scalar p style value)) _
       (reads_left_out limit (Scalar p style value))
-      (either limit (Scalar p style value) (IsFlowInBlock 255 (Scalar p style value)) _
+      (reads_either limit (Scalar p style value) (IsFlowInBlock 255 (Scalar p style value)) _
       (leaves.flow (Scalar p style value)) (leaves.block_scalar p style value))
   reads_node {limit} leaves (Seq p NoNode) =
-      either limit (Seq p NoNode) (IsFlowInBlock 255 (Seq p NoNode)) (IsBlockSequence p NoNode)
+      reads_either limit (Seq p NoNode) (IsFlowInBlock 255 (Seq p NoNode)) (IsBlockSequence p NoNode)
       (leaves.flow (Seq p NoNode)) (no_sequence limit p)
   reads_node {limit} leaves (Seq p (MoreNodes node nodes)) =
-      either limit (Seq p (MoreNodes node nodes)) (IsFlowInBlock 255 (Seq p (MoreNodes node nodes)))
+      reads_either limit (Seq p (MoreNodes node nodes)) (IsFlowInBlock 255 (Seq p (MoreNodes node nodes)))
       (IsBlockSequence p (MoreNodes node nodes)) (leaves.flow (Seq p (MoreNodes node nodes)))
       (reads_sequence leaves p node nodes (reads_node leaves node) (reads_others leaves nodes))
   reads_node {limit} leaves (Map p NoPair) =
-      either limit (Map p NoPair) (IsFlowInBlock 255 (Map p NoPair)) (IsBlockMapping p NoPair)
+      reads_either limit (Map p NoPair) (IsFlowInBlock 255 (Map p NoPair)) (IsBlockMapping p NoPair)
       (leaves.flow (Map p NoPair)) (no_mapping limit p)
   reads_node {limit} leaves (Map p (MorePairs key value pairs)) =
-      either limit (Map p (MorePairs key value pairs)) (IsFlowInBlock 255 (Map p (MorePairs key value pairs)))
+      reads_either limit (Map p (MorePairs key value pairs)) (IsFlowInBlock 255 (Map p (MorePairs key value pairs)))
       (IsBlockMapping p (MorePairs key value pairs)) (leaves.flow (Map p (MorePairs key value pairs)))
       (reads_mapping leaves p key value pairs (reads_node leaves key) (reads_node leaves value)
       (reads_other_pairs leaves pairs))

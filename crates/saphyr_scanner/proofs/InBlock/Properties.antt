@@ -41,10 +41,6 @@ lands_on m b y h ink = ap (λ (x : List ℕ). past 0 m (b ++ x)) ink.is ∙ reac
 clean_ink : (y : List ℕ) → BeginsInk y → IsClean y
 clean_ink y ink = subst IsClean (sym ink.is) (ink_clean ink.first ink.others ink.ink)
 
-white_spaces : (n : ℕ) (y : List ℕ) → 1 ≤ n → IsTrue (is_blank_or_breakz (slice_index (spaces n ++ y) 0))
-white_spaces zero y h = absurd (omega (arith, h))
-white_spaces (suc n) y h = refl
-
 -- a text on one line, and spaces
 unbroken_line : (m : Marker) (a b : List ℕ) → NoBreaks a → AreSpaces 1 b
     → (m.line ≡ (moved (moved m a) b).line) × (m.col ≤ (moved (moved m a) b).col)
@@ -94,28 +90,28 @@ record Passed (limit : ℕ) (start : State) (anchor : Option (List ℕ)) (tag : 
   are : grammar.AreBoth (option_map anchor_token anchor) (option_map tag_token tag) tokens
   read : TokenRead limit start f m (moved m t) o (ts ++ tokens)
 
-passes : Reads → {limit : ℕ} {start : State} {ts : List Kind} (f : Frame) (anchor : Option (List ℕ)) (tag : Option Tag)
-    (t : List ℕ) → AreProperties anchor tag t
+properties_passed : Reads → {limit : ℕ} {start : State} {ts : List Kind} (f : Frame) (anchor : Option (List ℕ))
+    (tag : Option Tag) (t : List ℕ) → AreProperties anchor tag t
     → (m : Marker) (o : List ℕ) → f.indent ≤ m.col → IsClean o → IsTrue (is_blank_or_breakz (slice_index o 0))
     → Fits limit m t o → (v : At limit start f m (t ++ o) ts) → IsLate v.key m
     → Passed limit start anchor tag f m t o ts
-passes reads f None None t h m o low clean white fits v late = absurd h
-passes reads {ts = ts} f (Some name) None t h m o low clean white fits v late =
+properties_passed reads f None None t h m o low clean white fits v late = absurd h
+properties_passed reads {ts = ts} f (Some name) None t h m o low clean white fits v late =
     record {
       tokens = anchor_token name ∷ [];
       are =
           refl;
       read = anchor_reads reads f name t h m ts o low clean white fits v late;
     }
-passes reads {ts = ts} f None (Some tag) t h m o low clean white fits v late =
+properties_passed reads {ts = ts} f None (Some tag) t h m o low clean white fits v late =
     record {
       tokens = tag_token tag ∷ [];
       are =
           refl;
       read = tag_reads reads f tag t h m ts o low clean white fits v late;
     }
-passes reads {limit} {start} {ts} f (Some name) (Some tag) t (a, b, w, h, k, spaced, order) m o low clean white fits v
-    late = by_order order
+properties_passed reads {limit} {start} {ts} f (Some name) (Some tag) t (a, b, w, h, k, spaced, order) m o low clean
+    white fits v late = by_order order
   where
     anchor_part : TokenReads limit start f (anchor_token name) a
     anchor_part = anchor_reads reads f name a h
@@ -150,7 +146,7 @@ reads_head reads limit p place f same m gap t between y gap_is h spaced ink fits
     let low = subst (λ (i : ℕ). i ≤ n.col) (sym same) (gap_reaches place m gap gap_is before.placed) in
     let l = lands_behind f m gap (t ++ o) gap_is (further_ink t o (properties_ink p t h)) before in
     let skipped = are_spaces_skipped 1 between spaced in
-    let r = passes reads f p.anchor p.tag t h n o low (skipped_clean between y skipped (clean_ink y ink))
+    let r = properties_passed reads f p.anchor p.tag t h n o low (skipped_clean between y skipped (clean_ink y ink))
     (space_first between y spaced) (fits_front n t between y (fits_back m gap (t ++ between) y fits)) l.0
     (none_late l.0.key n l.1) in
     let line = unbroken_line n t between (unbroken_properties p.anchor p.tag t h) spaced in
@@ -169,9 +165,9 @@ gap_of place t (inl h) = inl (inl h)
 gap_of place t (inr (first, (zero, low, e))) = inr (first, e)
 gap_of place t (inr (first, (suc n, low, e))) = inl (inl (suc n, omega arith, e))
 
-none_left : (k : Option Candidate) (m n : Marker) → IsLate k m → m.line < n.line → is_too_far k n ≡ false → k ≡ None
-none_left None m n late h near = refl
-none_left (Some k) m n late h near =
+late_key_left : (k : Option Candidate) (m n : Marker) → IsLate k m → m.line < n.line → is_too_far k n ≡ false → k ≡ None
+late_key_left None m n late h near = refl
+late_key_left (Some k) m n late h near =
     absurd (let e : true ≡ false = sym (too_far k n (omega (arith, late, h))) ∙ near in cc)
 
 -- the rest of the line behind properties, and what else stands before the next token
@@ -218,7 +214,7 @@ reads_properties reads limit short p place f same m front t w y spaced h next_li
     let l = lands_behind f m front (t ++ o) gap_is (further_ink t o (properties_ink p t h)) before in
     let b = lines_behind w y next_line ink in
     let fits_t = fits_back m front (t ++ w) y fits in
-    let r = passes reads f p.anchor p.tag t h n o low b.clean b.white (fits_front n t w y fits_t) l.0
+    let r = properties_passed reads f p.anchor p.tag t h n o low b.clean b.white (fits_front n t w y fits_t) l.0
     (none_late l.0.key n l.1) in
     let k = moved n t in
     let q = moved k w in
@@ -239,7 +235,7 @@ reads_properties reads limit short p place f same m front t w y spaced h next_li
       are =
           r.are;
       at = z.0;
-      none = none_left z.0.key n q z.1 later z.0.near;
+      none = late_key_left z.0.key n q z.1 later z.0.near;
       allowed = z.2;
     } in
     subst (λ (x : Marker). PropertiesRead limit start p f x y ts)

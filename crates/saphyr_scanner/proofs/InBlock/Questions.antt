@@ -86,15 +86,16 @@ no_tab_here (c ∷ cs) h = no_tab c h.0
     no_tab : (c : ℕ) → is_blank c ≡ false → (c == 9) ≡ false
     no_tab c h = grind (arith, nat_tests)
 
-enters : (f : Frame) (m : Marker) (y : List ℕ) (blank : Bool) (key : Option Candidate) (ad : ℕ) (deeper further : Bool)
+mark_enters : (f : Frame) (m : Marker) (y : List ℕ) (blank : Bool) (key : Option Candidate) (ad : ℕ)
+    (deeper further : Bool)
     → nat_le f.indent m.col ≡ further
     → (d : Bool) × (remove_key
     (with_context (block.behind_question context.Block)
     (roll m.col (core_of f (moment_at m y blank key true ad deeper))))
     ≡ Ok (core_of (frame_behind further m.col f) (moment_at m y blank None true ad d)))
 unfolding remove_key
-enters f m y blank key ad deeper true e = (false, rw e refl)
-enters f m y blank key ad deeper false e = (deeper, rw e refl)
+mark_enters f m y blank key ad deeper true e = (false, rw e refl)
+mark_enters f m y blank key ad deeper false e = (deeper, rw e refl)
 
 -- behind `?`, at the next token
 abbrev behind_question : Marker → List ℕ → Bool → ℕ → Bool → Moment
@@ -124,7 +125,7 @@ question_step : (f : Frame) (m : Marker) (o : List ℕ) (blank : Bool) (key : Op
 unfolding step block.key block.begin_key
 question_step f m o blank key ad deeper further e h clean i =
     let c = core_of f (moment_at m (63 ∷ o) blank key true ad deeper) in
-    let r = enters f m (63 ∷ o) blank key ad deeper further e in
+    let r = mark_enters f m (63 ∷ o) blank key ad deeper further e in
     let g = frame_behind further m.col f in
     let p = passes_mark g m o blank ad r.0 h clean in
     let first = white_first o h in

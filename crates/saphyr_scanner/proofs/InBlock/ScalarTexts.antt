@@ -170,20 +170,21 @@ content_line i c cs t o p =
     subst (λ (y : List ℕ). Ended y o) (append_assoc (spaces i) (c ∷ cs) (10 ∷ t))
     (behind_line (spaces i ++ (c ∷ cs)) t o p)
 
-last_line : (t o : List ℕ) → o ≡ [] → Ended t o
-last_line t o e = record { front = t; is = sym (ap (λ (y : List ℕ). t ++ y) e ∙ append-nil t); ends = inr (inr e) }
+ended_at_last_line : (t o : List ℕ) → o ≡ [] → Ended t o
+ended_at_last_line t o e = record
+    { front = t; is = sym (ap (λ (y : List ℕ). t ++ y) e ∙ append-nil t); ends = inr (inr e) }
 
 lines_end : (i : ℕ) (o : List ℕ) (ls : List Line) (t : List ℕ) → spelling.AreLines i o ls t → Ended t o
 lines_end i o _ _ spelling.no_lines = record { front = []; is = refl; ends = inl refl }
 lines_end i o _ _ (spelling.empty j ls t low r) = behind_line (spaces j) t o (lines_end i o ls t r)
 lines_end i o _ _ (spelling.content c cs ls t h r) = content_line i c cs t o (lines_end i o ls t r)
-lines_end i o _ _ (spelling.last c cs h e) = last_line (spaces i ++ (c ∷ cs)) o e
+lines_end i o _ _ (spelling.last c cs h e) = ended_at_last_line (spaces i ++ (c ∷ cs)) o e
 
 body_end : (i : ℕ) (is_given : Bool) (o : List ℕ) (ls : List Line) (t : List ℕ) → spelling.IsBody i is_given o ls t
     → Ended t o
 body_end i is_given o _ _ (spelling.leading j ls t low r) = behind_line (spaces j) t o (body_end i is_given o ls t r)
 body_end i is_given o _ _ (spelling.first c cs ls t some h r) = content_line i c cs t o (lines_end i o ls t r)
-body_end i is_given o _ _ (spelling.first_and_last c cs some h e) = last_line (spaces i ++ (c ∷ cs)) o e
+body_end i is_given o _ _ (spelling.first_and_last c cs some h e) = ended_at_last_line (spaces i ++ (c ∷ cs)) o e
 
 block_ends : (style : BlockStyle) (value : List ℕ) (indent : ℕ) (t o : List ℕ)
     → IsBlockScalarText style value indent t o → EndsWithLine t o

@@ -193,11 +193,11 @@ more_others {limit} leaves node nodes reads more g column same m t o (front, ent
 abbrev pub sequence_start : Bool → List Kind
 sequence_start further = if further then tokens.BlockSequenceStart ∷ [] else []
 
-begun : (further : Bool) (ts us entry : List Kind)
+kinds_of_first_entry : (further : Bool) (ts us entry : List Kind)
     → ((ts ++ dash_kinds further) ++ entry) ++ us
     ≡ (ts ++ sequence_start further) ++ (tokens.BlockEntry ∷ (entry ++ us))
-begun true ts us entry = simp append_assoc
-begun false ts us entry = simp (append_assoc, append-nil)
+kinds_of_first_entry true ts us entry = simp append_assoc
+kinds_of_first_entry false ts us entry = simp (append_assoc, append-nil)
 
 -- from the first entry on
 pub reads_entries : {limit : ℕ} → Leaves limit → (node : Node) (nodes : Nodes)
@@ -230,5 +230,6 @@ reads_entries {limit} leaves node nodes reads more f n further e far t o (entry,
       are = (r.tokens, s.tokens, as_optional node (BehindDash n.col) r.tokens r.are, s.are, refl);
       arrived = subst (λ (x : Marker). Arrived limit start g x o
           ((ts ++ sequence_start further) ++ (tokens.BlockEntry ∷ (r.tokens ++ s.tokens)))) (sym end)
-          (subst (Arrived limit start g (moved last others) o) (begun further ts s.tokens r.tokens) s.arrived);
+          (subst (Arrived limit start g (moved last others) o) (kinds_of_first_entry further ts s.tokens r.tokens)
+          s.arrived);
     }

@@ -248,11 +248,11 @@ on_white : (m : Marker) (blank space : Bool) (c : ℕ) (cs : List ℕ)
 on_white m blank space c cs e white p =
     record { still_blank = p.still_blank; some = p.some; is = rw (no_left m c, e, white) p.is; has = λ _. p.has refl }
 
-on_line : (m : Marker) (blank space : Bool) (c : ℕ) (cs : List ℕ)
+spaces_over_break : (m : Marker) (blank space : Bool) (c : ℕ) (cs : List ℕ)
     → (is_blank c || ((c == 13) && (slice_index cs 0 == 10))) ≡ false → is_break c ≡ true
     → ((c == 32) || ((c == 13) && (slice_index cs 0 == 10))) ≡ false → Spaces (next_line m 1) true true cs
     → Spaces m blank space (c ∷ cs)
-on_line m blank space c cs e f white p =
+spaces_over_break m blank space c cs e f white p =
     record {
       still_blank = p.still_blank;
       some =
@@ -283,7 +283,8 @@ spaces_kind m blank space c cs true q r e f g clean on line sign =
     on_white m blank space c cs e (sym (white_is c ((c == 13) && (slice_index cs 0 == 10)) n.0) ∙ e) (on n.1)
 spaces_kind m blank space c cs false true r e f g clean on line sign =
     let same : has_tab (c ∷ cs) ≡ has_tab cs = rw (e, f) refl in
-    on_line m blank space c cs e f (no_white c ((c == 13) && (slice_index cs 0 == 10)) e) (line (sym same ∙ clean))
+    spaces_over_break m blank space c cs e f (no_white c ((c == 13) && (slice_index cs 0 == 10)) e)
+    (line (sym same ∙ clean))
 spaces_kind m blank space c cs false false true e f g clean on line sign =
     let same : has_tab (c ∷ cs) ≡ comment_has_tab cs = rw (e, f, g) refl in
     on_sign m blank space c cs e f g (no_white c ((c == 13) && (slice_index cs 0 == 10)) e) (sign (sym same ∙ clean))

@@ -56,26 +56,26 @@ ahead_kind c cs false false true e f g h on sign =
     rw (e, f, g) (sign (ap (λ (b : Bool). has_tab_ahead b cs) (sym g) ∙ left))
 ahead_kind c cs false false false e f g h on sign = rw (e, f, g) refl
 
-comment_kind : (c : ℕ) (cs : List ℕ) (is_word is_return is_line : Bool) → is_yaml_non_break c ≡ is_word
+tabs_ahead_of_comment : (c : ℕ) (cs : List ℕ) (is_word is_return is_line : Bool) → is_yaml_non_break c ≡ is_word
     → ((c == 13) && (slice_index cs 0 == 10)) ≡ is_return → is_break c ≡ is_line
     → has_tab_ahead true (c ∷ cs) ≡ false
     → (has_tab_ahead true cs ≡ false → comment_has_tab cs ≡ false)
     → (has_tab_ahead false cs ≡ false → has_tab cs ≡ false)
     → comment_has_tab (c ∷ cs) ≡ false
-comment_kind c cs true q r e f g h word on =
+tabs_ahead_of_comment c cs true q r e f g h word on =
     rw e (word (ap (λ (b : Bool). has_tab_ahead (not b) cs) (sym (no_break c e)) ∙ h))
   where
     no_break : (c : ℕ) → is_yaml_non_break c ≡ true → is_break c ≡ false
     no_break c e = grind (arith, nat_tests)
-comment_kind c cs false true r e f g h word on =
+tabs_ahead_of_comment c cs false true r e f g h word on =
     rw (e, f) (on (ap (λ (b : Bool). has_tab_ahead (not b) cs) (sym (returns c (slice_index cs 0 == 10) f)) ∙ h))
   where
     returns : (c : ℕ) (b : Bool) → ((c == 13) && b) ≡ true → is_break c ≡ true
     returns c true e = grind (arith, nat_tests)
     returns c false e = grind (arith, nat_tests)
-comment_kind c cs false false true e f g h word on =
+tabs_ahead_of_comment c cs false false true e f g h word on =
     rw (e, f, g) (on (ap (λ (b : Bool). has_tab_ahead (not b) cs) (sym g) ∙ h))
-comment_kind c cs false false false e f g h word on = rw (e, f, g) refl
+tabs_ahead_of_comment c cs false false false e f g h word on = rw (e, f, g) refl
 
 mutual
   pub no_tab_ahead : (t : List ℕ) → has_tab_ahead false t ≡ false → has_tab t ≡ false
@@ -87,7 +87,8 @@ mutual
   none_in_comment : (t : List ℕ) → has_tab_ahead true t ≡ false → comment_has_tab t ≡ false
   none_in_comment [] h = refl
   none_in_comment (c ∷ cs) h =
-      comment_kind c cs (is_yaml_non_break c) ((c == 13) && (slice_index cs 0 == 10)) (is_break c) refl refl refl h
+      tabs_ahead_of_comment c cs (is_yaml_non_break c) ((c == 13) && (slice_index cs 0 == 10)) (is_break c) refl refl
+      refl h
       (λ k. none_in_comment cs k) (λ k. no_tab_ahead cs k)
 
 -- ## Where more text follows
@@ -97,8 +98,8 @@ abbrev pub TellsTabs : List ℕ → List ℕ → Type 0
 TellsTabs more o = has_tab_ahead false (o ++ more) ≡ has_tab_ahead false o
 
 -- in mid-line
-further : (m : Marker) (c : ℕ) → (c == line_feed) ≡ false → 1 ≤ (behind_character m c).col
-further m c e = rw e (some m.col)
+column_behind_character : (m : Marker) (c : ℕ) → (c == line_feed) ≡ false → 1 ≤ (behind_character m c).col
+column_behind_character m c e = rw e (some m.col)
   where
     some : (n : ℕ) → 1 ≤ n + 1
     some n = omega arith
@@ -123,10 +124,11 @@ same_ahead : (in_comment : Bool) (m : Marker) (t o more : List ℕ) → (in_comm
 same_ahead true m [] o more some e h = let k = some refl in absurd (omega (arith, k, e))
 same_ahead false m [] o more some e h = h
 same_ahead true m (c ∷ cs) o more some e h =
-    same_ahead (not (is_break c)) (behind_character m c) cs o more (λ k. further m c (unbroken_no_feed c k)) e h
+    same_ahead (not (is_break c)) (behind_character m c) cs o more
+    (λ k. column_behind_character m c (unbroken_no_feed c k)) e h
 same_ahead false m (c ∷ cs) o more some e h =
     ap (λ (b : Bool). (c == 9) || (leads_on c && b))
-    (same_ahead (c == 35) (behind_character m c) cs o more (λ k. further m c (sign_no_feed c k)) e h)
+    (same_ahead (c == 35) (behind_character m c) cs o more (λ k. column_behind_character m c (sign_no_feed c k)) e h)
 
 abbrev text_start : Marker
 text_start = record { index = 0; line = 1; col = 0 }
@@ -166,10 +168,12 @@ token_front : (in_comment : Bool) (m : Marker) (t o : List ℕ) → (in_comment 
 token_front true m [] o some e h = let k = some refl in absurd (omega (arith, k, e))
 token_front false m [] o some e h = h
 token_front true m (c ∷ cs) o some e h =
-    token_front (not (is_break c)) (behind_character m c) cs o (λ k. further m c (unbroken_no_feed c k)) e h
+    token_front (not (is_break c)) (behind_character m c) cs o
+    (λ k. column_behind_character m c (unbroken_no_feed c k)) e h
 token_front false m (c ∷ cs) o some e h =
     by_test ((c == 9) || leads_on c) (has_token (c == 35) (cs ++ o)) true (λ (b : Bool). b ≡ true)
-    (λ _. token_front (c == 35) (behind_character m c) cs o (λ k. further m c (sign_no_feed c k)) e h) (λ _. refl)
+    (λ _. token_front (c == 35) (behind_character m c) cs o (λ k. column_behind_character m c (sign_no_feed c k)) e h)
+    (λ _. refl)
 
 pub token_behind : (t o : List ℕ) → ((m : Marker) → (moved m t).col ≡ 0) → has_token false o ≡ true
     → has_token false (t ++ o) ≡ true

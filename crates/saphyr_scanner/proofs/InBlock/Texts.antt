@@ -176,8 +176,3 @@ behind_wider i j m o low h = record { left = by_left h.left; clean = h.clean }
         → EndsDocument (past 0 m o).0 (past 0 m o).1 ⊎ ((past 0 m o).0.col < j)
     by_left (inl k) = inl k
     by_left (inr k) = inr (further (past 0 m o).0.col i j low k)
-
--- a line's start, unless nothing is left
-pub line_start : (m : Marker) (t o : List ℕ) (c : ℕ) (cs : List ℕ) → EndsWithLine t o → o ≡ c ∷ cs → (moved m t).col ≡ 0
-line_start m t o c cs (inl h) e = h m
-line_start m t o c cs (inr h) e = absurd (let k : [] ≡ c ∷ cs = sym h ∙ e in cc)

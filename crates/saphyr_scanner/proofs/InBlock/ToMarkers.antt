@@ -126,8 +126,8 @@ passes_suffix {limit = limit} {start = start} {marker = marker} ds end prefix ot
 
 -- ## A document is passed
 
-further : (o more : List ℕ) → EndsFed o → OpensMarker o → OpensMarker (o ++ more)
-further o more fed k =
+opens_marker_still : (o more : List ℕ) → EndsFed o → OpensMarker o → OpensMarker (o ++ more)
+opens_marker_still o more fed k =
     let ends = fed_behind k.filler k.first k.others (subst EndsFed k.is fed) in
     record {
       filler = k.filler;
@@ -163,7 +163,7 @@ closes_beyond : {limit : ℕ} {start : State} {marker : DocumentMarker} → Read
 closes_beyond readers leaves w r more rest d ds free document others ts is behind clean v line go =
     let fed = marked_fed w r others rest line in
     let here = opens (opens_marker leaves ds others behind) in
-    let k = further others more fed here in
+    let k = opens_marker_still others more fed here in
     let ahead : IsAhead more others = record {
       fed = fed;
       token = token_marked others here;

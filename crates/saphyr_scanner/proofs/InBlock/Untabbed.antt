@@ -112,7 +112,7 @@ past_kind column m tab c cs false false false true t e f g none on line sign =
 past_kind column m tab c cs false false false false t e f g none on line sign =
     rw (t, no_left m c, e, f, g) refl
 
-comment_kind : (column : ℕ) (m : Marker) (tab : Bool) (c : ℕ) (cs : List ℕ) (is_word is_return is_line : Bool)
+untabbed_over_comment : (column : ℕ) (m : Marker) (tab : Bool) (c : ℕ) (cs : List ℕ) (is_word is_return is_line : Bool)
     → is_yaml_non_break c ≡ is_word → ((c == 13) && (slice_index cs 0 == 10)) ≡ is_return → is_break c ≡ is_line
     → tabbed_comment column m true tab (c ∷ cs) ≡ false
     → (tabbed_comment column (along m 1) true tab cs ≡ false
@@ -120,17 +120,17 @@ comment_kind : (column : ℕ) (m : Marker) (tab : Bool) (c : ℕ) (cs : List ℕ
     → (tabbed column (along m 1) true tab cs ≡ false → past column (along m 1) cs ≡ past 0 (along m 1) cs)
     → (tabbed column (next_line m 1) true false cs ≡ false → past column (next_line m 1) cs ≡ past 0 (next_line m 1) cs)
     → past_comment column m (c ∷ cs) ≡ past_comment 0 m (c ∷ cs)
-comment_kind column m tab c cs true q r e f g none word on line =
+untabbed_over_comment column m tab c cs true q r e f g none word on line =
     let same : tabbed_comment column m true tab (c ∷ cs) ≡ tabbed_comment column (along m 1) true tab cs = rw e refl in
     rw e (word (sym same ∙ none))
-comment_kind column m tab c cs false true r e f g none word on line =
+untabbed_over_comment column m tab c cs false true r e f g none word on line =
     let same : tabbed_comment column m true tab (c ∷ cs) ≡ tabbed column (along m 1) true tab cs = rw (e, f) refl in
     rw (e, f) (on (sym same ∙ none))
-comment_kind column m tab c cs false false true e f g none word on line =
+untabbed_over_comment column m tab c cs false false true e f g none word on line =
     let same : tabbed_comment column m true tab (c ∷ cs) ≡ tabbed column (next_line m 1) true false cs =
     rw (e, f, g) refl in
     rw (e, f, g) (line (sym same ∙ none))
-comment_kind column m tab c cs false false false e f g none word on line = rw (e, f, g) refl
+untabbed_over_comment column m tab c cs false false false e f g none word on line = rw (e, f, g) refl
 
 mutual
   untabbed_past : (column : ℕ) (m : Marker) (tab : Bool) (t : List ℕ) → tabbed column m true tab t ≡ false
@@ -147,7 +147,8 @@ mutual
       → past_comment column m t ≡ past_comment 0 m t
   untabbed_comment column m tab [] none = refl
   untabbed_comment column m tab (c ∷ cs) none =
-      comment_kind column m tab c cs (is_yaml_non_break c) ((c == 13) && (slice_index cs 0 == 10)) (is_break c) refl
+      untabbed_over_comment column m tab c cs (is_yaml_non_break c) ((c == 13) && (slice_index cs 0 == 10))
+      (is_break c) refl
       refl refl none
       (λ k. untabbed_comment column (along m 1) tab cs k) (λ k. untabbed_past column (along m 1) tab cs k)
       (λ k. untabbed_past column (next_line m 1) false cs k)

@@ -16,7 +16,7 @@ use Rattle.saphyr_scanner.proofs.Json.Marks.{level_of}
 use Rattle.saphyr_scanner.proofs.InFlow.States.{Around}
 use Rattle.saphyr_scanner.proofs.InFlow.KeyLines.{Ready}
 use Rattle.saphyr_scanner.proofs.InFlow.KeyTokens.{InKey, in_back, in_right, in_so, Along, along_joins, along_ready}
-use Rattle.saphyr_scanner.proofs.InFlow.KeyScalars.{colon_text, behind}
+use Rattle.saphyr_scanner.proofs.InFlow.KeyScalars.{colon_text, colon_after}
 use Rattle.saphyr_scanner.proofs.InFlow.KeyCollections.{calmed, collection_along}
 use Rattle.saphyr_scanner.proofs.Flow.States.{moved, Fits, IsParted, Reads}
 use Rattle.saphyr_scanner.proofs.Flow.Places.{clear_front}
@@ -26,7 +26,7 @@ use Rattle.saphyr_scanner.proofs.Flow.Braces.{pairs_ink}
 use Rattle.saphyr_scanner.proofs.Flow.Collections.Runs.{square, curly, are_square, are_curly, ends_square, ends_curly, whole_text, parted_by}
 use Rattle.saphyr_scanner.proofs.Flow.NodesPass.{all_items_pass, all_pairs_pass}
 use Rattle.saphyr_scanner.proofs.InFlow.KeyFirsts.{bracket_begins}
-use Rattle.saphyr_scanner.proofs.InFlow.KeyNodes.{KeyAlong, fronted, parts_of, behind_parts}
+use Rattle.saphyr_scanner.proofs.InFlow.KeyNodes.{KeyAlong, fronted, front_parts, colon_after_parts}
 
 -- ## Collections
 
@@ -52,13 +52,13 @@ brackets_key : Reads → (around : Around) → around.pending ≡ around.require
     → InKey around k e ((front ++ bracket_text b w inside) ++ spaces n) (58 ∷ r) → ad ≤ e.index
     → Ready around start k ((front ++ bracket_text b w inside) ++ colon_text n r) e ad qs
     → RunsAt around Is b k w inside n r
-    → FrontedBrackets around start Is b p k qs (behind e (front ++ bracket_text b w inside) n) (58 ∷ r)
+    → FrontedBrackets around start Is b p k qs (colon_after e (front ++ bracket_text b w inside) n) (58 ∷ r)
 brackets_key reads around same start Is b are p k qs front w inside n r e ad (inl (none, is)) parts parted text low
     ready run =
     let body = bracket_text b w inside in
     subst (λ (f : List ℕ). InKey around k e ((f ++ body) ++ spaces n) (58 ∷ r)
     → Ready around start k ((f ++ body) ++ colon_text n r) e ad qs
-    → FrontedBrackets around start Is b p k qs (behind e (f ++ body) n) (58 ∷ r)) (sym is)
+    → FrontedBrackets around start Is b p k qs (colon_after e (f ++ body) n) (58 ∷ r)) (sym is)
     (λ i z. let c = collection_along around same start Is b are k qs w inside n r e ad parts parted i low z (run e i) in
     record {
       properties = [];
@@ -73,9 +73,9 @@ brackets_key reads around same start Is b are p k qs front w inside n r e ad (in
     text low ready run =
     let body = bracket_text b w inside in
     let whole = in_so k e ((front ++ body) ++ spaces n) (t ++ (v ++ (body ++ spaces n))) (58 ∷ r)
-    (parts_of front t v body (spaces n) is) text in
+    (front_parts front t v body (spaces n) is) text in
     let f = fronted reads around start p k qs t v body (spaces n) (58 ∷ r) e ad h some gap whole low
-    (subst (λ (x : List ℕ). Ready around start k x e ad qs) (parts_of front t v body (colon_text n r) is) ready) in
+    (subst (λ (x : List ℕ). Ready around start k x e ad qs) (front_parts front t v body (colon_text n r) is) ready) in
     let there = moved (moved e t) v in
     let inner = in_back k (moved e t) v (body ++ spaces n) (58 ∷ r)
     (in_back k e t (v ++ (body ++ spaces n)) (58 ∷ r) whole) in
@@ -83,7 +83,8 @@ brackets_key reads around same start Is b are p k qs front w inside n r e ad (in
     (bracket_begins b are (w ++ (inside ++ (b.closing ∷ [])))) inner refl in
     let c = collection_along around same _ Is b are k _ w inside n r there f.along.adjacent parts parted inner
     f.along.low next (run there inner) in
-    subst (λ (m : Marker). FrontedBrackets around start Is b p k qs m (58 ∷ r)) (behind_parts e front t v body n is)
+    subst (λ (m : Marker). FrontedBrackets around start Is b p k qs m (58 ∷ r)) (colon_after_parts e front t v body n
+    is)
     (record {
       properties = f.tokens;
       are_properties =
@@ -120,16 +121,16 @@ pub sequence_key : Reads → (around : Around) → around.pending ≡ around.req
     (r : List ℕ) (e : Marker) (ad : ℕ)
     → IsFlowNode 255 (Seq p nodes) false around.indent t → InKey around k e (t ++ spaces n) (58 ∷ r) → ad ≤ e.index
     → Ready around start k (t ++ colon_text n r) e ad qs
-    → KeyAlong around start (Seq p nodes) k qs (behind e t n) (58 ∷ r)
+    → KeyAlong around start (Seq p nodes) k qs (colon_after e t n) (58 ∷ r)
 sequence_key reads around same start p nodes k qs t n r e ad
     (left, opening, inside, room, (front, w, f, parts, o), h, is) text low ready =
     let body = bracket_text square w inside in
     let whole : t ≡ front ++ body = whole_text t opening front w inside 91 93 is o in
     let items = all_items_pass reads (calmed around) left nodes in
     let run : RunsAt around (grammar.YieldFlowEntries nodes) square k w inside n r =
-    λ m i s c j a be ps no_candidate fresh on right at.
-    let z = items (moved m (91 ∷ w)) inside (colon_text n r) h (inside_fits around k m 91 w inside 93 n r i) s c
-    (level_of context.Block j ∷ []) a be ps no_candidate fresh (room_inside left room) on at in
+    λ m i j inner no_candidate fresh on right at.
+    let z = items (moved m (91 ∷ w)) inside (colon_text n r) h (inside_fits around k m 91 w inside 93 n r i)
+    (record inner { outer = level_of context.Block j ∷ [] }) no_candidate fresh (room_inside left room) on at in
     record {
       inside = z.inside;
       flows =
@@ -145,7 +146,7 @@ sequence_key reads around same start p nodes k qs t n r e ad
     (items_ink around.indent left nodes inside (colon_text n r) h))
     (subst (λ (x : List ℕ). InKey around k e (x ++ spaces n) (58 ∷ r)) whole text) low
     (subst (λ (x : List ℕ). Ready around start k (x ++ colon_text n r) e ad qs) whole ready) run in
-    subst (λ (x : List ℕ). KeyAlong around start (Seq p nodes) k qs (behind e x n) (58 ∷ r)) (sym whole)
+    subst (λ (x : List ℕ). KeyAlong around start (Seq p nodes) k qs (colon_after e x n) (58 ∷ r)) (sym whole)
     (record {
       tokens = c.properties ++ (tokens.FlowSequenceStart ∷ (c.inside ++ tokens.FlowSequenceEnd ∷ []));
       are = (
@@ -164,16 +165,16 @@ pub mapping_key : Reads → (around : Around) → around.pending ≡ around.requ
     (r : List ℕ) (e : Marker) (ad : ℕ)
     → IsFlowNode 255 (Map p pairs) false around.indent t → InKey around k e (t ++ spaces n) (58 ∷ r) → ad ≤ e.index
     → Ready around start k (t ++ colon_text n r) e ad qs
-    → KeyAlong around start (Map p pairs) k qs (behind e t n) (58 ∷ r)
+    → KeyAlong around start (Map p pairs) k qs (colon_after e t n) (58 ∷ r)
 mapping_key reads around same start p pairs k qs t n r e ad
     (left, opening, inside, room, (front, w, f, parts, o), h, is) text low ready =
     let body = bracket_text curly w inside in
     let whole : t ≡ front ++ body = whole_text t opening front w inside 123 125 is o in
     let members = all_pairs_pass reads (calmed around) left pairs in
     let run : RunsAt around (grammar.YieldFlowPairs pairs) curly k w inside n r =
-    λ m i s c j a be ps no_candidate fresh on right at.
-    let z = members (moved m (123 ∷ w)) inside (colon_text n r) h (inside_fits around k m 123 w inside 125 n r i) s c
-    (level_of context.Block j ∷ []) a be ps no_candidate fresh (room_inside left room) on at in
+    λ m i j inner no_candidate fresh on right at.
+    let z = members (moved m (123 ∷ w)) inside (colon_text n r) h (inside_fits around k m 123 w inside 125 n r i)
+    (record inner { outer = level_of context.Block j ∷ [] }) no_candidate fresh (room_inside left room) on at in
     record {
       inside = context.FlowMapping;
       flows =
@@ -189,7 +190,7 @@ mapping_key reads around same start p pairs k qs t n r e ad
     (pairs_ink around.indent left pairs inside (colon_text n r) h))
     (subst (λ (x : List ℕ). InKey around k e (x ++ spaces n) (58 ∷ r)) whole text) low
     (subst (λ (x : List ℕ). Ready around start k (x ++ colon_text n r) e ad qs) whole ready) run in
-    subst (λ (x : List ℕ). KeyAlong around start (Map p pairs) k qs (behind e x n) (58 ∷ r)) (sym whole)
+    subst (λ (x : List ℕ). KeyAlong around start (Map p pairs) k qs (colon_after e x n) (58 ∷ r)) (sym whole)
     (record {
       tokens = c.properties ++ (tokens.FlowMappingStart ∷ (c.inside ++ tokens.FlowMappingEnd ∷ []));
       are = (

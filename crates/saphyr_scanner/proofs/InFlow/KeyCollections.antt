@@ -17,11 +17,11 @@ use Rattle.saphyr_scanner.proofs.Leads.{Leads, stay, onward}
 use Rattle.saphyr_scanner.proofs.Json.States.{queue_of, none_before}
 use Rattle.saphyr_scanner.proofs.Json.Marks.{chain, kinds, kinds_append, level_of}
 use Rattle.saphyr_scanner.proofs.Json.Brackets.{place_of}
-use Rattle.saphyr_scanner.proofs.InFlow.States.{Around, core_at, state_at, drops, left_in_flow, behind_key, starts, opens, closes, deepened}
+use Rattle.saphyr_scanner.proofs.InFlow.States.{Around, core_at, state_at, drops_far_key, left_in_flow, behind_key, opening_steps_open, open_collection_gives, close_collection_gives, deepened, moment}
 use Rattle.saphyr_scanner.proofs.InFlow.ScalarsOnLine.{separation_of_blanks}
-use Rattle.saphyr_scanner.proofs.InFlow.KeyLines.{Ready, keeps}
+use Rattle.saphyr_scanner.proofs.InFlow.KeyLines.{Ready, keeps_near_key}
 use Rattle.saphyr_scanner.proofs.InFlow.KeyTokens.{InKey, in_near, in_back, in_right, in_limit, in_so, Along}
-use Rattle.saphyr_scanner.proofs.InFlow.KeyScalars.{colon_ink, colon_text, behind}
+use Rattle.saphyr_scanner.proofs.InFlow.KeyScalars.{colon_ink, colon_text, colon_after}
 use Rattle.saphyr_scanner.proofs.Flow.States.{moved, past, IsParted}
 use Rattle.saphyr_scanner.proofs.Flow.Places.{moved_append, moved_index, clear_front}
 use Rattle.saphyr_scanner.proofs.Flow.GapSteps.{past_ink}
@@ -58,18 +58,18 @@ record Opened (around : Around) (start : State) (b : Brackets) (k : Candidate) (
   there : Cursor
   lands : past around.indent there.mark there.rest ≡ past around.indent (moved e (b.opening ∷ [])) o
   leads : Leads around.limit
-      (state_at (calmed around) there b.context None (level_of context.Block (Some k) ∷ []) true ad
-      (qs ++ place_of e there.mark b.opens ∷ []) deeper) start
+      (state_at (calmed around) (moment there b.context None (level_of context.Block (Some k) ∷ []) true ad
+      (qs ++ place_of e there.mark b.opens ∷ [])) deeper) start
 
 none_open : 0 < 255
 none_open = omega arith
 
-opened : (around : Around) → around.pending ≡ around.required → (start : State) (b : Brackets) → AreBrackets b
+bracket_opens : (around : Around) → around.pending ≡ around.required → (start : State) (b : Brackets) → AreBrackets b
     → (k : Candidate) (qs : List Place) (e : Marker) (o : List ℕ) (ad : ℕ) → IsParted around.indent o
     → around.indent ≤ e.col + 1 → (along e 1).index + length o ≤ around.limit
     → Ready around start k (b.opening ∷ o) e ad qs → Opened around start b k qs e o ad
 unfolding fetch_within
-opened around same start b are k qs e o ad parted right below r =
+bracket_opens around same start b are k qs e o ad parted right below r =
     let y = b.context in
     let kind = b.opens in
     let ls = level_of context.Block (Some k) ∷ [] in
@@ -77,19 +77,19 @@ opened around same start b are k qs e o ad parted right below r =
     parted.is parted.parts right parted.ink in
     let d = deepened around context.Block r.deeper in
     let new = place_of e p.there.mark kind ∷ [] in
-    let st = state_at (calmed around) p.there y None ls true ad (qs ++ new) d in
+    let st = state_at (calmed around) (moment p.there y None ls true ad (qs ++ new)) d in
     let stepped = are.begins (slice_index o 0) (length qs)
     (core_at around r.deeper (cursor_at (b.opening ∷ o) e r.blank) context.Block (Some k) [] false ad)
-    ∙ starts y kind (length qs) around r.deeper (cursor_at (b.opening ∷ o) e r.blank) context.Block (Some k) [] false ad
-    (behind_key refl refl)
-    ∙ opens y kind b.opening o e r.blank around d context.Block (Some k) [] false ad p.found p.there p.is none_open
-    are.flows (λ _. same)
+    ∙ opening_steps_open y kind (length qs) around r.deeper (cursor_at (b.opening ∷ o) e r.blank) context.Block (Some k)
+    [] false ad (behind_key refl refl)
+    ∙ open_collection_gives y kind b.opening o e r.blank around d context.Block (Some k) [] false ad p.found p.there
+    p.is none_open are.flows (λ _. same)
     ∙ ap (went (from_to e p.there.mark kind ∷ [])) (same_inside around d p.there y None ls true ad are.flows) in
     let fetched : fetch start ≡ Ok st = r.fetches ∙ ap (λ q. acted q (queue_of qs)) stepped in
     let low = within_index around.indent around.limit p.there (along e 1) o p.lands below in
     let fits : within around.limit st ≡ Ok st = rw (le-leb p.there.mark.index around.limit low) refl in
-    let kept = ap (λ q. carried q (queue_of (qs ++ new))) (drops (calmed around) d p.there y None ls true ad refl)
-    ∙ ap (λ (j : Option Candidate). Ok (state_at (calmed around) p.there y j ls true ad (qs ++ new) d))
+    let kept = ap (λ q. carried q (queue_of (qs ++ new))) (drops_far_key (calmed around) d p.there y None ls true ad
+    refl) ∙ ap (λ (j : Option Candidate). Ok (state_at (calmed around) (moment p.there y j ls true ad (qs ++ new)) d))
     (left_in_flow y None p.there.mark are.flows) in
     record {
       deeper = d;
@@ -106,25 +106,25 @@ record Closed (around : Around) (start : State) (k : Candidate) (qs : List Place
   rest : there.rest ≡ 58 ∷ r
   mark : there.mark ≡ m
   leads : Leads around.limit
-      (state_at around there context.Block (Some k) [] false ad (qs ++ mark_places ends at_end there.mark kind) deeper)
-      start
+      (state_at around
+      (moment there context.Block (Some k) [] false ad (qs ++ mark_places ends at_end there.mark kind)) deeper) start
 
-shut : (around : Around) → around.pending ≡ around.required → (b : Brackets) → AreBrackets b → (inside : Context)
-    → is_block inside ≡ false
+bracket_closes : (around : Around) → around.pending ≡ around.required → (b : Brackets) → AreBrackets b
+    → (inside : Context) → is_block inside ≡ false
     → ((second i : ℕ) (d : Bool) (s : Cursor) (k : Option Candidate) (ms : List Level) (a : Bool) (ad : ℕ)
     → step b.closing second i (core_at (calmed around) d s inside k ms a ad)
     ≡ close_collection (ends_pair inside) b.closes (core_at (calmed around) d s inside k ms a ad))
     → (k : Candidate) (j : Option Candidate) (a : Bool) (ad : ℕ) (qs : List Place) (s : Cursor) (d : Bool) (e : Marker)
     (n : ℕ) (r : List ℕ) → InKey around k e ((b.closing ∷ []) ++ spaces n) (58 ∷ r) → around.indent ≤ e.col
     → past around.indent s.mark s.rest ≡ past around.indent e (b.closing ∷ colon_text n r)
-    → Closed around (state_at (calmed around) s inside j (level_of context.Block (Some k) ∷ []) a ad qs d) k qs
+    → Closed around (state_at (calmed around) (moment s inside j (level_of context.Block (Some k) ∷ []) a ad qs) d) k qs
     (ends_pair inside) b.closes e (moved (along e 1) (spaces n)) r ad d
 unfolding fetch state_behind_content fetch_within
-shut around same b are inside flows closing k j a ad qs s d e n r text right at =
+bracket_closes around same b are inside flows closing k j a ad qs s d e n r text right at =
     let o = colon_text n r in
     let ls = level_of context.Block (Some k) ∷ [] in
     let mark = are.closing_mark in
-    let v = arrives (calmed around) s inside j ls a ad qs e (b.closing ∷ o)
+    let v = arrives (calmed around) (moment s inside j ls a ad qs) e (b.closing ∷ o)
     (at ∙ past_ink around.indent e b.closing o mark.ink) mark.ink.blank right refl in
     let seen = cursor_at (b.closing ∷ o) e v.blank in
     let p = separates around.indent (cursor_at o (along e 1) false) (spaces n) 58 r refl
@@ -135,20 +135,20 @@ shut around same b are inside flows closing k j a ad qs s d e n r text right at 
     let core = core_at (calmed around) d seen inside v.key ls v.allowed ad in
     let ends = ends_pair inside in
     let new = mark_places ends e p.there.mark b.closes in
-    let st = state_at around p.there context.Block (Some k) [] false ad (qs ++ new) d in
+    let st = state_at around (moment p.there context.Block (Some k) [] false ad (qs ++ new)) d in
     let stepped = closing (slice_index o 0) (length qs) d seen v.key ls v.allowed ad
     ∙ ap (close_collection ends b.closes) (sym (same_inside around d seen inside v.key ls v.allowed ad flows))
-    ∙ closes ends b.closes b.closing o e v.blank around d inside v.key (Some k) context.Block [] v.allowed ad p.found
-    p.there p.is flows (λ _. same) in
+    ∙ close_collection_gives ends b.closes b.closing o e v.blank around d inside v.key (Some k) context.Block []
+    v.allowed ad p.found p.there p.is flows (λ _. same) in
     let there = ap (λ q. q >>= fetch_here) (v.is d)
-    ∙ begins_here (calmed around) d seen inside v.key ls v.allowed ad qs begins right in
+    ∙ begins_here (calmed around) d (moment seen inside v.key ls v.allowed ad qs) begins right in
     let at_place = ap (λ (i : ℕ). acted (step b.closing (slice_index o 0) i core) (queue_of qs))
     (none_before (length qs)) in
     let made = ap (λ q. acted q (queue_of qs)) stepped
     ∙ ap (λ (q : Queue). Ok (let z : State =
     record { core = core_at around d p.there context.Block (Some k) [] false ad; queue = q } in z))
     (mark_puts ends qs e p.there.mark b.closes) in
-    let start = state_at (calmed around) s inside j ls a ad qs d in
+    let start = state_at (calmed around) (moment s inside j ls a ad qs) d in
     let fetched : fetch start ≡ Ok st = there ∙ at_place ∙ made in
     let one : along e 1 ≡ moved e (b.closing ∷ []) = mark_moved e b.closing mark in
     let behind_text = in_back k e (b.closing ∷ []) (spaces n) (58 ∷ r) text in
@@ -166,7 +166,7 @@ shut around same b are inside flows closing k j a ad qs s d e n r text right at 
       mark = near.1;
       leads = onward start st st refl (ap (λ q. q >>= within around.limit) fetched ∙ fits)
           (ap (λ q. carried q (queue_of (qs ++ new)))
-          (keeps around d p.there k [] false ad (in_near k p.there.mark [] (58 ∷ r) last))) stay;
+          (keeps_near_key around d p.there k [] false ad (in_near k p.there.mark [] (58 ∷ r) last))) stay;
     }
 
 -- ## The collection
@@ -189,7 +189,7 @@ pub collection_along : (around : Around) → around.pending ≡ around.required
     → InKey around k e (bracket_text b w inside ++ spaces n) (58 ∷ r) → ad ≤ e.index
     → Ready around start k (bracket_text b w inside ++ colon_text n r) e ad qs
     → RunsInside (calmed around) Is b context.Block [] (moved e (b.opening ∷ w)) inside (colon_text n r)
-    → CollectionAlong around start Is b k qs (behind e (bracket_text b w inside) n) (58 ∷ r)
+    → CollectionAlong around start Is b k qs (colon_after e (bracket_text b w inside) n) (58 ∷ r)
 collection_along around same start Is b are k qs w inside n r e ad parts parted text low ready run =
     let o = colon_text n r in
     let close = b.closing ∷ [] in
@@ -209,7 +209,7 @@ collection_along around same start Is b are k qs w inside n r e ad parts parted 
     let mark : moved e (b.opening ∷ []) ≡ along e 1 = sym (mark_moved e b.opening are.opening_mark) in
     let split : here ≡ moved (moved e (b.opening ∷ [])) w = moved_append e (b.opening ∷ []) w in
     let below1 = below_open e body (spaces n) (58 ∷ r) o1 texts text.below in
-    let first = opened around same start b are k qs e o1 ad parted text.low below1
+    let first = bracket_opens around same start b are k qs e o1 ad parted text.low below1
     (subst (λ (t : List ℕ). Ready around start k t e ad qs) texts ready) in
     let right0 : around.indent ≤ (moved e (b.opening ∷ [])).col =
     subst (λ (m : Marker). around.indent ≤ m.col) (sym mark) text.low in
@@ -220,20 +220,20 @@ collection_along around same start Is b are k qs w inside n r e ad parts parted 
     let new1 = place_of e first.there.mark b.opens ∷ [] in
     let i1 = moved_index e (b.opening ∷ w) in
     let i2 = moved_index here inside in
-    let in_front = run first.there None (Some k) true ad (qs ++ new1) refl refl (lower ad (length w) here.index i1 low)
-    right1 lands in
+    let in_front = run (Some k) (moment first.there b.context None [] true ad (qs ++ new1)) refl refl
+    (lower ad (length w) here.index i1 low) right1 lands in
     let q = in_front.passes in
     let ran = q.leads.run first.deeper in
     let ended = subst (λ (z : Marker × List ℕ). q.adjacent ≤ z.0.index)
     (past_ink around.indent at_end b.closing o are.closing_mark.ink) q.knows in
     let qs2 = (qs ++ new1) ++ q.new in
-    let last = shut around same b are in_front.inside in_front.flows in_front.closes k q.key q.allowed q.adjacent qs2
-    q.there ran.deeper at_end n r text3 q.right q.fits in
+    let last = bracket_closes around same b are in_front.inside in_front.flows in_front.closes k q.key q.allowed
+    q.adjacent qs2 q.there ran.deeper at_end n r text3 q.right q.fits in
     let new3 = mark_places (ends_pair in_front.inside) at_end last.there.mark b.closes in
     let places : qs2 ++ new3 ≡ qs ++ (new1 ++ (q.new ++ new3)) =
     append_assoc (qs ++ new1) q.new new3 ∙ append_assoc qs new1 (q.new ++ new3) in
     let led = chain first.leads (chain ran.leads last.leads) in
-    let end : moved (along at_end 1) (spaces n) ≡ behind e body n =
+    let end : moved (along at_end 1) (spaces n) ≡ colon_after e body n =
     ap (λ (m : Marker). moved m (spaces n))
     (mark_moved at_end b.closing are.closing_mark
     ∙ sym (moved_append e (b.opening ∷ w) (inside ++ close) ∙ moved_append here inside close)) in
@@ -265,7 +265,8 @@ collection_along around same start Is b are k qs w inside n r e ad parts parted 
         piece = record { span = record { start = e; end = first.there.mark }; kind = b.opens };
         others = q.new ++ new3;
         leads = subst (λ (ps : List Place). Leads around.limit
-            (state_at around last.there context.Block (Some k) [] false q.adjacent ps ran.deeper) start) places led;
+            (state_at around (moment last.there context.Block (Some k) [] false q.adjacent ps) ran.deeper) start) places
+            led;
         are = told;
         low = subst (λ (m : Marker). q.adjacent ≤ m.index) end (later q.adjacent at_end n ended);
       };

@@ -226,14 +226,15 @@ brackets_first around p b are t o front rest e before =
           (fresh_front around p front (b.opening ∷ (rest ++ o)) before (fresh_bracket around b are (rest ++ o)));
     })
 
-pub node_first : (around : Around) (room : ℕ) (node : Node) (t o : List ℕ) → IsFlowNode room node false around.indent t
+pub key_node_first : (around : Around) (room : ℕ) (node : Node) (t o : List ℕ) → IsFlowNode room node false
+    around.indent t
     → FirstOf around t o
-node_first around room (Alias name) t o h =
+key_node_first around room (Alias name) t o h =
     record { begins = subst Begins (sym h.1) (alias_first name); fresh = fresh_alias around name t o h }
-node_first around room (Scalar p style value) t o h = scalar_first around p style value t o h
-node_first around room (Seq p nodes) t o (left, opening, inside, r, (front, w, f, parts, e), h, is) =
+key_node_first around room (Scalar p style value) t o h = scalar_first around p style value t o h
+key_node_first around room (Seq p nodes) t o (left, opening, inside, r, (front, w, f, parts, e), h, is) =
     brackets_first around p square are_square t o front (w ++ (inside ++ (93 ∷ [])))
     (whole_text t opening front w inside 91 93 is e) f
-node_first around room (Map p pairs) t o (left, opening, inside, r, (front, w, f, parts, e), h, is) =
+key_node_first around room (Map p pairs) t o (left, opening, inside, r, (front, w, f, parts, e), h, is) =
     brackets_first around p curly are_curly t o front (w ++ (inside ++ (125 ∷ [])))
     (whole_text t opening front w inside 123 125 is e) f

@@ -19,7 +19,7 @@ use Rattle.saphyr_scanner.specs.Steps.Fetch.{step, state_behind_content, fetch_h
 use Rattle.saphyr_scanner.proofs.Leads.{Leads, stay, onward}
 use Rattle.saphyr_scanner.proofs.Json.States.{queue_of, none_before, stop_here}
 use Rattle.saphyr_scanner.proofs.Json.Brackets.{place_of}
-use Rattle.saphyr_scanner.proofs.InFlow.States.{Around, core_at, state_at, least, least_low, drops, key_left, no_ends, none_unrolls}
+use Rattle.saphyr_scanner.proofs.InFlow.States.{Around, core_at, state_at, least, least_low, drops_far_key, key_left, no_ends, none_unrolls, moment}
 use Rattle.saphyr_scanner.proofs.Flow.States.{moved, IsInk}
 use Rattle.saphyr_scanner.proofs.Flow.Gaps.{right_tab as no_left_tab}
 use Rattle.saphyr_scanner.proofs.Flow.Fillers.{right_tab, no_feed, blanks_past}
@@ -46,12 +46,12 @@ no_more a b h = grind (arith, nat_tests)
 pub not_far : (k : Candidate) (m : Marker) → IsNear k m → is_too_far (Some k) m ≡ false
 not_far k m h = rw (no_later k.mark.line m.line h.line, no_more m.index k.mark.index h.index) refl
 
-pub keeps : (around : Around) (d : Bool) (s : Cursor) (k : Candidate) (ls : List Level) (a : Bool) (ad : ℕ)
+pub keeps_near_key : (around : Around) (d : Bool) (s : Cursor) (k : Candidate) (ls : List Level) (a : Bool) (ad : ℕ)
     → IsNear k s.mark
     → drop_far_key (core_at around d s context.Block (Some k) ls a ad)
     ≡ Ok (core_at around d s context.Block (Some k) ls a ad)
 unfolding drop_far_key
-keeps around d s k ls a ad near = rw (not_far k s.mark near) refl
+keeps_near_key around d s k ls a ad near = rw (not_far k s.mark near) refl
 
 -- ## Blanks before a token
 
@@ -75,9 +75,9 @@ blanks_gap low column under (x ∷ xs) c cs are ink m blank right =
 line_arrives : (around : Around) (d : Bool) (s : Cursor) (k : Candidate) (ad : ℕ) (ps : List Place) (w : List ℕ) (c : ℕ)
     (cs : List ℕ) → s.rest ≡ w ++ (c ∷ cs) → AreIn is_blank w → IsInk c
     → around.indent ≤ s.mark.col → IsNear k (moved s.mark w)
-    → arrive (state_at around s context.Block (Some k) [] false ad ps d)
-    ≡ Ok (state_at around (cursor_at (c ∷ cs) (moved s.mark w) s.blank_so_far) context.Block (Some k) [] false ad ps
-    d)
+    → arrive (state_at around (moment s context.Block (Some k) [] false ad ps) d)
+    ≡ Ok (state_at around (moment (cursor_at (c ∷ cs) (moved s.mark w) s.blank_so_far) context.Block (Some k) [] false
+    ad ps) d)
 unfolding arrive pass_gap check_comment
 line_arrives around d s k ad ps w c cs is are ink right near =
     let n = moved s.mark w in
@@ -87,7 +87,7 @@ line_arrives around d s k ad ps w c cs is are ink right near =
     ∙ blanks_gap (least around.indent d) around.indent (least_low around.indent d) w c cs are ink s.mark s.blank_so_far
     right ∙ stop_here n s.blank_so_far false (c ∷ cs) in
     let passed = ap (λ r. r >>= λ (p : Passed). check_comment (behind_gap here p)) gapped in
-    let reached = ap (λ r. r >>= drop_far_key) passed ∙ keeps around d there k [] false ad near in
+    let reached = ap (λ r. r >>= drop_far_key) passed ∙ keeps_near_key around d there k [] false ad near in
     ap (λ r. carried r (queue_of ps) >>= λ (t : State). Ok (unroll (Some t.core.cursor.mark.col) t.core.cursor.mark t))
     reached
     ∙ ap Ok (none_unrolls around n.col n there context.Block (Some k) [] false ad ps d
@@ -108,9 +108,9 @@ pub record Ready (around : Around) (start : State) (k : Candidate) (t : List ℕ
 -- content stands no further left than its collection's entries
 begins_low : (around : Around) (d : Bool) (s : Cursor) (k : Option Candidate) (a : Bool) (ad : ℕ) (ps : List Place)
     → BeginsToken s.mark s.rest → nat_lt s.mark.col (least around.indent d) ≡ false
-    → fetch_here (state_at around s context.Block k [] a ad ps d)
+    → fetch_here (state_at around (moment s context.Block k [] a ad ps) d)
     ≡ state_behind_content (slice_index s.rest 0) (slice_index s.rest 1)
-    (state_at around s context.Block k [] a ad ps d)
+    (state_at around (moment s context.Block k [] a ad ps) d)
 unfolding fetch_here
 begins_low around d s k a ad ps h right =
     let n = and_or_false (s.mark.col == 0) (is_document_start s.rest) (is_document_end s.rest) h.marker in
@@ -125,7 +125,8 @@ reaches_low around d m right =
 pub later_ready : (around : Around) (d : Bool) (s : Cursor) (k : Candidate) (ad : ℕ) (ps : List Place) (w : List ℕ)
     (c : ℕ) (cs : List ℕ) → s.rest ≡ w ++ (c ∷ cs) → AreIn is_blank w → IsInk c
     → around.indent ≤ s.mark.col → IsNear k (moved s.mark w) → BeginsToken (moved s.mark w) (c ∷ cs)
-    → Ready around (state_at around s context.Block (Some k) [] false ad ps d) k (c ∷ cs) (moved s.mark w) ad ps
+    → Ready around (state_at around (moment s context.Block (Some k) [] false ad ps) d) k (c ∷ cs) (moved s.mark w) ad
+    ps
 unfolding fetch state_behind_content
 later_ready around d s k ad ps w c cs is are ink right near token =
     let n = moved s.mark w in
@@ -195,7 +196,7 @@ pub first_ready : (around : Around) → around.pending ≡ false
     → around.indent ≤ m.col + 1
     → BeginsToken m (c ∷ cs) → Fresh around (c ∷ cs)
     → Ready (keyed around (deeper_at around d m) m)
-    (state_at around (cursor_at (c ∷ cs) m blank) context.Block k [] true ad ps d)
+    (state_at around (moment (cursor_at (c ∷ cs) m blank) context.Block k [] true ad ps) d)
     (record { mark = m; place = length ps }) (c ∷ cs) m ad ps
 unfolding fetch arrive pass_gap check_comment unroll state_behind_content
 first_ready around calm d blank k ad ps m c cs ink right token fresh =
@@ -205,10 +206,10 @@ first_ready around calm d blank k ad ps m c cs ink right token fresh =
     let e = deeper_at around d m in
     let gapped = ink_gap (least around.indent d) c cs ink m blank ∙ stop_here m blank false (c ∷ cs) in
     let passed = ap (λ r. r >>= λ (p : Passed). check_comment (behind_gap here p)) gapped in
-    let reached = ap (λ r. r >>= drop_far_key) passed ∙ drops around d there context.Block k [] true ad calm in
+    let reached = ap (λ r. r >>= drop_far_key) passed ∙ drops_far_key around d there context.Block k [] true ad calm in
     let arrived = ap (λ r. carried r (queue_of ps) >>= λ (t : State). Ok
     (unroll (Some t.core.cursor.mark.col) t.core.cursor.mark t)) reached
-    ∙ ap Ok (no_ends m.col m around.outers (state_at around there context.Block left [] true ad ps e)
+    ∙ ap Ok (no_ends m.col m around.outers (state_at around (moment there context.Block left [] true ad ps) e)
     (one_less around.indent m.col right)) in
     record {
       deeper = e;
@@ -233,14 +234,14 @@ pub token_led : (around : Around) (start : State) (k : Candidate) (t : List ℕ)
     (core_at around r.deeper (cursor_at t e r.blank) context.Block (Some k) [] false ad)
     ≡ went (from_to e end kind ∷ []) (core_at around (to r.deeper) there context.Block (Some k) [] false adjacent)
     → IsNear k there.mark → there.mark.index ≤ around.limit
-    → Leads around.limit (state_at around there context.Block (Some k) [] false adjacent
-    (qs ++ place_of e end kind ∷ []) (to r.deeper)) start
+    → Leads around.limit (state_at around (moment there context.Block (Some k) [] false adjacent (qs ++ place_of e end
+    kind ∷ [])) (to r.deeper)) start
 unfolding fetch_within
 token_led around start k t e ad qs r end kind there adjacent to is near low =
-    let st = state_at around there context.Block (Some k) [] false adjacent (qs ++ place_of e end kind ∷ [])
+    let st = state_at around (moment there context.Block (Some k) [] false adjacent (qs ++ place_of e end kind ∷ []))
     (to r.deeper) in
     let fits : within around.limit st ≡ Ok st = rw (le-leb there.mark.index around.limit low) refl in
     let fetched : fetch start ≡ Ok st = r.fetches ∙ ap (λ q. acted q (queue_of qs)) is in
     onward start st st r.running (ap (λ q. q >>= within around.limit) fetched ∙ fits)
     (ap (λ q. carried q (queue_of (qs ++ place_of e end kind ∷ [])))
-    (keeps around (to r.deeper) there k [] false adjacent near)) stay
+    (keeps_near_key around (to r.deeper) there k [] false adjacent near)) stay

@@ -18,7 +18,7 @@ use Rattle.saphyr_scanner.proofs.InFlow.States.{Around}
 use Rattle.saphyr_scanner.proofs.InFlow.ScalarsOnLine.{front_on_line, back_on_line, blanks_on_line}
 use Rattle.saphyr_scanner.proofs.InFlow.KeyLines.{Ready}
 use Rattle.saphyr_scanner.proofs.InFlow.KeyTokens.{InKey, in_back, in_so, Along, along_joins, along_ready, alias_along, properties_along}
-use Rattle.saphyr_scanner.proofs.InFlow.KeyScalars.{colon_text, behind, ContentReads, scalar_reads, plain_key_reads}
+use Rattle.saphyr_scanner.proofs.InFlow.KeyScalars.{colon_text, colon_after, ContentReads, scalar_reads, plain_key_reads}
 use Rattle.saphyr_scanner.proofs.Flow.States.{moved, Reads}
 use Rattle.saphyr_scanner.proofs.Flow.Places.{moved_append}
 use Rattle.saphyr_scanner.proofs.Flow.Fillers.{spaces_are_blank}
@@ -42,7 +42,7 @@ some_space (suc n) r h = refl
 pub alias_key : Reads → (around : Around) (start : State) (name : List ℕ) (k : Candidate) (qs : List Place) (p : List ℕ)
     (n : ℕ) (r : List ℕ) (e : Marker) (ad : ℕ) → layout.IsAlias name p → IsBeforeColon (Alias name) (spaces n)
     → InKey around k e (p ++ spaces n) (58 ∷ r) → ad ≤ e.index → Ready around start k (p ++ colon_text n r) e ad qs
-    → KeyAlong around start (Alias name) k qs (behind e p n) (58 ∷ r)
+    → KeyAlong around start (Alias name) k qs (colon_after e p n) (58 ∷ r)
 alias_key reads around start name k qs p n r e ad h apart text low ready =
     record {
       tokens = alias_token name ∷ [];
@@ -54,7 +54,7 @@ alias_key reads around start name k qs p n r e ad h apart text low ready =
 empty_key : Reads → (around : Around) (start : State) (p : Properties) (k : Candidate) (qs : List Place) (t : List ℕ)
     (n : ℕ) (r : List ℕ) (e : Marker) (ad : ℕ) → IsProperties p t → IsBeforeColon (Scalar p Plain []) (spaces n)
     → InKey around k e (t ++ spaces n) (58 ∷ r) → ad ≤ e.index → Ready around start k (t ++ colon_text n r) e ad qs
-    → KeyAlong around start (Scalar p Plain []) k qs (behind e t n) (58 ∷ r)
+    → KeyAlong around start (Scalar p Plain []) k qs (colon_after e t n) (58 ∷ r)
 empty_key reads around start p k qs t n r e ad h apart text low ready =
     let a = properties_along reads around start k qs p.anchor p.tag t (spaces n) (58 ∷ r) (spaces n) (58 ∷ r) e ad h
     (some_space n r apart) text refl (spaces_are_blank n) low ready in
@@ -84,12 +84,12 @@ fronted reads around start p k qs t v c s behind_all e ad h some gap text low re
     record { tokens = a.tokens; are = a.are; along = a.along }
 
 -- properties t and separation v before c
-pub parts_of : (front t v c s : List ℕ) → front ≡ t ++ v → (front ++ c) ++ s ≡ t ++ (v ++ (c ++ s))
-parts_of front t v c s e = append_assoc front c s ∙ ap (λ (x : List ℕ). x ++ (c ++ s)) e ∙ append_assoc t v (c ++ s)
+pub front_parts : (front t v c s : List ℕ) → front ≡ t ++ v → (front ++ c) ++ s ≡ t ++ (v ++ (c ++ s))
+front_parts front t v c s e = append_assoc front c s ∙ ap (λ (x : List ℕ). x ++ (c ++ s)) e ∙ append_assoc t v (c ++ s)
 
-pub behind_parts : (e : Marker) (front t v c : List ℕ) (n : ℕ) → front ≡ t ++ v
-    → behind (moved (moved e t) v) c n ≡ behind e (front ++ c) n
-behind_parts e front t v c n is =
+pub colon_after_parts : (e : Marker) (front t v c : List ℕ) (n : ℕ) → front ≡ t ++ v
+    → colon_after (moved (moved e t) v) c n ≡ colon_after e (front ++ c) n
+colon_after_parts e front t v c n is =
     ap (λ (m : Marker). moved (moved m c) (spaces n)) (sym (moved_append e t v))
     ∙ ap (λ (x : List ℕ). moved (moved (moved e x) c) (spaces n)) (sym is)
     ∙ ap (λ (m : Marker). moved m (spaces n)) (sym (moved_append e front c))
@@ -99,11 +99,11 @@ content_key : Reads → (around : Around) (start : State) (p : Properties) (styl
     → IsBeforeContent p around.indent front → ContentReads around style value content n r
     → InKey around k e ((front ++ content) ++ spaces n) (58 ∷ r) → ad ≤ e.index
     → Ready around start k ((front ++ content) ++ colon_text n r) e ad qs
-    → KeyAlong around start (Scalar p style value) k qs (behind e (front ++ content) n) (58 ∷ r)
+    → KeyAlong around start (Scalar p style value) k qs (colon_after e (front ++ content) n) (58 ∷ r)
 content_key reads around start p style value k qs front content n r e ad (inl (none, is)) g text low ready =
     subst (λ (f : List ℕ). InKey around k e ((f ++ content) ++ spaces n) (58 ∷ r)
     → Ready around start k ((f ++ content) ++ colon_text n r) e ad qs
-    → KeyAlong around start (Scalar p style value) k qs (behind e (f ++ content) n) (58 ∷ r)) (sym is)
+    → KeyAlong around start (Scalar p style value) k qs (colon_after e (f ++ content) n) (58 ∷ r)) (sym is)
     (λ i z. record {
       tokens =
           scalar_token style value ∷ [];
@@ -114,16 +114,16 @@ content_key reads around start p style value k qs front content n r e ad (inl (n
 content_key reads around start p style value k qs front content n r e ad (inr (t, v, h, some, gap, is)) g text low
     ready =
     let whole = in_so k e ((front ++ content) ++ spaces n) (t ++ (v ++ (content ++ spaces n))) (58 ∷ r)
-    (parts_of front t v content (spaces n) is) text in
+    (front_parts front t v content (spaces n) is) text in
     let f = fronted reads around start p k qs t v content (spaces n) (58 ∷ r) e ad h some gap whole low
-    (subst (λ (x : List ℕ). Ready around start k x e ad qs) (parts_of front t v content (colon_text n r) is)
+    (subst (λ (x : List ℕ). Ready around start k x e ad qs) (front_parts front t v content (colon_text n r) is)
     ready) in
     let inside = in_back k (moved e t) v (content ++ spaces n) (58 ∷ r)
     (in_back k e t (v ++ (content ++ spaces n)) (58 ∷ r) whole) in
     let next = along_ready content (colon_text n r) (spaces n) (58 ∷ r) f.along g.begins inside refl in
     let c = g.along _ k _ (moved (moved e t) v) f.along.adjacent inside f.along.low next in
     subst (λ (m : Marker). KeyAlong around start (Scalar p style value) k qs m (58 ∷ r))
-    (behind_parts e front t v content n is)
+    (colon_after_parts e front t v content n is)
     (record {
       tokens = f.tokens ++ scalar_token style value ∷ [];
       are =
@@ -136,18 +136,18 @@ pub scalar_key : Reads → (around : Around) (start : State) (p : Properties) (s
     → IsScalarNode p style value false around.indent t → IsBeforeColon (Scalar p style value) (spaces n)
     → is_blank_or_breakz (slice_index r 0) ≡ true → InKey around k e (t ++ spaces n) (58 ∷ r) → ad ≤ e.index
     → Ready around start k (t ++ colon_text n r) e ad qs
-    → KeyAlong around start (Scalar p style value) k qs (behind e t n) (58 ∷ r)
+    → KeyAlong around start (Scalar p style value) k qs (colon_after e t n) (58 ∷ r)
 scalar_key reads around start p style value k qs t n r e ad (inl (plain, empty, h)) apart white text low ready =
     subst (λ (q : Style). IsBeforeColon (Scalar p q value) (spaces n)
-    → KeyAlong around start (Scalar p q value) k qs (behind e t n) (58 ∷ r)) (sym plain)
+    → KeyAlong around start (Scalar p q value) k qs (colon_after e t n) (58 ∷ r)) (sym plain)
     (subst (λ (v : List ℕ). IsBeforeColon (Scalar p Plain v) (spaces n)
-    → KeyAlong around start (Scalar p Plain v) k qs (behind e t n) (58 ∷ r)) (sym empty)
+    → KeyAlong around start (Scalar p Plain v) k qs (colon_after e t n) (58 ∷ r)) (sym empty)
     (λ a. empty_key reads around start p k qs t n r e ad h a text low ready)) apart
 scalar_key reads around start p style value k qs t n r e ad (inr (front, content, before, g, is)) apart white text low
     ready =
     subst (λ (x : List ℕ). InKey around k e (x ++ spaces n) (58 ∷ r)
     → Ready around start k (x ++ colon_text n r) e ad qs
-    → KeyAlong around start (Scalar p style value) k qs (behind e x n) (58 ∷ r)) (sym is)
+    → KeyAlong around start (Scalar p style value) k qs (colon_after e x n) (58 ∷ r)) (sym is)
     (λ i z. content_key reads around start p style value k qs front content n r e ad before
     (scalar_reads reads around style value content n r g white) i low z) text ready
 

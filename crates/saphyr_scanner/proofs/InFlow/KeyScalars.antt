@@ -92,21 +92,21 @@ index_behind e t n ad low =
     omega (arith, one, two, low)
 
 -- where a scalar ends before its colon
-abbrev pub behind : Marker → List ℕ → ℕ → Marker
-behind e t n = moved (moved e t) (spaces n)
+abbrev pub colon_after : Marker → List ℕ → ℕ → Marker
+colon_after e t n = moved (moved e t) (spaces n)
 
 -- a text that is read as a plain scalar
 text_along : Reads → (around : Around) (start : State) (k : Candidate) (qs : List Place) (c : ℕ) (cs : List ℕ) (n : ℕ)
     (r : List ℕ) (e : Marker) (ad : ℕ) → BeginsWord false (c ∷ cs) (colon_text n r)
     → IsPlainText false around.indent e (c ∷ cs) (colon_text n r) → InKey around k e ((c ∷ cs) ++ spaces n) (58 ∷ r)
     → ad ≤ e.index → Ready around start k ((c ∷ cs) ++ colon_text n r) e ad qs
-    → Along around start k qs (behind e (c ∷ cs) n) (58 ∷ r) (scalar_token Plain (plain_value (c ∷ cs)) ∷ [])
+    → Along around start k qs (colon_after e (c ∷ cs) n) (58 ∷ r) (scalar_token Plain (plain_value (c ∷ cs)) ∷ [])
 text_along reads around start k qs c cs n r e ad begins plain text low ready =
     let t = c ∷ cs in
     let o = colon_text n r in
     let clear = clear_front e t (spaces n) (58 ∷ r) text.clear in
     let end = moved e t in
-    let there = cursor_at (58 ∷ r) (behind e t n) false in
+    let there = cursor_at (58 ∷ r) (colon_after e t n) false in
     let kind = scalar_token Plain (plain_value t) in
     let last = in_back k end (spaces n) [] (58 ∷ r)
     (subst (λ (x : List ℕ). InKey around k end x (58 ∷ r)) (sym (append-nil (spaces n)))
@@ -118,9 +118,9 @@ text_along reads around start k qs c cs n r e ad begins plain text low ready =
     { comment = comment_of false (is_tabbed around.indent o) u })) (white_spaces end n r)
     ∙ ap (λ (q : Option Marker). went (from_to e end kind ∷ [])
     (record (core_at around false there context.Block (Some k) [] false ad) { comment = q }))
-    (no_comment (is_tabbed around.indent o) (behind e t n) r) in
+    (no_comment (is_tabbed around.indent o) (colon_after e t n) r) in
     let led = token_led around start k (t ++ o) e ad qs ready end kind there ad (λ d. false) stepped
-    (in_near k (behind e t n) [] (58 ∷ r) last) (in_limit k (behind e t n) [] (58 ∷ r) last) in
+    (in_near k (colon_after e t n) [] (58 ∷ r) last) (in_limit k (colon_after e t n) [] (58 ∷ r) last) in
     record {
       deeper = false;
       there = there;
@@ -141,7 +141,7 @@ pub plain_along : Reads → (around : Around) (start : State) (k : Candidate) (q
     (n : ℕ) (r : List ℕ) (e : Marker) (ad : ℕ) → IsPlain false around.indent (c ∷ cs)
     → is_blank_or_breakz (slice_index r 0) ≡ true → InKey around k e ((c ∷ cs) ++ spaces n) (58 ∷ r) → ad ≤ e.index
     → Ready around start k ((c ∷ cs) ++ colon_text n r) e ad qs
-    → Along around start k qs (behind e (c ∷ cs) n) (58 ∷ r) (scalar_token Plain (plain_value (c ∷ cs)) ∷ [])
+    → Along around start k qs (colon_after e (c ∷ cs) n) (58 ∷ r) (scalar_token Plain (plain_value (c ∷ cs)) ∷ [])
 plain_along reads around start k qs c cs n r e ad h white text low ready =
     let clear = clear_front e (c ∷ cs) (spaces n) (58 ∷ r) text.clear in
     text_along reads around start k qs c cs n r e ad (word_begins false around.indent (c ∷ cs) (colon_text n r) h)
@@ -218,12 +218,12 @@ pub quotes_along : Reads
     → (around : Around) (start : State) (k : Candidate) (qs : List Place) (quote : Quote) (value t : List ℕ) (n : ℕ)
     (r : List ℕ) (e : Marker) (ad : ℕ) → IsQuoted quote around.indent value t
     → InKey around k e (t ++ spaces n) (58 ∷ r) → Ready around start k (t ++ colon_text n r) e ad qs
-    → Along around start k qs (behind e t n) (58 ∷ r) (scalar_token (style_of quote) value ∷ [])
+    → Along around start k qs (colon_after e t n) (58 ∷ r) (scalar_token (style_of quote) value ∷ [])
 quotes_along reads around start k qs quote value t n r e ad h text ready =
     let o = colon_text n r in
     let clear = clear_front e t (spaces n) (58 ∷ r) text.clear in
     let end = moved e t in
-    let m = behind e t n in
+    let m = colon_after e t n in
     let kind = scalar_token (style_of quote) value in
     let whole = in_back k e t (spaces n) (58 ∷ r) text in
     let last = in_back k end (spaces n) [] (58 ∷ r)
@@ -280,13 +280,13 @@ pub content_along : Reads
     (r : List ℕ) (e : Marker) (ad : ℕ) → IsFlowScalar style value false around.indent t
     → is_blank_or_breakz (slice_index r 0) ≡ true → InKey around k e (t ++ spaces n) (58 ∷ r) → ad ≤ e.index
     → Ready around start k (t ++ colon_text n r) e ad qs
-    → Along around start k qs (behind e t n) (58 ∷ r) (scalar_token style value ∷ [])
+    → Along around start k qs (colon_after e t n) (58 ∷ r) (scalar_token style value ∷ [])
 content_along reads around start k qs Plain value t n r e ad h white text low ready =
     let f = some_first false around.indent t h.0 in
-    subst (λ (v : List ℕ). Along around start k qs (behind e t n) (58 ∷ r) (scalar_token Plain v ∷ [])) (sym h.1)
+    subst (λ (v : List ℕ). Along around start k qs (colon_after e t n) (58 ∷ r) (scalar_token Plain v ∷ [])) (sym h.1)
     (subst (λ (x : List ℕ). IsPlain false around.indent x → InKey around k e (x ++ spaces n) (58 ∷ r)
     → Ready around start k (x ++ colon_text n r) e ad qs
-    → Along around start k qs (behind e x n) (58 ∷ r) (scalar_token Plain (plain_value x) ∷ []))
+    → Along around start k qs (colon_after e x n) (58 ∷ r) (scalar_token Plain (plain_value x) ∷ []))
     (sym f.2) (λ p i z. plain_along reads around start k qs f.0 f.1 n r e ad p white i low z) h.0 text ready)
 content_along reads around start k qs SingleQuoted value t n r e ad h white text low ready =
     quotes_along reads around start k qs Single value t n r e ad h text ready
@@ -301,7 +301,7 @@ pub record ContentReads (around : Around) (style : Style) (value content : List 
   pub along : (start : State) (k : Candidate) (qs : List Place) (e : Marker) (ad : ℕ)
       → InKey around k e (content ++ spaces n) (58 ∷ r) → ad ≤ e.index
       → Ready around start k (content ++ colon_text n r) e ad qs
-      → Along around start k qs (behind e content n) (58 ∷ r) (scalar_token style value ∷ [])
+      → Along around start k qs (colon_after e content n) (58 ∷ r) (scalar_token style value ∷ [])
 
 pub scalar_begins : (indent : ℕ) (style : Style) (value t : List ℕ) → IsFlowScalar style value false indent t → Begins t
 scalar_begins indent Plain value t h = token_begins false t [] (word_begins false indent t [] h.0)

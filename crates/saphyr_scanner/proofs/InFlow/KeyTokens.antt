@@ -26,7 +26,7 @@ use Rattle.saphyr_scanner.specs.Grammar.FlowNodes.{IsOnLine, IsAnchor, IsAlias}
 use Rattle.saphyr_scanner.proofs.Leads.{Leads}
 use Rattle.saphyr_scanner.proofs.Json.Marks.{chain, kinds, kinds_append}
 use Rattle.saphyr_scanner.proofs.Json.Brackets.{place_of}
-use Rattle.saphyr_scanner.proofs.InFlow.States.{Around, core_at, state_at, behind_key}
+use Rattle.saphyr_scanner.proofs.InFlow.States.{Around, core_at, state_at, behind_key, moment}
 use Rattle.saphyr_scanner.proofs.InFlow.ScalarsOnLine.{front_on_line, back_on_line}
 use Rattle.saphyr_scanner.proofs.InFlow.KeyLines.{IsNear, Ready, later_ready, token_led}
 use Rattle.saphyr_scanner.proofs.Flow.States.{moved, IsClear, Reads}
@@ -126,15 +126,15 @@ pub record Along (around : Around) (start : State) (k : Candidate) (qs : List Pl
   pub piece : Piece
   pub others : List Place
   pub leads : Leads around.limit
-      (state_at around there context.Block (Some k) [] false adjacent (qs ++ closed piece ∷ others) deeper) start
+      (state_at around (moment there context.Block (Some k) [] false adjacent (qs ++ closed piece ∷ others)) deeper)
+      start
   pub are : kinds (closed piece ∷ others) ≡ ts
   pub low : adjacent ≤ m.index
 
 pub along_joins : {around : Around} {start : State} {k : Candidate} {qs : List Place} {m n : Marker} {y z : List ℕ}
     {ts us : List Kind} → (a : Along around start k qs m y ts)
-    → Along around (state_at around a.there context.Block (Some k) [] false a.adjacent (qs ++ closed a.piece ∷ a.others)
-    a.deeper) k (qs ++ closed a.piece ∷ a.others) n z us
-    → Along around start k qs n z (ts ++ us)
+    → Along around (state_at around (moment a.there context.Block (Some k) [] false a.adjacent (qs ++ closed a.piece
+    ∷ a.others)) a.deeper) k (qs ++ closed a.piece ∷ a.others) n z us → Along around start k qs n z (ts ++ us)
 along_joins {around} {start} {k} {qs} {m} {n} {y} {z} {ts} {us} a b =
     let front = closed a.piece ∷ a.others in
     let back = closed b.piece ∷ b.others in
@@ -150,7 +150,7 @@ along_joins {around} {start} {k} {qs} {m} {n} {y} {z} {ts} {us} a b =
       piece = a.piece;
       others = a.others ++ back;
       leads = subst (λ (ps : List Place). Leads around.limit
-          (state_at around b.there context.Block (Some k) [] false b.adjacent ps b.deeper) start)
+          (state_at around (moment b.there context.Block (Some k) [] false b.adjacent ps) b.deeper) start)
           (append_assoc qs front back) (chain a.leads b.leads);
       are = kinds_append front back ∙ ap (λ (x : List Kind). x ++ kinds back) a.are
           ∙ ap (λ (x : List Kind). ts ++ x) b.are;
@@ -161,14 +161,14 @@ along_joins {around} {start} {k} {qs} {m} {n} {y} {z} {ts} {us} a b =
 pub along_ready : {around : Around} {start : State} {k : Candidate} {qs : List Place} {m : Marker} {ts : List Kind}
     (p o b behind : List ℕ) → (a : Along around start k qs m (p ++ o) ts) → Begins p → InKey around k m (p ++ b) behind
     → o ≡ b ++ behind
-    → Ready around (state_at around a.there context.Block (Some k) [] false a.adjacent (qs ++ closed a.piece ∷ a.others)
-    a.deeper) k (p ++ o) m a.adjacent (qs ++ closed a.piece ∷ a.others)
+    → Ready around (state_at around (moment a.there context.Block (Some k) [] false a.adjacent (qs ++ closed a.piece
+    ∷ a.others)) a.deeper) k (p ++ o) m a.adjacent (qs ++ closed a.piece ∷ a.others)
 along_ready {around} {start} {k} {qs} {m} {ts} p o b behind a begins h same =
     let front : p ++ o ≡ begins.first ∷ (begins.others ++ o) = ap (λ (t : List ℕ). t ++ o) begins.is in
     let clear : IsClear m p o = subst (IsClear m p) (sym same) (clear_front m p b behind h.clear) in
     let token = begins_token m p o begins clear in
-    let st = state_at around a.there context.Block (Some k) [] false a.adjacent (qs ++ closed a.piece ∷ a.others)
-    a.deeper in
+    let st = state_at around (moment a.there context.Block (Some k) [] false a.adjacent (qs ++ closed a.piece
+    ∷ a.others)) a.deeper in
     let near = in_near k m (p ++ b) behind h in
     subst (λ (t : List ℕ). Ready around st k t m a.adjacent (qs ++ closed a.piece ∷ a.others)) (sym front)
     (subst (λ (n : Marker). Ready around st k (begins.first ∷ (begins.others ++ o)) n a.adjacent
@@ -186,8 +186,8 @@ ends_there : {around : Around} {start : State} {k : Candidate} {qs : List Place}
     (cs b behind w y : List ℕ) (ad : ℕ) (kind : Kind) (deeper : Bool) → InKey around k e ((c ∷ cs) ++ b) behind
     → b ++ behind ≡ w ++ y
     → AreIn is_blank w → ad ≤ e.index
-    → Leads around.limit (state_at around (at (moved e (c ∷ cs)) (b ++ behind)) context.Block (Some k) [] false ad
-    (qs ++ place_of e (moved e (c ∷ cs)) kind ∷ []) deeper) start
+    → Leads around.limit (state_at around (moment (at (moved e (c ∷ cs)) (b ++ behind)) context.Block (Some k) [] false
+    ad (qs ++ place_of e (moved e (c ∷ cs)) kind ∷ [])) deeper) start
     → Along around start k qs (moved (moved e (c ∷ cs)) w) y (kind ∷ [])
 ends_there {around} {start} {k} {qs} e c cs b behind w y ad kind deeper h is are low leads =
     let one = moved_index e (c ∷ cs) in
@@ -275,8 +275,8 @@ tag_along reads around start k qs tag t b behind w y e ad h ends text is are low
     (in_near k end b behind inside) (in_limit k end b behind inside) in
     subst (λ (q : Kind). Along around start k qs (moved (moved e t) w) y (q ∷ [])) g.token
     (subst (λ (p : List ℕ). InKey around k e (p ++ b) behind
-    → Leads around.limit (state_at around (at (moved e p) o) context.Block (Some k) [] false ad
-    (qs ++ place_of e (moved e p) kind ∷ []) r.deeper) start
+    → Leads around.limit (state_at around (moment (at (moved e p) o) context.Block (Some k) [] false ad
+    (qs ++ place_of e (moved e p) kind ∷ [])) r.deeper) start
     → Along around start k qs (moved (moved e p) w) y (kind ∷ [])) (sym f.1)
     (λ i l. ends_there e 33 f.0 b behind w y ad kind r.deeper i is are low l) text led)
 
@@ -292,9 +292,9 @@ pub record PropertiesAlong (around : Around) (start : State) (k : Candidate) (qs
 blank_spaces : (w : List ℕ) → AreSpaces 1 w → AreIn is_blank w
 blank_spaces w h = subst (AreIn is_blank) (sym h.2) (spaces_are_blank h.0)
 
-spaces_end : (w y : List ℕ) → AreSpaces 1 w → EndsTag false (w ++ y)
-spaces_end w y (zero, some, is) = absurd (omega (arith, some))
-spaces_end w y (suc n, some, is) = subst (λ (v : List ℕ). EndsTag false (v ++ y)) (sym is) refl
+blanks_end_tag : (w y : List ℕ) → AreSpaces 1 w → EndsTag false (w ++ y)
+blanks_end_tag w y (zero, some, is) = absurd (omega (arith, some))
+blanks_end_tag w y (suc n, some, is) = subst (λ (v : List ℕ). EndsTag false (v ++ y)) (sym is) refl
 
 pub tag_begins : (tag : Tag) (t : List ℕ) → IsTag tag t → Begins t
 tag_begins tag t h =
@@ -315,8 +315,8 @@ pub anchor_begins : (name t : List ℕ) → IsAnchor name t → Begins t
 anchor_begins name t h = subst Begins (sym h.1) (anchor_first name)
 
 -- two texts with spaces between
-parts_of : (t a s c b : List ℕ) → t ≡ a ++ (s ++ c) → t ++ b ≡ a ++ (s ++ (c ++ b))
-parts_of t a s c b e = ap (λ (x : List ℕ). x ++ b) e ∙ append_assoc a (s ++ c) b
+spaced_parts : (t a s c b : List ℕ) → t ≡ a ++ (s ++ c) → t ++ b ≡ a ++ (s ++ (c ++ b))
+spaced_parts t a s c b e = ap (λ (x : List ℕ). x ++ b) e ∙ append_assoc a (s ++ c) b
     ∙ ap (λ (x : List ℕ). a ++ x) (append_assoc s c b)
 
 pub properties_along : Reads
@@ -345,13 +345,14 @@ properties_along reads around start k qs (Some name) (Some tag) t b behind w y e
     ends text is are low r =
     let o = b ++ behind in
     let rest = s ++ (c ++ b) in
-    let whole = in_so k e (t ++ b) (a ++ rest) behind (parts_of t a s c b t_is) text in
+    let whole = in_so k e (t ++ b) (a ++ rest) behind (spaced_parts t a s c b t_is) text in
     let behind_is : rest ++ behind ≡ s ++ (c ++ o) = append_assoc s (c ++ b) behind
     ∙ ap (λ (x : List ℕ). s ++ x) (append_assoc c b behind) in
     let there = subst (λ (x : List ℕ). Ready around start k x e ad qs)
-    (parts_of t a s c o t_is ∙ ap (λ (x : List ℕ). a ++ x) (sym behind_is)) r in
+    (spaced_parts t a s c o t_is ∙ ap (λ (x : List ℕ). a ++ x) (sym behind_is)) r in
     let first = anchor_along reads around start k qs name a rest behind s (c ++ o) e ad h
-    (tag_ends_name false (rest ++ behind) (subst (EndsTag false) (sym behind_is) (spaces_end s (c ++ o) spaced))) whole
+    (tag_ends_name false (rest ++ behind) (subst (EndsTag false) (sym behind_is) (blanks_end_tag s (c ++ o) spaced)))
+    whole
     behind_is (blank_spaces s spaced) low there in
     let inside = in_back k (moved e a) s (c ++ b) behind (in_back k e a rest behind whole) in
     let next = along_ready c o b behind first (tag_begins tag c g) inside refl in
@@ -369,13 +370,13 @@ properties_along reads around start k qs (Some name) (Some tag) t b behind w y e
     ends text is are low r =
     let o = b ++ behind in
     let rest = s ++ (c ++ b) in
-    let whole = in_so k e (t ++ b) (a ++ rest) behind (parts_of t a s c b t_is) text in
+    let whole = in_so k e (t ++ b) (a ++ rest) behind (spaced_parts t a s c b t_is) text in
     let behind_is : rest ++ behind ≡ s ++ (c ++ o) = append_assoc s (c ++ b) behind
     ∙ ap (λ (x : List ℕ). s ++ x) (append_assoc c b behind) in
     let there = subst (λ (x : List ℕ). Ready around start k x e ad qs)
-    (parts_of t a s c o t_is ∙ ap (λ (x : List ℕ). a ++ x) (sym behind_is)) r in
+    (spaced_parts t a s c o t_is ∙ ap (λ (x : List ℕ). a ++ x) (sym behind_is)) r in
     let first = tag_along reads around start k qs tag a rest behind s (c ++ o) e ad g
-    (subst (EndsTag false) (sym behind_is) (spaces_end s (c ++ o) spaced)) whole behind_is (blank_spaces s spaced)
+    (subst (EndsTag false) (sym behind_is) (blanks_end_tag s (c ++ o) spaced)) whole behind_is (blank_spaces s spaced)
     low there in
     let inside = in_back k (moved e a) s (c ++ b) behind (in_back k e a rest behind whole) in
     let next = along_ready c o b behind first (anchor_begins name c h) inside refl in

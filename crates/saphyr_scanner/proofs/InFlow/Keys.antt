@@ -10,17 +10,17 @@ use Rattle.saphyr_scanner.specs.Steps.Core.{Candidate}
 use Rattle.saphyr_scanner.specs.Steps.State.{State}
 use Rattle.saphyr_scanner.specs.Grammar.Forest.{Node, Alias, Scalar, Seq, Map}
 use Rattle.saphyr_scanner.specs.Grammar.FlowNodes.{IsOnLine, IsKeyText, IsBeforeColon, IsFlowNode}
-use Rattle.saphyr_scanner.proofs.InFlow.States.{Around, state_at}
+use Rattle.saphyr_scanner.proofs.InFlow.States.{Around, state_at, moment}
 use Rattle.saphyr_scanner.proofs.InFlow.OnLine.{key_text_lowers}
 use Rattle.saphyr_scanner.proofs.InFlow.KeyLines.{Ready, Fresh, keyed, deeper_at, first_ready}
 use Rattle.saphyr_scanner.proofs.InFlow.KeyTokens.{InKey}
-use Rattle.saphyr_scanner.proofs.InFlow.KeyScalars.{colon_text, behind}
+use Rattle.saphyr_scanner.proofs.InFlow.KeyScalars.{colon_text, colon_after}
 use Rattle.saphyr_scanner.proofs.Flow.States.{IsClear, Reads}
 use Rattle.saphyr_scanner.proofs.Flow.Places.{clear_front}
 use Rattle.saphyr_scanner.proofs.Flow.Arrivals.{BeginsToken}
 use Rattle.saphyr_scanner.proofs.Flow.Tokens.{begins_token}
 use Rattle.saphyr_scalar.proofs.Given.{cursor_at}
-use Rattle.saphyr_scanner.proofs.InFlow.KeyFirsts.{FirstOf, plain_key_first, node_first}
+use Rattle.saphyr_scanner.proofs.InFlow.KeyFirsts.{FirstOf, plain_key_first, key_node_first}
 use Rattle.saphyr_scanner.proofs.InFlow.KeyNodes.{KeyAlong, alias_key, scalar_key, plain_key}
 use Rattle.saphyr_scanner.proofs.InFlow.KeyBrackets.{sequence_key, mapping_key}
 
@@ -31,7 +31,7 @@ key_along : Reads → (around : Around) → around.pending ≡ around.required
     (ad : ℕ)
     → IsFlowNode 255 node false around.indent t → IsBeforeColon node (spaces n)
     → is_blank_or_breakz (slice_index r 0) ≡ true → InKey around k e (t ++ spaces n) (58 ∷ r) → ad ≤ e.index
-    → Ready around start k (t ++ colon_text n r) e ad qs → KeyAlong around start node k qs (behind e t n) (58 ∷ r)
+    → Ready around start k (t ++ colon_text n r) e ad qs → KeyAlong around start node k qs (colon_after e t n) (58 ∷ r)
 key_along reads around same start (Alias name) k qs t n r e ad h apart white text low ready =
     alias_key reads around start name k qs t n r e ad h apart text low ready
 key_along reads around same start (Scalar p style value) k qs t n r e ad h apart white text low ready =
@@ -52,18 +52,18 @@ text_along : Reads → (around : Around) → around.pending ≡ around.required
     → IsKeyText (IsFlowNode 255 node false around.indent) node false around.indent t (spaces n)
     → IsBeforeColon node (spaces n) → is_blank_or_breakz (slice_index r 0) ≡ true
     → InKey around k e (t ++ spaces n) (58 ∷ r) → ad ≤ e.index
-    → Ready around start k (t ++ colon_text n r) e ad qs → KeyAlong around start node k qs (behind e t n) (58 ∷ r)
+    → Ready around start k (t ++ colon_text n r) e ad qs → KeyAlong around start node k qs (colon_after e t n) (58 ∷ r)
 text_along reads around same start node k qs t n r e ad (inl h) apart white text low ready =
     key_along reads around same start node k qs t n r e ad h apart white text low ready
 text_along reads around same start node k qs t n r e ad (inr (h, none)) apart white text low ready =
     subst (λ (i : ℕ). InKey around k e (t ++ spaces i) (58 ∷ r) → Ready around start k (t ++ colon_text i r) e ad qs
-    → KeyAlong around start node k qs (behind e t i) (58 ∷ r)) (sym (no_spaces n none))
+    → KeyAlong around start node k qs (colon_after e t i) (58 ∷ r)) (sym (no_spaces n none))
     (λ i z. plain_key reads around start node k qs t r e ad h white i low z) text ready
 
 text_first : (around : Around) (node : Node) (t s r : List ℕ)
     → IsKeyText (IsFlowNode 255 node false around.indent) node false around.indent t s
     → FirstOf around t (s ++ (58 ∷ r))
-text_first around node t s r (inl h) = node_first around 255 node t (s ++ (58 ∷ r)) h
+text_first around node t s r (inl h) = key_node_first around 255 node t (s ++ (58 ∷ r)) h
 text_first around node t s r (inr (h, none)) =
     subst (λ (x : List ℕ). FirstOf around t (x ++ (58 ∷ r))) (sym none) (plain_key_first around node t r h)
 
@@ -86,8 +86,8 @@ pub key_read : Reads → (around : Around) → around.pending ≡ false
     → IsClear m (p ++ spaces n) (58 ∷ r) → m.index + length ((p ++ spaces n) ++ (58 ∷ r)) ≤ around.limit
     → (d blank : Bool) (k : Option Candidate) (ad : ℕ) (ps : List Place) → ad ≤ m.index
     → KeyAlong (keyed around (deeper_at around d m) m)
-    (state_at around (cursor_at (p ++ colon_text n r) m blank) context.Block k [] true ad ps d) node
-    (record { mark = m; place = length ps }) ps (behind m p n) (58 ∷ r)
+    (state_at around (moment (cursor_at (p ++ colon_text n r) m blank) context.Block k [] true ad ps) d) node
+    (record { mark = m; place = length ps }) ps (colon_after m p n) (58 ∷ r)
 key_read reads around calm node m p n r h line apart short white right clear below d blank k ad ps low =
     let inner = keyed around (deeper_at around d m) m in
     let here : Candidate = record { mark = m; place = length ps } in
@@ -107,7 +107,7 @@ key_read reads around calm node m p n r h line apart short white right clear bel
       clear = clear;
       below = below;
     } in
-    let start = λ (t : List ℕ). state_at around (cursor_at t m blank) context.Block k [] true ad ps d in
+    let start = λ (t : List ℕ). state_at around (moment (cursor_at t m blank) context.Block k [] true ad ps) d in
     let ready : Ready inner (start (p ++ o)) here (p ++ o) m ad ps =
     subst (λ (t : List ℕ). Ready inner (start t) here t m ad ps) (sym front)
     (first_ready around calm d blank k ad ps m f.begins.first (f.begins.others ++ o) f.begins.ink right

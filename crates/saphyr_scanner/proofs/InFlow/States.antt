@@ -1,5 +1,5 @@
 -- States of a scanner that reads a node in flow style, whatever block collections are open around it.
-use Rattle.std.proofs.Common.{◌≡◌, ◌⊎◌, inl, inr, ℕ, ◌+◌, ◌<◌, ◌≤◌, Bool, true, false, List, [], ◌∷◌, length, Ok, refl, sym, ap, ◌∙◌, arith, cond, subst}
+use Rattle.std.proofs.Common.{◌≡◌, ◌⊎◌, inl, inr, ℕ, ◌+◌, ◌<◌, ◌≤◌, Bool, true, false, List, [], ◌∷◌, ◌++◌, length, Ok, refl, sym, ap, ◌∙◌, arith, cond, subst}
 use Rattle.std.specs.Prelude.{◌-◌, ◌||◌, ◌&&◌, ◌==◌, not, nat_lt, nat_le, Option, Some, None, if◌then◌else◌}
 use Rattle.std.proofs.lemmas.Bool.Decides.{nat_tests}
 use Rattle.saphyr_input.specs.declared.input.SkipTabs.{SkipTabs}
@@ -61,10 +61,41 @@ core_at around d s x k ls a ad =
       ended = false;
     }
 
--- A state, and whether content has to stand one column further right, which comes last: it is so behind a bracket, and
--- not behind a plain scalar, and nothing that is read depends on it. So runs are told for both.
-abbrev pub state_at : Around → Cursor → Context → Option Candidate → List Level → Bool → ℕ → List Place → Bool → State
-state_at around s x k ls a ad ps d = record { core = core_at around d s x k ls a ad; queue = queue_of ps }
+-- What a step changes: the text that is left and where it stands, the level with the key that is kept at it, the levels
+-- around it, whether a key may begin, where a colon may stand at once, and the places in the queue.
+pub record FlowMoment : Type 0 where
+  pub cursor : Cursor
+  pub context : Context
+  pub key : Option Candidate
+  pub outer : List Level
+  pub allowed : Bool
+  pub adjacent : ℕ
+  pub places : List Place
+
+-- a moment by its parts
+abbrev pub moment : Cursor → Context → Option Candidate → List Level → Bool → ℕ → List Place → FlowMoment
+moment s x k ls a ad ps =
+    record { cursor = s; context = x; key = k; outer = ls; allowed = a; adjacent = ad; places = ps }
+
+-- the same in another context
+abbrev pub moment_in : Context → FlowMoment → FlowMoment
+moment_in x now = record now { context = x }
+
+-- the same outside flow
+abbrev pub root_moment : FlowMoment → FlowMoment
+root_moment now = record now { context = context.Block; outer = [] }
+
+-- the same with further places
+abbrev pub moment_with : List Place → FlowMoment → FlowMoment
+moment_with new now = record now { places = now.places ++ new }
+
+-- The state at a moment, and whether content has to stand one column further right, which comes last: it is so behind a
+-- bracket, and not behind a plain scalar, and nothing that is read depends on it. So runs are told for both.
+abbrev pub state_at : Around → FlowMoment → Bool → State
+state_at around now d = record {
+  core = core_at around d now.cursor now.context now.key now.outer now.allowed now.adjacent;
+  queue = queue_of now.places;
+}
 
 -- the column that content has to reach
 abbrev pub least : ℕ → Bool → ℕ
@@ -92,8 +123,8 @@ pub record Run (around : Around) (d : Bool) (to : Bool → State) (start : State
 pub record Runs (around : Around) (to start : Bool → State) : Type 0 where
   pub run : (d : Bool) → Run around d to (start d)
 
-pub stays : (around : Around) (s : Bool → State) → Runs around s s
-stays around s = record { run = λ d. record { deeper = d; flat = λ _ e. e; leads = stay } }
+pub runs_to_itself : (around : Around) (s : Bool → State) → Runs around s s
+runs_to_itself around s = record { run = λ d. record { deeper = d; flat = λ _ e. e; leads = stay } }
 
 pub chains : {around : Around} {c b a : Bool → State} → Runs around b a → Runs around c b → Runs around c a
 chains f g = record {
@@ -112,22 +143,22 @@ chains f g = record {
 abbrev pub key_left : Context → Option Candidate → Marker → Option Candidate
 key_left x k m = if is_block x && is_too_far k m then None else k
 
-pub drops : (around : Around) (d : Bool) (s : Cursor) (x : Context) (k : Option Candidate) (ls : List Level) (a : Bool)
-    (ad : ℕ) → around.pending ≡ false
+pub drops_far_key : (around : Around) (d : Bool) (s : Cursor) (x : Context) (k : Option Candidate) (ls : List Level)
+    (a : Bool) (ad : ℕ) → around.pending ≡ false
     → drop_far_key (core_at around d s x k ls a ad) ≡ Ok (core_at around d s x (key_left x k s.mark) ls a ad)
 unfolding drop_far_key
-drops around d s context.Block k ls a ad calm = by_distance (is_too_far k s.mark) refl
+drops_far_key around d s context.Block k ls a ad calm = by_distance (is_too_far k s.mark) refl
   where
     by_distance : (far : Bool) → is_too_far k s.mark ≡ far
         → drop_far_key (core_at around d s context.Block k ls a ad)
         ≡ Ok (core_at around d s context.Block (key_left context.Block k s.mark) ls a ad)
     by_distance true h = rw (h, calm) refl
     by_distance false h = rw h refl
-drops around d s context.FlowSequence k ls a ad calm = refl
-drops around d s context.FlowMapping k ls a ad calm = refl
-drops around d s context.FlowPair k ls a ad calm = refl
-drops around d s context.ExplicitFlowPair k ls a ad calm = refl
-drops around d s context.MarkedFlowPair k ls a ad calm = refl
+drops_far_key around d s context.FlowSequence k ls a ad calm = refl
+drops_far_key around d s context.FlowMapping k ls a ad calm = refl
+drops_far_key around d s context.FlowPair k ls a ad calm = refl
+drops_far_key around d s context.ExplicitFlowPair k ls a ad calm = refl
+drops_far_key around d s context.MarkedFlowPair k ls a ad calm = refl
 
 pub left_or_none : (x : Context) (k : Option Candidate) (m : Marker) → (key_left x k m ≡ None) ⊎ (key_left x k m ≡ k)
 left_or_none x k m = by_distance (is_block x && is_too_far k m) refl
@@ -151,11 +182,11 @@ no_ends col m (i ∷ is) s h = rw h refl
 
 pub none_unrolls : (around : Around) (col : ℕ) (m : Marker) (s : Cursor) (x : Context) (k : Option Candidate)
     (ls : List Level) (a : Bool) (ad : ℕ) (ps : List Place) (d : Bool) → around.indent ≤ col
-    → unroll (Some col) m (state_at around s x k ls a ad ps d) ≡ state_at around s x k ls a ad ps d
+    → unroll (Some col) m (state_at around (moment s x k ls a ad ps) d) ≡ state_at around (moment s x k ls a ad ps) d
 unfolding unroll
 none_unrolls around col m s context.Block k ls a ad ps d h =
     let same : (d && nat_le around.indent col) ≡ d = still d (nat_le around.indent col) (reaches around.indent col h) in
-    rw same (no_ends col m around.outers (state_at around s context.Block k ls a ad ps d)
+    rw same (no_ends col m around.outers (state_at around (moment s context.Block k ls a ad ps) d)
     (no_right around.indent col h))
   where
     reaches : (a b : ℕ) → a ≤ b → nat_le a b ≡ true
@@ -194,43 +225,45 @@ bracket_deepens around x = record { flat = λ e. rw e (none_further (is_block x)
     none_further false = refl
 
 -- from a state the scanner comes to another, but for the key outside flow
-pub record Comes (around : Around) (start : Bool → State) (s : Cursor) (x : Context) (k : Option Candidate)
-    (ls : List Level) (a : Bool) (ad : ℕ) (ps : List Place) : Type 0 where
+pub record Comes (around : Around) (start : Bool → State) (next : FlowMoment) : Type 0 where
   pub key : Option Candidate
-  pub leads : Runs around (state_at around s x key ls a ad ps) start
-  pub same : is_block x ≡ false → key ≡ k
-  pub kept : (key ≡ None) ⊎ (key ≡ k)
+  pub leads : Runs around (state_at around (record next { key = key })) start
+  pub same : is_block next.context ≡ false → key ≡ next.key
+  pub kept : (key ≡ None) ⊎ (key ≡ next.key)
 
 -- where a step gives this, it leads there
-pub comes : (around : Around) (start : Bool → State) (s : Cursor) (x : Context) (k : Option Candidate) (ls : List Level)
-    (a : Bool) (ad : ℕ) (ps : List Place) (to : Bool → Bool) → Deepens around to
+pub comes : (around : Around) (start : Bool → State) (next : FlowMoment) (to : Bool → Bool) → Deepens around to
     → ((d : Bool) → (start d).core.ended ≡ false)
-    → ((d : Bool) → fetch (start d) ≡ Ok (state_at around s x k ls a ad ps (to d))) → s.mark.index ≤ around.limit
-    → around.pending ≡ false → Comes around start s x k ls a ad ps
+    → ((d : Bool) → fetch (start d) ≡ Ok (state_at around next (to d))) → next.cursor.mark.index ≤ around.limit
+    → around.pending ≡ false → Comes around start next
 unfolding fetch_within
-comes around start s x k ls a ad ps to deepens going is low calm =
-    let left = key_left x k s.mark in
+comes around start next to deepens going is low calm =
+    let left = key_left next.context next.key next.cursor.mark in
     record {
       key = left;
       leads = record { run = λ d. one d };
-      same = left_in_flow x k s.mark;
-      kept = left_or_none x k s.mark;
+      same = left_in_flow next.context next.key next.cursor.mark;
+      kept = left_or_none next.context next.key next.cursor.mark;
     }
   where
     flatly : (d : Bool) → around.indent ≡ 0 → d ≡ false → to d ≡ false
     flatly true e h = absurd (cc)
     flatly false e h = deepens.flat e
 
-    one : (d : Bool) → Run around d (state_at around s x (key_left x k s.mark) ls a ad ps) (start d)
+    there : FlowMoment
+    there = record next { key = key_left next.context next.key next.cursor.mark }
+
+    one : (d : Bool) → Run around d (state_at around there) (start d)
     one d =
-        let st = state_at around s x k ls a ad ps (to d) in
-        let fits : within around.limit st ≡ Ok st = rw (le-leb s.mark.index around.limit low) refl in
+        let st = state_at around next (to d) in
+        let fits : within around.limit st ≡ Ok st = rw (le-leb next.cursor.mark.index around.limit low) refl in
         record {
           deeper = to d;
           flat = flatly d;
-          leads = onward (start d) st (state_at around s x (key_left x k s.mark) ls a ad ps (to d)) (going d)
-              (ap (λ r. r >>= within around.limit) (is d) ∙ fits)
-              (ap (λ r. carried r (queue_of ps)) (drops around (to d) s x k ls a ad calm)) stay;
+          leads = onward (start d) st (state_at around there (to d)) (going d)
+              (ap (λ r. r >>= within around.limit) (is d) ∙ fits) (ap (λ r. carried r (queue_of next.places))
+              (drops_far_key around (to d) next.cursor next.context next.key next.outer next.allowed next.adjacent
+              calm)) stay;
         }
 
 -- ## Keys and brackets
@@ -296,12 +329,12 @@ plain_placed around x a m (right e h) = further (not (is_block x)) (not_left aro
     further false e = refl
 plain_placed around x a m (behind_key b e) = rw b refl
 
-pub starts : (y : Context) (kind : Kind) (n : ℕ) (around : Around) (d : Bool) (s : Cursor) (x : Context)
+pub opening_steps_open : (y : Context) (kind : Kind) (n : ℕ) (around : Around) (d : Bool) (s : Cursor) (x : Context)
     (k : Option Candidate) (ls : List Level) (a : Bool) (ad : ℕ) → Placed around x a s.mark
     → flow.opening_steps y kind n (core_at around d s x k ls a ad)
     ≡ open_collection y kind (core_at around (deepened around x d) s x (saved a n s.mark k) ls a ad)
 unfolding flow.opening_steps
-starts y kind n around d s x k ls a ad h =
+opening_steps_open y kind n around d s x k ls a ad h =
     ap (λ (c : Core). open_collection y kind (go_deeper c)) (saves_key n around d s x k ls a ad h)
 
 -- what is required around a collection is so inside it
@@ -316,14 +349,15 @@ still_required around x y e calm = by_context (is_block x) refl
     by_context true h = rw (h, e) (calm h)
     by_context false h = rw (h, e) refl
 
-pub opens : (y : Context) (kind : Kind) (ch : ℕ) (r : List ℕ) (m : Marker) (b : Bool) (around : Around) (d : Bool)
+pub open_collection_gives : (y : Context) (kind : Kind) (ch : ℕ) (r : List ℕ) (m : Marker) (b : Bool) (around : Around)
+    (d : Bool)
     (x : Context) (k : Option Candidate) (ls : List Level) (a : Bool) (ad : ℕ) (found : SkipTabs) (there : Cursor)
     → separation Yes (cursor_at r (along m 1) false) ≡ Ok (found, there) → length ls < 255 → is_block y ≡ false
     → Calm around x
     → open_collection y kind (core_at around d (cursor_at (ch ∷ r) m b) x k ls a ad)
     ≡ went (from_to m there.mark kind ∷ []) (core_at around d there y None (level_of x k ∷ ls) true ad)
 unfolding open_collection
-opens y kind ch r m b around d x k ls a ad found there is low flows calm =
+open_collection_gives y kind ch r m b around d x k ls a ad found there is low flows calm =
     let c : Core = record (core_at around d (cursor_at r (along m 1) false) y None (level_of x k ∷ ls) true ad)
     { required = required_at around x } in
     rw (not_full (length ls) low)
@@ -333,14 +367,15 @@ opens y kind ch r m b around d x k ls a ad found there is low flows calm =
     (record (core_at around d there y None (level_of x k ∷ ls) true ad) { required = q }))
     (still_required around x y flows calm))
 
-behind : (b : Bool) (around : Around) (d : Bool) (s : Cursor) (x : Context) (k : Option Candidate) (ls : List Level)
-    (ad : ℕ)
+adjacent_by : (b : Bool) (around : Around) (d : Bool) (s : Cursor) (x : Context) (k : Option Candidate)
+    (ls : List Level) (ad : ℕ)
     → cond b (core_at around d s x k ls false ad) (core_at around d s x k ls false s.mark.index)
     ≡ core_at around d s x k ls false (cond b ad s.mark.index)
-behind true around d s x k ls ad = refl
-behind false around d s x k ls ad = refl
+adjacent_by true around d s x k ls ad = refl
+adjacent_by false around d s x k ls ad = refl
 
-pub closes : (ends : Bool) (kind : Kind) (ch : ℕ) (r : List ℕ) (m : Marker) (b : Bool) (around : Around) (d : Bool)
+pub close_collection_gives : (ends : Bool) (kind : Kind) (ch : ℕ) (r : List ℕ) (m : Marker) (b : Bool) (around : Around)
+    (d : Bool)
     (y : Context) (k j : Option Candidate) (x : Context) (ls : List Level) (a : Bool) (ad : ℕ) (found : SkipTabs)
     (there : Cursor) → separation Yes (cursor_at r (along m 1) false) ≡ Ok (found, there) → is_block y ≡ false
     → Calm around x
@@ -348,7 +383,7 @@ pub closes : (ends : Bool) (kind : Kind) (ch : ℕ) (r : List ℕ) (m : Marker) 
     ≡ went (behind_pair ends m (from_to m there.mark kind))
     (core_at around d there x j ls false (cond (is_block x) ad there.mark.index))
 unfolding close_collection
-closes ends kind ch r m b around d y k j x ls a ad found there is flows calm =
+close_collection_gives ends kind ch r m b around d y k j x ls a ad found there is flows calm =
     let was = required_at around y in
     let c : Core = record (core_at around d (cursor_at r (along m 1) false) x j ls false ad) { required = was } in
     ap (λ q. (q >>= λ (e : SkipTabs × Cursor). Ok (e.0, with_cursor e.1 c)) >>= λ (e : SkipTabs × Core). went
@@ -356,4 +391,4 @@ closes ends kind ch r m b around d y k j x ls a ad found there is flows calm =
     ∙ ap (λ (q : Bool). went (behind_pair ends m (from_to m there.mark kind))
     (allow_adjacent (record (core_at around d there x j ls false ad) { required = q })))
     (sym (still_required around x y flows calm))
-    ∙ ap (went (behind_pair ends m (from_to m there.mark kind))) (behind (is_block x) around d there x j ls ad)
+    ∙ ap (went (behind_pair ends m (from_to m there.mark kind))) (adjacent_by (is_block x) around d there x j ls ad)

@@ -67,9 +67,10 @@ white_passes c cs h = by_blank (is_blank c) ((c == 13) && (slice_index cs 0 == 1
         let b = return_breaks c (slice_index cs 0 == 10) f in record { white = rw (e, b) refl; line = rw (b, f) refl }
     by_blank false false e f k = absurd (cc)
 
-line_white : (c : ℕ) (cs : List ℕ) → (is_blank c || ((c == 13) && (slice_index cs 0 == 10))) ≡ false → is_break c ≡ true
+line_break_white : (c : ℕ) (cs : List ℕ) → (is_blank c || ((c == 13) && (slice_index cs 0 == 10))) ≡ false → is_break c
+    ≡ true
     → (is_blank_or_break c ≡ true) × (ends_line c cs ≡ true)
-line_white c cs h e = by_return (is_blank c) ((c == 13) && (slice_index cs 0 == 10)) refl refl h
+line_break_white c cs h e = by_return (is_blank c) ((c == 13) && (slice_index cs 0 == 10)) refl refl h
   where
     by_return : (p q : Bool) → is_blank c ≡ p → ((c == 13) && (slice_index cs 0 == 10)) ≡ q → (p || q) ≡ false
         → (is_blank_or_break c ≡ true) × (ends_line c cs ≡ true)
@@ -136,7 +137,7 @@ tab_kind column m tab c cs false true r s t e f g on line h bare n b =
     behind k p u v step over (inr x) = inr (ap (λ (u : Cursor). stands_behind_tab u.rest) over ∙ x)
 tab_kind column m tab c cs false false true s t e f g on line h bare n b =
     let there : past column m (c ∷ cs) ≡ past column (next_line m 1) cs = rw (t, e, f) refl in
-    let w = line_white c cs e f in
+    let w = line_break_white c cs e f in
     let step : reaches_tabbed column m.col tab (c ∷ cs) ≡ reaches_tabbed column 0 false cs =
     tabbed_on column m.col tab c cs w.0
     ∙ ap (λ (p : Bool). reaches_tabbed column (if p then 0 else m.col + 1) (flag_on column m.col tab c) cs) w.1

@@ -81,11 +81,11 @@ open_passes limit n below y kind ch r o content clean begins s x k ls a ad ps co
 
 -- ## A closing bracket
 
-behind : (b : Bool) (s : Cursor) (x : Context) (k : Option Candidate) (ls : List Level) (ad : ℕ)
+core_behind_quotes : (b : Bool) (s : Cursor) (x : Context) (k : Option Candidate) (ls : List Level) (ad : ℕ)
     → cond b (core_at false s x k ls false ad) (core_at false s x k ls false s.mark.index)
     ≡ core_at false s x k ls false (cond b ad s.mark.index)
-behind true s x k ls ad = refl
-behind false s x k ls ad = refl
+core_behind_quotes true s x k ls ad = refl
+core_behind_quotes false s x k ls ad = refl
 
 pub closes : (ends : Bool) (kind : Kind) (ch : ℕ) (r : List ℕ) (m : Marker) (b : Bool) (y : Context)
     (k j : Option Candidate) (x : Context) (ls : List Level) (a : Bool) (ad : ℕ) (found : SkipTabs) (there : Cursor)
@@ -98,7 +98,7 @@ closes ends kind ch r m b y k j x ls a ad found there is =
     let c = core_at false (cursor_at r (along m 1) false) x j ls false ad in
     ap (λ q. (q >>= λ (d : SkipTabs × Cursor). Ok (d.0, with_cursor d.1 c)) >>= λ (d : SkipTabs × Core). went
     (behind_pair ends m (up_to_here m kind d.1)) (allow_adjacent d.1)) is
-    ∙ ap (went (behind_pair ends m (from_to m there.mark kind))) (behind (is_block x) there x j ls ad)
+    ∙ ap (went (behind_pair ends m (from_to m there.mark kind))) (core_behind_quotes (is_block x) there x j ls ad)
 
 pub close_passes : (limit n : ℕ) → n ≤ limit → (y : Context) (kind : Kind) (ch : ℕ) (r o : List ℕ) → IsContent (ch ∷ r)
     → IsClean (ch ∷ r)

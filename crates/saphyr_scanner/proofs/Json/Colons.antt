@@ -29,11 +29,12 @@ use Rattle.saphyr_scalar.proofs.Given.{cursor_at}
 use Rattle.std.proofs.lemmas.Bool.{or_right, eq-eqb}
 
 -- a colon at the place where one may stand adjacent, inside flow
-begins : (second i : ℕ) (s : Cursor) (k : Option Candidate) (ls : List Level) (a : Bool) (ad : ℕ) → s.mark.index ≡ ad
+colon_begins_value : (second i : ℕ) (s : Cursor) (k : Option Candidate) (ls : List Level) (a : Bool) (ad : ℕ)
+    → s.mark.index ≡ ad
     → step 58 second i (core_at false s context.FlowMapping k ls a ad)
     ≡ value.value_steps (core_at false s context.FlowMapping k ls a ad)
 unfolding step flow_value
-begins second i s k ls a ad e =
+colon_begins_value second i s k ls a ad e =
     let c = core_at false s context.FlowMapping k ls a ad in
     by_test (is_blank_or_breakz second) (value.value_steps c) _ (λ (r : Steps). r ≡ value.value_steps c) (λ _. refl)
     (λ _. rw (eq-eqb s.mark.index ad e, or_right (is_flow second) true refl) refl)
@@ -125,7 +126,7 @@ name_passes limit n below start ls ps r o text h follows clean =
     let p = tabbed r (along v.mark 1) (Some k) ls v.allowed s.mark.index (subst IsClean (sym follows) clean) in
     let seen = cursor_at (58 ∷ r) v.mark v.blank in
     let counted : total p.there ≡ n = further v.mark 58 r n (total p.there) (v.count ∙ h.count) p.count in
-    let stepped = begins (slice_index r 0) (length qs) seen v.key ls v.allowed s.mark.index place
+    let stepped = colon_begins_value (slice_index r 0) (length qs) seen v.key ls v.allowed s.mark.index place
     ∙ ap (λ (j : Option Candidate). value.value_steps
     (core_at false seen context.FlowMapping j ls v.allowed s.mark.index))
     (v.same refl ∙ h.saves refl refl)

@@ -40,20 +40,20 @@ along_more m n =
     let k : m.col + 1 + n ≡ m.col + suc n = omega arith in
     rw (i, k) refl
 
-stops : (m : Marker) (blank broke : Bool) (follow : List ℕ) → StopsGap follow
+gap_stops : (m : Marker) (blank broke : Bool) (follow : List ℕ) → StopsGap follow
     → gap 0 m blank broke false follow ≡ stop m blank broke false follow
-stops m blank broke [] h = refl
-stops m blank broke (c ∷ cs) h = rw (h.0, h.1, h.2, no_return c h.1) refl
+gap_stops m blank broke [] h = refl
+gap_stops m blank broke (c ∷ cs) h = rw (h.0, h.1, h.2, no_return c h.1) refl
 
 -- a character that is passed before the others
-further : (m k : Marker) (blank broke blank_then broke_then : Bool) (c : ℕ) (w follow : List ℕ)
+gap_behind_character : (m k : Marker) (blank broke blank_then broke_then : Bool) (c : ℕ) (w follow : List ℕ)
     → gap 0 m blank broke false (c ∷ (w ++ follow)) ≡ gap 0 k blank_then broke_then false (w ++ follow)
     → (blank_then || has_break w) ≡ (blank || has_break (c ∷ w))
     → (broke_then || has_break w) ≡ (broke || has_break (c ∷ w))
     → k.index ≡ m.index + 1 → (has_break (c ∷ w) ≡ false → (has_break w ≡ false) × (k ≡ along m 1))
     → (m.line < 2 ^ 64 → (m.line ≤ k.line) × (k.line < 2 ^ 64))
     → Passes k blank_then broke_then w follow → Passes m blank broke (c ∷ w) follow
-further m k blank broke blank_then broke_then c w follow one same_blank same_broke index same_line line p =
+gap_behind_character m k blank broke blank_then broke_then c w follow one same_blank same_broke index same_line line p =
     record {
       mark = p.mark;
       is = one ∙ p.is ∙ ap (λ b. stop p.mark b (broke_then || has_break w) false follow) same_blank
@@ -70,7 +70,7 @@ no_tab_indentation m blank c = grind (arith, nat_tests)
 blank_case : (m : Marker) (blank broke : Bool) (c : ℕ) (w follow : List ℕ) → is_blank c ≡ true → is_break c ≡ false
     → Passes (along m 1) blank broke w follow → Passes m blank broke (c ∷ w) follow
 blank_case m blank broke c w follow e no_break p =
-    further m (along m 1) blank broke blank broke c w follow
+    gap_behind_character m (along m 1) blank broke blank broke c w follow
     (rw e (ap (λ (t : Bool). gap 0 (along m 1) blank broke t (w ++ follow)) (no_tab_indentation m blank c)))
     (rw no_break refl) (rw no_break refl) refl (λ h. (rw no_break at h, refl)) (λ h. (omega arith, h)) p
 
@@ -79,7 +79,7 @@ break_case : (m : Marker) (blank broke : Bool) (c : ℕ) (w follow : List ℕ)
     → is_break c ≡ true
     → Passes (next_line m 1) true true w follow → Passes m blank broke (c ∷ w) follow
 break_case m blank broke c w follow one e p =
-    further m (next_line m 1) blank broke true true c w follow one (rw e (sym (or-true blank)))
+    gap_behind_character m (next_line m 1) blank broke true true c w follow one (rw e (sym (or-true blank)))
     (rw e (sym (or-true broke))) refl (λ h. absurd (broken h)) (λ h. (omega arith, omega arith)) p
   where
     broken : has_break (c ∷ w) ≡ false → ⊥
@@ -90,7 +90,8 @@ return_case : (m : Marker) (blank broke : Bool) (w follow : List ℕ) → (slice
     → has_break w ≡ true → Passes (along m 1) blank broke w follow
     → Passes m blank broke (13 ∷ w) follow
 return_case m blank broke w follow e broken p =
-    further m (along m 1) blank broke blank broke 13 w follow (rw e refl) (rw broken refl) (rw broken refl) refl
+    gap_behind_character m (along m 1) blank broke blank broke 13 w follow (rw e refl) (rw broken refl)
+    (rw broken refl) refl
     (λ h. absurd (cc)) (λ h. (omega arith, h)) p
 
 -- a line feed that stands first is the white space's own
@@ -109,7 +110,7 @@ pub white_passed : (w follow : List ℕ) (m : Marker) (blank broke : Bool) → I
 white_passed [] follow m blank broke white h =
     record {
       mark = m;
-      is = stops m blank broke follow h ∙ ap (λ b. stop m b broke false follow) (sym (or-false blank))
+      is = gap_stops m blank broke follow h ∙ ap (λ b. stop m b broke false follow) (sym (or-false blank))
           ∙ ap (λ b. stop m (blank || false) b false follow) (sym (or-false broke));
       index = omega arith;
       same_line = λ _. sym (along_none m);

@@ -55,10 +55,10 @@ record Ends (limit : ℕ) (before : State) (ps : List Place) : Type 0 where
   handed : after.queue.handed ≡ 0
   places : after.queue.places ≡ ps ++ finished mark ∷ []
 
-ends : (limit n : ℕ) → n ≤ limit → (s : Cursor) (k : Option Candidate) (a : Bool) (ad : ℕ) (ps : List Place)
+leads_to_end : (limit n : ℕ) → n ≤ limit → (s : Cursor) (k : Option Candidate) (a : Bool) (ad : ℕ) (ps : List Place)
     → total s ≡ n → skip s.rest ≡ [] → Ends limit (state_at false s context.Block k [] a ad ps) ps
 unfolding fetch
-ends limit n below s k a ad ps count text =
+leads_to_end limit n below s k a ad ps count text =
     let v = arrives s context.Block k [] a ad ps [] text tt in
     let low : v.mark.index ≤ limit = omega (arith, v.count, count, below) in
     let there = cursor_at [] v.mark v.blank in
@@ -75,9 +75,9 @@ ends limit n below s k a ad ps count text =
       places = refl;
     }
 
-told : (new : List Place) (m : Marker) (ts : List Kind) → kinds new ≡ ts
+kinds_of_stream : (new : List Place) (m : Marker) (ts : List Kind) → kinds new ≡ ts
     → kinds ((begun ∷ new) ++ finished m ∷ []) ≡ tokens.StreamStart ∷ (ts ++ tokens.StreamEnd ∷ [])
-told new m ts e = ap (λ (x : List Kind). tokens.StreamStart ∷ x)
+kinds_of_stream new m ts e = ap (λ (x : List Kind). tokens.StreamStart ∷ x)
     (kinds_append new (finished m ∷ []) ∙ ap (λ (x : List Kind). x ++ tokens.StreamEnd ∷ []) e)
 
 -- Each text of JSON is taken up to its end, where the queue holds the tokens of its forest.
@@ -99,11 +99,12 @@ json_leads words_read quoted_read counts limit (document ∷ []) text h deep sho
     let behind : skip t.2 ≡ [] = ap skip (sym (append-nil t.2)) ∙ skip_white t.2 [] t.5 in
     let node = node_passes premises document.node t.1 t.2 t.4 (fresh text) context.Block first.key [] true 0
     (begun ∷ []) refl piece (rw behind tt) (omega arith) in
-    let last = ends limit n below node.there node.key node.allowed node.adjacent ((begun ∷ []) ++ node.new) node.count
+    let last = leads_to_end limit n below node.there node.key node.allowed node.adjacent ((begun ∷ []) ++ node.new)
+    node.count
     (node.fits ∙ behind) in (
       last.after,
       chain first.leads (chain node.leads last.leads),
       last.over,
       last.handed,
-      ap kinds last.places ∙ told node.new last.mark (node_tokens document.node) node.are,
+      ap kinds last.places ∙ kinds_of_stream node.new last.mark (node_tokens document.node) node.are,
     )

@@ -84,14 +84,15 @@ entry_ends b q (c ∷ cs) h = rw h.0 (by_mark h.1)
     by_mark (inr (inr (inl e))) = rw e refl
     by_mark (inr (inr (inr e))) = rw e refl
 
-goes_on : (start : Marker) (s : Cursor) (x : Context) (k : Option Candidate) (ls : List Level) (a : Bool) (ad : ℕ)
+reads_on_behind_quotes : (start : Marker) (s : Cursor) (x : Context) (k : Option Candidate) (ls : List Level)
+    (a : Bool) (ad : ℕ)
     (y : List ℕ) → IsBehindQuotes (is_block x) y → (is_break (slice_index s.rest 0) ≡ true) ⊎ (s.rest ≡ y)
     → goes_on_behind_quotes start (core_at false s x k ls a ad) ≡ true
 unfolding goes_on_behind_quotes
-goes_on start s x k ls a ad y h (inl e) =
+reads_on_behind_quotes start s x k ls a ad y h (inl e) =
     line_ends (is_block x) (start.line == s.mark.line) (slice_index s.rest 0)
     (or_left (is_break (slice_index s.rest 0)) _ e)
-goes_on start s x k ls a ad y h (inr e) = rw e (entry_ends (is_block x) (start.line == s.mark.line) y h)
+reads_on_behind_quotes start s x k ls a ad y h (inr e) = rw e (entry_ends (is_block x) (start.line == s.mark.line) y h)
 
 -- what stands behind the scalar is passed, up to y
 behind_step : (m : Marker) (text : List ℕ) (s : Cursor) (x : Context) (k : Option Candidate) (ls : List Level) (ad : ℕ)
@@ -108,9 +109,9 @@ behind_step m text s x k ls ad y p g goes =
     DoubleQuoted text d.1) p.is
     ∙ rw goes (ap (λ q. q >>= token) g.is)
 
-begins : (second n : ℕ) (c : Core) → step 34 second n c ≡ scalar.double_quoted_steps n c
+quote_begins_scalar : (second n : ℕ) (c : Core) → step 34 second n c ≡ scalar.double_quoted_steps n c
 unfolding step
-begins second n c = refl
+quote_begins_scalar second n c = refl
 
 -- a string, up to what stands behind the white space
 pub string_passes : ReadsDoubleQuoted reader → CountsDoubleQuoted reader → (limit n : ℕ) → n ≤ limit
@@ -134,10 +135,11 @@ string_passes reads counts limit n below p o y v h s x k ls a ad ps count text f
     let all : length (34 ∷ r) ≡ length p + length o = ap length (sym front) ∙ length-append p o in
     let counted : total there ≡ n = omega (arith, g.count, d.count, all, u.count, count) in
     let kind = tokens.Scalar DoubleQuoted (encode_utf8_all v) in
-    let stepped = begins (slice_index r 0) (length ps)
+    let stepped = quote_begins_scalar (slice_index r 0) (length ps)
     (core_at false (cursor_at (34 ∷ r) m u.blank) x u.key ls u.allowed ad)
     ∙ string_step reads counts (length ps) m u.blank p o r v (sym front) h x u.key ls u.allowed ad
-    ∙ behind_step m (encode_utf8_all v) behind x key ls ad y d g (goes_on m d.there x key ls false ad y ends first) in
+    ∙ behind_step m (encode_utf8_all v) behind x key ls ad y d g
+    (reads_on_behind_quotes m d.there x key ls false ad y ends first) in
     let content : IsContent (34 ∷ r) =
     record { nul = refl; byte_order_mark = refl; directive = refl; document_start = refl; document_end = refl } in
     let came = one limit s x k ls a ad ps (34 ∷ r) u content there x key ls g.allowed g.mark.index

@@ -36,11 +36,11 @@ white_is c h = grind (arith, nat_tests)
 is_white : (c : ℕ) → (is_blank c || is_break c) ≡ true → IsWhite c
 is_white c h = grind (arith, nat_tests)
 
-no_blank : (c : ℕ) → (is_blank c || is_break c) ≡ false → is_blank c ≡ false
-no_blank c h = grind (arith, nat_tests)
+neither_is_blank : (c : ℕ) → (is_blank c || is_break c) ≡ false → is_blank c ≡ false
+neither_is_blank c h = grind (arith, nat_tests)
 
-no_break : (c : ℕ) → (is_blank c || is_break c) ≡ false → is_break c ≡ false
-no_break c h = grind (arith, nat_tests)
+neither_is_break : (c : ℕ) → (is_blank c || is_break c) ≡ false → is_break c ≡ false
+neither_is_break c h = grind (arith, nat_tests)
 
 pub skip_white : (w y : List ℕ) → IsWhiteSpace w → skip (w ++ y) ≡ skip y
 skip_white [] y h = refl
@@ -62,7 +62,7 @@ skip_skip [] = refl
 skip_skip (c ∷ cs) =
     let more = skip_skip cs in
     by_test (is_blank c || is_break c) (skip cs) (c ∷ cs) (λ (y : List ℕ). skip y ≡ y) (λ _. more)
-    (λ e. skip_none c cs (no_blank c e) (no_break c e))
+    (λ e. skip_none c cs (neither_is_blank c e) (neither_is_break c e))
 
 -- neither a comment nor a byte order mark stands first
 abbrev pub IsClean : List ℕ → Type 0
@@ -74,14 +74,14 @@ stops_gap [] h = tt
 stops_gap (c ∷ cs) h =
     let more = stops_gap cs in
     by_test (is_blank c || is_break c) (skip cs) (c ∷ cs) (λ (y : List ℕ). IsClean y → StopsGap y) (λ _. more)
-    (λ e k. (no_blank c e, no_break c e, k.0)) h
+    (λ e k. (neither_is_blank c e, neither_is_break c e, k.0)) h
 
 pub stops_blanks : (t : List ℕ) → IsClean (skip t) → StopsBlanks (skip t)
 stops_blanks [] h = tt
 stops_blanks (c ∷ cs) h =
     let more = stops_blanks cs in
     by_test (is_blank c || is_break c) (skip cs) (c ∷ cs) (λ (y : List ℕ). IsClean y → StopsBlanks y) (λ _. more)
-    (λ e k. (no_blank c e, k.0, k.1)) h
+    (λ e k. (neither_is_blank c e, k.0, k.1)) h
 
 -- the index of a text's end, by what is left
 abbrev pub total : Cursor → ℕ
@@ -228,12 +228,13 @@ pub record IsContent (t : List ℕ) : Type 0 where
   pub document_start : is_document_start t ≡ false
   pub document_end : is_document_end t ≡ false
 
-here : (s : Cursor) (x : Context) (k : Option Candidate) (ls : List Level) (a : Bool) (ad : ℕ) (ps : List Place)
+fetches_content : (s : Cursor) (x : Context) (k : Option Candidate) (ls : List Level) (a : Bool) (ad : ℕ)
+    (ps : List Place)
     → IsContent s.rest
     → fetch_here (state_at false s x k ls a ad ps)
     ≡ state_behind_content (slice_index s.rest 0) (slice_index s.rest 1) (state_at false s x k ls a ad ps)
 unfolding fetch_here
-here s x k ls a ad ps h =
+fetches_content s x k ls a ad ps h =
     rw (
       h.nul,
       h.byte_order_mark,
@@ -287,7 +288,7 @@ unfolding fetch state_behind_content
 one limit s x k ls a ad ps y v h t z j ms b be qs actions is done low =
     let seen = cursor_at y v.mark v.blank in
     let c = core_at false seen x v.key ls v.allowed ad in
-    let there = ap (λ r. r >>= fetch_here) v.is ∙ here seen x v.key ls v.allowed ad ps h in
+    let there = ap (λ r. r >>= fetch_here) v.is ∙ fetches_content seen x v.key ls v.allowed ad ps h in
     let at_place = ap (λ (n : ℕ). acted (step (slice_index y 0) (slice_index y 1) n c) (queue_of ps))
     (none_before (length ps)) in
     let made = ap (λ r. acted r (queue_of ps)) is

@@ -10,9 +10,9 @@ use Rattle.saphyr_scanner.proofs.AllTokens.{bare_yields}
 bare_properties : (p : Properties) → p ≡ no_properties → YieldProperties p []
 bare_properties p e = subst (λ (q : Properties). YieldProperties q []) (sym e) refl
 
-scalar : (p : Properties) (style : Style) (value : List ℕ) (context : Context) → p ≡ no_properties
+yields_scalar : (p : Properties) (style : Style) (value : List ℕ) (context : Context) → p ≡ no_properties
     → YieldsNode (Scalar p style value) context (scalar_token style value ∷ [])
-scalar p style value context e = ([], scalar_token style value ∷ [], bare_properties p e, inl refl, refl)
+yields_scalar p style value context e = ([], scalar_token style value ∷ [], bare_properties p e, inl refl, refl)
 
 pair : (key value : Node) → YieldsNode key InFlow (node_tokens key) → YieldsNode value InFlow (node_tokens value)
     → YieldsFlowPair key value (YieldsNode key InFlow) (YieldsNode value InFlow)
@@ -26,15 +26,15 @@ pair key value h k = inl (
   refl,
 )
 
-name : (n : Node) (t : List ℕ) → IsMemberName n t → YieldsNode n InFlow (node_tokens n)
-name (Scalar p DoubleQuoted v) t h = scalar p DoubleQuoted v InFlow h.0
-name (Scalar p Plain v) t h = elim h [ ]
-name (Scalar p SingleQuoted v) t h = elim h [ ]
-name (Scalar p Literal v) t h = elim h [ ]
-name (Scalar p Folded v) t h = elim h [ ]
-name (Alias x) t h = elim h [ ]
-name (Seq p ns) t h = elim h [ ]
-name (Map p ps) t h = elim h [ ]
+yields_member_name : (n : Node) (t : List ℕ) → IsMemberName n t → YieldsNode n InFlow (node_tokens n)
+yields_member_name (Scalar p DoubleQuoted v) t h = yields_scalar p DoubleQuoted v InFlow h.0
+yields_member_name (Scalar p Plain v) t h = elim h [ ]
+yields_member_name (Scalar p SingleQuoted v) t h = elim h [ ]
+yields_member_name (Scalar p Literal v) t h = elim h [ ]
+yields_member_name (Scalar p Folded v) t h = elim h [ ]
+yields_member_name (Alias x) t h = elim h [ ]
+yields_member_name (Seq p ns) t h = elim h [ ]
+yields_member_name (Map p ps) t h = elim h [ ]
 
 -- a pair and the pairs behind it
 together : (a b c : List Kind) → Key ∷ (a ++ Value ∷ (b ++ c)) ≡ (Key ∷ (a ++ Value ∷ b)) ++ c
@@ -42,8 +42,8 @@ together a b c = simp append_assoc
 
 mutual
   value : (n : Node) (t : List ℕ) (context : Context) → IsValue n t → YieldsNode n context (node_tokens n)
-  value (Scalar p Plain v) t context h = scalar p Plain v context h.0
-  value (Scalar p DoubleQuoted v) t context h = scalar p DoubleQuoted v context h.0
+  value (Scalar p Plain v) t context h = yields_scalar p Plain v context h.0
+  value (Scalar p DoubleQuoted v) t context h = yields_scalar p DoubleQuoted v context h.0
   value (Scalar p SingleQuoted v) t context h = elim h [ ]
   value (Scalar p Literal v) t context h = elim h [ ]
   value (Scalar p Folded v) t context h = elim h [ ]
@@ -68,7 +68,7 @@ mutual
   members (MorePairs k v ps) t h = (
     Key ∷ (node_tokens k ++ Value ∷ node_tokens v),
     other_pair_tokens ps,
-    pair k v (name k h.0 h.4)
+    pair k v (yields_member_name k h.0 h.4)
         (value v h.2 InFlow h.6),
     other_members ps h.3 h.7,
     together (node_tokens k) (node_tokens v)
@@ -80,7 +80,7 @@ mutual
   other_members (MorePairs k v ps) t h = (
     Key ∷ (node_tokens k ++ Value ∷ node_tokens v),
     other_pair_tokens ps,
-    pair k v (name k h.1 h.6)
+    pair k v (yields_member_name k h.1 h.6)
         (value v h.3 InFlow h.8),
     other_members ps h.4 h.9,
     ap (λ ks. FlowEntry ∷ ks)

@@ -7,7 +7,7 @@ use Rattle.saphyr_scanner.specs.Grammar.Tokens.{Kind}
 use Rattle.saphyr_scalar.specs.declared.scalar.position.Marker.{Marker}
 use Rattle.saphyr_scalar.specs.Views.Cursor.{Cursor}
 use Rattle.saphyr_scanner.specs.Steps.Core.{Core, Action, Put, Open, act, perform, at_mark}
-use Rattle.saphyr_scanner.specs.Steps.State.{State, changed, acting}
+use Rattle.saphyr_scanner.specs.Steps.State.{State, with_core, with_action}
 use Rattle.saphyr_scanner.proofs.Counted.{Ahead, stays, ahead_ahead}
 
 -- the tokens of the places, from `low` on to n
@@ -82,7 +82,7 @@ core_grows s t a e = record {
 
 -- a token without characters at the place that is reached
 pub put_grows : (s : State) (m : Marker) (kind : Kind) (d : Core) → d.cursor ≡ s.core.cursor
-    → m.index ≡ s.core.cursor.mark.index → Grows s (acting (at_mark m kind) (changed d s))
+    → m.index ≡ s.core.cursor.mark.index → Grows s (with_action (at_mark m kind) (with_core d s))
 put_grows s m kind d e i =
     let k : d.cursor.mark.index ≡ s.core.cursor.mark.index = ap (λ (c : Cursor). c.mark.index) e in
     record {

@@ -8,7 +8,7 @@ use Rattle.saphyr_scanner.specs.Views.Tokens.{Piece, Remaining}
 use Rattle.saphyr_scanner.specs.Steps.Queue.{Place}
 use Rattle.saphyr_scanner.specs.Steps.Core.{Core}
 use Rattle.saphyr_scanner.specs.Steps.State.{State, start}
-use Rattle.saphyr_scanner.specs.Steps.Fetch.{size, settled, needs_token, fetch_within}
+use Rattle.saphyr_scanner.specs.Steps.Fetch.{size, without_far_key, needs_token, fetch_within}
 use Rattle.saphyr_scanner.specs.Steps.Remaining.{before_place, hand_out, delivered, run, remaining, scan}
 use Rattle.saphyr_scanner.specs.SpansInOrder.{AreInOrder}
 use Rattle.saphyr_scanner.proofs.Ordered.Queue.{places_within, InOrder, Grows}
@@ -46,27 +46,28 @@ handed_in_order n go c others low k (p ∷ ps) h =
 abbrev IsCounted : ℕ → State → Type 0
 IsCounted n s = s.core.cursor.mark.index + length s.core.cursor.rest ≡ n
 
-within : (n low : ℕ) (s : State) → IsCounted n s → InOrder low s → low ≤ n
-within n low s w h = omega (arith, w, places_within s.core.cursor.mark.index low s.queue.places h)
+low_within : (n low : ℕ) (s : State) → IsCounted n s → InOrder low s → low ≤ n
+low_within n low s w h = omega (arith, w, places_within s.core.cursor.mark.index low s.queue.places h)
 
-delivers : (n low : ℕ) (s : State) (r : Result State Refusal) (go : State → Remaining) → IsCounted n s → InOrder low s
+delivers_in_order : (n low : ℕ) (s : State) (r : Result State Refusal) (go : State → Remaining) → IsCounted n s
+    → InOrder low s
     → ((t : State) → r ≡ Ok t → Grows s t) → ((t : State) → IsCounted n t → InOrder low t → Follows n low (go t))
     → Follows n low (delivered r go)
-delivers n low s (Ok t) go w h g others =
+delivers_in_order n low s (Ok t) go w h g others =
     let a = g t refl in others t (omega (arith, w, a.ahead.counted)) (a.ordered low h)
-delivers n low s (Err e) go w h g others = within n low s w h
+delivers_in_order n low s (Err e) go w h g others = low_within n low s w h
 
 run_in_order : ReaderEnds → (n limit fuel low : ℕ) (s : State) → IsCounted n s → InOrder low s
     → Follows n low (run fuel limit s)
-run_in_order laws n limit zero low s w h = within n low s w h
+run_in_order laws n limit zero low s w h = low_within n low s w h
 run_in_order laws n limit (suc fuel) low s w h =
     let others : (l : ℕ) (t : State) → IsCounted n t → InOrder l t → Follows n l (run fuel limit t) =
     λ l t. run_in_order laws n limit fuel l t in
     handed_in_order n _ s.core
     (λ l k ps i. let t : State = holding s.core ps k in
-    by_test t.core.ended _ _ (Follows n l) (λ _. within n l t w i)
-    (λ e. let r = fetch_within limit t >>= settled in
-    delivers n l t r (run fuel limit) w i
+    by_test t.core.ended _ _ (Follows n l) (λ _. low_within n l t w i)
+    (λ e. let r = fetch_within limit t >>= without_far_key in
+    delivers_in_order n l t r (run fuel limit) w i
     (λ u q. (given_of (Fetched t) r u (read_fetched limit t e) q).grows laws) (others l)))
     low s.queue.handed s.queue.places h
 
@@ -74,6 +75,7 @@ pub scan_in_order : ReaderEnds → (limit : ℕ) (text : List ℕ) → AreInOrde
 unfolding remaining
 scan_in_order laws limit text =
     let s : State = start text in
-    delivers (length text) 0 s (settled s) (λ t. run (suc (size t.core)) limit t) (omega arith) (omega arith)
-    (λ t e. (given_of (Advances 0 s) (settled s) t (settled_advances s) e).grows laws)
+    delivers_in_order (length text) 0 s (without_far_key s) (λ t. run (suc (size t.core)) limit t) (omega arith)
+    (omega arith)
+    (λ t e. (given_of (Advances 0 s) (without_far_key s) t (settled_advances s) e).grows laws)
     (λ t w h. run_in_order laws (length text) limit (suc (size t.core)) 0 t w h)

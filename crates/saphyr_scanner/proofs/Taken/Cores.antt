@@ -12,7 +12,7 @@ use Rattle.saphyr_scanner.specs.declared.queue.Opening.TheVariants as opening
 use Rattle.saphyr_scanner.specs.Views.Tokens.{Piece}
 use Rattle.saphyr_scanner.specs.Steps.Gap as gaps
 use Rattle.saphyr_scanner.specs.Steps.Queue.{Place, Queue, closed, put, opened, with_opening, next}
-use Rattle.saphyr_scanner.specs.Steps.Core.{Candidate, Level, Core, is_block, in_block, save_key, forget_key, least_column, is_further, enter_block}
+use Rattle.saphyr_scanner.specs.Steps.Core.{Candidate, Level, Core, is_block, in_block, forget_key, least_column, is_further, enter_block}
 use Rattle.saphyr_scanner.specs.Steps.Passing.{separate, with_cursor, pass_gap, check_comment, goes_on_behind, behind_gap, intercepts}
 use Rattle.saphyr_scanner.specs.TokensTaken as taken
 use Rattle.saphyr_scanner.specs.TokensTaken.{AreApart, IsToken, TakesCharacter}
@@ -148,12 +148,6 @@ pub record Saved (n : ℕ) (c d : Core) : Type 0 where
   pub outer : d.outer ≡ c.outer
   pub indent : d.indent ≡ c.indent
   pub outer_indents : d.outer_indents ≡ c.outer_indents
-
-pub saved : (n : ℕ) (c : Core) → Saved n c (save_key n c)
-saved n c =
-    by_test c.key_allowed _ _ (Saved n c)
-    (λ _. record { level = inr refl; cursor = refl; outer = refl; indent = refl; outer_indents = refl })
-    (λ _. record { level = inl refl; cursor = refl; outer = refl; indent = refl; outer_indents = refl })
 
 pub first_at : (x : ℕ) (s t : Cursor) → t ≡ s → slice_index s.rest 0 ≡ x → slice_index t.rest 0 ≡ x
 first_at x s t e f = ap (λ (u : Cursor). slice_index u.rest 0) e ∙ f

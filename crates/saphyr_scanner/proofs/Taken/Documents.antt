@@ -13,7 +13,7 @@ use Rattle.saphyr_scanner.specs.Grammar.Tokens as tokens
 use Rattle.saphyr_scanner.specs.Grammar.Tokens.{Kind}
 use Rattle.saphyr_scanner.specs.Steps.Queue.{next, empty_piece}
 use Rattle.saphyr_scanner.specs.Steps.Core.{in_block, forget_key}
-use Rattle.saphyr_scanner.specs.Steps.State.{State, changed}
+use Rattle.saphyr_scanner.specs.Steps.State.{State, with_core}
 use Rattle.saphyr_scanner.specs.Steps.Unrolling.{unroll, end_blocks, less_deep}
 use Rattle.saphyr_scanner.specs.Steps.Document as document
 use Rattle.saphyr_scanner.specs.TokensTaken as taken
@@ -37,10 +37,10 @@ unfolding unroll
 forgotten_unrolled columns from s h =
     let m = s.core.cursor.mark in
     let P : State → Type 0 = λ t. TakenState columns from t → Holds columns from (forget_key t.core) t.queue in
-    by_test (in_block s.core) (end_blocks None m s.core.outer_indents (changed (less_deep None s.core) s)) s P
+    by_test (in_block s.core) (end_blocks None m s.core.outer_indents (with_core (less_deep None s.core) s)) s P
     (λ e k.
-    let t : State = end_blocks None m s.core.outer_indents (changed (less_deep None s.core) s) in
-    let l = blocks_levels None m s.core.outer_indents (changed (less_deep None s.core) s) in
+    let t : State = end_blocks None m s.core.outer_indents (with_core (less_deep None s.core) s) in
+    let l = blocks_levels None m s.core.outer_indents (with_core (less_deep None s.core) s) in
     record {
       taken = taken_further columns from t.core (forget_key t.core) t.queue (taken.nothing _ _) refl refl k;
       keys = no_keys (next t.queue) t.queue t.core.indent (forget_key t.core).level t.core.outer refl
@@ -154,7 +154,7 @@ end_fetched columns from s h =
     let left : t.core.cursor.rest ≡ [] = ap (λ (c : Cursor). c.rest) same ∙ empty in
     by_test s.core.required _ _ (Given P) (λ _. tt)
     (λ _. record {
-      taken = taken_put columns from t.core (document.finished t.core) t.queue (empty_piece m tokens.StreamEnd)
+      taken = taken_put columns from t.core (document.core_at_end t.core) t.queue (empty_piece m tokens.StreamEnd)
           t.core.cursor t.core.cursor (taken.nothing _ _) (left, (refl, there, refl)) (taken.nothing _ _) (λ cs k. k)
           (unroll_taken columns from None m s place h);
       live = λ f. absurd (cc);

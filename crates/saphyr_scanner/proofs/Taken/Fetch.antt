@@ -13,7 +13,7 @@ use Rattle.saphyr_scanner.specs.Steps.Core.{Steps, in_block, is_too_far, forget_
 use Rattle.saphyr_scanner.specs.Steps.State.{State, carried, acted}
 use Rattle.saphyr_scanner.specs.Steps.Unrolling.{unroll}
 use Rattle.saphyr_scanner.specs.Steps.Document as document
-use Rattle.saphyr_scanner.specs.Steps.Fetch.{step, state_behind_content, fetch_here, arrive, fetch, begin, within, fetch_within, settled}
+use Rattle.saphyr_scanner.specs.Steps.Fetch.{step, state_behind_content, fetch_here, arrive, fetch, begin, within, fetch_within, without_far_key}
 use Rattle.saphyr_scanner.specs.TokensTaken as taken
 use Rattle.saphyr_scanner.specs.TokensTaken.{AreTokens, may_begin_plain}
 use Rattle.saphyr_scanner.proofs.Effects.Readers.{TextLaws}
@@ -170,7 +170,7 @@ pub record Ready (columns : List ℕ) (from : Cursor) (t : State) : Type 0 where
   pub over : t.core.ended ≡ true → OverAt columns from t.queue
 
 pub settled_ready : (columns : List ℕ) (from : Cursor) (s : State) → Read columns from s
-    → Given (Ready columns from) (settled s)
+    → Given (Ready columns from) (without_far_key s)
 unfolding drop_far_key
 settled_ready columns from s h =
     let c = s.core in
@@ -198,13 +198,14 @@ settled_ready columns from s h =
 
 pub read_ready : TextLaws → (text : List ℕ) → length text < 2 ^ 63
     → (limit : ℕ) (columns : List ℕ) (from : Cursor) (s : State) → LaterThan (fresh text) from → s.core.ended ≡ false
-    → Ready columns from s → Given (Ready columns from) (fetch_within limit s >>= settled)
+    → Ready columns from s → Given (Ready columns from) (fetch_within limit s >>= without_far_key)
 unfolding fetch_within
 read_ready laws text small limit columns from s l going h =
     by (fetch s) (fetch_read laws text small columns from s l going h.taken (h.live going))
   where
     by : (r : Result State Refusal) → Given (Read columns from) r
-        → Given (Ready columns from) ((r >>= within limit) >>= settled)
-    by (Ok t) k = by_test (nat_le t.core.cursor.mark.index limit) _ _ (λ r. Given (Ready columns from) (r >>= settled))
+        → Given (Ready columns from) ((r >>= within limit) >>= without_far_key)
+    by (Ok t) k = by_test (nat_le t.core.cursor.mark.index limit) _ _
+        (λ r. Given (Ready columns from) (r >>= without_far_key))
         (λ _. settled_ready columns from t k) (λ _. tt)
     by (Err e) k = tt

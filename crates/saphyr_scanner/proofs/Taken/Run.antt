@@ -9,7 +9,7 @@ use Rattle.saphyr_scanner.specs.Views.Tokens.{Piece, Remaining}
 use Rattle.saphyr_scanner.specs.Steps.Queue.{Place, closed}
 use Rattle.saphyr_scanner.specs.Steps.Core.{Candidate, Level, Core, is_block}
 use Rattle.saphyr_scanner.specs.Steps.State.{State, start}
-use Rattle.saphyr_scanner.specs.Steps.Fetch.{size, settled, needs_token, fetch_within, is_place, holds, any_holds}
+use Rattle.saphyr_scanner.specs.Steps.Fetch.{size, without_far_key, needs_token, fetch_within, is_place, holds, any_holds}
 use Rattle.saphyr_scanner.specs.Steps.Remaining.{before_place, hand_out, delivered, run, remaining, scan}
 use Rattle.saphyr_scanner.specs.TokensTaken as taken
 use Rattle.saphyr_scanner.specs.TokensTaken.{IsPlaceOf, AreTokens, IsEndOf, AreTakenFrom}
@@ -147,11 +147,11 @@ handed_follow text go c others columns from n (p ∷ ps) l h =
     (handed_follow text go c others (open_all (place_pieces p.opening p.piece) columns) w.between (n + 1) ps w.later
     w.ready))
 
-delivers : (text columns : List ℕ) (from : Cursor) (r : Result State Refusal) (go : State → Remaining)
+delivers_taken : (text columns : List ℕ) (from : Cursor) (r : Result State Refusal) (go : State → Remaining)
     → ((t : State) → r ≡ Ok t → Follows text columns from (go t))
     → ((e : Refusal) → r ≡ Err e → IsPlaceOf text e.mark) → Follows text columns from (delivered r go)
-delivers text columns from (Ok t) go h k = h t refl
-delivers text columns from (Err e) go h k =
+delivers_taken text columns from (Ok t) go h k = h t refl
+delivers_taken text columns from (Err e) go h k =
     (from, refl, (λ i. absurd (cc)), (λ f i. k f (let same : e ≡ f = cc in ap (λ (x : Refusal). Err x) same)))
 
 -- the laws of the readers
@@ -169,13 +169,13 @@ run_follows laws text small limit (suc fuel) columns from s l f h m =
     handed_follow text _ s.core
     (λ cs u n ps k over w.
     let t : State = holding s.core ps n in
-    let r = fetch_within limit t >>= settled in
+    let r = fetch_within limit t >>= without_far_key in
     by_test t.core.ended _ _ (Follows text cs u)
     (λ e. let P : List Place → Type 0 =
     λ qs. AreTokens cs (flat qs) u u in
     (u, refl, (λ _. w.over e u (subst P (sym (over e)) refl)), (λ f i. absurd (cc))))
     (λ e. let told = read_told laws.texts laws.refusals text small limit cs u t k.0 k.1 e w m in
-    delivers text cs u r (run fuel limit)
+    delivers_taken text cs u r (run fuel limit)
     (λ v q. let less = (given_of (Fetched t) r v (read_fetched limit t e) q).smaller laws.readers in
     run_follows laws text small limit fuel cs u v k (omega (arith, less, f))
     (given_of (Ready cs u) r v (read_ready laws.texts text small limit cs u t k.0 e w) q)
@@ -201,12 +201,12 @@ scan_follows laws limit text small =
     let s : State = start text in
     let here : Reaches (fresh text) (fresh text) = taken.nothing _ _ in
     let told = settled_told text s here (inl refl) in
-    delivers text [] (fresh text) (settled s) (λ t. run (suc (size t.core)) limit t)
+    delivers_taken text [] (fresh text) (without_far_key s) (λ t. run (suc (size t.core)) limit t)
     (λ t e. run_follows laws text small limit (suc (size t.core)) [] (fresh text) t
     (later_here (fresh text).mark text, here) (omega arith)
-    (given_of (Ready [] (fresh text)) (settled s) t (settled_ready [] (fresh text) s (start_read text)) e)
-    (told_ok NotedState (fresh text) (settled s) t told e))
-    (λ g q. place_of text g.mark (told_err NotedState (fresh text) (settled s) g told q))
+    (given_of (Ready [] (fresh text)) (without_far_key s) t (settled_ready [] (fresh text) s (start_read text)) e)
+    (told_ok NotedState (fresh text) (without_far_key s) t told e))
+    (λ g q. place_of text g.mark (told_err NotedState (fresh text) (without_far_key s) g told q))
 
 pub scan_taken : AllLaws → (limit : ℕ) (text : List ℕ) → length text < 2 ^ 63 → AreTakenFrom text (scan limit text)
 scan_taken laws limit text small =

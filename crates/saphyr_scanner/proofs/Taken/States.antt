@@ -14,7 +14,7 @@ use Rattle.saphyr_scanner.specs.Steps.Queue.{Place, Queue, closed, put, next, em
 use Rattle.saphyr_scanner.specs.Steps.Core.{Candidate, Level, Core, Step, perform, in_block, is_block, is_too_far}
 use Rattle.saphyr_scanner.specs.Steps.Passing.{with_cursor}
 use Rattle.saphyr_scanner.specs.Steps.Scalar as scalar
-use Rattle.saphyr_scanner.specs.Steps.State.{State, changed}
+use Rattle.saphyr_scanner.specs.Steps.State.{State, with_core}
 use Rattle.saphyr_scanner.specs.Steps.Unrolling.{unroll, end_blocks, end_block, is_right_of, outwards, less_deep}
 use Rattle.saphyr_scanner.specs.TokensTaken as taken
 use Rattle.saphyr_scanner.specs.TokensTaken.{AreTokens, IsToken, IsBlockScalarToken, IsPlaceOrEnd}
@@ -220,7 +220,7 @@ blocks_taken columns from column m (i ∷ is) s p h =
     (block_taken columns from m s p h)) (λ _. h)
 
 less_deep_taken : (columns : List ℕ) (from : Cursor) (column : Option ℕ) (s : State) → TakenState columns from s
-    → TakenState columns from (changed (less_deep column s.core) s)
+    → TakenState columns from (with_core (less_deep column s.core) s)
 less_deep_taken columns from None s h =
     taken_further columns from s.core (less_deep None s.core) s.queue (taken.nothing _ _) refl refl h
 less_deep_taken columns from (Some column) s h =
@@ -230,7 +230,7 @@ pub unroll_taken : (columns : List ℕ) (from : Cursor) (column : Option ℕ) (m
     → IsPlaceOrEnd s.core.cursor m → TakenState columns from s → TakenState columns from (unroll column m s)
 unfolding unroll
 unroll_taken columns from column m s p h =
-    let t : State = changed (less_deep column s.core) s in
+    let t : State = with_core (less_deep column s.core) s in
     by_test (in_block s.core) _ _ (TakenState columns from)
     (λ _. blocks_taken columns from column m s.core.outer_indents t
     (place_same s.core.cursor t.core.cursor m (less_deep_cursor column s.core) p)

@@ -5,7 +5,7 @@ use Rattle.saphyr_scalar.specs.declared.scalar.position.Marker.{Marker}
 use Rattle.saphyr_scalar.specs.declared.scalar.fault.Refusal.{Refusal}
 use Rattle.saphyr_scalar.specs.Views.Cursor.{Cursor, fresh, ◌>>=◌}
 use Rattle.saphyr_scanner.specs.Steps.Core.{Core, drop_far_key}
-use Rattle.saphyr_scanner.specs.Steps.Fetch.{fetch, fetch_within, within, settled}
+use Rattle.saphyr_scanner.specs.Steps.Fetch.{fetch, fetch_within, within, without_far_key}
 use Rattle.saphyr_scanner.specs.Steps.Queue.{Queue}
 use Rattle.saphyr_scanner.specs.Steps.State.{State}
 use Rattle.saphyr_scanner.proofs.Taken.Fetch.{Read, Ready, fetch_read}
@@ -44,7 +44,7 @@ noted_still c d s n =
     subst P (sym s.1) (subst Q (sym s.0) n)
 
 pub settled_told : (text : List ℕ) (t : State) → Reaches (fresh text) t.core.cursor → NotedState t
-    → Told NotedState (fresh text) (settled t)
+    → Told NotedState (fresh text) (without_far_key t)
 settled_told text t a n =
     carried_told Noted (fresh text) (drop_far_key t.core) t.queue (by (drop_far_key t.core) (drop_still t.core))
   where
@@ -55,7 +55,7 @@ settled_told text t a n =
 pub read_told : TextLaws → RefusalLaws → (text : List ℕ) → length text < 2 ^ 63
     → (limit : ℕ) (columns : List ℕ) (from : Cursor) (s : State) → LaterThan (fresh text) from
     → Reaches (fresh text) from → s.core.ended ≡ false → Ready columns from s → NotedState s
-    → Told NotedState (fresh text) (fetch_within limit s >>= settled)
+    → Told NotedState (fresh text) (fetch_within limit s >>= without_far_key)
 unfolding fetch_within
 read_told laws refusals text small limit columns from s l a going h n =
     by (fetch s) (fetch_read laws text small columns from s l going h.taken (h.live going))
@@ -64,11 +64,11 @@ read_told laws refusals text small limit columns from s l a going h n =
     (fetch_told laws refusals s n))
   where
     by : (r : Result State Refusal) → Given (Read columns from) r → Told NotedState (fresh text) r
-        → Told NotedState (fresh text) ((r >>= within limit) >>= settled)
+        → Told NotedState (fresh text) ((r >>= within limit) >>= without_far_key)
     by (Ok t) k m =
         let there = reaches_reaches (fresh text) from t.core.cursor a
         (taken_reached columns from t.core t.queue k.fetched.taken) in
-        by_test (nat_le t.core.cursor.mark.index limit) _ _ (λ r. Told NotedState (fresh text) (r >>= settled))
+        by_test (nat_le t.core.cursor.mark.index limit) _ _ (λ r. Told NotedState (fresh text) (r >>= without_far_key))
         (λ _. settled_told text t there m)
         (λ _. at_further (fresh text) t.core.cursor t.core.cursor.mark there (at_here t.core.cursor))
     by (Err e) k m = m

@@ -1,23 +1,19 @@
 -- What a step tells: what it gives, or a refusal at a place on the way from where it began.
 use Rattle.std.proofs.Common.{◌≡◌, ℕ, false, Option, Some, None, Result, Ok, Err, refl, sym, ◌∙◌, subst, inl, inr}
 use Rattle.std.specs.Prelude.{◌&&◌, not}
-use Rattle.saphyr_input.specs.declared.input.SkipTabs.{SkipTabs}
-use Rattle.saphyr_input.specs.declared.input.SkipTabs.TheVariants as tabs
 use Rattle.saphyr_scalar.specs.declared.scalar.position.Marker.{Marker}
 use Rattle.saphyr_scalar.specs.declared.scalar.fault.Refusal.{Refusal}
-use Rattle.saphyr_scalar.specs.Views.Cursor.{Cursor, ◌>>=◌, separation}
+use Rattle.saphyr_scalar.specs.Views.Cursor.{Cursor, ◌>>=◌}
 use Rattle.saphyr_scanner.specs.Steps.Gap as gaps
-use Rattle.saphyr_scanner.specs.Steps.Core.{Core, Step, Steps, in_block, is_too_far, remove_key, drop_far_key, least_column}
-use Rattle.saphyr_scanner.specs.Steps.Passing.{separate, with_cursor, pass_gap, check_comment, goes_on_behind, behind_gap, intercepts}
+use Rattle.saphyr_scanner.specs.Steps.Core.{Core, Step, Steps, in_block, is_too_far, drop_far_key, least_column}
+use Rattle.saphyr_scanner.specs.Steps.Passing.{pass_gap, check_comment, goes_on_behind, behind_gap, intercepts}
 use Rattle.saphyr_scanner.specs.TokensTaken.{AreApart}
 use Rattle.saphyr_scanner.proofs.GapPlaces.{Refused, gap_refused}
-use Rattle.saphyr_scanner.proofs.Effects.Readers.{RefusalLaws}
 use Rattle.saphyr_scanner.proofs.Effects.Walked.{Premises, Walked, Stepped}
-use Rattle.saphyr_scanner.proofs.LineTails.{OnLine, separation_passes}
 use Rattle.saphyr_scanner.proofs.PlainBehind.{IsNoted}
-use Rattle.saphyr_scanner.proofs.Reached.{apart_reached, passed_reached}
+use Rattle.saphyr_scanner.proofs.Reached.{apart_reached}
 use Rattle.saphyr_scanner.proofs.Taken.Separated.{gap_apart}
-use Rattle.saphyr_scanner.proofs.Taken.Places.{Reaches, reaches_reaches, At, at_here, at_further, at_reached, here_at}
+use Rattle.saphyr_scanner.proofs.Taken.Places.{Reaches, At, at_here, at_further, at_reached, here_at}
 use Rattle.saphyr_input.proofs.Basics.Booleans.{by_test}
 use Rattle.saphyr_scalar.proofs.Given.{Given}
 
@@ -67,29 +63,7 @@ drop_still c =
     by_test (not (in_block c && is_too_far c.level.key c.cursor.mark)) _ _ (Told (Still c) c.cursor) (λ _. (refl, refl))
     (λ _. by_test c.required _ _ (Told (Still c) c.cursor) (λ _. at_here c.cursor) (λ _. (refl, refl)))
 
-pub remove_still : (c : Core) → Told (Still c) c.cursor (remove_key c)
-unfolding remove_key
-remove_still c = by_test (in_block c && c.required) _ _ (Told (Still c) c.cursor) (λ _. at_here c.cursor)
-    (λ _. (refl, refl))
-
 -- ## What is passed
-
-pub separate_goes : RefusalLaws → (s : Cursor) (c : Core) → Goes s c
-    → Told (λ (x : SkipTabs × Core). Goes s x.1) s (separate c)
-separate_goes laws s c g = by (separation tabs.Yes c.cursor) refl (separation_passes c.cursor)
-  where
-    by : (r : Result (SkipTabs × Cursor) Refusal) → separation tabs.Yes c.cursor ≡ r
-        → Given (λ (x : SkipTabs × Cursor). OnLine c.cursor x.1) r
-        → Told (λ (x : SkipTabs × Core). Goes s x.1) s (r >>= λ x. Ok (x.0, with_cursor x.1 c))
-    by (Ok x) e h = (
-      reaches_reaches s c.cursor x.1 g.0
-          (apart_reached c.cursor.mark c.cursor.rest x.1.mark x.1.rest h.apart),
-      g.1,
-    )
-    by (Err e) f h =
-        let w = laws.separation tabs.Yes c.cursor e f in
-        at_further s c.cursor e.mark g.0
-        (at_reached c.cursor e.mark w.0 (passed_reached c.cursor.mark c.cursor.rest e.mark w.0 w.1))
 
 pub gap_told : (c : Core) → Noted c → Told (Goes c.cursor) c.cursor (pass_gap c)
 unfolding pass_gap check_comment
@@ -111,10 +85,3 @@ gap_told c n =
     by (Ok g) h k = checked c.comment (behind_gap c g) refl n
         (apart_reached c.cursor.mark c.cursor.rest g.cursor.mark g.cursor.rest h)
     by (Err e) h k = at_reached c.cursor e.mark k.0 k.1
-
-pub gap_goes : (s : Cursor) (c : Core) → Goes s c → Told (Goes s) s (pass_gap c)
-gap_goes s c g = further (pass_gap c) (gap_told c (inl g.1))
-  where
-    further : (r : Result Core Refusal) → Told (Goes c.cursor) c.cursor r → Told (Goes s) s r
-    further (Ok d) h = (reaches_reaches s c.cursor d.cursor g.0 h.0, h.1)
-    further (Err e) h = at_further s c.cursor e.mark g.0 h

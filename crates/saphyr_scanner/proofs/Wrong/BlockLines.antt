@@ -32,8 +32,8 @@ no_indicator n c xs (few, inl e) =
 no_indicator n c xs (few, inr e) =
     no_chomping c xs (digit_of n) e (λ k. no_digit n xs [] (k ∙ sym (append-nil (digit_of n))) (λ z. cc))
 
-no_tail : (xs : List ℕ) → IsLineTail (10 ∷ xs) → ⊥
-no_tail xs (blanks, comment, are, line, e) = by blanks are line e
+feed_is_no_tail : (xs : List ℕ) → IsLineTail (10 ∷ xs) → ⊥
+feed_is_no_tail xs (blanks, comment, are, line, e) = by blanks are line e
   where
     by : (blanks : List ℕ) → AreIn is_blank blanks → ((comment ≡ []) ⊎ IsTailComment blanks comment)
         → 10 ∷ xs ≡ blanks ++ comment → ⊥
@@ -66,7 +66,7 @@ bare_header n chomping behind body first (mark, indicators, tail, end, are, line
     by_tail (x ∷ xs) line e =
         absurd (let same : x ≡ 10 =
         heads 10 x body ((xs ++ end) ++ behind) e in let P : ℕ → Type 0 =
-        λ y. IsLineTail (y ∷ xs) in no_tail xs (subst P same line))
+        λ y. IsLineTail (y ∷ xs) in feed_is_no_tail xs (subst P same line))
 
     by_indicators : (indicators : List ℕ) → AreIndicators n chomping indicators
         → 10 ∷ body ≡ (indicators ++ (tail ++ end)) ++ behind → indicators ++ (tail ++ end) ≡ 10 ∷ []

@@ -26,13 +26,13 @@ first_byte c cs (b ∷ bs) ink e = by (is_blank_or_break b) refl
         let same = begins c b (encode_utf8_all cs) bs e (white_is_low b h) in
         absurd (let k : is_blank_or_break c ≡ true = ap is_blank_or_break same.0 ∙ h in cc)
 
-value_begins : (piece front others : List ℕ) (last : ℕ) (rest value : List ℕ) → piece ≡ front ++ last ∷ []
+value_begins_as_piece : (piece front others : List ℕ) (last : ℕ) (rest value : List ℕ) → piece ≡ front ++ last ∷ []
     → rest ≡ piece ++ others → is_blank_or_break (slice_index rest 0) ≡ false
     → encode_utf8_all (plain_value (normalized piece)) ≡ value
     → is_blank_or_break (slice_index value 0) ≡ false
-value_begins [] [] others last rest value e is ink v = absurd (cc)
-value_begins [] (x ∷ xs) others last rest value e is ink v = absurd (cc)
-value_begins (c ∷ cs) front others last rest value e is ink v =
+value_begins_as_piece [] [] others last rest value e is ink v = absurd (cc)
+value_begins_as_piece [] (x ∷ xs) others last rest value e is ink v = absurd (cc)
+value_begins_as_piece (c ∷ cs) front others last rest value e is ink v =
     let first : is_blank_or_break c ≡ false = sym (ap (λ l. is_blank_or_break (slice_index l 0)) is) ∙ ink in
     let told : folded (items (c ∷ cs)) ≡ c ∷ folded (items cs) = folded_word (c ∷ []) cs (first, tt) in
     first_byte c (folded (items cs)) value first (sym (ap encode_utf8_all told) ∙ v)
@@ -41,4 +41,4 @@ pub plain_value_ink : (value : List ℕ) (span : Span) (s t : Cursor) → IsPlai
     → is_blank_or_break (slice_index value 0) ≡ false
 plain_value_ink value span s t h =
     let r = h.reading in
-    value_begins r.piece r.front (r.white ++ t.rest) r.last s.rest value r.closes r.is h.is_ink r.value
+    value_begins_as_piece r.piece r.front (r.white ++ t.rest) r.last s.rest value r.closes r.is h.is_ink r.value

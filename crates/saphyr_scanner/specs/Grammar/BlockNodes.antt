@@ -2,8 +2,9 @@
 -- `behind` is what stands behind a piece, up to the text's end; `room` is how many flow collections may be open at
 -- once.
 use Rattle.std.specs.Prelude.{◌≡◌, ◌≢◌, ℕ, suc, ◌+◌, ◌<◌, ◌≤◌, ◌⊎◌, Bool, true, false, not, ◌==◌, ◌&&◌, ◌||◌, List, [], ◌∷◌, ◌++◌, length, IsTrue, IsFalse, codes}
-use Rattle.saphyr_input.specs.Classes.{is_blank, is_break, tab, space}
+use Rattle.saphyr_input.specs.Classes.{is_blank, is_break, tab, space, line_feed}
 use Rattle.saphyr_input.specs.Places.{is_document_indicator}
+use Rattle.saphyr_input.specs.Indicators.{number_sign}
 use Rattle.scalar_values.specs.declared.block.BlockStyle.{BlockStyle}
 use Rattle.scalar_values.specs.declared.block.BlockStyle.TheVariants as block
 use Rattle.scalar_values.specs.declared.block.Chomping.{Chomping}
@@ -95,7 +96,8 @@ IsFlowInBlock room node place t behind =
 -- filler up to the document's end whose first line has a tab left of the content.
 abbrev pub IsLineLeft : ℕ → ℕ → List ℕ → Type 0
 IsLineLeft indent i t =
-    (n c : ℕ) × (others : List ℕ) × IsFalse (is_blank c) × (c ≢ 10) × ((n < indent) ⊎ ((c ≡ 35) × (n < i)))
+    (n c : ℕ) × (others : List ℕ) × IsFalse (is_blank c) × (c ≢ line_feed)
+    × ((n < indent) ⊎ ((c ≡ number_sign) × (n < i)))
     × (t ≡ spaces n ++ (c ∷ others))
 
 -- filler, and behind it the text's end or a document marker
@@ -152,7 +154,8 @@ IsImplicitPair room key V m t behind =
 abbrev pub has_tab_ahead : Bool → List ℕ → Bool
 has_tab_ahead in_comment [] = false
 has_tab_ahead true (c ∷ cs) = has_tab_ahead (not (is_break c)) cs
-has_tab_ahead false (c ∷ cs) = (c == tab) || (((c == space) || is_break c || (c == 35)) && has_tab_ahead (c == 35) cs)
+has_tab_ahead false (c ∷ cs) =
+    (c == tab) || (((c == space) || is_break c || (c == number_sign)) && has_tab_ahead (c == number_sign) cs)
 
 -- Behind a `?` stands something, and no tab before the next token: that of the key or, where the key is left out, that
 -- of what stands behind it.

@@ -4,6 +4,7 @@
 use Rattle.std.specs.Prelude.{◌≡◌, ◌≢◌, ℕ, suc, ◌⊎◌, Bool, true, false, not, ◌==◌, ◌||◌, List, [], ◌∷◌, ◌++◌, IsTrue, IsFalse, Option, Some, None, codes}
 use Rattle.std.specs.List.{list_all}
 use Rattle.saphyr_input.specs.Classes.{is_blank, is_break, tab, line_feed}
+use Rattle.saphyr_input.specs.Indicators.{number_sign}
 use Rattle.saphyr_scalar.specs.Spelling.Tag.{AreIn, IsAnchorName}
 use Rattle.saphyr_scalar.specs.Spelling.Spaces.{AreSpaces, IsSeparation}
 use Rattle.saphyr_scanner.specs.Grammar.Forest.{Style, Plain, SingleQuoted, DoubleQuoted, Tag, Properties, no_properties, Node, Alias, Scalar, Seq, Map, Nodes, NoNode, MoreNodes, Pairs, NoPair, MorePairs, left_out}
@@ -114,7 +115,7 @@ IsValueAlone key value V indent t = (key ≡ left_out) × IsColonAndValue false 
 abbrev pub has_tab_outside : Bool → List ℕ → Bool
 has_tab_outside in_comment [] = false
 has_tab_outside true (c ∷ cs) = has_tab_outside (not (is_break c)) cs
-has_tab_outside false (c ∷ cs) = (c == tab) || has_tab_outside (c == 35) cs
+has_tab_outside false (c ∷ cs) = (c == tab) || has_tab_outside (c == number_sign) cs
 
 -- the separation behind a `?`; tabs stand in its comments alone
 abbrev pub IsBehindMark : ℕ → List ℕ → Type 0

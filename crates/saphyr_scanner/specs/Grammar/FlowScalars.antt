@@ -2,6 +2,7 @@
 -- `indent` is the first column to the right of the enclosing block collection, and 0 at the root.
 use Rattle.std.specs.Prelude.{◌≡◌, ◌≢◌, ℕ, Bool, not, ◌⊎◌, List, [], ◌∷◌, ◌++◌, slice_index, IsTrue, codes}
 use Rattle.saphyr_input.specs.Classes.{is_one_of, is_blank}
+use Rattle.saphyr_input.specs.Indicators.{number_sign}
 use Rattle.scalar_values.specs.declared.folding.Item.{Item}
 use Rattle.scalar_values.specs.declared.flow.Quote.{Quote}
 use Rattle.scalar_values.specs.declared.flow.Quote.TheVariants.{Single, Double}
@@ -54,7 +55,7 @@ IsPlain in_flow indent t =
 
 -- a key's last word, whose last character may be a colon, and which may be a lone `-`, `?` or `:`
 abbrev pub IsLastWord : Bool → List ℕ → Type 0
-IsLastWord in_flow word = (word ≢ []) × AreIn (is_word_ink in_flow) word × (slice_index word 0 ≢ 35)
+IsLastWord in_flow word = (word ≢ []) × AreIn (is_word_ink in_flow) word × (slice_index word 0 ≢ number_sign)
 
 -- A plain scalar that is a key, with the key's colon right behind it: words and a last one, or one word, which may be a
 -- lone `-`, `?` or `:` too.

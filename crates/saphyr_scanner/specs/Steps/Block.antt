@@ -1,8 +1,9 @@
 -- The indicators of block collections (YAML 1.2.2, 8.2).
 use Rattle.std.specs.Prelude.{Bool, true, false, ◌||◌, ◌&&◌, ◌==◌, not, List, [], ◌∷◌, Result, Ok, slice_index, if◌then◌else◌}
-use Rattle.saphyr_input.specs.Classes.{is_break, is_flow, is_blank_or_breakz}
+use Rattle.saphyr_input.specs.Classes.{is_break, is_flow, is_blank_or_breakz, tab}
 use Rattle.saphyr_input.specs.Separation.{found_tabs}
 use Rattle.saphyr_input.specs.declared.input.SkipTabs.{SkipTabs}
+use Rattle.saphyr_input.specs.Indicators.{hyphen}
 use Rattle.saphyr_scalar.specs.declared.scalar.position.Marker.{Marker}
 use Rattle.saphyr_scalar.specs.declared.scalar.fault.Refusal.{Refusal}
 use Rattle.saphyr_scalar.specs.declared.scalar.fault.FaultText.TheVariants as fault
@@ -17,7 +18,7 @@ use Rattle.saphyr_scanner.specs.Steps.Passing.{separate, pass_on, with_cursor}
 
 -- a `-` stands here as an indicator
 abbrev pub is_dash_next : Core → Bool
-is_dash_next c = (slice_index c.cursor.rest 0 == 45) && is_blank_or_breakz (slice_index c.cursor.rest 1)
+is_dash_next c = (slice_index c.cursor.rest 0 == hyphen) && is_blank_or_breakz (slice_index c.cursor.rest 1)
 
 -- Content on a later line, and flow collections, have to stand right of the `-`.
 abbrev pub deepen : Core → Core
@@ -60,7 +61,7 @@ behind_question x = x
 unfoldable pub behind_mark : Bool → Core → Result Core Refusal
 behind_mark space c =
     if not space then refuse fault.WhitespaceExpected c.cursor.mark
-    else if slice_index c.cursor.rest 0 == 9 then refuse fault.TabNotAllowed c.cursor.mark
+    else if slice_index c.cursor.rest 0 == tab then refuse fault.TabNotAllowed c.cursor.mark
     else Ok c
 
 abbrev pub pass_question : Core → Result Core Refusal

@@ -12,7 +12,7 @@ use Rattle.saphyr_scanner.specs.Grammar.Tokens as tokens
 use Rattle.saphyr_scanner.specs.Grammar.Tokens.{Kind}
 use Rattle.saphyr_scanner.specs.Steps.Core.{Core, Steps, went, at_mark, from_to, up_to_here, in_block, remove_key}
 use Rattle.saphyr_scanner.specs.Steps.Passing.{separate, pass_on, with_cursor}
-use Rattle.saphyr_scanner.specs.Steps.State.{State, changed, acting, carried, separated, acted}
+use Rattle.saphyr_scanner.specs.Steps.State.{State, with_core, with_action, carried, on_core_with, acted}
 use Rattle.saphyr_scanner.specs.Steps.Unrolling.{unroll}
 
 abbrev pub remove_key_of : State → Result State Refusal
@@ -26,11 +26,11 @@ end_content s = remove_key_of (unroll None s.core.cursor.mark s)
 abbrev pub end_mark : Marker → Marker
 end_mark m = if m.col == 0 then m else next_line m 0
 
-abbrev pub finished : Core → Core
-finished c = record c { key_allowed = false; ended = true }
+abbrev pub core_at_end : Core → Core
+core_at_end c = record c { key_allowed = false; ended = true }
 
 abbrev pub finish : Marker → State → State
-finish m s = acting (at_mark m tokens.StreamEnd) (changed (finished s.core) s)
+finish m s = with_action (at_mark m tokens.StreamEnd) (with_core (core_at_end s.core) s)
 
 unfoldable pub end_at : Marker → State → Result State Refusal
 end_at m s = if s.core.required then refuse fault.KeyExpected m else Ok (finish m (unroll None m s))
@@ -46,7 +46,7 @@ pass_marker c = record (pass_on 3 c) { key_allowed = false }
 
 -- the token of what was passed
 abbrev pub put_passed : Marker → Kind → Core → State → State
-put_passed m kind c s = acting (up_to_here m kind c) (changed c s)
+put_passed m kind c s = with_action (up_to_here m kind c) (with_core c s)
 
 -- `---` or `...`
 unfoldable pub marker : Kind → State → Result State Refusal
@@ -59,7 +59,7 @@ end_line x =
 
 -- `...`, and what stands behind it on its line
 unfoldable pub end_marker : State → Result State Refusal
-end_marker s = marker tokens.DocumentEnd s >>= λ t. separated (separate t.core) t >>= end_line
+end_marker s = marker tokens.DocumentEnd s >>= λ t. on_core_with (separate t.core) t >>= end_line
 
 abbrev pub pass_mark : Core → Core
 pass_mark c = record (with_cursor (pass_byte_order_mark c.cursor) c) { key_allowed = true }

@@ -2,6 +2,7 @@
 use Rattle.std.specs.Prelude.{ℕ, zero, suc, ◌+◌, Bool, true, false, ◌||◌, ◌&&◌, ◌==◌, not, nat_lt, nat_le, List, [], ◌∷◌, length, slice_index, Option, Some, None, Result, Ok, if◌then◌else◌}
 use Rattle.saphyr_input.specs.Classes.{is_z, is_bom, is_flow, is_blank_or_breakz}
 use Rattle.saphyr_input.specs.Places.{is_document_start, is_document_end}
+use Rattle.saphyr_input.specs.Indicators.{ampersand, apostrophe, asterisk, at_sign, colon, comma, exclamation_mark, grave_accent, greater_than, hyphen, left_brace, left_bracket, percent_sign, question_mark, quotation_mark, right_brace, right_bracket, vertical_bar}
 use Rattle.saphyr_scalar.specs.declared.scalar.fault.Refusal.{Refusal}
 use Rattle.saphyr_scalar.specs.declared.scalar.fault.FaultText.TheVariants as fault
 use Rattle.saphyr_scalar.specs.Views.Cursor.{◌>>=◌, refuse}
@@ -12,7 +13,7 @@ use Rattle.saphyr_scanner.specs.Steps.Queue as queue
 use Rattle.saphyr_scanner.specs.Steps.Queue.{Queue, next}
 use Rattle.saphyr_scanner.specs.Steps.Core.{Candidate, Level, Core, Steps, at_mark, in_block, is_too_far, least_column, drop_far_key}
 use Rattle.saphyr_scanner.specs.Steps.Passing.{pass_gap}
-use Rattle.saphyr_scanner.specs.Steps.State.{State, changed, acting, carried, acted}
+use Rattle.saphyr_scanner.specs.Steps.State.{State, with_core, with_action, carried, acted}
 use Rattle.saphyr_scanner.specs.Steps.Unrolling.{unroll}
 use Rattle.saphyr_scanner.specs.Steps.Document as document
 use Rattle.saphyr_scanner.specs.Steps.Flow as flow
@@ -31,30 +32,31 @@ is_value_adjacent second c = not (in_block c) && (is_flow second || (c.cursor.ma
 -- a colon inside flow that no blank follows
 unfoldable pub flow_value : ℕ → Core → Steps
 flow_value second c =
-    if not (c.cursor.mark.index == c.adjacent) && ((second == 91) || (second == 123)) then refuse fault.ColonBeforeFlow
-    c.cursor.mark
+    if not (c.cursor.mark.index == c.adjacent) && ((second == left_bracket) || (second == left_brace)) then
+    refuse fault.ColonBeforeFlow c.cursor.mark
     else value.value_steps c
 
 -- what the first character begins, with the second at hand, and the number of the place of its token
 unfoldable pub step : ℕ → ℕ → ℕ → Core → Steps
 step first second n c =
-    if first == 91 then flow.opening_steps context.FlowSequence tokens.FlowSequenceStart n c
-    else if first == 123 then flow.opening_steps context.FlowMapping tokens.FlowMappingStart n c
-    else if first == 93 then flow.closing_steps true tokens.FlowSequenceEnd c
-    else if first == 125 then flow.closing_steps false tokens.FlowMappingEnd c
-    else if first == 44 then flow.flow_entry_steps c
-    else if (first == 45) && is_blank_or_breakz second then block.entry c
-    else if (first == 63) && is_blank_or_breakz second then block.key c
-    else if (first == 58) && is_blank_or_breakz second then value.value_steps c
-    else if (first == 58) && is_value_adjacent second c then flow_value second c
-    else if first == 34 then scalar.double_quoted_steps n c
-    else if first == 39 then scalar.single_quoted_steps n c
-    else if first == 42 then property.name_steps true n c
-    else if first == 38 then property.name_steps false n c
-    else if first == 33 then property.tag_steps n c
-    else if (first == 124) && in_block c then scalar.block_scalar_steps block_style.Literal n c
-    else if (first == 62) && in_block c then scalar.block_scalar_steps block_style.Folded n c
-    else if (first == 37) || (first == 64) || (first == 96) then refuse (fault.UnexpectedCharacter first) c.cursor.mark
+    if first == left_bracket then flow.opening_steps context.FlowSequence tokens.FlowSequenceStart n c
+    else if first == left_brace then flow.opening_steps context.FlowMapping tokens.FlowMappingStart n c
+    else if first == right_bracket then flow.closing_steps true tokens.FlowSequenceEnd c
+    else if first == right_brace then flow.closing_steps false tokens.FlowMappingEnd c
+    else if first == comma then flow.flow_entry_steps c
+    else if (first == hyphen) && is_blank_or_breakz second then block.entry c
+    else if (first == question_mark) && is_blank_or_breakz second then block.key c
+    else if (first == colon) && is_blank_or_breakz second then value.value_steps c
+    else if (first == colon) && is_value_adjacent second c then flow_value second c
+    else if first == quotation_mark then scalar.double_quoted_steps n c
+    else if first == apostrophe then scalar.single_quoted_steps n c
+    else if first == asterisk then property.name_steps true n c
+    else if first == ampersand then property.name_steps false n c
+    else if first == exclamation_mark then property.tag_steps n c
+    else if (first == vertical_bar) && in_block c then scalar.block_scalar_steps block_style.Literal n c
+    else if (first == greater_than) && in_block c then scalar.block_scalar_steps block_style.Folded n c
+    else if (first == percent_sign) || (first == at_sign) || (first == grave_accent) then
+    refuse (fault.UnexpectedCharacter first) c.cursor.mark
     else scalar.plain_steps n c
 
 unfoldable pub state_behind_content : ℕ → ℕ → State → Result State Refusal
@@ -66,7 +68,7 @@ fetch_here s =
     let c = s.core in let t = c.cursor.rest in let at_start = c.cursor.mark.col == 0 in
     if is_z (slice_index t 0) then document.end_stream s
     else if is_bom (slice_index t 0) then document.state_behind_byte_order_mark s
-    else if at_start && (slice_index t 0 == 37) then document.state_behind_directive s
+    else if at_start && (slice_index t 0 == percent_sign) then document.state_behind_directive s
     else if at_start && is_document_start t then document.marker tokens.DocumentStart s
     else if at_start && is_document_end t then document.end_marker s
     else if nat_lt c.cursor.mark.col (least_column c) then refuse fault.InvalidIndentation c.cursor.mark
@@ -78,7 +80,7 @@ arrive s = carried (pass_gap s.core >>= drop_far_key) s.queue >>= λ t. Ok
     (unroll (Some t.core.cursor.mark.col) t.core.cursor.mark t)
 
 abbrev pub begin : State → State
-begin s = acting (at_mark s.core.cursor.mark tokens.StreamStart) (changed (record s.core { started = true }) s)
+begin s = with_action (at_mark s.core.cursor.mark tokens.StreamStart) (with_core (record s.core { started = true }) s)
 
 -- the next token is put into the queue
 unfoldable pub fetch : State → Result State Refusal
@@ -117,8 +119,8 @@ needs_token s = not s.core.ended && (queue.is_empty s.queue || is_held s)
 abbrev pub is_ready : State → Bool
 is_ready s = not (in_block s.core && is_too_far s.core.level.key s.core.cursor.mark) && not (needs_token s)
 
-abbrev pub settled : State → Result State Refusal
-settled s = carried (drop_far_key s.core) s.queue
+abbrev pub without_far_key : State → Result State Refusal
+without_far_key s = carried (drop_far_key s.core) s.queue
 
 abbrev pub fill_by : (State → Result State Refusal) → State → Result State Refusal
 fill_by go s = if needs_token s then go s else Ok s
@@ -126,7 +128,7 @@ fill_by go s = if needs_token s then go s else Ok s
 -- tokens are read, n at most, until the first can be handed out
 abbrev pub fill_in : ℕ → ℕ → State → Result State Refusal
 fill_in zero limit s = Ok s
-fill_in (suc n) limit s = fill_by (λ t. fetch_within limit t >>= settled >>= fill_in n limit) s
+fill_in (suc n) limit s = fill_by (λ t. fetch_within limit t >>= without_far_key >>= fill_in n limit) s
 
 -- how many tokens come at most: each has a character, but the stream's start and its end
 abbrev pub size : Core → ℕ
@@ -134,7 +136,7 @@ size c = length c.cursor.rest + (if c.started then 0 else 1) + (if c.ended then 
 
 -- the queue has a token at its head that can be handed out, unless all were
 unfoldable pub fill : ℕ → State → Result State Refusal
-fill limit s = settled s >>= λ t. fill_in (suc (size t.core)) limit t
+fill limit s = without_far_key s >>= λ t. fill_in (suc (size t.core)) limit t
 
 -- the first token is taken off
 abbrev pub take_token : State → Option Piece × State

@@ -1,6 +1,7 @@
 -- What stands between two tokens: blanks, breaks and comments (YAML 1.2.2, 6.7).
 use Rattle.std.specs.Prelude.{ℕ, Bool, true, false, ◌||◌, ◌&&◌, ◌==◌, not, nat_lt, List, [], ◌∷◌, slice_index, Result, Ok, if◌then◌else◌}
-use Rattle.saphyr_input.specs.Classes.{is_blank, is_break, is_bom, is_z, is_yaml_non_break}
+use Rattle.saphyr_input.specs.Classes.{is_blank, is_break, is_bom, is_z, is_yaml_non_break, carriage_return, line_feed, space, tab}
+use Rattle.saphyr_input.specs.Indicators.{number_sign}
 use Rattle.saphyr_scalar.specs.declared.scalar.position.Marker.{Marker}
 use Rattle.saphyr_scalar.specs.declared.scalar.fault.Refusal.{Refusal}
 use Rattle.saphyr_scalar.specs.declared.scalar.fault.FaultText.TheVariants as fault
@@ -27,17 +28,17 @@ stop_at broke tabbed s = stop s.mark s.blank_so_far broke tabbed s.rest
 
 -- a tab left of the column that content has to reach
 abbrev pub is_tab_indentation : ℕ → Marker → Bool → ℕ → Bool
-is_tab_indentation least m blank c = (c == 9) && blank && nat_lt m.col least
+is_tab_indentation least m blank c = (c == tab) && blank && nat_lt m.col least
 
 -- Told character by character. CR before LF counts as a character of its line, and the LF ends the line.
 abbrev mutual
   pub gap : ℕ → Marker → Bool → Bool → Bool → List ℕ → Result Passed Refusal
   gap least m blank broke tabbed [] = stop m blank broke tabbed []
   gap least m blank broke tabbed (c ∷ cs) =
-      if is_blank c || ((c == 13) && (slice_index cs 0 == 10)) then gap least (along m 1) blank broke
-      (is_tab_indentation least m blank c || tabbed) cs
+      if is_blank c || ((c == carriage_return) && (slice_index cs 0 == line_feed)) then
+      gap least (along m 1) blank broke (is_tab_indentation least m blank c || tabbed) cs
       else if is_break c then gap least (next_line m 1) true true false cs
-      else if c == 35 then comment least (along m 1) blank broke tabbed cs
+      else if c == number_sign then comment least (along m 1) blank broke tabbed cs
       else stop m blank broke tabbed (c ∷ cs)
 
   -- behind the `#` of a comment
@@ -45,7 +46,7 @@ abbrev mutual
   comment least m blank broke tabbed [] = stop m blank broke tabbed []
   comment least m blank broke tabbed (c ∷ cs) =
       if is_yaml_non_break c then comment least (along m 1) blank broke tabbed cs
-      else if (c == 13) && (slice_index cs 0 == 10) then gap least (along m 1) blank broke tabbed cs
+      else if (c == carriage_return) && (slice_index cs 0 == line_feed) then gap least (along m 1) blank broke tabbed cs
       else if is_break c then gap least (next_line m 1) true true false cs
       else stop m blank broke tabbed (c ∷ cs)
 
@@ -63,24 +64,25 @@ pub record Spaced : Type 0 where
   pub space : Bool
 
 abbrev pub spaced : Marker → Bool → Bool → List ℕ → Spaced
-spaced m blank space text = record { cursor = record { rest = text; mark = m; blank_so_far = blank }; space = space }
+spaced m blank found text = record { cursor = record { rest = text; mark = m; blank_so_far = blank }; space = found }
 
 abbrev mutual
   pub spaces : Marker → Bool → Bool → List ℕ → Spaced
-  spaces m blank space [] = spaced m blank space []
-  spaces m blank space (c ∷ cs) =
-      if (c == 32) || ((c == 13) && (slice_index cs 0 == 10)) then spaces (along m 1) blank true cs
+  spaces m blank found [] = spaced m blank found []
+  spaces m blank found (c ∷ cs) =
+      if (c == space) || ((c == carriage_return) && (slice_index cs 0 == line_feed)) then
+      spaces (along m 1) blank true cs
       else if is_break c then spaces (next_line m 1) true true cs
-      else if c == 35 then line_comment (along m 1) blank space cs
-      else spaced m blank space (c ∷ cs)
+      else if c == number_sign then line_comment (along m 1) blank found cs
+      else spaced m blank found (c ∷ cs)
 
   pub line_comment : Marker → Bool → Bool → List ℕ → Spaced
-  line_comment m blank space [] = spaced m blank space []
-  line_comment m blank space (c ∷ cs) =
-      if is_yaml_non_break c then line_comment (along m 1) blank space cs
-      else if (c == 13) && (slice_index cs 0 == 10) then spaces (along m 1) blank true cs
+  line_comment m blank found [] = spaced m blank found []
+  line_comment m blank found (c ∷ cs) =
+      if is_yaml_non_break c then line_comment (along m 1) blank found cs
+      else if (c == carriage_return) && (slice_index cs 0 == line_feed) then spaces (along m 1) blank true cs
       else if is_break c then spaces (next_line m 1) true true cs
-      else spaced m blank space (c ∷ cs)
+      else spaced m blank found (c ∷ cs)
 
 abbrev pub spaces_at : Bool → Cursor → Spaced
-spaces_at space s = spaces s.mark s.blank_so_far space s.rest
+spaces_at found s = spaces s.mark s.blank_so_far found s.rest

@@ -9,7 +9,7 @@ use Rattle.saphyr_scanner.specs.Grammar.Tokens.{Kind}
 use Rattle.saphyr_scanner.specs.Views.Tokens.{Piece, Remaining, none, refused, before}
 use Rattle.saphyr_scanner.specs.Steps.Queue.{Place, empty_piece}
 use Rattle.saphyr_scanner.specs.Steps.State.{State, start}
-use Rattle.saphyr_scanner.specs.Steps.Fetch.{needs_token, fetch_within, settled, size}
+use Rattle.saphyr_scanner.specs.Steps.Fetch.{needs_token, fetch_within, without_far_key, size}
 
 -- the tokens of a place, in front of others
 abbrev pub before_place : Opening → Piece → Remaining → Remaining
@@ -39,10 +39,10 @@ delivered (Err e) go = refused e
 abbrev pub run : ℕ → ℕ → State → Remaining
 run zero limit s = none
 run (suc n) limit s = hand_out s.queue.places
-    (λ t. if t.core.ended then none else delivered (fetch_within limit t >>= settled) (run n limit)) s
+    (λ t. if t.core.ended then none else delivered (fetch_within limit t >>= without_far_key) (run n limit)) s
 
 unfoldable pub remaining : ℕ → State → Remaining
-remaining limit s = delivered (settled s) (λ t. run (suc (size t.core)) limit t)
+remaining limit s = delivered (without_far_key s) (λ t. run (suc (size t.core)) limit t)
 
 -- the tokens of a text
 abbrev pub scan : ℕ → List ℕ → Remaining

@@ -1,6 +1,7 @@
 -- Scalars as tokens (YAML 1.2.2, chapters 7 and 8).
 use Rattle.std.specs.Prelude.{ℕ, Bool, true, false, ◌||◌, ◌&&◌, ◌==◌, not, nat_lt, List, [], ◌∷◌, Option, slice_index, if◌then◌else◌}
 use Rattle.saphyr_input.specs.Classes.{is_breakz}
+use Rattle.saphyr_input.specs.Indicators.{colon, comma, right_brace, right_bracket}
 use Rattle.saphyr_scalar.specs.declared.scalar.position.Marker.{Marker}
 use Rattle.saphyr_scalar.specs.declared.scalar.fault.FaultText.TheVariants as fault
 use Rattle.saphyr_scalar.specs.declared.scalar.style.ScalarStyle.{ScalarStyle}
@@ -25,8 +26,8 @@ disallow_key c = record c { key_allowed = false }
 unfoldable pub goes_on_behind_quotes : Marker → Core → Bool
 goes_on_behind_quotes start c =
     let x = slice_index c.cursor.rest 0 in
-    if in_block c then is_breakz x || ((x == 58) && (start.line == c.cursor.mark.line))
-    else is_breakz x || (x == 58) || (x == 44) || (x == 93) || (x == 125)
+    if in_block c then is_breakz x || ((x == colon) && (start.line == c.cursor.mark.line))
+    else is_breakz x || (x == colon) || (x == comma) || (x == right_bracket) || (x == right_brace)
 
 -- Where a colon may stand right behind a quoted scalar, also on a later line.
 abbrev pub adjacent_here : Core → Core

@@ -14,11 +14,11 @@ pub record State : Type 0 where
 abbrev pub start : List ℕ → State
 start text = record { core = core.core_at_start text; queue = queue.empty }
 
-abbrev pub changed : Core → State → State
-changed c s = record { core = c; queue = s.queue }
+abbrev pub with_core : Core → State → State
+with_core c s = record { core = c; queue = s.queue }
 
-abbrev pub acting : Action → State → State
-acting a s = record { core = s.core; queue = act a s.queue }
+abbrev pub with_action : Action → State → State
+with_action a s = record { core = s.core; queue = act a s.queue }
 
 -- what a change of the core gives, with the queue as it was
 abbrev pub carried : Result Core Refusal → Queue → Result State Refusal
@@ -26,9 +26,9 @@ carried (Ok c) q = Ok (record { core = c; queue = q })
 carried (Err e) q = Err e
 
 -- the same, of a change that tells something
-abbrev pub separated : {X : Type 0} → Result (X × Core) Refusal → State → Result (X × State) Refusal
-separated (Ok x) s = Ok (x.0, changed x.1 s)
-separated (Err e) s = Err e
+abbrev pub on_core_with : {X : Type 0} → Result (X × Core) Refusal → State → Result (X × State) Refusal
+on_core_with (Ok x) s = Ok (x.0, with_core x.1 s)
+on_core_with (Err e) s = Err e
 
 -- what a step gives, with what it does to the queue
 abbrev pub acted : Steps → Queue → Result State Refusal

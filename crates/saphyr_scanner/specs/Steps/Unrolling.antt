@@ -3,7 +3,7 @@ use Rattle.std.specs.Prelude.{ℕ, ◌-◌, Bool, false, ◌&&◌, nat_lt, nat_l
 use Rattle.saphyr_scalar.specs.declared.scalar.position.Marker.{Marker}
 use Rattle.saphyr_scanner.specs.Grammar.Tokens.{BlockEnd}
 use Rattle.saphyr_scanner.specs.Steps.Core.{Core, in_block, at_mark}
-use Rattle.saphyr_scanner.specs.Steps.State.{State, changed, acting}
+use Rattle.saphyr_scanner.specs.Steps.State.{State, with_core, with_action}
 
 -- a block collection with this indentation stands to the right of a column, and each does where there is none
 abbrev pub is_right_of : Option ℕ → ℕ → Bool
@@ -17,7 +17,7 @@ outwards (i ∷ is) c = record c { indent = i; outer_indents = is }
 
 -- the innermost block collection ends
 abbrev pub end_block : Marker → State → State
-end_block m s = changed (outwards s.core.outer_indents s.core) (acting (at_mark m BlockEnd) s)
+end_block m s = with_core (outwards s.core.outer_indents s.core) (with_action (at_mark m BlockEnd) s)
 
 -- Block collections end, as long as they stand to the right of a column. There are as many as a list is long, and one.
 abbrev pub end_blocks : Option ℕ → Marker → List ℕ → State → State
@@ -32,4 +32,4 @@ less_deep (Some column) c = record c { deeper = c.deeper && nat_le c.indent colu
 -- the block collections to the right of a column end
 unfoldable pub unroll : Option ℕ → Marker → State → State
 unroll column m s = if in_block s.core then end_blocks column m s.core.outer_indents
-    (changed (less_deep column s.core) s) else s
+    (with_core (less_deep column s.core) s) else s

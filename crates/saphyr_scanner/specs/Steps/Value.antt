@@ -1,8 +1,9 @@
 -- The colon between a key and its value (YAML 1.2.2, 7.4.2 and 8.2.2).
 use Rattle.std.specs.Prelude.{ℕ, Bool, true, false, ◌||◌, ◌&&◌, ◌==◌, not, nat_lt, List, [], ◌∷◌, ◌++◌, Option, Some, None, Result, Ok, slice_index, if◌then◌else◌}
-use Rattle.saphyr_input.specs.Classes.{is_alpha}
+use Rattle.saphyr_input.specs.Classes.{is_alpha, tab}
 use Rattle.saphyr_input.specs.declared.input.SkipTabs.{SkipTabs}
 use Rattle.saphyr_input.specs.Separation.{has_valid_yaml_ws}
+use Rattle.saphyr_input.specs.Indicators.{hyphen}
 use Rattle.saphyr_scalar.specs.declared.scalar.position.Marker.{Marker}
 use Rattle.saphyr_scalar.specs.declared.scalar.fault.Refusal.{Refusal}
 use Rattle.saphyr_scalar.specs.declared.scalar.fault.FaultText.TheVariants as fault
@@ -30,12 +31,12 @@ behind_colon x = x
 abbrev pub refuse_lone_tab : SkipTabs × Core → Result Core Refusal
 refuse_lone_tab x =
     if in_block x.1 && not (has_valid_yaml_ws x.0)
-    && ((slice_index x.1.cursor.rest 0 == 45) || is_alpha (slice_index x.1.cursor.rest 0))
+    && ((slice_index x.1.cursor.rest 0 == hyphen) || is_alpha (slice_index x.1.cursor.rest 0))
     then refuse fault.ColonWithoutWhitespace x.1.cursor.mark
     else Ok x.1
 
 unfoldable pub check_tab : Core → Result Core Refusal
-check_tab c = if slice_index c.cursor.rest 0 == 9 then (separate c >>= refuse_lone_tab) else Ok c
+check_tab c = if slice_index c.cursor.rest 0 == tab then (separate c >>= refuse_lone_tab) else Ok c
 
 -- what stands in front of the key
 abbrev pub opening_of : Bool → ℕ → Core → Opening

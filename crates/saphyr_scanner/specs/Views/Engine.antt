@@ -56,6 +56,6 @@ abbrev pub ActsBy
 ActsBy f = MovesBy (λ s. acted (f s.core) s.queue)
 
 -- what a call answers by `true`, or by `false` and the stop that the engine keeps
-abbrev pub answered : Bool → Stop → Result Unit Stop
-answered true stop = Ok tt
-answered false stop = Err stop
+abbrev pub answer_of : Bool → Stop → Result Unit Stop
+answer_of true stop = Ok tt
+answer_of false stop = Err stop

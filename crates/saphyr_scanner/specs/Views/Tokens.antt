@@ -58,14 +58,14 @@ abbrev pub before : Piece → Remaining → Remaining
 before t r = record { pieces = t ∷ r.pieces; refusal = r.refusal }
 
 -- the token in a place, if one was written there
-abbrev pub written : Bool → Token → Option Token
-written false t = None
-written true t = Some t
+abbrev pub written_token : Bool → Token → Option Token
+written_token false t = None
+written_token true t = Some t
 
 -- the same of a call
-abbrev pub handed : Token → Result Bool Stop → Result (Option Token) Stop
-handed t (Ok is_written) = Ok (written is_written t)
-handed t (Err e) = Err e
+abbrev pub handed_token : Token → Result Bool Stop → Result (Option Token) Stop
+handed_token t (Ok is_written) = Ok (written_token is_written t)
+handed_token t (Err e) = Err e
 
 -- what a call for the next token hands out, and what remains; behind a refusal nothing is known
 abbrev pub Hands : Result (Option Token) Stop → Remaining → Remaining → Type 0

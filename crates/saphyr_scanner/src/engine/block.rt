@@ -62,7 +62,7 @@ impl<T: Input> Engine<T> {
 
     // Content on a later line, and flow collections, have to stand right of the `-`.
     fn deepen(&mut self)
-        ensures { state self.new ≡ spec_state.changed (block.deepen (state self.old).core)
+        ensures { state self.new ≡ spec_state.with_core (block.deepen (state self.old).core)
             (state self.old) }
     {
         let c = self.reader.look();

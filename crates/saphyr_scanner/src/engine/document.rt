@@ -2,6 +2,7 @@
 //! the text (YAML 1.2.2, 6.8 and chapter 9).
 
 ghost use Rattle.std.specs.Prelude.{◌≡◌, ◌≤◌, ◌<◌, length, slice_index, None, IfOk};
+ghost use Rattle.saphyr_input.specs.Indicators.{percent_sign};
 ghost use Rattle.saphyr_scanner.specs.Steps.Document as document;
 ghost use Rattle.saphyr_scanner.specs.Views.Tokens.{kind_of};
 ghost use Rattle.saphyr_scalar.specs.Steps.Directive.{directive_of};
@@ -79,7 +80,7 @@ impl<T: Input> Engine<T> {
     // `%` and the rest of a directive's line.
     #[tactic(auto, using(crate::proofs::Blocks::unrolled_cursor), unfolding(crate::specs::Steps::Document::state_behind_directive, crate::specs::Steps::Document::read_directive, crate::specs::Steps::Document::end_content, crate::specs::Steps::Core::remove_key))]
     pub(super) fn fetch_directive(&mut self) -> Result<(), Stop>
-        requires { slice_index (state self.old).core.cursor.rest 0 ≡ 37 }
+        requires { slice_index (state self.old).core.cursor.rest 0 ≡ percent_sign }
         ensures { MovesBy document.state_behind_directive self.old result self.new }
     {
         self.end_content()?;

@@ -5,12 +5,10 @@ ghost use Rattle.std.specs.Prelude.{◌≡◌, ◌<◌, Ok, length, slice_index,
 ghost use Rattle.saphyr_scanner.specs.Steps.Fetch as fetch;
 
 use crate::engine::{Context, Engine, Level};
+use crate::law::takes_characters_off;
 use crate::token::{Token, TokenType};
 use saphyr_input::char_traits::{is_blank_or_breakz, is_bom, is_flow, is_z};
 use saphyr_input::input::Input;
-use saphyr_scalar::scalar::{
-    takes_anchor, takes_block_scalar, takes_directive, takes_plain, takes_quoted, takes_tag,
-};
 use saphyr_scalar::{FaultText, Stop};
 use scalar_values::BlockStyle;
 
@@ -30,8 +28,8 @@ impl Level {
 
 impl<T: Input> Engine<T> {
     ghost use Rattle.saphyr_scalar.specs.Views.Reader.{Moves};
-    ghost use Rattle.saphyr_scanner.specs.Views.Engine.{state, MovesBy, ActsBy, answered};
-    ghost use Rattle.saphyr_scanner.specs.Views.Tokens.{piece, written};
+    ghost use Rattle.saphyr_scanner.specs.Views.Engine.{state, MovesBy, ActsBy, answer_of};
+    ghost use Rattle.saphyr_scanner.specs.Views.Tokens.{piece, written_token};
 
     // Comes to where the next token begins.
     #[tactic(auto, unfolding(crate::specs::Steps::Fetch::arrive))]
@@ -194,13 +192,8 @@ impl<T: Input> Engine<T> {
     fn read_on(&mut self, limit: usize) -> Result<(), Stop>
         ensures { MovesBy (fetch.fill limit) self.old result self.new }
     {
-        // Laws, which do nothing when they run: each says that its reader takes characters off.
-        takes_plain();
-        takes_quoted();
-        takes_block_scalar();
-        takes_anchor();
-        takes_tag();
-        takes_directive();
+        // A law, which does nothing when it runs.
+        takes_characters_off();
         self.drop_far_key()?;
         while self.needs_token() {
             self.fetch_within(limit)?;
@@ -213,7 +206,7 @@ impl<T: Input> Engine<T> {
     // and an answer of one byte isn't.
     #[inline(never)]
     fn reads_on(&mut self, limit: usize) -> bool
-        ensures { MovesBy (fetch.fill limit) self.old (answered result self.new.stop) self.new }
+        ensures { MovesBy (fetch.fill limit) self.old (answer_of result self.new.stop) self.new }
     {
         let ended = self.read_on(limit);
         self.keep(ended)
@@ -237,7 +230,8 @@ impl<T: Input> Engine<T> {
     /// Takes the first token off the queue, if there is one, and writes it into `token`.
     #[inline(always)]
     pub(crate) fn take_into(&mut self, token: &mut Token) -> Result<bool, Stop>
-        ensures { Moves (λ taken. (option_map piece (written taken token.new), state self.new))
+        ensures { Moves
+            (λ taken. (option_map piece (written_token taken token.new), state self.new))
             result (Ok (fetch.take_token (state self.old))) }
     {
         self.queue

@@ -63,7 +63,7 @@ impl<T: Input> Engine<T> {
     #[inline(always)]
     #[tactic(auto, using(crate::proofs::Levels::top_off))]
     fn leave(&mut self)
-        ensures { state self.new ≡ spec_state.changed (flow.leave (state self.old).core)
+        ensures { state self.new ≡ spec_state.with_core (flow.leave (state self.old).core)
             (state self.old) }
     {
         self.level = match self.outer.pop() {

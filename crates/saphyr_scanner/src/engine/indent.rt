@@ -26,7 +26,7 @@ impl<T: Input> Engine<T> {
 
     // Content has to stand one column further right than the block collection.
     pub(super) fn go_deeper(&mut self)
-        ensures { state self.new ≡ spec_state.changed (spec.go_deeper (state self.old).core)
+        ensures { state self.new ≡ spec_state.with_core (spec.go_deeper (state self.old).core)
             (state self.old) }
     {
         if self.in_block() && self.indent > 0 {
@@ -85,7 +85,7 @@ impl<T: Input> Engine<T> {
     // At the column of the block collection its next entry stands, and left of it what is behind it: neither has
     // to stand right of it.
     fn go_less_deep(&mut self, column: Option<usize>)
-        ensures { state self.new ≡ spec_state.changed
+        ensures { state self.new ≡ spec_state.with_core
             (unrolling.less_deep column (state self.old).core) (state self.old) }
     {
         self.deeper = match column {

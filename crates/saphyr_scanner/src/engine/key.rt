@@ -38,7 +38,7 @@ impl<T: Input> Engine<T> {
     // No token of the level may be a key any more.
     #[inline(always)]
     pub(super) fn forget_key(&mut self)
-        ensures { state self.new ≡ spec_state.changed (spec.forget_key (state self.old).core)
+        ensures { state self.new ≡ spec_state.with_core (spec.forget_key (state self.old).core)
             (state self.old) }
     {
         self.level.key = None;

@@ -1,6 +1,7 @@
 //! Anchors, aliases and tags (YAML 1.2.2, 6.9 and 7.1).
 
 ghost use Rattle.std.specs.Prelude.{◌≡◌, ◌<◌, length, slice_index};
+ghost use Rattle.saphyr_input.specs.Indicators.{exclamation_mark};
 ghost use Rattle.saphyr_scanner.specs.Steps.Property as property;
 
 use crate::engine::Engine;
@@ -35,7 +36,7 @@ impl<T: Input> Engine<T> {
     // `!` and the rest of a tag.
     #[tactic(auto, unfolding(crate::specs::Steps::Property::tag_steps, crate::specs::Steps::Property::read_tag))]
     pub(super) fn fetch_tag(&mut self) -> Result<(), Stop>
-        requires { slice_index (state self.old).core.cursor.rest 0 ≡ 33 }
+        requires { slice_index (state self.old).core.cursor.rest 0 ≡ exclamation_mark }
         ensures { ActsBy (property.tag_steps (next (state self.old).queue)) self.old result
             self.new }
     {

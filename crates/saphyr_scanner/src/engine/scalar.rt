@@ -1,6 +1,7 @@
 //! Scalars of all styles, and what may stand behind a quoted one (YAML 1.2.2, 7.3 and 8.1).
 
 ghost use Rattle.std.specs.Prelude.{◌≡◌, Ok, ◌<◌, length, slice_index, string_bytes};
+ghost use Rattle.saphyr_input.specs.Indicators.{apostrophe, quotation_mark};
 ghost use Rattle.saphyr_scanner.specs.Steps.Scalar as scalar;
 
 use crate::engine::Engine;
@@ -56,7 +57,7 @@ impl<T: Input> Engine<T> {
     #[inline(always)]
     #[tactic(auto, unfolding(crate::specs::Steps::Scalar::double_quoted_steps, crate::specs::Steps::Scalar::read_double_quoted))]
     pub(super) fn fetch_double_quoted(&mut self) -> Result<(), Stop>
-        requires { slice_index (state self.old).core.cursor.rest 0 ≡ 34 }
+        requires { slice_index (state self.old).core.cursor.rest 0 ≡ quotation_mark }
         ensures { ActsBy (scalar.double_quoted_steps (next (state self.old).queue))
             self.old result self.new }
     {
@@ -72,7 +73,7 @@ impl<T: Input> Engine<T> {
     // A single quoted scalar.
     #[tactic(auto, unfolding(crate::specs::Steps::Scalar::single_quoted_steps, crate::specs::Steps::Scalar::read_single_quoted))]
     pub(super) fn fetch_single_quoted(&mut self) -> Result<(), Stop>
-        requires { slice_index (state self.old).core.cursor.rest 0 ≡ 39 }
+        requires { slice_index (state self.old).core.cursor.rest 0 ≡ apostrophe }
         ensures { ActsBy (scalar.single_quoted_steps (next (state self.old).queue))
             self.old result self.new }
     {

@@ -1,25 +1,23 @@
 //! Copies of queues.
 
 ghost use Rattle.std.specs.Prelude.{◌≡◌, IfOk};
-ghost use Rattle.saphyr_scanner.specs.Views.Queue.{place, queue};
+ghost use Rattle.saphyr_scanner.specs.Views.Places.{IsCopyOfPlace};
+ghost use Rattle.saphyr_scanner.specs.Views.Queue.{queue};
 
 use crate::queue::Queue;
 use crate::queue::place::Place;
 use std::alloc::AllocError;
 
 impl Clone for Place {
-    ghost is_clone = { λ p q. place q ≡ place p };
+    ghost is_clone = { IsCopyOfPlace };
 
     fn clone(&self) -> Result<Place, AllocError> {
         Ok(match self {
             Place::Bare(opening, indicator, length, start) => {
                 Place::Bare(*opening, *indicator, *length, *start)
             }
-            Place::Short(opening, what, length, start, text) => {
-                Place::Short(*opening, *what, *length, *start, *text)
-            }
-            Place::Long(opening, what, length, start, text) => {
-                Place::Long(*opening, *what, *length, *start, text.clone()?)
+            Place::Text(opening, what, length, start, place) => {
+                Place::Text(*opening, *what, *length, *start, *place)
             }
             Place::Tagged(opening, length, start, tag) => {
                 Place::Tagged(*opening, *length, *start, tag.clone()?)
@@ -36,14 +34,13 @@ impl Clone for Place {
 
 impl Queue {
     // The same tokens, with what stands in front of each.
-    #[tactic(auto, using(crate::proofs::Copies::map_same))]
     pub(crate) fn try_clone(&self) -> Result<Queue, AllocError>
         ensures { IfOk result (λ copy. queue copy ≡ queue self.now) }
     {
         Ok(Queue {
             first: self.first.try_clone()?,
             second: self.second.try_clone()?,
-            places: self.places.clone()?,
+            held: self.held.try_clone()?,
             handed: self.handed,
         })
     }

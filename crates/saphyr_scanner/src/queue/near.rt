@@ -1,7 +1,7 @@
 //! Spans on one line. They are kept small, since the queue may hold all tokens of a text.
 
 ghost use Rattle.std.specs.Prelude.{◌≡◌, IfSome};
-ghost use Rattle.saphyr_scanner.specs.Views.Queue.{near_marker, near_span};
+ghost use Rattle.saphyr_scanner.specs.Views.Places.{near_marker, near_span};
 
 use saphyr_scalar::{Marker, Span};
 

@@ -1,14 +1,23 @@
 //! A token that is held, and what stands in front of it. It is kept small, since the queue may hold all tokens of a
 //! text.
 
-ghost use Rattle.std.specs.Prelude.{◌≡◌, IfOk, OnOk, string_bytes};
+ghost use Rattle.std.specs.Prelude.{◌≡◌, ℕ, List, IfOk, OnOk, string_bytes};
 ghost use Rattle.saphyr_scanner.specs.Steps.Queue as spec;
-ghost use Rattle.saphyr_scanner.specs.Views.Queue.{indicator_kind, near_span, place, text_kind};
+ghost use Rattle.saphyr_scanner.specs.Views.Places.{
+  GrowsBehind,
+  HasHeldText,
+  IsPlaceOf,
+  indicator_kind,
+  near_span,
+  place,
+  text_kind,
+  text_place,
+};
 ghost use Rattle.saphyr_scanner.specs.Views.Tokens.{kind_of, piece};
 
 use crate::queue::Opening;
 use crate::queue::near::{NearMarker, near};
-use crate::queue::short::ShortText;
+use crate::queue::texts::{TextPlace, Texts};
 use crate::token::{Token, TokenType};
 use saphyr_scalar::scalar::TagParts;
 use saphyr_scalar::{Marker, ScalarStyle, Span, Spare};
@@ -78,29 +87,30 @@ impl TextKind {
 
 /// A token, and in front of it what is handed out before it.
 ///
-/// All but the last are tokens on one line, of which the place is kept, and how many characters they have. A place has
-/// 24 bytes, since the fields of one byte stand beside one another.
+/// All but the last are tokens on one line, of which the place is kept, and how many characters they have. A text stands
+/// among those of all that are held. A place has 24 bytes, since the fields of one byte stand beside one another.
 #[derive(Drop)]
 pub(super) enum Place {
     Bare(Opening, Indicator, u8, NearMarker),
-    Short(Opening, TextKind, u8, NearMarker, ShortText),
-    Long(Opening, TextKind, u8, NearMarker, Box<String>),
+    Text(Opening, TextKind, u8, NearMarker, TextPlace),
     Tagged(Opening, u8, NearMarker, Box<TagParts>),
     /// Any other token.
     Whole(Opening, Box<Token>),
 }
 
 impl Place {
-    /// The place of a token, with nothing in front of it.
+    /// The place of a token, with nothing in front of it. Its text is kept behind `texts`.
     #[inline(always)]
     pub(super) fn new(
         alloc: Global,
         span: &Span,
         kind: TokenType,
+        texts: &mut Texts,
         spare: &mut Spare,
     ) -> Result<Place, AllocError>
-        ensures { IfOk result (λ p. place p
-            ≡ spec.closed (record { span = span.now; kind = kind_of kind })) }
+        ensures grows { GrowsBehind texts.old.bytes.items texts.new.bytes.items }
+        ensures place { IfOk result (IsPlaceOf texts.new.bytes.items
+            (record { span = span.now; kind = kind_of kind })) }
     {
         let Some((start, length)) = near(span) else {
             return Place::whole(alloc, span, kind);
@@ -117,7 +127,7 @@ impl Place {
             TokenType::BlockMappingStart => Indicator::BlockMappingStart,
             TokenType::BlockEntry => Indicator::BlockEntry,
             TokenType::BlockEnd => Indicator::BlockEnd,
-            kind => return Place::of_text(alloc, start, length, kind, spare),
+            kind => return Place::of_text(alloc, start, length, kind, texts, spare),
         };
         Ok(Place::Bare(Opening::Nothing, indicator, length, start))
     }
@@ -129,10 +139,12 @@ impl Place {
         start: NearMarker,
         length: u8,
         kind: TokenType,
+        texts: &mut Texts,
         spare: &mut Spare,
     ) -> Result<Place, AllocError>
-        ensures { IfOk result (λ p. place p
-            ≡ spec.closed (record { span = near_span start length; kind = kind_of kind })) }
+        ensures grows { GrowsBehind texts.old.bytes.items texts.new.bytes.items }
+        ensures place { IfOk result (IsPlaceOf texts.new.bytes.items
+            (record { span = near_span start length; kind = kind_of kind })) }
     {
         let (what, text) = match kind {
             TokenType::Alias(name) => (TextKind::Alias, name),
@@ -143,18 +155,17 @@ impl Place {
             TokenType::Tag(tag) => return Ok(Place::Tagged(Opening::Nothing, length, start, tag)),
             kind => return Place::whole(alloc, &start.span(length), kind),
         };
-        if let Some(short) = ShortText::new(&text) {
-            spare.keep(text);
-            return Ok(Place::Short(Opening::Nothing, what, length, start, short));
-        }
-        let text = Box::new(alloc, text)?;
-        Ok(Place::Long(Opening::Nothing, what, length, start, text))
+        let Some(place) = texts.keep(&text)? else {
+            return Place::whole(alloc, &start.span(length), what.kind(text));
+        };
+        spare.keep(text);
+        Ok(Place::Text(Opening::Nothing, what, length, start, place))
     }
 
     // The same of any token.
     fn whole(alloc: Global, span: &Span, kind: TokenType) -> Result<Place, AllocError>
-        ensures { IfOk result (λ p. place p
-            ≡ spec.closed (record { span = span.now; kind = kind_of kind })) }
+        ensures { (bytes : List ℕ) → IfOk result (IsPlaceOf bytes
+            (record { span = span.now; kind = kind_of kind })) }
     {
         let token = Box::new(alloc, Token { span: *span, kind })?;
         Ok(Place::Whole(Opening::Nothing, token))
@@ -163,12 +174,11 @@ impl Place {
     /// What stands in front of the token.
     #[inline(always)]
     pub(super) fn opening(&self) -> Opening
-        ensures { result ≡ (place self.now).opening }
+        ensures { (bytes : List ℕ) → result ≡ (place bytes self.now).opening }
     {
         match self {
             Place::Bare(opening, _, _, _) => *opening,
-            Place::Short(opening, _, _, _, _) => *opening,
-            Place::Long(opening, _, _, _, _) => *opening,
+            Place::Text(opening, _, _, _, _) => *opening,
             Place::Tagged(opening, _, _, _) => *opening,
             Place::Whole(opening, _) => *opening,
         }
@@ -177,12 +187,13 @@ impl Place {
     /// Tells what stands in front of the token.
     #[inline(always)]
     pub(super) fn open(&mut self, before: Opening)
-        ensures { place self.new ≡ record { opening = before; piece = (place self.old).piece } }
+        ensures place { (bytes : List ℕ) → place bytes self.new
+            ≡ record { opening = before; piece = (place bytes self.old).piece } }
+        ensures text { text_place self.new ≡ text_place self.old }
     {
         match self {
             Place::Bare(opening, _, _, _) => *opening = before,
-            Place::Short(opening, _, _, _, _) => *opening = before,
-            Place::Long(opening, _, _, _, _) => *opening = before,
+            Place::Text(opening, _, _, _, _) => *opening = before,
             Place::Tagged(opening, _, _, _) => *opening = before,
             Place::Whole(opening, _) => *opening = before,
         }
@@ -191,39 +202,38 @@ impl Place {
     /// Where the token begins.
     #[inline(always)]
     pub(super) fn start(&self) -> Marker
-        ensures { result ≡ (place self.now).piece.span.start }
+        ensures { (bytes : List ℕ) → result ≡ (place bytes self.now).piece.span.start }
     {
         match self {
             Place::Bare(_, _, _, start) => start.marker(),
-            Place::Short(_, _, _, start, _) => start.marker(),
-            Place::Long(_, _, _, start, _) => start.marker(),
+            Place::Text(_, _, _, start, _) => start.marker(),
             Place::Tagged(_, _, start, _) => start.marker(),
             Place::Whole(_, token) => token.span.start,
         }
     }
 
-    /// Writes the token into `token`.
+    /// Writes the token into `token`, whose text stands among `texts`.
     #[inline(always)]
     pub(super) fn write_into(
         self,
         alloc: Global,
+        texts: &Texts,
         token: &mut Token,
         spare: &mut Spare,
     ) -> Result<(), AllocError>
-        ensures { OnOk result (piece token.new ≡ (place self).piece) }
+        requires { HasHeldText texts.now.bytes.items self }
+        ensures { OnOk result (piece token.new ≡ (place texts.now.bytes.items self).piece) }
     {
         match self {
             Place::Bare(_, indicator, length, start) => {
                 token.span = start.span(length);
                 token.kind = indicator.kind();
             }
-            Place::Short(_, what, length, start, text) => {
+            Place::Text(_, what, length, start, place) => {
+                let mut text = spare.begin(alloc)?;
+                text.push_str(texts.get(place))?;
                 token.span = start.span(length);
-                token.kind = what.kind(text.to_string(alloc, spare)?);
-            }
-            Place::Long(_, what, length, start, text) => {
-                token.span = start.span(length);
-                token.kind = what.kind(Box::into_inner(text));
+                token.kind = what.kind(text);
             }
             Place::Tagged(_, length, start, tag) => {
                 token.span = start.span(length);

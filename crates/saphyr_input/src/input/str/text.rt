@@ -100,7 +100,26 @@ fn ascii_len<C: CharSet>(bytes: &[u8]) -> usize
     ensures { result ≡ prefix_len (spec.ascii_in C.test) bytes.now }
 {
     let mut len = 0;
-    while len < bytes.len() && C::has_ascii(bytes[len]) {
+    // Four bytes a turn, since the turn itself takes as many instructions as the look at a byte.
+    'fours: while bytes.len() - len >= 4 {
+        if !C::has_ascii(bytes[len]) {
+            return len;
+        }
+        len += 1;
+        if !C::has_ascii(bytes[len]) {
+            return len;
+        }
+        len += 1;
+        if !C::has_ascii(bytes[len]) {
+            return len;
+        }
+        len += 1;
+        if !C::has_ascii(bytes[len]) {
+            return len;
+        }
+        len += 1;
+    }
+    'ones: while len < bytes.len() && C::has_ascii(bytes[len]) {
         len += 1;
     }
     len
@@ -112,20 +131,27 @@ pub(super) fn ascii_run<C: CharSet>(text: &str) -> (usize, &str)
     ensures part { result.0 + prefix_len C.test (chars result.1.now)
         ≡ prefix_len C.test (chars text.now) }
     ensures whole { spec.IsAsciiClass C.test → result.0 ≡ prefix_len C.test (chars text.now) }
+    ensures stops { spec.ascii_in C.test (slice_index result.1.now 0) ≡ false }
     ensures rest { chars result.1.now ≡ drop result.0 (chars text.now) }
 {
     let count = ascii_len::<C>(text.as_bytes());
     (count, &text[count..])
 }
 
-// What stands behind the first character, if this is of the class.
+// What stands behind the first character, if this is of the class and no ASCII character.
 #[inline]
 fn strip_char<C: CharSet>(text: &str) -> Option<&str>
+    requires { spec.ascii_in C.test (slice_index text.now 0) ≡ false }
     ensures none { IfNone result (prefix_len C.test (chars text.now) ≡ 0) }
     ensures some { IfSome result (λ rest. prefix_len C.test (chars text.now)
         ≡ 1 + prefix_len C.test (chars rest.now)) }
     ensures rest { IfSome result (λ rest. chars rest.now ≡ drop 1 (chars text.now)) }
 {
+    // An ASCII character would be of the run already.
+    let byte = text.as_bytes().first().copied().unwrap_or(0);
+    if byte < 0x80 {
+        return None;
+    }
     let (first, rest) = split_first(text);
     if C::has(first) { Some(rest) } else { None }
 }

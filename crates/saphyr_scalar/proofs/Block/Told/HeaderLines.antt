@@ -102,8 +102,8 @@ two_broken (c ∷ d ∷ ds) h =
     let second : d ≡ 10 = eqb-true d 10 (and_true_right (c == 13) (d == 10) h) in
     ap (λ x. x ∷ d ∷ ds) first ∙ ap (λ x. 13 ∷ x ∷ ds) second
 
-no_feed : (x : ℕ) → (x == 10) ≡ false → x ≢ 10
-no_feed x e h = absurd (grind (arith, nat_tests))
+feed_by_test : (x : ℕ) → (x == 10) ≡ false → x ≢ 10
+feed_by_test x e h = absurd (grind (arith, nat_tests))
 
 one_broken : (xs : List ℕ) → next_2_are xs 13 10 ≡ false → is_break (slice_index xs 0) ≡ true
     → (end : List ℕ) × IsBreakBefore (drop 1 xs) end × (xs ≡ end ++ drop 1 xs)
@@ -112,7 +112,7 @@ one_broken (c ∷ cs) h b =
     break_cases c b (λ x. next_2_are (x ∷ cs) 13 10 ≡ false
     → (end : List ℕ) × IsBreakBefore cs end × (x ∷ cs ≡ end ++ cs))
     (λ _. (codes "\n", inl refl, refl))
-    (λ k. (codes "\r", inr (inr (refl, no_feed (slice_index cs 0) k)), refl))
+    (λ k. (codes "\r", inr (inr (refl, feed_by_test (slice_index cs 0) k)), refl))
     h
 
 other_than_tab : (x : ℕ) → (x == tab) ≡ false → x ≢ tab
@@ -172,8 +172,9 @@ end_told start s u e =
 abbrev Headed : List ℕ → BlockHeader × Cursor → Type 0
 Headed xs x = (first : List ℕ) × (xs ≡ first ++ x.1.rest) × IsHeaderLine x.0.indicator x.0.chomping x.1.rest first
 
-joined : (c : ℕ) (xs a b d behind : List ℕ) → xs ≡ a ++ (b ++ (d ++ behind)) → c ∷ xs ≡ (c ∷ (a ++ (b ++ d))) ++ behind
-joined c xs a b d behind e =
+header_joined : (c : ℕ) (xs a b d behind : List ℕ) → xs ≡ a ++ (b ++ (d ++ behind))
+    → c ∷ xs ≡ (c ∷ (a ++ (b ++ d))) ++ behind
+header_joined c xs a b d behind e =
     ap (λ t. c ∷ t) (e ∙ ap (λ t. a ++ t) (sym (append_assoc b d behind)) ∙ sym (append_assoc a (b ++ d) behind))
 
 pub header_line : (s : Cursor) (x : BlockHeader × Cursor) → 0 < length s.rest → header s ≡ Ok x → Headed s.rest x
@@ -189,6 +190,6 @@ header_line s x some e =
     let t = end_told s.mark last.1 v.0 v.1 in
     let whole : s.rest ≡ (slice_index s.rest 0 ∷ (m.0 ++ (t.0 ++ t.1))) ++ v.0.rest =
     first_and_rest s.rest some
-    ∙ joined (slice_index s.rest 0) (drop 1 s.rest) m.0 t.0 t.1 v.0.rest (m.2 ∙ ap (λ y. m.0 ++ y) t.4) in
+    ∙ header_joined (slice_index s.rest 0) (drop 1 s.rest) m.0 t.0 t.1 v.0.rest (m.2 ∙ ap (λ y. m.0 ++ y) t.4) in
     subst (Headed s.rest) (same_gift (header_of v.0) x v.2)
     (slice_index s.rest 0 ∷ (m.0 ++ (t.0 ++ t.1)), whole, (slice_index s.rest 0, m.0, t.0, t.1, m.1, t.2, t.3, refl))

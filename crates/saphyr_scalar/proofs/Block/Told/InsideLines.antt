@@ -102,12 +102,15 @@ content_more A c cs rest e none w =
     by (inl a) = none a
     by (inr f) = absurd (feed_is_none c e f)
 
-goes_on : (c : ℕ) (cs rest : List ℕ) → is_yaml_non_break c ≡ true → Within ⊥ cs rest → Within ⊥ (c ∷ cs) rest
-goes_on c cs rest e w = content_more ⊥ c cs rest e (λ k. absurd k) w
+within_behind_character : (c : ℕ) (cs rest : List ℕ) → is_yaml_non_break c ≡ true → Within ⊥ cs rest
+    → Within ⊥ (c ∷ cs) rest
+within_behind_character c cs rest e w = content_more ⊥ c cs rest e (λ k. absurd k) w
 
-begins : (m : Marker) (i c : ℕ) (cs rest : List ℕ) → line_starts i m.col (c ∷ cs) ≡ true → Within ⊥ cs rest
+within_from_line_start : (m : Marker) (i c : ℕ) (cs rest : List ℕ) → line_starts i m.col (c ∷ cs) ≡ true
+    → Within ⊥ cs rest
     → Within (At m) (c ∷ cs) rest
-begins m i c cs rest g w = let s = starts_clear i m.col (c ∷ cs) g in content_more (At m) c cs rest s.0 s.1 w
+within_from_line_start m i c cs rest g w =
+    let s = starts_clear i m.col (c ∷ cs) g in content_more (At m) c cs rest s.0 s.1 w
 
 -- the lines before the first content
 pub empty_inside : (limit : Option ℕ) (before : EmptyLines) (b : Bool) (m : Marker) (xs rest : List ℕ)
@@ -142,7 +145,7 @@ mutual
       (λ e. a_break (At m) (At (next_line m 1)) c cs _ e refl
       (between_inside style i above (lines + 1) true (next_line m 1) cs))
       (λ _. by_test (line_starts i m.col (c ∷ cs)) _ _ P
-      (λ g. begins m i c cs _ g (line_inside style i (is_blank c) b (along m 1) cs))
+      (λ g. within_from_line_start m i c cs _ g (line_inside style i (is_blank c) b (along m 1) cs))
       (λ _. within_nothing (At m) (c ∷ cs)))))
 
   line_inside : (style : BlockStyle) (i : ℕ) (more b : Bool) (m : Marker) (xs : List ℕ)
@@ -150,7 +153,8 @@ mutual
   line_inside style i more b m [] = within_nothing ⊥ []
   line_inside style i more b m (c ∷ cs) =
       let P : LinesRead → Type 0 = λ x. Within ⊥ (c ∷ cs) x.2.rest in
-      by_test (is_yaml_non_break c) _ _ P (λ e. goes_on c cs _ e (line_inside style i more b (along m 1) cs))
+      by_test (is_yaml_non_break c) _ _ P
+      (λ e. within_behind_character c cs _ e (line_inside style i more b (along m 1) cs))
       (λ _. by_test (is_cr_lf c cs) _ _ P (λ e. a_return ⊥ _ c cs _ e (line_inside style i more b (inside_break m) cs))
       (λ _. by_test (is_break c) _ _ P
       (λ e. a_break ⊥ (At (next_line m 1)) c cs _ e refl

@@ -227,12 +227,12 @@ no_lines_at_end xs rest z (c ∷ cs) e h =
     let some = h.0 in
     absurd (cc)
 
-at_end : (style : BlockStyle) (indent : ℕ) (s : Cursor) (h : BlockHeader) (first : List ℕ) (u : Cursor) (y : Read)
+whole_at_end : (style : BlockStyle) (indent : ℕ) (s : Cursor) (h : BlockHeader) (first : List ℕ) (u : Cursor) (y : Read)
     → s.rest ≡ first ++ u.rest → IsPassed s.mark s.rest u.mark u.rest → is_z (slice_index u.rest 0) ≡ true
     → u.blank_so_far ≡ false → behind_header style indent s.mark (h, u) ≡ Ok y
     → Parts style indent s h first u y
 unfolding behind_header
-at_end style indent s h first u y e p z blank is =
+whole_at_end style indent s h first u y e p z blank is =
     let limit = given_indentation indent h.indicator in
     let x = pass_empty_lines_at limit no_lines u in
     let found = indentation_at_end indent h.indicator u.rest z in
@@ -277,5 +277,5 @@ block_text style indent s t text span b some e =
     put_together style indent s w.0.0 l.0 w.0.1 t text span l.1 l.2
     (elim (header_place s w.0 w.1) [
       | inl q ↦ at_line style indent s w.0.0 l.0 w.0.1 (text, span, t) l.1 p q.0 q.1 w.2
-      | inr q ↦ at_end style indent s w.0.0 l.0 w.0.1 (text, span, t) l.1 p q.0 q.1 w.2
+      | inr q ↦ whole_at_end style indent s w.0.0 l.0 w.0.1 (text, span, t) l.1 p q.0 q.1 w.2
     ])

@@ -8,17 +8,16 @@ use Rattle.saphyr_scanner.specs.declared.engine.level.Context.{Context}
 use Rattle.saphyr_scanner.specs.declared.engine.level.Context.TheVariants as context
 use Rattle.saphyr_scanner.specs.Grammar.Tokens as tokens
 use Rattle.saphyr_scanner.specs.Grammar.TokenGrammar as grammar
-use Rattle.saphyr_scanner.specs.Steps.Queue.{Place}
 use Rattle.saphyr_scanner.specs.Steps.Core.{Candidate, Level, is_block}
 use Rattle.saphyr_scanner.specs.Steps.Flow as flow
 use Rattle.saphyr_scanner.specs.Steps.Flow.{close_collection, ends_pair}
 use Rattle.saphyr_scanner.specs.Steps.Fetch.{step}
 use Rattle.saphyr_scanner.specs.Grammar.Forest.{Properties, Seq, Map, Nodes, Pairs}
 use Rattle.saphyr_scanner.specs.Grammar.FlowNodes.{IsFlowNode}
-use Rattle.saphyr_scanner.proofs.InFlow.States.{Around, core_at, state_at, Calm}
+use Rattle.saphyr_scanner.proofs.InFlow.States.{Around, core_at, Calm, FlowMoment}
 use Rattle.saphyr_scanner.proofs.Json.Marks.{level_of}
 use Rattle.saphyr_scanner.proofs.Json.Nodes.{begins_sequence, begins_mapping}
-use Rattle.saphyr_scanner.proofs.Flow.States.{keeping, moved, past, Fits, IsParted, Reads}
+use Rattle.saphyr_scanner.proofs.Flow.States.{moved, past, Fits, IsParted, Reads, StandsBefore}
 use Rattle.saphyr_scanner.proofs.Flow.Places.{moved_append}
 use Rattle.saphyr_scanner.proofs.Flow.Inks.{BeginsInk}
 use Rattle.saphyr_scanner.proofs.Flow.Pieces.{fits_front, fits_back, fits_so}
@@ -148,23 +147,20 @@ inner_fits {around} m front opening inside closing o right fits =
 -- in brackets
 pub sequence_run : {around : Around} → Reads → (room : ℕ) (p : Properties) (nodes : Nodes) (in_flow : Bool)
     → ((left : ℕ) → PassesItems around left nodes) → (m : Marker) (t o : List ℕ)
-    → IsFlowNode room (Seq p nodes) in_flow around.indent t → Fits around m t o
-    → (s : Cursor) (x : Context) (k : Option Candidate) (ls : List Level) (a : Bool) (ad : ℕ) (ps : List Place)
-    → ((e : Marker) → around.indent ≤ e.col → EndsAt around.indent x e o) → room + length ls ≤ 255 → Calm around x
-    → ad ≤ m.index
-    → past around.indent s.mark s.rest ≡ past around.indent m (t ++ o)
-    → CollectionPasses around (state_at around s x k ls a ad ps) (grammar.YieldFlowEntries nodes) square p
-    (keeping a (length ps) m k t) x ls ps (moved m t) o
+    → IsFlowNode room (Seq p nodes) in_flow around.indent t → Fits around m t o → (now : FlowMoment)
+    → ((e : Marker) → around.indent ≤ e.col → EndsAt around.indent now.context e o) → room + length now.outer ≤ 255
+    → Calm around now.context → now.adjacent ≤ m.index → StandsBefore around now m (t ++ o)
+    → CollectionPasses around now (grammar.YieldFlowEntries nodes) square p m t o
 sequence_run {around} reads room p nodes in_flow items m t o (left, opening, inside, r, (front, w, f, parts, e), h, is)
-    fits s x k ls a ad ps ends low calm before text =
+    fits now ends low calm before text =
     let text_is = whole_text t opening front w inside 91 93 is e in
     let whole = fits_so m t (front ++ bracket_text square w inside) o text_is fits in
     let here = moved (moved m front) (91 ∷ w) in
-    let run : RunsInside around (grammar.YieldFlowEntries nodes) square x ls here inside o =
-    λ u c j b be qs no_candidate fresh on right at.
+    let run : RunsInside around (grammar.YieldFlowEntries nodes) square now.context now.outer here inside o =
+    λ j inner no_candidate fresh on right at.
     let inside_fits = inner_fits m front (91 ∷ w) inside (93 ∷ []) o right whole in
-    let i = items left here inside o h inside_fits u c (level_of x j ∷ ls) b be qs no_candidate fresh
-    (omega (arith, r, low)) on at in
+    let i = items left here inside o h inside_fits (record inner { outer = level_of now.context j ∷ now.outer })
+    no_candidate fresh (omega (arith, r, low)) on at in
     record {
       inside = i.inside;
       flows =
@@ -176,31 +172,27 @@ sequence_run {around} reads room p nodes in_flow items m t o (left, opening, ins
     } in
     let c = collection_passes around p reads (grammar.YieldFlowEntries nodes) square are_square m front w inside o whole
     f parts (parted_by around.indent w (inside ++ (93 ∷ o)) parts (items_ink around.indent left nodes inside o h))
-    s x k ls a ad ps (omega (arith, r, low)) calm before
+    now (omega (arith, r, low)) calm before
     (text ∙ ap (λ (z : List ℕ). past around.indent m (z ++ o)) text_is) (ends (moved here inside), run) in
-    subst (λ (z : List ℕ). CollectionPasses around (state_at around s x k ls a ad ps) (grammar.YieldFlowEntries nodes)
-    square p (keeping a (length ps) m k z) x ls ps (moved m z) o) (sym text_is) c
+    subst (λ (z : List ℕ). CollectionPasses around now (grammar.YieldFlowEntries nodes) square p m z o) (sym text_is) c
 
 -- in braces
 pub mapping_run : {around : Around} → Reads → (room : ℕ) (p : Properties) (pairs : Pairs) (in_flow : Bool)
     → ((left : ℕ) → PassesPairs around left pairs) → (m : Marker) (t o : List ℕ)
-    → IsFlowNode room (Map p pairs) in_flow around.indent t → Fits around m t o
-    → (s : Cursor) (x : Context) (k : Option Candidate) (ls : List Level) (a : Bool) (ad : ℕ) (ps : List Place)
-    → ((e : Marker) → around.indent ≤ e.col → EndsAt around.indent x e o) → room + length ls ≤ 255 → Calm around x
-    → ad ≤ m.index
-    → past around.indent s.mark s.rest ≡ past around.indent m (t ++ o)
-    → CollectionPasses around (state_at around s x k ls a ad ps) (grammar.YieldFlowPairs pairs) curly p
-    (keeping a (length ps) m k t) x ls ps (moved m t) o
+    → IsFlowNode room (Map p pairs) in_flow around.indent t → Fits around m t o → (now : FlowMoment)
+    → ((e : Marker) → around.indent ≤ e.col → EndsAt around.indent now.context e o) → room + length now.outer ≤ 255
+    → Calm around now.context → now.adjacent ≤ m.index → StandsBefore around now m (t ++ o)
+    → CollectionPasses around now (grammar.YieldFlowPairs pairs) curly p m t o
 mapping_run {around} reads room p pairs in_flow members m t o (left, opening, inside, r, (front, w, f, parts, e), h, is)
-    fits s x k ls a ad ps ends low calm before text =
+    fits now ends low calm before text =
     let text_is = whole_text t opening front w inside 123 125 is e in
     let whole = fits_so m t (front ++ bracket_text curly w inside) o text_is fits in
     let here = moved (moved m front) (123 ∷ w) in
-    let run : RunsInside around (grammar.YieldFlowPairs pairs) curly x ls here inside o =
-    λ u c j b be qs no_candidate fresh on right at.
+    let run : RunsInside around (grammar.YieldFlowPairs pairs) curly now.context now.outer here inside o =
+    λ j inner no_candidate fresh on right at.
     let inside_fits = inner_fits m front (123 ∷ w) inside (125 ∷ []) o right whole in
-    let i = members left here inside o h inside_fits u c (level_of x j ∷ ls) b be qs no_candidate fresh
-    (omega (arith, r, low)) on at in
+    let i = members left here inside o h inside_fits (record inner { outer = level_of now.context j ∷ now.outer })
+    no_candidate fresh (omega (arith, r, low)) on at in
     record {
       inside = context.FlowMapping;
       flows =
@@ -213,10 +205,9 @@ mapping_run {around} reads room p pairs in_flow members m t o (left, opening, in
     } in
     let c = collection_passes around p reads (grammar.YieldFlowPairs pairs) curly are_curly m front w inside o whole f
     parts (parted_by around.indent w (inside ++ (125 ∷ o)) parts (pairs_ink around.indent left pairs inside o h))
-    s x k ls a ad ps (omega (arith, r, low)) calm before
+    now (omega (arith, r, low)) calm before
     (text ∙ ap (λ (z : List ℕ). past around.indent m (z ++ o)) text_is) (ends (moved here inside), run) in
-    subst (λ (z : List ℕ). CollectionPasses around (state_at around s x k ls a ad ps) (grammar.YieldFlowPairs pairs)
-    curly p (keeping a (length ps) m k z) x ls ps (moved m z) o) (sym text_is) c
+    subst (λ (z : List ℕ). CollectionPasses around now (grammar.YieldFlowPairs pairs) curly p m z o) (sym text_is) c
 
 pub calm_in_flow : (around : Around) (x : Context) → is_block x ≡ false → Calm around x
 calm_in_flow around x e h = absurd (clash (is_block x) e h)

@@ -42,9 +42,9 @@ pub record IsPlainBehind (o : List ℕ) : Type 0 where
 pub no_directives : (d : Document) (t : List ℕ) → d.directives ≡ [] → AreDirectives d.directives t → t ≡ []
 no_directives d t e h = subst (λ ds. AreDirectives ds t) e h
 
-some_left : (c : ℕ) (cs : List ℕ) (m : Marker) → AtLine (c ∷ cs) m → m.col ≡ 0
-some_left c cs m (inl e) = e
-some_left c cs m (inr e) = absurd (cc)
+column_at_line : (c : ℕ) (cs : List ℕ) (m : Marker) → AtLine (c ∷ cs) m → m.col ≡ 0
+column_at_line c cs m (inl e) = e
+column_at_line c cs m (inr e) = absurd (cc)
 
 pub plain_marked : (filler : List ℕ) (c : ℕ) (cs o : List ℕ) → IsFiller filler → o ≡ filler ++ (c ∷ cs) → IsInk c
     → IsPlainBehind o
@@ -116,7 +116,7 @@ lands_marked o k m line =
     let n = moved m k.filler in
     let there : past 0 m o ≡ (n, k.first ∷ k.others) = ap (past 0 m) k.is
     ∙ reaches m k.filler k.first k.others (filler_skipped k.filler k.filler_is) k.ink in
-    let col = some_left k.first k.others n
+    let col = column_at_line k.first k.others n
     (filler_at_line m k.filler (k.first ∷ k.others) k.filler_is (subst (λ (x : List ℕ). AtLine x m) k.is line)) in
     subst (λ (x : Marker × List ℕ). EndsDocument x.0 x.1) (sym there) (inr (col, k.marker))
 

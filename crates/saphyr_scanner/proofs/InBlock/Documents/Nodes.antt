@@ -143,14 +143,14 @@ untabbed_kind m blank c cs false true r e f g on line sign = rw (e, f) line
 untabbed_kind m blank c cs false false true e f g on line sign = rw (e, f, g) sign
 untabbed_kind m blank c cs false false false e f g on line sign = rw (e, f, g) refl
 
-comment_kind : (m : Marker) (blank : Bool) (c : ℕ) (cs : List ℕ) (is_word is_return is_line : Bool)
+tabbed_over_comment : (m : Marker) (blank : Bool) (c : ℕ) (cs : List ℕ) (is_word is_return is_line : Bool)
     → is_yaml_non_break c ≡ is_word → ((c == 13) && (slice_index cs 0 == 10)) ≡ is_return → is_break c ≡ is_line
     → tabbed_comment 0 (along m 1) blank false cs ≡ false → tabbed 0 (along m 1) blank false cs ≡ false
     → tabbed 0 (next_line m 1) true false cs ≡ false → tabbed_comment 0 m blank false (c ∷ cs) ≡ false
-comment_kind m blank c cs true q r e f g word on line = rw e word
-comment_kind m blank c cs false true r e f g word on line = rw (e, f) on
-comment_kind m blank c cs false false true e f g word on line = rw (e, f, g) line
-comment_kind m blank c cs false false false e f g word on line = rw (e, f, g) refl
+tabbed_over_comment m blank c cs true q r e f g word on line = rw e word
+tabbed_over_comment m blank c cs false true r e f g word on line = rw (e, f) on
+tabbed_over_comment m blank c cs false false true e f g word on line = rw (e, f, g) line
+tabbed_over_comment m blank c cs false false false e f g word on line = rw (e, f, g) refl
 
 -- at the root no tab stands left of what is enclosed
 mutual
@@ -164,11 +164,12 @@ mutual
   comment_untabbed : (m : Marker) (blank : Bool) (t : List ℕ) → tabbed_comment 0 m blank false t ≡ false
   comment_untabbed m blank [] = refl
   comment_untabbed m blank (c ∷ cs) =
-      comment_kind m blank c cs (is_yaml_non_break c) ((c == 13) && (slice_index cs 0 == 10)) (is_break c) refl refl
+      tabbed_over_comment m blank c cs (is_yaml_non_break c) ((c == 13) && (slice_index cs 0 == 10)) (is_break c) refl
+      refl
       refl (comment_untabbed (along m 1) blank cs) (untabbed (along m 1) blank cs) (untabbed (next_line m 1) true cs)
 
-within : (i l j k limit : ℕ) → i + l ≡ j + k → j + k ≤ limit → i + l ≤ limit
-within i l j k limit e h = omega (arith, e, h)
+sum_within : (i l j k limit : ℕ) → i + l ≡ j + k → j + k ≤ limit → i + l ≤ limit
+sum_within i l j k limit e h = omega (arith, e, h)
 
 pub reads_root : {limit : ℕ} {start : State} {P : Marker → Bool → Type 0} → Leaves limit → (place : Position)
     → indent_at place ≡ 0 → (node : Node) (t others : List ℕ) (ts : List Kind)
@@ -233,7 +234,8 @@ reads_root {limit} {start} leaves place flat_place node t others ts h lands plai
             (flat p.0 p.1 u.blank u.key u.allowed u.adjacent u.deeper u.places u.stop u.near (lands m line)) refl;
         fits = on;
         line = (line, λ e. absurd (unopened e));
-        count = within m.index (length others) v.mark.index (length (t ++ others)) limit (moved_count v.mark t others)
+        count =
+            sum_within m.index (length others) v.mark.index (length (t ++ others)) limit (moved_count v.mark t others)
             v.count;
         are = u.are;
         quiet = λ _. refl;

@@ -6,7 +6,6 @@ use Rattle.saphyr_scalar.specs.Views.Cursor.{along}
 use Rattle.saphyr_scalar.specs.Steps.Quoted.{at}
 use Rattle.saphyr_scalar.specs.declared.scalar.position.Marker.{Marker}
 use Rattle.saphyr_scanner.specs.TokensTaken.{block_indicator}
-use Rattle.saphyr_scanner.proofs.Effects.Readers.{Readers, quoted_laws}
 use Rattle.saphyr_scanner.proofs.Breaks.Cores.{Laws}
 use Rattle.saphyr_scanner.proofs.Breaks.Forward.{Forwards, forward_plain, forward_passed, line_forward, break_forward}
 use Rattle.saphyr_scanner.proofs.Breaks.Runs.{scans_same}
@@ -23,15 +22,6 @@ at_one m n t = let one : 1 + n ≡ suc n = omega arith in rw one refl
 
 pub returns : goal.returns
 returns c limit text small short =
-    let readers : Readers = record {
-      plain = c.takes_plain.ensures;
-      double_quoted = (quoted_laws c.takes_quoted.ensures).0;
-      single_quoted = (quoted_laws c.takes_quoted.ensures).1;
-      block_scalar = c.takes_block_scalar.ensures;
-      name = c.takes_anchor.ensures;
-      tag = c.takes_tag.ensures;
-      directive = c.takes_directive.ensures;
-    } in
     let forward : Forwards = record {
       plain = λ in_flow indent s x e. forward_plain s x.3 x.0 x.1
           (c.reads_plain_values.ensures in_flow indent s x.3 x.0 x.1 x.2 e);
@@ -49,4 +39,4 @@ returns c limit text small short =
     } in
     let alike = c.reads_breaks_alike.ensures.reads text in
     let known : Laws text = record { small = small; alike = alike; forward = forward } in
-    scans_same text known readers limit short
+    scans_same text known c.takes_characters_off.ensures limit short

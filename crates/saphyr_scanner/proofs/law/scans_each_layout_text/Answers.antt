@@ -1,5 +1,4 @@
 use Rattle.std.proofs.Common.{arith}
-use Rattle.saphyr_scanner.proofs.Effects.Readers.{Readers, quoted_laws}
 use Rattle.saphyr_scanner.proofs.Flow.States.{Reads}
 use Rattle.saphyr_scanner.proofs.InBlock.ScalarTexts.{ReadsBlocks}
 use Rattle.saphyr_scanner.proofs.InBlock.Layouts.{layout_scans}
@@ -7,15 +6,6 @@ use Rattle.saphyr_scanner.proofs.law.scans_each_layout_text.Goals as goal
 
 pub returns : goal.returns
 returns c limit forest text layout short small =
-    let laws : Readers = record {
-      plain = c.takes_plain.ensures;
-      double_quoted = (quoted_laws c.takes_quoted.ensures).0;
-      single_quoted = (quoted_laws c.takes_quoted.ensures).1;
-      block_scalar = c.takes_block_scalar.ensures;
-      name = c.takes_anchor.ensures;
-      tag = c.takes_tag.ensures;
-      directive = c.takes_directive.ensures;
-    } in
     let reads : Reads = record {
       plain = c.reads_each_plain_text.ensures;
       quoted = c.reads_each_quoted.ensures;
@@ -32,4 +22,4 @@ returns c limit forest text layout short small =
       place = c.passes_to_one_place.ensures;
     } in
     let same = c.scans_breaks_alike.ensures limit text (omega (arith, short, small)) short in
-    layout_scans laws reads blocks limit small forest text same layout short
+    layout_scans c.takes_characters_off.ensures reads blocks limit small forest text same layout short

@@ -3,7 +3,7 @@ use Rattle.saphyr_input.specs.Classes.{is_break}
 use Rattle.scalar_values.specs.declared.block.BlockStyle.{BlockStyle}
 use Rattle.scalar_values.specs.declared.block.BlockStyle.TheVariants as block_style
 use Rattle.saphyr_scanner.specs.TokensTaken.{block_indicator}
-use Rattle.saphyr_scanner.proofs.Effects.Readers.{Readers, quoted_laws, TextLaws, RefusalLaws}
+use Rattle.saphyr_scanner.proofs.Effects.Readers.{TextLaws, RefusalLaws}
 use Rattle.saphyr_scanner.proofs.Taken.Run.{scan_taken}
 use Rattle.saphyr_scanner.proofs.law.takes_all_tokens.Goals as goal
 
@@ -18,15 +18,6 @@ some_indicator block_style.Folded [] e = absurd (omega (arith, e))
 
 pub returns : goal.returns
 returns c =
-    let readers : Readers = record {
-      plain = c.takes_plain.ensures;
-      double_quoted = (quoted_laws c.takes_quoted.ensures).0;
-      single_quoted = (quoted_laws c.takes_quoted.ensures).1;
-      block_scalar = c.takes_block_scalar.ensures;
-      name = c.takes_anchor.ensures;
-      tag = c.takes_tag.ensures;
-      directive = c.takes_directive.ensures;
-    } in
     let laws : TextLaws = record {
       plain = c.reads_plain_values.ensures;
       quotes = c.keeps_markers_out_of_quotes.ensures;
@@ -50,4 +41,4 @@ returns c =
       plain = c.refuses_inside.ensures.plain;
       block_scalar = c.refuses_inside.ensures.block_scalar;
     } in
-    scan_taken (record { texts = laws; readers = readers; refusals = refusals })
+    scan_taken (record { texts = laws; readers = c.takes_characters_off.ensures; refusals = refusals })

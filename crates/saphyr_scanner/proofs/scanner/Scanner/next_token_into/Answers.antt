@@ -1,31 +1,14 @@
 use Rattle.std.proofs.lemmas.Result.{err_from_is_err_and}
-use Rattle.saphyr_scanner.proofs.Effects.Readers.{Readers, quoted_laws}
 use Rattle.saphyr_scanner.proofs.Turns.{handed_over, stopped}
 use Rattle.saphyr_scanner.proofs.scanner.Scanner.next_token_into.Goals as goal
 
 pub returns-in_err-fill : goal.returns-in_err-fill
 returns-in_err-fill g c =
-    let laws : Readers = record {
-      plain = c.takes_plain.ensures;
-      double_quoted = (quoted_laws c.takes_quoted.ensures).0;
-      single_quoted = (quoted_laws c.takes_quoted.ensures).1;
-      block_scalar = c.takes_block_scalar.ensures;
-      name = c.takes_anchor.ensures;
-      tag = c.takes_tag.ensures;
-      directive = c.takes_directive.ensures;
-    } in
     let p = err_from_is_err_and c.from_residual.result c.from_residual.ensures.1 in
-    rw (p.1, p.2) (stopped laws c.self.inside.limit _ _ _ _ c.in_err-fill.ensures c.self.view_is)
+    rw (p.1, p.2)
+    (stopped c.takes_characters_off.ensures c.self.inside.limit _ _ _ _ c.in_err-fill.ensures c.self.view_is)
 
 pub returns : goal.returns
 returns g c =
-    let laws : Readers = record {
-      plain = c.takes_plain.ensures;
-      double_quoted = (quoted_laws c.takes_quoted.ensures).0;
-      single_quoted = (quoted_laws c.takes_quoted.ensures).1;
-      block_scalar = c.takes_block_scalar.ensures;
-      name = c.takes_anchor.ensures;
-      tag = c.takes_tag.ensures;
-      directive = c.takes_directive.ensures;
-    } in
-    handed_over laws c.self.inside.limit _ _ _ _ _ _ c.in_ok-fill.ensures c.take_into.ensures c.self.view_is
+    handed_over c.takes_characters_off.ensures c.self.inside.limit _ _ _ _ _ _ c.in_ok-fill.ensures
+    c.take_into.ensures c.self.view_is

@@ -16,4 +16,4 @@ loop-after-preserved g c =
     (chars c.ascii_run-ascii.result.1.now) c.loop-after.count c.ascii_run-ascii.result.0
     c.loop-after.invariant.run c.loop-after.invariant.behind c.in-Some.ensures.some c.in-Some.ensures.rest
     c.ascii_run-ascii.ensures.part c.ascii_run-ascii.ensures.rest in
-    record { text = search rules; run = h.run; behind = h.behind }
+    record { text = search rules; run = h.run; stops = c.ascii_run-ascii.ensures.stops; behind = h.behind }

@@ -1,5 +1,7 @@
-use Rattle.std.proofs.Common.{drop, ◌+◌, ◌≡◌}
+use Rattle.std.proofs.Common.{drop, false, ◌+◌, ◌≡◌}
+use Rattle.std.specs.Prelude.{slice_index}
 use Rattle.std.specs.List.{prefix_len}
+use Rattle.saphyr_input.specs.Fronts.{ascii_in}
 use Rattle.std.specs.Str.{chars}
 use denote.Shadow.{shadow}
 use denote.Text.{Utf8}
@@ -9,6 +11,7 @@ abbrev pub invariant-loop-after : goal.invariant-loop-after
 invariant-loop-after g l = record {
   text : shadow (Utf8 l.rest);
   run : l.count + prefix_len g.C.CharSet.test (chars l.rest) ≡ prefix_len g.C.CharSet.test (chars l.fn.text);
+  stops : ascii_in g.C.CharSet.test (slice_index l.rest 0) ≡ false;
   behind : chars l.rest ≡ drop l.count (chars l.fn.text);
 }
 

@@ -1,6 +1,5 @@
-use Rattle.std.proofs.Common.{rules, subst, IsUtf8, ap, ◌∙◌}
-use Rattle.std.specs.Str.{chars}
-use Rattle.saphyr_input.proofs.WordRuns.{SpacesPast, spaces_past}
+use Rattle.std.proofs.Common.{rules}
+use Rattle.saphyr_input.proofs.WordRuns.{spaces_past}
 use Rattle.saphyr_input.proofs.input.str.text.spaces.Goals as goal
 
 pub range_from-requires : goal.range_from-requires

@@ -1,5 +1,4 @@
-use Rattle.std.proofs.Common.{arith, rules, sym}
-use Rattle.std.specs.Str.{chars}
+use Rattle.std.proofs.Common.{arith, rules}
 use Rattle.saphyr_input.proofs.WordRuns.{words_fit, words_begin, words_more}
 use Rattle.saphyr_input.proofs.input.str.text.words.Goals as goal
 

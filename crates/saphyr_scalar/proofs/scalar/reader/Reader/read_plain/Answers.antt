@@ -1,8 +1,12 @@
-use Rattle.std.proofs.Common.{◌≡◌, Bool, true, false, ◌++◌, string_bytes, Ok, sym, ap, ◌∙◌, subst}
+use Rattle.std.proofs.Common.{◌≡◌, ℕ, Bool, true, false, List, [], slice_index, string_bytes, Ok, refl, sym, ap, ◌∙◌, subst}
+use Rattle.std.specs.Prelude.{None}
+use Rattle.saphyr_input.specs.Classes.{is_blank, is_break}
+use Rattle.saphyr_input.specs.Places.{is_blank_or_break}
 use Rattle.saphyr_scalar.specs.Views.Cursor.{Cursor}
 use Rattle.saphyr_scalar.specs.Steps.Plain as spec
-use Rattle.saphyr_scalar.specs.Views.Reader.{cursor_of}
-use Rattle.saphyr_scalar.proofs.Plain.Pieces.{GapMoved, gap_refused, turn_refused, no_turn, turn, turn_goes, turn_shorter, goes_says, plain_starts, plain_refused, no_plain, first_goes, no_text, moves_refused, moves_failed}
+use Rattle.saphyr_scalar.specs.Views.Reader.{cursor_of, Moves}
+use Rattle.saphyr_scalar.proofs.Plain.Pieces.{plain_starts, plain_refused, no_plain, no_text, moves_refused}
+use Rattle.saphyr_scalar.proofs.Plain.WordEnds.{scalar_ends}
 use Rattle.saphyr_scalar.proofs.scalar.reader.Reader.read_plain.Goals as goal
 
 pub returns-in_err-plain_word_starts : goal.returns-in_err-plain_word_starts
@@ -19,108 +23,60 @@ returns-then-not-branch g c =
     (subst (λ (b : Bool). spec.word_starts f s ≡ Ok (b, there)) c.if-not-branch.true
     c.in_ok-plain_word_starts.ensures)
 
-pub loop-gap-init : goal.loop-gap-init
-loop-gap-init g c =
+-- the scalar is what was moved of its first words, and what is left
+words_and_rest : (f : Bool) (i : ℕ) (s there end : Cursor) (text grown : List ℕ)
+    → spec.word_starts f s ≡ Ok (true, there) → text ≡ [] → spec.PlainWordsMoved f text grown there end
+    → spec.with_text grown (spec.word f i s.mark end.mark end.rest) ≡ spec.plain f i s
+words_and_rest f i s there end text grown starts empty moved =
+    moved.same i s.mark ∙ ap (λ b. spec.with_text b (spec.word f i s.mark there.mark there.rest)) empty
+    ∙ no_text _ ∙ sym (plain_starts f i s there starts)
+
+pub returns-then-is_break : goal.returns-then-is_break
+returns-then-is_break g c =
     let f = c.args.in_flow in
+    let i = c.args.indent in
     let s = cursor_of c.args.self.now in
     let there = cursor_of c.plain_word_starts.new.self in
+    let end = cursor_of c.read_plain_words.new.self in
+    let grown = string_bytes c.read_plain_words.new.text in
     let starts : spec.word_starts f s ≡ Ok (true, there) = subst (λ (b : Bool). spec.word_starts f s ≡ Ok (b, there))
     c.if-not-branch.false c.in_ok-plain_word_starts.ensures in
-    record {
-      same = ap (λ b. spec.with_text b (spec.word f c.args.indent s.mark there.mark there.rest))
-          c.in_ok-text.ensures
-          ∙ no_text _ ∙ sym (plain_starts f c.args.indent s there starts);
-      goes = first_goes f s there starts;
-    }
+    let same = ap (λ (x : Cursor). spec.with_text grown (spec.word f i s.mark x.mark x.rest)) c.look-c.ensures.same
+    ∙ words_and_rest f i s there end _ grown starts c.in_ok-text.ensures c.in_ok-read_plain_words.ensures in
+    subst (λ (r : spec.PlainScalarRead). Moves (λ x. spec.seen_plain_scalar x (cursor_of c.read_plain_break.new.self))
+    c.read_plain_break.result r) same c.read_plain_break.ensures
 
-pub returns-in_err-tabbed : goal.returns-in_err-tabbed
-returns-in_err-tabbed g c =
+pub returns-then-not-is_blank : goal.returns-then-not-is_blank
+returns-then-not-is_blank g c =
     let f = c.args.in_flow in
     let i = c.args.indent in
-    let start = c.args.self.now.mark in
-    let here = cursor_of c.loop-gap.self in
+    let s = cursor_of c.args.self.now in
+    let there = cursor_of c.plain_word_starts.new.self in
     let end = cursor_of c.read_plain_words.new.self in
-    moves_failed _ _ _ (spec.gap i start end) _ c.from_residual-in_err-tabbed.ensures.1 c.in_err-tabbed.ensures
-    (λ r h. sym c.loop-gap.invariant.same ∙ gap_refused f i start _ _ here end r c.in_ok-read_plain_words.ensures h)
-
-pub returns-in_err-plain_goes_on : goal.returns-in_err-plain_goes_on
-returns-in_err-plain_goes_on g c =
-    let f = c.args.in_flow in
-    let i = c.args.indent in
-    let start = c.args.self.now.mark in
-    let here = cursor_of c.loop-gap.self in
-    let end = cursor_of c.read_plain_words.new.self in
-    let behind = cursor_of c.read_plain_gap.new.self in
-    let gap = spec.seen_word_gap c.in_ok-tabbed.tabbed (string_bytes c.read_plain_gap.new.gap) behind in
-    let moved : GapMoved f i start (string_bytes c.loop-gap.text) (string_bytes c.read_plain_words.new.text) here end
-    gap = record {
-      moved = c.in_ok-read_plain_words.ensures;
-      is = c.in_ok-tabbed.ensures;
-    } in
-    moves_refused _ _ _ _ c.from_residual-in_err-plain_goes_on.ensures.1
-    (sym c.loop-gap.invariant.same ∙ turn_refused f i start _ _ here end gap _ moved c.in_err-plain_goes_on.ensures)
-
-pub returns-then-not-branch-2 : goal.returns-then-not-branch-2
-returns-then-not-branch-2 g c =
-    let f = c.args.in_flow in
-    let i = c.args.indent in
-    let start = c.args.self.now.mark in
-    let here = cursor_of c.loop-gap.self in
-    let end = cursor_of c.read_plain_words.new.self in
-    let behind = cursor_of c.read_plain_gap.new.self in
-    let there = cursor_of c.plain_goes_on.new.self in
-    let gap = spec.seen_word_gap c.in_ok-tabbed.tabbed (string_bytes c.read_plain_gap.new.gap) behind in
     let grown = string_bytes c.read_plain_words.new.text in
-    let moved : GapMoved f i start (string_bytes c.loop-gap.text) grown here end gap = record {
-      moved = c.in_ok-read_plain_words.ensures;
-      is = c.in_ok-tabbed.ensures;
-    } in
-    let over : spec.goes_on f i behind ≡ Ok (false, there) = subst
-    (λ (b : Bool). spec.goes_on f i behind ≡ Ok (b, there)) c.if-not-branch-2.true c.in_ok-plain_goes_on.ensures in
-    sym c.loop-gap.invariant.same ∙ no_turn f i start _ grown here end gap there moved over
-    ∙ ap (λ x. Ok (grown, end.mark, x, there)) (sym c.plain_comment-comment.ensures.value)
-    ∙ ap (λ x. Ok (grown, end.mark, c.plain_comment-comment.result, x)) (sym c.plain_comment-comment.ensures.same)
+    let starts : spec.word_starts f s ≡ Ok (true, there) = subst (λ (b : Bool). spec.word_starts f s ≡ Ok (b, there))
+    c.if-not-branch.false c.in_ok-plain_word_starts.ensures in
+    let moved = c.in_ok-read_plain_words.ensures in
+    let break : is_break (slice_index end.rest 0) ≡ false =
+    ap is_break (sym c.look-c.ensures.value) ∙ sym c.is_break.ensures.test ∙ c.if-is_break.false in
+    let blank : is_blank (slice_index end.rest 0) ≡ false =
+    ap is_blank (sym c.look-c.ensures.value) ∙ sym c.is_blank.ensures.test ∙ c.if-not-is_blank.true in
+    let ink : is_blank_or_break (slice_index end.rest 0) ≡ false = rw (blank, break) refl in
+    sym (words_and_rest f i s there end _ grown starts c.in_ok-text.ensures moved)
+    ∙ scalar_ends f i s.mark grown end moved.stops moved.on_line ink
+    ∙ ap (λ (x : Cursor). Ok (grown, x.mark, None, x)) (sym c.look-c.ensures.same)
 
-pub loop-gap-smaller : goal.loop-gap-smaller
-loop-gap-smaller g c =
+pub returns : goal.returns
+returns g c =
     let f = c.args.in_flow in
     let i = c.args.indent in
-    let start = c.args.self.now.mark in
-    let here = cursor_of c.loop-gap.self in
+    let s = cursor_of c.args.self.now in
+    let there = cursor_of c.plain_word_starts.new.self in
     let end = cursor_of c.read_plain_words.new.self in
-    let behind = cursor_of c.read_plain_gap.new.self in
-    let there = cursor_of c.plain_goes_on.new.self in
-    let gap = spec.seen_word_gap c.in_ok-tabbed.tabbed (string_bytes c.read_plain_gap.new.gap) behind in
-    let moved : GapMoved f i start (string_bytes c.loop-gap.text) (string_bytes c.read_plain_words.new.text) here end
-    gap = record {
-      moved = c.in_ok-read_plain_words.ensures;
-      is = c.in_ok-tabbed.ensures;
-    } in
-    let goes : spec.goes_on f i behind ≡ Ok (true, there) = subst
-    (λ (b : Bool). spec.goes_on f i behind ≡ Ok (b, there)) c.if-not-branch-2.false c.in_ok-plain_goes_on.ensures in
-    turn_shorter f i start _ _ here end gap there c.loop-gap.invariant.goes moved goes
-
-pub loop-gap-preserved : goal.loop-gap-preserved
-loop-gap-preserved g c =
-    let f = c.args.in_flow in
-    let i = c.args.indent in
-    let start = c.args.self.now.mark in
-    let here = cursor_of c.loop-gap.self in
-    let end = cursor_of c.read_plain_words.new.self in
-    let behind = cursor_of c.read_plain_gap.new.self in
-    let there = cursor_of c.plain_goes_on.new.self in
-    let gap = spec.seen_word_gap c.in_ok-tabbed.tabbed (string_bytes c.read_plain_gap.new.gap) behind in
     let grown = string_bytes c.read_plain_words.new.text in
-    let moved : GapMoved f i start (string_bytes c.loop-gap.text) grown here end gap = record {
-      moved = c.in_ok-read_plain_words.ensures;
-      is = c.in_ok-tabbed.ensures;
-    } in
-    let goes : spec.goes_on f i behind ≡ Ok (true, there) = subst
-    (λ (b : Bool). spec.goes_on f i behind ≡ Ok (b, there)) c.if-not-branch-2.false c.in_ok-plain_goes_on.ensures in
-    let joined = c.in_ok-push_gap.ensures ∙ ap (λ b. grown ++ spec.gap_text there.blank_so_far b) c.as_str.ensures.value
-    ∙ ap (λ (x : Cursor). grown ++ spec.gap_text x.blank_so_far (string_bytes c.read_plain_gap.new.gap))
-    (goes_says f i true behind there goes).same in
-    record {
-      same = turn f i start _ grown _ here end gap there moved goes joined ∙ c.loop-gap.invariant.same;
-      goes = turn_goes f i gap there goes;
-    }
+    let starts : spec.word_starts f s ≡ Ok (true, there) = subst (λ (b : Bool). spec.word_starts f s ≡ Ok (b, there))
+    c.if-not-branch.false c.in_ok-plain_word_starts.ensures in
+    let same = ap (λ (x : Cursor). spec.with_text grown (spec.word f i s.mark x.mark x.rest)) c.look-c.ensures.same
+    ∙ words_and_rest f i s there end _ grown starts c.in_ok-text.ensures c.in_ok-read_plain_words.ensures in
+    subst (λ (r : spec.PlainScalarRead). Moves (λ x. spec.seen_plain_scalar x (cursor_of c.read_plain_rest.new.self))
+    c.read_plain_rest.result r) same c.read_plain_rest.ensures

@@ -1,36 +1,45 @@
-use Rattle.std.proofs.Common.{◌≡◌, IsTrue, Ok, slice_index, string_bytes, sym, ap, ◌∙◌, subst}
-use Rattle.saphyr_scalar.specs.Views.Cursor.{Cursor}
-use Rattle.scalar_values.specs.Flow as flow
+use Rattle.std.proofs.Common.{◌≡◌, ℕ, List, [], IsTrue, Ok, string_bytes, sym, ap, ◌∙◌, subst}
+use Rattle.scalar_values.specs.declared.flow.Quote.{Quote}
+use Rattle.saphyr_scalar.specs.Views.Cursor.{Cursor, pass}
 use Rattle.saphyr_scalar.specs.Steps.Quoted as spec
-use Rattle.saphyr_scalar.specs.Views.Reader.{cursor_of}
+use Rattle.saphyr_scalar.specs.Views.Reader.{cursor_of, Moves}
 use Rattle.saphyr_scalar.proofs.Quoted.Inside.{no_front}
-use Rattle.saphyr_scalar.proofs.Quoted.Gaps.{quote_closes}
+use Rattle.saphyr_scalar.proofs.Quoted.Gaps.{closing_closes}
 use Rattle.saphyr_scalar.proofs.scalar.reader.Reader.read_quoted.Goals as goal
 
-pub loop-blanks-init : goal.loop-blanks-init
+-- the scalar is what was moved of it, and what is left
+moved_and_left : (q : Quote) (indent : ℕ) (s here there : Cursor) (text grown : List ℕ) → here ≡ pass 1 s → text ≡ []
+    → spec.QuotedWordsMoved q text grown here there
+    → spec.with_front grown (spec.inside_at q indent s.mark spec.no_gap there) ≡ spec.quoted q indent s
 unfolding spec.quoted
-loop-blanks-init g c =
+moved_and_left q indent s here there text grown same empty moved =
+    moved.same indent s.mark
+    ∙ ap (λ b. spec.with_front b (spec.inside_at q indent s.mark spec.no_gap here)) empty
+    ∙ no_front (spec.inside_at q indent s.mark spec.no_gap here)
+    ∙ ap (spec.inside_at q indent s.mark spec.no_gap) same
+
+pub returns-then-closes : goal.returns-then-closes
+returns-then-closes g c =
     let a = c.args in
-    let start = a.self.now.mark in
-    let there = cursor_of c.skip_non_blank.new.self in
-    ap (λ b. spec.with_front b (spec.inside_at a.quote a.indent start spec.no_gap (cursor_of c.look.new.self)))
-    c.in_ok-text.ensures
-    ∙ no_front (spec.inside_at a.quote a.indent start spec.no_gap (cursor_of c.look.new.self))
-    ∙ ap (spec.inside_at a.quote a.indent start spec.no_gap) (c.look.ensures.same ∙ c.skip_non_blank.ensures)
+    let there = cursor_of c.take_literal_words.new.self in
+    let text = string_bytes c.take_literal_words.new.text in
+    let closing : IsTrue (spec.is_closing a.quote there.rest) = sym c.closes.ensures.value ∙ c.if-closes.true in
+    sym (moved_and_left a.quote a.indent (cursor_of a.self.now) (cursor_of c.look.new.self) there
+    (string_bytes c.in_ok-text.text) text (c.look.ensures.same ∙ c.skip_non_blank.ensures) c.in_ok-text.ensures
+    c.in_ok-take_literal_words.ensures)
+    ∙ closing_closes a.quote a.indent a.self.now.mark text there closing
+    ∙ ap (λ s. let r : spec.TextRead = Ok (text, s) in r)
+    (ap (pass 1) (sym c.closes.ensures.same) ∙ sym c.skip_non_blank-then-closes.ensures)
 
 pub returns : goal.returns
 returns g c =
     let a = c.args in
-    let start = a.self.now.mark in
-    let word = cursor_of c.read_quoted_word.new.self in
-    let here = cursor_of c.look-in-loop-blanks.new.self in
-    let text = string_bytes c.read_quoted_word.new.text in
-    let same : here ≡ word = c.look-in-loop-blanks.ensures.same in
-    let ended : IsTrue (spec.ends_word a.quote here.rest) = subst
-    (λ (s : Cursor). IsTrue (spec.ends_word a.quote s.rest)) (sym same) c.in_ok-read_quoted_word.ensures.ended in
-    let quote : slice_index here.rest 0 ≡ flow.mark a.quote = ap (λ (s : Cursor). slice_index s.rest 0) same
-    ∙ sym c.look-in-loop-blanks.ensures.value ∙ c.if-look-mark.true ∙ c.mark-in-loop-blanks.ensures in
-    sym (ap (λ x. spec.with_front text (spec.inside_at a.quote a.indent start spec.no_gap x)) same
-    ∙ c.in_ok-read_quoted_word.ensures.same a.indent ∙ c.loop-blanks.invariant)
-    ∙ quote_closes a.quote a.indent start text here ended quote
-    ∙ ap (λ s. let r : spec.TextRead = Ok (text, s) in r) (sym c.skip_non_blank-2.ensures)
+    let there = cursor_of c.take_literal_words.new.self in
+    let text = string_bytes c.take_literal_words.new.text in
+    let same = ap (λ s. spec.with_front text (spec.inside_at a.quote a.indent a.self.now.mark spec.no_gap s))
+    c.closes.ensures.same
+    ∙ moved_and_left a.quote a.indent (cursor_of a.self.now) (cursor_of c.look.new.self) there
+    (string_bytes c.in_ok-text.text) text (c.look.ensures.same ∙ c.skip_non_blank.ensures) c.in_ok-text.ensures
+    c.in_ok-take_literal_words.ensures in
+    subst (λ (r : spec.TextRead). Moves (λ x. (string_bytes x, cursor_of c.read_quoted_rest.new.self))
+    c.read_quoted_rest.result r) same c.read_quoted_rest.ensures

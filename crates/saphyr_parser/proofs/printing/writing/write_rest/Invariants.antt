@@ -1,6 +1,6 @@
 use Rattle.std.proofs.Common.{length}
 use Rattle.saphyr_parser.specs.Written.{TakesUpTo}
-use Rattle.saphyr_parser.proofs.printing.writing.write_all.Given as goal
+use Rattle.saphyr_parser.proofs.printing.writing.write_rest.Given as goal
 
 abbrev pub invariant-loop-rest : goal.invariant-loop-rest
 invariant-loop-rest g l = TakesUpTo (g.W.Write.contents l.fn.out) (g.W.Write.contents l.out) l.bytes l.rest

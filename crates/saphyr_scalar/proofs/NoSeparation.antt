@@ -1,0 +1,31 @@
+-- Where neither a blank nor a comment nor a byte order mark stands, nothing separates.
+use Rattle.std.proofs.Common.{◌≡◌, ℕ, Bool, false, List, [], ◌∷◌, slice_index, Ok, refl, sym, ap, ◌∙◌}
+use Rattle.std.specs.Prelude.{◌+◌, ◌==◌, nat_lt}
+use Rattle.std.specs.List.{prefix_len}
+use Rattle.saphyr_input.specs.Classes.{is_bom}
+use Rattle.saphyr_input.specs.Separation.{blank_len, is_skipped}
+use Rattle.saphyr_input.specs.declared.input.SkipTabs.{SkipTabs}
+use Rattle.saphyr_input.specs.declared.input.SkipTabs.TheVariants.{Result}
+use Rattle.saphyr_input.proofs.Basics.Booleans.{and_false}
+use Rattle.saphyr_scalar.specs.Views.Cursor.{Cursor, separation, behind_separation, pass_blanks}
+use Rattle.saphyr_scalar.proofs.Moving.{along_none}
+
+-- no character comes first that a test lets through
+pub no_run : (p : ℕ → Bool) (xs : List ℕ) → p (slice_index xs 0) ≡ false → prefix_len p xs ≡ 0
+no_run p [] h = refl
+no_run p (c ∷ cs) h = rw h refl
+
+none_passed : (s : Cursor) → pass_blanks 0 s ≡ s
+none_passed s = ap (λ m. let t : Cursor = record { rest = s.rest; mark = m; blank_so_far = s.blank_so_far } in t)
+    (along_none s.mark)
+
+pub nothing_separates : (tabs : SkipTabs) (s t : Cursor) (c : ℕ) → c ≡ slice_index s.rest 0 → t ≡ s
+    → is_skipped tabs c ≡ false → (c == 35) ≡ false → is_bom c ≡ false
+    → separation tabs s ≡ Ok (Result false false, t)
+unfolding separation behind_separation
+nothing_separates tabs s t c first same skipped comment mark =
+    let none : blank_len tabs s.rest ≡ 0 =
+    no_run (is_skipped tabs) s.rest (ap (is_skipped tabs) (sym first) ∙ skipped) in
+    let hash : (slice_index s.rest 0 == 35) ≡ false = ap (λ x. x == 35) (sym first) ∙ comment in
+    let bom : is_bom (slice_index s.rest 0) ≡ false = ap is_bom (sym first) ∙ mark in
+    rw (none, none_passed s, hash, bom, and_false (nat_lt 0 (s.mark.col + 0)), same) refl
