@@ -99,8 +99,8 @@ impl Queue {
         ensures { OnOk result (queue self.new ≡ spec.put (piece token) (queue self.old)) }
     {
         if self.second.is_full || !self.held.is_empty() {
-            let Token { span, kind } = token;
-            return self.put_behind(alloc, &span, kind, spare);
+            let kind = token.kind;
+            return self.put_behind(alloc, &token.span, kind, spare);
         }
         if self.first.is_full {
             self.second.put(token);

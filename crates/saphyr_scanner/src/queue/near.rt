@@ -5,6 +5,9 @@ ghost use Rattle.saphyr_scanner.specs.Views.Places.{near_marker, near_span};
 
 use saphyr_scalar::{Marker, Span};
 
+// What fits into 32 bits.
+const MOST: usize = u32::MAX as usize;
+
 /// A place whose numbers fit into 32 bits.
 #[derive(Clone, Copy, Debug, PartialEq, Eq)]
 pub(super) struct NearMarker {
@@ -18,10 +21,14 @@ impl NearMarker {
     fn new(mark: Marker) -> Option<NearMarker>
         ensures { IfSome result (λ near. near_marker near ≡ mark) }
     {
-        let index = u32::try_from(mark.index).ok()?;
-        let line = u32::try_from(mark.line).ok()?;
-        let col = u32::try_from(mark.col).ok()?;
-        Some(NearMarker { index, line, col })
+        if mark.index > MOST || mark.line > MOST || mark.col > MOST {
+            return None;
+        }
+        Some(NearMarker {
+            index: mark.index as u32,
+            line: mark.line as u32,
+            col: mark.col as u32,
+        })
     }
 
     #[inline(always)]
@@ -59,11 +66,12 @@ impl NearMarker {
 pub(super) fn near(span: &Span) -> Option<(NearMarker, u8)>
     ensures { IfSome result (λ found. near_span found.0 found.1 ≡ span.now) }
 {
-    let start = NearMarker::new(span.start)?;
-    let length = u8::try_from(span.end.index.checked_sub(span.start.index)?).ok()?;
-    if start.span(length) == *span {
-        Some((start, length))
-    } else {
-        None
+    let count = span.end.index.checked_sub(span.start.index)?;
+    let width = span.end.col.checked_sub(span.start.col)?;
+    if span.end.line != span.start.line || width != count {
+        return None;
     }
+    let start = NearMarker::new(span.start)?;
+    let length = u8::try_from(count).ok()?;
+    Some((start, length))
 }
