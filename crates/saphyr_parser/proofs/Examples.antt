@@ -1,4 +1,5 @@
--- Events of small texts, by computing.
+-- Events of small texts, by computing, and the premises of the promises on them.
 pub mod Events
 pub mod Taken
 pub mod TakenEvents
+pub mod ClosedLayout

@@ -3,7 +3,6 @@ pub mod Stacks
 pub mod Passing
 pub mod Walk
 pub mod Sizes
-pub mod Spans
 pub mod Unroll
 pub mod Turns
 pub mod Promises

@@ -1,12 +1,14 @@
--- The promises on a parser, from what is proved of its tokens and its machine.
-pub mod Json
+-- The promises on a parser, from what is proved of its tokens and its machine: a file for each, by its name, and what
+-- they share.
 pub mod Forests
-pub mod Texts
-pub mod WithinLimit
-pub mod ClosedLayout
-pub mod EventsTakenOf
+pub mod ReadsEach
+pub mod JsonEvents
+pub mod ReadsJson
+pub mod ReadsLayout
 pub mod CommonBeginnings
 pub mod ClosedTokens
-pub mod ClosedBeginnings
-pub mod ReadsEachText
+pub mod ReadsClosedLayout
+pub mod TakesEvents
+pub mod KeepsSpans
+pub mod WithinLimit
 pub mod OneMeaning

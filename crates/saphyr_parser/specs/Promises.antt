@@ -1,5 +1,5 @@
--- The promises on texts of JSON and of the layout grammar, and on all texts. Each is of a text and of a parser at its
--- start.
+-- The promises of `Parser::new`: on all texts, and on those of JSON and of the layout grammar. Each is of a text and of
+-- a parser at its start. The proof of each stands under its name in `proofs/Promises`.
 use Rattle.std.specs.Prelude.{◌≤◌, ℕ, Bool, List}
 use Rattle.saphyr_scalar.specs.Spelling.Spaces.{IsLineRest}
 use Rattle.saphyr_scanner.specs.Grammar.Forest.{Forest, open_in_forest}
@@ -8,10 +8,15 @@ use Rattle.saphyr_scanner.specs.Grammar.Layout.{most_open, IsLayoutText}
 use Rattle.saphyr_parser.specs.Cursor.{EventCursor, keeping_tags, to_come}
 use Rattle.saphyr_parser.specs.EventsTaken.{AreTaken}
 use Rattle.saphyr_parser.specs.Premises.{ReadsEach, ReadsClosed}
+use Rattle.saphyr_parser.specs.SpansWithin.{HasSpansIn}
 
 -- of every text: what comes is taken from it, whether prefixes of tags are kept or not
 abbrev pub TakesEvents : List ℕ → EventCursor → Type 0
 TakesEvents text parser = (keep : Bool) → AreTaken keep text (to_come (keeping_tags keep parser))
+
+-- of every text: the spans of what comes lie in it, whether prefixes of tags are kept or not
+abbrev pub KeepsSpans : List ℕ → EventCursor → Type 0
+KeepsSpans text parser = (keep : Bool) → HasSpansIn text (to_come (keeping_tags keep parser))
 
 -- a text of JSON with at most so many collections open at once, all of which are in flow style
 abbrev pub IsShallowJson : ℕ → Forest → List ℕ → Type 0

@@ -24,11 +24,10 @@ ghost use Rattle.saphyr_parser.specs.Exactly.{GivesExactly, TellTheSame, kinds, 
 ghost use Rattle.saphyr_parser.specs.Events.{Alias, DocumentEnd, Happening};
 ghost use Rattle.saphyr_parser.specs.EventsTaken.{AreTaken, HasPlaceIn, IsOf};
 ghost use Rattle.saphyr_parser.specs.Premises.{DocumentMarker, GivesFirst, HasOneMeaning, IsClosed, MeanTheSame, ReadsClosed, ReadsEach, behind_marker};
-ghost use Rattle.saphyr_parser.specs.Promises.{IsShallowJson, ReadsClosedLayout, ReadsLayout, TakesEvents};
+ghost use Rattle.saphyr_parser.specs.Promises.{IsShallowJson, KeepsSpans, ReadsClosedLayout, ReadsLayout, TakesEvents};
 ghost use Rattle.saphyr_scalar.specs.declared.scalar.position.Span.{Span};
 ghost use Rattle.saphyr_scalar.specs.Spelling.Spaces.{IsLineRest};
 ghost use Rattle.saphyr_scanner.specs.Grammar.Layout.{IsLayoutText, most_open};
-ghost use Rattle.saphyr_parser.specs.SpansWithin.{HasSpansIn};
 ghost use Rattle.saphyr_parser.specs.Begins.{BeginsSomeForest};
 ghost use Rattle.saphyr_scanner.specs.AtPlaces.{AreAtPlaces};
 ghost use Rattle.saphyr_scanner.specs.Ends.{EndsWithStream};
@@ -122,9 +121,9 @@ pub fn gives_json()
 /// Where the spans of tokens stand one behind the other at places of a text, each event's span has its start at
 /// or before its end, and both are places of that text.
 pub fn keeps_spans_in()
-    ensures { (text : List ℕ) (tokens : Remaining) (keep : Bool)
-        → AreInOrder (length text) 0 tokens.pieces → AreAtPlaces text tokens.pieces
-        → HasSpansIn text (to_come (keeping_tags keep (at_start tokens))) }
+    ensures { (text : List ℕ) (tokens : Remaining) → AreInOrder (length text) 0 tokens.pieces
+        → AreAtPlaces text tokens.pieces
+        → KeepsSpans text (at_start tokens) }
 {}
 
 /// With `multi`, `load` hands over all events that are still to come, as iteration gives them, and meets

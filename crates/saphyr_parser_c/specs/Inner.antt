@@ -9,8 +9,7 @@ use Rattle.saphyr_parser.specs.declared.parser.fault.Fault.{Fault}
 use Rattle.saphyr_scanner.specs.Steps.Remaining.{scan}
 use Rattle.saphyr_parser.specs.Calls.{EndsTheStream, GivesNext, Peeks}
 use Rattle.saphyr_parser.specs.Cursor.{EventCursor, HandsOutNext, at_start, keeping_tags, to_come}
-use Rattle.saphyr_parser.specs.Promises.{ReadsClosedLayout, ReadsJson, ReadsLayout, TakesEvents}
-use Rattle.saphyr_parser.specs.SpansWithin.{HasSpansIn}
+use Rattle.saphyr_parser.specs.Promises.{KeepsSpans, ReadsClosedLayout, ReadsJson, ReadsLayout, TakesEvents}
 use Rattle.saphyr_parser_c.specs.declared.inner.Inner.{Inner}
 use Rattle.saphyr_parser_c.specs.declared.shown.CEvent.{CEvent}
 use Rattle.saphyr_parser_c.specs.declared.status.Status.{Status}
@@ -23,7 +22,7 @@ pub record Promises (text : List ℕ) (parser : EventCursor) : Type 0 where
   pub json : ReadsJson most_characters text parser
   pub layout : ReadsLayout most_characters text parser
   pub closed : ReadsClosedLayout most_characters text parser
-  pub spans : (keep : Bool) → HasSpansIn text (to_come (keeping_tags keep parser))
+  pub spans : KeepsSpans text parser
   pub taken : TakesEvents text parser
 
 -- a parser at the start of a text in UTF-8, which keeps the prefixes of tags or not, and no event yet

@@ -1,14 +1,13 @@
 //! The parser as its callers see it: a place in the list of a text's events.
 
-ghost use Rattle.std.specs.Prelude.{◌≡◌, ◌≤◌, ℕ, ◌+◌, Bool, List, length, take, IfOk};
+ghost use Rattle.std.specs.Prelude.{◌≡◌, ◌≤◌, ℕ, ◌+◌, List, length, take, IfOk};
 ghost use Rattle.std.specs.Str.{chars};
 ghost use Rattle.saphyr_input.specs.Listed.{Lists, Listed};
 ghost use Rattle.saphyr_scanner.specs.Steps.Remaining.{scan};
 ghost use Rattle.saphyr_parser.specs.Limits.{most_characters};
 ghost use Rattle.saphyr_parser.specs.Cursor as spec;
 ghost use Rattle.saphyr_parser.specs.Calls as calls;
-ghost use Rattle.saphyr_parser.specs.SpansWithin.{HasSpansIn};
-ghost use Rattle.saphyr_parser.specs.Promises.{ReadsClosedLayout, ReadsJson, ReadsLayout, TakesEvents};
+ghost use Rattle.saphyr_parser.specs.Promises.{KeepsSpans, ReadsClosedLayout, ReadsJson, ReadsLayout, TakesEvents};
 
 use crate::law::{gives_json, takes_all_events};
 use crate::parser::event::Event;
@@ -82,8 +81,7 @@ impl<'input, T: Input> Parser<'input, T> {
         ensures json { ReadsJson most_characters (T.rest src) result }
         ensures layout { ReadsLayout most_characters (T.rest src) result }
         ensures closed { ReadsClosedLayout most_characters (T.rest src) result }
-        ensures spans { (keep : Bool) → HasSpansIn (T.rest src)
-            (spec.to_come (spec.keeping_tags keep result)) }
+        ensures spans { KeepsSpans (T.rest src) result }
         ensures taken { TakesEvents (T.rest src) result }
     {
         Parser::with_limit(alloc, src, MOST_CHARACTERS)
@@ -101,8 +99,7 @@ impl<'input, T: Input> Parser<'input, T> {
         ensures json { ReadsJson limit (T.rest src) result }
         ensures layout { limit ≤ most_characters → ReadsLayout limit (T.rest src) result }
         ensures closed { limit ≤ most_characters → ReadsClosedLayout limit (T.rest src) result }
-        ensures spans { (keep : Bool) → HasSpansIn (T.rest src)
-            (spec.to_come (spec.keeping_tags keep result)) }
+        ensures spans { KeepsSpans (T.rest src) result }
         ensures taken { limit ≤ most_characters → TakesEvents (T.rest src) result }
     {
         scans_each_json();
@@ -221,8 +218,7 @@ impl<'input> Parser<'input, StrInput<'input>> {
         ensures json { ReadsJson most_characters (chars value.now) result }
         ensures layout { ReadsLayout most_characters (chars value.now) result }
         ensures closed { ReadsClosedLayout most_characters (chars value.now) result }
-        ensures spans { (keep : Bool) → HasSpansIn (chars value.now)
-            (spec.to_come (spec.keeping_tags keep result)) }
+        ensures spans { KeepsSpans (chars value.now) result }
         ensures taken { TakesEvents (chars value.now) result }
     {
         Parser::new(alloc, StrInput::new(value))
@@ -247,8 +243,7 @@ impl<'input, I: Iterator<Item = char>> Parser<'input, BufferedInput<I>> {
         ensures closed { (text : List ℕ) → Lists I.can_next I.next_gives iter text
             → IfOk result (λ parser. ReadsClosedLayout most_characters text parser) }
         ensures spans { (text : List ℕ) → Lists I.can_next I.next_gives iter text
-            → IfOk result (λ parser. (keep : Bool)
-            → HasSpansIn (take (most_characters + 1) text) (spec.to_come (spec.keeping_tags keep parser))) }
+            → IfOk result (λ parser. KeepsSpans (take (most_characters + 1) text) parser) }
         ensures taken { (text : List ℕ) → Lists I.can_next I.next_gives iter text
             → IfOk result (λ parser. TakesEvents (take (most_characters + 1) text) parser) }
     {

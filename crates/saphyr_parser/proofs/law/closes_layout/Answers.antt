@@ -1,4 +1,4 @@
-use Rattle.saphyr_parser.proofs.Promises.ClosedLayout.{closed, marked, behind, gives_start, gives_first}
+use Rattle.saphyr_parser.proofs.Examples.ClosedLayout.{closed, marked, behind, gives_start, gives_first}
 use Rattle.saphyr_parser.proofs.law.closes_layout.Goals as goal
 
 pub returns-clause-closed : goal.returns-clause-closed

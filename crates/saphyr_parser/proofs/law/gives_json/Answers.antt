@@ -5,7 +5,7 @@ use Rattle.saphyr_scanner.specs.Grammar.TokenGrammar.{Yields}
 use Rattle.saphyr_parser.specs.Anchors.{anchors}
 use Rattle.saphyr_parser.specs.Preorder.{parts}
 use Rattle.saphyr_parser.proofs.Promises.Forests.{each_gives, each_parsed}
-use Rattle.saphyr_parser.proofs.Promises.Json.{json_has_no_anchors}
+use Rattle.saphyr_parser.proofs.Promises.JsonEvents.{json_has_no_anchors}
 use Rattle.saphyr_parser.proofs.law.gives_json.Goals as goal
 
 few : (forest : Forest) (text : List ℕ) → IsJson forest text → anchors (parts forest) < 2 ^ 64

@@ -1,4 +1,4 @@
-use Rattle.saphyr_parser.proofs.Promises.Json.{json_has_events}
+use Rattle.saphyr_parser.proofs.Promises.JsonEvents.{json_has_events}
 use Rattle.saphyr_parser.proofs.law.has_events.Goals as goal
 
 pub returns : goal.returns

@@ -1,5 +1,5 @@
 use Rattle.saphyr_scanner.specs.TokensTaken.{IsPlaceOf}
-use Rattle.saphyr_parser.proofs.Promises.EventsTakenOf.{ended}
+use Rattle.saphyr_parser.proofs.Promises.TakesEvents.{ended}
 use Rattle.saphyr_parser.proofs.Refusing.{refused_at}
 use Rattle.saphyr_parser.proofs.law.refuses_at_places.Goals as goal
 

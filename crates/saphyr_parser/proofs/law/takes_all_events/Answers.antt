@@ -1,4 +1,4 @@
-use Rattle.saphyr_parser.proofs.Promises.EventsTakenOf.{takes}
+use Rattle.saphyr_parser.proofs.Promises.TakesEvents.{takes}
 use Rattle.saphyr_parser.proofs.law.takes_all_events.Goals as goal
 
 pub returns : goal.returns

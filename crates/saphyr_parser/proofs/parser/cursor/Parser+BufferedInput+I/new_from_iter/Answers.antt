@@ -1,8 +1,6 @@
-use Rattle.std.proofs.Common.{ℕ, Bool, List, subst, arith}
-use Rattle.saphyr_parser.specs.Cursor.{keeping_tags, to_come}
-use Rattle.saphyr_parser.specs.SpansWithin.{HasSpansIn}
+use Rattle.std.proofs.Common.{ℕ, List, subst, arith}
 use Rattle.saphyr_scanner.specs.Grammar.Layout.{IsLayoutText, most_open}
-use Rattle.saphyr_parser.specs.Promises.{IsShallowJson, ReadsClosedLayout, ReadsJson, ReadsLayout, TakesEvents}
+use Rattle.saphyr_parser.specs.Promises.{IsShallowJson, KeepsSpans, ReadsClosedLayout, ReadsJson, ReadsLayout, TakesEvents}
 use Rattle.saphyr_parser.proofs.Promises.WithinLimit.{reads_whole, reads_whole_closed}
 use Rattle.saphyr_parser.proofs.parser.cursor.Parser+BufferedInput+I.new_from_iter.Goals as goal
 
@@ -14,8 +12,8 @@ returns-clause-json g c =
 
 pub returns-clause-spans : goal.returns-clause-spans
 returns-clause-spans g c =
-    λ text lists. subst (λ (cs : List ℕ). (keep : Bool) → HasSpansIn cs (to_come (keeping_tags keep c.new-2.result)))
-    (c.in_ok-new.ensures.rest text lists) c.new-2.ensures.spans
+    λ text lists. subst (λ (cs : List ℕ). KeepsSpans cs c.new-2.result) (c.in_ok-new.ensures.rest text lists)
+    c.new-2.ensures.spans
 
 pub returns-clause-taken : goal.returns-clause-taken
 returns-clause-taken g c =

@@ -1,7 +1,5 @@
-use Rattle.std.proofs.Common.{ℕ, Bool, List, subst}
-use Rattle.saphyr_parser.specs.Cursor.{keeping_tags, to_come}
-use Rattle.saphyr_parser.specs.SpansWithin.{HasSpansIn}
-use Rattle.saphyr_parser.specs.Promises.{ReadsClosedLayout, ReadsJson, ReadsLayout, TakesEvents}
+use Rattle.std.proofs.Common.{ℕ, List, subst}
+use Rattle.saphyr_parser.specs.Promises.{KeepsSpans, ReadsClosedLayout, ReadsJson, ReadsLayout, TakesEvents}
 use Rattle.saphyr_parser.proofs.parser.cursor.Parser+StrInput.new_from_str.Goals as goal
 
 pub returns-clause-taken : goal.returns-clause-taken
@@ -12,9 +10,7 @@ returns-clause-layout c =
     subst (λ (cs : List ℕ). ReadsLayout 4294967295 cs c.new-2.result) c.new.ensures.rest c.new-2.ensures.layout
 
 pub returns-clause-spans : goal.returns-clause-spans
-returns-clause-spans c =
-    subst (λ (cs : List ℕ). (keep : Bool) → HasSpansIn cs (to_come (keeping_tags keep c.new-2.result)))
-    c.new.ensures.rest c.new-2.ensures.spans
+returns-clause-spans c = subst (λ (cs : List ℕ). KeepsSpans cs c.new-2.result) c.new.ensures.rest c.new-2.ensures.spans
 
 pub returns-clause-closed : goal.returns-clause-closed
 returns-clause-closed c =

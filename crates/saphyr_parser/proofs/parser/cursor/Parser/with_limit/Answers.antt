@@ -1,21 +1,20 @@
 use Rattle.std.proofs.Common.{ap, ◌∙◌, arith}
 use Rattle.saphyr_parser.specs.Cursor.{at_start}
-use Rattle.saphyr_parser.proofs.Promises.ClosedBeginnings.{reads_closed_layout}
-use Rattle.saphyr_parser.proofs.Promises.Texts.{completed}
-use Rattle.saphyr_parser.proofs.Promises.EventsTakenOf.{parser_takes}
-use Rattle.saphyr_parser.proofs.Spans.{parser_spans_in}
-use Rattle.saphyr_parser.proofs.Promises.ReadsEachText.{reads_text}
-use Rattle.saphyr_scanner.specs.Grammar.Layout.{IsLayoutText, most_open}
+use Rattle.saphyr_parser.proofs.Promises.KeepsSpans.{parser_keeps_spans}
+use Rattle.saphyr_parser.proofs.Promises.ReadsClosedLayout.{reads_closed_layout}
+use Rattle.saphyr_parser.proofs.Promises.ReadsJson.{reads_json}
+use Rattle.saphyr_parser.proofs.Promises.ReadsLayout.{reads_layout}
+use Rattle.saphyr_parser.proofs.Promises.TakesEvents.{parser_takes}
 use Rattle.saphyr_parser.proofs.parser.cursor.Parser.with_limit.Goals as goal
 
 pub returns-clause-json : goal.returns-clause-json
 returns-clause-json g c =
-    completed c.scans_each_json.ensures c.gives_json.ensures.parser _ _ _
+    reads_json c.scans_each_json.ensures c.gives_json.ensures.parser _ _ _
     (c.new-2.ensures ∙ ap at_start c.new.ensures.tokens)
 
 pub returns-clause-spans : goal.returns-clause-spans
 returns-clause-spans g c =
-    parser_spans_in _ c.new.result _ c.new-2.ensures c.new.ensures.spans
+    parser_keeps_spans _ c.new.result _ c.new-2.ensures c.new.ensures.spans
     (let t = c.new.ensures.taken in c.places_taken_tokens.ensures _ _ t.0 t.1)
 
 pub returns-clause-taken : goal.returns-clause-taken
@@ -25,8 +24,7 @@ returns-clause-taken g c =
 
 pub returns-clause-layout : goal.returns-clause-layout
 returns-clause-layout g c = λ few.
-    reads_text (IsLayoutText most_open) _ _ few (c.bounds_tokens.ensures _ _)
-    (λ forest layout short. c.scans_each_layout_text.ensures _ forest _ layout short (omega (arith, few))) _
+    reads_layout c.scans_each_layout_text.ensures _ _ few (c.bounds_tokens.ensures _ _) _
     (c.new-2.ensures ∙ ap at_start c.new.ensures.tokens)
 
 pub returns-clause-closed : goal.returns-clause-closed

@@ -1,4 +1,4 @@
--- The promise on closed beginnings, from one that the scanner's tokens begin with those of a closed beginning.
+-- The promise on closed beginnings, since the scanner's tokens begin with those of a closed beginning.
 use Rattle.std.specs.Prelude.{◌==◌, slice_index}
 use Rattle.std.proofs.Common.{◌≡◌, ℕ, ◌+◌, ◌*◌, ◌^◌, ◌<◌, ◌≤◌, Bool, true, false, List, [], ◌∷◌, ◌++◌, map, length, Some, None, refl, sym, ap, ◌∙◌, subst, arith}
 use Rattle.std.proofs.lemmas.List.{length-append, length-map}

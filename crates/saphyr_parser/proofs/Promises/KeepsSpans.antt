@@ -1,5 +1,5 @@
--- The spans of all events stand at places of the text, where those of the tokens do, in order.
-use Rattle.std.proofs.Common.{◌≡◌, ℕ, suc, ◌≤◌, Bool, List, [], ◌∷◌, length, inl, refl, sym, subst, arith}
+-- The promise on spans: those of all events stand at places of the text, where those of the tokens do, in order.
+use Rattle.std.proofs.Common.{◌≡◌, ℕ, suc, ◌≤◌, List, [], ◌∷◌, length, inl, refl, sym, subst, arith}
 use Rattle.saphyr_scalar.specs.declared.scalar.position.Marker.{Marker}
 use Rattle.saphyr_scalar.specs.Views.Cursor as scalar
 use Rattle.saphyr_scanner.specs.Views.Tokens.{Piece, Remaining}
@@ -9,8 +9,9 @@ use Rattle.saphyr_scanner.specs.TokensTaken as taken
 use Rattle.saphyr_scanner.specs.TokensTaken.{IsPlaceOf}
 use Rattle.saphyr_parser.specs.Steps.Machine.{Machine}
 use Rattle.saphyr_parser.specs.Answer.{remaining_answer, machine_size}
-use Rattle.saphyr_parser.specs.Cursor.{EventCursor, at_start, keeping_tags, to_come}
-use Rattle.saphyr_parser.specs.SpansWithin.{IsIn, HasSpansIn}
+use Rattle.saphyr_parser.specs.Cursor.{EventCursor, at_start, keeping_tags}
+use Rattle.saphyr_parser.specs.Promises.{KeepsSpans}
+use Rattle.saphyr_parser.specs.SpansWithin.{IsIn}
 use Rattle.saphyr_parser.proofs.Walk.Steps.{Walk}
 use Rattle.saphyr_parser.proofs.Walk.All.{Resumes, runs}
 
@@ -45,18 +46,15 @@ resumes text s c d r ts n h =
     (start, ((scalar.fresh text, taken.nothing start text, inl refl, omega arith), h.0, h.1))
 
 -- the tokens of a parser at its start give events with spans in the text
-pub spans_in : (text : List ℕ) (tokens : Remaining) (keep : Bool) → AreInOrder (length text) 0 tokens.pieces
-    → AreAtPlaces text tokens.pieces → HasSpansIn text (to_come (keeping_tags keep (at_start tokens)))
+pub keeps_spans : (text : List ℕ) (tokens : Remaining) → AreInOrder (length text) 0 tokens.pieces
+    → AreAtPlaces text tokens.pieces → KeepsSpans text (at_start tokens)
 unfolding remaining_answer
-spans_in text tokens keep h a =
+keeps_spans text tokens h a keep =
     let m : Machine = (keeping_tags keep (at_start tokens)).machine in
     (runs (ordered text) (resumes text) (suc (machine_size m)) m
     (record { place = tt; places = tt; rests = (h, a) })).spans
 
 -- a parser that stands at the start of such tokens
-pub parser_spans_in : (text : List ℕ) (tokens : Remaining) (c : EventCursor) → c ≡ at_start tokens
-    → AreInOrder (length text) 0 tokens.pieces → AreAtPlaces text tokens.pieces → (keep : Bool)
-    → HasSpansIn text (to_come (keeping_tags keep c))
-parser_spans_in text tokens c is h a keep =
-    subst (λ (x : EventCursor). HasSpansIn text (to_come (keeping_tags keep x))) (sym is)
-    (spans_in text tokens keep h a)
+pub parser_keeps_spans : (text : List ℕ) (tokens : Remaining) (c : EventCursor) → c ≡ at_start tokens
+    → AreInOrder (length text) 0 tokens.pieces → AreAtPlaces text tokens.pieces → KeepsSpans text c
+parser_keeps_spans text tokens c is h a = subst (KeepsSpans text) (sym is) (keeps_spans text tokens h a)

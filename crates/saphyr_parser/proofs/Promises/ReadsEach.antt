@@ -1,4 +1,4 @@
--- A parser gives exactly the events of a text whose tokens are those of its forests.
+-- A parser gives exactly the events of a text of any grammar whose tokens are those of its forests.
 use Rattle.std.proofs.Common.{◌≡◌, ◌+◌, ◌*◌, ◌≤◌, ◌<◌, ◌^◌, ℕ, List, length, sym, subst, arith}
 use Rattle.std.proofs.lemmas.List.{length-map}
 use Rattle.saphyr_scanner.specs.Grammar.Forest.{Forest}
@@ -27,10 +27,10 @@ few_anchors forest limit text yields bound most =
     let same = length-map (scan limit text).pieces (λ (t : Piece). t.kind) in
     omega (arith, count, same, bound, most)
 
-pub reads_text : (G : Grammar) (limit : ℕ) (text : List ℕ) → limit ≤ 4294967295
+pub reads_each : (G : Grammar) (limit : ℕ) (text : List ℕ) → limit ≤ 4294967295
     → length (scan limit text).pieces ≤ 5 * limit + 10 → ScansForests G limit text → (c : EventCursor)
     → c ≡ at_start (scan limit text) → ReadsEach G limit text c
-reads_text G limit text most bound scans c is forest keep told promised =
+reads_each G limit text most bound scans c is forest keep told promised =
     let scanned = scans forest promised.stands_for promised.within in
     let yields = subst (Yields forest) (sym scanned.2.1) scanned.1 in
     subst (λ (x : EventCursor). GivesExactly told (to_come (keeping_tags keep x))) (sym is)
