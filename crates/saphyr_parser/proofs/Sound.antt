@@ -1,5 +1,5 @@
 -- The events of any tokens are a beginning of some forest's.
-use Rattle.saphyr_parser.specs.EventsTaken.{HaveTokens}
+use Rattle.saphyr_parser.specs.EventsTaken.{BeginsSomeForest, HaveTokens, IsAllUnless, IsCut}
 use Rattle.saphyr_parser.specs.EventsTaken as taking
 use Rattle.saphyr_parser.proofs.OwnTokens.{HasOwn, own_more}
 use Rattle.std.proofs.Common.{◌≡◌, ◌≢◌, ℕ, zero, suc, ◌+◌, ◌<◌, ◌≤◌, ◌^◌, Bool, true, false, List, [], ◌∷◌, ◌++◌, length, Option, Some, None, Result, Ok, Err, refl, sym, ap, ◌∙◌, subst, inl, inr, append_assoc, append-nil, arith, length-append}
@@ -19,9 +19,7 @@ use Rattle.saphyr_parser.specs.Steps.Machine.{Machine, Told}
 use Rattle.saphyr_parser.specs.Steps.Expected.{event_step, event_step_at}
 use Rattle.saphyr_parser.specs.Answer.{Answer, empty_answer, with_first_event, ending_of, fault_alone, deliver, remaining_answer, machine_size}
 use Rattle.saphyr_parser.specs.Cursor.{at_start, keeping_tags, to_come}
-use Rattle.saphyr_parser.specs.EventsTaken.{IsAllUnless, IsCut}
 use Rattle.saphyr_parser.specs.WellFormed.{AreWellFormed}
-use Rattle.saphyr_parser.specs.Begins.{BeginsSomeForest}
 use Rattle.saphyr_parser.proofs.Told.Telling.{Memory}
 use Rattle.saphyr_parser.proofs.Remembering.{after, event_in, events_in}
 use Rattle.saphyr_parser.proofs.MemoryFits.{Within, same_events}

@@ -104,7 +104,7 @@ pub data HaveTokens (unread : List Piece) : List (Happening × Span) → List Pi
   event : (what : Happening) (span : Span) (es : List (Happening × Span)) (own ts : List Piece)
       → IsOf what span own (ts ++ unread) → HaveTokens unread es ts → HaveTokens unread ((what, span) ∷ es) (own ++ ts)
 
--- ## Events of a forest
+-- ## A beginning of a forest's events
 
 -- with no fault, all; with one, a beginning
 abbrev pub IsAllUnless : {X : Type 0} → Option Ending → List X → Type 0
@@ -117,26 +117,13 @@ abbrev pub IsCut : {X : Type 0} → Option Ending → List X → Type 0
 IsCut None more = more ≡ []
 IsCut (Some fault) more = more ≢ []
 
--- the text of one of the faults that there are
-abbrev pub IsFaultText : List ℕ → Type 0
-IsFaultText info = (fault : FaultText) × (info ≡ fault_text fault)
-
--- Where the events end with a refusal, its place is one of the text, and it is one of those that there are. Want of
--- memory
--- has no place.
-abbrev pub HasPlaceIn : List ℕ → Option Ending → Type 0
-HasPlaceIn text (Some (Refused place info)) = IsPlaceOf text place × IsFaultText info
-HasPlaceIn text _ = Unit {0}
-
--- The answer is a beginning of the forest's events: all of them where no fault ends it, and with a fault not all.
--- Tokens that are taken from
--- the text begin as the forest's do, and are all of them where there is no fault.
-pub record IsTakenBy (forest : Forest) (keep : Bool) (text : List ℕ) (a : Answer) : Type 0 where
-  pub tokens : Remaining
-  pub taken : AreTakenFrom text tokens
+-- The answer's events are a beginning of the forest's: all of them where no fault ends them, and with a fault not all.
+-- The tokens begin as the forest's do, and are all of them where there is no fault. Each event has its tokens, and
+-- their span.
+pub record IsBeginningOf (forest : Forest) (keep : Bool) (pieces : List Piece) (a : Answer) : Type 0 where
   pub read : List Piece
   pub unread : List Piece
-  pub are_read : tokens.pieces ≡ read ++ unread
+  pub are_read : pieces ≡ read ++ unread
   pub expected : List Kind
   pub yielded : Yields forest (kinds read ++ expected)
   pub missing : List Happening
@@ -145,6 +132,27 @@ pub record IsTakenBy (forest : Forest) (keep : Bool) (text : List ℕ) (a : Answ
   pub all_read : IsAllUnless a.fault unread
   pub all_expected : IsAllUnless a.fault expected
   pub all_given : IsCut a.fault missing
+
+abbrev pub BeginsSomeForest : Bool → Remaining → Answer → Type 0
+BeginsSomeForest keep tokens a = (forest : Forest) × IsBeginningOf forest keep tokens.pieces a
+
+-- ## The same of a text
+
+-- the text of one of the faults that there are
+abbrev pub IsFaultText : List ℕ → Type 0
+IsFaultText info = (fault : FaultText) × (info ≡ fault_text fault)
+
+-- Where the events end with a refusal, its place is one of the text, and it is one of those that there are. Want of
+-- memory has no place.
+abbrev pub HasPlaceIn : List ℕ → Option Ending → Type 0
+HasPlaceIn text (Some (Refused place info)) = IsPlaceOf text place × IsFaultText info
+HasPlaceIn text _ = Unit {0}
+
+-- The answer is a beginning of the forest's events, by tokens that are taken from the text.
+pub record IsTakenBy (forest : Forest) (keep : Bool) (text : List ℕ) (a : Answer) : Type 0 where
+  pub tokens : Remaining
+  pub taken : AreTakenFrom text tokens
+  pub begins : IsBeginningOf forest keep tokens.pieces a
   pub refused_at : HasPlaceIn text a.fault
 
 abbrev pub AreTaken : Bool → List ℕ → Answer → Type 0

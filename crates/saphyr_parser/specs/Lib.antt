@@ -24,5 +24,4 @@ pub mod Premises
 pub mod SpansWithin
 pub mod Promises
 pub mod WellFormed
-pub mod Begins
 pub mod More

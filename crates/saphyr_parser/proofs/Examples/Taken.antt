@@ -38,17 +38,19 @@ takes_none = (
   record {
     tokens = record { pieces = pieces; refusal = None };
     taken = are_taken;
-    read = pieces;
-    unread = [];
-    are_read = refl;
-    expected = [];
-    yielded = ([], _, tt, refl, refl);
-    missing = [];
-    are_events = refl;
-    places = have_tokens;
-    all_read = refl;
-    all_expected = refl;
-    all_given = refl;
+    begins = record {
+      read = pieces;
+      unread = [];
+      are_read = refl;
+      expected = [];
+      yielded = ([], _, tt, refl, refl);
+      missing = [];
+      are_events = refl;
+      places = have_tokens;
+      all_read = refl;
+      all_expected = refl;
+      all_given = refl;
+    };
     refused_at = tt;
   },
 )

@@ -62,17 +62,19 @@ takes_block_alias_events = (
   record {
     tokens = texts.block_alias;
     taken = takes_block_alias;
-    read = pieces;
-    unread = [];
-    are_read = refl;
-    expected = [];
-    yielded = yields;
-    missing = [];
-    are_events = refl;
-    places = have_tokens;
-    all_read = refl;
-    all_expected = refl;
-    all_given = refl;
+    begins = record {
+      read = pieces;
+      unread = [];
+      are_read = refl;
+      expected = [];
+      yielded = yields;
+      missing = [];
+      are_events = refl;
+      places = have_tokens;
+      all_read = refl;
+      all_expected = refl;
+      all_given = refl;
+    };
     refused_at = tt;
   },
 )

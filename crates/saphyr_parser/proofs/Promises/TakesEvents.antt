@@ -10,10 +10,7 @@ use Rattle.saphyr_scanner.specs.Steps.Remaining.{scan}
 use Rattle.saphyr_scanner.specs.Ends.{HasNoEnd, EndsWithStream}
 use Rattle.saphyr_scanner.specs.TokensTaken.{IsPlaceOf, IsEndOf, AreTakenFrom}
 use Rattle.saphyr_scanner.specs.AtPlaces.{AreAtPlaces}
-use Rattle.saphyr_parser.specs.Answer.{Answer}
-use Rattle.saphyr_parser.specs.Begins.{IsBeginningOf, BeginsSomeForest}
 use Rattle.saphyr_parser.specs.Cursor.{EventCursor, at_start, keeping_tags, to_come}
-use Rattle.saphyr_parser.specs.EventsTaken.{AreTaken, HasPlaceIn}
 use Rattle.saphyr_parser.specs.Promises.{TakesEvents}
 use Rattle.saphyr_parser.proofs.Refusing.{IsRefused, IsLastOr, AreEnded, refused_at}
 use Rattle.saphyr_parser.proofs.Sound.{begins}
@@ -44,42 +41,14 @@ ended P r (inr h) at = subst (AreEnded P r.refusal) (sym h.4) (complete P r.refu
 
 -- ## The events
 
-events_taken : (keep : Bool) (text : List ℕ) (r : Remaining) (a : Answer) → AreTakenFrom text r
-    → HasPlaceIn text a.fault
-    → BeginsSomeForest keep r a → AreTaken keep text a
-events_taken keep text r a t p b =
-    let i : IsBeginningOf b.0 keep r.pieces a = b.1 in (
-      b.0,
-      record {
-        tokens = r;
-        taken =
-            t;
-        read = i.read;
-        unread =
-            i.unread;
-        are_read = i.are_read;
-        expected =
-            i.expected;
-        yielded = i.yielded;
-        missing =
-            i.missing;
-        are_events = i.are_events;
-        places =
-            i.places;
-        all_read = i.all_read;
-        all_expected = i.all_expected;
-        all_given = i.all_given;
-        refused_at = p;
-      },
-    )
-
 pub takes : (text : List ℕ) (r : Remaining) → AreTakenFrom text r → AreAtPlaces text r.pieces → EndsWithStream r
     → length r.pieces < 2 ^ 64 → TakesEvents text (at_start r)
 takes text r t a e l keep =
     let ends : AreEnded (IsPlaceOf text) r.refusal r.pieces = ended (IsPlaceOf text) r e
     (λ f is. subst (λ (o : Option Refusal). IsEndOf text o t.0) is t.2) in
-    events_taken keep text r (to_come (keeping_tags keep (at_start r))) t (refused_at text r keep a ends)
-    (begins r keep (tokens_form (IsPlaceOf text) r.refusal [] r.pieces (scalar.fresh text) t.0 t.1 (inr ends)) l)
+    let formed = tokens_form (IsPlaceOf text) r.refusal [] r.pieces (scalar.fresh text) t.0 t.1 (inr ends) in
+    let begun = begins r keep formed l in
+    (begun.0, record { tokens = r; taken = t; begins = begun.1; refused_at = refused_at text r keep a ends })
 
 -- ## Parsers
 

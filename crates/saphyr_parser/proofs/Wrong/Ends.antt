@@ -166,4 +166,4 @@ ends_so (Some f) es missing c cut = cut_ends es missing c.front c.are cut c.none
 
 pub ends_with_stream_end : (keep : Bool) (text : List ℕ) (a : Answer) → AreTaken keep text a → EndsWithStreamEnd a
 ends_with_stream_end keep text a t =
-    let r = t.1 in ends_so a.fault a.events r.missing (forest_closes keep t.0 _ r.are_events) r.all_given
+    let r = t.1.begins in ends_so a.fault a.events r.missing (forest_closes keep t.0 _ r.are_events) r.all_given

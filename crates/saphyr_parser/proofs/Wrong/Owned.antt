@@ -98,7 +98,8 @@ owned keep text a t =
     let r = t.1 in
     let stand = tokens_stand text r.tokens.pieces r.taken.0 r.taken.1 in
     let P : List Piece → Type 0 = λ l. AllStand text l in
-    all_owned text r.unread a.events r.read r.places (front_stands text r.read r.unread (subst P r.are_read stand))
+    let b = r.begins in
+    all_owned text b.unread a.events b.read b.places (front_stands text b.read b.unread (subst P b.are_read stand))
 
 -- ## Plain scalars
 
