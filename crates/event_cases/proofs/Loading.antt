@@ -9,9 +9,9 @@ use Rattle.saphyr_parser.specs.Events as events
 use Rattle.saphyr_parser.specs.Events.{Happening}
 use Rattle.saphyr_parser.specs.Answer.{Answer, Ending, empty_answer, fault_alone}
 use Rattle.saphyr_parser.specs.declared.parser.event.Event.{Event}
-use Rattle.saphyr_parser.specs.Cursor.{EventCursor, HandsOutNext, Kept, IsKept, count, inside_behind, keeping_tags, to_come, ahead, answer_behind}
+use Rattle.saphyr_parser.specs.Cursor.{EventCursor, HandsOutNext, Kept, IsKept, count, inside_behind, keeping_tags, to_come, with_event_ahead, answer_behind}
 use Rattle.saphyr_parser.specs.Calls.{EndsTheStream}
-use Rattle.saphyr_parser.specs.Loading.{Portion, is_last, with_event, portion, to_send, inside_over, Keeps, Tells, Sends, SendsOne, Stopped, Lost, Finished, Loads}
+use Rattle.saphyr_parser.specs.Loading.{Portion, is_last, with_event, portion, portion_to_send, inside_over, Keeps, Tells, Sends, SendsOne, Stopped, Lost, Finished, Loads}
 use Rattle.case_files.specs.Lines.{Comparing, IsNext, PassesLine, event_line, line_of_fault, want_line}
 use Rattle.case_files.specs.Listings.{AreLinesOf, EndsInWant, IsBefore, ListAll, lines_of_answer, lines_of_events}
 use Rattle.case_files.proofs.Listings.{hands_less, lists_before, lists_more}
@@ -87,7 +87,7 @@ part_rest multi (e ∷ es) f = rest_behind (is_last multi e.0) e es f (portion m
 
 -- Memory ran out behind what was sent.
 lost_lines : (multi : Bool) (old new : EventCursor) (first last : Comparing)
-    → Lost takes (to_send multi old) old first last new → IsNext want_line last.left → drop 1 last.left ≡ []
+    → Lost takes (portion_to_send multi old) old first last new → IsNext want_line last.left → drop 1 last.left ≡ []
     → ListAll first.left (to_come old)
 lost_lines multi old new first last lost next over =
     let all = to_come old in
@@ -107,23 +107,23 @@ lost_lines multi old new first last lost next over =
 
 keeps_it : (c : EventCursor) (f : Ending) → Keeps f c → to_come c ≡ fault_alone f
 keeps_it c f keeps =
-    ap (λ o. ahead o (answer_behind c.kept c.machine)) keeps.current ∙ ap (λ o. answer_behind o c.machine) keeps.kept
+    ap (λ o. with_event_ahead o (answer_behind c.kept c.machine)) keeps.current ∙ ap (λ o. answer_behind o c.machine) keeps.kept
 
 -- ## Calls
 
 pub lists_finished : (multi : Bool) (old new : EventCursor) (first last : Comparing)
-    → Finished takes (to_send multi old) old first last new → ListAll last.left (to_come new)
+    → Finished takes (portion_to_send multi old) old first last new → ListAll last.left (to_come new)
     → ListAll first.left (to_come old)
 lists_finished multi old new first last f all =
-    lists_sent (to_send multi old).sent first.left last.left (to_come old) (to_come new)
+    lists_sent (portion_to_send multi old).sent first.left last.left (to_come old) (to_come new)
     (sent_lines _ first last f.sends) f.passed.events f.passed.fault all
 
 -- the fault that was answered has the last line
 pub lists_failed : (multi : Bool) (f : Fault) (old new : EventCursor) (first last : Comparing)
-    → Loads takes (Err f) (to_send multi old) old first last new → (f ≡ fault.Receiver → ⊥)
+    → Loads takes (Err f) (portion_to_send multi old) old first last new → (f ≡ fault.Receiver → ⊥)
     → IsNext (line_of_fault f) last.left → drop 1 last.left ≡ [] → ListAll first.left (to_come old)
 lists_failed multi (fault.Scan e) old new first last f told next over =
-    lists_sent (to_send multi old).sent first.left last.left (to_come old) (to_come new)
+    lists_sent (portion_to_send multi old).sent first.left last.left (to_come old) (to_come new)
     (sent_lines _ first last f.sends) f.passed.events f.passed.fault
     (lists_more (Some (Err (fault.Scan e))) (to_come new) empty_answer last.left [] (keeps_it new _ f.keeps, refl) next
     (sym over)
@@ -134,11 +134,11 @@ lists_failed multi fault.Receiver old new first last f told next over = absurd (
 lists_failed multi fault.InsideDocument old new first last f told next over = absurd f
 
 finished_less : (multi : Bool) (old new : EventCursor) (first last : Comparing)
-    → Finished takes (to_send multi old) old first last new → 0 < count (to_come old)
+    → Finished takes (portion_to_send multi old) old first last new → 0 < count (to_come old)
     → count (to_come new) < count (to_come old)
 finished_less multi old new first last f some =
     let all = to_come old in
-    let p = to_send multi old in
+    let p = portion_to_send multi old in
     let sent = (part_rest multi all.events all.fault).some some in
     let no_fault : one_if p.fault ≡ 0 = ap one_if f.fault in
     let longer = ap length f.passed.events ∙ length-append p.sent (to_come new).events in
@@ -164,7 +164,7 @@ load_some : (kept : Option Kept) (finished : Option Span) (inside : Bool) (u : U
     → (old.kept ≡ None → old.finished ≡ None → old.inside ≡ true
     → ((let r : Result (Unit {0}) Fault = Ok u in r) ≡ Err fault.InsideDocument) × (last ≡ first) × (new ≡ old))
     → (old.kept ≡ None → old.finished ≡ None → old.inside ≡ false
-    → Loads takes (Ok u) (to_send multi old) old first last new)
+    → Loads takes (Ok u) (portion_to_send multi old) old first last new)
     → EndsTheStream new → 0 < count (to_come old) → count (to_come new) < count (to_come old)
 load_some (Some k) finished inside u multi old new first last k_is f_is i_is ended at_end within between over some =
     let kept = is_kept old.kept k k_is in absurd (kept_none old.kept kept (ended kept).0)
@@ -187,7 +187,7 @@ pub load_less : (r : Result (Unit {0}) Fault) (u : Unit {0}) (multi : Bool) (old
     → (old.kept ≡ None → old.finished ≡ None → old.inside ≡ true
     → (r ≡ Err fault.InsideDocument) × (last ≡ first) × (new ≡ old))
     → (old.kept ≡ None → old.finished ≡ None → old.inside ≡ false
-    → Loads takes r (to_send multi old) old first last new)
+    → Loads takes r (portion_to_send multi old) old first last new)
     → EndsTheStream new → 0 < count (to_come old) → count (to_come new) < count (to_come old)
 load_less (Ok v) u multi old new first last is ended at_end within between over some =
     load_some old.kept old.finished old.inside v multi old new first last refl refl refl ended at_end within between
@@ -237,11 +237,11 @@ not_finished c (Some span) is over some =
     absurd (omega (arith, nothing, some))
 
 pub stands_behind : (old new : EventCursor) (first last : Comparing) → old.inside ≡ false
-    → Finished takes (to_send false old) old first last new → EndsTheStream new → 0 < count (to_come new)
+    → Finished takes (portion_to_send false old) old first last new → EndsTheStream new → 0 < count (to_come new)
     → StandsBetween new
 stands_behind old new first last outside f over some =
     let all = to_come old in
-    let p = to_send false old in
+    let p = portion_to_send false old in
     record {
       kept = f.kept;
       finished = not_finished new new.finished refl over some;
@@ -264,7 +264,7 @@ refused_nothing e middle last (inr found) same =
     let differs = ap (λ (c : Comparing). c.differs) (sym found) ∙ same in absurd (cc)
 
 pub refuses_one : (multi : Bool) (old new : EventCursor) (first last : Comparing) (before others : List (String Global))
-    → Stopped takes (to_send multi old) old first last new → first.left ≡ before → last.left ≡ []
+    → Stopped takes (portion_to_send multi old) old first last new → first.left ≡ before → last.left ≡ []
     → last.differs ≡ false → ListAll others (to_come new) → ListAllButOne before others (to_come old)
 refuses_one multi old new first last before others stopped begins ends same all =
     let at = refused_nothing stopped.event stopped.middle last stopped.refused same in

@@ -24,7 +24,7 @@ pub fn next_id(before: &[Part]) -> usize
 /// The id of the latest anchor of the name in the document that is open.
 #[tactic(auto, using(crate::proofs::Behind::behind_more))]
 pub fn latest(name: &str, before: &[Part]) -> Option<usize>
-    ensures { result ≡ spec.latest (encode_utf8_all (chars name.now)) (parts_before before.now) }
+    ensures { result ≡ spec.latest_id (encode_utf8_all (chars name.now)) (parts_before before.now) }
 {
     let mut id = 0;
     let mut found = None;

@@ -61,7 +61,7 @@ fn declared(
     keep: bool,
 ) -> Result<Option<String>, AllocError>
     ensures { IfOk result (λ prefix. option_map string_bytes prefix
-        ≡ spec.declared keep (handle_view handle.now) (parts_before before.now)) }
+        ≡ spec.prefix_declared_for keep (handle_view handle.now) (parts_before before.now)) }
 {
     let mut declared = None;
     for part in before {
@@ -104,7 +104,7 @@ fn resolve(
     keep: bool,
 ) -> Result<Option<Tag>, AllocError>
     ensures { IfOk result (λ resolved. option_map resolved_tag resolved
-        ≡ spec.resolve keep (tag_view tag.now) (parts_before before.now)) }
+        ≡ spec.resolution keep (tag_view tag.now) (parts_before before.now)) }
 {
     let (prefix, suffix) = match tag {
         WrittenTag::NonSpecific => (Some(String::new(alloc)), String::from_str(alloc, "!")?),
@@ -128,7 +128,7 @@ pub fn resolve_any(
     keep: bool,
 ) -> Result<Option<Option<Tag>>, AllocError>
     ensures { IfOk result (λ resolved. option_map (λ any. option_map resolved_tag any) resolved
-        ≡ spec.resolve_any keep (option_map tag_view tag.now) (parts_before before.now)) }
+        ≡ spec.any_resolution keep (option_map tag_view tag.now) (parts_before before.now)) }
 {
     Ok(match tag {
         Some(tag) => match resolve(alloc, tag, before, keep)? {

@@ -9,12 +9,12 @@ use Rattle.saphyr_scanner.specs.Views.Tokens.{Piece, Remaining}
 use Rattle.saphyr_parser.specs.declared.parser.state.State.{State}
 use Rattle.saphyr_parser.specs.declared.parser.state.State.TheVariants as state
 use Rattle.saphyr_parser.specs.Events.{Happening}
-use Rattle.saphyr_parser.specs.Premises.{DocumentMarker, GivesFirst, behind_marker}
+use Rattle.saphyr_parser.specs.Premises.{DocumentMarker, GivesFirst, events_behind_marker}
 use Rattle.saphyr_parser.specs.Steps.Machine.{Machine, Told}
 use Rattle.saphyr_parser.specs.Steps.Expected.{event_step, event_step_at}
-use Rattle.saphyr_parser.specs.Answer.{Answer, deliver, remaining_answer, machine_size}
+use Rattle.saphyr_parser.specs.Answer.{Answer, answer_of_step, remaining_answer, machine_size}
 use Rattle.saphyr_parser.specs.Cursor.{at_start, keeping_tags, to_come}
-use Rattle.saphyr_parser.specs.Exactly.{GivesExactly, TellTheSame, kinds, told_by}
+use Rattle.saphyr_parser.specs.Exactly.{GivesExactly, TellTheSame, kinds, answer_of_tokens}
 use Rattle.saphyr_parser.specs.More.{marker_token}
 use Rattle.saphyr_parser.proofs.Unroll.{unroll, over, shrinks_at}
 use Rattle.saphyr_parser.proofs.Placeless.{no_span, placeless_piece, placeless_state, placeless, Same, steps_same}
@@ -38,7 +38,7 @@ not_over s h = h
 
 delivers_alike : (p q : Result Told Refusal) → Same p q
     → ((x : Told) → p ≡ Ok x → Alike (remaining_answer x.machine) (remaining_answer (placeless x.machine)))
-    → Alike (deliver p remaining_answer) (deliver q remaining_answer)
+    → Alike (answer_of_step p remaining_answer) (answer_of_step q remaining_answer)
 delivers_alike (Ok x) q e h = let behind =
     h x refl in rw e (record { told = ap (λ es. x.what ∷ es) behind.told; fault = behind.fault })
 delivers_alike (Err f) q e h = rw e.1 (record { told = refl; fault = refl })
@@ -137,7 +137,7 @@ pub closed_kinds :
     (first : List Happening)
     → kinds alone ≡ earlier ++ marker_token w ∷ tokens.StreamEnd ∷ []
     → kinds followed.pieces ≡ earlier ++ marker_token w ∷ more
-    → GivesExactly (first ++ behind_marker w) (told_by keep alone)
+    → GivesExactly (first ++ events_behind_marker w) (answer_of_tokens keep alone)
     → GivesFirst first (to_come (keeping_tags keep (at_start followed)))
 closed_kinds keep w earlier more alone followed first a f g =
     let last : Piece = piece_of (marker_token w) in
@@ -145,7 +145,7 @@ closed_kinds keep w earlier more alone followed first a f g =
     let ending : List Piece = map piece_of earlier ++ last ∷ end ∷ [] in
     let others : List Piece = map piece_of earlier ++ last ∷ map piece_of more in
     let given = exactly_too keep (record { pieces = alone; refusal = None })
-    (record { pieces = ending; refusal = None }) (first ++ behind_marker w)
+    (record { pieces = ending; refusal = None }) (first ++ events_behind_marker w)
     (a ∙ sym (all_kinds earlier (marker_token w ∷ tokens.StreamEnd ∷ []))) g in
     first_too keep (record { pieces = others; refusal = None }) followed first
     (all_kinds earlier (marker_token w ∷ more) ∙ sym f)

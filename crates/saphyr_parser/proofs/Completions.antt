@@ -10,7 +10,7 @@ use Rattle.saphyr_parser.specs.declared.parser.state.State.TheVariants as state
 use Rattle.saphyr_parser.specs.Anchors.{one_more_anchor, anchor_of, anchors}
 use Rattle.saphyr_parser.specs.Preorder.{Part, OpenStream, CloseStream, CloseDocument, Leaf, CloseSequence, CloseMapping}
 use Rattle.saphyr_parser.specs.Events.{Happening}
-use Rattle.saphyr_parser.specs.ForestEvents.{before_all}
+use Rattle.saphyr_parser.specs.ForestEvents.{first_and_others}
 use Rattle.saphyr_parser.proofs.Told.Telling.{Memory}
 use Rattle.saphyr_parser.proofs.Remembering.{after, event_in, events_in}
 use Rattle.saphyr_parser.proofs.Turned.Following.{Then, Exactly, IsNodeOf, IsOptionalOf, IsSkipped, IsAnyValueOf, FirstEntries, OtherEntries, FirstPairs, OtherPairs, BlockEntries, BlockPairs, InSequence, AtPairEnd, AtPairValue, InMapping, InBlockPairs, Follows, IsOutside, IsInside, IsAlive, Starts}
@@ -49,8 +49,8 @@ quiet_events (p ∷ ps) e q =
     let one : (w : Happening) × (event_in e p ≡ Some w) = quiet_one p e q.0 in
     let others : (es : List Happening) × (events_in (after p e) ps ≡ Some es) = quiet_events ps (after p e) q.1 in (
       one.0 ∷ others.0,
-      ap (λ (o : Option Happening). before_all o (events_in (after p e) ps)) one.1
-          ∙ ap (before_all (Some one.0)) others.1,
+      ap (λ (o : Option Happening). first_and_others o (events_in (after p e) ps)) one.1
+          ∙ ap (first_and_others (Some one.0)) others.1,
     )
 
 pub some_events : (ps : List Part) (e : Memory) (q : AreQuiet ps) → ps ≢ [] → (quiet_events ps e q).0 ≢ []

@@ -2,7 +2,7 @@
 use Rattle.std.proofs.Common.{◌≡◌, ◌≢◌, ℕ, suc, Bool, true, false, List, [], ◌∷◌, ◌++◌, Option, Some, None, if◌then◌else◌, refl, sym, ◌∙◌, ap}
 use Rattle.std.proofs.lemmas.Slice.Eq.{bytes_eq-Decides}
 use Rattle.saphyr_parser.specs.Preorder.{Part, opens_document, OpenStream, CloseStream, OpenDocument, CloseDocument, Reference, Leaf, OpenSequence, CloseSequence, OpenMapping, CloseMapping}
-use Rattle.saphyr_parser.specs.Anchors.{anchor_of, anchors, is_named, latest, AreWithout, IsLatest}
+use Rattle.saphyr_parser.specs.Anchors.{anchor_of, anchors, is_named, latest_id, AreWithout, IsLatest}
 
 -- a part that opens a document has no anchor
 opens_none : (p : Part) (name : List ℕ) → anchor_of p ≡ Some name → opens_document p ≡ false
@@ -33,20 +33,20 @@ not_named name other h = go (is_named name other) refl
     go true e = absurd (h (named_only name other e))
 
 pub each : (name : List ℕ) (later : List Part) (part : Part) (earlier : List Part) → AreWithout name later
-    → anchor_of part ≡ Some name → latest name (later ++ part ∷ earlier) ≡ Some (suc (anchors earlier))
+    → anchor_of part ≡ Some name → latest_id name (later ++ part ∷ earlier) ≡ Some (suc (anchors earlier))
 each name [] part earlier h e =
-    let other : Option ℕ = latest name earlier in
+    let other : Option ℕ = latest_id name earlier in
     let here : Option ℕ = Some (suc (anchors earlier)) in
     ap (λ b. if b then None else (if is_named name (anchor_of part) then here else other)) (opens_none part name e)
     ∙ ap (λ b. if b then here else other) (ap (is_named name) e ∙ named name)
 each name (p ∷ ps) part earlier h e =
-    let other : Option ℕ = latest name (ps ++ part ∷ earlier) in
+    let other : Option ℕ = latest_id name (ps ++ part ∷ earlier) in
     let here : Option ℕ = Some (suc (anchors (ps ++ part ∷ earlier))) in
     ap (λ b. if b then None else (if is_named name (anchor_of p) then here else other)) h.0
     ∙ ap (λ b. if b then here else other) (not_named name (anchor_of p) h.1) ∙ each name ps part earlier h.2 e
 
-pub all : (name : List ℕ) (front : List Part) (id : ℕ) → IsLatest name front id → latest name front ≡ Some id
-all name front id h = ap (latest name) h.6 ∙ each name h.0 h.1 h.2 h.3 h.4 ∙ ap (λ t. Some t) (sym h.5)
+pub all : (name : List ℕ) (front : List Part) (id : ℕ) → IsLatest name front id → latest_id name front ≡ Some id
+all name front id h = ap (latest_id name) h.6 ∙ each name h.0 h.1 h.2 h.3 h.4 ∙ ap (λ t. Some t) (sym h.5)
 
 -- where a part opens no document and has no anchor of the name, the latest one stands before it
 latest_stays : (name : List ℕ) (p : Part) (ps : List Part) (id : ℕ) → opens_document p ≡ false
@@ -57,16 +57,16 @@ latest_stays name p ps id e f h =
     (p ∷ h.0, h.1, h.2, (e, other, h.3), h.4, h.5, ap (λ t. p ∷ t) h.6)
 
 -- the answer at a part, by the two tests on it
-latest_at_part : (name : List ℕ) (p : Part) (ps : List Part) (id : ℕ) → (latest name ps ≡ Some id → IsLatest name ps id)
+latest_at_part : (name : List ℕ) (p : Part) (ps : List Part) (id : ℕ) → (latest_id name ps ≡ Some id → IsLatest name ps id)
     → (b d : Bool) → opens_document p ≡ b → is_named name (anchor_of p) ≡ d
-    → (if b then None else (if d then Some (suc (anchors ps)) else latest name ps)) ≡ Some id
+    → (if b then None else (if d then Some (suc (anchors ps)) else latest_id name ps)) ≡ Some id
     → IsLatest name (p ∷ ps) id
 latest_at_part name p ps id others true d e f h = cc
 latest_at_part name p ps id others false true e f h =
     ([], p, ps, tt, named_only name (anchor_of p) f, (let k : suc (anchors ps) ≡ id = cc in sym k), refl)
 latest_at_part name p ps id others false false e f h = latest_stays name p ps id e f (others h)
 
-pub found : (name : List ℕ) (front : List Part) (id : ℕ) → latest name front ≡ Some id → IsLatest name front id
+pub found : (name : List ℕ) (front : List Part) (id : ℕ) → latest_id name front ≡ Some id → IsLatest name front id
 found name [] id h = cc
 found name (p ∷ ps) id h =
     latest_at_part name p ps id (found name ps id) (opens_document p) (is_named name (anchor_of p)) refl refl h

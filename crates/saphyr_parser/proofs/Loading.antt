@@ -11,7 +11,7 @@ use Rattle.saphyr_parser.specs.Answer as answer
 use Rattle.saphyr_parser.specs.Answer.{Answer, Ending, with_first_event, fault_alone}
 use Rattle.saphyr_parser.specs.Cursor.{EventCursor, Kept, IsKept, IsUnmoved, IsUntold, Stays, count, finished_behind, inside_behind, to_come, kept_answer}
 use Rattle.saphyr_parser.specs.Calls.{Advances, AdvancesOver, Looks}
-use Rattle.saphyr_parser.specs.Loading.{Portion, is_last, with_event, portion, to_send, inside_over, finished_over, Remembered, PassedOver, Keeps, Tells, Sends, SendsOne, Stopped, Lost, Finished, Faulted, Loads}
+use Rattle.saphyr_parser.specs.Loading.{Portion, is_last, with_event, portion, portion_to_send, inside_over, finished_over, Remembered, PassedOver, Keeps, Tells, Sends, SendsOne, Stopped, Lost, Finished, Faulted, Loads}
 use Rattle.saphyr_parser.proofs.Calls.Handing.{advances, over_more, remembers}
 use Rattle.saphyr_parser.proofs.Calls.Looking.{looked, looked_over, looks_stays, untold}
 
@@ -140,7 +140,7 @@ module _ {R : Type 0} (receives : R → Happening × Span → Result (Unit {0}) 
   -- some events of the part were handed over
   pub record Going (multi : Bool) (old : EventCursor) (first last : R) (new : EventCursor) : Type 0 where
     pub sent : List (Happening × Span)
-    pub part : to_send multi old ≡ with_events sent (to_send multi new)
+    pub part : portion_to_send multi old ≡ with_events sent (portion_to_send multi new)
     pub passed : PassedOver old sent new
     pub sends : Sends receives first sent last
     pub leaves : AdvancesOver sent old new
@@ -166,7 +166,7 @@ module _ {R : Type 0} (receives : R → Happening × Span → Result (Unit {0}) 
     sent = so.sent ++ (e ∷ []);
     part = so.part ∙ ap (with_events so.sent)
         (part_before multi e (to_come new) (to_come mid) (advances e mid new is.0)
-        ∙ ap (λ (b : Bool). behind_first b e (to_send multi new)) more) ∙ sym (with_more so.sent e (to_send multi new));
+        ∙ ap (λ (b : Bool). behind_first b e (portion_to_send multi new)) more) ∙ sym (with_more so.sent e (portion_to_send multi new));
     passed = passed_more old mid new so.sent e so.passed is.0;
     sends = one_more first last next so.sent e so.sends taken;
     leaves = over_more so.sent e old mid new so.leaves is.0;
@@ -175,13 +175,13 @@ module _ {R : Type 0} (receives : R → Happening × Span → Result (Unit {0}) 
 
   pub ends : (multi : Bool) (old mid new : EventCursor) (first last next : R) (e : Happening × Span)
       → Going multi old first last mid → Advances e mid new × (new.kept ≡ None) → is_last multi e.0 ≡ true
-      → receives last e (Ok tt) next → Finished receives (to_send multi old) old first next new
+      → receives last e (Ok tt) next → Finished receives (portion_to_send multi old) old first next new
   ends multi old mid new first last next e so is final taken =
-      let p : to_send multi old ≡ with_events so.sent (record { sent = e ∷ []; fault = None }) =
+      let p : portion_to_send multi old ≡ with_events so.sent (record { sent = e ∷ []; fault = None }) =
       so.part ∙ ap (with_events so.sent)
       (part_before multi e (to_come new) (to_come mid) (advances e mid new is.0)
-      ∙ ap (λ (b : Bool). behind_first b e (to_send multi new)) final) in
-      let all : (to_send multi old).sent ≡ so.sent ++ (e ∷ []) = ap (λ (q : Portion). q.sent) p in
+      ∙ ap (λ (b : Bool). behind_first b e (portion_to_send multi new)) final) in
+      let all : (portion_to_send multi old).sent ≡ so.sent ++ (e ∷ []) = ap (λ (q : Portion). q.sent) p in
       record {
         fault = ap (λ (q : Portion). q.fault) p;
         sends = subst (λ (l : List (Happening × Span)). Sends receives first l next) (sym all)
@@ -195,9 +195,9 @@ module _ {R : Type 0} (receives : R → Happening × Span → Result (Unit {0}) 
 
   pub refuses : (multi : Bool) (old mid new : EventCursor) (first last next : R) (e : Happening × Span)
       → Going multi old first last mid → Advances e mid new × (new.kept ≡ None) → receives last e (Err (record {})) next
-      → Stopped receives (to_send multi old) old first next new
+      → Stopped receives (portion_to_send multi old) old first next new
   refuses multi old mid new first last next e so is refused =
-      let c = first_is_sent (is_last multi e.0) e (to_send multi new) in
+      let c = first_is_sent (is_last multi e.0) e (portion_to_send multi new) in
       record {
         sent = so.sent;
         event = e;
@@ -216,7 +216,7 @@ module _ {R : Type 0} (receives : R → Happening × Span → Result (Unit {0}) 
 
   pub stops : (f : Fault) (multi : Bool) (old mid new : EventCursor) (first last next : R) (e : Happening × Span)
       → Going multi old first last mid → Advances e mid new × (new.kept ≡ None) → SendsOne receives (Err f) e last next
-      → Loads receives (Err f) (to_send multi old) old first next new
+      → Loads receives (Err f) (portion_to_send multi old) old first next new
   stops faults.Receiver multi old mid new first last next e so is h =
       refuses multi old mid new first last next e so is h
   stops (faults.Scan _) multi old mid new first last next e so is h = absurd h
@@ -225,17 +225,17 @@ module _ {R : Type 0} (receives : R → Happening × Span → Result (Unit {0}) 
 
   all_sent : (multi : Bool) (old mid : EventCursor) (first last : R) (f : Option Ending)
       (so : Going multi old first last mid) → to_come mid ≡ record { events = []; fault = f }
-      → to_send multi old ≡ record { sent = so.sent; fault = f }
+      → portion_to_send multi old ≡ record { sent = so.sent; fault = f }
   all_sent multi old mid first last f so is =
       so.part ∙ ap (λ (a : Answer). with_events so.sent (part_of multi a)) is
       ∙ ap (λ (l : List (Happening × Span)). let q : Portion = record { sent = l; fault = f } in q)
       (append-nil so.sent)
 
   finished : (multi : Bool) (old mid new : EventCursor) (first last : R) → Going multi old first last mid → new ≡ mid
-      → to_come new ≡ answer.empty_answer → new.kept ≡ None → Finished receives (to_send multi old) old first last new
+      → to_come new ≡ answer.empty_answer → new.kept ≡ None → Finished receives (portion_to_send multi old) old first last new
   finished multi old mid new first last so same over none =
       let p = all_sent multi old mid first last None so (sym (ap to_come same) ∙ over) in
-      let all : (to_send multi old).sent ≡ so.sent = ap (λ (q : Portion). q.sent) p in
+      let all : (portion_to_send multi old).sent ≡ so.sent = ap (λ (q : Portion). q.sent) p in
       record {
         fault = ap (λ (q : Portion). q.fault) p;
         sends = subst (λ (l : List (Happening × Span)). Sends receives first l last) (sym all) so.sends;
@@ -248,10 +248,10 @@ module _ {R : Type 0} (receives : R → Happening × Span → Result (Unit {0}) 
 
   faulted : (multi : Bool) (old mid new : EventCursor) (first last : R) (f : Ending) → Going multi old first last mid
       → Looks mid new → to_come new ≡ to_come mid → to_come new ≡ fault_alone f → IsUnmoved mid new → Keeps f new
-      → Faulted receives f (to_send multi old) old first last new
+      → Faulted receives f (portion_to_send multi old) old first last new
   faulted multi old mid new first last f so looks is over same keeps =
       let p = all_sent multi old mid first last (Some f) so (sym is ∙ over) in
-      let all : (to_send multi old).sent ≡ so.sent = ap (λ (q : Portion). q.sent) p in
+      let all : (portion_to_send multi old).sent ≡ so.sent = ap (λ (q : Portion). q.sent) p in
       record {
         met = ap (λ (q : Portion). q.fault) p;
         sends = subst (λ (l : List (Happening × Span)). Sends receives first l last) (sym all) so.sends;
@@ -264,7 +264,7 @@ module _ {R : Type 0} (receives : R → Happening × Span → Result (Unit {0}) 
   lost : (multi : Bool) (old mid new : EventCursor) (first last : R) (f : Ending) → Going multi old first last mid
       → Looks mid new → Stays (to_come mid) (to_come new) → to_come new ≡ fault_alone f
       → IsUnmoved mid new → Keeps f new
-      → Lost receives (to_send multi old) old first last new
+      → Lost receives (portion_to_send multi old) old first last new
   lost multi old mid new first last f so looks (inl is) over same keeps =
       let p = all_sent multi old mid first last (Some f) so (sym is ∙ over) in
       record {
@@ -281,7 +281,7 @@ module _ {R : Type 0} (receives : R → Happening × Span → Result (Unit {0}) 
       }
   lost multi old mid new first last f so looks (inr (more, is)) over same keeps = record {
     sent = so.sent;
-    unsent = (to_send multi mid).sent;
+    unsent = (portion_to_send multi mid).sent;
     fault = f;
     part = ap (λ (q : Portion). q.sent) so.part;
     left =
@@ -296,7 +296,7 @@ module _ {R : Type 0} (receives : R → Happening × Span → Result (Unit {0}) 
 
   lost_with : (multi : Bool) (old mid new : EventCursor) (first last : R) (k : Option Kept) → new.kept ≡ k → IsKept k
       → Going multi old first last mid → Looks mid new → new.current ≡ None
-      → Lost receives (to_send multi old) old first last new
+      → Lost receives (portion_to_send multi old) old first last new
   lost_with multi old mid new first last None is h so looks nothing = absurd h
   lost_with multi old mid new first last (Some k) is h so looks nothing =
       let stays = looks_stays mid new looks in
@@ -305,7 +305,7 @@ module _ {R : Type 0} (receives : R → Happening × Span → Result (Unit {0}) 
 
   pub over : (r : Result (Unit {0}) Fault) (multi : Bool) (old mid new : EventCursor) (first last : R)
       → Going multi old first last mid → Looks mid new × (new.current ≡ None) → Tells r new.kept
-      → Loads receives r (to_send multi old) old first last new
+      → Loads receives r (portion_to_send multi old) old first last new
   over (Ok u) multi old mid new first last so (looks, nothing) h =
       finished multi old mid new first last so (looked_over mid new looks nothing h)
       (looked mid new looks nothing ∙ ap kept_answer h) h

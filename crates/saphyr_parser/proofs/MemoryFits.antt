@@ -7,11 +7,11 @@ use Rattle.std.proofs.lemmas.Slice.Eq.{bytes_eq-Decides}
 use Rattle.saphyr_scanner.specs.Grammar.Forest.{Handle, handle_bytes, Tag, NonSpecific, Verbatim, Shorthand, Properties, Directive, Version, TagPrefix, Reserved, GoesWithAll, AreCompatible}
 use Rattle.saphyr_parser.specs.Preorder.{Part, OpenStream, CloseStream, OpenDocument, CloseDocument, Reference, Leaf, OpenSequence, CloseSequence, OpenMapping, CloseMapping, opens_document, directives_of}
 use Rattle.saphyr_parser.specs.Events.{Happening, ResolvedTag, Alias, Scalar, SequenceStart, MappingStart}
-use Rattle.saphyr_parser.specs.Anchors.{anchor_of, one_more_anchor, anchors, is_named, latest}
+use Rattle.saphyr_parser.specs.Anchors.{anchor_of, one_more_anchor, anchors, is_named, latest_id}
 use Rattle.saphyr_parser.specs.Anchors as part
-use Rattle.saphyr_parser.specs.TagResolution.{prefix_in, declared, default_prefix}
+use Rattle.saphyr_parser.specs.TagResolution.{prefix_in, prefix_declared_for, default_prefix}
 use Rattle.saphyr_parser.specs.TagResolution as tag
-use Rattle.saphyr_parser.specs.ForestEvents.{before_all, event_of_part, events_behind}
+use Rattle.saphyr_parser.specs.ForestEvents.{first_and_others, event_of_part, events_behind}
 use Rattle.saphyr_parser.specs.Steps.Machine.{Names, meaning, with_meaning, next_id}
 use Rattle.saphyr_parser.proofs.Told.Telling.{Memory}
 use Rattle.saphyr_parser.proofs.Remembering.{noted, declaring, after, own_id, resolve, resolve_any, with_properties, event_in, events_in}
@@ -21,15 +21,15 @@ use Rattle.saphyr_parser.proofs.NameLaws.{different, given_meaning}
 pub record FitsInside (keep : Bool) (front : List Part) (e : Memory) : Type 0 where
   pub keeps : e.keep ≡ keep
   pub count : e.anchors.last ≡ anchors front
-  pub ids : (name : List ℕ) → meaning name e.anchors.ids ≡ latest name front
-  pub prefixes : (handle : Handle) → meaning (handle_bytes handle) e.prefixes ≡ declared keep handle front
+  pub ids : (name : List ℕ) → meaning name e.anchors.ids ≡ latest_id name front
+  pub prefixes : (handle : Handle) → meaning (handle_bytes handle) e.prefixes ≡ prefix_declared_for keep handle front
 
 -- between documents
 pub record FitsBetween (keep : Bool) (front : List Part) (e : Memory) : Type 0 where
   pub keeps : e.keep ≡ keep
   pub count : e.anchors.last ≡ anchors front
   pub prefixes : (handle : Handle)
-      → meaning (handle_bytes handle) e.prefixes ≡ (if keep then declared keep handle front else None)
+      → meaning (handle_bytes handle) e.prefixes ≡ (if keep then prefix_declared_for keep handle front else None)
 
 abbrev pub Fits : Bool → Bool → List Part → Memory → Type 0
 Fits true keep front e = FitsInside keep front e
@@ -71,8 +71,8 @@ own_same e front (Some name) more h l = id_is e (anchors front) more h l
 -- ## Tags
 
 resolve_same : (keep : Bool) (front : List Part) (names : Names (List ℕ)) (g : Tag)
-    → ((handle : Handle) → meaning (handle_bytes handle) names ≡ declared keep handle front)
-    → resolve names g ≡ tag.resolve keep g front
+    → ((handle : Handle) → meaning (handle_bytes handle) names ≡ prefix_declared_for keep handle front)
+    → resolve names g ≡ tag.resolution keep g front
 resolve_same keep front names NonSpecific h = refl
 resolve_same keep front names (Verbatim uri) h = refl
 resolve_same keep front names (Shorthand handle suffix) h =
@@ -81,8 +81,8 @@ resolve_same keep front names (Shorthand handle suffix) h =
     (option_or o (default_prefix handle))) (h handle)
 
 resolve_any_same : (keep : Bool) (front : List Part) (names : Names (List ℕ)) (g : Option Tag)
-    → ((handle : Handle) → meaning (handle_bytes handle) names ≡ declared keep handle front)
-    → resolve_any names g ≡ tag.resolve_any keep g front
+    → ((handle : Handle) → meaning (handle_bytes handle) names ≡ prefix_declared_for keep handle front)
+    → resolve_any names g ≡ tag.any_resolution keep g front
 resolve_any_same keep front names None h = refl
 resolve_any_same keep front names (Some g) h =
     ap (option_map (λ v. let o : Option ResolvedTag = Some v in o)) (resolve_same keep front names g h)
@@ -90,7 +90,7 @@ resolve_any_same keep front names (Some g) h =
 properties_same : (make : ℕ → Option ResolvedTag → Happening) (keep : Bool) (front : List Part) (e : Memory)
     (p : Properties) (more : ℕ) → FitsInside keep front e
     → anchors front + one_more_anchor (option_map encode_utf8_all p.anchor) more < 2 ^ 64
-    → with_properties make e p ≡ option_map (make (part.own_id front p.anchor)) (tag.resolve_any keep p.tag front)
+    → with_properties make e p ≡ option_map (make (part.own_id front p.anchor)) (tag.any_resolution keep p.tag front)
 properties_same make keep front e p more h l =
     ap (λ (id : ℕ). option_map (make id) (resolve_any e.prefixes p.tag)) (own_same e front p.anchor more h.count l)
     ∙ ap (option_map (make (part.own_id front p.anchor))) (resolve_any_same keep front e.prefixes p.tag h.prefixes)
@@ -113,18 +113,18 @@ event_same b keep front e _ more m h l = refl
 -- ## What is remembered behind a part
 
 latest_behind : (name : List ℕ) (p : Part) (front : List Part) (anchor : Option (List ℕ)) → opens_document p ≡ false
-    → anchor_of p ≡ anchor → latest name (p ∷ front)
-    ≡ (if is_named name anchor then Some (suc (anchors front)) else latest name front)
+    → anchor_of p ≡ anchor → latest_id name (p ∷ front)
+    ≡ (if is_named name anchor then Some (suc (anchors front)) else latest_id name front)
 latest_behind name p front anchor o a =
     ap (λ (b : Bool). if b then None else
-    (if is_named name (anchor_of p) then Some (suc (anchors front)) else latest name front)) o
-    ∙ ap (λ (x : Option (List ℕ)). if is_named name x then Some (suc (anchors front)) else latest name front) a
+    (if is_named name (anchor_of p) then Some (suc (anchors front)) else latest_id name front)) o
+    ∙ ap (λ (x : Option (List ℕ)). if is_named name x then Some (suc (anchors front)) else latest_id name front) a
 
 declared_behind : (keep : Bool) (handle : Handle) (p : Part) (front : List Part) → opens_document p ≡ false
-    → declared keep handle (p ∷ front) ≡ declared keep handle front
+    → prefix_declared_for keep handle (p ∷ front) ≡ prefix_declared_for keep handle front
 declared_behind keep handle p front o =
     ap (λ (b : Bool). if b then option_or (prefix_in handle (directives_of p))
-    (if keep then declared keep handle front else None) else declared keep handle front) o
+    (if keep then prefix_declared_for keep handle front else None) else prefix_declared_for keep handle front) o
 
 -- behind a part of a document with this anchor
 fits_noted : (keep : Bool) (front : List Part) (e : Memory) (p : Part) (anchor : Option (List ℕ)) (more : ℕ)
@@ -184,8 +184,8 @@ declaring_meaning handle (TagPrefix other prefix ∷ ds) names c =
     (λ q. none_else handle other prefix ds c.0 ((bytes_eq-Decides (handle_bytes handle) (handle_bytes other)).0 q))
 
 kept_meaning : (keep kept : Bool) (handle : Handle) (front : List Part) (names : Names (List ℕ)) → kept ≡ keep
-    → meaning (handle_bytes handle) names ≡ declared keep handle front
-    → meaning (handle_bytes handle) (if kept then names else []) ≡ (if keep then declared keep handle front else None)
+    → meaning (handle_bytes handle) names ≡ prefix_declared_for keep handle front
+    → meaning (handle_bytes handle) (if kept then names else []) ≡ (if keep then prefix_declared_for keep handle front else None)
 kept_meaning true true handle front names k h = h
 kept_meaning false false handle front names k h = refl
 kept_meaning true false handle front names k h = absurd (cc)
@@ -234,8 +234,8 @@ pub same_events : (ps : List Part) (b keep : Bool) (front : List Part) (e : Memo
     → anchors front + anchors ps < 2 ^ 64 → events_in e ps ≡ events_behind keep front ps
 same_events [] b keep front e w h l = refl
 same_events (p ∷ ps) b keep front e w h l =
-    ap (λ (o : Option Happening). before_all o (events_in (after p e) ps))
+    ap (λ (o : Option Happening). first_and_others o (events_in (after p e) ps))
     (event_same b keep front e p (anchors ps) w.0 h l)
-    ∙ ap (before_all (event_of_part keep front p))
+    ∙ ap (first_and_others (event_of_part keep front p))
     (same_events ps (inside_behind p b) keep (p ∷ front) (after p e) w.1
     (fits_after b keep front e p (anchors ps) w.0 h l) (room_moves (anchor_of p) (anchors front) (anchors ps) l))

@@ -14,9 +14,9 @@ use Rattle.saphyr_parser.specs.declared.parser.context.NodeContext.TheVariants.{
 use Rattle.saphyr_parser.specs.declared.parser.state.State.{State}
 use Rattle.saphyr_parser.specs.declared.parser.state.State.TheVariants.{End}
 use Rattle.saphyr_parser.specs.Preorder.{Part, Leaf, node_parts}
-use Rattle.saphyr_parser.specs.Steps.Machine.{Machine, told, empty_scalar}
+use Rattle.saphyr_parser.specs.Steps.Machine.{Machine, told_event, empty_scalar}
 use Rattle.saphyr_parser.specs.Steps.Nodes as steps
-use Rattle.saphyr_parser.specs.Steps.Nodes.{without_content, node_content_at}
+use Rattle.saphyr_parser.specs.Steps.Nodes.{node_without_content, node_content_at}
 use Rattle.saphyr_parser.specs.Steps.Expected.{event_step}
 use Rattle.saphyr_parser.proofs.Told.Telling.{Spans, Memory, at}
 use Rattle.saphyr_parser.proofs.Remembering.{after_node, Says, Tells, plainly}
@@ -138,7 +138,7 @@ follow_is_content _ _ h = tt
 
 -- behind properties it shows that their node has no content
 pub follow_ends : (c : grammar.Context) (k : Kind) (q : steps.NodeProperties) (t : Piece) (m : Machine) → MayFollow c k
-    → node_content_at k q (context_of c) t m ≡ without_content q t m
+    → node_content_at k q (context_of c) t m ≡ node_without_content q t m
 follow_ends InFlow tokens.FlowEntry q t m h = refl
 follow_ends InFlow tokens.FlowSequenceEnd q t m h = refl
 follow_ends InFlow tokens.FlowMappingEnd q t m h = refl
@@ -183,7 +183,7 @@ enters n c t h g f k ks machine x behind ss e ps z more go l =
 
 -- one step tells a node that is left out
 pub skipped : (e : Memory) (m n : Machine) (ps : List Part) (span : Span) → m.state ≢ End
-    → event_step m ≡ told empty_scalar span n → Says e n ps → Says e m (node_parts forest.left_out ++ ps)
+    → event_step m ≡ told_event empty_scalar span n → Says e n ps → Says e m (node_parts forest.left_out ++ ps)
 unfolding encode
 skipped e m n ps span more q l =
     plainly e m n (Leaf forest.no_properties forest.Plain []) ps empty_scalar span more refl q l
@@ -205,7 +205,7 @@ pub enters_or_skips : (n : Node) (c : grammar.Context) (t : List Kind) → Yield
     → (YieldsNode n c t → NodeSays n c t)
     → (f : Spans) (k : Kind) (ks : List Kind) (machine : List Kind → Machine) (x : State) (behind : List Kind → State)
     (ss : List State) (e : Memory) (ps : List Part) → MayFollow c k → ((l : List Kind) → (machine l).state ≢ End)
-    → (span : Span) → event_step (machine (k ∷ ks)) ≡ told empty_scalar span (at f (k ∷ ks) (behind (k ∷ ks)) ss e)
+    → (span : Span) → event_step (machine (k ∷ ks)) ≡ told_event empty_scalar span (at f (k ∷ ks) (behind (k ∷ ks)) ss e)
     → ((j : Kind) (l : List Kind) → Starts c j
     → event_step (machine (j ∷ l)) ≡ next_node (context_of c) (at f (j ∷ l) x (behind (j ∷ l) ∷ ss) e))
     → Tells f (k ∷ ks) (behind (t ++ k ∷ ks)) ss (after_node n e) ps

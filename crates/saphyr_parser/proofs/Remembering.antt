@@ -10,9 +10,9 @@ use Rattle.saphyr_parser.specs.declared.parser.state.State.{State}
 use Rattle.saphyr_parser.specs.declared.parser.state.State.TheVariants.{End}
 use Rattle.saphyr_parser.specs.Preorder.{Part, OpenStream, CloseStream, OpenDocument, CloseDocument, Reference, Leaf, OpenSequence, CloseSequence, OpenMapping, CloseMapping}
 use Rattle.saphyr_parser.specs.Events.{Happening, ResolvedTag, StreamStart, StreamEnd, DocumentStart, DocumentEnd, Alias, Scalar, SequenceStart, SequenceEnd, MappingStart, MappingEnd}
-use Rattle.saphyr_parser.specs.ForestEvents.{before_all}
+use Rattle.saphyr_parser.specs.ForestEvents.{first_and_others}
 use Rattle.saphyr_parser.specs.TagResolution.{default_prefix}
-use Rattle.saphyr_parser.specs.Steps.Machine.{Names, meaning, with_meaning, without_ids, next_id, with_anchor, Machine, told}
+use Rattle.saphyr_parser.specs.Steps.Machine.{Names, meaning, with_meaning, without_ids, next_id, with_anchor, Machine, told_event}
 use Rattle.saphyr_parser.specs.Steps.Expected.{event_step}
 use Rattle.saphyr_parser.specs.Answer.{remaining_answer}
 use Rattle.saphyr_parser.specs.Exactly.{GivesExactly}
@@ -107,7 +107,7 @@ event_in e CloseMapping = Some MappingEnd
 
 abbrev pub events_in : Memory → List Part → Option (List Happening)
 events_in e [] = Some []
-events_in e (part ∷ others) = before_all (event_in e part) (events_in (after part e) others)
+events_in e (part ∷ others) = first_and_others (event_in e part) (events_in (after part e) others)
 
 -- ## What a machine tells
 
@@ -119,7 +119,7 @@ Says e m ps = (es : List Happening) → events_in e ps ≡ Some es → GivesExac
 abbrev pub Tells : Spans → List Kind → State → List State → Memory → List Part → Type 0
 Tells f ks s ss e ps = Says e (at f ks s ss e) ps
 
-before_all_parts : (a : Option Happening) (b : Option (List Happening)) (es : List Happening) → before_all a b ≡ Some es
+before_all_parts : (a : Option Happening) (b : Option (List Happening)) (es : List Happening) → first_and_others a b ≡ Some es
     → (w : Happening) × (ws : List Happening) × (a ≡ Some w) × (b ≡ Some ws) × (w ∷ ws ≡ es)
 before_all_parts (Some w) (Some ws) es h = (w, ws, refl, refl, (cc))
 before_all_parts (Some w) None es h = absurd (cc)
@@ -127,20 +127,20 @@ before_all_parts None b es h = absurd (cc)
 
 -- one step tells the first part
 pub says : (e : Memory) (m n : Machine) (part : Part) (ps : List Part) → m.state ≢ End
-    → ((w : Happening) → event_in e part ≡ Some w → (span : Span) × (event_step m ≡ told w span n))
+    → ((w : Happening) → event_in e part ≡ Some w → (span : Span) × (event_step m ≡ told_event w span n))
     → Says (after part e) n ps
     → Says e m (part ∷ ps)
 says e m n part ps more go h es q =
     let r : (w : Happening) × (ws : List Happening) × (event_in e part ≡ Some w)
     × (events_in (after part e) ps ≡ Some ws) × (w ∷ ws ≡ es) =
     before_all_parts (event_in e part) (events_in (after part e) ps) es q in
-    let s : (span : Span) × (event_step m ≡ told r.0 span n) = go r.0 r.2 in
+    let s : (span : Span) × (event_step m ≡ told_event r.0 span n) = go r.0 r.2 in
     subst (λ l. GivesExactly l (remaining_answer m)) r.4
     (tells m (record { what = r.0; span = s.0; machine = n }) r.1 more s.1 (h r.1 r.3))
 
 -- the same of a part that always has its event
 pub plainly : (e : Memory) (m n : Machine) (part : Part) (ps : List Part) (w : Happening) (span : Span) → m.state ≢ End
-    → event_in e part ≡ Some w → event_step m ≡ told w span n → Says (after part e) n ps → Says e m (part ∷ ps)
+    → event_in e part ≡ Some w → event_step m ≡ told_event w span n → Says (after part e) n ps → Says e m (part ∷ ps)
 plainly e m n part ps w span more a q h =
     says e m n part ps more (λ v b.
-    (span, q ∙ ap (λ u. told u span n) (let same : w ≡ v = (let c : Some w ≡ Some v = sym a ∙ b in cc) in same))) h
+    (span, q ∙ ap (λ u. told_event u span n) (let same : w ≡ v = (let c : Some w ≡ Some v = sym a ∙ b in cc) in same))) h

@@ -15,7 +15,7 @@ use Rattle.saphyr_parser.specs.Steps.Documents as document
 use Rattle.saphyr_parser.specs.Steps.Expected.{event_step, event_step_at}
 use Rattle.saphyr_parser.specs.Cursor.{EventCursor, Kept, keeping_tags}
 use Rattle.saphyr_parser.specs.Calls.{Advances}
-use Rattle.saphyr_parser.specs.Steps.Settings.{set_to, with_setting}
+use Rattle.saphyr_parser.specs.Steps.Settings.{with_keep_tags, with_setting}
 use Rattle.saphyr_parser.proofs.Beside.Machines.{Beside, Behind, Left, Tells}
 use Rattle.saphyr_parser.proofs.Beside.Documents.{IsStart, Passed, steps_beside}
 use Rattle.saphyr_parser.proofs.Beside.Maps.{becomes, tells_so, stay, still_expected, leaves}
@@ -49,7 +49,7 @@ with_set b =
           };
     }
 
-set_left : (b : Bool) (m n : Machine) → Left (with_set b) m n → n ≡ set_to b m
+set_left : (b : Bool) (m n : Machine) → Left (with_set b) m n → n ≡ with_keep_tags b m
 set_left b m n (inl near) =
     becomes (with_set b) _ (λ p. p) m.tokens b m n (λ p q e. e) near near.tokens near.setting ∙ stay m.tokens b m
 set_left b m n (inr (d, over, a)) = absurd over.tokens
@@ -64,25 +64,25 @@ set_same b (Err f) (Err g) (inl e) = absurd e
 set_same b (Err f) (Err g) (inr e) = rw e refl
 
 others_at : (b : Bool) (s : State) (m : Machine) → s ≢ state.End → s ≢ state.DocumentEnd
-    → event_step_at s (set_to b m) ≡ with_setting b (event_step_at s m)
+    → event_step_at s (with_keep_tags b m) ≡ with_setting b (event_step_at s m)
 others_at b s m on other =
-    by (steps_beside (with_set b) s s m (set_to b m) (still_expected (with_set b) (λ p. refl) s) on
+    by (steps_beside (with_set b) s s m (with_keep_tags b m) (still_expected (with_set b) (λ p. refl) s) on
     (λ e. absurd (other e)) (leaves (with_set b) _ m.tokens b m (λ p. refl) refl refl))
   where
-    by : Tells (with_set b) (event_step_at s m) (event_step_at s (set_to b m))
-        ⊎ (IsStart s × Passed (with_set b) m (set_to b m) (event_step_at s))
-        → event_step_at s (set_to b m) ≡ with_setting b (event_step_at s m)
+    by : Tells (with_set b) (event_step_at s m) (event_step_at s (with_keep_tags b m))
+        ⊎ (IsStart s × Passed (with_set b) m (with_keep_tags b m) (event_step_at s))
+        → event_step_at s (with_keep_tags b m) ≡ with_setting b (event_step_at s m)
     by (inl h) = set_same b _ _ h
     by (inr (i, p)) = absurd p.2.tokens
 
 sets_at : (b : Bool) (s : State) (m : Machine) → s ≢ state.DocumentEnd
-    → event_step_at s (set_to b m) ≡ with_setting b (event_step_at s m)
+    → event_step_at s (with_keep_tags b m) ≡ with_setting b (event_step_at s m)
 sets_at b state.End m other = refl
 sets_at b s m other = others_at b s m (λ e. absurd (cc)) other
 
 -- each step but that at the end of a document
 pub sets : (b : Bool) (m : Machine) → m.state ≢ state.DocumentEnd
-    → event_step (set_to b m) ≡ with_setting b (event_step m)
+    → event_step (with_keep_tags b m) ≡ with_setting b (event_step m)
 unfolding event_step
 sets b m other = sets_at b m.state m other
 
@@ -100,8 +100,8 @@ ends_document_at (tokens.ReservedDirective name) t m = tt
 ends_document_at _ t m = refl
 
 ends_document : (r : Result (Piece × Machine) Refusal)
-    → EndsDocument (r >>= (λ t. document.document_end_at t.0.kind t.0 (document.forget_prefixes t.1)))
-ends_document (Ok t) = ends_document_at t.0.kind t.0 (document.forget_prefixes t.1)
+    → EndsDocument (r >>= (λ t. document.document_end_at t.0.kind t.0 (document.without_prefixes t.1)))
+ends_document (Ok t) = ends_document_at t.0.kind t.0 (document.without_prefixes t.1)
 ends_document (Err e) = tt
 
 -- at the end of a document no other event is told
@@ -110,12 +110,12 @@ unfolding event_step document.document_end
 other_state m x is other at_end =
     let told_so : event_step_at state.DocumentEnd m ≡ Ok x =
     subst (λ (s : State). event_step_at s m ≡ Ok x) at_end is in
-    other (subst EndsDocument told_so (ends_document (document.behind_document m)))
+    other (subst EndsDocument told_so (ends_document (document.token_behind_document m)))
 
 setting : (b : Bool) (c : Option (Happening × Span)) (k : Option Kept) (m : Machine) (i : Bool) (f : Option Span)
     (e : Happening × Span) (new : EventCursor) → e.0 ≢ events.DocumentEnd
     → Advances e (record { current = c; kept = k; machine = m; inside = i; finished = f }) new
-    → Advances e (record { current = c; kept = k; machine = set_to b m; inside = i; finished = f })
+    → Advances e (record { current = c; kept = k; machine = with_keep_tags b m; inside = i; finished = f })
     (keeping_tags b new)
 setting b (Some next) k m i f e new other (same, left) = (same, ap (keeping_tags b) left)
 setting b None (Some k) m i f e new other h = h

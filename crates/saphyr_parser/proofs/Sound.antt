@@ -13,11 +13,11 @@ use Rattle.saphyr_parser.specs.declared.parser.state.State.TheVariants as state
 use Rattle.saphyr_parser.specs.Anchors.{one_more_anchor, anchor_of, anchors}
 use Rattle.saphyr_parser.specs.Preorder.{Part, parts}
 use Rattle.saphyr_parser.specs.Events.{Happening}
-use Rattle.saphyr_parser.specs.ForestEvents.{before_all, events}
+use Rattle.saphyr_parser.specs.ForestEvents.{first_and_others, events}
 use Rattle.saphyr_parser.specs.Exactly.{kinds}
 use Rattle.saphyr_parser.specs.Steps.Machine.{Machine, Told}
 use Rattle.saphyr_parser.specs.Steps.Expected.{event_step, event_step_at}
-use Rattle.saphyr_parser.specs.Answer.{Answer, empty_answer, with_first_event, ending_of, fault_alone, deliver, remaining_answer, machine_size}
+use Rattle.saphyr_parser.specs.Answer.{Answer, empty_answer, with_first_event, ending_of, fault_alone, answer_of_step, remaining_answer, machine_size}
 use Rattle.saphyr_parser.specs.Cursor.{at_start, keeping_tags, to_come}
 use Rattle.saphyr_parser.specs.WellFormed.{AreWellFormed}
 use Rattle.saphyr_parser.proofs.Told.Telling.{Memory}
@@ -149,7 +149,7 @@ events_joined : (part : Part) (ps : List Part) (e : Memory) (w : Happening) (es 
     → event_in e part ≡ Some w
     → events_in (after part e) ps ≡ Some es → events_in e (part ∷ ps) ≡ Some (w ∷ es)
 events_joined part ps e w es h k =
-    ap (λ (o : Option Happening). before_all o (events_in (after part e) ps)) h ∙ ap (before_all (Some w)) k
+    ap (λ (o : Option Happening). first_and_others o (events_in (after part e) ps)) h ∙ ap (first_and_others (Some w)) k
 
 more_anchors : (o : Option (List ℕ)) (n a b : ℕ) → one_more_anchor o 0 ≤ a → n ≤ b → one_more_anchor o n ≤ a + b
 more_anchors None n a b h k = omega (arith, h, k)
@@ -223,7 +223,7 @@ finishes (suc n) m l w a =
         → Moves (Wanted m.state m.states (kinds m.tokens.pieces)) (memory m) m.tokens.pieces r
         → ((k : Machine) → machine_size k < n → AreWellFormed k.tokens.pieces → IsAlive k.state k.states
         → Finishes k.state k.states k.tokens.pieces (memory k) (remaining_answer k))
-        → Finishes m.state m.states m.tokens.pieces (memory m) (deliver r remaining_answer)
+        → Finishes m.state m.states m.tokens.pieces (memory m) (answer_of_step r remaining_answer)
     by (Err f) e h go = finishes_at_fault m.state m.states m.tokens.pieces (memory m) f a
     by (Ok x) e (inl g) go =
         finishes_behind_event m.state m.states m.tokens.pieces (memory m) x (remaining_answer x.machine) g

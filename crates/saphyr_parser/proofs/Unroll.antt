@@ -7,7 +7,7 @@ use Rattle.saphyr_parser.specs.declared.parser.state.State.{State}
 use Rattle.saphyr_parser.specs.declared.parser.state.State.TheVariants as state
 use Rattle.saphyr_parser.specs.Steps.Machine.{Machine, Told}
 use Rattle.saphyr_parser.specs.Steps.Expected.{event_step, event_step_at}
-use Rattle.saphyr_parser.specs.Answer.{Answer, empty_answer, with_first_event, deliver, unless_ended, answer_of_steps, remaining_answer, machine_size, weight_before, begins_with_value}
+use Rattle.saphyr_parser.specs.Answer.{Answer, empty_answer, with_first_event, answer_of_step, answer_unless_ended, answer_of_steps, remaining_answer, machine_size, weight_before, begins_with_value}
 use Rattle.saphyr_parser.proofs.Sizes.{step_leaves}
 
 key_is_positive : (b : Bool) → 0 < (if b then 3 else 1)
@@ -32,7 +32,7 @@ shrinks_at n m x l e =
     omega (arith, less, l, alive)
 
 same_delivery : (r : Result Told Refusal) (go ho : Machine → Answer)
-    → ((x : Told) → r ≡ Ok x → go x.machine ≡ ho x.machine) → deliver r go ≡ deliver r ho
+    → ((x : Told) → r ≡ Ok x → go x.machine ≡ ho x.machine) → answer_of_step r go ≡ answer_of_step r ho
 same_delivery (Err e) go ho h = refl
 same_delivery (Ok x) go ho h = ap (with_first_event (x.what, x.span)) (h x refl)
 
@@ -40,18 +40,18 @@ enough : (n k : ℕ) (m : Machine) → machine_size m < n → machine_size m < k
 enough zero k m a b = absurd (omega (arith, a))
 enough (suc n) zero m a b = absurd (omega (arith, b))
 enough (suc n) (suc k) m a b =
-    ap (unless_ended m.state)
+    ap (answer_unless_ended m.state)
     (same_delivery (event_step m) _ _
     (λ x e. enough n k x.machine (shrinks_at n m x (omega (arith, a)) e) (shrinks_at k m x (omega (arith, b)) e)))
 
-unless_ended_is : (s : State) (a : Answer) → s ≢ state.End → unless_ended s a ≡ a
+unless_ended_is : (s : State) (a : Answer) → s ≢ state.End → answer_unless_ended s a ≡ a
 unless_ended_is state.End a h = absurd (h refl)
 unless_ended_is _ a h = refl
 
-is_over : (s : State) (a : Answer) → s ≡ state.End → unless_ended s a ≡ empty_answer
+is_over : (s : State) (a : Answer) → s ≡ state.End → answer_unless_ended s a ≡ empty_answer
 is_over s a e = rw e refl
 
-pub unroll : (m : Machine) → m.state ≢ state.End → remaining_answer m ≡ deliver (event_step m) remaining_answer
+pub unroll : (m : Machine) → m.state ≢ state.End → remaining_answer m ≡ answer_of_step (event_step m) remaining_answer
 unfolding remaining_answer
 unroll m h = unless_ended_is m.state _ h
     ∙ same_delivery (event_step m) _ _

@@ -32,11 +32,11 @@ is_named name (Some other) = bytes_eq name other
 
 -- The id that an alias has: that of the latest anchor of its name before it in its document. A collection that is open
 -- stands before its entries, so its own anchor counts.
-abbrev pub latest : List ℕ → List Part → Option ℕ
-latest name [] = None
-latest name (part ∷ front) =
+abbrev pub latest_id : List ℕ → List Part → Option ℕ
+latest_id name [] = None
+latest_id name (part ∷ front) =
     if opens_document part then None else
-    (if is_named name (anchor_of part) then Some (suc (anchors front)) else latest name front)
+    (if is_named name (anchor_of part) then Some (suc (anchors front)) else latest_id name front)
 
 -- ## The same at once, in place of step by step
 

@@ -35,18 +35,18 @@ with_first_event e a = record { events = e ∷ a.events; fault = a.fault }
 abbrev pub ending_of : Refusal → Ending
 ending_of e = Refused e.mark (fault_text e.text)
 
-abbrev pub deliver : Result Told Refusal → (Machine → Answer) → Answer
-deliver (Ok x) go = with_first_event (x.what, x.span) (go x.machine)
-deliver (Err e) go = fault_alone (ending_of e)
+abbrev pub answer_of_step : Result Told Refusal → (Machine → Answer) → Answer
+answer_of_step (Ok x) go = with_first_event (x.what, x.span) (go x.machine)
+answer_of_step (Err e) go = fault_alone (ending_of e)
 
-abbrev pub unless_ended : State → Answer → Answer
-unless_ended state.End a = empty_answer
-unless_ended _ a = a
+abbrev pub answer_unless_ended : State → Answer → Answer
+answer_unless_ended state.End a = empty_answer
+answer_unless_ended _ a = a
 
 -- the events of n steps
 abbrev pub answer_of_steps : ℕ → Machine → Answer
 answer_of_steps zero m = empty_answer
-answer_of_steps (suc n) m = unless_ended m.state (deliver (event_step m) (λ k. answer_of_steps n k))
+answer_of_steps (suc n) m = answer_unless_ended m.state (answer_of_step (event_step m) (λ k. answer_of_steps n k))
 
 -- ## How many steps a machine can make
 

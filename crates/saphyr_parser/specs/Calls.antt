@@ -12,7 +12,7 @@ use Rattle.saphyr_parser.specs.declared.parser.state.State.TheVariants as state
 use Rattle.saphyr_parser.specs.Events as events
 use Rattle.saphyr_parser.specs.Events.{Happening}
 use Rattle.saphyr_parser.specs.Views.Machines.{happening}
-use Rattle.saphyr_parser.specs.Steps.Machine.{Machine, told}
+use Rattle.saphyr_parser.specs.Steps.Machine.{Machine, told_event}
 use Rattle.saphyr_parser.specs.Steps.Expected.{event_step}
 use Rattle.saphyr_parser.specs.Answer.{Answer, Ending, Refused, OutOfMemory, fault_alone, empty_answer, remaining_answer}
 use Rattle.saphyr_parser.specs.Cursor.{EventCursor, Kept, IsUnmoved, Refuses, Shows, Stays, count, ending_of_fault, event_of, keeping_tags, with_event_handed, to_come}
@@ -29,7 +29,7 @@ item_at next fault progress.Over = None
 -- which the machine isn't read again; or nothing, once the stream is over.
 abbrev pub Reads : Option (Result (Event × Span) Fault) → Machine → Machine → Type 0
 Reads None old new = (old.state ≡ state.End) × (new ≡ old)
-Reads (Some (Ok e)) old new = event_step old ≡ told (happening e.0) e.1 new
+Reads (Some (Ok e)) old new = event_step old ≡ told_event (happening e.0) e.1 new
 Reads (Some (Err f)) old new = Refuses f (remaining_answer old)
 
 -- nothing but this is still to come; memory may run out before anything that is
@@ -44,7 +44,7 @@ abbrev pub AdvancesFrom : Option (Happening × Span) → Option Kept → Happeni
 AdvancesFrom (Some next) kept e old new = (next ≡ e) × (new ≡ with_event_handed e.0 e.1 (record old { current = None }))
 AdvancesFrom None (Some k) e old new = ⊥
 AdvancesFrom None None e old new =
-    (event_step old.machine ≡ told e.0 e.1 new.machine)
+    (event_step old.machine ≡ told_event e.0 e.1 new.machine)
     × (new ≡ with_event_handed e.0 e.1 (record old { machine = new.machine }))
 
 -- This event is handed out. It was read ahead, or the machine makes one step; nothing else changes but what is
@@ -66,14 +66,14 @@ IsToldAs kept fault.OutOfMemory = Unit {0}
 IsToldAs kept fault.Receiver = ⊥
 IsToldAs kept fault.InsideDocument = ⊥
 
-abbrev pub as_given : Fault → Option Kept
-as_given f = Some (record { fault = ending_of_fault f; given = true })
+abbrev pub given_fault : Fault → Option Kept
+given_fault f = Some (record { fault = ending_of_fault f; given = true })
 
 abbrev pub FailsFrom : Option (Happening × Span) → Option Kept → Fault → EventCursor → EventCursor → Type 0
 FailsFrom (Some next) kept f old new = ⊥
-FailsFrom None (Some k) f old new = (k.given ≡ false) × IsToldAs k.fault f × (new ≡ record old { kept = as_given f })
+FailsFrom None (Some k) f old new = (k.given ≡ false) × IsToldAs k.fault f × (new ≡ record old { kept = given_fault f })
 FailsFrom None None f old new =
-    Refuses f (remaining_answer old.machine) × (new ≡ record old { kept = as_given f; machine = new.machine })
+    Refuses f (remaining_answer old.machine) × (new ≡ record old { kept = given_fault f; machine = new.machine })
 
 -- This fault is handed out, and kept as one that was.
 abbrev pub FailsWith : Fault → EventCursor → EventCursor → Type 0
@@ -86,7 +86,7 @@ GivesFault None (Some r) old new = ⊥
 GivesFault (Some k) None old new = (k.given ≡ true) × (new ≡ old)
 GivesFault (Some k) (Some (Ok e)) old new = ⊥
 GivesFault (Some k) (Some (Err f)) old new =
-    (k.given ≡ false) × IsToldAs k.fault f × (new ≡ record old { kept = as_given f })
+    (k.given ≡ false) × IsToldAs k.fault f × (new ≡ record old { kept = given_fault f })
 
 -- ## Where nothing is left
 
@@ -114,7 +114,7 @@ EndsTheStream c = (span : Span) → c.finished ≡ Some span → (keep : Bool) �
 abbrev pub ReadsAhead : Option (Happening × Span) → Option Kept → EventCursor → EventCursor → Type 0
 ReadsAhead (Some e) (Some k) old new = ⊥
 ReadsAhead (Some e) None old new =
-    (event_step old.machine ≡ told e.0 e.1 new.machine) × (new ≡ record old { current = Some e; machine = new.machine })
+    (event_step old.machine ≡ told_event e.0 e.1 new.machine) × (new ≡ record old { current = Some e; machine = new.machine })
 ReadsAhead None (Some k) old new =
     (k.given ≡ false) × Ends k.fault (remaining_answer old.machine)
     × (new ≡ record old { kept = Some k; machine = new.machine })

@@ -41,12 +41,12 @@ abbrev pub answer_behind : Option Kept → Machine → Answer
 answer_behind None m = remaining_answer m
 answer_behind (Some k) m = if k.given then empty_answer else fault_alone k.fault
 
-abbrev pub ahead : Option (Happening × Span) → Answer → Answer
-ahead None a = a
-ahead (Some e) a = with_first_event e a
+abbrev pub with_event_ahead : Option (Happening × Span) → Answer → Answer
+with_event_ahead None a = a
+with_event_ahead (Some e) a = with_first_event e a
 
 abbrev pub to_come : EventCursor → Answer
-to_come c = ahead c.current (answer_behind c.kept c.machine)
+to_come c = with_event_ahead c.current (answer_behind c.kept c.machine)
 
 -- how many items are left
 abbrev pub count : Answer → ℕ

@@ -21,6 +21,6 @@ abbrev pub kinds : List Piece → List Kind
 kinds ts = map (λ (t : Piece). t.kind) ts
 
 -- the events of tokens that no refusal ends, `keep` telling whether prefixes of tags are kept for later documents
-abbrev pub told_by : Bool → List Piece → Answer
-told_by keep ts =
+abbrev pub answer_of_tokens : Bool → List Piece → Answer
+answer_of_tokens keep ts =
     remaining_answer (record (fresh_machine (record { pieces = ts; refusal = None })) { keep_tags = keep })

@@ -3,8 +3,8 @@ use Rattle.std.specs.Prelude.{Bool, List, [], ◌∷◌, Option, Some, None, opt
 use Rattle.saphyr_scanner.specs.Grammar.Forest.{Forest}
 use Rattle.saphyr_parser.specs.Preorder.{Part, OpenStream, CloseStream, OpenDocument, CloseDocument, Reference, Leaf, OpenSequence, CloseSequence, OpenMapping, CloseMapping, parts}
 use Rattle.saphyr_parser.specs.Events.{Happening, StreamStart, StreamEnd, DocumentStart, DocumentEnd, Alias, Scalar, SequenceStart, SequenceEnd, MappingStart, MappingEnd}
-use Rattle.saphyr_parser.specs.Anchors.{latest, own_id}
-use Rattle.saphyr_parser.specs.TagResolution.{resolve_any}
+use Rattle.saphyr_parser.specs.Anchors.{latest_id, own_id}
+use Rattle.saphyr_parser.specs.TagResolution.{any_resolution}
 
 -- The event of a part, behind the parts before it, the latest first. There is none for an alias without an anchor of
 -- its
@@ -14,25 +14,25 @@ event_of_part keep front OpenStream = Some StreamStart
 event_of_part keep front CloseStream = Some StreamEnd
 event_of_part keep front (OpenDocument explicit directives) = Some (DocumentStart explicit)
 event_of_part keep front CloseDocument = Some DocumentEnd
-event_of_part keep front (Reference name) = option_map Alias (latest (encode_utf8_all name) front)
+event_of_part keep front (Reference name) = option_map Alias (latest_id (encode_utf8_all name) front)
 event_of_part keep front (Leaf p style value) =
-    option_map (Scalar (encode_utf8_all value) style (own_id front p.anchor)) (resolve_any keep p.tag front)
+    option_map (Scalar (encode_utf8_all value) style (own_id front p.anchor)) (any_resolution keep p.tag front)
 event_of_part keep front (OpenSequence p) =
-    option_map (SequenceStart (own_id front p.anchor)) (resolve_any keep p.tag front)
+    option_map (SequenceStart (own_id front p.anchor)) (any_resolution keep p.tag front)
 event_of_part keep front CloseSequence = Some SequenceEnd
 event_of_part keep front (OpenMapping p) =
-    option_map (MappingStart (own_id front p.anchor)) (resolve_any keep p.tag front)
+    option_map (MappingStart (own_id front p.anchor)) (any_resolution keep p.tag front)
 event_of_part keep front CloseMapping = Some MappingEnd
 
-abbrev pub before_all : Option Happening → Option (List Happening) → Option (List Happening)
-before_all (Some event) (Some others) = Some (event ∷ others)
-before_all _ _ = None
+abbrev pub first_and_others : Option Happening → Option (List Happening) → Option (List Happening)
+first_and_others (Some event) (Some others) = Some (event ∷ others)
+first_and_others _ _ = None
 
 -- the events of parts, behind the parts before them
 abbrev pub events_behind : Bool → List Part → List Part → Option (List Happening)
 events_behind keep front [] = Some []
 events_behind keep front (part ∷ others) =
-    before_all (event_of_part keep front part) (events_behind keep (part ∷ front) others)
+    first_and_others (event_of_part keep front part) (events_behind keep (part ∷ front) others)
 
 -- The events of a forest, `keep` telling whether prefixes of tags are kept for later documents. There are none where an
 -- alias or a handle stands for nothing.

@@ -34,8 +34,8 @@ portion multi (e ∷ es) fault =
     if is_last multi e.0 then (record { sent = e ∷ []; fault = None }) else with_event e (portion multi es fault)
 
 -- what one call hands over where it begins between documents
-abbrev pub to_send : Bool → EventCursor → Portion
-to_send multi c = portion multi (to_come c).events (to_come c).fault
+abbrev pub portion_to_send : Bool → EventCursor → Portion
+portion_to_send multi c = portion multi (to_come c).events (to_come c).fault
 
 -- ## Where the parser stands behind events
 

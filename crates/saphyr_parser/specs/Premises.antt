@@ -54,9 +54,9 @@ marker_event Starts = DocumentStart true
 marker_event Ends = DocumentEnd
 
 -- what follows it where the text ends with the marker's line
-abbrev pub behind_marker : DocumentMarker → List Happening
-behind_marker Starts = empty_scalar ∷ DocumentEnd ∷ StreamEnd ∷ []
-behind_marker Ends = StreamEnd ∷ []
+abbrev pub events_behind_marker : DocumentMarker → List Happening
+events_behind_marker Starts = empty_scalar ∷ DocumentEnd ∷ StreamEnd ∷ []
+events_behind_marker Ends = StreamEnd ∷ []
 
 -- The text begins with `front`, which the premises are asked of: it ends with a marker's line, and `first` are its
 -- events up
@@ -74,7 +74,7 @@ pub record IsClosed (G : Grammar) (IsTail : List ℕ → Type 0) (limit : ℕ) (
   pub promised : IsPromised G limit keep forest front told
   pub earlier : List Happening
   pub is_first : first ≡ earlier ++ marker_event marker ∷ []
-  pub are_told : told ≡ first ++ behind_marker marker
+  pub are_told : told ≡ first ++ events_behind_marker marker
 
 -- the answer's events begin with these
 abbrev pub GivesFirst : List Happening → Answer → Type 0

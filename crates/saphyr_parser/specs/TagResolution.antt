@@ -18,11 +18,11 @@ prefix_in handle (Reserved _ ∷ others) = prefix_in handle others
 
 -- The prefix that is declared for a handle: by the document itself, and else, where prefixes are kept, by the latest
 -- document before that declares one.
-abbrev pub declared : Bool → Handle → List Part → Option (List ℕ)
-declared keep handle [] = None
-declared keep handle (part ∷ front) =
+abbrev pub prefix_declared_for : Bool → Handle → List Part → Option (List ℕ)
+prefix_declared_for keep handle [] = None
+prefix_declared_for keep handle (part ∷ front) =
     if opens_document part then option_or (prefix_in handle (directives_of part))
-    (if keep then declared keep handle front else None) else declared keep handle front
+    (if keep then prefix_declared_for keep handle front else None) else prefix_declared_for keep handle front
 
 -- what a handle stands for that is not declared; a named one has to be
 abbrev pub default_prefix : Handle → Option (List ℕ)
@@ -31,16 +31,16 @@ default_prefix Secondary = Some (codes "tag:yaml.org,2002:")
 default_prefix (Named _) = None
 
 abbrev pub prefix_of : Bool → Handle → List Part → Option (List ℕ)
-prefix_of keep handle front = option_or (declared keep handle front) (default_prefix handle)
+prefix_of keep handle front = option_or (prefix_declared_for keep handle front) (default_prefix handle)
 
 -- A tag with its prefix, which is empty for `!` and `!<uri>`.
-abbrev pub resolve : Bool → Tag → List Part → Option ResolvedTag
-resolve keep NonSpecific front = Some (record { handle = []; suffix = codes "!" })
-resolve keep (Verbatim uri) front = Some (record { handle = []; suffix = encode_utf8_all uri })
-resolve keep (Shorthand handle suffix) front =
+abbrev pub resolution : Bool → Tag → List Part → Option ResolvedTag
+resolution keep NonSpecific front = Some (record { handle = []; suffix = codes "!" })
+resolution keep (Verbatim uri) front = Some (record { handle = []; suffix = encode_utf8_all uri })
+resolution keep (Shorthand handle suffix) front =
     option_map (λ prefix. record { handle = prefix; suffix = encode_utf8_all suffix }) (prefix_of keep handle front)
 
 -- the same of a tag that may be absent
-abbrev pub resolve_any : Bool → Option Tag → List Part → Option (Option ResolvedTag)
-resolve_any keep None front = Some None
-resolve_any keep (Some tag) front = option_map Some (resolve keep tag front)
+abbrev pub any_resolution : Bool → Option Tag → List Part → Option (Option ResolvedTag)
+any_resolution keep None front = Some None
+any_resolution keep (Some tag) front = option_map Some (resolution keep tag front)

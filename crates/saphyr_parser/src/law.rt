@@ -2,7 +2,7 @@
 //! whoever proves more about parsers.
 ghost use Rattle.std.specs.Prelude.{Bool, List, [], ◌∷◌, ◌++◌, codes, false, true, ℕ, ◌≡◌, ◌≢◌, ◌<◌, ◌≤◌, ◌^◌, length, None, Ok, Option, Some};
 ghost use Rattle.saphyr_parser.specs.Limits.{most_characters};
-ghost use Rattle.saphyr_parser.specs.Anchors.{IsLatest, anchors, latest};
+ghost use Rattle.saphyr_parser.specs.Anchors.{IsLatest, anchors, latest_id};
 ghost use Rattle.saphyr_parser.specs.Preorder.{Part, parts};
 ghost use Rattle.saphyr_parser.specs.Examples.Forests as examples;
 ghost use Rattle.saphyr_parser.specs.ForestEvents.{events};
@@ -15,15 +15,15 @@ ghost use Rattle.saphyr_scanner.specs.Steps.Remaining.{scan};
 ghost use Rattle.saphyr_scanner.specs.Views.Tokens.{Piece, Remaining};
 ghost use Rattle.saphyr_scanner.specs.SpansInOrder.{AreInOrder};
 ghost use Rattle.saphyr_parser.specs.Cursor.{EventCursor, at_start, keeping_tags, to_come};
-ghost use Rattle.saphyr_parser.specs.Loading.{to_send};
+ghost use Rattle.saphyr_parser.specs.Loading.{portion_to_send};
 ghost use Rattle.saphyr_scanner.specs.Grammar.TokenGrammar.{Yields};
 ghost use Rattle.saphyr_scanner.specs.Grammar.Tokens.{Kind};
 ghost use Rattle.saphyr_scanner.specs.Grammar.Tokens as tokens;
 ghost use Rattle.saphyr_scanner.specs.Examples.TakenTexts.{marker_at, piece_from_to};
-ghost use Rattle.saphyr_parser.specs.Exactly.{GivesExactly, TellTheSame, kinds, told_by};
+ghost use Rattle.saphyr_parser.specs.Exactly.{GivesExactly, TellTheSame, kinds, answer_of_tokens};
 ghost use Rattle.saphyr_parser.specs.Events.{Alias, DocumentEnd, Happening};
 ghost use Rattle.saphyr_parser.specs.EventsTaken.{AreTaken, BeginsSomeForest, HasPlaceIn, IsOf};
-ghost use Rattle.saphyr_parser.specs.Premises.{DocumentMarker, GivesFirst, HasOneMeaning, IsClosed, MeanTheSame, ReadsClosed, ReadsEach, behind_marker};
+ghost use Rattle.saphyr_parser.specs.Premises.{DocumentMarker, GivesFirst, HasOneMeaning, IsClosed, MeanTheSame, ReadsClosed, ReadsEach, events_behind_marker};
 ghost use Rattle.saphyr_parser.specs.Promises.{IsShallowJson, KeepsSpans, ReadsClosedLayout, ReadsLayout, TakesEvents};
 ghost use Rattle.saphyr_scalar.specs.declared.scalar.position.Span.{Span};
 ghost use Rattle.saphyr_scalar.specs.Spelling.Spaces.{IsLineRest};
@@ -37,7 +37,7 @@ ghost use Rattle.saphyr_parser.specs.Steps.Machine.{Machine, Told, ending_refusa
 ghost use Rattle.saphyr_parser.specs.Steps.Expected.{event_step};
 ghost use Rattle.saphyr_parser.specs.Answer.{with_first_event, remaining_answer};
 ghost use Rattle.saphyr_parser.specs.Calls.{Advances};
-ghost use Rattle.saphyr_parser.specs.Steps.Settings.{set_to, with_setting};
+ghost use Rattle.saphyr_parser.specs.Steps.Settings.{with_keep_tags, with_setting};
 ghost use Rattle.saphyr_parser.specs.declared.parser.state.State.TheVariants.{DocumentEnd as AtDocumentEnd};
 ghost use Rattle.saphyr_parser.specs.More.{BeginsAs, marker_token, with_more};
 
@@ -74,10 +74,10 @@ pub fn resolves_tags()
 
 /// An alias has the latest anchor of its name: behind it stand in the document only parts without one.
 pub fn finds_the_latest_anchor()
-    ensures found { (name : List ℕ) (front : List Part) (id : ℕ) → latest name front ≡ Some id
+    ensures found { (name : List ℕ) (front : List Part) (id : ℕ) → latest_id name front ≡ Some id
         → IsLatest name front id }
     ensures each { (name : List ℕ) (front : List Part) (id : ℕ) → IsLatest name front id
-        → latest name front ≡ Some id }
+        → latest_id name front ≡ Some id }
 {}
 
 /// Each text of JSON has events.
@@ -97,7 +97,7 @@ pub fn counts_anchors()
 pub fn gives_each_forest()
     ensures machine { (forest : Forest) (keep : Bool) (pieces : List Piece) (told : List Happening)
         → Yields forest (kinds pieces) → anchors (parts forest) < 2 ^ 64
-        → events forest keep ≡ Some told → GivesExactly told (told_by keep pieces) }
+        → events forest keep ≡ Some told → GivesExactly told (answer_of_tokens keep pieces) }
     ensures parser { (forest : Forest) (keep : Bool) (tokens : Remaining) (told : List Happening)
         → Yields forest (kinds tokens.pieces) → tokens.refusal ≡ None
         → anchors (parts forest) < 2 ^ 64 → events forest keep ≡ Some told
@@ -108,7 +108,7 @@ pub fn gives_each_forest()
 pub fn gives_json()
     ensures machine { (forest : Forest) (text : List ℕ) (keep : Bool) (pieces : List Piece)
         (told : List Happening) → IsJson forest text → kinds pieces ≡ json_tokens forest
-        → events forest keep ≡ Some told → GivesExactly told (told_by keep pieces) }
+        → events forest keep ≡ Some told → GivesExactly told (answer_of_tokens keep pieces) }
     ensures parser { (forest : Forest) (text : List ℕ) (keep : Bool) (tokens : Remaining)
         (told : List Happening) → IsJson forest text → kinds tokens.pieces ≡ json_tokens forest
         → tokens.refusal ≡ None → events forest keep ≡ Some told
@@ -128,7 +128,7 @@ pub fn keeps_spans_in()
 /// With `multi`, `load` hands over all events that are still to come, as iteration gives them, and meets
 /// the fault behind them.
 pub fn loads_all_events()
-    ensures { (parser : EventCursor) → to_send true parser
+    ensures { (parser : EventCursor) → portion_to_send true parser
         ≡ record { sent = (to_come parser).events; fault = (to_come parser).fault } }
 {}
 
@@ -262,7 +262,7 @@ pub fn closes_tokens()
         (alone : List Piece) (followed : Remaining) (first : List Happening)
         → kinds alone ≡ earlier ++ marker_token marker ∷ tokens.StreamEnd ∷ []
         → kinds followed.pieces ≡ earlier ++ marker_token marker ∷ more
-        → GivesExactly (first ++ behind_marker marker) (told_by keep alone)
+        → GivesExactly (first ++ events_behind_marker marker) (answer_of_tokens keep alone)
         → GivesFirst first (to_come (keeping_tags keep (at_start followed))) }
 {}
 
@@ -270,7 +270,7 @@ pub fn closes_tokens()
 /// is, and what comes behind that event is the same whether it was set before the event or behind it.
 pub fn sets_at_document_ends()
     ensures step { (m : Machine) (keep : Bool) → m.state ≢ AtDocumentEnd
-        → event_step (set_to keep m) ≡ with_setting keep (event_step m) }
+        → event_step (with_keep_tags keep m) ≡ with_setting keep (event_step m) }
     ensures event { (e : Happening × Span) (old new : EventCursor) (keep : Bool) → e.0 ≢ DocumentEnd
         → Advances e old new → Advances e (keeping_tags keep old) (keeping_tags keep new) }
     ensures list { (e : Happening × Span) (old new : EventCursor) (keep : Bool) → e.0 ≢ DocumentEnd

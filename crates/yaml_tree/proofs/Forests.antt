@@ -6,16 +6,16 @@ use Rattle.saphyr_parser.specs.Preorder as parts
 use Rattle.saphyr_parser.specs.Preorder.{Part, node_parts, entry_parts, pair_parts, document_parts}
 use Rattle.saphyr_parser.specs.Events as events
 use Rattle.saphyr_parser.specs.Events.{Happening}
-use Rattle.saphyr_parser.specs.ForestEvents.{event_of_part, before_all, events_behind}
+use Rattle.saphyr_parser.specs.ForestEvents.{event_of_part, first_and_others, events_behind}
 use Rattle.saphyr_parser.specs.ForestEvents as forests
 use Rattle.saphyr_parser.specs.Answer.{Ending, Answer}
 use Rattle.saphyr_parser.specs.EventsTaken.{IsAllUnless}
 use Rattle.yaml_tree.specs.declared.fault.TreeFault.TheVariants as fault
 use Rattle.yaml_tree.specs.declared.tally.Limits.{Limits}
-use Rattle.yaml_tree.specs.Nesting.{NestPlace, InStream, BeforeRoot, BehindRoot, InSequence, BeforeKey, BeforeValue, Nest, outside, complete, place_behind_node, moved, entered, behind_event, behind_all}
+use Rattle.yaml_tree.specs.Nesting.{NestPlace, InStream, BeforeRoot, BehindRoot, InSequence, BeforeKey, BeforeValue, Nest, nest_before_stream, nest_behind_stream, place_behind_node, with_next_place, nest_inside, nest_behind_event, nest_behind_all}
 use Rattle.yaml_tree.specs.Loading.{happenings, IsWhole, IsNested, IsStreamStart, BeginsStream, IsAtStart, LoadsDocuments}
 use Rattle.yaml_tree.specs.Forests.{IsOfForest}
-use Rattle.yaml_tree.proofs.Taking.{behind_all-append}
+use Rattle.yaml_tree.proofs.Taking.{nest_behind_all-append}
 
 -- ## Steps
 
@@ -27,7 +27,7 @@ record Begins (e : Option Happening) (o : Option (List Happening)) (es : List Ha
   joined : es ≡ first ∷ others
 
 before_all_begins : (e : Option Happening) (o : Option (List Happening)) (es : List Happening)
-    → before_all e o ≡ Some es
+    → first_and_others e o ≡ Some es
     → Begins e o es
 before_all_begins (Some h) (Some hs) es p = record { first = h; others = hs; is = refl; are = refl; joined = cc }
 before_all_begins (Some h) None es p = absurd (cc)
@@ -39,11 +39,11 @@ record Passes (keep : Bool) (rest : List Part) (es : List Happening) (n m : Nest
   front : List Part
   more : List Happening
   are : events_behind keep front rest ≡ Some more
-  same : behind_all es n ≡ behind_all more m
+  same : nest_behind_all es n ≡ nest_behind_all more m
 
 one_part : (keep : Bool) (front : List Part) (part : Part) (rest : List Part) (es : List Happening) (n m : Nest)
     → events_behind keep front (part ∷ rest) ≡ Some es
-    → ((h : Happening) → event_of_part keep front part ≡ Some h → behind_event h n ≡ Some m)
+    → ((h : Happening) → event_of_part keep front part ≡ Some h → nest_behind_event h n ≡ Some m)
     → Passes keep rest es n m
 one_part keep front part rest es n m p step =
     let b = before_all_begins (event_of_part keep front part) (events_behind keep (part ∷ front) rest) es p in
@@ -51,8 +51,8 @@ one_part keep front part rest es n m p step =
       front = part ∷ front;
       more = b.others;
       are = b.are;
-      same = ap (λ (hs : List Happening). behind_all hs n) b.joined
-          ∙ ap (option_and_then (behind_all b.others)) (step b.first b.is);
+      same = ap (λ (hs : List Happening). nest_behind_all hs n) b.joined
+          ∙ ap (option_and_then (nest_behind_all b.others)) (step b.first b.is);
     }
 
 and_then : (keep : Bool) (rest more : List Part) (es : List Happening) (n m k : Nest) → Passes keep rest es n m
@@ -67,19 +67,19 @@ no_part : (keep : Bool) (front rest : List Part) (es : List Happening) (n : Nest
 no_part keep front rest es n p = record { front = front; more = es; are = p; same = refl }
 
 mapped : {A : Type 0} (f : A → Happening) (o : Option A) (h : Happening) (n : Nest) (m : Option Nest)
-    → ((x : A) → behind_event (f x) n ≡ m) → option_map f o ≡ Some h → behind_event h n ≡ m
+    → ((x : A) → nest_behind_event (f x) n ≡ m) → option_map f o ≡ Some h → nest_behind_event h n ≡ m
 mapped f None h n m each p = absurd (cc)
-mapped f (Some x) h n m each p = let same : f x ≡ h = cc in ap (λ (g : Happening). behind_event g n) (sym same) ∙ each x
+mapped f (Some x) h n m each p = let same : f x ≡ h = cc in ap (λ (g : Happening). nest_behind_event g n) (sym same) ∙ each x
 
-given : (e h : Happening) (n : Nest) (m : Option Nest) → behind_event e n ≡ m → Some e ≡ Some h → behind_event h n ≡ m
-given e h n m each p = let same : e ≡ h = cc in ap (λ (g : Happening). behind_event g n) (sym same) ∙ each
+given : (e h : Happening) (n : Nest) (m : Option Nest) → nest_behind_event e n ≡ m → Some e ≡ Some h → nest_behind_event h n ≡ m
+given e h n m each p = let same : e ≡ h = cc in ap (λ (g : Happening). nest_behind_event g n) (sym same) ∙ each
 
 -- the nest behind a node
 abbrev at : Nest → NestPlace → Nest
 at n place = record { innermost = place; outer = n.outer }
 
 behind_moved : (n : Nest) (place : NestPlace) → place_behind_node n.innermost ≡ Some place
-    → moved place_behind_node n ≡ Some (at n place)
+    → with_next_place place_behind_node n ≡ Some (at n place)
 behind_moved n place h = ap (option_map (λ (p : NestPlace). record n { innermost = p })) h
 
 -- ## Nodes
@@ -97,22 +97,22 @@ mutual
       (λ e q. mapped (events.Scalar _ style _) _ e n _ (λ tag. behind_moved n place h) q)
   node_passes keep (Seq own nodes) front rest es n place h p =
       let begun = one_part keep front (parts.OpenSequence own)
-      ((entry_parts nodes ++ parts.CloseSequence ∷ []) ++ rest) es n (entered InSequence n) p
+      ((entry_parts nodes ++ parts.CloseSequence ∷ []) ++ rest) es n (nest_inside InSequence n) p
       (λ e q. mapped (events.SequenceStart _) _ e n _ (λ tag. refl) q) in
-      let filled = and_then keep _ (parts.CloseSequence ∷ rest) es n _ (entered InSequence n) begun
+      let filled = and_then keep _ (parts.CloseSequence ∷ rest) es n _ (nest_inside InSequence n) begun
       (λ f hs q. entries_pass keep nodes f (parts.CloseSequence ∷ rest) hs _ (rw append_assoc at q)) in
       and_then keep _ rest es n _ (at n place) filled
       (λ f hs q. one_part keep f parts.CloseSequence rest hs _ _ q
-      (λ e r. given events.SequenceEnd e (entered InSequence n) _ (behind_moved n place h) r))
+      (λ e r. given events.SequenceEnd e (nest_inside InSequence n) _ (behind_moved n place h) r))
   node_passes keep (Map own pairs) front rest es n place h p =
       let begun = one_part keep front (parts.OpenMapping own)
-      ((pair_parts pairs ++ parts.CloseMapping ∷ []) ++ rest) es n (entered BeforeKey n) p
+      ((pair_parts pairs ++ parts.CloseMapping ∷ []) ++ rest) es n (nest_inside BeforeKey n) p
       (λ e q. mapped (events.MappingStart _) _ e n _ (λ tag. refl) q) in
-      let filled = and_then keep _ (parts.CloseMapping ∷ rest) es n _ (entered BeforeKey n) begun
+      let filled = and_then keep _ (parts.CloseMapping ∷ rest) es n _ (nest_inside BeforeKey n) begun
       (λ f hs q. pairs_pass keep pairs f (parts.CloseMapping ∷ rest) hs _ (rw append_assoc at q)) in
       and_then keep _ rest es n _ (at n place) filled
       (λ f hs q. one_part keep f parts.CloseMapping rest hs _ _ q
-      (λ e r. given events.MappingEnd e (entered BeforeKey n) _ (behind_moved n place h) r))
+      (λ e r. given events.MappingEnd e (nest_inside BeforeKey n) _ (behind_moved n place h) r))
 
   entries_pass : (keep : Bool) (nodes : Nodes) (front rest : List Part) (es : List Happening) (outer : List NestPlace)
       → events_behind keep front (entry_parts nodes ++ rest) ≡ Some es
@@ -145,49 +145,49 @@ stream = record { innermost = InStream; outer = [] }
 
 documents_pass : (keep : Bool) (documents : Forest) (front : List Part) (es : List Happening)
     → events_behind keep front (document_parts documents) ≡ Some es
-    → Passes keep [] es stream complete
-documents_pass keep [] front es p = one_part keep front parts.CloseStream [] es _ complete p
+    → Passes keep [] es stream nest_behind_stream
+documents_pass keep [] front es p = one_part keep front parts.CloseStream [] es _ nest_behind_stream p
     (λ e q. given events.StreamEnd e _ _ refl q)
 documents_pass keep (d ∷ ds) front es p =
     let begun = one_part keep front (parts.OpenDocument d.explicit d.directives)
-    (node_parts d.node ++ parts.CloseDocument ∷ document_parts ds) es stream (entered BeforeRoot stream) p
+    (node_parts d.node ++ parts.CloseDocument ∷ document_parts ds) es stream (nest_inside BeforeRoot stream) p
     (λ e q. given (events.DocumentStart d.explicit) e stream _ refl q) in
-    let filled = and_then keep _ (parts.CloseDocument ∷ document_parts ds) es stream _ (entered BehindRoot stream) begun
+    let filled = and_then keep _ (parts.CloseDocument ∷ document_parts ds) es stream _ (nest_inside BehindRoot stream) begun
     (λ f hs q. node_passes keep d.node f (parts.CloseDocument ∷ document_parts ds) hs
-    (entered BeforeRoot stream) BehindRoot refl q) in
+    (nest_inside BeforeRoot stream) BehindRoot refl q) in
     let ended = and_then keep _ (document_parts ds) es stream _ stream filled
-    (λ f hs q. one_part keep f parts.CloseDocument (document_parts ds) hs (entered BehindRoot stream) stream q
-    (λ e r. given events.DocumentEnd e (entered BehindRoot stream) _ refl r)) in
-    and_then keep _ [] es stream _ complete ended (λ f hs q. documents_pass keep ds f hs q)
+    (λ f hs q. one_part keep f parts.CloseDocument (document_parts ds) hs (nest_inside BehindRoot stream) stream q
+    (λ e r. given events.DocumentEnd e (nest_inside BehindRoot stream) _ refl r)) in
+    and_then keep _ [] es stream _ nest_behind_stream ended (λ f hs q. documents_pass keep ds f hs q)
 
 forest_passes : (forest : Forest) (keep : Bool) (es : List Happening) → forests.events forest keep ≡ Some es
-    → Passes keep [] es outside complete
+    → Passes keep [] es nest_before_stream nest_behind_stream
 forest_passes forest keep es p =
-    let begun = one_part keep [] parts.OpenStream (document_parts forest) es outside stream p
-    (λ e q. given events.StreamStart e outside _ refl q) in
-    and_then keep _ [] es outside _ complete begun (λ f hs q. documents_pass keep forest f hs q)
+    let begun = one_part keep [] parts.OpenStream (document_parts forest) es nest_before_stream stream p
+    (λ e q. given events.StreamStart e nest_before_stream _ refl q) in
+    and_then keep _ [] es nest_before_stream _ nest_behind_stream begun (λ f hs q. documents_pass keep forest f hs q)
 
 pub forest_nests : (forest : Forest) (keep : Bool) (es : List Happening) → forests.events forest keep ≡ Some es
-    → behind_all es outside ≡ Some complete
+    → nest_behind_all es nest_before_stream ≡ Some nest_behind_stream
 forest_nests forest keep es p =
     let passes = forest_passes forest keep es p in
     let none : [] ≡ passes.more = cc passes.are in
-    passes.same ∙ ap (λ (hs : List Happening). behind_all hs complete) (sym none)
+    passes.same ∙ ap (λ (hs : List Happening). nest_behind_all hs nest_behind_stream) (sym none)
 
 -- ## Beginnings
 
 whole_at_end : (ending : Option Ending) (o : Option Nest) (missing : List Happening) → IsAllUnless ending missing
-    → option_and_then (behind_all missing) o ≡ Some complete → IsWhole ending o
+    → option_and_then (nest_behind_all missing) o ≡ Some nest_behind_stream → IsWhole ending o
 whole_at_end ending None missing h e = absurd (cc)
 whole_at_end (Some f) (Some n) missing h e = tt
 whole_at_end None (Some n) missing h e =
-    let same : behind_all missing n ≡ Some n = ap (λ (hs : List Happening). behind_all hs n) h in
-    let found : Some n ≡ Some complete = sym same ∙ e in
+    let same : nest_behind_all missing n ≡ Some n = ap (λ (hs : List Happening). nest_behind_all hs n) h in
+    let found : Some n ≡ Some nest_behind_stream = sym same ∙ e in
     cc
 
 pub nests : (forest : Forest) (keep : Bool) (a : Answer) → IsOfForest forest keep a → IsNested a
-nests forest keep a h = whole_at_end a.fault (behind_all (happenings a.events) outside) h.missing h.all_given
-    (sym (behind_all-append (happenings a.events) h.missing outside)
+nests forest keep a h = whole_at_end a.fault (nest_behind_all (happenings a.events) nest_before_stream) h.missing h.all_given
+    (sym (nest_behind_all-append (happenings a.events) h.missing nest_before_stream)
     ∙ forest_nests forest keep (happenings a.events ++ h.missing) h.are_events)
 
 -- ## Starts

@@ -13,12 +13,12 @@ use Rattle.yaml_tree.specs.declared.fault.TreeFault.TheVariants as fault
 use Rattle.yaml_tree.specs.declared.tally.Limits.{Limits}
 use Rattle.yaml_tree.specs.declared.document.Document.{Document}
 use Rattle.yaml_tree.specs.declared.loading.Loader.{Loader}
-use Rattle.yaml_tree.specs.Nesting.{Nest, outside, complete, behind_all}
+use Rattle.yaml_tree.specs.Nesting.{Nest, nest_before_stream, nest_behind_stream, nest_behind_all}
 use Rattle.yaml_tree.specs.Counting.{no_nodes, StayWithin}
 use Rattle.yaml_tree.specs.BuilderSeen.{Finishes}
 use Rattle.yaml_tree.specs.LoaderSeen.{HasTaken, Forbids}
 use Rattle.yaml_tree.specs.Loading.{happenings, IsWhole, IsNested, Stops, FailsToLoad, LoadsDocuments, HasRead, TakesAll}
-use Rattle.yaml_tree.proofs.Taking.{behind_all-append}
+use Rattle.yaml_tree.proofs.Taking.{nest_behind_all-append}
 
 -- ## Event after event
 
@@ -67,11 +67,11 @@ told_split all a b es e s h = ap happenings (split_more all a b es e s h)
     ∙ map-append (λ (d : Happening × Span). d.0) es (e ∷ b.events)
     ∙ sym (append_assoc (happenings es) (e.0 ∷ []) (happenings b.events))
 
-unnested : (all : Answer) (es more : List Happening) → happenings all.events ≡ es ++ more → behind_all es outside ≡ None
+unnested : (all : Answer) (es more : List Happening) → happenings all.events ≡ es ++ more → nest_behind_all es nest_before_stream ≡ None
     → IsNested all → ⊥
 unnested all es more s n w = no_nest all.fault _
-    (ap (λ hs. behind_all hs outside) s ∙ behind_all-append es more outside
-    ∙ ap (option_and_then (behind_all more)) n) w
+    (ap (λ hs. nest_behind_all hs nest_before_stream) s ∙ nest_behind_all-append es more nest_before_stream
+    ∙ ap (option_and_then (nest_behind_all more)) n) w
 
 pub fails : (f : TreeFault) (limits : Limits) (all a b : Answer) (e : Happening × Span) (old : Loader)
     (r : HasRead limits all a old) → a ≡ with_first_event e b
@@ -121,7 +121,7 @@ reads_all limits all a b l r h k =
 -- ## The documents
 
 whole_is_complete : (f : Option Ending) (o : Option Nest) (n : Nest) → f ≡ None → o ≡ Some n → IsWhole f o
-    → n ≡ complete
+    → n ≡ nest_behind_stream
 whole_is_complete f o n e g w =
     subst (λ (x : Option Nest). IsWhole None x) g (subst (λ (x : Option Ending). IsWhole x o) e w)
 

@@ -7,8 +7,8 @@ use Rattle.yaml_tree.specs.declared.fault.TreeFault.TheVariants as fault
 use Rattle.yaml_tree.specs.declared.tally.Limits.{Limits}
 use Rattle.yaml_tree.specs.declared.tally.Tally.{Tally}
 use Rattle.yaml_tree.specs.declared.loading.Loader.{Loader}
-use Rattle.yaml_tree.specs.Nesting.{Nest, behind_event, behind_all, outside}
-use Rattle.yaml_tree.specs.Counting.{Counts, counted, counted_all, no_nodes, StayWithin, Fits}
+use Rattle.yaml_tree.specs.Nesting.{Nest, nest_behind_event, nest_behind_all, nest_before_stream}
+use Rattle.yaml_tree.specs.Counting.{Counts, counts_behind, counts_behind_all, no_nodes, StayWithin, Fits}
 use Rattle.yaml_tree.specs.TallySeen.{counts_of, Exceeds, Tallies}
 use Rattle.yaml_tree.specs.BuilderSeen.{nest_of, Grows}
 use Rattle.yaml_tree.specs.LoaderSeen.{HasTaken, Forbids, TakesLast}
@@ -25,21 +25,21 @@ and_then_along : {A B : Type 0} (f g : A → Option B) (o : Option A) → ((x : 
 and_then_along f g None h = refl
 and_then_along f g (Some x) h = h x
 
-pub behind_all-append : (xs ys : List Happening) (n : Nest)
-    → behind_all (xs ++ ys) n ≡ option_and_then (behind_all ys) (behind_all xs n)
-behind_all-append [] ys n = refl
-behind_all-append (x ∷ xs) ys n = and_then_along _ _ (behind_event x n) (λ m. behind_all-append xs ys m)
-    ∙ option_and_then-twice (behind_all ys) (behind_all xs) (behind_event x n)
+pub nest_behind_all-append : (xs ys : List Happening) (n : Nest)
+    → nest_behind_all (xs ++ ys) n ≡ option_and_then (nest_behind_all ys) (nest_behind_all xs n)
+nest_behind_all-append [] ys n = refl
+nest_behind_all-append (x ∷ xs) ys n = and_then_along _ _ (nest_behind_event x n) (λ m. nest_behind_all-append xs ys m)
+    ∙ option_and_then-twice (nest_behind_all ys) (nest_behind_all xs) (nest_behind_event x n)
 
-pub counted_all-append : (xs ys : List Happening) (c : Counts)
-    → counted_all (xs ++ ys) c ≡ counted_all ys (counted_all xs c)
-counted_all-append [] ys c = refl
-counted_all-append (x ∷ xs) ys c = counted_all-append xs ys (counted x c)
+pub counts_behind_all-append : (xs ys : List Happening) (c : Counts)
+    → counts_behind_all (xs ++ ys) c ≡ counts_behind_all ys (counts_behind_all xs c)
+counts_behind_all-append [] ys c = refl
+counts_behind_all-append (x ∷ xs) ys c = counts_behind_all-append xs ys (counts_behind x c)
 
 pub stays_within : (limits : Limits) (xs : List Happening) (x : Happening) (c : Counts) → StayWithin limits xs c
-    → Fits limits (counted x (counted_all xs c)) → StayWithin limits (xs ++ x ∷ []) c
+    → Fits limits (counts_behind x (counts_behind_all xs c)) → StayWithin limits (xs ++ x ∷ []) c
 stays_within limits [] x c h f = (f, tt)
-stays_within limits (y ∷ ys) x c h f = (h.0, stays_within limits ys x (counted y c) h.1 f)
+stays_within limits (y ∷ ys) x c h f = (h.0, stays_within limits ys x (counts_behind y c) h.1 f)
 
 -- ## One more event
 
@@ -47,22 +47,22 @@ some_again : (o : Option Nest) → option_and_then (λ n. Some n) o ≡ o
 some_again None = refl
 some_again (Some n) = refl
 
-one : (h : Happening) (n : Nest) → behind_all (h ∷ []) n ≡ behind_event h n
-one h n = some_again (behind_event h n)
+one : (h : Happening) (n : Nest) → nest_behind_all (h ∷ []) n ≡ nest_behind_event h n
+one h n = some_again (nest_behind_event h n)
 
 pub nested_more : (events : List Happening) (h : Happening) (n : Nest) (o : Option Nest)
-    → behind_all events outside ≡ Some n → behind_event h n ≡ o → behind_all (events ++ h ∷ []) outside ≡ o
-nested_more events h n o e f = behind_all-append events (h ∷ []) outside
-    ∙ ap (option_and_then (behind_all (h ∷ []))) e ∙ one h n ∙ f
+    → nest_behind_all events nest_before_stream ≡ Some n → nest_behind_event h n ≡ o → nest_behind_all (events ++ h ∷ []) nest_before_stream ≡ o
+nested_more events h n o e f = nest_behind_all-append events (h ∷ []) nest_before_stream
+    ∙ ap (option_and_then (nest_behind_all (h ∷ []))) e ∙ one h n ∙ f
 
 pub counted_more : (events : List Happening) (h : Happening) (t : Tally) (d : Counts)
-    → counts_of t ≡ counted_all events no_nodes → d ≡ counted h (counts_of t)
-    → d ≡ counted_all (events ++ h ∷ []) no_nodes
-counted_more events h t d e f = f ∙ ap (counted h) e ∙ sym (counted_all-append events (h ∷ []) no_nodes)
+    → counts_of t ≡ counts_behind_all events no_nodes → d ≡ counts_behind h (counts_of t)
+    → d ≡ counts_behind_all (events ++ h ∷ []) no_nodes
+counted_more events h t d e f = f ∙ ap (counts_behind h) e ∙ sym (counts_behind_all-append events (h ∷ []) no_nodes)
 
-fits_more : (l m : Limits) (a b : Counts) (h : Happening) → l ≡ m → a ≡ b → Fits l (counted h a) → Fits m (counted h b)
-fits_more l m a b h e f x = subst (λ (k : Limits). Fits k (counted h b)) e
-    (subst (λ (d : Counts). Fits l (counted h d)) f x)
+fits_more : (l m : Limits) (a b : Counts) (h : Happening) → l ≡ m → a ≡ b → Fits l (counts_behind h a) → Fits m (counts_behind h b)
+fits_more l m a b h e f x = subst (λ (k : Limits). Fits k (counts_behind h b)) e
+    (subst (λ (d : Counts). Fits l (counts_behind h d)) f x)
 
 fits_along : (l m : Limits) (a b : Counts) → l ≡ m → a ≡ b → Fits l a → Fits m b
 fits_along l m a b e f x = subst (λ (k : Limits). Fits k b) e (subst (λ (d : Counts). Fits l d) f x)
@@ -74,8 +74,8 @@ exceeds_more f l m a b place e g x = subst (λ (k : Limits). Exceeds f k b place
 
 pub takes : (limits : Limits) (events : List Happening) (h : Happening) (place : Marker) (old new : Loader)
     (r : Result (Unit {0}) TreeFault) → HasTaken limits events old
-    → Tallies (Ok tt) (counted h (counts_of old.tally)) place old.tally new.tally
-    → Grows r (h ∷ []) (behind_event h (nest_of old.builder)) old.builder new.builder
+    → Tallies (Ok tt) (counts_behind h (counts_of old.tally)) place old.tally new.tally
+    → Grows r (h ∷ []) (nest_behind_event h (nest_of old.builder)) old.builder new.builder
     → TakesLast r limits (events ++ h ∷ []) place new
 takes limits events h place old new (Ok u) t c g = record {
   same_limits = c.0 ∙ t.same_limits;
@@ -93,7 +93,7 @@ takes limits events h place old new (Err (fault.TooDeep at most)) t c g = absurd
 
 pub exceeds : (limits : Limits) (events : List Happening) (h : Happening) (place : Marker) (old : Loader)
     (f : TreeFault) → HasTaken limits events old
-    → Exceeds f old.tally.limits (counted h (counts_of old.tally)) place → Forbids f limits (events ++ h ∷ []) place
+    → Exceeds f old.tally.limits (counts_behind h (counts_of old.tally)) place → Forbids f limits (events ++ h ∷ []) place
 exceeds limits events h place old (fault.TooManyNodes at most) t c = exceeds_more
     (fault.TooManyNodes at most) _ limits _ _ place t.same_limits (counted_more events h old.tally _ t.counted refl) c
 exceeds limits events h place old (fault.TooDeep at most) t c = exceeds_more

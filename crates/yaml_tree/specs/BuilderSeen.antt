@@ -10,7 +10,7 @@ use Rattle.yaml_tree.specs.declared.builder.Builder.{Builder}
 use Rattle.yaml_tree.specs.declared.document.Document.{Document}
 use Rattle.yaml_tree.specs.Unloading.{unload}
 use Rattle.yaml_tree.specs.OpenSeen.{open_events, place_of}
-use Rattle.yaml_tree.specs.Nesting.{Nest, left, complete, behind_event}
+use Rattle.yaml_tree.specs.Nesting.{Nest, nest_around, nest_behind_stream, nest_behind_event}
 
 -- the events so far
 abbrev pub builder_events : Builder → List Happening
@@ -28,18 +28,18 @@ Grows (Err _) more nest old new = ⊥
 
 -- one event more
 abbrev pub Follows : Result (Unit {0}) TreeFault → Happening → Builder → Builder → Type 0
-Follows result event old new = Grows result (event ∷ []) (behind_event event (nest_of old)) old new
+Follows result event old new = Grows result (event ∷ []) (nest_behind_event event (nest_of old)) old new
 
 -- what has begun last is handed out, and what stands around it is left
 abbrev pub HandsOutInnermost : Result Open TreeFault → Builder → Builder → Type 0
 HandsOutInnermost (Ok inner) old new =
-    (builder_events old ≡ builder_events new ++ open_events inner) × (left (nest_of old) ≡ Some (nest_of new))
+    (builder_events old ≡ builder_events new ++ open_events inner) × (nest_around (nest_of old) ≡ Some (nest_of new))
     × (place_of inner ≡ place_of old.innermost)
-HandsOutInnermost (Err fault.NotFresh) old new = left (nest_of old) ≡ None
+HandsOutInnermost (Err fault.NotFresh) old new = nest_around (nest_of old) ≡ None
 HandsOutInnermost (Err _) old new = ⊥
 
 -- The documents' events are all events so far. They are refused where these are not complete.
 abbrev pub Finishes : Result (Vec Document Global) TreeFault → Builder → Type 0
-Finishes (Ok documents) b = (unload documents.items ≡ builder_events b) × (nest_of b ≡ complete)
-Finishes (Err fault.NotFresh) b = nest_of b ≡ complete → ⊥
+Finishes (Ok documents) b = (unload documents.items ≡ builder_events b) × (nest_of b ≡ nest_behind_stream)
+Finishes (Err fault.NotFresh) b = nest_of b ≡ nest_behind_stream → ⊥
 Finishes (Err _) b = ⊥

@@ -21,18 +21,18 @@ abbrev pub with_end : Counts → Counts
 with_end c = record { nodes = c.nodes; depth = c.depth - 1 }
 
 -- behind an event; an alias is a node too
-abbrev pub counted : Happening → Counts → Counts
-counted (Alias id) c = with_node c
-counted (Scalar text style id tag) c = with_node c
-counted (SequenceStart id tag) c = with_collection c
-counted SequenceEnd c = with_end c
-counted (MappingStart id tag) c = with_collection c
-counted MappingEnd c = with_end c
-counted _ c = c
+abbrev pub counts_behind : Happening → Counts → Counts
+counts_behind (Alias id) c = with_node c
+counts_behind (Scalar text style id tag) c = with_node c
+counts_behind (SequenceStart id tag) c = with_collection c
+counts_behind SequenceEnd c = with_end c
+counts_behind (MappingStart id tag) c = with_collection c
+counts_behind MappingEnd c = with_end c
+counts_behind _ c = c
 
-abbrev pub counted_all : List Happening → Counts → Counts
-counted_all [] c = c
-counted_all (h ∷ hs) c = counted_all hs (counted h c)
+abbrev pub counts_behind_all : List Happening → Counts → Counts
+counts_behind_all [] c = c
+counts_behind_all (h ∷ hs) c = counts_behind_all hs (counts_behind h c)
 
 pub record Fits (limits : Limits) (c : Counts) : Type 0 where
   pub nodes : c.nodes ≤ limits.nodes
@@ -41,4 +41,4 @@ pub record Fits (limits : Limits) (c : Counts) : Type 0 where
 -- behind each of the events the counts are within the limits
 abbrev pub StayWithin : Limits → List Happening → Counts → Type 0
 StayWithin limits [] c = Unit {0}
-StayWithin limits (h ∷ hs) c = Fits limits (counted h c) × StayWithin limits hs (counted h c)
+StayWithin limits (h ∷ hs) c = Fits limits (counts_behind h c) × StayWithin limits hs (counts_behind h c)

@@ -12,7 +12,7 @@ use Rattle.yaml_tree.specs.declared.tally.Limits.{Limits}
 use Rattle.yaml_tree.specs.declared.document.Document.{Document}
 use Rattle.yaml_tree.specs.declared.loading.Loader.{Loader}
 use Rattle.yaml_tree.specs.Unloading.{unload}
-use Rattle.yaml_tree.specs.Nesting.{Nest, outside, complete, behind_all}
+use Rattle.yaml_tree.specs.Nesting.{Nest, nest_before_stream, nest_behind_stream, nest_behind_all}
 use Rattle.yaml_tree.specs.Counting.{no_nodes, StayWithin}
 use Rattle.yaml_tree.specs.LoaderSeen.{HasTaken, Forbids}
 
@@ -37,12 +37,12 @@ IsAtStart a = BeginsStream a.events a.fault
 
 abbrev pub IsWhole : Option Ending → Option Nest → Type 0
 IsWhole fault None = ⊥
-IsWhole None (Some nest) = nest ≡ complete
+IsWhole None (Some nest) = nest ≡ nest_behind_stream
 IsWhole (Some f) (Some nest) = Unit {0}
 
 -- the events nest, and are complete where no fault ends them
 abbrev pub IsNested : Answer → Type 0
-IsNested a = IsWhole a.fault (behind_all (happenings a.events) outside)
+IsNested a = IsWhole a.fault (nest_behind_all (happenings a.events) nest_before_stream)
 
 -- ## Answers
 

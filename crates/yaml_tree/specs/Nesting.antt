@@ -20,12 +20,12 @@ pub record Nest : Type 0 where
   pub outer : List NestPlace
 
 -- before the first event
-abbrev pub outside : Nest
-outside = record { innermost = BeforeStream; outer = [] }
+abbrev pub nest_before_stream : Nest
+nest_before_stream = record { innermost = BeforeStream; outer = [] }
 
 -- behind the last
-abbrev pub complete : Nest
-complete = record { innermost = BehindStream; outer = [] }
+abbrev pub nest_behind_stream : Nest
+nest_behind_stream = record { innermost = BehindStream; outer = [] }
 
 -- the place behind a node
 abbrev pub place_behind_node : NestPlace → Option NestPlace
@@ -48,47 +48,47 @@ place_behind_stream_end InStream = Some BehindStream
 place_behind_stream_end _ = None
 
 -- the same with another innermost place
-abbrev pub moved : (NestPlace → Option NestPlace) → Nest → Option Nest
-moved behind n = option_map (λ place. record n { innermost = place }) (behind n.innermost)
+abbrev pub with_next_place : (NestPlace → Option NestPlace) → Nest → Option Nest
+with_next_place behind n = option_map (λ place. record n { innermost = place }) (behind n.innermost)
 
-abbrev pub entered : NestPlace → Nest → Nest
-entered place n = record { innermost = place; outer = n.innermost ∷ n.outer }
+abbrev pub nest_inside : NestPlace → Nest → Nest
+nest_inside place n = record { innermost = place; outer = n.innermost ∷ n.outer }
 
 -- what stands around, where there is something
-abbrev pub left_list : List NestPlace → Option Nest
-left_list [] = None
-left_list (place ∷ places) = Some (record { innermost = place; outer = places })
+abbrev pub nest_of_outer : List NestPlace → Option Nest
+nest_of_outer [] = None
+nest_of_outer (place ∷ places) = Some (record { innermost = place; outer = places })
 
-abbrev pub left : Nest → Option Nest
-left n = left_list n.outer
+abbrev pub nest_around : Nest → Option Nest
+nest_around n = nest_of_outer n.outer
 
 abbrev pub end_document : Nest → NestPlace → Option Nest
-end_document n BehindRoot = option_and_then (moved place_behind_document) (left n)
+end_document n BehindRoot = option_and_then (with_next_place place_behind_document) (nest_around n)
 end_document n _ = None
 
 abbrev pub end_sequence : Nest → NestPlace → Option Nest
-end_sequence n InSequence = option_and_then (moved place_behind_node) (left n)
+end_sequence n InSequence = option_and_then (with_next_place place_behind_node) (nest_around n)
 end_sequence n _ = None
 
 abbrev pub end_mapping : Nest → NestPlace → Option Nest
-end_mapping n BeforeKey = option_and_then (moved place_behind_node) (left n)
+end_mapping n BeforeKey = option_and_then (with_next_place place_behind_node) (nest_around n)
 end_mapping n _ = None
 
 -- behind an event, if it may come
-abbrev pub behind_event : Happening → Nest → Option Nest
-behind_event Nothing n = None
-behind_event StreamStart n = moved place_behind_stream_start n
-behind_event StreamEnd n = moved place_behind_stream_end n
-behind_event (DocumentStart explicit) n = Some (entered BeforeRoot n)
-behind_event DocumentEnd n = end_document n n.innermost
-behind_event (Alias id) n = moved place_behind_node n
-behind_event (Scalar text style id tag) n = moved place_behind_node n
-behind_event (SequenceStart id tag) n = Some (entered InSequence n)
-behind_event SequenceEnd n = end_sequence n n.innermost
-behind_event (MappingStart id tag) n = Some (entered BeforeKey n)
-behind_event MappingEnd n = end_mapping n n.innermost
+abbrev pub nest_behind_event : Happening → Nest → Option Nest
+nest_behind_event Nothing n = None
+nest_behind_event StreamStart n = with_next_place place_behind_stream_start n
+nest_behind_event StreamEnd n = with_next_place place_behind_stream_end n
+nest_behind_event (DocumentStart explicit) n = Some (nest_inside BeforeRoot n)
+nest_behind_event DocumentEnd n = end_document n n.innermost
+nest_behind_event (Alias id) n = with_next_place place_behind_node n
+nest_behind_event (Scalar text style id tag) n = with_next_place place_behind_node n
+nest_behind_event (SequenceStart id tag) n = Some (nest_inside InSequence n)
+nest_behind_event SequenceEnd n = end_sequence n n.innermost
+nest_behind_event (MappingStart id tag) n = Some (nest_inside BeforeKey n)
+nest_behind_event MappingEnd n = end_mapping n n.innermost
 
 -- behind events, if they may come in this order
-abbrev pub behind_all : List Happening → Nest → Option Nest
-behind_all [] n = Some n
-behind_all (h ∷ hs) n = option_and_then (behind_all hs) (behind_event h n)
+abbrev pub nest_behind_all : List Happening → Nest → Option Nest
+nest_behind_all [] n = Some n
+nest_behind_all (h ∷ hs) n = option_and_then (nest_behind_all hs) (nest_behind_event h n)

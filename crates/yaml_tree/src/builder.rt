@@ -4,7 +4,7 @@ ghost use Rattle.saphyr_parser.specs.Events as events;
 ghost use Rattle.saphyr_parser.specs.Views.Events.{happening};
 ghost use Rattle.yaml_tree.specs.Unloading.{node_events};
 ghost use Rattle.yaml_tree.specs.OpenSeen.{open_events, place_of};
-ghost use Rattle.yaml_tree.specs.Nesting.{outside, place_behind_node, moved, entered};
+ghost use Rattle.yaml_tree.specs.Nesting.{nest_before_stream, place_behind_node, with_next_place, nest_inside};
 
 use crate::document::Document;
 use crate::fault::TreeFault;
@@ -27,7 +27,7 @@ impl Builder {
 
     pub(crate) fn new(alloc: Global) -> Builder
         ensures written { builder_events result ≡ [] }
-        ensures nested { nest_of result ≡ outside }
+        ensures nested { nest_of result ≡ nest_before_stream }
     {
         Builder {
             alloc,
@@ -114,7 +114,7 @@ impl Builder {
     // Adds a node that is complete.
     fn add(&mut self, node: Node) -> Result<(), TreeFault>
         ensures { Grows result (node_events node)
-            (moved place_behind_node (nest_of self.old)) self.old self.new }
+            (with_next_place place_behind_node (nest_of self.old)) self.old self.new }
     {
         let open = mem::replace(&mut self.innermost, Open::Nothing);
         self.innermost = open.with_node(node)?;
@@ -123,7 +123,7 @@ impl Builder {
 
     // Begins a document or a collection.
     fn begin(&mut self, inner: Open) -> Result<(), TreeFault>
-        ensures { let nest = entered (place_of inner) (nest_of self.old) in
+        ensures { let nest = nest_inside (place_of inner) (nest_of self.old) in
             Grows result (open_events inner) (Some nest) self.old self.new }
     {
         let around = mem::replace(&mut self.innermost, inner);

@@ -24,7 +24,7 @@ pub(crate) struct Tally {
 }
 
 impl Tally {
-    ghost use Rattle.yaml_tree.specs.Counting.{no_nodes, counted, with_node, with_collection};
+    ghost use Rattle.yaml_tree.specs.Counting.{no_nodes, counts_behind, with_node, with_collection};
     ghost use Rattle.yaml_tree.specs.TallySeen.{counts_of, Tallies};
 
     pub(crate) fn new(limits: Limits) -> Tally
@@ -40,7 +40,7 @@ impl Tally {
 
     // Counts an event, whose span starts here, unless a limit forbids it.
     pub(crate) fn count(&mut self, event: &Event, place: Marker) -> Result<(), TreeFault>
-        ensures { Tallies result (counted (happening event.now) (counts_of self.old)) place self.old
+        ensures { Tallies result (counts_behind (happening event.now) (counts_of self.old)) place self.old
             self.new }
     {
         match event {

@@ -12,7 +12,7 @@ use Rattle.saphyr_parser.specs.declared.parser.state.State.TheVariants as state
 use Rattle.saphyr_parser.specs.Premises.{DocumentMarker, Starts, Ends}
 use Rattle.saphyr_parser.specs.Steps.Machine.{◌>>=◌, Machine, Told, with_pieces, put_back, push, with_state, without_ids}
 use Rattle.saphyr_parser.specs.Steps.Documents as document
-use Rattle.saphyr_parser.specs.Steps.Documents.{unpassed_token_from, unpassed_token, is_mark, is_end_or_mark, none_declared, directives, forget_anchors, forget_prefixes}
+use Rattle.saphyr_parser.specs.Steps.Documents.{unpassed_token_from, unpassed_token, is_mark, is_end_or_mark, none_declared, directives, without_anchors, without_prefixes}
 use Rattle.saphyr_parser.specs.Steps.Nodes.{node}
 use Rattle.saphyr_parser.specs.Steps.Expected.{block_node, event_step_at}
 use Rattle.saphyr_parser.proofs.Beside.Machines.{Beside, Expected, With, Near, Gives, Awaits, Left, Alike, Tells, Both, AtBoth, ahead, changed, taken, refuses, enters, tells, tells_end, enters_told}
@@ -25,8 +25,8 @@ use Rattle.saphyr_parser.proofs.Beside.Passing.{Has, Passes, passes, has, goes_b
 -- anchors are forgotten, and something is expected behind the document
 opened_beside : (w : Beside) (T : Remaining → Remaining → Type 0) (s : State) (m n : Machine) → Expected w s s
     → With w T m n
-    → With w T (with_state s (push state.DocumentEnd (forget_anchors m)))
-    (with_state s (push state.DocumentEnd (forget_anchors n)))
+    → With w T (with_state s (push state.DocumentEnd (without_anchors m)))
+    (with_state s (push state.DocumentEnd (without_anchors n)))
 opened_beside w T s m n e near =
     record {
       tokens = near.tokens;
@@ -51,7 +51,7 @@ stream_at : (w : Beside) → AtBoth w (Alike w) document.stream_start_at documen
 stream_at w tokens.StreamStart t u m n h = enters_told w _ _ _ t.span u.span m n refl h.span h.behind
 stream_at w _ t u m n h = refuses w _ t u h.span
 
-explicit_at : (w : Beside) → AtBoth w (Alike w) document.explicit_at document.explicit_at
+explicit_at : (w : Beside) → AtBoth w (Alike w) document.explicit_document_at document.explicit_document_at
 explicit_at w tokens.DocumentStart t u m n h =
     record {
       what = refl;
@@ -67,7 +67,7 @@ explicit_document_alike : (w : Beside)
     → AtBoth w (Alike w) (λ k. document.explicit_document) (λ k. document.explicit_document)
 unfolding document.explicit_document directives
 explicit_document_alike w k t u m n h =
-    behind_both w (Alike w) _ _ document.explicit_at document.explicit_at (explicit_at w)
+    behind_both w (Alike w) _ _ document.explicit_document_at document.explicit_document_at (explicit_at w)
     (directives_beside w (t ∷ m.tokens.pieces) (u ∷ n.tokens.pieces) none_declared (put_back t m) (put_back u n)
     (ahead w (put_back t m) (put_back u n) h.back))
 
@@ -134,38 +134,38 @@ content_at w tokens.StreamEnd t u m n h = none_at w _ t u m n h
 content_at w k t u m n h = node_beside w Block k t u m n h
 
 marks_at : (w : Beside) (p q : Marker) → w.Place p q
-    → AtBoth w (Has w) (λ k. document.behind_marks_at k p) (λ k. document.behind_marks_at k q)
+    → AtBoth w (Has w) (λ k. document.token_behind_marks_at k p) (λ k. document.token_behind_marks_at k q)
 marks_at w p q e tokens.DocumentStart t u m n h = has w _ t u m n h
 marks_at w p q e tokens.DocumentEnd t u m n h = has w _ t u m n h
 marks_at w p q e tokens.StreamEnd t u m n h = has w _ t u m n h
 marks_at w p q e _ t u m n h = inr (w.refused _ p q e)
 
-marks : (w : Beside) (p q : Marker) → w.Place p q → Both w (Has w) (document.behind_marks p) (document.behind_marks q)
-unfolding document.behind_marks unpassed_token
+marks : (w : Beside) (p q : Marker) → w.Place p q → Both w (Has w) (document.token_behind_marks p) (document.token_behind_marks q)
+unfolding document.token_behind_marks unpassed_token
 marks w p q e m n near = by _ _ (passes w _ is_mark (goes_by_marks w) _ _ m n (ahead w m n near))
   where
     by : (a b : Result (Piece × Machine) Refusal) → Passes w (λ r q. ⊥) is_mark m n a b
-        → Gives w (Has w) (a >>= (λ t. document.behind_marks_at t.0.kind p t.0 t.1))
-        (b >>= (λ t. document.behind_marks_at t.0.kind q t.0 t.1))
-    by a b (inl g) = behind_both w (Has w) a b (λ k. document.behind_marks_at k p) (λ k. document.behind_marks_at k q)
+        → Gives w (Has w) (a >>= (λ t. document.token_behind_marks_at t.0.kind p t.0 t.1))
+        (b >>= (λ t. document.token_behind_marks_at t.0.kind q t.0 t.1))
+    by a b (inl g) = behind_both w (Has w) a b (λ k. document.token_behind_marks_at k p) (λ k. document.token_behind_marks_at k q)
         (marks_at w p q e) g
     by a b (inr s) = absurd s.2.tokens
 
-document_at : (w : Beside) → AtBoth w (Has w) document.behind_document_at document.behind_document_at
+document_at : (w : Beside) → AtBoth w (Has w) document.token_behind_document_at document.token_behind_document_at
 document_at w tokens.ByteOrderMark t u m n h = marks w t.span.start u.span.start h.span.0 m n h.behind
 document_at w k t u m n h = has w k t u m n h
 
-document_beside : (w : Beside) → Both w (Has w) document.behind_document document.behind_document
-unfolding document.behind_document
+document_beside : (w : Beside) → Both w (Has w) document.token_behind_document document.token_behind_document
+unfolding document.token_behind_document
 document_beside w m n near =
-    taken w (Has w) document.behind_document_at document.behind_document_at m n near (document_at w)
+    taken w (Has w) document.token_behind_document_at document.token_behind_document_at m n near (document_at w)
 
 -- both settings are the same
 abbrev pub Keeps : Beside → Type 0
 Keeps w = (b c : Bool) → w.Setting b c → c ≡ b
 
 forgets : (w : Beside) (T : Remaining → Remaining → Type 0) (m n : Machine) → Keeps w → With w T m n
-    → With w T (forget_prefixes m) (forget_prefixes n)
+    → With w T (without_prefixes m) (without_prefixes n)
 forgets w T m n keeps near =
     record {
       tokens = near.tokens;
@@ -194,10 +194,10 @@ end_at w _ t u m n h = enters_told w _ _ _ t.span u.span (put_back t m) (put_bac
 end_beside : (w : Beside) → Keeps w → Both w (Alike w) document.document_end document.document_end
 unfolding document.document_end
 end_beside w keeps m n near =
-    behind_both w (Alike w) (document.behind_document m) (document.behind_document n)
-    (λ k t m. document.document_end_at k t (forget_prefixes m))
-    (λ k t m. document.document_end_at k t (forget_prefixes m))
-    (λ k t u v x h. end_at w k t u (forget_prefixes v) (forget_prefixes x)
+    behind_both w (Alike w) (document.token_behind_document m) (document.token_behind_document n)
+    (λ k t m. document.document_end_at k t (without_prefixes m))
+    (λ k t m. document.document_end_at k t (without_prefixes m))
+    (λ k t u v x h. end_at w k t u (without_prefixes v) (without_prefixes x)
     (record {
       kind = h.kind;
       same = h.same;

@@ -12,7 +12,7 @@ use Rattle.saphyr_parser.specs.declared.parser.state.State.{State}
 use Rattle.saphyr_parser.specs.declared.parser.state.State.TheVariants as state
 use Rattle.saphyr_parser.specs.Events.{Happening}
 use Rattle.saphyr_parser.specs.Premises.{DocumentMarker, Starts, Ends}
-use Rattle.saphyr_parser.specs.Steps.Machine.{◌>>=◌, Machine, Told, told, refusal_at, ending_refusal, with_pieces, taken_token, taken_token_from, put_back, pop, pop_from, with_state, push, with_anchor}
+use Rattle.saphyr_parser.specs.Steps.Machine.{◌>>=◌, Machine, Told, told_event, refusal_at, ending_refusal, with_pieces, taken_token, taken_token_from, put_back, pop, pop_from, with_state, push, with_anchor}
 use Rattle.saphyr_parser.specs.Steps.Nodes.{register}
 
 -- ## What is alike
@@ -264,7 +264,7 @@ registers w name m n near =
     }
 
 pub tells : (w : Beside) (what : Happening) (s r : Span) (m n : Machine) → Spans w s r → Near w m n
-    → Tells w (told what s m) (told what r n)
+    → Tells w (told_event what s m) (told_event what r n)
 tells w what s r m n e near = record { what = refl; span = e; machine = inl near }
 
 pub pops : (w : Beside) (m n : Machine) → Near w m n → Near w (pop m) (pop n)
@@ -278,10 +278,10 @@ pops w m n near = by m.states n.states near.states
 
 -- an event that ends a node
 pub tells_end : (w : Beside) (what : Happening) (s r : Span) (m n : Machine) → Spans w s r → Near w m n
-    → Tells w (told what s (pop m)) (told what r (pop n))
+    → Tells w (told_event what s (pop m)) (told_event what r (pop n))
 tells_end w what s r m n e near = tells w what s r _ _ e (pops w m n near)
 
 -- a state without a place
 pub enters_told : (w : Beside) (what : Happening) (x y : State) (s r : Span) (m n : Machine) → Expected w x y
-    → Spans w s r → Near w m n → Tells w (told what s (with_state x m)) (told what r (with_state y n))
+    → Spans w s r → Near w m n → Tells w (told_event what s (with_state x m)) (told_event what r (with_state y n))
 enters_told w what x y s r m n i e near = tells w what s r _ _ e (enters w w.Rest x y m n i near)

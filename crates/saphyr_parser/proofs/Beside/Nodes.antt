@@ -12,9 +12,9 @@ use Rattle.saphyr_scanner.specs.Views.Tokens.{Piece}
 use Rattle.saphyr_parser.specs.declared.parser.context.NodeContext.{NodeContext}
 use Rattle.saphyr_parser.specs.Events.{ResolvedTag}
 use Rattle.saphyr_parser.specs.Steps.Machine.{◌>>=◌, Anchors, Names, meaning, Machine, Told, put_back, with_anchor, next_id}
-use Rattle.saphyr_parser.specs.Steps.Tags.{undeclared, declared_or, declared_prefix, resolved, is_named_handle}
+use Rattle.saphyr_parser.specs.Steps.Tags.{undeclared_prefix, declared_prefix_or, declared_prefix, resolved_tag_at, is_named_handle}
 use Rattle.saphyr_parser.specs.Steps.Contexts.{allows_block, allows_indentless}
-use Rattle.saphyr_parser.specs.Steps.Nodes.{NodeProperties, register, has_property, without_content, node_content_at, node_content, next_content, alias_of, alias_node, behind_anchor_at, behind_anchor, behind_tag_at, behind_tag, node_at, node}
+use Rattle.saphyr_parser.specs.Steps.Nodes.{NodeProperties, register, has_property, node_without_content, node_content_at, node_content, next_content, alias_of, alias_node, node_behind_anchor_at, node_behind_anchor, node_behind_tag_at, node_behind_tag, node_at, node}
 use Rattle.saphyr_parser.proofs.Beside.Machines.{Beside, Spans, Near, Held, Gives, Alike, Tells, Both, AtBoth, either, of_kind, taken, refuses, registers, tells_end, enters_told}
 
 -- ## Tags
@@ -23,7 +23,7 @@ abbrev SameOf : {X : Type 0} → Beside → Result X Refusal → Result X Refusa
 SameOf w p q = Gives w (λ x y. y ≡ x) p q
 
 declared_alike : (w : Beside) (o : Option (List ℕ)) (p q : Result (List ℕ) Refusal) → SameOf w p q
-    → SameOf w (declared_or o p) (declared_or o q)
+    → SameOf w (declared_prefix_or o p) (declared_prefix_or o q)
 declared_alike w None p q h = h
 declared_alike w (Some x) p q h = refl
 
@@ -32,7 +32,7 @@ prefixes_alike : (w : Beside) (names : Names (List ℕ)) (handle : List ℕ) (x 
 unfolding declared_prefix
 prefixes_alike w names handle x y e =
     either w _ (nat_eq (length handle) 0) (Ok handle) _ _ _ refl
-    (declared_alike w (meaning handle names) (undeclared handle x) (undeclared handle y)
+    (declared_alike w (meaning handle names) (undeclared_prefix handle x) (undeclared_prefix handle y)
     (either w _ (bytes_eq handle (codes "!!")) (Ok (codes "tag:yaml.org,2002:")) _ _ _ refl
     (either w _ (is_named_handle handle) (Err (record { text = fault.UndeclaredHandle; mark = x })) (Ok handle) _ _
     (inr (w.refused _ x y e)) refl)))
@@ -41,8 +41,8 @@ prefixes_alike w names handle x y e =
 resolves :
     (w : Beside) (handle suffix : List ℕ) (x y : Marker) (m n : Machine) (go ho : ResolvedTag → Result Told Refusal)
     → w.Place x y → Near w m n → ((tag : ResolvedTag) → Tells w (go tag) (ho tag))
-    → Tells w (resolved m.prefixes handle suffix x >>= go) (resolved n.prefixes handle suffix y >>= ho)
-unfolding resolved
+    → Tells w (resolved_tag_at m.prefixes handle suffix x >>= go) (resolved_tag_at n.prefixes handle suffix y >>= ho)
+unfolding resolved_tag_at
 resolves w handle suffix x y m n go ho e near h =
     rw near.prefixes (by (declared_prefix m.prefixes handle x) (declared_prefix m.prefixes handle y)
     (prefixes_alike w m.prefixes handle x y e))
@@ -67,7 +67,7 @@ properties x y id tag = record { start = x; behind = y; anchor = id; tag = tag }
 without_beside :
     (w : Beside) (a b x y : Marker) (id : ℕ) (tag : Option ResolvedTag) (k : Kind) (t u : Piece) (m n : Machine)
     → w.Place a x → w.Place b y → Held w k t u m n
-    → Tells w (without_content (properties a b id tag) t m) (without_content (properties x y id tag) u n)
+    → Tells w (node_without_content (properties a b id tag) t m) (node_without_content (properties x y id tag) u n)
 without_beside w a b x y id tag k t u m n i j h =
     either w _ (has_property (properties a b id tag)) _ _ _ _
     (tells_end w _ _ _ (put_back t m) (put_back u n) (i, j) h.back) (refuses w _ t u h.span)
@@ -79,7 +79,7 @@ content_beside :
 content_beside w a b x y id tag c i j = at
   where
     none : (k : Kind) (t u : Piece) (m n : Machine) → Held w k t u m n
-        → Tells w (without_content (properties a b id tag) t m) (without_content (properties x y id tag) u n)
+        → Tells w (node_without_content (properties a b id tag) t m) (node_without_content (properties x y id tag) u n)
     none k t u m n h = without_beside w a b x y id tag k t u m n i j h
 
     at : AtBoth w (Alike w) (λ k. node_content_at k (properties a b id tag) c)
@@ -123,7 +123,7 @@ alias_beside w o p s r is e m n near = rw is (by o)
 
 behind_anchor_beside :
     (w : Beside) (id : ℕ) (s r : Span) (c : NodeContext) → Spans w s r
-    → AtBoth w (Alike w) (λ k. behind_anchor_at k id s c) (λ k. behind_anchor_at k id r c)
+    → AtBoth w (Alike w) (λ k. node_behind_anchor_at k id s c) (λ k. node_behind_anchor_at k id r c)
 behind_anchor_beside w id s r c e (tokens.Tag handle suffix) t u m n h =
     resolves w handle suffix s.start r.start m n _ _ e.0 h.behind
     (λ tag. next_beside w s.start t.span.end r.start u.span.end id (Some tag) c e.0 h.span.1 m n h.behind)
@@ -131,17 +131,17 @@ behind_anchor_beside w id s r c e k t u m n h =
     behind_beside w s.start s.end r.start r.end id None c e.0 e.1 k t u m n h
 
 anchor_beside : (w : Beside) (name : List ℕ) (s r : Span) (c : NodeContext) → Spans w s r
-    → Both w (Alike w) (behind_anchor name s c) (behind_anchor name r c)
-unfolding behind_anchor
+    → Both w (Alike w) (node_behind_anchor name s c) (node_behind_anchor name r c)
+unfolding node_behind_anchor
 anchor_beside w name s r c e m n near =
-    rw near.anchors (taken w _ (λ k. behind_anchor_at k (next_id m.anchors) s c) (λ k. behind_anchor_at k
+    rw near.anchors (taken w _ (λ k. node_behind_anchor_at k (next_id m.anchors) s c) (λ k. node_behind_anchor_at k
     (next_id m.anchors) r c)
     (register name m) (record n { anchors = with_anchor name m.anchors }) (registers w name m n near)
     (behind_anchor_beside w (next_id m.anchors) s r c e))
 
 behind_tag_beside :
     (w : Beside) (tag : ResolvedTag) (s r : Span) (c : NodeContext) → Spans w s r
-    → AtBoth w (Alike w) (λ k. behind_tag_at k tag s c) (λ k. behind_tag_at k tag r c)
+    → AtBoth w (Alike w) (λ k. node_behind_tag_at k tag s c) (λ k. node_behind_tag_at k tag r c)
 behind_tag_beside w tag s r c e (tokens.Anchor name) t u m n h =
     rw h.behind.anchors (next_beside w s.start t.span.end r.start u.span.end (next_id m.anchors)
     (Some tag) c e.0 h.span.1
@@ -150,14 +150,14 @@ behind_tag_beside w tag s r c e k t u m n h =
     behind_beside w s.start s.end r.start r.end 0 (Some tag) c e.0 e.1 k t u m n h
 
 node_at_beside : (w : Beside) (c : NodeContext) → AtBoth w (Alike w) (λ k. node_at k c) (λ k. node_at k c)
-unfolding alias_node behind_tag
+unfolding alias_node node_behind_tag
 node_at_beside w c (tokens.Alias name) t u m n h =
     alias_beside w (meaning name m.anchors.ids) (meaning name n.anchors.ids) t.span u.span
     (ap (λ (a : Anchors). meaning name a.ids) h.behind.anchors) h.span m n h.behind
 node_at_beside w c (tokens.Anchor name) t u m n h = anchor_beside w name t.span u.span c h.span m n h.behind
 node_at_beside w c (tokens.Tag handle suffix) t u m n h =
     resolves w handle suffix t.span.start u.span.start m n _ _ h.span.0 h.behind
-    (λ tag. taken w _ (λ k. behind_tag_at k tag t.span c) (λ k. behind_tag_at k tag u.span c) m n h.behind
+    (λ tag. taken w _ (λ k. node_behind_tag_at k tag t.span c) (λ k. node_behind_tag_at k tag u.span c) m n h.behind
     (behind_tag_beside w tag t.span u.span c h.span))
 node_at_beside w c k t u m n h =
     behind_beside w t.span.start t.span.start u.span.start u.span.start 0 None c h.span.0 h.span.0 k t u m n h

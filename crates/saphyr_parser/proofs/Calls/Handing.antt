@@ -8,9 +8,9 @@ use Rattle.saphyr_parser.specs.declared.parser.fault.Fault.{Fault}
 use Rattle.saphyr_parser.specs.declared.parser.fault.Fault.TheVariants as fault
 use Rattle.saphyr_parser.specs.declared.parser.state.State.TheVariants as state
 use Rattle.saphyr_parser.specs.Events.{Happening}
-use Rattle.saphyr_parser.specs.Steps.Machine.{Machine, Told, told}
+use Rattle.saphyr_parser.specs.Steps.Machine.{Machine, Told, told_event}
 use Rattle.saphyr_parser.specs.Steps.Expected.{event_step, event_step_at}
-use Rattle.saphyr_parser.specs.Answer.{Answer, Ending, empty_answer, fault_alone, with_first_event, deliver, remaining_answer}
+use Rattle.saphyr_parser.specs.Answer.{Answer, Ending, empty_answer, fault_alone, with_first_event, answer_of_step, remaining_answer}
 use Rattle.saphyr_parser.specs.Cursor.{EventCursor, Kept, HandsOutNext, Refuses, count, event_of, finished_behind, inside_behind, to_come}
 use Rattle.saphyr_parser.specs.Calls.{Advances, AdvancesFrom, AdvancesOver, FailsWith, IsOver, IsOverFrom, IsToldAs, GivesNext}
 use Rattle.saphyr_parser.proofs.Unroll.{unroll, over}
@@ -20,9 +20,9 @@ pub goes_on : (m : Machine) (x : Told) → event_step m ≡ Ok x → m.state ≢
 unfolding event_step
 goes_on m x e h = let r : event_step_at state.End m ≡ Ok x = subst (λ s. event_step_at s m ≡ Ok x) h e in absurd (cc)
 
-pub moves : (m n : Machine) (e : Happening × Span) → event_step m ≡ told e.0 e.1 n
+pub moves : (m n : Machine) (e : Happening × Span) → event_step m ≡ told_event e.0 e.1 n
     → remaining_answer m ≡ with_first_event e (remaining_answer n)
-moves m n e is = unroll m (goes_on m _ is) ∙ ap (λ (r : Result Told Refusal). deliver r remaining_answer) is
+moves m n e is = unroll m (goes_on m _ is) ∙ ap (λ (r : Result Told Refusal). answer_of_step r remaining_answer) is
 
 -- ## An event
 

@@ -5,7 +5,7 @@ use Rattle.saphyr_scalar.specs.declared.scalar.position.Span.{Span}
 use Rattle.saphyr_parser.specs.declared.parser.event.Event.{Event}
 use Rattle.saphyr_parser.specs.declared.parser.fault.Fault.{Fault}
 use Rattle.saphyr_parser.specs.Events.{Happening}
-use Rattle.saphyr_parser.specs.Steps.Machine.{Machine, told as told_step}
+use Rattle.saphyr_parser.specs.Steps.Machine.{Machine, told_event as told_step}
 use Rattle.saphyr_parser.specs.Answer as answer
 use Rattle.saphyr_parser.specs.Answer.{Answer, Ending, empty_answer, fault_alone, with_first_event, remaining_answer}
 use Rattle.saphyr_parser.specs.Cursor.{EventCursor, Kept, IsUnmoved, IsUntold, Shows, Stays, answer_behind, ending_of_fault, event_of, with_event_handed, to_come, kept_answer}

@@ -12,7 +12,7 @@ use Rattle.saphyr_parser.specs.Steps.Machine.{Machine}
 use Rattle.saphyr_parser.specs.Answer as answer
 use Rattle.saphyr_parser.specs.Answer.{Answer, Ending, empty_answer, remaining_answer}
 use Rattle.saphyr_parser.specs.Cursor.{EventCursor, Kept, Refuses, event_of, finished_behind}
-use Rattle.saphyr_parser.specs.Calls.{Advances, AdvancesOver, EndsTheStream, Ends, FailsWith, GivesNext, HasFinished, IsShown, IsSound, LeavesEnd, Looks, Peeks, ReadsAhead, as_given}
+use Rattle.saphyr_parser.specs.Calls.{Advances, AdvancesOver, EndsTheStream, Ends, FailsWith, GivesNext, HasFinished, IsShown, IsSound, LeavesEnd, Looks, Peeks, ReadsAhead, given_fault}
 use Rattle.saphyr_parser.proofs.Unroll.{over}
 use Rattle.saphyr_parser.proofs.Calls.Handing.{goes_on}
 use Rattle.saphyr_parser.proofs.Calls.Looking.{looks_stays, shows_head}
@@ -106,13 +106,13 @@ failing : (c : Option (Happening × Span)) (k : Option Kept) (m : Machine) (i : 
 failing (Some next) k m i s f new h sound = absurd h
 failing None (Some kept) m i s f new (fresh, same, left) sound =
     subst IsSound (sym left)
-    (record { ahead = tt; finished = none_kept s kept None None (as_given f) m m i i s s sound.finished })
+    (record { ahead = tt; finished = none_kept s kept None None (given_fault f) m m i i s s sound.finished })
 failing None None m i s f new (refuses, left) sound =
     subst IsSound (sym left)
     (record {
       ahead = tt;
       finished =
-          none_read s None None None (as_given f) m new.machine i i s s (not_over f m refuses) sound.finished;
+          none_read s None None None (given_fault f) m new.machine i i s s (not_over f m refuses) sound.finished;
     })
 
 pub sound_fails : (f : Fault) (old new : EventCursor) → FailsWith f old new → IsSound old → IsSound new

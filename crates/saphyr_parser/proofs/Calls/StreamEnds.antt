@@ -12,8 +12,8 @@ use Rattle.saphyr_parser.specs.declared.parser.state.State.{State}
 use Rattle.saphyr_parser.specs.declared.parser.state.State.TheVariants as state
 use Rattle.saphyr_parser.specs.Events.{ResolvedTag}
 use Rattle.saphyr_parser.specs.Steps.Machine.{◌>>=◌, Machine, Told, meaning, taken_token}
-use Rattle.saphyr_parser.specs.Steps.Tags.{resolved}
-use Rattle.saphyr_parser.specs.Steps.Nodes.{NodeProperties, no_node_properties, has_property, without_content, node_content, node_content_at, next_content, alias_node, alias_of, register, behind_anchor, behind_anchor_at, behind_tag, behind_tag_at, node, node_at}
+use Rattle.saphyr_parser.specs.Steps.Tags.{resolved_tag_at}
+use Rattle.saphyr_parser.specs.Steps.Nodes.{NodeProperties, no_node_properties, has_property, node_without_content, node_content, node_content_at, next_content, alias_node, alias_of, register, node_behind_anchor, node_behind_anchor_at, node_behind_tag, node_behind_tag_at, node, node_at}
 use Rattle.saphyr_parser.specs.Steps.Contexts.{allows_block, allows_indentless}
 use Rattle.saphyr_parser.specs.Steps.Block as block
 use Rattle.saphyr_parser.specs.Steps.Flow as flow
@@ -37,7 +37,7 @@ closes_either false r q h k = k
 
 -- ## Nodes
 
-without : (p : NodeProperties) (t : Piece) (m : Machine) → Closes (without_content p t m)
+without : (p : NodeProperties) (t : Piece) (m : Machine) → Closes (node_without_content p t m)
 without p t m = closes_either (has_property p) _ _ tt tt
 
 contents_at : (k : Kind) (p : NodeProperties) (c : NodeContext) (t : Piece) (m : Machine)
@@ -63,26 +63,26 @@ aliases None s m = tt
 aliases (Some id) s m = tt
 
 behind_anchors_at : (k : Kind) (id : ℕ) (s : Span) (c : NodeContext) (t : Piece) (m : Machine)
-    → Closes (behind_anchor_at k id s c t m)
+    → Closes (node_behind_anchor_at k id s c t m)
 behind_anchors_at (tokens.Tag handle suffix) id s c t m =
-    closes_behind (resolved m.prefixes handle suffix s.start) _ (λ tag. next_contents _ c m)
+    closes_behind (resolved_tag_at m.prefixes handle suffix s.start) _ (λ tag. next_contents _ c m)
 behind_anchors_at _ id s c t m = contents _ c t m
 
-behind_anchors : (name : List ℕ) (s : Span) (c : NodeContext) (m : Machine) → Closes (behind_anchor name s c m)
-unfolding behind_anchor
+behind_anchors : (name : List ℕ) (s : Span) (c : NodeContext) (m : Machine) → Closes (node_behind_anchor name s c m)
+unfolding node_behind_anchor
 behind_anchors name s c m =
     closes_behind (taken_token (register name m)) _ (λ t. behind_anchors_at t.0.kind _ s c t.0 t.1)
 
 behind_tags_at : (k : Kind) (tag : ResolvedTag) (s : Span) (c : NodeContext) (t : Piece) (m : Machine)
-    → Closes (behind_tag_at k tag s c t m)
+    → Closes (node_behind_tag_at k tag s c t m)
 behind_tags_at (tokens.Anchor name) tag s c t m = next_contents _ c (register name m)
 behind_tags_at _ tag s c t m = contents _ c t m
 
 behind_tags : (handle suffix : List ℕ) (s : Span) (c : NodeContext) (m : Machine)
-    → Closes (behind_tag handle suffix s c m)
-unfolding behind_tag
+    → Closes (node_behind_tag handle suffix s c m)
+unfolding node_behind_tag
 behind_tags handle suffix s c m =
-    closes_behind (resolved m.prefixes handle suffix s.start) _
+    closes_behind (resolved_tag_at m.prefixes handle suffix s.start) _
     (λ tag. closes_behind (taken_token m) _ (λ t. behind_tags_at t.0.kind tag s c t.0 t.1))
 
 nodes_at : (k : Kind) (c : NodeContext) (t : Piece) (m : Machine) → Closes (node_at k c t m)
@@ -213,7 +213,7 @@ stream_start_closes : (k : Kind) (t : Piece) (m : Machine) → Closes (document.
 stream_start_closes tokens.StreamStart t m = tt
 stream_start_closes _ t m = tt
 
-explicit_at : (k : Kind) (t : Piece) (m : Machine) → Closes (document.explicit_at k t m)
+explicit_at : (k : Kind) (t : Piece) (m : Machine) → Closes (document.explicit_document_at k t m)
 explicit_at tokens.DocumentStart t m = tt
 explicit_at tokens.ByteOrderMark t m = tt
 explicit_at _ t m = tt
@@ -266,7 +266,7 @@ closes_at state.ImplicitDocumentStart m =
 closes_at state.DocumentStart m =
     closes_behind (document.unpassed_token document.is_end_or_mark m) _ (λ t. explicit_start_at t.0.kind t.0 t.1)
 closes_at state.DocumentContent m = closes_behind (taken_token m) _ (λ t. content_starts t.0.kind t.0 t.1)
-closes_at state.DocumentEnd m = closes_behind (document.behind_document m) _ (λ t. document_end_closes t.0.kind t.0 _)
+closes_at state.DocumentEnd m = closes_behind (document.token_behind_document m) _ (λ t. document_end_closes t.0.kind t.0 _)
 closes_at state.BlockNode m = closes_behind (taken_token m) _ (λ t. nodes Block t.0 t.1)
 closes_at state.BlockSequenceEntry m = closes_behind (taken_token m) _ (λ t. sequence_entries t.0.kind t.0 t.1)
 closes_at state.IndentlessSequenceEntry m = closes_behind (taken_token m) _ (λ t. indentless_entries t.0.kind t.0 t.1)

@@ -13,7 +13,7 @@ use Rattle.saphyr_parser.specs.ForestEvents.{events}
 use Rattle.saphyr_parser.specs.Examples.Forests as examples
 use Rattle.saphyr_parser.specs.EventsTaken as taking
 use Rattle.saphyr_parser.specs.EventsTaken.{AreTaken, HaveTokens}
-use Rattle.saphyr_parser.specs.Premises.{IsClosed, IsPromised, Starts, behind_marker, ReadsEach, ReadsClosed}
+use Rattle.saphyr_parser.specs.Premises.{IsClosed, IsPromised, Starts, events_behind_marker, ReadsEach, ReadsClosed}
 use Rattle.saphyr_parser.specs.Cursor.{EventCursor}
 
 -- ## The empty text
@@ -99,4 +99,4 @@ reads_start parser r keep first c =
     let p : IsPromised examples.IsStart 100 keep c.forest line c.told =
     rw (sym (c.promised.stands_for.1)) (c.promised) in
     let g = r c.forest keep c.told p in
-    (behind_marker c.marker, g.1 ∙ c.are_told)
+    (events_behind_marker c.marker, g.1 ∙ c.are_told)

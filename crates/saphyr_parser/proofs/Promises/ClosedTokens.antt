@@ -9,13 +9,13 @@ use Rattle.saphyr_parser.specs.declared.parser.state.State.{State}
 use Rattle.saphyr_parser.specs.declared.parser.state.State.TheVariants as state
 use Rattle.saphyr_parser.specs.Events as events
 use Rattle.saphyr_parser.specs.Events.{Happening}
-use Rattle.saphyr_parser.specs.Premises.{DocumentMarker, Starts, Ends, behind_marker, GivesFirst}
-use Rattle.saphyr_parser.specs.Steps.Machine.{Machine, fresh_machine, told, empty_scalar, with_state, with_pieces}
-use Rattle.saphyr_parser.specs.Steps.Documents.{unpassed_token, implicit_start, explicit_start, document_content, document_end, behind_document, forget_prefixes}
+use Rattle.saphyr_parser.specs.Premises.{DocumentMarker, Starts, Ends, events_behind_marker, GivesFirst}
+use Rattle.saphyr_parser.specs.Steps.Machine.{Machine, fresh_machine, told_event, empty_scalar, with_state, with_pieces}
+use Rattle.saphyr_parser.specs.Steps.Documents.{unpassed_token, implicit_start, explicit_start, document_content, document_end, token_behind_document, without_prefixes}
 use Rattle.saphyr_parser.specs.Steps.Expected.{event_step, event_step_at}
-use Rattle.saphyr_parser.specs.Answer.{Answer, with_first_event, deliver, remaining_answer}
+use Rattle.saphyr_parser.specs.Answer.{Answer, with_first_event, answer_of_step, remaining_answer}
 use Rattle.saphyr_parser.specs.Cursor.{at_start, keeping_tags, to_come}
-use Rattle.saphyr_parser.specs.Exactly.{GivesExactly, told_by}
+use Rattle.saphyr_parser.specs.Exactly.{GivesExactly, answer_of_tokens}
 use Rattle.saphyr_parser.specs.More.{marker_token}
 use Rattle.saphyr_parser.proofs.Unroll.{unroll, over}
 use Rattle.saphyr_parser.proofs.Longer.{More, longer, IsLastOr, End, Awaits}
@@ -30,7 +30,7 @@ abbrev alone : Span → Machine → Machine
 alone s k = record k { tokens = record { pieces = record { span = s; kind = tokens.StreamEnd } ∷ []; refusal = None } }
 
 start_step : (s : Span) (x : State) (k : Machine) → IsStart x
-    → event_step_at x (alone s k) ≡ told events.StreamEnd s (with_state state.End (with_pieces [] (alone s k)))
+    → event_step_at x (alone s k) ≡ told_event events.StreamEnd s (with_state state.End (with_pieces [] (alone s k)))
 unfolding implicit_start explicit_start unpassed_token
 start_step s state.ImplicitDocumentStart k i = refl
 start_step s state.DocumentStart k i = refl
@@ -45,7 +45,7 @@ start_told : (s : Span) (k : Machine) → IsStart k.state
     → remaining_answer (alone s k) ≡ record { events = (events.StreamEnd, s) ∷ []; fault = None }
 unfolding event_step
 start_told s k i =
-    unroll (alone s k) (goes k.state i) ∙ ap (λ q. deliver q remaining_answer) (start_step s k.state k i)
+    unroll (alone s k) (goes k.state i) ∙ ap (λ q. answer_of_step q remaining_answer) (start_step s k.state k i)
     ∙ ap (with_first_event (events.StreamEnd, s)) (over (with_state state.End (with_pieces [] (alone s k))) refl)
 
 abbrev in_document : List State → Machine → Machine
@@ -55,13 +55,13 @@ content_told :
     (s : Span) (ss : List State) (k : Machine)
     → remaining_answer (alone s (in_document ss k))
     ≡ record { events = (empty_scalar, s) ∷ (events.DocumentEnd, s) ∷ (events.StreamEnd, s) ∷ []; fault = None }
-unfolding event_step document_content document_end behind_document
+unfolding event_step document_content document_end token_behind_document
 content_told s ss k =
     unroll (alone s (in_document ss k)) (λ e. absurd (cc))
     ∙ ap (with_first_event (empty_scalar, s))
     (unroll (alone s (record k { state = state.DocumentEnd; states = ss })) (λ e. absurd (cc))
     ∙ ap (with_first_event (events.DocumentEnd, s))
-    (start_told s (forget_prefixes (record k { state = state.DocumentStart; states = ss })) tt))
+    (start_told s (without_prefixes (record k { state = state.DocumentStart; states = ss })) tt))
 
 -- ## The marker
 
@@ -69,7 +69,7 @@ abbrev ended_by : DocumentMarker → List Piece → Option Refusal → More
 ended_by w us e = record { Early = ⊥; marker = w; pieces = us; refusal = e }
 
 told_behind : (w : DocumentMarker) (s : Span) (k : Machine) → Awaits w k ⊎ ((w ≡ Ends) × IsStart k.state)
-    → told_of (remaining_answer (alone s k)) ≡ behind_marker w
+    → told_of (remaining_answer (alone s k)) ≡ events_behind_marker w
 told_behind w s k (inl (inl a)) = rw a.0 (ap told_of (start_told s k (subst IsStart (sym a.1) tt)))
 told_behind w s k (inl (inr a)) =
     let ss : List State = a.2.0 in
@@ -82,7 +82,7 @@ told_stopped :
     (w : DocumentMarker) (s : Span) (k : Machine)
     → IsStopped (ended_by w (record { span = s; kind = tokens.StreamEnd } ∷ []) None) k
     → told_of (remaining_answer (longer (ended_by w (record { span = s; kind = tokens.StreamEnd } ∷ []) None) k))
-    ≡ behind_marker w
+    ≡ events_behind_marker w
 told_stopped w s k (inl h) = absurd h
 told_stopped w s k (inr a) =
     ap (λ ts. told_of (remaining_answer
@@ -105,16 +105,16 @@ marker_ends w us e (t ∷ ts) x is = or_last w _ (ts ++ x ∷ []) t.kind (marker
 first_told :
     (w : DocumentMarker) (s : Span) (first : List Happening) (a b : Answer)
     → GoesOn (ended_by w (record { span = s; kind = tokens.StreamEnd } ∷ []) None) None a b
-    → told_of b ≡ first ++ behind_marker w → GivesFirst first a
-first_told w s first a b (inl e) t = (behind_marker w, ap told_of (sym e) ∙ t)
+    → told_of b ≡ first ++ events_behind_marker w → GivesFirst first a
+first_told w s first a b (inl e) t = (events_behind_marker w, ap told_of (sym e) ∙ t)
 first_told w s first a b (inr g) t =
     let behind : Answer = remaining_answer
     (longer (ended_by w (record { span = s; kind = tokens.StreamEnd } ∷ []) None) g.1.0) in
     let all : told_of b ≡ told_of a ++ told_of behind = ap told_of g.1.2
     ∙ map-append (λ (e : Happening × Span). e.0) a.events behind.events in
-    let these : told_of a ++ behind_marker w ≡ first ++ behind_marker w =
+    let these : told_of a ++ events_behind_marker w ≡ first ++ events_behind_marker w =
     ap (λ xs. told_of a ++ xs) (sym (told_stopped w s g.1.0 g.1.1)) ∙ sym all ∙ t in
-    ([], append_cancel_right (told_of a) first (behind_marker w) these ∙ sym (append-nil first))
+    ([], append_cancel_right (told_of a) first (events_behind_marker w) these ∙ sym (append-nil first))
 
 also_first : (z : More) (r : Option Refusal) (first : List Happening) (a b : Answer) → GoesOn z r a b
     → GivesFirst first a → GivesFirst first b
@@ -134,7 +134,7 @@ tokens_close :
     (keep : Bool) (w : DocumentMarker) (ts us : List Piece) (x : Piece) (s : Span) (e : Option Refusal)
     (first : List Happening) → x.kind ≡ marker_token w
     → told_of (remaining_answer (start keep ((ts ++ x ∷ []) ++ record { span = s; kind = tokens.StreamEnd } ∷ []) None))
-    ≡ first ++ behind_marker w
+    ≡ first ++ events_behind_marker w
     → GivesFirst first (remaining_answer (start keep ((ts ++ x ∷ []) ++ us) e))
 tokens_close keep w ts us x s e first is t =
     let m : Machine = start keep (ts ++ x ∷ []) None in
@@ -147,7 +147,7 @@ tokens_close keep w ts us x s e first is t =
 pub closed_tokens :
     (keep : Bool) (w : DocumentMarker) (ts us : List Piece) (x y : Piece) (e : Option Refusal) (first : List Happening)
     → x.kind ≡ marker_token w → y.kind ≡ tokens.StreamEnd
-    → GivesExactly (first ++ behind_marker w) (told_by keep (ts ++ x ∷ y ∷ []))
+    → GivesExactly (first ++ events_behind_marker w) (answer_of_tokens keep (ts ++ x ∷ y ∷ []))
     → GivesFirst first (to_come (keeping_tags keep (at_start (record { pieces = ts ++ x ∷ us; refusal = e }))))
 closed_tokens keep w ts us x y e first is ends g =
     let same : (vs : List Piece) → (ts ++ x ∷ []) ++ vs ≡ ts ++ x ∷ vs = λ vs. append_assoc ts (x ∷ []) vs in
@@ -155,7 +155,7 @@ closed_tokens keep w ts us x y e first is ends g =
     ap (λ k. record { span = y.span; kind = k }) ends in
     let given : told_of (remaining_answer
     (start keep ((ts ++ x ∷ []) ++ record { span = y.span; kind = tokens.StreamEnd } ∷ []) None))
-    ≡ first ++ behind_marker w =
+    ≡ first ++ events_behind_marker w =
     ap (λ vs. told_of (remaining_answer (start keep vs None))) (same _ ∙ ap (λ v. ts ++ x ∷ v ∷ []) (sym the_end))
     ∙ g.1 in
     subst (λ vs. GivesFirst first (remaining_answer (start keep vs e))) (same us)

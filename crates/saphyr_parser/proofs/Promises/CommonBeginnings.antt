@@ -12,7 +12,7 @@ use Rattle.saphyr_parser.specs.Premises.{DocumentMarker, Starts, Ends}
 use Rattle.saphyr_parser.specs.Steps.Machine.{◌>>=◌, Machine, Told, ending_refusal, with_pieces, taken_token_from}
 use Rattle.saphyr_parser.specs.Steps.Documents.{unpassed_token_from, unpassed_token, is_end_or_mark, implicit_start, document_content}
 use Rattle.saphyr_parser.specs.Steps.Expected.{event_step, event_step_at}
-use Rattle.saphyr_parser.specs.Answer.{Answer, with_first_event, deliver, fault_alone, ending_of, remaining_answer, machine_size}
+use Rattle.saphyr_parser.specs.Answer.{Answer, with_first_event, answer_of_step, fault_alone, ending_of, remaining_answer, machine_size}
 use Rattle.saphyr_parser.specs.More.{with_more, BeginsAs}
 use Rattle.saphyr_parser.proofs.Unroll.{unroll, over, shrinks_at}
 use Rattle.saphyr_parser.proofs.Longer.{More, longer, IsLastOr, End, Awaits, IsLeft, Agrees, IsPassed, steps_agree}
@@ -95,10 +95,10 @@ as_before z r a c b d x y g = subst (λ v. GoesOn z r v b) (sym x) (subst (λ v.
 
 delivers_longer :
     (z : More) (r : Option Refusal) (m : Machine) (p q : Result Told Refusal) → Agrees z r p q
-    → deliver q remaining_answer ≡ remaining_answer (longer z m)
+    → answer_of_step q remaining_answer ≡ remaining_answer (longer z m)
     → ((x : Told) → p ≡ Ok x → IsLeft z x.machine
     → GoesOn z x.machine.tokens.refusal (remaining_answer x.machine) (remaining_answer (longer z x.machine)))
-    → GoesOn z r (deliver p remaining_answer) (deliver q remaining_answer)
+    → GoesOn z r (answer_of_step p remaining_answer) (answer_of_step q remaining_answer)
 delivers_longer z r m (Ok x) q a s h =
     rw a.2 (goes_on_behind_event z r (x.what, x.span) _ _
     (subst (λ o. GoesOn z o (remaining_answer x.machine) (remaining_answer (longer z x.machine))) a.1 (h x refl a.0)))
@@ -139,8 +139,8 @@ first_step z m next i = by (ended m.state) i
     agreed :
         m.state ≢ state.End → Agrees z r (event_step_at m.state m) (event_step_at m.state (longer z m))
         ⊎ (IsStart m.state × IsPassed z m (event_step_at m.state))
-        → GoesOn z r (deliver (event_step_at m.state m) remaining_answer)
-        (deliver (event_step_at m.state (longer z m)) remaining_answer)
+        → GoesOn z r (answer_of_step (event_step_at m.state m) remaining_answer)
+        (answer_of_step (event_step_at m.state (longer z m)) remaining_answer)
     agreed h (inl a) =
         delivers_longer z r m (event_step_at m.state m) (event_step_at m.state (longer z m)) a
         (sym (unroll (longer z m) h))
@@ -151,7 +151,7 @@ first_step z m next i = by (ended m.state) i
           (
             with_pieces [] m,
             inr (refl, inr (p.1.0, p.0)),
-            ap (λ q. deliver q remaining_answer) p.1.2
+            ap (λ q. answer_of_step q remaining_answer) p.1.2
                 ∙ sym (unroll (longer z (with_pieces [] m)) h),
           ),
         ))
@@ -163,7 +163,7 @@ first_step z m next i = by (ended m.state) i
         (agreed h (steps_agree z m.state m h e))
     by (inr h) (inr k) =
         as_before z r _ (fault_alone (ending_of (ending_refusal r))) _ _
-        (unroll m h ∙ ap (λ q. deliver q remaining_answer) (awaits_at z.marker m.state m k.0 k.1)) refl
+        (unroll m h ∙ ap (λ q. answer_of_step q remaining_answer) (awaits_at z.marker m.state m k.0 k.1)) refl
         (inr (refl, (m, inr (k.0, inl k.1), refl)))
 
 runs : (n : ℕ) (z : More) (m : Machine) → machine_size m < n → IsLeft z m

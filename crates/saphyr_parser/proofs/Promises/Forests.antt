@@ -13,7 +13,7 @@ use Rattle.saphyr_parser.specs.Events.{Happening}
 use Rattle.saphyr_parser.specs.ForestEvents.{events}
 use Rattle.saphyr_parser.specs.Steps.Machine.{no_anchors}
 use Rattle.saphyr_parser.specs.Cursor.{at_start, keeping_tags, to_come}
-use Rattle.saphyr_parser.specs.Exactly.{GivesExactly, kinds, told_by}
+use Rattle.saphyr_parser.specs.Exactly.{GivesExactly, kinds, answer_of_tokens}
 use Rattle.saphyr_parser.proofs.Told.Telling.{Spans, Memory, dressed, dress}
 use Rattle.saphyr_parser.proofs.Remembering.{events_in}
 use Rattle.saphyr_parser.proofs.Told.Streams.{stream_says}
@@ -86,15 +86,15 @@ nowhere : Span
 nowhere = record { start = record { index = 0; line = 0; col = 0 }; end = record { index = 0; line = 0; col = 0 } }
 
 pub each_gives : (f : Forest) (keep : Bool) (ts : List Piece) (es : List Happening) → Yields f (kinds ts)
-    → anchors (parts f) < 2 ^ 64 → events f keep ≡ Some es → GivesExactly es (told_by keep ts)
+    → anchors (parts f) < 2 ^ 64 → events f keep ≡ Some es → GivesExactly es (answer_of_tokens keep ts)
 each_gives f keep ts es y l e =
     let any : (g : Spans) × (ts ≡ dressed g (kinds ts)) = dress nowhere ts in
     let within : Within false (parts f) = (tt, documents_within f (all_compatible f true y.1 y.3)) in
     let same : events_in (at_first keep) (parts f) ≡ events f keep =
     same_events (parts f) false keep [] (at_first keep) within (fits_start keep) (omega (arith, l)) in
-    let told : GivesExactly es (told_by keep (dressed any.0 (kinds ts))) =
+    let told : GivesExactly es (answer_of_tokens keep (dressed any.0 (kinds ts))) =
     stream_says f (kinds ts) y any.0 (at_first keep) es (same ∙ e) in
-    subst (λ (us : List Piece). GivesExactly es (told_by keep us)) (sym any.1) told
+    subst (λ (us : List Piece). GivesExactly es (answer_of_tokens keep us)) (sym any.1) told
 
 -- the same of a parser before these tokens
 pub each_parsed : (f : Forest) (keep : Bool) (ts : Remaining) (es : List Happening) → Yields f (kinds ts.pieces)

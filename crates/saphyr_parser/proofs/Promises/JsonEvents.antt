@@ -6,8 +6,8 @@ use Rattle.saphyr_scanner.specs.Grammar.Json.{IsMemberName, IsValue, AreElements
 use Rattle.saphyr_parser.specs.Preorder.{Part, OpenStream, CloseStream, OpenDocument, CloseDocument, Reference, Leaf, OpenSequence, CloseSequence, OpenMapping, CloseMapping, node_parts, entry_parts, pair_parts, parts}
 use Rattle.saphyr_parser.specs.Events.{Happening, StreamStart, StreamEnd, DocumentStart, DocumentEnd, Scalar, SequenceStart, SequenceEnd, MappingStart, MappingEnd}
 use Rattle.saphyr_parser.specs.Anchors.{anchor_of, one_more_anchor, anchors, own_id}
-use Rattle.saphyr_parser.specs.TagResolution.{resolve_any}
-use Rattle.saphyr_parser.specs.ForestEvents.{before_all, event_of_part, events_behind, events}
+use Rattle.saphyr_parser.specs.TagResolution.{any_resolution}
+use Rattle.saphyr_parser.specs.ForestEvents.{first_and_others, event_of_part, events_behind, events}
 
 abbrev IsBare : Part → Type 0
 IsBare (Reference _) = ⊥
@@ -29,17 +29,17 @@ bare_event keep front (Leaf p s v) h = (
   Scalar (encode_utf8_all v) s 0 None,
   ap
       (λ (q : Properties). option_map (Scalar (encode_utf8_all v) s (own_id front q.anchor))
-      (resolve_any keep q.tag front)) h,
+      (any_resolution keep q.tag front)) h,
 )
 bare_event keep front (OpenSequence p) h = (
   SequenceStart 0 None,
   ap
-      (λ (q : Properties). option_map (SequenceStart (own_id front q.anchor)) (resolve_any keep q.tag front)) h,
+      (λ (q : Properties). option_map (SequenceStart (own_id front q.anchor)) (any_resolution keep q.tag front)) h,
 )
 bare_event keep front (OpenMapping p) h = (
   MappingStart 0 None,
   ap
-      (λ (q : Properties). option_map (MappingStart (own_id front q.anchor)) (resolve_any keep q.tag front)) h,
+      (λ (q : Properties). option_map (MappingStart (own_id front q.anchor)) (any_resolution keep q.tag front)) h,
 )
 bare_event keep front OpenStream h = (StreamStart, refl)
 bare_event keep front CloseStream h = (StreamEnd, refl)
@@ -56,8 +56,8 @@ bare_events keep front (p ∷ ps) h =
     let others : (es : List Happening) × (events_behind keep (p ∷ front) ps ≡ Some es) =
     bare_events keep (p ∷ front) ps h.1 in (
       first.0 ∷ others.0,
-      ap (λ o. before_all o (events_behind keep (p ∷ front) ps)) first.1
-          ∙ ap (before_all (Some first.0)) others.1,
+      ap (λ o. first_and_others o (events_behind keep (p ∷ front) ps)) first.1
+          ∙ ap (first_and_others (Some first.0)) others.1,
     )
 
 joined_are_bare : (ps qs : List Part) → AreBare ps → AreBare qs → AreBare (ps ++ qs)

@@ -20,7 +20,7 @@ use Rattle.saphyr_parser.specs.Cursor.{EventCursor, at_start, keeping_tags, to_c
 use Rattle.saphyr_parser.specs.Exactly.{kinds}
 use Rattle.saphyr_parser.specs.More.{marker_token}
 use Rattle.saphyr_parser.specs.Promises.{ReadsClosedLayout}
-use Rattle.saphyr_parser.specs.Premises.{Grammar, DocumentMarker, EndsWithMarker, GivesFirst, ReadsClosed, behind_marker}
+use Rattle.saphyr_parser.specs.Premises.{Grammar, DocumentMarker, EndsWithMarker, GivesFirst, ReadsClosed, events_behind_marker}
 use Rattle.saphyr_parser.proofs.AnchorCount.{forest_count}
 use Rattle.saphyr_parser.proofs.ByKinds.{piece_of, kinds_of, closed_kinds}
 use Rattle.saphyr_parser.proofs.Promises.Forests.{each_parsed}
@@ -133,7 +133,7 @@ few_anchors forest limit ts earlier more k end e bound most count =
 -- Were the stream's end the next token, the forest's events would be given exactly.
 gives_first : (limit : ℕ) (keep : Bool) (marker : DocumentMarker) (forest : Forest) (text : List ℕ)
     (first : List Happening) → limit ≤ 4294967295 → BoundsTokens limit → HandsOut marker forest (scan limit text)
-    → events forest keep ≡ Some (first ++ behind_marker marker)
+    → events forest keep ≡ Some (first ++ events_behind_marker marker)
     → GivesFirst first (to_come (keeping_tags keep (at_start (scan limit text))))
 gives_first limit keep marker forest text first most bounds h told =
     let all = h.earlier ++ marker_token marker ∷ tokens.StreamEnd ∷ [] in
@@ -143,7 +143,7 @@ gives_first limit keep marker forest text first most bounds h told =
     (bounds text) in
     let few = few_anchors forest limit (kinds (scan limit text).pieces) h.earlier h.more (marker_token marker)
     tokens.StreamEnd h.begins bound most (forest_count forest all h.yields) in
-    let given = each_parsed forest keep (record { pieces = alone; refusal = None }) (first ++ behind_marker marker)
+    let given = each_parsed forest keep (record { pieces = alone; refusal = None }) (first ++ events_behind_marker marker)
     (subst (Yields forest) (sym (kinds_of all)) h.yields) refl few told in
     closed_kinds keep marker h.earlier h.more alone (scan limit text) first (kinds_of all) h.begins given
 

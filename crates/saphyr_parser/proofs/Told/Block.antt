@@ -8,7 +8,7 @@ use Rattle.saphyr_parser.specs.declared.parser.context.NodeContext.TheVariants.{
 use Rattle.saphyr_parser.specs.declared.parser.state.State.{State}
 use Rattle.saphyr_parser.specs.declared.parser.state.State.TheVariants as state
 use Rattle.saphyr_parser.specs.Preorder.{Part, node_parts}
-use Rattle.saphyr_parser.specs.Steps.Machine.{told, empty_scalar}
+use Rattle.saphyr_parser.specs.Steps.Machine.{told_event, empty_scalar}
 use Rattle.saphyr_parser.specs.Steps.Block.{sequence_entry, sequence_node, indentless_entry, indentless_node, mapping_key, block_key_node, block_mapping_value, block_value_node}
 use Rattle.saphyr_parser.specs.Steps.Expected.{event_step}
 use Rattle.saphyr_parser.proofs.Told.Telling.{Spans, Memory, at}
@@ -39,7 +39,7 @@ entry_begins f _ l ss e h = refl
 
 entry_is_left_out : (f : Spans) (k : Kind) (ks : List Kind) (ss : List State) (e : Memory) → EndsBlockEntry k
     → event_step (at f (BlockEntry ∷ k ∷ ks) state.BlockSequenceEntry ss e)
-    ≡ told empty_scalar (f (k ∷ ks)) (at f (k ∷ ks) state.BlockSequenceEntry ss e)
+    ≡ told_event empty_scalar (f (k ∷ ks)) (at f (k ∷ ks) state.BlockSequenceEntry ss e)
 unfolding event_step sequence_entry sequence_node
 entry_is_left_out f BlockEntry ks ss e h = refl
 entry_is_left_out f BlockEnd ks ss e h = refl
@@ -84,7 +84,7 @@ indentless_begins f _ l ss e h = refl
 
 indentless_is_left_out : (f : Spans) (k : Kind) (ks : List Kind) (ss : List State) (e : Memory) → EndsIndentless k
     → event_step (at f (BlockEntry ∷ k ∷ ks) state.IndentlessSequenceEntry ss e)
-    ≡ told empty_scalar (f (k ∷ ks)) (at f (k ∷ ks) state.IndentlessSequenceEntry ss e)
+    ≡ told_event empty_scalar (f (k ∷ ks)) (at f (k ∷ ks) state.IndentlessSequenceEntry ss e)
 unfolding event_step indentless_entry indentless_node
 indentless_is_left_out f BlockEntry ks ss e h = refl
 indentless_is_left_out f Key ks ss e h = refl
@@ -115,7 +115,7 @@ block_key_begins f _ l ss e h = refl
 
 key_is_left_out : (f : Spans) (k : Kind) (ks : List Kind) (ss : List State) (e : Memory) → MayFollow InBlockMapping k
     → event_step (at f (Key ∷ k ∷ ks) state.BlockMappingKey ss e)
-    ≡ told empty_scalar (f ks) (at f (k ∷ ks) state.BlockMappingValue ss e)
+    ≡ told_event empty_scalar (f ks) (at f (k ∷ ks) state.BlockMappingValue ss e)
 unfolding event_step mapping_key block_key_node
 key_is_left_out f Key ks ss e h = refl
 key_is_left_out f Value ks ss e h = refl
@@ -133,7 +133,7 @@ block_value_begins f _ l ss e h = refl
 
 value_is_left_out : (f : Spans) (k : Kind) (ks : List Kind) (ss : List State) (e : Memory) → MayFollow InBlockMapping k
     → event_step (at f (Value ∷ k ∷ ks) state.BlockMappingValue ss e)
-    ≡ told empty_scalar (f (k ∷ ks)) (at f (k ∷ ks) state.BlockMappingKey ss e)
+    ≡ told_event empty_scalar (f (k ∷ ks)) (at f (k ∷ ks) state.BlockMappingKey ss e)
 unfolding event_step block_mapping_value block_value_node
 value_is_left_out f Key ks ss e h = refl
 value_is_left_out f Value ks ss e h = refl
@@ -143,7 +143,7 @@ value_is_left_out f _ ks ss e h = elim h [ ]
 value_is_missing : (f : Spans) (k : Kind) (ks : List Kind) (ss : List State) (e : Memory) → MayFollow InBlockMapping k
     → ¬ (BeginsWithValue (k ∷ ks))
     → event_step (at f (k ∷ ks) state.BlockMappingValue ss e)
-    ≡ told empty_scalar (f ks) (at f (k ∷ ks) state.BlockMappingKey ss e)
+    ≡ told_event empty_scalar (f ks) (at f (k ∷ ks) state.BlockMappingKey ss e)
 unfolding event_step block_mapping_value
 value_is_missing f Key ks ss e h n = refl
 value_is_missing f BlockEnd ks ss e h n = refl

@@ -9,7 +9,7 @@ use Rattle.saphyr_parser.specs.declared.parser.state.State.{State}
 use Rattle.saphyr_parser.specs.declared.parser.state.State.TheVariants as state
 use Rattle.saphyr_parser.specs.Preorder.{Part, OpenSequence, CloseSequence, OpenMapping, CloseMapping, entry_parts, pair_parts}
 use Rattle.saphyr_parser.specs.Events.{SequenceStart, MappingStart}
-use Rattle.saphyr_parser.specs.Steps.Nodes.{up_to}
+use Rattle.saphyr_parser.specs.Steps.Nodes.{span_up_to}
 use Rattle.saphyr_parser.proofs.Told.Telling.{Spans, Memory, at}
 use Rattle.saphyr_parser.proofs.Remembering.{noted, after_nodes, after_pairs, Tells}
 use Rattle.saphyr_parser.proofs.Told.Nodes.{next_node, node_opens}
@@ -69,7 +69,7 @@ flow_sequence p ns c front content t h d a g = record {
       node_opens f (context_of c) x (s ∷ ss) e m (at f rest state.FlowSequenceFirstEntry (s ∷ ss) (noted p.anchor e)) p
       front FlowSequenceStart rest (OpenSequence p) ((entry_parts ns ++ CloseSequence ∷ []) ++ ps) SequenceStart h
       tt more (q ∙ ap (λ u. next_node (context_of c) (at f u x (s ∷ ss) e)) same) refl
-      (λ r has. (up_to r (f rest).end, refl)) inside;
+      (λ r has. (span_up_to r (f rest).end, refl)) inside;
 }
 
 flow_mapping : (p : forest.Properties) (qs : Pairs) (c : grammar.Context) (front content t : List Kind)
@@ -88,7 +88,7 @@ flow_mapping p qs c front content t h d a g = record {
       node_opens f (context_of c) x (s ∷ ss) e m (at f rest state.FlowMappingFirstKey (s ∷ ss) (noted p.anchor e)) p
       front FlowMappingStart rest (OpenMapping p) ((pair_parts qs ++ CloseMapping ∷ []) ++ ps) MappingStart h tt
       more (q ∙ ap (λ u. next_node (context_of c) (at f u x (s ∷ ss) e)) same) refl
-      (λ r has. (up_to r (f rest).end, refl)) inside;
+      (λ r has. (span_up_to r (f rest).end, refl)) inside;
 }
 
 block_sequence : (p : forest.Properties) (ns : Nodes) (c : grammar.Context) (front content t : List Kind)
@@ -108,7 +108,7 @@ block_sequence p ns c front content t h b d a g = record {
       node_opens f (context_of c) x (s ∷ ss) e m (at f rest state.BlockSequenceEntry (s ∷ ss) (noted p.anchor e)) p
       front BlockSequenceStart rest (OpenSequence p) ((entry_parts ns ++ CloseSequence ∷ []) ++ ps) SequenceStart h
       tt more (q ∙ ap (λ u. next_node (context_of c) (at f u x (s ∷ ss) e)) same) refl
-      (λ r has. (up_to r (f rest).end, refl)) inside;
+      (λ r has. (span_up_to r (f rest).end, refl)) inside;
 }
 
 block_mapping : (p : forest.Properties) (qs : Pairs) (c : grammar.Context) (front content t : List Kind)
@@ -128,7 +128,7 @@ block_mapping p qs c front content t h b d a g = record {
       node_opens f (context_of c) x (s ∷ ss) e m (at f rest state.BlockMappingKey (s ∷ ss) (noted p.anchor e)) p front
       BlockMappingStart rest (OpenMapping p) ((pair_parts qs ++ CloseMapping ∷ []) ++ ps) MappingStart h tt more
       (q ∙ ap (λ u. next_node (context_of c) (at f u x (s ∷ ss) e)) same) refl
-      (λ r has. (up_to r (f rest).end, refl)) inside;
+      (λ r has. (span_up_to r (f rest).end, refl)) inside;
 }
 
 -- a sequence at the column of its mapping begins with its first entry's token, which is left in front of the machine
@@ -153,7 +153,7 @@ indentless_sequence p ns InBlockMapping front content others t h b d a g = recor
       (at f (BlockEntry ∷ rest) state.IndentlessSequenceEntry (s ∷ ss) (noted p.anchor e)) p front BlockEntry rest
       (OpenSequence p) ((entry_parts ns ++ CloseSequence ∷ []) ++ ps) SequenceStart h tt more
       (q ∙ ap (λ u. next_node (context_of InBlockMapping) (at f u x (s ∷ ss) e)) same) refl
-      (λ r has. (up_to r (f rest).end, refl)) inside;
+      (λ r has. (span_up_to r (f rest).end, refl)) inside;
 }
 
 first_dash : (ns : Nodes) (content : List Kind) → grammar.HasNode ns → YieldBlockEntries ns content

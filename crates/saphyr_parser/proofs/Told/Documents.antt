@@ -14,8 +14,8 @@ use Rattle.saphyr_parser.specs.Events as events
 use Rattle.saphyr_parser.specs.Events.{Happening}
 use Rattle.saphyr_parser.specs.Answer.{remaining_answer}
 use Rattle.saphyr_parser.specs.Exactly.{GivesExactly}
-use Rattle.saphyr_parser.specs.Steps.Machine.{◌>>=◌, Machine, Told, told, empty_scalar}
-use Rattle.saphyr_parser.specs.Steps.Documents.{is_end_or_mark, directives, none_declared, explicit_at, explicit_document, bare_document, implicit_start_at, implicit_start, explicit_start_at, explicit_start, document_content}
+use Rattle.saphyr_parser.specs.Steps.Machine.{◌>>=◌, Machine, Told, told_event, empty_scalar}
+use Rattle.saphyr_parser.specs.Steps.Documents.{is_end_or_mark, directives, none_declared, explicit_document_at, explicit_document, bare_document, implicit_start_at, implicit_start, explicit_start_at, explicit_start, document_content}
 use Rattle.saphyr_parser.specs.Steps.Expected.{event_step, block_node}
 use Rattle.saphyr_parser.proofs.Told.Telling.{Spans, Memory, at, ends}
 use Rattle.saphyr_parser.proofs.Remembering.{opening, after_node, Says, Tells, plainly}
@@ -189,7 +189,7 @@ bare_says n t h f front k ks e ps a z l =
 -- ## Explicit documents
 
 abbrev pub opened : Machine → Result Told Refusal
-opened m = directives none_declared m >>= (λ u. explicit_at u.0.kind u.0 u.1)
+opened m = directives none_declared m >>= (λ u. explicit_document_at u.0.kind u.0 u.1)
 
 pub implicit_opens : (ds : List Directive) (f : Spans) (front rest : List Kind) (e : Memory) → AreEndsAndMarks front
     → event_step (at f (front ++ (map directive_token ds ++ DocumentStart ∷ rest)) state.ImplicitDocumentStart [] e)
@@ -223,7 +223,7 @@ content_begins f _ l e h = refl
 
 content_is_left_out : (f : Spans) (k : Kind) (ks : List Kind) (e : Memory) → EndsDocument k
     → event_step (at f (k ∷ ks) state.DocumentContent (state.DocumentEnd ∷ []) e)
-    ≡ told empty_scalar (f ks) (at f (k ∷ ks) state.DocumentEnd [] e)
+    ≡ told_event empty_scalar (f ks) (at f (k ∷ ks) state.DocumentEnd [] e)
 unfolding event_step document_content
 content_is_left_out f StreamEnd ks e h = refl
 content_is_left_out f DocumentStart ks e h = refl
@@ -247,9 +247,9 @@ explicit_says n ds t c h f k ks m x e ps z more q l =
     (λ l. at f l state.DocumentContent (state.DocumentEnd ∷ []) e') state.DocumentContent (λ l. state.DocumentEnd)
     [] e' ps (document_end_follows k z) (λ l q. cc) (f ks) (content_is_left_out f k ks e' z)
     (λ j l s. content_begins f j l e' s) l in
-    let goes : event_step m ≡ told (events.DocumentStart true) (f rest)
+    let goes : event_step m ≡ told_event (events.DocumentStart true) (f rest)
     (at f rest state.DocumentContent (state.DocumentEnd ∷ []) e') =
-    q ∙ ap (λ (r : Result (Piece × Machine) Refusal). r >>= (λ u. explicit_at u.0.kind u.0 u.1))
+    q ∙ ap (λ (r : Result (Piece × Machine) Refusal). r >>= (λ u. explicit_document_at u.0.kind u.0 u.1))
     (all_directives_pass ds f rest x [] e c) in
     plainly e m (at f rest state.DocumentContent (state.DocumentEnd ∷ []) e') (OpenDocument true ds)
     (node_parts n ++ ps) (events.DocumentStart true) (f rest) more refl goes inside

@@ -10,7 +10,7 @@ use Rattle.saphyr_parser.specs.declared.parser.context.NodeContext.TheVariants.{
 use Rattle.saphyr_parser.specs.declared.parser.state.State.{State}
 use Rattle.saphyr_parser.specs.declared.parser.state.State.TheVariants as state
 use Rattle.saphyr_parser.specs.Preorder.{Part, node_parts}
-use Rattle.saphyr_parser.specs.Steps.Machine.{Machine, told, empty_scalar}
+use Rattle.saphyr_parser.specs.Steps.Machine.{Machine, told_event, empty_scalar}
 use Rattle.saphyr_parser.specs.Steps.Nodes.{node_inside}
 use Rattle.saphyr_parser.specs.Steps.Flow.{pair_at, flow_key_node, flow_mapping_value, flow_value_node, empty_value}
 use Rattle.saphyr_parser.specs.Steps.Expected.{event_step}
@@ -48,7 +48,7 @@ flow_key_begins f FlowMappingEnd l x ss e h = elim h [ ]
 flow_key_begins f _ l x ss e h = refl
 
 key_is_left_out : (f : Spans) (k : Kind) (ks : List Kind) (x : State) (ss : List State) (e : Memory) → EndsPair k
-    → flow_key_node (at f (k ∷ ks) x ss e) ≡ told empty_scalar (f ks) (at f (k ∷ ks) state.FlowMappingValue ss e)
+    → flow_key_node (at f (k ∷ ks) x ss e) ≡ told_event empty_scalar (f ks) (at f (k ∷ ks) state.FlowMappingValue ss e)
 unfolding flow_key_node
 key_is_left_out f FlowEntry ks x ss e h = refl
 key_is_left_out f FlowMappingEnd ks x ss e h = refl
@@ -74,7 +74,7 @@ flow_value_begins f _ l ss e h = refl
 
 value_is_left_out : (f : Spans) (k : Kind) (ks : List Kind) (ss : List State) (e : Memory) → EndsPair k
     → event_step (at f (Value ∷ k ∷ ks) state.FlowMappingValue ss e)
-    ≡ told empty_scalar (f (k ∷ ks)) (at f (k ∷ ks) state.FlowMappingKey ss e)
+    ≡ told_event empty_scalar (f (k ∷ ks)) (at f (k ∷ ks) state.FlowMappingKey ss e)
 unfolding event_step flow_mapping_value flow_value_node
 value_is_left_out f FlowEntry ks ss e h = refl
 value_is_left_out f FlowMappingEnd ks ss e h = refl
@@ -82,7 +82,7 @@ value_is_left_out f _ ks ss e h = elim h [ ]
 
 value_is_missing : (f : Spans) (k : Kind) (ks : List Kind) (ss : List State) (e : Memory) → EndsPair k
     → event_step (at f (k ∷ ks) state.FlowMappingValue ss e)
-    ≡ told empty_scalar (f ks) (at f (k ∷ ks) state.FlowMappingKey ss e)
+    ≡ told_event empty_scalar (f ks) (at f (k ∷ ks) state.FlowMappingKey ss e)
 unfolding event_step flow_mapping_value
 value_is_missing f FlowEntry ks ss e h = refl
 value_is_missing f FlowMappingEnd ks ss e h = refl
@@ -114,7 +114,7 @@ key_says : (key : Node) (t : List Kind) → YieldsOptional key (YieldsNode key I
     → (YieldsNode key InFlow t → NodeSays key InFlow t)
     → (f : Spans) (k : Kind) (ks : List Kind) (machine : List Kind → Machine) (x : State) (ss : List State) (e : Memory)
     (ps : List Part) → MayFollow InFlow k
-    → flow_key_node (at f (k ∷ ks) x ss e) ≡ told empty_scalar (f ks) (at f (k ∷ ks) state.FlowMappingValue ss e)
+    → flow_key_node (at f (k ∷ ks) x ss e) ≡ told_event empty_scalar (f ks) (at f (k ∷ ks) state.FlowMappingValue ss e)
     → AtPair f x ss e machine → Tells f (k ∷ ks) state.FlowMappingValue ss (after_node key e) ps
     → Says e (machine (Key ∷ (t ++ k ∷ ks))) (node_parts key ++ ps)
 key_says key t h g f k ks machine x ss e ps z skip a l =

@@ -18,10 +18,10 @@ use Rattle.saphyr_parser.specs.declared.parser.state.State.{State}
 use Rattle.saphyr_parser.specs.declared.parser.state.State.TheVariants as state
 use Rattle.saphyr_parser.specs.Preorder.{Part}
 use Rattle.saphyr_parser.specs.Events.{Happening, ResolvedTag}
-use Rattle.saphyr_parser.specs.Steps.Machine.{◌>>=◌, Names, meaning, next_id, Machine, Told, told, taken_token}
-use Rattle.saphyr_parser.specs.Steps.Tags.{declared_prefix, resolved, declared_or, undeclared}
+use Rattle.saphyr_parser.specs.Steps.Machine.{◌>>=◌, Names, meaning, next_id, Machine, Told, told_event, taken_token}
+use Rattle.saphyr_parser.specs.Steps.Tags.{declared_prefix, resolved_tag_at, declared_prefix_or, undeclared_prefix}
 use Rattle.saphyr_parser.specs.TagResolution.{default_prefix}
-use Rattle.saphyr_parser.specs.Steps.Nodes.{NodeProperties, no_node_properties, node_content_at, node_content, next_content, behind_anchor_at, behind_anchor, behind_tag_at, behind_tag, node_at, node}
+use Rattle.saphyr_parser.specs.Steps.Nodes.{NodeProperties, no_node_properties, node_content_at, node_content, next_content, node_behind_anchor_at, node_behind_anchor, node_behind_tag_at, node_behind_tag, node_at, node}
 use Rattle.saphyr_parser.specs.Steps.Expected.{event_step}
 use Rattle.saphyr_parser.proofs.Told.Telling.{Spans, Memory, at}
 use Rattle.saphyr_parser.proofs.Remembering.{noted, after, own_id, resolve, resolve_any, with_properties, event_in, Says, says}
@@ -34,7 +34,7 @@ next_node d m = taken_token m >>= (λ t. node d t.0 t.1)
 -- what a handle stands for is what the machine finds
 handle_stands : (handle : Handle) (names : Names (List ℕ)) (place : Marker) (prefix : List ℕ) (o : Option (List ℕ))
     → option_or o (default_prefix handle) ≡ Some prefix
-    → declared_or o (undeclared (handle_bytes handle) place) ≡ Ok prefix
+    → declared_prefix_or o (undeclared_prefix (handle_bytes handle) place) ≡ Ok prefix
 unfolding encode
 handle_stands Primary names place prefix None h = cc
 handle_stands Secondary names place prefix None h = cc
@@ -48,18 +48,18 @@ handle_is_some Secondary = omega arith
 handle_is_some (Named word) = omega arith
 
 pub has_handle : (handle : List ℕ) (names : Names (List ℕ)) (place : Marker) → 0 < length handle
-    → declared_prefix names handle place ≡ declared_or (meaning handle names) (undeclared handle place)
+    → declared_prefix names handle place ≡ declared_prefix_or (meaning handle names) (undeclared_prefix handle place)
 unfolding declared_prefix
 has_handle handle names place l =
     let some : nat_eq (length handle) 0 ≡ false = ne_eqb (length handle) 0 (λ e. omega (arith, l, e)) in ap
-    (λ b. if b then Ok handle else declared_or (meaning handle names) (undeclared handle place)) some
+    (λ b. if b then Ok handle else declared_prefix_or (meaning handle names) (undeclared_prefix handle place)) some
 
 record TagToken (tag : Tag) : Type 0 where
   handle : List ℕ
   suffix : List ℕ
   token : tag_token tag ≡ tokens.Tag handle suffix
   stands : (names : Names (List ℕ)) (place : Marker) (r : ResolvedTag) → resolve names tag ≡ Some r
-      → resolved names handle suffix place ≡ Ok r
+      → resolved_tag_at names handle suffix place ≡ Ok r
 
 of_shorthand : (o : Option (List ℕ)) (r : Result (List ℕ) Refusal) (suffix : List ℕ) (tag : ResolvedTag)
     → ((prefix : List ℕ) → o ≡ Some prefix → r ≡ Ok prefix)
@@ -73,14 +73,14 @@ of_shorthand (Some prefix) r suffix tag h q =
 
 shorthand_stands : (handle : Handle) (suffix : List ℕ) (names : Names (List ℕ)) (place : Marker) (r : ResolvedTag)
     → resolve names (Shorthand handle suffix) ≡ Some r
-    → resolved names (handle_bytes handle) (encode_utf8_all suffix) place ≡ Ok r
-unfolding resolved
+    → resolved_tag_at names (handle_bytes handle) (encode_utf8_all suffix) place ≡ Ok r
+unfolding resolved_tag_at
 shorthand_stands handle suffix names place r h =
     ap (λ p. p >>= (λ prefix. let x : Result ResolvedTag Refusal =
     Ok (record { handle = prefix; suffix = encode_utf8_all suffix }) in x))
     (has_handle (handle_bytes handle) names place (handle_is_some handle))
     ∙ of_shorthand (option_or (meaning (handle_bytes handle) names) (default_prefix handle))
-    (declared_or (meaning (handle_bytes handle) names) (undeclared (handle_bytes handle) place))
+    (declared_prefix_or (meaning (handle_bytes handle) names) (undeclared_prefix (handle_bytes handle) place))
     (encode_utf8_all suffix) r
     (λ prefix. handle_stands handle names place prefix (meaning (handle_bytes handle) names)) h
 
@@ -89,7 +89,7 @@ some_inside : (a b : ResolvedTag) → (let o : Option ResolvedTag = Some a in o)
 some_inside a b h = cc
 
 tag_is_token : (tag : Tag) → TagToken tag
-unfolding resolved declared_prefix
+unfolding resolved_tag_at declared_prefix
 tag_is_token NonSpecific =
     record { handle = []; suffix = codes "!"; token = refl; stands = λ names place r h. some_inside _ r h }
 tag_is_token (Verbatim uri) =
@@ -120,13 +120,13 @@ content_alone (tokens.Tag _ _) d t m h = elim h [ ]
 content_alone _ d t m h = refl
 
 content_behind_anchor : (k : Kind) (id : ℕ) (s : Span) (d : NodeContext) (t : Piece) (m : Machine) → IsContent k
-    → behind_anchor_at k id s d t m
+    → node_behind_anchor_at k id s d t m
     ≡ node_content (record { start = s.start; behind = s.end; anchor = id; tag = None }) d t m
 content_behind_anchor (tokens.Tag _ _) id s d t m h = elim h [ ]
 content_behind_anchor _ id s d t m h = refl
 
 content_behind_tag : (k : Kind) (tag : ResolvedTag) (s : Span) (d : NodeContext) (t : Piece) (m : Machine) → IsContent k
-    → behind_tag_at k tag s d t m
+    → node_behind_tag_at k tag s d t m
     ≡ node_content (record { start = s.start; behind = s.end; anchor = 0; tag = Some tag }) d t m
 content_behind_tag (tokens.Anchor _) tag s d t m h = elim h [ ]
 content_behind_tag _ tag s d t m h = refl
@@ -157,7 +157,7 @@ node_comes : (f : Spans) (d : NodeContext) (x : State) (ss : List State) (e : Me
     → AreBoth (option_map anchor_token anchor) (option_map tag_token tag) front → IsContent k
     → resolve_any e.prefixes tag ≡ Some found
     → Comes f d x ss e anchor tag k ks (next_node d (at f (front ++ k ∷ ks) x ss e))
-unfolding node node_content next_content behind_anchor behind_tag
+unfolding node node_content next_content node_behind_anchor node_behind_tag
 node_comes f d x ss e None None front k ks found h c r =
     record {
       properties = no_node_properties (f ks).start;
@@ -190,7 +190,7 @@ node_comes f d x ss e None (Some tag) front k ks found h c r =
       has = record { anchor_is = refl; tag_is = ap (option_map (λ v. let o : Option ResolvedTag = Some v in o)) g.1 };
       goes = ap (λ l. next_node d (at f (l ++ k ∷ ks) x ss e)) (h ∙ ap (λ a. a ∷ []) t.token)
           ∙ ap (λ (q : Result ResolvedTag Refusal). q
-          >>= (λ v. behind_tag_at k v s d (record { span = f ks; kind = k }) (at f ks x ss e)))
+          >>= (λ v. node_behind_tag_at k v s d (record { span = f ks; kind = k }) (at f ks x ss e)))
           (t.stands e.prefixes s.start g.0 g.1)
           ∙ content_behind_tag k g.0 s d _ _ c;
     }
@@ -231,8 +231,8 @@ found_any make id (Some g) w h = (g, refl, (cc))
 found_any make id None w h = absurd (cc)
 
 tells_so : {a b c : Result Told Refusal} (u w : Happening) (span : Span) (n : Machine) → a ≡ b → b ≡ c
-    → c ≡ told u span n → u ≡ w → a ≡ told w span n
-tells_so u w span n p q r s = p ∙ q ∙ r ∙ ap (λ (x : Happening). told x span n) s
+    → c ≡ told_event u span n → u ≡ w → a ≡ told_event w span n
+tells_so u w span n p q r s = p ∙ q ∙ r ∙ ap (λ (x : Happening). told_event x span n) s
 
 -- A node with properties is told, where its content is told of what the machine has read.
 pub node_opens : (f : Spans) (d : NodeContext) (x : State) (ss : List State) (e : Memory) (m n : Machine)
@@ -241,7 +241,7 @@ pub node_opens : (f : Spans) (d : NodeContext) (x : State) (ss : List State) (e 
     → event_step m ≡ next_node d (at f (front ++ k ∷ ks) x ss e) → event_in e part ≡ with_properties make e p
     → ((q : NodeProperties) → Has e p.anchor p.tag q
     → (span : Span) × (node_content_at k q d (record { span = f ks; kind = k }) (at f ks x ss (noted p.anchor e))
-    ≡ told (make q.anchor q.tag) span n)) → Says (after part e) n ps → Says e m (part ∷ ps)
+    ≡ told_event (make q.anchor q.tag) span n)) → Says (after part e) n ps → Says e m (part ∷ ps)
 node_opens f d x ss e m n p front k ks part ps make h c more q v go l =
     says e m n part ps more (λ w z.
     let g : (g : Option ResolvedTag) × (resolve_any e.prefixes p.tag ≡ Some g) × (make (own_id e p.anchor) g ≡ w) =
@@ -249,7 +249,7 @@ node_opens f d x ss e m n p front k ks part ps make h c more q v go l =
     let r : Comes f d x ss e p.anchor p.tag k ks (next_node d (at f (front ++ k ∷ ks) x ss e)) =
     node_comes f d x ss e p.anchor p.tag front k ks g.0 h c g.1 in
     let s : (span : Span) × (node_content_at k r.properties d (record { span = f ks; kind = k })
-    (at f ks x ss (noted p.anchor e)) ≡ told (make r.properties.anchor r.properties.tag) span n) =
+    (at f ks x ss (noted p.anchor e)) ≡ told_event (make r.properties.anchor r.properties.tag) span n) =
     go r.properties r.has in
     let same : make r.properties.anchor r.properties.tag ≡ w = made make r.properties.anchor (own_id e p.anchor)
     r.properties.tag g.0 w r.has.anchor_is (sym r.has.tag_is ∙ g.1) g.2 in

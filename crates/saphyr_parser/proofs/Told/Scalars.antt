@@ -12,8 +12,8 @@ use Rattle.saphyr_scanner.specs.Grammar.TokenGrammar.{YieldsNode}
 use Rattle.saphyr_scanner.specs.Views.Tokens.{Piece}
 use Rattle.saphyr_parser.specs.Preorder.{Reference, Leaf}
 use Rattle.saphyr_parser.specs.Events.{Happening, ResolvedTag, Alias, Scalar}
-use Rattle.saphyr_parser.specs.Steps.Machine.{Machine, told, pop, put_back, meaning, next_id}
-use Rattle.saphyr_parser.specs.Steps.Nodes.{NodeProperties, has_property, up_to, without_content, alias_of, alias_node, node}
+use Rattle.saphyr_parser.specs.Steps.Machine.{Machine, told_event, pop, put_back, meaning, next_id}
+use Rattle.saphyr_parser.specs.Steps.Nodes.{NodeProperties, has_property, span_up_to, node_without_content, alias_of, alias_node, node}
 use Rattle.saphyr_parser.proofs.Told.Telling.{Memory, at}
 use Rattle.saphyr_parser.proofs.Remembering.{noted, resolve, says}
 use Rattle.saphyr_parser.proofs.Told.Nodes.{next_node, Has, node_opens}
@@ -37,7 +37,7 @@ has_one e None (Some tag) q h has =
     ap (λ b. nat_lt 0 q.anchor || b) (is_tagged (resolve e.prefixes tag) q.tag has.tag_is) ∙ or-true (nat_lt 0 q.anchor)
 
 empty_is_told : (q : NodeProperties) (t : Piece) (m : Machine) → has_property q ≡ true
-    → without_content q t m ≡ told (Scalar [] forest.Plain q.anchor q.tag) (up_to q q.behind) (pop (put_back t m))
+    → node_without_content q t m ≡ told_event (Scalar [] forest.Plain q.anchor q.tag) (span_up_to q q.behind) (pop (put_back t m))
 empty_is_told q t m h = rw h refl
 
 -- ## Scalars
@@ -52,7 +52,7 @@ with_token p style value c front content t h a b = record {
       node_opens f (context_of c) x (s ∷ ss) e m (at f (k ∷ ks) s ss (noted p.anchor e)) p front
       (scalar_token style value) (k ∷ ks) (Leaf p style value) ps (Scalar (encode_utf8_all value) style) h tt more
       (q ∙ ap (λ u. next_node (context_of c) (at f u x (s ∷ ss) e)) same) refl
-      (λ r has. (up_to r (f (k ∷ ks)).end, refl)) l;
+      (λ r has. (span_up_to r (f (k ∷ ks)).end, refl)) l;
 }
 
 -- properties alone
@@ -67,7 +67,7 @@ without_token p c front content t h some a b = record {
       node_opens f (context_of c) x (s ∷ ss) e m n p front k ks (Leaf p forest.Plain []) ps (Scalar [] forest.Plain) h
       (follow_is_content c k z) more (q ∙ ap (λ u. next_node (context_of c) (at f u x (s ∷ ss) e)) same) refl
       (λ r has. (
-        up_to r r.behind,
+        span_up_to r r.behind,
         follow_ends c k r piece (at f ks x (s ∷ ss) (noted p.anchor e)) z
             ∙ empty_is_told r piece (at f ks x (s ∷ ss) (noted p.anchor e)) (has_one e p.anchor p.tag r some has),
       )) l;
@@ -86,8 +86,8 @@ scalar_says p style value c t h = by_content h.3
 -- ## Aliases
 
 alias_is_told : (o : Option ℕ) (w : Happening) (s : Span) (m : Machine) → option_map Alias o ≡ Some w
-    → alias_of o s m ≡ told w s (pop m)
-alias_is_told (Some id) w s m h = let same : Alias id ≡ w = cc in ap (λ u. told u s (pop m)) same
+    → alias_of o s m ≡ told_event w s (pop m)
+alias_is_told (Some id) w s m h = let same : Alias id ≡ w = cc in ap (λ u. told_event u s (pop m)) same
 alias_is_told None w s m h = absurd (cc)
 
 pub alias_says : (name : List ℕ) (c : grammar.Context) (t : List Kind) → YieldsNode (forest.Alias name) c t

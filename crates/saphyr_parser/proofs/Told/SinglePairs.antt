@@ -11,7 +11,7 @@ use Rattle.saphyr_parser.specs.declared.parser.state.State.{State}
 use Rattle.saphyr_parser.specs.declared.parser.state.State.TheVariants as state
 use Rattle.saphyr_parser.specs.Preorder.{Part, OpenMapping, CloseMapping, node_parts}
 use Rattle.saphyr_parser.specs.Events.{MappingStart, MappingEnd}
-use Rattle.saphyr_parser.specs.Steps.Machine.{Machine, told, empty_scalar}
+use Rattle.saphyr_parser.specs.Steps.Machine.{Machine, told_event, empty_scalar}
 use Rattle.saphyr_parser.specs.Steps.Nodes.{node_inside}
 use Rattle.saphyr_parser.specs.Steps.Flow.{entry_at, pair_key, pair_value, pair_value_node, pair_end}
 use Rattle.saphyr_parser.specs.Steps.Expected.{event_step}
@@ -80,7 +80,7 @@ single_value_begins f _ l ss e h = refl
 
 value_is_left_out : (f : Spans) (k : Kind) (ks : List Kind) (ss : List State) (e : Memory) → EndsEntry k
     → event_step (at f (Value ∷ k ∷ ks) state.FlowSequenceEntryMappingValue ss e)
-    ≡ told empty_scalar (f ks) (at f (k ∷ ks) (behind_value f (k ∷ ks)) ss e)
+    ≡ told_event empty_scalar (f ks) (at f (k ∷ ks) (behind_value f (k ∷ ks)) ss e)
 unfolding event_step pair_value pair_value_node behind_value
 value_is_left_out f FlowEntry ks ss e h = refl
 value_is_left_out f FlowSequenceEnd ks ss e h = refl
@@ -89,7 +89,7 @@ value_is_left_out f _ ks ss e h = elim h [ ]
 -- no value at all
 value_is_missing : (f : Spans) (k : Kind) (ks : List Kind) (ss : List State) (e : Memory) → EndsEntry k
     → event_step (at f (k ∷ ks) state.FlowSequenceEntryMappingValue ss e)
-    ≡ told empty_scalar (f ks) (at f (k ∷ ks) (behind_value f (k ∷ ks)) ss e)
+    ≡ told_event empty_scalar (f ks) (at f (k ∷ ks) (behind_value f (k ∷ ks)) ss e)
 unfolding event_step pair_value behind_value
 value_is_missing f FlowEntry ks ss e h = refl
 value_is_missing f FlowSequenceEnd ks ss e h = refl
@@ -97,7 +97,7 @@ value_is_missing f _ ks ss e h = elim h [ ]
 
 key_is_left_out : (f : Spans) (k : Kind) (ks : List Kind) (ss : List State) (e : Memory) → EndsEntry k
     → event_step (at f (k ∷ ks) state.FlowSequenceEntryMappingKey ss e)
-    ≡ told empty_scalar (f ks) (at f (k ∷ ks) state.FlowSequenceEntryMappingValue ss e)
+    ≡ told_event empty_scalar (f ks) (at f (k ∷ ks) state.FlowSequenceEntryMappingValue ss e)
 unfolding event_step pair_key
 key_is_left_out f FlowEntry ks ss e h = refl
 key_is_left_out f FlowSequenceEnd ks ss e h = refl

@@ -10,7 +10,7 @@ use Rattle.saphyr_parser.specs.declared.parser.state.State.TheVariants as state
 use Rattle.saphyr_parser.specs.Preorder.{Part, OpenStream, CloseStream, OpenDocument, CloseDocument, node_parts, document_parts, parts}
 use Rattle.saphyr_parser.specs.Events as events
 use Rattle.saphyr_parser.specs.Steps.Machine.{◌>>=◌, Machine}
-use Rattle.saphyr_parser.specs.Steps.Documents.{is_mark, stream_start, behind_marks_at, behind_marks, behind_document, document_end_at, document_end, forget_prefixes}
+use Rattle.saphyr_parser.specs.Steps.Documents.{is_mark, stream_start, token_behind_marks_at, token_behind_marks, token_behind_document, document_end_at, document_end, without_prefixes}
 use Rattle.saphyr_parser.specs.Steps.Expected.{event_step}
 use Rattle.saphyr_parser.proofs.Told.Telling.{Spans, Memory, at}
 use Rattle.saphyr_parser.proofs.Remembering.{closing, Tells, plainly}
@@ -37,14 +37,14 @@ behind_is_no_mark _ h = elim h [ ]
 document_end_told : (f : Spans) (j : Kind) (l : List Kind) (e : Memory) → IsBehind j
     → event_step (at f (j ∷ l) state.DocumentEnd [] e)
     ≡ document_end_at j (record { span = f l; kind = j }) (at f l state.DocumentEnd [] (closing e))
-unfolding event_step document_end behind_document
+unfolding event_step document_end token_behind_document
 document_end_told f StreamEnd l e h = refl
 document_end_told f DocumentStart l e h = refl
 document_end_told f DocumentEnd l e h = refl
 document_end_told f _ l e h = elim h [ ]
 
 marks_behind : (f : Spans) (place : Span) (j : Kind) (l : List Kind) (e : Memory) → IsBehind j
-    → behind_marks_at j place.start (record { span = f l; kind = j }) (at f l state.DocumentEnd [] e)
+    → token_behind_marks_at j place.start (record { span = f l; kind = j }) (at f l state.DocumentEnd [] e)
     ≡ Ok (record { span = f l; kind = j }, at f l state.DocumentEnd [] e)
 marks_behind f place StreamEnd l e h = refl
 marks_behind f place DocumentStart l e h = refl
@@ -54,13 +54,13 @@ marks_behind f place _ l e h = elim h [ ]
 ended_behind : (f : Spans) (marks : List Kind) (j : Kind) (l : List Kind) (e : Memory) → AreMarks marks → IsBehind j
     → event_step (at f (ByteOrderMark ∷ (marks ++ j ∷ l)) state.DocumentEnd [] e)
     ≡ document_end_at j (record { span = f l; kind = j }) (at f l state.DocumentEnd [] (closing e))
-unfolding event_step document_end behind_document behind_marks
+unfolding event_step document_end token_behind_document token_behind_marks
 ended_behind f marks j l e a h =
     let s : Span = f (marks ++ j ∷ l) in
-    ap (λ (r : Result (Piece × Machine) Refusal). (r >>= (λ t. behind_marks_at t.0.kind s.start t.0 t.1))
-    >>= (λ t. document_end_at t.0.kind t.0 (forget_prefixes t.1)))
+    ap (λ (r : Result (Piece × Machine) Refusal). (r >>= (λ t. token_behind_marks_at t.0.kind s.start t.0 t.1))
+    >>= (λ t. document_end_at t.0.kind t.0 (without_prefixes t.1)))
     (passes is_mark marks f j l state.DocumentEnd [] e (marks_pass marks a) (behind_is_no_mark j h))
-    ∙ ap (λ (r : Result (Piece × Machine) Refusal). r >>= (λ t. document_end_at t.0.kind t.0 (forget_prefixes t.1)))
+    ∙ ap (λ (r : Result (Piece × Machine) Refusal). r >>= (λ t. document_end_at t.0.kind t.0 (without_prefixes t.1)))
     (marks_behind f s j l e h)
 
 ended_all : (f : Spans) (marks : List Kind) (j : Kind) (l : List Kind) (e : Memory) → AreMarks marks → IsBehind j

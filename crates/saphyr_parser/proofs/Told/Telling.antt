@@ -12,7 +12,7 @@ use Rattle.saphyr_parser.specs.declared.parser.state.State.TheVariants.{End}
 use Rattle.saphyr_parser.specs.Events.{Happening}
 use Rattle.saphyr_parser.specs.Steps.Machine.{Names, Anchors, Machine, Told}
 use Rattle.saphyr_parser.specs.Steps.Expected.{event_step}
-use Rattle.saphyr_parser.specs.Answer.{with_first_event, deliver, remaining_answer}
+use Rattle.saphyr_parser.specs.Answer.{with_first_event, answer_of_step, remaining_answer}
 use Rattle.saphyr_parser.specs.Exactly.{GivesExactly, kinds}
 use Rattle.saphyr_parser.proofs.Unroll.{unroll, over}
 
@@ -82,7 +82,7 @@ pub tells : (m : Machine) (x : Told) (es : List Happening) → m.state ≢ End �
     → GivesExactly es (remaining_answer x.machine) → GivesExactly (x.what ∷ es) (remaining_answer m)
 tells m x es more e h =
     let all : remaining_answer m ≡ with_first_event (x.what, x.span) (remaining_answer x.machine) =
-    unroll m more ∙ ap (λ (r : Result Told Refusal). deliver r remaining_answer) e in
+    unroll m more ∙ ap (λ (r : Result Told Refusal). answer_of_step r remaining_answer) e in
     subst (λ a. GivesExactly (x.what ∷ es) a) (sym all) (h.0, ap (λ l. x.what ∷ l) h.1)
 
 pub ends : (m : Machine) → m.state ≡ End → GivesExactly [] (remaining_answer m)

@@ -22,7 +22,7 @@ use Rattle.saphyr_parser.specs.Anchors.{one_more_anchor}
 use Rattle.saphyr_parser.specs.Preorder.{Part, Leaf, OpenSequence, CloseSequence, OpenMapping, CloseMapping}
 use Rattle.saphyr_parser.specs.Events.{Happening, ResolvedTag, Scalar, SequenceStart, MappingStart}
 use Rattle.saphyr_parser.specs.Exactly.{kinds}
-use Rattle.saphyr_parser.specs.Steps.Nodes.{NodeProperties, has_property, without_content}
+use Rattle.saphyr_parser.specs.Steps.Nodes.{NodeProperties, has_property, node_without_content}
 use Rattle.saphyr_parser.proofs.Told.Telling.{Memory}
 use Rattle.saphyr_parser.proofs.Remembering.{noted, own_id, with_properties}
 use Rattle.saphyr_parser.proofs.Told.Nodes.{Has}
@@ -123,7 +123,7 @@ has_one (Some a) (Some g) e q h t = tt
 pub alone_turned : (t : Piece) (front : List Piece) (p : forest.Properties) (q : NodeProperties) (c : NodeContext)
     (ts : List Piece) (r : Option Refusal) (x : State) (s : State) (ss : List State) (e : Memory) → Fronted e p q front
     → IsAlive s ss → Turned (NodeThen c s ss) e (front ++ t ∷ ts)
-    (without_content q t (machine ts r x (s ∷ ss) (noted p.anchor e)))
+    (node_without_content q t (machine ts r x (s ∷ ss) (noted p.anchor e)))
 alone_turned t front p q c ts r x s ss e h a = by (has_property q) refl
   where
     by : (b : Bool) → has_property q ≡ b

@@ -18,7 +18,7 @@ use Rattle.saphyr_parser.specs.Preorder.{Part, CloseDocument}
 use Rattle.saphyr_parser.specs.Exactly.{kinds}
 use Rattle.saphyr_parser.specs.Steps.Machine.{◌>>=◌, Machine, with_pieces}
 use Rattle.saphyr_parser.specs.Steps.Expected.{block_node}
-use Rattle.saphyr_parser.specs.Steps.Documents.{is_mark, unpassed_token_from, unpassed_token, no_content, document_content_at, document_content, behind_marks_at, behind_marks, behind_document_at, behind_document, forget_prefixes, document_end_at, document_end}
+use Rattle.saphyr_parser.specs.Steps.Documents.{is_mark, unpassed_token_from, unpassed_token, no_content, document_content_at, document_content, token_behind_marks_at, token_behind_marks, token_behind_document_at, token_behind_document, without_prefixes, document_end_at, document_end}
 use Rattle.saphyr_parser.specs.WellFormed.{AreWellFormed}
 use Rattle.saphyr_parser.proofs.Told.Telling.{Memory}
 use Rattle.saphyr_parser.proofs.Turned.Following.{Then, IsNodeOf, IsOptionalOf, AreExplicit, Outside, Follows, IsAlive, IsFree, BeginsFreely}
@@ -112,32 +112,32 @@ marks_passed (t ∷ ts) m = by (is_mark t.kind) refl (marks_passed ts (with_piec
 
 behind_at : (k : Kind) (sp : Span) (place : Marker) (n : Machine) (ts : List Piece) (m : Machine)
     → Marked ts m (record { span = sp; kind = k }) n
-    → MarkedBy ts m (behind_marks_at k place (record { span = sp; kind = k }) n)
+    → MarkedBy ts m (token_behind_marks_at k place (record { span = sp; kind = k }) n)
 behind_at tokens.DocumentStart sp place n ts m h = h
 behind_at tokens.DocumentEnd sp place n ts m h = h
 behind_at tokens.StreamEnd sp place n ts m h = h
 behind_at _ sp place n ts m h = tt
 
 behind_some : (res : Result (Piece × Machine) Refusal) (place : Marker) (ts : List Piece) (m : Machine)
-    → MarkedBy ts m res → MarkedBy ts m (res >>= (λ t. behind_marks_at t.0.kind place t.0 t.1))
+    → MarkedBy ts m res → MarkedBy ts m (res >>= (λ t. token_behind_marks_at t.0.kind place t.0 t.1))
 behind_some (Err f) place ts m h = tt
 behind_some (Ok y) place ts m h = behind_at y.0.kind y.0.span place y.1 ts m h
 
 behind_all : (place : Marker) (ts : List Piece) (m : Machine)
-    → MarkedBy ts (with_pieces ts m) (behind_marks place (with_pieces ts m))
-unfolding behind_marks unpassed_token
+    → MarkedBy ts (with_pieces ts m) (token_behind_marks place (with_pieces ts m))
+unfolding token_behind_marks unpassed_token
 behind_all place ts m = behind_some _ place ts (with_pieces ts m) (marks_passed ts (with_pieces ts m))
 
 document_at : (k : Kind) (sp : Span) (ts : List Piece) (m : Machine)
     → MarkedBy (record { span = sp; kind = k } ∷ ts) m
-    (behind_document_at k (record { span = sp; kind = k }) (with_pieces ts m))
+    (token_behind_document_at k (record { span = sp; kind = k }) (with_pieces ts m))
 document_at tokens.ByteOrderMark sp ts m =
     one_more_mark (record { span = sp; kind = tokens.ByteOrderMark }) ts m _ refl (behind_all sp.start ts m)
 document_at _ sp ts m = record { marks = []; rest = ts; are = refl; are_marks = tt; no_mark = refl; leaves = refl }
 
 behind_turned : (ts : List Piece) (r : Option Refusal) (x : State) (e : Memory)
-    → MarkedBy ts (machine ts r x [] e) (behind_document (machine ts r x [] e))
-unfolding behind_document
+    → MarkedBy ts (machine ts r x [] e) (token_behind_document (machine ts r x [] e))
+unfolding token_behind_document
 behind_turned [] r x e = tt
 behind_turned (t ∷ ts) r x e = document_at t.kind t.span ts (machine (t ∷ ts) r x [] e)
 
@@ -206,10 +206,10 @@ without_end marks ks ps a f b =
 
 end_at_turned : (k : Kind) (sp : Span) (n : Machine) (ts : List Piece) (r : Option Refusal) (x : State) (e : Memory)
     → Marked ts (machine ts r x [] e) (record { span = sp; kind = k }) n
-    → Turned (Outside state.DocumentEnd) e ts (document_end_at k (record { span = sp; kind = k }) (forget_prefixes n))
+    → Turned (Outside state.DocumentEnd) e ts (document_end_at k (record { span = sp; kind = k }) (without_prefixes n))
 end_at_turned tokens.DocumentEnd sp n ts r x e h =
     subst (λ (m : Machine). Turned (Outside state.DocumentEnd) e ts
-    (document_end_at tokens.DocumentEnd (record { span = sp; kind = tokens.DocumentEnd }) (forget_prefixes m)))
+    (document_end_at tokens.DocumentEnd (record { span = sp; kind = tokens.DocumentEnd }) (without_prefixes m)))
     (sym h.leaves)
     (record {
       used = h.marks ++ record { span = sp; kind = tokens.DocumentEnd } ∷ [];
@@ -243,7 +243,7 @@ end_at_turned (tokens.ReservedDirective name) sp n ts r x e h = tt
 end_at_turned tokens.ByteOrderMark sp n ts r x e h = absurd (let no_way : true ≡ false = h.no_mark in cc)
 end_at_turned k sp n ts r x e h =
     subst (λ (m : Machine). Turned (Outside state.DocumentEnd) e ts
-    (document_end_at k (record { span = sp; kind = k }) (forget_prefixes m))) (sym h.leaves)
+    (document_end_at k (record { span = sp; kind = k }) (without_prefixes m))) (sym h.leaves)
     (record {
       used = h.marks;
       part =
@@ -268,7 +268,7 @@ end_at_turned k sp n ts r x e h =
 
 end_behind : (res : Result (Piece × Machine) Refusal) (ts : List Piece) (r : Option Refusal) (x : State) (e : Memory)
     → MarkedBy ts (machine ts r x [] e) res
-    → Turned (Outside state.DocumentEnd) e ts (res >>= (λ t. document_end_at t.0.kind t.0 (forget_prefixes t.1)))
+    → Turned (Outside state.DocumentEnd) e ts (res >>= (λ t. document_end_at t.0.kind t.0 (without_prefixes t.1)))
 end_behind (Err f) ts r x e h = tt
 end_behind (Ok y) ts r x e h = end_at_turned y.0.kind y.0.span y.1 ts r x e h
 

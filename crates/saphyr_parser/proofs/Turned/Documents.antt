@@ -18,7 +18,7 @@ use Rattle.saphyr_parser.specs.Preorder.{Part, OpenStream, CloseStream, OpenDocu
 use Rattle.saphyr_parser.specs.Events as events
 use Rattle.saphyr_parser.specs.Exactly.{kinds}
 use Rattle.saphyr_parser.specs.Steps.Machine.{◌>>=◌, Machine, Told, with_pieces}
-use Rattle.saphyr_parser.specs.Steps.Documents.{is_end_or_mark, unpassed_token_from, unpassed_token, none_declared, directives, stream_start_at, stream_start, explicit_at, explicit_document, bare_document, implicit_start_at, implicit_start, explicit_start_at, explicit_start}
+use Rattle.saphyr_parser.specs.Steps.Documents.{is_end_or_mark, unpassed_token_from, unpassed_token, none_declared, directives, stream_start_at, stream_start, explicit_document_at, explicit_document, bare_document, implicit_start_at, implicit_start, explicit_start_at, explicit_start}
 use Rattle.saphyr_parser.specs.WellFormed.{AreWellFormed}
 use Rattle.saphyr_parser.proofs.Told.Telling.{Memory}
 use Rattle.saphyr_parser.proofs.Remembering.{event_in}
@@ -155,10 +155,10 @@ explicit_makes ts ds used rest u ks ps e q k c h =
 
 explicit_at_turned : (k : Kind) (sp : Span) (n : Machine) (ts : List Piece) (r : Option Refusal) (x : State)
     (e : Memory) → Passed ts none_declared (machine ts r x [] e) (record { span = sp; kind = k }) n
-    → Turned (Explicit (kinds ts)) e ts (explicit_at k (record { span = sp; kind = k }) n)
+    → Turned (Explicit (kinds ts)) e ts (explicit_document_at k (record { span = sp; kind = k }) n)
 explicit_at_turned tokens.DocumentStart sp n ts r x e h =
     subst (λ (m : Machine). Turned (Explicit (kinds ts)) e ts
-    (explicit_at tokens.DocumentStart (record { span = sp; kind = tokens.DocumentStart }) m)) (sym h.leaves)
+    (explicit_document_at tokens.DocumentStart (record { span = sp; kind = tokens.DocumentStart }) m)) (sym h.leaves)
     (record {
       used = h.used ++ record { span = sp; kind = tokens.DocumentStart } ∷ [];
       part = OpenDocument true h.directives;
@@ -184,7 +184,7 @@ explicit_at_turned _ sp n ts r x e h = tt
 
 explicit_behind : (res : Result (Piece × Machine) Refusal) (ts : List Piece) (r : Option Refusal) (x : State)
     (e : Memory) → PassedBy ts none_declared (machine ts r x [] e) res
-    → Turned (Explicit (kinds ts)) e ts (res >>= (λ u. explicit_at u.0.kind u.0 u.1))
+    → Turned (Explicit (kinds ts)) e ts (res >>= (λ u. explicit_document_at u.0.kind u.0 u.1))
 explicit_behind (Err f) ts r x e h = tt
 explicit_behind (Ok y) ts r x e h = explicit_at_turned y.0.kind y.0.span y.1 ts r x e h
 

@@ -15,7 +15,7 @@ use Rattle.saphyr_parser.specs.Anchors.{anchors}
 use Rattle.saphyr_parser.specs.Preorder.{Part, Leaf, node_parts}
 use Rattle.saphyr_parser.specs.Exactly.{kinds}
 use Rattle.saphyr_parser.specs.Events.{Happening}
-use Rattle.saphyr_parser.specs.Steps.Machine.{told, left_out_event, pop}
+use Rattle.saphyr_parser.specs.Steps.Machine.{told_event, left_out_event, pop}
 use Rattle.saphyr_parser.specs.Steps.Nodes.{node_inside}
 use Rattle.saphyr_parser.specs.WellFormed.{AreWellFormed}
 use Rattle.saphyr_parser.proofs.Told.Telling.{Memory}
@@ -97,7 +97,7 @@ pub ends : (F : List Kind → List Part → Type 0) (t : Piece) (what : Happenin
     (ts : List Piece) (r : Option Refusal) (x s : State) (ss : List State) (e : Memory) → event_in e closing ≡ Some what
     → after closing e ≡ e → anchors (closing ∷ []) ≡ 0 → BelongsToNone t.kind → IsOf what sp [] ts → IsAlive s ss
     → ((ks : List Kind) (ps : List Part) → Follows s ss ks ps → F (t.kind ∷ ks) (closing ∷ ps))
-    → Turned F e (t ∷ ts) (told what sp (pop (machine ts r x (s ∷ ss) e)))
+    → Turned F e (t ∷ ts) (told_event what sp (pop (machine ts r x (s ∷ ss) e)))
 ends F t what closing sp ts r x s ss e tells same none b o a go =
     record {
       used = t ∷ [];

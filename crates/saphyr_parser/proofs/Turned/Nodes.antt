@@ -21,8 +21,8 @@ use Rattle.saphyr_parser.specs.Preorder.{Part, Reference, OpenSequence, CloseSeq
 use Rattle.saphyr_parser.specs.Events.{ResolvedTag, Alias, SequenceStart}
 use Rattle.saphyr_parser.specs.Exactly.{kinds}
 use Rattle.saphyr_parser.specs.Steps.Machine.{◌>>=◌, taken_token, meaning, next_id}
-use Rattle.saphyr_parser.specs.Steps.Tags.{resolved}
-use Rattle.saphyr_parser.specs.Steps.Nodes.{NodeProperties, no_node_properties, node_content_at, node_content, next_content, alias_of, alias_node, behind_anchor_at, behind_anchor, behind_tag_at, behind_tag, node_at, node}
+use Rattle.saphyr_parser.specs.Steps.Tags.{resolved_tag_at}
+use Rattle.saphyr_parser.specs.Steps.Nodes.{NodeProperties, no_node_properties, node_content_at, node_content, next_content, alias_of, alias_node, node_behind_anchor_at, node_behind_anchor, node_behind_tag_at, node_behind_tag, node_at, node}
 use Rattle.saphyr_parser.specs.WellFormed.{IsWellFormed, AreWellFormed}
 use Rattle.saphyr_parser.proofs.Told.Telling.{Memory}
 use Rattle.saphyr_parser.proofs.Remembering.{noted, resolve}
@@ -269,7 +269,7 @@ both_front text g v t u e (inr k) h =
 -- a tag behind an anchor
 tag_behind : (rr : Result ResolvedTag Refusal) (text handle suffix : List ℕ) (t : Piece) (sp : Span) (c : NodeContext)
     (us : List Piece) (r : Option Refusal) (x : State) (s : State) (ss : List State) (e : Memory)
-    → t.kind ≡ tokens.Anchor (encode_utf8_all text) → resolved e.prefixes handle suffix t.span.start ≡ rr
+    → t.kind ≡ tokens.Anchor (encode_utf8_all text) → resolved_tag_at e.prefixes handle suffix t.span.start ≡ rr
     → (tag : Tag) × (tokens.Tag handle suffix ≡ tag_token tag) → AreWellFormed us → Suits c s → IsAlive s ss
     → Turned (NodeThen c s ss) e (t ∷ record { span = sp; kind = tokens.Tag handle suffix } ∷ us)
     (rr >>= (λ tag. next_content
@@ -287,11 +287,11 @@ behind_anchor_turned : (k : Kind) (sp : Span) (text : List ℕ) (t : Piece) (c :
     (r : Option Refusal) (x : State) (s : State) (ss : List State) (e : Memory)
     → t.kind ≡ tokens.Anchor (encode_utf8_all text) → IsWellFormed k → AreWellFormed us → Suits c s → IsAlive s ss
     → Turned (NodeThen c s ss) e (t ∷ record { span = sp; kind = k } ∷ us)
-    (behind_anchor_at k (next_id e.anchors) t.span c (record { span = sp; kind = k })
+    (node_behind_anchor_at k (next_id e.anchors) t.span c (record { span = sp; kind = k })
     (machine us r x (s ∷ ss) (noted (Some text) e)))
 unfolding node_content
 behind_anchor_turned (tokens.Tag handle suffix) sp text t c us r x s ss e h wk w z a =
-    tag_behind (resolved e.prefixes handle suffix t.span.start) text handle suffix t sp c us r x s ss e h refl wk w z a
+    tag_behind (resolved_tag_at e.prefixes handle suffix t.span.start) text handle suffix t sp c us r x s ss e h refl wk w z a
 behind_anchor_turned k sp text t c us r x s ss e h wk w z a =
     content_turned k sp (t ∷ []) (record { anchor = Some text; tag = None }) _ c us r x s ss e wk z
     (anchor_front text t e h) tt a
@@ -299,8 +299,8 @@ behind_anchor_turned k sp text t c us r x s ss e h wk w z a =
 anchored_turned : (ts : List Piece) (text : List ℕ) (t : Piece) (c : NodeContext) (r : Option Refusal) (x : State)
     (s : State) (ss : List State) (e : Memory) → t.kind ≡ tokens.Anchor (encode_utf8_all text) → AreWellFormed ts
     → Suits c s → IsAlive s ss
-    → Turned (NodeThen c s ss) e (t ∷ ts) (behind_anchor (encode_utf8_all text) t.span c (machine ts r x (s ∷ ss) e))
-unfolding behind_anchor
+    → Turned (NodeThen c s ss) e (t ∷ ts) (node_behind_anchor (encode_utf8_all text) t.span c (machine ts r x (s ∷ ss) e))
+unfolding node_behind_anchor
 anchored_turned [] text t c r x s ss e h w z a = tt
 anchored_turned (u ∷ us) text t c r x s ss e h w z a =
     behind_anchor_turned u.kind u.span text t c us r x s ss e h w.0 w.2 z a
@@ -311,11 +311,11 @@ behind_tag_turned : (k : Kind) (sp : Span) (g : Tag) (v : ResolvedTag) (t : Piec
     (r : Option Refusal) (x : State) (s : State) (ss : List State) (e : Memory) → t.kind ≡ tag_token g
     → resolve e.prefixes g ≡ Some v → IsWellFormed k → AreWellFormed us → Suits c s → IsAlive s ss
     → Turned (NodeThen c s ss) e (t ∷ record { span = sp; kind = k } ∷ us)
-    (behind_tag_at k v t.span c (record { span = sp; kind = k }) (machine us r x (s ∷ ss) e))
+    (node_behind_tag_at k v t.span c (record { span = sp; kind = k }) (machine us r x (s ∷ ss) e))
 unfolding node_content
 behind_tag_turned (tokens.Anchor name) sp g v t c us r x s ss e h found wk w z a =
     subst (λ (n : List ℕ). Turned (NodeThen c s ss) e (t ∷ record { span = sp; kind = tokens.Anchor n } ∷ us)
-    (behind_tag_at (tokens.Anchor n) v t.span c (record { span = sp; kind = tokens.Anchor n })
+    (node_behind_tag_at (tokens.Anchor n) v t.span c (record { span = sp; kind = tokens.Anchor n })
     (machine us r x (s ∷ ss) e))) (sym wk.1)
     (next_turned us (t ∷ record { span = sp; kind = tokens.Anchor (encode_utf8_all wk.0) } ∷ [])
     (record { anchor = Some wk.0; tag = Some g }) _ c r x s ss e w z
@@ -330,7 +330,7 @@ tagged_from : (ts : List Piece) (g : Tag) (v : ResolvedTag) (t : Piece) (c : Nod
     (s : State) (ss : List State) (e : Memory) → t.kind ≡ tag_token g → resolve e.prefixes g ≡ Some v → AreWellFormed ts
     → Suits c s → IsAlive s ss
     → Turned (NodeThen c s ss) e (t ∷ ts)
-    (taken_token (machine ts r x (s ∷ ss) e) >>= (λ u. behind_tag_at u.0.kind v t.span c u.0 u.1))
+    (taken_token (machine ts r x (s ∷ ss) e) >>= (λ u. node_behind_tag_at u.0.kind v t.span c u.0 u.1))
 tagged_from [] g v t c r x s ss e h found w z a = tt
 tagged_from (u ∷ us) g v t c r x s ss e h found w z a =
     behind_tag_turned u.kind u.span g v t c us r x s ss e h found w.0 w.2 z a
@@ -338,10 +338,10 @@ tagged_from (u ∷ us) g v t c r x s ss e h found w z a =
 tagged_turned : (rr : Result ResolvedTag Refusal) (handle suffix : List ℕ) (sp : Span) (ts : List Piece)
     (c : NodeContext)
     (r : Option Refusal) (x : State) (s : State) (ss : List State) (e : Memory)
-    → resolved e.prefixes handle suffix sp.start ≡ rr → (tag : Tag) × (tokens.Tag handle suffix ≡ tag_token tag)
+    → resolved_tag_at e.prefixes handle suffix sp.start ≡ rr → (tag : Tag) × (tokens.Tag handle suffix ≡ tag_token tag)
     → AreWellFormed ts → Suits c s → IsAlive s ss
     → Turned (NodeThen c s ss) e (record { span = sp; kind = tokens.Tag handle suffix } ∷ ts)
-    (rr >>= (λ tag. taken_token (machine ts r x (s ∷ ss) e) >>= (λ u. behind_tag_at u.0.kind tag sp c u.0 u.1)))
+    (rr >>= (λ tag. taken_token (machine ts r x (s ∷ ss) e) >>= (λ u. node_behind_tag_at u.0.kind tag sp c u.0 u.1)))
 tagged_turned (Err f) handle suffix sp ts c r x s ss e q g w z a = tt
 tagged_turned (Ok v) handle suffix sp ts c r x s ss e q g w z a =
     let found : Stands e.prefixes handle suffix v = stands e.prefixes handle suffix sp.start v g q in
@@ -354,7 +354,7 @@ node_at_turned : (k : Kind) (sp : Span) (c : NodeContext) (ts : List Piece) (r :
     (ss : List State) (e : Memory) → IsWellFormed k → AreWellFormed ts → Suits c s → IsAlive s ss
     → Turned (NodeThen c s ss) e (record { span = sp; kind = k } ∷ ts)
     (node_at k c (record { span = sp; kind = k }) (machine ts r x (s ∷ ss) e))
-unfolding alias_node behind_tag node_content
+unfolding alias_node node_behind_tag node_content
 node_at_turned (tokens.Alias name) sp c ts r x s ss e wk w z a =
     subst (λ (n : List ℕ). Turned (NodeThen c s ss) e (record { span = sp; kind = tokens.Alias n } ∷ ts)
     (alias_node n sp (machine ts r x (s ∷ ss) e))) (sym wk.1)
@@ -362,11 +362,11 @@ node_at_turned (tokens.Alias name) sp c ts r x s ss e wk w z a =
     (record { span = sp; kind = tokens.Alias (encode_utf8_all wk.0) }) c ts r x s ss e refl refl a)
 node_at_turned (tokens.Anchor name) sp c ts r x s ss e wk w z a =
     subst (λ (n : List ℕ). Turned (NodeThen c s ss) e (record { span = sp; kind = tokens.Anchor n } ∷ ts)
-    (behind_anchor n sp c (machine ts r x (s ∷ ss) e))) (sym wk.1)
+    (node_behind_anchor n sp c (machine ts r x (s ∷ ss) e))) (sym wk.1)
     (anchored_turned ts wk.0 (record { span = sp; kind = tokens.Anchor (encode_utf8_all wk.0) }) c r x s ss e refl w z
     a)
 node_at_turned (tokens.Tag handle suffix) sp c ts r x s ss e wk w z a =
-    tagged_turned (resolved e.prefixes handle suffix sp.start) handle suffix sp ts c r x s ss e refl wk w z a
+    tagged_turned (resolved_tag_at e.prefixes handle suffix sp.start) handle suffix sp ts c r x s ss e refl wk w z a
 node_at_turned k sp c ts r x s ss e wk w z a =
     content_turned k sp [] forest.no_properties (no_node_properties sp.start) c ts r x s ss e wk z
     (record {

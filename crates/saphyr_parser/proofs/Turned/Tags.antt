@@ -17,7 +17,7 @@ use Rattle.saphyr_scanner.specs.Grammar.Tokens as tokens
 use Rattle.saphyr_scanner.specs.Grammar.Tokens.{tag_token}
 use Rattle.saphyr_parser.specs.Events.{ResolvedTag}
 use Rattle.saphyr_parser.specs.Steps.Machine.{◌>>=◌, Names, meaning}
-use Rattle.saphyr_parser.specs.Steps.Tags.{is_named_handle, undeclared, declared_or, declared_prefix, resolved}
+use Rattle.saphyr_parser.specs.Steps.Tags.{is_named_handle, undeclared_prefix, declared_prefix_or, declared_prefix, resolved_tag_at}
 use Rattle.saphyr_parser.specs.TagResolution.{default_prefix}
 use Rattle.saphyr_parser.proofs.Told.Nodes.{handle_is_some, has_handle}
 use Rattle.saphyr_parser.proofs.Remembering.{resolve}
@@ -48,7 +48,7 @@ named_handle word = ap is_named_handle (sym (scalar.handle_bytes word)) ∙ name
 prefix_found : (o : Option (List ℕ)) (u : Result (List ℕ) Refusal) (d : Option (List ℕ)) (suffix : List ℕ)
     (v : ResolvedTag)
     → ((prefix : List ℕ) → u ≡ Ok prefix → d ≡ Some prefix)
-    → (declared_or o u >>= (λ prefix. let x : Result ResolvedTag Refusal =
+    → (declared_prefix_or o u >>= (λ prefix. let x : Result ResolvedTag Refusal =
     Ok (record { handle = prefix; suffix = suffix }) in x)) ≡ Ok v
     → option_map (λ prefix. let t : ResolvedTag = record { handle = prefix; suffix = suffix } in t) (option_or o d)
     ≡ Some v
@@ -60,14 +60,14 @@ prefix_found None (Err f) d suffix v h e = absurd (cc)
 
 -- a handle whose default is that of the machine
 shorthand : (handle : Handle) (suffix : List ℕ) (names : Names (List ℕ)) (place : Marker) (v : ResolvedTag)
-    → ((prefix : List ℕ) → undeclared (handle_bytes handle) place ≡ Ok prefix → default_prefix handle ≡ Some prefix)
-    → resolved names (handle_bytes handle) (encode_utf8_all suffix) place ≡ Ok v
+    → ((prefix : List ℕ) → undeclared_prefix (handle_bytes handle) place ≡ Ok prefix → default_prefix handle ≡ Some prefix)
+    → resolved_tag_at names (handle_bytes handle) (encode_utf8_all suffix) place ≡ Ok v
     → Stands names (handle_bytes handle) (encode_utf8_all suffix) v
-unfolding resolved
+unfolding resolved_tag_at
 shorthand handle suffix names place v h e = record {
   tag = Shorthand handle suffix;
   token = refl;
-  resolves = prefix_found (meaning (handle_bytes handle) names) (undeclared (handle_bytes handle) place)
+  resolves = prefix_found (meaning (handle_bytes handle) names) (undeclared_prefix (handle_bytes handle) place)
       (default_prefix handle) (encode_utf8_all suffix) v h
       (ap (λ (p : Result (List ℕ) Refusal). p
       >>= (λ prefix. let x : Result ResolvedTag Refusal =
@@ -75,12 +75,12 @@ shorthand handle suffix names place v h e = record {
       (sym (has_handle (handle_bytes handle) names place (handle_is_some handle))) ∙ e);
 }
 
-primary_default : (place : Marker) (prefix : List ℕ) → undeclared (handle_bytes Primary) place ≡ Ok prefix
+primary_default : (place : Marker) (prefix : List ℕ) → undeclared_prefix (handle_bytes Primary) place ≡ Ok prefix
     → default_prefix Primary ≡ Some prefix
 unfolding encode
 primary_default place prefix h = cc
 
-secondary_default : (place : Marker) (prefix : List ℕ) → undeclared (handle_bytes Secondary) place ≡ Ok prefix
+secondary_default : (place : Marker) (prefix : List ℕ) → undeclared_prefix (handle_bytes Secondary) place ≡ Ok prefix
     → default_prefix Secondary ≡ Some prefix
 unfolding encode
 secondary_default place prefix h = cc
@@ -91,19 +91,19 @@ secondary_bytes = refl
 
 refuses : (place : Marker) (handle prefix : List ℕ) → bytes_eq handle (codes "!!") ≡ false → is_named_handle handle ≡
     true
-    → undeclared handle place ≡ Ok prefix → ⊥
+    → undeclared_prefix handle place ≡ Ok prefix → ⊥
 refuses place handle prefix a b h =
-    let no : undeclared handle place ≡ Err (record { text = fault.UndeclaredHandle; mark = place }) =
+    let no : undeclared_prefix handle place ≡ Err (record { text = fault.UndeclaredHandle; mark = place }) =
     rw (a, b) refl in cc
 
 named_stands : (word suffix : List ℕ) (names : Names (List ℕ)) (place : Marker) (v : ResolvedTag) (b : Bool)
     → bytes_eq (handle_bytes (Named word)) (codes "!!") ≡ b
-    → resolved names (handle_bytes (Named word)) (encode_utf8_all suffix) place ≡ Ok v
+    → resolved_tag_at names (handle_bytes (Named word)) (encode_utf8_all suffix) place ≡ Ok v
     → Stands names (handle_bytes (Named word)) (encode_utf8_all suffix) v
 named_stands word suffix names place v true q e =
     let same : handle_bytes Secondary ≡ handle_bytes (Named word) =
     secondary_bytes ∙ sym ((bytes_eq-Decides (handle_bytes (Named word)) (codes "!!")).0 q) in
-    subst (λ (h : List ℕ). resolved names h (encode_utf8_all suffix) place ≡ Ok v
+    subst (λ (h : List ℕ). resolved_tag_at names h (encode_utf8_all suffix) place ≡ Ok v
     → Stands names h (encode_utf8_all suffix) v) same
     (shorthand Secondary suffix names place v (secondary_default place)) e
 named_stands word suffix names place v false q e =
@@ -133,8 +133,8 @@ same : (a b : ResolvedTag) → (let r : Result ResolvedTag Refusal = Ok a in r) 
 same a b h = cc
 
 tag_stands : (tag : Tag) (names : Names (List ℕ)) (place : Marker) (v : ResolvedTag)
-    → resolved names (front tag) (back tag) place ≡ Ok v → Stands names (front tag) (back tag) v
-unfolding resolved declared_prefix
+    → resolved_tag_at names (front tag) (back tag) place ≡ Ok v → Stands names (front tag) (back tag) v
+unfolding resolved_tag_at declared_prefix
 tag_stands NonSpecific names place v e = record { tag = NonSpecific; token = refl; resolves = same _ v e }
 tag_stands (Verbatim uri) names place v e = record { tag = Verbatim uri; token = refl; resolves = same _ v e }
 tag_stands (Shorthand Primary suffix) names place v e = shorthand Primary suffix names place v (primary_default place) e
@@ -147,11 +147,11 @@ tag_parts : (a b c d : List ℕ) → tokens.Tag a b ≡ tokens.Tag c d → (a �
 tag_parts a b c d e = ((cc), (cc))
 
 pub stands : (names : Names (List ℕ)) (handle suffix : List ℕ) (place : Marker) (v : ResolvedTag)
-    → (tag : Tag) × (tokens.Tag handle suffix ≡ tag_token tag) → resolved names handle suffix place ≡ Ok v
+    → (tag : Tag) × (tokens.Tag handle suffix ≡ tag_token tag) → resolved_tag_at names handle suffix place ≡ Ok v
     → Stands names handle suffix v
 stands names handle suffix place v h e =
     let parts : (handle ≡ front h.0) × (suffix ≡ back h.0) = tag_parts handle suffix (front h.0) (back h.0)
     (h.1 ∙ sym (token_is h.0)) in
-    subst (λ (x : List ℕ). resolved names x suffix place ≡ Ok v → Stands names x suffix v) (sym parts.0)
-    (subst (λ (y : List ℕ). resolved names (front h.0) y place ≡ Ok v → Stands names (front h.0) y v) (sym parts.1)
+    subst (λ (x : List ℕ). resolved_tag_at names x suffix place ≡ Ok v → Stands names x suffix v) (sym parts.0)
+    (subst (λ (y : List ℕ). resolved_tag_at names (front h.0) y place ≡ Ok v → Stands names (front h.0) y v) (sym parts.1)
     (tag_stands h.0 names place v)) e

@@ -12,7 +12,7 @@ use Rattle.saphyr_parser.specs.declared.parser.state.State.TheVariants as state
 use Rattle.saphyr_parser.specs.Events.{Happening}
 use Rattle.saphyr_parser.specs.Steps.Machine.{Machine, Told}
 use Rattle.saphyr_parser.specs.Steps.Expected.{block_node, event_step, event_step_at}
-use Rattle.saphyr_parser.specs.Answer.{Answer, Ending, deliver, ending_of, unless_ended, answer_of_steps, weight_before}
+use Rattle.saphyr_parser.specs.Answer.{Answer, Ending, answer_of_step, ending_of, answer_unless_ended, answer_of_steps, weight_before}
 use Rattle.saphyr_parser.proofs.Walk.Steps.{Walk, HasPlace, Of, Stands, Gives, taken}
 use Rattle.saphyr_parser.proofs.Walk.Nodes.{nodes}
 use Rattle.saphyr_parser.proofs.Walk.Block as block
@@ -66,12 +66,12 @@ module _ (w : Walk) where
   nothing : Holds (record { events = []; fault = None })
   nothing = record { spans = All-nil (λ (e : Happening × Span). w.Spans e.1.start e.1.end); fault = tt }
 
-  unless_over : (s : State) (a : Answer) → (s ≢ state.End → Holds a) → Holds (unless_ended s a)
+  unless_over : (s : State) (a : Answer) → (s ≢ state.End → Holds a) → Holds (answer_unless_ended s a)
   unless_over state.End a h = nothing
   unless_over _ a h = h (λ e. absurd (cc))
 
   delivers : (r : Result Told Refusal) (go : Machine → Answer) → Gives w r
-      → ((m : Machine) → Stands w m → Holds (go m)) → Holds (deliver r go)
+      → ((m : Machine) → Stands w m → Holds (go m)) → Holds (answer_of_step r go)
   delivers (Err f) go g h =
       record { spans = All-nil (λ (e : Happening × Span). w.Spans e.1.start e.1.end); fault = (f, refl, g) }
   delivers (Ok x) go g h =

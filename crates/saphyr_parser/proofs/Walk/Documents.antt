@@ -9,7 +9,7 @@ use Rattle.saphyr_scanner.specs.Views.Tokens.{Piece}
 use Rattle.saphyr_parser.specs.declared.parser.context.NodeContext.TheVariants.{Block}
 use Rattle.saphyr_parser.specs.declared.parser.state.State.TheVariants as state
 use Rattle.saphyr_parser.specs.Steps.Machine.{◌>>=◌, Machine, Told, Names, taken_token, taken_token_from, with_pieces, put_back, push, is_listed}
-use Rattle.saphyr_parser.specs.Steps.Documents.{unpassed_token, unpassed_token_from, is_mark, is_end_or_mark, Declared, none_declared, is_directive, directive_at, directives, directives_from, stream_start, stream_start_at, forget_anchors, explicit_at, explicit_document, bare_document, implicit_start_at, implicit_start, explicit_start_at, explicit_start, no_content, document_content_at, document_content, behind_marks_at, behind_marks, behind_document_at, behind_document, forget_prefixes, document_end_at, document_end}
+use Rattle.saphyr_parser.specs.Steps.Documents.{unpassed_token, unpassed_token_from, is_mark, is_end_or_mark, Declared, none_declared, is_directive, directive_at, directives, directives_from, stream_start, stream_start_at, without_anchors, explicit_document_at, explicit_document, bare_document, implicit_start_at, implicit_start, explicit_start_at, explicit_start, no_content, document_content_at, document_content, token_behind_marks_at, token_behind_marks, token_behind_document_at, token_behind_document, without_prefixes, document_end_at, document_end}
 use Rattle.saphyr_parser.proofs.Walk.Steps.{Walk, is_end, On, Of, Taken, Gives, own, refused, first, less, behind, pushed, entered, left, over, taken}
 use Rattle.saphyr_parser.proofs.Walk.Nodes.{nodes}
 
@@ -118,11 +118,11 @@ module _ (w : Walk) where
   unfolding stream_start
   stream_starts m a = taken w m _ a (λ t k b. stream_starts_at t.kind t k b)
 
-  explicits_at : (k : Kind) (t : Piece) (m : Machine) → Taken w 10 k t m → Gives w (explicit_at k t m)
+  explicits_at : (k : Kind) (t : Piece) (m : Machine) → Taken w 10 k t m → Gives w (explicit_document_at k t m)
   explicits_at tokens.DocumentStart t m a =
       let b : Of w t.span.end 13 m = behind w m refl (omega arith) a in (
         own w m a,
-        entered w state.DocumentContent (push state.DocumentEnd (forget_anchors m)) tt
+        entered w state.DocumentContent (push state.DocumentEnd (without_anchors m)) tt
             (pushed w state.DocumentEnd tt (omega arith) b),
       )
   explicits_at tokens.ByteOrderMark t m a = refused w m a
@@ -138,7 +138,7 @@ module _ (w : Walk) where
   unfolding bare_document
   bares t m a = (
     own w m a,
-    entered w state.BlockNode (push state.DocumentEnd (forget_anchors (put_back t m))) tt
+    entered w state.BlockNode (push state.DocumentEnd (without_anchors (put_back t m))) tt
         (pushed w state.DocumentEnd tt (omega arith) a.1),
   )
 
@@ -189,27 +189,27 @@ module _ (w : Walk) where
   document_contents m a = taken w m _ a (λ t k b. contents_at t.kind t k b)
 
   marks_at : (k : Kind) (place : Marker) (t : Piece) (m : Machine) → w.Spans place place → Taken w 11 k t m
-      → Hands 11 (behind_marks_at k place t m)
+      → Hands 11 (token_behind_marks_at k place t m)
   marks_at tokens.DocumentStart place t m p a = a.1
   marks_at tokens.DocumentEnd place t m p a = a.1
   marks_at tokens.StreamEnd place t m p a = a.1
   marks_at _ place t m p a = w.fails _ _ p
 
   marks : {low : Marker} (place : Marker) (m : Machine) → w.Spans place place → Of w low 11 m
-      → Hands 11 (behind_marks place m)
-  unfolding behind_marks unpassed_token
+      → Hands 11 (token_behind_marks place m)
+  unfolding token_behind_marks unpassed_token
   marks place m p a =
       hands_on 11 (unpassed_token_from is_mark m.tokens.pieces m) _
       (passes 11 is_mark m.tokens.pieces m mark_is_no_end a)
       (λ t k b. marks_at t.kind place t k p b)
 
-  behinds_at : (k : Kind) (t : Piece) (m : Machine) → Taken w 11 k t m → Hands 11 (behind_document_at k t m)
+  behinds_at : (k : Kind) (t : Piece) (m : Machine) → Taken w 11 k t m → Hands 11 (token_behind_document_at k t m)
   behinds_at tokens.ByteOrderMark t m a =
       marks t.span.start m (w.first _ _ (own w m a)) (behind w m refl (omega arith) a)
   behinds_at _ t m a = a.1
 
-  behinds : {low : Marker} (m : Machine) → Of w low 11 m → Hands 11 (behind_document m)
-  unfolding behind_document
+  behinds : {low : Marker} (m : Machine) → Of w low 11 m → Hands 11 (token_behind_document m)
+  unfolding token_behind_document
   behinds m a = hands_on 11 (taken_token m) _ (takes 11 m.tokens.pieces m a) (λ t k b. behinds_at t.kind t k b)
 
   ends_at : (k : Kind) (t : Piece) (m : Machine) → Taken w 11 k t m → Gives w (document_end_at k t m)
@@ -222,4 +222,4 @@ module _ (w : Walk) where
 
   pub document_ends : {low : Marker} (m : Machine) → Of w low 11 m → Gives w (document_end m)
   unfolding document_end
-  document_ends m a = goes_on 11 (behind_document m) _ (behinds m a) (λ t k b. ends_at t.kind t (forget_prefixes k) b)
+  document_ends m a = goes_on 11 (token_behind_document m) _ (behinds m a) (λ t k b. ends_at t.kind t (without_prefixes k) b)

@@ -15,8 +15,8 @@ use Rattle.saphyr_parser.specs.declared.parser.state.State.{State}
 use Rattle.saphyr_parser.specs.declared.parser.state.State.TheVariants as state
 use Rattle.saphyr_parser.specs.Events.{ResolvedTag}
 use Rattle.saphyr_parser.specs.Steps.Machine.{◌>>=◌, Names, meaning, Machine, Told, put_back}
-use Rattle.saphyr_parser.specs.Steps.Tags.{undeclared, declared_or, declared_prefix, resolved, is_named_handle}
-use Rattle.saphyr_parser.specs.Steps.Nodes.{NodeProperties, no_node_properties, has_property, without_content, node_content, node_content_at, next_content, alias_node, alias_of, register, behind_anchor, behind_anchor_at, behind_tag, behind_tag_at, node, node_at, node_inside}
+use Rattle.saphyr_parser.specs.Steps.Tags.{undeclared_prefix, declared_prefix_or, declared_prefix, resolved_tag_at, is_named_handle}
+use Rattle.saphyr_parser.specs.Steps.Nodes.{NodeProperties, no_node_properties, has_property, node_without_content, node_content, node_content_at, next_content, alias_node, alias_of, register, node_behind_anchor, node_behind_anchor_at, node_behind_tag, node_behind_tag_at, node, node_at, node_inside}
 use Rattle.saphyr_parser.specs.Steps.Contexts.{allows_block, allows_indentless}
 use Rattle.saphyr_parser.specs.Answer.{weight}
 use Rattle.saphyr_parser.proofs.Walk.Steps.{Walk, HasPlace, Of, Taken, Gives, own, refused, put, behind, pushed, entered, left, taken_behind}
@@ -57,7 +57,7 @@ module _ (w : Walk) where
   unless true x y h k = h
   unless false x y h k = k
 
-  or_declared : (o : Option (List ℕ)) (r : Result (List ℕ) Refusal) → At r → At (declared_or o r)
+  or_declared : (o : Option (List ℕ)) (r : Result (List ℕ) Refusal) → At r → At (declared_prefix_or o r)
   or_declared None r h = h
   or_declared (Some x) r h = tt
 
@@ -68,12 +68,12 @@ module _ (w : Walk) where
   suffixed (Err f) suffix h = h
 
   tag_at : (names : Names (List ℕ)) (handle suffix : List ℕ) (place : Marker) → w.Spans place place
-      → At (resolved names handle suffix place)
-  unfolding resolved declared_prefix
+      → At (resolved_tag_at names handle suffix place)
+  unfolding resolved_tag_at declared_prefix
   tag_at names handle suffix place p =
       suffixed (declared_prefix names handle place) suffix
       (unless (nat_eq (length handle) 0) (Ok handle) _ tt
-      (or_declared (meaning handle names) (undeclared handle place)
+      (or_declared (meaning handle names) (undeclared_prefix handle place)
       (unless (bytes_eq handle (codes "!!")) (Ok (codes "tag:yaml.org,2002:")) _ tt
       (unless (is_named_handle handle) (Err (record { text = fault.UndeclaredHandle; mark = place })) (Ok handle)
       (w.fails _ place p) tt))))
@@ -86,7 +86,7 @@ module _ (w : Walk) where
   -- ## Content
 
   no_content : {d : ℕ} {k : Kind} (p : NodeProperties) (t : Piece) (m : Machine) → (has_property p ≡ true → 10 ≤ d)
-      → w.Spans p.start p.behind → Taken w d k t m → Gives w (without_content p t m)
+      → w.Spans p.start p.behind → Taken w d k t m → Gives w (node_without_content p t m)
   no_content p t m l s a =
       either (has_property p) _ _ (λ e. (s, left w (put_back t m) (put w m (l e) a))) (refused w m a)
 
@@ -142,31 +142,31 @@ module _ (w : Walk) where
   aliases (Some id) s m i a = (i, left w m a)
 
   behind_anchors_at : (k : Kind) (id : ℕ) (s : Span) (c : NodeContext) (t : Piece) (m : Machine) → w.Spans s.start s.end
-      → w.Spans s.end t.span.start → Taken w 11 k t m → Gives w (behind_anchor_at k id s c t m)
+      → w.Spans s.end t.span.start → Taken w 11 k t m → Gives w (node_behind_anchor_at k id s c t m)
   behind_anchors_at (tokens.Tag handle suffix) id s c t m i b a =
-      then_gives (resolved m.prefixes handle suffix s.start) _
+      then_gives (resolved_tag_at m.prefixes handle suffix s.start) _
       (tag_at m.prefixes handle suffix s.start (w.first _ _ i))
       (λ v. next_contents _ c m (w.joined _ _ _ i (w.joined _ _ _ b (own w m a))) (behind w m refl (omega arith) a))
   behind_anchors_at _ id s c t m i b a = contents _ c t m i b a
 
   behind_anchors : (name : List ℕ) (s : Span) (c : NodeContext) (m : Machine) → w.Spans s.start s.end → Of w s.end 11 m
-      → Gives w (behind_anchor name s c m)
-  unfolding behind_anchor
+      → Gives w (node_behind_anchor name s c m)
+  unfolding node_behind_anchor
   behind_anchors name s c m i a =
       taken_behind w (register name m) _ a (λ t k b a. behind_anchors_at t.kind _ s c t k i b a)
 
   behind_tags_at : (k : Kind) (v : ResolvedTag) (s : Span) (c : NodeContext) (t : Piece) (m : Machine)
-      → w.Spans s.start s.end → w.Spans s.end t.span.start → Taken w 11 k t m → Gives w (behind_tag_at k v s c t m)
+      → w.Spans s.start s.end → w.Spans s.end t.span.start → Taken w 11 k t m → Gives w (node_behind_tag_at k v s c t m)
   behind_tags_at (tokens.Anchor name) v s c t m i b a =
       next_contents _ c (register name m) (w.joined _ _ _ i (w.joined _ _ _ b (own w m a)))
       (behind w m refl (omega arith) a)
   behind_tags_at _ v s c t m i b a = contents _ c t m i b a
 
   behind_tags : (handle suffix : List ℕ) (s : Span) (c : NodeContext) (m : Machine) → w.Spans s.start s.end
-      → Of w s.end 11 m → Gives w (behind_tag handle suffix s c m)
-  unfolding behind_tag
+      → Of w s.end 11 m → Gives w (node_behind_tag handle suffix s c m)
+  unfolding node_behind_tag
   behind_tags handle suffix s c m i a =
-      then_gives (resolved m.prefixes handle suffix s.start) _
+      then_gives (resolved_tag_at m.prefixes handle suffix s.start) _
       (tag_at m.prefixes handle suffix s.start (w.first _ _ i))
       (λ v. taken_behind w m _ a (λ t k b a. behind_tags_at t.kind v s c t k i b a))
 

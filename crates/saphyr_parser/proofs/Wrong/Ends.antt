@@ -8,7 +8,7 @@ use Rattle.saphyr_parser.specs.Events as events
 use Rattle.saphyr_parser.specs.Events.{Happening}
 use Rattle.saphyr_parser.specs.EventsTaken.{IsCut, AreTaken}
 use Rattle.saphyr_parser.specs.ForestEvents as telling
-use Rattle.saphyr_parser.specs.ForestEvents.{event_of_part, before_all, events_behind}
+use Rattle.saphyr_parser.specs.ForestEvents.{event_of_part, first_and_others, events_behind}
 use Rattle.saphyr_parser.specs.Preorder.{Part, OpenStream, CloseStream, OpenDocument, CloseDocument, Reference, Leaf, OpenSequence, CloseSequence, OpenMapping, CloseMapping, node_parts, entry_parts, pair_parts, document_parts}
 use Rattle.saphyr_parser.specs.Examples.WrongAnswers.{IsNoStreamEnd, HasNoStreamEnd, EndsSo, EndsWithStreamEnd}
 
@@ -94,7 +94,7 @@ record Closes (es : List Happening) : Type 0 where
   are : es ≡ front ++ events.StreamEnd ∷ []
   none : NoEnds front
 
-before_some : (o : Option Happening) (r : Option (List Happening)) (es : List Happening) → before_all o r ≡ Some es
+before_some : (o : Option Happening) (r : Option (List Happening)) (es : List Happening) → first_and_others o r ≡ Some es
     → (w : Happening) × (rs : List Happening) × (o ≡ Some w) × (r ≡ Some rs) × (es ≡ w ∷ rs)
 before_some None r es e = absurd (cc)
 before_some (Some w) None es e = absurd (cc)

@@ -8,7 +8,7 @@ use Rattle.saphyr_scanner.specs.Views.Tokens.{Piece}
 use Rattle.saphyr_parser.specs.declared.parser.context.NodeContext.TheVariants.{Block, BlockMapping}
 use Rattle.saphyr_parser.specs.declared.parser.state.State.TheVariants as state
 use Rattle.saphyr_parser.specs.Events.{SequenceEnd, MappingEnd}
-use Rattle.saphyr_parser.specs.Steps.Machine.{◌>>=◌, Machine, Told, told, refusal_at, taken_token, put_back, pop, left_out_event}
+use Rattle.saphyr_parser.specs.Steps.Machine.{◌>>=◌, Machine, Told, told_event, refusal_at, taken_token, put_back, pop, left_out_event}
 use Rattle.saphyr_parser.specs.Steps.Nodes.{node_inside}
 
 -- ## Sequences
@@ -25,7 +25,7 @@ sequence_node s m = do
   sequence_node_at t.0.kind s t.0 t.1
 
 abbrev pub sequence_entry_at : Kind → Piece → Machine → Result Told Refusal
-sequence_entry_at BlockEnd t m = told SequenceEnd t.span (pop m)
+sequence_entry_at BlockEnd t m = told_event SequenceEnd t.span (pop m)
 sequence_entry_at BlockEntry t m = sequence_node t.span m
 sequence_entry_at _ t m = refusal_at fault.SequenceEntryExpected t
 
@@ -50,7 +50,7 @@ indentless_node s m = do
 
 abbrev pub indentless_entry_at : Kind → Piece → Machine → Result Told Refusal
 indentless_entry_at BlockEntry t m = indentless_node t.span m
-indentless_entry_at _ t m = told SequenceEnd t.span (pop (put_back t m))
+indentless_entry_at _ t m = told_event SequenceEnd t.span (pop (put_back t m))
 
 unfoldable pub indentless_entry : Machine → Result Told Refusal
 indentless_entry m = do
@@ -74,7 +74,7 @@ block_key_node m = do
 abbrev pub mapping_key_at : Kind → Piece → Machine → Result Told Refusal
 mapping_key_at Key t m = block_key_node m
 mapping_key_at Value t m = left_out_event t state.BlockMappingValue t.span m
-mapping_key_at BlockEnd t m = told MappingEnd t.span (pop m)
+mapping_key_at BlockEnd t m = told_event MappingEnd t.span (pop m)
 mapping_key_at _ t m = refusal_at fault.BlockMappingKeyExpected t
 
 unfoldable pub mapping_key : Machine → Result Told Refusal

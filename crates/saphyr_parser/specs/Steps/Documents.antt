@@ -9,7 +9,7 @@ use Rattle.saphyr_scanner.specs.Views.Tokens.{Piece}
 use Rattle.saphyr_parser.specs.declared.parser.context.NodeContext.TheVariants.{Block}
 use Rattle.saphyr_parser.specs.declared.parser.state.State.TheVariants as state
 use Rattle.saphyr_parser.specs.Events as events
-use Rattle.saphyr_parser.specs.Steps.Machine.{◌>>=◌, Machine, Told, told, refusal_at, ending_refusal, taken_token, with_pieces, put_back, pop, with_state, push, empty_scalar, without_ids, with_meaning, is_listed, with_name}
+use Rattle.saphyr_parser.specs.Steps.Machine.{◌>>=◌, Machine, Told, told_event, refusal_at, ending_refusal, taken_token, with_pieces, put_back, pop, with_state, push, empty_scalar, without_ids, with_meaning, is_listed, with_name}
 use Rattle.saphyr_parser.specs.Steps.Nodes.{node}
 
 -- ## Tokens that are passed
@@ -83,7 +83,7 @@ directives d m = directives_from m.tokens.pieces d m
 -- ## The beginning of the stream and of documents
 
 abbrev pub stream_start_at : Kind → Piece → Machine → Result Told Refusal
-stream_start_at tokens.StreamStart t m = told events.StreamStart t.span (with_state state.ImplicitDocumentStart m)
+stream_start_at tokens.StreamStart t m = told_event events.StreamStart t.span (with_state state.ImplicitDocumentStart m)
 stream_start_at _ t m = refusal_at fault.DocumentStartExpected t
 
 unfoldable pub stream_start : Machine → Result Told Refusal
@@ -92,29 +92,29 @@ stream_start m = do
   stream_start_at t.0.kind t.0 t.1
 
 -- anchors hold for their document
-abbrev pub forget_anchors : Machine → Machine
-forget_anchors m = record m { anchors = without_ids m.anchors }
+abbrev pub without_anchors : Machine → Machine
+without_anchors m = record m { anchors = without_ids m.anchors }
 
-abbrev pub explicit_at : Kind → Piece → Machine → Result Told Refusal
-explicit_at tokens.DocumentStart t m =
-    told (events.DocumentStart true) t.span (with_state state.DocumentContent
-    (push state.DocumentEnd (forget_anchors m)))
-explicit_at tokens.ByteOrderMark t m = refusal_at fault.MisplacedByteOrderMark t
-explicit_at _ t m = refusal_at fault.DocumentStartExpected t
+abbrev pub explicit_document_at : Kind → Piece → Machine → Result Told Refusal
+explicit_document_at tokens.DocumentStart t m =
+    told_event (events.DocumentStart true) t.span (with_state state.DocumentContent
+    (push state.DocumentEnd (without_anchors m)))
+explicit_document_at tokens.ByteOrderMark t m = refusal_at fault.MisplacedByteOrderMark t
+explicit_document_at _ t m = refusal_at fault.DocumentStartExpected t
 
 -- directives and `---` begin with the token
 unfoldable pub explicit_document : Piece → Machine → Result Told Refusal
 explicit_document t m = do
   u ← directives none_declared (put_back t m)
-  explicit_at u.0.kind u.0 u.1
+  explicit_document_at u.0.kind u.0 u.1
 
 -- a document without `---` begins with the token
 unfoldable pub bare_document : Piece → Machine → Result Told Refusal
-bare_document t m = told (events.DocumentStart false) t.span
-    (with_state state.BlockNode (push state.DocumentEnd (forget_anchors (put_back t m))))
+bare_document t m = told_event (events.DocumentStart false) t.span
+    (with_state state.BlockNode (push state.DocumentEnd (without_anchors (put_back t m))))
 
 abbrev pub implicit_start_at : Kind → Piece → Machine → Result Told Refusal
-implicit_start_at tokens.StreamEnd t m = told events.StreamEnd t.span (with_state state.End m)
+implicit_start_at tokens.StreamEnd t m = told_event events.StreamEnd t.span (with_state state.End m)
 implicit_start_at (tokens.VersionDirective major minor) t m = explicit_document t m
 implicit_start_at (tokens.TagDirective handle prefix) t m = explicit_document t m
 implicit_start_at (tokens.ReservedDirective name) t m = explicit_document t m
@@ -128,7 +128,7 @@ implicit_start m = do
   implicit_start_at t.0.kind t.0 t.1
 
 abbrev pub explicit_start_at : Kind → Piece → Machine → Result Told Refusal
-explicit_start_at tokens.StreamEnd t m = told events.StreamEnd t.span (with_state state.End m)
+explicit_start_at tokens.StreamEnd t m = told_event events.StreamEnd t.span (with_state state.End m)
 explicit_start_at _ t m = explicit_document t m
 
 unfoldable pub explicit_start : Machine → Result Told Refusal
@@ -140,7 +140,7 @@ explicit_start m = do
 
 -- an empty document, before the token
 abbrev pub no_content : Piece → Machine → Result Told Refusal
-no_content t m = told empty_scalar t.span (pop (put_back t m))
+no_content t m = told_event empty_scalar t.span (pop (put_back t m))
 
 abbrev pub document_content_at : Kind → Piece → Machine → Result Told Refusal
 document_content_at (tokens.VersionDirective major minor) t m = no_content t m
@@ -158,39 +158,39 @@ document_content m = do
   document_content_at t.0.kind t.0 t.1
 
 -- behind the byte order marks at the end of a document, of which the first has this place
-abbrev pub behind_marks_at : Kind → Marker → Piece → Machine → Result (Piece × Machine) Refusal
-behind_marks_at tokens.DocumentStart place t m = Ok (t, m)
-behind_marks_at tokens.DocumentEnd place t m = Ok (t, m)
-behind_marks_at tokens.StreamEnd place t m = Ok (t, m)
-behind_marks_at _ place t m = Err (record { text = fault.MisplacedByteOrderMark; mark = place })
+abbrev pub token_behind_marks_at : Kind → Marker → Piece → Machine → Result (Piece × Machine) Refusal
+token_behind_marks_at tokens.DocumentStart place t m = Ok (t, m)
+token_behind_marks_at tokens.DocumentEnd place t m = Ok (t, m)
+token_behind_marks_at tokens.StreamEnd place t m = Ok (t, m)
+token_behind_marks_at _ place t m = Err (record { text = fault.MisplacedByteOrderMark; mark = place })
 
-unfoldable pub behind_marks : Marker → Machine → Result (Piece × Machine) Refusal
-behind_marks place m = do
+unfoldable pub token_behind_marks : Marker → Machine → Result (Piece × Machine) Refusal
+token_behind_marks place m = do
   t ← unpassed_token is_mark m
-  behind_marks_at t.0.kind place t.0 t.1
+  token_behind_marks_at t.0.kind place t.0 t.1
 
-abbrev pub behind_document_at : Kind → Piece → Machine → Result (Piece × Machine) Refusal
-behind_document_at tokens.ByteOrderMark t m = behind_marks t.span.start m
-behind_document_at _ t m = Ok (t, m)
+abbrev pub token_behind_document_at : Kind → Piece → Machine → Result (Piece × Machine) Refusal
+token_behind_document_at tokens.ByteOrderMark t m = token_behind_marks t.span.start m
+token_behind_document_at _ t m = Ok (t, m)
 
 -- the token that stands behind a document and its byte order marks
-unfoldable pub behind_document : Machine → Result (Piece × Machine) Refusal
-behind_document m = do
+unfoldable pub token_behind_document : Machine → Result (Piece × Machine) Refusal
+token_behind_document m = do
   t ← taken_token m
-  behind_document_at t.0.kind t.0 t.1
+  token_behind_document_at t.0.kind t.0 t.1
 
 -- prefixes hold for their document, unless they are kept
-abbrev pub forget_prefixes : Machine → Machine
-forget_prefixes m = record m { prefixes = if m.keep_tags then m.prefixes else [] }
+abbrev pub without_prefixes : Machine → Machine
+without_prefixes m = record m { prefixes = if m.keep_tags then m.prefixes else [] }
 
 abbrev pub document_end_at : Kind → Piece → Machine → Result Told Refusal
-document_end_at tokens.DocumentEnd t m = told events.DocumentEnd t.span (with_state state.ImplicitDocumentStart m)
+document_end_at tokens.DocumentEnd t m = told_event events.DocumentEnd t.span (with_state state.ImplicitDocumentStart m)
 document_end_at (tokens.VersionDirective major minor) t m = refusal_at fault.DocumentEndExpected t
 document_end_at (tokens.TagDirective handle prefix) t m = refusal_at fault.DocumentEndExpected t
 document_end_at (tokens.ReservedDirective name) t m = refusal_at fault.DocumentEndExpected t
-document_end_at _ t m = told events.DocumentEnd t.span (with_state state.DocumentStart (put_back t m))
+document_end_at _ t m = told_event events.DocumentEnd t.span (with_state state.DocumentStart (put_back t m))
 
 unfoldable pub document_end : Machine → Result Told Refusal
 document_end m = do
-  t ← behind_document m
-  document_end_at t.0.kind t.0 (forget_prefixes t.1)
+  t ← token_behind_document m
+  document_end_at t.0.kind t.0 (without_prefixes t.1)

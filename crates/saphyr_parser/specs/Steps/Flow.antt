@@ -9,15 +9,15 @@ use Rattle.saphyr_scanner.specs.Views.Tokens.{Piece}
 use Rattle.saphyr_parser.specs.declared.parser.context.NodeContext.TheVariants.{Flow}
 use Rattle.saphyr_parser.specs.declared.parser.state.State.TheVariants as state
 use Rattle.saphyr_parser.specs.Events.{SequenceEnd, MappingStart, MappingEnd}
-use Rattle.saphyr_parser.specs.Steps.Machine.{◌>>=◌, Machine, Told, told, refusal_at, taken_token, pop, with_state, left_out_event}
+use Rattle.saphyr_parser.specs.Steps.Machine.{◌>>=◌, Machine, Told, told_event, refusal_at, taken_token, pop, with_state, left_out_event}
 use Rattle.saphyr_parser.specs.Steps.Nodes.{node_inside}
 
 -- ## Sequences
 
 -- an entry begins with the token, or the sequence ends
 abbrev pub entry_at : Kind → Piece → Machine → Result Told Refusal
-entry_at FlowSequenceEnd t m = told SequenceEnd t.span (pop m)
-entry_at Key t m = told (MappingStart 0 None) t.span (with_state state.FlowSequenceEntryMappingKey m)
+entry_at FlowSequenceEnd t m = told_event SequenceEnd t.span (pop m)
+entry_at Key t m = told_event (MappingStart 0 None) t.span (with_state state.FlowSequenceEntryMappingKey m)
 entry_at _ t m = node_inside state.FlowSequenceEntry Flow t m
 
 unfoldable pub first_entry : Machine → Result Told Refusal
@@ -26,7 +26,7 @@ first_entry m = do
   entry_at t.0.kind t.0 t.1
 
 abbrev pub other_entry_at : Kind → Piece → Machine → Result Told Refusal
-other_entry_at FlowSequenceEnd t m = told SequenceEnd t.span (pop m)
+other_entry_at FlowSequenceEnd t m = told_event SequenceEnd t.span (pop m)
 other_entry_at FlowEntry t m = first_entry m
 other_entry_at _ t m = refusal_at fault.FlowSequenceEndExpected t
 
@@ -70,7 +70,7 @@ pair_value m = do
   pair_value_at t.0.kind t.0 t.1
 
 unfoldable pub pair_end : Marker → Machine → Result Told Refusal
-pair_end place m = told MappingEnd (record { start = place; end = place }) (with_state state.FlowSequenceEntry m)
+pair_end place m = told_event MappingEnd (record { start = place; end = place }) (with_state state.FlowSequenceEntry m)
 
 -- ## Mappings
 
@@ -90,7 +90,7 @@ flow_key_node m = do
 abbrev pub pair_at : Kind → Span → Piece → Machine → Result Told Refusal
 pair_at Key s t m = flow_key_node m
 pair_at Value s t m = left_out_event t state.FlowMappingValue t.span m
-pair_at FlowMappingEnd s t m = told MappingEnd s (pop m)
+pair_at FlowMappingEnd s t m = told_event MappingEnd s (pop m)
 pair_at _ s t m = node_inside state.FlowMappingEmptyValue Flow t m
 
 unfoldable pub first_pair : Machine → Result Told Refusal
@@ -104,7 +104,7 @@ pair_behind_comma s m = do
   pair_at t.0.kind s t.0 t.1
 
 abbrev pub other_pair_at : Kind → Piece → Machine → Result Told Refusal
-other_pair_at FlowMappingEnd t m = told MappingEnd t.span (pop m)
+other_pair_at FlowMappingEnd t m = told_event MappingEnd t.span (pop m)
 other_pair_at FlowEntry t m = pair_behind_comma t.span m
 other_pair_at _ t m = refusal_at fault.FlowMappingEndExpected t
 

@@ -78,8 +78,8 @@ pub record Told : Type 0 where
   pub span : Span
   pub machine : Machine
 
-abbrev pub told : Happening → Span → Machine → Result Told Refusal
-told what span m = Ok (record { what = what; span = span; machine = m })
+abbrev pub told_event : Happening → Span → Machine → Result Told Refusal
+told_event what span m = Ok (record { what = what; span = span; machine = m })
 
 abbrev pub refusal_at : {X : Type 0} → FaultText → Piece → Result X Refusal
 refusal_at text t = Err (record { text = text; mark = t.span.start })
@@ -124,7 +124,7 @@ empty_scalar = Scalar [] Plain 0 None
 
 -- a node is left out before the token
 abbrev pub left_out_event : Piece → State → Span → Machine → Result Told Refusal
-left_out_event t s span m = told empty_scalar span (with_state s (put_back t m))
+left_out_event t s span m = told_event empty_scalar span (with_state s (put_back t m))
 
 -- at the start of a stream
 abbrev pub fresh_machine : Remaining → Machine

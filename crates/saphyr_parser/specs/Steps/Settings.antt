@@ -4,10 +4,10 @@ use Rattle.saphyr_scalar.specs.declared.scalar.fault.Refusal.{Refusal}
 use Rattle.saphyr_parser.specs.Steps.Machine.{Machine, Told}
 
 -- whether prefixes are kept for later documents
-abbrev pub set_to : Bool → Machine → Machine
-set_to keep m = record m { keep_tags = keep }
+abbrev pub with_keep_tags : Bool → Machine → Machine
+with_keep_tags keep m = record m { keep_tags = keep }
 
 -- the same event, and the machine behind it with this setting
 abbrev pub with_setting : Bool → Result Told Refusal → Result Told Refusal
-with_setting keep (Ok x) = Ok (record x { machine = set_to keep x.machine })
+with_setting keep (Ok x) = Ok (record x { machine = with_keep_tags keep x.machine })
 with_setting keep (Err e) = Err e

@@ -29,8 +29,8 @@ machine_of m = record {
 }
 
 -- an event with its span, and the machine that it leaves
-abbrev pub told_of : Machine → Event × Span → Told
-told_of m e = record { what = happening e.0; span = e.1; machine = m }
+abbrev pub told_event_of : Machine → Event × Span → Told
+told_event_of m e = record { what = happening e.0; span = e.1; machine = m }
 
 -- The token that a call returned, and the machine that it left, are what the function gives, unless memory ran out.
 abbrev pub TakesBy
@@ -44,4 +44,4 @@ abbrev pub TellsBy
     : {T : Type 0}
     → (Machine → Result Told Refusal) → declared.Machine T → Result Unit Stop → Event × Span
     → declared.Machine T → Type 0
-TellsBy f old result next new = Moves (λ _. told_of (machine_of new) next) result (f (machine_of old))
+TellsBy f old result next new = Moves (λ _. told_event_of (machine_of new) next) result (f (machine_of old))

@@ -186,7 +186,7 @@ impl<'input, T: Input> Parser<'input, T> {
         ensures inside { self.old.kept ≡ None → self.old.finished ≡ None → self.old.inside ≡ true
             → (result ≡ Err InsideDocument) × (recv.new ≡ recv.old) × (self.new ≡ self.old) }
         ensures between { self.old.kept ≡ None → self.old.finished ≡ None → self.old.inside ≡ false
-            → loading.Loads R.receives result (loading.to_send multi self.old) self.old recv.old
+            → loading.Loads R.receives result (loading.portion_to_send multi self.old) self.old recv.old
             recv.new self.new }
         ensures over { calls.EndsTheStream self.new }
     {

@@ -313,9 +313,9 @@ impl<T: Input> Machine<T> {
 
     // Takes the token behind the byte order marks that end a document, of which the first has this
     // place. Only a marker or the end may stand there.
-    #[tactic(auto, unfolding(crate::specs::Steps::Documents::behind_marks))]
+    #[tactic(auto, unfolding(crate::specs::Steps::Documents::token_behind_marks))]
     fn behind_marks(&mut self, first: Marker) -> Result<Token, Stop>
-        ensures taken { TakesBy (spec.behind_marks first) self.old result self.new }
+        ensures taken { TakesBy (spec.token_behind_marks first) self.old result self.new }
         ensures room { IfOk result (λ t. self.new.token ≡ None) }
     {
         let token = self.pass_marks()?;
@@ -326,9 +326,9 @@ impl<T: Input> Machine<T> {
     }
 
     // Takes the token behind a document and its byte order marks.
-    #[tactic(auto, unfolding(crate::specs::Steps::Documents::behind_document))]
+    #[tactic(auto, unfolding(crate::specs::Steps::Documents::token_behind_document))]
     fn behind_document(&mut self) -> Result<Token, Stop>
-        ensures taken { TakesBy spec.behind_document self.old result self.new }
+        ensures taken { TakesBy spec.token_behind_document self.old result self.new }
         ensures room { IfOk result (λ t. self.new.token ≡ None) }
     {
         let token = self.take()?;

@@ -71,7 +71,7 @@ impl<'input, T: Input> EventReader<'input, T> {
         multi: bool,
     ) -> Result<(), Fault>
         requires { (cursor self.old).kept ≡ None }
-        ensures { spec.Loads R.receives result (spec.to_send multi (cursor self.old))
+        ensures { spec.Loads R.receives result (spec.portion_to_send multi (cursor self.old))
             (cursor self.old) recv.old recv.new (cursor self.new) }
     {
         while let Some((event, span)) = self.pass() {
@@ -103,7 +103,7 @@ impl<'input, T: Input> EventReader<'input, T> {
             × (cursor self.new ≡ cursor self.old) }
         ensures between { (cursor self.old).kept ≡ None → (cursor self.old).finished ≡ None
             → (cursor self.old).inside ≡ false
-            → spec.Loads R.receives result (spec.to_send multi (cursor self.old)) (cursor self.old)
+            → spec.Loads R.receives result (spec.portion_to_send multi (cursor self.old)) (cursor self.old)
             recv.old recv.new (cursor self.new) }
     {
         self.told_fault()?;

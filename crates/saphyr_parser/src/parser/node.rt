@@ -38,7 +38,7 @@ impl Properties {
     // From the properties up to a place.
     #[inline(always)]
     fn up_to(&self, place: Marker) -> Span
-        ensures { result ≡ spec.up_to (properties self.now) place }
+        ensures { result ≡ spec.span_up_to (properties self.now) place }
     {
         Span {
             start: self.start,
@@ -49,7 +49,7 @@ impl Properties {
 
 impl<T: Input> Machine<T> {
     ghost use Rattle.saphyr_scanner.specs.Views.Tokens.{piece};
-    ghost use Rattle.saphyr_parser.specs.Views.Machines.{machine_of, told_of, TellsBy};
+    ghost use Rattle.saphyr_parser.specs.Views.Machines.{machine_of, told_event_of, TellsBy};
     ghost use Rattle.saphyr_parser.specs.Views.Nodes.{properties as seen};
 
     // Properties alone stand for an empty scalar.
@@ -60,7 +60,7 @@ impl<T: Input> Machine<T> {
         next: &mut (Event<'input>, Span),
     ) -> Result<(), Stop>
         requires { self.old.token ≡ None }
-        ensures { TellsBy (spec.without_content (seen properties) (piece token))
+        ensures { TellsBy (spec.node_without_content (seen properties) (piece token))
             self.old result next.new self.new }
     {
         if !properties.has_any() {
@@ -83,7 +83,7 @@ impl<T: Input> Machine<T> {
         place: Marker,
         next: &mut (Event<'input>, Span),
     )
-        ensures { told_of (machine_of self.new) next.new
+        ensures { told_event_of (machine_of self.new) next.new
             ≡ spec.opened_sequence state (seen properties) place (machine_of self.old) }
     {
         self.state = state;
@@ -100,7 +100,7 @@ impl<T: Input> Machine<T> {
         place: Marker,
         next: &mut (Event<'input>, Span),
     )
-        ensures { told_of (machine_of self.new) next.new
+        ensures { told_event_of (machine_of self.new) next.new
             ≡ spec.opened_mapping state (seen properties) place (machine_of self.old) }
     {
         self.state = state;
@@ -192,7 +192,7 @@ impl<T: Input> Machine<T> {
     }
 
     // A node that begins with an anchor.
-    #[tactic(auto, unfolding(crate::specs::Steps::Nodes::behind_anchor))]
+    #[tactic(auto, unfolding(crate::specs::Steps::Nodes::node_behind_anchor))]
     fn behind_anchor<'input>(
         &mut self,
         name: String,
@@ -200,7 +200,7 @@ impl<T: Input> Machine<T> {
         context: NodeContext,
         next: &mut (Event<'input>, Span),
     ) -> Result<(), Stop>
-        ensures { TellsBy (spec.behind_anchor (string_bytes name) anchor context)
+        ensures { TellsBy (spec.node_behind_anchor (string_bytes name) anchor context)
             self.old result next.new self.new }
     {
         let id = self.anchors.register(name)?;
@@ -222,7 +222,7 @@ impl<T: Input> Machine<T> {
     }
 
     // A node that begins with a tag.
-    #[tactic(auto, unfolding(crate::specs::Steps::Nodes::behind_tag))]
+    #[tactic(auto, unfolding(crate::specs::Steps::Nodes::node_behind_tag))]
     fn behind_tag<'input>(
         &mut self,
         tag: TagParts,
@@ -231,7 +231,7 @@ impl<T: Input> Machine<T> {
         next: &mut (Event<'input>, Span),
     ) -> Result<(), Stop>
         ensures { TellsBy
-            (spec.behind_tag (string_bytes tag.handle) (string_bytes tag.suffix) place context)
+            (spec.node_behind_tag (string_bytes tag.handle) (string_bytes tag.suffix) place context)
             self.old result next.new self.new }
     {
         let tag = self.resolve(tag, place.start)?;

@@ -43,10 +43,10 @@ impl<T: Input> Machine<T> {
     }
 
     // The tag with its prefix in place of the handle.
-    #[tactic(auto, unfolding(crate::specs::Steps::Tags::resolved))]
+    #[tactic(auto, unfolding(crate::specs::Steps::Tags::resolved_tag_at))]
     pub(super) fn resolve(&self, tag: TagParts, place: Marker) -> Result<Tag, Stop>
         ensures { Moves resolved_tag result
-            (spec.resolved self.now.prefixes (string_bytes tag.handle) (string_bytes tag.suffix)
+            (spec.resolved_tag_at self.now.prefixes (string_bytes tag.handle) (string_bytes tag.suffix)
             place) }
     {
         let TagParts { handle, suffix } = tag;
