@@ -10,13 +10,13 @@ use Rattle.std.proofs.lemmas.Bool.{cases_eq, ne_eqb}
 use Rattle.case_files.specs.Escapes.{text_of, read_behind, EscapeStep, spelled_character}
 
 -- The characters `cs` gave a text and left an escape of which so much has been read.
-abbrev pub HasRead : List ℕ → List ℕ → Escape → Type 0
-HasRead cs text escape =
+abbrev pub HasReadEscape : List ℕ → List ℕ → Escape → Type 0
+HasReadEscape cs text escape =
     (rest : List ℕ) → encode_utf8_all (text_of (cs ++ rest)) ≡ text ++ encode_utf8_all (read_behind escape rest)
 
-pub reads_on : (cs text : List ℕ) (escape next : Escape) (c : ℕ) (given : Option ℕ) → HasRead cs text escape
+pub reads_on : (cs text : List ℕ) (escape next : Escape) (c : ℕ) (given : Option ℕ) → HasReadEscape cs text escape
     → EscapeStep escape c given next
-    → HasRead (cs ++ c ∷ []) (text ++ encode_utf8_all (option_to_list given)) next
+    → HasReadEscape (cs ++ c ∷ []) (text ++ encode_utf8_all (option_to_list given)) next
 reads_on cs text escape next c given before step rest =
     ap (λ l. encode_utf8_all (text_of l)) (append_assoc cs (c ∷ []) rest) ∙ before (c ∷ rest)
     ∙ ap (λ l. text ++ encode_utf8_all l) (step rest)

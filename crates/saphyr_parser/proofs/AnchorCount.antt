@@ -56,14 +56,14 @@ optional_count n N t (inl h) g =
     let none : anchors (node_parts n) ≡ 0 = ap (λ (v : Node). anchors (node_parts v)) h.0 in omega (arith, none)
 
 -- a claim on a node's tokens
-abbrev Counts : Node → (List Kind → Type 0) → Type 0
-Counts n N = (u : List Kind) → N u → anchors (node_parts n) ≤ length u
+abbrev CountsAnchors : Node → (List Kind → Type 0) → Type 0
+CountsAnchors n N = (u : List Kind) → N u → anchors (node_parts n) ≤ length u
 
-key_count : (n : Node) (N : List Kind → Type 0) (t : List Kind) → YieldsMarkedKey n N t → Counts n N
+key_count : (n : Node) (N : List Kind → Type 0) (t : List Kind) → YieldsMarkedKey n N t → CountsAnchors n N
     → anchors (node_parts n) ≤ length t
 key_count n N t h g = let a = optional_count n N h.0 h.1 (g h.0) in let b = ap length h.2 in omega (arith, a, b)
 
-value_count : (n : Node) (N : List Kind → Type 0) (t : List Kind) → YieldsMarkedValue n N t → Counts n N
+value_count : (n : Node) (N : List Kind → Type 0) (t : List Kind) → YieldsMarkedValue n N t → CountsAnchors n N
     → anchors (node_parts n) ≤ length t
 value_count n N t h g = let a = optional_count n N h.0 h.1 (g h.0) in let b = ap length h.2 in omega (arith, a, b)
 
@@ -84,7 +84,7 @@ left_out_key key value t e l =
     let none : anchors (node_parts key) ≡ 0 = ap (λ (v : Node). anchors (node_parts v)) e in omega (arith, none, l)
 
 marked_count : (key value : Node) (K V : List Kind → Type 0) (t : List Kind) → YieldsMarkedPair key value K V t
-    → Counts key K → Counts value V → anchors_of_pair key value ≤ length t
+    → CountsAnchors key K → CountsAnchors value V → anchors_of_pair key value ≤ length t
 unfolding anchors_of_pair
 marked_count key value K V t h k v =
     let a = key_count key K h.0 h.2 k in
@@ -93,19 +93,19 @@ marked_count key value K V t h k v =
     omega (arith, a, b, c)
 
 single_count : (key value : Node) (K V : List Kind → Type 0) (t : List Kind) → YieldsSinglePair key value K V t
-    → Counts key K → Counts value V → anchors_of_pair key value ≤ length t
+    → CountsAnchors key K → CountsAnchors value V → anchors_of_pair key value ≤ length t
 single_count key value K V t (inl h) k v = marked_count key value K V t h k v
 single_count key value K V t (inr h) k v = left_out_value key value t h.0 (key_count key K t h.1 k)
 
 flow_count : (key value : Node) (K V : List Kind → Type 0) (t : List Kind) → YieldsFlowPair key value K V t
-    → Counts key K → Counts value V → anchors_of_pair key value ≤ length t
+    → CountsAnchors key K → CountsAnchors value V → anchors_of_pair key value ≤ length t
 flow_count key value K V t (inl h) k v = marked_count key value K V t h k v
 flow_count key value K V t (inr (inl h)) k v = left_out_value key value t h.0 (key_count key K t h.1 k)
 flow_count key value K V t (inr (inr (inl h))) k v = left_out_key key value t h.0 (value_count value V t h.1 v)
 flow_count key value K V t (inr (inr (inr h))) k v = left_out_value key value t h.0 (k t h.1)
 
 block_count : (key value : Node) (K V : List Kind → Type 0) (others t : List Kind)
-    → YieldsBlockPair key value K V others t → Counts key K → Counts value V → anchors_of_pair key value ≤ length t
+    → YieldsBlockPair key value K V others t → CountsAnchors key K → CountsAnchors value V → anchors_of_pair key value ≤ length t
 block_count key value K V others t (inl h) k v = marked_count key value K V t h k v
 block_count key value K V others t (inr (inl h)) k v = left_out_value key value t h.0 (key_count key K t h.2 k)
 block_count key value K V others t (inr (inr h)) k v = left_out_key key value t h.0 (value_count value V t h.1 v)

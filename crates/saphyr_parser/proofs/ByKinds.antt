@@ -20,13 +20,13 @@ use Rattle.saphyr_parser.proofs.Unroll.{unroll, over, shrinks_at}
 use Rattle.saphyr_parser.proofs.Placeless.{no_span, placeless_piece, placeless_state, placeless, Same, steps_same}
 use Rattle.saphyr_parser.proofs.Promises.CommonBeginnings.{ended}
 use Rattle.saphyr_parser.proofs.Promises.ClosedTokens.{closed_tokens}
-use Rattle.saphyr_parser.proofs.Happenings.{told_of}
+use Rattle.saphyr_parser.proofs.Happenings.{happenings_of}
 
 -- ## All steps
 
 -- the same events but for their spans, and a fault behind both or none
 record Alike (a b : Answer) : Type 0 where
-  told : told_of b ≡ told_of a
+  told : happenings_of b ≡ happenings_of a
   fault : is_some b.fault ≡ is_some a.fault
 
 over_too : (s : State) → s ≡ state.End → placeless_state s ≡ state.End
@@ -46,7 +46,7 @@ delivers_alike (Err f) q e h = rw e.1 (record { told = refl; fault = refl })
 as_before : (a c b d : Answer) → a ≡ c → b ≡ d → Alike c d → Alike a b
 as_before a c b d e f h =
     record {
-      told = ap told_of f ∙ h.told ∙ sym (ap told_of e);
+      told = ap happenings_of f ∙ h.told ∙ sym (ap happenings_of e);
       fault =
           ap (λ (v : Answer). is_some v.fault) f ∙ h.fault ∙ sym (ap (λ (v : Answer). is_some v.fault) e);
     }
@@ -92,7 +92,7 @@ alike keep a b e =
     let same : placeless (start keep a) ≡ placeless (start keep b) =
     ap (λ ts. start keep (record { pieces = ts; refusal = None })) (same_pieces a.pieces b.pieces e) in
     record {
-      told = sym y.told ∙ ap (λ m. told_of (remaining_answer m)) (sym same) ∙ x.told;
+      told = sym y.told ∙ ap (λ m. happenings_of (remaining_answer m)) (sym same) ∙ x.told;
       fault = sym y.fault ∙ ap (λ (m : Machine). is_some (remaining_answer m).fault) (sym same) ∙ x.fault;
     }
 

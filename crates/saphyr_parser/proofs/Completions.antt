@@ -13,9 +13,9 @@ use Rattle.saphyr_parser.specs.Events.{Happening}
 use Rattle.saphyr_parser.specs.ForestEvents.{first_and_others}
 use Rattle.saphyr_parser.proofs.Told.Telling.{Memory}
 use Rattle.saphyr_parser.proofs.Remembering.{after, event_in, events_in}
-use Rattle.saphyr_parser.proofs.Turned.Following.{Then, Exactly, IsNodeOf, IsOptionalOf, IsSkipped, IsAnyValueOf, FirstEntries, OtherEntries, FirstPairs, OtherPairs, BlockEntries, BlockPairs, InSequence, AtPairEnd, AtPairValue, InMapping, InBlockPairs, Follows, IsOutside, IsInside, IsAlive, Starts}
+use Rattle.saphyr_parser.proofs.Turned.Following.{Then, Exactly, IsNodeOf, IsOptionalOf, IsSkipped, IsAnyValueOf, FirstEntries, OtherEntries, FirstPairs, OtherPairs, BlockEntries, BlockPairs, InSequence, AtPairEnd, AtPairValue, InMapping, InBlockPairs, MayFollow, IsOutside, IsInsideDocument, IsAlive, Starts}
 use Rattle.saphyr_parser.proofs.Turned.Turning.{put}
-use Rattle.saphyr_parser.proofs.Turned.Entries.{marked_value, any_value, closed}
+use Rattle.saphyr_parser.proofs.Turned.Entries.{marked_value, any_value, collection_ends}
 use Rattle.saphyr_parser.proofs.Turned.Block.{one_entry}
 
 -- ## Parts that always have their events, and no anchor
@@ -77,7 +77,7 @@ quiet_anchors (p ∷ ps) q =
 pub record Completion (s : State) (ss : List State) : Type 0 where
   pub kinds : List Kind
   pub parts : List Part
-  pub follows : Follows s ss kinds parts
+  pub follows : MayFollow s ss kinds parts
   pub starts : (ahead : List Kind) → Starts s ahead kinds
   pub quiet : AreQuiet parts
   pub some : parts ≢ []
@@ -143,15 +143,15 @@ maybe R ks ps r = put (IsOptionalOf InFlow) R [] (leaf ∷ []) ks ps (forest.lef
 
 entries_end : (R : List Kind → List Part → Type 0) (ks : List Kind) (ps : List Part) → R ks ps
     → InSequence R (FlowSequenceEnd ∷ ks) (CloseSequence ∷ ps)
-entries_end R ks ps r = closed OtherEntries R (FlowSequenceEnd ∷ []) CloseSequence ks ps (NoNode, inl refl, refl) r
+entries_end R ks ps r = collection_ends OtherEntries R (FlowSequenceEnd ∷ []) CloseSequence ks ps (NoNode, inl refl, refl) r
 
 pairs_end : (R : List Kind → List Part → Type 0) (ks : List Kind) (ps : List Part) → R ks ps
     → InMapping R (FlowMappingEnd ∷ ks) (CloseMapping ∷ ps)
-pairs_end R ks ps r = closed OtherPairs R (FlowMappingEnd ∷ []) CloseMapping ks ps (NoPair, inl refl, refl) r
+pairs_end R ks ps r = collection_ends OtherPairs R (FlowMappingEnd ∷ []) CloseMapping ks ps (NoPair, inl refl, refl) r
 
 block_pairs_end : (R : List Kind → List Part → Type 0) (ks : List Kind) (ps : List Part) → R ks ps
     → InBlockPairs R (BlockEnd ∷ ks) (CloseMapping ∷ ps)
-block_pairs_end R ks ps r = closed BlockPairs R (BlockEnd ∷ []) CloseMapping ks ps (NoPair, refl, refl) r
+block_pairs_end R ks ps r = collection_ends BlockPairs R (BlockEnd ∷ []) CloseMapping ks ps (NoPair, refl, refl) r
 
 pair_ends : (R : List Kind → List Part → Type 0) (ks : List Kind) (ps : List Part) → R ks ps
     → AtPairEnd R (FlowSequenceEnd ∷ ks) (CloseMapping ∷ CloseSequence ∷ ps)
@@ -163,14 +163,14 @@ pair_value : (R : List Kind → List Part → Type 0) (ks : List Kind) (ps : Lis
 pair_value R ks ps r = put (IsAnyValueOf InFlow) (AtPairEnd R) [] (leaf ∷ []) _ _ (inr (refl, refl))
     (pair_ends R ks ps r)
 
-inside : (s other : State) (ss : List State) → IsInside s → Completion other ss → Completion s (other ∷ ss)
+inside : (s other : State) (ss : List State) → IsInsideDocument s → Completion other ss → Completion s (other ∷ ss)
 inside state.DocumentContent o ss i c =
     record {
       kinds = c.kinds;
       parts =
           leaf ∷ c.parts;
       follows =
-          put (IsOptionalOf InBlock) (Follows o ss) [] (leaf ∷ []) c.kinds c.parts (
+          put (IsOptionalOf InBlock) (MayFollow o ss) [] (leaf ∷ []) c.kinds c.parts (
             forest.left_out,
             inl (refl, refl),
             refl,
@@ -186,7 +186,7 @@ inside state.BlockNode o ss i c =
       parts =
           leaf ∷ c.parts;
       follows =
-          put (IsNodeOf InBlock) (Follows o ss) (scalar_token Plain [] ∷ []) (leaf ∷ []) c.kinds c.parts
+          put (IsNodeOf InBlock) (MayFollow o ss) (scalar_token Plain [] ∷ []) (leaf ∷ []) c.kinds c.parts
           (forest.left_out, ([], scalar_token Plain [] ∷ [], refl, inl refl, refl), refl) c.follows;
       starts =
           λ ahead. tt;
@@ -199,7 +199,7 @@ inside state.BlockSequenceEntry o ss i c =
       parts =
           CloseSequence ∷ c.parts;
       follows =
-          closed BlockEntries (Follows o ss) (BlockEnd ∷ []) CloseSequence c.kinds c.parts (NoNode, refl, refl)
+          collection_ends BlockEntries (MayFollow o ss) (BlockEnd ∷ []) CloseSequence c.kinds c.parts (NoNode, refl, refl)
           c.follows;
       starts = λ ahead. tt;
       some = λ e. cc;
@@ -211,10 +211,10 @@ inside state.IndentlessSequenceEntry o ss i c =
       parts =
           leaf ∷ CloseSequence ∷ c.parts;
       follows =
-          one_entry (Then (Exactly [] (CloseSequence ∷ [])) (Follows o ss)) c.kinds (leaf ∷ CloseSequence ∷ c.parts)
+          one_entry (Then (Exactly [] (CloseSequence ∷ [])) (MayFollow o ss)) c.kinds (leaf ∷ CloseSequence ∷ c.parts)
           (put (IsOptionalOf InBlock) _ [] (leaf ∷ []) c.kinds (CloseSequence ∷ c.parts)
           (forest.left_out, inl (refl, refl), refl)
-          (closed BlockEntries (Follows o ss) [] CloseSequence c.kinds c.parts (NoNode, refl, refl) c.follows));
+          (collection_ends BlockEntries (MayFollow o ss) [] CloseSequence c.kinds c.parts (NoNode, refl, refl) c.follows));
       starts =
           λ ahead b. tt;
       some = λ e. cc;
@@ -226,7 +226,7 @@ inside state.BlockMappingKey o ss i c =
       parts =
           CloseMapping ∷ c.parts;
       follows =
-          block_pairs_end (Follows o ss) c.kinds c.parts c.follows;
+          block_pairs_end (MayFollow o ss) c.kinds c.parts c.follows;
       starts =
           λ ahead b. absurd b;
       some = λ e. cc;
@@ -238,10 +238,10 @@ inside state.BlockMappingValue o ss i c =
       parts =
           leaf ∷ CloseMapping ∷ c.parts;
       follows =
-          inl (marked_value InBlockMapping (InBlockPairs (Follows o ss)) (BlockEnd ∷ c.kinds) (leaf ∷ CloseMapping ∷
+          inl (marked_value InBlockMapping (InBlockPairs (MayFollow o ss)) (BlockEnd ∷ c.kinds) (leaf ∷ CloseMapping ∷
           c.parts)
-          (put (IsOptionalOf InBlockMapping) (InBlockPairs (Follows o ss)) [] (leaf ∷ []) _ _
-          (forest.left_out, inl (refl, refl), refl) (block_pairs_end (Follows o ss) c.kinds c.parts c.follows)));
+          (put (IsOptionalOf InBlockMapping) (InBlockPairs (MayFollow o ss)) [] (leaf ∷ []) _ _
+          (forest.left_out, inl (refl, refl), refl) (block_pairs_end (MayFollow o ss) c.kinds c.parts c.follows)));
       starts =
           λ ahead b. tt;
       some = λ e. cc;
@@ -253,7 +253,7 @@ inside state.FlowSequenceFirstEntry o ss i c =
       parts =
           CloseSequence ∷ c.parts;
       follows =
-          closed FirstEntries (Follows o ss) (FlowSequenceEnd ∷ []) CloseSequence c.kinds c.parts (NoNode, refl, refl)
+          collection_ends FirstEntries (MayFollow o ss) (FlowSequenceEnd ∷ []) CloseSequence c.kinds c.parts (NoNode, refl, refl)
           c.follows;
       starts = λ ahead. tt;
       some = λ e. cc;
@@ -265,7 +265,7 @@ inside state.FlowSequenceEntry o ss i c =
       parts =
           CloseSequence ∷ c.parts;
       follows =
-          entries_end (Follows o ss) c.kinds c.parts c.follows;
+          entries_end (MayFollow o ss) c.kinds c.parts c.follows;
       starts = λ ahead. tt;
       some = λ e. cc;
       quiet = (tt, c.quiet);
@@ -276,7 +276,7 @@ inside state.FlowSequenceEntryMappingKey o ss i c =
       parts =
           leaf ∷ leaf ∷ CloseMapping ∷ CloseSequence ∷ c.parts;
       follows =
-          maybe (AtPairValue (Follows o ss)) _ _ (pair_value (Follows o ss) c.kinds c.parts c.follows);
+          maybe (AtPairValue (MayFollow o ss)) _ _ (pair_value (MayFollow o ss) c.kinds c.parts c.follows);
       starts =
           λ ahead. tt;
       some = λ e. cc;
@@ -288,7 +288,7 @@ inside state.FlowSequenceEntryMappingValue o ss i c =
       parts =
           leaf ∷ CloseMapping ∷ CloseSequence ∷ c.parts;
       follows =
-          pair_value (Follows o ss) c.kinds c.parts c.follows;
+          pair_value (MayFollow o ss) c.kinds c.parts c.follows;
       starts =
           λ ahead. tt;
       some = λ e. cc;
@@ -300,7 +300,7 @@ inside (state.FlowSequenceEntryMappingEnd place) o ss i c =
       parts =
           CloseMapping ∷ CloseSequence ∷ c.parts;
       follows =
-          pair_ends (Follows o ss) c.kinds c.parts c.follows;
+          pair_ends (MayFollow o ss) c.kinds c.parts c.follows;
       starts =
           λ ahead. tt;
       some = λ e. cc;
@@ -312,7 +312,7 @@ inside state.FlowMappingFirstKey o ss i c =
       parts =
           CloseMapping ∷ c.parts;
       follows =
-          closed FirstPairs (Follows o ss) (FlowMappingEnd ∷ []) CloseMapping c.kinds c.parts (NoPair, refl, refl)
+          collection_ends FirstPairs (MayFollow o ss) (FlowMappingEnd ∷ []) CloseMapping c.kinds c.parts (NoPair, refl, refl)
           c.follows;
       starts = λ ahead. tt;
       some = λ e. cc;
@@ -324,7 +324,7 @@ inside state.FlowMappingKey o ss i c =
       parts =
           CloseMapping ∷ c.parts;
       follows =
-          pairs_end (Follows o ss) c.kinds c.parts c.follows;
+          pairs_end (MayFollow o ss) c.kinds c.parts c.follows;
       starts = λ ahead. tt;
       some = λ e. cc;
       quiet = (tt, c.quiet);
@@ -335,9 +335,9 @@ inside state.FlowMappingValue o ss i c =
       parts =
           leaf ∷ CloseMapping ∷ c.parts;
       follows =
-          any_value InFlow (InMapping (Follows o ss)) _ _
-          (marked_value InFlow (InMapping (Follows o ss)) (FlowMappingEnd ∷ c.kinds) (leaf ∷ CloseMapping ∷ c.parts)
-          (maybe (InMapping (Follows o ss)) _ _ (pairs_end (Follows o ss) c.kinds c.parts c.follows)));
+          any_value InFlow (InMapping (MayFollow o ss)) _ _
+          (marked_value InFlow (InMapping (MayFollow o ss)) (FlowMappingEnd ∷ c.kinds) (leaf ∷ CloseMapping ∷ c.parts)
+          (maybe (InMapping (MayFollow o ss)) _ _ (pairs_end (MayFollow o ss) c.kinds c.parts c.follows)));
       starts =
           λ ahead b. tt;
       some = λ e. cc;
@@ -349,7 +349,7 @@ inside state.FlowMappingEmptyValue o ss i c =
       parts =
           leaf ∷ CloseMapping ∷ c.parts;
       follows =
-          skip (InMapping (Follows o ss)) _ _ (pairs_end (Follows o ss) c.kinds c.parts c.follows);
+          skip (InMapping (MayFollow o ss)) _ _ (pairs_end (MayFollow o ss) c.kinds c.parts c.follows);
       starts =
           λ ahead. tt;
       some = λ e. cc;

@@ -10,7 +10,7 @@ use Rattle.saphyr_scanner.specs.Grammar.TokenGrammar.{AreMarks, AreEndsAndMarks}
 use Rattle.saphyr_parser.specs.declared.parser.state.State.{State}
 use Rattle.saphyr_parser.specs.Steps.Machine.{◌>>=◌, Machine, with_meaning, is_listed, with_name}
 use Rattle.saphyr_parser.specs.Steps.Documents.{is_mark, is_end_or_mark, unpassed_token_from, unpassed_token, Declared, none_declared, directives_from, directives}
-use Rattle.saphyr_parser.proofs.Told.Telling.{Spans, Memory, dressed, at}
+use Rattle.saphyr_parser.proofs.Told.Telling.{SpansByKinds, Memory, dressed, at}
 use Rattle.saphyr_parser.proofs.Remembering.{declaring}
 use Rattle.saphyr_parser.proofs.NameLaws.{still_unlisted}
 
@@ -20,7 +20,7 @@ abbrev AllPass : (Kind → Bool) → List Kind → Type 0
 AllPass passed [] = Unit {0}
 AllPass passed (k ∷ ks) = (passed k ≡ true) × AllPass passed ks
 
-passes_from : (passed : Kind → Bool) (front : List Kind) (f : Spans) (k : Kind) (ks : List Kind) (x : State)
+passes_from : (passed : Kind → Bool) (front : List Kind) (f : SpansByKinds) (k : Kind) (ks : List Kind) (x : State)
     (ss : List State) (e : Memory) → AllPass passed front → passed k ≡ false
     → unpassed_token_from passed (dressed f (front ++ k ∷ ks)) (at f (front ++ k ∷ ks) x ss e)
     ≡ Ok (record { span = f ks; kind = k }, at f ks x ss e)
@@ -32,7 +32,7 @@ passes_from passed (j ∷ js) f k ks x ss e h n =
     (record { span = f (js ++ k ∷ ks); kind = j }, at f (js ++ k ∷ ks) x ss e)) h.0
     ∙ passes_from passed js f k ks x ss e h.1 n
 
-pub passes : (passed : Kind → Bool) (front : List Kind) (f : Spans) (k : Kind) (ks : List Kind) (x : State)
+pub passes : (passed : Kind → Bool) (front : List Kind) (f : SpansByKinds) (k : Kind) (ks : List Kind) (x : State)
     (ss : List State) (e : Memory) → AllPass passed front → passed k ≡ false
     → unpassed_token passed (at f (front ++ k ∷ ks) x ss e) ≡ Ok (record { span = f ks; kind = k }, at f ks x ss e)
 unfolding unpassed_token
@@ -96,7 +96,7 @@ version_passes b d place h =
     if c then Err (record { text = fault.DuplicateVersionDirective; mark = place }) else Ok
     (record { version = true; handles = d.handles }) in r) h
 
-pub directives_pass : (ds : List Directive) (d : Declared) (f : Spans) (ks : List Kind) (x : State) (ss : List State)
+pub directives_pass : (ds : List Directive) (d : Declared) (f : SpansByKinds) (ks : List Kind) (x : State) (ss : List State)
     (e : Memory) → AreCompatible ds → AreFree d ds
     → directives_from (dressed f (map directive_token ds ++ DocumentStart ∷ ks)) d
     (at f (map directive_token ds ++ DocumentStart ∷ ks) x ss e)
@@ -126,7 +126,7 @@ directives_pass (TagPrefix handle prefix ∷ ds) d f ks x ss e c h =
     (all_still_free (TagPrefix handle prefix) ds d c.0 h.1)
 directives_pass (Reserved name ∷ ds) d f ks x ss e c h = directives_pass ds d f ks x ss e c.1 h.1
 
-pub all_directives_pass : (ds : List Directive) (f : Spans) (ks : List Kind) (x : State) (ss : List State) (e : Memory)
+pub all_directives_pass : (ds : List Directive) (f : SpansByKinds) (ks : List Kind) (x : State) (ss : List State) (e : Memory)
     → AreCompatible ds → directives none_declared (at f (map directive_token ds ++ DocumentStart ∷ ks) x ss e)
     ≡ Ok (record { span = f ks; kind = DocumentStart }, at f ks x ss (declaring_in ds e))
 unfolding directives

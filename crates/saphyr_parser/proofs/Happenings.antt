@@ -4,5 +4,5 @@ use Rattle.saphyr_scalar.specs.declared.scalar.position.Span.{Span}
 use Rattle.saphyr_parser.specs.Answer.{Answer}
 use Rattle.saphyr_parser.specs.Events.{Happening}
 
-abbrev pub told_of : Answer → List Happening
-told_of a = map (λ (e : Happening × Span). e.0) a.events
+abbrev pub happenings_of : Answer → List Happening
+happenings_of a = map (λ (e : Happening × Span). e.0) a.events

@@ -12,8 +12,8 @@ use Rattle.saphyr_parser.specs.Steps.Documents.{unpassed_token, implicit_start, 
 use Rattle.saphyr_parser.specs.Steps.Expected.{event_step_at}
 use Rattle.saphyr_parser.specs.More.{with_more}
 use Rattle.saphyr_parser.proofs.Beside.Machines as beside
-use Rattle.saphyr_parser.proofs.Beside.Machines.{Beside, Behind, Left, With, Tells}
-use Rattle.saphyr_parser.proofs.Beside.Documents.{IsStart, Passed, steps_beside}
+use Rattle.saphyr_parser.proofs.Beside.Machines.{Beside, Behind, Left, With, TellsAlike}
+use Rattle.saphyr_parser.proofs.Beside.Documents.{IsBetweenDocuments, PassedAll, steps_beside}
 use Rattle.saphyr_parser.proofs.Beside.Maps.{becomes, tells_so, stay, still_expected, leaves}
 
 -- ## More tokens
@@ -51,10 +51,10 @@ IsLeft z m = End z m.tokens.pieces ⊎ ((m.tokens.pieces ≡ []) × Awaits z.mar
 
 -- The second result, which is from more tokens, is the first with these tokens behind; or the tokens, which r ends,
 -- ended too early.
-abbrev pub Agrees : More → Option Refusal → Result Told Refusal → Result Told Refusal → Type 0
-Agrees z r (Ok x) q = IsLeft z x.machine × (x.machine.tokens.refusal ≡ r)
+abbrev pub AgreesOrEndsEarly : More → Option Refusal → Result Told Refusal → Result Told Refusal → Type 0
+AgreesOrEndsEarly z r (Ok x) q = IsLeft z x.machine × (x.machine.tokens.refusal ≡ r)
     × (q ≡ Ok (record x { machine = longer z x.machine }))
-Agrees z r (Err f) q = (z.Early × (f ≡ ending_refusal r)) ⊎ (q ≡ Err f)
+AgreesOrEndsEarly z r (Err f) q = (z.Early × (f ≡ ending_refusal r)) ⊎ (q ≡ Err f)
 
 -- ## Both machines
 
@@ -124,7 +124,7 @@ longer_left z o m n (inr (d, over, a)) = (
   becomes_longer z o _ m n over over.tokens.2,
 )
 
-agrees : (z : More) (o : Option Refusal) (p q : Result Told Refusal) → Tells (with_longer z o) p q → Agrees z o p q
+agrees : (z : More) (o : Option Refusal) (p q : Result Told Refusal) → TellsAlike (with_longer z o) p q → AgreesOrEndsEarly z o p q
 agrees z o (Ok x) (Ok y) h =
     let l = longer_left z o x.machine y.machine h.machine in
     (l.0, l.1, ap Ok (tells_so (with_longer z o) (λ p. p) x y _ (λ p q e. e) h l.2))
@@ -134,20 +134,20 @@ agrees z o (Err f) (Ok y) (inr e) = absurd e
 agrees z o (Err f) (Err g) (inr e) = inr (ap (λ v. let y : Result Told Refusal = Err v in y) e)
 
 -- All tokens were passed, of which the last was `...`: the step is the one of the machine with the others alone.
-abbrev pub IsPassed : More → Machine → (Machine → Result Told Refusal) → Type 0
-IsPassed z m go = (z.marker ≡ Ends) × (go m ≡ Err (ending_refusal m.tokens.refusal))
+abbrev pub PassesAll : More → Machine → (Machine → Result Told Refusal) → Type 0
+PassesAll z m go = (z.marker ≡ Ends) × (go m ≡ Err (ending_refusal m.tokens.refusal))
     × (go (longer z m) ≡ go (longer z (with_pieces [] m)))
 
-none_start : (s : State) (m : Machine) → IsStart s
+none_start : (s : State) (m : Machine) → IsBetweenDocuments s
     → event_step_at s (with_pieces [] m) ≡ Err (ending_refusal m.tokens.refusal)
 unfolding implicit_start explicit_start unpassed_token
 none_start state.ImplicitDocumentStart m i = refl
 none_start state.DocumentStart m i = refl
 none_start _ m i = absurd i
 
-passed : (z : More) (o : Option Refusal) (s : State) (m : Machine) → IsStart s
-    → Passed (with_longer z o) m (longer z m) (event_step_at s) → IsPassed z m (event_step_at s)
-passed z o s m i (ts, us, over, e, y) =
+all_passed : (z : More) (o : Option Refusal) (s : State) (m : Machine) → IsBetweenDocuments s
+    → PassedAll (with_longer z o) m (longer z m) (event_step_at s) → PassesAll z m (event_step_at s)
+all_passed z o s m i (ts, us, over, e, y) =
     let none = over.tokens.0.1 in
     let others : us ≡ z.pieces = ap (λ (r : Remaining). r.pieces) over.tokens.2 ∙ ap (λ ts. ts ++ z.pieces) none in (
       over.tokens.0.0,
@@ -157,8 +157,8 @@ passed z o s m i (ts, us, over, e, y) =
 
 pub steps_agree :
     (z : More) (s : State) (m : Machine) → s ≢ state.End → End z m.tokens.pieces
-    → Agrees z m.tokens.refusal (event_step_at s m) (event_step_at s (longer z m))
-    ⊎ (IsStart s × IsPassed z m (event_step_at s))
+    → AgreesOrEndsEarly z m.tokens.refusal (event_step_at s m) (event_step_at s (longer z m))
+    ⊎ (IsBetweenDocuments s × PassesAll z m (event_step_at s))
 steps_agree z s m on e =
     by (steps_beside w s s m (longer z m) (still_expected w (λ p. refl) s) on (λ i b c k. k)
     (leaves w _ (more z m.tokens) m.keep_tags m (λ p. refl) (e, refl, refl) refl))
@@ -166,9 +166,9 @@ steps_agree z s m on e =
     w : Beside
     w = with_longer z m.tokens.refusal
 
-    by : Tells w (event_step_at s m) (event_step_at s (longer z m))
-        ⊎ (IsStart s × Passed w m (longer z m) (event_step_at s))
-        → Agrees z m.tokens.refusal (event_step_at s m) (event_step_at s (longer z m))
-        ⊎ (IsStart s × IsPassed z m (event_step_at s))
+    by : TellsAlike w (event_step_at s m) (event_step_at s (longer z m))
+        ⊎ (IsBetweenDocuments s × PassedAll w m (longer z m) (event_step_at s))
+        → AgreesOrEndsEarly z m.tokens.refusal (event_step_at s m) (event_step_at s (longer z m))
+        ⊎ (IsBetweenDocuments s × PassesAll z m (event_step_at s))
     by (inl h) = inl (agrees z m.tokens.refusal _ _ h)
-    by (inr (i, p)) = inr (i, passed z m.tokens.refusal s m i p)
+    by (inr (i, p)) = inr (i, all_passed z m.tokens.refusal s m i p)

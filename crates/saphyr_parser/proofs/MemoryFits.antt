@@ -14,7 +14,7 @@ use Rattle.saphyr_parser.specs.TagResolution as tag
 use Rattle.saphyr_parser.specs.ForestEvents.{first_and_others, event_of_part, events_behind}
 use Rattle.saphyr_parser.specs.Steps.Machine.{Names, meaning, with_meaning, next_id}
 use Rattle.saphyr_parser.proofs.Told.Telling.{Memory}
-use Rattle.saphyr_parser.proofs.Remembering.{noted, declaring, after, own_id, resolve, resolve_any, with_properties, event_in, events_in}
+use Rattle.saphyr_parser.proofs.Remembering.{noted, declaring, after, own_id_in, resolve, resolve_any, with_properties, event_in, events_in}
 use Rattle.saphyr_parser.proofs.NameLaws.{different, given_meaning}
 
 -- inside a document
@@ -31,9 +31,9 @@ pub record FitsBetween (keep : Bool) (front : List Part) (e : Memory) : Type 0 w
   pub prefixes : (handle : Handle)
       → meaning (handle_bytes handle) e.prefixes ≡ (if keep then prefix_declared_for keep handle front else None)
 
-abbrev pub Fits : Bool → Bool → List Part → Memory → Type 0
-Fits true keep front e = FitsInside keep front e
-Fits false keep front e = FitsBetween keep front e
+abbrev pub FitsParts : Bool → Bool → List Part → Memory → Type 0
+FitsParts true keep front e = FitsInside keep front e
+FitsParts false keep front e = FitsBetween keep front e
 
 -- ## Parts in their places
 
@@ -64,7 +64,7 @@ id_is e n more h l = omega (arith, h, l)
 
 own_same : (e : Memory) (front : List Part) (anchor : Option (List ℕ)) (more : ℕ) → e.anchors.last ≡ anchors front
     → anchors front + one_more_anchor (option_map encode_utf8_all anchor) more < 2 ^ 64
-    → own_id e anchor ≡ part.own_id front anchor
+    → own_id_in e anchor ≡ part.own_id front anchor
 own_same e front None more h l = refl
 own_same e front (Some name) more h l = id_is e (anchors front) more h l
 
@@ -97,7 +97,7 @@ properties_same make keep front e p more h l =
 
 -- ## The event of a part
 
-event_same : (b keep : Bool) (front : List Part) (e : Memory) (p : Part) (more : ℕ) → May b p → Fits b keep front e
+event_same : (b keep : Bool) (front : List Part) (e : Memory) (p : Part) (more : ℕ) → May b p → FitsParts b keep front e
     → anchors front + one_more_anchor (anchor_of p) more < 2 ^ 64 → event_in e p ≡ event_of_part keep front p
 event_same true keep front e (Reference name) more m h l = ap (option_map Alias) (h.ids (encode_utf8_all name))
 event_same true keep front e (Leaf p style value) more m h l =
@@ -193,9 +193,9 @@ kept_meaning false true handle front names k h = absurd (cc)
 
 -- ## Behind each part
 
-fits_after : (b keep : Bool) (front : List Part) (e : Memory) (p : Part) (more : ℕ) → May b p → Fits b keep front e
+fits_after : (b keep : Bool) (front : List Part) (e : Memory) (p : Part) (more : ℕ) → May b p → FitsParts b keep front e
     → anchors front + one_more_anchor (anchor_of p) more < 2 ^ 64
-    → Fits (inside_behind p b) keep (p ∷ front) (after p e)
+    → FitsParts (inside_behind p b) keep (p ∷ front) (after p e)
 fits_after false keep front e OpenStream more m h l = record { keeps = h.keeps; count = h.count; prefixes = h.prefixes }
 fits_after false keep front e CloseStream more m h l =
     record { keeps = h.keeps; count = h.count; prefixes = h.prefixes }
@@ -230,7 +230,7 @@ room_moves : (anchor : Option (List ℕ)) (n more : ℕ) → n + one_more_anchor
 room_moves None n more l = l
 room_moves (Some _) n more l = omega (arith, l)
 
-pub same_events : (ps : List Part) (b keep : Bool) (front : List Part) (e : Memory) → Within b ps → Fits b keep front e
+pub same_events : (ps : List Part) (b keep : Bool) (front : List Part) (e : Memory) → Within b ps → FitsParts b keep front e
     → anchors front + anchors ps < 2 ^ 64 → events_in e ps ≡ events_behind keep front ps
 same_events [] b keep front e w h l = refl
 same_events (p ∷ ps) b keep front e w h l =

@@ -18,9 +18,9 @@ use Rattle.saphyr_parser.specs.Steps.Machine.{Machine, told_event, empty_scalar}
 use Rattle.saphyr_parser.specs.Steps.Nodes as steps
 use Rattle.saphyr_parser.specs.Steps.Nodes.{node_without_content, node_content_at}
 use Rattle.saphyr_parser.specs.Steps.Expected.{event_step}
-use Rattle.saphyr_parser.proofs.Told.Telling.{Spans, Memory, at}
-use Rattle.saphyr_parser.proofs.Remembering.{after_node, Says, Tells, plainly}
-use Rattle.saphyr_parser.proofs.Told.Nodes.{next_node, IsContent}
+use Rattle.saphyr_parser.proofs.Told.Telling.{SpansByKinds, Memory, at}
+use Rattle.saphyr_parser.proofs.Remembering.{after_node, SaysParts, TellsParts, plainly}
+use Rattle.saphyr_parser.proofs.Told.Nodes.{next_node, IsContentKind}
 
 abbrev pub context_of : grammar.Context → NodeContext
 context_of InFlow = Flow
@@ -124,7 +124,7 @@ MayFollow InBlockMapping tokens.Value = Unit {0}
 MayFollow InBlockMapping tokens.BlockEnd = Unit {0}
 MayFollow _ _ = ⊥
 
-pub follow_is_content : (c : grammar.Context) (k : Kind) → MayFollow c k → IsContent k
+pub follow_is_content : (c : grammar.Context) (k : Kind) → MayFollow c k → IsContentKind k
 follow_is_content InFlow (tokens.Alias _) h = h
 follow_is_content InFlow (tokens.Anchor _) h = h
 follow_is_content InFlow (tokens.Tag _ _) h = h
@@ -160,20 +160,20 @@ follow_ends _ _ q t m h = elim h [ ]
 
 -- From any machine that goes on with a node of these tokens, its events are told, and then those of what follows.
 pub record NodeSays (n : Node) (c : grammar.Context) (t : List Kind) : Type 0 where
-  pub by : (f : Spans) (k : Kind) (ks : List Kind) (m : Machine) (x s : State) (ss : List State) (e : Memory)
+  pub by : (f : SpansByKinds) (k : Kind) (ks : List Kind) (m : Machine) (x s : State) (ss : List State) (e : Memory)
       (ps : List Part) → MayFollow c k → m.state ≢ End
       → event_step m ≡ next_node (context_of c) (at f (t ++ k ∷ ks) x (s ∷ ss) e)
-      → Tells f (k ∷ ks) s ss (after_node n e) ps
-      → Says e m (node_parts n ++ ps)
+      → TellsParts f (k ∷ ks) s ss (after_node n e) ps
+      → SaysParts e m (node_parts n ++ ps)
 
 -- The state behind the node may depend on the tokens that the node begins.
 pub enters : (n : Node) (c : grammar.Context) (t : List Kind) → YieldsNode n c t → NodeSays n c t
-    → (f : Spans) (k : Kind) (ks : List Kind) (machine : List Kind → Machine) (x : State) (behind : List Kind → State)
+    → (f : SpansByKinds) (k : Kind) (ks : List Kind) (machine : List Kind → Machine) (x : State) (behind : List Kind → State)
     (ss : List State) (e : Memory) (ps : List Part) → MayFollow c k → ((l : List Kind) → (machine l).state ≢ End)
     → ((j : Kind) (l : List Kind) → Starts c j
     → event_step (machine (j ∷ l)) ≡ next_node (context_of c) (at f (j ∷ l) x (behind (j ∷ l) ∷ ss) e))
-    → Tells f (k ∷ ks) (behind (t ++ k ∷ ks)) ss (after_node n e) ps
-    → Says e (machine (t ++ k ∷ ks)) (node_parts n ++ ps)
+    → TellsParts f (k ∷ ks) (behind (t ++ k ∷ ks)) ss (after_node n e) ps
+    → SaysParts e (machine (t ++ k ∷ ks)) (node_parts n ++ ps)
 enters n c t h g f k ks machine x behind ss e ps z more go l =
     let d : Head c t = node_head n c t h in
     g.by f k ks (machine (t ++ k ∷ ks)) x (behind (t ++ k ∷ ks)) ss e ps z (more (t ++ k ∷ ks))
@@ -183,38 +183,38 @@ enters n c t h g f k ks machine x behind ss e ps z more go l =
 
 -- one step tells a node that is left out
 pub skipped : (e : Memory) (m n : Machine) (ps : List Part) (span : Span) → m.state ≢ End
-    → event_step m ≡ told_event empty_scalar span n → Says e n ps → Says e m (node_parts forest.left_out ++ ps)
+    → event_step m ≡ told_event empty_scalar span n → SaysParts e n ps → SaysParts e m (node_parts forest.left_out ++ ps)
 unfolding encode
 skipped e m n ps span more q l =
     plainly e m n (Leaf forest.no_properties forest.Plain []) ps empty_scalar span more refl q l
 
-left_out_says : (n : Node) (t : List Kind) (k : Kind) (ks : List Kind) (f : Spans) (machine : List Kind → Machine)
+left_out_says : (n : Node) (t : List Kind) (k : Kind) (ks : List Kind) (f : SpansByKinds) (machine : List Kind → Machine)
     (behind : List Kind → State) (ss : List State) (e : Memory) (ps : List Part) → n ≡ forest.left_out → t ≡ []
-    → (Tells f (k ∷ ks) (behind (k ∷ ks)) ss (after_node forest.left_out e) ps
-    → Says e (machine (k ∷ ks)) (node_parts forest.left_out ++ ps))
-    → Tells f (k ∷ ks) (behind (t ++ k ∷ ks)) ss (after_node n e) ps
-    → Says e (machine (t ++ k ∷ ks)) (node_parts n ++ ps)
+    → (TellsParts f (k ∷ ks) (behind (k ∷ ks)) ss (after_node forest.left_out e) ps
+    → SaysParts e (machine (k ∷ ks)) (node_parts forest.left_out ++ ps))
+    → TellsParts f (k ∷ ks) (behind (t ++ k ∷ ks)) ss (after_node n e) ps
+    → SaysParts e (machine (t ++ k ∷ ks)) (node_parts n ++ ps)
 left_out_says n t k ks f machine behind ss e ps a b q =
-    subst (λ (v : Node). Tells f (k ∷ ks) (behind (t ++ k ∷ ks)) ss (after_node v e) ps
-    → Says e (machine (t ++ k ∷ ks)) (node_parts v ++ ps)) (sym a)
-    (subst (λ (u : List Kind). Tells f (k ∷ ks) (behind (u ++ k ∷ ks)) ss (after_node forest.left_out e) ps
-    → Says e (machine (u ++ k ∷ ks)) (node_parts forest.left_out ++ ps)) (sym b) q)
+    subst (λ (v : Node). TellsParts f (k ∷ ks) (behind (t ++ k ∷ ks)) ss (after_node v e) ps
+    → SaysParts e (machine (t ++ k ∷ ks)) (node_parts v ++ ps)) (sym a)
+    (subst (λ (u : List Kind). TellsParts f (k ∷ ks) (behind (u ++ k ∷ ks)) ss (after_node forest.left_out e) ps
+    → SaysParts e (machine (u ++ k ∷ ks)) (node_parts forest.left_out ++ ps)) (sym b) q)
 
 -- the same of a node that may be left out
 pub enters_or_skips : (n : Node) (c : grammar.Context) (t : List Kind) → YieldsOptional n (YieldsNode n c) t
     → (YieldsNode n c t → NodeSays n c t)
-    → (f : Spans) (k : Kind) (ks : List Kind) (machine : List Kind → Machine) (x : State) (behind : List Kind → State)
+    → (f : SpansByKinds) (k : Kind) (ks : List Kind) (machine : List Kind → Machine) (x : State) (behind : List Kind → State)
     (ss : List State) (e : Memory) (ps : List Part) → MayFollow c k → ((l : List Kind) → (machine l).state ≢ End)
     → (span : Span) → event_step (machine (k ∷ ks)) ≡ told_event empty_scalar span (at f (k ∷ ks) (behind (k ∷ ks)) ss e)
     → ((j : Kind) (l : List Kind) → Starts c j
     → event_step (machine (j ∷ l)) ≡ next_node (context_of c) (at f (j ∷ l) x (behind (j ∷ l) ∷ ss) e))
-    → Tells f (k ∷ ks) (behind (t ++ k ∷ ks)) ss (after_node n e) ps
-    → Says e (machine (t ++ k ∷ ks)) (node_parts n ++ ps)
+    → TellsParts f (k ∷ ks) (behind (t ++ k ∷ ks)) ss (after_node n e) ps
+    → SaysParts e (machine (t ++ k ∷ ks)) (node_parts n ++ ps)
 enters_or_skips n c t (inr h) g f k ks machine x behind ss e ps z more span skip go l =
     enters n c t h (g h) f k ks machine x behind ss e ps z more go l
 enters_or_skips n c t (inl h) g f k ks machine x behind ss e ps z more span skip go l =
-    let q : Tells f (k ∷ ks) (behind (k ∷ ks)) ss (after_node forest.left_out e) ps
-    → Says e (machine (k ∷ ks)) (node_parts forest.left_out ++ ps) =
+    let q : TellsParts f (k ∷ ks) (behind (k ∷ ks)) ss (after_node forest.left_out e) ps
+    → SaysParts e (machine (k ∷ ks)) (node_parts forest.left_out ++ ps) =
     skipped e (machine (k ∷ ks)) (at f (k ∷ ks) (behind (k ∷ ks)) ss e) ps span (more (k ∷ ks)) skip in
     left_out_says n t k ks f machine behind ss e ps h.0 h.1 q l
 

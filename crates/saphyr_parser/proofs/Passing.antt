@@ -99,44 +99,44 @@ fails_at passed first m (stop.Refused f) i h = sym i ∙ fails passed m f h
 -- ## Directives
 
 -- a result that is no refusal keeps the tokens of m
-Keeps : Machine → Result (Declared × Machine) Refusal → Type 0
-Keeps m r = (e : Declared) (n : Machine) → r ≡ Ok (e, n) → n.tokens ≡ m.tokens
+KeepsTokens : Machine → Result (Declared × Machine) Refusal → Type 0
+KeepsTokens m r = (e : Declared) (n : Machine) → r ≡ Ok (e, n) → n.tokens ≡ m.tokens
 
 later : (d e : Declared) (m n : Machine) → (let r : Result (Declared × Machine) Refusal = Ok (d, m) in r) ≡ Ok (e, n)
     → m ≡ n
 later d e m n h = ap (λ (p : Declared × Machine). p.1) (ok_inside (d, m) (e, n) h)
 
-changed : (d : Declared) (m : Machine) (prefixes : Names (List ℕ)) → Keeps m (Ok (d, record m { prefixes = prefixes }))
-unfolding Keeps
+changed : (d : Declared) (m : Machine) (prefixes : Names (List ℕ)) → KeepsTokens m (Ok (d, record m { prefixes = prefixes }))
+unfolding KeepsTokens
 changed d m p e n h = ap (λ (k : Machine). k.tokens) (sym (later d e (record m { prefixes = p }) n h))
 
-nothing_changed : (d : Declared) (m : Machine) → Keeps m (Ok (d, m))
-unfolding Keeps
+nothing_changed : (d : Declared) (m : Machine) → KeepsTokens m (Ok (d, m))
+unfolding KeepsTokens
 nothing_changed d m e n h = ap (λ (k : Machine). k.tokens) (sym (later d e m n h))
 
-refusal_keeps : (m : Machine) (f : Refusal) → Keeps m (Err f)
-unfolding Keeps
+refusal_keeps : (m : Machine) (f : Refusal) → KeepsTokens m (Err f)
+unfolding KeepsTokens
 refusal_keeps m f e n h = absurd (cc)
 
 versions : (b : Bool) (place : Marker) (d : Declared) (m : Machine)
-    → Keeps m ((if b then Err (record { text = fault.DuplicateVersionDirective; mark = place }) else Ok
+    → KeepsTokens m ((if b then Err (record { text = fault.DuplicateVersionDirective; mark = place }) else Ok
     (record { version = true; handles = d.handles })) >>= (λ e. Ok (e, m)))
 versions true place d m = refusal_keeps m _
 versions false place d m = nothing_changed _ m
 
 handles : (b : Bool) (f : Refusal) (d : Declared) (m : Machine) (prefixes : Names (List ℕ))
-    → Keeps m (if b then Err f else Ok (d, record m { prefixes = prefixes }))
+    → KeepsTokens m (if b then Err f else Ok (d, record m { prefixes = prefixes }))
 handles true f d m p = refusal_keeps m f
 handles false f d m p = changed d m p
 
-keeps_tokens : (k : Kind) (t : Piece) (d : Declared) (m : Machine) → Keeps m (directive_at k t d m)
+keeps_tokens : (k : Kind) (t : Piece) (d : Declared) (m : Machine) → KeepsTokens m (directive_at k t d m)
 keeps_tokens (tokens.VersionDirective major minor) t d m = versions d.version t.span.start d m
 keeps_tokens (tokens.TagDirective handle prefix) t d m = handles (is_listed handle d.handles) _ _ m _
 keeps_tokens _ t d m = nothing_changed d m
 
 tokens_kept : (k : Kind) (t : Piece) (d e : Declared) (m n : Machine) → directive_at k t d m ≡ Ok (e, n)
     → n.tokens ≡ m.tokens
-unfolding Keeps
+unfolding KeepsTokens
 tokens_kept k t d e m n h = keeps_tokens k t d m e n h
 
 directs_from : (ts : List Piece) (d : Declared) (m n : Machine) (t : Piece) → taken_token_from ts m ≡ Ok (t, n)

@@ -10,8 +10,8 @@ use Rattle.saphyr_parser.specs.declared.parser.state.State.{State}
 use Rattle.saphyr_parser.specs.declared.parser.state.State.TheVariants as state
 use Rattle.saphyr_parser.specs.Steps.Machine.{Machine, Told}
 use Rattle.saphyr_parser.specs.Steps.Expected.{event_step_at}
-use Rattle.saphyr_parser.proofs.Beside.Machines.{Beside, Behind, Left, Tells}
-use Rattle.saphyr_parser.proofs.Beside.Documents.{steps_beside, IsStart, Passed}
+use Rattle.saphyr_parser.proofs.Beside.Machines.{Beside, Behind, Left, TellsAlike}
+use Rattle.saphyr_parser.proofs.Beside.Documents.{steps_beside, IsBetweenDocuments, PassedAll}
 use Rattle.saphyr_parser.proofs.Beside.Maps.{placed, expected, puts, becomes, tells_so}
 
 -- ## Machines without places
@@ -82,7 +82,7 @@ placeless_left m n (inl near) = becomes without_places _ (λ p. no_place) _ m.ke
     near.setting
 placeless_left m n (inr (d, over, a)) = absurd over.tokens
 
-told_same : (p q : Result Told Refusal) → Tells without_places p q → Same p q
+told_same : (p q : Result Told Refusal) → TellsAlike without_places p q → Same p q
 told_same (Ok x) (Ok y) h =
     ap Ok (tells_so without_places (λ p. no_place) x y _ (λ p q e. e) h (placeless_left x.machine y.machine h.machine))
 told_same (Ok x) (Err g) h = absurd h
@@ -97,8 +97,8 @@ others_same s m on =
     (expected without_places (λ p. no_place) (λ p. refl) s) on (λ e b c k. k)
     (puts without_places _ (λ p. no_place) (placeless_tokens m.tokens) m.keep_tags m (λ p. refl) refl refl))
   where
-    by : Tells without_places (event_step_at s m) (event_step_at (placeless_state s) (placeless m))
-        ⊎ (IsStart s × Passed without_places m (placeless m) (event_step_at s))
+    by : TellsAlike without_places (event_step_at s m) (event_step_at (placeless_state s) (placeless m))
+        ⊎ (IsBetweenDocuments s × PassedAll without_places m (placeless m) (event_step_at s))
         → Same (event_step_at s m) (event_step_at (placeless_state s) (placeless m))
     by (inl h) = told_same _ _ h
     by (inr (i, p)) = absurd p.2.tokens

@@ -18,9 +18,9 @@ use Rattle.saphyr_parser.proofs.Walk.Steps.{is_end, Walk}
 use Rattle.saphyr_parser.proofs.Walk.All.{Resumes, IsFailed, runs}
 
 -- a refusal with such a place
-abbrev pub IsRefused : (Marker → Type 0) → Option Refusal → Type 0
-IsRefused P None = ⊥
-IsRefused P (Some e) = P e.mark
+abbrev pub IsRefusedAt : (Marker → Type 0) → Option Refusal → Type 0
+IsRefusedAt P None = ⊥
+IsRefusedAt P (Some e) = P e.mark
 
 -- the end of the stream, behind which none of the tokens ts stands, or else A
 abbrev pub IsLastOr : Type 0 → List Piece → Kind → Type 0
@@ -29,10 +29,10 @@ IsLastOr A ts _ = A
 
 -- the end of the stream is the last token and no other, or a refusal with such a place ends the tokens
 abbrev pub AreEnded : (Marker → Type 0) → Option Refusal → List Piece → Type 0
-AreEnded P r [] = IsRefused P r
+AreEnded P r [] = IsRefusedAt P r
 AreEnded P r (t ∷ ts) = IsLastOr (AreEnded P r ts) ts t.kind
 
-refused_mark : (P : Marker → Type 0) (r : Option Refusal) → IsRefused P r → P (ending_refusal r).mark
+refused_mark : (P : Marker → Type 0) (r : Option Refusal) → IsRefusedAt P r → P (ending_refusal r).mark
 refused_mark P None h = absurd h
 refused_mark P (Some e) h = h
 

@@ -16,7 +16,7 @@ use Rattle.saphyr_parser.specs.Steps.Machine.{Names, meaning, with_meaning, with
 use Rattle.saphyr_parser.specs.Steps.Expected.{event_step}
 use Rattle.saphyr_parser.specs.Answer.{remaining_answer}
 use Rattle.saphyr_parser.specs.Exactly.{GivesExactly}
-use Rattle.saphyr_parser.proofs.Told.Telling.{Spans, Memory, at, tells}
+use Rattle.saphyr_parser.proofs.Told.Telling.{SpansByKinds, Memory, at, tells}
 
 -- ## What is remembered
 
@@ -74,9 +74,9 @@ abbrev mutual
 
 -- ## The events
 
-abbrev pub own_id : Memory → Option (List ℕ) → ℕ
-own_id e None = 0
-own_id e (Some _) = next_id e.anchors
+abbrev pub own_id_in : Memory → Option (List ℕ) → ℕ
+own_id_in e None = 0
+own_id_in e (Some _) = next_id e.anchors
 
 abbrev pub resolve : Names (List ℕ) → Tag → Option ResolvedTag
 resolve names NonSpecific = Some (record { handle = []; suffix = codes "!" })
@@ -91,7 +91,7 @@ resolve_any names (Some tag) = option_map Some (resolve names tag)
 
 -- the event of a node with properties
 abbrev pub with_properties : (ℕ → Option ResolvedTag → Happening) → Memory → forest.Properties → Option Happening
-with_properties make e p = option_map (make (own_id e p.anchor)) (resolve_any e.prefixes p.tag)
+with_properties make e p = option_map (make (own_id_in e p.anchor)) (resolve_any e.prefixes p.tag)
 
 abbrev pub event_in : Memory → Part → Option Happening
 event_in e OpenStream = Some StreamStart
@@ -112,35 +112,35 @@ events_in e (part ∷ others) = first_and_others (event_in e part) (events_in (a
 -- ## What a machine tells
 
 -- the machine gives the events of these parts, if they have events
-abbrev pub Says : Memory → Machine → List Part → Type 0
-Says e m ps = (es : List Happening) → events_in e ps ≡ Some es → GivesExactly es (remaining_answer m)
+abbrev pub SaysParts : Memory → Machine → List Part → Type 0
+SaysParts e m ps = (es : List Happening) → events_in e ps ≡ Some es → GivesExactly es (remaining_answer m)
 
 -- the same of a machine that remembers just that
-abbrev pub Tells : Spans → List Kind → State → List State → Memory → List Part → Type 0
-Tells f ks s ss e ps = Says e (at f ks s ss e) ps
+abbrev pub TellsParts : SpansByKinds → List Kind → State → List State → Memory → List Part → Type 0
+TellsParts f ks s ss e ps = SaysParts e (at f ks s ss e) ps
 
-before_all_parts : (a : Option Happening) (b : Option (List Happening)) (es : List Happening) → first_and_others a b ≡ Some es
+first_and_others_parts : (a : Option Happening) (b : Option (List Happening)) (es : List Happening) → first_and_others a b ≡ Some es
     → (w : Happening) × (ws : List Happening) × (a ≡ Some w) × (b ≡ Some ws) × (w ∷ ws ≡ es)
-before_all_parts (Some w) (Some ws) es h = (w, ws, refl, refl, (cc))
-before_all_parts (Some w) None es h = absurd (cc)
-before_all_parts None b es h = absurd (cc)
+first_and_others_parts (Some w) (Some ws) es h = (w, ws, refl, refl, (cc))
+first_and_others_parts (Some w) None es h = absurd (cc)
+first_and_others_parts None b es h = absurd (cc)
 
 -- one step tells the first part
 pub says : (e : Memory) (m n : Machine) (part : Part) (ps : List Part) → m.state ≢ End
     → ((w : Happening) → event_in e part ≡ Some w → (span : Span) × (event_step m ≡ told_event w span n))
-    → Says (after part e) n ps
-    → Says e m (part ∷ ps)
+    → SaysParts (after part e) n ps
+    → SaysParts e m (part ∷ ps)
 says e m n part ps more go h es q =
     let r : (w : Happening) × (ws : List Happening) × (event_in e part ≡ Some w)
     × (events_in (after part e) ps ≡ Some ws) × (w ∷ ws ≡ es) =
-    before_all_parts (event_in e part) (events_in (after part e) ps) es q in
+    first_and_others_parts (event_in e part) (events_in (after part e) ps) es q in
     let s : (span : Span) × (event_step m ≡ told_event r.0 span n) = go r.0 r.2 in
     subst (λ l. GivesExactly l (remaining_answer m)) r.4
     (tells m (record { what = r.0; span = s.0; machine = n }) r.1 more s.1 (h r.1 r.3))
 
 -- the same of a part that always has its event
 pub plainly : (e : Memory) (m n : Machine) (part : Part) (ps : List Part) (w : Happening) (span : Span) → m.state ≢ End
-    → event_in e part ≡ Some w → event_step m ≡ told_event w span n → Says (after part e) n ps → Says e m (part ∷ ps)
+    → event_in e part ≡ Some w → event_step m ≡ told_event w span n → SaysParts (after part e) n ps → SaysParts e m (part ∷ ps)
 plainly e m n part ps w span more a q h =
     says e m n part ps more (λ v b.
     (span, q ∙ ap (λ u. told_event u span n) (let same : w ≡ v = (let c : Some w ≡ Some v = sym a ∙ b in cc) in same))) h

@@ -16,8 +16,8 @@ use Rattle.saphyr_parser.specs.Steps.Expected.{event_step, event_step_at}
 use Rattle.saphyr_parser.specs.Cursor.{EventCursor, Kept, keeping_tags}
 use Rattle.saphyr_parser.specs.Calls.{Advances}
 use Rattle.saphyr_parser.specs.Steps.Settings.{with_keep_tags, with_setting}
-use Rattle.saphyr_parser.proofs.Beside.Machines.{Beside, Behind, Left, Tells}
-use Rattle.saphyr_parser.proofs.Beside.Documents.{IsStart, Passed, steps_beside}
+use Rattle.saphyr_parser.proofs.Beside.Machines.{Beside, Behind, Left, TellsAlike}
+use Rattle.saphyr_parser.proofs.Beside.Documents.{IsBetweenDocuments, PassedAll, steps_beside}
 use Rattle.saphyr_parser.proofs.Beside.Maps.{becomes, tells_so, stay, still_expected, leaves}
 
 -- ## All steps
@@ -54,7 +54,7 @@ set_left b m n (inl near) =
     becomes (with_set b) _ (λ p. p) m.tokens b m n (λ p q e. e) near near.tokens near.setting ∙ stay m.tokens b m
 set_left b m n (inr (d, over, a)) = absurd over.tokens
 
-set_same : (b : Bool) (p q : Result Told Refusal) → Tells (with_set b) p q → q ≡ with_setting b p
+set_same : (b : Bool) (p q : Result Told Refusal) → TellsAlike (with_set b) p q → q ≡ with_setting b p
 set_same b (Ok x) (Ok y) h =
     ap Ok (tells_so (with_set b) (λ p. p) x y _ (λ p q e. e) h (set_left b x.machine y.machine h.machine))
 set_same b (Ok x) (Err g) h = absurd h
@@ -69,8 +69,8 @@ others_at b s m on other =
     by (steps_beside (with_set b) s s m (with_keep_tags b m) (still_expected (with_set b) (λ p. refl) s) on
     (λ e. absurd (other e)) (leaves (with_set b) _ m.tokens b m (λ p. refl) refl refl))
   where
-    by : Tells (with_set b) (event_step_at s m) (event_step_at s (with_keep_tags b m))
-        ⊎ (IsStart s × Passed (with_set b) m (with_keep_tags b m) (event_step_at s))
+    by : TellsAlike (with_set b) (event_step_at s m) (event_step_at s (with_keep_tags b m))
+        ⊎ (IsBetweenDocuments s × PassedAll (with_set b) m (with_keep_tags b m) (event_step_at s))
         → event_step_at s (with_keep_tags b m) ≡ with_setting b (event_step_at s m)
     by (inl h) = set_same b _ _ h
     by (inr (i, p)) = absurd p.2.tokens

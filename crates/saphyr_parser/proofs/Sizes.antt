@@ -6,7 +6,7 @@ use Rattle.saphyr_parser.specs.declared.parser.state.State.TheVariants as state
 use Rattle.saphyr_parser.specs.Steps.Machine.{Machine, Told}
 use Rattle.saphyr_parser.specs.Steps.Expected.{event_step}
 use Rattle.saphyr_parser.specs.Answer.{machine_size}
-use Rattle.saphyr_parser.proofs.Walk.Steps.{Walk, HasPlace, HavePlaces, Gives}
+use Rattle.saphyr_parser.proofs.Walk.Steps.{Walk, HasPlace, HavePlaces, StepGives}
 use Rattle.saphyr_parser.proofs.Walk.All.{steps_at}
 
 -- no more than n is left to do
@@ -37,7 +37,7 @@ any_places : (ss : List State) → HavePlaces (λ a b. Unit {0}) ss
 any_places [] = tt
 any_places (s ∷ ss) = (any_place s, any_places ss)
 
-size_left : (n : ℕ) (x : Told) → Gives (measured n) (Ok x) → machine_size x.machine ≤ n
+size_left : (n : ℕ) (x : Told) → StepGives (measured n) (Ok x) → machine_size x.machine ≤ n
 size_left n x g = let l : 10 * length x.machine.tokens.pieces + _ ≤ n + 10 = g.1.rests in omega (arith, l)
 
 pub step_leaves : (n : ℕ) (m : Machine) (x : Told) → m.state ≢ state.End → machine_size m ≤ n + 1 → event_step m ≡ Ok x
@@ -46,6 +46,6 @@ unfolding event_step
 step_leaves n m x alive l e =
     let place : Marker = record { index = 0; line = 0; col = 0 } in
     size_left n x
-    (subst (Gives (measured n)) e
+    (subst (StepGives (measured n)) e
     (steps_at (measured n) {low = place} m.state m alive (any_place m.state)
     (record { pieces = omega (arith, l); places = any_places m.states })))

@@ -25,27 +25,27 @@ use Rattle.saphyr_parser.proofs.Remembering.{after, event_in, events_in}
 use Rattle.saphyr_parser.proofs.MemoryFits.{Within, same_events}
 use Rattle.saphyr_parser.proofs.Promises.Forests.{documents_within, all_compatible, at_first, fits_start}
 use Rattle.saphyr_parser.proofs.Unroll.{unroll, over, shrinks_at}
-use Rattle.saphyr_parser.proofs.Turned.Following.{IsAlive, IsOutside, IsInside}
+use Rattle.saphyr_parser.proofs.Turned.Following.{IsAlive, IsOutside, IsInsideDocument}
 use Rattle.saphyr_parser.proofs.Turned.Turning.{machine, memory, Goes, Turned, weaker, kinds_append}
 use Rattle.saphyr_parser.proofs.Turned.Entries.{Wanted}
 use Rattle.saphyr_parser.proofs.Turned.Sequences as sequence
 use Rattle.saphyr_parser.proofs.Turned.Mappings as mapping
 use Rattle.saphyr_parser.proofs.Turned.Block as block
-use Rattle.saphyr_parser.proofs.Turned.Documents.{Over, Moves, moves}
+use Rattle.saphyr_parser.proofs.Turned.Documents.{Over, MovesOn, moves}
 use Rattle.saphyr_parser.proofs.Turned.Documents as document
 use Rattle.saphyr_parser.proofs.Turned.DocumentEnds as behind
 use Rattle.saphyr_parser.proofs.Completions.{Completion, completed, quiet_events, some_events, quiet_anchors}
-use Rattle.saphyr_parser.proofs.Happenings.{told_of}
+use Rattle.saphyr_parser.proofs.Happenings.{happenings_of}
 
 -- ## Each step
 
 -- a state before which any token may stand
 plainly : (F G : List Kind → List Part → Type 0) (e : Memory) (k : List Piece) (r : Result Told Refusal)
-    → ((ks : List Kind) (ps : List Part) → F ks ps → G ks ps) → Turned F e k r → Moves G e k r
+    → ((ks : List Kind) (ps : List Part) → F ks ps → G ks ps) → Turned F e k r → MovesOn G e k r
 plainly F G e k r i h = moves G e k r (weaker F G e k r i h)
 
 outside_moves : (s x : State) (ts : List Piece) (r : Option Refusal) (e : Memory) → AreWellFormed ts → IsOutside s
-    → Moves (Wanted s [] (kinds ts)) e ts (event_step_at s (machine ts r x [] e))
+    → MovesOn (Wanted s [] (kinds ts)) e ts (event_step_at s (machine ts r x [] e))
 outside_moves state.StreamStart x ts r e w i =
     moves (Wanted state.StreamStart [] (kinds ts)) e ts _ (document.stream_turned ts r x e)
 outside_moves state.ImplicitDocumentStart x ts r e w i = document.implicit_moves ts r x e w
@@ -55,7 +55,7 @@ outside_moves state.DocumentEnd x ts r e w i =
 outside_moves _ x ts r e w i = elim i [ ]
 
 inside_moves : (s x o : State) (ss : List State) (ts : List Piece) (r : Option Refusal) (e : Memory) → AreWellFormed ts
-    → IsInside s → IsAlive o ss → Moves (Wanted s (o ∷ ss) (kinds ts)) e ts
+    → IsInsideDocument s → IsAlive o ss → MovesOn (Wanted s (o ∷ ss) (kinds ts)) e ts
     (event_step_at s (machine ts r x (o ∷ ss) e))
 inside_moves state.DocumentContent x o ss ts r e w i a =
     plainly _ (Wanted state.DocumentContent (o ∷ ss) (kinds ts)) e ts _ (λ ks ps f. (f, tt))
@@ -102,14 +102,14 @@ inside_moves state.FlowMappingEmptyValue x o ss ts r e w i a =
 inside_moves _ x o ss ts r e w i a = elim i [ ]
 
 step_moves : (s x : State) (ss : List State) (ts : List Piece) (r : Option Refusal) (e : Memory) → AreWellFormed ts
-    → IsAlive s ss → Moves (Wanted s ss (kinds ts)) e ts (event_step_at s (machine ts r x ss e))
+    → IsAlive s ss → MovesOn (Wanted s ss (kinds ts)) e ts (event_step_at s (machine ts r x ss e))
 step_moves s x [] ts r e w a = outside_moves s x ts r e w a
 step_moves s x (o ∷ ss) ts r e w a = inside_moves s x o ss ts r e w a.0 a.1
 
 -- ## All steps
 
 -- The events are a beginning of those of some parts that may follow, by a beginning of their tokens.
-pub record Finishes (s : State) (ss : List State) (ts : List Piece) (e : Memory) (a : Answer) : Type 0 where
+pub record BeginsSomeParts (s : State) (ss : List State) (ts : List Piece) (e : Memory) (a : Answer) : Type 0 where
   pub read : List Piece
   pub unread : List Piece
   pub expected : List Kind
@@ -117,7 +117,7 @@ pub record Finishes (s : State) (ss : List State) (ts : List Piece) (e : Memory)
   pub missing : List Happening
   pub are_read : ts ≡ read ++ unread
   pub wanted : Wanted s ss (kinds ts) (kinds read ++ expected) parts
-  pub told : events_in e parts ≡ Some (told_of a ++ missing)
+  pub told : events_in e parts ≡ Some (happenings_of a ++ missing)
   pub few : anchors parts ≤ length read
   pub places : HaveTokens unread a.events read
   pub all_read : IsAllUnless a.fault unread
@@ -125,7 +125,7 @@ pub record Finishes (s : State) (ss : List State) (ts : List Piece) (e : Memory)
   pub all_given : IsCut a.fault missing
 
 finishes_at_fault : (s : State) (ss : List State) (ts : List Piece) (e : Memory) (f : Refusal) → IsAlive s ss
-    → Finishes s ss ts e (fault_alone (ending_of f))
+    → BeginsSomeParts s ss ts e (fault_alone (ending_of f))
 finishes_at_fault s ss ts e f a =
     let c : Completion s ss = completed ss s a in
     let es : (es : List Happening) × (events_in e c.parts ≡ Some es) = quiet_events c.parts e c.quiet in
@@ -157,8 +157,8 @@ more_anchors (Some x) n a b h k = omega (arith, h, k)
 
 finishes_behind_event : (s : State) (ss : List State) (ts : List Piece) (e : Memory) (x : Told) (a : Answer)
     → Goes (Wanted s ss (kinds ts)) e ts x
-    → Finishes x.machine.state x.machine.states x.machine.tokens.pieces (memory x.machine) a
-    → Finishes s ss ts e (with_first_event (x.what, x.span) a)
+    → BeginsSomeParts x.machine.state x.machine.states x.machine.tokens.pieces (memory x.machine) a
+    → BeginsSomeParts s ss ts e (with_first_event (x.what, x.span) a)
 finishes_behind_event s ss ts e x a g h = record {
   read = g.used ++ h.read;
   unread = h.unread;
@@ -170,8 +170,8 @@ finishes_behind_event s ss ts e x a g h = record {
       (sym (ap (λ (l : List Kind). l ++ h.expected) (kinds_append g.used h.read)
       ∙ append_assoc (kinds g.used) (kinds h.read) h.expected))
       (g.makes (kinds h.read ++ h.expected) h.parts h.wanted.0 h.wanted.1);
-  told = events_joined g.part h.parts e x.what (told_of a ++ h.missing) g.tells
-      (subst (λ (m : Memory). events_in m h.parts ≡ Some (told_of a ++ h.missing)) g.remembers h.told);
+  told = events_joined g.part h.parts e x.what (happenings_of a ++ h.missing) g.tells
+      (subst (λ (m : Memory). events_in m h.parts ≡ Some (happenings_of a ++ h.missing)) g.remembers h.told);
   few = (let l = length-append g.used h.read in let m =
       more_anchors (anchor_of g.part) (anchors h.parts) (length g.used) (length h.read) g.few h.few in
       omega (arith, l, m));
@@ -183,7 +183,7 @@ finishes_behind_event s ss ts e x a g h = record {
 }
 
 is_over : (s : State) (ss : List State) (ts : List Piece) (e : Memory) (x : Told) → Over (Wanted s ss (kinds ts)) e ts x
-    → Finishes s ss ts e (with_first_event (x.what, x.span) empty_answer)
+    → BeginsSomeParts s ss ts e (with_first_event (x.what, x.span) empty_answer)
 is_over s ss ts e x o = record {
   read = ts;
   unread = [];
@@ -207,37 +207,37 @@ behind_used (t ∷ used) ts us e w = behind_used used (used ++ us) us refl ((sub
 
 alive_is_no_end : (s : State) (ss : List State) → IsAlive s ss → s ≢ state.End
 alive_is_no_end s [] a e = subst IsOutside e a
-alive_is_no_end s (o ∷ ss) a e = subst IsInside e a.0
+alive_is_no_end s (o ∷ ss) a e = subst IsInsideDocument e a.0
 
 finishes : (n : ℕ) (m : Machine) → machine_size m < n → AreWellFormed m.tokens.pieces → IsAlive m.state m.states
-    → Finishes m.state m.states m.tokens.pieces (memory m) (remaining_answer m)
+    → BeginsSomeParts m.state m.states m.tokens.pieces (memory m) (remaining_answer m)
 unfolding event_step
 finishes zero m l w a = absurd (omega (arith, l))
 finishes (suc n) m l w a =
-    subst (λ (b : Answer). Finishes m.state m.states m.tokens.pieces (memory m) b)
+    subst (λ (b : Answer). BeginsSomeParts m.state m.states m.tokens.pieces (memory m) b)
     (sym (unroll m (alive_is_no_end m.state m.states a)))
     (by (event_step m) refl (step_moves m.state m.state m.states m.tokens.pieces m.tokens.refusal (memory m) w a)
     (λ k. finishes n k))
   where
     by : (r : Result Told Refusal) → event_step m ≡ r
-        → Moves (Wanted m.state m.states (kinds m.tokens.pieces)) (memory m) m.tokens.pieces r
+        → MovesOn (Wanted m.state m.states (kinds m.tokens.pieces)) (memory m) m.tokens.pieces r
         → ((k : Machine) → machine_size k < n → AreWellFormed k.tokens.pieces → IsAlive k.state k.states
-        → Finishes k.state k.states k.tokens.pieces (memory k) (remaining_answer k))
-        → Finishes m.state m.states m.tokens.pieces (memory m) (answer_of_step r remaining_answer)
+        → BeginsSomeParts k.state k.states k.tokens.pieces (memory k) (remaining_answer k))
+        → BeginsSomeParts m.state m.states m.tokens.pieces (memory m) (answer_of_step r remaining_answer)
     by (Err f) e h go = finishes_at_fault m.state m.states m.tokens.pieces (memory m) f a
     by (Ok x) e (inl g) go =
         finishes_behind_event m.state m.states m.tokens.pieces (memory m) x (remaining_answer x.machine) g
         (go x.machine (let s = shrinks_at (machine_size m) m x (omega arith) e in omega (arith, l, s))
         (behind_used g.used m.tokens.pieces x.machine.tokens.pieces g.taken w) g.alive)
     by (Ok x) e (inr o) go =
-        subst (λ (b : Answer). Finishes m.state m.states m.tokens.pieces (memory m)
+        subst (λ (b : Answer). BeginsSomeParts m.state m.states m.tokens.pieces (memory m)
         (with_first_event (x.what, x.span) b))
         (sym (over x.machine o.is_over)) (is_over m.state m.states m.tokens.pieces (memory m) x o)
 
 -- ## From the start
 
 from_start : (tokens : Remaining) (keep : Bool) (a : Answer) → length tokens.pieces < 2 ^ 64
-    → Finishes state.StreamStart [] tokens.pieces (at_first keep) a → BeginsSomeForest keep tokens a
+    → BeginsSomeParts state.StreamStart [] tokens.pieces (at_first keep) a → BeginsSomeForest keep tokens a
 from_start tokens keep a l h =
     let f : Forest = h.wanted.0.0 in
     let yielded : Yields f (kinds h.read ++ h.expected) = h.wanted.0.1 in
@@ -260,7 +260,7 @@ from_start tokens keep a l h =
         missing =
             h.missing;
         are_events = sym same
-            ∙ subst (λ (ps : List Part). events_in (at_first keep) ps ≡ Some (told_of a ++ h.missing)) are h.told;
+            ∙ subst (λ (ps : List Part). events_in (at_first keep) ps ≡ Some (happenings_of a ++ h.missing)) are h.told;
         places =
             h.places;
         all_read = h.all_read;

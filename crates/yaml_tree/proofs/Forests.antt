@@ -26,16 +26,16 @@ record Begins (e : Option Happening) (o : Option (List Happening)) (es : List Ha
   are : o ≡ Some others
   joined : es ≡ first ∷ others
 
-before_all_begins : (e : Option Happening) (o : Option (List Happening)) (es : List Happening)
+first_and_others_begins : (e : Option Happening) (o : Option (List Happening)) (es : List Happening)
     → first_and_others e o ≡ Some es
     → Begins e o es
-before_all_begins (Some h) (Some hs) es p = record { first = h; others = hs; is = refl; are = refl; joined = cc }
-before_all_begins (Some h) None es p = absurd (cc)
-before_all_begins None (Some hs) es p = absurd (cc)
-before_all_begins None None es p = absurd (cc)
+first_and_others_begins (Some h) (Some hs) es p = record { first = h; others = hs; is = refl; are = refl; joined = cc }
+first_and_others_begins (Some h) None es p = absurd (cc)
+first_and_others_begins None (Some hs) es p = absurd (cc)
+first_and_others_begins None None es p = absurd (cc)
 
 -- parts are passed, and their events lead from a nest to another
-record Passes (keep : Bool) (rest : List Part) (es : List Happening) (n m : Nest) : Type 0 where
+record PassesParts (keep : Bool) (rest : List Part) (es : List Happening) (n m : Nest) : Type 0 where
   front : List Part
   more : List Happening
   are : events_behind keep front rest ≡ Some more
@@ -44,9 +44,9 @@ record Passes (keep : Bool) (rest : List Part) (es : List Happening) (n m : Nest
 one_part : (keep : Bool) (front : List Part) (part : Part) (rest : List Part) (es : List Happening) (n m : Nest)
     → events_behind keep front (part ∷ rest) ≡ Some es
     → ((h : Happening) → event_of_part keep front part ≡ Some h → nest_behind_event h n ≡ Some m)
-    → Passes keep rest es n m
+    → PassesParts keep rest es n m
 one_part keep front part rest es n m p step =
-    let b = before_all_begins (event_of_part keep front part) (events_behind keep (part ∷ front) rest) es p in
+    let b = first_and_others_begins (event_of_part keep front part) (events_behind keep (part ∷ front) rest) es p in
     record {
       front = part ∷ front;
       more = b.others;
@@ -55,15 +55,15 @@ one_part keep front part rest es n m p step =
           ∙ ap (option_and_then (nest_behind_all b.others)) (step b.first b.is);
     }
 
-and_then : (keep : Bool) (rest more : List Part) (es : List Happening) (n m k : Nest) → Passes keep rest es n m
-    → ((front : List Part) (hs : List Happening) → events_behind keep front rest ≡ Some hs → Passes keep more hs m k)
-    → Passes keep more es n k
+and_then : (keep : Bool) (rest more : List Part) (es : List Happening) (n m k : Nest) → PassesParts keep rest es n m
+    → ((front : List Part) (hs : List Happening) → events_behind keep front rest ≡ Some hs → PassesParts keep more hs m k)
+    → PassesParts keep more es n k
 and_then keep rest more es n m k a next =
     let b = next a.front a.more a.are in
     record { front = b.front; more = b.more; are = b.are; same = a.same ∙ b.same }
 
 no_part : (keep : Bool) (front rest : List Part) (es : List Happening) (n : Nest)
-    → events_behind keep front rest ≡ Some es → Passes keep rest es n n
+    → events_behind keep front rest ≡ Some es → PassesParts keep rest es n n
 no_part keep front rest es n p = record { front = front; more = es; are = p; same = refl }
 
 mapped : {A : Type 0} (f : A → Happening) (o : Option A) (h : Happening) (n : Nest) (m : Option Nest)
@@ -88,7 +88,7 @@ mutual
   node_passes : (keep : Bool) (node : Node) (front rest : List Part) (es : List Happening) (n : Nest)
       (place : NestPlace)
       → place_behind_node n.innermost ≡ Some place
-      → events_behind keep front (node_parts node ++ rest) ≡ Some es → Passes keep rest es n (at n place)
+      → events_behind keep front (node_parts node ++ rest) ≡ Some es → PassesParts keep rest es n (at n place)
   node_passes keep (Alias name) front rest es n place h p =
       one_part keep front (parts.Reference name) rest es n _ p
       (λ e q. mapped events.Alias _ e n _ (λ id. behind_moved n place h) q)
@@ -116,7 +116,7 @@ mutual
 
   entries_pass : (keep : Bool) (nodes : Nodes) (front rest : List Part) (es : List Happening) (outer : List NestPlace)
       → events_behind keep front (entry_parts nodes ++ rest) ≡ Some es
-      → Passes keep rest es (record { innermost = InSequence; outer = outer })
+      → PassesParts keep rest es (record { innermost = InSequence; outer = outer })
       (record { innermost = InSequence; outer = outer })
   entries_pass keep NoNode front rest es outer p = no_part keep front rest es _ p
   entries_pass keep (MoreNodes node nodes) front rest es outer p =
@@ -126,7 +126,7 @@ mutual
 
   pairs_pass : (keep : Bool) (pairs : Pairs) (front rest : List Part) (es : List Happening) (outer : List NestPlace)
       → events_behind keep front (pair_parts pairs ++ rest) ≡ Some es
-      → Passes keep rest es (record { innermost = BeforeKey; outer = outer })
+      → PassesParts keep rest es (record { innermost = BeforeKey; outer = outer })
       (record { innermost = BeforeKey; outer = outer })
   pairs_pass keep NoPair front rest es outer p = no_part keep front rest es _ p
   pairs_pass keep (MorePairs key value pairs) front rest es outer p =
@@ -145,7 +145,7 @@ stream = record { innermost = InStream; outer = [] }
 
 documents_pass : (keep : Bool) (documents : Forest) (front : List Part) (es : List Happening)
     → events_behind keep front (document_parts documents) ≡ Some es
-    → Passes keep [] es stream nest_behind_stream
+    → PassesParts keep [] es stream nest_behind_stream
 documents_pass keep [] front es p = one_part keep front parts.CloseStream [] es _ nest_behind_stream p
     (λ e q. given events.StreamEnd e _ _ refl q)
 documents_pass keep (d ∷ ds) front es p =
@@ -161,7 +161,7 @@ documents_pass keep (d ∷ ds) front es p =
     and_then keep _ [] es stream _ nest_behind_stream ended (λ f hs q. documents_pass keep ds f hs q)
 
 forest_passes : (forest : Forest) (keep : Bool) (es : List Happening) → forests.events forest keep ≡ Some es
-    → Passes keep [] es nest_before_stream nest_behind_stream
+    → PassesParts keep [] es nest_before_stream nest_behind_stream
 forest_passes forest keep es p =
     let begun = one_part keep [] parts.OpenStream (document_parts forest) es nest_before_stream stream p
     (λ e q. given events.StreamStart e nest_before_stream _ refl q) in
@@ -202,7 +202,7 @@ begins_stream [] None missing h others k p q = let none : [] ≡ h ∷ others = 
 
 pub starts : (forest : Forest) (keep : Bool) (a : Answer) → IsOfForest forest keep a → IsAtStart a
 starts forest keep a h =
-    let b = before_all_begins (Some events.StreamStart)
+    let b = first_and_others_begins (Some events.StreamStart)
     (events_behind keep (parts.OpenStream ∷ []) (document_parts forest))
     (happenings a.events ++ h.missing) h.are_events in
     let first : events.StreamStart ≡ b.first = cc b.is in

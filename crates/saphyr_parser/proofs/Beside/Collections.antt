@@ -13,26 +13,26 @@ use Rattle.saphyr_parser.specs.Steps.Machine.{Machine, left_out_event, push, put
 use Rattle.saphyr_parser.specs.Steps.Nodes.{node_inside}
 use Rattle.saphyr_parser.specs.Steps.Block as block
 use Rattle.saphyr_parser.specs.Steps.Flow as flow
-use Rattle.saphyr_parser.proofs.Beside.Machines.{Beside, Spans, Expected, Held, Alike, Tells, Both, AtBoth, taken, refuses, holds, tells_end, enters_told}
+use Rattle.saphyr_parser.proofs.Beside.Machines.{Beside, SpansAlike, Expected, Held, Alike, TellsAlike, Both, AtBoth, taken, refuses, holds, tells_end, enters_told}
 use Rattle.saphyr_parser.proofs.Beside.Nodes.{node_beside}
 
 goes_inside :
     (w : Beside) (x y : State) (c : NodeContext) (k : Kind) (t u : Piece) (m n : Machine) → Expected w x y
-    → Held w k t u m n → Tells w (node_inside x c t m) (node_inside y c u n)
+    → Held w k t u m n → TellsAlike w (node_inside x c t m) (node_inside y c u n)
 goes_inside w x y c k t u m n i h = node_beside w c k t u (push x m) (push y n) (holds w x y k t u m n i h)
 
 leaves_out :
-    (w : Beside) (x y : State) (s r : Span) (k : Kind) (t u : Piece) (m n : Machine) → Expected w x y → Spans w s r
-    → Held w k t u m n → Tells w (left_out_event t x s m) (left_out_event u y r n)
+    (w : Beside) (x y : State) (s r : Span) (k : Kind) (t u : Piece) (m n : Machine) → Expected w x y → SpansAlike w s r
+    → Held w k t u m n → TellsAlike w (left_out_event t x s m) (left_out_event u y r n)
 leaves_out w x y s r k t u m n i e h = enters_told w _ x y s r (put_back t m) (put_back u n) i e h.back
 
-sequence_node_at : (w : Beside) (s r : Span) → Spans w s r
+sequence_node_at : (w : Beside) (s r : Span) → SpansAlike w s r
     → AtBoth w (Alike w) (λ k. block.sequence_node_at k s) (λ k. block.sequence_node_at k r)
 sequence_node_at w s r e tokens.BlockEntry t u m n h = leaves_out w _ _ s r _ t u m n refl e h
 sequence_node_at w s r e tokens.BlockEnd t u m n h = leaves_out w _ _ s r _ t u m n refl e h
 sequence_node_at w s r e k t u m n h = goes_inside w _ _ Block k t u m n refl h
 
-pub sequence_node : (w : Beside) (s r : Span) → Spans w s r
+pub sequence_node : (w : Beside) (s r : Span) → SpansAlike w s r
     → Both w (Alike w) (block.sequence_node s) (block.sequence_node r)
 unfolding block.sequence_node
 sequence_node w s r e m n near =
@@ -47,7 +47,7 @@ pub sequence_entry : (w : Beside) → Both w (Alike w) block.sequence_entry bloc
 unfolding block.sequence_entry
 sequence_entry w m n near = taken w _ block.sequence_entry_at block.sequence_entry_at m n near (sequence_entry_at w)
 
-indentless_node_at : (w : Beside) (s r : Span) → Spans w s r
+indentless_node_at : (w : Beside) (s r : Span) → SpansAlike w s r
     → AtBoth w (Alike w) (λ k. block.indentless_node_at k s) (λ k. block.indentless_node_at k r)
 indentless_node_at w s r e tokens.BlockEntry t u m n h = leaves_out w _ _ s r _ t u m n refl e h
 indentless_node_at w s r e tokens.Key t u m n h = leaves_out w _ _ s r _ t u m n refl e h
@@ -55,7 +55,7 @@ indentless_node_at w s r e tokens.Value t u m n h = leaves_out w _ _ s r _ t u m
 indentless_node_at w s r e tokens.BlockEnd t u m n h = leaves_out w _ _ s r _ t u m n refl e h
 indentless_node_at w s r e k t u m n h = goes_inside w _ _ Block k t u m n refl h
 
-pub indentless_node : (w : Beside) (s r : Span) → Spans w s r
+pub indentless_node : (w : Beside) (s r : Span) → SpansAlike w s r
     → Both w (Alike w) (block.indentless_node s) (block.indentless_node r)
 unfolding block.indentless_node
 indentless_node w s r e m n near =
@@ -91,14 +91,14 @@ pub mapping_key : (w : Beside) → Both w (Alike w) block.mapping_key block.mapp
 unfolding block.mapping_key
 mapping_key w m n near = taken w _ block.mapping_key_at block.mapping_key_at m n near (mapping_key_at w)
 
-value_node_at : (w : Beside) (s r : Span) → Spans w s r
+value_node_at : (w : Beside) (s r : Span) → SpansAlike w s r
     → AtBoth w (Alike w) (λ k. block.block_value_node_at k s) (λ k. block.block_value_node_at k r)
 value_node_at w s r e tokens.Key t u m n h = leaves_out w _ _ s r _ t u m n refl e h
 value_node_at w s r e tokens.Value t u m n h = leaves_out w _ _ s r _ t u m n refl e h
 value_node_at w s r e tokens.BlockEnd t u m n h = leaves_out w _ _ s r _ t u m n refl e h
 value_node_at w s r e k t u m n h = goes_inside w _ _ BlockMapping k t u m n refl h
 
-pub value_node : (w : Beside) (s r : Span) → Spans w s r
+pub value_node : (w : Beside) (s r : Span) → SpansAlike w s r
     → Both w (Alike w) (block.block_value_node s) (block.block_value_node r)
 unfolding block.block_value_node
 value_node w s r e m n near =
@@ -175,7 +175,7 @@ pub flow_key_node : (w : Beside) → Both w (Alike w) flow.flow_key_node flow.fl
 unfolding flow.flow_key_node
 flow_key_node w m n near = taken w _ flow.flow_key_node_at flow.flow_key_node_at m n near (flow_key_node_at w)
 
-flow_pair_at : (w : Beside) (s r : Span) → Spans w s r
+flow_pair_at : (w : Beside) (s r : Span) → SpansAlike w s r
     → AtBoth w (Alike w) (λ k. flow.pair_at k s) (λ k. flow.pair_at k r)
 flow_pair_at w s r e tokens.Key t u m n h = flow_key_node w m n h.behind
 flow_pair_at w s r e tokens.Value t u m n h = leaves_out w _ _ t.span u.span _ t u m n refl h.span h
@@ -187,7 +187,7 @@ unfolding flow.first_pair
 flow_first_pair w m n near = taken w _ (λ k t. flow.pair_at k t.span t) (λ k t. flow.pair_at k t.span t) m n near
     (λ k t u v x h. flow_pair_at w t.span u.span h.span k t u v x h)
 
-pub flow_pair_behind_comma : (w : Beside) (s r : Span) → Spans w s r
+pub flow_pair_behind_comma : (w : Beside) (s r : Span) → SpansAlike w s r
     → Both w (Alike w) (flow.pair_behind_comma s) (flow.pair_behind_comma r)
 unfolding flow.pair_behind_comma
 flow_pair_behind_comma w s r e m n near =
@@ -202,13 +202,13 @@ pub flow_other_pair : (w : Beside) → Both w (Alike w) flow.other_pair flow.oth
 unfolding flow.other_pair
 flow_other_pair w m n near = taken w _ flow.other_pair_at flow.other_pair_at m n near (flow_other_pair_at w)
 
-flow_value_node_at : (w : Beside) (s r : Span) → Spans w s r
+flow_value_node_at : (w : Beside) (s r : Span) → SpansAlike w s r
     → AtBoth w (Alike w) (λ k. flow.flow_value_node_at k s) (λ k. flow.flow_value_node_at k r)
 flow_value_node_at w s r e tokens.FlowEntry t u m n h = leaves_out w _ _ s r _ t u m n refl e h
 flow_value_node_at w s r e tokens.FlowMappingEnd t u m n h = leaves_out w _ _ s r _ t u m n refl e h
 flow_value_node_at w s r e k t u m n h = goes_inside w _ _ Flow k t u m n refl h
 
-pub flow_value_node : (w : Beside) (s r : Span) → Spans w s r
+pub flow_value_node : (w : Beside) (s r : Span) → SpansAlike w s r
     → Both w (Alike w) (flow.flow_value_node s) (flow.flow_value_node r)
 unfolding flow.flow_value_node
 flow_value_node w s r e m n near =

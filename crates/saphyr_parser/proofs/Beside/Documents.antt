@@ -15,10 +15,10 @@ use Rattle.saphyr_parser.specs.Steps.Documents as document
 use Rattle.saphyr_parser.specs.Steps.Documents.{unpassed_token_from, unpassed_token, is_mark, is_end_or_mark, none_declared, directives, without_anchors, without_prefixes}
 use Rattle.saphyr_parser.specs.Steps.Nodes.{node}
 use Rattle.saphyr_parser.specs.Steps.Expected.{block_node, event_step_at}
-use Rattle.saphyr_parser.proofs.Beside.Machines.{Beside, Expected, With, Near, Gives, Awaits, Left, Alike, Tells, Both, AtBoth, ahead, changed, taken, refuses, enters, tells, tells_end, enters_told}
+use Rattle.saphyr_parser.proofs.Beside.Machines.{Beside, Expected, With, Near, GivesAlike, Awaits, Left, Alike, TellsAlike, Both, AtBoth, ahead, changed, taken, refuses, enters, tells, tells_end, enters_told}
 use Rattle.saphyr_parser.proofs.Beside.Nodes.{node_beside}
 use Rattle.saphyr_parser.proofs.Beside.Collections as steps
-use Rattle.saphyr_parser.proofs.Beside.Passing.{Has, Passes, passes, has, goes_by_marks, goes_by_ends, behind_both, directives_beside}
+use Rattle.saphyr_parser.proofs.Beside.Passing.{Has, PassesAlike, passes, has, goes_by_marks, goes_by_ends, behind_both, directives_beside}
 
 -- ## The beginnings of the stream and of documents
 
@@ -86,12 +86,12 @@ start_at w tokens.StreamEnd t u m n h = enters_told w _ _ _ t.span u.span m n re
 start_at w k t u m n h = explicit_document_alike w k t u m n h
 
 -- The first machine's tokens were all passed, and the step is the one behind them.
-abbrev pub Passed : Beside → Machine → Machine → (Machine → Result Told Refusal) → Type 0
-Passed w m n go = (ts : List Piece) × (us : List Piece) × With w (w.Over Ends) (with_pieces ts m) (with_pieces us n)
+abbrev pub PassedAll : Beside → Machine → Machine → (Machine → Result Told Refusal) → Type 0
+PassedAll w m n go = (ts : List Piece) × (us : List Piece) × With w (w.Over Ends) (with_pieces ts m) (with_pieces us n)
     × (go m ≡ go (with_pieces ts m)) × (go n ≡ go (with_pieces us n))
 
 abbrev Starting : Beside → Machine → Machine → (Machine → Result Told Refusal) → Type 0
-Starting w m n go = Tells w (go m) (go n) ⊎ Passed w m n go
+Starting w m n go = TellsAlike w (go m) (go n) ⊎ PassedAll w m n go
 
 starts_beside : (w : Beside) (m n : Machine) (go : Kind → Piece → Machine → Result Told Refusal)
     → AtBoth w (Alike w) go go
@@ -102,8 +102,8 @@ starts_beside w m n go f near = by _ _ (passes w _ is_end_or_mark (goes_by_ends 
     goes_on_with : Result (Piece × Machine) Refusal → Result Told Refusal
     goes_on_with r = r >>= (λ t. go t.0.kind t.0 t.1)
 
-    by : (p q : Result (Piece × Machine) Refusal) → Passes w (w.Over Ends) is_end_or_mark m n p q
-        → Tells w (goes_on_with p) (goes_on_with q)
+    by : (p q : Result (Piece × Machine) Refusal) → PassesAlike w (w.Over Ends) is_end_or_mark m n p q
+        → TellsAlike w (goes_on_with p) (goes_on_with q)
         ⊎ ((ts : List Piece) × (us : List Piece) × With w (w.Over Ends) (with_pieces ts m) (with_pieces us n)
         × (goes_on_with p ≡ goes_on_with (unpassed_token_from is_end_or_mark ts (with_pieces ts m)))
         × (goes_on_with q ≡ goes_on_with (unpassed_token_from is_end_or_mark us (with_pieces us n))))
@@ -144,8 +144,8 @@ marks : (w : Beside) (p q : Marker) → w.Place p q → Both w (Has w) (document
 unfolding document.token_behind_marks unpassed_token
 marks w p q e m n near = by _ _ (passes w _ is_mark (goes_by_marks w) _ _ m n (ahead w m n near))
   where
-    by : (a b : Result (Piece × Machine) Refusal) → Passes w (λ r q. ⊥) is_mark m n a b
-        → Gives w (Has w) (a >>= (λ t. document.token_behind_marks_at t.0.kind p t.0 t.1))
+    by : (a b : Result (Piece × Machine) Refusal) → PassesAlike w (λ r q. ⊥) is_mark m n a b
+        → GivesAlike w (Has w) (a >>= (λ t. document.token_behind_marks_at t.0.kind p t.0 t.1))
         (b >>= (λ t. document.token_behind_marks_at t.0.kind q t.0 t.1))
     by a b (inl g) = behind_both w (Has w) a b (λ k. document.token_behind_marks_at k p) (λ k. document.token_behind_marks_at k q)
         (marks_at w p q e) g
@@ -161,10 +161,10 @@ document_beside w m n near =
     taken w (Has w) document.token_behind_document_at document.token_behind_document_at m n near (document_at w)
 
 -- both settings are the same
-abbrev pub Keeps : Beside → Type 0
-Keeps w = (b c : Bool) → w.Setting b c → c ≡ b
+abbrev pub KeepsSetting : Beside → Type 0
+KeepsSetting w = (b c : Bool) → w.Setting b c → c ≡ b
 
-forgets : (w : Beside) (T : Remaining → Remaining → Type 0) (m n : Machine) → Keeps w → With w T m n
+forgets : (w : Beside) (T : Remaining → Remaining → Type 0) (m n : Machine) → KeepsSetting w → With w T m n
     → With w T (without_prefixes m) (without_prefixes n)
 forgets w T m n keeps near =
     record {
@@ -191,7 +191,7 @@ end_at w (tokens.TagDirective handle prefix) t u m n h = refuses w _ t u h.span
 end_at w (tokens.ReservedDirective name) t u m n h = refuses w _ t u h.span
 end_at w _ t u m n h = enters_told w _ _ _ t.span u.span (put_back t m) (put_back u n) refl h.span h.back
 
-end_beside : (w : Beside) → Keeps w → Both w (Alike w) document.document_end document.document_end
+end_beside : (w : Beside) → KeepsSetting w → Both w (Alike w) document.document_end document.document_end
 unfolding document.document_end
 end_beside w keeps m n near =
     behind_both w (Alike w) (document.token_behind_document m) (document.token_behind_document n)
@@ -210,10 +210,10 @@ end_beside w keeps m n near =
 -- ## All steps
 
 -- a document may begin, or the stream end
-abbrev pub IsStart : State → Type 0
-IsStart state.ImplicitDocumentStart = Unit {0}
-IsStart state.DocumentStart = Unit {0}
-IsStart _ = ⊥
+abbrev pub IsBetweenDocuments : State → Type 0
+IsBetweenDocuments state.ImplicitDocumentStart = Unit {0}
+IsBetweenDocuments state.DocumentStart = Unit {0}
+IsBetweenDocuments _ = ⊥
 
 start_passed : {A B : Type 0} → A ⊎ B → A ⊎ (Unit {0} × B)
 start_passed (inl a) = inl a
@@ -221,8 +221,8 @@ start_passed (inr b) = inr (tt, b)
 
 -- A step of both, but that at the end of a document where the settings differ.
 pub steps_beside :
-    (w : Beside) (s r : State) (m n : Machine) → Expected w s r → s ≢ state.End → (s ≡ state.DocumentEnd → Keeps w)
-    → Near w m n → Tells w (event_step_at s m) (event_step_at r n) ⊎ (IsStart s × Passed w m n (event_step_at s))
+    (w : Beside) (s r : State) (m n : Machine) → Expected w s r → s ≢ state.End → (s ≡ state.DocumentEnd → KeepsSetting w)
+    → Near w m n → TellsAlike w (event_step_at s m) (event_step_at r n) ⊎ (IsBetweenDocuments s × PassedAll w m n (event_step_at s))
 unfolding block_node document.stream_start document.document_content
 steps_beside w state.StreamStart r m n e on keeps near =
     rw e (inl (taken w _ document.stream_start_at document.stream_start_at m n near (stream_at w)))

@@ -54,8 +54,8 @@ pub record Beside : Type 1 where
       → Rest (record { pieces = t ∷ ts; refusal = o }) (record { pieces = us; refusal = e })
       → Next Place (Behind Rest Over t.kind) t ts us o e
 
-abbrev pub Spans : Beside → Span → Span → Type 0
-Spans w s r = w.Place s.start r.start × w.Place s.end r.end
+abbrev pub SpansAlike : Beside → Span → Span → Type 0
+SpansAlike w s r = w.Place s.start r.start × w.Place s.end r.end
 
 abbrev pub Expected : Beside → State → State → Type 0
 Expected w (state.FlowSequenceEntryMappingEnd p) r =
@@ -98,26 +98,26 @@ changed w T U m n r q s x ss xs rest e es near =
 pub record Held (w : Beside) (k : Kind) (t u : Piece) (m n : Machine) : Type 0 where
   pub kind : t.kind ≡ k
   pub same : u.kind ≡ k
-  pub span : Spans w t.span u.span
+  pub span : SpansAlike w t.span u.span
   pub back : Near w (put_back t m) (put_back u n)
   pub behind : With w (Behind w.Rest w.Over k) m n
 
 -- ## What is given
 
-abbrev pub Refuses : {X : Type 0} → Beside → Refusal → Result X Refusal → Type 0
-Refuses w f (Ok y) = ⊥
-Refuses w f (Err g) = w.Refused f g
+abbrev pub RefusesAlike : {X : Type 0} → Beside → Refusal → Result X Refusal → Type 0
+RefusesAlike w f (Ok y) = ⊥
+RefusesAlike w f (Err g) = w.Refused f g
 
 -- both give, and R holds of what they give; or both refuse, or the first's tokens ended too early
-abbrev pub Gives : {X Y : Type 0} → Beside → (X → Y → Type 0) → Result X Refusal → Result Y Refusal → Type 0
-Gives w R (Ok x) (Ok y) = R x y
-Gives w R (Ok x) (Err g) = ⊥
-Gives w R (Err f) q = w.Early f ⊎ Refuses w f q
+abbrev pub GivesAlike : {X Y : Type 0} → Beside → (X → Y → Type 0) → Result X Refusal → Result Y Refusal → Type 0
+GivesAlike w R (Ok x) (Ok y) = R x y
+GivesAlike w R (Ok x) (Err g) = ⊥
+GivesAlike w R (Err f) q = w.Early f ⊎ RefusesAlike w f q
 
 pub goes_on :
     {X Y V W : Type 0} (w : Beside) (R : X → Y → Type 0) (S : V → W → Type 0) (p : Result X Refusal)
-    (q : Result Y Refusal) (go : X → Result V Refusal) (ho : Y → Result W Refusal) → Gives w R p q
-    → ((x : X) (y : Y) → R x y → Gives w S (go x) (ho y)) → Gives w S (p >>= go) (q >>= ho)
+    (q : Result Y Refusal) (go : X → Result V Refusal) (ho : Y → Result W Refusal) → GivesAlike w R p q
+    → ((x : X) (y : Y) → R x y → GivesAlike w S (go x) (ho y)) → GivesAlike w S (p >>= go) (q >>= ho)
 goes_on w R S (Ok x) (Ok y) go ho g h = h x y g
 goes_on w R S (Ok x) (Err f) go ho g h = absurd g
 goes_on w R S (Err f) q go ho (inl e) h = inl e
@@ -126,7 +126,7 @@ goes_on w R S (Err f) (Err g) go ho (inr e) h = inr e
 
 pub either :
     {X Y : Type 0} (w : Beside) (R : X → Y → Type 0) (b : Bool) (p r : Result X Refusal) (q s : Result Y Refusal)
-    → Gives w R p q → Gives w R r s → Gives w R (if b then p else r) (if b then q else s)
+    → GivesAlike w R p q → GivesAlike w R r s → GivesAlike w R (if b then p else r) (if b then q else s)
 either w R true p r q s g h = g
 either w R false p r q s g h = h
 
@@ -141,29 +141,29 @@ Left w m n = Near w m n ⊎ ((d : DocumentMarker) × With w (w.Over d) m n × Aw
 -- the same event, and machines side by side
 pub record Alike (w : Beside) (x y : Told) : Type 0 where
   pub what : y.what ≡ x.what
-  pub span : Spans w x.span y.span
+  pub span : SpansAlike w x.span y.span
   pub machine : Left w x.machine y.machine
 
-abbrev pub Tells : Beside → Result Told Refusal → Result Told Refusal → Type 0
-Tells w p q = Gives w (Alike w) p q
+abbrev pub TellsAlike : Beside → Result Told Refusal → Result Told Refusal → Type 0
+TellsAlike w p q = GivesAlike w (Alike w) p q
 
 -- ## What is done to both
 
 abbrev pub Both : {X : Type 0} → (w : Beside) → (X → X → Type 0) → (Machine → Result X Refusal)
     → (Machine → Result X Refusal) → Type 0
-Both w R go ho = (m n : Machine) → Near w m n → Gives w R (go m) (ho n)
+Both w R go ho = (m n : Machine) → Near w m n → GivesAlike w R (go m) (ho n)
 
 -- behind a token
 abbrev pub AtBoth : {X : Type 0} → (w : Beside) → (X → X → Type 0) → (Kind → Piece → Machine → Result X Refusal)
     → (Kind → Piece → Machine → Result X Refusal) → Type 0
-AtBoth w R go ho = (k : Kind) (t u : Piece) (m n : Machine) → Held w k t u m n → Gives w R (go k t m) (ho k u n)
+AtBoth w R go ho = (k : Kind) (t u : Piece) (m n : Machine) → Held w k t u m n → GivesAlike w R (go k t m) (ho k u n)
 
 pub of_kind :
     {X : Type 0} (w : Beside) (R : X → X → Type 0) (go ho : Kind → Piece → Machine → Result X Refusal)
     → AtBoth w R go ho → AtBoth w R (λ k t. go t.kind t) (λ k t. ho t.kind t)
 of_kind w R go ho f k t u m n h = by t.kind u.kind h.kind h.same
   where
-    by : (i j : Kind) → i ≡ k → j ≡ k → Gives w R (go i t m) (ho j u n)
+    by : (i j : Kind) → i ≡ k → j ≡ k → GivesAlike w R (go i t m) (ho j u n)
     by i j e y = rw e (rw y (f k t u m n h))
 
 -- with these tokens ahead
@@ -180,12 +180,12 @@ pub over :
     {X : Type 0} (w : Beside) (R : X → X → Type 0) (us : List Piece) (m n : Machine) (go : List Piece
     → Result X Refusal)
     → Ahead w [] us m n → go [] ≡ Err (ending_refusal n.tokens.refusal)
-    → Gives w R (Err (ending_refusal m.tokens.refusal)) (go us)
+    → GivesAlike w R (Err (ending_refusal m.tokens.refusal)) (go us)
 over w R us m n go near is = by (w.none us m.tokens.refusal n.tokens.refusal near.tokens)
   where
     by : w.Early (ending_refusal m.tokens.refusal)
         ⊎ ((us ≡ []) × w.Refused (ending_refusal m.tokens.refusal) (ending_refusal n.tokens.refusal))
-        → Gives w R (Err (ending_refusal m.tokens.refusal)) (go us)
+        → GivesAlike w R (Err (ending_refusal m.tokens.refusal)) (go us)
     by (inl e) = inl e
     by (inr e) = rw e.0 (rw is (inr e.1))
 
@@ -214,19 +214,19 @@ holds_head w t ts us m n near x =
 pub taken :
     {X : Type 0} (w : Beside) (R : X → X → Type 0) (go ho : Kind → Piece → Machine → Result X Refusal) (m n : Machine)
     → Near w m n → AtBoth w R go ho
-    → Gives w R (taken_token m >>= (λ t. go t.0.kind t.0 t.1)) (taken_token n >>= (λ t. ho t.0.kind t.0 t.1))
+    → GivesAlike w R (taken_token m >>= (λ t. go t.0.kind t.0 t.1)) (taken_token n >>= (λ t. ho t.0.kind t.0 t.1))
 taken w R go ho m n near h = by m.tokens.pieces n.tokens.pieces (ahead w m n near)
   where
     by : (ts us : List Piece) → Ahead w ts us m n
-        → Gives w R (taken_token_from ts m >>= (λ t. go t.0.kind t.0 t.1))
+        → GivesAlike w R (taken_token_from ts m >>= (λ t. go t.0.kind t.0 t.1))
         (taken_token_from us n >>= (λ t. ho t.0.kind t.0 t.1))
     by [] us a = over w R us m n (λ us. taken_token_from us n >>= (λ t. ho t.0.kind t.0 t.1)) a refl
     by (t ∷ ts) us a =
         let x = head w t ts us m n a in
         rw x.is (h t.kind t _ (with_pieces ts m) (with_pieces x.tail n) (holds_head w t ts us m n a x))
 
-pub refuses : (w : Beside) (text : FaultText) (t u : Piece) → Spans w t.span u.span
-    → Tells w (refusal_at text t) (refusal_at text u)
+pub refuses : (w : Beside) (text : FaultText) (t u : Piece) → SpansAlike w t.span u.span
+    → TellsAlike w (refusal_at text t) (refusal_at text u)
 refuses w text t u s = inr (w.refused text t.span.start u.span.start s.0)
 
 pub enters : (w : Beside) (T : Remaining → Remaining → Type 0) (s r : State) (m n : Machine) → Expected w s r
@@ -263,8 +263,8 @@ registers w name m n near =
       setting = near.setting;
     }
 
-pub tells : (w : Beside) (what : Happening) (s r : Span) (m n : Machine) → Spans w s r → Near w m n
-    → Tells w (told_event what s m) (told_event what r n)
+pub tells : (w : Beside) (what : Happening) (s r : Span) (m n : Machine) → SpansAlike w s r → Near w m n
+    → TellsAlike w (told_event what s m) (told_event what r n)
 tells w what s r m n e near = record { what = refl; span = e; machine = inl near }
 
 pub pops : (w : Beside) (m n : Machine) → Near w m n → Near w (pop m) (pop n)
@@ -277,11 +277,11 @@ pops w m n near = by m.states n.states near.states
     by (s ∷ ss) (r ∷ rs) e = changed w _ _ m n _ _ _ _ _ _ near.tokens e.0 e.1 near
 
 -- an event that ends a node
-pub tells_end : (w : Beside) (what : Happening) (s r : Span) (m n : Machine) → Spans w s r → Near w m n
-    → Tells w (told_event what s (pop m)) (told_event what r (pop n))
+pub tells_end : (w : Beside) (what : Happening) (s r : Span) (m n : Machine) → SpansAlike w s r → Near w m n
+    → TellsAlike w (told_event what s (pop m)) (told_event what r (pop n))
 tells_end w what s r m n e near = tells w what s r _ _ e (pops w m n near)
 
 -- a state without a place
 pub enters_told : (w : Beside) (what : Happening) (x y : State) (s r : Span) (m n : Machine) → Expected w x y
-    → Spans w s r → Near w m n → Tells w (told_event what s (with_state x m)) (told_event what r (with_state y n))
+    → SpansAlike w s r → Near w m n → TellsAlike w (told_event what s (with_state x m)) (told_event what r (with_state y n))
 enters_told w what x y s r m n i e near = tells w what s r _ _ e (enters w w.Rest x y m n i near)

@@ -15,12 +15,12 @@ use Rattle.saphyr_parser.specs.Steps.Machine.{◌>>=◌, Anchors, Names, meaning
 use Rattle.saphyr_parser.specs.Steps.Tags.{undeclared_prefix, declared_prefix_or, declared_prefix, resolved_tag_at, is_named_handle}
 use Rattle.saphyr_parser.specs.Steps.Contexts.{allows_block, allows_indentless}
 use Rattle.saphyr_parser.specs.Steps.Nodes.{NodeProperties, register, has_property, node_without_content, node_content_at, node_content, next_content, alias_of, alias_node, node_behind_anchor_at, node_behind_anchor, node_behind_tag_at, node_behind_tag, node_at, node}
-use Rattle.saphyr_parser.proofs.Beside.Machines.{Beside, Spans, Near, Held, Gives, Alike, Tells, Both, AtBoth, either, of_kind, taken, refuses, registers, tells_end, enters_told}
+use Rattle.saphyr_parser.proofs.Beside.Machines.{Beside, SpansAlike, Near, Held, GivesAlike, Alike, TellsAlike, Both, AtBoth, either, of_kind, taken, refuses, registers, tells_end, enters_told}
 
 -- ## Tags
 
 abbrev SameOf : {X : Type 0} → Beside → Result X Refusal → Result X Refusal → Type 0
-SameOf w p q = Gives w (λ x y. y ≡ x) p q
+SameOf w p q = GivesAlike w (λ x y. y ≡ x) p q
 
 declared_alike : (w : Beside) (o : Option (List ℕ)) (p q : Result (List ℕ) Refusal) → SameOf w p q
     → SameOf w (declared_prefix_or o p) (declared_prefix_or o q)
@@ -40,8 +40,8 @@ prefixes_alike w names handle x y e =
 -- the same tag, or both refuse
 resolves :
     (w : Beside) (handle suffix : List ℕ) (x y : Marker) (m n : Machine) (go ho : ResolvedTag → Result Told Refusal)
-    → w.Place x y → Near w m n → ((tag : ResolvedTag) → Tells w (go tag) (ho tag))
-    → Tells w (resolved_tag_at m.prefixes handle suffix x >>= go) (resolved_tag_at n.prefixes handle suffix y >>= ho)
+    → w.Place x y → Near w m n → ((tag : ResolvedTag) → TellsAlike w (go tag) (ho tag))
+    → TellsAlike w (resolved_tag_at m.prefixes handle suffix x >>= go) (resolved_tag_at n.prefixes handle suffix y >>= ho)
 unfolding resolved_tag_at
 resolves w handle suffix x y m n go ho e near h =
     rw near.prefixes (by (declared_prefix m.prefixes handle x) (declared_prefix m.prefixes handle y)
@@ -51,7 +51,7 @@ resolves w handle suffix x y m n go ho e near h =
     tag prefix = record { handle = prefix; suffix = suffix }
 
     by : (p q : Result (List ℕ) Refusal) → SameOf w p q
-        → Tells w ((p >>= (λ v. let z : Result ResolvedTag Refusal = Ok (tag v) in z)) >>= go)
+        → TellsAlike w ((p >>= (λ v. let z : Result ResolvedTag Refusal = Ok (tag v) in z)) >>= go)
         ((q >>= (λ v. let z : Result ResolvedTag Refusal = Ok (tag v) in z)) >>= ho)
     by (Ok v) (Ok u) i = rw i (h (tag v))
     by (Ok v) (Err f) i = absurd i
@@ -67,7 +67,7 @@ properties x y id tag = record { start = x; behind = y; anchor = id; tag = tag }
 without_beside :
     (w : Beside) (a b x y : Marker) (id : ℕ) (tag : Option ResolvedTag) (k : Kind) (t u : Piece) (m n : Machine)
     → w.Place a x → w.Place b y → Held w k t u m n
-    → Tells w (node_without_content (properties a b id tag) t m) (node_without_content (properties x y id tag) u n)
+    → TellsAlike w (node_without_content (properties a b id tag) t m) (node_without_content (properties x y id tag) u n)
 without_beside w a b x y id tag k t u m n i j h =
     either w _ (has_property (properties a b id tag)) _ _ _ _
     (tells_end w _ _ _ (put_back t m) (put_back u n) (i, j) h.back) (refuses w _ t u h.span)
@@ -79,7 +79,7 @@ content_beside :
 content_beside w a b x y id tag c i j = at
   where
     none : (k : Kind) (t u : Piece) (m n : Machine) → Held w k t u m n
-        → Tells w (node_without_content (properties a b id tag) t m) (node_without_content (properties x y id tag) u n)
+        → TellsAlike w (node_without_content (properties a b id tag) t m) (node_without_content (properties x y id tag) u n)
     none k t u m n h = without_beside w a b x y id tag k t u m n i j h
 
     at : AtBoth w (Alike w) (λ k. node_content_at k (properties a b id tag) c)
@@ -113,16 +113,16 @@ next_beside w a b x y id tag c i j m n near =
     (λ k. node_content_at k (properties x y id tag) c) m n near
     (content_beside w a b x y id tag c i j)
 
-alias_beside : (w : Beside) (o p : Option ℕ) (s r : Span) → p ≡ o → Spans w s r
+alias_beside : (w : Beside) (o p : Option ℕ) (s r : Span) → p ≡ o → SpansAlike w s r
     → Both w (Alike w) (alias_of o s) (alias_of p r)
 alias_beside w o p s r is e m n near = rw is (by o)
   where
-    by : (o : Option ℕ) → Tells w (alias_of o s m) (alias_of o r n)
+    by : (o : Option ℕ) → TellsAlike w (alias_of o s m) (alias_of o r n)
     by None = inr (w.refused _ s.start r.start e.0)
     by (Some id) = tells_end w _ s r m n e near
 
 behind_anchor_beside :
-    (w : Beside) (id : ℕ) (s r : Span) (c : NodeContext) → Spans w s r
+    (w : Beside) (id : ℕ) (s r : Span) (c : NodeContext) → SpansAlike w s r
     → AtBoth w (Alike w) (λ k. node_behind_anchor_at k id s c) (λ k. node_behind_anchor_at k id r c)
 behind_anchor_beside w id s r c e (tokens.Tag handle suffix) t u m n h =
     resolves w handle suffix s.start r.start m n _ _ e.0 h.behind
@@ -130,7 +130,7 @@ behind_anchor_beside w id s r c e (tokens.Tag handle suffix) t u m n h =
 behind_anchor_beside w id s r c e k t u m n h =
     behind_beside w s.start s.end r.start r.end id None c e.0 e.1 k t u m n h
 
-anchor_beside : (w : Beside) (name : List ℕ) (s r : Span) (c : NodeContext) → Spans w s r
+anchor_beside : (w : Beside) (name : List ℕ) (s r : Span) (c : NodeContext) → SpansAlike w s r
     → Both w (Alike w) (node_behind_anchor name s c) (node_behind_anchor name r c)
 unfolding node_behind_anchor
 anchor_beside w name s r c e m n near =
@@ -140,7 +140,7 @@ anchor_beside w name s r c e m n near =
     (behind_anchor_beside w (next_id m.anchors) s r c e))
 
 behind_tag_beside :
-    (w : Beside) (tag : ResolvedTag) (s r : Span) (c : NodeContext) → Spans w s r
+    (w : Beside) (tag : ResolvedTag) (s r : Span) (c : NodeContext) → SpansAlike w s r
     → AtBoth w (Alike w) (λ k. node_behind_tag_at k tag s c) (λ k. node_behind_tag_at k tag r c)
 behind_tag_beside w tag s r c e (tokens.Anchor name) t u m n h =
     rw h.behind.anchors (next_beside w s.start t.span.end r.start u.span.end (next_id m.anchors)

@@ -9,7 +9,7 @@ use Rattle.saphyr_scanner.specs.Views.Tokens.{Piece, Remaining}
 use Rattle.saphyr_parser.specs.Premises.{Ends}
 use Rattle.saphyr_parser.specs.Steps.Machine.{◌>>=◌, Machine, with_pieces, with_meaning, is_listed}
 use Rattle.saphyr_parser.specs.Steps.Documents.{unpassed_token_from, is_mark, is_end_or_mark, Declared, is_directive, directive_at, directives_from}
-use Rattle.saphyr_parser.proofs.Beside.Machines.{Beside, Behind, Spans, With, Ahead, Held, Gives, AtBoth, goes_on, either, of_kind, over, Head, head, holds_head, changed}
+use Rattle.saphyr_parser.proofs.Beside.Machines.{Beside, Behind, SpansAlike, With, Ahead, Held, GivesAlike, AtBoth, goes_on, either, of_kind, over, Head, head, holds_head, changed}
 
 -- ## Tokens that are passed
 
@@ -18,14 +18,14 @@ abbrev pub Has : Beside → Piece × Machine → Piece × Machine → Type 0
 Has w x y = Held w x.0.kind x.0 y.0 x.1 y.1
 
 -- Of both, these tokens are left, of which S holds: nothing that the first machine could pass.
-abbrev pub Stops : Beside → (Remaining → Remaining → Type 0) → (Kind → Bool) → Machine → Machine
+abbrev pub StopsAlike : Beside → (Remaining → Remaining → Type 0) → (Kind → Bool) → Machine → Machine
     → Result (Piece × Machine) Refusal → Result (Piece × Machine) Refusal → Type 0
-Stops w S p m n a b = (ts : List Piece) × (us : List Piece) × With w S (with_pieces ts m) (with_pieces us n)
+StopsAlike w S p m n a b = (ts : List Piece) × (us : List Piece) × With w S (with_pieces ts m) (with_pieces us n)
     × (a ≡ unpassed_token_from p ts (with_pieces ts m)) × (b ≡ unpassed_token_from p us (with_pieces us n))
 
-abbrev pub Passes : Beside → (Remaining → Remaining → Type 0) → (Kind → Bool) → Machine → Machine
+abbrev pub PassesAlike : Beside → (Remaining → Remaining → Type 0) → (Kind → Bool) → Machine → Machine
     → Result (Piece × Machine) Refusal → Result (Piece × Machine) Refusal → Type 0
-Passes w S p m n a b = Gives w (Has w) a b ⊎ Stops w S p m n a b
+PassesAlike w S p m n a b = GivesAlike w (Has w) a b ⊎ StopsAlike w S p m n a b
 
 -- what is left behind a token that is passed
 abbrev pub Goes : Beside → (Remaining → Remaining → Type 0) → (Kind → Bool) → Type 0
@@ -39,7 +39,7 @@ has w k t u m n h = by t.kind h.kind refl
 
 pub passes :
     (w : Beside) (S : Remaining → Remaining → Type 0) (p : Kind → Bool) → Goes w S p → (ts us : List Piece)
-    (m n : Machine) → Ahead w ts us m n → Passes w S p m n (unpassed_token_from p ts m) (unpassed_token_from p us n)
+    (m n : Machine) → Ahead w ts us m n → PassesAlike w S p m n (unpassed_token_from p ts m) (unpassed_token_from p us n)
 passes w S p go [] us m n a = inl (over w (Has w) us m n (λ us. unpassed_token_from p us n) a refl)
 passes w S p go (t ∷ ts) us m n a =
     rw x.is (by (p t.kind) refl (λ b. passes w S p go ts x.tail (with_pieces ts m) (with_pieces x.tail n) b))
@@ -52,9 +52,9 @@ passes w S p go (t ∷ ts) us m n a =
         ⊎ S (record { pieces = ts; refusal = m.tokens.refusal })
         (record { pieces = x.tail; refusal = n.tokens.refusal })
         → (Ahead w ts x.tail (with_pieces ts m) (with_pieces x.tail n)
-        → Passes w S p m n (unpassed_token_from p ts (with_pieces ts m))
+        → PassesAlike w S p m n (unpassed_token_from p ts (with_pieces ts m))
         (unpassed_token_from p x.tail (with_pieces x.tail n)))
-        → Passes w S p m n (unpassed_token_from p ts (with_pieces ts m))
+        → PassesAlike w S p m n (unpassed_token_from p ts (with_pieces ts m))
         (unpassed_token_from p x.tail (with_pieces x.tail n))
     left (inl r) next = next (changed w _ _ m n _ _ _ _ _ _ r a.state a.states a)
     left (inr s) next = inr (
@@ -68,9 +68,9 @@ passes w S p go (t ∷ ts) us m n a =
     by :
         (b : Bool) → p t.kind ≡ b
         → (Ahead w ts x.tail (with_pieces ts m) (with_pieces x.tail n)
-        → Passes w S p m n (unpassed_token_from p ts (with_pieces ts m))
+        → PassesAlike w S p m n (unpassed_token_from p ts (with_pieces ts m))
         (unpassed_token_from p x.tail (with_pieces x.tail n)))
-        → Passes w S p m n (if b then unpassed_token_from p ts (with_pieces ts m) else Ok (t, with_pieces ts m))
+        → PassesAlike w S p m n (if b then unpassed_token_from p ts (with_pieces ts m) else Ok (t, with_pieces ts m))
         (if b then unpassed_token_from p x.tail (with_pieces x.tail n) else Ok
         (record { span = x.span; kind = t.kind }, with_pieces x.tail n))
     by true y next = left (go t.kind _ _ y x.behind) next
@@ -87,8 +87,8 @@ goes_by_ends w _ r q y b = absurd (cc)
 
 pub behind_both :
     {X : Type 0} (w : Beside) (R : X → X → Type 0) (p q : Result (Piece × Machine) Refusal)
-    (go ho : Kind → Piece → Machine → Result X Refusal) → AtBoth w R go ho → Gives w (Has w) p q
-    → Gives w R (p >>= (λ t. go t.0.kind t.0 t.1)) (q >>= (λ t. ho t.0.kind t.0 t.1))
+    (go ho : Kind → Piece → Machine → Result X Refusal) → AtBoth w R go ho → GivesAlike w (Has w) p q
+    → GivesAlike w R (p >>= (λ t. go t.0.kind t.0 t.1)) (q >>= (λ t. ho t.0.kind t.0 t.1))
 behind_both w R p q go ho f g = goes_on w (Has w) R p q _ _ g
     (λ x y h. of_kind w R go ho f x.0.kind x.0 y.0 x.1 y.1 h)
 
@@ -99,13 +99,13 @@ abbrev Declares : Beside → List Piece → List Piece → Declared × Machine �
 Declares w ts us x y = (y.0 ≡ x.0) × Ahead w ts us x.1 y.1
 
 directive_beside :
-    (w : Beside) (k : Kind) (t u : Piece) (ts us : List Piece) (d : Declared) (m n : Machine) → Spans w t.span u.span
-    → Ahead w ts us m n → Gives w (Declares w ts us) (directive_at k t d m) (directive_at k u d n)
+    (w : Beside) (k : Kind) (t u : Piece) (ts us : List Piece) (d : Declared) (m n : Machine) → SpansAlike w t.span u.span
+    → Ahead w ts us m n → GivesAlike w (Declares w ts us) (directive_at k t d m) (directive_at k u d n)
 directive_beside w (tokens.VersionDirective major minor) t u ts us d m n e a = by d.version
   where
     by :
         (b : Bool)
-        → Gives w (Declares w ts us)
+        → GivesAlike w (Declares w ts us)
         ((if b then Err (record { text = fault.DuplicateVersionDirective; mark = t.span.start }) else
         (let v : Result Declared Refusal = Ok (record { version = true; handles = d.handles }) in v))
         >>= (λ e. let v : Result (Declared × Machine) Refusal = Ok (e, m) in v))
@@ -136,7 +136,7 @@ behind_directive w (tokens.ReservedDirective name) r q y b = b
 behind_directive w _ r q y b = absurd (cc)
 
 pub directives_beside : (w : Beside) (ts us : List Piece) (d : Declared) (m n : Machine) → Ahead w ts us m n
-    → Gives w (Has w) (directives_from ts d m) (directives_from us d n)
+    → GivesAlike w (Has w) (directives_from ts d m) (directives_from us d n)
 directives_beside w [] us d m n a = over w (Has w) us m n (λ us. directives_from us d n) a refl
 directives_beside w (t ∷ ts) us d m n a =
     rw x.is (by (is_directive t.kind) refl (λ e k l b. directives_beside w ts x.tail e k l b))
@@ -149,11 +149,11 @@ directives_beside w (t ∷ ts) us d m n a =
 
     Next : Type 0
     Next = (e : Declared) (k l : Machine) → Ahead w ts x.tail k l
-        → Gives w (Has w) (directives_from ts e k) (directives_from x.tail e l)
+        → GivesAlike w (Has w) (directives_from ts e k) (directives_from x.tail e l)
 
     by :
         (b : Bool) → is_directive t.kind ≡ b → Next
-        → Gives w (Has w)
+        → GivesAlike w (Has w)
         (if b then directive_at t.kind t d (with_pieces ts m) >>= (λ s. directives_from ts s.0 s.1) else Ok
         (t, with_pieces ts m))
         (if b then directive_at t.kind u d (with_pieces x.tail n) >>= (λ s. directives_from x.tail s.0 s.1) else Ok

@@ -21,14 +21,14 @@ not_given : (k : Kept) → k.given ≡ false → kept_answer (Some k) ≡ fault_
 not_given k e = rw e refl
 
 -- what one reading ahead leaves
-abbrev pub Leaves : EventCursor → EventCursor → Type 0
-Leaves old new = Stays (to_come old) (to_come new) × IsUnmoved old new
+abbrev pub LeavesAhead : EventCursor → EventCursor → Type 0
+LeavesAhead old new = Stays (to_come old) (to_come new) × IsUnmoved old new
     × (new.current ≡ None → to_come new ≡ kept_answer new.kept) × IsUntold new.current new.kept
 
 reads_ahead : (d : Option (Happening × Span)) (l : Option Kept) (m : Machine) (i : Bool) (s : Option Span)
     (new : EventCursor) → new.current ≡ d → new.kept ≡ l
     → ReadsAhead d l (record { current = None; kept = None; machine = m; inside = i; finished = s }) new
-    → Leaves (record { current = None; kept = None; machine = m; inside = i; finished = s }) new
+    → LeavesAhead (record { current = None; kept = None; machine = m; inside = i; finished = s }) new
 reads_ahead (Some e) (Some k) m i s new is fault h = absurd h
 reads_ahead (Some e) None m i s new is fault (moved, left) = (
   inl (ap to_come left ∙ sym (moves m new.machine e moved)),

@@ -33,9 +33,9 @@ promised keep =
 empty_line_rest : IsLineRest []
 empty_line_rest = ([], [], tt, inl refl, refl)
 
-pub closed : (keep : Bool)
+pub line_closes : (keep : Bool)
     → IsClosed (IsLayoutText most_open) IsLineRest 100 keep (codes "---\n[") examples.start_events
-closed keep =
+line_closes keep =
     record {
       front = codes "---\n";
       others = codes "[";
@@ -146,4 +146,4 @@ gives_start parser keep r = r examples.start_forest keep examples.start_told (pr
 
 pub gives_first : (parser : EventCursor) (keep : Bool) → ReadsClosedLayout 100 (codes "---\n[") parser
     → GivesFirst examples.start_events (to_come (keeping_tags keep parser))
-gives_first parser keep r = r keep examples.start_events (closed keep)
+gives_first parser keep r = r keep examples.start_events (line_closes keep)

@@ -19,9 +19,9 @@ use Rattle.saphyr_parser.specs.Exactly.{GivesExactly, answer_of_tokens}
 use Rattle.saphyr_parser.specs.More.{marker_token}
 use Rattle.saphyr_parser.proofs.Unroll.{unroll, over}
 use Rattle.saphyr_parser.proofs.Longer.{More, longer, IsLastOr, End, Awaits}
-use Rattle.saphyr_parser.proofs.Beside.Documents.{IsStart}
+use Rattle.saphyr_parser.proofs.Beside.Documents.{IsBetweenDocuments}
 use Rattle.saphyr_parser.proofs.Promises.CommonBeginnings.{or_last, IsStopped, GoesOn, goes_on}
-use Rattle.saphyr_parser.proofs.Happenings.{told_of}
+use Rattle.saphyr_parser.proofs.Happenings.{happenings_of}
 
 -- ## What follows the marker where the stream ends
 
@@ -29,19 +29,19 @@ use Rattle.saphyr_parser.proofs.Happenings.{told_of}
 abbrev alone : Span → Machine → Machine
 alone s k = record k { tokens = record { pieces = record { span = s; kind = tokens.StreamEnd } ∷ []; refusal = None } }
 
-start_step : (s : Span) (x : State) (k : Machine) → IsStart x
+start_step : (s : Span) (x : State) (k : Machine) → IsBetweenDocuments x
     → event_step_at x (alone s k) ≡ told_event events.StreamEnd s (with_state state.End (with_pieces [] (alone s k)))
 unfolding implicit_start explicit_start unpassed_token
 start_step s state.ImplicitDocumentStart k i = refl
 start_step s state.DocumentStart k i = refl
 start_step s _ k i = absurd i
 
-goes : (x : State) → IsStart x → x ≢ state.End
+goes : (x : State) → IsBetweenDocuments x → x ≢ state.End
 goes state.ImplicitDocumentStart i = λ e. absurd (cc)
 goes state.DocumentStart i = λ e. absurd (cc)
 goes _ i = absurd i
 
-start_told : (s : Span) (k : Machine) → IsStart k.state
+start_told : (s : Span) (k : Machine) → IsBetweenDocuments k.state
     → remaining_answer (alone s k) ≡ record { events = (events.StreamEnd, s) ∷ []; fault = None }
 unfolding event_step
 start_told s k i =
@@ -68,24 +68,24 @@ content_told s ss k =
 abbrev ended_by : DocumentMarker → List Piece → Option Refusal → More
 ended_by w us e = record { Early = ⊥; marker = w; pieces = us; refusal = e }
 
-told_behind : (w : DocumentMarker) (s : Span) (k : Machine) → Awaits w k ⊎ ((w ≡ Ends) × IsStart k.state)
-    → told_of (remaining_answer (alone s k)) ≡ events_behind_marker w
-told_behind w s k (inl (inl a)) = rw a.0 (ap told_of (start_told s k (subst IsStart (sym a.1) tt)))
+told_behind : (w : DocumentMarker) (s : Span) (k : Machine) → Awaits w k ⊎ ((w ≡ Ends) × IsBetweenDocuments k.state)
+    → happenings_of (remaining_answer (alone s k)) ≡ events_behind_marker w
+told_behind w s k (inl (inl a)) = rw a.0 (ap happenings_of (start_told s k (subst IsBetweenDocuments (sym a.1) tt)))
 told_behind w s k (inl (inr a)) =
     let ss : List State = a.2.0 in
     let same : k ≡ in_document ss k = ap (λ v. record k { state = v }) a.1
     ∙ ap (λ v. record k { state = state.DocumentContent; states = v }) a.2.1 in
-    rw a.0 (ap told_of (ap (λ v. remaining_answer (alone s v)) same ∙ content_told s ss k))
-told_behind w s k (inr a) = rw a.0 (ap told_of (start_told s k a.1))
+    rw a.0 (ap happenings_of (ap (λ v. remaining_answer (alone s v)) same ∙ content_told s ss k))
+told_behind w s k (inr a) = rw a.0 (ap happenings_of (start_told s k a.1))
 
 told_stopped :
     (w : DocumentMarker) (s : Span) (k : Machine)
     → IsStopped (ended_by w (record { span = s; kind = tokens.StreamEnd } ∷ []) None) k
-    → told_of (remaining_answer (longer (ended_by w (record { span = s; kind = tokens.StreamEnd } ∷ []) None) k))
+    → happenings_of (remaining_answer (longer (ended_by w (record { span = s; kind = tokens.StreamEnd } ∷ []) None) k))
     ≡ events_behind_marker w
 told_stopped w s k (inl h) = absurd h
 told_stopped w s k (inr a) =
-    ap (λ ts. told_of (remaining_answer
+    ap (λ ts. happenings_of (remaining_answer
     (record k {
       tokens = record { pieces = ts ++ record { span = s; kind = tokens.StreamEnd } ∷ []; refusal = None };
     }))) a.0 ∙ told_behind w s k a.1
@@ -105,25 +105,25 @@ marker_ends w us e (t ∷ ts) x is = or_last w _ (ts ++ x ∷ []) t.kind (marker
 first_told :
     (w : DocumentMarker) (s : Span) (first : List Happening) (a b : Answer)
     → GoesOn (ended_by w (record { span = s; kind = tokens.StreamEnd } ∷ []) None) None a b
-    → told_of b ≡ first ++ events_behind_marker w → GivesFirst first a
-first_told w s first a b (inl e) t = (events_behind_marker w, ap told_of (sym e) ∙ t)
+    → happenings_of b ≡ first ++ events_behind_marker w → GivesFirst first a
+first_told w s first a b (inl e) t = (events_behind_marker w, ap happenings_of (sym e) ∙ t)
 first_told w s first a b (inr g) t =
     let behind : Answer = remaining_answer
     (longer (ended_by w (record { span = s; kind = tokens.StreamEnd } ∷ []) None) g.1.0) in
-    let all : told_of b ≡ told_of a ++ told_of behind = ap told_of g.1.2
+    let all : happenings_of b ≡ happenings_of a ++ happenings_of behind = ap happenings_of g.1.2
     ∙ map-append (λ (e : Happening × Span). e.0) a.events behind.events in
-    let these : told_of a ++ events_behind_marker w ≡ first ++ events_behind_marker w =
-    ap (λ xs. told_of a ++ xs) (sym (told_stopped w s g.1.0 g.1.1)) ∙ sym all ∙ t in
-    ([], append_cancel_right (told_of a) first (events_behind_marker w) these ∙ sym (append-nil first))
+    let these : happenings_of a ++ events_behind_marker w ≡ first ++ events_behind_marker w =
+    ap (λ xs. happenings_of a ++ xs) (sym (told_stopped w s g.1.0 g.1.1)) ∙ sym all ∙ t in
+    ([], append_cancel_right (happenings_of a) first (events_behind_marker w) these ∙ sym (append-nil first))
 
 also_first : (z : More) (r : Option Refusal) (first : List Happening) (a b : Answer) → GoesOn z r a b
     → GivesFirst first a → GivesFirst first b
-also_first z r first a b (inl e) f = (f.0, ap told_of e ∙ f.1)
+also_first z r first a b (inl e) f = (f.0, ap happenings_of e ∙ f.1)
 also_first z r first a b (inr g) f =
     let behind : Answer = remaining_answer (longer z g.1.0) in (
-      f.0 ++ told_of behind,
-      ap told_of g.1.2 ∙ map-append (λ (e : Happening × Span). e.0) a.events behind.events
-          ∙ ap (λ xs. xs ++ told_of behind) f.1 ∙ append_assoc first f.0 (told_of behind),
+      f.0 ++ happenings_of behind,
+      ap happenings_of g.1.2 ∙ map-append (λ (e : Happening × Span). e.0) a.events behind.events
+          ∙ ap (λ xs. xs ++ happenings_of behind) f.1 ∙ append_assoc first f.0 (happenings_of behind),
     )
 
 -- a machine at the start of tokens
@@ -133,7 +133,7 @@ start keep ts e = record (fresh_machine (record { pieces = ts; refusal = e })) {
 tokens_close :
     (keep : Bool) (w : DocumentMarker) (ts us : List Piece) (x : Piece) (s : Span) (e : Option Refusal)
     (first : List Happening) → x.kind ≡ marker_token w
-    → told_of (remaining_answer (start keep ((ts ++ x ∷ []) ++ record { span = s; kind = tokens.StreamEnd } ∷ []) None))
+    → happenings_of (remaining_answer (start keep ((ts ++ x ∷ []) ++ record { span = s; kind = tokens.StreamEnd } ∷ []) None))
     ≡ first ++ events_behind_marker w
     → GivesFirst first (remaining_answer (start keep ((ts ++ x ∷ []) ++ us) e))
 tokens_close keep w ts us x s e first is t =
@@ -153,10 +153,10 @@ closed_tokens keep w ts us x y e first is ends g =
     let same : (vs : List Piece) → (ts ++ x ∷ []) ++ vs ≡ ts ++ x ∷ vs = λ vs. append_assoc ts (x ∷ []) vs in
     let the_end : y ≡ record { span = y.span; kind = tokens.StreamEnd } =
     ap (λ k. record { span = y.span; kind = k }) ends in
-    let given : told_of (remaining_answer
+    let given : happenings_of (remaining_answer
     (start keep ((ts ++ x ∷ []) ++ record { span = y.span; kind = tokens.StreamEnd } ∷ []) None))
     ≡ first ++ events_behind_marker w =
-    ap (λ vs. told_of (remaining_answer (start keep vs None))) (same _ ∙ ap (λ v. ts ++ x ∷ v ∷ []) (sym the_end))
+    ap (λ vs. happenings_of (remaining_answer (start keep vs None))) (same _ ∙ ap (λ v. ts ++ x ∷ v ∷ []) (sym the_end))
     ∙ g.1 in
     subst (λ vs. GivesFirst first (remaining_answer (start keep vs e))) (same us)
     (tokens_close keep w ts us x y.span e first is given)

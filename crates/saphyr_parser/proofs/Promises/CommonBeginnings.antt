@@ -15,8 +15,8 @@ use Rattle.saphyr_parser.specs.Steps.Expected.{event_step, event_step_at}
 use Rattle.saphyr_parser.specs.Answer.{Answer, with_first_event, answer_of_step, fault_alone, ending_of, remaining_answer, machine_size}
 use Rattle.saphyr_parser.specs.More.{with_more, BeginsAs}
 use Rattle.saphyr_parser.proofs.Unroll.{unroll, over, shrinks_at}
-use Rattle.saphyr_parser.proofs.Longer.{More, longer, IsLastOr, End, Awaits, IsLeft, Agrees, IsPassed, steps_agree}
-use Rattle.saphyr_parser.proofs.Beside.Documents.{IsStart}
+use Rattle.saphyr_parser.proofs.Longer.{More, longer, IsLastOr, End, Awaits, IsLeft, AgreesOrEndsEarly, PassesAll, steps_agree}
+use Rattle.saphyr_parser.proofs.Beside.Documents.{IsBetweenDocuments}
 
 -- ## One step
 
@@ -35,7 +35,7 @@ pub ended : (s : State) → (s ≡ state.End) ⊎ (s ≢ state.End)
 ended state.End = inl refl
 ended _ = inr (λ e. absurd (cc))
 
-same_result : (z : More) (r : Option Refusal) (p q : Result Told Refusal) (x : Told) → Agrees z r p q → p ≡ Ok x
+same_result : (z : More) (r : Option Refusal) (p q : Result Told Refusal) (x : Told) → AgreesOrEndsEarly z r p q → p ≡ Ok x
     → q ≡ Ok (record x { machine = longer z x.machine })
 same_result z r (Ok y) q x a e =
     let same : y ≡ x = cc in subst (λ (v : Told). q ≡ Ok (record v { machine = longer z v.machine })) same a.2
@@ -47,8 +47,8 @@ unfolding event_step
 step_given z m x e is = by (ended m.state)
   where
     agreed :
-        Agrees z m.tokens.refusal (event_step_at m.state m) (event_step_at m.state (longer z m))
-        ⊎ (IsStart m.state × IsPassed z m (event_step_at m.state))
+        AgreesOrEndsEarly z m.tokens.refusal (event_step_at m.state m) (event_step_at m.state (longer z m))
+        ⊎ (IsBetweenDocuments m.state × PassesAll z m (event_step_at m.state))
         → event_step_at m.state (longer z m) ≡ Ok (record x { machine = longer z x.machine })
     agreed (inl a) = same_result z m.tokens.refusal (event_step_at m.state m) _ x a is
     agreed (inr p) = let no = p.1.1 in absurd (cc)
@@ -76,7 +76,7 @@ behind_all es a = record { events = es ++ a.events; fault = a.fault }
 
 -- where a machine wants another token behind the marker, unless its tokens ended too early
 abbrev pub IsStopped : More → Machine → Type 0
-IsStopped z k = z.Early ⊎ ((k.tokens.pieces ≡ []) × (Awaits z.marker k ⊎ ((z.marker ≡ Ends) × IsStart k.state)))
+IsStopped z k = z.Early ⊎ ((k.tokens.pieces ≡ []) × (Awaits z.marker k ⊎ ((z.marker ≡ Ends) × IsBetweenDocuments k.state)))
 
 -- The answers are the same; or the end of the tokens, which r ends, is the fault of the first, and the second goes on
 -- from there.
@@ -94,7 +94,7 @@ as_before : (z : More) (r : Option Refusal) (a c b d : Answer) → a ≡ c → b
 as_before z r a c b d x y g = subst (λ v. GoesOn z r v b) (sym x) (subst (λ v. GoesOn z r c v) (sym y) g)
 
 delivers_longer :
-    (z : More) (r : Option Refusal) (m : Machine) (p q : Result Told Refusal) → Agrees z r p q
+    (z : More) (r : Option Refusal) (m : Machine) (p q : Result Told Refusal) → AgreesOrEndsEarly z r p q
     → answer_of_step q remaining_answer ≡ remaining_answer (longer z m)
     → ((x : Told) → p ≡ Ok x → IsLeft z x.machine
     → GoesOn z x.machine.tokens.refusal (remaining_answer x.machine) (remaining_answer (longer z x.machine)))
@@ -137,8 +137,8 @@ first_step z m next i = by (ended m.state) i
     r = m.tokens.refusal
 
     agreed :
-        m.state ≢ state.End → Agrees z r (event_step_at m.state m) (event_step_at m.state (longer z m))
-        ⊎ (IsStart m.state × IsPassed z m (event_step_at m.state))
+        m.state ≢ state.End → AgreesOrEndsEarly z r (event_step_at m.state m) (event_step_at m.state (longer z m))
+        ⊎ (IsBetweenDocuments m.state × PassesAll z m (event_step_at m.state))
         → GoesOn z r (answer_of_step (event_step_at m.state m) remaining_answer)
         (answer_of_step (event_step_at m.state (longer z m)) remaining_answer)
     agreed h (inl a) =

@@ -14,7 +14,7 @@ use Rattle.saphyr_parser.specs.ForestEvents.{events}
 use Rattle.saphyr_parser.specs.Steps.Machine.{no_anchors}
 use Rattle.saphyr_parser.specs.Cursor.{at_start, keeping_tags, to_come}
 use Rattle.saphyr_parser.specs.Exactly.{GivesExactly, kinds, answer_of_tokens}
-use Rattle.saphyr_parser.proofs.Told.Telling.{Spans, Memory, dressed, dress}
+use Rattle.saphyr_parser.proofs.Told.Telling.{SpansByKinds, Memory, dressed, dress}
 use Rattle.saphyr_parser.proofs.Remembering.{events_in}
 use Rattle.saphyr_parser.proofs.Told.Streams.{stream_says}
 use Rattle.saphyr_parser.proofs.MemoryFits.{FitsBetween, Within, same_events}
@@ -88,7 +88,7 @@ nowhere = record { start = record { index = 0; line = 0; col = 0 }; end = record
 pub each_gives : (f : Forest) (keep : Bool) (ts : List Piece) (es : List Happening) → Yields f (kinds ts)
     → anchors (parts f) < 2 ^ 64 → events f keep ≡ Some es → GivesExactly es (answer_of_tokens keep ts)
 each_gives f keep ts es y l e =
-    let any : (g : Spans) × (ts ≡ dressed g (kinds ts)) = dress nowhere ts in
+    let any : (g : SpansByKinds) × (ts ≡ dressed g (kinds ts)) = dress nowhere ts in
     let within : Within false (parts f) = (tt, documents_within f (all_compatible f true y.1 y.3)) in
     let same : events_in (at_first keep) (parts f) ≡ events f keep =
     same_events (parts f) false keep [] (at_first keep) within (fits_start keep) (omega (arith, l)) in

@@ -9,21 +9,21 @@ use Rattle.saphyr_parser.specs.Anchors.{anchor_of, one_more_anchor, anchors, own
 use Rattle.saphyr_parser.specs.TagResolution.{any_resolution}
 use Rattle.saphyr_parser.specs.ForestEvents.{first_and_others, event_of_part, events_behind, events}
 
-abbrev IsBare : Part → Type 0
-IsBare (Reference _) = ⊥
-IsBare (Leaf p _ _) = p ≡ no_properties
-IsBare (OpenSequence p) = p ≡ no_properties
-IsBare (OpenMapping p) = p ≡ no_properties
-IsBare _ = Unit {0}
+abbrev IsBarePart : Part → Type 0
+IsBarePart (Reference _) = ⊥
+IsBarePart (Leaf p _ _) = p ≡ no_properties
+IsBarePart (OpenSequence p) = p ≡ no_properties
+IsBarePart (OpenMapping p) = p ≡ no_properties
+IsBarePart _ = Unit {0}
 
 abbrev AreBare : List Part → Type 0
 AreBare [] = Unit {0}
-AreBare (p ∷ ps) = IsBare p × AreBare ps
+AreBare (p ∷ ps) = IsBarePart p × AreBare ps
 
 abbrev Has : Option Happening → Type 0
 Has o = (e : Happening) × (o ≡ Some e)
 
-bare_event : (keep : Bool) (front : List Part) (p : Part) → IsBare p → Has (event_of_part keep front p)
+bare_event : (keep : Bool) (front : List Part) (p : Part) → IsBarePart p → Has (event_of_part keep front p)
 bare_event keep front (Reference x) h = elim h [ ]
 bare_event keep front (Leaf p s v) h = (
   Scalar (encode_utf8_all v) s 0 None,
@@ -124,7 +124,7 @@ pub json_has_events : (f : Forest) (text : List ℕ) (keep : Bool) → IsJson f 
     → (es : List Happening) × (events f keep ≡ Some es)
 json_has_events f text keep h = bare_events keep [] (parts f) (json_is_bare f text h)
 
-no_anchor : (p : Part) → IsBare p → anchor_of p ≡ None
+no_anchor : (p : Part) → IsBarePart p → anchor_of p ≡ None
 no_anchor (Leaf p s v) h = ap (λ (q : Properties). option_map encode_utf8_all q.anchor) h
 no_anchor (OpenSequence p) h = ap (λ (q : Properties). option_map encode_utf8_all q.anchor) h
 no_anchor (OpenMapping p) h = ap (λ (q : Properties). option_map encode_utf8_all q.anchor) h

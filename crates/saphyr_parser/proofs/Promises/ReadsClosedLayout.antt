@@ -29,7 +29,7 @@ use Rattle.saphyr_input.proofs.Basics.Characters.{normalized_other}
 -- ## A beginning of the normalized text is one of the text
 
 -- the text begins with `front`, whose breaks are whole: normalized, it is xs
-record Parts (text xs others : List ℕ) : Type 0 where
+record WholeParts (text xs others : List ℕ) : Type 0 where
   front : List ℕ
   behind : List ℕ
   are_all : text ≡ front ++ behind
@@ -58,9 +58,9 @@ front_begins_no_feed (d ∷ ds) behind cs e f = subst (λ (vs : List ℕ). (slic
 with_first :
     (c : ℕ) (cs : List ℕ) (x : ℕ) (xs others : List ℕ) (return feed : Bool) → (c == 13) ≡ return
     → (slice_index cs 0 == 10) ≡ feed
-    → (normalized cs ≡ xs ++ others → Parts cs xs others)
-    → (normalized cs ≡ x ∷ xs ++ others → Parts cs (x ∷ xs) others) → normalized (c ∷ cs) ≡ x ∷ xs ++ others
-    → Parts (c ∷ cs) (x ∷ xs) others
+    → (normalized cs ≡ xs ++ others → WholeParts cs xs others)
+    → (normalized cs ≡ x ∷ xs ++ others → WholeParts cs (x ∷ xs) others) → normalized (c ∷ cs) ≡ x ∷ xs ++ others
+    → WholeParts (c ∷ cs) (x ∷ xs) others
 with_first c cs x xs others false feed e f less same n =
     let all = sym (normalized_other c cs e) ∙ n in
     let p = less (cc) in
@@ -94,7 +94,7 @@ with_first c cs x xs others true false e f less same n =
       is_behind = p.is_behind;
     }
 
-parted : (text xs others : List ℕ) → normalized text ≡ xs ++ others → Parts text xs others
+parted : (text xs others : List ℕ) → normalized text ≡ xs ++ others → WholeParts text xs others
 parted text [] others e = record { front = []; behind = text; are_all = refl; is_front = refl; is_behind = e }
 parted [] (x ∷ xs) others e = absurd (cc)
 parted (c ∷ cs) (x ∷ xs) others e =

@@ -12,7 +12,7 @@ use Rattle.saphyr_scanner.specs.TokensTaken.{IsPlaceOf, IsEndOf, AreTakenFrom}
 use Rattle.saphyr_scanner.specs.AtPlaces.{AreAtPlaces}
 use Rattle.saphyr_parser.specs.Cursor.{EventCursor, at_start, keeping_tags, to_come}
 use Rattle.saphyr_parser.specs.Promises.{TakesEvents}
-use Rattle.saphyr_parser.proofs.Refusing.{IsRefused, IsLastOr, AreEnded, refused_at}
+use Rattle.saphyr_parser.proofs.Refusing.{IsRefusedAt, IsLastOr, AreEnded, refused_at}
 use Rattle.saphyr_parser.proofs.Sound.{begins}
 use Rattle.saphyr_parser.proofs.TokensForm.{tokens_form}
 
@@ -22,21 +22,21 @@ no_last : (A : Type 0) (k : Kind) (ts : List Piece) → ¬ (k ≡ tokens.StreamE
 no_last A tokens.StreamEnd ts h a = absurd (h refl)
 no_last A _ ts h a = a
 
-ended_by_refusal : (P : Marker → Type 0) (r : Option Refusal) (ts : List Piece) → HasNoEnd ts → IsRefused P r
+ended_by_refusal : (P : Marker → Type 0) (r : Option Refusal) (ts : List Piece) → HasNoEnd ts → IsRefusedAt P r
     → AreEnded P r ts
 ended_by_refusal P r [] h e = e
 ended_by_refusal P r (t ∷ ts) h e = no_last (AreEnded P r ts) t.kind ts h.0 (ended_by_refusal P r ts h.1 e)
 
 complete : (P : Marker → Type 0) (r : Option Refusal) (front : List Piece) (end : Piece) → HasNoEnd front
     → end.kind ≡ tokens.StreamEnd → AreEnded P r (front ++ end ∷ [])
-complete P r [] end h e = subst (IsLastOr (IsRefused P r) []) (sym e) refl
+complete P r [] end h e = subst (IsLastOr (IsRefusedAt P r) []) (sym e) refl
 complete P r (t ∷ front) end h e =
     no_last (AreEnded P r (front ++ end ∷ [])) t.kind (front ++ end ∷ []) h.0 (complete P r front end h.1 e)
 
 -- where a refusal has such a place
 pub ended : (P : Marker → Type 0) (r : Remaining) → EndsWithStream r → ((e : Refusal) → r.refusal ≡ Some e → P e.mark)
     → AreEnded P r.refusal r.pieces
-ended P r (inl h) at = ended_by_refusal P r.refusal r.pieces h.2 (subst (IsRefused P) (sym h.1) (at h.0 h.1))
+ended P r (inl h) at = ended_by_refusal P r.refusal r.pieces h.2 (subst (IsRefusedAt P) (sym h.1) (at h.0 h.1))
 ended P r (inr h) at = subst (AreEnded P r.refusal) (sym h.4) (complete P r.refusal h.0 h.1 h.2 h.3)
 
 -- ## The events
@@ -52,12 +52,12 @@ takes text r t a e l keep =
 
 -- ## Parsers
 
-abbrev pub TakesAll : Type 0
-TakesAll = (text : List ℕ) (tokens : Remaining) → AreTakenFrom text tokens → EndsWithStream tokens
+abbrev pub TakesAllEvents : Type 0
+TakesAllEvents = (text : List ℕ) (tokens : Remaining) → AreTakenFrom text tokens → EndsWithStream tokens
     → length tokens.pieces < 2 ^ 64 → TakesEvents text (at_start tokens)
 
 -- a parser that stands at the start of a text's tokens
-pub parser_takes : TakesAll → (limit : ℕ) (text : List ℕ) (r : Remaining) (c : EventCursor) → c ≡ at_start r
+pub parser_takes : TakesAllEvents → (limit : ℕ) (text : List ℕ) (r : Remaining) (c : EventCursor) → c ≡ at_start r
     → r ≡ scan limit text → AreTakenFrom text r → EndsWithStream (scan limit text)
     → length (scan limit text).pieces ≤ 5 * limit + 10 → limit ≤ 4294967295 → TakesEvents text c
 parser_takes all limit text r c is same t e b l =

@@ -11,8 +11,8 @@ use Rattle.saphyr_parser.specs.Preorder.{Part, node_parts}
 use Rattle.saphyr_parser.specs.Steps.Machine.{told_event, empty_scalar}
 use Rattle.saphyr_parser.specs.Steps.Block.{sequence_entry, sequence_node, indentless_entry, indentless_node, mapping_key, block_key_node, block_mapping_value, block_value_node}
 use Rattle.saphyr_parser.specs.Steps.Expected.{event_step}
-use Rattle.saphyr_parser.proofs.Told.Telling.{Spans, Memory, at}
-use Rattle.saphyr_parser.proofs.Remembering.{after_node, Tells}
+use Rattle.saphyr_parser.proofs.Told.Telling.{SpansByKinds, Memory, at}
+use Rattle.saphyr_parser.proofs.Remembering.{after_node, TellsParts}
 use Rattle.saphyr_parser.proofs.Told.Nodes.{next_node}
 use Rattle.saphyr_parser.proofs.NodeStarts.{Starts, MayFollow, NodeSays, skipped, enters_or_skips, marked_tokens}
 
@@ -29,7 +29,7 @@ entry_end_follows BlockEntry h = tt
 entry_end_follows BlockEnd h = tt
 entry_end_follows _ h = elim h [ ]
 
-entry_begins : (f : Spans) (j : Kind) (l : List Kind) (ss : List State) (e : Memory) → Starts InBlock j
+entry_begins : (f : SpansByKinds) (j : Kind) (l : List Kind) (ss : List State) (e : Memory) → Starts InBlock j
     → event_step (at f (BlockEntry ∷ j ∷ l) state.BlockSequenceEntry ss e)
     ≡ next_node Block (at f (j ∷ l) state.BlockSequenceEntry (state.BlockSequenceEntry ∷ ss) e)
 unfolding event_step sequence_entry sequence_node
@@ -37,7 +37,7 @@ entry_begins f BlockEntry l ss e h = elim h [ ]
 entry_begins f BlockEnd l ss e h = elim h [ ]
 entry_begins f _ l ss e h = refl
 
-entry_is_left_out : (f : Spans) (k : Kind) (ks : List Kind) (ss : List State) (e : Memory) → EndsBlockEntry k
+entry_is_left_out : (f : SpansByKinds) (k : Kind) (ks : List Kind) (ss : List State) (e : Memory) → EndsBlockEntry k
     → event_step (at f (BlockEntry ∷ k ∷ ks) state.BlockSequenceEntry ss e)
     ≡ told_event empty_scalar (f (k ∷ ks)) (at f (k ∷ ks) state.BlockSequenceEntry ss e)
 unfolding event_step sequence_entry sequence_node
@@ -47,9 +47,9 @@ entry_is_left_out f _ ks ss e h = elim h [ ]
 
 pub entry_says : (n : Node) (t : List Kind) → YieldsOptional n (YieldsNode n InBlock) t
     → (YieldsNode n InBlock t → NodeSays n InBlock t)
-    → (f : Spans) (k : Kind) (ks : List Kind) (ss : List State) (e : Memory) (ps : List Part) → EndsBlockEntry k
-    → Tells f (k ∷ ks) state.BlockSequenceEntry ss (after_node n e) ps
-    → Tells f (BlockEntry ∷ (t ++ k ∷ ks)) state.BlockSequenceEntry ss e (node_parts n ++ ps)
+    → (f : SpansByKinds) (k : Kind) (ks : List Kind) (ss : List State) (e : Memory) (ps : List Part) → EndsBlockEntry k
+    → TellsParts f (k ∷ ks) state.BlockSequenceEntry ss (after_node n e) ps
+    → TellsParts f (BlockEntry ∷ (t ++ k ∷ ks)) state.BlockSequenceEntry ss e (node_parts n ++ ps)
 entry_says n t h g f k ks ss e ps z l =
     enters_or_skips n InBlock t h g f k ks (λ l. at f (BlockEntry ∷ l) state.BlockSequenceEntry ss e)
     state.BlockSequenceEntry (λ l. state.BlockSequenceEntry) ss e ps (entry_end_follows k z) (λ l q. cc)
@@ -72,7 +72,7 @@ pub mapping_follow_ends : (k : Kind) → MayFollow InBlockMapping k → EndsInde
 mapping_follow_ends BlockEntry h = tt
 mapping_follow_ends _ h = h
 
-indentless_begins : (f : Spans) (j : Kind) (l : List Kind) (ss : List State) (e : Memory) → Starts InBlock j
+indentless_begins : (f : SpansByKinds) (j : Kind) (l : List Kind) (ss : List State) (e : Memory) → Starts InBlock j
     → event_step (at f (BlockEntry ∷ j ∷ l) state.IndentlessSequenceEntry ss e)
     ≡ next_node Block (at f (j ∷ l) state.IndentlessSequenceEntry (state.IndentlessSequenceEntry ∷ ss) e)
 unfolding event_step indentless_entry indentless_node
@@ -82,7 +82,7 @@ indentless_begins f Value l ss e h = elim h [ ]
 indentless_begins f BlockEnd l ss e h = elim h [ ]
 indentless_begins f _ l ss e h = refl
 
-indentless_is_left_out : (f : Spans) (k : Kind) (ks : List Kind) (ss : List State) (e : Memory) → EndsIndentless k
+indentless_is_left_out : (f : SpansByKinds) (k : Kind) (ks : List Kind) (ss : List State) (e : Memory) → EndsIndentless k
     → event_step (at f (BlockEntry ∷ k ∷ ks) state.IndentlessSequenceEntry ss e)
     ≡ told_event empty_scalar (f (k ∷ ks)) (at f (k ∷ ks) state.IndentlessSequenceEntry ss e)
 unfolding event_step indentless_entry indentless_node
@@ -94,9 +94,9 @@ indentless_is_left_out f _ ks ss e h = elim h [ ]
 
 pub indentless_says : (n : Node) (t : List Kind) → YieldsOptional n (YieldsNode n InBlock) t
     → (YieldsNode n InBlock t → NodeSays n InBlock t)
-    → (f : Spans) (k : Kind) (ks : List Kind) (ss : List State) (e : Memory) (ps : List Part) → EndsIndentless k
-    → Tells f (k ∷ ks) state.IndentlessSequenceEntry ss (after_node n e) ps
-    → Tells f (BlockEntry ∷ (t ++ k ∷ ks)) state.IndentlessSequenceEntry ss e (node_parts n ++ ps)
+    → (f : SpansByKinds) (k : Kind) (ks : List Kind) (ss : List State) (e : Memory) (ps : List Part) → EndsIndentless k
+    → TellsParts f (k ∷ ks) state.IndentlessSequenceEntry ss (after_node n e) ps
+    → TellsParts f (BlockEntry ∷ (t ++ k ∷ ks)) state.IndentlessSequenceEntry ss e (node_parts n ++ ps)
 indentless_says n t h g f k ks ss e ps z l =
     enters_or_skips n InBlock t h g f k ks (λ l. at f (BlockEntry ∷ l) state.IndentlessSequenceEntry ss e)
     state.IndentlessSequenceEntry (λ l. state.IndentlessSequenceEntry) ss e ps (indentless_end_follows k z)
@@ -104,7 +104,7 @@ indentless_says n t h g f k ks ss e ps z l =
 
 -- ## Entries of mappings
 
-block_key_begins : (f : Spans) (j : Kind) (l : List Kind) (ss : List State) (e : Memory) → Starts InBlockMapping j
+block_key_begins : (f : SpansByKinds) (j : Kind) (l : List Kind) (ss : List State) (e : Memory) → Starts InBlockMapping j
     → event_step (at f (Key ∷ j ∷ l) state.BlockMappingKey ss e)
     ≡ next_node BlockMapping (at f (j ∷ l) state.BlockMappingKey (state.BlockMappingValue ∷ ss) e)
 unfolding event_step mapping_key block_key_node
@@ -113,7 +113,7 @@ block_key_begins f Value l ss e h = elim h [ ]
 block_key_begins f BlockEnd l ss e h = elim h [ ]
 block_key_begins f _ l ss e h = refl
 
-key_is_left_out : (f : Spans) (k : Kind) (ks : List Kind) (ss : List State) (e : Memory) → MayFollow InBlockMapping k
+key_is_left_out : (f : SpansByKinds) (k : Kind) (ks : List Kind) (ss : List State) (e : Memory) → MayFollow InBlockMapping k
     → event_step (at f (Key ∷ k ∷ ks) state.BlockMappingKey ss e)
     ≡ told_event empty_scalar (f ks) (at f (k ∷ ks) state.BlockMappingValue ss e)
 unfolding event_step mapping_key block_key_node
@@ -122,7 +122,7 @@ key_is_left_out f Value ks ss e h = refl
 key_is_left_out f BlockEnd ks ss e h = refl
 key_is_left_out f _ ks ss e h = elim h [ ]
 
-block_value_begins : (f : Spans) (j : Kind) (l : List Kind) (ss : List State) (e : Memory) → Starts InBlockMapping j
+block_value_begins : (f : SpansByKinds) (j : Kind) (l : List Kind) (ss : List State) (e : Memory) → Starts InBlockMapping j
     → event_step (at f (Value ∷ j ∷ l) state.BlockMappingValue ss e)
     ≡ next_node BlockMapping (at f (j ∷ l) state.BlockMappingValue (state.BlockMappingKey ∷ ss) e)
 unfolding event_step block_mapping_value block_value_node
@@ -131,7 +131,7 @@ block_value_begins f Value l ss e h = elim h [ ]
 block_value_begins f BlockEnd l ss e h = elim h [ ]
 block_value_begins f _ l ss e h = refl
 
-value_is_left_out : (f : Spans) (k : Kind) (ks : List Kind) (ss : List State) (e : Memory) → MayFollow InBlockMapping k
+value_is_left_out : (f : SpansByKinds) (k : Kind) (ks : List Kind) (ss : List State) (e : Memory) → MayFollow InBlockMapping k
     → event_step (at f (Value ∷ k ∷ ks) state.BlockMappingValue ss e)
     ≡ told_event empty_scalar (f (k ∷ ks)) (at f (k ∷ ks) state.BlockMappingKey ss e)
 unfolding event_step block_mapping_value block_value_node
@@ -140,7 +140,7 @@ value_is_left_out f Value ks ss e h = refl
 value_is_left_out f BlockEnd ks ss e h = refl
 value_is_left_out f _ ks ss e h = elim h [ ]
 
-value_is_missing : (f : Spans) (k : Kind) (ks : List Kind) (ss : List State) (e : Memory) → MayFollow InBlockMapping k
+value_is_missing : (f : SpansByKinds) (k : Kind) (ks : List Kind) (ss : List State) (e : Memory) → MayFollow InBlockMapping k
     → ¬ (BeginsWithValue (k ∷ ks))
     → event_step (at f (k ∷ ks) state.BlockMappingValue ss e)
     ≡ told_event empty_scalar (f ks) (at f (k ∷ ks) state.BlockMappingKey ss e)
@@ -153,9 +153,9 @@ value_is_missing f _ ks ss e h n = elim h [ ]
 -- the key, from its mark on
 key_says : (key : Node) (t : List Kind) → YieldsOptional key (YieldsNode key InBlockMapping) t
     → (YieldsNode key InBlockMapping t → NodeSays key InBlockMapping t)
-    → (f : Spans) (k : Kind) (ks : List Kind) (ss : List State) (e : Memory) (ps : List Part)
-    → MayFollow InBlockMapping k → Tells f (k ∷ ks) state.BlockMappingValue ss (after_node key e) ps
-    → Tells f (Key ∷ (t ++ k ∷ ks)) state.BlockMappingKey ss e (node_parts key ++ ps)
+    → (f : SpansByKinds) (k : Kind) (ks : List Kind) (ss : List State) (e : Memory) (ps : List Part)
+    → MayFollow InBlockMapping k → TellsParts f (k ∷ ks) state.BlockMappingValue ss (after_node key e) ps
+    → TellsParts f (Key ∷ (t ++ k ∷ ks)) state.BlockMappingKey ss e (node_parts key ++ ps)
 key_says key t h g f k ks ss e ps z l =
     enters_or_skips key InBlockMapping t h g f k ks (λ l. at f (Key ∷ l) state.BlockMappingKey ss e)
     state.BlockMappingKey (λ l. state.BlockMappingValue) ss e ps z (λ l q. cc) (f ks)
@@ -164,9 +164,9 @@ key_says key t h g f k ks ss e ps z l =
 -- the value, from its mark on
 value_says : (value : Node) (t : List Kind) → YieldsOptional value (YieldsNode value InBlockMapping) t
     → (YieldsNode value InBlockMapping t → NodeSays value InBlockMapping t)
-    → (f : Spans) (k : Kind) (ks : List Kind) (ss : List State) (e : Memory) (ps : List Part)
-    → MayFollow InBlockMapping k → Tells f (k ∷ ks) state.BlockMappingKey ss (after_node value e) ps
-    → Tells f (Value ∷ (t ++ k ∷ ks)) state.BlockMappingValue ss e (node_parts value ++ ps)
+    → (f : SpansByKinds) (k : Kind) (ks : List Kind) (ss : List State) (e : Memory) (ps : List Part)
+    → MayFollow InBlockMapping k → TellsParts f (k ∷ ks) state.BlockMappingKey ss (after_node value e) ps
+    → TellsParts f (Value ∷ (t ++ k ∷ ks)) state.BlockMappingValue ss e (node_parts value ++ ps)
 value_says value t h g f k ks ss e ps z l =
     enters_or_skips value InBlockMapping t h g f k ks (λ l. at f (Value ∷ l) state.BlockMappingValue ss e)
     state.BlockMappingValue (λ l. state.BlockMappingKey) ss e ps z (λ l q. cc) (f (k ∷ ks))
@@ -175,31 +175,31 @@ value_says value t h g f k ks ss e ps z l =
 -- a pair whose value is left out
 alone_says : (key : Node) (t : List Kind) → YieldsMarkedKey key (YieldsNode key InBlockMapping) t
     → ((u : List Kind) → YieldsNode key InBlockMapping u → NodeSays key InBlockMapping u)
-    → (f : Spans) (k : Kind) (ks : List Kind) (ss : List State) (e : Memory) (ps : List Part)
+    → (f : SpansByKinds) (k : Kind) (ks : List Kind) (ss : List State) (e : Memory) (ps : List Part)
     → MayFollow InBlockMapping k → ¬ (BeginsWithValue (k ∷ ks))
-    → Tells f (k ∷ ks) state.BlockMappingKey ss (after_node key e) ps
-    → Tells f (t ++ k ∷ ks) state.BlockMappingKey ss e (node_parts key ++ (node_parts forest.left_out ++ ps))
+    → TellsParts f (k ∷ ks) state.BlockMappingKey ss (after_node key e) ps
+    → TellsParts f (t ++ k ∷ ks) state.BlockMappingKey ss e (node_parts key ++ (node_parts forest.left_out ++ ps))
 alone_says key t h g f k ks ss e ps z n l =
     let e' : Memory = after_node key e in
-    let second : Tells f (k ∷ ks) state.BlockMappingValue ss e' (node_parts forest.left_out ++ ps) =
+    let second : TellsParts f (k ∷ ks) state.BlockMappingValue ss e' (node_parts forest.left_out ++ ps) =
     skipped e' (at f (k ∷ ks) state.BlockMappingValue ss e') (at f (k ∷ ks) state.BlockMappingKey ss e') ps (f ks)
     (λ q. cc) (value_is_missing f k ks ss e' z n) l in
-    subst (λ (u : List Kind). Tells f (u ++ k ∷ ks) state.BlockMappingKey ss e
+    subst (λ (u : List Kind). TellsParts f (u ++ k ∷ ks) state.BlockMappingKey ss e
     (node_parts key ++ (node_parts forest.left_out ++ ps))) (sym h.2)
     (key_says key h.0 h.1 (g h.0) f k ks ss e (node_parts forest.left_out ++ ps) z second)
 
 -- a pair whose key is left out
 keyless_says : (value : Node) (t : List Kind) → YieldsMarkedValue value (YieldsNode value InBlockMapping) t
     → ((u : List Kind) → YieldsNode value InBlockMapping u → NodeSays value InBlockMapping u)
-    → (f : Spans) (k : Kind) (ks : List Kind) (ss : List State) (e : Memory) (ps : List Part)
-    → MayFollow InBlockMapping k → Tells f (k ∷ ks) state.BlockMappingKey ss (after_node value e) ps
-    → Tells f (t ++ k ∷ ks) state.BlockMappingKey ss e (node_parts forest.left_out ++ (node_parts value ++ ps))
+    → (f : SpansByKinds) (k : Kind) (ks : List Kind) (ss : List State) (e : Memory) (ps : List Part)
+    → MayFollow InBlockMapping k → TellsParts f (k ∷ ks) state.BlockMappingKey ss (after_node value e) ps
+    → TellsParts f (t ++ k ∷ ks) state.BlockMappingKey ss e (node_parts forest.left_out ++ (node_parts value ++ ps))
 unfolding event_step mapping_key
 keyless_says value t h g f k ks ss e ps z l =
     let rest : List Kind = h.0 ++ k ∷ ks in
-    let second : Tells f (Value ∷ rest) state.BlockMappingValue ss e (node_parts value ++ ps) =
+    let second : TellsParts f (Value ∷ rest) state.BlockMappingValue ss e (node_parts value ++ ps) =
     value_says value h.0 h.1 (g h.0) f k ks ss e ps z l in
-    subst (λ (u : List Kind). Tells f (u ++ k ∷ ks) state.BlockMappingKey ss e
+    subst (λ (u : List Kind). TellsParts f (u ++ k ∷ ks) state.BlockMappingKey ss e
     (node_parts forest.left_out ++ (node_parts value ++ ps))) (sym h.2)
     (skipped e (at f (Value ∷ rest) state.BlockMappingKey ss e) (at f (Value ∷ rest) state.BlockMappingValue ss e)
     (node_parts value ++ ps) (f rest) (λ q. cc) refl second)
@@ -208,24 +208,24 @@ pub pair_says : (key value : Node) (others t : List Kind)
     → YieldsBlockPair key value (YieldsNode key InBlockMapping) (YieldsNode value InBlockMapping) others t
     → ((u : List Kind) → YieldsNode key InBlockMapping u → NodeSays key InBlockMapping u)
     → ((u : List Kind) → YieldsNode value InBlockMapping u → NodeSays value InBlockMapping u)
-    → (f : Spans) (k : Kind) (ks : List Kind) (ss : List State) (e : Memory) (ps : List Part)
+    → (f : SpansByKinds) (k : Kind) (ks : List Kind) (ss : List State) (e : Memory) (ps : List Part)
     → MayFollow InBlockMapping k → (¬ (BeginsWithValue others) → ¬ (BeginsWithValue (k ∷ ks)))
-    → Tells f (k ∷ ks) state.BlockMappingKey ss (after_node value (after_node key e)) ps
-    → Tells f (t ++ k ∷ ks) state.BlockMappingKey ss e (node_parts key ++ (node_parts value ++ ps))
+    → TellsParts f (k ∷ ks) state.BlockMappingKey ss (after_node value (after_node key e)) ps
+    → TellsParts f (t ++ k ∷ ks) state.BlockMappingKey ss e (node_parts key ++ (node_parts value ++ ps))
 pair_says key value others t (inl h) gk gv f k ks ss e ps z n l =
     let kt : List Kind = h.2.0 in
     let vt : List Kind = h.3.0 in
     let same : t ++ k ∷ ks ≡ Key ∷ (kt ++ Value ∷ (vt ++ k ∷ ks)) =
     marked_tokens t h.0 h.1 kt vt (k ∷ ks) h.2.2 h.3.2 h.4 in
-    let second : Tells f (Value ∷ (vt ++ k ∷ ks)) state.BlockMappingValue ss (after_node key e)
+    let second : TellsParts f (Value ∷ (vt ++ k ∷ ks)) state.BlockMappingValue ss (after_node key e)
     (node_parts value ++ ps) = value_says value vt h.3.1 (gv vt) f k ks ss (after_node key e) ps z l in
-    subst (λ (u : List Kind). Tells f u state.BlockMappingKey ss e (node_parts key ++ (node_parts value ++ ps)))
+    subst (λ (u : List Kind). TellsParts f u state.BlockMappingKey ss e (node_parts key ++ (node_parts value ++ ps)))
     (sym same) (key_says key kt h.2.1 (gk kt) f Value (vt ++ k ∷ ks) ss e (node_parts value ++ ps) tt second)
 pair_says key value others t (inr (inl h)) gk gv f k ks ss e ps z n l =
-    subst (λ (v : Node). Tells f (k ∷ ks) state.BlockMappingKey ss (after_node v (after_node key e)) ps
-    → Tells f (t ++ k ∷ ks) state.BlockMappingKey ss e (node_parts key ++ (node_parts v ++ ps))) (sym h.0)
+    subst (λ (v : Node). TellsParts f (k ∷ ks) state.BlockMappingKey ss (after_node v (after_node key e)) ps
+    → TellsParts f (t ++ k ∷ ks) state.BlockMappingKey ss e (node_parts key ++ (node_parts v ++ ps))) (sym h.0)
     (alone_says key t h.2 gk f k ks ss e ps z (n h.1)) l
 pair_says key value others t (inr (inr h)) gk gv f k ks ss e ps z n l =
-    subst (λ (v : Node). Tells f (k ∷ ks) state.BlockMappingKey ss (after_node value (after_node v e)) ps
-    → Tells f (t ++ k ∷ ks) state.BlockMappingKey ss e (node_parts v ++ (node_parts value ++ ps))) (sym h.0)
+    subst (λ (v : Node). TellsParts f (k ∷ ks) state.BlockMappingKey ss (after_node value (after_node v e)) ps
+    → TellsParts f (t ++ k ∷ ks) state.BlockMappingKey ss e (node_parts v ++ (node_parts value ++ ps))) (sym h.0)
     (keyless_says value t h.1 gv f k ks ss e ps z) l

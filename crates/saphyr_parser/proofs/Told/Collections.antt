@@ -10,38 +10,38 @@ use Rattle.saphyr_parser.specs.declared.parser.state.State.TheVariants as state
 use Rattle.saphyr_parser.specs.Preorder.{Part, OpenSequence, CloseSequence, OpenMapping, CloseMapping, entry_parts, pair_parts}
 use Rattle.saphyr_parser.specs.Events.{SequenceStart, MappingStart}
 use Rattle.saphyr_parser.specs.Steps.Nodes.{span_up_to}
-use Rattle.saphyr_parser.proofs.Told.Telling.{Spans, Memory, at}
-use Rattle.saphyr_parser.proofs.Remembering.{noted, after_nodes, after_pairs, Tells}
+use Rattle.saphyr_parser.proofs.Told.Telling.{SpansByKinds, Memory, at}
+use Rattle.saphyr_parser.proofs.Remembering.{noted, after_nodes, after_pairs, TellsParts}
 use Rattle.saphyr_parser.proofs.Told.Nodes.{next_node, node_opens}
 use Rattle.saphyr_parser.proofs.NodeStarts.{context_of, MayFollow, NodeSays}
 
 -- ## What a collection's entries are to tell
 
 pub record FlowEntriesSay (ns : Nodes) (t : List Kind) : Type 0 where
-  pub by : (f : Spans) (ks : List Kind) (s : State) (ss : List State) (e : Memory) (ps : List Part)
-      → Tells f ks s ss (after_nodes ns e) ps
-      → Tells f (t ++ FlowSequenceEnd ∷ ks) state.FlowSequenceFirstEntry (s ∷ ss) e
+  pub by : (f : SpansByKinds) (ks : List Kind) (s : State) (ss : List State) (e : Memory) (ps : List Part)
+      → TellsParts f ks s ss (after_nodes ns e) ps
+      → TellsParts f (t ++ FlowSequenceEnd ∷ ks) state.FlowSequenceFirstEntry (s ∷ ss) e
       (entry_parts ns ++ CloseSequence ∷ ps)
 
 pub record FlowPairsSay (qs : Pairs) (t : List Kind) : Type 0 where
-  pub by : (f : Spans) (ks : List Kind) (s : State) (ss : List State) (e : Memory) (ps : List Part)
-      → Tells f ks s ss (after_pairs qs e) ps
-      → Tells f (t ++ FlowMappingEnd ∷ ks) state.FlowMappingFirstKey (s ∷ ss) e (pair_parts qs ++ CloseMapping ∷ ps)
+  pub by : (f : SpansByKinds) (ks : List Kind) (s : State) (ss : List State) (e : Memory) (ps : List Part)
+      → TellsParts f ks s ss (after_pairs qs e) ps
+      → TellsParts f (t ++ FlowMappingEnd ∷ ks) state.FlowMappingFirstKey (s ∷ ss) e (pair_parts qs ++ CloseMapping ∷ ps)
 
 pub record BlockEntriesSay (ns : Nodes) (t : List Kind) : Type 0 where
-  pub by : (f : Spans) (ks : List Kind) (s : State) (ss : List State) (e : Memory) (ps : List Part)
-      → Tells f ks s ss (after_nodes ns e) ps
-      → Tells f (t ++ BlockEnd ∷ ks) state.BlockSequenceEntry (s ∷ ss) e (entry_parts ns ++ CloseSequence ∷ ps)
+  pub by : (f : SpansByKinds) (ks : List Kind) (s : State) (ss : List State) (e : Memory) (ps : List Part)
+      → TellsParts f ks s ss (after_nodes ns e) ps
+      → TellsParts f (t ++ BlockEnd ∷ ks) state.BlockSequenceEntry (s ∷ ss) e (entry_parts ns ++ CloseSequence ∷ ps)
 
 pub record IndentlessSay (ns : Nodes) (t : List Kind) : Type 0 where
-  pub by : (f : Spans) (k : Kind) (ks : List Kind) (s : State) (ss : List State) (e : Memory) (ps : List Part)
-      → MayFollow InBlockMapping k → Tells f (k ∷ ks) s ss (after_nodes ns e) ps
-      → Tells f (t ++ k ∷ ks) state.IndentlessSequenceEntry (s ∷ ss) e (entry_parts ns ++ CloseSequence ∷ ps)
+  pub by : (f : SpansByKinds) (k : Kind) (ks : List Kind) (s : State) (ss : List State) (e : Memory) (ps : List Part)
+      → MayFollow InBlockMapping k → TellsParts f (k ∷ ks) s ss (after_nodes ns e) ps
+      → TellsParts f (t ++ k ∷ ks) state.IndentlessSequenceEntry (s ∷ ss) e (entry_parts ns ++ CloseSequence ∷ ps)
 
 pub record BlockPairsSay (qs : Pairs) (t : List Kind) : Type 0 where
-  pub by : (f : Spans) (ks : List Kind) (s : State) (ss : List State) (e : Memory) (ps : List Part)
-      → Tells f ks s ss (after_pairs qs e) ps
-      → Tells f (t ++ BlockEnd ∷ ks) state.BlockMappingKey (s ∷ ss) e (pair_parts qs ++ CloseMapping ∷ ps)
+  pub by : (f : SpansByKinds) (ks : List Kind) (s : State) (ss : List State) (e : Memory) (ps : List Part)
+      → TellsParts f ks s ss (after_pairs qs e) ps
+      → TellsParts f (t ++ BlockEnd ∷ ks) state.BlockMappingKey (s ∷ ss) e (pair_parts qs ++ CloseMapping ∷ ps)
 
 -- ## Collections
 
@@ -62,7 +62,7 @@ flow_sequence p ns c front content t h d a g = record {
       let rest : List Kind = d.0 ++ FlowSequenceEnd ∷ k ∷ ks in
       let same : t ++ k ∷ ks ≡ front ++ FlowSequenceStart ∷ rest =
       between front d.0 content t FlowSequenceStart FlowSequenceEnd (k ∷ ks) d.2 a in
-      let inside : Tells f rest state.FlowSequenceFirstEntry (s ∷ ss) (noted p.anchor e)
+      let inside : TellsParts f rest state.FlowSequenceFirstEntry (s ∷ ss) (noted p.anchor e)
       ((entry_parts ns ++ CloseSequence ∷ []) ++ ps) =
       rw (append_assoc (entry_parts ns) (CloseSequence ∷ []) ps)
       ((g d.0 d.1).by f (k ∷ ks) s ss (noted p.anchor e) ps l) in
@@ -81,7 +81,7 @@ flow_mapping p qs c front content t h d a g = record {
       let rest : List Kind = d.0 ++ FlowMappingEnd ∷ k ∷ ks in
       let same : t ++ k ∷ ks ≡ front ++ FlowMappingStart ∷ rest = between front d.0 content t FlowMappingStart
       FlowMappingEnd (k ∷ ks) d.2 a in
-      let inside : Tells f rest state.FlowMappingFirstKey (s ∷ ss) (noted p.anchor e)
+      let inside : TellsParts f rest state.FlowMappingFirstKey (s ∷ ss) (noted p.anchor e)
       ((pair_parts qs ++ CloseMapping ∷ []) ++ ps) =
       rw (append_assoc (pair_parts qs) (CloseMapping ∷ []) ps)
       ((g d.0 d.1).by f (k ∷ ks) s ss (noted p.anchor e) ps l) in
@@ -101,7 +101,7 @@ block_sequence p ns c front content t h b d a g = record {
       let rest : List Kind = d.0 ++ BlockEnd ∷ k ∷ ks in
       let same : t ++ k ∷ ks ≡ front ++ BlockSequenceStart ∷ rest =
       between front d.0 content t BlockSequenceStart BlockEnd (k ∷ ks) d.2 a in
-      let inside : Tells f rest state.BlockSequenceEntry (s ∷ ss) (noted p.anchor e)
+      let inside : TellsParts f rest state.BlockSequenceEntry (s ∷ ss) (noted p.anchor e)
       ((entry_parts ns ++ CloseSequence ∷ []) ++ ps) =
       rw (append_assoc (entry_parts ns) (CloseSequence ∷ []) ps)
       ((g d.0 d.1).by f (k ∷ ks) s ss (noted p.anchor e) ps l) in
@@ -121,7 +121,7 @@ block_mapping p qs c front content t h b d a g = record {
       let rest : List Kind = d.0 ++ BlockEnd ∷ k ∷ ks in
       let same : t ++ k ∷ ks ≡ front ++ BlockMappingStart ∷ rest =
       between front d.0 content t BlockMappingStart BlockEnd (k ∷ ks) d.2 a in
-      let inside : Tells f rest state.BlockMappingKey (s ∷ ss) (noted p.anchor e)
+      let inside : TellsParts f rest state.BlockMappingKey (s ∷ ss) (noted p.anchor e)
       ((pair_parts qs ++ CloseMapping ∷ []) ++ ps) =
       rw (append_assoc (pair_parts qs) (CloseMapping ∷ []) ps)
       ((g d.0 d.1).by f (k ∷ ks) s ss (noted p.anchor e) ps l) in
@@ -142,11 +142,11 @@ indentless_sequence p ns InBlockMapping front content others t h b d a g = recor
       let rest : List Kind = others ++ k ∷ ks in
       let same : t ++ k ∷ ks ≡ front ++ BlockEntry ∷ rest = rw (a, d)
       (append_assoc front (BlockEntry ∷ others) (k ∷ ks)) in
-      let told : Tells f (BlockEntry ∷ rest) state.IndentlessSequenceEntry (s ∷ ss) (noted p.anchor e)
+      let told : TellsParts f (BlockEntry ∷ rest) state.IndentlessSequenceEntry (s ∷ ss) (noted p.anchor e)
       (entry_parts ns ++ CloseSequence ∷ ps) =
-      subst (λ (u : List Kind). Tells f (u ++ k ∷ ks) state.IndentlessSequenceEntry (s ∷ ss) (noted p.anchor e)
+      subst (λ (u : List Kind). TellsParts f (u ++ k ∷ ks) state.IndentlessSequenceEntry (s ∷ ss) (noted p.anchor e)
       (entry_parts ns ++ CloseSequence ∷ ps)) d (g.by f k ks s ss (noted p.anchor e) ps z l) in
-      let inside : Tells f (BlockEntry ∷ rest) state.IndentlessSequenceEntry (s ∷ ss) (noted p.anchor e)
+      let inside : TellsParts f (BlockEntry ∷ rest) state.IndentlessSequenceEntry (s ∷ ss) (noted p.anchor e)
       ((entry_parts ns ++ CloseSequence ∷ []) ++ ps) =
       rw (append_assoc (entry_parts ns) (CloseSequence ∷ []) ps) told in
       node_opens f (context_of InBlockMapping) x (s ∷ ss) e m

@@ -17,8 +17,8 @@ use Rattle.saphyr_parser.specs.Exactly.{GivesExactly}
 use Rattle.saphyr_parser.specs.Steps.Machine.{◌>>=◌, Machine, Told, told_event, empty_scalar}
 use Rattle.saphyr_parser.specs.Steps.Documents.{is_end_or_mark, directives, none_declared, explicit_document_at, explicit_document, bare_document, implicit_start_at, implicit_start, explicit_start_at, explicit_start, document_content}
 use Rattle.saphyr_parser.specs.Steps.Expected.{event_step, block_node}
-use Rattle.saphyr_parser.proofs.Told.Telling.{Spans, Memory, at, ends}
-use Rattle.saphyr_parser.proofs.Remembering.{opening, after_node, Says, Tells, plainly}
+use Rattle.saphyr_parser.proofs.Told.Telling.{SpansByKinds, Memory, at, ends}
+use Rattle.saphyr_parser.proofs.Remembering.{opening, after_node, SaysParts, TellsParts, plainly}
 use Rattle.saphyr_parser.proofs.Told.Nodes.{next_node}
 use Rattle.saphyr_parser.proofs.NodeStarts.{Starts, Head, node_head, MayFollow, enters_or_skips}
 use Rattle.saphyr_parser.proofs.Told.Collections.{Next}
@@ -27,7 +27,7 @@ use Rattle.saphyr_parser.proofs.DirectivesPass.{passes, ends_pass, all_directive
 
 -- ## The first token of a document, behind what is passed
 
-pub implicitly : (front : List Kind) (f : Spans) (k : Kind) (ks : List Kind) (e : Memory) → AreEndsAndMarks front
+pub implicitly : (front : List Kind) (f : SpansByKinds) (k : Kind) (ks : List Kind) (e : Memory) → AreEndsAndMarks front
     → is_end_or_mark k ≡ false
     → event_step (at f (front ++ k ∷ ks) state.ImplicitDocumentStart [] e)
     ≡ implicit_start_at k (record { span = f ks; kind = k }) (at f ks state.ImplicitDocumentStart [] e)
@@ -36,7 +36,7 @@ implicitly front f k ks e h n =
     ap (λ (r : Result (Piece × Machine) Refusal). r >>= (λ t. implicit_start_at t.0.kind t.0 t.1))
     (passes is_end_or_mark front f k ks state.ImplicitDocumentStart [] e (ends_pass front h) n)
 
-explicitly : (f : Spans) (k : Kind) (ks : List Kind) (e : Memory) → is_end_or_mark k ≡ false
+explicitly : (f : SpansByKinds) (k : Kind) (ks : List Kind) (e : Memory) → is_end_or_mark k ≡ false
     → event_step (at f (k ∷ ks) state.DocumentStart [] e)
     ≡ explicit_start_at k (record { span = f ks; kind = k }) (at f ks state.DocumentStart [] e)
 unfolding event_step explicit_start
@@ -45,20 +45,20 @@ explicitly f k ks e n = ap (λ (r : Result (Piece × Machine) Refusal). r >>= (�
 
 -- ## The end of the stream
 
-over : (f : Spans) (e : Memory) → Tells f [] state.End [] e []
+over : (f : SpansByKinds) (e : Memory) → TellsParts f [] state.End [] e []
 over f e es q = let none : [] ≡ es =
     (let o : Some [] ≡ Some es = q in cc) in
     subst (λ (l : List Happening). GivesExactly l (remaining_answer (at f [] state.End [] e))) none
     (ends (at f [] state.End [] e) refl)
 
-pub stream_ends : (f : Spans) (front : List Kind) (e : Memory) → AreEndsAndMarks front
-    → Tells f (front ++ StreamEnd ∷ []) state.ImplicitDocumentStart [] e (CloseStream ∷ [])
+pub stream_ends : (f : SpansByKinds) (front : List Kind) (e : Memory) → AreEndsAndMarks front
+    → TellsParts f (front ++ StreamEnd ∷ []) state.ImplicitDocumentStart [] e (CloseStream ∷ [])
 stream_ends f front e h =
     plainly e (at f (front ++ StreamEnd ∷ []) state.ImplicitDocumentStart [] e) (at f [] state.End [] e) CloseStream []
     events.StreamEnd (f []) (λ q. cc) refl (implicitly front f StreamEnd [] e h refl) (over f e)
 
-pub stream_ends_at_once : (f : Spans) (e : Memory)
-    → Tells f (StreamEnd ∷ []) state.DocumentStart [] e (CloseStream ∷ [])
+pub stream_ends_at_once : (f : SpansByKinds) (e : Memory)
+    → TellsParts f (StreamEnd ∷ []) state.DocumentStart [] e (CloseStream ∷ [])
 stream_ends_at_once f e =
     plainly e (at f (StreamEnd ∷ []) state.DocumentStart [] e) (at f [] state.End [] e) CloseStream [] events.StreamEnd
     (f []) (λ q. cc) refl (explicitly f StreamEnd [] e refl) (over f e)
@@ -80,18 +80,18 @@ document_end_follows ByteOrderMark h = tt
 document_end_follows _ h = elim h [ ]
 
 -- behind a document without `...`
-abbrev pub IsNext : Kind → Type 0
-IsNext StreamEnd = Unit {0}
-IsNext DocumentStart = Unit {0}
-IsNext _ = ⊥
+abbrev pub MayStandBehindDocument : Kind → Type 0
+MayStandBehindDocument StreamEnd = Unit {0}
+MayStandBehindDocument DocumentStart = Unit {0}
+MayStandBehindDocument _ = ⊥
 
-next_ends : (k : Kind) → IsNext k → EndsDocument k
+next_ends : (k : Kind) → MayStandBehindDocument k → EndsDocument k
 next_ends StreamEnd h = tt
 next_ends DocumentStart h = tt
 next_ends _ h = elim h [ ]
 
 explicit_head : (d : Document) (t rest : List Kind) → d.directives ≡ [] → YieldsExplicitDocument d t
-    → Next IsNext (t ++ rest)
+    → Next MayStandBehindDocument (t ++ rest)
 explicit_head d t rest e h =
     record {
       first = DocumentStart;
@@ -105,15 +105,15 @@ explicit_head d t rest e h =
 pub not_free : IsTrue false → ⊥
 not_free h = cc
 
-next_document : (d : Document) (t rest : List Kind) → YieldsDocument d false t → Next IsNext (t ++ rest)
+next_document : (d : Document) (t rest : List Kind) → YieldsDocument d false t → Next MayStandBehindDocument (t ++ rest)
 next_document d t rest (inl h) = absurd (not_free h.0)
 next_document d t rest (inr (inl z, h)) = absurd (not_free z)
 next_document d t rest (inr (inr e, h)) = explicit_head d t rest e h
 
-next_is : (t u : List Kind) → t ≡ u → Next IsNext u → Next IsNext t
+next_is : (t u : List Kind) → t ≡ u → Next MayStandBehindDocument u → Next MayStandBehindDocument t
 next_is t u e n = record { first = n.first; others = n.others; is = e ∙ n.is; fits = n.fits }
 
-pub next_start : (ds : Forest) (t : List Kind) → YieldDocuments ds false t → Next IsNext t
+pub next_start : (ds : Forest) (t : List Kind) → YieldDocuments ds false t → Next MayStandBehindDocument t
 next_start [] t h = record { first = StreamEnd; others = []; is = h; fits = tt }
 next_start (d ∷ ds) t h = next_is t (h.0 ++ h.1) h.4 (next_document d h.0 h.1 h.2)
 
@@ -124,7 +124,7 @@ behind_head ds t h = by h.0 h.3 h.4 h.5
         → ((h.1 ≡ []) × YieldDocuments ds false h.2)
         ⊎ ((more : List Kind) × AreEndsAndMarks more × (h.1 ≡ DocumentEnd ∷ more) × YieldDocuments ds true h.2)
         → t ≡ marks ++ (h.1 ++ h.2) → Next EndsDocument t
-    by [] m (inl g) e = let n : Next IsNext h.2 =
+    by [] m (inl g) e = let n : Next MayStandBehindDocument h.2 =
         next_start ds h.2 g.1 in
         record {
           first = n.first;
@@ -157,10 +157,10 @@ node_stops DocumentEnd h = elim h [ ]
 node_stops ByteOrderMark h = elim h [ ]
 node_stops _ h = refl
 
-bare_opens : (f : Spans) (front : List Kind) (j : Kind) (l : List Kind) (e : Memory) (ps : List Part)
+bare_opens : (f : SpansByKinds) (front : List Kind) (j : Kind) (l : List Kind) (e : Memory) (ps : List Part)
     → AreEndsAndMarks front → Starts InBlock j
-    → Tells f (j ∷ l) state.BlockNode (state.DocumentEnd ∷ []) (opening [] e) ps
-    → Tells f (front ++ j ∷ l) state.ImplicitDocumentStart [] e (OpenDocument false [] ∷ ps)
+    → TellsParts f (j ∷ l) state.BlockNode (state.DocumentEnd ∷ []) (opening [] e) ps
+    → TellsParts f (front ++ j ∷ l) state.ImplicitDocumentStart [] e (OpenDocument false [] ∷ ps)
 unfolding bare_document
 bare_opens f front j l e ps h s r =
     plainly e (at f (front ++ j ∷ l) state.ImplicitDocumentStart [] e)
@@ -169,21 +169,21 @@ bare_opens f front j l e ps h s r =
     (implicitly front f j l e h (node_stops j s) ∙ node_is_bare j _ _ s) r
 
 pub bare_says : (n : Node) (t : List Kind) → YieldsNode n InBlock t
-    → (f : Spans) (front : List Kind) (k : Kind) (ks : List Kind) (e : Memory) (ps : List Part) → AreEndsAndMarks front
-    → EndsDocument k → Tells f (k ∷ ks) state.DocumentEnd [] (after_node n (opening [] e)) ps
-    → Tells f (front ++ (t ++ k ∷ ks)) state.ImplicitDocumentStart [] e (OpenDocument false [] ∷ (node_parts n ++ ps))
+    → (f : SpansByKinds) (front : List Kind) (k : Kind) (ks : List Kind) (e : Memory) (ps : List Part) → AreEndsAndMarks front
+    → EndsDocument k → TellsParts f (k ∷ ks) state.DocumentEnd [] (after_node n (opening [] e)) ps
+    → TellsParts f (front ++ (t ++ k ∷ ks)) state.ImplicitDocumentStart [] e (OpenDocument false [] ∷ (node_parts n ++ ps))
 unfolding event_step block_node
 bare_says n t h f front k ks e ps a z l =
     let e' : Memory = opening [] e in
     let m : Machine = at f (t ++ k ∷ ks) state.BlockNode (state.DocumentEnd ∷ []) e' in
-    let inside : Says e' m (node_parts n ++ ps) = (node_says n InBlock t h).by f k ks m state.BlockNode
+    let inside : SaysParts e' m (node_parts n ++ ps) = (node_says n InBlock t h).by f k ks m state.BlockNode
     state.DocumentEnd [] e' ps (document_end_follows k z) (λ q. cc) refl l in
     let d : Head InBlock t = node_head n InBlock t h in
     let same : t ++ k ∷ ks ≡ d.first ∷ (d.others ++ k ∷ ks) = ap (λ u. u ++ k ∷ ks) d.is in
-    subst (λ (u : List Kind). Tells f (front ++ u) state.ImplicitDocumentStart [] e
+    subst (λ (u : List Kind). TellsParts f (front ++ u) state.ImplicitDocumentStart [] e
     (OpenDocument false [] ∷ (node_parts n ++ ps))) (sym same)
     (bare_opens f front d.first (d.others ++ k ∷ ks) e (node_parts n ++ ps) a d.starts
-    (subst (λ (u : List Kind). Tells f u state.BlockNode (state.DocumentEnd ∷ []) e' (node_parts n ++ ps)) same
+    (subst (λ (u : List Kind). TellsParts f u state.BlockNode (state.DocumentEnd ∷ []) e' (node_parts n ++ ps)) same
     inside))
 
 -- ## Explicit documents
@@ -191,7 +191,7 @@ bare_says n t h f front k ks e ps a z l =
 abbrev pub opened : Machine → Result Told Refusal
 opened m = directives none_declared m >>= (λ u. explicit_document_at u.0.kind u.0 u.1)
 
-pub implicit_opens : (ds : List Directive) (f : Spans) (front rest : List Kind) (e : Memory) → AreEndsAndMarks front
+pub implicit_opens : (ds : List Directive) (f : SpansByKinds) (front rest : List Kind) (e : Memory) → AreEndsAndMarks front
     → event_step (at f (front ++ (map directive_token ds ++ DocumentStart ∷ rest)) state.ImplicitDocumentStart [] e)
     ≡ opened (at f (map directive_token ds ++ DocumentStart ∷ rest) state.ImplicitDocumentStart [] e)
 unfolding explicit_document
@@ -202,13 +202,13 @@ implicit_opens (TagPrefix handle prefix ∷ ds) f front rest e h =
     implicitly front f (directive_token (TagPrefix handle prefix)) _ e h refl
 implicit_opens (Reserved name ∷ ds) f front rest e h = implicitly front f (directive_token (Reserved name)) _ e h refl
 
-pub explicit_opens : (f : Spans) (rest : List Kind) (e : Memory)
+pub explicit_opens : (f : SpansByKinds) (rest : List Kind) (e : Memory)
     → event_step (at f (DocumentStart ∷ rest) state.DocumentStart [] e)
     ≡ opened (at f (DocumentStart ∷ rest) state.DocumentStart [] e)
 unfolding explicit_document
 explicit_opens f rest e = explicitly f DocumentStart rest e refl
 
-content_begins : (f : Spans) (j : Kind) (l : List Kind) (e : Memory) → Starts InBlock j
+content_begins : (f : SpansByKinds) (j : Kind) (l : List Kind) (e : Memory) → Starts InBlock j
     → event_step (at f (j ∷ l) state.DocumentContent (state.DocumentEnd ∷ []) e)
     ≡ next_node Block (at f (j ∷ l) state.DocumentContent (state.DocumentEnd ∷ []) e)
 unfolding event_step document_content
@@ -221,7 +221,7 @@ content_begins f ByteOrderMark l e h = elim h [ ]
 content_begins f StreamEnd l e h = elim h [ ]
 content_begins f _ l e h = refl
 
-content_is_left_out : (f : Spans) (k : Kind) (ks : List Kind) (e : Memory) → EndsDocument k
+content_is_left_out : (f : SpansByKinds) (k : Kind) (ks : List Kind) (e : Memory) → EndsDocument k
     → event_step (at f (k ∷ ks) state.DocumentContent (state.DocumentEnd ∷ []) e)
     ≡ told_event empty_scalar (f ks) (at f (k ∷ ks) state.DocumentEnd [] e)
 unfolding event_step document_content
@@ -234,15 +234,15 @@ content_is_left_out f _ ks e h = elim h [ ]
 -- from a machine that comes to the directives
 pub explicit_says : (n : Node) (ds : List Directive) (t : List Kind) → AreCompatible ds
     → YieldsOptional n (YieldsNode n InBlock) t
-    → (f : Spans) (k : Kind) (ks : List Kind) (m : Machine) (x : State) (e : Memory) (ps : List Part) → EndsDocument k
+    → (f : SpansByKinds) (k : Kind) (ks : List Kind) (m : Machine) (x : State) (e : Memory) (ps : List Part) → EndsDocument k
     → m.state ≢ state.End → event_step m ≡ opened
     (at f (map directive_token ds ++ DocumentStart ∷ (t ++ k ∷ ks)) x [] e)
-    → Tells f (k ∷ ks) state.DocumentEnd [] (after_node n (opening ds e)) ps
-    → Says e m (OpenDocument true ds ∷ (node_parts n ++ ps))
+    → TellsParts f (k ∷ ks) state.DocumentEnd [] (after_node n (opening ds e)) ps
+    → SaysParts e m (OpenDocument true ds ∷ (node_parts n ++ ps))
 explicit_says n ds t c h f k ks m x e ps z more q l =
     let e' : Memory = opening ds e in
     let rest : List Kind = t ++ k ∷ ks in
-    let inside : Tells f rest state.DocumentContent (state.DocumentEnd ∷ []) e' (node_parts n ++ ps) =
+    let inside : TellsParts f rest state.DocumentContent (state.DocumentEnd ∷ []) e' (node_parts n ++ ps) =
     enters_or_skips n InBlock t h (λ g. node_says n InBlock t g) f k ks
     (λ l. at f l state.DocumentContent (state.DocumentEnd ∷ []) e') state.DocumentContent (λ l. state.DocumentEnd)
     [] e' ps (document_end_follows k z) (λ l q. cc) (f ks) (content_is_left_out f k ks e' z)

@@ -12,8 +12,8 @@ use Rattle.saphyr_parser.specs.Steps.Machine.{Machine}
 use Rattle.saphyr_parser.specs.Steps.Flow.{first_entry, other_entry, first_pair, pair_behind_comma, other_pair}
 use Rattle.saphyr_parser.specs.Steps.Block.{sequence_entry, indentless_entry, mapping_key}
 use Rattle.saphyr_parser.specs.Steps.Expected.{event_step}
-use Rattle.saphyr_parser.proofs.Told.Telling.{Spans, Memory, at}
-use Rattle.saphyr_parser.proofs.Remembering.{after_node, after_nodes, after_pairs, Says, Tells, plainly}
+use Rattle.saphyr_parser.proofs.Told.Telling.{SpansByKinds, Memory, at}
+use Rattle.saphyr_parser.proofs.Remembering.{after_node, after_nodes, after_pairs, SaysParts, TellsParts, plainly}
 use Rattle.saphyr_parser.proofs.NodeStarts.{MayFollow, NodeSays}
 use Rattle.saphyr_parser.proofs.Told.SinglePairs.{EndsEntry, AtEntry, entry_says}
 use Rattle.saphyr_parser.proofs.Told.SinglePairs as single
@@ -26,91 +26,91 @@ use Rattle.saphyr_parser.proofs.Told.Collections.{FlowEntriesSay, FlowPairsSay, 
 -- ## The ends of collections
 
 -- the tokens of no entry
-no_entry_told : (f : Spans) (x : State) (ss : List State) (e : Memory) (ps : List Part) (t rest : List Kind) → t ≡ []
-    → Tells f rest x ss e ps → Tells f (t ++ rest) x ss e ps
-no_entry_told f x ss e ps t rest h l = subst (λ (u : List Kind). Tells f (u ++ rest) x ss e ps) (sym h) l
+no_entry_told : (f : SpansByKinds) (x : State) (ss : List State) (e : Memory) (ps : List Part) (t rest : List Kind) → t ≡ []
+    → TellsParts f rest x ss e ps → TellsParts f (t ++ rest) x ss e ps
+no_entry_told f x ss e ps t rest h l = subst (λ (u : List Kind). TellsParts f (u ++ rest) x ss e ps) (sym h) l
 
-flow_sequence_ends : (f : Spans) (ks : List Kind) (s : State) (ss : List State) (e : Memory) (ps : List Part)
-    → Tells f ks s ss e ps → Tells f (FlowSequenceEnd ∷ ks) state.FlowSequenceFirstEntry (s ∷ ss) e (CloseSequence ∷ ps)
+flow_sequence_ends : (f : SpansByKinds) (ks : List Kind) (s : State) (ss : List State) (e : Memory) (ps : List Part)
+    → TellsParts f ks s ss e ps → TellsParts f (FlowSequenceEnd ∷ ks) state.FlowSequenceFirstEntry (s ∷ ss) e (CloseSequence ∷ ps)
 unfolding event_step first_entry
 flow_sequence_ends f ks s ss e ps l =
     plainly e (at f (FlowSequenceEnd ∷ ks) state.FlowSequenceFirstEntry (s ∷ ss) e) (at f ks s ss e) CloseSequence ps
     SequenceEnd (f ks) (λ q. cc) refl refl l
 
-other_sequence_ends : (f : Spans) (ks : List Kind) (s : State) (ss : List State) (e : Memory) (ps : List Part)
-    → Tells f ks s ss e ps → Tells f (FlowSequenceEnd ∷ ks) state.FlowSequenceEntry (s ∷ ss) e (CloseSequence ∷ ps)
+other_sequence_ends : (f : SpansByKinds) (ks : List Kind) (s : State) (ss : List State) (e : Memory) (ps : List Part)
+    → TellsParts f ks s ss e ps → TellsParts f (FlowSequenceEnd ∷ ks) state.FlowSequenceEntry (s ∷ ss) e (CloseSequence ∷ ps)
 unfolding event_step other_entry
 other_sequence_ends f ks s ss e ps l =
     plainly e (at f (FlowSequenceEnd ∷ ks) state.FlowSequenceEntry (s ∷ ss) e) (at f ks s ss e) CloseSequence ps
     SequenceEnd (f ks) (λ q. cc) refl refl l
 
-comma_sequence_ends : (f : Spans) (ks : List Kind) (s : State) (ss : List State) (e : Memory) (ps : List Part)
-    → Tells f ks s ss e ps → Tells f (FlowEntry ∷ FlowSequenceEnd ∷ ks) state.FlowSequenceEntry (s ∷ ss) e
+comma_sequence_ends : (f : SpansByKinds) (ks : List Kind) (s : State) (ss : List State) (e : Memory) (ps : List Part)
+    → TellsParts f ks s ss e ps → TellsParts f (FlowEntry ∷ FlowSequenceEnd ∷ ks) state.FlowSequenceEntry (s ∷ ss) e
     (CloseSequence ∷ ps)
 unfolding event_step other_entry first_entry
 comma_sequence_ends f ks s ss e ps l =
     plainly e (at f (FlowEntry ∷ FlowSequenceEnd ∷ ks) state.FlowSequenceEntry (s ∷ ss) e) (at f ks s ss e)
     CloseSequence ps SequenceEnd (f ks) (λ q. cc) refl refl l
 
-list_sequence_ends : (f : Spans) (t ks : List Kind) (s : State) (ss : List State) (e : Memory) (ps : List Part)
-    → (t ≡ []) ⊎ (t ≡ FlowEntry ∷ []) → Tells f ks s ss e ps
-    → Tells f (t ++ FlowSequenceEnd ∷ ks) state.FlowSequenceEntry (s ∷ ss) e (CloseSequence ∷ ps)
+list_sequence_ends : (f : SpansByKinds) (t ks : List Kind) (s : State) (ss : List State) (e : Memory) (ps : List Part)
+    → (t ≡ []) ⊎ (t ≡ FlowEntry ∷ []) → TellsParts f ks s ss e ps
+    → TellsParts f (t ++ FlowSequenceEnd ∷ ks) state.FlowSequenceEntry (s ∷ ss) e (CloseSequence ∷ ps)
 list_sequence_ends f t ks s ss e ps (inl h) l =
     no_entry_told f state.FlowSequenceEntry (s ∷ ss) e (CloseSequence ∷ ps) t (FlowSequenceEnd ∷ ks) h
     (other_sequence_ends f ks s ss e ps l)
 list_sequence_ends f t ks s ss e ps (inr h) l =
-    subst (λ (u : List Kind). Tells f (u ++ FlowSequenceEnd ∷ ks) state.FlowSequenceEntry (s ∷ ss) e
+    subst (λ (u : List Kind). TellsParts f (u ++ FlowSequenceEnd ∷ ks) state.FlowSequenceEntry (s ∷ ss) e
     (CloseSequence ∷ ps)) (sym h) (comma_sequence_ends f ks s ss e ps l)
 
-flow_mapping_ends : (f : Spans) (ks : List Kind) (s : State) (ss : List State) (e : Memory) (ps : List Part)
-    → Tells f ks s ss e ps → Tells f (FlowMappingEnd ∷ ks) state.FlowMappingFirstKey (s ∷ ss) e (CloseMapping ∷ ps)
+flow_mapping_ends : (f : SpansByKinds) (ks : List Kind) (s : State) (ss : List State) (e : Memory) (ps : List Part)
+    → TellsParts f ks s ss e ps → TellsParts f (FlowMappingEnd ∷ ks) state.FlowMappingFirstKey (s ∷ ss) e (CloseMapping ∷ ps)
 unfolding event_step first_pair
 flow_mapping_ends f ks s ss e ps l =
     plainly e (at f (FlowMappingEnd ∷ ks) state.FlowMappingFirstKey (s ∷ ss) e) (at f ks s ss e) CloseMapping ps
     MappingEnd (f ks) (λ q. cc) refl refl l
 
-other_mapping_ends : (f : Spans) (ks : List Kind) (s : State) (ss : List State) (e : Memory) (ps : List Part)
-    → Tells f ks s ss e ps → Tells f (FlowMappingEnd ∷ ks) state.FlowMappingKey (s ∷ ss) e (CloseMapping ∷ ps)
+other_mapping_ends : (f : SpansByKinds) (ks : List Kind) (s : State) (ss : List State) (e : Memory) (ps : List Part)
+    → TellsParts f ks s ss e ps → TellsParts f (FlowMappingEnd ∷ ks) state.FlowMappingKey (s ∷ ss) e (CloseMapping ∷ ps)
 unfolding event_step other_pair
 other_mapping_ends f ks s ss e ps l =
     plainly e (at f (FlowMappingEnd ∷ ks) state.FlowMappingKey (s ∷ ss) e) (at f ks s ss e) CloseMapping ps MappingEnd
     (f ks) (λ q. cc) refl refl l
 
-comma_mapping_ends : (f : Spans) (ks : List Kind) (s : State) (ss : List State) (e : Memory) (ps : List Part)
-    → Tells f ks s ss e ps → Tells f (FlowEntry ∷ FlowMappingEnd ∷ ks) state.FlowMappingKey (s ∷ ss) e
+comma_mapping_ends : (f : SpansByKinds) (ks : List Kind) (s : State) (ss : List State) (e : Memory) (ps : List Part)
+    → TellsParts f ks s ss e ps → TellsParts f (FlowEntry ∷ FlowMappingEnd ∷ ks) state.FlowMappingKey (s ∷ ss) e
     (CloseMapping ∷ ps)
 unfolding event_step other_pair pair_behind_comma
 comma_mapping_ends f ks s ss e ps l =
     plainly e (at f (FlowEntry ∷ FlowMappingEnd ∷ ks) state.FlowMappingKey (s ∷ ss) e) (at f ks s ss e) CloseMapping ps
     MappingEnd (f (FlowMappingEnd ∷ ks)) (λ q. cc) refl refl l
 
-list_mapping_ends : (f : Spans) (t ks : List Kind) (s : State) (ss : List State) (e : Memory) (ps : List Part)
-    → (t ≡ []) ⊎ (t ≡ FlowEntry ∷ []) → Tells f ks s ss e ps
-    → Tells f (t ++ FlowMappingEnd ∷ ks) state.FlowMappingKey (s ∷ ss) e (CloseMapping ∷ ps)
+list_mapping_ends : (f : SpansByKinds) (t ks : List Kind) (s : State) (ss : List State) (e : Memory) (ps : List Part)
+    → (t ≡ []) ⊎ (t ≡ FlowEntry ∷ []) → TellsParts f ks s ss e ps
+    → TellsParts f (t ++ FlowMappingEnd ∷ ks) state.FlowMappingKey (s ∷ ss) e (CloseMapping ∷ ps)
 list_mapping_ends f t ks s ss e ps (inl h) l =
     no_entry_told f state.FlowMappingKey (s ∷ ss) e (CloseMapping ∷ ps) t (FlowMappingEnd ∷ ks) h
     (other_mapping_ends f ks s ss e ps l)
 list_mapping_ends f t ks s ss e ps (inr h) l =
-    subst (λ (u : List Kind). Tells f (u ++ FlowMappingEnd ∷ ks) state.FlowMappingKey (s ∷ ss) e (CloseMapping ∷ ps))
+    subst (λ (u : List Kind). TellsParts f (u ++ FlowMappingEnd ∷ ks) state.FlowMappingKey (s ∷ ss) e (CloseMapping ∷ ps))
     (sym h) (comma_mapping_ends f ks s ss e ps l)
 
-block_sequence_ends : (f : Spans) (ks : List Kind) (s : State) (ss : List State) (e : Memory) (ps : List Part)
-    → Tells f ks s ss e ps → Tells f (BlockEnd ∷ ks) state.BlockSequenceEntry (s ∷ ss) e (CloseSequence ∷ ps)
+block_sequence_ends : (f : SpansByKinds) (ks : List Kind) (s : State) (ss : List State) (e : Memory) (ps : List Part)
+    → TellsParts f ks s ss e ps → TellsParts f (BlockEnd ∷ ks) state.BlockSequenceEntry (s ∷ ss) e (CloseSequence ∷ ps)
 unfolding event_step sequence_entry
 block_sequence_ends f ks s ss e ps l =
     plainly e (at f (BlockEnd ∷ ks) state.BlockSequenceEntry (s ∷ ss) e) (at f ks s ss e) CloseSequence ps SequenceEnd
     (f ks) (λ q. cc) refl refl l
 
-block_mapping_ends : (f : Spans) (ks : List Kind) (s : State) (ss : List State) (e : Memory) (ps : List Part)
-    → Tells f ks s ss e ps → Tells f (BlockEnd ∷ ks) state.BlockMappingKey (s ∷ ss) e (CloseMapping ∷ ps)
+block_mapping_ends : (f : SpansByKinds) (ks : List Kind) (s : State) (ss : List State) (e : Memory) (ps : List Part)
+    → TellsParts f ks s ss e ps → TellsParts f (BlockEnd ∷ ks) state.BlockMappingKey (s ∷ ss) e (CloseMapping ∷ ps)
 unfolding event_step mapping_key
 block_mapping_ends f ks s ss e ps l =
     plainly e (at f (BlockEnd ∷ ks) state.BlockMappingKey (s ∷ ss) e) (at f ks s ss e) CloseMapping ps MappingEnd (f ks)
     (λ q. cc) refl refl l
 
-indentless_ends : (f : Spans) (k : Kind) (ks : List Kind) (s : State) (ss : List State) (e : Memory) (ps : List Part)
-    → MayFollow InBlockMapping k → Tells f (k ∷ ks) s ss e ps
-    → Tells f (k ∷ ks) state.IndentlessSequenceEntry (s ∷ ss) e (CloseSequence ∷ ps)
+indentless_ends : (f : SpansByKinds) (k : Kind) (ks : List Kind) (s : State) (ss : List State) (e : Memory) (ps : List Part)
+    → MayFollow InBlockMapping k → TellsParts f (k ∷ ks) s ss e ps
+    → TellsParts f (k ∷ ks) state.IndentlessSequenceEntry (s ∷ ss) e (CloseSequence ∷ ps)
 unfolding event_step indentless_entry
 indentless_ends f Key ks s ss e ps z l =
     plainly e (at f (Key ∷ ks) state.IndentlessSequenceEntry (s ∷ ss) e) (at f (Key ∷ ks) s ss e) CloseSequence ps
@@ -125,54 +125,54 @@ indentless_ends f _ ks s ss e ps z l = elim z [ ]
 
 -- ## Where entries begin
 
-at_first_entry : (f : Spans) (ss : List State) (e : Memory)
+at_first_entry : (f : SpansByKinds) (ss : List State) (e : Memory)
     → AtEntry f state.FlowSequenceFirstEntry ss e (λ l. at f l state.FlowSequenceFirstEntry ss e)
 unfolding event_step first_entry
 at_first_entry f ss e = record { goes_on = λ l q. cc; steps = λ k l. refl }
 
-at_other_entry : (f : Spans) (ss : List State) (e : Memory)
+at_other_entry : (f : SpansByKinds) (ss : List State) (e : Memory)
     → AtEntry f state.FlowSequenceEntry ss e (λ l. at f (FlowEntry ∷ l) state.FlowSequenceEntry ss e)
 unfolding event_step first_entry other_entry
 at_other_entry f ss e = record { goes_on = λ l q. cc; steps = λ k l. refl }
 
 -- the span of the first token
-span_of_first : Spans → List Kind → Span
+span_of_first : SpansByKinds → List Kind → Span
 span_of_first f [] = f []
 span_of_first f (k ∷ l) = f l
 
-at_first_pair : (f : Spans) (ss : List State) (e : Memory)
+at_first_pair : (f : SpansByKinds) (ss : List State) (e : Memory)
     → AtPair f state.FlowMappingFirstKey ss e (λ l. at f l state.FlowMappingFirstKey ss e)
 unfolding event_step first_pair span_of_first
 at_first_pair f ss e = record { goes_on = λ l q. cc; span = span_of_first f; steps = λ k l. refl }
 
-at_other_pair : (f : Spans) (ss : List State) (e : Memory)
+at_other_pair : (f : SpansByKinds) (ss : List State) (e : Memory)
     → AtPair f state.FlowMappingKey ss e (λ l. at f (FlowEntry ∷ l) state.FlowMappingKey ss e)
 unfolding event_step other_pair pair_behind_comma
 at_other_pair f ss e = record { goes_on = λ l q. cc; span = f; steps = λ k l. refl }
 
 -- an entry, with the token behind it shown
-along : (Fits : Kind → Type 0) (f : Spans) (t u rest v : List Kind) (machine : List Kind → Machine) (s : State)
+entry_told : (Fits : Kind → Type 0) (f : SpansByKinds) (t u rest v : List Kind) (machine : List Kind → Machine) (s : State)
     (ss : List State) (e e' : Memory) (ps qs : List Part) → Next Fits (u ++ rest) → v ≡ t ++ u
-    → ((k : Kind) (ks : List Kind) → Fits k → Tells f (k ∷ ks) s ss e' ps → Says e (machine (t ++ k ∷ ks)) qs)
-    → Tells f (u ++ rest) s ss e' ps → Says e (machine (v ++ rest)) qs
-along Fits f t u rest v machine s ss e e' ps qs n w go l =
+    → ((k : Kind) (ks : List Kind) → Fits k → TellsParts f (k ∷ ks) s ss e' ps → SaysParts e (machine (t ++ k ∷ ks)) qs)
+    → TellsParts f (u ++ rest) s ss e' ps → SaysParts e (machine (v ++ rest)) qs
+entry_told Fits f t u rest v machine s ss e e' ps qs n w go l =
     let same : v ++ rest ≡ t ++ n.first ∷ n.others = ap (λ x. x ++ rest) w ∙ append_assoc t u rest
     ∙ ap (λ x. t ++ x) n.is in
-    subst (λ (x : List Kind). Says e (machine x) qs) (sym same)
-    (go n.first n.others n.fits (subst (λ (x : List Kind). Tells f x s ss e' ps) n.is l))
+    subst (λ (x : List Kind). SaysParts e (machine x) qs) (sym same)
+    (go n.first n.others n.fits (subst (λ (x : List Kind). TellsParts f x s ss e' ps) n.is l))
 
 -- ## Brackets
 
 pub record EntrySays (n : Node) (t : List Kind) : Type 0 where
-  pub by : (f : Spans) (k : Kind) (ks : List Kind) (machine : List Kind → Machine) (x : State) (ss : List State)
+  pub by : (f : SpansByKinds) (k : Kind) (ks : List Kind) (machine : List Kind → Machine) (x : State) (ss : List State)
       (e : Memory) (ps : List Part) → EndsEntry k → AtEntry f x ss e machine
-      → Tells f (k ∷ ks) state.FlowSequenceEntry ss (after_node n e) ps
-      → Says e (machine (t ++ k ∷ ks)) (node_parts n ++ ps)
+      → TellsParts f (k ∷ ks) state.FlowSequenceEntry ss (after_node n e) ps
+      → SaysParts e (machine (t ++ k ∷ ks)) (node_parts n ++ ps)
 
 pub record OtherEntriesSay (ns : Nodes) (t : List Kind) : Type 0 where
-  pub by : (f : Spans) (ks : List Kind) (s : State) (ss : List State) (e : Memory) (ps : List Part)
-      → Tells f ks s ss (after_nodes ns e) ps
-      → Tells f (t ++ FlowSequenceEnd ∷ ks) state.FlowSequenceEntry (s ∷ ss) e (entry_parts ns ++ CloseSequence ∷ ps)
+  pub by : (f : SpansByKinds) (ks : List Kind) (s : State) (ss : List State) (e : Memory) (ps : List Part)
+      → TellsParts f ks s ss (after_nodes ns e) ps
+      → TellsParts f (t ++ FlowSequenceEnd ∷ ks) state.FlowSequenceEntry (s ∷ ss) e (entry_parts ns ++ CloseSequence ∷ ps)
 
 -- a node, or a pair
 pub either_says : (n : Node) (t : List Kind) → YieldsNode n InFlow t ⊎ YieldsPairEntry n t
@@ -193,7 +193,7 @@ pub wrapped_pair : (p : Properties) (key value : Node) (t : List Kind) → p ≡
 wrapped_pair p key value t bare h gk gv =
     let one : EntrySays (Map no_properties (MorePairs key value NoPair)) t = record {
       by = λ f k ks machine x ss e ps z a l. subst
-          (λ (qs : List Part). Says e (machine (t ++ k ∷ ks)) (OpenMapping no_properties ∷ qs))
+          (λ (qs : List Part). SaysParts e (machine (t ++ k ∷ ks)) (OpenMapping no_properties ∷ qs))
           (sym (same_pair (node_parts key) (node_parts value) ps CloseMapping))
           (single.pair_says key value t h gk gv f k ks machine x ss e ps z a l);
     } in
@@ -204,7 +204,7 @@ pub first_entries : (n : Node) (ns : Nodes) (u v t : List Kind) → YieldOtherFl
 first_entries n ns u v t h w first others = record {
   by = λ f ks s ss e ps l.
       rw (append_assoc (node_parts n) (entry_parts ns) (CloseSequence ∷ ps))
-      (along EndsEntry f u v (FlowSequenceEnd ∷ ks) t (λ l. at f l state.FlowSequenceFirstEntry (s ∷ ss) e)
+      (entry_told EndsEntry f u v (FlowSequenceEnd ∷ ks) t (λ l. at f l state.FlowSequenceFirstEntry (s ∷ ss) e)
       state.FlowSequenceEntry (s ∷ ss) e (after_node n e) (entry_parts ns ++ CloseSequence ∷ ps)
       (node_parts n ++ (entry_parts ns ++ CloseSequence ∷ ps))
       (flow_entries_next EndsEntry ns v FlowSequenceEnd ks tt tt h) w
@@ -217,10 +217,10 @@ pub other_entries : (n : Node) (ns : Nodes) (u v t : List Kind) → YieldOtherFl
     → EntrySays n u → OtherEntriesSay ns v → OtherEntriesSay (MoreNodes n ns) t
 other_entries n ns u v t h w first others = record {
   by = λ f ks s ss e ps l.
-      let told : Tells f (FlowEntry ∷ ((u ++ v) ++ FlowSequenceEnd ∷ ks)) state.FlowSequenceEntry (s ∷ ss) e
+      let told : TellsParts f (FlowEntry ∷ ((u ++ v) ++ FlowSequenceEnd ∷ ks)) state.FlowSequenceEntry (s ∷ ss) e
       ((node_parts n ++ entry_parts ns) ++ CloseSequence ∷ ps) =
       rw (append_assoc (node_parts n) (entry_parts ns) (CloseSequence ∷ ps))
-      (along EndsEntry f u v (FlowSequenceEnd ∷ ks) (u ++ v)
+      (entry_told EndsEntry f u v (FlowSequenceEnd ∷ ks) (u ++ v)
       (λ l. at f (FlowEntry ∷ l) state.FlowSequenceEntry (s ∷ ss) e) state.FlowSequenceEntry (s ∷ ss) e
       (after_node n e) (entry_parts ns ++ CloseSequence ∷ ps)
       (node_parts n ++ (entry_parts ns ++ CloseSequence ∷ ps))
@@ -228,7 +228,7 @@ other_entries n ns u v t h w first others = record {
       (λ k ls z r. first.by f k ls (λ l. at f (FlowEntry ∷ l) state.FlowSequenceEntry (s ∷ ss) e)
       state.FlowSequenceEntry (s ∷ ss) e (entry_parts ns ++ CloseSequence ∷ ps) z (at_other_entry f (s ∷ ss) e) r)
       (others.by f ks s ss (after_node n e) ps l)) in
-      subst (λ (x : List Kind). Tells f (x ++ FlowSequenceEnd ∷ ks) state.FlowSequenceEntry (s ∷ ss) e
+      subst (λ (x : List Kind). TellsParts f (x ++ FlowSequenceEnd ∷ ks) state.FlowSequenceEntry (s ∷ ss) e
       ((node_parts n ++ entry_parts ns) ++ CloseSequence ∷ ps)) (sym w) told;
 }
 
@@ -247,9 +247,9 @@ no_other_entries t h = record { by = λ f ks s ss e ps l. list_sequence_ends f t
 -- ## Braces
 
 pub record OtherPairsSay (qs : Pairs) (t : List Kind) : Type 0 where
-  pub by : (f : Spans) (ks : List Kind) (s : State) (ss : List State) (e : Memory) (ps : List Part)
-      → Tells f ks s ss (after_pairs qs e) ps
-      → Tells f (t ++ FlowMappingEnd ∷ ks) state.FlowMappingKey (s ∷ ss) e (pair_parts qs ++ CloseMapping ∷ ps)
+  pub by : (f : SpansByKinds) (ks : List Kind) (s : State) (ss : List State) (e : Memory) (ps : List Part)
+      → TellsParts f ks s ss (after_pairs qs e) ps
+      → TellsParts f (t ++ FlowMappingEnd ∷ ks) state.FlowMappingKey (s ∷ ss) e (pair_parts qs ++ CloseMapping ∷ ps)
 
 same_pairs : (a b c ps : List Part) → (a ++ (b ++ c)) ++ ps ≡ a ++ (b ++ (c ++ ps))
 same_pairs a b c ps = simp append_assoc
@@ -264,7 +264,7 @@ first_pairs key value qs u v t h w d gk gv others = record {
       let e' : Memory = after_node value (after_node key e) in
       let behind : List Part = pair_parts qs ++ CloseMapping ∷ ps in
       rw (same_pairs (node_parts key) (node_parts value) (pair_parts qs) (CloseMapping ∷ ps))
-      (along EndsPair f u v (FlowMappingEnd ∷ ks) t (λ l. at f l state.FlowMappingFirstKey (s ∷ ss) e)
+      (entry_told EndsPair f u v (FlowMappingEnd ∷ ks) t (λ l. at f l state.FlowMappingFirstKey (s ∷ ss) e)
       state.FlowMappingKey (s ∷ ss) e e' behind (node_parts key ++ (node_parts value ++ behind))
       (flow_pairs_next EndsPair qs v FlowMappingEnd ks tt tt h) w
       (λ k ls z r. flow.pair_says key value u d gk gv f k ls (λ l. at f l state.FlowMappingFirstKey (s ∷ ss) e)
@@ -280,16 +280,16 @@ other_pairs key value qs u v t h w d gk gv others = record {
   by = λ f ks s ss e ps l.
       let e' : Memory = after_node value (after_node key e) in
       let behind : List Part = pair_parts qs ++ CloseMapping ∷ ps in
-      let told : Tells f (FlowEntry ∷ ((u ++ v) ++ FlowMappingEnd ∷ ks)) state.FlowMappingKey (s ∷ ss) e
+      let told : TellsParts f (FlowEntry ∷ ((u ++ v) ++ FlowMappingEnd ∷ ks)) state.FlowMappingKey (s ∷ ss) e
       ((node_parts key ++ (node_parts value ++ pair_parts qs)) ++ CloseMapping ∷ ps) =
       rw (same_pairs (node_parts key) (node_parts value) (pair_parts qs) (CloseMapping ∷ ps))
-      (along EndsPair f u v (FlowMappingEnd ∷ ks) (u ++ v)
+      (entry_told EndsPair f u v (FlowMappingEnd ∷ ks) (u ++ v)
       (λ l. at f (FlowEntry ∷ l) state.FlowMappingKey (s ∷ ss) e) state.FlowMappingKey (s ∷ ss) e e' behind
       (node_parts key ++ (node_parts value ++ behind)) (flow_pairs_next EndsPair qs v FlowMappingEnd ks tt tt h)
       refl (λ k ls z r. flow.pair_says key value u d gk gv f k ls
       (λ l. at f (FlowEntry ∷ l) state.FlowMappingKey (s ∷ ss) e) state.FlowMappingKey (s ∷ ss) e behind z
       (at_other_pair f (s ∷ ss) e) r) (others.by f ks s ss e' ps l)) in
-      subst (λ (x : List Kind). Tells f (x ++ FlowMappingEnd ∷ ks) state.FlowMappingKey (s ∷ ss) e
+      subst (λ (x : List Kind). TellsParts f (x ++ FlowMappingEnd ∷ ks) state.FlowMappingKey (s ∷ ss) e
       ((node_parts key ++ (node_parts value ++ pair_parts qs)) ++ CloseMapping ∷ ps)) (sym w) told;
 }
 
@@ -312,15 +312,15 @@ pub block_entries : (n : Node) (ns : Nodes) (u v t : List Kind) → YieldsOption
 block_entries n ns u v t d h w g others = record {
   by = λ f ks s ss e ps l.
       let behind : List Part = entry_parts ns ++ CloseSequence ∷ ps in
-      let told : Tells f (BlockEntry ∷ ((u ++ v) ++ BlockEnd ∷ ks)) state.BlockSequenceEntry (s ∷ ss) e
+      let told : TellsParts f (BlockEntry ∷ ((u ++ v) ++ BlockEnd ∷ ks)) state.BlockSequenceEntry (s ∷ ss) e
       ((node_parts n ++ entry_parts ns) ++ CloseSequence ∷ ps) =
       rw (append_assoc (node_parts n) (entry_parts ns) (CloseSequence ∷ ps))
-      (along EndsBlockEntry f u v (BlockEnd ∷ ks) (u ++ v)
+      (entry_told EndsBlockEntry f u v (BlockEnd ∷ ks) (u ++ v)
       (λ l. at f (BlockEntry ∷ l) state.BlockSequenceEntry (s ∷ ss) e) state.BlockSequenceEntry (s ∷ ss) e
       (after_node n e) behind (node_parts n ++ behind) (block_entries_next EndsBlockEntry ns v BlockEnd ks tt tt h)
       refl (λ k ls z r. block.entry_says n u d g f k ls (s ∷ ss) e behind z r)
       (others.by f ks s ss (after_node n e) ps l)) in
-      subst (λ (x : List Kind). Tells f (x ++ BlockEnd ∷ ks) state.BlockSequenceEntry (s ∷ ss) e
+      subst (λ (x : List Kind). TellsParts f (x ++ BlockEnd ∷ ks) state.BlockSequenceEntry (s ∷ ss) e
       ((node_parts n ++ entry_parts ns) ++ CloseSequence ∷ ps)) (sym w) told;
 }
 
@@ -337,16 +337,16 @@ pub indentless_entries : (n : Node) (ns : Nodes) (u v t : List Kind) → YieldsO
 indentless_entries n ns u v t d h w g others = record {
   by = λ f j js s ss e ps y l.
       let behind : List Part = entry_parts ns ++ CloseSequence ∷ ps in
-      let told : Tells f (BlockEntry ∷ ((u ++ v) ++ j ∷ js)) state.IndentlessSequenceEntry (s ∷ ss) e
+      let told : TellsParts f (BlockEntry ∷ ((u ++ v) ++ j ∷ js)) state.IndentlessSequenceEntry (s ∷ ss) e
       ((node_parts n ++ entry_parts ns) ++ CloseSequence ∷ ps) =
       rw (append_assoc (node_parts n) (entry_parts ns) (CloseSequence ∷ ps))
-      (along EndsIndentless f u v (j ∷ js) (u ++ v)
+      (entry_told EndsIndentless f u v (j ∷ js) (u ++ v)
       (λ l. at f (BlockEntry ∷ l) state.IndentlessSequenceEntry (s ∷ ss) e) state.IndentlessSequenceEntry (s ∷ ss) e
       (after_node n e) behind (node_parts n ++ behind)
       (block_entries_next EndsIndentless ns v j js tt (mapping_follow_ends j y) h) refl
       (λ k ls z r. indentless_says n u d g f k ls (s ∷ ss) e behind z r)
       (others.by f j js s ss (after_node n e) ps y l)) in
-      subst (λ (x : List Kind). Tells f (x ++ j ∷ js) state.IndentlessSequenceEntry (s ∷ ss) e
+      subst (λ (x : List Kind). TellsParts f (x ++ j ∷ js) state.IndentlessSequenceEntry (s ∷ ss) e
       ((node_parts n ++ entry_parts ns) ++ CloseSequence ∷ ps)) (sym w) told;
 }
 
@@ -372,13 +372,13 @@ block_pairs key value qs u v t d h w gk gv others = record {
       λ no. subst (λ (x : List Kind). ¬ (BeginsWithValue x)) next.is (no_value v ks no) in
       let same : t ++ BlockEnd ∷ ks ≡ u ++ next.first ∷ next.others =
       ap (λ x. x ++ BlockEnd ∷ ks) w ∙ append_assoc u v (BlockEnd ∷ ks) ∙ ap (λ x. u ++ x) next.is in
-      let told : Tells f (u ++ next.first ∷ next.others) state.BlockMappingKey (s ∷ ss) e
+      let told : TellsParts f (u ++ next.first ∷ next.others) state.BlockMappingKey (s ∷ ss) e
       (node_parts key ++ (node_parts value ++ behind)) =
       block.pair_says key value v u d gk gv f next.first next.others (s ∷ ss) e behind next.fits keeps
-      (subst (λ (x : List Kind). Tells f x state.BlockMappingKey (s ∷ ss) e' behind) next.is
+      (subst (λ (x : List Kind). TellsParts f x state.BlockMappingKey (s ∷ ss) e' behind) next.is
       (others.by f ks s ss e' ps l)) in
       rw (same_pairs (node_parts key) (node_parts value) (pair_parts qs) (CloseMapping ∷ ps))
-      (subst (λ (x : List Kind). Tells f x state.BlockMappingKey (s ∷ ss) e
+      (subst (λ (x : List Kind). TellsParts f x state.BlockMappingKey (s ∷ ss) e
       (node_parts key ++ (node_parts value ++ behind))) (sym same) told);
 }
 

@@ -14,8 +14,8 @@ use Rattle.saphyr_parser.specs.Steps.Machine.{Machine, told_event, empty_scalar}
 use Rattle.saphyr_parser.specs.Steps.Nodes.{node_inside}
 use Rattle.saphyr_parser.specs.Steps.Flow.{pair_at, flow_key_node, flow_mapping_value, flow_value_node, empty_value}
 use Rattle.saphyr_parser.specs.Steps.Expected.{event_step}
-use Rattle.saphyr_parser.proofs.Told.Telling.{Spans, Memory, at}
-use Rattle.saphyr_parser.proofs.Remembering.{after_node, Says, Tells}
+use Rattle.saphyr_parser.proofs.Told.Telling.{SpansByKinds, Memory, at}
+use Rattle.saphyr_parser.proofs.Remembering.{after_node, SaysParts, TellsParts}
 use Rattle.saphyr_parser.proofs.Told.Nodes.{next_node}
 use Rattle.saphyr_parser.proofs.NodeStarts.{Starts, MayFollow, NodeSays, enters, skipped, enters_or_skips, marked_tokens}
 
@@ -31,7 +31,7 @@ pair_end_follows FlowMappingEnd h = tt
 pair_end_follows _ h = elim h [ ]
 
 -- the machine comes to an entry of braces; the span is the end's, if the mapping ends here
-pub record AtPair (f : Spans) (x : State) (ss : List State) (e : Memory) (machine : List Kind → Machine) : Type 0 where
+pub record AtPair (f : SpansByKinds) (x : State) (ss : List State) (e : Memory) (machine : List Kind → Machine) : Type 0 where
   pub goes_on : (l : List Kind) → (machine l).state ≢ state.End
   pub span : List Kind → Span
   pub steps : (k : Kind) (l : List Kind)
@@ -39,7 +39,7 @@ pub record AtPair (f : Spans) (x : State) (ss : List State) (e : Memory) (machin
 
 -- ## Keys
 
-flow_key_begins : (f : Spans) (j : Kind) (l : List Kind) (x : State) (ss : List State) (e : Memory) → Starts InFlow j
+flow_key_begins : (f : SpansByKinds) (j : Kind) (l : List Kind) (x : State) (ss : List State) (e : Memory) → Starts InFlow j
     → flow_key_node (at f (j ∷ l) x ss e) ≡ next_node Flow (at f (j ∷ l) x (state.FlowMappingValue ∷ ss) e)
 unfolding flow_key_node
 flow_key_begins f Value l x ss e h = elim h [ ]
@@ -47,7 +47,7 @@ flow_key_begins f FlowEntry l x ss e h = elim h [ ]
 flow_key_begins f FlowMappingEnd l x ss e h = elim h [ ]
 flow_key_begins f _ l x ss e h = refl
 
-key_is_left_out : (f : Spans) (k : Kind) (ks : List Kind) (x : State) (ss : List State) (e : Memory) → EndsPair k
+key_is_left_out : (f : SpansByKinds) (k : Kind) (ks : List Kind) (x : State) (ss : List State) (e : Memory) → EndsPair k
     → flow_key_node (at f (k ∷ ks) x ss e) ≡ told_event empty_scalar (f ks) (at f (k ∷ ks) state.FlowMappingValue ss e)
 unfolding flow_key_node
 key_is_left_out f FlowEntry ks x ss e h = refl
@@ -64,7 +64,7 @@ bare_key_begins _ s t m h = refl
 
 -- ## Values
 
-flow_value_begins : (f : Spans) (j : Kind) (l : List Kind) (ss : List State) (e : Memory) → Starts InFlow j
+flow_value_begins : (f : SpansByKinds) (j : Kind) (l : List Kind) (ss : List State) (e : Memory) → Starts InFlow j
     → event_step (at f (Value ∷ j ∷ l) state.FlowMappingValue ss e)
     ≡ next_node Flow (at f (j ∷ l) state.FlowMappingValue (state.FlowMappingKey ∷ ss) e)
 unfolding event_step flow_mapping_value flow_value_node
@@ -72,7 +72,7 @@ flow_value_begins f FlowEntry l ss e h = elim h [ ]
 flow_value_begins f FlowMappingEnd l ss e h = elim h [ ]
 flow_value_begins f _ l ss e h = refl
 
-value_is_left_out : (f : Spans) (k : Kind) (ks : List Kind) (ss : List State) (e : Memory) → EndsPair k
+value_is_left_out : (f : SpansByKinds) (k : Kind) (ks : List Kind) (ss : List State) (e : Memory) → EndsPair k
     → event_step (at f (Value ∷ k ∷ ks) state.FlowMappingValue ss e)
     ≡ told_event empty_scalar (f (k ∷ ks)) (at f (k ∷ ks) state.FlowMappingKey ss e)
 unfolding event_step flow_mapping_value flow_value_node
@@ -80,7 +80,7 @@ value_is_left_out f FlowEntry ks ss e h = refl
 value_is_left_out f FlowMappingEnd ks ss e h = refl
 value_is_left_out f _ ks ss e h = elim h [ ]
 
-value_is_missing : (f : Spans) (k : Kind) (ks : List Kind) (ss : List State) (e : Memory) → EndsPair k
+value_is_missing : (f : SpansByKinds) (k : Kind) (ks : List Kind) (ss : List State) (e : Memory) → EndsPair k
     → event_step (at f (k ∷ ks) state.FlowMappingValue ss e)
     ≡ told_event empty_scalar (f ks) (at f (k ∷ ks) state.FlowMappingKey ss e)
 unfolding event_step flow_mapping_value
@@ -93,18 +93,18 @@ value_is_missing f _ ks ss e h = elim h [ ]
 -- the value, from its mark on
 value_says : (value : Node) (t : List Kind) → YieldsOptional value (YieldsNode value InFlow) t
     → (YieldsNode value InFlow t → NodeSays value InFlow t)
-    → (f : Spans) (k : Kind) (ks : List Kind) (ss : List State) (e : Memory) (ps : List Part) → EndsPair k
-    → Tells f (k ∷ ks) state.FlowMappingKey ss (after_node value e) ps
-    → Tells f (Value ∷ (t ++ k ∷ ks)) state.FlowMappingValue ss e (node_parts value ++ ps)
+    → (f : SpansByKinds) (k : Kind) (ks : List Kind) (ss : List State) (e : Memory) (ps : List Part) → EndsPair k
+    → TellsParts f (k ∷ ks) state.FlowMappingKey ss (after_node value e) ps
+    → TellsParts f (Value ∷ (t ++ k ∷ ks)) state.FlowMappingValue ss e (node_parts value ++ ps)
 value_says value t h g f k ks ss e ps z l =
     enters_or_skips value InFlow t h g f k ks (λ l. at f (Value ∷ l) state.FlowMappingValue ss e) state.FlowMappingValue
     (λ l. state.FlowMappingKey) ss e ps (pair_end_follows k z) (λ l q. cc) (f (k ∷ ks))
     (value_is_left_out f k ks ss e z) (λ j l s. flow_value_begins f j l ss e s) l
 
 -- no value
-missing_value_says : (f : Spans) (k : Kind) (ks : List Kind) (ss : List State) (e : Memory) (ps : List Part)
-    → EndsPair k → Tells f (k ∷ ks) state.FlowMappingKey ss e ps
-    → Tells f (k ∷ ks) state.FlowMappingValue ss e (node_parts forest.left_out ++ ps)
+missing_value_says : (f : SpansByKinds) (k : Kind) (ks : List Kind) (ss : List State) (e : Memory) (ps : List Part)
+    → EndsPair k → TellsParts f (k ∷ ks) state.FlowMappingKey ss e ps
+    → TellsParts f (k ∷ ks) state.FlowMappingValue ss e (node_parts forest.left_out ++ ps)
 missing_value_says f k ks ss e ps z l =
     skipped e (at f (k ∷ ks) state.FlowMappingValue ss e) (at f (k ∷ ks) state.FlowMappingKey ss e) ps (f ks) (λ q. cc)
     (value_is_missing f k ks ss e z) l
@@ -112,11 +112,11 @@ missing_value_says f k ks ss e ps z l =
 -- the key, from its mark on
 key_says : (key : Node) (t : List Kind) → YieldsOptional key (YieldsNode key InFlow) t
     → (YieldsNode key InFlow t → NodeSays key InFlow t)
-    → (f : Spans) (k : Kind) (ks : List Kind) (machine : List Kind → Machine) (x : State) (ss : List State) (e : Memory)
+    → (f : SpansByKinds) (k : Kind) (ks : List Kind) (machine : List Kind → Machine) (x : State) (ss : List State) (e : Memory)
     (ps : List Part) → MayFollow InFlow k
     → flow_key_node (at f (k ∷ ks) x ss e) ≡ told_event empty_scalar (f ks) (at f (k ∷ ks) state.FlowMappingValue ss e)
-    → AtPair f x ss e machine → Tells f (k ∷ ks) state.FlowMappingValue ss (after_node key e) ps
-    → Says e (machine (Key ∷ (t ++ k ∷ ks))) (node_parts key ++ ps)
+    → AtPair f x ss e machine → TellsParts f (k ∷ ks) state.FlowMappingValue ss (after_node key e) ps
+    → SaysParts e (machine (Key ∷ (t ++ k ∷ ks))) (node_parts key ++ ps)
 key_says key t h g f k ks machine x ss e ps z skip a l =
     enters_or_skips key InFlow t h g f k ks (λ l. machine (Key ∷ l)) x (λ l. state.FlowMappingValue) ss e ps z
     (λ l. a.goes_on (Key ∷ l)) (f ks) (a.steps Key (k ∷ ks) ∙ skip)
@@ -125,18 +125,18 @@ key_says key t h g f k ks machine x ss e ps z skip a l =
 -- a pair whose value is left out, by its key's tokens
 alone_says : (key : Node) (t : List Kind) → YieldsMarkedKey key (YieldsNode key InFlow) t ⊎ YieldsNode key InFlow t
     → ((u : List Kind) → YieldsNode key InFlow u → NodeSays key InFlow u)
-    → (f : Spans) (k : Kind) (ks : List Kind) (machine : List Kind → Machine) (x : State) (ss : List State) (e : Memory)
+    → (f : SpansByKinds) (k : Kind) (ks : List Kind) (machine : List Kind → Machine) (x : State) (ss : List State) (e : Memory)
     (ps : List Part) → EndsPair k → AtPair f x ss e machine
-    → Tells f (k ∷ ks) state.FlowMappingKey ss (after_node key e) ps
-    → Says e (machine (t ++ k ∷ ks)) (node_parts key ++ (node_parts forest.left_out ++ ps))
+    → TellsParts f (k ∷ ks) state.FlowMappingKey ss (after_node key e) ps
+    → SaysParts e (machine (t ++ k ∷ ks)) (node_parts key ++ (node_parts forest.left_out ++ ps))
 unfolding event_step empty_value
 alone_says key t (inl h) g f k ks machine x ss e ps z a l =
-    subst (λ (u : List Kind). Says e (machine (u ++ k ∷ ks)) (node_parts key ++ (node_parts forest.left_out ++ ps)))
+    subst (λ (u : List Kind). SaysParts e (machine (u ++ k ∷ ks)) (node_parts key ++ (node_parts forest.left_out ++ ps)))
     (sym h.2) (key_says key h.0 h.1 (g h.0) f k ks machine x ss e _ (pair_end_follows k z)
     (key_is_left_out f k ks x ss e z) a (missing_value_says f k ks ss (after_node key e) ps z l))
 alone_says key t (inr h) g f k ks machine x ss e ps z a l =
     let e' : Memory = after_node key e in
-    let second : Tells f (k ∷ ks) state.FlowMappingEmptyValue ss e' (node_parts forest.left_out ++ ps) =
+    let second : TellsParts f (k ∷ ks) state.FlowMappingEmptyValue ss e' (node_parts forest.left_out ++ ps) =
     skipped e' (at f (k ∷ ks) state.FlowMappingEmptyValue ss e') (at f (k ∷ ks) state.FlowMappingKey ss e') ps
     (f ks) (λ q. cc) refl l in
     enters key InFlow t h (g t h) f k ks machine x (λ l. state.FlowMappingEmptyValue) ss e
@@ -146,15 +146,15 @@ alone_says key t (inr h) g f k ks machine x ss e ps z a l =
 -- a pair whose key is left out
 keyless_says : (value : Node) (t : List Kind) → YieldsMarkedValue value (YieldsNode value InFlow) t
     → ((u : List Kind) → YieldsNode value InFlow u → NodeSays value InFlow u)
-    → (f : Spans) (k : Kind) (ks : List Kind) (machine : List Kind → Machine) (x : State) (ss : List State) (e : Memory)
+    → (f : SpansByKinds) (k : Kind) (ks : List Kind) (machine : List Kind → Machine) (x : State) (ss : List State) (e : Memory)
     (ps : List Part) → EndsPair k → AtPair f x ss e machine
-    → Tells f (k ∷ ks) state.FlowMappingKey ss (after_node value e) ps
-    → Says e (machine (t ++ k ∷ ks)) (node_parts forest.left_out ++ (node_parts value ++ ps))
+    → TellsParts f (k ∷ ks) state.FlowMappingKey ss (after_node value e) ps
+    → SaysParts e (machine (t ++ k ∷ ks)) (node_parts forest.left_out ++ (node_parts value ++ ps))
 keyless_says value t h g f k ks machine x ss e ps z a l =
     let rest : List Kind = h.0 ++ k ∷ ks in
-    let second : Tells f (Value ∷ rest) state.FlowMappingValue ss e (node_parts value ++ ps) =
+    let second : TellsParts f (Value ∷ rest) state.FlowMappingValue ss e (node_parts value ++ ps) =
     value_says value h.0 h.1 (g h.0) f k ks ss e ps z l in
-    subst (λ (u : List Kind). Says e (machine (u ++ k ∷ ks)) (node_parts forest.left_out ++ (node_parts value ++ ps)))
+    subst (λ (u : List Kind). SaysParts e (machine (u ++ k ∷ ks)) (node_parts forest.left_out ++ (node_parts value ++ ps)))
     (sym h.2) (skipped e (machine (Value ∷ rest)) (at f (Value ∷ rest) state.FlowMappingValue ss e)
     (node_parts value ++ ps) (f rest) (a.goes_on (Value ∷ rest)) (a.steps Value rest) second)
 
@@ -163,29 +163,29 @@ pub pair_says : (key value : Node) (t : List Kind)
     → YieldsFlowPair key value (YieldsNode key InFlow) (YieldsNode value InFlow) t
     → ((u : List Kind) → YieldsNode key InFlow u → NodeSays key InFlow u)
     → ((u : List Kind) → YieldsNode value InFlow u → NodeSays value InFlow u)
-    → (f : Spans) (k : Kind) (ks : List Kind) (machine : List Kind → Machine) (x : State) (ss : List State) (e : Memory)
+    → (f : SpansByKinds) (k : Kind) (ks : List Kind) (machine : List Kind → Machine) (x : State) (ss : List State) (e : Memory)
     (ps : List Part) → EndsPair k → AtPair f x ss e machine
-    → Tells f (k ∷ ks) state.FlowMappingKey ss (after_node value (after_node key e)) ps
-    → Says e (machine (t ++ k ∷ ks)) (node_parts key ++ (node_parts value ++ ps))
+    → TellsParts f (k ∷ ks) state.FlowMappingKey ss (after_node value (after_node key e)) ps
+    → SaysParts e (machine (t ++ k ∷ ks)) (node_parts key ++ (node_parts value ++ ps))
 unfolding flow_key_node
 pair_says key value t (inl h) gk gv f k ks machine x ss e ps z a l =
     let kt : List Kind = h.2.0 in
     let vt : List Kind = h.3.0 in
     let same : t ++ k ∷ ks ≡ Key ∷ (kt ++ Value ∷ (vt ++ k ∷ ks)) =
     marked_tokens t h.0 h.1 kt vt (k ∷ ks) h.2.2 h.3.2 h.4 in
-    let second : Tells f (Value ∷ (vt ++ k ∷ ks)) state.FlowMappingValue ss (after_node key e)
+    let second : TellsParts f (Value ∷ (vt ++ k ∷ ks)) state.FlowMappingValue ss (after_node key e)
     (node_parts value ++ ps) = value_says value vt h.3.1 (gv vt) f k ks ss (after_node key e) ps z l in
-    subst (λ (u : List Kind). Says e (machine u) (node_parts key ++ (node_parts value ++ ps))) (sym same)
+    subst (λ (u : List Kind). SaysParts e (machine u) (node_parts key ++ (node_parts value ++ ps))) (sym same)
     (key_says key kt h.2.1 (gk kt) f Value (vt ++ k ∷ ks) machine x ss e _ tt refl a second)
 pair_says key value t (inr (inl h)) gk gv f k ks machine x ss e ps z a l =
-    subst (λ (v : Node). Tells f (k ∷ ks) state.FlowMappingKey ss (after_node v (after_node key e)) ps
-    → Says e (machine (t ++ k ∷ ks)) (node_parts key ++ (node_parts v ++ ps))) (sym h.0)
+    subst (λ (v : Node). TellsParts f (k ∷ ks) state.FlowMappingKey ss (after_node v (after_node key e)) ps
+    → SaysParts e (machine (t ++ k ∷ ks)) (node_parts key ++ (node_parts v ++ ps))) (sym h.0)
     (alone_says key t (inl h.1) gk f k ks machine x ss e ps z a) l
 pair_says key value t (inr (inr (inl h))) gk gv f k ks machine x ss e ps z a l =
-    subst (λ (v : Node). Tells f (k ∷ ks) state.FlowMappingKey ss (after_node value (after_node v e)) ps
-    → Says e (machine (t ++ k ∷ ks)) (node_parts v ++ (node_parts value ++ ps))) (sym h.0)
+    subst (λ (v : Node). TellsParts f (k ∷ ks) state.FlowMappingKey ss (after_node value (after_node v e)) ps
+    → SaysParts e (machine (t ++ k ∷ ks)) (node_parts v ++ (node_parts value ++ ps))) (sym h.0)
     (keyless_says value t h.1 gv f k ks machine x ss e ps z a) l
 pair_says key value t (inr (inr (inr h))) gk gv f k ks machine x ss e ps z a l =
-    subst (λ (v : Node). Tells f (k ∷ ks) state.FlowMappingKey ss (after_node v (after_node key e)) ps
-    → Says e (machine (t ++ k ∷ ks)) (node_parts key ++ (node_parts v ++ ps))) (sym h.0)
+    subst (λ (v : Node). TellsParts f (k ∷ ks) state.FlowMappingKey ss (after_node v (after_node key e)) ps
+    → SaysParts e (machine (t ++ k ∷ ks)) (node_parts key ++ (node_parts v ++ ps))) (sym h.0)
     (alone_says key t (inr h.1) gk f k ks machine x ss e ps z a) l

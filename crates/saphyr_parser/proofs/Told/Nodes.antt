@@ -23,8 +23,8 @@ use Rattle.saphyr_parser.specs.Steps.Tags.{declared_prefix, resolved_tag_at, dec
 use Rattle.saphyr_parser.specs.TagResolution.{default_prefix}
 use Rattle.saphyr_parser.specs.Steps.Nodes.{NodeProperties, no_node_properties, node_content_at, node_content, next_content, node_behind_anchor_at, node_behind_anchor, node_behind_tag_at, node_behind_tag, node_at, node}
 use Rattle.saphyr_parser.specs.Steps.Expected.{event_step}
-use Rattle.saphyr_parser.proofs.Told.Telling.{Spans, Memory, at}
-use Rattle.saphyr_parser.proofs.Remembering.{noted, after, own_id, resolve, resolve_any, with_properties, event_in, Says, says}
+use Rattle.saphyr_parser.proofs.Told.Telling.{SpansByKinds, Memory, at}
+use Rattle.saphyr_parser.proofs.Remembering.{noted, after, own_id_in, resolve, resolve_any, with_properties, event_in, SaysParts, says}
 
 abbrev pub next_node : NodeContext → Machine → Result Told Refusal
 next_node d m = taken_token m >>= (λ t. node d t.0 t.1)
@@ -106,26 +106,26 @@ tag_is_token (Shorthand handle suffix) =
 -- ## Properties
 
 -- a token that is no alias and no property
-abbrev pub IsContent : Kind → Type 0
-IsContent (tokens.Alias _) = ⊥
-IsContent (tokens.Anchor _) = ⊥
-IsContent (tokens.Tag _ _) = ⊥
-IsContent _ = Unit {0}
+abbrev pub IsContentKind : Kind → Type 0
+IsContentKind (tokens.Alias _) = ⊥
+IsContentKind (tokens.Anchor _) = ⊥
+IsContentKind (tokens.Tag _ _) = ⊥
+IsContentKind _ = Unit {0}
 
-content_alone : (k : Kind) (d : NodeContext) (t : Piece) (m : Machine) → IsContent k
+content_alone : (k : Kind) (d : NodeContext) (t : Piece) (m : Machine) → IsContentKind k
     → node_at k d t m ≡ node_content (no_node_properties t.span.start) d t m
 content_alone (tokens.Alias _) d t m h = elim h [ ]
 content_alone (tokens.Anchor _) d t m h = elim h [ ]
 content_alone (tokens.Tag _ _) d t m h = elim h [ ]
 content_alone _ d t m h = refl
 
-content_behind_anchor : (k : Kind) (id : ℕ) (s : Span) (d : NodeContext) (t : Piece) (m : Machine) → IsContent k
+content_behind_anchor : (k : Kind) (id : ℕ) (s : Span) (d : NodeContext) (t : Piece) (m : Machine) → IsContentKind k
     → node_behind_anchor_at k id s d t m
     ≡ node_content (record { start = s.start; behind = s.end; anchor = id; tag = None }) d t m
 content_behind_anchor (tokens.Tag _ _) id s d t m h = elim h [ ]
 content_behind_anchor _ id s d t m h = refl
 
-content_behind_tag : (k : Kind) (tag : ResolvedTag) (s : Span) (d : NodeContext) (t : Piece) (m : Machine) → IsContent k
+content_behind_tag : (k : Kind) (tag : ResolvedTag) (s : Span) (d : NodeContext) (t : Piece) (m : Machine) → IsContentKind k
     → node_behind_tag_at k tag s d t m
     ≡ node_content (record { start = s.start; behind = s.end; anchor = 0; tag = Some tag }) d t m
 content_behind_tag (tokens.Anchor _) tag s d t m h = elim h [ ]
@@ -133,7 +133,7 @@ content_behind_tag _ tag s d t m h = refl
 
 -- the machine has read these properties
 pub record Has (e : Memory) (anchor : Option (List ℕ)) (tag : Option Tag) (q : NodeProperties) : Type 0 where
-  pub anchor_is : q.anchor ≡ own_id e anchor
+  pub anchor_is : q.anchor ≡ own_id_in e anchor
   pub tag_is : resolve_any e.prefixes tag ≡ Some q.tag
 
 tagged : (o : Option ResolvedTag) (found : Option ResolvedTag)
@@ -146,17 +146,17 @@ made : (make : ℕ → Option ResolvedTag → Happening) (a b : ℕ) (t g : Opti
 made make a b t g w h k q = cc
 
 -- a node comes to its content, which begins with the token k
-pub record Comes (f : Spans) (d : NodeContext) (x : State) (ss : List State) (e : Memory) (anchor : Option (List ℕ))
+pub record ComesToContent (f : SpansByKinds) (d : NodeContext) (x : State) (ss : List State) (e : Memory) (anchor : Option (List ℕ))
     (tag : Option Tag) (k : Kind) (ks : List Kind) (r : Result Told Refusal) : Type 0 where
   pub properties : NodeProperties
   pub has : Has e anchor tag properties
   pub goes : r ≡ node_content_at k properties d (record { span = f ks; kind = k }) (at f ks x ss (noted anchor e))
 
-node_comes : (f : Spans) (d : NodeContext) (x : State) (ss : List State) (e : Memory) (anchor : Option (List ℕ))
+node_comes : (f : SpansByKinds) (d : NodeContext) (x : State) (ss : List State) (e : Memory) (anchor : Option (List ℕ))
     (tag : Option Tag) (front : List Kind) (k : Kind) (ks : List Kind) (found : Option ResolvedTag)
-    → AreBoth (option_map anchor_token anchor) (option_map tag_token tag) front → IsContent k
+    → AreBoth (option_map anchor_token anchor) (option_map tag_token tag) front → IsContentKind k
     → resolve_any e.prefixes tag ≡ Some found
-    → Comes f d x ss e anchor tag k ks (next_node d (at f (front ++ k ∷ ks) x ss e))
+    → ComesToContent f d x ss e anchor tag k ks (next_node d (at f (front ++ k ∷ ks) x ss e))
 unfolding node node_content next_content node_behind_anchor node_behind_tag
 node_comes f d x ss e None None front k ks found h c r =
     record {
@@ -235,22 +235,22 @@ tells_so : {a b c : Result Told Refusal} (u w : Happening) (span : Span) (n : Ma
 tells_so u w span n p q r s = p ∙ q ∙ r ∙ ap (λ (x : Happening). told_event x span n) s
 
 -- A node with properties is told, where its content is told of what the machine has read.
-pub node_opens : (f : Spans) (d : NodeContext) (x : State) (ss : List State) (e : Memory) (m n : Machine)
+pub node_opens : (f : SpansByKinds) (d : NodeContext) (x : State) (ss : List State) (e : Memory) (m n : Machine)
     (p : forest.Properties) (front : List Kind) (k : Kind) (ks : List Kind) (part : Part) (ps : List Part)
-    (make : ℕ → Option ResolvedTag → Happening) → YieldProperties p front → IsContent k → m.state ≢ state.End
+    (make : ℕ → Option ResolvedTag → Happening) → YieldProperties p front → IsContentKind k → m.state ≢ state.End
     → event_step m ≡ next_node d (at f (front ++ k ∷ ks) x ss e) → event_in e part ≡ with_properties make e p
     → ((q : NodeProperties) → Has e p.anchor p.tag q
     → (span : Span) × (node_content_at k q d (record { span = f ks; kind = k }) (at f ks x ss (noted p.anchor e))
-    ≡ told_event (make q.anchor q.tag) span n)) → Says (after part e) n ps → Says e m (part ∷ ps)
+    ≡ told_event (make q.anchor q.tag) span n)) → SaysParts (after part e) n ps → SaysParts e m (part ∷ ps)
 node_opens f d x ss e m n p front k ks part ps make h c more q v go l =
     says e m n part ps more (λ w z.
-    let g : (g : Option ResolvedTag) × (resolve_any e.prefixes p.tag ≡ Some g) × (make (own_id e p.anchor) g ≡ w) =
-    found_any make (own_id e p.anchor) (resolve_any e.prefixes p.tag) w (sym v ∙ z) in
-    let r : Comes f d x ss e p.anchor p.tag k ks (next_node d (at f (front ++ k ∷ ks) x ss e)) =
+    let g : (g : Option ResolvedTag) × (resolve_any e.prefixes p.tag ≡ Some g) × (make (own_id_in e p.anchor) g ≡ w) =
+    found_any make (own_id_in e p.anchor) (resolve_any e.prefixes p.tag) w (sym v ∙ z) in
+    let r : ComesToContent f d x ss e p.anchor p.tag k ks (next_node d (at f (front ++ k ∷ ks) x ss e)) =
     node_comes f d x ss e p.anchor p.tag front k ks g.0 h c g.1 in
     let s : (span : Span) × (node_content_at k r.properties d (record { span = f ks; kind = k })
     (at f ks x ss (noted p.anchor e)) ≡ told_event (make r.properties.anchor r.properties.tag) span n) =
     go r.properties r.has in
-    let same : make r.properties.anchor r.properties.tag ≡ w = made make r.properties.anchor (own_id e p.anchor)
+    let same : make r.properties.anchor r.properties.tag ≡ w = made make r.properties.anchor (own_id_in e p.anchor)
     r.properties.tag g.0 w r.has.anchor_is (sym r.has.tag_is ∙ g.1) g.2 in
     (s.0, tells_so (make r.properties.anchor r.properties.tag) w s.0 n q r.goes s.1 same)) l

@@ -19,10 +19,10 @@ use Rattle.saphyr_parser.proofs.Unroll.{unroll, over}
 -- ## Tokens by their kinds
 
 -- the span of a token, told by the tokens behind it
-abbrev pub Spans : Type 0
-Spans = List Kind → Span
+abbrev pub SpansByKinds : Type 0
+SpansByKinds = List Kind → Span
 
-abbrev pub dressed : Spans → List Kind → List Piece
+abbrev pub dressed : SpansByKinds → List Kind → List Piece
 dressed f [] = []
 dressed f (k ∷ ks) = record { span = f ks; kind = k } ∷ dressed f ks
 
@@ -32,7 +32,7 @@ pub record Memory : Type 0 where
   pub prefixes : Names (List ℕ)
   pub keep : Bool
 
-abbrev pub at : Spans → List Kind → State → List State → Memory → Machine
+abbrev pub at : SpansByKinds → List Kind → State → List State → Memory → Machine
 at f ks s ss e = record {
   tokens =
       record { pieces = dressed f ks; refusal = None };
@@ -46,7 +46,7 @@ at f ks s ss e = record {
 
 -- ## Any tokens are such
 
-abbrev with_span : Span → ℕ → Spans → Spans
+abbrev with_span : Span → ℕ → SpansByKinds → SpansByKinds
 with_span s n f ks = if eqb (length ks) n then s else f ks
 
 same_here : (a b : Span) (n : ℕ) → (if eqb n n then a else b) ≡ a
@@ -55,7 +55,7 @@ same_here a b n = rw (eq-eqb n n refl) refl
 same_before : (a b : Span) (n k : ℕ) → k < n → (if eqb k n then a else b) ≡ b
 same_before a b n k l = let no : eqb k n ≡ false = ne_eqb k n (λ e. omega (arith, l, e)) in rw no refl
 
-same_dress : (s : Span) (n : ℕ) (f : Spans) (ks : List Kind) → length ks ≤ n
+same_dress : (s : Span) (n : ℕ) (f : SpansByKinds) (ks : List Kind) → length ks ≤ n
     → dressed (with_span s n f) ks ≡ dressed f ks
 same_dress s n f [] l = refl
 same_dress s n f (k ∷ ks) l =
@@ -64,12 +64,12 @@ same_dress s n f (k ∷ ks) l =
     ∙ ap (λ (ts : List Piece). record { span = f ks; kind = k } ∷ ts) (same_dress s n f ks (omega (arith, l)))
 
 -- any span will do for the tokens that there are not
-pub dress : (any : Span) (ts : List Piece) → (f : Spans) × (ts ≡ dressed f (kinds ts))
+pub dress : (any : Span) (ts : List Piece) → (f : SpansByKinds) × (ts ≡ dressed f (kinds ts))
 dress any [] = ((λ ks. any), refl)
 dress any (t ∷ ts) =
-    let others : (f : Spans) × (ts ≡ dressed f (kinds ts)) = dress any ts in
+    let others : (f : SpansByKinds) × (ts ≡ dressed f (kinds ts)) = dress any ts in
     let n : ℕ = length (kinds ts) in
-    let f : Spans = with_span t.span n others.0 in (
+    let f : SpansByKinds = with_span t.span n others.0 in (
       f,
       ap (λ (x : Span). record { span = x; kind = t.kind } ∷ ts) (sym (same_here t.span (others.0 (kinds ts)) n))
           ∙ ap (λ (us : List Piece). record { span = f (kinds ts); kind = t.kind } ∷ us)

@@ -18,9 +18,9 @@ use Rattle.saphyr_parser.specs.Exactly.{kinds}
 use Rattle.saphyr_parser.specs.Steps.Block.{sequence_node_at, sequence_node, sequence_entry_at, sequence_entry, indentless_node_at, indentless_node, indentless_entry_at, indentless_entry, block_key_node_at, block_key_node, mapping_key_at, mapping_key, block_value_node_at, block_value_node, block_mapping_value_at, block_mapping_value}
 use Rattle.saphyr_parser.specs.WellFormed.{AreWellFormed}
 use Rattle.saphyr_parser.proofs.Told.Telling.{Memory}
-use Rattle.saphyr_parser.proofs.Turned.Following.{Claim, Then, Exactly, IsOptionalOf, IsSkipped, IsValueOf, BlockEntries, BlockPairs, InBlockPairs, AtBlockValue, Follows, IsAlive}
+use Rattle.saphyr_parser.proofs.Turned.Following.{Claim, Then, Exactly, IsOptionalOf, IsSkipped, IsValueOf, BlockEntries, BlockPairs, InBlockPairs, AtBlockValue, MayFollow, IsAlive}
 use Rattle.saphyr_parser.proofs.Turned.Turning.{machine, Turned, behind, regroup, replace, put}
-use Rattle.saphyr_parser.proofs.Turned.Entries.{Wanted, skipped, skip_optional, enter_optional, marked_value, closed, ends}
+use Rattle.saphyr_parser.proofs.Turned.Entries.{Wanted, skipped, skip_optional, enter_optional, marked_value, collection_ends, ends}
 
 -- ## Entries of sequences
 
@@ -48,7 +48,7 @@ one_entry T ks ps h =
 
 node_at_turned : (k : Kind) (sp span : Span) (ts : List Piece) (r : Option Refusal) (x s : State) (ss : List State)
     (e : Memory) → AreWellFormed (record { span = sp; kind = k } ∷ ts) → IsAlive s ss
-    → Turned (Then (IsOptionalOf InBlock) (InEntries (Follows s ss))) e (record { span = sp; kind = k } ∷ ts)
+    → Turned (Then (IsOptionalOf InBlock) (InEntries (MayFollow s ss))) e (record { span = sp; kind = k } ∷ ts)
     (sequence_node_at k span (record { span = sp; kind = k }) (machine ts r x (s ∷ ss) e))
 node_at_turned BlockEntry sp span ts r x s ss e w a =
     skip_optional InBlock _ span ts r x state.BlockSequenceEntry (s ∷ ss) e (tt, a)
@@ -59,7 +59,7 @@ node_at_turned k sp span ts r x s ss e w a =
 
 sequence_node_turned : (span : Span) (ts : List Piece) (r : Option Refusal) (x s : State) (ss : List State) (e : Memory)
     → AreWellFormed ts → IsAlive s ss
-    → Turned (Then (IsOptionalOf InBlock) (InEntries (Follows s ss))) e ts
+    → Turned (Then (IsOptionalOf InBlock) (InEntries (MayFollow s ss))) e ts
     (sequence_node span (machine ts r x (s ∷ ss) e))
 unfolding sequence_node
 sequence_node_turned span [] r x s ss e w a = tt
@@ -67,21 +67,21 @@ sequence_node_turned span (t ∷ ts) r x s ss e w a = node_at_turned t.kind t.sp
 
 sequence_entry_at_turned : (k : Kind) (sp : Span) (ts : List Piece) (r : Option Refusal) (x s : State) (ss : List State)
     (e : Memory) → AreWellFormed ts → IsAlive s ss
-    → Turned (InEntries (Follows s ss)) e (record { span = sp; kind = k } ∷ ts)
+    → Turned (InEntries (MayFollow s ss)) e (record { span = sp; kind = k } ∷ ts)
     (sequence_entry_at k (record { span = sp; kind = k }) (machine ts r x (s ∷ ss) e))
 sequence_entry_at_turned BlockEnd sp ts r x s ss e w a =
-    ends (InEntries (Follows s ss)) _ SequenceEnd CloseSequence sp ts r x s ss e refl refl refl tt refl a
-    (λ ks ps f. closed BlockEntries (Follows s ss) (BlockEnd ∷ []) CloseSequence ks ps (NoNode, refl, refl) f)
+    ends (InEntries (MayFollow s ss)) _ SequenceEnd CloseSequence sp ts r x s ss e refl refl refl tt refl a
+    (λ ks ps f. collection_ends BlockEntries (MayFollow s ss) (BlockEnd ∷ []) CloseSequence ks ps (NoNode, refl, refl) f)
 sequence_entry_at_turned BlockEntry sp ts r x s ss e w a =
-    behind (record { span = sp; kind = BlockEntry }) (Then (IsOptionalOf InBlock) (InEntries (Follows s ss)))
-    (InEntries (Follows s ss)) e ts _ tt
-    (one_entry (Then (Exactly (BlockEnd ∷ []) (CloseSequence ∷ [])) (Follows s ss)))
+    behind (record { span = sp; kind = BlockEntry }) (Then (IsOptionalOf InBlock) (InEntries (MayFollow s ss)))
+    (InEntries (MayFollow s ss)) e ts _ tt
+    (one_entry (Then (Exactly (BlockEnd ∷ []) (CloseSequence ∷ [])) (MayFollow s ss)))
     (sequence_node_turned sp ts r x s ss e w a)
 sequence_entry_at_turned _ sp ts r x s ss e w a = tt
 
 pub sequence_entry_turned : (ts : List Piece) (r : Option Refusal) (x s : State) (ss : List State) (e : Memory)
     → AreWellFormed ts → IsAlive s ss
-    → Turned (InEntries (Follows s ss)) e ts (sequence_entry (machine ts r x (s ∷ ss) e))
+    → Turned (InEntries (MayFollow s ss)) e ts (sequence_entry (machine ts r x (s ∷ ss) e))
 unfolding sequence_entry
 sequence_entry_turned [] r x s ss e w a = tt
 sequence_entry_turned (t ∷ ts) r x s ss e w a = sequence_entry_at_turned t.kind t.span ts r x s ss e w.2 a
@@ -90,7 +90,7 @@ sequence_entry_turned (t ∷ ts) r x s ss e w a = sequence_entry_at_turned t.kin
 
 indentless_at_turned : (k : Kind) (sp span : Span) (ts : List Piece) (r : Option Refusal) (x s : State)
     (ss : List State) (e : Memory) → AreWellFormed (record { span = sp; kind = k } ∷ ts) → IsAlive s ss
-    → Turned (Then (IsOptionalOf InBlock) (InIndentless (Follows s ss))) e (record { span = sp; kind = k } ∷ ts)
+    → Turned (Then (IsOptionalOf InBlock) (InIndentless (MayFollow s ss))) e (record { span = sp; kind = k } ∷ ts)
     (indentless_node_at k span (record { span = sp; kind = k }) (machine ts r x (s ∷ ss) e))
 indentless_at_turned BlockEntry sp span ts r x s ss e w a =
     skip_optional InBlock _ span ts r x state.IndentlessSequenceEntry (s ∷ ss) e (tt, a)
@@ -105,7 +105,7 @@ indentless_at_turned k sp span ts r x s ss e w a =
 
 indentless_node_turned : (span : Span) (ts : List Piece) (r : Option Refusal) (x s : State) (ss : List State)
     (e : Memory) → AreWellFormed ts → IsAlive s ss
-    → Turned (Then (IsOptionalOf InBlock) (InIndentless (Follows s ss))) e ts
+    → Turned (Then (IsOptionalOf InBlock) (InIndentless (MayFollow s ss))) e ts
     (indentless_node span (machine ts r x (s ∷ ss) e))
 unfolding indentless_node
 indentless_node_turned span [] r x s ss e w a = tt
@@ -116,9 +116,9 @@ entry_at_turned : (k : Kind) (sp : Span) (ts : List Piece) (r : Option Refusal) 
     → Turned (Wanted state.IndentlessSequenceEntry (s ∷ ss) (k ∷ kinds ts)) e (record { span = sp; kind = k } ∷ ts)
     (indentless_entry_at k (record { span = sp; kind = k }) (machine ts r x (s ∷ ss) e))
 entry_at_turned BlockEntry sp ts r x s ss e w a =
-    behind (record { span = sp; kind = BlockEntry }) (Then (IsOptionalOf InBlock) (InIndentless (Follows s ss)))
+    behind (record { span = sp; kind = BlockEntry }) (Then (IsOptionalOf InBlock) (InIndentless (MayFollow s ss)))
     (Wanted state.IndentlessSequenceEntry (s ∷ ss) (BlockEntry ∷ kinds ts)) e ts _ tt
-    (λ ks ps h. (one_entry (Then (Exactly [] (CloseSequence ∷ [])) (Follows s ss)) ks ps h, λ b. tt))
+    (λ ks ps h. (one_entry (Then (Exactly [] (CloseSequence ∷ [])) (MayFollow s ss)) ks ps h, λ b. tt))
     (indentless_node_turned sp ts r x s ss e w a)
 entry_at_turned k sp ts r x s ss e w a =
     record {
@@ -135,7 +135,7 @@ entry_at_turned k sp ts r x s ss e w a =
       alive =
           a;
       makes = λ ks ps f b. (
-        closed BlockEntries (Follows s ss) [] CloseSequence ks ps (NoNode, refl, refl) f,
+        collection_ends BlockEntries (MayFollow s ss) [] CloseSequence ks ps (NoNode, refl, refl) f,
         λ c.
             absurd c,
       );
@@ -266,7 +266,7 @@ keyless R ks ps (inl v) b =
 
 key_at_turned : (k : Kind) (sp : Span) (ts : List Piece) (r : Option Refusal) (x s : State) (ss : List State)
     (e : Memory) → AreWellFormed (record { span = sp; kind = k } ∷ ts) → IsAlive s ss
-    → Turned (Then (IsOptionalOf InBlockMapping) (AtBlockValue (Follows s ss))) e (record { span = sp; kind = k } ∷ ts)
+    → Turned (Then (IsOptionalOf InBlockMapping) (AtBlockValue (MayFollow s ss))) e (record { span = sp; kind = k } ∷ ts)
     (block_key_node_at k (record { span = sp; kind = k }) (machine ts r x (s ∷ ss) e))
 key_at_turned Key sp ts r x s ss e w a =
     skip_optional InBlockMapping _ sp ts r x state.BlockMappingValue (s ∷ ss) e (tt, a)
@@ -278,7 +278,7 @@ key_at_turned k sp ts r x s ss e w a =
     enter_optional BlockMapping (record { span = sp; kind = k }) ts r x state.BlockMappingValue (s ∷ ss) e w tt (tt, a)
 
 key_turned : (ts : List Piece) (r : Option Refusal) (x s : State) (ss : List State) (e : Memory) → AreWellFormed ts
-    → IsAlive s ss → Turned (Then (IsOptionalOf InBlockMapping) (AtBlockValue (Follows s ss))) e ts
+    → IsAlive s ss → Turned (Then (IsOptionalOf InBlockMapping) (AtBlockValue (MayFollow s ss))) e ts
     (block_key_node (machine ts r x (s ∷ ss) e))
 unfolding block_key_node
 key_turned [] r x s ss e w a = tt
@@ -289,16 +289,16 @@ mapping_key_at_turned : (k : Kind) (sp : Span) (ts : List Piece) (r : Option Ref
     → Turned (Wanted state.BlockMappingKey (s ∷ ss) (k ∷ kinds ts)) e (record { span = sp; kind = k } ∷ ts)
     (mapping_key_at k (record { span = sp; kind = k }) (machine ts r x (s ∷ ss) e))
 mapping_key_at_turned Key sp ts r x s ss e w a =
-    behind (record { span = sp; kind = Key }) (Then (IsOptionalOf InBlockMapping) (AtBlockValue (Follows s ss)))
+    behind (record { span = sp; kind = Key }) (Then (IsOptionalOf InBlockMapping) (AtBlockValue (MayFollow s ss)))
     (Wanted state.BlockMappingKey (s ∷ ss) (Key ∷ kinds ts)) e ts _ tt
-    (λ ks ps h. (keyed (Follows s ss) ks ps h, λ b. absurd b)) (key_turned ts r x s ss e w a)
+    (λ ks ps h. (keyed (MayFollow s ss) ks ps h, λ b. absurd b)) (key_turned ts r x s ss e w a)
 mapping_key_at_turned Value sp ts r x s ss e w a =
     skipped (Wanted state.BlockMappingKey (s ∷ ss) (Value ∷ kinds ts)) (record { span = sp; kind = Value }) sp ts r x
-    state.BlockMappingValue (s ∷ ss) e (tt, a) (λ ks ps f b. (keyless (Follows s ss) ks ps f (b tt), λ c. tt))
+    state.BlockMappingValue (s ∷ ss) e (tt, a) (λ ks ps f b. (keyless (MayFollow s ss) ks ps f (b tt), λ c. tt))
 mapping_key_at_turned BlockEnd sp ts r x s ss e w a =
     ends (Wanted state.BlockMappingKey (s ∷ ss) (BlockEnd ∷ kinds ts)) _ MappingEnd CloseMapping sp ts r x s ss e refl
     refl refl tt refl a (λ ks ps f.
-    (closed BlockPairs (Follows s ss) (BlockEnd ∷ []) CloseMapping ks ps (NoPair, refl, refl) f, λ c. absurd c))
+    (collection_ends BlockPairs (MayFollow s ss) (BlockEnd ∷ []) CloseMapping ks ps (NoPair, refl, refl) f, λ c. absurd c))
 mapping_key_at_turned _ sp ts r x s ss e w a = tt
 
 pub mapping_key_turned : (ts : List Piece) (r : Option Refusal) (x s : State) (ss : List State) (e : Memory)
@@ -310,7 +310,7 @@ mapping_key_turned (t ∷ ts) r x s ss e w a = mapping_key_at_turned t.kind t.sp
 
 value_at_turned : (k : Kind) (sp span : Span) (ts : List Piece) (r : Option Refusal) (x s : State) (ss : List State)
     (e : Memory) → AreWellFormed (record { span = sp; kind = k } ∷ ts) → IsAlive s ss
-    → Turned (Then (IsOptionalOf InBlockMapping) (InBlockPairs (Follows s ss))) e (record { span = sp; kind = k } ∷ ts)
+    → Turned (Then (IsOptionalOf InBlockMapping) (InBlockPairs (MayFollow s ss))) e (record { span = sp; kind = k } ∷ ts)
     (block_value_node_at k span (record { span = sp; kind = k }) (machine ts r x (s ∷ ss) e))
 value_at_turned Key sp span ts r x s ss e w a =
     skip_optional InBlockMapping _ span ts r x state.BlockMappingKey (s ∷ ss) e (tt, a)
@@ -323,7 +323,7 @@ value_at_turned k sp span ts r x s ss e w a =
 
 value_turned : (span : Span) (ts : List Piece) (r : Option Refusal) (x s : State) (ss : List State) (e : Memory)
     → AreWellFormed ts → IsAlive s ss
-    → Turned (Then (IsOptionalOf InBlockMapping) (InBlockPairs (Follows s ss))) e ts
+    → Turned (Then (IsOptionalOf InBlockMapping) (InBlockPairs (MayFollow s ss))) e ts
     (block_value_node span (machine ts r x (s ∷ ss) e))
 unfolding block_value_node
 value_turned span [] r x s ss e w a = tt
@@ -334,9 +334,9 @@ mapping_value_at_turned : (k : Kind) (sp : Span) (ts : List Piece) (r : Option R
     → Turned (Wanted state.BlockMappingValue (s ∷ ss) (k ∷ kinds ts)) e (record { span = sp; kind = k } ∷ ts)
     (block_mapping_value_at k (record { span = sp; kind = k }) (machine ts r x (s ∷ ss) e))
 mapping_value_at_turned Value sp ts r x s ss e w a =
-    behind (record { span = sp; kind = Value }) (Then (IsOptionalOf InBlockMapping) (InBlockPairs (Follows s ss)))
+    behind (record { span = sp; kind = Value }) (Then (IsOptionalOf InBlockMapping) (InBlockPairs (MayFollow s ss)))
     (Wanted state.BlockMappingValue (s ∷ ss) (Value ∷ kinds ts)) e ts _ tt
-    (λ ks ps h. (inl (marked_value InBlockMapping (InBlockPairs (Follows s ss)) ks ps h), λ b. tt))
+    (λ ks ps h. (inl (marked_value InBlockMapping (InBlockPairs (MayFollow s ss)) ks ps h), λ b. tt))
     (value_turned sp ts r x s ss e w a)
 mapping_value_at_turned k sp ts r x s ss e w a =
     skipped (Wanted state.BlockMappingValue (s ∷ ss) (k ∷ kinds ts)) (record { span = sp; kind = k }) sp ts r x
@@ -344,7 +344,7 @@ mapping_value_at_turned k sp ts r x s ss e w a =
     (λ ks ps f b. (
       inr (
         b,
-        put IsSkipped (InBlockPairs (Follows s ss)) [] (node_parts forest.left_out) ks ps
+        put IsSkipped (InBlockPairs (MayFollow s ss)) [] (node_parts forest.left_out) ks ps
             (refl, refl) f,
       ),
       λ c. absurd c,

@@ -61,7 +61,7 @@ declaring_machine ds rest m =
     record m { tokens = record { pieces = rest; refusal = m.tokens.refusal }; prefixes = declaring ds m.prefixes }
 
 -- directives, and the token behind them
-pub record Passed (ts : List Piece) (d : Declared) (m : Machine) (u : Piece) (n : Machine) : Type 0 where
+pub record PassesDirectives (ts : List Piece) (d : Declared) (m : Machine) (u : Piece) (n : Machine) : Type 0 where
   pub directives : List Directive
   pub used : List Piece
   pub rest : List Piece
@@ -72,7 +72,7 @@ pub record Passed (ts : List Piece) (d : Declared) (m : Machine) (u : Piece) (n 
   pub leaves : n ≡ declaring_machine directives rest m
 
 abbrev pub PassedBy : List Piece → Declared → Machine → Result (Piece × Machine) Refusal → Type 0
-PassedBy ts d m (Ok x) = Passed ts d m x.0 x.1
+PassedBy ts d m (Ok x) = PassesDirectives ts d m x.0 x.1
 PassedBy ts d m (Err f) = Unit {0}
 
 nothing_passed : (t : Piece) (ts : List Piece) (d : Declared) (m : Machine)

@@ -26,7 +26,7 @@ use Rattle.saphyr_parser.proofs.Turned.Following.{Then, IsNodeOf, IsOptionalOf, 
 use Rattle.saphyr_parser.proofs.Turned.Turning.{machine, Goes, Turned, weaker, behind}
 use Rattle.saphyr_parser.proofs.Turned.Content.{split, taken_one}
 use Rattle.saphyr_parser.proofs.Turned.Entries.{Wanted}
-use Rattle.saphyr_parser.proofs.Turned.Directives.{Passed, PassedBy, directives_passed}
+use Rattle.saphyr_parser.proofs.Turned.Directives.{PassesDirectives, PassedBy, directives_passed}
 
 -- ## A step that may be the last
 
@@ -39,18 +39,18 @@ pub record Over (F : List Kind → List Part → Type 0) (e : Memory) (k : List 
   pub places : HasOwn k x.what x.span []
   pub makes : F (kinds k) (part ∷ [])
 
-abbrev pub Moves : (List Kind → List Part → Type 0) → Memory → List Piece → Result Told Refusal → Type 0
-Moves F e k (Ok x) = Goes F e k x ⊎ Over F e k x
-Moves F e k (Err f) = Unit {0}
+abbrev pub MovesOn : (List Kind → List Part → Type 0) → Memory → List Piece → Result Told Refusal → Type 0
+MovesOn F e k (Ok x) = Goes F e k x ⊎ Over F e k x
+MovesOn F e k (Err f) = Unit {0}
 
 pub moves : (F : List Kind → List Part → Type 0) (e : Memory) (k : List Piece) (r : Result Told Refusal)
-    → Turned F e k r → Moves F e k r
+    → Turned F e k r → MovesOn F e k r
 moves F e k (Ok x) h = inl h
 moves F e k (Err f) h = tt
 
 behind_moves : (t : Piece) (F G : List Kind → List Part → Type 0) (e : Memory) (k : List Piece)
     (r : Result Told Refusal) → BelongsToNone t.kind
-    → ((ks : List Kind) (ps : List Part) → F ks ps → G (t.kind ∷ ks) ps) → Moves F e k r → Moves G e (t ∷ k) r
+    → ((ks : List Kind) (ps : List Part) → F ks ps → G (t.kind ∷ ks) ps) → MovesOn F e k r → MovesOn G e (t ∷ k) r
 behind_moves t F G e k (Ok x) b i (inl h) = inl (behind t F G e k (Ok x) b i h)
 behind_moves t F G e k (Ok x) b i (inr h) =
     inr (record {
@@ -72,14 +72,14 @@ passing : (p : Kind → Bool) (G : List Kind → List Kind → List Part → Typ
     → ((k : Kind) → p k ≡ true → BelongsToNone k)
     → ((k : Kind) (ahead ks : List Kind) (ps : List Part) → p k ≡ true → G ahead ks ps → G (k ∷ ahead) (k ∷ ks) ps)
     → ((t : Piece) (us : List Piece) → AreWellFormed (t ∷ us)
-    → Moves (G (kinds (t ∷ us))) e (t ∷ us) (go (t, with_pieces us m)))
-    → Moves (G (kinds ts)) e ts (unpassed_token_from p ts m >>= go)
+    → MovesOn (G (kinds (t ∷ us))) e (t ∷ us) (go (t, with_pieces us m)))
+    → MovesOn (G (kinds ts)) e ts (unpassed_token_from p ts m >>= go)
 passing p G e [] m go w free join here = tt
 passing p G e (t ∷ ts) m go w free join here =
     by (p t.kind) refl (passing p G e ts (with_pieces ts m) go w.2 free join here)
   where
-    by : (b : Bool) → p t.kind ≡ b → Moves (G (kinds ts)) e ts (unpassed_token_from p ts (with_pieces ts m) >>= go)
-        → Moves (G (kinds (t ∷ ts))) e (t ∷ ts)
+    by : (b : Bool) → p t.kind ≡ b → MovesOn (G (kinds ts)) e ts (unpassed_token_from p ts (with_pieces ts m) >>= go)
+        → MovesOn (G (kinds (t ∷ ts))) e (t ∷ ts)
         ((if b then unpassed_token_from p ts (with_pieces ts m) else Ok (t, with_pieces ts m)) >>= go)
     by true y h =
         behind_moves t (G (kinds ts)) (G (kinds (t ∷ ts))) e ts (unpassed_token_from p ts (with_pieces ts m) >>= go)
@@ -154,7 +154,7 @@ explicit_makes ts ds used rest u ks ps e q k c h =
     )
 
 explicit_at_turned : (k : Kind) (sp : Span) (n : Machine) (ts : List Piece) (r : Option Refusal) (x : State)
-    (e : Memory) → Passed ts none_declared (machine ts r x [] e) (record { span = sp; kind = k }) n
+    (e : Memory) → PassesDirectives ts none_declared (machine ts r x [] e) (record { span = sp; kind = k }) n
     → Turned (Explicit (kinds ts)) e ts (explicit_document_at k (record { span = sp; kind = k }) n)
 explicit_at_turned tokens.DocumentStart sp n ts r x e h =
     subst (λ (m : Machine). Turned (Explicit (kinds ts)) e ts
@@ -301,7 +301,7 @@ stream_over F t us x e n k w o f = record {
 
 implicit_at_moves : (k : Kind) (sp : Span) (us : List Piece) (r : Option Refusal) (x : State) (e : Memory)
     → AreWellFormed (record { span = sp; kind = k } ∷ us)
-    → Moves (Wanted state.ImplicitDocumentStart [] (k ∷ kinds us)) e (record { span = sp; kind = k } ∷ us)
+    → MovesOn (Wanted state.ImplicitDocumentStart [] (k ∷ kinds us)) e (record { span = sp; kind = k } ∷ us)
     (implicit_start_at k (record { span = sp; kind = k }) (machine us r x [] e))
 implicit_at_moves tokens.StreamEnd sp us r x e w =
     inr (stream_over (Wanted state.ImplicitDocumentStart [] (tokens.StreamEnd ∷ kinds us))
@@ -334,7 +334,7 @@ implicit_pass k ahead ks ps y h =
     ((f.0, k ∷ f.1, f.2, (end_or_mark k y, f.3), f.4, ap (λ (l : List Kind). k ∷ l) f.5, f.6), tt)
 
 pub implicit_moves : (ts : List Piece) (r : Option Refusal) (x : State) (e : Memory) → AreWellFormed ts
-    → Moves (Wanted state.ImplicitDocumentStart [] (kinds ts)) e ts (implicit_start (machine ts r x [] e))
+    → MovesOn (Wanted state.ImplicitDocumentStart [] (kinds ts)) e ts (implicit_start (machine ts r x [] e))
 unfolding implicit_start unpassed_token
 implicit_moves ts r x e w =
     passing is_end_or_mark (Wanted state.ImplicitDocumentStart []) e ts (machine ts r x [] e) _ w is_passed
@@ -348,7 +348,7 @@ explicit_next ahead ks ps h = ((h.0, [], ks, tt, h.1, refl, h.2), h.3)
 
 explicit_at_moves : (k : Kind) (sp : Span) (us : List Piece) (r : Option Refusal) (x : State) (e : Memory)
     → AreWellFormed (record { span = sp; kind = k } ∷ us)
-    → Moves (Wanted state.DocumentStart [] (k ∷ kinds us)) e (record { span = sp; kind = k } ∷ us)
+    → MovesOn (Wanted state.DocumentStart [] (k ∷ kinds us)) e (record { span = sp; kind = k } ∷ us)
     (explicit_start_at k (record { span = sp; kind = k }) (machine us r x [] e))
 explicit_at_moves tokens.StreamEnd sp us r x e w =
     inr (stream_over (Wanted state.DocumentStart [] (tokens.StreamEnd ∷ kinds us))
@@ -374,7 +374,7 @@ explicit_pass k ahead ks ps y h =
     )
 
 pub explicit_moves : (ts : List Piece) (r : Option Refusal) (x : State) (e : Memory) → AreWellFormed ts
-    → Moves (Wanted state.DocumentStart [] (kinds ts)) e ts (explicit_start (machine ts r x [] e))
+    → MovesOn (Wanted state.DocumentStart [] (kinds ts)) e ts (explicit_start (machine ts r x [] e))
 unfolding explicit_start unpassed_token
 explicit_moves ts r x e w =
     passing is_end_or_mark (Wanted state.DocumentStart []) e ts (machine ts r x [] e) _ w is_passed explicit_pass

@@ -133,9 +133,9 @@ Outside state.DocumentEnd ks ps =
 Outside _ ks ps = ⊥
 
 -- what may follow in a state, with the states behind it
-abbrev pub Follows : State → List State → List Kind → List Part → Type 0
-Follows s [] = Outside s
-Follows s (other ∷ others) = Behind s (Follows other others)
+abbrev pub MayFollow : State → List State → List Kind → List Part → Type 0
+MayFollow s [] = Outside s
+MayFollow s (other ∷ others) = Behind s (MayFollow other others)
 
 -- ## Which states follow which
 
@@ -146,17 +146,17 @@ IsOutside state.DocumentStart = Unit {0}
 IsOutside state.DocumentEnd = Unit {0}
 IsOutside _ = ⊥
 
-abbrev pub IsInside : State → Type 0
-IsInside state.StreamStart = ⊥
-IsInside state.ImplicitDocumentStart = ⊥
-IsInside state.DocumentStart = ⊥
-IsInside state.DocumentEnd = ⊥
-IsInside state.End = ⊥
-IsInside _ = Unit {0}
+abbrev pub IsInsideDocument : State → Type 0
+IsInsideDocument state.StreamStart = ⊥
+IsInsideDocument state.ImplicitDocumentStart = ⊥
+IsInsideDocument state.DocumentStart = ⊥
+IsInsideDocument state.DocumentEnd = ⊥
+IsInsideDocument state.End = ⊥
+IsInsideDocument _ = Unit {0}
 
 abbrev pub IsAlive : State → List State → Type 0
 IsAlive s [] = IsOutside s
-IsAlive s (other ∷ others) = IsInside s × IsAlive other others
+IsAlive s (other ∷ others) = IsInsideDocument s × IsAlive other others
 
 -- ## How what follows begins, where tokens that aren't read tell it
 

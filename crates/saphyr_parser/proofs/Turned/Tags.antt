@@ -23,7 +23,7 @@ use Rattle.saphyr_parser.proofs.Told.Nodes.{handle_is_some, has_handle}
 use Rattle.saphyr_parser.proofs.Remembering.{resolve}
 
 -- the token's tag is resolved to this
-pub record Stands (names : Names (List ℕ)) (handle suffix : List ℕ) (v : ResolvedTag) : Type 0 where
+pub record ResolvesTo (names : Names (List ℕ)) (handle suffix : List ℕ) (v : ResolvedTag) : Type 0 where
   pub tag : Tag
   pub token : tokens.Tag handle suffix ≡ tag_token tag
   pub resolves : resolve names tag ≡ Some v
@@ -62,7 +62,7 @@ prefix_found None (Err f) d suffix v h e = absurd (cc)
 shorthand : (handle : Handle) (suffix : List ℕ) (names : Names (List ℕ)) (place : Marker) (v : ResolvedTag)
     → ((prefix : List ℕ) → undeclared_prefix (handle_bytes handle) place ≡ Ok prefix → default_prefix handle ≡ Some prefix)
     → resolved_tag_at names (handle_bytes handle) (encode_utf8_all suffix) place ≡ Ok v
-    → Stands names (handle_bytes handle) (encode_utf8_all suffix) v
+    → ResolvesTo names (handle_bytes handle) (encode_utf8_all suffix) v
 unfolding resolved_tag_at
 shorthand handle suffix names place v h e = record {
   tag = Shorthand handle suffix;
@@ -99,12 +99,12 @@ refuses place handle prefix a b h =
 named_stands : (word suffix : List ℕ) (names : Names (List ℕ)) (place : Marker) (v : ResolvedTag) (b : Bool)
     → bytes_eq (handle_bytes (Named word)) (codes "!!") ≡ b
     → resolved_tag_at names (handle_bytes (Named word)) (encode_utf8_all suffix) place ≡ Ok v
-    → Stands names (handle_bytes (Named word)) (encode_utf8_all suffix) v
+    → ResolvesTo names (handle_bytes (Named word)) (encode_utf8_all suffix) v
 named_stands word suffix names place v true q e =
     let same : handle_bytes Secondary ≡ handle_bytes (Named word) =
     secondary_bytes ∙ sym ((bytes_eq-Decides (handle_bytes (Named word)) (codes "!!")).0 q) in
     subst (λ (h : List ℕ). resolved_tag_at names h (encode_utf8_all suffix) place ≡ Ok v
-    → Stands names h (encode_utf8_all suffix) v) same
+    → ResolvesTo names h (encode_utf8_all suffix) v) same
     (shorthand Secondary suffix names place v (secondary_default place)) e
 named_stands word suffix names place v false q e =
     shorthand (Named word) suffix names place v
@@ -133,7 +133,7 @@ same : (a b : ResolvedTag) → (let r : Result ResolvedTag Refusal = Ok a in r) 
 same a b h = cc
 
 tag_stands : (tag : Tag) (names : Names (List ℕ)) (place : Marker) (v : ResolvedTag)
-    → resolved_tag_at names (front tag) (back tag) place ≡ Ok v → Stands names (front tag) (back tag) v
+    → resolved_tag_at names (front tag) (back tag) place ≡ Ok v → ResolvesTo names (front tag) (back tag) v
 unfolding resolved_tag_at declared_prefix
 tag_stands NonSpecific names place v e = record { tag = NonSpecific; token = refl; resolves = same _ v e }
 tag_stands (Verbatim uri) names place v e = record { tag = Verbatim uri; token = refl; resolves = same _ v e }
@@ -148,10 +148,10 @@ tag_parts a b c d e = ((cc), (cc))
 
 pub stands : (names : Names (List ℕ)) (handle suffix : List ℕ) (place : Marker) (v : ResolvedTag)
     → (tag : Tag) × (tokens.Tag handle suffix ≡ tag_token tag) → resolved_tag_at names handle suffix place ≡ Ok v
-    → Stands names handle suffix v
+    → ResolvesTo names handle suffix v
 stands names handle suffix place v h e =
     let parts : (handle ≡ front h.0) × (suffix ≡ back h.0) = tag_parts handle suffix (front h.0) (back h.0)
     (h.1 ∙ sym (token_is h.0)) in
-    subst (λ (x : List ℕ). resolved_tag_at names x suffix place ≡ Ok v → Stands names x suffix v) (sym parts.0)
-    (subst (λ (y : List ℕ). resolved_tag_at names (front h.0) y place ≡ Ok v → Stands names (front h.0) y v) (sym parts.1)
+    subst (λ (x : List ℕ). resolved_tag_at names x suffix place ≡ Ok v → ResolvesTo names x suffix v) (sym parts.0)
+    (subst (λ (y : List ℕ). resolved_tag_at names (front h.0) y place ≡ Ok v → ResolvesTo names (front h.0) y v) (sym parts.1)
     (tag_stands h.0 names place v)) e

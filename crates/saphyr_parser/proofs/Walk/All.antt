@@ -13,19 +13,19 @@ use Rattle.saphyr_parser.specs.Events.{Happening}
 use Rattle.saphyr_parser.specs.Steps.Machine.{Machine, Told}
 use Rattle.saphyr_parser.specs.Steps.Expected.{block_node, event_step, event_step_at}
 use Rattle.saphyr_parser.specs.Answer.{Answer, Ending, answer_of_step, ending_of, answer_unless_ended, answer_of_steps, weight_before}
-use Rattle.saphyr_parser.proofs.Walk.Steps.{Walk, HasPlace, Of, Stands, Gives, taken}
+use Rattle.saphyr_parser.proofs.Walk.Steps.{Walk, HasPlace, Of, StandsBetween, StepGives, taken}
 use Rattle.saphyr_parser.proofs.Walk.Nodes.{nodes}
 use Rattle.saphyr_parser.proofs.Walk.Block as block
 use Rattle.saphyr_parser.proofs.Walk.Flow as flow
 use Rattle.saphyr_parser.proofs.Walk.Documents as document
 
 module _ (w : Walk) where
-  block_nodes : {low : Marker} (m : Machine) → Of w low 10 m → Gives w (block_node m)
+  block_nodes : {low : Marker} (m : Machine) → Of w low 10 m → StepGives w (block_node m)
   unfolding block_node
   block_nodes m a = taken w m _ a (λ t k b. nodes w Block t k (omega arith) b)
 
   pub steps_at : {low : Marker} (s : State) (m : Machine) → s ≢ state.End → HasPlace w.Spans s
-      → Of w low (9 + weight_before s m.tokens.pieces) m → Gives w (event_step_at s m)
+      → Of w low (9 + weight_before s m.tokens.pieces) m → StepGives w (event_step_at s m)
   steps_at state.StreamStart m n p a = document.stream_starts w m a
   steps_at state.ImplicitDocumentStart m n p a = document.implicit_starts w m a
   steps_at state.DocumentStart m n p a = document.explicit_starts w m a
@@ -70,8 +70,8 @@ module _ (w : Walk) where
   unless_over state.End a h = nothing
   unless_over _ a h = h (λ e. absurd (cc))
 
-  delivers : (r : Result Told Refusal) (go : Machine → Answer) → Gives w r
-      → ((m : Machine) → Stands w m → Holds (go m)) → Holds (answer_of_step r go)
+  delivers : (r : Result Told Refusal) (go : Machine → Answer) → StepGives w r
+      → ((m : Machine) → StandsBetween w m → Holds (go m)) → Holds (answer_of_step r go)
   delivers (Err f) go g h =
       record { spans = All-nil (λ (e : Happening × Span). w.Spans e.1.start e.1.end); fault = (f, refl, g) }
   delivers (Ok x) go g h =
@@ -82,7 +82,7 @@ module _ (w : Walk) where
         fault = rest.fault;
       }
 
-  pub runs : Resumes → (n : ℕ) (m : Machine) → Stands w m → Holds (answer_of_steps n m)
+  pub runs : Resumes → (n : ℕ) (m : Machine) → StandsBetween w m → Holds (answer_of_steps n m)
   unfolding event_step
   runs go zero m s = nothing
   runs go (suc n) m s =

@@ -10,36 +10,36 @@ use Rattle.saphyr_parser.specs.declared.parser.state.State.TheVariants as state
 use Rattle.saphyr_parser.specs.Steps.Machine.{◌>>=◌, Machine, put_back, taken_token_from, with_pieces, left_out_event}
 use Rattle.saphyr_parser.specs.Steps.Block.{sequence_node, sequence_node_at, sequence_entry, sequence_entry_at, indentless_node, indentless_node_at, indentless_entry, indentless_entry_at, block_key_node, block_key_node_at, mapping_key, mapping_key_at, block_value_node, block_value_node_at, block_mapping_value, block_mapping_value_at}
 use Rattle.saphyr_parser.specs.Answer.{is_value, begins_with_value}
-use Rattle.saphyr_parser.proofs.Walk.Steps.{Walk, On, Of, Taken, Gives, own, refused, first, put, behind, left, leaves_out, taken}
+use Rattle.saphyr_parser.proofs.Walk.Steps.{Walk, On, Of, Taken, StepGives, own, refused, first, put, behind, left, leaves_out, taken}
 use Rattle.saphyr_parser.proofs.Walk.Nodes.{insides}
 
 module _ (w : Walk) where
   -- ## Sequences
 
   sequence_nodes_at : (k : Kind) (s : Span) (t : Piece) (m : Machine) → w.Spans s.start s.end → Taken w 11 k t m
-      → Gives w (sequence_node_at k s t m)
+      → StepGives w (sequence_node_at k s t m)
   sequence_nodes_at BlockEntry s t m i a = leaves_out w t state.BlockSequenceEntry s m tt (omega arith) i a
   sequence_nodes_at BlockEnd s t m i a = leaves_out w t state.BlockSequenceEntry s m tt (omega arith) i a
   sequence_nodes_at _ s t m i a = insides w state.BlockSequenceEntry Block t m tt (omega arith) a
 
   sequence_nodes : {low : Marker} (s : Span) (m : Machine) → w.Spans s.start s.end → Of w low 11 m
-      → Gives w (sequence_node s m)
+      → StepGives w (sequence_node s m)
   unfolding sequence_node
   sequence_nodes s m i a = taken w m _ a (λ t k b. sequence_nodes_at t.kind s t k i b)
 
-  sequence_entries_at : (k : Kind) (t : Piece) (m : Machine) → Taken w 10 k t m → Gives w (sequence_entry_at k t m)
+  sequence_entries_at : (k : Kind) (t : Piece) (m : Machine) → Taken w 10 k t m → StepGives w (sequence_entry_at k t m)
   sequence_entries_at BlockEnd t m a = (own w m a, left w m (behind w m refl (omega arith) a))
   sequence_entries_at BlockEntry t m a = sequence_nodes t.span m (own w m a) (behind w m refl (omega arith) a)
   sequence_entries_at _ t m a = refused w m a
 
-  pub sequence_entries : {low : Marker} (m : Machine) → Of w low 10 m → Gives w (sequence_entry m)
+  pub sequence_entries : {low : Marker} (m : Machine) → Of w low 10 m → StepGives w (sequence_entry m)
   unfolding sequence_entry
   sequence_entries m a = taken w m _ a (λ t k b. sequence_entries_at t.kind t k b)
 
   -- ## Sequences at the column of the mapping around them
 
   indentless_nodes_at : (k : Kind) (s : Span) (t : Piece) (m : Machine) → w.Spans s.start s.end → Taken w 11 k t m
-      → Gives w (indentless_node_at k s t m)
+      → StepGives w (indentless_node_at k s t m)
   indentless_nodes_at BlockEntry s t m i a =
       leaves_out w t state.IndentlessSequenceEntry s m tt (omega arith) i a
   indentless_nodes_at Key s t m i a = leaves_out w t state.IndentlessSequenceEntry s m tt (omega arith) i a
@@ -48,33 +48,33 @@ module _ (w : Walk) where
   indentless_nodes_at _ s t m i a = insides w state.IndentlessSequenceEntry Block t m tt (omega arith) a
 
   indentless_nodes : {low : Marker} (s : Span) (m : Machine) → w.Spans s.start s.end → Of w low 11 m
-      → Gives w (indentless_node s m)
+      → StepGives w (indentless_node s m)
   unfolding indentless_node
   indentless_nodes s m i a = taken w m _ a (λ t k b. indentless_nodes_at t.kind s t k i b)
 
-  indentless_entries_at : (k : Kind) (t : Piece) (m : Machine) → Taken w 10 k t m → Gives w (indentless_entry_at k t m)
+  indentless_entries_at : (k : Kind) (t : Piece) (m : Machine) → Taken w 10 k t m → StepGives w (indentless_entry_at k t m)
   indentless_entries_at BlockEntry t m a = indentless_nodes t.span m (own w m a) (behind w m refl (omega arith) a)
   indentless_entries_at _ t m a = (own w m a, left w (put_back t m) (put w m (omega arith) a))
 
-  pub indentless_entries : {low : Marker} (m : Machine) → Of w low 10 m → Gives w (indentless_entry m)
+  pub indentless_entries : {low : Marker} (m : Machine) → Of w low 10 m → StepGives w (indentless_entry m)
   unfolding indentless_entry
   indentless_entries m a = taken w m _ a (λ t k b. indentless_entries_at t.kind t k b)
 
   -- ## Mappings
 
-  key_nodes_at : (k : Kind) (t : Piece) (m : Machine) → Taken w 13 k t m → Gives w (block_key_node_at k t m)
+  key_nodes_at : (k : Kind) (t : Piece) (m : Machine) → Taken w 13 k t m → StepGives w (block_key_node_at k t m)
   key_nodes_at Key t m a = leaves_out w t state.BlockMappingValue t.span m tt (omega arith) (own w m a) a
   key_nodes_at Value t m a = leaves_out w t state.BlockMappingValue t.span m tt (omega arith) (own w m a) a
   key_nodes_at BlockEnd t m a = leaves_out w t state.BlockMappingValue t.span m tt (omega arith) (own w m a) a
   key_nodes_at _ t m a = insides w state.BlockMappingValue BlockMapping t m tt (omega arith) a
 
-  key_nodes : {low : Marker} (m : Machine) → Of w low 13 m → Gives w (block_key_node m)
+  key_nodes : {low : Marker} (m : Machine) → Of w low 13 m → StepGives w (block_key_node m)
   unfolding block_key_node
   key_nodes m a = taken w m _ a (λ t k b. key_nodes_at t.kind t k b)
 
   -- a key that is left out before a value takes more of the room
   mapping_keys_at : (k : Kind) (t : Piece) (m : Machine) → Taken w (9 + (if is_value k then 3 else 1)) k t m
-      → Gives w (mapping_key_at k t m)
+      → StepGives w (mapping_key_at k t m)
   mapping_keys_at Key t m a = key_nodes m (behind w m refl (omega arith) a)
   mapping_keys_at Value t m a = leaves_out w t state.BlockMappingValue t.span m tt (omega arith) (own w m a) a
   mapping_keys_at BlockEnd t m a = (own w m a, left w m (behind w m refl (omega arith) a))
@@ -82,30 +82,30 @@ module _ (w : Walk) where
 
   keys_from : {low : Marker} (ts : List Piece) (m : Machine)
       → On w low (9 + (if begins_with_value ts then 3 else 1)) m.tokens.refusal ts m.states
-      → Gives w (taken_token_from ts m >>= (λ t. mapping_key_at t.0.kind t.0 t.1))
+      → StepGives w (taken_token_from ts m >>= (λ t. mapping_key_at t.0.kind t.0 t.1))
   keys_from [] m a = w.nothing _ _ _ a.pieces
   keys_from (t ∷ ts) m a = mapping_keys_at t.kind t (with_pieces ts m) (first w t ts m a)
 
   pub mapping_keys : {low : Marker} (m : Machine)
-      → Of w low (9 + (if begins_with_value m.tokens.pieces then 3 else 1)) m → Gives w (mapping_key m)
+      → Of w low (9 + (if begins_with_value m.tokens.pieces then 3 else 1)) m → StepGives w (mapping_key m)
   unfolding mapping_key
   mapping_keys m a = keys_from m.tokens.pieces m a
 
   value_nodes_at : (k : Kind) (s : Span) (t : Piece) (m : Machine) → w.Spans s.start s.end → Taken w 14 k t m
-      → Gives w (block_value_node_at k s t m)
+      → StepGives w (block_value_node_at k s t m)
   value_nodes_at Key s t m i a = leaves_out w t state.BlockMappingKey s m tt (omega arith) i a
   value_nodes_at Value s t m i a = leaves_out w t state.BlockMappingKey s m tt (omega arith) i a
   value_nodes_at BlockEnd s t m i a = leaves_out w t state.BlockMappingKey s m tt (omega arith) i a
   value_nodes_at _ s t m i a = insides w state.BlockMappingKey BlockMapping t m tt (omega arith) a
 
   value_nodes : {low : Marker} (s : Span) (m : Machine) → w.Spans s.start s.end → Of w low 14 m
-      → Gives w (block_value_node s m)
+      → StepGives w (block_value_node s m)
   unfolding block_value_node
   value_nodes s m i a = taken w m _ a (λ t k b. value_nodes_at t.kind s t k i b)
 
   -- a key behind a token that is no value
   left_key : {k : Kind} (t : Piece) (m : Machine) → is_value k ≡ false → Taken w 11 k t m
-      → Gives w (left_out_event t state.BlockMappingKey t.span m)
+      → StepGives w (left_out_event t state.BlockMappingKey t.span m)
   left_key t m e a = (
     own w m a,
     record {
@@ -115,10 +115,10 @@ module _ (w : Walk) where
     },
   )
 
-  mapping_values_at : (k : Kind) (t : Piece) (m : Machine) → Taken w 11 k t m → Gives w (block_mapping_value_at k t m)
+  mapping_values_at : (k : Kind) (t : Piece) (m : Machine) → Taken w 11 k t m → StepGives w (block_mapping_value_at k t m)
   mapping_values_at Value t m a = value_nodes t.span m (own w m a) (behind w m refl (omega arith) a)
   mapping_values_at _ t m a = left_key t m refl a
 
-  pub mapping_values : {low : Marker} (m : Machine) → Of w low 11 m → Gives w (block_mapping_value m)
+  pub mapping_values : {low : Marker} (m : Machine) → Of w low 11 m → StepGives w (block_mapping_value m)
   unfolding block_mapping_value
   mapping_values m a = taken w m _ a (λ t k b. mapping_values_at t.kind t k b)

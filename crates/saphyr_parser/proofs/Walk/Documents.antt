@@ -10,7 +10,7 @@ use Rattle.saphyr_parser.specs.declared.parser.context.NodeContext.TheVariants.{
 use Rattle.saphyr_parser.specs.declared.parser.state.State.TheVariants as state
 use Rattle.saphyr_parser.specs.Steps.Machine.{◌>>=◌, Machine, Told, Names, taken_token, taken_token_from, with_pieces, put_back, push, is_listed}
 use Rattle.saphyr_parser.specs.Steps.Documents.{unpassed_token, unpassed_token_from, is_mark, is_end_or_mark, Declared, none_declared, is_directive, directive_at, directives, directives_from, stream_start, stream_start_at, without_anchors, explicit_document_at, explicit_document, bare_document, implicit_start_at, implicit_start, explicit_start_at, explicit_start, no_content, document_content_at, document_content, token_behind_marks_at, token_behind_marks, token_behind_document_at, token_behind_document, without_prefixes, document_end_at, document_end}
-use Rattle.saphyr_parser.proofs.Walk.Steps.{Walk, is_end, On, Of, Taken, Gives, own, refused, first, less, behind, pushed, entered, left, over, taken}
+use Rattle.saphyr_parser.proofs.Walk.Steps.{Walk, is_end, On, Of, Taken, StepGives, own, refused, first, less, behind, pushed, entered, left, over, taken}
 use Rattle.saphyr_parser.proofs.Walk.Nodes.{nodes}
 
 mark_is_no_end : (k : Kind) → is_mark k ≡ true → is_end k ≡ false
@@ -34,7 +34,7 @@ module _ (w : Walk) where
   Hands d (Err f) = w.Fails f
 
   goes_on : (d : ℕ) (r : Result (Piece × Machine) Refusal) (go : Piece × Machine → Result Told Refusal) → Hands d r
-      → ((t : Piece) (k : Machine) → Taken w d t.kind t k → Gives w (go (t, k))) → Gives w (r >>= go)
+      → ((t : Piece) (k : Machine) → Taken w d t.kind t k → StepGives w (go (t, k))) → StepGives w (r >>= go)
   goes_on d (Ok x) go h k = k x.0 x.1 (refl, h)
   goes_on d (Err f) go h k = h
 
@@ -109,16 +109,16 @@ module _ (w : Walk) where
 
   -- ## The beginning of the stream and of documents
 
-  stream_starts_at : (k : Kind) (t : Piece) (m : Machine) → Taken w 10 k t m → Gives w (stream_start_at k t m)
+  stream_starts_at : (k : Kind) (t : Piece) (m : Machine) → Taken w 10 k t m → StepGives w (stream_start_at k t m)
   stream_starts_at tokens.StreamStart t m a =
       (own w m a, entered w state.ImplicitDocumentStart m tt (behind w m refl (omega arith) a))
   stream_starts_at _ t m a = refused w m a
 
-  pub stream_starts : {low : Marker} (m : Machine) → Of w low 10 m → Gives w (stream_start m)
+  pub stream_starts : {low : Marker} (m : Machine) → Of w low 10 m → StepGives w (stream_start m)
   unfolding stream_start
   stream_starts m a = taken w m _ a (λ t k b. stream_starts_at t.kind t k b)
 
-  explicits_at : (k : Kind) (t : Piece) (m : Machine) → Taken w 10 k t m → Gives w (explicit_document_at k t m)
+  explicits_at : (k : Kind) (t : Piece) (m : Machine) → Taken w 10 k t m → StepGives w (explicit_document_at k t m)
   explicits_at tokens.DocumentStart t m a =
       let b : Of w t.span.end 13 m = behind w m refl (omega arith) a in (
         own w m a,
@@ -128,13 +128,13 @@ module _ (w : Walk) where
   explicits_at tokens.ByteOrderMark t m a = refused w m a
   explicits_at _ t m a = refused w m a
 
-  explicits : {k : Kind} (t : Piece) (m : Machine) → Taken w 10 k t m → Gives w (explicit_document t m)
+  explicits : {k : Kind} (t : Piece) (m : Machine) → Taken w 10 k t m → StepGives w (explicit_document t m)
   unfolding explicit_document directives
   explicits t m a =
       goes_on 10 (directives_from (t ∷ m.tokens.pieces) none_declared (put_back t m)) _
       (directs 10 (t ∷ m.tokens.pieces) none_declared (put_back t m) a.1) (λ u k b. explicits_at u.kind u k b)
 
-  bares : {k : Kind} (t : Piece) (m : Machine) → Taken w 13 k t m → Gives w (bare_document t m)
+  bares : {k : Kind} (t : Piece) (m : Machine) → Taken w 13 k t m → StepGives w (bare_document t m)
   unfolding bare_document
   bares t m a = (
     own w m a,
@@ -145,7 +145,7 @@ module _ (w : Walk) where
   fewer : {c d : ℕ} {k : Kind} {t : Piece} (m : Machine) → c ≤ d → Taken w d k t m → Taken w c k t m
   fewer m l a = (a.0, less w l a.1)
 
-  implicits_at : (k : Kind) (t : Piece) (m : Machine) → Taken w 13 k t m → Gives w (implicit_start_at k t m)
+  implicits_at : (k : Kind) (t : Piece) (m : Machine) → Taken w 13 k t m → StepGives w (implicit_start_at k t m)
   implicits_at tokens.StreamEnd t m a = (own w m a, over w m a)
   implicits_at (tokens.VersionDirective major minor) t m a = explicits t m (fewer m (omega arith) a)
   implicits_at (tokens.TagDirective handle prefix) t m a = explicits t m (fewer m (omega arith) a)
@@ -153,17 +153,17 @@ module _ (w : Walk) where
   implicits_at tokens.DocumentStart t m a = explicits t m (fewer m (omega arith) a)
   implicits_at _ t m a = bares t m a
 
-  pub implicit_starts : {low : Marker} (m : Machine) → Of w low 13 m → Gives w (implicit_start m)
+  pub implicit_starts : {low : Marker} (m : Machine) → Of w low 13 m → StepGives w (implicit_start m)
   unfolding implicit_start unpassed_token
   implicit_starts m a =
       goes_on 13 (unpassed_token_from is_end_or_mark m.tokens.pieces m) _
       (passes 13 is_end_or_mark m.tokens.pieces m no_end_or_mark a) (λ t k b. implicits_at t.kind t k b)
 
-  explicit_starts_at : (k : Kind) (t : Piece) (m : Machine) → Taken w 10 k t m → Gives w (explicit_start_at k t m)
+  explicit_starts_at : (k : Kind) (t : Piece) (m : Machine) → Taken w 10 k t m → StepGives w (explicit_start_at k t m)
   explicit_starts_at tokens.StreamEnd t m a = (own w m a, over w m a)
   explicit_starts_at _ t m a = explicits t m a
 
-  pub explicit_starts : {low : Marker} (m : Machine) → Of w low 10 m → Gives w (explicit_start m)
+  pub explicit_starts : {low : Marker} (m : Machine) → Of w low 10 m → StepGives w (explicit_start m)
   unfolding explicit_start unpassed_token
   explicit_starts m a =
       goes_on 10 (unpassed_token_from is_end_or_mark m.tokens.pieces m) _
@@ -171,10 +171,10 @@ module _ (w : Walk) where
 
   -- ## The content and the end of documents
 
-  empties : {k : Kind} (t : Piece) (m : Machine) → Taken w 10 k t m → Gives w (no_content t m)
+  empties : {k : Kind} (t : Piece) (m : Machine) → Taken w 10 k t m → StepGives w (no_content t m)
   empties t m a = (own w m a, left w (put_back t m) a.1)
 
-  contents_at : (k : Kind) (t : Piece) (m : Machine) → Taken w 10 k t m → Gives w (document_content_at k t m)
+  contents_at : (k : Kind) (t : Piece) (m : Machine) → Taken w 10 k t m → StepGives w (document_content_at k t m)
   contents_at (tokens.VersionDirective major minor) t m a = empties t m a
   contents_at (tokens.TagDirective handle prefix) t m a = empties t m a
   contents_at (tokens.ReservedDirective name) t m a = empties t m a
@@ -184,7 +184,7 @@ module _ (w : Walk) where
   contents_at tokens.StreamEnd t m a = empties t m a
   contents_at _ t m a = nodes w Block t m (omega arith) a
 
-  pub document_contents : {low : Marker} (m : Machine) → Of w low 10 m → Gives w (document_content m)
+  pub document_contents : {low : Marker} (m : Machine) → Of w low 10 m → StepGives w (document_content m)
   unfolding document_content
   document_contents m a = taken w m _ a (λ t k b. contents_at t.kind t k b)
 
@@ -212,7 +212,7 @@ module _ (w : Walk) where
   unfolding token_behind_document
   behinds m a = hands_on 11 (taken_token m) _ (takes 11 m.tokens.pieces m a) (λ t k b. behinds_at t.kind t k b)
 
-  ends_at : (k : Kind) (t : Piece) (m : Machine) → Taken w 11 k t m → Gives w (document_end_at k t m)
+  ends_at : (k : Kind) (t : Piece) (m : Machine) → Taken w 11 k t m → StepGives w (document_end_at k t m)
   ends_at tokens.DocumentEnd t m a =
       (own w m a, entered w state.ImplicitDocumentStart m tt (behind w m refl (omega arith) a))
   ends_at (tokens.VersionDirective major minor) t m a = refused w m a
@@ -220,6 +220,6 @@ module _ (w : Walk) where
   ends_at (tokens.ReservedDirective name) t m a = refused w m a
   ends_at _ t m a = (own w m a, entered w state.DocumentStart (put_back t m) tt a.1)
 
-  pub document_ends : {low : Marker} (m : Machine) → Of w low 11 m → Gives w (document_end m)
+  pub document_ends : {low : Marker} (m : Machine) → Of w low 11 m → StepGives w (document_end m)
   unfolding document_end
   document_ends m a = goes_on 11 (token_behind_document m) _ (behinds m a) (λ t k b. ends_at t.kind t (without_prefixes k) b)

@@ -68,7 +68,7 @@ abbrev pub Taken : Walk → ℕ → Kind → Piece → Machine → Type 0
 Taken w d k t m = (k ≡ t.kind) × On w t.span.start d m.tokens.refusal (t ∷ m.tokens.pieces) m.states
 
 -- between two steps
-pub record Stands (w : Walk) (m : Machine) : Type 0 where
+pub record StandsBetween (w : Walk) (m : Machine) : Type 0 where
   pub place : HasPlace w.Spans m.state
   pub places : HavePlaces w.Spans m.states
   pub rests :
@@ -76,9 +76,9 @@ pub record Stands (w : Walk) (m : Machine) : Type 0 where
       (10 + weight_before m.state m.tokens.pieces + total_weight m.states) m.tokens.refusal m.tokens.pieces
 
 -- what a step gives
-abbrev pub Gives : Walk → Result Told Refusal → Type 0
-Gives w (Ok x) = w.Spans x.span.start x.span.end × Stands w x.machine
-Gives w (Err f) = w.Fails f
+abbrev pub StepGives : Walk → Result Told Refusal → Type 0
+StepGives w (Ok x) = w.Spans x.span.start x.span.end × StandsBetween w x.machine
+StepGives w (Err f) = w.Fails f
 
 key_weight : (b : Bool) → (if b then 3 else 1) ≤ 3
 key_weight true = omega arith
@@ -129,7 +129,7 @@ module _ (w : Walk) where
   -- ## What a step leaves
 
   pub entered : {low : Marker} (s : State) (m : Machine) → HasPlace w.Spans s → Of w low (10 + weight s) m
-      → Stands w (with_state s m)
+      → StandsBetween w (with_state s m)
   entered {low} s m p a = record {
     place = p;
     places =
@@ -139,7 +139,7 @@ module _ (w : Walk) where
   }
 
   pops : {low : Marker} (ss : List State) (m : Machine) → On w low 10 m.tokens.refusal m.tokens.pieces ss
-      → Stands w (pop_from ss m)
+      → StandsBetween w (pop_from ss m)
   pops {low} [] m a = record { place = tt; places = tt; rests = w.rests low state.End _ _ _ a.pieces }
   pops {low} (s ∷ ss) m a = record {
     place =
@@ -150,11 +150,11 @@ module _ (w : Walk) where
         (let l = weight_before_is_less s m.tokens.pieces in omega (arith, l)) a.pieces);
   }
 
-  pub left : {low : Marker} (m : Machine) → Of w low 10 m → Stands w (pop m)
+  pub left : {low : Marker} (m : Machine) → Of w low 10 m → StandsBetween w (pop m)
   left m a = pops m.states m a
 
   -- the stream has ended
-  pub over : {d : ℕ} {t : Piece} (m : Machine) → Taken w d tokens.StreamEnd t m → Stands w (with_state state.End m)
+  pub over : {d : ℕ} {t : Piece} (m : Machine) → Taken w d tokens.StreamEnd t m → StandsBetween w (with_state state.End m)
   over {d} {t} m a = record {
     place = tt;
     places =
@@ -164,24 +164,24 @@ module _ (w : Walk) where
 
   -- a node is left out before the token
   pub leaves_out : {d : ℕ} {k : Kind} (t : Piece) (s : State) (span : Span) (m : Machine) → HasPlace w.Spans s
-      → 10 + weight s ≤ d → w.Spans span.start span.end → Taken w d k t m → Gives w (left_out_event t s span m)
+      → 10 + weight s ≤ d → w.Spans span.start span.end → Taken w d k t m → StepGives w (left_out_event t s span m)
   leaves_out t s span m p l i a = (i, entered s (put_back t m) p (put m l a))
 
   -- ## Steps that take a token first
 
   taken_from : {low : Marker} {d : ℕ} (ts : List Piece) (m : Machine) (go : Piece × Machine → Result Told Refusal)
       → On w low d m.tokens.refusal ts m.states
-      → ((t : Piece) (k : Machine) → w.Spans low t.span.start → Taken w d t.kind t k → Gives w (go (t, k)))
-      → Gives w (taken_token_from ts m >>= go)
+      → ((t : Piece) (k : Machine) → w.Spans low t.span.start → Taken w d t.kind t k → StepGives w (go (t, k)))
+      → StepGives w (taken_token_from ts m >>= go)
   taken_from [] m go a h = w.nothing _ _ _ a.pieces
   taken_from (t ∷ ts) m go a h = h t (with_pieces ts m) (w.own _ _ _ t ts a.pieces).0 (first t ts m a)
 
   pub taken_behind : {low : Marker} {d : ℕ} (m : Machine) (go : Piece × Machine → Result Told Refusal)
       → Of w low d m
-      → ((t : Piece) (k : Machine) → w.Spans low t.span.start → Taken w d t.kind t k → Gives w (go (t, k)))
-      → Gives w (taken_token m >>= go)
+      → ((t : Piece) (k : Machine) → w.Spans low t.span.start → Taken w d t.kind t k → StepGives w (go (t, k)))
+      → StepGives w (taken_token m >>= go)
   taken_behind m go a h = taken_from m.tokens.pieces m go a h
 
   pub taken : {low : Marker} {d : ℕ} (m : Machine) (go : Piece × Machine → Result Told Refusal) → Of w low d m
-      → ((t : Piece) (k : Machine) → Taken w d t.kind t k → Gives w (go (t, k))) → Gives w (taken_token m >>= go)
+      → ((t : Piece) (k : Machine) → Taken w d t.kind t k → StepGives w (go (t, k))) → StepGives w (taken_token m >>= go)
   taken m go a h = taken_behind m go a (λ t k b c. h t k c)

@@ -122,10 +122,10 @@ forest_closes keep f es e =
 
 -- ## Answers
 
-abbrev happenings : List (Happening × Span) → List Happening
-happenings es = map (λ (e : Happening × Span). e.0) es
+abbrev events_alone : List (Happening × Span) → List Happening
+events_alone es = map (λ (e : Happening × Span). e.0) es
 
-whole_ends : (es : List (Happening × Span)) (front : List Happening) → happenings es ≡ front ++ events.StreamEnd ∷ []
+whole_ends : (es : List (Happening × Span)) (front : List Happening) → events_alone es ≡ front ++ events.StreamEnd ∷ []
     → NoEnds front → EndsSo None es
 whole_ends [] [] e n = absurd (cc)
 whole_ends [] (w ∷ front) e n = absurd (cc)
@@ -137,27 +137,27 @@ whole_ends (x ∷ []) [] e n =
 whole_ends (x ∷ y ∷ es) [] e n = absurd (cc)
 whole_ends (x ∷ es) (w ∷ front) e n =
     let first : x.0 ≡ w = cc in
-    let more : happenings es ≡ front ++ events.StreamEnd ∷ [] = cc in
+    let more : events_alone es ≡ front ++ events.StreamEnd ∷ [] = cc in
     let r = whole_ends es front more n.1 in
     (x ∷ r.0, r.1, ap (λ l. x ∷ l) r.2, (subst IsNoStreamEnd (sym first) n.0, r.3))
 
 cut_ends : (es : List (Happening × Span)) (missing front : List Happening)
-    → happenings es ++ missing ≡ front ++ events.StreamEnd ∷ [] → missing ≢ [] → NoEnds front → HasNoStreamEnd es
+    → events_alone es ++ missing ≡ front ++ events.StreamEnd ∷ [] → missing ≢ [] → NoEnds front → HasNoStreamEnd es
 cut_ends [] missing front e m n = tt
-cut_ends (x ∷ es) missing [] e m n = absurd (let over : happenings es ++ missing ≡ [] = cc in none es over)
+cut_ends (x ∷ es) missing [] e m n = absurd (let over : events_alone es ++ missing ≡ [] = cc in none es over)
   where
-    none : (es : List (Happening × Span)) → happenings es ++ missing ≡ [] → ⊥
+    none : (es : List (Happening × Span)) → events_alone es ++ missing ≡ [] → ⊥
     none [] k = m k
     none (y ∷ ys) k = cc
 cut_ends (x ∷ es) missing (w ∷ front) e m n =
     let first : x.0 ≡ w = cc in
-    let more : happenings es ++ missing ≡ front ++ events.StreamEnd ∷ [] = cc in
+    let more : events_alone es ++ missing ≡ front ++ events.StreamEnd ∷ [] = cc in
     (subst IsNoStreamEnd (sym first) n.0, cut_ends es missing front more m n.1)
 
 ends_so : (fault : Option Ending) (es : List (Happening × Span)) (missing : List Happening)
-    → Closes (happenings es ++ missing) → IsCut fault missing → EndsSo fault es
+    → Closes (events_alone es ++ missing) → IsCut fault missing → EndsSo fault es
 ends_so None es missing c cut =
-    whole_ends es c.front (sym (nothing_behind (happenings es)) ∙ ap (λ l. happenings es ++ l) (sym cut) ∙ c.are) c.none
+    whole_ends es c.front (sym (nothing_behind (events_alone es)) ∙ ap (λ l. events_alone es ++ l) (sym cut) ∙ c.are) c.none
   where
     nothing_behind : (l : List Happening) → l ++ [] ≡ l
     nothing_behind [] = refl

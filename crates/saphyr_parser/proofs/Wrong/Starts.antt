@@ -10,16 +10,16 @@ use Rattle.saphyr_parser.specs.EventsTaken.{SpansAll, AreContentTokens, BeginsEn
 use Rattle.saphyr_parser.specs.Examples.WrongAnswers.{nested, free_start}
 use Rattle.saphyr_parser.proofs.Wrong.Owned.{content_end}
 
-abbrev IsOpening : Kind → Type 0
-IsOpening tokens.FlowSequenceStart = Unit {0}
-IsOpening tokens.BlockSequenceStart = Unit {0}
-IsOpening tokens.BlockEntry = Unit {0}
-IsOpening _ = ⊥
+abbrev IsSequenceOpening : Kind → Type 0
+IsSequenceOpening tokens.FlowSequenceStart = Unit {0}
+IsSequenceOpening tokens.BlockSequenceStart = Unit {0}
+IsSequenceOpening tokens.BlockEntry = Unit {0}
+IsSequenceOpening _ = ⊥
 
 -- one of the tokens opens a sequence, and ends where the span does
 abbrev EndsAt : Span → List Piece → Type 0
 EndsAt span [] = ⊥
-EndsAt span (p ∷ ps) = (IsOpening p.kind × (span.end ≡ p.span.end)) ⊎ EndsAt span ps
+EndsAt span (p ∷ ps) = (IsSequenceOpening p.kind × (span.end ≡ p.span.end)) ⊎ EndsAt span ps
 
 ends_further : (span : Span) (ps qs : List Piece) → EndsAt span qs → EndsAt span (ps ++ qs)
 ends_further span [] qs h = h
@@ -30,23 +30,23 @@ ends_before span [] qs h = absurd h
 ends_before span (p ∷ ps) qs (inl h) = inl h
 ends_before span (p ∷ ps) qs (inr h) = inr (ends_before span ps qs h)
 
-ends_last : (span : Span) (front : List Piece) (own : Piece) → IsOpening own.kind → SpansAll (front ++ own ∷ []) span
+ends_last : (span : Span) (front : List Piece) (own : Piece) → IsSequenceOpening own.kind → SpansAll (front ++ own ∷ []) span
     → EndsAt span (front ++ own ∷ [])
 ends_last span front own o s = ends_further span front (own ∷ []) (inl (o, content_end front own span s))
 
-content_ends : (kind : Kind) (span : Span) (own : List Piece) → IsOpening kind → AreContentTokens kind own
+content_ends : (kind : Kind) (span : Span) (own : List Piece) → IsSequenceOpening kind → AreContentTokens kind own
     → SpansAll own span → EndsAt span own
 content_ends kind span own o c s =
     let P : List Piece → Type 0 = λ l. EndsAt span l in
     let Q : List Piece → Type 0 = λ l. SpansAll l span in
-    subst P (sym c.4) (ends_last span c.0 c.1 (subst IsOpening (sym c.3) o) (subst Q c.4 s))
+    subst P (sym c.4) (ends_last span c.0 c.1 (subst IsSequenceOpening (sym c.3) o) (subst Q c.4 s))
 
 entries_end : (span : Span) (own others : List Piece) → BeginsEntries own span others → EndsAt span (own ++ others)
 entries_end span own [] h = absurd h
 entries_end span own (t ∷ ts) h =
     let P : List Piece → Type 0 = λ l. EndsAt span l in
     subst P (append_assoc own (t ∷ []) ts)
-    (ends_before span (own ++ t ∷ []) ts (ends_last span own t (subst IsOpening (sym h.0) tt) h.2))
+    (ends_before span (own ++ t ∷ []) ts (ends_last span own t (subst IsSequenceOpening (sym h.0) tt) h.2))
 
 abbrev Started : List Piece → Happening → Span → Type 0
 Started all (SequenceStart id tag) span = EndsAt span all

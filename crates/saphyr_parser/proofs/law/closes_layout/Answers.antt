@@ -1,8 +1,8 @@
-use Rattle.saphyr_parser.proofs.Examples.ClosedLayout.{closed, marked, behind, gives_start, gives_first}
+use Rattle.saphyr_parser.proofs.Examples.ClosedLayout.{line_closes, marked, behind, gives_start, gives_first}
 use Rattle.saphyr_parser.proofs.law.closes_layout.Goals as goal
 
 pub returns-clause-closed : goal.returns-clause-closed
-returns-clause-closed c = closed
+returns-clause-closed c = line_closes
 
 pub returns-clause-marked : goal.returns-clause-marked
 returns-clause-marked c = marked
