@@ -107,7 +107,8 @@ lost_lines multi old new first last lost next over =
 
 keeps_it : (c : EventCursor) (f : Ending) → Keeps f c → to_come c ≡ fault_alone f
 keeps_it c f keeps =
-    ap (λ o. with_event_ahead o (answer_behind c.kept c.machine)) keeps.current ∙ ap (λ o. answer_behind o c.machine) keeps.kept
+    ap (λ o. with_event_ahead o (answer_behind c.kept c.machine)) keeps.current
+    ∙ ap (λ o. answer_behind o c.machine) keeps.kept
 
 -- ## Calls
 

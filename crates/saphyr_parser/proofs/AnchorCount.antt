@@ -105,7 +105,8 @@ flow_count key value K V t (inr (inr (inl h))) k v = left_out_key key value t h.
 flow_count key value K V t (inr (inr (inr h))) k v = left_out_value key value t h.0 (k t h.1)
 
 block_count : (key value : Node) (K V : List Kind → Type 0) (others t : List Kind)
-    → YieldsBlockPair key value K V others t → CountsAnchors key K → CountsAnchors value V → anchors_of_pair key value ≤ length t
+    → YieldsBlockPair key value K V others t → CountsAnchors key K → CountsAnchors value V
+    → anchors_of_pair key value ≤ length t
 block_count key value K V others t (inl h) k v = marked_count key value K V t h k v
 block_count key value K V others t (inr (inl h)) k v = left_out_value key value t h.0 (key_count key K t h.2 k)
 block_count key value K V others t (inr (inr h)) k v = left_out_key key value t h.0 (value_count value V t h.1 v)

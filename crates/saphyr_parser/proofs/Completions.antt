@@ -143,7 +143,8 @@ maybe R ks ps r = put (IsOptionalOf InFlow) R [] (leaf ∷ []) ks ps (forest.lef
 
 entries_end : (R : List Kind → List Part → Type 0) (ks : List Kind) (ps : List Part) → R ks ps
     → InSequence R (FlowSequenceEnd ∷ ks) (CloseSequence ∷ ps)
-entries_end R ks ps r = collection_ends OtherEntries R (FlowSequenceEnd ∷ []) CloseSequence ks ps (NoNode, inl refl, refl) r
+entries_end R ks ps r = collection_ends OtherEntries R (FlowSequenceEnd ∷ []) CloseSequence ks ps
+    (NoNode, inl refl, refl) r
 
 pairs_end : (R : List Kind → List Part → Type 0) (ks : List Kind) (ps : List Part) → R ks ps
     → InMapping R (FlowMappingEnd ∷ ks) (CloseMapping ∷ ps)
@@ -199,7 +200,8 @@ inside state.BlockSequenceEntry o ss i c =
       parts =
           CloseSequence ∷ c.parts;
       follows =
-          collection_ends BlockEntries (MayFollow o ss) (BlockEnd ∷ []) CloseSequence c.kinds c.parts (NoNode, refl, refl)
+          collection_ends BlockEntries (MayFollow o ss) (BlockEnd ∷ []) CloseSequence c.kinds c.parts
+          (NoNode, refl, refl)
           c.follows;
       starts = λ ahead. tt;
       some = λ e. cc;
@@ -214,7 +216,8 @@ inside state.IndentlessSequenceEntry o ss i c =
           one_entry (Then (Exactly [] (CloseSequence ∷ [])) (MayFollow o ss)) c.kinds (leaf ∷ CloseSequence ∷ c.parts)
           (put (IsOptionalOf InBlock) _ [] (leaf ∷ []) c.kinds (CloseSequence ∷ c.parts)
           (forest.left_out, inl (refl, refl), refl)
-          (collection_ends BlockEntries (MayFollow o ss) [] CloseSequence c.kinds c.parts (NoNode, refl, refl) c.follows));
+          (collection_ends BlockEntries (MayFollow o ss) [] CloseSequence c.kinds c.parts (NoNode, refl, refl)
+          c.follows));
       starts =
           λ ahead b. tt;
       some = λ e. cc;
@@ -253,7 +256,8 @@ inside state.FlowSequenceFirstEntry o ss i c =
       parts =
           CloseSequence ∷ c.parts;
       follows =
-          collection_ends FirstEntries (MayFollow o ss) (FlowSequenceEnd ∷ []) CloseSequence c.kinds c.parts (NoNode, refl, refl)
+          collection_ends FirstEntries (MayFollow o ss) (FlowSequenceEnd ∷ []) CloseSequence c.kinds c.parts
+          (NoNode, refl, refl)
           c.follows;
       starts = λ ahead. tt;
       some = λ e. cc;
@@ -312,7 +316,8 @@ inside state.FlowMappingFirstKey o ss i c =
       parts =
           CloseMapping ∷ c.parts;
       follows =
-          collection_ends FirstPairs (MayFollow o ss) (FlowMappingEnd ∷ []) CloseMapping c.kinds c.parts (NoPair, refl, refl)
+          collection_ends FirstPairs (MayFollow o ss) (FlowMappingEnd ∷ []) CloseMapping c.kinds c.parts
+          (NoPair, refl, refl)
           c.follows;
       starts = λ ahead. tt;
       some = λ e. cc;

@@ -96,7 +96,8 @@ version_passes b d place h =
     if c then Err (record { text = fault.DuplicateVersionDirective; mark = place }) else Ok
     (record { version = true; handles = d.handles }) in r) h
 
-pub directives_pass : (ds : List Directive) (d : Declared) (f : SpansByKinds) (ks : List Kind) (x : State) (ss : List State)
+pub directives_pass : (ds : List Directive) (d : Declared) (f : SpansByKinds) (ks : List Kind) (x : State)
+    (ss : List State)
     (e : Memory) → AreCompatible ds → AreFree d ds
     → directives_from (dressed f (map directive_token ds ++ DocumentStart ∷ ks)) d
     (at f (map directive_token ds ++ DocumentStart ∷ ks) x ss e)
@@ -126,7 +127,8 @@ directives_pass (TagPrefix handle prefix ∷ ds) d f ks x ss e c h =
     (all_still_free (TagPrefix handle prefix) ds d c.0 h.1)
 directives_pass (Reserved name ∷ ds) d f ks x ss e c h = directives_pass ds d f ks x ss e c.1 h.1
 
-pub all_directives_pass : (ds : List Directive) (f : SpansByKinds) (ks : List Kind) (x : State) (ss : List State) (e : Memory)
+pub all_directives_pass : (ds : List Directive) (f : SpansByKinds) (ks : List Kind) (x : State) (ss : List State)
+    (e : Memory)
     → AreCompatible ds → directives none_declared (at f (map directive_token ds ++ DocumentStart ∷ ks) x ss e)
     ≡ Ok (record { span = f ks; kind = DocumentStart }, at f ks x ss (declaring_in ds e))
 unfolding directives

@@ -57,7 +57,8 @@ latest_stays name p ps id e f h =
     (p ∷ h.0, h.1, h.2, (e, other, h.3), h.4, h.5, ap (λ t. p ∷ t) h.6)
 
 -- the answer at a part, by the two tests on it
-latest_at_part : (name : List ℕ) (p : Part) (ps : List Part) (id : ℕ) → (latest_id name ps ≡ Some id → IsLatest name ps id)
+latest_at_part : (name : List ℕ) (p : Part) (ps : List Part) (id : ℕ)
+    → (latest_id name ps ≡ Some id → IsLatest name ps id)
     → (b d : Bool) → opens_document p ≡ b → is_named name (anchor_of p) ≡ d
     → (if b then None else (if d then Some (suc (anchors ps)) else latest_id name ps)) ≡ Some id
     → IsLatest name (p ∷ ps) id

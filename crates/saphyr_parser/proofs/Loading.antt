@@ -166,7 +166,8 @@ module _ {R : Type 0} (receives : R → Happening × Span → Result (Unit {0}) 
     sent = so.sent ++ (e ∷ []);
     part = so.part ∙ ap (with_events so.sent)
         (part_before multi e (to_come new) (to_come mid) (advances e mid new is.0)
-        ∙ ap (λ (b : Bool). behind_first b e (portion_to_send multi new)) more) ∙ sym (with_more so.sent e (portion_to_send multi new));
+        ∙ ap (λ (b : Bool). behind_first b e (portion_to_send multi new)) more)
+        ∙ sym (with_more so.sent e (portion_to_send multi new));
     passed = passed_more old mid new so.sent e so.passed is.0;
     sends = one_more first last next so.sent e so.sends taken;
     leaves = over_more so.sent e old mid new so.leaves is.0;
@@ -232,7 +233,8 @@ module _ {R : Type 0} (receives : R → Happening × Span → Result (Unit {0}) 
       (append-nil so.sent)
 
   finished : (multi : Bool) (old mid new : EventCursor) (first last : R) → Going multi old first last mid → new ≡ mid
-      → to_come new ≡ answer.empty_answer → new.kept ≡ None → Finished receives (portion_to_send multi old) old first last new
+      → to_come new ≡ answer.empty_answer → new.kept ≡ None
+      → Finished receives (portion_to_send multi old) old first last new
   finished multi old mid new first last so same over none =
       let p = all_sent multi old mid first last None so (sym (ap to_come same) ∙ over) in
       let all : (portion_to_send multi old).sent ≡ so.sent = ap (λ (q : Portion). q.sent) p in

@@ -124,7 +124,8 @@ longer_left z o m n (inr (d, over, a)) = (
   becomes_longer z o _ m n over over.tokens.2,
 )
 
-agrees : (z : More) (o : Option Refusal) (p q : Result Told Refusal) → TellsAlike (with_longer z o) p q → AgreesOrEndsEarly z o p q
+agrees : (z : More) (o : Option Refusal) (p q : Result Told Refusal) → TellsAlike (with_longer z o) p q
+    → AgreesOrEndsEarly z o p q
 agrees z o (Ok x) (Ok y) h =
     let l = longer_left z o x.machine y.machine h.machine in
     (l.0, l.1, ap Ok (tells_so (with_longer z o) (λ p. p) x y _ (λ p q e. e) h l.2))

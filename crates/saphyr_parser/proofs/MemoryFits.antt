@@ -185,7 +185,8 @@ declaring_meaning handle (TagPrefix other prefix ∷ ds) names c =
 
 kept_meaning : (keep kept : Bool) (handle : Handle) (front : List Part) (names : Names (List ℕ)) → kept ≡ keep
     → meaning (handle_bytes handle) names ≡ prefix_declared_for keep handle front
-    → meaning (handle_bytes handle) (if kept then names else []) ≡ (if keep then prefix_declared_for keep handle front else None)
+    → meaning (handle_bytes handle) (if kept then names else [])
+    ≡ (if keep then prefix_declared_for keep handle front else None)
 kept_meaning true true handle front names k h = h
 kept_meaning false false handle front names k h = refl
 kept_meaning true false handle front names k h = absurd (cc)
@@ -230,7 +231,8 @@ room_moves : (anchor : Option (List ℕ)) (n more : ℕ) → n + one_more_anchor
 room_moves None n more l = l
 room_moves (Some _) n more l = omega (arith, l)
 
-pub same_events : (ps : List Part) (b keep : Bool) (front : List Part) (e : Memory) → Within b ps → FitsParts b keep front e
+pub same_events : (ps : List Part) (b keep : Bool) (front : List Part) (e : Memory) → Within b ps
+    → FitsParts b keep front e
     → anchors front + anchors ps < 2 ^ 64 → events_in e ps ≡ events_behind keep front ps
 same_events [] b keep front e w h l = refl
 same_events (p ∷ ps) b keep front e w h l =

@@ -168,7 +168,8 @@ pub record NodeSays (n : Node) (c : grammar.Context) (t : List Kind) : Type 0 wh
 
 -- The state behind the node may depend on the tokens that the node begins.
 pub enters : (n : Node) (c : grammar.Context) (t : List Kind) → YieldsNode n c t → NodeSays n c t
-    → (f : SpansByKinds) (k : Kind) (ks : List Kind) (machine : List Kind → Machine) (x : State) (behind : List Kind → State)
+    → (f : SpansByKinds) (k : Kind) (ks : List Kind) (machine : List Kind → Machine) (x : State)
+    (behind : List Kind → State)
     (ss : List State) (e : Memory) (ps : List Part) → MayFollow c k → ((l : List Kind) → (machine l).state ≢ End)
     → ((j : Kind) (l : List Kind) → Starts c j
     → event_step (machine (j ∷ l)) ≡ next_node (context_of c) (at f (j ∷ l) x (behind (j ∷ l) ∷ ss) e))
@@ -183,12 +184,14 @@ enters n c t h g f k ks machine x behind ss e ps z more go l =
 
 -- one step tells a node that is left out
 pub skipped : (e : Memory) (m n : Machine) (ps : List Part) (span : Span) → m.state ≢ End
-    → event_step m ≡ told_event empty_scalar span n → SaysParts e n ps → SaysParts e m (node_parts forest.left_out ++ ps)
+    → event_step m ≡ told_event empty_scalar span n → SaysParts e n ps
+    → SaysParts e m (node_parts forest.left_out ++ ps)
 unfolding encode
 skipped e m n ps span more q l =
     plainly e m n (Leaf forest.no_properties forest.Plain []) ps empty_scalar span more refl q l
 
-left_out_says : (n : Node) (t : List Kind) (k : Kind) (ks : List Kind) (f : SpansByKinds) (machine : List Kind → Machine)
+left_out_says : (n : Node) (t : List Kind) (k : Kind) (ks : List Kind) (f : SpansByKinds)
+    (machine : List Kind → Machine)
     (behind : List Kind → State) (ss : List State) (e : Memory) (ps : List Part) → n ≡ forest.left_out → t ≡ []
     → (TellsParts f (k ∷ ks) (behind (k ∷ ks)) ss (after_node forest.left_out e) ps
     → SaysParts e (machine (k ∷ ks)) (node_parts forest.left_out ++ ps))
@@ -203,9 +206,11 @@ left_out_says n t k ks f machine behind ss e ps a b q =
 -- the same of a node that may be left out
 pub enters_or_skips : (n : Node) (c : grammar.Context) (t : List Kind) → YieldsOptional n (YieldsNode n c) t
     → (YieldsNode n c t → NodeSays n c t)
-    → (f : SpansByKinds) (k : Kind) (ks : List Kind) (machine : List Kind → Machine) (x : State) (behind : List Kind → State)
+    → (f : SpansByKinds) (k : Kind) (ks : List Kind) (machine : List Kind → Machine) (x : State)
+    (behind : List Kind → State)
     (ss : List State) (e : Memory) (ps : List Part) → MayFollow c k → ((l : List Kind) → (machine l).state ≢ End)
-    → (span : Span) → event_step (machine (k ∷ ks)) ≡ told_event empty_scalar span (at f (k ∷ ks) (behind (k ∷ ks)) ss e)
+    → (span : Span) → event_step (machine (k ∷ ks)) ≡ told_event empty_scalar span
+    (at f (k ∷ ks) (behind (k ∷ ks)) ss e)
     → ((j : Kind) (l : List Kind) → Starts c j
     → event_step (machine (j ∷ l)) ≡ next_node (context_of c) (at f (j ∷ l) x (behind (j ∷ l) ∷ ss) e))
     → TellsParts f (k ∷ ks) (behind (t ++ k ∷ ks)) ss (after_node n e) ps

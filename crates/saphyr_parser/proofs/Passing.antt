@@ -106,7 +106,8 @@ later : (d e : Declared) (m n : Machine) → (let r : Result (Declared × Machin
     → m ≡ n
 later d e m n h = ap (λ (p : Declared × Machine). p.1) (ok_inside (d, m) (e, n) h)
 
-changed : (d : Declared) (m : Machine) (prefixes : Names (List ℕ)) → KeepsTokens m (Ok (d, record m { prefixes = prefixes }))
+changed : (d : Declared) (m : Machine) (prefixes : Names (List ℕ))
+    → KeepsTokens m (Ok (d, record m { prefixes = prefixes }))
 unfolding KeepsTokens
 changed d m p e n h = ap (λ (k : Machine). k.tokens) (sym (later d e (record m { prefixes = p }) n h))
 

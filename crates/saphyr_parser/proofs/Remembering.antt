@@ -119,7 +119,8 @@ SaysParts e m ps = (es : List Happening) → events_in e ps ≡ Some es → Give
 abbrev pub TellsParts : SpansByKinds → List Kind → State → List State → Memory → List Part → Type 0
 TellsParts f ks s ss e ps = SaysParts e (at f ks s ss e) ps
 
-first_and_others_parts : (a : Option Happening) (b : Option (List Happening)) (es : List Happening) → first_and_others a b ≡ Some es
+first_and_others_parts : (a : Option Happening) (b : Option (List Happening)) (es : List Happening)
+    → first_and_others a b ≡ Some es
     → (w : Happening) × (ws : List Happening) × (a ≡ Some w) × (b ≡ Some ws) × (w ∷ ws ≡ es)
 first_and_others_parts (Some w) (Some ws) es h = (w, ws, refl, refl, (cc))
 first_and_others_parts (Some w) None es h = absurd (cc)
@@ -140,7 +141,9 @@ says e m n part ps more go h es q =
 
 -- the same of a part that always has its event
 pub plainly : (e : Memory) (m n : Machine) (part : Part) (ps : List Part) (w : Happening) (span : Span) → m.state ≢ End
-    → event_in e part ≡ Some w → event_step m ≡ told_event w span n → SaysParts (after part e) n ps → SaysParts e m (part ∷ ps)
+    → event_in e part ≡ Some w → event_step m ≡ told_event w span n → SaysParts (after part e) n ps
+    → SaysParts e m (part ∷ ps)
 plainly e m n part ps w span more a q h =
     says e m n part ps more (λ v b.
-    (span, q ∙ ap (λ u. told_event u span n) (let same : w ≡ v = (let c : Some w ≡ Some v = sym a ∙ b in cc) in same))) h
+    (span, q ∙ ap (λ u. told_event u span n) (let same : w ≡ v = (let c : Some w ≡ Some v = sym a ∙ b in cc) in same)))
+    h

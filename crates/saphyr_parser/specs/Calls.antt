@@ -114,7 +114,8 @@ EndsTheStream c = (span : Span) → c.finished ≡ Some span → (keep : Bool) �
 abbrev pub ReadsAhead : Option (Happening × Span) → Option Kept → EventCursor → EventCursor → Type 0
 ReadsAhead (Some e) (Some k) old new = ⊥
 ReadsAhead (Some e) None old new =
-    (event_step old.machine ≡ told_event e.0 e.1 new.machine) × (new ≡ record old { current = Some e; machine = new.machine })
+    (event_step old.machine ≡ told_event e.0 e.1 new.machine)
+    × (new ≡ record old { current = Some e; machine = new.machine })
 ReadsAhead None (Some k) old new =
     (k.given ≡ false) × Ends k.fault (remaining_answer old.machine)
     × (new ≡ record old { kept = Some k; machine = new.machine })

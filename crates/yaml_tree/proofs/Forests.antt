@@ -56,7 +56,8 @@ one_part keep front part rest es n m p step =
     }
 
 and_then : (keep : Bool) (rest more : List Part) (es : List Happening) (n m k : Nest) → PassesParts keep rest es n m
-    → ((front : List Part) (hs : List Happening) → events_behind keep front rest ≡ Some hs → PassesParts keep more hs m k)
+    → ((front : List Part) (hs : List Happening) → events_behind keep front rest ≡ Some hs
+    → PassesParts keep more hs m k)
     → PassesParts keep more es n k
 and_then keep rest more es n m k a next =
     let b = next a.front a.more a.are in
@@ -69,9 +70,11 @@ no_part keep front rest es n p = record { front = front; more = es; are = p; sam
 mapped : {A : Type 0} (f : A → Happening) (o : Option A) (h : Happening) (n : Nest) (m : Option Nest)
     → ((x : A) → nest_behind_event (f x) n ≡ m) → option_map f o ≡ Some h → nest_behind_event h n ≡ m
 mapped f None h n m each p = absurd (cc)
-mapped f (Some x) h n m each p = let same : f x ≡ h = cc in ap (λ (g : Happening). nest_behind_event g n) (sym same) ∙ each x
+mapped f (Some x) h n m each p = let same : f x ≡ h = cc in ap (λ (g : Happening). nest_behind_event g n) (sym same)
+    ∙ each x
 
-given : (e h : Happening) (n : Nest) (m : Option Nest) → nest_behind_event e n ≡ m → Some e ≡ Some h → nest_behind_event h n ≡ m
+given : (e h : Happening) (n : Nest) (m : Option Nest) → nest_behind_event e n ≡ m → Some e ≡ Some h
+    → nest_behind_event h n ≡ m
 given e h n m each p = let same : e ≡ h = cc in ap (λ (g : Happening). nest_behind_event g n) (sym same) ∙ each
 
 -- the nest behind a node
@@ -152,7 +155,8 @@ documents_pass keep (d ∷ ds) front es p =
     let begun = one_part keep front (parts.OpenDocument d.explicit d.directives)
     (node_parts d.node ++ parts.CloseDocument ∷ document_parts ds) es stream (nest_inside BeforeRoot stream) p
     (λ e q. given (events.DocumentStart d.explicit) e stream _ refl q) in
-    let filled = and_then keep _ (parts.CloseDocument ∷ document_parts ds) es stream _ (nest_inside BehindRoot stream) begun
+    let filled = and_then keep _ (parts.CloseDocument ∷ document_parts ds) es stream _ (nest_inside BehindRoot stream)
+    begun
     (λ f hs q. node_passes keep d.node f (parts.CloseDocument ∷ document_parts ds) hs
     (nest_inside BeforeRoot stream) BehindRoot refl q) in
     let ended = and_then keep _ (document_parts ds) es stream _ stream filled
@@ -186,7 +190,8 @@ whole_at_end None (Some n) missing h e =
     cc
 
 pub nests : (forest : Forest) (keep : Bool) (a : Answer) → IsOfForest forest keep a → IsNested a
-nests forest keep a h = whole_at_end a.fault (nest_behind_all (happenings a.events) nest_before_stream) h.missing h.all_given
+nests forest keep a h = whole_at_end a.fault (nest_behind_all (happenings a.events) nest_before_stream) h.missing
+    h.all_given
     (sym (nest_behind_all-append (happenings a.events) h.missing nest_before_stream)
     ∙ forest_nests forest keep (happenings a.events ++ h.missing) h.are_events)
 

@@ -67,7 +67,8 @@ told_split all a b es e s h = ap happenings (split_more all a b es e s h)
     ∙ map-append (λ (d : Happening × Span). d.0) es (e ∷ b.events)
     ∙ sym (append_assoc (happenings es) (e.0 ∷ []) (happenings b.events))
 
-unnested : (all : Answer) (es more : List Happening) → happenings all.events ≡ es ++ more → nest_behind_all es nest_before_stream ≡ None
+unnested : (all : Answer) (es more : List Happening) → happenings all.events ≡ es ++ more
+    → nest_behind_all es nest_before_stream ≡ None
     → IsNested all → ⊥
 unnested all es more s n w = no_nest all.fault _
     (ap (λ hs. nest_behind_all hs nest_before_stream) s ∙ nest_behind_all-append es more nest_before_stream

@@ -51,7 +51,8 @@ one : (h : Happening) (n : Nest) → nest_behind_all (h ∷ []) n ≡ nest_behin
 one h n = some_again (nest_behind_event h n)
 
 pub nested_more : (events : List Happening) (h : Happening) (n : Nest) (o : Option Nest)
-    → nest_behind_all events nest_before_stream ≡ Some n → nest_behind_event h n ≡ o → nest_behind_all (events ++ h ∷ []) nest_before_stream ≡ o
+    → nest_behind_all events nest_before_stream ≡ Some n → nest_behind_event h n ≡ o
+    → nest_behind_all (events ++ h ∷ []) nest_before_stream ≡ o
 nested_more events h n o e f = nest_behind_all-append events (h ∷ []) nest_before_stream
     ∙ ap (option_and_then (nest_behind_all (h ∷ []))) e ∙ one h n ∙ f
 
@@ -60,7 +61,8 @@ pub counted_more : (events : List Happening) (h : Happening) (t : Tally) (d : Co
     → d ≡ counts_behind_all (events ++ h ∷ []) no_nodes
 counted_more events h t d e f = f ∙ ap (counts_behind h) e ∙ sym (counts_behind_all-append events (h ∷ []) no_nodes)
 
-fits_more : (l m : Limits) (a b : Counts) (h : Happening) → l ≡ m → a ≡ b → Fits l (counts_behind h a) → Fits m (counts_behind h b)
+fits_more : (l m : Limits) (a b : Counts) (h : Happening) → l ≡ m → a ≡ b → Fits l (counts_behind h a)
+    → Fits m (counts_behind h b)
 fits_more l m a b h e f x = subst (λ (k : Limits). Fits k (counts_behind h b)) e
     (subst (λ (d : Counts). Fits l (counts_behind h d)) f x)
 
@@ -93,7 +95,8 @@ takes limits events h place old new (Err (fault.TooDeep at most)) t c g = absurd
 
 pub exceeds : (limits : Limits) (events : List Happening) (h : Happening) (place : Marker) (old : Loader)
     (f : TreeFault) → HasTaken limits events old
-    → Exceeds f old.tally.limits (counts_behind h (counts_of old.tally)) place → Forbids f limits (events ++ h ∷ []) place
+    → Exceeds f old.tally.limits (counts_behind h (counts_of old.tally)) place
+    → Forbids f limits (events ++ h ∷ []) place
 exceeds limits events h place old (fault.TooManyNodes at most) t c = exceeds_more
     (fault.TooManyNodes at most) _ limits _ _ place t.same_limits (counted_more events h old.tally _ t.counted refl) c
 exceeds limits events h place old (fault.TooDeep at most) t c = exceeds_more

@@ -140,14 +140,16 @@ marks_at w p q e tokens.DocumentEnd t u m n h = has w _ t u m n h
 marks_at w p q e tokens.StreamEnd t u m n h = has w _ t u m n h
 marks_at w p q e _ t u m n h = inr (w.refused _ p q e)
 
-marks : (w : Beside) (p q : Marker) → w.Place p q → Both w (Has w) (document.token_behind_marks p) (document.token_behind_marks q)
+marks : (w : Beside) (p q : Marker) → w.Place p q
+    → Both w (Has w) (document.token_behind_marks p) (document.token_behind_marks q)
 unfolding document.token_behind_marks unpassed_token
 marks w p q e m n near = by _ _ (passes w _ is_mark (goes_by_marks w) _ _ m n (ahead w m n near))
   where
     by : (a b : Result (Piece × Machine) Refusal) → PassesAlike w (λ r q. ⊥) is_mark m n a b
         → GivesAlike w (Has w) (a >>= (λ t. document.token_behind_marks_at t.0.kind p t.0 t.1))
         (b >>= (λ t. document.token_behind_marks_at t.0.kind q t.0 t.1))
-    by a b (inl g) = behind_both w (Has w) a b (λ k. document.token_behind_marks_at k p) (λ k. document.token_behind_marks_at k q)
+    by a b (inl g) = behind_both w (Has w) a b (λ k. document.token_behind_marks_at k p)
+        (λ k. document.token_behind_marks_at k q)
         (marks_at w p q e) g
     by a b (inr s) = absurd s.2.tokens
 
@@ -221,8 +223,10 @@ start_passed (inr b) = inr (tt, b)
 
 -- A step of both, but that at the end of a document where the settings differ.
 pub steps_beside :
-    (w : Beside) (s r : State) (m n : Machine) → Expected w s r → s ≢ state.End → (s ≡ state.DocumentEnd → KeepsSetting w)
-    → Near w m n → TellsAlike w (event_step_at s m) (event_step_at r n) ⊎ (IsBetweenDocuments s × PassedAll w m n (event_step_at s))
+    (w : Beside) (s r : State) (m n : Machine) → Expected w s r → s ≢ state.End
+    → (s ≡ state.DocumentEnd → KeepsSetting w)
+    → Near w m n → TellsAlike w (event_step_at s m) (event_step_at r n)
+    ⊎ (IsBetweenDocuments s × PassedAll w m n (event_step_at s))
 unfolding block_node document.stream_start document.document_content
 steps_beside w state.StreamStart r m n e on keeps near =
     rw e (inl (taken w _ document.stream_start_at document.stream_start_at m n near (stream_at w)))

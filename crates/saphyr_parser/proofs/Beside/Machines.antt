@@ -283,5 +283,6 @@ tells_end w what s r m n e near = tells w what s r _ _ e (pops w m n near)
 
 -- a state without a place
 pub enters_told : (w : Beside) (what : Happening) (x y : State) (s r : Span) (m n : Machine) → Expected w x y
-    → SpansAlike w s r → Near w m n → TellsAlike w (told_event what s (with_state x m)) (told_event what r (with_state y n))
+    → SpansAlike w s r → Near w m n → TellsAlike w (told_event what s (with_state x m))
+    (told_event what r (with_state y n))
 enters_told w what x y s r m n i e near = tells w what s r _ _ e (enters w w.Rest x y m n i near)

@@ -41,7 +41,8 @@ prefixes_alike w names handle x y e =
 resolves :
     (w : Beside) (handle suffix : List ℕ) (x y : Marker) (m n : Machine) (go ho : ResolvedTag → Result Told Refusal)
     → w.Place x y → Near w m n → ((tag : ResolvedTag) → TellsAlike w (go tag) (ho tag))
-    → TellsAlike w (resolved_tag_at m.prefixes handle suffix x >>= go) (resolved_tag_at n.prefixes handle suffix y >>= ho)
+    → TellsAlike w (resolved_tag_at m.prefixes handle suffix x >>= go) (resolved_tag_at n.prefixes handle suffix y >>=
+    ho)
 unfolding resolved_tag_at
 resolves w handle suffix x y m n go ho e near h =
     rw near.prefixes (by (declared_prefix m.prefixes handle x) (declared_prefix m.prefixes handle y)
@@ -79,7 +80,8 @@ content_beside :
 content_beside w a b x y id tag c i j = at
   where
     none : (k : Kind) (t u : Piece) (m n : Machine) → Held w k t u m n
-        → TellsAlike w (node_without_content (properties a b id tag) t m) (node_without_content (properties x y id tag) u n)
+        → TellsAlike w (node_without_content (properties a b id tag) t m)
+        (node_without_content (properties x y id tag) u n)
     none k t u m n h = without_beside w a b x y id tag k t u m n i j h
 
     at : AtBoth w (Alike w) (λ k. node_content_at k (properties a b id tag) c)

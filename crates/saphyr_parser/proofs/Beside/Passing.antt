@@ -39,7 +39,8 @@ has w k t u m n h = by t.kind h.kind refl
 
 pub passes :
     (w : Beside) (S : Remaining → Remaining → Type 0) (p : Kind → Bool) → Goes w S p → (ts us : List Piece)
-    (m n : Machine) → Ahead w ts us m n → PassesAlike w S p m n (unpassed_token_from p ts m) (unpassed_token_from p us n)
+    (m n : Machine) → Ahead w ts us m n → PassesAlike w S p m n (unpassed_token_from p ts m)
+    (unpassed_token_from p us n)
 passes w S p go [] us m n a = inl (over w (Has w) us m n (λ us. unpassed_token_from p us n) a refl)
 passes w S p go (t ∷ ts) us m n a =
     rw x.is (by (p t.kind) refl (λ b. passes w S p go ts x.tail (with_pieces ts m) (with_pieces x.tail n) b))
@@ -99,7 +100,8 @@ abbrev Declares : Beside → List Piece → List Piece → Declared × Machine �
 Declares w ts us x y = (y.0 ≡ x.0) × Ahead w ts us x.1 y.1
 
 directive_beside :
-    (w : Beside) (k : Kind) (t u : Piece) (ts us : List Piece) (d : Declared) (m n : Machine) → SpansAlike w t.span u.span
+    (w : Beside) (k : Kind) (t u : Piece) (ts us : List Piece) (d : Declared) (m n : Machine)
+    → SpansAlike w t.span u.span
     → Ahead w ts us m n → GivesAlike w (Declares w ts us) (directive_at k t d m) (directive_at k u d n)
 directive_beside w (tokens.VersionDirective major minor) t u ts us d m n e a = by d.version
   where

@@ -266,7 +266,8 @@ closes_at state.ImplicitDocumentStart m =
 closes_at state.DocumentStart m =
     closes_behind (document.unpassed_token document.is_end_or_mark m) _ (λ t. explicit_start_at t.0.kind t.0 t.1)
 closes_at state.DocumentContent m = closes_behind (taken_token m) _ (λ t. content_starts t.0.kind t.0 t.1)
-closes_at state.DocumentEnd m = closes_behind (document.token_behind_document m) _ (λ t. document_end_closes t.0.kind t.0 _)
+closes_at state.DocumentEnd m = closes_behind (document.token_behind_document m) _
+    (λ t. document_end_closes t.0.kind t.0 _)
 closes_at state.BlockNode m = closes_behind (taken_token m) _ (λ t. nodes Block t.0 t.1)
 closes_at state.BlockSequenceEntry m = closes_behind (taken_token m) _ (λ t. sequence_entries t.0.kind t.0 t.1)
 closes_at state.IndentlessSequenceEntry m = closes_behind (taken_token m) _ (λ t. indentless_entries t.0.kind t.0 t.1)

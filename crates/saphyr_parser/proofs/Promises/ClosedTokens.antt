@@ -133,7 +133,8 @@ start keep ts e = record (fresh_machine (record { pieces = ts; refusal = e })) {
 tokens_close :
     (keep : Bool) (w : DocumentMarker) (ts us : List Piece) (x : Piece) (s : Span) (e : Option Refusal)
     (first : List Happening) → x.kind ≡ marker_token w
-    → happenings_of (remaining_answer (start keep ((ts ++ x ∷ []) ++ record { span = s; kind = tokens.StreamEnd } ∷ []) None))
+    → happenings_of (remaining_answer (start keep ((ts ++ x ∷ []) ++ record { span = s; kind = tokens.StreamEnd } ∷ [])
+    None))
     ≡ first ++ events_behind_marker w
     → GivesFirst first (remaining_answer (start keep ((ts ++ x ∷ []) ++ us) e))
 tokens_close keep w ts us x s e first is t =

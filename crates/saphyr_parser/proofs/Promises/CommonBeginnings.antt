@@ -35,7 +35,8 @@ pub ended : (s : State) → (s ≡ state.End) ⊎ (s ≢ state.End)
 ended state.End = inl refl
 ended _ = inr (λ e. absurd (cc))
 
-same_result : (z : More) (r : Option Refusal) (p q : Result Told Refusal) (x : Told) → AgreesOrEndsEarly z r p q → p ≡ Ok x
+same_result : (z : More) (r : Option Refusal) (p q : Result Told Refusal) (x : Told) → AgreesOrEndsEarly z r p q
+    → p ≡ Ok x
     → q ≡ Ok (record x { machine = longer z x.machine })
 same_result z r (Ok y) q x a e =
     let same : y ≡ x = cc in subst (λ (v : Told). q ≡ Ok (record v { machine = longer z v.machine })) same a.2
@@ -76,7 +77,8 @@ behind_all es a = record { events = es ++ a.events; fault = a.fault }
 
 -- where a machine wants another token behind the marker, unless its tokens ended too early
 abbrev pub IsStopped : More → Machine → Type 0
-IsStopped z k = z.Early ⊎ ((k.tokens.pieces ≡ []) × (Awaits z.marker k ⊎ ((z.marker ≡ Ends) × IsBetweenDocuments k.state)))
+IsStopped z k = z.Early ⊎ ((k.tokens.pieces ≡ []) × (Awaits z.marker k ⊎ ((z.marker ≡ Ends) × IsBetweenDocuments
+    k.state)))
 
 -- The answers are the same; or the end of the tokens, which r ends, is the fault of the first, and the second goes on
 -- from there.

@@ -143,7 +143,8 @@ gives_first limit keep marker forest text first most bounds h told =
     (bounds text) in
     let few = few_anchors forest limit (kinds (scan limit text).pieces) h.earlier h.more (marker_token marker)
     tokens.StreamEnd h.begins bound most (forest_count forest all h.yields) in
-    let given = each_parsed forest keep (record { pieces = alone; refusal = None }) (first ++ events_behind_marker marker)
+    let given = each_parsed forest keep (record { pieces = alone; refusal = None })
+    (first ++ events_behind_marker marker)
     (subst (Yields forest) (sym (kinds_of all)) h.yields) refl few told in
     closed_kinds keep marker h.earlier h.more alone (scan limit text) first (kinds_of all) h.begins given
 

@@ -13,7 +13,8 @@ use Rattle.saphyr_parser.proofs.Promises.ReadsEach.{reads_each}
 -- each text of the layout grammar gives tokens of its forest
 abbrev pub ScansLayout : Type 0
 ScansLayout = (limit : ℕ) (forest : Forest) (text : List ℕ) → IsLayoutText most_open forest text
-    → length text ≤ limit → limit < 2 ^ 63 → (tokens : List Kind) × Yields forest tokens × Scans tokens (scan limit text)
+    → length text ≤ limit → limit < 2 ^ 63
+    → (tokens : List Kind) × Yields forest tokens × Scans tokens (scan limit text)
 
 pub reads_layout : ScansLayout → (limit : ℕ) (text : List ℕ) → limit ≤ 4294967295
     → length (scan limit text).pieces ≤ 5 * limit + 10 → (parser : EventCursor) → parser ≡ at_start (scan limit text)

@@ -82,7 +82,8 @@ indentless_begins f Value l ss e h = elim h [ ]
 indentless_begins f BlockEnd l ss e h = elim h [ ]
 indentless_begins f _ l ss e h = refl
 
-indentless_is_left_out : (f : SpansByKinds) (k : Kind) (ks : List Kind) (ss : List State) (e : Memory) → EndsIndentless k
+indentless_is_left_out : (f : SpansByKinds) (k : Kind) (ks : List Kind) (ss : List State) (e : Memory)
+    → EndsIndentless k
     → event_step (at f (BlockEntry ∷ k ∷ ks) state.IndentlessSequenceEntry ss e)
     ≡ told_event empty_scalar (f (k ∷ ks)) (at f (k ∷ ks) state.IndentlessSequenceEntry ss e)
 unfolding event_step indentless_entry indentless_node
@@ -104,7 +105,8 @@ indentless_says n t h g f k ks ss e ps z l =
 
 -- ## Entries of mappings
 
-block_key_begins : (f : SpansByKinds) (j : Kind) (l : List Kind) (ss : List State) (e : Memory) → Starts InBlockMapping j
+block_key_begins : (f : SpansByKinds) (j : Kind) (l : List Kind) (ss : List State) (e : Memory)
+    → Starts InBlockMapping j
     → event_step (at f (Key ∷ j ∷ l) state.BlockMappingKey ss e)
     ≡ next_node BlockMapping (at f (j ∷ l) state.BlockMappingKey (state.BlockMappingValue ∷ ss) e)
 unfolding event_step mapping_key block_key_node
@@ -113,7 +115,8 @@ block_key_begins f Value l ss e h = elim h [ ]
 block_key_begins f BlockEnd l ss e h = elim h [ ]
 block_key_begins f _ l ss e h = refl
 
-key_is_left_out : (f : SpansByKinds) (k : Kind) (ks : List Kind) (ss : List State) (e : Memory) → MayFollow InBlockMapping k
+key_is_left_out : (f : SpansByKinds) (k : Kind) (ks : List Kind) (ss : List State) (e : Memory)
+    → MayFollow InBlockMapping k
     → event_step (at f (Key ∷ k ∷ ks) state.BlockMappingKey ss e)
     ≡ told_event empty_scalar (f ks) (at f (k ∷ ks) state.BlockMappingValue ss e)
 unfolding event_step mapping_key block_key_node
@@ -122,7 +125,8 @@ key_is_left_out f Value ks ss e h = refl
 key_is_left_out f BlockEnd ks ss e h = refl
 key_is_left_out f _ ks ss e h = elim h [ ]
 
-block_value_begins : (f : SpansByKinds) (j : Kind) (l : List Kind) (ss : List State) (e : Memory) → Starts InBlockMapping j
+block_value_begins : (f : SpansByKinds) (j : Kind) (l : List Kind) (ss : List State) (e : Memory)
+    → Starts InBlockMapping j
     → event_step (at f (Value ∷ j ∷ l) state.BlockMappingValue ss e)
     ≡ next_node BlockMapping (at f (j ∷ l) state.BlockMappingValue (state.BlockMappingKey ∷ ss) e)
 unfolding event_step block_mapping_value block_value_node
@@ -131,7 +135,8 @@ block_value_begins f Value l ss e h = elim h [ ]
 block_value_begins f BlockEnd l ss e h = elim h [ ]
 block_value_begins f _ l ss e h = refl
 
-value_is_left_out : (f : SpansByKinds) (k : Kind) (ks : List Kind) (ss : List State) (e : Memory) → MayFollow InBlockMapping k
+value_is_left_out : (f : SpansByKinds) (k : Kind) (ks : List Kind) (ss : List State) (e : Memory)
+    → MayFollow InBlockMapping k
     → event_step (at f (Value ∷ k ∷ ks) state.BlockMappingValue ss e)
     ≡ told_event empty_scalar (f (k ∷ ks)) (at f (k ∷ ks) state.BlockMappingKey ss e)
 unfolding event_step block_mapping_value block_value_node
@@ -140,7 +145,8 @@ value_is_left_out f Value ks ss e h = refl
 value_is_left_out f BlockEnd ks ss e h = refl
 value_is_left_out f _ ks ss e h = elim h [ ]
 
-value_is_missing : (f : SpansByKinds) (k : Kind) (ks : List Kind) (ss : List State) (e : Memory) → MayFollow InBlockMapping k
+value_is_missing : (f : SpansByKinds) (k : Kind) (ks : List Kind) (ss : List State) (e : Memory)
+    → MayFollow InBlockMapping k
     → ¬ (BeginsWithValue (k ∷ ks))
     → event_step (at f (k ∷ ks) state.BlockMappingValue ss e)
     ≡ told_event empty_scalar (f ks) (at f (k ∷ ks) state.BlockMappingKey ss e)

@@ -26,7 +26,8 @@ pub record FlowEntriesSay (ns : Nodes) (t : List Kind) : Type 0 where
 pub record FlowPairsSay (qs : Pairs) (t : List Kind) : Type 0 where
   pub by : (f : SpansByKinds) (ks : List Kind) (s : State) (ss : List State) (e : Memory) (ps : List Part)
       → TellsParts f ks s ss (after_pairs qs e) ps
-      → TellsParts f (t ++ FlowMappingEnd ∷ ks) state.FlowMappingFirstKey (s ∷ ss) e (pair_parts qs ++ CloseMapping ∷ ps)
+      → TellsParts f (t ++ FlowMappingEnd ∷ ks) state.FlowMappingFirstKey (s ∷ ss) e
+      (pair_parts qs ++ CloseMapping ∷ ps)
 
 pub record BlockEntriesSay (ns : Nodes) (t : List Kind) : Type 0 where
   pub by : (f : SpansByKinds) (ks : List Kind) (s : State) (ss : List State) (e : Memory) (ps : List Part)

@@ -169,9 +169,11 @@ bare_opens f front j l e ps h s r =
     (implicitly front f j l e h (node_stops j s) ∙ node_is_bare j _ _ s) r
 
 pub bare_says : (n : Node) (t : List Kind) → YieldsNode n InBlock t
-    → (f : SpansByKinds) (front : List Kind) (k : Kind) (ks : List Kind) (e : Memory) (ps : List Part) → AreEndsAndMarks front
+    → (f : SpansByKinds) (front : List Kind) (k : Kind) (ks : List Kind) (e : Memory) (ps : List Part)
+    → AreEndsAndMarks front
     → EndsDocument k → TellsParts f (k ∷ ks) state.DocumentEnd [] (after_node n (opening [] e)) ps
-    → TellsParts f (front ++ (t ++ k ∷ ks)) state.ImplicitDocumentStart [] e (OpenDocument false [] ∷ (node_parts n ++ ps))
+    → TellsParts f (front ++ (t ++ k ∷ ks)) state.ImplicitDocumentStart [] e
+    (OpenDocument false [] ∷ (node_parts n ++ ps))
 unfolding event_step block_node
 bare_says n t h f front k ks e ps a z l =
     let e' : Memory = opening [] e in
@@ -191,7 +193,8 @@ bare_says n t h f front k ks e ps a z l =
 abbrev pub opened : Machine → Result Told Refusal
 opened m = directives none_declared m >>= (λ u. explicit_document_at u.0.kind u.0 u.1)
 
-pub implicit_opens : (ds : List Directive) (f : SpansByKinds) (front rest : List Kind) (e : Memory) → AreEndsAndMarks front
+pub implicit_opens : (ds : List Directive) (f : SpansByKinds) (front rest : List Kind) (e : Memory)
+    → AreEndsAndMarks front
     → event_step (at f (front ++ (map directive_token ds ++ DocumentStart ∷ rest)) state.ImplicitDocumentStart [] e)
     ≡ opened (at f (map directive_token ds ++ DocumentStart ∷ rest) state.ImplicitDocumentStart [] e)
 unfolding explicit_document
@@ -234,7 +237,8 @@ content_is_left_out f _ ks e h = elim h [ ]
 -- from a machine that comes to the directives
 pub explicit_says : (n : Node) (ds : List Directive) (t : List Kind) → AreCompatible ds
     → YieldsOptional n (YieldsNode n InBlock) t
-    → (f : SpansByKinds) (k : Kind) (ks : List Kind) (m : Machine) (x : State) (e : Memory) (ps : List Part) → EndsDocument k
+    → (f : SpansByKinds) (k : Kind) (ks : List Kind) (m : Machine) (x : State) (e : Memory) (ps : List Part)
+    → EndsDocument k
     → m.state ≢ state.End → event_step m ≡ opened
     (at f (map directive_token ds ++ DocumentStart ∷ (t ++ k ∷ ks)) x [] e)
     → TellsParts f (k ∷ ks) state.DocumentEnd [] (after_node n (opening ds e)) ps

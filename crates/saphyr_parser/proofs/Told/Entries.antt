@@ -26,19 +26,22 @@ use Rattle.saphyr_parser.proofs.Told.Collections.{FlowEntriesSay, FlowPairsSay, 
 -- ## The ends of collections
 
 -- the tokens of no entry
-no_entry_told : (f : SpansByKinds) (x : State) (ss : List State) (e : Memory) (ps : List Part) (t rest : List Kind) → t ≡ []
+no_entry_told : (f : SpansByKinds) (x : State) (ss : List State) (e : Memory) (ps : List Part) (t rest : List Kind)
+    → t ≡ []
     → TellsParts f rest x ss e ps → TellsParts f (t ++ rest) x ss e ps
 no_entry_told f x ss e ps t rest h l = subst (λ (u : List Kind). TellsParts f (u ++ rest) x ss e ps) (sym h) l
 
 flow_sequence_ends : (f : SpansByKinds) (ks : List Kind) (s : State) (ss : List State) (e : Memory) (ps : List Part)
-    → TellsParts f ks s ss e ps → TellsParts f (FlowSequenceEnd ∷ ks) state.FlowSequenceFirstEntry (s ∷ ss) e (CloseSequence ∷ ps)
+    → TellsParts f ks s ss e ps → TellsParts f (FlowSequenceEnd ∷ ks) state.FlowSequenceFirstEntry (s ∷ ss) e
+    (CloseSequence ∷ ps)
 unfolding event_step first_entry
 flow_sequence_ends f ks s ss e ps l =
     plainly e (at f (FlowSequenceEnd ∷ ks) state.FlowSequenceFirstEntry (s ∷ ss) e) (at f ks s ss e) CloseSequence ps
     SequenceEnd (f ks) (λ q. cc) refl refl l
 
 other_sequence_ends : (f : SpansByKinds) (ks : List Kind) (s : State) (ss : List State) (e : Memory) (ps : List Part)
-    → TellsParts f ks s ss e ps → TellsParts f (FlowSequenceEnd ∷ ks) state.FlowSequenceEntry (s ∷ ss) e (CloseSequence ∷ ps)
+    → TellsParts f ks s ss e ps → TellsParts f (FlowSequenceEnd ∷ ks) state.FlowSequenceEntry (s ∷ ss) e
+    (CloseSequence ∷ ps)
 unfolding event_step other_entry
 other_sequence_ends f ks s ss e ps l =
     plainly e (at f (FlowSequenceEnd ∷ ks) state.FlowSequenceEntry (s ∷ ss) e) (at f ks s ss e) CloseSequence ps
@@ -63,7 +66,8 @@ list_sequence_ends f t ks s ss e ps (inr h) l =
     (CloseSequence ∷ ps)) (sym h) (comma_sequence_ends f ks s ss e ps l)
 
 flow_mapping_ends : (f : SpansByKinds) (ks : List Kind) (s : State) (ss : List State) (e : Memory) (ps : List Part)
-    → TellsParts f ks s ss e ps → TellsParts f (FlowMappingEnd ∷ ks) state.FlowMappingFirstKey (s ∷ ss) e (CloseMapping ∷ ps)
+    → TellsParts f ks s ss e ps → TellsParts f (FlowMappingEnd ∷ ks) state.FlowMappingFirstKey (s ∷ ss) e
+    (CloseMapping ∷ ps)
 unfolding event_step first_pair
 flow_mapping_ends f ks s ss e ps l =
     plainly e (at f (FlowMappingEnd ∷ ks) state.FlowMappingFirstKey (s ∷ ss) e) (at f ks s ss e) CloseMapping ps
@@ -91,7 +95,8 @@ list_mapping_ends f t ks s ss e ps (inl h) l =
     no_entry_told f state.FlowMappingKey (s ∷ ss) e (CloseMapping ∷ ps) t (FlowMappingEnd ∷ ks) h
     (other_mapping_ends f ks s ss e ps l)
 list_mapping_ends f t ks s ss e ps (inr h) l =
-    subst (λ (u : List Kind). TellsParts f (u ++ FlowMappingEnd ∷ ks) state.FlowMappingKey (s ∷ ss) e (CloseMapping ∷ ps))
+    subst (λ (u : List Kind). TellsParts f (u ++ FlowMappingEnd ∷ ks) state.FlowMappingKey (s ∷ ss) e
+    (CloseMapping ∷ ps))
     (sym h) (comma_mapping_ends f ks s ss e ps l)
 
 block_sequence_ends : (f : SpansByKinds) (ks : List Kind) (s : State) (ss : List State) (e : Memory) (ps : List Part)
@@ -108,7 +113,8 @@ block_mapping_ends f ks s ss e ps l =
     plainly e (at f (BlockEnd ∷ ks) state.BlockMappingKey (s ∷ ss) e) (at f ks s ss e) CloseMapping ps MappingEnd (f ks)
     (λ q. cc) refl refl l
 
-indentless_ends : (f : SpansByKinds) (k : Kind) (ks : List Kind) (s : State) (ss : List State) (e : Memory) (ps : List Part)
+indentless_ends : (f : SpansByKinds) (k : Kind) (ks : List Kind) (s : State) (ss : List State) (e : Memory)
+    (ps : List Part)
     → MayFollow InBlockMapping k → TellsParts f (k ∷ ks) s ss e ps
     → TellsParts f (k ∷ ks) state.IndentlessSequenceEntry (s ∷ ss) e (CloseSequence ∷ ps)
 unfolding event_step indentless_entry
@@ -151,7 +157,8 @@ unfolding event_step other_pair pair_behind_comma
 at_other_pair f ss e = record { goes_on = λ l q. cc; span = f; steps = λ k l. refl }
 
 -- an entry, with the token behind it shown
-entry_told : (Fits : Kind → Type 0) (f : SpansByKinds) (t u rest v : List Kind) (machine : List Kind → Machine) (s : State)
+entry_told : (Fits : Kind → Type 0) (f : SpansByKinds) (t u rest v : List Kind) (machine : List Kind → Machine)
+    (s : State)
     (ss : List State) (e e' : Memory) (ps qs : List Part) → Next Fits (u ++ rest) → v ≡ t ++ u
     → ((k : Kind) (ks : List Kind) → Fits k → TellsParts f (k ∷ ks) s ss e' ps → SaysParts e (machine (t ++ k ∷ ks)) qs)
     → TellsParts f (u ++ rest) s ss e' ps → SaysParts e (machine (v ++ rest)) qs
@@ -172,7 +179,8 @@ pub record EntrySays (n : Node) (t : List Kind) : Type 0 where
 pub record OtherEntriesSay (ns : Nodes) (t : List Kind) : Type 0 where
   pub by : (f : SpansByKinds) (ks : List Kind) (s : State) (ss : List State) (e : Memory) (ps : List Part)
       → TellsParts f ks s ss (after_nodes ns e) ps
-      → TellsParts f (t ++ FlowSequenceEnd ∷ ks) state.FlowSequenceEntry (s ∷ ss) e (entry_parts ns ++ CloseSequence ∷ ps)
+      → TellsParts f (t ++ FlowSequenceEnd ∷ ks) state.FlowSequenceEntry (s ∷ ss) e
+      (entry_parts ns ++ CloseSequence ∷ ps)
 
 -- a node, or a pair
 pub either_says : (n : Node) (t : List Kind) → YieldsNode n InFlow t ⊎ YieldsPairEntry n t

@@ -31,15 +31,17 @@ pair_end_follows FlowMappingEnd h = tt
 pair_end_follows _ h = elim h [ ]
 
 -- the machine comes to an entry of braces; the span is the end's, if the mapping ends here
-pub record AtPair (f : SpansByKinds) (x : State) (ss : List State) (e : Memory) (machine : List Kind → Machine) : Type 0 where
-  pub goes_on : (l : List Kind) → (machine l).state ≢ state.End
-  pub span : List Kind → Span
-  pub steps : (k : Kind) (l : List Kind)
-      → event_step (machine (k ∷ l)) ≡ pair_at k (span (k ∷ l)) (record { span = f l; kind = k }) (at f l x ss e)
+pub record AtPair (f : SpansByKinds) (x : State) (ss : List State) (e : Memory) (machine : List Kind → Machine) : Type 0
+  where
+    pub goes_on : (l : List Kind) → (machine l).state ≢ state.End
+    pub span : List Kind → Span
+    pub steps : (k : Kind) (l : List Kind)
+        → event_step (machine (k ∷ l)) ≡ pair_at k (span (k ∷ l)) (record { span = f l; kind = k }) (at f l x ss e)
 
 -- ## Keys
 
-flow_key_begins : (f : SpansByKinds) (j : Kind) (l : List Kind) (x : State) (ss : List State) (e : Memory) → Starts InFlow j
+flow_key_begins : (f : SpansByKinds) (j : Kind) (l : List Kind) (x : State) (ss : List State) (e : Memory)
+    → Starts InFlow j
     → flow_key_node (at f (j ∷ l) x ss e) ≡ next_node Flow (at f (j ∷ l) x (state.FlowMappingValue ∷ ss) e)
 unfolding flow_key_node
 flow_key_begins f Value l x ss e h = elim h [ ]
@@ -112,7 +114,8 @@ missing_value_says f k ks ss e ps z l =
 -- the key, from its mark on
 key_says : (key : Node) (t : List Kind) → YieldsOptional key (YieldsNode key InFlow) t
     → (YieldsNode key InFlow t → NodeSays key InFlow t)
-    → (f : SpansByKinds) (k : Kind) (ks : List Kind) (machine : List Kind → Machine) (x : State) (ss : List State) (e : Memory)
+    → (f : SpansByKinds) (k : Kind) (ks : List Kind) (machine : List Kind → Machine) (x : State) (ss : List State)
+    (e : Memory)
     (ps : List Part) → MayFollow InFlow k
     → flow_key_node (at f (k ∷ ks) x ss e) ≡ told_event empty_scalar (f ks) (at f (k ∷ ks) state.FlowMappingValue ss e)
     → AtPair f x ss e machine → TellsParts f (k ∷ ks) state.FlowMappingValue ss (after_node key e) ps
@@ -125,13 +128,15 @@ key_says key t h g f k ks machine x ss e ps z skip a l =
 -- a pair whose value is left out, by its key's tokens
 alone_says : (key : Node) (t : List Kind) → YieldsMarkedKey key (YieldsNode key InFlow) t ⊎ YieldsNode key InFlow t
     → ((u : List Kind) → YieldsNode key InFlow u → NodeSays key InFlow u)
-    → (f : SpansByKinds) (k : Kind) (ks : List Kind) (machine : List Kind → Machine) (x : State) (ss : List State) (e : Memory)
+    → (f : SpansByKinds) (k : Kind) (ks : List Kind) (machine : List Kind → Machine) (x : State) (ss : List State)
+    (e : Memory)
     (ps : List Part) → EndsPair k → AtPair f x ss e machine
     → TellsParts f (k ∷ ks) state.FlowMappingKey ss (after_node key e) ps
     → SaysParts e (machine (t ++ k ∷ ks)) (node_parts key ++ (node_parts forest.left_out ++ ps))
 unfolding event_step empty_value
 alone_says key t (inl h) g f k ks machine x ss e ps z a l =
-    subst (λ (u : List Kind). SaysParts e (machine (u ++ k ∷ ks)) (node_parts key ++ (node_parts forest.left_out ++ ps)))
+    subst (λ (u : List Kind). SaysParts e (machine (u ++ k ∷ ks))
+    (node_parts key ++ (node_parts forest.left_out ++ ps)))
     (sym h.2) (key_says key h.0 h.1 (g h.0) f k ks machine x ss e _ (pair_end_follows k z)
     (key_is_left_out f k ks x ss e z) a (missing_value_says f k ks ss (after_node key e) ps z l))
 alone_says key t (inr h) g f k ks machine x ss e ps z a l =
@@ -146,7 +151,8 @@ alone_says key t (inr h) g f k ks machine x ss e ps z a l =
 -- a pair whose key is left out
 keyless_says : (value : Node) (t : List Kind) → YieldsMarkedValue value (YieldsNode value InFlow) t
     → ((u : List Kind) → YieldsNode value InFlow u → NodeSays value InFlow u)
-    → (f : SpansByKinds) (k : Kind) (ks : List Kind) (machine : List Kind → Machine) (x : State) (ss : List State) (e : Memory)
+    → (f : SpansByKinds) (k : Kind) (ks : List Kind) (machine : List Kind → Machine) (x : State) (ss : List State)
+    (e : Memory)
     (ps : List Part) → EndsPair k → AtPair f x ss e machine
     → TellsParts f (k ∷ ks) state.FlowMappingKey ss (after_node value e) ps
     → SaysParts e (machine (t ++ k ∷ ks)) (node_parts forest.left_out ++ (node_parts value ++ ps))
@@ -154,7 +160,8 @@ keyless_says value t h g f k ks machine x ss e ps z a l =
     let rest : List Kind = h.0 ++ k ∷ ks in
     let second : TellsParts f (Value ∷ rest) state.FlowMappingValue ss e (node_parts value ++ ps) =
     value_says value h.0 h.1 (g h.0) f k ks ss e ps z l in
-    subst (λ (u : List Kind). SaysParts e (machine (u ++ k ∷ ks)) (node_parts forest.left_out ++ (node_parts value ++ ps)))
+    subst (λ (u : List Kind). SaysParts e (machine (u ++ k ∷ ks))
+    (node_parts forest.left_out ++ (node_parts value ++ ps)))
     (sym h.2) (skipped e (machine (Value ∷ rest)) (at f (Value ∷ rest) state.FlowMappingValue ss e)
     (node_parts value ++ ps) (f rest) (a.goes_on (Value ∷ rest)) (a.steps Value rest) second)
 
@@ -163,7 +170,8 @@ pub pair_says : (key value : Node) (t : List Kind)
     → YieldsFlowPair key value (YieldsNode key InFlow) (YieldsNode value InFlow) t
     → ((u : List Kind) → YieldsNode key InFlow u → NodeSays key InFlow u)
     → ((u : List Kind) → YieldsNode value InFlow u → NodeSays value InFlow u)
-    → (f : SpansByKinds) (k : Kind) (ks : List Kind) (machine : List Kind → Machine) (x : State) (ss : List State) (e : Memory)
+    → (f : SpansByKinds) (k : Kind) (ks : List Kind) (machine : List Kind → Machine) (x : State) (ss : List State)
+    (e : Memory)
     (ps : List Part) → EndsPair k → AtPair f x ss e machine
     → TellsParts f (k ∷ ks) state.FlowMappingKey ss (after_node value (after_node key e)) ps
     → SaysParts e (machine (t ++ k ∷ ks)) (node_parts key ++ (node_parts value ++ ps))

@@ -125,7 +125,8 @@ content_behind_anchor : (k : Kind) (id : ℕ) (s : Span) (d : NodeContext) (t : 
 content_behind_anchor (tokens.Tag _ _) id s d t m h = elim h [ ]
 content_behind_anchor _ id s d t m h = refl
 
-content_behind_tag : (k : Kind) (tag : ResolvedTag) (s : Span) (d : NodeContext) (t : Piece) (m : Machine) → IsContentKind k
+content_behind_tag : (k : Kind) (tag : ResolvedTag) (s : Span) (d : NodeContext) (t : Piece) (m : Machine)
+    → IsContentKind k
     → node_behind_tag_at k tag s d t m
     ≡ node_content (record { start = s.start; behind = s.end; anchor = 0; tag = Some tag }) d t m
 content_behind_tag (tokens.Anchor _) tag s d t m h = elim h [ ]
@@ -146,7 +147,8 @@ made : (make : ℕ → Option ResolvedTag → Happening) (a b : ℕ) (t g : Opti
 made make a b t g w h k q = cc
 
 -- a node comes to its content, which begins with the token k
-pub record ComesToContent (f : SpansByKinds) (d : NodeContext) (x : State) (ss : List State) (e : Memory) (anchor : Option (List ℕ))
+pub record ComesToContent (f : SpansByKinds) (d : NodeContext) (x : State) (ss : List State) (e : Memory)
+    (anchor : Option (List ℕ))
     (tag : Option Tag) (k : Kind) (ks : List Kind) (r : Result Told Refusal) : Type 0 where
   pub properties : NodeProperties
   pub has : Has e anchor tag properties

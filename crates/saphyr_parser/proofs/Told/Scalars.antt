@@ -37,7 +37,8 @@ has_one e None (Some tag) q h has =
     ap (λ b. nat_lt 0 q.anchor || b) (is_tagged (resolve e.prefixes tag) q.tag has.tag_is) ∙ or-true (nat_lt 0 q.anchor)
 
 empty_is_told : (q : NodeProperties) (t : Piece) (m : Machine) → has_property q ≡ true
-    → node_without_content q t m ≡ told_event (Scalar [] forest.Plain q.anchor q.tag) (span_up_to q q.behind) (pop (put_back t m))
+    → node_without_content q t m ≡ told_event (Scalar [] forest.Plain q.anchor q.tag) (span_up_to q q.behind)
+    (pop (put_back t m))
 empty_is_told q t m h = rw h refl
 
 -- ## Scalars

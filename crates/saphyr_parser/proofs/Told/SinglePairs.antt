@@ -39,14 +39,16 @@ entry_begins Key t m h = elim h [ ]
 entry_begins _ t m h = refl
 
 -- the machine comes to an entry of brackets
-pub record AtEntry (f : SpansByKinds) (x : State) (ss : List State) (e : Memory) (machine : List Kind → Machine) : Type 0 where
+pub record AtEntry (f : SpansByKinds) (x : State) (ss : List State) (e : Memory) (machine : List Kind → Machine) : Type
+    0 where
   pub goes_on : (l : List Kind) → (machine l).state ≢ state.End
   pub steps : (k : Kind) (l : List Kind)
       → event_step (machine (k ∷ l)) ≡ entry_at k (record { span = f l; kind = k }) (at f l x ss e)
 
 -- an entry that is a node
 pub entry_says : (n : Node) (t : List Kind) → YieldsNode n InFlow t → NodeSays n InFlow t
-    → (f : SpansByKinds) (k : Kind) (ks : List Kind) (machine : List Kind → Machine) (x : State) (ss : List State) (e : Memory)
+    → (f : SpansByKinds) (k : Kind) (ks : List Kind) (machine : List Kind → Machine) (x : State) (ss : List State)
+    (e : Memory)
     (ps : List Part) → EndsEntry k → AtEntry f x ss e machine
     → TellsParts f (k ∷ ks) state.FlowSequenceEntry ss (after_node n e) ps
     → SaysParts e (machine (t ++ k ∷ ks)) (node_parts n ++ ps)
@@ -111,14 +113,16 @@ pair_ends_at f place l ss e ps h =
     plainly e (at f l (state.FlowSequenceEntryMappingEnd place) ss e) (at f l state.FlowSequenceEntry ss e) CloseMapping
     ps MappingEnd (record { start = place; end = place }) (λ q. cc) refl refl h
 
-pair_ends : (f : SpansByKinds) (t : List Kind) (k : Kind) (ks : List Kind) (ss : List State) (e : Memory) (ps : List Part)
+pair_ends : (f : SpansByKinds) (t : List Kind) (k : Kind) (ks : List Kind) (ss : List State) (e : Memory)
+    (ps : List Part)
     → TellsParts f (k ∷ ks) state.FlowSequenceEntry ss e ps
     → TellsParts f (k ∷ ks) (behind_value f (t ++ k ∷ ks)) ss e (CloseMapping ∷ ps)
 unfolding behind_value
 pair_ends f [] k ks ss e ps h = pair_ends_at f _ (k ∷ ks) ss e ps h
 pair_ends f (j ∷ t) k ks ss e ps h = pair_ends_at f _ (k ∷ ks) ss e ps h
 
-pair_opens : (f : SpansByKinds) (l : List Kind) (machine : List Kind → Machine) (x : State) (ss : List State) (e : Memory)
+pair_opens : (f : SpansByKinds) (l : List Kind) (machine : List Kind → Machine) (x : State) (ss : List State)
+    (e : Memory)
     (ps : List Part) → AtEntry f x ss e machine → TellsParts f l state.FlowSequenceEntryMappingKey ss e ps
     → SaysParts e (machine (Key ∷ l)) (OpenMapping no_properties ∷ ps)
 pair_opens f l machine x ss e ps a h =
@@ -128,14 +132,16 @@ pair_opens f l machine x ss e ps a h =
 -- a pair with no value
 key_alone_says : (key : Node) (t : List Kind) → YieldsMarkedKey key (YieldsNode key InFlow) t
     → ((u : List Kind) → YieldsNode key InFlow u → NodeSays key InFlow u)
-    → (f : SpansByKinds) (k : Kind) (ks : List Kind) (machine : List Kind → Machine) (x : State) (ss : List State) (e : Memory)
+    → (f : SpansByKinds) (k : Kind) (ks : List Kind) (machine : List Kind → Machine) (x : State) (ss : List State)
+    (e : Memory)
     (ps : List Part) → EndsEntry k → AtEntry f x ss e machine
     → TellsParts f (k ∷ ks) state.FlowSequenceEntry ss (after_node key e) ps
     → SaysParts e (machine (t ++ k ∷ ks))
     (OpenMapping no_properties ∷ (node_parts key ++ (node_parts forest.left_out ++ CloseMapping ∷ ps)))
 key_alone_says key t h gk f k ks machine x ss e ps z a l =
     let e' : Memory = after_node key e in
-    let last : TellsParts f (k ∷ ks) (behind_value f (k ∷ ks)) ss e' (CloseMapping ∷ ps) = pair_ends f [] k ks ss e' ps l in
+    let last : TellsParts f (k ∷ ks) (behind_value f (k ∷ ks)) ss e' (CloseMapping ∷ ps) = pair_ends f [] k ks ss e' ps
+    l in
     let second : TellsParts f (k ∷ ks) state.FlowSequenceEntryMappingValue ss e'
     (node_parts forest.left_out ++ CloseMapping ∷ ps) =
     skipped e' (at f (k ∷ ks) state.FlowSequenceEntryMappingValue ss e')
@@ -157,7 +163,8 @@ pub pair_says : (key value : Node) (t : List Kind)
     → YieldsSinglePair key value (YieldsNode key InFlow) (YieldsNode value InFlow) t
     → ((u : List Kind) → YieldsNode key InFlow u → NodeSays key InFlow u)
     → ((u : List Kind) → YieldsNode value InFlow u → NodeSays value InFlow u)
-    → (f : SpansByKinds) (k : Kind) (ks : List Kind) (machine : List Kind → Machine) (x : State) (ss : List State) (e : Memory)
+    → (f : SpansByKinds) (k : Kind) (ks : List Kind) (machine : List Kind → Machine) (x : State) (ss : List State)
+    (e : Memory)
     (ps : List Part) → EndsEntry k → AtEntry f x ss e machine
     → TellsParts f (k ∷ ks) state.FlowSequenceEntry ss (after_node value (after_node key e)) ps
     → SaysParts e (machine (t ++ k ∷ ks))

@@ -51,7 +51,8 @@ marks_behind f place DocumentStart l e h = refl
 marks_behind f place DocumentEnd l e h = refl
 marks_behind f place _ l e h = elim h [ ]
 
-ended_behind : (f : SpansByKinds) (marks : List Kind) (j : Kind) (l : List Kind) (e : Memory) → AreMarks marks → MayStandBehindMarks j
+ended_behind : (f : SpansByKinds) (marks : List Kind) (j : Kind) (l : List Kind) (e : Memory) → AreMarks marks
+    → MayStandBehindMarks j
     → event_step (at f (ByteOrderMark ∷ (marks ++ j ∷ l)) state.DocumentEnd [] e)
     ≡ document_end_at j (record { span = f l; kind = j }) (at f l state.DocumentEnd [] (closing e))
 unfolding event_step document_end token_behind_document token_behind_marks
@@ -63,7 +64,8 @@ ended_behind f marks j l e a h =
     ∙ ap (λ (r : Result (Piece × Machine) Refusal). r >>= (λ t. document_end_at t.0.kind t.0 (without_prefixes t.1)))
     (marks_behind f s j l e h)
 
-ended_all : (f : SpansByKinds) (marks : List Kind) (j : Kind) (l : List Kind) (e : Memory) → AreMarks marks → MayStandBehindMarks j
+ended_all : (f : SpansByKinds) (marks : List Kind) (j : Kind) (l : List Kind) (e : Memory) → AreMarks marks
+    → MayStandBehindMarks j
     → event_step (at f (marks ++ j ∷ l) state.DocumentEnd [] e)
     ≡ document_end_at j (record { span = f l; kind = j }) (at f l state.DocumentEnd [] (closing e))
 ended_all f [] j l e a h = document_end_told f j l e h
@@ -105,7 +107,8 @@ DocumentsSay ds true t =
 DocumentsSay ds false t = (f : SpansByKinds) (e : Memory) → TellsParts f t state.DocumentStart [] e (document_parts ds)
 
 behind_says : (ds : Forest) (t : List Kind) → YieldsBehindDocument (YieldDocuments ds) t
-    → ((free : Bool) (u : List Kind) → YieldDocuments ds free u → DocumentsSay ds free u) → (f : SpansByKinds) (e : Memory)
+    → ((free : Bool) (u : List Kind) → YieldDocuments ds free u → DocumentsSay ds free u)
+    → (f : SpansByKinds) (e : Memory)
     → TellsParts f t state.DocumentEnd [] e (CloseDocument ∷ document_parts ds)
 behind_says ds t h g f e = by h.4
   where
@@ -115,7 +118,8 @@ behind_says ds t h g f e = by h.4
     by (inl z) =
         let n : Next MayStandBehindDocument h.2 = next_start ds h.2 z.1 in
         let same : t ≡ h.0 ++ n.first ∷ n.others = h.5 ∙ ap (λ l. h.0 ++ l) (ap (λ l. l ++ h.2) z.0 ∙ n.is) in
-        let told : TellsParts f h.2 state.DocumentStart [] (closing e) (document_parts ds) = g false h.2 z.1 f (closing e) in
+        let told : TellsParts f h.2 state.DocumentStart [] (closing e) (document_parts ds) = g false h.2 z.1 f
+        (closing e) in
         subst (λ (u : List Kind). TellsParts f u state.DocumentEnd [] e (CloseDocument ∷ document_parts ds)) (sym same)
         (ends_silently f h.0 n.first n.others e (document_parts ds) h.3 n.fits
         (subst (λ (u : List Kind). TellsParts f u state.DocumentStart [] (closing e) (document_parts ds)) n.is told))
@@ -126,7 +130,8 @@ behind_says ds t h g f e = by h.4
 
 -- a document, with the token behind it
 bare_document_says : (d : Document) (t : List Kind) → YieldsBareDocument d t
-    → (f : SpansByKinds) (front : List Kind) (k : Kind) (ks : List Kind) (e : Memory) (ps : List Part) → AreEndsAndMarks front
+    → (f : SpansByKinds) (front : List Kind) (k : Kind) (ks : List Kind) (e : Memory) (ps : List Part)
+    → AreEndsAndMarks front
     → EndsDocument k → ((c : Memory) → TellsParts f (k ∷ ks) state.DocumentEnd [] c ps)
     → TellsParts f (front ++ (t ++ k ∷ ks)) state.ImplicitDocumentStart [] e
     (OpenDocument d.explicit d.directives ∷ (node_parts d.node ++ ps))
@@ -144,7 +149,8 @@ explicit_tokens ds node t k ks e =
     ap (λ l. l ++ k ∷ ks) e ∙ append_assoc (map directive_token ds) (DocumentStart ∷ node) (k ∷ ks)
 
 explicit_document_says : (d : Document) (t : List Kind) → YieldsExplicitDocument d t
-    → (f : SpansByKinds) (front : List Kind) (k : Kind) (ks : List Kind) (e : Memory) (ps : List Part) → AreEndsAndMarks front
+    → (f : SpansByKinds) (front : List Kind) (k : Kind) (ks : List Kind) (e : Memory) (ps : List Part)
+    → AreEndsAndMarks front
     → EndsDocument k → ((c : Memory) → TellsParts f (k ∷ ks) state.DocumentEnd [] c ps)
     → TellsParts f (front ++ (t ++ k ∷ ks)) state.ImplicitDocumentStart [] e
     (OpenDocument d.explicit d.directives ∷ (node_parts d.node ++ ps))
@@ -164,7 +170,8 @@ explicit_document_says d t h f front k ks e ps a z l =
 next_document_says : (d : Document) (t : List Kind) → d.directives ≡ [] → YieldsExplicitDocument d t
     → (f : SpansByKinds) (k : Kind) (ks : List Kind) (e : Memory) (ps : List Part) → EndsDocument k
     → ((c : Memory) → TellsParts f (k ∷ ks) state.DocumentEnd [] c ps)
-    → TellsParts f (t ++ k ∷ ks) state.DocumentStart [] e (OpenDocument d.explicit d.directives ∷ (node_parts d.node ++ ps))
+    → TellsParts f (t ++ k ∷ ks) state.DocumentStart [] e (OpenDocument d.explicit d.directives ∷
+    (node_parts d.node ++ ps))
 next_document_says d t none h f k ks e ps z l =
     let rest : List Kind = DocumentStart ∷ (h.0 ++ k ∷ ks) in
     let same : t ++ k ∷ ks ≡ rest = explicit_tokens d.directives h.0 t k ks h.4
@@ -176,11 +183,13 @@ next_document_says d t none h f k ks e ps z l =
     (OpenDocument b d.directives ∷ (node_parts d.node ++ ps))) (sym h.1)
     (subst (λ (ds : List Directive). TellsParts f (t ++ k ∷ ks) state.DocumentStart [] e
     (OpenDocument true ds ∷ (node_parts d.node ++ ps))) (sym none)
-    (subst (λ (u : List Kind). TellsParts f u state.DocumentStart [] e (OpenDocument true [] ∷ (node_parts d.node ++ ps)))
+    (subst (λ (u : List Kind). TellsParts f u state.DocumentStart [] e
+    (OpenDocument true [] ∷ (node_parts d.node ++ ps)))
     (sym same) told))
 
 free_document_says : (d : Document) (t : List Kind) → YieldsDocument d true t
-    → (f : SpansByKinds) (front : List Kind) (k : Kind) (ks : List Kind) (e : Memory) (ps : List Part) → AreEndsAndMarks front
+    → (f : SpansByKinds) (front : List Kind) (k : Kind) (ks : List Kind) (e : Memory) (ps : List Part)
+    → AreEndsAndMarks front
     → EndsDocument k → ((c : Memory) → TellsParts f (k ∷ ks) state.DocumentEnd [] c ps)
     → TellsParts f (front ++ (t ++ k ∷ ks)) state.ImplicitDocumentStart [] e
     (OpenDocument d.explicit d.directives ∷ (node_parts d.node ++ ps))
@@ -190,14 +199,16 @@ free_document_says d t (inr h) f front k ks e ps a z l = explicit_document_says 
 other_document_says : (d : Document) (t : List Kind) → YieldsDocument d false t
     → (f : SpansByKinds) (k : Kind) (ks : List Kind) (e : Memory) (ps : List Part) → EndsDocument k
     → ((c : Memory) → TellsParts f (k ∷ ks) state.DocumentEnd [] c ps)
-    → TellsParts f (t ++ k ∷ ks) state.DocumentStart [] e (OpenDocument d.explicit d.directives ∷ (node_parts d.node ++ ps))
+    → TellsParts f (t ++ k ∷ ks) state.DocumentStart [] e (OpenDocument d.explicit d.directives ∷
+    (node_parts d.node ++ ps))
 other_document_says d t (inl h) f k ks e ps z l = absurd (not_free h.0)
 other_document_says d t (inr (inl y, h)) f k ks e ps z l = absurd (not_free y)
 other_document_says d t (inr (inr y, h)) f k ks e ps z l = next_document_says d t y h f k ks e ps z l
 
 documents_say : (ds : Forest) (free : Bool) (t : List Kind) → YieldDocuments ds free t → DocumentsSay ds free t
 documents_say [] true t h =
-    λ f front e a. subst (λ (u : List Kind). TellsParts f (front ++ u) state.ImplicitDocumentStart [] e (CloseStream ∷ []))
+    λ f front e a. subst (λ (u : List Kind). TellsParts f (front ++ u) state.ImplicitDocumentStart [] e
+    (CloseStream ∷ []))
     (sym h) (stream_ends f front e a)
 documents_say [] false t h =
     λ f e. subst (λ (u : List Kind). TellsParts f u state.DocumentStart [] e (CloseStream ∷ [])) (sym h)

@@ -71,7 +71,8 @@ sequence_entry_at_turned : (k : Kind) (sp : Span) (ts : List Piece) (r : Option 
     (sequence_entry_at k (record { span = sp; kind = k }) (machine ts r x (s ∷ ss) e))
 sequence_entry_at_turned BlockEnd sp ts r x s ss e w a =
     ends (InEntries (MayFollow s ss)) _ SequenceEnd CloseSequence sp ts r x s ss e refl refl refl tt refl a
-    (λ ks ps f. collection_ends BlockEntries (MayFollow s ss) (BlockEnd ∷ []) CloseSequence ks ps (NoNode, refl, refl) f)
+    (λ ks ps f. collection_ends BlockEntries (MayFollow s ss) (BlockEnd ∷ []) CloseSequence ks ps (NoNode, refl, refl)
+    f)
 sequence_entry_at_turned BlockEntry sp ts r x s ss e w a =
     behind (record { span = sp; kind = BlockEntry }) (Then (IsOptionalOf InBlock) (InEntries (MayFollow s ss)))
     (InEntries (MayFollow s ss)) e ts _ tt
@@ -266,7 +267,11 @@ keyless R ks ps (inl v) b =
 
 key_at_turned : (k : Kind) (sp : Span) (ts : List Piece) (r : Option Refusal) (x s : State) (ss : List State)
     (e : Memory) → AreWellFormed (record { span = sp; kind = k } ∷ ts) → IsAlive s ss
-    → Turned (Then (IsOptionalOf InBlockMapping) (AtBlockValue (MayFollow s ss))) e (record { span = sp; kind = k } ∷ ts)
+    → Turned (Then (IsOptionalOf InBlockMapping) (AtBlockValue (MayFollow s ss))) e (record {
+      span = sp;
+      kind =
+          k;
+    } ∷ ts)
     (block_key_node_at k (record { span = sp; kind = k }) (machine ts r x (s ∷ ss) e))
 key_at_turned Key sp ts r x s ss e w a =
     skip_optional InBlockMapping _ sp ts r x state.BlockMappingValue (s ∷ ss) e (tt, a)
@@ -297,8 +302,11 @@ mapping_key_at_turned Value sp ts r x s ss e w a =
     state.BlockMappingValue (s ∷ ss) e (tt, a) (λ ks ps f b. (keyless (MayFollow s ss) ks ps f (b tt), λ c. tt))
 mapping_key_at_turned BlockEnd sp ts r x s ss e w a =
     ends (Wanted state.BlockMappingKey (s ∷ ss) (BlockEnd ∷ kinds ts)) _ MappingEnd CloseMapping sp ts r x s ss e refl
-    refl refl tt refl a (λ ks ps f.
-    (collection_ends BlockPairs (MayFollow s ss) (BlockEnd ∷ []) CloseMapping ks ps (NoPair, refl, refl) f, λ c. absurd c))
+    refl refl tt refl a (λ ks ps f. (
+      collection_ends BlockPairs (MayFollow s ss) (BlockEnd ∷ []) CloseMapping ks ps (NoPair, refl, refl) f,
+      λ c. absurd
+          c,
+    ))
 mapping_key_at_turned _ sp ts r x s ss e w a = tt
 
 pub mapping_key_turned : (ts : List Piece) (r : Option Refusal) (x s : State) (ss : List State) (e : Memory)
@@ -310,7 +318,11 @@ mapping_key_turned (t ∷ ts) r x s ss e w a = mapping_key_at_turned t.kind t.sp
 
 value_at_turned : (k : Kind) (sp span : Span) (ts : List Piece) (r : Option Refusal) (x s : State) (ss : List State)
     (e : Memory) → AreWellFormed (record { span = sp; kind = k } ∷ ts) → IsAlive s ss
-    → Turned (Then (IsOptionalOf InBlockMapping) (InBlockPairs (MayFollow s ss))) e (record { span = sp; kind = k } ∷ ts)
+    → Turned (Then (IsOptionalOf InBlockMapping) (InBlockPairs (MayFollow s ss))) e (record {
+      span = sp;
+      kind =
+          k;
+    } ∷ ts)
     (block_value_node_at k span (record { span = sp; kind = k }) (machine ts r x (s ∷ ss) e))
 value_at_turned Key sp span ts r x s ss e w a =
     skip_optional InBlockMapping _ span ts r x state.BlockMappingKey (s ∷ ss) e (tt, a)

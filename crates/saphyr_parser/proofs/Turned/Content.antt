@@ -246,7 +246,8 @@ block_sequence_goes t p q front span c ts r s ss e k b h a o = record {
   few = enough_for p front (t ∷ []) h.enough;
   places = o;
   alive = (tt, a);
-  makes = λ ks ps f st. around BlockEntries (MayFollow s ss) (IsNodeOf c) (kinds (front ++ t ∷ [])) (tokens.BlockEnd ∷ [])
+  makes = λ ks ps f st. around BlockEntries (MayFollow s ss) (IsNodeOf c) (kinds (front ++ t ∷ []))
+      (tokens.BlockEnd ∷ [])
       (OpenSequence p) CloseSequence ks ps
       (λ u w g. (
         forest.Seq p g.0,

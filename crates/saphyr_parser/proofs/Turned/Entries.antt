@@ -70,7 +70,8 @@ pub enter_optional : (c : NodeContext) (t : Piece) (ts : List Piece) (r : Option
     (e : Memory) → AreWellFormed (t ∷ ts) → Suits c s → IsAlive s st
     → Turned (Then (IsOptionalOf (place_of c)) (MayFollow s st)) e (t ∷ ts) (node_inside s c t (machine ts r x st e))
 enter_optional c t ts r x s st e w z a =
-    weaker (Then (IsNodeOf (place_of c)) (MayFollow s st)) (Then (IsOptionalOf (place_of c)) (MayFollow s st)) e (t ∷ ts)
+    weaker (Then (IsNodeOf (place_of c)) (MayFollow s st)) (Then (IsOptionalOf (place_of c)) (MayFollow s st)) e
+    (t ∷ ts)
     (node_inside s c t (machine ts r x st e))
     (λ ks ps h. replace (IsNodeOf (place_of c)) (MayFollow s st) (IsOptionalOf (place_of c)) [] [] ks ps
     (λ u q g. (g.0, inr g.1, g.2)) h) (entered c t ts r x s st e w z a)

@@ -174,14 +174,16 @@ pair_at_turned : (k : Kind) (sp span : Span) (ts : List Piece) (r : Option Refus
     (pair_at k span (record { span = sp; kind = k }) (machine ts r x (s ∷ ss) e))
 pair_at_turned Key sp span ts r x s ss e w a =
     behind (record { span = sp; kind = Key })
-    (Then (IsOptionalOf InFlow) (Then (IsAnyValueOf InFlow) (InMapping (MayFollow s ss)))) (AtFirst (MayFollow s ss)) e ts _
+    (Then (IsOptionalOf InFlow) (Then (IsAnyValueOf InFlow) (InMapping (MayFollow s ss)))) (AtFirst (MayFollow s ss)) e
+    ts _
     tt (marked_first (MayFollow s ss)) (key_turned ts r x s ss e w.2 a)
 pair_at_turned Value sp span ts r x s ss e w a =
     skipped (AtFirst (MayFollow s ss)) (record { span = sp; kind = Value }) sp ts r x state.FlowMappingValue (s ∷ ss) e
     (tt, a) (λ ks ps f b. keyless_first (MayFollow s ss) ks ps f (b tt))
 pair_at_turned FlowMappingEnd sp span ts r x s ss e w a =
     ends (AtFirst (MayFollow s ss)) _ MappingEnd CloseMapping span ts r x s ss e refl refl refl tt refl a
-    (λ ks ps f. collection_ends FirstPairs (MayFollow s ss) (FlowMappingEnd ∷ []) CloseMapping ks ps (NoPair, refl, refl) f)
+    (λ ks ps f. collection_ends FirstPairs (MayFollow s ss) (FlowMappingEnd ∷ []) CloseMapping ks ps
+    (NoPair, refl, refl) f)
 pair_at_turned k sp span ts r x s ss e w a =
     weaker (Then (IsNodeOf InFlow) (Then IsSkipped (InMapping (MayFollow s ss)))) (AtFirst (MayFollow s ss)) e _ _
     (alone_first (MayFollow s ss))
@@ -206,14 +208,16 @@ other_pair_at_turned : (k : Kind) (sp : Span) (ts : List Piece) (r : Option Refu
     (other_pair_at k (record { span = sp; kind = k }) (machine ts r x (s ∷ ss) e))
 other_pair_at_turned FlowMappingEnd sp ts r x s ss e w a =
     ends (InMapping (MayFollow s ss)) _ MappingEnd CloseMapping sp ts r x s ss e refl refl refl tt refl a
-    (λ ks ps f. collection_ends OtherPairs (MayFollow s ss) (FlowMappingEnd ∷ []) CloseMapping ks ps (NoPair, inl refl, refl) f)
+    (λ ks ps f. collection_ends OtherPairs (MayFollow s ss) (FlowMappingEnd ∷ []) CloseMapping ks ps
+    (NoPair, inl refl, refl) f)
 other_pair_at_turned FlowEntry sp ts r x s ss e w a =
     behind (record { span = sp; kind = FlowEntry }) (AtFirst (MayFollow s ss)) (InMapping (MayFollow s ss)) e ts _ tt
     (behind_comma (MayFollow s ss)) (behind_comma_turned sp ts r x s ss e w a)
 other_pair_at_turned _ sp ts r x s ss e w a = tt
 
 pub other_pair_turned : (ts : List Piece) (r : Option Refusal) (x s : State) (ss : List State) (e : Memory)
-    → AreWellFormed ts → IsAlive s ss → Turned (InMapping (MayFollow s ss)) e ts (other_pair (machine ts r x (s ∷ ss) e))
+    → AreWellFormed ts → IsAlive s ss → Turned (InMapping (MayFollow s ss)) e ts
+    (other_pair (machine ts r x (s ∷ ss) e))
 unfolding other_pair
 other_pair_turned [] r x s ss e w a = tt
 other_pair_turned (t ∷ ts) r x s ss e w a = other_pair_at_turned t.kind t.span ts r x s ss e w.2 a

@@ -291,7 +291,8 @@ behind_anchor_turned : (k : Kind) (sp : Span) (text : List ℕ) (t : Piece) (c :
     (machine us r x (s ∷ ss) (noted (Some text) e)))
 unfolding node_content
 behind_anchor_turned (tokens.Tag handle suffix) sp text t c us r x s ss e h wk w z a =
-    tag_behind (resolved_tag_at e.prefixes handle suffix t.span.start) text handle suffix t sp c us r x s ss e h refl wk w z a
+    tag_behind (resolved_tag_at e.prefixes handle suffix t.span.start) text handle suffix t sp c us r x s ss e h refl wk
+    w z a
 behind_anchor_turned k sp text t c us r x s ss e h wk w z a =
     content_turned k sp (t ∷ []) (record { anchor = Some text; tag = None }) _ c us r x s ss e wk z
     (anchor_front text t e h) tt a
@@ -299,7 +300,8 @@ behind_anchor_turned k sp text t c us r x s ss e h wk w z a =
 anchored_turned : (ts : List Piece) (text : List ℕ) (t : Piece) (c : NodeContext) (r : Option Refusal) (x : State)
     (s : State) (ss : List State) (e : Memory) → t.kind ≡ tokens.Anchor (encode_utf8_all text) → AreWellFormed ts
     → Suits c s → IsAlive s ss
-    → Turned (NodeThen c s ss) e (t ∷ ts) (node_behind_anchor (encode_utf8_all text) t.span c (machine ts r x (s ∷ ss) e))
+    → Turned (NodeThen c s ss) e (t ∷ ts) (node_behind_anchor (encode_utf8_all text) t.span c
+    (machine ts r x (s ∷ ss) e))
 unfolding node_behind_anchor
 anchored_turned [] text t c r x s ss e h w z a = tt
 anchored_turned (u ∷ us) text t c r x s ss e h w z a =

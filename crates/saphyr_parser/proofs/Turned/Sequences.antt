@@ -124,7 +124,8 @@ entry_turned : (k : Kind) (sp : Span) (ts : List Piece) (r : Option Refusal) (x 
     (entry_at k (record { span = sp; kind = k }) (machine ts r x (s ∷ ss) e))
 entry_turned FlowSequenceEnd sp ts r x s ss e w a =
     ends (AtFirst (MayFollow s ss)) _ SequenceEnd CloseSequence sp ts r x s ss e refl refl refl tt refl a
-    (λ ks ps f. collection_ends FirstEntries (MayFollow s ss) (FlowSequenceEnd ∷ []) CloseSequence ks ps (NoNode, refl, refl) f)
+    (λ ks ps f. collection_ends FirstEntries (MayFollow s ss) (FlowSequenceEnd ∷ []) CloseSequence ks ps
+    (NoNode, refl, refl) f)
 entry_turned Key sp ts r x s ss e w a =
     record {
       used = record { span = sp; kind = Key } ∷ [];
@@ -161,7 +162,8 @@ other_entry_at_turned : (k : Kind) (sp : Span) (ts : List Piece) (r : Option Ref
     (other_entry_at k (record { span = sp; kind = k }) (machine ts r x (s ∷ ss) e))
 other_entry_at_turned FlowSequenceEnd sp ts r x s ss e w a =
     ends (InSequence (MayFollow s ss)) _ SequenceEnd CloseSequence sp ts r x s ss e refl refl refl tt refl a
-    (λ ks ps f. collection_ends OtherEntries (MayFollow s ss) (FlowSequenceEnd ∷ []) CloseSequence ks ps (NoNode, inl refl, refl)
+    (λ ks ps f. collection_ends OtherEntries (MayFollow s ss) (FlowSequenceEnd ∷ []) CloseSequence ks ps
+    (NoNode, inl refl, refl)
     f)
 other_entry_at_turned FlowEntry sp ts r x s ss e w a =
     behind (record { span = sp; kind = FlowEntry }) (AtFirst (MayFollow s ss)) (InSequence (MayFollow s ss)) e ts _ tt
@@ -212,7 +214,8 @@ value_node_at_turned k sp ts r x s ss e w a =
 
 value_node_turned : (ts : List Piece) (r : Option Refusal) (x s : State) (ss : List State) (e : Memory)
     → AreWellFormed ts → IsAlive s ss
-    → Turned (Then (IsOptionalOf InFlow) (AtPairEnd (MayFollow s ss))) e ts (pair_value_node (machine ts r x (s ∷ ss) e))
+    → Turned (Then (IsOptionalOf InFlow) (AtPairEnd (MayFollow s ss))) e ts
+    (pair_value_node (machine ts r x (s ∷ ss) e))
 unfolding pair_value_node
 value_node_turned [] r x s ss e w a = tt
 value_node_turned (t ∷ ts) r x s ss e w a = value_node_at_turned t.kind t.span ts r x s ss e w a

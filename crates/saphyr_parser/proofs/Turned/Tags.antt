@@ -60,7 +60,8 @@ prefix_found None (Err f) d suffix v h e = absurd (cc)
 
 -- a handle whose default is that of the machine
 shorthand : (handle : Handle) (suffix : List ℕ) (names : Names (List ℕ)) (place : Marker) (v : ResolvedTag)
-    → ((prefix : List ℕ) → undeclared_prefix (handle_bytes handle) place ≡ Ok prefix → default_prefix handle ≡ Some prefix)
+    → ((prefix : List ℕ) → undeclared_prefix (handle_bytes handle) place ≡ Ok prefix
+    → default_prefix handle ≡ Some prefix)
     → resolved_tag_at names (handle_bytes handle) (encode_utf8_all suffix) place ≡ Ok v
     → ResolvesTo names (handle_bytes handle) (encode_utf8_all suffix) v
 unfolding resolved_tag_at
@@ -153,5 +154,6 @@ stands names handle suffix place v h e =
     let parts : (handle ≡ front h.0) × (suffix ≡ back h.0) = tag_parts handle suffix (front h.0) (back h.0)
     (h.1 ∙ sym (token_is h.0)) in
     subst (λ (x : List ℕ). resolved_tag_at names x suffix place ≡ Ok v → ResolvesTo names x suffix v) (sym parts.0)
-    (subst (λ (y : List ℕ). resolved_tag_at names (front h.0) y place ≡ Ok v → ResolvesTo names (front h.0) y v) (sym parts.1)
+    (subst (λ (y : List ℕ). resolved_tag_at names (front h.0) y place ≡ Ok v → ResolvesTo names (front h.0) y v)
+    (sym parts.1)
     (tag_stands h.0 names place v)) e

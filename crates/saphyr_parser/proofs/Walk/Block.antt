@@ -52,7 +52,8 @@ module _ (w : Walk) where
   unfolding indentless_node
   indentless_nodes s m i a = taken w m _ a (λ t k b. indentless_nodes_at t.kind s t k i b)
 
-  indentless_entries_at : (k : Kind) (t : Piece) (m : Machine) → Taken w 10 k t m → StepGives w (indentless_entry_at k t m)
+  indentless_entries_at : (k : Kind) (t : Piece) (m : Machine) → Taken w 10 k t m
+      → StepGives w (indentless_entry_at k t m)
   indentless_entries_at BlockEntry t m a = indentless_nodes t.span m (own w m a) (behind w m refl (omega arith) a)
   indentless_entries_at _ t m a = (own w m a, left w (put_back t m) (put w m (omega arith) a))
 
@@ -115,7 +116,8 @@ module _ (w : Walk) where
     },
   )
 
-  mapping_values_at : (k : Kind) (t : Piece) (m : Machine) → Taken w 11 k t m → StepGives w (block_mapping_value_at k t m)
+  mapping_values_at : (k : Kind) (t : Piece) (m : Machine) → Taken w 11 k t m
+      → StepGives w (block_mapping_value_at k t m)
   mapping_values_at Value t m a = value_nodes t.span m (own w m a) (behind w m refl (omega arith) a)
   mapping_values_at _ t m a = left_key t m refl a
 

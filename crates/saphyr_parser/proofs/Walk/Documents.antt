@@ -222,4 +222,5 @@ module _ (w : Walk) where
 
   pub document_ends : {low : Marker} (m : Machine) → Of w low 11 m → StepGives w (document_end m)
   unfolding document_end
-  document_ends m a = goes_on 11 (token_behind_document m) _ (behinds m a) (λ t k b. ends_at t.kind t (without_prefixes k) b)
+  document_ends m a = goes_on 11 (token_behind_document m) _ (behinds m a)
+      (λ t k b. ends_at t.kind t (without_prefixes k) b)

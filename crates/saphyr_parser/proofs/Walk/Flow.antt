@@ -128,7 +128,8 @@ module _ (w : Walk) where
   unfolding flow_value_node
   value_nodes s m i a = taken w m _ a (λ t k b. value_nodes_at t.kind s t k i b)
 
-  mapping_values_at : (k : Kind) (t : Piece) (m : Machine) → Taken w 11 k t m → StepGives w (flow_mapping_value_at k t m)
+  mapping_values_at : (k : Kind) (t : Piece) (m : Machine) → Taken w 11 k t m
+      → StepGives w (flow_mapping_value_at k t m)
   mapping_values_at Value t m a = value_nodes t.span m (own w m a) (behind w m refl (omega arith) a)
   mapping_values_at _ t m a = leaves_out w t state.FlowMappingKey t.span m tt (omega arith) (own w m a) a
 

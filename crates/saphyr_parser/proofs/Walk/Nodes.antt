@@ -42,7 +42,8 @@ indented BlockMapping e = omega arith
 indented _ e = absurd (cc)
 
 module _ (w : Walk) where
-  either : (b : Bool) (r q : Result Told Refusal) → (b ≡ true → StepGives w r) → StepGives w q → StepGives w (if b then r else q)
+  either : (b : Bool) (r q : Result Told Refusal) → (b ≡ true → StepGives w r) → StepGives w q
+      → StepGives w (if b then r else q)
   either true r q x y = x refl
   either false r q x y = y
 
@@ -137,7 +138,8 @@ module _ (w : Walk) where
   unfolding next_content
   next_contents p c m s a = taken_behind w m _ a (λ t k b a. contents p c t k s b a)
 
-  aliases : (o : Option ℕ) (s : Span) (m : Machine) → w.Spans s.start s.end → Of w s.end 10 m → StepGives w (alias_of o s m)
+  aliases : (o : Option ℕ) (s : Span) (m : Machine) → w.Spans s.start s.end → Of w s.end 10 m
+      → StepGives w (alias_of o s m)
   aliases None s m i a = w.fails _ _ (w.first _ _ i)
   aliases (Some id) s m i a = (i, left w m a)
 
@@ -156,7 +158,8 @@ module _ (w : Walk) where
       taken_behind w (register name m) _ a (λ t k b a. behind_anchors_at t.kind _ s c t k i b a)
 
   behind_tags_at : (k : Kind) (v : ResolvedTag) (s : Span) (c : NodeContext) (t : Piece) (m : Machine)
-      → w.Spans s.start s.end → w.Spans s.end t.span.start → Taken w 11 k t m → StepGives w (node_behind_tag_at k v s c t m)
+      → w.Spans s.start s.end → w.Spans s.end t.span.start → Taken w 11 k t m
+      → StepGives w (node_behind_tag_at k v s c t m)
   behind_tags_at (tokens.Anchor name) v s c t m i b a =
       next_contents _ c (register name m) (w.joined _ _ _ i (w.joined _ _ _ b (own w m a)))
       (behind w m refl (omega arith) a)

@@ -154,7 +154,8 @@ module _ (w : Walk) where
   left m a = pops m.states m a
 
   -- the stream has ended
-  pub over : {d : ℕ} {t : Piece} (m : Machine) → Taken w d tokens.StreamEnd t m → StandsBetween w (with_state state.End m)
+  pub over : {d : ℕ} {t : Piece} (m : Machine) → Taken w d tokens.StreamEnd t m
+      → StandsBetween w (with_state state.End m)
   over {d} {t} m a = record {
     place = tt;
     places =
@@ -183,5 +184,6 @@ module _ (w : Walk) where
   taken_behind m go a h = taken_from m.tokens.pieces m go a h
 
   pub taken : {low : Marker} {d : ℕ} (m : Machine) (go : Piece × Machine → Result Told Refusal) → Of w low d m
-      → ((t : Piece) (k : Machine) → Taken w d t.kind t k → StepGives w (go (t, k))) → StepGives w (taken_token m >>= go)
+      → ((t : Piece) (k : Machine) → Taken w d t.kind t k → StepGives w (go (t, k)))
+      → StepGives w (taken_token m >>= go)
   taken m go a h = taken_behind m go a (λ t k b c. h t k c)

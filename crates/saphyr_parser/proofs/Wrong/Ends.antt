@@ -94,7 +94,8 @@ record Closes (es : List Happening) : Type 0 where
   are : es ≡ front ++ events.StreamEnd ∷ []
   none : NoEnds front
 
-before_some : (o : Option Happening) (r : Option (List Happening)) (es : List Happening) → first_and_others o r ≡ Some es
+before_some : (o : Option Happening) (r : Option (List Happening)) (es : List Happening)
+    → first_and_others o r ≡ Some es
     → (w : Happening) × (rs : List Happening) × (o ≡ Some w) × (r ≡ Some rs) × (es ≡ w ∷ rs)
 before_some None r es e = absurd (cc)
 before_some (Some w) None es e = absurd (cc)
@@ -157,7 +158,8 @@ cut_ends (x ∷ es) missing (w ∷ front) e m n =
 ends_so : (fault : Option Ending) (es : List (Happening × Span)) (missing : List Happening)
     → Closes (events_alone es ++ missing) → IsCut fault missing → EndsSo fault es
 ends_so None es missing c cut =
-    whole_ends es c.front (sym (nothing_behind (events_alone es)) ∙ ap (λ l. events_alone es ++ l) (sym cut) ∙ c.are) c.none
+    whole_ends es c.front (sym (nothing_behind (events_alone es)) ∙ ap (λ l. events_alone es ++ l) (sym cut) ∙ c.are)
+    c.none
   where
     nothing_behind : (l : List Happening) → l ++ [] ≡ l
     nothing_behind [] = refl

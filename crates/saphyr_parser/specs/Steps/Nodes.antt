@@ -37,7 +37,8 @@ span_up_to p place = record { start = p.start; end = place }
 -- properties alone stand for an empty scalar
 abbrev pub node_without_content : NodeProperties → Piece → Machine → Result Told Refusal
 node_without_content p t m =
-    if has_property p then told_event (events.Scalar [] Plain p.anchor p.tag) (span_up_to p p.behind) (pop (put_back t m))
+    if has_property p then told_event (events.Scalar [] Plain p.anchor p.tag) (span_up_to p p.behind)
+    (pop (put_back t m))
     else refusal_at fault.NodeContentExpected t
 
 abbrev pub opened_sequence : State → NodeProperties → Marker → Machine → Told
@@ -65,7 +66,8 @@ node_content_at tokens.BlockSequenceStart p c t m =
 node_content_at tokens.BlockMappingStart p c t m =
     if allows_block c then mapping_opening state.BlockMappingKey p t m else node_without_content p t m
 node_content_at tokens.BlockEntry p c t m =
-    if allows_indentless c then sequence_opening state.IndentlessSequenceEntry p t (put_back t m) else node_without_content p t
+    if allows_indentless c then sequence_opening state.IndentlessSequenceEntry p t (put_back t m) else
+    node_without_content p t
     m
 node_content_at _ p c t m = node_without_content p t m
 
@@ -93,7 +95,8 @@ abbrev pub node_behind_anchor_at : Kind → ℕ → Span → NodeContext → Pie
 node_behind_anchor_at (tokens.Tag handle suffix) id s c t m = do
   tag ← resolved_tag_at m.prefixes handle suffix s.start
   next_content (record { start = s.start; behind = t.span.end; anchor = id; tag = Some tag }) c m
-node_behind_anchor_at _ id s c t m = node_content (record { start = s.start; behind = s.end; anchor = id; tag = None }) c t m
+node_behind_anchor_at _ id s c t m = node_content (record { start = s.start; behind = s.end; anchor = id; tag = None })
+    c t m
 
 unfoldable pub node_behind_anchor : List ℕ → Span → NodeContext → Machine → Result Told Refusal
 node_behind_anchor name s c m = do

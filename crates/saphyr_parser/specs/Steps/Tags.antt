@@ -27,7 +27,8 @@ declared_prefix_or None r = r
 -- The prefix of a handle, at a place. `!` and `!<uri>` have no handle.
 unfoldable pub declared_prefix : Names (List ℕ) → List ℕ → Marker → Result (List ℕ) Refusal
 declared_prefix prefixes handle place =
-    if nat_eq (length handle) 0 then Ok handle else declared_prefix_or (meaning handle prefixes) (undeclared_prefix handle place)
+    if nat_eq (length handle) 0 then Ok handle else declared_prefix_or (meaning handle prefixes)
+    (undeclared_prefix handle place)
 
 -- the tag at a place
 unfoldable pub resolved_tag_at : Names (List ℕ) → List ℕ → List ℕ → Marker → Result ResolvedTag Refusal
