@@ -13,7 +13,7 @@ use Rattle.saphyr_parser.specs.Events.{Happening}
 use Rattle.saphyr_parser.specs.ForestEvents.{first_and_others}
 use Rattle.saphyr_parser.proofs.Told.Telling.{Memory}
 use Rattle.saphyr_parser.proofs.Remembering.{after, event_in, events_in}
-use Rattle.saphyr_parser.proofs.Turned.Following.{Then, Exactly, IsNodeOf, IsOptionalOf, IsSkipped, IsAnyValueOf, FirstEntries, OtherEntries, FirstPairs, OtherPairs, BlockEntries, BlockPairs, InSequence, AtPairEnd, AtPairValue, InMapping, InBlockPairs, MayFollow, IsOutside, IsInsideDocument, IsAlive, Starts}
+use Rattle.saphyr_parser.proofs.Turned.Following.{Then, Exactly, IsNodeOf, IsOptionalOf, IsSkipped, IsAnyValueOf, FirstEntries, OtherEntries, FirstPairs, OtherPairs, BlockEntries, BlockPairs, InSequence, AtPairEnd, AtPairValue, InMapping, InBlockPairs, FollowsStates, IsOutside, IsInsideDocument, IsAlive, Starts}
 use Rattle.saphyr_parser.proofs.Turned.Turning.{put}
 use Rattle.saphyr_parser.proofs.Turned.Entries.{marked_value, any_value, collection_ends}
 use Rattle.saphyr_parser.proofs.Turned.Block.{one_entry}
@@ -77,7 +77,7 @@ quiet_anchors (p ∷ ps) q =
 pub record Completion (s : State) (ss : List State) : Type 0 where
   pub kinds : List Kind
   pub parts : List Part
-  pub follows : MayFollow s ss kinds parts
+  pub follows : FollowsStates s ss kinds parts
   pub starts : (ahead : List Kind) → Starts s ahead kinds
   pub quiet : AreQuiet parts
   pub some : parts ≢ []
@@ -171,7 +171,7 @@ inside state.DocumentContent o ss i c =
       parts =
           leaf ∷ c.parts;
       follows =
-          put (IsOptionalOf InBlock) (MayFollow o ss) [] (leaf ∷ []) c.kinds c.parts (
+          put (IsOptionalOf InBlock) (FollowsStates o ss) [] (leaf ∷ []) c.kinds c.parts (
             forest.left_out,
             inl (refl, refl),
             refl,
@@ -187,7 +187,7 @@ inside state.BlockNode o ss i c =
       parts =
           leaf ∷ c.parts;
       follows =
-          put (IsNodeOf InBlock) (MayFollow o ss) (scalar_token Plain [] ∷ []) (leaf ∷ []) c.kinds c.parts
+          put (IsNodeOf InBlock) (FollowsStates o ss) (scalar_token Plain [] ∷ []) (leaf ∷ []) c.kinds c.parts
           (forest.left_out, ([], scalar_token Plain [] ∷ [], refl, inl refl, refl), refl) c.follows;
       starts =
           λ ahead. tt;
@@ -200,7 +200,7 @@ inside state.BlockSequenceEntry o ss i c =
       parts =
           CloseSequence ∷ c.parts;
       follows =
-          collection_ends BlockEntries (MayFollow o ss) (BlockEnd ∷ []) CloseSequence c.kinds c.parts
+          collection_ends BlockEntries (FollowsStates o ss) (BlockEnd ∷ []) CloseSequence c.kinds c.parts
           (NoNode, refl, refl)
           c.follows;
       starts = λ ahead. tt;
@@ -213,10 +213,10 @@ inside state.IndentlessSequenceEntry o ss i c =
       parts =
           leaf ∷ CloseSequence ∷ c.parts;
       follows =
-          one_entry (Then (Exactly [] (CloseSequence ∷ [])) (MayFollow o ss)) c.kinds (leaf ∷ CloseSequence ∷ c.parts)
+          one_entry (Then (Exactly [] (CloseSequence ∷ [])) (FollowsStates o ss)) c.kinds (leaf ∷ CloseSequence ∷ c.parts)
           (put (IsOptionalOf InBlock) _ [] (leaf ∷ []) c.kinds (CloseSequence ∷ c.parts)
           (forest.left_out, inl (refl, refl), refl)
-          (collection_ends BlockEntries (MayFollow o ss) [] CloseSequence c.kinds c.parts (NoNode, refl, refl)
+          (collection_ends BlockEntries (FollowsStates o ss) [] CloseSequence c.kinds c.parts (NoNode, refl, refl)
           c.follows));
       starts =
           λ ahead b. tt;
@@ -229,7 +229,7 @@ inside state.BlockMappingKey o ss i c =
       parts =
           CloseMapping ∷ c.parts;
       follows =
-          block_pairs_end (MayFollow o ss) c.kinds c.parts c.follows;
+          block_pairs_end (FollowsStates o ss) c.kinds c.parts c.follows;
       starts =
           λ ahead b. absurd b;
       some = λ e. cc;
@@ -241,10 +241,10 @@ inside state.BlockMappingValue o ss i c =
       parts =
           leaf ∷ CloseMapping ∷ c.parts;
       follows =
-          inl (marked_value InBlockMapping (InBlockPairs (MayFollow o ss)) (BlockEnd ∷ c.kinds) (leaf ∷ CloseMapping ∷
+          inl (marked_value InBlockMapping (InBlockPairs (FollowsStates o ss)) (BlockEnd ∷ c.kinds) (leaf ∷ CloseMapping ∷
           c.parts)
-          (put (IsOptionalOf InBlockMapping) (InBlockPairs (MayFollow o ss)) [] (leaf ∷ []) _ _
-          (forest.left_out, inl (refl, refl), refl) (block_pairs_end (MayFollow o ss) c.kinds c.parts c.follows)));
+          (put (IsOptionalOf InBlockMapping) (InBlockPairs (FollowsStates o ss)) [] (leaf ∷ []) _ _
+          (forest.left_out, inl (refl, refl), refl) (block_pairs_end (FollowsStates o ss) c.kinds c.parts c.follows)));
       starts =
           λ ahead b. tt;
       some = λ e. cc;
@@ -256,7 +256,7 @@ inside state.FlowSequenceFirstEntry o ss i c =
       parts =
           CloseSequence ∷ c.parts;
       follows =
-          collection_ends FirstEntries (MayFollow o ss) (FlowSequenceEnd ∷ []) CloseSequence c.kinds c.parts
+          collection_ends FirstEntries (FollowsStates o ss) (FlowSequenceEnd ∷ []) CloseSequence c.kinds c.parts
           (NoNode, refl, refl)
           c.follows;
       starts = λ ahead. tt;
@@ -269,7 +269,7 @@ inside state.FlowSequenceEntry o ss i c =
       parts =
           CloseSequence ∷ c.parts;
       follows =
-          entries_end (MayFollow o ss) c.kinds c.parts c.follows;
+          entries_end (FollowsStates o ss) c.kinds c.parts c.follows;
       starts = λ ahead. tt;
       some = λ e. cc;
       quiet = (tt, c.quiet);
@@ -280,7 +280,7 @@ inside state.FlowSequenceEntryMappingKey o ss i c =
       parts =
           leaf ∷ leaf ∷ CloseMapping ∷ CloseSequence ∷ c.parts;
       follows =
-          maybe (AtPairValue (MayFollow o ss)) _ _ (pair_value (MayFollow o ss) c.kinds c.parts c.follows);
+          maybe (AtPairValue (FollowsStates o ss)) _ _ (pair_value (FollowsStates o ss) c.kinds c.parts c.follows);
       starts =
           λ ahead. tt;
       some = λ e. cc;
@@ -292,7 +292,7 @@ inside state.FlowSequenceEntryMappingValue o ss i c =
       parts =
           leaf ∷ CloseMapping ∷ CloseSequence ∷ c.parts;
       follows =
-          pair_value (MayFollow o ss) c.kinds c.parts c.follows;
+          pair_value (FollowsStates o ss) c.kinds c.parts c.follows;
       starts =
           λ ahead. tt;
       some = λ e. cc;
@@ -304,7 +304,7 @@ inside (state.FlowSequenceEntryMappingEnd place) o ss i c =
       parts =
           CloseMapping ∷ CloseSequence ∷ c.parts;
       follows =
-          pair_ends (MayFollow o ss) c.kinds c.parts c.follows;
+          pair_ends (FollowsStates o ss) c.kinds c.parts c.follows;
       starts =
           λ ahead. tt;
       some = λ e. cc;
@@ -316,7 +316,7 @@ inside state.FlowMappingFirstKey o ss i c =
       parts =
           CloseMapping ∷ c.parts;
       follows =
-          collection_ends FirstPairs (MayFollow o ss) (FlowMappingEnd ∷ []) CloseMapping c.kinds c.parts
+          collection_ends FirstPairs (FollowsStates o ss) (FlowMappingEnd ∷ []) CloseMapping c.kinds c.parts
           (NoPair, refl, refl)
           c.follows;
       starts = λ ahead. tt;
@@ -329,7 +329,7 @@ inside state.FlowMappingKey o ss i c =
       parts =
           CloseMapping ∷ c.parts;
       follows =
-          pairs_end (MayFollow o ss) c.kinds c.parts c.follows;
+          pairs_end (FollowsStates o ss) c.kinds c.parts c.follows;
       starts = λ ahead. tt;
       some = λ e. cc;
       quiet = (tt, c.quiet);
@@ -340,9 +340,9 @@ inside state.FlowMappingValue o ss i c =
       parts =
           leaf ∷ CloseMapping ∷ c.parts;
       follows =
-          any_value InFlow (InMapping (MayFollow o ss)) _ _
-          (marked_value InFlow (InMapping (MayFollow o ss)) (FlowMappingEnd ∷ c.kinds) (leaf ∷ CloseMapping ∷ c.parts)
-          (maybe (InMapping (MayFollow o ss)) _ _ (pairs_end (MayFollow o ss) c.kinds c.parts c.follows)));
+          any_value InFlow (InMapping (FollowsStates o ss)) _ _
+          (marked_value InFlow (InMapping (FollowsStates o ss)) (FlowMappingEnd ∷ c.kinds) (leaf ∷ CloseMapping ∷ c.parts)
+          (maybe (InMapping (FollowsStates o ss)) _ _ (pairs_end (FollowsStates o ss) c.kinds c.parts c.follows)));
       starts =
           λ ahead b. tt;
       some = λ e. cc;
@@ -354,7 +354,7 @@ inside state.FlowMappingEmptyValue o ss i c =
       parts =
           leaf ∷ CloseMapping ∷ c.parts;
       follows =
-          skip (InMapping (MayFollow o ss)) _ _ (pairs_end (MayFollow o ss) c.kinds c.parts c.follows);
+          skip (InMapping (FollowsStates o ss)) _ _ (pairs_end (FollowsStates o ss) c.kinds c.parts c.follows);
       starts =
           λ ahead. tt;
       some = λ e. cc;

@@ -1,6 +1,5 @@
 -- The ids of anchors (YAML 1.2.2, 3.2.2.2, 6.9.2 and 7.1): 1, 2, 3 and so on in the order of the parts, over all
--- documents.
--- Each definition looks back at the parts that stand before, the latest first.
+-- documents. Each definition looks back at the parts that stand before, the latest first.
 use Rattle.std.specs.Prelude.{◌≡◌, ◌≢◌, ◌++◌, ℕ, suc, Bool, false, if◌then◌else◌, List, [], ◌∷◌, Option, Some, None, option_map, encode_utf8_all}
 use Rattle.std.specs.Str.{bytes_eq}
 use Rattle.saphyr_parser.specs.Preorder.{Part, opens_document, Leaf, OpenSequence, OpenMapping}

@@ -18,8 +18,7 @@ pub record Kept : Type 0 where
   pub given : Bool
 
 -- An event that was read ahead, the fault that ended the events, what is still to be read, whether a document was
--- handed
--- out whose end wasn't, and the span of the stream's end where that was handed out.
+-- handed out whose end wasn't, and the span of the stream's end where that was handed out.
 pub record EventCursor : Type 0 where
   pub current : Option (Happening × Span)
   pub kept : Option Kept

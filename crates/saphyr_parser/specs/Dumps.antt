@@ -33,8 +33,7 @@ pub record Cuts (all left : Answer) (old new : Option (List ℕ)) : Type 0 where
   pub taken : Appends old new (printed_lines printed ++ front)
 
 -- Where a call of `dump` returns, what it says of the events that were still to come, of those that are left, and of
--- what the
--- writer holds. Memory may run out before any of the events.
+-- what the writer holds. Memory may run out before any of the events.
 abbrev pub Dumps : Result (Unit {0}) DumpFault → Answer → Answer → Option (List ℕ) → Option (List ℕ) → Type 0
 Dumps (Ok u) all left old new = (all.fault ≡ None) × Appends old new (printed_lines all.events) × (left ≡ empty_answer)
 Dumps (Err (dump.Parse (fault.Scan e))) all left old new =

@@ -64,8 +64,7 @@ AreContentTokens kind ts =
     × (ts ≡ front ++ own ∷ [])
 
 -- A block sequence at its mapping's column, which has no start of its own, behind properties or none: the first `-`
--- comes
--- next, and the span goes up to its end.
+-- comes next, and the span goes up to its end.
 abbrev pub BeginsEntries : List Piece → Span → List Piece → Type 0
 BeginsEntries ts span [] = ⊥
 BeginsEntries ts span (entry ∷ others) =
@@ -95,8 +94,7 @@ IsOf (MappingStart id tag) span ts others =
 IsOf _ span ts others = ts ≡ []
 
 -- The events have their tokens, in order, and no token of a node is passed over before the last of these. Behind them
--- all
--- stand the tokens `unread`.
+-- all stand the tokens `unread`.
 pub data HaveTokens (unread : List Piece) : List (Happening × Span) → List Piece → Type 0 where
   nothing : (ts : List Piece) → HaveTokens unread [] ts
   passed : (es : List (Happening × Span)) (t : Piece) (ts : List Piece) → BelongsToNone t.kind → HaveTokens unread es ts

@@ -7,8 +7,7 @@ use Rattle.saphyr_parser.specs.Anchors.{latest_id, own_id}
 use Rattle.saphyr_parser.specs.TagResolution.{any_resolution}
 
 -- The event of a part, behind the parts before it, the latest first. There is none for an alias without an anchor of
--- its
--- name, nor for a tag whose handle is not declared.
+-- its name, nor for a tag whose handle is not declared.
 abbrev pub event_of_part : Bool → List Part → Part → Option Happening
 event_of_part keep front OpenStream = Some StreamStart
 event_of_part keep front CloseStream = Some StreamEnd

@@ -98,8 +98,7 @@ module _ {R : Type 0} (receives : R → Happening × Span → Result (Unit {0}) 
     pub kept : new.kept ≡ None
 
   -- Memory ran out: in reading, before something that was still to be sent or told, which is kept as a fault of its
-  -- own;
-  -- or while the fault behind all events was copied.
+  -- own; or while the fault behind all events was copied.
   pub record Lost (p : Portion) (old : EventCursor) (first last : R) (new : EventCursor) : Type 0 where
     pub sent : List (Happening × Span)
     pub unsent : List (Happening × Span)

@@ -100,8 +100,7 @@ status_of (Ok u) = 0
 status_of (Err f) = 1
 
 -- A run with its status and the name of its input: what it reads, what it prints and what it complains of, where the
--- bytes are
--- known that are unread and left, printed before and behind, and complained of before and behind.
+-- bytes are known that are unread and left, printed before and behind, and complained of before and behind.
 pub record Runs (status : ℕ) (name : List ℕ) (unread left printed now_printed said now_said : Option (List ℕ)) : Type
     0 where
   pub outcome : Result (Unit {0}) RunFault

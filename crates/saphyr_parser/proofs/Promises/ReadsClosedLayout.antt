@@ -104,8 +104,7 @@ parted (c ∷ cs) (x ∷ xs) others e =
 -- ## The promise
 
 -- The tokens of each text that ends with the line of a marker are handed out up to the marker's, whatever follows. The
--- break
--- between is whole.
+-- break between is whole.
 abbrev pub HandsOutMarkers : Grammar → (List ℕ → Type 0) → ℕ → Type 0
 HandsOutMarkers G IsTail limit =
     (marker : DocumentMarker) (forest : Forest) (text others : List ℕ) → G forest text

@@ -18,7 +18,7 @@ use Rattle.saphyr_parser.specs.Exactly.{kinds}
 use Rattle.saphyr_parser.specs.Steps.Block.{sequence_node_at, sequence_node, sequence_entry_at, sequence_entry, indentless_node_at, indentless_node, indentless_entry_at, indentless_entry, block_key_node_at, block_key_node, mapping_key_at, mapping_key, block_value_node_at, block_value_node, block_mapping_value_at, block_mapping_value}
 use Rattle.saphyr_parser.specs.WellFormed.{AreWellFormed}
 use Rattle.saphyr_parser.proofs.Told.Telling.{Memory}
-use Rattle.saphyr_parser.proofs.Turned.Following.{Claim, Then, Exactly, IsOptionalOf, IsSkipped, IsValueOf, BlockEntries, BlockPairs, InBlockPairs, AtBlockValue, MayFollow, IsAlive}
+use Rattle.saphyr_parser.proofs.Turned.Following.{Claim, Then, Exactly, IsOptionalOf, IsSkipped, IsValueOf, BlockEntries, BlockPairs, InBlockPairs, AtBlockValue, FollowsStates, IsAlive}
 use Rattle.saphyr_parser.proofs.Turned.Turning.{machine, Turned, behind, regroup, replace, put}
 use Rattle.saphyr_parser.proofs.Turned.Entries.{Wanted, skipped, skip_optional, enter_optional, marked_value, collection_ends, ends}
 
@@ -48,7 +48,7 @@ one_entry T ks ps h =
 
 node_at_turned : (k : Kind) (sp span : Span) (ts : List Piece) (r : Option Refusal) (x s : State) (ss : List State)
     (e : Memory) → AreWellFormed (record { span = sp; kind = k } ∷ ts) → IsAlive s ss
-    → Turned (Then (IsOptionalOf InBlock) (InEntries (MayFollow s ss))) e (record { span = sp; kind = k } ∷ ts)
+    → Turned (Then (IsOptionalOf InBlock) (InEntries (FollowsStates s ss))) e (record { span = sp; kind = k } ∷ ts)
     (sequence_node_at k span (record { span = sp; kind = k }) (machine ts r x (s ∷ ss) e))
 node_at_turned BlockEntry sp span ts r x s ss e w a =
     skip_optional InBlock _ span ts r x state.BlockSequenceEntry (s ∷ ss) e (tt, a)
@@ -59,7 +59,7 @@ node_at_turned k sp span ts r x s ss e w a =
 
 sequence_node_turned : (span : Span) (ts : List Piece) (r : Option Refusal) (x s : State) (ss : List State) (e : Memory)
     → AreWellFormed ts → IsAlive s ss
-    → Turned (Then (IsOptionalOf InBlock) (InEntries (MayFollow s ss))) e ts
+    → Turned (Then (IsOptionalOf InBlock) (InEntries (FollowsStates s ss))) e ts
     (sequence_node span (machine ts r x (s ∷ ss) e))
 unfolding sequence_node
 sequence_node_turned span [] r x s ss e w a = tt
@@ -67,22 +67,22 @@ sequence_node_turned span (t ∷ ts) r x s ss e w a = node_at_turned t.kind t.sp
 
 sequence_entry_at_turned : (k : Kind) (sp : Span) (ts : List Piece) (r : Option Refusal) (x s : State) (ss : List State)
     (e : Memory) → AreWellFormed ts → IsAlive s ss
-    → Turned (InEntries (MayFollow s ss)) e (record { span = sp; kind = k } ∷ ts)
+    → Turned (InEntries (FollowsStates s ss)) e (record { span = sp; kind = k } ∷ ts)
     (sequence_entry_at k (record { span = sp; kind = k }) (machine ts r x (s ∷ ss) e))
 sequence_entry_at_turned BlockEnd sp ts r x s ss e w a =
-    ends (InEntries (MayFollow s ss)) _ SequenceEnd CloseSequence sp ts r x s ss e refl refl refl tt refl a
-    (λ ks ps f. collection_ends BlockEntries (MayFollow s ss) (BlockEnd ∷ []) CloseSequence ks ps (NoNode, refl, refl)
+    ends (InEntries (FollowsStates s ss)) _ SequenceEnd CloseSequence sp ts r x s ss e refl refl refl tt refl a
+    (λ ks ps f. collection_ends BlockEntries (FollowsStates s ss) (BlockEnd ∷ []) CloseSequence ks ps (NoNode, refl, refl)
     f)
 sequence_entry_at_turned BlockEntry sp ts r x s ss e w a =
-    behind (record { span = sp; kind = BlockEntry }) (Then (IsOptionalOf InBlock) (InEntries (MayFollow s ss)))
-    (InEntries (MayFollow s ss)) e ts _ tt
-    (one_entry (Then (Exactly (BlockEnd ∷ []) (CloseSequence ∷ [])) (MayFollow s ss)))
+    behind (record { span = sp; kind = BlockEntry }) (Then (IsOptionalOf InBlock) (InEntries (FollowsStates s ss)))
+    (InEntries (FollowsStates s ss)) e ts _ tt
+    (one_entry (Then (Exactly (BlockEnd ∷ []) (CloseSequence ∷ [])) (FollowsStates s ss)))
     (sequence_node_turned sp ts r x s ss e w a)
 sequence_entry_at_turned _ sp ts r x s ss e w a = tt
 
 pub sequence_entry_turned : (ts : List Piece) (r : Option Refusal) (x s : State) (ss : List State) (e : Memory)
     → AreWellFormed ts → IsAlive s ss
-    → Turned (InEntries (MayFollow s ss)) e ts (sequence_entry (machine ts r x (s ∷ ss) e))
+    → Turned (InEntries (FollowsStates s ss)) e ts (sequence_entry (machine ts r x (s ∷ ss) e))
 unfolding sequence_entry
 sequence_entry_turned [] r x s ss e w a = tt
 sequence_entry_turned (t ∷ ts) r x s ss e w a = sequence_entry_at_turned t.kind t.span ts r x s ss e w.2 a
@@ -91,7 +91,7 @@ sequence_entry_turned (t ∷ ts) r x s ss e w a = sequence_entry_at_turned t.kin
 
 indentless_at_turned : (k : Kind) (sp span : Span) (ts : List Piece) (r : Option Refusal) (x s : State)
     (ss : List State) (e : Memory) → AreWellFormed (record { span = sp; kind = k } ∷ ts) → IsAlive s ss
-    → Turned (Then (IsOptionalOf InBlock) (InIndentless (MayFollow s ss))) e (record { span = sp; kind = k } ∷ ts)
+    → Turned (Then (IsOptionalOf InBlock) (InIndentless (FollowsStates s ss))) e (record { span = sp; kind = k } ∷ ts)
     (indentless_node_at k span (record { span = sp; kind = k }) (machine ts r x (s ∷ ss) e))
 indentless_at_turned BlockEntry sp span ts r x s ss e w a =
     skip_optional InBlock _ span ts r x state.IndentlessSequenceEntry (s ∷ ss) e (tt, a)
@@ -106,7 +106,7 @@ indentless_at_turned k sp span ts r x s ss e w a =
 
 indentless_node_turned : (span : Span) (ts : List Piece) (r : Option Refusal) (x s : State) (ss : List State)
     (e : Memory) → AreWellFormed ts → IsAlive s ss
-    → Turned (Then (IsOptionalOf InBlock) (InIndentless (MayFollow s ss))) e ts
+    → Turned (Then (IsOptionalOf InBlock) (InIndentless (FollowsStates s ss))) e ts
     (indentless_node span (machine ts r x (s ∷ ss) e))
 unfolding indentless_node
 indentless_node_turned span [] r x s ss e w a = tt
@@ -117,9 +117,9 @@ entry_at_turned : (k : Kind) (sp : Span) (ts : List Piece) (r : Option Refusal) 
     → Turned (Wanted state.IndentlessSequenceEntry (s ∷ ss) (k ∷ kinds ts)) e (record { span = sp; kind = k } ∷ ts)
     (indentless_entry_at k (record { span = sp; kind = k }) (machine ts r x (s ∷ ss) e))
 entry_at_turned BlockEntry sp ts r x s ss e w a =
-    behind (record { span = sp; kind = BlockEntry }) (Then (IsOptionalOf InBlock) (InIndentless (MayFollow s ss)))
+    behind (record { span = sp; kind = BlockEntry }) (Then (IsOptionalOf InBlock) (InIndentless (FollowsStates s ss)))
     (Wanted state.IndentlessSequenceEntry (s ∷ ss) (BlockEntry ∷ kinds ts)) e ts _ tt
-    (λ ks ps h. (one_entry (Then (Exactly [] (CloseSequence ∷ [])) (MayFollow s ss)) ks ps h, λ b. tt))
+    (λ ks ps h. (one_entry (Then (Exactly [] (CloseSequence ∷ [])) (FollowsStates s ss)) ks ps h, λ b. tt))
     (indentless_node_turned sp ts r x s ss e w a)
 entry_at_turned k sp ts r x s ss e w a =
     record {
@@ -136,7 +136,7 @@ entry_at_turned k sp ts r x s ss e w a =
       alive =
           a;
       makes = λ ks ps f b. (
-        collection_ends BlockEntries (MayFollow s ss) [] CloseSequence ks ps (NoNode, refl, refl) f,
+        collection_ends BlockEntries (FollowsStates s ss) [] CloseSequence ks ps (NoNode, refl, refl) f,
         λ c.
             absurd c,
       );
@@ -267,7 +267,7 @@ keyless R ks ps (inl v) b =
 
 key_at_turned : (k : Kind) (sp : Span) (ts : List Piece) (r : Option Refusal) (x s : State) (ss : List State)
     (e : Memory) → AreWellFormed (record { span = sp; kind = k } ∷ ts) → IsAlive s ss
-    → Turned (Then (IsOptionalOf InBlockMapping) (AtBlockValue (MayFollow s ss))) e (record {
+    → Turned (Then (IsOptionalOf InBlockMapping) (AtBlockValue (FollowsStates s ss))) e (record {
       span = sp;
       kind =
           k;
@@ -283,7 +283,7 @@ key_at_turned k sp ts r x s ss e w a =
     enter_optional BlockMapping (record { span = sp; kind = k }) ts r x state.BlockMappingValue (s ∷ ss) e w tt (tt, a)
 
 key_turned : (ts : List Piece) (r : Option Refusal) (x s : State) (ss : List State) (e : Memory) → AreWellFormed ts
-    → IsAlive s ss → Turned (Then (IsOptionalOf InBlockMapping) (AtBlockValue (MayFollow s ss))) e ts
+    → IsAlive s ss → Turned (Then (IsOptionalOf InBlockMapping) (AtBlockValue (FollowsStates s ss))) e ts
     (block_key_node (machine ts r x (s ∷ ss) e))
 unfolding block_key_node
 key_turned [] r x s ss e w a = tt
@@ -294,16 +294,16 @@ mapping_key_at_turned : (k : Kind) (sp : Span) (ts : List Piece) (r : Option Ref
     → Turned (Wanted state.BlockMappingKey (s ∷ ss) (k ∷ kinds ts)) e (record { span = sp; kind = k } ∷ ts)
     (mapping_key_at k (record { span = sp; kind = k }) (machine ts r x (s ∷ ss) e))
 mapping_key_at_turned Key sp ts r x s ss e w a =
-    behind (record { span = sp; kind = Key }) (Then (IsOptionalOf InBlockMapping) (AtBlockValue (MayFollow s ss)))
+    behind (record { span = sp; kind = Key }) (Then (IsOptionalOf InBlockMapping) (AtBlockValue (FollowsStates s ss)))
     (Wanted state.BlockMappingKey (s ∷ ss) (Key ∷ kinds ts)) e ts _ tt
-    (λ ks ps h. (keyed (MayFollow s ss) ks ps h, λ b. absurd b)) (key_turned ts r x s ss e w a)
+    (λ ks ps h. (keyed (FollowsStates s ss) ks ps h, λ b. absurd b)) (key_turned ts r x s ss e w a)
 mapping_key_at_turned Value sp ts r x s ss e w a =
     skipped (Wanted state.BlockMappingKey (s ∷ ss) (Value ∷ kinds ts)) (record { span = sp; kind = Value }) sp ts r x
-    state.BlockMappingValue (s ∷ ss) e (tt, a) (λ ks ps f b. (keyless (MayFollow s ss) ks ps f (b tt), λ c. tt))
+    state.BlockMappingValue (s ∷ ss) e (tt, a) (λ ks ps f b. (keyless (FollowsStates s ss) ks ps f (b tt), λ c. tt))
 mapping_key_at_turned BlockEnd sp ts r x s ss e w a =
     ends (Wanted state.BlockMappingKey (s ∷ ss) (BlockEnd ∷ kinds ts)) _ MappingEnd CloseMapping sp ts r x s ss e refl
     refl refl tt refl a (λ ks ps f. (
-      collection_ends BlockPairs (MayFollow s ss) (BlockEnd ∷ []) CloseMapping ks ps (NoPair, refl, refl) f,
+      collection_ends BlockPairs (FollowsStates s ss) (BlockEnd ∷ []) CloseMapping ks ps (NoPair, refl, refl) f,
       λ c. absurd
           c,
     ))
@@ -318,7 +318,7 @@ mapping_key_turned (t ∷ ts) r x s ss e w a = mapping_key_at_turned t.kind t.sp
 
 value_at_turned : (k : Kind) (sp span : Span) (ts : List Piece) (r : Option Refusal) (x s : State) (ss : List State)
     (e : Memory) → AreWellFormed (record { span = sp; kind = k } ∷ ts) → IsAlive s ss
-    → Turned (Then (IsOptionalOf InBlockMapping) (InBlockPairs (MayFollow s ss))) e (record {
+    → Turned (Then (IsOptionalOf InBlockMapping) (InBlockPairs (FollowsStates s ss))) e (record {
       span = sp;
       kind =
           k;
@@ -335,7 +335,7 @@ value_at_turned k sp span ts r x s ss e w a =
 
 value_turned : (span : Span) (ts : List Piece) (r : Option Refusal) (x s : State) (ss : List State) (e : Memory)
     → AreWellFormed ts → IsAlive s ss
-    → Turned (Then (IsOptionalOf InBlockMapping) (InBlockPairs (MayFollow s ss))) e ts
+    → Turned (Then (IsOptionalOf InBlockMapping) (InBlockPairs (FollowsStates s ss))) e ts
     (block_value_node span (machine ts r x (s ∷ ss) e))
 unfolding block_value_node
 value_turned span [] r x s ss e w a = tt
@@ -346,9 +346,9 @@ mapping_value_at_turned : (k : Kind) (sp : Span) (ts : List Piece) (r : Option R
     → Turned (Wanted state.BlockMappingValue (s ∷ ss) (k ∷ kinds ts)) e (record { span = sp; kind = k } ∷ ts)
     (block_mapping_value_at k (record { span = sp; kind = k }) (machine ts r x (s ∷ ss) e))
 mapping_value_at_turned Value sp ts r x s ss e w a =
-    behind (record { span = sp; kind = Value }) (Then (IsOptionalOf InBlockMapping) (InBlockPairs (MayFollow s ss)))
+    behind (record { span = sp; kind = Value }) (Then (IsOptionalOf InBlockMapping) (InBlockPairs (FollowsStates s ss)))
     (Wanted state.BlockMappingValue (s ∷ ss) (Value ∷ kinds ts)) e ts _ tt
-    (λ ks ps h. (inl (marked_value InBlockMapping (InBlockPairs (MayFollow s ss)) ks ps h), λ b. tt))
+    (λ ks ps h. (inl (marked_value InBlockMapping (InBlockPairs (FollowsStates s ss)) ks ps h), λ b. tt))
     (value_turned sp ts r x s ss e w a)
 mapping_value_at_turned k sp ts r x s ss e w a =
     skipped (Wanted state.BlockMappingValue (s ∷ ss) (k ∷ kinds ts)) (record { span = sp; kind = k }) sp ts r x
@@ -356,7 +356,7 @@ mapping_value_at_turned k sp ts r x s ss e w a =
     (λ ks ps f b. (
       inr (
         b,
-        put IsSkipped (InBlockPairs (MayFollow s ss)) [] (node_parts forest.left_out) ks ps
+        put IsSkipped (InBlockPairs (FollowsStates s ss)) [] (node_parts forest.left_out) ks ps
             (refl, refl) f,
       ),
       λ c. absurd c,

@@ -26,7 +26,7 @@ use Rattle.saphyr_parser.specs.Steps.Nodes.{NodeProperties, has_property, node_w
 use Rattle.saphyr_parser.proofs.Told.Telling.{Memory}
 use Rattle.saphyr_parser.proofs.Remembering.{noted, own_id_in, with_properties}
 use Rattle.saphyr_parser.proofs.Told.Nodes.{Has}
-use Rattle.saphyr_parser.proofs.Turned.Following.{Then, Exactly, Claim, IsNodeOf, FirstEntries, FirstPairs, BlockEntries, BlockPairs, InBlockPairs, AtBlockValue, MayFollow, IsAlive, BeginsWithEntry}
+use Rattle.saphyr_parser.proofs.Turned.Following.{Then, Exactly, Claim, IsNodeOf, FirstEntries, FirstPairs, BlockEntries, BlockPairs, InBlockPairs, AtBlockValue, FollowsStates, IsAlive, BeginsWithEntry}
 use Rattle.saphyr_parser.proofs.Turned.Turning.{machine, Goes, Turned, kinds_append, around}
 
 -- ## Where a node stands
@@ -47,7 +47,7 @@ Suits BlockMapping s = IsPairState s
 Suits _ s = Unit {0}
 
 abbrev pub NodeThen : NodeContext → State → List State → List Kind → List Part → Type 0
-NodeThen c s ss = Then (IsNodeOf (place_of c)) (MayFollow s ss)
+NodeThen c s ss = Then (IsNodeOf (place_of c)) (FollowsStates s ss)
 
 -- ## Properties that were read
 
@@ -75,7 +75,7 @@ pub leaf_goes : (p : forest.Properties) (q : NodeProperties) (front own : List P
     (span : Span) (c : grammar.Context) (ts : List Piece) (r : Option Refusal) (s : State) (ss : List State)
     (e : Memory) → Fronted e p q front → YieldsScalar p style value (kinds own) → IsAlive s ss
     → HasOwn (front ++ own) (Scalar (encode_utf8_all value) style q.anchor q.tag) span ts
-    → Goes (Then (IsNodeOf c) (MayFollow s ss)) e (front ++ (own ++ ts))
+    → Goes (Then (IsNodeOf c) (FollowsStates s ss)) e (front ++ (own ++ ts))
     (record {
       what = Scalar (encode_utf8_all value) style q.anchor q.tag;
       span =
@@ -154,7 +154,7 @@ pub flow_sequence_goes : (t : Piece) (p : forest.Properties) (q : NodeProperties
     (c : grammar.Context) (ts : List Piece) (r : Option Refusal) (s : State) (ss : List State) (e : Memory)
     → t.kind ≡ tokens.FlowSequenceStart → Fronted e p q front → IsAlive s ss
     → HasOwn (front ++ t ∷ []) (SequenceStart q.anchor q.tag) span ts
-    → Goes (Then (IsNodeOf c) (MayFollow s ss)) e (front ++ t ∷ ts)
+    → Goes (Then (IsNodeOf c) (FollowsStates s ss)) e (front ++ t ∷ ts)
     (record {
       what = SequenceStart q.anchor q.tag;
       span =
@@ -170,7 +170,7 @@ flow_sequence_goes t p q front span c ts r s ss e k h a o = record {
   few = enough_for p front (t ∷ []) h.enough;
   places = o;
   alive = (tt, a);
-  makes = λ ks ps f st. around FirstEntries (MayFollow s ss) (IsNodeOf c) (kinds (front ++ t ∷ []))
+  makes = λ ks ps f st. around FirstEntries (FollowsStates s ss) (IsNodeOf c) (kinds (front ++ t ∷ []))
       (tokens.FlowSequenceEnd ∷ []) (OpenSequence p) CloseSequence ks ps
       (λ u w g. (
         forest.Seq p g.0,
@@ -192,7 +192,7 @@ pub flow_mapping_goes : (t : Piece) (p : forest.Properties) (q : NodeProperties)
     (c : grammar.Context) (ts : List Piece) (r : Option Refusal) (s : State) (ss : List State) (e : Memory)
     → t.kind ≡ tokens.FlowMappingStart → Fronted e p q front → IsAlive s ss
     → HasOwn (front ++ t ∷ []) (MappingStart q.anchor q.tag) span ts
-    → Goes (Then (IsNodeOf c) (MayFollow s ss)) e (front ++ t ∷ ts)
+    → Goes (Then (IsNodeOf c) (FollowsStates s ss)) e (front ++ t ∷ ts)
     (record {
       what = MappingStart q.anchor q.tag;
       span =
@@ -208,7 +208,7 @@ flow_mapping_goes t p q front span c ts r s ss e k h a o = record {
   few = enough_for p front (t ∷ []) h.enough;
   places = o;
   alive = (tt, a);
-  makes = λ ks ps f st. around FirstPairs (MayFollow s ss) (IsNodeOf c) (kinds (front ++ t ∷ []))
+  makes = λ ks ps f st. around FirstPairs (FollowsStates s ss) (IsNodeOf c) (kinds (front ++ t ∷ []))
       (tokens.FlowMappingEnd ∷ []) (OpenMapping p) CloseMapping ks ps
       (λ u w g. (
         forest.Map p g.0,
@@ -230,7 +230,7 @@ pub block_sequence_goes : (t : Piece) (p : forest.Properties) (q : NodePropertie
     (c : grammar.Context) (ts : List Piece) (r : Option Refusal) (s : State) (ss : List State) (e : Memory)
     → t.kind ≡ tokens.BlockSequenceStart → grammar.AllowsBlock c → Fronted e p q front → IsAlive s ss
     → HasOwn (front ++ t ∷ []) (SequenceStart q.anchor q.tag) span ts
-    → Goes (Then (IsNodeOf c) (MayFollow s ss)) e (front ++ t ∷ ts)
+    → Goes (Then (IsNodeOf c) (FollowsStates s ss)) e (front ++ t ∷ ts)
     (record {
       what = SequenceStart q.anchor q.tag;
       span =
@@ -246,7 +246,7 @@ block_sequence_goes t p q front span c ts r s ss e k b h a o = record {
   few = enough_for p front (t ∷ []) h.enough;
   places = o;
   alive = (tt, a);
-  makes = λ ks ps f st. around BlockEntries (MayFollow s ss) (IsNodeOf c) (kinds (front ++ t ∷ []))
+  makes = λ ks ps f st. around BlockEntries (FollowsStates s ss) (IsNodeOf c) (kinds (front ++ t ∷ []))
       (tokens.BlockEnd ∷ [])
       (OpenSequence p) CloseSequence ks ps
       (λ u w g. (
@@ -269,7 +269,7 @@ pub block_mapping_goes : (t : Piece) (p : forest.Properties) (q : NodeProperties
     (c : grammar.Context) (ts : List Piece) (r : Option Refusal) (s : State) (ss : List State) (e : Memory)
     → t.kind ≡ tokens.BlockMappingStart → grammar.AllowsBlock c → Fronted e p q front → IsAlive s ss
     → HasOwn (front ++ t ∷ []) (MappingStart q.anchor q.tag) span ts
-    → Goes (Then (IsNodeOf c) (MayFollow s ss)) e (front ++ t ∷ ts)
+    → Goes (Then (IsNodeOf c) (FollowsStates s ss)) e (front ++ t ∷ ts)
     (record {
       what = MappingStart q.anchor q.tag;
       span =
@@ -285,7 +285,7 @@ block_mapping_goes t p q front span c ts r s ss e k b h a o = record {
   few = enough_for p front (t ∷ []) h.enough;
   places = o;
   alive = (tt, a);
-  makes = λ ks ps f st. around BlockPairs (MayFollow s ss) (IsNodeOf c) (kinds (front ++ t ∷ [])) (tokens.BlockEnd ∷ [])
+  makes = λ ks ps f st. around BlockPairs (FollowsStates s ss) (IsNodeOf c) (kinds (front ++ t ∷ [])) (tokens.BlockEnd ∷ [])
       (OpenMapping p) CloseMapping ks ps
       (λ u w g. (
         forest.Map p g.0,
@@ -339,10 +339,10 @@ at_value_begins R ks ps (inr h) =
     (sym (h.1.kinds_are ∙ ap (λ (l : List Kind). l ++ h.1.back) h.1.begins.0))
     (in_pairs_begin R h.1.back h.1.second h.1.goes_on)
 
-pub no_entry : (s : State) (ss : List State) (ks : List Kind) (ps : List Part) → IsPairState s → MayFollow s ss ks ps
+pub no_entry : (s : State) (ss : List State) (ks : List Kind) (ps : List Part) → IsPairState s → FollowsStates s ss ks ps
     → BeginsWithEntry ks → ⊥
 no_entry state.BlockMappingKey [] ks ps i h = absurd h
-no_entry state.BlockMappingKey (o ∷ ss) ks ps i h = in_pairs_begin (MayFollow o ss) ks ps h
+no_entry state.BlockMappingKey (o ∷ ss) ks ps i h = in_pairs_begin (FollowsStates o ss) ks ps h
 no_entry state.BlockMappingValue [] ks ps i h = absurd h
-no_entry state.BlockMappingValue (o ∷ ss) ks ps i h = at_value_begins (MayFollow o ss) ks ps h
+no_entry state.BlockMappingValue (o ∷ ss) ks ps i h = at_value_begins (FollowsStates o ss) ks ps h
 no_entry _ ss ks ps i h = elim i [ ]

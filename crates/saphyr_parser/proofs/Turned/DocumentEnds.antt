@@ -21,7 +21,7 @@ use Rattle.saphyr_parser.specs.Steps.Expected.{block_node}
 use Rattle.saphyr_parser.specs.Steps.Documents.{is_mark, unpassed_token_from, unpassed_token, no_content, document_content_at, document_content, token_behind_marks_at, token_behind_marks, token_behind_document_at, token_behind_document, without_prefixes, document_end_at, document_end}
 use Rattle.saphyr_parser.specs.WellFormed.{AreWellFormed}
 use Rattle.saphyr_parser.proofs.Told.Telling.{Memory}
-use Rattle.saphyr_parser.proofs.Turned.Following.{Then, IsNodeOf, IsOptionalOf, AreExplicit, Outside, MayFollow, IsAlive, IsFree, BeginsFreely}
+use Rattle.saphyr_parser.proofs.Turned.Following.{Then, IsNodeOf, IsOptionalOf, AreExplicit, Outside, FollowsStates, IsAlive, IsFree, BeginsFreely}
 use Rattle.saphyr_parser.proofs.Turned.Turning.{machine, Turned, weaker, replace}
 use Rattle.saphyr_parser.proofs.Turned.Content.{split, taken_one}
 use Rattle.saphyr_parser.proofs.Turned.Nodes.{node_turned}
@@ -31,19 +31,19 @@ use Rattle.saphyr_parser.proofs.Turned.Entries.{skip_optional}
 
 pub block_node_turned : (ts : List Piece) (r : Option Refusal) (x s : State) (ss : List State) (e : Memory)
     → AreWellFormed ts → IsAlive s ss
-    → Turned (Then (IsNodeOf InBlock) (MayFollow s ss)) e ts (block_node (machine ts r x (s ∷ ss) e))
+    → Turned (Then (IsNodeOf InBlock) (FollowsStates s ss)) e ts (block_node (machine ts r x (s ∷ ss) e))
 unfolding block_node
 block_node_turned [] r x s ss e w a = tt
 block_node_turned (t ∷ ts) r x s ss e w a = node_turned t Block ts r x s ss e w tt a
 
 no_content_turned : (t : Piece) (ts : List Piece) (r : Option Refusal) (x s : State) (ss : List State) (e : Memory)
-    → IsAlive s ss → Turned (Then (IsOptionalOf InBlock) (MayFollow s ss)) e (t ∷ ts)
+    → IsAlive s ss → Turned (Then (IsOptionalOf InBlock) (FollowsStates s ss)) e (t ∷ ts)
     (no_content t (machine ts r x (s ∷ ss) e))
 no_content_turned t ts r x s ss e a = skip_optional InBlock t t.span ts r x s ss e a
 
 content_at_turned : (k : Kind) (sp : Span) (ts : List Piece) (r : Option Refusal) (x s : State) (ss : List State)
     (e : Memory) → AreWellFormed (record { span = sp; kind = k } ∷ ts) → IsAlive s ss
-    → Turned (Then (IsOptionalOf InBlock) (MayFollow s ss)) e (record { span = sp; kind = k } ∷ ts)
+    → Turned (Then (IsOptionalOf InBlock) (FollowsStates s ss)) e (record { span = sp; kind = k } ∷ ts)
     (document_content_at k (record { span = sp; kind = k }) (machine ts r x (s ∷ ss) e))
 content_at_turned (tokens.VersionDirective major minor) sp ts r x s ss e w a = no_content_turned _ ts r x s ss e a
 content_at_turned (tokens.TagDirective handle prefix) sp ts r x s ss e w a = no_content_turned _ ts r x s ss e a
@@ -53,13 +53,13 @@ content_at_turned tokens.DocumentEnd sp ts r x s ss e w a = no_content_turned _ 
 content_at_turned tokens.ByteOrderMark sp ts r x s ss e w a = no_content_turned _ ts r x s ss e a
 content_at_turned tokens.StreamEnd sp ts r x s ss e w a = no_content_turned _ ts r x s ss e a
 content_at_turned k sp ts r x s ss e w a =
-    weaker (Then (IsNodeOf InBlock) (MayFollow s ss)) (Then (IsOptionalOf InBlock) (MayFollow s ss)) e _ _
-    (λ ks ps h. replace (IsNodeOf InBlock) (MayFollow s ss) (IsOptionalOf InBlock) [] [] ks ps
+    weaker (Then (IsNodeOf InBlock) (FollowsStates s ss)) (Then (IsOptionalOf InBlock) (FollowsStates s ss)) e _ _
+    (λ ks ps h. replace (IsNodeOf InBlock) (FollowsStates s ss) (IsOptionalOf InBlock) [] [] ks ps
     (λ u q g. (g.0, inr g.1, g.2)) h) (node_turned (record { span = sp; kind = k }) Block ts r x s ss e w tt a)
 
 pub content_turned : (ts : List Piece) (r : Option Refusal) (x s : State) (ss : List State) (e : Memory)
     → AreWellFormed ts → IsAlive s ss
-    → Turned (Then (IsOptionalOf InBlock) (MayFollow s ss)) e ts (document_content (machine ts r x (s ∷ ss) e))
+    → Turned (Then (IsOptionalOf InBlock) (FollowsStates s ss)) e ts (document_content (machine ts r x (s ∷ ss) e))
 unfolding document_content
 content_turned [] r x s ss e w a = tt
 content_turned (t ∷ ts) r x s ss e w a = content_at_turned t.kind t.span ts r x s ss e w a

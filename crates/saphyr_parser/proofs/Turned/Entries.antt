@@ -20,7 +20,7 @@ use Rattle.saphyr_parser.specs.Steps.Nodes.{node_inside}
 use Rattle.saphyr_parser.specs.WellFormed.{AreWellFormed}
 use Rattle.saphyr_parser.proofs.Told.Telling.{Memory}
 use Rattle.saphyr_parser.proofs.Remembering.{after, event_in}
-use Rattle.saphyr_parser.proofs.Turned.Following.{Then, Exactly, IsNodeOf, IsOptionalOf, IsValueOf, IsAnyValueOf, MayFollow, IsAlive, Starts}
+use Rattle.saphyr_parser.proofs.Turned.Following.{Then, Exactly, IsNodeOf, IsOptionalOf, IsValueOf, IsAnyValueOf, FollowsStates, IsAlive, Starts}
 use Rattle.saphyr_parser.proofs.Turned.Turning.{machine, Turned, weaker, replace, put}
 use Rattle.saphyr_parser.proofs.Turned.Content.{place_of, Suits}
 use Rattle.saphyr_parser.proofs.Turned.Nodes.{node_turned}
@@ -28,12 +28,12 @@ use Rattle.std.specs.Prelude.{Some}
 
 -- what may follow in a state, before these tokens
 abbrev pub Wanted : State → List State → List Kind → List Kind → List Part → Type 0
-Wanted s st ahead ks ps = MayFollow s st ks ps × Starts s ahead ks
+Wanted s st ahead ks ps = FollowsStates s st ks ps × Starts s ahead ks
 
 -- a node is left out
 pub skipped : (F : List Kind → List Part → Type 0) (t : Piece) (sp : Span) (ts : List Piece) (r : Option Refusal)
     (x s : State) (st : List State) (e : Memory) → IsAlive s st
-    → ((ks : List Kind) (ps : List Part) → MayFollow s st ks ps → Starts s (kinds (t ∷ ts)) ks
+    → ((ks : List Kind) (ps : List Part) → FollowsStates s st ks ps → Starts s (kinds (t ∷ ts)) ks
     → F ks (Leaf forest.no_properties Plain [] ∷ ps)) → Turned F e (t ∷ ts) (left_out_event t s sp (machine ts r x st
     e))
 skipped F t sp ts r x s st e a go =
@@ -54,26 +54,26 @@ skipped F t sp ts r x s st e a go =
 
 pub skip_optional : (c : grammar.Context) (t : Piece) (sp : Span) (ts : List Piece) (r : Option Refusal) (x s : State)
     (st : List State) (e : Memory) → IsAlive s st
-    → Turned (Then (IsOptionalOf c) (MayFollow s st)) e (t ∷ ts) (left_out_event t s sp (machine ts r x st e))
+    → Turned (Then (IsOptionalOf c) (FollowsStates s st)) e (t ∷ ts) (left_out_event t s sp (machine ts r x st e))
 skip_optional c t sp ts r x s st e a =
-    skipped (Then (IsOptionalOf c) (MayFollow s st)) t sp ts r x s st e a
-    (λ ks ps f b. put (IsOptionalOf c) (MayFollow s st) [] (node_parts forest.left_out) ks ps
+    skipped (Then (IsOptionalOf c) (FollowsStates s st)) t sp ts r x s st e a
+    (λ ks ps f b. put (IsOptionalOf c) (FollowsStates s st) [] (node_parts forest.left_out) ks ps
     (forest.left_out, inl (refl, refl), refl) f)
 
 pub entered : (c : NodeContext) (t : Piece) (ts : List Piece) (r : Option Refusal) (x s : State) (st : List State)
     (e : Memory) → AreWellFormed (t ∷ ts) → Suits c s → IsAlive s st
-    → Turned (Then (IsNodeOf (place_of c)) (MayFollow s st)) e (t ∷ ts) (node_inside s c t (machine ts r x st e))
+    → Turned (Then (IsNodeOf (place_of c)) (FollowsStates s st)) e (t ∷ ts) (node_inside s c t (machine ts r x st e))
 entered c t ts r x s st e w z a = node_turned t c ts r x s st e w z a
 
 pub enter_optional : (c : NodeContext) (t : Piece) (ts : List Piece) (r : Option Refusal) (x s : State)
     (st : List State)
     (e : Memory) → AreWellFormed (t ∷ ts) → Suits c s → IsAlive s st
-    → Turned (Then (IsOptionalOf (place_of c)) (MayFollow s st)) e (t ∷ ts) (node_inside s c t (machine ts r x st e))
+    → Turned (Then (IsOptionalOf (place_of c)) (FollowsStates s st)) e (t ∷ ts) (node_inside s c t (machine ts r x st e))
 enter_optional c t ts r x s st e w z a =
-    weaker (Then (IsNodeOf (place_of c)) (MayFollow s st)) (Then (IsOptionalOf (place_of c)) (MayFollow s st)) e
+    weaker (Then (IsNodeOf (place_of c)) (FollowsStates s st)) (Then (IsOptionalOf (place_of c)) (FollowsStates s st)) e
     (t ∷ ts)
     (node_inside s c t (machine ts r x st e))
-    (λ ks ps h. replace (IsNodeOf (place_of c)) (MayFollow s st) (IsOptionalOf (place_of c)) [] [] ks ps
+    (λ ks ps h. replace (IsNodeOf (place_of c)) (FollowsStates s st) (IsOptionalOf (place_of c)) [] [] ks ps
     (λ u q g. (g.0, inr g.1, g.2)) h) (entered c t ts r x s st e w z a)
 
 -- behind the mark of a value
@@ -97,7 +97,7 @@ collection_ends A R close closing ks ps a r =
 pub ends : (F : List Kind → List Part → Type 0) (t : Piece) (what : Happening) (closing : Part) (sp : Span)
     (ts : List Piece) (r : Option Refusal) (x s : State) (ss : List State) (e : Memory) → event_in e closing ≡ Some what
     → after closing e ≡ e → anchors (closing ∷ []) ≡ 0 → BelongsToNone t.kind → IsOf what sp [] ts → IsAlive s ss
-    → ((ks : List Kind) (ps : List Part) → MayFollow s ss ks ps → F (t.kind ∷ ks) (closing ∷ ps))
+    → ((ks : List Kind) (ps : List Part) → FollowsStates s ss ks ps → F (t.kind ∷ ks) (closing ∷ ps))
     → Turned F e (t ∷ ts) (told_event what sp (pop (machine ts r x (s ∷ ss) e)))
 ends F t what closing sp ts r x s ss e tells same none b o a go =
     record {

@@ -133,9 +133,9 @@ Outside state.DocumentEnd ks ps =
 Outside _ ks ps = ⊥
 
 -- what may follow in a state, with the states behind it
-abbrev pub MayFollow : State → List State → List Kind → List Part → Type 0
-MayFollow s [] = Outside s
-MayFollow s (other ∷ others) = Behind s (MayFollow other others)
+abbrev pub FollowsStates : State → List State → List Kind → List Part → Type 0
+FollowsStates s [] = Outside s
+FollowsStates s (other ∷ others) = Behind s (FollowsStates other others)
 
 -- ## Which states follow which
 

@@ -17,7 +17,7 @@ use Rattle.saphyr_parser.specs.Exactly.{kinds}
 use Rattle.saphyr_parser.specs.Steps.Flow.{flow_key_node_at, flow_key_node, pair_at, first_pair, pair_behind_comma, other_pair_at, other_pair, flow_value_node_at, flow_value_node, flow_mapping_value_at, flow_mapping_value, empty_value}
 use Rattle.saphyr_parser.specs.WellFormed.{AreWellFormed}
 use Rattle.saphyr_parser.proofs.Told.Telling.{Memory}
-use Rattle.saphyr_parser.proofs.Turned.Following.{Claim, Then, Exactly, IsNodeOf, IsOptionalOf, IsSkipped, IsAnyValueOf, FirstPairs, OtherPairs, InMapping, MayFollow, IsAlive}
+use Rattle.saphyr_parser.proofs.Turned.Following.{Claim, Then, Exactly, IsNodeOf, IsOptionalOf, IsSkipped, IsAnyValueOf, FirstPairs, OtherPairs, InMapping, FollowsStates, IsAlive}
 use Rattle.saphyr_parser.proofs.Turned.Turning.{machine, Turned, weaker, behind, regroup, replace, put}
 use Rattle.saphyr_parser.proofs.Turned.Entries.{Wanted, skipped, skip_optional, entered, enter_optional, marked_value, any_value, collection_ends, ends}
 
@@ -150,7 +150,7 @@ behind_comma R ks ps h =
 
 key_at_turned : (k : Kind) (sp : Span) (ts : List Piece) (r : Option Refusal) (x s : State) (ss : List State)
     (e : Memory) → AreWellFormed (record { span = sp; kind = k } ∷ ts) → IsAlive s ss
-    → Turned (Then (IsOptionalOf InFlow) (Then (IsAnyValueOf InFlow) (InMapping (MayFollow s ss)))) e
+    → Turned (Then (IsOptionalOf InFlow) (Then (IsAnyValueOf InFlow) (InMapping (FollowsStates s ss)))) e
     (record { span = sp; kind = k } ∷ ts) (flow_key_node_at k (record { span = sp; kind = k })
     (machine ts r x (s ∷ ss) e))
 key_at_turned Value sp ts r x s ss e w a = skip_optional InFlow _ sp ts r x state.FlowMappingValue (s ∷ ss) e (tt, a)
@@ -162,7 +162,7 @@ key_at_turned k sp ts r x s ss e w a =
     enter_optional Flow (record { span = sp; kind = k }) ts r x state.FlowMappingValue (s ∷ ss) e w tt (tt, a)
 
 key_turned : (ts : List Piece) (r : Option Refusal) (x s : State) (ss : List State) (e : Memory) → AreWellFormed ts
-    → IsAlive s ss → Turned (Then (IsOptionalOf InFlow) (Then (IsAnyValueOf InFlow) (InMapping (MayFollow s ss)))) e ts
+    → IsAlive s ss → Turned (Then (IsOptionalOf InFlow) (Then (IsAnyValueOf InFlow) (InMapping (FollowsStates s ss)))) e ts
     (flow_key_node (machine ts r x (s ∷ ss) e))
 unfolding flow_key_node
 key_turned [] r x s ss e w a = tt
@@ -170,53 +170,53 @@ key_turned (t ∷ ts) r x s ss e w a = key_at_turned t.kind t.span ts r x s ss e
 
 pair_at_turned : (k : Kind) (sp span : Span) (ts : List Piece) (r : Option Refusal) (x s : State) (ss : List State)
     (e : Memory) → AreWellFormed (record { span = sp; kind = k } ∷ ts) → IsAlive s ss
-    → Turned (AtFirst (MayFollow s ss)) e (record { span = sp; kind = k } ∷ ts)
+    → Turned (AtFirst (FollowsStates s ss)) e (record { span = sp; kind = k } ∷ ts)
     (pair_at k span (record { span = sp; kind = k }) (machine ts r x (s ∷ ss) e))
 pair_at_turned Key sp span ts r x s ss e w a =
     behind (record { span = sp; kind = Key })
-    (Then (IsOptionalOf InFlow) (Then (IsAnyValueOf InFlow) (InMapping (MayFollow s ss)))) (AtFirst (MayFollow s ss)) e
+    (Then (IsOptionalOf InFlow) (Then (IsAnyValueOf InFlow) (InMapping (FollowsStates s ss)))) (AtFirst (FollowsStates s ss)) e
     ts _
-    tt (marked_first (MayFollow s ss)) (key_turned ts r x s ss e w.2 a)
+    tt (marked_first (FollowsStates s ss)) (key_turned ts r x s ss e w.2 a)
 pair_at_turned Value sp span ts r x s ss e w a =
-    skipped (AtFirst (MayFollow s ss)) (record { span = sp; kind = Value }) sp ts r x state.FlowMappingValue (s ∷ ss) e
-    (tt, a) (λ ks ps f b. keyless_first (MayFollow s ss) ks ps f (b tt))
+    skipped (AtFirst (FollowsStates s ss)) (record { span = sp; kind = Value }) sp ts r x state.FlowMappingValue (s ∷ ss) e
+    (tt, a) (λ ks ps f b. keyless_first (FollowsStates s ss) ks ps f (b tt))
 pair_at_turned FlowMappingEnd sp span ts r x s ss e w a =
-    ends (AtFirst (MayFollow s ss)) _ MappingEnd CloseMapping span ts r x s ss e refl refl refl tt refl a
-    (λ ks ps f. collection_ends FirstPairs (MayFollow s ss) (FlowMappingEnd ∷ []) CloseMapping ks ps
+    ends (AtFirst (FollowsStates s ss)) _ MappingEnd CloseMapping span ts r x s ss e refl refl refl tt refl a
+    (λ ks ps f. collection_ends FirstPairs (FollowsStates s ss) (FlowMappingEnd ∷ []) CloseMapping ks ps
     (NoPair, refl, refl) f)
 pair_at_turned k sp span ts r x s ss e w a =
-    weaker (Then (IsNodeOf InFlow) (Then IsSkipped (InMapping (MayFollow s ss)))) (AtFirst (MayFollow s ss)) e _ _
-    (alone_first (MayFollow s ss))
+    weaker (Then (IsNodeOf InFlow) (Then IsSkipped (InMapping (FollowsStates s ss)))) (AtFirst (FollowsStates s ss)) e _ _
+    (alone_first (FollowsStates s ss))
     (entered Flow (record { span = sp; kind = k }) ts r x state.FlowMappingEmptyValue (s ∷ ss) e w tt (tt, a))
 
 pub first_pair_turned : (ts : List Piece) (r : Option Refusal) (x s : State) (ss : List State) (e : Memory)
-    → AreWellFormed ts → IsAlive s ss → Turned (AtFirst (MayFollow s ss)) e ts (first_pair (machine ts r x (s ∷ ss) e))
+    → AreWellFormed ts → IsAlive s ss → Turned (AtFirst (FollowsStates s ss)) e ts (first_pair (machine ts r x (s ∷ ss) e))
 unfolding first_pair
 first_pair_turned [] r x s ss e w a = tt
 first_pair_turned (t ∷ ts) r x s ss e w a = pair_at_turned t.kind t.span t.span ts r x s ss e w a
 
 behind_comma_turned : (span : Span) (ts : List Piece) (r : Option Refusal) (x s : State) (ss : List State) (e : Memory)
     → AreWellFormed ts → IsAlive s ss
-    → Turned (AtFirst (MayFollow s ss)) e ts (pair_behind_comma span (machine ts r x (s ∷ ss) e))
+    → Turned (AtFirst (FollowsStates s ss)) e ts (pair_behind_comma span (machine ts r x (s ∷ ss) e))
 unfolding pair_behind_comma
 behind_comma_turned span [] r x s ss e w a = tt
 behind_comma_turned span (t ∷ ts) r x s ss e w a = pair_at_turned t.kind t.span span ts r x s ss e w a
 
 other_pair_at_turned : (k : Kind) (sp : Span) (ts : List Piece) (r : Option Refusal) (x s : State) (ss : List State)
     (e : Memory) → AreWellFormed ts → IsAlive s ss
-    → Turned (InMapping (MayFollow s ss)) e (record { span = sp; kind = k } ∷ ts)
+    → Turned (InMapping (FollowsStates s ss)) e (record { span = sp; kind = k } ∷ ts)
     (other_pair_at k (record { span = sp; kind = k }) (machine ts r x (s ∷ ss) e))
 other_pair_at_turned FlowMappingEnd sp ts r x s ss e w a =
-    ends (InMapping (MayFollow s ss)) _ MappingEnd CloseMapping sp ts r x s ss e refl refl refl tt refl a
-    (λ ks ps f. collection_ends OtherPairs (MayFollow s ss) (FlowMappingEnd ∷ []) CloseMapping ks ps
+    ends (InMapping (FollowsStates s ss)) _ MappingEnd CloseMapping sp ts r x s ss e refl refl refl tt refl a
+    (λ ks ps f. collection_ends OtherPairs (FollowsStates s ss) (FlowMappingEnd ∷ []) CloseMapping ks ps
     (NoPair, inl refl, refl) f)
 other_pair_at_turned FlowEntry sp ts r x s ss e w a =
-    behind (record { span = sp; kind = FlowEntry }) (AtFirst (MayFollow s ss)) (InMapping (MayFollow s ss)) e ts _ tt
-    (behind_comma (MayFollow s ss)) (behind_comma_turned sp ts r x s ss e w a)
+    behind (record { span = sp; kind = FlowEntry }) (AtFirst (FollowsStates s ss)) (InMapping (FollowsStates s ss)) e ts _ tt
+    (behind_comma (FollowsStates s ss)) (behind_comma_turned sp ts r x s ss e w a)
 other_pair_at_turned _ sp ts r x s ss e w a = tt
 
 pub other_pair_turned : (ts : List Piece) (r : Option Refusal) (x s : State) (ss : List State) (e : Memory)
-    → AreWellFormed ts → IsAlive s ss → Turned (InMapping (MayFollow s ss)) e ts
+    → AreWellFormed ts → IsAlive s ss → Turned (InMapping (FollowsStates s ss)) e ts
     (other_pair (machine ts r x (s ∷ ss) e))
 unfolding other_pair
 other_pair_turned [] r x s ss e w a = tt
@@ -225,7 +225,7 @@ other_pair_turned (t ∷ ts) r x s ss e w a = other_pair_at_turned t.kind t.span
 -- a value behind its mark
 value_node_at_turned : (k : Kind) (sp span : Span) (ts : List Piece) (r : Option Refusal) (x s : State)
     (ss : List State) (e : Memory) → AreWellFormed (record { span = sp; kind = k } ∷ ts) → IsAlive s ss
-    → Turned (Then (IsOptionalOf InFlow) (InMapping (MayFollow s ss))) e (record { span = sp; kind = k } ∷ ts)
+    → Turned (Then (IsOptionalOf InFlow) (InMapping (FollowsStates s ss))) e (record { span = sp; kind = k } ∷ ts)
     (flow_value_node_at k span (record { span = sp; kind = k }) (machine ts r x (s ∷ ss) e))
 value_node_at_turned FlowEntry sp span ts r x s ss e w a =
     skip_optional InFlow _ span ts r x state.FlowMappingKey (s ∷ ss) e (tt, a)
@@ -236,7 +236,7 @@ value_node_at_turned k sp span ts r x s ss e w a =
 
 value_node_turned : (span : Span) (ts : List Piece) (r : Option Refusal) (x s : State) (ss : List State) (e : Memory)
     → AreWellFormed ts → IsAlive s ss
-    → Turned (Then (IsOptionalOf InFlow) (InMapping (MayFollow s ss))) e ts
+    → Turned (Then (IsOptionalOf InFlow) (InMapping (FollowsStates s ss))) e ts
     (flow_value_node span (machine ts r x (s ∷ ss) e))
 unfolding flow_value_node
 value_node_turned span [] r x s ss e w a = tt
@@ -247,18 +247,18 @@ mapping_value_at_turned : (k : Kind) (sp : Span) (ts : List Piece) (r : Option R
     → Turned (Wanted state.FlowMappingValue (s ∷ ss) (k ∷ kinds ts)) e (record { span = sp; kind = k } ∷ ts)
     (flow_mapping_value_at k (record { span = sp; kind = k }) (machine ts r x (s ∷ ss) e))
 mapping_value_at_turned Value sp ts r x s ss e w a =
-    behind (record { span = sp; kind = Value }) (Then (IsOptionalOf InFlow) (InMapping (MayFollow s ss)))
+    behind (record { span = sp; kind = Value }) (Then (IsOptionalOf InFlow) (InMapping (FollowsStates s ss)))
     (Wanted state.FlowMappingValue (s ∷ ss) (Value ∷ kinds ts)) e ts _ tt
     (λ ks ps h. (
-      any_value InFlow (InMapping (MayFollow s ss)) _ ps
-          (marked_value InFlow (InMapping (MayFollow s ss)) ks ps h),
+      any_value InFlow (InMapping (FollowsStates s ss)) _ ps
+          (marked_value InFlow (InMapping (FollowsStates s ss)) ks ps h),
       λ b. tt,
     )) (value_node_turned sp ts r x s ss e w a)
 mapping_value_at_turned k sp ts r x s ss e w a =
     skipped (Wanted state.FlowMappingValue (s ∷ ss) (k ∷ kinds ts)) (record { span = sp; kind = k }) sp ts r x
     state.FlowMappingKey (s ∷ ss) e (tt, a)
     (λ ks ps f b. (
-      put (IsAnyValueOf InFlow) (InMapping (MayFollow s ss)) [] (node_parts forest.left_out) ks ps
+      put (IsAnyValueOf InFlow) (InMapping (FollowsStates s ss)) [] (node_parts forest.left_out) ks ps
           (inr (refl, refl)) f,
       λ c. absurd c,
     ))
@@ -271,9 +271,9 @@ mapping_value_turned [] r x s ss e w a = tt
 mapping_value_turned (t ∷ ts) r x s ss e w a = mapping_value_at_turned t.kind t.span ts r x s ss e w.2 a
 
 pub empty_value_turned : (ts : List Piece) (r : Option Refusal) (x s : State) (ss : List State) (e : Memory)
-    → IsAlive s ss → Turned (Then IsSkipped (InMapping (MayFollow s ss))) e ts (empty_value (machine ts r x (s ∷ ss) e))
+    → IsAlive s ss → Turned (Then IsSkipped (InMapping (FollowsStates s ss))) e ts (empty_value (machine ts r x (s ∷ ss) e))
 unfolding empty_value
 empty_value_turned [] r x s ss e a = tt
 empty_value_turned (t ∷ ts) r x s ss e a =
-    skipped (Then IsSkipped (InMapping (MayFollow s ss))) t t.span ts r x state.FlowMappingKey (s ∷ ss) e (tt, a)
-    (λ ks ps f b. put IsSkipped (InMapping (MayFollow s ss)) [] (node_parts forest.left_out) ks ps (refl, refl) f)
+    skipped (Then IsSkipped (InMapping (FollowsStates s ss))) t t.span ts r x state.FlowMappingKey (s ∷ ss) e (tt, a)
+    (λ ks ps f b. put IsSkipped (InMapping (FollowsStates s ss)) [] (node_parts forest.left_out) ks ps (refl, refl) f)

@@ -26,7 +26,7 @@ use Rattle.saphyr_parser.specs.Steps.Nodes.{NodeProperties, no_node_properties, 
 use Rattle.saphyr_parser.specs.WellFormed.{IsWellFormed, AreWellFormed}
 use Rattle.saphyr_parser.proofs.Told.Telling.{Memory}
 use Rattle.saphyr_parser.proofs.Remembering.{noted, resolve}
-use Rattle.saphyr_parser.proofs.Turned.Following.{Then, Exactly, IsNodeOf, BlockEntries, MayFollow, IsAlive, BeginsWithEntry}
+use Rattle.saphyr_parser.proofs.Turned.Following.{Then, Exactly, IsNodeOf, BlockEntries, FollowsStates, IsAlive, BeginsWithEntry}
 use Rattle.saphyr_parser.proofs.Turned.Turning.{machine, Goes, Turned, put}
 use Rattle.saphyr_parser.proofs.Turned.Tags.{ResolvesTo, stands}
 use Rattle.saphyr_parser.proofs.Turned.Content.{place_of, IsPairState, Suits, NodeThen, Fronted, with_told, leaf_goes, alone_turned, flow_sequence_goes, flow_mapping_goes, block_sequence_goes, block_mapping_goes, no_entry}
@@ -41,10 +41,10 @@ has_node (MoreNodes node nodes) t u ks h e n b = tt
 
 indentless_makes : (p : forest.Properties) (front : List Kind) (s : State) (ss : List State) (ks : List Kind)
     (ps : List Part) → grammar.YieldProperties p front → IsPairState s
-    → Then BlockEntries (Then (Exactly [] (CloseSequence ∷ [])) (MayFollow s ss)) ks ps → BeginsWithEntry ks
-    → Then (IsNodeOf InBlockMapping) (MayFollow s ss) (front ++ ks) (OpenSequence p ∷ ps)
+    → Then BlockEntries (Then (Exactly [] (CloseSequence ∷ [])) (FollowsStates s ss)) ks ps → BeginsWithEntry ks
+    → Then (IsNodeOf InBlockMapping) (FollowsStates s ss) (front ++ ks) (OpenSequence p ∷ ps)
 indentless_makes p front s ss ks ps h i g b =
-    let g2 : Then (Exactly [] (CloseSequence ∷ [])) (MayFollow s ss) g.back g.second = g.goes_on in
+    let g2 : Then (Exactly [] (CloseSequence ∷ [])) (FollowsStates s ss) g.back g.second = g.goes_on in
     let rest : g.back ≡ g2.back = g2.kinds_are ∙ ap (λ (l : List Kind). l ++ g2.back) g2.begins.0 in
     let some : HasNode g.begins.0 = has_node g.begins.0 g.front g2.back ks g.begins.1
     (g.kinds_are ∙ ap (λ (l : List Kind). g.front ++ l) rest) (no_entry s ss g2.back g2.second i g2.goes_on) b in
@@ -67,7 +67,7 @@ indentless_makes p front s ss ks ps h i g b =
 indentless_goes : (t : Piece) (p : forest.Properties) (q : NodeProperties) (front : List Piece) (span : Span)
     (ts : List Piece) (r : Option Refusal) (s : State) (ss : List State) (e : Memory) → t.kind ≡ tokens.BlockEntry
     → IsPairState s → Fronted e p q front → IsAlive s ss → HasOwn front (SequenceStart q.anchor q.tag) span (t ∷ ts)
-    → Goes (Then (IsNodeOf InBlockMapping) (MayFollow s ss)) e (front ++ t ∷ ts)
+    → Goes (Then (IsNodeOf InBlockMapping) (FollowsStates s ss)) e (front ++ t ∷ ts)
     (record {
       what = SequenceStart q.anchor q.tag;
       span =
@@ -204,7 +204,7 @@ alias_turned (Some id) text t c ts r x s ss e k m a = record {
   few = omega arith;
   places = whole (t ∷ []) (Alias id) t.span (t, encode_utf8_all text, k, refl, refl);
   alive = a;
-  makes = λ ks ps f st. put (IsNodeOf (place_of c)) (MayFollow s ss) (t.kind ∷ []) (Reference text ∷ []) ks ps
+  makes = λ ks ps f st. put (IsNodeOf (place_of c)) (FollowsStates s ss) (t.kind ∷ []) (Reference text ∷ []) ks ps
       (forest.Alias text, ap (λ (l : Kind). l ∷ []) k, refl) f;
 }
 

@@ -17,7 +17,7 @@ use Rattle.saphyr_parser.specs.Events.{SequenceEnd}
 use Rattle.saphyr_parser.specs.Steps.Flow.{entry_at, first_entry, other_entry_at, other_entry, pair_key_at, pair_key, pair_value_node_at, pair_value_node, pair_value_at, pair_value, pair_end}
 use Rattle.saphyr_parser.specs.WellFormed.{AreWellFormed}
 use Rattle.saphyr_parser.proofs.Told.Telling.{Memory}
-use Rattle.saphyr_parser.proofs.Turned.Following.{Claim, Then, Exactly, IsNodeOf, IsOptionalOf, IsAnyValueOf, FirstEntries, OtherEntries, InSequence, AtPairEnd, AtPairValue, MayFollow, IsAlive}
+use Rattle.saphyr_parser.proofs.Turned.Following.{Claim, Then, Exactly, IsNodeOf, IsOptionalOf, IsAnyValueOf, FirstEntries, OtherEntries, InSequence, AtPairEnd, AtPairValue, FollowsStates, IsAlive}
 use Rattle.saphyr_parser.proofs.Turned.Turning.{machine, Turned, weaker, behind, regroup, replace, put}
 use Rattle.saphyr_parser.proofs.Turned.Entries.{skipped, skip_optional, entered, enter_optional, marked_value, any_value, collection_ends, ends}
 
@@ -120,11 +120,11 @@ pair_first R ks ps h =
 
 entry_turned : (k : Kind) (sp : Span) (ts : List Piece) (r : Option Refusal) (x s : State) (ss : List State)
     (e : Memory) → AreWellFormed (record { span = sp; kind = k } ∷ ts) → IsAlive s ss
-    → Turned (AtFirst (MayFollow s ss)) e (record { span = sp; kind = k } ∷ ts)
+    → Turned (AtFirst (FollowsStates s ss)) e (record { span = sp; kind = k } ∷ ts)
     (entry_at k (record { span = sp; kind = k }) (machine ts r x (s ∷ ss) e))
 entry_turned FlowSequenceEnd sp ts r x s ss e w a =
-    ends (AtFirst (MayFollow s ss)) _ SequenceEnd CloseSequence sp ts r x s ss e refl refl refl tt refl a
-    (λ ks ps f. collection_ends FirstEntries (MayFollow s ss) (FlowSequenceEnd ∷ []) CloseSequence ks ps
+    ends (AtFirst (FollowsStates s ss)) _ SequenceEnd CloseSequence sp ts r x s ss e refl refl refl tt refl a
+    (λ ks ps f. collection_ends FirstEntries (FollowsStates s ss) (FlowSequenceEnd ∷ []) CloseSequence ks ps
     (NoNode, refl, refl) f)
 entry_turned Key sp ts r x s ss e w a =
     record {
@@ -143,36 +143,36 @@ entry_turned Key sp ts r x s ss e w a =
             refl,
           );
       alive = (tt, a);
-      makes = λ ks ps f b. pair_first (MayFollow s ss) ks ps f;
+      makes = λ ks ps f b. pair_first (FollowsStates s ss) ks ps f;
     }
 entry_turned k sp ts r x s ss e w a =
-    weaker (Then (IsNodeOf InFlow) (InSequence (MayFollow s ss))) (AtFirst (MayFollow s ss)) e _ _
-    (node_first (MayFollow s ss))
+    weaker (Then (IsNodeOf InFlow) (InSequence (FollowsStates s ss))) (AtFirst (FollowsStates s ss)) e _ _
+    (node_first (FollowsStates s ss))
     (entered Flow (record { span = sp; kind = k }) ts r x state.FlowSequenceEntry (s ∷ ss) e w tt (tt, a))
 
 pub first_entry_turned : (ts : List Piece) (r : Option Refusal) (x s : State) (ss : List State) (e : Memory)
-    → AreWellFormed ts → IsAlive s ss → Turned (AtFirst (MayFollow s ss)) e ts (first_entry (machine ts r x (s ∷ ss) e))
+    → AreWellFormed ts → IsAlive s ss → Turned (AtFirst (FollowsStates s ss)) e ts (first_entry (machine ts r x (s ∷ ss) e))
 unfolding first_entry
 first_entry_turned [] r x s ss e w a = tt
 first_entry_turned (t ∷ ts) r x s ss e w a = entry_turned t.kind t.span ts r x s ss e w a
 
 other_entry_at_turned : (k : Kind) (sp : Span) (ts : List Piece) (r : Option Refusal) (x s : State) (ss : List State)
     (e : Memory) → AreWellFormed ts → IsAlive s ss
-    → Turned (InSequence (MayFollow s ss)) e (record { span = sp; kind = k } ∷ ts)
+    → Turned (InSequence (FollowsStates s ss)) e (record { span = sp; kind = k } ∷ ts)
     (other_entry_at k (record { span = sp; kind = k }) (machine ts r x (s ∷ ss) e))
 other_entry_at_turned FlowSequenceEnd sp ts r x s ss e w a =
-    ends (InSequence (MayFollow s ss)) _ SequenceEnd CloseSequence sp ts r x s ss e refl refl refl tt refl a
-    (λ ks ps f. collection_ends OtherEntries (MayFollow s ss) (FlowSequenceEnd ∷ []) CloseSequence ks ps
+    ends (InSequence (FollowsStates s ss)) _ SequenceEnd CloseSequence sp ts r x s ss e refl refl refl tt refl a
+    (λ ks ps f. collection_ends OtherEntries (FollowsStates s ss) (FlowSequenceEnd ∷ []) CloseSequence ks ps
     (NoNode, inl refl, refl)
     f)
 other_entry_at_turned FlowEntry sp ts r x s ss e w a =
-    behind (record { span = sp; kind = FlowEntry }) (AtFirst (MayFollow s ss)) (InSequence (MayFollow s ss)) e ts _ tt
-    (behind_comma (MayFollow s ss)) (first_entry_turned ts r x s ss e w a)
+    behind (record { span = sp; kind = FlowEntry }) (AtFirst (FollowsStates s ss)) (InSequence (FollowsStates s ss)) e ts _ tt
+    (behind_comma (FollowsStates s ss)) (first_entry_turned ts r x s ss e w a)
 other_entry_at_turned _ sp ts r x s ss e w a = tt
 
 pub other_entry_turned : (ts : List Piece) (r : Option Refusal) (x s : State) (ss : List State) (e : Memory)
     → AreWellFormed ts → IsAlive s ss
-    → Turned (InSequence (MayFollow s ss)) e ts (other_entry (machine ts r x (s ∷ ss) e))
+    → Turned (InSequence (FollowsStates s ss)) e ts (other_entry (machine ts r x (s ∷ ss) e))
 unfolding other_entry
 other_entry_turned [] r x s ss e w a = tt
 other_entry_turned (t ∷ ts) r x s ss e w a = other_entry_at_turned t.kind t.span ts r x s ss e w.2 a
@@ -180,7 +180,7 @@ other_entry_turned (t ∷ ts) r x s ss e w a = other_entry_at_turned t.kind t.sp
 -- a key, which may be left out
 pair_key_at_turned : (k : Kind) (sp : Span) (ts : List Piece) (r : Option Refusal) (x s : State) (ss : List State)
     (e : Memory) → AreWellFormed (record { span = sp; kind = k } ∷ ts) → IsAlive s ss
-    → Turned (Then (IsOptionalOf InFlow) (AtPairValue (MayFollow s ss))) e (record { span = sp; kind = k } ∷ ts)
+    → Turned (Then (IsOptionalOf InFlow) (AtPairValue (FollowsStates s ss))) e (record { span = sp; kind = k } ∷ ts)
     (pair_key_at k (record { span = sp; kind = k }) (machine ts r x (s ∷ ss) e))
 pair_key_at_turned Value sp ts r x s ss e w a =
     skip_optional InFlow _ sp ts r x state.FlowSequenceEntryMappingValue (s ∷ ss) e (tt, a)
@@ -194,7 +194,7 @@ pair_key_at_turned k sp ts r x s ss e w a =
 
 pub pair_key_turned : (ts : List Piece) (r : Option Refusal) (x s : State) (ss : List State) (e : Memory)
     → AreWellFormed ts → IsAlive s ss
-    → Turned (Then (IsOptionalOf InFlow) (AtPairValue (MayFollow s ss))) e ts (pair_key (machine ts r x (s ∷ ss) e))
+    → Turned (Then (IsOptionalOf InFlow) (AtPairValue (FollowsStates s ss))) e ts (pair_key (machine ts r x (s ∷ ss) e))
 unfolding pair_key
 pair_key_turned [] r x s ss e w a = tt
 pair_key_turned (t ∷ ts) r x s ss e w a = pair_key_at_turned t.kind t.span ts r x s ss e w a
@@ -202,7 +202,7 @@ pair_key_turned (t ∷ ts) r x s ss e w a = pair_key_at_turned t.kind t.span ts 
 -- a value behind its mark
 value_node_at_turned : (k : Kind) (sp : Span) (ts : List Piece) (r : Option Refusal) (x s : State) (ss : List State)
     (e : Memory) → AreWellFormed (record { span = sp; kind = k } ∷ ts) → IsAlive s ss
-    → Turned (Then (IsOptionalOf InFlow) (AtPairEnd (MayFollow s ss))) e (record { span = sp; kind = k } ∷ ts)
+    → Turned (Then (IsOptionalOf InFlow) (AtPairEnd (FollowsStates s ss))) e (record { span = sp; kind = k } ∷ ts)
     (pair_value_node_at k (record { span = sp; kind = k }) (machine ts r x (s ∷ ss) e))
 value_node_at_turned FlowEntry sp ts r x s ss e w a =
     skip_optional InFlow _ sp ts r x (state.FlowSequenceEntryMappingEnd sp.end) (s ∷ ss) e (tt, a)
@@ -214,7 +214,7 @@ value_node_at_turned k sp ts r x s ss e w a =
 
 value_node_turned : (ts : List Piece) (r : Option Refusal) (x s : State) (ss : List State) (e : Memory)
     → AreWellFormed ts → IsAlive s ss
-    → Turned (Then (IsOptionalOf InFlow) (AtPairEnd (MayFollow s ss))) e ts
+    → Turned (Then (IsOptionalOf InFlow) (AtPairEnd (FollowsStates s ss))) e ts
     (pair_value_node (machine ts r x (s ∷ ss) e))
 unfolding pair_value_node
 value_node_turned [] r x s ss e w a = tt
@@ -222,28 +222,28 @@ value_node_turned (t ∷ ts) r x s ss e w a = value_node_at_turned t.kind t.span
 
 pair_value_at_turned : (k : Kind) (sp : Span) (ts : List Piece) (r : Option Refusal) (x s : State) (ss : List State)
     (e : Memory) → AreWellFormed ts → IsAlive s ss
-    → Turned (AtPairValue (MayFollow s ss)) e (record { span = sp; kind = k } ∷ ts)
+    → Turned (AtPairValue (FollowsStates s ss)) e (record { span = sp; kind = k } ∷ ts)
     (pair_value_at k (record { span = sp; kind = k }) (machine ts r x (s ∷ ss) e))
 pair_value_at_turned Value sp ts r x s ss e w a =
-    behind (record { span = sp; kind = Value }) (Then (IsOptionalOf InFlow) (AtPairEnd (MayFollow s ss)))
-    (AtPairValue (MayFollow s ss)) e ts _ tt
-    (λ ks ps h. any_value InFlow (AtPairEnd (MayFollow s ss)) _ ps
-    (marked_value InFlow (AtPairEnd (MayFollow s ss)) ks ps h)) (value_node_turned ts r x s ss e w a)
+    behind (record { span = sp; kind = Value }) (Then (IsOptionalOf InFlow) (AtPairEnd (FollowsStates s ss)))
+    (AtPairValue (FollowsStates s ss)) e ts _ tt
+    (λ ks ps h. any_value InFlow (AtPairEnd (FollowsStates s ss)) _ ps
+    (marked_value InFlow (AtPairEnd (FollowsStates s ss)) ks ps h)) (value_node_turned ts r x s ss e w a)
 pair_value_at_turned k sp ts r x s ss e w a =
-    skipped (AtPairValue (MayFollow s ss)) (record { span = sp; kind = k }) sp ts r x
+    skipped (AtPairValue (FollowsStates s ss)) (record { span = sp; kind = k }) sp ts r x
     (state.FlowSequenceEntryMappingEnd sp.end) (s ∷ ss) e (tt, a)
-    (λ ks ps f b. put (IsAnyValueOf InFlow) (AtPairEnd (MayFollow s ss)) [] (node_parts forest.left_out) ks ps
+    (λ ks ps f b. put (IsAnyValueOf InFlow) (AtPairEnd (FollowsStates s ss)) [] (node_parts forest.left_out) ks ps
     (inr (refl, refl)) f)
 
 pub pair_value_turned : (ts : List Piece) (r : Option Refusal) (x s : State) (ss : List State) (e : Memory)
     → AreWellFormed ts → IsAlive s ss
-    → Turned (AtPairValue (MayFollow s ss)) e ts (pair_value (machine ts r x (s ∷ ss) e))
+    → Turned (AtPairValue (FollowsStates s ss)) e ts (pair_value (machine ts r x (s ∷ ss) e))
 unfolding pair_value
 pair_value_turned [] r x s ss e w a = tt
 pair_value_turned (t ∷ ts) r x s ss e w a = pair_value_at_turned t.kind t.span ts r x s ss e w.2 a
 
 pub pair_end_turned : (place : Marker) (ts : List Piece) (r : Option Refusal) (x s : State) (ss : List State)
-    (e : Memory) → IsAlive s ss → Turned (AtPairEnd (MayFollow s ss)) e ts (pair_end place (machine ts r x (s ∷ ss) e))
+    (e : Memory) → IsAlive s ss → Turned (AtPairEnd (FollowsStates s ss)) e ts (pair_end place (machine ts r x (s ∷ ss) e))
 unfolding pair_end
 pair_end_turned place ts r x s ss e a =
     record {
@@ -259,6 +259,6 @@ pair_end_turned place ts r x s ss e a =
       places = whole [] _ _ refl;
       alive =
           (tt, a);
-      makes = λ ks ps f b. put (Exactly [] (CloseMapping ∷ [])) (InSequence (MayFollow s ss)) []
+      makes = λ ks ps f b. put (Exactly [] (CloseMapping ∷ [])) (InSequence (FollowsStates s ss)) []
           (CloseMapping ∷ []) ks ps (refl, refl) f;
     }

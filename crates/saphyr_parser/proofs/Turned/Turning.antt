@@ -12,7 +12,7 @@ use Rattle.saphyr_parser.specs.Exactly.{kinds}
 use Rattle.saphyr_parser.specs.Steps.Machine.{Machine, Told}
 use Rattle.saphyr_parser.proofs.Told.Telling.{Memory}
 use Rattle.saphyr_parser.proofs.Remembering.{after, event_in}
-use Rattle.saphyr_parser.proofs.Turned.Following.{Then, Exactly, MayFollow, IsAlive, Starts}
+use Rattle.saphyr_parser.proofs.Turned.Following.{Then, Exactly, FollowsStates, IsAlive, Starts}
 
 abbrev pub machine : List Piece → Option Refusal → State → List State → Memory → Machine
 machine ts r s ss e = record {
@@ -39,7 +39,7 @@ pub record Goes (F : List Kind → List Part → Type 0) (e : Memory) (k : List 
   pub few : anchors (part ∷ []) ≤ length used
   pub places : HasOwn used x.what x.span x.machine.tokens.pieces
   pub alive : IsAlive x.machine.state x.machine.states
-  pub makes : (ks : List Kind) (ps : List Part) → MayFollow x.machine.state x.machine.states ks ps
+  pub makes : (ks : List Kind) (ps : List Part) → FollowsStates x.machine.state x.machine.states ks ps
       → Starts x.machine.state (kinds x.machine.tokens.pieces) ks → F (kinds used ++ ks) (part ∷ ps)
 
 abbrev pub Turned : (List Kind → List Part → Type 0) → Memory → List Piece → Result Told Refusal → Type 0
