@@ -13,7 +13,7 @@ use Rattle.saphyr_parser.specs.Events.{Happening}
 use Rattle.saphyr_parser.specs.Steps.Machine.{Machine, Told}
 use Rattle.saphyr_parser.specs.Steps.Expected.{block_node, event_step, event_step_at}
 use Rattle.saphyr_parser.specs.Answer.{Answer, Ending, answer_of_step, ending_of, answer_unless_ended, answer_of_steps, weight_before}
-use Rattle.saphyr_parser.proofs.Walk.Steps.{Walk, HasPlace, Of, StandsBetween, StepGives, taken}
+use Rattle.saphyr_parser.proofs.Walk.Steps.{Walk, HasPlace, Of, HoldsBetween, StepGives, taken}
 use Rattle.saphyr_parser.proofs.Walk.Nodes.{nodes}
 use Rattle.saphyr_parser.proofs.Walk.Block as block
 use Rattle.saphyr_parser.proofs.Walk.Flow as flow
@@ -71,7 +71,7 @@ module _ (w : Walk) where
   unless_over _ a h = h (λ e. absurd (cc))
 
   delivers : (r : Result Told Refusal) (go : Machine → Answer) → StepGives w r
-      → ((m : Machine) → StandsBetween w m → Holds (go m)) → Holds (answer_of_step r go)
+      → ((m : Machine) → HoldsBetween w m → Holds (go m)) → Holds (answer_of_step r go)
   delivers (Err f) go g h =
       record { spans = All-nil (λ (e : Happening × Span). w.Spans e.1.start e.1.end); fault = (f, refl, g) }
   delivers (Ok x) go g h =
@@ -82,7 +82,7 @@ module _ (w : Walk) where
         fault = rest.fault;
       }
 
-  pub runs : Resumes → (n : ℕ) (m : Machine) → StandsBetween w m → Holds (answer_of_steps n m)
+  pub runs : Resumes → (n : ℕ) (m : Machine) → HoldsBetween w m → Holds (answer_of_steps n m)
   unfolding event_step
   runs go zero m s = nothing
   runs go (suc n) m s =

@@ -68,7 +68,7 @@ abbrev pub Taken : Walk → ℕ → Kind → Piece → Machine → Type 0
 Taken w d k t m = (k ≡ t.kind) × On w t.span.start d m.tokens.refusal (t ∷ m.tokens.pieces) m.states
 
 -- between two steps
-pub record StandsBetween (w : Walk) (m : Machine) : Type 0 where
+pub record HoldsBetween (w : Walk) (m : Machine) : Type 0 where
   pub place : HasPlace w.Spans m.state
   pub places : HavePlaces w.Spans m.states
   pub rests :
@@ -77,7 +77,7 @@ pub record StandsBetween (w : Walk) (m : Machine) : Type 0 where
 
 -- what a step gives
 abbrev pub StepGives : Walk → Result Told Refusal → Type 0
-StepGives w (Ok x) = w.Spans x.span.start x.span.end × StandsBetween w x.machine
+StepGives w (Ok x) = w.Spans x.span.start x.span.end × HoldsBetween w x.machine
 StepGives w (Err f) = w.Fails f
 
 key_weight : (b : Bool) → (if b then 3 else 1) ≤ 3
@@ -129,7 +129,7 @@ module _ (w : Walk) where
   -- ## What a step leaves
 
   pub entered : {low : Marker} (s : State) (m : Machine) → HasPlace w.Spans s → Of w low (10 + weight s) m
-      → StandsBetween w (with_state s m)
+      → HoldsBetween w (with_state s m)
   entered {low} s m p a = record {
     place = p;
     places =
@@ -139,7 +139,7 @@ module _ (w : Walk) where
   }
 
   pops : {low : Marker} (ss : List State) (m : Machine) → On w low 10 m.tokens.refusal m.tokens.pieces ss
-      → StandsBetween w (pop_from ss m)
+      → HoldsBetween w (pop_from ss m)
   pops {low} [] m a = record { place = tt; places = tt; rests = w.rests low state.End _ _ _ a.pieces }
   pops {low} (s ∷ ss) m a = record {
     place =
@@ -150,12 +150,12 @@ module _ (w : Walk) where
         (let l = weight_before_is_less s m.tokens.pieces in omega (arith, l)) a.pieces);
   }
 
-  pub left : {low : Marker} (m : Machine) → Of w low 10 m → StandsBetween w (pop m)
+  pub left : {low : Marker} (m : Machine) → Of w low 10 m → HoldsBetween w (pop m)
   left m a = pops m.states m a
 
   -- the stream has ended
   pub over : {d : ℕ} {t : Piece} (m : Machine) → Taken w d tokens.StreamEnd t m
-      → StandsBetween w (with_state state.End m)
+      → HoldsBetween w (with_state state.End m)
   over {d} {t} m a = record {
     place = tt;
     places =
