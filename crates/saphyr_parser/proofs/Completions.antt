@@ -213,7 +213,8 @@ inside state.IndentlessSequenceEntry o ss i c =
       parts =
           leaf ∷ CloseSequence ∷ c.parts;
       follows =
-          one_entry (Then (Exactly [] (CloseSequence ∷ [])) (FollowsStates o ss)) c.kinds (leaf ∷ CloseSequence ∷ c.parts)
+          one_entry (Then (Exactly [] (CloseSequence ∷ [])) (FollowsStates o ss)) c.kinds
+          (leaf ∷ CloseSequence ∷ c.parts)
           (put (IsOptionalOf InBlock) _ [] (leaf ∷ []) c.kinds (CloseSequence ∷ c.parts)
           (forest.left_out, inl (refl, refl), refl)
           (collection_ends BlockEntries (FollowsStates o ss) [] CloseSequence c.kinds c.parts (NoNode, refl, refl)
@@ -241,7 +242,8 @@ inside state.BlockMappingValue o ss i c =
       parts =
           leaf ∷ CloseMapping ∷ c.parts;
       follows =
-          inl (marked_value InBlockMapping (InBlockPairs (FollowsStates o ss)) (BlockEnd ∷ c.kinds) (leaf ∷ CloseMapping ∷
+          inl (marked_value InBlockMapping (InBlockPairs (FollowsStates o ss)) (BlockEnd ∷ c.kinds)
+          (leaf ∷ CloseMapping ∷
           c.parts)
           (put (IsOptionalOf InBlockMapping) (InBlockPairs (FollowsStates o ss)) [] (leaf ∷ []) _ _
           (forest.left_out, inl (refl, refl), refl) (block_pairs_end (FollowsStates o ss) c.kinds c.parts c.follows)));
@@ -341,7 +343,8 @@ inside state.FlowMappingValue o ss i c =
           leaf ∷ CloseMapping ∷ c.parts;
       follows =
           any_value InFlow (InMapping (FollowsStates o ss)) _ _
-          (marked_value InFlow (InMapping (FollowsStates o ss)) (FlowMappingEnd ∷ c.kinds) (leaf ∷ CloseMapping ∷ c.parts)
+          (marked_value InFlow (InMapping (FollowsStates o ss)) (FlowMappingEnd ∷ c.kinds)
+          (leaf ∷ CloseMapping ∷ c.parts)
           (maybe (InMapping (FollowsStates o ss)) _ _ (pairs_end (FollowsStates o ss) c.kinds c.parts c.follows)));
       starts =
           λ ahead b. tt;

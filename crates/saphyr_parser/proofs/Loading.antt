@@ -40,9 +40,10 @@ remembered_more old mid new es e so next = record {
 abbrev pub with_events : List (Happening × Span) → Portion → Portion
 with_events es p = record { sent = es ++ p.sent; fault = p.fault }
 
-with_more : (es : List (Happening × Span)) (e : Happening × Span) (p : Portion)
+with_one_more_event : (es : List (Happening × Span)) (e : Happening × Span) (p : Portion)
     → with_events (es ++ (e ∷ [])) p ≡ with_events es (with_event e p)
-with_more es e p = ap (λ (l : List (Happening × Span)). let q : Portion = record { sent = l; fault = p.fault } in q)
+with_one_more_event es e p = ap (λ (l : List (Happening × Span)). let q : Portion = record { sent = l; fault = p.fault }
+    in q)
     (append_assoc es (e ∷ []) p.sent)
 
 abbrev pub part_of : Bool → Answer → Portion
@@ -167,7 +168,7 @@ module _ {R : Type 0} (receives : R → Happening × Span → Result (Unit {0}) 
     part = so.part ∙ ap (with_events so.sent)
         (part_before multi e (to_come new) (to_come mid) (advances e mid new is.0)
         ∙ ap (λ (b : Bool). behind_first b e (portion_to_send multi new)) more)
-        ∙ sym (with_more so.sent e (portion_to_send multi new));
+        ∙ sym (with_one_more_event so.sent e (portion_to_send multi new));
     passed = passed_more old mid new so.sent e so.passed is.0;
     sends = one_more first last next so.sent e so.sends taken;
     leaves = over_more so.sent e old mid new so.leaves is.0;

@@ -37,10 +37,10 @@ FitsParts false keep front e = FitsBetween keep front e
 
 -- ## Parts in their places
 
-abbrev pub inside_behind : Part → Bool → Bool
-inside_behind (OpenDocument _ _) b = true
-inside_behind CloseDocument b = false
-inside_behind _ b = b
+abbrev pub is_inside_behind : Part → Bool → Bool
+is_inside_behind (OpenDocument _ _) b = true
+is_inside_behind CloseDocument b = false
+is_inside_behind _ b = b
 
 -- a part that may stand inside a document, or outside
 abbrev pub May : Bool → Part → Type 0
@@ -55,7 +55,7 @@ May true _ = Unit {0}
 
 abbrev pub Within : Bool → List Part → Type 0
 Within b [] = Unit {0}
-Within b (p ∷ ps) = May b p × Within (inside_behind p b) ps
+Within b (p ∷ ps) = May b p × Within (is_inside_behind p b) ps
 
 -- ## Ids
 
@@ -196,7 +196,7 @@ kept_meaning false true handle front names k h = absurd (cc)
 
 fits_after : (b keep : Bool) (front : List Part) (e : Memory) (p : Part) (more : ℕ) → May b p → FitsParts b keep front e
     → anchors front + one_more_anchor (anchor_of p) more < 2 ^ 64
-    → FitsParts (inside_behind p b) keep (p ∷ front) (after p e)
+    → FitsParts (is_inside_behind p b) keep (p ∷ front) (after p e)
 fits_after false keep front e OpenStream more m h l = record { keeps = h.keeps; count = h.count; prefixes = h.prefixes }
 fits_after false keep front e CloseStream more m h l =
     record { keeps = h.keeps; count = h.count; prefixes = h.prefixes }
@@ -239,5 +239,5 @@ same_events (p ∷ ps) b keep front e w h l =
     ap (λ (o : Option Happening). first_and_others o (events_in (after p e) ps))
     (event_same b keep front e p (anchors ps) w.0 h l)
     ∙ ap (first_and_others (event_of_part keep front p))
-    (same_events ps (inside_behind p b) keep (p ∷ front) (after p e) w.1
+    (same_events ps (is_inside_behind p b) keep (p ∷ front) (after p e) w.1
     (fits_after b keep front e p (anchors ps) w.0 h l) (room_moves (anchor_of p) (anchors front) (anchors ps) l))

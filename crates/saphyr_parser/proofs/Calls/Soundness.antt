@@ -57,11 +57,12 @@ none_read : (f : Option Span) (c d : Option (Happening × Span)) (k l : Option K
 none_read None c d k l m n i j s t on h = tt
 none_read (Some span) c d k l m n i j s t on h = absurd (on h.2)
 
-abbrev cursor : Option (Happening × Span) → Option Kept → Machine → Bool → Option Span → EventCursor
-cursor c k m i f = record { current = c; kept = k; machine = m; inside = i; finished = f }
+abbrev cursor_of_parts : Option (Happening × Span) → Option Kept → Machine → Bool → Option Span → EventCursor
+cursor_of_parts c k m i f = record { current = c; kept = k; machine = m; inside = i; finished = f }
 
 advancing : (c : Option (Happening × Span)) (k : Option Kept) (m : Machine) (i : Bool) (f : Option Span)
-    (e : Happening × Span) (new : EventCursor) → Advances e (cursor c k m i f) new → IsSound (cursor c k m i f)
+    (e : Happening × Span) (new : EventCursor) → Advances e (cursor_of_parts c k m i f) new
+    → IsSound (cursor_of_parts c k m i f)
     → IsSound new
 advancing (Some next) None m i f e new (is, left) s =
     let closed : LeavesEnd e.0 m.state = subst (λ (x : Happening × Span). LeavesEnd x.0 m.state) is s.ahead in
@@ -102,7 +103,8 @@ not_over : (f : Fault) (m : Machine) → Refuses f (remaining_answer m) → m.st
 not_over f m h done = not_none f (subst (Refuses f) (over m done) h)
 
 failing : (c : Option (Happening × Span)) (k : Option Kept) (m : Machine) (i : Bool) (s : Option Span) (f : Fault)
-    (new : EventCursor) → FailsWith f (cursor c k m i s) new → IsSound (cursor c k m i s) → IsSound new
+    (new : EventCursor) → FailsWith f (cursor_of_parts c k m i s) new → IsSound (cursor_of_parts c k m i s)
+    → IsSound new
 failing (Some next) k m i s f new h sound = absurd h
 failing None (Some kept) m i s f new (fresh, same, left) sound =
     subst IsSound (sym left)
@@ -132,7 +134,8 @@ no_end (answer.Refused mark text) h =
 no_end answer.OutOfMemory h = omega (arith, h)
 
 ahead_sound : (d : Option (Happening × Span)) (l : Option Kept) (m : Machine) (i : Bool) (s : Option Span)
-    (new : EventCursor) → ReadsAhead d l (cursor None None m i s) new → IsSound (cursor None None m i s) → IsSound new
+    (new : EventCursor) → ReadsAhead d l (cursor_of_parts None None m i s) new
+    → IsSound (cursor_of_parts None None m i s) → IsSound new
 ahead_sound (Some e) (Some k) m i s new h sound = absurd h
 ahead_sound (Some e) None m i s new (moved, left) sound =
     subst IsSound (sym left)
@@ -153,7 +156,7 @@ ahead_sound None None m i s new (done, same) sound = subst IsSound (sym same) so
 
 looking : (c : Option (Happening × Span)) (k : Option Kept) (m : Machine) (i : Bool) (s : Option Span)
     (new : EventCursor)
-    → Looks (cursor c k m i s) new → IsSound (cursor c k m i s) → IsSound new
+    → Looks (cursor_of_parts c k m i s) new → IsSound (cursor_of_parts c k m i s) → IsSound new
 looking (Some next) k m i s new same sound = subst IsSound (sym same) sound
 looking None (Some k) m i s new same sound = subst IsSound (sym same) sound
 looking None None m i s new h sound = ahead_sound new.current new.kept m i s new h sound

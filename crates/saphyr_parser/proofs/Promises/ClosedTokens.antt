@@ -41,10 +41,10 @@ goes state.ImplicitDocumentStart i = λ e. absurd (cc)
 goes state.DocumentStart i = λ e. absurd (cc)
 goes _ i = absurd i
 
-start_told : (s : Span) (k : Machine) → IsBetweenDocuments k.state
+start_is_told : (s : Span) (k : Machine) → IsBetweenDocuments k.state
     → remaining_answer (alone s k) ≡ record { events = (events.StreamEnd, s) ∷ []; fault = None }
 unfolding event_step
-start_told s k i =
+start_is_told s k i =
     unroll (alone s k) (goes k.state i) ∙ ap (λ q. answer_of_step q remaining_answer) (start_step s k.state k i)
     ∙ ap (with_first_event (events.StreamEnd, s)) (over (with_state state.End (with_pieces [] (alone s k))) refl)
 
@@ -61,7 +61,7 @@ content_told s ss k =
     ∙ ap (with_first_event (empty_scalar, s))
     (unroll (alone s (record k { state = state.DocumentEnd; states = ss })) (λ e. absurd (cc))
     ∙ ap (with_first_event (events.DocumentEnd, s))
-    (start_told s (without_prefixes (record k { state = state.DocumentStart; states = ss })) tt))
+    (start_is_told s (without_prefixes (record k { state = state.DocumentStart; states = ss })) tt))
 
 -- ## The marker
 
@@ -70,13 +70,13 @@ ended_by w us e = record { Early = ⊥; marker = w; pieces = us; refusal = e }
 
 told_behind : (w : DocumentMarker) (s : Span) (k : Machine) → Awaits w k ⊎ ((w ≡ Ends) × IsBetweenDocuments k.state)
     → happenings_of (remaining_answer (alone s k)) ≡ events_behind_marker w
-told_behind w s k (inl (inl a)) = rw a.0 (ap happenings_of (start_told s k (subst IsBetweenDocuments (sym a.1) tt)))
+told_behind w s k (inl (inl a)) = rw a.0 (ap happenings_of (start_is_told s k (subst IsBetweenDocuments (sym a.1) tt)))
 told_behind w s k (inl (inr a)) =
     let ss : List State = a.2.0 in
     let same : k ≡ in_document ss k = ap (λ v. record k { state = v }) a.1
     ∙ ap (λ v. record k { state = state.DocumentContent; states = v }) a.2.1 in
     rw a.0 (ap happenings_of (ap (λ v. remaining_answer (alone s v)) same ∙ content_told s ss k))
-told_behind w s k (inr a) = rw a.0 (ap happenings_of (start_told s k a.1))
+told_behind w s k (inr a) = rw a.0 (ap happenings_of (start_is_told s k a.1))
 
 told_stopped :
     (w : DocumentMarker) (s : Span) (k : Machine)

@@ -130,9 +130,10 @@ no_anchor (OpenSequence p) h = ap (λ (q : Properties). option_map encode_utf8_a
 no_anchor (OpenMapping p) h = ap (λ (q : Properties). option_map encode_utf8_all q.anchor) h
 no_anchor _ h = refl
 
-no_anchors : (ps : List Part) → AreBare ps → anchors ps ≡ 0
-no_anchors [] h = refl
-no_anchors (p ∷ ps) h = ap (λ o. one_more_anchor o (anchors ps)) (no_anchor p h.0) ∙ no_anchors ps h.1
+bare_parts_without_anchors : (ps : List Part) → AreBare ps → anchors ps ≡ 0
+bare_parts_without_anchors [] h = refl
+bare_parts_without_anchors (p ∷ ps) h = ap (λ o. one_more_anchor o (anchors ps)) (no_anchor p h.0)
+    ∙ bare_parts_without_anchors ps h.1
 
 pub json_has_no_anchors : (f : Forest) (text : List ℕ) → IsJson f text → anchors (parts f) ≡ 0
-json_has_no_anchors f text h = no_anchors (parts f) (json_is_bare f text h)
+json_has_no_anchors f text h = bare_parts_without_anchors (parts f) (json_is_bare f text h)

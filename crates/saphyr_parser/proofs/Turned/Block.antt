@@ -71,7 +71,8 @@ sequence_entry_at_turned : (k : Kind) (sp : Span) (ts : List Piece) (r : Option 
     (sequence_entry_at k (record { span = sp; kind = k }) (machine ts r x (s ∷ ss) e))
 sequence_entry_at_turned BlockEnd sp ts r x s ss e w a =
     ends (InEntries (FollowsStates s ss)) _ SequenceEnd CloseSequence sp ts r x s ss e refl refl refl tt refl a
-    (λ ks ps f. collection_ends BlockEntries (FollowsStates s ss) (BlockEnd ∷ []) CloseSequence ks ps (NoNode, refl, refl)
+    (λ ks ps f. collection_ends BlockEntries (FollowsStates s ss) (BlockEnd ∷ []) CloseSequence ks ps
+    (NoNode, refl, refl)
     f)
 sequence_entry_at_turned BlockEntry sp ts r x s ss e w a =
     behind (record { span = sp; kind = BlockEntry }) (Then (IsOptionalOf InBlock) (InEntries (FollowsStates s ss)))

@@ -285,7 +285,8 @@ block_mapping_goes t p q front span c ts r s ss e k b h a o = record {
   few = enough_for p front (t ∷ []) h.enough;
   places = o;
   alive = (tt, a);
-  makes = λ ks ps f st. around BlockPairs (FollowsStates s ss) (IsNodeOf c) (kinds (front ++ t ∷ [])) (tokens.BlockEnd ∷ [])
+  makes = λ ks ps f st. around BlockPairs (FollowsStates s ss) (IsNodeOf c) (kinds (front ++ t ∷ []))
+      (tokens.BlockEnd ∷ [])
       (OpenMapping p) CloseMapping ks ps
       (λ u w g. (
         forest.Map p g.0,
@@ -339,7 +340,8 @@ at_value_begins R ks ps (inr h) =
     (sym (h.1.kinds_are ∙ ap (λ (l : List Kind). l ++ h.1.back) h.1.begins.0))
     (in_pairs_begin R h.1.back h.1.second h.1.goes_on)
 
-pub no_entry : (s : State) (ss : List State) (ks : List Kind) (ps : List Part) → IsPairState s → FollowsStates s ss ks ps
+pub no_entry : (s : State) (ss : List State) (ks : List Kind) (ps : List Part) → IsPairState s
+    → FollowsStates s ss ks ps
     → BeginsWithEntry ks → ⊥
 no_entry state.BlockMappingKey [] ks ps i h = absurd h
 no_entry state.BlockMappingKey (o ∷ ss) ks ps i h = in_pairs_begin (FollowsStates o ss) ks ps h

@@ -68,7 +68,8 @@ entered c t ts r x s st e w z a = node_turned t c ts r x s st e w z a
 pub enter_optional : (c : NodeContext) (t : Piece) (ts : List Piece) (r : Option Refusal) (x s : State)
     (st : List State)
     (e : Memory) → AreWellFormed (t ∷ ts) → Suits c s → IsAlive s st
-    → Turned (Then (IsOptionalOf (place_of c)) (FollowsStates s st)) e (t ∷ ts) (node_inside s c t (machine ts r x st e))
+    → Turned (Then (IsOptionalOf (place_of c)) (FollowsStates s st)) e (t ∷ ts)
+    (node_inside s c t (machine ts r x st e))
 enter_optional c t ts r x s st e w z a =
     weaker (Then (IsNodeOf (place_of c)) (FollowsStates s st)) (Then (IsOptionalOf (place_of c)) (FollowsStates s st)) e
     (t ∷ ts)

@@ -162,7 +162,8 @@ key_at_turned k sp ts r x s ss e w a =
     enter_optional Flow (record { span = sp; kind = k }) ts r x state.FlowMappingValue (s ∷ ss) e w tt (tt, a)
 
 key_turned : (ts : List Piece) (r : Option Refusal) (x s : State) (ss : List State) (e : Memory) → AreWellFormed ts
-    → IsAlive s ss → Turned (Then (IsOptionalOf InFlow) (Then (IsAnyValueOf InFlow) (InMapping (FollowsStates s ss)))) e ts
+    → IsAlive s ss → Turned (Then (IsOptionalOf InFlow) (Then (IsAnyValueOf InFlow) (InMapping (FollowsStates s ss)))) e
+    ts
     (flow_key_node (machine ts r x (s ∷ ss) e))
 unfolding flow_key_node
 key_turned [] r x s ss e w a = tt
@@ -174,23 +175,27 @@ pair_at_turned : (k : Kind) (sp span : Span) (ts : List Piece) (r : Option Refus
     (pair_at k span (record { span = sp; kind = k }) (machine ts r x (s ∷ ss) e))
 pair_at_turned Key sp span ts r x s ss e w a =
     behind (record { span = sp; kind = Key })
-    (Then (IsOptionalOf InFlow) (Then (IsAnyValueOf InFlow) (InMapping (FollowsStates s ss)))) (AtFirst (FollowsStates s ss)) e
+    (Then (IsOptionalOf InFlow) (Then (IsAnyValueOf InFlow) (InMapping (FollowsStates s ss))))
+    (AtFirst (FollowsStates s ss)) e
     ts _
     tt (marked_first (FollowsStates s ss)) (key_turned ts r x s ss e w.2 a)
 pair_at_turned Value sp span ts r x s ss e w a =
-    skipped (AtFirst (FollowsStates s ss)) (record { span = sp; kind = Value }) sp ts r x state.FlowMappingValue (s ∷ ss) e
+    skipped (AtFirst (FollowsStates s ss)) (record { span = sp; kind = Value }) sp ts r x state.FlowMappingValue
+    (s ∷ ss) e
     (tt, a) (λ ks ps f b. keyless_first (FollowsStates s ss) ks ps f (b tt))
 pair_at_turned FlowMappingEnd sp span ts r x s ss e w a =
     ends (AtFirst (FollowsStates s ss)) _ MappingEnd CloseMapping span ts r x s ss e refl refl refl tt refl a
     (λ ks ps f. collection_ends FirstPairs (FollowsStates s ss) (FlowMappingEnd ∷ []) CloseMapping ks ps
     (NoPair, refl, refl) f)
 pair_at_turned k sp span ts r x s ss e w a =
-    weaker (Then (IsNodeOf InFlow) (Then IsSkipped (InMapping (FollowsStates s ss)))) (AtFirst (FollowsStates s ss)) e _ _
+    weaker (Then (IsNodeOf InFlow) (Then IsSkipped (InMapping (FollowsStates s ss)))) (AtFirst (FollowsStates s ss)) e _
+    _
     (alone_first (FollowsStates s ss))
     (entered Flow (record { span = sp; kind = k }) ts r x state.FlowMappingEmptyValue (s ∷ ss) e w tt (tt, a))
 
 pub first_pair_turned : (ts : List Piece) (r : Option Refusal) (x s : State) (ss : List State) (e : Memory)
-    → AreWellFormed ts → IsAlive s ss → Turned (AtFirst (FollowsStates s ss)) e ts (first_pair (machine ts r x (s ∷ ss) e))
+    → AreWellFormed ts → IsAlive s ss → Turned (AtFirst (FollowsStates s ss)) e ts
+    (first_pair (machine ts r x (s ∷ ss) e))
 unfolding first_pair
 first_pair_turned [] r x s ss e w a = tt
 first_pair_turned (t ∷ ts) r x s ss e w a = pair_at_turned t.kind t.span t.span ts r x s ss e w a
@@ -211,7 +216,8 @@ other_pair_at_turned FlowMappingEnd sp ts r x s ss e w a =
     (λ ks ps f. collection_ends OtherPairs (FollowsStates s ss) (FlowMappingEnd ∷ []) CloseMapping ks ps
     (NoPair, inl refl, refl) f)
 other_pair_at_turned FlowEntry sp ts r x s ss e w a =
-    behind (record { span = sp; kind = FlowEntry }) (AtFirst (FollowsStates s ss)) (InMapping (FollowsStates s ss)) e ts _ tt
+    behind (record { span = sp; kind = FlowEntry }) (AtFirst (FollowsStates s ss)) (InMapping (FollowsStates s ss)) e ts
+    _ tt
     (behind_comma (FollowsStates s ss)) (behind_comma_turned sp ts r x s ss e w a)
 other_pair_at_turned _ sp ts r x s ss e w a = tt
 
@@ -271,7 +277,8 @@ mapping_value_turned [] r x s ss e w a = tt
 mapping_value_turned (t ∷ ts) r x s ss e w a = mapping_value_at_turned t.kind t.span ts r x s ss e w.2 a
 
 pub empty_value_turned : (ts : List Piece) (r : Option Refusal) (x s : State) (ss : List State) (e : Memory)
-    → IsAlive s ss → Turned (Then IsSkipped (InMapping (FollowsStates s ss))) e ts (empty_value (machine ts r x (s ∷ ss) e))
+    → IsAlive s ss → Turned (Then IsSkipped (InMapping (FollowsStates s ss))) e ts
+    (empty_value (machine ts r x (s ∷ ss) e))
 unfolding empty_value
 empty_value_turned [] r x s ss e a = tt
 empty_value_turned (t ∷ ts) r x s ss e a =

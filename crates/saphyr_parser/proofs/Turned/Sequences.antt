@@ -151,7 +151,8 @@ entry_turned k sp ts r x s ss e w a =
     (entered Flow (record { span = sp; kind = k }) ts r x state.FlowSequenceEntry (s ∷ ss) e w tt (tt, a))
 
 pub first_entry_turned : (ts : List Piece) (r : Option Refusal) (x s : State) (ss : List State) (e : Memory)
-    → AreWellFormed ts → IsAlive s ss → Turned (AtFirst (FollowsStates s ss)) e ts (first_entry (machine ts r x (s ∷ ss) e))
+    → AreWellFormed ts → IsAlive s ss → Turned (AtFirst (FollowsStates s ss)) e ts
+    (first_entry (machine ts r x (s ∷ ss) e))
 unfolding first_entry
 first_entry_turned [] r x s ss e w a = tt
 first_entry_turned (t ∷ ts) r x s ss e w a = entry_turned t.kind t.span ts r x s ss e w a
@@ -166,7 +167,8 @@ other_entry_at_turned FlowSequenceEnd sp ts r x s ss e w a =
     (NoNode, inl refl, refl)
     f)
 other_entry_at_turned FlowEntry sp ts r x s ss e w a =
-    behind (record { span = sp; kind = FlowEntry }) (AtFirst (FollowsStates s ss)) (InSequence (FollowsStates s ss)) e ts _ tt
+    behind (record { span = sp; kind = FlowEntry }) (AtFirst (FollowsStates s ss)) (InSequence (FollowsStates s ss)) e
+    ts _ tt
     (behind_comma (FollowsStates s ss)) (first_entry_turned ts r x s ss e w a)
 other_entry_at_turned _ sp ts r x s ss e w a = tt
 
@@ -243,7 +245,8 @@ pair_value_turned [] r x s ss e w a = tt
 pair_value_turned (t ∷ ts) r x s ss e w a = pair_value_at_turned t.kind t.span ts r x s ss e w.2 a
 
 pub pair_end_turned : (place : Marker) (ts : List Piece) (r : Option Refusal) (x s : State) (ss : List State)
-    (e : Memory) → IsAlive s ss → Turned (AtPairEnd (FollowsStates s ss)) e ts (pair_end place (machine ts r x (s ∷ ss) e))
+    (e : Memory) → IsAlive s ss → Turned (AtPairEnd (FollowsStates s ss)) e ts
+    (pair_end place (machine ts r x (s ∷ ss) e))
 unfolding pair_end
 pair_end_turned place ts r x s ss e a =
     record {

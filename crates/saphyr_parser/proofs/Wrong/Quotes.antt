@@ -81,8 +81,8 @@ either_quote (f ∷ front) inside e =
     let last = one_place 34 (codes "a\n--- b") [] front (34 ∷ inside) more refl (λ z. omega arith) refl refl in
     inr (tails 34 34 inside [] last)
 
-pub marker_in_quotes : (keep : Bool) → AreTaken keep (codes "\"a\n--- b\"") wrong.marker_in_quotes → ⊥
-marker_in_quotes keep t = by (owned keep (codes "\"a\n--- b\"") wrong.marker_in_quotes t).1.1.0
+pub marker_in_quotes_is_not_taken : (keep : Bool) → AreTaken keep (codes "\"a\n--- b\"") wrong.marker_in_quotes → ⊥
+marker_in_quotes_is_not_taken keep t = by (owned keep (codes "\"a\n--- b\"") wrong.marker_in_quotes t).1.1.0
   where
     by : (codes "a --- b" ≡ [])
         ⊎ OwnScalar (codes "\"a\n--- b\"") (codes "a --- b") DoubleQuoted

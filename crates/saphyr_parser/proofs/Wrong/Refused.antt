@@ -29,11 +29,12 @@ white_refused : (text value : List ℕ) (span : Span) → (32 ∷ value ≡ []) 
 white_refused text value span (inl e) = cc
 white_refused text value span (inr h) = let k = plain_value_ink (32 ∷ value) h.own h.here h.behind h.is in cc
 
-pub blank_first : (keep : Bool) → AreTaken keep (codes "- a") wrong.blank_first → ⊥
-blank_first keep t = white_refused (codes "- a") (codes "a") _ (owned keep (codes "- a") wrong.blank_first t).1.1.1.0
+pub blank_first_is_not_taken : (keep : Bool) → AreTaken keep (codes "- a") wrong.blank_first → ⊥
+blank_first_is_not_taken keep t = white_refused (codes "- a") (codes "a") _
+    (owned keep (codes "- a") wrong.blank_first t).1.1.1.0
 
-pub break_first : (keep : Bool) → AreTaken keep (codes "a:\n b") wrong.break_first → ⊥
-break_first keep t = white_refused (codes "a:\n b") (codes "b") _
+pub break_first_is_not_taken : (keep : Bool) → AreTaken keep (codes "a:\n b") wrong.break_first → ⊥
+break_first_is_not_taken keep t = white_refused (codes "a:\n b") (codes "b") _
     (owned keep (codes "a:\n b") wrong.break_first t).1.1.1.1.0
 
 -- ## Block scalars over a marker, or over a NUL
@@ -56,8 +57,8 @@ marker_refused h = let k : true ≡ false = h.2.2.1 refl in cc
 nul_refused : AreInside true (codes " a\0b\n") [] → ⊥
 nul_refused h = let k : false ≡ true = h.2.2.0 in cc
 
-pub marker_inside : (keep : Bool) → AreTaken keep (codes "--- |\na\n---\nb\n") wrong.marker_inside → ⊥
-marker_inside keep t = by (owned keep (codes "--- |\na\n---\nb\n") wrong.marker_inside t).1.1.0
+pub marker_inside_is_not_taken : (keep : Bool) → AreTaken keep (codes "--- |\na\n---\nb\n") wrong.marker_inside → ⊥
+marker_inside_is_not_taken keep t = by (owned keep (codes "--- |\na\n---\nb\n") wrong.marker_inside t).1.1.0
   where
     by : (codes "a\n---\nb\n" ≡ [])
         ⊎ OwnScalar (codes "--- |\na\n---\nb\n") (codes "a\n---\nb\n") Literal
@@ -67,8 +68,8 @@ marker_inside keep t = by (owned keep (codes "--- |\na\n---\nb\n") wrong.marker_
         (literal_lines (codes "--- ") (codes "a\n---\nb\n") (codes "a\n---\nb\n")
         (record { start = marker_at 6 2 0; end = marker_at 14 5 0 }) o refl refl refl)
 
-pub nul_inside : (keep : Bool) → AreTaken keep (codes "|\n a\0b\n") wrong.nul_inside → ⊥
-nul_inside keep t = by (owned keep (codes "|\n a\0b\n") wrong.nul_inside t).1.1.0
+pub nul_inside_is_not_taken : (keep : Bool) → AreTaken keep (codes "|\n a\0b\n") wrong.nul_inside → ⊥
+nul_inside_is_not_taken keep t = by (owned keep (codes "|\n a\0b\n") wrong.nul_inside t).1.1.0
   where
     by : (codes "a\0b\n" ≡ [])
         ⊎ OwnScalar (codes "|\n a\0b\n") (codes "a\0b\n") Literal
@@ -81,11 +82,12 @@ nul_inside keep t = by (owned keep (codes "|\n a\0b\n") wrong.nul_inside t).1.1.
 
 -- ## Faults behind the end, and no end
 
-pub fault_behind_the_end : (keep : Bool) → AreTaken keep (codes "- a") wrong.fault_behind_the_end → ⊥
-fault_behind_the_end keep t = (ends_with_stream_end keep (codes "- a") wrong.fault_behind_the_end t).1.1.1.1.1.1.0
+pub fault_behind_the_end_is_not_taken : (keep : Bool) → AreTaken keep (codes "- a") wrong.fault_behind_the_end → ⊥
+fault_behind_the_end_is_not_taken keep t = (ends_with_stream_end keep (codes "- a") wrong.fault_behind_the_end
+    t).1.1.1.1.1.1.0
 
-pub no_events : (keep : Bool) → AreTaken keep (codes "a") wrong.no_events → ⊥
-no_events keep t = by (ends_with_stream_end keep (codes "a") wrong.no_events t)
+pub no_events_are_not_taken : (keep : Bool) → AreTaken keep (codes "a") wrong.no_events → ⊥
+no_events_are_not_taken keep t = by (ends_with_stream_end keep (codes "a") wrong.no_events t)
   where
     by : EndsSo wrong.no_events.fault wrong.no_events.events → ⊥
     by ([], span, e, n) = cc
@@ -108,6 +110,6 @@ no_place (s, reached, inl e, l) =
     omega (arith, z)
 no_place (s, reached, inr e, l) = let z : 9 ≡ 0 = ap (λ (m : Marker). m.col) e.1 in omega (arith, z)
 
-pub wrong_line : HasSpansIn [] wrong.wrong_line → ⊥
-wrong_line h = no_place (h 0 (events.StreamStart, record { start = marker_at 0 1 0; end = marker_at 0 1 0 })
+pub wrong_line_is_no_place : HasSpansIn [] wrong.wrong_line → ⊥
+wrong_line_is_no_place h = no_place (h 0 (events.StreamStart, record { start = marker_at 0 1 0; end = marker_at 0 1 0 })
     (omega arith)).1

@@ -6,4 +6,4 @@ pub returns-clause-free_start : goal.returns-clause-free_start
 returns-clause-free_start c = free_start_refused
 
 pub returns-clause-wrong_line : goal.returns-clause-wrong_line
-returns-clause-wrong_line c = refused.wrong_line
+returns-clause-wrong_line c = refused.wrong_line_is_no_place
