@@ -7,12 +7,12 @@ use Rattle.case_files.specs.declared.escape.Escape.{Escape}
 use Rattle.case_files.specs.declared.escape.Escape.TheVariants as at
 use Rattle.std.specs.List.{flat_map}
 use Rattle.std.proofs.lemmas.Bool.{cases_eq, ne_eqb}
-use Rattle.case_files.specs.Escapes.{text_of, read_behind, EscapeStep, spelled_character}
+use Rattle.case_files.specs.Escapes.{text_of, text_behind_escape, EscapeStep, spelled_character}
 
 -- The characters `cs` gave a text and left an escape of which so much has been read.
 abbrev pub HasReadEscape : List ℕ → List ℕ → Escape → Type 0
 HasReadEscape cs text escape =
-    (rest : List ℕ) → encode_utf8_all (text_of (cs ++ rest)) ≡ text ++ encode_utf8_all (read_behind escape rest)
+    (rest : List ℕ) → encode_utf8_all (text_of (cs ++ rest)) ≡ text ++ encode_utf8_all (text_behind_escape escape rest)
 
 pub reads_on : (cs text : List ℕ) (escape next : Escape) (c : ℕ) (given : Option ℕ) → HasReadEscape cs text escape
     → EscapeStep escape c given next
@@ -20,11 +20,11 @@ pub reads_on : (cs text : List ℕ) (escape next : Escape) (c : ℕ) (given : Op
 reads_on cs text escape next c given before step rest =
     ap (λ l. encode_utf8_all (text_of l)) (append_assoc cs (c ∷ []) rest) ∙ before (c ∷ rest)
     ∙ ap (λ l. text ++ encode_utf8_all l) (step rest)
-    ∙ ap (λ l. text ++ l) (encodes-append (option_to_list given) (read_behind next rest))
-    ∙ sym (append_assoc text (encode_utf8_all (option_to_list given)) (encode_utf8_all (read_behind next rest)))
+    ∙ ap (λ l. text ++ l) (encodes-append (option_to_list given) (text_behind_escape next rest))
+    ∙ sym (append_assoc text (encode_utf8_all (option_to_list given)) (encode_utf8_all (text_behind_escape next rest)))
 
 -- An escape that the line cuts stands for nothing.
-pub nothing_left : (escape : Escape) → read_behind escape [] ≡ []
+pub nothing_left : (escape : Escape) → text_behind_escape escape [] ≡ []
 nothing_left at.None = refl
 nothing_left at.Begun = refl
 nothing_left (at.Number n) = refl

@@ -5,7 +5,7 @@ use Rattle.std.specs.Prelude.{is_some, slice_set, slice_index_or}
 use Rattle.std.specs.Prelude.{unwrap_or, option_map, not, filter}
 use Rattle.std.proofs.lemmas.List.{map-append, append-nil}
 use Rattle.std.proofs.lemmas.List.Elements.{filter-append}
-use Rattle.case_files.specs.Escapes.{unescaped}
+use Rattle.case_files.specs.Escapes.{unescaped_bytes}
 use Rattle.case_files.specs.Files.{TakesLine, title_of, Section, up_to_title, with_section, sections, CaseFields, fields_of, case_of, text_line, last_text, other_lines}
 
 -- the last section takes a line
@@ -82,24 +82,25 @@ sections_titled (first ∷ lines) line title titled =
 
 -- a text comes last
 last_text_more : (before : List ℕ) (lines : List (List ℕ)) (line : List ℕ)
-    → last_text before (lines ++ line ∷ []) ≡ unwrap_or (option_map unescaped (text_line line)) (last_text before lines)
+    → last_text before (lines ++ line ∷ []) ≡ unwrap_or (option_map unescaped_bytes (text_line line))
+    (last_text before lines)
 last_text_more before [] line = refl
 last_text_more before (first ∷ lines) line =
-    last_text_more (unwrap_or (option_map unescaped (text_line first)) before) lines line
+    last_text_more (unwrap_or (option_map unescaped_bytes (text_line first)) before) lines line
 
 -- the lines of one line
 abbrev one_line : Bool → List ℕ → List (List ℕ)
 one_line true line = []
-one_line false line = unescaped line ∷ []
+one_line false line = unescaped_bytes line ∷ []
 
 other_lines_more : (lines : List (List ℕ)) (line : List ℕ)
     → other_lines (lines ++ line ∷ []) ≡ other_lines lines ++ one_line (is_some (text_line line)) line
 other_lines_more lines line =
     let is_other : List ℕ → Bool = λ l. not (is_some (text_line l)) in
-    ap (λ l. map unescaped l) (filter-append is_other lines (line ∷ []))
-    ∙ map-append unescaped (filter is_other lines) (filter is_other (line ∷ []))
+    ap (λ l. map unescaped_bytes l) (filter-append is_other lines (line ∷ []))
+    ∙ map-append unescaped_bytes (filter is_other lines) (filter is_other (line ∷ []))
     ∙ elim (is_some (text_line line)) as (λ b. other_lines lines
-    ++ map unescaped (if not b then line ∷ [] else []) ≡ other_lines lines ++ one_line b line) [
+    ++ map unescaped_bytes (if not b then line ∷ [] else []) ≡ other_lines lines ++ one_line b line) [
       | true ↦ refl
       | false ↦ refl
     ]
@@ -107,10 +108,10 @@ other_lines_more lines line =
 -- A line `< TEXT` gives a case its text.
 pub takes_text : (old : CaseFields) (title : List ℕ) (body : List (List ℕ)) (line text : List ℕ)
     → old ≡ case_of (title, body) → text_line line ≡ Some text
-    → record old { text = unescaped text } ≡ case_of (title, body ++ line ∷ [])
+    → record old { text = unescaped_bytes text } ≡ case_of (title, body ++ line ∷ [])
 takes_text old title body line text same found =
-    let texts : unescaped text ≡ last_text [] (body ++ line ∷ []) =
-    sym (last_text_more [] body line ∙ ap (λ o. unwrap_or (option_map unescaped o) (last_text [] body)) found) in
+    let texts : unescaped_bytes text ≡ last_text [] (body ++ line ∷ []) =
+    sym (last_text_more [] body line ∙ ap (λ o. unwrap_or (option_map unescaped_bytes o) (last_text [] body)) found) in
     let lines : old.lines ≡ other_lines (body ++ line ∷ []) =
     ap (λ (c : CaseFields). c.lines) same ∙ sym (append-nil (other_lines body))
     ∙ sym (other_lines_more body line ∙ ap (λ o. other_lines body ++ one_line (is_some o) line) found) in
@@ -120,13 +121,14 @@ takes_text old title body line text same found =
 pub takes_line : (old : CaseFields) (title : List ℕ) (body : List (List ℕ)) (line : List ℕ)
     → old ≡ case_of (title, body)
     → text_line line ≡ None
-    → record old { lines = old.lines ++ unescaped line ∷ [] } ≡ case_of (title, body ++ line ∷ [])
+    → record old { lines = old.lines ++ unescaped_bytes line ∷ [] } ≡ case_of (title, body ++ line ∷ [])
 takes_line old title body line same found =
     let texts : old.text ≡ last_text [] (body ++ line ∷ []) =
     ap (λ (c : CaseFields). c.text) same
-    ∙ sym (last_text_more [] body line ∙ ap (λ o. unwrap_or (option_map unescaped o) (last_text [] body)) found) in
-    let lines : old.lines ++ unescaped line ∷ [] ≡ other_lines (body ++ line ∷ []) =
-    ap (λ (c : CaseFields). c.lines ++ unescaped line ∷ []) same
+    ∙ sym (last_text_more [] body line ∙ ap (λ o. unwrap_or (option_map unescaped_bytes o) (last_text [] body)) found)
+    in
+    let lines : old.lines ++ unescaped_bytes line ∷ [] ≡ other_lines (body ++ line ∷ []) =
+    ap (λ (c : CaseFields). c.lines ++ unescaped_bytes line ∷ []) same
     ∙ sym (other_lines_more body line ∙ ap (λ o. other_lines body ++ one_line (is_some o) line) found) in
     λ i. record { name = (same i).name; keeps_tags = (same i).keeps_tags; text = texts i; lines = lines i }
 

@@ -7,8 +7,8 @@ use Rattle.case_files.specs.declared.escape.Escape.{Escape}
 use Rattle.case_files.specs.declared.escape.Escape.TheVariants as escape
 
 -- `\n`, `\r` and `\t` stand for LF, CR and a tab, and `\` before another character for that one.
-abbrev pub named : ℕ → ℕ
-named c = if c == 110 then 10 else if c == 114 then 13 else if c == 116 then 9 else c
+abbrev pub named_character : ℕ → ℕ
+named_character c = if c == 110 then 10 else if c == 114 then 13 else if c == 116 then 9 else c
 
 -- the character with a number, and U+FFFD where there is none
 abbrev pub char_of : ℕ → ℕ
@@ -26,26 +26,26 @@ abbrev mutual
 
   pub behind_backslash : List ℕ → List ℕ
   behind_backslash [] = []
-  behind_backslash (c ∷ cs) = if c == 117 then behind_digits 0 cs else named c ∷ text_of cs
+  behind_backslash (c ∷ cs) = if c == 117 then behind_digits 0 cs else named_character c ∷ text_of cs
 
   pub behind_digits : ℕ → List ℕ → List ℕ
   behind_digits n [] = []
   behind_digits n (c ∷ cs) = if c == 125 then char_of n ∷ text_of cs else behind_digits (with_digit n c) cs
 
 -- the same, by how much of an escape has been read
-abbrev pub read_behind : Escape → List ℕ → List ℕ
-read_behind escape.None cs = text_of cs
-read_behind escape.Begun cs = behind_backslash cs
-read_behind (escape.Number n) cs = behind_digits n cs
+abbrev pub text_behind_escape : Escape → List ℕ → List ℕ
+text_behind_escape escape.None cs = text_of cs
+text_behind_escape escape.Begun cs = behind_backslash cs
+text_behind_escape (escape.Number n) cs = behind_digits n cs
 
 -- A character is read: another one may then stand there, and so much of an escape has been read.
 abbrev pub EscapeStep : Escape → ℕ → Option ℕ → Escape → Type 0
 EscapeStep escape c given next =
-    (cs : List ℕ) → read_behind escape (c ∷ cs) ≡ option_to_list given ++ read_behind next cs
+    (cs : List ℕ) → text_behind_escape escape (c ∷ cs) ≡ option_to_list given ++ text_behind_escape next cs
 
 -- what a line stands for, in UTF-8
-abbrev pub unescaped : List ℕ → List ℕ
-unescaped line = encode_utf8_all (text_of (chars line))
+abbrev pub unescaped_bytes : List ℕ → List ℕ
+unescaped_bytes line = encode_utf8_all (text_of (chars line))
 
 -- How a text is written: a backslash, LF, CR and a tab by their escapes, and each other character as it is.
 abbrev pub spelled_character : ℕ → List ℕ

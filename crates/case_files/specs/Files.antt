@@ -5,7 +5,7 @@ use Rattle.std.specs.declared.alloc.Global.{Global}
 use Rattle.case_files.specs.declared.case.Case.{Case}
 use Rattle.std.specs.List.{flat_map}
 use Rattle.std.specs.Str.{bytes_eq}
-use Rattle.case_files.specs.Escapes.{unescaped}
+use Rattle.case_files.specs.Escapes.{unescaped_bytes}
 
 -- what stands behind the front of a line, where it begins so
 abbrev pub text_behind : List ℕ → List ℕ → Option (List ℕ)
@@ -45,11 +45,11 @@ text_line line = text_behind (codes "< ") line
 -- the text of the last line `< TEXT`, or one that came before
 abbrev pub last_text : List ℕ → List (List ℕ) → List ℕ
 last_text before [] = before
-last_text before (line ∷ lines) = last_text (unwrap_or (option_map unescaped (text_line line)) before) lines
+last_text before (line ∷ lines) = last_text (unwrap_or (option_map unescaped_bytes (text_line line)) before) lines
 
 -- the other lines
 abbrev pub other_lines : List (List ℕ) → List (List ℕ)
-other_lines lines = map unescaped (filter (λ line. not (is_some (text_line line))) lines)
+other_lines lines = map unescaped_bytes (filter (λ line. not (is_some (text_line line))) lines)
 
 -- A case: its name, whether its title has ` keep_tags` at the end, its text and its other lines.
 pub record CaseFields : Type 0 where
@@ -97,17 +97,18 @@ text_before_place (c ∷ line) =
     if is_some (text_behind place_mark (c ∷ line)) && not (has_place line) then [] else c ∷ text_before_place line
 
 -- an event without its place and without what begins a document
-abbrev pub shown : List ℕ → List ℕ
-shown event = if bytes_eq (text_before_place event) (codes "+DOC ---") then codes "+DOC" else text_before_place event
+abbrev pub shown_text : List ℕ → List ℕ
+shown_text event = if bytes_eq (text_before_place event) (codes "+DOC ---") then codes "+DOC" else text_before_place
+    event
 
 -- the line that `dump` writes for an event
 abbrev pub dumped_event : Option (List ℕ) → List ℕ
 dumped_event None = []
-dumped_event (Some event) = shown event ++ codes "\n"
+dumped_event (Some event) = shown_text event ++ codes "\n"
 
 -- that for a line of a case, where it is one of an event
 abbrev pub dumped_line : List ℕ → List ℕ
 dumped_line line = dumped_event (text_behind (codes "> ") line)
 
-abbrev pub dumped : List (String Global) → List ℕ
-dumped lines = flat_map dumped_line (map string_bytes lines)
+abbrev pub dumped_text : List (String Global) → List ℕ
+dumped_text lines = flat_map dumped_line (map string_bytes lines)

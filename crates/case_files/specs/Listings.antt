@@ -56,12 +56,12 @@ ListAll lines all = AreLinesOf (map string_bytes lines) all
 abbrev pub is_fault_line : List ℕ → Bool
 is_fault_line line = starts_with nat_eq line (codes "! ")
 
-abbrev pub if_fault : List ℕ → Option (List ℕ)
-if_fault line = if is_fault_line line then Some line else None
+abbrev pub fault_line_in : List ℕ → Option (List ℕ)
+fault_line_in line = if is_fault_line line then Some line else None
 
 -- the last of some lines, where it is that of a fault
 abbrev pub fault_line_of : List (String Global) → Option (List ℕ)
-fault_line_of lines = option_and_then (λ line. if_fault (string_bytes line)) (slice_get lines (length lines - 1))
+fault_line_of lines = option_and_then (λ line. fault_line_in (string_bytes line)) (slice_get lines (length lines - 1))
 
 -- all that the text of a case gives
 abbrev pub case_answer : Case → Answer

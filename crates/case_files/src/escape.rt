@@ -7,7 +7,7 @@ use std::alloc::{AllocError, Global};
 
 /// A line with the characters for which its escapes stand.
 pub fn unescaped(alloc: Global, line: &str) -> Result<String, AllocError>
-    ensures is { IfOk result (λ text. string_bytes text ≡ escapes.unescaped line.now) }
+    ensures is { IfOk result (λ text. string_bytes text ≡ escapes.unescaped_bytes line.now) }
     ensures written { IfOk result (λ text. ReadsBack line.now (string_bytes text)) }
 {
     let mut text = String::new(alloc);
@@ -48,7 +48,7 @@ impl Escape {
 
 // The character that a backslash and this one stand for.
 fn named(c: char) -> char
-    ensures { result ≡ escapes.named c }
+    ensures { result ≡ escapes.named_character c }
 {
     match c {
         'n' => '\n',

@@ -1,7 +1,7 @@
 //! What `dump` is to write, and a writer that is to take it.
 ghost use Rattle.std.specs.Prelude.{◌≡◌, ◌++◌, ⊤, [], IfOk, MatchOption, string_bytes};
 ghost use Rattle.case_files.specs.Files as files;
-ghost use Rattle.case_files.specs.Files.{dumped};
+ghost use Rattle.case_files.specs.Files.{dumped_text};
 
 use std::alloc::{AllocError, Global};
 use std::io;
@@ -11,7 +11,7 @@ use std::marker::Model;
 /// The lines that `dump` writes for the lines of a case: the events, without the places and without what
 /// begins a document.
 pub fn printed(alloc: Global, lines: &[String]) -> Result<String, AllocError>
-    ensures { IfOk result (λ text. string_bytes text ≡ dumped lines.now) }
+    ensures { IfOk result (λ text. string_bytes text ≡ dumped_text lines.now) }
 {
     let mut text = String::new(alloc);
     for line in lines {
@@ -25,7 +25,7 @@ pub fn printed(alloc: Global, lines: &[String]) -> Result<String, AllocError>
 
 // An event without its place.
 fn shown(event: &str) -> &str
-    ensures { result.now ≡ files.shown event.now }
+    ensures { result.now ≡ files.shown_text event.now }
 {
     let (event, _) = event.rsplit_once(" @ ").unwrap_or((event, ""));
     if event == "+DOC ---" { "+DOC" } else { event }

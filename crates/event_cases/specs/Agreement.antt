@@ -3,7 +3,7 @@ use Rattle.std.specs.Prelude.{◌≡◌, ℕ, ◌<◌, Bool, true, List, Option,
 use Rattle.std.specs.List.{starts_with}
 use Rattle.std.specs.declared.alloc.Global.{Global}
 use Rattle.case_files.specs.declared.case.Case.{Case}
-use Rattle.case_files.specs.Files.{dumped}
+use Rattle.case_files.specs.Files.{dumped_text}
 use Rattle.case_files.specs.Listings.{Agrees, fault_line_of, case_answer}
 use Rattle.event_cases.specs.declared.findings.Subject.{Subject}
 use Rattle.event_cases.specs.declared.findings.Subject.TheVariants as subject
@@ -13,7 +13,7 @@ use Rattle.event_cases.specs.Trees.{HasTrees}
 
 -- The events among the lines are what `dump` writes, and the last line is that of a fault where one ends them.
 abbrev pub DumpAgrees : Case → Type 0
-DumpAgrees c = IsDump (fault_line_of c.lines.items) (dumped c.lines.items) (case_answer c)
+DumpAgrees c = IsDump (fault_line_of c.lines.items) (dumped_text c.lines.items) (case_answer c)
 
 -- whether a line is that of an event
 abbrev pub is_event_line : List ℕ → Bool
