@@ -7,7 +7,6 @@ mod context;
 mod cursor;
 mod document;
 mod event;
-mod events;
 mod fault;
 mod flow;
 mod handles;
@@ -20,6 +19,7 @@ mod progress;
 mod reader;
 mod receiver;
 mod state;
+mod step;
 mod tag;
 mod tags;
 

@@ -105,11 +105,7 @@ pub fn bare(kind: i32, start: Marker, end: Marker) -> CEvent
 pub fn blank() -> CEvent
     ensures { spec.Holds spec.no_fields spec.nowhere spec.nowhere result }
 {
-    let start = Marker {
-        index: 0,
-        line: 0,
-        col: 0,
-    };
+    let start = Marker::new(0, 0, 0);
     bare(0, start, start)
 }
 

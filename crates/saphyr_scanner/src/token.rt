@@ -63,11 +63,7 @@ impl Token {
     #[must_use]
     #[inline(always)]
     pub fn at_start() -> Token {
-        let start = Marker {
-            index: 0,
-            line: 0,
-            col: 0,
-        };
+        let start = Marker::new(0, 0, 0);
         Token {
             span: Span::empty(start),
             kind: TokenType::StreamStart,

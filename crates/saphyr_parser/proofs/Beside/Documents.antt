@@ -14,7 +14,8 @@ use Rattle.saphyr_parser.specs.Steps.Machine.{◌>>=◌, Machine, Told, with_pie
 use Rattle.saphyr_parser.specs.Steps.Documents as document
 use Rattle.saphyr_parser.specs.Steps.Documents.{unpassed_token_from, unpassed_token, is_mark, is_end_or_mark, none_declared, directives, without_anchors, without_prefixes}
 use Rattle.saphyr_parser.specs.Steps.Nodes.{node}
-use Rattle.saphyr_parser.specs.Steps.Expected.{block_node, event_step_at}
+use Rattle.saphyr_parser.specs.Steps.Block.{block_node}
+use Rattle.saphyr_parser.specs.Steps.Expected.{event_step_at}
 use Rattle.saphyr_parser.proofs.Beside.Machines.{Beside, Expected, With, Near, GivesAlike, Awaits, Left, Alike, TellsAlike, Both, AtBoth, ahead, changed, taken, refuses, enters, tells, tells_end, enters_told}
 use Rattle.saphyr_parser.proofs.Beside.Nodes.{node_beside}
 use Rattle.saphyr_parser.proofs.Beside.Collections as steps

@@ -18,7 +18,8 @@ use Rattle.saphyr_parser.specs.Steps.Contexts.{allows_block, allows_indentless}
 use Rattle.saphyr_parser.specs.Steps.Block as block
 use Rattle.saphyr_parser.specs.Steps.Flow as flow
 use Rattle.saphyr_parser.specs.Steps.Documents as document
-use Rattle.saphyr_parser.specs.Steps.Expected.{block_node, event_step, event_step_at}
+use Rattle.saphyr_parser.specs.Steps.Block.{block_node}
+use Rattle.saphyr_parser.specs.Steps.Expected.{event_step, event_step_at}
 use Rattle.saphyr_parser.specs.Calls.{LeavesEnd}
 
 -- where a step tells the end of the stream, it leaves the machine at its end

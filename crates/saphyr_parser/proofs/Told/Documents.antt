@@ -16,7 +16,8 @@ use Rattle.saphyr_parser.specs.Answer.{remaining_answer}
 use Rattle.saphyr_parser.specs.Exactly.{GivesExactly}
 use Rattle.saphyr_parser.specs.Steps.Machine.{◌>>=◌, Machine, Told, told_event, empty_scalar}
 use Rattle.saphyr_parser.specs.Steps.Documents.{is_end_or_mark, directives, none_declared, explicit_document_at, explicit_document, bare_document, implicit_start_at, implicit_start, explicit_start_at, explicit_start, document_content}
-use Rattle.saphyr_parser.specs.Steps.Expected.{event_step, block_node}
+use Rattle.saphyr_parser.specs.Steps.Block.{block_node}
+use Rattle.saphyr_parser.specs.Steps.Expected.{event_step}
 use Rattle.saphyr_parser.proofs.Told.Telling.{SpansByKinds, Memory, at, ends}
 use Rattle.saphyr_parser.proofs.Remembering.{opening, after_node, SaysParts, TellsParts, plainly}
 use Rattle.saphyr_parser.proofs.Told.Nodes.{next_node}

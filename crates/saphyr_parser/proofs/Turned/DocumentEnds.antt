@@ -17,7 +17,7 @@ use Rattle.saphyr_parser.specs.declared.parser.state.State.TheVariants as state
 use Rattle.saphyr_parser.specs.Preorder.{Part, CloseDocument}
 use Rattle.saphyr_parser.specs.Exactly.{kinds}
 use Rattle.saphyr_parser.specs.Steps.Machine.{◌>>=◌, Machine, with_pieces}
-use Rattle.saphyr_parser.specs.Steps.Expected.{block_node}
+use Rattle.saphyr_parser.specs.Steps.Block.{block_node}
 use Rattle.saphyr_parser.specs.Steps.Documents.{is_mark, unpassed_token_from, unpassed_token, no_content, document_content_at, document_content, token_behind_marks_at, token_behind_marks, token_behind_document_at, token_behind_document, without_prefixes, document_end_at, document_end}
 use Rattle.saphyr_parser.specs.WellFormed.{AreWellFormed}
 use Rattle.saphyr_parser.proofs.Told.Telling.{Memory}

@@ -11,7 +11,8 @@ use Rattle.saphyr_parser.specs.declared.parser.state.State.{State}
 use Rattle.saphyr_parser.specs.declared.parser.state.State.TheVariants as state
 use Rattle.saphyr_parser.specs.Events.{Happening}
 use Rattle.saphyr_parser.specs.Steps.Machine.{Machine, Told}
-use Rattle.saphyr_parser.specs.Steps.Expected.{block_node, event_step, event_step_at}
+use Rattle.saphyr_parser.specs.Steps.Block.{block_node}
+use Rattle.saphyr_parser.specs.Steps.Expected.{event_step, event_step_at}
 use Rattle.saphyr_parser.specs.Answer.{Answer, Ending, answer_of_step, ending_of, answer_unless_ended, answer_of_steps, weight_before}
 use Rattle.saphyr_parser.proofs.Walk.Steps.{Walk, HasPlace, Of, HoldsBetween, StepGives, taken}
 use Rattle.saphyr_parser.proofs.Walk.Nodes.{nodes}

@@ -9,7 +9,13 @@ use Rattle.saphyr_parser.specs.declared.parser.context.NodeContext.TheVariants.{
 use Rattle.saphyr_parser.specs.declared.parser.state.State.TheVariants as state
 use Rattle.saphyr_parser.specs.Events.{SequenceEnd, MappingEnd}
 use Rattle.saphyr_parser.specs.Steps.Machine.{◌>>=◌, Machine, Told, told_event, refusal_at, taken_token, put_back, pop, left_out_event}
-use Rattle.saphyr_parser.specs.Steps.Nodes.{node_inside}
+use Rattle.saphyr_parser.specs.Steps.Nodes.{node, node_inside}
+
+-- a node that begins with the next token
+unfoldable pub block_node : Machine → Result Told Refusal
+block_node m = do
+  t ← taken_token m
+  node Block t.0 t.1
 
 -- ## Sequences
 

@@ -1,19 +1,12 @@
 -- The step of a machine, by what is expected.
 use Rattle.std.specs.Prelude.{Result, Err}
 use Rattle.saphyr_scalar.specs.declared.scalar.fault.Refusal.{Refusal}
-use Rattle.saphyr_parser.specs.declared.parser.context.NodeContext.TheVariants.{Block}
 use Rattle.saphyr_parser.specs.declared.parser.state.State.{State}
 use Rattle.saphyr_parser.specs.declared.parser.state.State.TheVariants as state
-use Rattle.saphyr_parser.specs.Steps.Machine.{◌>>=◌, Machine, Told, ending_refusal, taken_token}
-use Rattle.saphyr_parser.specs.Steps.Nodes.{node}
+use Rattle.saphyr_parser.specs.Steps.Machine.{Machine, Told, ending_refusal}
 use Rattle.saphyr_parser.specs.Steps.Documents as document
 use Rattle.saphyr_parser.specs.Steps.Block as block
 use Rattle.saphyr_parser.specs.Steps.Flow as flow
-
-unfoldable pub block_node : Machine → Result Told Refusal
-block_node m = do
-  t ← taken_token m
-  node Block t.0 t.1
 
 abbrev pub event_step_at : State → Machine → Result Told Refusal
 event_step_at state.StreamStart m = document.stream_start m
@@ -21,7 +14,7 @@ event_step_at state.ImplicitDocumentStart m = document.implicit_start m
 event_step_at state.DocumentStart m = document.explicit_start m
 event_step_at state.DocumentContent m = document.document_content m
 event_step_at state.DocumentEnd m = document.document_end m
-event_step_at state.BlockNode m = block_node m
+event_step_at state.BlockNode m = block.block_node m
 event_step_at state.BlockSequenceEntry m = block.sequence_entry m
 event_step_at state.IndentlessSequenceEntry m = block.indentless_entry m
 event_step_at state.BlockMappingKey m = block.mapping_key m

@@ -13,6 +13,20 @@ use saphyr_scanner::TokenType;
 impl<T: Input> Machine<T> {
     ghost use Rattle.saphyr_parser.specs.Views.Machines.{TellsBy};
 
+    // A node that begins with the next token.
+    #[inline(always)]
+    #[tactic(auto, unfolding(crate::specs::Steps::Block::block_node))]
+    pub(super) fn block_node<'input>(
+        &mut self,
+        next: &mut (Event<'input>, Span),
+    ) -> Result<(), Stop>
+        ensures { TellsBy spec.block_node self.old result next.new self.new }
+    {
+        let token = self.take()?;
+        self.node(NodeContext::Block, token, next)?;
+        Ok(())
+    }
+
     // An entry of a block sequence, or its end.
     #[tactic(auto, unfolding(crate::specs::Steps::Block::sequence_entry))]
     pub(super) fn block_sequence_entry<'input>(

@@ -1,5 +1,5 @@
 //! The machine that turns tokens into events: what it holds, and the moves that its states share. The states are
-//! read in `document`, `block` and `flow`, and the nodes there in `node`.
+//! read in `document`, `block` and `flow`, the nodes there in `node`, and `step` chooses among them.
 
 ghost use Rattle.std.specs.Prelude.{◌≡◌, None};
 ghost use Rattle.saphyr_parser.specs.Steps.Machine as spec;
@@ -52,6 +52,22 @@ impl<T: Input> Machine<T> {
     ghost use Rattle.saphyr_scanner.specs.Views.Tokens.{piece};
     ghost use Rattle.saphyr_parser.specs.Views.Machines.{machine_of, happening, TellsBy, TakesBy};
 
+    // A machine that has read nothing.
+    pub(super) fn new(alloc: Global, scanner: Scanner<T>) -> Self
+        ensures { machine_of result ≡ spec.fresh_machine scanner }
+    {
+        Machine {
+            scanner,
+            token: None,
+            state: State::StreamStart,
+            states: Vec::new(alloc),
+            anchors: Anchors::new(alloc),
+            prefixes: Prefixes::new(alloc),
+            keep_tags: false,
+            alloc,
+        }
+    }
+
     // Takes the token that was put back, if one was.
     #[inline(always)]
     fn take_back(&mut self) -> Option<Token>
@@ -81,14 +97,7 @@ impl<T: Input> Machine<T> {
         if self.scanner.next_token_into(token)? {
             return Ok(());
         }
-        Err(refuse(
-            FaultText::DocumentStartExpected,
-            Marker {
-                index: 0,
-                line: 0,
-                col: 0,
-            },
-        ))
+        Err(refuse(FaultText::DocumentStartExpected, Marker::new(0, 0, 0)))
     }
 
     // Takes the next token.

@@ -18,11 +18,7 @@ use std::mem::replace;
 // A place for an event.
 #[inline(always)]
 pub(crate) fn no_event<'input>() -> (Event<'input>, Span) {
-    let start = Marker {
-        index: 0,
-        line: 0,
-        col: 0,
-    };
+    let start = Marker::new(0, 0, 0);
     (Event::Nothing, Span::empty(start))
 }
 

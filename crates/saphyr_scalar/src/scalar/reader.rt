@@ -51,11 +51,7 @@ impl<T: Input> Reader<T> {
         input.lookahead(1);
         Reader {
             input,
-            mark: Marker {
-                index: 0,
-                line: 1,
-                col: 0,
-            },
+            mark: Marker::new(0, 1, 0),
             blank_so_far: true,
             spare: Spare::new(),
         }

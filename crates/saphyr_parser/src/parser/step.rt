@@ -1,55 +1,24 @@
-//! A machine at its start, and its next event by the state that it is in.
+//! One step of the machine: its next event, by the state that it is in, or the fault that stands in its place.
 
 ghost use Rattle.std.specs.Prelude.{◌≡◌, ◌≢◌, ◌↔◌, IsTrue, false};
 ghost use Rattle.saphyr_parser.specs.Steps.Expected as spec;
 
-use crate::parser::anchors::Anchors;
-use crate::parser::context::NodeContext;
 use crate::parser::event::Event;
 use crate::parser::fault::Fault;
 use crate::parser::machine::Machine;
-use crate::parser::prefixes::Prefixes;
 use crate::parser::progress::Progress;
 use crate::parser::state::State;
 use saphyr_input::input::Input;
 use saphyr_scalar::{Span, Stop};
-use saphyr_scanner::Scanner;
-use std::alloc::Global;
 use std::borrow::CowStr;
 use std::mem::replace;
 
 impl<T: Input> Machine<T> {
     ghost use Rattle.saphyr_parser.specs.Views.Machines.{machine_of, TellsBy};
-    ghost use Rattle.saphyr_parser.specs.Steps.Machine.{fresh_machine};
     ghost use Rattle.saphyr_parser.specs.Calls.{Reads, item_at};
     ghost use Rattle.saphyr_parser.specs.Cursor.{item_in};
     ghost use Rattle.saphyr_parser.specs.Faults.{IsFaultOf, is_foreign};
     ghost use Rattle.saphyr_parser.specs.declared.parser.state.State.TheVariants.{End};
-
-    pub(super) fn new(alloc: Global, scanner: Scanner<T>) -> Self
-        ensures { machine_of result ≡ fresh_machine scanner }
-    {
-        Machine {
-            scanner,
-            token: None,
-            state: State::StreamStart,
-            states: Vec::new(alloc),
-            anchors: Anchors::new(alloc),
-            prefixes: Prefixes::new(alloc),
-            keep_tags: false,
-            alloc,
-        }
-    }
-
-    #[inline(always)]
-    #[tactic(auto, unfolding(crate::specs::Steps::Expected::block_node))]
-    fn block_node<'input>(&mut self, next: &mut (Event<'input>, Span)) -> Result<(), Stop>
-        ensures { TellsBy spec.block_node self.old result next.new self.new }
-    {
-        let token = self.take()?;
-        self.node(NodeContext::Block, token, next)?;
-        Ok(())
-    }
 
     // Whether the end of the stream was reached.
     pub(super) fn is_done(&self) -> bool
