@@ -7,9 +7,10 @@ use Rattle.saphyr_scanner.specs.declared.queue.Opening.{Opening}
 use Rattle.saphyr_scanner.specs.declared.queue.Opening.TheVariants as opening
 use Rattle.saphyr_scanner.specs.Views.Tokens.{Piece, Remaining, none, before}
 use Rattle.saphyr_scanner.specs.Steps.Queue.{Place}
-use Rattle.saphyr_scanner.specs.Steps.Core.{Candidate, Level, Core, drop_far_key}
+use Rattle.saphyr_scanner.specs.Steps.Core.{Core, drop_far_key}
+use Rattle.saphyr_scanner.specs.Steps.Level.{Candidate, Level, is_place, holds}
 use Rattle.saphyr_scanner.specs.Steps.State.{State, start}
-use Rattle.saphyr_scanner.specs.Steps.Fetch.{size, needs_token, is_held, is_place, holds, any_holds}
+use Rattle.saphyr_scanner.specs.Steps.Fetch.{size, needs_token, is_held, any_holds}
 use Rattle.saphyr_scanner.specs.Steps.Remaining.{before_place, hand_out, delivered, run, remaining}
 use Rattle.saphyr_scanner.proofs.Effects.Readers.{Readers}
 use Rattle.saphyr_scanner.proofs.Filling.{read, read_is, less_read}

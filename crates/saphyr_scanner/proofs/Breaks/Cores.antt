@@ -7,7 +7,8 @@ use Rattle.saphyr_input.specs.declared.input.SkipTabs.TheVariants as tabs
 use Rattle.saphyr_scalar.specs.declared.scalar.position.Marker.{Marker}
 use Rattle.saphyr_scalar.specs.declared.scalar.fault.Refusal.{Refusal}
 use Rattle.saphyr_scalar.specs.Views.Cursor.{Cursor, ◌>>=◌, fresh, pass, separation}
-use Rattle.saphyr_scanner.specs.Steps.Core.{Candidate, Level, Core, in_block, is_too_far, save_key, remove_key, drop_far_key, roll, is_further}
+use Rattle.saphyr_scanner.specs.Steps.Core.{Core, in_block, is_too_far, save_key, remove_key, drop_far_key, roll, is_further}
+use Rattle.saphyr_scanner.specs.Steps.Level.{Candidate, Level}
 use Rattle.saphyr_scanner.specs.Steps.Passing.{separate, pass_on, with_cursor}
 use Rattle.saphyr_scalar.specs.Alike.{AreAlike, AreSame, GiveAlike, ReadsAlike}
 use Rattle.saphyr_scalar.proofs.Breaks.Results.{both_then}

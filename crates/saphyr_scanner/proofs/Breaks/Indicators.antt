@@ -11,7 +11,8 @@ use Rattle.saphyr_scanner.specs.declared.engine.level.Context.{Context}
 use Rattle.saphyr_scanner.specs.Grammar.Tokens as tokens
 use Rattle.saphyr_scanner.specs.Grammar.Tokens.{Kind}
 use Rattle.saphyr_scanner.specs.Steps.Block as block
-use Rattle.saphyr_scanner.specs.Steps.Core.{Candidate, Level, Core, Put, in_block, save_key, remove_key, go_deeper, roll, is_further, forget_key, with_context}
+use Rattle.saphyr_scanner.specs.Steps.Core.{Core, Put, in_block, save_key, remove_key, go_deeper, roll, is_further, forget_key, with_context}
+use Rattle.saphyr_scanner.specs.Steps.Level.{Candidate, Level, ends_pair, behind_entry, behind_question, begins_pair, behind_colon}
 use Rattle.saphyr_scanner.specs.Steps.Fetch.{flow_value}
 use Rattle.saphyr_scanner.specs.Steps.Flow as flow
 use Rattle.saphyr_scanner.specs.Steps.Gap as gaps
@@ -94,7 +95,7 @@ pub end_same : (text : List ℕ) (is_sequence : Bool) (kind : Kind) (c : Core) (
 unfolding flow.closing_steps
 end_same text is_sequence kind c x laws t ink =
     both_choose (SameSteps text) (in_block c) (in_block c) _ _ _ _ refl (λ _. refl)
-    (λ _. close_same text (is_sequence && flow.ends_pair c.level.context) kind c x laws t ink)
+    (λ _. close_same text (is_sequence && ends_pair c.level.context) kind c x laws t ink)
 
 pub entry_same : (text : List ℕ) (c : Core) (x : Indexes) → Laws text → Twin text c x → Inked c.cursor.rest
     → GiveAlike (SameSteps text) (flow.flow_entry_steps c) (flow.flow_entry_steps (near_core x c))
@@ -103,11 +104,11 @@ entry_same text c x laws t ink =
     still_then text (SameSteps text) c.cursor (remove_key c)
     (remove_key (near_core x c)) flow.next_flow_entry flow.next_flow_entry (remove_still text c x t)
     (λ d y u e. pass_then text (SameSteps text)
-    (with_context (flow.behind_entry d.level.context) (record d { key_allowed = true })) y _ _ laws u
+    (with_context (behind_entry d.level.context) (record d { key_allowed = true })) y _ _ laws u
     (still_inked c.cursor d.cursor e ink)
     (λ s f z v. (
       (z, refl, v),
-      pair_same (flow.ends_pair d.level.context) d.cursor.mark
+      pair_same (ends_pair d.level.context) d.cursor.mark
           (reindexed y.at d.cursor.mark) tokens.FlowEntry d.cursor.mark f.cursor.mark (reindexed y.at d.cursor.mark)
           (reindexed z.at f.cursor.mark),
     )))
@@ -169,14 +170,14 @@ pub value_same : (text : List ℕ) (c : Core) (x : Indexes) → Laws text → Tw
     → GiveAlike (SameSteps text) (value.value_steps c) (value.value_steps (near_core x c))
 unfolding value.value_steps
 value_same text c x laws t ink =
-    let d : Core = with_context (value.behind_colon c.level.context) c in
+    let d : Core = with_context (behind_colon c.level.context) c in
     of_cores text (λ a b. GiveAlike (SameSteps text)
-    (value.check_tab a >>= λ e. value.behind_key e.level.key (value.begins_pair c.level.context) c.cursor.mark e)
-    (value.check_tab b >>= λ e. value.behind_key e.level.key (value.begins_pair c.level.context)
+    (value.check_tab a >>= λ e. value.behind_key e.level.key (begins_pair c.level.context) c.cursor.mark e)
+    (value.check_tab b >>= λ e. value.behind_key e.level.key (begins_pair c.level.context)
     (reindexed x.at c.cursor.mark) e)) (pass_on 1 d) (pass_on 1 (near_core x d)) (pass_twin text d x t ink)
     (λ y u. core_then text (SameSteps text) (value.check_tab (pass_on 1 d))
     (value.check_tab (near_core y (pass_on 1 d))) _ _ (check_same text (pass_on 1 d) y laws u)
-    (λ e z v. behind_same text e.level.key z.key (value.begins_pair c.level.context) c.cursor.mark x.at e z v))
+    (λ e z v. behind_same text e.level.key z.key (begins_pair c.level.context) c.cursor.mark x.at e z v))
 
 pub adjacent_same : (text : List ℕ) (c : Core) (x : Indexes) → Twin text c x
     → (x.at == x.adjacent) ≡ (c.cursor.mark.index == c.adjacent)
@@ -301,7 +302,7 @@ begin_same : (text : List ℕ) (c : Core) (x : Indexes) → Laws text → Twin t
 unfolding block.begin_key
 begin_same text c x laws t ink =
     let column = c.cursor.mark.col in
-    let f : Core → Core = λ a. with_context (block.behind_question c.level.context) a in
+    let f : Core → Core = λ a. with_context (behind_question c.level.context) a in
     of_still text (λ a b. GiveAlike (Cores text)
     (remove_key (f a) >>= λ d. block.pass_question (record d { key_allowed = in_block d }))
     (remove_key (f b) >>= λ d. block.pass_question (record d { key_allowed = in_block d })))

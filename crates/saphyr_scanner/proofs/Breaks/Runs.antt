@@ -9,9 +9,10 @@ use Rattle.saphyr_scanner.specs.Grammar.Tokens as tokens
 use Rattle.saphyr_scanner.specs.Grammar.Tokens.{Kind}
 use Rattle.saphyr_scanner.specs.Views.Tokens.{Piece, Remaining}
 use Rattle.saphyr_scanner.specs.Steps.Queue.{Place, Queue, is_empty_list}
-use Rattle.saphyr_scanner.specs.Steps.Core.{Level, Core}
+use Rattle.saphyr_scanner.specs.Steps.Core.{Core}
+use Rattle.saphyr_scanner.specs.Steps.Level.{Level, is_place, holds}
 use Rattle.saphyr_scanner.specs.Steps.State.{State, start}
-use Rattle.saphyr_scanner.specs.Steps.Fetch.{size, without_far_key, needs_token, any_holds, is_place, holds}
+use Rattle.saphyr_scanner.specs.Steps.Fetch.{size, without_far_key, needs_token, any_holds}
 use Rattle.saphyr_scanner.specs.Steps.Remaining.{before_place, hand_out, delivered, run, remaining, scan}
 use Rattle.saphyr_scanner.specs.SameKinds.{HaveSameKinds}
 use Rattle.saphyr_scanner.proofs.Filling.{read, less_read}

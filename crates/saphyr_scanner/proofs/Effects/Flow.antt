@@ -11,7 +11,8 @@ use Rattle.saphyr_scanner.specs.Grammar.Tokens as tokens
 use Rattle.saphyr_scanner.specs.Grammar.Tokens.{Kind}
 use Rattle.saphyr_scanner.specs.Views.Tokens.{Piece}
 use Rattle.saphyr_scanner.specs.Steps.Queue.{empty_piece}
-use Rattle.saphyr_scanner.specs.Steps.Core.{Core, is_block, in_block, forget_key, remove_key, go_deeper, up_to_here, with_context, went}
+use Rattle.saphyr_scanner.specs.Steps.Core.{Core, in_block, forget_key, remove_key, go_deeper, up_to_here, with_context, went}
+use Rattle.saphyr_scanner.specs.Steps.Level.{is_block, ends_pair, behind_entry}
 use Rattle.saphyr_scanner.specs.Steps.Passing.{separate, pass_on, with_cursor}
 use Rattle.saphyr_scanner.specs.Steps.Flow as flow
 use Rattle.saphyr_scanner.specs.TokensTaken as taken
@@ -142,7 +143,7 @@ pub end_does : (i : ℕ) (kind : Kind) → Bracket i kind → (sequence : Bool) 
     → Walked (Premises c) (Doing None c) c.cursor (flow.closing_steps sequence kind c)
 unfolding flow.closing_steps flow.close_collection
 end_does i kind b sequence c first =
-    let ends = sequence && flow.ends_pair c.level.context in
+    let ends = sequence && ends_pair c.level.context in
     by_test (in_block c) _ _ (Walked (Premises c) (Doing None c) c.cursor) (λ _ _. at_here c.cursor)
     (λ _. left c
     (λ d. Walked (Premises c) (Doing None c) c.cursor
@@ -153,7 +154,7 @@ end_does i kind b sequence c first =
     walked_map (Premises c) (Doing None d) (Doing None c) c.cursor _ (λ x k. and_then (λ n. n) m k)
     (bracket_walked i kind b c d ends first flow.allow_adjacent adjacent_same)))
 
-entry_block : (x : Context) → is_block (flow.behind_entry x) ≡ is_block x
+entry_block : (x : Context) → is_block (behind_entry x) ≡ is_block x
 entry_block context.Block = refl
 entry_block _ = refl
 
@@ -161,12 +162,12 @@ pub entry_does : (c : Core) → slice_index c.cursor.rest 0 ≡ 44
     → Walked (Premises c) (Doing None c) c.cursor (flow.flow_entry_steps c)
 unfolding flow.flow_entry_steps flow.next_flow_entry remove_key
 entry_does c first =
-    let d : Core = with_context (flow.behind_entry c.level.context) (record (forget_key c) { key_allowed = true }) in
+    let d : Core = with_context (behind_entry c.level.context) (record (forget_key c) { key_allowed = true }) in
     by_test (in_block c && c.required) _ _
     (λ r. Walked (Premises c) (Doing None c) c.cursor (r >>= flow.next_flow_entry)) (λ _ _. at_here c.cursor)
     (λ _. walked_map (Premises c) (Doing None d) (Doing None c) c.cursor _
     (λ x k. and_then (λ n. n)
     (lesser c d (record { block = entry_block c.level.context; key = inr refl }) refl (λ n. n)
     (taken.nothing c.cursor.mark c.cursor.rest)) k)
-    (bracket_walked 44 tokens.FlowEntry comma_is_bracket c d (flow.ends_pair c.level.context) first (λ e. e)
+    (bracket_walked 44 tokens.FlowEntry comma_is_bracket c d (ends_pair c.level.context) first (λ e. e)
     (λ e. (same e, refl))))

@@ -6,8 +6,9 @@ use Rattle.std.proofs.Common.{refl, sym, ap, ◌∙◌, arith, subst, inl, inr}
 use Rattle.saphyr_scalar.specs.Views.Cursor.{Cursor}
 use Rattle.saphyr_scanner.specs.declared.engine.level.Context.{Context}
 use Rattle.saphyr_scanner.specs.Steps.Queue.{Queue, next}
-use Rattle.saphyr_scanner.specs.Steps.Core.{Candidate, Level, Core, Action, Put, Open, act, perform, is_block}
-use Rattle.saphyr_scanner.specs.Steps.Core.{in_block, at_root}
+use Rattle.saphyr_scanner.specs.Steps.Core.{Core, Action, Put, Open, act, perform}
+use Rattle.saphyr_scanner.specs.Steps.Level.{Candidate, Level, is_block, at_root}
+use Rattle.saphyr_scanner.specs.Steps.Core.{in_block}
 use Rattle.saphyr_scanner.specs.Steps.Flow as flow
 use Rattle.saphyr_scanner.specs.TokensTaken as taken
 use Rattle.saphyr_scanner.specs.TokensTaken.{AreApart}

@@ -23,12 +23,13 @@ use Rattle.saphyr_scalar.specs.Views.Cursor.{Cursor, ◌>>=◌, along}
 use Rattle.saphyr_scanner.specs.Grammar.Tokens as tokens
 use Rattle.saphyr_scanner.specs.Grammar.Tokens.{Kind}
 use Rattle.saphyr_scanner.specs.Views.Tokens.{Piece}
-use Rattle.saphyr_scanner.specs.Steps.Core.{Level, Core, is_block, in_block, least_column}
+use Rattle.saphyr_scanner.specs.Steps.Core.{Core, in_block, least_column}
+use Rattle.saphyr_scanner.specs.Steps.Level.{Level, is_block}
 use Rattle.saphyr_scanner.specs.Steps.Passing.{separate, pass_gap, with_cursor}
 use Rattle.saphyr_scanner.specs.Steps.Property as property
 use Rattle.saphyr_scanner.specs.Steps.Scalar as scalar
 use Rattle.saphyr_scanner.specs.TokensTaken as taken
-use Rattle.saphyr_scanner.specs.TokensTaken.{AreApart, IsToken, IsQuotedToken, may_begin_plain, begins_text}
+use Rattle.saphyr_scanner.specs.TokensTaken.{IsToken, IsQuotedToken, may_begin_plain, begins_text}
 use Rattle.saphyr_scanner.proofs.Added.Queue.{IsNoEnd}
 use Rattle.saphyr_scanner.proofs.Counted.{Ahead}
 use Rattle.saphyr_scanner.proofs.Effects.Puts.{IsSaved, saving, saved_above, saved, Reading}

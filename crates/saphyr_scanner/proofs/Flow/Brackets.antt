@@ -15,7 +15,8 @@ use Rattle.saphyr_scanner.specs.Grammar.Tokens as tokens
 use Rattle.saphyr_scanner.specs.Grammar.Tokens.{Kind}
 use Rattle.saphyr_scanner.specs.Views.Tokens.{Piece}
 use Rattle.saphyr_scanner.specs.Steps.Queue.{Place, closed, empty_piece}
-use Rattle.saphyr_scanner.specs.Steps.Core.{Candidate, Level, Core, is_block, from_to, perform}
+use Rattle.saphyr_scanner.specs.Steps.Core.{Core, from_to, perform}
+use Rattle.saphyr_scanner.specs.Steps.Level.{Candidate, Level, is_block}
 use Rattle.saphyr_scanner.specs.Steps.Flow as flow
 use Rattle.saphyr_scanner.specs.Steps.Flow.{close_collection, behind_pair}
 use Rattle.saphyr_scanner.specs.Steps.Fetch.{step}

@@ -14,10 +14,11 @@ use Rattle.saphyr_scanner.specs.Grammar.Tokens as tokens
 use Rattle.saphyr_scanner.specs.Grammar.Tokens.{Kind}
 use Rattle.saphyr_scanner.specs.Views.Tokens.{Piece}
 use Rattle.saphyr_scanner.specs.Steps.Queue.{Place, closed, opened, empty_piece}
-use Rattle.saphyr_scanner.specs.Steps.Core.{Candidate, Level, Core, Put, Open, Steps, is_block, at_mark, went, perform}
+use Rattle.saphyr_scanner.specs.Steps.Core.{Core, Put, Open, Steps, at_mark, went, perform}
+use Rattle.saphyr_scanner.specs.Steps.Level.{Candidate, Level, is_block, begins_pair, behind_colon}
 use Rattle.saphyr_scanner.specs.Steps.Passing.{with_cursor}
 use Rattle.saphyr_scanner.specs.Steps.Value as value
-use Rattle.saphyr_scanner.specs.Steps.Value.{begins_pair, behind_colon, check_tab, refuse_lone_tab, of_key, alone, behind_key}
+use Rattle.saphyr_scanner.specs.Steps.Value.{check_tab, refuse_lone_tab, of_key, alone, behind_key}
 use Rattle.saphyr_scanner.specs.Steps.Fetch.{step, flow_value}
 use Rattle.saphyr_scanner.proofs.InFlow.States.{Around, required_at, core_at}
 use Rattle.saphyr_scanner.proofs.Json.States.{queue_of}

@@ -8,10 +8,11 @@ use Rattle.saphyr_scalar.specs.Views.Cursor.{Cursor, ◌>>=◌, along, separatio
 use Rattle.saphyr_scanner.specs.declared.engine.level.Context.{Context}
 use Rattle.saphyr_scanner.specs.declared.engine.level.Context.TheVariants as context
 use Rattle.saphyr_scanner.specs.Grammar.Tokens as tokens
-use Rattle.saphyr_scanner.specs.Steps.Core.{Candidate, Level, Core, is_block, from_to, up_to_here, went, remove_key}
+use Rattle.saphyr_scanner.specs.Steps.Core.{Core, from_to, up_to_here, went, remove_key}
+use Rattle.saphyr_scanner.specs.Steps.Level.{Candidate, Level, is_block, behind_entry, ends_pair}
 use Rattle.saphyr_scanner.specs.Steps.Passing.{with_cursor}
 use Rattle.saphyr_scanner.specs.Steps.Flow as flow
-use Rattle.saphyr_scanner.specs.Steps.Flow.{next_flow_entry, behind_entry, behind_pair, ends_pair}
+use Rattle.saphyr_scanner.specs.Steps.Flow.{next_flow_entry, behind_pair}
 use Rattle.saphyr_scanner.proofs.InFlow.States.{Around, required_at, core_at, state_at, as_before, moment, FlowMoment, moment_in, moment_with}
 use Rattle.saphyr_scanner.proofs.Flow.Places.{right_one}
 use Rattle.saphyr_scanner.proofs.Flow.States.{moved, past, IsParted, fresh_key, Passes, Fits, StandsBefore}

@@ -10,7 +10,7 @@ use Rattle.saphyr_scanner.specs.declared.engine.level.Context.{Context}
 use Rattle.saphyr_scanner.specs.Grammar.Tokens.{Kind}
 use Rattle.saphyr_scanner.specs.Grammar.TokenGrammar as grammar
 use Rattle.saphyr_scanner.specs.Steps.Queue.{Place}
-use Rattle.saphyr_scanner.specs.Steps.Core.{Level, is_block}
+use Rattle.saphyr_scanner.specs.Steps.Level.{Level, is_block}
 use Rattle.saphyr_scanner.specs.Grammar.Forest.{Properties, no_properties}
 use Rattle.saphyr_scanner.specs.Grammar.FlowNodes.{IsProperties, IsBeforeContent}
 use Rattle.saphyr_scanner.proofs.InFlow.States.{Around, state_at, Calm, FlowMoment}

@@ -8,8 +8,7 @@ use Rattle.saphyr_scanner.specs.Grammar.Tokens as tokens
 use Rattle.saphyr_scanner.specs.Grammar.Tokens.{Kind}
 use Rattle.saphyr_scanner.specs.Grammar.TokenGrammar as grammar
 use Rattle.saphyr_scanner.specs.Steps.Queue.{Place}
-use Rattle.saphyr_scanner.specs.Steps.Core.{Level, is_block}
-use Rattle.saphyr_scanner.specs.Steps.Flow.{behind_entry, ends_pair}
+use Rattle.saphyr_scanner.specs.Steps.Level.{Level, is_block, behind_entry, ends_pair}
 use Rattle.saphyr_scanner.specs.Steps.State.{State}
 use Rattle.saphyr_scanner.specs.Grammar.Forest.{Properties, Node, Alias, Scalar, Seq, Map, Nodes, NoNode, MoreNodes, NoPair, MorePairs}
 use Rattle.saphyr_scanner.specs.Grammar.FlowNodes.{IsBeforeSeparation, IsSinglePairText, IsSinglePair, IsComma, IsLastComma, IsFlowNode, AreItems, AreOtherItems, IsPairItem}

@@ -6,9 +6,7 @@ use Rattle.saphyr_scanner.specs.declared.engine.level.Context.{Context}
 use Rattle.saphyr_scanner.specs.Grammar.Tokens as tokens
 use Rattle.saphyr_scanner.specs.Grammar.Tokens.{Kind}
 use Rattle.saphyr_scanner.specs.Grammar.TokenGrammar as grammar
-use Rattle.saphyr_scanner.specs.Steps.Core.{is_block}
-use Rattle.saphyr_scanner.specs.Steps.Block.{behind_question}
-use Rattle.saphyr_scanner.specs.Steps.Value.{begins_pair, behind_colon}
+use Rattle.saphyr_scanner.specs.Steps.Level.{is_block, behind_question, begins_pair, behind_colon}
 use Rattle.saphyr_scanner.specs.Grammar.Forest.{Node, left_out}
 use Rattle.saphyr_scanner.specs.Grammar.FlowNodes.{IsColonAndValue, IsKeyAndValue, IsValueAlone, IsBehindMark, IsExplicitPair, IsLoneMark, IsFlowNode}
 use Rattle.saphyr_scanner.proofs.InFlow.States.{Around, state_at, FlowMoment, moment_in}

@@ -5,7 +5,8 @@ use Rattle.saphyr_scalar.specs.declared.scalar.position.Marker.{Marker}
 use Rattle.saphyr_scalar.specs.Views.Cursor.{◌>>=◌}
 use Rattle.saphyr_scanner.specs.declared.engine.level.Context.TheVariants as context
 use Rattle.saphyr_scanner.specs.Steps.Queue.{Queue}
-use Rattle.saphyr_scanner.specs.Steps.Core.{Candidate, Core, Action, perform, went, is_too_far, drop_far_key}
+use Rattle.saphyr_scanner.specs.Steps.Core.{Core, Action, perform, went, is_too_far, drop_far_key}
+use Rattle.saphyr_scanner.specs.Steps.Level.{Candidate}
 use Rattle.saphyr_scanner.specs.Steps.State.{State, carried, acted}
 use Rattle.saphyr_scanner.specs.Steps.Fetch.{step, state_behind_content, fetch_here, fetch, within, fetch_within}
 use Rattle.saphyr_scanner.proofs.Leads.{stay, onward}

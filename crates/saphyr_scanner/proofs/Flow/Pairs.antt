@@ -8,8 +8,7 @@ use Rattle.saphyr_scanner.specs.Grammar.Tokens as tokens
 use Rattle.saphyr_scanner.specs.Grammar.Tokens.{Kind}
 use Rattle.saphyr_scanner.specs.Grammar.TokenGrammar as grammar
 use Rattle.saphyr_scanner.specs.Steps.Queue.{Place}
-use Rattle.saphyr_scanner.specs.Steps.Core.{Level, is_block}
-use Rattle.saphyr_scanner.specs.Steps.Value.{begins_pair, behind_colon}
+use Rattle.saphyr_scanner.specs.Steps.Level.{Level, is_block, begins_pair, behind_colon}
 use Rattle.saphyr_scanner.specs.Steps.State.{State}
 use Rattle.saphyr_scanner.specs.Grammar.Forest.{Node, left_out}
 use Rattle.saphyr_scanner.specs.Grammar.FlowNodes.{allows_adjacent, IsColonAndValue, IsBeforeColon, IsKeyAndValue, IsValueAlone, IsFlowNode, IsKeyText}

@@ -11,9 +11,10 @@ use Rattle.saphyr_scanner.specs.declared.engine.level.Context.TheVariants as con
 use Rattle.saphyr_scanner.specs.Grammar.FlowNodes.{has_tab_outside}
 use Rattle.saphyr_scanner.specs.Steps.Gap.{Spaced, spaced, spaces}
 use Rattle.saphyr_scanner.specs.Grammar.Tokens as tokens
-use Rattle.saphyr_scanner.specs.Steps.Core.{Candidate, Level, Core, is_block, from_to, up_to_here, went, remove_key}
+use Rattle.saphyr_scanner.specs.Steps.Core.{Core, from_to, up_to_here, went, remove_key}
+use Rattle.saphyr_scanner.specs.Steps.Level.{Candidate, Level, is_block, behind_question}
 use Rattle.saphyr_scanner.specs.Steps.Block as block
-use Rattle.saphyr_scanner.specs.Steps.Block.{behind_question, behind_mark, pass_question, begin_key}
+use Rattle.saphyr_scanner.specs.Steps.Block.{behind_mark, pass_question, begin_key}
 use Rattle.saphyr_scanner.specs.Steps.Passing.{with_cursor}
 use Rattle.saphyr_scanner.specs.Steps.Fetch.{step}
 use Rattle.saphyr_scanner.proofs.InFlow.States.{Around, core_at, state_at, as_before, moment, FlowMoment, moment_in, moment_with}

@@ -8,7 +8,8 @@ use Rattle.saphyr_scanner.specs.declared.engine.level.Context.{Context}
 use Rattle.saphyr_scanner.specs.Grammar.Tokens.{Kind}
 use Rattle.saphyr_scanner.specs.Views.Tokens.{Piece}
 use Rattle.saphyr_scanner.specs.Steps.Queue.{Place, closed}
-use Rattle.saphyr_scanner.specs.Steps.Core.{Candidate, Level, is_block, from_to, went}
+use Rattle.saphyr_scanner.specs.Steps.Core.{from_to, went}
+use Rattle.saphyr_scanner.specs.Steps.Level.{Candidate, Level, is_block}
 use Rattle.saphyr_scanner.specs.Steps.Fetch.{step}
 use Rattle.saphyr_scanner.proofs.InFlow.States.{Around, core_at, state_at, Deepens, FlowMoment, moment}
 use Rattle.saphyr_scanner.proofs.Json.Marks.{saved}

@@ -9,9 +9,10 @@ use Rattle.saphyr_scanner.specs.declared.engine.level.Context.TheVariants as con
 use Rattle.saphyr_scanner.specs.Grammar.Tokens as tokens
 use Rattle.saphyr_scanner.specs.Grammar.Tokens.{Kind}
 use Rattle.saphyr_scanner.specs.Steps.Queue.{Place, closed, empty_piece}
-use Rattle.saphyr_scanner.specs.Steps.Core.{Candidate, Level, Action, Open, is_block, at_mark, went, perform}
+use Rattle.saphyr_scanner.specs.Steps.Core.{Action, Open, at_mark, went, perform}
+use Rattle.saphyr_scanner.specs.Steps.Level.{Candidate, Level, is_block, begins_pair, behind_colon}
 use Rattle.saphyr_scanner.specs.Steps.Value as value
-use Rattle.saphyr_scanner.specs.Steps.Value.{begins_pair, behind_colon, alone, begin_alone}
+use Rattle.saphyr_scanner.specs.Steps.Value.{alone, begin_alone}
 use Rattle.saphyr_scanner.specs.Steps.State.{State}
 use Rattle.saphyr_scanner.specs.Grammar.Forest.{Node}
 use Rattle.saphyr_scanner.specs.Grammar.FlowNodes.{allows_adjacent}

@@ -12,7 +12,8 @@ use Rattle.saphyr_scalar.specs.Steps.BlockRead.{spaces}
 use Rattle.saphyr_scalar.specs.Views.Cursor.{Cursor, ◌>>=◌, along, separation}
 use Rattle.saphyr_scanner.specs.declared.queue.Opening.{Opening}
 use Rattle.saphyr_scanner.specs.declared.queue.Opening.TheVariants as opening
-use Rattle.saphyr_scanner.specs.Steps.Core.{least_column, Core, Candidate, Open, went, at_mark, is_too_far}
+use Rattle.saphyr_scanner.specs.Steps.Core.{least_column, Core, Open, went, at_mark, is_too_far}
+use Rattle.saphyr_scanner.specs.Steps.Level.{Candidate}
 use Rattle.saphyr_scanner.specs.Steps.Passing.{with_cursor}
 use Rattle.saphyr_scanner.specs.Steps.Queue.{next, Place, Queue, closed, empty_piece}
 use Rattle.saphyr_scanner.specs.Views.Tokens.{Piece}
@@ -189,8 +190,8 @@ abbrev pub block_opening : Bool → Opening
 block_opening further = if further then opening.BlockMappingAndKey else opening.Key
 
 -- behind the colon of a key
-abbrev behind_colon : Marker → List ℕ → ℕ → Moment
-behind_colon n o ad = record {
+abbrev colon_moment : Marker → List ℕ → ℕ → Moment
+colon_moment n o ad = record {
   cursor =
       cursor_at o n false;
   key = None;
@@ -207,7 +208,7 @@ colon_step : (f : Frame) (r : Bool) (k : Candidate) (m : Marker) (o : List ℕ) 
     → f.indent ≤ k.mark.col + 1 → nat_lt 0 f.indent ≡ true ⊎ (further ≡ true) → (i : ℕ)
     → step 58 (slice_index o 0) i (core_of f (moment_with r m (58 ∷ o) blank (Some k) a ad deeper))
     ≡ went (Open k.place (block_opening further) ∷ at_mark m tokens.Value ∷ [])
-    (core_of (frame_behind further k.mark.col f) (behind_colon p.mark p.rest ad))
+    (core_of (frame_behind further k.mark.col f) (colon_moment p.mark p.rest ad))
 unfolding step value.value_steps value.behind_key value.of_key
 colon_step f r k m o h p blank a ad deeper further e far some i =
     let n : Moment = record (moment_with r m (58 ∷ o) blank (Some k) a ad deeper)
@@ -221,7 +222,7 @@ colon_step f r k m o h p blank a ad deeper further e far some i =
     opens : (b : Bool) → nat_le f.indent k.mark.col ≡ b → nat_lt 0 f.indent ≡ true ⊎ (b ≡ true)
         → value.behind_key (Some k) false m (core_of f d)
         ≡ went (Open k.place (block_opening b) ∷ at_mark m tokens.Value ∷ [])
-        (core_of (frame_behind b k.mark.col f) (behind_colon p.mark p.rest ad))
+        (core_of (frame_behind b k.mark.col f) (colon_moment p.mark p.rest ad))
     opens true e s = rw (e, zero_below_next k.mark.col) refl
     opens false e (inl s) = rw (e, s) refl
     opens false e (inr s) = absurd (cc)
@@ -264,7 +265,7 @@ reads_colon {limit} {start} f n ps others new key k m o ts us further e far v is
     let i = next (queue_of (ps ++ new)) in
     let g = frame_behind further k.col f in
     let p = passes_colon o h (along m 1) in
-    let t = behind_colon p.mark p.rest n.adjacent in
+    let t = colon_moment p.mark p.rest n.adjacent in
     let places = pair_places (block_opening further) key others (empty_piece m tokens.Value) in
     let allowed = crosses n.cursor.rest || n.allowed in
     let c = core_of f (moment_with n.required m (58 ∷ o) l.0 n.key allowed n.adjacent deeper) in

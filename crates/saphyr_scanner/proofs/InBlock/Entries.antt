@@ -14,7 +14,8 @@ use Rattle.saphyr_scalar.specs.Steps.BlockRead.{spaces}
 use Rattle.saphyr_scalar.specs.Views.Cursor.{Cursor, ◌>>=◌, along, separation}
 use Rattle.saphyr_scalar.specs.Spelling.Spaces.{IsCommentBehind}
 use Rattle.saphyr_scalar.specs.Spelling.Tag.{AreIn}
-use Rattle.saphyr_scanner.specs.Steps.Core.{least_column, Core, Candidate, went, at_mark, perform, is_further, roll, remove_key}
+use Rattle.saphyr_scanner.specs.Steps.Core.{least_column, Core, went, at_mark, perform, is_further, roll, remove_key}
+use Rattle.saphyr_scanner.specs.Steps.Level.{Candidate}
 use Rattle.saphyr_scanner.specs.Steps.Block.{entry, next_entry, pass_dash, deepen, refuse_tab, behind_start}
 use Rattle.saphyr_scanner.specs.Steps.Passing.{pass_on, with_cursor}
 use Rattle.saphyr_scanner.specs.Steps.Queue.{next, Place, Queue, closed, empty_piece}

@@ -6,7 +6,8 @@ use Rattle.saphyr_input.specs.Classes.{is_z, is_bom}
 use Rattle.saphyr_input.specs.Places.{is_document_start, is_document_end, is_document_indicator}
 use Rattle.saphyr_scalar.specs.declared.scalar.position.Marker.{Marker}
 use Rattle.saphyr_scalar.specs.Views.Cursor.{◌>>=◌}
-use Rattle.saphyr_scanner.specs.Steps.Core.{Core, Candidate, is_too_far, drop_far_key, least_column}
+use Rattle.saphyr_scanner.specs.Steps.Core.{Core, is_too_far, drop_far_key, least_column}
+use Rattle.saphyr_scanner.specs.Steps.Level.{Candidate}
 use Rattle.saphyr_scanner.specs.Steps.Gap.{Passed}
 use Rattle.saphyr_scanner.specs.Steps.Passing.{pass_gap, check_comment, goes_on_behind, behind_gap, intercepts}
 use Rattle.saphyr_scanner.specs.Steps.Queue.{Place}

@@ -8,7 +8,8 @@ use Rattle.saphyr_scalar.specs.declared.scalar.position.Marker.{Marker}
 use Rattle.saphyr_scalar.specs.Steps.BlockRead.{spaces}
 use Rattle.saphyr_scalar.specs.Spelling.Spaces.{AreSpaces, IsLineRest}
 use Rattle.saphyr_scalar.proofs.NoBreaks.{NoBreaks}
-use Rattle.saphyr_scanner.specs.Steps.Core.{Candidate, is_too_far}
+use Rattle.saphyr_scanner.specs.Steps.Core.{is_too_far}
+use Rattle.saphyr_scanner.specs.Steps.Level.{Candidate}
 use Rattle.saphyr_scanner.specs.Grammar.Forest.{Tag}
 use Rattle.saphyr_scanner.specs.Grammar.FlowNodes.{AreProperties}
 use Rattle.saphyr_scanner.specs.Grammar.BlockNodes.{Position as Position, IsGapAt, AreSpacesAt}

@@ -6,7 +6,8 @@ use Rattle.saphyr_scalar.specs.declared.scalar.position.Marker.{Marker}
 use Rattle.saphyr_scalar.specs.Views.Cursor.{Cursor, ◌>>=◌, along}
 use Rattle.saphyr_scalar.specs.Steps.Quoted.{at}
 use Rattle.saphyr_scalar.specs.Spelling.Tag.{IsAnchorName, IsTagText, EndsTag}
-use Rattle.saphyr_scanner.specs.Steps.Core.{Core, Candidate, went, from_to, is_too_far, least_column}
+use Rattle.saphyr_scanner.specs.Steps.Core.{Core, went, from_to, is_too_far, least_column}
+use Rattle.saphyr_scanner.specs.Steps.Level.{Candidate}
 use Rattle.saphyr_scanner.specs.Steps.Fetch.{fetch, fetch_here, fetch_within, within, state_behind_content, step}
 use Rattle.saphyr_scanner.specs.Grammar.Forest.{Tag}
 use Rattle.saphyr_scanner.specs.Grammar.FlowNodes.{IsAnchor}

@@ -6,7 +6,8 @@ use Rattle.saphyr_input.specs.Classes.{is_blank, is_blank_or_breakz}
 use Rattle.saphyr_scalar.specs.declared.scalar.position.Marker.{Marker}
 use Rattle.saphyr_scalar.specs.Views.Cursor.{◌>>=◌, along}
 use Rattle.saphyr_scanner.specs.declared.engine.level.Context.TheVariants as context
-use Rattle.saphyr_scanner.specs.Steps.Core.{Core, Candidate, went, from_to, up_to_here, perform, is_further, roll, remove_key, with_context, in_block}
+use Rattle.saphyr_scanner.specs.Steps.Core.{Core, went, from_to, up_to_here, perform, is_further, roll, remove_key, with_context, in_block}
+use Rattle.saphyr_scanner.specs.Steps.Level.{Candidate, behind_question}
 use Rattle.saphyr_scanner.specs.Steps.Block as block
 use Rattle.saphyr_scanner.specs.Steps.Block.{behind_start}
 use Rattle.saphyr_scanner.specs.Steps.Gap as gap
@@ -90,7 +91,7 @@ mark_enters : (f : Frame) (m : Marker) (y : List ℕ) (blank : Bool) (key : Opti
     (deeper further : Bool)
     → nat_le f.indent m.col ≡ further
     → (d : Bool) × (remove_key
-    (with_context (block.behind_question context.Block)
+    (with_context (behind_question context.Block)
     (roll m.col (core_of f (moment_at m y blank key true ad deeper))))
     ≡ Ok (core_of (frame_behind further m.col f) (moment_at m y blank None true ad d)))
 unfolding remove_key
@@ -98,21 +99,21 @@ mark_enters f m y blank key ad deeper true e = (false, rw e refl)
 mark_enters f m y blank key ad deeper false e = (deeper, rw e refl)
 
 -- behind `?`, at the next token
-abbrev behind_question : Marker → List ℕ → Bool → ℕ → Bool → Moment
-behind_question n y blank ad deeper = moment_at n y blank None true ad deeper
+abbrev question_moment : Marker → List ℕ → Bool → ℕ → Bool → Moment
+question_moment n y blank ad deeper = moment_at n y blank None true ad deeper
 
 passes_mark : (g : Frame) (m : Marker) (o : List ℕ) (blank : Bool) (ad : ℕ) (deeper : Bool) → BeginsWhite o
     → has_tab o ≡ false
     → (b : Bool) × (block.pass_question (core_of g (moment_at m (63 ∷ o) blank None true ad deeper))
-    ≡ Ok (core_of g (behind_question (past 0 (along m 1) o).0 (past 0 (along m 1) o).1 b ad deeper)))
+    ≡ Ok (core_of g (question_moment (past 0 (along m 1) o).0 (past 0 (along m 1) o).1 b ad deeper)))
 unfolding block.behind_mark
 passes_mark g m o blank ad deeper h clean =
     let r = reach (along m 1) o h clean in
     let c = core_of g (moment_at m (63 ∷ o) blank None true ad deeper) in
     let none = no_tab_here (past 0 (along m 1) o).1 (past_stops (along m 1) o) in
     let there : block.behind_mark true
-    (core_of g (behind_question (past 0 (along m 1) o).0 (past 0 (along m 1) o).1 r.0 ad deeper))
-    ≡ Ok (core_of g (behind_question (past 0 (along m 1) o).0 (past 0 (along m 1) o).1 r.0 ad deeper)) =
+    (core_of g (question_moment (past 0 (along m 1) o).0 (past 0 (along m 1) o).1 r.0 ad deeper))
+    ≡ Ok (core_of g (question_moment (past 0 (along m 1) o).0 (past 0 (along m 1) o).1 r.0 ad deeper)) =
     rw none refl in
     (r.0, ap (λ (s : gap.Spaced). block.behind_mark s.space (with_cursor s.cursor c)) r.1 ∙ there)
 
@@ -121,7 +122,7 @@ question_step : (f : Frame) (m : Marker) (o : List ℕ) (blank : Bool) (key : Op
     → (b : Bool) × (d : Bool) × (step 63 (slice_index o 0) i (core_of f (moment_at m (63 ∷ o) blank key true ad deeper))
     ≡ went (behind_start further m tokens.BlockMappingStart (from_to m (past 0 (along m 1) o).0 tokens.Key))
     (core_of (frame_behind further m.col f)
-    (behind_question (past 0 (along m 1) o).0 (past 0 (along m 1) o).1 b ad d)))
+    (question_moment (past 0 (along m 1) o).0 (past 0 (along m 1) o).1 b ad d)))
 unfolding step block.key block.begin_key
 question_step f m o blank key ad deeper further e h clean i =
     let c = core_of f (moment_at m (63 ∷ o) blank key true ad deeper) in
@@ -129,7 +130,7 @@ question_step f m o blank key ad deeper further e h clean i =
     let g = frame_behind further m.col f in
     let p = passes_mark g m o blank ad r.0 h clean in
     let first = white_first o h in
-    let last = core_of g (behind_question (past 0 (along m 1) o).0 (past 0 (along m 1) o).1 p.0 ad r.0) in
+    let last = core_of g (question_moment (past 0 (along m 1) o).0 (past 0 (along m 1) o).1 p.0 ad r.0) in
     let begun = ap (λ q. q >>= λ (d : Core). block.pass_question (record d { key_allowed = in_block d })) r.1 ∙ p.1 in (
       p.0,
       r.0,
@@ -190,7 +191,7 @@ reads_question {limit} {start} {ts} f m o further e far h clean count v allowed 
     let g = frame_behind further m.col f in
     let n = (past 0 (along m 1) o).0 in
     let y = (past 0 (along m 1) o).1 in
-    let t = behind_question n y s.0 v.adjacent s.1 in
+    let t = question_moment n y s.0 v.adjacent s.1 in
     let qs = mark_places further m n v.places in
     let made : state_behind_content 63 (slice_index o 0)
     (state_of f (moment_at m (63 ∷ o) v.blank v.key true v.adjacent deeper) v.places) ≡ Ok (state_of g t qs) =

@@ -5,7 +5,7 @@ use Rattle.saphyr_scalar.specs.declared.scalar.position.Marker.{Marker}
 use Rattle.saphyr_scalar.specs.Steps.BlockRead.{spaces}
 use Rattle.saphyr_scalar.specs.Spelling.Spaces.{AreSpaces}
 use Rattle.saphyr_scalar.proofs.NoBreaks.{NoBreaks, no_breaks_both}
-use Rattle.saphyr_scanner.specs.Steps.Core.{Candidate}
+use Rattle.saphyr_scanner.specs.Steps.Level.{Candidate}
 use Rattle.saphyr_scanner.specs.Grammar.Forest.{Style, Tag, Properties, Scalar}
 use Rattle.saphyr_scanner.specs.Grammar.FlowNodes.{AreProperties, IsProperties}
 use Rattle.saphyr_scanner.specs.Grammar.BlockNodes as layout

@@ -15,7 +15,8 @@ use Rattle.saphyr_scanner.specs.declared.engine.level.Context.TheVariants as con
 use Rattle.saphyr_scanner.specs.Grammar.Tokens.{scalar_token}
 use Rattle.saphyr_scanner.specs.Steps.Gap.{Passed, gap}
 use Rattle.saphyr_scanner.specs.Steps.Queue.{Place}
-use Rattle.saphyr_scanner.specs.Steps.Core.{Candidate, Level, from_to, went}
+use Rattle.saphyr_scanner.specs.Steps.Core.{from_to, went}
+use Rattle.saphyr_scanner.specs.Steps.Level.{Candidate, Level}
 use Rattle.saphyr_scanner.specs.Steps.Passing.{pass_gap, check_comment, behind_gap}
 use Rattle.saphyr_scanner.specs.Steps.Scalar.{goes_on_behind_quotes}
 use Rattle.saphyr_scanner.specs.Steps.State.{State}

@@ -6,7 +6,7 @@ use Rattle.saphyr_scalar.specs.declared.scalar.position.Marker.{Marker}
 use Rattle.saphyr_scalar.specs.Steps.BlockRead.{spaces}
 use Rattle.saphyr_scanner.specs.declared.engine.level.Context.TheVariants as context
 use Rattle.saphyr_scanner.specs.Steps.Queue.{Place}
-use Rattle.saphyr_scanner.specs.Steps.Core.{Candidate}
+use Rattle.saphyr_scanner.specs.Steps.Level.{Candidate}
 use Rattle.saphyr_scanner.specs.Steps.State.{State}
 use Rattle.saphyr_scanner.specs.Grammar.Forest.{Node, Alias, Scalar, Seq, Map}
 use Rattle.saphyr_scanner.specs.Grammar.FlowNodes.{IsOnLine, IsKeyText, IsBeforeColon, IsFlowNode}

@@ -10,7 +10,8 @@ use Rattle.saphyr_scanner.specs.declared.engine.level.Context.TheVariants as con
 use Rattle.saphyr_scanner.specs.Grammar.Tokens as tokens
 use Rattle.saphyr_scanner.specs.Grammar.Tokens.{Kind}
 use Rattle.saphyr_scanner.specs.Steps.Queue.{Place, closed}
-use Rattle.saphyr_scanner.specs.Steps.Core.{Candidate, Level, Core, go_deeper, is_block, from_to, up_to_here, went, remove_key}
+use Rattle.saphyr_scanner.specs.Steps.Core.{Core, go_deeper, from_to, up_to_here, went, remove_key}
+use Rattle.saphyr_scanner.specs.Steps.Level.{Candidate, Level, is_block}
 use Rattle.saphyr_scanner.specs.Steps.Passing.{with_cursor}
 use Rattle.saphyr_scanner.specs.Steps.Flow as flow
 use Rattle.saphyr_scanner.specs.Steps.Flow.{open_collection, close_collection, next_flow_entry, allow_adjacent, behind_pair}

@@ -13,7 +13,8 @@ use Rattle.saphyr_scanner.specs.Grammar.Tokens as tokens
 use Rattle.saphyr_scanner.specs.Grammar.Tokens.{Kind}
 use Rattle.saphyr_scanner.specs.Views.Tokens.{Piece}
 use Rattle.saphyr_scanner.specs.Steps.Queue.{Place, closed, opened, empty_piece}
-use Rattle.saphyr_scanner.specs.Steps.Core.{Candidate, is_block, Level, Core, Put, Open, Steps, at_mark, went, perform}
+use Rattle.saphyr_scanner.specs.Steps.Core.{Core, Put, Open, Steps, at_mark, went, perform}
+use Rattle.saphyr_scanner.specs.Steps.Level.{Candidate, is_block, Level}
 use Rattle.saphyr_scanner.specs.Steps.Passing.{with_cursor}
 use Rattle.saphyr_scanner.specs.Steps.Value as value
 use Rattle.saphyr_scanner.specs.Steps.Value.{check_tab, refuse_lone_tab, of_key, behind_key}

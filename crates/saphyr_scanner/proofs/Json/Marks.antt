@@ -13,7 +13,8 @@ use Rattle.saphyr_scanner.specs.declared.engine.level.Context.TheVariants as con
 use Rattle.saphyr_scanner.specs.Grammar.Tokens.{Kind}
 use Rattle.saphyr_scanner.specs.Views.Tokens.{Piece}
 use Rattle.saphyr_scanner.specs.Steps.Queue.{Place}
-use Rattle.saphyr_scanner.specs.Steps.Core.{Candidate, Level, save_key, go_deeper}
+use Rattle.saphyr_scanner.specs.Steps.Core.{save_key, go_deeper}
+use Rattle.saphyr_scanner.specs.Steps.Level.{Candidate, Level}
 use Rattle.saphyr_scanner.specs.Steps.State.{State}
 use Rattle.saphyr_scanner.proofs.Leads.{Leads, stay, onward, flat}
 use Rattle.saphyr_scanner.proofs.Json.Gaps.{line_first, white_separated}

@@ -10,7 +10,8 @@ use Rattle.saphyr_scanner.specs.declared.engine.level.Context.{Context}
 use Rattle.saphyr_scanner.specs.declared.engine.level.Context.TheVariants as context
 use Rattle.saphyr_scanner.specs.Steps.Gap.{Passed, stop}
 use Rattle.saphyr_scanner.specs.Steps.Queue.{Place, Queue}
-use Rattle.saphyr_scanner.specs.Steps.Core.{Candidate, Level, Core, Action, perform, went, is_block, is_too_far, drop_far_key}
+use Rattle.saphyr_scanner.specs.Steps.Core.{Core, Action, perform, went, is_too_far, drop_far_key}
+use Rattle.saphyr_scanner.specs.Steps.Level.{Candidate, Level, is_block}
 use Rattle.saphyr_scanner.specs.Steps.Passing.{pass_gap, check_comment, behind_gap}
 use Rattle.saphyr_scanner.specs.Steps.State.{State, carried, acted}
 use Rattle.saphyr_scanner.specs.Steps.Unrolling.{unroll}

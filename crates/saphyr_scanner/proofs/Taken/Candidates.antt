@@ -1,7 +1,8 @@
 -- A token that may be a key is the next one when it is saved: no candidate for an earlier place appears later.
 use Rattle.std.proofs.Common.{ℕ, ◌≤◌, List, [], ◌∷◌}
 use Rattle.std.specs.Prelude.{Option, Some, None}
-use Rattle.saphyr_scanner.specs.Steps.Core.{Candidate, Level, Core, Action, Put, Open, Step}
+use Rattle.saphyr_scanner.specs.Steps.Core.{Core, Action, Put, Open, Step}
+use Rattle.saphyr_scanner.specs.Steps.Level.{Candidate, Level}
 
 abbrev pub KeyAbove : ℕ → Option Candidate → Type 0
 KeyAbove h None = Unit {0}

@@ -11,7 +11,8 @@ use Rattle.saphyr_scalar.specs.Views.Cursor.{Cursor, fresh}
 use Rattle.saphyr_scanner.specs.Grammar.Tokens as tokens
 use Rattle.saphyr_scanner.specs.Views.Tokens.{Piece}
 use Rattle.saphyr_scanner.specs.Steps.Queue.{Place, Queue, closed, put, next, empty_piece}
-use Rattle.saphyr_scanner.specs.Steps.Core.{Candidate, Level, Core, Step, perform, in_block, is_block, is_too_far}
+use Rattle.saphyr_scanner.specs.Steps.Core.{Core, Step, perform, in_block, is_too_far}
+use Rattle.saphyr_scanner.specs.Steps.Level.{Candidate, Level, is_block}
 use Rattle.saphyr_scanner.specs.Steps.Passing.{with_cursor}
 use Rattle.saphyr_scanner.specs.Steps.Scalar as scalar
 use Rattle.saphyr_scanner.specs.Steps.State.{State, with_core}

@@ -8,11 +8,10 @@ use Rattle.saphyr_scalar.specs.declared.scalar.position.Marker.{Marker}
 use Rattle.saphyr_scalar.specs.declared.scalar.fault.Refusal.{Refusal}
 use Rattle.saphyr_scalar.specs.declared.scalar.fault.FaultText.TheVariants as fault
 use Rattle.saphyr_scalar.specs.Views.Cursor.{◌>>=◌, refuse}
-use Rattle.saphyr_scanner.specs.declared.engine.level.Context.{Context}
-use Rattle.saphyr_scanner.specs.declared.engine.level.Context.TheVariants as context
 use Rattle.saphyr_scanner.specs.Steps.Gap.{spaces_at}
 use Rattle.saphyr_scanner.specs.Grammar.Tokens as tokens
 use Rattle.saphyr_scanner.specs.Grammar.Tokens.{Kind}
+use Rattle.saphyr_scanner.specs.Steps.Level.{behind_question}
 use Rattle.saphyr_scanner.specs.Steps.Core.{Core, Action, Steps, went, at_mark, up_to_here, in_block, remove_key, with_context, go_deeper, is_further, roll}
 use Rattle.saphyr_scanner.specs.Steps.Passing.{separate, pass_on, with_cursor}
 
@@ -50,12 +49,6 @@ entry c =
     if not (in_block c) then refuse fault.DashInsideFlow c.cursor.mark
     else if not c.key_allowed then refuse fault.SequenceEntryNotAllowed c.cursor.mark
     else next_entry c
-
--- what is open behind `?`
-abbrev pub behind_question : Context → Context
-behind_question context.FlowSequence = context.ExplicitFlowPair
-behind_question context.FlowPair = context.MarkedFlowPair
-behind_question x = x
 
 -- Something has to stand behind `?`, and no tab before its content.
 unfoldable pub behind_mark : Bool → Core → Result Core Refusal

@@ -1,5 +1,5 @@
 -- The next token of a text.
-use Rattle.std.specs.Prelude.{ℕ, zero, suc, ◌+◌, Bool, true, false, ◌||◌, ◌&&◌, ◌==◌, not, nat_lt, nat_le, List, [], ◌∷◌, length, slice_index, Option, Some, None, Result, Ok, if◌then◌else◌}
+use Rattle.std.specs.Prelude.{ℕ, zero, suc, ◌+◌, Bool, true, false, ◌||◌, ◌&&◌, ◌==◌, not, nat_lt, nat_le, List, [], ◌∷◌, length, slice_index, Option, Some, Result, Ok, if◌then◌else◌}
 use Rattle.saphyr_input.specs.Classes.{is_z, is_bom, is_flow, is_blank_or_breakz}
 use Rattle.saphyr_input.specs.Places.{is_document_start, is_document_end}
 use Rattle.saphyr_input.specs.Indicators.{ampersand, apostrophe, asterisk, at_sign, colon, comma, exclamation_mark, grave_accent, greater_than, hyphen, left_brace, left_bracket, percent_sign, question_mark, quotation_mark, right_brace, right_bracket, vertical_bar}
@@ -10,8 +10,9 @@ use Rattle.saphyr_scanner.specs.declared.engine.level.Context.TheVariants as con
 use Rattle.saphyr_scanner.specs.Grammar.Tokens as tokens
 use Rattle.saphyr_scanner.specs.Views.Tokens.{Piece}
 use Rattle.saphyr_scanner.specs.Steps.Queue as queue
-use Rattle.saphyr_scanner.specs.Steps.Queue.{Queue, next}
-use Rattle.saphyr_scanner.specs.Steps.Core.{Candidate, Level, Core, Steps, at_mark, in_block, is_too_far, least_column, drop_far_key}
+use Rattle.saphyr_scanner.specs.Steps.Queue.{next}
+use Rattle.saphyr_scanner.specs.Steps.Core.{Core, Steps, at_mark, in_block, is_too_far, least_column, drop_far_key}
+use Rattle.saphyr_scanner.specs.Steps.Level.{Level, holds}
 use Rattle.saphyr_scanner.specs.Steps.Passing.{pass_gap}
 use Rattle.saphyr_scanner.specs.Steps.State.{State, with_core, with_action, carried, acted}
 use Rattle.saphyr_scanner.specs.Steps.Unrolling.{unroll}
@@ -94,14 +95,6 @@ unfoldable pub fetch_within : ℕ → State → Result State Refusal
 fetch_within limit s = fetch s >>= within limit
 
 -- ## A token at the head of the queue
-
-abbrev pub is_place : ℕ → Option Candidate → Bool
-is_place place None = false
-is_place place (Some k) = k.place == place
-
--- the token at a place may be a key of the level
-abbrev pub holds : ℕ → Level → Bool
-holds place l = is_place place l.key
 
 abbrev pub any_holds : ℕ → List Level → Bool
 any_holds place [] = false

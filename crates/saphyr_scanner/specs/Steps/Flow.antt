@@ -4,23 +4,11 @@ use Rattle.saphyr_scalar.specs.declared.scalar.position.Marker.{Marker}
 use Rattle.saphyr_scalar.specs.declared.scalar.fault.FaultText.TheVariants as fault
 use Rattle.saphyr_scalar.specs.Views.Cursor.{◌>>=◌, refuse}
 use Rattle.saphyr_scanner.specs.declared.engine.level.Context.{Context}
-use Rattle.saphyr_scanner.specs.declared.engine.level.Context.TheVariants as context
 use Rattle.saphyr_scanner.specs.Grammar.Tokens as tokens
 use Rattle.saphyr_scanner.specs.Grammar.Tokens.{Kind}
-use Rattle.saphyr_scanner.specs.Steps.Core.{Level, Core, Action, Steps, went, at_root, at_mark, up_to_here, in_block, save_key, remove_key, with_context, go_deeper}
+use Rattle.saphyr_scanner.specs.Steps.Core.{Core, Action, Steps, went, at_mark, up_to_here, in_block, save_key, remove_key, with_context, go_deeper}
+use Rattle.saphyr_scanner.specs.Steps.Level.{Level, at_root, ends_pair, behind_entry}
 use Rattle.saphyr_scanner.specs.Steps.Passing.{separate, pass_on}
-
--- whether a pair is open that ends with its entry
-abbrev pub ends_pair : Context → Bool
-ends_pair context.FlowPair = true
-ends_pair context.MarkedFlowPair = true
-ends_pair _ = false
-
--- what is open behind a comma
-abbrev pub behind_entry : Context → Context
-behind_entry context.Block = context.Block
-behind_entry context.FlowMapping = context.FlowMapping
-behind_entry _ = context.FlowSequence
 
 -- a flow collection is open
 abbrev pub enter : Context → Core → Core

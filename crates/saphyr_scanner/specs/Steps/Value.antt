@@ -1,5 +1,5 @@
 -- The colon between a key and its value (YAML 1.2.2, 7.4.2 and 8.2.2).
-use Rattle.std.specs.Prelude.{ℕ, Bool, true, false, ◌||◌, ◌&&◌, ◌==◌, not, nat_lt, List, [], ◌∷◌, ◌++◌, Option, Some, None, Result, Ok, slice_index, if◌then◌else◌}
+use Rattle.std.specs.Prelude.{ℕ, Bool, false, ◌||◌, ◌&&◌, ◌==◌, not, nat_lt, List, [], ◌∷◌, ◌++◌, Option, Some, None, Result, Ok, slice_index, if◌then◌else◌}
 use Rattle.saphyr_input.specs.Classes.{is_alpha, tab}
 use Rattle.saphyr_input.specs.declared.input.SkipTabs.{SkipTabs}
 use Rattle.saphyr_input.specs.Separation.{has_valid_yaml_ws}
@@ -8,24 +8,12 @@ use Rattle.saphyr_scalar.specs.declared.scalar.position.Marker.{Marker}
 use Rattle.saphyr_scalar.specs.declared.scalar.fault.Refusal.{Refusal}
 use Rattle.saphyr_scalar.specs.declared.scalar.fault.FaultText.TheVariants as fault
 use Rattle.saphyr_scalar.specs.Views.Cursor.{◌>>=◌, refuse}
-use Rattle.saphyr_scanner.specs.declared.engine.level.Context.{Context}
-use Rattle.saphyr_scanner.specs.declared.engine.level.Context.TheVariants as context
 use Rattle.saphyr_scanner.specs.declared.queue.Opening.{Opening}
 use Rattle.saphyr_scanner.specs.declared.queue.Opening.TheVariants as opening
 use Rattle.saphyr_scanner.specs.Grammar.Tokens as tokens
-use Rattle.saphyr_scanner.specs.Steps.Core.{Candidate, Core, Action, Open, Steps, went, at_mark, in_block, forget_key, with_context, go_deeper, is_further, roll}
+use Rattle.saphyr_scanner.specs.Steps.Core.{Core, Action, Open, Steps, went, at_mark, in_block, forget_key, with_context, go_deeper, is_further, roll}
+use Rattle.saphyr_scanner.specs.Steps.Level.{Candidate, begins_pair, behind_colon}
 use Rattle.saphyr_scanner.specs.Steps.Passing.{separate, pass_on}
-
--- whether a colon begins a pair that has no bracket of its own
-abbrev pub begins_pair : Context → Bool
-begins_pair context.FlowSequence = true
-begins_pair context.FlowPair = true
-begins_pair _ = false
-
--- what is open behind a colon
-abbrev pub behind_colon : Context → Context
-behind_colon context.FlowSequence = context.FlowPair
-behind_colon x = x
 
 -- Outside flow a tab alone does not part a colon from a word.
 abbrev pub refuse_lone_tab : SkipTabs × Core → Result Core Refusal

@@ -8,7 +8,8 @@ use Rattle.saphyr_scanner.specs.declared.engine.Engine.{Engine}
 use Rattle.saphyr_scanner.specs.declared.engine.level.Candidate as declared_candidate
 use Rattle.saphyr_scanner.specs.declared.engine.level.Level as declared_level
 use Rattle.saphyr_scanner.specs.Views.Queue.{queue}
-use Rattle.saphyr_scanner.specs.Steps.Core.{Candidate, Level, Core, Steps}
+use Rattle.saphyr_scanner.specs.Steps.Core.{Core, Steps}
+use Rattle.saphyr_scanner.specs.Steps.Level.{Candidate, Level}
 use Rattle.saphyr_scanner.specs.Steps.State.{State, acted, carried}
 
 abbrev pub candidate : declared_candidate.Candidate → Candidate

@@ -4,27 +4,13 @@
 ghost use Rattle.std.specs.Prelude.{◌≡◌, ◌<◌, Ok, length, slice_index, option_map};
 ghost use Rattle.saphyr_scanner.specs.Steps.Fetch as fetch;
 
-use crate::engine::{Context, Engine, Level};
+use crate::engine::{Context, Engine};
 use crate::law::takes_characters_off;
 use crate::token::{Token, TokenType};
 use saphyr_input::char_traits::{is_blank_or_breakz, is_bom, is_flow, is_z};
 use saphyr_input::input::Input;
 use saphyr_scalar::{FaultText, Stop};
 use scalar_values::BlockStyle;
-
-impl Level {
-    ghost use Rattle.saphyr_scanner.specs.Views.Engine.{level};
-
-    // Whether the token at a place may be a key.
-    fn holds(&self, place: usize) -> bool
-        ensures { result ≡ fetch.holds place (level self.now) }
-    {
-        match self.key {
-            None => false,
-            Some(key) => key.place == place,
-        }
-    }
-}
 
 impl<T: Input> Engine<T> {
     ghost use Rattle.saphyr_scalar.specs.Views.Reader.{Moves};

@@ -12,35 +12,6 @@ use saphyr_scalar::{FaultText, Stop};
 // How many flow collections may be open at once.
 const MOST_OPEN: usize = 255;
 
-impl Context {
-    // Whether a pair is open that ends with its entry.
-    fn ends_pair(self) -> bool
-        ensures { result ≡ flow.ends_pair self }
-    {
-        match self {
-            Context::FlowPair | Context::MarkedFlowPair => true,
-            Context::Block
-            | Context::FlowMapping
-            | Context::FlowSequence
-            | Context::ExplicitFlowPair => false,
-        }
-    }
-
-    // What is open behind a comma.
-    fn behind_entry(self) -> Context
-        ensures { result ≡ flow.behind_entry self }
-    {
-        match self {
-            Context::Block => Context::Block,
-            Context::FlowMapping => Context::FlowMapping,
-            Context::FlowSequence
-            | Context::FlowPair
-            | Context::ExplicitFlowPair
-            | Context::MarkedFlowPair => Context::FlowSequence,
-        }
-    }
-}
-
 impl<T: Input> Engine<T> {
     ghost use Rattle.saphyr_scanner.specs.Views.Engine.{state, ActsBy, CarriesBy};
     ghost use Rattle.saphyr_scanner.specs.Steps.Queue.{next};

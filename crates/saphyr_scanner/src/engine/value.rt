@@ -4,37 +4,12 @@
 ghost use Rattle.std.specs.Prelude.{◌≡◌, Ok, ◌+◌, ◌<◌, ◌^◌, length};
 ghost use Rattle.saphyr_scanner.specs.Steps.Value as value;
 
-use crate::engine::{Candidate, Context, Engine};
+use crate::engine::{Candidate, Engine};
 use crate::queue::Opening;
 use crate::token::TokenType;
 use saphyr_input::char_traits::is_alpha;
 use saphyr_input::input::Input;
 use saphyr_scalar::{FaultText, Marker, Stop};
-
-impl Context {
-    // Whether a colon begins a pair that has no bracket of its own.
-    fn begins_pair(self) -> bool
-        ensures { result ≡ value.begins_pair self }
-    {
-        match self {
-            Context::FlowSequence | Context::FlowPair => true,
-            Context::Block
-            | Context::FlowMapping
-            | Context::ExplicitFlowPair
-            | Context::MarkedFlowPair => false,
-        }
-    }
-
-    // What is open behind a colon.
-    fn behind_colon(self) -> Context
-        ensures { result ≡ value.behind_colon self }
-    {
-        match self {
-            Context::FlowSequence => Context::FlowPair,
-            other => other,
-        }
-    }
-}
 
 impl<T: Input> Engine<T> {
     ghost use Rattle.saphyr_scanner.specs.Views.Engine.{state, candidate, ActsBy, CarriesBy};

@@ -6,7 +6,8 @@ use Rattle.saphyr_input.specs.Classes.{is_blank, is_break, is_yaml_non_break, li
 use Rattle.saphyr_input.specs.Places.{is_document_start}
 use Rattle.saphyr_scalar.specs.declared.scalar.position.Marker.{Marker}
 use Rattle.saphyr_scalar.specs.Views.Cursor.{◌>>=◌, along, next_line}
-use Rattle.saphyr_scanner.specs.Steps.Core.{Candidate, is_too_far}
+use Rattle.saphyr_scanner.specs.Steps.Core.{is_too_far}
+use Rattle.saphyr_scanner.specs.Steps.Level.{Candidate}
 use Rattle.saphyr_scanner.specs.Steps.Queue.{Place}
 use Rattle.saphyr_scanner.specs.Steps.State.{State}
 use Rattle.saphyr_scanner.specs.Steps.Fetch.{fetch, fetch_here}
