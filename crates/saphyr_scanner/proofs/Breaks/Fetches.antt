@@ -9,6 +9,7 @@ use Rattle.saphyr_scalar.specs.declared.scalar.fault.Refusal.{Refusal}
 use Rattle.saphyr_scalar.specs.Views.Cursor.{Cursor, ◌>>=◌}
 use Rattle.saphyr_scanner.specs.declared.engine.level.Context.TheVariants as context
 use Rattle.saphyr_scanner.specs.Grammar.Tokens as tokens
+use Rattle.saphyr_scanner.specs.Steps.Level.{ends_pair}
 use Rattle.saphyr_scanner.specs.Steps.Core.{Core, in_block, least_column, drop_far_key, at_mark}
 use Rattle.saphyr_scanner.specs.Steps.Fetch.{step, is_value_adjacent, state_behind_content, fetch_here, arrive, fetch, within, fetch_within, without_far_key}
 use Rattle.saphyr_scanner.specs.Steps.Passing.{pass_gap}
@@ -43,7 +44,7 @@ step_same text first second other n c x laws t ink f blank is_flow_too opens =
     (record {
       sequence = λ _. start_same text context.FlowSequence tokens.FlowSequenceStart n c x laws t ink;
       mapping = λ _. start_same text context.FlowMapping tokens.FlowMappingStart n c x laws t ink;
-      sequence_end = λ _. end_same text true tokens.FlowSequenceEnd c x laws t ink;
+      sequence_end = λ _. end_same text (ends_pair c.level.context) tokens.FlowSequenceEnd c x laws t ink;
       mapping_end = λ _. end_same text false tokens.FlowMappingEnd c x laws t ink;
       comma = λ _. entry_same text c x laws t ink;
       dash = λ _ _. block_entry_same text c x laws t ink;
@@ -52,8 +53,8 @@ step_same text first second other n c x laws t ink f blank is_flow_too opens =
       beside = λ _ _. flow_value_same text second other c x laws t ink opens;
       double = λ e. double_same text n c x laws t (f ∙ e);
       single = λ e. single_same text n c x laws t (f ∙ e);
-      alias = λ _. name_same text true n c x laws t ink;
-      anchor = λ _. name_same text false n c x laws t ink;
+      alias = λ _. name_same text tokens.Alias n c x laws t ink;
+      anchor = λ _. name_same text tokens.Anchor n c x laws t ink;
       tag = λ e. tag_same text n c x laws t (f ∙ e);
       literal = λ e _. block_same text block_style.Literal n c x laws t (f ∙ e);
       folded = λ e _. block_same text block_style.Folded n c x laws t (f ∙ e);

@@ -88,14 +88,13 @@ close_same text ends kind c x laws t ink =
           (reindexed y.at d.cursor.mark),
     ))
 
-pub end_same : (text : List ℕ) (is_sequence : Bool) (kind : Kind) (c : Core) (x : Indexes) → Laws text
+pub end_same : (text : List ℕ) (ends : Bool) (kind : Kind) (c : Core) (x : Indexes) → Laws text
     → Twin text c x → Inked c.cursor.rest
-    → GiveAlike (SameSteps text) (flow.closing_steps is_sequence kind c)
-    (flow.closing_steps is_sequence kind (near_core x c))
+    → GiveAlike (SameSteps text) (flow.closing_steps ends kind c) (flow.closing_steps ends kind (near_core x c))
 unfolding flow.closing_steps
-end_same text is_sequence kind c x laws t ink =
+end_same text ends kind c x laws t ink =
     both_choose (SameSteps text) (in_block c) (in_block c) _ _ _ _ refl (λ _. refl)
-    (λ _. close_same text (is_sequence && ends_pair c.level.context) kind c x laws t ink)
+    (λ _. close_same text ends kind c x laws t ink)
 
 pub entry_same : (text : List ℕ) (c : Core) (x : Indexes) → Laws text → Twin text c x → Inked c.cursor.rest
     → GiveAlike (SameSteps text) (flow.flow_entry_steps c) (flow.flow_entry_steps (near_core x c))

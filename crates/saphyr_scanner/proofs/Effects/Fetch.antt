@@ -11,6 +11,7 @@ use Rattle.saphyr_scanner.specs.declared.engine.level.Context.TheVariants as con
 use Rattle.saphyr_scanner.specs.Grammar.Tokens as tokens
 use Rattle.saphyr_scanner.specs.Views.Tokens.{Piece}
 use Rattle.saphyr_scanner.specs.Steps.Queue.{Place, empty_piece, closed, next}
+use Rattle.saphyr_scanner.specs.Steps.Level.{ends_pair}
 use Rattle.saphyr_scanner.specs.Steps.Core.{Core, Steps, least_column, drop_far_key}
 use Rattle.saphyr_scanner.specs.Steps.Passing.{pass_gap}
 use Rattle.saphyr_scanner.specs.Steps.State.{State, carried}
@@ -53,7 +54,7 @@ step_does first second n c h f g =
           refl n c (f ∙ e));
       mapping = λ e. does _ (start_does 123 tokens.FlowMappingStart context.FlowMapping open_mapping mapping_starts refl
           n c (f ∙ e));
-      sequence_end = λ e. still _ (end_does 93 tokens.FlowSequenceEnd close_sequence true c (f ∙ e));
+      sequence_end = λ e. still _ (end_does 93 tokens.FlowSequenceEnd close_sequence (ends_pair c.level.context) c (f ∙ e));
       mapping_end = λ e. still _ (end_does 125 tokens.FlowMappingEnd close_mapping false c (f ∙ e));
       comma = λ e. still _ (entry_does c (f ∙ e));
       dash = λ e b. still _ (block_entry_does c (f ∙ e) (ap is_blank_or_breakz g ∙ b));
@@ -62,8 +63,8 @@ step_does first second n c h f g =
       beside = λ e _. still _ (flow_value_does second c (f ∙ e));
       double = λ e. does _ (double_quoted_does n c (f ∙ e));
       single = λ e. does _ (single_quoted_does n c (f ∙ e));
-      alias = λ e. does _ (name_does true 42 an_alias n c h (f ∙ e));
-      anchor = λ e. does _ (name_does false 38 an_anchor n c h (f ∙ e));
+      alias = λ e. does _ (name_does tokens.Alias 42 an_alias n c h (f ∙ e));
+      anchor = λ e. does _ (name_does tokens.Anchor 38 an_anchor n c h (f ∙ e));
       tag = λ e. does _ (tag_does n c (f ∙ e));
       literal = λ e b. block_does block_style.Literal n c b h (f ∙ e);
       folded = λ e b. block_does block_style.Folded n c b h (f ∙ e);

@@ -139,11 +139,10 @@ adjacent_same c =
     by_test (in_block c) _ _ (λ (d : Core). Same c d × (d.cursor ≡ c.cursor)) (λ _. (same c, refl))
     (λ _. ((refl, refl, λ n. n), refl))
 
-pub end_does : (i : ℕ) (kind : Kind) → Bracket i kind → (sequence : Bool) (c : Core) → slice_index c.cursor.rest 0 ≡ i
-    → Walked (Premises c) (Doing None c) c.cursor (flow.closing_steps sequence kind c)
+pub end_does : (i : ℕ) (kind : Kind) → Bracket i kind → (ends : Bool) (c : Core) → slice_index c.cursor.rest 0 ≡ i
+    → Walked (Premises c) (Doing None c) c.cursor (flow.closing_steps ends kind c)
 unfolding flow.closing_steps flow.close_collection
-end_does i kind b sequence c first =
-    let ends = sequence && ends_pair c.level.context in
+end_does i kind b ends c first =
     by_test (in_block c) _ _ (Walked (Premises c) (Doing None c) c.cursor) (λ _ _. at_here c.cursor)
     (λ _. left c
     (λ d. Walked (Premises c) (Doing None c) c.cursor

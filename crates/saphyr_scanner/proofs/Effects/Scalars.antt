@@ -268,15 +268,15 @@ token_read c kind u less ahead is = record {
   token = λ laws. (u, is laws, taken.nothing u.mark u.rest);
 }
 
-pub record Named (is_alias : Bool) (x : ℕ) : Type 0 where
-  pub no_end : (name : List ℕ) → IsNoEnd (property.name_token is_alias name)
-  pub quiet : (name : List ℕ) → is_quiet (property.name_token is_alias name) ≡ true
+pub record Named (token_of : List ℕ → Kind) (x : ℕ) : Type 0 where
+  pub no_end : (name : List ℕ) → IsNoEnd (token_of name)
+  pub quiet : (name : List ℕ) → is_quiet (token_of name) ≡ true
   pub is : (i : ℕ) (name : List ℕ) (span : Span) (s t : Cursor) → taken.IsNameToken x name span s t
-      → IsToken i (property.name_token is_alias name) span s t
-  pub of : (i : ℕ) (name : List ℕ) (span : Span) (s t : Cursor) → IsToken i (property.name_token is_alias name) span s t
+      → IsToken i (token_of name) span s t
+  pub of : (i : ℕ) (name : List ℕ) (span : Span) (s t : Cursor) → IsToken i (token_of name) span s t
       → Starts span s
 
-pub an_alias : Named true 42
+pub an_alias : Named tokens.Alias 42
 an_alias = record {
   no_end = λ n i. absurd (cc);
   quiet = λ n. refl;
@@ -284,7 +284,7 @@ an_alias = record {
   of = λ i n p s t h. (h.3.start, ap (λ l. begins_text (slice_index l 0)) h.3.is);
 }
 
-pub an_anchor : Named false 38
+pub an_anchor : Named tokens.Anchor 38
 an_anchor = record {
   no_end = λ n i. absurd (cc);
   quiet = λ n. refl;
@@ -302,20 +302,20 @@ tag_begins text behind handle suffix (inr (inr h)) = ap (λ t. slice_index (t ++
     by (inl e) = ap (λ t. slice_index ((t ++ h.0) ++ behind) 0) e
     by (inr e) = ap (λ t. slice_index ((t ++ h.0) ++ behind) 0) e.2
 
-pub name_does : (is_alias : Bool) (x : ℕ) → Named is_alias x → (n : ℕ) (c : Core) → 0 < length c.cursor.rest
+pub name_does : (token_of : List ℕ → Kind) (x : ℕ) → Named token_of x → (n : ℕ) (c : Core) → 0 < length c.cursor.rest
     → slice_index c.cursor.rest 0 ≡ x
-    → Walked (Premises c) (Doing (Some n) c) c.cursor (property.name_steps is_alias n c)
+    → Walked (Premises c) (Doing (Some n) c) c.cursor (property.name_steps token_of n c)
 unfolding property.name_steps property.read_name
-name_does is_alias x named n c some f =
+name_does token_of x named n c some f =
     let here = c.cursor in
     let Q = Doing (Some n) c in
-    saving n c (λ d. Walked (Premises c) Q here (property.read_name is_alias (scalar.disallow_key d))) (λ l r s.
+    saving n c (λ d. Walked (Premises c) Q here (property.read_name token_of (scalar.disallow_key d))) (λ l r s.
     let d : Core = scalar.disallow_key (record c { level = l; required = r }) in
     walked_then (Premises c) _ Q here (anchors.anchor here) _
     (read_walked (Premises c) here (anchors.anchor here) (λ e q laws. here_at here e.mark (laws.0.name here e q)))
     (λ y e.
     let span : Span = record { start = here.mark; end = y.1.mark } in
-    let kind : Kind = property.name_token is_alias y.0 in
+    let kind : Kind = token_of y.0 in
     saved n c (with_cursor y.1 d) (record { span = span; kind = kind }) s refl (λ m. inl m) (named.quiet y.0)
     (named.no_end y.0) (λ i. named.of i y.0 span) refl
     (token_read c kind y.1 (λ laws. laws.name here y.1 y.0 some e) (λ laws. laws.name here y.1 y.0 some e) (λ laws.

@@ -15,7 +15,7 @@ use Rattle.saphyr_scanner.specs.Steps.Core.{Core, from_to, went}
 use Rattle.saphyr_scanner.specs.Steps.Level.{Candidate, Level, is_block}
 use Rattle.saphyr_scanner.specs.Steps.Passing.{with_cursor}
 use Rattle.saphyr_scanner.specs.Steps.Property as property
-use Rattle.saphyr_scanner.specs.Steps.Property.{name_token, read_name, read_tag}
+use Rattle.saphyr_scanner.specs.Steps.Property.{read_name, read_tag}
 use Rattle.saphyr_scanner.specs.Steps.Scalar.{disallow_key}
 use Rattle.saphyr_scanner.specs.Steps.Fetch.{step}
 use Rattle.saphyr_scanner.specs.Grammar.TagSpelling.{IsTag}
@@ -53,29 +53,29 @@ named_along m indicator name e h =
     let one : 1 + length name ≡ length (indicator ∷ name) = omega arith in
     ap (along m) one ∙ sym (unbroken_along m (indicator ∷ name) (e, name_no_break name h))
 
-pub name_step : Reads → (around : Around) (d : Bool) (is_alias : Bool) (n : ℕ) (m : Marker) (b : Bool) (indicator : ℕ)
+pub name_step : Reads → (around : Around) (d : Bool) (token_of : List ℕ → Kind) (n : ℕ) (m : Marker) (b : Bool) (indicator : ℕ)
     (name o : List ℕ) → is_break indicator ≡ false → IsAnchorName name → is_anchor_char (slice_index o 0) ≡ false
     → (x : Context) (k : Option Candidate) (ls : List Level) (a : Bool) (ad : ℕ) → Placed around x a m
-    → property.name_steps is_alias n (core_at around d (cursor_at (indicator ∷ (name ++ o)) m b) x k ls a ad)
-    ≡ went (from_to m (moved m (indicator ∷ name)) (name_token is_alias (encode_utf8_all name)) ∷ [])
+    → property.name_steps token_of n (core_at around d (cursor_at (indicator ∷ (name ++ o)) m b) x k ls a ad)
+    ≡ went (from_to m (moved m (indicator ∷ name)) (token_of (encode_utf8_all name)) ∷ [])
     (core_at around d (at (moved m (indicator ∷ name)) o) x (saved a n m k) ls false ad)
 unfolding property.name_steps read_name
-name_step reads around d is_alias n m b indicator name o e h ends x k ls a ad placed =
+name_step reads around d token_of n m b indicator name o e h ends x k ls a ad placed =
     let s = cursor_at (indicator ∷ (name ++ o)) m b in
     let c = core_at around d s x (saved a n m k) ls false ad in
-    let token = λ (y : List ℕ × Cursor). went (from_to m y.1.mark (name_token is_alias y.0) ∷ []) (with_cursor y.1 c) in
-    ap (λ (q : Core). read_name is_alias (disallow_key q)) (saves_key n around d s x k ls a ad placed)
+    let token = λ (y : List ℕ × Cursor). went (from_to m y.1.mark (token_of y.0) ∷ []) (with_cursor y.1 c) in
+    ap (λ (q : Core). read_name token_of (disallow_key q)) (saves_key n around d s x k ls a ad placed)
     ∙ ap (λ q. q >>= token) (reads.anchor s indicator name o refl h ends)
     ∙ ap (λ (end : Marker). token (encode_utf8_all name, at end o)) (named_along m indicator name e h)
 
-name_passes : Reads → (around : Around) (is_alias : Bool) (indicator : ℕ) (name o : List ℕ) (m : Marker)
-    → ((second n : ℕ) (c : Core) → step indicator second n c ≡ property.name_steps is_alias n c)
+name_passes : Reads → (around : Around) (token_of : List ℕ → Kind) (indicator : ℕ) (name o : List ℕ) (m : Marker)
+    → ((second n : ℕ) (c : Core) → step indicator second n c ≡ property.name_steps token_of n c)
     → Begins (indicator ∷ name) → is_break indicator ≡ false → IsAnchorName name
     → is_anchor_char (slice_index o 0) ≡ false → Fits around m (indicator ∷ name) o
     → (now : FlowMoment) → StandsBefore around now m ((indicator ∷ name) ++ o) → PassesToken around
-    (closes_key now.adjacent) now m (indicator ∷ name) o (name_token is_alias (encode_utf8_all name))
-name_passes reads around is_alias indicator name o m begins first break h ends fits now text =
-    let kind = name_token is_alias (encode_utf8_all name) in
+    (closes_key now.adjacent) now m (indicator ∷ name) o (token_of (encode_utf8_all name))
+name_passes reads around token_of indicator name o m begins first break h ends fits now text =
+    let kind = token_of (encode_utf8_all name) in
     let end = moved m (indicator ∷ name) in
     token_passes around (closes_key now.adjacent) kind (indicator ∷ name) o m first fits
     (unbroken_right around.indent m (indicator ∷ name) (break, name_no_break name h) fits.right) now text
@@ -88,18 +88,18 @@ name_passes reads around is_alias indicator name o m begins first break h ends f
       deepens = as_before around;
       is = λ d. begins (slice_index (name ++ o) 0) (length now.places)
           (core_at around d (cursor_at (indicator ∷ (name ++ o)) m b) now.context j now.outer e now.adjacent)
-          ∙ name_step reads around d is_alias (length now.places) m b indicator name o break h ends now.context j
+          ∙ name_step reads around d token_of (length now.places) m b indicator name o break h ends now.context j
           now.outer e now.adjacent (placed_right now.context e fits.calm fits.right);
       fits = refl;
       fresh = λ _ e. e;
       tells = (refl, refl);
     })
 
-pub begins_anchor : (second n : ℕ) (c : Core) → step 38 second n c ≡ property.name_steps false n c
+pub begins_anchor : (second n : ℕ) (c : Core) → step 38 second n c ≡ property.anchor_steps n c
 unfolding step
 begins_anchor second n c = refl
 
-pub begins_alias : (second n : ℕ) (c : Core) → step 42 second n c ≡ property.name_steps true n c
+pub begins_alias : (second n : ℕ) (c : Core) → step 42 second n c ≡ property.alias_steps n c
 unfolding step
 begins_alias second n c = refl
 
@@ -133,7 +133,7 @@ pub anchor_passes : Reads → (around : Around) (name t o : List ℕ) (m : Marke
 anchor_passes reads around name t o m h ends fits now text =
     subst (λ (p : List ℕ). Fits around m p o → StandsBefore around now m (p ++ o)
     → PassesToken around (closes_key now.adjacent) now m p o (anchor_token name))
-    (sym h.1) (λ f e. name_passes reads around false 38 name o m begins_anchor (anchor_first name) refl h.0 ends f now
+    (sym h.1) (λ f e. name_passes reads around tokens.Anchor 38 name o m begins_anchor (anchor_first name) refl h.0 ends f now
     e) fits text
 
 pub alias_token_passes : Reads → (around : Around) (name t o : List ℕ) (m : Marker) → IsAlias name t
@@ -142,7 +142,7 @@ pub alias_token_passes : Reads → (around : Around) (name t o : List ℕ) (m : 
 alias_token_passes reads around name t o m h ends fits now text =
     subst (λ (p : List ℕ). Fits around m p o → StandsBefore around now m (p ++ o)
     → PassesToken around (closes_key now.adjacent) now m p o (alias_token name))
-    (sym h.1) (λ f e. name_passes reads around true 42 name o m begins_alias (alias_first name) refl h.0 ends f now e)
+    (sym h.1) (λ f e. name_passes reads around tokens.Alias 42 name o m begins_alias (alias_first name) refl h.0 ends f now e)
     fits text
 
 -- ## Tags

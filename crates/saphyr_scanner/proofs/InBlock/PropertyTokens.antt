@@ -142,17 +142,17 @@ fits_index m t o h = let below =
 
 anchor_step : Reads → (f : Frame) (m : Marker) (name o : List ℕ) (blank : Bool) (key : Option Candidate) (a : Bool)
     (ad : ℕ) (deeper : Bool) (i : ℕ) → f.indent ≤ m.col → IsAnchorName name → is_anchor_char (slice_index o 0) ≡ false
-    → property.name_steps false i (core_of f (moment_at m (38 ∷ (name ++ o)) blank key a ad deeper))
+    → property.anchor_steps i (core_of f (moment_at m (38 ∷ (name ++ o)) blank key a ad deeper))
     ≡ went (from_to m (moved m (38 ∷ name)) (anchor_token name) ∷ [])
     (core_of f (moment_at (moved m (38 ∷ name)) o false (saved a i m key) false ad deeper))
 unfolding property.name_steps property.read_name
 anchor_step reads f m name o blank key a ad deeper i low h ends =
     let y = 38 ∷ (name ++ o) in
     let c = core_of f (moment_at m y blank (saved a i m key) false ad deeper) in
-    let token = λ (x : List ℕ × Cursor). went (from_to m x.1.mark (property.name_token false x.0) ∷ [])
+    let token = λ (x : List ℕ × Cursor). went (from_to m x.1.mark (kind.Anchor x.0) ∷ [])
     (with_cursor x.1 c) in
     let one : 1 + length name ≡ length (38 ∷ name) = omega arith in
-    ap (λ (d : Core). property.read_name false (disallow_key d)) (saves f m y blank key a ad deeper i low)
+    ap (λ (d : Core). property.read_name kind.Anchor (disallow_key d)) (saves f m y blank key a ad deeper i low)
     ∙ ap (λ q. q >>= token) (reads.anchor (cursor_at y m blank) 38 name o refl h ends)
     ∙ ap (λ (end : Marker). token (encode_utf8_all name, at end o))
     (ap (along m) one ∙ sym (unbroken_along m (38 ∷ name) (refl, name_no_break name h)))

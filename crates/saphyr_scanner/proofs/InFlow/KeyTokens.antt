@@ -17,7 +17,6 @@ use Rattle.saphyr_scanner.specs.Steps.Queue.{Place, closed}
 use Rattle.saphyr_scanner.specs.Steps.Core.{Core}
 use Rattle.saphyr_scanner.specs.Steps.Level.{Candidate}
 use Rattle.saphyr_scanner.specs.Steps.Property as property
-use Rattle.saphyr_scanner.specs.Steps.Property.{name_token}
 use Rattle.saphyr_scanner.specs.Steps.State.{State}
 use Rattle.saphyr_scanner.specs.Steps.Fetch.{step}
 use Rattle.saphyr_scanner.specs.Grammar.Forest.{Tag}
@@ -209,22 +208,22 @@ ends_there {around} {start} {k} {qs} e c cs b behind w y ad kind deeper h is are
       low = omega (arith, one, two, low);
     }
 
-pub name_along : Reads → (around : Around) (start : State) (k : Candidate) (qs : List Place) (is_alias : Bool)
+pub name_along : Reads → (around : Around) (start : State) (k : Candidate) (qs : List Place) (token_of : List ℕ → Kind)
     (indicator : ℕ) (name b behind w y : List ℕ) (e : Marker) (ad : ℕ)
-    → ((second n : ℕ) (c : Core) → step indicator second n c ≡ property.name_steps is_alias n c)
+    → ((second n : ℕ) (c : Core) → step indicator second n c ≡ property.name_steps token_of n c)
     → is_break indicator ≡ false
     → IsAnchorName name → is_anchor_char (slice_index (b ++ behind) 0) ≡ false
     → InKey around k e ((indicator ∷ name) ++ b) behind → b ++ behind ≡ w ++ y → AreIn is_blank w → ad ≤ e.index
     → Ready around start k ((indicator ∷ name) ++ (b ++ behind)) e ad qs
-    → Along around start k qs (moved (moved e (indicator ∷ name)) w) y (name_token is_alias (encode_utf8_all name) ∷ [])
-name_along reads around start k qs is_alias indicator name b behind w y e ad begins break h ends text is are low r =
+    → Along around start k qs (moved (moved e (indicator ∷ name)) w) y (token_of (encode_utf8_all name) ∷ [])
+name_along reads around start k qs token_of indicator name b behind w y e ad begins break h ends text is are low r =
     let o = b ++ behind in
     let end = moved e (indicator ∷ name) in
-    let kind = name_token is_alias (encode_utf8_all name) in
+    let kind = token_of (encode_utf8_all name) in
     let inside = in_back k e (indicator ∷ name) b behind text in
     let stepped = begins (slice_index (name ++ o) 0) (length qs)
     (core_at around r.deeper (cursor_at (indicator ∷ (name ++ o)) e r.blank) context.Block (Some k) [] false ad)
-    ∙ name_step reads around r.deeper is_alias (length qs) e r.blank indicator name o break h ends context.Block
+    ∙ name_step reads around r.deeper token_of (length qs) e r.blank indicator name o break h ends context.Block
     (Some k) [] false ad (behind_key refl refl) in
     ends_there e indicator name b behind w y ad kind r.deeper text is are low
     (token_led around start k ((indicator ∷ name) ++ o) e ad qs r end kind (at end o) ad (λ d. d) stepped
@@ -239,7 +238,7 @@ pub anchor_along : Reads
 anchor_along reads around start k qs name t b behind w y e ad h ends text is are low r =
     subst (λ (p : List ℕ). InKey around k e (p ++ b) behind → Ready around start k (p ++ (b ++ behind)) e ad qs
     → Along around start k qs (moved (moved e p) w) y (anchor_token name ∷ [])) (sym h.1)
-    (λ i z. name_along reads around start k qs false 38 name b behind w y e ad begins_anchor refl h.0 ends i is are low
+    (λ i z. name_along reads around start k qs tokens.Anchor 38 name b behind w y e ad begins_anchor refl h.0 ends i is are low
     z) text r
 
 pub alias_along : Reads → (around : Around) (start : State) (k : Candidate) (qs : List Place)
@@ -251,7 +250,7 @@ pub alias_along : Reads → (around : Around) (start : State) (k : Candidate) (q
 alias_along reads around start k qs name t b behind w y e ad h ends text is are low r =
     subst (λ (p : List ℕ). InKey around k e (p ++ b) behind → Ready around start k (p ++ (b ++ behind)) e ad qs
     → Along around start k qs (moved (moved e p) w) y (alias_token name ∷ [])) (sym h.1)
-    (λ i z. name_along reads around start k qs true 42 name b behind w y e ad begins_alias refl h.0 ends i is are low z)
+    (λ i z. name_along reads around start k qs tokens.Alias 42 name b behind w y e ad begins_alias refl h.0 ends i is are low z)
     text r
 
 pub tag_along : Reads → (around : Around) (start : State) (k : Candidate) (qs : List Place) (tag : Tag)

@@ -46,10 +46,8 @@ pub record Cases (P : Steps → Steps → Type 0) (first second other n : ℕ) (
   pub mapping : first ≡ 123
       → P (flow.opening_steps context.FlowMapping tokens.FlowMappingStart n c)
       (flow.opening_steps context.FlowMapping tokens.FlowMappingStart n d)
-  pub sequence_end : first ≡ 93 → P (flow.closing_steps true tokens.FlowSequenceEnd c)
-      (flow.closing_steps true tokens.FlowSequenceEnd d)
-  pub mapping_end : first ≡ 125 → P (flow.closing_steps false tokens.FlowMappingEnd c)
-      (flow.closing_steps false tokens.FlowMappingEnd d)
+  pub sequence_end : first ≡ 93 → P (flow.sequence_end_steps c) (flow.sequence_end_steps d)
+  pub mapping_end : first ≡ 125 → P (flow.mapping_end_steps c) (flow.mapping_end_steps d)
   pub comma : first ≡ 44 → P (flow.flow_entry_steps c) (flow.flow_entry_steps d)
   pub dash : first ≡ 45 → is_blank_or_breakz second ≡ true → P (block.entry c) (block.entry d)
   pub question : first ≡ 63 → is_blank_or_breakz second ≡ true → P (block.key c) (block.key d)
@@ -57,8 +55,8 @@ pub record Cases (P : Steps → Steps → Type 0) (first second other n : ℕ) (
   pub beside : first ≡ 58 → is_value_adjacent second c ≡ true → P (flow_value second c) (flow_value other d)
   pub double : first ≡ 34 → P (scalar.double_quoted_steps n c) (scalar.double_quoted_steps n d)
   pub single : first ≡ 39 → P (scalar.single_quoted_steps n c) (scalar.single_quoted_steps n d)
-  pub alias : first ≡ 42 → P (property.name_steps true n c) (property.name_steps true n d)
-  pub anchor : first ≡ 38 → P (property.name_steps false n c) (property.name_steps false n d)
+  pub alias : first ≡ 42 → P (property.alias_steps n c) (property.alias_steps n d)
+  pub anchor : first ≡ 38 → P (property.anchor_steps n c) (property.anchor_steps n d)
   pub tag : first ≡ 33 → P (property.tag_steps n c) (property.tag_steps n d)
   pub literal : first ≡ 124 → in_block c ≡ true
       → P (scalar.block_scalar_steps block_style.Literal n c) (scalar.block_scalar_steps block_style.Literal n d)

@@ -42,8 +42,8 @@ unfoldable pub step : ℕ → ℕ → ℕ → Core → Steps
 step first second n c =
     if first == left_bracket then flow.opening_steps context.FlowSequence tokens.FlowSequenceStart n c
     else if first == left_brace then flow.opening_steps context.FlowMapping tokens.FlowMappingStart n c
-    else if first == right_bracket then flow.closing_steps true tokens.FlowSequenceEnd c
-    else if first == right_brace then flow.closing_steps false tokens.FlowMappingEnd c
+    else if first == right_bracket then flow.sequence_end_steps c
+    else if first == right_brace then flow.mapping_end_steps c
     else if first == comma then flow.flow_entry_steps c
     else if (first == hyphen) && is_blank_or_breakz second then block.entry c
     else if (first == question_mark) && is_blank_or_breakz second then block.key c
@@ -51,8 +51,8 @@ step first second n c =
     else if (first == colon) && is_value_adjacent second c then flow_value second c
     else if first == quotation_mark then scalar.double_quoted_steps n c
     else if first == apostrophe then scalar.single_quoted_steps n c
-    else if first == asterisk then property.name_steps true n c
-    else if first == ampersand then property.name_steps false n c
+    else if first == asterisk then property.alias_steps n c
+    else if first == ampersand then property.anchor_steps n c
     else if first == exclamation_mark then property.tag_steps n c
     else if (first == vertical_bar) && in_block c then scalar.block_scalar_steps block_style.Literal n c
     else if (first == greater_than) && in_block c then scalar.block_scalar_steps block_style.Folded n c

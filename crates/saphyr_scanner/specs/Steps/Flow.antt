@@ -45,11 +45,18 @@ close_collection ends kind c =
     separate (pass_on 1 (leave c)) >>= λ d. went (behind_pair ends c.cursor.mark (up_to_here c.cursor.mark kind d.1))
     (allow_adjacent d.1)
 
--- `]` or `}`
+-- a bracket, before which an open pair may end
 unfoldable pub closing_steps : Bool → Kind → Core → Steps
-closing_steps is_sequence kind c =
-    if in_block c then refuse fault.MisplacedBracket c.cursor.mark
-    else close_collection (is_sequence && ends_pair c.level.context) kind c
+closing_steps ends kind c =
+    if in_block c then refuse fault.MisplacedBracket c.cursor.mark else close_collection ends kind c
+
+-- `]`
+abbrev pub sequence_end_steps : Core → Steps
+sequence_end_steps c = closing_steps (ends_pair c.level.context) tokens.FlowSequenceEnd c
+
+-- `}`, before which no pair is open that ends with its entry
+abbrev pub mapping_end_steps : Core → Steps
+mapping_end_steps c = closing_steps false tokens.FlowMappingEnd c
 
 unfoldable pub next_flow_entry : Core → Steps
 next_flow_entry c =
