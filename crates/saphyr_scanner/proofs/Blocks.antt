@@ -3,7 +3,7 @@ use Rattle.std.proofs.Common.{◌≡◌, ℕ, false, List, [], ◌∷◌, Option
 use Rattle.saphyr_scalar.specs.declared.scalar.position.Marker.{Marker}
 use Rattle.saphyr_scanner.specs.Steps.State.{State}
 use Rattle.saphyr_scanner.specs.Steps.Core.{Core, in_block}
-use Rattle.saphyr_scanner.specs.Steps.Unrolling.{end_blocks, end_block, is_right_of, outwards, less_deep, unroll}
+use Rattle.saphyr_scanner.specs.Steps.Unrolling.{end_blocks, end_block, is_right_of, with_outer_indent, go_less_deep, unroll}
 use Rattle.saphyr_input.proofs.Basics.Booleans.{by_test}
 
 pub none_ends : (column : Option ℕ) (m : Marker) (is : List ℕ) (s : State) → is_right_of column s.core.indent ≡ false
@@ -12,7 +12,7 @@ none_ends column m [] s e = rw e refl
 none_ends column m (i ∷ is) s e = rw e refl
 
 -- The text stays as it is.
-outwards_cursor : (is : List ℕ) (c : Core) → (outwards is c).cursor ≡ c.cursor
+outwards_cursor : (is : List ℕ) (c : Core) → (with_outer_indent is c).cursor ≡ c.cursor
 outwards_cursor [] c = refl
 outwards_cursor (i ∷ is) c = refl
 
@@ -28,7 +28,7 @@ blocks_cursor column m (i ∷ is) s =
     by_test (is_right_of column s.core.indent) _ _ (λ (t : State). t.core.cursor ≡ s.core.cursor)
     (λ _. blocks_cursor column m is (end_block m s) ∙ block_cursor m s) (λ _. refl)
 
-pub less_deep_cursor : (column : Option ℕ) (c : Core) → (less_deep column c).cursor ≡ c.cursor
+pub less_deep_cursor : (column : Option ℕ) (c : Core) → (go_less_deep column c).cursor ≡ c.cursor
 less_deep_cursor None c = refl
 less_deep_cursor (Some column) c = refl
 
@@ -40,7 +40,7 @@ unrolled_cursor column m s =
 
 -- ## No comment comes
 
-outwards_comment : (is : List ℕ) (c : Core) → (outwards is c).comment ≡ c.comment
+outwards_comment : (is : List ℕ) (c : Core) → (with_outer_indent is c).comment ≡ c.comment
 outwards_comment [] c = refl
 outwards_comment (i ∷ is) c = refl
 
@@ -54,7 +54,7 @@ blocks_comment column m (i ∷ is) s =
     (λ _. blocks_comment column m is (end_block m s) ∙ outwards_comment s.core.outer_indents s.core)
     (λ _. refl)
 
-less_deep_comment : (column : Option ℕ) (c : Core) → (less_deep column c).comment ≡ c.comment
+less_deep_comment : (column : Option ℕ) (c : Core) → (go_less_deep column c).comment ≡ c.comment
 less_deep_comment None c = refl
 less_deep_comment (Some column) c = refl
 

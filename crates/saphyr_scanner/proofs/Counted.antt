@@ -12,7 +12,7 @@ use Rattle.saphyr_scalar.specs.Views.Cursor.{Cursor, along, next_line, pass_blan
 use Rattle.saphyr_scalar.specs.Passing.{IsPassed, nothing, character, line_break}
 use Rattle.saphyr_scalar.specs.Steps.Quoted.{break_len}
 use Rattle.saphyr_scalar.proofs.Lengths.{two_shown, separation_within}
-use Rattle.saphyr_scanner.specs.Steps.Gap.{gap, comment, stop, Passed, is_tab_indentation}
+use Rattle.saphyr_scanner.specs.Steps.Gap.{gap, comment, stop, GapEnd, is_tab_indentation}
 use Rattle.saphyr_input.proofs.Basics.Lists.{shown}
 use Rattle.saphyr_input.proofs.Basics.Booleans.{by_test}
 use Rattle.saphyr_scalar.proofs.Given.{Given}
@@ -93,7 +93,7 @@ separation_counted tabs s =
     (λ _. by_test (is_bare_comment tabs s.rest) _ _ (Given P) (λ _. tt)
     (λ _. taken_off s t (separation_len tabs s.rest) refl refl (separation_within tabs s.rest)))
 
-abbrev PassedAt : ℕ → ℕ → Passed → Type 0
+abbrev PassedAt : ℕ → ℕ → GapEnd → Type 0
 PassedAt low n p = At low n p.cursor.mark p.cursor.rest
 
 stop_at : (low n : ℕ) (m : Marker) (blank broke tabbed : Bool) (t : List ℕ) → At low n m t
@@ -125,14 +125,14 @@ gap_at low n l (c ∷ cs) m blank broke tabbed h =
     )
 
 pub gap_counted : (l : ℕ) (broke tabbed : Bool) (s : Cursor)
-    → Given (λ (p : Passed). Ahead s p.cursor) (gap l s.mark s.blank_so_far broke tabbed s.rest)
+    → Given (λ (p : GapEnd). Ahead s p.cursor) (gap l s.mark s.blank_so_far broke tabbed s.rest)
 gap_counted l broke tabbed s =
     ahead_of (gap l s.mark s.blank_so_far broke tabbed s.rest)
     (gap_at s.mark.index (s.mark.index + length s.rest) l s.rest s.mark s.blank_so_far broke tabbed
     (omega arith, refl)).0
   where
-    ahead_of : (r : Result Passed Refusal) → Given (PassedAt s.mark.index (s.mark.index + length s.rest)) r
-        → Given (λ (p : Passed). Ahead s p.cursor) r
+    ahead_of : (r : Result GapEnd Refusal) → Given (PassedAt s.mark.index (s.mark.index + length s.rest)) r
+        → Given (λ (p : GapEnd). Ahead s p.cursor) r
     ahead_of (Ok p) h = record { later = h.0; counted = h.1 }
     ahead_of (Err e) h = tt
 

@@ -4,7 +4,7 @@ use Rattle.std.specs.Prelude.{◌&&◌, not}
 use Rattle.saphyr_scalar.specs.declared.scalar.fault.Refusal.{Refusal}
 use Rattle.saphyr_scalar.specs.Views.Cursor.{◌>>=◌}
 use Rattle.saphyr_scanner.specs.Steps.Core.{Core, in_block, is_too_far, drop_far_key, forget_key}
-use Rattle.saphyr_scanner.specs.Steps.State.{State, carried}
+use Rattle.saphyr_scanner.specs.Steps.State.{State, on_core}
 use Rattle.saphyr_scanner.specs.Steps.Fetch.{size, fetch_within, without_far_key, needs_token, is_ready, fill_in, fill}
 use Rattle.saphyr_scanner.proofs.Effects.Readers.{Readers}
 use Rattle.saphyr_scanner.proofs.Effects.Fetch.{Fetched, read_fetched}
@@ -74,7 +74,7 @@ not_twice c d =
 abbrev pub IsSettled : State → Type 0
 IsSettled s = drop_far_key s.core ≡ Ok s.core
 
-carried_core : (r : Result Core Refusal) (s t : State) → carried r s.queue ≡ Ok t → r ≡ Ok t.core
+carried_core : (r : Result Core Refusal) (s t : State) → on_core r s.queue ≡ Ok t → r ≡ Ok t.core
 carried_core (Ok c) s t e = cc
 carried_core (Err f) s t e = absurd (cc)
 

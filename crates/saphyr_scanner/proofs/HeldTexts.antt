@@ -10,15 +10,15 @@ use Rattle.std.proofs.Math.Seq.{drop-append_seam, take-append_seam, take-length}
 use Rattle.saphyr_scanner.specs.declared.queue.place.Place.{Place}
 use Rattle.saphyr_scanner.specs.declared.queue.place.Place.TheVariants.{Bare, Text, Tagged, Whole}
 use Rattle.saphyr_scanner.specs.declared.queue.texts.TextPlace.{TextPlace}
-use Rattle.saphyr_scanner.specs.Steps.Queue.{closed, take, take_place}
+use Rattle.saphyr_scanner.specs.Steps.Queue.{bare_place, take, take_place}
 use Rattle.saphyr_scanner.specs.Views.Tokens.{Piece}
 use Rattle.saphyr_scanner.specs.Views.Places.{
   GrowsBehind,
   HasHeldText,
   IsCopyOfPlace,
   IsHeldText,
-  IsKept,
-  IsPlaceOf,
+  IsHeldAs,
+  IsBarePlaceOf,
   on_line,
   place,
   text_at,
@@ -51,7 +51,7 @@ pub grows_by : (old text : List ℕ) → GrowsBehind old (old ++ text)
 grows_by old text = take-append_seam old text
 
 pub text_kept : (old text : List ℕ) (t : TextPlace) → t.start ≡ length old → t.count ≡ length text → ∥ IsUtf8 text ∥₁
-    → IsKept (old ++ text) text t
+    → IsHeldAs (old ++ text) text t
 text_kept old text t s n u =
     let long = length-append old text in
     let e = ap (λ k. std.take (k + t.count - k) (drop k (old ++ text))) s
@@ -89,9 +89,9 @@ map_push bytes (q ∷ ps) p = ap (λ qs. place bytes q ∷ qs) (map_push bytes p
 
 -- behind the places stands that of a token, whose text stands behind theirs
 pub place_put : (old new : List ℕ) (ps : List Place) (p : Place) (t : Piece)
-    → GrowsBehind old new → All (HasHeldText old) ps → IsPlaceOf new t p
+    → GrowsBehind old new → All (HasHeldText old) ps → IsBarePlaceOf new t p
     → All (HasHeldText new) (ps ++ p ∷ [])
-    × (map (place new) (ps ++ p ∷ []) ≡ map (place old) ps ++ closed t ∷ [])
+    × (map (place new) (ps ++ p ∷ []) ≡ map (place old) ps ++ bare_place t ∷ [])
 place_put old new ps p t g h is =
     let stay = places_stay old new ps g h in (
       All-push (HasHeldText new) ps p stay.0 is.0,

@@ -16,7 +16,7 @@ use Rattle.saphyr_scanner.specs.Steps.Core.{Core, Put, in_block, remove_key, act
 use Rattle.saphyr_scanner.specs.Steps.Document as document
 use Rattle.saphyr_scanner.specs.Steps.Passing.{separate, with_cursor}
 use Rattle.saphyr_scanner.specs.Steps.Queue.{Queue}
-use Rattle.saphyr_scanner.specs.Steps.State.{State, carried, on_core_with}
+use Rattle.saphyr_scanner.specs.Steps.State.{State, on_core, on_core_with}
 use Rattle.saphyr_scanner.specs.Steps.Unrolling.{unroll}
 use Rattle.saphyr_scalar.specs.Alike.{AreDirectivesAlike, GiveAlike}
 use Rattle.saphyr_scalar.proofs.Breaks.Results.{both_then}
@@ -40,13 +40,13 @@ content_ends text c x q r t e =
     let w = unroll_same text None c.cursor.mark (reindexed x.at c.cursor.mark) c x q r t e in
     let a = unroll None c.cursor.mark (holding c q) in
     let b = unroll None (reindexed x.at c.cursor.mark) (holding (near_core x c) r) in
-    let P : Core → Core → Type 0 = λ d k. GiveAlike (Ended text c.cursor) (carried (remove_key d) a.queue)
-    (carried (remove_key k) b.queue) in
+    let P : Core → Core → Type 0 = λ d k. GiveAlike (Ended text c.cursor) (on_core (remove_key d) a.queue)
+    (on_core (remove_key k) b.queue) in
     of_cores text P a.core b.core w.0 (λ y u. by (remove_key a.core)
     (remove_key (near_core y a.core)) a.queue b.queue w.2 a.core.cursor w.1 (remove_still text a.core y u))
   where
     by : (u v : Result Core Refusal) (f g : Queue) → SameQueues f g → (s : Cursor) → s ≡ c.cursor
-        → GiveAlike (Still text s) u v → GiveAlike (Ended text c.cursor) (carried u f) (carried v g)
+        → GiveAlike (Still text s) u v → GiveAlike (Ended text c.cursor) (on_core u f) (on_core v g)
     by (Ok d) (Ok k) f g h s m i = (i.0, i.1 ∙ m, h)
     by (Ok d) (Err k) f g h s m i = absurd i
     by (Err d) (Ok k) f g h s m i = absurd i

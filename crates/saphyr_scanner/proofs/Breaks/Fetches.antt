@@ -11,10 +11,10 @@ use Rattle.saphyr_scanner.specs.declared.engine.level.Context.TheVariants as con
 use Rattle.saphyr_scanner.specs.Grammar.Tokens as tokens
 use Rattle.saphyr_scanner.specs.Steps.Level.{ends_pair}
 use Rattle.saphyr_scanner.specs.Steps.Core.{Core, in_block, least_column, drop_far_key, at_mark}
-use Rattle.saphyr_scanner.specs.Steps.Fetch.{step, is_value_adjacent, state_behind_content, fetch_here, arrive, fetch, within, fetch_within, without_far_key}
+use Rattle.saphyr_scanner.specs.Steps.Fetch.{step, is_value_adjacent, state_behind_content, fetch_here, arrive, fetch, check_limit, fetch_within, without_far_key}
 use Rattle.saphyr_scanner.specs.Steps.Passing.{pass_gap}
 use Rattle.saphyr_scanner.specs.Steps.Queue.{Queue, next}
-use Rattle.saphyr_scanner.specs.Steps.State.{State, carried, acted}
+use Rattle.saphyr_scanner.specs.Steps.State.{State, on_core, after_step}
 use Rattle.saphyr_scanner.specs.Steps.Unrolling.{unroll}
 use Rattle.saphyr_scalar.specs.Alike.{GiveAlike}
 use Rattle.saphyr_scalar.proofs.Breaks.Results.{both_then}
@@ -77,8 +77,8 @@ content_same text c x q r laws t e ink k =
     let s = c.cursor.rest in
     let n = normalized s in
     let P : ℕ → ℕ → Type 0 = λ f i. GiveAlike (States text)
-    (acted (step (slice_index s 0) (slice_index s 1) (next q) c) q)
-    (acted (step f (slice_index n 1) i (near_core x c)) r) in
+    (after_step (step (slice_index s 0) (slice_index s 1) (next q) c) q)
+    (after_step (step f (slice_index n 1) i (near_core x c)) r) in
     let h = step_same text (slice_index s 0) (slice_index s 1) (slice_index n 1) (next q) c x laws t ink refl
     (second_is is_blank_or_breakz refl s k) (second_is is_flow refl s k)
     (second_is (λ y. (y == 91) || (y == 123)) refl s k) in
@@ -121,7 +121,7 @@ abbrev RestedStates : List ℕ → State → State → Type 0
 RestedStates text s t = Rested text s.core t.core × SameQueues s.queue t.queue
 
 carried_rested : (text : List ℕ) (a b : Result Core Refusal) (q r : Queue) → GiveAlike (Rested text) a b
-    → SameQueues q r → GiveAlike (RestedStates text) (carried a q) (carried b r)
+    → SameQueues q r → GiveAlike (RestedStates text) (on_core a q) (on_core b r)
 carried_rested text (Ok c) (Ok d) q r h e = (h, e)
 carried_rested text (Ok c) (Err f) q r h e = absurd h
 carried_rested text (Err d) (Ok c) q r h e = absurd h
@@ -163,7 +163,7 @@ fetch_same text c x q r laws t e =
 
 within_same : (text : List ℕ) (limit : ℕ) (c : Core) (x : Indexes) (q r : Queue) → length text ≤ limit
     → Twin text c x → SameQueues q r
-    → GiveAlike (States text) (within limit (holding c q)) (within limit (holding (near_core x c) r))
+    → GiveAlike (States text) (check_limit limit (holding c q)) (check_limit limit (holding (near_core x c) r))
 within_same text limit c x q r short t e =
     let a : nat_le c.cursor.mark.index limit ≡ true = le-leb c.cursor.mark.index limit
     (omega (arith, t.ahead.counted, short)) in
@@ -185,10 +185,10 @@ pub read_same : (text : List ℕ) (limit : ℕ) (c : Core) (x : Indexes) (q r : 
 unfolding fetch_within
 read_same text limit c x q r laws short t e =
     both_then (States text) (States text) _ _ without_far_key without_far_key
-    (both_then (States text) (States text) (fetch (holding c q)) (fetch (holding (near_core x c) r)) (within limit)
-    (within limit) (fetch_same text c x q r laws t e)
-    (λ a b i j h. of_cores text (λ d f. GiveAlike (States text) (within limit (holding d a.queue))
-    (within limit (holding f b.queue))) a.core b.core h.0
+    (both_then (States text) (States text) (fetch (holding c q)) (fetch (holding (near_core x c) r)) (check_limit limit)
+    (check_limit limit) (fetch_same text c x q r laws t e)
+    (λ a b i j h. of_cores text (λ d f. GiveAlike (States text) (check_limit limit (holding d a.queue))
+    (check_limit limit (holding f b.queue))) a.core b.core h.0
     (λ y u. within_same text limit a.core y a.queue b.queue short u h.1)))
     (λ a b i j h. of_cores text (λ d f. GiveAlike (States text) (without_far_key (holding d a.queue))
     (without_far_key (holding f b.queue))) a.core b.core h.0 (λ y u. settled_same text a.core y a.queue b.queue u h.1))

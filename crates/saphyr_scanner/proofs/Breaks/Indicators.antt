@@ -19,7 +19,7 @@ use Rattle.saphyr_scanner.specs.Steps.Gap as gaps
 use Rattle.saphyr_scanner.specs.Steps.Passing.{pass_on, with_cursor}
 use Rattle.saphyr_scanner.specs.Steps.Value as value
 use Rattle.saphyr_scalar.specs.Alike.{GiveAlike}
-use Rattle.saphyr_scanner.proofs.Breaks.Cores.{Indexes, near_core, near_key, near_levels, first, others, LevelsEven, Cores, Twin, Laws, Still, Inked, of_cores, of_still, core_then, still_then, same_length, save_still, remove_still, roll_still, forgotten, separate_then, pass_then, still_pass_then, still_inked, pass_twin, pass_near, pass_ahead, twin_low, twin_stands, twin_moves, going_to, adjacent_here}
+use Rattle.saphyr_scanner.proofs.Breaks.Cores.{Indexes, near_core, near_key, near_levels, first, others, LevelsEven, Cores, Twin, Laws, Still, Inked, of_cores, of_still, core_then, still_then, same_length, save_still, remove_still, roll_still, forgotten, separate_then, pass_then, still_pass_then, still_inked, pass_twin, pass_near, pass_ahead, twin_low, twin_stands, twin_moves, going_to, here_adjacent}
 use Rattle.saphyr_scanner.proofs.Breaks.Gaps.{spaces_alike}
 use Rattle.saphyr_scanner.proofs.Breaks.Normal.{first_is, second_is}
 use Rattle.saphyr_scanner.proofs.Breaks.Places.{reindexed, near, even_index, ahead_ahead, ahead_stands, low_ahead}
@@ -66,7 +66,7 @@ adjacent_twin : (text : List ℕ) (c : Core) (x : Indexes) → Twin text c x
     → Cores text (flow.allow_adjacent c) (flow.allow_adjacent (near_core x c))
 adjacent_twin text c x t =
     choose (Cores text) (in_block c) (in_block c) _ _ _ _ refl (λ _. (x, refl, t))
-    (λ _. (record x { adjacent = x.at }, refl, adjacent_here text c x t))
+    (λ _. (record x { adjacent = x.at }, refl, here_adjacent text c x t))
 
 pair_same : (ends : Bool) (m k : Marker) (kind : Kind) (a b d e : Marker)
     → SameActions (flow.behind_pair ends m (Put (record { span = record { start = a; end = b }; kind = kind })))
@@ -133,8 +133,8 @@ check_same text c x laws t =
 
 alone_puts : (begins further : Bool) (start : Marker) (i : ℕ) (c : Core) (x : Indexes)
     → is_further start.col c ≡ further
-    → SameActions (value.begin_alone begins start c) (value.begin_alone begins (reindexed i start) (near_core x c))
-unfolding value.begin_alone
+    → SameActions (value.opening_actions begins start c) (value.opening_actions begins (reindexed i start) (near_core x c))
+unfolding value.opening_actions
 alone_puts true true start i c x e = rw e (refl, (refl, (refl, tt)))
 alone_puts true false start i c x e = rw e (refl, (refl, tt))
 alone_puts false true start i c x e = rw e (refl, (refl, tt))
@@ -144,7 +144,7 @@ behind_same : (text : List ℕ) (k : Option Candidate) (i : ℕ) (begins : Bool)
     (x : Indexes) → Twin text c x
     → GiveAlike (SameSteps text) (value.behind_key k begins start c)
     (value.behind_key (near_key i k) begins (reindexed j start) (near_core x c))
-unfolding value.behind_key value.of_key value.alone
+unfolding value.behind_key value.value_of_key value.value_alone
 behind_same text (Some k) i begins start j c x t =
     both_choose (SameSteps text) (begins && nat_lt k.mark.line start.line)
     (begins && nat_lt k.mark.line start.line) _ _ _ _ refl (λ _. refl)
@@ -292,7 +292,7 @@ question_same text c x laws t ink =
     let P : Cursor → Type 0 = λ u. GiveAlike (Cores text) (block.behind_mark g.space (with_cursor g.cursor c))
     (block.behind_mark (gaps.spaces_at false u).space
     (with_cursor (gaps.spaces_at false u).cursor (near_core x c))) in
-    let Q : gaps.Spaced → Type 0 = λ k. GiveAlike (Cores text) (block.behind_mark g.space (with_cursor g.cursor c))
+    let Q : gaps.SpacesEnd → Type 0 = λ k. GiveAlike (Cores text) (block.behind_mark g.space (with_cursor g.cursor c))
     (block.behind_mark k.space (with_cursor k.cursor (near_core x c))) in
     subst P (sym e) (subst Q (sym h.1) (mark_same text g.space (with_cursor g.cursor c) (going_to h.0 x) there))
 

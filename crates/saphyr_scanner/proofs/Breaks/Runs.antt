@@ -13,7 +13,7 @@ use Rattle.saphyr_scanner.specs.Steps.Core.{Core}
 use Rattle.saphyr_scanner.specs.Steps.Level.{Level, is_place, holds}
 use Rattle.saphyr_scanner.specs.Steps.State.{State, start}
 use Rattle.saphyr_scanner.specs.Steps.Fetch.{size, without_far_key, needs_token, any_holds}
-use Rattle.saphyr_scanner.specs.Steps.Remaining.{before_place, hand_out, delivered, run, remaining, scan}
+use Rattle.saphyr_scanner.specs.Steps.Remaining.{before_place, hand_out, remaining_after, run, remaining, scan}
 use Rattle.saphyr_scanner.specs.SameKinds.{HaveSameKinds}
 use Rattle.saphyr_scanner.proofs.Filling.{read, less_read}
 use Rattle.saphyr_scanner.proofs.Effects.Readers.{Readers}
@@ -97,7 +97,7 @@ hands_same text c x (p ∷ ps) [] n m go ho e k h = absurd e
 delivered_same : (text : List ℕ) (a b : Result State Refusal) (go ho : State → Remaining)
     → GiveAlike (States text) a b
     → ((s t : State) → a ≡ Ok s → b ≡ Ok t → States text s t → HaveSameKinds (go s) (ho t))
-    → HaveSameKinds (delivered a go) (delivered b ho)
+    → HaveSameKinds (remaining_after a go) (remaining_after b ho)
 delivered_same text (Ok s) (Ok t) go ho h k = k s t refl refl h
 delivered_same text (Ok s) (Err f) go ho h k = absurd h
 delivered_same text (Err d) (Ok t) go ho h k = absurd h

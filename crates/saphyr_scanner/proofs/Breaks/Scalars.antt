@@ -18,6 +18,7 @@ use Rattle.saphyr_scalar.specs.Steps.Plain as words
 use Rattle.saphyr_scalar.specs.Steps.Quoted as quoted
 use Rattle.saphyr_scalar.specs.Steps.Tag as tags
 use Rattle.saphyr_scanner.specs.Grammar.Tokens as tokens
+use Rattle.saphyr_scanner.specs.Grammar.Tokens.{Kind}
 use Rattle.saphyr_scanner.specs.Steps.Core.{Core, in_block, least_column, save_key}
 use Rattle.saphyr_scanner.specs.Steps.Passing.{pass_gap, with_cursor}
 use Rattle.saphyr_scanner.specs.Steps.Property as property
@@ -25,7 +26,7 @@ use Rattle.saphyr_scanner.specs.Steps.Scalar as scalar
 use Rattle.saphyr_scanner.specs.TokensTaken.{block_indicator}
 use Rattle.saphyr_scalar.specs.Alike.{AreSame, AreMarksAlike, AreNoted, ArePlainAlike, AreBlocksAlike, AreTagsAlike, GiveAlike}
 use Rattle.saphyr_scalar.proofs.Breaks.Results.{both_then}
-use Rattle.saphyr_scanner.proofs.Breaks.Cores.{Indexes, near_core, near_comment, Cores, Twin, Laws, Inked, adjacent_here, of_cores, of_still, save_still, separate_then, still_inked, twin_reads, read_twin, going_to}
+use Rattle.saphyr_scanner.proofs.Breaks.Cores.{Indexes, near_core, near_comment, Cores, Twin, Laws, Inked, here_adjacent, of_cores, of_still, save_still, separate_then, still_inked, twin_reads, read_twin, going_to}
 use Rattle.saphyr_scanner.proofs.Breaks.Normal.{first_is}
 use Rattle.saphyr_scanner.proofs.Breaks.Passing.{Rested, gap_rests}
 use Rattle.saphyr_scanner.proofs.Breaks.Places.{reindexed, near}
@@ -54,12 +55,12 @@ no_break_here c s k b = ap is_break b ∙ k
 
 adjacent_twin : (text : List ℕ) (c : Core) (x : Indexes) → Twin text c x
     → Cores text (scalar.adjacent_here c) (scalar.adjacent_here (near_core x c))
-adjacent_twin text c x t = (record x { adjacent = x.at }, refl, adjacent_here text c x t)
+adjacent_twin text c x t = (record x { adjacent = x.at }, refl, here_adjacent text c x t)
 
 line_same : (text : List ℕ) (start : Marker) (i : ℕ) (style : ScalarStyle) (value : List ℕ) (c : Core) (x : Indexes)
     → Laws text → Twin text c x
-    → GiveAlike (SameSteps text) (scalar.behind_line start style value c)
-    (scalar.behind_line (reindexed i start) style value (near_core x c))
+    → GiveAlike (SameSteps text) (scalar.behind_quoted_line start style value c)
+    (scalar.behind_quoted_line (reindexed i start) style value (near_core x c))
 unfolding scalar.goes_on_behind_quotes
 line_same text start i style value c x laws t =
     let p : ℕ → Bool = λ y. cond (in_block c) (is_breakz y || ((y == 58) && (start.line == c.cursor.mark.line)))

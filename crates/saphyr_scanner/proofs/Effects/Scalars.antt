@@ -36,7 +36,7 @@ use Rattle.saphyr_scanner.proofs.Effects.Puts.{IsSaved, saving, saved_above, sav
 use Rattle.saphyr_scanner.proofs.Effects.Walked.{Premises, Walked, walked_then, Doing, Stepped, at_inside, read_walked}
 use Rattle.saphyr_scanner.proofs.Effects.Walked.{at_reach, separate_walked, gap_walked}
 use Rattle.saphyr_scanner.proofs.Effects.Readers.{Readers, ReaderEnds, Less, TextLaws}
-use Rattle.saphyr_scanner.proofs.PlainBehind.{Ends, plain_ends}
+use Rattle.saphyr_scanner.proofs.PlainBehind.{EndsUnbroken, plain_ends}
 use Rattle.saphyr_scanner.proofs.Reached.{apart_reached, passed_reached}
 use Rattle.saphyr_scanner.proofs.Steps.Choice.{NoIndicator}
 use Rattle.saphyr_scanner.proofs.Taken.Later.{apart_later}
@@ -233,7 +233,7 @@ plain_does n c starts =
     (λ _. walked_then (Premises c) _ Q here (words.plain f c.indent here) _
     (read_walked (Premises c) here (words.plain f c.indent here)
     (λ e q laws. at_inside here e (laws.0.plain f c.indent here e q))) (λ x e.
-    let ends = given_of Ends (words.plain f c.indent here) x (plain_ends f c.indent here) e in
+    let ends = given_of EndsUnbroken (words.plain f c.indent here) x (plain_ends f c.indent here) e in
     let t : Piece = record { span = record { start = here.mark; end = x.1 }; kind = tokens.Scalar Plain x.0 } in
     saved n c (scalar.behind_plain x.2 x.3 d) t s refl (λ _. ends.0) refl (λ i. absurd (cc))
     (λ i a b k. (k.start, plain_begins (slice_index a.rest 0) k.begins k.is_ink)) refl

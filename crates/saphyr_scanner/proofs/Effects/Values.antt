@@ -18,7 +18,7 @@ use Rattle.saphyr_scanner.specs.Steps.Fetch as fetching
 use Rattle.saphyr_scanner.specs.TokensTaken as taken
 use Rattle.saphyr_scanner.specs.TokensTaken.{AreApart}
 use Rattle.saphyr_scanner.proofs.Effects.Moves.{Does, and_then, Around, Same, same, lesser, still}
-use Rattle.saphyr_scanner.proofs.Effects.Puts.{empty_reading, Stands, passes, indicated, quiet, block_begins, key_opens}
+use Rattle.saphyr_scanner.proofs.Effects.Puts.{empty_reading, IndicatorStands, passes, indicated, quiet, block_begins, key_opens}
 use Rattle.saphyr_scanner.proofs.Effects.Puts.{mapping_opens}
 use Rattle.saphyr_scanner.proofs.Effects.Walked.{Premises, Walked, walked_then, walked_map, at_most, Doing, at_reach}
 use Rattle.saphyr_scanner.proofs.Effects.Walked.{separate_walked}
@@ -90,8 +90,8 @@ colon_does e d u first a s there =
 
 key_does : (b c d : Core) (k : Candidate) (begins : Bool) → slice_index c.cursor.rest 0 ≡ 58 → Behind c d
     → (begins ≡ true → in_block d ≡ false) → d.level.key ≡ Some k
-    → Walked (Premises b) (Doing None c) c.cursor (value.of_key k begins c.cursor.mark d)
-unfolding value.of_key
+    → Walked (Premises b) (Doing None c) c.cursor (value.value_of_key k begins c.cursor.mark d)
+unfolding value.value_of_key
 key_does b c d k begins first g flows is =
     let s = c.cursor in
     let u = d.cursor in
@@ -121,8 +121,8 @@ key_does b c d k begins first g flows is =
 -- ## Without a key
 
 alone_does : (b c d : Core) (begins : Bool) → slice_index c.cursor.rest 0 ≡ 58 → Behind c d → d.level.key ≡ None
-    → Walked (Premises b) (Doing None c) c.cursor (value.alone begins c.cursor.mark d)
-unfolding value.alone value.begin_alone
+    → Walked (Premises b) (Doing None c) c.cursor (value.value_alone begins c.cursor.mark d)
+unfolding value.value_alone value.opening_actions
 alone_does b c d begins first g none =
     let s = c.cursor in
     let u = d.cursor in
@@ -173,7 +173,7 @@ unfolding value.value_steps
 value_does c first =
     let v : Core = with_context (behind_colon c.level.context) c in
     let begins = begins_pair c.level.context in
-    let stands : Stands 58 c.cursor = record { some = refl; unbroken = refl; is = first } in
+    let stands : IndicatorStands 58 c.cursor = record { some = refl; unbroken = refl; is = first } in
     walked_then (Premises c) (Behind v) (Doing None c) c.cursor (value.check_tab (pass_on 1 v)) _
     (tab_walked c v (passes 58 c.cursor stands)) (λ d g.
     walked_map (Premises c) (Doing None v) (Doing None c) c.cursor _

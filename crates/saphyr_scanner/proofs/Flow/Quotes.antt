@@ -15,17 +15,17 @@ use Rattle.saphyr_scanner.specs.declared.engine.level.Context.TheVariants as con
 use Rattle.saphyr_scanner.specs.Grammar.Tokens as tokens
 use Rattle.saphyr_scanner.specs.Grammar.Tokens.{scalar_token}
 use Rattle.saphyr_scanner.specs.Grammar.Forest.{Style, SingleQuoted, DoubleQuoted, Node}
-use Rattle.saphyr_scanner.specs.Steps.Core.{Core, from_to, went}
+use Rattle.saphyr_scanner.specs.Steps.Core.{Core, from_to, completed_step}
 use Rattle.saphyr_scanner.specs.Steps.Level.{Candidate, Level, is_block}
 use Rattle.saphyr_scanner.specs.Steps.Passing.{with_cursor}
 use Rattle.saphyr_scanner.specs.Steps.Scalar as scalar
-use Rattle.saphyr_scanner.specs.Steps.Scalar.{read_single_quoted, read_double_quoted, disallow_key, behind_quotes, behind_line, goes_on_behind_quotes, adjacent_here}
+use Rattle.saphyr_scanner.specs.Steps.Scalar.{read_single_quoted, read_double_quoted, disallow_key, behind_quotes, behind_quoted_line, goes_on_behind_quotes, adjacent_here}
 use Rattle.saphyr_scanner.specs.Steps.Fetch.{step}
 use Rattle.saphyr_scanner.specs.Grammar.FlowScalars.{IsQuoted}
 use Rattle.saphyr_scanner.proofs.InFlow.States.{Around, core_at, least, least_low, Placed, placed_right, saves_key, as_before, FlowMoment}
 use Rattle.saphyr_scanner.proofs.InFlow.Tabs.{lands_on_ink}
 use Rattle.saphyr_scanner.proofs.Json.Marks.{saved}
-use Rattle.saphyr_scanner.proofs.Flow.States.{moved, past, crosses, IsClear, IsInk, EndsNode, IsBehindNode, IsBehindRoot, Reads, Fits, StandsBefore}
+use Rattle.saphyr_scanner.proofs.Flow.States.{moved, past, crosses, IsClear, IsInk, EndsNode, IsBehindNode, IsBehindRoot, ReaderPromises, FitsAround, StandsBefore}
 use Rattle.saphyr_scanner.proofs.Flow.GapSteps.{past_again, past_ink}
 use Rattle.saphyr_scanner.proofs.Flow.Fillers.{EndsLine, rest_past, separation_past}
 use Rattle.saphyr_scanner.proofs.Flow.Arrivals.{PassesGap, passes_gap}
@@ -127,13 +127,13 @@ pub behind_step : (around : Around) (d : Bool) (start : Marker) (style : Style) 
     (p : EndsQuotes around start s x)
     (g : PassesGap around p.there x k ls false ad m y)
     → behind_quotes start style text (core_at around d s x k ls false ad)
-    ≡ went (from_to start p.there.mark (tokens.Scalar style text) ∷ [])
+    ≡ completed_step (from_to start p.there.mark (tokens.Scalar style text) ∷ [])
     (core_at around d (cursor_at y m g.blank) x k ls g.allowed m.index)
 unfolding behind_quotes
 behind_step around d start style text s x k ls ad m y p g =
     let c = core_at around d s x k ls false ad in
-    let token = λ (e : Core). went (from_to start p.there.mark (tokens.Scalar style text) ∷ []) (adjacent_here e) in
-    ap (λ q. (q >>= λ (e : SkipTabs × Cursor). Ok (e.0, with_cursor e.1 c)) >>= λ (e : SkipTabs × Core). behind_line
+    let token = λ (e : Core). completed_step (from_to start p.there.mark (tokens.Scalar style text) ∷ []) (adjacent_here e) in
+    ap (λ q. (q >>= λ (e : SkipTabs × Cursor). Ok (e.0, with_cursor e.1 c)) >>= λ (e : SkipTabs × Core). behind_quoted_line
     start style text e.1) p.is
     ∙ rw (p.goes d k ls false ad) (ap (λ q. q >>= token) (g.is d))
 
@@ -143,7 +143,7 @@ abbrev pub style_of : Quote → Style
 style_of Single = SingleQuoted
 style_of Double = DoubleQuoted
 
-pub quoted_step : Reads → (around : Around) (d : Bool) (quote : Quote) (n : ℕ) (m : Marker) (b : Bool)
+pub quoted_step : ReaderPromises → (around : Around) (d : Bool) (quote : Quote) (n : ℕ) (m : Marker) (b : Bool)
     (value t o : List ℕ) → IsQuoted quote around.indent value t → IsClear m t o → (slice_index o 0 == 39) ≡ false
     → (x : Context) (k : Option Candidate) (ls : List Level) (a : Bool) (ad : ℕ) (c : ℕ) → c ≡ mark quote
     → Placed around x a m
@@ -192,8 +192,8 @@ quote_first Double inside =
       directive = refl;
     }
 
-pub quoted_passes : Reads → (around : Around) (quote : Quote) (value t o : List ℕ) (m : Marker)
-    → IsQuoted quote around.indent value t → Fits around m t o
+pub quoted_passes : ReaderPromises → (around : Around) (quote : Quote) (value t o : List ℕ) (m : Marker)
+    → IsQuoted quote around.indent value t → FitsAround around m t o
     → (slice_index o 0 == 39) ≡ false
     → (now : FlowMoment) → EndsQuotes around m (at (moved m t) o) now.context → StandsBefore around now m (t ++ o)
     → PassesToken around (adjacent_at (past around.indent (moved m t) o).0.index) now m t o

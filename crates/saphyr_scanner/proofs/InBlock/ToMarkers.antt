@@ -13,16 +13,16 @@ use Rattle.saphyr_scanner.specs.Steps.State.{State}
 use Rattle.saphyr_scanner.specs.Grammar.Tokens as tokens
 use Rattle.saphyr_scanner.specs.Grammar.Tokens.{Kind, directive_token}
 use Rattle.saphyr_scanner.specs.Grammar.TokenGrammar as grammar
-use Rattle.saphyr_scanner.proofs.Flow.States.{marks_line, Reads}
+use Rattle.saphyr_scanner.proofs.Flow.States.{marks_line, ReaderPromises}
 use Rattle.saphyr_scanner.proofs.Documents.Lines.{passes_filler}
 use Rattle.saphyr_scanner.proofs.Documents.Markers.{start_ends, end_ends, reads_end}
-use Rattle.saphyr_scanner.proofs.Documents.Stands.{Lined, Stands}
+use Rattle.saphyr_scanner.proofs.Documents.Stands.{Lined, StandsInStream}
 use Rattle.saphyr_scanner.proofs.InBlock.Skips.{filler_skipped}
 use Rattle.saphyr_scanner.proofs.InBlock.LineStarts.{opens_line, HasLine, behind_piece, no_line, skipped_unmarked, last_unmarked, end_unmarked, prefix_unmarked}
 use Rattle.saphyr_scanner.proofs.InBlock.FurtherScalars.{EndsFed, fed_front, fed_behind, same_marker}
-use Rattle.saphyr_scanner.proofs.InBlock.Further.{end_further, IsAhead, document_further}
+use Rattle.saphyr_scanner.proofs.InBlock.Further.{end_further, IsTokenAhead, document_further}
 use Rattle.saphyr_scanner.proofs.InBlock.TabsAhead.{TellsTabs, tells_filler, tells_token, has_token, token_filler, token_here}
-use Rattle.saphyr_scanner.proofs.InBlock.Statements.{Leaves}
+use Rattle.saphyr_scanner.proofs.InBlock.Statements.{ReadsLeaves}
 use Rattle.saphyr_scanner.proofs.InBlock.Texts.{node_ends}
 use Rattle.saphyr_scanner.proofs.InBlock.Documents.Ends.{AreBlockDocuments, HasNoReturn, OpensMarker, opens_marker, lands_marked, plain_marked, suffix_text}
 use Rattle.saphyr_scanner.proofs.InBlock.Documents.Nodes.{node_marks}
@@ -80,7 +80,7 @@ StartsHere limit start marker more r =
     → IsTrue free ⊎ (d.directives ≡ []) → d.explicit ≡ true → AreCompatible d.directives
     → IsBlockNode most_open d.node BehindMarker node others → layout.IsBehindDocument (AreBlockDocuments ds) others
     → node ++ others ≡ r
-    → Stands limit start now (Lined opened (45 ∷ 45 ∷ 45 ∷ (r ++ more))) (45 ∷ 45 ∷ 45 ∷ (r ++ more))
+    → StandsInStream limit start now (Lined opened (45 ∷ 45 ∷ 45 ∷ (r ++ more))) (45 ∷ 45 ∷ 45 ∷ (r ++ more))
     (ts ++ map directive_token d.directives)
     → Closes limit start marker (grammar.YieldDocuments (d ∷ ds) free) ts
 
@@ -88,7 +88,7 @@ abbrev pub EndsHere : ℕ → State → DocumentMarker → List ℕ → List ℕ
 EndsHere limit start marker more r =
     (ds : Forest) (end prefix others : List ℕ) (ts : List Kind) → IsEol end (prefix ++ others) → IsDocumentPrefix prefix
     → AreBlockDocuments ds true others → HasNoReturn others → end ++ (prefix ++ others) ≡ r
-    → Stands limit start false (Lined false (46 ∷ 46 ∷ 46 ∷ (r ++ more))) (46 ∷ 46 ∷ 46 ∷ (r ++ more)) ts
+    → StandsInStream limit start false (Lined false (46 ∷ 46 ∷ 46 ∷ (r ++ more))) (46 ∷ 46 ∷ 46 ∷ (r ++ more)) ts
     → Closes limit start marker (grammar.YieldsBehindDocument (grammar.YieldDocuments ds)) ts
 
 abbrev pub Found : ℕ → State → DocumentMarker → List ℕ → DocumentMarker → List ℕ → Type 0
@@ -109,9 +109,9 @@ marked_fed w r t h l = subst EndsFed (sym l.is)
 pub passes_suffix : {limit : ℕ} {start : State} {marker : DocumentMarker} (ds : Forest)
     (end prefix others more : List ℕ) (ts : List Kind) → IsEol end (prefix ++ others) → IsDocumentPrefix prefix
     → EndsFed (prefix ++ others)
-    → Stands limit start false (Lined false (46 ∷ 46 ∷ 46 ∷ (end ++ (prefix ++ (others ++ more)))))
+    → StandsInStream limit start false (Lined false (46 ∷ 46 ∷ 46 ∷ (end ++ (prefix ++ (others ++ more)))))
     (46 ∷ 46 ∷ 46 ∷ (end ++ (prefix ++ (others ++ more)))) ts
-    → ((us : List Kind) → Stands limit start true (Lined true (others ++ more)) (others ++ more) us
+    → ((us : List Kind) → StandsInStream limit start true (Lined true (others ++ more)) (others ++ more) us
     → Closes limit start marker (grammar.YieldDocuments ds true) us)
     → Closes limit start marker (grammar.YieldsBehindDocument (grammar.YieldDocuments ds)) ts
 passes_suffix {limit = limit} {start = start} {marker = marker} ds end prefix others more ts end_is prefix_is fed v go =
@@ -150,21 +150,21 @@ token_marked o k =
     subst (λ (x : List ℕ). has_token false x ≡ true) (sym k.is)
     (token_filler k.filler (k.first ∷ k.others) k.filler_is (token_here k.first k.others k.ink))
 
-closes_beyond : {limit : ℕ} {start : State} {marker : DocumentMarker} → Reads → Leaves limit
+closes_beyond : {limit : ℕ} {start : State} {marker : DocumentMarker} → ReaderPromises → ReadsLeaves limit
     → (w : DocumentMarker) (r more : List ℕ) → IsMarkerRest r
     → (d : Document) (ds : Forest) (free : Bool) (document others : List ℕ) (ts : List Kind)
     → layout.IsDocument (IsBlockNode most_open) d free document others
     → layout.IsBehindDocument (AreBlockDocuments ds) others → HasNoReturn document
-    → Stands limit start free (Lined free (document ++ (others ++ more))) (document ++ (others ++ more)) ts
+    → StandsInStream limit start free (Lined free (document ++ (others ++ more))) (document ++ (others ++ more)) ts
     → Marked w r others
-    → ((us : List Kind) → Stands limit start false (Lined false (others ++ more)) (others ++ more) us
+    → ((us : List Kind) → StandsInStream limit start false (Lined false (others ++ more)) (others ++ more) us
     → Closes limit start marker (grammar.YieldsBehindDocument (grammar.YieldDocuments ds)) us)
     → Closes limit start marker (grammar.YieldDocuments (d ∷ ds) free) ts
 closes_beyond readers leaves w r more rest d ds free document others ts is behind clean v line go =
     let fed = marked_fed w r others rest line in
     let here = opens (opens_marker leaves ds others behind) in
     let k = opens_marker_still others more fed here in
-    let ahead : IsAhead more others = record {
+    let ahead : IsTokenAhead more others = record {
       fed = fed;
       token = token_marked others here;
       tells = tells_marked others more here;
@@ -183,15 +183,15 @@ not_dashes : (node others : List ℕ) → marks_line false node others ≡ false
     → marks_line false (45 ∷ 45 ∷ node) others ≡ false
 not_dashes node others h = h
 
-closes_document : {limit : ℕ} {start : State} {marker : DocumentMarker} → Reads → Leaves limit
+closes_document : {limit : ℕ} {start : State} {marker : DocumentMarker} → ReaderPromises → ReadsLeaves limit
     → (w : DocumentMarker) (r more : List ℕ) → IsMarkerRest r → Found limit start marker more w r
     → (d : Document) (ds : Forest) (free : Bool) (document others : List ℕ) (ts : List Kind)
     → layout.IsDocument (IsBlockNode most_open) d free document others
     → layout.IsBehindDocument (AreBlockDocuments ds) others → HasNoReturn document
-    → Stands limit start free (Lined free (document ++ (others ++ more))) (document ++ (others ++ more)) ts
+    → StandsInStream limit start free (Lined free (document ++ (others ++ more))) (document ++ (others ++ more)) ts
     → Marked w r (document ++ others)
     → (Marked w r others → (us : List Kind)
-    → Stands limit start false (Lined false (others ++ more)) (others ++ more) us
+    → StandsInStream limit start false (Lined false (others ++ more)) (others ++ more) us
     → Closes limit start marker (grammar.YieldsBehindDocument (grammar.YieldDocuments ds)) us)
     → Closes limit start marker (grammar.YieldDocuments (d ∷ ds) free) ts
 closes_document readers leaves w r more rest found d ds free document others ts (inl (is_free, (same, unmarked, is)))
@@ -221,7 +221,7 @@ closes_document {limit = limit} {start = start} {marker = marker} readers leaves
         ∙ ap (λ (x : List ℕ). directives ++ (45 ∷ 45 ∷ 45 ∷ x))
         (sym (append_assoc node others more) ∙ ap (λ (x : List ℕ). x ++ more) left) in
         let f = reads_front readers d free directives (r ++ more) ts may are
-        (subst (λ (x : List ℕ). Stands limit start free (Lined free x) x ts) text v) in
+        (subst (λ (x : List ℕ). StandsInStream limit start free (Lined free x) x ts) text v) in
         found d ds free f.free f.opened node others ts may explicit compatible is behind left f.stands
 
     by_front : (front : List ℕ) → 45 ∷ 45 ∷ 45 ∷ (node ++ others) ≡ front ++ (marker_text w ++ r)
@@ -242,10 +242,10 @@ closes_document {limit = limit} {start = start} {marker = marker} readers leaves
 closes_behind : {limit : ℕ} {start : State} {marker : DocumentMarker} (w : DocumentMarker) (r more : List ℕ)
     → IsMarkerRest r → Found limit start marker more w r → (ds : Forest)
     → ((free : Bool) (t : List ℕ) (ts : List Kind) → AreBlockDocuments ds free t → HasNoReturn t
-    → Stands limit start free (Lined free (t ++ more)) (t ++ more) ts → Marked w r t
+    → StandsInStream limit start free (Lined free (t ++ more)) (t ++ more) ts → Marked w r t
     → Closes limit start marker (grammar.YieldDocuments ds free) ts)
     → (o : List ℕ) (ts : List Kind) → layout.IsBehindDocument (AreBlockDocuments ds) o → HasNoReturn o
-    → Stands limit start false (Lined false (o ++ more)) (o ++ more) ts → Marked w r o
+    → StandsInStream limit start false (Lined false (o ++ more)) (o ++ more) ts → Marked w r o
     → Closes limit start marker (grammar.YieldsBehindDocument (grammar.YieldDocuments ds)) ts
 closes_behind w r more rest found ds go o ts (inl h) clean v line =
     let c = go false o ts h clean v line in
@@ -265,11 +265,11 @@ closes_behind {limit = limit} {start = start} {marker = marker} w r more rest fo
     let whole : o ++ more ≡ filler ++ (46 ∷ 46 ∷ 46 ∷ ((end ++ (prefix ++ others)) ++ more)) =
     ap (λ (x : List ℕ). x ++ more) text ∙ append_assoc filler (46 ∷ 46 ∷ 46 ∷ (end ++ (prefix ++ others))) more in
     let first = passes_filler filler (46 ∷ 46 ∷ 46 ∷ ((end ++ (prefix ++ others)) ++ more)) filler_is
-    (subst (λ (x : List ℕ). Stands limit start false (Lined false x) x ts) whole v) in
+    (subst (λ (x : List ℕ). StandsInStream limit start false (Lined false x) x ts) whole v) in
     by_front (back_in _ suffix others (subst HasNoReturn is clean)) first l.front l.is l.line
   where
     at_marker : HasNoReturn others → (w : DocumentMarker) → Found limit start marker more w r
-        → Stands limit start false (Lined false (46 ∷ 46 ∷ 46 ∷ ((end ++ (prefix ++ others)) ++ more)))
+        → StandsInStream limit start false (Lined false (46 ∷ 46 ∷ 46 ∷ ((end ++ (prefix ++ others)) ++ more)))
         (46 ∷ 46 ∷ 46 ∷ ((end ++ (prefix ++ others)) ++ more)) ts
         → 46 ∷ 46 ∷ 46 ∷ (end ++ (prefix ++ others)) ≡ marker_text w ++ r
         → Closes limit start marker (grammar.YieldsBehindDocument (grammar.YieldDocuments ds)) ts
@@ -278,11 +278,11 @@ closes_behind {limit = limit} {start = start} {marker = marker} w r more rest fo
     at_marker left Ends found first same =
         let text : end ++ (prefix ++ others) ≡ r = cc in
         found ds end prefix others ts end_is prefix_is h left text
-        (subst (λ (x : List ℕ). Stands limit start false (Lined false (46 ∷ 46 ∷ 46 ∷ (x ++ more)))
+        (subst (λ (x : List ℕ). StandsInStream limit start false (Lined false (46 ∷ 46 ∷ 46 ∷ (x ++ more)))
         (46 ∷ 46 ∷ 46 ∷ (x ++ more)) ts) text first)
 
     by_front : HasNoReturn others
-        → Stands limit start false (Lined false (46 ∷ 46 ∷ 46 ∷ ((end ++ (prefix ++ others)) ++ more)))
+        → StandsInStream limit start false (Lined false (46 ∷ 46 ∷ 46 ∷ ((end ++ (prefix ++ others)) ++ more)))
         (46 ∷ 46 ∷ 46 ∷ ((end ++ (prefix ++ others)) ++ more)) ts
         → (front : List ℕ) → 46 ∷ 46 ∷ 46 ∷ (end ++ (prefix ++ others)) ≡ front ++ (marker_text w ++ r)
         → opens_line true front ≡ true
@@ -300,15 +300,15 @@ closes_behind {limit = limit} {start = start} {marker = marker} w r more rest fo
         append_assoc end (prefix ++ others) more
         ∙ ap (λ (x : List ℕ). end ++ x) (append_assoc prefix others more) in
         passes_suffix ds end prefix others more ts end_is prefix_is (marked_fed w r (prefix ++ others) rest k)
-        (subst (λ (x : List ℕ). Stands limit start false (Lined false (46 ∷ 46 ∷ 46 ∷ x)) (46 ∷ 46 ∷ 46 ∷ x) ts) behind
+        (subst (λ (x : List ℕ). StandsInStream limit start false (Lined false (46 ∷ 46 ∷ 46 ∷ x)) (46 ∷ 46 ∷ 46 ∷ x) ts) behind
         first)
         (λ us s. go true others us h left s l)
 
 -- The marker stands at a line's start of the documents' text: up to it they are read, and there what is to be shown is.
-pub closes_documents : {limit : ℕ} {start : State} {marker : DocumentMarker} → Reads → Leaves limit
+pub closes_documents : {limit : ℕ} {start : State} {marker : DocumentMarker} → ReaderPromises → ReadsLeaves limit
     → (w : DocumentMarker) (r more : List ℕ) → IsMarkerRest r → Found limit start marker more w r
     → (forest : Forest) (free : Bool) (t : List ℕ) (ts : List Kind) → AreBlockDocuments forest free t → HasNoReturn t
-    → Stands limit start free (Lined free (t ++ more)) (t ++ more) ts → HasLine t (marker_text w ++ r)
+    → StandsInStream limit start free (Lined free (t ++ more)) (t ++ more) ts → HasLine t (marker_text w ++ r)
     → Closes limit start marker (grammar.YieldDocuments forest free) ts
 closes_documents readers leaves w r more rest found [] free t ts h clean v line =
     absurd (no_line t (marker_text w ++ r) (last_unmarked t h) line (indicator w r rest))
@@ -321,7 +321,7 @@ closes_documents {limit = limit} {start = start} readers leaves w r more rest fo
     ap (λ (x : List ℕ). x ++ more) e ∙ append_assoc filler (document ++ others) more
     ∙ ap (λ (x : List ℕ). filler ++ x) (append_assoc document others more) in
     let first = passes_filler filler (document ++ (others ++ more)) filler_is
-    (subst (λ (x : List ℕ). Stands limit start free (Lined free x) x ts) text v) in
+    (subst (λ (x : List ℕ). StandsInStream limit start free (Lined free x) x ts) text v) in
     let left = back_in _ filler (document ++ others) (subst HasNoReturn e clean) in
     closes_document readers leaves w r more rest found d ds free document others ts is behind
     (front_in _ document others left) first l

@@ -26,7 +26,7 @@ abbrev pub has_break : List ℕ → Bool
 has_break w = list_any is_break w
 
 -- Where w stands before `follow`, it is passed.
-pub record Passes (m : Marker) (blank broke : Bool) (w follow : List ℕ) : Type 0 where
+pub record PassesJsonGap (m : Marker) (blank broke : Bool) (w follow : List ℕ) : Type 0 where
   pub mark : Marker
   pub is : gap 0 m blank broke false (w ++ follow)
       ≡ stop mark (blank || has_break w) (broke || has_break w) false follow
@@ -52,7 +52,7 @@ gap_behind_character : (m k : Marker) (blank broke blank_then broke_then : Bool)
     → (broke_then || has_break w) ≡ (broke || has_break (c ∷ w))
     → k.index ≡ m.index + 1 → (has_break (c ∷ w) ≡ false → (has_break w ≡ false) × (k ≡ along m 1))
     → (m.line < 2 ^ 64 → (m.line ≤ k.line) × (k.line < 2 ^ 64))
-    → Passes k blank_then broke_then w follow → Passes m blank broke (c ∷ w) follow
+    → PassesJsonGap k blank_then broke_then w follow → PassesJsonGap m blank broke (c ∷ w) follow
 gap_behind_character m k blank broke blank_then broke_then c w follow one same_blank same_broke index same_line line p =
     record {
       mark = p.mark;
@@ -68,7 +68,7 @@ pub no_tab_indentation : (m : Marker) (blank : Bool) (c : ℕ) → (is_tab_inden
 no_tab_indentation m blank c = grind (arith, nat_tests)
 
 blank_case : (m : Marker) (blank broke : Bool) (c : ℕ) (w follow : List ℕ) → is_blank c ≡ true → is_break c ≡ false
-    → Passes (along m 1) blank broke w follow → Passes m blank broke (c ∷ w) follow
+    → PassesJsonGap (along m 1) blank broke w follow → PassesJsonGap m blank broke (c ∷ w) follow
 blank_case m blank broke c w follow e no_break p =
     gap_behind_character m (along m 1) blank broke blank broke c w follow
     (rw e (ap (λ (t : Bool). gap 0 (along m 1) blank broke t (w ++ follow)) (no_tab_indentation m blank c)))
@@ -77,7 +77,7 @@ blank_case m blank broke c w follow e no_break p =
 break_case : (m : Marker) (blank broke : Bool) (c : ℕ) (w follow : List ℕ)
     → gap 0 m blank broke false (c ∷ (w ++ follow)) ≡ gap 0 (next_line m 1) true true false (w ++ follow)
     → is_break c ≡ true
-    → Passes (next_line m 1) true true w follow → Passes m blank broke (c ∷ w) follow
+    → PassesJsonGap (next_line m 1) true true w follow → PassesJsonGap m blank broke (c ∷ w) follow
 break_case m blank broke c w follow one e p =
     gap_behind_character m (next_line m 1) blank broke true true c w follow one (rw e (sym (or-true blank)))
     (rw e (sym (or-true broke))) refl (λ h. absurd (broken h)) (λ h. (omega arith, omega arith)) p
@@ -87,8 +87,8 @@ break_case m blank broke c w follow one e p =
 
 -- CR before LF
 return_case : (m : Marker) (blank broke : Bool) (w follow : List ℕ) → (slice_index (w ++ follow) 0 == 10) ≡ true
-    → has_break w ≡ true → Passes (along m 1) blank broke w follow
-    → Passes m blank broke (13 ∷ w) follow
+    → has_break w ≡ true → PassesJsonGap (along m 1) blank broke w follow
+    → PassesJsonGap m blank broke (13 ∷ w) follow
 return_case m blank broke w follow e broken p =
     gap_behind_character m (along m 1) blank broke blank broke 13 w follow (rw e refl) (rw broken refl)
     (rw broken refl) refl
@@ -106,7 +106,7 @@ has_feed (c ∷ w) follow h e = rw e refl
 
 -- White space is passed up to what stops it.
 pub white_passed : (w follow : List ℕ) (m : Marker) (blank broke : Bool) → IsWhiteSpace w → StopsGap follow
-    → Passes m blank broke w follow
+    → PassesJsonGap m blank broke w follow
 white_passed [] follow m blank broke white h =
     record {
       mark = m;
@@ -120,27 +120,27 @@ white_passed (c ∷ w) follow m blank broke (white, others) h =
     by_kind white (white_passed w follow (along m 1) blank broke others h)
     (white_passed w follow (next_line m 1) true true others h)
   where
-    at_return : (b : Bool) → (slice_index (w ++ follow) 0 == 10) ≡ b → Passes (along m 1) blank broke w follow
-        → Passes (next_line m 1) true true w follow → Passes m blank broke (13 ∷ w) follow
+    at_return : (b : Bool) → (slice_index (w ++ follow) 0 == 10) ≡ b → PassesJsonGap (along m 1) blank broke w follow
+        → PassesJsonGap (next_line m 1) true true w follow → PassesJsonGap m blank broke (13 ∷ w) follow
     at_return true e p q = return_case m blank broke w follow e (has_feed w follow h e) p
     at_return false e p q = break_case m blank broke 13 w follow (rw e refl) refl q
 
-    by_kind : IsWhite c → Passes (along m 1) blank broke w follow → Passes (next_line m 1) true true w follow
-        → Passes m blank broke (c ∷ w) follow
-    by_kind (inl e) p q = subst (λ (x : ℕ). Passes m blank broke (x ∷ w) follow) (sym e)
+    by_kind : IsWhite c → PassesJsonGap (along m 1) blank broke w follow → PassesJsonGap (next_line m 1) true true w follow
+        → PassesJsonGap m blank broke (c ∷ w) follow
+    by_kind (inl e) p q = subst (λ (x : ℕ). PassesJsonGap m blank broke (x ∷ w) follow) (sym e)
         (blank_case m blank broke 32 w follow refl refl p)
     by_kind (inr (inl e)) p q =
-        subst (λ (x : ℕ). Passes m blank broke (x ∷ w) follow) (sym e) (blank_case m blank broke 9 w follow refl refl p)
+        subst (λ (x : ℕ). PassesJsonGap m blank broke (x ∷ w) follow) (sym e) (blank_case m blank broke 9 w follow refl refl p)
     by_kind (inr (inr (inl e))) p q =
-        subst (λ (x : ℕ). Passes m blank broke (x ∷ w) follow) (sym e)
+        subst (λ (x : ℕ). PassesJsonGap m blank broke (x ∷ w) follow) (sym e)
         (break_case m blank broke 10 w follow refl refl q)
     by_kind (inr (inr (inr e))) p q =
-        subst (λ (x : ℕ). Passes m blank broke (x ∷ w) follow) (sym e)
+        subst (λ (x : ℕ). PassesJsonGap m blank broke (x ∷ w) follow) (sym e)
         (at_return (slice_index (w ++ follow) 0 == 10) refl p q)
 
 -- where white space stands next, the gap goes up to what stands behind it
 pub gap_passed : (broke : Bool) (s : Cursor) (w follow : List ℕ) → s.rest ≡ w ++ follow
-    → Passes s.mark s.blank_so_far broke w follow
+    → PassesJsonGap s.mark s.blank_so_far broke w follow
     → (m : Marker) × (blank now : Bool) × (gap_at 0 broke false s ≡ stop m blank now false follow)
     × (m.index + length follow ≡ s.mark.index + length s.rest)
 gap_passed broke s w follow is p =

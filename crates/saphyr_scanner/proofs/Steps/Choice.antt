@@ -10,7 +10,7 @@ use Rattle.saphyr_scalar.proofs.Breaks.Results.{both_by}
 use Rattle.saphyr_scanner.specs.declared.engine.level.Context.TheVariants as context
 use Rattle.saphyr_scanner.specs.Grammar.Tokens as tokens
 use Rattle.saphyr_scanner.specs.Steps.Block as block
-use Rattle.saphyr_scanner.specs.Steps.Core.{Core, Steps, in_block}
+use Rattle.saphyr_scanner.specs.Steps.Core.{Core, StepResult, in_block}
 use Rattle.saphyr_scanner.specs.Steps.Fetch.{step, is_value_adjacent, flow_value}
 use Rattle.saphyr_scanner.specs.Steps.Flow as flow
 use Rattle.saphyr_scanner.specs.Steps.Property as property
@@ -39,7 +39,7 @@ pub record NoIndicator (first second : ℕ) (c : Core) : Type 0 where
   pub reserved : ((first == 37) || (first == 64) || (first == 96)) ≡ false
 
 -- what is to be shown of each
-pub record Cases (P : Steps → Steps → Type 0) (first second other n : ℕ) (c d : Core) : Type 0 where
+pub record Cases (P : StepResult → StepResult → Type 0) (first second other n : ℕ) (c d : Core) : Type 0 where
   pub sequence : first ≡ 91
       → P (flow.opening_steps context.FlowSequence tokens.FlowSequenceStart n c)
       (flow.opening_steps context.FlowSequence tokens.FlowSequenceStart n d)
@@ -67,7 +67,7 @@ pub record Cases (P : Steps → Steps → Type 0) (first second other n : ℕ) (
       (refuse (fault.UnexpectedCharacter first) d.cursor.mark)
   pub plain : NoIndicator first second c → P (scalar.plain_steps n c) (scalar.plain_steps n d)
 
-pub both_cases : (P : Steps → Steps → Type 0) (first second other n : ℕ) (c d : Core)
+pub both_cases : (P : StepResult → StepResult → Type 0) (first second other n : ℕ) (c d : Core)
     → is_blank_or_breakz second ≡ is_blank_or_breakz other → is_value_adjacent second c ≡ is_value_adjacent other d
     → in_block c ≡ in_block d → Cases P first second other n c d → P (step first second n c) (step first other n d)
 unfolding step
@@ -122,6 +122,6 @@ both_cases P first second other n c d blank beside same h =
     }))))))))))))))))))
 
 -- the same of one step
-pub cases : (Q : Steps → Type 0) (first second n : ℕ) (c : Core) → Cases (λ x y. Q x) first second second n c c
+pub cases : (Q : StepResult → Type 0) (first second n : ℕ) (c : Core) → Cases (λ x y. Q x) first second second n c c
     → Q (step first second n c)
 cases Q first second n c h = both_cases (λ x y. Q x) first second second n c c refl refl refl h

@@ -22,5 +22,5 @@ ActionsAbove h [] = Unit {0}
 ActionsAbove h (Put t ∷ others) = ActionsAbove h others
 ActionsAbove h (Open n o ∷ others) = (h ≤ n) × ActionsAbove h others
 
-abbrev pub Keeps : ℕ → Step → Type 0
-Keeps h x = Above h x.core × ActionsAbove h x.actions
+abbrev pub KeepsPlacesAbove : ℕ → Step → Type 0
+KeepsPlacesAbove h x = Above h x.core × ActionsAbove h x.actions

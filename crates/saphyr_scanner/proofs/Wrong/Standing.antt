@@ -15,7 +15,7 @@ use Rattle.saphyr_scanner.proofs.Taken.Places.{Reaches, reaches_reaches, token_r
 use Rattle.std.proofs.lemmas.Bool.{eq-eqb}
 
 -- the token stands at a place that is reached from the text's start
-pub record Stands (text : List ℕ) (p : Piece) : Type 0 where
+pub record StandsReached (text : List ℕ) (p : Piece) : Type 0 where
   pub indent : ℕ
   pub here : Cursor
   pub behind : Cursor
@@ -24,7 +24,7 @@ pub record Stands (text : List ℕ) (p : Piece) : Type 0 where
 
 abbrev pub AllStand : List ℕ → List Piece → Type 0
 AllStand text [] = Unit {0}
-AllStand text (p ∷ ps) = Stands text p × AllStand text ps
+AllStand text (p ∷ ps) = StandsReached text p × AllStand text ps
 
 tokens_stand_from : (text columns : List ℕ) (ps : List Piece) (s u : Cursor) → Reaches (fresh text) s
     → AreTokens columns ps s u → AllStand text ps

@@ -9,7 +9,7 @@ use Rattle.saphyr_scanner.specs.declared.queue.Opening.{Opening}
 use Rattle.saphyr_scanner.specs.Grammar.Tokens.{Kind}
 use Rattle.saphyr_scanner.specs.Views.Tokens.{Piece}
 use Rattle.saphyr_scanner.specs.Steps.Level.{Candidate, Level, at_root, is_block}
-use Rattle.saphyr_scanner.specs.Steps.Queue.{Queue, put, with_opening, empty_piece}
+use Rattle.saphyr_scanner.specs.Steps.Queue.{Queue, with_piece, with_opening, empty_piece}
 
 -- `indent` is the first column to the right of the innermost block collection, 0 where there is none. `deeper` tells
 -- that content has to stand one column further right.
@@ -52,7 +52,7 @@ pub data Action : Type 0 where
   Open : ℕ → Opening → Action
 
 abbrev pub act : Action → Queue → Queue
-act (Put t) q = put t q
+act (Put t) q = with_piece t q
 act (Open n o) q = with_opening n o q
 
 abbrev pub perform : List Action → Queue → Queue
@@ -63,11 +63,11 @@ pub record Step : Type 0 where
   pub core : Core
   pub actions : List Action
 
-abbrev pub Steps : Type 0
-Steps = Result Step Refusal
+abbrev pub StepResult : Type 0
+StepResult = Result Step Refusal
 
-abbrev pub went : List Action → Core → Steps
-went actions c = Ok (record { core = c; actions = actions })
+abbrev pub completed_step : List Action → Core → StepResult
+completed_step actions c = Ok (record { core = c; actions = actions })
 
 -- ## Tokens
 

@@ -53,14 +53,14 @@ impl<T: Input> Engine<T> {
 
     // The candidate is the colon's key.
     #[inline(always)]
-    #[tactic(auto, unfolding(crate::specs::Steps::Value::of_key))]
+    #[tactic(auto, unfolding(crate::specs::Steps::Value::value_of_key))]
     fn fetch_value_of(
         &mut self,
         key: Candidate,
         begins_pair: bool,
         start: Marker,
     ) -> Result<(), Stop>
-        ensures { ActsBy (value.of_key (candidate key) begins_pair start) self.old result self.new }
+        ensures { ActsBy (value.value_of_key (candidate key) begins_pair start) self.old result self.new }
     {
         if begins_pair && key.mark.line < start.line {
             return Err(Self::refuse(FaultText::MisplacedColon, start));
@@ -82,10 +82,10 @@ impl<T: Input> Engine<T> {
     }
 
     // The colon has no key on its line, or a key that `?` began.
-    #[tactic(auto, unfolding(crate::specs::Steps::Value::alone, crate::specs::Steps::Value::begin_alone))]
+    #[tactic(auto, unfolding(crate::specs::Steps::Value::value_alone, crate::specs::Steps::Value::opening_actions))]
     fn fetch_value_alone(&mut self, begins_pair: bool, start: Marker) -> Result<(), Stop>
         requires { start.col + 1 < 2 ^ 64 }
-        ensures { ActsBy (value.alone begins_pair start) self.old result self.new }
+        ensures { ActsBy (value.value_alone begins_pair start) self.old result self.new }
     {
         if begins_pair {
             self.put_empty(start, TokenType::FlowMappingStart)?;
