@@ -6,7 +6,6 @@ use Rattle.std.specs.List.{All, AllZip}
 use Rattle.std.proofs.lemmas.Bool.{ltb-false}
 use Rattle.std.proofs.lemmas.List.{length-drop, length-append, take-append-drop, take-append-le, drop-append-le}
 use Rattle.std.proofs.lemmas.List.Elements.{All-nil, All-cons, All-head, All-tail, All-push, All-same, All-rest}
-use Rattle.std.proofs.Math.Seq.{drop-append_seam, take-append_seam, take-length}
 use Rattle.saphyr_scanner.specs.declared.queue.place.Place.{Place}
 use Rattle.saphyr_scanner.specs.declared.queue.place.Place.TheVariants.{Bare, Text, Tagged, Whole}
 use Rattle.saphyr_scanner.specs.declared.queue.texts.TextPlace.{TextPlace}
@@ -44,21 +43,6 @@ text_stays old new t g h =
     let longer = ap length (grown old new g) ∙ length-append old (drop (length old) new) in
     let within = h.0 in
     ((omega (arith, longer, within), subst (λ bs. ∥ IsUtf8 bs ∥₁) (sym e) h.1), e)
-
--- ## A text is put behind others
-
-pub grows_by : (old text : List ℕ) → GrowsBehind old (old ++ text)
-grows_by old text = take-append_seam old text
-
-pub text_kept : (old text : List ℕ) (t : TextPlace) → t.start ≡ length old → t.count ≡ length text → ∥ IsUtf8 text ∥₁
-    → IsHeldAs (old ++ text) text t
-text_kept old text t s n u =
-    let long = length-append old text in
-    let e = ap (λ k. std.take (k + t.count - k) (drop k (old ++ text))) s
-    ∙ ap (λ bs. std.take (length old + t.count - length old) bs) (drop-append_seam old text)
-    ∙ ap (λ k. std.take k text) (omega (arith, n))
-    ∙ take-length text in
-    ((omega (arith, long, s, n), subst (λ bs. ∥ IsUtf8 bs ∥₁) (sym e) u), e)
 
 -- ## Places over more texts
 

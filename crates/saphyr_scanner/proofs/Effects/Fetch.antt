@@ -29,7 +29,8 @@ use Rattle.saphyr_scanner.proofs.Effects.Walked.{unsaved_step}
 use Rattle.saphyr_scanner.proofs.Effects.Flow.{open_sequence, open_mapping, close_sequence, close_mapping, sequence_starts, mapping_starts, start_does, end_does, entry_does}
 use Rattle.saphyr_scanner.proofs.Effects.Values.{value_does, flow_value_does}
 use Rattle.saphyr_scanner.proofs.Effects.Blocks.{block_entry_does, key_does}
-use Rattle.saphyr_scanner.proofs.Effects.Scalars.{plain_start, double_quoted_does, single_quoted_does, plain_does, an_alias, an_anchor, name_does, tag_does, block_does}
+use Rattle.saphyr_scanner.proofs.Effects.Scalars.{plain_start, double_quoted_does, single_quoted_does, plain_does, block_does}
+use Rattle.saphyr_scanner.proofs.Effects.Properties.{an_alias, an_anchor, name_does, tag_does}
 use Rattle.saphyr_scanner.proofs.Taken.Places.{at_here}
 use Rattle.saphyr_scanner.proofs.Effects.States.{FetchesTokens, advances_advances, carried_advances, acted_advances, same_index, unroll_advances}
 use Rattle.saphyr_scanner.proofs.Effects.Documents.{start_walked, end_marker_walked, mark_walked, directive_walked, documents_advance}

@@ -21,8 +21,7 @@ abbrev pub disallow_key : Core → Core
 disallow_key c = record c { key_allowed = false }
 
 -- What may stand behind a quoted scalar that began at a place: the line's end, a colon (outside flow on the scalar's
--- own line),
--- and what ends an entry in flow.
+-- own line), and what ends an entry in flow.
 unfoldable pub goes_on_behind_quotes : Marker → Core → Bool
 goes_on_behind_quotes start c =
     let x = slice_index c.cursor.rest 0 in

@@ -1,6 +1,6 @@
 //! Flow collections: their brackets, and the commas between their entries (YAML 1.2.2, 7.4).
 
-ghost use Rattle.std.specs.Prelude.{◌≡◌, Ok, ◌<◌, length};
+ghost use Rattle.std.specs.Prelude.{◌≡◌, Ok, false, ◌<◌, length};
 ghost use Rattle.saphyr_scanner.specs.Steps.Flow as flow;
 ghost use Rattle.saphyr_scanner.specs.Steps.State as spec_state;
 
