@@ -74,12 +74,12 @@ not_twice c d =
 abbrev pub IsSettled : State → Type 0
 IsSettled s = drop_far_key s.core ≡ Ok s.core
 
-carried_core : (r : Result Core Refusal) (s t : State) → on_core r s.queue ≡ Ok t → r ≡ Ok t.core
-carried_core (Ok c) s t e = cc
-carried_core (Err f) s t e = absurd (cc)
+core_of_on_core : (r : Result Core Refusal) (s t : State) → on_core r s.queue ≡ Ok t → r ≡ Ok t.core
+core_of_on_core (Ok c) s t e = cc
+core_of_on_core (Err f) s t e = absurd (cc)
 
 pub settled_once : (s t : State) → without_far_key s ≡ Ok t → IsSettled t
-settled_once s t e = not_twice s.core t.core (carried_core (drop_far_key s.core) s t e)
+settled_once s t e = not_twice s.core t.core (core_of_on_core (drop_far_key s.core) s t e)
 
 pub read_settles : (limit : ℕ) (s u : State) → read limit s ≡ Ok u → IsSettled u
 read_settles limit s u e = let b = bind_ok (fetch_within limit s) without_far_key u e in settled_once b.0 u b.2

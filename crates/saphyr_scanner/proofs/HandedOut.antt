@@ -75,13 +75,13 @@ same_then hs (Err e) (Err d) f g h = g
 
 -- ## What is done to the queue
 
-opened_behind : (o : Opening) (hs ws : List Place) (n : ℕ) → length hs ≤ n
+with_opening_agrees : (o : Opening) (hs ws : List Place) (n : ℕ) → length hs ≤ n
     → places_with_opening n o (hs ++ ws) ≡ hs ++ places_with_opening (n - length hs) o ws
-opened_behind o [] ws n h = let e : n ≡ n - 0 = omega arith in ap (λ m. places_with_opening m o ws) e
-opened_behind o (p ∷ hs) ws zero h = absurd (omega (arith, h))
-opened_behind o (p ∷ hs) ws (suc n) h =
+with_opening_agrees o [] ws n h = let e : n ≡ n - 0 = omega arith in ap (λ m. places_with_opening m o ws) e
+with_opening_agrees o (p ∷ hs) ws zero h = absurd (omega (arith, h))
+with_opening_agrees o (p ∷ hs) ws (suc n) h =
     let e : n - length hs ≡ suc n - suc (length hs) = omega arith in
-    ap (λ xs. p ∷ xs) (opened_behind o hs ws n (omega (arith, h)) ∙ ap (λ m. hs ++ places_with_opening m o ws) e)
+    ap (λ xs. p ∷ xs) (with_opening_agrees o hs ws n (omega (arith, h)) ∙ ap (λ m. hs ++ places_with_opening m o ws) e)
 
 put_behind : (hs : List Place) (t : Piece) (q p : Queue) → Behind hs q p → Behind hs (with_piece t q) (with_piece t p)
 put_behind hs t q p b = record {
@@ -99,7 +99,7 @@ acts_behind hs (Put t ∷ others) q p b k = acts_behind hs others (with_piece t 
 acts_behind hs (Open n o ∷ others) q p b k =
     let same_number : n - q.handed ≡ n = let z = b.none in omega (arith, z) in
     let places = ap (λ m. places_with_opening m o q.places) same_number ∙ ap (places_with_opening n o) b.places
-    ∙ opened_behind o hs p.places n k.0 ∙ ap (λ m. hs ++ places_with_opening (n - m) o p.places) (sym b.handed) in
+    ∙ with_opening_agrees o hs p.places n k.0 ∙ ap (λ m. hs ++ places_with_opening (n - m) o p.places) (sym b.handed) in
     acts_behind hs others _ _ (record { places = places; none = b.none; handed = b.handed }) k.1
 
 same_next : (hs : List Place) (q p : Queue) → Behind hs q p → next q ≡ next p
@@ -107,21 +107,21 @@ same_next hs q p b = let z =
     b.none in let y = b.handed in let x =
     ap length b.places in let l = length-append hs p.places in omega (arith, x, y, z, l)
 
-acted_same : (hs : List Place) (r : StepResult) (q p : Queue) → Behind hs q p → Given (KeepsPlacesAbove (length hs)) r
+after_step_agrees : (hs : List Place) (r : StepResult) (q p : Queue) → Behind hs q p → Given (KeepsPlacesAbove (length hs)) r
     → Same hs (after_step r q) (after_step r p)
-acted_same hs (Ok x) q p b k = record { core = refl; queue = acts_behind hs x.actions q p b k.1; above = k.0 }
-acted_same hs (Err e) q p b k = refl
+after_step_agrees hs (Ok x) q p b k = record { core = refl; queue = acts_behind hs x.actions q p b k.1; above = k.0 }
+after_step_agrees hs (Err e) q p b k = refl
 
-carried_same : (hs : List Place) (c : Core) (r : Result Core Refusal) (q p : Queue) → Behind hs q p
+on_core_agrees : (hs : List Place) (c : Core) (r : Result Core Refusal) (q p : Queue) → Behind hs q p
     → Above (length hs) c → Given (effects.Goes 0 c.cursor c) r → Same hs (on_core r q) (on_core r p)
-carried_same hs c (Ok d) q p b k g = record { core = refl; queue = b; above = g.1.3 (length hs) k }
-carried_same hs c (Err e) q p b k g = refl
+on_core_agrees hs c (Ok d) q p b k g = record { core = refl; queue = b; above = g.1.3 (length hs) k }
+on_core_agrees hs c (Err e) q p b k g = refl
 
 -- ## Unrolling
 
-outwards_above : (h : ℕ) (is : List ℕ) (c : Core) → Above h c → Above h (with_outer_indent is c)
-outwards_above h [] c k = k
-outwards_above h (i ∷ is) c k = k
+outer_indent_above : (h : ℕ) (is : List ℕ) (c : Core) → Above h c → Above h (with_outer_indent is c)
+outer_indent_above h [] c k = k
+outer_indent_above h (i ∷ is) c k = k
 
 less_above : (h : ℕ) (column : Option ℕ) (c : Core) → Above h c → Above h (go_less_deep column c)
 less_above h None c k = k
@@ -130,7 +130,7 @@ less_above h (Some column) c k = k
 block_goes : (hs : List Place) (m : Marker) (c : Core) (q p : Queue) → Behind hs q p → Above (length hs) c
     → Goes hs (end_block m (at c q)) (end_block m (at c p))
 block_goes hs m c q p b k =
-    record { core = refl; queue = put_behind hs _ q p b; above = outwards_above (length hs) c.outer_indents c k }
+    record { core = refl; queue = put_behind hs _ q p b; above = outer_indent_above (length hs) c.outer_indents c k }
 
 blocks_go : (hs : List Place) (column : Option ℕ) (m : Marker) (is : List ℕ) (c : Core) (q p : Queue) → Behind hs q p
     → Above (length hs) c → Goes hs (end_blocks column m is (at c q)) (end_blocks column m is (at c p))
@@ -154,7 +154,7 @@ unroll_goes hs column m c q p b k =
 -- ## Documents
 
 removal_agrees : (hs : List Place) → AgreesBehind hs document.remove_key_of
-removal_agrees hs c q p b k = carried_same hs c (remove_key c) q p b k
+removal_agrees hs c q p b k = on_core_agrees hs c (remove_key c) q p b k
     (effects.remove_goes 0 c.cursor c c (effects.goes_none c))
 
 content_ends : (hs : List Place) → AgreesBehind hs document.end_content
@@ -212,7 +212,7 @@ content_same hs first second c q p some f g b k =
     let n : next q ≡ next p = same_next hs q p b in
     let places = ap length b.places in let l = length-append hs p.places in
     let before : length hs ≤ next q = omega (arith, places, l) in
-    let told = acted_same hs (step first second (next q) c) q p b
+    let told = after_step_agrees hs (step first second (next q) c) q p b
     (given_map _ _ (step first second (next q) c) (λ x e. e.keeps (length hs) (before, k))
     (step_effect first second (next q) c some f g)) in
     subst (λ (m : ℕ). Same hs (after_step (step first second (next q) c) q) (after_step (step first second m c) p)) n told
@@ -225,7 +225,7 @@ directive_agrees : (hs : List Place) → AgreesBehind hs document.state_behind_d
 unfolding document.state_behind_directive
 directive_agrees hs c q p b k =
     same_then hs (document.end_content (at c q)) (document.end_content (at c p)) _ (content_ends hs c q p b k)
-    (λ d r s e a. acted_same hs (document.read_directive d) r s e (directive_keeps (length hs) d a))
+    (λ d r s e a. after_step_agrees hs (document.read_directive d) r s e (directive_keeps (length hs) d a))
 
 here_agrees : (hs : List Place) → AgreesBehind hs fetch_here
 unfolding fetch_here
@@ -244,7 +244,7 @@ arrive_agrees : (hs : List Place) → AgreesBehind hs arrive
 unfolding arrive
 arrive_agrees hs c q p b k =
     same_then hs (on_core (pass_gap c >>= drop_far_key) q) (on_core (pass_gap c >>= drop_far_key) p) _
-    (carried_same hs c _ q p b k (arrival_goes c))
+    (on_core_agrees hs c _ q p b k (arrival_goes c))
     (λ d r s e a. unroll_goes hs (Some d.cursor.mark.col) d.cursor.mark d r s e a)
 
 fetch_agrees : (hs : List Place) → AgreesBehind hs fetch
@@ -259,7 +259,7 @@ within_agrees hs limit c q p b k =
     same_if hs (nat_le c.cursor.mark.index limit) _ _ _ _ (record { core = refl; queue = b; above = k }) refl
 
 settled_agrees : (hs : List Place) → AgreesBehind hs without_far_key
-settled_agrees hs c q p b k = carried_same hs c (drop_far_key c) q p b k
+settled_agrees hs c q p b k = on_core_agrees hs c (drop_far_key c) q p b k
     (effects.drop_goes 0 c.cursor c c (effects.goes_none c))
 
 -- a token that is fetched, and the candidate of its line dropped where it is too far

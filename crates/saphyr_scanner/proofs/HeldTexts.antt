@@ -11,19 +11,7 @@ use Rattle.saphyr_scanner.specs.declared.queue.place.Place.TheVariants.{Bare, Te
 use Rattle.saphyr_scanner.specs.declared.queue.texts.TextPlace.{TextPlace}
 use Rattle.saphyr_scanner.specs.Steps.Queue.{bare_place, take, take_place}
 use Rattle.saphyr_scanner.specs.Views.Tokens.{Piece}
-use Rattle.saphyr_scanner.specs.Views.Places.{
-  GrowsBehind,
-  HasHeldText,
-  IsCopyOfPlace,
-  IsHeldText,
-  IsHeldAs,
-  IsBarePlaceOf,
-  on_line,
-  place,
-  text_at,
-  text_kind,
-  text_place,
-}
+use Rattle.saphyr_scanner.specs.Views.Places.{GrowsBehind, HasHeldText, IsCopyOfPlace, IsHeldText, IsBarePlaceOf, on_line, place, text_at, text_kind, text_place}
 
 range_of_append : (old more : List ℕ) (a b : ℕ) → a ≤ b → b ≤ length old
     → slice_range (old ++ more) a b ≡ slice_range old a b

@@ -26,10 +26,10 @@ same_hands (p ∷ ps) go ho s h = by (needs_token s) refl (same_hands ps go ho (
     by true e others = rw e (h s refl)
     by false e others = rw e (ap (before_place p.opening p.piece) others)
 
-delivered_so : (r : Result State Refusal) (f g : State → Remaining) → ((u : State) → r ≡ Ok u → f u ≡ g u)
+remaining_after_so : (r : Result State Refusal) (f g : State → Remaining) → ((u : State) → r ≡ Ok u → f u ≡ g u)
     → remaining_after r f ≡ remaining_after r g
-delivered_so (Ok u) f g h = h u refl
-delivered_so (Err e) f g h = refl
+remaining_after_so (Ok u) f g h = h u refl
+remaining_after_so (Err e) f g h = refl
 
 -- a token less is to be read behind each
 pub enough : Readers → (limit n m : ℕ) (s : State) → size s.core < n → size s.core < m → run n limit s ≡ run m limit s
@@ -47,7 +47,7 @@ enough laws limit (suc n) (suc m) s a b =
     at t e false over h =
         let same_size : size t.core ≡ size s.core = ap size e in
         cond-false t.core.ended _ _ over
-        ∙ delivered_so (read limit t) _ _
+        ∙ remaining_after_so (read limit t) _ _
         (λ u q. let less = less_read laws limit t u over q in h u (omega (arith, less, same_size)))
         ∙ sym (cond-false t.core.ended _ _ over)
 

@@ -85,11 +85,11 @@ filler {line} l f = record {
 pub record LastFiller (t : List ℕ) : Type 0 where
   pub holds : IsLastFiller t
 
-pub last_line : {lines line : List ℕ} → Filler lines → Line line → LastFiller (lines ++ line)
-last_line {lines} {line} f l = record { holds = (lines, line, f.holds, l.holds, refl) }
+pub last_filler_line : {lines line : List ℕ} → Filler lines → Line line → LastFiller (lines ++ line)
+last_filler_line {lines} {line} f l = record { holds = (lines, line, f.holds, l.holds, refl) }
 
 pub no_more : LastFiller []
-no_more = last_line no_filler (blank_line [] refl)
+no_more = last_filler_line no_filler (blank_line [] refl)
 
 -- ## Separation in flow style
 

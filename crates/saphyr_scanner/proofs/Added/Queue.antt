@@ -46,17 +46,17 @@ pub place_goes_on : (ps : List Place) (t : Piece) → PlacesGoOn ps → IsNoEnd 
 place_goes_on [] t h k = (k, tt)
 place_goes_on (p ∷ ps) t h k = (h.0, place_goes_on ps t h.1 k)
 
-opened_goes_on : (n : ℕ) (o : Opening) (ps : List Place) → PlacesGoOn ps → PlacesGoOn (places_with_opening n o ps)
-opened_goes_on n o [] h = h
-opened_goes_on zero o (p ∷ ps) h = h
-opened_goes_on (suc n) o (p ∷ ps) h = (h.0, opened_goes_on n o ps h.1)
+with_opening_goes_on : (n : ℕ) (o : Opening) (ps : List Place) → PlacesGoOn ps → PlacesGoOn (places_with_opening n o ps)
+with_opening_goes_on n o [] h = h
+with_opening_goes_on zero o (p ∷ ps) h = h
+with_opening_goes_on (suc n) o (p ∷ ps) h = (h.0, with_opening_goes_on n o ps h.1)
 
 pub performed_goes_on : (actions : List Action) (q : Queue) → PlacesGoOn q.places → PutsGoOn actions
     → PlacesGoOn (perform actions q).places
 performed_goes_on [] q h k = h
 performed_goes_on (Put t ∷ others) q h k = performed_goes_on others (act (Put t) q) (place_goes_on q.places t h k.0) k.1
 performed_goes_on (Open n o ∷ others) q h k =
-    performed_goes_on others (act (Open n o) q) (opened_goes_on (n - q.handed) o q.places h) k
+    performed_goes_on others (act (Open n o) q) (with_opening_goes_on (n - q.handed) o q.places h) k
 
 pub tokens_put : (ps : List Place) (t : Piece) → tokens_in (ps ++ bare_place t ∷ []) ≡ tokens_in ps + 1
 tokens_put [] t = refl

@@ -24,7 +24,7 @@ use Rattle.saphyr_scanner.proofs.Breaks.Cores.{Indexes, near_core, Cores, Twin, 
 use Rattle.saphyr_scanner.proofs.Breaks.Normal.{first_is, normal_none}
 use Rattle.saphyr_scanner.proofs.Breaks.Places.{reindexed, near, Ahead, ahead_ahead, ahead_stands, Stand, one_less}
 use Rattle.saphyr_scanner.proofs.Breaks.Scalars.{Begins, begins_still, begins_near, no_break_here}
-use Rattle.saphyr_scanner.proofs.Breaks.States.{SameQueues, same_act, States, Ended, SameSteps, holding, unroll_same, acted_same}
+use Rattle.saphyr_scanner.proofs.Breaks.States.{SameQueues, same_act, States, Ended, SameSteps, holding, unroll_same, after_step_same}
 use Rattle.saphyr_scanner.proofs.Breaks.Steps.{both_choose, character_ahead}
 use Rattle.saphyr_input.proofs.Basics.Characters.{no_return}
 use Rattle.saphyr_scalar.proofs.Given.{cursor_at}
@@ -280,5 +280,5 @@ pub directive_same : (text : List ℕ) (c : Core) (x : Indexes) (q r : Queue) �
 unfolding document.state_behind_directive
 directive_same text c x q r laws t e begins =
     content_then text (States text) c x q r _ _ t e
-    (λ d y u v w m f. acted_same text (document.read_directive d) (document.read_directive (near_core y d)) u v
+    (λ d y u v w m f. after_step_same text (document.read_directive d) (document.read_directive (near_core y d)) u v
     (read_directive_same text d y laws w (begins_still 37 c.cursor d.cursor m begins)) f)

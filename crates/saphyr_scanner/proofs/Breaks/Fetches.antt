@@ -25,7 +25,7 @@ use Rattle.saphyr_scanner.proofs.Breaks.Indicators.{start_same, end_same, entry_
 use Rattle.saphyr_scanner.proofs.Breaks.Normal.{first_is, second_is, start_so, end_so, normal_shorter}
 use Rattle.saphyr_scanner.proofs.Breaks.Passing.{Rested, gap_rests, dropped_rest}
 use Rattle.saphyr_scanner.proofs.Breaks.Scalars.{double_same, single_same, plain_same, block_same, name_same, tag_same}
-use Rattle.saphyr_scanner.proofs.Breaks.States.{SameQueues, same_act, same_next, States, SameSteps, holding, unroll_same, acted_same, carried_same}
+use Rattle.saphyr_scanner.proofs.Breaks.States.{SameQueues, same_act, same_next, States, SameSteps, holding, unroll_same, after_step_same, on_core_same}
 use Rattle.saphyr_scanner.proofs.Breaks.Steps.{both_choose}
 use Rattle.saphyr_input.proofs.Basics.Characters.{no_return}
 use Rattle.std.proofs.lemmas.Bool.{and_parts, le-leb, eqb-true}
@@ -83,7 +83,7 @@ content_same text c x q r laws t e ink k =
     (second_is is_blank_or_breakz refl s k) (second_is is_flow refl s k)
     (second_is (λ y. (y == 91) || (y == 123)) refl s k) in
     subst (λ f. P f (next r)) (sym (first_same s ink))
-    (subst (λ i. P (slice_index s 0) i) (same_next q r e) (acted_same text _ _ q r h e))
+    (subst (λ i. P (slice_index s 0) i) (same_next q r e) (after_step_same text _ _ q r h e))
 
 inked_of : (t : List ℕ) → is_z (slice_index t 0) ≡ false → is_break (slice_index t 0) ≡ false → Inked t
 inked_of [] z k = absurd (cc)
@@ -120,12 +120,12 @@ here_same text c x q r laws t e k =
 abbrev RestedStates : List ℕ → State → State → Type 0
 RestedStates text s t = Rested text s.core t.core × SameQueues s.queue t.queue
 
-carried_rested : (text : List ℕ) (a b : Result Core Refusal) (q r : Queue) → GiveAlike (Rested text) a b
+on_core_rested : (text : List ℕ) (a b : Result Core Refusal) (q r : Queue) → GiveAlike (Rested text) a b
     → SameQueues q r → GiveAlike (RestedStates text) (on_core a q) (on_core b r)
-carried_rested text (Ok c) (Ok d) q r h e = (h, e)
-carried_rested text (Ok c) (Err f) q r h e = absurd h
-carried_rested text (Err d) (Ok c) q r h e = absurd h
-carried_rested text (Err d) (Err f) q r h e = h
+on_core_rested text (Ok c) (Ok d) q r h e = (h, e)
+on_core_rested text (Ok c) (Err f) q r h e = absurd h
+on_core_rested text (Err d) (Ok c) q r h e = absurd h
+on_core_rested text (Err d) (Err f) q r h e = h
 
 arrive_same : (text : List ℕ) (c : Core) (x : Indexes) (q r : Queue) → Laws text → Twin text c x → SameQueues q r
     → GiveAlike (RestedStates text) (arrive (holding c q)) (arrive (holding (near_core x c) r))
@@ -136,7 +136,7 @@ arrive_same text c x q r laws t e =
     (gap_rests text c x laws t)
     (λ a b i j h. of_cores text (λ d f. GiveAlike (Rested text) (drop_far_key d) (drop_far_key f)) a b h.0
     (λ y u. dropped_rest text a y u h.1)) in
-    both_then (RestedStates text) (RestedStates text) _ _ _ _ (carried_rested text _ _ q r gone e)
+    both_then (RestedStates text) (RestedStates text) _ _ _ _ (on_core_rested text _ _ q r gone e)
     (λ a b i j h. of_cores text (λ d f. RestedStates text
     (unroll (Some d.cursor.mark.col) d.cursor.mark (holding d a.queue))
     (unroll (Some f.cursor.mark.col) f.cursor.mark (holding f b.queue))) a.core b.core h.0.0
@@ -175,7 +175,7 @@ within_same text limit c x q r short t e =
 pub settled_same : (text : List ℕ) (c : Core) (x : Indexes) (q r : Queue) → Twin text c x → SameQueues q r
     → GiveAlike (States text) (without_far_key (holding c q)) (without_far_key (holding (near_core x c) r))
 settled_same text c x q r t e =
-    carried_same text (drop_far_key c) (drop_far_key (near_core x c)) q r (drop_twin text c x t) e
+    on_core_same text (drop_far_key c) (drop_far_key (near_core x c)) q r (drop_twin text c x t) e
 
 -- a token is read, and a candidate that is too far is dropped
 pub read_same : (text : List ℕ) (limit : ℕ) (c : Core) (x : Indexes) (q r : Queue) → Laws text → length text ≤ limit

@@ -121,9 +121,9 @@ gap_alike text least s i broke tabbed low x =
 abbrev pub Spaces : List ℕ → Cursor → ℕ → SpacesEnd → SpacesEnd → Type 0
 Spaces text s i g h = (j : ℕ) × (h ≡ record { cursor = near j g.cursor; space = g.space }) × Ahead text s i g.cursor j
 
-spaced_further : (text : List ℕ) (s : Cursor) (i : ℕ) (t : Cursor) (j : ℕ) (g h : SpacesEnd) → Ahead text s i t j
+spaces_end_further : (text : List ℕ) (s : Cursor) (i : ℕ) (t : Cursor) (j : ℕ) (g h : SpacesEnd) → Ahead text s i t j
     → Spaces text t j g h → Spaces text s i g h
-spaced_further text s i t j g h x p = (p.0, p.1, ahead_ahead text s i t j g.cursor p.0 x p.2)
+spaces_end_further text s i t j g h x p = (p.0, p.1, ahead_ahead text s i t j g.cursor p.0 x p.2)
 
 record Spacing (text : List ℕ) (t n : List ℕ) (m : Marker) (i : ℕ) (blank space : Bool) : Type 0 where
   between : Spaces text (cursor_at t m blank) i (spaces m blank space t) (spaces (reindexed i m) blank space n)
@@ -156,38 +156,38 @@ all_spaces text _ _ (character c {r = t} {q = n} ink w) m i blank space low x =
       between =
           choose P ((c == 32) || ((c == 13) && (slice_index t 0 == 10)))
           ((c == 32) || ((c == 13) && (slice_index n 0 == 10))) _ _ _ _ (ap (λ b. (c == 32) || b) (not_cut c t n e))
-          (λ _. spaced_further text _ _ _ _ _ _ on (more true).between)
+          (λ _. spaces_end_further text _ _ _ _ _ _ on (more true).between)
           (λ _. choose P (is_break c) (is_break c) _ _ _ _ refl
-          (λ _. spaced_further text _ _ _ _ _ _ line next.between)
+          (λ _. spaces_end_further text _ _ _ _ _ _ line next.between)
           (λ _. choose P (c == 35) (c == 35) _ _ _ _ refl
-          (λ _. spaced_further text _ _ _ _ _ _ on (more space).inside) (λ _. here)));
+          (λ _. spaces_end_further text _ _ _ _ _ _ on (more space).inside) (λ _. here)));
       inside =
           choose P (is_yaml_non_break c) (is_yaml_non_break c) _ _ _ _ refl
-          (λ _. spaced_further text _ _ _ _ _ _ on (more space).inside)
+          (λ _. spaces_end_further text _ _ _ _ _ _ on (more space).inside)
           (λ _. choose P ((c == 13) && (slice_index t 0 == 10)) ((c == 13) && (slice_index n 0 == 10)) _ _ _ _
           (not_cut c t n e)
-          (λ _. spaced_further text _ _ _ _ _ _ on (more true).between)
+          (λ _. spaces_end_further text _ _ _ _ _ _ on (more true).between)
           (λ _. choose P (is_break c) (is_break c) _ _ _ _ refl
-          (λ _. spaced_further text _ _ _ _ _ _ line next.between) (λ _. here)));
+          (λ _. spaces_end_further text _ _ _ _ _ _ line next.between) (λ _. here)));
     }
 all_spaces text _ _ (feed {r = t} {q = n} w) m i blank space low x =
     let line = single_ahead text 10 10 t m i blank true refl (omega (arith, low)) x in
     let next = all_spaces text t n w (next_line m 1) (i + 1) true true (omega (arith, low))
     (ahead_stands text _ _ _ _ line) in
-    let h = spaced_further text _ _ _ _ _ _ line next.between in
+    let h = spaces_end_further text _ _ _ _ _ _ line next.between in
     record { between = h; inside = h }
 all_spaces text _ _ (pair {r = t} {q = n} w) m i blank space low x =
     let line = two_ahead text t m i blank true (omega (arith, low)) x in
     let next = all_spaces text t n w (line_from m (m.index + 1 + 1)) (i + 1) true true (omega (arith, low))
     (ahead_stands text _ _ _ _ line) in
-    let h = spaced_further text _ _ _ _ _ _ line next.between in
+    let h = spaces_end_further text _ _ _ _ _ _ line next.between in
     record { between = h; inside = h }
 all_spaces text _ _ (return {r = t} {q = n} e w) m i blank space low x =
     let is : normalized (13 ∷ t) ≡ 10 ∷ normalized t = rw e refl in
     let line = single_ahead text 13 10 t m i blank true is (omega (arith, low)) x in
     let next = all_spaces text t n w (next_line m 1) (i + 1) true true (omega (arith, low))
     (ahead_stands text _ _ _ _ line) in
-    let h = spaced_further text _ _ _ _ _ _ line next.between in
+    let h = spaces_end_further text _ _ _ _ _ _ line next.between in
     record { between = rw e h; inside = rw e h }
 
 pub spaces_alike : (text : List ℕ) (s : Cursor) (i : ℕ) (space : Bool) → Low s → Stand text s i

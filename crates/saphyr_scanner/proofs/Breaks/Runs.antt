@@ -94,14 +94,14 @@ hands_same text c x (p ∷ ps) (q ∷ qs) n m go ho e k h =
 hands_same text c x [] (q ∷ qs) n m go ho e k h = absurd e
 hands_same text c x (p ∷ ps) [] n m go ho e k h = absurd e
 
-delivered_same : (text : List ℕ) (a b : Result State Refusal) (go ho : State → Remaining)
+remaining_after_same : (text : List ℕ) (a b : Result State Refusal) (go ho : State → Remaining)
     → GiveAlike (States text) a b
     → ((s t : State) → a ≡ Ok s → b ≡ Ok t → States text s t → HaveSameKinds (go s) (ho t))
     → HaveSameKinds (remaining_after a go) (remaining_after b ho)
-delivered_same text (Ok s) (Ok t) go ho h k = k s t refl refl h
-delivered_same text (Ok s) (Err f) go ho h k = absurd h
-delivered_same text (Err d) (Ok t) go ho h k = absurd h
-delivered_same text (Err d) (Err f) go ho h k = record { kinds = refl; refusals = ap (λ e. Some e) h }
+remaining_after_same text (Ok s) (Ok t) go ho h k = k s t refl refl h
+remaining_after_same text (Ok s) (Err f) go ho h k = absurd h
+remaining_after_same text (Err d) (Ok t) go ho h k = absurd h
+remaining_after_same text (Err d) (Err f) go ho h k = record { kinds = refl; refusals = ap (λ e. Some e) h }
 
 runs_same : (text : List ℕ) → Laws text → Readers → (limit : ℕ) → length text ≤ limit
     → (n m : ℕ) (c : Core) (x : Indexes) (q r : Queue) → size c < n → size (near_core x c) < m → Twin text c x
@@ -112,7 +112,7 @@ runs_same text laws readers limit short (suc n) zero c x q r a b t e = absurd (o
 runs_same text laws readers limit short (suc n) (suc m) c x q r a b t e =
     hands_same text c x q.places r.places q.handed r.handed _ _ e.places e.handed
     (λ u v f. choose HaveSameKinds c.ended c.ended _ _ _ _ refl (λ _. record { kinds = refl; refusals = refl })
-    (λ going. delivered_same text (read limit (holding c u)) (read limit (holding (near_core x c) v)) (run n limit)
+    (λ going. remaining_after_same text (read limit (holding c u)) (read limit (holding (near_core x c) v)) (run n limit)
     (run m limit) (read_same text limit c x u v laws short t f)
     (λ s w i j h.
     let less = less_read readers limit (holding c u) s going i in
@@ -145,7 +145,7 @@ scans_same text laws readers limit short =
       line = 1;
       adjacent = even_here 1 0 0;
     } in
-    delivered_same text (without_far_key s) (without_far_key (start (normalized text))) _ _
+    remaining_after_same text (without_far_key s) (without_far_key (start (normalized text))) _ _
     (settled_same text s.core at_start s.queue s.queue t (record { places = tt; handed = refl }))
     (λ u v i j h. of_cores text (λ c d. HaveSameKinds (run (suc (size c)) limit (holding c u.queue))
     (run (suc (size d)) limit (holding d v.queue))) u.core v.core h.0

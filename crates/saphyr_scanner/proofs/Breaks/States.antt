@@ -91,19 +91,19 @@ SameSteps text a b = Cores text a.core b.core × SameActions a.actions b.actions
 abbrev pub States : List ℕ → State → State → Type 0
 States text s t = Cores text s.core t.core × SameQueues s.queue t.queue
 
-pub acted_same : (text : List ℕ) (r q : Result Step Refusal) (u v : Queue) → GiveAlike (SameSteps text) r q
+pub after_step_same : (text : List ℕ) (r q : Result Step Refusal) (u v : Queue) → GiveAlike (SameSteps text) r q
     → SameQueues u v → GiveAlike (States text) (after_step r u) (after_step q v)
-acted_same text (Ok a) (Ok b) u v h e = (h.0, same_perform a.actions b.actions u v h.1 e)
-acted_same text (Ok a) (Err f) u v h e = absurd h
-acted_same text (Err d) (Ok b) u v h e = absurd h
-acted_same text (Err d) (Err f) u v h e = h
+after_step_same text (Ok a) (Ok b) u v h e = (h.0, same_perform a.actions b.actions u v h.1 e)
+after_step_same text (Ok a) (Err f) u v h e = absurd h
+after_step_same text (Err d) (Ok b) u v h e = absurd h
+after_step_same text (Err d) (Err f) u v h e = h
 
-pub carried_same : (text : List ℕ) (r q : Result Core Refusal) (u v : Queue) → GiveAlike (Cores text) r q
+pub on_core_same : (text : List ℕ) (r q : Result Core Refusal) (u v : Queue) → GiveAlike (Cores text) r q
     → SameQueues u v → GiveAlike (States text) (on_core r u) (on_core q v)
-carried_same text (Ok c) (Ok d) u v h e = (h, e)
-carried_same text (Ok c) (Err f) u v h e = absurd h
-carried_same text (Err d) (Ok b) u v h e = absurd h
-carried_same text (Err d) (Err f) u v h e = h
+on_core_same text (Ok c) (Ok d) u v h e = (h, e)
+on_core_same text (Ok c) (Err f) u v h e = absurd h
+on_core_same text (Err d) (Ok b) u v h e = absurd h
+on_core_same text (Err d) (Err f) u v h e = h
 
 -- ## Block collections end
 
@@ -114,16 +114,16 @@ holding c q = record { core = c; queue = q }
 abbrev pub Ended : List ℕ → Cursor → State → State → Type 0
 Ended text s a b = Cores text a.core b.core × (a.core.cursor ≡ s) × SameQueues a.queue b.queue
 
-outwards_twin : (text : List ℕ) (is : List ℕ) (c : Core) (x : Indexes) → Twin text c x
+outer_indent_twin : (text : List ℕ) (is : List ℕ) (c : Core) (x : Indexes) → Twin text c x
     → (with_outer_indent is (near_core x c) ≡ near_core x (with_outer_indent is c)) × Twin text (with_outer_indent is c) x ×
     ((with_outer_indent is c).cursor ≡ c.cursor)
-outwards_twin text [] c x t = (refl, t, refl)
-outwards_twin text (i ∷ is) c x t = (refl, t, refl)
+outer_indent_twin text [] c x t = (refl, t, refl)
+outer_indent_twin text (i ∷ is) c x t = (refl, t, refl)
 
 ends_block : (text : List ℕ) (m k : Marker) (c : Core) (x : Indexes) (q r : Queue) → Twin text c x → SameQueues q r
     → Ended text c.cursor (end_block m (holding c q)) (end_block k (holding (near_core x c) r))
 ends_block text m k c x q r t e =
-    let o = outwards_twin text c.outer_indents c x t in (
+    let o = outer_indent_twin text c.outer_indents c x t in (
       (x, o.0, o.1),
       o.2,
       same_act (Put (record { span = record { start = m; end = m }; kind = _ }))

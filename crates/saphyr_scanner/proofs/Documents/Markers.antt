@@ -94,14 +94,14 @@ reads_start {limit = limit} r v h =
 -- ## A byte order mark
 
 -- behind a byte order mark, which has no column
-abbrev pub behind_mark : Marker → Marker
-behind_mark m = record { index = m.index + 1; line = m.line; col = m.col }
+abbrev pub beyond_byte_order_mark : Marker → Marker
+beyond_byte_order_mark m = record { index = m.index + 1; line = m.line; col = m.col }
 
 mark_here : (m : Marker) (blank : Bool) (r : List ℕ) (k : Option Candidate) (a : Bool) (ad : ℕ) (ps : List Place)
     → m.col ≡ 0
     → fetch_here (state_at false (cursor_at (65279 ∷ r) m blank) context.Block k [] a ad ps)
-    ≡ Ok (state_at false (cursor_at r (behind_mark m) blank) context.Block None [] true ad
-    (ps ++ bare_place (piece_of m (behind_mark m) tokens.ByteOrderMark) ∷ []))
+    ≡ Ok (state_at false (cursor_at r (beyond_byte_order_mark m) blank) context.Block None [] true ad
+    (ps ++ bare_place (piece_of m (beyond_byte_order_mark m) tokens.ByteOrderMark) ∷ []))
 unfolding fetch_here state_behind_byte_order_mark end_content remove_key unroll
 mark_here m blank r k a ad ps col = rw (no_greater m.col col) refl
 
@@ -114,9 +114,9 @@ pub reads_mark : {limit : ℕ} {start : State} {opened : Bool} {ts : List Kind} 
     → StandsInStream limit start true (Lined true r) r (ts ++ tokens.ByteOrderMark ∷ [])
 reads_mark {limit = limit} r v =
     let col = at_line (65279 ∷ r) v.mark v.line.0 (cons_not_empty 65279 r) in
-    reads_token v refl (inl refl) (λ blank. cursor_at r (behind_mark v.mark) blank) true
-    (piece_of v.mark (behind_mark v.mark) tokens.ByteOrderMark)
-    (λ blank key allowed ad ps. mark_here v.mark blank r key allowed ad ps col) (Lined true r) (behind_mark v.mark) r
+    reads_token v refl (inl refl) (λ blank. cursor_at r (beyond_byte_order_mark v.mark) blank) true
+    (piece_of v.mark (beyond_byte_order_mark v.mark) tokens.ByteOrderMark)
+    (λ blank key allowed ad ps. mark_here v.mark blank r key allowed ad ps col) (Lined true r) (beyond_byte_order_mark v.mark) r
     (λ _. refl) (mark_count v.mark r limit v.count) (λ _. (inl col, λ _. inl (or-true (crosses r))))
     (index_behind v.mark.index 1) (along_lined v.mark 1 v.lined)
 

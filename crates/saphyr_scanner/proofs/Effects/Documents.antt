@@ -29,11 +29,11 @@ use Rattle.saphyr_scanner.proofs.Effects.Puts.{Reading, quiet}
 use Rattle.saphyr_scanner.proofs.Effects.Walked.{Premises, Walked, walked_then, at_most, Doing, unsaved_step, at_reach}
 use Rattle.saphyr_scanner.proofs.Effects.Walked.{at_inside, read_walked, separate_walked}
 use Rattle.saphyr_scanner.proofs.Effects.Readers.{TextLaws}
-use Rattle.saphyr_scanner.proofs.Effects.States.{FetchesTokens, advances_advances, carried_advances, acted_advances, unroll_advances}
+use Rattle.saphyr_scanner.proofs.Effects.States.{FetchesTokens, advances_advances, on_core_fetches, after_step_fetches, unroll_advances}
 use Rattle.saphyr_scanner.proofs.Effects.Steps.{begins_none, begins_forgotten}
 use Rattle.saphyr_scanner.proofs.LineTails.{OnLine, tail_apart}
 use Rattle.saphyr_scanner.proofs.Reached.{along_reached, apart_reached}
-use Rattle.saphyr_scanner.proofs.Taken.Documents.{HoldsState, forgotten_unrolled, three_at, Marking, end_marking, break_apart, directive_token, quiet_directive}
+use Rattle.saphyr_scanner.proofs.Taken.Documents.{HoldsState, forgotten_unrolled, three_at, Marking, end_marking, break_apart, directive_is_token, quiet_directive}
 use Rattle.saphyr_scanner.proofs.Taken.Later.{apart_later}
 use Rattle.saphyr_scanner.proofs.Taken.Parts.{is_quiet}
 use Rattle.saphyr_scanner.proofs.Taken.Places.{Reaches, reaches_reaches, At, at_here}
@@ -61,7 +61,7 @@ content_walked s =
     (λ _ _. let P : Cursor → Type 0 = λ v. At s.core.cursor v.mark in subst P (sym there) (at_here s.core.cursor))
     (λ _. record {
       advances = advances_advances 0 0 s u _ (unroll_advances None s.core.cursor.mark s refl)
-          (carried_advances u (Ok (forget_key u.core))
+          (on_core_fetches u (Ok (forget_key u.core))
           (stays u.core.cursor u.core.cursor refl, begins_forgotten 0 u.core u.core (begins_none u.core)));
       cursor = there;
       comment = λ n. unrolled_comment None s.core.cursor.mark s ∙ n;
@@ -79,7 +79,7 @@ documented : (s t : State) (x : Step) → Content s t → NoComment t.core x.cor
     → Documented s (record { core = x.core; queue = perform x.actions t.queue })
 documented s t x c m d = record {
   advances = advances_advances 0 1 s t _ c.advances
-      (acted_advances _ t (Ok x) (unsaved_step (Unit {0}) 0 t.core t.core.cursor (Ok x) d).effect);
+      (after_step_fetches _ t (Ok x) (unsaved_step (Unit {0}) 0 t.core t.core.cursor (Ok x) d).effect);
   holds = λ laws columns from h. d.holds laws columns from t.queue tt (c.holds columns from h);
   comment = λ n. m (c.comment n);
 }
@@ -178,7 +178,7 @@ end_marker_walked s col e =
         by_test (is_breakz (slice_index u.rest 0)) _ _ (Walked (Premises s.core) (Documented s) s.core.cursor)
         (λ _. record {
           advances = advances_advances 1 0 s t _ d.advances
-              (carried_advances t (Ok x.1) (
+              (on_core_fetches t (Ok x.1) (
                 record { later = later.index; counted = later.counted },
                 (f.started, f.ended, (let w = f.few in omega (arith, w)), λ i k. (f.keeps i tt k).0),
               ));
@@ -252,7 +252,7 @@ directive_reading c x col f e = record {
       (along_more s.mark (length text) (length tail) (length text + length tail) refl) first in
       let P : Cursor → Type 0 = λ u. AreApart mid u in (
         mid,
-        directive_token x.0 c.indent (record { start = s.mark; end = x.1 }) s mid (
+        directive_is_token x.0 c.indent (record { start = s.mark; end = x.1 }) s mid (
           text,
           tail,
           behind,

@@ -32,7 +32,7 @@ use Rattle.saphyr_scanner.proofs.Effects.Blocks.{block_entry_does, key_does}
 use Rattle.saphyr_scanner.proofs.Effects.Scalars.{plain_start, double_quoted_does, single_quoted_does, plain_does, block_does}
 use Rattle.saphyr_scanner.proofs.Effects.Properties.{an_alias, an_anchor, name_does, tag_does}
 use Rattle.saphyr_scanner.proofs.Taken.Places.{at_here}
-use Rattle.saphyr_scanner.proofs.Effects.States.{FetchesTokens, advances_advances, carried_advances, acted_advances, same_index, unroll_advances}
+use Rattle.saphyr_scanner.proofs.Effects.States.{FetchesTokens, advances_advances, on_core_fetches, after_step_fetches, same_index, unroll_advances}
 use Rattle.saphyr_scanner.proofs.Effects.Documents.{start_walked, end_marker_walked, mark_walked, directive_walked, documents_advance}
 use Rattle.saphyr_scanner.proofs.Taken.Documents.{start_marking}
 use Rattle.saphyr_input.proofs.Basics.Booleans.{by_test}
@@ -177,7 +177,7 @@ here_fetched s going =
     (λ e. let w = and_parts (s.core.cursor.mark.col == 0) (is_document_end t) e in
     of_advances s _ going (documents_advance s _ (end_marker_walked s (eqb-true s.core.cursor.mark.col 0 w.0) w.1)))
     (λ _. by_test (nat_lt s.core.cursor.mark.col (least_column s.core)) _ _ P (λ _. tt)
-    (λ _. of_advances s _ going (acted_advances _ s (step (slice_index t 0) (slice_index t 1) (next s.queue) s.core)
+    (λ _. of_advances s _ going (after_step_fetches _ s (step (slice_index t 0) (slice_index t 1) (next s.queue) s.core)
     (step_effect (slice_index t 0) (slice_index t 1) (next s.queue) s.core h refl refl))))))))
 
 -- what stands before the next token is passed
@@ -193,7 +193,7 @@ arrive_advances s =
     let r = pass_gap s.core >>= drop_far_key in
     given_bind (FetchesTokens 0 s) (on_core r s.queue) _ (λ t e.
     advances_advances 0 0 s t _
-    (given_of (FetchesTokens 0 s) (on_core r s.queue) t (carried_advances s r (arrival_goes s.core)) e)
+    (given_of (FetchesTokens 0 s) (on_core r s.queue) t (on_core_fetches s r (arrival_goes s.core)) e)
     (unroll_advances (Some t.core.cursor.mark.col) t.core.cursor.mark t refl))
 
 begin_fetched : (s : State) → s.core.started ≡ false → s.core.ended ≡ false → Given (Fetched s) (Ok (begin s))
@@ -224,7 +224,7 @@ within_fetched limit s going =
 
 pub settled_advances : (s : State) → Given (FetchesTokens 0 s) (without_far_key s)
 settled_advances s =
-    carried_advances s (drop_far_key s.core) (drop_goes 0 s.core.cursor s.core s.core (goes_none s.core))
+    on_core_fetches s (drop_far_key s.core) (drop_goes 0 s.core.cursor s.core s.core (goes_none s.core))
 
 -- and a candidate that is too far is dropped
 dropped : (s t : State) (r : Result Core Refusal) → Fetched s t → Given (Goes 0 t.core.cursor t.core) r

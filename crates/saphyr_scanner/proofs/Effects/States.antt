@@ -10,7 +10,7 @@ use Rattle.saphyr_scanner.specs.Steps.Queue.{empty_piece}
 use Rattle.saphyr_scanner.specs.Steps.Core.{Core, StepResult, at_mark, in_block}
 use Rattle.saphyr_scanner.specs.Steps.State.{State, on_core, with_core, with_action, after_step}
 use Rattle.saphyr_scanner.specs.Steps.Unrolling.{unroll, end_blocks, end_block, is_right_of, with_outer_indent, go_less_deep}
-use Rattle.saphyr_scanner.proofs.Blocks.{block_cursor, less_deep_cursor}
+use Rattle.saphyr_scanner.proofs.Blocks.{block_cursor, go_less_deep_cursor}
 use Rattle.saphyr_scanner.proofs.Ordered.Queue.{GrowsInOrder, grows_grows, core_grows, performed, put_grows}
 use Rattle.saphyr_scanner.proofs.Added.Queue.{PlacesGoOn, place_goes_on, at_most_one, one_at_most, open_blocks, due, performed_goes_on, tokens_put, tokens_performed}
 use Rattle.saphyr_scanner.proofs.Effects.Readers.{Readers, ReaderEnds}
@@ -40,9 +40,9 @@ advances_advances k l s t u a b = record {
 }
 
 -- the queue stays as it is
-pub carried_advances : (s : State) (r : Result Core Refusal) → Given (Goes 0 s.core.cursor s.core) r
+pub on_core_fetches : (s : State) (r : Result Core Refusal) → Given (Goes 0 s.core.cursor s.core) r
     → Given (FetchesTokens 0 s) (on_core r s.queue)
-carried_advances s (Ok d) g = record {
+on_core_fetches s (Ok d) g = record {
   less = λ _. omega (arith, g.0.later, g.0.counted);
   grows = λ _. core_grows s (with_core d s) g.0 refl;
   started = g.1.0;
@@ -50,14 +50,14 @@ carried_advances s (Ok d) g = record {
   goes_on = λ h. h;
   few = let x = g.1.2 in omega (arith, x);
 }
-carried_advances s (Err e) g = tt
+on_core_fetches s (Err e) g = tt
 
 advances_none : (s : State) → FetchesTokens 0 s s
-advances_none s = carried_advances s (Ok s.core) (goes_none s.core)
+advances_none s = on_core_fetches s (Ok s.core) (goes_none s.core)
 
-pub acted_advances : (n : ℕ) (s : State) (r : StepResult) → Given (EffectAt n s.core) r
+pub after_step_fetches : (n : ℕ) (s : State) (r : StepResult) → Given (EffectAt n s.core) r
     → Given (FetchesTokens 1 s) (after_step r s.queue)
-acted_advances n s (Ok x) h = record {
+after_step_fetches n s (Ok x) h = record {
   less = λ laws. let l = h.less laws in omega (arith, l);
   grows = λ laws.
       record {
@@ -70,7 +70,7 @@ acted_advances n s (Ok x) h = record {
   goes_on = λ k. performed_goes_on x.actions s.queue k h.goes_on;
   few = let y = h.few in let z = tokens_performed x.actions s.queue in omega (arith, y, z);
 }
-acted_advances n s (Err e) h = tt
+after_step_fetches n s (Err e) h = tt
 
 -- ## Block collections end
 
@@ -122,9 +122,9 @@ blocks_advance column m (x ∷ is) s i =
     (same_index m s.core.cursor (end_block m s).core.cursor (block_cursor m s) i)))
     (λ _. advances_none s)
 
-less_deep_goes : (column : Option ℕ) (c : Core) → Goes 0 c.cursor c (go_less_deep column c)
-less_deep_goes None c = goes_none c
-less_deep_goes (Some column) c = goes_none c
+go_less_deep_goes : (column : Option ℕ) (c : Core) → Goes 0 c.cursor c (go_less_deep column c)
+go_less_deep_goes None c = goes_none c
+go_less_deep_goes (Some column) c = goes_none c
 
 pub unroll_advances : (column : Option ℕ) (m : Marker) (s : State) → m.index ≡ s.core.cursor.mark.index
     → FetchesTokens 0 s (unroll column m s)
@@ -132,7 +132,7 @@ unfolding unroll
 unroll_advances column m s i =
     let t : State = with_core (go_less_deep column s.core) s in
     by_test (in_block s.core) _ _ (FetchesTokens 0 s)
-    (λ _. advances_advances 0 0 s t _ (carried_advances s (Ok (go_less_deep column s.core)) (less_deep_goes column s.core))
+    (λ _. advances_advances 0 0 s t _ (on_core_fetches s (Ok (go_less_deep column s.core)) (go_less_deep_goes column s.core))
     (blocks_advance column m s.core.outer_indents t
-    (same_index m s.core.cursor t.core.cursor (less_deep_cursor column s.core) i)))
+    (same_index m s.core.cursor t.core.cursor (go_less_deep_cursor column s.core) i)))
     (λ _. advances_none s)

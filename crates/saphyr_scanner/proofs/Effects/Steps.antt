@@ -62,15 +62,15 @@ separate_goes n s c d g =
       g.1,
     ))
 
-intercepts_goes : (n : ℕ) (s : Cursor) (c : Core) (m : Option Marker) (d : Core) → Goes n s c d
+check_comment_of_goes : (n : ℕ) (s : Cursor) (c : Core) (m : Option Marker) (d : Core) → Goes n s c d
     → Given (Goes n s c) (check_comment_of m d)
-intercepts_goes n s c None d g = g
-intercepts_goes n s c (Some m) d g =
+check_comment_of_goes n s c None d g = g
+check_comment_of_goes n s c (Some m) d g =
     by_test (goes_on_behind m (record d { comment = None })) _ _ (Given (Goes n s c)) (λ _. tt) (λ _. g)
 
 check_goes : (n : ℕ) (s : Cursor) (c d : Core) → Goes n s c d → Given (Goes n s c) (check_comment d)
 unfolding check_comment
-check_goes n s c d g = intercepts_goes n s c d.comment d g
+check_goes n s c d g = check_comment_of_goes n s c d.comment d g
 
 pub gap_goes : (n : ℕ) (s : Cursor) (c d : Core) → Goes n s c d → Given (Goes n s c) (pass_gap d)
 unfolding pass_gap

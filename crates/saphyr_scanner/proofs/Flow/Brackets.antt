@@ -23,7 +23,7 @@ use Rattle.saphyr_scanner.specs.Steps.Fetch.{step}
 use Rattle.saphyr_scanner.proofs.InFlow.States.{Around, core_at, state_at, Calm, placed_right, opening_steps_open, open_collection_gives, close_collection_gives, deepened, bracket_deepens, as_before, FlowMoment, moment, moment_with}
 use Rattle.saphyr_scanner.proofs.Json.States.{queue_of}
 use Rattle.saphyr_scanner.proofs.Json.Marks.{kinds, saved, level_of}
-use Rattle.saphyr_scanner.proofs.Json.Brackets.{place_of}
+use Rattle.saphyr_scanner.proofs.Json.Brackets.{token_place}
 use Rattle.saphyr_scanner.proofs.Flow.States.{IsFresh, Since, moved, past, IsClear, IsInk, IsParted, Known, fresh_key, PassesPiece, FitsAround, StandsBefore, key_behind}
 use Rattle.saphyr_scanner.proofs.Flow.Places.{moved_index, right_one, clear_here}
 use Rattle.saphyr_scanner.proofs.Flow.GapSteps.{past_ink, past_low}
@@ -91,7 +91,7 @@ open_passes around y in_flow kind ch mark begins m o fits parted now low calm be
     ∙ open_collection_gives y kind ch o m v.blank around (deepened around now.context d) now.context key now.outer
     v.allowed now.adjacent p.found p.there p.is low in_flow calm in
     let below = fits.below in
-    let new = place_of m p.there.mark kind ∷ [] in
+    let new = token_place m p.there.mark kind ∷ [] in
     let next = moment p.there y None (level_of now.context key ∷ now.outer) true now.adjacent now.places in
     let came = step_comes around now m (ch ∷ o) v (mark_begins m ch o mark fits.clear) (moment_with new next)
     (from_to m p.there.mark kind ∷ []) (deepened around now.context) (bracket_deepens around now.context)
@@ -117,13 +117,13 @@ pending false = []
 
 -- the places that a mark makes, behind the end of such a pair
 abbrev pub mark_places : Bool → Marker → Marker → Kind → List Place
-mark_places true m e kind = bare_place (empty_piece m tokens.FlowMappingEnd) ∷ place_of m e kind ∷ []
-mark_places false m e kind = place_of m e kind ∷ []
+mark_places true m e kind = bare_place (empty_piece m tokens.FlowMappingEnd) ∷ token_place m e kind ∷ []
+mark_places false m e kind = token_place m e kind ∷ []
 
 pub mark_puts : (ends : Bool) (ps : List Place) (m e : Marker) (kind : Kind)
     → perform (behind_pair ends m (from_to m e kind)) (queue_of ps) ≡ queue_of (ps ++ mark_places ends m e kind)
 mark_puts true ps m e kind =
-    ap queue_of (append_assoc ps (bare_place (empty_piece m tokens.FlowMappingEnd) ∷ []) (place_of m e kind ∷ []))
+    ap queue_of (append_assoc ps (bare_place (empty_piece m tokens.FlowMappingEnd) ∷ []) (token_place m e kind ∷ []))
 mark_puts false ps m e kind = refl
 
 pub mark_kinds : (ends : Bool) (m e : Marker) (kind : Kind)

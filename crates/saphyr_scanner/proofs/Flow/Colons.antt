@@ -23,7 +23,7 @@ use Rattle.saphyr_scanner.specs.Steps.Fetch.{step, flow_value}
 use Rattle.saphyr_scanner.proofs.InFlow.States.{Around, required_at, core_at}
 use Rattle.saphyr_scanner.proofs.Json.States.{queue_of}
 use Rattle.saphyr_scanner.proofs.Json.Marks.{kinds, kinds_append}
-use Rattle.saphyr_scanner.proofs.Json.Colons.{opened_seam, none_off}
+use Rattle.saphyr_scanner.proofs.Json.Colons.{with_opening_seam, none_off}
 use Rattle.saphyr_scanner.proofs.Flow.States.{past, IsParted, ends_colon}
 use Rattle.saphyr_scanner.proofs.Flow.Separates.{separates}
 use Rattle.saphyr_scanner.proofs.Flow.Brackets.{IsTokenMark}
@@ -168,7 +168,7 @@ pub performs : (ps others new : List Place) (op : Opening) (key mark : Piece) �
     ≡ queue_of (ps ++ pair_places op key others mark)
 performs ps others new op key mark is =
     let places = ap (λ (i : ℕ). places_with_opening i op (ps ++ new)) (none_off (length ps))
-    ∙ ap (λ (x : List Place). places_with_opening (length ps) op (ps ++ x)) is ∙ opened_seam op ps (bare_place key) others in
+    ∙ ap (λ (x : List Place). places_with_opening (length ps) op (ps ++ x)) is ∙ with_opening_seam op ps (bare_place key) others in
     ap (λ (x : List Place). queue_of (x ++ bare_place mark ∷ [])) places
     ∙ ap queue_of (append_assoc ps (record { opening = op; piece = key } ∷ others) (bare_place mark ∷ []))
 

@@ -24,7 +24,7 @@ use Rattle.saphyr_scanner.proofs.Flow.GapSteps.{past_ink, less_behind}
 use Rattle.saphyr_scanner.proofs.Flow.Fillers.{separation_past}
 use Rattle.saphyr_scanner.proofs.Flow.Joins.{closes_unnoted, knowing}
 use Rattle.saphyr_scanner.proofs.Flow.Ends.{EndsHere, behind_node_first, root_first}
-use Rattle.saphyr_scanner.proofs.Flow.Quotes.{ends_node_ink, flow_ends_quotes, root_ends_quotes, style_of, quoted_passes}
+use Rattle.saphyr_scanner.proofs.Flow.Quotes.{ends_node_ink, flow_ends_quotes, root_ends_quotes, style_of_quote, quoted_passes}
 use Rattle.saphyr_scanner.proofs.Flow.PlainEnds.{ends_in_flow, ends_at_root}
 use Rattle.saphyr_scanner.proofs.Flow.Plains.{plain_passes, plain_key_passes, plain_closes}
 use Rattle.saphyr_scanner.proofs.Flow.Words.{plain_right, key_right}
@@ -77,7 +77,7 @@ same_low a b e = omega (arith, e)
 
 quotes_pass : ReaderPromises → (around : Around) (node : Node) (quote : Quote) (value t o : List ℕ) (m : Marker)
     → IsQuoted quote around.indent value t → FitsAround around m t o
-    → IsBehindNode around.indent node o → PassesContent around node (style_of quote) value t o m
+    → IsBehindNode around.indent node o → PassesContent around node (style_of_quote quote) value t o m
 quotes_pass reads around node quote value t o m h fits behind now flow low text =
     let right = quoted_right around.indent quote m value t o h fits.clear fits.right in
     let q = quoted_passes reads around quote value t o m h fits
@@ -102,7 +102,7 @@ ClosesContent around style value t o m =
 
 quotes_close : ReaderPromises → (around : Around) (quote : Quote) (value t o : List ℕ) (m : Marker)
     → IsQuoted quote around.indent value t → FitsAround around m t o → IsBehindRoot around.indent (moved m t) o
-    → ClosesContent around (style_of quote) value t o m
+    → ClosesContent around (style_of_quote quote) value t o m
 quotes_close reads around quote value t o m h fits behind now before text =
     let apart = white_apart (slice_index o 0) (root_first around.indent (moved m t) o behind) in
     let q = quoted_passes reads around quote value t o m h fits apart (root_moment now)

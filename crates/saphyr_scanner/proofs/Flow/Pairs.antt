@@ -134,11 +134,11 @@ PairTokens front key value t =
     (ks vs : List Kind) × grammar.YieldsNode key grammar.InFlow ks × ValueTokens value vs
     × (t ≡ front ++ (ks ++ tokens.Value ∷ vs))
 
-behind_key : (indent room : ℕ) (key value : Node) (separation rest o : List ℕ) → IsSeparation indent separation
+key_followed : (indent room : ℕ) (key value : Node) (separation rest o : List ℕ) → IsSeparation indent separation
     → IsBeforeColon key separation
     → (IsTrue (allows_adjacent key separation) ⊎ IsTrue (ends_colon (slice_index (rest ++ o) 0)))
     → IsBehindNode indent key (separation ++ (58 ∷ (rest ++ o)))
-behind_key indent room key value separation rest o parts apart ends =
+key_followed indent room key value separation rest o parts apart ends =
     record {
       separation = separation;
       first =
@@ -194,7 +194,7 @@ key_passes {around} room key value K V y flows m t o fits ends (node, separation
     ∙ ap (λ (z : List ℕ). node ++ z) follow in
     let n = K m node (separation ++ (58 ∷ (rest ++ o)))
     (node_or_key around.indent room key node separation (rest ++ o) h) node_fits
-    (behind_key around.indent room key value separation rest o parts apart x.ends) (moment_in y now) before flows low
+    (key_followed around.indent room key value separation rest o parts apart x.ends) (moment_in y now) before flows low
     (text ∙ ap (past around.indent m) texts) in
     let at_colon_right = right_behind around.indent at_end separation parts n.passes.right in
     let colon_fits = fits_back at_end separation (58 ∷ rest) o at_colon_right
@@ -291,7 +291,7 @@ marked_key_passes {around} room key value K V y flows no_pair m t o fits ends
     ∙ ap (λ (z : List ℕ). node ++ z) follow in
     let n = K m node (separation ++ (58 ∷ (rest ++ o)))
     (node_or_key around.indent room key node separation (rest ++ o) h) node_fits
-    (behind_key around.indent room key value separation rest o parts apart x.ends) (moment_in y now) before flows low
+    (key_followed around.indent room key value separation rest o parts apart x.ends) (moment_in y now) before flows low
     (text ∙ ap (past around.indent m) texts) in
     let at_colon_right = right_behind around.indent at_end separation parts n.passes.right in
     let colon_fits = fits_back at_end separation (58 ∷ rest) o at_colon_right

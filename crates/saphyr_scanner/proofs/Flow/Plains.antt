@@ -23,7 +23,7 @@ use Rattle.saphyr_scanner.specs.Grammar.FlowScalars.{begins_plain, IsPlain, IsPl
 use Rattle.saphyr_scalar.specs.Spelling.Tag.{AreIn}
 use Rattle.saphyr_scanner.proofs.InFlow.States.{Around, core_at, state_at, Placed, placed_right, plain_placed, saves_key, none_deeper, FlowMoment, moment, root_moment}
 use Rattle.saphyr_scanner.proofs.Json.Marks.{saved}
-use Rattle.saphyr_scanner.proofs.Json.Brackets.{place_of}
+use Rattle.saphyr_scanner.proofs.Json.Brackets.{token_place}
 use Rattle.saphyr_scanner.proofs.Flow.States.{moved, past, IsClear, IsInk, ReaderPromises, Closes, FitsAround, StandsBefore}
 use Rattle.saphyr_scanner.proofs.Flow.Places.{moved_count}
 use Rattle.saphyr_scanner.proofs.Flow.Fillers.{white_past}
@@ -358,7 +358,7 @@ plain_closes reads around t o m h fits ends inked now before text =
     let count = moved_count m t o in
     let below = fits.below in
     let low = within_index around.indent around.limit u (moved m t) o lands (omega (arith, count, below)) in
-    let new = place_of m (moved m t) (plain_token t) ∷ [] in
+    let new = token_place m (moved m t) (plain_token t) ∷ [] in
     let stepped = λ (d : Bool). plain_step reads around d (length now.places) m v.blank t o context.Block w
     (plain_text false around.indent m t o h fits.clear ends) fits.clear v.key [] v.allowed now.adjacent (inl refl)
     (placed_right context.Block v.allowed fits.calm fits.right) in

@@ -19,7 +19,7 @@ use Rattle.saphyr_scanner.specs.Steps.Passing.{with_cursor}
 use Rattle.saphyr_scanner.specs.Steps.Fetch.{step}
 use Rattle.saphyr_scanner.proofs.InFlow.States.{Around, core_at, state_at, as_before, moment, FlowMoment, moment_in, moment_with}
 use Rattle.saphyr_scanner.proofs.Flow.Places.{right_one}
-use Rattle.saphyr_scanner.proofs.Json.Brackets.{place_of}
+use Rattle.saphyr_scanner.proofs.Json.Brackets.{token_place}
 use Rattle.saphyr_scanner.proofs.Flow.States.{moved, past, IsInk, IsParted, no_key, PassesPiece, FitsAround, StandsBefore}
 use Rattle.saphyr_scanner.proofs.Flow.GapSteps.{past_ink}
 use Rattle.saphyr_scanner.proofs.Flow.Fillers.{separation_past}
@@ -132,7 +132,7 @@ mark_passes around y flows m o fits parted some tabs now before text =
     sym (ap (past around.indent (along m 1)) parted.is
     ∙ separation_past around.indent (along m 1) w (c ∷ cs) parted.parts on) in
     let below = fits.below in
-    let new = place_of m n tokens.Key ∷ [] in
+    let new = token_place m n tokens.Key ∷ [] in
     let next = moment there (behind_question y) None now.outer false now.adjacent now.places in
     let came = step_comes around (moment_in y now) m (63 ∷ o) v (mark_begins m 63 o question fits.clear)
     (moment_with new next) (from_to m n tokens.Key ∷ []) (λ d. d) (as_before around) stepped refl

@@ -139,16 +139,16 @@ behind_step around d start style text s x k ls ad m y p g =
 
 -- ## The scalar
 
-abbrev pub style_of : Quote → Style
-style_of Single = SingleQuoted
-style_of Double = DoubleQuoted
+abbrev pub style_of_quote : Quote → Style
+style_of_quote Single = SingleQuoted
+style_of_quote Double = DoubleQuoted
 
 pub quoted_step : ReaderPromises → (around : Around) (d : Bool) (quote : Quote) (n : ℕ) (m : Marker) (b : Bool)
     (value t o : List ℕ) → IsQuoted quote around.indent value t → IsClear m t o → (slice_index o 0 == 39) ≡ false
     → (x : Context) (k : Option Candidate) (ls : List Level) (a : Bool) (ad : ℕ) (c : ℕ) → c ≡ mark quote
     → Placed around x a m
     → step c (slice_index (t ++ o) 1) n (core_at around d (cursor_at (t ++ o) m b) x k ls a ad)
-    ≡ behind_quotes m (style_of quote) (encode_utf8_all value)
+    ≡ behind_quotes m (style_of_quote quote) (encode_utf8_all value)
     (core_at around d (at (moved m t) o) x (saved a n m k) ls false ad)
 unfolding step scalar.single_quoted_steps scalar.double_quoted_steps read_single_quoted read_double_quoted
 quoted_step reads around d Single n m b value t o h clear ends x k ls a ad c first placed =
@@ -197,13 +197,13 @@ pub quoted_passes : ReaderPromises → (around : Around) (quote : Quote) (value 
     → (slice_index o 0 == 39) ≡ false
     → (now : FlowMoment) → EndsQuotes around m (at (moved m t) o) now.context → StandsBefore around now m (t ++ o)
     → PassesToken around (adjacent_at (past around.indent (moved m t) o).0.index) now m t o
-    (scalar_token (style_of quote) value)
+    (scalar_token (style_of_quote quote) value)
 quoted_passes reads around quote value t o m h fits apart now p text =
     let first = subst Begins (sym h.5) (quote_first quote h.0) in
     let at_first : slice_index (t ++ o) 0 ≡ mark quote = ap (λ (y : List ℕ). slice_index (y ++ o) 0) h.5 in
     let behind = past around.indent (moved m t) o in
     let place = length now.places in
-    token_passes around (adjacent_at behind.0.index) (scalar_token (style_of quote) value) t o m first fits
+    token_passes around (adjacent_at behind.0.index) (scalar_token (style_of_quote quote) value) t o m first fits
     (quoted_right around.indent quote m value t o h fits.clear fits.right) now text
     (λ b j e. let g = passes_gap around p.there now.context (saved e place m j) now.outer false now.adjacent behind.0
     behind.1 p.lands p.inked in
@@ -216,7 +216,7 @@ quoted_passes reads around quote value t o m h fits apart now p text =
       deepens = as_before around;
       is = λ d. quoted_step reads around d quote place m b value t o h fits.clear apart now.context j now.outer e
           now.adjacent (slice_index (t ++ o) 0) at_first (placed_right now.context e fits.calm fits.right)
-          ∙ behind_step around d m (style_of quote) (encode_utf8_all value) (at (moved m t) o) now.context
+          ∙ behind_step around d m (style_of_quote quote) (encode_utf8_all value) (at (moved m t) o) now.context
           (saved e place m j) now.outer now.adjacent behind.0 behind.1 p g;
       fits = past_again around.indent (moved m t) o;
       fresh = λ b e. or_left g.allowed (crosses behind.1) (g.fresh b (p.stays b e));

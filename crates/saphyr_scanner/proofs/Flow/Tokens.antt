@@ -13,7 +13,7 @@ use Rattle.saphyr_scanner.specs.Steps.Level.{Candidate, Level, is_block}
 use Rattle.saphyr_scanner.specs.Steps.Fetch.{step}
 use Rattle.saphyr_scanner.proofs.InFlow.States.{Around, core_at, state_at, Deepens, FlowMoment, moment}
 use Rattle.saphyr_scanner.proofs.Json.Marks.{saved}
-use Rattle.saphyr_scanner.proofs.Json.Brackets.{place_of}
+use Rattle.saphyr_scanner.proofs.Json.Brackets.{token_place}
 use Rattle.saphyr_scanner.proofs.Flow.States.{moved, past, IsClear, IsInk, IsFresh, Since, KeptKey, keeping, Known, PassesPiece, FitsAround, StandsBefore}
 use Rattle.saphyr_scanner.proofs.Flow.Places.{moved_count, clear_here}
 use Rattle.saphyr_scanner.proofs.Flow.GapSteps.{past_ink}
@@ -109,7 +109,7 @@ token_passes around says kind p o m f fits right now text steps =
     let count = moved_count m p o in
     let below = fits.below in
     let low = within_index around.indent around.limit w.there (moved m p) o w.fits (omega (arith, count, below)) in
-    let new = place_of m w.end kind ∷ [] in
+    let new = token_place m w.end kind ∷ [] in
     let came = step_comes around now m (p ++ o) v (begins_token m p o f fits.clear) (moment w.there now.context
     (saved v.allowed (length now.places) m v.key) now.outer w.allowed w.adjacent
     (now.places ++ new)) (from_to m w.end kind ∷ []) w.to w.deepens w.is refl low in

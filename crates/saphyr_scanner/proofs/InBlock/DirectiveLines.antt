@@ -9,7 +9,7 @@ use Rattle.saphyr_scalar.specs.Spelling.Tag.{AreIn, IsHandleText, IsPrefix, AreB
 use Rattle.saphyr_scanner.specs.Grammar.Forest.{Directive, Version, TagPrefix, Reserved}
 use Rattle.saphyr_scanner.specs.Grammar.Layout.{IsDirective, AreDirectives}
 use Rattle.saphyr_scanner.proofs.InBlock.Skips.{nothing, one_break, filler_skipped}
-use Rattle.saphyr_scanner.proofs.InBlock.LineStarts.{IsUnmarked, both_unmarked, line_unmarked, on_line, skipped_unmarked}
+use Rattle.saphyr_scanner.proofs.InBlock.LineStarts.{IsUnmarked, both_unmarked, line_unmarked, set_on_line, skipped_unmarked}
 use Rattle.saphyr_input.proofs.Basics.Characters.{blank_no_feed, non_break_no_feed}
 
 -- ## Directives stand on a line
@@ -67,16 +67,16 @@ prefix_line (c ∷ cs) t (first, more, is, others, e) =
 handle_line : (t : List ℕ) → IsHandleText t → IsOneLine t
 handle_line t (inl e) = subst IsOneLine (sym e) (refl, tt)
 handle_line t (inr (word, are, e)) =
-    subst IsOneLine (sym e) (refl, both_lines word (codes "!") (on_line is_alpha alpha_line word are) (refl, tt))
+    subst IsOneLine (sym e) (refl, both_lines word (codes "!") (set_on_line is_alpha alpha_line word are) (refl, tt))
 
 tail_line : (t : List ℕ) → IsLineTail t → IsOneLine t
 tail_line t (blanks, comment, are, inl none, e) =
     subst IsOneLine (sym (e ∙ ap (λ (x : List ℕ). blanks ++ x) none))
-    (both_lines blanks [] (on_line is_blank blank_no_feed blanks are) tt)
+    (both_lines blanks [] (set_on_line is_blank blank_no_feed blanks are) tt)
 tail_line t (blanks, comment, are, inr (words, some, word_are, is), e) =
     subst IsOneLine (sym (e ∙ ap (λ (x : List ℕ). blanks ++ x) is))
-    (both_lines blanks (35 ∷ words) (on_line is_blank blank_no_feed blanks are)
-    (refl, on_line is_yaml_non_break non_break_no_feed words word_are))
+    (both_lines blanks (35 ∷ words) (set_on_line is_blank blank_no_feed blanks are)
+    (refl, set_on_line is_yaml_non_break non_break_no_feed words word_are))
 
 version_line : (major minor : ℕ) (t : List ℕ) → IsVersionDirective major minor t → IsOneLine t
 version_line major minor t (gap, high, low, gap_is, high_is, low_is, e) =
@@ -90,9 +90,9 @@ version_line major minor t (gap, high, low, gap_is, high_is, low_is, e) =
             refl,
             (
               refl,
-              both_lines gap (high ++ (46 ∷ low)) (on_line is_blank blank_no_feed gap gap_is.1)
-                  (both_lines high (46 ∷ low) (on_line is_digit digit_line high high_is.2)
-                  (refl, on_line is_digit digit_line low low_is.2)),
+              both_lines gap (high ++ (46 ∷ low)) (set_on_line is_blank blank_no_feed gap gap_is.1)
+                  (both_lines high (46 ∷ low) (set_on_line is_digit digit_line high high_is.2)
+                  (refl, set_on_line is_digit digit_line low low_is.2)),
             ),
           ),
         ),
@@ -109,9 +109,9 @@ tag_line handle prefix t (first, second, written, first_are, second_are, handle_
           refl,
           (
             refl,
-            both_lines first (handle ++ (second ++ written)) (on_line is_blank blank_no_feed first first_are.1)
+            both_lines first (handle ++ (second ++ written)) (set_on_line is_blank blank_no_feed first first_are.1)
                 (both_lines handle (second ++ written) (handle_line handle handle_is)
-                (both_lines second written (on_line is_blank blank_no_feed second second_are.1)
+                (both_lines second written (set_on_line is_blank blank_no_feed second second_are.1)
                 (prefix_line prefix written prefix_is))),
           ),
         ),
@@ -122,8 +122,8 @@ reserved_line : (name t : List ℕ) → IsReservedDirective name t → IsOneLine
 reserved_line name t (more, some, no_version, no_tag, name_is, more_is, parts, e) =
     subst IsOneLine (sym e) (
       refl,
-      both_lines name more (on_line is_yaml_non_space ink_line name name_is)
-          (on_line is_yaml_non_break non_break_no_feed more more_is),
+      both_lines name more (set_on_line is_yaml_non_space ink_line name name_is)
+          (set_on_line is_yaml_non_break non_break_no_feed more more_is),
     )
 
 -- a directive with the rest of its line

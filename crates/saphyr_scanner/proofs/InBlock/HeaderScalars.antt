@@ -90,11 +90,11 @@ block_step f style m y blank key a ad deeper text span left low e i =
     (saves f m y blank key a ad deeper i low)
     ∙ reads_block f style m y blank (saved a i m key) ad text span left e
 
-at_sign : (f : Frame) (style : BlockStyle) (n : Moment) (second i : ℕ)
+style_at_sign : (f : Frame) (style : BlockStyle) (n : Moment) (second i : ℕ)
     → step (sign style) second i (core_of f n) ≡ scalar.block_scalar_steps style i (core_of f n)
 unfolding step
-at_sign f block_style.Literal n second i = refl
-at_sign f block_style.Folded n second i = refl
+style_at_sign f block_style.Literal n second i = refl
+style_at_sign f block_style.Folded n second i = refl
 
 header_begins : (style : BlockStyle) (m : Marker) (o : List ℕ) → BeginsToken m (sign style ∷ o)
 header_begins block_style.Literal m o =
@@ -209,7 +209,7 @@ reads_scalar laws {limit} {start} {ts} f style value m more t o short low begins
     let stepped : step (slice_index y 0) (slice_index y 1) i c
     ≡ completed_step (from_to b.span.start b.span.end piece.kind ∷ []) (core_of f n) =
     ap (λ (x : List ℕ). step (slice_index x 0) (slice_index y 1) i c) start_is
-    ∙ at_sign f style (moment_at m y v.blank v.key v.allowed v.adjacent deeper) (slice_index y 1) i
+    ∙ style_at_sign f style (moment_at m y v.blank v.key v.allowed v.adjacent deeper) (slice_index y 1) i
     ∙ block_step f style m y v.blank v.key v.allowed v.adjacent deeper (encode_utf8_all value) b.span b.left low b.read
     i in
     let made : state_behind_content (slice_index y 0) (slice_index y 1)

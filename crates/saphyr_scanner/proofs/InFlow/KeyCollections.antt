@@ -17,7 +17,7 @@ use Rattle.saphyr_scanner.specs.Steps.Fetch.{step, state_behind_content, fetch_h
 use Rattle.saphyr_scanner.proofs.Leads.{LeadsTo, stay, onward}
 use Rattle.saphyr_scanner.proofs.Json.States.{queue_of, none_before}
 use Rattle.saphyr_scanner.proofs.Json.Marks.{chain, kinds, kinds_append, level_of}
-use Rattle.saphyr_scanner.proofs.Json.Brackets.{place_of}
+use Rattle.saphyr_scanner.proofs.Json.Brackets.{token_place}
 use Rattle.saphyr_scanner.proofs.InFlow.States.{Around, core_at, state_at, drops_far_key, left_in_flow, behind_key, opening_steps_open, open_collection_gives, close_collection_gives, deepened, moment}
 use Rattle.saphyr_scanner.proofs.InFlow.ScalarsOnLine.{separation_of_blanks}
 use Rattle.saphyr_scanner.proofs.InFlow.KeyLines.{Ready, keeps_near_key}
@@ -60,7 +60,7 @@ record Opened (around : Around) (start : State) (b : Brackets) (k : Candidate) (
   lands : past around.indent there.mark there.rest ≡ past around.indent (moved e (b.opening ∷ [])) o
   leads : LeadsTo around.limit
       (state_at (calmed around) (moment there b.context None (level_of context.Block (Some k) ∷ []) true ad
-      (qs ++ place_of e there.mark b.opens ∷ [])) deeper) start
+      (qs ++ token_place e there.mark b.opens ∷ [])) deeper) start
 
 none_open : 0 < 255
 none_open = omega arith
@@ -77,7 +77,7 @@ bracket_opens around same start b are k qs e o ad parted right below r =
     let p = separates around.indent (cursor_at o (along e 1) false) parted.separation parted.first parted.others
     parted.is parted.parts right parted.ink in
     let d = deepened around context.Block r.deeper in
-    let new = place_of e p.there.mark kind ∷ [] in
+    let new = token_place e p.there.mark kind ∷ [] in
     let st = state_at (calmed around) (moment p.there y None ls true ad (qs ++ new)) d in
     let stepped = are.begins (slice_index o 0) (length qs)
     (core_at around r.deeper (cursor_at (b.opening ∷ o) e r.blank) context.Block (Some k) [] false ad)
@@ -218,7 +218,7 @@ collection_along around same start Is b are k qs w inside n r e ad parts parted 
     ≡ past around.indent here (inside ++ (b.closing ∷ o)) =
     first.lands ∙ separation_past around.indent (moved e (b.opening ∷ [])) w (inside ++ (b.closing ∷ o)) parts right0
     ∙ ap (λ (m : Marker). past around.indent m (inside ++ (b.closing ∷ o))) (sym split) in
-    let new1 = place_of e first.there.mark b.opens ∷ [] in
+    let new1 = token_place e first.there.mark b.opens ∷ [] in
     let i1 = moved_index e (b.opening ∷ w) in
     let i2 = moved_index here inside in
     let in_front = run (Some k) (moment first.there b.context None [] true ad (qs ++ new1)) refl refl

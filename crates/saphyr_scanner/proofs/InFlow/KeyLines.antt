@@ -19,7 +19,7 @@ use Rattle.saphyr_scanner.specs.Steps.Unrolling.{unroll}
 use Rattle.saphyr_scanner.specs.Steps.Fetch.{step, state_behind_content, fetch_here, arrive, fetch, check_limit, fetch_within}
 use Rattle.saphyr_scanner.proofs.Leads.{LeadsTo, stay, onward}
 use Rattle.saphyr_scanner.proofs.Json.States.{queue_of, none_before, stop_here}
-use Rattle.saphyr_scanner.proofs.Json.Brackets.{place_of}
+use Rattle.saphyr_scanner.proofs.Json.Brackets.{token_place}
 use Rattle.saphyr_scanner.proofs.InFlow.States.{Around, core_at, state_at, least, least_low, drops_far_key, key_left, no_ends, none_unrolls, moment}
 use Rattle.saphyr_scanner.proofs.Flow.States.{moved, IsInk}
 use Rattle.saphyr_scanner.proofs.Flow.Gaps.{right_tab as no_left_tab}
@@ -235,14 +235,14 @@ pub token_led : (around : Around) (start : State) (k : Candidate) (t : List ℕ)
     (core_at around r.deeper (cursor_at t e r.blank) context.Block (Some k) [] false ad)
     ≡ completed_step (from_to e end kind ∷ []) (core_at around (to r.deeper) there context.Block (Some k) [] false adjacent)
     → IsNear k there.mark → there.mark.index ≤ around.limit
-    → LeadsTo around.limit (state_at around (moment there context.Block (Some k) [] false adjacent (qs ++ place_of e end
+    → LeadsTo around.limit (state_at around (moment there context.Block (Some k) [] false adjacent (qs ++ token_place e end
     kind ∷ [])) (to r.deeper)) start
 unfolding fetch_within
 token_led around start k t e ad qs r end kind there adjacent to is near low =
-    let st = state_at around (moment there context.Block (Some k) [] false adjacent (qs ++ place_of e end kind ∷ []))
+    let st = state_at around (moment there context.Block (Some k) [] false adjacent (qs ++ token_place e end kind ∷ []))
     (to r.deeper) in
     let fits : check_limit around.limit st ≡ Ok st = rw (le-leb there.mark.index around.limit low) refl in
     let fetched : fetch start ≡ Ok st = r.fetches ∙ ap (λ q. after_step q (queue_of qs)) is in
     onward start st st r.running (ap (λ q. q >>= check_limit around.limit) fetched ∙ fits)
-    (ap (λ q. on_core q (queue_of (qs ++ place_of e end kind ∷ [])))
+    (ap (λ q. on_core q (queue_of (qs ++ token_place e end kind ∷ [])))
     (keeps_near_key around (to r.deeper) there k [] false adjacent near)) stay

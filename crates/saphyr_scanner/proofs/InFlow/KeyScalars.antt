@@ -34,7 +34,7 @@ use Rattle.saphyr_scanner.proofs.InBlock.Crossings.{spaces_uncrossed}
 use Rattle.saphyr_scanner.proofs.Flow.Fillers.{spaces_past, spaces_are_blank, blanks_past}
 use Rattle.saphyr_scanner.proofs.Flow.Arrivals.{PassesGap}
 use Rattle.saphyr_scanner.proofs.Flow.Separates.{separates}
-use Rattle.saphyr_scanner.proofs.Flow.Quotes.{EndsQuotes, style_of, quote_first, behind_step, quoted_step}
+use Rattle.saphyr_scanner.proofs.Flow.Quotes.{EndsQuotes, style_of_quote, quote_first, behind_step, quoted_step}
 use Rattle.saphyr_scanner.proofs.Flow.Plains.{BeginsWord, word_begins, key_begins, token_begins, plain_step}
 use Rattle.saphyr_scanner.proofs.Flow.Words.{plain_text, key_text}
 use Rattle.saphyr_scanner.proofs.Flow.Tokens.{Begins}
@@ -219,13 +219,13 @@ pub quotes_along : ReaderPromises
     → (around : Around) (start : State) (k : Candidate) (qs : List Place) (quote : Quote) (value t : List ℕ) (n : ℕ)
     (r : List ℕ) (e : Marker) (ad : ℕ) → IsQuoted quote around.indent value t
     → InKey around k e (t ++ spaces n) (58 ∷ r) → Ready around start k (t ++ colon_text n r) e ad qs
-    → Along around start k qs (colon_after e t n) (58 ∷ r) (scalar_token (style_of quote) value ∷ [])
+    → Along around start k qs (colon_after e t n) (58 ∷ r) (scalar_token (style_of_quote quote) value ∷ [])
 quotes_along reads around start k qs quote value t n r e ad h text ready =
     let o = colon_text n r in
     let clear = clear_front e t (spaces n) (58 ∷ r) text.clear in
     let end = moved e t in
     let m = colon_after e t n in
-    let kind = scalar_token (style_of quote) value in
+    let kind = scalar_token (style_of_quote quote) value in
     let whole = in_back k e t (spaces n) (58 ∷ r) text in
     let last = in_back k end (spaces n) [] (58 ∷ r)
     (subst (λ (x : List ℕ). InKey around k end x (58 ∷ r)) (sym (append-nil (spaces n))) whole) in
@@ -247,7 +247,7 @@ quotes_along reads around start k qs quote value t n r e ad h text ready =
     let there = cursor_at (58 ∷ r) m shut.blank_so_far in
     let stepped = quoted_step reads around ready.deeper quote (length qs) e ready.blank value t o h clear (no_quote n r)
     context.Block (Some k) [] false ad (slice_index (t ++ o) 0) first (behind_key refl refl)
-    ∙ behind_step around ready.deeper e (style_of quote) (encode_utf8_all value) (at end o) context.Block (Some k) [] ad
+    ∙ behind_step around ready.deeper e (style_of_quote quote) (encode_utf8_all value) (at end o) context.Block (Some k) [] ad
     m (58 ∷ r) ends.ends g in
     let led = token_led around start k (t ++ o) e ad qs ready ends.ends.there.mark kind there m.index (λ d. d) stepped
     (in_near k m [] (58 ∷ r) last) (in_limit k m [] (58 ∷ r) last) in

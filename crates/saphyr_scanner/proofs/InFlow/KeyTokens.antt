@@ -25,7 +25,7 @@ use Rattle.saphyr_scanner.specs.Grammar.FlowNodes as layout
 use Rattle.saphyr_scanner.specs.Grammar.FlowNodes.{IsOnLine, IsAnchor, IsAlias}
 use Rattle.saphyr_scanner.proofs.Leads.{LeadsTo}
 use Rattle.saphyr_scanner.proofs.Json.Marks.{chain, kinds, kinds_append}
-use Rattle.saphyr_scanner.proofs.Json.Brackets.{place_of}
+use Rattle.saphyr_scanner.proofs.Json.Brackets.{token_place}
 use Rattle.saphyr_scanner.proofs.InFlow.States.{Around, core_at, state_at, behind_key, moment}
 use Rattle.saphyr_scanner.proofs.InFlow.ScalarsOnLine.{front_on_line, back_on_line}
 use Rattle.saphyr_scanner.proofs.InFlow.KeyLines.{IsNear, Ready, later_ready, token_led}
@@ -187,7 +187,7 @@ ends_there : {around : Around} {start : State} {k : Candidate} {qs : List Place}
     → b ++ behind ≡ w ++ y
     → AreIn is_blank w → ad ≤ e.index
     → LeadsTo around.limit (state_at around (moment (at (moved e (c ∷ cs)) (b ++ behind)) context.Block (Some k) [] false
-    ad (qs ++ place_of e (moved e (c ∷ cs)) kind ∷ [])) deeper) start
+    ad (qs ++ token_place e (moved e (c ∷ cs)) kind ∷ [])) deeper) start
     → Along around start k qs (moved (moved e (c ∷ cs)) w) y (kind ∷ [])
 ends_there {around} {start} {k} {qs} e c cs b behind w y ad kind deeper h is are low leads =
     let one = moved_index e (c ∷ cs) in
@@ -276,7 +276,7 @@ tag_along reads around start k qs tag t b behind w y e ad h ends text is are low
     subst (λ (q : Kind). Along around start k qs (moved (moved e t) w) y (q ∷ [])) g.token
     (subst (λ (p : List ℕ). InKey around k e (p ++ b) behind
     → LeadsTo around.limit (state_at around (moment (at (moved e p) o) context.Block (Some k) [] false ad
-    (qs ++ place_of e (moved e p) kind ∷ [])) r.deeper) start
+    (qs ++ token_place e (moved e p) kind ∷ [])) r.deeper) start
     → Along around start k qs (moved (moved e p) w) y (kind ∷ [])) (sym f.1)
     (λ i l. ends_there e 33 f.0 b behind w y ad kind r.deeper i is are low l) text led)
 

@@ -21,8 +21,8 @@ use Rattle.saphyr_scanner.proofs.Json.Marks.{PassesJson, once, Separates, separa
 use Rattle.saphyr_scalar.proofs.Given.{cursor_at}
 
 -- a token that was read
-abbrev pub place_of : Marker → Marker → Kind → Place
-place_of a b kind = bare_place (record { span = record { start = a; end = b }; kind = kind })
+abbrev pub token_place : Marker → Marker → Kind → Place
+token_place a b kind = bare_place (record { span = record { start = a; end = b }; kind = kind })
 
 -- ## An opening bracket
 
@@ -73,10 +73,10 @@ open_passes limit n below y kind ch r o content clean begins s x k ls a ad ps co
     ∙ starts y kind (length ps) (cursor_at (ch ∷ r) v.mark v.blank) x v.key ls v.allowed ad
     ∙ opens y kind ch r v.mark v.blank x key ls v.allowed ad p.found p.there p.is low in
     let came = one limit s x k ls a ad ps (ch ∷ r) v content p.there y None (level_of x key ∷ ls) true ad
-    (ps ++ place_of v.mark p.there.mark kind ∷ []) (from_to v.mark p.there.mark kind ∷ []) stepped refl
+    (ps ++ token_place v.mark p.there.mark kind ∷ []) (from_to v.mark p.there.mark kind ∷ []) stepped refl
     (low_index p.there n limit counted below) in (
       key,
-      once true true ad p.there ps (place_of v.mark p.there.mark kind ∷ []) o (kind ∷ []) came (p.rest ∙ follows)
+      once true true ad p.there ps (token_place v.mark p.there.mark kind ∷ []) o (kind ∷ []) came (p.rest ∙ follows)
           counted refl (λ _. refl),
     )
 
@@ -115,9 +115,9 @@ close_passes limit n below y kind ch r o content clean begins s k j x ls a ad ps
     let stepped = begins (slice_index r 0) (length ps) (cursor_at (ch ∷ r) v.mark v.blank) v.key (level_of x j ∷ ls)
     v.allowed ad ∙ closes false kind ch r v.mark v.blank y v.key j x ls v.allowed ad p.found p.there p.is in
     let came = one limit s y k (level_of x j ∷ ls) a ad ps (ch ∷ r) v content p.there x j ls false
-    (cond (is_block x) ad p.there.mark.index) (ps ++ place_of v.mark p.there.mark kind ∷ [])
+    (cond (is_block x) ad p.there.mark.index) (ps ++ token_place v.mark p.there.mark kind ∷ [])
     (from_to v.mark p.there.mark kind ∷ []) stepped refl (low_index p.there n limit counted below) in
-    once false false (cond (is_block x) ad p.there.mark.index) p.there ps (place_of v.mark p.there.mark kind ∷ []) o
+    once false false (cond (is_block x) ad p.there.mark.index) p.there ps (token_place v.mark p.there.mark kind ∷ []) o
     (kind ∷ []) came (p.rest ∙ follows) counted refl (λ e. e)
 
 -- ## A comma
@@ -162,7 +162,7 @@ comma_passes limit n below is_sequence r o s k ls a ad ps count text follows cle
     let content : IsContentStart (44 ∷ r) =
     record { nul = refl; byte_order_mark = refl; directive = refl; document_start = refl; document_end = refl } in
     let came = one limit s x k ls a ad ps (44 ∷ r) v content p.there x None ls true ad
-    (ps ++ place_of v.mark p.there.mark tokens.FlowEntry ∷ []) (from_to v.mark p.there.mark tokens.FlowEntry ∷ [])
+    (ps ++ token_place v.mark p.there.mark tokens.FlowEntry ∷ []) (from_to v.mark p.there.mark tokens.FlowEntry ∷ [])
     stepped refl (low_index p.there n limit counted below) in
-    once true true ad p.there ps (place_of v.mark p.there.mark tokens.FlowEntry ∷ []) o (tokens.FlowEntry ∷ []) came
+    once true true ad p.there ps (token_place v.mark p.there.mark tokens.FlowEntry ∷ []) o (tokens.FlowEntry ∷ []) came
     (p.rest ∙ follows) counted refl (λ _. refl)

@@ -78,10 +78,10 @@ unfolding value.value_steps value_of_key behind_key
 fetches r m b k ls a ad p = ap (λ q. q >>= λ (d : Core). behind_key d.level.key false m d) p.is
 
 -- the place before the others that come behind it is opened
-pub opened_seam : (o : Opening) (ps : List Place) (p : Place) (qs : List Place)
+pub with_opening_seam : (o : Opening) (ps : List Place) (p : Place) (qs : List Place)
     → places_with_opening (length ps) o (ps ++ p ∷ qs) ≡ ps ++ record { opening = o; piece = p.piece } ∷ qs
-opened_seam o [] p qs = refl
-opened_seam o (q ∷ ps) p qs = ap (λ (x : List Place). q ∷ x) (opened_seam o ps p qs)
+with_opening_seam o [] p qs = refl
+with_opening_seam o (q ∷ ps) p qs = ap (λ (x : List Place). q ∷ x) (with_opening_seam o ps p qs)
 
 pub none_off : (n : ℕ) → n - 0 ≡ n
 none_off n = omega arith
@@ -92,7 +92,7 @@ performs : (ps : List Place) (t v : Piece)
 performs ps t v =
     let key : Place = record { opening = opening.Key; piece = t } in
     let places = ap (λ (i : ℕ). places_with_opening i opening.Key (ps ++ bare_place t ∷ [])) (none_off (length ps))
-    ∙ opened_seam opening.Key ps (bare_place t) [] in
+    ∙ with_opening_seam opening.Key ps (bare_place t) [] in
     ap (λ (x : List Place). queue_of (x ++ bare_place v ∷ [])) places
     ∙ ap queue_of (append_assoc ps (key ∷ []) (bare_place v ∷ []))
 

@@ -27,7 +27,7 @@ use Rattle.saphyr_scanner.proofs.Json.Brackets.{open_passes, close_passes, comma
 use Rattle.saphyr_scanner.proofs.Json.Colons.{Strung, name_passes}
 use Rattle.saphyr_scanner.proofs.Json.Quotes.{reader, string_passes}
 use Rattle.saphyr_scanner.proofs.Json.Plains.{word_passes}
-use Rattle.saphyr_scanner.proofs.Json.Pieces.{around, behind_clean, behind_quotes, closing_behind, others_behind, other_members_behind, value_clean, elements_clean, name_clean, members_clean}
+use Rattle.saphyr_scanner.proofs.Json.Pieces.{around, behind_clean, quotes_followed, closing_behind, others_behind, other_members_behind, value_clean, elements_clean, name_clean, members_clean}
 use Rattle.std.proofs.lemmas.Bool.{false≢true}
 
 -- what the readers of scalars promise, and that the text is not too long
@@ -38,10 +38,10 @@ pub record Premises (limit n : ℕ) : Type 0 where
   pub below : n ≤ limit
 
 -- no step
-pub none : (limit n : ℕ) (s : Cursor) (x : Context) (k : Option Candidate) (ls : List Level) (a : Bool) (ad : ℕ)
+pub passes_none : (limit n : ℕ) (s : Cursor) (x : Context) (k : Option Candidate) (ls : List Level) (a : Bool) (ad : ℕ)
     (ps : List Place) (o : List ℕ) → total s ≡ n → skip s.rest ≡ skip o
     → PassesJson limit n (state_at false s x k ls a ad ps) false x ls ps o []
-none limit n s x k ls a ad ps o count text =
+passes_none limit n s x k ls a ad ps o count text =
     record {
       there = s;
       key =
@@ -154,7 +154,7 @@ mutual
   node_passes {limit} {n} q (Scalar _ DoubleQuoted v) p o h s x k ls a ad ps count text ends deep =
       strung_passes (skip o) o v refl (skip_skip o)
       (string_passes q.reads_quoted q.counts limit n q.below p o (skip o) v h.1 s x k ls a ad ps count text refl
-      (behind_quotes (is_block x) (skip o) ends))
+      (quotes_followed (is_block x) (skip o) ends))
   node_passes q (Scalar _ SingleQuoted v) p o h s x k ls a ad ps count text ends deep = absurd h
   node_passes q (Scalar _ Literal v) p o h s x k ls a ad ps count text ends deep = absurd h
   node_passes q (Scalar _ Folded v) p o h s x k ls a ad ps count text ends deep = absurd h
@@ -201,7 +201,7 @@ mutual
       → PassesJson limit n (state_at false s context.FlowSequence k ls a ad ps) false context.FlowSequence ls ps o
       (entry_tokens nodes)
   elements_pass {limit} {n} q NoNode p o h s k ls a ad ps count text ends deep =
-      none limit n s context.FlowSequence k ls a ad ps o count (rw h at text)
+      passes_none limit n s context.FlowSequence k ls a ad ps o count (rw h at text)
   elements_pass q (MoreNodes node nodes) p o h s k ls a ad ps count text ends deep =
       let all_text : p ++ o ≡ h.0 ++ (h.1 ++ o) = rw h.4 (append_assoc h.0 h.1 o) in
       let one = node_passes q node h.0 (h.1 ++ o) h.2 s context.FlowSequence k ls a ad ps count
@@ -216,7 +216,7 @@ mutual
       → PassesJson limit n (state_at false s context.FlowSequence k ls a ad ps) false context.FlowSequence ls ps o
       (other_entry_tokens nodes)
   others_pass {limit} {n} q NoNode p o h s k ls a ad ps count text ends deep =
-      none limit n s context.FlowSequence k ls a ad ps o count (rw h at text)
+      passes_none limit n s context.FlowSequence k ls a ad ps o count (rw h at text)
   others_pass {limit} {n} q (MoreNodes node nodes) p o h s k ls a ad ps count text ends deep =
       let all_text : p ++ o ≡ h.0 ++ (h.1 ++ (h.2 ++ o)) = rw h.6 (simp append_assoc) in
       let first = around 44 h.0 (h.1 ++ (h.2 ++ o)) refl refl h.3 in
@@ -235,7 +235,7 @@ mutual
       → PassesJson limit n (state_at false s context.FlowMapping k ls a ad ps) false context.FlowMapping ls ps o
       (pair_tokens pairs)
   members_pass {limit} {n} q NoPair p o h s k ls a ad ps fresh count text ends deep =
-      none limit n s context.FlowMapping k ls a ad ps o count (rw h at text)
+      passes_none limit n s context.FlowMapping k ls a ad ps o count (rw h at text)
   members_pass q (MorePairs key node pairs) p o h s k ls a ad ps fresh count text ends deep =
       let all_text : p ++ o ≡ h.0 ++ (h.1 ++ (h.2 ++ (h.3 ++ o))) = rw h.8 (simp append_assoc) in
       let name = member_passes q key h.0 h.1 (h.2 ++ (h.3 ++ o)) h.4 h.5 s k ls ad ps a fresh count
@@ -255,7 +255,7 @@ mutual
       → PassesJson limit n (state_at false s context.FlowMapping k ls a ad ps) false context.FlowMapping ls ps o
       (other_pair_tokens pairs)
   other_members_pass {limit} {n} q NoPair p o h s k ls a ad ps count text ends deep =
-      none limit n s context.FlowMapping k ls a ad ps o count (rw h at text)
+      passes_none limit n s context.FlowMapping k ls a ad ps o count (rw h at text)
   other_members_pass {limit} {n} q (MorePairs key node pairs) p o h s k ls a ad ps count text ends deep =
       let all_text : p ++ o ≡ h.0 ++ (h.1 ++ (h.2 ++ (h.3 ++ (h.4 ++ o)))) = rw h.10 (simp append_assoc) in
       let first = around 44 h.0 (h.1 ++ (h.2 ++ (h.3 ++ (h.4 ++ o)))) refl refl h.5 in

@@ -25,7 +25,7 @@ use Rattle.saphyr_scanner.proofs.Json.ReadWords.{ReadsPlainWords, word_read}
 use Rattle.saphyr_scanner.proofs.Json.Gaps.{has_break}
 use Rattle.saphyr_scanner.proofs.Json.States.{skip, split, skip_none, skip_skip, IsClean, total, core_at, state_at, arrives, IsContentStart, one}
 use Rattle.saphyr_scanner.proofs.Json.Marks.{PassesJson, once, saved, saves_key}
-use Rattle.saphyr_scanner.proofs.Json.Brackets.{place_of, low_index}
+use Rattle.saphyr_scanner.proofs.Json.Brackets.{token_place, low_index}
 use Rattle.saphyr_scalar.proofs.Given.{cursor_at}
 use Rattle.std.proofs.lemmas.Bool.{or_parts}
 use Rattle.saphyr_input.proofs.Basics.Numbers.{none_below_zero}
@@ -168,9 +168,9 @@ word_passes reads limit n below t o h s x k ls a ad ps count text ends =
     let stepped = ap (λ (i : ℕ). step i (slice_index (t ++ o) 1) (length ps) c) at_first
     ∙ plain_begins b.first (slice_index (t ++ o) 1) (length ps) c (word_first t o b) ∙ r.is in
     let came = one limit s x k ls a ad ps (t ++ o) v (word_content t o b) there x
-    (saved v.allowed (length ps) v.mark v.key) ls r.broke ad (ps ++ place_of v.mark end kind ∷ [])
+    (saved v.allowed (length ps) v.mark v.key) ls r.broke ad (ps ++ token_place v.mark end kind ∷ [])
     (from_to v.mark end kind ∷ []) stepped refl (low_index there n limit counted below) in
-    once false r.broke ad there ps (place_of v.mark end kind ∷ []) o (kind ∷ []) came (skip_skip o) counted refl
+    once false r.broke ad there ps (token_place v.mark end kind ∷ []) o (kind ∷ []) came (skip_skip o) counted refl
     (λ e. absurd (none e))
   where
     none : false ≡ true → ⊥

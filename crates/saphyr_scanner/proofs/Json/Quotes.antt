@@ -23,7 +23,7 @@ use Rattle.saphyr_scanner.specs.Grammar.Json.{IsString}
 use Rattle.saphyr_scanner.proofs.Json.Strings.{ReadsDoubleQuoted, CountsDoubleQuoted, string_read}
 use Rattle.saphyr_scanner.proofs.Json.States.{skip, IsClean, total, core_at, state_at, arrives, PassesGap, passes_gap, IsContentStart, one}
 use Rattle.saphyr_scanner.proofs.Json.Marks.{Separates, separates, saved, saves_key}
-use Rattle.saphyr_scanner.proofs.Json.Brackets.{place_of, low_index}
+use Rattle.saphyr_scanner.proofs.Json.Brackets.{token_place, low_index}
 use Rattle.saphyr_scanner.proofs.Json.Colons.{Strung}
 use Rattle.saphyr_scalar.proofs.Given.{cursor_at}
 use Rattle.std.proofs.lemmas.Bool.{or_left}
@@ -144,7 +144,7 @@ string_passes reads counts limit n below p o y v h s x k ls a ad ps count text f
     let content : IsContentStart (34 ∷ r) =
     record { nul = refl; byte_order_mark = refl; directive = refl; document_start = refl; document_end = refl } in
     let came = one limit s x k ls a ad ps (34 ∷ r) u content there x key ls g.allowed g.mark.index
-    (ps ++ place_of m d.there.mark kind ∷ []) (from_to m d.there.mark kind ∷ []) stepped refl
+    (ps ++ token_place m d.there.mark kind ∷ []) (from_to m d.there.mark kind ∷ []) stepped refl
     (low_index there n limit counted below) in
     record {
       there = there;

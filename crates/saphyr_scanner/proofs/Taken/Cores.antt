@@ -203,13 +203,13 @@ saved_keys c q t d e b m deep s h = by s.level
 
 -- ## A candidate turns out to be a key
 
-opened_length : (n : ℕ) (o : Opening) (ps : List Place) → length (places_with_opening n o ps) ≡ length ps
-opened_length n o [] = refl
-opened_length zero o (p ∷ ps) = refl
-opened_length (suc n) o (p ∷ ps) = ap suc (opened_length n o ps)
+with_opening_length : (n : ℕ) (o : Opening) (ps : List Place) → length (places_with_opening n o ps) ≡ length ps
+with_opening_length n o [] = refl
+with_opening_length zero o (p ∷ ps) = refl
+with_opening_length (suc n) o (p ∷ ps) = ap suc (with_opening_length n o ps)
 
 next_open : (n : ℕ) (o : Opening) (q : Queue) → next (with_opening n o q) ≡ next q
-next_open n o q = ap (λ l. q.handed + l) (opened_length (n - q.handed) o q.places)
+next_open n o q = ap (λ l. q.handed + l) (with_opening_length (n - q.handed) o q.places)
 
 quiet_column : (o : Opening) (column : ℕ) (columns : List ℕ) → opens_block o ≡ false
     → column_of o column columns ≡ columns

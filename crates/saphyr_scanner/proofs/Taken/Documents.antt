@@ -117,11 +117,11 @@ break_apart s =
     (taken.nothing _ _)))
     (λ c. taken.nothing s.mark s.rest))
 
-pub directive_token : (d : ReadDirective) (i : ℕ) (span : Span) (s t : Cursor) → taken.IsDirectiveToken d span s t
+pub directive_is_token : (d : ReadDirective) (i : ℕ) (span : Span) (s t : Cursor) → taken.IsDirectiveToken d span s t
     → IsToken i (document.directive_kind d) span s t
-directive_token (version major minor) i span s t h = h
-directive_token (tag_prefix handle prefix) i span s t h = h
-directive_token (reserved name) i span s t h = h
+directive_is_token (version major minor) i span s t h = h
+directive_is_token (tag_prefix handle prefix) i span s t h = h
+directive_is_token (reserved name) i span s t h = h
 
 pub quiet_directive : (d : ReadDirective) → is_quiet (document.directive_kind d) ≡ true
 quiet_directive (version major minor) = refl

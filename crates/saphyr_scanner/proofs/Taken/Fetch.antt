@@ -18,7 +18,7 @@ use Rattle.saphyr_scanner.specs.TokensTaken as taken
 use Rattle.saphyr_scanner.specs.TokensTaken.{AreTokens, may_begin_plain}
 use Rattle.saphyr_scanner.proofs.Effects.Readers.{TextLaws}
 use Rattle.saphyr_scanner.proofs.Leads.{flat}
-use Rattle.saphyr_scanner.proofs.Effects.States.{FetchesTokens, acted_advances}
+use Rattle.saphyr_scanner.proofs.Effects.States.{FetchesTokens, after_step_fetches}
 use Rattle.saphyr_scanner.proofs.Effects.Fetch.{left, step_does, step_effect, arrive_advances}
 use Rattle.saphyr_scanner.proofs.Taken.Later.{LaterThan}
 use Rattle.saphyr_scanner.proofs.Taken.Parts.{tokens_part}
@@ -81,10 +81,10 @@ held : (columns : List ℕ) (from : Cursor) (r : Result State Refusal) → Given
 held columns from (Ok t) h = holds_fetched columns from t.core t.queue h
 held columns from (Err e) h = tt
 
-acted_fetched : (columns : List ℕ) (from : Cursor) (q : Queue) (r : StepResult) → Given (FetchedStep columns from q) r
+after_step_fetched : (columns : List ℕ) (from : Cursor) (q : Queue) (r : StepResult) → Given (FetchedStep columns from q) r
     → Given (λ (t : State). Fetched columns from t.core t.queue) (after_step r q)
-acted_fetched columns from q (Ok x) h = h
-acted_fetched columns from q (Err e) h = tt
+after_step_fetched columns from q (Ok x) h = h
+after_step_fetched columns from q (Err e) h = tt
 
 deep_of : (deeper : Bool) (i col : ℕ) → nat_lt col (cond deeper i (i - 1)) ≡ false → i ≤ col + 1
 deep_of true i col e = let h = ltb-false col i e in omega (arith, h)
@@ -122,12 +122,12 @@ here_read laws text small columns from s l going a =
     (λ _. by_test (nat_lt s.core.cursor.mark.col (least_column s.core)) _ _ P (λ _. tt)
     (λ e. let r = step (slice_index t 0) (slice_index t 1) (next s.queue) s.core in
     both_given columns from s (after_step r s.queue) going
-    (acted_fetched columns from s.queue r
+    (after_step_fetched columns from s.queue r
     (walked_given (Premises s.core) (Stepped (next s.queue) s.core) (FetchedStep columns from s.queue) s.core.cursor r
     (λ x k. k.fetched laws text small columns from s.queue l refl
     (λ _. deep_of s.core.deeper s.core.indent s.core.cursor.mark.col e) h)
     (step_does (slice_index t 0) (slice_index t 1) (next s.queue) s.core some refl refl)))
-    (acted_advances _ s r (step_effect (slice_index t 0) (slice_index t 1) (next s.queue) s.core some refl refl))))))))
+    (after_step_fetches _ s r (step_effect (slice_index t 0) (slice_index t 1) (next s.queue) s.core some refl refl))))))))
 
 begin_live : (columns : List ℕ) (from : Cursor) (s : State) → TakenState columns from s → Live s.core s.queue
     → Live (record s.core { started = true }) (with_piece (empty_piece s.core.cursor.mark tokens.StreamStart) s.queue)

@@ -12,7 +12,7 @@ use Rattle.saphyr_scanner.specs.Steps.Level.{Candidate, Level, is_block}
 use Rattle.saphyr_scanner.specs.TokensTaken.{AreApart, IsToken, AreTokens, open_behind, least_column_in}
 use Rattle.saphyr_scanner.proofs.Leads.{flat, place_pieces}
 use Rattle.saphyr_scanner.proofs.Taken.Separated.{apart_apart}
-use Rattle.saphyr_scanner.proofs.Taken.Parts.{open_all, open_append, tokens_append, is_quiet, AreQuiet, quiet_append, opened_there, opened_behind, Begins, opens_block, column_of, place_tokens, place_open}
+use Rattle.saphyr_scanner.proofs.Taken.Parts.{open_all, open_append, tokens_append, is_quiet, AreQuiet, quiet_append, with_opening_there, with_opening_behind, Begins, opens_block, column_of, place_tokens, place_open}
 use Rattle.saphyr_scanner.proofs.Queues.{flat_append, with_front}
 
 -- ## The open block collections
@@ -204,7 +204,7 @@ key_open b n q block i (Some k) o e h x =
       back = places_with_opening m o x.back;
       token = x.token;
       places = ap (λ j. places_with_opening j o q.places) is ∙ ap (places_with_opening (length x.front + suc m) o) x.places
-          ∙ opened_behind o x.front m (bare_place x.token) x.back;
+          ∙ with_opening_behind o x.front m (bare_place x.token) x.back;
       at = x.at;
       below = x.below;
       marked = x.marked;
@@ -238,7 +238,7 @@ taken_open columns from c d q b block k o x e a s h =
     let n : k.place - q.handed ≡ length x.front = omega (arith, x.at) in
     let now : (with_opening k.place o q).places ≡ x.front ++ with_front o x.token ∷ x.back =
     ap (λ j. places_with_opening j o q.places) n ∙ ap (places_with_opening (length x.front) o) x.places
-    ∙ opened_there o x.front (bare_place x.token) x.back in
+    ∙ with_opening_there o x.front (bare_place x.token) x.back in
     let quiet : opens_block o ≡ true → AreQuiet (x.token ∷ flat x.back) = λ f. x.quiet (e f) in
     let P : List Place → Type 0 = λ l. AreTokens columns (flat l) from h.last in
     let Q : List Place → Type 0 = λ l. Stack (open_all (flat l) columns) d.indent d.outer_indents in

@@ -97,17 +97,17 @@ quiet_all (p ∷ ps) columns q =
 
 -- ## The queue's places
 
-pub opened_there : (o : Opening) (front : List Place) (p : Place) (back : List Place)
+pub with_opening_there : (o : Opening) (front : List Place) (p : Place) (back : List Place)
     → places_with_opening (length front) o (front ++ p ∷ back) ≡ front ++ with_front o p.piece ∷ back
-opened_there o [] p back = refl
-opened_there o (f ∷ front) p back = ap (λ r. f ∷ r) (opened_there o front p back)
+with_opening_there o [] p back = refl
+with_opening_there o (f ∷ front) p back = ap (λ r. f ∷ r) (with_opening_there o front p back)
 
-pub opened_behind : (o : Opening) (front : List Place) (n : ℕ) (p : Place) (back : List Place)
+pub with_opening_behind : (o : Opening) (front : List Place) (n : ℕ) (p : Place) (back : List Place)
     → places_with_opening (length front + suc n) o (front ++ p ∷ back) ≡ front ++ p ∷ places_with_opening n o back
-opened_behind o [] n p back = let e : 0 + suc n ≡ suc n = omega arith in rw e refl
-opened_behind o (f ∷ front) n p back =
+with_opening_behind o [] n p back = let e : 0 + suc n ≡ suc n = omega arith in rw e refl
+with_opening_behind o (f ∷ front) n p back =
     let e : length (f ∷ front) + suc n ≡ suc (length front + suc n) = omega arith in
-    ap (λ i. places_with_opening i o (f ∷ (front ++ p ∷ back))) e ∙ ap (λ r. f ∷ r) (opened_behind o front n p back)
+    ap (λ i. places_with_opening i o (f ∷ (front ++ p ∷ back))) e ∙ ap (λ r. f ∷ r) (with_opening_behind o front n p back)
 
 -- a token with a text, which begins where its span does
 abbrev pub Begins : Piece → Type 0

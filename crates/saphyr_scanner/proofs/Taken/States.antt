@@ -19,7 +19,7 @@ use Rattle.saphyr_scanner.specs.Steps.State.{State, with_core}
 use Rattle.saphyr_scanner.specs.Steps.Unrolling.{unroll, end_blocks, end_block, is_right_of, with_outer_indent, go_less_deep}
 use Rattle.saphyr_scanner.specs.TokensTaken as taken
 use Rattle.saphyr_scanner.specs.TokensTaken.{AreTokens, IsToken, IsBlockScalarToken, IsPlaceOrEnd}
-use Rattle.saphyr_scanner.proofs.Blocks.{block_cursor, less_deep_cursor}
+use Rattle.saphyr_scanner.proofs.Blocks.{block_cursor, go_less_deep_cursor}
 use Rattle.saphyr_scanner.proofs.Leads.{flat}
 use Rattle.saphyr_scanner.proofs.Taken.Later.{top, Later, LaterThan, later_later, apart_later, token_later, tokens_later}
 use Rattle.saphyr_scanner.proofs.Taken.Parts.{tokens_part}
@@ -188,12 +188,12 @@ block_fetched laws text small columns from q style c d l s h b bd f x e =
 
 -- ## Block collections end
 
-outwards_stack : (is columns : List ℕ) (c : Core) → Stack columns c.indent is
+outer_indent_stack : (is columns : List ℕ) (c : Core) → Stack columns c.indent is
     → Stack (taken.without_innermost columns) (with_outer_indent is c).indent (with_outer_indent is c).outer_indents
-outwards_stack [] [] c h = (refl, refl)
-outwards_stack [] (column ∷ columns) c h = absurd h
-outwards_stack (j ∷ is) [] c h = absurd (let e = h.1 in cc)
-outwards_stack (j ∷ is) (column ∷ columns) c h = h.1
+outer_indent_stack [] [] c h = (refl, refl)
+outer_indent_stack [] (column ∷ columns) c h = absurd h
+outer_indent_stack (j ∷ is) [] c h = absurd (let e = h.1 in cc)
+outer_indent_stack (j ∷ is) (column ∷ columns) c h = h.1
 
 abbrev pub TakenState : List ℕ → Cursor → State → Type 0
 TakenState columns from s = Taken columns from s.core s.queue
@@ -207,7 +207,7 @@ block_taken columns from m s p h =
     taken_put columns from s.core (end_block m s).core s.queue (empty_piece m tokens.BlockEnd) s.core.cursor
     s.core.cursor (taken.nothing _ _) (refl, p, refl)
     (apart_same s.core.cursor (end_block m s).core.cursor (block_cursor m s))
-    (λ cs k. outwards_stack s.core.outer_indents cs s.core k) h
+    (λ cs k. outer_indent_stack s.core.outer_indents cs s.core k) h
 
 blocks_taken : (columns : List ℕ) (from : Cursor) (column : Option ℕ) (m : Marker) (is : List ℕ) (s : State)
     → IsPlaceOrEnd s.core.cursor m → TakenState columns from s → TakenState columns from (end_blocks column m is s)
@@ -220,11 +220,11 @@ blocks_taken columns from column m (i ∷ is) s p h =
     (place_same s.core.cursor (end_block m s).core.cursor m (block_cursor m s) p)
     (block_taken columns from m s p h)) (λ _. h)
 
-less_deep_taken : (columns : List ℕ) (from : Cursor) (column : Option ℕ) (s : State) → TakenState columns from s
+go_less_deep_taken : (columns : List ℕ) (from : Cursor) (column : Option ℕ) (s : State) → TakenState columns from s
     → TakenState columns from (with_core (go_less_deep column s.core) s)
-less_deep_taken columns from None s h =
+go_less_deep_taken columns from None s h =
     taken_further columns from s.core (go_less_deep None s.core) s.queue (taken.nothing _ _) refl refl h
-less_deep_taken columns from (Some column) s h =
+go_less_deep_taken columns from (Some column) s h =
     taken_further columns from s.core (go_less_deep (Some column) s.core) s.queue (taken.nothing _ _) refl refl h
 
 pub unroll_taken : (columns : List ℕ) (from : Cursor) (column : Option ℕ) (m : Marker) (s : State)
@@ -234,17 +234,17 @@ unroll_taken columns from column m s p h =
     let t : State = with_core (go_less_deep column s.core) s in
     by_test (in_block s.core) _ _ (TakenState columns from)
     (λ _. blocks_taken columns from column m s.core.outer_indents t
-    (place_same s.core.cursor t.core.cursor m (less_deep_cursor column s.core) p)
-    (less_deep_taken columns from column s h)) (λ _. h)
+    (place_same s.core.cursor t.core.cursor m (go_less_deep_cursor column s.core) p)
+    (go_less_deep_taken columns from column s h)) (λ _. h)
 
 -- the levels stay
 pub record Levels (c d : Core) : Type 0 where
   pub level : d.level ≡ c.level
   pub outer : d.outer ≡ c.outer
 
-outwards_levels : (is : List ℕ) (c : Core) → Levels c (with_outer_indent is c)
-outwards_levels [] c = record { level = refl; outer = refl }
-outwards_levels (i ∷ is) c = record { level = refl; outer = refl }
+outer_indent_levels : (is : List ℕ) (c : Core) → Levels c (with_outer_indent is c)
+outer_indent_levels [] c = record { level = refl; outer = refl }
+outer_indent_levels (i ∷ is) c = record { level = refl; outer = refl }
 
 levels_levels : (c d e : Core) → Levels c d → Levels d e → Levels c e
 levels_levels c d e a b = record { level = b.level ∙ a.level; outer = b.outer ∙ a.outer }
@@ -253,9 +253,9 @@ pub blocks_levels : (column : Option ℕ) (m : Marker) (is : List ℕ) (s : Stat
     → Levels s.core (end_blocks column m is s).core
 blocks_levels column m [] s =
     by_test (is_right_of column s.core.indent) _ _ (λ (t : State). Levels s.core t.core)
-    (λ _. outwards_levels s.core.outer_indents s.core) (λ _. record { level = refl; outer = refl })
+    (λ _. outer_indent_levels s.core.outer_indents s.core) (λ _. record { level = refl; outer = refl })
 blocks_levels column m (i ∷ is) s =
     by_test (is_right_of column s.core.indent) _ _ (λ (t : State). Levels s.core t.core)
     (λ _. levels_levels s.core (end_block m s).core (end_blocks column m is (end_block m s)).core
-    (outwards_levels s.core.outer_indents s.core) (blocks_levels column m is (end_block m s)))
+    (outer_indent_levels s.core.outer_indents s.core) (blocks_levels column m is (end_block m s)))
     (λ _. record { level = refl; outer = refl })

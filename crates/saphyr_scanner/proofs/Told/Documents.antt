@@ -36,10 +36,10 @@ NotedState t = Noted t.core
 unrolled_still : (column : Option ℕ) (m : Marker) (s : State) → Still s.core (unroll column m s).core
 unrolled_still column m s = (unrolled_cursor column m s, unrolled_comment column m s)
 
-pub carried_told : (P : Core → Type 0) (s : Cursor) (r : Result Core Refusal) (q : Queue) → HoldsOrRefuses P s r
+pub on_core_told : (P : Core → Type 0) (s : Cursor) (r : Result Core Refusal) (q : Queue) → HoldsOrRefuses P s r
     → HoldsOrRefuses (λ (t : State). P t.core) s (on_core r q)
-carried_told P s (Ok c) q h = h
-carried_told P s (Err e) q h = h
+on_core_told P s (Ok c) q h = h
+on_core_told P s (Err e) q h = h
 
 -- ## Documents
 
@@ -58,9 +58,9 @@ documents_told : (s : State) → Premises s.core → (r : Result State Refusal)
 documents_told s laws (Ok t) h = inl (h.comment laws.2)
 documents_told s laws (Err e) h = h laws
 
-acted_told : (s : Cursor) (r : StepResult) (q : Queue) → HoldsOrRefuses NotedStep s r → HoldsOrRefuses NotedState s (after_step r q)
-acted_told s (Ok x) q h = h
-acted_told s (Err e) q h = h
+after_step_told : (s : Cursor) (r : StepResult) (q : Queue) → HoldsOrRefuses NotedStep s r → HoldsOrRefuses NotedState s (after_step r q)
+after_step_told s (Ok x) q h = h
+after_step_told s (Err e) q h = h
 
 -- ## What begins here
 
@@ -87,7 +87,7 @@ here_told texts laws s n =
     (λ e. let w = at (is_document_end t) e in told _ (end_marker_walked s w.0 w.1))
     (λ _. by_test (nat_lt s.core.cursor.mark.col (least_column s.core)) _ _ P (λ _. at_here s.core.cursor)
     (λ _. let r = step (slice_index t 0) (slice_index t 1) (next s.queue) s.core in
-    acted_told s.core.cursor r s.queue
+    after_step_told s.core.cursor r s.queue
     (walked_told s.core (laws, texts, n) (next s.queue) r
     (step_does (slice_index t 0) (slice_index t 1) (next s.queue) s.core (left t z) refl refl))))))))
 
@@ -103,7 +103,7 @@ arrive_told s n =
     let c = s.core.cursor in
     let r = pass_gap s.core >>= drop_far_key in
     told_then (GoesState c) (GoesState c) c (on_core r s.queue) _
-    (carried_told (Goes c) c r s.queue
+    (on_core_told (Goes c) c r s.queue
     (told_then (Goes c) (Goes c) c (pass_gap s.core) drop_far_key (gap_told s.core n)
     (λ d g. by d g (drop_far_key d) (drop_still d))))
     (λ t g. goes_still c t.core (unroll (Some t.core.cursor.mark.col) t.core.cursor.mark t).core

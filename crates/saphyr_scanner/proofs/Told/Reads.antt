@@ -17,7 +17,7 @@ use Rattle.saphyr_scanner.proofs.PlainBehind.{IsNoted}
 use Rattle.saphyr_scanner.proofs.Reached.{apart_reached}
 use Rattle.saphyr_scanner.proofs.Taken.Places.{Reaches, reaches_reaches, At, at_here, at_further, tokens_reached}
 use Rattle.saphyr_scanner.proofs.Told.Refusals.{HoldsOrRefuses, told_further, Noted, Still, drop_still}
-use Rattle.saphyr_scanner.proofs.Told.Documents.{NotedState, carried_told, fetch_told}
+use Rattle.saphyr_scanner.proofs.Told.Documents.{NotedState, on_core_told, fetch_told}
 use Rattle.saphyr_input.proofs.Basics.Booleans.{by_test}
 use Rattle.saphyr_scalar.proofs.Given.{Given}
 
@@ -46,7 +46,7 @@ noted_still c d s n =
 pub settled_told : (text : List ℕ) (t : State) → Reaches (fresh text) t.core.cursor → NotedState t
     → HoldsOrRefuses NotedState (fresh text) (without_far_key t)
 settled_told text t a n =
-    carried_told Noted (fresh text) (drop_far_key t.core) t.queue (by (drop_far_key t.core) (drop_still t.core))
+    on_core_told Noted (fresh text) (drop_far_key t.core) t.queue (by (drop_far_key t.core) (drop_still t.core))
   where
     by : (r : Result Core Refusal) → HoldsOrRefuses (Still t.core) t.core.cursor r → HoldsOrRefuses Noted (fresh text) r
     by (Ok d) h = noted_still t.core d h n
